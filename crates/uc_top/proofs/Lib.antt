@@ -14,4 +14,4 @@ pub mod CauseLemmas
 pub mod AnswerLemmas
 pub mod JournalLemmas
 pub mod Lengths
-pub mod RoomLemmas
+pub mod RoomBounds

@@ -3,12 +3,10 @@
 
 mod decide;
 mod endings;
-mod laws;
 mod printing;
 mod program;
 mod refusals;
 mod top;
 
-pub use laws::law_rooms;
 pub use refusals::Refusal;
 pub use top::{Outcome, run_words};

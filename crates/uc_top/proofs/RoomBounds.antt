@@ -27,7 +27,8 @@ use Rattle.uc_top.specs.Endings.{EndsWith, Tells, ending_text, name_or_none, nam
 use Rattle.uc_top.specs.Commands.{Asks, CommandDid, FilesRan, FileChecked, ProgramMade, JournalExplained, ProgramRan, told_text, file_of, input_of}
 use Rattle.uc_top.specs.Refusals.{err_line, refusal_text, ProgramUnread, InputUnread, ProgramTooLong, InputTooLong}
 use Rattle.uc_top.specs.Outcomes.{Scene, Ran, Refused, HasTexts, HasProgram, HasJournal, IsJournal}
-use Rattle.uc_top.specs.Rooms.{HasSpace, RoomsExist, AsksCheck, AsksRunOf, HasFitRuns, LawRooms}
+use Rattle.uc_top.specs.Rooms.{Holds}
+use Rattle.uc_top.specs.RoomLaws.{RoomsExist, AsksCheck, AsksRunOf, HasFitRuns, LawRooms}
 use Rattle.uc_top.proofs.Line.{same_line}
 use Rattle.uc_top.proofs.Lengths.{total, budget, budget_more, prints_at_most, text_at_most, name_short, numbers_short, length-concat}
 use Rattle.uc_top.proofs.Causes.{no_texts, given, given_by, unlexed, no_syntax, not_deep, unbroken, frame_no, code_no, not_on_file, not_made_by, not_for_journal, same_journal, same_bytes}
@@ -38,8 +39,8 @@ record PutsAtMost (s : Scene) (most : ℕ) : Type 0 where
   line : (journal : Journal) (output : List ℕ) (e : Ending) → Ran s journal output e → length (ending_text e) ≤ most
   err : (r : Refusal) (name : List ℕ) → Refused s r name → length (refusal_text r name) ≤ most
 
-has_room : {sink : SinkState} {most : ℕ} (bytes : List ℕ) → HasSpace sink most → length bytes ≤ most → HasRoom sink bytes
-has_room bytes h l = record { left = h.0; is_room = h.1; fits = omega (arith, h.2, l) }
+has_room : {sink : SinkState} {most : ℕ} (bytes : List ℕ) → Holds sink most → length bytes ≤ most → HasRoom sink bytes
+has_room bytes h l = record { left = h.left; is_room = h.is_room; fits = omega (arith, h.fits, l) }
 
 exist : (s : Scene) (most : ℕ) → PutsAtMost s most → RoomsExist s
 exist s most p = record {

@@ -1,5 +1,5 @@
 -- How much room the sinks of a call need.
-use Rattle.std.specs.Prelude.{◌≡◌, ℕ, Bool, List, ◌≤◌, length, Option, Some, None}
+use Rattle.std.specs.Prelude.{ℕ, Bool, List, ◌≤◌, length, Option}
 use Rattle.uc_tree.specs.Programs.{Program}
 use Rattle.uc_resolve.specs.Resolve.{source_of}
 use Rattle.uc_entry.specs.declared.entry.Options.{Options}
@@ -8,16 +8,13 @@ use Rattle.uc_acts.specs.Fit.{AreFit}
 use Rattle.uc_meaning.specs.Runs.{IsRun}
 use Rattle.uc_outside.specs.Taking.{SinkState}
 use Rattle.uc_words.specs.Words.{RunFile, CheckFile, MakeProgram, IsLine}
+use Rattle.uc_top.specs.Rooms.{Holds}
 use Rattle.uc_top.specs.Outcomes.{Scene, scene_of, HasTexts, HasProgram, HasJournal, IsJournal, HaveRooms}
-
--- the sink has room for so many bytes
-abbrev pub HasSpace : SinkState → ℕ → Type 0
-HasSpace sink count = (left : ℕ) × (sink.room ≡ Some left) × (count ≤ left)
 
 -- there is a number of bytes such that any two sinks with room for so many have room for all that such a call may put
 pub record RoomsExist (s : Scene) : Type 0 where
   pub most : ℕ
-  pub enough : (out out_after err err_after : SinkState) → HasSpace out most → HasSpace err most → HaveRooms (scene_of s.words s.store s.store_after out out_after err err_after)
+  pub enough : (out out_after err err_after : SinkState) → Holds out most → Holds err most → HaveRooms (scene_of s.words s.store s.store_after out out_after err err_after)
 
 -- the words ask for `check`
 pub record AsksCheck (s : Scene) : Type 0 where

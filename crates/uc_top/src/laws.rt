@@ -1,9 +1,0 @@
-// The law of the room that sinks need.
-ghost use Rattle.uc_top.specs.Rooms.{LawRooms};
-
-/// For each line of words on texts that the store tells, there is a number of bytes such that sinks with room for so many have
-/// room for all that a call may put: to `check` of an accepted program, to `make`, to `explain`, and to `run` where the entries of
-/// its runs are fit and no more than the options say.
-pub fn law_rooms()
-    ensures { LawRooms }
-{}
