@@ -359,7 +359,7 @@ not_read_by : (s : Scene) (h : HasTexts s) → IsTrue s.store.steady → (name f
 not_read_by s h st name file named e f (inl u) = has_file-no_failure st h.program (subst (ReadFailed s.store s.store_after) (u.is_named ∙ e) u.failed)
 not_read_by s h st name file named e f (inr u) = has_file-no_failure (kept_steady u.keeps st) (kept u.keeps (h.input name (sym f ∙ u.is_named))) u.failed
 
-not_read : (s : Scene) (h : HasTexts s) → IsTrue s.store.steady → (name : List ℕ) → Refused s CannotRead name → ⊥
+pub not_read : (s : Scene) (h : HasTexts s) → IsTrue s.store.steady → (name : List ℕ) → Refused s CannotRead name → ⊥
 not_read s h st name (inr cause) = no_texts s h cause.asks
 not_read s h st name (inl cause) =
     let l = same_line h.command cause.asks h.line in not_read_by s h st name (file_of cause.command) (input_of cause.command) (ap file_of l) (ap input_of l) cause.unread
@@ -368,7 +368,7 @@ not_long_by : (s : Scene) (h : HasTexts s) (name file : List ℕ) (named : Optio
 not_long_by s h name file named e f (inl u) = has_file-not_long h.program (subst (λ n. ReadTooLong s.store s.store_after n PROGRAM_BYTES) (u.is_named ∙ e) u.long)
 not_long_by s h name file named e f (inr u) = has_file-not_long (kept u.keeps (h.input name (sym f ∙ u.is_named))) u.long
 
-not_long : (s : Scene) (h : HasTexts s) (name : List ℕ) → Refused s TooLong name → ⊥
+pub not_long : (s : Scene) (h : HasTexts s) (name : List ℕ) → Refused s TooLong name → ⊥
 not_long s h name (inr cause) = no_texts s h cause.asks
 not_long s h name (inl cause) = let l = same_line h.command cause.asks h.line in not_long_by s h name (file_of cause.command) (input_of cause.command) (ap file_of l) (ap input_of l) cause.long
 

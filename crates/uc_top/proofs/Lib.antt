@@ -11,6 +11,7 @@ pub mod Places
 pub mod FaultLemmas
 pub mod FirstLemmas
 pub mod CauseLemmas
+mod RoomLemmas
 pub mod AnswerLemmas
 pub mod JournalLemmas
 pub mod Lengths

@@ -6,4 +6,5 @@ pub mod Outcomes
 pub mod Decisions
 pub mod TextAnswers
 pub mod JournalAnswers
+pub mod Rooms
 pub mod RoomLaws
