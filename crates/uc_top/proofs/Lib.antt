@@ -13,3 +13,6 @@ pub mod FirstLemmas
 pub mod CauseLemmas
 mod RoomLemmas
 pub mod AnswerLemmas
+pub mod JournalLemmas
+pub mod Lengths
+pub mod RoomBounds
