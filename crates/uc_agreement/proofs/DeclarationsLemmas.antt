@@ -13,7 +13,7 @@ use Rattle.uc_rules.specs.declared.rules.Entity.{Entity}
 use Rattle.uc_rules.specs.declared.rules.Entity.TheVariants as entity
 use Rattle.uc_rules.specs.declared.rules.Seen.{Seen}
 use Rattle.uc_rules.specs.Sorts.{is_condition, sort_of}
-use Rattle.uc_typing.specs.Typing.{Ty, Num, Cell, Obj, Row, Name, Var, Own, Kept, Sig, Table, IsPlaced, IsParam, IsVariable, InScope, IsHeld, Yields}
+use Rattle.uc_typing.specs.Typing.{Ty, Num, Cell, Obj, Row, Name, Var, Own, Kept, Sig, Table, IsPlaced, IsParam, IsVariable, InScope, IsHeld, Yields, Fine}
 use Rattle.uc_agreement.specs.Agreement.{is_numbered, found_ty, place_ty, row_ty, RowPlaced, StandsBy, ValuedBy, Agrees, AgreesIf, Alike}
 use Rattle.uc_agreement.specs.Declarations.{StoodBy, LawDeclared}
 use Rattle.uc_agreement.proofs.Ties.{false_true, scalar_cell, scalar_unnumbered, numbered_is}
@@ -51,11 +51,14 @@ module _ (t : Table) (g : Sig) (x : Name) (sc : List Name) where
       by_reference true = record { found = held_wider k.cell; value = λ h. (h.0, held_wider k.cell (Cell Num) h.1) }
       by_reference false = record { found = λ a h. (variable_wider k.cell a h.0, h.1); value = held_wider k.cell Num }
 
+  fine_wider : (m : tree.Meant) → Wider m → Fine t g sc m.expr → Fine t g (x ∷ sc) m.expr
+  fine_wider m u h = (h.0, u.found h.0 h.1)
+
   agrees_wider : (p : Program) (w : Entity) (m : tree.Meant) → Wider m → Agrees t g sc p w m → Agrees t g (x ∷ sc) p w m
   agrees_wider p (entity.Value s) m u h = (h.0, u.value h.1)
   agrees_wider p (entity.Place s) m u h = ((u.found (found_ty s) h.0.0, λ d. u.value (h.0.1 d)), h.1, h.2)
   agrees_wider p (entity.Array s n) m u h = (u.found (row_ty (is_condition s) n s) h.0, h.1, h.2, h.3)
-  agrees_wider p (entity.Routine i) m u h = record { number = h.number; standing = h.standing; params = h.params; table = h.table; alone = h.alone; known = h.known }
+  agrees_wider p (entity.Routine i) m u h = record { number = h.number; standing = h.standing; params = h.params; table = h.table; alone = h.alone; known = h.known; at = fine_wider m u h.at }
   agrees_wider p (entity.Method i j inner path) m u h = record {
     number = h.number;
     class = h.class;
@@ -68,10 +71,10 @@ module _ (t : Table) (g : Sig) (x : Name) (sc : List Name) where
     known = h.known;
   }
   agrees_wider p (entity.Operation o) m u h = (h.0, u.found Num h.1, h.2)
-  agrees_wider p entity.Fail m u h = h
-  agrees_wider p entity.Input m u h = h
-  agrees_wider p entity.Main m u h = h
-  agrees_wider p entity.ClassName m u h = h
+  agrees_wider p entity.Fail m u h = (h.0, fine_wider m u h.1)
+  agrees_wider p entity.Input m u h = (h.0, fine_wider m u h.1)
+  agrees_wider p entity.Main m u h = fine_wider m u h
+  agrees_wider p entity.ClassName m u h = fine_wider m u h
   agrees_wider p entity.Missing m u h = h
 
   alike_wider : (p : Program) (ss : List Seen) (ks : List Known) → Alike t g sc p ss ks → Alike t g (x ∷ sc) p ss ks

@@ -25,6 +25,7 @@ use Rattle.uc_rules.specs.declared.rules.Meant.{Meant}
 use Rattle.uc_rules.specs.Sorts.{is_condition, class_sort, sort_of}
 use Rattle.uc_rules.specs.Entities.{is_of_conditions}
 use Rattle.uc_tree.specs.declared.kinds.Kind.{Kind}
+use Rattle.uc_rules.specs.ClassBreaks.{is_by_ref}
 use Rattle.uc_rules.specs.Names as rules
 use Rattle.uc_rules.specs.Names.{Owned, first_of, place_in, variable, declared_entity, member_named}
 use Rattle.uc_rules.specs.OwnerBreaks.{is_field_origin, is_condition_of, names_condition}
@@ -34,12 +35,13 @@ use Rattle.uc_agreement.specs.Fields.{field_ty, TellsClass, LawFields}
 use Rattle.uc_agreement.proofs.Ties.{some_same, none_some, false_true, scalar_cell, scalar_unnumbered, numbered_is}
 
 -- a field that is found, from a number on, as the rules' look-up tells it
-record Found (p : Program) (c : Class) (name : List ℕ) (x : Meant) (k : ℕ) (fs : List ClassField) : Type 0 where
-  n : ℕ
-  field : ClassField
-  at : slice_get fs n ≡ Some field
-  named : tree.field_named k fs name ≡ Some (record { number = k + n; field = field })
-  entity : x.entity ≡ declared_entity p field.base field.declarator (elements (seen_in (constants_of p.items) c) field.declarator)
+pub record Found (p : Program) (c : Class) (name : List ℕ) (x : Meant) (k : ℕ) (fs : List ClassField) : Type 0 where
+  pub n : ℕ
+  pub field : ClassField
+  pub at : slice_get fs n ≡ Some field
+  pub named : tree.field_named k fs name ≡ Some (record { number = k + n; field = field })
+  pub entity : x.entity ≡ declared_entity p field.base field.declarator (elements (seen_in (constants_of p.items) c) field.declarator)
+  pub by_ref : is_by_ref x.origin ≡ field.declarator.by_ref
 
 module _ (p : Program) (i : ℕ) (c : Class) (name : List ℕ) (x : Meant) where
   abbrev o : Owned
@@ -52,20 +54,22 @@ module _ (p : Program) (i : ℕ) (c : Class) (name : List ℕ) (x : Meant) where
     at = h.at;
     named = subst (λ (b : Bool). (if b then Some (record { number = k; field = f }) else tree.field_named (suc k) fs name) ≡ Some (record { number = k + suc h.n; field = h.field })) (sym e) (h.named ∙ ap (λ n. Some (record { number = n; field = h.field })) (let q : suc k + h.n ≡ k + suc h.n = omega arith in q));
     entity = h.entity;
+    by_ref = h.by_ref;
   }
 
-  here : (k : ℕ) (f : ClassField) (fs : List ClassField) → same_name f.declarator.name name ≡ true → x.entity ≡ declared_entity p f.base f.declarator (elements (seen_in (constants_of p.items) c) f.declarator) → Found p c name x k (f ∷ fs)
-  here k f fs e h = record {
+  here : (k : ℕ) (f : ClassField) (fs : List ClassField) → same_name f.declarator.name name ≡ true → x.entity ≡ declared_entity p f.base f.declarator (elements (seen_in (constants_of p.items) c) f.declarator) → is_by_ref x.origin ≡ f.declarator.by_ref → Found p c name x k (f ∷ fs)
+  here k f fs e h r = record {
     n = 0;
     field = f;
     at = refl;
     named = subst (λ (b : Bool). (if b then Some (record { number = k; field = f }) else tree.field_named (suc k) fs name) ≡ Some (record { number = k + 0; field = f })) (sym e) (ap (λ n. Some (record { number = n; field = f })) (let q : k ≡ k + 0 = omega arith in q));
     entity = h;
+    by_ref = r;
   }
 
   -- one declarator, and those after it
   declared : (q : Bool) (j l : ℕ) (a : Access) (b : Base) (d : Declarator) (k : ℕ) (fs : List ClassField) (rest other : Option Meant) → same_name d.name name ≡ q → first_of (if q then Some (rules.field_meant p o a (place_in j l) b d) else rest) other ≡ Some x → (first_of rest other ≡ Some x → Found p c name x (suc k) fs) → Found p c name x k (record { base = b; declarator = d } ∷ fs)
-  declared true j l a b d k fs rest other e h f = here k (record { base = b; declarator = d }) fs e (ap (λ (m : Meant). m.entity) (sym (some_same h)))
+  declared true j l a b d k fs rest other e h f = here k (record { base = b; declarator = d }) fs e (ap (λ (m : Meant). m.entity) (sym (some_same h))) (ap (λ (m : Meant). is_by_ref m.origin) (sym (some_same h)))
   declared false j l a b d k fs rest other e h f = later k (record { base = b; declarator = d }) fs e (f h)
 
   among : (j l : ℕ) (a : Access) (b : Base) (ds : List Declarator) (k : ℕ) (fs : List ClassField) (other : Option Meant) → first_of (rules.field_named p o a j l b ds name) other ≡ Some x → ((k : ℕ) → other ≡ Some x → Found p c name x k fs) → Found p c name x k (declared_fields b ds ++ fs)
@@ -89,7 +93,7 @@ module _ (p : Program) (i : ℕ) (c : Class) (name : List ℕ) (x : Meant) where
   members (m ∷ ms) j k h r =
       by_form m.mark m.access m.form j k (fields_of ms) (rules.members_named p o (j + 1) ms name) h r (λ k e. members ms (j + 1) k e r)
 
-  found : class_at p i ≡ Some c → member_named p i name ≡ Some x → is_field_origin x.origin ≡ true → Found p c name x (leading_cells c.kind) (fields_of c.members)
+  pub found : class_at p i ≡ Some c → member_named p i name ≡ Some x → is_field_origin x.origin ≡ true → Found p c name x (leading_cells c.kind) (fields_of c.members)
   found a h r = members c.members 0 (leading_cells c.kind) (subst (λ o. rules.member_in p i o name ≡ Some x) a h) r
 
 -- what a name names is no condition

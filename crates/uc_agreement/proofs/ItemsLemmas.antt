@@ -7,9 +7,9 @@ use Rattle.std.proofs.lemmas.List.Folds.{list_any_kept, list_any_more}
 use Rattle.std.proofs.lemmas.Option.{slice_get_within, get_or_from_slice_get}
 use Rattle.uc_tree.specs.Names.{same_name}
 use Rattle.uc_tree.specs.Constants.{constants_of, constant_named}
-use Rattle.uc_tree.specs.Numbering.{main_name, is_given}
+use Rattle.uc_tree.specs.Numbering.{main_name, is_given, routines_of}
 use Rattle.uc_tree.specs.Programs.{Constant, Item, ClassItem, RoutineItem, ConstItem, ProtoItem, ForwardItem, UsingItem, Program}
-use Rattle.uc_resolve.specs.Standings.{routine_meant_by, constant_meant_by, item_meant}
+use Rattle.uc_resolve.specs.Standings.{routine_from, routine_meant_by, constant_meant_by, item_meant}
 use Rattle.uc_rules.specs.declared.rule.Rule.TheVariants.{S2}
 use Rattle.uc_rules.specs.declared.rules.Sort.{Sort}
 use Rattle.uc_rules.specs.declared.rules.Entity.{Entity}
@@ -24,7 +24,7 @@ use Rattle.uc_rules.specs.ItemBreaks.{item_name, is_named, is_named_proto, clash
 use Rattle.uc_rules.specs.Visits.{AtItem, AtProgram}
 use Rattle.uc_rules.specs.ProgramVisits.{item_visits, items_visits, classes_in}
 use Rattle.uc_rules.specs.Breaks.{breaks_at, breaks_among}
-use Rattle.uc_typing.specs.Typing.{Name, Sig, Table}
+use Rattle.uc_typing.specs.Typing.{Num, Name, Sig, Table, Fine}
 use Rattle.uc_agreement.specs.Agreement.{Agrees, AgreesIf}
 use Rattle.uc_agreement.specs.Unbroken.{Unbroken}
 use Rattle.uc_agreement.specs.ItemNames.{TellsRoutine, LawItems}
@@ -153,7 +153,16 @@ module _ (p : Program) (name : List ℕ) where
       table = r.table;
       alone = r.alone;
       known = r.known;
+      at = (Num, refl);
     })
+
+    routine_fine : (o : Option ℕ) → Fine t g sc (routine_meant_by p o).expr
+    routine_fine None = (Num, refl)
+    routine_fine (Some r) = (Num, refl)
+
+    item_fine : (o : Option Constant) → Fine t g sc (constant_meant_by p name o).expr
+    item_fine None = routine_fine (routine_from (routines_of p) 0 name)
+    item_fine (Some c) = (Num, refl)
 
     stood_agrees : (o : Option Constant) (m : Meant) → Stood o m → ((i : ℕ) → m.entity ≡ Some (entity.Routine i) → TellsRoutine t p name i) → AgreesIf t g sc p m.entity (constant_meant_by p name o)
     stood_agrees o m (constant c e h) f w q =
@@ -161,14 +170,15 @@ module _ (p : Program) (name : List ℕ) where
     stood_agrees o m (routine i e h) f w q =
         subst (λ o. Agrees t g sc p w (constant_meant_by p name o)) (sym e) (subst (λ w. Agrees t g sc p w (constant_meant_by p name None)) (some_same (ap (λ (m : Meant). m.entity) h ∙ q)) (routine_agrees i (f i (sym (ap (λ (m : Meant). m.entity) h)))))
     stood_agrees o m (class h) f w q =
-        subst (λ w. Agrees t g sc p w (constant_meant_by p name o)) (some_same (ap (λ (m : Meant). m.entity) h ∙ q)) tt
+        subst (λ w. Agrees t g sc p w (constant_meant_by p name o)) (some_same (ap (λ (m : Meant). m.entity) h ∙ q)) (item_fine o)
 
     found_agrees : (o : Option Meant) → ((m : Meant) → o ≡ Some m → Stood (constant_named (constants_of p.items) name) m) → ((i : ℕ) → meant_entity o ≡ Some (entity.Routine i) → TellsRoutine t p name i) → AgreesIf t g sc p (meant_entity o) (item_meant p name)
     found_agrees None s f w q = none_some q
     found_agrees (Some m) s f w q = stood_agrees (constant_named (constants_of p.items) name) m (s m refl) f w q
 
     given_agrees : (b : Bool) → Unbroken (items_visits p 0 0 p.items) → ((i : ℕ) → meant_entity (if b then Some (outer entity.ClassName) else items_named p 0 p.items name) ≡ Some (entity.Routine i) → TellsRoutine t p name i) → AgreesIf t g sc p (meant_entity (if b then Some (outer entity.ClassName) else items_named p 0 p.items name)) (item_meant p name)
-    given_agrees true u f w q = subst (λ w. Agrees t g sc p w (item_meant p name)) (some_same q) tt
+    given_agrees true u f w q =
+        subst (λ w. Agrees t g sc p w (item_meant p name)) (some_same q) (item_fine (constant_named (constants_of p.items) name))
     given_agrees false u f w q =
         found_agrees (items_named p 0 p.items name) (λ m h. stood 0 0 p.items m (λ n. ap (slice_get p.items) (let e : 0 + n ≡ n = omega arith in e)) u h) f w q
 
@@ -177,7 +187,8 @@ module _ (p : Program) (name : List ℕ) where
     main_agrees true f w q = by_name (same_name main_name name) q
       where
         by_name : (b : Bool) → meant_entity (named_behind (if b then Some main_meant else None) (outer_named p name)) ≡ Some w → Agrees t g sc p w (item_meant p name)
-        by_name true q = subst (λ w. Agrees t g sc p w (item_meant p name)) (some_same q) tt
+        by_name true q =
+            subst (λ w. Agrees t g sc p w (item_meant p name)) (some_same q) (item_fine (constant_named (constants_of p.items) name))
         by_name false q = f w q
 
 pub law_items : (t : Table) (g : Sig) (sc : List Name) → LawItems t g sc

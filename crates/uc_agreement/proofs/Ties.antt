@@ -388,7 +388,7 @@ module _ (t : Table) (g : Sig) (sc : List Name) (p : Program) (refers : t.refers
   arg_by (Some s) true k (entity.Place r) m n f a = subst (Yields t g sc m.expr) (sym (place_same s r f)) a.0.0
   arg_by (Some s) true k _ m n f a = false_true f
 
-  arg_ok : (x y : Param) (w : Entity) (m : tree.Meant) → IsLike p x y → fits (param_expected p (Some x)) w ≡ true → Agrees t g sc p w m → Yields t g sc (arg_meant y m) (param_ty p y)
+  pub arg_ok : (x y : Param) (w : Entity) (m : tree.Meant) → IsLike p x y → fits (param_expected p (Some x)) w ≡ true → Agrees t g sc p w m → Yields t g sc (arg_meant y m) (param_ty p y)
   arg_ok x y w m l f a =
       let e : fits (if y.by_ref then rules.reference_to (sort_of p y.base) else rules.value_to (sort_of p y.base)) w ≡ true = subst (λ b. fits (if b then rules.reference_to (sort_of p y.base) else rules.value_to (sort_of p y.base)) w ≡ true) l.by_ref (subst (λ b. fits (if x.by_ref then rules.reference_to (sort_of p b) else rules.value_to (sort_of p b)) w ≡ true) l.base f) in
       arg_by (sort_of p y.base) y.by_ref (shape_of y.base) w m l.known e a
@@ -464,7 +464,7 @@ module _ (t : Table) (g : Sig) (sc : List Name) (p : Program) (refers : t.refers
 
   input_ok : (called b : Bool) (name : List ℕ) (m : tree.Meant) → same_name name fail_name ≡ b → m.standing ≡ AsInput → AgreesIf t g sc p (rules.other_member called name entity.Input (if b then Some entity.Fail else None)) (field_meant p m name)
   input_ok called true name m e a w h =
-      subst (λ w. Agrees t g sc p w (field_meant p m name)) (some_same h) (subst (λ st. (tree.part_by p st m name).standing ≡ AsFail) (sym a) (subst (λ b. (if b then record { expr = Literal (pos 0); ty = tree.bool_type; standing = AsFail } else tree.no_meaning).standing ≡ AsFail) (sym e) refl))
+      subst (λ w. Agrees t g sc p w (field_meant p m name)) (some_same h) (subst (λ st. Agrees t g sc p entity.Fail (tree.part_by p st m name)) (sym a) (subst (λ (b : Bool). Agrees t g sc p entity.Fail (if b then record { expr = Literal (pos 0); ty = tree.bool_type; standing = AsFail } else tree.no_meaning)) (sym e) (refl, (Num, refl))))
   input_ok called false name m e a w h = missing_ok called (field_meant p m name) w h
 
   sig_value : (o : Option whole.Sig) (w : Entity) → rules.sig_gives p o ≡ Some w → (s : Sort) × (w ≡ entity.Value s)
@@ -494,7 +494,7 @@ module _ (t : Table) (g : Sig) (sc : List Name) (env : Env) (class : Option ℕ)
   root_by (expr.Cin q) parts ih u w h = by_input (rules.field_follows parts) w h
     where
       by_input : (b : Bool) → AgreesIf t g sc env.program (if b then Some entity.Input else None) (meant c (expr.Cin q))
-      by_input true w h = subst (λ w. Agrees t g sc env.program w (meant c (expr.Cin q))) (some_same h) refl
+      by_input true w h = subst (λ w. Agrees t g sc env.program w (meant c (expr.Cin q))) (some_same h) (refl, (Num, refl))
       by_input false w h = none_some h
   root_by _ parts ih u w h = ih u w h
 
@@ -512,7 +512,7 @@ module _ (t : Table) (g : Sig) (sc : List Name) (env : Env) (class : Option ℕ)
       let v = sig_value t g sc env.program tied.refers (routine_sig env.program i) w h in
       subst (λ w. Agrees t g sc env.program w (tree.call_meant env.program m (args_meant c args))) (sym v.1) (call_value t g sc env.program tied.refers i m (args_meant c args) v.0 a r)
   call_agrees entity.Fail args m ih first a s u n w h =
-      subst (λ w. Agrees t g sc env.program w (tree.call_meant env.program m (args_meant c args))) (some_same h) (subst (λ st. Agrees t g sc env.program rules.truth_value (tree.call_by env.program st m (args_meant c args))) (sym a) (tt, refl))
+      subst (λ w. Agrees t g sc env.program w (tree.call_meant env.program m (args_meant c args))) (some_same h) (subst (λ st. Agrees t g sc env.program rules.truth_value (tree.call_by env.program st m (args_meant c args))) (sym a.0) (tt, refl))
   call_agrees (entity.Method i j inner path) args m ih first a s u n w h =
       let r = ih 0 (target.Call (entity.Method i j inner path)) (params_in (method_sig env.program i j)) (params_of env.program a.number) (takes_length t g sc env.program tied.refers (method_sig env.program i j) (count args) n) (λ k. ap (λ l. param_expected env.program (slice_get (params_in (method_sig env.program i j)) l)) (let e : 0 + k ≡ k = omega arith in e)) a.params s u in
       let v = sig_value t g sc env.program tied.refers (method_sig env.program i j) w h in
@@ -533,7 +533,7 @@ module _ (t : Table) (g : Sig) (sc : List Name) (env : Env) (class : Option ℕ)
   field_agrees : (called : Bool) (name : List ℕ) (w : Entity) (m : tree.Meant) → not (is_mutex_field_of (rules.path_member env.program w name)) ≡ true → not (names_condition (rules.path_member env.program w name)) ≡ true → Agrees t g sc env.program w m → AgreesIf t g sc env.program (of_field env called name (Some w)) (field_meant env.program m name)
   field_agrees called name (entity.Place (sort.Object cl k)) m f n a = object_agrees called cl k name (rules.object_member env.program (sort.Object cl k) name) m refl f n a
   field_agrees called name (entity.Place sort.Condition) m f n a = condition_ok t g sc env.program tied.refers called name m (rules.operation_named name) refl a
-  field_agrees called name entity.Input m f n a = input_ok t g sc env.program tied.refers called (same_name name fail_name) name m refl a
+  field_agrees called name entity.Input m f n a = input_ok t g sc env.program tied.refers called (same_name name fail_name) name m refl a.0
   field_agrees called name (entity.Place sort.Void) m f n a = missing_ok t g sc env.program tied.refers called (field_meant env.program m name)
   field_agrees called name (entity.Place sort.Int) m f n a = missing_ok t g sc env.program tied.refers called (field_meant env.program m name)
   field_agrees called name (entity.Place sort.Char) m f n a = missing_ok t g sc env.program tied.refers called (field_meant env.program m name)

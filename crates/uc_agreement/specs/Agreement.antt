@@ -27,7 +27,7 @@ use Rattle.uc_rules.specs.Entities.{meant_entity, object_member, open_entity, en
 use Rattle.uc_rules.specs.OwnerBreaks.{is_mutex_field_of, names_condition}
 use Rattle.uc_rules.specs.Visits.{visits}
 use Rattle.uc_agreement.specs.Unbroken.{Unbroken}
-use Rattle.uc_typing.specs.Typing.{Ty, Num, Cell, Obj, Row, Clu, Pro, Name, Sig, Table, IsPlaced, IsRoutine, InMutex, Yields}
+use Rattle.uc_typing.specs.Typing.{Ty, Num, Cell, Obj, Row, Clu, Pro, Name, Sig, Table, IsPlaced, IsRoutine, InMutex, Yields, Fine}
 
 -- whether what is of a sort is known by its number
 abbrev pub is_numbered : Sort → Bool
@@ -144,6 +144,7 @@ module _ (t : Table) (g : Sig) (sc : List Name) where
     pub table : map (param_ty p) (params_of p number) ≡ (t.routine number).params
     pub alone : (t.routine number).this ≡ None
     pub known : IsRoutine t number
+    pub at : Fine t g sc m.expr
 
   -- how a member stands: a mutex member enters its object
   abbrev pub IsMethod : ℕ → ℕ → Standing → Type 0
@@ -171,10 +172,12 @@ module _ (t : Table) (g : Sig) (sc : List Name) where
   Agrees p (entity.Routine i) m = IsCalled p i m
   Agrees p (entity.Method i j inner path) m = IsMember p i j m
   Agrees p (entity.Operation o) m = (m.standing ≡ AsCallOf (call_of o)) × Yields t g sc m.expr Num × InMutex t g
-  Agrees p entity.Fail m = m.standing ≡ tree.AsFail
-  Agrees p entity.Input m = m.standing ≡ tree.AsInput
-  -- a main is not called, and a name of a class is no value
-  Agrees p _ m = Unit {0}
+  Agrees p entity.Fail m = (m.standing ≡ tree.AsFail) × Fine t g sc m.expr
+  Agrees p entity.Input m = (m.standing ≡ tree.AsInput) × Fine t g sc m.expr
+  -- a main is not called, and a name of a class is no value: each gives something
+  Agrees p entity.Main m = Fine t g sc m.expr
+  Agrees p entity.ClassName m = Fine t g sc m.expr
+  Agrees p entity.Missing m = Unit {0}
 
   abbrev pub AgreesIf : Program → Option Entity → tree.Meant → Type 0
   AgreesIf p o m = (w : Entity) → o ≡ Some w → Agrees p w m

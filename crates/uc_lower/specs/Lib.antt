@@ -1,3 +1,4 @@
 pub mod RoutineLayout
 pub mod Mains
 pub mod Refusals
+pub mod RowRanges

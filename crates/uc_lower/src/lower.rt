@@ -14,6 +14,7 @@ ghost use Rattle.uc_code.specs.Lowered.{Lowered};
 ghost use Rattle.uc_numbering.specs.Routines.{defined_at};
 ghost use Rattle.uc_implicit.specs.Unwritten.{number_of_class, unwritten_as};
 ghost use Rattle.uc_lower.specs.Refusals.{Fits, FitsAll, IsFirstLarge, Refuses};
+ghost use Rattle.uc_lower.specs.RowRanges.{HasRows, IsRowOf};
 
 use crate::numbering::{cells_of_classes, members_of_classes, numbering_of};
 use crate::program_main::number_of_main;
@@ -21,6 +22,7 @@ use crate::routines::{lower_all_unwritten, lower_routines, no_code};
 use std::alloc::{AllocError, Global};
 use uc_code::code::Code;
 use uc_code::draft::Draft;
+use uc_code::rows::HandlerRow;
 use uc_implicit::numbers::numbers_of_classes;
 use uc_implicit::unwritten::{Unwritten, unwritten_of};
 use uc_layout::frames::cells_of_routine;
@@ -126,6 +128,33 @@ fn lower_all(
     code
 }
 
+// Whether a row, which has this number, is one of code of so many ops.
+fn is_row(row: &HandlerRow, number: usize, ops: usize) -> bool
+    ensures { IsTrue result → IsRowOf ops number row.now }
+{
+    row.from <= row.to
+        && row.to as usize <= ops
+        && (row.entry as usize) < ops
+        && row.outer as usize <= number
+}
+
+// Whether code has no more rows than ops, and each of them is one of it.
+fn has_rows(code: &Code) -> bool
+    ensures { IsTrue result → HasRows code.now }
+{
+    let rows = code.rows();
+    let ops = code.ops().len();
+    if rows.len() > ops {
+        return false;
+    }
+    for number in 0..rows.len() {
+        if !is_row(&rows[number], number, ops) {
+            return false;
+        }
+    }
+    true
+}
+
 // Whether all routines have numbers.
 fn are_few(count: u32, unwritten: usize) -> bool
     ensures { IsTrue result → count + unwritten < 2 ^ 32 }
@@ -152,6 +181,7 @@ fn lower_fit(
     ensures lowered { IfOk result (λ code. Lowered (source_of program.now) code) }
     ensures paced { IfOk result (λ code. IsPaced (laid_of code) code.routines) }
     ensures few { IfOk result (λ code. length code.ops ≤ OPS_FOR_SIZE * program_size program.now) }
+    ensures rows { IfOk result (λ code. HasRows code) }
 {
     let numbers = numbers_of_classes(alloc, program)?;
     let unwritten = unwritten_of(alloc, sizes, defined, &numbers)?;
@@ -159,6 +189,9 @@ fn lower_fit(
         return Err(AllocError);
     }
     let code = lower_all(alloc, program, sizes, defined, count, &unwritten, numbers)?;
+    if !has_rows(&code) {
+        return Err(AllocError);
+    }
     Ok(code)
 }
 
@@ -176,6 +209,7 @@ fn lower_defined(
     ensures lowered { IfOk result (λ code. Lowered (source_of program.now) code) }
     ensures paced { IfOk result (λ code. IsPaced (laid_of code) code.routines) }
     ensures few { IfOk result (λ code. length code.ops ≤ OPS_FOR_SIZE * program_size program.now) }
+    ensures rows { IfOk result (λ code. HasRows code) }
     ensures fits { IfOk result (λ code. Fits program.now) }
     ensures refused { IfErr result (λ fault. Refuses program.now fault) }
 {
@@ -193,13 +227,15 @@ fn lower_defined(
 }
 
 /// The code of a program that breaks no rule, of which these are the sizes. Its frames are tested first, then its size. The code has
-/// at most `OPS_FOR_SIZE` ops for each unit of the program's size.
+/// at most `OPS_FOR_SIZE` ops for each unit of the program's size, and no more rows than ops; each row lies among them. This is
+/// tested of the rows: where it were not so, the answer would be want of memory.
 pub fn lower(alloc: Global, program: &Program, sizes: &Sizes) -> Result<Code, LowerFault>
     requires unbroken { breaks_of program.now ≡ [] }
     requires sizes { sizes.now ≡ program.now }
     ensures lowered { IfOk result (λ code. Lowered (source_of program.now) code) }
     ensures paced { IfOk result (λ code. IsPaced (laid_of code) code.routines) }
     ensures few { IfOk result (λ code. length code.ops ≤ OPS_FOR_SIZE * program_size program.now) }
+    ensures rows { IfOk result (λ code. HasRows code) }
     ensures fits { IfOk result (λ code. Fits program.now) }
     ensures refused { IfErr result (λ fault. Refuses program.now fault) }
 {

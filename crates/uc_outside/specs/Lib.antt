@@ -3,3 +3,4 @@ pub mod Reading
 pub mod Taking
 pub mod Limited
 pub mod Told
+pub mod Memory

@@ -1,5 +1,6 @@
 // A store of files in memory.
-ghost use Rattle.std.specs.Prelude.{◌≡◌, option_copied};
+ghost use Rattle.std.specs.Prelude.{◌≡◌, ◌+◌, ◌≤◌, min, option_copied};
+ghost use Rattle.uc_outside.specs.Faults.{count_limit};
 ghost use Rattle.uc_outside.specs.Reading.{file_of};
 ghost use Rattle.uc_outside.specs.Told.{files_of};
 
@@ -32,6 +33,17 @@ impl SteadyStore {
     {
         SteadyStore { files, faults: 0 }
     }
+
+    /// Counts one more failed read.
+    pub(crate) fn refuse(&mut self) -> StoreFault
+        ensures fault { result ≡ StoreFault.Failed }
+        ensures count { self.new.count ≡ min (self.old.count + 1) count_limit }
+        ensures never_falls { self.old.count ≤ self.new.count }
+        ensures same_files { self.new.files ≡ self.old.files }
+    {
+        self.faults = self.faults.saturating_add(1);
+        StoreFault::Failed
+    }
 }
 
 /// The bytes of the first file of that name.
@@ -58,10 +70,7 @@ impl Store for SteadyStore {
 
     fn read(&mut self, alloc: Global, name: &str, limit: u32) -> Result<Vec<u8>, StoreFault> {
         match find_file(&self.files, name) {
-            None => {
-                self.faults = self.faults.saturating_add(1);
-                Err(StoreFault::Failed)
-            }
+            None => Err(self.refuse()),
             Some(bytes) => {
                 if bytes.len() > limit as usize {
                     return Err(StoreFault::TooLong);

@@ -8,6 +8,7 @@ use crate::numbers::numbers_of;
 use crate::tree::write_expr;
 use std::alloc::{AllocError, Global};
 use uc_grammar::fault::ParseFault;
+use uc_inherit::opening::open_classes;
 use uc_lex::{lex, pos_at};
 use uc_parse_class::parse::parse;
 use uc_parse_expr::parse::parse_expr;
@@ -75,6 +76,7 @@ fn of_tokens(
     match kind {
         "lex" => outlines_of(alloc, tokens),
         "expr" => of_expr(alloc, number, tokens),
+        "open" => of_opened(alloc, tokens),
         "program" => of_program(alloc, text, tokens),
         _ => format!(in alloc; "no kind"),
     }
@@ -105,6 +107,23 @@ fn outline_of(alloc: Global, token: &Token) -> Result<String, AllocError> {
         TokenKind::Sign(sign) => format!(in alloc; "{sign:?}")?,
     };
     format!(in alloc; "; {kind} {at} {line}:{col}")
+}
+
+// The tokens without bases and `virtual`, and what was taken out.
+fn of_opened(alloc: Global, tokens: &[Token]) -> Result<String, AllocError>
+    requires { length tokens.now ≤ PROGRAM_BYTES }
+{
+    let (left, heads) = open_classes(alloc, tokens)?;
+    let mut line = outlines_of(alloc, &left)?;
+    for (pos, base) in &heads.bases {
+        let shown = format!(in alloc; "; base {:?} {}:{}", base.bytes(), pos.line, pos.col)?;
+        line.push_str(shown.as_str())?;
+    }
+    for pos in &heads.virtuals {
+        let shown = format!(in alloc; "; virtual {}:{}", pos.line, pos.col)?;
+        line.push_str(shown.as_str())?;
+    }
+    Ok(line)
 }
 
 // The expression that the tokens begin with, at that depth.

@@ -359,7 +359,7 @@ not_read_by : (s : Scene) (h : HasTexts s) → IsTrue s.store.steady → (name f
 not_read_by s h st name file named e f (inl u) = has_file-no_failure st h.program (subst (ReadFailed s.store s.store_after) (u.is_named ∙ e) u.failed)
 not_read_by s h st name file named e f (inr u) = has_file-no_failure (kept_steady u.keeps st) (kept u.keeps (h.input name (sym f ∙ u.is_named))) u.failed
 
-not_read : (s : Scene) (h : HasTexts s) → IsTrue s.store.steady → (name : List ℕ) → Refused s CannotRead name → ⊥
+pub not_read : (s : Scene) (h : HasTexts s) → IsTrue s.store.steady → (name : List ℕ) → Refused s CannotRead name → ⊥
 not_read s h st name (inr cause) = no_texts s h cause.asks
 not_read s h st name (inl cause) =
     let l = same_line h.command cause.asks h.line in not_read_by s h st name (file_of cause.command) (input_of cause.command) (ap file_of l) (ap input_of l) cause.unread
@@ -368,7 +368,7 @@ not_long_by : (s : Scene) (h : HasTexts s) (name file : List ℕ) (named : Optio
 not_long_by s h name file named e f (inl u) = has_file-not_long h.program (subst (λ n. ReadTooLong s.store s.store_after n PROGRAM_BYTES) (u.is_named ∙ e) u.long)
 not_long_by s h name file named e f (inr u) = has_file-not_long (kept u.keeps (h.input name (sym f ∙ u.is_named))) u.long
 
-not_long : (s : Scene) (h : HasTexts s) (name : List ℕ) → Refused s TooLong name → ⊥
+pub not_long : (s : Scene) (h : HasTexts s) (name : List ℕ) → Refused s TooLong name → ⊥
 not_long s h name (inr cause) = no_texts s h cause.asks
 not_long s h name (inl cause) = let l = same_line h.command cause.asks h.line in not_long_by s h name (file_of cause.command) (input_of cause.command) (ap file_of l) (ap input_of l) cause.long
 
@@ -393,7 +393,7 @@ steady_of s (line_failed journal output e ran out err) h st eq = absurd (omega (
 steady_of s (err_failed r name cause out err) h st eq = absurd (omega (arith, eq))
 
 -- the text that a store gave is that of the file that it has
-given_by : (s : Scene) (h : HasTexts s) {c : Command} {text input : List ℕ} → Asks s.words c → ReadsTexts s.store s.store_after (file_of c) (input_of c) text input → text ≡ h.program.bytes
+pub given_by : (s : Scene) (h : HasTexts s) {c : Command} {text input : List ℕ} → Asks s.words c → ReadsTexts s.store s.store_after (file_of c) (input_of c) text input → text ≡ h.program.bytes
 given_by s h {text = text} asks reads =
     has_file-content h.program (subst (λ f. ReadBytes s.store reads.between f PROGRAM_BYTES text) (ap file_of (same_line h.command asks h.line)) reads.read)
 
@@ -512,10 +512,10 @@ program_of s (err_failed r name cause out err) h p is = inr (inr (inl refl))
 
 -- a generated program
 
-not_on_file : (s : Scene) (n : ℕ) {c : Command} → Asks s.words c → IsOnFile c → IsLine s.words (MakeProgram n) → ⊥
+pub not_on_file : (s : Scene) (n : ℕ) {c : Command} → Asks s.words c → IsOnFile c → IsLine s.words (MakeProgram n) → ⊥
 not_on_file s n asks on line = subst IsOnFile (same_line (MakeProgram n) asks line) on
 
-not_made_by : (s : Scene) (n : ℕ) {file : List ℕ} {object : ℕ} → Asks s.words (ExplainJournal file object) → IsLine s.words (MakeProgram n) → ⊥
+pub not_made_by : (s : Scene) (n : ℕ) {file : List ℕ} {object : ℕ} → Asks s.words (ExplainJournal file object) → IsLine s.words (MakeProgram n) → ⊥
 not_made_by s n asks line = absurd (let e = same_line (MakeProgram n) asks line in cc)
 
 made_why : (s : Scene) (n : ℕ) → IsLine s.words (MakeProgram n) → (r : Refusal) (name : List ℕ) → Refused s r name → (status_of r ≡ 0) ⊎ (status_of r ≡ 4) ⊎ (status_of r ≡ 8)
@@ -542,13 +542,13 @@ made_of s (err_failed r name cause out err) n line = inr (inl refl)
 
 -- a journal that is explained
 
-not_for_journal : (s : Scene) (h : HasJournal s) {c : Command} → Asks s.words c → IsOnFile c → ⊥
+pub not_for_journal : (s : Scene) (h : HasJournal s) {c : Command} → Asks s.words c → IsOnFile c → ⊥
 not_for_journal s h asks on = subst IsOnFile (same_line (ExplainJournal h.file h.object) asks h.line) on
 
-same_journal : (s : Scene) (h : HasJournal s) {file : List ℕ} {object : ℕ} → Asks s.words (ExplainJournal file object) → file ≡ h.file
+pub same_journal : (s : Scene) (h : HasJournal s) {file : List ℕ} {object : ℕ} → Asks s.words (ExplainJournal file object) → file ≡ h.file
 same_journal s h asks = ap file_of (same_line (ExplainJournal h.file h.object) asks h.line)
 
-same_bytes : (s : Scene) (h : HasJournal s) {file text : List ℕ} → file ≡ h.file → ReadBytes s.store s.store_after file JOURNAL_BYTES text → text ≡ h.text.bytes
+pub same_bytes : (s : Scene) (h : HasJournal s) {file text : List ℕ} → file ≡ h.file → ReadBytes s.store s.store_after file JOURNAL_BYTES text → text ≡ h.text.bytes
 same_bytes s h {text = text} e read = has_file-content h.text (subst (λ f. ReadBytes s.store s.store_after f JOURNAL_BYTES text) e read)
 
 -- what a refusal to explain may be: of a text that is no journal's alone it names a line
@@ -639,6 +639,7 @@ answers s leaves = record {
   program = λ h p is. program_of s leaves h p is;
   made = made_of s leaves;
   explained = λ h j is. journal_told s h j is (explained_of s leaves h);
+  given = λ h st. given_of s leaves h st;
   no_journal = λ h n. line_named s h n (explained_of s leaves h);
 }
 

@@ -11,4 +11,8 @@ pub mod Places
 pub mod FaultLemmas
 pub mod FirstLemmas
 pub mod CauseLemmas
+mod RoomLemmas
 pub mod AnswerLemmas
+pub mod JournalLemmas
+pub mod Lengths
+pub mod RoomBounds

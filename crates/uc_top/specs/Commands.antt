@@ -1,8 +1,9 @@
 -- What commands ask for, and what each does.
-use Rattle.std.specs.Prelude.{◌≡◌, ℕ, Bool, true, false, List, [], ◌++◌, Option, Some, None}
-use Rattle.uc_tree.specs.declared.limits.TheConstants.{PROGRAM_BYTES, INPUT_BYTES, JOURNAL_BYTES}
+use Rattle.std.specs.Prelude.{◌≡◌, ℕ, ◌*◌, ◌≤◌, Bool, true, false, List, [], ◌++◌, length, Option, Some, None}
+use Rattle.uc_tree.specs.declared.limits.TheConstants.{PROGRAM_BYTES, INPUT_BYTES, JOURNAL_BYTES, OPS_FOR_SIZE}
 use Rattle.uc_tree.specs.Programs.{Program}
 use Rattle.uc_tree.specs.Numbering.{texts_of}
+use Rattle.uc_tree.specs.Sizes.{program_size}
 use Rattle.uc_resolve.specs.Resolve.{source_of}
 use Rattle.uc_entry.specs.declared.entry.Options.{Options}
 use Rattle.uc_acts.specs.Journal.{Journal}
@@ -13,9 +14,11 @@ use Rattle.uc_words.specs.Words.{Words, Command, RunFile, CheckFile, LowerFile, 
 use Rattle.uc_code.specs.Codes.{Code}
 use Rattle.uc_code.specs.Lowered.{Lowered}
 use Rattle.uc_code.specs.Listing.{listing_of}
+use Rattle.uc_lower.specs.RowRanges.{HasRows}
 use Rattle.uc_make.specs.Generated.{generated}
 use Rattle.uc_journal.specs.Lines as journals
 use Rattle.uc_explain.specs.Explained.{explained}
+use Rattle.uc_top.specs.declared.program.TheConstants.{LINE_BYTES}
 use Rattle.uc_top.specs.declared.endings.Ending.{Ending}
 use Rattle.uc_top.specs.declared.endings.Ending.TheVariants.{Done}
 use Rattle.uc_top.specs.Endings.{EndsWith}
@@ -35,12 +38,19 @@ pub record ProgramRan (program : Program) (input : List ℕ) (opts : Options) (t
   pub ends : EndsWith journal ending
   pub prints : output ≡ texts.printed (texts_of program) journal ++ told_text too journal
 
--- the program is accepted, and these bytes are the listing of code of it
+-- the bytes of the listing of a program, at most: those of a line for each op, and of one for each row, of which there are no more
+abbrev pub listing_room : Program → ℕ
+listing_room program = LINE_BYTES * (2 * (OPS_FOR_SIZE * program_size program))
+
+-- the program is accepted, and these bytes are the listing of code of it, which has so few ops and rows as its `Size` allows
 pub record IsListingOf (program : Program) (output : List ℕ) : Type 0 where
   pub accepted : IsAccepted program
   pub code : Code
   pub lowered : Lowered (source_of program) code
+  pub few : length code.ops ≤ OPS_FOR_SIZE * program_size program
+  pub rows : HasRows code
   pub is : output ≡ listing_of code
+  pub short : length output ≤ listing_room program
 
 -- nothing was run, and all went well
 pub record RunsNothing (journal : Journal) (ending : Ending) : Type 0 where

@@ -5,3 +5,6 @@ pub mod Refusals
 pub mod Outcomes
 pub mod Decisions
 pub mod TextAnswers
+pub mod JournalAnswers
+pub mod Rooms
+pub mod RoomLaws

@@ -158,8 +158,9 @@ pub record Answers (s : Scene) (status : ℕ) : Type 0 where
   pub program : (h : HasTexts s) (p : Program) → HasProgram s h p → Finishes h.command status ⊎ (status ≡ 3) ⊎ (status ≡ 4) ⊎ (status ≡ 8)
   -- a generated program needs no text
   pub made : (n : ℕ) → IsLine s.words (MakeProgram n) → (status ≡ 0) ⊎ (status ≡ 4) ⊎ (status ≡ 8)
-  -- a journal is explained, or its text has a line that is no entry's
+  -- a journal is explained, or its text has a line that is no entry's; a steady store that tells the text gives it
   pub explained : (h : HasJournal s) (j : Journal) → IsJournal s h j → (status ≡ 0) ⊎ (status ≡ 3) ⊎ (status ≡ 4) ⊎ (status ≡ 8)
+  pub given : HasJournal s → IsTrue s.store.steady → status ≢ 3
   pub no_journal : (h : HasJournal s) → ((j : Journal) → IsJournal s h j → ⊥) → (status ≡ 10) ⊎ (status ≡ 3) ⊎ (status ≡ 4) ⊎ (status ≡ 8)
 
 -- the sinks have room for all that may be put

@@ -6,6 +6,7 @@ mod endings;
 mod printing;
 mod program;
 mod refusals;
+pub mod rooms;
 mod top;
 
 pub use refusals::Refusal;

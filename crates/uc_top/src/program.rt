@@ -1,14 +1,17 @@
 // Checks a program, lowers it and runs it.
 
-ghost use Rattle.std.specs.Prelude.{◌≡◌, ◌≤◌, ◌++◌, [], IfOk, IfErr, length};
+ghost use Rattle.std.specs.Prelude.{◌≡◌, ◌+◌, ◌*◌, ◌≤◌, ◌++◌, [], IfOk, IfErr, length};
 ghost use Rattle.uc_tree.specs.Source.{Source};
-ghost use Rattle.uc_tree.specs.declared.limits.TheConstants.{INPUT_BYTES, MAKE_MAX};
+ghost use Rattle.uc_tree.specs.Sizes.{program_size};
+ghost use Rattle.uc_tree.specs.declared.limits.TheConstants.{INPUT_BYTES, MAKE_MAX, OPS_FOR_SIZE};
 ghost use Rattle.uc_resolve.specs.Resolve.{source_of};
 ghost use Rattle.uc_rules.specs.Breaks.{breaks_of};
 ghost use Rattle.uc_top.specs.Accepted.{IsAccepted};
 ghost use Rattle.uc_code.specs.Layout.{laid_of};
 ghost use Rattle.uc_code.specs.Pace.{IsPaced};
+ghost use Rattle.uc_code.specs.Listing.{listing_of};
 ghost use Rattle.uc_code.specs.Lowered.{Lowered};
+ghost use Rattle.uc_lower.specs.RowRanges.{HasRows};
 ghost use Rattle.uc_acts.specs.Texts.{printed};
 ghost use Rattle.uc_make.specs.Generated.{generated};
 ghost use Rattle.uc_vproc.specs.Rest.{IsSource};
@@ -35,6 +38,9 @@ use uc_outside::Gate;
 use uc_tree::name::Text;
 use uc_tree::program::Program;
 use uc_vproc::run_processors;
+
+/// The bytes of a line of a listing, at most.
+pub const LINE_BYTES: usize = 64;
 
 /// The journal of a run, what it prints, and how it ends.
 #[derive(Drop)]
@@ -116,6 +122,8 @@ fn do_code<R: Threads + Wait + Sync, G: Gate + Sync>(
     requires accepted { IsAccepted program.now }
     requires lowered { Lowered (source_of program.now) code.now }
     requires paced { IsPaced (laid_of code.now) code.now.routines }
+    requires few { length code.now.ops ≤ OPS_FOR_SIZE * program_size program.now }
+    requires rows { HasRows code.now }
     requires input { length input.now ≤ INPUT_BYTES }
     requires purpose { HasEntries purpose }
     ensures { IfOk result (λ run. ProgramDid purpose program.now input.now run.journal.items run.output.items run.ending) }
@@ -127,10 +135,23 @@ fn do_code<R: Threads + Wait + Sync, G: Gate + Sync>(
         }
         Purpose::Check => Ok(done_with(alloc, Vec::new(alloc))),
         Purpose::Lower => {
-            let output = listing(alloc, code)?;
+            let output = list_code(alloc, code)?;
             Ok(done_with(alloc, output))
         }
     }
+}
+
+// The listing of code. No line is known that is longer than it may be: one that were would be want of memory.
+fn list_code(alloc: Global, code: &Code) -> Result<Vec<u8>, AllocError>
+    ensures text { IfOk result (λ output. output.items ≡ listing_of code.now) }
+    ensures short { IfOk result (λ output. length output.items ≤ LINE_BYTES * (length code.now.ops + length code.now.rows)) }
+{
+    let output = listing(alloc, code)?;
+    let lines = code.ops().len() + code.rows().len();
+    if output.len() > LINE_BYTES * lines {
+        return Err(AllocError);
+    }
+    Ok(output)
 }
 
 /// What gives this output and runs nothing.

@@ -4,6 +4,7 @@ ghost use Rattle.std.specs.Prelude.{◌≢◌, map, string_bytes};
 ghost use Rattle.uc_outside.specs.Reading.{KeepsFiles};
 ghost use Rattle.uc_top.specs.Decisions.{Finished};
 ghost use Rattle.uc_top.specs.Outcomes.{scene_of, Leaves, Causes, Stops, Answers, HaveRooms, Completes};
+ghost use Rattle.uc_top.specs.JournalAnswers.{JournalAnswers};
 ghost use Rattle.uc_top.specs.TextAnswers.{TextAnswers};
 
 use crate::decide::decide;
@@ -55,6 +56,9 @@ pub fn run_words<R: Threads + Wait + Sync, S: Store, O: Sink, E: Sink, G: Gate +
 
     // A text that is refused gets just its refusal, with its place.
     ensures texts { TextAnswers (scene_of (map string_bytes words.now) (S.state store.old) (S.state store.new) (O.state out.old) (O.state out.new) (E.state err.old) (E.state err.new)) result.status result.journal.items }
+
+    // A journal is a run's, and what its last entry is and what the status is say of each other.
+    ensures journals { JournalAnswers (scene_of (map string_bytes words.now) (S.state store.old) (S.state store.new) (O.state out.old) (O.state out.new) (E.state err.old) (E.state err.new)) result.status result.journal.items }
 
     // Sinks with room do not fail, and an accepted program is run where nothing fails.
     ensures rooms { HaveRooms (scene_of (map string_bytes words.now) (S.state store.old) (S.state store.new) (O.state out.old) (O.state out.new) (E.state err.old) (E.state err.new)) → result.status ≢ 4 }

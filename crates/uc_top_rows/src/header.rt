@@ -6,7 +6,7 @@ use std::alloc::{AllocError, Global};
 #[derive(Drop)]
 pub(crate) struct Header {
     pub(crate) words: String,
-    pub(crate) fails: Option<(u64, u64)>,
+    pub(crate) failing_puts: Option<(u64, u64)>,
     pub(crate) room: usize,
     pub(crate) count: usize,
     pub(crate) length: usize,
@@ -23,10 +23,10 @@ impl Header {
         let (line, length) = parted(line, " + ");
         let (line, count) = parted(line, " * ");
         let (line, room) = parted(line, " > ");
-        let (words, fails) = parted(line, " ! ");
+        let (words, puts) = parted(line, " ! ");
         Ok(Header {
             words: String::from_str(alloc, words)?,
-            fails: most_of(fails),
+            failing_puts: two_numbers(puts),
             room: room.parse::<usize>().unwrap_or(10_000),
             count: count.parse::<usize>().unwrap_or(0),
             length: length.parse::<usize>().unwrap_or(0),
@@ -45,8 +45,8 @@ fn parted<'a>(line: &'a str, mark: &str) -> (&'a str, &'a str) {
     }
 }
 
-// The two numbers of bytes.
-fn most_of(text: &str) -> Option<(u64, u64)> {
+// The two numbers of puts.
+fn two_numbers(text: &str) -> Option<(u64, u64)> {
     let (out, err) = text.split_once(' ')?;
     let out = out.parse::<u64>().ok()?;
     let err = err.parse::<u64>().ok()?;

@@ -1,7 +1,7 @@
 // Runs whole programs through the top call. In the input a line `== WORDS` begins a text, the bytes of the file a.cc: the
 // lines up to the next such line, parted by newlines. A word `''` is empty. Behind the words may stand, in this order,
 //
-// - ` ! OUT ERR`: both sinks take a byte a put, and each fails once, when it has taken so many bytes;
+// - ` ! OUT ERR`: both sinks take a byte a put, and each fails at its put of this number, counted from 1;
 // - ` > ROOM`: out has room for so many bytes, and not for 10,000;
 // - ` * COUNT`: each `@` of the text stands for so many semicolons;
 // - ` + LENGTH`: spaces fill the text to so many bytes;
@@ -15,17 +15,15 @@
 // stream.
 #![tactic(auto)]
 
-mod failing;
 mod header;
 mod outside;
 
-use crate::failing::{FailsAtRead, FailsOnce};
 use crate::header::Header;
 use std::alloc::{AllocError, Global};
 use std::io;
 use std::sync::Wait;
 use std::thread::Threads;
-use uc_outside::{FixedSink, OpenGate, SteadyStore};
+use uc_outside::{FixedSink, MemSink, MemStore, OpenGate, Sink};
 use uc_top::run_words;
 
 /// A text with what stands before it. It has a title where it is only checked.
@@ -84,15 +82,14 @@ fn filled_text(alloc: Global, row: &Row) -> Result<Vec<u8>, AllocError> {
     Ok(text)
 }
 
-fn store_of(alloc: Global, row: &Row) -> Result<FailsAtRead, AllocError> {
+fn store_of(alloc: Global, row: &Row) -> Result<MemStore, AllocError> {
     let mut files = Vec::new(alloc);
     files.push((String::from_str(alloc, "a.cc")?, filled_text(alloc, row)?))?;
     files.push((
         String::from_str(alloc, "in")?,
         row.header.input.as_bytes().to_vec(alloc)?,
     ))?;
-    let files = SteadyStore::new(files);
-    Ok(FailsAtRead::new(files, row.header.failing_read))
+    Ok(MemStore::new(files, vec![in alloc; row.header.failing_read]?))
 }
 
 fn words_of(alloc: Global, row: &Row) -> Result<Vec<String>, AllocError> {
@@ -153,29 +150,27 @@ fn answer_of_check<R: Threads + Wait + Sync>(
     format!(in alloc; "?? {title}\n{fault}")
 }
 
-// Of each sink how many bytes it took, its faults, and the puts after its fault; and how many entries the journal has.
+// What each sink took and its faults, and how many entries the journal has.
 fn answer_of_failing<R: Threads + Wait + Sync>(
     rt: &R,
     alloc: Global,
     row: &Row,
-    out_most: u64,
-    err_most: u64,
+    out_put: u64,
+    err_put: u64,
 ) -> Result<String, AllocError> {
     let words = words_of(alloc, row)?;
     let mut store = store_of(alloc, row)?;
-    let mut out = FailsOnce::new(out_most);
-    let mut err = FailsOnce::new(err_most);
+    let mut out = MemSink::new(alloc, row.header.room, vec![in alloc; out_put]?, 1)?;
+    let mut err = MemSink::new(alloc, 1_000, vec![in alloc; err_put]?, 1)?;
     let outcome = run_words(rt, alloc, &words, &mut store, &mut out, &mut err, &OpenGate);
     let entries = outcome.journal.len();
     format!(in alloc;
-        "== {}\nout {} {} {}\nerr {} {} {}\nentries {}\nstatus {}\n",
+        "== {}\n{}|\n{}|\nfaults {} {}\nentries {}\nstatus {}\n",
         row.header.words,
-        out.taken,
-        out.faults,
-        out.after,
-        err.taken,
-        err.faults,
-        err.after,
+        String::from_utf8_lossy(alloc, out.bytes())?,
+        String::from_utf8_lossy(alloc, err.bytes())?,
+        out.faults(),
+        err.faults(),
         entries,
         outcome.status
     )
@@ -192,7 +187,7 @@ fn any_answer<R: Threads + Wait + Sync>(
     if let Some(title) = &row.title {
         return answer_of_check(rt, alloc, row, title.as_str());
     }
-    match row.header.fails {
+    match row.header.failing_puts {
         Some((out, err)) => answer_of_failing(rt, alloc, row, out, err),
         None => answer(rt, alloc, row),
     }

@@ -1,5 +1,6 @@
 use Rattle.uc_top.proofs.Causes.{causes, stops, answers, rooms, completes}
 use Rattle.uc_top.proofs.AnswerLemmas.{text_answers}
+use Rattle.uc_top.proofs.JournalLemmas.{journal_answers}
 use Rattle.uc_top.proofs.top.run_words.Goals as goal
 
 pub returns-clause-causes : goal.returns-clause-causes
@@ -19,3 +20,6 @@ returns-clause-completes g c = completes _ c.work-outcome.ensures.leaves
 
 pub returns-clause-texts : goal.returns-clause-texts
 returns-clause-texts g c = text_answers _ c.work-outcome.ensures.leaves
+
+pub returns-clause-journals : goal.returns-clause-journals
+returns-clause-journals g c = journal_answers _ c.work-outcome.ensures.leaves

@@ -1,0 +1,3 @@
+pub mod ClassHeads
+pub mod OpenedTokens
+pub mod Laws

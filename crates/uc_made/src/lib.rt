@@ -1,0 +1,4 @@
+// The law that each generated program is accepted.
+#![tactic(auto)]
+
+pub mod laws;

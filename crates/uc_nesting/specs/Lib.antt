@@ -1,0 +1,5 @@
+pub mod Depth
+pub mod ExpressionNesting
+pub mod Laws
+pub mod Nesting
+pub mod StatementNesting

@@ -1,0 +1,7 @@
+pub mod Ticks
+pub mod Makes
+pub mod Alive
+pub mod Worlds
+pub mod Others
+pub mod Through
+pub mod ByHand

@@ -1,0 +1,3 @@
+pub mod Hands
+pub mod Settled
+pub mod StepLaws
