@@ -53,6 +53,9 @@ pub(crate) fn request_text(alloc: Global, request: &Request) -> Result<String, A
     if let Request::Print { n, ref items } = *request {
         return print_text(alloc, &items[..n.min(PRINT_ITEMS) as usize]);
     }
+    if let Request::Poll { mask } = *request {
+        return format!(in alloc; "poll {mask}");
+    }
     let (word, count, numbers) = words_of(request);
     let mut text = String::from_str(alloc, word)?;
     for number in &numbers[..count] {
@@ -102,7 +105,7 @@ fn words_of(request: &Request) -> (&'static str, usize, [i64; 4]) {
     }
 }
 
-// The same of one that is no request at a mutex object, but for a print.
+// The same of one that is no request at a mutex object, but for a print and a poll.
 fn other_words_of(request: &Request) -> (&'static str, usize, [i64; 4]) {
     match *request {
         Request::Raise {
@@ -111,7 +114,6 @@ fn other_words_of(request: &Request) -> (&'static str, usize, [i64; 4]) {
             x,
             y,
         } => ("raise", 4, [i64::from(object), i64::from(event), x, y]),
-        Request::Poll { mask } => ("poll", 1, [mask as i64, 0, 0, 0]),
         Request::Yield => ("yield", 0, [0; 4]),
         Request::Slice => ("slice", 0, [0; 4]),
         Request::Read { form } => ("read", 1, [i64::from(form), 0, 0, 0]),
