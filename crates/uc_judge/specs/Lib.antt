@@ -9,3 +9,11 @@ pub mod Scheduled
 pub mod Counted
 pub mod Tasked
 pub mod Opened
+pub mod PendingEvents
+pub mod Offers
+pub mod ClauseStacks
+pub mod ProcessorRows
+pub mod Actors
+pub mod Ledgers
+pub mod Compared
+pub mod Narrow

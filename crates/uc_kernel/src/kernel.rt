@@ -13,28 +13,30 @@ ghost use Rattle.uc_entry.specs.declared.request.Request.TheVariants as ask;
 ghost use Rattle.uc_kernel_core.specs.CoreActs.{makes_new};
 ghost use Rattle.uc_kernel_core.specs.Mirrors.{AreKnownSites};
 ghost use Rattle.uc_kernel.specs.Numbered.{without};
-ghost use Rattle.uc_kernel.specs.KernelState.{kept, put_back, stored};
+ghost use Rattle.uc_kernel.specs.KernelState.{kept, put_back, stored, with_asked};
 ghost use Rattle.uc_kernel.specs.Calls.{MayBring, Acted, Dispatched, EndsRun, Follows, LacksNew, Opened};
-ghost use Rattle.uc_kernel.specs.AtRest.{earlier, AreApart, FromAct, FromFirst, HasChild, IsAct, IsFirst, HandedOn, TakenOut, IsMake, IsSpawn, Lies};
+ghost use Rattle.uc_kernel.specs.AtRest.{earlier, AfterAct, AfterMake, AfterSpawn, AreApart, HasChild, IsFirst, HandedOn, TakenOut, IsMake, IsSpawn, Lies};
 
 use crate::given::{Back, Given, Next, Shape};
 use crate::hand::take_from;
-use crate::rests::{Rest, admission_at, drop_destroyed, entry_at, follow_first, follow_second};
+use crate::rests::{
+    TaskAtRest, admission_at, drop_destroyed, entry_at, follow_first, follow_second,
+};
 use std::alloc::{AllocError, Global};
 use std::marker::Model;
 use uc_entry::entry::{Entry, EntryKind, Options};
 use uc_entry::list::List;
-use uc_entry::request::{Answer, Request};
-use uc_kernel_core::book::Book;
+use uc_entry::request::{Answer, Asked, Request};
+use uc_kernel_core::book::KernelCore;
 use uc_kernel_core::entries::Actor;
 
 /// The journal of a run with its queues, the values of the tasks that do not run, and the members of objects that no
 /// running task is inside.
 #[derive(Drop)]
 pub struct Kernel<T, M> {
-    pub(crate) book: Book,
+    pub(crate) book: KernelCore,
     // By the task.
-    tasks: Vec<Option<Rest<T, M>>>,
+    tasks: Vec<Option<TaskAtRest<T, M>>>,
     // By the object: the members of those that nobody is inside.
     loose: Vec<Option<M>>,
     abandoned: bool,
@@ -69,7 +71,7 @@ impl<T: Drop, M: Drop> Kernel<T, M> {
         ensures { IfOk result (λ k. Opened shape.sites.items opts input.items first own (kept k)) }
     {
         let Shape { sites } = shape;
-        let book = Book::open(alloc, &opts, sites, input)?;
+        let book = KernelCore::open(alloc, &opts, sites, input)?;
         let tasks = first_tasks(alloc, first, own)?;
         let loose = first_loose(alloc)?;
         Ok(Kernel {
@@ -100,17 +102,17 @@ impl<T: Drop, M: Drop> Kernel<T, M> {
 
     /// The act of what a task asks: any request but Make and Spawn. Where the run is over before, nothing changes, and what
     /// was brought is dropped.
-    pub fn act(&mut self, back: Back<T, M>) -> Next<T, M>
-        requires fits { Journal.is_over self.old.journal ≡ false → MayBring (kept self.old) back }
-        requires old { makes_new back.asked.request ≡ false }
-        ensures { Acted (kept self.old) back result (kept self.new) }
+    pub fn act(&mut self, back: Back<T, M>, asked: &Asked) -> Next<T, M>
+        requires fits { Journal.is_over self.old.journal ≡ false → MayBring (kept self.old) (with_asked back asked.now) }
+        requires old { makes_new asked.now.request ≡ false }
+        ensures { Acted (kept self.old) (with_asked back asked.now) result (kept self.new) }
     {
         if is_over(&self.book) {
             return Next::Ended;
         }
-        let who = actor(&self.book, &back);
+        let who = actor(&self.book, &back, asked);
         let before = self.book.journal().len();
-        self.book.act(who, &back.asked.request);
+        self.book.act(who, &asked.request);
         let first = entry_at(self.book.journal(), before);
         let admission = admission_at(self.book.journal(), before + 1);
         follow(
@@ -126,18 +128,18 @@ impl<T: Drop, M: Drop> Kernel<T, M> {
 
     /// The act of a task that makes an object: the task goes on with the object's number, and brings its members with its next
     /// request. Where memory is wanting nothing changes, and what was brought is dropped.
-    pub fn make_object(&mut self, back: Back<T, M>) -> Result<Next<T, M>, AllocError>
-        requires fits { Journal.is_over self.old.journal ≡ false → MayBring (kept self.old) back }
-        requires makes { IsMake back.asked.request }
-        ensures ok { IfOk result (λ next. Acted (kept self.old) back next (kept self.new)) }
+    pub fn make_object(&mut self, back: Back<T, M>, asked: &Asked) -> Result<Next<T, M>, AllocError>
+        requires fits { Journal.is_over self.old.journal ≡ false → MayBring (kept self.old) (with_asked back asked.now) }
+        requires makes { IsMake asked.now.request }
+        ensures ok { IfOk result (λ next. Acted (kept self.old) (with_asked back asked.now) next (kept self.new)) }
         ensures lacks { IfOk result (λ next. (t : ℕ) → running back.processor self.old.journal ≡ t ∷ [] → LacksNew self.new.journal t next) }
         ensures err { OnErr result (self.new ≡ self.old) }
     {
         if is_over(&self.book) {
             return Ok(Next::Ended);
         }
-        let class = class_of(&back.asked.request);
-        let who = actor(&self.book, &back);
+        let class = class_of(&asked.request);
+        let who = actor(&self.book, &back, asked);
         self.loose.reserve(1)?;
         self.book.make_object(who, class)?;
         let next = follow_make(&self.book, &mut self.tasks, &mut self.loose, who.task, back);
@@ -146,18 +148,18 @@ impl<T: Drop, M: Drop> Kernel<T, M> {
 
     /// The act of a task that makes a task for an object that it is inside: the new task is ready, inside that object in its
     /// place. Where memory is wanting nothing changes, and what was brought is dropped.
-    pub fn spawn(&mut self, back: Back<T, M>) -> Result<Next<T, M>, AllocError>
-        requires fits { Journal.is_over self.old.journal ≡ false → MayBring (kept self.old) back }
-        requires spawns { IsSpawn back.asked.request }
+    pub fn spawn(&mut self, back: Back<T, M>, asked: &Asked) -> Result<Next<T, M>, AllocError>
+        requires fits { Journal.is_over self.old.journal ≡ false → MayBring (kept self.old) (with_asked back asked.now) }
+        requires spawns { IsSpawn asked.now.request }
         requires child { IsSome back.child }
-        ensures ok { IfOk result (λ next. Acted (kept self.old) back next (kept self.new)) }
+        ensures ok { IfOk result (λ next. Acted (kept self.old) (with_asked back asked.now) next (kept self.new)) }
         ensures err { OnErr result (self.new ≡ self.old) }
     {
         if is_over(&self.book) {
             return Ok(Next::Ended);
         }
-        let object = object_of(&back.asked.request);
-        let who = actor(&self.book, &back);
+        let object = object_of(&asked.request);
+        let who = actor(&self.book, &back, asked);
         let before = self.book.journal().len();
         let mut hand = List::new(self.alloc);
         hand.room()?;
@@ -223,19 +225,19 @@ impl<T: Drop, M: Drop> Kernel<T, M> {
 }
 
 // Whether the run is over.
-fn is_over(book: &Book) -> bool
+fn is_over(book: &KernelCore) -> bool
     ensures { result ≡ Journal.is_over book.now.journal }
 {
     book.ending().is_some()
 }
 
 // The task that acts.
-fn actor<T, M>(book: &Book, back: &Back<T, M>) -> Actor
+fn actor<T, M>(book: &KernelCore, back: &Back<T, M>, asked: &Asked) -> Actor
     requires going { Journal.is_over book.now.journal ≡ false }
     ensures processor { (t : ℕ) → running back.now.processor book.now.journal ≡ t ∷ [] → result.processor ≡ back.now.processor }
     ensures task { (t : ℕ) → running back.now.processor book.now.journal ≡ t ∷ [] → result.task ≡ t }
     ensures ticks { result.ticks ≡ back.now.ticks }
-    ensures line { result.line ≡ back.now.asked.line }
+    ensures line { result.line ≡ asked.now.line }
 {
     let (processor, task) = match book.runner(back.processor) {
         Some(task) => (back.processor as u8, task),
@@ -245,12 +247,12 @@ fn actor<T, M>(book: &Book, back: &Back<T, M>) -> Actor
         processor,
         task,
         ticks: back.ticks,
-        line: back.asked.line,
+        line: asked.line,
     }
 }
 
 // What the journal tells a task to go on with.
-fn answer_of(book: &Book, task: u32) -> Answer
+fn answer_of(book: &KernelCore, task: u32) -> Answer
     requires going { Journal.is_over book.now.journal ≡ false }
     requires small { task < TASKS }
     ensures { (x : _) → answer_to book.now.sites task book.now.journal ≡ Some x → result ≡ x }
@@ -263,8 +265,8 @@ fn answer_of(book: &Book, task: u32) -> Answer
 
 // Hands out a task at rest.
 fn take_out<T: Drop, M: Drop>(
-    book: &Book,
-    tasks: &mut Vec<Option<Rest<T, M>>>,
+    book: &KernelCore,
+    tasks: &mut Vec<Option<TaskAtRest<T, M>>>,
     processor: u32,
     task: u32,
 ) -> Option<Given<T, M>>
@@ -288,8 +290,8 @@ fn take_out<T: Drop, M: Drop>(
 
 // The task goes on where it still runs, and is put to rest otherwise.
 fn hand_on<T: Drop, M: Drop>(
-    book: &Book,
-    tasks: &mut Vec<Option<Rest<T, M>>>,
+    book: &KernelCore,
+    tasks: &mut Vec<Option<TaskAtRest<T, M>>>,
     processor: u32,
     task: u32,
     value: T,
@@ -310,7 +312,7 @@ fn hand_on<T: Drop, M: Drop>(
             left: book.left(task),
         }),
         None => {
-            tasks[task as usize] = Some(Rest {
+            tasks[task as usize] = Some(TaskAtRest {
                 task: value,
                 members,
             });
@@ -321,18 +323,17 @@ fn hand_on<T: Drop, M: Drop>(
 
 // What follows the act of a task, once its entries stand.
 fn follow<T: Drop, M: Drop>(
-    book: &Book,
-    tasks: &mut Vec<Option<Rest<T, M>>>,
+    book: &KernelCore,
+    tasks: &mut Vec<Option<TaskAtRest<T, M>>>,
     loose: &mut Vec<Option<M>>,
     task: u32,
     first: Entry,
     admission: Option<Entry>,
     back: Back<T, M>,
 ) -> Next<T, M>
-    requires is { IsAct book.now task first admission back tasks.old.items loose.old.items }
-    requires old { makes_new back.asked.request ≡ false }
+    requires after { AfterAct book.now task first admission back tasks.old.items loose.old.items }
     ensures lies { Journal.is_over book.now.journal ≡ false → Lies book.now.journal tasks.new.items loose.new.items }
-    ensures follows { (x : IsAct book.now task first admission back tasks.old.items loose.old.items) (b : Bool) → Follows (put_back (act book.now.opts book.now.sites book.now.input x.before back.processor task back.ticks back.asked) task back.task back.members.items back.child (kept (stored (earlier x.before book.now) b tasks.old.items loose.old.items))) (kept (stored book.now b tasks.new.items loose.new.items)) back.processor task result }
+    ensures follows { (x : AfterAct book.now task first admission back tasks.old.items loose.old.items) (b : Bool) → Follows (put_back (act book.now.opts book.now.sites book.now.input x.act.before back.processor task back.ticks x.asked) task back.task back.members.items back.child (kept (stored (earlier x.act.before book.now) b tasks.old.items loose.old.items))) (kept (stored book.now b tasks.new.items loose.new.items)) back.processor task result }
 {
     let Back {
         processor,
@@ -342,7 +343,7 @@ fn follow<T: Drop, M: Drop>(
     } = back;
     if is_over(book) {
         drop_destroyed(&first, &mut members);
-        tasks[task as usize] = Some(Rest {
+        tasks[task as usize] = Some(TaskAtRest {
             task: value,
             members,
         });
@@ -377,7 +378,7 @@ fn object_of(request: &Request) -> u32
 
 // A new task is at rest, inside an object in its creator's place.
 fn settle_child<T: Drop, M: Drop>(
-    tasks: &mut Vec<Option<Rest<T, M>>>,
+    tasks: &mut Vec<Option<TaskAtRest<T, M>>>,
     object: u32,
     child: Option<T>,
     hand: List<(u64, M)>,
@@ -394,7 +395,7 @@ fn settle_child<T: Drop, M: Drop>(
     let own = take_from(members, object);
     match child {
         None => {}
-        Some(child) => tasks.push_reserved(Some(Rest {
+        Some(child) => tasks.push_reserved(Some(TaskAtRest {
             task: child,
             members: with_own(hand, object, own),
         })),
@@ -428,22 +429,21 @@ fn makes_none(e: &Entry) -> bool
 
 // What follows the act of a task that makes a task.
 fn follow_spawn<T: Drop, M: Drop>(
-    book: &Book,
-    tasks: &mut Vec<Option<Rest<T, M>>>,
+    book: &KernelCore,
+    tasks: &mut Vec<Option<TaskAtRest<T, M>>>,
     loose: &Vec<Option<M>>,
     task: u32,
     first: Entry,
     hand: List<(u64, M)>,
     back: Back<T, M>,
 ) -> Next<T, M>
-    requires is { FromFirst book.now task first back tasks.old.items loose.now.items }
-    requires spawns { IsSpawn back.asked.request }
+    requires after { AfterSpawn book.now task first back tasks.old.items loose.now.items }
     requires child { IsSome back.child }
     requires room { 1 ≤ hand.spare }
     requires empty { hand.items ≡ [] }
     requires reserved { vec_len tasks.old < vec_capacity tasks.old }
     ensures lies { Journal.is_over book.now.journal ≡ false → Lies book.now.journal tasks.new.items loose.now.items }
-    ensures follows { (x : FromFirst book.now task first back tasks.old.items loose.now.items) (b : Bool) → Follows (put_back (act book.now.opts book.now.sites book.now.input x.before back.processor task back.ticks back.asked) task back.task back.members.items back.child (kept (stored (earlier x.before book.now) b tasks.old.items loose.now.items))) (kept (stored book.now b tasks.new.items loose.now.items)) back.processor task result }
+    ensures follows { (x : AfterSpawn book.now task first back tasks.old.items loose.now.items) (b : Bool) → Follows (put_back (act book.now.opts book.now.sites book.now.input x.act.before back.processor task back.ticks x.asked) task back.task back.members.items back.child (kept (stored (earlier x.act.before book.now) b tasks.old.items loose.now.items))) (kept (stored book.now b tasks.new.items loose.now.items)) back.processor task result }
 {
     let Back {
         processor,
@@ -453,7 +453,7 @@ fn follow_spawn<T: Drop, M: Drop>(
         ..
     } = back;
     if makes_none(&first) {
-        tasks[task as usize] = Some(Rest {
+        tasks[task as usize] = Some(TaskAtRest {
             task: value,
             members,
         });
@@ -461,7 +461,7 @@ fn follow_spawn<T: Drop, M: Drop>(
     }
     settle_child(tasks, first.object, child, hand, &mut members);
     if is_over(book) {
-        tasks[task as usize] = Some(Rest {
+        tasks[task as usize] = Some(TaskAtRest {
             task: value,
             members,
         });
@@ -472,18 +472,17 @@ fn follow_spawn<T: Drop, M: Drop>(
 
 // What follows the act of a task that makes an object.
 fn follow_make<T: Drop, M: Drop>(
-    book: &Book,
-    tasks: &mut Vec<Option<Rest<T, M>>>,
+    book: &KernelCore,
+    tasks: &mut Vec<Option<TaskAtRest<T, M>>>,
     loose: &mut Vec<Option<M>>,
     task: u32,
     back: Back<T, M>,
 ) -> Next<T, M>
-    requires is { FromAct book.now task back tasks.old.items loose.old.items }
-    requires makes { IsMake back.asked.request }
+    requires after { AfterMake book.now task back tasks.old.items loose.old.items }
     requires reserved { vec_len loose.old < vec_capacity loose.old }
     ensures lies { Journal.is_over book.now.journal ≡ false → Lies book.now.journal tasks.new.items loose.new.items }
     ensures lacks { LacksNew book.now.journal task result }
-    ensures follows { (x : FromAct book.now task back tasks.old.items loose.old.items) (b : Bool) → Follows (put_back (act book.now.opts book.now.sites book.now.input x.before back.processor task back.ticks back.asked) task back.task back.members.items back.child (kept (stored (earlier x.before book.now) b tasks.old.items loose.old.items))) (kept (stored book.now b tasks.new.items loose.new.items)) back.processor task result }
+    ensures follows { (x : AfterMake book.now task back tasks.old.items loose.old.items) (b : Bool) → Follows (put_back (act book.now.opts book.now.sites book.now.input x.from.before back.processor task back.ticks x.asked) task back.task back.members.items back.child (kept (stored (earlier x.from.before book.now) b tasks.old.items loose.old.items))) (kept (stored book.now b tasks.new.items loose.new.items)) back.processor task result }
 {
     let Back {
         processor,
@@ -492,7 +491,7 @@ fn follow_make<T: Drop, M: Drop>(
         ..
     } = back;
     if is_over(book) {
-        tasks[task as usize] = Some(Rest {
+        tasks[task as usize] = Some(TaskAtRest {
             task: value,
             members,
         });
@@ -507,14 +506,14 @@ fn first_tasks<T: Drop, M: Drop>(
     alloc: Global,
     first: T,
     own: M,
-) -> Result<Vec<Option<Rest<T, M>>>, AllocError>
+) -> Result<Vec<Option<TaskAtRest<T, M>>>, AllocError>
     ensures { IfOk result (λ v. IsFirst first own v.items) }
 {
     let mut members = List::new(alloc);
     members.room()?;
     members.push((0, own));
     let mut tasks = Vec::with_capacity(alloc, 1)?;
-    tasks.push_reserved(Some(Rest {
+    tasks.push_reserved(Some(TaskAtRest {
         task: first,
         members,
     }));

@@ -13,7 +13,7 @@ use Rattle.uc_tree.specs.Statements.{Accepts, Clause, MaybeStmt, NoStmt, OneStmt
 use Rattle.uc_tree.specs.StatementSizes.{clauses_size, maybe_stmt_size}
 use Rattle.uc_resolve.specs.Resolve.{Scope, clauses_meant, else_meant, maybe_meant, scope_past, scope_past_clauses, stmt_meant}
 use Rattle.uc_code.specs.declared.op.Op.TheVariants as op
-use Rattle.uc_code.specs.declared.rows.Mark.{Mark}
+use Rattle.uc_code.specs.declared.rows.CodeMark.{CodeMark}
 use Rattle.uc_code.specs.Drafts.{Draft, patched}
 use Rattle.uc_code.specs.Layout.{Laid, laid_in}
 use Rattle.uc_code.specs.CodeShapes.{Kept, One, OpAt, Stable}
@@ -30,10 +30,11 @@ use Rattle.uc_lower_stmt.proofs.Joined.{lowers_adds}
 use Rattle.uc_lower_stmt.proofs.BranchFitting.{no_clauses}
 use Rattle.uc_lower_stmt.proofs.Jumping.{kept_until, length_chosen, lowers_chosen, one_set}
 use Rattle.uc_lower_stmt.proofs.Kept.{branches_stable, stmt_stable}
+use Rattle.uc_lower_stmt.proofs.RowFitting.{fit_like, fit_then}
 
 -- without a clause
 
-else_at_end : (p : Program) (line otherwise : ℕ) (other : MaybeStmt) (s : Scope) (ms : List Mark) (code : Laid) (a z : ℕ) → otherwise ≡ a → StmtAt code ms (maybe_meant p other s) a z → BranchesAt code ms line (else_meant p other s) otherwise [] z a z
+else_at_end : (p : Program) (line otherwise : ℕ) (other : MaybeStmt) (s : Scope) (ms : List CodeMark) (code : Laid) (a z : ℕ) → otherwise ≡ a → StmtAt code ms (maybe_meant p other s) a z → BranchesAt code ms line (else_meant p other s) otherwise [] z a z
 else_at_end p line otherwise NoStmt s ms code a z e h = record { goes = e ∙ sym h.end; none = refl; nothing = h.end }
 else_at_end p line otherwise (OneStmt body) s ms code a z e h = record { here = e; none = refl; body = h }
 
@@ -48,6 +49,7 @@ branch_last p line else_at first here xs other d0 d1 new none he pt m =
       scope = k.scope;
       opened = let w = k.opened in omega (arith, w);
       kept = k.kept;
+      rows = k.rows;
       room = let w = k.room in omega (arith, w);
       texts = let w = k.texts in omega (arith, w);
       cells = let w = k.cells in omega (arith, w);
@@ -71,7 +73,7 @@ module _ (p : Program) (line else_at first here leave end : ℕ) (place : Pos) (
   abbrev s : Scope
   s = scope_of d0
 
-  abbrev ms : List Mark
+  abbrev ms : List CodeMark
   ms = d0.marks
 
   abbrev o : ℕ
@@ -149,7 +151,7 @@ module _ (p : Program) (line else_at first here leave end : ℕ) (place : Pos) (
   four =
       subst (λ (t : Scope). Lowers (size (objects_in ms)) (clauses_size (clauses_of xs) + maybe_stmt_size other) (clauses_cells (clauses_of xs) (declared_cells p) + maybe_cells other (declared_cells p)) (clauses_scopes (clauses_of xs) + maybe_scopes other)
       (BranchesCode p line ms xs other t o ps) (past_branches p xs other t) (set d3) d4) scope_three (
-      subst (λ (ns : List Mark). Lowers (size (objects_in ns)) (clauses_size (clauses_of xs) + maybe_stmt_size other) (clauses_cells (clauses_of xs) (declared_cells p) + maybe_cells other (declared_cells p)) (clauses_scopes (clauses_of xs) + maybe_scopes other)
+      subst (λ (ns : List CodeMark). Lowers (size (objects_in ns)) (clauses_size (clauses_of xs) + maybe_stmt_size other) (clauses_cells (clauses_of xs) (declared_cells p) + maybe_cells other (declared_cells p)) (clauses_scopes (clauses_of xs) + maybe_scopes other)
       (BranchesCode p line ns xs other (scope_of d3) o ps) (past_branches p xs other (scope_of d3)) (set d3) d4) marks_three b.branches)
 
   abbrev was : Laid
@@ -216,6 +218,7 @@ module _ (p : Program) (line else_at first here leave end : ℕ) (place : Pos) (
     scope = four.scope;
     opened = (let u = two.opened in let v = three.opened in let w = four.opened in omega arith);
     kept = kept_until (laid_in start) was y (op.Jump (length d4.ops)) kept_start (let l = long_start in let m = past in omega arith);
+    rows = fit_like start last refl refl refl refl long refl (fit_then four.kept.longer (fit_then three.kept.longer two.rows three.rows) four.rows);
     room = (let u = two.room in let v = three.room in let w = four.room in let l = long in omega arith);
     texts = (let u = two.texts in let v = three.texts in let w = four.texts in omega arith);
     cells = (let u = two.cells in let v = three.cells in let w = four.cells in omega arith);

@@ -2,7 +2,7 @@
 use Rattle.std.proofs.Common.{◌≡◌, ℕ, ◌+◌, ◌≤◌, List, [], ◌∷◌, ◌++◌, length, refl, ap, sym, subst, ◌∙◌, arith}
 use Rattle.uc_tree.specs.Source.{Stmt, Stmts, Nil, Then}
 use Rattle.uc_resolve.specs.Resolve.{Scope}
-use Rattle.uc_code.specs.declared.rows.Mark.{Mark}
+use Rattle.uc_code.specs.declared.rows.CodeMark.{CodeMark}
 use Rattle.uc_code.specs.Drafts.{Draft}
 use Rattle.uc_code.specs.Layout.{Laid, laid_in, routine_in}
 use Rattle.uc_code.specs.Lowered.{StmtAt, StmtsAt}
@@ -12,6 +12,7 @@ use Rattle.uc_lower_stmt.specs.Marked.{closing, objects_in}
 use Rattle.uc_lower_stmt.specs.OpenScopes.{Does, block_of, Pending, Begins, Done, Lays}
 use Rattle.uc_lower_stmt.specs.LowersStatement.{Lowers, scope_of}
 use Rattle.uc_lower_stmt.proofs.BlocksLemmas.{block_join, none_join, pending_join, pending_kept, pending_routine}
+use Rattle.uc_lower_stmt.proofs.RowFitting.{fit_refl, fit_then}
 
 pub lays_nothing : (line : ℕ) (old : Draft) → Lays 0 0 0 0 0 line (λ ss. ss) (scope_of old) old old
 lays_nothing line old = record {
@@ -19,6 +20,7 @@ lays_nothing line old = record {
   scope = refl;
   opened = omega arith;
   kept = kept_refl (laid_in old);
+  rows = fit_refl old;
   room = omega arith;
   texts = omega arith;
   cells = omega arith;
@@ -35,6 +37,7 @@ lays_as h x fg l1 l2 l3 l4 l5 = record {
   scope = h.scope ∙ x;
   opened = let y = h.opened in omega arith;
   kept = h.kept;
+  rows = h.rows;
   room = let y = h.room in omega arith;
   texts = let y = h.texts in omega arith;
   cells = let y = h.cells in omega arith;
@@ -51,6 +54,7 @@ lays_join {n} {k} {c} {d} {o} {m} {j} {b} {e} {q} {line} {f} {g} {s} {t} {old} {
   scope = w.scope;
   opened = let x = h.opened in let y = w.opened in omega arith;
   kept = kept_then (laid_in old) (laid_in mid) (laid_in new) h.kept w.kept;
+  rows = fit_then w.kept.longer h.rows w.rows;
   room = let x = h.room in let y = w.room in omega arith;
   texts = let x = h.texts in let y = w.texts in omega arith;
   cells = let x = h.cells in let y = w.cells in omega arith;
@@ -72,10 +76,11 @@ lays_one {n} {k} {c} {o} {s} {t} {old} {new} line h =
     let e : objects_in new.marks ≡ objects_in old.marks = ap objects_in m in
     let f : closing new.marks ≡ closing old.marks = ap closing m in
     record {
-      rest = h.rest ∙ ap (λ (ms : List Mark). let y : Draft = record old { ops = new.ops; rows = new.rows; settled = new.settled; marks = ms; scopes = new.scopes; names = new.names; cells = new.cells; hidden = new.hidden; texts = new.texts; sites = new.sites } in y) (sym m);
+      rest = h.rest ∙ ap (λ (ms : List CodeMark). let y : Draft = record old { ops = new.ops; rows = new.rows; settled = new.settled; marks = ms; scopes = new.scopes; names = new.names; cells = new.cells; hidden = new.hidden; texts = new.texts; sites = new.sites } in y) (sym m);
       scope = h.scope;
       opened = h.opened;
       kept = h.kept;
+      rows = h.rows;
       room = (let x = h.room in omega (arith, f));
       texts = h.texts;
       cells = h.cells;
@@ -83,7 +88,7 @@ lays_one {n} {k} {c} {o} {s} {t} {old} {new} line h =
       steps = Does s ∷ [];
       none = tt;
       block = λ ss. refl;
-      code = subst (λ (ms : List Mark). Pending (laid_in new) line old.marks (length old.ops) (Does s ∷ []) ms (length new.ops)) (sym m) (Done [] old.marks (length old.ops) (length new.ops) s Begins h.code);
+      code = subst (λ (ms : List CodeMark). Pending (laid_in new) line old.marks (length old.ops) (Does s ∷ []) ms (length new.ops)) (sym m) (Done [] old.marks (length old.ops) (length new.ops) s Begins h.code);
     }
 
 -- the scopes of a block have ended, and it is as one piece
@@ -99,6 +104,7 @@ lays_ended {n} {k} {c} {d} {o} {line} {f} {t} {old} {mid} {new} count ce h w =
       scope = ap scope_of w.rest ∙ h.scope;
       opened = scopes ∙ h.opened;
       kept = kept_then (laid_in old) (laid_in mid) (laid_in new) h.kept w.kept;
+      rows = fit_then w.kept.longer h.rows w.rows;
       room = (let x = h.room in let y = w.room in omega (arith, e));
       texts = (let x = h.texts in omega (arith, texts));
       cells = (let x = h.cells in omega (arith, cells));
@@ -110,7 +116,7 @@ lays_ended {n} {k} {c} {d} {o} {line} {f} {t} {old} {mid} {new} count ce h w =
         let a : new ≡ record old { ops = new.ops; rows = new.rows; settled = new.settled; marks = new.marks; scopes = mid.scopes; names = mid.names; cells = mid.cells; hidden = mid.hidden; texts = mid.texts; sites = mid.sites } =
         w.rest ∙ ap (λ (x : Draft). let y : Draft = record x { ops = new.ops; rows = new.rows; settled = new.settled; marks = new.marks } in y) h.rest in
         subst (λ (x : Draft). new ≡ record old { ops = new.ops; rows = new.rows; settled = new.settled; scopes = x.scopes; names = x.names; cells = x.cells; hidden = x.hidden; texts = x.texts; sites = x.sites }) (sym w.rest) (
-        a ∙ ap (λ (ms : List Mark). let y : Draft = record old { ops = new.ops; rows = new.rows; settled = new.settled; marks = ms; scopes = mid.scopes; names = mid.names; cells = mid.cells; hidden = mid.hidden; texts = mid.texts; sites = mid.sites } in y) m)
+        a ∙ ap (λ (ms : List CodeMark). let y : Draft = record old { ops = new.ops; rows = new.rows; settled = new.settled; marks = ms; scopes = mid.scopes; names = mid.names; cells = mid.cells; hidden = mid.hidden; texts = mid.texts; sites = mid.sites } in y) m)
 
 -- the routine stays the same
 pub lays_routine : {n k c d o line : ℕ} {f : Stmts → Stmts} {t : Scope} {old new : Draft} → Lays n k c d o line f t old new → routine_in new.marks ≡ routine_in old.marks

@@ -20,15 +20,15 @@ use Rattle.uc_resolve.specs.Resolve.{Scope, Context, Meant, args_meant, context_
 use Rattle.uc_code.specs.declared.op.Op.TheVariants as op
 use Rattle.uc_code.specs.declared.rows.Array.{Array}
 use Rattle.uc_code.specs.declared.rows.Manner.{Manner}
-use Rattle.uc_code.specs.declared.rows.Mark.{Mark}
-use Rattle.uc_code.specs.declared.rows.Mark.TheVariants as mark
+use Rattle.uc_code.specs.declared.rows.CodeMark.{CodeMark}
+use Rattle.uc_code.specs.declared.rows.CodeMark.TheVariants as mark
 use Rattle.uc_code.specs.declared.rows.Cleaning.{Cleaning}
 use Rattle.uc_code.specs.declared.rows.Cleaning.TheVariants as cleaning
 use Rattle.uc_code.specs.declared.rows.Opening.TheVariants as opening
-use Rattle.uc_code.specs.declared.rows.Spot.{Spot}
-use Rattle.uc_code.specs.declared.rows.Spot.TheVariants.{Local}
+use Rattle.uc_code.specs.declared.rows.ObjectSpot.{ObjectSpot}
+use Rattle.uc_code.specs.declared.rows.ObjectSpot.TheVariants.{Local}
 use Rattle.uc_code.specs.Drafts.{Draft}
-use Rattle.uc_code.specs.Layout.{laid_in, routine_in}
+use Rattle.uc_code.specs.Layout.{Laid, laid_in, routine_in}
 use Rattle.uc_code.specs.ObjectCalls.{BeginsAt, InFrame, Cleans, One as CleansOne, All, TakesDown, IsForgotten, Left, Ended, Freed, Restored}
 use Rattle.uc_code.specs.OpenRows.{StandsBehind, CleansBehind, opened}
 use Rattle.uc_code.specs.Emits.{Puts}
@@ -43,11 +43,15 @@ use Rattle.uc_lower_expr.specs.Members.{made_routine, routine_by}
 use Rattle.uc_lower_stmt.specs.Blocks.{AllStandBehind, started_args}
 use Rattle.uc_lower_expr.proofs.Walks.{some_size}
 use Rattle.uc_lower_stmt.specs.Marked.{calls_in, close_room, counted_by}
-use Rattle.uc_lower_stmt.specs.Objects.{build_room, call_by, destroyer_of, ended_by}
+use Rattle.uc_lower_stmt.specs.Objects.{build_room, build_rows, call_by, destroyer_of, ended_by}
 use Rattle.uc_lower_stmt.specs.OpenScopes.{Does, Opens, NoCall, Begins, Done, Opened, Lays}
 use Rattle.uc_lower_stmt.specs.LowersStatement.{scope_of}
 use Rattle.uc_lower_stmt.proofs.Kept.{stmt_stable}
 use Rattle.uc_lower_stmt.proofs.Laying.{lays_as, lays_join, lays_nothing}
+use Rattle.uc_code.proofs.Putting.{done_stable}
+use Rattle.uc_lower_stmt.specs.RowFit.{RowsFit, open_rows}
+use Rattle.uc_lower_stmt.proofs.Filling.{built_stable}
+use Rattle.uc_lower_stmt.proofs.RowFitting.{fit_adds, fit_like, fit_opened, fit_puts, fit_then}
 
 -- routines that nobody wrote stand behind all others
 
@@ -60,16 +64,16 @@ made_behind p n wanted (made.Object i) l e = behind_by p i n wanted (written_at 
 made_behind p n wanted made.Cluster l e = absurd (cc)
 made_behind p n wanted made.Processor l e = absurd (cc)
 
-pub all_behind : (p : Program) (m : Made) (ms : List Mark) → routine_in ms < length (routines_of p) → AllStandBehind p m ms
+pub all_behind : (p : Program) (m : Made) (ms : List CodeMark) → routine_in ms < length (routines_of p) → AllStandBehind p m ms
 all_behind p m ms l = record { each = λ wanted e. made_behind p (routine_in ms) wanted m l e }
 
-pub behind_of : (p : Program) (m : Made) (wanted : Role) (how : Manner) (spot : Spot) (array : Option Array) (ms ns : List Mark) → AllStandBehind p m ms → ns ≡ ms → StandsBehind ns (call_by (made_routine p wanted m) how spot array)
-behind_of p m wanted how spot array ms ns b e = record { behind = λ f. subst (λ (l : List Mark). routine_in l < (made_routine p wanted m).number) (sym e) (b.each wanted f) }
+pub behind_of : (p : Program) (m : Made) (wanted : Role) (how : Manner) (spot : ObjectSpot) (array : Option Array) (ms ns : List CodeMark) → AllStandBehind p m ms → ns ≡ ms → StandsBehind ns (call_by (made_routine p wanted m) how spot array)
+behind_of p m wanted how spot array ms ns b e = record { behind = λ f. subst (λ (l : List CodeMark). routine_in l < (made_routine p wanted m).number) (sym e) (b.each wanted f) }
 
-pub behind_call : (p : Program) (m : Made) (spot : Spot) (array : Option Array) (what : Cleaning) (ms ns : List Mark) → what ≡ cleaning.Call (destroyer_of p m spot array) → AllStandBehind p m ms → ns ≡ ms → CleansBehind ns what
+pub behind_call : (p : Program) (m : Made) (spot : ObjectSpot) (array : Option Array) (what : Cleaning) (ms ns : List CodeMark) → what ≡ cleaning.Call (destroyer_of p m spot array) → AllStandBehind p m ms → ns ≡ ms → CleansBehind ns what
 behind_call p m spot array what ms ns w b e = subst (λ (x : Cleaning). CleansBehind ns x) (sym w) (behind_of p m role.Destructor (ended_by p m) spot array ms ns b e)
 
-pub behind_next : (p : Program) (m : Made) (ms ns : List Mark) → AllStandBehind p m ms → routine_in ns ≡ routine_in ms → AllStandBehind p m ns
+pub behind_next : (p : Program) (m : Made) (ms ns : List CodeMark) → AllStandBehind p m ms → routine_in ns ≡ routine_in ms → AllStandBehind p m ns
 behind_next p m ms ns b e = record { each = λ wanted f. let l = b.each wanted f in omega (arith, e) }
 
 -- arguments
@@ -110,10 +114,22 @@ closes_few c what Ended = omega arith
 closes_few c what (Freed main) = omega arith
 closes_few c what (Restored cell) = omega arith
 
+-- what builds it has more ops than rows
+pub build_long : (p : Program) (line : ℕ) (m : Making) (elements : Option ℕ) (place : Expr) (args : List Meant) (code : Laid) (ms : List CodeMark) (a z : ℕ) → StmtAt code ms (build p line m elements place args) a z → build_rows elements + a ≤ z
+build_long p line m None place args code ms a z h = let l = (stmt_stable ms (build p line m None place args)).rises code a z h in omega arith
+build_long p line m (Some n) place args code ms a z h =
+    let f = h.filled in
+    let b = f.rounds.end in
+    let l = f.undoes.end in
+    let u = f.unwind.end in
+    let r = (built_stable line h.builder (mark.Elements f.row ∷ ms)).rises code (a + 1) f.test f.rounds.turn in
+    let s = (done_stable line h.destroyer (mark.Elements f.row ∷ ms)).rises code (f.test + 2) f.entry f.undoes.turn in
+    omega arith
+
 module _ (p : Program) (m : Making) (b : Base) (d : Declarator) (line block cell cells : ℕ) (elements : Option ℕ) (args : List tree.Expr) (what : Cleaning) (d0 d1 d2 d3 new : Draft)
     (le : cell ≡ d0.cells) (ce : cells ≡ declared_cells p b d) (ne : elements ≡ length_of p d d.len) (ae : (c : Context) → args_meant c (exprs_of args) ≡ started_args c d.start) (few : exprs_size (exprs_of args) ≤ start_size d.start)
     (c1 : Adds 1 (OpCode line (op.Clear cell cells)) d0 d1)
-    (h2 : (place : Expr) → BeginsAt place (Local cell) → Puts (OPS_FOR_SIZE * exprs_size (exprs_of args) + build_room elements) (λ code. StmtAt code d1.marks (build p line m elements place (args_meant (context_in p d1) (exprs_of args)))) d1 d2)
+    (h2 : (place : Expr) → BeginsAt place (Local cell) → Puts (build_rows elements) (OPS_FOR_SIZE * exprs_size (exprs_of args) + build_room elements) (λ code. StmtAt code d1.marks (build p line m elements place (args_meant (context_in p d1) (exprs_of args)))) d1 d2)
     (cleans : (place : Expr) → BeginsAt place (Local cell) → Cleans (clean_up p m elements place) what)
     (o3 : d3 ≡ opened (opening.Object what block) d2) (k3 : Kept (laid_in d2) (laid_in d3))
     (e4 : new ≡ record d3 { names = d3.names ++ declared_known p (scope_of d3) b d ∷ []; cells = d3.cells + cells }) where
@@ -126,10 +142,10 @@ module _ (p : Program) (m : Making) (b : Base) (d : Declarator) (line block cell
   abbrev place : BeginsAt (Variable cell) (Local cell)
   place = InFrame cell
 
-  built : Puts (OPS_FOR_SIZE * exprs_size (exprs_of args) + build_room elements) (λ code. StmtAt code d1.marks (build p line m elements (Variable cell) (args_meant (context_in p d1) (exprs_of args)))) d1 d2
+  built : Puts (build_rows elements) (OPS_FOR_SIZE * exprs_size (exprs_of args) + build_room elements) (λ code. StmtAt code d1.marks (build p line m elements (Variable cell) (args_meant (context_in p d1) (exprs_of args)))) d1 d2
   built = h2 (Variable cell) place
 
-  abbrev inner : Mark
+  abbrev inner : CodeMark
   inner = mark.Clean what block (length d2.rows)
 
   abbrev last : Draft
@@ -179,7 +195,7 @@ module _ (p : Program) (m : Making) (b : Base) (d : Declarator) (line block cell
       subst (λ (x : Option ℕ). StmtAt (laid_in last) d0.marks (build p line m x there (start_args p s d.start)) (length d1.ops) (length d2.ops)) ne (
       subst (λ (x : ℕ). StmtAt (laid_in last) d0.marks (build p line m elements (Variable x) (start_args p s d.start)) (length d1.ops) (length d2.ops)) le (
       subst (λ (x : List Meant). StmtAt (laid_in last) d0.marks (build p line m elements (Variable cell) x) (length d1.ops) (length d2.ops)) args_are (
-      subst (λ (ms : List Mark). StmtAt (laid_in last) ms (build p line m elements (Variable cell) (args_meant (context_in p d1) (exprs_of args))) (length d1.ops) (length d2.ops)) marks1 (
+      subst (λ (ms : List CodeMark). StmtAt (laid_in last) ms (build p line m elements (Variable cell) (args_meant (context_in p d1) (exprs_of args))) (length d1.ops) (length d2.ops)) marks1 (
       kept_piece (λ k. StmtAt k d1.marks (build p line m elements (Variable cell) (args_meant (context_in p d1) (exprs_of args)))) (stmt_stable d1.marks (build p line m elements (Variable cell) (args_meant (context_in p d1) (exprs_of args))))
       (laid_in d2) (laid_in last) (length d1.ops) (length d2.ops) (omega arith) keep2 built.code))))
 
@@ -187,6 +203,9 @@ module _ (p : Program) (m : Making) (b : Base) (d : Declarator) (line block cell
   cleaned =
       subst (λ (x : Option ℕ). Cleans (clean_up p m x there) what) ne (
       subst (λ (x : ℕ). Cleans (clean_up p m elements (Variable x)) what) le (cleans (Variable cell) place))
+
+  marks_last : inner ∷ d0.marks ≡ d3.marks
+  marks_last = sym (ap (λ (x : Draft). x.marks) opened_is ∙ ap (λ (ms : List CodeMark). inner ∷ ms) (ap (λ (x : Draft). x.marks) built_is))
 
   pub arm_object : Lays (OPS_FOR_SIZE * declarator_size d) 0 (declared_cells p b d) 1 0 block (object_scoped p m line b d (scope_of d0)) (with_declared p (scope_of d0) b d) d0 new
   arm_object =
@@ -197,6 +216,10 @@ module _ (p : Program) (m : Making) (b : Base) (d : Declarator) (line block cell
         scope = refl;
         opened = omega arith;
         kept = kept_then (laid_in d0) (laid_in d1) (laid_in last) c1.kept keep1;
+        rows =
+            let one : RowsFit 0 d0 d2 = fit_then built.kept.longer (fit_adds c1) (fit_puts (build_long p line m elements (Variable cell) (args_meant (context_in p d1) (exprs_of args)) (laid_in d2) d1.marks (length d1.ops) (length d2.ops) built.code) built) in
+            let all : RowsFit 0 d0 d3 = fit_then k3.longer one (fit_opened (opening.Object what block) d2 d3 o3) in
+            fit_like d0 last refl refl refl refl (ap length (sym ops3)) (ap open_rows marks_last) all;
         room = (let x = c1.room in let y = built.room in let z = length_counts p d d.len in let e : build_room elements ≡ build_room (length_of p d d.len) = ap build_room ne in let k = closes_few c what cleaned in omega (arith, few, e));
         texts = omega arith;
         cells = omega arith;

@@ -4,7 +4,7 @@ use Rattle.std.proofs.lemmas.Option.{slice_get_within}
 use Rattle.uc_tree.specs.Source.{Order}
 use Rattle.uc_resolve.specs.Resolve.{Scope}
 use Rattle.uc_code.specs.declared.op.Op.TheVariants as op
-use Rattle.uc_code.specs.declared.rows.Mark.{Mark}
+use Rattle.uc_code.specs.declared.rows.CodeMark.{CodeMark}
 use Rattle.uc_code.specs.Drafts.{Draft, patched}
 use Rattle.uc_code.specs.Layout.{Laid, laid_in}
 use Rattle.uc_code.specs.OpenRows.{left_marks}
@@ -14,6 +14,8 @@ use Rattle.uc_code.proofs.Patches.{bare_stays, length-patched, patched_at, same_
 use Rattle.uc_lower_expr.specs.DraftGrowth.{Adds}
 use Rattle.uc_lower_stmt.specs.LowersStatement.{Lowers}
 use Rattle.uc_lower_stmt.specs.Control.{BeginCode}
+use Rattle.uc_lower_stmt.specs.RowFit.{open_rows}
+use Rattle.uc_lower_stmt.proofs.RowFitting.{fit_like}
 
 -- code with at most n ops more, for which S holds
 pub record Longer (n : ℕ) (S : Laid → ℕ → ℕ → Type 0) (old new : Laid) : Type 0 where
@@ -39,13 +41,14 @@ longer_both {m} {n} {B} {C} {old} {mid} {new} b h g = record {
 }
 
 -- what came to a draft besides its ops stays where these are replaced
-pub lowers_done : {n k c o m : ℕ} {S T : Laid → ℕ → ℕ → Type 0} {s : Scope} {old mid new : Draft} → Lowers n k c o S s old mid → new ≡ record mid { ops = new.ops } → Longer m T (laid_in old) (record { ops = new.ops; rows = mid.rows }) → Lowers m k c o T s old new
-lowers_done {n} {k} {c} {o} {m} {S} {T} {s} {old} {mid} {new} h e g =
+pub lowers_done : {n k c o m : ℕ} {S T : Laid → ℕ → ℕ → Type 0} {s : Scope} {old mid new : Draft} → Lowers n k c o S s old mid → new ≡ record mid { ops = new.ops } → length new.ops ≡ length mid.ops → Longer m T (laid_in old) (record { ops = new.ops; rows = mid.rows }) → Lowers m k c o T s old new
+lowers_done {n} {k} {c} {o} {m} {S} {T} {s} {old} {mid} {new} h e l g =
     subst (λ (d : Draft). Lowers m k c o T s old d) (sym e) (record {
       rest = ap (λ (d : Draft). let x : Draft = record d { ops = new.ops } in x) h.rest;
       scope = h.scope;
       opened = h.opened;
       kept = g.kept;
+      rows = fit_like old (record mid { ops = new.ops }) refl refl refl refl l refl h.rows;
       room = g.room;
       texts = h.texts;
       cells = h.cells;
@@ -53,17 +56,25 @@ lowers_done {n} {k} {c} {o} {m} {S} {T} {s} {old} {mid} {new} h e g =
     })
 
 -- what is lowered under one more mark, which is left behind it
-pub lowers_marked : {n k c o : ℕ} {S : Laid → ℕ → ℕ → Type 0} {s : Scope} {mid last : Draft} → (m : Mark) (old new : Draft) → left_marks (m ∷ old.marks) ≡ old.marks → mid ≡ record old { marks = m ∷ old.marks } → new ≡ record last { marks = left_marks last.marks } → Lowers n k c o S s mid last → Lowers n k c o S s old new
+pub lowers_marked : {n k c o : ℕ} {S : Laid → ℕ → ℕ → Type 0} {s : Scope} {mid last : Draft} → (m : CodeMark) (old new : Draft) → left_marks (m ∷ old.marks) ≡ old.marks → mid ≡ record old { marks = m ∷ old.marks } → new ≡ record last { marks = left_marks last.marks } → Lowers n k c o S s mid last → Lowers n k c o S s old new
 lowers_marked {n} {k} {c} {o} {S} {s} {mid} {last} m old new l e f h =
     let g : Lowers n k c o S s (record old { marks = m ∷ old.marks }) last = subst (λ (d : Draft). Lowers n k c o S s d last) e h in
     let i : record last { marks = left_marks last.marks } ≡ record old { ops = last.ops; rows = last.rows; settled = last.settled; scopes = last.scopes; names = last.names; cells = last.cells; hidden = last.hidden; texts = last.texts; sites = last.sites } =
     ap (λ (d : Draft). let x : Draft = record d { marks = left_marks d.marks } in x) g.rest
-    ∙ ap (λ (ms : List Mark). let x : Draft = record old { ops = last.ops; rows = last.rows; settled = last.settled; marks = ms; scopes = last.scopes; names = last.names; cells = last.cells; hidden = last.hidden; texts = last.texts; sites = last.sites } in x) l in
+    ∙ ap (λ (ms : List CodeMark). let x : Draft = record old { ops = last.ops; rows = last.rows; settled = last.settled; marks = ms; scopes = last.scopes; names = last.names; cells = last.cells; hidden = last.hidden; texts = last.texts; sites = last.sites } in x) l in
     subst (λ (d : Draft). Lowers n k c o S s old d) (sym f) (record {
       rest = i;
       scope = g.scope;
       opened = g.opened;
       kept = g.kept;
+      rows = record {
+        few =
+            let x = g.rows.few in
+            let inner : open_rows last.marks ≡ open_rows (m ∷ old.marks) = ap (λ (d : Draft). open_rows d.marks) g.rest in
+            let outer : open_rows (left_marks last.marks) ≡ open_rows old.marks = ap (λ (d : Draft). open_rows (left_marks d.marks)) g.rest ∙ ap open_rows l in
+            omega arith;
+        begin = g.rows.begin;
+      };
       room = g.room;
       texts = g.texts;
       cells = g.cells;
@@ -134,7 +145,7 @@ module _ (line m k : ℕ) (B C : Laid → ℕ → ℕ → Type 0) (b : Stable B)
   }
 
 -- a loop, whose jump and pads are patched at its end
-module _ (line : ℕ) (order : Order) (p q r : ℕ) (T S : Laid → ℕ → ℕ → Type 0) (B : Laid → Mark → ℕ → ℕ → Type 0) (t : Stable T) (s : Stable S) (b : (m : Mark) → Stable (λ code. B code m)) (d0 d1 d2 d3 d4 : Laid)
+module _ (line : ℕ) (order : Order) (p q r : ℕ) (T S : Laid → ℕ → ℕ → Type 0) (B : Laid → CodeMark → ℕ → ℕ → Type 0) (t : Stable T) (s : Stable S) (b : (m : CodeMark) → Stable (λ code. B code m)) (d0 d1 d2 d3 d4 : Laid)
     (g : Longer 4 (BeginCode line) d0 d1) (h : Longer p (λ code. B code (pads_at (length d0.ops))) d1 d2) (k : Longer q S d2 d3) (j : Longer r (λ code. BackAt code order (T code) (length d0.ops + 3) line) d3 d4) where
   abbrev start : ℕ
   start = length d0.ops

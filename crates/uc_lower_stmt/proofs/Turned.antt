@@ -10,8 +10,8 @@ use Rattle.uc_tree.specs.Source.{Order, Expr}
 use Rattle.uc_resolve.specs.Resolve.{Scope, stmt_meant, scope_past, step_of}
 use Rattle.uc_code.specs.declared.op.Op.TheVariants as op
 use Rattle.uc_code.specs.declared.rows.Instruction.{Instruction}
-use Rattle.uc_code.specs.declared.rows.Mark.{Mark}
-use Rattle.uc_code.specs.declared.rows.Mark.TheVariants as mark
+use Rattle.uc_code.specs.declared.rows.CodeMark.{CodeMark}
+use Rattle.uc_code.specs.declared.rows.CodeMark.TheVariants as mark
 use Rattle.uc_code.specs.Drafts.{Draft, patched}
 use Rattle.uc_code.specs.Layout.{Laid, laid_in}
 use Rattle.uc_code.specs.OpenRows.{left_marks}
@@ -29,6 +29,7 @@ use Rattle.uc_lower_stmt.proofs.Joined.{lowers_adds, lowers_as, lowers_join, low
 use Rattle.uc_lower_stmt.proofs.Kept.{stmt_stable, step_stable}
 use Rattle.uc_lower_stmt.proofs.Shaping.{Longer, adds_longer, lowers_longer, longer_turns, lowers_done, lowers_marked}
 use Rattle.uc_lower_stmt.proofs.Choosing.{AloneIn, alone_as}
+use Rattle.uc_code.proofs.Patches.{length-patched}
 
 -- what a loop asks of the scope of its body is the same behind it
 
@@ -48,6 +49,12 @@ begin_stable line = both (one_stable (op.Jump 0) line) (both (one_stable (op.Jum
 abbrev looped : Order → ℕ → ℕ → ℕ → List Instruction → List Instruction
 looped order start step_at test_at ops = patched (patched (patched ops start (op.Jump (begin_at order (start + 3) test_at))) (start + 1) (op.Jump (length ops))) (start + 2) (op.Jump step_at)
 
+length-looped : (order : Order) (start step_at test_at : ℕ) (ops : List Instruction) → length (looped order start step_at test_at ops) ≡ length ops
+length-looped order start step_at test_at ops =
+    let one : List Instruction = patched ops start (op.Jump (begin_at order (start + 3) test_at)) in
+    let two : List Instruction = patched one (start + 1) (op.Jump (length ops)) in
+    length-patched two (start + 2) (op.Jump step_at) ∙ length-patched one (start + 1) (op.Jump (length ops)) ∙ length-patched ops start (op.Jump (begin_at order (start + 3) test_at))
+
 module _ (p : Program) (line : ℕ) (t : Turning) (step : Option tree.Expr) (body : Stmt) (old e1 m1 m2 e2 e3 e4 new : Draft) (start step_at test_at : ℕ)
     (g : Adds 4 (BeginCode line) old e1) (st : start ≡ length old.ops) (en : m1 ≡ record e1 { marks = mark.Loop (start + 1) (start + 2) ∷ e1.marks }) (h : LowersAlone p body m1 m2) (lv : e2 ≡ record m2 { marks = left_marks m2.marks })
     (sa : step_at ≡ length e2.ops) (k : Adds (OPS_FOR_SIZE * maybe_expr_size step) (StepCode p line e2.marks (scope_of e2) step) e2 e3) (ta : test_at ≡ length e3.ops)
@@ -55,7 +62,7 @@ module _ (p : Program) (line : ℕ) (t : Turning) (step : Option tree.Expr) (bod
   abbrev s : Scope
   s = scope_of old
 
-  abbrev ms : List Mark
+  abbrev ms : List CodeMark
   ms = old.marks
 
   abbrev n : ℕ
@@ -65,7 +72,7 @@ module _ (p : Program) (line : ℕ) (t : Turning) (step : Option tree.Expr) (bod
   enters = en ∙ ap (λ (x : ℕ). let d : Draft = record e1 { marks = mark.Loop (x + 1) (x + 2) ∷ e1.marks } in d) st
 
   marks_in : m1.marks ≡ pads_at n ∷ ms
-  marks_in = ap (λ (d : Draft). d.marks) enters ∙ ap (λ (ns : List Mark). pads_at n ∷ ns) (ap (λ (d : Draft). d.marks) g.rest)
+  marks_in = ap (λ (d : Draft). d.marks) enters ∙ ap (λ (ns : List CodeMark). pads_at n ∷ ns) (ap (λ (d : Draft). d.marks) g.rest)
 
   scope_in : scope_of m1 ≡ s
   scope_in = ap scope_of enters ∙ ap scope_of g.rest
@@ -79,7 +86,7 @@ module _ (p : Program) (line : ℕ) (t : Turning) (step : Option tree.Expr) (bod
   steps : Adds (OPS_FOR_SIZE * maybe_expr_size step) (λ code. StepAt code line ms (step_of p s step)) e2 e3
   steps =
       subst (λ (x : Option Expr). Adds (OPS_FOR_SIZE * maybe_expr_size step) (λ code. StepAt code line ms x) e2 e3) (ap (λ (u : Scope). step_of p u step) turn.scope ∙ step_same p body s step) (
-      subst (λ (ns : List Mark). Adds (OPS_FOR_SIZE * maybe_expr_size step) (λ code. StepAt code line ns (step_of p (scope_of e2) step)) e2 e3) marks_two k)
+      subst (λ (ns : List CodeMark). Adds (OPS_FOR_SIZE * maybe_expr_size step) (λ code. StepAt code line ns (step_of p (scope_of e2) step)) e2 e3) marks_two k)
 
   marks_three : e3.marks ≡ ms
   marks_three = ap (λ (d : Draft). d.marks) k.rest ∙ marks_two
@@ -88,7 +95,7 @@ module _ (p : Program) (line : ℕ) (t : Turning) (step : Option tree.Expr) (bod
   tests =
       subst (λ (x : ℕ). Adds (OPS_FOR_SIZE * turning_size t + 1) (λ code. BackAt code (turning_order t) (ExprAt code line ms (turning_test p s t)) (x + 3) line) e3 e4) st (
       subst (λ (x : Expr). Adds (OPS_FOR_SIZE * turning_size t + 1) (λ code. BackAt code (turning_order t) (ExprAt code line ms x) (start + 3) line) e3 e4) (ap (λ (u : Scope). turning_test p u t) (ap scope_of k.rest ∙ turn.scope) ∙ test_same p body s t) (
-      subst (λ (ns : List Mark). Adds (OPS_FOR_SIZE * turning_size t + 1) (λ code. BackAt code (turning_order t) (ExprAt code line ns (turning_test p (scope_of e3) t)) (start + 3) line) e3 e4) marks_three j))
+      subst (λ (ns : List CodeMark). Adds (OPS_FOR_SIZE * turning_size t + 1) (λ code. BackAt code (turning_order t) (ExprAt code line ns (turning_test p (scope_of e3) t)) (start + 3) line) e3 e4) marks_three j))
 
   is : new.ops ≡ looped (turning_order t) n (length e2.ops) (length e3.ops) e4.ops
   is = ap (λ (d : Draft). d.ops) f
@@ -119,4 +126,4 @@ module _ (p : Program) (line : ℕ) (t : Turning) (step : Option tree.Expr) (bod
       let two = both one (step_stable line ms (step_of p s step)) in
       let all = lowers_put two (lowers_put one (lowers_join (begin_stable line) (lowers_adds 0 0 g) turn) steps) tests in
       let ops_are : new ≡ record e4 { ops = new.ops } = f ∙ ap (λ (l : List Instruction). let d : Draft = record e4 { ops = l } in d) (sym (ap (λ (d : Draft). d.ops) f)) in
-      lowers_as (lowers_done all ops_are whole) refl (λ code x z w. w) (omega arith) (omega arith) (omega arith) (omega arith)
+      lowers_as (lowers_done all ops_are (ap length is ∙ length-looped (turning_order t) n (length e2.ops) (length e3.ops) e4.ops) whole) refl (λ code x z w. w) (omega arith) (omega arith) (omega arith) (omega arith)

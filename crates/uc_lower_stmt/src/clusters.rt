@@ -14,17 +14,19 @@ use crate::objects::spot_op;
 use std::alloc::AllocError;
 use uc_code::draft::Draft;
 use uc_code::op::Op;
-use uc_code::rows::Spot;
+use uc_code::rows::ObjectSpot;
 use uc_lower_expr::expr::lower_expr;
 use uc_lower_expr::program_names::ProgramNames;
 use uc_lower_expr::put::put;
 use uc_tree::expr::Expr;
 
 // A cluster is asked for.
-pub(crate) fn open_cluster(spot: Spot, line: u32, out: &mut Draft) -> Result<(), AllocError>
+pub(crate) fn open_cluster(spot: ObjectSpot, line: u32, out: &mut Draft) -> Result<(), AllocError>
     requires { length out.old.ops + 3 ≤ PROGRAM_OPS }
     ensures room { OnOk result (length out.new.ops ≤ length out.old.ops + 3) }
-    ensures code { OnOk result ((place : Place) → BeginsAt place spot → Adds 3 (ExprCode line out.old.marks (OfObject (Bind place (OfObject NewCluster)))) out.old out.new) }
+    ensures code { OnOk result ((place : Place) → BeginsAt place spot → Adds 3
+        (ExprCode line out.old.marks (OfObject (Bind place (OfObject NewCluster)))) out.old
+        out.new) }
 {
     put(spot_op(spot), line, out)?;
     put(Op::Cluster, line, out)?;
@@ -39,8 +41,11 @@ fn lower_cluster(
     names: &ProgramNames,
     out: &mut Draft,
 ) -> Result<(), AllocError>
-    requires { length out.old.ops + OPS_FOR_SIZE * exprs_size (exprs_of args.now) + 1 ≤ PROGRAM_OPS }
-    ensures { OnOk result (Adds (OPS_FOR_SIZE * exprs_size (exprs_of args.now) + 1) (ExprCode line out.old.marks (cluster_in (args_meant (context_in names.now out.old) (exprs_of args.now)))) out.old out.new) }
+    requires { length out.old.ops + OPS_FOR_SIZE * exprs_size (exprs_of args.now) + 1 ≤
+        PROGRAM_OPS }
+    ensures { OnOk result (Adds (OPS_FOR_SIZE * exprs_size (exprs_of args.now) + 1)
+        (ExprCode line out.old.marks (cluster_in
+        (args_meant (context_in names.now out.old) (exprs_of args.now)))) out.old out.new) }
 {
     match args.first() {
         Some(arg) => {
@@ -56,15 +61,22 @@ fn lower_cluster(
 
 // A processor is asked for.
 pub(crate) fn open_processor(
-    spot: Spot,
+    spot: ObjectSpot,
     args: &[Expr],
     line: u32,
     names: &ProgramNames,
     out: &mut Draft,
 ) -> Result<(), AllocError>
-    requires { length out.old.ops + OPS_FOR_SIZE * exprs_size (exprs_of args.now) + 4 ≤ PROGRAM_OPS }
-    ensures room { OnOk result (length out.new.ops ≤ length out.old.ops + (OPS_FOR_SIZE * exprs_size (exprs_of args.now) + 4)) }
-    ensures code { OnOk result ((place : Place) → BeginsAt place spot → Adds (OPS_FOR_SIZE * exprs_size (exprs_of args.now) + 4) (ExprCode line out.old.marks (OfObject (Bind place (OfObject (NewProcessor (cluster_in (args_meant (context_in names.now out.old) (exprs_of args.now)))))))) out.old out.new) }
+    requires { length out.old.ops + OPS_FOR_SIZE * exprs_size (exprs_of args.now) + 4 ≤
+        PROGRAM_OPS }
+    ensures room { OnOk result (length out.new.ops ≤ length out.old.ops +
+        (OPS_FOR_SIZE * exprs_size (exprs_of args.now) + 4)) }
+    ensures code { OnOk result ((place : Place) → BeginsAt place spot → Adds
+        (OPS_FOR_SIZE * exprs_size (exprs_of args.now) + 4)
+        (ExprCode line out.old.marks (OfObject
+        (Bind place (OfObject (NewProcessor
+        (cluster_in (args_meant (context_in names.now out.old) (exprs_of args.now)))))))) out.old
+        out.new) }
 {
     put(spot_op(spot), line, out)?;
     lower_cluster(args, line, names, out)?;

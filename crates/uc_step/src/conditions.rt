@@ -5,7 +5,7 @@ ghost use Rattle.uc_step.specs.OpEffects.{condition_in, ended, Does};
 
 use crate::memory::index_below;
 use crate::mutex::this_object;
-use crate::stepped::{Onward, Stepped, asked, faulted};
+use crate::stepped::{QuietResult, Stepped, put_fault, put_request};
 use std::alloc::AllocError;
 use uc_code::code::Code;
 use uc_code::op::Op;
@@ -37,19 +37,18 @@ pub(crate) fn condition(
     stop: &mut Stepped,
     first: u32,
     count: u32,
-) -> Result<Onward, AllocError>
+) -> Result<QuietResult, AllocError>
     ensures ok { IfOk result (λ how. Does code.now line (Op.Condition first count) work.old (ended how stop.new) work.new) }
     ensures err { OnErr result (work.new ≡ work.old) }
 {
     match index_below(count, number_in(work.top())) {
         None => {
             work.pop();
-            *stop = faulted(code, line, work, RunFault::Index);
-            Ok(Onward::Stops)
+            Ok(put_fault(code, line, work, stop, RunFault::Index))
         }
         Some(i) => {
             work.replace(Cell::Number(i64::from(first) + i64::from(i)))?;
-            Ok(Onward::Quiet)
+            Ok(QuietResult::Quiet)
         }
     }
 }
@@ -60,20 +59,18 @@ pub(crate) fn wait(
     line: u32,
     work: &mut Work,
     stop: &mut Stepped,
-) -> Result<Onward, AllocError>
+) -> Result<QuietResult, AllocError>
     ensures ok { IfOk result (λ how. Does code.now line Op.Wait work.old (ended how stop.new) work.new) }
     ensures err { OnErr result (work.new ≡ work.old) }
 {
     let object = this_object(work);
     if work.is_held_up(object) {
-        *stop = faulted(code, line, work, RunFault::BlockedInside);
-        return Ok(Onward::Stops);
+        return Ok(put_fault(code, line, work, stop, RunFault::BlockedInside));
     }
     let cond = condition_in(work.second())?;
     let n = number_in(work.top());
     work.replace_two(Cell::Number(0))?;
-    *stop = asked(code, line, work, Request::Wait { object, cond, n });
-    Ok(Onward::Stops)
+    Ok(put_request(code, line, work, stop, Request::Wait { object, cond, n }))
 }
 
 pub(crate) fn signal(
@@ -81,15 +78,14 @@ pub(crate) fn signal(
     line: u32,
     work: &mut Work,
     stop: &mut Stepped,
-) -> Result<Onward, AllocError>
+) -> Result<QuietResult, AllocError>
     ensures ok { IfOk result (λ how. Does code.now line Op.Signal work.old (ended how stop.new) work.new) }
     ensures err { OnErr result (work.new ≡ work.old) }
 {
     let object = this_object(work);
     let cond = condition_in(work.top())?;
     work.replace(Cell::Number(0))?;
-    *stop = asked(code, line, work, Request::Signal { object, cond });
-    Ok(Onward::Stops)
+    Ok(put_request(code, line, work, stop, Request::Signal { object, cond }))
 }
 
 // A task is blocked by a signal, unless it is held up.
@@ -98,19 +94,23 @@ pub(crate) fn signal_block(
     line: u32,
     work: &mut Work,
     stop: &mut Stepped,
-) -> Result<Onward, AllocError>
+) -> Result<QuietResult, AllocError>
     ensures ok { IfOk result (λ how. Does code.now line Op.SignalBlock work.old (ended how stop.new) work.new) }
     ensures err { OnErr result (work.new ≡ work.old) }
 {
     let object = this_object(work);
     if work.is_held_up(object) {
-        *stop = faulted(code, line, work, RunFault::BlockedInside);
-        return Ok(Onward::Stops);
+        return Ok(put_fault(code, line, work, stop, RunFault::BlockedInside));
     }
     let cond = condition_in(work.top())?;
     work.replace(Cell::Number(0))?;
-    *stop = asked(code, line, work, Request::SignalBlock { object, cond });
-    Ok(Onward::Stops)
+    Ok(put_request(
+        code,
+        line,
+        work,
+        stop,
+        Request::SignalBlock { object, cond },
+    ))
 }
 
 pub(crate) fn empty(
@@ -118,15 +118,14 @@ pub(crate) fn empty(
     line: u32,
     work: &mut Work,
     stop: &mut Stepped,
-) -> Result<Onward, AllocError>
+) -> Result<QuietResult, AllocError>
     ensures ok { IfOk result (λ how. Does code.now line Op.Empty work.old (ended how stop.new) work.new) }
     ensures err { OnErr result (work.new ≡ work.old) }
 {
     let object = this_object(work);
     let cond = condition_in(work.top())?;
     work.pop();
-    *stop = asked(code, line, work, Request::Empty { object, cond });
-    Ok(Onward::Stops)
+    Ok(put_request(code, line, work, stop, Request::Empty { object, cond }))
 }
 
 pub(crate) fn front(
@@ -134,13 +133,12 @@ pub(crate) fn front(
     line: u32,
     work: &mut Work,
     stop: &mut Stepped,
-) -> Result<Onward, AllocError>
+) -> Result<QuietResult, AllocError>
     ensures ok { IfOk result (λ how. Does code.now line Op.Front work.old (ended how stop.new) work.new) }
     ensures err { OnErr result (work.new ≡ work.old) }
 {
     let object = this_object(work);
     let cond = condition_in(work.top())?;
     work.pop();
-    *stop = asked(code, line, work, Request::Front { object, cond });
-    Ok(Onward::Stops)
+    Ok(put_request(code, line, work, stop, Request::Front { object, cond }))
 }

@@ -1,95 +1,57 @@
 // The ops that go on elsewhere, calls, and the ends of activations.
 
 ghost use Rattle.std.specs.Prelude.{◌≡◌, IfOk, OnErr};
-ghost use Rattle.uc_step.specs.OpEffects.{act_enter, act_return, act_end, ended, Does, Ends};
+ghost use Rattle.uc_step.specs.OpEffects.{act_enter, act_return, act_end, ended, Does, DoesAlone, Ends};
 ghost use Rattle.uc_step.specs.declared.stepped.Stepped.{Stepped};
-ghost use Rattle.uc_frames.specs.Calls.{plain_call, object_call};
+ghost use Rattle.uc_frames.specs.Calls.{object_call};
 
-use crate::stepped::{Onward, Stepped, asked, faulted};
+use crate::stepped::{QuietResult, Stepped, put_end, put_fault};
 use std::alloc::AllocError;
 use uc_code::code::Code;
 use uc_code::op::Op;
 use uc_code::rows::RoutineCode;
 use uc_entry::fault::RunFault;
-use uc_entry::request::Request;
 use uc_frames::call::Call;
 use uc_frames::cell::{Cell, number_in};
 use uc_frames::work::Work;
 use uc_tree::limits::CALLS;
 
-pub(crate) fn jump(code: &Code, line: u32, work: &mut Work, to: u32) -> Result<Onward, AllocError>
-    ensures ok { IfOk result (λ how. (stop : Stepped) → Does code.now line (Op.Jump to) work.old (ended how stop) work.new) }
+pub(crate) fn jump(work: &mut Work, to: u32) -> Result<QuietResult, AllocError>
+    ensures ok { IfOk result (λ how. (stop : Stepped) → DoesAlone (Op.Jump to) work.old (ended how stop) work.new) }
     ensures err { OnErr result (work.new ≡ work.old) }
 {
     work.go(to);
-    Ok(Onward::Quiet)
+    Ok(QuietResult::Quiet)
 }
 
-pub(crate) fn if_zero(
-    code: &Code,
-    line: u32,
-    work: &mut Work,
-    to: u32,
-) -> Result<Onward, AllocError>
-    ensures ok { IfOk result (λ how. (stop : Stepped) → Does code.now line (Op.IfZero to) work.old (ended how stop) work.new) }
+pub(crate) fn if_zero(work: &mut Work, to: u32) -> Result<QuietResult, AllocError>
+    ensures ok { IfOk result (λ how. (stop : Stepped) → DoesAlone (Op.IfZero to) work.old (ended how stop) work.new) }
     ensures err { OnErr result (work.new ≡ work.old) }
 {
     if number_in(work.pop()) == 0 {
         work.go(to);
     }
-    Ok(Onward::Quiet)
+    Ok(QuietResult::Quiet)
 }
 
-pub(crate) fn if_nonzero(
-    code: &Code,
-    line: u32,
-    work: &mut Work,
-    to: u32,
-) -> Result<Onward, AllocError>
-    ensures ok { IfOk result (λ how. (stop : Stepped) → Does code.now line (Op.IfNonzero to) work.old (ended how stop) work.new) }
+pub(crate) fn if_nonzero(work: &mut Work, to: u32) -> Result<QuietResult, AllocError>
+    ensures ok { IfOk result (λ how. (stop : Stepped) → DoesAlone (Op.IfNonzero to) work.old (ended how stop) work.new) }
     ensures err { OnErr result (work.new ≡ work.old) }
 {
     if number_in(work.pop()) != 0 {
         work.go(to);
     }
-    Ok(Onward::Quiet)
-}
-
-pub(crate) fn return_value(
-    code: &Code,
-    line: u32,
-    work: &mut Work,
-    stop: &mut Stepped,
-) -> Result<Onward, AllocError>
-    ensures ok { IfOk result (λ how. Does code.now line Op.ReturnValue work.old (ended how stop.new) work.new) }
-    ensures err { OnErr result (work.new ≡ work.old) }
-{
-    let given = work.top();
-    let how = end(code, line, work, stop, given)?;
-    Ok(how)
-}
-
-pub(crate) fn return_none(
-    code: &Code,
-    line: u32,
-    work: &mut Work,
-    stop: &mut Stepped,
-) -> Result<Onward, AllocError>
-    ensures ok { IfOk result (λ how. Does code.now line Op.ReturnNone work.old (ended how stop.new) work.new) }
-    ensures err { OnErr result (work.new ≡ work.old) }
-{
-    let how = end(code, line, work, stop, Cell::Number(0))?;
-    Ok(how)
+    Ok(QuietResult::Quiet)
 }
 
 // The end of a routine; that of a handler of resumptions is left to others.
-fn end(
+pub(crate) fn end(
     code: &Code,
     line: u32,
+    given: Cell,
     work: &mut Work,
     stop: &mut Stepped,
-    given: Cell,
-) -> Result<Onward, AllocError>
+) -> Result<QuietResult, AllocError>
     ensures ok { IfOk result (λ how. Ends (act_end code.now line given work.old.run.handles work.old) (ended how stop.new) work.new) }
     ensures err { OnErr result (work.new ≡ work.old) }
 {
@@ -100,7 +62,7 @@ fn end(
         }
         Some(_) => {
             *stop = Stepped::Past(given);
-            Ok(Onward::Stops)
+            Ok(QuietResult::Stops)
         }
     }
 }
@@ -112,15 +74,14 @@ pub(crate) fn give_back(
     work: &mut Work,
     stop: &mut Stepped,
     given: Cell,
-) -> Result<Onward, AllocError>
+) -> Result<QuietResult, AllocError>
     ensures ok { IfOk result (λ how. Ends (act_return code.now line given work.old.callers work.old) (ended how stop.new) work.new) }
     ensures err { OnErr result (work.new ≡ work.old) }
 {
     if work.leave(given)? {
-        Ok(Onward::Quiet)
+        Ok(QuietResult::Quiet)
     } else {
-        *stop = asked(code, line, work, Request::End);
-        Ok(Onward::Stops)
+        Ok(put_end(code, line, work, stop))
     }
 }
 
@@ -130,13 +91,12 @@ pub(crate) fn end_task(
     line: u32,
     work: &mut Work,
     stop: &mut Stepped,
-) -> Result<Onward, AllocError>
+) -> Result<QuietResult, AllocError>
     ensures ok { IfOk result (λ how. Does code.now line Op.EndTask work.old (ended how stop.new) work.new) }
     ensures err { OnErr result (work.new ≡ work.old) }
 {
     if work.is_held_up(work.own()) {
-        *stop = faulted(code, line, work, RunFault::BlockedInside);
-        Ok(Onward::Stops)
+        Ok(put_fault(code, line, work, stop, RunFault::BlockedInside))
     } else {
         let how = give_back(code, line, work, stop, Cell::Number(0))?;
         Ok(how)
@@ -144,13 +104,13 @@ pub(crate) fn end_task(
 }
 
 // Unwinding goes on behind a clean-up, without operands.
-pub(crate) fn unwind(code: &Code, line: u32, work: &mut Work, stop: &mut Stepped) -> Onward
-    ensures { Does code.now line Op.Unwind work.old (ended result stop.new) work.new }
+pub(crate) fn unwind(work: &mut Work, stop: &mut Stepped) -> QuietResult
+    ensures { DoesAlone Op.Unwind work.old (ended result stop.new) work.new }
 {
     let next = work.next();
     work.clean(next);
     *stop = Stepped::Unwind;
-    Onward::Stops
+    QuietResult::Stops
 }
 
 pub(crate) fn call(
@@ -159,17 +119,20 @@ pub(crate) fn call(
     work: &mut Work,
     stop: &mut Stepped,
     number: u32,
-) -> Result<Onward, AllocError>
+) -> Result<QuietResult, AllocError>
     ensures ok { IfOk result (λ how. Does code.now line (Op.Call number) work.old (ended how stop.new) work.new) }
     ensures err { OnErr result (work.new ≡ work.old) }
 {
     match code.routine(number) {
-        None => {
-            *stop = asked(code, line, work, Request::End);
-            Ok(Onward::Stops)
-        }
+        None => { Ok(put_end(code, line, work, stop)) }
         Some(routine) => {
-            let how = enter(code, line, work, stop, plain_call(routine))?;
+            let call = Call {
+                routine,
+                this: Cell::Nothing,
+                taken: u64::from(routine.params),
+                counts: true,
+            };
+            let how = enter(code, line, work, stop, call)?;
             Ok(how)
         }
     }
@@ -182,28 +145,15 @@ fn enter(
     work: &mut Work,
     stop: &mut Stepped,
     call: Call,
-) -> Result<Onward, AllocError>
+) -> Result<QuietResult, AllocError>
     ensures ok { IfOk result (λ how. Ends (act_enter code.now line call work.old) (ended how stop.new) work.new) }
     ensures err { OnErr result (work.new ≡ work.old) }
 {
     if work.calls() < CALLS {
         work.enter(call)?;
-        Ok(Onward::Quiet)
+        Ok(QuietResult::Quiet)
     } else {
-        *stop = faulted(code, line, work, RunFault::Depth);
-        Ok(Onward::Stops)
-    }
-}
-
-// A call without an object, which counts.
-fn plain_call(routine: RoutineCode) -> Call
-    ensures { result ≡ plain_call routine }
-{
-    Call {
-        routine,
-        this: Cell::Nothing,
-        taken: u64::from(routine.params),
-        counts: true,
+        Ok(put_fault(code, line, work, stop, RunFault::Depth))
     }
 }
 
@@ -225,15 +175,12 @@ pub(crate) fn call_on(
     work: &mut Work,
     stop: &mut Stepped,
     number: u32,
-) -> Result<Onward, AllocError>
+) -> Result<QuietResult, AllocError>
     ensures ok { IfOk result (λ how. Does code.now line (Op.CallOn number) work.old (ended how stop.new) work.new) }
     ensures err { OnErr result (work.new ≡ work.old) }
 {
     match code.routine(number) {
-        None => {
-            *stop = asked(code, line, work, Request::End);
-            Ok(Onward::Stops)
-        }
+        None => { Ok(put_end(code, line, work, stop)) }
         Some(routine) => {
             let call = object_call(routine, true, work);
             let how = enter(code, line, work, stop, call)?;
@@ -249,19 +196,16 @@ pub(crate) fn call_unwritten(
     work: &mut Work,
     stop: &mut Stepped,
     number: u32,
-) -> Result<Onward, AllocError>
+) -> Result<QuietResult, AllocError>
     ensures ok { IfOk result (λ how. Does code.now line (Op.CallUnwritten number) work.old (ended how stop.new) work.new) }
     ensures err { OnErr result (work.new ≡ work.old) }
 {
     match code.routine(number) {
-        None => {
-            *stop = asked(code, line, work, Request::End);
-            Ok(Onward::Stops)
-        }
+        None => { Ok(put_end(code, line, work, stop)) }
         Some(routine) => {
             let call = object_call(routine, false, work);
             work.enter(call)?;
-            Ok(Onward::Quiet)
+            Ok(QuietResult::Quiet)
         }
     }
 }
