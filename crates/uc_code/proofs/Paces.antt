@@ -17,8 +17,7 @@ use Rattle.uc_code.specs.Layout.{Laid, laid_of}
 use Rattle.uc_code.specs.Pace.{climb_op, above, Test, test_by, In, Stays, Mute, Onward, Paced, IsPaced}
 use Rattle.uc_code.specs.CodeShapes.{OpAt, One, Both, Fork, main_end, MainAt, PollAt, NoBranch, ElseAt, ClauseAt}
 use Rattle.uc_code.specs.Silent.{silent, silent_all, silent_task, silent_expr, silent_object, silent_exprs}
-use Rattle.uc_code.specs.Lowered.{operator_op, item_op, ConvertAt, ExprAt, ObjectAt, ArgumentsAt, ValueAt, ItemsAt, ValuesAt, PiecesAt, TogetherAt, TargetsAt, StartAt, VariablesAt, RaisedAt, FieldsAt, KeepAt, KeepsAt, ExitAt, StepAt, HandlerBy, GuardsAt, TaskAt, BranchesAt, StmtAt, EventAt, HandlersAt, StmtsAt, BodyAt, RoutineAt, RoutinesAt, Lowered}
-use Rattle.uc_code.specs.RowCounts.{handler_rows}
+use Rattle.uc_code.specs.Lowered.{operator_op, item_op, handler_rows, ConvertAt, ExprAt, ObjectAt, ArgumentsAt, ValueAt, ItemsAt, ValuesAt, PiecesAt, TogetherAt, TargetsAt, StartAt, VariablesAt, RaisedAt, FieldsAt, KeepAt, KeepsAt, ExitAt, StepAt, HandlerBy, GuardsAt, TaskAt, BranchesAt, StmtAt, EventAt, HandlersAt, StmtsAt, BodyAt, RoutineAt, RoutinesAt, Lowered}
 use Rattle.uc_code.proofs.Heights.{Outside, Plain, PacedAt, Each, Around, paced_by, none, only, join, within, own_plain, outside_next, Starts, Further, down, height_is, outside_end, AllStay, stay_one, stay_join}
 use Rattle.uc_code.proofs.Pacing as pacing
 use Rattle.uc_code.proofs.Spans as spans

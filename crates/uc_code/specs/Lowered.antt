@@ -26,7 +26,6 @@ use Rattle.uc_code.specs.declared.rows.RowKind.{RowKind}
 use Rattle.uc_code.specs.declared.rows.RowKind.TheVariants as kind
 use Rattle.uc_code.specs.declared.rows.TheConstants.{ANY_EVENT}
 use Rattle.uc_code.specs.Layout.{Laid, laid_of, handlers}
-use Rattle.uc_code.specs.RowCounts.{handler_rows, routines_rows}
 use Rattle.uc_code.specs.CodeShapes.{OpAt, Nothing, Never, One, Risk, CallsBehind, Both, Fork, Turns, WholeAt, main_end, MainAt, Guarded, HandledAt, ApartAt, OverElements, ScopeOf, BehindPart, PollAt, LeavesAt, AcceptsAt, ChoosesAt, NoBranch, ElseAt, ClauseAt}
 use Rattle.uc_code.specs.ObjectCalls.{Calls, Cleans}
 use Rattle.uc_code.specs.Silent.{silent_all}
@@ -65,6 +64,11 @@ pub record IsNamed (event : Option ℕ) : Type 0 where
 
 abbrev pub handler_of : Bool → Option ℕ → ℕ → ℕ → Handler
 handler_of resumes event rest entry = record { kind = kind_of resumes; event = event_of event; rest = rest; entry = entry }
+
+-- how many rows a guarded block has: one for each handler
+abbrev pub handler_rows : Handlers → ℕ
+handler_rows NoHandlers = 0
+handler_rows (MoreHandlers resumes event cell line body rest) = suc (handler_rows rest)
 
 -- where an object begins
 abbrev pub spot_op : ObjectSpot → Op
@@ -455,12 +459,10 @@ module _ (code : Laid) where
   RoutinesAt last number (r ∷ rs) [] = λ a z. ⊥
   RoutinesAt last number (r ∷ rs) (c ∷ cs) = Both (RoutineAt last number r c) (RoutinesAt last (number + 1) rs cs)
 
--- the code of a program: its routines, and nothing else, with as many rows as these have. Behind the last that is written stand those in
--- which no event is raised.
+-- the code of a program: its routines, and nothing else. Behind the last that is written stand those in which no event is raised.
 pub record Lowered (source : Source) (code : Code) : Type 0 where
   pub last : ℕ
   pub routines : RoutinesAt (laid_of code) last 0 source.routines code.routines 0 (length code.ops)
-  pub rows : length code.rows ≡ routines_rows source.routines
   pub silent : (k : ℕ) (r : Routine) → slice_get source.routines k ≡ Some r → last < k → silent_all r.body
   pub classes : code.classes ≡ map (λ c. c.cells) source.classes
   pub sites : code.sites ≡ source.sites

@@ -8,7 +8,7 @@ use Rattle.uc_machine.specs.Raising.{Event, Handler, handler_for, count_by, coun
 use Rattle.uc_code.specs.declared.rows.CodeMark.{CodeMark}
 use Rattle.uc_code.specs.Layout.{Laid, handlers, chain}
 use Rattle.uc_code.specs.CodeShapes.{HandlerAt, clean_up}
-use Rattle.uc_code.specs.RowCounts.{handler_rows}
+use Rattle.uc_code.specs.Lowered.{handler_rows}
 use Rattle.uc_frames.specs.declared.search.HandlerQuery.TheVariants as sought
 use Rattle.uc_frames.specs.Machine.{Activation}
 use Rattle.uc_frames.specs.StandsByParts.{Lined}

@@ -12,7 +12,7 @@ use Rattle.uc_code.specs.declared.rows.HandlerRow.{HandlerRow}
 use Rattle.uc_code.specs.declared.rows.CodeMark.{CodeMark}
 use Rattle.uc_code.specs.Layout.{Laid, under, handlers, chain}
 use Rattle.uc_code.specs.CodeShapes.{HandlerAt, clean_up}
-use Rattle.uc_code.specs.RowCounts.{handler_rows}
+use Rattle.uc_code.specs.Lowered.{handler_rows}
 use Rattle.uc_frames.specs.declared.search.HandlerQuery.TheVariants as sought
 use Rattle.uc_frames.specs.Machine.{Activation}
 use Rattle.uc_frames.specs.StandsByParts.{Lined}

@@ -17,7 +17,7 @@ use Rattle.uc_code.specs.declared.rows.CodeMark.{CodeMark}
 use Rattle.uc_code.specs.declared.rows.ObjectCall.{ObjectCall}
 use Rattle.uc_code.specs.Layout.{Laid, under, handlers}
 use Rattle.uc_code.specs.CodeShapes.{Risk, HandlerAt, clean_up, Arrived}
-use Rattle.uc_code.specs.RowCounts.{handler_rows}
+use Rattle.uc_code.specs.Lowered.{handler_rows}
 use Rattle.uc_frames.specs.declared.search.HandlerQuery.TheVariants as sought
 use Rattle.uc_frames.specs.Searches.{stops_at, first_stop, first_in}
 use Rattle.uc_frames.specs.Stands.{finish_sort, PieceAt, IsLast, OfRoutine, OfHandler, AtWhole, AtClean, AtFinish, AtTest, AtGuard, FollowsBy, FollowsAt}

@@ -11,8 +11,7 @@ use Rattle.uc_code.specs.declared.rows.CodeMark.{CodeMark}
 use Rattle.uc_code.specs.declared.rows.CodeMark.TheVariants as mark
 use Rattle.uc_code.specs.Layout.{Laid, guards, handlers, takes_events}
 use Rattle.uc_code.specs.CodeShapes.{Both, HandlerAt, Arrived, Jumped}
-use Rattle.uc_code.specs.Lowered.{kind_of, event_of, IsNamed, handler_of, KeepsAt, HandlerBy, StmtsAt, HandlersAt}
-use Rattle.uc_code.specs.RowCounts.{handler_rows}
+use Rattle.uc_code.specs.Lowered.{kind_of, event_of, IsNamed, handler_of, handler_rows, KeepsAt, HandlerBy, StmtsAt, HandlersAt}
 use Rattle.uc_frames.specs.declared.search.HandlerQuery.{HandlerQuery}
 use Rattle.uc_frames.specs.declared.search.HandlerQuery.TheVariants as sought
 use Rattle.uc_frames.specs.Searches.{catches, resumes, cleans, row_takes, is_sought, is_found, first_in, stops, stops_at, first_stop, behind_row, within}

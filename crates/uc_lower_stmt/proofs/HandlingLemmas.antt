@@ -25,8 +25,7 @@ use Rattle.uc_code.specs.declared.rows.RowKind.{RowKind}
 use Rattle.uc_code.specs.declared.rows.Opening.TheVariants as opening
 use Rattle.uc_code.specs.Drafts.{Draft}
 use Rattle.uc_code.specs.Layout.{Laid, handlers, laid_in, takes_events}
-use Rattle.uc_code.specs.Lowered.{HandlerBy, HandlersAt, IsNamed, KeepsAt, StmtsAt, event_of, handler_of, kind_of}
-use Rattle.uc_code.specs.RowCounts.{handler_rows}
+use Rattle.uc_code.specs.Lowered.{HandlerBy, HandlersAt, IsNamed, KeepsAt, StmtsAt, event_of, handler_of, handler_rows, kind_of}
 use Rattle.uc_code.specs.OpenRows.{closed, opened, row_in}
 use Rattle.uc_code.specs.Emits.{Puts}
 use Rattle.uc_code.specs.CodeShapes.{ApartAt, Both, HandledAt, HandlerAt, Kept, KeptBut, OpAt, Stable}

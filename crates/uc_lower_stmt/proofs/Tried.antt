@@ -21,8 +21,7 @@ use Rattle.uc_code.specs.declared.op.Op.TheVariants as op
 use Rattle.uc_code.specs.declared.rows.CodeMark.{CodeMark}
 use Rattle.uc_code.specs.Drafts.{Draft, patched}
 use Rattle.uc_code.specs.Layout.{Laid, guards, laid_in}
-use Rattle.uc_code.specs.Lowered.{HandlersAt, StmtsAt}
-use Rattle.uc_code.specs.RowCounts.{handler_rows}
+use Rattle.uc_code.specs.Lowered.{HandlersAt, StmtsAt, handler_rows}
 use Rattle.uc_code.specs.CodeShapes.{Guarded, Kept, OpAt, Same}
 use Rattle.uc_code.proofs.Patches.{bare_stays, handler_stays, length-patched, patched_at, same_after, same_before}
 use Rattle.uc_code.proofs.Stable.{kept_piece, kept_then, part}
