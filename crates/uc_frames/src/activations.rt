@@ -9,17 +9,17 @@ ghost use Rattle.uc_frames.specs.Objects.{arrived_at};
 ghost use Rattle.uc_frames.specs.Unwinding.{IsCaller, unwound_by, cleaning, catching, passed, handled};
 ghost use Rattle.uc_tree.specs.declared.limits.TheConstants.{CALLS};
 
-use crate::active::Active;
+use crate::active::Activation;
 use crate::call::Call;
 use crate::cell::Cell;
-use crate::event::{Event, Handling};
+use crate::event::{Event, HandlerStart};
 use crate::operands::{drop_newest, new_frame, put_event};
 use crate::stack::take_list;
 use crate::work::Work;
 use std::alloc::AllocError;
 use std::mem;
 use uc_code::code::Code;
-use uc_machine::exec::{Reason, Visited};
+use uc_machine::exec::{UnwindReason, Visited};
 
 impl Work {
     /// The next op.
@@ -83,7 +83,7 @@ impl Work {
         let frame = new_frame(empty, &running.run.operands, call.routine)?;
         running.callers.reserve(1)?;
         running.frames.push(frame)?;
-        let callee = Active::new(operands, call.routine.entry, call.this, depth, call.counts);
+        let callee = Activation::new(operands, call.routine.entry, call.this, depth, call.counts);
         let mut caller = mem::replace(&mut running.run, callee);
         drop_newest(&mut caller.operands, call.taken);
         running.callers.push_reserved(caller);
@@ -120,7 +120,7 @@ impl Work {
     }
 
     /// The activation that has so many below it.
-    pub fn activation(&self, level: u32) -> Option<&Active>
+    pub fn activation(&self, level: u32) -> Option<&Activation>
         ensures { MatchOption result (at_depth (self.now.run ∷ self.now.callers) level ≡ None) (λ a. at_depth (self.now.run ∷ self.now.callers) level ≡ Some a.now) }
     {
         self.task.parts.running.activation(level)
@@ -148,7 +148,7 @@ impl Work {
     }
 
     /// Why the running activation is unwound, if it is.
-    pub fn raised(&self) -> Option<Reason>
+    pub fn raised(&self) -> Option<UnwindReason>
         ensures { result ≡ self.now.run.raised }
     {
         self.task.parts.running.run.raised
@@ -162,7 +162,7 @@ impl Work {
     }
 
     /// Whether an activation waits, and why it is unwound, if it is.
-    pub fn caller(&self) -> Option<Option<Reason>>
+    pub fn caller(&self) -> Option<Option<UnwindReason>>
         ensures { MatchOption result (self.now.callers ≡ []) (λ why. IsCaller why self.now.callers) }
     {
         match self.task.parts.running.callers.last() {
@@ -172,7 +172,7 @@ impl Work {
     }
 
     /// The running activation is unwound for this reason, from its place on; a return that arrives hands this over.
-    pub fn unwind(&mut self, why: Reason, given: Cell)
+    pub fn unwind(&mut self, why: UnwindReason, given: Cell)
         ensures { self.new ≡ record self.old { run = unwound_by why given self.old.run } }
     {
         self.task.parts.running.run.unwind(why, given);
@@ -211,7 +211,7 @@ impl Work {
 
     /// The running activation is left with its frame, and the one that waits for it is unwound in its turn, for this reason and
     /// with what a return that arrives hands over. Where none waits, all stays as it is, and the answer is false.
-    pub fn pass_on(&mut self, why: Reason, given: Cell) -> bool
+    pub fn pass_on(&mut self, why: UnwindReason, given: Cell) -> bool
         ensures called { result ≡ nat_lt 0 (length self.old.callers) }
         ensures after { self.new ≡ passed why given self.old.callers self.old }
     {
@@ -227,7 +227,7 @@ impl Work {
     }
 
     /// The handler of a resumption begins on top, with an empty frame of its own.
-    pub fn enter_handler(&mut self, handling: Handling) -> Result<(), AllocError>
+    pub fn enter_handler(&mut self, handling: HandlerStart) -> Result<(), AllocError>
         ensures ok { OnOk result (self.new ≡ handled handling self.old) }
         ensures err { OnErr result (self.new ≡ self.old) }
     {
@@ -243,7 +243,7 @@ impl Work {
         operands.reserve(3)?;
         running.callers.reserve(1)?;
         running.frames.push(frame)?;
-        let handler = Active::handler(operands, handling);
+        let handler = Activation::handler(operands, handling);
         let raiser = mem::replace(&mut running.run, handler);
         running.callers.push_reserved(raiser);
         Ok(())
@@ -274,7 +274,7 @@ impl Work {
 }
 
 // The line of an op, or of the newest of these calls that has one.
-fn line_from(code: &Code, callers: &[Active], line: u32) -> u32
+fn line_from(code: &Code, callers: &[Activation], line: u32) -> u32
     ensures { result ≡ line_at code.now.ops line (reverse callers.now) }
 {
     match callers.split_last() {

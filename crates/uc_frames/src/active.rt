@@ -5,16 +5,16 @@ ghost use Rattle.uc_machine.specs.Executions.{begun};
 ghost use Rattle.uc_frames.specs.Unwinding.{unwound_by, handler_of};
 
 use crate::cell::Cell;
-use crate::event::Handling;
+use crate::event::HandlerStart;
 use crate::operands::event_operands;
 use std::marker::Model;
-use uc_machine::exec::{Reason, Visited};
+use uc_machine::exec::{UnwindReason, Visited};
 
 /// What is next in an activation, its operands, the object of a member's call, the depth of the frame whose variables it
 /// uses, whether it counts as an active call, how many elements stand of the array that it builds or destroys, how far the search
 /// came where it handles a resumption, why it is unwound, and what a return that unwinds it hands over.
 #[derive(Drop)]
-pub struct Active {
+pub struct Activation {
     pub(crate) next: u32,
     pub(crate) operands: Vec<Cell>,
     pub(crate) this: Cell,
@@ -22,20 +22,20 @@ pub struct Active {
     pub(crate) counts: bool,
     pub(crate) elements: u32,
     pub(crate) handles: Option<Visited>,
-    pub(crate) raised: Option<Reason>,
+    pub(crate) raised: Option<UnwindReason>,
     pub(crate) result: Cell,
 }
 
-impl Model for Active {
+impl Model for Activation {
     ghost use Rattle.std.specs.Prelude.{reverse};
-    ghost use Rattle.uc_frames.specs.Machine.{Active};
+    ghost use Rattle.uc_frames.specs.Machine.{Activation};
 
-    ghost Value = { Active };
+    ghost Value = { Activation };
 
     ghost view = { λ a. record { control = a.next; operands = reverse a.operands.items; this = a.this; frame = a.frame; counts = a.counts; elements = a.elements; handles = a.handles; raised = a.raised; result = a.result } };
 }
 
-impl Active {
+impl Activation {
     // An activation as it begins, at this op, with an empty list for its operands.
     pub(crate) fn new(
         operands: Vec<Cell>,
@@ -43,11 +43,11 @@ impl Active {
         this: Cell,
         frame: u32,
         counts: bool,
-    ) -> Active
+    ) -> Activation
         requires { operands.items ≡ [] }
         ensures { result ≡ begun entry this frame Cell.Nothing counts }
     {
-        Active {
+        Activation {
             next: entry,
             operands,
             this,
@@ -61,12 +61,12 @@ impl Active {
     }
 
     // An activation as a handler of a resumption begins, with room for its event in an empty list for its operands.
-    pub(crate) fn handler(operands: Vec<Cell>, handling: Handling) -> Active
+    pub(crate) fn handler(operands: Vec<Cell>, handling: HandlerStart) -> Activation
         requires empty { operands.items ≡ [] }
         requires room { 3 ≤ vec_capacity operands }
         ensures { result ≡ handler_of handling }
     {
-        Active {
+        Activation {
             next: handling.entry,
             operands: event_operands(operands, handling.event),
             this: handling.this,
@@ -108,7 +108,7 @@ impl Active {
     }
 
     // It is unwound for this reason, from its place on; a return that arrives hands this over.
-    pub(crate) fn unwind(&mut self, why: Reason, given: Cell)
+    pub(crate) fn unwind(&mut self, why: UnwindReason, given: Cell)
         ensures { self.new ≡ unwound_by why given self.old }
     {
         self.operands.clear();

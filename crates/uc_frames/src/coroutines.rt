@@ -14,7 +14,7 @@ use crate::event::event_of;
 use crate::links::drop_enabled;
 use crate::numbered::{is_same_home, position};
 use crate::operands::push_event;
-use crate::parked::Parked;
+use crate::parked::ParkedStack;
 use crate::work::Work;
 use std::alloc::AllocError;
 use uc_code::rows::RoutineCode;
@@ -78,7 +78,7 @@ impl Work {
         ensures err { OnErr result (self.new ≡ self.old) }
     {
         let this = self.this();
-        let stack = Parked::fresh(self.task.parts.alloc, routine, this)?;
+        let stack = ParkedStack::fresh(self.task.parts.alloc, routine, this)?;
         let home = self.home_at(this);
         let exec = self.new_exec(home);
         self.add(home, stack)?;
@@ -112,7 +112,7 @@ impl Work {
         }
     }
 
-    fn add(&mut self, home: Home, stack: Parked) -> Result<(), AllocError>
+    fn add(&mut self, home: Home, stack: ParkedStack) -> Result<(), AllocError>
         ensures ok { OnOk result (self.new ≡ record self.old { env = born home stack self.old.env }) }
         ensures err { OnErr result (self.new ≡ self.old) }
     {

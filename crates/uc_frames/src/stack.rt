@@ -4,7 +4,7 @@ ghost use Rattle.std.specs.Prelude.{◌≡◌, ◌∷◌, [], drop, None, Some, 
 ghost use Rattle.uc_machine.specs.Executions.{at_depth, one_call_less};
 ghost use Rattle.uc_frames.specs.Machine.{first_execution};
 
-use crate::active::Active;
+use crate::active::Activation;
 use crate::cell::Cell;
 use crate::frames::zeros;
 use crate::links::Links;
@@ -18,8 +18,8 @@ use uc_code::rows::RoutineCode;
 #[derive(Drop)]
 pub struct Stack {
     pub(crate) alloc: Global,
-    pub(crate) run: Active,
-    pub(crate) callers: Vec<Active>,
+    pub(crate) run: Activation,
+    pub(crate) callers: Vec<Activation>,
     pub(crate) frames: Vec<Vec<Cell>>,
     pub(crate) links: Links,
     pub(crate) spare: Vec<Vec<Cell>>,
@@ -47,7 +47,7 @@ impl Stack {
         frames.push(frame)?;
         Ok(Stack {
             alloc,
-            run: Active::new(Vec::new(alloc), routine.entry, this, 0, false),
+            run: Activation::new(Vec::new(alloc), routine.entry, this, 0, false),
             callers: Vec::new(alloc),
             frames,
             links: Links::new(alloc),
@@ -56,7 +56,7 @@ impl Stack {
     }
 
     // The activation that has so many below it.
-    pub(crate) fn activation(&self, level: u32) -> Option<&Active>
+    pub(crate) fn activation(&self, level: u32) -> Option<&Activation>
         ensures { MatchOption result (at_depth (self.now.run ∷ self.now.callers) level ≡ None) (λ a. at_depth (self.now.run ∷ self.now.callers) level ≡ Some a.now) }
     {
         let waiting = self.callers.len();
@@ -71,7 +71,7 @@ impl Stack {
     }
 
     // This activation goes on in the place of the newest one, which goes with its frame.
-    pub(crate) fn go_back(&mut self, caller: Active)
+    pub(crate) fn go_back(&mut self, caller: Activation)
         ensures { self.new ≡ record self.old { run = caller; frames = drop 1 self.old.frames; links = one_call_less self.old.run.counts self.old.links } }
     {
         let left = mem::replace(&mut self.run, caller);

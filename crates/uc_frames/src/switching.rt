@@ -3,13 +3,13 @@
 ghost use Rattle.std.specs.Prelude.{◌≡◌, None, Some, MatchOption, pos, false};
 ghost use Rattle.uc_machine.specs.Executions.{exec_eq, parked_at};
 ghost use Rattle.uc_machine.specs.Switches.{ended, set_slot, spread, stopped, switched, unwound_there, woken};
-ghost use Rattle.uc_machine.specs.declared.exec.Reason.TheVariants as reason;
+ghost use Rattle.uc_machine.specs.declared.exec.UnwindReason.TheVariants as reason;
 ghost use Rattle.uc_tree.specs.declared.limits.TheConstants.{UNHANDLED};
 
 use crate::numbered::{is_same, position};
-use crate::parked::Parked;
+use crate::parked::ParkedStack;
 use crate::work::Work;
-use uc_machine::exec::{Exec, Home, Reason, Stage};
+use uc_machine::exec::{Exec, Home, UnwindReason, Stage};
 use uc_tree::limits::UNHANDLED;
 
 impl Work {
@@ -85,7 +85,7 @@ impl Work {
         ensures { (x : _) → parked_at exec self.old.env ≡ Some x → self.new ≡ switched exec (unwound_there (reason.Event UNHANDLED (pos 0) (pos 0)) x) self.old }
     {
         if let Some(mut left) = self.exchange(exec, None) {
-            left.stack.run.raised = Some(Reason::Event {
+            left.stack.run.raised = Some(UnwindReason::Event {
                 event: UNHANDLED,
                 x: 0,
                 y: 0,
@@ -104,13 +104,13 @@ impl Work {
         if let Some(mut left) = self.exchange(exec, None) {
             left.stack.links.live = false;
             left.stack.links.destroyer = Some(by);
-            left.stack.run.raised = Some(Reason::Destroyed);
+            left.stack.run.raised = Some(UnwindReason::Destroyed);
             self.run(exec, left);
         }
     }
 
     // The running execution stops, and this one, which was taken out, goes on.
-    fn run(&mut self, exec: Exec, stack: Parked)
+    fn run(&mut self, exec: Exec, stack: ParkedStack)
         ensures { self.new ≡ spread exec stack (set_slot self.old.env.exec (Some (stopped self.old)) self.old.env) }
     {
         let stops = self.task.parts.exec;
@@ -121,7 +121,7 @@ impl Work {
     }
 
     // An execution in hand is left as this, or runs where it is nothing; what was left of it is handed over.
-    fn exchange(&mut self, exec: Exec, slot: Option<Parked>) -> Option<Parked>
+    fn exchange(&mut self, exec: Exec, slot: Option<ParkedStack>) -> Option<ParkedStack>
         ensures value { result ≡ parked_at exec self.old.env }
         ensures after { self.new ≡ record self.old { env = set_slot exec slot self.old.env } }
     {

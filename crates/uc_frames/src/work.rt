@@ -10,7 +10,7 @@ use crate::cell::Cell;
 use crate::frames::{clear_in, read_in, write_in};
 use crate::members::Members;
 use crate::numbered::position;
-use crate::parked::Parked;
+use crate::parked::ParkedStack;
 use crate::pieces::Pieces;
 use crate::task::Task;
 use std::alloc::{AllocError, Global};
@@ -145,7 +145,7 @@ impl Work {
     }
 
     // An execution in hand that does not run.
-    pub(crate) fn parked(&self, exec: Exec) -> Option<&Parked>
+    pub(crate) fn parked(&self, exec: Exec) -> Option<&ParkedStack>
         ensures { MatchOption result (parked_at exec self.now.env ≡ None) (λ s. parked_at exec self.now.env ≡ Some s.now) }
     {
         match self.members(exec.home) {

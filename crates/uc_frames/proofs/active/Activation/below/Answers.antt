@@ -1,6 +1,6 @@
 use Rattle.std.proofs.Common.{rules, arith, ◌≡◌, ◌<◌, ◌-◌, length}
 use Rattle.uc_frames.proofs.Newest.{top_below}
-use Rattle.uc_frames.proofs.active.Active.below.Goals as goal
+use Rattle.uc_frames.proofs.active.Activation.below.Goals as goal
 
 pub returns-then-count-len : goal.returns-then-count-len
 returns-then-count-len c =
