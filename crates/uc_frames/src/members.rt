@@ -140,7 +140,8 @@ impl Members {
         self.parts.parked.room()?;
         let slot = Some(stack);
         self.parts.engaged += engaged_in(&slot);
-        self.parts.parked.push((self.parts.serial, slot));
+        let serial = self.parts.serial;
+        self.parts.parked.push((serial, slot));
         self.parts.serial += 1;
         Ok(())
     }
