@@ -61,9 +61,9 @@ impl Work {
     pub fn end_gone(&mut self, object: u32)
         ensures { self.new ≡ record self.old { env = call_gone object self.old.env } }
     {
-        let parts = &mut *self.task.parts;
-        parts.depths.leave(object);
-        parts.running.links.mutex_calls = parts.running.links.mutex_calls.saturating_sub(1);
+        self.task.parts.depths.leave(object);
+        let links = &mut self.task.parts.running.links;
+        links.mutex_calls = links.mutex_calls.saturating_sub(1);
     }
 
     /// The building of a mutex object begins. Counts at their most have want of memory.
@@ -94,7 +94,8 @@ impl Work {
     {
         let made = self.pop();
         let place = self.below(routine.params);
-        put_below(&mut self.task.parts.running.run.operands, routine.params, made);
+        let operands = &mut self.task.parts.running.run.operands;
+        put_below(operands, routine.params, made);
         self.write(place, made);
     }
 

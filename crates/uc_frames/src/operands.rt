@@ -27,7 +27,8 @@ impl Work {
         ensures ok { OnOk result (self.new ≡ record self.old { run = record self.old.run { operands = reverse cells.now ++ self.old.run.operands } }) }
         ensures err { OnErr result (self.new ≡ self.old) }
     {
-        self.task.parts.running.run.operands.extend_from_slice(cells)?;
+        let operands = &mut self.task.parts.running.run.operands;
+        operands.extend_from_slice(cells)?;
         Ok(())
     }
 
@@ -145,11 +146,7 @@ fn put_on_two(operands: &mut Vec<Cell>, cell: Cell) -> Result<(), AllocError>
 }
 
 // One in the place of so many of the newest, as far as there are any.
-fn put_on_many(
-    operands: &mut Vec<Cell>,
-    count: u32,
-    cell: Cell,
-) -> Result<(), AllocError>
+fn put_on_many(operands: &mut Vec<Cell>, count: u32, cell: Cell) -> Result<(), AllocError>
     ensures ok { OnOk result (reverse operands.new.items ≡ cell ∷ drop count (reverse operands.old.items)) }
     ensures err { OnErr result (operands.new.items ≡ operands.old.items) }
 {

@@ -31,7 +31,11 @@ impl Model for ParkedStack {
 
 impl ParkedStack {
     // An execution for this object, whose main has not begun.
-    pub(crate) fn fresh(alloc: Global, routine: RoutineCode, this: Cell) -> Result<ParkedStack, AllocError>
+    pub(crate) fn fresh(
+        alloc: Global,
+        routine: RoutineCode,
+        this: Cell,
+    ) -> Result<ParkedStack, AllocError>
         ensures { IfOk result (λ p. p ≡ fresh_execution routine this) }
     {
         let mut stack = Stack::first(alloc, routine, this)?;

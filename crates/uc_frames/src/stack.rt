@@ -39,7 +39,11 @@ impl Model for Stack {
 
 impl Stack {
     // An execution as it begins, with one frame, for this object.
-    pub(crate) fn first(alloc: Global, routine: RoutineCode, this: Cell) -> Result<Stack, AllocError>
+    pub(crate) fn first(
+        alloc: Global,
+        routine: RoutineCode,
+        this: Cell,
+    ) -> Result<Stack, AllocError>
         ensures { IfOk result (λ s. s ≡ first_execution routine this) }
     {
         let frame = zeros(alloc, routine.cells)?;

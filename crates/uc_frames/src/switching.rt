@@ -9,7 +9,7 @@ ghost use Rattle.uc_tree.specs.declared.limits.TheConstants.{UNHANDLED};
 use crate::numbered::{is_same, position};
 use crate::parked::ParkedStack;
 use crate::work::Work;
-use uc_machine::exec::{Exec, Home, UnwindReason, Stage};
+use uc_machine::exec::{Exec, Home, Stage, UnwindReason};
 use uc_tree::limits::UNHANDLED;
 
 impl Work {
