@@ -58,9 +58,11 @@ pub(crate) fn read_in(frames: &Vec<Vec<Cell>>, depth: u32, at: u64) -> Cell
     ensures { result
         ≡ slice_index_or (list_in (at_depth (reverse (map (λ f. f.items) frames.now.items)) depth)) at nought }
 {
-    match frames.get(depth as usize) {
-        None => Cell::Number(0),
-        Some(cells) => get(cells, at),
+    let frame = depth as usize;
+    if frame < frames.len() {
+        get(&frames[frame], at)
+    } else {
+        Cell::Number(0)
     }
 }
 

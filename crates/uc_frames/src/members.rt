@@ -23,12 +23,6 @@ use uc_machine::exec::Pending;
 /// How many of them hold a task up is counted, so that nobody searches them.
 #[derive(Drop)]
 pub struct Members {
-    parts: Box<MemberParts>,
-}
-
-/// What `Members` are, in one place, so that they are handed on without being moved.
-#[derive(Drop)]
-pub struct MemberParts {
     cells: Vec<Cell>,
     serial: u64,
     parked: List<(u64, Option<ParkedStack>)>,
@@ -41,9 +35,9 @@ impl Model for Members {
 
     ghost Value = { Members };
 
-    ghost view = { λ m. record { values = m.parts.value.cells.items; serial = m.parts.value.serial; parked = m.parts.value.parked.items } };
+    ghost view = { λ m. record { values = m.cells.items; serial = m.serial; parked = m.parked.items } };
 
-    ghost invariant = { λ m. AreLeft m.parts.value.serial m.parts.value.engaged m.parts.value.parked.items };
+    ghost invariant = { λ m. AreLeft m.serial m.engaged m.parked.items };
 }
 
 impl Members {
@@ -52,14 +46,12 @@ impl Members {
         ensures { IfOk result (λ m. m ≡ record { values = replicate cells nought; serial = 0; parked = [] }) }
     {
         let cells = zeros(alloc, cells)?;
-        let parts = MemberParts {
+        Ok(Members {
             cells,
             serial: 0,
             parked: List::new(alloc),
             engaged: 0,
-        };
-        let parts = Box::new(alloc, parts)?;
-        Ok(Members { parts })
+        })
     }
 
     // Of a task whose main begins: its own execution was made here, and runs.
@@ -69,37 +61,35 @@ impl Members {
         let mut parked = List::new(alloc);
         parked.room()?;
         parked.push((0, None));
-        let parts = MemberParts {
+        Ok(Members {
             cells: Vec::new(alloc),
             serial: 1,
             parked,
             engaged: 0,
-        };
-        let parts = Box::new(alloc, parts)?;
-        Ok(Members { parts })
+        })
     }
 
     // The field at a place, 0 where there is none.
     pub(crate) fn field(&self, at: u64) -> Cell
         ensures { result ≡ slice_index_or self.now.values at nought }
     {
-        get(&self.parts.cells, at)
+        get(&self.cells, at)
     }
 
     // A cell is written to a field; a binding stays.
     pub(crate) fn write_field(&mut self, at: u64, cell: Cell)
         ensures { self.new ≡ record self.old { values = cell_written at cell self.old.values } }
     {
-        put(&mut self.parts.cells, at, cell);
+        put(&mut self.cells, at, cell);
     }
 
     // The execution of that number, if it is left and does not run.
     pub(crate) fn parked(&self, serial: u64) -> Option<&ParkedStack>
         ensures { MatchOption result (joined (find serial self.now.parked) ≡ None) (λ s. joined (find serial self.now.parked) ≡ Some s.now) }
     {
-        match position_in_order(&self.parts.parked, serial) {
+        match position_in_order(&self.parked, serial) {
             None => None,
-            Some(i) => self.parts.parked.get(i).1.as_ref(),
+            Some(i) => self.parked.get(i).1.as_ref(),
         }
     }
 
@@ -107,8 +97,8 @@ impl Members {
     pub(crate) fn write(&mut self, serial: u64, depth: u32, at: u64, cell: Cell)
         ensures { self.new ≡ frames_changed serial (frame_changed depth (cell_written at cell)) self.old }
     {
-        if let Some(i) = position_in_order(&self.parts.parked, serial) {
-            let slot = self.parts.parked.get_mut(i);
+        if let Some(i) = position_in_order(&self.parked, serial) {
+            let slot = self.parked.get_mut(i);
             if let Some(stack) = &mut slot.1 {
                 stack.write(depth, at, cell);
             }
@@ -119,14 +109,14 @@ impl Members {
     pub(crate) fn has_engaged(&self) -> bool
         ensures { result ≡ list_any (λ p. is_engaged p.1) self.now.parked }
     {
-        0 < self.parts.engaged
+        0 < self.engaged
     }
 
     // How many executions were made here; so the next one is numbered.
     pub(crate) fn serial(&self) -> u64
         ensures { result ≡ self.now.serial }
     {
-        self.parts.serial
+        self.serial
     }
 
     // One more execution is left here. A home at which `u64::MAX` were made has no more.
@@ -134,15 +124,14 @@ impl Members {
         ensures ok { OnOk result (self.new ≡ one_more stack self.old) }
         ensures err { OnErr result (self.new ≡ self.old) }
     {
-        if self.parts.serial == u64::MAX {
+        if self.serial == u64::MAX {
             return Err(AllocError);
         }
-        self.parts.parked.room()?;
+        self.parked.room()?;
         let slot = Some(stack);
-        self.parts.engaged += engaged_in(&slot);
-        let serial = self.parts.serial;
-        self.parts.parked.push((serial, slot));
-        self.parts.serial += 1;
+        self.engaged += engaged_in(&slot);
+        self.parked.push((self.serial, slot));
+        self.serial += 1;
         Ok(())
     }
 
@@ -151,13 +140,13 @@ impl Members {
         ensures value { result ≡ joined (find serial self.old.parked) }
         ensures after { self.new ≡ slot_set serial slot self.old }
     {
-        match position_in_order(&self.parts.parked, serial) {
+        match position_in_order(&self.parked, serial) {
             None => None,
             Some(i) => {
                 let more = engaged_in(&slot);
-                let place = self.parts.parked.get_mut(i);
+                let place = self.parked.get_mut(i);
                 let left = mem::replace(&mut place.1, slot);
-                self.parts.engaged = self.parts.engaged - engaged_in(&left) + more;
+                self.engaged = self.engaged - engaged_in(&left) + more;
                 left
             }
         }
@@ -167,9 +156,9 @@ impl Members {
     pub(crate) fn remove(&mut self, serial: u64)
         ensures { self.new ≡ slot_gone serial self.old }
     {
-        if let Some(i) = position_in_order(&self.parts.parked, serial) {
-            let gone = self.parts.parked.take(i);
-            self.parts.engaged -= engaged_in(&gone.1);
+        if let Some(i) = position_in_order(&self.parked, serial) {
+            let gone = self.parked.take(i);
+            self.engaged -= engaged_in(&gone.1);
         }
     }
 
@@ -178,8 +167,8 @@ impl Members {
     pub(crate) fn set_live(&mut self, serial: u64, live: bool)
         ensures { self.new ≡ links_changed (lively live) serial self.old }
     {
-        if let Some(i) = position_in_order(&self.parts.parked, serial) {
-            let slot = self.parts.parked.get_mut(i);
+        if let Some(i) = position_in_order(&self.parked, serial) {
+            let slot = self.parked.get_mut(i);
             if let Some(stack) = &mut slot.1 {
                 stack.set_live(live);
             }
@@ -191,8 +180,8 @@ impl Members {
         ensures ok { OnOk result (self.new ≡ links_changed (pended event) serial self.old) }
         ensures err { OnErr result (self.new ≡ self.old) }
     {
-        if let Some(i) = position_in_order(&self.parts.parked, serial) {
-            let slot = self.parts.parked.get_mut(i);
+        if let Some(i) = position_in_order(&self.parked, serial) {
+            let slot = self.parked.get_mut(i);
             if let Some(stack) = &mut slot.1 {
                 stack.add_pending(event)?;
             }

@@ -107,8 +107,8 @@ impl Work {
 }
 
 // The one below so many of the newest; nothing where there is none.
-fn cell_below(operands: &[Cell], count: u32) -> Cell
-    ensures { result ≡ top (drop count (reverse operands.now)) }
+fn cell_below(operands: &Vec<Cell>, count: u32) -> Cell
+    ensures { result ≡ top (drop count (reverse operands.now.items)) }
 {
     let count = count as usize;
     if count < operands.len() {

@@ -1,19 +1,12 @@
-use Rattle.std.proofs.Common.{rules, ◌≡◌, ◌∙◌, List, map}
-use Rattle.std.specs.Prelude.{slice_get, slice_index_or}
-use Rattle.uc_machine.specs.Executions.{list_in}
-use Rattle.uc_frames.specs.declared.cell.Cell.{Cell}
+use Rattle.std.proofs.Common.{arith, ◌∙◌}
 use Rattle.uc_frames.specs.Machine.{nought}
-use Rattle.uc_frames.proofs.Depths.{read_view}
+use Rattle.uc_frames.proofs.Depths.{read_there, read_nothing}
 use Rattle.uc_frames.proofs.frames.read_in.Goals as goal
 
-pub returns-in-None : goal.returns-in-None
-returns-in-None c =
-    let fs : List (List Cell) = map (λ f. f.items) c.args.frames.now.items in
-    let e : nought ≡ slice_index_or (list_in (slice_get fs c.args.depth)) c.args.at nought = search rules in
-    e ∙ read_view fs c.args.depth c.args.at nought
+pub returns-then-frame-len : goal.returns-then-frame-len
+returns-then-frame-len c =
+    c.get.ensures ∙ read_there (λ v. v.items) c.args.frames.now.items c.args.depth c.args.at nought c.index.result.now (omega (arith, c.args.frames.now.ok.0)) c.index.ensures
 
-pub returns-in-Some : goal.returns-in-Some
-returns-in-Some c =
-    let fs : List (List Cell) = map (λ f. f.items) c.args.frames.now.items in
-    let e : c.get-in-Some.result ≡ slice_index_or (list_in (slice_get fs c.args.depth)) c.args.at nought = search rules in
-    e ∙ read_view fs c.args.depth c.args.at nought
+pub returns-else-frame-len : goal.returns-else-frame-len
+returns-else-frame-len c =
+    read_nothing (λ v. v.items) c.args.frames.now.items c.args.depth c.args.at nought (omega (arith, c.args.frames.now.ok.0))
