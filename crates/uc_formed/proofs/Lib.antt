@@ -1,0 +1,7 @@
+pub mod Sure
+pub mod Counted
+pub mod Statements
+pub mod Programs
+pub mod Trees
+pub mod Texts
+pub mod Samples
