@@ -1,9 +1,9 @@
 -- Texts: how many tokens they have, and that programs whose texts are accepted are well typed.
 use Rattle.std.proofs.Common.{◌≡◌, ℕ, zero, suc, ◌+◌, ◌-◌, ◌≤◌, List, [], ◌∷◌, length, subst, arith}
 use Rattle.uc_tree.specs.declared.limits.TheConstants.{LAST_CLASS, NESTING}
-use Rattle.uc_tree.specs.declared.scan.Place.{Place}
-use Rattle.uc_tree.specs.declared.scan.Found.{Found}
-use Rattle.uc_tree.specs.declared.scan.Found.TheVariants.{Skip, Take, Stop}
+use Rattle.uc_tree.specs.declared.scan.ScanPlace.{ScanPlace}
+use Rattle.uc_tree.specs.declared.scan.Lexeme.{Lexeme}
+use Rattle.uc_tree.specs.declared.scan.Lexeme.TheVariants.{Skip, Take, Stop}
 use Rattle.uc_tree.specs.declared.token.Token.{Token}
 use Rattle.uc_tree.specs.Programs.{Program}
 use Rattle.uc_tree.specs.Tokens.{Lexed, Read, Refused, with_token, lexed_by, found_at, next_place, first_place, tokens_from}
@@ -32,12 +32,12 @@ one_more : (k : ℕ) (t : Token) (l : Lexed) → FewTokens k l → FewTokens (su
 one_more k t (Read ts) h = omega (arith, h)
 one_more k t (Refused why at) h = tt
 
-by_found : (k : ℕ) (p : Place) (f : Found) (after : ℕ → Lexed) → ((n : ℕ) → FewTokens k (after n)) → FewTokens (suc k) (lexed_by p f after)
+by_found : (k : ℕ) (p : ScanPlace) (f : Lexeme) (after : ℕ → Lexed) → ((n : ℕ) → FewTokens k (after n)) → FewTokens (suc k) (lexed_by p f after)
 by_found k p (Skip n) after h = longer k (after n) (h n)
 by_found k p (Take kind n) after h = one_more k (record { kind = kind; at = p.at; pos = p.pos }) (after n) (h n)
 by_found k p (Stop why n) after h = tt
 
-few_tokens : (text : List ℕ) (p : Place) (n : ℕ) → FewTokens (length text) (tokens_from p n text)
+few_tokens : (text : List ℕ) (p : ScanPlace) (n : ℕ) → FewTokens (length text) (tokens_from p n text)
 unfolding tokens_from
 few_tokens [] p n = omega arith
 few_tokens (b ∷ rest) p (suc n) = longer (length rest) (tokens_from (next_place p b) n rest) (few_tokens rest (next_place p b) n)
