@@ -18,7 +18,7 @@ use Rattle.uc_formed.proofs.Sure.{Sure}
 pub record Moves {A : Type 0} (n : ℕ) (g : Form A) : Type 0 where
   pub holds : (ts : List Token) (from to : ℕ) (v : A) → Spells (inner n) g ts from to v → from < to
 
-moves_nothing : {A : Type 0} {n : ℕ} → Moves {A} n nothing
+moves_nothing : {A : Type 0} {n : ℕ} → Moves {A = A} n nothing
 moves_nothing = record { holds = λ ts from to v r. absurd r }
 
 moves_skip : {A : Type 0} {n : ℕ} {g : Form A} → Moves n (skip g)

@@ -1,5 +1,5 @@
 -- What the forms of classes and programs within n levels give, and what stands one level deeper, for every n.
-use Rattle.std.proofs.Common.{◌≡◌, ℕ, zero, suc, ◌≤◌, List, [], ◌∷◌, length, Bool, true, false, Option, Some, None, refl, arith}
+use Rattle.std.proofs.Common.{◌≡◌, ℕ, zero, suc, ◌≤◌, List, [], ◌∷◌, length, Bool, true, false, Option, Some, None, refl, sym, subst, arith}
 use Rattle.uc_tree.specs.declared.pos.Pos.{Pos}
 use Rattle.uc_tree.specs.declared.kinds.Base.{Base}
 use Rattle.uc_tree.specs.declared.kinds.Base.TheVariants as base
@@ -77,26 +77,30 @@ record Levels (n last : ℕ) : Type 0 where
   in_class : Sure n last (inside part_name) (FormedPart last)
 
 module _ (n last : ℕ) (h : Levels n last) where
+  -- a routine with this signature
+  abbrev RoutineOf : Sig → Routine → Type 0
+  RoutineOf s r = FormedRoutine last r × (r.sig ≡ s)
+
   params_rest_sure : Sure n last params_rest (λ ps. length ps ≤ last)
   params_rest_sure = sure_or (sure_empty (omega arith)) (sure_before (sure_count (param_moves n) (moves_next _)))
 
   params_sure : Sure n last params_form (λ ps. length ps ≤ last)
   params_sure = sure_expect params_rest_sure
 
-  plain_sure : (s : Sig) → MakesNothing s → length s.params ≤ last → Sure n last (plain_form s) (FormedRoutine last)
-  plain_sure s m le = sure_apply (block_sure n last h.in_stmt h.in_block) (λ b w. record { makes = m; params = le; body = w })
+  plain_sure : (s : Sig) → MakesNothing s → length s.params ≤ last → Sure n last (plain_form s) (RoutineOf s)
+  plain_sure s m le = sure_apply (block_sure n last h.in_stmt h.in_block) (λ b w. (record { makes = m; params = le; body = w }, refl))
 
-  maker_sure : (s : Sig) → MakesNothing s → length s.params ≤ last → Sure n last (maker_form s) (FormedRoutine last)
-  maker_sure s m le = sure_bind (any_piece n last inits_form) (λ is t. sure_apply (block_sure n last h.in_stmt h.in_block) (λ b w. record { makes = m; params = le; body = w }))
+  maker_sure : (s : Sig) → MakesNothing s → length s.params ≤ last → Sure n last (maker_form s) (RoutineOf s)
+  maker_sure s m le = sure_bind (any_piece n last inits_form) (λ is t. sure_apply (block_sure n last h.in_stmt h.in_block) (λ b w. (record { makes = m; params = le; body = w }, refl)))
 
   fields_sure : (at : Pos) (b : Base) (pos : Pos) (r : Bool) (m : List ℕ) → Sure n last (fields_rest at b pos r m) (FormedMember last)
   fields_sure at b pos r m = sure_apply (any_piece n last _) (λ ds w. tt)
 
   member_routine_sure : (pos : Pos) (b : Base) (m : List ℕ) → Sure n last (member_routine pos b m) (FormedMember last)
-  member_routine_sure pos b m = sure_bind params_rest_sure (λ ps le. sure_or (sure_empty (λ f. absurd (cc f))) (sure_apply (plain_sure (sig_of pos owner.Here role.Plain b m ps) (λ f. absurd (cc f)) le) (λ r w. w)))
+  member_routine_sure pos b m = sure_bind params_rest_sure (λ ps le. sure_or (sure_empty (λ f. absurd (cc f))) (sure_apply (plain_sure (sig_of pos owner.Here role.Plain b m ps) (λ f. absurd (cc f)) le) (λ r w. w.0)))
 
   member_maker_sure : (pos : Pos) (r : Role) (m : List ℕ) → Sure n last (member_maker pos r m) (FormedMember last)
-  member_maker_sure pos r m = sure_bind params_rest_sure (λ ps le. sure_or (sure_empty (λ f. refl)) (sure_apply (maker_sure (sig_of pos owner.Here r base.Void m ps) (λ f. refl) le) (λ r w. w)))
+  member_maker_sure pos r m = sure_bind params_rest_sure (λ ps le. sure_or (sure_empty (λ f. refl)) (sure_apply (maker_sure (sig_of pos owner.Here r base.Void m ps) (λ f. refl) le) (λ r w. w.0)))
 
   based_at_sure : (at : Pos) (b : Base) (pos : Pos) (o : Option TokenKind) → Sure n last (based_at at b pos o) (FormedMember last)
   based_at_sure at b pos (Some (token.Sign sign.And)) = sure_skip (sure_bind (any_piece n last name_form) (λ m t. fields_sure at b pos true m))
@@ -141,10 +145,10 @@ module _ (n last : ℕ) (h : Levels n last) where
   using_sure pos = sure_expect (sure_expect (sure_expect (sure_empty tt)))
 
   free_sure : (pos : Pos) (b : Base) (m : List ℕ) → Sure n last (free_routine pos b m) (FormedItem last)
-  free_sure pos b m = sure_bind params_sure (λ ps le. sure_or (sure_empty (λ f. absurd (cc f), λ e. refl)) (sure_apply (plain_sure (sig_of pos owner.Here role.Plain b m ps) (λ f. absurd (cc f)) le) (λ r w. (w, λ e. refl))))
+  free_sure pos b m = sure_bind params_sure (λ ps le. sure_or (sure_empty (λ f. absurd (cc f), λ e. refl)) (sure_apply (plain_sure (sig_of pos owner.Here role.Plain b m ps) (λ f. absurd (cc f)) le) (λ r w. (w.0, subst IsPlainHere (sym w.1) (λ e. refl)))))
 
   outer_sure : (pos : Pos) (b : Base) (o : Owner) → Sure n last (outer_routine pos b o) (FormedItem last)
-  outer_sure pos b o = sure_bind (any_piece n last name_form) (λ m t. sure_bind params_sure (λ ps le. sure_apply (plain_sure (sig_of pos o role.Plain b m ps) (λ f. absurd (cc f)) le) (λ r w. (w, λ e. refl))))
+  outer_sure pos b o = sure_bind (any_piece n last name_form) (λ m t. sure_bind params_sure (λ ps le. sure_apply (plain_sure (sig_of pos o role.Plain b m ps) (λ f. absurd (cc f)) le) (λ r w. (w.0, subst IsPlainHere (sym w.1) (λ e. refl)))))
 
   based_item_at_sure : (pos : Pos) (b : Base) (o : Option TokenKind) → Sure n last (based_item_at pos b o) (FormedItem last)
   based_item_at_sure pos b (Some (token.Word word.UMain)) = sure_skip (sure_expect (outer_sure pos b owner.Main))
@@ -155,7 +159,7 @@ module _ (n last : ℕ) (h : Levels n last) where
   based_item_sure pos b = sure_look (λ o. based_item_at_sure pos b o)
 
   outer_maker_sure : (pos : Pos) (c : List ℕ) → Sure n last (outer_maker pos c) (FormedItem last)
-  outer_maker_sure pos c = sure_bind (any_piece n last (maybe_sign sign.Tilde)) (λ d t. sure_bind (any_piece n last name_form) (λ m u. sure_bind params_sure (λ ps le. sure_apply (maker_sure (sig_of pos (owner.Class c) (role_of d) base.Void m ps) (λ f. refl) le) (λ r w. (w, λ e. absurd (cc e))))))
+  outer_maker_sure pos c = sure_bind (any_piece n last (maybe_sign sign.Tilde)) (λ d t. sure_bind (any_piece n last name_form) (λ m u. sure_bind params_sure (λ ps le. sure_apply (maker_sure (sig_of pos (owner.Class c) (role_of d) base.Void m ps) (λ f. refl) le) (λ r w. (w.0, subst IsPlainHere (sym w.1) (λ e. absurd (cc e)))))))
 
   word_item_sure : (pos : Pos) (b : Option Base) → Sure n last (word_item pos b) (FormedItem last)
   word_item_sure pos None = class_sure pos

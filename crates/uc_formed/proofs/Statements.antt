@@ -14,7 +14,7 @@ use Rattle.uc_grammar.specs.declared.start.StmtStart.TheVariants as start
 use Rattle.uc_grammar.specs.Form.{inside}
 use Rattle.uc_grammar.specs.Names.{Simple, Declares, Evaluates, stmt_name, block_stmt_name}
 use Rattle.uc_grammar.specs.Tables.{handler_of, stmt_start, word_of}
-use Rattle.uc_grammar.specs.Grammar.{name_form, maybe_sign, maybe_expr, simple_form, block_rest, block_form, condition_form, maybe_stmt, simple_stmt, if_rest, while_rest, do_rest, for_start_form, for_rest, maybe_name_closed, Caught, any_event, one_event, caught_form, handler_by, handler_form, try_rest, raised_form, throw_rest, at_form, raise_rest, events_form, enable_rest, disable_rest, guard_form, members_form, clause_form, accept_form, outs_form, together_rest, cin_rest, no_arguments, migrate_rest, stmt_by, stmt_form}
+use Rattle.uc_grammar.specs.Grammar.{name_form, maybe_sign, maybe_expr, simple_form, block_rest, block_form, condition_form, maybe_stmt, simple_stmt, if_rest, while_rest, do_rest, for_start_form, for_rest, maybe_name_closed, Caught, any_event, one_event, caught_form, handler_by, handler_form, tried, try_rest, raised_form, throw_rest, at_form, raise_rest, events_form, enable_rest, disable_rest, guard_form, members_form, clause_form, accept_form, outs_form, together_rest, cin_rest, no_arguments, migrate_rest, stmt_by, stmt_form}
 use Rattle.uc_sound.specs.Formed.{nameless, own_nameless}
 use Rattle.uc_formed.proofs.Sure.{Sure, Each, sure_nothing, sure_empty, sure_skip, sure_expect, sure_or, sure_look, sure_here, sure_bind, sure_apply, sure_many, sure_listed, any_piece, sure_before}
 
@@ -45,6 +45,9 @@ NamelessCaught (Some event, param) = Unit {0}
 pub none_both : {A : Type 0} (xs ys : List A) → xs ≡ [] → ys ≡ [] → xs ++ ys ≡ []
 none_both xs ys e f = ap (λ l. l ++ ys) e ∙ f
 
+none_three : {A : Type 0} (xs ys zs : List A) → xs ≡ [] → ys ≡ [] → zs ≡ [] → (xs ++ ys) ++ zs ≡ []
+none_three xs ys zs e f g = none_both (xs ++ ys) zs (none_both xs ys e f) g
+
 block_none : (ss : List Stmt) → Each Nameless ss → NamelessBody (stmts_of ss)
 block_none [] h = refl
 block_none (s ∷ ss) h = none_both (gathered own_nameless s) (gathered_all own_nameless (stmts_of ss)) h.0 (block_none ss h.1)
@@ -70,6 +73,10 @@ handler_none : (pos : Pos) (kind : HandlerKind) (c : Caught) (brace : Pos) (body
 handler_none pos kind (None, None) brace body h e = (refl, e)
 handler_none pos kind (None, Some name) brace body h e = absurd h
 handler_none pos kind (Some event, param) brace body h e = (refl, e)
+
+try_none : (pos : Pos) (b : Pos × Stmts) (hs : List Handler) → NamelessBody b.1 → Each NamelessHandler hs → Nameless (tried pos b hs)
+try_none pos b hs w v =
+    none_three (nameless (handlers_of hs)) (gathered_all own_nameless b.1) (gathered_handlers own_nameless (handlers_of hs)) (own_none hs v) w (handlers_none hs v)
 
 simple_none : (s : Simple) → Nameless (simple_stmt s)
 simple_none (Declares pos base declarators) = refl
@@ -108,10 +115,10 @@ module _ (n last : ℕ) (in_stmt : Sure n last (inside stmt_name) Nameless) (in_
   handler_sure = sure_here (λ pos. sure_look (λ o. handler_by_sure pos (handler_of (word_of o))))
 
   try_sure : (pos : Pos) → Sure n last (try_rest pos) Nameless
-  try_sure pos = sure_bind block_sure (λ b w. sure_apply (sure_listed handler_sure handler_sure) (λ hs v. none_both (nameless (handlers_of hs)) (gathered_all own_nameless b.1 ++ gathered_handlers own_nameless (handlers_of hs)) (own_none hs v) (none_both (gathered_all own_nameless b.1) (gathered_handlers own_nameless (handlers_of hs)) w (handlers_none hs v))))
+  try_sure pos = sure_bind block_sure (λ b w. sure_apply (sure_listed handler_sure handler_sure) (λ hs v. try_none pos b hs w v))
 
   throw_sure : (pos : Pos) → Sure n last (throw_rest pos) Nameless
-  throw_sure pos = sure_apply (sure_or (sure_empty tt) (sure_apply (sure_before (any_piece n last raised_form)) (λ r w. tt))) (λ r w. refl)
+  throw_sure pos = sure_apply (any_piece n last _) (λ r w. refl)
 
   at_sure : (pos : Pos) (r : Raised) → Sure n last (at_form pos r) Nameless
   at_sure pos r = sure_or (sure_apply (any_piece n last _) (λ e v. refl)) (sure_empty refl)
