@@ -4,4 +4,4 @@ pub mod Statements
 pub mod Programs
 pub mod Trees
 pub mod Texts
-pub mod Samples
+pub mod Computed
