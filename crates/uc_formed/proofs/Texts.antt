@@ -1,22 +1,25 @@
 -- Texts: how many tokens they have, and that programs whose texts are accepted are well typed.
-use Rattle.std.proofs.Common.{◌≡◌, ℕ, zero, suc, ◌+◌, ◌-◌, ◌≤◌, List, [], ◌∷◌, length, subst, arith}
+use Rattle.std.proofs.Common.{◌≡◌, ℕ, zero, suc, ◌+◌, ◌-◌, ◌≤◌, List, [], ◌∷◌, length, refl, subst, arith}
 use Rattle.uc_tree.specs.declared.limits.TheConstants.{LAST_CLASS, NESTING}
 use Rattle.uc_tree.specs.declared.scan.ScanPlace.{ScanPlace}
 use Rattle.uc_tree.specs.declared.scan.Lexeme.{Lexeme}
 use Rattle.uc_tree.specs.declared.scan.Lexeme.TheVariants.{Skip, Take, Stop}
 use Rattle.uc_tree.specs.declared.token.Token.{Token}
+use Rattle.uc_tree.specs.ProgramMain.{main_number}
 use Rattle.uc_tree.specs.Programs.{Program}
 use Rattle.uc_tree.specs.Tokens.{Lexed, Read, Refused, with_token, lexed_by, found_at, next_place, first_place, tokens_from}
 use Rattle.uc_grammar.specs.Text.{IsProgram}
 use Rattle.uc_resolve.specs.Resolve.{source_of}
 use Rattle.uc_typing.proofs.Answers.{begins}
 use Rattle.uc_sound.specs.Formed.{IsFormed}
+use Rattle.uc_sound.specs.Sounds.{of_program}
 use Rattle.uc_sound.specs.Tables.{table_of}
 use Rattle.uc_sound.proofs.SoundLemmas.{law_sound, law_runs}
 use Rattle.uc_sound.proofs.MainLemmas.{law_mains}
 use Rattle.uc_formed.specs.Formed.{LawFormed, LawTokens}
 use Rattle.uc_formed.specs.WellTyped.{IsTextOf, LawWellTyped}
 use Rattle.uc_formed.proofs.Programs.{programs_formed}
+use Rattle.uc_formed.proofs.TaskStates.{typed}
 use Rattle.uc_formed.proofs.Trees.{tree_formed}
 
 -- no more tokens than so many bytes
@@ -64,5 +67,6 @@ law_well_typed text p t =
       sound = sound;
       mains = λ r b. law_mains p formed t.no_break r b;
       begins = λ r o b. begins (table_of p) (source_of p) sound r o (law_mains p formed t.no_break r b);
+      states = λ reads u i. typed p sound (law_mains p formed t.no_break (main_number p) (of_program refl)) reads u i;
       reached = λ r o b reads u goes. law_runs p formed t.no_break r o (law_mains p formed t.no_break r b) reads u goes;
     }
