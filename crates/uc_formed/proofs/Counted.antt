@@ -1,5 +1,5 @@
 -- Lists whose pieces each take a token have no more pieces than tokens.
-use Rattle.std.proofs.Common.{◌≡◌, ℕ, ◌+◌, ◌≤◌, ◌<◌, List, [], ◌∷◌, length, Bool, Option, Some, None, inl, inr, arith}
+use Rattle.std.proofs.Common.{ℕ, ◌+◌, ◌≤◌, ◌<◌, List, [], ◌∷◌, length, Bool, Option, Some, None, arith}
 use Rattle.uc_tree.specs.declared.pos.Pos.{Pos}
 use Rattle.uc_tree.specs.declared.token.Token.{Token}
 use Rattle.uc_tree.specs.declared.token.TokenKind.{TokenKind}
@@ -8,9 +8,9 @@ use Rattle.uc_tree.specs.declared.token.Word.{Word}
 use Rattle.uc_tree.specs.declared.token.Word.TheVariants as word
 use Rattle.uc_tree.specs.declared.kinds.Base.{Base}
 use Rattle.uc_grammar.specs.Spell.{kind_at, pos_at, Run, ListRun}
-use Rattle.uc_grammar.specs.Form.{Form, nothing, skip, token_or, look, here, bind, apply, listed, Spells}
+use Rattle.uc_grammar.specs.Form.{Form, nothing, skip, look, here, bind, apply, listed, Spells}
 use Rattle.uc_grammar.specs.Tables.{base_of, word_of}
-use Rattle.uc_grammar.specs.Grammar.{inner, name_at, name_form, base_by, param_form, kind_by, kind_form, word_item, item_at, item_form}
+use Rattle.uc_grammar.specs.Grammar.{inner, name_at, base_by, param_form, kind_by, word_item, item_at, item_form}
 use Rattle.uc_grammar.proofs.AllForms.{grows}
 use Rattle.uc_formed.proofs.Sure.{Sure}
 

@@ -10,7 +10,6 @@ use Rattle.uc_tree.specs.declared.kinds.Role.{Role}
 use Rattle.uc_tree.specs.declared.kinds.Role.TheVariants as role
 use Rattle.uc_tree.specs.declared.kinds.Owner.{Owner}
 use Rattle.uc_tree.specs.declared.kinds.Owner.TheVariants as owner
-use Rattle.uc_tree.specs.declared.kinds.Param.{Param}
 use Rattle.uc_tree.specs.declared.token.TokenKind.{TokenKind}
 use Rattle.uc_tree.specs.declared.token.TokenKind.TheVariants as token
 use Rattle.uc_tree.specs.declared.token.Word.{Word}
@@ -21,7 +20,7 @@ use Rattle.uc_tree.specs.Programs.{Sig, Routine, MemberForm, FieldsMember, Routi
 use Rattle.uc_grammar.specs.Form.{inside}
 use Rattle.uc_grammar.specs.Names.{ClassPart, AccessPart, MemberPart, stmt_name, block_stmt_name, part_name}
 use Rattle.uc_grammar.specs.Tables.{word_of, base_of, access_of, scalar_of}
-use Rattle.uc_grammar.specs.Grammar.{inner, expr_form, name_form, scalar_by, scalar_form, kind_form, mark_form, maybe_sign, params_rest, params_form, sig_of, inits_form, plain_form, maker_form, fields_rest, member_end, maker_end, member_routine, member_maker, based_at, based_member, word_member, member_at, part_by, class_part_form, members_of, class_rest, class_form, using_rest, constant_rest, item_end, free_routine, outer_routine, based_item_at, based_item, role_of, outer_maker, word_item, item_at, item_form, program_form}
+use Rattle.uc_grammar.specs.Grammar.{inner, expr_form, name_form, scalar_by, kind_form, mark_form, maybe_sign, params_rest, params_form, sig_of, inits_form, plain_form, maker_form, fields_rest, member_routine, member_maker, based_at, based_member, word_member, member_at, part_by, class_part_form, members_of, class_rest, class_form, using_rest, constant_rest, free_routine, outer_routine, based_item_at, based_item, role_of, outer_maker, word_item, item_at, item_form, program_form}
 use Rattle.uc_rules.specs.declared.rules.Sort.{Sort}
 use Rattle.uc_rules.specs.declared.rules.Sort.TheVariants as sort
 use Rattle.uc_rules.specs.Names.{is_here}

@@ -2,7 +2,6 @@
 use Rattle.std.proofs.Common.{◌≡◌, ℕ, ◌++◌, List, [], ◌∷◌, Option, Some, None, refl, ap, ◌∙◌}
 use Rattle.uc_tree.specs.declared.pos.Pos.{Pos}
 use Rattle.uc_tree.specs.declared.kinds.HandlerKind.{HandlerKind}
-use Rattle.uc_tree.specs.declared.token.TokenKind.{TokenKind}
 use Rattle.uc_tree.specs.declared.token.Word.{Word}
 use Rattle.uc_tree.specs.declared.token.Word.TheVariants as word
 use Rattle.uc_tree.specs.declared.token.Sign.TheVariants as sign
@@ -14,7 +13,7 @@ use Rattle.uc_grammar.specs.declared.start.StmtStart.TheVariants as start
 use Rattle.uc_grammar.specs.Form.{inside}
 use Rattle.uc_grammar.specs.Names.{Simple, Declares, Evaluates, stmt_name, block_stmt_name}
 use Rattle.uc_grammar.specs.Tables.{handler_of, stmt_start, word_of}
-use Rattle.uc_grammar.specs.Grammar.{name_form, maybe_sign, maybe_expr, simple_form, block_rest, block_form, condition_form, maybe_stmt, simple_stmt, if_rest, while_rest, do_rest, for_start_form, for_rest, maybe_name_closed, Caught, any_event, one_event, caught_form, handler_by, handler_form, tried, try_rest, raised_form, throw_rest, at_form, raise_rest, events_form, enable_rest, disable_rest, guard_form, members_form, clause_form, accept_form, outs_form, together_rest, cin_rest, no_arguments, migrate_rest, stmt_by, stmt_form}
+use Rattle.uc_grammar.specs.Grammar.{name_form, maybe_sign, maybe_expr, simple_form, block_rest, block_form, condition_form, maybe_stmt, simple_stmt, if_rest, while_rest, do_rest, for_start_form, for_rest, maybe_name_closed, Caught, caught_form, handler_by, handler_form, tried, try_rest, raised_form, throw_rest, at_form, raise_rest, events_form, enable_rest, disable_rest, guard_form, members_form, clause_form, accept_form, outs_form, cin_rest, no_arguments, stmt_by, stmt_form}
 use Rattle.uc_sound.specs.Formed.{nameless, own_nameless}
 use Rattle.uc_formed.proofs.Sure.{Sure, Each, sure_nothing, sure_empty, sure_skip, sure_expect, sure_or, sure_look, sure_here, sure_bind, sure_apply, sure_many, sure_listed, any_piece, sure_before}
 

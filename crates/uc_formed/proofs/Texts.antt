@@ -1,6 +1,6 @@
 -- Texts: how many tokens they have, and that programs whose texts are accepted are well typed.
-use Rattle.std.proofs.Common.{◌≡◌, ℕ, zero, suc, ◌+◌, ◌-◌, ◌≤◌, List, [], ◌∷◌, length, refl, subst, arith}
-use Rattle.uc_tree.specs.declared.limits.TheConstants.{LAST_CLASS, NESTING}
+use Rattle.std.proofs.Common.{ℕ, zero, suc, ◌-◌, ◌≤◌, List, [], ◌∷◌, length, refl, subst, arith}
+use Rattle.uc_tree.specs.declared.limits.TheConstants.{NESTING}
 use Rattle.uc_tree.specs.declared.scan.ScanPlace.{ScanPlace}
 use Rattle.uc_tree.specs.declared.scan.Lexeme.{Lexeme}
 use Rattle.uc_tree.specs.declared.scan.Lexeme.TheVariants.{Skip, Take, Stop}

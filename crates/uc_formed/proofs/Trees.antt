@@ -1,15 +1,14 @@
 -- A program of formed items is formed.
-use Rattle.std.proofs.Common.{◌≡◌, ℕ, zero, suc, ◌≤◌, List, [], ◌∷◌, length, Bool, true, false, Option, Some, None, refl, sym, ap, subst, arith}
+use Rattle.std.proofs.Common.{◌≡◌, ℕ, zero, suc, ◌≤◌, List, [], ◌∷◌, length, Option, Some, None, refl, subst, arith}
 use Rattle.std.specs.Prelude.{slice_get, option_and_then}
 use Rattle.uc_tree.specs.declared.limits.TheConstants.{LAST_CLASS}
-use Rattle.uc_tree.specs.declared.kinds.Base.TheVariants as base
 use Rattle.uc_tree.specs.declared.kinds.Owner.{Owner}
 use Rattle.uc_tree.specs.declared.kinds.Owner.TheVariants as owner
 use Rattle.uc_tree.specs.Cells.{classes_of}
 use Rattle.uc_tree.specs.Constants.{constants_of}
-use Rattle.uc_tree.specs.Numbering.{is_plain, Defined, defined_by, in_class, routines_of}
+use Rattle.uc_tree.specs.Numbering.{Defined, defined_by, routines_of}
 use Rattle.uc_tree.specs.Programs.{Sig, Routine, MemberForm, FieldsMember, RoutineMember, ProtoMember, Member, Class, Constant, Item, ClassItem, RoutineItem, ConstItem, ProtoItem, ForwardItem, UsingItem, Program}
-use Rattle.uc_rules.specs.Names.{is_here, item_sig, form_sig, routine_sig, method_sig}
+use Rattle.uc_rules.specs.Names.{item_sig, form_sig, routine_sig, method_sig}
 use Rattle.uc_rules.specs.Sorts.{class_at}
 use Rattle.uc_agreement.proofs.Ties.{some_same, none_some}
 use Rattle.uc_sound.specs.Formed.{IsFormed}
