@@ -67,6 +67,6 @@ law_well_typed text p t =
       sound = sound;
       mains = λ r b. law_mains p formed t.no_break r b;
       begins = λ r o b. begins (table_of p) (source_of p) sound r o (law_mains p formed t.no_break r b);
-      states = λ reads u i. typed p sound (law_mains p formed t.no_break (main_number p) (of_program refl)) reads u i;
+      states = λ u i r. typed p sound (law_mains p formed t.no_break (main_number p) (of_program refl)) u i r;
       reached = λ r o b reads u goes. law_runs p formed t.no_break r o (law_mains p formed t.no_break r b) reads u goes;
     }

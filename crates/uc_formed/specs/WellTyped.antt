@@ -40,6 +40,15 @@ pub data IsTaskState (p : Program) : State → Type 0 where
   told : {s u : State} (q : Request) (a : Answer) → IsTaskState p s → quiet (source_of p) s ≡ Asks q u → Suits q a → IsTaskState p (answered (source_of p) a u)
   drawn : {s : State} (hand : List (ℕ × Members)) → IsTaskState p s → Inhand (table_of p) hand → IsTaskState p (with_hand hand s)
 
+-- What is read of bindings at each step on the way to a state is of its type.
+abbrev pub ReadsTo : (p : Program) (u : State) → IsTaskState p u → Type 0
+ReadsTo p _ (begun o) = Unit {0}
+ReadsTo p _ (spawned {s} o n i e) = ReadsIn (table_of p) s × ReadsTo p s i
+ReadsTo p _ (steps {s} i e) = ReadsIn (table_of p) s × ReadsTo p s i
+ReadsTo p _ (ticks {s} i e) = ReadsIn (table_of p) s × ReadsTo p s i
+ReadsTo p _ (told {s} q a i e k) = ReadsIn (table_of p) s × ReadsTo p s i
+ReadsTo p _ (drawn {s} hand i h) = ReadsTo p s i
+
 pub record IsWellTyped (p : Program) : Type 0 where
   -- each routine is in order under its signature
   pub sound : Sound (table_of p) (source_of p)
@@ -49,8 +58,8 @@ pub record IsWellTyped (p : Program) : Type 0 where
   pub begins : (r o : ℕ) → BeginsTask p r → Typed (table_of p) [] (first_state (routine_of (source_of p) r) o)
   -- and all that it reaches is in order, as far as what it reads of bindings is of its type
   pub reached : (r o : ℕ) → BeginsTask p r → ((u : State) → Reaches p r o u → ReadsIn (table_of p) u) → (u : State) → Reaches p r o u → Typed (table_of p) [] u
-  -- so is each state of each task, as far as what tasks read of bindings is of its type
-  pub states : ((u : State) → IsTaskState p u → ReadsIn (table_of p) u) → (u : State) → IsTaskState p u → Typed (table_of p) [] u
+  -- so is each state of each task, as far as what was read of bindings on the way to it is of its type
+  pub states : (u : State) (i : IsTaskState p u) → ReadsTo p u i → Typed (table_of p) [] u
 
 abbrev pub LawWellTyped : Type 0
 LawWellTyped = (text : List ℕ) (p : Program) → IsTextOf text p → IsWellTyped p
