@@ -1,5 +1,5 @@
 -- Each state of each task of a program whose source is sound is in order.
-use Rattle.std.proofs.Common.{◌≡◌, ℕ, [], subst}
+use Rattle.std.proofs.Common.{◌≡◌, [], subst}
 use Rattle.uc_tree.specs.Programs.{Program}
 use Rattle.uc_tree.specs.Source.{Source}
 use Rattle.uc_entry.specs.declared.request.Request.TheVariants.{Spawn}

@@ -1,8 +1,7 @@
 -- The mains with which tasks begin: that of the program, and those of task classes.
-use Rattle.std.proofs.Common.{◌≡◌, ℕ, ◌+◌, ◌≤◌, ◌++◌, List, [], ◌∷◌, length, Option, Some, None, Bool, true, false, refl, sym, ap, ◌∙◌, subst, arith, map}
+use Rattle.std.proofs.Common.{◌≡◌, ℕ, ◌+◌, ◌≤◌, ◌++◌, List, [], ◌∷◌, length, Some, None, Bool, true, false, refl, sym, ap, ◌∙◌, subst, arith, map}
 use Rattle.std.specs.Prelude.{◌&&◌, slice_get, if◌then◌else◌, nat_eq}
 use Rattle.std.proofs.lemmas.Bool.{eqb-true}
-use Rattle.uc_tree.specs.declared.kinds.Base.{Base}
 use Rattle.uc_tree.specs.declared.kinds.Kind.{Kind}
 use Rattle.uc_tree.specs.declared.kinds.Kind.TheVariants as kind
 use Rattle.uc_tree.specs.declared.kinds.Owner.{Owner}
@@ -10,23 +9,23 @@ use Rattle.uc_tree.specs.declared.kinds.Owner.TheVariants as owner
 use Rattle.uc_tree.specs.declared.kinds.Param.{Param}
 use Rattle.uc_tree.specs.Names.{same_name}
 use Rattle.uc_tree.specs.Cells.{classes_of}
-use Rattle.uc_tree.specs.Numbering.{main_name, is_mutex, is_plain, Defined, defined_by, item_defined, items_defined, routines_of}
+use Rattle.uc_tree.specs.Numbering.{main_name, is_mutex, is_plain, Defined, defined_by, item_defined, items_defined}
 use Rattle.uc_tree.specs.Objects.{class_at, place_of}
 use Rattle.uc_tree.specs.ProgramMain.{main_among, main_number, is_main_sig, returns_as_main, no_params}
-use Rattle.uc_tree.specs.Programs.{Sig as Declared, Routine as Body, Class, Item, ClassItem, RoutineItem, ConstItem, ProtoItem, ForwardItem, UsingItem, Program}
+use Rattle.uc_tree.specs.Programs.{Routine as Body, Class, Item, ClassItem, RoutineItem, ConstItem, ProtoItem, ForwardItem, UsingItem, Program}
 use Rattle.uc_resolve.specs.Resolve.{main_at, place_by}
 use Rattle.uc_rules.specs.declared.rule.Rule.TheVariants.{S3}
 use Rattle.uc_rules.specs.Sorts.{has_main, is_task}
 use Rattle.uc_rules.specs.ItemBreaks.{is_program_main, mains_in, main_breaks}
 use Rattle.uc_rules.specs.ProgramVisits.{program_visits}
-use Rattle.uc_typing.specs.Typing.{Sig, Table, IsMain}
+use Rattle.uc_typing.specs.Typing.{Sig, IsMain}
 use Rattle.uc_typing.specs.States.{IsOfTask, IsTask}
 use Rattle.uc_agreement.specs.Agreement.{param_ty}
 use Rattle.uc_agreement.specs.Unbroken.{Unbroken}
 use Rattle.uc_agreement.proofs.Ties.{false_true}
 use Rattle.uc_agreement.proofs.Unbroken.{none_left, holds}
 use Rattle.uc_sound.specs.Formed.{IsFormed}
-use Rattle.uc_sound.specs.Sounds.{BeginsTask, of_program, of_class, LawMains}
+use Rattle.uc_sound.specs.Sounds.{of_program, of_class, LawMains}
 use Rattle.uc_sound.specs.Tables.{of_kind, table_of}
 use Rattle.uc_sound.proofs.Lists.{left_is, right_is, get_right}
 use Rattle.uc_sound.proofs.Signatures.{has_sig}
