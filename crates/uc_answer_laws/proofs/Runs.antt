@@ -26,7 +26,7 @@ stood_none : (sites : List Site) → Stood sites []
 unfolding stack_at stacked open_at waiting entries_at
 stood_none sites = record { tasks = λ o. refl; opened = λ o a rest h. absurd (cc h); calls = λ o. tt }
 
-form_none : (t : ℕ) → asked_form t [] ≡ JustGo
+pub form_none : (t : ℕ) → asked_form t [] ≡ JustGo
 unfolding asked_form
 form_none t = refl
 
