@@ -1,5 +1,5 @@
 -- Hands that are laid back and drawn again, rides, and answers that suit.
-use Rattle.std.proofs.Common.{◌≡◌, ℕ, zero, suc, Bool, true, false, List, [], ◌∷◌, Option, Some, None, refl, sym, ap, ◌∙◌, subst}
+use Rattle.std.proofs.Common.{◌≡◌, ℕ, suc, Bool, true, false, List, [], ◌∷◌, Option, Some, None, refl, subst}
 use Rattle.std.specs.Prelude.{nat_eq, if◌then◌else◌}
 use Rattle.uc_tree.specs.Source.{Source}
 use Rattle.uc_entry.specs.Keyed.{find}
@@ -14,7 +14,7 @@ use Rattle.uc_machine.specs.Answering.{with_hand}
 use Rattle.uc_machine.specs.Rides.{Rides, slices, goes_on, ticks, asks}
 use Rattle.uc_meaning.specs.Runs.{with_home, hand_of, or_else}
 use Rattle.uc_typing.specs.Typing.{Num, Raw, Clu, Pro, Table}
-use Rattle.uc_typing.specs.States.{Sound, Typed, Asked as AskedIn, After, Inhand, Parked, Suits}
+use Rattle.uc_typing.specs.States.{Sound, Typed, Asked as AskedIn, After, Inhand, Suits}
 use Rattle.uc_typing.specs.Laws.{ReadsIn}
 use Rattle.uc_typing.proofs.Answers.{handed}
 use Rattle.uc_typing.proofs.Keeps.{keeps}

@@ -1,5 +1,5 @@
 -- Which requests spawn a task, and which tasks have ended.
-use Rattle.std.proofs.Common.{◌≡◌, ℕ, ℤ, zero, suc, ◌==◌, ◌||◌, Bool, true, false, cond, not, List, [], ◌∷◌, ◌++◌, Option, Some, None, take, length, refl, sym, ap, ◌∙◌, subst, append-nil, append_assoc}
+use Rattle.std.proofs.Common.{◌≡◌, ℕ, ℤ, zero, suc, ◌==◌, ◌||◌, Bool, true, false, not, List, [], ◌∷◌, ◌++◌, Option, Some, None, take, length, refl, sym, ap, ◌∙◌, append-nil, append_assoc}
 use Rattle.std.specs.Prelude.{pos, nat_lt}
 use Rattle.std.proofs.lemmas.Bool.{eqb-true}
 use Rattle.uc_tree.specs.Programs.{Site}
@@ -11,12 +11,14 @@ use Rattle.uc_entry.specs.declared.entry.Options.{Options}
 use Rattle.uc_entry.specs.declared.request.Piece.{Piece}
 use Rattle.uc_entry.specs.declared.request.Request.{Request}
 use Rattle.uc_entry.specs.declared.request.Request.TheVariants as ask
-use Rattle.uc_acts.specs.Journal.{Journal, Cost, no_cost, asking, inside, own_object, first_or_0, is_fault}
+use Rattle.uc_entry.specs.declared.fault.RunFault.TheVariants as run_fault
+use Rattle.uc_entry.specs.Faults.{fault_number}
+use Rattle.uc_acts.specs.Journal.{Journal, Cost, no_cost, asking, inside, own_object, first_or_0}
 use Rattle.uc_acts.specs.Queues.{waiting, next, cluster_count, processor_count, is_in_use}
 use Rattle.uc_acts.specs.Known.{object_count, task_count, owner, spawns, has_ended, ends}
 use Rattle.uc_acts.specs.Pending.{pending as pending_at, oldest_in}
 use Rattle.uc_acts.specs.Doors.{open_at, offered, offers, site_at, blocked}
-use Rattle.uc_acts.specs.Acts.{admission, met_by, called, took, accepted, signalled, handed, front, poll_entry, prints, or_fault, row, is_faulty, truth}
+use Rattle.uc_acts.specs.Acts.{fault, admission, met_by, called, took, accepted, signalled, handed, front, poll_entry, prints, or_fault, row}
 use Rattle.uc_acts.proofs.SoundLemmas.{ended_push}
 
 -- the task that a request spawns
@@ -68,7 +70,7 @@ module _ (u : ℕ) where
         one true e h = eqb-true u (task_count j) e
         one false e h = clash h
 
-        by : (b : Bool) → spawns (or_fault b (asking kind.Spawn p t k o (pos (task_count j)) (pos 0)) _) u ≡ true → u ≡ task_count j
+        by : (b : Bool) → spawns (or_fault b (asking kind.Spawn p t k o (pos (task_count j)) (pos 0)) (fault p t k (fault_number run_fault.TooManyTasks) line)) u ≡ true → u ≡ task_count j
         by true h = one (u == task_count j) refl h
         by false h = clash h
     spawner (ask.Make class) h = clash (sym (none_or (nat_lt (object_count j) OBJECTS) _ _ refl refl) ∙ h)

@@ -1,5 +1,5 @@
 -- Each world that a run leaves is in order.
-use Rattle.std.proofs.Common.{◌≡◌, ℕ, ◌==◌, ◌≤◌, Bool, true, false, List, [], ◌∷◌, ◌++◌, Option, Some, None, refl, sym, ap, ◌∙◌, subst, arith}
+use Rattle.std.proofs.Common.{◌≡◌, ℕ, ◌==◌, ◌≤◌, Bool, true, false, List, [], ◌∷◌, ◌++◌, Some, None, refl, sym, ap, ◌∙◌, subst, arith}
 use Rattle.std.specs.Prelude.{if◌then◌else◌}
 use Rattle.std.proofs.lemmas.Bool.{eqb-true}
 use Rattle.uc_tree.specs.Source.{Source, routine_of}
@@ -15,21 +15,21 @@ use Rattle.uc_acts.specs.Journal.{Journal, begin, held, is_over, own_object, cos
 use Rattle.uc_acts.specs.Known.{task_count, spawns, takes_out, has_ended}
 use Rattle.uc_acts.specs.Queues.{running}
 use Rattle.uc_acts.specs.Answers.{answer_to}
-use Rattle.uc_acts.specs.Serves.{Serves, left}
+use Rattle.uc_acts.specs.Serves.{left}
 use Rattle.uc_acts.specs.Sound.{Unborn, spot}
 use Rattle.uc_acts.specs.Acts.{act, row, fault, is_faulty, dispatch, lone_limit}
-use Rattle.uc_acts.specs.KernelRuns.{InRange, Fits, MayAsk, KernelRuns}
+use Rattle.uc_acts.specs.KernelRuns.{InRange, MayAsk, KernelRuns}
 use Rattle.uc_acts.proofs.Living.{going_row}
 use Rattle.uc_acts.proofs.Rest.{settled_calm}
 use Rattle.uc_agreement.proofs.Ties.{false_true}
 use Rattle.uc_acts.proofs.Bounds.{over_limit}
-use Rattle.uc_answer_laws.specs.Suiting.{Form, IsForm, JustGo, form_of_request, asked_form}
+use Rattle.uc_answer_laws.specs.Suiting.{Form, IsForm, JustGo, asked_form}
 use Rattle.uc_answer_laws.proofs.Told.{SpotSuits, form_push, no_both}
 use Rattle.uc_answer_laws.proofs.Runs.{kept_run, law_suiting, form_none}
 use Rattle.uc_answer_laws.proofs.Asking.{law_asking}
-use Rattle.uc_machine.specs.Quiet.{State, Members, no_members, first_state}
-use Rattle.uc_machine.specs.Answering.{answered, child_of, child_main, with_hand}
-use Rattle.uc_meaning.specs.Runs.{World, May, Runs, AsksIn, first_world, first_home, hand_of, drawn, or_else, world_after, bare, gives, no_room, acts, begun, more}
+use Rattle.uc_machine.specs.Quiet.{State, no_members, first_state}
+use Rattle.uc_machine.specs.Answering.{answered, child_of, child_main}
+use Rattle.uc_meaning.specs.Runs.{World, May, Runs, AsksIn, first_world, hand_of, drawn, or_else, world_after, bare, gives, no_room, acts, begun, more}
 use Rattle.uc_program_laws.specs.Fitting.{MayFit, RunFits}
 use Rattle.uc_program_laws.proofs.Makes.{law_ends}
 use Rattle.uc_program_laws.proofs.Alive.{law_alive}
@@ -41,7 +41,7 @@ use Rattle.uc_typing.proofs.Answers.{begins, law_answered}
 use Rattle.uc_sound.specs.Sounds.{of_program}
 use Rattle.uc_sound.specs.Tables.{table_of}
 use Rattle.uc_formed.proofs.Texts.{law_well_typed}
-use Rattle.uc_typed_runs.specs.TypedRuns.{RideReads, MayRead, RunReads, Awaits, AtHome, IsTyped, LawTypedRuns, LawTypedTexts}
+use Rattle.uc_typed_runs.specs.TypedRuns.{RideReads, MayRead, RunReads, Awaits, AtHome, LawTypedRuns, LawTypedTexts}
 use Rattle.uc_typed_runs.proofs.Spawning.{Spawned, spawner, ended_before}
 use Rattle.uc_typed_runs.proofs.Hands.{suits, asked_handed, asked_hand, rides_typed, found_home, drawn_hand, either_home}
 
@@ -84,7 +84,7 @@ module _ (table : Table) (source : Source) (sound : Sound table source) (main : 
       hand : Inhand table s.env.hand
       hand = asked_hand table source asked.request s no_fault own
 
-      after : World
+      abbrev after : World
       after = world_after source (act opts source.sites input j p t n asked) w t s
 
       own_after : has_ended t (j ++ a) ≡ false → Awaits table source (asked_form t (j ++ a)) (bare s)
