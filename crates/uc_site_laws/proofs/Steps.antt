@@ -30,7 +30,7 @@ use Rattle.uc_machine.specs.Quiet as quiet
 use Rattle.uc_machine.specs.Pieces as piece
 use Rattle.uc_machine.specs.Pieces.{Value, Number, Place, Running, Object, Nothing, Todo, Sort, Active, State, Env, Members, Step, Goes, Ticks, Asks, Outcome, Gives, Faults, at, in_env, goes, fault, asks, turns, top, below, number, is_zero, written}
 use Rattle.uc_step_laws.proofs.Kept.{either}
-use Rattle.uc_site_laws.specs.Named.{IsSite, NamedExpr, NamedExprs, NamedObject, NamedMaybe, NamedItem, NamedItems, NamedClean, NamedRaised, NamedStmt, NamedStmts, NamedEvent, NamedTask, NamedHandlers, NamedClauses, NamedRoutine}
+use Rattle.uc_site_laws.specs.Named.{IsSite, NamedExpr, NamedExprs, NamedObject, NamedMaybe, NamedItem, NamedItems, NamedClean, NamedRaised, NamedAt, NamedStmt, NamedStmts, NamedEvent, NamedTask, NamedHandlers, NamedClauses, NamedRoutine}
 use Rattle.uc_site_laws.specs.Naming.{NamedPiece, Named, NamedRuns, NamedEnv, NamedState, NamesKnown, NamedAsk, NamedStep}
 use Rattle.uc_site_laws.proofs.Kept.{NamedMoved, like, owned_named, written_named, born_named, forgotten_named, with_links_named, enlivened_named, wake_named, suspend_named, finish_named, escape_named, taken_down_named, take_down_named}
 
@@ -180,8 +180,13 @@ module _ (sites : List Site) where
 
   raised : (r : Raised) (todo : List Todo) → NamedRaised r → Named sites todo → Named sites (raising.raised_todo r todo)
   raised (src.Plainly n) todo k h = (tt, (tt, (tt, h)))
-  raised (src.BuiltAt n c e) todo k h = (tt, (k.1, (tt, (tt, (tt, (tt, h))))))
+  raised (src.BuiltAt n c e) todo k h = (tt, (k, (tt, (tt, (tt, (tt, h))))))
   raised (src.AgainFrom c) todo k h = (tt, (tt, (tt, h)))
+
+  named_at : (r : Raised) → NamedAt r → NamedRaised r
+  named_at (src.Plainly n) h = tt
+  named_at (src.BuiltAt n c e) h = h.1
+  named_at (src.AgainFrom c) h = tt
 
   handled : (x : Handler) (todo : List Todo) → NamedStmts sites x.body → Named sites todo → Named sites (raising.handler_todo x todo)
   handled x todo k h = (tt, (tt, (tt, (tt, (tt, (tt, (k, (tt, h))))))))
@@ -343,7 +348,7 @@ module _ (sites : List Site) where
     event_step (src.Throw line r) todo n h = go _ _ (raised r _ n (tt, (tt, h)))
     event_step (src.Raise line r) todo n h = go _ _ (raised r _ n (tt, (tt, h)))
     event_step (src.Try line body hs) todo n h = go _ _ (n.0, (n.1, (tt, h)))
-    event_step (src.RaiseAt line r a) todo n h = go _ _ (raised r _ n.0 (n.1, (tt, (tt, h))))
+    event_step (src.RaiseAt line r a) todo n h = go _ _ (raised r _ (named_at r n.0) (n.1, (tt, (tt, h))))
     event_step (src.Enable line events cell a) todo n h = go _ _ (tt, (tt, (n, (tt, (tt, h)))))
     event_step (src.Disable line events cell a) todo n h = go _ _ (tt, (n, (tt, (tt, h))))
 

@@ -88,11 +88,16 @@ NamedClean (Destroys e) = NamedExpr e
 NamedClean (DestroysAll n e) = NamedExpr e
 NamedClean c = Unit {0}
 
--- an event has a number
 abbrev pub NamedRaised : Raised → Type 0
-NamedRaised (Plainly n) = n < EVENTS
-NamedRaised (BuiltAt n k e) = (n < EVENTS) × NamedExpr e
+NamedRaised (Plainly n) = Unit {0}
+NamedRaised (BuiltAt n k e) = NamedExpr e
 NamedRaised (AgainFrom k) = Unit {0}
+
+-- what is raised at another execution is raised by its number
+abbrev pub NamedAt : Raised → Type 0
+NamedAt (Plainly n) = n < EVENTS
+NamedAt (BuiltAt n k e) = (n < EVENTS) × NamedExpr e
+NamedAt (AgainFrom k) = ⊥
 
 module _ (sites : List Site) where
   abbrev mutual
@@ -125,7 +130,7 @@ module _ (sites : List Site) where
     NamedEvent (Throw line r) = NamedRaised r
     NamedEvent (Raise line r) = NamedRaised r
     NamedEvent (Try line body hs) = NamedStmts body × NamedHandlers hs
-    NamedEvent (RaiseAt line r e) = NamedRaised r × NamedExpr e
+    NamedEvent (RaiseAt line r e) = NamedAt r × NamedExpr e
     NamedEvent (Enable line events cell a) = NamedStmt a
     NamedEvent (Disable line events cell a) = NamedStmt a
 
