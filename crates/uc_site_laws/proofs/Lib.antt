@@ -4,3 +4,4 @@ pub mod Walk
 pub mod Expressions
 pub mod Statements
 pub mod Routines
+pub mod Worlds

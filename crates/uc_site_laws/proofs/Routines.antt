@@ -231,7 +231,7 @@ unwritten p sites (u ∷ us) = (unwritten_body p sites u.role u.class, unwritten
 
 record IsNext (sites : List Site) (n : ℕ) (x : Site) (xs : List Site) : Type 0 where
   one : IsSite sites n (length x.clauses)
-  more : drop (n + 1) sites ≡ xs
+  more : drop (suc n) sites ≡ xs
 
 no_more : (n : ℕ) (x : Site) (xs : List Site) → drop n [] ≡ x ∷ xs → ⊥
 no_more zero x xs h = cc
@@ -250,7 +250,10 @@ next_one (y ∷ sites) (suc n) x xs h =
 
 stand_behind : (sites : List Site) (n : ℕ) (xs : List Site) → drop n sites ≡ xs → StandAt sites n xs
 stand_behind sites n [] h = tt
-stand_behind sites n (x ∷ xs) h = let k = next_one sites n x xs h in (k.one, stand_behind sites (n + 1) xs k.more)
+stand_behind sites n (x ∷ xs) h =
+    let k = next_one sites n x xs h in
+    let e : suc n ≡ n + 1 = omega arith in
+    (k.one, stand_behind sites (n + 1) xs (subst (λ m. drop m sites ≡ xs) e k.more))
 
 pub source_named : (p : Program) → NamedSource (sites_of p) (source_of p)
 source_named p n =

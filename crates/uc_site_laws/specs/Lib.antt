@@ -1,3 +1,4 @@
 pub mod Named
 pub mod Naming
 pub mod SiteLaws
+pub mod Holds

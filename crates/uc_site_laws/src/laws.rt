@@ -1,6 +1,7 @@
 // The laws: each is a function whose contract is the law.
 
-ghost use Rattle.uc_site_laws.specs.SiteLaws.{LawSource, LawSteps};
+ghost use Rattle.uc_site_laws.specs.Holds.{LawHolds};
+ghost use Rattle.uc_site_laws.specs.SiteLaws.{LawNames, LawSource, LawSteps};
 
 /// Where all code of a source names what is known, so does all that a task has to do, from its start
 /// on: each quiet step keeps that, and each answer. So what it asks names a member by a number that
@@ -14,4 +15,17 @@ pub fn law_steps()
 /// 31, and an event that is raised at another execution has one below 64.
 pub fn law_source()
     ensures { LawSource }
+{}
+
+/// So in every run of a program what a task asks names a mutex member by a number of at most 31, and
+/// an accept statement of the program, with a mask of its clauses.
+pub fn law_names()
+    ensures { LawNames }
+{}
+
+/// What a program asks in its runs fits where, as long as all before fits, each object of which
+/// something is asked is in hand, or is made and not in hand where it is called, and where the tasks,
+/// clusters and processors that it names are there.
+pub fn law_holds()
+    ensures { LawHolds }
 {}
