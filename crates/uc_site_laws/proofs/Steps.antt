@@ -31,8 +31,9 @@ use Rattle.uc_machine.specs.Pieces as piece
 use Rattle.uc_machine.specs.Pieces.{Value, Number, Place, Running, Object, Nothing, Todo, Sort, Active, State, Env, Members, Step, Goes, Ticks, Asks, Outcome, Gives, Faults, at, in_env, goes, fault, asks, turns, top, below, number, is_zero, written}
 use Rattle.uc_step_laws.proofs.Kept.{either}
 use Rattle.uc_site_laws.specs.Named.{IsSite, NamedExpr, NamedExprs, NamedObject, NamedMaybe, NamedItem, NamedItems, NamedClean, NamedRaised, NamedAt, NamedStmt, NamedStmts, NamedEvent, NamedTask, NamedHandlers, NamedClauses, NamedRoutine}
-use Rattle.uc_site_laws.specs.Naming.{NamedPiece, Named, NamedRuns, NamedEnv, NamedState, NamesKnown, NamedAsk, NamedStep}
-use Rattle.uc_site_laws.proofs.Kept.{NamedMoved, like, owned_named, written_named, born_named, forgotten_named, with_links_named, enlivened_named, wake_named, suspend_named, finish_named, escape_named, taken_down_named, take_down_named}
+use Rattle.uc_site_laws.specs.Naming.{NamedPiece, Named, NamedActive, NamedState, NamesKnown, NamedAsk, NamedStep}
+use Rattle.uc_site_laws.specs.Resting.{AllWait, RestsEnv}
+use Rattle.uc_site_laws.proofs.Kept as kept
 
 -- masks: each guard is a bit
 
@@ -53,6 +54,15 @@ mask_small (v ∷ vs) =
     omega (arith, h, b, e)
 
 module _ (sites : List Site) where
+  pub calm : (a : Active) (w : Option UnwindReason) → NamedActive sites a → NamedActive sites (record a { raised = w })
+  calm a w h = h
+
+  pub likes : {e f : Env} → RestsEnv (NamedActive sites) (NamedActive sites) e → f.hand ≡ e.hand → f.house ≡ e.house → RestsEnv (NamedActive sites) (NamedActive sites) f
+  likes h g i = kept.like (NamedActive sites) (NamedActive sites) calm h g i
+
+  abbrev pub Moves : Moved (List Todo) Value → Type 0
+  Moves m = kept.RestsMoved (NamedActive sites) (NamedActive sites) calm m
+
   -- what is to do in a routine
 
   behind : (p : Purpose) (line : ℕ) → Named sites (quiet.behind_body p line)
@@ -124,7 +134,7 @@ module _ (sites : List Site) where
   found_or None a cs other h k = k
   found_or (Some x) a cs other h k = h
 
-  seek : (v : Option Visited) (e : Event) (cs : List Active) → NamedRuns sites cs → NamedFound (raising.seek v e cs)
+  seek : (v : Option Visited) (e : Event) (cs : List Active) → AllWait (NamedActive sites) (NamedActive sites) cs → NamedFound (raising.seek v e cs)
   seek None e [] h = tt
   seek (Some v) e [] h = tt
   seek None e (a ∷ cs) h = found_or (raising.hit_in e a.control) a cs (raising.seek a.handles e cs) (hit_in e a.control h.0) (seek a.handles e cs h.1)
@@ -229,18 +239,18 @@ module _ (sites : List Site) where
   polled None todo h = (tt, h)
   polled (Some why) todo h = h
 
-  module _ (s : State) (callers : NamedRuns sites s.callers) (env : NamedEnv sites s.env) where
+  module _ (s : State) (callers : AllWait (NamedActive sites) (NamedActive sites) s.callers) (env : RestsEnv (NamedActive sites) (NamedActive sites) s.env) where
     -- with other operands and something else to do
     pub go : (todo : List Todo) (vs : List Value) → Named sites todo → NamedState sites (at todo vs s)
-    go todo vs h = record { control = h; callers = callers; env = env }
+    go todo vs h = record { run = h; callers = callers; env = env }
 
     -- and with something written
-    pub go_in : (todo : List Todo) (vs : List Value) (e : Env) → Named sites todo → NamedEnv sites e → NamedState sites (at todo vs (in_env e s))
-    go_in todo vs e h i = record { control = h; callers = callers; env = i }
+    pub go_in : (todo : List Todo) (vs : List Value) (e : Env) → Named sites todo → RestsEnv (NamedActive sites) (NamedActive sites) e → NamedState sites (at todo vs (in_env e s))
+    go_in todo vs e h i = record { run = h; callers = callers; env = i }
 
     -- with a request
-    pub asked_in : (r : Request) (todo : List Todo) (vs : List Value) (e : Env) → NamesKnown sites r → Named sites todo → NamedEnv sites e → NamedStep sites (asks r todo vs (in_env e s))
-    asked_in r todo vs e k h i = record { state = record { control = h; callers = callers; env = i }; names = k }
+    pub asked_in : (r : Request) (todo : List Todo) (vs : List Value) (e : Env) → NamesKnown sites r → Named sites todo → RestsEnv (NamedActive sites) (NamedActive sites) e → NamedStep sites (asks r todo vs (in_env e s))
+    asked_in r todo vs e k h i = record { state = record { run = h; callers = callers; env = i }; names = k }
 
     pub asked : (r : Request) (todo : List Todo) (vs : List Value) → NamesKnown sites r → Named sites todo → NamedStep sites (asks r todo vs s)
     asked r todo vs k h = record { state = go todo vs h; names = k }
@@ -248,12 +258,12 @@ module _ (sites : List Site) where
     pub stop : (f : RunFault) (todo : List Todo) (vs : List Value) → Named sites todo → NamedStep sites (fault f todo vs s)
     stop f todo vs h = record { state = go todo vs h; names = tt }
 
-    pub moved : (m : Moved (List Todo) Value) (todo : List Todo) (vs : List Value) → Named sites todo → NamedMoved sites m → NamedStep sites (piece.moves m (at todo vs s))
+    pub moved : (m : Moved (List Todo) Value) (todo : List Todo) (vs : List Value) → Named sites todo → Moves m → NamedStep sites (piece.moves m (at todo vs s))
     moved (To t) todo vs h m = m
     moved (Stops f) todo vs h m = record { state = go todo vs h; names = tt }
 
-    pub write : (p v : Value) → NamedEnv sites (written p v s.env)
-    write p v = written_named sites p v s.env env
+    pub write : (p v : Value) → RestsEnv (NamedActive sites) (NamedActive sites) (written p v s.env)
+    write p v = kept.written_rests (NamedActive sites) (NamedActive sites) calm p v s.env env
 
     pub outcome : (o : Outcome) (todo : List Todo) (vs : List Value) → Named sites todo → NamedStep sites (piece.outcome_step o todo vs s)
     outcome (Gives n) todo vs h = go todo _ h
@@ -316,13 +326,13 @@ module _ (sites : List Site) where
     -- exits
 
     -- the end of an activation
-    pub returned : (given : Value) (cs : List Active) → NamedRuns sites cs → Named sites s.run.control → NamedStep sites (piece.return_step given cs s)
-    returned given [] c h = record { state = record { control = h; callers = callers; env = env }; names = tt }
-    returned given (a ∷ cs) c h = record { control = c.0; callers = c.1; env = like sites env refl refl }
+    pub returned : (given : Value) (cs : List Active) → AllWait (NamedActive sites) (NamedActive sites) cs → Named sites s.run.control → NamedStep sites (piece.return_step given cs s)
+    returned given [] c h = record { state = record { run = h; callers = callers; env = env }; names = tt }
+    returned given (a ∷ cs) c h = record { run = c.0; callers = c.1; env = likes env refl refl }
 
-    past : (v : Visited) (given : Value) (cs : List Active) → NamedRuns sites cs → Named sites s.run.control → NamedStep sites (raising.return_past v given cs s)
-    past v given [] c h = record { state = record { control = h; callers = callers; env = env }; names = tt }
-    past v given (a ∷ cs) c h = record { control = (tt, c.0); callers = c.1; env = like sites env refl refl }
+    past : (v : Visited) (given : Value) (cs : List Active) → AllWait (NamedActive sites) (NamedActive sites) cs → Named sites s.run.control → NamedStep sites (raising.return_past v given cs s)
+    past v given [] c h = record { state = record { run = h; callers = callers; env = env }; names = tt }
+    past v given (a ∷ cs) c h = record { run = (tt, c.0); callers = c.1; env = likes env refl refl }
 
     end_by : (v : Option Visited) (given : Value) → Named sites s.run.control → NamedStep sites (raising.end_by v given s)
     end_by None given h = returned given s.callers callers h
@@ -342,7 +352,7 @@ module _ (sites : List Site) where
 
     pub swept : (n : ℕ) (e : Expr) (todo : List Todo) → NamedExpr e → Named sites todo → NamedStep sites (quiet.sweep_step n e todo s)
     swept zero e todo n h = go _ _ h
-    swept (suc m) e todo n h = record { control = (n, (tt, (n, h))); callers = callers; env = env }
+    swept (suc m) e todo n h = record { run = (n, (tt, (n, h))); callers = callers; env = env }
 
     event_step : (a : EventStmt) (todo : List Todo) → NamedEvent sites a → Named sites todo → NamedStep sites (quiet.event_step a todo s)
     event_step (src.Throw line r) todo n h = go _ _ (raised r _ n (tt, (tt, h)))
@@ -391,7 +401,7 @@ module _ (sites : List Site) where
     -- calls
 
     begun : (r : Routine) (this : Value) (counts : Bool) (todo : List Todo) (vs : List Value) → NamedStmts sites r.body → Named sites todo → NamedStep sites (quiet.begun_step r this counts todo vs s)
-    begun r this counts todo vs n h = record { control = routine r n; callers = (h, callers); env = like sites env refl refl }
+    begun r this counts todo vs n h = record { run = routine r n; callers = (h, callers); env = likes env refl refl }
 
     ends : (todo : List Todo) (vs : List Value) → Named sites todo → NamedStep sites (Asks ask.End (at todo vs s))
     ends todo vs h = record { state = go todo vs h; names = tt }
@@ -412,7 +422,7 @@ module _ (sites : List Site) where
 
     pub set_up : (r : Option Routine) (todo : List Todo) → NamedRoutine sites r → Named sites todo → NamedStep sites (quiet.set_up_step r todo s)
     set_up None todo n h = go _ _ h
-    set_up (Some r) todo n h = go_in _ _ _ h (written_named sites s.run.this _ _ (born_named sites _ (quiet.fresh r s.run.this) s.env (record { run = routine r n; callers = tt }) env))
+    set_up (Some r) todo n h = go_in _ _ _ h (kept.written_rests (NamedActive sites) (NamedActive sites) calm s.run.this _ _ (kept.born_rests (NamedActive sites) (NamedActive sites) calm _ (quiet.fresh r s.run.this) s.env (record { run = routine r n; callers = tt }) env))
 
     pub live : (r : Option Routine) (todo : List Todo) → Named sites todo → NamedStep sites (quiet.live_step r todo s)
     live None todo h = ends _ _ h
@@ -428,8 +438,8 @@ module _ (sites : List Site) where
     unless o step todo h k = either (NamedStep sites) (inside.is_held_up o s.env) _ step (stop BlockedInside todo _ h) k
 
     enter_at : (d : Option ℕ) (o m : ℕ) (todo : List Todo) → m ≤ MEMBERS → Named sites todo → NamedStep sites (monitors.enter_at d o m todo s)
-    enter_at (Some d) o m todo n h = go_in _ _ _ h (like sites env refl refl)
-    enter_at None o m todo n h = asked_in _ _ _ _ n h (like sites env refl refl)
+    enter_at (Some d) o m todo n h = go_in _ _ _ h (likes env refl refl)
+    enter_at None o m todo n h = asked_in _ _ _ _ n h (likes env refl refl)
 
     pub enter : (m : ℕ) (r : Option Routine) (todo : List Todo) → m ≤ MEMBERS → Named sites todo → NamedStep sites (monitors.enter_step m r todo s)
     enter m None todo n h = ends _ _ h
@@ -438,14 +448,14 @@ module _ (sites : List Site) where
         either (NamedStep sites) (monitors.may_call r.written s) _ _ (enter_at (find o s.env.depths) o m todo n h) (stop Depth todo _ h)
 
     pub leave : (b : Bool) (o : ℕ) (todo : List Todo) → Named sites todo → NamedStep sites (monitors.leave_at b o todo s)
-    leave false o todo h = go_in _ _ _ h (like sites env refl refl)
+    leave false o todo h = go_in _ _ _ h (likes env refl refl)
     leave true o todo h =
-        unless o _ todo h (record { state = record { control = polled s.run.raised todo h; callers = callers; env = like sites env refl refl }; names = tt })
+        unless o _ todo h (record { state = record { run = polled s.run.raised todo h; callers = callers; env = likes env refl refl }; names = tt })
 
     pub make : (c k : ℕ) (r : Option Routine) (todo : List Todo) → Named sites todo → NamedStep sites (monitors.make_step c k r todo s)
     make c k None todo h = ends _ _ h
     make c k (Some r) todo h =
-        either (NamedStep sites) (monitors.may_call r.written s) _ _ (asked_in _ _ _ _ tt (tt, h) (like sites env refl refl)) (stop Depth todo _ h)
+        either (NamedStep sites) (monitors.may_call r.written s) _ _ (asked_in _ _ _ _ tt (tt, h) (likes env refl refl)) (stop Depth todo _ h)
 
     pub bind : (r : Option Routine) (todo : List Todo) → Named sites todo → NamedStep sites (monitors.bind_step r todo s)
     bind None todo h = ends _ _ h
@@ -475,7 +485,7 @@ module _ (sites : List Site) where
 
     pend : (n : Exec) (e : Event) (todo : List Todo) (vs : List Value) → Named sites todo → NamedStep sites (polls.pend_step n e todo vs s)
     pend n e todo vs h =
-        either (NamedStep sites) (nat_lt (length (inside.pending_at n s.env)) PENDING_EVENTS) _ _ (go_in _ _ _ h (with_links_named sites (λ l. record l { pending = l.pending ++ (record { event = e.number; x = e.x; y = e.y }) ∷ [] }) n s.env env)) (stop TooManyPending todo vs h)
+        either (NamedStep sites) (nat_lt (length (inside.pending_at n s.env)) PENDING_EVENTS) _ _ (go_in _ _ _ h (kept.with_links_rests (NamedActive sites) (NamedActive sites) calm (λ l. record l { pending = l.pending ++ (record { event = e.number; x = e.x; y = e.y }) ∷ [] }) n s.env env)) (stop TooManyPending todo vs h)
 
     pend_at : (o : Option Exec) (e : Event) (todo : List Todo) (vs : List Value) → Named sites todo → NamedStep sites (polls.pend_at o e todo vs s)
     pend_at None e todo vs h = stop NotLive todo vs h
@@ -486,11 +496,11 @@ module _ (sites : List Site) where
     raise_at v e todo vs h = pend_at (piece.exec_at v s.env) e todo vs h
 
     pub enables : (events cell : ℕ) (todo : List Todo) → Named sites todo → NamedStep sites (polls.enable_step events cell todo s)
-    enables events cell todo h = go_in _ _ _ h (like sites (write (piece.variable_at cell s) (Number (signed_64 s.env.links.enabled))) refl refl)
+    enables events cell todo h = go_in _ _ _ h (likes (write (piece.variable_at cell s) (Number (signed_64 s.env.links.enabled))) refl refl)
 
     quiet_poll : (o : Option Pending) (todo : List Todo) → Named sites todo → NamedStep sites (polls.quiet_poll o todo s)
     quiet_poll None todo h = go _ _ h
-    quiet_poll (Some p) todo h = go_in _ _ _ (tt, h) (like sites env refl refl)
+    quiet_poll (Some p) todo h = go_in _ _ _ (tt, h) (likes env refl refl)
 
     poll_by : (b : Bool) (todo : List Todo) → Named sites todo → NamedStep sites (polls.poll_by b todo s)
     poll_by true todo h = asked _ _ _ tt (tt, h)
@@ -504,11 +514,11 @@ module _ (sites : List Site) where
     deliver v todo h = go _ _ (tt, (tt, h))
 
     pub throws : (e : Event) (todo : List Todo) → Named sites todo → NamedStep sites (raising.throw_step e todo s)
-    throws e todo h = record { control = (tt, h); callers = callers; env = env }
+    throws e todo h = record { run = (tt, h); callers = callers; env = env }
 
     handles : (f : Option Found) (e : Event) (todo : List Todo) → NamedFound f → Named sites todo → NamedStep sites (raising.handle_step f e todo s)
     handles None e todo n h = throws e todo h
-    handles (Some f) e todo n h = record { control = handled f.handler [] n tt; callers = ((tt, h), callers); env = like sites env refl refl }
+    handles (Some f) e todo n h = record { run = handled f.handler [] n tt; callers = ((tt, h), callers); env = likes env refl refl }
 
     pub raises : (e : Event) (todo : List Todo) → Named sites todo → NamedStep sites (raising.raise_step e todo s)
     raises e todo h =
@@ -519,7 +529,7 @@ module _ (sites : List Site) where
 
     catches : (o : Option Handler) (e : Event) (todo : List Todo) → NamedHandler o → Named sites todo → NamedStep sites (raising.catch_step o e todo s)
     catches None e todo n h = go _ _ (tt, h)
-    catches (Some x) e todo n h = record { control = handled x todo n h; callers = callers; env = env }
+    catches (Some x) e todo n h = record { run = handled x todo n h; callers = callers; env = env }
 
     guarded : (hs : Handlers) (o : Option UnwindReason) (todo : List Todo) → NamedHandlers sites hs → Named sites todo → NamedStep sites (raising.guard_left hs o todo s)
     guarded hs (Some (reason.Event n x y)) todo k h =
@@ -527,21 +537,21 @@ module _ (sites : List Site) where
     guarded hs o todo k h = go _ _ (tt, h)
 
     whole : (b : Bool) (todo : List Todo) → Named sites todo → NamedStep sites (raising.whole_left b todo s)
-    whole true todo h = record { control = h; callers = callers; env = env }
+    whole true todo h = record { run = h; callers = callers; env = env }
     whole false todo h = go _ _ (tt, h)
 
     scope : (c : CleanUp) (b : Bool) (todo : List Todo) → NamedClean c → Named sites todo → NamedStep sites (raising.scope_left c b todo s)
-    scope src.Leaves true todo n h = record { control = (tt, (tt, h)); callers = callers; env = env }
+    scope src.Leaves true todo n h = record { run = (tt, (tt, h)); callers = callers; env = env }
     scope c b todo n h = go (raising.left_todo c (piece.Unwind ∷ todo)) [] (left_cleans c (piece.Unwind ∷ todo) n (tt, h))
 
     main_left : (o : Option UnwindReason) (todo : List Todo) → Named sites todo → NamedStep sites (raising.main_left o todo s)
-    main_left (Some (reason.ReturnTo n)) todo h = record { control = (tt, h); callers = callers; env = env }
+    main_left (Some (reason.ReturnTo n)) todo h = record { run = (tt, h); callers = callers; env = env }
     main_left o todo h = stop Unhandled todo [] h
 
     coroutine_left : (o : Option UnwindReason) (todo : List Todo) → Named sites todo → NamedStep sites (raising.coroutine_left o todo s)
-    coroutine_left (Some (reason.ReturnTo n)) todo h = record { control = (tt, h); callers = callers; env = env }
-    coroutine_left (Some reason.Destroyed) todo h = moved _ todo _ h (taken_down_named sites (at todo [] s) (go todo [] h))
-    coroutine_left o todo h = moved _ todo _ h (escape_named sites (at todo [] s) (go todo [] h))
+    coroutine_left (Some (reason.ReturnTo n)) todo h = record { run = (tt, h); callers = callers; env = env }
+    coroutine_left (Some reason.Destroyed) todo h = moved _ todo _ h (kept.taken_down_rests (NamedActive sites) (NamedActive sites) calm (at todo [] s) (go todo [] h))
+    coroutine_left o todo h = moved _ todo _ h (kept.escape_rests (NamedActive sites) (NamedActive sites) calm (at todo [] s) (go todo [] h))
 
     unwind_past : (k : Sort) (todo : List Todo) → NamedSort k → Named sites todo → NamedStep sites (raising.unwind_past k todo s)
     unwind_past piece.Simple todo n h = go _ _ (tt, h)
@@ -555,16 +565,16 @@ module _ (sites : List Site) where
     unwind_past piece.IsFinish todo n h = main_left s.run.raised todo h
     unwind_past piece.IsFinishCoroutine todo n h = coroutine_left s.run.raised todo h
 
-    pass_on : (o : Option UnwindReason) (c : Active) (cs : List Active) → Named sites c.control → NamedRuns sites cs → Named sites s.run.control → NamedStep sites (raising.pass_on o c cs s)
-    pass_on None c cs a b h = record { state = record { control = h; callers = callers; env = env }; names = tt }
-    pass_on (Some why) c cs a b h = record { control = (tt, a); callers = b; env = like sites env refl refl }
+    pass_on : (o : Option UnwindReason) (c : Active) (cs : List Active) → Named sites c.control → AllWait (NamedActive sites) (NamedActive sites) cs → Named sites s.run.control → NamedStep sites (raising.pass_on o c cs s)
+    pass_on None c cs a b h = record { state = record { run = h; callers = callers; env = env }; names = tt }
+    pass_on (Some why) c cs a b h = record { run = (tt, a); callers = b; env = likes env refl refl }
 
-    leave_for : (b : Bool) (c : Active) (cs : List Active) → Named sites c.control → NamedRuns sites cs → Named sites s.run.control → NamedStep sites (raising.leave_for b c cs s)
-    leave_for true c cs a b h = record { state = record { control = h; callers = callers; env = env }; names = tt }
+    leave_for : (b : Bool) (c : Active) (cs : List Active) → Named sites c.control → AllWait (NamedActive sites) (NamedActive sites) cs → Named sites s.run.control → NamedStep sites (raising.leave_for b c cs s)
+    leave_for true c cs a b h = record { state = record { run = h; callers = callers; env = env }; names = tt }
     leave_for false c cs a b h = pass_on s.run.raised c cs a b h
 
-    leaves : (cs : List Active) → NamedRuns sites cs → Named sites s.run.control → NamedStep sites (raising.leave_step cs s)
-    leaves [] c h = record { state = record { control = h; callers = callers; env = env }; names = tt }
+    leaves : (cs : List Active) → AllWait (NamedActive sites) (NamedActive sites) cs → Named sites s.run.control → NamedStep sites (raising.leave_step cs s)
+    leaves [] c h = record { state = record { run = h; callers = callers; env = env }; names = tt }
     leaves (c ∷ cs) p h =
         either (NamedStep sites) (raising.arrives s.run.raised (length (c ∷ cs))) _ _ (returned s.run.result (c ∷ cs) p h) (leave_for _ c cs p.0 p.1 h)
 
@@ -576,9 +586,9 @@ module _ (sites : List Site) where
 
     pub prints : (o : Option (List Piece)) (p : Piece) (todo : List Todo) (vs : List Value) → Named sites todo → NamedStep sites (piece.print_step o p todo vs s)
     prints None p todo vs h = asked _ _ _ tt h
-    prints (Some ps) p todo vs h = go_in _ _ _ h (like sites env refl refl)
+    prints (Some ps) p todo vs h = go_in _ _ _ h (likes env refl refl)
 
     pub flushes : (o : Option (List Piece)) (todo : List Todo) (vs : List Value) → Named sites todo → NamedStep sites (piece.flush_step o todo vs s)
     flushes None todo vs h = go _ _ h
-    flushes (Some []) todo vs h = go_in _ _ _ h (like sites env refl refl)
-    flushes (Some (p ∷ ps)) todo vs h = asked_in _ _ _ _ tt h (like sites env refl refl)
+    flushes (Some []) todo vs h = go_in _ _ _ h (likes env refl refl)
+    flushes (Some (p ∷ ps)) todo vs h = asked_in _ _ _ _ tt h (likes env refl refl)

@@ -23,7 +23,9 @@ use Rattle.uc_step_laws.proofs.Kept.{either}
 use Rattle.uc_program_laws.specs.ByHand.{FitsByHand}
 use Rattle.uc_program_laws.proofs.ByHandLemmas.{law_by_hand}
 use Rattle.uc_site_laws.specs.Named.{NamedSource}
-use Rattle.uc_site_laws.specs.Naming.{NamedHand, NamedMembers, NamedState, NamesKnown, NamedAsk}
+use Rattle.uc_site_laws.specs.Naming.{NamedActive, NamedMembers, NamedState, NamesKnown, NamedAsk}
+use Rattle.uc_site_laws.specs.Resting.{RestsHand}
+use Rattle.uc_site_laws.proofs.Steps.{calm}
 use Rattle.uc_site_laws.specs.SiteLaws.{LawNames}
 use Rattle.uc_site_laws.specs.Holds.{HoldsByHand, AsksHolding, LawHolds}
 use Rattle.uc_site_laws.proofs.Kept.{found_hand}
@@ -36,11 +38,11 @@ record NamedWorld (sites : List Site) (w : World) : Type 0 where
   homes : (o : ℕ) → NamedMembers sites (w.homes o)
 
 module _ (sites : List Site) where
-  home_named : (o : ℕ) (x : Option Members) (hand : List (ℕ × Members)) → NamedMembers sites x → NamedHand sites hand → NamedHand sites (with_home o x hand)
+  home_named : (o : ℕ) (x : Option Members) (hand : List (ℕ × Members)) → NamedMembers sites x → RestsHand (NamedActive sites) (NamedActive sites) hand → RestsHand (NamedActive sites) (NamedActive sites) (with_home o x hand)
   home_named o None hand h k = k
   home_named o (Some m) hand h k = (h, k)
 
-  hand_named : (os : List ℕ) (homes : ℕ → Option Members) → ((o : ℕ) → NamedMembers sites (homes o)) → NamedHand sites (hand_of os homes)
+  hand_named : (os : List ℕ) (homes : ℕ → Option Members) → ((o : ℕ) → NamedMembers sites (homes o)) → RestsHand (NamedActive sites) (NamedActive sites) (hand_of os homes)
   hand_named [] homes h = tt
   hand_named (o ∷ os) homes h = home_named o (homes o) (hand_of os homes) (h o) (hand_named os homes h)
 
@@ -51,10 +53,10 @@ module _ (sites : List Site) where
   drawn_named : (j : Journal) (w : World) (t : ℕ) → NamedWorld sites w → NamedState sites (drawn j w t)
   drawn_named j w t n =
       let x = n.tasks t in
-      record { control = x.control; callers = x.callers; env = record { house = x.env.house; hand = hand_named (held t j) w.homes n.homes } }
+      record { run = x.run; callers = x.callers; env = record { house = x.env.house; hand = hand_named (held t j) w.homes n.homes } }
 
   bare_named : (s : State) → NamedState sites s → NamedState sites (bare s)
-  bare_named s h = record { control = h.control; callers = h.callers; env = record { house = h.env.house; hand = tt } }
+  bare_named s h = record { run = h.run; callers = h.callers; env = record { house = h.env.house; hand = tt } }
 
 module _ (sites : List Site) (source : Source) (known : NamedSource sites source) (input : List ℕ) (opts : Options) where
   asks_named : {j : Journal} {w : World} → NamedWorld sites w → (p t n : ℕ) (s : State) (asked : Asked) → AsksIn source opts j w p t n s asked → NamedAsk sites asked.request s
@@ -68,7 +70,7 @@ module _ (sites : List Site) (source : Source) (known : NamedSource sites source
       let asks = asks_named n p t k s asked d in
       record {
         tasks = λ u. either (NamedState sites) (u == t) _ _ (bare_named sites s asks.state) (either (NamedState sites) (spawns a u) _ _ (first_named sites source known (child_main source s.run.control) (own_object u a)) (n.tasks u));
-        homes = λ o. either (NamedMembers sites) (takes_out a o) None (or_else (find o s.env.hand) (w.homes o)) tt (or_named sites (find o s.env.hand) (w.homes o) (found_hand sites o s.env.hand asks.state.env.hand) (n.homes o));
+        homes = λ o. either (NamedMembers sites) (takes_out a o) None (or_else (find o s.env.hand) (w.homes o)) tt (or_named sites (find o s.env.hand) (w.homes o) (found_hand (NamedActive sites) (NamedActive sites) (calm sites) o s.env.hand asks.state.env.hand) (n.homes o));
       }
 
   world_named : {j : Journal} {w : World} → Runs source input opts j w → NamedWorld sites w

@@ -5,13 +5,10 @@ use Rattle.uc_tree.specs.Programs.{Site}
 use Rattle.uc_entry.specs.declared.request.Request.{Request}
 use Rattle.uc_entry.specs.declared.request.Request.TheVariants as ask
 use Rattle.uc_acts.specs.Doors.{site_at}
-use Rattle.uc_machine.specs.Executions.{Execution}
 use Rattle.uc_machine.specs.Pieces as piece
-use Rattle.uc_machine.specs.Pieces.{Value, Todo, Active, State, Env, Members, Step, Goes, Ticks, Asks}
+use Rattle.uc_machine.specs.Pieces.{Todo, Active, State, Members, Step, Goes, Ticks, Asks}
+use Rattle.uc_site_laws.specs.Resting.{RestsMembers, RestsState}
 use Rattle.uc_site_laws.specs.Named.{IsSite, NamedExpr, NamedExprs, NamedMaybe, NamedItems, NamedTargets, NamedDeclared, NamedClean, NamedStmt, NamedStmts, NamedHandlers, NamedClauses}
-
-abbrev pub Ex : Type 0
-Ex = Execution (List Todo) Value
 
 module _ (sites : List Site) where
   abbrev pub NamedPiece : Todo → Type 0
@@ -44,43 +41,16 @@ module _ (sites : List Site) where
   Named [] = Unit {0}
   Named (p ∷ todo) = NamedPiece p × Named todo
 
-  -- activations that wait
-  abbrev pub NamedRuns : List Active → Type 0
-  NamedRuns [] = Unit {0}
-  NamedRuns (a ∷ rest) = Named a.control × NamedRuns rest
+  -- an activation
+  abbrev pub NamedActive : Active → Type 0
+  NamedActive a = Named a.control
 
-  -- an execution that does not run
-  pub record NamedEx (x : Ex) : Type 0 where
-    pub run : Named x.run.control
-    pub callers : NamedRuns x.callers
-
-  abbrev pub NamedSlot : Option Ex → Type 0
-  NamedSlot None = Unit {0}
-  NamedSlot (Some x) = NamedEx x
-
-  abbrev pub NamedParked : List (ℕ × Option Ex) → Type 0
-  NamedParked [] = Unit {0}
-  NamedParked (p ∷ ps) = NamedSlot p.1 × NamedParked ps
-
-  abbrev pub NamedHand : List (ℕ × Members) → Type 0
-  NamedHand [] = Unit {0}
-  NamedHand (p ∷ ps) = NamedParked p.1.parked × NamedHand ps
-
-  -- members, if there are any
+  -- what is at home in an object, and a task
   abbrev pub NamedMembers : Option Members → Type 0
-  NamedMembers None = Unit {0}
-  NamedMembers (Some m) = NamedParked m.parked
+  NamedMembers m = RestsMembers NamedActive NamedActive m
 
-  -- a task, but for its running execution
-  pub record NamedEnv (e : Env) : Type 0 where
-    pub house : NamedParked e.house.parked
-    pub hand : NamedHand e.hand
-
-  -- with it
-  pub record NamedState (s : State) : Type 0 where
-    pub control : Named s.run.control
-    pub callers : NamedRuns s.callers
-    pub env : NamedEnv s.env
+  abbrev pub NamedState : State → Type 0
+  NamedState s = RestsState NamedActive NamedActive s
 
   -- a request names what is known: a member by a number that there may be, and an accept statement of these, with a mask of its
   -- clauses
