@@ -58,10 +58,10 @@ module _ (source : Source) (known : CountedSource source) where
     acts piece.CopyBelowNow todo h = go (Any ∷ ms) _ _ (tt, holds) h.1
     acts piece.DropNow todo h = go (rest ms) _ _ one h.1
     acts piece.DropBelowNow todo h = go (Any ∷ rest (rest ms)) _ _ (tt, two) h.1
-    acts piece.StoreNow todo h = steps.go_in source s callers env (rest (rest ms)) _ _ _ two h.1 (steps.write source s callers env _ _)
-    acts piece.KeepNow todo h = steps.go_in source s callers env (Any ∷ rest (rest ms)) _ _ _ (tt, two) h.1 (steps.write source s callers env _ _)
+    acts piece.StoreNow todo h = steps.go_in source s callers env (rest (rest ms)) _ _ _ two h.1 (steps.write source s callers env (top (below s.run.operands)) (piece.Number (number (top s.run.operands))))
+    acts piece.KeepNow todo h = steps.go_in source s callers env (Any ∷ rest (rest ms)) _ _ _ (tt, two) h.1 (steps.write source s callers env (top (below s.run.operands)) (piece.Number (number (top s.run.operands))))
     acts (piece.SetNow k) todo h = steps.go_in source s callers env ms _ _ _ holds h.1 (steps.write source s callers env (piece.variable_at k s) (piece.Number (number (top s.run.operands))))
-    acts piece.BindNow todo h = steps.go_in source s callers env (Any ∷ rest (rest ms)) _ _ _ (tt, two) h.1 (steps.write source s callers env _ _)
+    acts piece.BindNow todo h = steps.go_in source s callers env (Any ∷ rest (rest ms)) _ _ _ (tt, two) h.1 (steps.write source s callers env (top (below s.run.operands)) (top s.run.operands))
     acts (piece.Choose e f) todo h = go (rest ms) _ _ one (either (CountedExpr source) (piece.is_zero (number (top s.run.operands))) f e h.0.1 h.0.0, inl h.1)
     acts (piece.Branch a b) todo h = anew _ _ (either (CountedStmt source) (piece.is_zero (number (top s.run.operands))) b a h.0.1 h.0.0, h.1)
     acts piece.TickNow todo h = go ms _ _ holds h.1
@@ -106,9 +106,9 @@ module _ (source : Source) (known : CountedSource source) where
     acts piece.ThrowNow todo h = steps.thrown source s callers env (raising.event_in s.run.operands) todo h.1
     acts piece.RaiseNow todo h = steps.raises source s callers env ms (raising.event_in s.run.operands) todo holds h.1
     acts (piece.SetUpNow r) todo h = steps.set_up source s callers env ms holds (slice_get source.routines r) todo (known r) h.1
-    acts piece.EnlivenNow todo h = steps.go_in source s callers env [] _ _ _ tt h.1 (kept.enlivened_rests (Runs source) (Waits source) (steps.calm source) _ s.env env)
+    acts piece.EnlivenNow todo h = steps.go_in source s callers env [] _ _ _ tt h.1 (kept.enlivened_rests (Runs source) (Waits source) (steps.calm source) (piece.own_exec s) s.env env)
     acts piece.TakeDownNow todo h = steps.moved source s callers env _ todo _ (kept.take_down_rests (Runs source) (Waits source) (steps.calm source) (piece.own_exec s) (at todo s.run.operands s) (anew _ _ h.1))
-    acts piece.ForgetNow todo h = steps.go_in source s callers env [] _ _ _ tt h.1 (kept.forgotten_rests (Runs source) (Waits source) (steps.calm source) _ s.env env)
+    acts piece.ForgetNow todo h = steps.go_in source s callers env [] _ _ _ tt h.1 (kept.forgotten_rests (Runs source) (Waits source) (steps.calm source) (piece.own_exec s) s.env env)
     acts (piece.LiveNow r) todo h = steps.live source s callers env ms holds (slice_get source.routines r) todo h.1
     acts piece.ResumeNow todo h = steps.moved source s callers env _ (piece.Land ∷ todo) _ (kept.wake_rests (Runs source) (Waits source) (steps.calm source) (quiet.resumed s) (at (piece.Land ∷ todo) s.run.operands s) (anew _ _ (tt, h.1)))
     acts piece.SuspendNow todo h = steps.moved source s callers env _ (piece.Land ∷ todo) _ (kept.suspend_rests (Runs source) (Waits source) (steps.calm source) (at (piece.Land ∷ todo) s.run.operands s) (anew _ _ (tt, h.1)))
@@ -140,7 +140,7 @@ module _ (source : Source) (known : CountedSource source) where
     acts (piece.AcceptNow site m) todo h = steps.accept source s callers env ms holds _ (monitors.this_object s) site todo _ h.1
     acts piece.FailedNow todo h = steps.failed source s callers env ms holds _ todo _ h.1
     acts (piece.ChooseNow cs) todo h = anew _ _ (steps.branch source _ cs todo h.0 h.1)
-    acts piece.RaiseAtNow todo h = steps.raise_at source s callers env ms holds _ _ todo _ (steps.number_at source s callers env ms holds h.0) h.1
+    acts piece.RaiseAtNow todo h = steps.raise_at source s callers env ms holds (top s.run.operands) (raising.event_in (below s.run.operands)) todo (drop 4 s.run.operands) (steps.number_at source s callers env ms holds h.0) h.1
     acts (piece.EnableNow events cell) todo h = steps.enables source s callers env ms holds _ cell todo h.1
     acts (piece.DisableNow events cell) todo h = steps.enables source s callers env ms holds _ cell todo h.1
     acts (piece.RestoreNow cell) todo h = steps.go_in source s callers env [] _ _ _ tt h.1 (steps.likes source env refl refl)
