@@ -20,11 +20,11 @@ use Rattle.uc_machine.specs.Answering.{answered, entered, new_members, with_oper
 use Rattle.uc_machine.specs.Rides as rides
 use Rattle.uc_machine.specs.Rides.{Rides}
 use Rattle.uc_step_laws.proofs.Kept.{either}
-use Rattle.uc_typing.specs.States.{Suits}
+use Rattle.uc_answer_laws.specs.Suiting.{Form, AnObject, AClause, ANumber, AValue, AnEvent, JustGo, IsForm}
 use Rattle.uc_site_laws.specs.Resting.{AllWait, RestsParked, RestsHand, RestsEnv}
 use Rattle.uc_site_laws.proofs.Kept as kept
 use Rattle.uc_event_laws.specs.Counted.{CountedExpr, CountedStmt, CountedRoutine, CountedSource}
-use Rattle.uc_event_laws.specs.Marked.{Mark, Any, Event, Holds, rest, rests, anys, Ok, Left, Finds, Runs, Waits, FindsBehind, MarkedMembers, MarkedState, MarkedAsk, MarkedStep}
+use Rattle.uc_event_laws.specs.Marked.{Mark, Any, Event, Holds, rest, rests, anys, operands, Ok, Left, Finds, Runs, Waits, FindsBehind, MarkedMembers, MarkedState, MarkedAsk, MarkedStep}
 use Rattle.uc_event_laws.specs.EventLaws.{LawSteps}
 use Rattle.uc_event_laws.proofs.Marks.{holds_below}
 use Rattle.uc_event_laws.proofs.Steps as steps
@@ -170,9 +170,40 @@ module _ (source : Source) (known : CountedSource source) where
   pub first_marked : (r o : ℕ) → MarkedState source (first_state (routine_of source r) o)
   first_marked r o = begins o (slice_get source.routines r) (known r)
 
+-- an answer of its form brings the operands that a state is to find, and at most an object in which nothing is to do
+
+module _ (source : Source) where
+  more_hand : (hand : List (ℕ × Members)) (o : ℕ) (m : Members) → RestsParked (Runs source) (Waits source) m.parked → RestsHand (Runs source) (Waits source) hand → RestsHand (Runs source) (Waits source) (hand ++ (o, m) ∷ [])
+  more_hand [] o m h k = (h, tt)
+  more_hand (p ∷ hand) o m h k = (k.0, more_hand hand o m h k.1)
+
+  new_marked : (todo : List Todo) → MarkedMembers source (new_members source todo)
+  new_marked [] = tt
+  new_marked (piece.BindMadeNow c r ∷ todo) = tt
+  new_marked (p ∷ todo) = tt
+
+  entered_marked : (m : Option Members) (o : ℕ) (s : State) → MarkedMembers source m → Finds source 1 s.run → AllWait (Runs source) (Waits source) s.callers → RestsEnv (Runs source) (Waits source) s.env → MarkedState source (with_operand (piece.Object o) (entered m o s))
+  entered_marked None o s k f c e = record { run = record { marks = Any ∷ f.marks; holds = (tt, f.holds); ok = f.ok }; callers = c; env = e }
+  entered_marked (Some m) o s k f c e = record {
+    run = record { marks = Any ∷ f.marks; holds = (tt, f.holds); ok = f.ok };
+    callers = c;
+    env = record { house = e.house; hand = more_hand s.env.hand o m k e.hand };
+  }
+
+  pub answered_marked : (form : Form) (given : Answer) (s : State) → IsForm form given → Finds source (operands form) s.run → AllWait (Runs source) (Waits source) s.callers → RestsEnv (Runs source) (Waits source) s.env → MarkedState source (answered source given s)
+  answered_marked AnObject (answer.Object o) s k f c e = entered_marked (new_members source s.run.control) o s (new_marked s.run.control) f c e
+  answered_marked AClause (answer.Clause n failed) s k f c e = record { run = record { marks = Any ∷ (Any ∷ f.marks); holds = (tt, (tt, f.holds)); ok = f.ok }; callers = c; env = e }
+  answered_marked ANumber (answer.Number n) s k f c e = record { run = record { marks = Any ∷ f.marks; holds = (tt, f.holds); ok = f.ok }; callers = c; env = e }
+  answered_marked AValue (answer.Value n failed) s k f c e = record { run = record { marks = Any ∷ f.marks; holds = (tt, f.holds); ok = f.ok }; callers = c; env = e }
+  answered_marked AnEvent (answer.Event n x y) s k f c e = record { run = record { marks = Any ∷ (Any ∷ (Any ∷ f.marks)); holds = (tt, (tt, (tt, f.holds))); ok = f.ok }; callers = c; env = e }
+  answered_marked AnEvent answer.Nothing s k f c e = record { run = record { marks = Any ∷ (Any ∷ (Any ∷ f.marks)); holds = (tt, (tt, (tt, f.holds))); ok = f.ok }; callers = c; env = e }
+  answered_marked JustGo answer.Go s k f c e = record { run = f; callers = c; env = e }
+  answered_marked form given s k f c e = absurd k
+
 pub law_steps : LawSteps
 law_steps = record {
   begins = λ source known r o. first_marked source known r o;
   steps = λ source known s h. walk source known s h;
+  told = λ source form given s k f c e. answered_marked source form given s k f c e;
   rides = λ source known s u q k a r h. rides_marked source known r h;
 }

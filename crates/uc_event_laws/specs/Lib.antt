@@ -1,3 +1,4 @@
 pub mod Counted
 pub mod Marked
 pub mod EventLaws
+pub mod Holds

@@ -7,6 +7,7 @@ use Rattle.uc_entry.specs.declared.request.Request.{Request}
 use Rattle.uc_entry.specs.declared.request.Request.TheVariants as ask
 use Rattle.uc_machine.specs.Pieces as piece
 use Rattle.uc_machine.specs.Pieces.{Value, Number, Todo, Sort, sort, Active, State, Members, Step, Goes, Ticks, Asks, top, below}
+use Rattle.uc_answer_laws.specs.Suiting.{Form, AnObject, AClause, ANumber, AValue, AnEvent, JustGo, form_of_request}
 use Rattle.uc_site_laws.specs.Resting.{AllWait, RestsEnv, RestsMembers, RestsState}
 use Rattle.uc_event_laws.specs.Counted.{params, count, CountedExpr, CountedExprs, CountedMaybe, CountedItems, CountedTargets, CountedDeclared, CountedClean, CountedStmt, CountedStmts, CountedHandlers, CountedClauses}
 
@@ -43,6 +44,15 @@ abbrev pub IsEvent : List Mark → Type 0
 IsEvent [] = ⊥
 IsEvent (Any ∷ ms) = ⊥
 IsEvent (Event k ∷ ms) = k < EVENTS
+
+-- how many operands an answer of a form brings
+abbrev pub operands : Form → ℕ
+operands AnObject = 1
+operands AClause = 2
+operands ANumber = 1
+operands AValue = 1
+operands AnEvent = 3
+operands JustGo = 0
 
 -- what a literal is known to be
 abbrev pub Known : Expr → (ℕ → Type 0) → Type 0
@@ -170,18 +180,9 @@ module _ (source : Source) where
 
   -- behind a request: so many operands come with the answer; behind an end and a fault nothing is done
   abbrev pub FindsBehind : Request → Active → Type 0
-  FindsBehind (ask.Make c) a = Finds 1 a
-  FindsBehind (ask.Accept o site mask) a = Finds 2 a
-  FindsBehind (ask.Empty o c) a = Finds 1 a
-  FindsBehind (ask.Front o c) a = Finds 1 a
-  FindsBehind (ask.Poll mask) a = Finds 3 a
-  FindsBehind (ask.Read form) a = Finds 1 a
-  FindsBehind ask.Fail a = Finds 1 a
-  FindsBehind ask.Cluster a = Finds 1 a
-  FindsBehind (ask.Processor c) a = Finds 1 a
   FindsBehind ask.End a = Unit {0}
   FindsBehind (ask.Fault n) a = Unit {0}
-  FindsBehind r a = Finds 0 a
+  FindsBehind r a = Finds (operands (form_of_request r)) a
 
   -- an event that is raised at a task has a number
   abbrev pub EventKnown : Request → Type 0

@@ -1,10 +1,24 @@
 // The laws: each is a function whose contract is the law.
 
-ghost use Rattle.uc_event_laws.specs.EventLaws.{LawSteps};
+ghost use Rattle.uc_event_laws.specs.EventLaws.{LawEvents, LawSteps};
+ghost use Rattle.uc_event_laws.specs.Holds.{LawHolds};
 
 /// Where each call of a source has as many arguments as its routine has parameters, the number of an
 /// event that is raised at another execution lies among the operands where it is expected, from the
 /// start of a task on: each quiet step keeps that, and each answer that suits what was asked.
 pub fn law_steps()
     ensures { LawSteps }
+{}
+
+/// So in every run of a program that breaks no rule, as long as all that was asked before fits, what
+/// is raised at a task is an event by a number below 64.
+pub fn law_events()
+    ensures { LawEvents }
+{}
+
+/// What a program that breaks no rule asks in its runs fits where, as long as all before fits, each
+/// object of which something is asked is in hand, or is made and not in hand where it is called, and
+/// where the tasks, clusters and processors that it names are there.
+pub fn law_holds()
+    ensures { LawHolds }
 {}

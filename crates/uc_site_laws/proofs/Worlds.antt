@@ -13,21 +13,16 @@ use Rattle.uc_entry.specs.Keyed.{find}
 use Rattle.uc_acts.specs.Journal.{Journal, held, own_object, is_over}
 use Rattle.uc_acts.specs.Known.{has, owner, spawns, takes_out}
 use Rattle.uc_acts.specs.Serves.{left}
-use Rattle.uc_acts.specs.KernelRuns.{InRange, IsMade}
 use Rattle.uc_machine.specs.Quiet.{State, Members, no_members}
 use Rattle.uc_machine.specs.Answering.{answered, child_main}
 use Rattle.uc_resolve.specs.Resolve.{source_of}
 use Rattle.uc_meaning.specs.Runs.{World, AsksIn, May, Runs, gives, no_room, acts, begun, more, bare, with_home, hand_of, drawn, or_else, first_home}
-use Rattle.uc_step_laws.specs.Hands.{keys}
 use Rattle.uc_step_laws.proofs.Kept.{either}
-use Rattle.uc_program_laws.specs.ByHand.{FitsByHand}
-use Rattle.uc_program_laws.proofs.ByHandLemmas.{law_by_hand}
 use Rattle.uc_site_laws.specs.Named.{NamedSource}
 use Rattle.uc_site_laws.specs.Naming.{NamedActive, NamedMembers, NamedState, NamesKnown, NamedAsk}
 use Rattle.uc_site_laws.specs.Resting.{RestsHand}
 use Rattle.uc_site_laws.proofs.Steps.{calm}
 use Rattle.uc_site_laws.specs.SiteLaws.{LawNames}
-use Rattle.uc_site_laws.specs.Holds.{HoldsByHand, AsksHolding, LawHolds}
 use Rattle.uc_site_laws.proofs.Kept.{found_hand}
 use Rattle.uc_site_laws.proofs.Walk.{first_named, answered_named, rides_named}
 use Rattle.uc_site_laws.proofs.Routines.{source_named}
@@ -83,31 +78,3 @@ module _ (sites : List Site) (source : Source) (known : NamedSource sites source
 pub law_names : LawNames
 law_names p input opts j w r q t n s asked d =
     (asks_named (sites_of p) (source_of p) (source_named p) input opts (world_named (sites_of p) (source_of p) (source_named p) input opts r) q t n s asked d).names
-
--- what is left to show
-
-module _ (opts : Options) (sites : List Site) (j : Journal) (t : ℕ) (hand : List ℕ) where
-  fits_by : (r : Request) → NamesKnown sites r → HoldsByHand opts j t hand r → FitsByHand opts sites j t hand r
-  fits_by (ask.Call o m) n h = (h.0, h.1, n)
-  fits_by (ask.Accept o site mask) n h = (h, n.0, n.1)
-  fits_by (ask.Make class) n h = h
-  fits_by (ask.Made o) n h = h
-  fits_by (ask.Spawn o) n h = h
-  fits_by (ask.Leave o failed) n h = h
-  fits_by (ask.Wait o c k) n h = h
-  fits_by (ask.Signal o c) n h = h
-  fits_by (ask.SignalBlock o c) n h = h
-  fits_by (ask.Empty o c) n h = h
-  fits_by (ask.Front o c) n h = h
-  fits_by (ask.Raise o event x y) n h = h
-  fits_by (ask.ClusterEnd c) n h = h
-  fits_by (ask.Processor c) n h = h
-  fits_by (ask.ProcessorEnd q) n h = h
-  fits_by (ask.Migrate c) n h = h
-  fits_by ask.End n h = h
-  fits_by (ask.Gone o) n h = h
-  fits_by r n h = tt
-
-pub law_holds : LawHolds
-law_holds p input opts range by =
-    law_by_hand (source_of p) input opts range (λ j w r f on q t n s asked d. fits_by opts (sites_of p) j t (keys s.env.hand) asked.request (law_names p input opts j w r q t n s asked d) (by j w r f on q t n s asked d))

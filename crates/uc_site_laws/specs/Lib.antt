@@ -2,4 +2,3 @@ pub mod Resting
 pub mod Named
 pub mod Naming
 pub mod SiteLaws
-pub mod Holds

@@ -1,6 +1,5 @@
 // The laws: each is a function whose contract is the law.
 
-ghost use Rattle.uc_site_laws.specs.Holds.{LawHolds};
 ghost use Rattle.uc_site_laws.specs.SiteLaws.{LawNames, LawSource, LawSteps};
 
 /// Where all code of a source names what is known, so does all that a task has to do, from its start
@@ -21,11 +20,4 @@ pub fn law_source()
 /// an accept statement of the program, with a mask of its clauses.
 pub fn law_names()
     ensures { LawNames }
-{}
-
-/// What a program asks in its runs fits where, as long as all before fits, each object of which
-/// something is asked is in hand, or is made and not in hand where it is called, and where the tasks,
-/// clusters and processors that it names are there.
-pub fn law_holds()
-    ensures { LawHolds }
 {}

@@ -1,6 +1,5 @@
--- What is left to show of what a program asks, so that it fits, once it names what is known.
+-- What is left to show of what a program asks, so that it fits: it is of hands, of who owns an object, of clusters and of processors alone.
 use Rattle.std.specs.Prelude.{◌≡◌, ℕ, ◌<◌, false, List, [], length}
-use Rattle.uc_tree.specs.declared.limits.TheConstants.{EVENTS}
 use Rattle.uc_tree.specs.Programs.{Program}
 use Rattle.uc_tree.specs.Source.{Source}
 use Rattle.uc_entry.specs.declared.entry.Options.{Options}
@@ -13,6 +12,8 @@ use Rattle.uc_acts.specs.Known.{has, owner}
 use Rattle.uc_acts.specs.KernelRuns.{InRange, IsMade}
 use Rattle.uc_machine.specs.Quiet.{State}
 use Rattle.uc_resolve.specs.Resolve.{source_of}
+use Rattle.uc_rules.specs.Breaks.{breaks_of}
+use Rattle.uc_sound.specs.Formed.{IsFormed}
 use Rattle.uc_meaning.specs.Runs.{World, Runs, AsksIn}
 use Rattle.uc_meaning.specs.Cuts.{Reentry}
 use Rattle.uc_step_laws.specs.Hands.{keys}
@@ -32,7 +33,7 @@ HoldsByHand opts j t hand (ask.Signal o c) = IsInHand hand o
 HoldsByHand opts j t hand (ask.SignalBlock o c) = IsInHand hand o
 HoldsByHand opts j t hand (ask.Empty o c) = IsInHand hand o
 HoldsByHand opts j t hand (ask.Front o c) = IsInHand hand o
-HoldsByHand opts j t hand (ask.Raise o event x y) = IsMade o j × (length (owner o j) ≡ 1) × (event < EVENTS)
+HoldsByHand opts j t hand (ask.Raise o event x y) = IsMade o j × (length (owner o j) ≡ 1)
 HoldsByHand opts j t hand (ask.ClusterEnd c) = c < cluster_count j
 HoldsByHand opts j t hand (ask.Processor c) = c < cluster_count j
 HoldsByHand opts j t hand (ask.ProcessorEnd q) = q < processor_count opts j
@@ -46,7 +47,7 @@ abbrev pub AsksHolding : Source → List ℕ → Options → Type 0
 AsksHolding source input opts =
     (j : Journal) (w : World) (r : Runs source input opts j w) → RunFits source input opts j w r → is_over j ≡ false → (p t n : ℕ) (s : State) (asked : Asked) → AsksIn source opts j w p t n s asked → HoldsByHand opts j t (keys s.env.hand) asked.request
 
--- then all that it asks fits
+-- then all that a program which breaks no rule asks fits
 abbrev pub LawHolds : Type 0
 LawHolds =
-    (p : Program) (input : List ℕ) (opts : Options) → InRange opts → AsksHolding (source_of p) input opts → Reentry (source_of p) input opts
+    (p : Program) → IsFormed p → breaks_of p ≡ [] → (input : List ℕ) (opts : Options) → InRange opts → AsksHolding (source_of p) input opts → Reentry (source_of p) input opts
