@@ -119,7 +119,7 @@ module _ (source : Source) (known : CountedSource source) (input : List ℕ) (op
     sound : Sound j
     sound = (good_whole opts source.sites input r.kernel).sound
 
-    pub asks_marked : (p t n : ℕ) (s : State) (asked : Asked) → AsksIn source opts j w p t n s asked → MarkedAsk source asked.request s
+    asks_marked : (p t n : ℕ) (s : State) (asked : Asked) → AsksIn source opts j w p t n s asked → MarkedAsk source asked.request s
     asks_marked p t n s asked d =
         let m = x.tasks t in
         let finds : Finds source (operands (asked_form t j)) (drawn j w t).run = m.run (law_alive opts source.sites input j r.kernel going p t d.runs) in

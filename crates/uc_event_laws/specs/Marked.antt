@@ -59,6 +59,11 @@ abbrev pub Known : Expr → (ℕ → Type 0) → Type 0
 Known (src.Literal (pos k)) next = next k
 Known e next = ⊥
 
+-- an event that is raised at a task has a number
+abbrev pub EventKnown : Request → Type 0
+EventKnown (ask.Raise o event x y) = event < EVENTS
+EventKnown r = Unit {0}
+
 module _ (source : Source) where
   -- the marks behind a piece; behind one of statements nothing is known
   abbrev pub after : Todo → List Mark → List Mark
@@ -183,11 +188,6 @@ module _ (source : Source) where
   FindsBehind ask.End a = Unit {0}
   FindsBehind (ask.Fault n) a = Unit {0}
   FindsBehind r a = Finds (operands (form_of_request r)) a
-
-  -- an event that is raised at a task has a number
-  abbrev pub EventKnown : Request → Type 0
-  EventKnown (ask.Raise o event x y) = event < EVENTS
-  EventKnown r = Unit {0}
 
   -- a task that has asked this
   pub record MarkedAsk (r : Request) (s : State) : Type 0 where

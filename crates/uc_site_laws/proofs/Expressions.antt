@@ -1,6 +1,6 @@
 -- What expressions stand for names members by numbers that there may be.
-use Rattle.std.proofs.Common.{◌≡◌, ℕ, suc, ◌≤◌, Bool, true, false, List, [], ◌∷◌, Option, Some, None, refl, arith}
-use Rattle.std.specs.Prelude.{ℤ, pos, ◌&&◌, nat_eq, nat_le, option_and_then, unwrap_or, if◌then◌else◌}
+use Rattle.std.proofs.Common.{◌≡◌, ℕ, ◌≤◌, Bool, true, false, List, [], ◌∷◌, Option, Some, None, refl}
+use Rattle.std.specs.Prelude.{pos, ◌&&◌, nat_le, option_and_then, if◌then◌else◌}
 use Rattle.std.proofs.lemmas.Bool.{leb-true}
 use Rattle.uc_tree.specs.declared.limits.TheConstants.{MEMBERS}
 use Rattle.uc_tree.specs.declared.kinds.Base.{Base}

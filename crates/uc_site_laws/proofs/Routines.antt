@@ -1,12 +1,11 @@
 -- All code of a program names what is known: constructors and destructors, written or not, bodies, and each routine of its source.
-use Rattle.std.proofs.Common.{◌≡◌, ℕ, zero, suc, ◌+◌, ◌<◌, ◌++◌, Bool, true, false, List, [], ◌∷◌, length, drop, Option, Some, None, refl, sym, ap, ◌∙◌, subst, arith, map}
-use Rattle.std.specs.Prelude.{slice_get, if◌then◌else◌}
+use Rattle.std.proofs.Common.{◌≡◌, ℕ, zero, suc, ◌+◌, ◌++◌, Bool, true, false, List, [], ◌∷◌, length, drop, Option, Some, None, refl, sym, ap, ◌∙◌, subst, arith}
+use Rattle.std.specs.Prelude.{slice_get}
 use Rattle.std.proofs.lemmas.List.{length-map}
 use Rattle.uc_tree.specs.declared.kinds.Kind.{Kind}
 use Rattle.uc_tree.specs.declared.kinds.Kind.TheVariants as kind
 use Rattle.uc_tree.specs.declared.kinds.Role.{Role}
 use Rattle.uc_tree.specs.declared.kinds.Role.TheVariants as role
-use Rattle.uc_tree.specs.Names.{same_name}
 use Rattle.uc_tree.specs.Cells.{leading_cells}
 use Rattle.uc_tree.specs.Statements as stmt
 use Rattle.uc_tree.specs.Statements.{clause_list}
@@ -17,13 +16,11 @@ use Rattle.uc_tree.specs.Numbering.{Defined, is_mutex, own_sites, own_texts, cla
 use Rattle.uc_tree.specs.Objects.{Making, ClassField, fields_of, has_execution, class_at, class_shape, shape_of, Unwritten, unwritten_of}
 use Rattle.uc_tree.specs.Source as src
 use Rattle.uc_tree.specs.Source.{Shape, Expr, Stmts, Purpose, Routine}
-use Rattle.uc_acts.specs.Doors.{site_at}
 use Rattle.uc_resolve.specs.Standings as tree
 use Rattle.uc_resolve.specs.Standings.{Meant}
 use Rattle.uc_resolve.specs.Resolve as meaning
 use Rattle.uc_resolve.specs.Resolve.{Scope, source_of}
-use Rattle.uc_step_laws.proofs.Kept.{either}
-use Rattle.uc_site_laws.specs.Named.{IsSite, NamedExpr, NamedStmt, NamedStmts, NamedRoutine, NamedSource}
+use Rattle.uc_site_laws.specs.Named.{IsSite, NamedExpr, NamedStmts, NamedRoutine, NamedSource}
 use Rattle.uc_site_laws.proofs.Expressions as expressions
 use Rattle.uc_site_laws.proofs.Expressions.{NamedMeant, NamedAll}
 use Rattle.uc_site_laws.proofs.Statements as statements

@@ -1,33 +1,28 @@
 -- What statements and routines of a program stand for names what is known: accept statements are numbered as they stand in its text.
-use Rattle.std.proofs.Common.{◌≡◌, ℕ, zero, suc, ◌+◌, ◌<◌, ◌≤◌, ◌++◌, Bool, true, false, List, [], ◌∷◌, length, map, Option, Some, None, refl, sym, ap, ◌∙◌, subst, arith, length-append}
-use Rattle.std.specs.Prelude.{ℤ, pos, nat_le, option_and_then, unwrap_or, if◌then◌else◌}
+use Rattle.std.proofs.Common.{◌≡◌, ℕ, suc, ◌+◌, ◌<◌, ◌++◌, Bool, true, false, List, [], ◌∷◌, length, map, Option, Some, None, refl, sym, ap, ◌∙◌, subst, arith, length-append}
+use Rattle.std.specs.Prelude.{nat_le, option_and_then, unwrap_or, if◌then◌else◌}
 use Rattle.std.proofs.lemmas.Bool.{leb-true}
 use Rattle.std.proofs.lemmas.List.{length-map}
 use Rattle.uc_tree.specs.declared.limits.TheConstants.{EVENTS, LAST_EVENT, UNHANDLED, FAILURE, FIRST_EVENT}
 use Rattle.uc_tree.specs.declared.pos.Pos.{Pos}
 use Rattle.uc_tree.specs.declared.kinds.Base.{Base}
-use Rattle.uc_tree.specs.declared.kinds.Base.TheVariants as base
-use Rattle.uc_tree.specs.declared.kinds.Kind.{Kind}
-use Rattle.uc_tree.specs.declared.kinds.Kind.TheVariants as kind
 use Rattle.uc_tree.specs.declared.kinds.Role.{Role}
 use Rattle.uc_tree.specs.declared.kinds.Role.TheVariants as role
 use Rattle.uc_tree.specs.Names.{same_name}
-use Rattle.uc_tree.specs.Cells.{classes_of, leading_cells}
+use Rattle.uc_tree.specs.Cells.{classes_of}
 use Rattle.uc_tree.specs.Expressions as expr
 use Rattle.uc_tree.specs.Statements as stmt
 use Rattle.uc_tree.specs.Statements.{clause_list, Declarator}
-use Rattle.uc_tree.specs.Programs as whole
 use Rattle.uc_tree.specs.Programs.{Program, Site}
-use Rattle.uc_tree.specs.Gathered.{gathered, gathered_all, gathered_maybe, gathered_handler, gathered_handlers, gathered_clause, gathered_clauses}
-use Rattle.uc_tree.specs.Numbering.{at_most, place_from, event_names, event_number, unhandled_name, failure_name, own_sites, clause_members}
-use Rattle.uc_tree.specs.Objects.{Making, APlain, AMutex, ACluster, AProcessor, making, written_at, shape_of, number_at, unwritten_number}
+use Rattle.uc_tree.specs.Gathered.{gathered, gathered_all, gathered_maybe, gathered_handlers, gathered_clauses}
+use Rattle.uc_tree.specs.Numbering.{at_most, place_from, event_names, unhandled_name, failure_name, own_sites, clause_members}
+use Rattle.uc_tree.specs.Objects.{Making, APlain, AMutex, ACluster, AProcessor, making, written_at, shape_of}
 use Rattle.uc_tree.specs.Source as src
 use Rattle.uc_tree.specs.Source.{Shape, Expr, Stmt, Stmts, Clauses, Handlers, Declared, Item, Target, CleanUp, Raised, clause_count}
 use Rattle.uc_resolve.specs.Standings as tree
 use Rattle.uc_resolve.specs.Standings.{Meant, Context}
 use Rattle.uc_resolve.specs.Resolve as meaning
 use Rattle.uc_resolve.specs.Resolve.{Scope}
-use Rattle.uc_step_laws.proofs.Kept.{either}
 use Rattle.uc_site_laws.specs.Named.{IsSite, NamedExpr, NamedMaybe, NamedItems, NamedTargets, NamedDeclared, NamedClean, NamedRaised, NamedAt, NamedStmt, NamedStmts, NamedHandlers, NamedClauses}
 use Rattle.uc_site_laws.proofs.Expressions as expressions
 use Rattle.uc_site_laws.proofs.Expressions.{NamedMeant, NamedAll}

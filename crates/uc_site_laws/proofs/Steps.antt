@@ -1,13 +1,13 @@
 -- A quiet step of a state of which all names are known leads to one, or asks what names what is known.
-use Rattle.std.proofs.Common.{◌≡◌, ℕ, zero, suc, ◌+◌, ◌*◌, ◌^◌, ◌<◌, ◌≤◌, ◌++◌, Bool, true, false, ◌&&◌, List, [], ◌∷◌, length, drop, Option, Some, None, refl, sym, ap, ◌∙◌, subst, arith}
-use Rattle.std.specs.Prelude.{ℤ, pos, nat_eq, nat_lt, slice_get, if◌then◌else◌}
+use Rattle.std.proofs.Common.{◌≡◌, ℕ, zero, suc, ◌+◌, ◌^◌, ◌<◌, ◌≤◌, ◌++◌, Bool, true, false, ◌&&◌, List, [], ◌∷◌, length, drop, Option, Some, None, refl, sym, ◌∙◌, subst, arith}
+use Rattle.std.specs.Prelude.{nat_eq, nat_lt, if◌then◌else◌}
 use Rattle.std.proofs.Math.Nat.{pow-succ'}
-use Rattle.uc_tree.specs.declared.limits.TheConstants.{CALLS, PENDING_EVENTS, DESTRUCTOR, MEMBERS}
+use Rattle.uc_tree.specs.declared.limits.TheConstants.{CALLS, PENDING_EVENTS, MEMBERS}
 use Rattle.uc_tree.specs.Programs.{Site}
 use Rattle.uc_tree.specs.Source as src
 use Rattle.uc_tree.specs.Source.{Shape, Expr, ObjectExpr, Stmt, Stmts, EventStmt, TaskStmt, Routine, Purpose, Order, Way, CleanUp, Handlers, Clauses, Raised, Item, Declared}
 use Rattle.uc_entry.specs.declared.fault.RunFault.{RunFault}
-use Rattle.uc_entry.specs.declared.fault.RunFault.TheVariants.{Index, Depth, NoReturn, BlockedInside, TooManyPending, NotLive, Unhandled}
+use Rattle.uc_entry.specs.declared.fault.RunFault.TheVariants.{Index, Depth, BlockedInside, TooManyPending, NotLive, Unhandled}
 use Rattle.uc_entry.specs.declared.request.Piece.{Piece}
 use Rattle.uc_entry.specs.declared.request.Request.{Request}
 use Rattle.uc_entry.specs.declared.request.Request.TheVariants as ask
@@ -30,8 +30,8 @@ use Rattle.uc_machine.specs.Quiet as quiet
 use Rattle.uc_machine.specs.Pieces as piece
 use Rattle.uc_machine.specs.Pieces.{Value, Number, Place, Running, Object, Nothing, Todo, Sort, Active, State, Env, Members, Step, Goes, Ticks, Asks, Outcome, Gives, Faults, at, in_env, goes, fault, asks, turns, top, below, number, is_zero, written}
 use Rattle.uc_step_laws.proofs.Kept.{either}
-use Rattle.uc_site_laws.specs.Named.{IsSite, NamedExpr, NamedExprs, NamedObject, NamedMaybe, NamedItem, NamedItems, NamedClean, NamedRaised, NamedAt, NamedStmt, NamedStmts, NamedEvent, NamedTask, NamedHandlers, NamedClauses, NamedRoutine}
-use Rattle.uc_site_laws.specs.Naming.{NamedPiece, Named, NamedActive, NamedState, NamesKnown, NamedAsk, NamedStep}
+use Rattle.uc_site_laws.specs.Named.{IsSite, NamedExpr, NamedObject, NamedMaybe, NamedItem, NamedClean, NamedRaised, NamedAt, NamedStmt, NamedStmts, NamedEvent, NamedTask, NamedHandlers, NamedClauses, NamedRoutine}
+use Rattle.uc_site_laws.specs.Naming.{NamedPiece, Named, NamedActive, NamedState, NamesKnown, NamedStep}
 use Rattle.uc_site_laws.specs.Resting.{AllWait, RestsEnv}
 use Rattle.uc_site_laws.proofs.Kept as kept
 

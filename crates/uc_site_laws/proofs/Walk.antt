@@ -1,6 +1,6 @@
 -- Every quiet step of a state of which all names are known, answers to it, and rides of it.
-use Rattle.std.proofs.Common.{◌≡◌, ℕ, suc, List, [], ◌∷◌, ◌++◌, length, drop, Option, Some, None, true, false, refl, sym, ap, subst}
-use Rattle.std.specs.Prelude.{nat_eq, nat_lt, slice_get, if◌then◌else◌}
+use Rattle.std.proofs.Common.{◌≡◌, ℕ, List, [], ◌∷◌, ◌++◌, Option, Some, None, refl, subst}
+use Rattle.std.specs.Prelude.{nat_lt, slice_get}
 use Rattle.uc_tree.specs.Programs.{Site}
 use Rattle.uc_tree.specs.Source as src
 use Rattle.uc_tree.specs.Source.{Source, Routine, routine_or_none, routine_of}
@@ -8,22 +8,18 @@ use Rattle.uc_entry.specs.declared.fault.RunFault.TheVariants.{NoReturn}
 use Rattle.uc_entry.specs.declared.request.Answer.{Answer}
 use Rattle.uc_entry.specs.declared.request.Answer.TheVariants as answer
 use Rattle.uc_entry.specs.declared.request.Asked.{Asked}
-use Rattle.uc_entry.specs.Keyed.{find}
 use Rattle.uc_machine.specs.Executions.{values_cleared}
-use Rattle.uc_machine.specs.Switches as sw
-use Rattle.uc_machine.specs.Insides as inside
 use Rattle.uc_machine.specs.Raising as raising
 use Rattle.uc_machine.specs.Monitors as monitors
-use Rattle.uc_machine.specs.Polls as polls
 use Rattle.uc_machine.specs.Quiet as quiet
 use Rattle.uc_machine.specs.Quiet.{first_state, zeros}
 use Rattle.uc_machine.specs.Pieces as piece
 use Rattle.uc_machine.specs.Pieces.{Value, Todo, State, Members, Step, Goes, Ticks, Asks, at, top, below, number}
-use Rattle.uc_machine.specs.Answering.{answered, entered, new_members, with_operand, with_hand, child_main, child_of}
+use Rattle.uc_machine.specs.Answering.{answered, entered, new_members, with_operand}
 use Rattle.uc_machine.specs.Rides as rides
 use Rattle.uc_machine.specs.Rides.{Rides}
 use Rattle.uc_step_laws.proofs.Kept.{either}
-use Rattle.uc_site_laws.specs.Named.{NamedStmts, NamedRoutine, NamedSource}
+use Rattle.uc_site_laws.specs.Named.{NamedRoutine, NamedSource}
 use Rattle.uc_site_laws.specs.SiteLaws.{LawSteps}
 use Rattle.uc_site_laws.specs.Naming.{NamedPiece, Named, NamedActive, NamedMembers, NamedState, NamedAsk, NamedStep}
 use Rattle.uc_site_laws.specs.Resting.{AllWait, RestsParked, RestsHand, RestsEnv}

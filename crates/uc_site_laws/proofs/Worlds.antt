@@ -1,25 +1,21 @@
 -- In every run of a program all that its tasks have to do names what is known.
-use Rattle.std.proofs.Common.{◌≡◌, ℕ, ◌<◌, ◌==◌, Bool, true, false, List, [], ◌∷◌, ◌++◌, Option, Some, None, refl, subst}
-use Rattle.std.specs.Prelude.{if◌then◌else◌}
-use Rattle.uc_tree.specs.Programs.{Program, Site}
+use Rattle.std.proofs.Common.{ℕ, ◌==◌, List, [], ◌∷◌, Option, Some, None}
+use Rattle.uc_tree.specs.Programs.{Site}
 use Rattle.uc_tree.specs.Numbering.{sites_of}
-use Rattle.uc_tree.specs.Source.{Source, routine_of}
+use Rattle.uc_tree.specs.Source.{Source}
 use Rattle.uc_entry.specs.declared.entry.Entry.{Entry}
 use Rattle.uc_entry.specs.declared.entry.Options.{Options}
 use Rattle.uc_entry.specs.declared.request.Asked.{Asked}
-use Rattle.uc_entry.specs.declared.request.Request.{Request}
-use Rattle.uc_entry.specs.declared.request.Request.TheVariants as ask
 use Rattle.uc_entry.specs.Keyed.{find}
-use Rattle.uc_acts.specs.Journal.{Journal, held, own_object, is_over}
-use Rattle.uc_acts.specs.Known.{has, owner, spawns, takes_out}
-use Rattle.uc_acts.specs.Serves.{left}
+use Rattle.uc_acts.specs.Journal.{Journal, held, own_object}
+use Rattle.uc_acts.specs.Known.{spawns, takes_out}
 use Rattle.uc_machine.specs.Quiet.{State, Members, no_members}
-use Rattle.uc_machine.specs.Answering.{answered, child_main}
+use Rattle.uc_machine.specs.Answering.{child_main}
 use Rattle.uc_resolve.specs.Resolve.{source_of}
-use Rattle.uc_meaning.specs.Runs.{World, AsksIn, May, Runs, gives, no_room, acts, begun, more, bare, with_home, hand_of, drawn, or_else, first_home}
+use Rattle.uc_meaning.specs.Runs.{World, AsksIn, May, Runs, gives, no_room, acts, begun, more, bare, with_home, hand_of, drawn, or_else}
 use Rattle.uc_step_laws.proofs.Kept.{either}
 use Rattle.uc_site_laws.specs.Named.{NamedSource}
-use Rattle.uc_site_laws.specs.Naming.{NamedActive, NamedMembers, NamedState, NamesKnown, NamedAsk}
+use Rattle.uc_site_laws.specs.Naming.{NamedActive, NamedMembers, NamedState, NamedAsk}
 use Rattle.uc_site_laws.specs.Resting.{RestsHand}
 use Rattle.uc_site_laws.proofs.Steps.{calm}
 use Rattle.uc_site_laws.specs.SiteLaws.{LawNames}

@@ -1,5 +1,5 @@
 -- What programs name when they ask.
-use Rattle.std.specs.Prelude.{◌≡◌, ℕ, List}
+use Rattle.std.specs.Prelude.{ℕ, List}
 use Rattle.uc_tree.specs.Programs.{Program, Site}
 use Rattle.uc_tree.specs.Numbering.{sites_of}
 use Rattle.uc_tree.specs.Source.{Source, routine_of}
