@@ -1,12 +1,12 @@
 -- Marks and operands, and to-do lists that are left.
-use Rattle.std.proofs.Common.{◌≡◌, ℕ, zero, suc, ◌+◌, ◌<◌, ◌⊎◌, inl, inr, List, [], ◌∷◌, drop, Option, Some, None, refl, sym, ap, ◌∙◌, subst, arith}
+use Rattle.std.proofs.Common.{◌≡◌, ℕ, zero, suc, ◌⊎◌, inl, inr, List, [], ◌∷◌, drop, refl, sym, ap, subst}
 use Rattle.std.specs.Prelude.{pos, slice_set}
 use Rattle.uc_tree.specs.Source as src
 use Rattle.uc_tree.specs.Source.{Expr, Source}
 use Rattle.uc_machine.specs.Pieces as piece
 use Rattle.uc_machine.specs.Pieces.{Value, Nothing, Todo, Active, top, below}
 use Rattle.uc_site_laws.specs.Resting.{AllWait}
-use Rattle.uc_event_laws.specs.Marked.{Mark, Any, Event, Holds, rest, rests, anys, Known, after, Ok, Left, Finds, Runs, Waits}
+use Rattle.uc_event_laws.specs.Marked.{Mark, Any, Event, Holds, rest, rests, anys, Known, after, Ok, Left, Runs, Waits}
 
 -- operands
 

@@ -1,13 +1,12 @@
 -- A quiet step of a state in order leads to one, or asks what raises an event by a number that there may be.
-use Rattle.std.proofs.Common.{◌≡◌, ℕ, zero, suc, ◌+◌, ◌*◌, ◌<◌, ◌⊎◌, inl, inr, ◌++◌, Bool, true, false, ◌&&◌, List, [], ◌∷◌, length, drop, Option, Some, None, refl, sym, ap, ◌∙◌, subst, arith}
-use Rattle.std.specs.Prelude.{ℤ, pos, nat_eq, nat_lt, slice_get, slice_set, if◌then◌else◌}
+use Rattle.std.proofs.Common.{◌≡◌, ℕ, zero, suc, ◌<◌, ◌⊎◌, inl, inr, ◌++◌, Bool, true, false, ◌&&◌, List, [], ◌∷◌, length, drop, Option, Some, None, refl, sym, ap, ◌∙◌, subst, arith}
+use Rattle.std.specs.Prelude.{pos, nat_eq, nat_lt, slice_set}
 use Rattle.uc_tree.specs.declared.limits.TheConstants.{CALLS, PENDING_EVENTS, EVENTS}
 use Rattle.uc_tree.specs.Source as src
 use Rattle.uc_tree.specs.Source.{Shape, Expr, ObjectExpr, Stmt, Stmts, EventStmt, TaskStmt, Routine, Purpose, Order, Way, CleanUp, Handlers, Clauses, Raised, Item, Source}
 use Rattle.uc_entry.specs.declared.fault.RunFault.{RunFault}
-use Rattle.uc_entry.specs.declared.fault.RunFault.TheVariants.{Index, Depth, NoReturn, BlockedInside, TooManyPending, NotLive, Unhandled}
+use Rattle.uc_entry.specs.declared.fault.RunFault.TheVariants.{Index, Depth, BlockedInside, TooManyPending, NotLive, Unhandled}
 use Rattle.uc_entry.specs.declared.request.Piece.{Piece}
-use Rattle.uc_entry.specs.declared.request.Request.{Request}
 use Rattle.uc_entry.specs.declared.request.Request.TheVariants as ask
 use Rattle.uc_entry.specs.Keyed.{find, signed_64}
 use Rattle.uc_machine.specs.declared.exec.Exec.{Exec}
@@ -26,10 +25,10 @@ use Rattle.uc_machine.specs.Quiet as quiet
 use Rattle.uc_machine.specs.Pieces as piece
 use Rattle.uc_machine.specs.Pieces.{Value, Number, Place, Running, Object, Nothing, Todo, Sort, Active, State, Env, Members, Step, Goes, Ticks, Asks, Outcome, Gives, Faults, at, in_env, goes, fault, asks, turns, top, below, number, written}
 use Rattle.uc_step_laws.proofs.Kept.{either}
-use Rattle.uc_site_laws.specs.Resting.{AllWait, RestsEnv, RestsState}
+use Rattle.uc_site_laws.specs.Resting.{AllWait, RestsEnv}
 use Rattle.uc_site_laws.proofs.Kept as kept
-use Rattle.uc_event_laws.specs.Counted.{params_at, params, count, CountedExpr, CountedExprs, CountedObject, CountedMaybe, CountedItem, CountedItems, CountedClean, CountedRaised, CountedAt, CountedStmt, CountedStmts, CountedEvent, CountedTask, CountedHandlers, CountedClauses, CountedRoutine}
-use Rattle.uc_event_laws.specs.Marked.{Mark, Any, Event, Holds, rest, rests, anys, IsEvent, Known, after, CountedPiece, LeftBy, Ok, Left, Finds, Runs, Waits, FindsBehind, EventKnown, MarkedState, MarkedAsk, MarkedStep}
+use Rattle.uc_event_laws.specs.Counted.{params_at, params, count, CountedExpr, CountedObject, CountedMaybe, CountedItem, CountedClean, CountedRaised, CountedAt, CountedStmt, CountedStmts, CountedEvent, CountedTask, CountedHandlers, CountedClauses, CountedRoutine}
+use Rattle.uc_event_laws.specs.Marked.{Mark, Any, Event, Holds, rest, rests, anys, IsEvent, Known, LeftBy, Ok, Left, Runs, Waits, MarkedState, MarkedStep}
 use Rattle.uc_event_laws.proofs.Marks as marks
 use Rattle.uc_event_laws.proofs.Marks.{holds_below, holds_drop, holds_anys, rests_anys, drop_set}
 

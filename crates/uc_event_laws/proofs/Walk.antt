@@ -1,14 +1,12 @@
 -- Every quiet step of a state in order, answers to it, and rides of it.
-use Rattle.std.proofs.Common.{◌≡◌, ℕ, suc, List, [], ◌∷◌, ◌++◌, inl, inr, length, drop, Option, Some, None, true, false, refl, sym, ap, subst}
-use Rattle.std.specs.Prelude.{nat_eq, nat_lt, slice_get, if◌then◌else◌}
+use Rattle.std.proofs.Common.{◌≡◌, ℕ, List, [], ◌∷◌, ◌++◌, inl, drop, Option, Some, None, refl, subst}
+use Rattle.std.specs.Prelude.{nat_lt, slice_get}
 use Rattle.uc_tree.specs.Source as src
 use Rattle.uc_tree.specs.Source.{Source, Routine, routine_or_none, routine_of}
 use Rattle.uc_entry.specs.declared.fault.RunFault.TheVariants.{NoReturn}
 use Rattle.uc_entry.specs.declared.request.Answer.{Answer}
 use Rattle.uc_entry.specs.declared.request.Answer.TheVariants as answer
 use Rattle.uc_entry.specs.declared.request.Asked.{Asked}
-use Rattle.uc_entry.specs.declared.request.Request.{Request}
-use Rattle.uc_entry.specs.declared.request.Request.TheVariants as ask
 use Rattle.uc_machine.specs.Executions.{values_cleared}
 use Rattle.uc_machine.specs.Raising as raising
 use Rattle.uc_machine.specs.Monitors as monitors
@@ -24,7 +22,7 @@ use Rattle.uc_answer_laws.specs.Suiting.{Form, AnObject, AClause, ANumber, AValu
 use Rattle.uc_site_laws.specs.Resting.{AllWait, RestsParked, RestsHand, RestsEnv}
 use Rattle.uc_site_laws.proofs.Kept as kept
 use Rattle.uc_event_laws.specs.Counted.{CountedExpr, CountedStmt, CountedRoutine, CountedSource}
-use Rattle.uc_event_laws.specs.Marked.{Mark, Any, Event, Holds, rest, rests, anys, operands, Ok, Left, Finds, Runs, Waits, FindsBehind, MarkedMembers, MarkedState, MarkedAsk, MarkedStep}
+use Rattle.uc_event_laws.specs.Marked.{Mark, Any, Holds, rest, operands, Ok, Finds, Runs, Waits, MarkedMembers, MarkedState, MarkedAsk, MarkedStep}
 use Rattle.uc_event_laws.specs.EventLaws.{LawSteps}
 use Rattle.uc_event_laws.proofs.Marks.{holds_below}
 use Rattle.uc_event_laws.proofs.Steps as steps

@@ -1,5 +1,5 @@
 -- In every run of a program in which all that was asked fits its tasks find the numbers of events where they expect them.
-use Rattle.std.proofs.Common.{◌≡◌, ℕ, zero, suc, ◌<◌, ◌≤◌, ◌==◌, ◌||◌, ◌⊎◌, inl, inr, Bool, true, false, List, [], ◌∷◌, ◌++◌, Option, Some, None, refl, sym, ap, ◌∙◌, subst, arith, append-nil, append_assoc, ⊎_elim}
+use Rattle.std.proofs.Common.{◌≡◌, ℕ, ◌<◌, ◌≤◌, ◌==◌, ◌||◌, Bool, true, false, List, [], ◌∷◌, ◌++◌, Option, Some, None, refl, sym, ap, ◌∙◌, subst, arith, append-nil, append_assoc, ⊎_elim}
 use Rattle.std.specs.Prelude.{if◌then◌else◌}
 use Rattle.std.proofs.lemmas.Bool.{eqb-true, ne_eqb, cases_lt}
 use Rattle.uc_tree.specs.Programs.{Program, Site}
@@ -15,46 +15,42 @@ use Rattle.uc_entry.specs.declared.request.Request.TheVariants as ask
 use Rattle.uc_entry.specs.Keyed.{find}
 use Rattle.uc_acts.specs.Journal.{Journal, begin, held, own_object, is_over, number}
 use Rattle.uc_acts.specs.Known.{has_ended, task_count, ends, spawns, spawns_task, takes_out}
-use Rattle.uc_acts.specs.Queues.{running}
-use Rattle.uc_acts.specs.Serves.{left}
-use Rattle.uc_acts.specs.Sound.{Sound, Spot, Unborn, At, spot}
-use Rattle.uc_acts.specs.Stations.{Running}
-use Rattle.uc_acts.specs.Legal.{IsNext, Legal}
+use Rattle.uc_acts.specs.Sound.{Sound, Spot}
+use Rattle.uc_acts.specs.Legal.{IsNext}
 use Rattle.uc_acts.specs.Acts.{act, dispatch, lone_limit}
-use Rattle.uc_acts.specs.KernelRuns.{InRange, MayAsk, KernelRuns}
+use Rattle.uc_acts.specs.KernelRuns.{InRange, MayAsk}
 use Rattle.uc_acts.proofs.Bounds.{over_limit}
 use Rattle.uc_acts.proofs.Law.{good_whole, lawful_act}
-use Rattle.uc_acts.proofs.Moves.{first_at, known_at, more_tasks}
+use Rattle.uc_acts.proofs.Moves.{more_tasks}
 use Rattle.uc_acts.proofs.Rows.{Lawful}
 use Rattle.uc_acts.proofs.SoundLemmas.{ended_push}
 use Rattle.uc_machine.specs.Quiet.{State, Members, no_members, first_state}
-use Rattle.uc_machine.specs.Answering.{answered, child_main, child_of}
+use Rattle.uc_machine.specs.Answering.{child_main, child_of}
 use Rattle.uc_resolve.specs.Resolve.{source_of}
 use Rattle.uc_rules.specs.Breaks.{breaks_of}
 use Rattle.uc_sound.specs.Formed.{IsFormed}
 use Rattle.uc_sound.specs.Tables.{table_of}
 use Rattle.uc_sound.proofs.SoundLemmas.{law_sound}
-use Rattle.uc_meaning.specs.Runs.{World, AsksIn, May, Runs as RunsIn, gives, no_room, acts, begun, more, bare, with_home, hand_of, drawn, or_else, first_home, first_world}
+use Rattle.uc_meaning.specs.Runs.{World, AsksIn, May, Runs as RunsIn, gives, no_room, acts, begun, more, bare, with_home, hand_of, drawn, or_else}
 use Rattle.uc_step_laws.proofs.Kept.{either}
 use Rattle.uc_step_laws.specs.Hands.{keys}
 use Rattle.uc_program_laws.specs.ByHand.{FitsByHand}
 use Rattle.uc_program_laws.proofs.ByHandLemmas.{law_by_hand}
 use Rattle.uc_program_laws.specs.Fitting.{MayFit, RunFits}
-use Rattle.uc_program_laws.specs.Laws.{AsksToGoOn}
 use Rattle.uc_program_laws.proofs.Alive.{law_alive}
 use Rattle.uc_program_laws.proofs.Makes.{law_ends}
 use Rattle.uc_program_laws.proofs.Others.{RunRests, may_ask, run_rests}
-use Rattle.uc_answer_laws.specs.Suiting.{Form, JustGo, asked_form, then_form, form_of_request}
+use Rattle.uc_answer_laws.specs.Suiting.{JustGo, asked_form, form_of_request}
 use Rattle.uc_answer_laws.proofs.Told.{form_push, SpotSuits}
 use Rattle.uc_answer_laws.proofs.Runs.{kept_run, law_suiting}
 use Rattle.uc_answer_laws.proofs.Asking.{law_asking}
 use Rattle.uc_site_laws.specs.Naming.{NamesKnown}
 use Rattle.uc_site_laws.proofs.Worlds.{law_names}
 use Rattle.uc_site_laws.proofs.Routines.{source_named}
-use Rattle.uc_site_laws.specs.Resting.{AllWait, RestsParked, RestsHand, RestsEnv}
+use Rattle.uc_site_laws.specs.Resting.{AllWait, RestsParked, RestsHand}
 use Rattle.uc_site_laws.proofs.Kept as kept
 use Rattle.uc_event_laws.specs.Counted.{CountedSource}
-use Rattle.uc_event_laws.specs.Marked.{operands, Finds, Runs, Waits, FindsBehind, EventKnown, MarkedMembers, MarkedState, MarkedAsk}
+use Rattle.uc_event_laws.specs.Marked.{operands, Finds, Runs, Waits, FindsBehind, EventKnown, MarkedMembers, MarkedAsk}
 use Rattle.uc_event_laws.specs.EventLaws.{LawEvents}
 use Rattle.uc_event_laws.specs.Holds.{HoldsByHand, LawHolds}
 use Rattle.uc_event_laws.proofs.Arguments.{counted_source}

@@ -1,5 +1,5 @@
 -- To-do lists before which the number of an event lies among the operands, as deep as the piece that raises it at another execution expects.
-use Rattle.std.specs.Prelude.{◌≡◌, ℕ, zero, suc, ◌<◌, ◌⊎◌, pos, List, [], ◌∷◌, Option, Some, None}
+use Rattle.std.specs.Prelude.{◌≡◌, ℕ, zero, suc, ◌<◌, ◌⊎◌, pos, List, [], ◌∷◌, Option}
 use Rattle.uc_tree.specs.declared.limits.TheConstants.{EVENTS}
 use Rattle.uc_tree.specs.Source as src
 use Rattle.uc_tree.specs.Source.{Expr, Source}
