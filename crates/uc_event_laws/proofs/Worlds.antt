@@ -31,6 +31,7 @@ use Rattle.uc_rules.specs.Breaks.{breaks_of}
 use Rattle.uc_sound.specs.Formed.{IsFormed}
 use Rattle.uc_sound.specs.Tables.{table_of}
 use Rattle.uc_sound.proofs.SoundLemmas.{law_sound}
+use Rattle.uc_formed.proofs.Texts.{text_formed}
 use Rattle.uc_meaning.specs.Runs.{World, AsksIn, May, Runs as RunsIn, gives, no_room, acts, begun, more, bare, with_home, hand_of, drawn, or_else}
 use Rattle.uc_step_laws.proofs.Kept.{either}
 use Rattle.uc_step_laws.specs.Hands.{keys}
@@ -52,7 +53,7 @@ use Rattle.uc_site_laws.proofs.Kept as kept
 use Rattle.uc_event_laws.specs.Counted.{CountedSource}
 use Rattle.uc_event_laws.specs.Marked.{operands, Finds, Runs, Waits, FindsBehind, EventKnown, MarkedMembers, MarkedAsk}
 use Rattle.uc_event_laws.specs.EventLaws.{LawEvents}
-use Rattle.uc_event_laws.specs.Holds.{HoldsByHand, LawHolds}
+use Rattle.uc_event_laws.specs.Holds.{HoldsByHand, LawHolds, LawTexts}
 use Rattle.uc_event_laws.proofs.Arguments.{counted_source}
 use Rattle.uc_event_laws.proofs.Steps.{calm}
 use Rattle.uc_event_laws.proofs.Walk.{first_marked, answered_marked, rides_marked}
@@ -246,3 +247,6 @@ module _ (opts : Options) (sites : List Site) (j : Journal) (t : ℕ) (hand : Li
 pub law_holds : LawHolds
 law_holds p formed ok input opts range by =
     law_by_hand (source_of p) input opts range (λ j w r f on q t n s asked d. fits_by opts (sites_of p) j t (keys s.env.hand) asked.request (law_names p input opts j w r q t n s asked d) (law_events p formed ok input opts range j w r f on q t n s asked d) (by j w r f on q t n s asked d))
+
+pub law_texts : LawTexts
+law_texts text p t input opts range by = law_holds p (text_formed text p t) t.no_break input opts range by

@@ -17,6 +17,7 @@ use Rattle.uc_sound.specs.Formed.{IsFormed}
 use Rattle.uc_meaning.specs.Runs.{World, Runs, AsksIn}
 use Rattle.uc_meaning.specs.Cuts.{Reentry}
 use Rattle.uc_step_laws.specs.Hands.{keys}
+use Rattle.uc_formed.specs.WellTyped.{IsTextOf}
 use Rattle.uc_program_laws.specs.Fitting.{RunFits}
 use Rattle.uc_program_laws.specs.ByHand.{IsInHand}
 
@@ -51,3 +52,8 @@ AsksHolding source input opts =
 abbrev pub LawHolds : Type 0
 LawHolds =
     (p : Program) → IsFormed p → breaks_of p ≡ [] → (input : List ℕ) (opts : Options) → InRange opts → AsksHolding (source_of p) input opts → Reentry (source_of p) input opts
+
+-- so does the program of every accepted text
+abbrev pub LawTexts : Type 0
+LawTexts =
+    (text : List ℕ) (p : Program) → IsTextOf text p → (input : List ℕ) (opts : Options) → InRange opts → AsksHolding (source_of p) input opts → Reentry (source_of p) input opts

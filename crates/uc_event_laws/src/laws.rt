@@ -1,7 +1,7 @@
 // The laws: each is a function whose contract is the law.
 
 ghost use Rattle.uc_event_laws.specs.EventLaws.{LawEvents, LawSteps};
-ghost use Rattle.uc_event_laws.specs.Holds.{LawHolds};
+ghost use Rattle.uc_event_laws.specs.Holds.{LawHolds, LawTexts};
 
 /// Where each call of a source has as many arguments as its routine has parameters, the number of an
 /// event that is raised at another execution lies among the operands where it is expected, from the
@@ -21,4 +21,9 @@ pub fn law_events()
 /// where the tasks, clusters and processors that it names are there.
 pub fn law_holds()
     ensures { LawHolds }
+{}
+
+/// So does the program of every accepted text.
+pub fn law_texts()
+    ensures { LawTexts }
 {}
