@@ -29,7 +29,7 @@ use Rattle.uc_tree.specs.Source as src
 use Rattle.uc_tree.specs.Source.{Shape, Expr, Operator}
 use Rattle.uc_resolve.specs.Standings as tree
 use Rattle.uc_resolve.specs.Standings.{Standing, Meant, Whose, Own, Of, NumberedField, ConditionCall, Context}
-use Rattle.uc_step_laws.proofs.Kept.{either}
+use Rattle.uc_site_laws.proofs.Kept.{either}
 use Rattle.uc_site_laws.specs.Named.{NamedExpr, NamedExprs}
 
 abbrev pub NamedStanding : Standing → Type 0

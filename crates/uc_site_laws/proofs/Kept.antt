@@ -1,6 +1,6 @@
 -- What holds of each activation goes on to hold where members, executions and who runs change.
-use Rattle.std.proofs.Common.{◌≡◌, ℕ, true, false, List, [], ◌∷◌, ◌++◌, Option, Some, None, refl, sym, subst}
-use Rattle.std.specs.Prelude.{nat_eq}
+use Rattle.std.proofs.Common.{◌≡◌, ℕ, Bool, true, false, List, [], ◌∷◌, ◌++◌, Option, Some, None, refl, sym, subst}
+use Rattle.std.specs.Prelude.{nat_eq, if◌then◌else◌}
 use Rattle.uc_entry.specs.declared.fault.RunFault.TheVariants.{ResumeInUse, SwitchInUnwind}
 use Rattle.uc_entry.specs.Keyed.{find}
 use Rattle.uc_machine.specs.declared.exec.Exec.{Exec}
@@ -15,8 +15,12 @@ use Rattle.uc_machine.specs.Executions.{Links, update, exec_eq, joined, members_
 use Rattle.uc_machine.specs.Switches as sw
 use Rattle.uc_machine.specs.Switches.{Moved, To, Stops}
 use Rattle.uc_machine.specs.Pieces.{Value, Number, Place, Running, Object, Nothing, Todo, Active, State, Env, Members, written}
-use Rattle.uc_step_laws.proofs.Kept.{either}
 use Rattle.uc_site_laws.specs.Resting.{Ex, RestsEx, RestsSlot, RestsParked, RestsHand, RestsMembers, RestsEnv, RestsState}
+
+-- the first of two by a test
+pub either : {A : Type 0} (P : A → Type 0) (b : Bool) (x y : A) → P x → P y → P (if b then x else y)
+either P true x y h k = h
+either P false x y h k = k
 
 module _ (Run Wait : Active → Type 0) (calm : (a : Active) (w : Option UnwindReason) → Run a → Run (record a { raised = w })) where
   -- the same, of what has the same hand and house

@@ -4,4 +4,3 @@ pub mod Walk
 pub mod Expressions
 pub mod Statements
 pub mod Routines
-pub mod Worlds

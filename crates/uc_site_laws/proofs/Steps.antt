@@ -29,7 +29,7 @@ use Rattle.uc_machine.specs.Polls as polls
 use Rattle.uc_machine.specs.Quiet as quiet
 use Rattle.uc_machine.specs.Pieces as piece
 use Rattle.uc_machine.specs.Pieces.{Value, Number, Place, Running, Object, Nothing, Todo, Sort, Active, State, Env, Members, Step, Goes, Ticks, Asks, Outcome, Gives, Faults, at, in_env, goes, fault, asks, turns, top, below, number, is_zero, written}
-use Rattle.uc_step_laws.proofs.Kept.{either}
+use Rattle.uc_site_laws.proofs.Kept.{either}
 use Rattle.uc_site_laws.specs.Named.{IsSite, NamedExpr, NamedObject, NamedMaybe, NamedItem, NamedClean, NamedRaised, NamedAt, NamedStmt, NamedStmts, NamedEvent, NamedTask, NamedHandlers, NamedClauses, NamedRoutine}
 use Rattle.uc_site_laws.specs.Naming.{NamedPiece, Named, NamedActive, NamedState, NamesKnown, NamedStep}
 use Rattle.uc_site_laws.specs.Resting.{AllWait, RestsEnv}

@@ -18,7 +18,7 @@ use Rattle.uc_machine.specs.Pieces.{Value, Todo, State, Members, Step, Goes, Tic
 use Rattle.uc_machine.specs.Answering.{answered, entered, new_members, with_operand}
 use Rattle.uc_machine.specs.Rides as rides
 use Rattle.uc_machine.specs.Rides.{Rides}
-use Rattle.uc_step_laws.proofs.Kept.{either}
+use Rattle.uc_site_laws.proofs.Kept.{either}
 use Rattle.uc_site_laws.specs.Named.{NamedRoutine, NamedSource}
 use Rattle.uc_site_laws.specs.SiteLaws.{LawSteps}
 use Rattle.uc_site_laws.specs.Naming.{NamedPiece, Named, NamedActive, NamedMembers, NamedState, NamedAsk, NamedStep}

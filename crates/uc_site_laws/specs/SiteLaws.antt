@@ -3,17 +3,14 @@ use Rattle.std.specs.Prelude.{ℕ, List}
 use Rattle.uc_tree.specs.Programs.{Program, Site}
 use Rattle.uc_tree.specs.Numbering.{sites_of}
 use Rattle.uc_tree.specs.Source.{Source, routine_of}
-use Rattle.uc_entry.specs.declared.entry.Options.{Options}
 use Rattle.uc_entry.specs.declared.request.Answer.{Answer}
 use Rattle.uc_entry.specs.declared.request.Asked.{Asked}
 use Rattle.uc_resolve.specs.Resolve.{source_of}
 use Rattle.uc_machine.specs.Quiet.{State, quiet, first_state}
 use Rattle.uc_machine.specs.Answering.{answered}
 use Rattle.uc_machine.specs.Rides.{Rides}
-use Rattle.uc_acts.specs.Journal.{Journal}
-use Rattle.uc_meaning.specs.Runs.{World, Runs, AsksIn}
 use Rattle.uc_site_laws.specs.Named.{NamedSource}
-use Rattle.uc_site_laws.specs.Naming.{NamedState, NamesKnown, NamedAsk, NamedStep}
+use Rattle.uc_site_laws.specs.Naming.{NamedState, NamedAsk, NamedStep}
 
 -- of any source of which all names are known: a task begins with known names, steps and answers keep them, and what a ride asks names what is known
 pub record LawSteps : Type 0 where
@@ -25,9 +22,3 @@ pub record LawSteps : Type 0 where
 -- all names are known in the source of every program
 abbrev pub LawSource : Type 0
 LawSource = (p : Program) → NamedSource (sites_of p) (source_of p)
-
--- so in every run of a program a task asks of a member by a number that there may be, and of an accept statement of the program, with a
--- mask of its clauses
-abbrev pub LawNames : Type 0
-LawNames =
-    (p : Program) (input : List ℕ) (opts : Options) (j : Journal) (w : World) → Runs (source_of p) input opts j w → (q t n : ℕ) (s : State) (asked : Asked) → AsksIn (source_of p) opts j w q t n s asked → NamesKnown (sites_of p) asked.request

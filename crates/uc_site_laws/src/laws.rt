@@ -1,6 +1,6 @@
 // The laws: each is a function whose contract is the law.
 
-ghost use Rattle.uc_site_laws.specs.SiteLaws.{LawNames, LawSource, LawSteps};
+ghost use Rattle.uc_site_laws.specs.SiteLaws.{LawSource, LawSteps};
 
 /// Where all code of a source names what is known, so does all that a task has to do, from its start
 /// on: each quiet step keeps that, and each answer. So what it asks names a member by a number that
@@ -14,10 +14,4 @@ pub fn law_steps()
 /// 31, and an event that is raised at another execution has one below 64.
 pub fn law_source()
     ensures { LawSource }
-{}
-
-/// So in every run of a program what a task asks names a mutex member by a number of at most 31, and
-/// an accept statement of the program, with a mask of its clauses.
-pub fn law_names()
-    ensures { LawNames }
 {}

@@ -21,11 +21,11 @@ use Rattle.uc_step_laws.proofs.Kept.{either}
 use Rattle.uc_answer_laws.specs.Suiting.{Form, AnObject, AClause, ANumber, AValue, AnEvent, JustGo, IsForm}
 use Rattle.uc_site_laws.specs.Resting.{AllWait, RestsParked, RestsHand, RestsEnv}
 use Rattle.uc_site_laws.proofs.Kept as kept
-use Rattle.uc_event_laws.specs.Counted.{CountedExpr, CountedStmt, CountedRoutine, CountedSource}
-use Rattle.uc_event_laws.specs.Marked.{Mark, Any, Holds, rest, operands, Ok, Finds, Runs, Waits, MarkedMembers, MarkedState, MarkedAsk, MarkedStep}
-use Rattle.uc_event_laws.specs.EventLaws.{LawSteps}
-use Rattle.uc_event_laws.proofs.Marks.{holds_below}
-use Rattle.uc_event_laws.proofs.Steps as steps
+use Rattle.uc_request_laws.specs.Counted.{CountedExpr, CountedStmt, CountedRoutine, CountedSource}
+use Rattle.uc_request_laws.specs.Marked.{Mark, Any, Holds, rest, operands, Ok, Finds, Runs, Waits, MarkedMembers, MarkedState, MarkedAsk, MarkedStep}
+use Rattle.uc_request_laws.specs.RequestLaws.{LawSteps}
+use Rattle.uc_request_laws.proofs.Marks.{holds_below}
+use Rattle.uc_request_laws.proofs.Steps as steps
 
 module _ (source : Source) (known : CountedSource source) where
   module _ (s : State) (callers : AllWait (Runs source) (Waits source) s.callers) (env : RestsEnv (Runs source) (Waits source) s.env) (ms : List Mark) (holds : Holds ms s.run.operands) where

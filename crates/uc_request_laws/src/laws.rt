@@ -1,13 +1,19 @@
 // The laws: each is a function whose contract is the law.
 
-ghost use Rattle.uc_event_laws.specs.EventLaws.{LawEvents, LawSteps};
-ghost use Rattle.uc_event_laws.specs.Holds.{LawHolds, LawTexts};
+ghost use Rattle.uc_request_laws.specs.RequestLaws.{LawEvents, LawNames, LawSteps};
+ghost use Rattle.uc_request_laws.specs.Holds.{LawHolds, LawTexts};
 
 /// Where each call of a source has as many arguments as its routine has parameters, the number of an
 /// event that is raised at another execution lies among the operands where it is expected, from the
 /// start of a task on: each quiet step keeps that, and each answer that suits what was asked.
 pub fn law_steps()
     ensures { LawSteps }
+{}
+
+/// In every run of a program what a task asks names a mutex member by a number of at most 31, and
+/// an accept statement of the program, with a mask of its clauses.
+pub fn law_names()
+    ensures { LawNames }
 {}
 
 /// So in every run of a program that breaks no rule, as long as all that was asked before fits, what

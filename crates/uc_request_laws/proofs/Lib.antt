@@ -2,4 +2,5 @@ pub mod Marks
 pub mod Steps
 pub mod Walk
 pub mod Arguments
-pub mod Worlds
+pub mod NamedWorlds
+pub mod MarkedWorlds

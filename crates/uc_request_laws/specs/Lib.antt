@@ -1,4 +1,4 @@
 pub mod Counted
 pub mod Marked
-pub mod EventLaws
+pub mod RequestLaws
 pub mod Holds

@@ -9,7 +9,7 @@ use Rattle.uc_machine.specs.Pieces as piece
 use Rattle.uc_machine.specs.Pieces.{Value, Number, Todo, Sort, sort, Active, State, Members, Step, Goes, Ticks, Asks, top, below}
 use Rattle.uc_answer_laws.specs.Suiting.{Form, AnObject, AClause, ANumber, AValue, AnEvent, JustGo, form_of_request}
 use Rattle.uc_site_laws.specs.Resting.{AllWait, RestsEnv, RestsMembers, RestsState}
-use Rattle.uc_event_laws.specs.Counted.{params, count, CountedExpr, CountedExprs, CountedMaybe, CountedItems, CountedTargets, CountedDeclared, CountedClean, CountedStmt, CountedStmts, CountedHandlers, CountedClauses}
+use Rattle.uc_request_laws.specs.Counted.{params, count, CountedExpr, CountedExprs, CountedMaybe, CountedItems, CountedTargets, CountedDeclared, CountedClean, CountedStmt, CountedStmts, CountedHandlers, CountedClauses}
 
 -- what is known of an operand: nothing, or that it is the number of this event
 pub data Mark : Type 0 where

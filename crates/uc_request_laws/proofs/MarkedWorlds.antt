@@ -46,17 +46,17 @@ use Rattle.uc_answer_laws.proofs.Told.{form_push, SpotSuits}
 use Rattle.uc_answer_laws.proofs.Runs.{kept_run, law_suiting}
 use Rattle.uc_answer_laws.proofs.Asking.{law_asking}
 use Rattle.uc_site_laws.specs.Naming.{NamesKnown}
-use Rattle.uc_site_laws.proofs.Worlds.{law_names}
+use Rattle.uc_request_laws.proofs.NamedWorlds.{law_names}
 use Rattle.uc_site_laws.proofs.Routines.{source_named}
 use Rattle.uc_site_laws.specs.Resting.{AllWait, RestsParked, RestsHand}
 use Rattle.uc_site_laws.proofs.Kept as kept
-use Rattle.uc_event_laws.specs.Counted.{CountedSource}
-use Rattle.uc_event_laws.specs.Marked.{operands, Finds, Runs, Waits, FindsBehind, EventKnown, MarkedMembers, MarkedAsk}
-use Rattle.uc_event_laws.specs.EventLaws.{LawEvents}
-use Rattle.uc_event_laws.specs.Holds.{HoldsByHand, LawHolds, LawTexts}
-use Rattle.uc_event_laws.proofs.Arguments.{counted_source}
-use Rattle.uc_event_laws.proofs.Steps.{calm}
-use Rattle.uc_event_laws.proofs.Walk.{first_marked, answered_marked, rides_marked}
+use Rattle.uc_request_laws.specs.Counted.{CountedSource}
+use Rattle.uc_request_laws.specs.Marked.{operands, Finds, Runs, Waits, FindsBehind, EventKnown, MarkedMembers, MarkedAsk}
+use Rattle.uc_request_laws.specs.RequestLaws.{LawEvents}
+use Rattle.uc_request_laws.specs.Holds.{HoldsByHand, LawHolds, LawTexts}
+use Rattle.uc_request_laws.proofs.Arguments.{counted_source}
+use Rattle.uc_request_laws.proofs.Steps.{calm}
+use Rattle.uc_request_laws.proofs.Walk.{first_marked, answered_marked, rides_marked}
 
 no_both : {A : Type 0} (b : Bool) → b ≡ true → b ≡ false → A
 no_both b t f = absurd (cc)

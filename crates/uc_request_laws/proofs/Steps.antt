@@ -27,10 +27,10 @@ use Rattle.uc_machine.specs.Pieces.{Value, Number, Place, Running, Object, Nothi
 use Rattle.uc_step_laws.proofs.Kept.{either}
 use Rattle.uc_site_laws.specs.Resting.{AllWait, RestsEnv}
 use Rattle.uc_site_laws.proofs.Kept as kept
-use Rattle.uc_event_laws.specs.Counted.{params_at, params, count, CountedExpr, CountedObject, CountedMaybe, CountedItem, CountedClean, CountedRaised, CountedAt, CountedStmt, CountedStmts, CountedEvent, CountedTask, CountedHandlers, CountedClauses, CountedRoutine}
-use Rattle.uc_event_laws.specs.Marked.{Mark, Any, Event, Holds, rest, rests, anys, IsEvent, Known, LeftBy, Ok, Left, Runs, Waits, MarkedState, MarkedStep}
-use Rattle.uc_event_laws.proofs.Marks as marks
-use Rattle.uc_event_laws.proofs.Marks.{holds_below, holds_drop, holds_anys, rests_anys, drop_set}
+use Rattle.uc_request_laws.specs.Counted.{params_at, params, count, CountedExpr, CountedObject, CountedMaybe, CountedItem, CountedClean, CountedRaised, CountedAt, CountedStmt, CountedStmts, CountedEvent, CountedTask, CountedHandlers, CountedClauses, CountedRoutine}
+use Rattle.uc_request_laws.specs.Marked.{Mark, Any, Event, Holds, rest, rests, anys, IsEvent, Known, LeftBy, Ok, Left, Runs, Waits, MarkedState, MarkedStep}
+use Rattle.uc_request_laws.proofs.Marks as marks
+use Rattle.uc_request_laws.proofs.Marks.{holds_below, holds_drop, holds_anys, rests_anys, drop_set}
 
 -- the number of an event stays one as a byte
 small_event : (k : ℕ) → k < EVENTS → raising.as_event (pos k) < EVENTS

@@ -18,7 +18,7 @@ use Rattle.uc_site_laws.specs.Named.{NamedSource}
 use Rattle.uc_site_laws.specs.Naming.{NamedActive, NamedMembers, NamedState, NamedAsk}
 use Rattle.uc_site_laws.specs.Resting.{RestsHand}
 use Rattle.uc_site_laws.proofs.Steps.{calm}
-use Rattle.uc_site_laws.specs.SiteLaws.{LawNames}
+use Rattle.uc_request_laws.specs.RequestLaws.{LawNames}
 use Rattle.uc_site_laws.proofs.Kept.{found_hand}
 use Rattle.uc_site_laws.proofs.Walk.{first_named, answered_named, rides_named}
 use Rattle.uc_site_laws.proofs.Routines.{source_named}

@@ -8,7 +8,7 @@ use Rattle.uc_typing.specs.Typing as typed
 use Rattle.uc_typing.specs.Typing.{Ty, Name, Kept, Sig, Table, IsRoutine, Yields, GiveAll, ObjectGives, FineItems, FineTargets, FineDeclared, FineClean, FineRaised, FineGuards, FineStmt, FineStmts, FineEvent, FineTask, FineHandlers, FineClauses, FineStep}
 use Rattle.uc_typing.specs.States.{Sound}
 use Rattle.uc_site_laws.specs.Named.{NamedAt, NamedStmt, NamedStmts, NamedEvent, NamedTask, NamedHandlers, NamedClauses, NamedRoutine, NamedSource}
-use Rattle.uc_event_laws.specs.Counted.{params_at, params, count, CountedExpr, CountedExprs, CountedObject, CountedMaybe, CountedItems, CountedTargets, CountedDeclared, CountedClean, CountedRaised, CountedAt, CountedStmt, CountedStmts, CountedEvent, CountedTask, CountedHandlers, CountedClauses, CountedRoutine, CountedSource}
+use Rattle.uc_request_laws.specs.Counted.{params_at, params, count, CountedExpr, CountedExprs, CountedObject, CountedMaybe, CountedItems, CountedTargets, CountedDeclared, CountedClean, CountedRaised, CountedAt, CountedStmt, CountedStmts, CountedEvent, CountedTask, CountedHandlers, CountedClauses, CountedRoutine, CountedSource}
 
 -- what stands at a place of a list
 at : {A : Type 0} (xs : List A) (n : ℕ) → n < length xs → (x : A) × (slice_get xs n ≡ Some x)

@@ -6,7 +6,7 @@ use Rattle.uc_tree.specs.Source.{Expr, Source}
 use Rattle.uc_machine.specs.Pieces as piece
 use Rattle.uc_machine.specs.Pieces.{Value, Nothing, Todo, Active, top, below}
 use Rattle.uc_site_laws.specs.Resting.{AllWait}
-use Rattle.uc_event_laws.specs.Marked.{Mark, Any, Event, Holds, rest, rests, anys, Known, after, Ok, Left, Runs, Waits}
+use Rattle.uc_request_laws.specs.Marked.{Mark, Any, Event, Holds, rest, rests, anys, Known, after, Ok, Left, Runs, Waits}
 
 -- operands
 

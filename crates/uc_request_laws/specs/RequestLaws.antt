@@ -1,6 +1,7 @@
--- The events that programs raise at tasks.
+-- What the tasks of a program ask: what they name, and which events they raise at tasks.
 use Rattle.std.specs.Prelude.{◌≡◌, ℕ, false, List, []}
 use Rattle.uc_tree.specs.Programs.{Program}
+use Rattle.uc_tree.specs.Numbering.{sites_of}
 use Rattle.uc_tree.specs.Source.{Source, routine_of}
 use Rattle.uc_entry.specs.declared.entry.Options.{Options}
 use Rattle.uc_entry.specs.declared.request.Answer.{Answer}
@@ -16,9 +17,10 @@ use Rattle.uc_machine.specs.Quiet.{State, quiet, first_state}
 use Rattle.uc_machine.specs.Answering.{answered}
 use Rattle.uc_machine.specs.Rides.{Rides}
 use Rattle.uc_answer_laws.specs.Suiting.{Form, IsForm}
+use Rattle.uc_site_laws.specs.Naming.{NamesKnown}
 use Rattle.uc_site_laws.specs.Resting.{AllWait, RestsEnv}
-use Rattle.uc_event_laws.specs.Counted.{CountedSource}
-use Rattle.uc_event_laws.specs.Marked.{operands, Finds, Runs, Waits, EventKnown, MarkedState, MarkedAsk, MarkedStep}
+use Rattle.uc_request_laws.specs.Counted.{CountedSource}
+use Rattle.uc_request_laws.specs.Marked.{operands, Finds, Runs, Waits, EventKnown, MarkedState, MarkedAsk, MarkedStep}
 
 -- of any source in which arguments are counted
 pub record LawSteps : Type 0 where
@@ -32,3 +34,9 @@ pub record LawSteps : Type 0 where
 abbrev pub LawEvents : Type 0
 LawEvents =
     (p : Program) → IsFormed p → breaks_of p ≡ [] → (input : List ℕ) (opts : Options) → InRange opts → (j : Journal) (w : World) (r : RunsIn (source_of p) input opts j w) → RunFits (source_of p) input opts j w r → is_over j ≡ false → (q t n : ℕ) (s : State) (asked : Asked) → AsksIn (source_of p) opts j w q t n s asked → EventKnown asked.request
+
+-- so in every run of a program a task asks of a member by a number that there may be, and of an accept statement of the program, with a
+-- mask of its clauses
+abbrev pub LawNames : Type 0
+LawNames =
+    (p : Program) (input : List ℕ) (opts : Options) (j : Journal) (w : World) → RunsIn (source_of p) input opts j w → (q t n : ℕ) (s : State) (asked : Asked) → AsksIn (source_of p) opts j w q t n s asked → NamesKnown (sites_of p) asked.request

@@ -1,4 +1,0 @@
-// Laws over the events that programs raise at tasks.
-#![tactic(auto)]
-
-pub mod laws;
