@@ -29,7 +29,7 @@ use Rattle.uc_lower_expr.specs.declared.making.Made.{Made}
 use Rattle.uc_lower_expr.specs.Meanings.{making_of}
 use Rattle.uc_lower_expr.specs.Members.{made_routine}
 use Rattle.uc_lower_stmt.specs.Blocks.{AllStandBehind, EndsScopes}
-use Rattle.uc_lower_stmt.specs.Objects.{array_by, build_room, call_by, destroyer_of, ended_by}
+use Rattle.uc_lower_stmt.specs.Objects.{array_by, build_room, build_rows, call_by, destroyer_of, ended_by}
 use Rattle.uc_lower_stmt.specs.LowersStatement.{Lowers, scope_of}
 use Rattle.uc_lower_stmt.proofs.Joined.{lowers_adds, lowers_as, lowers_nothing, lowers_put}
 use Rattle.uc_lower_stmt.proofs.Laying.{lays_ended, lays_join, lays_nothing, lays_one}
@@ -53,7 +53,7 @@ pub stands_by : (p : Program) (m : Made) (ms ns : List CodeMark) (wanted : Role)
 stands_by p m ms ns wanted how s o what b e w =
     subst (λ (x : Cleaning). CleansBehind ns x) (sym w) (subst (λ (os : List CodeMark). StandsBehind os (call_by (made_routine p wanted m) how s o)) (sym e) (record { behind = λ h. b.each wanted h }))
 
-pub part_built : (p : Program) (m : Made) (n : ℕ) (s : ObjectSpot) (l : Option ℕ) (place : Expr) (ms : List Meant) (what : Cleaning) (ws us : List Cleaning) (old mid new : Draft) → Puts (n + build_room l) (λ code. StmtAt code old.marks (build p 0 (making_of p m) l place ms)) old mid
+pub part_built : (p : Program) (m : Made) (n : ℕ) (s : ObjectSpot) (l : Option ℕ) (place : Expr) (ms : List Meant) (what : Cleaning) (ws us : List Cleaning) (old mid new : Draft) → Puts (build_rows l) (n + build_room l) (λ code. StmtAt code old.marks (build p 0 (making_of p m) l place ms)) old mid
     → us ≡ ws ++ what ∷ [] → what ≡ cleaning.Call (destroyer_of p m s (array_by p m l)) → Cleans (clean_up p (making_of p m) l place) what → new ≡ opened opening.Part mid → Kept (laid_in mid) (laid_in new) → AllStandBehind p m old.marks
     → Constructs (n + part_room l) (λ rest. Then (build p 0 (making_of p m) l place ms) (Built (clean_up p (making_of p m) l place) rest)) ws old us new
 part_built p m n s l place ms what ws us old mid new h f w g e k b =

@@ -13,6 +13,7 @@ use Rattle.uc_code.specs.CodeShapes.{Kept}
 use Rattle.uc_code.specs.Lowered.{StmtAt, StmtsAt}
 use Rattle.uc_code.specs.ObjectCalls.{Cleans}
 use Rattle.uc_code.specs.Emits.{Puts, clean_length}
+use Rattle.uc_code.proofs.Growth.{rows_same}
 use Rattle.uc_code.proofs.Stable.{kept_refl, kept_then, kept_same}
 use Rattle.uc_lower_expr.specs.DraftGrowth.{Adds}
 use Rattle.uc_lower_stmt.specs.Objects.{ClosesPart, InPart}
@@ -196,8 +197,8 @@ constructs_then {m} {n} {F} {G} {ws} {us} {vs} {old} {mid} {new} h g = record {
 
 -- a statement, and what follows a part
 
-pub constructs_does : {n : ℕ} {old new : Draft} → (s : Stmt) (ws : List Cleaning) → Puts n (λ code. StmtAt code old.marks s) old new → Constructs n (λ ss. Then s ss) ws old ws new
-constructs_does {n} {old} {new} s ws h =
+pub constructs_does : {r n : ℕ} {old new : Draft} → (s : Stmt) (ws : List Cleaning) → Puts r n (λ code. StmtAt code old.marks s) old new → Constructs n (λ ss. Then s ss) ws old ws new
+constructs_does {r} {n} {old} {new} s ws h =
     let marks : new.marks ≡ old.marks = ap (λ (d : Draft). d.marks) h.rest in
     record {
       rest = subst (λ (d : Draft). d ≡ record old { ops = d.ops; rows = d.rows; settled = d.settled; marks = d.marks }) (sym h.rest) refl;
@@ -211,10 +212,11 @@ constructs_does {n} {old} {new} s ws h =
           (Done (reverse ws) ks old.marks (length old.ops) (length new.ops) s (pended_kept (laid_in old) (laid_in new) ms a (reverse ws) ks old.marks (length old.ops) h.kept (omega arith) p) h.code);
     }
 
-pub puts_adds : {n : ℕ} {S : Laid → ℕ → ℕ → Type 0} {old new : Draft} → Adds n S old new → Puts n S old new
+pub puts_adds : {n : ℕ} {S : Laid → ℕ → ℕ → Type 0} {old new : Draft} → Adds n S old new → Puts 0 n S old new
 puts_adds {n} {S} {old} {new} h = record {
   rest = subst (λ (d : Draft). d ≡ record old { ops = d.ops; rows = d.rows; settled = d.settled }) (sym h.rest) refl;
   kept = h.kept;
+  rows = rows_same (ap (λ (d : Draft). d.rows) h.rest);
   room = h.room;
   code = h.code;
 }

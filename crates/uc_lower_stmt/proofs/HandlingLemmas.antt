@@ -347,7 +347,7 @@ kinds_take taker false e = ap takes_events e
 module _ (p : Program) (row number cell scope : ℕ) (taker : RowKind) (resumes : Bool) (event param : Option (List ℕ)) (line : ℕ) (d0 d1 d2 d3 d4 d5 new : Draft)
     (ke : taker ≡ kind_of resumes) (ne : number ≡ event_of (event_of_handler p event)) (few : IsNamed (event_of_handler p event))
     (b1 : d1 ≡ record d0 { rows = d1.rows }) (h1 : HandlerAt (laid_in d1) row (record { kind = taker; event = number; rest = length (handlers d0.marks); entry = length d0.ops })) (k1 : KeptBut row (laid_in d0) (laid_in d1))
-    (e2 : d2 ≡ record d1 { hidden = d1.hidden + KEPT_CELLS }) (ce : cell ≡ d1.hidden) (p3 : Puts 6 (λ code. KeepsAt code line cell) d2 d3) (e4 : d4 ≡ record d3 { handled = cell })
+    (e2 : d2 ≡ record d1 { hidden = d1.hidden + KEPT_CELLS }) (ce : cell ≡ d1.hidden) (p3 : Puts 0 6 (λ code. KeepsAt code line cell) d2 d3) (e4 : d4 ≡ record d3 { handled = cell })
     (e5 : d5 ≡ record d4 { place = record d4.place { scope = scope }; scopes = d4.scopes + 1 }) (e6 : (q : Program) (u : Scope) → u.names ≡ d5.names → cell + 1 ≡ u.hidden + 1 → new ≡ record d5 { names = (with_event q param event u).names }) where
   cell_is : cell ≡ d0.hidden
   cell_is = ce ∙ ap (λ (d : Draft). d.hidden) b1

@@ -5,6 +5,7 @@ use Rattle.uc_code.specs.Drafts.{Draft}
 use Rattle.uc_code.specs.Layout.{Laid, laid_in}
 use Rattle.uc_code.specs.CodeShapes.{Nothing, Both, Stable}
 use Rattle.uc_code.specs.Emits.{Puts}
+use Rattle.uc_code.proofs.Growth.{rows_as, rows_same}
 use Rattle.uc_code.proofs.Stable.{kept_refl, kept_then, kept_same}
 use Rattle.uc_lower_expr.specs.DraftGrowth.{Adds}
 use Rattle.uc_lower_stmt.specs.LowersStatement.{Lowers, scope_of}
@@ -22,8 +23,8 @@ lowers_adds {n} {S} {old} {new} k c h = record {
 }
 
 -- where rows come too
-pub lowers_puts : {n : ℕ} {S : Laid → ℕ → ℕ → Type 0} {old new : Draft} → (k c : ℕ) → Puts n S old new → Lowers n k c 0 S (scope_of old) old new
-lowers_puts {n} {S} {old} {new} k c h = record {
+pub lowers_puts : {r n : ℕ} {S : Laid → ℕ → ℕ → Type 0} {old new : Draft} → (k c : ℕ) → Puts r n S old new → Lowers n k c 0 S (scope_of old) old new
+lowers_puts {r} {n} {S} {old} {new} k c h = record {
   rest = subst (λ (d : Draft). d ≡ record old { ops = d.ops; rows = d.rows; settled = d.settled; scopes = d.scopes; names = d.names; cells = d.cells; hidden = d.hidden; texts = d.texts; sites = d.sites }) (sym h.rest) refl;
   scope = ap scope_of h.rest;
   opened = let e : new.scopes ≡ old.scopes = ap (λ (d : Draft). d.scopes) h.rest in omega arith;
@@ -35,13 +36,18 @@ lowers_puts {n} {S} {old} {new} k c h = record {
 }
 
 -- code without rows is code
-pub puts_adds : {n : ℕ} {S : Laid → ℕ → ℕ → Type 0} {old new : Draft} → Adds n S old new → Puts n S old new
+pub puts_adds : {n : ℕ} {S : Laid → ℕ → ℕ → Type 0} {old new : Draft} → Adds n S old new → Puts 0 n S old new
 puts_adds {n} {S} {old} {new} h = record {
   rest = subst (λ (d : Draft). d ≡ record old { ops = d.ops; rows = d.rows; settled = d.settled }) (sym h.rest) refl;
   kept = h.kept;
+  rows = rows_same (ap (λ (d : Draft). d.rows) h.rest);
   room = h.room;
   code = h.code;
 }
+
+-- the rows that come, by another count
+pub puts_counted : {q r n : ℕ} {S : Laid → ℕ → ℕ → Type 0} {old new : Draft} → q ≡ r → Puts q n S old new → Puts r n S old new
+puts_counted e h = record { rest = h.rest; kept = h.kept; rows = rows_as e (omega arith) h.rows; room = h.room; code = h.code }
 
 pub lowers_nothing : (old : Draft) → Lowers 0 0 0 0 (λ code. Nothing) (scope_of old) old old
 lowers_nothing old = record { rest = refl; scope = refl; opened = omega arith; kept = kept_refl (laid_in old); room = omega arith; texts = omega arith; cells = omega arith; code = record { end = refl } }

@@ -43,7 +43,7 @@ use Rattle.uc_lower_expr.specs.Members.{made_routine, routine_by}
 use Rattle.uc_lower_stmt.specs.Blocks.{AllStandBehind, started_args}
 use Rattle.uc_lower_expr.proofs.Walks.{some_size}
 use Rattle.uc_lower_stmt.specs.Marked.{calls_in, close_room, counted_by}
-use Rattle.uc_lower_stmt.specs.Objects.{build_room, call_by, destroyer_of, ended_by}
+use Rattle.uc_lower_stmt.specs.Objects.{build_room, build_rows, call_by, destroyer_of, ended_by}
 use Rattle.uc_lower_stmt.specs.OpenScopes.{Does, Opens, NoCall, Begins, Done, Opened, Lays}
 use Rattle.uc_lower_stmt.specs.LowersStatement.{scope_of}
 use Rattle.uc_lower_stmt.proofs.Kept.{stmt_stable}
@@ -113,7 +113,7 @@ closes_few c what (Restored cell) = omega arith
 module _ (p : Program) (m : Making) (b : Base) (d : Declarator) (line block cell cells : ℕ) (elements : Option ℕ) (args : List tree.Expr) (what : Cleaning) (d0 d1 d2 d3 new : Draft)
     (le : cell ≡ d0.cells) (ce : cells ≡ declared_cells p b d) (ne : elements ≡ length_of p d d.len) (ae : (c : Context) → args_meant c (exprs_of args) ≡ started_args c d.start) (few : exprs_size (exprs_of args) ≤ start_size d.start)
     (c1 : Adds 1 (OpCode line (op.Clear cell cells)) d0 d1)
-    (h2 : (place : Expr) → BeginsAt place (Local cell) → Puts (OPS_FOR_SIZE * exprs_size (exprs_of args) + build_room elements) (λ code. StmtAt code d1.marks (build p line m elements place (args_meant (context_in p d1) (exprs_of args)))) d1 d2)
+    (h2 : (place : Expr) → BeginsAt place (Local cell) → Puts (build_rows elements) (OPS_FOR_SIZE * exprs_size (exprs_of args) + build_room elements) (λ code. StmtAt code d1.marks (build p line m elements place (args_meant (context_in p d1) (exprs_of args)))) d1 d2)
     (cleans : (place : Expr) → BeginsAt place (Local cell) → Cleans (clean_up p m elements place) what)
     (o3 : d3 ≡ opened (opening.Object what block) d2) (k3 : Kept (laid_in d2) (laid_in d3))
     (e4 : new ≡ record d3 { names = d3.names ++ declared_known p (scope_of d3) b d ∷ []; cells = d3.cells + cells }) where
@@ -126,7 +126,7 @@ module _ (p : Program) (m : Making) (b : Base) (d : Declarator) (line block cell
   abbrev place : BeginsAt (Variable cell) (Local cell)
   place = InFrame cell
 
-  built : Puts (OPS_FOR_SIZE * exprs_size (exprs_of args) + build_room elements) (λ code. StmtAt code d1.marks (build p line m elements (Variable cell) (args_meant (context_in p d1) (exprs_of args)))) d1 d2
+  built : Puts (build_rows elements) (OPS_FOR_SIZE * exprs_size (exprs_of args) + build_room elements) (λ code. StmtAt code d1.marks (build p line m elements (Variable cell) (args_meant (context_in p d1) (exprs_of args)))) d1 d2
   built = h2 (Variable cell) place
 
   abbrev inner : CodeMark

@@ -81,6 +81,11 @@ abbrev pub build_room : Option ℕ → ℕ
 build_room None = 6
 build_room (Some n) = fill_room
 
+-- an array has a row, by its turns
+abbrev pub build_rows : Option ℕ → ℕ
+build_rows None = 0
+build_rows (Some n) = 1
+
 abbrev pub FillCode : ℕ → List CodeMark → ObjectCall → ObjectCall → ℕ → Laid → ℕ → ℕ → Type 0
 FillCode line ms builder destroyer n code = OverElements code line ms 0 n (op.Fill n) op.Sweep (CallBuilt code line builder) (CallDone code line destroyer)
 

@@ -69,7 +69,7 @@ fn lower_guards(
 // The statement of this number asks, a call that has failed is raised for resumption, and events are delivered.
 fn put_accept(site: u32, guards: u32, line: u32, out: &mut Draft) -> Result<(), AllocError>
     requires { length out.old.ops + 8 ≤ PROGRAM_OPS }
-    ensures { OnOk result (Puts 8 (λ code. AcceptsAt code out.old.marks site guards line) out.old out.new) }
+    ensures { OnOk result (Puts 0 8 (λ code. AcceptsAt code out.old.marks site guards line) out.old out.new) }
 {
     let ask = out.here();
     let end = ask + 8;

@@ -57,7 +57,7 @@ fn put_enabling(
     out: &mut Draft,
 ) -> Result<(), AllocError>
     requires { length out.old.ops + 5 ≤ PROGRAM_OPS }
-    ensures { OnOk result (Puts 5 (SwitchCode how events cell line out.old.marks) out.old out.new) }
+    ensures { OnOk result (Puts 0 5 (SwitchCode how events cell line out.old.marks) out.old out.new) }
 {
     match how {
         Enabling::Enable => {

@@ -38,7 +38,7 @@ fn lower_built(
 ) -> Result<(), AllocError>
     requires room { length out.old.ops + OPS_FOR_SIZE * exprs_size (exprs_of args.now) + 8 ≤ PROGRAM_OPS }
     requires cell { cell + 1 < 2 ^ 32 }
-    ensures { OnOk result (Puts (OPS_FOR_SIZE * exprs_size (exprs_of args.now) + 8) (λ code. RaisedAt code line out.old.marks (BuiltAt event cell (OfObject (CallOn routine (Variable cell) (args_by (params_of names.now routine) (args_meant (context_in names.now out.old) (exprs_of args.now))))))) out.old out.new) }
+    ensures { OnOk result (Puts 0 (OPS_FOR_SIZE * exprs_size (exprs_of args.now) + 8) (λ code. RaisedAt code line out.old.marks (BuiltAt event cell (OfObject (CallOn routine (Variable cell) (args_by (params_of names.now routine) (args_meant (context_in names.now out.old) (exprs_of args.now))))))) out.old out.new) }
 {
     put(
         Op::Clear {

@@ -18,6 +18,7 @@ ghost use Rattle.uc_tree.specs.Cells.{declared_cells, declarators_cells, for_cel
 ghost use Rattle.uc_resolve.specs.Resolve.{Scope, order_of, test_of};
 ghost use Rattle.uc_code.specs.Layout.{routine_in};
 ghost use Rattle.uc_code.specs.Emits.{Puts};
+ghost use Rattle.uc_code.specs.RowCounts.{return_rows};
 ghost use Rattle.uc_code.specs.CodeShapes.{begin_at};
 ghost use Rattle.uc_lower_expr.specs.DraftGrowth.{Adds};
 ghost use Rattle.uc_lower_stmt.specs.Marked.{objects_in, taken};
@@ -645,7 +646,7 @@ fn lower_return(
     out: &mut Draft,
 ) -> Result<(), AllocError>
     requires { taken out.old + OPS_FOR_SIZE * (1 + maybe_expr_size value.now + objects_in out.old.marks) ≤ PROGRAM_OPS }
-    ensures { OnOk result (Puts (OPS_FOR_SIZE * (1 + maybe_expr_size value.now + objects_in out.old.marks)) (ReturnCode names.now line out.old.marks (scope_of out.old) value.now) out.old out.new) }
+    ensures { OnOk result (Puts (return_rows out.old.marks) (OPS_FOR_SIZE * (1 + maybe_expr_size value.now + objects_in out.old.marks)) (ReturnCode names.now line out.old.marks (scope_of out.old) value.now) out.old out.new) }
 {
     match value {
         Some(value) => {
