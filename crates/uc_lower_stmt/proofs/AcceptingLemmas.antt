@@ -42,6 +42,8 @@ use Rattle.uc_lower_stmt.proofs.Joined.{lowers_as, lowers_puts, puts_adds}
 use Rattle.uc_lower_stmt.proofs.Jumping.{before_chosen, chosen, jumps_chosen, jumps_stable, kept_until, length_chosen, one_set, until_chosen}
 use Rattle.uc_lower_stmt.proofs.Kept.{branches_stable}
 use Rattle.uc_lower_stmt.proofs.Stating.{as_stmt}
+use Rattle.uc_lower_stmt.specs.RowFit.{RowsFit}
+use Rattle.uc_lower_stmt.proofs.RowFitting.{fit_like, fit_then}
 
 -- guards
 
@@ -175,7 +177,7 @@ module _ (p : Program) (line site count choose : ℕ) (xs : List Clause) (d0 d1 
       let l : Lowers (choice_room xs) 0 0 0 (ChoiceCode line around in_context d0.sites xs) (scope_of d1) d1 d5 = lowers_puts 0 0 all in
       let m : Lowers (choice_room xs) 0 0 0 (ChoiceCode line around in_context d0.sites xs) (scope_of (record d0 { sites = d0.sites + 1 })) (record d0 { sites = d0.sites + 1 }) d5 =
       subst (λ (d : Draft). Lowers (choice_room xs) 0 0 0 (ChoiceCode line around in_context d0.sites xs) (scope_of d) d d5) ad l in
-      record { rest = m.rest; scope = m.scope; opened = m.opened; kept = m.kept; room = m.room; texts = m.texts; cells = m.cells; code = m.code }
+      record { rest = m.rest; scope = m.scope; opened = m.opened; kept = m.kept; rows = record { few = m.rows.few; begin = m.rows.begin }; room = m.room; texts = m.texts; cells = m.cells; code = m.code }
 
   pub choice_place : choose + (many + 2) ≡ length d5.ops
   choice_place = let e = c.code.end in let f = h.code.end in omega (arith, ce, e, f)
@@ -340,6 +342,10 @@ module _ (p : Program) (line choose first count end : ℕ) (xs : List Clause) (o
         scope = b.branches.scope ∙ ap (λ (u : Scope). past_branches p xs other u) h.scope;
         opened = (let u = h.opened in let v = b.branches.opened in omega arith);
         kept = kept_until (laid_in d0) l2 choose (op.Choose n (length d2.ops)) (kept_then (laid_in d0) jumping l2 kept_jumping b.branches.kept) (omega arith);
+        rows =
+            let set : Draft = choice_set (choose + 1) first o ps d1 in
+            let one : RowsFit 0 d0 set = fit_like d0 set refl refl refl refl long_jumping refl h.rows in
+            fit_like d0 last refl refl refl refl long refl (fit_then b.branches.kept.longer one b.branches.rows);
         room = (let u = h.room in let v = b.branches.room in omega (arith, objects, long, long_jumping, u, v));
         texts = (let u = h.texts in let v = b.branches.texts in omega arith);
         cells = (let u = h.cells in let v = b.branches.cells in omega arith);

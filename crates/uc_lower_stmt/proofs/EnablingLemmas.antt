@@ -46,6 +46,8 @@ use Rattle.uc_lower_stmt.proofs.HandlingLemmas.{event_few}
 use Rattle.uc_lower_stmt.proofs.Joined.{lowers_as, lowers_join, lowers_puts, puts_adds}
 use Rattle.uc_lower_stmt.proofs.Kept.{stmt_stable}
 use Rattle.uc_lower_stmt.proofs.Stating.{as_stmt}
+use Rattle.uc_lower_stmt.specs.RowFit.{RowsFit, open_rows}
+use Rattle.uc_lower_stmt.proofs.RowFitting.{fit_like, fit_none, fit_opened, fit_then}
 
 -- the events of a list
 
@@ -235,6 +237,10 @@ module _ (p : Program) (how : Enabling) (line mask cell : ℕ) (es : List EventN
           scope = ap scope_of h5.rest ∙ h4.scope ∙ ap (λ (t : Scope). scope_past p body t) scope3;
           opened = let x = h4.opened in omega (arith, x, scopes, scopes_new);
           kept = kept_new;
+          rows =
+              let one : RowsFit 0 d1 d2 = fit_opened (opening.Object (cleaning.Restore cell) line) d1 d2 h2 in
+              let begun : RowsFit 0 d0 d2 = fit_like d0 d2 (sym (ap (λ (d : Draft). d.rows) h1)) (sym (ap (λ (d : Draft). length d.ops) h1)) (sym (ap (λ (d : Draft). open_rows d.marks) h1)) refl refl refl one in
+              fit_then h5.kept.longer (fit_then h4.kept.longer (fit_then h3.kept.longer begun (fit_none h3)) h4.rows) h5.rows;
           room = let x = h5.room in let y = room_done in omega (arith, x, y);
           texts = let x = h4.texts in omega (arith, x, texts, texts_new);
           cells = let x = h4.cells in omega (arith, x, cells, cells_new);

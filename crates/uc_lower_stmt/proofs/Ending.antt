@@ -20,12 +20,14 @@ use Rattle.uc_code.specs.OpenRows.{CleansBehind, exit_room, handler_in, row_in, 
 use Rattle.uc_code.specs.RowCounts.{cleaning_rows, return_rows}
 use Rattle.uc_code.specs.Emits.{Puts, place_length, called_length, manner_length, clean_by, clean_length}
 use Rattle.uc_code.proofs.Stable.{kept_then, kept_piece, leaves_stable, one_stable, risk_stable}
-use Rattle.uc_code.proofs.Growth.{rows_as}
+use Rattle.uc_code.proofs.Growth.{rows_as, rows_closed}
 use Rattle.uc_code.proofs.Putting.{clean_is, clean_stable, marks_of, puts_as, puts_both, puts_more, puts_risk_behind, puts_rows}
 use Rattle.uc_code.proofs.Sweeping.{like_puts, like_closed, closed_ops, closed_marks}
 use Rattle.uc_lower_stmt.specs.Marked.{close_room}
 use Rattle.uc_lower_stmt.specs.Objects.{InScope, InPart, ScopeEnds, PartEnds, ClosesScope, ClosesPart, call_room, free_op, frees, leaves, most_clean}
 use Rattle.uc_lower_stmt.proofs.Joined.{puts_counted}
+use Rattle.uc_lower_stmt.specs.RowFit.{open_rows}
+use Rattle.uc_lower_stmt.proofs.RowFitting.{clean_long}
 
 -- what stands in a scope, and its end
 
@@ -247,10 +249,25 @@ module _ (r n line end ahead : ℕ) (what : Cleaning) (d0 d1 d2 d3 d4 : Draft) (
       let e : length d0.ops + ahead ≡ length d2.ops + 1 = (let a = ops2 in let b = ae in omega arith) in
       keep1.handlers row (clean_up (length d2.ops + 1)) (subst (λ k. HandlerAt (laid_in d1) row (clean_up k)) e (h1 row h))
 
-  scope_with : (m : ℕ) → length d4.ops ≤ length d0.ops + m → ClosesScope m what line d0 d4
-  scope_with m l = record {
+  scope_with : (m : ℕ) → length d4.ops ≤ length d0.ops + m → cleaning_rows what + r + 1 + length d0.ops ≤ length d4.ops → ClosesScope m what line d0 d4
+  scope_with m l pays = record {
     rest = like_puts d0 d3 d4 (like_puts d0 d2 d3 (like_puts d0 d1 d2 (like_closed ahead d0 d0 d1 refl c1) p2) p3) p4;
     kept = kept_then (laid_in d0) (laid_in d1) code k1 keep1;
+    rows = record {
+      few =
+          let x1 = (rows_closed ahead d0 d1 c1).more in
+          let x2 = p2.rows.more in
+          let x3 = p3.rows.more in
+          let x4 = p4.rows.more in
+          let o0 : open_rows d0.marks ≡ suc (open_rows in_scope.outer) = ap open_rows in_scope.is in
+          let o4 : open_rows d4.marks ≡ open_rows in_scope.outer = ap open_rows (marks_of p4 ∙ (marks3 ∙ ap (λ (ms : List CodeMark). drop 1 ms) in_scope.is)) in
+          omega arith;
+      begin = λ k i w.
+          let y = p2.kept.longer in
+          let z = p3.kept.longer in
+          let u = p4.kept.longer in
+          p4.rows.begin k i (p3.rows.begin k (omega arith) (p2.rows.begin k (omega arith) ((rows_closed ahead d0 d1 c1).begin k (omega (arith, ops2, ops3, ae, u)) w)));
+    };
     room = l;
     scope = λ row ms e.
         let t : drop 1 d0.marks ≡ ms = ap (λ (l : List CodeMark). drop 1 l) e in
@@ -274,7 +291,7 @@ scope_closed line end ahead what d0 d1 d2 d3 d4 s l c1 k1 h1 p2 p3 p4 ae ee =
     let b = p3.code.end in
     let c = pad_is (laid_in d4) line what d3.marks (length d3.ops) (length d4.ops) l p4.code in
     let f = close_few what l in
-    scope_with (cleaning_rows what) (most_clean what + 1) line end ahead what d0 d1 d2 d3 d4 s c1 k1 h1 (puts_more (most_few what) p2) p3 p4 ae (omega (arith, ee)) (close_room what) (omega (arith, ee))
+    scope_with (cleaning_rows what) (most_clean what + 1) line end ahead what d0 d1 d2 d3 d4 s c1 k1 h1 (puts_more (most_few what) p2) p3 p4 ae (omega (arith, ee)) (close_room what) (omega (arith, ee)) (let g = clean_long what in omega (arith, ee, g))
 
 -- a mutex call: its pad, and its end
 
@@ -357,7 +374,7 @@ call_closed line end routine d0 d1 d2 d3 d4 s body c1 k1 h1 p2 p3 p4 ee =
     let past = marks_past_scope cleaning.Leave line 6 d0 d1 s c1 in
     let m3 : d3.marks ≡ mark.Body routine ∷ [] = marks_of p3 ∙ (marks_of p2 ∙ (past ∙ body)) in
     let c = arrival_is (laid_in d4) line routine (length d3.ops) (length d4.ops) d3.marks m3 p4.code in
-    scope_with 0 13 line end 6 cleaning.Leave d0 d1 d2 d3 d4 s c1 k1 h1 p2 p3 p4 refl (omega (arith, ee)) call_room (omega arith)
+    scope_with 0 13 line end 6 cleaning.Leave d0 d1 d2 d3 d4 s c1 k1 h1 p2 p3 p4 refl (omega (arith, ee)) call_room (omega arith) (omega arith)
 
 module _ (line end : ℕ) (what : Cleaning) (d0 d1 d2 d3 d4 : Draft) (in_part : InPart d0.marks)
     (c1 : d1 ≡ closed 1 d0) (k1 : Kept (laid_in d0) (laid_in d1)) (h1 : (row : ℕ) → handler_in d0.marks ≡ Some row → HandlerAt (laid_in d1) row (clean_up (length d0.ops + 1)))
@@ -414,6 +431,23 @@ module _ (line end : ℕ) (what : Cleaning) (d0 d1 d2 d3 d4 : Draft) (in_part : 
   part_closed = record {
     rest = like_puts d0 d3 d4 (like_puts d0 d2 d3 (like_puts d0 d1 d2 (like_closed 1 d0 d0 d1 refl c1) p2) p3) p4;
     kept = kept_then (laid_in d0) (laid_in d1) all k1 stay1;
+    rows = record {
+      few =
+          let x1 = (rows_closed 1 d0 d1 c1).more in
+          let x2 = p2.rows.more in
+          let x3 = p3.rows.more in
+          let x4 = p4.rows.more in
+          let o0 : open_rows d0.marks ≡ suc (open_rows in_part.outer) = ap open_rows in_part.is in
+          let o4 : open_rows d4.marks ≡ open_rows in_part.outer = ap open_rows (marks_of p4 ∙ (past3 ∙ ap (λ (ms : List CodeMark). drop 1 ms) in_part.is)) in
+          let g = clean_long what in
+          let e4 = p4.code.end in
+          omega (arith, long2, long3);
+      begin = λ k i w.
+          let y = p2.kept.longer in
+          let z = p3.kept.longer in
+          let u = p4.kept.longer in
+          p4.rows.begin k i (p3.rows.begin k (omega arith) (p2.rows.begin k (omega arith) ((rows_closed 1 d0 d1 c1).begin k (omega (arith, long2, z, u)) w)));
+    };
     room = (let b = to_end in omega (arith, ee));
     part = λ row ms e.
         let t : drop 1 d0.marks ≡ ms = ap (λ (l : List CodeMark). drop 1 l) e in

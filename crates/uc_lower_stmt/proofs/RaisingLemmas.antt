@@ -30,6 +30,8 @@ use Rattle.uc_lower_stmt.proofs.Counted.{counted, counted_as}
 use Rattle.uc_lower_stmt.proofs.Stating.{as_stmt}
 use Rattle.uc_lower_stmt.proofs.Joined.{lowers_adds, lowers_as, lowers_join, lowers_puts, puts_adds}
 use Rattle.uc_lower_stmt.proofs.Kept.{raised_stable}
+use Rattle.uc_lower_stmt.specs.RowFit.{open_rows}
+use Rattle.uc_lower_stmt.proofs.RowFitting.{fit_like, fit_none}
 
 -- an event whose constructor is written
 
@@ -63,6 +65,7 @@ raised_puts {n} {S} {d0} {d1} {d2} h e w =
       scope = ap scope_of is;
       opened = let x : d2.scopes ≡ d0.scopes = ap (λ (d : Draft). d.scopes) is in omega arith;
       kept = subst (λ (d : Draft). Kept (laid_in d) (laid_in d2)) e w.kept;
+      rows = fit_like d0 d2 (sym (ap (λ (d : Draft). d.rows) e)) (sym long) (sym (ap (λ (d : Draft). open_rows d.marks) e)) refl refl refl (fit_none w);
       room = let x = w.room in omega arith;
       texts = let x : d2.texts ≡ d0.texts = ap (λ (d : Draft). d.texts) is in omega arith;
       cells = let x : d2.cells ≡ d0.cells = ap (λ (d : Draft). d.cells) is in omega arith;

@@ -48,6 +48,10 @@ use Rattle.uc_lower_stmt.proofs.Unnumbered.{main_unnumbered}
 use Rattle.uc_lower_stmt.proofs.Counted.{behind_counted}
 use Rattle.uc_lower_stmt.proofs.Joined.{lowers_as, lowers_put}
 use Rattle.uc_lower_stmt.proofs.Shaping.{lowers_marked}
+use Rattle.uc_lower_stmt.specs.RowFit.{RowsFit, open_rows}
+use Rattle.uc_code.specs.RowGrowth.{BeginBy}
+use Rattle.uc_code.proofs.Growth.{rows_closed}
+use Rattle.uc_lower_stmt.proofs.RowFitting.{fit_adds, fit_closed, fit_opened, fit_then}
 
 -- parameters one by one
 
@@ -194,6 +198,12 @@ module _ (p : Program) (r : Routine) (main : MainOf) (number line : ℕ) (body :
         scope = ap scope_of g5.rest ∙ ap scope_of g4.rest ∙ ap scope_of (like_closed 1 d2 d2 d3 refl ce) ∙ h.scope ∙ ap (scope_behind p body) scope1;
         opened = (let x = h.opened in omega arith);
         kept = kept_then (laid_in d0) (laid_in d1) code k1 (kept_then (laid_in d1) (laid_in d2) code h.kept keep2);
+        rows =
+            let one : RowsFit 0 d0 d2 = fit_then h.kept.longer (fit_opened (opening.Main main number line) d0 d1 oe) h.rows in
+            let e4 = g4.code.end in
+            let e5 = g5.code.end in
+            let same : new.rows ≡ d3.rows = ap (λ (d : Draft). d.rows) g5.rest ∙ ap (λ (d : Draft). d.rows) g4.rest in
+            fit_closed one (rows_closed 1 d2 d3 ce) same (ap open_rows marks2 ∙ sym (ap (λ (ms : List CodeMark). suc (open_rows ms)) none)) (ap (λ (d : Draft). open_rows d.marks) rest) (omega (arith, ops3, e4, e5)) (omega (arith, ops3, e4, e5));
         room = (let x = h.room in let y = g4.room in let z = g5.room in omega (arith, size, ops1, ops3));
         texts = (let x = h.texts in omega arith);
         cells = (let x = h.cells in omega arith);
@@ -312,6 +322,9 @@ module _ (p : Program) (v : Bool) (routine line : ℕ) (body : Stmts) (d1 d2 d3 
         scope = ap scope_of c5.rest ∙ (ap scope_of g4.rest ∙ (h.scope ∙ ap (scope_behind p body) scope2));
         opened = (let x = h.opened in omega arith);
         kept = kept_then (laid_in d1) (laid_in d2) last k2 (kept_then (laid_in d2) (laid_in d3) last h.kept stays4);
+        rows =
+            let one : RowsFit 0 d1 d3 = fit_then h.kept.longer (fit_opened (opening.Object cleaning.Leave 0) d1 d2 e2) h.rows in
+            fit_then c5.kept.longer (fit_then g4.kept.longer one (fit_adds g4)) c5.rows;
         room = (let x = h.room in let y = g4.room in let z = c5.room in omega (arith, size, ops2));
         texts = (let x = h.texts in omega arith);
         cells = (let x = h.cells in omega arith);
@@ -421,6 +434,8 @@ numbered_lowered p o n last r old new e f h = subst (λ (x : Bool). PlainOf p o 
 -- what lowering a routine, which begins in this scope, does to a draft
 pub record Written (p : Program) (r : Routine) (s : Scope) (last number : ℕ) (old new : Draft) : Type 0 where
   pub kept : Kept (laid_in old) (laid_in new)
+  pub few_rows : length new.rows + length old.ops ≤ length old.rows + length new.ops
+  pub begin : (k : ℕ) → length new.ops ≤ k → BeginBy k old.rows → BeginBy k new.rows
   pub room : length new.ops ≤ length old.ops + OPS_FOR_SIZE * (1 + sizes_at r.body 0)
   pub code : RoutineAt (laid_in new) last number (routine_meant p r s) (record { entry = length old.ops; cells = frame_cells p r; params = length r.sig.params; written = true }) (length old.ops) (length new.ops)
   pub written : new.routines ≡ slice_set old.routines number (record { entry = length old.ops; cells = frame_cells p r; params = length r.sig.params; written = true })
@@ -485,6 +500,8 @@ module _ (p : Program) (r : Routine) (plain : r.sig.role ≡ role.Plain) (class 
       let routines : d2.routines ≡ d0.routines = ap (λ (d : Draft). d.routines) k.rest in
       subst (λ (d : Draft). Written p r s last number d0 d) (sym is) (record {
         kept = k.kept;
+        few_rows = (let x = k.rows.few in let y : open_rows d2.marks ≡ 0 = ap (λ (d : Draft). open_rows d.marks) k.rest in omega arith);
+        begin = k.rows.begin;
         room = k.room;
         code = record { entry = refl; cells = refl; params = refl; written = refl; body = ends };
         written = ap (λ (l : List RoutineCode). slice_set l number begins) routines;

@@ -17,7 +17,8 @@ use Rattle.uc_tree.specs.Numbering.{own_texts, own_sites}
 use Rattle.uc_tree.specs.Programs.{Program}
 use Rattle.uc_tree.specs.Source.{Shape, Expr}
 use Rattle.uc_tree.specs.Objects.{shape_of}
-use Rattle.uc_resolve.specs.Resolve.{Scope, meant, value_of, converted, result_of, targets_meant, scope_past, scope_after}
+use Rattle.uc_code.specs.Layout.{Laid}
+use Rattle.uc_resolve.specs.Resolve.{Scope, context_at, meant, value_of, converted, result_of, targets_meant, scope_past, scope_after}
 use Rattle.uc_code.specs.declared.op.Op.TheVariants as op
 use Rattle.uc_code.specs.declared.rows.Cleaning.TheVariants as cleaning
 use Rattle.uc_code.specs.declared.rows.CodeMark.{CodeMark}
@@ -43,7 +44,8 @@ use Rattle.uc_lower_stmt.specs.LowersStatement.{Lowers, LowersStmt, LowersStmts,
 use Rattle.uc_lower_stmt.specs.Marked.{calls_in, objects_in}
 use Rattle.uc_lower_stmt.specs.Pieces.{ItemsCode, TogetherCode, TargetsCode}
 use Rattle.uc_lower_stmt.specs.Control.{ReturnCode, LowersDeclaration, LowersIf, LowersLoop, LowersFor, maybe_past, for_past}
-use Rattle.uc_lower_stmt.proofs.Joined.{lowers_adds, lowers_nothing, lowers_as, lowers_puts, puts_adds, puts_counted}
+use Rattle.uc_lower_stmt.proofs.Joined.{lowers_adds, lowers_nothing, lowers_as, lowers_rows, puts_adds, puts_counted}
+use Rattle.uc_lower_stmt.proofs.RowFitting.{break_long, continue_long, end_long, return_long}
 use Rattle.uc_lower_stmt.proofs.Printing.{with_texts, texts_among, items_at}
 use Rattle.uc_lower_stmt.proofs.Counted.{counted, counted_as, with_is, nothing_counted, texts_counted, declared_counted, behind_counted}
 use Rattle.uc_lower_stmt.proofs.Scoping.{opened, lowers_scoped, back_out}
@@ -189,15 +191,22 @@ exit_few ms = let h = exit_counted ms in let k = calls_few ms in omega arith
 pub arm_break : (p : Program) (s : Stmt) (place : Pos) (old new : Draft) → Break place ≡ s → Puts (loop_rows old.marks) (exit_room old.marks) (λ code. ExitAt code (way_of way.Break) old.marks) old new → LowersStmt p s old new
 arm_break p s place old new h a =
     let few = exit_few old.marks in
-    as_stmt p s (Break place) old new h (lowers_as (lowers_puts 0 0 a) (nothing_counted (scope_of old)) (λ code x z w. w) (omega arith) (omega arith) (omega arith) (omega arith))
+    as_stmt p s (Break place) old new h (lowers_as (lowers_rows 0 0 (break_long (laid_in new) old.marks (length old.ops) (length new.ops) a.code) a) (nothing_counted (scope_of old)) (λ code x z w. w) (omega arith) (omega arith) (omega arith) (omega arith))
 
 pub arm_continue : (p : Program) (s : Stmt) (place : Pos) (old new : Draft) → Continue place ≡ s → Puts (loop_rows old.marks) (exit_room old.marks) (λ code. ExitAt code (way_of way.Continue) old.marks) old new → LowersStmt p s old new
 arm_continue p s place old new h a =
     let few = exit_few old.marks in
-    as_stmt p s (Continue place) old new h (lowers_as (lowers_puts 0 0 a) (nothing_counted (scope_of old)) (λ code x z w. w) (omega arith) (omega arith) (omega arith) (omega arith))
+    as_stmt p s (Continue place) old new h (lowers_as (lowers_rows 0 0 (continue_long (laid_in new) old.marks (length old.ops) (length new.ops) a.code) a) (nothing_counted (scope_of old)) (λ code x z w. w) (omega arith) (omega arith) (omega arith) (omega arith))
+
+value_long : (p : Program) (line : ℕ) (ms : List CodeMark) (s : Scope) (value : Option tree.Expr) (code : Laid) (a z : ℕ) → ReturnCode p line ms s value code a z → return_rows ms + a ≤ z
+value_long p line ms s None code a z h = end_long code ms a z h
+value_long p line ms s (Some e) code a z h =
+    let m = (expr_stable line ms (converted (shape_of (result_of p s.routine)) (value_of (meant (context_at p s) e)))).rises code a h.middle h.first in
+    let r = return_long code ms h.middle z h.second in
+    omega arith
 
 pub arm_return : (p : Program) (s : Stmt) (place : Pos) (value : Option tree.Expr) (old new : Draft) → Return place value ≡ s → Puts (return_rows old.marks) (OPS_FOR_SIZE * (1 + maybe_expr_size value + objects_in old.marks)) (ReturnCode p place.line old.marks (scope_of old) value) old new → LowersStmt p s old new
-arm_return p s place value old new h a = as_stmt p s (Return place value) old new h (lowers_as (lowers_puts 0 0 a) (nothing_counted (scope_of old)) (λ code x z w. w) (omega arith) (omega arith) (omega arith) (omega arith))
+arm_return p s place value old new h a = as_stmt p s (Return place value) old new h (lowers_as (lowers_rows 0 0 (value_long p place.line old.marks (scope_of old) value (laid_in new) (length old.ops) (length new.ops) a.code) a) (nothing_counted (scope_of old)) (λ code x z w. w) (omega arith) (omega arith) (omega arith) (omega arith))
 
 -- a return's value
 pub arm_handed : (p : Program) (n line r : ℕ) (value : Option tree.Expr) (e : tree.Expr) (v : Scalar) (d0 d1 d2 d3 : Draft) → value ≡ Some e → r ≡ d1.place.routine → shape_of (result_of p r) ≡ shape_as v → Adds n (ExprCode line d0.marks (value_of (meant (context_in p d0) e))) d0 d1 → Adds 1 (ConvertCode line (shape_as v)) d1 d2
