@@ -46,6 +46,8 @@ use Rattle.uc_lower_class.proofs.Fielding.{part_fits}
 use Rattle.uc_lower_class.proofs.Living.{mutex_few}
 use Rattle.uc_lower_class.proofs.Parting.{constructs_as, constructs_does, constructs_part, constructs_then}
 use Rattle.uc_lower_class.proofs.Wholes.{arm_built}
+use Rattle.uc_lower_stmt.proofs.Openings.{build_long}
+use Rattle.uc_lower_stmt.proofs.RowFitting.{fit_then}
 
 -- an object that is built, and its part
 
@@ -59,7 +61,7 @@ pub part_built : (p : Program) (m : Made) (n : ℕ) (s : ObjectSpot) (l : Option
 part_built p m n s l place ms what ws us old mid new h f w g e k b =
     let marks : mid.marks ≡ old.marks = ap (λ (d : Draft). d.marks) h.rest in
     let fits : build_room l + (clean_length what + 2) ≤ part_room l = subst (λ (x : Cleaning). build_room l + (clean_length x + 2) ≤ part_room l) (sym w) (part_fits p m s l) in
-    constructs_as (constructs_then (constructs_does (build p 0 (making_of p m) l place ms) ws h) (constructs_part (clean_up p (making_of p m) l place) what ws us mid new e f k g (stands_by p m old.marks mid.marks role.Destructor (ended_by p m) s (array_by p m l) what b marks w))) (omega (arith, fits)) (λ ss. refl)
+    constructs_as (constructs_then (constructs_does (build p 0 (making_of p m) l place ms) ws (build_long p 0 (making_of p m) l place ms (laid_in mid) old.marks (length old.ops) (length mid.ops) h.code) h) (constructs_part (clean_up p (making_of p m) l place) what ws us mid new e f k g (stands_by p m old.marks mid.marks role.Destructor (ended_by p m) s (array_by p m l) what b marks w))) (omega (arith, fits)) (λ ss. refl)
 
 -- the fields of a class that may be missing
 
@@ -131,6 +133,7 @@ scope_around {n} {m} {k} {c} {d} {o} {F} {t} {d0} {d1} {d2} {new} ss depth q h w
       scope = ap scope_of e.rest ∙ w.scope;
       opened = (let x = h.opened in let y = w.opened in omega arith);
       kept = kept_then (laid_in d0) (laid_in d1) (laid_in new) h.kept (kept_then (laid_in d1) (laid_in d2) (laid_in new) w.kept e.kept);
+      rows = fit_then e.kept.longer (fit_then w.kept.longer h.rows w.rows) e.rows;
       room = (let x = h.room in let y = w.room in let z = e.room in omega (arith, ends, same));
       texts = (let x = h.texts in let y = w.texts in omega arith);
       cells = (let x = h.cells in let y = w.cells in omega arith);

@@ -23,3 +23,8 @@ open_rows (mark.Outward below row ∷ ms) = suc (open_rows ms)
 pub record RowsFit (less : ℕ) (old new : Draft) : Type 0 where
   pub few : length new.rows + length old.ops + open_rows old.marks + less ≤ length old.rows + length new.ops + open_rows new.marks
   pub begin : (k : ℕ) → length new.ops ≤ k → BeginBy k old.rows → BeginBy k new.rows
+
+-- by a routine come no more rows than ops, and the handlers that they get begin before the end
+pub record RoutineRows (old new : Draft) : Type 0 where
+  pub few : length new.rows + length old.ops ≤ length old.rows + length new.ops
+  pub begin : (k : ℕ) → length new.ops ≤ k + 1 → BeginBy k old.rows → BeginBy k new.rows

@@ -14,6 +14,7 @@ ghost use Rattle.uc_code.specs.Layout.{laid_in};
 ghost use Rattle.uc_code.specs.CodeShapes.{Kept};
 ghost use Rattle.uc_code.specs.Lowered.{RoutineAt};
 ghost use Rattle.uc_lower_expr.specs.DraftGrowth.{Adds};
+ghost use Rattle.uc_lower_stmt.specs.RowFit.{RoutineRows};
 ghost use Rattle.uc_lower_stmt.specs.LowersStatement.{sizes_at};
 ghost use Rattle.uc_lower_stmt.specs.Routines.{EndCode, OwedCode, LowersMutex, LowersPlain, LowersRoutine, frame_cells, main_in, purpose_by};
 
@@ -113,7 +114,8 @@ fn lower_main(
     requires cells { out.old.cells + stmts_cells routine.now.body (declared_cells names.now) ≤ FRAME_CELLS }
     requires scopes { out.old.scopes + stmts_scopes routine.now.body ≤ PROGRAM_SIZE }
     requires texts { out.old.texts + stmts_size routine.now.body ≤ PROGRAM_SIZE }
-    ensures { OnOk result (LowersRoutine names.now (purpose_by main) last routine.now out.old out.new) }
+    ensures code { OnOk result (LowersRoutine names.now (purpose_by main) last routine.now out.old out.new) }
+    ensures rows { OnOk result (RoutineRows out.old out.new) }
 {
     let line = line_of(routine);
     let _row = out.open(Opening::Main {
@@ -142,7 +144,8 @@ fn lower_called(
     requires cells { out.old.cells + stmts_cells routine.now.body (declared_cells names.now) ≤ FRAME_CELLS }
     requires scopes { out.old.scopes + stmts_scopes routine.now.body ≤ PROGRAM_SIZE }
     requires texts { out.old.texts + stmts_size routine.now.body ≤ PROGRAM_SIZE }
-    ensures { OnOk result (LowersRoutine names.now (value_purpose names.now routine.now.sig.ret) last routine.now out.old out.new) }
+    ensures code { OnOk result (LowersRoutine names.now (value_purpose names.now routine.now.sig.ret) last routine.now out.old out.new) }
+    ensures rows { OnOk result (RoutineRows out.old out.new) }
 {
     let line = line_of(routine);
     out.enter_body(last)?;
@@ -178,7 +181,8 @@ fn lower_mutex(
     requires cells { out.old.cells + stmts_cells routine.now.body (declared_cells names.now) ≤ FRAME_CELLS }
     requires scopes { out.old.scopes + stmts_scopes routine.now.body ≤ PROGRAM_SIZE }
     requires texts { out.old.texts + stmts_size routine.now.body ≤ PROGRAM_SIZE }
-    ensures { OnOk result (LowersMutex names.now last routine.now out.old out.new) }
+    ensures code { OnOk result (LowersMutex names.now last routine.now out.old out.new) }
+    ensures rows { OnOk result (RoutineRows out.old out.new) }
 {
     let line = line_of(routine);
     out.enter_body(last)?;
@@ -213,7 +217,8 @@ fn lower_statements(
     requires cells { out.old.cells + stmts_cells routine.now.body (declared_cells names.now) ≤ FRAME_CELLS }
     requires scopes { out.old.scopes + stmts_scopes routine.now.body ≤ PROGRAM_SIZE }
     requires texts { out.old.texts + stmts_size routine.now.body ≤ PROGRAM_SIZE }
-    ensures { OnOk result (LowersPlain names.now number last routine.now out.old out.new) }
+    ensures code { OnOk result (LowersPlain names.now number last routine.now out.old out.new) }
+    ensures rows { OnOk result (RoutineRows out.old out.new) }
 {
     match main {
         Some(main) => {
@@ -258,6 +263,7 @@ pub fn lower_routine(
     requires cells { routine_cells names.now routine.now ≤ FRAME_CELLS }
     requires texts { texts + stmts_size routine.now.body ≤ PROGRAM_SIZE }
     ensures kept { OnOk result (Kept (laid_in out.old) (laid_in out.new)) }
+    ensures rows { OnOk result (RoutineRows out.old out.new) }
     ensures room { OnOk result (length out.new.ops ≤ length out.old.ops + OPS_FOR_SIZE * (1 + sizes_at routine.now.body 0)) }
     ensures code { OnOk result (RoutineAt (laid_in out.new) last number (routine_meant names.now routine.now (routine_scope names.now routine.now class number texts sites)) (record { entry = length out.old.ops; cells = frame_cells names.now routine.now; params = length routine.now.sig.params; written = true }) (length out.old.ops) (length out.new.ops)) }
     ensures written { OnOk result (out.new.routines ≡ slice_set out.old.routines number (record { entry = length out.old.ops; cells = frame_cells names.now routine.now; params = length routine.now.sig.params; written = true })) }

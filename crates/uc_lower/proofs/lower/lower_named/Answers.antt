@@ -9,7 +9,7 @@ use Rattle.uc_resolve.specs.Resolve.{source_of}
 use Rattle.uc_code.proofs.Paces.{lowered_paced}
 use Rattle.uc_lower.specs.RoutineLayout.{LaysAll}
 use Rattle.uc_lower.specs.Refusals.{Fits}
-use Rattle.uc_lower.proofs.Ending.{as_many, whole, whole_few}
+use Rattle.uc_lower.proofs.Ending.{as_many, whole, whole_few, whole_rows}
 use Rattle.uc_lower.proofs.Ruled.{fit_classes}
 use Rattle.uc_lower.proofs.lower.lower_named.Goals as goal
 
@@ -59,3 +59,9 @@ cells_of_classes-requires-clause-sizes c = c.sizes.ensures ∙ c.requires.names
 
 pub cells_of_classes-requires-clause-fit : goal.cells_of_classes-requires-clause-fit
 cells_of_classes-requires-clause-fit c = fit_classes c.args.program.now c.requires.unbroken
+
+pub returns-clause-rows : goal.returns-clause-rows
+returns-clause-rows c =
+    let p = c.args.names.now in
+    let more : ℕ = length c.args.unwritten.now in
+    whole_rows p (routines_of p) (unwritten_of p) (c.args.count + more) more c.lower_all_unwritten.new.out _ _ _ c.tabulate.new.self c.in_ok-lower_all_unwritten.ensures c.finish-code.ensures.ended (c.tabulate.ensures ∙ c.finish-code.ensures.code)
