@@ -194,8 +194,10 @@ pub fn clean_call(
     names: &ProgramNames,
 ) -> Cleaning
     requires { HasClass names.now made }
-    ensures call { result ≡ cleaning.Call (destroyer_of names.now made spot (array_by names.now made elements)) }
-    ensures cleans { (place : Place) → BeginsAt place spot → Cleans (clean_up names.now (making_of names.now made) elements place) result }
+    ensures call { result ≡ cleaning.Call (destroyer_of names.now made spot
+        (array_by names.now made elements)) }
+    ensures cleans { (place : Place) → BeginsAt place spot → Cleans
+        (clean_up names.now (making_of names.now made) elements place) result }
 {
     law_cells();
     let array = array_of(made, elements, names);
@@ -212,7 +214,8 @@ fn put_made(
 ) -> Result<(), AllocError>
     requires class { class < length (classes_of names.now.items) }
     requires room { length out.old.ops + 2 ≤ PROGRAM_OPS }
-    ensures { OnOk result (Adds 2 (MadeCode line (object_built names.now class (is_mutex_at names.now class)) routine) out.old out.new) }
+    ensures { OnOk result (Adds 2 (MadeCode line
+        (object_built names.now class (is_mutex_at names.now class)) routine) out.old out.new) }
 {
     if names.is_mutex(class) {
         let class = names.class_number(class);
@@ -232,10 +235,17 @@ fn construct_object(
     out: &mut Draft,
 ) -> Result<(), AllocError>
     requires class { class < length (classes_of names.now.items) }
-    requires room { length out.old.ops + OPS_FOR_SIZE * exprs_size (exprs_of args.now) + 5 ≤ PROGRAM_OPS }
-    requires behind { StandsBehind out.old.marks (builder_of names.now (Made.Object class) spot None) }
-    ensures room { OnOk result (length out.new.ops ≤ length out.old.ops + (OPS_FOR_SIZE * exprs_size (exprs_of args.now) + 5)) }
-    ensures code { OnOk result ((place : Place) → BeginsAt place spot → Adds (OPS_FOR_SIZE * exprs_size (exprs_of args.now) + 5) (ExprCode line out.old.marks (constructed names.now (making_by class (is_mutex_at names.now class)) place (args_meant (context_in names.now out.old) (exprs_of args.now)))) out.old out.new) }
+    requires room { length out.old.ops + OPS_FOR_SIZE * exprs_size (exprs_of args.now) + 5 ≤
+        PROGRAM_OPS }
+    requires behind { StandsBehind out.old.marks (builder_of names.now (Made.Object class) spot
+        None) }
+    ensures room { OnOk result (length out.new.ops ≤ length out.old.ops +
+        (OPS_FOR_SIZE * exprs_size (exprs_of args.now) + 5)) }
+    ensures code { OnOk result ((place : Place) → BeginsAt place spot → Adds
+        (OPS_FOR_SIZE * exprs_size (exprs_of args.now) + 5)
+        (ExprCode line out.old.marks (constructed names.now
+        (making_by class (is_mutex_at names.now class)) place
+        (args_meant (context_in names.now out.old) (exprs_of args.now)))) out.old out.new) }
 {
     let routine = names.constructor_of(class);
     put(spot_op(spot), line, out)?;
@@ -262,10 +272,15 @@ pub fn lower_construction(
     out: &mut Draft,
 ) -> Result<(), AllocError>
     requires class { HasClass names.now made }
-    requires room { length out.old.ops + OPS_FOR_SIZE * exprs_size (exprs_of args.now) + 5 ≤ PROGRAM_OPS }
+    requires room { length out.old.ops + OPS_FOR_SIZE * exprs_size (exprs_of args.now) + 5 ≤
+        PROGRAM_OPS }
     requires behind { StandsBehind out.old.marks (builder_of names.now made spot None) }
-    ensures room { OnOk result (length out.new.ops ≤ length out.old.ops + (OPS_FOR_SIZE * exprs_size (exprs_of args.now) + 5)) }
-    ensures code { OnOk result ((place : Place) → BeginsAt place spot → Adds (OPS_FOR_SIZE * exprs_size (exprs_of args.now) + 5) (ExprCode line out.old.marks (constructed names.now (making_of names.now made) place (args_meant (context_in names.now out.old) (exprs_of args.now)))) out.old out.new) }
+    ensures room { OnOk result (length out.new.ops ≤ length out.old.ops +
+        (OPS_FOR_SIZE * exprs_size (exprs_of args.now) + 5)) }
+    ensures code { OnOk result ((place : Place) → BeginsAt place spot → Adds
+        (OPS_FOR_SIZE * exprs_size (exprs_of args.now) + 5)
+        (ExprCode line out.old.marks (constructed names.now (making_of names.now made) place
+        (args_meant (context_in names.now out.old) (exprs_of args.now)))) out.old out.new) }
 {
     match made {
         Made::Object(class) => {
@@ -287,7 +302,8 @@ pub fn lower_construction(
 fn put_built(builder: ObjectCall, line: u32, out: &mut Draft) -> Result<(), AllocError>
     requires room { length out.old.ops + 10 ≤ PROGRAM_OPS }
     requires behind { StandsBehind out.old.marks builder }
-    ensures { OnOk result (Puts 0 10 (λ code. CallBuilt code line builder out.old.marks) out.old out.new) }
+    ensures { OnOk result (Puts 0 10 (λ code. CallBuilt code line builder out.old.marks) out.old
+        out.new) }
 {
     put_call(builder, line, out)?;
     put(Op::Discard, line, out)?;
@@ -306,7 +322,8 @@ fn put_fill(
     requires room { length out.old.ops + fill_room ≤ PROGRAM_OPS }
     requires builds { StandsBehind out.old.marks builder }
     requires destroys { StandsBehind out.old.marks destroyer }
-    ensures { OnOk result (Puts 1 fill_room (FillCode line out.old.marks builder destroyer count) out.old out.new) }
+    ensures { OnOk result (Puts 1 fill_room (FillCode line out.old.marks builder destroyer count)
+        out.old out.new) }
 {
     let start = out.here();
     let test = start + 2 + done_length(builder);
@@ -343,10 +360,17 @@ pub fn lower_build(
     out: &mut Draft,
 ) -> Result<(), AllocError>
     requires class { HasClass names.now made }
-    requires room { length out.old.ops + OPS_FOR_SIZE * exprs_size (exprs_of args.now) + build_room elements ≤ PROGRAM_OPS }
-    requires builds { StandsBehind out.old.marks (builder_of names.now made spot (array_by names.now made elements)) }
-    requires destroys { StandsBehind out.old.marks (destroyer_of names.now made spot (array_by names.now made elements)) }
-    ensures { OnOk result ((place : Place) → BeginsAt place spot → Puts (build_rows elements) (OPS_FOR_SIZE * exprs_size (exprs_of args.now) + build_room elements) (λ code. StmtAt code out.old.marks (build names.now line (making_of names.now made) elements place (args_meant (context_in names.now out.old) (exprs_of args.now)))) out.old out.new) }
+    requires room { length out.old.ops + OPS_FOR_SIZE * exprs_size (exprs_of args.now) + build_room
+        elements ≤ PROGRAM_OPS }
+    requires builds { StandsBehind out.old.marks (builder_of names.now made spot
+        (array_by names.now made elements)) }
+    requires destroys { StandsBehind out.old.marks (destroyer_of names.now made spot
+        (array_by names.now made elements)) }
+    ensures { OnOk result ((place : Place) → BeginsAt place spot → Puts (build_rows elements)
+        (OPS_FOR_SIZE * exprs_size (exprs_of args.now) + build_room elements)
+        (λ code. StmtAt code out.old.marks
+        (build names.now line (making_of names.now made) elements place
+        (args_meant (context_in names.now out.old) (exprs_of args.now)))) out.old out.new) }
 {
     match elements {
         None => {
@@ -394,7 +418,8 @@ fn free_op(main: Option<u32>) -> Op
 fn put_cleaned(what: Cleaning, line: u32, out: &mut Draft) -> Result<(), AllocError>
     requires room { length out.old.ops + most_clean what ≤ PROGRAM_OPS }
     requires behind { CleansBehind out.old.marks what }
-    ensures { OnOk result (Puts (cleaning_rows what) (most_clean what) (λ code. CleanAt code line what out.old.marks) out.old out.new) }
+    ensures { OnOk result (Puts (cleaning_rows what) (most_clean what)
+        (λ code. CleanAt code line what out.old.marks) out.old out.new) }
 {
     match what {
         Cleaning::Call(_) => {
@@ -433,7 +458,8 @@ fn put_pad(what: Cleaning, line: u32, out: &mut Draft) -> Result<(), AllocError>
     requires room { length out.old.ops + (most_clean what + 1) ≤ PROGRAM_OPS }
     requires behind { CleansBehind out.old.marks what }
     requires other { leaves what ≡ false }
-    ensures { OnOk result (Puts (cleaning_rows what) (most_clean what + 1) (λ code. PadAt code line what out.old.marks) out.old out.new) }
+    ensures { OnOk result (Puts (cleaning_rows what) (most_clean what + 1)
+        (λ code. PadAt code line what out.old.marks) out.old out.new) }
 {
     if frees(what) {
         put(Op::GiveUp, line, out)?;
@@ -450,7 +476,8 @@ fn put_pad(what: Cleaning, line: u32, out: &mut Draft) -> Result<(), AllocError>
 fn put_arrival(line: u32, out: &mut Draft) -> Result<(), AllocError>
     requires call { InCall out.old.marks }
     requires room { length out.old.ops + (clean_room + 7) ≤ PROGRAM_OPS }
-    ensures { OnOk result (Puts 0 arrival_room (λ code. ArrivesAt code line out.old.marks) out.old out.new) }
+    ensures { OnOk result (Puts 0 arrival_room (λ code. ArrivesAt code line out.old.marks) out.old
+        out.new) }
 {
     let arrived = out.here() + 7;
     put(Op::Arrive(arrived), line, out)?;
