@@ -105,7 +105,6 @@ lays_ended {n} {k} {c} {d} {o} {line} {f} {t} {old} {mid} {new} count ce h w =
       opened = scopes ∙ h.opened;
       kept = kept_then (laid_in old) (laid_in mid) (laid_in new) h.kept w.kept;
       rows = fit_then w.kept.longer h.rows w.rows;
-      rows = fit_then w.kept.longer h.rows w.rows;
       room = (let x = h.room in let y = w.room in omega (arith, e));
       texts = (let x = h.texts in omega (arith, texts));
       cells = (let x = h.cells in omega (arith, cells));
