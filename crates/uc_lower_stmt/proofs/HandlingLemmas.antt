@@ -45,7 +45,7 @@ use Rattle.uc_lower_stmt.proofs.Scoping.{back_out}
 use Rattle.uc_lower_stmt.specs.RowFit.{RowsFit, open_rows}
 use Rattle.uc_code.specs.RowGrowth.{AddsRows, BeginBy}
 use Rattle.uc_code.proofs.Growth.{rows_closed}
-use Rattle.uc_lower_stmt.proofs.RowFitting.{fit_closed, fit_like, fit_opened, fit_then}
+use Rattle.uc_lower_stmt.proofs.RowFitting.{fit_closed, fit_less, fit_like, fit_opened, fit_then}
 
 -- a block has a row for each handler
 pub rows_are : (p : Program) (hs : tree.Handlers) (s : Scope) → handler_rows (handlers_meant p hs s) ≡ length (tree.handler_list hs)
@@ -286,6 +286,7 @@ from_as {x} {y} {f} {n} {k} {c} {o} {m} {j} {b} {q} {S} {T} {s} {t} {old} {new} 
   scope = h.scope ∙ e;
   opened = let x = h.opened in omega arith;
   kept = h.kept;
+  rows = fit_less l0 h.rows;
   room = let x = h.room in omega arith;
   texts = let x = h.texts in omega arith;
   cells = let x = h.cells in omega arith;
