@@ -33,7 +33,7 @@ use Rattle.uc_lower_expr.specs.Contexts.{context_in}
 use Rattle.uc_lower_expr.specs.DraftGrowth.{Adds, ExprCode, OpCode}
 use Rattle.uc_lower_expr.proofs.Adding.{adds_as, adds_both, adds_more, adds_nothing}
 use Rattle.uc_lower_expr.proofs.Settled.{both, expr_stable}
-use Rattle.uc_lower_stmt.specs.Accepting.{ChoiceCode, GuardsCode, HolesAt, HolesCode, LowersAccept, LowersBranches, LowersChoice, accept_room, branch_of, branches_room, choice_room, guard_meant, guard_of, guard_room, guards_room, past_branches}
+use Rattle.uc_lower_stmt.specs.Accepting.{choice_set, ChoiceCode, GuardsCode, HolesAt, HolesCode, LowersAccept, LowersBranches, LowersChoice, accept_room, branch_of, branches_room, choice_room, guard_meant, guard_of, guard_room, guards_room, past_branches}
 use Rattle.uc_lower_stmt.specs.Control.{maybe_at_size, maybe_past}
 use Rattle.uc_lower_stmt.specs.LowersStatement.{Lowers, LowersStmt, scope_of}
 use Rattle.uc_lower_stmt.specs.Marked.{objects_in, taken}
