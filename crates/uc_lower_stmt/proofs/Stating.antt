@@ -17,7 +17,7 @@ use Rattle.uc_tree.specs.Numbering.{own_texts, own_sites}
 use Rattle.uc_tree.specs.Programs.{Program}
 use Rattle.uc_tree.specs.Source.{Shape, Expr}
 use Rattle.uc_tree.specs.Objects.{shape_of}
-use Rattle.uc_code.specs.Layout.{Laid}
+use Rattle.uc_code.specs.Layout.{Laid, laid_in}
 use Rattle.uc_resolve.specs.Resolve.{Scope, context_at, meant, value_of, converted, result_of, targets_meant, scope_past, scope_after}
 use Rattle.uc_code.specs.declared.op.Op.TheVariants as op
 use Rattle.uc_code.specs.declared.rows.Cleaning.TheVariants as cleaning
