@@ -19,12 +19,12 @@ use Rattle.uc_entry.specs.declared.request.Request.TheVariants as ask
 use Rattle.uc_entry.specs.declared.request.Answer.{Answer}
 use Rattle.uc_acts.specs.Answers.{answer_to}
 use Rattle.uc_acts.specs.Serves.{left}
-use Rattle.uc_kernel.specs.declared.given.Back.{Back}
 use Rattle.uc_kernel.specs.declared.given.Given.{Given}
 use Rattle.uc_kernel.specs.declared.given.Next.{Next}
 use Rattle.uc_kernel.specs.declared.given.Next.TheVariants.{Go, Blocked, Ended}
 use Rattle.uc_kernel.specs.declared.rests.Rest.{Rest}
 use Rattle.uc_kernel.specs.Numbered.{keys, without}
+use Rattle.uc_kernel.specs.KernelState.{Brought}
 
 -- a spot at which nobody is let in
 abbrev pub is_ready : Spot → Bool
@@ -115,7 +115,7 @@ pub record Stands {M : Type 0} (o : ℕ) (h : List (ℕ × M)) (i : ℕ) : Type 
   pub finds : find o h ≡ Some item
 
 -- the same as FromAct, with the first entry of the act and the admission that comes second, if one does
-pub record IsAct {T M : Type 0} (s : Seen) (t : ℕ) (first : Entry) (admission : Option Entry) (b : Back T M) (tasks : List (Option (Rest T M))) (loose : List (Option M)) : Type 0 where
+pub record IsAct {T M : Type 0} (s : Seen) (t : ℕ) (first : Entry) (admission : Option Entry) (b : Brought T M) (tasks : List (Option (Rest T M))) (loose : List (Option M)) : Type 0 where
   pub before : Journal
   pub runs : KernelRuns s.opts s.sites s.input before
   pub going : is_over before ≡ false
@@ -188,7 +188,7 @@ pub record CanLetIn {T M : Type 0} (admission : Option Entry) (t : ℕ) (h : Lis
   pub there : (e : Entry) → admission ≡ Some e → (e.task == t) ≡ false → slice_index_or tasks e.task None ≡ None → ⊥
 
 -- the journal of s goes on from an earlier one by the act of what was brought, and what is at rest still lies as it did before
-pub record FromAct {T M : Type 0} (s : Seen) (t : ℕ) (b : Back T M) (tasks : List (Option (Rest T M))) (loose : List (Option M)) : Type 0 where
+pub record FromAct {T M : Type 0} (s : Seen) (t : ℕ) (b : Brought T M) (tasks : List (Option (Rest T M))) (loose : List (Option M)) : Type 0 where
   pub before : Journal
   pub runs : KernelRuns s.opts s.sites s.input before
   pub going : is_over before ≡ false
@@ -207,7 +207,7 @@ pub record HasChild {T M : Type 0} (tasks tasks' : List (Option (Rest T M))) (ch
   pub last : tasks' ≡ tasks ++ Some rest ∷ []
 
 -- the same, with the first entry of the act
-pub record FromFirst {T M : Type 0} (s : Seen) (t : ℕ) (first : Entry) (b : Back T M) (tasks : List (Option (Rest T M))) (loose : List (Option M)) : Type 0 where
+pub record FromFirst {T M : Type 0} (s : Seen) (t : ℕ) (first : Entry) (b : Brought T M) (tasks : List (Option (Rest T M))) (loose : List (Option M)) : Type 0 where
   pub before : Journal
   pub from : FromAct s t b tasks loose
   pub before_is : before ≡ from.before

@@ -6,7 +6,7 @@ ghost use Rattle.uc_step.specs.OpEffects.{act_accept, chosen, with_operands, end
 ghost use Rattle.uc_step.specs.declared.stepped.Stepped.{Stepped};
 
 use crate::mutex::this_object;
-use crate::stepped::{Onward, Stepped, asked, faulted};
+use crate::stepped::{Onward, Stepped, put_fault, put_request};
 use std::alloc::AllocError;
 use uc_code::code::Code;
 use uc_code::op::Op;
@@ -42,10 +42,10 @@ pub(crate) fn accept(
     }
     work.pop();
     if work.is_held_up(object) {
-        *stop = faulted(code, line, work, RunFault::BlockedInside);
+        put_fault(code, line, work, stop, RunFault::BlockedInside);
         return Ok(Onward::Stops);
     }
-    *stop = asked(code, line, work, Request::Accept { object, site, mask });
+    put_request(code, line, work, stop, Request::Accept { object, site, mask });
     Ok(Onward::Stops)
 }
 

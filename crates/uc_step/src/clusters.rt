@@ -4,7 +4,7 @@ ghost use Rattle.std.specs.Prelude.{◌≡◌, IfOk, OnErr};
 ghost use Rattle.uc_step.specs.OpEffects.{ended, Does};
 
 use crate::mutex::object_in;
-use crate::stepped::{Onward, Stepped, asked};
+use crate::stepped::{Onward, Stepped, put_request};
 use std::alloc::AllocError;
 use uc_code::code::Code;
 use uc_code::op::Op;
@@ -17,7 +17,7 @@ pub(crate) fn processor(code: &Code, line: u32, work: &mut Work, stop: &mut Step
     ensures { Does code.now line Op.Processor work.old (ended result stop.new) work.new }
 {
     let cluster = object_in(work.pop());
-    *stop = asked(code, line, work, Request::Processor { cluster });
+    put_request(code, line, work, stop, Request::Processor { cluster });
     Onward::Stops
 }
 
@@ -32,7 +32,7 @@ pub(crate) fn cluster_end(
 {
     let cluster = object_in(work.top());
     work.replace(Cell::Number(0))?;
-    *stop = asked(code, line, work, Request::ClusterEnd { cluster });
+    put_request(code, line, work, stop, Request::ClusterEnd { cluster });
     Ok(Onward::Stops)
 }
 
@@ -47,7 +47,7 @@ pub(crate) fn processor_end(
 {
     let processor = object_in(work.top());
     work.replace(Cell::Number(0))?;
-    *stop = asked(code, line, work, Request::ProcessorEnd { processor });
+    put_request(code, line, work, stop, Request::ProcessorEnd { processor });
     Ok(Onward::Stops)
 }
 
@@ -55,6 +55,6 @@ pub(crate) fn migrate(code: &Code, line: u32, work: &mut Work, stop: &mut Steppe
     ensures { Does code.now line Op.Migrate work.old (ended result stop.new) work.new }
 {
     let cluster = object_in(work.pop());
-    *stop = asked(code, line, work, Request::Migrate { cluster });
+    put_request(code, line, work, stop, Request::Migrate { cluster });
     Onward::Stops
 }

@@ -5,7 +5,7 @@ ghost use Rattle.uc_step.specs.OpEffects.{condition_in, ended, Does};
 
 use crate::memory::index_below;
 use crate::mutex::this_object;
-use crate::stepped::{Onward, Stepped, asked, faulted};
+use crate::stepped::{Onward, Stepped, put_fault, put_request};
 use std::alloc::AllocError;
 use uc_code::code::Code;
 use uc_code::op::Op;
@@ -44,7 +44,7 @@ pub(crate) fn condition(
     match index_below(count, number_in(work.top())) {
         None => {
             work.pop();
-            *stop = faulted(code, line, work, RunFault::Index);
+            put_fault(code, line, work, stop, RunFault::Index);
             Ok(Onward::Stops)
         }
         Some(i) => {
@@ -66,13 +66,13 @@ pub(crate) fn wait(
 {
     let object = this_object(work);
     if work.is_held_up(object) {
-        *stop = faulted(code, line, work, RunFault::BlockedInside);
+        put_fault(code, line, work, stop, RunFault::BlockedInside);
         return Ok(Onward::Stops);
     }
     let cond = condition_in(work.second())?;
     let n = number_in(work.top());
     work.replace_two(Cell::Number(0))?;
-    *stop = asked(code, line, work, Request::Wait { object, cond, n });
+    put_request(code, line, work, stop, Request::Wait { object, cond, n });
     Ok(Onward::Stops)
 }
 
@@ -88,7 +88,7 @@ pub(crate) fn signal(
     let object = this_object(work);
     let cond = condition_in(work.top())?;
     work.replace(Cell::Number(0))?;
-    *stop = asked(code, line, work, Request::Signal { object, cond });
+    put_request(code, line, work, stop, Request::Signal { object, cond });
     Ok(Onward::Stops)
 }
 
@@ -104,12 +104,12 @@ pub(crate) fn signal_block(
 {
     let object = this_object(work);
     if work.is_held_up(object) {
-        *stop = faulted(code, line, work, RunFault::BlockedInside);
+        put_fault(code, line, work, stop, RunFault::BlockedInside);
         return Ok(Onward::Stops);
     }
     let cond = condition_in(work.top())?;
     work.replace(Cell::Number(0))?;
-    *stop = asked(code, line, work, Request::SignalBlock { object, cond });
+    put_request(code, line, work, stop, Request::SignalBlock { object, cond });
     Ok(Onward::Stops)
 }
 
@@ -125,7 +125,7 @@ pub(crate) fn empty(
     let object = this_object(work);
     let cond = condition_in(work.top())?;
     work.pop();
-    *stop = asked(code, line, work, Request::Empty { object, cond });
+    put_request(code, line, work, stop, Request::Empty { object, cond });
     Ok(Onward::Stops)
 }
 
@@ -141,6 +141,6 @@ pub(crate) fn front(
     let object = this_object(work);
     let cond = condition_in(work.top())?;
     work.pop();
-    *stop = asked(code, line, work, Request::Front { object, cond });
+    put_request(code, line, work, stop, Request::Front { object, cond });
     Ok(Onward::Stops)
 }

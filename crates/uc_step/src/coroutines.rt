@@ -4,12 +4,11 @@ ghost use Rattle.std.specs.Prelude.{◌≡◌, IfOk, OnErr};
 ghost use Rattle.uc_step.specs.OpEffects.{ended, Does};
 ghost use Rattle.uc_step.specs.declared.stepped.Stepped.{Stepped};
 
-use crate::stepped::{Onward, Stepped, asked, faulted};
+use crate::stepped::{Onward, Stepped, put_end, put_fault};
 use std::alloc::AllocError;
 use uc_code::code::Code;
 use uc_code::op::Op;
 use uc_entry::fault::RunFault;
-use uc_entry::request::Request;
 use uc_frames::work::Work;
 
 // The object at hand gets an execution.
@@ -48,14 +47,14 @@ pub(crate) fn alive(
 {
     match code.routine(number) {
         None => {
-            *stop = asked(code, line, work, Request::End);
+            put_end(code, line, work, stop);
             Onward::Stops
         }
         Some(routine) => {
             if work.is_live(routine.params) {
                 Onward::Quiet
             } else {
-                *stop = faulted(code, line, work, RunFault::NotLive);
+                put_fault(code, line, work, stop, RunFault::NotLive);
                 Onward::Stops
             }
         }

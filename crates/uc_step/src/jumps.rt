@@ -5,13 +5,12 @@ ghost use Rattle.uc_step.specs.OpEffects.{act_enter, act_return, act_end, ended,
 ghost use Rattle.uc_step.specs.declared.stepped.Stepped.{Stepped};
 ghost use Rattle.uc_frames.specs.Calls.{plain_call, object_call};
 
-use crate::stepped::{Onward, Stepped, asked, faulted};
+use crate::stepped::{Onward, Stepped, put_end, put_fault};
 use std::alloc::AllocError;
 use uc_code::code::Code;
 use uc_code::op::Op;
 use uc_code::rows::RoutineCode;
 use uc_entry::fault::RunFault;
-use uc_entry::request::Request;
 use uc_frames::call::Call;
 use uc_frames::cell::{Cell, number_in};
 use uc_frames::work::Work;
@@ -119,7 +118,7 @@ pub(crate) fn give_back(
     if work.leave(given)? {
         Ok(Onward::Quiet)
     } else {
-        *stop = asked(code, line, work, Request::End);
+        put_end(code, line, work, stop);
         Ok(Onward::Stops)
     }
 }
@@ -135,12 +134,26 @@ pub(crate) fn end_task(
     ensures err { OnErr result (work.new ≡ work.old) }
 {
     if work.is_held_up(work.own()) {
-        *stop = faulted(code, line, work, RunFault::BlockedInside);
+        put_fault(code, line, work, stop, RunFault::BlockedInside);
         Ok(Onward::Stops)
     } else {
         let how = give_back(code, line, work, stop, Cell::Number(0))?;
         Ok(how)
     }
+}
+
+// A routine that ends without its value.
+pub(crate) fn no_return(
+    code: &Code,
+    line: u32,
+    work: &mut Work,
+    stop: &mut Stepped,
+) -> Result<Onward, AllocError>
+    ensures ok { IfOk result (λ how. Does code.now line Op.NoReturn work.old (ended how stop.new) work.new) }
+    ensures err { OnErr result (work.new ≡ work.old) }
+{
+    put_fault(code, line, work, stop, RunFault::NoReturn);
+    Ok(Onward::Stops)
 }
 
 // Unwinding goes on behind a clean-up, without operands.
@@ -165,7 +178,7 @@ pub(crate) fn call(
 {
     match code.routine(number) {
         None => {
-            *stop = asked(code, line, work, Request::End);
+            put_end(code, line, work, stop);
             Ok(Onward::Stops)
         }
         Some(routine) => {
@@ -190,7 +203,7 @@ fn enter(
         work.enter(call)?;
         Ok(Onward::Quiet)
     } else {
-        *stop = faulted(code, line, work, RunFault::Depth);
+        put_fault(code, line, work, stop, RunFault::Depth);
         Ok(Onward::Stops)
     }
 }
@@ -231,7 +244,7 @@ pub(crate) fn call_on(
 {
     match code.routine(number) {
         None => {
-            *stop = asked(code, line, work, Request::End);
+            put_end(code, line, work, stop);
             Ok(Onward::Stops)
         }
         Some(routine) => {
@@ -255,7 +268,7 @@ pub(crate) fn call_unwritten(
 {
     match code.routine(number) {
         None => {
-            *stop = asked(code, line, work, Request::End);
+            put_end(code, line, work, stop);
             Ok(Onward::Stops)
         }
         Some(routine) => {

@@ -5,7 +5,7 @@ ghost use Rattle.uc_step.specs.OpEffects.{act_built, act_leave_last, may_call, e
 ghost use Rattle.uc_machine.specs.Insides.{is_last};
 ghost use Rattle.uc_frames.specs.Objects.{by_event, object_in, this_object};
 
-use crate::stepped::{Onward, Stepped, asked, faulted};
+use crate::stepped::{Onward, Stepped, put_end, put_fault, put_request};
 use std::alloc::AllocError;
 use uc_code::code::Code;
 use uc_code::op::Op;
@@ -53,11 +53,11 @@ pub(crate) fn enter(
     ensures err { OnErr result (work.new ≡ work.old) }
 {
     let Some(routine) = code.routine(number) else {
-        *stop = asked(code, line, work, Request::End);
+        put_end(code, line, work, stop);
         return Ok(Onward::Stops);
     };
     if !may_call(work, routine.written) {
-        *stop = faulted(code, line, work, RunFault::Depth);
+        put_fault(code, line, work, stop, RunFault::Depth);
         return Ok(Onward::Stops);
     }
     let object = object_in(work.below(routine.params));
@@ -66,7 +66,7 @@ pub(crate) fn enter(
     if inside {
         return Ok(Onward::Quiet);
     }
-    *stop = asked(code, line, work, Request::Call { object, member });
+    put_request(code, line, work, stop, Request::Call { object, member });
     Ok(Onward::Stops)
 }
 
@@ -98,7 +98,7 @@ pub(crate) fn leave(code: &Code, line: u32, work: &mut Work, stop: &mut Stepped,
         return Onward::Quiet;
     }
     if work.is_held_up(object) {
-        *stop = faulted(code, line, work, RunFault::BlockedInside);
+        put_fault(code, line, work, stop, RunFault::BlockedInside);
         return Onward::Stops;
     }
     leave_last(code, line, work, stop, object, to)
@@ -117,7 +117,7 @@ fn leave_last(
 {
     let why = work.raised();
     let failed = by_event(why);
-    *stop = asked(code, line, work, Request::Leave { object, failed });
+    put_request(code, line, work, stop, Request::Leave { object, failed });
     work.end_call(object);
     work.count_no_more();
     if why.is_some() {
@@ -139,15 +139,15 @@ pub(crate) fn make(
     ensures err { OnErr result (work.new ≡ work.old) }
 {
     let Some(routine) = code.routine(number) else {
-        *stop = asked(code, line, work, Request::End);
+        put_end(code, line, work, stop);
         return Ok(Onward::Stops);
     };
     if !may_call(work, routine.written) {
-        *stop = faulted(code, line, work, RunFault::Depth);
+        put_fault(code, line, work, stop, RunFault::Depth);
         return Ok(Onward::Stops);
     }
     work.begin_build()?;
-    *stop = asked(code, line, work, Request::Make { class });
+    put_request(code, line, work, stop, Request::Make { class });
     Ok(Onward::Stops)
 }
 
@@ -164,7 +164,7 @@ pub(crate) fn bind_made(
 {
     match code.routine(number) {
         None => {
-            *stop = asked(code, line, work, Request::End);
+            put_end(code, line, work, stop);
             Onward::Stops
         }
         Some(routine) => {
@@ -187,10 +187,10 @@ fn built(
 {
     let is_blocked = work.is_held_up(object);
     if is_blocked {
-        *stop = faulted(code, line, work, RunFault::BlockedInside);
+        put_fault(code, line, work, stop, RunFault::BlockedInside);
         return Onward::Stops;
     }
-    *stop = asked(code, line, work, request);
+    put_request(code, line, work, stop, request);
     work.end_build(object);
     Onward::Stops
 }
@@ -222,7 +222,7 @@ pub(crate) fn gone(code: &Code, line: u32, work: &mut Work, stop: &mut Stepped) 
     ensures { Does code.now line Op.Gone work.old (ended result stop.new) work.new }
 {
     let object = this_object(work);
-    *stop = asked(code, line, work, Request::Gone { object });
+    put_request(code, line, work, stop, Request::Gone { object });
     work.end_gone(object);
     Onward::Stops
 }
@@ -232,7 +232,7 @@ pub(crate) fn give_up(code: &Code, line: u32, work: &mut Work, stop: &mut Steppe
     ensures { Does code.now line Op.GiveUp work.old (ended result stop.new) work.new }
 {
     let object = this_object(work);
-    *stop = asked(code, line, work, Request::Gone { object });
+    put_request(code, line, work, stop, Request::Gone { object });
     work.end_build(object);
     Onward::Stops
 }

@@ -7,7 +7,7 @@ ghost use Rattle.uc_step.specs.declared.stepped.Stepped.{Stepped};
 ghost use Rattle.uc_step.specs.OperatorResults.{operator_of};
 
 use crate::numbers::{Given, Operator, negative, one_if};
-use crate::stepped::{Onward, Stepped, faulted};
+use crate::stepped::{Onward, Stepped, put_fault};
 use std::alloc::AllocError;
 use uc_code::code::Code;
 use uc_code::op::Op;
@@ -34,7 +34,7 @@ pub(crate) fn two(
         Given::Fault(fault) => {
             work.pop();
             work.pop();
-            *stop = faulted(code, line, work, fault);
+            put_fault(code, line, work, stop, fault);
             Ok(Onward::Stops)
         }
     }
@@ -57,7 +57,7 @@ pub(crate) fn negate(
         }
         Given::Fault(fault) => {
             work.pop();
-            *stop = faulted(code, line, work, fault);
+            put_fault(code, line, work, stop, fault);
             Ok(Onward::Stops)
         }
     }

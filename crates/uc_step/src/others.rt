@@ -6,7 +6,7 @@ ghost use Rattle.uc_frames.specs.Unwinding.{event_at};
 ghost use Rattle.uc_step.specs.OpEffects.{act_pend, act_pend_at, with_operands, without_event, ended, Does, Ends};
 ghost use Rattle.uc_step.specs.declared.stepped.Stepped.{Stepped};
 
-use crate::stepped::{Onward, Stepped, asked, faulted};
+use crate::stepped::{Onward, Stepped, put_fault, put_request};
 use std::alloc::AllocError;
 use uc_code::code::Code;
 use uc_code::op::Op;
@@ -36,10 +36,11 @@ pub(crate) fn raise_at(
                 x,
                 y,
             } = pop_raised(work);
-            *stop = asked(
+            put_request(
                 code,
                 line,
                 work,
+                stop,
                 Request::Raise {
                     object,
                     event,
@@ -81,13 +82,13 @@ fn pend_at(
     match exec {
         None => {
             pop_raised(work);
-            *stop = faulted(code, line, work, RunFault::NotLive);
+            put_fault(code, line, work, stop, RunFault::NotLive);
             Ok(Onward::Stops)
         }
         Some(exec) => {
             if !work.is_live_at(exec) {
                 pop_raised(work);
-                *stop = faulted(code, line, work, RunFault::NotLive);
+                put_fault(code, line, work, stop, RunFault::NotLive);
                 return Ok(Onward::Stops);
             }
             let how = pend(code, line, work, stop, exec)?;
@@ -109,7 +110,7 @@ fn pend(
 {
     if work.pending_count(exec) >= usize::from(PENDING_EVENTS) {
         pop_raised(work);
-        *stop = faulted(code, line, work, RunFault::TooManyPending);
+        put_fault(code, line, work, stop, RunFault::TooManyPending);
         return Ok(Onward::Stops);
     }
     let Event {
@@ -165,4 +166,20 @@ pub(crate) fn restore(
 {
     work.restore(cell);
     Ok(Onward::Quiet)
+}
+
+// The newest operands are an event, which is thrown.
+pub(crate) fn throw(code: &Code, line: u32, work: &mut Work, stop: &mut Stepped) -> Onward
+    ensures { Does code.now line Op.Throw work.old (ended result stop.new) work.new }
+{
+    *stop = Stepped::Throw(work.pop_event());
+    Onward::Stops
+}
+
+// They are one that is raised for its handler.
+pub(crate) fn raise(code: &Code, line: u32, work: &mut Work, stop: &mut Stepped) -> Onward
+    ensures { Does code.now line Op.Raise work.old (ended result stop.new) work.new }
+{
+    *stop = Stepped::Raise(work.pop_event());
+    Onward::Stops
 }

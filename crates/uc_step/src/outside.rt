@@ -1,10 +1,12 @@
 // The ops that print and read.
 
-ghost use Rattle.std.specs.Prelude.{◌≡◌, IfOk, OnErr};
-ghost use Rattle.uc_step.specs.OpEffects.{ended, Does};
+ghost use Rattle.std.specs.Prelude.{◌≡◌, IfOk, Ok, OnErr};
+ghost use Rattle.uc_frames.specs.Machine.{line_at};
+ghost use Rattle.uc_step.specs.OpEffects.{bare_request, ended, Does};
+ghost use Rattle.uc_step.specs.declared.stepped.Onward.TheVariants as onward;
 ghost use Rattle.uc_step.specs.declared.stepped.Stepped.{Stepped};
 
-use crate::stepped::{Onward, Stepped, asked};
+use crate::stepped::{Onward, Stepped, put_request};
 use std::alloc::AllocError;
 use uc_code::code::Code;
 use uc_code::op::Op;
@@ -34,7 +36,7 @@ pub(crate) fn print(
         Ok(Onward::Quiet)
     } else {
         work.pop();
-        *stop = asked(code, line, work, print_request(&[piece]));
+        put_request(code, line, work, stop, print_request(&[piece]));
         Ok(Onward::Stops)
     }
 }
@@ -57,7 +59,7 @@ pub(crate) fn text(
         work.gather(piece)?;
         Ok(Onward::Quiet)
     } else {
-        *stop = asked(code, line, work, print_request(&[piece]));
+        put_request(code, line, work, stop, print_request(&[piece]));
         Ok(Onward::Stops)
     }
 }
@@ -78,7 +80,7 @@ pub(crate) fn flush(code: &Code, line: u32, work: &mut Work, stop: &mut Stepped)
         Some(pieces) => match pieces.request() {
             None => Onward::Quiet,
             Some(request) => {
-                *stop = asked(code, line, work, request);
+                put_request(code, line, work, stop, request);
                 Onward::Stops
             }
         },
@@ -95,6 +97,33 @@ pub(crate) fn read(
     ensures { Does code.now line (Op.Read form) work.old (ended result stop.new) work.new }
 {
     let form = form.number();
-    *stop = asked(code, line, work, Request::Read { form });
+    put_request(code, line, work, stop, Request::Read { form });
     Onward::Stops
+}
+
+// A request that names nothing.
+pub(crate) fn bare(
+    code: &Code,
+    line: u32,
+    work: &Work,
+    stop: &mut Stepped,
+    op: Op,
+) -> Result<Onward, AllocError>
+    ensures told { result ≡ Ok onward.Stops }
+    ensures how { stop.new ≡ Stepped.Ask (record { request = bare_request op; line = line_at code.now.ops line work.now.callers }) }
+{
+    match op {
+        Op::Yield => {
+            put_request(code, line, work, stop, Request::Yield);
+            Ok(Onward::Stops)
+        }
+        Op::Cluster => {
+            put_request(code, line, work, stop, Request::Cluster);
+            Ok(Onward::Stops)
+        }
+        _ => {
+            put_request(code, line, work, stop, Request::Fail);
+            Ok(Onward::Stops)
+        }
+    }
 }

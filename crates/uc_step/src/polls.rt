@@ -4,7 +4,7 @@ ghost use Rattle.std.specs.Prelude.{◌≡◌, IfOk, OnErr};
 ghost use Rattle.uc_machine.specs.Insides.{oldest_enabled};
 ghost use Rattle.uc_step.specs.OpEffects.{act_pending, ended, Does, Ends};
 
-use crate::stepped::{Onward, Stepped, asked};
+use crate::stepped::{Onward, Stepped, put_request};
 use std::alloc::AllocError;
 use uc_code::code::Code;
 use uc_code::op::Op;
@@ -29,7 +29,7 @@ pub(crate) fn poll(
         return Ok(Onward::Quiet);
     }
     if work.is_own() {
-        *stop = asked(code, line, work, Request::Poll { mask });
+        put_request(code, line, work, stop, Request::Poll { mask });
         Ok(Onward::Stops)
     } else {
         let how = take_pending(code, work, stop, to)?;

@@ -41,18 +41,41 @@ pub enum Stepped {
     Astray,
 }
 
-// It asks, by an op of this line.
-pub(crate) fn asked(code: &Code, line: u32, work: &Work, request: Request) -> Stepped
-    ensures { result ≡ Stepped.Ask (record { request = request; line = line_at code.now.ops line work.now.callers }) }
+// It asks, by an op of this line. This and the two below stand apart from the ops, none of which makes room for a request that it does
+// not ask.
+#[inline(never)]
+pub(crate) fn put_request(
+    code: &Code,
+    line: u32,
+    work: &Work,
+    stop: &mut Stepped,
+    request: Request,
+)
+    ensures { stop.new ≡ Stepped.Ask (record { request = request; line = line_at code.now.ops line work.now.callers }) }
 {
     let line = work.line(code, line);
-    Stepped::Ask(Asked { request, line })
+    *stop = Stepped::Ask(Asked { request, line });
+}
+
+// The end of the task is asked so.
+#[inline(never)]
+pub(crate) fn put_end(code: &Code, line: u32, work: &Work, stop: &mut Stepped)
+    ensures { stop.new ≡ Stepped.Ask (record { request = ask.End; line = line_at code.now.ops line work.now.callers }) }
+{
+    put_request(code, line, work, stop, Request::End);
 }
 
 // A run fault, by an op of this line.
-pub(crate) fn faulted(code: &Code, line: u32, work: &Work, fault: RunFault) -> Stepped
-    ensures { result ≡ Stepped.Ask (record { request = ask.Fault (fault_number fault); line = line_at code.now.ops line work.now.callers }) }
+#[inline(never)]
+pub(crate) fn put_fault(
+    code: &Code,
+    line: u32,
+    work: &Work,
+    stop: &mut Stepped,
+    fault: RunFault,
+)
+    ensures { stop.new ≡ Stepped.Ask (record { request = ask.Fault (fault_number fault); line = line_at code.now.ops line work.now.callers }) }
 {
     let number = fault.number();
-    asked(code, line, work, Request::Fault { number })
+    put_request(code, line, work, stop, Request::Fault { number });
 }
