@@ -12,19 +12,22 @@ use Rattle.uc_acts.specs.Known.{has, object_count, task_count, is_gone, is_gone_
 use Rattle.uc_acts.specs.Stations.{Ready, times}
 use Rattle.uc_acts.specs.Sound.{Spot, At, spot}
 use Rattle.uc_acts.specs.KernelRuns.{InRange, KernelRuns, MayAsk}
+use Rattle.uc_kernel_core.specs.CoreActs.{makes_new}
 use Rattle.uc_kernel_core.specs.Mirrors.{Seen}
 use Rattle.uc_acts.specs.Acts.{act}
+use Rattle.uc_entry.specs.declared.request.Asked.{Asked}
 use Rattle.uc_entry.specs.declared.request.Request.{Request}
 use Rattle.uc_entry.specs.declared.request.Request.TheVariants as ask
 use Rattle.uc_entry.specs.declared.request.Answer.{Answer}
 use Rattle.uc_acts.specs.Answers.{answer_to}
 use Rattle.uc_acts.specs.Serves.{left}
+use Rattle.uc_kernel.specs.declared.given.Back.{Back}
 use Rattle.uc_kernel.specs.declared.given.Given.{Given}
 use Rattle.uc_kernel.specs.declared.given.Next.{Next}
 use Rattle.uc_kernel.specs.declared.given.Next.TheVariants.{Go, Blocked, Ended}
 use Rattle.uc_kernel.specs.declared.rests.Rest.{Rest}
 use Rattle.uc_kernel.specs.Numbered.{keys, without}
-use Rattle.uc_kernel.specs.KernelState.{Brought}
+use Rattle.uc_kernel.specs.KernelState.{Brought, with_asked}
 
 -- a spot at which nobody is let in
 abbrev pub is_ready : Spot → Bool
@@ -199,6 +202,18 @@ pub record FromAct {T M : Type 0} (s : Seen) (t : ℕ) (b : Brought T M) (tasks 
   pub room : 1 ≤ b.members.spare
   pub lies : Lies before tasks loose
 
+-- the journal of s stands behind the act of something that makes nothing new, and was asked with what was brought
+pub record AfterAct {T M : Type 0} (s : Seen) (t : ℕ) (first : Entry) (admission : Option Entry) (b : Back T M) (tasks : List (Option (Rest T M))) (loose : List (Option M)) : Type 0 where
+  pub asked : Asked
+  pub old : makes_new asked.request ≡ false
+  pub act : IsAct s t first admission (with_asked b asked) tasks loose
+
+-- the same, of an object that was made
+pub record AfterMake {T M : Type 0} (s : Seen) (t : ℕ) (b : Back T M) (tasks : List (Option (Rest T M))) (loose : List (Option M)) : Type 0 where
+  pub asked : Asked
+  pub makes : IsMake asked.request
+  pub from : FromAct s t (with_asked b asked) tasks loose
+
 -- a new task is at rest, with the members of its object in its hand
 pub record HasChild {T M : Type 0} (tasks tasks' : List (Option (Rest T M))) (child : T) (o : ℕ) (m : M) : Type 0 where
   pub rest : Rest T M
@@ -212,3 +227,9 @@ pub record FromFirst {T M : Type 0} (s : Seen) (t : ℕ) (first : Entry) (b : Br
   pub from : FromAct s t b tasks loose
   pub before_is : before ≡ from.before
   pub first_is : slice_get s.journal (length from.before) ≡ Some first
+
+-- the journal of s stands behind the act of a spawn that was asked with what was brought
+pub record AfterSpawn {T M : Type 0} (s : Seen) (t : ℕ) (first : Entry) (b : Back T M) (tasks : List (Option (Rest T M))) (loose : List (Option M)) : Type 0 where
+  pub asked : Asked
+  pub spawns : IsSpawn asked.request
+  pub act : FromFirst s t first (with_asked b asked) tasks loose

@@ -15,7 +15,7 @@ ghost use Rattle.uc_kernel_core.specs.Mirrors.{AreKnownSites};
 ghost use Rattle.uc_kernel.specs.Numbered.{without};
 ghost use Rattle.uc_kernel.specs.KernelState.{kept, put_back, stored, with_asked};
 ghost use Rattle.uc_kernel.specs.Calls.{MayBring, Acted, Dispatched, EndsRun, Follows, LacksNew, Opened};
-ghost use Rattle.uc_kernel.specs.AtRest.{earlier, AreApart, FromAct, FromFirst, HasChild, IsAct, IsFirst, HandedOn, TakenOut, IsMake, IsSpawn, Lies};
+ghost use Rattle.uc_kernel.specs.AtRest.{earlier, AfterAct, AfterMake, AfterSpawn, AreApart, HasChild, IsFirst, HandedOn, TakenOut, IsMake, IsSpawn, Lies};
 
 use crate::given::{Back, Given, Next, Shape};
 use crate::hand::take_from;
@@ -121,7 +121,6 @@ impl<T: Drop, M: Drop> Kernel<T, M> {
             first,
             admission,
             back,
-            asked,
         )
     }
 
@@ -145,7 +144,7 @@ impl<T: Drop, M: Drop> Kernel<T, M> {
         let who = actor(&self.book, &back, asked);
         self.loose.reserve(1)?;
         self.book.make_object(who, class)?;
-        let next = follow_make(&self.book, &mut self.tasks, &mut self.loose, who.task, back, asked);
+        let next = follow_make(&self.book, &mut self.tasks, &mut self.loose, who.task, back);
         Ok(next)
     }
 
@@ -177,7 +176,6 @@ impl<T: Drop, M: Drop> Kernel<T, M> {
             first,
             hand,
             back,
-            asked,
         );
         Ok(next)
     }
@@ -334,12 +332,10 @@ fn follow<T: Drop, M: Drop>(
     first: Entry,
     admission: Option<Entry>,
     back: Back<T, M>,
-    asked: &Asked,
 ) -> Next<T, M>
-    requires is { IsAct book.now task first admission (with_asked back asked.now) tasks.old.items loose.old.items }
-    requires old { makes_new asked.now.request ≡ false }
+    requires after { AfterAct book.now task first admission back tasks.old.items loose.old.items }
     ensures lies { Journal.is_over book.now.journal ≡ false → Lies book.now.journal tasks.new.items loose.new.items }
-    ensures follows { (x : IsAct book.now task first admission (with_asked back asked.now) tasks.old.items loose.old.items) (b : Bool) → Follows (put_back (act book.now.opts book.now.sites book.now.input x.before back.processor task back.ticks asked.now) task back.task back.members.items back.child (kept (stored (earlier x.before book.now) b tasks.old.items loose.old.items))) (kept (stored book.now b tasks.new.items loose.new.items)) back.processor task result }
+    ensures follows { (x : AfterAct book.now task first admission back tasks.old.items loose.old.items) (b : Bool) → Follows (put_back (act book.now.opts book.now.sites book.now.input x.act.before back.processor task back.ticks x.asked) task back.task back.members.items back.child (kept (stored (earlier x.act.before book.now) b tasks.old.items loose.old.items))) (kept (stored book.now b tasks.new.items loose.new.items)) back.processor task result }
 {
     let Back {
         processor,
@@ -442,16 +438,14 @@ fn follow_spawn<T: Drop, M: Drop>(
     first: Entry,
     hand: List<(u64, M)>,
     back: Back<T, M>,
-    asked: &Asked,
 ) -> Next<T, M>
-    requires is { FromFirst book.now task first (with_asked back asked.now) tasks.old.items loose.now.items }
-    requires spawns { IsSpawn asked.now.request }
+    requires after { AfterSpawn book.now task first back tasks.old.items loose.now.items }
     requires child { IsSome back.child }
     requires room { 1 ≤ hand.spare }
     requires empty { hand.items ≡ [] }
     requires reserved { vec_len tasks.old < vec_capacity tasks.old }
     ensures lies { Journal.is_over book.now.journal ≡ false → Lies book.now.journal tasks.new.items loose.now.items }
-    ensures follows { (x : FromFirst book.now task first (with_asked back asked.now) tasks.old.items loose.now.items) (b : Bool) → Follows (put_back (act book.now.opts book.now.sites book.now.input x.before back.processor task back.ticks asked.now) task back.task back.members.items back.child (kept (stored (earlier x.before book.now) b tasks.old.items loose.now.items))) (kept (stored book.now b tasks.new.items loose.now.items)) back.processor task result }
+    ensures follows { (x : AfterSpawn book.now task first back tasks.old.items loose.now.items) (b : Bool) → Follows (put_back (act book.now.opts book.now.sites book.now.input x.act.before back.processor task back.ticks x.asked) task back.task back.members.items back.child (kept (stored (earlier x.act.before book.now) b tasks.old.items loose.now.items))) (kept (stored book.now b tasks.new.items loose.now.items)) back.processor task result }
 {
     let Back {
         processor,
@@ -485,14 +479,12 @@ fn follow_make<T: Drop, M: Drop>(
     loose: &mut Vec<Option<M>>,
     task: u32,
     back: Back<T, M>,
-    asked: &Asked,
 ) -> Next<T, M>
-    requires is { FromAct book.now task (with_asked back asked.now) tasks.old.items loose.old.items }
-    requires makes { IsMake asked.now.request }
+    requires after { AfterMake book.now task back tasks.old.items loose.old.items }
     requires reserved { vec_len loose.old < vec_capacity loose.old }
     ensures lies { Journal.is_over book.now.journal ≡ false → Lies book.now.journal tasks.new.items loose.new.items }
     ensures lacks { LacksNew book.now.journal task result }
-    ensures follows { (x : FromAct book.now task (with_asked back asked.now) tasks.old.items loose.old.items) (b : Bool) → Follows (put_back (act book.now.opts book.now.sites book.now.input x.before back.processor task back.ticks asked.now) task back.task back.members.items back.child (kept (stored (earlier x.before book.now) b tasks.old.items loose.old.items))) (kept (stored book.now b tasks.new.items loose.new.items)) back.processor task result }
+    ensures follows { (x : AfterMake book.now task back tasks.old.items loose.old.items) (b : Bool) → Follows (put_back (act book.now.opts book.now.sites book.now.input x.from.before back.processor task back.ticks x.asked) task back.task back.members.items back.child (kept (stored (earlier x.from.before book.now) b tasks.old.items loose.old.items))) (kept (stored book.now b tasks.new.items loose.new.items)) back.processor task result }
 {
     let Back {
         processor,
