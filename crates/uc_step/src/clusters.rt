@@ -17,8 +17,7 @@ pub(crate) fn processor(code: &Code, line: u32, work: &mut Work, stop: &mut Step
     ensures { Does code.now line Op.Processor work.old (ended result stop.new) work.new }
 {
     let cluster = object_in(work.pop());
-    put_request(code, line, work, stop, Request::Processor { cluster });
-    Onward::Stops
+    put_request(code, line, work, stop, Request::Processor { cluster })
 }
 
 pub(crate) fn cluster_end(
@@ -32,8 +31,7 @@ pub(crate) fn cluster_end(
 {
     let cluster = object_in(work.top());
     work.replace(Cell::Number(0))?;
-    put_request(code, line, work, stop, Request::ClusterEnd { cluster });
-    Ok(Onward::Stops)
+    Ok(put_request(code, line, work, stop, Request::ClusterEnd { cluster }))
 }
 
 pub(crate) fn processor_end(
@@ -47,14 +45,12 @@ pub(crate) fn processor_end(
 {
     let processor = object_in(work.top());
     work.replace(Cell::Number(0))?;
-    put_request(code, line, work, stop, Request::ProcessorEnd { processor });
-    Ok(Onward::Stops)
+    Ok(put_request(code, line, work, stop, Request::ProcessorEnd { processor }))
 }
 
 pub(crate) fn migrate(code: &Code, line: u32, work: &mut Work, stop: &mut Stepped) -> Onward
     ensures { Does code.now line Op.Migrate work.old (ended result stop.new) work.new }
 {
     let cluster = object_in(work.pop());
-    put_request(code, line, work, stop, Request::Migrate { cluster });
-    Onward::Stops
+    put_request(code, line, work, stop, Request::Migrate { cluster })
 }

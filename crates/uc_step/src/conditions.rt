@@ -44,8 +44,7 @@ pub(crate) fn condition(
     match index_below(count, number_in(work.top())) {
         None => {
             work.pop();
-            put_fault(code, line, work, stop, RunFault::Index);
-            Ok(Onward::Stops)
+            Ok(put_fault(code, line, work, stop, RunFault::Index))
         }
         Some(i) => {
             work.replace(Cell::Number(i64::from(first) + i64::from(i)))?;
@@ -66,14 +65,12 @@ pub(crate) fn wait(
 {
     let object = this_object(work);
     if work.is_held_up(object) {
-        put_fault(code, line, work, stop, RunFault::BlockedInside);
-        return Ok(Onward::Stops);
+        return Ok(put_fault(code, line, work, stop, RunFault::BlockedInside));
     }
     let cond = condition_in(work.second())?;
     let n = number_in(work.top());
     work.replace_two(Cell::Number(0))?;
-    put_request(code, line, work, stop, Request::Wait { object, cond, n });
-    Ok(Onward::Stops)
+    Ok(put_request(code, line, work, stop, Request::Wait { object, cond, n }))
 }
 
 pub(crate) fn signal(
@@ -88,8 +85,7 @@ pub(crate) fn signal(
     let object = this_object(work);
     let cond = condition_in(work.top())?;
     work.replace(Cell::Number(0))?;
-    put_request(code, line, work, stop, Request::Signal { object, cond });
-    Ok(Onward::Stops)
+    Ok(put_request(code, line, work, stop, Request::Signal { object, cond }))
 }
 
 // A task is blocked by a signal, unless it is held up.
@@ -104,13 +100,11 @@ pub(crate) fn signal_block(
 {
     let object = this_object(work);
     if work.is_held_up(object) {
-        put_fault(code, line, work, stop, RunFault::BlockedInside);
-        return Ok(Onward::Stops);
+        return Ok(put_fault(code, line, work, stop, RunFault::BlockedInside));
     }
     let cond = condition_in(work.top())?;
     work.replace(Cell::Number(0))?;
-    put_request(code, line, work, stop, Request::SignalBlock { object, cond });
-    Ok(Onward::Stops)
+    Ok(put_request(code, line, work, stop, Request::SignalBlock { object, cond }))
 }
 
 pub(crate) fn empty(
@@ -125,8 +119,7 @@ pub(crate) fn empty(
     let object = this_object(work);
     let cond = condition_in(work.top())?;
     work.pop();
-    put_request(code, line, work, stop, Request::Empty { object, cond });
-    Ok(Onward::Stops)
+    Ok(put_request(code, line, work, stop, Request::Empty { object, cond }))
 }
 
 pub(crate) fn front(
@@ -141,6 +134,5 @@ pub(crate) fn front(
     let object = this_object(work);
     let cond = condition_in(work.top())?;
     work.pop();
-    put_request(code, line, work, stop, Request::Front { object, cond });
-    Ok(Onward::Stops)
+    Ok(put_request(code, line, work, stop, Request::Front { object, cond }))
 }

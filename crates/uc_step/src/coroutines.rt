@@ -1,7 +1,7 @@
 // The ops of coroutines, but for those that switch.
 
-ghost use Rattle.std.specs.Prelude.{◌≡◌, IfOk, OnErr};
-ghost use Rattle.uc_step.specs.OpEffects.{ended, Does};
+ghost use Rattle.std.specs.Prelude.{◌≡◌, ℕ, IfOk, OnErr};
+ghost use Rattle.uc_step.specs.OpEffects.{ended, Does, DoesAlone};
 ghost use Rattle.uc_step.specs.declared.stepped.Stepped.{Stepped};
 
 use crate::stepped::{Onward, Stepped, put_end, put_fault};
@@ -12,13 +12,8 @@ use uc_entry::fault::RunFault;
 use uc_frames::work::Work;
 
 // The object at hand gets an execution.
-pub(crate) fn set_up(
-    code: &Code,
-    line: u32,
-    work: &mut Work,
-    number: u32,
-) -> Result<Onward, AllocError>
-    ensures ok { IfOk result (λ how. (stop : Stepped) → Does code.now line (Op.Coroutine number) work.old (ended how stop) work.new) }
+pub(crate) fn set_up(code: &Code, work: &mut Work, number: u32) -> Result<Onward, AllocError>
+    ensures ok { IfOk result (λ how. (line : ℕ) (stop : Stepped) → Does code.now line (Op.Coroutine number) work.old (ended how stop) work.new) }
     ensures err { OnErr result (work.new ≡ work.old) }
 {
     if let Some(routine) = code.routine(number) {
@@ -27,8 +22,8 @@ pub(crate) fn set_up(
     Ok(Onward::Quiet)
 }
 
-pub(crate) fn enliven(code: &Code, line: u32, work: &mut Work) -> Result<Onward, AllocError>
-    ensures ok { IfOk result (λ how. (stop : Stepped) → Does code.now line Op.Live work.old (ended how stop) work.new) }
+pub(crate) fn enliven(work: &mut Work) -> Result<Onward, AllocError>
+    ensures ok { IfOk result (λ how. (stop : Stepped) → DoesAlone Op.Live work.old (ended how stop) work.new) }
     ensures err { OnErr result (work.new ≡ work.old) }
 {
     work.enliven();
@@ -47,22 +42,20 @@ pub(crate) fn alive(
 {
     match code.routine(number) {
         None => {
-            put_end(code, line, work, stop);
-            Onward::Stops
+            put_end(code, line, work, stop)
         }
         Some(routine) => {
             if work.is_live(routine.params) {
                 Onward::Quiet
             } else {
-                put_fault(code, line, work, stop, RunFault::NotLive);
-                Onward::Stops
+                put_fault(code, line, work, stop, RunFault::NotLive)
             }
         }
     }
 }
 
-pub(crate) fn forget(code: &Code, line: u32, work: &mut Work) -> Result<Onward, AllocError>
-    ensures ok { IfOk result (λ how. (stop : Stepped) → Does code.now line Op.Forget work.old (ended how stop) work.new) }
+pub(crate) fn forget(work: &mut Work) -> Result<Onward, AllocError>
+    ensures ok { IfOk result (λ how. (stop : Stepped) → DoesAlone Op.Forget work.old (ended how stop) work.new) }
     ensures err { OnErr result (work.new ≡ work.old) }
 {
     work.forget();
@@ -70,8 +63,8 @@ pub(crate) fn forget(code: &Code, line: u32, work: &mut Work) -> Result<Onward, 
 }
 
 // Where an execution stopped it goes on, or is unwound.
-pub(crate) fn land(code: &Code, line: u32, work: &mut Work, stop: &mut Stepped) -> Onward
-    ensures { Does code.now line Op.Land work.old (ended result stop.new) work.new }
+pub(crate) fn land(work: &mut Work, stop: &mut Stepped) -> Onward
+    ensures { DoesAlone Op.Land work.old (ended result stop.new) work.new }
 {
     match work.raised() {
         None => Onward::Quiet,

@@ -2,7 +2,7 @@
 
 ghost use Rattle.std.specs.Prelude.{◌≡◌, IfOk, Ok, OnErr};
 ghost use Rattle.uc_frames.specs.Machine.{line_at};
-ghost use Rattle.uc_step.specs.OpEffects.{bare_request, ended, Does};
+ghost use Rattle.uc_step.specs.OpEffects.{bare_request, ended, Does, DoesAlone};
 ghost use Rattle.uc_step.specs.declared.stepped.Onward.TheVariants as onward;
 ghost use Rattle.uc_step.specs.declared.stepped.Stepped.{Stepped};
 
@@ -36,8 +36,7 @@ pub(crate) fn print(
         Ok(Onward::Quiet)
     } else {
         work.pop();
-        put_request(code, line, work, stop, print_request(&[piece]));
-        Ok(Onward::Stops)
+        Ok(put_request(code, line, work, stop, print_request(&[piece])))
     }
 }
 
@@ -59,13 +58,12 @@ pub(crate) fn text(
         work.gather(piece)?;
         Ok(Onward::Quiet)
     } else {
-        put_request(code, line, work, stop, print_request(&[piece]));
-        Ok(Onward::Stops)
+        Ok(put_request(code, line, work, stop, print_request(&[piece])))
     }
 }
 
-pub(crate) fn hold(code: &Code, line: u32, work: &mut Work) -> Result<Onward, AllocError>
-    ensures ok { IfOk result (λ how. (stop : Stepped) → Does code.now line Op.Hold work.old (ended how stop) work.new) }
+pub(crate) fn hold(work: &mut Work) -> Result<Onward, AllocError>
+    ensures ok { IfOk result (λ how. (stop : Stepped) → DoesAlone Op.Hold work.old (ended how stop) work.new) }
     ensures err { OnErr result (work.new ≡ work.old) }
 {
     work.begin_gather();
@@ -80,8 +78,7 @@ pub(crate) fn flush(code: &Code, line: u32, work: &mut Work, stop: &mut Stepped)
         Some(pieces) => match pieces.request() {
             None => Onward::Quiet,
             Some(request) => {
-                put_request(code, line, work, stop, request);
-                Onward::Stops
+                put_request(code, line, work, stop, request)
             }
         },
     }
@@ -97,8 +94,7 @@ pub(crate) fn read(
     ensures { Does code.now line (Op.Read form) work.old (ended result stop.new) work.new }
 {
     let form = form.number();
-    put_request(code, line, work, stop, Request::Read { form });
-    Onward::Stops
+    put_request(code, line, work, stop, Request::Read { form })
 }
 
 // A request that names nothing.
@@ -114,16 +110,13 @@ pub(crate) fn bare(
 {
     match op {
         Op::Yield => {
-            put_request(code, line, work, stop, Request::Yield);
-            Ok(Onward::Stops)
+            Ok(put_request(code, line, work, stop, Request::Yield))
         }
         Op::Cluster => {
-            put_request(code, line, work, stop, Request::Cluster);
-            Ok(Onward::Stops)
+            Ok(put_request(code, line, work, stop, Request::Cluster))
         }
         _ => {
-            put_request(code, line, work, stop, Request::Fail);
-            Ok(Onward::Stops)
+            Ok(put_request(code, line, work, stop, Request::Fail))
         }
     }
 }

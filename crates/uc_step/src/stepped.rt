@@ -4,6 +4,7 @@ ghost use Rattle.std.specs.Prelude.{◌≡◌};
 ghost use Rattle.uc_entry.specs.declared.request.Request.TheVariants as ask;
 ghost use Rattle.uc_entry.specs.Faults.{fault_number};
 ghost use Rattle.uc_frames.specs.Machine.{line_at};
+ghost use Rattle.uc_step.specs.OpEffects.{ended};
 
 use uc_code::code::Code;
 use uc_entry::fault::RunFault;
@@ -50,19 +51,20 @@ pub(crate) fn put_request(
     work: &Work,
     stop: &mut Stepped,
     request: Request,
-)
-    ensures { stop.new ≡ Stepped.Ask (record { request = request; line = line_at code.now.ops line work.now.callers }) }
+) -> Onward
+    ensures { ended result stop.new ≡ Stepped.Ask (record { request = request; line = line_at code.now.ops line work.now.callers }) }
 {
     let line = work.line(code, line);
     *stop = Stepped::Ask(Asked { request, line });
+    Onward::Stops
 }
 
 // The end of the task is asked so.
 #[inline(never)]
-pub(crate) fn put_end(code: &Code, line: u32, work: &Work, stop: &mut Stepped)
-    ensures { stop.new ≡ Stepped.Ask (record { request = ask.End; line = line_at code.now.ops line work.now.callers }) }
+pub(crate) fn put_end(code: &Code, line: u32, work: &Work, stop: &mut Stepped) -> Onward
+    ensures { ended result stop.new ≡ Stepped.Ask (record { request = ask.End; line = line_at code.now.ops line work.now.callers }) }
 {
-    put_request(code, line, work, stop, Request::End);
+    put_request(code, line, work, stop, Request::End)
 }
 
 // A run fault, by an op of this line.
@@ -73,9 +75,9 @@ pub(crate) fn put_fault(
     work: &Work,
     stop: &mut Stepped,
     fault: RunFault,
-)
-    ensures { stop.new ≡ Stepped.Ask (record { request = ask.Fault (fault_number fault); line = line_at code.now.ops line work.now.callers }) }
+) -> Onward
+    ensures { ended result stop.new ≡ Stepped.Ask (record { request = ask.Fault (fault_number fault); line = line_at code.now.ops line work.now.callers }) }
 {
     let number = fault.number();
-    put_request(code, line, work, stop, Request::Fault { number });
+    put_request(code, line, work, stop, Request::Fault { number })
 }
