@@ -1,9 +1,8 @@
 // The ops that print and read.
 
-ghost use Rattle.std.specs.Prelude.{◌≡◌, IfOk, Ok, OnErr};
+ghost use Rattle.std.specs.Prelude.{◌≡◌, IfOk, OnErr};
 ghost use Rattle.uc_frames.specs.Machine.{line_at};
 ghost use Rattle.uc_step.specs.OpEffects.{bare_request, ended, Does, DoesAlone};
-ghost use Rattle.uc_step.specs.declared.stepped.Onward.TheVariants as onward;
 ghost use Rattle.uc_step.specs.declared.stepped.Stepped.{Stepped};
 
 use crate::stepped::{Onward, Stepped, put_request};
@@ -98,25 +97,12 @@ pub(crate) fn read(
 }
 
 // A request that names nothing.
-pub(crate) fn bare(
-    code: &Code,
-    line: u32,
-    work: &Work,
-    stop: &mut Stepped,
-    op: Op,
-) -> Result<Onward, AllocError>
-    ensures told { result ≡ Ok onward.Stops }
-    ensures how { stop.new ≡ Stepped.Ask (record { request = bare_request op; line = line_at code.now.ops line work.now.callers }) }
+pub(crate) fn put_bare(code: &Code, line: u32, work: &Work, stop: &mut Stepped, op: Op) -> Onward
+    ensures { ended result stop.new ≡ Stepped.Ask (record { request = bare_request op; line = line_at code.now.ops line work.now.callers }) }
 {
     match op {
-        Op::Yield => {
-            Ok(put_request(code, line, work, stop, Request::Yield))
-        }
-        Op::Cluster => {
-            Ok(put_request(code, line, work, stop, Request::Cluster))
-        }
-        _ => {
-            Ok(put_request(code, line, work, stop, Request::Fail))
-        }
+        Op::Yield => put_request(code, line, work, stop, Request::Yield),
+        Op::Cluster => put_request(code, line, work, stop, Request::Cluster),
+        _ => put_request(code, line, work, stop, Request::Fail),
     }
 }
