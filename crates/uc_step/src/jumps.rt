@@ -48,9 +48,9 @@ pub(crate) fn if_nonzero(work: &mut Work, to: u32) -> Result<Onward, AllocError>
 pub(crate) fn end(
     code: &Code,
     line: u32,
+    given: Cell,
     work: &mut Work,
     stop: &mut Stepped,
-    given: Cell,
 ) -> Result<Onward, AllocError>
     ensures ok { IfOk result (λ how. Ends (act_end code.now line given work.old.run.handles work.old) (ended how stop.new) work.new) }
     ensures err { OnErr result (work.new ≡ work.old) }

@@ -101,7 +101,7 @@ fn pend_at(
 }
 
 // These events are enabled, and no others; a cell keeps which were.
-pub(crate) fn enable(work: &mut Work, events: u64, cell: u32) -> Result<Onward, AllocError>
+pub(crate) fn enable(events: u64, cell: u32, work: &mut Work) -> Result<Onward, AllocError>
     ensures ok { IfOk result (λ how. (stop : Stepped) → Ends (leaves Stepped.Quiet (enabling events cell work.old)) (ended how stop) work.new) }
     ensures err { OnErr result (work.new ≡ work.old) }
 {
