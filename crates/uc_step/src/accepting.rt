@@ -6,7 +6,7 @@ ghost use Rattle.uc_step.specs.OpEffects.{chosen, ended, Does, DoesAlone};
 ghost use Rattle.uc_step.specs.declared.stepped.Stepped.{Stepped};
 
 use crate::mutex::this_object;
-use crate::stepped::{Onward, Stepped, put_fault, put_request};
+use crate::stepped::{QuietResult, Stepped, put_fault, put_request};
 use std::alloc::AllocError;
 use uc_code::code::Code;
 use uc_code::op::Op;
@@ -26,7 +26,7 @@ pub(crate) fn accept(
     site: u32,
     guards: u32,
     end: u32,
-) -> Result<Onward, AllocError>
+) -> Result<QuietResult, AllocError>
     ensures ok { IfOk result (λ how. Does code.now line (Op.Accept site guards end) work.old (ended how stop.new) work.new) }
     ensures err { OnErr result (work.new ≡ work.old) }
 {
@@ -38,7 +38,7 @@ pub(crate) fn accept(
     work.replace_many(guards, Cell::Number(0))?;
     if mask == 0 {
         work.go(end);
-        return Ok(Onward::Quiet);
+        return Ok(QuietResult::Quiet);
     }
     work.pop();
     if work.is_held_up(object) {
@@ -48,7 +48,7 @@ pub(crate) fn accept(
 }
 
 // Where the call that was taken has failed, the event of that is pushed; else the task goes on elsewhere.
-pub(crate) fn failed(work: &mut Work, to: u32) -> Result<Onward, AllocError>
+pub(crate) fn failed(work: &mut Work, to: u32) -> Result<QuietResult, AllocError>
     ensures ok { IfOk result (λ how. (stop : Stepped) → DoesAlone (Op.Failed to) work.old (ended how stop) work.new) }
     ensures err { OnErr result (work.new ≡ work.old) }
 {
@@ -58,7 +58,7 @@ pub(crate) fn failed(work: &mut Work, to: u32) -> Result<Onward, AllocError>
     } else {
         work.put_failure()?;
     }
-    Ok(Onward::Quiet)
+    Ok(QuietResult::Quiet)
 }
 
 // So many ops further on, of this many, or at this op. There is no room for code that ends so far on.
@@ -78,12 +78,12 @@ fn chosen(clauses: u32, to: u32, next: u32, number: i64) -> Result<u32, AllocErr
 }
 
 // The branch of a clause by its number, or elsewhere.
-pub(crate) fn choose(work: &mut Work, clauses: u32, end: u32) -> Result<Onward, AllocError>
+pub(crate) fn choose(work: &mut Work, clauses: u32, end: u32) -> Result<QuietResult, AllocError>
     ensures ok { IfOk result (λ how. (stop : Stepped) → DoesAlone (Op.Choose clauses end) work.old (ended how stop) work.new) }
     ensures err { OnErr result (work.new ≡ work.old) }
 {
     let at = chosen(clauses, end, work.next(), number_in(work.top()))?;
     work.pop();
     work.go(at);
-    Ok(Onward::Quiet)
+    Ok(QuietResult::Quiet)
 }

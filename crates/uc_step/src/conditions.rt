@@ -5,7 +5,7 @@ ghost use Rattle.uc_step.specs.OpEffects.{condition_in, ended, Does};
 
 use crate::memory::index_below;
 use crate::mutex::this_object;
-use crate::stepped::{Onward, Stepped, put_fault, put_request};
+use crate::stepped::{QuietResult, Stepped, put_fault, put_request};
 use std::alloc::AllocError;
 use uc_code::code::Code;
 use uc_code::op::Op;
@@ -37,7 +37,7 @@ pub(crate) fn condition(
     stop: &mut Stepped,
     first: u32,
     count: u32,
-) -> Result<Onward, AllocError>
+) -> Result<QuietResult, AllocError>
     ensures ok { IfOk result (λ how. Does code.now line (Op.Condition first count) work.old (ended how stop.new) work.new) }
     ensures err { OnErr result (work.new ≡ work.old) }
 {
@@ -48,7 +48,7 @@ pub(crate) fn condition(
         }
         Some(i) => {
             work.replace(Cell::Number(i64::from(first) + i64::from(i)))?;
-            Ok(Onward::Quiet)
+            Ok(QuietResult::Quiet)
         }
     }
 }
@@ -59,7 +59,7 @@ pub(crate) fn wait(
     line: u32,
     work: &mut Work,
     stop: &mut Stepped,
-) -> Result<Onward, AllocError>
+) -> Result<QuietResult, AllocError>
     ensures ok { IfOk result (λ how. Does code.now line Op.Wait work.old (ended how stop.new) work.new) }
     ensures err { OnErr result (work.new ≡ work.old) }
 {
@@ -78,7 +78,7 @@ pub(crate) fn signal(
     line: u32,
     work: &mut Work,
     stop: &mut Stepped,
-) -> Result<Onward, AllocError>
+) -> Result<QuietResult, AllocError>
     ensures ok { IfOk result (λ how. Does code.now line Op.Signal work.old (ended how stop.new) work.new) }
     ensures err { OnErr result (work.new ≡ work.old) }
 {
@@ -94,7 +94,7 @@ pub(crate) fn signal_block(
     line: u32,
     work: &mut Work,
     stop: &mut Stepped,
-) -> Result<Onward, AllocError>
+) -> Result<QuietResult, AllocError>
     ensures ok { IfOk result (λ how. Does code.now line Op.SignalBlock work.old (ended how stop.new) work.new) }
     ensures err { OnErr result (work.new ≡ work.old) }
 {
@@ -112,7 +112,7 @@ pub(crate) fn empty(
     line: u32,
     work: &mut Work,
     stop: &mut Stepped,
-) -> Result<Onward, AllocError>
+) -> Result<QuietResult, AllocError>
     ensures ok { IfOk result (λ how. Does code.now line Op.Empty work.old (ended how stop.new) work.new) }
     ensures err { OnErr result (work.new ≡ work.old) }
 {
@@ -127,7 +127,7 @@ pub(crate) fn front(
     line: u32,
     work: &mut Work,
     stop: &mut Stepped,
-) -> Result<Onward, AllocError>
+) -> Result<QuietResult, AllocError>
     ensures ok { IfOk result (λ how. Does code.now line Op.Front work.old (ended how stop.new) work.new) }
     ensures err { OnErr result (work.new ≡ work.old) }
 {

@@ -4,7 +4,7 @@ ghost use Rattle.std.specs.Prelude.{◌≡◌, ℕ, IfOk, OnErr};
 ghost use Rattle.uc_step.specs.OpEffects.{ended, Does, DoesAlone};
 ghost use Rattle.uc_step.specs.declared.stepped.Stepped.{Stepped};
 
-use crate::stepped::{Onward, Stepped, put_end, put_fault};
+use crate::stepped::{QuietResult, Stepped, put_end, put_fault};
 use std::alloc::AllocError;
 use uc_code::code::Code;
 use uc_code::op::Op;
@@ -12,22 +12,22 @@ use uc_entry::fault::RunFault;
 use uc_frames::work::Work;
 
 // The object at hand gets an execution.
-pub(crate) fn set_up(code: &Code, work: &mut Work, number: u32) -> Result<Onward, AllocError>
+pub(crate) fn set_up(code: &Code, work: &mut Work, number: u32) -> Result<QuietResult, AllocError>
     ensures ok { IfOk result (λ how. (line : ℕ) (stop : Stepped) → Does code.now line (Op.Coroutine number) work.old (ended how stop) work.new) }
     ensures err { OnErr result (work.new ≡ work.old) }
 {
     if let Some(routine) = code.routine(number) {
         work.set_up(routine)?;
     }
-    Ok(Onward::Quiet)
+    Ok(QuietResult::Quiet)
 }
 
-pub(crate) fn enliven(work: &mut Work) -> Result<Onward, AllocError>
+pub(crate) fn enliven(work: &mut Work) -> Result<QuietResult, AllocError>
     ensures ok { IfOk result (λ how. (stop : Stepped) → DoesAlone Op.Live work.old (ended how stop) work.new) }
     ensures err { OnErr result (work.new ≡ work.old) }
 {
     work.enliven();
-    Ok(Onward::Quiet)
+    Ok(QuietResult::Quiet)
 }
 
 // The coroutine below the arguments of a routine must be live.
@@ -37,7 +37,7 @@ pub(crate) fn alive(
     work: &mut Work,
     stop: &mut Stepped,
     number: u32,
-) -> Onward
+) -> QuietResult
     ensures { Does code.now line (Op.Alive number) work.old (ended result stop.new) work.new }
 {
     match code.routine(number) {
@@ -46,7 +46,7 @@ pub(crate) fn alive(
         }
         Some(routine) => {
             if work.is_live(routine.params) {
-                Onward::Quiet
+                QuietResult::Quiet
             } else {
                 put_fault(code, line, work, stop, RunFault::NotLive)
             }
@@ -54,25 +54,25 @@ pub(crate) fn alive(
     }
 }
 
-pub(crate) fn forget(work: &mut Work) -> Result<Onward, AllocError>
+pub(crate) fn forget(work: &mut Work) -> Result<QuietResult, AllocError>
     ensures ok { IfOk result (λ how. (stop : Stepped) → DoesAlone Op.Forget work.old (ended how stop) work.new) }
     ensures err { OnErr result (work.new ≡ work.old) }
 {
     work.forget();
-    Ok(Onward::Quiet)
+    Ok(QuietResult::Quiet)
 }
 
 // Where an execution stopped it goes on, or is unwound.
-pub(crate) fn land(work: &mut Work, stop: &mut Stepped) -> Onward
+pub(crate) fn land(work: &mut Work, stop: &mut Stepped) -> QuietResult
     ensures { DoesAlone Op.Land work.old (ended result stop.new) work.new }
 {
     match work.raised() {
-        None => Onward::Quiet,
+        None => QuietResult::Quiet,
         Some(_) => {
             let next = work.next();
             work.clean(next);
             *stop = Stepped::Unwind;
-            Onward::Stops
+            QuietResult::Stops
         }
     }
 }

@@ -5,7 +5,7 @@ ghost use Rattle.uc_step.specs.OpEffects.{act_enter, act_return, act_end, ended,
 ghost use Rattle.uc_step.specs.declared.stepped.Stepped.{Stepped};
 ghost use Rattle.uc_frames.specs.Calls.{object_call};
 
-use crate::stepped::{Onward, Stepped, put_end, put_fault};
+use crate::stepped::{QuietResult, Stepped, put_end, put_fault};
 use std::alloc::AllocError;
 use uc_code::code::Code;
 use uc_code::op::Op;
@@ -16,32 +16,32 @@ use uc_frames::cell::{Cell, number_in};
 use uc_frames::work::Work;
 use uc_tree::limits::CALLS;
 
-pub(crate) fn jump(work: &mut Work, to: u32) -> Result<Onward, AllocError>
+pub(crate) fn jump(work: &mut Work, to: u32) -> Result<QuietResult, AllocError>
     ensures ok { IfOk result (λ how. (stop : Stepped) → DoesAlone (Op.Jump to) work.old (ended how stop) work.new) }
     ensures err { OnErr result (work.new ≡ work.old) }
 {
     work.go(to);
-    Ok(Onward::Quiet)
+    Ok(QuietResult::Quiet)
 }
 
-pub(crate) fn if_zero(work: &mut Work, to: u32) -> Result<Onward, AllocError>
+pub(crate) fn if_zero(work: &mut Work, to: u32) -> Result<QuietResult, AllocError>
     ensures ok { IfOk result (λ how. (stop : Stepped) → DoesAlone (Op.IfZero to) work.old (ended how stop) work.new) }
     ensures err { OnErr result (work.new ≡ work.old) }
 {
     if number_in(work.pop()) == 0 {
         work.go(to);
     }
-    Ok(Onward::Quiet)
+    Ok(QuietResult::Quiet)
 }
 
-pub(crate) fn if_nonzero(work: &mut Work, to: u32) -> Result<Onward, AllocError>
+pub(crate) fn if_nonzero(work: &mut Work, to: u32) -> Result<QuietResult, AllocError>
     ensures ok { IfOk result (λ how. (stop : Stepped) → DoesAlone (Op.IfNonzero to) work.old (ended how stop) work.new) }
     ensures err { OnErr result (work.new ≡ work.old) }
 {
     if number_in(work.pop()) != 0 {
         work.go(to);
     }
-    Ok(Onward::Quiet)
+    Ok(QuietResult::Quiet)
 }
 
 // The end of a routine; that of a handler of resumptions is left to others.
@@ -51,7 +51,7 @@ pub(crate) fn end(
     given: Cell,
     work: &mut Work,
     stop: &mut Stepped,
-) -> Result<Onward, AllocError>
+) -> Result<QuietResult, AllocError>
     ensures ok { IfOk result (λ how. Ends (act_end code.now line given work.old.run.handles work.old) (ended how stop.new) work.new) }
     ensures err { OnErr result (work.new ≡ work.old) }
 {
@@ -62,7 +62,7 @@ pub(crate) fn end(
         }
         Some(_) => {
             *stop = Stepped::Past(given);
-            Ok(Onward::Stops)
+            Ok(QuietResult::Stops)
         }
     }
 }
@@ -74,12 +74,12 @@ pub(crate) fn give_back(
     work: &mut Work,
     stop: &mut Stepped,
     given: Cell,
-) -> Result<Onward, AllocError>
+) -> Result<QuietResult, AllocError>
     ensures ok { IfOk result (λ how. Ends (act_return code.now line given work.old.callers work.old) (ended how stop.new) work.new) }
     ensures err { OnErr result (work.new ≡ work.old) }
 {
     if work.leave(given)? {
-        Ok(Onward::Quiet)
+        Ok(QuietResult::Quiet)
     } else {
         Ok(put_end(code, line, work, stop))
     }
@@ -91,7 +91,7 @@ pub(crate) fn end_task(
     line: u32,
     work: &mut Work,
     stop: &mut Stepped,
-) -> Result<Onward, AllocError>
+) -> Result<QuietResult, AllocError>
     ensures ok { IfOk result (λ how. Does code.now line Op.EndTask work.old (ended how stop.new) work.new) }
     ensures err { OnErr result (work.new ≡ work.old) }
 {
@@ -104,13 +104,13 @@ pub(crate) fn end_task(
 }
 
 // Unwinding goes on behind a clean-up, without operands.
-pub(crate) fn unwind(work: &mut Work, stop: &mut Stepped) -> Onward
+pub(crate) fn unwind(work: &mut Work, stop: &mut Stepped) -> QuietResult
     ensures { DoesAlone Op.Unwind work.old (ended result stop.new) work.new }
 {
     let next = work.next();
     work.clean(next);
     *stop = Stepped::Unwind;
-    Onward::Stops
+    QuietResult::Stops
 }
 
 pub(crate) fn call(
@@ -119,7 +119,7 @@ pub(crate) fn call(
     work: &mut Work,
     stop: &mut Stepped,
     number: u32,
-) -> Result<Onward, AllocError>
+) -> Result<QuietResult, AllocError>
     ensures ok { IfOk result (λ how. Does code.now line (Op.Call number) work.old (ended how stop.new) work.new) }
     ensures err { OnErr result (work.new ≡ work.old) }
 {
@@ -147,13 +147,13 @@ fn enter(
     work: &mut Work,
     stop: &mut Stepped,
     call: Call,
-) -> Result<Onward, AllocError>
+) -> Result<QuietResult, AllocError>
     ensures ok { IfOk result (λ how. Ends (act_enter code.now line call work.old) (ended how stop.new) work.new) }
     ensures err { OnErr result (work.new ≡ work.old) }
 {
     if work.calls() < CALLS {
         work.enter(call)?;
-        Ok(Onward::Quiet)
+        Ok(QuietResult::Quiet)
     } else {
         Ok(put_fault(code, line, work, stop, RunFault::Depth))
     }
@@ -177,7 +177,7 @@ pub(crate) fn call_on(
     work: &mut Work,
     stop: &mut Stepped,
     number: u32,
-) -> Result<Onward, AllocError>
+) -> Result<QuietResult, AllocError>
     ensures ok { IfOk result (λ how. Does code.now line (Op.CallOn number) work.old (ended how stop.new) work.new) }
     ensures err { OnErr result (work.new ≡ work.old) }
 {
@@ -200,7 +200,7 @@ pub(crate) fn call_unwritten(
     work: &mut Work,
     stop: &mut Stepped,
     number: u32,
-) -> Result<Onward, AllocError>
+) -> Result<QuietResult, AllocError>
     ensures ok { IfOk result (λ how. Does code.now line (Op.CallUnwritten number) work.old (ended how stop.new) work.new) }
     ensures err { OnErr result (work.new ≡ work.old) }
 {
@@ -211,7 +211,7 @@ pub(crate) fn call_unwritten(
         Some(routine) => {
             let call = object_call(routine, false, work);
             work.enter(call)?;
-            Ok(Onward::Quiet)
+            Ok(QuietResult::Quiet)
         }
     }
 }

@@ -5,7 +5,7 @@ ghost use Rattle.uc_step.specs.OpEffects.{act_built, may_call, ended, Does, Ends
 ghost use Rattle.uc_machine.specs.Insides.{is_last};
 ghost use Rattle.uc_frames.specs.Objects.{by_event, object_in, this_object};
 
-use crate::stepped::{Onward, Stepped, put_end, put_fault, put_request};
+use crate::stepped::{QuietResult, Stepped, put_end, put_fault, put_request};
 use std::alloc::AllocError;
 use uc_code::code::Code;
 use uc_code::op::Op;
@@ -13,7 +13,7 @@ use uc_entry::fault::RunFault;
 use uc_entry::request::Request;
 use uc_frames::cell::Cell;
 use uc_frames::work::Work;
-use uc_machine::exec::Reason;
+use uc_machine::exec::UnwindReason;
 use uc_tree::limits::CALLS;
 
 // A mutex object by its number.
@@ -48,7 +48,7 @@ pub(crate) fn enter(
     stop: &mut Stepped,
     member: u8,
     number: u32,
-) -> Result<Onward, AllocError>
+) -> Result<QuietResult, AllocError>
     ensures ok { IfOk result (λ how. Does code.now line (Op.Enter member number) work.old (ended how stop.new) work.new) }
     ensures err { OnErr result (work.new ≡ work.old) }
 {
@@ -62,7 +62,7 @@ pub(crate) fn enter(
     let inside = work.depth(object).is_some();
     work.begin_call(object)?;
     if inside {
-        return Ok(Onward::Quiet);
+        return Ok(QuietResult::Quiet);
     }
     Ok(put_request(code, line, work, stop, Request::Call { object, member }))
 }
@@ -78,22 +78,22 @@ fn is_last(depth: Option<u32>) -> bool
 }
 
 // Whether an event unwinds.
-fn by_event(why: Option<Reason>) -> bool
+fn by_event(why: Option<UnwindReason>) -> bool
     ensures { result ≡ by_event why }
 {
-    matches!(why, Some(Reason::Event { .. }))
+    matches!(why, Some(UnwindReason::Event { .. }))
 }
 
 // The running call leaves the object at hand: by its last leave it asks. Where that is not the last one, or the call is unwound, the task
 // goes on at this op.
-pub(crate) fn leave(code: &Code, line: u32, work: &mut Work, stop: &mut Stepped, to: u32) -> Onward
+pub(crate) fn leave(code: &Code, line: u32, work: &mut Work, stop: &mut Stepped, to: u32) -> QuietResult
     ensures { Does code.now line (Op.Leave to) work.old (ended result stop.new) work.new }
 {
     let object = this_object(work);
     if !is_last(work.depth(object)) {
         work.end_call(object);
         work.go(to);
-        return Onward::Quiet;
+        return QuietResult::Quiet;
     }
     if work.is_held_up(object) {
         return put_fault(code, line, work, stop, RunFault::BlockedInside);
@@ -117,7 +117,7 @@ pub(crate) fn make(
     stop: &mut Stepped,
     class: u32,
     number: u32,
-) -> Result<Onward, AllocError>
+) -> Result<QuietResult, AllocError>
     ensures ok { IfOk result (λ how. Does code.now line (Op.Make class number) work.old (ended how stop.new) work.new) }
     ensures err { OnErr result (work.new ≡ work.old) }
 {
@@ -138,7 +138,7 @@ pub(crate) fn bind_made(
     work: &mut Work,
     stop: &mut Stepped,
     number: u32,
-) -> Onward
+) -> QuietResult
     ensures { (class : ℕ) → Does code.now line (Op.BindMade class number) work.old (ended result stop.new) work.new }
 {
     match code.routine(number) {
@@ -147,7 +147,7 @@ pub(crate) fn bind_made(
         }
         Some(routine) => {
             work.bind_made(routine);
-            Onward::Quiet
+            QuietResult::Quiet
         }
     }
 }
@@ -160,7 +160,7 @@ fn built(
     stop: &mut Stepped,
     object: u32,
     request: Request,
-) -> Onward
+) -> QuietResult
     ensures { Ends (act_built code.now line object request work.old) (ended result stop.new) work.new }
 {
     let is_blocked = work.is_held_up(object);
@@ -173,7 +173,7 @@ fn built(
 }
 
 // It is free.
-pub(crate) fn made(code: &Code, line: u32, work: &mut Work, stop: &mut Stepped) -> Onward
+pub(crate) fn made(code: &Code, line: u32, work: &mut Work, stop: &mut Stepped) -> QuietResult
     ensures { Does code.now line Op.Made work.old (ended result stop.new) work.new }
 {
     let object = this_object(work);
@@ -181,7 +181,7 @@ pub(crate) fn made(code: &Code, line: u32, work: &mut Work, stop: &mut Stepped) 
 }
 
 // It begins as a task.
-pub(crate) fn spawn(code: &Code, line: u32, work: &mut Work, stop: &mut Stepped) -> Onward
+pub(crate) fn spawn(code: &Code, line: u32, work: &mut Work, stop: &mut Stepped) -> QuietResult
     ensures { (main : ℕ) → Does code.now line (Op.Spawn main) work.old (ended result stop.new) work.new }
 {
     let object = this_object(work);
@@ -189,7 +189,7 @@ pub(crate) fn spawn(code: &Code, line: u32, work: &mut Work, stop: &mut Stepped)
 }
 
 // The call in which it is destroyed ends.
-pub(crate) fn gone(code: &Code, line: u32, work: &mut Work, stop: &mut Stepped) -> Onward
+pub(crate) fn gone(code: &Code, line: u32, work: &mut Work, stop: &mut Stepped) -> QuietResult
     ensures { Does code.now line Op.Gone work.old (ended result stop.new) work.new }
 {
     let object = this_object(work);
@@ -199,7 +199,7 @@ pub(crate) fn gone(code: &Code, line: u32, work: &mut Work, stop: &mut Stepped) 
 }
 
 // Its building is given up.
-pub(crate) fn give_up(code: &Code, line: u32, work: &mut Work, stop: &mut Stepped) -> Onward
+pub(crate) fn give_up(code: &Code, line: u32, work: &mut Work, stop: &mut Stepped) -> QuietResult
     ensures { Does code.now line Op.GiveUp work.old (ended result stop.new) work.new }
 {
     let object = this_object(work);

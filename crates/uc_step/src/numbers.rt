@@ -11,18 +11,18 @@ use uc_tree::int::{difference, product, quotient, remainder, sum};
 
 // A number, or a fault.
 #[derive(Clone, Copy)]
-pub(crate) enum Given {
+pub(crate) enum Computed {
     Number(i64),
     Fault(RunFault),
 }
 
 // A number that must be an `int`: where there is none, the operation has overflowed.
-pub(crate) fn in_range(number: Option<i64>) -> Given
+pub(crate) fn in_range(number: Option<i64>) -> Computed
     ensures { (z : ℤ) → number ≡ int_value z → outcome_of result ≡ int_outcome z }
 {
     match number {
-        Some(number) => Given::Number(number),
-        None => Given::Fault(RunFault::Overflow),
+        Some(number) => Computed::Number(number),
+        None => Computed::Fault(RunFault::Overflow),
     }
 }
 
@@ -51,7 +51,7 @@ pub(crate) enum Operator {
 
 impl Operator {
     // What it gives for two numbers.
-    pub(crate) fn given(self, left: i64, right: i64) -> Given
+    pub(crate) fn given(self, left: i64, right: i64) -> Computed
         ensures { outcome_of result ≡ outcome (operator_of self) left right }
     {
         match self {
@@ -60,22 +60,22 @@ impl Operator {
             Operator::Times => in_range(product(left, right)),
             Operator::Over => {
                 if right == 0 {
-                    return Given::Fault(RunFault::DivideByZero);
+                    return Computed::Fault(RunFault::DivideByZero);
                 }
                 in_range(quotient(left, right))
             }
             Operator::Modulo => {
                 if right == 0 {
-                    return Given::Fault(RunFault::DivideByZero);
+                    return Computed::Fault(RunFault::DivideByZero);
                 }
-                in_range(remainder(left, right))
+                in_range(int::remainder(left, right))
             }
-            Operator::Equal => Given::Number(one_if(left == right)),
-            Operator::NotEqual => Given::Number(one_if(left != right)),
-            Operator::Less => Given::Number(one_if(left < right)),
-            Operator::AtMost => Given::Number(one_if(left <= right)),
-            Operator::Greater => Given::Number(one_if(left > right)),
-            Operator::AtLeast => Given::Number(one_if(left >= right)),
+            Operator::Equal => Computed::Number(one_if(left == right)),
+            Operator::NotEqual => Computed::Number(one_if(left != right)),
+            Operator::Less => Computed::Number(one_if(left < right)),
+            Operator::AtMost => Computed::Number(one_if(left <= right)),
+            Operator::Greater => Computed::Number(one_if(left > right)),
+            Operator::AtLeast => Computed::Number(one_if(left >= right)),
         }
     }
 }

@@ -6,8 +6,8 @@ ghost use Rattle.uc_step.specs.OpEffects.{act_operator, ended, Does, DoesAlone, 
 ghost use Rattle.uc_step.specs.declared.stepped.Stepped.{Stepped};
 ghost use Rattle.uc_step.specs.OperatorResults.{operator_of};
 
-use crate::numbers::{Given, Operator, in_range, one_if};
-use crate::stepped::{Onward, Stepped, put_fault};
+use crate::numbers::{Computed, Operator, in_range, one_if};
+use crate::stepped::{QuietResult, Stepped, put_fault};
 use std::alloc::AllocError;
 use uc_code::code::Code;
 use uc_code::op::Op;
@@ -23,16 +23,16 @@ pub(crate) fn two(
     work: &mut Work,
     stop: &mut Stepped,
     operator: Operator,
-) -> Result<Onward, AllocError>
+) -> Result<QuietResult, AllocError>
     ensures ok { IfOk result (λ how. Ends (act_operator code.now line (operator_of operator) work.old) (ended how stop.new) work.new) }
     ensures err { OnErr result (work.new ≡ work.old) }
 {
     match operator.given(number_in(work.second()), number_in(work.top())) {
-        Given::Number(number) => {
+        Computed::Number(number) => {
             work.replace_two(Cell::Number(number))?;
-            Ok(Onward::Quiet)
+            Ok(QuietResult::Quiet)
         }
-        Given::Fault(fault) => {
+        Computed::Fault(fault) => {
             work.pop();
             work.pop();
             Ok(put_fault(code, line, work, stop, fault))
@@ -46,45 +46,45 @@ pub(crate) fn negate(
     line: u32,
     work: &mut Work,
     stop: &mut Stepped,
-) -> Result<Onward, AllocError>
+) -> Result<QuietResult, AllocError>
     ensures ok { IfOk result (λ how. Does code.now line Op.Negate work.old (ended how stop.new) work.new) }
     ensures err { OnErr result (work.new ≡ work.old) }
 {
     match in_range(negated(number_in(work.top()))) {
-        Given::Number(number) => {
+        Computed::Number(number) => {
             work.replace(Cell::Number(number))?;
-            Ok(Onward::Quiet)
+            Ok(QuietResult::Quiet)
         }
-        Given::Fault(fault) => {
+        Computed::Fault(fault) => {
             work.pop();
             Ok(put_fault(code, line, work, stop, fault))
         }
     }
 }
 
-pub(crate) fn not(work: &mut Work) -> Result<Onward, AllocError>
+pub(crate) fn not(work: &mut Work) -> Result<QuietResult, AllocError>
     ensures ok { IfOk result (λ how. (stop : Stepped) → DoesAlone Op.Not work.old (ended how stop) work.new) }
     ensures err { OnErr result (work.new ≡ work.old) }
 {
     let number = number_in(work.top());
     work.replace(Cell::Number(one_if(number == 0)))?;
-    Ok(Onward::Quiet)
+    Ok(QuietResult::Quiet)
 }
 
-pub(crate) fn to_char(work: &mut Work) -> Result<Onward, AllocError>
+pub(crate) fn to_char(work: &mut Work) -> Result<QuietResult, AllocError>
     ensures ok { IfOk result (λ how. (stop : Stepped) → DoesAlone Op.ToChar work.old (ended how stop) work.new) }
     ensures err { OnErr result (work.new ≡ work.old) }
 {
     let number = number_in(work.top());
     work.replace(Cell::Number(number.rem_euclid(CHAR_VALUES)))?;
-    Ok(Onward::Quiet)
+    Ok(QuietResult::Quiet)
 }
 
-pub(crate) fn to_bool(work: &mut Work) -> Result<Onward, AllocError>
+pub(crate) fn to_bool(work: &mut Work) -> Result<QuietResult, AllocError>
     ensures ok { IfOk result (λ how. (stop : Stepped) → DoesAlone Op.ToBool work.old (ended how stop) work.new) }
     ensures err { OnErr result (work.new ≡ work.old) }
 {
     let number = number_in(work.top());
     work.replace(Cell::Number(if number == 0 { 0 } else { 1 }))?;
-    Ok(Onward::Quiet)
+    Ok(QuietResult::Quiet)
 }

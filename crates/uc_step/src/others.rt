@@ -6,7 +6,7 @@ ghost use Rattle.uc_frames.specs.Unwinding.{event_at};
 ghost use Rattle.uc_step.specs.OpEffects.{act_pend_at, enabling, leaves, with_operands, without_event, ended, Does, DoesAlone, Ends};
 ghost use Rattle.uc_step.specs.declared.stepped.Stepped.{Stepped};
 
-use crate::stepped::{Onward, Stepped, put_fault, put_request};
+use crate::stepped::{QuietResult, Stepped, put_fault, put_request};
 use std::alloc::AllocError;
 use uc_code::code::Code;
 use uc_code::op::Op;
@@ -24,7 +24,7 @@ pub(crate) fn raise_at(
     line: u32,
     work: &mut Work,
     stop: &mut Stepped,
-) -> Result<Onward, AllocError>
+) -> Result<QuietResult, AllocError>
     ensures ok { IfOk result (λ how. Does code.now line Op.RaiseAt work.old (ended how stop.new) work.new) }
     ensures err { OnErr result (work.new ≡ work.old) }
 {
@@ -74,7 +74,7 @@ fn pend_at(
     work: &mut Work,
     stop: &mut Stepped,
     exec: Option<Exec>,
-) -> Result<Onward, AllocError>
+) -> Result<QuietResult, AllocError>
     ensures ok { IfOk result (λ how. Ends (act_pend_at code.now line exec (event_at (below work.old.run.operands)) (without_event (with_operands (below work.old.run.operands) work.old))) (ended how stop.new) work.new) }
     ensures err { OnErr result (work.new ≡ work.old) }
 {
@@ -97,39 +97,39 @@ fn pend_at(
     } = work.event_below();
     work.raise_at(exec, Pending { event, x, y })?;
     pop_raised(work);
-    Ok(Onward::Quiet)
+    Ok(QuietResult::Quiet)
 }
 
 // These events are enabled, and no others; a cell keeps which were.
-pub(crate) fn enable(events: u64, cell: u32, work: &mut Work) -> Result<Onward, AllocError>
+pub(crate) fn enable(events: u64, cell: u32, work: &mut Work) -> Result<QuietResult, AllocError>
     ensures ok { IfOk result (λ how. (stop : Stepped) → Ends (leaves Stepped.Quiet (enabling events cell work.old)) (ended how stop) work.new) }
     ensures err { OnErr result (work.new ≡ work.old) }
 {
     work.enable(events, cell);
-    Ok(Onward::Quiet)
+    Ok(QuietResult::Quiet)
 }
 
 // Those are enabled again that a cell keeps.
-pub(crate) fn restore(work: &mut Work, cell: u32) -> Result<Onward, AllocError>
+pub(crate) fn restore(work: &mut Work, cell: u32) -> Result<QuietResult, AllocError>
     ensures ok { IfOk result (λ how. (stop : Stepped) → DoesAlone (Op.Restore cell) work.old (ended how stop) work.new) }
     ensures err { OnErr result (work.new ≡ work.old) }
 {
     work.restore(cell);
-    Ok(Onward::Quiet)
+    Ok(QuietResult::Quiet)
 }
 
 // The newest operands are an event, which is thrown.
-pub(crate) fn throw(work: &mut Work, stop: &mut Stepped) -> Onward
+pub(crate) fn throw(work: &mut Work, stop: &mut Stepped) -> QuietResult
     ensures { DoesAlone Op.Throw work.old (ended result stop.new) work.new }
 {
     *stop = Stepped::Throw(work.pop_event());
-    Onward::Stops
+    QuietResult::Stops
 }
 
 // They are one that is raised for its handler.
-pub(crate) fn raise(work: &mut Work, stop: &mut Stepped) -> Onward
+pub(crate) fn raise(work: &mut Work, stop: &mut Stepped) -> QuietResult
     ensures { DoesAlone Op.Raise work.old (ended result stop.new) work.new }
 {
     *stop = Stepped::Raise(work.pop_event());
-    Onward::Stops
+    QuietResult::Stops
 }

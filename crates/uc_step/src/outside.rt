@@ -5,7 +5,7 @@ ghost use Rattle.uc_frames.specs.Machine.{line_at};
 ghost use Rattle.uc_step.specs.OpEffects.{bare_request, ended, Does, DoesAlone};
 ghost use Rattle.uc_step.specs.declared.stepped.Stepped.{Stepped};
 
-use crate::stepped::{Onward, Stepped, put_request};
+use crate::stepped::{QuietResult, Stepped, put_request};
 use std::alloc::AllocError;
 use uc_code::code::Code;
 use uc_code::op::Op;
@@ -21,7 +21,7 @@ pub(crate) fn print(
     work: &mut Work,
     stop: &mut Stepped,
     form: ValueForm,
-) -> Result<Onward, AllocError>
+) -> Result<QuietResult, AllocError>
     ensures ok { IfOk result (λ how. Does code.now line (Op.Print form) work.old (ended how stop.new) work.new) }
     ensures err { OnErr result (work.new ≡ work.old) }
 {
@@ -32,7 +32,7 @@ pub(crate) fn print(
     if work.is_gathering() {
         work.gather(piece)?;
         work.pop();
-        Ok(Onward::Quiet)
+        Ok(QuietResult::Quiet)
     } else {
         work.pop();
         Ok(put_request(code, line, work, stop, print_request(&[piece])))
@@ -45,7 +45,7 @@ pub(crate) fn text(
     work: &mut Work,
     stop: &mut Stepped,
     number: u32,
-) -> Result<Onward, AllocError>
+) -> Result<QuietResult, AllocError>
     ensures ok { IfOk result (λ how. Does code.now line (Op.Text number) work.old (ended how stop.new) work.new) }
     ensures err { OnErr result (work.new ≡ work.old) }
 {
@@ -55,27 +55,27 @@ pub(crate) fn text(
     };
     if work.is_gathering() {
         work.gather(piece)?;
-        Ok(Onward::Quiet)
+        Ok(QuietResult::Quiet)
     } else {
         Ok(put_request(code, line, work, stop, print_request(&[piece])))
     }
 }
 
-pub(crate) fn hold(work: &mut Work) -> Result<Onward, AllocError>
+pub(crate) fn hold(work: &mut Work) -> Result<QuietResult, AllocError>
     ensures ok { IfOk result (λ how. (stop : Stepped) → DoesAlone Op.Hold work.old (ended how stop) work.new) }
     ensures err { OnErr result (work.new ≡ work.old) }
 {
     work.begin_gather();
-    Ok(Onward::Quiet)
+    Ok(QuietResult::Quiet)
 }
 
-pub(crate) fn flush(code: &Code, line: u32, work: &mut Work, stop: &mut Stepped) -> Onward
+pub(crate) fn flush(code: &Code, line: u32, work: &mut Work, stop: &mut Stepped) -> QuietResult
     ensures { Does code.now line Op.Flush work.old (ended result stop.new) work.new }
 {
     match work.take_gathered() {
-        None => Onward::Quiet,
+        None => QuietResult::Quiet,
         Some(pieces) => match pieces.request() {
-            None => Onward::Quiet,
+            None => QuietResult::Quiet,
             Some(request) => {
                 put_request(code, line, work, stop, request)
             }
@@ -89,7 +89,7 @@ pub(crate) fn read(
     work: &mut Work,
     stop: &mut Stepped,
     form: ValueForm,
-) -> Onward
+) -> QuietResult
     ensures { Does code.now line (Op.Read form) work.old (ended result stop.new) work.new }
 {
     let form = form.number();
@@ -97,7 +97,7 @@ pub(crate) fn read(
 }
 
 // A request that names nothing.
-pub(crate) fn put_bare(code: &Code, line: u32, work: &Work, stop: &mut Stepped, op: Op) -> Onward
+pub(crate) fn put_bare(code: &Code, line: u32, work: &Work, stop: &mut Stepped, op: Op) -> QuietResult
     ensures { ended result stop.new ≡ Stepped.Ask (record { request = bare_request op; line = line_at code.now.ops line work.now.callers }) }
 {
     match op {

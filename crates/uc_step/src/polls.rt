@@ -4,7 +4,7 @@ ghost use Rattle.std.specs.Prelude.{◌≡◌, IfOk, OnErr};
 ghost use Rattle.uc_machine.specs.Insides.{oldest_enabled};
 ghost use Rattle.uc_step.specs.OpEffects.{ended, Does, DoesAlone};
 
-use crate::stepped::{Onward, Stepped, put_request};
+use crate::stepped::{QuietResult, Stepped, put_request};
 use std::alloc::AllocError;
 use uc_code::code::Code;
 use uc_code::op::Op;
@@ -20,27 +20,27 @@ pub(crate) fn poll(
     work: &mut Work,
     stop: &mut Stepped,
     to: u32,
-) -> Result<Onward, AllocError>
+) -> Result<QuietResult, AllocError>
     ensures ok { IfOk result (λ how. Does code.now line (Op.Poll to) work.old (ended how stop.new) work.new) }
     ensures err { OnErr result (work.new ≡ work.old) }
 {
     let mask = work.enabled();
     if mask == 0 {
         work.go(to);
-        return Ok(Onward::Quiet);
+        return Ok(QuietResult::Quiet);
     }
     if work.is_own() {
         return Ok(put_request(code, line, work, stop, Request::Poll { mask }));
     }
     if work.deliver()? {
-        return Ok(Onward::Tick);
+        return Ok(QuietResult::Tick);
     }
     work.go(to);
-    Ok(Onward::Quiet)
+    Ok(QuietResult::Quiet)
 }
 
 // What was delivered is raised; where that is nothing, the task goes on elsewhere.
-pub(crate) fn deliver(work: &mut Work, stop: &mut Stepped, to: u32) -> Onward
+pub(crate) fn deliver(work: &mut Work, stop: &mut Stepped, to: u32) -> QuietResult
     ensures { DoesAlone (Op.Deliver to) work.old (ended result stop.new) work.new }
 {
     let number = work.below(2);
@@ -48,11 +48,11 @@ pub(crate) fn deliver(work: &mut Work, stop: &mut Stepped, to: u32) -> Onward
     match number {
         Cell::Nothing => {
             work.go(to);
-            Onward::Quiet
+            QuietResult::Quiet
         }
         Cell::Number(_) | Cell::Place(_, _) | Cell::Running(_) | Cell::Object(_) => {
             *stop = Stepped::Raise(event);
-            Onward::Stops
+            QuietResult::Stops
         }
     }
 }

@@ -15,7 +15,7 @@ use uc_frames::work::Work;
 
 /// How an op ends: going on; going on after a tick; or otherwise, as the stop that the op was lent tells.
 #[derive(Clone, Copy)]
-pub enum Onward {
+pub enum QuietResult {
     Quiet,
     Tick,
     Stops,
@@ -51,17 +51,17 @@ pub(crate) fn put_request(
     work: &Work,
     stop: &mut Stepped,
     request: Request,
-) -> Onward
+) -> QuietResult
     ensures { ended result stop.new ≡ Stepped.Ask (record { request = request; line = line_at code.now.ops line work.now.callers }) }
 {
     let line = work.line(code, line);
     *stop = Stepped::Ask(Asked { request, line });
-    Onward::Stops
+    QuietResult::Stops
 }
 
 // The end of the task is asked so.
 #[inline(never)]
-pub(crate) fn put_end(code: &Code, line: u32, work: &Work, stop: &mut Stepped) -> Onward
+pub(crate) fn put_end(code: &Code, line: u32, work: &Work, stop: &mut Stepped) -> QuietResult
     ensures { ended result stop.new ≡ Stepped.Ask (record { request = ask.End; line = line_at code.now.ops line work.now.callers }) }
 {
     put_request(code, line, work, stop, Request::End)
@@ -75,7 +75,7 @@ pub(crate) fn put_fault(
     work: &Work,
     stop: &mut Stepped,
     fault: RunFault,
-) -> Onward
+) -> QuietResult
     ensures { ended result stop.new ≡ Stepped.Ask (record { request = ask.Fault (fault_number fault); line = line_at code.now.ops line work.now.callers }) }
 {
     let number = fault.number();
