@@ -19,7 +19,9 @@ ghost use Rattle.uc_kernel.specs.AtRest.{earlier, AfterAct, AfterMake, AfterSpaw
 
 use crate::given::{Back, Given, Next, Shape};
 use crate::hand::take_from;
-use crate::rests::{TaskAtRest, admission_at, drop_destroyed, entry_at, follow_first, follow_second};
+use crate::rests::{
+    TaskAtRest, admission_at, drop_destroyed, entry_at, follow_first, follow_second,
+};
 use std::alloc::{AllocError, Global};
 use std::marker::Model;
 use uc_entry::entry::{Entry, EntryKind, Options};
@@ -126,11 +128,7 @@ impl<T: Drop, M: Drop> Kernel<T, M> {
 
     /// The act of a task that makes an object: the task goes on with the object's number, and brings its members with its next
     /// request. Where memory is wanting nothing changes, and what was brought is dropped.
-    pub fn make_object(
-        &mut self,
-        back: Back<T, M>,
-        asked: &Asked,
-    ) -> Result<Next<T, M>, AllocError>
+    pub fn make_object(&mut self, back: Back<T, M>, asked: &Asked) -> Result<Next<T, M>, AllocError>
         requires fits { Journal.is_over self.old.journal ≡ false → MayBring (kept self.old) (with_asked back asked.now) }
         requires makes { IsMake asked.now.request }
         ensures ok { IfOk result (λ next. Acted (kept self.old) (with_asked back asked.now) next (kept self.new)) }

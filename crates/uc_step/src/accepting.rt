@@ -44,7 +44,13 @@ pub(crate) fn accept(
     if work.is_held_up(object) {
         return Ok(put_fault(code, line, work, stop, RunFault::BlockedInside));
     }
-    Ok(put_request(code, line, work, stop, Request::Accept { object, site, mask }))
+    Ok(put_request(
+        code,
+        line,
+        work,
+        stop,
+        Request::Accept { object, site, mask },
+    ))
 }
 
 // Where the call that was taken has failed, the event of that is pushed; else the task goes on elsewhere.

@@ -104,7 +104,13 @@ pub(crate) fn signal_block(
     }
     let cond = condition_in(work.top())?;
     work.replace(Cell::Number(0))?;
-    Ok(put_request(code, line, work, stop, Request::SignalBlock { object, cond }))
+    Ok(put_request(
+        code,
+        line,
+        work,
+        stop,
+        Request::SignalBlock { object, cond },
+    ))
 }
 
 pub(crate) fn empty(

@@ -41,9 +41,7 @@ pub(crate) fn alive(
     ensures { Does code.now line (Op.Alive number) work.old (ended result stop.new) work.new }
 {
     match code.routine(number) {
-        None => {
-            put_end(code, line, work, stop)
-        }
+        None => { put_end(code, line, work, stop) }
         Some(routine) => {
             if work.is_live(routine.params) {
                 QuietResult::Quiet

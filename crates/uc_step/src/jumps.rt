@@ -124,9 +124,7 @@ pub(crate) fn call(
     ensures err { OnErr result (work.new ≡ work.old) }
 {
     match code.routine(number) {
-        None => {
-            Ok(put_end(code, line, work, stop))
-        }
+        None => { Ok(put_end(code, line, work, stop)) }
         Some(routine) => {
             let call = Call {
                 routine,
@@ -182,9 +180,7 @@ pub(crate) fn call_on(
     ensures err { OnErr result (work.new ≡ work.old) }
 {
     match code.routine(number) {
-        None => {
-            Ok(put_end(code, line, work, stop))
-        }
+        None => { Ok(put_end(code, line, work, stop)) }
         Some(routine) => {
             let call = object_call(routine, true, work);
             let how = enter(code, line, work, stop, call)?;
@@ -205,9 +201,7 @@ pub(crate) fn call_unwritten(
     ensures err { OnErr result (work.new ≡ work.old) }
 {
     match code.routine(number) {
-        None => {
-            Ok(put_end(code, line, work, stop))
-        }
+        None => { Ok(put_end(code, line, work, stop)) }
         Some(routine) => {
             let call = object_call(routine, false, work);
             work.enter(call)?;

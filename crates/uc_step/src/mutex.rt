@@ -86,7 +86,13 @@ fn by_event(why: Option<UnwindReason>) -> bool
 
 // The running call leaves the object at hand: by its last leave it asks. Where that is not the last one, or the call is unwound, the task
 // goes on at this op.
-pub(crate) fn leave(code: &Code, line: u32, work: &mut Work, stop: &mut Stepped, to: u32) -> QuietResult
+pub(crate) fn leave(
+    code: &Code,
+    line: u32,
+    work: &mut Work,
+    stop: &mut Stepped,
+    to: u32,
+) -> QuietResult
     ensures { Does code.now line (Op.Leave to) work.old (ended result stop.new) work.new }
 {
     let object = this_object(work);
@@ -142,9 +148,7 @@ pub(crate) fn bind_made(
     ensures { (class : ℕ) → Does code.now line (Op.BindMade class number) work.old (ended result stop.new) work.new }
 {
     match code.routine(number) {
-        None => {
-            put_end(code, line, work, stop)
-        }
+        None => { put_end(code, line, work, stop) }
         Some(routine) => {
             work.bind_made(routine);
             QuietResult::Quiet

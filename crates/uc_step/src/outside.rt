@@ -76,9 +76,7 @@ pub(crate) fn flush(code: &Code, line: u32, work: &mut Work, stop: &mut Stepped)
         None => QuietResult::Quiet,
         Some(pieces) => match pieces.request() {
             None => QuietResult::Quiet,
-            Some(request) => {
-                put_request(code, line, work, stop, request)
-            }
+            Some(request) => { put_request(code, line, work, stop, request) }
         },
     }
 }
@@ -97,7 +95,13 @@ pub(crate) fn read(
 }
 
 // A request that names nothing.
-pub(crate) fn put_bare(code: &Code, line: u32, work: &Work, stop: &mut Stepped, op: Op) -> QuietResult
+pub(crate) fn put_bare(
+    code: &Code,
+    line: u32,
+    work: &Work,
+    stop: &mut Stepped,
+    op: Op,
+) -> QuietResult
     ensures { ended result stop.new ≡ Stepped.Ask (record { request = bare_request op; line = line_at code.now.ops line work.now.callers }) }
 {
     match op {
