@@ -126,7 +126,7 @@ impl Work {
             Home::Object(object) => {
                 if let Some(i) = position(&self.hand, u64::from(object)) {
                     let members = self.hand.get_mut(i);
-                    members.1.add(stack)?;
+                    members.1.house.add(stack)?;
                 }
                 Ok(())
             }
@@ -165,7 +165,7 @@ impl Work {
             Home::Object(object) => {
                 if let Some(i) = position(&self.hand, u64::from(object)) {
                     let members = self.hand.get_mut(i);
-                    members.1.set_live(exec.serial, live);
+                    members.1.house.set_live(exec.serial, live);
                 }
             }
         }
@@ -249,7 +249,7 @@ impl Work {
             Home::Object(object) => {
                 if let Some(i) = position(&self.hand, u64::from(object)) {
                     let members = self.hand.get_mut(i);
-                    members.1.remove(exec.serial);
+                    members.1.house.remove(exec.serial);
                 }
             }
         }

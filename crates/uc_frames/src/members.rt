@@ -19,17 +19,48 @@ use std::mem;
 use uc_entry::list::List;
 use uc_machine::exec::Pending;
 
+/// What is at home in a mutex object, in a place of its own, so that it is handed on without being moved.
+#[derive(Drop)]
+pub struct Members {
+    pub(crate) house: Box<House>,
+}
+
+impl Model for Members {
+    ghost use Rattle.uc_frames.specs.Machine.{Members};
+
+    ghost Value = { Members };
+
+    ghost view = { λ m. m.house.value };
+}
+
+impl Members {
+    /// Of a new mutex object: its fields are 0, and no execution was made here.
+    pub fn new(alloc: Global, cells: u32) -> Result<Members, AllocError>
+        ensures { IfOk result (λ m. m ≡ record { values = replicate cells nought; serial = 0; parked = [] }) }
+    {
+        let cells = zeros(alloc, cells)?;
+        let house = House {
+            cells,
+            serial: 0,
+            parked: List::new(alloc),
+            engaged: 0,
+        };
+        let house = Box::new(alloc, house)?;
+        Ok(Members { house })
+    }
+}
+
 /// The fields, how many executions were made here, and those that are left, in the order of their numbers, with nothing for one that runs.
 /// How many of them hold a task up is counted, so that nobody searches them.
 #[derive(Drop)]
-pub struct Members {
+pub struct House {
     cells: Vec<Cell>,
     serial: u64,
     parked: List<(u64, Option<ParkedStack>)>,
     engaged: u64,
 }
 
-impl Model for Members {
+impl Model for House {
     ghost use Rattle.uc_frames.specs.Machine.{Members};
     ghost use Rattle.uc_frames.specs.Engaged.{AreLeft};
 
@@ -40,28 +71,15 @@ impl Model for Members {
     ghost invariant = { λ m. AreLeft m.serial m.engaged m.parked.items };
 }
 
-impl Members {
-    /// Of a new mutex object: its fields are 0, and no execution was made here.
-    pub fn new(alloc: Global, cells: u32) -> Result<Members, AllocError>
-        ensures { IfOk result (λ m. m ≡ record { values = replicate cells nought; serial = 0; parked = [] }) }
-    {
-        let cells = zeros(alloc, cells)?;
-        Ok(Members {
-            cells,
-            serial: 0,
-            parked: List::new(alloc),
-            engaged: 0,
-        })
-    }
-
+impl House {
     // Of a task whose main begins: its own execution was made here, and runs.
-    pub(crate) fn first(alloc: Global) -> Result<Members, AllocError>
+    pub(crate) fn first(alloc: Global) -> Result<House, AllocError>
         ensures { IfOk result (λ m. m ≡ record { values = []; serial = 1; parked = (0, None) ∷ [] }) }
     {
         let mut parked = List::new(alloc);
         parked.room()?;
         parked.push((0, None));
-        Ok(Members {
+        Ok(House {
             cells: Vec::new(alloc),
             serial: 1,
             parked,

@@ -84,7 +84,7 @@ impl Work {
             Home::Object(object) => {
                 if let Some(i) = position(&self.hand, u64::from(object)) {
                     let members = self.hand.get_mut(i);
-                    members.1.add_pending(exec.serial, event)?;
+                    members.1.house.add_pending(exec.serial, event)?;
                 }
                 Ok(())
             }

@@ -138,7 +138,7 @@ impl Work {
                 None => None,
                 Some(i) => {
                     let members = self.hand.get_mut(i);
-                    let left = members.1.exchange(exec.serial, slot);
+                    let left = members.1.house.exchange(exec.serial, slot);
                     left
                 }
             },

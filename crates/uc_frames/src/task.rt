@@ -5,7 +5,7 @@ ghost use Rattle.uc_frames.specs.Machine.{first_machine};
 
 use crate::cell::Cell;
 use crate::inside::Depths;
-use crate::members::Members;
+use crate::members::House;
 use crate::pieces::Pieces;
 use crate::stack::Stack;
 use std::alloc::{AllocError, Global};
@@ -27,7 +27,7 @@ pub struct TaskParts {
     pub(crate) exec: Exec,
     pub(crate) own: u32,
     pub(crate) running: Stack,
-    pub(crate) house: Members,
+    pub(crate) house: House,
     pub(crate) depths: Depths,
     pub(crate) gathered: Option<Pieces>,
 }
@@ -47,7 +47,7 @@ impl Task {
         ensures { IfOk result (λ t. t ≡ first_machine main own) }
     {
         let running = Stack::first(alloc, main, Cell::Object(own))?;
-        let house = Members::first(alloc)?;
+        let house = House::first(alloc)?;
         let depths = Depths::first(alloc, own)?;
         let parts = TaskParts {
             alloc,

@@ -8,7 +8,7 @@ ghost use Rattle.uc_frames.specs.Machine.{nought, cell_written, shifted, loaded,
 
 use crate::cell::Cell;
 use crate::frames::{clear_in, read_in, write_in};
-use crate::members::Members;
+use crate::members::{House, Members};
 use crate::numbered::position;
 use crate::parked::ParkedStack;
 use crate::pieces::Pieces;
@@ -131,7 +131,7 @@ impl Work {
     }
 
     // What is at a home, if that is in hand.
-    pub(crate) fn members(&self, home: Home) -> Option<&Members>
+    pub(crate) fn members(&self, home: Home) -> Option<&House>
         ensures { MatchOption result (members_at home self.now.env ≡ None) (λ m. members_at home self.now.env ≡ Some m.now) }
     {
         match home {
@@ -144,7 +144,7 @@ impl Work {
             }
             Home::Object(object) => match position(&self.hand, u64::from(object)) {
                 None => None,
-                Some(i) => Some(&self.hand.get(i).1),
+                Some(i) => Some(&self.hand.get(i).1.house),
             },
         }
     }
@@ -200,7 +200,7 @@ impl Work {
             Home::Object(object) => {
                 if let Some(i) = position(&self.hand, u64::from(object)) {
                     let slot = self.hand.get_mut(i);
-                    slot.1.write(exec.serial, depth, at, cell);
+                    slot.1.house.write(exec.serial, depth, at, cell);
                 }
             }
         }
@@ -211,7 +211,7 @@ impl Work {
     {
         if let Some(i) = position(&self.hand, u64::from(object)) {
             let slot = self.hand.get_mut(i);
-            slot.1.write_field(at, cell);
+            slot.1.house.write_field(at, cell);
         }
     }
 

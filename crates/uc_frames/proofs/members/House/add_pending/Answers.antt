@@ -1,7 +1,7 @@
 use Rattle.uc_frames.specs.Machine.{pended}
 use Rattle.uc_frames.proofs.Slots.{links_none, links_there}
 use Rattle.uc_frames.proofs.Counted.{left_same, pended_engaged}
-use Rattle.uc_frames.proofs.members.Members.add_pending.Goals as goal
+use Rattle.uc_frames.proofs.members.House.add_pending.Goals as goal
 
 pub returns-in_default-1₀-clause-ok : goal.returns-in_default-1₀-clause-ok
 returns-in_default-1₀-clause-ok c =

@@ -2,7 +2,7 @@ use Rattle.std.proofs.Common.{arith, ◌∙◌, sym}
 use Rattle.uc_frames.proofs.Positions.{joined_is}
 use Rattle.uc_frames.proofs.Slots.{slot_none, slot_there}
 use Rattle.uc_frames.proofs.Counted.{left_set, set_few, takes_less}
-use Rattle.uc_frames.proofs.members.Members.exchange.Goals as goal
+use Rattle.uc_frames.proofs.members.House.exchange.Goals as goal
 
 pub returns-in-None-clause-after : goal.returns-in-None-clause-after
 returns-in-None-clause-after c = rw (← c.self.view_is) (slot_none c.args.serial _ _ c.in-None.ensures)

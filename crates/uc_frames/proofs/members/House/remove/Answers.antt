@@ -1,6 +1,6 @@
 use Rattle.uc_frames.proofs.Slots.{gone_none}
 use Rattle.uc_frames.proofs.Counted.{left_removed, takes_less}
-use Rattle.uc_frames.proofs.members.Members.remove.Goals as goal
+use Rattle.uc_frames.proofs.members.House.remove.Goals as goal
 
 pub returns-in_default : goal.returns-in_default
 returns-in_default c = rw (← c.self.view_is) (gone_none c.args.serial _ c.in_default.ensures)

@@ -1,4 +1,4 @@
-use Rattle.uc_frames.proofs.members.Members.parked.Goals as goal
+use Rattle.uc_frames.proofs.members.House.parked.Goals as goal
 
 -- the order of the numbers
 pub position_in_order-requires : goal.position_in_order-requires

@@ -2,7 +2,7 @@ use Rattle.uc_machine.specs.Executions.{frame_changed}
 use Rattle.uc_frames.specs.Machine.{cell_written}
 use Rattle.uc_frames.proofs.Slots.{frames_none, frames_there}
 use Rattle.uc_frames.proofs.Counted.{frames_engaged, left_same}
-use Rattle.uc_frames.proofs.members.Members.write.Goals as goal
+use Rattle.uc_frames.proofs.members.House.write.Goals as goal
 
 pub returns-in_default-1₀ : goal.returns-in_default-1₀
 returns-in_default-1₀ c =

@@ -1,7 +1,7 @@
 use Rattle.uc_frames.specs.Machine.{lively}
 use Rattle.uc_frames.proofs.Slots.{links_none, links_there}
 use Rattle.uc_frames.proofs.Counted.{left_same, lively_engaged}
-use Rattle.uc_frames.proofs.members.Members.set_live.Goals as goal
+use Rattle.uc_frames.proofs.members.House.set_live.Goals as goal
 
 pub returns-in_default-1₀ : goal.returns-in_default-1₀
 returns-in_default-1₀ c =

@@ -1,6 +1,6 @@
 use Rattle.std.proofs.Common.{Some, arith}
 use Rattle.uc_frames.proofs.Counted.{bounded, engaged_few, left_more}
-use Rattle.uc_frames.proofs.members.Members.add.Goals as goal
+use Rattle.uc_frames.proofs.members.House.add.Goals as goal
 
 pub invariant_of-self-2 : goal.invariant_of-self-2
 invariant_of-self-2 c =
