@@ -1,5 +1,5 @@
 -- An act under the lock: what the locked value keeps, and what comes of it.
-use Rattle.std.proofs.Common.{◌==◌, ◌≡◌, ℕ, ◌-◌, Bool, true, false, List, [], ◌∷◌, ◌++◌, Option, Some, None, refl, sym, ap, ◌∙◌, subst}
+use Rattle.std.proofs.Common.{◌==◌, ◌≡◌, ℕ, ◌-◌, ◌<◌, ◌≤◌, Bool, true, false, List, [], ◌∷◌, ◌++◌, Option, Some, None, refl, sym, ap, ◌∙◌, subst}
 use Rattle.std.specs.Prelude.{if◌then◌else◌}
 use Rattle.std.specs.Option.{option_to_list}
 use Rattle.std.proofs.lemmas.Bool.{eqb-true}
@@ -28,6 +28,8 @@ use Rattle.uc_step.specs.WeightFalls.{Keeps}
 use Rattle.uc_ride.specs.RideStands.{Rode}
 use Rattle.uc_ride.specs.UnwindingFalls.{ChildKeeps}
 use Rattle.uc_meaning.specs.Runs.{World, Runs, IsPrefix, more, acts, AsksIn, bare, drawn, world_after, hand_of}
+use Rattle.uc_program_laws.specs.Laws.{AllLeft}
+use Rattle.uc_program_laws.proofs.Ticks.{left_act}
 use Rattle.uc_kernel.specs.Numbered.{keys, or_else}
 use Rattle.uc_kernel.specs.KernelState.{Store, kept, Kept, put_back, handed}
 use Rattle.uc_kernel.specs.Calls.{MayBring, HandsOut, Goes, Follows, Acted, LacksNew}
@@ -128,6 +130,13 @@ module _ (code : Code) (main : ℕ) where
       abbrev rested : Kept (Option Machine) Members
       rested = put_back (act k.opts k.sites k.input k.journal b.processor may.task b.ticks b.asked) may.task b.task b.members.items b.child k
 
+      left_then : given.left ≡ left k.opts k.journal t
+      left_then = ap (λ (y : Handed). y.given.left) (sym same_handed) ∙ was.left_is
+
+      act_left : is_over (k.journal ++ a) ≡ false → AllLeft k.opts (k.journal ++ a)
+      act_left on =
+          left_act k.opts k.sites k.input k.journal b.processor t b.ticks b.asked keeps.runs may.asks (λ n. subst (λ q. b.ticks < q) left_then (brings.ride.early n)) on (keeps.left going)
+
       -- for one source
       module _ (source : Source) (is : IsSource code main source) where
         x : AtRest code source calm log
@@ -142,15 +151,12 @@ module _ (code : Code) (main : ℕ) where
         told : answer_to source.sites t k.journal ≡ Some given.answer
         told = ap (λ ss. answer_to ss t k.journal) (sym same_sites) ∙ was.answer ∙ ap (λ (y : Handed). Some y.given.answer) same_handed
 
-        left_now : given.left ≡ left k.opts k.journal t
-        left_now = ap (λ (y : Handed). y.given.left) (sym same_handed) ∙ was.left_is
-
         asks : AsksIn source k.opts k.journal x.world b.processor t b.ticks rode.reached b.asked
         asks = record {
           given = given.answer;
           runs = may.asks.runs;
           told = told;
-          rides = subst (λ q. Rides source (answered source given.answer (drawn k.journal x.world t)) q rode.reached b.ticks b.asked) left_now rode.rides;
+          rides = subst (λ q. Rides source (answered source given.answer (drawn k.journal x.world t)) q rode.reached b.ticks b.asked) left_then rode.rides;
         }
 
         abbrev after : World
@@ -196,7 +202,7 @@ module _ (code : Code) (main : ℕ) where
       -- where the run is over, or abandoned
       pub stopped : (v : ℕ → Option (Option Machine)) (m : ℕ → Option Members) (c : Bool) → (c ≡ false → is_over (k.journal ++ a) ≡ true) → (registry' : Registry) → Advanced code main k ns room n (changed k a v m c) (noted ns n Over (k.journal ++ a)) registry' Over
       stopped v m c f registry' =
-          advanced code main k ns room n registry keeps Over a v m c act_runs (on_processor Over).manned act_prefix (λ g o. not_both (is_over (k.journal ++ a)) (f g) o) tt registry' (λ g o. not_both (is_over (k.journal ++ a)) (f g) o)
+          advanced code main k ns room n registry keeps Over a v m c act_runs (on_processor Over).manned act_prefix (λ g o. not_both (is_over (k.journal ++ a)) (f g) o) tt registry' (λ g o. not_both (is_over (k.journal ++ a)) (f g) o) act_left
 
       -- where the request is no fault
       module _ (on : faults b.asked.request ≡ false) where
@@ -269,7 +275,7 @@ module _ (code : Code) (main : ℕ) where
 
           pub idled : (registry' : Registry) → Tells k.opts k.sites (k.journal ++ a) registry' → Advanced code main k ns room n (changed k a rested.values rested.members k.abandoned) (noted ns n Idle (k.journal ++ a)) registry' Idle
           idled registry' are =
-              advanced code main k ns room n registry keeps Idle a rested.values rested.members k.abandoned act_runs (on_processor Idle).manned act_prefix (λ f o. record { kept = record { values = kept_rested.values; members = kept_rested.members }; out = λ q u r. out_idle q u (q == b.processor) refl r; stands = rests_idle }) tt registry' (λ f o. are)
+              advanced code main k ns room n registry keeps Idle a rested.values rested.members k.abandoned act_runs (on_processor Idle).manned act_prefix (λ f o. record { kept = record { values = kept_rested.values; members = kept_rested.members }; out = λ q u r. out_idle q u (q == b.processor) refl r; stands = rests_idle }) tt registry' (λ f o. are) act_left
 
         -- it is handed out again
         module _ (going' : is_over (k.journal ++ a) ≡ false) (y : Handed) (h : HandsOut rested b.processor t (boxed y.given)) (keys_now : keys y.given.members.items ++ option_to_list y.made ≡ held t (k.journal ++ a)) where
@@ -342,11 +348,12 @@ module _ (code : Code) (main : ℕ) where
             serves = ap (λ q. server q log1) h.processor ∙ (on_processor step).serves;
             task = t;
             runs = ap (running g.processor) (entries_more code main k ns room n registry keeps step a) ∙ ap (λ q. running q (k.journal ++ a)) h.processor ∙ h.runs;
+            some = subst (λ q. 1 ≤ q) (sym h.left) (act_left going' b.processor t h.runs);
             kept = subst (λ ms. Keeps code (with_hand ms g.task)) (sym h.hand) (kept_work code g.task _ (kept_rested.values t g.task h.value) (each_gathered (IdlesAt (laid_of code) code.routines) (held t (k.journal ++ a)) rested.members kept_rested.members));
           }
 
           pub went : (registry' : Registry) → Tells k.opts k.sites (k.journal ++ a) registry' → Advanced code main k ns room n (changed k a (handed t rested).values (handed t rested).members k.abandoned) (noted ns n step (k.journal ++ a)) registry' step
-          went registry' are = advanced code main k ns room n registry keeps step a (handed t rested).values (handed t rested).members k.abandoned act_runs (on_processor step).manned act_prefix (λ f o. steady1) got1 registry' (λ f o. are)
+          went registry' are = advanced code main k ns room n registry keeps step a (handed t rested).values (handed t rested).members k.abandoned act_runs (on_processor step).manned act_prefix (λ f o. steady1) got1 registry' (λ f o. are) act_left
 
       not_fault : is_over (k.journal ++ a) ≡ false → faults b.asked.request ≡ false
       not_fault g = goes_on_behind k.opts k.sites k.input k.journal b.processor t b.ticks b.asked g
@@ -394,16 +401,27 @@ module _ (code : Code) (main : ℕ) where
 
     -- what comes of a call that brings
     module _ (b : Back (Option Machine) Members) (seen : Log) (saw : Saw n seen log) (brings : Brings code n seen b) where
-      -- its hand has the objects that its task is inside
-      pub in_hand : k.abandoned ≡ false → is_over k.journal ≡ false → (u : ℕ) → running b.processor k.journal ≡ u ∷ [] → keys b.members.items ≡ held u k.journal
-      in_hand wanted going u r =
+      -- what was handed out for its task is what its ride was made from
+      same_as : k.abandoned ≡ false → is_over k.journal ≡ false → (u : ℕ) → running b.processor k.journal ≡ u ∷ [] → (was : WasHanded calm log b.processor u) × (was.handed ≡ brings.handed)
+      same_as wanted going u r =
           let old = keeps.steady wanted going in
           let log_from : log ≡ seen ++ saw.begins.0 = saw.begins.1 in
           let since = aloof b.processor n brings.got.task seen saw.begins.0 (subst Manned log_from keeps.manned) (ap (λ q. server q seen) brings.ride.processor ∙ brings.got.serves) (ap (λ q. running q (entries seen)) brings.ride.processor ∙ brings.got.runs) (none_since n seen saw.begins.0 (ap (made_by n) (sym log_from) ∙ saw.mine)) (ap (λ l. is_over (entries l)) (sym log_from) ∙ ap is_over (log_is code main k ns room n registry keeps) ∙ going) in
           let handed_is : handed_out b.processor log ≡ Some brings.handed = ap (handed_out b.processor) log_from ∙ handed_still b.processor seen saw.begins.0 since.none ∙ ap (λ q. handed_out q seen) brings.ride.processor ∙ brings.got.is in
           let was = old.out b.processor u r in
-          let same : was.handed ≡ brings.handed = cc (sym was.is ∙ handed_is) in
-          brings.ride.keys_are ∙ ap (λ (y : Handed). keys y.given.members.items ++ option_to_list y.made) (sym same) ∙ was.keys_are
+          (was, cc (sym was.is ∙ handed_is))
+
+      -- its hand has the objects that its task is inside
+      pub in_hand : k.abandoned ≡ false → is_over k.journal ≡ false → (u : ℕ) → running b.processor k.journal ≡ u ∷ [] → keys b.members.items ≡ held u k.journal
+      in_hand wanted going u r =
+          let x = same_as wanted going u r in
+          brings.ride.keys_are ∙ ap (λ (y : Handed). keys y.given.members.items ++ option_to_list y.made) (sym x.1) ∙ x.0.keys_are
+
+      -- the ticks of its ride are no more than its task has left
+      pub in_time : k.abandoned ≡ false → is_over k.journal ≡ false → (u : ℕ) → running b.processor k.journal ≡ u ∷ [] → b.ticks ≤ left k.opts k.journal u
+      in_time wanted going u r =
+          let x = same_as wanted going u r in
+          subst (λ q. b.ticks ≤ q) (ap (λ (y : Handed). y.given.left) (sym x.1) ∙ x.0.left_is) brings.ride.within
 
       pub put_on : (registry' : Registry) (old new : Store (Option Machine) Members) → kept old ≡ k → {step : Step} → WasPut registry registry' old new b step → Advanced code main k ns room n (kept new) (noted ns n step new.journal) registry' step
       put_on registry' old new same (stays f e) =

@@ -18,6 +18,7 @@ use Rattle.uc_step.specs.Starts.{Starts}
 use Rattle.uc_frames.specs.StandsByParts.{Alike}
 use Rattle.uc_step.specs.WeightFalls.{Keeps}
 use Rattle.uc_meaning.specs.Runs.{first_world, begun as begun_with}
+use Rattle.uc_program_laws.proofs.Ticks.{left_begin}
 use Rattle.uc_kernel.specs.KernelState.{Kept}
 use Rattle.uc_kernel.specs.Calls.{Opened}
 use Rattle.uc_kernel.proofs.Moving.{running_silent}
@@ -116,6 +117,7 @@ module _ (code : Code) (main : ℕ) (opts : Options) (input : List ℕ) (first :
           };
         };
         told = λ f g. told_first r one;
+        left = λ g. left_begin opts;
       }))
 
 -- the first task stands where the code is that of a source with this main

@@ -24,6 +24,8 @@ use Rattle.uc_frames.specs.Machine.{Machine, Members, with_hand}
 use Rattle.uc_frames.specs.PaceInvariant.{IdlesAt}
 use Rattle.uc_step.specs.WeightFalls.{Keeps}
 use Rattle.uc_meaning.specs.Runs.{IsPrefix, more, gives, no_room, drawn, hand_of}
+use Rattle.uc_program_laws.specs.Laws.{AllLeft}
+use Rattle.uc_program_laws.proofs.Ticks.{left_given}
 use Rattle.uc_kernel.specs.Numbered.{keys}
 use Rattle.uc_kernel.specs.KernelState.{Store, kept, Kept, Same, handed, with_entry}
 use Rattle.uc_kernel.specs.Calls.{HandsOut, over, abandoned, nobody, no_room as limited, Dispatched, EndsRun, is_object}
@@ -153,7 +155,7 @@ module _ (code : Code) (main : ℕ) where
     entries_more step a = entries_append log (tagged n step a) ∙ ap (λ x. x ++ entries (tagged n step a)) log_is ∙ ap (λ x. k.journal ++ x) (entries_tagged n step a)
 
     -- more entries of one call
-    module _ (step : Step) (a : List Entry) (v : ℕ → Option (Option Machine)) (m : ℕ → Option Members) (b : Bool) (runs : KernelRuns k.opts k.sites k.input (k.journal ++ a)) (manned : Manned (log ++ tagged n step a)) (prefix : (source : Source) → IsSource code main source → IsPrefix source k.input k.opts (k.journal ++ a)) (steady : b ≡ false → is_over (k.journal ++ a) ≡ false → Steady code main (changed k a v m false) (log ++ tagged n step a)) (came : Came code n (log ++ tagged n step a) step) (registry' : Registry) (are : b ≡ false → is_over (k.journal ++ a) ≡ false → Tells k.opts k.sites (k.journal ++ a) registry') where
+    module _ (step : Step) (a : List Entry) (v : ℕ → Option (Option Machine)) (m : ℕ → Option Members) (b : Bool) (runs : KernelRuns k.opts k.sites k.input (k.journal ++ a)) (manned : Manned (log ++ tagged n step a)) (prefix : (source : Source) → IsSource code main source → IsPrefix source k.input k.opts (k.journal ++ a)) (steady : b ≡ false → is_over (k.journal ++ a) ≡ false → Steady code main (changed k a v m false) (log ++ tagged n step a)) (came : Came code n (log ++ tagged n step a) step) (registry' : Registry) (are : b ≡ false → is_over (k.journal ++ a) ≡ false → Tells k.opts k.sites (k.journal ++ a) registry') (tick : is_over (k.journal ++ a) ≡ false → AllLeft k.opts (k.journal ++ a)) where
       log_more : paired (k.journal ++ a) (noted ns n step (k.journal ++ a)) ≡ log ++ tagged n step a
       log_more = ap (paired (k.journal ++ a)) (noted_more k.journal a ns n step keeps.counted) ∙ paired_more n step k.journal ns a keeps.counted
 
@@ -172,6 +174,7 @@ module _ (code : Code) (main : ℕ) where
         prefix = prefix;
         steady = λ f g. subst (λ l. Steady code main (changed k a v m false) l) (sym log_more) (steady f g);
         told = are;
+        left = tick;
       }
 
       pub advanced : Advanced k ns room n (changed k a v m b) (noted ns n step (k.journal ++ a)) registry' step
@@ -198,6 +201,7 @@ module _ (code : Code) (main : ℕ) where
             prefix = keeps.prefix;
             steady = λ g h. keeps.steady (f g) h;
             told = λ g h. subst (Tells k.opts k.sites k.journal) (sym (same g)) (keeps.told (f g) h);
+            left = keeps.left;
           };
           log = ([], sym (append-nil log), λ i d lt. absurd (omega (arith, lt)));
           came = came;
@@ -224,6 +228,9 @@ module _ (code : Code) (main : ℕ) where
 
       given_told : k.abandoned ≡ false → Tells k.opts k.sites (k.journal ++ e ∷ []) registry
       given_told f = told_given k.opts k.sites k.input k.journal p t keeps.runs serves registry (keeps.told f going)
+
+      given_left : AllLeft k.opts (k.journal ++ e ∷ [])
+      given_left = left_given k.opts k.sites k.input k.journal p t keeps.range keeps.runs serves (keeps.left going)
 
       given_manned : (step : Step) → Manned (log ++ tagged n step (e ∷ []))
       given_manned step = manned_push log ((e, step), n) keeps.manned (ap (running p) log_is ∙ serves.free)
@@ -321,21 +328,22 @@ module _ (code : Code) (main : ℕ) where
           serves = ap (λ q. server q log1) processor ∙ serves1;
           task = t;
           runs = ap (running g.processor) (entries_more step (e ∷ [])) ∙ ap (λ q. running q (k.journal ++ e ∷ [])) processor ∙ h.runs;
+          some = subst (λ q. 1 ≤ q) (sym h.left) (given_left p t h.runs);
           kept = subst (λ ms. Keeps code (with_hand ms g.task)) (sym h.hand) (kept_work code g.task _ (old.kept.values t g.task h.value) (each_gathered (IdlesAt (laid_of code) code.routines) (held t (k.journal ++ e ∷ [])) k.members old.kept.members));
         }
 
         pub given_on : Advanced k ns room n (changed k (e ∷ []) (handed t k1).values (handed t k1).members k.abandoned) (noted ns n step (k.journal ++ e ∷ [])) registry step
-        given_on = advanced step (e ∷ []) (handed t k1).values (handed t k1).members k.abandoned given_runs (given_manned step) given_prefix (λ f o. steady1) got1 registry (λ f o. given_told f)
+        given_on = advanced step (e ∷ []) (handed t k1).values (handed t k1).members k.abandoned given_runs (given_manned step) given_prefix (λ f o. steady1) got1 registry (λ f o. given_told f) (λ o. given_left)
 
       -- it is dropped, and the run abandoned
       pub dropped : (v : ℕ → Option (Option Machine)) (m : ℕ → Option Members) → Advanced k ns room n (changed k (e ∷ []) v m true) (noted ns n Over (k.journal ++ e ∷ [])) registry Over
-      dropped v m = advanced Over (e ∷ []) v m true given_runs (given_manned Over) given_prefix (λ f. absurd (cc f)) tt registry (λ f. absurd (cc f))
+      dropped v m = advanced Over (e ∷ []) v m true given_runs (given_manned Over) given_prefix (λ f. absurd (cc f)) tt registry (λ f. absurd (cc f)) (λ o. given_left)
 
     -- no room for a dispatch
     module _ (going : is_over k.journal ≡ false) (p t : ℕ) (serves : Serves k.opts k.journal p t) (full : k.opts.entries < length k.journal + 2) (step : Step) (came : Came code n (log ++ tagged n step (lone_limit ∷ [])) step) (b : Bool) where
       pub limited_on : Advanced k ns room n (changed k (lone_limit ∷ []) k.values k.members b) (noted ns n step (k.journal ++ lone_limit ∷ [])) registry step
       limited_on =
-          advanced step (lone_limit ∷ []) k.values k.members b (more_in keeps.runs going (none_in p t serves full)) (manned_push log ((lone_limit, step), n) keeps.manned tt) (λ source is. let x = keeps.prefix source is in record { world = x.world; runs = more x.runs going (no_room p t serves full) }) (λ f o. not_both (is_over (k.journal ++ lone_limit ∷ [])) (over_limit k.journal 0 0) o) came registry (λ f o. not_both (is_over (k.journal ++ lone_limit ∷ [])) (over_limit k.journal 0 0) o)
+          advanced step (lone_limit ∷ []) k.values k.members b (more_in keeps.runs going (none_in p t serves full)) (manned_push log ((lone_limit, step), n) keeps.manned tt) (λ source is. let x = keeps.prefix source is in record { world = x.world; runs = more x.runs going (no_room p t serves full) }) (λ f o. not_both (is_over (k.journal ++ lone_limit ∷ [])) (over_limit k.journal 0 0) o) came registry (λ f o. not_both (is_over (k.journal ++ lone_limit ∷ [])) (over_limit k.journal 0 0) o) (λ o. not_both (is_over (k.journal ++ lone_limit ∷ [])) (over_limit k.journal 0 0) o)
 
     -- what comes of a dispatch
     pub began : (mid new : Store (Option Machine) Members) {o : Option (Given (Option Machine) Members)} {step : Step} → HandsNext mid new o step → k.abandoned ≡ false → is_over k.journal ≡ false → Dispatched k o (kept mid) → Advanced k ns room n (kept new) (noted ns n step new.journal) registry step

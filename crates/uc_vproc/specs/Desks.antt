@@ -1,5 +1,5 @@
 -- What contracts see of the locked value, and what it keeps.
-use Rattle.std.specs.Prelude.{◌≡◌, ℕ, ◌+◌, ◌≤◌, ◌⊎◌, Bool, true, false, List, [], ◌∷◌, ◌++◌, Option, Some, None, length, slice_index_or, if◌then◌else◌}
+use Rattle.std.specs.Prelude.{◌≡◌, ℕ, ◌+◌, ◌<◌, ◌≤◌, ◌⊎◌, Bool, true, false, List, [], ◌∷◌, ◌++◌, Option, Some, None, length, slice_index_or, if◌then◌else◌}
 use Rattle.std.specs.Option.{option_map, option_to_list}
 use Rattle.uc_tree.specs.Source.{Source}
 use Rattle.uc_entry.specs.declared.entry.Options.{Options}
@@ -19,6 +19,7 @@ use Rattle.uc_step.specs.WeightFalls.{Keeps}
 use Rattle.uc_ride.specs.RideStands.{Rode}
 use Rattle.uc_ride.specs.UnwindingFalls.{KeepsAfter, ChildKeeps}
 use Rattle.uc_meaning.specs.Runs.{IsPrefix}
+use Rattle.uc_program_laws.specs.Laws.{AllLeft}
 use Rattle.uc_kernel.specs.Numbered.{keys}
 use Rattle.uc_kernel.specs.KernelState.{Kept, Store, kept}
 use Rattle.uc_kernel.specs.Calls.{Acted, Dispatched, LacksNew, MayBring, is_object}
@@ -65,6 +66,7 @@ module _ (code : Code) where
     pub prefix : (source : Source) → IsSource code main source → IsPrefix source k.input k.opts k.journal
     pub steady : k.abandoned ≡ false → is_over k.journal ≡ false → Steady code main (record k { abandoned = false }) (paired k.journal notes)
     pub told : k.abandoned ≡ false → is_over k.journal ≡ false → Tells k.opts k.sites k.journal registry
+    pub left : is_over k.journal ≡ false → AllLeft k.opts k.journal
 
   -- what a worker with the seat n holds, as of a log: what was handed out for a processor that is served by that seat
   pub record Got (n : ℕ) (log : Log) (h : Handed) : Type 0 where
@@ -73,6 +75,7 @@ module _ (code : Code) where
     pub task : ℕ
     pub runs : running h.given.processor (entries log) ≡ task ∷ []
     pub kept : Keeps code (with_hand h.given.members.items h.given.task)
+    pub some : 1 ≤ h.given.left
 
   -- what comes next for a worker
   abbrev pub Came : ℕ → Log → Step → Type 0
@@ -85,6 +88,8 @@ module _ (code : Code) where
     pub processor : b.processor ≡ h.given.processor
     pub keys_are : keys b.members.items ≡ keys h.given.members.items ++ option_to_list h.made
     pub room : 1 ≤ b.members.spare
+    pub within : b.ticks ≤ h.given.left
+    pub early : (b.asked.request ≡ ask.Slice → ⊥) → b.ticks < h.given.left
     pub after : Machine
     pub task_is : b.task ≡ value_after b.asked.request after
     pub child : Option Machine

@@ -3,6 +3,7 @@
 
 mod desk;
 mod fits;
+mod parcel;
 mod put;
 mod registry;
 mod run;

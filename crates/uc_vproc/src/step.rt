@@ -1,13 +1,13 @@
 // What comes next for a worker.
 
+use crate::parcel::Parcel;
 use uc_frames::members::Members;
-use uc_frames::task::Task;
 use uc_kernel::given::Given;
 
 /// What is handed out, and the number of the object that its task has just made, whose members its hand lacks.
 #[derive(Drop)]
 pub struct Handed {
-    pub given: Given<Task, Members>,
+    pub given: Given<Parcel, Members>,
     pub made: Option<u32>,
 }
 

@@ -14,6 +14,7 @@ ghost use Rattle.uc_vproc.specs.Rest as rest;
 ghost use Rattle.uc_vproc.specs.Workers.{IsReady, IsSame, HasCome};
 
 use crate::desk::Desk;
+use crate::parcel::Parcel;
 use crate::step::{Handed, Step};
 use std::alloc::{AllocError, Global};
 use std::sync::Wait;
@@ -54,7 +55,7 @@ fn bring<R: Wait>(
     rt: &R,
     lock: &Shared<Desk>,
     seat: &mut Seat<Desk>,
-    back: Back<Option<Task>, Members>,
+    back: Back<Option<Parcel>, Members>,
 ) -> Step
     requires ready { IsReady lock.now seat.old }
     requires own { seat.old.own ≡ made_by seat.old.number seat.old.seen }
@@ -87,7 +88,7 @@ fn go<G: Gate>(
     gate: &G,
     dispatches: u64,
     handed: Handed,
-) -> Result<Back<Option<Task>, Members>, AllocError>
+) -> Result<Back<Option<Parcel>, Members>, AllocError>
     requires paced { IsPaced (laid_of code.now) code.now.routines }
     requires some { 1 ≤ handed.given.left }
     requires kept { Keeps code.now (with_hand handed.given.members.items handed.given.task) }
@@ -102,7 +103,7 @@ fn go<G: Gate>(
         left,
     } = given;
     let numbers = numbers_of(alloc, &members, made)?;
-    let work = Work::new(task, members);
+    let work = Work::new(task.into_task(), members);
     let ridden = ride(code, work, answer, left, gate, processor, dispatches)?;
     let Ridden {
         work,
@@ -115,8 +116,8 @@ fn go<G: Gate>(
     if !is_numbered(&members, &numbers) {
         return Err(AllocError);
     }
-    let task = going_on(&asked.request, task);
-    let child = boxed(child);
+    let task = going_on(alloc, &asked.request, task)?;
+    let child = boxed(alloc, child)?;
     Ok(Back {
         processor,
         task,
@@ -128,22 +129,26 @@ fn go<G: Gate>(
 }
 
 // A task that goes on behind a request.
-fn going_on(request: &Request, task: Task) -> Option<Task>
-    ensures { result ≡ value_after request.now task }
+fn going_on(alloc: Global, request: &Request, task: Task) -> Result<Option<Parcel>, AllocError>
+    ensures { IfOk result (λ p. p ≡ value_after request.now task) }
 {
     if stops(request) {
-        return None;
+        return Ok(None);
     }
-    Some(task)
+    let parcel = Parcel::new(alloc, task)?;
+    Ok(Some(parcel))
 }
 
 // A new task has not ended.
-fn boxed(child: Option<Task>) -> Option<Option<Task>>
-    ensures { result ≡ option_map Some child }
+fn boxed(alloc: Global, child: Option<Task>) -> Result<Option<Option<Parcel>>, AllocError>
+    ensures { IfOk result (λ c. c ≡ option_map Some child) }
 {
     match child {
-        None => None,
-        Some(task) => Some(Some(task)),
+        None => Ok(None),
+        Some(task) => {
+            let parcel = Parcel::new(alloc, task)?;
+            Ok(Some(Some(parcel)))
+        }
     }
 }
 
@@ -210,10 +215,6 @@ fn turn<R: Wait, G: Gate>(
     ensures same { IsReady lock.now seat.new × IsSame seat.old seat.new }
     ensures came { HasCome lock.now seat.new result }
 {
-    if handed.given.left == 0 {
-        give_up(rt, lock, seat);
-        return Step::Over;
-    }
     match go(alloc, code, gate, dispatches, handed) {
         Ok(back) => bring(rt, lock, seat, back),
         Err(_) => {

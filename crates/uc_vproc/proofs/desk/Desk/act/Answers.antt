@@ -4,20 +4,32 @@ use Rattle.uc_lock.specs.Journals.{Extends}
 use Rattle.uc_vproc.specs.Makers.{Log, paired}
 use Rattle.uc_vproc.specs.Desks.{Table, key_from, Came, Saw, Brings}
 use Rattle.uc_vproc.proofs.Turns.{noted, fits_room, keeps_on, logs_on, comes_on}
-use Rattle.uc_vproc.proofs.Acts.{in_hand, put_on}
+use Rattle.uc_vproc.proofs.Acts.{in_hand, in_time, put_on}
 use Rattle.uc_vproc.proofs.desk.Desk.act.Goals as goal
 
 pub put-step-requires-clause-hand : goal.put-step-requires-clause-hand
 put-step-requires-clause-hand c =
     let code = c.self.inside.code.value in
     let main = c.self.inside.main in
-    let k = kept c.self.inside.kernel in
+    let k = kept c.self.inside.kernel.value in
     let ns = c.self.inside.notes.items in
     let room = vec_capacity c.self.inside.notes in
     let n = c.args.maker in
     let registry = c.self.inside.registry in
     let br = subst (λ (x : Table). (seen : Log) × Saw n seen x.log × Brings x.code n seen c.args.back) (sym c.self.view_is) c.requires.brings in
     in_hand code main k ns room n registry c.self.invariant c.args.back br.0 br.1 br.2
+
+pub put-step-requires-clause-within : goal.put-step-requires-clause-within
+put-step-requires-clause-within c =
+    let code = c.self.inside.code.value in
+    let main = c.self.inside.main in
+    let k = kept c.self.inside.kernel.value in
+    let ns = c.self.inside.notes.items in
+    let room = vec_capacity c.self.inside.notes in
+    let n = c.args.maker in
+    let registry = c.self.inside.registry in
+    let br = subst (λ (x : Table). (seen : Log) × Saw n seen x.log × Brings x.code n seen c.args.back) (sym c.self.view_is) c.requires.brings in
+    in_time code main k ns room n registry c.self.invariant c.args.back br.0 br.1 br.2
 
 pub put-step-requires-clause-runs : goal.put-step-requires-clause-runs
 put-step-requires-clause-runs c = c.self.invariant.runs
@@ -26,7 +38,7 @@ pub put-step-requires-clause-room : goal.put-step-requires-clause-room
 put-step-requires-clause-room c =
     let code = c.self.inside.code.value in
     let main = c.self.inside.main in
-    let k = kept c.self.inside.kernel in
+    let k = kept c.self.inside.kernel.value in
     let ns = c.self.inside.notes.items in
     let room = vec_capacity c.self.inside.notes in
     let n = c.args.maker in
@@ -38,7 +50,7 @@ pub make_notes-requires : goal.make_notes-requires
 make_notes-requires c =
     let code = c.self.inside.code.value in
     let main = c.self.inside.main in
-    let k = kept c.self.inside.kernel in
+    let k = kept c.self.inside.kernel.value in
     let ns = c.self.inside.notes.items in
     let room = vec_capacity c.self.inside.notes in
     let n = c.args.maker in
@@ -46,7 +58,7 @@ make_notes-requires c =
     let br = subst (λ (x : Table). (seen : Log) × Saw n seen x.log × Brings x.code n seen c.args.back) (sym c.self.view_is) c.requires.brings in
     let step = c.put-step.result in
     let new = kept c.put-step.new.kernel in
-    let adv = put_on code main k ns room n registry c.self.invariant c.args.back br.0 br.1 br.2 c.put-step.new.registry c.self.inside.kernel c.put-step.new.kernel refl c.put-step.ensures in
+    let adv = put_on code main k ns room n registry c.self.invariant c.args.back br.0 br.1 br.2 c.put-step.new.registry c.self.inside.kernel.value c.put-step.new.kernel refl c.put-step.ensures in
     let le = fits_room code main new (noted ns n step new.journal) room c.put-step.new.registry adv.keeps in
     let e = ap length c.journal-count.ensures in omega (arith, le, e)
 
@@ -54,7 +66,7 @@ pub invariant_of-self : goal.invariant_of-self
 invariant_of-self c =
     let code = c.self.inside.code.value in
     let main = c.self.inside.main in
-    let k = kept c.self.inside.kernel in
+    let k = kept c.self.inside.kernel.value in
     let ns = c.self.inside.notes.items in
     let room = vec_capacity c.self.inside.notes in
     let n = c.args.maker in
@@ -62,28 +74,28 @@ invariant_of-self c =
     let br = subst (λ (x : Table). (seen : Log) × Saw n seen x.log × Brings x.code n seen c.args.back) (sym c.self.view_is) c.requires.brings in
     let step = c.put-step.result in
     let new = kept c.put-step.new.kernel in
-    let adv = put_on code main k ns room n registry c.self.invariant c.args.back br.0 br.1 br.2 c.put-step.new.registry c.self.inside.kernel c.put-step.new.kernel refl c.put-step.ensures in
+    let adv = put_on code main k ns room n registry c.self.invariant c.args.back br.0 br.1 br.2 c.put-step.new.registry c.self.inside.kernel.value c.put-step.new.kernel refl c.put-step.ensures in
     keeps_on code main k ns room n new (noted ns n step new.journal) c.make_notes.new.notes.items (vec_capacity c.make_notes.new.notes) c.put-step.new.registry step adv (c.make_notes.ensures.items ∙ ap (noted ns n step) c.journal-count.ensures) c.make_notes.ensures.capacity
 
 pub returns-clause-key : goal.returns-clause-key
 returns-clause-key c =
     let code = c.self.inside.code.value in
     let main = c.self.inside.main in
-    let k = kept c.self.inside.kernel in
+    let k = kept c.self.inside.kernel.value in
     let ns = c.self.inside.notes.items in
     let room = vec_capacity c.self.inside.notes in
     let n = c.args.maker in
     let registry = c.self.inside.registry in
     let br = subst (λ (x : Table). (seen : Log) × Saw n seen x.log × Brings x.code n seen c.args.back) (sym c.self.view_is) c.requires.brings in
     let step = c.put-step.result in
-    let adv = put_on code main k ns room n registry c.self.invariant c.args.back br.0 br.1 br.2 c.put-step.new.registry c.self.inside.kernel c.put-step.new.kernel refl c.put-step.ensures in
+    let adv = put_on code main k ns room n registry c.self.invariant c.args.back br.0 br.1 br.2 c.put-step.new.registry c.self.inside.kernel.value c.put-step.new.kernel refl c.put-step.ensures in
     (λ i. record { code = code; main = main; input = adv.input i; opts = adv.opts i }) ∙ ap key_from c.self.view_is
 
 pub returns-clause-log : goal.returns-clause-log
 returns-clause-log c =
     let code = c.self.inside.code.value in
     let main = c.self.inside.main in
-    let k = kept c.self.inside.kernel in
+    let k = kept c.self.inside.kernel.value in
     let ns = c.self.inside.notes.items in
     let room = vec_capacity c.self.inside.notes in
     let n = c.args.maker in
@@ -91,14 +103,14 @@ returns-clause-log c =
     let br = subst (λ (x : Table). (seen : Log) × Saw n seen x.log × Brings x.code n seen c.args.back) (sym c.self.view_is) c.requires.brings in
     let step = c.put-step.result in
     let new = kept c.put-step.new.kernel in
-    let adv = put_on code main k ns room n registry c.self.invariant c.args.back br.0 br.1 br.2 c.put-step.new.registry c.self.inside.kernel c.put-step.new.kernel refl c.put-step.ensures in
+    let adv = put_on code main k ns room n registry c.self.invariant c.args.back br.0 br.1 br.2 c.put-step.new.registry c.self.inside.kernel.value c.put-step.new.kernel refl c.put-step.ensures in
     subst (λ (x : Table). Extends n x.log (paired new.journal c.make_notes.new.notes.items)) c.self.view_is (logs_on code main k ns room n new (noted ns n step new.journal) c.make_notes.new.notes.items (vec_capacity c.make_notes.new.notes) c.put-step.new.registry step adv (c.make_notes.ensures.items ∙ ap (noted ns n step) c.journal-count.ensures))
 
 pub returns-clause-came : goal.returns-clause-came
 returns-clause-came c =
     let code = c.self.inside.code.value in
     let main = c.self.inside.main in
-    let k = kept c.self.inside.kernel in
+    let k = kept c.self.inside.kernel.value in
     let ns = c.self.inside.notes.items in
     let room = vec_capacity c.self.inside.notes in
     let n = c.args.maker in
@@ -106,5 +118,5 @@ returns-clause-came c =
     let br = subst (λ (x : Table). (seen : Log) × Saw n seen x.log × Brings x.code n seen c.args.back) (sym c.self.view_is) c.requires.brings in
     let step = c.put-step.result in
     let new = kept c.put-step.new.kernel in
-    let adv = put_on code main k ns room n registry c.self.invariant c.args.back br.0 br.1 br.2 c.put-step.new.registry c.self.inside.kernel c.put-step.new.kernel refl c.put-step.ensures in
+    let adv = put_on code main k ns room n registry c.self.invariant c.args.back br.0 br.1 br.2 c.put-step.new.registry c.self.inside.kernel.value c.put-step.new.kernel refl c.put-step.ensures in
     subst (λ (x : Table). Came x.code n (paired new.journal c.make_notes.new.notes.items) step) c.self.view_is (comes_on code main k ns room n new (noted ns n step new.journal) c.make_notes.new.notes.items (vec_capacity c.make_notes.new.notes) c.put-step.new.registry step adv (c.make_notes.ensures.items ∙ ap (noted ns n step) c.journal-count.ensures))
