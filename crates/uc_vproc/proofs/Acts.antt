@@ -31,10 +31,9 @@ use Rattle.uc_meaning.specs.Runs.{World, Runs, IsPrefix, more, acts, AsksIn, bar
 use Rattle.uc_program_laws.specs.Laws.{AllLeft}
 use Rattle.uc_program_laws.proofs.Ticks.{left_act}
 use Rattle.uc_kernel.specs.Numbered.{keys, or_else}
-use Rattle.uc_kernel.specs.KernelState.{Store, kept, Kept, put_back, handed}
+use Rattle.uc_kernel.specs.KernelState.{Brought, Store, kept, Kept, put_back, handed}
 use Rattle.uc_kernel.specs.Calls.{MayBring, HandsOut, Goes, Follows, Acted, LacksNew}
 use Rattle.uc_kernel.specs.declared.given.Given.{Given}
-use Rattle.uc_kernel.specs.declared.given.Back.{Back}
 use Rattle.uc_kernel.specs.declared.given.Next.{Next}
 use Rattle.uc_kernel.specs.declared.given.Next.TheVariants.{Go}
 use Rattle.uc_lock.specs.Journals.{made_by}
@@ -66,7 +65,7 @@ module _ (code : Code) (main : ℕ) where
     calm = record k { abandoned = false }
 
     -- the act of what a worker brings
-    module _ (going : is_over k.journal ≡ false) (wanted : k.abandoned ≡ false) (b : Back (Option Machine) Members) (seen : Log) (saw : Saw n seen log) (brings : Brings code n seen b) (may : MayBring k b) where
+    module _ (going : is_over k.journal ≡ false) (wanted : k.abandoned ≡ false) (b : Brought (Option Machine) Members) (seen : Log) (saw : Saw n seen log) (brings : Brings code n seen b) (may : MayBring k b) where
       abbrev p : ℕ
       p = b.processor
 
@@ -400,7 +399,7 @@ module _ (code : Code) (main : ℕ) where
           subst (λ (x : Store (Option Machine) Members). Follow registry' x Over) (sym e) (subst (λ (x : Kept (Option Machine) Members). Advanced code main k ns room n x (noted ns n Over x.journal) registry' Over) (same_kept rested (kept mid) f.rest) (stopped rested.values rested.members k.abandoned (λ _. f.over) registry'))
 
     -- what comes of a call that brings
-    module _ (b : Back (Option Machine) Members) (seen : Log) (saw : Saw n seen log) (brings : Brings code n seen b) where
+    module _ (b : Brought (Option Machine) Members) (seen : Log) (saw : Saw n seen log) (brings : Brings code n seen b) where
       -- what was handed out for its task is what its ride was made from
       same_as : k.abandoned ≡ false → is_over k.journal ≡ false → (u : ℕ) → running b.processor k.journal ≡ u ∷ [] → (was : WasHanded calm log b.processor u) × (was.handed ≡ brings.handed)
       same_as wanted going u r =

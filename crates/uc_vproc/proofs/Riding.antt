@@ -16,10 +16,10 @@ use Rattle.uc_ride.specs.RideStands.{Rode}
 use Rattle.uc_ride.specs.UnwindingFalls.{KeepsAfter, ChildKeeps}
 use Rattle.uc_kernel.specs.Numbered.{keys}
 use Rattle.uc_kernel.specs.declared.given.Given.{Given}
-use Rattle.uc_kernel.specs.declared.given.Back.{Back}
+use Rattle.uc_kernel.specs.KernelState.{Brought}
 use Rattle.uc_vproc.specs.Desks.{IsRide, value_after}
 
-abbrev pub brought : Given Machine Members → Option Machine → Listed (ℕ × Members) → Option (Option Machine) → ℕ → Asked → Back (Option Machine) Members
+abbrev pub brought : Given Machine Members → Option Machine → Listed (ℕ × Members) → Option (Option Machine) → ℕ → Asked → Brought (Option Machine) Members
 brought g v ms child ticks asked = record { processor = g.processor; task = v; members = ms; child = child; ticks = ticks; asked = asked }
 
 pub is_ride : (code : Code) (g : Given Machine Members) (made : Option ℕ) (before after v : Machine) (task : Option Machine) (ms ms' : Listed (ℕ × Members)) (numbers : List ℕ) (child : Option Machine) (born : Option (Option Machine)) (ticks : ℕ) (asked : Asked) → before ≡ with_hand g.members.items g.task → after ≡ with_hand ms.items v → ms'.items ≡ ms.items → 1 ≤ ms'.spare → keys ms'.items ≡ numbers → numbers ≡ keys g.members.items ++ option_to_list made → task ≡ value_after asked.request v → born ≡ option_map Some child → ((source : Source) (s : State) → Lowered source code → Rests (laid_of code) before s → Rode source (laid_of code) (answered source g.answer s) g.left ticks asked after child) → KeepsAfter code asked.request after → ChildKeeps code child → ticks ≤ g.left → ((asked.request ≡ ask.Slice → ⊥) → ticks < g.left) → IsRide code (record { given = g; made = made }) (brought g task ms' born ticks asked)

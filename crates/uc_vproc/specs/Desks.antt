@@ -21,12 +21,11 @@ use Rattle.uc_ride.specs.UnwindingFalls.{KeepsAfter, ChildKeeps}
 use Rattle.uc_meaning.specs.Runs.{IsPrefix}
 use Rattle.uc_program_laws.specs.Laws.{AllLeft}
 use Rattle.uc_kernel.specs.Numbered.{keys}
-use Rattle.uc_kernel.specs.KernelState.{Kept, Store, kept}
+use Rattle.uc_kernel.specs.KernelState.{Brought, Kept, Store, kept}
 use Rattle.uc_kernel.specs.Calls.{Acted, Dispatched, LacksNew, MayBring, is_object}
 use Rattle.uc_kernel.specs.declared.given.Next.{Next}
 use Rattle.uc_kernel.specs.declared.given.Next.TheVariants.{Go, Blocked, Ended}
 use Rattle.uc_kernel.specs.declared.given.Given.{Given}
-use Rattle.uc_kernel.specs.declared.given.Back.{Back}
 use Rattle.uc_lock.specs.Journals.{Begins, made_by}
 use Rattle.uc_vproc.specs.declared.desk.RunKey.{RunKey}
 use Rattle.uc_vproc.specs.declared.put.Sort.{Sort}
@@ -84,7 +83,7 @@ module _ (code : Code) where
   Came n log Over = Unit {0}
 
   -- a ride of what was given, with the same objects in hand, and with what was made before it
-  pub record IsRide (h : Handed) (b : Back (Option Machine) Members) : Type 0 where
+  pub record IsRide (h : Handed) (b : Brought (Option Machine) Members) : Type 0 where
     pub processor : b.processor ≡ h.given.processor
     pub keys_are : keys b.members.items ≡ keys h.given.members.items ++ option_to_list h.made
     pub room : 1 ≤ b.members.spare
@@ -99,7 +98,7 @@ module _ (code : Code) where
     pub born : ChildKeeps code child
 
   -- what a worker with the seat n brings, as of a log that it saw
-  pub record Brings (n : ℕ) (log : Log) (b : Back (Option Machine) Members) : Type 0 where
+  pub record Brings (n : ℕ) (log : Log) (b : Brought (Option Machine) Members) : Type 0 where
     pub handed : Handed
     pub got : Got n log handed
     pub ride : IsRide handed b
@@ -181,7 +180,7 @@ pub record RegistryAfter (old new : Registry) (r : Request) (step : Step) : Type
   pub masks : new.masks.items ≡ old.masks.items
 
 -- what is brought is put to rest by an act, or the run is over or was abandoned, or is abandoned
-pub data WasPut (registry registry' : Registry) (old new : Store (Option Machine) Members) (b : Back (Option Machine) Members) : Step → Type 0 where
+pub data WasPut (registry registry' : Registry) (old new : Store (Option Machine) Members) (b : Brought (Option Machine) Members) : Step → Type 0 where
   stays : registry' ≡ registry → new ≡ old → WasPut registry registry' old new b Over
   refused : new ≡ record old { abandoned = true } → WasPut registry registry' old new b Over
   acted : (step : Step) (next : Next (Option Machine) Members) (mid : Store (Option Machine) Members) → old.abandoned ≡ false → is_over old.journal ≡ false → MayBring (kept old) b → RegistryAfter registry registry' b.asked.request step → Acted (kept old) b next (kept mid) → (sort_of b.asked.request ≡ sort.Makes → (t : ℕ) → running b.processor old.journal ≡ t ∷ [] → LacksNew mid.journal t next) → Comes (sort_of b.asked.request) mid new next step → WasPut registry registry' old new b step

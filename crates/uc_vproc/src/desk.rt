@@ -6,6 +6,7 @@ ghost use Rattle.uc_acts.specs.KernelRuns.{InRange};
 ghost use Rattle.uc_frames.specs.Machine.{with_hand};
 ghost use Rattle.uc_step.specs.WeightFalls.{Keeps};
 ghost use Rattle.uc_meaning.specs.Runs.{first_world};
+ghost use Rattle.uc_kernel.specs.KernelState.{with_asked};
 ghost use Rattle.uc_kernel_core.specs.Mirrors.{AreKnownSites};
 ghost use Rattle.uc_lock.specs.Journals.{Extends};
 ghost use Rattle.uc_vproc.specs.Makers.{Log};
@@ -22,6 +23,7 @@ use std::marker::Model;
 use std::snapshot::Snapshot;
 use uc_code::code::Code;
 use uc_entry::entry::{Entry, Options};
+use uc_entry::request::Asked;
 use uc_frames::members::Members;
 use uc_kernel::given::{Back, Shape};
 use uc_kernel::kernel::Kernel;
@@ -147,13 +149,18 @@ impl Desk {
     }
 
     /// The act of what a worker brings from a ride. Where it may not be taken, or memory is wanting, the run is abandoned.
-    pub fn act(&mut self, maker: u32, back: Back<Option<Parcel>, Members>) -> Step
-        requires brings { (seen : Log) × Saw maker seen self.old.log × Brings self.old.code maker seen back }
+    pub fn act(
+        &mut self,
+        maker: u32,
+        back: Back<Option<Parcel>, Members>,
+        asked: &Asked,
+    ) -> Step
+        requires brings { (seen : Log) × Saw maker seen self.old.log × Brings self.old.code maker seen (with_asked back asked.now) }
         ensures key { key_from self.new ≡ key_from self.old }
         ensures log { Extends maker self.old.log self.new.log }
         ensures came { Came self.old.code maker self.new.log result }
     {
-        let step = put(&mut *self.kernel, &mut self.registry, back);
+        let step = put(&mut *self.kernel, &mut self.registry, back, asked);
         let count = self.kernel.journal().len();
         make_notes(&mut self.notes, count, maker, &step);
         step

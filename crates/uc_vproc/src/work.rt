@@ -4,6 +4,7 @@ ghost use Rattle.uc_code.specs.Layout.{laid_of};
 ghost use Rattle.uc_code.specs.Pace.{IsPaced};
 ghost use Rattle.uc_frames.specs.Machine.{with_hand};
 ghost use Rattle.uc_step.specs.WeightFalls.{Keeps};
+ghost use Rattle.uc_kernel.specs.KernelState.{with_asked};
 ghost use Rattle.uc_kernel.specs.Numbered.{keys};
 ghost use Rattle.uc_lock.specs.Journals.{made_by};
 ghost use Rattle.std.specs.Option.{is_some, option_map, option_to_list};
@@ -22,7 +23,7 @@ use std::thread;
 use std::thread::{Threads, yield_now};
 use uc_code::code::Code;
 use uc_entry::list::List;
-use uc_entry::request::Request;
+use uc_entry::request::{Asked, Request};
 use uc_frames::members::Members;
 use uc_frames::task::Task;
 use uc_frames::work::Work;
@@ -56,16 +57,17 @@ fn bring<R: Wait>(
     lock: &Shared<Desk>,
     seat: &mut Seat<Desk>,
     back: Back<Option<Parcel>, Members>,
+    asked: &Asked,
 ) -> Step
     requires ready { IsReady lock.now seat.old }
     requires own { seat.old.own ≡ made_by seat.old.number seat.old.seen }
-    requires brings { Brings lock.now.terms.key.code seat.old.number seat.old.seen back }
+    requires brings { Brings lock.now.terms.key.code seat.old.number seat.old.seen (with_asked back asked.now) }
     ensures same { IsReady lock.now seat.new × IsSame seat.old seat.new }
     ensures came { HasCome lock.now seat.new result }
 {
     let number = seat.number();
     let mut held = lock.take(rt, seat);
-    let step = held.value().act(number, back);
+    let step = held.value().act(number, back, asked);
     lock.give(rt, seat, held);
     step
 }
@@ -81,18 +83,20 @@ fn give_up<R: Wait>(rt: &R, lock: &Shared<Desk>, seat: &mut Seat<Desk>)
     lock.give(rt, seat, held);
 }
 
-// A ride of what was given, outside the lock. A task that does not go on behind its request is given up.
+// A ride of what was given, outside the lock, up to a request, which is written where it is lent. A task that does not go on behind it
+// is given up.
 fn go<G: Gate>(
     alloc: Global,
     code: &Code,
     gate: &G,
     dispatches: u64,
     handed: Handed,
+    asked: &mut Asked,
 ) -> Result<Back<Option<Parcel>, Members>, AllocError>
     requires paced { IsPaced (laid_of code.now) code.now.routines }
     requires some { 1 ≤ handed.given.left }
     requires kept { Keeps code.now (with_hand handed.given.members.items handed.given.task) }
-    ensures { IfOk result (λ b. IsRide code.now handed b) }
+    ensures { IfOk result (λ b. IsRide code.now handed (with_asked b asked.new)) }
 {
     let Handed { given, made } = handed;
     let Given {
@@ -104,12 +108,11 @@ fn go<G: Gate>(
     } = given;
     let numbers = numbers_of(alloc, &members, made)?;
     let work = Work::new(task.into_task(), members);
-    let ridden = ride(code, work, answer, left, gate, processor, dispatches)?;
+    let ridden = ride(code, work, answer, left, asked, gate, processor, dispatches)?;
     let Ridden {
         work,
         child,
         ticks,
-        asked,
     } = ridden;
     let (task, mut members) = work.into_parts();
     members.room()?;
@@ -124,7 +127,6 @@ fn go<G: Gate>(
         members,
         child,
         ticks,
-        asked,
     })
 }
 
@@ -215,8 +217,12 @@ fn turn<R: Wait, G: Gate>(
     ensures same { IsReady lock.now seat.new × IsSame seat.old seat.new }
     ensures came { HasCome lock.now seat.new result }
 {
-    match go(alloc, code, gate, dispatches, handed) {
-        Ok(back) => bring(rt, lock, seat, back),
+    let mut asked = Asked {
+        request: Request::Slice,
+        line: 0,
+    };
+    match go(alloc, code, gate, dispatches, handed, &mut asked) {
+        Ok(back) => bring(rt, lock, seat, back, &asked),
         Err(_) => {
             give_up(rt, lock, seat);
             Step::Over

@@ -1,5 +1,5 @@
 use Rattle.std.proofs.Common.{sym, ap, ◌∙◌, refl, subst, length, vec_capacity, arith}
-use Rattle.uc_kernel.specs.KernelState.{kept}
+use Rattle.uc_kernel.specs.KernelState.{with_asked, kept}
 use Rattle.uc_lock.specs.Journals.{Extends}
 use Rattle.uc_vproc.specs.Makers.{Log, paired}
 use Rattle.uc_vproc.specs.Desks.{Table, key_from, Came, Saw, Brings}
@@ -16,8 +16,8 @@ put-step-requires-clause-hand c =
     let room = vec_capacity c.self.inside.notes in
     let n = c.args.maker in
     let registry = c.self.inside.registry in
-    let br = subst (λ (x : Table). (seen : Log) × Saw n seen x.log × Brings x.code n seen c.args.back) (sym c.self.view_is) c.requires.brings in
-    in_hand code main k ns room n registry c.self.invariant c.args.back br.0 br.1 br.2
+    let br = subst (λ (x : Table). (seen : Log) × Saw n seen x.log × Brings x.code n seen (with_asked c.args.back c.args.asked.now)) (sym c.self.view_is) c.requires.brings in
+    in_hand code main k ns room n registry c.self.invariant (with_asked c.args.back c.args.asked.now) br.0 br.1 br.2
 
 pub put-step-requires-clause-within : goal.put-step-requires-clause-within
 put-step-requires-clause-within c =
@@ -43,7 +43,7 @@ put-step-requires-clause-room c =
     let room = vec_capacity c.self.inside.notes in
     let n = c.args.maker in
     let registry = c.self.inside.registry in
-    let br = subst (λ (x : Table). (seen : Log) × Saw n seen x.log × Brings x.code n seen c.args.back) (sym c.self.view_is) c.requires.brings in
+    let br = subst (λ (x : Table). (seen : Log) × Saw n seen x.log × Brings x.code n seen (with_asked c.args.back c.args.asked.now)) (sym c.self.view_is) c.requires.brings in
     br.2.ride.room
 
 pub make_notes-requires : goal.make_notes-requires
@@ -55,10 +55,10 @@ make_notes-requires c =
     let room = vec_capacity c.self.inside.notes in
     let n = c.args.maker in
     let registry = c.self.inside.registry in
-    let br = subst (λ (x : Table). (seen : Log) × Saw n seen x.log × Brings x.code n seen c.args.back) (sym c.self.view_is) c.requires.brings in
+    let br = subst (λ (x : Table). (seen : Log) × Saw n seen x.log × Brings x.code n seen (with_asked c.args.back c.args.asked.now)) (sym c.self.view_is) c.requires.brings in
     let step = c.put-step.result in
     let new = kept c.put-step.new.kernel in
-    let adv = put_on code main k ns room n registry c.self.invariant c.args.back br.0 br.1 br.2 c.put-step.new.registry c.self.inside.kernel.value c.put-step.new.kernel refl c.put-step.ensures in
+    let adv = put_on code main k ns room n registry c.self.invariant (with_asked c.args.back c.args.asked.now) br.0 br.1 br.2 c.put-step.new.registry c.self.inside.kernel.value c.put-step.new.kernel refl c.put-step.ensures in
     let le = fits_room code main new (noted ns n step new.journal) room c.put-step.new.registry adv.keeps in
     let e = ap length c.journal-count.ensures in omega (arith, le, e)
 
@@ -71,10 +71,10 @@ invariant_of-self c =
     let room = vec_capacity c.self.inside.notes in
     let n = c.args.maker in
     let registry = c.self.inside.registry in
-    let br = subst (λ (x : Table). (seen : Log) × Saw n seen x.log × Brings x.code n seen c.args.back) (sym c.self.view_is) c.requires.brings in
+    let br = subst (λ (x : Table). (seen : Log) × Saw n seen x.log × Brings x.code n seen (with_asked c.args.back c.args.asked.now)) (sym c.self.view_is) c.requires.brings in
     let step = c.put-step.result in
     let new = kept c.put-step.new.kernel in
-    let adv = put_on code main k ns room n registry c.self.invariant c.args.back br.0 br.1 br.2 c.put-step.new.registry c.self.inside.kernel.value c.put-step.new.kernel refl c.put-step.ensures in
+    let adv = put_on code main k ns room n registry c.self.invariant (with_asked c.args.back c.args.asked.now) br.0 br.1 br.2 c.put-step.new.registry c.self.inside.kernel.value c.put-step.new.kernel refl c.put-step.ensures in
     keeps_on code main k ns room n new (noted ns n step new.journal) c.make_notes.new.notes.items (vec_capacity c.make_notes.new.notes) c.put-step.new.registry step adv (c.make_notes.ensures.items ∙ ap (noted ns n step) c.journal-count.ensures) c.make_notes.ensures.capacity
 
 pub returns-clause-key : goal.returns-clause-key
@@ -86,9 +86,9 @@ returns-clause-key c =
     let room = vec_capacity c.self.inside.notes in
     let n = c.args.maker in
     let registry = c.self.inside.registry in
-    let br = subst (λ (x : Table). (seen : Log) × Saw n seen x.log × Brings x.code n seen c.args.back) (sym c.self.view_is) c.requires.brings in
+    let br = subst (λ (x : Table). (seen : Log) × Saw n seen x.log × Brings x.code n seen (with_asked c.args.back c.args.asked.now)) (sym c.self.view_is) c.requires.brings in
     let step = c.put-step.result in
-    let adv = put_on code main k ns room n registry c.self.invariant c.args.back br.0 br.1 br.2 c.put-step.new.registry c.self.inside.kernel.value c.put-step.new.kernel refl c.put-step.ensures in
+    let adv = put_on code main k ns room n registry c.self.invariant (with_asked c.args.back c.args.asked.now) br.0 br.1 br.2 c.put-step.new.registry c.self.inside.kernel.value c.put-step.new.kernel refl c.put-step.ensures in
     (λ i. record { code = code; main = main; input = adv.input i; opts = adv.opts i }) ∙ ap key_from c.self.view_is
 
 pub returns-clause-log : goal.returns-clause-log
@@ -100,10 +100,10 @@ returns-clause-log c =
     let room = vec_capacity c.self.inside.notes in
     let n = c.args.maker in
     let registry = c.self.inside.registry in
-    let br = subst (λ (x : Table). (seen : Log) × Saw n seen x.log × Brings x.code n seen c.args.back) (sym c.self.view_is) c.requires.brings in
+    let br = subst (λ (x : Table). (seen : Log) × Saw n seen x.log × Brings x.code n seen (with_asked c.args.back c.args.asked.now)) (sym c.self.view_is) c.requires.brings in
     let step = c.put-step.result in
     let new = kept c.put-step.new.kernel in
-    let adv = put_on code main k ns room n registry c.self.invariant c.args.back br.0 br.1 br.2 c.put-step.new.registry c.self.inside.kernel.value c.put-step.new.kernel refl c.put-step.ensures in
+    let adv = put_on code main k ns room n registry c.self.invariant (with_asked c.args.back c.args.asked.now) br.0 br.1 br.2 c.put-step.new.registry c.self.inside.kernel.value c.put-step.new.kernel refl c.put-step.ensures in
     subst (λ (x : Table). Extends n x.log (paired new.journal c.make_notes.new.notes.items)) c.self.view_is (logs_on code main k ns room n new (noted ns n step new.journal) c.make_notes.new.notes.items (vec_capacity c.make_notes.new.notes) c.put-step.new.registry step adv (c.make_notes.ensures.items ∙ ap (noted ns n step) c.journal-count.ensures))
 
 pub returns-clause-came : goal.returns-clause-came
@@ -115,8 +115,8 @@ returns-clause-came c =
     let room = vec_capacity c.self.inside.notes in
     let n = c.args.maker in
     let registry = c.self.inside.registry in
-    let br = subst (λ (x : Table). (seen : Log) × Saw n seen x.log × Brings x.code n seen c.args.back) (sym c.self.view_is) c.requires.brings in
+    let br = subst (λ (x : Table). (seen : Log) × Saw n seen x.log × Brings x.code n seen (with_asked c.args.back c.args.asked.now)) (sym c.self.view_is) c.requires.brings in
     let step = c.put-step.result in
     let new = kept c.put-step.new.kernel in
-    let adv = put_on code main k ns room n registry c.self.invariant c.args.back br.0 br.1 br.2 c.put-step.new.registry c.self.inside.kernel.value c.put-step.new.kernel refl c.put-step.ensures in
+    let adv = put_on code main k ns room n registry c.self.invariant (with_asked c.args.back c.args.asked.now) br.0 br.1 br.2 c.put-step.new.registry c.self.inside.kernel.value c.put-step.new.kernel refl c.put-step.ensures in
     subst (λ (x : Table). Came x.code n (paired new.journal c.make_notes.new.notes.items) step) c.self.view_is (comes_on code main k ns room n new (noted ns n step new.journal) c.make_notes.new.notes.items (vec_capacity c.make_notes.new.notes) c.put-step.new.registry step adv (c.make_notes.ensures.items ∙ ap (noted ns n step) c.journal-count.ensures))
