@@ -1,5 +1,6 @@
-use Rattle.std.proofs.Common.{ap, ◌∙◌, refl, subst, length, vec_capacity, arith}
-use Rattle.uc_kernel.specs.KernelState.{kept}
+use Rattle.std.proofs.Common.{Option, ap, ◌∙◌, subst, length, vec_capacity, arith}
+use Rattle.uc_frames.specs.Machine.{Machine, Members}
+use Rattle.uc_kernel.specs.KernelState.{Store, kept}
 use Rattle.uc_lock.specs.Journals.{Extends}
 use Rattle.uc_vproc.specs.Makers.{paired}
 use Rattle.uc_vproc.specs.Desks.{Table, key_from, Came}
@@ -17,9 +18,9 @@ make_notes-requires c =
     let registry = c.self.inside.registry in
     let step = c.hand_out-step.result in
     let new = kept c.hand_out-step.new.kernel in
-    let adv = handed_on code main k ns room n registry c.self.invariant c.self.inside.kernel.value c.hand_out-step.new.kernel refl c.hand_out-step.ensures in
+    let adv = handed_on code main k ns room n registry c.self.invariant c.deref_mut.result.now c.hand_out-step.new.kernel (ap kept c.deref_mut.ensures.value) c.hand_out-step.ensures in
     let le = fits_room code main new (noted ns n step new.journal) room registry adv.keeps in
-    let e = ap length c.journal-count.ensures in omega (arith, le, e)
+    let e = ap length (c.journal-count.ensures ∙ ap (λ (s : Store (Option Machine) Members). s.journal) c.deref.ensures) in omega (arith, le, e)
 
 pub invariant_of-self : goal.invariant_of-self
 invariant_of-self c =
@@ -32,8 +33,8 @@ invariant_of-self c =
     let registry = c.self.inside.registry in
     let step = c.hand_out-step.result in
     let new = kept c.hand_out-step.new.kernel in
-    let adv = handed_on code main k ns room n registry c.self.invariant c.self.inside.kernel.value c.hand_out-step.new.kernel refl c.hand_out-step.ensures in
-    keeps_on code main k ns room n new (noted ns n step new.journal) c.make_notes.new.notes.items (vec_capacity c.make_notes.new.notes) registry step adv (c.make_notes.ensures.items ∙ ap (noted ns n step) c.journal-count.ensures) c.make_notes.ensures.capacity
+    let adv = handed_on code main k ns room n registry c.self.invariant c.deref_mut.result.now c.hand_out-step.new.kernel (ap kept c.deref_mut.ensures.value) c.hand_out-step.ensures in
+    keeps_on code main k ns room n new (noted ns n step new.journal) c.make_notes.new.notes.items (vec_capacity c.make_notes.new.notes) registry step adv (c.make_notes.ensures.items ∙ ap (noted ns n step) (c.journal-count.ensures ∙ ap (λ (s : Store (Option Machine) Members). s.journal) c.deref.ensures)) c.make_notes.ensures.capacity
 
 pub returns-clause-key : goal.returns-clause-key
 returns-clause-key c =
@@ -45,7 +46,7 @@ returns-clause-key c =
     let n = c.args.maker in
     let registry = c.self.inside.registry in
     let step = c.hand_out-step.result in
-    let adv = handed_on code main k ns room n registry c.self.invariant c.self.inside.kernel.value c.hand_out-step.new.kernel refl c.hand_out-step.ensures in
+    let adv = handed_on code main k ns room n registry c.self.invariant c.deref_mut.result.now c.hand_out-step.new.kernel (ap kept c.deref_mut.ensures.value) c.hand_out-step.ensures in
     (λ i. record { code = code; main = main; input = adv.input i; opts = adv.opts i }) ∙ ap key_from c.self.view_is
 
 pub returns-clause-log : goal.returns-clause-log
@@ -59,8 +60,8 @@ returns-clause-log c =
     let registry = c.self.inside.registry in
     let step = c.hand_out-step.result in
     let new = kept c.hand_out-step.new.kernel in
-    let adv = handed_on code main k ns room n registry c.self.invariant c.self.inside.kernel.value c.hand_out-step.new.kernel refl c.hand_out-step.ensures in
-    subst (λ (x : Table). Extends n x.log (paired new.journal c.make_notes.new.notes.items)) c.self.view_is (logs_on code main k ns room n new (noted ns n step new.journal) c.make_notes.new.notes.items (vec_capacity c.make_notes.new.notes) registry step adv (c.make_notes.ensures.items ∙ ap (noted ns n step) c.journal-count.ensures))
+    let adv = handed_on code main k ns room n registry c.self.invariant c.deref_mut.result.now c.hand_out-step.new.kernel (ap kept c.deref_mut.ensures.value) c.hand_out-step.ensures in
+    subst (λ (x : Table). Extends n x.log (paired new.journal c.make_notes.new.notes.items)) c.self.view_is (logs_on code main k ns room n new (noted ns n step new.journal) c.make_notes.new.notes.items (vec_capacity c.make_notes.new.notes) registry step adv (c.make_notes.ensures.items ∙ ap (noted ns n step) (c.journal-count.ensures ∙ ap (λ (s : Store (Option Machine) Members). s.journal) c.deref.ensures)))
 
 pub returns-clause-came : goal.returns-clause-came
 returns-clause-came c =
@@ -73,5 +74,5 @@ returns-clause-came c =
     let registry = c.self.inside.registry in
     let step = c.hand_out-step.result in
     let new = kept c.hand_out-step.new.kernel in
-    let adv = handed_on code main k ns room n registry c.self.invariant c.self.inside.kernel.value c.hand_out-step.new.kernel refl c.hand_out-step.ensures in
-    subst (λ (x : Table). Came x.code n (paired new.journal c.make_notes.new.notes.items) step) c.self.view_is (comes_on code main k ns room n new (noted ns n step new.journal) c.make_notes.new.notes.items (vec_capacity c.make_notes.new.notes) registry step adv (c.make_notes.ensures.items ∙ ap (noted ns n step) c.journal-count.ensures))
+    let adv = handed_on code main k ns room n registry c.self.invariant c.deref_mut.result.now c.hand_out-step.new.kernel (ap kept c.deref_mut.ensures.value) c.hand_out-step.ensures in
+    subst (λ (x : Table). Came x.code n (paired new.journal c.make_notes.new.notes.items) step) c.self.view_is (comes_on code main k ns room n new (noted ns n step new.journal) c.make_notes.new.notes.items (vec_capacity c.make_notes.new.notes) registry step adv (c.make_notes.ensures.items ∙ ap (noted ns n step) (c.journal-count.ensures ∙ ap (λ (s : Store (Option Machine) Members). s.journal) c.deref.ensures)))
