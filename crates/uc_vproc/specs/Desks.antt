@@ -1,5 +1,5 @@
 -- What contracts see of the locked value, and what it keeps.
-use Rattle.std.specs.Prelude.{◌≡◌, ℕ, ◌+◌, ◌≤◌, ◌⊎◌, Bool, true, false, List, [], ◌∷◌, Option, Some, None, length, slice_index_or, if◌then◌else◌}
+use Rattle.std.specs.Prelude.{◌≡◌, ℕ, ◌+◌, ◌≤◌, ◌⊎◌, Bool, true, false, List, [], ◌∷◌, Option, Some, None, IsSome, length, slice_index_or, if◌then◌else◌}
 use Rattle.std.specs.Option.{option_map}
 use Rattle.uc_tree.specs.Source.{Source}
 use Rattle.uc_entry.specs.declared.entry.Options.{Options}
@@ -24,7 +24,7 @@ use Rattle.uc_step_laws.specs.Hands.{HasForm}
 use Rattle.uc_program_laws.specs.Laws.{AllLeft}
 use Rattle.uc_kernel.specs.Numbered.{keys}
 use Rattle.uc_kernel.specs.KernelState.{Brought, Kept, Store, kept}
-use Rattle.uc_kernel.specs.AtRest.{IsMake}
+use Rattle.uc_kernel.specs.AtRest.{IsMake, IsSpawn}
 use Rattle.uc_kernel.specs.Calls.{Acted, Dispatched, LacksNew, MayBring}
 use Rattle.uc_kernel.specs.declared.given.Next.{Next}
 use Rattle.uc_kernel.specs.declared.given.Next.TheVariants.{Go, Blocked, Ended}
@@ -127,26 +127,31 @@ EndsAs code main input opts j = (source : Source) → IsSource code main source 
 abbrev pub boxed : Given Machine Members → Given (Option Machine) Members
 boxed g = record { processor = g.processor; task = Some g.task; members = g.members; answer = g.answer; left = g.left }
 
--- a task that is handed out goes on, where it has not ended; or the run is abandoned
-pub data Passes (old new : Store (Option Machine) Members) : Given (Option Machine) Members → Step → Type 0 where
-  on : (g : Given Machine Members) → new ≡ old → Passes old new (boxed g) (Going g)
-  off : (x : Given (Option Machine) Members) → new ≡ record old { abandoned = true } → Passes old new x Over
+-- the task that is handed out, if one is, has not ended
+abbrev pub LivesIn : Option (Given (Option Machine) Members) → Type 0
+LivesIn None = Unit {0}
+LivesIn (Some g) = IsSome g.task
+
+abbrev pub LivesNext : Next (Option Machine) Members → Type 0
+LivesNext (Go g) = IsSome g.task
+LivesNext Blocked = Unit {0}
+LivesNext Ended = Unit {0}
 
 -- what comes of a dispatch is what the kernel hands out
-pub data HandsNext (old new : Store (Option Machine) Members) : Option (Given (Option Machine) Members) → Step → Type 0 where
-  nothing : new ≡ old → HandsNext old new None Idle
-  passes : (x : Given (Option Machine) Members) (step : Step) → Passes old new x step → HandsNext old new (Some x) step
+pub data HandsNext : Option (Given (Option Machine) Members) → Step → Type 0 where
+  nothing : HandsNext None Idle
+  passes : (g : Given Machine Members) → HandsNext (Some (boxed g)) (Going g)
 
 -- a dispatch, where the run goes on and was not abandoned
 pub data WasHandedOut (old new : Store (Option Machine) Members) : Step → Type 0 where
   none_left : new ≡ old → WasHandedOut old new Over
-  gave : (step : Step) (o : Option (Given (Option Machine) Members)) (mid : Store (Option Machine) Members) → old.abandoned ≡ false → is_over old.journal ≡ false → Dispatched (kept old) o (kept mid) → HandsNext mid new o step → WasHandedOut old new step
+  gave : (step : Step) (o : Option (Given (Option Machine) Members)) → old.abandoned ≡ false → is_over old.journal ≡ false → Dispatched (kept old) o (kept new) → HandsNext o step → WasHandedOut old new step
 
 -- what comes of an act is what the kernel says
-pub data Comes (old new : Store (Option Machine) Members) : Next (Option Machine) Members → Step → Type 0 where
-  goes : (x : Given (Option Machine) Members) (step : Step) → Passes old new x step → Comes old new (Go x) step
-  idles : new ≡ old → Comes old new Blocked Idle
-  ends : new ≡ old → Comes old new Ended Over
+pub data Comes : Next (Option Machine) Members → Step → Type 0 where
+  goes : (g : Given Machine Members) → Comes (Go (boxed g)) (Going g)
+  idles : Comes Blocked Idle
+  ends : Comes Ended Over
 
 -- a task goes on that is told of object o
 pub record IsTold (o : ℕ) (step : Step) : Type 0 where
@@ -172,15 +177,17 @@ pub record RegistryAfter (old new : Registry) (r : Request) (step : Step) : Type
   pub masks : new.masks.items ≡ old.masks.items
 
 -- what is known of a task that asks: it has just the objects in hand that it is inside, with room for one more, makes no more ticks than it
--- has left, and prints and reads in a form that fits
+-- has left, and prints and reads in a form that fits; its value comes back where it goes on, and with a spawn the new task
 pub record IsAsking (opts : Options) (j : Journal) (t : ℕ) (b : Brought (Option Machine) Members) : Type 0 where
   pub hand : keys b.members.items ≡ held t j
   pub room : 1 ≤ b.members.spare
   pub within : b.ticks ≤ left opts j t
   pub form : HasForm b.asked.request
+  pub goes : stops b.asked.request ≡ false → IsSome b.task
+  pub born : IsSpawn b.asked.request → IsSome b.child
 
 -- what is brought is put to rest by an act, or the run is over or was abandoned, or is abandoned
 pub data WasPut (registry registry' : Registry) (old new : Store (Option Machine) Members) (b : Brought (Option Machine) Members) : Step → Type 0 where
   stays : registry' ≡ registry → new ≡ old → WasPut registry registry' old new b Over
   refused : new ≡ record old { abandoned = true } → WasPut registry registry' old new b Over
-  acted : (step : Step) (next : Next (Option Machine) Members) (mid : Store (Option Machine) Members) → old.abandoned ≡ false → is_over old.journal ≡ false → MayBring (kept old) b → RegistryAfter registry registry' b.asked.request step → Acted (kept old) b next (kept mid) → (sort_of b.asked.request ≡ sort.Makes → (t : ℕ) → running b.processor old.journal ≡ t ∷ [] → LacksNew mid.journal t next) → Comes mid new next step → WasPut registry registry' old new b step
+  acted : (step : Step) (next : Next (Option Machine) Members) → old.abandoned ≡ false → is_over old.journal ≡ false → MayBring (kept old) b → RegistryAfter registry registry' b.asked.request step → Acted (kept old) b next (kept new) → (sort_of b.asked.request ≡ sort.Makes → (t : ℕ) → running b.processor old.journal ≡ t ∷ [] → LacksNew new.journal t next) → Comes next step → WasPut registry registry' old new b step

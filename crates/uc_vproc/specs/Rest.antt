@@ -6,7 +6,7 @@ use Rattle.uc_entry.specs.declared.request.Request.{Request}
 use Rattle.uc_entry.specs.declared.request.Request.TheVariants as ask
 use Rattle.uc_acts.specs.Journal.{Journal, held}
 use Rattle.uc_acts.specs.Queues.{running}
-use Rattle.uc_acts.specs.Known.{has}
+use Rattle.uc_acts.specs.Known.{has, has_ended}
 use Rattle.uc_acts.specs.Answers.{answer_to}
 use Rattle.uc_acts.specs.Serves.{left}
 use Rattle.uc_machine.specs.Quiet.{State, Members as Home}
@@ -44,6 +44,10 @@ stops r = false
 abbrev pub faults : Request → Bool
 faults (ask.Fault n) = true
 faults r = false
+
+-- a task that is at rest without a value has ended
+abbrev pub AreEnded : Kept (Option Machine) Members → Type 0
+AreEnded k = (u : ℕ) → k.values u ≡ Some None → has_ended u k.journal ≡ true
 
 -- object o is in the hand of a task that runs
 pub record Out (j : Journal) (o : ℕ) : Type 0 where
@@ -107,5 +111,6 @@ module _ (code : Code) where
   -- while the run goes on, and was not abandoned
   pub record Steady (main : ℕ) (k : Kept (Option Machine) Members) (log : Log) : Type 0 where
     pub kept : RestKept k
+    pub ended : AreEnded k
     pub out : (p t : ℕ) → running p k.journal ≡ t ∷ [] → WasHanded k log p t
     pub stands : (source : Source) → IsSource code main source → AtRest source k log

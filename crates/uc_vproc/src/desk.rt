@@ -10,7 +10,7 @@ ghost use Rattle.uc_kernel.specs.KernelState.{with_asked};
 ghost use Rattle.uc_kernel_core.specs.Mirrors.{AreKnownSites};
 ghost use Rattle.uc_lock.specs.Journals.{Extends};
 ghost use Rattle.uc_vproc.specs.Makers.{Log};
-ghost use Rattle.uc_vproc.specs.Rest.{IsSource, IsTask};
+ghost use Rattle.uc_vproc.specs.Rest.{HasSource, IsSource, IsTask};
 ghost use Rattle.uc_vproc.specs.Desks.{key_from, no_fields, IsOpened, Came, Saw, Brings, EndsAs};
 
 use crate::parcel::Parcel;
@@ -113,6 +113,7 @@ impl Desk {
         first: Parcel,
         own: Members,
     ) -> Result<Desk, AllocError>
+        requires source { HasSource code.now main }
         requires options { InRange opts }
         requires known { AreKnownSites shape.sites.items }
         requires sites { shape.sites.items ≡ code.now.sites }
@@ -148,7 +149,7 @@ impl Desk {
         step
     }
 
-    /// The act of what a worker brings from a ride. Where it may not be taken, or memory is wanting, the run is abandoned.
+    /// The act of what a worker brings from a ride. Where what is asked does not fit, or memory is wanting, the run is abandoned.
     pub fn act(
         &mut self,
         maker: u32,

@@ -1,13 +1,12 @@
 // A worker.
-ghost use Rattle.std.specs.Prelude.{◌≡◌, ◌≤◌, ◌++◌, true, false, Some, IfOk, All, length};
+ghost use Rattle.std.specs.Prelude.{◌≡◌, ◌≤◌, Some, IfOk, All, length};
 ghost use Rattle.uc_code.specs.Layout.{laid_of};
 ghost use Rattle.uc_code.specs.Pace.{IsPaced};
 ghost use Rattle.uc_frames.specs.Machine.{with_hand};
 ghost use Rattle.uc_step.specs.WeightFalls.{Keeps};
 ghost use Rattle.uc_kernel.specs.KernelState.{with_asked};
-ghost use Rattle.uc_kernel.specs.Numbered.{keys};
 ghost use Rattle.uc_lock.specs.Journals.{made_by};
-ghost use Rattle.std.specs.Option.{is_some, option_map, option_to_list};
+ghost use Rattle.std.specs.Option.{is_some, option_map};
 ghost use Rattle.uc_vproc.specs.Makers.{given_in};
 ghost use Rattle.uc_vproc.specs.declared.step.Step.TheVariants.{Going};
 ghost use Rattle.uc_vproc.specs.Desks.{Brings, IsRide, value_after};
@@ -16,13 +15,12 @@ ghost use Rattle.uc_vproc.specs.Workers.{IsReady, IsSame, HasCome};
 
 use crate::desk::Desk;
 use crate::parcel::Parcel;
-use crate::step::{Handed, Step};
+use crate::step::Step;
 use std::alloc::{AllocError, Global};
 use std::sync::Wait;
 use std::thread;
 use std::thread::{Threads, yield_now};
 use uc_code::code::Code;
-use uc_entry::list::List;
 use uc_entry::request::{Asked, Request};
 use uc_frames::members::Members;
 use uc_frames::task::Task;
@@ -90,15 +88,14 @@ fn go<G: Gate>(
     code: &Code,
     gate: &G,
     dispatches: u64,
-    handed: Handed,
+    given: Given<Parcel, Members>,
     asked: &mut Asked,
 ) -> Result<Back<Option<Parcel>, Members>, AllocError>
     requires paced { IsPaced (laid_of code.now) code.now.routines }
-    requires some { 1 ≤ handed.given.left }
-    requires kept { Keeps code.now (with_hand handed.given.members.items handed.given.task) }
-    ensures { IfOk result (λ b. IsRide code.now handed (with_asked b asked.new)) }
+    requires some { 1 ≤ given.left }
+    requires kept { Keeps code.now (with_hand given.members.items given.task) }
+    ensures { IfOk result (λ b. IsRide code.now given (with_asked b asked.new)) }
 {
-    let Handed { given, made } = handed;
     let Given {
         processor,
         task,
@@ -106,7 +103,6 @@ fn go<G: Gate>(
         answer,
         left,
     } = given;
-    let numbers = numbers_of(alloc, &members, made)?;
     let work = Work::new(task.into_task(), members);
     let ridden = ride(code, work, answer, left, asked, gate, processor, dispatches)?;
     let Ridden {
@@ -116,9 +112,6 @@ fn go<G: Gate>(
     } = ridden;
     let (task, mut members) = work.into_parts();
     members.room()?;
-    if !is_numbered(&members, &numbers) {
-        return Err(AllocError);
-    }
     let task = going_on(alloc, &asked.request, task)?;
     let child = boxed(alloc, child)?;
     Ok(Back {
@@ -165,40 +158,6 @@ fn stops(request: &Request) -> bool
     }
 }
 
-// The numbers of the objects in a hand, and of the one that it lacks.
-fn numbers_of(
-    alloc: Global,
-    hand: &List<(u64, Members)>,
-    made: Option<u32>,
-) -> Result<Vec<u64>, AllocError>
-    ensures { IfOk result (λ ns. ns.items ≡ keys hand.now.items ++ option_to_list made) }
-{
-    let mut numbers = Vec::new(alloc);
-    for at in 0..hand.len() {
-        numbers.push(hand.get(at).0)?;
-    }
-    match made {
-        Some(object) => numbers.push(object as u64)?,
-        None => {}
-    }
-    Ok(numbers)
-}
-
-// Whether the objects in a hand have these numbers.
-fn is_numbered(hand: &List<(u64, Members)>, numbers: &[u64]) -> bool
-    ensures { result ≡ true → keys hand.now.items ≡ numbers.now }
-{
-    if hand.len() as usize != numbers.len() {
-        return false;
-    }
-    for at in 0..hand.len() {
-        if hand.get(at).0 != numbers[at as usize] {
-            return false;
-        }
-    }
-    true
-}
-
 // A ride and its act.
 fn turn<R: Wait, G: Gate>(
     rt: &R,
@@ -208,12 +167,12 @@ fn turn<R: Wait, G: Gate>(
     gate: &G,
     dispatches: u64,
     seat: &mut Seat<Desk>,
-    handed: Handed,
+    given: Given<Parcel, Members>,
 ) -> Step
     requires ready { IsReady lock.now seat.old }
     requires code { lock.now.terms.key.code ≡ code.now }
     requires paced { IsPaced (laid_of code.now) code.now.routines }
-    requires came { HasCome lock.now seat.old (Going handed) }
+    requires came { HasCome lock.now seat.old (Going given) }
     ensures same { IsReady lock.now seat.new × IsSame seat.old seat.new }
     ensures came { HasCome lock.now seat.new result }
 {
@@ -221,7 +180,7 @@ fn turn<R: Wait, G: Gate>(
         request: Request::Slice,
         line: 0,
     };
-    match go(alloc, code, gate, dispatches, handed, &mut asked) {
+    match go(alloc, code, gate, dispatches, given, &mut asked) {
         Ok(back) => bring(rt, lock, seat, back, &asked),
         Err(_) => {
             give_up(rt, lock, seat);
@@ -266,10 +225,10 @@ pub fn work<R: Wait, G: Gate>(
     let mut yields = IDLE_YIELDS;
     for _ in rt.forever() {
         step = match step {
-            Step::Going(handed) => {
+            Step::Going(given) => {
                 let first = told;
                 told = 0;
-                turn(rt, alloc, lock, code, gate, first, &mut seat, handed)
+                turn(rt, alloc, lock, code, gate, first, &mut seat, given)
             }
             Step::Idle => {
                 let next = begin(rt, lock, &mut seat);

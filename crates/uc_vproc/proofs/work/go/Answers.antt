@@ -5,4 +5,4 @@ use Rattle.uc_vproc.proofs.work.go.Goals as goal
 
 pub returns : goal.returns
 returns g c =
-    is_ride c.args.code.now c.args.handed.given c.args.handed.made c.new-work.result c.in_ok-ridden.ridden.work c.into_parts-task.result.0 c.in_ok-task.task c.into_parts-task.result.1 c.room.new.self c.in_ok-numbers.numbers.items c.in_ok-ridden.ridden.child c.in_ok-child.child c.in_ok-ridden.ridden.ticks c.ride.new.asked (c.new-work.ensures ∙ ap (with_hand c.args.handed.given.members.items) c.into_task.ensures) c.into_parts-task.ensures c.in_ok-room.ensures.items c.in_ok-room.ensures.ok (c.is_numbered.ensures c.if-not-is_numbered.false ∙ c.deref.ensures.value) c.in_ok-numbers.ensures c.in_ok-task.ensures c.in_ok-child.ensures c.in_ok-ridden.ensures.rides c.in_ok-ridden.ensures.kept c.in_ok-ridden.ensures.born c.in_ok-ridden.ensures.few c.in_ok-ridden.ensures.early
+    is_ride c.args.code.now c.args.given c.new-work.result c.in_ok-ridden.ridden.work c.into_parts-task.result.0 c.in_ok-task.task c.into_parts-task.result.1 c.room.new.self c.in_ok-ridden.ridden.child c.in_ok-child.child c.in_ok-ridden.ridden.ticks c.ride.new.asked (c.new-work.ensures ∙ ap (with_hand c.args.given.members.items) c.into_task.ensures) c.into_parts-task.ensures c.in_ok-room.ensures.items c.in_ok-room.ensures.ok c.in_ok-task.ensures c.in_ok-child.ensures c.in_ok-ridden.ensures.rides c.in_ok-ridden.ensures.kept c.in_ok-ridden.ensures.born

@@ -1,21 +1,20 @@
-use Rattle.std.proofs.Common.{◌≡◌, ◌≤◌, ℕ, false, [], ◌∷◌, Option, sym, ap, ◌∙◌, subst, length, vec_capacity, arith}
-use Rattle.uc_acts.specs.Journal.{held, is_over}
+use Rattle.std.proofs.Common.{◌≡◌, ℕ, false, [], ◌∷◌, Option, sym, ap, ◌∙◌, subst, length, vec_capacity, arith}
+use Rattle.uc_acts.specs.Journal.{is_over}
 use Rattle.uc_acts.specs.Queues.{running}
-use Rattle.uc_acts.specs.Serves.{left}
 use Rattle.uc_acts.specs.KernelRuns.{KernelRuns}
 use Rattle.uc_frames.specs.Machine.{Machine, Members}
-use Rattle.uc_kernel.specs.Numbered.{keys}
 use Rattle.uc_kernel.specs.KernelState.{Store, with_asked, kept}
 use Rattle.uc_lock.specs.Journals.{Extends}
 use Rattle.uc_vproc.specs.Makers.{Log, paired}
 use Rattle.uc_vproc.specs.Registries.{Tells}
-use Rattle.uc_vproc.specs.Desks.{Table, key_from, Came, Saw, Brings}
+use Rattle.uc_vproc.specs.Desks.{Table, key_from, Came, Saw, Brings, IsAsking}
 use Rattle.uc_vproc.proofs.Turns.{noted, fits_room, keeps_on, logs_on, comes_on}
-use Rattle.uc_vproc.proofs.Acts.{in_hand, in_time, put_on}
+use Rattle.uc_vproc.proofs.Acts.{put_on}
+use Rattle.uc_vproc.proofs.AskingLemmas.{asking}
 use Rattle.uc_vproc.proofs.desk.Desk.act.Goals as goal
 
-pub put-step-requires-clause-hand : goal.put-step-requires-clause-hand
-put-step-requires-clause-hand c =
+pub put-step-requires-clause-asks : goal.put-step-requires-clause-asks
+put-step-requires-clause-asks c =
     let code = c.self.inside.code.value in
     let main = c.self.inside.main in
     let k = kept c.self.inside.kernel.value in
@@ -23,20 +22,9 @@ put-step-requires-clause-hand c =
     let room = vec_capacity c.self.inside.notes in
     let n = c.args.maker in
     let registry = c.self.inside.registry in
-    let br = subst (λ (x : Table). (seen : Log) × Saw n seen x.log × Brings x.code n seen (with_asked c.args.back c.args.asked.now)) (sym c.self.view_is) c.requires.brings in
-    subst (λ (s : Store (Option Machine) Members). s.abandoned ≡ false → is_over s.journal ≡ false → (t : ℕ) → running c.args.back.processor s.journal ≡ t ∷ [] → keys c.args.back.members.items ≡ held t s.journal) (sym c.deref_mut.ensures.value) (in_hand code main k ns room n registry c.self.invariant (with_asked c.args.back c.args.asked.now) br.0 br.1 br.2)
-
-pub put-step-requires-clause-within : goal.put-step-requires-clause-within
-put-step-requires-clause-within c =
-    let code = c.self.inside.code.value in
-    let main = c.self.inside.main in
-    let k = kept c.self.inside.kernel.value in
-    let ns = c.self.inside.notes.items in
-    let room = vec_capacity c.self.inside.notes in
-    let n = c.args.maker in
-    let registry = c.self.inside.registry in
-    let br = subst (λ (x : Table). (seen : Log) × Saw n seen x.log × Brings x.code n seen (with_asked c.args.back c.args.asked.now)) (sym c.self.view_is) c.requires.brings in
-    subst (λ (s : Store (Option Machine) Members). s.abandoned ≡ false → is_over s.journal ≡ false → (t : ℕ) → running c.args.back.processor s.journal ≡ t ∷ [] → c.args.back.ticks ≤ left s.opts s.journal t) (sym c.deref_mut.ensures.value) (in_time code main k ns room n registry c.self.invariant (with_asked c.args.back c.args.asked.now) br.0 br.1 br.2)
+    let b = with_asked c.args.back c.args.asked.now in
+    let br = subst (λ (x : Table). (seen : Log) × Saw n seen x.log × Brings x.code n seen b) (sym c.self.view_is) c.requires.brings in
+    subst (λ (s : Store (Option Machine) Members). s.abandoned ≡ false → is_over s.journal ≡ false → (t : ℕ) → running c.args.back.processor s.journal ≡ t ∷ [] → IsAsking s.opts s.journal t b) (sym c.deref_mut.ensures.value) (λ wanted going t runs. asking code main k ns room n registry c.self.invariant going wanted b br.0 br.1 br.2 t runs)
 
 pub put-step-requires-clause-told : goal.put-step-requires-clause-told
 put-step-requires-clause-told c =
@@ -45,18 +33,6 @@ put-step-requires-clause-told c =
 pub put-step-requires-clause-runs : goal.put-step-requires-clause-runs
 put-step-requires-clause-runs c =
     subst (λ (s : Store (Option Machine) Members). KernelRuns s.opts s.sites s.input s.journal) (sym c.deref_mut.ensures.value) c.self.invariant.runs
-
-pub put-step-requires-clause-room : goal.put-step-requires-clause-room
-put-step-requires-clause-room c =
-    let code = c.self.inside.code.value in
-    let main = c.self.inside.main in
-    let k = kept c.self.inside.kernel.value in
-    let ns = c.self.inside.notes.items in
-    let room = vec_capacity c.self.inside.notes in
-    let n = c.args.maker in
-    let registry = c.self.inside.registry in
-    let br = subst (λ (x : Table). (seen : Log) × Saw n seen x.log × Brings x.code n seen (with_asked c.args.back c.args.asked.now)) (sym c.self.view_is) c.requires.brings in
-    br.2.ride.room
 
 pub make_notes-requires : goal.make_notes-requires
 make_notes-requires c =

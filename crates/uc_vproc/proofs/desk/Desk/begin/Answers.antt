@@ -1,11 +1,22 @@
-use Rattle.std.proofs.Common.{Option, ap, ◌∙◌, subst, length, vec_capacity, arith}
+use Rattle.std.proofs.Common.{◌≡◌, Option, false, ap, sym, ◌∙◌, subst, length, vec_capacity, arith}
+use Rattle.uc_acts.specs.Journal.{is_over}
+use Rattle.uc_acts.specs.KernelRuns.{KernelRuns}
 use Rattle.uc_frames.specs.Machine.{Machine, Members}
 use Rattle.uc_kernel.specs.KernelState.{Store, kept}
 use Rattle.uc_lock.specs.Journals.{Extends}
 use Rattle.uc_vproc.specs.Makers.{paired}
+use Rattle.uc_vproc.specs.Rest.{AreEnded}
 use Rattle.uc_vproc.specs.Desks.{Table, key_from, Came}
 use Rattle.uc_vproc.proofs.Turns.{noted, handed_on, fits_room, keeps_on, logs_on, comes_on}
 use Rattle.uc_vproc.proofs.desk.Desk.begin.Goals as goal
+
+pub hand_out-step-requires-clause-runs : goal.hand_out-step-requires-clause-runs
+hand_out-step-requires-clause-runs c =
+    subst (λ (s : Store (Option Machine) Members). KernelRuns s.opts s.sites s.input s.journal) (sym c.deref_mut.ensures.value) c.self.invariant.runs
+
+pub hand_out-step-requires-clause-ended : goal.hand_out-step-requires-clause-ended
+hand_out-step-requires-clause-ended c =
+    subst (λ (s : Store (Option Machine) Members). s.abandoned ≡ false → is_over s.journal ≡ false → AreEnded (kept s)) (sym c.deref_mut.ensures.value) (λ wanted going. (c.self.invariant.steady wanted going).ended)
 
 pub make_notes-requires : goal.make_notes-requires
 make_notes-requires c =

@@ -19,4 +19,4 @@ invariant_of-result c =
     let le : c.args.opts.entries ≤ vec_capacity c.make_notes.new.notes = omega (arith, cap, wide) in
     let registry = c.in_ok-registry.registry in
     let told = subst (λ s. IsOpening s c.args.opts.processors registry) c.requires.sites (subst (λ s. IsOpening s c.args.opts.processors registry) c.deref.ensures.value c.in_ok-registry.ensures) in
-    subst (λ r. Keeping r c.args.main k c.make_notes.new.notes.items (vec_capacity c.make_notes.new.notes) registry) (sym c.of.ensures) (opens code c.args.main c.args.opts c.args.input.items c.args.first c.requires.first c.requires.kept k c.make_notes.new.notes.items (vec_capacity c.make_notes.new.notes) registry c.requires.options o one le told)
+    subst (λ r. Keeping r c.args.main k c.make_notes.new.notes.items (vec_capacity c.make_notes.new.notes) registry) (sym c.of.ensures) (opens code c.args.main c.args.opts c.args.input.items c.args.first c.requires.source c.requires.first c.requires.kept k c.make_notes.new.notes.items (vec_capacity c.make_notes.new.notes) registry c.requires.options o one le told)
