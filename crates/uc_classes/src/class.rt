@@ -24,10 +24,10 @@ use uc_check_stmt::declare::check_maybe;
 use uc_check_stmt::judge::ask_base;
 use uc_owner::bind::{BoundFields, bound_fields};
 use uc_rules::rule::Rule;
-use uc_rules::rules::{Around, FieldPlace, Home};
+use uc_rules::rules::{Surroundings, FieldPlace, OwnClass};
 use uc_tree::class::{Class, Member, MemberForm, Routine, Sig};
 use uc_tree::declare::Declarator;
-use uc_tree::kinds::{Access, Base, Mark, Role};
+use uc_tree::kinds::{Access, Base, MutexMark, Role};
 use uc_tree::name::Name;
 use uc_tree::pos::Pos;
 use uc_types::found::Found;
@@ -39,12 +39,12 @@ use uc_types::tables::Tables;
 /// have it in theirs, the fields that its constructors bind to fields of the same object, and the names of its numbered
 /// members.
 #[derive(Clone, Copy)]
-pub struct Walked<'a> {
+pub struct ClassWalk<'a> {
     pub alloc: Global,
     pub tables: &'a Tables<'a>,
     pub index: &'a Index<'a>,
     pub class: &'a Class,
-    pub home: Home,
+    pub home: OwnClass,
     pub circular: bool,
     pub holders: &'a [bool],
     pub bound: BoundFields<'a>,
@@ -61,7 +61,7 @@ struct Circle<'a> {
 
 /// A list of fields: the place of its member, the access and the base.
 #[derive(Clone, Copy)]
-pub struct Listed<'a> {
+pub struct FieldList<'a> {
     pub member: usize,
     pub access: Access,
     pub base: &'a Base,
@@ -69,10 +69,10 @@ pub struct Listed<'a> {
 }
 
 /// What stands round the members of a class, outside of its routines.
-pub fn class_around(home: Home) -> Around
+pub fn class_around(home: OwnClass) -> Surroundings
     ensures { result ≡ class_around home }
 {
-    Around {
+    Surroundings {
         home: Some(home),
         main: false,
         role: Role::Plain,
@@ -85,7 +85,7 @@ pub fn class_around(home: Home) -> Around
     }
 }
 
-fn is_inner(home: Home, mark: Mark, sig: &Sig) -> bool
+fn is_inner(home: OwnClass, mark: MutexMark, sig: &Sig) -> bool
     ensures { result ≡ is_inner home mark sig.now }
 {
     is_mutex(home.kind) && (!is_plain(sig.role) || (sig.name.is(b"main") || !is_nomutex(mark)))
@@ -101,14 +101,14 @@ fn returns_scalar(tables: &Tables, base: &Base) -> bool
 }
 
 /// What stands round a routine of a class, or of none.
-pub fn sig_around(tables: &Tables, home: Option<Home>, main: bool, mark: Mark, sig: &Sig) -> Around
+pub fn sig_around(tables: &Tables, home: Option<OwnClass>, main: bool, mark: MutexMark, sig: &Sig) -> Surroundings
     ensures { result ≡ sig_around tables.now home main mark sig.now }
 {
     let inner = match home {
         Some(home) => is_inner(home, mark, sig),
         None => false,
     };
-    Around {
+    Surroundings {
         home,
         main,
         role: sig.role,
@@ -124,8 +124,8 @@ pub fn sig_around(tables: &Tables, home: Option<Home>, main: bool, mark: Mark, s
 #[tactic(auto, using(uc_check_stmt::proofs::Joined::joining))]
 fn check_field(
     names: &Names,
-    walked: Walked,
-    listed: Listed,
+    walked: ClassWalk,
+    listed: FieldList,
     index: usize,
     declarator: &Declarator,
     found: &mut Found,
@@ -144,8 +144,8 @@ fn check_field(
 #[tactic(auto, using(uc_check_stmt::proofs::Joined::joining))]
 fn check_fields(
     names: &Names,
-    walked: Walked,
-    listed: Listed,
+    walked: ClassWalk,
+    listed: FieldList,
     found: &mut Found,
 ) -> Result<(), AllocError>
     requires home { names.now.around.home ≡ Some walked.home }
@@ -160,8 +160,8 @@ fn check_fields(
 }
 
 fn check_listed(
-    walked: Walked,
-    listed: Listed,
+    walked: ClassWalk,
+    listed: FieldList,
     at: Pos,
     found: &mut Found,
 ) -> Result<(), AllocError>
@@ -176,7 +176,7 @@ fn check_listed(
 }
 
 fn ask_inner(
-    walked: Walked,
+    walked: ClassWalk,
     proto: bool,
     sig: &Sig,
     place: usize,
@@ -191,7 +191,7 @@ fn ask_inner(
 }
 
 // The environment of a routine in its class, before its parameters.
-fn inner_names<'a>(walked: Walked<'a>, mark: Mark, sig: &Sig) -> Names<'a>
+fn inner_names<'a>(walked: ClassWalk<'a>, mark: MutexMark, sig: &Sig) -> Names<'a>
     ensures { result ≡ sig_env walked.entry.tables.now walked.entry.home mark sig.now }
 {
     let around = sig_around(walked.tables, Some(walked.home), false, mark, sig);
@@ -199,9 +199,9 @@ fn inner_names<'a>(walked: Walked<'a>, mark: Mark, sig: &Sig) -> Names<'a>
 }
 
 fn check_inner(
-    walked: Walked,
+    walked: ClassWalk,
     place: usize,
-    mark: Mark,
+    mark: MutexMark,
     routine: &Routine,
     found: &mut Found,
 ) -> Result<(), AllocError>
@@ -215,9 +215,9 @@ fn check_inner(
 }
 
 fn check_proto(
-    walked: Walked,
+    walked: ClassWalk,
     place: usize,
-    mark: Mark,
+    mark: MutexMark,
     sig: &Sig,
     found: &mut Found,
 ) -> Result<(), AllocError>
@@ -231,7 +231,7 @@ fn check_proto(
 }
 
 fn check_form(
-    walked: Walked,
+    walked: ClassWalk,
     place: usize,
     member: &Member,
     found: &mut Found,
@@ -246,7 +246,7 @@ fn check_form(
             base,
             declarators,
         } => {
-            let listed = Listed {
+            let listed = FieldList {
                 member: place,
                 access: member.access,
                 base,
@@ -268,7 +268,7 @@ fn check_form(
 
 #[tactic(auto, using(uc_check_stmt::proofs::Joined::joining))]
 fn check_member(
-    walked: Walked,
+    walked: ClassWalk,
     place: usize,
     member: &Member,
     found: &mut Found,
@@ -286,7 +286,7 @@ fn check_member(
 }
 
 #[tactic(auto, using(uc_check_stmt::proofs::Joined::joining))]
-fn check_members(walked: Walked, found: &mut Found) -> Result<(), AllocError>
+fn check_members(walked: ClassWalk, found: &mut Found) -> Result<(), AllocError>
     requires walks { Walks walked.tables.now walked.home walked.class.now walked.circular walked.holders.now walked.bound.known walked.bound.names.now }
     requires names { map (λ n. n.now) walked.numbered.now ≡ take MEMBERS (mutex_members walked.class.now) }
     requires few { length walked.numbered.now ≤ MEMBERS }
@@ -328,7 +328,7 @@ fn ask_whole(
     tables: &Tables,
     index: &Index,
     class: &Class,
-    home: Home,
+    home: OwnClass,
     events: usize,
     found: &mut Found,
 ) -> Result<(), AllocError>
@@ -347,7 +347,7 @@ fn check_held<'x>(
     tables: &'x Tables<'x>,
     index: &'x Index<'x>,
     class: &'x Class,
-    home: Home,
+    home: OwnClass,
     circle: Circle<'x>,
     found: &mut Found,
 ) -> Result<(), AllocError>
@@ -358,7 +358,7 @@ fn check_held<'x>(
 {
     let known = is_mutex(class.kind) && found.is_open(Rule::O5, class.pos);
     let names = bound_fields(alloc, tables, class, home.class, known)?;
-    let walked = Walked {
+    let walked = ClassWalk {
         alloc,
         tables,
         index,
@@ -370,7 +370,7 @@ fn check_held<'x>(
             known,
             names: &names,
         },
-        numbered: tables.numbered(home.class),
+        numbered: tables.mutex_members(home.class),
     };
     check_members(walked, found)?;
     Ok(())
@@ -381,7 +381,7 @@ fn check_inside(
     tables: &Tables,
     index: &Index,
     class: &Class,
-    home: Home,
+    home: OwnClass,
     found: &mut Found,
 ) -> Result<(), AllocError>
     requires indexed { index.now ≡ tables.now }
@@ -413,7 +413,7 @@ pub fn check_class(
     requires at { class_at tables.now place ≡ Some class.now }
     ensures { OnOk result (found.new ≡ noted found.old (class_visits tables.now place class.now)) }
 {
-    let home = Home {
+    let home = OwnClass {
         class: place,
         kind: class.kind,
     };

@@ -13,12 +13,12 @@ use crate::ask::ask_init;
 use uc_check_decl::init::{home_member, last_field, meant_field};
 use uc_check_stmt::declare::{is_scalar_of, single_target};
 use uc_owner::judge::note_bound;
-use uc_rules::rules::{Around, Bound, Entity, Expected, FieldPlace, Meant, Origin, Target};
+use uc_rules::rules::{Surroundings, Bound, Entity, Expected, FieldPlace, NameMeaning, Origin, Target};
 use uc_tree::class::Init;
 use uc_tree::expr::{Expr, ExprForm};
 use uc_tree::name::Name;
 use uc_types::ask::{ask_argument, is_reference};
-use uc_types::entity::expected;
+use uc_types::entity::expected_of;
 use uc_types::expr::check_expr;
 use uc_types::found::Found;
 use uc_types::names::Names;
@@ -56,7 +56,7 @@ fn origin_target(entity: Option<Entity>, origin: Origin) -> Target
     }
 }
 
-fn meant_target(meant: Option<Meant>) -> Target
+fn meant_target(meant: Option<NameMeaning>) -> Target
     ensures { result ≡ meant_target meant }
 {
     match meant {
@@ -81,10 +81,10 @@ fn bound_of(e: &Expr, expected: Expected, field: FieldPlace) -> Bound
     }
 }
 
-fn in_argument(bound: Bound, around: Around) -> Around
+fn in_argument(bound: Bound, around: Surroundings) -> Surroundings
     ensures { result ≡ in_argument bound around }
 {
-    Around {
+    Surroundings {
         bound: Some(bound),
         ..around
     }
@@ -135,7 +135,7 @@ fn check_init_args(
     ensures breaks { found.new ≡ noted found.old (init_args_visits names.old field (exprs_of args.now) target 0) }
 {
     for (place, arg) in args.iter().enumerate() {
-        let expected = expected(names.tables(), target, place);
+        let expected = expected_of(names.tables(), target, place);
         let _entity = check_init_arg(names, field, arg, expected, found);
     }
 }
@@ -154,7 +154,7 @@ fn check_values(
     ensures breaks { found.new ≡ noted found.old (init_args_visits names.old field (exprs_of args.now) target 0) }
 {
     if args.len() == 1 {
-        let expected = expected(names.tables(), target, 0);
+        let expected = expected_of(names.tables(), target, 0);
         let entity = check_init_arg(names, field, &args[0], expected, found);
         return is_scalar_of(entity);
     }

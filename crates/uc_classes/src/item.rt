@@ -14,9 +14,9 @@ use crate::class::{check_class, sig_around};
 use std::alloc::{AllocError, Global};
 use uc_check_decl::item::owner_home;
 use uc_check_index::index::Index;
-use uc_rules::rules::{Around, Home};
+use uc_rules::rules::{Surroundings, OwnClass};
 use uc_tree::class::{Routine, Sig};
-use uc_tree::kinds::{Mark, Owner, Role};
+use uc_tree::kinds::{MutexMark, Owner, Role};
 use uc_tree::program::{Constant, Item, ItemForm};
 use uc_types::expr::check_expr;
 use uc_types::found::Found;
@@ -25,10 +25,10 @@ use uc_types::sort::is_event;
 use uc_types::tables::Tables;
 
 /// What stands round what is in no class and no routine.
-pub fn no_around() -> Around
+pub fn no_around() -> Surroundings
     ensures { result ≡ no_around }
 {
-    Around {
+    Surroundings {
         home: None,
         main: false,
         role: Role::Plain,
@@ -41,7 +41,7 @@ pub fn no_around() -> Around
     }
 }
 
-fn mark_of(alloc: Global, index: &Index, home: Option<Home>, sig: &Sig) -> Result<Mark, AllocError>
+fn mark_of(alloc: Global, index: &Index, home: Option<OwnClass>, sig: &Sig) -> Result<MutexMark, AllocError>
     ensures { IfOk result (λ mark. mark ≡ outer_mark index.now home sig.now) }
 {
     match home {
@@ -49,7 +49,7 @@ fn mark_of(alloc: Global, index: &Index, home: Option<Home>, sig: &Sig) -> Resul
             let mark = index.mark_in(alloc, home.class, sig)?;
             Ok(mark)
         }
-        None => Ok(Mark::Unmarked),
+        None => Ok(MutexMark::Unmarked),
     }
 }
 
@@ -58,9 +58,9 @@ fn outer_mark(
     alloc: Global,
     tables: &Tables,
     index: &Index,
-    home: Option<Home>,
+    home: Option<OwnClass>,
     sig: &Sig,
-) -> Result<Mark, AllocError>
+) -> Result<MutexMark, AllocError>
     requires { index.now ≡ tables.now }
     ensures { IfOk result (λ mark. mark ≡ outer_mark tables.now home sig.now) }
 {
@@ -129,7 +129,7 @@ fn check_proto(
 
 // What stands before an item: so many classes, of which so many are events.
 #[derive(Clone, Copy)]
-struct Before {
+struct EarlierItems {
     classes: usize,
     events: usize,
 }
@@ -138,7 +138,7 @@ fn check_item(
     alloc: Global,
     tables: &Tables,
     index: &Index,
-    before: Before,
+    before: EarlierItems,
     item: &Item,
     found: &mut Found,
 ) -> Result<(), AllocError>
@@ -203,7 +203,7 @@ fn check_placed(
     alloc: Global,
     tables: &Tables,
     index: &Index,
-    before: Before,
+    before: EarlierItems,
     item: &Item,
     place: usize,
     found: &mut Found,
@@ -233,7 +233,7 @@ pub fn check_items(
     let mut classes = 0;
     let mut events = 0;
     for (place, item) in items.iter().enumerate() {
-        let before = Before { classes, events };
+        let before = EarlierItems { classes, events };
         check_placed(alloc, tables, index, before, item, place, found)?;
         classes += class_count(item);
         events += event_count(item);

@@ -6,7 +6,7 @@ use Rattle.std.proofs.lemmas.List.{reverse-append, length-reverse}
 use Rattle.uc_code.specs.declared.rows.HandlerRow.{HandlerRow}
 use Rattle.uc_code.specs.declared.rows.RowKind.TheVariants as kind
 use Rattle.uc_code.specs.declared.rows.TheConstants.{ANY_EVENT, OPEN_END}
-use Rattle.uc_code.specs.declared.rows.Mark.{Mark}
+use Rattle.uc_code.specs.declared.rows.CodeMark.{CodeMark}
 use Rattle.uc_code.specs.declared.rows.Opening.{Opening}
 use Rattle.uc_code.specs.declared.rows.Opening.TheVariants as opening
 use Rattle.uc_code.specs.Layout.{covers, takes_events, from_row, from_newest}
@@ -92,7 +92,7 @@ module _ (here entry : ℕ) where
       rw (e, closes_row ps os k s.outer c, closes_newest ps os k next c h g) refl
 
   -- the row of the innermost mark is closed, and the mark is left
-  pub record Leaves (rs : List HandlerRow) (ms : List Mark) (k : ℕ) : Type 0 where
+  pub record Leaves (rs : List HandlerRow) (ms : List CodeMark) (k : ℕ) : Type 0 where
     pub rows : List HandlerRow
     pub row : HandlerRow
     pub closes : Closes rs rows k
@@ -106,7 +106,7 @@ module _ (here entry : ℕ) where
   some_is : (a b : ℕ) → (let o : Option ℕ = Some a in o ≡ Some b) → a ≡ b
   some_is a b e = cc
 
-  row_is : (o : Opening) (n k : ℕ) (ms : List Mark) → row_in (opening_mark o n ∷ ms) ≡ Some k → n ≡ k
+  row_is : (o : Opening) (n k : ℕ) (ms : List CodeMark) → row_in (opening_mark o n ∷ ms) ≡ Some k → n ≡ k
   row_is (opening.Main main routine line) n k ms e = some_is n k e
   row_is (opening.Whole leave) n k ms e = some_is n k e
   row_is opening.Handler n k ms e = some_is n k e
@@ -115,7 +115,7 @@ module _ (here entry : ℕ) where
   row_is opening.Elements n k ms e = some_is n k e
   row_is (opening.Outward below) n k ms e = some_is n k e
 
-  clean_is : (o : Opening) (from n k : ℕ) (ms ns : List Mark) → handler_in (opening_mark o n ∷ ms) ≡ Some k → IsCleanUp (made o from ns)
+  clean_is : (o : Opening) (from n k : ℕ) (ms ns : List CodeMark) → handler_in (opening_mark o n ∷ ms) ≡ Some k → IsCleanUp (made o from ns)
   clean_is (opening.Main main routine line) from n k ms ns e = record { kind = refl; event = refl; rest = refl }
   clean_is (opening.Whole leave) from n k ms ns e = record { kind = refl; event = refl; rest = refl }
   clean_is opening.Handler from n k ms ns e = absurd (cc)
@@ -124,7 +124,7 @@ module _ (here entry : ℕ) where
   clean_is opening.Elements from n k ms ns e = record { kind = refl; event = refl; rest = refl }
   clean_is (opening.Outward below) from n k ms ns e = absurd (cc)
 
-  guard_is : (o : Opening) (n k : ℕ) (ms : List Mark) → guard_in (opening_mark o n ∷ ms) ≡ Some k → takes_events (opening_kind o) ≡ true
+  guard_is : (o : Opening) (n k : ℕ) (ms : List CodeMark) → guard_in (opening_mark o n ∷ ms) ≡ Some k → takes_events (opening_kind o) ≡ true
   guard_is (opening.Main main routine line) n k ms e = absurd (cc)
   guard_is (opening.Whole leave) n k ms e = absurd (cc)
   guard_is opening.Handler n k ms e = refl
@@ -133,7 +133,7 @@ module _ (here entry : ℕ) where
   guard_is opening.Elements n k ms e = absurd (cc)
   guard_is (opening.Outward below) n k ms e = absurd (cc)
 
-  pub leaves : (at : ℕ) (rs : List HandlerRow) (ms : List Mark) (k : ℕ) → at ≤ here → Nested at rs ms → row_in ms ≡ Some k → Leaves rs ms k
+  pub leaves : (at : ℕ) (rs : List HandlerRow) (ms : List CodeMark) (k : ℕ) → at ≤ here → Nested at rs ms → row_in ms ≡ Some k → Leaves rs ms k
   leaves at rs ms k g Bare e = absurd (cc)
   leaves at rs ms k g (Ended r qs _ l n) e =
       let f = leaves at qs ms k g n e in

@@ -7,12 +7,12 @@ use Rattle.uc_code.specs.declared.rows.Cleaning.{Cleaning}
 use Rattle.uc_code.specs.declared.rows.Cleaning.TheVariants as cleaning
 use Rattle.uc_code.specs.declared.rows.Manner.{Manner}
 use Rattle.uc_code.specs.declared.rows.Manner.TheVariants as manner
-use Rattle.uc_code.specs.declared.rows.Mark.{Mark}
-use Rattle.uc_code.specs.declared.rows.Mark.TheVariants as mark
+use Rattle.uc_code.specs.declared.rows.CodeMark.{CodeMark}
+use Rattle.uc_code.specs.declared.rows.CodeMark.TheVariants as mark
 use Rattle.uc_code.specs.declared.rows.ObjectCall.{ObjectCall}
 use Rattle.uc_code.specs.declared.rows.Resource.{Resource}
 use Rattle.uc_code.specs.declared.rows.Resource.TheVariants as resource
-use Rattle.uc_code.specs.declared.rows.Spot.{Spot}
+use Rattle.uc_code.specs.declared.rows.ObjectSpot.{ObjectSpot}
 use Rattle.uc_tree.specs.declared.limits.TheConstants.{DESTRUCTOR}
 use Rattle.uc_code.specs.Drafts.{Draft, ops_with}
 use Rattle.uc_code.specs.Layout.{Laid, laid_in, routine_in}
@@ -69,11 +69,11 @@ both {B} {C} b c = both_stable B b C c
 
 -- calls
 
-pub place_stable : (line : ℕ) (s : Spot) (a : Option Array) → Stable (λ code. SpotAt code line s a)
+pub place_stable : (line : ℕ) (s : ObjectSpot) (a : Option Array) → Stable (λ code. SpotAt code line s a)
 place_stable line s None = one_stable (spot_op s) line
 place_stable line s (Some a) = both (one_stable (spot_op s) line) (both (one_stable op.Counted line) (one_stable (op.Index a.length a.size) line))
 
-pub found_stable : (line : ℕ) (m : Manner) (s : Spot) (a : Option Array) → Stable (λ code. FoundAt code line m s a)
+pub found_stable : (line : ℕ) (m : Manner) (s : ObjectSpot) (a : Option Array) → Stable (λ code. FoundAt code line m s a)
 found_stable line manner.Plain s a = place_stable line s a
 found_stable line (manner.Makes c) s a = place_stable line s a
 found_stable line manner.Ends s a = both (place_stable line s a) (one_stable op.Load line)
@@ -87,7 +87,7 @@ opened_stable line resource.Processor = both (both (one_stable (op.Push (pos 0))
 made_stable : {B : Laid → ℕ → ℕ → Type 0} → (line c r : ℕ) → Stable B → Stable (λ code. Both (One code (op.Make c r) line) (Both (One code (op.BindMade c r) line) (B code)))
 made_stable line c r b = both (one_stable (op.Make c r) line) (both (one_stable (op.BindMade c r) line) b)
 
-pub called_stable : (line : ℕ) (ms : List Mark) (m : Manner) (written : Bool) (r : ℕ) → Stable (λ code. CalledAt code line ms m written r)
+pub called_stable : (line : ℕ) (ms : List CodeMark) (m : Manner) (written : Bool) (r : ℕ) → Stable (λ code. CalledAt code line ms m written r)
 called_stable line ms manner.Plain true r = both nothing_stable (both (one_stable op.Tick line) (risk_stable ms (op.CallOn r) line))
 called_stable line ms manner.Plain false r = calls_behind_stable ms r line
 called_stable line ms (manner.Makes c) true r = both nothing_stable (both (one_stable op.Tick line) (made_stable line c r (risk_stable ms (op.CallOn r) line)))
@@ -97,17 +97,17 @@ called_stable line ms manner.Ends false r = both (one_stable (op.Enter DESTRUCTO
 called_stable line ms (manner.Opens of) written r = opened_stable line of
 called_stable line ms (manner.Closes of) written r = one_stable (close_op of) line
 
-pub call_stable : (line : ℕ) (what : ObjectCall) (ms : List Mark) → Stable (λ code. CallAt code line what ms)
+pub call_stable : (line : ℕ) (what : ObjectCall) (ms : List CodeMark) → Stable (λ code. CallAt code line what ms)
 call_stable line what ms = both (found_stable line what.manner what.spot what.array) (called_stable line ms what.manner what.written what.routine)
 
-pub done_stable : (line : ℕ) (what : ObjectCall) (ms : List Mark) → Stable (λ code. CallDone code line what ms)
+pub done_stable : (line : ℕ) (what : ObjectCall) (ms : List CodeMark) → Stable (λ code. CallDone code line what ms)
 done_stable line what ms = both (call_stable line what ms) (one_stable op.Discard line)
 
-pub clean_by_stable : (line : ℕ) (o : Option Array) (what : ObjectCall) (ms : List Mark) → Stable (λ code. CleanBy code line o what ms)
+pub clean_by_stable : (line : ℕ) (o : Option Array) (what : ObjectCall) (ms : List CodeMark) → Stable (λ code. CleanBy code line o what ms)
 clean_by_stable line None what ms = done_stable line what ms
 clean_by_stable line (Some x) what ms = elements_stable line ms x.length x.length op.Sweep op.Sweep (λ code ns. CallDone code line what ns) (λ code ns. CallDone code line what ns) (λ ns. done_stable line what ns) (λ ns. done_stable line what ns)
 
-pub clean_stable : (line : ℕ) (what : Cleaning) (ms : List Mark) → Stable (λ code. CleanAt code line what ms)
+pub clean_stable : (line : ℕ) (what : Cleaning) (ms : List CodeMark) → Stable (λ code. CleanAt code line what ms)
 clean_stable line (cleaning.Call what) ms = clean_by_stable line what.array what ms
 clean_stable line cleaning.TakeDown ms = one_stable op.UnwindCoroutine line
 clean_stable line cleaning.Forget ms = one_stable op.Forget line
@@ -119,12 +119,12 @@ clean_stable line (cleaning.Restore cell) ms = one_stable (op.Restore cell) line
 
 -- how long they are
 
-place_is : (code : Laid) (line : ℕ) (s : Spot) (o : Option Array) (a z : ℕ) → SpotAt code line s o a z → z ≡ a + place_length o
+place_is : (code : Laid) (line : ℕ) (s : ObjectSpot) (o : Option Array) (a z : ℕ) → SpotAt code line s o a z → z ≡ a + place_length o
 place_is code line s None a z h = h.end
 place_is code line s (Some x) a z h = let e = h.first.end in let f = h.second.first.end in let g = h.second.second.end in omega arith
 
 -- how the object is found and how its routine is called take this together
-pub call_is : (code : Laid) (line : ℕ) (ms : List Mark) (m : Manner) (s : Spot) (o : Option Array) (written : Bool) (r a b z : ℕ) → FoundAt code line m s o a b → CalledAt code line ms m written r b z → z ≡ a + (place_length o + manner_length m written)
+pub call_is : (code : Laid) (line : ℕ) (ms : List CodeMark) (m : Manner) (s : ObjectSpot) (o : Option Array) (written : Bool) (r a b z : ℕ) → FoundAt code line m s o a b → CalledAt code line ms m written r b z → z ≡ a + (place_length o + manner_length m written)
 call_is code line ms manner.Plain s o true r a b z f h =
     let p = place_is code line s o a b f in
     let e = h.first.end in
@@ -177,13 +177,13 @@ call_is code line ms (manner.Closes of) s o written r a b z f h =
     let e = h.end in
     omega arith
 
-pub done_is : (code : Laid) (line : ℕ) (what : ObjectCall) (ms : List Mark) (a z : ℕ) → CallDone code line what ms a z → z ≡ a + done_length what
+pub done_is : (code : Laid) (line : ℕ) (what : ObjectCall) (ms : List CodeMark) (a z : ℕ) → CallDone code line what ms a z → z ≡ a + done_length what
 done_is code line what ms a z h =
     let c = call_is code line ms what.manner what.spot what.array what.written what.routine a h.first.middle h.middle h.first.first h.first.second in
     let e = h.second.end in
     omega arith
 
-elements_are : (code : Laid) (line n : ℕ) (what : ObjectCall) (ms : List Mark) (a z : ℕ) → OverElements code line ms n n op.Sweep op.Sweep (CallDone code line what) (CallDone code line what) a z → z ≡ a + (2 * done_length what + 5)
+elements_are : (code : Laid) (line n : ℕ) (what : ObjectCall) (ms : List CodeMark) (a z : ℕ) → OverElements code line ms n n op.Sweep op.Sweep (CallDone code line what) (CallDone code line what) a z → z ≡ a + (2 * done_length what + 5)
 elements_are code line n what ms a z h =
     let p = done_is code line what (mark.Elements h.row ∷ ms) (a + 1) h.test h.rounds.turn in
     let q = done_is code line what (mark.Elements h.row ∷ ms) (h.test + 2) h.entry h.undoes.turn in
@@ -191,12 +191,12 @@ elements_are code line n what ms a z h =
     let u = h.unwind.end in
     omega arith
 
-clean_by_is : (code : Laid) (line : ℕ) (o : Option Array) (what : ObjectCall) (ms : List Mark) (a z : ℕ) → CleanBy code line o what ms a z → z ≡ a + clean_by o what
+clean_by_is : (code : Laid) (line : ℕ) (o : Option Array) (what : ObjectCall) (ms : List CodeMark) (a z : ℕ) → CleanBy code line o what ms a z → z ≡ a + clean_by o what
 clean_by_is code line None what ms a z h = done_is code line what ms a z h
 clean_by_is code line (Some x) what ms a z h = elements_are code line x.length what ms a z h
 
 -- where a clean-up ends
-pub clean_is : (code : Laid) (line : ℕ) (what : Cleaning) (ms : List Mark) (a z : ℕ) → CleanAt code line what ms a z → z ≡ a + clean_length what
+pub clean_is : (code : Laid) (line : ℕ) (what : Cleaning) (ms : List CodeMark) (a z : ℕ) → CleanAt code line what ms a z → z ≡ a + clean_length what
 clean_is code line (cleaning.Call what) ms a z h = clean_by_is code line what.array what ms a z h
 clean_is code line cleaning.TakeDown ms a z h = h.end
 clean_is code line cleaning.Forget ms a z h = h.end
@@ -214,7 +214,7 @@ puts_behind r line old new l h = puts_as h (λ code a z k. record { risk = k; be
 
 pub puts_call : (line : ℕ) (what : ObjectCall) (old mid new : Draft) → Puts 4 (λ code. FoundAt code line what.manner what.spot what.array) old mid → Puts 4 (λ code. CalledAt code line mid.marks what.manner what.written what.routine) mid new → Puts 8 (λ code. CallAt code line what old.marks) old new
 puts_call line what old mid new p q =
-    let r : Puts 4 (λ code. CalledAt code line old.marks what.manner what.written what.routine) mid new = subst (λ (ms : List Mark). Puts 4 (λ code. CalledAt code line ms what.manner what.written what.routine) mid new) (marks_of p) q in
+    let r : Puts 4 (λ code. CalledAt code line old.marks what.manner what.written what.routine) mid new = subst (λ (ms : List CodeMark). Puts 4 (λ code. CalledAt code line ms what.manner what.written what.routine) mid new) (marks_of p) q in
     puts_both (found_stable line what.manner what.spot what.array) p r
 
 pub puts_done : (line : ℕ) (what : ObjectCall) (old mid new : Draft) → Puts 8 (λ code. CallAt code line what old.marks) old mid → Puts 1 (λ code. One code op.Discard line) mid new → Puts 9 (λ code. CallDone code line what old.marks) old new
@@ -222,7 +222,7 @@ puts_done line what old mid new p q = puts_both (call_stable line what old.marks
 
 pub puts_written : (line r : ℕ) (old mid new : Draft) → Puts 1 (λ code. One code op.Tick line) old mid → Puts 1 (λ code. Risk code mid.marks (op.CallOn r) line) mid new → Puts 2 (λ code. CalledAt code line old.marks manner.Plain true r) old new
 puts_written line r old mid new p q =
-    let s : Puts 1 (λ code. Risk code old.marks (op.CallOn r) line) mid new = subst (λ (ms : List Mark). Puts 1 (λ code. Risk code ms (op.CallOn r) line) mid new) (marks_of p) q in
+    let s : Puts 1 (λ code. Risk code old.marks (op.CallOn r) line) mid new = subst (λ (ms : List CodeMark). Puts 1 (λ code. Risk code ms (op.CallOn r) line) mid new) (marks_of p) q in
     puts_as (puts_both (one_stable op.Tick line) p s) (λ code a z h. record { middle = a; first = record { end = refl }; second = h })
 
 -- how an object is found, and its routine called, by the manner
@@ -238,14 +238,14 @@ puts_by {n} {k} line r m w v old new e l p = subst (λ (x : Bool). Puts k (λ co
 
 -- one op behind others, under the marks with which they began
 pub puts_risk_behind : {n : ℕ} {S : Laid → ℕ → ℕ → Type 0} (o : Op) (line : ℕ) (old mid new : Draft) → Puts n S old mid → Puts 1 (λ code. Risk code mid.marks o line) mid new → Puts 1 (λ code. Risk code old.marks o line) mid new
-puts_risk_behind o line old mid new p q = subst (λ (ms : List Mark). Puts 1 (λ code. Risk code ms o line) mid new) (marks_of p) q
+puts_risk_behind o line old mid new p q = subst (λ (ms : List CodeMark). Puts 1 (λ code. Risk code ms o line) mid new) (marks_of p) q
 
 -- a clean-up
 
 pub puts_clean : {n : ℕ} (line : ℕ) (what w : Cleaning) (old new : Draft) → what ≡ w → n ≤ 23 → Puts n (λ code. CleanAt code line w old.marks) old new → Puts 23 (λ code. CleanAt code line what old.marks) old new
 puts_clean {n} line what w old new e l p = subst (λ (x : Cleaning). Puts 23 (λ code. CleanAt code line x old.marks) old new) (sym e) (puts_more l p)
 
-pub calls_behind : (ms : List Mark) (what : Cleaning) (call : ObjectCall) → what ≡ cleaning.Call call → CleansBehind ms what → StandsBehind ms call
+pub calls_behind : (ms : List CodeMark) (what : Cleaning) (call : ObjectCall) → what ≡ cleaning.Call call → CleansBehind ms what → StandsBehind ms call
 calls_behind ms what call e b = subst (λ (x : Cleaning). CleansBehind ms x) e b
 
 -- a handler keeps its event
@@ -258,7 +258,7 @@ puts_kept line k d0 d1 d2 d3 p q r = puts_both (keep_stable line (k + 2)) p (put
 
 -- events are delivered
 
-poll_of : (code : Laid) (ms : List Mark) (line e b a z : ℕ) → b ≡ a → e ≡ a + 4 → Both (One code (op.Poll e) line) (Both (Risk code ms (op.Deliver e) line) (Both (One code op.Discard line) (One code (op.Jump b) line))) a z → PollAt code ms line a z
+poll_of : (code : Laid) (ms : List CodeMark) (line e b a z : ℕ) → b ≡ a → e ≡ a + 4 → Both (One code (op.Poll e) line) (Both (Risk code ms (op.Deliver e) line) (Both (One code op.Discard line) (One code (op.Jump b) line))) a z → PollAt code ms line a z
 poll_of code ms line e b a z f g h =
     let i = h.first.end in
     let j = h.second.first.end in
@@ -281,13 +281,13 @@ poll_of code ms line e b a z f g h =
 
 pub puts_poll : (line e b : ℕ) (d0 d1 d2 d3 d4 : Draft) → b ≡ length d0.ops → e ≡ length d0.ops + 4 → Puts 1 (λ code. One code (op.Poll e) line) d0 d1 → Puts 1 (λ code. Risk code d1.marks (op.Deliver e) line) d1 d2 → Puts 1 (λ code. One code op.Discard line) d2 d3 → Puts 1 (λ code. One code (op.Jump b) line) d3 d4 → Puts 4 (λ code. PollAt code d0.marks line) d0 d4
 puts_poll line e b d0 d1 d2 d3 d4 f g p q r s =
-    let t : Puts 1 (λ code. Risk code d0.marks (op.Deliver e) line) d1 d2 = subst (λ (ms : List Mark). Puts 1 (λ code. Risk code ms (op.Deliver e) line) d1 d2) (marks_of p) q in
+    let t : Puts 1 (λ code. Risk code d0.marks (op.Deliver e) line) d1 d2 = subst (λ (ms : List CodeMark). Puts 1 (λ code. Risk code ms (op.Deliver e) line) d1 d2) (marks_of p) q in
     let all = puts_both (one_stable (op.Poll e) line) p (puts_both (risk_stable d0.marks (op.Deliver e) line) t (puts_both (one_stable op.Discard line) r s)) in
     record { rest = all.rest; kept = all.kept; room = all.room; code = poll_of (laid_in d4) d0.marks line e b (length d0.ops) (length d4.ops) f g all.code }
 
 -- a mutex call leaves its object
 
-leave_of : (code : Laid) (ms : List Mark) (line e a z : ℕ) → e ≡ a + 5 → Both (One code (op.Leave e) line) (PollAt code ms line) a z → LeavesAt code ms line a z
+leave_of : (code : Laid) (ms : List CodeMark) (line e a z : ℕ) → e ≡ a + 5 → Both (One code (op.Leave e) line) (PollAt code ms line) a z → LeavesAt code ms line a z
 leave_of code ms line e a z f h =
     let i = h.first.end in
     let j = h.second.end in
@@ -299,10 +299,10 @@ leave_of code ms line e a z f h =
 
 pub puts_leave : (line e : ℕ) (d0 d1 d2 : Draft) → e ≡ length d0.ops + 5 → Puts 1 (λ code. One code (op.Leave e) line) d0 d1 → Puts 4 (λ code. PollAt code d1.marks line) d1 d2 → Puts 5 (λ code. LeavesAt code d0.marks line) d0 d2
 puts_leave line e d0 d1 d2 f p q =
-    let r : Puts 4 (λ code. PollAt code d0.marks line) d1 d2 = subst (λ (ms : List Mark). Puts 4 (λ code. PollAt code ms line) d1 d2) (marks_of p) q in
+    let r : Puts 4 (λ code. PollAt code d0.marks line) d1 d2 = subst (λ (ms : List CodeMark). Puts 4 (λ code. PollAt code ms line) d1 d2) (marks_of p) q in
     let all = puts_both (one_stable (op.Leave e) line) p r in
     record { rest = all.rest; kept = all.kept; room = all.room; code = leave_of (laid_in d2) d0.marks line e (length d0.ops) (length d2.ops) f all.code }
 
 -- a call is of a routine further on also in a draft with the same marks
 pub behind_stays : {n : ℕ} {S : Laid → ℕ → ℕ → Type 0} {old new : Draft} → (what : ObjectCall) → StandsBehind old.marks what → Puts n S old new → StandsBehind new.marks what
-behind_stays what b p = subst (λ (ms : List Mark). StandsBehind ms what) (sym (marks_of p)) b
+behind_stays what b p = subst (λ (ms : List CodeMark). StandsBehind ms what) (sym (marks_of p)) b

@@ -3,8 +3,8 @@ use Rattle.std.proofs.Common.{◌≡◌, ℕ, ◌+◌, ◌^◌, ◌<◌, List, �
 use Rattle.uc_code.specs.declared.op.Op.TheVariants as op
 use Rattle.uc_code.specs.declared.rows.Instruction.{Instruction}
 use Rattle.uc_code.specs.declared.rows.HandlerRow.{HandlerRow}
-use Rattle.uc_code.specs.declared.rows.Mark.{Mark}
-use Rattle.uc_code.specs.declared.rows.Mark.TheVariants as mark
+use Rattle.uc_code.specs.declared.rows.CodeMark.{CodeMark}
+use Rattle.uc_code.specs.declared.rows.CodeMark.TheVariants as mark
 use Rattle.uc_code.specs.declared.rows.ObjectCall.{ObjectCall}
 use Rattle.uc_code.specs.declared.rows.Opening.{Opening}
 use Rattle.uc_code.specs.declared.rows.Opening.TheVariants as opening
@@ -18,7 +18,7 @@ use Rattle.uc_code.proofs.Stable.{kept_then, kept_piece}
 use Rattle.uc_code.proofs.Putting.{done_stable, done_is, marks_of}
 
 -- a draft with other ops, rows and marks
-abbrev pub with_parts : List Instruction → List HandlerRow → ℕ → List Mark → Draft → Draft
+abbrev pub with_parts : List Instruction → List HandlerRow → ℕ → List CodeMark → Draft → Draft
 with_parts ops rows settled ms d = record d { ops = ops; rows = rows; settled = settled; marks = ms }
 
 abbrev pub Like : Draft → Draft → Type 0
@@ -28,7 +28,7 @@ like_then : (a b c : Draft) → Like a b → Like b c → Like a c
 like_then a b c h k = k ∙ ap (λ d. with_parts c.ops c.rows c.settled c.marks d) h
 
 pub like_puts : {n : ℕ} {S : Laid → ℕ → ℕ → Type 0} → (a b c : Draft) → Like a b → Puts n S b c → Like a c
-like_puts a b c h p = let m = marks_of p in like_then a b c h (p.rest ∙ ap (λ (ms : List Mark). let d : Draft = with_parts c.ops c.rows c.settled ms b in d) (sym m))
+like_puts a b c h p = let m = marks_of p in like_then a b c h (p.rest ∙ ap (λ (ms : List CodeMark). let d : Draft = with_parts c.ops c.rows c.settled ms b in d) (sym m))
 
 pub like_opened : (o : Opening) (a b c : Draft) → Like a b → c ≡ opened o b → Like a c
 like_opened o a b c h e = like_then a b c h (subst (λ (d : Draft). Like b d) (sym e) refl)
@@ -41,7 +41,7 @@ pub like_closed : (ahead : ℕ) (a b c : Draft) → Like a b → c ≡ closed ah
 like_closed ahead a b c h e = like_then a b c h (subst (λ (d : Draft). Like b d) (sym e) (closed_like (row_in b.marks) (entry_in b.marks (length b.ops + ahead)) b))
 
 pub like_rest : (a b : Draft) → Like a b → b.marks ≡ a.marks → b ≡ record a { ops = b.ops; rows = b.rows; settled = b.settled }
-like_rest a b h m = h ∙ ap (λ (ms : List Mark). let d : Draft = with_parts b.ops b.rows b.settled ms a in d) m
+like_rest a b h m = h ∙ ap (λ (ms : List CodeMark). let d : Draft = with_parts b.ops b.rows b.settled ms a in d) m
 
 ops_closed : (r : Option ℕ) (entry : ℕ) (b : Draft) → (closed_by r entry b).ops ≡ b.ops
 ops_closed None entry b = refl
@@ -63,17 +63,17 @@ module _ (line n start test entry : ℕ) (few : n < 2 ^ 32) (what : ObjectCall) 
     (p6 : Puts 9 (λ code. CallDone code line what d5.marks) d5 d6) (c7 : d7 ≡ closed 0 d6) (k7 : Kept (laid_in d6) (laid_in d7)) (h7 : (row : ℕ) → handler_in d6.marks ≡ Some row → HandlerAt (laid_in d7) row (clean_up (length d6.ops + 0)))
     (p8 : Puts 1 (λ code. One code (op.Sweep (test + 2)) line) d7 d8) (p9 : Puts 1 (λ code. Risk code d8.marks op.Unwind line) d8 d9)
     (st : start ≡ length d0.ops) (te : test ≡ start + 1 + done_length what) (en : entry ≡ test + 2 + done_length what) where
-  abbrev ms : List Mark
+  abbrev ms : List CodeMark
   ms = d0.marks
 
   abbrev row : ℕ
   row = length d1.rows
 
-  abbrev ns : List Mark
+  abbrev ns : List CodeMark
   ns = mark.Elements row ∷ ms
 
   marks2 : d2.marks ≡ ns
-  marks2 = ap (λ (d : Draft). d.marks) o2 ∙ ap (λ (l : List Mark). mark.Elements row ∷ l) (marks_of p1)
+  marks2 = ap (λ (d : Draft). d.marks) o2 ∙ ap (λ (l : List CodeMark). mark.Elements row ∷ l) (marks_of p1)
 
   marks5 : d5.marks ≡ ns
   marks5 = marks_of p5 ∙ (marks_of p4 ∙ (marks_of p3 ∙ marks2))
@@ -82,7 +82,7 @@ module _ (line n start test entry : ℕ) (few : n < 2 ^ 32) (what : ObjectCall) 
   marks6 = marks_of p6 ∙ marks5
 
   marks7 : d7.marks ≡ ms
-  marks7 = closed_marks 0 row d6 d7 c7 (ap row_in marks6) ∙ ap (λ (l : List Mark). drop 1 l) marks6
+  marks7 = closed_marks 0 row d6 d7 c7 (ap row_in marks6) ∙ ap (λ (l : List CodeMark). drop 1 l) marks6
 
   marks8 : d8.marks ≡ ms
   marks8 = marks_of p8 ∙ marks7

@@ -3,8 +3,8 @@ use Rattle.std.specs.Prelude.{◌≡◌, ℕ, ◌+◌, ◌*◌, ◌≤◌, lengt
 use Rattle.uc_code.specs.declared.op.Op.{Op}
 use Rattle.uc_code.specs.declared.op.Op.TheVariants as op
 use Rattle.uc_code.specs.declared.rows.Array.{Array}
-use Rattle.uc_code.specs.declared.rows.Mark.{Mark}
-use Rattle.uc_code.specs.declared.rows.Mark.TheVariants as mark
+use Rattle.uc_code.specs.declared.rows.CodeMark.{CodeMark}
+use Rattle.uc_code.specs.declared.rows.CodeMark.TheVariants as mark
 use Rattle.uc_code.specs.declared.rows.Resource.TheVariants as resource
 use Rattle.uc_code.specs.declared.rows.Manner.{Manner}
 use Rattle.uc_code.specs.declared.rows.Manner.TheVariants as manner
@@ -86,7 +86,7 @@ end_op way.Value = op.ReturnValue
 end_op way.End = op.ReturnNone
 
 -- the op with which a mark ends a way, and its line, where it does
-abbrev pub ends_at : Way → Mark → ℕ → Option (Op × ℕ)
+abbrev pub ends_at : Way → CodeMark → ℕ → Option (Op × ℕ)
 ends_at w (mark.Body routine) line = Some (end_op w, 0)
 ends_at w (mark.Finish main routine last row) line = Some (main_end main, last)
 ends_at way.Break (mark.Loop leave again) line = Some (op.Jump leave, line)
@@ -105,29 +105,29 @@ pub record PutsLeft (what : Cleaning) (row line : ℕ) (old new : Draft) : Type 
   pub rest : new ≡ record old { ops = new.ops; rows = new.rows; settled = new.settled }
   pub kept : Kept (laid_in old) (laid_in new)
   pub room : length new.ops ≤ length old.ops + clean_room
-  pub code : (ms : List Mark) → handlers ms ≡ under row (handlers old.marks) → routine_in ms ≡ routine_in old.marks → CleanAt (laid_in new) line what ms (length old.ops) (length new.ops)
+  pub code : (ms : List CodeMark) → handlers ms ≡ under row (handlers old.marks) → routine_in ms ≡ routine_in old.marks → CleanAt (laid_in new) line what ms (length old.ops) (length new.ops)
 
 -- what a mark needs that is left on the way: an object is cleaned up in whose scope the way stands
 
-abbrev pub past_room : Mark → ℕ
+abbrev pub past_room : CodeMark → ℕ
 past_room (mark.Clean what line row) = clean_room
 past_room _ = 0
 
-abbrev pub PastBehind : Mark → List Mark → Type 0
+abbrev pub PastBehind : CodeMark → List CodeMark → Type 0
 PastBehind (mark.Clean what line row) ms = CleansBehind ms what
 PastBehind _ ms = Unit {0}
 
 -- what leaving it does to a draft
-abbrev pub PutsPast : Mark → Draft → Draft → Type 0
+abbrev pub PutsPast : CodeMark → Draft → Draft → Type 0
 PutsPast (mark.Clean what line row) old new = PutsLeft what row line old new
 PutsPast _ old new = new ≡ old
 
 -- the marks that are left when all but the outermost ones are passed, so many
-abbrev pub outermost : ℕ → List Mark → List Mark
+abbrev pub outermost : ℕ → List CodeMark → List CodeMark
 outermost n ms = reverse (take n (reverse ms))
 
 -- what is left of an exit: its ops so far lead to those of the marks that are left
-pub record Leaves (w : source.Way) (old now : Draft) (rest : List Mark) : Type 0 where
+pub record Leaves (w : source.Way) (old now : Draft) (rest : List CodeMark) : Type 0 where
   pub same : now ≡ record old { ops = now.ops; rows = now.rows; settled = now.settled }
   pub kept : Kept (laid_in old) (laid_in now)
   pub room : length now.ops + exit_room rest ≤ length old.ops + exit_room old.marks

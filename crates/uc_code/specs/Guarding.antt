@@ -1,6 +1,6 @@
 -- What opening and closing the rows of a guarded block does to a draft.
 use Rattle.std.specs.Prelude.{◌≡◌, ℕ, ◌+◌, ◌<◌, List, length}
-use Rattle.uc_code.specs.declared.rows.Mark.{Mark}
+use Rattle.uc_code.specs.declared.rows.CodeMark.{CodeMark}
 use Rattle.uc_code.specs.Drafts.{Draft}
 use Rattle.uc_code.specs.Layout.{guards, laid_in}
 use Rattle.uc_code.specs.CodeShapes.{IsBare, Kept}
@@ -12,7 +12,7 @@ pub record OpensGuards (count : ℕ) (old new : Draft) : Type 0 where
   pub more : length new.rows ≡ length old.rows + count
 
 -- what comes next stands behind it, under these marks, and its handlers are still to be laid out
-pub record ClosesGuards (first count : ℕ) (ms : List Mark) (old new : Draft) : Type 0 where
+pub record ClosesGuards (first count : ℕ) (ms : List CodeMark) (old new : Draft) : Type 0 where
   pub rest : new ≡ record old { rows = new.rows; settled = new.settled; marks = ms }
   pub kept : Kept (laid_in old) (laid_in new)
   pub bare : (k : ℕ) → k < count → IsBare (laid_in new) (first + k)

@@ -15,7 +15,7 @@ ghost use Rattle.uc_code.specs.Emits.{Puts, PutsLeft, PastBehind, PutsPast, past
 use crate::draft::Draft;
 use crate::op::Op;
 use crate::raising::put_poll;
-use crate::rows::{Array, Cleaning, Manner, Mark, ObjectCall, Opening, Resource, Spot, Way};
+use crate::rows::{Array, Cleaning, Manner, CodeMark, ObjectCall, Opening, Resource, ObjectSpot, Way};
 use std::alloc::AllocError;
 use uc_tree::limits::DESTRUCTOR;
 
@@ -38,17 +38,17 @@ pub(crate) fn put_at_risk(op: Op, line: u32, out: &mut Draft) -> Result<(), Allo
 }
 
 // Where an object begins.
-fn spot_op(spot: Spot) -> Op
+fn spot_op(spot: ObjectSpot) -> Op
     ensures { result ≡ spot_op spot }
 {
     match spot {
-        Spot::Local(cell) => Op::Local(cell),
-        Spot::This(cell) => Op::This(cell),
+        ObjectSpot::Local(cell) => Op::Local(cell),
+        ObjectSpot::This(cell) => Op::This(cell),
     }
 }
 
 // The element that is counted.
-fn put_element(spot: Spot, array: Array, line: u32, out: &mut Draft) -> Result<(), AllocError>
+fn put_element(spot: ObjectSpot, array: Array, line: u32, out: &mut Draft) -> Result<(), AllocError>
     requires { length out.old.ops + 3 ≤ PROGRAM_OPS }
     ensures { OnOk result (Puts 3 (λ code. SpotAt code line spot (Some array)) out.old out.new) }
 {
@@ -66,7 +66,7 @@ fn put_element(spot: Spot, array: Array, line: u32, out: &mut Draft) -> Result<(
 }
 
 // Where the object lies, or the element that is counted.
-fn put_place(spot: Spot, array: Option<Array>, line: u32, out: &mut Draft) -> Result<(), AllocError>
+fn put_place(spot: ObjectSpot, array: Option<Array>, line: u32, out: &mut Draft) -> Result<(), AllocError>
     requires { length out.old.ops + 3 ≤ PROGRAM_OPS }
     ensures { OnOk result (Puts 3 (λ code. SpotAt code line spot array) out.old out.new) }
 {
@@ -84,7 +84,7 @@ fn put_place(spot: Spot, array: Option<Array>, line: u32, out: &mut Draft) -> Re
 
 // The number that stands there.
 fn put_number(
-    spot: Spot,
+    spot: ObjectSpot,
     array: Option<Array>,
     line: u32,
     out: &mut Draft,
@@ -496,24 +496,24 @@ fn end_op(way: Way) -> Op
 }
 
 // How a way out ends at a mark, where it does: its last op, and the line of that.
-fn ends_at(way: Way, mark: Mark, line: u32) -> Option<(Op, u32)>
+fn ends_at(way: Way, mark: CodeMark, line: u32) -> Option<(Op, u32)>
     ensures { result ≡ ends_at way mark line }
 {
     match mark {
-        Mark::Body { .. } => Some((end_op(way), 0)),
-        Mark::Finish { main, line, .. } => Some((main.end(), line)),
-        Mark::Loop { leave, again } => match way {
+        CodeMark::Body { .. } => Some((end_op(way), 0)),
+        CodeMark::Finish { main, line, .. } => Some((main.end(), line)),
+        CodeMark::Loop { leave, again } => match way {
             Way::Break => Some((Op::Jump(leave), line)),
             Way::Continue => Some((Op::Jump(again), line)),
             Way::Value => None,
             Way::End => None,
         },
-        Mark::Whole { leave, .. } => Some((Op::Jump(leave), line)),
-        Mark::Guard { .. } => None,
-        Mark::Clean { .. } => None,
-        Mark::Part { .. } => None,
-        Mark::Elements { .. } => None,
-        Mark::Outward { .. } => Some((end_op(way), 0)),
+        CodeMark::Whole { leave, .. } => Some((Op::Jump(leave), line)),
+        CodeMark::Guard { .. } => None,
+        CodeMark::Clean { .. } => None,
+        CodeMark::Part { .. } => None,
+        CodeMark::Elements { .. } => None,
+        CodeMark::Outward { .. } => Some((end_op(way), 0)),
     }
 }
 
@@ -530,24 +530,24 @@ fn put_left(what: Cleaning, row: u32, line: u32, out: &mut Draft) -> Result<(), 
 }
 
 // A mark is left on the way out.
-fn put_past(mark: Mark, out: &mut Draft) -> Result<(), AllocError>
+fn put_past(mark: CodeMark, out: &mut Draft) -> Result<(), AllocError>
     requires room { length out.old.ops + past_room mark ≤ PROGRAM_OPS }
     requires behind { PastBehind mark out.old.marks }
     ensures { OnOk result (PutsPast mark out.old out.new) }
 {
     match mark {
-        Mark::Body { .. } => Ok(()),
-        Mark::Finish { .. } => Ok(()),
-        Mark::Loop { .. } => Ok(()),
-        Mark::Whole { .. } => Ok(()),
-        Mark::Guard { .. } => Ok(()),
-        Mark::Clean { what, line, row } => {
+        CodeMark::Body { .. } => Ok(()),
+        CodeMark::Finish { .. } => Ok(()),
+        CodeMark::Loop { .. } => Ok(()),
+        CodeMark::Whole { .. } => Ok(()),
+        CodeMark::Guard { .. } => Ok(()),
+        CodeMark::Clean { what, line, row } => {
             put_left(what, row, line, out)?;
             Ok(())
         }
-        Mark::Part { .. } => Ok(()),
-        Mark::Elements { .. } => Ok(()),
-        Mark::Outward { .. } => Ok(()),
+        CodeMark::Part { .. } => Ok(()),
+        CodeMark::Elements { .. } => Ok(()),
+        CodeMark::Outward { .. } => Ok(()),
     }
 }
 

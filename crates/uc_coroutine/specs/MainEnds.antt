@@ -1,8 +1,8 @@
 -- The ends of blocks that are left as a whole, and of mains, where they are unwound.
 use Rattle.std.specs.Prelude.{◌≡◌, ℕ, List, [], ◌∷◌, Option, Some, Bool, true, false}
 use Rattle.uc_tree.specs.Source.{Source}
-use Rattle.uc_machine.specs.declared.exec.Reason.{Reason}
-use Rattle.uc_machine.specs.declared.exec.Reason.TheVariants as reason
+use Rattle.uc_machine.specs.declared.exec.UnwindReason.{UnwindReason}
+use Rattle.uc_machine.specs.declared.exec.UnwindReason.TheVariants as reason
 use Rattle.uc_entry.specs.declared.fault.RunFault.TheVariants as fault
 use Rattle.uc_entry.specs.Faults.{fault_number}
 use Rattle.uc_entry.specs.declared.request.Request.TheVariants as ask
@@ -10,7 +10,7 @@ use Rattle.uc_machine.specs.Executions.{calmed}
 use Rattle.uc_machine.specs.Quiet.{State, Asks, quiet, Quietly, line_of}
 use Rattle.uc_code.specs.Layout.{Laid}
 use Rattle.uc_frames.specs.Objects.{arrived_at}
-use Rattle.uc_frames.specs.Machine.{Active, Machine, cell_of, nought}
+use Rattle.uc_frames.specs.Machine.{Activation, Machine, cell_of, nought}
 use Rattle.uc_frames.specs.Calls.{left}
 use Rattle.uc_frames.specs.StandsByParts.{Numbered, MembersStand}
 use Rattle.uc_frames.specs.Stands.{RunStands, CallerStands, Stands}
@@ -30,20 +30,20 @@ abbrev pub call_over : Bool → ℕ → ℕ → Machine → Machine
 call_over true arrived behind m = record m { run = arrived_at arrived m.run }
 call_over false arrived behind m = record m { run = record m.run { control = behind } }
 
-abbrev pub is_return : Option Reason → Bool
+abbrev pub is_return : Option UnwindReason → Bool
 is_return (Some (reason.ReturnTo home)) = true
 is_return _ = false
 
-abbrev pub ended_by : List Active → TaskMainEnd
+abbrev pub ended_by : List Activation → TaskMainEnd
 ended_by [] = Ended
 ended_by (c ∷ cs) = Returned
 
 -- where the task is held up in its own object, or is not
-abbrev pub returned_by : Bool → List Active → TaskMainEnd
+abbrev pub returned_by : Bool → List Activation → TaskMainEnd
 returned_by true cs = HeldUp
 returned_by false cs = ended_by cs
 
-abbrev pub main_by : Bool → Option Reason → List Active → TaskMainEnd
+abbrev pub main_by : Bool → Option UnwindReason → List Activation → TaskMainEnd
 main_by held (Some (reason.ReturnTo home)) cs = returned_by held cs
 main_by held _ cs = Unhandled
 

@@ -1,7 +1,7 @@
 -- What a machine is once the handler of an event has begun.
 use Rattle.std.specs.Prelude.{◌≡◌, ℕ, List, ◌∷◌, Option, Some, None, slice_get}
 use Rattle.uc_tree.specs.Source.{Source}
-use Rattle.uc_machine.specs.declared.exec.Reason.{Reason}
+use Rattle.uc_machine.specs.declared.exec.UnwindReason.{UnwindReason}
 use Rattle.uc_machine.specs.Executions.{at_depth}
 use Rattle.uc_machine.specs.Quiet.{State, Goes, quiet, Quietly}
 use Rattle.uc_machine.specs.Raising.{home_of}
@@ -10,8 +10,8 @@ use Rattle.uc_code.specs.declared.rows.RowKind.{RowKind}
 use Rattle.uc_code.specs.declared.rows.RowKind.TheVariants as kind
 use Rattle.uc_code.specs.Layout.{Laid}
 use Rattle.uc_frames.specs.declared.event.Event.{Event}
-use Rattle.uc_frames.specs.declared.event.Handling.{Handling}
-use Rattle.uc_frames.specs.Machine.{Active, Machine}
+use Rattle.uc_frames.specs.declared.event.HandlerStart.{HandlerStart}
+use Rattle.uc_frames.specs.Machine.{Activation, Machine}
 use Rattle.uc_frames.specs.Stands.{Stands}
 use Rattle.uc_frames.specs.Unwinding.{unwound_by, catching, handled}
 use Rattle.uc_frames.specs.UnwindingStands.{Unwinds}
@@ -19,7 +19,7 @@ use Rattle.uc_except.specs.declared.found.Found.{Found}
 use Rattle.uc_except.specs.declared.found.Found.TheVariants.{Handler, None as Nowhere}
 
 -- a handler of resumptions uses what the activation uses in which it stands
-abbrev pub handling_of : HandlerRow → ℕ → Event → Active → Handling
+abbrev pub handling_of : HandlerRow → ℕ → Event → Activation → HandlerStart
 handling_of r frame e a = record {
   entry = r.entry;
   this = a.this;
@@ -28,7 +28,7 @@ handling_of r frame e a = record {
   event = e;
 }
 
-abbrev pub resumed_by : Option Active → HandlerRow → ℕ → Event → Machine → Machine
+abbrev pub resumed_by : Option Activation → HandlerRow → ℕ → Event → Machine → Machine
 resumed_by None r frame e m = m
 resumed_by (Some a) r frame e m = handled (handling_of r frame e a) m
 
@@ -47,7 +47,7 @@ handler_begun rows Nowhere e m = m
 handler_begun rows (Handler frame row) e m = handled_at (slice_get rows row) frame e m
 
 -- an event is thrown
-abbrev pub thrown : Reason → Machine → Machine
+abbrev pub thrown : UnwindReason → Machine → Machine
 thrown why m = record m { run = unwound_by why m.run.result m.run }
 
 abbrev pub IsFound : Found → Type 0

@@ -1,13 +1,13 @@
 -- What an unwinding of one activation comes to in the source, by the row that stops it.
 use Rattle.std.specs.Prelude.{◌≡◌, ℕ, ◌+◌, List, [], ◌∷◌, Option, Some, None, false}
 use Rattle.uc_tree.specs.Source.{Source, Leaves as LeavesIt}
-use Rattle.uc_machine.specs.declared.exec.Reason.{Reason}
-use Rattle.uc_machine.specs.declared.exec.Reason.TheVariants as reason
+use Rattle.uc_machine.specs.declared.exec.UnwindReason.{UnwindReason}
+use Rattle.uc_machine.specs.declared.exec.UnwindReason.TheVariants as reason
 use Rattle.uc_machine.specs.Quiet.{Todo, Value, Active, Env, State, Quietly, IsWhole, IsClean, sort, own_line}
 use Rattle.uc_machine.specs.Pieces.{Unwind}
 use Rattle.uc_machine.specs.Raising.{Event, Handler, handler_todo, operands_of}
 use Rattle.uc_code.specs.declared.rows.MainOf.{MainOf}
-use Rattle.uc_code.specs.declared.rows.Mark.{Mark}
+use Rattle.uc_code.specs.declared.rows.CodeMark.{CodeMark}
 use Rattle.uc_code.specs.Layout.{Laid}
 use Rattle.uc_code.specs.declared.op.Op.TheVariants as op
 use Rattle.uc_code.specs.CodeShapes.{OpAt, Risk, HandlerAt, clean_up, main_left}
@@ -15,11 +15,11 @@ use Rattle.uc_code.specs.Lowered.{ArrivesAt, handler_of}
 use Rattle.uc_frames.specs.Stands.{finish_sort, FollowsAt}
 
 -- the number of the event by which it is unwound, if it is one
-abbrev pub event_by : Option Reason → Option ℕ
+abbrev pub event_by : Option UnwindReason → Option ℕ
 event_by (Some (reason.Event n x y)) = Some n
 event_by _ = None
 
-module _ (source : Source) (code : Laid) (a : Active) (cs : List Active) (env : Env) (r : Option Reason) where
+module _ (source : Source) (code : Laid) (a : Active) (cs : List Active) (env : Env) (r : Option UnwindReason) where
   -- the activation is unwound for this reason, with this to do, and all else is as it is
   abbrev pub st : List Value → List Todo → State
   st vs todo = record { run = record a { control = todo; operands = vs; raised = r }; callers = cs; env = env }
@@ -33,7 +33,7 @@ module _ (source : Source) (code : Laid) (a : Active) (cs : List Active) (env : 
     pub entry : ℕ
     pub handler : HandlerAt code row (clean_up entry)
     pub todo : List Todo
-    pub marks : List Mark
+    pub marks : List CodeMark
     pub follows : FollowsAt code todo marks entry
     pub by : Quietly source s (st [] todo)
 
@@ -44,7 +44,7 @@ module _ (source : Source) (code : Laid) (a : Active) (cs : List Active) (env : 
     pub block : Todo
     pub whole : sort block ≡ IsWhole
     pub rest : List Todo
-    pub marks : List Mark
+    pub marks : List CodeMark
     pub tests : Risk code marks op.Handled (own_line rest) entry (entry + 1)
     pub follows : FollowsAt code rest marks (entry + 1)
     pub operands : List Value
@@ -57,7 +57,7 @@ module _ (source : Source) (code : Laid) (a : Active) (cs : List Active) (env : 
     pub call : Todo
     pub leaves : sort call ≡ IsClean LeavesIt
     pub rest : List Todo
-    pub marks : List Mark
+    pub marks : List CodeMark
     pub back : ℕ
     pub pad : ArrivesAt code (own_line rest) marks entry back
     pub at : ℕ
@@ -86,7 +86,7 @@ module _ (source : Source) (code : Laid) (a : Active) (cs : List Active) (env : 
     pub handler_at : HandlerAt code row (handler_of false named rest entry)
     pub handler : Handler
     pub todo : List Todo
-    pub marks : List Mark
+    pub marks : List CodeMark
     pub follows : FollowsAt code (handler_todo handler todo) marks entry
     pub by : Quietly source s (caught event handler todo)
 

@@ -8,7 +8,7 @@ ghost use Rattle.uc_frames.specs.Objects.{arrived_at};
 ghost use Rattle.uc_frames.specs.Unwinding.{event_at, unwound_by, cleaning, catching, handler_of, operands_of};
 
 use crate::cell::{Cell, number_in};
-use crate::event::{Event, Handling, event_number};
+use crate::event::{Event, HandlerStart, event_number};
 use crate::operands::{
     drop_newest, event_operands, new_frame, push_event, put_event, put_on_many, put_on_top,
     put_on_two,
@@ -16,13 +16,13 @@ use crate::operands::{
 use std::alloc::AllocError;
 use std::marker::Model;
 use uc_code::rows::RoutineCode;
-use uc_machine::exec::{Reason, Visited};
+use uc_machine::exec::{UnwindReason, Visited};
 
 /// What is next in an activation, its operands, the object of a member's call, the depth of the frame whose variables it
 /// uses, whether it counts as an active call, how many elements stand of the array that it builds or destroys, how far the search
 /// came where it handles a resumption, why it is unwound, and what a return that unwinds it hands over. A call that wants memory in vain changes nothing.
 #[derive(Drop)]
-pub struct Active {
+pub struct Activation {
     next: u32,
     operands: Vec<Cell>,
     this: Cell,
@@ -30,26 +30,26 @@ pub struct Active {
     counts: bool,
     elements: u32,
     handles: Option<Visited>,
-    raised: Option<Reason>,
+    raised: Option<UnwindReason>,
     result: Cell,
 }
 
-impl Model for Active {
+impl Model for Activation {
     ghost use Rattle.std.specs.Prelude.{reverse};
-    ghost use Rattle.uc_frames.specs.Machine.{Active};
+    ghost use Rattle.uc_frames.specs.Machine.{Activation};
 
-    ghost Value = { Active };
+    ghost Value = { Activation };
 
     ghost view = { λ a. record { control = a.next; operands = reverse a.operands.items; this = a.this; frame = a.frame; counts = a.counts; elements = a.elements; handles = a.handles; raised = a.raised; result = a.result } };
 }
 
-impl Active {
+impl Activation {
     /// An activation as it begins, at this op, with an empty list for its operands.
-    pub fn new(operands: Vec<Cell>, entry: u32, this: Cell, frame: u32, counts: bool) -> Active
+    pub fn new(operands: Vec<Cell>, entry: u32, this: Cell, frame: u32, counts: bool) -> Activation
         requires { operands.items ≡ [] }
         ensures { result ≡ begun entry this frame Cell.Nothing counts }
     {
-        Active {
+        Activation {
             next: entry,
             operands,
             this,
@@ -63,12 +63,12 @@ impl Active {
     }
 
     /// An activation as a handler of a resumption begins, with room for its event in an empty list for its operands.
-    pub fn handler(operands: Vec<Cell>, handling: Handling) -> Active
+    pub fn handler(operands: Vec<Cell>, handling: HandlerStart) -> Activation
         requires empty { operands.items ≡ [] }
         requires room { 3 ≤ vec_capacity operands }
         ensures { result ≡ handler_of handling }
     {
-        Active {
+        Activation {
             next: handling.entry,
             operands: event_operands(operands, handling.event),
             this: handling.this,
@@ -124,7 +124,7 @@ impl Active {
     }
 
     /// Why it is unwound, if it is.
-    pub fn raised(&self) -> Option<Reason>
+    pub fn raised(&self) -> Option<UnwindReason>
         ensures { result ≡ self.now.raised }
     {
         self.raised
@@ -138,7 +138,7 @@ impl Active {
     }
 
     /// It is unwound for this reason, from its place on; a return that arrives hands this over.
-    pub fn unwind(&mut self, why: Reason, given: Cell)
+    pub fn unwind(&mut self, why: UnwindReason, given: Cell)
         ensures { self.new ≡ unwound_by why given self.old }
     {
         self.operands.clear();
@@ -147,7 +147,7 @@ impl Active {
     }
 
     /// It is to be unwound for this reason, as soon as it goes on.
-    pub fn raise(&mut self, reason: Reason)
+    pub fn raise(&mut self, reason: UnwindReason)
         ensures { self.new ≡ record self.old { raised = Some reason } }
     {
         self.raised = Some(reason);

@@ -9,14 +9,14 @@ ghost use Rattle.uc_frames.specs.Unwinding.{IsCaller, event_at, unwound_by, clea
 ghost use Rattle.std.specs.Option.{is_some};
 ghost use Rattle.uc_machine.specs.Insides.{oldest_enabled};
 ghost use Rattle.uc_machine.specs.Switches.{woken, unwound_there};
-ghost use Rattle.uc_machine.specs.declared.exec.Reason.TheVariants as reason;
+ghost use Rattle.uc_machine.specs.declared.exec.UnwindReason.TheVariants as reason;
 ghost use Rattle.uc_machine.specs.declared.exec.Stage.TheVariants.{Ended};
 ghost use Rattle.uc_tree.specs.declared.limits.TheConstants.{CALLS};
 
-use crate::active::Active;
+use crate::active::Activation;
 use crate::call::Call;
 use crate::cell::Cell;
-use crate::event::{Event, Handling, event_of};
+use crate::event::{Event, HandlerStart, event_of};
 use crate::frames::{clear_in, get_in, put_in, zeros};
 use crate::links::Links;
 use std::alloc::{AllocError, Global};
@@ -24,15 +24,15 @@ use std::marker::Model;
 use std::mem;
 use uc_code::code::Code;
 use uc_code::rows::RoutineCode;
-use uc_machine::exec::{Exec, Pending, Reason, Visited};
+use uc_machine::exec::{Exec, Pending, UnwindReason, Visited};
 
 /// An execution: its newest activation, those that wait for it, its frames and its links. The lists of calls that have ended
 /// are kept, so that a call takes memory only where no call before it left enough.
 #[derive(Drop)]
 pub struct Stack {
     alloc: Global,
-    running: Active,
-    callers: Vec<Active>,
+    running: Activation,
+    callers: Vec<Activation>,
     frames: Vec<Vec<Cell>>,
     links: Links,
     spare: Vec<Vec<Cell>>,
@@ -60,7 +60,7 @@ impl Stack {
         frames.push(frame)?;
         Ok(Stack {
             alloc,
-            running: Active::new(Vec::new(alloc), routine.entry, this, 0, false),
+            running: Activation::new(Vec::new(alloc), routine.entry, this, 0, false),
             callers: Vec::new(alloc),
             frames,
             links: Links::new(alloc),
@@ -122,7 +122,7 @@ impl Stack {
     }
 
     /// It is to be unwound for this reason, as soon as it goes on.
-    pub fn raise(&mut self, why: Reason)
+    pub fn raise(&mut self, why: UnwindReason)
         ensures { self.new ≡ unwound_there why self.old }
     {
         self.running.raise(why);
@@ -133,7 +133,7 @@ impl Stack {
         ensures { self.new ≡ unwound_there reason.Destroyed (record self.old { links = record self.old.links { live = false; destroyer = Some by } }) }
     {
         self.links.destroy(by);
-        self.running.raise(Reason::Destroyed);
+        self.running.raise(UnwindReason::Destroyed);
     }
 
     /// The next op.
@@ -165,7 +165,7 @@ impl Stack {
     }
 
     /// The activation that has so many below it.
-    pub fn activation(&self, level: u32) -> Option<&Active>
+    pub fn activation(&self, level: u32) -> Option<&Activation>
         ensures { MatchOption result (at_depth (self.now.run ∷ self.now.callers) level ≡ None) (λ a. at_depth (self.now.run ∷ self.now.callers) level ≡ Some a.now) }
     {
         let waiting = self.callers.len();
@@ -197,7 +197,7 @@ impl Stack {
         let frame = self.running.frame_of_call(empty, call.routine)?;
         self.callers.reserve(1)?;
         self.frames.push(frame)?;
-        let callee = Active::new(operands, call.routine.entry, call.this, depth, call.counts);
+        let callee = Activation::new(operands, call.routine.entry, call.this, depth, call.counts);
         let mut caller = mem::replace(&mut self.running, callee);
         caller.wait_for(call.taken);
         self.callers.push_reserved(caller);
@@ -227,7 +227,7 @@ impl Stack {
 
     /// The newest activation is left with its frame, and the one that waits for it is unwound in its turn, for this reason and with
     /// what a return that arrives hands over. Where none waits, all stays as it is, and the answer is false.
-    pub fn pass_on(&mut self, why: Reason, given: Cell) -> bool
+    pub fn pass_on(&mut self, why: UnwindReason, given: Cell) -> bool
         ensures called { result ≡ nat_lt 0 (length self.old.callers) }
         ensures after { self.new ≡ stack_passed why given self.old.callers self.old }
     {
@@ -242,7 +242,7 @@ impl Stack {
     }
 
     /// The handler of a resumption begins on top, with an empty frame of its own. A stack of `u32::MAX` frames or calls has no more.
-    pub fn enter_handler(&mut self, handling: Handling) -> Result<(), AllocError>
+    pub fn enter_handler(&mut self, handling: HandlerStart) -> Result<(), AllocError>
         ensures ok { OnOk result (self.new ≡ stack_handled handling self.old) }
         ensures err { OnErr result (self.new ≡ self.old) }
     {
@@ -257,14 +257,14 @@ impl Stack {
         operands.reserve(3)?;
         self.callers.reserve(1)?;
         self.frames.push(frame)?;
-        let handler = Active::handler(operands, handling);
+        let handler = Activation::handler(operands, handling);
         let raiser = mem::replace(&mut self.running, handler);
         self.callers.push_reserved(raiser);
         Ok(())
     }
 
     // This activation goes on in the place of the newest one, which goes with its frame.
-    fn go_back(&mut self, caller: Active)
+    fn go_back(&mut self, caller: Activation)
         ensures { self.new ≡ record self.old { run = caller; frames = drop 1 self.old.frames; links = one_call_less self.old.run.counts self.old.links } }
     {
         let left = mem::replace(&mut self.running, caller);
@@ -419,7 +419,7 @@ impl Stack {
     }
 
     /// Why the running activation is unwound, if it is.
-    pub fn raised(&self) -> Option<Reason>
+    pub fn raised(&self) -> Option<UnwindReason>
         ensures { result ≡ self.now.run.raised }
     {
         self.running.raised()
@@ -433,7 +433,7 @@ impl Stack {
     }
 
     /// Whether an activation waits, and why it is unwound, if it is.
-    pub fn caller(&self) -> Option<Option<Reason>>
+    pub fn caller(&self) -> Option<Option<UnwindReason>>
         ensures { MatchOption result (self.now.callers ≡ []) (λ why. IsCaller why self.now.callers) }
     {
         match self.callers.last() {
@@ -443,7 +443,7 @@ impl Stack {
     }
 
     /// The running activation is unwound for this reason, from its place on; a return that arrives hands this over.
-    pub fn unwind(&mut self, why: Reason, given: Cell)
+    pub fn unwind(&mut self, why: UnwindReason, given: Cell)
         ensures { self.new ≡ record self.old { run = unwound_by why given self.old.run } }
     {
         self.running.unwind(why, given);
@@ -548,7 +548,7 @@ fn keep_list(spare: &mut Vec<Vec<Cell>>, list: Vec<Cell>) {
 }
 
 // The line of an op, or of the newest of these calls that has one.
-fn line_from(code: &Code, callers: &[Active], line: u32) -> u32
+fn line_from(code: &Code, callers: &[Activation], line: u32) -> u32
     ensures { result ≡ line_at code.now.ops line (reverse callers.now) }
 {
     match callers.split_last() {

@@ -2,8 +2,8 @@
 use Rattle.std.proofs.Common.{◌≡◌, ℕ, ℤ, List, [], ◌∷◌, inl, inr, Option, Some, None, Bool, true, false, refl, sym, ap, subst, ◌∙◌}
 use Rattle.std.specs.Prelude.{slice_get}
 use Rattle.uc_tree.specs.Source.{Source}
-use Rattle.uc_machine.specs.declared.exec.Reason.{Reason}
-use Rattle.uc_machine.specs.declared.exec.Reason.TheVariants as reason
+use Rattle.uc_machine.specs.declared.exec.UnwindReason.{UnwindReason}
+use Rattle.uc_machine.specs.declared.exec.UnwindReason.TheVariants as reason
 use Rattle.uc_machine.specs.declared.exec.Visited.{Visited}
 use Rattle.uc_entry.specs.declared.fault.RunFault.{RunFault}
 use Rattle.uc_entry.specs.declared.fault.RunFault.TheVariants.{Unhandled, EscapeInUnwind, BlockedInside}
@@ -25,7 +25,7 @@ use Rattle.uc_code.specs.Layout.{Laid, laid_of}
 use Rattle.uc_code.specs.Lowered.{Lowered}
 use Rattle.uc_frames.specs.declared.event.Event.{Event}
 use Rattle.uc_frames.specs.declared.cell.Cell.{Cell}
-use Rattle.uc_frames.specs.Machine.{Active, Machine, cell_of, line_at}
+use Rattle.uc_frames.specs.Machine.{Activation, Machine, cell_of, line_at}
 use Rattle.uc_frames.specs.Stands.{Stands}
 use Rattle.uc_frames.specs.UnwindingStands.{raised_as, Unwinds, TestsBlock, TestsCall, EndsMain, LeavesNow, Raises, Throws, Returns}
 use Rattle.uc_frames.proofs.Finishes.{main_line}
@@ -43,7 +43,7 @@ use Rattle.uc_step.specs.declared.stepped.Stepped.TheVariants.{Quiet, Tick, Ask,
 use Rattle.uc_step.specs.Simulation.{behind_line, HandStands, Follow}
 use Rattle.uc_step.proofs.Apart.{no_test, no_arrival, no_end, no_coroutine_end}
 use Rattle.uc_step.proofs.Simulates.{lines}
-use Rattle.uc_ride.specs.declared.events.Test.TheVariants.{Block, Task, Coroutine, Call, Nothing}
+use Rattle.uc_ride.specs.declared.events.EndTest.TheVariants.{Block, Task, Coroutine, Call, Nothing}
 use Rattle.uc_ride.specs.UnwindingFalls.{stop_by, test_by}
 
 true_false : true ≡ false → ⊥
@@ -75,7 +75,7 @@ module _ (source : Source) (code : Laid) where
   fields_as e v x y i j q =
       q ∙ sym (ap (λ k. let u : raising.Event = record { number = e.number; x = k; y = y } in u) i ∙ ap (λ k. let u : raising.Event = record { number = e.number; x = e.x; y = k } in u) j)
 
-  pub reason_as : (r : Option Reason) (n : ℕ) (x y u v : ℤ) → r ≡ Some (reason.Event n x y) → u ≡ x → v ≡ y → r ≡ Some (reason.Event n u v)
+  pub reason_as : (r : Option UnwindReason) (n : ℕ) (x y u v : ℤ) → r ≡ Some (reason.Event n x y) → u ≡ x → v ≡ y → r ≡ Some (reason.Event n u v)
   reason_as r n x y u v q i j = q ∙ sym (ap (λ k. Some (reason.Event n k v)) i ∙ ap (λ k. Some (reason.Event n x k)) j)
 
   -- an event is thrown, or no handler is found for it
@@ -91,7 +91,7 @@ module _ (source : Source) (code : Laid) where
 
   -- a return leaves a handler, for the one that waits
 
-  kept_past : (o : Option Visited) (given : Cell) (m n : Machine) (us : List Active) (v : Visited) → o ≡ Some v → (us ≡ [] → ⊥) → Made (past_of o given us m) m false n → ⊥
+  kept_past : (o : Option Visited) (given : Cell) (m n : Machine) (us : List Activation) (v : Visited) → o ≡ Some v → (us ≡ [] → ⊥) → Made (past_of o given us m) m false n → ⊥
   kept_past None given m n us v e f g = absurd (cc)
   kept_past (Some x) given m n [] v e f g = f refl
   kept_past (Some x) given m n (c ∷ us) v e f (i, b) = absurd (cc)

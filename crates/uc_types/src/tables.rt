@@ -15,7 +15,7 @@ ghost use Rattle.uc_rules.specs.Scopes.{event_named, event_sort};
 ghost use Rattle.uc_rules.specs.Sorts.{class_at, class_named, sort_of};
 
 use crate::bases::{Bases, is_given};
-use crate::directory::Directory;
+use crate::directory::NameTable;
 use crate::listing::{names_in_classes, names_outside, outer};
 use crate::members::{names_at, params_at, params_in_each};
 use crate::outside::OuterConstructors;
@@ -23,7 +23,7 @@ use crate::sort::is_constructor;
 use std::alloc::{AllocError, Global};
 use std::marker::Model;
 use uc_layout::sizes::Sizes;
-use uc_rules::rules::{Entity, Meant, Sort};
+use uc_rules::rules::{Entity, NameMeaning, Sort};
 use uc_tree::class::{Class, Member, MemberForm, Routine, Sig};
 use uc_tree::declare::Declarator;
 use uc_tree::kinds::{Base, Param};
@@ -34,8 +34,8 @@ use uc_tree::program::{Item, ItemForm, Program};
 #[derive(Drop)]
 pub struct Tables<'a> {
     bases: Bases<'a>,
-    members: Vec<Directory>,
-    outer: Directory,
+    members: Vec<NameTable>,
+    outer: NameTable,
     params: Vec<&'a [Param]>,
     numbered: Vec<Vec<&'a Name>>,
     constructors: OuterConstructors<'a>,
@@ -110,7 +110,7 @@ fn item_sig(item: &Item) -> Option<&Sig>
     }
 }
 
-fn named_in(directories: &[Directory], class: usize, name: &Name) -> Option<Meant>
+fn named_in(directories: &[NameTable], class: usize, name: &Name) -> Option<NameMeaning>
     ensures { result ≡ option_and_then (λ ss. first_named ss name.now) (slice_get directories.now class) }
 {
     match directories.get(class) {
@@ -206,13 +206,13 @@ impl<'a> Tables<'a> {
     }
 
     /// A member of the class with this place, but for constructors and destructors.
-    pub fn member_named(&self, class: usize, name: &Name) -> Option<Meant>
+    pub fn member_named(&self, class: usize, name: &Name) -> Option<NameMeaning>
         ensures { result ≡ member_named self.now class name.now }
     {
         named_in(&self.members, class, name)
     }
 
-    fn item_named(&self, name: &Name) -> Option<Meant>
+    fn item_named(&self, name: &Name) -> Option<NameMeaning>
         ensures { result ≡ items_named self.now 0 self.now.items name.now }
     {
         let meant = self.outer.find(name);
@@ -220,7 +220,7 @@ impl<'a> Tables<'a> {
     }
 
     /// What all of the program sees under a name.
-    pub fn outer_named(&self, name: &Name) -> Option<Meant>
+    pub fn outer_named(&self, name: &Name) -> Option<NameMeaning>
         ensures { result ≡ outer_named self.now name.now }
     {
         if is_given(name) {
@@ -261,7 +261,7 @@ impl<'a> Tables<'a> {
     }
 
     /// The names of the mutex members of the class with this place besides its destructor, as far as they have numbers.
-    pub fn numbered(&self, class: usize) -> &[&Name]
+    pub fn mutex_members(&self, class: usize) -> &[&Name]
         ensures names { (c : Class) → class_at self.now class ≡ Some c → map (λ n. n.now) result.now ≡ take MEMBERS (mutex_members c) }
         ensures few { length result.now ≤ MEMBERS }
     {
