@@ -6,7 +6,7 @@ ghost use Rattle.uc_rules.specs.declared.rules.Entity.TheVariants as entity;
 ghost use Rattle.uc_rules.specs.ProgramVisits.{field_place, home_member, last_field, later_field};
 
 use crate::class::count_params;
-use uc_rules::rules::{Entity, FieldPlace, OwnClass, NameMeaning, Origin, Sort};
+use uc_rules::rules::{Entity, FieldPlace, NameMeaning, Origin, OwnClass, Sort};
 use uc_tree::name::Name;
 use uc_types::entity::{is_array, is_of_conditions};
 use uc_types::spans::is_field_before;

@@ -18,7 +18,7 @@ ghost use Rattle.uc_types.specs.FirstBreak.{told};
 use std::alloc::{AllocError, Global};
 use uc_numbering::members::member_number;
 use uc_rules::rule::Rule;
-use uc_rules::rules::{Surroundings, Entity, NameMeaning};
+use uc_rules::rules::{Entity, NameMeaning, Surroundings};
 use uc_tree::class::Class;
 use uc_tree::kinds::{HandlerKind, MemberName};
 use uc_tree::limits::{CLAUSES, DESTRUCTOR};

@@ -9,7 +9,7 @@ ghost use Rattle.uc_types.specs.FirstBreak.{told};
 
 use uc_entry::request::PRINT_ITEMS;
 use uc_rules::rule::Rule;
-use uc_rules::rules::{Surroundings, Entity, Sort};
+use uc_rules::rules::{Entity, Sort, Surroundings};
 use uc_tree::declare::OutItem;
 use uc_tree::kinds::Base;
 use uc_tree::name::Name;

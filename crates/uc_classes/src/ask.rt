@@ -21,7 +21,7 @@ ghost use Rattle.uc_types.specs.FirstBreak.{told, told_forms, told_names, told_o
 ghost use Rattle.uc_classes.specs.Circling.{AreFields, Walks};
 
 use crate::circle::leads_back;
-use crate::class::{FieldList, ClassWalk};
+use crate::class::{ClassWalk, FieldList};
 use crate::conditions::count_conditions;
 use std::alloc::{AllocError, Global};
 use uc_check_decl::class::{
@@ -570,7 +570,13 @@ fn note_values(
     }
 }
 
-fn note_count(names: &Names, init: &Init, meant: Option<NameMeaning>, single: bool, found: &mut Found)
+fn note_count(
+    names: &Names,
+    init: &Init,
+    meant: Option<NameMeaning>,
+    single: bool,
+    found: &mut Found,
+)
     requires { single ≡ are_single names.now init.now.args }
     ensures { found.new ≡ after found.old (init_count_breaks names.now init.now meant) }
 {

@@ -6,7 +6,7 @@ ghost use Rattle.uc_rules.specs.ClassBreaks.{field_object, leads_back};
 ghost use Rattle.uc_layout.specs.ContainmentProgress.{flag_at};
 ghost use Rattle.uc_classes.specs.Circling.{AreFields, Walks};
 
-use crate::class::{FieldList, ClassWalk};
+use crate::class::{ClassWalk, FieldList};
 use uc_layout::circles::flag_at;
 use uc_tree::declare::Declarator;
 use uc_tree::kinds::Base;

@@ -24,7 +24,7 @@ use uc_check_stmt::declare::check_maybe;
 use uc_check_stmt::judge::ask_base;
 use uc_owner::bind::{BoundFields, bound_fields};
 use uc_rules::rule::Rule;
-use uc_rules::rules::{Surroundings, FieldPlace, OwnClass};
+use uc_rules::rules::{FieldPlace, OwnClass, Surroundings};
 use uc_tree::class::{Class, Member, MemberForm, Routine, Sig};
 use uc_tree::declare::Declarator;
 use uc_tree::kinds::{Access, Base, MutexMark, Role};
@@ -101,7 +101,13 @@ fn returns_scalar(tables: &Tables, base: &Base) -> bool
 }
 
 /// What stands round a routine of a class, or of none.
-pub fn sig_around(tables: &Tables, home: Option<OwnClass>, main: bool, mark: MutexMark, sig: &Sig) -> Surroundings
+pub fn sig_around(
+    tables: &Tables,
+    home: Option<OwnClass>,
+    main: bool,
+    mark: MutexMark,
+    sig: &Sig,
+) -> Surroundings
     ensures { result ≡ sig_around tables.now home main mark sig.now }
 {
     let inner = match home {

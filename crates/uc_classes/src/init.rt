@@ -13,7 +13,9 @@ use crate::ask::ask_init;
 use uc_check_decl::init::{home_member, last_field, meant_field};
 use uc_check_stmt::declare::{is_scalar_of, single_target};
 use uc_owner::judge::note_bound;
-use uc_rules::rules::{Surroundings, Bound, Entity, Expected, FieldPlace, NameMeaning, Origin, Target};
+use uc_rules::rules::{
+    Bound, Entity, Expected, FieldPlace, NameMeaning, Origin, Surroundings, Target,
+};
 use uc_tree::class::Init;
 use uc_tree::expr::{Expr, ExprForm};
 use uc_tree::name::Name;

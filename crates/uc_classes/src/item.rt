@@ -14,7 +14,7 @@ use crate::class::{check_class, sig_around};
 use std::alloc::{AllocError, Global};
 use uc_check_decl::item::owner_home;
 use uc_check_index::index::Index;
-use uc_rules::rules::{Surroundings, OwnClass};
+use uc_rules::rules::{OwnClass, Surroundings};
 use uc_tree::class::{Routine, Sig};
 use uc_tree::kinds::{MutexMark, Owner, Role};
 use uc_tree::program::{Constant, Item, ItemForm};
@@ -41,7 +41,12 @@ pub fn no_around() -> Surroundings
     }
 }
 
-fn mark_of(alloc: Global, index: &Index, home: Option<OwnClass>, sig: &Sig) -> Result<MutexMark, AllocError>
+fn mark_of(
+    alloc: Global,
+    index: &Index,
+    home: Option<OwnClass>,
+    sig: &Sig,
+) -> Result<MutexMark, AllocError>
     ensures { IfOk result (λ mark. mark ≡ outer_mark index.now home sig.now) }
 {
     match home {

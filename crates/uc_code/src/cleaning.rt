@@ -15,7 +15,9 @@ ghost use Rattle.uc_code.specs.Emits.{Puts, PutsLeft, PastBehind, PutsPast, past
 use crate::draft::Draft;
 use crate::op::Op;
 use crate::raising::put_poll;
-use crate::rows::{Array, Cleaning, Manner, CodeMark, ObjectCall, Opening, Resource, ObjectSpot, Way};
+use crate::rows::{
+    Array, Cleaning, CodeMark, Manner, ObjectCall, ObjectSpot, Opening, Resource, Way,
+};
 use std::alloc::AllocError;
 use uc_tree::limits::DESTRUCTOR;
 
@@ -66,7 +68,12 @@ fn put_element(spot: ObjectSpot, array: Array, line: u32, out: &mut Draft) -> Re
 }
 
 // Where the object lies, or the element that is counted.
-fn put_place(spot: ObjectSpot, array: Option<Array>, line: u32, out: &mut Draft) -> Result<(), AllocError>
+fn put_place(
+    spot: ObjectSpot,
+    array: Option<Array>,
+    line: u32,
+    out: &mut Draft,
+) -> Result<(), AllocError>
     requires { length out.old.ops + 3 ≤ PROGRAM_OPS }
     ensures { OnOk result (Puts 3 (λ code. SpotAt code line spot array) out.old out.new) }
 {

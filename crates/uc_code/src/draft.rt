@@ -16,7 +16,7 @@ use crate::marks::{
 };
 use crate::op::Op;
 use crate::rows::{
-    Handler, HandlerRow, Instruction, CodeMark, OPEN_END, Opening, RoutineCode, RowKind,
+    CodeMark, Handler, HandlerRow, Instruction, OPEN_END, Opening, RoutineCode, RowKind,
 };
 use std::alloc::{AllocError, Global};
 use std::marker::Model;

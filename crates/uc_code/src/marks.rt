@@ -5,7 +5,7 @@ ghost use Rattle.uc_code.specs.declared.rows.CodeMark.{CodeMark};
 ghost use Rattle.uc_code.specs.Layout.{under, handlers};
 ghost use Rattle.uc_code.specs.OpenRows.{first_in, name_of, row_in, opening_mark, opening_kind, opening_event, opening_bound, entry_in, closed_rows, handled_rows, is_rowless, seen_at, seen_row};
 
-use crate::rows::{ANY_EVENT, Handler, HandlerRow, CodeMark, NO_EVENT, Opening, RowKind};
+use crate::rows::{ANY_EVENT, CodeMark, Handler, HandlerRow, NO_EVENT, Opening, RowKind};
 
 /// The mark of a row that is opened.
 pub(crate) fn mark_of(opening: Opening, row: u32) -> CodeMark

@@ -15,7 +15,7 @@ ghost use Rattle.uc_coroutine.specs.Switching.{fault_in, state_in, left_by, Swit
 
 use uc_entry::fault::RunFault;
 use uc_frames::work::Work;
-use uc_machine::exec::{Exec, UnwindReason, Stage};
+use uc_machine::exec::{Exec, Stage, UnwindReason};
 
 /// The running execution resumes the one of the coroutine whose member runs. Answers the fault, if it is one; then all stays as it is.
 pub fn resume(work: &mut Work) -> Option<RunFault>

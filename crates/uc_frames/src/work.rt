@@ -28,7 +28,7 @@ use uc_code::code::Code;
 use uc_code::rows::RoutineCode;
 use uc_entry::list::List;
 use uc_entry::request::Piece;
-use uc_machine::exec::{Exec, Home, Owner, UnwindReason, Stage, Visited};
+use uc_machine::exec::{Exec, Home, Owner, Stage, UnwindReason, Visited};
 use uc_tree::limits::UNHANDLED;
 
 /// The members of the objects that a task is inside, by the objects' numbers.

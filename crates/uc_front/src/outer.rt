@@ -9,7 +9,7 @@ ghost use Rattle.uc_rules.specs.Sorts.{class_at};
 use uc_check_decl::item::owner_home;
 use uc_check_decl::sig::same_role;
 use uc_classes::class::sig_around;
-use uc_rules::rules::{Surroundings, OwnClass};
+use uc_rules::rules::{OwnClass, Surroundings};
 use uc_tree::class::{Member, MemberForm, Sig};
 use uc_tree::kinds::{MutexMark, Owner};
 use uc_types::tables::Tables;

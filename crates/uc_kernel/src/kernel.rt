@@ -19,7 +19,9 @@ ghost use Rattle.uc_kernel.specs.AtRest.{earlier, AreApart, FromAct, FromFirst, 
 
 use crate::given::{Back, Given, Next, Shape};
 use crate::hand::take_from;
-use crate::rests::{TaskAtRest, admission_at, drop_destroyed, entry_at, follow_first, follow_second};
+use crate::rests::{
+    TaskAtRest, admission_at, drop_destroyed, entry_at, follow_first, follow_second,
+};
 use std::alloc::{AllocError, Global};
 use std::marker::Model;
 use uc_entry::entry::{Entry, EntryKind, Options};

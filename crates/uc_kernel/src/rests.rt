@@ -96,7 +96,12 @@ pub fn drop_destroyed<M: Drop>(e: &Entry, hand: &mut List<(u64, M)>)
 }
 
 /// Puts the members of an object into the hand of a task at rest.
-fn give<T: Drop, M: Drop>(tasks: &mut Vec<Option<TaskAtRest<T, M>>>, task: u32, object: u32, members: M)
+fn give<T: Drop, M: Drop>(
+    tasks: &mut Vec<Option<TaskAtRest<T, M>>>,
+    task: u32,
+    object: u32,
+    members: M,
+)
     requires known { task < length tasks.old.items }
     requires room { HasRoom tasks.old.items task }
     requires there { (slice_index_or tasks.old.items task None ≡ None) → ⊥ }

@@ -9,7 +9,7 @@ ghost use Rattle.uc_layout.specs.CellTables.{cell_at, Follows, Counted};
 
 use crate::settle::Settlement;
 use std::alloc::{AllocError, Global};
-use uc_tree::rows::{FieldLayout, FieldClass, ClassLayout};
+use uc_tree::rows::{ClassLayout, FieldClass, FieldLayout};
 
 /// The cells of one element, by a table of the cells of classes.
 pub fn element_cells(cells: &[u64], object: Option<FieldClass>) -> u64
@@ -75,7 +75,11 @@ fn is_same(a: &[u64], b: &[u64]) -> bool
 }
 
 // The cells of each class, of which these have themselves in their fields, counted deeper and deeper.
-fn counted_cells(alloc: Global, rows: &[ClassLayout], circles: &[bool]) -> Result<Vec<u64>, AllocError>
+fn counted_cells(
+    alloc: Global,
+    rows: &[ClassLayout],
+    circles: &[bool],
+) -> Result<Vec<u64>, AllocError>
     requires full { length circles.now ≡ length rows.now }
     requires flags { AreCircles rows.now circles.now (length rows.now) }
     ensures { IfOk result (λ v. Counted (length rows.now) rows.now v.items) }

@@ -8,7 +8,7 @@ ghost use Rattle.uc_layout.specs.SettledClasses.{Settled};
 
 use crate::settle::Settlement;
 use std::alloc::{AllocError, Global};
-use uc_tree::rows::{FieldLayout, ClassLayout};
+use uc_tree::rows::{ClassLayout, FieldLayout};
 
 // Whether a field is an object of the class `to`, or of a class with a flag.
 fn leads(flags: &[bool], to: usize, held: &FieldLayout) -> bool

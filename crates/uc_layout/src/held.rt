@@ -18,7 +18,7 @@ use uc_tree::declare::Declarator;
 use uc_tree::kinds::{Base, Kind};
 use uc_tree::limits::ARRAY_LENGTH;
 use uc_tree::name::Name;
-use uc_tree::rows::{FieldLayout, FieldClass, ClassLayout};
+use uc_tree::rows::{ClassLayout, FieldClass, FieldLayout};
 
 /// A length of 1 to `ARRAY_LENGTH`; a broken one counts as 1.
 pub fn sound_length(value: Option<i64>) -> u32
@@ -228,7 +228,12 @@ pub fn leading_cells(kind: Kind) -> u32
     }
 }
 
-fn row_of(alloc: Global, classes: &Classes, known: &ConstantValues, class: &Class) -> Result<ClassLayout, AllocError>
+fn row_of(
+    alloc: Global,
+    classes: &Classes,
+    known: &ConstantValues,
+    class: &Class,
+) -> Result<ClassLayout, AllocError>
     ensures { IfOk result (λ r. r ≡ row_by (map (λ c. c.now) classes.now.list.now) (map (λ c. c.now) known.now.constants.now) known.now.values.now class.now) }
 {
     let members = names_of_members(alloc, &class.members)?;
@@ -244,7 +249,11 @@ fn row_of(alloc: Global, classes: &Classes, known: &ConstantValues, class: &Clas
 }
 
 /// What each of these classes holds.
-pub fn rows_of(alloc: Global, classes: &Classes, known: &ConstantValues) -> Result<Vec<ClassLayout>, AllocError>
+pub fn rows_of(
+    alloc: Global,
+    classes: &Classes,
+    known: &ConstantValues,
+) -> Result<Vec<ClassLayout>, AllocError>
     ensures { IfOk result (λ v. v.items ≡ rows_by (map (λ c. c.now) classes.now.list.now) (map (λ c. c.now) known.now.constants.now) known.now.values.now) }
 {
     let mut rows = Vec::new(alloc);

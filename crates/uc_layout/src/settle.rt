@@ -8,7 +8,7 @@ ghost use Rattle.uc_layout.specs.SettledClasses.{Settled, held_settled};
 
 use crate::cells::row_cells;
 use std::alloc::{AllocError, Global};
-use uc_tree::rows::{FieldLayout, ClassLayout};
+use uc_tree::rows::{ClassLayout, FieldLayout};
 
 /// Which classes are settled, and their cells.
 #[derive(Drop)]

@@ -28,7 +28,7 @@ use uc_tree::declare::Declarator;
 use uc_tree::kinds::{Base, Param};
 use uc_tree::name::Name;
 use uc_tree::program::{Constant, Program};
-use uc_tree::rows::{FieldLayout, FieldClass, ClassLayout};
+use uc_tree::rows::{ClassLayout, FieldClass, FieldLayout};
 
 /// A program of which the values of constants, the classes that have themselves in their fields, and the cells of classes are
 /// known. Contracts see the program.

@@ -10,7 +10,7 @@ ghost use Rattle.uc_layout.specs.ValueProgress.{Under, Sound, Reckoned, known};
 
 use crate::eval::{converted_to, value_by};
 use crate::order::order_of;
-use crate::places::{Constants, ConstantValues};
+use crate::places::{ConstantValues, Constants};
 use std::alloc::{AllocError, Global};
 use uc_names::scope::Scope;
 use uc_tree::program::Constant;

@@ -22,7 +22,7 @@ ghost use Rattle.uc_lower_class.specs.OpenParts.{Constructs, EndsParts, Opens, P
 use std::alloc::AllocError;
 use uc_code::draft::Draft;
 use uc_code::op::Op;
-use uc_code::rows::{Cleaning, Opening, ObjectSpot};
+use uc_code::rows::{Cleaning, ObjectSpot, Opening};
 use uc_lower_expr::expr::{lower_expr, lower_value};
 use uc_lower_expr::fields::Field;
 use uc_lower_expr::making::Made;

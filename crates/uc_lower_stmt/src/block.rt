@@ -20,7 +20,7 @@ use crate::objects::{clean_call, close_scope, lower_build};
 use std::alloc::{AllocError, Global};
 use uc_code::draft::Draft;
 use uc_code::op::Op;
-use uc_code::rows::{Cleaning, CodeMark, Opening, ObjectSpot};
+use uc_code::rows::{Cleaning, CodeMark, ObjectSpot, Opening};
 use uc_lower_expr::making::Made;
 use uc_lower_expr::program_names::ProgramNames;
 use uc_lower_expr::put::put;

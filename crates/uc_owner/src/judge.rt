@@ -18,7 +18,7 @@ ghost use Rattle.uc_owner.specs.Bound.{AreBound};
 use crate::bind::{BoundFields, is_bound_inside, root_name};
 use std::alloc::AllocError;
 use uc_rules::rule::Rule;
-use uc_rules::rules::{Expected, OwnClass, NameMeaning, Origin, Sort};
+use uc_rules::rules::{Expected, NameMeaning, Origin, OwnClass, Sort};
 use uc_tree::class::Class;
 use uc_tree::declare::Declarator;
 use uc_tree::expr::Expr;

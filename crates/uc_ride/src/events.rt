@@ -178,12 +178,7 @@ fn switched(code: &Code, work: &Work, fault: Option<RunFault>, asked: &mut Asked
 }
 
 // The handler begins that the event finds; where it finds none, it is thrown.
-fn raise(
-    code: &Code,
-    work: &mut Work,
-    event: Event,
-    asked: &mut Asked,
-) -> Result<OpEnd, AllocError>
+fn raise(code: &Code, work: &mut Work, event: Event, asked: &mut Asked) -> Result<OpEnd, AllocError>
     requires paced { IsPaced (laid_of code.now) code.now.routines }
     requires below { (w : ℕ) × FallsBelow code.now w (Stepped.Raise event) work.old }
     ensures source { IfOk result (λ end. (source : Source) (s : State) → Lowered source code.now → Follow (laid_of code.now) source (Stepped.Raise event) work.old s → Follow (laid_of code.now) source (how_settled end asked.new) work.new s) }
@@ -339,7 +334,12 @@ fn test_of(op: Op) -> EndTest
 }
 
 // The main of a task that is unwound ends, by an op of this line.
-fn end_on(code: &Code, work: &mut Work, line: u32, asked: &mut Asked) -> Result<UnwindEnd, AllocError>
+fn end_on(
+    code: &Code,
+    work: &mut Work,
+    line: u32,
+    asked: &mut Asked,
+) -> Result<UnwindEnd, AllocError>
     requires { slice_get code.now.ops work.old.run.control ≡ Some (record { op = Op.Unhandled; line = line }) }
     ensures source { IfOk result (λ after. (source : Source) (s : State) → Lowered source code.now → Begins source (laid_of code.now) work.old s → Follow (laid_of code.now) source (how_unwound after asked.new) work.new s) }
     ensures falls { IfOk result (λ after. (w left : ℕ) → EnteredBelow code.now w left work.old → StepFalls code.now w left after asked.new work.new) }

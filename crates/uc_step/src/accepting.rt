@@ -50,7 +50,12 @@ pub(crate) fn accept(
 }
 
 // Where the call that was taken has failed, the event of that is pushed; else the task goes on elsewhere.
-pub(crate) fn failed(code: &Code, line: u32, work: &mut Work, to: u32) -> Result<QuietResult, AllocError>
+pub(crate) fn failed(
+    code: &Code,
+    line: u32,
+    work: &mut Work,
+    to: u32,
+) -> Result<QuietResult, AllocError>
     ensures ok { IfOk result (λ how. (stop : Stepped) → Does code.now line (Op.Failed to) work.old (ended how stop) work.new) }
     ensures err { OnErr result (work.new ≡ work.old) }
 {

@@ -17,7 +17,12 @@ use uc_frames::cell::{Cell, number_in};
 use uc_frames::work::Work;
 use uc_tree::limits::CALLS;
 
-pub(crate) fn jump(code: &Code, line: u32, work: &mut Work, to: u32) -> Result<QuietResult, AllocError>
+pub(crate) fn jump(
+    code: &Code,
+    line: u32,
+    work: &mut Work,
+    to: u32,
+) -> Result<QuietResult, AllocError>
     ensures ok { IfOk result (λ how. (stop : Stepped) → Does code.now line (Op.Jump to) work.old (ended how stop) work.new) }
     ensures err { OnErr result (work.new ≡ work.old) }
 {

@@ -88,7 +88,13 @@ fn by_event(why: Option<UnwindReason>) -> bool
 }
 
 // The running call leaves the object at hand; where that is not the last leave, or the call is unwound, the task goes on at this op.
-pub(crate) fn leave(code: &Code, line: u32, work: &mut Work, stop: &mut Stepped, to: u32) -> QuietResult
+pub(crate) fn leave(
+    code: &Code,
+    line: u32,
+    work: &mut Work,
+    stop: &mut Stepped,
+    to: u32,
+) -> QuietResult
     ensures { Does code.now line (Op.Leave to) work.old (ended result stop.new) work.new }
 {
     let object = this_object(work);

@@ -50,7 +50,11 @@ pub(crate) fn over(code: &Code, line: u32, work: &mut Work) -> Result<QuietResul
     Ok(QuietResult::Quiet)
 }
 
-pub(crate) fn discard_below(code: &Code, line: u32, work: &mut Work) -> Result<QuietResult, AllocError>
+pub(crate) fn discard_below(
+    code: &Code,
+    line: u32,
+    work: &mut Work,
+) -> Result<QuietResult, AllocError>
     ensures ok { IfOk result (λ how. (stop : Stepped) → Does code.now line Op.DiscardBelow work.old (ended how stop) work.new) }
     ensures err { OnErr result (work.new ≡ work.old) }
 {

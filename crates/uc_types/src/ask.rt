@@ -11,8 +11,8 @@ ghost use Rattle.uc_rules.specs.Visits.{AtArgument, AtAssign, AtCall, AtChange, 
 ghost use Rattle.uc_types.specs.FirstBreak.{told};
 
 use crate::entity::{
-    binary_gives, built_in, element, fits, operation_result, is_array, is_main, is_object, is_of_conditions,
-    is_place, is_scalar, path_member, takes, value_of,
+    binary_gives, built_in, element, fits, is_array, is_main, is_object, is_of_conditions,
+    is_place, is_scalar, operation_result, path_member, takes, value_of,
 };
 use crate::found::Found;
 use crate::names::Names;
@@ -20,7 +20,7 @@ use crate::sort::{is_coroutine, is_mutex, is_public};
 use crate::spans::{class_allows, is_field_before};
 use crate::tables::Tables;
 use uc_rules::rule::Rule;
-use uc_rules::rules::{Bound, Entity, Expected, FieldPlace, OwnClass, NameMeaning, Origin, Sort};
+use uc_rules::rules::{Bound, Entity, Expected, FieldPlace, NameMeaning, Origin, OwnClass, Sort};
 use uc_tree::name::Name;
 use uc_tree::ops::{BinaryOp, UnaryOp};
 use uc_tree::pos::Pos;

@@ -8,7 +8,7 @@ use std::alloc::{AllocError, Global};
 use std::marker::Model;
 use uc_layout::places::{no_places, note_place, place_in};
 use uc_names::scope::Scope;
-use uc_rules::rules::{NameMeaning, LocalName};
+use uc_rules::rules::{LocalName, NameMeaning};
 use uc_tree::name::Name;
 
 /// Names with what they mean; of two with one name the first counts. Contracts see the list.

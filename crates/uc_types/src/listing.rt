@@ -19,7 +19,7 @@ use uc_layout::known::names_of_members;
 use uc_layout::named::NameValues;
 use uc_layout::sizes::Sizes;
 use uc_names::scope::Scope;
-use uc_rules::rules::{Entity, FieldPlace, NameMeaning, Origin, LocalName};
+use uc_rules::rules::{Entity, FieldPlace, LocalName, NameMeaning, Origin};
 use uc_tree::class::{Class, Member, MemberForm, Sig};
 use uc_tree::declare::Declarator;
 use uc_tree::kinds::{Access, Base, MutexMark, Owner};
@@ -184,7 +184,11 @@ fn push_form(
     }
 }
 
-fn members_in(alloc: Global, listed: &Listed, members: &[Member]) -> Result<Vec<LocalName>, AllocError>
+fn members_in(
+    alloc: Global,
+    listed: &Listed,
+    members: &[Member],
+) -> Result<Vec<LocalName>, AllocError>
     ensures { IfOk result (λ v. v.items ≡ members_seen listed.now.bases.now (record { place = listed.now.place; class = listed.now.class.now }) 0 members.now) }
 {
     let mut list = Vec::new(alloc);

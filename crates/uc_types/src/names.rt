@@ -16,7 +16,7 @@ use std::marker::Model;
 use uc_layout::eval::{binary_of, unary_of};
 use uc_layout::held::sound_length;
 use uc_names::scope::Scope;
-use uc_rules::rules::{Surroundings, Entity, NameMeaning, Origin, LocalName};
+use uc_rules::rules::{Entity, LocalName, NameMeaning, Origin, Surroundings};
 use uc_tree::declare::Declarator;
 use uc_tree::expr::{Expr, ExprForm, Link};
 use uc_tree::int::int_of;
