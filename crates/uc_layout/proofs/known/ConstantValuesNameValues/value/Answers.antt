@@ -1,7 +1,7 @@
 use Rattle.std.proofs.Common.{ap, sym, ◌∙◌, None, unwrap_or}
 use Rattle.std.proofs.lemmas.Option.{unwrap_or-slice_get, slice_get_past}
 use Rattle.uc_layout.proofs.PlacesLemmas.{value_placed, value_nowhere}
-use Rattle.uc_layout.proofs.known.KnownNameValues.value.Goals as goal
+use Rattle.uc_layout.proofs.known.ConstantValuesNameValues.value.Goals as goal
 
 pub returns-in-Some-get : goal.returns-in-Some-get
 returns-in-Some-get c =
