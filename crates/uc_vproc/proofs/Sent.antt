@@ -24,14 +24,15 @@ use Rattle.std.specs.contracts.vec.Vec as Vec
 use Rattle.uc_entry.specs.contracts.entry.Entry as Entry
 use Rattle.uc_code.specs.contracts.code.Code as Code
 use Rattle.uc_frames.proofs.members.Members.TheSendSync as members
+use Rattle.uc_frames.proofs.task.Task.TheSendSync as task
 use Rattle.uc_frames.specs.contracts.members.Members as Members
+use Rattle.uc_frames.specs.contracts.task.Task as Task
 use Rattle.uc_kernel.proofs.kernel.Kernel.TheSendSync as kernel
 use Rattle.uc_kernel.specs.contracts.kernel.Kernel as Kernel
 use Rattle.uc_lock.proofs.seat.Seat.TheSendSync as seat
 use Rattle.uc_lock.proofs.shared.Shared.TheSendSync as shared
 use Rattle.uc_lock.specs.contracts.seat.Seat as Seat
 use Rattle.uc_lock.specs.contracts.shared.Shared as Shared
-use Rattle.uc_vproc.proofs.parcel.Parcel.TheSendSync as parcel
 use Rattle.uc_vproc.proofs.registry.Registry.TheSendSync as registry
 use Rattle.uc_vproc.specs.contracts.desk.Desk.{the_row}
 use Rattle.uc_vproc.specs.contracts.desk.Desk.TheInside as inside
@@ -39,14 +40,13 @@ use Rattle.uc_vproc.specs.contracts.desk.DeskJournaled.TheImpl as DeskJournaled
 use Rattle.uc_vproc.specs.contracts.desk.Note as Note
 use Rattle.uc_vproc.specs.contracts.desk.Note.TheInside as note_inside
 use Rattle.uc_vproc.specs.contracts.desk.RunKey as RunKey
-use Rattle.uc_vproc.specs.contracts.parcel.Parcel as Parcel
 use Rattle.uc_vproc.specs.contracts.step.Step as Step
 
-kernel_sent : IsSend (Kernel.the_row (Option.the_row Parcel.the_row) Members.the_row)
-kernel_sent = kernel.the_send (Option.the_row Parcel.the_row) Members.the_row (option.the_send Parcel.the_row parcel.the_send) members.the_send
+kernel_sent : IsSend (Kernel.the_row (Option.the_row Task.the_row) Members.the_row)
+kernel_sent = kernel.the_send (Option.the_row Task.the_row) Members.the_row (option.the_send Task.the_row task.the_send) members.the_send
 
-boxed_sent : IsSend (owning.row (Box.the_type (Kernel.the_row (Option.the_row Parcel.the_row) Members.the_row) Global.the_row GlobalAllocator.ghosts))
-boxed_sent = box.the_send (Kernel.the_row (Option.the_row Parcel.the_row) Members.the_row) Global.the_row GlobalAllocator.ghosts kernel_sent global.the_send frees.the_frees
+boxed_sent : IsSend (owning.row (Box.the_type (Kernel.the_row (Option.the_row Task.the_row) Members.the_row) Global.the_row GlobalAllocator.ghosts))
+boxed_sent = box.the_send (Kernel.the_row (Option.the_row Task.the_row) Members.the_row) Global.the_row GlobalAllocator.ghosts kernel_sent global.the_send frees.the_frees
 
 snapshot_sent : (R : RattleType) → IsSend (owning.row (Snapshot.the_type R))
 snapshot_sent R = search rules

@@ -13,7 +13,6 @@ ghost use Rattle.uc_vproc.specs.Makers.{Log};
 ghost use Rattle.uc_vproc.specs.Rest.{HasSource, IsSource, IsTask};
 ghost use Rattle.uc_vproc.specs.Desks.{key_from, no_fields, IsOpened, Came, Saw, Brings, EndsAs};
 
-use crate::parcel::Parcel;
 use crate::put::{hand_out, put};
 use crate::registry::{Registry, opening};
 use crate::step::Step;
@@ -25,6 +24,7 @@ use uc_code::code::Code;
 use uc_entry::entry::{Entry, Options};
 use uc_entry::request::Asked;
 use uc_frames::members::Members;
+use uc_frames::task::Task;
 use uc_kernel::given::{Back, Shape};
 use uc_kernel::kernel::Kernel;
 use uc_lock::Journaled;
@@ -71,7 +71,7 @@ impl Note {
 /// again each time that it is taken.
 #[derive(Drop)]
 pub struct Desk {
-    kernel: Box<Kernel<Option<Parcel>, Members>>,
+    kernel: Box<Kernel<Option<Task>, Members>>,
     notes: Vec<Note>,
     registry: Registry,
     code: Snapshot<Code>,
@@ -110,7 +110,7 @@ impl Desk {
         shape: Shape,
         opts: Options,
         input: Vec<u8>,
-        first: Parcel,
+        first: Task,
         own: Members,
     ) -> Result<Desk, AllocError>
         requires source { HasSource code.now main }
@@ -125,8 +125,8 @@ impl Desk {
     {
         let mut notes = Vec::with_capacity(alloc, opts.entries as usize)?;
         let registry = opening(alloc, &shape.sites, opts.processors)?;
-        let kernel = Kernel::open(alloc, shape, opts, input, Some(first), own)?;
-        let kernel = Box::new(alloc, kernel)?;
+        let opened = Kernel::open(alloc, shape, opts, input, Some(first), own)?;
+        let kernel = Box::new(alloc, opened)?;
         make_notes(&mut notes, 1, NOBODY, &Step::Idle);
         Ok(Desk {
             kernel,
@@ -153,7 +153,7 @@ impl Desk {
     pub fn act(
         &mut self,
         maker: u32,
-        back: Back<Option<Parcel>, Members>,
+        back: Back<Option<Task>, Members>,
         asked: &Asked,
     ) -> Step
         requires brings { (seen : Log) × Saw maker seen self.old.log × Brings self.old.code maker seen (with_asked back asked.now) }

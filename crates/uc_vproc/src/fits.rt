@@ -9,11 +9,11 @@ ghost use Rattle.uc_kernel.specs.Numbered.{keys};
 ghost use Rattle.uc_vproc.specs.Registries.{AreThere, Tells};
 ghost use Rattle.uc_vproc.specs.Places.{place_of, IsBare, IsOwned, IsApart, IsAccepting};
 
-use crate::parcel::Parcel;
 use crate::registry::Registry;
 use uc_entry::list::List;
 use uc_entry::request::Request;
 use uc_frames::members::Members;
+use uc_frames::task::Task;
 use uc_kernel::kernel::Kernel;
 use uc_tree::limits::{EVENTS, MEMBERS};
 
@@ -33,7 +33,7 @@ pub enum Place {
 
 /// Whether what a task with this hand asks fits, by what may be asked for. What it prints and reads is in a form that fits.
 pub fn fits(
-    kernel: &Kernel<Option<Parcel>, Members>,
+    kernel: &Kernel<Option<Task>, Members>,
     registry: &Registry,
     task: u32,
     hand: &List<(u64, Members)>,
@@ -110,7 +110,7 @@ fn holds(hand: &List<(u64, Members)>, object: u32) -> bool
 
 // Whether an object is in hand and no task's own.
 fn is_bare(
-    kernel: &Kernel<Option<Parcel>, Members>,
+    kernel: &Kernel<Option<Task>, Members>,
     there: &[bool],
     hand: &List<(u64, Members)>,
     object: u32,
@@ -130,7 +130,7 @@ fn is_bare(
 }
 
 // Whether an object is a task's own, and this is an event.
-fn is_sought(kernel: &Kernel<Option<Parcel>, Members>, there: &[bool], object: u32, event: u8) -> bool
+fn is_sought(kernel: &Kernel<Option<Task>, Members>, there: &[bool], object: u32, event: u8) -> bool
     requires runs { KernelRuns kernel.now.opts kernel.now.sites kernel.now.input kernel.now.journal }
     requires going { is_over kernel.now.journal ≡ false }
     requires there { AreThere there.now kernel.now.journal }

@@ -3,7 +3,6 @@
 
 mod desk;
 mod fits;
-mod parcel;
 mod put;
 mod registry;
 mod run;

@@ -11,7 +11,6 @@ ghost use Rattle.uc_vproc.specs.Runs.{IsRunOf};
 ghost use Rattle.uc_vproc.specs.Desks.{EndsAs, IsOpened};
 
 use crate::desk::Desk;
-use crate::parcel::Parcel;
 use crate::sites::known_sites;
 use crate::work::work_all;
 use std::alloc::{AllocError, Global};
@@ -67,9 +66,8 @@ fn open(
         None => Err(AllocError),
         Some(work) => {
             let (first, _) = work.into_parts();
-            let parcel = Parcel::new(alloc, first)?;
             let own = Members::new(alloc, 0)?;
-            let desk = Desk::open(alloc, code, main, shape, opts, input, parcel, own)?;
+            let desk = Desk::open(alloc, code, main, shape, opts, input, first, own)?;
             Ok(desk)
         }
     }

@@ -14,7 +14,6 @@ ghost use Rattle.uc_vproc.specs.Rest as rest;
 ghost use Rattle.uc_vproc.specs.Workers.{IsReady, IsSame, HasCome};
 
 use crate::desk::Desk;
-use crate::parcel::Parcel;
 use crate::step::Step;
 use std::alloc::{AllocError, Global};
 use std::sync::Wait;
@@ -54,7 +53,7 @@ fn bring<R: Wait>(
     rt: &R,
     lock: &Shared<Desk>,
     seat: &mut Seat<Desk>,
-    back: Back<Option<Parcel>, Members>,
+    back: Back<Option<Task>, Members>,
     asked: &Asked,
 ) -> Step
     requires ready { IsReady lock.now seat.old }
@@ -88,9 +87,9 @@ fn go<G: Gate>(
     code: &Code,
     gate: &G,
     dispatches: u64,
-    given: Given<Parcel, Members>,
+    given: Given<Task, Members>,
     asked: &mut Asked,
-) -> Result<Back<Option<Parcel>, Members>, AllocError>
+) -> Result<Back<Option<Task>, Members>, AllocError>
     requires paced { IsPaced (laid_of code.now) code.now.routines }
     requires some { 1 ≤ given.left }
     requires kept { Keeps code.now (with_hand given.members.items given.task) }
@@ -103,7 +102,7 @@ fn go<G: Gate>(
         answer,
         left,
     } = given;
-    let work = Work::new(task.into_task(), members);
+    let work = Work::new(task, members);
     let ridden = ride(code, work, answer, left, asked, gate, processor, dispatches)?;
     let Ridden {
         work,
@@ -112,8 +111,8 @@ fn go<G: Gate>(
     } = ridden;
     let (task, mut members) = work.into_parts();
     members.room()?;
-    let task = going_on(alloc, &asked.request, task)?;
-    let child = boxed(alloc, child)?;
+    let task = going_on(&asked.request, task);
+    let child = boxed(child);
     Ok(Back {
         processor,
         task,
@@ -124,26 +123,22 @@ fn go<G: Gate>(
 }
 
 // A task that goes on behind a request.
-fn going_on(alloc: Global, request: &Request, task: Task) -> Result<Option<Parcel>, AllocError>
-    ensures { IfOk result (λ p. p ≡ value_after request.now task) }
+fn going_on(request: &Request, task: Task) -> Option<Task>
+    ensures { result ≡ value_after request.now task }
 {
     if stops(request) {
-        return Ok(None);
+        return None;
     }
-    let parcel = Parcel::new(alloc, task)?;
-    Ok(Some(parcel))
+    Some(task)
 }
 
 // A new task has not ended.
-fn boxed(alloc: Global, child: Option<Task>) -> Result<Option<Option<Parcel>>, AllocError>
-    ensures { IfOk result (λ c. c ≡ option_map Some child) }
+fn boxed(child: Option<Task>) -> Option<Option<Task>>
+    ensures { result ≡ option_map Some child }
 {
     match child {
-        None => Ok(None),
-        Some(task) => {
-            let parcel = Parcel::new(alloc, task)?;
-            Ok(Some(Some(parcel)))
-        }
+        None => None,
+        Some(task) => Some(Some(task)),
     }
 }
 
@@ -167,7 +162,7 @@ fn turn<R: Wait, G: Gate>(
     gate: &G,
     dispatches: u64,
     seat: &mut Seat<Desk>,
-    given: Given<Parcel, Members>,
+    given: Given<Task, Members>,
 ) -> Step
     requires ready { IsReady lock.now seat.old }
     requires code { lock.now.terms.key.code ≡ code.now }

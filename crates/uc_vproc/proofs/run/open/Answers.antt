@@ -1,10 +1,8 @@
-use Rattle.std.proofs.Common.{subst, sym}
-use Rattle.uc_meaning.specs.Runs.{first_world}
+use Rattle.std.proofs.Common.{subst}
 use Rattle.uc_step.specs.Starts.{Starts}
-use Rattle.uc_vproc.specs.Rest.{IsTask}
 use Rattle.uc_vproc.proofs.Opening.{first_task}
 use Rattle.uc_vproc.proofs.run.open.Goals as goal
 
 pub open-requires-clause-first : goal.open-requires-clause-first
 open-requires-clause-first c source is =
-    subst (λ v. IsTask c.args.code.now v ((first_world source).tasks 0)) (sym c.in_ok-parcel.ensures) (first_task c.args.code.now c.args.main c.in-Some.work c.into_parts-first.result.0 c.into_parts-first.result.1.items source is (subst (λ o. Starts c.args.code.now c.args.main 0 o) c.in-Some.is c.in_ok-begin.ensures.source) c.into_parts-first.ensures)
+    first_task c.args.code.now c.args.main c.in-Some.work c.into_parts-first.result.0 c.into_parts-first.result.1.items source is (subst (λ o. Starts c.args.code.now c.args.main 0 o) c.in-Some.is c.in_ok-begin.ensures.source) c.into_parts-first.ensures
