@@ -104,11 +104,7 @@ fn go<G: Gate>(
     } = given;
     let work = Work::new(task, members);
     let ridden = ride(code, work, answer, left, asked, gate, processor, dispatches)?;
-    let Ridden {
-        work,
-        child,
-        ticks,
-    } = ridden;
+    let Ridden { work, child, ticks } = ridden;
     let (task, mut members) = work.into_parts();
     members.room()?;
     let task = going_on(&asked.request, task);
