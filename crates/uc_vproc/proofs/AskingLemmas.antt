@@ -41,17 +41,17 @@ keys_same (p ∷ ps) = ap (λ ks. p.0 ∷ ks) (keys_same ps)
 
 -- a task that goes on has a value
 goes_some : (r : Request) (m : Machine) (v : Option Machine) → v ≡ value_after r m → stops r ≡ false → IsSome v
-goes_some r m v e h = subst IsSome (sym (e ∙ ap (λ b. if b then None else Some m) h)) tt
+goes_some r m v e h = subst IsSome (sym (e ∙ ap (λ b. if b then None else Some m) h)) refl
 
 -- a spawn comes with the new task
 born_some : (source : Source) (code : Laid) (r : Request) (child : Option Machine) (s : State) → BornAs source code r child s → IsSpawn r → IsSome child
 born_some source code (ask.Spawn o) None s h i = absurd h
-born_some source code (ask.Spawn o) (Some m) s h i = tt
+born_some source code (ask.Spawn o) (Some m) s h i = refl
 born_some source code r child s h i = absurd i
 
 some_mapped : (x : Option Machine) (y : Option (Option Machine)) → y ≡ option_map Some x → IsSome x → IsSome y
-some_mapped None y e h = absurd h
-some_mapped (Some m) y e h = subst IsSome (sym e) tt
+some_mapped None y e h = absurd (cc h)
+some_mapped (Some m) y e h = subst IsSome (sym e) refl
 
 module _ (code : Code) (main : ℕ) where
   module _ (k : Kept (Option Machine) Members) (ns : Notes) (room n : ℕ) (registry : Registry) (keeps : Keeping code main k ns room registry) where

@@ -58,7 +58,7 @@ ended_behind k b t m is going none = by (has_ended t (k.journal ++ act k.opts k.
 
 some_by : (x : Option Machine) → (x ≡ None → ⊥) → IsSome x
 some_by None f = absurd (f refl)
-some_by (Some m) f = tt
+some_by (Some m) f = refl
 
 dispatch_goes_on : (p t : ℕ) → is_over (dispatch p t ∷ []) ≡ false
 unfolding is_over
