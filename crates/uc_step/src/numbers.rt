@@ -68,7 +68,7 @@ impl Operator {
                 if right == 0 {
                     return Computed::Fault(RunFault::DivideByZero);
                 }
-                in_range(int::remainder(left, right))
+                in_range(remainder(left, right))
             }
             Operator::Equal => Computed::Number(one_if(left == right)),
             Operator::NotEqual => Computed::Number(one_if(left != right)),
