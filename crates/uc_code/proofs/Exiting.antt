@@ -17,10 +17,13 @@ use Rattle.uc_code.specs.Layout.{Laid, laid_in, handlers, under, routine_in}
 use Rattle.uc_code.specs.CodeShapes.{One, Risk, CallsBehind, Both, LeavesAt, Kept}
 use Rattle.uc_code.specs.Lowered.{CalledAt, CallDone, CleanBy, CleanAt, ExitAt}
 use Rattle.uc_code.specs.OpenRows.{Below, Falling, AllBehind, row_in, opened, closed, exit_room}
-use Rattle.uc_code.specs.Emits.{Puts, PutsLeft, Leaves}
+use Rattle.uc_code.specs.RowCounts.{cleaning_rows, exit_rows}
+use Rattle.uc_code.specs.RowGrowth.{AddsRows}
+use Rattle.uc_code.specs.Emits.{Puts, PutsLeft, Leaves, clean_length}
+use Rattle.uc_code.proofs.Growth.{rows_as, rows_then, rows_last, rows_opened, rows_closed}
 use Rattle.uc_code.proofs.Stable.{kept_then, kept_piece, kept_refl}
 use Rattle.uc_code.proofs.Nesting.{under_all, under_drop}
-use Rattle.uc_code.proofs.Putting.{clean_stable, marks_of}
+use Rattle.uc_code.proofs.Putting.{clean_stable, clean_is, marks_of}
 use Rattle.uc_code.proofs.Sweeping.{like_puts, like_opened, like_closed, like_rest, closed_ops, closed_marks}
 
 -- a clean-up is the same under marks with the same handlers in the same routine
@@ -89,7 +92,7 @@ module _ (code : Laid) (line : ℕ) (ms ns : List CodeMark) (h : handlers ms ≡
 
 -- a clean-up on the way out: a row that performs nothing is around it
 
-module _ (what : Cleaning) (row line : ℕ) (d0 d1 d2 d3 : Draft) (o1 : d1 ≡ opened (opening.Outward row) d0) (k1 : Kept (laid_in d0) (laid_in d1)) (p2 : Puts 23 (λ code. CleanAt code line what d1.marks) d1 d2) (c3 : d3 ≡ closed 1 d2) (k3 : Kept (laid_in d2) (laid_in d3)) where
+module _ (what : Cleaning) (row line : ℕ) (d0 d1 d2 d3 : Draft) (o1 : d1 ≡ opened (opening.Outward row) d0) (k1 : Kept (laid_in d0) (laid_in d1)) (p2 : Puts (cleaning_rows what) 23 (λ code. CleanAt code line what d1.marks) d1 d2) (c3 : d3 ≡ closed 1 d2) (k3 : Kept (laid_in d2) (laid_in d3)) where
   abbrev ns : List CodeMark
   ns = mark.Outward row (length d0.rows) ∷ d0.marks
 
@@ -111,10 +114,19 @@ module _ (what : Cleaning) (row line : ℕ) (d0 d1 d2 d3 : Draft) (o1 : d1 ≡ o
   moved : CleanAt (laid_in d3) line what d1.marks (length d1.ops) (length d2.ops)
   moved = kept_piece (λ c. CleanAt c line what d1.marks) (clean_stable line what d1.marks) (laid_in d2) (laid_in d3) (length d1.ops) (length d2.ops) (omega arith) k3 p2.code
 
+  grown : AddsRows (suc (cleaning_rows what)) (length d3.ops + 1) d0 d3
+  grown =
+      let g1 : AddsRows 1 (length d1.ops) d0 d1 = rows_opened (opening.Outward row) d0 d1 o1 in
+      let g2 : AddsRows (1 + cleaning_rows what) (length d2.ops) d0 d2 = rows_then p2.kept.longer g1 p2.rows in
+      let one : 1 + cleaning_rows what ≡ suc (cleaning_rows what) = omega arith in
+      let g3 : AddsRows (1 + cleaning_rows what) (length d2.ops + 1) d0 d3 = rows_last (omega arith) g2 (rows_closed 1 d2 d3 c3) in
+      rows_as one (let b = ops3 in omega arith) g3
+
   pub puts_left : PutsLeft what row line d0 d3
   puts_left = record {
     rest = like_rest d0 d3 (like_closed 1 d0 d2 d3 (like_puts d0 d1 d2 (like_opened (opening.Outward row) d0 d0 d1 refl o1) p2) c3) marks3;
     kept = kept_then (laid_in d0) (laid_in d1) (laid_in d3) k1 (kept_then (laid_in d1) (laid_in d2) (laid_in d3) p2.kept k3);
+    rows = grown;
     room = (let r = p2.room in let a = ops1 in let b = ops3 in omega arith);
     code = λ ms h r.
         let g : handlers d1.marks ≡ handlers ms = ap handlers marks1 ∙ sym h in
@@ -194,13 +206,15 @@ passes_loop all leave again rest p = record { bound = p.bound; low = p.low; cut 
 -- what is left of an exit
 
 pub leaves_none : (w : Way) (old : Draft) → Leaves w old old old.marks
-leaves_none w old = record { same = refl; kept = kept_refl (laid_in old); room = omega arith; on = λ code z k h. h }
+leaves_none w old = record { same = refl; kept = kept_refl (laid_in old); more = refl; begin = λ k l b. b; room = omega arith; on = λ code z k h. h }
 
 -- a mark that takes no ops on the way
-pub leaves_mark : (w : Way) (old now : Draft) (m : CodeMark) (rest : List CodeMark) → exit_room (m ∷ rest) ≡ exit_room rest → ((code : Laid) (a z : ℕ) → ExitAt code w rest a z → ExitAt code w (m ∷ rest) a z) → Leaves w old now (m ∷ rest) → Leaves w old now rest
-leaves_mark w old now m rest e f p = record {
+pub leaves_mark : (w : Way) (old now : Draft) (m : CodeMark) (rest : List CodeMark) → exit_room (m ∷ rest) ≡ exit_room rest → exit_rows w (m ∷ rest) ≡ exit_rows w rest → ((code : Laid) (a z : ℕ) → ExitAt code w rest a z → ExitAt code w (m ∷ rest) a z) → Leaves w old now (m ∷ rest) → Leaves w old now rest
+leaves_mark w old now m rest e i f p = record {
   same = p.same;
   kept = p.kept;
+  more = let r = p.more in omega arith;
+  begin = p.begin;
   room = let r = p.room in omega arith;
   on = λ code z k h. p.on code z k (f code (length now.ops) z h);
 }
@@ -210,6 +224,12 @@ clean_exit code ToBreak what line row rest a z h = h
 clean_exit code ToContinue what line row rest a z h = h
 clean_exit code ToReturn what line row rest a z h = h
 clean_exit code ToEnd what line row rest a z h = h
+
+clean_exit_rows : (w : Way) (what : Cleaning) (line row : ℕ) (rest : List CodeMark) → exit_rows w (mark.Clean what line row ∷ rest) ≡ suc (cleaning_rows what + exit_rows w rest)
+clean_exit_rows ToBreak what line row rest = refl
+clean_exit_rows ToContinue what line row rest = refl
+clean_exit_rows ToReturn what line row rest = refl
+clean_exit_rows ToEnd what line row rest = refl
 
 same_then : (a b c : Draft) → b ≡ record a { ops = b.ops; rows = b.rows; settled = b.settled } → c ≡ record b { ops = c.ops; rows = c.rows; settled = c.settled } → c ≡ record a { ops = c.ops; rows = c.rows; settled = c.settled }
 same_then a b c h k = k ∙ ap (λ d. let e : Draft = record d { ops = c.ops; rows = c.rows; settled = c.settled } in e) h
@@ -224,6 +244,8 @@ leaves_clean w old now next what line row rest s p q =
     record {
       same = same_then old now next p.same q.rest;
       kept = kept_then (laid_in old) (laid_in now) (laid_in next) p.kept q.kept;
+      more = (let a = p.more in let b = q.rows.more in let e = clean_exit_rows w what line row rest in omega arith);
+      begin = λ k l b. q.rows.begin k l (p.begin k (let n : length next.ops ≡ length now.ops + clean_length what = clean_is (laid_in next) line what rest (length now.ops) (length next.ops) c in omega arith) b);
       room = (let a = p.room in let b = q.room in omega arith);
       on = λ code z k g. p.on code z (kept_then (laid_in now) (laid_in next) code q.kept k) (clean_exit code w what line row rest (length now.ops) z (record {
         middle = length next.ops;
@@ -233,10 +255,14 @@ leaves_clean w old now next what line row rest s p q =
     }
 
 -- the last op of an exit
-pub leaves_end : (w : Way) (old now new : Draft) (rest : List CodeMark) (o : Op) (line : ℕ) → 1 ≤ exit_room rest → ((code : Laid) (a z : ℕ) → One code o line a z → ExitAt code w rest a z) → Leaves w old now rest → Puts 1 (λ code. One code o line) now new → Puts (exit_room old.marks) (λ code. ExitAt code w old.marks) old new
-leaves_end w old now new rest o line l f p q = record {
+pub leaves_end : (w : Way) (old now new : Draft) (rest : List CodeMark) (o : Op) (line : ℕ) → 1 ≤ exit_room rest → exit_rows w rest ≡ 0 → ((code : Laid) (a z : ℕ) → One code o line a z → ExitAt code w rest a z) → Leaves w old now rest → Puts 0 1 (λ code. One code o line) now new → Puts (exit_rows w old.marks) (exit_room old.marks) (λ code. ExitAt code w old.marks) old new
+leaves_end w old now new rest o line l i f p q = record {
   rest = same_then old now new p.same q.rest;
   kept = kept_then (laid_in old) (laid_in now) (laid_in new) p.kept q.kept;
+  rows = record {
+    more = let a = p.more in let b = q.rows.more in omega arith;
+    begin = λ k g b. q.rows.begin k g (p.begin k (let e = q.code.end in omega arith) b);
+  };
   room = let a = p.room in let b = q.room in omega arith;
   code = p.on (laid_in new) (length new.ops) q.kept (f (laid_in new) (length now.ops) (length new.ops) q.code);
 }

@@ -109,8 +109,11 @@ module _ (h : Handler) (takes : takes_events h.kind ≡ true) where
   handles_nested : (here : ℕ) (rs qs : List HandlerRow) (k : ℕ) (ms : List CodeMark) → Nested here rs ms → Handles rs qs k → Nested here qs ms
   handles_nested here rs qs k ms Bare a = none_of rs qs k a refl
   handles_nested here rs qs k ms (Ended r ps _ l n) a = elim (which rs qs k r ps a refl) [
-    | inl t ↦ subst (λ x. Nested here x ms) (sym t.is) (Ended (handled_row h r) ps ms l n)
-    | inr u ↦ subst (λ x. Nested here x ms) (sym u.is) (Ended r u.others ms l (handles_nested here ps u.others k ms n u.handles))
+    | inl t ↦ subst (λ x. Nested here x ms) (sym t.is) (Ended (handled_row h r) ps ms (record { within = l.within; range = l.range; outer = l.outer }) n)
+    | inr u ↦
+        let w : length u.others ≡ length ps = handles_length ps u.others k u.handles in
+        let o = l.outer in
+        subst (λ x. Nested here x ms) (sym u.is) (Ended r u.others ms (record { within = l.within; range = l.range; outer = omega arith }) (handles_nested here ps u.others k ms n u.handles))
   ]
   handles_nested here rs qs k ms (InBody routine _ ns n) a = InBody routine qs ns (handles_nested here rs qs k ns n a)
   handles_nested here rs qs k ms (InLoop leave again _ ns n) a = InLoop leave again qs ns (handles_nested here rs qs k ns n a)
@@ -136,7 +139,7 @@ this_handled h k [] r e = absurd (cc)
 this_handled h zero (q ∷ rs) r e = let f : q ≡ r = cc in rw f refl
 this_handled h (suc k) (q ∷ rs) r e = this_handled h k rs r e
 
-length_handled : (h : Handler) (k : ℕ) (rows : List HandlerRow) → length (handled_rows h k rows) ≡ length rows
+pub length_handled : (h : Handler) (k : ℕ) (rows : List HandlerRow) → length (handled_rows h k rows) ≡ length rows
 length_handled h k [] = refl
 length_handled h zero (r ∷ rs) = refl
 length_handled h (suc k) (r ∷ rs) = ap suc (length_handled h k rs)

@@ -147,6 +147,17 @@ module _ (here : ℕ) where
   around_named opening.Elements qs ns n = all_named qs ns n
   around_named (opening.Outward below) qs ns n = named qs ns n below
 
+  -- the row around a new one is older
+
+  pub older_named : (o : Opening) (qs : List HandlerRow) (ns : List CodeMark) → Nested here qs ns → named_by (opening_around o ns) ≤ length qs
+  older_named (opening.Main main routine line) qs ns n = name_small (length qs) (handlers ns) (all_below qs ns n)
+  older_named (opening.Whole leave) qs ns n = name_small (length qs) (handlers ns) (all_below qs ns n)
+  older_named opening.Handler qs ns n = name_small (length qs) (handlers ns) (all_below qs ns n)
+  older_named (opening.Object what line) qs ns n = name_small (length qs) (handlers ns) (all_below qs ns n)
+  older_named opening.Part qs ns n = name_small (length qs) (handlers ns) (all_below qs ns n)
+  older_named opening.Elements qs ns n = name_small (length qs) (handlers ns) (all_below qs ns n)
+  older_named (opening.Outward below) qs ns n = name_small (length qs) (under below (handlers ns)) (below_under (length qs) below (handlers ns) (all_below qs ns n))
+
   -- each op from here on has the handlers of the marks
 
   covers_past : (b : Bool) (r : HandlerRow) (next : ℕ) → b ≡ nat_lt r.from next → r.to < next → covers r next ≡ false
@@ -158,7 +169,7 @@ module _ (here : ℕ) where
 
   pub newest : (rs : List HandlerRow) (ms : List CodeMark) → Nested here rs ms → (next : ℕ) → here < next → next ≤ OPEN_END → from_newest rs next ≡ handlers ms
   newest rs ms Bare next g m = refl
-  newest rs ms (Ended r qs _ l n) next g m = let c : covers r next ≡ false = covers_past (nat_lt r.from next) r next refl (omega arith) in rw c (newest qs ms n next g m)
+  newest rs ms (Ended r qs _ l n) next g m = let w = l.within in let c : covers r next ≡ false = covers_past (nat_lt r.from next) r next refl (omega arith) in rw c (newest qs ms n next g m)
   newest rs ms (InBody routine _ qs n) next g m = newest rs qs n next g m
   newest rs ms (InLoop leave again _ qs n) next g m = newest rs qs n next g m
   newest rs ms (InRow o from qs ns l n) next g m =
@@ -170,7 +181,7 @@ module _ (here : ℕ) where
 -- further on all still fits
 pub nested_rise : (here there : ℕ) → here ≤ there → (rs : List HandlerRow) (ms : List CodeMark) → Nested here rs ms → Nested there rs ms
 nested_rise here there g rs ms Bare = Bare
-nested_rise here there g rs ms (Ended r qs _ l n) = Ended r qs ms (omega arith) (nested_rise here there g qs ms n)
+nested_rise here there g rs ms (Ended r qs _ l n) = let w = l.within in Ended r qs ms (record { within = omega arith; range = l.range; outer = l.outer }) (nested_rise here there g qs ms n)
 nested_rise here there g rs ms (InBody routine _ qs n) = InBody routine rs qs (nested_rise here there g rs qs n)
 nested_rise here there g rs ms (InLoop leave again _ qs n) = InLoop leave again rs qs (nested_rise here there g rs qs n)
 nested_rise here there g rs ms (InRow o from qs ns l n) = InRow o from qs ns (omega arith) (nested_rise here there g qs ns n)

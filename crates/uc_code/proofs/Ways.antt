@@ -16,6 +16,7 @@ use Rattle.uc_code.specs.Exits.{way_of}
 use Rattle.uc_code.specs.CodeShapes.{One, main_end}
 use Rattle.uc_code.specs.Lowered.{Any, ExitAt}
 use Rattle.uc_code.specs.OpenRows.{CleansBehind, exit_room}
+use Rattle.uc_code.specs.RowCounts.{exit_rows}
 use Rattle.uc_code.specs.Emits.{Puts, PastBehind, PutsPast, Leaves, past_room, outermost, end_op, ends_at}
 use Rattle.uc_code.proofs.Closed.{reverse_take}
 use Rattle.uc_code.proofs.Exiting.{Passing, passes_clean, passes_guard, passes_part, passes_elements, passes_loop, leaves_mark, leaves_clean, leaves_end}
@@ -90,6 +91,76 @@ module _ (code : Laid) where
   bare_exit way.Value a z h = h
   bare_exit way.End a z h = h
 
+-- no row is left for a way that has ended
+
+ends_rows : (w : Way) (m : CodeMark) (rest : List CodeMark) (line : ℕ) (s : Op × ℕ) → ends_at w m line ≡ Some s → exit_rows (way_of w) (m ∷ rest) ≡ 0
+ends_rows way.Break (mark.Body routine) rest line s e = refl
+ends_rows way.Break (mark.Finish main routine last row) rest line s e = refl
+ends_rows way.Break (mark.Loop leave again) rest line s e = refl
+ends_rows way.Break (mark.Whole leave row) rest line s e = refl
+ends_rows way.Break (mark.Guard row) rest line s e = absurd (cc)
+ends_rows way.Break (mark.Clean what last row) rest line s e = absurd (cc)
+ends_rows way.Break (mark.Part row) rest line s e = absurd (cc)
+ends_rows way.Break (mark.Elements row) rest line s e = absurd (cc)
+ends_rows way.Break (mark.Outward below row) rest line s e = refl
+ends_rows way.Continue (mark.Body routine) rest line s e = refl
+ends_rows way.Continue (mark.Finish main routine last row) rest line s e = refl
+ends_rows way.Continue (mark.Loop leave again) rest line s e = refl
+ends_rows way.Continue (mark.Whole leave row) rest line s e = refl
+ends_rows way.Continue (mark.Guard row) rest line s e = absurd (cc)
+ends_rows way.Continue (mark.Clean what last row) rest line s e = absurd (cc)
+ends_rows way.Continue (mark.Part row) rest line s e = absurd (cc)
+ends_rows way.Continue (mark.Elements row) rest line s e = absurd (cc)
+ends_rows way.Continue (mark.Outward below row) rest line s e = refl
+ends_rows way.Value (mark.Body routine) rest line s e = refl
+ends_rows way.Value (mark.Finish main routine last row) rest line s e = refl
+ends_rows way.Value (mark.Loop leave again) rest line s e = absurd (cc)
+ends_rows way.Value (mark.Whole leave row) rest line s e = refl
+ends_rows way.Value (mark.Guard row) rest line s e = absurd (cc)
+ends_rows way.Value (mark.Clean what last row) rest line s e = absurd (cc)
+ends_rows way.Value (mark.Part row) rest line s e = absurd (cc)
+ends_rows way.Value (mark.Elements row) rest line s e = absurd (cc)
+ends_rows way.Value (mark.Outward below row) rest line s e = refl
+ends_rows way.End (mark.Body routine) rest line s e = refl
+ends_rows way.End (mark.Finish main routine last row) rest line s e = refl
+ends_rows way.End (mark.Loop leave again) rest line s e = absurd (cc)
+ends_rows way.End (mark.Whole leave row) rest line s e = refl
+ends_rows way.End (mark.Guard row) rest line s e = absurd (cc)
+ends_rows way.End (mark.Clean what last row) rest line s e = absurd (cc)
+ends_rows way.End (mark.Part row) rest line s e = absurd (cc)
+ends_rows way.End (mark.Elements row) rest line s e = absurd (cc)
+ends_rows way.End (mark.Outward below row) rest line s e = refl
+
+bare_rows : (w : Way) → exit_rows (way_of w) [] ≡ 0
+bare_rows way.Break = refl
+bare_rows way.Continue = refl
+bare_rows way.Value = refl
+bare_rows way.End = refl
+
+loop_exit_rows : (w : Way) (leave again line : ℕ) (rest : List CodeMark) → ends_at w (mark.Loop leave again) line ≡ None → exit_rows (way_of w) (mark.Loop leave again ∷ rest) ≡ exit_rows (way_of w) rest
+loop_exit_rows way.Break leave again line rest e = absurd (cc)
+loop_exit_rows way.Continue leave again line rest e = absurd (cc)
+loop_exit_rows way.Value leave again line rest e = refl
+loop_exit_rows way.End leave again line rest e = refl
+
+guard_exit_rows : (w : source.Way) (row : ℕ) (rest : List CodeMark) → exit_rows w (mark.Guard row ∷ rest) ≡ exit_rows w rest
+guard_exit_rows source.ToBreak row rest = refl
+guard_exit_rows source.ToContinue row rest = refl
+guard_exit_rows source.ToReturn row rest = refl
+guard_exit_rows source.ToEnd row rest = refl
+
+part_exit_rows : (w : source.Way) (row : ℕ) (rest : List CodeMark) → exit_rows w (mark.Part row ∷ rest) ≡ exit_rows w rest
+part_exit_rows source.ToBreak row rest = refl
+part_exit_rows source.ToContinue row rest = refl
+part_exit_rows source.ToReturn row rest = refl
+part_exit_rows source.ToEnd row rest = refl
+
+elements_exit_rows : (w : source.Way) (row : ℕ) (rest : List CodeMark) → exit_rows w (mark.Elements row ∷ rest) ≡ exit_rows w rest
+elements_exit_rows source.ToBreak row rest = refl
+elements_exit_rows source.ToContinue row rest = refl
+elements_exit_rows source.ToReturn row rest = refl
+elements_exit_rows source.ToEnd row rest = refl
+
 exit_least : (ms : List CodeMark) → 1 ≤ exit_room ms
 exit_least [] = omega arith
 exit_least (mark.Body routine ∷ ms) = omega arith
@@ -106,11 +177,11 @@ exit_least (mark.Outward below row ∷ ms) = omega arith
 pub leaves_room : (w : source.Way) (old now : Draft) (rest : List CodeMark) (most : ℕ) → length old.ops + exit_room old.marks ≤ most → Leaves w old now rest → length now.ops < most
 leaves_room w old now rest most l p = let r = p.room in let e = exit_least rest in omega arith
 
-pub exit_ends : (w : Way) (old now new : Draft) (m : CodeMark) (rest : List CodeMark) (line l : ℕ) (o : Op) → ends_at w m line ≡ Some (o, l) → Leaves (way_of w) old now (m ∷ rest) → Puts 1 (λ code. One code o l) now new → Puts (exit_room old.marks) (λ code. ExitAt code (way_of w) old.marks) old new
-exit_ends w old now new m rest line l o e p q = leaves_end (way_of w) old now new (m ∷ rest) o l (exit_least (m ∷ rest)) (λ code a z h. ends_exit code w m rest line (o, l) a z e h) p q
+pub exit_ends : (w : Way) (old now new : Draft) (m : CodeMark) (rest : List CodeMark) (line l : ℕ) (o : Op) → ends_at w m line ≡ Some (o, l) → Leaves (way_of w) old now (m ∷ rest) → Puts 0 1 (λ code. One code o l) now new → Puts (exit_rows (way_of w) old.marks) (exit_room old.marks) (λ code. ExitAt code (way_of w) old.marks) old new
+exit_ends w old now new m rest line l o e p q = leaves_end (way_of w) old now new (m ∷ rest) o l (exit_least (m ∷ rest)) (ends_rows w m rest line (o, l) e) (λ code a z h. ends_exit code w m rest line (o, l) a z e h) p q
 
-pub exit_bare : (w : Way) (old now new : Draft) → Leaves (way_of w) old now [] → Puts 1 (λ code. One code (end_op w) 0) now new → Puts (exit_room old.marks) (λ code. ExitAt code (way_of w) old.marks) old new
-exit_bare w old now new p q = leaves_end (way_of w) old now new [] (end_op w) 0 (omega arith) (λ code a z h. bare_exit code w a z h) p q
+pub exit_bare : (w : Way) (old now new : Draft) → Leaves (way_of w) old now [] → Puts 0 1 (λ code. One code (end_op w) 0) now new → Puts (exit_rows (way_of w) old.marks) (exit_room old.marks) (λ code. ExitAt code (way_of w) old.marks) old new
+exit_bare w old now new p q = leaves_end (way_of w) old now new [] (end_op w) 0 (omega arith) (bare_rows w) (λ code a z h. bare_exit code w a z h) p q
 
 -- where it goes on
 
@@ -189,10 +260,10 @@ same_left w old now next rest e p = subst (λ (d : Draft). Leaves w old d rest) 
 pub leaves_past : (w : Way) (old now next : Draft) (m : CodeMark) (rest : List CodeMark) (line : ℕ) → ends_at w m line ≡ None → Passing old.marks (m ∷ rest) → Leaves (way_of w) old now (m ∷ rest) → PutsPast m now next → Leaves (way_of w) old next rest
 leaves_past w old now next (mark.Body routine) rest line e s p q = absurd (cc)
 leaves_past w old now next (mark.Finish main routine last row) rest line e s p q = absurd (cc)
-leaves_past w old now next (mark.Loop leave again) rest line e s p q = same_left (way_of w) old now next rest q (leaves_mark (way_of w) old now (mark.Loop leave again) rest refl (λ code a z h. loop_exit w leave again line e code rest a z h) p)
+leaves_past w old now next (mark.Loop leave again) rest line e s p q = same_left (way_of w) old now next rest q (leaves_mark (way_of w) old now (mark.Loop leave again) rest refl (loop_exit_rows w leave again line rest e) (λ code a z h. loop_exit w leave again line e code rest a z h) p)
 leaves_past w old now next (mark.Whole leave row) rest line e s p q = absurd (cc)
-leaves_past w old now next (mark.Guard row) rest line e s p q = same_left (way_of w) old now next rest q (leaves_mark (way_of w) old now (mark.Guard row) rest refl (λ code a z h. guard_exit (way_of w) code row rest a z h) p)
+leaves_past w old now next (mark.Guard row) rest line e s p q = same_left (way_of w) old now next rest q (leaves_mark (way_of w) old now (mark.Guard row) rest refl (guard_exit_rows (way_of w) row rest) (λ code a z h. guard_exit (way_of w) code row rest a z h) p)
 leaves_past w old now next (mark.Clean what last row) rest line e s p q = leaves_clean (way_of w) old now next what last row rest s p q
-leaves_past w old now next (mark.Part row) rest line e s p q = same_left (way_of w) old now next rest q (leaves_mark (way_of w) old now (mark.Part row) rest refl (λ code a z h. part_exit (way_of w) code row rest a z h) p)
-leaves_past w old now next (mark.Elements row) rest line e s p q = same_left (way_of w) old now next rest q (leaves_mark (way_of w) old now (mark.Elements row) rest refl (λ code a z h. elements_exit (way_of w) code row rest a z h) p)
+leaves_past w old now next (mark.Part row) rest line e s p q = same_left (way_of w) old now next rest q (leaves_mark (way_of w) old now (mark.Part row) rest refl (part_exit_rows (way_of w) row rest) (λ code a z h. part_exit (way_of w) code row rest a z h) p)
+leaves_past w old now next (mark.Elements row) rest line e s p q = same_left (way_of w) old now next rest q (leaves_mark (way_of w) old now (mark.Elements row) rest refl (elements_exit_rows (way_of w) row rest) (λ code a z h. elements_exit (way_of w) code row rest a z h) p)
 leaves_past w old now next (mark.Outward below row) rest line e s p q = absurd (cc)

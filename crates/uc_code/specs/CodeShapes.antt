@@ -22,7 +22,7 @@ pub record OpAt (code : Laid) (a : ℕ) (op : Op) (line : ℕ) : Type 0 where
 pub record Nothing (a z : ℕ) : Type 0 where
   pub end : z ≡ a
 
--- no range: the code of what is not built yet
+-- no range: no code is that of such a piece
 abbrev pub Never : ℕ → ℕ → Type 0
 Never a z = ⊥
 

@@ -1,5 +1,5 @@
 -- What calls that add code do to a draft.
-use Rattle.std.specs.Prelude.{◌≡◌, ℕ, ◌+◌, ◌*◌, ◌≤◌, length, reverse, take, List, Bool, true, false, Option, Some, None}
+use Rattle.std.specs.Prelude.{◌≡◌, ℕ, suc, ◌+◌, ◌*◌, ◌≤◌, length, reverse, take, List, Bool, true, false, Option, Some, None}
 use Rattle.uc_code.specs.declared.op.Op.{Op}
 use Rattle.uc_code.specs.declared.op.Op.TheVariants as op
 use Rattle.uc_code.specs.declared.rows.Array.{Array}
@@ -19,11 +19,14 @@ use Rattle.uc_code.specs.Layout.{Laid, laid_in, handlers, under, routine_in}
 use Rattle.uc_code.specs.CodeShapes.{Kept, main_end}
 use Rattle.uc_code.specs.Lowered.{CleanAt, ExitAt}
 use Rattle.uc_code.specs.OpenRows.{CleansBehind, clean_room, exit_room}
+use Rattle.uc_code.specs.RowCounts.{cleaning_rows, exit_rows}
+use Rattle.uc_code.specs.RowGrowth.{AddsRows, BeginBy}
 
--- a draft with at most n ops more, for which S holds, and with rows that are closed; else it is as it was
-pub record Puts (n : ℕ) (S : Laid → ℕ → ℕ → Type 0) (old new : Draft) : Type 0 where
+-- a draft with r rows more, which are closed, and with at most n ops more, for which S holds; else it is as it was
+pub record Puts (r n : ℕ) (S : Laid → ℕ → ℕ → Type 0) (old new : Draft) : Type 0 where
   pub rest : new ≡ record old { ops = new.ops; rows = new.rows; settled = new.settled }
   pub kept : Kept (laid_in old) (laid_in new)
+  pub rows : AddsRows r (length new.ops) old new
   pub room : length new.ops ≤ length old.ops + n
   pub code : S (laid_in new) (length old.ops) (length new.ops)
 
@@ -100,10 +103,12 @@ ends_at w (mark.Part row) line = None
 ends_at w (mark.Elements row) line = None
 ends_at w (mark.Outward below row) line = Some (end_op w, 0)
 
--- a draft with the code of a clean-up under whatever marks have the rows below this one
+-- a draft with the code of a clean-up under whatever marks have the rows below this one; its own row performs nothing, and names what
+-- comes next
 pub record PutsLeft (what : Cleaning) (row line : ℕ) (old new : Draft) : Type 0 where
   pub rest : new ≡ record old { ops = new.ops; rows = new.rows; settled = new.settled }
   pub kept : Kept (laid_in old) (laid_in new)
+  pub rows : AddsRows (suc (cleaning_rows what)) (length new.ops + 1) old new
   pub room : length new.ops ≤ length old.ops + clean_room
   pub code : (ms : List CodeMark) → handlers ms ≡ under row (handlers old.marks) → routine_in ms ≡ routine_in old.marks → CleanAt (laid_in new) line what ms (length old.ops) (length new.ops)
 
@@ -130,5 +135,7 @@ outermost n ms = reverse (take n (reverse ms))
 pub record Leaves (w : source.Way) (old now : Draft) (rest : List CodeMark) : Type 0 where
   pub same : now ≡ record old { ops = now.ops; rows = now.rows; settled = now.settled }
   pub kept : Kept (laid_in old) (laid_in now)
+  pub more : length now.rows + exit_rows w rest ≡ length old.rows + exit_rows w old.marks
+  pub begin : (k : ℕ) → length now.ops + 1 ≤ k → BeginBy k old.rows → BeginBy k now.rows
   pub room : length now.ops + exit_room rest ≤ length old.ops + exit_room old.marks
   pub on : (code : Laid) (z : ℕ) → Kept (laid_in now) code → ExitAt code w rest (length now.ops) z → ExitAt code w old.marks (length old.ops) z

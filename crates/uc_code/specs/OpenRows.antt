@@ -1,5 +1,5 @@
 -- Rows while code is laid out: a row is open from its first op on, and closed behind its last one.
-use Rattle.std.specs.Prelude.{◌≡◌, ℕ, zero, suc, ◌+◌, ◌<◌, ◌≤◌, ◌++◌, List, [], ◌∷◌, length, reverse, drop, min, Bool, true, false, nat_lt, if◌then◌else◌, Option, Some, None}
+use Rattle.std.specs.Prelude.{◌≡◌, ℕ, zero, suc, ◌+◌, ◌<◌, ◌≤◌, ◌++◌, List, [], ◌∷◌, length, reverse, drop, min, Bool, true, false, nat_lt, if◌then◌else◌, slice_get, Option, Some, None}
 use Rattle.uc_code.specs.declared.rows.HandlerRow.{HandlerRow}
 use Rattle.uc_code.specs.declared.rows.Handler.{Handler}
 use Rattle.uc_code.specs.declared.rows.RowKind.{RowKind}
@@ -164,11 +164,21 @@ AllBehind (mark.Part row ∷ ms) = AllBehind ms
 AllBehind (mark.Elements row ∷ ms) = AllBehind ms
 AllBehind (mark.Outward below row ∷ ms) = AllBehind ms
 
+-- the row of this number ends by this place, not before it begins, and the row around it is older
+pub record IsEnded (here number : ℕ) (r : HandlerRow) : Type 0 where
+  pub within : r.to ≤ here
+  pub range : r.from ≤ r.to
+  pub outer : r.outer ≤ number
+
+-- all rows are
+pub record AreEnded (here : ℕ) (rows : List HandlerRow) : Type 0 where
+  pub each : (number : ℕ) (row : HandlerRow) → slice_get rows number ≡ Some row → IsEnded here number row
+
 -- the marks and the rows fit one another: a mark with a row has one that is still open, the marks around it have older rows, and
--- every row that is no mark's ends by this place. The newest row stands first.
+-- every row that is no mark's has ended by this place. The newest row stands first.
 pub data Nested (here : ℕ) : List HandlerRow → List CodeMark → Type 0 where
   Bare : Nested here [] []
-  Ended : (r : HandlerRow) (rs : List HandlerRow) (ms : List CodeMark) → r.to ≤ here → Nested here rs ms → Nested here (r ∷ rs) ms
+  Ended : (r : HandlerRow) (rs : List HandlerRow) (ms : List CodeMark) → IsEnded here (length rs) r → Nested here rs ms → Nested here (r ∷ rs) ms
   InBody : (routine : ℕ) (rs : List HandlerRow) (ms : List CodeMark) → Nested here rs ms → Nested here rs (mark.Body routine ∷ ms)
   InLoop : (leave again : ℕ) (rs : List HandlerRow) (ms : List CodeMark) → Nested here rs ms → Nested here rs (mark.Loop leave again ∷ ms)
   InRow : (o : Opening) (from : ℕ) (rs : List HandlerRow) (ms : List CodeMark) → from ≤ here → Nested here rs ms → Nested here (made o from ms ∷ rs) (opening_mark o (length rs) ∷ ms)

@@ -5,7 +5,7 @@ ghost use Rattle.uc_tree.specs.declared.limits.TheConstants.{FRAME_CELLS, PROGRA
 ghost use Rattle.uc_code.specs.Drafts.{ops_with, patched, IsInnermost, IsUnknown};
 ghost use Rattle.uc_code.specs.Layout.{laid_in, handlers, takes_events};
 ghost use Rattle.uc_code.specs.declared.rows.CodeMark.TheVariants as mark;
-ghost use Rattle.uc_code.specs.OpenRows.{AllBehind, Falling, OpensBehind, handler_in, guard_in, opened, closed, handled_rows, left_marks};
+ghost use Rattle.uc_code.specs.OpenRows.{AllBehind, AreEnded, Falling, OpensBehind, handler_in, guard_in, opened, closed, handled_rows, left_marks};
 ghost use Rattle.uc_code.specs.CodeShapes.{HandlerAt, IsBare, Kept, KeptBut, Risk, clean_up};
 
 use crate::code::Code;
@@ -423,9 +423,11 @@ impl Draft {
         innermost_of(&self.names, name)
     }
 
-    /// The code, with these accept statements, text literals and cells of classes.
+    /// The code, with these accept statements, text literals and cells of classes. Where nothing stands around this place, all rows have
+    /// ended.
     pub fn finish(self, sites: Vec<Site>, texts: Vec<Text>, classes: Vec<u32>) -> Code
-        ensures { result ≡ record { ops = self.ops; rows = self.rows; sites = sites.items; texts = texts.items; routines = self.routines; classes = classes.items } }
+        ensures code { result ≡ record { ops = self.ops; rows = self.rows; sites = sites.items; texts = texts.items; routines = self.routines; classes = classes.items } }
+        ensures ended { self.marks ≡ [] → AreEnded (length self.ops) self.rows }
     {
         Code {
             ops: self.ops,

@@ -12,10 +12,6 @@ pub record IsRowOf (ops number : ℕ) (row : HandlerRow) : Type 0 where
   pub entry : row.entry < ops
   pub outer : row.outer ≤ number
 
--- so it is with the first rows, so many
-pub record AreRowsBefore (ops count : ℕ) (rows : List HandlerRow) : Type 0 where
-  pub each : (number : ℕ) (row : HandlerRow) → number < count → slice_get rows number ≡ Some row → IsRowOf ops number row
-
 -- there are no more rows than ops, and each is such a one
 pub record HasRows (code : Code) : Type 0 where
   pub few : length code.rows ≤ length code.ops

@@ -56,5 +56,5 @@ pub returns : goal.returns
 returns c =
     let z : c.loop-i.i ≡ 0 = search rules in
     let p : Leaves (way_of c.args.way) c.args.out.now c.loop-i.out [] = subst (λ (k : ℕ). Leaves (way_of c.args.way) c.args.out.now c.loop-i.out (outermost k c.args.out.now.marks)) z c.loop-i.invariant.2 in
-    let q : Puts 1 (λ code. One code (end_op c.args.way) 0) c.loop-i.out c.put-2.new.out = subst (λ (o : Op). Puts 1 (λ code. One code o 0) c.loop-i.out c.put-2.new.out) c.end_op.ensures c.in_ok-put-2.ensures in
+    let q : Puts 0 1 (λ code. One code (end_op c.args.way) 0) c.loop-i.out c.put-2.new.out = subst (λ (o : Op). Puts 0 1 (λ code. One code o 0) c.loop-i.out c.put-2.new.out) c.end_op.ensures c.in_ok-put-2.ensures in
     exit_bare c.args.way c.args.out.now c.loop-i.out c.put-2.new.out p q
