@@ -1,4 +1,4 @@
-use Rattle.std.proofs.Common.{◌≡◌, List, [], ◌∷◌, ◌++◌, ap, sym, subst, ◌∙◌}
+use Rattle.std.proofs.Common.{◌≡◌, [], ◌∷◌, ◌++◌, ap, sym, subst, ◌∙◌}
 use Rattle.uc_code.specs.Layout.{laid_of}
 use Rattle.uc_frames.specs.PaceInvariant.{EachOf, IdlesAt}
 use Rattle.uc_ride_rows.proofs.StageLemmas.{each_taken, each_put}

@@ -1,5 +1,4 @@
-use Rattle.std.proofs.Common.{rules, ◌≡◌, ℕ, ◌<◌, length}
-use Rattle.uc_ride_rows.specs.Stages.{IsNumbered}
+use Rattle.std.proofs.Common.{rules, ◌<◌, length}
 use Rattle.uc_ride_rows.proofs.stage.place_of.Goals as goal
 
 -- src/stage.rt:14:13

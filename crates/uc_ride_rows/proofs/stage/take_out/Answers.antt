@@ -1,6 +1,6 @@
-use Rattle.std.proofs.Common.{rules, ◌≡◌, ℕ, length, get_or, refl, sym, subst, ◌∙◌}
+use Rattle.std.proofs.Common.{◌≡◌, get_or, refl, sym, subst, ◌∙◌}
 use Rattle.std.proofs.lemmas.List.{get_or_default}
-use Rattle.uc_ride_rows.specs.Stages.{IsTakenOut, IsNumbered}
+use Rattle.uc_ride_rows.specs.Stages.{IsNumbered}
 use Rattle.uc_ride_rows.proofs.stage.take_out.Goals as goal
 
 -- src/stage.rt:21:1

@@ -1,7 +1,4 @@
-use Rattle.std.proofs.Common.{◌≡◌, false, List, sym, subst, ◌∙◌}
-use Rattle.uc_code.specs.Layout.{laid_of}
-use Rattle.uc_frames.specs.Machine.{with_hand}
-use Rattle.uc_frames.specs.PaceInvariant.{EachOf, IdlesAt}
+use Rattle.std.proofs.Common.{◌≡◌, false, sym, subst, ◌∙◌}
 use Rattle.uc_step.specs.WeightFalls.{Keeps}
 use Rattle.uc_ride.specs.UnwindingFalls.{KeepsAfter}
 use Rattle.uc_ride_rows.specs.Stages.{ends, faults}

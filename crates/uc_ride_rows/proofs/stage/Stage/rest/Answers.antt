@@ -1,4 +1,4 @@
-use Rattle.std.proofs.Common.{◌≡◌, List, [], ◌∷◌, ◌++◌, ap, sym, subst, ◌∙◌}
+use Rattle.std.proofs.Common.{◌≡◌, [], ◌∷◌, ◌++◌, ap, sym, subst, ◌∙◌}
 use Rattle.uc_frames.specs.PaceInvariant.{EachOf}
 use Rattle.uc_step.specs.WeightFalls.{Keeps}
 use Rattle.uc_ride_rows.proofs.StageLemmas.{each_put}

@@ -1,6 +1,4 @@
-use Rattle.std.proofs.Common.{◌≡◌, List, sym, subst}
-use Rattle.uc_code.specs.Layout.{laid_of}
-use Rattle.uc_frames.specs.PaceInvariant.{EachOf, IdlesAt}
+use Rattle.std.proofs.Common.{sym, subst}
 use Rattle.uc_step.specs.WeightFalls.{Keeps}
 use Rattle.uc_ride_rows.proofs.StageLemmas.{each_taken, kept_hand, kept_task, kept_work}
 use Rattle.uc_ride_rows.proofs.stage.Stage.ride.Goals as goal
