@@ -1,7 +1,7 @@
 // What stands at one object.
 
-ghost use Rattle.std.specs.Prelude.{◌≡◌, ◌==◌, ℕ, ℤ, List, map, OnOk, OnErr};
-ghost use Rattle.std.specs.List.{filter};
+ghost use Rattle.std.specs.Prelude.{◌≡◌, ◌==◌, ◌||◌, not, ℕ, ℤ, List, map, OnOk, OnErr};
+ghost use Rattle.std.specs.List.{filter, list_any};
 ghost use Rattle.uc_acts.specs.Queues.{successor};
 ghost use Rattle.uc_acts.specs.Fit.{IsFit};
 ghost use Rattle.uc_explain.specs.Shown.{in_order};
@@ -78,6 +78,15 @@ impl Door {
         let from = first_at(&self.conds, cond);
         let to = wait_place(&self.conds, cond);
         &self.waits[from..to]
+    }
+
+    /// Whether a task other than this one waits, is stacked or is blocked.
+    pub(crate) fn has_others(&self, task: u32) -> bool
+        ensures { result ≡ (list_any (λ w. not (w.0 == task)) self.now.waiting || (list_any (λ s. not (s == task)) self.now.stacked || list_any (λ b. not (b.0 == task)) self.now.blocked)) }
+    {
+        self.waiting.iter().any(|call| call.0 != task)
+            || self.stacked.iter().any(|other| *other != task)
+            || self.waits.iter().any(|wait| wait.0 != task)
     }
 
     /// Who is let in next, and the way.

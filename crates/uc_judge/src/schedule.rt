@@ -8,7 +8,8 @@ ghost use Rattle.std.specs.BTreeMap.{get};
 ghost use Rattle.uc_acts.specs.Fit.{IsFit};
 ghost use Rattle.uc_acts.specs.Answers.{first_of};
 ghost use Rattle.uc_acts.specs.Journal.{Journal};
-ghost use Rattle.uc_acts.specs.Queues.{ready, running, tasks_on, is_nobody, clusters, dispatches, takes_off, leaves_cluster};
+ghost use Rattle.uc_entry.specs.declared.entry.Options.{Options};
+ghost use Rattle.uc_acts.specs.Queues.{ready, running, tasks_on, is_nobody, clusters, dispatches, takes_off, leaves_cluster, none_running, none_ready, none_served, processor_count, cluster_count, open_processors};
 ghost use Rattle.uc_judge.specs.Scheduled.{IsSchedule, placed, of_number};
 
 use crate::effects::{
@@ -74,6 +75,28 @@ impl Schedule {
         ensures { (j : Journal) → IsSchedule self.now j → result ≡ first_of (running processor j) }
     {
         first_of_number(&self.running, u64::from(processor))
+    }
+
+    /// Whether no task runs on any of the first so many processors.
+    pub fn none_running(&self, processors: u64) -> bool
+        ensures { (opts : Options) (j : Journal) → IsSchedule self.now j → processors ≡ processor_count opts j → result ≡ none_running opts j }
+    {
+        !self.running.iter().any(|row| row.1 < processors)
+    }
+
+    /// Whether no task is ready on any of the first so many clusters.
+    pub fn none_ready(&self, clusters: u64) -> bool
+        ensures { (j : Journal) → IsSchedule self.now j → clusters ≡ cluster_count j → result ≡ none_ready j }
+    {
+        !self.ready.iter().any(|row| row.1 < clusters)
+    }
+
+    /// Whether no task is ready on the cluster of any of these processors, which are open.
+    pub fn none_served(&self, open: &[(u64, u64)]) -> bool
+        ensures { (opts : Options) (j : Journal) → IsSchedule self.now j → open.now ≡ open_processors opts j → result ≡ none_served opts j }
+    {
+        open.iter()
+            .all(|row| first_of_number(&self.ready, row.1).is_none())
     }
 
     /// Whether no task that has not ended is on a cluster.
