@@ -1,15 +1,16 @@
 // The processors.
 
-ghost use Rattle.std.specs.Prelude.{◌≡◌, ◌==◌, ◌++◌, ◌∷◌, [], OnOk, IfOk};
-ghost use Rattle.std.specs.List.{list_any};
+ghost use Rattle.std.specs.Prelude.{◌≡◌, ◌==◌, ◌++◌, ◌∷◌, [], OnOk, IfOk, map};
+ghost use Rattle.std.specs.List.{list_any, range_with_len};
 ghost use Rattle.uc_entry.specs.declared.entry.Options.{Options};
 ghost use Rattle.uc_acts.specs.Fit.{IsFit};
 ghost use Rattle.uc_acts.specs.Journal.{Journal};
 ghost use Rattle.uc_acts.specs.Queues.{processors, open_processors, cluster_in};
 ghost use Rattle.uc_judge.specs.ProcessorRows.{AreProcessors};
 
+use crate::effects::number;
 use std::alloc::{AllocError, Global};
-use uc_entry::entry::{Entry, Options};
+use uc_entry::entry::{Entry, EntryKind, Options};
 
 /// The processors behind the entries that were added, and those of them that are not closed.
 #[derive(Drop)]
@@ -25,12 +26,8 @@ impl Processors {
     pub fn new(alloc: Global, opts: &Options) -> Result<Processors, AllocError>
         ensures { IfOk result (λ s. AreProcessors s opts.now []) }
     {
-        let mut all = Vec::new(alloc);
-        let mut open = Vec::new(alloc);
-        for number in 0..opts.processors {
-            all.push((u64::from(number), 0))?;
-            open.push((u64::from(number), 0))?;
-        }
+        let all = opening(alloc, opts.processors)?;
+        let open = opening(alloc, opts.processors)?;
         Ok(Processors {
             all,
             open,
@@ -39,11 +36,27 @@ impl Processors {
     }
 
     /// Adds the next entry of the journal. After want of memory it is spent.
-    pub fn add(&mut self, _e: &Entry) -> Result<(), AllocError>
+    pub fn add(&mut self, e: &Entry) -> Result<(), AllocError>
         requires { IsFit e.now }
         ensures { OnOk result ((opts : Options) (j : Journal) → AreProcessors self.old opts j → AreProcessors self.new opts (j ++ e.now ∷ [])) }
     {
-        Err(AllocError)
+        match e.kind {
+            EntryKind::Processor => {
+                let row = (number(e.a), number(e.b));
+                self.all.push(row)?;
+                if !is_among(row.0, &self.closed) {
+                    self.open.push(row)?;
+                }
+                Ok(())
+            }
+            EntryKind::ProcessorEnd => {
+                let processor = number(e.a);
+                self.closed.push(processor)?;
+                self.open.retain(|row| row.0 != processor);
+                Ok(())
+            }
+            _ => Ok(()),
+        }
     }
 
     /// Those that are not closed, each with its cluster.
@@ -57,12 +70,7 @@ impl Processors {
     pub fn cluster_of(&self, processor: u64) -> u64
         ensures { (opts : Options) (j : Journal) → AreProcessors self.now opts j → result ≡ cluster_in processor (processors opts j) }
     {
-        for row in &self.all {
-            if row.0 == processor {
-                return row.1;
-            }
-        }
-        0
+        cluster_in(&self.all, processor)
     }
 
     /// Whether one that is not closed is on a cluster.
@@ -71,4 +79,34 @@ impl Processors {
     {
         self.open.iter().any(|row| row.1 == cluster)
     }
+}
+
+// The opening processors, on the cluster 0.
+fn opening(alloc: Global, count: u32) -> Result<Vec<(u64, u64)>, AllocError>
+    ensures { IfOk result (λ rows. rows.items ≡ map (λ p. (p, 0)) (range_with_len 0 count)) }
+{
+    let mut rows = Vec::new(alloc);
+    for number in 0..count {
+        rows.push((u64::from(number), 0))?;
+    }
+    Ok(rows)
+}
+
+// Whether a number is among others.
+fn is_among(number: u64, others: &[u64]) -> bool
+    ensures { result ≡ list_any (λ x. x == number) others.now }
+{
+    others.iter().any(|other| *other == number)
+}
+
+// The cluster of a processor among these, or 0.
+fn cluster_in(rows: &[(u64, u64)], processor: u64) -> u64
+    ensures { result ≡ cluster_in processor rows.now }
+{
+    for row in rows {
+        if row.0 == processor {
+            return row.1;
+        }
+    }
+    0
 }
