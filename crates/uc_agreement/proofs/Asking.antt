@@ -1,7 +1,7 @@
 -- What statements ask of their expressions: each rule is used at its own visit, once.
 use Rattle.std.proofs.Common.{◌≡◌, ℕ, ◌+◌, ◌++◌, List, [], ◌∷◌, Option, Some, Bool, true, false, refl, subst}
 use Rattle.uc_tree.specs.declared.pos.Pos.{Pos}
-use Rattle.uc_tree.specs.declared.kinds.Known.{Known}
+use Rattle.uc_tree.specs.declared.kinds.LocalVariable.{LocalVariable}
 use Rattle.uc_tree.specs.Expressions as expr
 use Rattle.uc_tree.specs.Statements as stmt
 use Rattle.uc_tree.specs.Source.{Shape}
@@ -38,7 +38,7 @@ readable_scalar sort.Int h = refl
 readable_scalar sort.Char h = refl
 readable_scalar _ h = false_true h
 
-module _ (t : Table) (g : Sig) (sc : List Name) (env : Env) (class : Option ℕ) (routine : ℕ) (known : List Known) (tied : Tied t g sc env class routine known) (is_known : IsKnown env) where
+module _ (t : Table) (g : Sig) (sc : List Name) (env : Env) (class : Option ℕ) (routine : ℕ) (known : List LocalVariable) (tied : Tied t g sc env class routine known) (is_known : IsKnown env) where
   abbrev c : tree.Context
   c = context env class routine known
 

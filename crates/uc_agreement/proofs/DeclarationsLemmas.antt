@@ -1,7 +1,7 @@
 -- What a declaration adds to the names of both look-ups agrees, and what was there before goes on to agree.
 use Rattle.std.proofs.Common.{◌≡◌, ℕ, ◌≤◌, ◌++◌, inl, inr, List, [], ◌∷◌, Option, Some, None, Bool, true, false, refl, sym, ap, ◌∙◌, subst}
 use Rattle.std.specs.Prelude.{not, ◌&&◌, is_some, if◌then◌else◌}
-use Rattle.uc_tree.specs.declared.kinds.Known.{Known}
+use Rattle.uc_tree.specs.declared.kinds.LocalVariable.{LocalVariable}
 use Rattle.uc_tree.specs.Programs.{Program}
 use Rattle.uc_tree.specs.Objects.{making, is_numbered as is_made_numbered}
 use Rattle.uc_tree.specs.Source.{Get, Variable}
@@ -11,7 +11,7 @@ use Rattle.uc_resolve.specs.Standings.{AtVariable, AtPlace, AsNumber, known_mean
 use Rattle.uc_rules.specs.declared.rules.Sort.{Sort}
 use Rattle.uc_rules.specs.declared.rules.Entity.{Entity}
 use Rattle.uc_rules.specs.declared.rules.Entity.TheVariants as entity
-use Rattle.uc_rules.specs.declared.rules.Seen.{Seen}
+use Rattle.uc_rules.specs.declared.rules.LocalName.{LocalName}
 use Rattle.uc_rules.specs.Sorts.{is_condition, sort_of}
 use Rattle.uc_typing.specs.Typing.{Ty, Num, Cell, Obj, Row, Name, Var, Own, Kept, Sig, Table, IsPlaced, IsParam, IsVariable, InScope, IsHeld, Yields, Fine}
 use Rattle.uc_agreement.specs.Agreement.{is_numbered, found_ty, place_ty, row_ty, RowPlaced, StandsBy, ValuedBy, Agrees, AgreesIf, Alike}
@@ -43,7 +43,7 @@ module _ (t : Table) (g : Sig) (x : Name) (sc : List Name) where
     found : (a : Ty) → Yields t g sc m.expr a → Yields t g (x ∷ sc) m.expr a
     value : ValuedBy t g sc m.standing m.expr → ValuedBy t g (x ∷ sc) m.standing m.expr
 
-  known_wider : (b : Bool) (k : Known) → Wider (tree.known_by b k)
+  known_wider : (b : Bool) (k : LocalVariable) → Wider (tree.known_by b k)
   known_wider true k = record { found = held_wider k.cell; value = held_wider k.cell Num }
   known_wider false k = by_reference k.ty.by_ref
     where
@@ -77,7 +77,7 @@ module _ (t : Table) (g : Sig) (x : Name) (sc : List Name) where
   agrees_wider p entity.ClassName m u h = fine_wider m u h
   agrees_wider p entity.Missing m u h = h
 
-  alike_wider : (p : Program) (ss : List Seen) (ks : List Known) → Alike t g sc p ss ks → Alike t g (x ∷ sc) p ss ks
+  alike_wider : (p : Program) (ss : List LocalName) (ks : List LocalVariable) → Alike t g sc p ss ks → Alike t g (x ∷ sc) p ss ks
   alike_wider p [] [] h = tt
   alike_wider p [] (k ∷ ks) h = absurd h
   alike_wider p (s ∷ ss) [] h = absurd h
@@ -86,7 +86,7 @@ module _ (t : Table) (g : Sig) (x : Name) (sc : List Name) where
 
 module _ (t : Table) (g : Sig) (sc : List Name) (refers : t.refers ≡ true) (p : Program) where
   -- one name more
-  alike_more : (ss : List Seen) (ks : List Known) (s : Seen) (k : Known) → s.name ≡ k.name → AgreesIf t g sc p s.meant.entity (known_meant p k) → Alike t g sc p ss ks → Alike t g sc p (ss ++ s ∷ []) (ks ++ k ∷ [])
+  alike_more : (ss : List LocalName) (ks : List LocalVariable) (s : LocalName) (k : LocalVariable) → s.name ≡ k.name → AgreesIf t g sc p s.meant.entity (known_meant p k) → Alike t g sc p ss ks → Alike t g sc p (ss ++ s ∷ []) (ks ++ k ∷ [])
   alike_more [] [] s k e a h = ((e, a), tt)
   alike_more [] (l ∷ ks) s k e a h = absurd h
   alike_more (r ∷ ss) [] s k e a h = absurd h
@@ -96,31 +96,31 @@ module _ (t : Table) (g : Sig) (sc : List Name) (refers : t.refers ≡ true) (p 
   stands : (s : Sort) (b : Bool) (st : tree.Standing) → is_condition s ≡ false → is_numbered s ≡ b → StandsBy t g false b st → StandsBy t g (is_condition s) (is_numbered s) st
   stands s b st c e h = subst (λ c. StandsBy t g c (is_numbered s) st) (sym c) (subst (λ b. StandsBy t g false b st) (sym e) h)
 
-  has_number : (k : Known) (s : Sort) → sort_of p k.ty.base ≡ Some s → k.ty.len ≡ None → tree.has_number p k.ty ≡ is_numbered s
+  has_number : (k : LocalVariable) (s : Sort) → sort_of p k.ty.base ≡ Some s → k.ty.len ≡ None → tree.has_number p k.ty ≡ is_numbered s
   has_number k s e l = ap (λ (l : Option ℕ). not (is_some l) && is_made_numbered (making p k.ty.base)) l ∙ numbered_is p k.ty.base s e
 
-  variable_by : (b : Bool) (k : Known) (s : Sort) → sort_of p k.ty.base ≡ Some s → is_condition s ≡ false → k.ty.by_ref ≡ false → k.ty.len ≡ None → is_numbered s ≡ b → StoodBy t g sc b k.cell (found_ty s) → Agrees t g sc p (entity.Place s) (tree.known_by b k)
+  variable_by : (b : Bool) (k : LocalVariable) (s : Sort) → sort_of p k.ty.base ≡ Some s → is_condition s ≡ false → k.ty.by_ref ≡ false → k.ty.len ≡ None → is_numbered s ≡ b → StoodBy t g sc b k.cell (found_ty s) → Agrees t g sc p (entity.Place s) (tree.known_by b k)
   variable_by true k s e c r l b h =
       ((inr (inr (h, refers)), λ d. false_true (sym (scalar_unnumbered s d) ∙ b)), stands s true AsNumber c b tt, (l, e))
   variable_by false k s e c r l b h =
       subst (λ (r : Bool). Agrees t g sc p (entity.Place s) (if r then record { expr = Get k.cell; ty = k.ty; standing = AtPlace } else record { expr = Variable k.cell; ty = k.ty; standing = AtVariable k.cell })) (sym r) ((h, λ d. inr (inl refl)), stands s false (AtVariable k.cell) c b tt, (l, e))
 
-  variable : (k : Known) (s : Sort) → sort_of p k.ty.base ≡ Some s → is_condition s ≡ false → k.ty.by_ref ≡ false → k.ty.len ≡ None → StoodBy t g sc (is_numbered s) k.cell (found_ty s) → Agrees t g sc p (entity.Place s) (known_meant p k)
+  variable : (k : LocalVariable) (s : Sort) → sort_of p k.ty.base ≡ Some s → is_condition s ≡ false → k.ty.by_ref ≡ false → k.ty.len ≡ None → StoodBy t g sc (is_numbered s) k.cell (found_ty s) → Agrees t g sc p (entity.Place s) (known_meant p k)
   variable k s e c r l h =
       subst (λ b. Agrees t g sc p (entity.Place s) (tree.known_by b k)) (sym (has_number k s e l)) (variable_by (is_numbered s) k s e c r l refl h)
 
-  array : (k : Known) (s : Sort) (n : ℕ) → sort_of p k.ty.base ≡ Some s → is_condition s ≡ false → k.ty.by_ref ≡ false → k.ty.len ≡ Some n → IsVariable g sc k.cell (Row n (place_ty s)) → IsPlaced t (place_ty s) → Agrees t g sc p (entity.Array s n) (known_meant p k)
+  array : (k : LocalVariable) (s : Sort) (n : ℕ) → sort_of p k.ty.base ≡ Some s → is_condition s ≡ false → k.ty.by_ref ≡ false → k.ty.len ≡ Some n → IsVariable g sc k.cell (Row n (place_ty s)) → IsPlaced t (place_ty s) → Agrees t g sc p (entity.Array s n) (known_meant p k)
   array k s n e c r l h w =
       let b : tree.has_number p k.ty ≡ false = ap (λ (l : Option ℕ). not (is_some l) && is_made_numbered (making p k.ty.base)) l in
       subst (λ b. Agrees t g sc p (entity.Array s n) (tree.known_by b k)) (sym b) (subst (λ (r : Bool). Agrees t g sc p (entity.Array s n) (if r then record { expr = Get k.cell; ty = k.ty; standing = AtPlace } else record { expr = Variable k.cell; ty = k.ty; standing = AtVariable k.cell })) (sym r) (subst (λ c. Yields t g sc (Variable k.cell) (row_ty c n s)) (sym c) (h, tt), subst (λ c. StandsBy t g c false (AtVariable k.cell)) (sym c) tt, subst (λ c. RowPlaced t c s) (sym c) w, (l, e)))
 
-  reference_by : (b : Bool) (k : Known) (s : Sort) → sort_of p k.ty.base ≡ Some s → is_condition s ≡ false → k.ty.by_ref ≡ true → k.ty.len ≡ None → is_numbered s ≡ b → IsParam g.params k.cell (found_ty s) → k.cell ≤ LAST_ADDRESS → Agrees t g sc p (entity.Place s) (tree.known_by b k)
+  reference_by : (b : Bool) (k : LocalVariable) (s : Sort) → sort_of p k.ty.base ≡ Some s → is_condition s ≡ false → k.ty.by_ref ≡ true → k.ty.len ≡ None → is_numbered s ≡ b → IsParam g.params k.cell (found_ty s) → k.cell ≤ LAST_ADDRESS → Agrees t g sc p (entity.Place s) (tree.known_by b k)
   reference_by true k s e c r l b h a =
       ((inl (h, a), λ d. false_true (sym (scalar_unnumbered s d) ∙ b)), stands s true AsNumber c b tt, (l, e))
   reference_by false k s e c r l b h a =
       subst (λ (r : Bool). Agrees t g sc p (entity.Place s) (if r then record { expr = Get k.cell; ty = k.ty; standing = AtPlace } else record { expr = Variable k.cell; ty = k.ty; standing = AtVariable k.cell })) (sym r) ((inl (h, a), λ d. (inl refl, inl (subst (IsParam g.params k.cell) (scalar_cell s d) h, a))), stands s false AtPlace c b tt, (l, e))
 
-  reference : (k : Known) (s : Sort) → sort_of p k.ty.base ≡ Some s → is_condition s ≡ false → k.ty.by_ref ≡ true → k.ty.len ≡ None → IsParam g.params k.cell (found_ty s) → k.cell ≤ LAST_ADDRESS → Agrees t g sc p (entity.Place s) (known_meant p k)
+  reference : (k : LocalVariable) (s : Sort) → sort_of p k.ty.base ≡ Some s → is_condition s ≡ false → k.ty.by_ref ≡ true → k.ty.len ≡ None → IsParam g.params k.cell (found_ty s) → k.cell ≤ LAST_ADDRESS → Agrees t g sc p (entity.Place s) (known_meant p k)
   reference k s e c r l h a =
       subst (λ b. Agrees t g sc p (entity.Place s) (tree.known_by b k)) (sym (has_number k s e l)) (reference_by (is_numbered s) k s e c r l refl h a)
 

@@ -2,7 +2,7 @@
 use Rattle.std.proofs.Common.{◌≡◌, ℕ, ℤ, suc, ◌+◌, ◌++◌, inl, inr, List, [], ◌∷◌, Option, Some, None, Bool, true, false, refl, sym, ap, ◌∙◌, subst, arith}
 use Rattle.std.specs.Prelude.{◌&&◌, if◌then◌else◌, slice_get, option_map}
 use Rattle.uc_tree.specs.declared.kinds.Access.{Access}
-use Rattle.uc_tree.specs.declared.kinds.Mark.{Mark}
+use Rattle.uc_tree.specs.declared.kinds.MutexMark.{MutexMark}
 use Rattle.uc_tree.specs.declared.kinds.Base.{Base}
 use Rattle.uc_tree.specs.declared.kinds.Base.TheVariants as base
 use Rattle.uc_tree.specs.declared.kinds.Ty.{Ty as Declared}
@@ -21,7 +21,7 @@ use Rattle.uc_rules.specs.declared.rules.Sort.{Sort}
 use Rattle.uc_rules.specs.declared.rules.Sort.TheVariants as sort
 use Rattle.uc_rules.specs.declared.rules.Entity.{Entity}
 use Rattle.uc_rules.specs.declared.rules.Entity.TheVariants as entity
-use Rattle.uc_rules.specs.declared.rules.Meant.{Meant}
+use Rattle.uc_rules.specs.declared.rules.NameMeaning.{NameMeaning}
 use Rattle.uc_rules.specs.Sorts.{is_condition, class_sort, sort_of}
 use Rattle.uc_rules.specs.Entities.{is_of_conditions}
 use Rattle.uc_tree.specs.declared.kinds.Kind.{Kind}
@@ -35,7 +35,7 @@ use Rattle.uc_agreement.specs.Fields.{field_ty, TellsClass, LawFields}
 use Rattle.uc_agreement.proofs.Ties.{some_same, none_some, false_true, scalar_cell, scalar_unnumbered, numbered_is}
 
 -- a field that is found, from a number on, as the rules' look-up tells it
-pub record Found (p : Program) (c : Class) (name : List ℕ) (x : Meant) (k : ℕ) (fs : List ClassField) : Type 0 where
+pub record Found (p : Program) (c : Class) (name : List ℕ) (x : NameMeaning) (k : ℕ) (fs : List ClassField) : Type 0 where
   pub n : ℕ
   pub field : ClassField
   pub at : slice_get fs n ≡ Some field
@@ -43,7 +43,7 @@ pub record Found (p : Program) (c : Class) (name : List ℕ) (x : Meant) (k : �
   pub entity : x.entity ≡ declared_entity p field.base field.declarator (elements (seen_in (constants_of p.items) c) field.declarator)
   pub by_ref : is_by_ref x.origin ≡ field.declarator.by_ref
 
-module _ (p : Program) (i : ℕ) (c : Class) (name : List ℕ) (x : Meant) where
+module _ (p : Program) (i : ℕ) (c : Class) (name : List ℕ) (x : NameMeaning) where
   abbrev o : Owned
   o = record { place = i; class = c }
 
@@ -68,21 +68,21 @@ module _ (p : Program) (i : ℕ) (c : Class) (name : List ℕ) (x : Meant) where
   }
 
   -- one declarator, and those after it
-  declared : (q : Bool) (j l : ℕ) (a : Access) (b : Base) (d : Declarator) (k : ℕ) (fs : List ClassField) (rest other : Option Meant) → same_name d.name name ≡ q → first_of (if q then Some (rules.field_meant p o a (place_in j l) b d) else rest) other ≡ Some x → (first_of rest other ≡ Some x → Found p c name x (suc k) fs) → Found p c name x k (record { base = b; declarator = d } ∷ fs)
-  declared true j l a b d k fs rest other e h f = here k (record { base = b; declarator = d }) fs e (ap (λ (m : Meant). m.entity) (sym (some_same h))) (ap (λ (m : Meant). is_by_ref m.origin) (sym (some_same h)))
+  declared : (q : Bool) (j l : ℕ) (a : Access) (b : Base) (d : Declarator) (k : ℕ) (fs : List ClassField) (rest other : Option NameMeaning) → same_name d.name name ≡ q → first_of (if q then Some (rules.field_meant p o a (place_in j l) b d) else rest) other ≡ Some x → (first_of rest other ≡ Some x → Found p c name x (suc k) fs) → Found p c name x k (record { base = b; declarator = d } ∷ fs)
+  declared true j l a b d k fs rest other e h f = here k (record { base = b; declarator = d }) fs e (ap (λ (m : NameMeaning). m.entity) (sym (some_same h))) (ap (λ (m : NameMeaning). is_by_ref m.origin) (sym (some_same h)))
   declared false j l a b d k fs rest other e h f = later k (record { base = b; declarator = d }) fs e (f h)
 
-  among : (j l : ℕ) (a : Access) (b : Base) (ds : List Declarator) (k : ℕ) (fs : List ClassField) (other : Option Meant) → first_of (rules.field_named p o a j l b ds name) other ≡ Some x → ((k : ℕ) → other ≡ Some x → Found p c name x k fs) → Found p c name x k (declared_fields b ds ++ fs)
+  among : (j l : ℕ) (a : Access) (b : Base) (ds : List Declarator) (k : ℕ) (fs : List ClassField) (other : Option NameMeaning) → first_of (rules.field_named p o a j l b ds name) other ≡ Some x → ((k : ℕ) → other ≡ Some x → Found p c name x k fs) → Found p c name x k (declared_fields b ds ++ fs)
   among j l a b [] k fs other h f = f k h
   among j l a b (d ∷ ds) k fs other h f =
       declared (same_name d.name name) j l a b d k (declared_fields b ds ++ fs) (rules.field_named p o a j (l + 1) b ds name) other refl h (λ h. among j (l + 1) a b ds (suc k) fs other h f)
 
   -- a member routine is no field
-  method : (q : Bool) (y : Meant) (k : ℕ) (fs : List ClassField) (other : Option Meant) → is_field_origin y.origin ≡ false → first_of (if q then Some y else None) other ≡ Some x → is_field_origin x.origin ≡ true → ((k : ℕ) → other ≡ Some x → Found p c name x k fs) → Found p c name x k fs
-  method true y k fs other n h r f = false_true (sym n ∙ (ap (λ (m : Meant). is_field_origin m.origin) (some_same h) ∙ r))
+  method : (q : Bool) (y : NameMeaning) (k : ℕ) (fs : List ClassField) (other : Option NameMeaning) → is_field_origin y.origin ≡ false → first_of (if q then Some y else None) other ≡ Some x → is_field_origin x.origin ≡ true → ((k : ℕ) → other ≡ Some x → Found p c name x k fs) → Found p c name x k fs
+  method true y k fs other n h r f = false_true (sym n ∙ (ap (λ (m : NameMeaning). is_field_origin m.origin) (some_same h) ∙ r))
   method false y k fs other n h r f = f k h
 
-  by_form : (mark : Mark) (a : Access) (form : MemberForm) (j k : ℕ) (fs : List ClassField) (other : Option Meant) → first_of (rules.form_named p o mark a j form name) other ≡ Some x → is_field_origin x.origin ≡ true → ((k : ℕ) → other ≡ Some x → Found p c name x k fs) → Found p c name x k (form_fields form ++ fs)
+  by_form : (mark : MutexMark) (a : Access) (form : MemberForm) (j k : ℕ) (fs : List ClassField) (other : Option NameMeaning) → first_of (rules.form_named p o mark a j form name) other ≡ Some x → is_field_origin x.origin ≡ true → ((k : ℕ) → other ≡ Some x → Found p c name x k fs) → Found p c name x k (form_fields form ++ fs)
   by_form mark a (FieldsMember at1 b ds) j k fs other h r f = among j 0 a b ds k fs other h f
   by_form mark a (RoutineMember r1) j k fs other h r f =
       method (is_plain r1.sig.role && same_name r1.sig.name name) _ k fs other refl h r f
@@ -212,7 +212,7 @@ module _ (t : Table) (g : Sig) (sc : List Name) (p : Program) (i : ℕ) (c : Cla
     by_base base.Processor e h = by_forms (plain_for base.Processor (subst (λ b. sort_of p b ≡ Some s) e known) (λ d. absurd (cc))) f.declarator.by_ref f.declarator.len refl refl
     by_base (base.Named name) e h = by_forms (plain_for (base.Named name) (subst (λ b. sort_of p b ≡ Some s) e known) (λ d. absurd (cc))) f.declarator.by_ref f.declarator.len refl refl
 
-  module _ (w : tree.Whose) (holds : HoldsAt t g sc p i w) (name : List ℕ) (x : Meant) (inside : names_condition (Some x) ≡ true → InMutex t g) where
+  module _ (w : tree.Whose) (holds : HoldsAt t g sc p i w) (name : List ℕ) (x : NameMeaning) (inside : names_condition (Some x) ≡ true → InMutex t g) where
     abbrev told_as : ClassField → Sort → Entity
     told_as f s = variable f.declarator.by_ref f.declarator.len (elements (seen_in (constants_of p.items) c) f.declarator) s
 

@@ -14,8 +14,8 @@ use Rattle.uc_rules.specs.declared.rule.Rule.TheVariants.{S2}
 use Rattle.uc_rules.specs.declared.rules.Sort.{Sort}
 use Rattle.uc_rules.specs.declared.rules.Entity.{Entity}
 use Rattle.uc_rules.specs.declared.rules.Entity.TheVariants as entity
-use Rattle.uc_rules.specs.declared.rules.Home.{Home}
-use Rattle.uc_rules.specs.declared.rules.Meant.{Meant}
+use Rattle.uc_rules.specs.declared.rules.OwnClass.{OwnClass}
+use Rattle.uc_rules.specs.declared.rules.NameMeaning.{NameMeaning}
 use Rattle.uc_rules.specs.Sorts.{sort_of}
 use Rattle.uc_rules.specs.Names.{first_of, outer, is_here, constant_meant, items_named, outer_named}
 use Rattle.uc_rules.specs.Scopes.{named_behind, own_named, main_meant}
@@ -100,20 +100,20 @@ module _ (p : Program) (name : List ℕ) where
   after k i (UsingItem q ∷ xs) u s = after (k + 0) (i + 1) xs (behind k i (UsingItem q) xs u) (list_any_kept has_name p.items i s)
 
   -- what a name stands for, and the constant of that name
-  data Stood (o : Option Constant) (m : Meant) : Type 0 where
+  data Stood (o : Option Constant) (m : NameMeaning) : Type 0 where
     constant : (c : Constant) → o ≡ Some c → constant_meant p c ≡ m → Stood o m
     routine : (i : ℕ) → o ≡ None → outer (entity.Routine i) ≡ m → Stood o m
     class : outer entity.ClassName ≡ m → Stood o m
 
-  class_by : (b : Bool) (o : Option Constant) (rest : Option Meant) (m : Meant) → (rest ≡ Some m → Stood o m) → first_of (if b then Some (outer entity.ClassName) else None) rest ≡ Some m → Stood o m
+  class_by : (b : Bool) (o : Option Constant) (rest : Option NameMeaning) (m : NameMeaning) → (rest ≡ Some m → Stood o m) → first_of (if b then Some (outer entity.ClassName) else None) rest ≡ Some m → Stood o m
   class_by true o rest m f h = class (some_same h)
   class_by false o rest m f h = f h
 
-  routine_by : (b : Bool) (i : ℕ) (o : Option Constant) (rest : Option Meant) (m : Meant) → (b ≡ true → o ≡ None) → (rest ≡ Some m → Stood o m) → first_of (if b then Some (outer (entity.Routine i)) else None) rest ≡ Some m → Stood o m
+  routine_by : (b : Bool) (i : ℕ) (o : Option Constant) (rest : Option NameMeaning) (m : NameMeaning) → (b ≡ true → o ≡ None) → (rest ≡ Some m → Stood o m) → first_of (if b then Some (outer (entity.Routine i)) else None) rest ≡ Some m → Stood o m
   routine_by true i o rest m n f h = routine i (n refl) (some_same h)
   routine_by false i o rest m n f h = f h
 
-  constant_by : (b : Bool) (c : Constant) (o : Option Constant) (rest : Option Meant) (m : Meant) → (rest ≡ Some m → Stood o m) → first_of (if b then Some (constant_meant p c) else None) rest ≡ Some m → Stood (if b then Some c else o) m
+  constant_by : (b : Bool) (c : Constant) (o : Option Constant) (rest : Option NameMeaning) (m : NameMeaning) → (rest ≡ Some m → Stood o m) → first_of (if b then Some (constant_meant p c) else None) rest ≡ Some m → Stood (if b then Some c else o) m
   constant_by true c o rest m f h = constant c refl (some_same h)
   constant_by false c o rest m f h = f h
 
@@ -125,7 +125,7 @@ module _ (p : Program) (name : List ℕ) where
   proto_named true b h = h
   proto_named false b h = false_true h
 
-  stood : (k i : ℕ) (xs : List Item) (m : Meant) → From i xs → Unbroken (items_visits p k i xs) → items_named p i xs name ≡ Some m → Stood (constant_named (constants_of xs) name) m
+  stood : (k i : ℕ) (xs : List Item) (m : NameMeaning) → From i xs → Unbroken (items_visits p k i xs) → items_named p i xs name ≡ Some m → Stood (constant_named (constants_of xs) name) m
   stood k i [] m a u h = none_some h
   stood k i (ClassItem c ∷ xs) m a u h =
       class_by (same_name c.name name) (constant_named (constants_of xs) name) (items_named p (i + 1) xs name) m (stood (k + 1) (i + 1) xs m (later i (ClassItem c) xs a) (behind k i (ClassItem c) xs u)) h
@@ -164,15 +164,15 @@ module _ (p : Program) (name : List ℕ) where
     item_fine None = routine_fine (routine_from (routines_of p) 0 name)
     item_fine (Some c) = (Num, refl)
 
-    stood_agrees : (o : Option Constant) (m : Meant) → Stood o m → ((i : ℕ) → m.entity ≡ Some (entity.Routine i) → TellsRoutine t p name i) → AgreesIf t g sc p m.entity (constant_meant_by p name o)
+    stood_agrees : (o : Option Constant) (m : NameMeaning) → Stood o m → ((i : ℕ) → m.entity ≡ Some (entity.Routine i) → TellsRoutine t p name i) → AgreesIf t g sc p m.entity (constant_meant_by p name o)
     stood_agrees o m (constant c e h) f w q =
-        subst (λ o. Agrees t g sc p w (constant_meant_by p name o)) (sym e) (value_agrees c (sort_of p c.base) w (ap (λ (m : Meant). m.entity) h ∙ q))
+        subst (λ o. Agrees t g sc p w (constant_meant_by p name o)) (sym e) (value_agrees c (sort_of p c.base) w (ap (λ (m : NameMeaning). m.entity) h ∙ q))
     stood_agrees o m (routine i e h) f w q =
-        subst (λ o. Agrees t g sc p w (constant_meant_by p name o)) (sym e) (subst (λ w. Agrees t g sc p w (constant_meant_by p name None)) (some_same (ap (λ (m : Meant). m.entity) h ∙ q)) (routine_agrees i (f i (sym (ap (λ (m : Meant). m.entity) h)))))
+        subst (λ o. Agrees t g sc p w (constant_meant_by p name o)) (sym e) (subst (λ w. Agrees t g sc p w (constant_meant_by p name None)) (some_same (ap (λ (m : NameMeaning). m.entity) h ∙ q)) (routine_agrees i (f i (sym (ap (λ (m : NameMeaning). m.entity) h)))))
     stood_agrees o m (class h) f w q =
-        subst (λ w. Agrees t g sc p w (constant_meant_by p name o)) (some_same (ap (λ (m : Meant). m.entity) h ∙ q)) (item_fine o)
+        subst (λ w. Agrees t g sc p w (constant_meant_by p name o)) (some_same (ap (λ (m : NameMeaning). m.entity) h ∙ q)) (item_fine o)
 
-    found_agrees : (o : Option Meant) → ((m : Meant) → o ≡ Some m → Stood (constant_named (constants_of p.items) name) m) → ((i : ℕ) → meant_entity o ≡ Some (entity.Routine i) → TellsRoutine t p name i) → AgreesIf t g sc p (meant_entity o) (item_meant p name)
+    found_agrees : (o : Option NameMeaning) → ((m : NameMeaning) → o ≡ Some m → Stood (constant_named (constants_of p.items) name) m) → ((i : ℕ) → meant_entity o ≡ Some (entity.Routine i) → TellsRoutine t p name i) → AgreesIf t g sc p (meant_entity o) (item_meant p name)
     found_agrees None s f w q = none_some q
     found_agrees (Some m) s f w q = stood_agrees (constant_named (constants_of p.items) name) m (s m refl) f w q
 
@@ -196,4 +196,4 @@ law_items t g sc env u tells home name local =
     let p = env.program in
     let items : Unbroken (items_visits p 0 0 p.items) = second (AtProgram p ∷ []) (items_visits p 0 0 p.items) u in
     let a = main_agrees p name t g sc env.around.main (given_agrees p name t g sc (is_given name) items (tells name)) in
-    subst (λ o. AgreesIf t g sc p (meant_entity (named_behind o (named_behind (own_named p env.around.main env.around.home name) (outer_named p name)))) (item_meant p name)) (sym local) (subst (λ (h : Option Home). AgreesIf t g sc p (meant_entity (named_behind (own_named p env.around.main h name) (outer_named p name))) (item_meant p name)) (sym home) a)
+    subst (λ o. AgreesIf t g sc p (meant_entity (named_behind o (named_behind (own_named p env.around.main env.around.home name) (outer_named p name)))) (item_meant p name)) (sym local) (subst (λ (h : Option OwnClass). AgreesIf t g sc p (meant_entity (named_behind (own_named p env.around.main h name) (outer_named p name))) (item_meant p name)) (sym home) a)

@@ -2,7 +2,7 @@
 use Rattle.std.proofs.Common.{◌≡◌, ℕ, ◌++◌, List, [], ◌∷◌, Option, Some, None, Bool, true, false, refl, sym, subst}
 use Rattle.std.specs.Prelude.{if◌then◌else◌}
 use Rattle.uc_tree.specs.declared.pos.Pos.{Pos}
-use Rattle.uc_tree.specs.declared.kinds.Known.{Known}
+use Rattle.uc_tree.specs.declared.kinds.LocalVariable.{LocalVariable}
 use Rattle.uc_tree.specs.Expressions as expr
 use Rattle.uc_tree.specs.Statements as stmt
 use Rattle.uc_tree.specs.Source.{Expr, Stmt, Stmts, Then, Clauses}
@@ -11,8 +11,8 @@ use Rattle.uc_resolve.specs.Standings.{AsValue, meant}
 use Rattle.uc_resolve.specs.Resolve.{Scope, stmt_meant, stmts_meant, maybe_meant, stmt_then, names_behind, scope_after, scope_past, result_of, test_of, step_of, within_accept, scope_past_clause, scope_past_clauses, clauses_meant, else_meant, scope_past_all, in_handler, scope_past_handler, handlers_meant}
 use Rattle.uc_tree.specs.Objects.{shape_of}
 use Rattle.uc_rules.specs.declared.rule.Rule.TheVariants.{S12, O9}
-use Rattle.uc_rules.specs.declared.rules.Home.{Home}
-use Rattle.uc_rules.specs.declared.rules.Around.{Around}
+use Rattle.uc_rules.specs.declared.rules.OwnClass.{OwnClass}
+use Rattle.uc_rules.specs.declared.rules.Surroundings.{Surroundings}
 use Rattle.uc_rules.specs.declared.rules.Entity.{Entity}
 use Rattle.uc_rules.specs.declared.rules.Entity.TheVariants as entity
 use Rattle.uc_rules.specs.Scopes.{Env, opened, with_around, with_joins, env_after}
@@ -33,7 +33,7 @@ use Rattle.uc_agreement.proofs.Asking.{only, law_parts}
 module _ (t : Table) (g : Sig) (sc : List Name) where
   -- environments of statements within statements have the same names
 
-  opened_stood : (env : Env) (class : Option ℕ) (routine : ℕ) (known : List Known) → Stood t g sc env class routine known → Stood t g sc (opened env) class routine known
+  opened_stood : (env : Env) (class : Option ℕ) (routine : ℕ) (known : List LocalVariable) → Stood t g sc env class routine known → Stood t g sc (opened env) class routine known
   opened_stood env class routine known h = record {
     tied = record { refers = h.tied.refers; classes = h.tied.classes; names = h.tied.names; outer = h.tied.outer; member = h.tied.member };
     known = record { names = h.known.names; members = h.known.members; results = h.known.results };
@@ -42,7 +42,7 @@ module _ (t : Table) (g : Sig) (sc : List Name) where
     accepting = h.accepting;
   }
 
-  joined_stood : (b : Bool) (env : Env) (class : Option ℕ) (routine : ℕ) (known : List Known) → Stood t g sc env class routine known → Stood t g sc (with_around env (with_joins b env.around)) class routine known
+  joined_stood : (b : Bool) (env : Env) (class : Option ℕ) (routine : ℕ) (known : List LocalVariable) → Stood t g sc env class routine known → Stood t g sc (with_around env (with_joins b env.around)) class routine known
   joined_stood b env class routine known h = record {
     tied = record { refers = h.tied.refers; classes = h.tied.classes; names = h.tied.names; outer = h.tied.outer; member = h.tied.member };
     known = record { names = h.known.names; members = h.known.members; results = h.known.results };
@@ -51,7 +51,7 @@ module _ (t : Table) (g : Sig) (sc : List Name) where
     accepting = h.accepting;
   }
 
-  looped_stood : (env : Env) (class : Option ℕ) (routine : ℕ) (known : List Known) → Stood t g sc env class routine known → Stood t g sc (looped env) class routine known
+  looped_stood : (env : Env) (class : Option ℕ) (routine : ℕ) (known : List LocalVariable) → Stood t g sc env class routine known → Stood t g sc (looped env) class routine known
   looped_stood env class routine known h = record {
     tied = record { refers = h.tied.refers; classes = h.tied.classes; names = h.tied.names; outer = h.tied.outer; member = h.tied.member };
     known = record { names = h.known.names; members = h.known.members; results = h.known.results };
@@ -60,7 +60,7 @@ module _ (t : Table) (g : Sig) (sc : List Name) where
     accepting = h.accepting;
   }
 
-  handled_stood : (env : Env) (class : Option ℕ) (routine : ℕ) (known : List Known) → Stood t g sc env class routine known → Stood t g sc (handling env) class routine known
+  handled_stood : (env : Env) (class : Option ℕ) (routine : ℕ) (known : List LocalVariable) → Stood t g sc env class routine known → Stood t g sc (handling env) class routine known
   handled_stood env class routine known h = record {
     tied = record { refers = h.tied.refers; classes = h.tied.classes; names = h.tied.names; outer = h.tied.outer; member = h.tied.member };
     known = record { names = h.known.names; members = h.known.members; results = h.known.results };
@@ -81,7 +81,7 @@ module _ (t : Table) (g : Sig) (sc : List Name) where
   given (entity.Array s n) m env v a = (row_ty (is_condition s) n s, a.0)
   given _ m env v a = absurd v
 
-  evaluated : (e : expr.Expr) (env : Env) (class : Option ℕ) (routine : ℕ) (known : List Known) (more : List Visit) → Stood t g sc env class routine known → IsValued (entity_of env e) → Unbroken (visits env e ++ more) → Fine t g sc (meant (context env class routine known) e).expr
+  evaluated : (e : expr.Expr) (env : Env) (class : Option ℕ) (routine : ℕ) (known : List LocalVariable) (more : List Visit) → Stood t g sc env class routine known → IsValued (entity_of env e) → Unbroken (visits env e ++ more) → Fine t g sc (meant (context env class routine known) e).expr
   evaluated e env class routine known more h v u =
       let r = stands env h.known e (first (visits env e) more u) in
       given r.0 (meant (context env class routine known) e) env (subst IsValued r.1 v) (law_agrees t g sc env class routine known h.tied e (first (visits env e) more u) r.0 r.1)
@@ -97,7 +97,7 @@ module _ (t : Table) (g : Sig) (sc : List Name) where
       let b : breaks_at (AtReturn env p (Some (entity_of env e))) ≡ [] = one (AtReturn env p (Some (entity_of env e))) (second (visits env e) _ u) in
       returns_by env.around.returns (entity_of env e) p (none_left (return_breaks env.around.returns (Some (entity_of env e)) p) _ b)
 
-  switch_by : (o : Option Home) (a : Around) → may_switch a o ≡ true → ((h : Home) → o ≡ Some h → may_switch_in a.inner h ≡ true → Executing t g) → Executing t g
+  switch_by : (o : Option OwnClass) (a : Surroundings) → may_switch a o ≡ true → ((h : OwnClass) → o ≡ Some h → may_switch_in a.inner h ≡ true → Executing t g) → Executing t g
   switch_by None a h f = false_true h
   switch_by (Some x) a h f = f x refl h
 
@@ -117,7 +117,7 @@ module _ (t : Table) (g : Sig) (sc : List Name) where
       let v = second (maybe_condition_visits env test) (maybe_statement_visits env step ++ vs) u in
       (tested test env s h (first (maybe_condition_visits env test) (maybe_statement_visits env step ++ vs) u), steps step env s h l (first (maybe_statement_visits env step) vs v), f (second (maybe_statement_visits env step) vs v))
 
-  joined_loop : (env : Env) (class : Option ℕ) (routine : ℕ) (known : List Known) → Stood t g sc env class routine known → Stood t g sc (joined (looped env)) class routine known
+  joined_loop : (env : Env) (class : Option ℕ) (routine : ℕ) (known : List LocalVariable) → Stood t g sc env class routine known → Stood t g sc (joined (looped env)) class routine known
   joined_loop env class routine known h = joined_stood true (looped env) class routine known (looped_stood env class routine known h)
 
   -- behind clauses the names are as before

@@ -7,7 +7,7 @@ use Rattle.uc_tree.specs.declared.kinds.Base.TheVariants as base
 use Rattle.uc_tree.specs.declared.kinds.Kind.{Kind}
 use Rattle.uc_tree.specs.declared.kinds.Kind.TheVariants as kind
 use Rattle.uc_tree.specs.declared.kinds.Param.{Param}
-use Rattle.uc_tree.specs.declared.kinds.Known.{Known}
+use Rattle.uc_tree.specs.declared.kinds.LocalVariable.{LocalVariable}
 use Rattle.uc_tree.specs.declared.ops.UnaryOp.{UnaryOp}
 use Rattle.uc_tree.specs.declared.ops.UnaryOp.TheVariants as unary
 use Rattle.uc_tree.specs.declared.ops.BinaryOp.{BinaryOp}
@@ -18,7 +18,7 @@ use Rattle.uc_tree.specs.declared.ops.StepOp.{StepOp}
 use Rattle.uc_tree.specs.declared.ops.StepOp.TheVariants as step
 use Rattle.uc_tree.specs.Names.{same_name, fail_name}
 use Rattle.uc_tree.specs.Numbering.{is_mutex, is_event}
-use Rattle.uc_tree.specs.declared.rows.Object.{Object}
+use Rattle.uc_tree.specs.declared.rows.FieldClass.{FieldClass}
 use Rattle.uc_tree.specs.Cells.{classes_of, object_of_kind, object_named}
 use Rattle.uc_tree.specs.Programs.{Program, Class}
 use Rattle.uc_tree.specs.Programs as whole
@@ -34,8 +34,8 @@ use Rattle.uc_rules.specs.declared.rules.Operation.{Operation}
 use Rattle.uc_rules.specs.declared.rules.Operation.TheVariants.{Wait, Signal, SignalBlock, Front, Empty}
 use Rattle.uc_rules.specs.declared.rules.Entity.TheVariants as entity
 use Rattle.uc_rules.specs.declared.rules.Expected.TheVariants as expected_of
-use Rattle.uc_rules.specs.declared.rules.Meant.{Meant}
-use Rattle.uc_rules.specs.declared.rules.Seen.{Seen}
+use Rattle.uc_rules.specs.declared.rules.NameMeaning.{NameMeaning}
+use Rattle.uc_rules.specs.declared.rules.LocalName.{LocalName}
 use Rattle.uc_rules.specs.declared.rules.Target.{Target}
 use Rattle.uc_rules.specs.declared.rules.Target.TheVariants as target
 use Rattle.uc_rules.specs.Sorts.{is_scalar_sort, is_condition, class_sort, sort_of, same_sort}
@@ -124,7 +124,7 @@ kind_numbered i kind.Cormonitor name = refl
 kind_numbered i kind.Task name = refl
 kind_numbered i kind.Event name = refl
 
-numbered_by : (b : Bool) (i : ℕ) (k : Kind) (name : List ℕ) (o : Option Sort) (u : Option Object) (s : Sort) → (o ≡ Some s → is_made_numbered (making_by u (base.Named name)) ≡ is_numbered s) → (if b then Some (sort.Object i k) else o) ≡ Some s → is_made_numbered (making_by (if b then object_of_kind i k else u) (base.Named name)) ≡ is_numbered s
+numbered_by : (b : Bool) (i : ℕ) (k : Kind) (name : List ℕ) (o : Option Sort) (u : Option FieldClass) (s : Sort) → (o ≡ Some s → is_made_numbered (making_by u (base.Named name)) ≡ is_numbered s) → (if b then Some (sort.Object i k) else o) ≡ Some s → is_made_numbered (making_by (if b then object_of_kind i k else u) (base.Named name)) ≡ is_numbered s
 numbered_by true i k name o u s f h = kind_numbered i k name ∙ ap is_numbered (some_same h)
 numbered_by false i k name o u s f h = f h
 
@@ -155,7 +155,7 @@ kind_class i kind.Cormonitor name b = refl
 kind_class i kind.Task name b = refl
 kind_class i kind.Event name b = refl
 
-class_by : (b : Bool) (i : ℕ) (k : Kind) (name : List ℕ) (o : Option Sort) (u : Option Object) (e : Option ℕ) (s : Sort) → (o ≡ Some s → tree.class_or_event (class_made (making_by u (base.Named name))) e ≡ class_in s) → (if b then Some (sort.Object i k) else o) ≡ Some s → tree.class_or_event (class_made (making_by (if b then object_of_kind i k else u) (base.Named name))) (if b then (if is_event k then Some i else None) else e) ≡ class_in s
+class_by : (b : Bool) (i : ℕ) (k : Kind) (name : List ℕ) (o : Option Sort) (u : Option FieldClass) (e : Option ℕ) (s : Sort) → (o ≡ Some s → tree.class_or_event (class_made (making_by u (base.Named name))) e ≡ class_in s) → (if b then Some (sort.Object i k) else o) ≡ Some s → tree.class_or_event (class_made (making_by (if b then object_of_kind i k else u) (base.Named name))) (if b then (if is_event k then Some i else None) else e) ≡ class_in s
 class_by true i k name o u e s f h = kind_class i k name true ∙ ap class_in (some_same h)
 class_by false i k name o u e s f h = f h
 
@@ -202,23 +202,23 @@ common a b name e = ap (λ x. same_name x name) e
 
 module _ (t : Table) (g : Sig) (sc : List Name) (p : Program) (refers : t.refers ≡ true) where
   -- of locals both look-ups find the last one
-  abbrev Found : Option Meant → Option Known → Type 0
+  abbrev Found : Option NameMeaning → Option LocalVariable → Type 0
   Found None None = Unit {0}
   Found None (Some k) = ⊥
   Found (Some m) None = ⊥
   Found (Some m) (Some k) = AgreesIf t g sc p m.entity (known_meant p k)
 
-  here : (b : Bool) (s : Seen) (k : Known) → AgreesIf t g sc p s.meant.entity (known_meant p k) → Found (if b then Some s.meant else None) (if b then Some k else None)
+  here : (b : Bool) (s : LocalName) (k : LocalVariable) → AgreesIf t g sc p s.meant.entity (known_meant p k) → Found (if b then Some s.meant else None) (if b then Some k else None)
   here true s k h = h
   here false s k h = tt
 
-  later : (m : Option Meant) (k : Option Known) (s : Seen) (n : Known) (name : List ℕ) → Found m k → same_name s.name name ≡ same_name n.name name → AgreesIf t g sc p s.meant.entity (known_meant p n) → Found (scopes.later_or m s name) (tree.later_or k n name)
+  later : (m : Option NameMeaning) (k : Option LocalVariable) (s : LocalName) (n : LocalVariable) (name : List ℕ) → Found m k → same_name s.name name ≡ same_name n.name name → AgreesIf t g sc p s.meant.entity (known_meant p n) → Found (scopes.later_or m s name) (tree.later_or k n name)
   later None None s n name f e h = subst (λ b. Found (if same_name s.name name then Some s.meant else None) (if b then Some n else None)) e (here (same_name s.name name) s n h)
   later None (Some k) s n name f e h = absurd f
   later (Some m) None s n name f e h = absurd f
   later (Some m) (Some k) s n name f e h = f
 
-  found : (ss : List Seen) (ks : List Known) (name : List ℕ) → Alike t g sc p ss ks → Found (local_named ss name) (known_named ks name)
+  found : (ss : List LocalName) (ks : List LocalVariable) (name : List ℕ) → Alike t g sc p ss ks → Found (local_named ss name) (known_named ks name)
   found [] [] name h = tt
   found [] (k ∷ ks) name h = absurd h
   found (s ∷ ss) [] name h = absurd h
@@ -479,11 +479,11 @@ module _ (t : Table) (g : Sig) (sc : List Name) (p : Program) (refers : t.refers
   takes_length None n h = false_true h
   takes_length (Some sig) n h = eqb-true n (length sig.params) h
 
-module _ (t : Table) (g : Sig) (sc : List Name) (env : Env) (class : Option ℕ) (routine : ℕ) (known : List Known) (tied : Tied t g sc env class routine known) where
+module _ (t : Table) (g : Sig) (sc : List Name) (env : Env) (class : Option ℕ) (routine : ℕ) (known : List LocalVariable) (tied : Tied t g sc env class routine known) where
   abbrev c : tree.Context
   c = context env class routine known
 
-  name_by : (o : Option Meant) (k : Option Known) (name : List ℕ) → local_named env.names name ≡ o → known_named known name ≡ k → Found t g sc env.program tied.refers o k → AgreesIf t g sc env.program (meant_entity (scopes.named_behind o (scopes.named_behind (scopes.own_named env.program env.around.main env.around.home name) (outer_named env.program name)))) (name_meant env.program class name k)
+  name_by : (o : Option NameMeaning) (k : Option LocalVariable) (name : List ℕ) → local_named env.names name ≡ o → known_named known name ≡ k → Found t g sc env.program tied.refers o k → AgreesIf t g sc env.program (meant_entity (scopes.named_behind o (scopes.named_behind (scopes.own_named env.program env.around.main env.around.home name) (outer_named env.program name)))) (name_meant env.program class name k)
   name_by None None name e f h =
       subst (λ o. AgreesIf t g sc env.program (meant_entity (scopes.named_behind o (scopes.named_behind (scopes.own_named env.program env.around.main env.around.home name) (outer_named env.program name)))) (tree.own_meant env.program class name)) e (tied.outer name e)
   name_by None (Some k) name e f h = absurd h
@@ -525,7 +525,7 @@ module _ (t : Table) (g : Sig) (sc : List Name) (env : Env) (class : Option ℕ)
   first_scalar (Some w) m ih h = scalar t g sc env.program tied.refers w m h (ih w refl)
 
   -- a member behind a `.`
-  object_agrees : (called : Bool) (cl : ℕ) (k : Kind) (name : List ℕ) (x : Option Meant) (m : tree.Meant) → rules.object_member env.program (sort.Object cl k) name ≡ x → not (is_mutex_field_of x) ≡ true → not (names_condition x) ≡ true → Agrees t g sc env.program (entity.Place (sort.Object cl k)) m → AgreesIf t g sc env.program (rules.member_entity env called name (entity.Place (sort.Object cl k)) x) (field_meant env.program m name)
+  object_agrees : (called : Bool) (cl : ℕ) (k : Kind) (name : List ℕ) (x : Option NameMeaning) (m : tree.Meant) → rules.object_member env.program (sort.Object cl k) name ≡ x → not (is_mutex_field_of x) ≡ true → not (names_condition x) ≡ true → Agrees t g sc env.program (entity.Place (sort.Object cl k)) m → AgreesIf t g sc env.program (rules.member_entity env called name (entity.Place (sort.Object cl k)) x) (field_meant env.program m name)
   object_agrees called cl k name None m e f n a w h = none_some h
   object_agrees called cl k name (Some x) m e f n a w h =
       subst (Agrees t g sc env.program w) (sym (object_part t g sc env.program tied.refers cl k m name a)) (tied.member cl k name x m e (not_true (is_mutex_field_of (Some x)) f) (not_true (names_condition (Some x)) n) a w h)

@@ -12,7 +12,7 @@ use Rattle.uc_rules.specs.declared.rules.Sort.TheVariants as sort
 use Rattle.uc_rules.specs.declared.rules.Entity.{Entity}
 use Rattle.uc_rules.specs.declared.rules.Entity.TheVariants as entity
 use Rattle.uc_rules.specs.declared.rules.Expected.{Expected}
-use Rattle.uc_rules.specs.declared.rules.Meant.{Meant}
+use Rattle.uc_rules.specs.declared.rules.NameMeaning.{NameMeaning}
 use Rattle.uc_rules.specs.declared.rules.Target.{Target}
 use Rattle.uc_rules.specs.declared.rules.Target.TheVariants as target
 use Rattle.uc_rules.specs.Asked.{unless}
@@ -139,7 +139,7 @@ module _ (env : Env) (known : IsKnown env) where
   other_stands called name w (Some v) h = (v, refl)
   other_stands called name w None h = missing_stands called (is_object w) h
 
-  member_stands : (called : Bool) (name : List ℕ) (w : Entity) (o : Option Meant) → ((m : Meant) → o ≡ Some m → Stands m.entity) → (is_some o || (is_some (built_in w name) || (called && not (is_object w)))) ≡ true → is_open_member env.around.home o ≡ true → Stands (rules.member_entity env called name w o)
+  member_stands : (called : Bool) (name : List ℕ) (w : Entity) (o : Option NameMeaning) → ((m : NameMeaning) → o ≡ Some m → Stands m.entity) → (is_some o || (is_some (built_in w name) || (called && not (is_object w)))) ≡ true → is_open_member env.around.home o ≡ true → Stands (rules.member_entity env called name w o)
   member_stands called name w (Some m) f h k = open_stands (rules.is_open env.around.home m.origin) m.entity k (f m refl)
   member_stands called name w None f h k = other_stands called name w (built_in w name) h
 
@@ -158,7 +158,7 @@ module _ (env : Env) (known : IsKnown env) where
       let r = known.results w (count args) n (not_main (rules.is_main env.program w) m) in
       (r.0, ap (λ (b : Bool). if b then given env.program w else None) (both (are_sound env args (target.Call w) 0) (rules.may_call env.program (count args) w) s (both (rules.takes env.program (count args) w) (is_no_main env.program w) n m)) ∙ r.1)
 
-  name_stands : (o : Option Meant) → ((m : Meant) → o ≡ Some m → Stands m.entity) → is_some o ≡ true → Stands (meant_entity o)
+  name_stands : (o : Option NameMeaning) → ((m : NameMeaning) → o ≡ Some m → Stands m.entity) → is_some o ≡ true → Stands (meant_entity o)
   name_stands None f h = absurd (cc)
   name_stands (Some m) f h = f m refl
 

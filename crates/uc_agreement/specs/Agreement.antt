@@ -4,7 +4,7 @@ use Rattle.std.specs.Prelude.{◌≡◌, ℕ, ◌⊎◌, List, [], ◌∷◌, Bo
 use Rattle.uc_tree.specs.declared.kinds.Base.{Base}
 use Rattle.uc_tree.specs.declared.kinds.Kind.{Kind}
 use Rattle.uc_tree.specs.declared.kinds.Param.{Param}
-use Rattle.uc_tree.specs.declared.kinds.Known.{Known}
+use Rattle.uc_tree.specs.declared.kinds.LocalVariable.{LocalVariable}
 use Rattle.uc_tree.specs.declared.kinds.Ty.{Ty as Declared}
 use Rattle.uc_tree.specs.Numbering.{is_mutex}
 use Rattle.uc_tree.specs.Programs.{Program}
@@ -18,8 +18,8 @@ use Rattle.uc_rules.specs.declared.rules.Entity.{Entity}
 use Rattle.uc_rules.specs.declared.rules.Entity.TheVariants as entity
 use Rattle.uc_rules.specs.declared.rules.Operation.{Operation}
 use Rattle.uc_rules.specs.declared.rules.Operation.TheVariants as operation
-use Rattle.uc_rules.specs.declared.rules.Meant.{Meant}
-use Rattle.uc_rules.specs.declared.rules.Seen.{Seen}
+use Rattle.uc_rules.specs.declared.rules.NameMeaning.{NameMeaning}
+use Rattle.uc_rules.specs.declared.rules.LocalName.{LocalName}
 use Rattle.uc_rules.specs.Sorts.{is_scalar_sort, is_condition, sort_of}
 use Rattle.uc_rules.specs.Names.{routine_sig, method_sig, params_in}
 use Rattle.uc_rules.specs.Scopes.{Env, named, local_named}
@@ -128,7 +128,7 @@ call_of operation.SignalBlock = SignalsBlocking
 call_of operation.Front = AsksFront
 call_of operation.Empty = AsksEmpty
 
-abbrev pub context : Env → Option ℕ → ℕ → List Known → tree.Context
+abbrev pub context : Env → Option ℕ → ℕ → List LocalVariable → tree.Context
 context env class routine known = record { program = env.program; class = class; routine = routine; names = known }
 
 module _ (t : Table) (g : Sig) (sc : List Name) where
@@ -183,20 +183,20 @@ module _ (t : Table) (g : Sig) (sc : List Name) where
   AgreesIf p o m = (w : Entity) → o ≡ Some w → Agrees p w m
 
   -- the names in scope for the rules, and for what is resolved
-  abbrev pub Alike : Program → List Seen → List Known → Type 0
+  abbrev pub Alike : Program → List LocalName → List LocalVariable → Type 0
   Alike p [] [] = Unit {0}
   Alike p [] (k ∷ ks) = ⊥
   Alike p (s ∷ ss) [] = ⊥
   Alike p (s ∷ ss) (k ∷ ks) = ((s.name ≡ k.name) × AgreesIf p s.meant.entity (known_meant p k)) × Alike p ss ks
 
   -- the table tells the classes of the program; both look-ups of names agree: of locals, of other names, and of members of objects
-  pub record Tied (env : Env) (class : Option ℕ) (routine : ℕ) (known : List Known) : Type 0 where
+  pub record Tied (env : Env) (class : Option ℕ) (routine : ℕ) (known : List LocalVariable) : Type 0 where
     pub refers : t.refers ≡ true
     pub classes : (b : Base) (c : ℕ) (k : Kind) → sort_of env.program b ≡ Some (sort.Object c k) → t.mutex c ≡ is_mutex k
     pub names : Alike env.program env.names known
     pub outer : (name : List ℕ) → local_named env.names name ≡ None → AgreesIf env.program (meant_entity (named env name)) (tree.own_meant env.program class name)
-    pub member : (c : ℕ) (k : Kind) (name : List ℕ) (x : Meant) (m : tree.Meant) → object_member env.program (sort.Object c k) name ≡ Some x → is_mutex_field_of (Some x) ≡ false → names_condition (Some x) ≡ false → Agrees env.program (entity.Place (sort.Object c k)) m → AgreesIf env.program (open_entity env.around.home x) (tree.object_member env.program (Some c) m.expr name)
+    pub member : (c : ℕ) (k : Kind) (name : List ℕ) (x : NameMeaning) (m : tree.Meant) → object_member env.program (sort.Object c k) name ≡ Some x → is_mutex_field_of (Some x) ≡ false → names_condition (Some x) ≡ false → Agrees env.program (entity.Place (sort.Object c k)) m → AgreesIf env.program (open_entity env.around.home x) (tree.object_member env.program (Some c) m.expr name)
 
   -- what stands for something is in order, where no field of a mutex object and no condition is named behind a `.`, as rules say
   abbrev pub LawAgrees : Type 0
-  LawAgrees = (env : Env) (class : Option ℕ) (routine : ℕ) (known : List Known) → Tied env class routine known → (e : expr.Expr) → Unbroken (visits env e) → AgreesIf env.program (entity_of env e) (meant (context env class routine known) e)
+  LawAgrees = (env : Env) (class : Option ℕ) (routine : ℕ) (known : List LocalVariable) → Tied env class routine known → (e : expr.Expr) → Unbroken (visits env e) → AgreesIf env.program (entity_of env e) (meant (context env class routine known) e)

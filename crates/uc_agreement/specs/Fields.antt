@@ -8,7 +8,7 @@ use Rattle.uc_tree.specs.Programs.{Class, Program}
 use Rattle.uc_tree.specs.Source.{Expr}
 use Rattle.uc_resolve.specs.Standings as tree
 use Rattle.uc_rules.specs.declared.rules.Sort.{Sort}
-use Rattle.uc_rules.specs.declared.rules.Meant.{Meant}
+use Rattle.uc_rules.specs.declared.rules.NameMeaning.{NameMeaning}
 use Rattle.uc_rules.specs.Sorts.{is_condition, sort_of}
 use Rattle.uc_rules.specs.Names.{member_named}
 use Rattle.uc_rules.specs.OwnerBreaks.{is_field_origin, names_condition}
@@ -34,8 +34,8 @@ pub record TellsClass (t : Table) (p : Program) (i : ℕ) (c : Class) : Type 0 w
 module _ (t : Table) (g : Sig) (sc : List Name) where
   -- a field that both look-ups find, behind a path and in the class itself
   pub record FieldsAgree (p : Program) (i : ℕ) : Type 0 where
-    pub path : (e : Expr) (name : List ℕ) (x : Meant) → Yields t g sc e (Obj i) → t.mutex i ≡ false → member_named p i name ≡ Some x → is_field_origin x.origin ≡ true → names_condition (Some x) ≡ false → AgreesIf t g sc p x.entity (tree.member_meant p i (tree.Of e) name)
-    pub own : (name : List ℕ) (x : Meant) → g.this ≡ Some i → (names_condition (Some x) ≡ true → t.mutex i ≡ true) → member_named p i name ≡ Some x → is_field_origin x.origin ≡ true → AgreesIf t g sc p x.entity (tree.member_meant p i tree.Own name)
+    pub path : (e : Expr) (name : List ℕ) (x : NameMeaning) → Yields t g sc e (Obj i) → t.mutex i ≡ false → member_named p i name ≡ Some x → is_field_origin x.origin ≡ true → names_condition (Some x) ≡ false → AgreesIf t g sc p x.entity (tree.member_meant p i (tree.Of e) name)
+    pub own : (name : List ℕ) (x : NameMeaning) → g.this ≡ Some i → (names_condition (Some x) ≡ true → t.mutex i ≡ true) → member_named p i name ≡ Some x → is_field_origin x.origin ≡ true → AgreesIf t g sc p x.entity (tree.member_meant p i tree.Own name)
 
   abbrev pub LawFields : Type 0
   LawFields = (p : Program) (i : ℕ) (c : Class) → TellsClass t p i c → FieldsAgree p i

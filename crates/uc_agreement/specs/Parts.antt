@@ -1,7 +1,7 @@
 -- What statements ask of their expressions: where no rule is broken at them, each is of the type that is asked for.
 use Rattle.std.specs.Prelude.{◌≡◌, ℕ, ◌+◌, List, [], ◌∷◌, length, map, slice_get, Option, Some}
 use Rattle.uc_tree.specs.declared.pos.Pos.{Pos}
-use Rattle.uc_tree.specs.declared.kinds.Known.{Known}
+use Rattle.uc_tree.specs.declared.kinds.LocalVariable.{LocalVariable}
 use Rattle.uc_tree.specs.declared.kinds.Param.{Param}
 use Rattle.uc_tree.specs.Expressions as expr
 use Rattle.uc_tree.specs.Statements as stmt
@@ -17,7 +17,7 @@ use Rattle.uc_agreement.specs.Agreement.{context, param_ty, AreLike, Tied}
 use Rattle.uc_agreement.specs.Unbroken.{Unbroken, IsKnown}
 
 module _ (t : Table) (g : Sig) (sc : List Name) where
-  pub record Parts (env : Env) (class : Option ℕ) (routine : ℕ) (known : List Known) : Type 0 where
+  pub record Parts (env : Env) (class : Option ℕ) (routine : ℕ) (known : List LocalVariable) : Type 0 where
     -- a condition is a number
     pub condition : (e : expr.Expr) → Unbroken (condition_visits env e) → Yields t g sc (value_in_scope (context env class routine known) e) Num
     -- so is what is returned, in whatever shape it is kept, where a value is returned at all
@@ -32,4 +32,4 @@ module _ (t : Table) (g : Sig) (sc : List Name) where
     pub arguments : (args : expr.Exprs) (to : Target) (xs ys : List Param) → count args ≡ length xs → ((k : ℕ) → expected env.program to (0 + k) ≡ param_expected env.program (slice_get xs k)) → AreLike env.program xs ys → Unbroken (args_visits env args to 0) → GiveAll t g sc (args_by ys (args_meant (context env class routine known) args)) (map (param_ty env.program) ys)
 
   abbrev pub LawParts : Type 0
-  LawParts = (env : Env) (class : Option ℕ) (routine : ℕ) (known : List Known) → Tied t g sc env class routine known → IsKnown env → Parts env class routine known
+  LawParts = (env : Env) (class : Option ℕ) (routine : ℕ) (known : List LocalVariable) → Tied t g sc env class routine known → IsKnown env → Parts env class routine known

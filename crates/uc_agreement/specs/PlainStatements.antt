@@ -1,10 +1,10 @@
 -- Statements that declare nothing, enable nothing and raise nothing new: where no rule is broken in one, it is in order.
 use Rattle.std.specs.Prelude.{◌≡◌, ℕ, List, true, false, Option, Some, None}
-use Rattle.uc_tree.specs.declared.kinds.Known.{Known}
+use Rattle.uc_tree.specs.declared.kinds.LocalVariable.{LocalVariable}
 use Rattle.uc_tree.specs.Expressions.{Expr}
 use Rattle.uc_tree.specs.Statements as stmt
 use Rattle.uc_resolve.specs.Resolve.{Scope, stmt_meant}
-use Rattle.uc_rules.specs.declared.rules.Home.{Home}
+use Rattle.uc_rules.specs.declared.rules.OwnClass.{OwnClass}
 use Rattle.uc_rules.specs.declared.rules.Entity.{Entity}
 use Rattle.uc_rules.specs.declared.rules.Entity.TheVariants as entity
 use Rattle.uc_rules.specs.Scopes.{Env, block_env, opened}
@@ -79,11 +79,11 @@ abbrev mutual
 module _ (t : Table) (g : Sig) (sc : List Name) where
   -- the names agree, and the routine is the one that the rules see: one that returns a value neither builds nor destroys,
   -- `resume` stands where the object at hand has an execution, and `_Accept` where it is one of a mutex class
-  pub record Stood (env : Env) (class : Option ℕ) (routine : ℕ) (locals : List Known) : Type 0 where
+  pub record Stood (env : Env) (class : Option ℕ) (routine : ℕ) (locals : List LocalVariable) : Type 0 where
     pub tied : Tied t g sc env class routine locals
     pub known : IsKnown env
     pub returning : env.around.returns ≡ true → g.whole ≡ false
-    pub switching : (h : Home) → env.around.home ≡ Some h → may_switch_in env.around.inner h ≡ true → Executing t g
+    pub switching : (h : OwnClass) → env.around.home ≡ Some h → may_switch_in env.around.inner h ≡ true → Executing t g
     pub accepting : may_accept env.around ≡ true → InMutex t g
 
   abbrev pub LawPlain : Type 0

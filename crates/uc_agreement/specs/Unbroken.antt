@@ -2,7 +2,7 @@
 use Rattle.std.specs.Prelude.{◌≡◌, ℕ, List, [], true, false, Option, Some}
 use Rattle.uc_tree.specs.Expressions as expr
 use Rattle.uc_rules.specs.declared.rules.Entity.{Entity}
-use Rattle.uc_rules.specs.declared.rules.Meant.{Meant}
+use Rattle.uc_rules.specs.declared.rules.NameMeaning.{NameMeaning}
 use Rattle.uc_rules.specs.Scopes.{Env, named}
 use Rattle.uc_rules.specs.Entities.{entity_of, path_member, takes, is_main, given}
 use Rattle.uc_rules.specs.Visits.{Visit, visits}
@@ -17,8 +17,8 @@ Stands o = (w : Entity) × (o ≡ Some w)
 
 -- what is declared has a known base: rules at the declarations ask that
 pub record IsKnown (env : Env) : Type 0 where
-  pub names : (name : List ℕ) (m : Meant) → named env name ≡ Some m → Stands m.entity
-  pub members : (w : Entity) (name : List ℕ) (m : Meant) → path_member env.program w name ≡ Some m → Stands m.entity
+  pub names : (name : List ℕ) (m : NameMeaning) → named env name ≡ Some m → Stands m.entity
+  pub members : (w : Entity) (name : List ℕ) (m : NameMeaning) → path_member env.program w name ≡ Some m → Stands m.entity
   pub results : (w : Entity) (n : ℕ) → takes env.program n w ≡ true → is_main env.program w ≡ false → Stands (given env.program w)
 
 abbrev pub LawStands : Type 0

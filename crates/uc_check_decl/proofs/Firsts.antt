@@ -5,13 +5,13 @@ use Rattle.std.proofs.lemmas.Bool.Decides.{nat_tests}
 use Rattle.std.proofs.lemmas.List.Folds.{list_any-append}
 use Rattle.uc_tree.specs.declared.kinds.Access.{Access}
 use Rattle.uc_tree.specs.declared.kinds.Base.{Base}
-use Rattle.uc_tree.specs.declared.kinds.Mark.{Mark}
+use Rattle.uc_tree.specs.declared.kinds.MutexMark.{MutexMark}
 use Rattle.uc_tree.specs.Names.{same_name}
 use Rattle.uc_tree.specs.Numbering.{is_plain}
 use Rattle.uc_tree.specs.Statements.{Declarator}
 use Rattle.uc_tree.specs.Programs.{Class, FieldsMember, Member, MemberForm, ProtoMember, Program, RoutineMember, Sig}
 use Rattle.uc_rules.specs.declared.rules.FieldPlace.{FieldPlace}
-use Rattle.uc_rules.specs.declared.rules.Meant.{Meant}
+use Rattle.uc_rules.specs.declared.rules.NameMeaning.{NameMeaning}
 use Rattle.uc_rules.specs.declared.rules.Entity.TheVariants.{Method}
 use Rattle.uc_rules.specs.declared.rules.Origin.TheVariants as origin
 use Rattle.uc_rules.specs.ClassBreaks.{declared_names, fields_at, form_declares_names, form_fields, is_kept, is_new_field, is_new_member, member_fields, members_declare, sig_declares}
@@ -53,7 +53,7 @@ or_again true b c = refl
 or_again false b c = refl
 
 -- what a routine means
-abbrev pub method_meant : Owned → Mark → Access → ℕ → Meant
+abbrev pub method_meant : Owned → MutexMark → Access → ℕ → NameMeaning
 method_meant o m a j = record { entity = Some (Method o.place j (is_inner_only o.class.kind m a) false); origin = origin.Method o.place a }
 
 abbrev pub named : List ℕ → List ℕ → Bool
@@ -63,19 +63,19 @@ abbrev pub declared : List ℕ → Declarator → Bool
 declared name d = same_name d.name name
 
 -- what one of two means, against a place
-pick_false : (q : FieldPlace) (t : Bool) (x : Meant) (y : Option Meant) → meant_before q x ≡ false → stands_before q y ≡ false → stands_before q (if t then Some x else y) ≡ false
+pick_false : (q : FieldPlace) (t : Bool) (x : NameMeaning) (y : Option NameMeaning) → meant_before q x ≡ false → stands_before q y ≡ false → stands_before q (if t then Some x else y) ≡ false
 pick_false q true x y a b = a
 pick_false q false x y a b = b
 
-first_false : (q : FieldPlace) (x y : Option Meant) → stands_before q x ≡ false → stands_before q y ≡ false → stands_before q (first_of x y) ≡ false
+first_false : (q : FieldPlace) (x y : Option NameMeaning) → stands_before q x ≡ false → stands_before q y ≡ false → stands_before q (first_of x y) ≡ false
 first_false q None y a b = b
 first_false q (Some m) y a b = a
 
-pick_first_false : (q : FieldPlace) (t : Bool) (x : Meant) (y rest : Option Meant) → meant_before q x ≡ false → stands_before q (first_of y rest) ≡ false → stands_before q (first_of (if t then Some x else y) rest) ≡ false
+pick_first_false : (q : FieldPlace) (t : Bool) (x : NameMeaning) (y rest : Option NameMeaning) → meant_before q x ≡ false → stands_before q (first_of y rest) ≡ false → stands_before q (first_of (if t then Some x else y) rest) ≡ false
 pick_first_false q true x y rest a b = a
 pick_first_false q false x y rest a b = b
 
-pick_first_true : (q : FieldPlace) (t c : Bool) (x : Meant) (y rest : Option Meant) → meant_before q x ≡ true → c ≡ stands_before q (first_of y rest) → t || c ≡ stands_before q (first_of (if t then Some x else y) rest)
+pick_first_true : (q : FieldPlace) (t c : Bool) (x : NameMeaning) (y rest : Option NameMeaning) → meant_before q x ≡ true → c ≡ stands_before q (first_of y rest) → t || c ≡ stands_before q (first_of (if t then Some x else y) rest)
 pick_first_true q true c x y rest a b = sym a
 pick_first_true q false c x y rest a b = b
 
@@ -85,11 +85,11 @@ field_behind p o a j i b [] name k n h = refl
 field_behind p o a j i b (d ∷ ds) name k n h =
     pick_false (place_in k n) (same_name d.name name) (field_meant p o a (place_in j i) b d) (field_named p o a j (i + 1) b ds name) (no_earlier j i k n h) (field_behind p o a j (i + 1) b ds name k n h)
 
-method_behind : (o : Owned) (m : Mark) (a : Access) (j : ℕ) (sig : Sig) (name : List ℕ) (k n : ℕ) → k ≤ j → stands_before (place_in k n) (method_named o m a j sig name) ≡ false
+method_behind : (o : Owned) (m : MutexMark) (a : Access) (j : ℕ) (sig : Sig) (name : List ℕ) (k n : ℕ) → k ≤ j → stands_before (place_in k n) (method_named o m a j sig name) ≡ false
 method_behind o m a j sig name k n h =
     pick_false (place_in k n) (is_plain sig.role && same_name sig.name name) (method_meant o m a j) None (no_less j k h) refl
 
-form_behind : (p : Program) (o : Owned) (m : Mark) (a : Access) (j : ℕ) (f : MemberForm) (name : List ℕ) (k n : ℕ) → k < j → stands_before (place_in k n) (form_named p o m a j f name) ≡ false
+form_behind : (p : Program) (o : Owned) (m : MutexMark) (a : Access) (j : ℕ) (f : MemberForm) (name : List ℕ) (k n : ℕ) → k < j → stands_before (place_in k n) (form_named p o m a j f name) ≡ false
 form_behind p o m a j (FieldsMember at b ds) name k n h = field_behind p o a j 0 b ds name k n h
 form_behind p o m a j (RoutineMember r) name k n h = let le : k ≤ j = omega (arith, h) in method_behind o m a j r.sig name k n le
 form_behind p o m a j (ProtoMember sig) name k n h = let le : k ≤ j = omega (arith, h) in method_behind o m a j sig name k n le
@@ -101,13 +101,13 @@ members_behind p o j (m ∷ ms) name k n h =
     first_false (place_in k n) (form_named p o m.mark m.access j m.form name) (members_named p o (j + 1) ms name) (form_behind p o m.mark m.access j m.form name k n h) (members_behind p o (j + 1) ms name k n next)
 
 -- the fields of the member at a place, before it and from it on
-fields_from : (p : Program) (o : Owned) (a : Access) (j i : ℕ) (b : Base) (ds : List Declarator) (name : List ℕ) (n : ℕ) (rest : Option Meant) → n ≤ i → stands_before (place_in j n) rest ≡ false → stands_before (place_in j n) (first_of (field_named p o a j i b ds name) rest) ≡ false
+fields_from : (p : Program) (o : Owned) (a : Access) (j i : ℕ) (b : Base) (ds : List Declarator) (name : List ℕ) (n : ℕ) (rest : Option NameMeaning) → n ≤ i → stands_before (place_in j n) rest ≡ false → stands_before (place_in j n) (first_of (field_named p o a j i b ds name) rest) ≡ false
 fields_from p o a j i b [] name n rest h e = e
 fields_from p o a j i b (d ∷ ds) name n rest h e =
     let next : n ≤ i + 1 = omega (arith, h) in
     pick_first_false (place_in j n) (same_name d.name name) (field_meant p o a (place_in j i) b d) (field_named p o a j (i + 1) b ds name) rest (no_earlier_in j i n h) (fields_from p o a j (i + 1) b ds name n rest next e)
 
-fields_before : (p : Program) (o : Owned) (a : Access) (j i : ℕ) (b : Base) (ds : List Declarator) (name : List ℕ) (n : ℕ) (rest : Option Meant) → stands_before (place_in j (i + n)) rest ≡ false → list_any (declared name) (take n ds) ≡ stands_before (place_in j (i + n)) (first_of (field_named p o a j i b ds name) rest)
+fields_before : (p : Program) (o : Owned) (a : Access) (j i : ℕ) (b : Base) (ds : List Declarator) (name : List ℕ) (n : ℕ) (rest : Option NameMeaning) → stands_before (place_in j (i + n)) rest ≡ false → list_any (declared name) (take n ds) ≡ stands_before (place_in j (i + n)) (first_of (field_named p o a j i b ds name) rest)
 fields_before p o a j i b [] name n rest e = ap (list_any (declared name)) (take_none n) ∙ sym e
 fields_before p o a j i b (d ∷ ds) name zero rest e = let le : i + 0 ≤ i = omega arith in sym (fields_from p o a j i b (d ∷ ds) name (i + 0) rest le e)
 fields_before p o a j i b (d ∷ ds) name (suc n) rest e =
@@ -117,12 +117,12 @@ fields_before p o a j i b (d ∷ ds) name (suc n) rest e =
     fields_before p o a j (i + 1) b ds name n rest (ap (λ k. stands_before (place_in j k) rest) (sym same) ∙ e)
     ∙ ap (λ k. stands_before (place_in j k) (first_of (field_named p o a j (i + 1) b ds name) rest)) (sym same))
 
-method_at : (o : Owned) (m : Mark) (a : Access) (j : ℕ) (sig : Sig) (name : List ℕ) (n : ℕ) (rest : Option Meant) → stands_before (place_in j n) rest ≡ false → list_any (declared name) (take n []) ≡ stands_before (place_in j n) (first_of (method_named o m a j sig name) rest)
+method_at : (o : Owned) (m : MutexMark) (a : Access) (j : ℕ) (sig : Sig) (name : List ℕ) (n : ℕ) (rest : Option NameMeaning) → stands_before (place_in j n) rest ≡ false → list_any (declared name) (take n []) ≡ stands_before (place_in j n) (first_of (method_named o m a j sig name) rest)
 method_at o m a j sig name n rest e =
     let le : j ≤ j = omega arith in
     ap (list_any (declared name)) (take_none n) ∙ sym (first_false (place_in j n) (method_named o m a j sig name) rest (method_behind o m a j sig name j n le) e)
 
-form_at : (p : Program) (o : Owned) (m : Mark) (a : Access) (j : ℕ) (f : MemberForm) (name : List ℕ) (n : ℕ) (rest : Option Meant) → stands_before (place_in j n) rest ≡ false → list_any (declared name) (take n (form_fields f)) ≡ stands_before (place_in j n) (first_of (form_named p o m a j f name) rest)
+form_at : (p : Program) (o : Owned) (m : MutexMark) (a : Access) (j : ℕ) (f : MemberForm) (name : List ℕ) (n : ℕ) (rest : Option NameMeaning) → stands_before (place_in j n) rest ≡ false → list_any (declared name) (take n (form_fields f)) ≡ stands_before (place_in j n) (first_of (form_named p o m a j f name) rest)
 form_at p o m a j (FieldsMember at b ds) name n rest e =
     let same : 0 + n ≡ n = omega arith in
     fields_before p o a j 0 b ds name n rest (ap (λ k. stands_before (place_in j k) rest) same ∙ e)
@@ -131,7 +131,7 @@ form_at p o m a j (RoutineMember r) name n rest e = method_at o m a j r.sig name
 form_at p o m a j (ProtoMember sig) name n rest e = method_at o m a j sig name n rest e
 
 -- the names of a member before a place
-fields_named : (p : Program) (o : Owned) (a : Access) (j i : ℕ) (b : Base) (ds : List Declarator) (name : List ℕ) (k n : ℕ) (rest : Option Meant) → j < k → list_any (named name) (declared_names ds) || stands_before (place_in k n) rest ≡ stands_before (place_in k n) (first_of (field_named p o a j i b ds name) rest)
+fields_named : (p : Program) (o : Owned) (a : Access) (j i : ℕ) (b : Base) (ds : List Declarator) (name : List ℕ) (k n : ℕ) (rest : Option NameMeaning) → j < k → list_any (named name) (declared_names ds) || stands_before (place_in k n) rest ≡ stands_before (place_in k n) (first_of (field_named p o a j i b ds name) rest)
 fields_named p o a j i b [] name k n rest h = refl
 fields_named p o a j i b (d ∷ ds) name k n rest h =
     or_again (same_name d.name name) (list_any (named name) (declared_names ds)) (stands_before (place_in k n) rest)
@@ -141,12 +141,12 @@ sig_named : (t : Bool) (x name : List ℕ) → list_any (named name) (if t then 
 sig_named true x name = or_false (same_name x name)
 sig_named false x name = refl
 
-method_named_before : (o : Owned) (m : Mark) (a : Access) (j : ℕ) (sig : Sig) (name : List ℕ) (k n : ℕ) (rest : Option Meant) → j < k → list_any (named name) (sig_declares sig) || stands_before (place_in k n) rest ≡ stands_before (place_in k n) (first_of (method_named o m a j sig name) rest)
+method_named_before : (o : Owned) (m : MutexMark) (a : Access) (j : ℕ) (sig : Sig) (name : List ℕ) (k n : ℕ) (rest : Option NameMeaning) → j < k → list_any (named name) (sig_declares sig) || stands_before (place_in k n) rest ≡ stands_before (place_in k n) (first_of (method_named o m a j sig name) rest)
 method_named_before o m a j sig name k n rest h =
     ap (λ c. c || stands_before (place_in k n) rest) (sig_named (is_plain sig.role) sig.name name)
     ∙ pick_first_true (place_in k n) (is_plain sig.role && same_name sig.name name) (stands_before (place_in k n) rest) (method_meant o m a j) None rest (less j k h) refl
 
-form_named_before : (p : Program) (o : Owned) (m : Mark) (a : Access) (j : ℕ) (f : MemberForm) (name : List ℕ) (k n : ℕ) (rest : Option Meant) → j < k → list_any (named name) (form_declares_names f) || stands_before (place_in k n) rest ≡ stands_before (place_in k n) (first_of (form_named p o m a j f name) rest)
+form_named_before : (p : Program) (o : Owned) (m : MutexMark) (a : Access) (j : ℕ) (f : MemberForm) (name : List ℕ) (k n : ℕ) (rest : Option NameMeaning) → j < k → list_any (named name) (form_declares_names f) || stands_before (place_in k n) rest ≡ stands_before (place_in k n) (first_of (form_named p o m a j f name) rest)
 form_named_before p o m a j (FieldsMember at b ds) name k n rest h = fields_named p o a j 0 b ds name k n rest h
 form_named_before p o m a j (RoutineMember r) name k n rest h = method_named_before o m a j r.sig name k n rest h
 form_named_before p o m a j (ProtoMember sig) name k n rest h = method_named_before o m a j sig name k n rest h

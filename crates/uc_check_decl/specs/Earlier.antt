@@ -3,7 +3,7 @@ use Rattle.std.specs.Prelude.{Bool, false, Option, Some, None, nat_lt}
 use Rattle.uc_rules.specs.declared.rules.Entity.{Entity}
 use Rattle.uc_rules.specs.declared.rules.Entity.TheVariants as entity
 use Rattle.uc_rules.specs.declared.rules.FieldPlace.{FieldPlace}
-use Rattle.uc_rules.specs.declared.rules.Meant.{Meant}
+use Rattle.uc_rules.specs.declared.rules.NameMeaning.{NameMeaning}
 use Rattle.uc_rules.specs.declared.rules.Origin.{Origin}
 use Rattle.uc_rules.specs.declared.rules.Origin.TheVariants as origin
 use Rattle.uc_rules.specs.Names.{is_field_before}
@@ -21,9 +21,9 @@ origin_before place w (origin.Field class k access by_ref i) = is_field_before i
 origin_before place w (origin.Method class access) = method_before place w
 origin_before place w _ = false
 
-abbrev pub meant_before : FieldPlace → Meant → Bool
+abbrev pub meant_before : FieldPlace → NameMeaning → Bool
 meant_before place m = origin_before place m.entity m.origin
 
-abbrev pub stands_before : FieldPlace → Option Meant → Bool
+abbrev pub stands_before : FieldPlace → Option NameMeaning → Bool
 stands_before place None = false
 stands_before place (Some m) = meant_before place m

@@ -19,7 +19,7 @@ use uc_numbering::members::member_number;
 use uc_rules::rules::Sort;
 use uc_tree::class::{Class, Init, Member, MemberForm, Routine, Sig};
 use uc_tree::declare::Declarator;
-use uc_tree::kinds::{Base, Mark, Owner};
+use uc_tree::kinds::{Base, MutexMark, Owner};
 use uc_tree::limits::{EVENT_FIELDS, PROGRAM_EVENTS};
 use uc_tree::name::Name;
 use uc_tree::stmt::Stmt;
@@ -97,10 +97,10 @@ pub fn is_well_mained(class: &Class) -> bool
     }
 }
 
-fn is_unmarked(mark: Mark) -> bool
+fn is_unmarked(mark: MutexMark) -> bool
     ensures { result ≡ is_unmarked mark }
 {
-    matches!(mark, Mark::Unmarked)
+    matches!(mark, MutexMark::Unmarked)
 }
 
 fn may_form_be_marked(form: &MemberForm) -> bool

@@ -8,7 +8,7 @@ ghost use Rattle.uc_rules.specs.Names.{member_named, place_in};
 ghost use Rattle.uc_rules.specs.Sorts.{class_at};
 ghost use Rattle.uc_check_decl.specs.Earlier.{entity_before, meant_before, method_before, stands_before};
 
-use uc_rules::rules::{Entity, FieldPlace, Meant, Origin};
+use uc_rules::rules::{Entity, FieldPlace, NameMeaning, Origin};
 use uc_tree::class::{Class, Member, MemberForm};
 use uc_tree::kinds::Role;
 use uc_tree::name::Name;
@@ -35,7 +35,7 @@ fn method_before(place: FieldPlace, entity: Option<Entity>) -> bool
     }
 }
 
-fn meant_before(place: FieldPlace, meant: Meant) -> bool
+fn meant_before(place: FieldPlace, meant: NameMeaning) -> bool
     ensures { result ≡ meant_before place meant }
 {
     match meant.origin {
@@ -46,7 +46,7 @@ fn meant_before(place: FieldPlace, meant: Meant) -> bool
 }
 
 // Whether a member stands before this place in its class.
-fn stands_before(place: FieldPlace, meant: Option<Meant>) -> bool
+fn stands_before(place: FieldPlace, meant: Option<NameMeaning>) -> bool
     ensures { result ≡ stands_before place meant }
 {
     match meant {

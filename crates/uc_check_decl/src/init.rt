@@ -6,7 +6,7 @@ ghost use Rattle.uc_rules.specs.declared.rules.Entity.TheVariants as entity;
 ghost use Rattle.uc_rules.specs.ProgramVisits.{field_place, home_member, last_field, later_field};
 
 use crate::class::count_params;
-use uc_rules::rules::{Entity, FieldPlace, Home, Meant, Origin, Sort};
+use uc_rules::rules::{Entity, FieldPlace, NameMeaning, Origin, OwnClass, Sort};
 use uc_tree::name::Name;
 use uc_types::entity::{is_array, is_of_conditions};
 use uc_types::spans::is_field_before;
@@ -94,7 +94,7 @@ fn is_from(last: Option<FieldPlace>, origin: Origin) -> bool
 }
 
 /// Whether an initialiser may name it behind one of the field `last`.
-pub fn may_init(last: Option<FieldPlace>, meant: Option<Meant>) -> bool
+pub fn may_init(last: Option<FieldPlace>, meant: Option<NameMeaning>) -> bool
     ensures { result ≡ may_init last meant }
 {
     match meant {
@@ -113,7 +113,7 @@ fn field_place(origin: Origin) -> Option<FieldPlace>
 }
 
 /// The place of a field among those of its class; none for what is no field.
-pub fn meant_field(meant: Option<Meant>) -> Option<FieldPlace>
+pub fn meant_field(meant: Option<NameMeaning>) -> Option<FieldPlace>
     ensures { result ≡ option_and_then (λ m. field_place m.origin) meant }
 {
     let meant = meant?;
@@ -121,7 +121,7 @@ pub fn meant_field(meant: Option<Meant>) -> Option<FieldPlace>
 }
 
 /// A member of the class in whose routine something stands.
-pub fn home_member(tables: &Tables, home: Option<Home>, name: &Name) -> Option<Meant>
+pub fn home_member(tables: &Tables, home: Option<OwnClass>, name: &Name) -> Option<NameMeaning>
     ensures { result ≡ home_member tables.now home name.now }
 {
     match home {

@@ -9,7 +9,7 @@ ghost use Rattle.uc_rules.specs.ProgramVisits.{home_of, owner_home};
 use crate::sig::{has_class_name, is_program_main, same_role};
 use std::alloc::{AllocError, Global};
 use uc_check_index::index::Index;
-use uc_rules::rules::{Home, Sort};
+use uc_rules::rules::{OwnClass, Sort};
 use uc_tree::class::{Class, Member, MemberForm, Sig};
 use uc_tree::kinds::Owner;
 use uc_tree::name::Name;
@@ -93,17 +93,17 @@ fn is_well_declared(
     Ok(declared && !index.defines_name(&sig.name, place))
 }
 
-fn home_of(sort: Sort) -> Option<Home>
+fn home_of(sort: Sort) -> Option<OwnClass>
     ensures { result ≡ home_of sort }
 {
     match sort {
-        Sort::Object { class, kind } => Some(Home { class, kind }),
+        Sort::Object { class, kind } => Some(OwnClass { class, kind }),
         _ => None,
     }
 }
 
 /// The class that is the owner; none where there is no such class.
-pub fn owner_home(tables: &Tables, owner: &Owner) -> Option<Home>
+pub fn owner_home(tables: &Tables, owner: &Owner) -> Option<OwnClass>
     ensures { result ≡ owner_home tables.now owner.now }
 {
     match owner {
@@ -119,7 +119,7 @@ fn is_member_definition(
     alloc: Global,
     index: &Index,
     class: &Name,
-    home: Option<Home>,
+    home: Option<OwnClass>,
     sig: &Sig,
     place: usize,
 ) -> Result<bool, AllocError>
@@ -139,7 +139,7 @@ fn is_definition(
     alloc: Global,
     index: &Index,
     owner: &Owner,
-    home: Option<Home>,
+    home: Option<OwnClass>,
     sig: &Sig,
     place: usize,
 ) -> Result<bool, AllocError>

@@ -1,7 +1,7 @@
 -- The mark of the first prototype of a role and name stands at its place.
 use Rattle.std.proofs.Common.{◌≡◌, ℕ, suc, ◌+◌, ◌-◌, ◌≤◌, List, [], ◌∷◌, Bool, true, false, Option, Some, None, if◌then◌else◌, refl, ap, sym, ◌∙◌, arith}
 use Rattle.std.specs.Prelude.{slice_get}
-use Rattle.uc_tree.specs.declared.kinds.Mark.TheVariants as mark
+use Rattle.uc_tree.specs.declared.kinds.MutexMark.TheVariants as mark
 use Rattle.uc_tree.specs.Programs.{Sig, Member}
 use Rattle.uc_rules.specs.ItemBreaks.{is_named}
 use Rattle.uc_rules.specs.ProgramVisits.{mark_among}

@@ -21,7 +21,7 @@ use std::alloc::{AllocError, Global};
 use std::marker::Model;
 use uc_names::scope::Scope;
 use uc_tree::class::Sig;
-use uc_tree::kinds::{Forward, Mark};
+use uc_tree::kinds::{Forward, MutexMark};
 use uc_tree::name::Name;
 use uc_tree::program::{Item, ItemForm, Program};
 
@@ -303,7 +303,7 @@ impl<'a> Index<'a> {
     }
 
     /// The mark of the first prototype in the class with this place that has the role and the name of a routine.
-    pub fn mark_in(&self, alloc: Global, class: usize, sig: &Sig) -> Result<Mark, AllocError>
+    pub fn mark_in(&self, alloc: Global, class: usize, sig: &Sig) -> Result<MutexMark, AllocError>
         ensures { IfOk result (λ mark. mark ≡ mark_in sig.now (class_at self.now class)) }
     {
         let mark = mark_in(alloc, &self.protos, class, sig)?;

@@ -19,7 +19,7 @@ use std::alloc::{AllocError, Global};
 use std::marker::Model;
 use uc_names::scope::Scope;
 use uc_tree::class::{Class, Member, MemberForm, Sig};
-use uc_tree::kinds::Mark;
+use uc_tree::kinds::MutexMark;
 use uc_tree::program::{Item, ItemForm};
 
 /// A class, with tables of the prototypes among its members. Contracts see the class.
@@ -96,15 +96,15 @@ fn firsts_of(alloc: Global, members: &[Member], topic: MemberTopic) -> Result<Sc
     Ok(firsts)
 }
 
-fn mark_at(members: &[Member], place: Option<usize>) -> Mark
+fn mark_at(members: &[Member], place: Option<usize>) -> MutexMark
     ensures { result ≡ mark_at members.now place }
 {
     match place {
         Some(place) => match members.get(place) {
             Some(member) => member.mark,
-            None => Mark::Unmarked,
+            None => MutexMark::Unmarked,
         },
-        None => Mark::Unmarked,
+        None => MutexMark::Unmarked,
     }
 }
 
@@ -129,7 +129,7 @@ impl<'a> Protos<'a> {
 
     /// The mark of the first prototype among the members that has the role and the name of a routine; where there is none,
     /// none.
-    pub fn mark_of(&self, alloc: Global, sig: &Sig) -> Result<Mark, AllocError>
+    pub fn mark_of(&self, alloc: Global, sig: &Sig) -> Result<MutexMark, AllocError>
         ensures { IfOk result (λ mark. mark ≡ mark_among sig.now self.now.members) }
     {
         let class = self.class;
@@ -186,7 +186,7 @@ pub fn mark_in(
     protos: &[Protos],
     class: usize,
     sig: &Sig,
-) -> Result<Mark, AllocError>
+) -> Result<MutexMark, AllocError>
     ensures { IfOk result (λ mark. mark ≡ mark_in sig.now (slice_get protos.now class)) }
 {
     match protos.get(class) {
@@ -194,6 +194,6 @@ pub fn mark_in(
             let mark = class.mark_of(alloc, sig)?;
             Ok(mark)
         }
-        None => Ok(Mark::Unmarked),
+        None => Ok(MutexMark::Unmarked),
     }
 }

@@ -4,8 +4,8 @@ use Rattle.std.proofs.Math.Seq.{take-length}
 use Rattle.std.proofs.lemmas.List.{take-append-le}
 use Rattle.uc_tree.specs.declared.kinds.Base.{Base}
 use Rattle.uc_tree.specs.Statements.{Declarator, ForStart, NoFor, ForDeclare, ForEvaluate, Stmt, Declare, Stmts, NoStmts, MoreStmts}
-use Rattle.uc_rules.specs.declared.rules.Around.{Around}
-use Rattle.uc_rules.specs.declared.rules.Seen.{Seen}
+use Rattle.uc_rules.specs.declared.rules.Surroundings.{Surroundings}
+use Rattle.uc_rules.specs.declared.rules.LocalName.{LocalName}
 use Rattle.uc_rules.specs.Scopes.{Env, opened, block_env, with_seen, seen_as, with_around, with_joins, declared, all_declared, with_caught, env_after, env_behind, for_declared}
 
 -- the program and the first names stay
@@ -14,7 +14,7 @@ record Grows (env now : Env) : Type 0 where
   names : take (length env.names) now.names ≡ env.names
   count : length env.names ≤ length now.names
 
-grows_seen : (env now : Env) (s : Seen) → Grows env now → Grows env (with_seen now s)
+grows_seen : (env now : Env) (s : LocalName) → Grows env now → Grows env (with_seen now s)
 grows_seen env now s h = record {
   program = h.program;
   names = take-append-le (length env.names) now.names (s ∷ []) h.count ∙ h.names;
@@ -42,7 +42,7 @@ grows_caught : (env now : Env) (event param : Option (List ℕ)) → Grows env n
 grows_caught env now event None h = h
 grows_caught env now event (Some name) h = grows_seen env now _ h
 
-grows_around : (env now : Env) (a : Around) → Grows env now → Grows env (with_around now a)
+grows_around : (env now : Env) (a : Surroundings) → Grows env now → Grows env (with_around now a)
 grows_around env now a h = record { program = h.program; names = h.names; count = h.count }
 
 grows_opened : (env now : Env) → Grows env now → Grows env (opened now)
@@ -75,31 +75,31 @@ guarded_names env ss = (guarded_grows env ss).names
 pub guarded_program : (env : Env) (ss : Stmts) → (env_behind (opened env) ss).program ≡ env.program
 guarded_program env ss = (guarded_grows env ss).program
 
-inner_grows : (env : Env) (a : Around) (s : Stmt) → Grows env (env_after (opened (with_around env a)) s)
+inner_grows : (env : Env) (a : Surroundings) (s : Stmt) → Grows env (env_after (opened (with_around env a)) s)
 inner_grows env a s = grows_after env (opened (with_around env a)) s (grows_opened env (with_around env a) (grows_around env env a (grows_self env)))
 
-pub inner_names : (env : Env) (a : Around) (s : Stmt) → take (length env.names) (env_after (opened (with_around env a)) s).names ≡ env.names
+pub inner_names : (env : Env) (a : Surroundings) (s : Stmt) → take (length env.names) (env_after (opened (with_around env a)) s).names ≡ env.names
 inner_names env a s = (inner_grows env a s).names
 
-pub inner_program : (env : Env) (a : Around) (s : Stmt) → (env_after (opened (with_around env a)) s).program ≡ env.program
+pub inner_program : (env : Env) (a : Surroundings) (s : Stmt) → (env_after (opened (with_around env a)) s).program ≡ env.program
 inner_program env a s = (inner_grows env a s).program
 
-for_grows : (env : Env) (start : ForStart) (a : Around) (s : Stmt) → Grows env (env_after (with_around (for_declared (opened env) start) a) s)
+for_grows : (env : Env) (start : ForStart) (a : Surroundings) (s : Stmt) → Grows env (env_after (with_around (for_declared (opened env) start) a) s)
 for_grows env start a s = grows_after env (with_around (for_declared (opened env) start) a) s (grows_around env (for_declared (opened env) start) a (grows_for env (opened env) start (grows_opened env env (grows_self env))))
 
-pub for_names : (env : Env) (start : ForStart) (a : Around) (s : Stmt) → take (length env.names) (env_after (with_around (for_declared (opened env) start) a) s).names ≡ env.names
+pub for_names : (env : Env) (start : ForStart) (a : Surroundings) (s : Stmt) → take (length env.names) (env_after (with_around (for_declared (opened env) start) a) s).names ≡ env.names
 for_names env start a s = (for_grows env start a s).names
 
-pub for_program : (env : Env) (start : ForStart) (a : Around) (s : Stmt) → (env_after (with_around (for_declared (opened env) start) a) s).program ≡ env.program
+pub for_program : (env : Env) (start : ForStart) (a : Surroundings) (s : Stmt) → (env_after (with_around (for_declared (opened env) start) a) s).program ≡ env.program
 for_program env start a s = (for_grows env start a s).program
 
-handler_grows : (env : Env) (a : Around) (event param : Option (List ℕ)) (ss : Stmts) → Grows env (env_behind (with_caught (opened (with_around env a)) event param) ss)
+handler_grows : (env : Env) (a : Surroundings) (event param : Option (List ℕ)) (ss : Stmts) → Grows env (env_behind (with_caught (opened (with_around env a)) event param) ss)
 handler_grows env a event param ss = grows_behind env (with_caught (opened (with_around env a)) event param) ss (grows_caught env (opened (with_around env a)) event param (grows_opened env (with_around env a) (grows_around env env a (grows_self env))))
 
-pub handler_names : (env : Env) (a : Around) (event param : Option (List ℕ)) (ss : Stmts) → take (length env.names) (env_behind (with_caught (opened (with_around env a)) event param) ss).names ≡ env.names
+pub handler_names : (env : Env) (a : Surroundings) (event param : Option (List ℕ)) (ss : Stmts) → take (length env.names) (env_behind (with_caught (opened (with_around env a)) event param) ss).names ≡ env.names
 handler_names env a event param ss = (handler_grows env a event param ss).names
 
-pub handler_program : (env : Env) (a : Around) (event param : Option (List ℕ)) (ss : Stmts) → (env_behind (with_caught (opened (with_around env a)) event param) ss).program ≡ env.program
+pub handler_program : (env : Env) (a : Surroundings) (event param : Option (List ℕ)) (ss : Stmts) → (env_behind (with_caught (opened (with_around env a)) event param) ss).program ≡ env.program
 handler_program env a event param ss = (handler_grows env a event param ss).program
 
 pub ruleset blocks = (block_names, block_program, guarded_names, guarded_program, inner_names, inner_program, for_names, for_program, handler_names, handler_program)

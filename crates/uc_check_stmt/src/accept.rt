@@ -7,7 +7,7 @@ ghost use Rattle.uc_tree.specs.Numbering.{is_mutex, mutex_members};
 ghost use Rattle.uc_tree.specs.declared.limits.TheConstants.{CLAUSES, DESTRUCTOR, MEMBERS};
 ghost use Rattle.uc_rules.specs.ExpressionBreaks.{all_listed, are_fresh, behind_all, class_of, clauses_breaks, handlers_breaks, is_among, is_catch, is_event_or_all, is_exclusive_entity, is_exclusive_member, is_fresh, listed_in, means_exclusive, with_listed};
 ghost use Rattle.uc_rules.specs.Names.{member_named};
-ghost use Rattle.uc_rules.specs.declared.rules.Meant.{Meant};
+ghost use Rattle.uc_rules.specs.declared.rules.NameMeaning.{NameMeaning};
 ghost use Rattle.uc_rules.specs.Firsts.{after};
 ghost use Rattle.uc_rules.specs.OwnerBreaks.{may_accept};
 ghost use Rattle.uc_rules.specs.ProgramVisits.{home_member};
@@ -18,7 +18,7 @@ ghost use Rattle.uc_types.specs.FirstBreak.{told};
 use std::alloc::{AllocError, Global};
 use uc_numbering::members::member_number;
 use uc_rules::rule::Rule;
-use uc_rules::rules::{Around, Entity, Meant};
+use uc_rules::rules::{Entity, NameMeaning, Surroundings};
 use uc_tree::class::Class;
 use uc_tree::kinds::{HandlerKind, MemberName};
 use uc_tree::limits::{CLAUSES, DESTRUCTOR};
@@ -84,7 +84,7 @@ fn is_exclusive_entity(class: &Class, entity: Option<Entity>) -> bool
     }
 }
 
-fn means_exclusive(class: &Class, meant: Option<Meant>) -> bool
+fn means_exclusive(class: &Class, meant: Option<NameMeaning>) -> bool
     ensures { result ≡ means_exclusive class.now meant }
 {
     match meant {
@@ -161,13 +161,13 @@ fn note_clauses(
 
 // Where no class is round an accept statement nothing that it lists has a number.
 fn lists_none(members: &[MemberName]) -> bool
-    ensures { (meant : List ℕ → Option Meant) → result ≡ are_fresh [] (map (listed_in meant None) members.now) }
+    ensures { (meant : List ℕ → Option NameMeaning) → result ≡ are_fresh [] (map (listed_in meant None) members.now) }
 {
     members.is_empty()
 }
 
 fn note_unowned(clauses: &[Clause], found: &mut Found)
-    ensures { (meant : List ℕ → Option Meant) → found.new ≡ after found.old (clauses_breaks meant None 0 [] (clauses_of clauses.now)) }
+    ensures { (meant : List ℕ → Option NameMeaning) → found.new ≡ after found.old (clauses_breaks meant None 0 [] (clauses_of clauses.now)) }
 {
     for (place, clause) in clauses.iter().enumerate() {
         let fresh = lists_none(&clause.members);
@@ -183,7 +183,7 @@ fn is_few(place: usize) -> bool
     place < usize::from(CLAUSES)
 }
 
-fn may_accept(around: Around) -> bool
+fn may_accept(around: Surroundings) -> bool
     ensures { result ≡ may_accept around }
 {
     around.inner && !is_constructor(around.role)

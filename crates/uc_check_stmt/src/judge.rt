@@ -9,7 +9,7 @@ ghost use Rattle.uc_types.specs.FirstBreak.{told};
 
 use uc_entry::request::PRINT_ITEMS;
 use uc_rules::rule::Rule;
-use uc_rules::rules::{Around, Entity, Sort};
+use uc_rules::rules::{Entity, Sort, Surroundings};
 use uc_tree::declare::OutItem;
 use uc_tree::kinds::Base;
 use uc_tree::name::Name;
@@ -234,7 +234,7 @@ pub fn ask_caught(names: &Names, name: &Option<Name>, at: Pos, found: &mut Found
     }
 }
 
-fn may_switch(around: Around) -> bool
+fn may_switch(around: Surroundings) -> bool
     ensures { result ≡ may_switch around around.home }
 {
     match around.home {

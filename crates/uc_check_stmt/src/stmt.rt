@@ -20,7 +20,7 @@ use crate::parts::{
     check_places, check_raise, check_raised, check_return, check_statement,
 };
 use std::alloc::AllocError;
-use uc_rules::rules::Around;
+use uc_rules::rules::Surroundings;
 use uc_tree::declare::{ForForm, ForStart, OutItem, Raised};
 use uc_tree::expr::Expr;
 use uc_tree::kinds::EventName;
@@ -31,20 +31,20 @@ use uc_types::found::Found;
 use uc_types::names::Names;
 
 /// What stands round the body of a loop.
-pub fn in_loop(around: Around) -> Around
+pub fn in_loop(around: Surroundings) -> Surroundings
     ensures { result ≡ in_loop around }
 {
-    Around {
+    Surroundings {
         in_loop: true,
         ..around
     }
 }
 
 /// What stands round the block of a handler.
-pub fn in_handler(around: Around) -> Around
+pub fn in_handler(around: Surroundings) -> Surroundings
     ensures { result ≡ in_handler around }
 {
-    Around {
+    Surroundings {
         in_loop: false,
         in_handler: true,
         ..around
@@ -52,10 +52,10 @@ pub fn in_handler(around: Around) -> Around
 }
 
 /// The same with whether a block that stands there is one scope with what stands round it.
-pub fn with_joins(joins: bool, around: Around) -> Around
+pub fn with_joins(joins: bool, around: Surroundings) -> Surroundings
     ensures { result ≡ with_joins joins around }
 {
-    Around { joins, ..around }
+    Surroundings { joins, ..around }
 }
 
 #[tactic(auto, using(crate::proofs::Joined::joining))]
@@ -347,7 +347,7 @@ fn check_guarded(names: &mut Names, body: &[Stmt], found: &mut Found) -> Result<
 #[tactic(auto, using(crate::proofs::Joined::joining, crate::proofs::Blocks::blocks))]
 fn check_inner(
     names: &mut Names,
-    around: Around,
+    around: Surroundings,
     s: &Stmt,
     found: &mut Found,
 ) -> Result<(), AllocError>

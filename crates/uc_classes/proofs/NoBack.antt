@@ -4,8 +4,8 @@ use Rattle.std.specs.Prelude.{slice_get, ℤ}
 use Rattle.std.specs.List.{list_any}
 use Rattle.std.proofs.lemmas.List.Folds.{list_any-append}
 use Rattle.uc_tree.specs.declared.kinds.Base.{Base}
-use Rattle.uc_tree.specs.declared.rows.Held.{Held}
-use Rattle.uc_tree.specs.Rows.{Row, row_at, leads, reaches}
+use Rattle.uc_tree.specs.declared.rows.FieldLayout.{FieldLayout}
+use Rattle.uc_tree.specs.Rows.{ClassLayout, row_at, leads, reaches}
 use Rattle.uc_tree.specs.Constants.{constants_of}
 use Rattle.uc_tree.specs.Cells.{classes_of, rows_of, row_of, held_by, member_held, members_held, seen_in}
 use Rattle.uc_tree.specs.Statements.{Declarator}
@@ -22,13 +22,13 @@ or_right : (a b : Bool) → b ≡ true → (a || b) ≡ true
 or_right true b e = refl
 or_right false b e = e
 
-any_at : {A : Type 0} (f : A → Held) (q : Held → Bool) (xs : List A) (i : ℕ) (x : A) → slice_get xs i ≡ Some x → q (f x) ≡ true → list_any q (map f xs) ≡ true
+any_at : {A : Type 0} (f : A → FieldLayout) (q : FieldLayout → Bool) (xs : List A) (i : ℕ) (x : A) → slice_get xs i ≡ Some x → q (f x) ≡ true → list_any q (map f xs) ≡ true
 any_at f q [] zero x h e = absurd (cc)
 any_at f q [] (suc i) x h e = absurd (cc)
 any_at f q (y ∷ xs) zero x h e = let same : y ≡ x = cc in or_left (q (f y)) (list_any q (map f xs)) (ap (λ z. q (f z)) same ∙ e)
 any_at f q (y ∷ xs) (suc i) x h e = or_right (q (f y)) (list_any q (map f xs)) (any_at f q xs i x h e)
 
-member_any : (cs : List Class) (named : List ℕ → Option ℤ) (q : Held → Bool) (ms : List Member) (j : ℕ) (m : Member) → slice_get ms j ≡ Some m → list_any q (member_held cs named m.form) ≡ true → list_any q (members_held cs named ms) ≡ true
+member_any : (cs : List Class) (named : List ℕ → Option ℤ) (q : FieldLayout → Bool) (ms : List Member) (j : ℕ) (m : Member) → slice_get ms j ≡ Some m → list_any q (member_held cs named m.form) ≡ true → list_any q (members_held cs named ms) ≡ true
 member_any cs named q [] zero m h e = absurd (cc)
 member_any cs named q [] (suc j) m h e = absurd (cc)
 member_any cs named q (x ∷ ms) zero m h e =
@@ -37,7 +37,7 @@ member_any cs named q (x ∷ ms) zero m h e =
 member_any cs named q (x ∷ ms) (suc j) m h e =
     list_any-append q (member_held cs named x.form) (members_held cs named ms) ∙ or_right (list_any q (member_held cs named x.form)) (list_any q (members_held cs named ms)) (member_any cs named q ms j m h e)
 
-row_there : (f : Class → Row) (cs : List Class) (k : ℕ) (c : Class) → slice_get cs k ≡ Some c → row_at (map f cs) k ≡ f c
+row_there : (f : Class → ClassLayout) (cs : List Class) (k : ℕ) (c : Class) → slice_get cs k ≡ Some c → row_at (map f cs) k ≡ f c
 row_there f [] zero c h = absurd (cc)
 row_there f [] (suc k) c h = absurd (cc)
 row_there f (x ∷ cs) zero c h = let same : x ≡ c = cc in ap f same

@@ -7,7 +7,7 @@ use Rattle.uc_tree.specs.Rows.{reaches}
 use Rattle.uc_tree.specs.Cells.{rows_of}
 use Rattle.uc_tree.specs.Statements.{Declarator}
 use Rattle.uc_tree.specs.Programs.{Class, Member, FieldsMember, Program}
-use Rattle.uc_rules.specs.declared.rules.Home.{Home}
+use Rattle.uc_rules.specs.declared.rules.OwnClass.{OwnClass}
 use Rattle.uc_rules.specs.Sorts.{class_at}
 use Rattle.uc_layout.specs.ContainmentProgress.{Reaching}
 use Rattle.uc_names.specs.Blocks.{Block}
@@ -18,7 +18,7 @@ abbrev pub Circling : Program → ℕ → Bool → List Bool → Type 0
 Circling p class false flags = (steps : ℕ) → reaches steps (rows_of p) class class ≡ false
 Circling p class true flags = Reaching (rows_of p) class flags
 
-pub record Walks (p : Program) (home : Home) (class : Class) (circular : Bool) (holders : List Bool) (known : Bool) (bound : List Block) : Type 0 where
+pub record Walks (p : Program) (home : OwnClass) (class : Class) (circular : Bool) (holders : List Bool) (known : Bool) (bound : List Block) : Type 0 where
   pub at : class_at p home.class ≡ Some class
   pub circle : Circling p home.class circular holders
   pub bound_are : AreBound p class home.class known bound

@@ -36,7 +36,7 @@ use uc_check_stmt::declare::{is_element, judge_event, judge_length};
 use uc_check_stmt::judge;
 use uc_owner::judge::{note_field, note_param};
 use uc_rules::rule::Rule;
-use uc_rules::rules::{Entity, FieldPlace, Meant, Sort};
+use uc_rules::rules::{Entity, FieldPlace, NameMeaning, Sort};
 use uc_tree::class::{Class, Init, Member, Sig};
 use uc_tree::declare::Declarator;
 use uc_tree::kinds::{Access, Base, Kind, Param};
@@ -570,7 +570,13 @@ fn note_values(
     }
 }
 
-fn note_count(names: &Names, init: &Init, meant: Option<Meant>, single: bool, found: &mut Found)
+fn note_count(
+    names: &Names,
+    init: &Init,
+    meant: Option<NameMeaning>,
+    single: bool,
+    found: &mut Found,
+)
     requires { single ≡ are_single names.now init.now.args }
     ensures { found.new ≡ after found.old (init_count_breaks names.now init.now meant) }
 {
@@ -589,7 +595,7 @@ pub fn ask_init(
     names: &Names,
     init: &Init,
     last: Option<FieldPlace>,
-    meant: Option<Meant>,
+    meant: Option<NameMeaning>,
     single: bool,
     found: &mut Found,
 )

@@ -10,10 +10,10 @@ use crate::class::{Listed, Walked};
 use uc_layout::circles::flag_at;
 use uc_tree::declare::Declarator;
 use uc_tree::kinds::Base;
-use uc_tree::rows::Object;
+use uc_tree::rows::FieldClass;
 use uc_types::tables::Tables;
 
-fn field_object(tables: &Tables, base: &Base, declarator: &Declarator) -> Option<Object>
+fn field_object(tables: &Tables, base: &Base, declarator: &Declarator) -> Option<FieldClass>
     ensures { result ≡ field_object tables.now base.now declarator.now }
 {
     if declarator.by_ref {
@@ -22,7 +22,7 @@ fn field_object(tables: &Tables, base: &Base, declarator: &Declarator) -> Option
     tables.sizes().object(base)
 }
 
-fn object_leads(holders: &[bool], to: usize, object: Option<Object>) -> bool
+fn object_leads(holders: &[bool], to: usize, object: Option<FieldClass>) -> bool
     ensures { result ≡ object_leads (flag_at holders.now) to object }
 {
     match object {

@@ -24,10 +24,10 @@ use uc_check_stmt::declare::check_maybe;
 use uc_check_stmt::judge::ask_base;
 use uc_owner::bind::{BoundFields, bound_fields};
 use uc_rules::rule::Rule;
-use uc_rules::rules::{Around, FieldPlace, Home};
+use uc_rules::rules::{FieldPlace, OwnClass, Surroundings};
 use uc_tree::class::{Class, Member, MemberForm, Routine, Sig};
 use uc_tree::declare::Declarator;
-use uc_tree::kinds::{Access, Base, Mark, Role};
+use uc_tree::kinds::{Access, Base, MutexMark, Role};
 use uc_tree::name::Name;
 use uc_tree::pos::Pos;
 use uc_types::found::Found;
@@ -44,7 +44,7 @@ pub struct Walked<'a> {
     pub tables: &'a Tables<'a>,
     pub index: &'a Index<'a>,
     pub class: &'a Class,
-    pub home: Home,
+    pub home: OwnClass,
     pub circular: bool,
     pub holders: &'a [bool],
     pub bound: BoundFields<'a>,
@@ -69,10 +69,10 @@ pub struct Listed<'a> {
 }
 
 /// What stands round the members of a class, outside of its routines.
-pub fn class_around(home: Home) -> Around
+pub fn class_around(home: OwnClass) -> Surroundings
     ensures { result ≡ class_around home }
 {
-    Around {
+    Surroundings {
         home: Some(home),
         main: false,
         role: Role::Plain,
@@ -85,7 +85,7 @@ pub fn class_around(home: Home) -> Around
     }
 }
 
-fn is_inner(home: Home, mark: Mark, sig: &Sig) -> bool
+fn is_inner(home: OwnClass, mark: MutexMark, sig: &Sig) -> bool
     ensures { result ≡ is_inner home mark sig.now }
 {
     is_mutex(home.kind) && (!is_plain(sig.role) || (sig.name.is(b"main") || !is_nomutex(mark)))
@@ -101,14 +101,20 @@ fn returns_scalar(tables: &Tables, base: &Base) -> bool
 }
 
 /// What stands round a routine of a class, or of none.
-pub fn sig_around(tables: &Tables, home: Option<Home>, main: bool, mark: Mark, sig: &Sig) -> Around
+pub fn sig_around(
+    tables: &Tables,
+    home: Option<OwnClass>,
+    main: bool,
+    mark: MutexMark,
+    sig: &Sig,
+) -> Surroundings
     ensures { result ≡ sig_around tables.now home main mark sig.now }
 {
     let inner = match home {
         Some(home) => is_inner(home, mark, sig),
         None => false,
     };
-    Around {
+    Surroundings {
         home,
         main,
         role: sig.role,
@@ -191,7 +197,7 @@ fn ask_inner(
 }
 
 // The environment of a routine in its class, before its parameters.
-fn inner_names<'a>(walked: Walked<'a>, mark: Mark, sig: &Sig) -> Names<'a>
+fn inner_names<'a>(walked: Walked<'a>, mark: MutexMark, sig: &Sig) -> Names<'a>
     ensures { result ≡ sig_env walked.entry.tables.now walked.entry.home mark sig.now }
 {
     let around = sig_around(walked.tables, Some(walked.home), false, mark, sig);
@@ -201,7 +207,7 @@ fn inner_names<'a>(walked: Walked<'a>, mark: Mark, sig: &Sig) -> Names<'a>
 fn check_inner(
     walked: Walked,
     place: usize,
-    mark: Mark,
+    mark: MutexMark,
     routine: &Routine,
     found: &mut Found,
 ) -> Result<(), AllocError>
@@ -217,7 +223,7 @@ fn check_inner(
 fn check_proto(
     walked: Walked,
     place: usize,
-    mark: Mark,
+    mark: MutexMark,
     sig: &Sig,
     found: &mut Found,
 ) -> Result<(), AllocError>
@@ -328,7 +334,7 @@ fn ask_whole(
     tables: &Tables,
     index: &Index,
     class: &Class,
-    home: Home,
+    home: OwnClass,
     events: usize,
     found: &mut Found,
 ) -> Result<(), AllocError>
@@ -347,7 +353,7 @@ fn check_held<'x>(
     tables: &'x Tables<'x>,
     index: &'x Index<'x>,
     class: &'x Class,
-    home: Home,
+    home: OwnClass,
     circle: Circle<'x>,
     found: &mut Found,
 ) -> Result<(), AllocError>
@@ -381,7 +387,7 @@ fn check_inside(
     tables: &Tables,
     index: &Index,
     class: &Class,
-    home: Home,
+    home: OwnClass,
     found: &mut Found,
 ) -> Result<(), AllocError>
     requires indexed { index.now ≡ tables.now }
@@ -413,7 +419,7 @@ pub fn check_class(
     requires at { class_at tables.now place ≡ Some class.now }
     ensures { OnOk result (found.new ≡ noted found.old (class_visits tables.now place class.now)) }
 {
-    let home = Home {
+    let home = OwnClass {
         class: place,
         kind: class.kind,
     };

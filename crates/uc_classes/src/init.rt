@@ -13,7 +13,9 @@ use crate::ask::ask_init;
 use uc_check_decl::init::{home_member, last_field, meant_field};
 use uc_check_stmt::declare::{is_scalar_of, single_target};
 use uc_owner::judge::note_bound;
-use uc_rules::rules::{Around, Bound, Entity, Expected, FieldPlace, Meant, Origin, Target};
+use uc_rules::rules::{
+    Bound, Entity, Expected, FieldPlace, NameMeaning, Origin, Surroundings, Target,
+};
 use uc_tree::class::Init;
 use uc_tree::expr::{Expr, ExprForm};
 use uc_tree::name::Name;
@@ -56,7 +58,7 @@ fn origin_target(entity: Option<Entity>, origin: Origin) -> Target
     }
 }
 
-fn meant_target(meant: Option<Meant>) -> Target
+fn meant_target(meant: Option<NameMeaning>) -> Target
     ensures { result ≡ meant_target meant }
 {
     match meant {
@@ -81,10 +83,10 @@ fn bound_of(e: &Expr, expected: Expected, field: FieldPlace) -> Bound
     }
 }
 
-fn in_argument(bound: Bound, around: Around) -> Around
+fn in_argument(bound: Bound, around: Surroundings) -> Surroundings
     ensures { result ≡ in_argument bound around }
 {
-    Around {
+    Surroundings {
         bound: Some(bound),
         ..around
     }

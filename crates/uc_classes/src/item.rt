@@ -14,9 +14,9 @@ use crate::class::{check_class, sig_around};
 use std::alloc::{AllocError, Global};
 use uc_check_decl::item::owner_home;
 use uc_check_index::index::Index;
-use uc_rules::rules::{Around, Home};
+use uc_rules::rules::{OwnClass, Surroundings};
 use uc_tree::class::{Routine, Sig};
-use uc_tree::kinds::{Mark, Owner, Role};
+use uc_tree::kinds::{MutexMark, Owner, Role};
 use uc_tree::program::{Constant, Item, ItemForm};
 use uc_types::expr::check_expr;
 use uc_types::found::Found;
@@ -25,10 +25,10 @@ use uc_types::sort::is_event;
 use uc_types::tables::Tables;
 
 /// What stands round what is in no class and no routine.
-pub fn no_around() -> Around
+pub fn no_around() -> Surroundings
     ensures { result ≡ no_around }
 {
-    Around {
+    Surroundings {
         home: None,
         main: false,
         role: Role::Plain,
@@ -41,7 +41,12 @@ pub fn no_around() -> Around
     }
 }
 
-fn mark_of(alloc: Global, index: &Index, home: Option<Home>, sig: &Sig) -> Result<Mark, AllocError>
+fn mark_of(
+    alloc: Global,
+    index: &Index,
+    home: Option<OwnClass>,
+    sig: &Sig,
+) -> Result<MutexMark, AllocError>
     ensures { IfOk result (λ mark. mark ≡ outer_mark index.now home sig.now) }
 {
     match home {
@@ -49,7 +54,7 @@ fn mark_of(alloc: Global, index: &Index, home: Option<Home>, sig: &Sig) -> Resul
             let mark = index.mark_in(alloc, home.class, sig)?;
             Ok(mark)
         }
-        None => Ok(Mark::Unmarked),
+        None => Ok(MutexMark::Unmarked),
     }
 }
 
@@ -58,9 +63,9 @@ fn outer_mark(
     alloc: Global,
     tables: &Tables,
     index: &Index,
-    home: Option<Home>,
+    home: Option<OwnClass>,
     sig: &Sig,
-) -> Result<Mark, AllocError>
+) -> Result<MutexMark, AllocError>
     requires { index.now ≡ tables.now }
     ensures { IfOk result (λ mark. mark ≡ outer_mark tables.now home sig.now) }
 {

@@ -2,7 +2,7 @@
 use Rattle.std.specs.Prelude.{◌≡◌, ◌≢◌, ◌<◌, ℕ, zero, suc, List, [], ◌∷◌, ◌++◌, Some, slice_get}
 use Rattle.uc_tree.specs.declared.kinds.Place.{Place}
 use Rattle.uc_code.specs.declared.op.Op.{Op}
-use Rattle.uc_tree.specs.declared.kinds.Known.{Known}
+use Rattle.uc_tree.specs.declared.kinds.LocalVariable.{LocalVariable}
 use Rattle.uc_code.specs.declared.rows.HandlerRow.{HandlerRow}
 use Rattle.uc_code.specs.declared.rows.Instruction.{Instruction}
 use Rattle.uc_code.specs.declared.rows.Mark.{Mark}
@@ -20,7 +20,7 @@ pub record Draft : Type 0 where
   pub place : Place
   pub marks : List Mark
   pub scopes : ℕ
-  pub names : List Known
+  pub names : List LocalVariable
   pub handled : ℕ
   pub cells : ℕ
   pub hidden : ℕ
@@ -39,12 +39,12 @@ patched (i ∷ is) zero op = record { op = op; line = i.line } ∷ is
 patched (i ∷ is) (suc at) op = i ∷ patched is at op
 
 -- a declaration of a name behind which no other declares it
-pub record IsInnermost (names : List Known) (name : List ℕ) (known : Known) : Type 0 where
+pub record IsInnermost (names : List LocalVariable) (name : List ℕ) (known : LocalVariable) : Type 0 where
   pub number : ℕ
   pub there : slice_get names number ≡ Some known
   pub same : known.name ≡ name
-  pub later : (i : ℕ) (other : Known) → number < i → slice_get names i ≡ Some other → other.name ≢ name
+  pub later : (i : ℕ) (other : LocalVariable) → number < i → slice_get names i ≡ Some other → other.name ≢ name
 
 -- no declaration of a name
-pub record IsUnknown (names : List Known) (name : List ℕ) : Type 0 where
-  pub none : (i : ℕ) (other : Known) → slice_get names i ≡ Some other → other.name ≢ name
+pub record IsUnknown (names : List LocalVariable) (name : List ℕ) : Type 0 where
+  pub none : (i : ℕ) (other : LocalVariable) → slice_get names i ≡ Some other → other.name ≢ name

@@ -20,7 +20,7 @@ use crate::rows::{
 };
 use std::alloc::{AllocError, Global};
 use std::marker::Model;
-use uc_tree::kinds::{Known, Place, Ty};
+use uc_tree::kinds::{LocalVariable, Place, Ty};
 use uc_tree::name::{Name, Text};
 use uc_tree::site::Site;
 
@@ -33,7 +33,7 @@ pub struct Draft {
     place: Place,
     marks: Vec<Mark>,
     scopes: u32,
-    names: Vec<Known>,
+    names: Vec<LocalVariable>,
     handled: u32,
     cells: u32,
     hidden: u32,
@@ -401,7 +401,7 @@ impl Draft {
         ensures err { OnErr result (self.new ≡ self.old) }
     {
         let cell = self.cells;
-        self.names.push(Known { name, ty, cell })?;
+        self.names.push(LocalVariable { name, ty, cell })?;
         self.cells += cells;
         Ok(())
     }
@@ -411,13 +411,13 @@ impl Draft {
         ensures ok { OnOk result (self.new ≡ record self.old { names = self.old.names ++ record { name = name; ty = ty; cell = cell } ∷ [] }) }
         ensures err { OnErr result (self.new ≡ self.old) }
     {
-        let known = Known { name, ty, cell };
+        let known = LocalVariable { name, ty, cell };
         self.names.push(known)?;
         Ok(())
     }
 
     /// The innermost declaration of a name.
-    pub fn find(&self, name: &[u8]) -> Option<&Known>
+    pub fn find(&self, name: &[u8]) -> Option<&LocalVariable>
         ensures { MatchOption result (IsUnknown self.now.names name.now) (λ known. IsInnermost self.now.names name.now known.now) }
     {
         innermost_of(&self.names, name)
@@ -451,7 +451,7 @@ fn patch_op(ops: &mut Vec<Instruction>, at: u32, op: Op)
 }
 
 // The last of the names that is this name.
-fn innermost_of<'a>(names: &'a [Known], name: &[u8]) -> Option<&'a Known>
+fn innermost_of<'a>(names: &'a [LocalVariable], name: &[u8]) -> Option<&'a LocalVariable>
     ensures { MatchOption result (IsUnknown names.now name.now) (λ known. IsInnermost names.now name.now known.now) }
 {
     let mut i = names.len();

@@ -1,8 +1,8 @@
 -- The ends of blocks and mains that are unwound are those of the source.
 use Rattle.std.proofs.Common.{◌≡◌, ℕ, ◌+◌, List, [], ◌∷◌, length, Bool, true, false, Option, Some, None, refl, sym, ap, subst, ◌∙◌}
 use Rattle.uc_tree.specs.Source.{Source, ToReturn, Leaves}
-use Rattle.uc_machine.specs.declared.exec.Reason.{Reason}
-use Rattle.uc_machine.specs.declared.exec.Reason.TheVariants as reason
+use Rattle.uc_machine.specs.declared.exec.UnwindReason.{UnwindReason}
+use Rattle.uc_machine.specs.declared.exec.UnwindReason.TheVariants as reason
 use Rattle.uc_machine.specs.Executions.{calmed, returned}
 use Rattle.uc_machine.specs.Quiet as quiet
 use Rattle.uc_machine.specs.Quiet.{Finish, State, Goes, stay, more, nought, quiet as step}
@@ -186,7 +186,7 @@ module _ (source : Source) (code : Laid) (old new : Machine) (s : State) where
     abbrev held : Bool
     held = is_held_up old.env.own old.env
 
-    by_reason : (o : Option Reason) (e : TaskMainEnd) → old.run.raised ≡ o → s.run.raised ≡ o → e ≡ main_by held o old.callers → new ≡ main_over e old → MainLeft source code e new s
+    by_reason : (o : Option UnwindReason) (e : TaskMainEnd) → old.run.raised ≡ o → s.run.raised ≡ o → e ≡ main_by held o old.callers → new ≡ main_over e old → MainLeft source code e new s
     by_reason None e i j k q = subst (λ x. MainLeft source code x new s) (sym k) (record { after = _; asks = main_is ∙ ap (λ o. main_left o h.run.rest s) j })
     by_reason (Some (reason.Event n x y)) e i j k q = subst (λ x. MainLeft source code x new s) (sym k) (record { after = _; asks = main_is ∙ ap (λ o. main_left o h.run.rest s) j })
     by_reason (Some (reason.ReturnTo home)) e i j k q =

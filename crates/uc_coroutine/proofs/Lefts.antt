@@ -2,8 +2,8 @@
 use Rattle.std.proofs.Common.{◌≡◌, suc, List, [], ◌∷◌, length, map, Bool, true, false, Option, Some, None, refl, sym, ap, subst, ◌∙◌}
 use Rattle.std.specs.Prelude.{if◌then◌else◌}
 use Rattle.uc_tree.specs.Source.{Source}
-use Rattle.uc_machine.specs.declared.exec.Reason.{Reason}
-use Rattle.uc_machine.specs.declared.exec.Reason.TheVariants as reason
+use Rattle.uc_machine.specs.declared.exec.UnwindReason.{UnwindReason}
+use Rattle.uc_machine.specs.declared.exec.UnwindReason.TheVariants as reason
 use Rattle.uc_machine.specs.declared.exec.Visited.{Visited}
 use Rattle.uc_machine.specs.Executions.{one_call_less, others, left_for, returned, unwound}
 use Rattle.uc_machine.specs.Quiet as quiet
@@ -58,7 +58,7 @@ module _ (code : Laid) where
   }
 
   -- it is unwound in its turn
-  pub unwound_on : (m : Active) (c : quiet.Active) (why : Reason) (x : Cell) (v : Value) → x ≡ cell_of v → CallerStands code m c → UnwindStands code (unwound_by why x m) (unwound (Unwind ∷ c.control) why v c)
+  pub unwound_on : (m : Active) (c : quiet.Active) (why : UnwindReason) (x : Cell) (v : Value) → x ≡ cell_of v → CallerStands code m c → UnwindStands code (unwound_by why x m) (unwound (Unwind ∷ c.control) why v c)
   unwound_on m c why x v e h = record {
     rest = c.control;
     todo = refl;
@@ -70,7 +70,7 @@ module _ (code : Laid) where
 
 module _ (source : Source) (code : Laid) where
   module _ (old new : Machine) (s : State) (h : LeavesNow code old s) where
-    abbrev r : Option Reason
+    abbrev r : Option UnwindReason
     r = s.run.raised
 
     raised_is : old.run.raised ≡ r
@@ -96,7 +96,7 @@ module _ (source : Source) (code : Laid) where
           (record { run = handed_on code m c old.run.result s.run.result result_is k.stands; callers = l; env = env_now });
     }
 
-    passes : (why : Reason) (m : Active) (ms : List Active) (c : quiet.Active) (cs : List quiet.Active) → CallerStands code m c → Lined (CallerStands code) ms cs → step source s ≡ Goes (left_for s.run.counts (unwound (Unwind ∷ c.control) why s.run.result c) cs s.env) → new ≡ passed why old.run.result (m ∷ ms) old → GoesTo source code (Unwinds code) new s
+    passes : (why : UnwindReason) (m : Active) (ms : List Active) (c : quiet.Active) (cs : List quiet.Active) → CallerStands code m c → Lined (CallerStands code) ms cs → step source s ≡ Goes (left_for s.run.counts (unwound (Unwind ∷ c.control) why s.run.result c) cs s.env) → new ≡ passed why old.run.result (m ∷ ms) old → GoesTo source code (Unwinds code) new s
     passes why m ms c cs k l w q = record {
       after = left_for s.run.counts (unwound (Unwind ∷ c.control) why s.run.result c) cs s.env;
       by = w;
@@ -105,7 +105,7 @@ module _ (source : Source) (code : Laid) where
     }
 
     -- what becomes of it, by its reason
-    by_reason : (o : Option Reason) (m : Active) (ms : List Active) (c : quiet.Active) (cs : List quiet.Active) → CallerStands code m c → Lined (CallerStands code) ms cs → old.callers ≡ m ∷ ms → old.run.raised ≡ o → step source s ≡ pass_on o c cs s → new ≡ left_as (goes_by o) old → LeftAs source code (goes_by o) new s
+    by_reason : (o : Option UnwindReason) (m : Active) (ms : List Active) (c : quiet.Active) (cs : List quiet.Active) → CallerStands code m c → Lined (CallerStands code) ms cs → old.callers ≡ m ∷ ms → old.run.raised ≡ o → step source s ≡ pass_on o c cs s → new ≡ left_as (goes_by o) old → LeftAs source code (goes_by o) new s
     by_reason None m ms c cs k l i z w q = w
     by_reason (Some why) m ms c cs k l i z w q =
         let x : m.raised ≡ c.raised = ap (λ (a : Active). a.raised) k.stands.is in

@@ -1,8 +1,8 @@
 -- Switches are what the source does.
 use Rattle.std.proofs.Common.{◌≡◌, ℕ, List, [], ◌∷◌, Option, Some, None, refl, sym, ap, subst, ◌∙◌}
 use Rattle.uc_tree.specs.Source.{Source}
-use Rattle.uc_machine.specs.declared.exec.Reason.{Reason}
-use Rattle.uc_machine.specs.declared.exec.Reason.TheVariants as reason
+use Rattle.uc_machine.specs.declared.exec.UnwindReason.{UnwindReason}
+use Rattle.uc_machine.specs.declared.exec.UnwindReason.TheVariants as reason
 use Rattle.uc_entry.specs.declared.fault.RunFault.{RunFault}
 use Rattle.uc_entry.specs.Faults.{fault_number}
 use Rattle.uc_entry.specs.declared.request.Request.TheVariants as ask
@@ -78,7 +78,7 @@ module _ (source : Source) (code : Laid) (old new : Machine) (s : State) where
     escapes : step source s ≡ moves (escape t) t → (o : Option RunFault) → o ≡ fault_in (escape old) → new ≡ state_in old (escape old) → SwitchedAs source code o new s
     escapes w o e q = moved_now (escape old) (escape t) t (escape_both (RunStands code) (CallerStands code) cell_of (raised_stands code) old t h.callers h.env) w o e q
 
-    by_reason : (r : Option Reason) → step source s ≡ coroutine_left r h.run.rest s → (o : Option RunFault) → o ≡ fault_in (left_by r old) → new ≡ state_in old (left_by r old) → SwitchedAs source code o new s
+    by_reason : (r : Option UnwindReason) → step source s ≡ coroutine_left r h.run.rest s → (o : Option RunFault) → o ≡ fault_in (left_by r old) → new ≡ state_in old (left_by r old) → SwitchedAs source code o new s
     by_reason None w o e q = escapes w o e q
     by_reason (Some (reason.Event n x y)) w o e q = escapes w o e q
     by_reason (Some (reason.ReturnTo home)) w o e q =

@@ -3,7 +3,7 @@ use Rattle.std.proofs.Common.{◌≡◌, ℕ, List, [], ◌∷◌, length, inl, 
 use Rattle.std.specs.Prelude.{nat_eq, ◌&&◌, if◌then◌else◌, slice_get}
 use Rattle.std.proofs.lemmas.Bool.{eq-eqb, eqb-true}
 use Rattle.uc_tree.specs.Source.{Source}
-use Rattle.uc_machine.specs.declared.exec.Reason.{Reason}
+use Rattle.uc_machine.specs.declared.exec.UnwindReason.{UnwindReason}
 use Rattle.uc_machine.specs.Quiet.{Todo, State}
 use Rattle.uc_machine.specs.Pieces.{Unwind}
 use Rattle.uc_code.specs.declared.rows.HandlerRow.{HandlerRow}
@@ -152,7 +152,7 @@ module _ (code : Laid) where
   named_is (Some m) n e = ap (λ k. Some k) (eqb-true m n e)
 
   module _ (source : Source) (old new : Machine) (s : State) (h : Unwinds code old s) where
-    abbrev r : Option Reason
+    abbrev r : Option UnwindReason
     r = s.run.raised
 
     raised_is : old.run.raised ≡ r

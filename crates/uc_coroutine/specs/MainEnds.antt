@@ -1,8 +1,8 @@
 -- The ends of blocks that are left as a whole, and of mains, where they are unwound.
 use Rattle.std.specs.Prelude.{◌≡◌, ℕ, List, [], ◌∷◌, Option, Some, Bool, true, false}
 use Rattle.uc_tree.specs.Source.{Source}
-use Rattle.uc_machine.specs.declared.exec.Reason.{Reason}
-use Rattle.uc_machine.specs.declared.exec.Reason.TheVariants as reason
+use Rattle.uc_machine.specs.declared.exec.UnwindReason.{UnwindReason}
+use Rattle.uc_machine.specs.declared.exec.UnwindReason.TheVariants as reason
 use Rattle.uc_entry.specs.declared.fault.RunFault.TheVariants as fault
 use Rattle.uc_entry.specs.Faults.{fault_number}
 use Rattle.uc_entry.specs.declared.request.Request.TheVariants as ask
@@ -30,7 +30,7 @@ abbrev pub call_over : Bool → ℕ → ℕ → Machine → Machine
 call_over true arrived behind m = record m { run = arrived_at arrived m.run }
 call_over false arrived behind m = record m { run = record m.run { control = behind } }
 
-abbrev pub is_return : Option Reason → Bool
+abbrev pub is_return : Option UnwindReason → Bool
 is_return (Some (reason.ReturnTo home)) = true
 is_return _ = false
 
@@ -43,7 +43,7 @@ abbrev pub returned_by : Bool → List Active → TaskMainEnd
 returned_by true cs = HeldUp
 returned_by false cs = ended_by cs
 
-abbrev pub main_by : Bool → Option Reason → List Active → TaskMainEnd
+abbrev pub main_by : Bool → Option UnwindReason → List Active → TaskMainEnd
 main_by held (Some (reason.ReturnTo home)) cs = returned_by held cs
 main_by held _ cs = Unhandled
 

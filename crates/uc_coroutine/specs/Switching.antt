@@ -1,8 +1,8 @@
 -- Switches on cells, as functions tell them, and what they are in the source.
 use Rattle.std.specs.Prelude.{◌≡◌, Option, Some, None}
 use Rattle.uc_tree.specs.Source.{Source}
-use Rattle.uc_machine.specs.declared.exec.Reason.{Reason}
-use Rattle.uc_machine.specs.declared.exec.Reason.TheVariants as reason
+use Rattle.uc_machine.specs.declared.exec.UnwindReason.{UnwindReason}
+use Rattle.uc_machine.specs.declared.exec.UnwindReason.TheVariants as reason
 use Rattle.uc_entry.specs.declared.fault.RunFault.{RunFault}
 use Rattle.uc_entry.specs.Faults.{fault_number}
 use Rattle.uc_entry.specs.declared.request.Request.TheVariants as ask
@@ -26,7 +26,7 @@ module _ {C V : Type 0} where
   state_in old (Stops f) = old
 
   -- the main of a coroutine is left, which is unwound for this reason
-  abbrev pub left_by : Option Reason → exec.State C V → Moved C V
+  abbrev pub left_by : Option UnwindReason → exec.State C V → Moved C V
   left_by (Some (reason.ReturnTo home)) s = finish s
   left_by (Some reason.Destroyed) s = taken_down s
   left_by _ s = escape s

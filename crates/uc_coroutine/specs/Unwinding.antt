@@ -1,7 +1,7 @@
 -- One step of unwinding on cells.
 use Rattle.std.specs.Prelude.{◌≡◌, ℕ, List, [], ◌∷◌, length, Option, Some, None, Bool, true, false, nat_eq, if◌then◌else◌, slice_get}
-use Rattle.uc_machine.specs.declared.exec.Reason.{Reason}
-use Rattle.uc_machine.specs.declared.exec.Reason.TheVariants as reason
+use Rattle.uc_machine.specs.declared.exec.UnwindReason.{UnwindReason}
+use Rattle.uc_machine.specs.declared.exec.UnwindReason.TheVariants as reason
 use Rattle.uc_machine.specs.declared.exec.Visited.{Visited}
 use Rattle.uc_machine.specs.Raising.{arrives, escapes, why_by}
 use Rattle.uc_code.specs.declared.rows.HandlerRow.{HandlerRow}
@@ -26,12 +26,12 @@ cleaned_by (Some r) m = record m { run = cleaning r.entry m.run }
 
 -- the running activation is left for the newest of these, which is unwound in its turn; where that is destroyed with its coroutine, that
 -- goes on
-abbrev pub passed_for : Reason → List Active → Machine → Machine
+abbrev pub passed_for : UnwindReason → List Active → Machine → Machine
 passed_for why [] m = m
 passed_for why (c ∷ cs) m = passed (why_by why c.raised) m.run.result (c ∷ cs) m
 
 -- so it is, where one of these waits
-abbrev pub passed_on : Option Reason → List Active → Machine → Option Machine
+abbrev pub passed_on : Option UnwindReason → List Active → Machine → Option Machine
 passed_on None cs m = None
 passed_on (Some why) [] m = None
 passed_on (Some why) (c ∷ cs) m = Some (passed_for why (c ∷ cs) m)
@@ -50,16 +50,16 @@ abbrev pub Made : Option Machine → Machine → Bool → Machine → Type 0
 Made None old made new = (made ≡ false) × (new ≡ old)
 Made (Some m) old made new = (made ≡ true) × (new ≡ m)
 
-abbrev pub goes_by : Option Reason → Left
+abbrev pub goes_by : Option UnwindReason → Left
 goes_by None = Ended
 goes_by (Some why) = PassedOn
 
 -- what becomes of an activation of which nothing is left
-abbrev pub ending_by : Option Reason → List Active → Left
+abbrev pub ending_by : Option UnwindReason → List Active → Left
 ending_by r [] = Ended
 ending_by r (c ∷ cs) = if arrives r (length (c ∷ cs)) then Returned else (if escapes r c.raised then Escaped else goes_by r)
 
-abbrev pub passed_as : Option Reason → Machine → Machine
+abbrev pub passed_as : Option UnwindReason → Machine → Machine
 passed_as None m = m
 passed_as (Some why) m = passed_for why m.callers m
 

@@ -15,7 +15,7 @@ use crate::unwinding::pass_on;
 use std::alloc::AllocError;
 use uc_frames::cell::Cell;
 use uc_frames::work::Work;
-use uc_machine::exec::Reason;
+use uc_machine::exec::UnwindReason;
 
 /// What becomes of an activation that is unwound to its end: it was the last one; a return arrives that ends it; an event has escaped
 /// from a clean-up; or the one that waits is unwound in its turn.
@@ -74,21 +74,21 @@ fn ending(work: &Work) -> Left
 }
 
 // So it is where no return arrives: the one that waits is unwound for the second reason, or is not.
-fn passing(raised: Option<Reason>, waits: Option<Reason>) -> Left
+fn passing(raised: Option<UnwindReason>, waits: Option<UnwindReason>) -> Left
     ensures { result ≡ (if escapes_by raised waits then left.Escaped else goes_by raised) }
 {
     match raised {
         None => Left::Ended,
         Some(why) => match why {
-            Reason::Event { .. } => {
+            UnwindReason::Event { .. } => {
                 if waits.is_some() {
                     Left::Escaped
                 } else {
                     Left::PassedOn
                 }
             }
-            Reason::ReturnTo(_) => Left::PassedOn,
-            Reason::Destroyed => Left::PassedOn,
+            UnwindReason::ReturnTo(_) => Left::PassedOn,
+            UnwindReason::Destroyed => Left::PassedOn,
         },
     }
 }
@@ -109,7 +109,7 @@ fn leave_handler(work: &mut Work, given: Cell) -> bool
     match work.handles() {
         None => false,
         Some(visited) => {
-            let made = work.pass_on(Reason::ReturnTo(visited.home), given);
+            let made = work.pass_on(UnwindReason::ReturnTo(visited.home), given);
             made
         }
     }
@@ -122,9 +122,9 @@ pub fn arrives(work: &Work) -> bool
     match work.raised() {
         None => false,
         Some(why) => match why {
-            Reason::Event { .. } => false,
-            Reason::ReturnTo(home) => home == work.level(),
-            Reason::Destroyed => false,
+            UnwindReason::Event { .. } => false,
+            UnwindReason::ReturnTo(home) => home == work.level(),
+            UnwindReason::Destroyed => false,
         },
     }
 }

@@ -15,7 +15,7 @@ ghost use Rattle.uc_coroutine.specs.Switching.{fault_in, state_in, left_by, Swit
 
 use uc_entry::fault::RunFault;
 use uc_frames::work::Work;
-use uc_machine::exec::{Exec, Reason, Stage};
+use uc_machine::exec::{Exec, Stage, UnwindReason};
 
 /// The running execution resumes the one of the coroutine whose member runs. Answers the fault, if it is one; then all stays as it is.
 pub fn resume(work: &mut Work) -> Option<RunFault>
@@ -191,9 +191,9 @@ fn leave_by_reason(work: &mut Work) -> Option<RunFault>
     match work.raised() {
         None => escape(work),
         Some(why) => match why {
-            Reason::Event { .. } => escape(work),
-            Reason::ReturnTo(_) => end(work),
-            Reason::Destroyed => go_back(work),
+            UnwindReason::Event { .. } => escape(work),
+            UnwindReason::ReturnTo(_) => end(work),
+            UnwindReason::Destroyed => go_back(work),
         },
     }
 }

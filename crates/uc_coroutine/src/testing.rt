@@ -18,7 +18,7 @@ use crate::leaving::arrives;
 use std::alloc::AllocError;
 use uc_frames::cell::Cell;
 use uc_frames::work::Work;
-use uc_machine::exec::Reason;
+use uc_machine::exec::UnwindReason;
 
 /// What becomes of a task's main that is unwound: it ends, as the last activation or for one that waits; nothing handles the event by which
 /// it is unwound; or it is held up in the task's own object.
@@ -100,15 +100,15 @@ fn end_now(work: &mut Work) -> Result<TaskMainEnd, AllocError>
     }
 }
 
-fn is_return(raised: Option<Reason>) -> bool
+fn is_return(raised: Option<UnwindReason>) -> bool
     ensures { result ≡ is_return_by raised }
 {
     match raised {
         None => false,
         Some(why) => match why {
-            Reason::Event { .. } => false,
-            Reason::ReturnTo(_) => true,
-            Reason::Destroyed => false,
+            UnwindReason::Event { .. } => false,
+            UnwindReason::ReturnTo(_) => true,
+            UnwindReason::Destroyed => false,
         },
     }
 }

@@ -13,7 +13,7 @@ ghost use Rattle.uc_coroutine.specs.Unwinding.{point_in, cleaned_by, passed_on, 
 use uc_code::code::Code;
 use uc_frames::search::{Sought, first_handler};
 use uc_frames::work::Work;
-use uc_machine::exec::Reason;
+use uc_machine::exec::UnwindReason;
 
 /// One step of unwinding the running execution down to an activation, by how many are below it, and to a row there, or else to its end:
 /// the next clean-up of the running activation begins, or where none is left, that activation is left with its frame, and the one that
@@ -94,14 +94,14 @@ pub(crate) fn pass_on(work: &mut Work) -> bool
 }
 
 // Why the one that waits is unwound now: for this reason, unless it is unwound by a destruction, which nothing within it ends.
-fn why_on(why: Reason, waits: Option<Reason>) -> Reason
+fn why_on(why: UnwindReason, waits: Option<UnwindReason>) -> UnwindReason
     ensures { result ≡ why_by why waits }
 {
     match waits {
         None => why,
         Some(waits) => match waits {
-            Reason::Event { .. } | Reason::ReturnTo(_) => why,
-            Reason::Destroyed => Reason::Destroyed,
+            UnwindReason::Event { .. } | UnwindReason::ReturnTo(_) => why,
+            UnwindReason::Destroyed => UnwindReason::Destroyed,
         },
     }
 }

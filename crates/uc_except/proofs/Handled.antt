@@ -1,8 +1,8 @@
 -- A handler begins as in the source.
 use Rattle.std.proofs.Common.{◌≡◌, ℕ, ℤ, List, [], ◌∷◌, map, Option, Some, None, sym, ap, subst, ◌∙◌}
 use Rattle.uc_tree.specs.Source.{Source}
-use Rattle.uc_machine.specs.declared.exec.Reason.{Reason}
-use Rattle.uc_machine.specs.declared.exec.Reason.TheVariants as reason
+use Rattle.uc_machine.specs.declared.exec.UnwindReason.{UnwindReason}
+use Rattle.uc_machine.specs.declared.exec.UnwindReason.TheVariants as reason
 use Rattle.uc_machine.specs.declared.exec.Visited.{Visited}
 use Rattle.uc_machine.specs.Executions.{handler_entered}
 use Rattle.uc_machine.specs.Quiet as quiet
@@ -31,11 +31,11 @@ use Rattle.uc_except.proofs.Seeks.{seeks}
 abbrev pub event_fields : raising.Event → Event
 event_fields e = record { number = e.number; x = e.x; y = e.y }
 
-abbrev event_at : Option Reason → raising.Event → raising.Event
+abbrev event_at : Option UnwindReason → raising.Event → raising.Event
 event_at (Some (reason.Event n x y)) e = record { number = n; x = x; y = y }
 event_at _ e = e
 
-pub same_event : (d e : raising.Event) → (let o : Option Reason = Some (reason.Event d.number d.x d.y) in o) ≡ Some (reason.Event e.number e.x e.y) → d ≡ e
+pub same_event : (d e : raising.Event) → (let o : Option UnwindReason = Some (reason.Event d.number d.x d.y) in o) ≡ Some (reason.Event e.number e.x e.y) → d ≡ e
 same_event d e q = ap (λ o. event_at o d) q
 
 -- the same fields

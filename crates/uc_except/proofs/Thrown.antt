@@ -1,8 +1,8 @@
 -- An event is thrown as in the source.
 use Rattle.std.proofs.Common.{◌≡◌, ℕ, ℤ, List, ◌∷◌, Option, Some, None, refl, sym, ap, subst, ◌∙◌}
 use Rattle.uc_tree.specs.Source.{Source}
-use Rattle.uc_machine.specs.declared.exec.Reason.{Reason}
-use Rattle.uc_machine.specs.declared.exec.Reason.TheVariants as reason
+use Rattle.uc_machine.specs.declared.exec.UnwindReason.{UnwindReason}
+use Rattle.uc_machine.specs.declared.exec.UnwindReason.TheVariants as reason
 use Rattle.uc_machine.specs.Executions.{unwound}
 use Rattle.uc_machine.specs.Quiet as quiet
 use Rattle.uc_machine.specs.Quiet.{Todo, Value, State, quiet as step}
@@ -23,7 +23,7 @@ use Rattle.uc_except.specs.Handling.{thrown, UnwindsNow}
 use Rattle.uc_except.proofs.Seeks.{seeks}
 use Rattle.uc_except.proofs.Handled.{all_search, searched}
 
-abbrev pub reason_by : raising.Event → Reason
+abbrev pub reason_by : raising.Event → UnwindReason
 reason_by e = reason.Event e.number e.x e.y
 
 -- the same fields
@@ -31,7 +31,7 @@ pub thrown_as : (m new : Machine) (n : ℕ) (x y u v : ℤ) → new ≡ thrown (
 thrown_as m new n x y u v q i j = q ∙ (ap (λ k. thrown (reason.Event n k v) m) i ∙ ap (λ k. thrown (reason.Event n x k) m) j)
 
 module _ (source : Source) (code : Laid) (old new : Machine) (s : State) where
-  unwinds_by : (rest : List Todo) (why : Reason) (vs : List Value) → RowsStand code rest old.run.control → old.run ≡ image old.run.control (record s.run { operands = vs }) → UnwindStands code (unwound_by why old.run.result old.run) (unwound (Unwind ∷ rest) why s.run.result s.run)
+  unwinds_by : (rest : List Todo) (why : UnwindReason) (vs : List Value) → RowsStand code rest old.run.control → old.run ≡ image old.run.control (record s.run { operands = vs }) → UnwindStands code (unwound_by why old.run.result old.run) (unwound (Unwind ∷ rest) why s.run.result s.run)
   unwinds_by rest why vs r i = record {
     rest = rest;
     todo = refl;

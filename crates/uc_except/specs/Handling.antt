@@ -1,7 +1,7 @@
 -- What a machine is once the handler of an event has begun.
 use Rattle.std.specs.Prelude.{◌≡◌, ℕ, List, ◌∷◌, Option, Some, None, slice_get}
 use Rattle.uc_tree.specs.Source.{Source}
-use Rattle.uc_machine.specs.declared.exec.Reason.{Reason}
+use Rattle.uc_machine.specs.declared.exec.UnwindReason.{UnwindReason}
 use Rattle.uc_machine.specs.Executions.{at_depth}
 use Rattle.uc_machine.specs.Quiet.{State, Goes, quiet, Quietly}
 use Rattle.uc_machine.specs.Raising.{home_of}
@@ -47,7 +47,7 @@ handler_begun rows Nowhere e m = m
 handler_begun rows (Handler frame row) e m = handled_at (slice_get rows row) frame e m
 
 -- an event is thrown
-abbrev pub thrown : Reason → Machine → Machine
+abbrev pub thrown : UnwindReason → Machine → Machine
 thrown why m = record m { run = unwound_by why m.run.result m.run }
 
 abbrev pub IsFound : Found → Type 0

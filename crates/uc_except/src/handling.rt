@@ -5,7 +5,7 @@ ghost use Rattle.std.specs.Option.{option_map};
 ghost use Rattle.uc_machine.specs.Executions.{at_depth};
 ghost use Rattle.uc_machine.specs.Raising.{home_of};
 ghost use Rattle.uc_tree.specs.Source.{Source};
-ghost use Rattle.uc_machine.specs.declared.exec.Reason.TheVariants as reason;
+ghost use Rattle.uc_machine.specs.declared.exec.UnwindReason.TheVariants as reason;
 ghost use Rattle.uc_machine.specs.Quiet.{State};
 ghost use Rattle.uc_machine.specs.Raising.{event_in};
 ghost use Rattle.uc_code.specs.Layout.{Laid, laid_of};
@@ -21,7 +21,7 @@ use uc_code::code::Code;
 use uc_code::rows::{HandlerRow, RowKind};
 use uc_frames::event::{Event, Handling};
 use uc_frames::work::Work;
-use uc_machine::exec::{Reason, Visited};
+use uc_machine::exec::{UnwindReason, Visited};
 
 /// The handler that was found begins, with the event as its operands: one that catches in the running activation, which is unwound up to
 /// it; one of resumptions as an activation of its own, before the running one, which has popped the event. Where none was found, all
@@ -57,7 +57,7 @@ fn throw_now(work: &mut Work, event: u8, x: i64, y: i64)
     ensures { work.new ≡ thrown (reason.Event event x y) work.old }
 {
     let given = work.result();
-    work.unwind(Reason::Event { event, x, y }, given);
+    work.unwind(UnwindReason::Event { event, x, y }, given);
 }
 
 fn begin_found(

@@ -3,8 +3,8 @@ use Rattle.std.proofs.Common.{◌≡◌, ℕ, List, [], ◌∷◌, ◌++◌, ◌
 use Rattle.std.specs.Prelude.{nat_lt, if◌then◌else◌, slice_get}
 use Rattle.std.proofs.lemmas.Bool.{le-ltb}
 use Rattle.uc_tree.specs.Source.{Source, Expr, CleanUp, Handlers}
-use Rattle.uc_machine.specs.declared.exec.Reason.{Reason}
-use Rattle.uc_machine.specs.declared.exec.Reason.TheVariants as reason
+use Rattle.uc_machine.specs.declared.exec.UnwindReason.{UnwindReason}
+use Rattle.uc_machine.specs.declared.exec.UnwindReason.TheVariants as reason
 use Rattle.uc_machine.specs.Quiet.{Todo, Sweep, Value, Active, Env, State, Goes, Sort, Simple, IsLoop, IsWhole, IsClean, IsFill, IsSweep, IsPart, IsGuard, IsFinish, IsFinishCoroutine, sort, own_line, clean_todo, quiet, stay, more}
 use Rattle.uc_machine.specs.Pieces.{Unwind}
 use Rattle.uc_machine.specs.Raising.{Event, Handler, arrives, handler_for, catch_step, guard_left, count_round}
@@ -50,7 +50,7 @@ stop_beyond : (event : Option ℕ) (rows : List HandlerRow) (xs ys : List ℕ) �
 stop_beyond event rows [] ys e = refl
 stop_beyond event rows (x ∷ xs) ys e = stop_beyond_by (stops_at event (slice_get rows x)) x _ _ _ (stop_beyond event rows xs ys) e
 
-module _ (source : Source) (code : Laid) (a : Active) (cs : List Active) (env : Env) (r : Option Reason) where
+module _ (source : Source) (code : Laid) (a : Active) (cs : List Active) (env : Env) (r : Option UnwindReason) where
   abbrev at : List Value → List Todo → State
   at vs todo = st source code a cs env r vs todo
 
@@ -121,7 +121,7 @@ module _ (source : Source) (code : Laid) (a : Active) (cs : List Active) (env : 
         by = more w stay;
       }))
 
-  guard_none : (o : Option Reason) → r ≡ o → event_by o ≡ None → (q : Todo) (hs : Handlers) (ps : List Todo) (ms : List Mark) (k : ℕ) (vs : List Value) → AtGuard code hs (FollowsAt code ps) ms k → quiet source (at vs (Unwind ∷ (q ∷ ps))) ≡ Goes (at [] (Unwind ∷ ps)) → All ps → ComesTo (first_stop (event_by o) code.rows (handlers ms)) (at vs (Unwind ∷ (q ∷ ps)))
+  guard_none : (o : Option UnwindReason) → r ≡ o → event_by o ≡ None → (q : Todo) (hs : Handlers) (ps : List Todo) (ms : List Mark) (k : ℕ) (vs : List Value) → AtGuard code hs (FollowsAt code ps) ms k → quiet source (at vs (Unwind ∷ (q ∷ ps))) ≡ Goes (at [] (Unwind ∷ ps)) → All ps → ComesTo (first_stop (event_by o) code.rows (handlers ms)) (at vs (Unwind ∷ (q ∷ ps)))
   guard_none o i n q hs ps ms k vs f w ih =
       let l : handlers ms ≡ numbers f.first (handler_rows hs) ++ handlers f.outer = ap handlers f.pops ∙ guards_rows f.first (handler_rows hs) f.outer in
       let z : event_by r ≡ event_by o = ap event_by i in
@@ -132,7 +132,7 @@ module _ (source : Source) (code : Laid) (a : Active) (cs : List Active) (env : 
       (before _ (at vs (Unwind ∷ (q ∷ ps))) (at [] (Unwind ∷ ps)) w
       (subst (λ x. ComesTo (first_stop x code.rows (handlers f.outer)) (at [] (Unwind ∷ ps))) z (ih f.outer f.end [] f.on))))
 
-  at_guard : (o : Option Reason) → r ≡ o → (q : Todo) (hs : Handlers) (ps : List Todo) (ms : List Mark) (k : ℕ) (vs : List Value) → AtGuard code hs (FollowsAt code ps) ms k → quiet source (at vs (Unwind ∷ (q ∷ ps))) ≡ guard_left hs o ps (at vs (Unwind ∷ (q ∷ ps))) → All ps → ComesTo (first_stop (event_by o) code.rows (handlers ms)) (at vs (Unwind ∷ (q ∷ ps)))
+  at_guard : (o : Option UnwindReason) → r ≡ o → (q : Todo) (hs : Handlers) (ps : List Todo) (ms : List Mark) (k : ℕ) (vs : List Value) → AtGuard code hs (FollowsAt code ps) ms k → quiet source (at vs (Unwind ∷ (q ∷ ps))) ≡ guard_left hs o ps (at vs (Unwind ∷ (q ∷ ps))) → All ps → ComesTo (first_stop (event_by o) code.rows (handlers ms)) (at vs (Unwind ∷ (q ∷ ps)))
   at_guard (Some (reason.Event n x y)) i q hs ps ms k vs f w ih =
       let e : Event = record { number = n; x = x; y = y } in
       let l : handlers ms ≡ numbers f.first (handler_rows hs) ++ handlers f.outer = ap handlers f.pops ∙ guards_rows f.first (handler_rows hs) f.outer in

@@ -6,7 +6,7 @@ use Rattle.uc_tree.specs.declared.limits.TheConstants.{UNHANDLED}
 use Rattle.uc_machine.specs.declared.exec.Exec.{Exec}
 use Rattle.uc_machine.specs.declared.exec.Home.{Home}
 use Rattle.uc_machine.specs.declared.exec.Home.TheVariants.{Task, Object}
-use Rattle.uc_machine.specs.declared.exec.Reason.TheVariants as reason
+use Rattle.uc_machine.specs.declared.exec.UnwindReason.TheVariants as reason
 use Rattle.uc_machine.specs.declared.exec.Stage.{Stage}
 use Rattle.uc_machine.specs.declared.exec.Stage.TheVariants.{Fresh, Started, Ended}
 use Rattle.uc_entry.specs.declared.fault.RunFault.{RunFault}

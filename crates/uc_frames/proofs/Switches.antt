@@ -4,8 +4,8 @@ use Rattle.std.specs.Prelude.{is_some, if◌then◌else◌}
 use Rattle.uc_tree.specs.declared.limits.TheConstants.{UNHANDLED}
 use Rattle.uc_machine.specs.declared.exec.Exec.{Exec}
 use Rattle.uc_machine.specs.declared.exec.Pending.{Pending}
-use Rattle.uc_machine.specs.declared.exec.Reason.{Reason}
-use Rattle.uc_machine.specs.declared.exec.Reason.TheVariants as reason
+use Rattle.uc_machine.specs.declared.exec.UnwindReason.{UnwindReason}
+use Rattle.uc_machine.specs.declared.exec.UnwindReason.TheVariants as reason
 use Rattle.uc_machine.specs.declared.exec.Stage.{Stage}
 use Rattle.uc_machine.specs.declared.exec.Stage.TheVariants.{Fresh, Started, Ended}
 use Rattle.uc_machine.specs.Executions.{Links, Activation, Execution, Members, Env, State, exec_eq}
@@ -232,7 +232,7 @@ module _ {A B V W : Type 0} (R K : Activation A V → Activation B W → Type 0)
   raised_both n p m s e = links_both (λ l. record l { pending = l.pending ++ p ∷ [] }) (record { stage = λ l x y h. h }) n m s e
 
   -- an activation that stands does so where there is another reason to unwind it
-  module _ (raises : (m : Activation A V) (s : Activation B W) (r : Option Reason) → R m s → R (record m { raised = r }) (record s { raised = r })) where
+  module _ (raises : (m : Activation A V) (s : Activation B W) (r : Option UnwindReason) → R m s → R (record m { raised = r }) (record s { raised = r })) where
     abbrev unwinding : Exec → Execution A V → Execution A V
     unwinding n x = unwound_there reason.Destroyed (record x { links = record x.links { live = false; destroyer = Some n } })
 
@@ -264,7 +264,7 @@ module _ {A B V W : Type 0} (R K : Activation A V → Activation B W → Type 0)
     take_down_both o p m s q h = subst (λ r. Mo (take_down o m) (take_down r s)) q (take_down_same o m s h)
 
     -- an event leaves a main
-    abbrev last : Option Reason
+    abbrev last : Option UnwindReason
     last = Some (reason.Event UNHANDLED (pos 0) (pos 0))
 
     throw_both : (a : Option (Exec × Execution A V)) (b : Option (Exec × Execution B W)) (m : State A V) (s : State B W) → Alike Pair a b → Ex (stopped m) (stopped s) → En m.env s.env → Mo (throw_at a m) (throw_at b s)

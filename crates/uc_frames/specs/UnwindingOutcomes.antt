@@ -1,8 +1,8 @@
 -- What an unwinding of one activation comes to in the source, by the row that stops it.
 use Rattle.std.specs.Prelude.{◌≡◌, ℕ, ◌+◌, List, [], ◌∷◌, Option, Some, None, false}
 use Rattle.uc_tree.specs.Source.{Source, Leaves as LeavesIt}
-use Rattle.uc_machine.specs.declared.exec.Reason.{Reason}
-use Rattle.uc_machine.specs.declared.exec.Reason.TheVariants as reason
+use Rattle.uc_machine.specs.declared.exec.UnwindReason.{UnwindReason}
+use Rattle.uc_machine.specs.declared.exec.UnwindReason.TheVariants as reason
 use Rattle.uc_machine.specs.Quiet.{Todo, Value, Active, Env, State, Quietly, IsWhole, IsClean, sort, own_line}
 use Rattle.uc_machine.specs.Pieces.{Unwind}
 use Rattle.uc_machine.specs.Raising.{Event, Handler, handler_todo, operands_of}
@@ -15,11 +15,11 @@ use Rattle.uc_code.specs.Lowered.{ArrivesAt, handler_of}
 use Rattle.uc_frames.specs.Stands.{finish_sort, FollowsAt}
 
 -- the number of the event by which it is unwound, if it is one
-abbrev pub event_by : Option Reason → Option ℕ
+abbrev pub event_by : Option UnwindReason → Option ℕ
 event_by (Some (reason.Event n x y)) = Some n
 event_by _ = None
 
-module _ (source : Source) (code : Laid) (a : Active) (cs : List Active) (env : Env) (r : Option Reason) where
+module _ (source : Source) (code : Laid) (a : Active) (cs : List Active) (env : Env) (r : Option UnwindReason) where
   -- the activation is unwound for this reason, with this to do, and all else is as it is
   abbrev pub st : List Value → List Todo → State
   st vs todo = record { run = record a { control = todo; operands = vs; raised = r }; callers = cs; env = env }

@@ -16,7 +16,7 @@ use crate::operands::{
 use std::alloc::AllocError;
 use std::marker::Model;
 use uc_code::rows::RoutineCode;
-use uc_machine::exec::{Reason, Visited};
+use uc_machine::exec::{UnwindReason, Visited};
 
 /// What is next in an activation, its operands, the object of a member's call, the depth of the frame whose variables it
 /// uses, whether it counts as an active call, how many elements stand of the array that it builds or destroys, how far the search
@@ -30,7 +30,7 @@ pub struct Active {
     counts: bool,
     elements: u32,
     handles: Option<Visited>,
-    raised: Option<Reason>,
+    raised: Option<UnwindReason>,
     result: Cell,
 }
 
@@ -124,7 +124,7 @@ impl Active {
     }
 
     /// Why it is unwound, if it is.
-    pub fn raised(&self) -> Option<Reason>
+    pub fn raised(&self) -> Option<UnwindReason>
         ensures { result ≡ self.now.raised }
     {
         self.raised
@@ -138,7 +138,7 @@ impl Active {
     }
 
     /// It is unwound for this reason, from its place on; a return that arrives hands this over.
-    pub fn unwind(&mut self, why: Reason, given: Cell)
+    pub fn unwind(&mut self, why: UnwindReason, given: Cell)
         ensures { self.new ≡ unwound_by why given self.old }
     {
         self.operands.clear();
@@ -147,7 +147,7 @@ impl Active {
     }
 
     /// It is to be unwound for this reason, as soon as it goes on.
-    pub fn raise(&mut self, reason: Reason)
+    pub fn raise(&mut self, reason: UnwindReason)
         ensures { self.new ≡ record self.old { raised = Some reason } }
     {
         self.raised = Some(reason);

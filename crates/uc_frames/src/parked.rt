@@ -3,7 +3,7 @@
 ghost use Rattle.std.specs.Prelude.{◌≡◌, Some, IfOk, OnOk, OnErr, slice_index_or, false};
 ghost use Rattle.uc_machine.specs.Executions.{at_depth, list_in, frame_changed};
 ghost use Rattle.uc_machine.specs.Switches.{woken, unwound_there};
-ghost use Rattle.uc_machine.specs.declared.exec.Reason.TheVariants as reason;
+ghost use Rattle.uc_machine.specs.declared.exec.UnwindReason.TheVariants as reason;
 ghost use Rattle.uc_frames.specs.Machine.{nought, cell_written, fresh_execution, lively, pended};
 
 use crate::cell::Cell;
@@ -13,7 +13,7 @@ use std::alloc::{AllocError, Global};
 use std::marker::Model;
 use std::mem;
 use uc_code::rows::RoutineCode;
-use uc_machine::exec::{Exec, Pending, Reason};
+use uc_machine::exec::{Exec, Pending, UnwindReason};
 
 /// A stack in a place of its own, so that it is handed on without being moved. Contracts see the stack.
 #[derive(Drop)]
@@ -81,7 +81,7 @@ impl Parked {
     }
 
     /// It is to be unwound for this reason, as soon as it goes on.
-    pub fn raise(&mut self, why: Reason)
+    pub fn raise(&mut self, why: UnwindReason)
         ensures { self.new ≡ unwound_there why self.old }
     {
         self.stack.raise(why);

@@ -9,7 +9,7 @@ ghost use Rattle.uc_frames.specs.Unwinding.{IsCaller, event_at, unwound_by, clea
 ghost use Rattle.std.specs.Option.{is_some};
 ghost use Rattle.uc_machine.specs.Insides.{oldest_enabled};
 ghost use Rattle.uc_machine.specs.Switches.{woken, unwound_there};
-ghost use Rattle.uc_machine.specs.declared.exec.Reason.TheVariants as reason;
+ghost use Rattle.uc_machine.specs.declared.exec.UnwindReason.TheVariants as reason;
 ghost use Rattle.uc_machine.specs.declared.exec.Stage.TheVariants.{Ended};
 ghost use Rattle.uc_tree.specs.declared.limits.TheConstants.{CALLS};
 
@@ -24,7 +24,7 @@ use std::marker::Model;
 use std::mem;
 use uc_code::code::Code;
 use uc_code::rows::RoutineCode;
-use uc_machine::exec::{Exec, Pending, Reason, Visited};
+use uc_machine::exec::{Exec, Pending, UnwindReason, Visited};
 
 /// An execution: its newest activation, those that wait for it, its frames and its links. The lists of calls that have ended
 /// are kept, so that a call takes memory only where no call before it left enough.
@@ -122,7 +122,7 @@ impl Stack {
     }
 
     /// It is to be unwound for this reason, as soon as it goes on.
-    pub fn raise(&mut self, why: Reason)
+    pub fn raise(&mut self, why: UnwindReason)
         ensures { self.new ≡ unwound_there why self.old }
     {
         self.running.raise(why);
@@ -133,7 +133,7 @@ impl Stack {
         ensures { self.new ≡ unwound_there reason.Destroyed (record self.old { links = record self.old.links { live = false; destroyer = Some by } }) }
     {
         self.links.destroy(by);
-        self.running.raise(Reason::Destroyed);
+        self.running.raise(UnwindReason::Destroyed);
     }
 
     /// The next op.
@@ -227,7 +227,7 @@ impl Stack {
 
     /// The newest activation is left with its frame, and the one that waits for it is unwound in its turn, for this reason and with
     /// what a return that arrives hands over. Where none waits, all stays as it is, and the answer is false.
-    pub fn pass_on(&mut self, why: Reason, given: Cell) -> bool
+    pub fn pass_on(&mut self, why: UnwindReason, given: Cell) -> bool
         ensures called { result ≡ nat_lt 0 (length self.old.callers) }
         ensures after { self.new ≡ stack_passed why given self.old.callers self.old }
     {
@@ -419,7 +419,7 @@ impl Stack {
     }
 
     /// Why the running activation is unwound, if it is.
-    pub fn raised(&self) -> Option<Reason>
+    pub fn raised(&self) -> Option<UnwindReason>
         ensures { result ≡ self.now.run.raised }
     {
         self.running.raised()
@@ -433,7 +433,7 @@ impl Stack {
     }
 
     /// Whether an activation waits, and why it is unwound, if it is.
-    pub fn caller(&self) -> Option<Option<Reason>>
+    pub fn caller(&self) -> Option<Option<UnwindReason>>
         ensures { MatchOption result (self.now.callers ≡ []) (λ why. IsCaller why self.now.callers) }
     {
         match self.callers.last() {
@@ -443,7 +443,7 @@ impl Stack {
     }
 
     /// The running activation is unwound for this reason, from its place on; a return that arrives hands this over.
-    pub fn unwind(&mut self, why: Reason, given: Cell)
+    pub fn unwind(&mut self, why: UnwindReason, given: Cell)
         ensures { self.new ≡ record self.old { run = unwound_by why given self.old.run } }
     {
         self.running.unwind(why, given);

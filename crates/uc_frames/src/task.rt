@@ -28,7 +28,7 @@ use std::marker::Model;
 use uc_code::code::Code;
 use uc_code::rows::RoutineCode;
 use uc_entry::request::Piece;
-use uc_machine::exec::{Exec, Home, Pending, Reason, Visited};
+use uc_machine::exec::{Exec, Home, Pending, UnwindReason, Visited};
 
 /// A task: the execution that runs, its own object, what is at home in it, its depth in each object, and the
 /// items that it gathers. Contracts see a machine with an empty hand.
@@ -227,7 +227,7 @@ impl Task {
         self.running.activation(level)
     }
 
-    pub(crate) fn pass_on(&mut self, why: Reason, given: Cell) -> bool
+    pub(crate) fn pass_on(&mut self, why: UnwindReason, given: Cell) -> bool
         ensures called { result ≡ nat_lt 0 (length self.old.callers) }
         ensures after { self.new ≡ passed why given self.old.callers self.old }
     {
@@ -257,7 +257,7 @@ impl Task {
         self.running.handles()
     }
 
-    pub(crate) fn raised(&self) -> Option<Reason>
+    pub(crate) fn raised(&self) -> Option<UnwindReason>
         ensures { result ≡ self.now.run.raised }
     {
         self.running.raised()
@@ -269,13 +269,13 @@ impl Task {
         self.running.result()
     }
 
-    pub(crate) fn caller(&self) -> Option<Option<Reason>>
+    pub(crate) fn caller(&self) -> Option<Option<UnwindReason>>
         ensures { MatchOption result (self.now.callers ≡ []) (λ why. IsCaller why self.now.callers) }
     {
         self.running.caller()
     }
 
-    pub(crate) fn unwind(&mut self, why: Reason, given: Cell)
+    pub(crate) fn unwind(&mut self, why: UnwindReason, given: Cell)
         ensures { self.new ≡ record self.old { run = unwound_by why given self.old.run } }
     {
         self.running.unwind(why, given);

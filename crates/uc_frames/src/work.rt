@@ -7,7 +7,7 @@ ghost use Rattle.uc_machine.specs.Switches.{born, ended, enlivened, forgotten, g
 ghost use Rattle.uc_machine.specs.Raising.{home_of};
 ghost use Rattle.uc_machine.specs.Insides.{is_own, is_held_up, oldest_enabled};
 ghost use Rattle.uc_machine.specs.Quiet.{with_piece};
-ghost use Rattle.uc_machine.specs.declared.exec.Reason.TheVariants as reason;
+ghost use Rattle.uc_machine.specs.declared.exec.UnwindReason.TheVariants as reason;
 ghost use Rattle.uc_frames.specs.Machine.{nought, top, below, cell_written, shifted, loaded, written, this_frame, cleared, with_hand, first_machine, exec_at, own_exec, resumed, home_at, set_up, lively, line_in, line_at};
 ghost use Rattle.uc_frames.specs.Calls.{left, called};
 ghost use Rattle.uc_frames.specs.Unwinding.{IsCaller, event_at, unwound_by, cleaning, catching, passed, handled, delivered};
@@ -28,7 +28,7 @@ use uc_code::code::Code;
 use uc_code::rows::RoutineCode;
 use uc_entry::list::List;
 use uc_entry::request::Piece;
-use uc_machine::exec::{Exec, Home, Owner, Reason, Stage, Visited};
+use uc_machine::exec::{Exec, Home, Owner, Stage, UnwindReason, Visited};
 use uc_tree::limits::UNHANDLED;
 
 /// The members of the objects that a task is inside, by the objects' numbers.
@@ -148,7 +148,7 @@ impl Work {
 
     /// The running activation is left with its frame, and the one that waits for it is unwound in its turn, for this reason and
     /// with what a return that arrives hands over. Where none waits, all stays as it is, and the answer is false.
-    pub fn pass_on(&mut self, why: Reason, given: Cell) -> bool
+    pub fn pass_on(&mut self, why: UnwindReason, given: Cell) -> bool
         ensures called { result ≡ nat_lt 0 (length self.old.callers) }
         ensures after { self.new ≡ passed why given self.old.callers self.old }
     {
@@ -182,7 +182,7 @@ impl Work {
     }
 
     /// Why the running activation is unwound, if it is.
-    pub fn raised(&self) -> Option<Reason>
+    pub fn raised(&self) -> Option<UnwindReason>
         ensures { result ≡ self.now.run.raised }
     {
         self.task.raised()
@@ -196,14 +196,14 @@ impl Work {
     }
 
     /// Whether an activation waits, and why it is unwound, if it is.
-    pub fn caller(&self) -> Option<Option<Reason>>
+    pub fn caller(&self) -> Option<Option<UnwindReason>>
         ensures { MatchOption result (self.now.callers ≡ []) (λ why. IsCaller why self.now.callers) }
     {
         self.task.caller()
     }
 
     /// The running activation is unwound for this reason, from its place on; a return that arrives hands this over.
-    pub fn unwind(&mut self, why: Reason, given: Cell)
+    pub fn unwind(&mut self, why: UnwindReason, given: Cell)
         ensures { self.new ≡ record self.old { run = unwound_by why given self.old.run } }
     {
         self.task.unwind(why, given);
@@ -549,7 +549,7 @@ impl Work {
     {
         if let Some(stack) = self.exchange(exec, None) {
             let mut stack = stack;
-            stack.raise(Reason::Event {
+            stack.raise(UnwindReason::Event {
                 event: UNHANDLED,
                 x: 0,
                 y: 0,

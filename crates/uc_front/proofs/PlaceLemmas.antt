@@ -6,7 +6,7 @@ use Rattle.uc_tree.specs.Cells.{classes_of}
 use Rattle.uc_tree.specs.Statements.{Declarator, Stmt, stmts_of, Handler, handlers_of, Clause, clauses_of}
 use Rattle.uc_tree.specs.Programs.{Item, ClassItem, RoutineItem, ConstItem, ProtoItem, ForwardItem, UsingItem}
 use Rattle.uc_rules.specs.ProgramVisits.{classes_in}
-use Rattle.uc_rules.specs.declared.rules.Around.{Around}
+use Rattle.uc_rules.specs.declared.rules.Surroundings.{Surroundings}
 use Rattle.uc_rules.specs.Scopes.{Env, declared, all_declared, env_after, env_behind, no_around, plain_env, with_around}
 use Rattle.uc_front.specs.declared.place.Step.{Step}
 use Rattle.uc_front.specs.Places.{Node, AtStmt, AtLeaf, node_env, next_node, nth_node, behind_node, handler_node, handling_node, clause_node, accepted_node, env_along, env_from, reached}
@@ -95,7 +95,7 @@ reached_there true env now e = cc
 reached_there false env now e = absurd (cc)
 
 -- where no name is in scope, what stands round is all that a place adds
-pub set_fresh : (env now : Env) (a : Around) → env ≡ plain_env env.program no_around → now ≡ with_around env a → now ≡ plain_env env.program a
+pub set_fresh : (env now : Env) (a : Surroundings) → env ≡ plain_env env.program no_around → now ≡ with_around env a → now ≡ plain_env env.program a
 set_fresh env now a h e = e ∙ ap (λ n. with_around n a) h
 
 pub leaf_ends : (env now : Env) (steps : List Step) (there : Bool) → now ≡ env → Ends steps there → env_along (AtLeaf env) steps ≡ reached there now

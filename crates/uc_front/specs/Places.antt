@@ -1,11 +1,11 @@
 -- The environment at a place of a program: the way there from an item, or a member of a class, through the statements.
 use Rattle.std.specs.Prelude.{ℕ, zero, suc, List, [], ◌∷◌, Bool, true, false, Option, Some, None, option_and_then, length, take, slice_get, nat_eq, if◌then◌else◌}
 use Rattle.uc_tree.specs.declared.kinds.Base.{Base}
-use Rattle.uc_tree.specs.declared.kinds.Mark.{Mark}
+use Rattle.uc_tree.specs.declared.kinds.MutexMark.{MutexMark}
 use Rattle.uc_tree.specs.Cells.{classes_of}
 use Rattle.uc_tree.specs.Statements.{Declarator, ForStart, NoFor, ForDeclare, ForEvaluate, Stmt, Block, Declare, If, While, Do, For, Try, Enable, Disable, Accept, Stmts, NoStmts, MoreStmts, MaybeStmt, NoStmt, OneStmt, Handler, Handles, Handlers, NoHandlers, MoreHandlers, Clause, Accepts, Clauses, NoClauses, MoreClauses}
 use Rattle.uc_tree.specs.Programs.{MemberForm, FieldsMember, RoutineMember, ProtoMember, Class, Item, ClassItem, RoutineItem, ConstItem, ProtoItem, ForwardItem, UsingItem, Program}
-use Rattle.uc_rules.specs.declared.rules.Home.{Home}
+use Rattle.uc_rules.specs.declared.rules.OwnClass.{OwnClass}
 use Rattle.uc_rules.specs.Scopes.{Env, opened, block_env, declared, with_caught, env_after, for_declared, no_around, class_around, plain_env, with_params}
 use Rattle.uc_rules.specs.Visits.{handling, joined, looped}
 use Rattle.uc_rules.specs.ProgramVisits.{outer_env, sig_env}
@@ -133,12 +133,12 @@ env_from node steps = option_and_then (λ n. env_along n steps) node
 
 -- where the ways of a member and of an item begin
 
-abbrev pub form_node : Program → Home → Mark → MemberForm → Node
+abbrev pub form_node : Program → OwnClass → MutexMark → MemberForm → Node
 form_node p h m (FieldsMember at b ds) = AtLeaf (plain_env p (class_around h))
 form_node p h m (RoutineMember r) = AtBody (with_params (sig_env p h m r.sig) r.sig.params) r.body
 form_node p h m (ProtoMember sig) = AtLeaf (with_params (sig_env p h m sig) sig.params)
 
-abbrev pub class_home : ℕ → Class → Home
+abbrev pub class_home : ℕ → Class → OwnClass
 class_home k c = record { class = k; kind = c.kind }
 
 abbrev pub class_node : Program → ℕ → Class → ℕ → Option Node

@@ -11,7 +11,7 @@ use crate::place::{Place, Step};
 use crate::walk::{add_params, follow_body, is_end};
 use std::alloc::AllocError;
 use uc_classes::class::{class_around, sig_around};
-use uc_rules::rules::Home;
+use uc_rules::rules::OwnClass;
 use uc_tree::class::{Class, Member, MemberForm, Routine, Sig};
 use uc_tree::program::{Item, ItemForm};
 use uc_types::names::Names;
@@ -37,10 +37,10 @@ fn count_classes(items: &[Item]) -> usize
     count
 }
 
-fn class_home(class: &Class, place: usize) -> Home
+fn class_home(class: &Class, place: usize) -> OwnClass
     ensures { result ≡ class_home place class.now }
 {
-    Home {
+    OwnClass {
         class: place,
         kind: class.kind,
     }
@@ -63,7 +63,7 @@ fn enter_sig(names: &mut Names, sig: &Sig, steps: &[Step]) -> Result<bool, Alloc
 
 fn enter_form(
     names: &mut Names,
-    home: Home,
+    home: OwnClass,
     member: &Member,
     steps: &[Step],
 ) -> Result<bool, AllocError>

@@ -9,9 +9,9 @@ ghost use Rattle.uc_rules.specs.Sorts.{class_at};
 use uc_check_decl::item::owner_home;
 use uc_check_decl::sig::same_role;
 use uc_classes::class::sig_around;
-use uc_rules::rules::{Around, Home};
+use uc_rules::rules::{OwnClass, Surroundings};
 use uc_tree::class::{Member, MemberForm, Sig};
-use uc_tree::kinds::{Mark, Owner};
+use uc_tree::kinds::{MutexMark, Owner};
 use uc_types::tables::Tables;
 
 // Whether a member is the prototype of a routine, but for its parameters.
@@ -26,7 +26,7 @@ fn declares(sig: &Sig, form: &MemberForm) -> bool
     }
 }
 
-fn mark_among(sig: &Sig, members: &[Member]) -> Mark
+fn mark_among(sig: &Sig, members: &[Member]) -> MutexMark
     ensures { result ≡ mark_among sig.now members.now }
 {
     for member in members {
@@ -34,24 +34,24 @@ fn mark_among(sig: &Sig, members: &[Member]) -> Mark
             return member.mark;
         }
     }
-    Mark::Unmarked
+    MutexMark::Unmarked
 }
 
-fn class_mark(tables: &Tables, class: usize, sig: &Sig) -> Mark
+fn class_mark(tables: &Tables, class: usize, sig: &Sig) -> MutexMark
     ensures { result ≡ mark_in sig.now (class_at tables.now class) }
 {
     match tables.class_at(class) {
         Some(class) => mark_among(sig, &class.members),
-        None => Mark::Unmarked,
+        None => MutexMark::Unmarked,
     }
 }
 
-fn outer_mark(tables: &Tables, home: Option<Home>, sig: &Sig) -> Mark
+fn outer_mark(tables: &Tables, home: Option<OwnClass>, sig: &Sig) -> MutexMark
     ensures { result ≡ outer_mark tables.now home sig.now }
 {
     match home {
         Some(home) => class_mark(tables, home.class, sig),
-        None => Mark::Unmarked,
+        None => MutexMark::Unmarked,
     }
 }
 
@@ -62,7 +62,7 @@ fn is_of_main(owner: &Owner) -> bool
 }
 
 /// What stands round a routine outside of classes.
-pub(crate) fn outer_around(tables: &Tables, sig: &Sig) -> Around
+pub(crate) fn outer_around(tables: &Tables, sig: &Sig) -> Surroundings
     ensures { result ≡ (outer_env tables.now sig.now).around }
 {
     let home = owner_home(tables, &sig.owner);

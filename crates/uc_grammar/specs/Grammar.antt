@@ -19,8 +19,8 @@ use Rattle.uc_tree.specs.declared.kinds.Kind.{Kind}
 use Rattle.uc_tree.specs.declared.kinds.Kind.TheVariants as kind
 use Rattle.uc_tree.specs.declared.kinds.Access.{Access}
 use Rattle.uc_tree.specs.declared.kinds.Access.TheVariants as access
-use Rattle.uc_tree.specs.declared.kinds.Mark.{Mark}
-use Rattle.uc_tree.specs.declared.kinds.Mark.TheVariants as mark
+use Rattle.uc_tree.specs.declared.kinds.MutexMark.{MutexMark}
+use Rattle.uc_tree.specs.declared.kinds.MutexMark.TheVariants as mark
 use Rattle.uc_tree.specs.declared.kinds.Role.{Role}
 use Rattle.uc_tree.specs.declared.kinds.Role.TheVariants as role
 use Rattle.uc_tree.specs.declared.kinds.HandlerKind.{HandlerKind}
@@ -531,12 +531,12 @@ abbrev pub kind_form : Form Kind
 kind_form = look (λ o. kind_by (word_of o))
 
 -- mark?
-abbrev pub mark_at : Option Word → Form Mark
+abbrev pub mark_at : Option Word → Form MutexMark
 mark_at (Some word.Mutex) = skip (empty mark.Mutex)
 mark_at (Some word.Nomutex) = skip (empty mark.Nomutex)
 mark_at _ = empty mark.Unmarked
 
-abbrev pub mark_form : Form Mark
+abbrev pub mark_form : Form MutexMark
 mark_form = look (λ o. mark_at (word_of o))
 
 -- param = base '&'? name

@@ -3,7 +3,7 @@ use Rattle.std.specs.Prelude.{List}
 use Rattle.uc_tree.specs.declared.pos.Pos.{Pos}
 use Rattle.uc_tree.specs.declared.kinds.Base.{Base}
 use Rattle.uc_tree.specs.declared.kinds.Access.{Access}
-use Rattle.uc_tree.specs.declared.kinds.Mark.{Mark}
+use Rattle.uc_tree.specs.declared.kinds.MutexMark.{MutexMark}
 use Rattle.uc_tree.specs.Expressions.{Expr}
 use Rattle.uc_tree.specs.Statements.{Stmt, Declarator}
 use Rattle.uc_tree.specs.Programs.{MemberForm}
@@ -16,7 +16,7 @@ pub data Simple : Type 0 where
 -- what stands between the braces of a class
 pub data ClassPart : Type 0 where
   AccessPart : (access : Access) → ClassPart
-  MemberPart : (pos : Pos) (mark : Mark) (form : MemberForm) → ClassPart
+  MemberPart : (pos : Pos) (mark : MutexMark) (form : MemberForm) → ClassPart
 
 pub data Name : Type 0 → Type 1 where
   -- what a parenthesis, an index bracket or an argument list encloses

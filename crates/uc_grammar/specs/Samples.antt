@@ -8,7 +8,7 @@ use Rattle.uc_tree.specs.declared.ops.AssignOp.TheVariants as assign
 use Rattle.uc_tree.specs.declared.kinds.Base.TheVariants as base
 use Rattle.uc_tree.specs.declared.kinds.Kind.TheVariants as kind
 use Rattle.uc_tree.specs.declared.kinds.Access.TheVariants as access
-use Rattle.uc_tree.specs.declared.kinds.Mark.TheVariants as mark
+use Rattle.uc_tree.specs.declared.kinds.MutexMark.TheVariants as mark
 use Rattle.uc_tree.specs.declared.kinds.Role.TheVariants as role
 use Rattle.uc_tree.specs.declared.kinds.Owner.TheVariants as owner
 use Rattle.uc_tree.specs.declared.kinds.HandlerKind.TheVariants as handler

@@ -2,10 +2,10 @@
 use Rattle.std.proofs.Common.{◌≡◌, ℕ, zero, suc, ◌+◌, ◌≤◌, ◌<◌, List, [], ◌∷◌, ◌++◌, Option, Some, None, length, replicate, set, length-set, refl, ap, sym, ◌∙◌, subst, arith, ◌⊎◌, inl, inr, ◌≢◌}
 use Rattle.std.proofs.lemmas.Bool.{cases_eq, cases_lt}
 use Rattle.std.proofs.lemmas.List.{get_or_past, get_or_append_left, get_or_push, get_or-set_same, get_or-set_other, length-map}
-use Rattle.uc_tree.specs.declared.rows.Object.{Object}
-use Rattle.uc_tree.specs.declared.rows.Held.{Held}
+use Rattle.uc_tree.specs.declared.rows.FieldClass.{FieldClass}
+use Rattle.uc_tree.specs.declared.rows.FieldLayout.{FieldLayout}
 use Rattle.uc_tree.specs.Programs.{Program}
-use Rattle.uc_tree.specs.Rows.{Row, row_at}
+use Rattle.uc_tree.specs.Rows.{ClassLayout, row_at}
 use Rattle.uc_tree.specs.Constants.{constants_of}
 use Rattle.uc_tree.specs.Cells.{classes_of, rows_of, row_of}
 use Rattle.uc_tree.specs.Objects.{object_height, tallest, height_within}
@@ -30,62 +30,62 @@ set_case xs k x count b h i (inl same) (inr out) = let e = get_or_past (set xs k
 pub set_below : (xs : List ℕ) (k x count : ℕ) → AreBelow count xs → x < count → AreBelow count (set xs k x)
 set_below xs k x count b h = record { at = λ i. set_case xs k x count b h i (cases_eq i k) (cases_lt k (length xs)) }
 
-pub deep_below : (depth count : ℕ) (rows : List Row) (xs : List ℕ) → AreDeep depth rows xs → depth < count → AreBelow count xs
+pub deep_below : (depth count : ℕ) (rows : List ClassLayout) (xs : List ℕ) → AreDeep depth rows xs → depth < count → AreBelow count xs
 deep_below depth count rows xs d h = record { at = λ i. let e = d.at i in let f = heights_few depth rows i in omega (arith, e, f) }
 
 -- where two counts agree of what is small, they agree of classes with fields that are small
 
-agree_one : (f g : ℕ → ℕ) (d : ℕ) → ((i : ℕ) → f i < d → g i ≡ f i) → (o : Option Object) → object_height f o ≤ d → object_height g o ≡ object_height f o
+agree_one : (f g : ℕ → ℕ) (d : ℕ) → ((i : ℕ) → f i < d → g i ≡ f i) → (o : Option FieldClass) → object_height f o ≤ d → object_height g o ≡ object_height f o
 agree_one f g d w None h = refl
 agree_one f g d w (Some o) h = ap suc (w o.class (omega arith))
 
-agree : (f g : ℕ → ℕ) (d : ℕ) → ((i : ℕ) → f i < d → g i ≡ f i) → (hs : List Held) → tallest f hs ≤ d → tallest g hs ≡ tallest f hs
+agree : (f g : ℕ → ℕ) (d : ℕ) → ((i : ℕ) → f i < d → g i ≡ f i) → (hs : List FieldLayout) → tallest f hs ≤ d → tallest g hs ≡ tallest f hs
 agree f g d w [] h = refl
 agree f g d w (x ∷ xs) h =
     let a = agree_one f g d w x.object (omega arith) in
     let b = agree f g d w xs (omega arith) in
     omega (arith, a, b)
 
-same_tallest : (f g : ℕ → ℕ) → ((i : ℕ) → g i ≡ f i) → (hs : List Held) → tallest g hs ≡ tallest f hs
+same_tallest : (f g : ℕ → ℕ) → ((i : ℕ) → g i ≡ f i) → (hs : List FieldLayout) → tallest g hs ≡ tallest f hs
 same_tallest f g w hs = agree f g (tallest f hs) (λ i h. w i) hs (omega arith)
 
-deeper : (rows : List Row) (d i : ℕ) → height_within (suc d) rows i ≡ tallest (height_within d rows) (row_at rows i).held
+deeper : (rows : List ClassLayout) (d i : ℕ) → height_within (suc d) rows i ≡ tallest (height_within d rows) (row_at rows i).held
 unfolding height_within
 deeper rows d i = refl
 
-first_deep : (rows : List Row) (i : ℕ) → height_within 0 rows i ≡ 0
+first_deep : (rows : List ClassLayout) (i : ℕ) → height_within 0 rows i ≡ 0
 unfolding height_within
 first_deep rows i = refl
 
-past_deep : (rows : List Row) (d i : ℕ) → length rows ≤ i → height_within d rows i ≡ 0
+past_deep : (rows : List ClassLayout) (d i : ℕ) → length rows ≤ i → height_within d rows i ≡ 0
 past_deep rows zero i h = first_deep rows i
 past_deep rows (suc d) i h = deeper rows d i ∙ ap (λ r. tallest (height_within d rows) r.held) (row_past rows i h)
 
-pub zeros_deep : (n : ℕ) (rows : List Row) → AreDeep 0 rows (replicate n 0)
+pub zeros_deep : (n : ℕ) (rows : List ClassLayout) → AreDeep 0 rows (replicate n 0)
 zeros_deep n rows = record { at = λ i. zeros n i ∙ sym (first_deep rows i) }
 
 -- one class deeper
 
-deep_case : (d : ℕ) (rows : List Row) (xs ys : List ℕ) → length ys ≡ length rows → AreDeep d rows xs → AreNext rows xs ys (length rows) → (i : ℕ) → (i < length rows) ⊎ (length rows ≤ i) → height_at ys i ≡ height_within (suc d) rows i
+deep_case : (d : ℕ) (rows : List ClassLayout) (xs ys : List ℕ) → length ys ≡ length rows → AreDeep d rows xs → AreNext rows xs ys (length rows) → (i : ℕ) → (i < length rows) ⊎ (length rows ≤ i) → height_at ys i ≡ height_within (suc d) rows i
 deep_case d rows xs ys l deep next i (inl inside) = next.at i inside ∙ sym (same_tallest (height_at xs) (height_within d rows) (λ j. sym (deep.at j)) (row_at rows i).held) ∙ sym (deeper rows d i)
 deep_case d rows xs ys l deep next i (inr past) = get_or_past ys i 0 (omega arith) ∙ sym (past_deep rows (suc d) i past)
 
-pub next_deep : (d : ℕ) (rows : List Row) (xs ys : List ℕ) → length ys ≡ length rows → AreDeep d rows xs → AreNext rows xs ys (length rows) → AreDeep (suc d) rows ys
+pub next_deep : (d : ℕ) (rows : List ClassLayout) (xs ys : List ℕ) → length ys ≡ length rows → AreDeep d rows xs → AreNext rows xs ys (length rows) → AreDeep (suc d) rows ys
 next_deep d rows xs ys l deep next = record { at = λ i. deep_case d rows xs ys l deep next i (cases_lt i (length rows)) }
 
 -- a table that is reckoned of itself
 
-settled_case : (d : ℕ) (rows : List Row) (xs : List ℕ) → length xs ≡ length rows → AreNext rows xs xs (length rows) → ((j : ℕ) → height_at xs j < d → height_within d rows j ≡ height_at xs j) → (i : ℕ) → height_at xs i < suc d → (i < length rows) ⊎ (length rows ≤ i) → height_within (suc d) rows i ≡ height_at xs i
+settled_case : (d : ℕ) (rows : List ClassLayout) (xs : List ℕ) → length xs ≡ length rows → AreNext rows xs xs (length rows) → ((j : ℕ) → height_at xs j < d → height_within d rows j ≡ height_at xs j) → (i : ℕ) → height_at xs i < suc d → (i < length rows) ⊎ (length rows ≤ i) → height_within (suc d) rows i ≡ height_at xs i
 settled_case d rows xs l next more i h (inl inside) =
     let e = next.at i inside in
     deeper rows d i ∙ agree (height_at xs) (height_within d rows) d more (row_at rows i).held (omega (arith, e, h)) ∙ sym e
 settled_case d rows xs l next more i h (inr past) = past_deep rows (suc d) i past ∙ sym (get_or_past xs i 0 (omega arith))
 
-settled_at : (d : ℕ) (rows : List Row) (xs : List ℕ) → length xs ≡ length rows → AreNext rows xs xs (length rows) → (i : ℕ) → height_at xs i < d → height_within d rows i ≡ height_at xs i
+settled_at : (d : ℕ) (rows : List ClassLayout) (xs : List ℕ) → length xs ≡ length rows → AreNext rows xs xs (length rows) → (i : ℕ) → height_at xs i < d → height_within d rows i ≡ height_at xs i
 settled_at zero rows xs l next i h = absurd (omega arith)
 settled_at (suc d) rows xs l next i h = settled_case d rows xs l next (settled_at d rows xs l next) i h (cases_lt i (length rows))
 
-settled_all : (rows : List Row) (xs : List ℕ) → length xs ≡ length rows → (0 < length rows → AreBelow (length rows) xs) → AreNext rows xs xs (length rows) → (i : ℕ) → (0 < length rows) ⊎ (length rows ≤ 0) → height_at xs i ≡ height_within (length rows) rows i
+settled_all : (rows : List ClassLayout) (xs : List ℕ) → length xs ≡ length rows → (0 < length rows → AreBelow (length rows) xs) → AreNext rows xs xs (length rows) → (i : ℕ) → (0 < length rows) ⊎ (length rows ≤ 0) → height_at xs i ≡ height_within (length rows) rows i
 settled_all rows xs l few next i (inl some) = sym (settled_at (length rows) rows xs l next i ((few some).at i))
 settled_all rows xs l few next i (inr none) = get_or_past xs i 0 (omega arith) ∙ sym (past_deep rows (length rows) i (omega arith))
 
@@ -115,16 +115,16 @@ deep_more p xs ys count depth c l deep next =
 
 -- one more class in a table
 
-next_case : (rows : List Row) (xs ys : List ℕ) (n y : ℕ) → length ys ≡ n → AreNext rows xs ys n → y ≡ tallest (height_at xs) (row_at rows n).held → (i : ℕ) → i < n + 1 → (i < n) ⊎ (n ≤ i) → height_at (ys ++ y ∷ []) i ≡ tallest (height_at xs) (row_at rows i).held
+next_case : (rows : List ClassLayout) (xs ys : List ℕ) (n y : ℕ) → length ys ≡ n → AreNext rows xs ys n → y ≡ tallest (height_at xs) (row_at rows n).held → (i : ℕ) → i < n + 1 → (i < n) ⊎ (n ≤ i) → height_at (ys ++ y ∷ []) i ≡ tallest (height_at xs) (row_at rows i).held
 next_case rows xs ys n y l f e i h (inl below) = get_or_append_left ys (y ∷ []) 0 i (omega arith) ∙ f.at i below
 next_case rows xs ys n y l f e i h (inr last) = let s : i ≡ n = omega arith in get_or_push ys y 0 i (omega arith) ∙ e ∙ ap (λ k. tallest (height_at xs) (row_at rows k).held) (sym s)
 
-pub next_more : (rows : List Row) (xs ys : List ℕ) (n y : ℕ) → length ys ≡ n → AreNext rows xs ys n → y ≡ tallest (height_at xs) (row_at rows n).held → AreNext rows xs (ys ++ y ∷ []) (n + 1)
+pub next_more : (rows : List ClassLayout) (xs ys : List ℕ) (n y : ℕ) → length ys ≡ n → AreNext rows xs ys n → y ≡ tallest (height_at xs) (row_at rows n).held → AreNext rows xs (ys ++ y ∷ []) (n + 1)
 next_more rows xs ys n y l f e = record { at = λ i h. next_case rows xs ys n y l f e i h (cases_lt i n) }
 
-same_case : (rows : List Row) (xs : List ℕ) (n : ℕ) → AreNext rows xs xs n → height_at xs n ≡ tallest (height_at xs) (row_at rows n).held → (i : ℕ) → i < n + 1 → (i < n) ⊎ (n ≤ i) → height_at xs i ≡ tallest (height_at xs) (row_at rows i).held
+same_case : (rows : List ClassLayout) (xs : List ℕ) (n : ℕ) → AreNext rows xs xs n → height_at xs n ≡ tallest (height_at xs) (row_at rows n).held → (i : ℕ) → i < n + 1 → (i < n) ⊎ (n ≤ i) → height_at xs i ≡ tallest (height_at xs) (row_at rows i).held
 same_case rows xs n f e i h (inl below) = f.at i below
 same_case rows xs n f e i h (inr last) = let s : n ≡ i = omega arith in subst (λ k. height_at xs k ≡ tallest (height_at xs) (row_at rows k).held) s e
 
-pub same_more : (rows : List Row) (xs : List ℕ) (n : ℕ) → AreNext rows xs xs n → height_at xs n ≡ tallest (height_at xs) (row_at rows n).held → AreNext rows xs xs (n + 1)
+pub same_more : (rows : List ClassLayout) (xs : List ℕ) (n : ℕ) → AreNext rows xs xs n → height_at xs n ≡ tallest (height_at xs) (row_at rows n).held → AreNext rows xs xs (n + 1)
 same_more rows xs n f e = record { at = λ i h. same_case rows xs n f e i h (cases_lt i n) }

@@ -7,10 +7,10 @@ ghost use Rattle.uc_implicit.specs.Heights.{AreBelow, AreDeep, AreHeights, AreNe
 
 use std::alloc::{AllocError, Global};
 use uc_layout::sizes::Sizes;
-use uc_tree::rows::Held;
+use uc_tree::rows::FieldLayout;
 
 // One more than the height of the class of a field; 0 where it holds none.
-fn object_height(heights: &[usize], held: &Held, count: usize) -> usize
+fn object_height(heights: &[usize], held: &FieldLayout, count: usize) -> usize
     requires { AreBelow count heights.now }
     ensures height { result ≡ object_height (height_at heights.now) held.now.object }
     ensures few { result ≤ count }
@@ -28,7 +28,7 @@ fn object_height(heights: &[usize], held: &Held, count: usize) -> usize
 }
 
 // The height of a class with these fields, by those of the classes of its fields, which are below `count`.
-fn tallest(heights: &[usize], held: &[Held], count: usize) -> usize
+fn tallest(heights: &[usize], held: &[FieldLayout], count: usize) -> usize
     requires { AreBelow count heights.now }
     ensures height { result ≡ tallest (height_at heights.now) held.now }
     ensures few { result ≤ count }
@@ -70,7 +70,7 @@ fn order_of(alloc: Global, sizes: &Sizes, count: usize) -> Result<Vec<usize>, Al
 
 // This class holds the classes of its fields; how many of them there are.
 fn note_holder(
-    held: &[Held],
+    held: &[FieldLayout],
     place: usize,
     holders: &mut Vec<Vec<usize>>,
 ) -> Result<usize, AllocError> {

@@ -3,7 +3,7 @@ use Rattle.std.proofs.Common.{◌≡◌, ℕ, ℤ, List, Bool, Option, length, m
 use Rattle.uc_tree.specs.Capped.{capped}
 use Rattle.uc_tree.specs.Programs.{Class, Constant, Program}
 use Rattle.uc_tree.specs.Constants.{constants_of, value_of_name}
-use Rattle.uc_tree.specs.Rows.{Row, cells_within}
+use Rattle.uc_tree.specs.Rows.{ClassLayout, cells_within}
 use Rattle.uc_tree.specs.Cells.{classes_of, rows_of, leading_cells, members_held, has_member}
 use Rattle.uc_layout.specs.Values.{value_at}
 use Rattle.uc_layout.specs.FieldContents.{rows_by}
@@ -13,7 +13,7 @@ use Rattle.uc_layout.specs.Sized.{IsSized}
 use Rattle.uc_layout.proofs.ContainmentProgressLemmas.{circle_at}
 
 -- the rows by what gives the values of names
-rows_in : List Class → (List ℕ → Option ℤ) → List Row
+rows_in : List Class → (List ℕ → Option ℤ) → List ClassLayout
 rows_in cs named = map (λ c. record { leading = leading_cells c.kind; held = members_held cs (λ name. if has_member c name then None else named name) c.members }) cs
 
 rows_are : (p : Program) (classes : List Class) (constants : List Constant) (values : List (Option ℤ)) → classes ≡ classes_of p.items → constants ≡ constants_of p.items → value_at constants values ≡ value_of_name constants → rows_by classes constants values ≡ rows_of p
@@ -22,7 +22,7 @@ rows_are p classes constants values a b v =
     let named : value_at constants values ≡ value_of_name (constants_of p.items) = v ∙ ap (λ l. value_of_name l) b in
     ap (λ f. rows_in classes f) named ∙ ap (λ cs. rows_in cs (value_of_name (constants_of p.items))) a
 
-pub sized : (p : Program) (classes : List Class) (constants : List Constant) (values : List (Option ℤ)) (rows : List Row) (circles : List Bool) (cells : List ℕ) → classes ≡ classes_of p.items → constants ≡ constants_of p.items → value_at constants values ≡ value_of_name constants → rows ≡ rows_by classes constants values → length circles ≡ length rows → AreCircles rows circles (length rows) → Counted (length rows) rows cells → IsSized p classes constants values rows circles cells
+pub sized : (p : Program) (classes : List Class) (constants : List Constant) (values : List (Option ℤ)) (rows : List ClassLayout) (circles : List Bool) (cells : List ℕ) → classes ≡ classes_of p.items → constants ≡ constants_of p.items → value_at constants values ≡ value_of_name constants → rows ≡ rows_by classes constants values → length circles ≡ length rows → AreCircles rows circles (length rows) → Counted (length rows) rows cells → IsSized p classes constants values rows circles cells
 sized p classes constants values rows circles cells a b v r full flags counted =
     let all : rows ≡ rows_of p = r ∙ rows_are p classes constants values a b v in
     record {

@@ -4,14 +4,14 @@ use Rattle.uc_tree.specs.declared.kinds.Base.{Base}
 use Rattle.uc_tree.specs.declared.kinds.Base.TheVariants as base
 use Rattle.uc_tree.specs.Programs.{Class, Constant}
 use Rattle.uc_tree.specs.Cells.{leading_cells, members_held}
-use Rattle.uc_tree.specs.Rows.{Row}
+use Rattle.uc_tree.specs.Rows.{ClassLayout}
 use Rattle.uc_tree.specs.Objects.{event_from}
 use Rattle.uc_layout.specs.Values.{seen_at}
 
-abbrev pub row_by : List Class → List Constant → List (Option ℤ) → Class → Row
+abbrev pub row_by : List Class → List Constant → List (Option ℤ) → Class → ClassLayout
 row_by cs constants vs c = record { leading = leading_cells c.kind; held = members_held cs (seen_at constants vs c.members) c.members }
 
-abbrev pub rows_by : List Class → List Constant → List (Option ℤ) → List Row
+abbrev pub rows_by : List Class → List Constant → List (Option ℤ) → List ClassLayout
 rows_by cs constants vs = map (row_by cs constants vs) cs
 
 -- the event that a base names, by its place

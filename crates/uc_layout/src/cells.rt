@@ -9,10 +9,10 @@ ghost use Rattle.uc_layout.specs.CellTables.{cell_at, Follows, Counted};
 
 use crate::settle::Settlement;
 use std::alloc::{AllocError, Global};
-use uc_tree::rows::{Held, Object, Row};
+use uc_tree::rows::{ClassLayout, FieldClass, FieldLayout};
 
 /// The cells of one element, by a table of the cells of classes.
-pub fn element_cells(cells: &[u64], object: Option<Object>) -> u64
+pub fn element_cells(cells: &[u64], object: Option<FieldClass>) -> u64
     ensures { result ≡ element_cells (cell_at cells.now) object }
 {
     match object {
@@ -29,14 +29,14 @@ pub fn element_cells(cells: &[u64], object: Option<Object>) -> u64
     }
 }
 
-fn held_cells(cells: &[u64], held: &Held) -> u64
+fn held_cells(cells: &[u64], held: &FieldLayout) -> u64
     ensures { result ≡ capped (held_cells (cell_at cells.now) held.now) }
 {
     u64::from(held.count).saturating_mul(element_cells(cells, held.object))
 }
 
 /// The cells of a class, by a table of those of the classes of its fields.
-pub fn row_cells(cells: &[u64], row: &Row) -> u64
+pub fn row_cells(cells: &[u64], row: &ClassLayout) -> u64
     ensures { result ≡ capped (row_cells (cell_at cells.now) row.now) }
 {
     let mut sum = u64::from(row.leading);
@@ -48,7 +48,7 @@ pub fn row_cells(cells: &[u64], row: &Row) -> u64
 
 fn next_cells(
     alloc: Global,
-    rows: &[Row],
+    rows: &[ClassLayout],
     circles: &[bool],
     cells: &[u64],
 ) -> Result<Vec<u64>, AllocError>
@@ -75,7 +75,11 @@ fn is_same(a: &[u64], b: &[u64]) -> bool
 }
 
 // The cells of each class, of which these have themselves in their fields, counted deeper and deeper.
-fn counted_cells(alloc: Global, rows: &[Row], circles: &[bool]) -> Result<Vec<u64>, AllocError>
+fn counted_cells(
+    alloc: Global,
+    rows: &[ClassLayout],
+    circles: &[bool],
+) -> Result<Vec<u64>, AllocError>
     requires full { length circles.now ≡ length rows.now }
     requires flags { AreCircles rows.now circles.now (length rows.now) }
     ensures { IfOk result (λ v. Counted (length rows.now) rows.now v.items) }
@@ -105,7 +109,7 @@ fn are_all(flags: &[bool]) -> bool
 /// The cells of each class, of which these have themselves in their fields.
 pub fn cells_of(
     alloc: Global,
-    rows: &[Row],
+    rows: &[ClassLayout],
     circles: &[bool],
     settled: Settlement,
 ) -> Result<Vec<u64>, AllocError>

@@ -8,10 +8,10 @@ ghost use Rattle.uc_layout.specs.SettledClasses.{Settled};
 
 use crate::settle::Settlement;
 use std::alloc::{AllocError, Global};
-use uc_tree::rows::{Held, Row};
+use uc_tree::rows::{ClassLayout, FieldLayout};
 
 // Whether a field is an object of the class `to`, or of a class with a flag.
-fn leads(flags: &[bool], to: usize, held: &Held) -> bool
+fn leads(flags: &[bool], to: usize, held: &FieldLayout) -> bool
     ensures { result ≡ leads (flag_at flags.now) to held.now }
 {
     match held.object {
@@ -22,14 +22,14 @@ fn leads(flags: &[bool], to: usize, held: &Held) -> bool
     }
 }
 
-fn any_leads(flags: &[bool], to: usize, held: &[Held]) -> bool
+fn any_leads(flags: &[bool], to: usize, held: &[FieldLayout]) -> bool
     ensures { result ≡ list_any (leads (flag_at flags.now) to) held.now }
 {
     held.iter().any(|h| leads(flags, to, h))
 }
 
 // Sets the flag of one class where it leads to `to` and has none; says whether it did.
-fn mark(rows: &[Row], flags: &mut [bool], to: usize, place: usize) -> bool
+fn mark(rows: &[ClassLayout], flags: &mut [bool], to: usize, place: usize) -> bool
     requires inside { place < length rows.now }
     requires full { length flags.old ≡ length rows.now }
     requires led { Led rows.now to flags.old }
@@ -50,7 +50,7 @@ fn mark(rows: &[Row], flags: &mut [bool], to: usize, place: usize) -> bool
 }
 
 // Goes over all classes once; says whether a flag was set.
-fn mark_all(rows: &[Row], flags: &mut [bool], to: usize) -> bool
+fn mark_all(rows: &[ClassLayout], flags: &mut [bool], to: usize) -> bool
     requires full { length flags.old ≡ length rows.now }
     requires led { Led rows.now to flags.old }
     ensures led { Led rows.now to flags.new }
@@ -67,7 +67,7 @@ fn mark_all(rows: &[Row], flags: &mut [bool], to: usize) -> bool
 }
 
 /// For each class the classes that have a field of it.
-pub fn holders_of(alloc: Global, rows: &[Row]) -> Result<Vec<Vec<usize>>, AllocError> {
+pub fn holders_of(alloc: Global, rows: &[ClassLayout]) -> Result<Vec<Vec<usize>>, AllocError> {
     let mut holders = Vec::new(alloc);
     for _row in rows {
         holders.push(Vec::new(alloc))?;
@@ -86,7 +86,7 @@ pub fn holders_of(alloc: Global, rows: &[Row]) -> Result<Vec<Vec<usize>>, AllocE
 
 // Marks these classes where they lead to `to`, and adds those that it marked to the work.
 fn mark_holders(
-    rows: &[Row],
+    rows: &[ClassLayout],
     flags: &mut [bool],
     to: usize,
     holders: &[usize],
@@ -107,7 +107,7 @@ fn mark_holders(
 // Marks what leads to `to`, from each class to its holders. It saves sweeps: what it leaves, they find.
 fn spread(
     alloc: Global,
-    rows: &[Row],
+    rows: &[ClassLayout],
     holders: &[Vec<usize>],
     flags: &mut [bool],
     to: usize,
@@ -132,7 +132,7 @@ fn spread(
 
 fn first_flags(
     alloc: Global,
-    rows: &[Row],
+    rows: &[ClassLayout],
     holders: &[Vec<usize>],
     to: usize,
 ) -> Result<Vec<bool>, AllocError>
@@ -147,7 +147,7 @@ fn first_flags(
 // The flags of the classes that have this one in their fields.
 fn flags_to(
     alloc: Global,
-    rows: &[Row],
+    rows: &[ClassLayout],
     holders: &[Vec<usize>],
     class: usize,
 ) -> Result<Vec<bool>, AllocError>
@@ -166,7 +166,7 @@ fn flags_to(
 
 fn has_itself(
     alloc: Global,
-    rows: &[Row],
+    rows: &[ClassLayout],
     holders: &[Vec<usize>],
     class: usize,
 ) -> Result<bool, AllocError>
@@ -180,7 +180,7 @@ fn has_itself(
 
 fn circle_of(
     alloc: Global,
-    rows: &[Row],
+    rows: &[ClassLayout],
     holders: &[Vec<usize>],
     settled: &Settlement,
     class: usize,
@@ -199,7 +199,7 @@ fn circle_of(
 /// For each class whether it has itself in its fields, directly or through others.
 pub fn circles_of(
     alloc: Global,
-    rows: &[Row],
+    rows: &[ClassLayout],
     holders: &[Vec<usize>],
     settled: &Settlement,
 ) -> Result<Vec<bool>, AllocError>
@@ -222,7 +222,7 @@ pub fn flag_at(flags: &[bool], place: usize) -> bool
 }
 
 /// Which classes have this one in their fields, directly or through others.
-pub fn reaching(alloc: Global, rows: &[Row], class: usize) -> Result<Vec<bool>, AllocError>
+pub fn reaching(alloc: Global, rows: &[ClassLayout], class: usize) -> Result<Vec<bool>, AllocError>
     ensures { IfOk result (λ v. Reaching rows.now class v.items) }
 {
     let holders = holders_of(alloc, rows)?;

@@ -18,7 +18,7 @@ use uc_tree::declare::Declarator;
 use uc_tree::kinds::{Base, Kind};
 use uc_tree::limits::ARRAY_LENGTH;
 use uc_tree::name::Name;
-use uc_tree::rows::{Held, Object, Row};
+use uc_tree::rows::{ClassLayout, FieldClass, FieldLayout};
 
 /// A length of 1 to `ARRAY_LENGTH`; a broken one counts as 1.
 pub fn sound_length(value: Option<i64>) -> u32
@@ -49,21 +49,21 @@ pub fn elements_of<N: NameValues>(named: &N, declarator: &Declarator) -> u32
     }
 }
 
-fn object_of_kind(class: usize, kind: Kind) -> Option<Object>
+fn object_of_kind(class: usize, kind: Kind) -> Option<FieldClass>
     ensures { result ≡ object_of_kind class kind }
 {
     match kind {
-        Kind::Class => Some(Object { class, plain: true }),
-        Kind::Coroutine => Some(Object { class, plain: true }),
-        Kind::Monitor => Some(Object {
+        Kind::Class => Some(FieldClass { class, plain: true }),
+        Kind::Coroutine => Some(FieldClass { class, plain: true }),
+        Kind::Monitor => Some(FieldClass {
             class,
             plain: false,
         }),
-        Kind::Cormonitor => Some(Object {
+        Kind::Cormonitor => Some(FieldClass {
             class,
             plain: false,
         }),
-        Kind::Task => Some(Object {
+        Kind::Task => Some(FieldClass {
             class,
             plain: false,
         }),
@@ -71,7 +71,7 @@ fn object_of_kind(class: usize, kind: Kind) -> Option<Object>
     }
 }
 
-fn object_named(classes: &Classes, name: &Name) -> Option<Object>
+fn object_named(classes: &Classes, name: &Name) -> Option<FieldClass>
     ensures { result ≡ object_named (map (λ c. c.now) classes.now.list.now) 0 name.now }
 {
     match classes.place_of(name) {
@@ -127,7 +127,7 @@ pub fn event_of(classes: &Classes, base: &Base) -> Option<usize>
 }
 
 /// The object that a field or a variable of this base is, or none.
-pub fn object_of(classes: &Classes, base: &Base) -> Option<Object>
+pub fn object_of(classes: &Classes, base: &Base) -> Option<FieldClass>
     ensures { result ≡ object_of (map (λ c. c.now) classes.now.list.now) base.now }
 {
     match base {
@@ -148,7 +148,7 @@ pub fn held_by<N: NameValues>(
     named: &N,
     base: &Base,
     declarator: &Declarator,
-) -> Held
+) -> FieldLayout
     ensures { result ≡ held_by (map (λ c. c.now) classes.now.list.now) (N.value_named named.now) base.now declarator.now }
 {
     let object = if declarator.by_ref {
@@ -156,14 +156,14 @@ pub fn held_by<N: NameValues>(
     } else {
         object_of(classes, base)
     };
-    Held {
+    FieldLayout {
         count: elements_of(named, declarator),
         object,
     }
 }
 
 fn push_fields<N: NameValues>(
-    held: &mut Vec<Held>,
+    held: &mut Vec<FieldLayout>,
     classes: &Classes,
     named: &N,
     base: &Base,
@@ -178,7 +178,7 @@ fn push_fields<N: NameValues>(
 }
 
 fn push_member<N: NameValues>(
-    held: &mut Vec<Held>,
+    held: &mut Vec<FieldLayout>,
     classes: &Classes,
     named: &N,
     form: &MemberForm,
@@ -204,7 +204,7 @@ fn members_held<N: NameValues>(
     classes: &Classes,
     named: &N,
     members: &[Member],
-) -> Result<Vec<Held>, AllocError>
+) -> Result<Vec<FieldLayout>, AllocError>
     ensures { IfOk result (λ v. v.items ≡ members_held (map (λ c. c.now) classes.now.list.now) (N.value_named named.now) members.now) }
 {
     let mut held = Vec::new(alloc);
@@ -228,7 +228,12 @@ pub fn leading_cells(kind: Kind) -> u32
     }
 }
 
-fn row_of(alloc: Global, classes: &Classes, known: &Known, class: &Class) -> Result<Row, AllocError>
+fn row_of(
+    alloc: Global,
+    classes: &Classes,
+    known: &Known,
+    class: &Class,
+) -> Result<ClassLayout, AllocError>
     ensures { IfOk result (λ r. r ≡ row_by (map (λ c. c.now) classes.now.list.now) (map (λ c. c.now) known.now.constants.now) known.now.values.now class.now) }
 {
     let members = names_of_members(alloc, &class.members)?;
@@ -237,14 +242,18 @@ fn row_of(alloc: Global, classes: &Classes, known: &Known, class: &Class) -> Res
         members: &members,
     };
     let held = members_held(alloc, classes, &inside, &class.members)?;
-    Ok(Row {
+    Ok(ClassLayout {
         leading: leading_cells(class.kind),
         held,
     })
 }
 
 /// What each of these classes holds.
-pub fn rows_of(alloc: Global, classes: &Classes, known: &Known) -> Result<Vec<Row>, AllocError>
+pub fn rows_of(
+    alloc: Global,
+    classes: &Classes,
+    known: &Known,
+) -> Result<Vec<ClassLayout>, AllocError>
     ensures { IfOk result (λ v. v.items ≡ rows_by (map (λ c. c.now) classes.now.list.now) (map (λ c. c.now) known.now.constants.now) known.now.values.now) }
 {
     let mut rows = Vec::new(alloc);

@@ -8,7 +8,7 @@ ghost use Rattle.uc_layout.specs.SettledClasses.{Settled, held_settled};
 
 use crate::cells::row_cells;
 use std::alloc::{AllocError, Global};
-use uc_tree::rows::{Held, Row};
+use uc_tree::rows::{ClassLayout, FieldLayout};
 
 /// Which classes are settled, and their cells.
 #[derive(Drop)]
@@ -17,7 +17,7 @@ pub struct Settlement {
     pub cells: Vec<u64>,
 }
 
-fn is_settled(flags: &[bool], held: &Held) -> bool
+fn is_settled(flags: &[bool], held: &FieldLayout) -> bool
     ensures { result ≡ held_settled (flag_at flags.now) held.now }
 {
     match held.object {
@@ -26,14 +26,14 @@ fn is_settled(flags: &[bool], held: &Held) -> bool
     }
 }
 
-fn are_settled(flags: &[bool], held: &[Held]) -> bool
+fn are_settled(flags: &[bool], held: &[FieldLayout]) -> bool
     ensures { result ≡ list_all (held_settled (flag_at flags.now)) held.now }
 {
     held.iter().all(|h| is_settled(flags, h))
 }
 
 // Settles a class, where those of its fields are settled; says whether it did.
-fn settle(rows: &[Row], flags: &mut [bool], cells: &mut [u64], place: usize) -> bool
+fn settle(rows: &[ClassLayout], flags: &mut [bool], cells: &mut [u64], place: usize) -> bool
     requires inside { place < length rows.now }
     requires full { length flags.old ≡ length rows.now }
     requires room { length cells.old ≡ length rows.now }
@@ -53,7 +53,7 @@ fn settle(rows: &[Row], flags: &mut [bool], cells: &mut [u64], place: usize) -> 
 }
 
 // For each class how many of its fields hold a class.
-fn counts_of(alloc: Global, rows: &[Row]) -> Result<Vec<usize>, AllocError> {
+fn counts_of(alloc: Global, rows: &[ClassLayout]) -> Result<Vec<usize>, AllocError> {
     let mut counts = Vec::new(alloc);
     for row in rows {
         let mut count = 0_usize;
@@ -98,7 +98,7 @@ fn first_work(alloc: Global, counts: &[usize]) -> Result<Vec<usize>, AllocError>
 // Settles what can be: each class once those of its fields are settled.
 fn settle_all(
     alloc: Global,
-    rows: &[Row],
+    rows: &[ClassLayout],
     holders: &[Vec<usize>],
     flags: &mut [bool],
     cells: &mut [u64],
@@ -127,7 +127,7 @@ fn settle_all(
 /// What can be settled of these classes.
 pub fn settle_classes(
     alloc: Global,
-    rows: &[Row],
+    rows: &[ClassLayout],
     holders: &[Vec<usize>],
 ) -> Result<Settlement, AllocError>
     ensures full { IfOk result (λ s. length s.flags.items ≡ length rows.now) }

@@ -28,7 +28,7 @@ use uc_tree::declare::Declarator;
 use uc_tree::kinds::{Base, Param};
 use uc_tree::name::Name;
 use uc_tree::program::{Constant, Program};
-use uc_tree::rows::{Held, Object, Row};
+use uc_tree::rows::{ClassLayout, FieldClass, FieldLayout};
 
 /// A program of which the values of constants, the classes that have themselves in their fields, and the cells of classes are
 /// known. Contracts see the program.
@@ -40,7 +40,7 @@ pub struct Sizes<'a> {
     constants: Vec<&'a Constant>,
     constant_places: Scope,
     values: Vec<Option<i64>>,
-    rows: Vec<Row>,
+    rows: Vec<ClassLayout>,
     circles: Vec<bool>,
     cells: Vec<u64>,
 }
@@ -69,7 +69,7 @@ fn rows_in<'x, 'y>(
     constants: &'y [&'y Constant],
     constant_places: &'y Scope,
     values: &'y [Option<i64>],
-) -> Result<Vec<Row>, AllocError>
+) -> Result<Vec<ClassLayout>, AllocError>
     requires classes_placed { IsPlaces (map (λ c. c.now.name) classes.now) class_places.now }
     requires constants_placed { IsPlaces (map (λ c. c.now.name) constants.now) constant_places.now }
     ensures { IfOk result (λ v. v.items ≡ rows_by (map (λ c. c.now) classes.now) (map (λ c. c.now) constants.now) values.now) }
@@ -94,7 +94,7 @@ fn class_at<'a>(classes: &[&'a Class], place: usize) -> Option<&'a Class>
 }
 
 // What the class with this place holds; nothing beyond the last.
-fn held_at(rows: &[Row], place: usize) -> &[Held]
+fn held_at(rows: &[ClassLayout], place: usize) -> &[FieldLayout]
     ensures { result.now ≡ (row_at rows.now place).held }
 {
     match rows.get(place) {
@@ -103,7 +103,7 @@ fn held_at(rows: &[Row], place: usize) -> &[Held]
     }
 }
 
-fn plain_in(object: Option<Object>) -> Option<usize>
+fn plain_in(object: Option<FieldClass>) -> Option<usize>
     ensures { result ≡ plain_in object }
 {
     match object {
@@ -119,7 +119,7 @@ fn plain_in(object: Option<Object>) -> Option<usize>
 }
 
 // Whether what a base names is known by its number.
-fn is_numbered(object: Option<Object>, base: &Base) -> bool
+fn is_numbered(object: Option<FieldClass>, base: &Base) -> bool
     ensures { result ≡ is_numbered (making_by object base.now) }
 {
     match object {
@@ -199,7 +199,7 @@ impl<'a> Sizes<'a> {
     }
 
     /// What the fields of the class with this place hold, in order; nothing beyond the last class.
-    pub fn held_by_class(&self, place: usize) -> &[Held]
+    pub fn held_by_class(&self, place: usize) -> &[FieldLayout]
         ensures { result.now ≡ (row_at (rows_of self.now) place).held }
     {
         held_at(&self.rows, place)
@@ -276,14 +276,14 @@ impl<'a> Sizes<'a> {
     }
 
     // What a variable holds.
-    fn held(&self, base: &Base, declarator: &Declarator) -> Held
+    fn held(&self, base: &Base, declarator: &Declarator) -> FieldLayout
         ensures { result ≡ held_by (classes_of self.now.items) (value_of_name (constants_of self.now.items)) base.now declarator.now }
     {
         held_by(&self.classes(), &self.known(), base, declarator)
     }
 
     /// The class whose objects a base names, and whether one has the cells of its class.
-    pub fn object(&self, base: &Base) -> Option<Object>
+    pub fn object(&self, base: &Base) -> Option<FieldClass>
         ensures { result ≡ object_of (classes_of self.now.items) base.now }
     {
         object_of(&self.classes(), base)
@@ -331,14 +331,14 @@ impl<'a> Sizes<'a> {
 
     /// The cells of what a field holds.
     #[tactic(auto, using(crate::proofs::CellTablesLemmas::capped_mul))]
-    pub fn cells_of_held(&self, held: &Held) -> u64
+    pub fn cells_of_held(&self, held: &FieldLayout) -> u64
         ensures { result ≡ capped (held_cells (class_cells self.now) held.now) }
     {
         u64::from(held.count).saturating_mul(self.cells_of_element(held.object))
     }
 
     // The cells of one element.
-    fn cells_of_element(&self, object: Option<Object>) -> u64
+    fn cells_of_element(&self, object: Option<FieldClass>) -> u64
         ensures { result ≡ capped (element_cells (class_cells self.now) object) }
     {
         element_cells(&self.cells, object)

@@ -8,8 +8,8 @@ use lib.Pointwise.{pointwise_long}
 use Rattle.std.specs.Prelude.{Option, Some, None, find, IfSome, slice_get, slice_index, codes, not, ◌==◌, ◌&&◌, ◌||◌, if◌then◌else◌}
 use Rattle.std.specs.List.{prefix_len, list_all}
 use Rattle.uc_tree.specs.declared.limits.TheConstants.{NAME_BYTES, NUMBER_MAX, TEXT_BYTES}
-use Rattle.uc_tree.specs.declared.scan.Found.{Found}
-use Rattle.uc_tree.specs.declared.scan.Found.TheVariants.{Skip}
+use Rattle.uc_tree.specs.declared.scan.Lexeme.{Lexeme}
+use Rattle.uc_tree.specs.declared.scan.Lexeme.TheVariants.{Skip}
 use Rattle.uc_tree.specs.declared.token.Sign.{Sign}
 use Rattle.uc_tree.specs.Bytes.{is_newline, is_blank, is_white, is_letter, is_digit, is_name_byte, is_printable, escaped}
 use Rattle.uc_tree.specs.Spelling.{sign_spelling, signs}
@@ -17,7 +17,7 @@ use Rattle.uc_tree.specs.Tokens.{begins, line_length, value_of, names_include, n
 use Rattle.uc_lex.specs.Places.{InText}
 
 -- a choice by a test
-either : (t : Bool) (a b : Found) (room : ℕ) → (t ≡ true → InText a room) → (t ≡ false → InText b room) → InText (if t then a else b) room
+either : (t : Bool) (a b : Lexeme) (room : ℕ) → (t ≡ true → InText a room) → (t ≡ false → InText b room) → InText (if t then a else b) room
 either true a b room at_true at_false = at_true refl
 either false a b room at_true at_false = at_false refl
 

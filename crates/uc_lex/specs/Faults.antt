@@ -1,7 +1,7 @@
 -- The faults that the lexer reports.
 use Rattle.std.specs.Prelude.{◌≡◌, ◌<◌, ℕ}
 use Rattle.uc_tree.specs.Tokens.{Lexed, Refused}
-use Rattle.uc_tree.specs.declared.scan.Reason.TheVariants as reason
+use Rattle.uc_tree.specs.declared.scan.LexicalFault.TheVariants as reason
 use Rattle.uc_lex.specs.declared.fault.LexFault.{LexFault}
 use Rattle.uc_lex.specs.declared.fault.LexFault.TheVariants.{BadByte, OpenComment, OpenText, NumberTooWide, TextTooLong, NoMemory}
 

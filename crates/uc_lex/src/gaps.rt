@@ -4,7 +4,7 @@ ghost use Rattle.std.specs.Prelude.{◌≡◌, ◌<◌, ◌≤◌, length, drop,
 ghost use Rattle.uc_tree.specs.Tokens as tokens;
 
 use crate::bytes::{Class, run_length, text_from};
-use uc_tree::scan::{Found, Reason};
+use uc_tree::scan::{Lexeme, LexicalFault};
 
 /// How many bytes there are up to and with the first `*/`.
 pub fn comment_length(rest: &[u8]) -> Option<usize>
@@ -20,25 +20,25 @@ pub fn comment_length(rest: &[u8]) -> Option<usize>
 }
 
 /// What begins with `/*`.
-pub fn comment_at(rest: &[u8]) -> Found
+pub fn comment_at(rest: &[u8]) -> Lexeme
     requires { 2 ≤ length rest.now }
     ensures { result ≡ tokens.comment_found (tokens.comment_length (drop 2 rest.now)) }
 {
     match comment_length(text_from(rest, 2)) {
-        Some(length) => Found::Skip(length + 2),
-        None => Found::Stop(Reason::OpenComment, 0),
+        Some(length) => Lexeme::Skip(length + 2),
+        None => Lexeme::Stop(LexicalFault::OpenComment, 0),
     }
 }
 
 /// What begins with `#`.
-pub fn line_at(rest: &[u8], fresh: bool) -> Found
+pub fn line_at(rest: &[u8], fresh: bool) -> Lexeme
     requires { 0 < length rest.now }
     ensures { result ≡ tokens.line_at fresh rest.now }
 {
     if fresh && names_include(text_from(rest, 1)) {
-        return Found::Skip(run_length(rest, Class::Line));
+        return Lexeme::Skip(run_length(rest, Class::Line));
     }
-    Found::Stop(Reason::BadByte, 0)
+    Lexeme::Stop(LexicalFault::BadByte, 0)
 }
 
 fn names_include(rest: &[u8]) -> bool

@@ -15,19 +15,19 @@ use crate::place::{START, place_behind};
 use crate::signs::sign_at;
 use std::alloc::{AllocError, Global};
 use uc_tree::bytes::{is_digit, is_white};
-use uc_tree::scan::{Found, Reason};
+use uc_tree::scan::{Lexeme, LexicalFault};
 use uc_tree::token::Token;
 
 // What stands at a place, before which nothing but blanks stands on its line if it is fresh.
 #[tactic(auto, unfolding(uc_tree::specs::Tokens::found_at))]
-fn found_at(alloc: Global, rest: &[u8], fresh: bool) -> Result<Found, AllocError>
+fn found_at(alloc: Global, rest: &[u8], fresh: bool) -> Result<Lexeme, AllocError>
     requires some { 0 < length rest.now }
     requires fits { length rest.now < 2 ^ 32 }
     ensures { IfOk result (λ found. found ≡ tokens.found_at fresh rest.now) }
 {
     let b = rest[0];
     if is_white(b) {
-        return Ok(Found::Skip(1));
+        return Ok(Lexeme::Skip(1));
     }
     if b == b'#' {
         return Ok(line_at(rest, fresh));
@@ -50,12 +50,12 @@ fn found_at(alloc: Global, rest: &[u8], fresh: bool) -> Result<Found, AllocError
 }
 
 // What begins with any other byte.
-fn other_at(rest: &[u8]) -> Found
+fn other_at(rest: &[u8]) -> Lexeme
     requires { length rest.now < 2 ^ 32 }
     ensures { result ≡ tokens.other_at rest.now }
 {
     if rest.starts_with(b"//") {
-        return Found::Skip(run_length(rest, Class::Line));
+        return Lexeme::Skip(run_length(rest, Class::Line));
     }
     if rest.starts_with(b"/*") {
         return comment_at(rest);
@@ -64,7 +64,7 @@ fn other_at(rest: &[u8]) -> Found
 }
 
 // What stands at the first byte of the text, and that it stands inside of it.
-fn next_found(alloc: Global, rest: &[u8], fresh: bool) -> Result<Found, AllocError>
+fn next_found(alloc: Global, rest: &[u8], fresh: bool) -> Result<Lexeme, AllocError>
     requires some { 0 < length rest.now }
     requires fits { length rest.now < 2 ^ 32 }
     ensures found { IfOk result (λ found. found ≡ tokens.found_at fresh rest.now) }
@@ -75,16 +75,16 @@ fn next_found(alloc: Global, rest: &[u8], fresh: bool) -> Result<Found, AllocErr
 }
 
 // The fault at that offset.
-fn fault_at(why: Reason, at: u32) -> LexFault
+fn fault_at(why: LexicalFault, at: u32) -> LexFault
     ensures fault { IsFault (tokens.Refused why at) result }
     ensures inside { (room : ℕ) → at < room → StandsIn result room }
 {
     match why {
-        Reason::BadByte => LexFault::BadByte { at },
-        Reason::OpenComment => LexFault::OpenComment { at },
-        Reason::OpenText => LexFault::OpenText { at },
-        Reason::NumberTooWide => LexFault::NumberTooWide { at },
-        Reason::TextTooLong(len) => LexFault::TextTooLong { at, len },
+        LexicalFault::BadByte => LexFault::BadByte { at },
+        LexicalFault::OpenComment => LexFault::OpenComment { at },
+        LexicalFault::OpenText => LexFault::OpenText { at },
+        LexicalFault::NumberTooWide => LexFault::NumberTooWide { at },
+        LexicalFault::TextTooLong(len) => LexFault::TextTooLong { at, len },
     }
 }
 
@@ -96,15 +96,15 @@ pub fn lex(alloc: Global, text: &[u8]) -> Result<Vec<Token>, LexFault>
     ensures fault { IfErr result (λ f. IsFault (tokens.tokens text.now) f) }
     ensures inside { IfErr result (λ f. StandsIn f (length text.now)) }
     ensures complete { (ts : List Token) → tokens.tokens text.now ≡ tokens.Read ts → IfErr result (λ f. f ≡ LexFault.NoMemory) }
-    ensures refused { (why : Reason) (at : ℕ) → tokens.tokens text.now ≡ tokens.Refused why at → IsErr result }
+    ensures refused { (why : LexicalFault) (at : ℕ) → tokens.tokens text.now ≡ tokens.Refused why at → IsErr result }
 {
     let mut tokens = Vec::new(alloc);
     let mut place = START;
     while (place.at as usize) < text.len() {
         let rest = text_from(text, place.at as usize);
         match next_found(alloc, rest, place.fresh)? {
-            Found::Skip(length) => place = place_behind(place, text_to(rest, length)),
-            Found::Take(kind, length) => {
+            Lexeme::Skip(length) => place = place_behind(place, text_to(rest, length)),
+            Lexeme::Take(kind, length) => {
                 tokens.push(Token {
                     kind,
                     at: place.at,
@@ -112,7 +112,7 @@ pub fn lex(alloc: Global, text: &[u8]) -> Result<Vec<Token>, LexFault>
                 })?;
                 place = place_behind(place, text_to(rest, length));
             }
-            Found::Stop(why, behind) => return Err(fault_at(why, place.at + behind as u32)),
+            Lexeme::Stop(why, behind) => return Err(fault_at(why, place.at + behind as u32)),
         }
     }
     Ok(tokens)

@@ -10,59 +10,59 @@ use std::alloc::{AllocError, Global};
 use uc_tree::bytes::is_newline;
 use uc_tree::limits::TEXT_BYTES;
 use uc_tree::name::Text;
-use uc_tree::scan::{Found, Reason};
+use uc_tree::scan::{Lexeme, LexicalFault};
 use uc_tree::token::TokenKind;
 
 /// What begins with a quote.
-pub fn character_at(rest: &[u8]) -> Found
+pub fn character_at(rest: &[u8]) -> Lexeme
     ensures { result ≡ tokens.character_at rest.now }
 {
     let Some(b) = byte_at(rest, 1) else {
-        return Found::Stop(Reason::OpenText, 0);
+        return Lexeme::Stop(LexicalFault::OpenText, 0);
     };
     if is_newline(b) {
-        return Found::Stop(Reason::OpenText, 0);
+        return Lexeme::Stop(LexicalFault::OpenText, 0);
     }
     if b == b'\\' {
         return character_escape(rest);
     }
     if b == b'\'' || !is_printable(b) {
-        return Found::Stop(Reason::BadByte, 1);
+        return Lexeme::Stop(LexicalFault::BadByte, 1);
     }
     character_end(b, 1, byte_at(rest, 2))
 }
 
 // What goes on with a backslash behind the quote.
-fn character_escape(rest: &[u8]) -> Found
+fn character_escape(rest: &[u8]) -> Lexeme
     ensures { result ≡ tokens.character_escape (slice_get rest.now 2) rest.now }
 {
     let Some(letter) = byte_at(rest, 2) else {
-        return Found::Stop(Reason::OpenText, 0);
+        return Lexeme::Stop(LexicalFault::OpenText, 0);
     };
     if is_newline(letter) {
-        return Found::Stop(Reason::OpenText, 0);
+        return Lexeme::Stop(LexicalFault::OpenText, 0);
     }
     match escaped(letter) {
         Some(value) => character_end(value, 2, byte_at(rest, 3)),
-        None => Found::Stop(Reason::BadByte, 2),
+        None => Lexeme::Stop(LexicalFault::BadByte, 2),
     }
 }
 
 // What follows a byte or an escape of `length` bytes.
-fn character_end(value: u8, length: usize, next: Option<u8>) -> Found
+fn character_end(value: u8, length: usize, next: Option<u8>) -> Lexeme
     requires { length < 3 }
     ensures { result ≡ tokens.character_end value length next }
 {
     match next {
-        None => Found::Stop(Reason::OpenText, 0),
+        None => Lexeme::Stop(LexicalFault::OpenText, 0),
         Some(b) => {
             if is_newline(b) {
-                return Found::Stop(Reason::OpenText, 0);
+                return Lexeme::Stop(LexicalFault::OpenText, 0);
             }
             if b == b'\'' {
-                return Found::Take(TokenKind::Character(value), length + 2);
+                return Lexeme::Take(TokenKind::Character(value), length + 2);
             }
-            Found::Stop(Reason::BadByte, length + 1)
+            Lexeme::Stop(LexicalFault::BadByte, length + 1)
         }
     }
 }
@@ -127,7 +127,7 @@ fn piece_of_escape(letter: Option<u8>) -> Piece
 }
 
 /// What begins with a double quote.
-pub fn text_at(alloc: Global, rest: &[u8]) -> Result<Found, AllocError>
+pub fn text_at(alloc: Global, rest: &[u8]) -> Result<Lexeme, AllocError>
     requires some { 0 < length rest.now }
     requires fits { length rest.now < 2 ^ 32 }
     ensures { IfOk result (λ found. found ≡ tokens.text_at rest.now) }
@@ -142,21 +142,21 @@ pub fn text_at(alloc: Global, rest: &[u8]) -> Result<Found, AllocError>
                 at += length;
             }
             Piece::Close => return Ok(closed(value, at + 1)),
-            Piece::Open => return Ok(Found::Stop(Reason::OpenText, 0)),
-            Piece::Bad(behind) => return Ok(Found::Stop(Reason::BadByte, at + behind + 1)),
+            Piece::Open => return Ok(Lexeme::Stop(LexicalFault::OpenText, 0)),
+            Piece::Bad(behind) => return Ok(Lexeme::Stop(LexicalFault::BadByte, at + behind + 1)),
         }
     }
-    Ok(Found::Stop(Reason::OpenText, 0))
+    Ok(Lexeme::Stop(LexicalFault::OpenText, 0))
 }
 
 // A text literal with this value, which takes that many bytes behind its opening quote.
-fn closed(value: Vec<u8>, behind: usize) -> Found
+fn closed(value: Vec<u8>, behind: usize) -> Lexeme
     requires value { length value.items < 2 ^ 32 }
     requires behind { behind ≤ 2 ^ 32 }
     ensures { result ≡ tokens.text_found (tokens.Closed value.items behind) }
 {
     if value.len() > TEXT_BYTES {
-        return Found::Stop(Reason::TextTooLong(value.len() as u32), 0);
+        return Lexeme::Stop(LexicalFault::TextTooLong(value.len() as u32), 0);
     }
-    Found::Take(TokenKind::Text(Text::new(value)), behind + 1)
+    Lexeme::Take(TokenKind::Text(Text::new(value)), behind + 1)
 }

@@ -9,7 +9,7 @@ use crate::bytes::{Class, run_length};
 use std::alloc::{AllocError, Global};
 use uc_tree::limits::NAME_BYTES;
 use uc_tree::name::Name;
-use uc_tree::scan::{Found, Reason};
+use uc_tree::scan::{Lexeme, LexicalFault};
 use uc_tree::token::{TokenKind, Word};
 
 /// The word that the bytes spell.
@@ -35,22 +35,22 @@ fn first_spelled(words: &[Word], name: &[u8]) -> Option<Word>
 }
 
 /// What begins with a letter or `_`.
-pub fn name_at(alloc: Global, rest: &[u8]) -> Result<Found, AllocError>
+pub fn name_at(alloc: Global, rest: &[u8]) -> Result<Lexeme, AllocError>
     ensures { IfOk result (λ found. found ≡ tokens.name_at rest.now) }
 {
     if rest.starts_with(b"std::") {
-        return Ok(Found::Skip(5));
+        return Ok(Lexeme::Skip(5));
     }
     let length = run_length(rest, Class::Name);
     if length > NAME_BYTES {
-        return Ok(Found::Stop(Reason::BadByte, NAME_BYTES));
+        return Ok(Lexeme::Stop(LexicalFault::BadByte, NAME_BYTES));
     }
     let name = &rest[..length];
     match word_of(name) {
-        Some(word) => Ok(Found::Take(TokenKind::Word(word), length)),
+        Some(word) => Ok(Lexeme::Take(TokenKind::Word(word), length)),
         None => {
             let name = Name::new(name.to_vec(alloc)?);
-            Ok(Found::Take(TokenKind::Name(name), length))
+            Ok(Lexeme::Take(TokenKind::Name(name), length))
         }
     }
 }

@@ -7,17 +7,17 @@ ghost use Rattle.uc_lex.specs.Places.{InRange};
 use crate::bytes::text_to;
 use uc_tree::bytes::{is_blank, is_newline};
 use uc_tree::pos::Pos;
-use uc_tree::scan::Place;
+use uc_tree::scan::ScanPlace;
 
 /// Where a text begins.
-pub const START: Place = Place {
+pub const START: ScanPlace = ScanPlace {
     at: 0,
     pos: Pos { line: 1, col: 1 },
     fresh: true,
 };
 
 // The place behind a byte.
-fn next_place(place: Place, b: u8) -> Place
+fn next_place(place: ScanPlace, b: u8) -> ScanPlace
     requires room { place.at + 2 < 2 ^ 32 }
     requires range { InRange place }
     ensures { result ≡ tokens.next_place place b }
@@ -25,7 +25,7 @@ fn next_place(place: Place, b: u8) -> Place
     let at = place.at + 1;
     if is_newline(b) {
         let line = place.pos.line + 1;
-        return Place {
+        return ScanPlace {
             at,
             pos: Pos { line, col: 1 },
             fresh: true,
@@ -34,7 +34,7 @@ fn next_place(place: Place, b: u8) -> Place
     let line = place.pos.line;
     let col = place.pos.col + 1;
     let fresh = place.fresh && is_blank(b);
-    Place {
+    ScanPlace {
         at,
         pos: Pos { line, col },
         fresh,
@@ -42,7 +42,7 @@ fn next_place(place: Place, b: u8) -> Place
 }
 
 /// The place behind some bytes.
-pub fn place_behind(place: Place, bytes: &[u8]) -> Place
+pub fn place_behind(place: ScanPlace, bytes: &[u8]) -> ScanPlace
     requires room { place.at + length bytes.now + 1 < 2 ^ 32 }
     requires range { InRange place }
     ensures place { result ≡ fold tokens.next_place place bytes.now }

@@ -4,16 +4,16 @@ ghost use Rattle.std.specs.Prelude.{◌≡◌, find};
 ghost use Rattle.uc_tree.specs.Spelling.{sign_spelling};
 ghost use Rattle.uc_tree.specs.Tokens as tokens;
 
-use uc_tree::scan::{Found, Reason};
+use uc_tree::scan::{Lexeme, LexicalFault};
 use uc_tree::token::{Sign, TokenKind};
 
 /// The longest sign that the text begins with.
-pub fn sign_at(rest: &[u8]) -> Found
+pub fn sign_at(rest: &[u8]) -> Lexeme
     ensures { result ≡ tokens.sign_at rest.now }
 {
     match first_sign(&Sign::ALL, rest) {
-        Some(sign) => Found::Take(TokenKind::Sign(sign), sign.spelling().len()),
-        None => Found::Stop(Reason::BadByte, 0),
+        Some(sign) => Lexeme::Take(TokenKind::Sign(sign), sign.spelling().len()),
+        None => Lexeme::Stop(LexicalFault::BadByte, 0),
     }
 }
 

@@ -5,7 +5,7 @@ use Rattle.std.specs.List.{list_any}
 use Rattle.std.proofs.lemmas.Bool.{and_parts, cases_eq, cases_lt}
 use Rattle.std.proofs.lemmas.List.{append-nil, take_at}
 use Rattle.uc_tree.specs.declared.kinds.Kind.{Kind}
-use Rattle.uc_tree.specs.declared.kinds.Mark.{Mark}
+use Rattle.uc_tree.specs.declared.kinds.MutexMark.{MutexMark}
 use Rattle.uc_tree.specs.declared.kinds.Access.{Access}
 use Rattle.uc_tree.specs.declared.kinds.Owner.TheVariants as owner
 use Rattle.uc_tree.specs.declared.kinds.Role.{Role}
@@ -15,7 +15,7 @@ use Rattle.uc_tree.specs.Programs.{Sig, Routine, MemberForm, FieldsMember, Routi
 use Rattle.uc_tree.specs.Cells.{classes_of}
 use Rattle.uc_tree.specs.Numbering.{is_plain, main_name, is_given}
 use Rattle.uc_tree.specs.Objects.{same_role}
-use Rattle.uc_rules.specs.declared.rules.Home.{Home}
+use Rattle.uc_rules.specs.declared.rules.OwnClass.{OwnClass}
 use Rattle.uc_rules.specs.declared.rules.Sort.{Sort}
 use Rattle.uc_rules.specs.declared.rules.Sort.TheVariants as sort
 use Rattle.uc_rules.specs.declared.rules.Sort.TheVariants.{Object}
@@ -203,7 +203,7 @@ module _ (p : Program) where
       let z : i + 1 + j ≡ i + suc j = omega arith in
       subst (λ n. breaks_at (AtItem p x n) ≡ []) z (item_none is (k + classes_in y) (i + 1) j x (among_right (AtItem p y i ∷ item_visits p k y) (items_visits p (k + classes_in y) (i + 1) is) e) g)
 
-  members_none : (h : Home) (c : Class) (k : ℕ) (ms : List Member) (j : ℕ) (m : Member) → breaks_among (members_visits p h c k ms) ≡ [] → slice_get ms j ≡ Some m → breaks_among (form_visits p h c (k + j) m.mark m.access m.form) ≡ []
+  members_none : (h : OwnClass) (c : Class) (k : ℕ) (ms : List Member) (j : ℕ) (m : Member) → breaks_among (members_visits p h c k ms) ≡ [] → slice_get ms j ≡ Some m → breaks_among (form_visits p h c (k + j) m.mark m.access m.form) ≡ []
   members_none h c k [] j m e g = cc
   members_none h c k (y ∷ ms) zero m e g =
       let same : y ≡ m = cc in
@@ -219,7 +219,7 @@ module _ (p : Program) where
   only_of : (c : Class) (proto : Bool) (sig : Sig) (j : ℕ) → is_sound_member p c proto sig j ≡ true → is_only_one c sig j ≡ true
   only_of c proto sig j e = (and_parts (is_only_one c sig j) (is_defined p c proto sig) (and_parts (has_class_name c.name sig) (is_only_one c sig j && is_defined p c proto sig) e).1).0
 
-  form_only : (h : Home) (c : Class) (j : ℕ) (k : Mark) (a : Access) (f : MemberForm) (s : Sig) → breaks_among (form_visits p h c j k a f) ≡ [] → form_sig f ≡ Some s → is_only_one c s j ≡ true
+  form_only : (h : OwnClass) (c : Class) (j : ℕ) (k : MutexMark) (a : Access) (f : MemberForm) (s : Sig) → breaks_among (form_visits p h c j k a f) ≡ [] → form_sig f ≡ Some s → is_only_one c s j ≡ true
   form_only h c j k a (FieldsMember at b ds) s e g = cc
   form_only h c j k a (RoutineMember r) s e g =
       let same : r.sig ≡ s = cc in
@@ -232,7 +232,7 @@ module _ (p : Program) where
       let own = first_none (AtRoutine env c true x j) (sig_visits (sig_env p h k x) x) e in
       subst (λ (x : Sig). is_only_one c x j ≡ true) same (only_of c true x j (holds (is_sound_member p c true x j) _ _ (no_left _ _ (no_right _ _ own))))
 
-  routine_named : (h : Home) (c : Class) (j : ℕ) (k : Mark) (a : Access) (r : Routine) → breaks_among (form_visits p h c j k a (RoutineMember r)) ≡ [] → has_class_name c.name r.sig ≡ true
+  routine_named : (h : OwnClass) (c : Class) (j : ℕ) (k : MutexMark) (a : Access) (r : Routine) → breaks_among (form_visits p h c j k a (RoutineMember r)) ≡ [] → has_class_name c.name r.sig ≡ true
   routine_named h c j k a r e =
       let env = plain_env p (class_around h) in
       let own = first_none (AtRoutine env c false r.sig j) (routine_visits (sig_env p h k r.sig) r) e in
@@ -247,7 +247,7 @@ module _ (p : Program) where
 
     only_one : (i : ℕ) (c : Class) → slice_get (classes_of p.items) i ≡ Some c → (j : ℕ) (m : Member) (s : Sig) → slice_get c.members j ≡ Some m → form_sig m.form ≡ Some s → is_only_one c s j ≡ true
     only_one i c g j m s e f =
-        let h : Home = record { class = 0 + i; kind = c.kind } in
+        let h : OwnClass = record { class = 0 + i; kind = c.kind } in
         let z : 0 + j ≡ j = omega arith in
         let class = class_none p p.items 0 0 i c quiet g in
         let members = rest_none (AtClass (plain_env p (class_around h)) c (0 + i)) (members_visits p h c 0 c.members) class in
@@ -256,7 +256,7 @@ module _ (p : Program) where
     -- a builder in a class has the name of the class
     pub member_named : (i : ℕ) (c : Class) → slice_get (classes_of p.items) i ≡ Some c → (j : ℕ) (m : Member) (r : Routine) → slice_get c.members j ≡ Some m → m.form ≡ RoutineMember r → is_plain r.sig.role ≡ false → same_name r.sig.name c.name ≡ true
     member_named i c g j m r e f builds =
-        let h : Home = record { class = 0 + i; kind = c.kind } in
+        let h : OwnClass = record { class = 0 + i; kind = c.kind } in
         let class = class_none p p.items 0 0 i c quiet g in
         let members = rest_none (AtClass (plain_env p (class_around h)) c (0 + i)) (members_visits p h c 0 c.members) class in
         let own = subst (λ (x : MemberForm). breaks_among (form_visits p h c (0 + j) m.mark m.access x) ≡ []) f (members_none h c 0 c.members j m members e) in

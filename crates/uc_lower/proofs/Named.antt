@@ -7,12 +7,12 @@ use Rattle.std.proofs.lemmas.List.{append-nil, length-append, map-append, take_a
 use Rattle.uc_tree.specs.declared.pos.Pos.{Pos}
 use Rattle.uc_tree.specs.declared.kinds.Access.{Access}
 use Rattle.uc_tree.specs.declared.kinds.Base.{Base}
-use Rattle.uc_tree.specs.declared.kinds.Mark.{Mark}
+use Rattle.uc_tree.specs.declared.kinds.MutexMark.{MutexMark}
 use Rattle.uc_tree.specs.Names.{same_name}
 use Rattle.uc_tree.specs.Statements.{Declarator}
 use Rattle.uc_tree.specs.Programs.{MemberForm, FieldsMember, RoutineMember, ProtoMember, Member, Class, Program}
 use Rattle.uc_tree.specs.Objects.{ClassField, declared_fields, fields_of, form_fields}
-use Rattle.uc_rules.specs.declared.rules.Home.{Home}
+use Rattle.uc_rules.specs.declared.rules.OwnClass.{OwnClass}
 use Rattle.uc_rules.specs.Breaks.{breaks_at, breaks_among}
 use Rattle.uc_rules.specs.ClassBreaks.{declared_names, fields_at, form_declares_names, is_new_field, is_new_member, member_fields, members_declare, sig_declares}
 use Rattle.uc_rules.specs.ClassBreaks as rules
@@ -89,7 +89,7 @@ fields_join (x ∷ xs) ys = ap (λ fs. form_fields x.form ++ fs) (fields_join xs
 abbrev own_names : List Declarator → List (List ℕ)
 own_names ds = map (λ (d : Declarator). d.name) ds
 
-module _ (p : Program) (h : Home) (c : Class) where
+module _ (p : Program) (h : OwnClass) (c : Class) where
   module _ (a : Access) (b : Base) (before : List Member) (m : Member) (after : List Member) (at : Pos) (whole : List Declarator) (is : c.members ≡ before ++ m ∷ after) (form : m.form ≡ FieldsMember at b whole) where
     abbrev seen : List Declarator → List (List ℕ)
     seen ds = names_of (fields_of before) ++ own_names ds
@@ -121,7 +121,7 @@ module _ (p : Program) (h : Home) (c : Class) where
         let next = own_fresh (taken ++ d ∷ []) ds rest (split ∙ joined) (subst (λ n. breaks_among (fields_visits env c a b (length before) n ds) ≡ []) long later) (subst (λ xs. Fresh (seen xs) rest) joined f) in
         (field_new taken d ds split field, subst (λ xs. Fresh xs (own_names ds ++ rest)) more next)
 
-  form_fresh : (before : List Member) (m : Member) (ms : List Member) (k : Mark) (a : Access) → c.members ≡ before ++ m ∷ ms → (f : MemberForm) → m.form ≡ f → breaks_among (form_visits p h c (length before) k a f) ≡ [] → Fresh (names_of (fields_of before) ++ names_of (form_fields f)) (names_of (fields_of ms)) → Fresh (names_of (fields_of before)) (names_of (form_fields f ++ fields_of ms))
+  form_fresh : (before : List Member) (m : Member) (ms : List Member) (k : MutexMark) (a : Access) → c.members ≡ before ++ m ∷ ms → (f : MemberForm) → m.form ≡ f → breaks_among (form_visits p h c (length before) k a f) ≡ [] → Fresh (names_of (fields_of before) ++ names_of (form_fields f)) (names_of (fields_of ms)) → Fresh (names_of (fields_of before)) (names_of (form_fields f ++ fields_of ms))
   form_fresh before m ms k a is (FieldsMember at b ds) form e r =
       let visits = rest_none (AtBase (plain_env p (class_around h)) at b) (fields_visits (plain_env p (class_around h)) c a b (length before) 0 ds) e in
       let names : names_of (declared_fields b ds) ≡ own_names ds = declared_is b ds in

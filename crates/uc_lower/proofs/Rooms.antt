@@ -13,7 +13,7 @@ use Rattle.uc_tree.specs.Cells.{classes_of}
 use Rattle.uc_tree.specs.Numbering.{Defined, is_event, is_mutex, routines_of}
 use Rattle.uc_tree.specs.Objects.{ClassField, Unwritten, has_execution, class_at, fields_of, unwritten_at, unwritten_by, unwritten_of, written_at}
 use Rattle.uc_resolve.specs.Resolve.{class_by, place_by}
-use Rattle.uc_rules.specs.declared.rules.Home.{Home}
+use Rattle.uc_rules.specs.declared.rules.OwnClass.{OwnClass}
 use Rattle.uc_rules.specs.Breaks.{breaks_among, breaks_of}
 use Rattle.uc_rules.specs.ProgramVisits.{items_visits, members_visits}
 use Rattle.uc_rules.specs.Scopes.{class_around, plain_env}
@@ -117,7 +117,7 @@ module _ (p : Program) (none : breaks_of p ≡ []) where
 
   fresh_fields : (i : ℕ) (c : Class) → class_at p i ≡ Some c → Fresh [] (names_of (fields_of c.members))
   fresh_fields i c e =
-      let h : Home = record { class = 0 + i; kind = c.kind } in
+      let h : OwnClass = record { class = 0 + i; kind = c.kind } in
       let class = class_none p p.items 0 0 i c quiet e in
       all_fresh p h c [] c.members refl (rest_none (AtClass (plain_env p (class_around h)) c (0 + i)) (members_visits p h c 0 c.members) class)
 

@@ -7,20 +7,20 @@ use Rattle.uc_tree.specs.declared.limits.TheConstants.{CLASS_CELLS, CLASS_CONDIT
 use Rattle.uc_tree.specs.declared.pos.Pos.{Pos}
 use Rattle.uc_tree.specs.declared.kinds.Access.{Access}
 use Rattle.uc_tree.specs.declared.kinds.Base.{Base}
-use Rattle.uc_tree.specs.declared.kinds.Mark.{Mark}
-use Rattle.uc_tree.specs.declared.rows.Held.{Held}
-use Rattle.uc_tree.specs.declared.rows.Object.{Object}
+use Rattle.uc_tree.specs.declared.kinds.MutexMark.{MutexMark}
+use Rattle.uc_tree.specs.declared.rows.FieldLayout.{FieldLayout}
+use Rattle.uc_tree.specs.declared.rows.FieldClass.{FieldClass}
 use Rattle.uc_tree.specs.Constants.{constants_of}
 use Rattle.uc_tree.specs.Statements.{Declarator}
 use Rattle.uc_tree.specs.Programs.{MemberForm, FieldsMember, RoutineMember, ProtoMember, Member, Class, Item, ClassItem, RoutineItem, ConstItem, ProtoItem, ForwardItem, UsingItem, Program}
-use Rattle.uc_tree.specs.Rows.{Row, row_at, row_cells, leads, object_leads, reaches, has_itself, cells_within}
+use Rattle.uc_tree.specs.Rows.{ClassLayout, row_at, row_cells, leads, object_leads, reaches, has_itself, cells_within}
 use Rattle.uc_tree.specs.Cells.{classes_of, class_cells, held_by, member_held, members_held, row_of, rows_of, seen_in}
 use Rattle.uc_tree.specs.Numbering.{condition_count}
 use Rattle.uc_layout.proofs.DepthsLemmas.{row_past, cells_next}
 use Rattle.uc_layout.proofs.ContainmentProgressLemmas.{further}
 use Rattle.uc_implicit.proofs.Deep.{count_rows}
 use Rattle.uc_rules.specs.declared.rule.Rule.{Rule}
-use Rattle.uc_rules.specs.declared.rules.Home.{Home}
+use Rattle.uc_rules.specs.declared.rules.OwnClass.{OwnClass}
 use Rattle.uc_rules.specs.Asked.{unless}
 use Rattle.uc_rules.specs.Breaks.{breaks_at, breaks_among, breaks_of}
 use Rattle.uc_rules.specs.ClassBreaks.{has_room, field_object, leads_back}
@@ -93,7 +93,7 @@ module _ (p : Program) where
   not_false true e = cc
   not_false false e = refl
 
-  field_apart : (h : Home) (c : Class) (a : Access) (b : Base) (d : Declarator) (j i : ℕ) → breaks_at (AtField (plain_env p (class_around h)) c a b d (place_in j i)) ≡ [] → leads_back p h.class b d ≡ false
+  field_apart : (h : OwnClass) (c : Class) (a : Access) (b : Base) (d : Declarator) (j i : ℕ) → breaks_at (AtField (plain_env p (class_around h)) c a b d (place_in j i)) ≡ [] → leads_back p h.class b d ≡ false
   field_apart h c a b d j i e = not_false (leads_back p h.class b d) (holds (not (leads_back p h.class b d)) _ _ (no_left _ _ (no_right _ _ e)))
 
   or_quiet : (a b b' : Bool) → (b' ≡ true → b ≡ true) → (a || b) ≡ false → (a || b') ≡ false
@@ -104,7 +104,7 @@ module _ (p : Program) where
   or_none : (a b : Bool) → a ≡ false → b ≡ false → (a || b) ≡ false
   or_none a b e f = ap (λ x. x || b) e ∙ f
 
-  any_join : (P : Held → Bool) (xs ys : List Held) → list_any P xs ≡ false → list_any P ys ≡ false → list_any P (xs ++ ys) ≡ false
+  any_join : (P : FieldLayout → Bool) (xs ys : List FieldLayout) → list_any P xs ≡ false → list_any P ys ≡ false → list_any P (xs ++ ys) ≡ false
   any_join P [] ys e f = f
   any_join P (x ∷ xs) ys e f = or_none (P x) (list_any P (xs ++ ys)) (or_first (P x) (list_any P xs) e) (any_join P xs ys (or_second (P x) (list_any P xs) e) f)
     where
@@ -116,11 +116,11 @@ module _ (p : Program) where
       or_second true b e = cc
       or_second false b e = e
 
-  module _ (h : Home) (m : ℕ) (long : length (rows_of p) ≡ suc m) (c : Class) (named : List ℕ → Option ℤ) where
-    abbrev back : Held → Bool
+  module _ (h : OwnClass) (m : ℕ) (long : length (rows_of p) ≡ suc m) (c : Class) (named : List ℕ → Option ℤ) where
+    abbrev back : FieldLayout → Bool
     back = leads (reaches m (rows_of p) h.class) h.class
 
-    one_quiet : (o : Option Object) → object_leads (reaches (length (rows_of p)) (rows_of p) h.class) h.class o ≡ false → object_leads (reaches m (rows_of p) h.class) h.class o ≡ false
+    one_quiet : (o : Option FieldClass) → object_leads (reaches (length (rows_of p)) (rows_of p) h.class) h.class o ≡ false → object_leads (reaches m (rows_of p) h.class) h.class o ≡ false
     one_quiet None e = refl
     one_quiet (Some o) e =
         or_quiet (nat_eq o.class h.class) (reaches (length (rows_of p)) (rows_of p) h.class o.class) (reaches m (rows_of p) h.class o.class)
@@ -136,7 +136,7 @@ module _ (p : Program) where
         (one_quiet (field_object p b d) (field_apart h c a b d j i field))
         (fields_quiet a b j (i + 1) ds (among_right (maybe_visits env d.len ++ AtField env c a b d (place_in j i) ∷ []) (fields_visits env c a b j (i + 1) ds) e))
 
-    form_quiet : (j : ℕ) (k : Mark) (a : Access) (f : MemberForm) → breaks_among (form_visits p h c j k a f) ≡ [] → list_any back (member_held (classes_of p.items) named f) ≡ false
+    form_quiet : (j : ℕ) (k : MutexMark) (a : Access) (f : MemberForm) → breaks_among (form_visits p h c j k a f) ≡ [] → list_any back (member_held (classes_of p.items) named f) ≡ false
     form_quiet j k a (FieldsMember at b ds) e = fields_quiet a b j 0 ds (rest_none (AtBase (plain_env p (class_around h)) at b) (fields_visits (plain_env p (class_around h)) c a b j 0 ds) e)
     form_quiet j k a (RoutineMember r) e = refl
     form_quiet j k a (ProtoMember s) e = refl
@@ -150,7 +150,7 @@ module _ (p : Program) where
         (form_quiet j x.mark x.access x.form own)
         (members_quiet (j + 1) ms (among_right (mark ∷ form_visits p h c j x.mark x.access x.form) (members_visits p h c (j + 1) ms) e))
 
-  row_mapped : (f : Class → Row) (cs : List Class) (i : ℕ) (c : Class) → slice_get cs i ≡ Some c → row_at (map f cs) i ≡ f c
+  row_mapped : (f : Class → ClassLayout) (cs : List Class) (i : ℕ) (c : Class) → slice_get cs i ≡ Some c → row_at (map f cs) i ≡ f c
   row_mapped f [] i c e = cc
   row_mapped f (x ∷ xs) zero c e = let same : x ≡ c = cc in ap f same
   row_mapped f (x ∷ xs) (suc i) c e = row_mapped f xs i c e
@@ -174,7 +174,7 @@ module _ (p : Program) where
 
     apart_inside : (m i : ℕ) (c : Class) → length (rows_of p) ≡ suc m → slice_get (classes_of p.items) i ≡ Some c → has_itself (rows_of p) i ≡ false
     apart_inside m i c long e =
-        let h : Home = record { class = i; kind = c.kind } in
+        let h : OwnClass = record { class = i; kind = c.kind } in
         let named = seen_in (constants_of p.items) c in
         let members = rest_none (AtClass (plain_env p (class_around h)) c i) (members_visits p h c 0 c.members) (own_none i c e) in
         itself_by m i long (ap (λ r. list_any (leads (reaches m (rows_of p) i) i) r.held) (row_mapped (row_of (classes_of p.items) (constants_of p.items)) (classes_of p.items) i c e) ∙ members_quiet h m long c named 0 c.members members)
@@ -201,7 +201,7 @@ module _ (p : Program) where
     small_case i (inr past) = let l = count_rows p in let e : class_cells p i ≡ 0 = past_cells (length (rows_of p)) i (omega (arith, l, past)) in omega (arith, e)
     small_case i (inl inside) =
         let t = class_there (classes_of p.items) i inside in
-        let h : Home = record { class = i; kind = t.0.kind } in
+        let h : OwnClass = record { class = i; kind = t.0.kind } in
         let room = room_at (plain_env p (class_around h)) t.0 i (first_none (AtClass (plain_env p (class_around h)) t.0 i) (members_visits p h t.0 0 t.0.members) (own_none i t.0 t.1)) in
         leb-true (class_cells p i) CLASS_CELLS (and_parts (nat_le (class_cells p i) CLASS_CELLS) (nat_le (condition_count p i t.0) CLASS_CONDITIONS) room).0
 

@@ -4,8 +4,8 @@ use Rattle.std.specs.Prelude.{slice_get}
 use Rattle.uc_tree.specs.declared.kinds.Base.{Base}
 use Rattle.uc_tree.specs.declared.kinds.Base.TheVariants as base
 use Rattle.uc_tree.specs.declared.kinds.Role.{Role}
-use Rattle.uc_tree.specs.declared.rows.Held.{Held}
-use Rattle.uc_tree.specs.declared.rows.Object.{Object}
+use Rattle.uc_tree.specs.declared.rows.FieldLayout.{FieldLayout}
+use Rattle.uc_tree.specs.declared.rows.FieldClass.{FieldClass}
 use Rattle.uc_tree.specs.Programs.{Class, Constant, Program}
 use Rattle.uc_tree.specs.Rows.{row_at}
 use Rattle.uc_tree.specs.Cells.{classes_of, held_by, object_of, row_of, rows_of, seen_in}
@@ -32,11 +32,11 @@ written_behind p i number h = record { each = λ c place f j there is object wan
 -- the class of a field is among what its class holds
 
 record Named (p : Program) (f : ClassField) (j : ℕ) : Type 0 where
-  object : Object
+  object : FieldClass
   is : (if f.declarator.by_ref then None else object_of (classes_of p.items) f.base) ≡ Some object
   class : object.class ≡ j
 
-made_case : (o : Object) (b : Bool) (j : ℕ) → class_made (Some (if b then APlain o.class else AMutex o.class)) ≡ Some j → o.class ≡ j
+made_case : (o : FieldClass) (b : Bool) (j : ℕ) → class_made (Some (if b then APlain o.class else AMutex o.class)) ≡ Some j → o.class ≡ j
 made_case o true j e = cc
 made_case o false j e = cc
 
@@ -50,7 +50,7 @@ no_object base.Cluster j e = cc
 no_object base.Processor j e = cc
 no_object (base.Named name) j e = cc
 
-object_case : (p : Program) (f : ClassField) (j : ℕ) (x : Option Object) → x ≡ object_of (classes_of p.items) f.base → f.declarator.by_ref ≡ false → class_made (making_by x f.base) ≡ Some j → Named p f j
+object_case : (p : Program) (f : ClassField) (j : ℕ) (x : Option FieldClass) → x ≡ object_of (classes_of p.items) f.base → f.declarator.by_ref ≡ false → class_made (making_by x f.base) ≡ Some j → Named p f j
 object_case p f j None e r h = absurd (no_object f.base j h)
 object_case p f j (Some o) e r h = record { object = o; is = ap (λ (b : Bool). if b then None else object_of (classes_of p.items) f.base) r ∙ sym e; class = made_case o o.plain j h }
 
@@ -61,7 +61,7 @@ named_case p f j false r h = object_case p f j (object_of (classes_of p.items) f
 named : (p : Program) (f : ClassField) (j : ℕ) → field_class p f ≡ Some j → Named p f j
 named p f j h = named_case p f j f.declarator.by_ref refl h
 
-holds_at : (cs : List Class) (known : List ℕ → Option ℤ) (fs : List ClassField) (place : ℕ) (f : ClassField) (o : Object) → slice_get fs place ≡ Some f → (if f.declarator.by_ref then None else object_of cs f.base) ≡ Some o → Holds (map (λ (g : ClassField). held_by cs known g.base g.declarator) fs) o
+holds_at : (cs : List Class) (known : List ℕ → Option ℤ) (fs : List ClassField) (place : ℕ) (f : ClassField) (o : FieldClass) → slice_get fs place ≡ Some f → (if f.declarator.by_ref then None else object_of cs f.base) ≡ Some o → Holds (map (λ (g : ClassField). held_by cs known g.base g.declarator) fs) o
 holds_at cs known [] place f o e h = cc
 holds_at cs known (x ∷ xs) zero f o e h =
     let is : x ≡ f = cc in
@@ -77,7 +77,7 @@ within [] i c e = cc
 within (x ∷ xs) zero c e = omega arith
 within (x ∷ xs) (suc i) c e = let r = within xs i c e in omega arith
 
-falls_by : (p : Program) (fit : FitClasses p) (i : ℕ) (o : Object) (n : ℕ) → length (rows_of p) ≡ n → i < length (rows_of p) → Holds (row_at (rows_of p) i).held o → class_height p o.class < class_height p i
+falls_by : (p : Program) (fit : FitClasses p) (i : ℕ) (o : FieldClass) (n : ℕ) → length (rows_of p) ≡ n → i < length (rows_of p) → Holds (row_at (rows_of p) i).held o → class_height p o.class < class_height p i
 falls_by p fit i o zero e h g = absurd (omega arith)
 falls_by p fit i o (suc m) e h g =
     subst (λ (n : ℕ). height_within n (rows_of p) o.class < height_within n (rows_of p) i) (sym e) (heights_fall (rows_of p) fit.apart m i o e h g)
@@ -92,7 +92,7 @@ module _ (p : Program) (fit : FitClasses p) (u : Unwritten) (number : ℕ) (h : 
   falls : (c : Class) (place : ℕ) (f : ClassField) (j : ℕ) → class_at p u.class ≡ Some c → slice_get (fields_of c.members) place ≡ Some f → field_class p f ≡ Some j → class_height p j < class_height p u.class
   falls c place f j there is object =
       let n = named p f j object in
-      let held : Holds (row_at (rows_of p) u.class).held n.object = subst (λ (hs : List Held). Holds hs n.object) (sym (held_is p fit u.class c there)) (holds_at (classes_of p.items) (seen_in (constants_of p.items) c) (fields_of c.members) place f n.object is n.is) in
+      let held : Holds (row_at (rows_of p) u.class).held n.object = subst (λ (hs : List FieldLayout). Holds hs n.object) (sym (held_is p fit u.class c there)) (holds_at (classes_of p.items) (seen_in (constants_of p.items) c) (fields_of c.members) place f n.object is n.is) in
       let inside = within (classes_of p.items) u.class c there in
       let same = long in
       subst (λ (k : ℕ). class_height p k < class_height p u.class) n.class (falls_by p fit u.class n.object (length (rows_of p)) refl (omega arith) held)

@@ -1,7 +1,7 @@
 -- One lemma for each piece of code that lowering adds.
 use Rattle.std.proofs.Common.{◌≡◌, ℕ, ℤ, ◌+◌, ◌≤◌, pos, Bool, true, false, List, Option, Some, None, length, refl, ap, sym, subst, ◌∙◌, arith}
 use Rattle.std.specs.Prelude.{◌||◌, if◌then◌else◌}
-use Rattle.uc_tree.specs.declared.kinds.Known.{Known}
+use Rattle.uc_tree.specs.declared.kinds.LocalVariable.{LocalVariable}
 use Rattle.uc_tree.specs.declared.ops.StepOp.{StepOp}
 use Rattle.uc_tree.specs.declared.ops.StepOp.TheVariants as step
 use Rattle.uc_tree.specs.Programs.{Constant, Program}
@@ -80,18 +80,18 @@ as_value {p} told t m e i u = subst (λ (x : Meaning). Tells p x (record { expr 
 -- names and the cells of an element
 
 -- what a name in scope stands for, by whether it is a reference
-abbrev meant_by : Bool → Known → Meant
+abbrev meant_by : Bool → LocalVariable → Meant
 meant_by b k = if b then record { expr = Get k.cell; ty = k.ty; standing = AtPlace } else record { expr = Var k.cell; ty = k.ty; standing = AtVariable k.cell }
 
-told_by : {p : Program} → (k : Known) (v : Meaning) (x : Told) (b : Bool) → ((e : Expr) → Tells p v (value_meant e (scalar_type k.ty.base))) → x ≡ standing_by false b k.cell → Tells p (record v { elements = k.ty.len; standing = x }) (meant_by b k)
+told_by : {p : Program} → (k : LocalVariable) (v : Meaning) (x : Told) (b : Bool) → ((e : Expr) → Tells p v (value_meant e (scalar_type k.ty.base))) → x ≡ standing_by false b k.cell → Tells p (record v { elements = k.ty.len; standing = x }) (meant_by b k)
 told_by k v x true h e = let u = h (Literal (pos 0)) in record { shape = u.shape; class = u.class; numbered = u.numbered; event = u.event; len = refl; standing = subst (λ (y : Told). StandsAs y AtPlace) (sym e) refl }
 told_by k v x false h e = let u = h (Literal (pos 0)) in record { shape = u.shape; class = u.class; numbered = u.numbered; event = u.event; len = refl; standing = subst (λ (y : Told). StandsAs y (AtVariable k.cell)) (sym e) refl }
 
-told_held : {p : Program} → (k : Known) (v : Meaning) (x : Told) (n : Bool) → ((e : Expr) → Tells p v (value_meant e (scalar_type k.ty.base))) → x ≡ standing_by n k.ty.by_ref k.cell → Tells p (record v { elements = k.ty.len; standing = x }) (known_by n k)
+told_held : {p : Program} → (k : LocalVariable) (v : Meaning) (x : Told) (n : Bool) → ((e : Expr) → Tells p v (value_meant e (scalar_type k.ty.base))) → x ≡ standing_by n k.ty.by_ref k.cell → Tells p (record v { elements = k.ty.len; standing = x }) (known_by n k)
 told_held k v x true h e = let u = h (Literal (pos 0)) in record { shape = u.shape; class = u.class; numbered = u.numbered; event = u.event; len = refl; standing = subst (λ (y : Told). StandsAs y AsNumber) (sym e) refl }
 told_held k v x false h e = told_by k v x k.ty.by_ref h e
 
-pub told_known : {p : Program} → (k : Known) (v : Meaning) (x : Told) → ((e : Expr) → Tells p v (value_meant e (scalar_type k.ty.base))) → x ≡ standing_by (has_number p k.ty) k.ty.by_ref k.cell → Tells p (record v { elements = k.ty.len; standing = x }) (known_meant p k)
+pub told_known : {p : Program} → (k : LocalVariable) (v : Meaning) (x : Told) → ((e : Expr) → Tells p v (value_meant e (scalar_type k.ty.base))) → x ≡ standing_by (has_number p k.ty) k.ty.by_ref k.cell → Tells p (record v { elements = k.ty.len; standing = x }) (known_meant p k)
 told_known {p} k v x h e = told_held k v x (has_number p k.ty) h e
 
 -- the variable that is told of
@@ -130,8 +130,8 @@ step_tells : {p : Program} → (o : StepOp) (told t : Meaning) (m : Meant) → t
 step_tells step.Increment told t m i u = as_value told t m _ i u
 step_tells step.Decrement told t m i u = as_value told t m _ i u
 
-pub name_told : (p : Program) (class : Option ℕ) (names : List Known) (name : List ℕ) (v : Variable) → IsVariable p names name v → Tells p v.told (name_meant p class name (known_named names name))
-name_told p class names name v n = subst (λ (o : Option Known). Tells p v.told (name_meant p class name o)) (sym n.is) n.tells
+pub name_told : (p : Program) (class : Option ℕ) (names : List LocalVariable) (name : List ℕ) (v : Variable) → IsVariable p names name v → Tells p v.told (name_meant p class name (known_named names name))
+name_told p class names name v n = subst (λ (o : Option LocalVariable). Tells p v.told (name_meant p class name o)) (sym n.is) n.tells
 
 -- under marks
 module _ (ms : List Mark) where
@@ -149,17 +149,17 @@ module _ (ms : List Mark) where
       adds_as (adds_more l (adds_both (begin_stable line) h1 (adds_both (expr_stable line ms e) h2 h3)))
       (λ code a z h. regroup (One code op.Duplicate line) (One code op.Load line) (Both (ExprAt code line ms e) (EndCode line o s code)) a z h)
 
-  placed_code : (line : ℕ) (k : Known) (b : Bool) (old new : Draft) → Adds 1 (OpCode line (place_op_of b k.cell)) old new → Adds 1 (ExprCode line ms (meant_by b k).expr) old new
+  placed_code : (line : ℕ) (k : LocalVariable) (b : Bool) (old new : Draft) → Adds 1 (OpCode line (place_op_of b k.cell)) old new → Adds 1 (ExprCode line ms (meant_by b k).expr) old new
   placed_code line k true old new h = h
   placed_code line k false old new h = h
 
-  held_code : (line : ℕ) (k : Known) (n : Bool) (old new : Draft) → Adds 1 (OpCode line (place_op_of (n || k.ty.by_ref) k.cell)) old new → Adds 1 (ExprCode line ms (known_by n k).expr) old new
+  held_code : (line : ℕ) (k : LocalVariable) (n : Bool) (old new : Draft) → Adds 1 (OpCode line (place_op_of (n || k.ty.by_ref) k.cell)) old new → Adds 1 (ExprCode line ms (known_by n k).expr) old new
   held_code line k true old new h = h
   held_code line k false old new h = placed_code line k k.ty.by_ref old new h
 
-  pub name_known : (p : Program) (class : Option ℕ) (line : ℕ) (names : List Known) (name : List ℕ) (v : Variable) (o : Op) (old new : Draft) → IsVariable p names name v → o ≡ place_op_of v.held v.cell → Adds 1 (OpCode line o) old new → Adds 1 (ExprCode line ms (name_meant p class name (known_named names name)).expr) old new
+  pub name_known : (p : Program) (class : Option ℕ) (line : ℕ) (names : List LocalVariable) (name : List ℕ) (v : Variable) (o : Op) (old new : Draft) → IsVariable p names name v → o ≡ place_op_of v.held v.cell → Adds 1 (OpCode line o) old new → Adds 1 (ExprCode line ms (name_meant p class name (known_named names name)).expr) old new
   name_known p class line names name v o old new n i h =
-      subst (λ (x : Option Known). Adds 1 (ExprCode line ms (name_meant p class name x).expr) old new) (sym n.is) (
+      subst (λ (x : Option LocalVariable). Adds 1 (ExprCode line ms (name_meant p class name x).expr) old new) (sym n.is) (
       held_code line n.known (has_number p n.known.ty) old new (
       subst (λ (b : Bool). Adds 1 (OpCode line (place_op_of b n.known.cell)) old new) (sym n.held) (
       subst (λ (k : ℕ). Adds 1 (OpCode line (place_op_of v.held k)) old new) (sym n.cell) (

@@ -6,7 +6,7 @@ use Rattle.std.proofs.lemmas.List.{append_assoc}
 use Rattle.uc_tree.specs.declared.limits.TheConstants.{CLASS_CELLS, LAST_CONDITION}
 use Rattle.uc_tree.specs.declared.kinds.Base.{Base}
 use Rattle.uc_tree.specs.declared.kinds.Base.TheVariants as base
-use Rattle.uc_tree.specs.declared.rows.Held.{Held}
+use Rattle.uc_tree.specs.declared.rows.FieldLayout.{FieldLayout}
 use Rattle.uc_tree.specs.Capped.{capped}
 use Rattle.uc_tree.specs.Constants.{constants_of, elements}
 use Rattle.uc_tree.specs.Names.{same_name}
@@ -166,10 +166,10 @@ module _ (p : Program) (c : Class) (i : ℕ) where
 
 -- what is counted of fields
 
-abbrev pub held_of : List Class → (List ℕ → Option ℤ) → ClassField → Held
+abbrev pub held_of : List Class → (List ℕ → Option ℤ) → ClassField → FieldLayout
 held_of cs named f = held_by cs named f.base f.declarator
 
-pub counted_at : (cs : List Class) (named : List ℕ → Option ℤ) (held : List Held) (place count last : ℕ) (fs : List ClassField) (vs : List Field) → AreCounted held place count fs vs last
+pub counted_at : (cs : List Class) (named : List ℕ → Option ℤ) (held : List FieldLayout) (place count last : ℕ) (fs : List ClassField) (vs : List Field) → AreCounted held place count fs vs last
     → ((k : ℕ) (f : ClassField) → slice_get fs k ≡ Some f → get_or held (place + k) one_scalar ≡ held_of cs named f)
     → ((j : ℕ) → j ≤ length fs → count + conditions_before named fs j ≤ CLASS_CELLS)
     → (k : ℕ) (f : ClassField) (v : Field) → slice_get fs k ≡ Some f → slice_get vs k ≡ Some v → v.condition ≡ condition_by f.base (count + conditions_before named fs k)
@@ -182,7 +182,7 @@ counted_at cs named held place count last fs vs (OneCounted q n l x y xs ys h mo
 counted_at cs named held place count last fs vs (OneCounted q n l x y xs ys h more) is few (suc k) f v e g =
     let one = conditions_by x.base (get_or held q one_scalar).count in
     let d : q ≡ q + 0 = omega arith in
-    let here : one ≡ conditions_by x.base (elements named x.declarator) = ap (λ (w : Held). conditions_by x.base w.count) (ap (λ m. get_or held m one_scalar) d ∙ is 0 x refl) in
+    let here : one ≡ conditions_by x.base (elements named x.declarator) = ap (λ (w : FieldLayout). conditions_by x.base w.count) (ap (λ m. get_or held m one_scalar) d ∙ is 0 x refl) in
     let low = few 1 (omega arith) in
     let same : capped (n + one) ≡ n + conditions_by x.base (elements named x.declarator) = omega (arith, here, low) in
     let r = counted_at cs named held (q + 1) (capped (n + one)) l xs ys more (λ j w u. let s : q + 1 + j ≡ q + suc j = omega arith in ap (λ m. get_or held m one_scalar) s ∙ is (suc j) w u) (λ j m. let w = few (suc j) (omega arith) in omega (arith, same, w)) k f v e g in

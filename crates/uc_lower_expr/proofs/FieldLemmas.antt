@@ -5,14 +5,14 @@ use Rattle.uc_tree.specs.declared.limits.TheConstants.{CLASS_CELLS}
 use Rattle.uc_tree.specs.declared.kinds.Base.{Base}
 use Rattle.uc_tree.specs.declared.kinds.Ty.{Ty}
 use Rattle.uc_tree.specs.declared.kinds.Base.TheVariants as base
-use Rattle.uc_tree.specs.declared.rows.Object.{Object}
-use Rattle.uc_tree.specs.declared.rows.Held.{Held}
+use Rattle.uc_tree.specs.declared.rows.FieldClass.{FieldClass}
+use Rattle.uc_tree.specs.declared.rows.FieldLayout.{FieldLayout}
 use Rattle.uc_tree.specs.Capped.{capped}
 use Rattle.uc_tree.specs.Constants.{constants_of, length_in}
 use Rattle.uc_tree.specs.Expressions.{Expr}
 use Rattle.uc_tree.specs.Statements.{Declarator}
 use Rattle.uc_tree.specs.Programs.{MemberForm, FieldsMember, RoutineMember, ProtoMember, Member, Class, Constant, Program}
-use Rattle.uc_tree.specs.Rows.{Row, row_at, has_itself, element_cells, held_cells, all_held_cells, row_cells, cells_within}
+use Rattle.uc_tree.specs.Rows.{ClassLayout, row_at, has_itself, element_cells, held_cells, all_held_cells, row_cells, cells_within}
 use Rattle.uc_tree.specs.Cells.{classes_of, class_cells, object_of, held_by, member_held, members_held, row_of, rows_of, leading_cells, seen_in}
 use Rattle.uc_tree.specs.Source.{Shape, Binding, Last, shape_cells, field_cells}
 use Rattle.uc_tree.specs.Objects.{class_at, ClassField, declared_fields, form_fields, fields_of, shape_of, kept_shape, arrayed, field_shape, fields_shape, behind_bindings, form_shape, shape_within, class_shape, making, class_made, is_numbered, event_place}
@@ -64,7 +64,7 @@ module _ (cs : List Class) (named : List ℕ → Option ℤ) where
     plain_cells true j = same j
     plain_cells false j = refl
 
-    kept_cells : (o : Option Object) (b : Base) → shape_cells (kept_shape shapes o b) ≡ element_cells cells o
+    kept_cells : (o : Option FieldClass) (b : Base) → shape_cells (kept_shape shapes o b) ≡ element_cells cells o
     kept_cells None b = base_cells b
     kept_cells (Some o) b = plain_cells o.plain o.class
 
@@ -77,12 +77,12 @@ module _ (cs : List Class) (named : List ℕ → Option ℤ) where
     shape_held f = one_cells f.declarator.by_ref f.declarator.len f.base
 
 -- the cells of the first so many of these
-abbrev first_cells : (ℕ → ℕ) → List Held → ℕ → ℕ
+abbrev first_cells : (ℕ → ℕ) → List FieldLayout → ℕ → ℕ
 first_cells cells [] k = 0
 first_cells cells (h ∷ hs) zero = 0
 first_cells cells (h ∷ hs) (suc k) = held_cells cells h + first_cells cells hs k
 
-first_few : (cells : ℕ → ℕ) (hs : List Held) (k : ℕ) → first_cells cells hs k ≤ all_held_cells cells hs
+first_few : (cells : ℕ → ℕ) (hs : List FieldLayout) (k : ℕ) → first_cells cells hs k ≤ all_held_cells cells hs
 first_few cells [] k = omega arith
 first_few cells (h ∷ hs) zero = omega arith
 first_few cells (h ∷ hs) (suc k) = let r = first_few cells hs k in omega arith
@@ -106,14 +106,14 @@ before_fields shapes cells same cs named (f ∷ fs) (suc k) =
 
 -- the same by other cells
 
-one_same : (f g : ℕ → ℕ) (n : ℕ) (x : Option Object) → ((o : Object) → x ≡ Some o → f o.class ≡ g o.class) → n * element_cells f x ≡ n * element_cells g x
+one_same : (f g : ℕ → ℕ) (n : ℕ) (x : Option FieldClass) → ((o : FieldClass) → x ≡ Some o → f o.class ≡ g o.class) → n * element_cells f x ≡ n * element_cells g x
 one_same f g n None w = refl
 one_same f g n (Some o) w = ap (λ k. n * k) (elim o.plain as (λ b. (if b then f o.class else 1) ≡ (if b then g o.class else 1)) [
   | true ↦ w o refl
   | false ↦ refl
 ])
 
-first_same : (f g : ℕ → ℕ) (hs : List Held) (k : ℕ) → ((o : Object) → Holds hs o → f o.class ≡ g o.class) → first_cells f hs k ≡ first_cells g hs k
+first_same : (f g : ℕ → ℕ) (hs : List FieldLayout) (k : ℕ) → ((o : FieldClass) → Holds hs o → f o.class ≡ g o.class) → first_cells f hs k ≡ first_cells g hs k
 first_same f g [] k w = refl
 first_same f g (h ∷ hs) zero w = refl
 first_same f g (h ∷ hs) (suc k) w =
@@ -187,7 +187,7 @@ module _ (p : Program) (fit : FitClasses p) (i : ℕ) (c : Class) (there : class
   row_is = row_here (classes_of p.items) (classes_of p.items) (constants_of p.items) i c there
 
   pub held_is : (row_at (rows_of p) i).held ≡ map (held_of (classes_of p.items) (seen_in (constants_of p.items) c)) (fields_of c.members)
-  held_is = ap (λ (r : Row). r.held) row_is ∙ fields_held (classes_of p.items) (seen_in (constants_of p.items) c) c.members
+  held_is = ap (λ (r : ClassLayout). r.held) row_is ∙ fields_held (classes_of p.items) (seen_in (constants_of p.items) c) c.members
 
   -- the shape of the class, one class less deep
   form_by : (m : ℕ) (b : Bool) (o : Option Class) → b ≡ false → o ≡ Some c → (if b then Last else form_shape (shape_within m p) p o) ≡ form_shape (shape_within m p) p (Some c)
@@ -226,9 +226,9 @@ module _ (p : Program) (fit : FitClasses p) (i : ℕ) (c : Class) (there : class
       ∙ row_all m e
     where
       leading_is : (row_at (rows_of p) i).leading ≡ leading_cells c.kind
-      leading_is = ap (λ (r : Row). r.leading) row_is
+      leading_is = ap (λ (r : ClassLayout). r.leading) row_is
 
-      all_few : (f g : ℕ → ℕ) (hs : List Held) → ((o : Object) → Holds hs o → f o.class ≡ g o.class) → all_held_cells f hs ≡ all_held_cells g hs
+      all_few : (f g : ℕ → ℕ) (hs : List FieldLayout) → ((o : FieldClass) → Holds hs o → f o.class ≡ g o.class) → all_held_cells f hs ≡ all_held_cells g hs
       all_few f g [] w = refl
       all_few f g (h ∷ hs) w =
           let a : held_cells f h ≡ held_cells g h = one_same f g h.count h.object (λ o x. w o (First h hs o x)) in
@@ -251,15 +251,15 @@ module _ (p : Program) (fit : FitClasses p) (i : ℕ) (c : Class) (there : class
 -- what is noted of fields
 
 -- the cells of so many fields from a place on
-abbrev cells_from : (ℕ → ℕ) → List Held → ℕ → ℕ → ℕ
+abbrev cells_from : (ℕ → ℕ) → List FieldLayout → ℕ → ℕ → ℕ
 cells_from cells hs place zero = 0
 cells_from cells hs place (suc k) = held_cells cells (get_or hs place one_scalar) + cells_from cells hs (place + 1) k
 
-from_later : (cells : ℕ → ℕ) (h : Held) (hs : List Held) (place k : ℕ) → cells_from cells (h ∷ hs) (suc place) k ≡ cells_from cells hs place k
+from_later : (cells : ℕ → ℕ) (h : FieldLayout) (hs : List FieldLayout) (place k : ℕ) → cells_from cells (h ∷ hs) (suc place) k ≡ cells_from cells hs place k
 from_later cells h hs place zero = refl
 from_later cells h hs place (suc k) = let r = from_later cells h hs (place + 1) k in let e : suc place + 1 ≡ suc (place + 1) = omega arith in ap (λ n. held_cells cells (get_or hs place one_scalar) + cells_from cells (h ∷ hs) n k) e ∙ ap (λ n. held_cells cells (get_or hs place one_scalar) + n) r
 
-from_first : (cells : ℕ → ℕ) (hs : List Held) (k : ℕ) → k ≤ length hs → cells_from cells hs 0 k ≡ first_cells cells hs k
+from_first : (cells : ℕ → ℕ) (hs : List FieldLayout) (k : ℕ) → k ≤ length hs → cells_from cells hs 0 k ≡ first_cells cells hs k
 from_first cells [] zero l = refl
 from_first cells [] (suc k) l = absurd (omega arith)
 from_first cells (h ∷ hs) zero l = refl
@@ -268,7 +268,7 @@ from_first cells (h ∷ hs) (suc k) l =
     let b = from_first cells hs k (omega arith) in
     omega (arith, a, b)
 
-module _ (p : Program) (held : List Held) where
+module _ (p : Program) (held : List FieldLayout) where
   noted_at : (place cells last : ℕ) (fs : List ClassField) (vs : List Field) → AreNoted p held place cells fs vs last → ((j : ℕ) → j ≤ length fs → cells + cells_from (class_cells p) held place j ≤ CLASS_CELLS) → (k : ℕ) (f : ClassField) (v : Field) → slice_get fs k ≡ Some f → slice_get vs k ≡ Some v → IsNoted p (cells + cells_from (class_cells p) held place k) (get_or held (place + k) one_scalar) f v
   noted_at place cells last fs vs (NoMore q n) few k f v e g = cc
   noted_at place cells last fs vs (OneMore q n l x y xs ys h more) few zero f v e g =
@@ -290,7 +290,7 @@ module _ (p : Program) (held : List Held) where
   noted_long place cells last fs vs (NoMore q n) = refl
   noted_long place cells last fs vs (OneMore q n l x y xs ys h more) = ap suc (noted_long (q + 1) _ l xs ys more)
 
-get_map : {A : Type 0} (f : A → Held) (xs : List A) (k : ℕ) (x : A) → slice_get xs k ≡ Some x → get_or (map f xs) k one_scalar ≡ f x
+get_map : {A : Type 0} (f : A → FieldLayout) (xs : List A) (k : ℕ) (x : A) → slice_get xs k ≡ Some x → get_or (map f xs) k one_scalar ≡ f x
 get_map f [] k x e = cc
 get_map f (y ∷ ys) zero x e = let is : y ≡ x = cc in ap f is
 get_map f (y ∷ ys) (suc k) x e = get_map f ys k x e
@@ -328,7 +328,7 @@ module _ (p : Program) (fit : FitClasses p) (i : ℕ) (c : Class) (there : class
       let here : get_or hs k one_scalar ≡ held_of cs named f = ap (λ xs. get_or xs k one_scalar) (held_is p fit i c there) ∙ get_map (held_of cs named) fields k f e in
       let at : 0 + k ≡ k = omega arith in
       let number : has_number p (field_type p c f) ≡ v.number = number_is named f.declarator (is_numbered (making p f.base)) f.declarator.len ∙ ap (is_number f.declarator.len) n.numbered ∙ sym n.number in
-      let len : v.told.elements ≡ field_length named f.declarator f.declarator.len = n.len ∙ ap (λ (h : Held). length_by f.declarator.len h.count) (ap (λ x. get_or hs x one_scalar) at ∙ here) ∙ length_is f f.declarator.len in
+      let len : v.told.elements ≡ field_length named f.declarator f.declarator.len = n.len ∙ ap (λ (h : FieldLayout). length_by f.declarator.len h.count) (ap (λ x. get_or hs x one_scalar) at ∙ here) ∙ length_is f f.declarator.len in
       record {
         made = n.made;
         by_number = number;

@@ -10,7 +10,7 @@ use Rattle.uc_tree.specs.declared.kinds.Kind.{Kind}
 use Rattle.uc_tree.specs.declared.kinds.Kind.TheVariants as kind
 use Rattle.uc_tree.specs.declared.kinds.Role.{Role}
 use Rattle.uc_tree.specs.declared.kinds.Role.TheVariants as role
-use Rattle.uc_tree.specs.declared.rows.Object.{Object}
+use Rattle.uc_tree.specs.declared.rows.FieldClass.{FieldClass}
 use Rattle.uc_tree.specs.Names.{same_name}
 use Rattle.uc_tree.specs.Programs.{Class, Program}
 use Rattle.uc_tree.specs.Cells.{classes_of, class_cells, object_of_kind, object_named, object_of, rows_of}
@@ -69,7 +69,7 @@ kind_class i kind.Cormonitor name j e = cc
 kind_class i kind.Task name j e = cc
 kind_class i kind.Event name j e = cc
 
-named_case : (i j m : ℕ) (k : Kind) (name : List ℕ) (b : Bool) (o : Option Object) → (class_made (making_by o (base.Named name)) ≡ Some j → j < i + 1 + m) → class_made (making_by (if b then object_of_kind i k else o) (base.Named name)) ≡ Some j → j < i + suc m
+named_case : (i j m : ℕ) (k : Kind) (name : List ℕ) (b : Bool) (o : Option FieldClass) → (class_made (making_by o (base.Named name)) ≡ Some j → j < i + 1 + m) → class_made (making_by (if b then object_of_kind i k else o) (base.Named name)) ≡ Some j → j < i + suc m
 named_case i j m k name true o r h = let w = kind_class i k name j h in omega (arith, w)
 named_case i j m k name false o r h = let w = r h in omega (arith, w)
 
@@ -134,11 +134,11 @@ module _ (p : Program) where
   mutex_size i true n = cc
   mutex_size i false n = refl
 
-  none_by : (o : Option Object) (b : Base) → class_made (making_by o b) ≡ None → shape_cells (kept_shape (class_shape p) o b) ≡ 1
+  none_by : (o : Option FieldClass) (b : Base) → class_made (making_by o b) ≡ None → shape_cells (kept_shape (class_shape p) o b) ≡ 1
   none_by None b e = base_one b
   none_by (Some o) b e = plain_none o.class o.plain e
 
-  number_by : (o : Option Object) (b : Base) → is_numbered (making_by o b) ≡ true → shape_cells (kept_shape (class_shape p) o b) ≡ 1
+  number_by : (o : Option FieldClass) (b : Base) → is_numbered (making_by o b) ≡ true → shape_cells (kept_shape (class_shape p) o b) ≡ 1
   number_by None b n = base_one b
   number_by (Some o) b n = mutex_size o.class o.plain n
 
@@ -156,7 +156,7 @@ module _ (p : Program) (fit : FitClasses p) where
   plain_size i j true n e = let is : i ≡ j = cc in class_size i ∙ ap (class_cells p) is
   plain_size i j false n e = cc
 
-  class_by : (o : Option Object) (b : Base) (j : ℕ) → is_numbered (making_by o b) ≡ false → class_made (making_by o b) ≡ Some j → shape_cells (kept_shape (class_shape p) o b) ≡ class_cells p j
+  class_by : (o : Option FieldClass) (b : Base) (j : ℕ) → is_numbered (making_by o b) ≡ false → class_made (making_by o b) ≡ Some j → shape_cells (kept_shape (class_shape p) o b) ≡ class_cells p j
   class_by None b j n e = absurd (none_made b j e)
   class_by (Some o) b j n e = plain_size o.class j o.plain n e
 

@@ -5,7 +5,7 @@ use Rattle.uc_tree.specs.declared.kinds.Base.{Base}
 use Rattle.uc_tree.specs.declared.kinds.Base.TheVariants as base
 use Rattle.uc_tree.specs.declared.kinds.Kind.{Kind}
 use Rattle.uc_tree.specs.declared.kinds.Kind.TheVariants as kind
-use Rattle.uc_tree.specs.declared.rows.Object.{Object}
+use Rattle.uc_tree.specs.declared.rows.FieldClass.{FieldClass}
 use Rattle.uc_tree.specs.Names.{same_name}
 use Rattle.uc_tree.specs.Programs.{Class, Program}
 use Rattle.uc_tree.specs.Cells.{classes_of, object_named, object_of_kind}
@@ -27,7 +27,7 @@ kind_makes mutex i kind.Cormonitor name h = ap (λ (b : Bool). Some (making_by i
 kind_makes mutex i kind.Task name h = ap (λ (b : Bool). Some (making_by i b)) (sym h)
 kind_makes mutex i kind.Event name h = refl
 
-named_case : (mutex : ℕ → Bool) (i : ℕ) (k : Kind) (name : List ℕ) (b : Bool) (o : Option Object) → mutex i ≡ is_mutex k → made_by o (base.Named name) ≡ option_map (making_at mutex) (class_made (made_by o (base.Named name)))
+named_case : (mutex : ℕ → Bool) (i : ℕ) (k : Kind) (name : List ℕ) (b : Bool) (o : Option FieldClass) → mutex i ≡ is_mutex k → made_by o (base.Named name) ≡ option_map (making_at mutex) (class_made (made_by o (base.Named name)))
     → made_by (if b then object_of_kind i k else o) (base.Named name) ≡ option_map (making_at mutex) (class_made (made_by (if b then object_of_kind i k else o) (base.Named name)))
 named_case mutex i k name true o h r = kind_makes mutex i k name h
 named_case mutex i k name false o h r = r

@@ -4,7 +4,7 @@ use Rattle.std.proofs.lemmas.List.{append-nil, append_assoc, map-append, length-
 use Rattle.std.specs.Prelude.{slice_get, MatchOption}
 use Rattle.std.proofs.lemmas.Option.{slice_get-get_or}
 use Rattle.uc_tree.specs.declared.kinds.Base.{Base}
-use Rattle.uc_tree.specs.declared.rows.Held.{Held}
+use Rattle.uc_tree.specs.declared.rows.FieldLayout.{FieldLayout}
 use Rattle.uc_tree.specs.Capped.{capped}
 use Rattle.uc_tree.specs.Statements.{Declarator}
 use Rattle.uc_tree.specs.Programs.{Member, Class, Program}
@@ -33,7 +33,7 @@ members_more (x ∷ xs) m = ap (λ fs. form_fields x.form ++ fs) (members_more x
 
 -- what is noted of them
 
-module _ (p : Program) (held : List Held) where
+module _ (p : Program) (held : List FieldLayout) where
   pub notes_none : (t : FieldTable) → HasNames t → Notes p held [] t t
   notes_none t h = record {
     still = h;

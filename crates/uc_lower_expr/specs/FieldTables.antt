@@ -4,7 +4,7 @@ use Rattle.uc_layout.specs.Places.{IsPlaces}
 use Rattle.uc_tree.specs.declared.limits.TheConstants.{LAST_CONDITION}
 use Rattle.uc_tree.specs.declared.kinds.Base.{Base}
 use Rattle.uc_tree.specs.declared.kinds.Base.TheVariants as base
-use Rattle.uc_tree.specs.declared.rows.Held.{Held}
+use Rattle.uc_tree.specs.declared.rows.FieldLayout.{FieldLayout}
 use Rattle.uc_tree.specs.Numbering.{at_most}
 use Rattle.uc_tree.specs.Capped.{capped}
 use Rattle.uc_tree.specs.Expressions.{Expr}
@@ -16,7 +16,7 @@ use Rattle.uc_lower_expr.specs.Meanings.{held_as, making_of, shape_as}
 use Rattle.uc_lower_expr.specs.declared.fields.Field.{Field}
 use Rattle.uc_lower_expr.specs.declared.fields.FieldTable.{FieldTable}
 
-abbrev pub one_scalar : Held
+abbrev pub one_scalar : FieldLayout
 one_scalar = record { count = 1; object = None }
 
 abbrev pub length_by : Option Expr → ℕ → Option ℕ
@@ -55,7 +55,7 @@ conditions_by base.Processor elements = 0
 conditions_by (base.Named name) elements = 0
 
 -- a field behind so many cells, which holds this
-pub record IsNoted (p : Program) (cells : ℕ) (h : Held) (f : ClassField) (v : Field) : Type 0 where
+pub record IsNoted (p : Program) (cells : ℕ) (h : FieldLayout) (f : ClassField) (v : Field) : Type 0 where
   pub cell : v.cell ≡ cells
   pub by_ref : f.declarator.by_ref ≡ v.by_ref
   pub shape : shape_of f.base ≡ shape_as v.told.scalar
@@ -68,12 +68,12 @@ pub record IsNoted (p : Program) (cells : ℕ) (h : Held) (f : ClassField) (v : 
   pub standing : v.told.standing ≡ held_as v.number
 
 -- fields, of which the first has this place in its class, behind so many cells; what the fields of the class hold
-pub data AreNoted (p : Program) (held : List Held) : ℕ → ℕ → List ClassField → List Field → ℕ → Type 0 where
+pub data AreNoted (p : Program) (held : List FieldLayout) : ℕ → ℕ → List ClassField → List Field → ℕ → Type 0 where
   NoMore : (place cells : ℕ) → AreNoted p held place cells [] [] cells
   OneMore : (place cells last : ℕ) (f : ClassField) (v : Field) (fs : List ClassField) (vs : List Field) → IsNoted p cells (get_or held place one_scalar) f v → AreNoted p held (place + 1) (capped (cells + held_cells (class_cells p) (get_or held place one_scalar))) fs vs last → AreNoted p held place cells (f ∷ fs) (v ∷ vs) last
 
 -- fields, of which the first has this place in its class, behind so many conditions
-pub data AreCounted (held : List Held) : ℕ → ℕ → List ClassField → List Field → ℕ → Type 0 where
+pub data AreCounted (held : List FieldLayout) : ℕ → ℕ → List ClassField → List Field → ℕ → Type 0 where
   NoneCounted : (place count : ℕ) → AreCounted held place count [] [] count
   OneCounted : (place count last : ℕ) (f : ClassField) (v : Field) (fs : List ClassField) (vs : List Field) → v.condition ≡ condition_by f.base count → AreCounted held (place + 1) (capped (count + conditions_by f.base (get_or held place one_scalar).count)) fs vs last → AreCounted held place count (f ∷ fs) (v ∷ vs) last
 
@@ -84,7 +84,7 @@ pub record HasNames (t : FieldTable) : Type 0 where
   pub long : length names ≡ length t.fields.items
 
 -- a table with these fields more
-pub record Notes (p : Program) (held : List Held) (fs : List ClassField) (old new : FieldTable) : Type 0 where
+pub record Notes (p : Program) (held : List FieldLayout) (fs : List ClassField) (old new : FieldTable) : Type 0 where
   pub still : HasNames new
   pub named : (names : List (List ℕ)) → length names ≡ length old.fields.items → IsPlaces names old.names → IsPlaces (names ++ map (λ f. f.declarator.name) fs) new.names
   pub more : List Field

@@ -1,6 +1,6 @@
 -- The code behind a left side, and in an update.
 use Rattle.std.specs.Prelude.{◌≡◌, ℕ, ◌+◌, pos, List, Bool, true, false, ◌||◌, Option, Some, None, length, if◌then◌else◌}
-use Rattle.uc_tree.specs.declared.kinds.Known.{Known}
+use Rattle.uc_tree.specs.declared.kinds.LocalVariable.{LocalVariable}
 use Rattle.uc_tree.specs.declared.ops.BinaryOp.{BinaryOp}
 use Rattle.uc_tree.specs.declared.ops.BinaryOp.TheVariants as binary
 use Rattle.uc_tree.specs.declared.ops.AssignOp.{AssignOp}
@@ -152,8 +152,8 @@ FieldCode line false k code = One code (op.Field k) line
 FieldCode line true k code = Both (One code (op.Field k) line) (One code op.Load line)
 
 -- the variable of a program that a name stands for
-pub record IsVariable (p : Program) (names : List Known) (name : List ℕ) (v : Variable) : Type 0 where
-  pub known : Known
+pub record IsVariable (p : Program) (names : List LocalVariable) (name : List ℕ) (v : Variable) : Type 0 where
+  pub known : LocalVariable
   pub is : known_named names name ≡ Some known
   pub cell : known.cell ≡ v.cell
   pub held : (has_number p known.ty || known.ty.by_ref) ≡ v.held

@@ -22,7 +22,7 @@ use uc_tree::declare::Declarator;
 use uc_tree::kinds::Base;
 use uc_tree::limits::LAST_CONDITION;
 use uc_tree::name::Name;
-use uc_tree::rows::Held;
+use uc_tree::rows::FieldLayout;
 
 /// A field of a class: the cells before it in an object, whether it is a reference, whether its cell holds the number of what it is, as
 /// that of a mutex object does, the number of a condition, or of the first of its array, what a declaration of its base makes, and what
@@ -72,12 +72,12 @@ pub fn value_of_base(sizes: &Sizes, base: &Base) -> Meaning
 }
 
 // What the field with this place among those of its class holds; beyond the last one scalar.
-fn held_at(held: &[Held], place: usize) -> Held
+fn held_at(held: &[FieldLayout], place: usize) -> FieldLayout
     ensures { result ≡ get_or held.now place one_scalar }
 {
     match held.get(place) {
         Some(held) => *held,
-        None => Held {
+        None => FieldLayout {
             count: 1,
             object: None,
         },
@@ -151,7 +151,7 @@ fn conditions_in(base: &Base, elements: u32) -> u32
 fn note_field(
     table: &mut FieldTable,
     sizes: &Sizes,
-    held: &[Held],
+    held: &[FieldLayout],
     base: &Base,
     declarator: &Declarator,
 ) -> Result<(), AllocError>
@@ -190,7 +190,7 @@ fn note_field(
 fn note_declarators(
     table: &mut FieldTable,
     sizes: &Sizes,
-    held: &[Held],
+    held: &[FieldLayout],
     base: &Base,
     declarators: &[Declarator],
 ) -> Result<(), AllocError>
@@ -206,7 +206,7 @@ fn note_declarators(
 fn note_member(
     table: &mut FieldTable,
     sizes: &Sizes,
-    held: &[Held],
+    held: &[FieldLayout],
     form: &MemberForm,
 ) -> Result<(), AllocError>
     requires { HasNames table.old }
@@ -229,7 +229,7 @@ fn note_member(
 fn note_members(
     table: &mut FieldTable,
     sizes: &Sizes,
-    held: &[Held],
+    held: &[FieldLayout],
     members: &[Member],
 ) -> Result<(), AllocError>
     requires { HasNames table.old }

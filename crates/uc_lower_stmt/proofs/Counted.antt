@@ -2,7 +2,7 @@
 use Rattle.std.proofs.Common.{◌≡◌, ℕ, ◌+◌, List, [], ◌∷◌, None, length, ap, ◌∙◌, arith, length-append}
 use Rattle.uc_tree.specs.declared.pos.Pos.{Pos}
 use Rattle.uc_tree.specs.declared.kinds.Base.{Base}
-use Rattle.uc_tree.specs.declared.kinds.Known.{Known}
+use Rattle.uc_tree.specs.declared.kinds.LocalVariable.{LocalVariable}
 use Rattle.uc_tree.specs.Statements.{Declarator, Declare, Stmts, NoStmts, MoreStmts}
 use Rattle.uc_tree.specs.Cells.{declared_cells, declarators_cells, stmt_cells, stmts_cells}
 use Rattle.uc_tree.specs.Gathered.{gathered, gathered_all}
@@ -12,10 +12,10 @@ use Rattle.uc_tree.specs.Programs.{Program}
 use Rattle.uc_resolve.specs.Resolve.{Scope, with_declared, with_all, scope_after, scope_behind}
 
 -- a scope of the same routine with these names, behind so many cells, hidden cells, text literals and accept statements
-abbrev pub counted : Scope → List Known → ℕ → ℕ → ℕ → ℕ → Scope
+abbrev pub counted : Scope → List LocalVariable → ℕ → ℕ → ℕ → ℕ → Scope
 counted s names cells hidden texts sites = record s { names = names; cells = cells; hidden = hidden; texts = texts; sites = sites }
 
-pub counted_as : (s : Scope) (names : List Known) (c d h i t u x y : ℕ) → c ≡ d → h ≡ i → t ≡ u → x ≡ y → counted s names c h t x ≡ counted s names d i u y
+pub counted_as : (s : Scope) (names : List LocalVariable) (c d h i t u x y : ℕ) → c ≡ d → h ≡ i → t ≡ u → x ≡ y → counted s names c h t x ≡ counted s names d i u y
 counted_as s names c d h i t u x y e k f g =
     ap (λ (n : ℕ). counted s names n h t x) e ∙ ap (λ (n : ℕ). counted s names d n t x) k ∙ ap (λ (n : ℕ). counted s names d i n x) f ∙ ap (λ (n : ℕ). counted s names d i u n) g
 

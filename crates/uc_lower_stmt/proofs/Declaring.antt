@@ -4,7 +4,7 @@ use Rattle.std.specs.Prelude.{slice_get}
 use Rattle.std.proofs.lemmas.List.{take_more}
 use Rattle.uc_tree.specs.declared.limits.TheConstants.{OPS_FOR_SIZE, FRAME_CELLS}
 use Rattle.uc_tree.specs.declared.kinds.Base.{Base}
-use Rattle.uc_tree.specs.declared.kinds.Known.{Known}
+use Rattle.uc_tree.specs.declared.kinds.LocalVariable.{LocalVariable}
 use Rattle.uc_tree.specs.declared.kinds.Ty.{Ty}
 use Rattle.uc_tree.specs.declared.declare.StartForm.{StartForm}
 use Rattle.uc_tree.specs.Expressions as tree
@@ -98,7 +98,7 @@ arm_declared p b d line cell cells name ty x st d0 d1 d2 new le ce xe se ne te h
       };
     })
   where
-    known : Known
+    known : LocalVariable
     known = declared_known p (scope_of d0) b d
 
     h1 : Adds 1 (OpCode line (op.Clear d0.cells (declared_cells p b d))) d0 d1

@@ -5,7 +5,7 @@ use Rattle.std.proofs.lemmas.Bool.{leb-true}
 use Rattle.uc_tree.specs.declared.limits.TheConstants.{FIRST_EVENT, LAST_EVENT, UNHANDLED, FAILURE}
 use Rattle.uc_tree.specs.Names.{same_name}
 use Rattle.uc_tree.specs.declared.kinds.HandlerKind.{HandlerKind}
-use Rattle.uc_tree.specs.declared.kinds.Known.{Known}
+use Rattle.uc_tree.specs.declared.kinds.LocalVariable.{LocalVariable}
 use Rattle.uc_tree.specs.declared.kinds.Place.{Place}
 use Rattle.uc_tree.specs.declared.pos.Pos.{Pos}
 use Rattle.uc_tree.specs.Cells.{classes_of, declared_cells, stmts_cells}
@@ -148,19 +148,19 @@ event_named p None event s = refl
 event_named p (Some name) None s = refl
 event_named p (Some name) (Some event) s = refl
 
-names_begin : (p : Program) (param event : Option (List ℕ)) (s : Scope) (ns : List Known) → take (length (with_event p param event s).names) ns ≡ (with_event p param event s).names → take (length s.names) ns ≡ s.names
+names_begin : (p : Program) (param event : Option (List ℕ)) (s : Scope) (ns : List LocalVariable) → take (length (with_event p param event s).names) ns ≡ (with_event p param event s).names → take (length s.names) ns ≡ s.names
 names_begin p None event s ns e = e
 names_begin p (Some name) None s ns e = e
 names_begin p (Some name) (Some event) s ns e = shorter s.names _ ns e
   where
-    shorter : (xs : List Known) (y : Known) (zs : List Known) → take (length (xs ++ y ∷ [])) zs ≡ xs ++ y ∷ [] → take (length xs) zs ≡ xs
+    shorter : (xs : List LocalVariable) (y : LocalVariable) (zs : List LocalVariable) → take (length (xs ++ y ∷ [])) zs ≡ xs ++ y ∷ [] → take (length xs) zs ≡ xs
     shorter [] y [] e = refl
     shorter [] y (z ∷ zs) e = refl
     shorter (x ∷ xs) y [] e = absurd (cc)
     shorter (x ∷ xs) y (z ∷ zs) e =
         let f : z ≡ x = cc in
         let g : take (length (xs ++ y ∷ [])) zs ≡ xs ++ y ∷ [] = cc in
-        ap (λ (k : Known). k ∷ take (length xs) zs) f ∙ ap (λ (l : List Known). x ∷ l) (shorter xs y zs g)
+        ap (λ (k : LocalVariable). k ∷ take (length xs) zs) f ∙ ap (λ (l : List LocalVariable). x ∷ l) (shorter xs y zs g)
 
 module _ (p : Program) (row pad : ℕ) (pos : Pos) (kind : HandlerKind) (event param : Option (List ℕ)) (brace : Pos) (body : tree.Stmts) (d0 d1 d2 d3 new : Draft)
     (en : EntersHandler p row (takes_resumptions kind) event param brace.line d0 d1) (w : LowersBody p pad (takes_resumptions kind) brace.line body d1 d2)
@@ -178,11 +178,11 @@ module _ (p : Program) (row pad : ℕ) (pos : Pos) (kind : HandlerKind) (event p
   names_back : take (length d0.names) d2.names ≡ d0.names
   names_back =
       let named : d2.names ≡ (scope_behind p body t).names = ap (λ (x : Scope). x.names) (w.scope ∙ ap (scope_behind p body) en.scope) in
-      ap (λ (l : List Known). take (length d0.names) l) named ∙ names_begin p param event s (scope_behind p body t).names (back_out p body t)
+      ap (λ (l : List LocalVariable). take (length d0.names) l) named ∙ names_begin p param event s (scope_behind p body t).names (back_out p body t)
 
   last : new ≡ record d2 { place = record d2.place { scope = d0.place.scope }; names = d0.names; handled = d0.handled }
   last = he ∙ ap (λ (x : Draft). let d : Draft = record x { handled = d0.handled } in d) le
-      ∙ ap (λ (l : List Known). let d : Draft = record d2 { place = record d2.place { scope = d0.place.scope }; names = l; handled = d0.handled } in d) names_back
+      ∙ ap (λ (l : List LocalVariable). let d : Draft = record d2 { place = record d2.place { scope = d0.place.scope }; names = l; handled = d0.handled } in d) names_back
 
   rest_laid : new ≡ record d0 { ops = d2.ops; rows = d2.rows; settled = d2.settled; scopes = d2.scopes; names = d0.names; cells = d2.cells; hidden = d2.hidden; texts = d2.texts; sites = d2.sites }
   rest_laid =

@@ -6,7 +6,7 @@ use Rattle.std.proofs.Math.Nat.{max-eq_left, max_comm}
 use Rattle.std.proofs.lemmas.List.{take_more}
 use Rattle.uc_tree.specs.declared.limits.TheConstants.{OPS_FOR_SIZE}
 use Rattle.uc_tree.specs.declared.kinds.Base.{Base}
-use Rattle.uc_tree.specs.declared.kinds.Known.{Known}
+use Rattle.uc_tree.specs.declared.kinds.LocalVariable.{LocalVariable}
 use Rattle.uc_tree.specs.declared.kinds.Param.{Param}
 use Rattle.uc_tree.specs.declared.kinds.Role.{Role}
 use Rattle.uc_tree.specs.declared.kinds.Role.TheVariants as role
@@ -55,7 +55,7 @@ params_push : (p : Program) (cell : ℕ) (xs : List Param) (x : Param) → param
 params_push p cell [] x = let e : cell ≡ cell + 0 = omega arith in ap (λ (n : ℕ). param_known p n x ∷ []) e
 params_push p cell (y ∷ ys) x =
     let e : cell + param_cells p y + params_cells p ys ≡ cell + (param_cells p y + params_cells p ys) = omega arith in
-    ap (λ (l : List Known). param_known p cell y ∷ l) (params_push p (cell + param_cells p y) ys x ∙ ap (λ (n : ℕ). params_known p (cell + param_cells p y) ys ++ param_known p n x ∷ []) e)
+    ap (λ (l : List LocalVariable). param_known p cell y ∷ l) (params_push p (cell + param_cells p y) ys x ∙ ap (λ (n : ℕ). params_known p (cell + param_cells p y) ys ++ param_known p n x ∷ []) e)
 
 cells_push : (p : Program) (xs : List Param) (x : Param) → params_cells p (xs ++ x ∷ []) ≡ params_cells p xs + param_cells p x
 cells_push p [] x = omega arith
@@ -73,7 +73,7 @@ with_params p xs d = record d { names = d.names ++ params_known p d.cells xs; ce
 params_begin : (p : Program) (d : Draft) → d ≡ with_params p [] d
 params_begin p d =
     let c : d.cells ≡ d.cells + 0 = omega arith in
-    ap (λ (l : List Known). let x : Draft = record d { names = l } in x) (sym (append-nil d.names)) ∙ ap (λ (n : ℕ). let x : Draft = record d { names = d.names ++ []; cells = n } in x) c
+    ap (λ (l : List LocalVariable). let x : Draft = record d { names = l } in x) (sym (append-nil d.names)) ∙ ap (λ (n : ℕ). let x : Draft = record d { names = d.names ++ []; cells = n } in x) c
 
 pub params_start : (p : Program) (xs : List Param) (d : Draft) → d ≡ with_params p (take 0 xs) d
 params_start p [] d = params_begin p d
@@ -92,9 +92,9 @@ params_step p xs i x name b r cells old mid new h e was ne be re ce is =
     let two : new ≡ record old { names = (old.names ++ params_known p old.cells ys) ++ param_known p (old.cells + params_cells p ys) x ∷ []; cells = old.cells + params_cells p ys + param_cells p x } =
     one ∙ ap (λ (m : Draft). let d : Draft = record m { names = m.names ++ param_known p m.cells x ∷ []; cells = m.cells + param_cells p x } in d) was in
     let names : (old.names ++ params_known p old.cells ys) ++ param_known p (old.cells + params_cells p ys) x ∷ [] ≡ old.names ++ params_known p old.cells (ys ++ x ∷ []) =
-    append_assoc old.names (params_known p old.cells ys) (param_known p (old.cells + params_cells p ys) x ∷ []) ∙ ap (λ (l : List Known). old.names ++ l) (sym (params_push p old.cells ys x)) in
+    append_assoc old.names (params_known p old.cells ys) (param_known p (old.cells + params_cells p ys) x ∷ []) ∙ ap (λ (l : List LocalVariable). old.names ++ l) (sym (params_push p old.cells ys x)) in
     let count : old.cells + params_cells p ys + param_cells p x ≡ old.cells + params_cells p (ys ++ x ∷ []) = omega (arith, cells_push p ys x) in
-    two ∙ ap (λ (l : List Known). let d : Draft = record old { names = l; cells = old.cells + params_cells p ys + param_cells p x } in d) names
+    two ∙ ap (λ (l : List LocalVariable). let d : Draft = record old { names = l; cells = old.cells + params_cells p ys + param_cells p x } in d) names
     ∙ ap (λ (n : ℕ). let d : Draft = record old { names = old.names ++ params_known p old.cells (ys ++ x ∷ []); cells = n } in d) count
     ∙ ap (λ (zs : List Param). with_params p zs old) split
 

@@ -2,7 +2,7 @@
 use Rattle.std.proofs.Common.{◌≡◌, ℕ, ◌+◌, List, [], ◌∷◌, ◌++◌, Bool, true, false, true≢false, length, take, refl, ap, sym, subst, ◌∙◌, arith, append_assoc, append-nil}
 use Rattle.std.proofs.Math.Seq.{take-append_seam}
 use Rattle.uc_tree.specs.declared.kinds.Base.{Base}
-use Rattle.uc_tree.specs.declared.kinds.Known.{Known}
+use Rattle.uc_tree.specs.declared.kinds.LocalVariable.{LocalVariable}
 use Rattle.uc_tree.specs.Statements.{Declarator, ForStart, NoFor, ForDeclare, ForEvaluate, Stmt, Block, Empty, Evaluate, Declare, If, While, Do, For, Break, Continue, Return, Try, Throw, Raise, RaiseAt, Enable, Disable, Accept, Print, PrintTogether, Read, Resume, Suspend, Yield, Migrate, Stmts, NoStmts, MoreStmts}
 use Rattle.uc_tree.specs.Scopes.{alone_scopes}
 use Rattle.uc_tree.specs.Programs.{Program}
@@ -23,7 +23,7 @@ pub lowers_scoped : {n k c o : ℕ} {S : Laid → ℕ → ℕ → Type 0} {t : S
 lowers_scoped {n} {k} {c} {o} {S} {t} {old} {last} out new oe te h e =
     subst (λ (d : Draft). Lowers n k c (1 + o) S (record t { names = old.names }) old d) (sym is) (record {
       rest = refl;
-      scope = ap (λ (x : Scope). let y : Scope = record x { names = take (length old.names) x.names } in y) g.scope ∙ ap (λ (ns : List Known). let y : Scope = record t { names = ns } in y) te;
+      scope = ap (λ (x : Scope). let y : Scope = record x { names = take (length old.names) x.names } in y) g.scope ∙ ap (λ (ns : List LocalVariable). let y : Scope = record t { names = ns } in y) te;
       opened = let x = g.opened in omega arith;
       kept = g.kept;
       room = g.room;
@@ -44,16 +44,16 @@ lowers_scoped {n} {k} {c} {o} {S} {t} {old} {last} out new oe te h e =
 
 -- the names in scope only grow
 
-pub all_added : (p : Program) (b : Base) (ds : List Declarator) (s : Scope) → (a : List Known) × ((with_all p s b ds).names ≡ s.names ++ a)
+pub all_added : (p : Program) (b : Base) (ds : List Declarator) (s : Scope) → (a : List LocalVariable) × ((with_all p s b ds).names ≡ s.names ++ a)
 all_added p b [] s = ([], sym (append-nil s.names))
 all_added p b (d ∷ ds) s =
     let r = all_added p b ds (with_declared p s b d) in
     (declared_known p s b d ∷ r.0, r.1 ∙ append_assoc s.names (declared_known p s b d ∷ []) r.0)
 
-unchanged : (ns : List Known) → (a : List Known) × (ns ≡ ns ++ a)
+unchanged : (ns : List LocalVariable) → (a : List LocalVariable) × (ns ≡ ns ++ a)
 unchanged ns = ([], sym (append-nil ns))
 
-pub for_added : (p : Program) (start : ForStart) (s : Scope) → (a : List Known) × ((for_scope p start s).names ≡ s.names ++ a)
+pub for_added : (p : Program) (start : ForStart) (s : Scope) → (a : List LocalVariable) × ((for_scope p start s).names ≡ s.names ++ a)
 for_added p NoFor s = unchanged s.names
 for_added p (ForDeclare place b ds) s = all_added p b ds s
 for_added p (ForEvaluate e) s = unchanged s.names
@@ -140,10 +140,10 @@ one_scope (Suspend place) e = absurd (true≢false (sym e))
 one_scope (Yield place) e = absurd (true≢false (sym e))
 one_scope (Migrate place cluster) e = absurd (true≢false (sym e))
 
-pub stmt_added : (p : Program) (t : Stmt) (s : Scope) → (a : List Known) × ((scope_after p t s).names ≡ s.names ++ a)
+pub stmt_added : (p : Program) (t : Stmt) (s : Scope) → (a : List LocalVariable) × ((scope_after p t s).names ≡ s.names ++ a)
 stmt_added p t s = by_kind (is_declaration t) refl
   where
-    declared : (u : Stmt) → is_declaration u ≡ true → (a : List Known) × (names_behind p u s ≡ s.names ++ a)
+    declared : (u : Stmt) → is_declaration u ≡ true → (a : List LocalVariable) × (names_behind p u s ≡ s.names ++ a)
     declared (Declare place b ds) e = all_added p b ds s
     declared (Block place body) e = absurd (true≢false (sym e))
     declared (Empty place) e = absurd (true≢false (sym e))
@@ -170,19 +170,19 @@ stmt_added p t s = by_kind (is_declaration t) refl
     declared (Yield place) e = absurd (true≢false (sym e))
     declared (Migrate place cluster) e = absurd (true≢false (sym e))
 
-    by_kind : (b : Bool) → is_declaration t ≡ b → (a : List Known) × ((scope_after p t s).names ≡ s.names ++ a)
+    by_kind : (b : Bool) → is_declaration t ≡ b → (a : List LocalVariable) × ((scope_after p t s).names ≡ s.names ++ a)
     by_kind true e = declared t e
     by_kind false e = let r = unchanged s.names in (r.0, names_left p t s e ∙ r.1)
 
-stmts_added : (p : Program) (ts : Stmts) (s : Scope) → (a : List Known) × ((scope_behind p ts s).names ≡ s.names ++ a)
+stmts_added : (p : Program) (ts : Stmts) (s : Scope) → (a : List LocalVariable) × ((scope_behind p ts s).names ≡ s.names ++ a)
 stmts_added p NoStmts s = unchanged s.names
 stmts_added p (MoreStmts t ts) s =
     let f = stmt_added p t s in
     let r = stmts_added p ts (scope_after p t s) in
-    (f.0 ++ r.0, r.1 ∙ ap (λ (l : List Known). l ++ r.0) f.1 ∙ append_assoc s.names f.0 r.0)
+    (f.0 ++ r.0, r.1 ∙ ap (λ (l : List LocalVariable). l ++ r.0) f.1 ∙ append_assoc s.names f.0 r.0)
 
-pub taken : (ns ms a : List Known) → ms ≡ ns ++ a → take (length ns) ms ≡ ns
-taken ns ms a e = ap (λ (l : List Known). take (length ns) l) e ∙ take-append_seam ns a
+pub taken : (ns ms a : List LocalVariable) → ms ≡ ns ++ a → take (length ns) ms ≡ ns
+taken ns ms a e = ap (λ (l : List LocalVariable). take (length ns) l) e ∙ take-append_seam ns a
 
 pub back_out : (p : Program) (ts : Stmts) (s : Scope) → take (length s.names) (scope_behind p ts s).names ≡ s.names
 back_out p ts s = let r = stmts_added p ts s in taken s.names (scope_behind p ts s).names r.0 r.1
@@ -192,7 +192,7 @@ back_out p ts s = let r = stmts_added p ts s in taken s.names (scope_behind p ts
 pub arm_alone : (p : Program) (s : Stmt) (old new : Draft) → is_declaration s ≡ false → LowersStmt p s old new → LowersAlone p s old new
 arm_alone p s old new e h =
     let none = no_scope s e in
-    lowers_as h (ap (λ (ns : List Known). let t : Scope = record (scope_after p s (scope_of old)) { names = ns } in t) (names_left p s (scope_of old) e)) (λ code a z w. w) (omega arith) (omega arith) (omega arith) (omega arith)
+    lowers_as h (ap (λ (ns : List LocalVariable). let t : Scope = record (scope_after p s (scope_of old)) { names = ns } in t) (names_left p s (scope_of old) e)) (λ code a z w. w) (omega arith) (omega arith) (omega arith) (omega arith)
 
 pub arm_alone_scoped : (p : Program) (s : Stmt) (out : Outside) (old d1 d2 new : Draft) → is_declaration s ≡ true → out ≡ record { names = length old.names; scope = old.place.scope } → d1 ≡ opened old → LowersStmt p s d1 d2
     → new ≡ record d2 { place = record d2.place { scope = out.scope }; names = take out.names d2.names } → LowersAlone p s old new

@@ -9,7 +9,7 @@ use Rattle.uc_machine.specs.declared.exec.Owner.TheVariants.{Frame, Fields}
 use Rattle.uc_machine.specs.declared.exec.Stage.{Stage}
 use Rattle.uc_machine.specs.declared.exec.Stage.TheVariants.{Started}
 use Rattle.uc_machine.specs.declared.exec.Pending.{Pending}
-use Rattle.uc_machine.specs.declared.exec.Reason.{Reason}
+use Rattle.uc_machine.specs.declared.exec.UnwindReason.{UnwindReason}
 use Rattle.uc_machine.specs.declared.exec.Visited.{Visited}
 use Rattle.uc_entry.specs.declared.request.Piece.{Piece}
 use Rattle.uc_entry.specs.Keyed.{find}
@@ -45,7 +45,7 @@ pub record Activation (C V : Type 0) : Type 0 where
   pub counts : Bool
   pub elements : ℕ
   pub handles : Option Visited
-  pub raised : Option Reason
+  pub raised : Option UnwindReason
   pub result : V
 
 -- an execution that does not run: its newest activation, those that wait for it (the newest first), its frames (the newest
@@ -256,7 +256,7 @@ module _ {C V : Type 0} where
       record { run = record (begun todo this frame nothing false) { operands = operands; handles = Some v }; callers = c ∷ cs; env = record e { frames = [] ∷ e.frames } }
 
   -- an activation is unwound for this reason, with this to do; where a return arrives, it hands over this
-  abbrev pub unwound : C → Reason → V → Activation C V → Activation C V
+  abbrev pub unwound : C → UnwindReason → V → Activation C V → Activation C V
   unwound todo why given a = record a { control = todo; operands = []; raised = Some why; result = given }
 
   -- its unwinding is over, with this to do

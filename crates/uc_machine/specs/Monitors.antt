@@ -2,8 +2,8 @@
 use Rattle.std.specs.Prelude.{ℕ, zero, suc, ◌+◌, ◌*◌, pos, List, [], ◌∷◌, drop, Option, Some, None, Bool, true, false, nat_eq, nat_lt, if◌then◌else◌, slice_set}
 use Rattle.uc_tree.specs.declared.limits.TheConstants.{CALLS, FAILURE}
 use Rattle.uc_tree.specs.Source.{Clauses, NoClauses, Otherwise, MoreClauses, Routine}
-use Rattle.uc_machine.specs.declared.exec.Reason.{Reason}
-use Rattle.uc_machine.specs.declared.exec.Reason.TheVariants as reason
+use Rattle.uc_machine.specs.declared.exec.UnwindReason.{UnwindReason}
+use Rattle.uc_machine.specs.declared.exec.UnwindReason.TheVariants as reason
 use Rattle.uc_entry.specs.declared.request.Request.{Request}
 use Rattle.uc_entry.specs.declared.request.Request.TheVariants as ask
 use Rattle.uc_entry.specs.declared.fault.RunFault.TheVariants.{Index, Depth, BlockedInside}
@@ -35,12 +35,12 @@ enter_step m (Some r) todo s =
     if may_call r.written s then enter_on (object_in (top (drop r.params s.run.operands))) m todo s else fault Depth todo s.run.operands s
 
 -- behind a call that has left its object by no event and no unwinding stands a poll
-abbrev pub leave_todo : Option Reason → List Todo → List Todo
+abbrev pub leave_todo : Option UnwindReason → List Todo → List Todo
 leave_todo None todo = PollNow ∷ todo
 leave_todo (Some why) todo = todo
 
 -- whether an event unwinds
-abbrev pub by_event : Option Reason → Bool
+abbrev pub by_event : Option UnwindReason → Bool
 by_event (Some (reason.Event n x y)) = true
 by_event _ = false
 

@@ -4,8 +4,8 @@ use Rattle.uc_tree.specs.declared.limits.TheConstants.{CALLS, DESTRUCTOR, PENDIN
 use Rattle.uc_tree.specs.Source.{Shape, Character, Truth, Expr, Literal, Variable, Element, Load, Negated, Not, AsCharacter, AsTruth, Operate, And, Or, Assign, Update, StepBehind, Fail, Get, Set, First, Call, OfObject, ObjectExpr, This, OwnField, GetOwn, FieldOf, Counted, CallOn, CallUnwritten, CallLive, EnterOn, EndOn, Bind, MakeOn, NewCluster, NewProcessor, EndCluster, EndProcessor, ConditionAt, Wait, Signal, SignalBlock, IsEmpty, FrontOf, NoExprs, MoreExprs, Item, Show, ShowText, Order, TestFirst, BodyFirst, NoTest, Way, ToBreak, ToContinue, ToReturn, ToEnd, Stmt, Skip, Block, Whole, Evaluate, Declare, Print, PrintTogether, Read, If, Loop, Break, Continue, Return, Owes, Restores, Clauses, NoClauses, Otherwise, MoreClauses, clause_count, Fill, OfEvents, OfTasks, Stmts, Nil, Then, Scoped, Built, Purpose, TaskMain, CoroutineMain, Procedure, Function, Builder, Routine, Source, EventStmt, Throw, Raise, Try, RaiseAt, Enable, Disable, TaskStmt, Resume, Suspend, SetUp, Enliven, TakeDown, Yield, Migrate, Accept}
 use Rattle.uc_tree.specs.ValueForms.{form_number}
 use Rattle.uc_machine.specs.declared.exec.Home.TheVariants as home
-use Rattle.uc_machine.specs.declared.exec.Reason.{Reason}
-use Rattle.uc_machine.specs.declared.exec.Reason.TheVariants as reason
+use Rattle.uc_machine.specs.declared.exec.UnwindReason.{UnwindReason}
+use Rattle.uc_machine.specs.declared.exec.UnwindReason.TheVariants as reason
 use Rattle.uc_machine.specs.declared.exec.Pending.{Pending}
 use Rattle.uc_entry.specs.declared.request.Request.{Request}
 use Rattle.uc_machine.specs.declared.exec.Exec.{Exec}
@@ -303,7 +303,7 @@ abbrev pub resumed : State → Option Exec
 resumed s = if nat_eq (home_of s.run.handles (length s.callers)) 0 then Some s.env.exec else own_exec s
 
 -- an execution that stopped lands: it goes on, or is unwound if there is a reason by now
-abbrev pub land_step : Option Reason → List Todo → State → Step
+abbrev pub land_step : Option UnwindReason → List Todo → State → Step
 land_step None todo s = turns todo s
 land_step (Some why) todo s = unwinds todo s
 

@@ -7,8 +7,8 @@ use Rattle.uc_entry.specs.Faults.{fault_number}
 use Rattle.uc_entry.specs.declared.request.Request.TheVariants as ask
 use Rattle.uc_machine.specs.Switches.{escape, taken_down}
 use Rattle.uc_machine.specs.Executions.{left_for, handler_entered, unwound, calmed}
-use Rattle.uc_machine.specs.declared.exec.Reason.{Reason}
-use Rattle.uc_machine.specs.declared.exec.Reason.TheVariants as reason
+use Rattle.uc_machine.specs.declared.exec.UnwindReason.{UnwindReason}
+use Rattle.uc_machine.specs.declared.exec.UnwindReason.TheVariants as reason
 use Rattle.uc_machine.specs.declared.exec.Visited.{Visited}
 use Rattle.uc_machine.specs.Pieces.{Value, Todo, Sort, sort, Active, State, Step, top, below, number, at, goes, fault, moves, return_step, clean_todo, Number, Nothing, Eval, SetNow, DropNow, ClearNow, Rest, Within, Exit, Sweep, Unwind, LeaveNow, GiveUpNow, Finish, FinishCoroutine, Simple, IsLoop, IsWhole, IsClean, IsFill, IsSweep, IsPart, IsGuard, IsFinish, IsFinishCoroutine, Goes, Asks}
 
@@ -81,13 +81,13 @@ catch_step None e todo s = unwinds todo s
 catch_step (Some h) e todo s = Goes (record s { run = record (calmed (handler_todo h todo) s.run) { operands = operands_of e } })
 
 -- a guarded block is left; none stops a return or the destruction of a coroutine
-abbrev pub guard_left : Handlers → Option Reason → List Todo → State → Step
+abbrev pub guard_left : Handlers → Option UnwindReason → List Todo → State → Step
 guard_left hs (Some (reason.Event n x y)) todo s =
     catch_step (handler_for false (record { number = n; x = x; y = y }) hs) (record { number = n; x = x; y = y }) todo s
 guard_left hs _ todo s = unwinds todo s
 
 -- whether a return is one to the activation that has so many below it
-abbrev pub arrives : Option Reason → ℕ → Bool
+abbrev pub arrives : Option UnwindReason → ℕ → Bool
 arrives (Some (reason.ReturnTo home)) n = nat_eq home n
 arrives _ n = false
 
@@ -107,12 +107,12 @@ scope_left Leaves true todo s = Goes (record s { run = record (calmed (LeaveNow 
 scope_left c arrived todo s = goes (left_todo c (Unwind ∷ todo)) [] s
 
 -- the main of a task is left: by a return, or by an event that nothing handles
-abbrev pub main_left : Option Reason → List Todo → State → Step
+abbrev pub main_left : Option UnwindReason → List Todo → State → Step
 main_left (Some (reason.ReturnTo home)) todo s = Goes (record s { run = calmed (Finish ∷ todo) s.run })
 main_left _ todo s = fault Unhandled todo [] s
 
 -- the main of a coroutine is left: by a return, by the destruction of the coroutine, or by an event
-abbrev pub coroutine_left : Option Reason → List Todo → State → Step
+abbrev pub coroutine_left : Option UnwindReason → List Todo → State → Step
 coroutine_left (Some (reason.ReturnTo home)) todo s = Goes (record s { run = calmed (FinishCoroutine ∷ todo) s.run })
 coroutine_left (Some reason.Destroyed) todo s = moves (taken_down (at todo [] s)) (at todo [] s)
 coroutine_left _ todo s = moves (escape (at todo [] s)) (at todo [] s)
@@ -132,17 +132,17 @@ unwind_past IsFinishCoroutine todo s = coroutine_left s.run.raised todo s
 
 -- whether what is unwound for the first reason has escaped from a clean-up, where the second says why the one that waits is unwound:
 -- only an event does
-abbrev pub escapes : Option Reason → Option Reason → Bool
+abbrev pub escapes : Option UnwindReason → Option UnwindReason → Bool
 escapes (Some (reason.Event n x y)) (Some why) = true
 escapes _ _ = false
 
 -- the destruction of a coroutine is not ended by a return of a handler, which unwinds what a destructor has called meanwhile
-abbrev pub why_by : Reason → Option Reason → Reason
+abbrev pub why_by : UnwindReason → Option UnwindReason → UnwindReason
 why_by why (Some reason.Destroyed) = reason.Destroyed
 why_by why _ = why
 
 -- the one that waits is unwound in its turn
-abbrev pub pass_on : Option Reason → Active → List Active → State → Step
+abbrev pub pass_on : Option UnwindReason → Active → List Active → State → Step
 pass_on None c cs s = Asks ask.End s
 pass_on (Some why) c cs s = Goes (left_for s.run.counts (unwound (Unwind ∷ c.control) (why_by why c.raised) s.run.result c) cs s.env)
 

@@ -9,8 +9,8 @@ use Rattle.uc_machine.specs.declared.exec.Owner.{Owner}
 use Rattle.uc_machine.specs.declared.exec.Owner.TheVariants.{Frame, Fields}
 use Rattle.uc_machine.specs.declared.exec.Stage.{Stage}
 use Rattle.uc_machine.specs.declared.exec.Stage.TheVariants.{Fresh, Started, Ended}
-use Rattle.uc_machine.specs.declared.exec.Reason.{Reason}
-use Rattle.uc_machine.specs.declared.exec.Reason.TheVariants as reason
+use Rattle.uc_machine.specs.declared.exec.UnwindReason.{UnwindReason}
+use Rattle.uc_machine.specs.declared.exec.UnwindReason.TheVariants as reason
 use Rattle.uc_entry.specs.declared.fault.RunFault.{RunFault}
 use Rattle.uc_entry.specs.declared.fault.RunFault.TheVariants.{ResumeEnded, ResumeInUse, SuspendWithoutResumer, SwitchInUnwind}
 use Rattle.uc_machine.specs.Executions.{Links, Execution, Members, Env, State, no_links, update, joined, exec_eq, members_at, parked_at, change}
@@ -175,7 +175,7 @@ module _ {C V : Type 0} where
   finish s = go_on (or_else (able s.env.links.starter s.env) (able s.env.links.resumer s.env)) (ended s)
 
   -- an execution that does not run is to be unwound from where it stands
-  abbrev pub unwound_there : Reason → Execution C V → Execution C V
+  abbrev pub unwound_there : UnwindReason → Execution C V → Execution C V
   unwound_there why x = record x { run = record x.run { raised = Some why } }
 
   abbrev pub throw_at : Option (Exec × Execution C V) → State C V → Moved C V

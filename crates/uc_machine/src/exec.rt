@@ -41,7 +41,7 @@ pub struct Pending {
 /// Why an activation is unwound: an event with its fields; a return to the activation that has so many below it; or its
 /// coroutine is destroyed.
 #[derive(Clone, Copy, PartialEq, Eq, Debug)]
-pub enum Reason {
+pub enum UnwindReason {
     Event { event: u8, x: i64, y: i64 },
     ReturnTo(u32),
     Destroyed,

@@ -5,8 +5,8 @@ use Rattle.uc_tree.specs.declared.token.Token.{Token}
 use Rattle.uc_tree.specs.declared.token.TokenKind.TheVariants.{Name, Number, Text, Word, Sign}
 use Rattle.uc_tree.specs.declared.token.Word.TheVariants as word
 use Rattle.uc_tree.specs.declared.token.Sign.TheVariants as sign
-use Rattle.uc_tree.specs.declared.scan.Place.{Place}
-use Rattle.uc_tree.specs.declared.scan.Found.TheVariants.{Take}
+use Rattle.uc_tree.specs.declared.scan.ScanPlace.{ScanPlace}
+use Rattle.uc_tree.specs.declared.scan.Lexeme.TheVariants.{Take}
 use Rattle.uc_tree.specs.Bytes.{is_digit}
 use Rattle.uc_tree.specs.Tokens.{Read, with_token, tokens_from, tokens, first_place, found_at, text_ending, comment_length}
 use Rattle.uc_grammar.specs.Samples.{placed}
@@ -20,7 +20,7 @@ unfoldable pub front_tokens : List Token
 unfolding placed
 front_tokens = placed front
 
-abbrev pub front_end : Place
+abbrev pub front_end : ScanPlace
 front_end = past first_place front
 
 front_lexed : (tail : List ℕ) → tokens_from first_place 0 (front ++ tail) ≡ read_then front_tokens (tokens_from front_end 0 tail)
@@ -29,41 +29,41 @@ front_lexed tail = refl
 
 -- the line of a worker, from this place on
 
-abbrev pub name_place : Place → Place
+abbrev pub name_place : ScanPlace → ScanPlace
 name_place p = past p (codes "Worker ")
 
-abbrev pub open_place : Place → ℕ → Place
+abbrev pub open_place : ScanPlace → ℕ → ScanPlace
 open_place p k = past (name_place p) (119 ∷ decimal k)
 
-abbrev pub number_place : Place → ℕ → Place
+abbrev pub number_place : ScanPlace → ℕ → ScanPlace
 number_place p k = past (open_place p k) (codes "(t, ")
 
-abbrev pub close_place : Place → ℕ → Place
+abbrev pub close_place : ScanPlace → ℕ → ScanPlace
 close_place p k = past (number_place p k) (decimal k)
 
-abbrev pub next_line : Place → ℕ → Place
+abbrev pub next_line : ScanPlace → ℕ → ScanPlace
 next_line p k = past (close_place p k) (codes ");\n")
 
-abbrev pub worker_tokens : Place → ℕ → List Token
+abbrev pub worker_tokens : ScanPlace → ℕ → List Token
 worker_tokens p k =
     token (Name (codes "Worker")) p ∷ token (Name (119 ∷ decimal k)) (name_place p)
     ∷ token (Sign sign.OpenParen) (open_place p k) ∷ token (Name (codes "t")) (past (open_place p k) (codes "(")) ∷ token (Sign sign.Comma) (past (open_place p k) (codes "(t"))
     ∷ token (Number (pos k)) (number_place p k)
     ∷ token (Sign sign.CloseParen) (close_place p k) ∷ token (Sign sign.Semicolon) (past (close_place p k) (codes ")")) ∷ []
 
-class_lexed : (p : Place) (tail : List ℕ) → tokens_from p 0 (codes "Worker " ++ tail) ≡ with_token (token (Name (codes "Worker")) p) (tokens_from (name_place p) 0 tail)
+class_lexed : (p : ScanPlace) (tail : List ℕ) → tokens_from p 0 (codes "Worker " ++ tail) ≡ with_token (token (Name (codes "Worker")) p) (tokens_from (name_place p) 0 tail)
 unfolding tokens_from found_at
 class_lexed p tail = refl
 
-first_lexed : (p : Place) (tail : List ℕ) → tokens_from p 0 (codes "(t, " ++ tail) ≡ read_then (token (Sign sign.OpenParen) p ∷ token (Name (codes "t")) (past p (codes "(")) ∷ token (Sign sign.Comma) (past p (codes "(t")) ∷ []) (tokens_from (past p (codes "(t, ")) 0 tail)
+first_lexed : (p : ScanPlace) (tail : List ℕ) → tokens_from p 0 (codes "(t, " ++ tail) ≡ read_then (token (Sign sign.OpenParen) p ∷ token (Name (codes "t")) (past p (codes "(")) ∷ token (Sign sign.Comma) (past p (codes "(t")) ∷ []) (tokens_from (past p (codes "(t, ")) 0 tail)
 unfolding tokens_from found_at
 first_lexed p tail = refl
 
-close_lexed : (p : Place) (tail : List ℕ) → tokens_from p 0 (codes ");\n" ++ tail) ≡ read_then (token (Sign sign.CloseParen) p ∷ token (Sign sign.Semicolon) (past p (codes ")")) ∷ []) (tokens_from (past p (codes ");\n")) 0 tail)
+close_lexed : (p : ScanPlace) (tail : List ℕ) → tokens_from p 0 (codes ");\n" ++ tail) ≡ read_then (token (Sign sign.CloseParen) p ∷ token (Sign sign.Semicolon) (past p (codes ")")) ∷ []) (tokens_from (past p (codes ");\n")) 0 tail)
 unfolding tokens_from found_at
 close_lexed p tail = refl
 
-number_lexed : (p : Place) (k stop : ℕ) (tail : List ℕ) → k ≤ 1000 → Numeral k → is_digit stop ≡ false → tokens_from p 0 (decimal k ++ stop ∷ tail) ≡ with_token (token (Number (pos k)) p) (tokens_from (past p (decimal k)) 0 (stop ∷ tail))
+number_lexed : (p : ScanPlace) (k stop : ℕ) (tail : List ℕ) → k ≤ 1000 → Numeral k → is_digit stop ≡ false → tokens_from p 0 (decimal k ++ stop ∷ tail) ≡ with_token (token (Number (pos k)) p) (tokens_from (past p (decimal k)) 0 (stop ∷ tail))
 number_lexed p k stop tail most m e =
     subst (λ ds. found_at p.fresh (ds ++ stop ∷ tail) ≡ Take (Number (pos k)) (length ds) → tokens_from p 0 (ds ++ stop ∷ tail) ≡ with_token (token (Number (pos k)) p) (tokens_from (past p ds) 0 (stop ∷ tail))) (sym m.is)
     (λ f. taken p m.first m.rest (stop ∷ tail) (Number (pos k)) f) (number k p.fresh stop tail most m e)
@@ -75,14 +75,14 @@ worker_text k tail =
     ∙ append_assoc (decimal k ++ codes "(t, ") (decimal k) (codes ");\n" ++ tail)
     ∙ append_assoc (decimal k) (codes "(t, ") (decimal k ++ (codes ");\n" ++ tail)))
 
-worker_past : (p : Place) (k : ℕ) → past p (worker k) ≡ next_line p k
+worker_past : (p : ScanPlace) (k : ℕ) → past p (worker k) ≡ next_line p k
 worker_past p k =
     past_both (past p (codes "Worker w")) ((decimal k ++ codes "(t, ") ++ decimal k) (codes ");\n")
     ∙ ap (λ q. past q (codes ");\n"))
     (past_both (past p (codes "Worker w")) (decimal k ++ codes "(t, ") (decimal k)
     ∙ ap (λ q. past q (decimal k)) (past_both (past p (codes "Worker w")) (decimal k) (codes "(t, ")))
 
-worker_lexed : (p : Place) (k : ℕ) (tail : List ℕ) → k ≤ 1000 → Numeral k → tokens_from p 0 (worker k ++ tail) ≡ read_then (worker_tokens p k) (tokens_from (past p (worker k)) 0 tail)
+worker_lexed : (p : ScanPlace) (k : ℕ) (tail : List ℕ) → k ≤ 1000 → Numeral k → tokens_from p 0 (worker k ++ tail) ≡ read_then (worker_tokens p k) (tokens_from (past p (worker k)) 0 tail)
 worker_lexed p k tail most m =
     ap (tokens_from p 0) (worker_text k tail)
     ∙ class_lexed p ((119 ∷ decimal k) ++ (codes "(t, " ++ (decimal k ++ (codes ");\n" ++ tail))))
@@ -97,19 +97,19 @@ worker_lexed p k tail most m =
 
 -- the lines of workers
 
-pub workers_tokens : Place → ℕ → List Token
+pub workers_tokens : ScanPlace → ℕ → List Token
 workers_tokens p zero = []
 workers_tokens p (suc n) = workers_tokens p n ++ worker_tokens (past p (workers n)) (suc n)
 
-pub none_yet : (p : Place) → workers_tokens p zero ≡ []
+pub none_yet : (p : ScanPlace) → workers_tokens p zero ≡ []
 unfolding workers_tokens
 none_yet p = refl
 
-pub one_more : (p : Place) (n : ℕ) → workers_tokens p (suc n) ≡ workers_tokens p n ++ worker_tokens (past p (workers n)) (suc n)
+pub one_more : (p : ScanPlace) (n : ℕ) → workers_tokens p (suc n) ≡ workers_tokens p n ++ worker_tokens (past p (workers n)) (suc n)
 unfolding workers_tokens
 one_more p n = refl
 
-workers_lexed : (n : ℕ) → n ≤ 1000 → (p : Place) (tail : List ℕ) → tokens_from p 0 (workers n ++ tail) ≡ read_then (workers_tokens p n) (tokens_from (past p (workers n)) 0 tail)
+workers_lexed : (n : ℕ) → n ≤ 1000 → (p : ScanPlace) (tail : List ℕ) → tokens_from p 0 (workers n ++ tail) ≡ read_then (workers_tokens p n) (tokens_from (past p (workers n)) 0 tail)
 unfolding workers_tokens
 workers_lexed zero h p tail = refl
 workers_lexed (suc n) h p tail =
@@ -122,15 +122,15 @@ workers_lexed (suc n) h p tail =
 
 -- the lines behind them
 
-abbrev pub count_tokens : Place → List Token
+abbrev pub count_tokens : ScanPlace → List Token
 count_tokens q =
     token (Sign sign.CloseBrace) q ∷ token (Word word.Cout) (past q (codes "}\n")) ∷ token (Sign sign.ShiftLeft) (past q (codes "}\ncout "))
     ∷ token (Text (codes "tasks ")) (past q (codes "}\ncout << ")) ∷ token (Sign sign.ShiftLeft) (past q (codes "}\ncout << " ++ (quoted (codes "tasks ") ++ codes " "))) ∷ []
 
-abbrev pub total_place : Place → Place
+abbrev pub total_place : ScanPlace → ScanPlace
 total_place q = past q (codes " << " ++ quoted (codes " total "))
 
-abbrev pub rest_tokens : Place → List Token
+abbrev pub rest_tokens : ScanPlace → List Token
 rest_tokens q =
     token (Sign sign.ShiftLeft) (past q (codes " ")) ∷ token (Text (codes " total ")) (past q (codes " << "))
     ∷ token (Sign sign.ShiftLeft) (past (total_place q) (codes " ")) ∷ token (Name (codes "t")) (past (total_place q) (codes " << "))
@@ -139,21 +139,21 @@ rest_tokens q =
     ∷ token (Sign sign.ShiftLeft) (past (total_place q) (codes " << t.get() ")) ∷ token (Word word.Endl) (past (total_place q) (codes " << t.get() << "))
     ∷ token (Sign sign.Semicolon) (past (total_place q) (codes " << t.get() << endl")) ∷ token (Sign sign.CloseBrace) (past (total_place q) (codes " << t.get() << endl;\n")) ∷ []
 
-abbrev pub count_place : Place → Place
+abbrev pub count_place : ScanPlace → ScanPlace
 count_place q = past q before_count
 
-abbrev pub end_tokens : Place → ℕ → List Token
+abbrev pub end_tokens : ScanPlace → ℕ → List Token
 end_tokens q n = count_tokens q ++ (token (Number (pos n)) (count_place q) ∷ rest_tokens (past (count_place q) (decimal n)))
 
-count_lexed : (q : Place) (tail : List ℕ) → tokens_from q 0 (before_count ++ tail) ≡ read_then (count_tokens q) (tokens_from (count_place q) 0 tail)
+count_lexed : (q : ScanPlace) (tail : List ℕ) → tokens_from q 0 (before_count ++ tail) ≡ read_then (count_tokens q) (tokens_from (count_place q) 0 tail)
 unfolding tokens_from found_at text_ending
 count_lexed q tail = refl
 
-rest_lexed : (q : Place) → tokens_from q 0 behind_count ≡ Read (rest_tokens q)
+rest_lexed : (q : ScanPlace) → tokens_from q 0 behind_count ≡ Read (rest_tokens q)
 unfolding tokens_from found_at text_ending
 rest_lexed q = refl
 
-end_lexed : (q : Place) (n : ℕ) → n ≤ 1000 → Numeral n → tokens_from q 0 (end n) ≡ Read (end_tokens q n)
+end_lexed : (q : ScanPlace) (n : ℕ) → n ≤ 1000 → Numeral n → tokens_from q 0 (end n) ≡ Read (end_tokens q n)
 end_lexed q n most m =
     count_lexed q (decimal n ++ behind_count)
     ∙ ap (read_then (count_tokens q))

@@ -3,20 +3,20 @@ use Rattle.std.proofs.Common.{◌≡◌, ℕ, suc, ◌-◌, List, [], ◌∷◌,
 use Rattle.std.specs.Prelude.{fold}
 use Rattle.uc_tree.specs.declared.token.Token.{Token}
 use Rattle.uc_tree.specs.declared.token.TokenKind.{TokenKind}
-use Rattle.uc_tree.specs.declared.scan.Place.{Place}
-use Rattle.uc_tree.specs.declared.scan.Found.TheVariants.{Take}
+use Rattle.uc_tree.specs.declared.scan.ScanPlace.{ScanPlace}
+use Rattle.uc_tree.specs.declared.scan.Lexeme.TheVariants.{Take}
 use Rattle.uc_tree.specs.Tokens.{Lexed, Read, with_token, lexed_by, tokens_from, next_place, found_at}
 
 -- the place behind bytes
-abbrev pub past : Place → List ℕ → Place
+abbrev pub past : ScanPlace → List ℕ → ScanPlace
 past p bytes = fold next_place p bytes
 
-pub past_both : (p : Place) (xs ys : List ℕ) → past p (xs ++ ys) ≡ past (past p xs) ys
+pub past_both : (p : ScanPlace) (xs ys : List ℕ) → past p (xs ++ ys) ≡ past (past p xs) ys
 past_both p [] ys = refl
 past_both p (x ∷ xs) ys = past_both (next_place p x) xs ys
 
 -- a token that stands there
-abbrev pub token : TokenKind → Place → Token
+abbrev pub token : TokenKind → ScanPlace → Token
 token kind p = record { kind = kind; at = p.at; pos = p.pos }
 
 -- these tokens, and then what follows
@@ -33,13 +33,13 @@ then_read [] us = refl
 then_read (t ∷ ts) us = ap (with_token t) (then_read ts us)
 
 -- bytes that belong to what was found before are passed
-passed : (bytes : List ℕ) (p : Place) (tail : List ℕ) → tokens_from p (length bytes) (bytes ++ tail) ≡ tokens_from (past p bytes) 0 tail
+passed : (bytes : List ℕ) (p : ScanPlace) (tail : List ℕ) → tokens_from p (length bytes) (bytes ++ tail) ≡ tokens_from (past p bytes) 0 tail
 unfolding tokens_from
 passed [] p tail = refl
 passed (b ∷ bytes) p tail = passed bytes (next_place p b) tail
 
 -- bytes that are one token
-pub taken : (p : Place) (b : ℕ) (bytes tail : List ℕ) (kind : TokenKind) → found_at p.fresh ((b ∷ bytes) ++ tail) ≡ Take kind (suc (length bytes)) → tokens_from p 0 ((b ∷ bytes) ++ tail) ≡ with_token (token kind p) (tokens_from (past p (b ∷ bytes)) 0 tail)
+pub taken : (p : ScanPlace) (b : ℕ) (bytes tail : List ℕ) (kind : TokenKind) → found_at p.fresh ((b ∷ bytes) ++ tail) ≡ Take kind (suc (length bytes)) → tokens_from p 0 ((b ∷ bytes) ++ tail) ≡ with_token (token kind p) (tokens_from (past p (b ∷ bytes)) 0 tail)
 unfolding tokens_from
 taken p b bytes tail kind e =
     let less : suc (length bytes) - 1 ≡ length bytes = omega arith in

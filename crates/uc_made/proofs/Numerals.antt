@@ -8,8 +8,8 @@ use Rattle.std.proofs.lemmas.Str.Parse.{IsDigitsTest, FoldsDigits, IsNumeralMode
 use Rattle.uc_tree.specs.declared.limits.TheConstants.{NAME_BYTES, NUMBER_MAX}
 use Rattle.uc_tree.specs.declared.token.TokenKind.TheVariants.{Name, Number}
 use Rattle.uc_tree.specs.declared.token.Word.{Word}
-use Rattle.uc_tree.specs.declared.scan.Found.TheVariants.{Skip, Take, Stop}
-use Rattle.uc_tree.specs.declared.scan.Reason.TheVariants.{BadByte, NumberTooWide}
+use Rattle.uc_tree.specs.declared.scan.Lexeme.TheVariants.{Skip, Take, Stop}
+use Rattle.uc_tree.specs.declared.scan.LexicalFault.TheVariants.{BadByte, NumberTooWide}
 use Rattle.uc_tree.specs.Bytes.{is_white, is_letter, is_digit, is_name_byte}
 use Rattle.uc_tree.specs.Tokens.{begins, word_of, word_or_name, name_at, number_at, value_of, with_digit, found_at}
 

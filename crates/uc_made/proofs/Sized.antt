@@ -3,7 +3,7 @@ use Rattle.std.proofs.Common.{◌≡◌, ℕ, zero, suc, ◌+◌, ◌*◌, ◌�
 use Rattle.std.specs.Prelude.{Option, Some, None, slice_get, decimal, codes}
 use Rattle.uc_tree.specs.declared.limits.TheConstants.{FRAME_CELLS, PROGRAM_BYTES, PROGRAM_SIZE}
 use Rattle.uc_tree.specs.declared.kinds.Base.{Base}
-use Rattle.uc_tree.specs.declared.scan.Place.{Place}
+use Rattle.uc_tree.specs.declared.scan.ScanPlace.{ScanPlace}
 use Rattle.uc_tree.specs.Rows.{cells_within, reaches}
 use Rattle.uc_tree.specs.Cells.{routine_cells, stmt_cells, stmts_cells, declared_cells}
 use Rattle.uc_tree.specs.Exits.{declares, exits, exits_all}
@@ -25,10 +25,10 @@ cells_more [] s cells = omega arith
 cells_more (r ∷ ss) s cells = let e = cells_more ss s cells in omega (arith, e)
 
 -- a worker has one cell
-worker_cells : (ws : List Stmt) (last : Stmt) (p : Place) (k : ℕ) → stmt_cells (worker_stmt p k) (declared_cells (program_with ws last)) ≡ 1
+worker_cells : (ws : List Stmt) (last : Stmt) (p : ScanPlace) (k : ℕ) → stmt_cells (worker_stmt p k) (declared_cells (program_with ws last)) ≡ 1
 worker_cells ws last p k = refl
 
-workers_cells : (ws : List Stmt) (last : Stmt) (p : Place) (n : ℕ) → stmts_cells (stmts_of (workers_stmts p n)) (declared_cells (program_with ws last)) ≡ n
+workers_cells : (ws : List Stmt) (last : Stmt) (p : ScanPlace) (n : ℕ) → stmts_cells (stmts_of (workers_stmts p n)) (declared_cells (program_with ws last)) ≡ n
 workers_cells ws last p zero = ap (λ l. stmts_cells (stmts_of l) (declared_cells (program_with ws last))) (no_stmts p)
 workers_cells ws last p (suc n) =
     let s : Stmt = worker_stmt (past p (workers n)) (suc n) in
@@ -39,7 +39,7 @@ workers_cells ws last p (suc n) =
     let d = workers_cells ws last p n in
     omega (arith, a, b, c, d)
 
-main_cells : (ws : List Stmt) (last : Stmt) (q : Place) (n : ℕ) → routine_cells (program_with ws (count_stmt q n)) (main_with ws (count_stmt q n)) ≡ 0 + (1 + (stmts_cells (stmts_of ws) (declared_cells (program_with ws (count_stmt q n))) + (0 + 0)))
+main_cells : (ws : List Stmt) (last : Stmt) (q : ScanPlace) (n : ℕ) → routine_cells (program_with ws (count_stmt q n)) (main_with ws (count_stmt q n)) ≡ 0 + (1 + (stmts_cells (stmts_of ws) (declared_cells (program_with ws (count_stmt q n))) + (0 + 0)))
 main_cells ws last q n = refl
 
 -- the frame of this routine fits
@@ -55,7 +55,7 @@ each_fits n h (suc (suc zero)) = omega arith
 each_fits n h (suc (suc (suc zero))) = omega arith
 each_fits n h (suc (suc (suc (suc zero)))) =
     let ws : List Stmt = workers_stmts front_end n in
-    let q : Place = past front_end (workers n) in
+    let q : ScanPlace = past front_end (workers n) in
     let a = main_cells ws (count_stmt q n) q n in
     let b = workers_cells ws (count_stmt q n) front_end n in
     omega (arith, a, b, h)
@@ -70,10 +70,10 @@ size_more : (ss : List Stmt) (s : Stmt) → stmts_size (stmts_of (ss ++ s ∷ []
 size_more [] s = omega arith
 size_more (r ∷ ss) s = let e = size_more ss s in omega (arith, e)
 
-worker_size : (p : Place) (k : ℕ) → stmt_size (worker_stmt p k) ≡ 4
+worker_size : (p : ScanPlace) (k : ℕ) → stmt_size (worker_stmt p k) ≡ 4
 worker_size p k = refl
 
-workers_size : (p : Place) (n : ℕ) → stmts_size (stmts_of (workers_stmts p n)) ≡ 4 * n
+workers_size : (p : ScanPlace) (n : ℕ) → stmts_size (stmts_of (workers_stmts p n)) ≡ 4 * n
 workers_size p zero = ap (λ l. stmts_size (stmts_of l)) (no_stmts p)
 workers_size p (suc n) =
     let s : Stmt = worker_stmt (past p (workers n)) (suc n) in
@@ -84,11 +84,11 @@ workers_size p (suc n) =
     omega (arith, a, b, c, d)
 
 -- no worker is a way out
-exits_more : (ss : List Stmt) (p : Place) (j k : ℕ) → exits_all (stmts_of (ss ++ worker_stmt p j ∷ [])) k ≡ exits_all (stmts_of ss) k
+exits_more : (ss : List Stmt) (p : ScanPlace) (j k : ℕ) → exits_all (stmts_of (ss ++ worker_stmt p j ∷ [])) k ≡ exits_all (stmts_of ss) k
 exits_more [] p j k = refl
 exits_more (s ∷ ss) p j k = ap (λ x. exits s k + x) (exits_more ss p j (k + declares s))
 
-no_exits : (p : Place) (n k : ℕ) → exits_all (stmts_of (workers_stmts p n)) k ≡ 0
+no_exits : (p : ScanPlace) (n k : ℕ) → exits_all (stmts_of (workers_stmts p n)) k ≡ 0
 no_exits p zero k = ap (λ l. exits_all (stmts_of l) k) (no_stmts p)
 no_exits p (suc n) k = ap (λ l. exits_all (stmts_of l) k) (more_stmts p n) ∙ exits_more (workers_stmts p n) (past p (workers n)) (suc n) k ∙ no_exits p n k
 

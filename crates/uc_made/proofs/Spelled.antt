@@ -11,7 +11,7 @@ use Rattle.uc_tree.specs.declared.token.Sign.TheVariants as sign
 use Rattle.uc_tree.specs.declared.kinds.Base.TheVariants as base
 use Rattle.uc_tree.specs.declared.kinds.Role.TheVariants as role
 use Rattle.uc_tree.specs.declared.kinds.Owner.TheVariants as owner
-use Rattle.uc_tree.specs.declared.scan.Place.{Place}
+use Rattle.uc_tree.specs.declared.scan.ScanPlace.{ScanPlace}
 use Rattle.uc_tree.specs.Tokens.{tokens_from, found_at}
 use Rattle.uc_tree.specs.Statements.{Stmt, Block, stmts_of}
 use Rattle.uc_tree.specs.Programs.{Item, RoutineItem}
@@ -49,17 +49,17 @@ same_more k (x ∷ xs) vs le (suc i) h = same_more (suc i) xs vs (omega (arith, 
 
 -- the line of a worker, before whatever token
 
-worker_read : (p : Place) (k : ℕ) (x : Token) → read (reader 16) (inside block_stmt_name) (worker_tokens p k ++ x ∷ []) 0 ≡ Found 8 (worker_stmt p k)
+worker_read : (p : ScanPlace) (k : ℕ) (x : Token) → read (reader 16) (inside block_stmt_name) (worker_tokens p k ++ x ∷ []) 0 ≡ Found 8 (worker_stmt p k)
 unfolding read reader read_run
 worker_read p k x = refl
 
-worker_spelled : (p : Place) (k : ℕ) (ys : List Token) → 0 < length ys → Spells (inner 16) (inside block_stmt_name) (worker_tokens p k ++ ys) 0 8 (worker_stmt p k)
+worker_spelled : (p : ScanPlace) (k : ℕ) (ys : List Token) → 0 < length ys → Spells (inner 16) (inside block_stmt_name) (worker_tokens p k ++ ys) 0 8 (worker_stmt p k)
 worker_spelled p k [] some = absurd (omega (arith, some))
 worker_spelled p k (x ∷ more) some =
     (fits (inside block_stmt_name) 16 16).local (worker_tokens p k ++ x ∷ []) (worker_tokens p k ++ x ∷ more) 0 8 (worker_stmt p k) (same_front (worker_tokens p k ++ x ∷ []) [] more)
     (spelled (inside block_stmt_name) (worker_tokens p k ++ x ∷ []) 0 8 (worker_stmt p k) (worker_read p k x))
 
-workers_count : (p : Place) (n : ℕ) → length (workers_tokens p n) ≡ 8 * n
+workers_count : (p : ScanPlace) (n : ℕ) → length (workers_tokens p n) ≡ 8 * n
 workers_count p zero = ap length (none_yet p)
 workers_count p (suc n) =
     let e : length (workers_tokens p (suc n)) ≡ length (workers_tokens p n ++ worker_tokens (past p (workers n)) (suc n)) = ap length (one_more p n) in
@@ -79,10 +79,10 @@ same_run : (ts us : List Token) (from to : ℕ) (ss rs : List Stmt) → ts ≡ u
 same_run ts us from to ss rs e f r = subst (λ l. Run in_braces Stands us from to l) f (subst (λ l. Run in_braces Stands l from to ss) e r)
 
 -- the lines of workers, behind these tokens and before others
-workers_spelled : (xs : List Token) (p : Place) (n : ℕ) (ys : List Token) → 0 < length ys → Run in_braces Stands ((xs ++ workers_tokens p n) ++ ys) (length xs) (length xs + 8 * n) (workers_stmts p n)
+workers_spelled : (xs : List Token) (p : ScanPlace) (n : ℕ) (ys : List Token) → 0 < length ys → Run in_braces Stands ((xs ++ workers_tokens p n) ++ ys) (length xs) (length xs + 8 * n) (workers_stmts p n)
 workers_spelled xs p zero ys some = no_run ((xs ++ workers_tokens p zero) ++ ys) (length xs) (length xs + 8 * zero) (workers_stmts p zero) (omega arith) (no_stmts p)
 workers_spelled xs p (suc n) ys some =
-    let q : Place = past p (workers n) in
+    let q : ScanPlace = past p (workers n) in
     let w : List Token = worker_tokens q (suc n) in
     let ts : List Token = (xs ++ workers_tokens p n) ++ (w ++ ys) in
     let count : length (workers_tokens p n) ≡ 8 * n = workers_count p n in
@@ -169,7 +169,7 @@ total_stmt_read : read (reader 16) (inside block_stmt_name) front_tokens 109 ≡
 unfolding read reader read_run front_tokens placed tokens_from found_at
 total_stmt_read = refl
 
-count_read : (q : Place) (n : ℕ) → read (reader 16) (inside block_stmt_name) (end_tokens q n) 1 ≡ Found 17 (count_stmt q n)
+count_read : (q : ScanPlace) (n : ℕ) → read (reader 16) (inside block_stmt_name) (end_tokens q n) 1 ≡ Found 17 (count_stmt q n)
 unfolding read reader read_run
 count_read q n = refl
 
@@ -216,7 +216,7 @@ begun_at : (p : Option TokenKind → Bool) (ts : List Token) (at : ℕ) (o : Opt
 begun_at p ts at o e f = subst (λ (x : Option TokenKind). IsTrue (p x)) (sym e) f
 
 module _ (n : ℕ) where
-  abbrev q : Place
+  abbrev q : ScanPlace
   q = past front_end (workers n)
 
   abbrev W : List Token

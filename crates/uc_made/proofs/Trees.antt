@@ -2,13 +2,13 @@
 use Rattle.std.proofs.Common.{◌≡◌, ℕ, zero, suc, Bool, true, false, List, [], ◌∷◌, ◌++◌, refl}
 use Rattle.std.specs.Prelude.{pos, decimal, codes, Some, None}
 use Rattle.uc_tree.specs.declared.pos.Pos.{Pos}
-use Rattle.uc_tree.specs.declared.scan.Place.{Place}
+use Rattle.uc_tree.specs.declared.scan.ScanPlace.{ScanPlace}
 use Rattle.uc_tree.specs.declared.ops.BinaryOp.TheVariants as binary
 use Rattle.uc_tree.specs.declared.ops.AssignOp.TheVariants as assign
 use Rattle.uc_tree.specs.declared.kinds.Base.TheVariants as base
 use Rattle.uc_tree.specs.declared.kinds.Kind.TheVariants as kind
 use Rattle.uc_tree.specs.declared.kinds.Access.TheVariants as access
-use Rattle.uc_tree.specs.declared.kinds.Mark.TheVariants as mark
+use Rattle.uc_tree.specs.declared.kinds.MutexMark.TheVariants as mark
 use Rattle.uc_tree.specs.declared.kinds.Role.TheVariants as role
 use Rattle.uc_tree.specs.declared.kinds.Owner.TheVariants as owner
 use Rattle.uc_tree.specs.declared.kinds.Param.{Param}
@@ -111,26 +111,26 @@ abbrev pub total_stmt : Stmt
 total_stmt = Declare (at 6 1) (base.Named (codes "Total")) (field (at 6 7) false (codes "t") ∷ [])
 
 -- the declarator of a worker whose line begins at this place
-abbrev pub worker_declarator : Place → ℕ → Declarator
+abbrev pub worker_declarator : ScanPlace → ℕ → Declarator
 worker_declarator p k = record { pos = (name_place p).pos; by_ref = false; name = 119 ∷ decimal k; len = None; start = StartArgs (exprs_of (named (past (open_place p k) (codes "(")).pos (codes "t") ∷ Number (number_place p k).pos (pos k) ∷ [])) }
 
-abbrev pub worker_stmt : Place → ℕ → Stmt
+abbrev pub worker_stmt : ScanPlace → ℕ → Stmt
 worker_stmt p k = Declare p.pos (base.Named (codes "Worker")) (worker_declarator p k ∷ [])
 
-pub workers_stmts : Place → ℕ → List Stmt
+pub workers_stmts : ScanPlace → ℕ → List Stmt
 workers_stmts p zero = []
 workers_stmts p (suc n) = workers_stmts p n ++ worker_stmt (past p (workers n)) (suc n) ∷ []
 
-pub no_stmts : (p : Place) → workers_stmts p zero ≡ []
+pub no_stmts : (p : ScanPlace) → workers_stmts p zero ≡ []
 unfolding workers_stmts
 no_stmts p = refl
 
-pub more_stmts : (p : Place) (n : ℕ) → workers_stmts p (suc n) ≡ workers_stmts p n ++ worker_stmt (past p (workers n)) (suc n) ∷ []
+pub more_stmts : (p : ScanPlace) (n : ℕ) → workers_stmts p (suc n) ≡ workers_stmts p n ++ worker_stmt (past p (workers n)) (suc n) ∷ []
 unfolding workers_stmts
 more_stmts p n = refl
 
 -- what is printed, where the lines of workers end at the first place and the number of tasks ends at the second
-abbrev printed : Place → Place → ℕ → Stmt
+abbrev printed : ScanPlace → ScanPlace → ℕ → Stmt
 printed q r n = Print (past q (codes "}\n")).pos (
     Literal (past q (codes "}\ncout ")).pos (codes "tasks ")
     ∷ Printed (past q (codes "}\ncout << " ++ (quoted (codes "tasks ") ++ codes " "))).pos (Number (count_place q).pos (pos n))
@@ -138,7 +138,7 @@ printed q r n = Print (past q (codes "}\n")).pos (
     ∷ Printed (past (total_place r) (codes " ")).pos (Postfix (past (total_place r) (codes " << ")).pos (named (past (total_place r) (codes " << ")).pos (codes "t")) (parts_of (Field (past (total_place r) (codes " << t")).pos (codes "get") ∷ Call (past (total_place r) (codes " << t.get")).pos NoExprs ∷ [])))
     ∷ Endl (past (total_place r) (codes " << t.get() ")).pos ∷ [])
 
-abbrev pub count_stmt : Place → ℕ → Stmt
+abbrev pub count_stmt : ScanPlace → ℕ → Stmt
 count_stmt q n = printed q (past (count_place q) (decimal n)) n
 
 -- a main with this block of workers, and this statement behind it

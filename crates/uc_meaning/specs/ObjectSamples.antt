@@ -10,7 +10,7 @@ use Rattle.uc_tree.specs.declared.kinds.Role.{Role}
 use Rattle.uc_tree.specs.declared.kinds.Role.TheVariants as role
 use Rattle.uc_tree.specs.declared.kinds.Kind.TheVariants as kind_of
 use Rattle.uc_tree.specs.declared.kinds.Access.TheVariants as access
-use Rattle.uc_tree.specs.declared.kinds.Mark.TheVariants as mark
+use Rattle.uc_tree.specs.declared.kinds.MutexMark.TheVariants as mark
 use Rattle.uc_tree.specs.declared.kinds.Param.{Param}
 use Rattle.uc_tree.specs.declared.ops.BinaryOp.{BinaryOp}
 use Rattle.uc_tree.specs.declared.ops.BinaryOp.TheVariants as binary

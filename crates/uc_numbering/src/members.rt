@@ -10,7 +10,7 @@ ghost use Rattle.uc_tree.specs.ProgramViews.{member_form_at};
 
 use std::alloc::{AllocError, Global};
 use uc_tree::class::{Class, Member, MemberForm, Sig};
-use uc_tree::kinds::{Access, Kind, Mark, Role};
+use uc_tree::kinds::{Access, Kind, MutexMark, Role};
 use uc_tree::limits::MEMBERS;
 use uc_tree::name::Name;
 
@@ -37,13 +37,13 @@ fn is_public(access: Access) -> bool
     }
 }
 
-fn is_exclusive(mark: Mark, access: Access) -> bool
+fn is_exclusive(mark: MutexMark, access: Access) -> bool
     ensures { result ≡ is_exclusive mark access }
 {
     match mark {
-        Mark::Unmarked => is_public(access),
-        Mark::Mutex => true,
-        Mark::Nomutex => false,
+        MutexMark::Unmarked => is_public(access),
+        MutexMark::Mutex => true,
+        MutexMark::Nomutex => false,
     }
 }
 

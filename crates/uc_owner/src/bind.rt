@@ -11,7 +11,7 @@ ghost use Rattle.uc_owner.specs.Bound.{AreBound};
 
 use std::alloc::{AllocError, Global};
 use uc_names::scope::Scope;
-use uc_rules::rules::{Meant, Origin};
+use uc_rules::rules::{NameMeaning, Origin};
 use uc_tree::class::{Class, Init, Member, MemberForm, Routine};
 use uc_tree::expr::{Expr, ExprForm};
 use uc_tree::name::Name;
@@ -36,7 +36,7 @@ fn is_field_origin(origin: Origin) -> bool
     matches!(origin, Origin::Field { .. })
 }
 
-fn is_field_meant(meant: Option<Meant>) -> bool
+fn is_field_meant(meant: Option<NameMeaning>) -> bool
     ensures { result ≡ is_field_meant meant }
 {
     match meant {

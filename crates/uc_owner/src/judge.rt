@@ -11,14 +11,14 @@ ghost use Rattle.uc_rules.specs.Sorts.{sort_of};
 ghost use Rattle.uc_tree.specs.Numbering.{is_mutex};
 ghost use Rattle.uc_types.specs.FirstBreak.{told};
 ghost use Rattle.uc_rules.specs.declared.rules.FieldPlace.{FieldPlace};
-ghost use Rattle.uc_rules.specs.declared.rules.Home as rules;
+ghost use Rattle.uc_rules.specs.declared.rules.OwnClass as rules;
 ghost use Rattle.uc_tree.specs.declared.kinds.Base as base;
 ghost use Rattle.uc_owner.specs.Bound.{AreBound};
 
 use crate::bind::{BoundFields, is_bound_inside, root_name};
 use std::alloc::AllocError;
 use uc_rules::rule::Rule;
-use uc_rules::rules::{Expected, Home, Meant, Origin, Sort};
+use uc_rules::rules::{Expected, NameMeaning, Origin, OwnClass, Sort};
 use uc_tree::class::Class;
 use uc_tree::declare::Declarator;
 use uc_tree::expr::Expr;
@@ -39,7 +39,7 @@ fn is_shared(sort: Sort) -> bool
     is_cluster(sort) || is_mutex_sort(sort)
 }
 
-fn is_home_of_mutex(home: Option<Home>) -> bool
+fn is_home_of_mutex(home: Option<OwnClass>) -> bool
     ensures { result ≡ is_home_of is_mutex home }
 {
     match home {
@@ -156,7 +156,7 @@ fn note_unshared(
 fn note_home(
     names: &Names,
     class: &Class,
-    home: Home,
+    home: OwnClass,
     bound: BoundFields,
     sort: Option<Sort>,
     declarator: &Declarator,
@@ -233,7 +233,7 @@ fn is_root_origin(origin: Origin) -> bool
     }
 }
 
-fn is_root(meant: Option<Meant>) -> bool
+fn is_root(meant: Option<NameMeaning>) -> bool
     ensures { result ≡ is_root meant }
 {
     match meant {

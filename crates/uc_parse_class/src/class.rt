@@ -16,7 +16,7 @@ use uc_grammar::fault::ParseFault;
 use uc_parse_expr::peek::{expect_sign, is_sign, pos_at, read_name};
 use uc_parse_stmt::peek::in_braces_at;
 use uc_tree::class::{Class, Member, MemberForm};
-use uc_tree::kinds::{Access, Forward, Kind, Mark};
+use uc_tree::kinds::{Access, Forward, Kind, MutexMark};
 use uc_tree::name::Name;
 use uc_tree::pos::Pos;
 use uc_tree::program::{Item, ItemForm};
@@ -28,7 +28,7 @@ pub enum Part {
     Access(Access),
     Member {
         pos: Pos,
-        mark: Mark,
+        mark: MutexMark,
         form: MemberForm,
     },
 }

@@ -10,7 +10,7 @@ ghost use Rattle.uc_parse_class.specs.Forms.{mutex_kind_form};
 
 use uc_grammar::fault::ParseFault;
 use uc_parse_expr::peek::word_at;
-use uc_tree::kinds::{Access, Base, Kind, Mark};
+use uc_tree::kinds::{Access, Base, Kind, MutexMark};
 use uc_tree::token::{Token, Word};
 
 /// Whether a token stands at a place.
@@ -44,16 +44,16 @@ pub fn access_at(tokens: &[Token], at: u32) -> Option<Access>
 }
 
 /// The mark of a member, if there is one, and the place behind it.
-pub fn skip_mark(tokens: &[Token], at: u32) -> (Mark, u32)
+pub fn skip_mark(tokens: &[Token], at: u32) -> (MutexMark, u32)
     requires begins { at ≤ length tokens.now }
     requires few { length tokens.now < 2 ^ 32 }
     ensures found { (room : ℕ) → Spells (inner room) mark_form tokens.now at result.1 result.0 }
     ensures moved { (at ≤ result.1) × (result.1 ≤ length tokens.now) }
 {
     match word_at(tokens, at) {
-        Some(Word::Mutex) => (Mark::Mutex, at + 1),
-        Some(Word::Nomutex) => (Mark::Nomutex, at + 1),
-        _ => (Mark::Unmarked, at),
+        Some(Word::Mutex) => (MutexMark::Mutex, at + 1),
+        Some(Word::Nomutex) => (MutexMark::Nomutex, at + 1),
+        _ => (MutexMark::Unmarked, at),
     }
 }
 

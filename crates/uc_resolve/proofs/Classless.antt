@@ -2,7 +2,7 @@
 use Rattle.std.proofs.Common.{◌≡◌, ℕ, zero, suc, ◌+◌, List, [], ◌∷◌, ◌++◌, Option, Some, None, refl, sym, ap, ◌∙◌, subst, length, append-nil}
 use Rattle.uc_tree.specs.declared.kinds.Base.{Base}
 use Rattle.uc_tree.specs.declared.kinds.Base.TheVariants as base
-use Rattle.uc_tree.specs.declared.rows.Object.{Object}
+use Rattle.uc_tree.specs.declared.rows.FieldClass.{FieldClass}
 use Rattle.uc_tree.specs.Programs.{Class, Program}
 use Rattle.uc_tree.specs.Cells.{classes_of, object_of}
 use Rattle.uc_tree.specs.Numbering.{routines_of}

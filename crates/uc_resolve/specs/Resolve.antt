@@ -7,7 +7,7 @@ use Rattle.uc_tree.specs.declared.kinds.Kind.{Kind}
 use Rattle.uc_tree.specs.declared.kinds.Kind.TheVariants as kind
 use Rattle.uc_tree.specs.declared.kinds.EventName.{EventName}
 use Rattle.uc_tree.specs.declared.kinds.Ty.{Ty}
-use Rattle.uc_tree.specs.declared.kinds.Known.{Known}
+use Rattle.uc_tree.specs.declared.kinds.LocalVariable.{LocalVariable}
 use Rattle.uc_tree.specs.declared.kinds.Role.{Role}
 use Rattle.uc_tree.specs.declared.kinds.Role.TheVariants as role
 use Rattle.uc_tree.specs.declared.kinds.Param.{Param}
@@ -37,7 +37,7 @@ pub use Rattle.uc_resolve.specs.Standings.{scalar, int_type, bool_type, converte
 pub record Scope : Type 0 where
   pub class : Option ℕ
   pub routine : ℕ
-  pub names : List Known
+  pub names : List LocalVariable
   pub handled : ℕ
   pub cells : ℕ
   pub hidden : ℕ
@@ -174,7 +174,7 @@ module _ (p : whole.Program) where
   declared_type b d = record { base = b; by_ref = d.by_ref; len = length_of d d.len }
 
   -- a local is in scope from the end of its declarator on
-  abbrev pub declared_known : Scope → Base → stmt.Declarator → Known
+  abbrev pub declared_known : Scope → Base → stmt.Declarator → LocalVariable
   declared_known s b d = record { name = d.name; ty = declared_type b d; cell = s.cells }
 
   abbrev pub with_declared : Scope → Base → stmt.Declarator → Scope
@@ -219,7 +219,7 @@ module _ (p : whole.Program) where
   declared_alone (Some m) line b ds s = Block line (objects_scoped m line b ds s Nil)
 
   -- a declaration alone leaves names behind it
-  abbrev pub names_behind : stmt.Stmt → Scope → List Known
+  abbrev pub names_behind : stmt.Stmt → Scope → List LocalVariable
   names_behind (stmt.Declare place b ds) s = (with_all s b ds).names
   names_behind _ s = s.names
 
@@ -383,10 +383,10 @@ module _ (p : whole.Program) where
     stmts_meant (stmt.MoreStmts first rest) s = stmt_then first s (stmt_meant first s) (stmts_meant rest (scope_after first s))
 
   -- parameters are in scope, and have the first cells
-  abbrev pub param_known : ℕ → Param → Known
+  abbrev pub param_known : ℕ → Param → LocalVariable
   param_known cell x = record { name = x.name; ty = record { base = x.base; by_ref = x.by_ref; len = None }; cell = cell }
 
-  abbrev pub params_known : ℕ → List Param → List Known
+  abbrev pub params_known : ℕ → List Param → List LocalVariable
   params_known cell [] = []
   params_known cell (x ∷ xs) = param_known cell x ∷ params_known (cell + param_cells p x) xs
 

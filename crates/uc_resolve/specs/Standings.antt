@@ -5,7 +5,7 @@ use Rattle.uc_tree.specs.declared.kinds.Base.{Base}
 use Rattle.uc_tree.specs.declared.kinds.Base.TheVariants as base
 use Rattle.uc_tree.specs.declared.kinds.Kind.{Kind}
 use Rattle.uc_tree.specs.declared.kinds.Ty.{Ty}
-use Rattle.uc_tree.specs.declared.kinds.Known.{Known}
+use Rattle.uc_tree.specs.declared.kinds.LocalVariable.{LocalVariable}
 use Rattle.uc_tree.specs.declared.kinds.Owner.{Owner}
 use Rattle.uc_tree.specs.declared.kinds.Owner.TheVariants as owner
 use Rattle.uc_tree.specs.declared.kinds.Param.{Param}
@@ -112,11 +112,11 @@ value_of m = value_by m.standing m.expr
 
 -- names: of the names in scope, from the outermost on, the last one is meant
 
-abbrev pub later_or : Option Known → Known → List ℕ → Option Known
+abbrev pub later_or : Option LocalVariable → LocalVariable → List ℕ → Option LocalVariable
 later_or (Some k) known name = Some k
 later_or None known name = if same_name known.name name then Some known else None
 
-abbrev pub known_named : List Known → List ℕ → Option Known
+abbrev pub known_named : List LocalVariable → List ℕ → Option LocalVariable
 known_named [] name = None
 known_named (k ∷ ks) name = later_or (known_named ks name) k name
 
@@ -125,11 +125,11 @@ abbrev pub has_number : whole.Program → Ty → Bool
 has_number p ty = not (is_some ty.len) && is_numbered (making p ty.base)
 
 -- a reference holds the place that it was bound to, or the number
-abbrev pub known_by : Bool → Known → Meant
+abbrev pub known_by : Bool → LocalVariable → Meant
 known_by true k = record { expr = Get k.cell; ty = k.ty; standing = AsNumber }
 known_by false k = if k.ty.by_ref then record { expr = Get k.cell; ty = k.ty; standing = AtPlace } else record { expr = Variable k.cell; ty = k.ty; standing = AtVariable k.cell }
 
-abbrev pub known_meant : whole.Program → Known → Meant
+abbrev pub known_meant : whole.Program → LocalVariable → Meant
 known_meant p k = known_by (has_number p k.ty) k
 
 -- constants and routines of the program, which any item may name
@@ -284,7 +284,7 @@ own_meant p None name = item_meant p name
 own_meant p (Some i) name = meant_or (member_meant p i Own name).standing (member_meant p i Own name) (item_meant p name)
 
 -- a local hides what its class and the program have under its name
-abbrev pub name_meant : whole.Program → Option ℕ → List ℕ → Option Known → Meant
+abbrev pub name_meant : whole.Program → Option ℕ → List ℕ → Option LocalVariable → Meant
 name_meant p class name None = own_meant p class name
 name_meant p class name (Some k) = known_meant p k
 
@@ -456,7 +456,7 @@ pub record Context : Type 0 where
   pub program : whole.Program
   pub class : Option ℕ
   pub routine : ℕ
-  pub names : List Known
+  pub names : List LocalVariable
 
 -- what expressions stand for there
 module _ (c : Context) where

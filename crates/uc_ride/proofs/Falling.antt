@@ -2,8 +2,8 @@
 use Rattle.std.proofs.Common.{◌≡◌, ℕ, ◌+◌, ◌^◌, ◌<◌, List, [], ◌∷◌, length, ◌⊎◌, inl, inr, Option, Some, None, Bool, true, false, refl, sym, ap, subst, ◌∙◌, arith}
 use Rattle.std.specs.Prelude.{◌&&◌, nat_eq, slice_get, if◌then◌else◌}
 use Rattle.std.proofs.lemmas.Bool.{eq-eqb}
-use Rattle.uc_machine.specs.declared.exec.Reason.{Reason}
-use Rattle.uc_machine.specs.declared.exec.Reason.TheVariants as reason
+use Rattle.uc_machine.specs.declared.exec.UnwindReason.{UnwindReason}
+use Rattle.uc_machine.specs.declared.exec.UnwindReason.TheVariants as reason
 use Rattle.uc_machine.specs.declared.exec.Visited.{Visited}
 use Rattle.uc_machine.specs.Raising.{why_by}
 use Rattle.uc_code.specs.declared.op.Op.TheVariants as op
@@ -217,7 +217,7 @@ module _ (code : Code) (w : ℕ) where
 
   -- the one that waits is unwound in its turn
 
-  passed_by : (why : Reason) (m n : Machine) (us : List Active) → m.callers ≡ us → (us ≡ [] → ⊥) → n ≡ passed why m.run.result us m → UnwoundBelow (laid_of code) code.routines w m → UnwoundBelow (laid_of code) code.routines w n × (left_in code n < left_in code m)
+  passed_by : (why : UnwindReason) (m n : Machine) (us : List Active) → m.callers ≡ us → (us ≡ [] → ⊥) → n ≡ passed why m.run.result us m → UnwoundBelow (laid_of code) code.routines w m → UnwoundBelow (laid_of code) code.routines w n × (left_in code n < left_in code m)
   passed_by why m n [] e f b u = absurd (f refl)
   passed_by why m n (c ∷ us) e f b u =
       let p = ap (λ (y : Machine). y.callers) b in
@@ -227,15 +227,15 @@ module _ (code : Code) (w : ℕ) where
       let k = ap (λ (y : Machine). y.run.counts) b in
       (passes (laid_of code) code.routines w m n c us e p q i h k u, passes_less (laid_of code) code.routines m n c us e p q i h k)
 
-  passed_on_by : (why : Reason) (m n : Machine) (us : List Active) → m.callers ≡ us → (us ≡ [] → ⊥) → n ≡ passed_for why us m → UnwoundBelow (laid_of code) code.routines w m → UnwoundBelow (laid_of code) code.routines w n × (left_in code n < left_in code m)
+  passed_on_by : (why : UnwindReason) (m n : Machine) (us : List Active) → m.callers ≡ us → (us ≡ [] → ⊥) → n ≡ passed_for why us m → UnwoundBelow (laid_of code) code.routines w m → UnwoundBelow (laid_of code) code.routines w n × (left_in code n < left_in code m)
   passed_on_by why m n [] e f b u = absurd (f refl)
   passed_on_by why m n (c ∷ us) e f b u = passed_by (why_by why c.raised) m n (c ∷ us) e f b u
 
-  pub passed_falls : (why : Reason) (m n : Machine) → (m.callers ≡ [] → ⊥) → n ≡ passed_for why m.callers m → UnwoundBelow (laid_of code) code.routines w m → UnwoundBelow (laid_of code) code.routines w n × (left_in code n < left_in code m)
+  pub passed_falls : (why : UnwindReason) (m n : Machine) → (m.callers ≡ [] → ⊥) → n ≡ passed_for why m.callers m → UnwoundBelow (laid_of code) code.routines w m → UnwoundBelow (laid_of code) code.routines w n × (left_in code n < left_in code m)
   passed_falls why m n f b u = passed_on_by why m n m.callers refl f b u
 
   -- an event is thrown
-  pub thrown_goes : (why : Reason) (m n : Machine) → n ≡ thrown why m → UnwoundBelow (laid_of code) code.routines w m → UnwoundBelow (laid_of code) code.routines w n
+  pub thrown_goes : (why : UnwindReason) (m n : Machine) → n ≡ thrown why m → UnwoundBelow (laid_of code) code.routines w m → UnwoundBelow (laid_of code) code.routines w n
   thrown_goes why m n b u =
       unwound_as (laid_of code) code.routines w m n (ap (λ (y : Machine). y.callers) b) (ap (λ (y : Machine). y.run.control) b) (ap (λ (y : Machine). y.run.elements) b) (ap (λ (y : Machine). y.run.handles) b) (ap (λ (y : Machine). y.run.counts) b) u
 
@@ -252,7 +252,7 @@ module _ (code : Code) (w : ℕ) where
 
   -- a main ends for one that waits
 
-  main_calls : (held : Bool) (r : Option Reason) (us : List Active) → end.Returned ≡ main_by held r us → us ≡ [] → ⊥
+  main_calls : (held : Bool) (r : Option UnwindReason) (us : List Active) → end.Returned ≡ main_by held r us → us ≡ [] → ⊥
   main_calls held None us e f = absurd (cc)
   main_calls held (Some (reason.Event n x y)) us e f = absurd (cc)
   main_calls true (Some (reason.ReturnTo home)) us e f = absurd (cc)
@@ -265,7 +265,7 @@ module _ (code : Code) (w : ℕ) where
 
   -- the running activation is left
 
-  waits_for : (r : Option Reason) (us : List Active) (o : Left) → o ≡ ending_by r us → (o ≡ leave.Ended → ⊥) → us ≡ [] → ⊥
+  waits_for : (r : Option UnwindReason) (us : List Active) (o : Left) → o ≡ ending_by r us → (o ≡ leave.Ended → ⊥) → us ≡ [] → ⊥
   waits_for r [] o e f g = f e
   waits_for r (c ∷ us) o e f g = absurd (cc)
 
@@ -278,7 +278,7 @@ module _ (code : Code) (w : ℕ) where
   pub leave_returns : (m n : Machine) → leave.Returned ≡ ending_by m.run.raised m.callers → n ≡ left_as leave.Returned m → UnwoundBelow (laid_of code) code.routines w m → RunLowers code w n
   leave_returns m n e b u = returned_goes m.run.result m n (waits_for m.run.raised m.callers leave.Returned e returned_is) b (may_leave (laid_of code) code.routines w m u)
 
-  why_passed : (r : Option Reason) (us : List Active) → leave.PassedOn ≡ ending_by r us → (why : Reason) × (r ≡ Some why)
+  why_passed : (r : Option UnwindReason) (us : List Active) → leave.PassedOn ≡ ending_by r us → (why : UnwindReason) × (r ≡ Some why)
   why_passed None [] e = absurd (cc)
   why_passed None (c ∷ us) e = absurd (cc)
   why_passed (Some why) us e = (why, refl)

@@ -2,8 +2,8 @@
 use Rattle.std.proofs.Common.{◌≡◌, ℕ, ℤ, List, [], ◌∷◌, inl, inr, Option, Some, None, Bool, true, false, refl, sym, ap, subst, ◌∙◌}
 use Rattle.std.specs.Prelude.{slice_get}
 use Rattle.uc_tree.specs.Source.{Source}
-use Rattle.uc_machine.specs.declared.exec.Reason.{Reason}
-use Rattle.uc_machine.specs.declared.exec.Reason.TheVariants as reason
+use Rattle.uc_machine.specs.declared.exec.UnwindReason.{UnwindReason}
+use Rattle.uc_machine.specs.declared.exec.UnwindReason.TheVariants as reason
 use Rattle.uc_machine.specs.declared.exec.Visited.{Visited}
 use Rattle.uc_entry.specs.declared.fault.RunFault.{RunFault}
 use Rattle.uc_entry.specs.declared.fault.RunFault.TheVariants.{Unhandled, EscapeInUnwind, BlockedInside}
@@ -75,7 +75,7 @@ module _ (source : Source) (code : Laid) where
   fields_as e v x y i j q =
       q ∙ sym (ap (λ k. let u : raising.Event = record { number = e.number; x = k; y = y } in u) i ∙ ap (λ k. let u : raising.Event = record { number = e.number; x = e.x; y = k } in u) j)
 
-  pub reason_as : (r : Option Reason) (n : ℕ) (x y u v : ℤ) → r ≡ Some (reason.Event n x y) → u ≡ x → v ≡ y → r ≡ Some (reason.Event n u v)
+  pub reason_as : (r : Option UnwindReason) (n : ℕ) (x y u v : ℤ) → r ≡ Some (reason.Event n x y) → u ≡ x → v ≡ y → r ≡ Some (reason.Event n u v)
   reason_as r n x y u v q i j = q ∙ sym (ap (λ k. Some (reason.Event n k v)) i ∙ ap (λ k. Some (reason.Event n x k)) j)
 
   -- an event is thrown, or no handler is found for it

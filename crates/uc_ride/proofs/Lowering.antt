@@ -1,8 +1,8 @@
 -- What an event or a switch leads to leaves less to do in all executions.
 use Rattle.std.proofs.Common.{◌≡◌, ℕ, ◌+◌, ◌^◌, ◌<◌, List, [], ◌∷◌, length, Option, Some, None, Bool, true, false, refl, sym, ap, subst, arith}
 use Rattle.std.specs.Prelude.{slice_get}
-use Rattle.uc_machine.specs.declared.exec.Reason.{Reason}
-use Rattle.uc_machine.specs.declared.exec.Reason.TheVariants as reason
+use Rattle.uc_machine.specs.declared.exec.UnwindReason.{UnwindReason}
+use Rattle.uc_machine.specs.declared.exec.UnwindReason.TheVariants as reason
 use Rattle.uc_machine.specs.declared.exec.Visited.{Visited}
 use Rattle.uc_entry.specs.declared.fault.RunFault.{RunFault}
 use Rattle.uc_entry.specs.declared.request.Asked.{Asked}
@@ -88,11 +88,11 @@ module _ (code : Code) (w : ℕ) where
 
   -- events
 
-  pub thrown_falls : (e : Event) (why : Reason) (m n : Machine) → n ≡ thrown why m → Falls (Throw e) m → Falls Unwind n
+  pub thrown_falls : (e : Event) (why : UnwindReason) (m n : Machine) → n ≡ thrown why m → Falls (Throw e) m → Falls Unwind n
   thrown_falls e why m n b h =
       within_idly (laid_of code) code.routines (RunFalls code (Throw e)) (RunFalls code Unwind) w m n (same_env m n (ap (λ (x : Machine). x.env) b)) (λ v u. thrown_goes code v why m n b u) h
 
-  pub raised_falls : (e : Event) (why : Reason) (m n : Machine) → n ≡ thrown why m → Falls (Raise e) m → Falls Unwind n
+  pub raised_falls : (e : Event) (why : UnwindReason) (m n : Machine) → n ≡ thrown why m → Falls (Raise e) m → Falls Unwind n
   raised_falls e why m n b h =
       within_idly (laid_of code) code.routines (RunFalls code (Raise e)) (RunFalls code Unwind) w m n (same_env m n (ap (λ (x : Machine). x.env) b)) (λ v u. thrown_goes code v why m n b u.thrown) h
 
@@ -144,15 +144,15 @@ module _ (code : Code) (w : ℕ) where
   left_env given m n [] b = same_env m n (ap (λ (x : Machine). x.env) b)
   left_env given m n (c ∷ us) b = called_env m n _ m.run.counts (ap (λ (x : Machine). x.env) b)
 
-  passed_env : (why : Reason) (given : Cell) (m n : Machine) (us : List Active) → n ≡ passed why given us m → Idly (laid_of code) code.routines m.env n.env
+  passed_env : (why : UnwindReason) (given : Cell) (m n : Machine) (us : List Active) → n ≡ passed why given us m → Idly (laid_of code) code.routines m.env n.env
   passed_env why given m n [] b = same_env m n (ap (λ (x : Machine). x.env) b)
   passed_env why given m n (c ∷ us) b = called_env m n _ m.run.counts (ap (λ (x : Machine). x.env) b)
 
-  passed_for_env : (why : Reason) (m n : Machine) (us : List Active) → n ≡ passed_for why us m → Idly (laid_of code) code.routines m.env n.env
+  passed_for_env : (why : UnwindReason) (m n : Machine) (us : List Active) → n ≡ passed_for why us m → Idly (laid_of code) code.routines m.env n.env
   passed_for_env why m n [] b = same_env m n (ap (λ (x : Machine). x.env) b)
   passed_for_env why m n (c ∷ us) b = called_env m n _ m.run.counts (ap (λ (x : Machine). x.env) b)
 
-  passed_as_env : (o : Option Reason) (m n : Machine) → n ≡ passed_as o m → Idly (laid_of code) code.routines m.env n.env
+  passed_as_env : (o : Option UnwindReason) (m n : Machine) → n ≡ passed_as o m → Idly (laid_of code) code.routines m.env n.env
   passed_as_env None m n b = same_env m n (ap (λ (x : Machine). x.env) b)
   passed_as_env (Some why) m n b = passed_for_env why m n m.callers b
 
@@ -206,7 +206,7 @@ module _ (code : Code) (w : ℕ) where
       let f = h.fits in
       as_quiet n (finish_goes (laid_of code) code.routines m n w (omega arith) h.others (moved_to (finish m) m n e q))
 
-  left_by_falls : (o : Option Reason) (l : ℕ) (m n : Machine) → None ≡ fault_in (left_by o m) → n ≡ state_in m (left_by o m) → EnteredBelow code w l m → Falls Quiet n
+  left_by_falls : (o : Option UnwindReason) (l : ℕ) (m n : Machine) → None ≡ fault_in (left_by o m) → n ≡ state_in m (left_by o m) → EnteredBelow code w l m → Falls Quiet n
   left_by_falls None l m n e q h =
       let u = (entered_leaves code h.part l m h.is).left in
       let f = h.fits in

@@ -17,7 +17,7 @@ ghost use Rattle.uc_frames.specs.UnwindingStands.{LeavesNow, Unwinds};
 ghost use Rattle.uc_coroutine.specs.UnwindingSteps.{Begins};
 ghost use Rattle.uc_step.specs.WeightFalls.{FallsBelow};
 ghost use Rattle.uc_step.specs.Simulation.{behind_line, Follow};
-ghost use Rattle.uc_machine.specs.declared.exec.Reason.TheVariants as reason;
+ghost use Rattle.uc_machine.specs.declared.exec.UnwindReason.TheVariants as reason;
 ghost use Rattle.uc_ride.specs.declared.events.Caught.{Caught};
 ghost use Rattle.uc_ride.specs.UnwindingFalls.{how_settled, how_unwound, row_of, stop_by, test_by, StepFalls, EnteredBelow, left_in};
 
@@ -36,7 +36,7 @@ use uc_except::handling::{handle, throw};
 use uc_except::seeking::{catching_row, propagate};
 use uc_frames::event::Event;
 use uc_frames::work::Work;
-use uc_machine::exec::Reason;
+use uc_machine::exec::UnwindReason;
 use uc_step::stepped::Stepped;
 
 /// How an op ends with what an event or a switch leads to by it: the task goes on, after a tick or without one, or it asks what is then
@@ -257,7 +257,7 @@ fn catcher(code: &Code, work: &Work) -> Option<Caught>
     ensures event { (c : Caught) → result ≡ Some c → work.now.run.raised ≡ Some (reason.Event c.event.number c.event.x c.event.y) }
 {
     match work.raised() {
-        Some(Reason::Event { event, x, y }) => match catching_row(code, work, event) {
+        Some(UnwindReason::Event { event, x, y }) => match catching_row(code, work, event) {
             None => None,
             Some(row) => Some(Caught {
                 row,
@@ -268,8 +268,8 @@ fn catcher(code: &Code, work: &Work) -> Option<Caught>
                 },
             }),
         },
-        Some(Reason::ReturnTo(_)) => None,
-        Some(Reason::Destroyed) => None,
+        Some(UnwindReason::ReturnTo(_)) => None,
+        Some(UnwindReason::Destroyed) => None,
         None => None,
     }
 }

@@ -2,11 +2,11 @@
 use Rattle.std.specs.Prelude.{ℕ, ◌+◌, List, [], ◌∷◌, ◌++◌, Bool, true, false, not, ◌&&◌, ◌||◌, Option, Some, None, is_some, nat_eq, nat_lt, nat_le, length, take, map, option_and_then, slice_get, if◌then◌else◌}
 use Rattle.std.specs.List.{list_any, list_all}
 use Rattle.uc_tree.specs.declared.limits.TheConstants.{CLASS_CELLS, CLASS_CONDITIONS, EVENT_FIELDS, PROGRAM_EVENTS}
-use Rattle.uc_tree.specs.declared.rows.Object.{Object}
+use Rattle.uc_tree.specs.declared.rows.FieldClass.{FieldClass}
 use Rattle.uc_tree.specs.declared.kinds.Base.{Base}
 use Rattle.uc_tree.specs.declared.kinds.Base.TheVariants as base
-use Rattle.uc_tree.specs.declared.kinds.Mark.{Mark}
-use Rattle.uc_tree.specs.declared.kinds.Mark.TheVariants as mark
+use Rattle.uc_tree.specs.declared.kinds.MutexMark.{MutexMark}
+use Rattle.uc_tree.specs.declared.kinds.MutexMark.TheVariants as mark
 use Rattle.uc_tree.specs.declared.kinds.Role.{Role}
 use Rattle.uc_tree.specs.declared.kinds.Role.TheVariants as role
 use Rattle.uc_tree.specs.declared.kinds.Owner.{Owner}
@@ -28,8 +28,8 @@ use Rattle.uc_rules.specs.declared.rules.Entity.TheVariants as entity
 use Rattle.uc_rules.specs.declared.rules.Origin.{Origin}
 use Rattle.uc_rules.specs.declared.rules.Origin.TheVariants as origin
 use Rattle.uc_rules.specs.declared.rules.FieldPlace.{FieldPlace}
-use Rattle.uc_rules.specs.declared.rules.Meant.{Meant}
-use Rattle.uc_rules.specs.declared.rules.Home.{Home}
+use Rattle.uc_rules.specs.declared.rules.NameMeaning.{NameMeaning}
+use Rattle.uc_rules.specs.declared.rules.OwnClass.{OwnClass}
 use Rattle.uc_rules.specs.Sorts.{is_scalar_sort, is_void, has_main, sort_of, class_at}
 use Rattle.uc_rules.specs.Names.{is_constructor, constructor_among, constructor_params, is_field_before}
 use Rattle.uc_rules.specs.Scopes.{Env}
@@ -98,13 +98,13 @@ abbrev pub is_new_routine : Class → ℕ → Sig → Bool
 is_new_routine c j sig = is_new_routine_by sig.role c j sig.name
 
 -- S4: a field leads back to its class
-abbrev pub field_object : Program → Base → Declarator → Option Object
+abbrev pub field_object : Program → Base → Declarator → Option FieldClass
 field_object p b d = if d.by_ref then None else object_of (classes_of p.items) b
 
 abbrev pub leads_back : Program → ℕ → Base → Declarator → Bool
 leads_back p class b d = object_leads (reaches (length (rows_of p)) (rows_of p) class) class (field_object p b d)
 
-abbrev pub home_leads_back : Program → Option Home → Base → Declarator → Bool
+abbrev pub home_leads_back : Program → Option OwnClass → Base → Declarator → Bool
 home_leads_back p None b d = false
 home_leads_back p (Some h) b d = leads_back p h.class b d
 
@@ -168,7 +168,7 @@ is_by_ref (origin.Parameter by_ref) = by_ref
 is_by_ref (origin.Field class k access by_ref i) = by_ref
 is_by_ref _ = false
 
-abbrev pub init_count_breaks : Env → Init → Option Meant → List Break
+abbrev pub init_count_breaks : Env → Init → Option NameMeaning → List Break
 init_count_breaks env x None = []
 init_count_breaks env x (Some m) = asked m.entity (entity_takes env.program (is_by_ref m.origin) (count x.args) (are_single env x.args)) S16 x.pos
 
@@ -188,7 +188,7 @@ abbrev pub is_from : Option FieldPlace → Origin → Bool
 is_from last (origin.Field class k access by_ref i) = is_behind last i
 is_from last _ = false
 
-abbrev pub may_init : Option FieldPlace → Option Meant → Bool
+abbrev pub may_init : Option FieldPlace → Option NameMeaning → Bool
 may_init last None = false
 may_init last (Some m) = is_from last m.origin && maybe_start m.entity
 
@@ -232,7 +232,7 @@ is_well_built p c = is_some (constructor_among c.members) || not (has_unset p []
 
 -- S19: marks stand only in mutex types, not before fields, constructors, destructors and `main`, and a class has at most 31
 -- mutex members besides its destructor
-abbrev pub is_unmarked : Mark → Bool
+abbrev pub is_unmarked : MutexMark → Bool
 is_unmarked mark.Unmarked = true
 is_unmarked _ = false
 

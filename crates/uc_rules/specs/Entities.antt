@@ -20,8 +20,8 @@ use Rattle.uc_rules.specs.declared.rules.Expected.{Expected}
 use Rattle.uc_rules.specs.declared.rules.Expected.TheVariants.{Anything, Nothing, Scalar, Reference}
 use Rattle.uc_rules.specs.declared.rules.Target.{Target}
 use Rattle.uc_rules.specs.declared.rules.Target.TheVariants as target
-use Rattle.uc_rules.specs.declared.rules.Meant.{Meant}
-use Rattle.uc_rules.specs.declared.rules.Home.{Home}
+use Rattle.uc_rules.specs.declared.rules.NameMeaning.{NameMeaning}
+use Rattle.uc_rules.specs.declared.rules.OwnClass.{OwnClass}
 use Rattle.uc_rules.specs.declared.rules.Origin.{Origin}
 use Rattle.uc_rules.specs.declared.rules.Origin.TheVariants as origin
 use Rattle.uc_rules.specs.Sorts.{is_coroutine, is_scalar_sort, is_int, is_char, is_condition, same_sort, sort_of}
@@ -162,12 +162,12 @@ abbrev pub is_operation_name : List ℕ → Bool
 is_operation_name name = is_some (operation_named name)
 
 -- a member of an object of this sort; the members of a condition are no names of a class
-abbrev pub object_member : Program → Sort → List ℕ → Option Meant
+abbrev pub object_member : Program → Sort → List ℕ → Option NameMeaning
 object_member p (sort.Object class k) name = member_named p class name
 object_member p _ name = None
 
 -- the member of a class that is named behind a `.`
-abbrev pub path_member : Program → Entity → List ℕ → Option Meant
+abbrev pub path_member : Program → Entity → List ℕ → Option NameMeaning
 path_member p (Place s) name = object_member p s name
 path_member p _ name = None
 
@@ -208,20 +208,20 @@ abbrev pub other_member : Bool → List ℕ → Entity → Option Entity → Opt
 other_member called name w (Some e) = Some e
 other_member called name w None = if is_object w then None else of_missing called
 
-abbrev pub is_home : Option Home → ℕ → Bool
+abbrev pub is_home : Option OwnClass → ℕ → Bool
 is_home None class = false
 is_home (Some h) class = nat_eq h.class class
 
 -- whether a member may be named behind a `.`: what is not public only in its class, and no field of a coroutine
-abbrev pub is_open : Option Home → Origin → Bool
+abbrev pub is_open : Option OwnClass → Origin → Bool
 is_open home (origin.Field class k access by_ref i) = not (is_coroutine k) && (is_public access || is_home home class)
 is_open home (origin.Method class access) = is_public access || is_home home class
 is_open home _ = true
 
-abbrev pub open_entity : Option Home → Meant → Option Entity
+abbrev pub open_entity : Option OwnClass → NameMeaning → Option Entity
 open_entity home m = if is_open home m.origin then entity_by_path m.entity else None
 
-abbrev pub member_entity : Env → Bool → List ℕ → Entity → Option Meant → Option Entity
+abbrev pub member_entity : Env → Bool → List ℕ → Entity → Option NameMeaning → Option Entity
 member_entity env called name w (Some m) = open_entity env.around.home m
 member_entity env called name w None = other_member called name w (built_in w name)
 
@@ -370,7 +370,7 @@ is_cin _ = false
 abbrev pub is_input : Expr → Parts → Bool
 is_input root parts = is_cin root && field_follows parts
 
-abbrev pub meant_entity : Option Meant → Option Entity
+abbrev pub meant_entity : Option NameMeaning → Option Entity
 meant_entity None = None
 meant_entity (Some m) = m.entity
 

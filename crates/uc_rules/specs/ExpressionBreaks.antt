@@ -20,8 +20,8 @@ use Rattle.uc_rules.specs.declared.rules.Sort.{Sort}
 use Rattle.uc_rules.specs.declared.rules.Sort.TheVariants as sort
 use Rattle.uc_rules.specs.declared.rules.Entity.{Entity}
 use Rattle.uc_rules.specs.declared.rules.Entity.TheVariants.{Method}
-use Rattle.uc_rules.specs.declared.rules.Home.{Home}
-use Rattle.uc_rules.specs.declared.rules.Meant.{Meant}
+use Rattle.uc_rules.specs.declared.rules.OwnClass.{OwnClass}
+use Rattle.uc_rules.specs.declared.rules.NameMeaning.{NameMeaning}
 use Rattle.uc_rules.specs.Sorts.{is_event_class, of_class, sort_of, class_at}
 use Rattle.uc_rules.specs.Names.{constructor_params}
 use Rattle.uc_rules.specs.Scopes.{Env, named, is_own, value_named, event_sort, event_named}
@@ -166,7 +166,7 @@ return_breaks false None p = []
 return_breaks false (Some w) p = unless false S12 p
 
 -- S18: what is not public is named only in its class, and no field of a coroutine behind a `.`
-abbrev pub is_open_member : Option Home → Option Meant → Bool
+abbrev pub is_open_member : Option OwnClass → Option NameMeaning → Bool
 is_open_member home None = true
 is_open_member home (Some m) = is_open home m.origin
 
@@ -183,12 +183,12 @@ abbrev pub is_exclusive_entity : Class → Option Entity → Bool
 is_exclusive_entity c (Some (Method i j inner by_path)) = is_exclusive_member (slice_get c.members j)
 is_exclusive_entity c _ = false
 
-abbrev pub means_exclusive : Class → Option Meant → Bool
+abbrev pub means_exclusive : Class → Option NameMeaning → Bool
 means_exclusive c None = false
 means_exclusive c (Some m) = is_exclusive_entity c m.entity
 
 -- the number of a listed member of a class, where `meant` is what the names of its members mean
-abbrev pub listed_in : (List ℕ → Option Meant) → Option Class → MemberName → Option ℕ
+abbrev pub listed_in : (List ℕ → Option NameMeaning) → Option Class → MemberName → Option ℕ
 listed_in meant None m = None
 listed_in meant (Some c) m =
     if m.destructor then (if is_mutex c.kind && same_name c.name m.name then Some DESTRUCTOR else None)
@@ -217,7 +217,7 @@ all_listed seen [] = seen
 all_listed seen (n ∷ ns) = all_listed (with_listed seen n) ns
 
 -- clauses, of which the first has the place i, behind others that list the members `seen`
-abbrev pub clauses_breaks : (List ℕ → Option Meant) → Option Class → ℕ → List ℕ → Clauses → List Break
+abbrev pub clauses_breaks : (List ℕ → Option NameMeaning) → Option Class → ℕ → List ℕ → Clauses → List Break
 clauses_breaks meant c i seen NoClauses = []
 clauses_breaks meant c i seen (MoreClauses (Accepts p guard members body) rest) =
     unless (nat_lt i CLAUSES && are_fresh seen (map (listed_in meant c) members)) S20 p

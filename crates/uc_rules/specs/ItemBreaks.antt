@@ -15,7 +15,7 @@ use Rattle.uc_tree.specs.Numbering.{main_name, is_given, is_event, is_plain}
 use Rattle.uc_tree.specs.Programs.{Sig, MemberForm, FieldsMember, RoutineMember, ProtoMember, Class, Item, ClassItem, RoutineItem, ConstItem, ProtoItem, ForwardItem, UsingItem, Program}
 use Rattle.uc_rules.specs.declared.rule.Rule.TheVariants.{S3, S5}
 use Rattle.uc_rules.specs.declared.rule.Break.{Break}
-use Rattle.uc_rules.specs.declared.rules.Home.{Home}
+use Rattle.uc_rules.specs.declared.rules.OwnClass.{OwnClass}
 use Rattle.uc_rules.specs.Sorts.{class_at, is_coroutine, is_cormonitor, is_task}
 use Rattle.uc_rules.specs.Names.{is_destructor, is_here}
 use Rattle.uc_rules.specs.ProgramVisits.{same_role, owner_home}
@@ -202,7 +202,7 @@ defines_member_sig class sig (RoutineItem r) = is_owner class r.sig.owner && sam
 defines_member_sig class sig _ = false
 
 -- what is defined outside is declared in its class, and defined once
-abbrev pub is_member_definition : Program → List ℕ → Option Home → Sig → ℕ → Bool
+abbrev pub is_member_definition : Program → List ℕ → Option OwnClass → Sig → ℕ → Bool
 is_member_definition p class None sig place = false
 is_member_definition p class (Some h) sig place = has_class_name class sig && (class_declares sig (class_at p h.class) && not (list_any (defines_member class sig) (take place p.items)))
 

@@ -19,10 +19,10 @@ use Rattle.uc_rules.specs.declared.rules.Expected.{Expected}
 use Rattle.uc_rules.specs.declared.rules.Origin.{Origin}
 use Rattle.uc_rules.specs.declared.rules.Origin.TheVariants as origin
 use Rattle.uc_rules.specs.declared.rules.FieldPlace.{FieldPlace}
-use Rattle.uc_rules.specs.declared.rules.Meant.{Meant}
-use Rattle.uc_rules.specs.declared.rules.Home.{Home}
+use Rattle.uc_rules.specs.declared.rules.NameMeaning.{NameMeaning}
+use Rattle.uc_rules.specs.declared.rules.OwnClass.{OwnClass}
 use Rattle.uc_rules.specs.declared.rules.Bound.{Bound}
-use Rattle.uc_rules.specs.declared.rules.Around.{Around}
+use Rattle.uc_rules.specs.declared.rules.Surroundings.{Surroundings}
 use Rattle.uc_rules.specs.Sorts.{is_scalar_sort, is_condition, is_cluster, is_coroutine, is_cormonitor, is_plain_class, is_mutex_class, is_coroutine_class, is_task_class, of_class, sort_of, class_at}
 use Rattle.uc_rules.specs.Names.{is_constructor, member_named, place_in, is_field_before}
 use Rattle.uc_rules.specs.Scopes.{Env, named}
@@ -36,7 +36,7 @@ use Rattle.uc_rules.specs.Asked.{unless, asked, asked_both, of_sort}
 abbrev pub is_shared : Sort → Bool
 is_shared s = is_cluster s || of_class is_mutex_class s
 
-abbrev pub is_home_of : (Kind → Bool) → Option Home → Bool
+abbrev pub is_home_of : (Kind → Bool) → Option OwnClass → Bool
 is_home_of test None = false
 is_home_of test (Some h) = test h.kind
 
@@ -52,7 +52,7 @@ abbrev pub is_mutex_field : Origin → Bool
 is_mutex_field (origin.Field class k access by_ref i) = is_mutex k
 is_mutex_field _ = false
 
-abbrev pub is_mutex_field_of : Option Meant → Bool
+abbrev pub is_mutex_field_of : Option NameMeaning → Bool
 is_mutex_field_of None = false
 is_mutex_field_of (Some m) = is_mutex_field m.origin
 
@@ -85,12 +85,12 @@ abbrev pub is_condition_of : Option Entity → Bool
 is_condition_of None = false
 is_condition_of (Some w) = is_of_conditions w
 
-abbrev pub names_condition : Option Meant → Bool
+abbrev pub names_condition : Option NameMeaning → Bool
 names_condition None = false
 names_condition (Some m) = is_condition_of m.entity
 
 -- a condition that is named without a path is a field of the class round it, where it is that of a mutex type
-abbrev pub may_name_condition : Bool → Option Meant → Bool
+abbrev pub may_name_condition : Bool → Option NameMeaning → Bool
 may_name_condition inner m = not (names_condition m) || (inner && is_mutex_field_of m)
 
 abbrev pub condition_field_breaks : Env → Base → Declarator → List Break
@@ -121,7 +121,7 @@ abbrev pub is_field_origin : Origin → Bool
 is_field_origin (origin.Field class k access by_ref i) = true
 is_field_origin _ = false
 
-abbrev pub is_field_meant : Option Meant → Bool
+abbrev pub is_field_meant : Option NameMeaning → Bool
 is_field_meant None = false
 is_field_meant (Some m) = is_field_origin m.origin
 
@@ -159,7 +159,7 @@ is_unshared s = is_scalar_sort s || of_class is_plain_class s
 abbrev pub may_refer : Program → Class → ℕ → List ℕ → Sort → Bool
 may_refer p c class name s = not (is_unshared s) || is_bound_inside p c class name
 
-abbrev pub reference_breaks : Env → Class → Option Home → Base → Declarator → List Break
+abbrev pub reference_breaks : Env → Class → Option OwnClass → Base → Declarator → List Break
 reference_breaks env c None b d = []
 reference_breaks env c (Some h) b d = if d.by_ref && is_mutex h.kind then of_sort (sort_of env.program b) (may_refer env.program c h.class d.name) O5 d.pos else []
 
@@ -238,7 +238,7 @@ may_use_origin p b (origin.Field class k access by_ref i) = may_use_field p b cl
 may_use_origin p b (origin.Method class access) = false
 may_use_origin p b _ = true
 
-abbrev pub may_use : Program → Bound → Option Meant → Bool
+abbrev pub may_use : Program → Bound → Option NameMeaning → Bool
 may_use p b None = true
 may_use p b (Some m) = may_use_origin p b m.origin
 
@@ -251,7 +251,7 @@ is_root_origin (origin.Parameter by_ref) = by_ref
 is_root_origin (origin.Field class k access by_ref i) = true
 is_root_origin _ = false
 
-abbrev pub is_root : Option Meant → Bool
+abbrev pub is_root : Option NameMeaning → Bool
 is_root None = false
 is_root (Some m) = is_root_origin m.origin
 
@@ -301,14 +301,14 @@ no_target _ = []
 
 -- O9: `resume` and `suspend` stand in members of a coroutine or in inner routines of a cormonitor, `_Accept` in an inner routine of
 -- a mutex type other than its constructor
-abbrev pub may_switch_in : Bool → Home → Bool
+abbrev pub may_switch_in : Bool → OwnClass → Bool
 may_switch_in inner h = is_coroutine h.kind || (is_cormonitor h.kind && inner)
 
-abbrev pub may_switch : Around → Option Home → Bool
+abbrev pub may_switch : Surroundings → Option OwnClass → Bool
 may_switch a None = false
 may_switch a (Some h) = may_switch_in a.inner h
 
-abbrev pub may_accept : Around → Bool
+abbrev pub may_accept : Surroundings → Bool
 may_accept a = a.inner && not (is_constructor a.role)
 
 abbrev pub misplaced : Visit → List Break

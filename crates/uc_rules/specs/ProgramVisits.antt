@@ -2,8 +2,8 @@
 use Rattle.std.specs.Prelude.{ℕ, ◌+◌, List, [], ◌∷◌, ◌++◌, Bool, true, false, ◌&&◌, Option, Some, None, option_and_then, if◌then◌else◌}
 use Rattle.uc_tree.specs.declared.kinds.Base.{Base}
 use Rattle.uc_tree.specs.declared.kinds.Access.{Access}
-use Rattle.uc_tree.specs.declared.kinds.Mark.{Mark}
-use Rattle.uc_tree.specs.declared.kinds.Mark.TheVariants as mark
+use Rattle.uc_tree.specs.declared.kinds.MutexMark.{MutexMark}
+use Rattle.uc_tree.specs.declared.kinds.MutexMark.TheVariants as mark
 use Rattle.uc_tree.specs.declared.kinds.Role.{Role}
 use Rattle.uc_tree.specs.declared.kinds.Role.TheVariants as role
 use Rattle.uc_tree.specs.declared.kinds.Owner.{Owner}
@@ -21,8 +21,8 @@ use Rattle.uc_rules.specs.declared.rules.Entity.TheVariants as entity
 use Rattle.uc_rules.specs.declared.rules.Origin.{Origin}
 use Rattle.uc_rules.specs.declared.rules.Origin.TheVariants as origin
 use Rattle.uc_rules.specs.declared.rules.FieldPlace.{FieldPlace}
-use Rattle.uc_rules.specs.declared.rules.Meant.{Meant}
-use Rattle.uc_rules.specs.declared.rules.Home.{Home}
+use Rattle.uc_rules.specs.declared.rules.NameMeaning.{NameMeaning}
+use Rattle.uc_rules.specs.declared.rules.OwnClass.{OwnClass}
 use Rattle.uc_rules.specs.declared.rules.Bound.{Bound}
 use Rattle.uc_rules.specs.declared.rules.Expected.{Expected}
 use Rattle.uc_rules.specs.declared.rules.Expected.TheVariants.{Reference}
@@ -54,7 +54,7 @@ abbrev pub field_place : Origin → Option FieldPlace
 field_place (origin.Field class k access by_ref i) = Some i
 field_place _ = None
 
-abbrev pub home_member : Program → Option Home → List ℕ → Option Meant
+abbrev pub home_member : Program → Option OwnClass → List ℕ → Option NameMeaning
 home_member p None name = None
 home_member p (Some h) name = member_named p h.class name
 
@@ -84,7 +84,7 @@ abbrev pub origin_target : Option Entity → Origin → Target
 origin_target e (origin.Field class k access by_ref i) = maybe_bound_target by_ref e
 origin_target e _ = target.Unknown
 
-abbrev pub meant_target : Option Meant → Target
+abbrev pub meant_target : Option NameMeaning → Target
 meant_target None = target.Unknown
 meant_target (Some m) = origin_target m.entity m.origin
 
@@ -142,16 +142,16 @@ abbrev pub fields_visits : Env → Class → Access → Base → ℕ → ℕ →
 fields_visits env c a b j i [] = []
 fields_visits env c a b j i (d ∷ ds) = (maybe_visits env d.len ++ AtField env c a b d (place_in j i) ∷ []) ++ fields_visits env c a b j (i + 1) ds
 
-abbrev pub sig_env : Program → Home → Mark → Sig → Env
+abbrev pub sig_env : Program → OwnClass → MutexMark → Sig → Env
 sig_env p h m sig = plain_env p (sig_around p (Some h) false m sig)
 
-abbrev pub form_visits : Program → Home → Class → ℕ → Mark → Access → MemberForm → List Visit
+abbrev pub form_visits : Program → OwnClass → Class → ℕ → MutexMark → Access → MemberForm → List Visit
 form_visits p h c j m a (FieldsMember at b ds) = AtBase (plain_env p (class_around h)) at b ∷ fields_visits (plain_env p (class_around h)) c a b j 0 ds
 form_visits p h c j m a (RoutineMember r) = AtRoutine (plain_env p (class_around h)) c false r.sig j ∷ routine_visits (sig_env p h m r.sig) r
 form_visits p h c j m a (ProtoMember sig) = AtRoutine (plain_env p (class_around h)) c true sig j ∷ sig_visits (sig_env p h m sig) sig
 
 -- members, of which the first has the place j
-abbrev pub members_visits : Program → Home → Class → ℕ → List Member → List Visit
+abbrev pub members_visits : Program → OwnClass → Class → ℕ → List Member → List Visit
 members_visits p h c j [] = []
 members_visits p h c j (m ∷ ms) = (AtMark (plain_env p (class_around h)) c m ∷ form_visits p h c j m.mark m.access m.form) ++ members_visits p h c (j + 1) ms
 
@@ -170,19 +170,19 @@ abbrev pub form_declares : Sig → MemberForm → Bool
 form_declares sig (ProtoMember s) = same_role sig.role s.role && same_name sig.name s.name
 form_declares sig _ = false
 
-abbrev pub mark_among : Sig → List Member → Mark
+abbrev pub mark_among : Sig → List Member → MutexMark
 mark_among sig [] = mark.Unmarked
 mark_among sig (m ∷ ms) = if form_declares sig m.form then m.mark else mark_among sig ms
 
-abbrev pub mark_in : Sig → Option Class → Mark
+abbrev pub mark_in : Sig → Option Class → MutexMark
 mark_in sig None = mark.Unmarked
 mark_in sig (Some c) = mark_among sig c.members
 
-abbrev pub home_of : Sort → Option Home
+abbrev pub home_of : Sort → Option OwnClass
 home_of (Object class k) = Some (record { class = class; kind = k })
 home_of _ = None
 
-abbrev pub owner_home : Program → Owner → Option Home
+abbrev pub owner_home : Program → Owner → Option OwnClass
 owner_home p (owner.Class name) = option_and_then home_of (class_named p name)
 owner_home p _ = None
 
@@ -190,7 +190,7 @@ abbrev pub is_of_main : Owner → Bool
 is_of_main owner.Main = true
 is_of_main _ = false
 
-abbrev pub outer_mark : Program → Option Home → Sig → Mark
+abbrev pub outer_mark : Program → Option OwnClass → Sig → MutexMark
 outer_mark p None sig = mark.Unmarked
 outer_mark p (Some h) sig = mark_in sig (class_at p h.class)
 

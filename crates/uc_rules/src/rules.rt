@@ -104,16 +104,16 @@ pub enum Origin {
 
 /// What a name stands for. Where its type is unknown, nothing is asked of it.
 #[derive(Clone, Copy)]
-pub struct Meant {
+pub struct NameMeaning {
     pub entity: Option<Entity>,
     pub origin: Origin,
 }
 
 /// A local or parameter in scope.
 #[derive(Drop)]
-pub struct Seen {
+pub struct LocalName {
     pub name: Name,
-    pub meant: Meant,
+    pub meant: NameMeaning,
 }
 
 /// What is asked of an argument.
@@ -148,7 +148,7 @@ pub enum Target {
 
 /// The class in whose routine something stands.
 #[derive(Clone, Copy)]
-pub struct Home {
+pub struct OwnClass {
     pub class: usize,
     pub kind: Kind,
 }
@@ -164,9 +164,9 @@ pub struct Bound {
 
 /// What stands round a place in a program.
 #[derive(Clone, Copy)]
-pub struct Around {
+pub struct Surroundings {
     /// The class of the routine; none outside of classes and in uMain.
-    pub home: Option<Home>,
+    pub home: Option<OwnClass>,
     /// Whether it is a member of uMain.
     pub main: bool,
     pub role: Role,

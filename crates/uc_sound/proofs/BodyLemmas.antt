@@ -4,7 +4,7 @@ use Rattle.std.specs.Prelude.{◌&&◌, slice_get, if◌then◌else◌, nat_eq, 
 use Rattle.std.proofs.lemmas.Bool.{eqb-true}
 use Rattle.uc_tree.specs.declared.kinds.Base.{Base}
 use Rattle.uc_tree.specs.declared.kinds.Base.TheVariants as base
-use Rattle.uc_tree.specs.declared.kinds.Known.{Known}
+use Rattle.uc_tree.specs.declared.kinds.LocalVariable.{LocalVariable}
 use Rattle.uc_tree.specs.declared.kinds.Owner.{Owner}
 use Rattle.uc_tree.specs.declared.kinds.Owner.TheVariants as owner
 use Rattle.uc_tree.specs.declared.kinds.Param.{Param}
@@ -127,7 +127,7 @@ module _ (t : Table) (g : Sig) (refers : t.refers ≡ true) (sc : List Name) whe
   param_stood : (p : Program) (x : Param) → ParamRules p x → IsStood (option_map place_of (sort_of p x.base))
   param_stood p x r = subst (λ o. IsStood (option_map place_of o)) (sym r.base) tt
 
-  pub params_within : (xs : List Param) (cell : ℕ) (env : Env) (class : Option ℕ) (names : List Known) → AreParams env.program cell xs → Unbroken (params_visits env xs) → Within t g sc env class names → Within t g sc (with_params env xs) class (names ++ params_known env.program cell xs)
+  pub params_within : (xs : List Param) (cell : ℕ) (env : Env) (class : Option ℕ) (names : List LocalVariable) → AreParams env.program cell xs → Unbroken (params_visits env xs) → Within t g sc env class names → Within t g sc (with_params env xs) class (names ++ params_known env.program cell xs)
   params_within [] cell env class names a u h = subst (Within t g sc env class) (none_more names) h
     where
       none_more : {A : Type 0} (xs : List A) → xs ≡ xs ++ []

@@ -23,8 +23,8 @@ use Rattle.uc_rules.specs.declared.rule.Rule.TheVariants.{S2, S4, S16, S17, S18,
 use Rattle.uc_rules.specs.declared.rules.Entity.{Entity}
 use Rattle.uc_rules.specs.declared.rules.Expected.TheVariants as expected_of
 use Rattle.uc_rules.specs.declared.rules.FieldPlace.{FieldPlace}
-use Rattle.uc_rules.specs.declared.rules.Home.{Home}
-use Rattle.uc_rules.specs.declared.rules.Meant.{Meant}
+use Rattle.uc_rules.specs.declared.rules.OwnClass.{OwnClass}
+use Rattle.uc_rules.specs.declared.rules.NameMeaning.{NameMeaning}
 use Rattle.uc_rules.specs.declared.rules.Origin.{Origin}
 use Rattle.uc_rules.specs.declared.rules.Origin.TheVariants as origin
 use Rattle.uc_rules.specs.declared.rules.Sort.{Sort}
@@ -245,7 +245,7 @@ module _ (p : Program) (formed : IsFormed p) (u : Unbroken (program_visits p)) (
 
 -- with initialisers
 
-module _ (env : Env) (formed : IsFormed env.program) (u : Unbroken (program_visits env.program)) (i : ℕ) (c : Class) (e : class_at env.program i ≡ Some c) (g : Sig) (this : g.this ≡ Some i) (h : Home) (at_home : env.around.home ≡ Some h) (class_is : h.class ≡ i) (s : Scope) (w : (sc : List Name) → Within (table_of env.program) g sc env s.class s.names) where
+module _ (env : Env) (formed : IsFormed env.program) (u : Unbroken (program_visits env.program)) (i : ℕ) (c : Class) (e : class_at env.program i ≡ Some c) (g : Sig) (this : g.this ≡ Some i) (h : OwnClass) (at_home : env.around.home ≡ Some h) (class_is : h.class ≡ i) (s : Scope) (w : (sc : List Name) → Within (table_of env.program) g sc env s.class s.names) where
   abbrev pub p1 : Program
   p1 = env.program
 
@@ -273,7 +273,7 @@ module _ (env : Env) (formed : IsFormed env.program) (u : Unbroken (program_visi
     meets : Meets
     meets = by (home_member p1 env.around.home x.name) refl (holds (may_init q.last (home_member p1 env.around.home x.name)) S17 x.pos _ (none_right (init_count_breaks env x (home_member p1 env.around.home x.name)) _ q.own)) (none_left (init_count_breaks env x (home_member p1 env.around.home x.name)) _ q.own)
       where
-        by : (o : Option Meant) → home_member p1 env.around.home x.name ≡ o → may_init q.last o ≡ true → init_count_breaks env x o ≡ [] → Meets
+        by : (o : Option NameMeaning) → home_member p1 env.around.home x.name ≡ o → may_init q.last o ≡ true → init_count_breaks env x o ≡ [] → Meets
         by None z a b = false_true a
         by (Some m) z a b =
             let named : member_named p1 i x.name ≡ Some m = ap (λ n. member_named p1 n x.name) (sym class_is) ∙ (sym (ap (λ o. home_member p1 o x.name) at_home) ∙ z) in

@@ -2,7 +2,7 @@
 use Rattle.std.proofs.Common.{◌≡◌, ℕ, suc, ◌+◌, ◌<◌, ◌++◌, List, [], ◌∷◌, length, Option, Some, None, Bool, true, false, refl, sym, ap, ◌∙◌, subst, arith, map}
 use Rattle.std.specs.Prelude.{◌&&◌, not, slice_get, take, if◌then◌else◌}
 use Rattle.std.specs.List.{list_any}
-use Rattle.uc_tree.specs.declared.kinds.Known.{Known}
+use Rattle.uc_tree.specs.declared.kinds.LocalVariable.{LocalVariable}
 use Rattle.uc_tree.specs.declared.kinds.Param.{Param}
 use Rattle.uc_tree.specs.Expressions as expr
 use Rattle.uc_tree.specs.Names.{same_name}
@@ -11,7 +11,7 @@ use Rattle.uc_tree.specs.Statements.{Declarator}
 use Rattle.uc_tree.specs.Programs.{Init, FieldsMember, Member, Class, Program}
 use Rattle.uc_resolve.specs.Standings.{meant, args_by, args_meant}
 use Rattle.uc_rules.specs.declared.rule.Rule.TheVariants.{S2, S11}
-use Rattle.uc_rules.specs.declared.rules.Around.{Around}
+use Rattle.uc_rules.specs.declared.rules.Surroundings.{Surroundings}
 use Rattle.uc_rules.specs.declared.rules.Bound.{Bound}
 use Rattle.uc_rules.specs.declared.rules.Entity.{Entity}
 use Rattle.uc_rules.specs.declared.rules.Entity.TheVariants as entity
@@ -81,12 +81,12 @@ module _ (env : Env) (b : Bound) where
     args_same (expr.MoreExprs e es) to i =
         ap (λ o. has_fitting (expected env.program to i) o && are_sound bound es to (i + 1)) (entity_same e) ∙ ap (λ z. has_fitting (expected env.program to i) (entity_of env e) && z) (args_same es to (i + 1))
 
-bound_rooted : (t : Table) (g : Sig) (b : Bound) (p : Program) (a : Around) (class : Option ℕ) → Rooted t g p a class → Rooted t g p (in_argument b a) class
+bound_rooted : (t : Table) (g : Sig) (b : Bound) (p : Program) (a : Surroundings) (class : Option ℕ) → Rooted t g p a class → Rooted t g p (in_argument b a) class
 bound_rooted t g b p a class h = record { told = h.told; refers = h.refers; classes = h.classes; names = h.names; stood = h.stood; member = h.member; members = h.members; results = h.results; returning = h.returning; switching = h.switching; accepting = h.accepting }
 
 -- arguments of an initialiser
 
-module _ (t : Table) (g : Sig) (sc : List Name) (env : Env) (class : Option ℕ) (routine : ℕ) (names : List Known) (h : Within t g sc env class names) where
+module _ (t : Table) (g : Sig) (sc : List Name) (env : Env) (class : Option ℕ) (routine : ℕ) (names : List LocalVariable) (h : Within t g sc env class names) where
   argument_same : (field : Option FieldPlace) (e : expr.Expr) (x : Expected) → entity_of (argument_env env field e x) e ≡ entity_of env e
   argument_same None e x = refl
   argument_same (Some field) e x = entity_same env (bound_of e x field) e

@@ -7,7 +7,7 @@ use Rattle.uc_tree.specs.declared.kinds.Base.{Base}
 use Rattle.uc_tree.specs.declared.kinds.Base.TheVariants as base
 use Rattle.uc_tree.specs.declared.kinds.Kind.{Kind}
 use Rattle.uc_tree.specs.declared.kinds.Kind.TheVariants as kind
-use Rattle.uc_tree.specs.declared.kinds.Known.{Known}
+use Rattle.uc_tree.specs.declared.kinds.LocalVariable.{LocalVariable}
 use Rattle.uc_tree.specs.declared.ops.BinaryOp.{BinaryOp}
 use Rattle.uc_tree.specs.Names.{same_name}
 use Rattle.uc_tree.specs.Constants.{constants_of, value_of_name, value_in, chain_value_in, length_in, sound_length, elements, both, unary_value}
@@ -23,7 +23,7 @@ use Rattle.uc_resolve.specs.Standings.{params_of, args_by, args_meant, known_mea
 use Rattle.uc_resolve.specs.Resolve.{Scope, declared_known, length_of, start_meant}
 use Rattle.uc_rules.specs.declared.rule.Rule.TheVariants.{S2, S15, S16, S22, O4, O5}
 use Rattle.uc_rules.specs.declared.rule.Break.{Break}
-use Rattle.uc_rules.specs.declared.rules.Seen.{Seen}
+use Rattle.uc_rules.specs.declared.rules.LocalName.{LocalName}
 use Rattle.uc_rules.specs.declared.rules.Sort.{Sort}
 use Rattle.uc_rules.specs.declared.rules.Sort.TheVariants as sort
 use Rattle.uc_rules.specs.declared.rules.Target.{Target}
@@ -188,7 +188,7 @@ module _ (t : Table) (g : Sig) (refers : t.refers ≡ true) where
     abbrev p : Program
     p = env.program
 
-    abbrev new : Known
+    abbrev new : LocalVariable
     new = declared_known p s b d
 
     named_as : (l : Option expr.Expr) → d.len ≡ l → IsVariable g sc s.cells (declared_ty (length_of p d l) (place_ty so)) → (is_numbered so ≡ true → l ≡ None → InScope sc s.cells (place_ty so)) → Agrees t g sc p (variable false l (length_in (value_named env) l) so) (known_meant p new)
@@ -216,18 +216,18 @@ module _ (t : Table) (g : Sig) (refers : t.refers ≡ true) where
         by false None = tt
         by false (Some e) = tt
 
-  more_stood : (ss : List Seen) (x : Seen) → AreStood ss → IsStood x.meant.entity → AreStood (ss ++ x ∷ [])
+  more_stood : (ss : List LocalName) (x : LocalName) → AreStood ss → IsStood x.meant.entity → AreStood (ss ++ x ∷ [])
   more_stood [] x h k = (k, tt)
   more_stood (s ∷ ss) x h k = (h.0, more_stood ss x h.1 k)
 
-  pub within_more : (sc : List Name) (env : Env) (class : Option ℕ) (names : List Known) (x : Seen) (k : Known) → x.name ≡ k.name → AgreesIf t g sc env.program x.meant.entity (known_meant env.program k) → IsStood x.meant.entity → Within t g sc env class names → Within t g sc (with_seen env x) class (names ++ k ∷ [])
+  pub within_more : (sc : List Name) (env : Env) (class : Option ℕ) (names : List LocalVariable) (x : LocalName) (k : LocalVariable) → x.name ≡ k.name → AgreesIf t g sc env.program x.meant.entity (known_meant env.program k) → IsStood x.meant.entity → Within t g sc env class names → Within t g sc (with_seen env x) class (names ++ k ∷ [])
   within_more sc env class names x k e a st h = record {
     rooted = h.rooted;
     alike = (law_declared t g sc refers env.program).more env.names names x k e a h.alike;
     stood = more_stood env.names x h.stood st;
   }
 
-  pub within_wider : (x : Name) (sc : List Name) (env : Env) (class : Option ℕ) (names : List Known) → Within t g sc env class names → Within t g (x ∷ sc) env class names
+  pub within_wider : (x : Name) (sc : List Name) (env : Env) (class : Option ℕ) (names : List LocalVariable) → Within t g sc env class names → Within t g (x ∷ sc) env class names
   within_wider x sc env class names h = record {
     rooted = h.rooted;
     alike = (law_declared t g sc refers env.program).wider x env.names names h.alike;

@@ -3,7 +3,7 @@ use Rattle.std.proofs.Common.{◌≡◌, ℕ, suc, ◌+◌, ◌≤◌, ◌++◌,
 use Rattle.std.specs.Prelude.{◌&&◌, ◌||◌, slice_get, if◌then◌else◌, nat_eq, option_and_then, unwrap_or}
 use Rattle.uc_tree.specs.declared.kinds.Base.TheVariants as base
 use Rattle.uc_tree.specs.declared.kinds.Kind.{Kind}
-use Rattle.uc_tree.specs.declared.kinds.Mark.{Mark}
+use Rattle.uc_tree.specs.declared.kinds.MutexMark.{MutexMark}
 use Rattle.uc_tree.specs.declared.kinds.Owner.{Owner}
 use Rattle.uc_tree.specs.declared.kinds.Owner.TheVariants as owner
 use Rattle.uc_tree.specs.declared.kinds.Param.{Param}
@@ -22,7 +22,7 @@ use Rattle.uc_machine.specs.Pieces.{LAST_ADDRESS}
 use Rattle.uc_resolve.specs.Standings as tree
 use Rattle.uc_resolve.specs.Standings.{field_place}
 use Rattle.uc_resolve.specs.Resolve.{Scope, place_by, routine_scope, params_known, stmts_meant, length_in_class, field_making, field_left, fields_left, taken_down, forgotten, ending, destruction, clean_up}
-use Rattle.uc_rules.specs.declared.rules.Home.{Home}
+use Rattle.uc_rules.specs.declared.rules.OwnClass.{OwnClass}
 use Rattle.uc_rules.specs.declared.rules.Sort.{Sort}
 use Rattle.uc_rules.specs.declared.rules.Sort.TheVariants as sort
 use Rattle.uc_rules.specs.Sorts.{class_named}
@@ -72,9 +72,9 @@ module _ (p : Program) (formed : IsFormed p) (u : Unbroken (program_visits p)) w
 
   -- where a routine stands
   pub record Standing (d : Defined) : Type 0 where
-    pub home : Option Home
+    pub home : Option OwnClass
     pub main : Bool
-    pub mark : Mark
+    pub mark : MutexMark
     pub at : HomeIs p formed u d home
     pub visits : Unbroken (routine_visits (plain_env p (sig_around p home main mark d.routine.sig)) d.routine)
     pub void : is_plain d.routine.sig.role ≡ false → d.routine.sig.ret ≡ base.Void
@@ -105,7 +105,7 @@ module _ (p : Program) (formed : IsFormed p) (u : Unbroken (program_visits p)) w
 
   -- the class of an owner
   record OwnerIs (name : List ℕ) (sig : Declared) : Type 0 where
-    home : Home
+    home : OwnClass
     class : Class
     found : owner_home p (owner.Class name) ≡ Some home
     at : class_at p home.class ≡ Some class
@@ -114,20 +114,20 @@ module _ (p : Program) (formed : IsFormed p) (u : Unbroken (program_visits p)) w
     named : has_class_name name sig ≡ true
     declares : class_declares sig (class_at p home.class) ≡ true
 
-  owner_is : (i : ℕ) (name : List ℕ) (sig : Declared) (o : Option Home) → owner_home p (owner.Class name) ≡ o → is_member_definition p name o sig i ≡ true → OwnerIs name sig
+  owner_is : (i : ℕ) (name : List ℕ) (sig : Declared) (o : Option OwnClass) → owner_home p (owner.Class name) ≡ o → is_member_definition p name o sig i ≡ true → OwnerIs name sig
   owner_is i name sig None e d = false_true d
   owner_is i name sig (Some h) e d = by (class_named p name) refl e
     where
       of_class : (k : Kind) (c : ℕ) → class_named p name ≡ Some (sort.Object c k) → record { class = c; kind = k } ≡ h → OwnerIs name sig
       of_class k c w q =
           let s : Sorted (classes_of p.items) 0 name c k = sorted (classes_of p.items) 0 name c k w in
-          let n : s.n ≡ h.class = let z = s.place in ap (λ z. z) (let y : s.n ≡ c = omega (arith, z) in y) ∙ ap (λ (z : Home). z.class) q in
+          let n : s.n ≡ h.class = let z = s.place in ap (λ z. z) (let y : s.n ≡ c = omega (arith, z) in y) ∙ ap (λ (z : OwnClass). z.class) q in
           record {
             home = h;
             class = s.class;
             found = e;
             at = ap (class_at p) (sym n) ∙ s.at;
-            kind_is = ap (λ (z : Home). z.kind) (sym q) ∙ sym s.kind;
+            kind_is = ap (λ (z : OwnClass). z.kind) (sym q) ∙ sym s.kind;
             name_is = s.name_is;
             named = left_is (has_class_name name sig) _ d;
             declares = left_is (class_declares sig (class_at p h.class)) _ (right_is (has_class_name name sig) _ d);

@@ -1,7 +1,7 @@
 -- Every expression that breaks no rule gives something.
 use Rattle.std.proofs.Common.{◌≡◌, ℕ, ◌⊎◌, inl, inr, List, [], ◌∷◌, Option, Some, None, Bool, true, false, refl, sym, subst}
 use Rattle.std.specs.Prelude.{if◌then◌else◌, ◌&&◌, option_and_then}
-use Rattle.uc_tree.specs.declared.kinds.Known.{Known}
+use Rattle.uc_tree.specs.declared.kinds.LocalVariable.{LocalVariable}
 use Rattle.uc_tree.specs.declared.ops.UnaryOp.{UnaryOp}
 use Rattle.uc_tree.specs.declared.ops.UnaryOp.TheVariants as unary
 use Rattle.uc_tree.specs.declared.ops.BinaryOp.{BinaryOp}
@@ -16,8 +16,8 @@ use Rattle.uc_rules.specs.declared.rules.Entity.{Entity}
 use Rattle.uc_rules.specs.declared.rules.Entity.TheVariants as entity
 use Rattle.uc_rules.specs.declared.rules.Operation.{Operation}
 use Rattle.uc_rules.specs.declared.rules.Operation.TheVariants as operation
-use Rattle.uc_rules.specs.declared.rules.Meant.{Meant}
-use Rattle.uc_rules.specs.declared.rules.Seen.{Seen}
+use Rattle.uc_rules.specs.declared.rules.NameMeaning.{NameMeaning}
+use Rattle.uc_rules.specs.declared.rules.LocalName.{LocalName}
 use Rattle.uc_rules.specs.declared.rules.Sort.{Sort}
 use Rattle.uc_rules.specs.declared.rules.Sort.TheVariants as sort
 use Rattle.uc_rules.specs.Sorts.{is_scalar_sort, is_condition, sort_of}
@@ -155,8 +155,8 @@ other_there name w None h = none_there (rules.is_object w)
     none_there true = tt
     none_there false = tt
 
-module _ (env : Env) (names : (name : List ℕ) (m : Meant) → named env name ≡ Some m → IsStood m.entity) (members : (w : Entity) (name : List ℕ) (m : Meant) → path_member env.program w name ≡ Some m → IsStood m.entity) where
-  member_there : (name : List ℕ) (w : Entity) (o : Option Meant) → ((m : Meant) → o ≡ Some m → IsStood m.entity) → IsThere (member_entity env false name w o)
+module _ (env : Env) (names : (name : List ℕ) (m : NameMeaning) → named env name ≡ Some m → IsStood m.entity) (members : (w : Entity) (name : List ℕ) (m : NameMeaning) → path_member env.program w name ≡ Some m → IsStood m.entity) where
+  member_there : (name : List ℕ) (w : Entity) (o : Option NameMeaning) → ((m : NameMeaning) → o ≡ Some m → IsStood m.entity) → IsThere (member_entity env false name w o)
   member_there name w (Some m) f = if_there (is_open env.around.home m.origin) (entity_by_path m.entity) (by_path_there m.entity (stood_there m.entity (f m refl)))
   member_there name w None f = other_there name w (built_in w name) (built_there w name)
 
@@ -164,7 +164,7 @@ module _ (env : Env) (names : (name : List ℕ) (m : Meant) → named env name �
   field_there name None = tt
   field_there name (Some w) = member_there name w (path_member env.program w name) (members w name)
 
-  named_there : (o : Option Meant) → ((m : Meant) → o ≡ Some m → IsStood m.entity) → IsThere (meant_entity o)
+  named_there : (o : Option NameMeaning) → ((m : NameMeaning) → o ≡ Some m → IsStood m.entity) → IsThere (meant_entity o)
   named_there None f = tt
   named_there (Some m) f = stood_there m.entity (f m refl)
 
@@ -224,23 +224,23 @@ module _ (t : Table) (g : Sig) (sc : List Name) where
 
 -- the names of a place are known
 
-local_stood : (ss : List Seen) (name : List ℕ) (m : Meant) → AreStood ss → local_named ss name ≡ Some m → IsStood m.entity
+local_stood : (ss : List LocalName) (name : List ℕ) (m : NameMeaning) → AreStood ss → local_named ss name ≡ Some m → IsStood m.entity
 local_stood [] name m h e = none_some e
 local_stood (s ∷ ss) name m h e = by (local_named ss name) (local_stood ss name m h.1) e
   where
     here : (b : Bool) → (if b then Some s.meant else None) ≡ Some m → IsStood m.entity
-    here true q = subst (λ (m : Meant). IsStood m.entity) (some_same q) h.0
+    here true q = subst (λ (m : NameMeaning). IsStood m.entity) (some_same q) h.0
     here false q = none_some q
 
-    by : (o : Option Meant) → (o ≡ Some m → IsStood m.entity) → scopes.later_or o s name ≡ Some m → IsStood m.entity
+    by : (o : Option NameMeaning) → (o ≡ Some m → IsStood m.entity) → scopes.later_or o s name ≡ Some m → IsStood m.entity
     by (Some x) f q = f q
     by None f q = here (same_name s.name name) q
 
-module _ (t : Table) (g : Sig) (sc : List Name) (env : Env) (class : Option ℕ) (routine : ℕ) (names : List Known) (h : Within t g sc env class names) where
-  pub names_stood : (name : List ℕ) (m : Meant) → named env name ≡ Some m → IsStood m.entity
+module _ (t : Table) (g : Sig) (sc : List Name) (env : Env) (class : Option ℕ) (routine : ℕ) (names : List LocalVariable) (h : Within t g sc env class names) where
+  pub names_stood : (name : List ℕ) (m : NameMeaning) → named env name ≡ Some m → IsStood m.entity
   names_stood name m e = by (local_named env.names name) (local_stood env.names name m h.stood) e
     where
-      by : (o : Option Meant) → (o ≡ Some m → IsStood m.entity) → named_behind o (root_named env.program env.around name) ≡ Some m → IsStood m.entity
+      by : (o : Option NameMeaning) → (o ≡ Some m → IsStood m.entity) → named_behind o (root_named env.program env.around name) ≡ Some m → IsStood m.entity
       by (Some x) f q = f q
       by None f q = h.rooted.stood name m q
 

@@ -21,7 +21,7 @@ use Rattle.uc_resolve.specs.Standings as tree
 use Rattle.uc_resolve.specs.Standings.{params_of}
 use Rattle.uc_resolve.specs.Resolve.{place_by, event_constructor}
 use Rattle.uc_rules.specs.declared.rule.Rule.TheVariants.{S2, S5}
-use Rattle.uc_rules.specs.declared.rules.Home.{Home}
+use Rattle.uc_rules.specs.declared.rules.OwnClass.{OwnClass}
 use Rattle.uc_rules.specs.declared.rules.Sort.{Sort}
 use Rattle.uc_rules.specs.declared.rules.Sort.TheVariants as sort
 use Rattle.uc_rules.specs.Asked.{unless}
@@ -172,7 +172,7 @@ module _ (p : Program) (formed : IsFormed p) (u : Unbroken (program_visits p)) w
   definition i r o q e =
       subst (λ o. is_definition p o r.sig i ≡ true) q (holds (is_sound_item p (RoutineItem r) i) S5 _ _ (none_right _ _ (item_rules p u i (RoutineItem r) e).own))
 
-  owned : (i : ℕ) (r : Routine) (name : List ℕ) (h : Option Home) → owner_home p (owner.Class name) ≡ h → slice_get p.items i ≡ Some (RoutineItem r) → items.is_member_definition p name h r.sig i ≡ true → (x : Defined) → in_class p name r ≡ x → HomeOf p x
+  owned : (i : ℕ) (r : Routine) (name : List ℕ) (h : Option OwnClass) → owner_home p (owner.Class name) ≡ h → slice_get p.items i ≡ Some (RoutineItem r) → items.is_member_definition p name h r.sig i ≡ true → (x : Defined) → in_class p name r ≡ x → HomeOf p x
   owned i r name None o e d x q = false_true d
   owned i r name (Some h) o e d x q = by (class_named p name) refl o
     where
@@ -207,7 +207,7 @@ module _ (p : Program) (formed : IsFormed p) (u : Unbroken (program_visits p)) w
       by_sort : (s : Sort) → class_named p name ≡ Some s → home_of s ≡ Some h → HomeOf p x
       by_sort (sort.Object class k) w z =
           let q : record { class = class; kind = k } ≡ h = some_same z in
-          of_class k (sorted (classes_of p.items) 0 name h.class k (w ∙ ap (λ (y : Home). Some (sort.Object y.class k)) q))
+          of_class k (sorted (classes_of p.items) 0 name h.class k (w ∙ ap (λ (y : OwnClass). Some (sort.Object y.class k)) q))
       by_sort _ w z = none_some z
 
       by : (o : Option Sort) → class_named p name ≡ o → option_and_then home_of o ≡ Some h → HomeOf p x

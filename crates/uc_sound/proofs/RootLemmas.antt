@@ -16,7 +16,7 @@ use Rattle.uc_resolve.specs.Standings as tree
 use Rattle.uc_resolve.specs.Standings.{Standing, AsMember, AsLiveMember, AsMutexMember}
 use Rattle.uc_rules.specs.declared.rule.Rule.TheVariants.{S2}
 use Rattle.uc_rules.specs.declared.rules.Entity.TheVariants as entity
-use Rattle.uc_rules.specs.declared.rules.Meant.{Meant}
+use Rattle.uc_rules.specs.declared.rules.NameMeaning.{NameMeaning}
 use Rattle.uc_rules.specs.declared.rules.Origin.TheVariants as origin
 use Rattle.uc_rules.specs.Names as rules
 use Rattle.uc_rules.specs.Names.{Owned, first_of, is_inner_only, form_sig, method_sig, member_named, members_named, declared_entity, variable}
@@ -40,7 +40,7 @@ use Rattle.uc_tree.specs.declared.kinds.Role.TheVariants as role
 use Rattle.std.proofs.lemmas.Bool.{eqb-true}
 
 -- what a member of a class stands for: a field, or a routine that one declares
-pub data Meaning (i : ℕ) (c : Class) (name : List ℕ) (x : Meant) : Type 0 where
+pub data Meaning (i : ℕ) (c : Class) (name : List ℕ) (x : NameMeaning) : Type 0 where
   a_field : is_field_origin x.origin ≡ true → is_mutex_field_of (Some x) ≡ is_mutex c.kind → Meaning i c name x
   a_method : (j : ℕ) (inner : Bool) (sig : Declared) → Declares c j sig → is_plain sig.role ≡ true → sig.name ≡ name → x.entity ≡ Some (entity.Method i j inner false) → Meaning i c name x
 
@@ -63,33 +63,33 @@ module _ (p : Program) (i : ℕ) (c : Class) (name : List ℕ) where
   more_behind : (j : ℕ) (m : Member) (ms : List Member) → Behind j (m ∷ ms) → Behind (j + 1) ms
   more_behind j m ms f k x l q e = f (suc k) x l (omega (arith, q)) e
 
-  among : (j l : ℕ) (a : Access) (b : Base) (ds : List Declarator) (x : Meant) (other : Option Meant) → first_of (rules.field_named p o a j l b ds name) other ≡ Some x → (other ≡ Some x → Meaning i c name x) → Meaning i c name x
+  among : (j l : ℕ) (a : Access) (b : Base) (ds : List Declarator) (x : NameMeaning) (other : Option NameMeaning) → first_of (rules.field_named p o a j l b ds name) other ≡ Some x → (other ≡ Some x → Meaning i c name x) → Meaning i c name x
   among j l a b [] x other h f = f h
   among j l a b (d ∷ ds) x other h f = by (same_name d.name name) h (λ h. among j (l + 1) a b ds x other h f)
     where
       by : (z : Bool) → first_of (if z then Some (rules.field_meant p o a (rules.place_in j l) b d) else rules.field_named p o a j (l + 1) b ds name) other ≡ Some x → (first_of (rules.field_named p o a j (l + 1) b ds name) other ≡ Some x → Meaning i c name x) → Meaning i c name x
       by true h g =
-          a_field (ap (λ (m : Meant). is_field_origin m.origin) (sym (some_same h))) (ap (λ (m : Meant). is_mutex_field_of (Some m)) (sym (some_same h)))
+          a_field (ap (λ (m : NameMeaning). is_field_origin m.origin) (sym (some_same h))) (ap (λ (m : NameMeaning). is_mutex_field_of (Some m)) (sym (some_same h)))
       by false h g = g h
 
-  method : (m : Member) (j : ℕ) (sig : Declared) (inner : Bool) (a : Access) (x : Meant) (other : Option Meant) (z : Bool) → (is_plain sig.role && same_name sig.name name) ≡ z → slice_get c.members j ≡ Some m → form_sig m.form ≡ Some sig → first_of (if z then Some (record { entity = Some (entity.Method i j inner false); origin = origin.Method i a }) else None) other ≡ Some x → (other ≡ Some x → Meaning i c name x) → Meaning i c name x
+  method : (m : Member) (j : ℕ) (sig : Declared) (inner : Bool) (a : Access) (x : NameMeaning) (other : Option NameMeaning) (z : Bool) → (is_plain sig.role && same_name sig.name name) ≡ z → slice_get c.members j ≡ Some m → form_sig m.form ≡ Some sig → first_of (if z then Some (record { entity = Some (entity.Method i j inner false); origin = origin.Method i a }) else None) other ≡ Some x → (other ≡ Some x → Meaning i c name x) → Meaning i c name x
   method m j sig inner a x other true w e q h f =
-      a_method j inner sig (record { m = m; at = e; form = q }) (left_is (is_plain sig.role) (same_name sig.name name) w) (same_is sig.name name (right_is (is_plain sig.role) (same_name sig.name name) w)) (ap (λ (m : Meant). m.entity) (sym (some_same h)))
+      a_method j inner sig (record { m = m; at = e; form = q }) (left_is (is_plain sig.role) (same_name sig.name name) w) (same_is sig.name name (right_is (is_plain sig.role) (same_name sig.name name) w)) (ap (λ (m : NameMeaning). m.entity) (sym (some_same h)))
   method m j sig inner a x other false w e q h f = f h
 
-  by_form : (m : Member) (j : ℕ) (form : MemberForm) (x : Meant) (other : Option Meant) → slice_get c.members j ≡ Some m → m.form ≡ form → first_of (rules.form_named p o m.mark m.access j form name) other ≡ Some x → (other ≡ Some x → Meaning i c name x) → Meaning i c name x
+  by_form : (m : Member) (j : ℕ) (form : MemberForm) (x : NameMeaning) (other : Option NameMeaning) → slice_get c.members j ≡ Some m → m.form ≡ form → first_of (rules.form_named p o m.mark m.access j form name) other ≡ Some x → (other ≡ Some x → Meaning i c name x) → Meaning i c name x
   by_form m j (FieldsMember at b ds) x other e q h f = among j 0 m.access b ds x other h f
   by_form m j (RoutineMember r) x other e q h f =
       method m j r.sig (is_inner_only c.kind m.mark m.access) m.access x other (is_plain r.sig.role && same_name r.sig.name name) refl e (ap form_sig q) h f
   by_form m j (ProtoMember s) x other e q h f =
       method m j s (is_inner_only c.kind m.mark m.access) m.access x other (is_plain s.role && same_name s.name name) refl e (ap form_sig q) h f
 
-  means : (ms : List Member) (j : ℕ) (x : Meant) → Behind j ms → members_named p o j ms name ≡ Some x → Meaning i c name x
+  means : (ms : List Member) (j : ℕ) (x : NameMeaning) → Behind j ms → members_named p o j ms name ≡ Some x → Meaning i c name x
   means [] j x b h = none_some h
   means (m ∷ ms) j x b h =
       by_form m j m.form x (members_named p o (j + 1) ms name) (b 0 m j (omega arith) refl) refl h (λ h. means ms (j + 1) x (more_behind j m ms b) h)
 
-  pub meaning : (x : Meant) → class_at p i ≡ Some c → member_named p i name ≡ Some x → Meaning i c name x
+  pub meaning : (x : NameMeaning) → class_at p i ≡ Some c → member_named p i name ≡ Some x → Meaning i c name x
   meaning x e h =
       means c.members 0 x (λ k m l q e. ap (slice_get c.members) (let z : l ≡ k = omega (arith, q) in z) ∙ e) (subst (λ o. rules.member_in p i o name ≡ Some x) e h)
 

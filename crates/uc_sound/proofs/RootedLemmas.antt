@@ -5,7 +5,7 @@ use Rattle.uc_tree.specs.declared.pos.Pos.{Pos}
 use Rattle.uc_tree.specs.declared.kinds.Base.TheVariants as base
 use Rattle.uc_tree.specs.declared.kinds.Kind.{Kind}
 use Rattle.uc_tree.specs.declared.kinds.Kind.TheVariants as kind
-use Rattle.uc_tree.specs.declared.kinds.Mark.{Mark}
+use Rattle.uc_tree.specs.declared.kinds.MutexMark.{MutexMark}
 use Rattle.uc_tree.specs.Expressions as expr
 use Rattle.uc_tree.specs.Source.{Expr}
 use Rattle.uc_tree.specs.declared.kinds.Role.TheVariants as role
@@ -22,8 +22,8 @@ use Rattle.uc_resolve.specs.Resolve.{place_by}
 use Rattle.uc_rules.specs.declared.rule.Rule.TheVariants.{S2, S4, S16, S18, S22, O4}
 use Rattle.uc_rules.specs.declared.rules.Entity.{Entity}
 use Rattle.uc_rules.specs.declared.rules.Entity.TheVariants as entity
-use Rattle.uc_rules.specs.declared.rules.Home.{Home}
-use Rattle.uc_rules.specs.declared.rules.Meant.{Meant}
+use Rattle.uc_rules.specs.declared.rules.OwnClass.{OwnClass}
+use Rattle.uc_rules.specs.declared.rules.NameMeaning.{NameMeaning}
 use Rattle.uc_rules.specs.declared.rules.Sort.{Sort}
 use Rattle.uc_rules.specs.declared.rules.Sort.TheVariants as sort
 use Rattle.uc_rules.specs.Asked.{unless, of_sort}
@@ -101,20 +101,20 @@ abbrev AreConstant : Program → List Item → Type 0
 AreConstant p xs = (n : ℕ) (c : Constant) → slice_get (constants_of xs) n ≡ Some c → (s : Sort) × (sort_of p c.base ≡ Some s)
 
 module _ (p : Program) (name : List ℕ) where
-  class_stood : (b : Bool) (rest : Option Meant) (m : Meant) → (rest ≡ Some m → IsStood m.entity) → first_of (if b then Some (outer entity.ClassName) else None) rest ≡ Some m → IsStood m.entity
-  class_stood true rest m f h = subst (λ (m : Meant). IsStood m.entity) (some_same h) tt
+  class_stood : (b : Bool) (rest : Option NameMeaning) (m : NameMeaning) → (rest ≡ Some m → IsStood m.entity) → first_of (if b then Some (outer entity.ClassName) else None) rest ≡ Some m → IsStood m.entity
+  class_stood true rest m f h = subst (λ (m : NameMeaning). IsStood m.entity) (some_same h) tt
   class_stood false rest m f h = f h
 
-  routine_stood : (b : Bool) (i : ℕ) (rest : Option Meant) (m : Meant) → (rest ≡ Some m → IsStood m.entity) → first_of (if b then Some (outer (entity.Routine i)) else None) rest ≡ Some m → IsStood m.entity
-  routine_stood true i rest m f h = subst (λ (m : Meant). IsStood m.entity) (some_same h) tt
+  routine_stood : (b : Bool) (i : ℕ) (rest : Option NameMeaning) (m : NameMeaning) → (rest ≡ Some m → IsStood m.entity) → first_of (if b then Some (outer (entity.Routine i)) else None) rest ≡ Some m → IsStood m.entity
+  routine_stood true i rest m f h = subst (λ (m : NameMeaning). IsStood m.entity) (some_same h) tt
   routine_stood false i rest m f h = f h
 
-  constant_stood : (b : Bool) (c : Constant) (rest : Option Meant) (m : Meant) → (s : Sort) × (sort_of p c.base ≡ Some s) → (rest ≡ Some m → IsStood m.entity) → first_of (if b then Some (constant_meant p c) else None) rest ≡ Some m → IsStood m.entity
+  constant_stood : (b : Bool) (c : Constant) (rest : Option NameMeaning) (m : NameMeaning) → (s : Sort) × (sort_of p c.base ≡ Some s) → (rest ≡ Some m → IsStood m.entity) → first_of (if b then Some (constant_meant p c) else None) rest ≡ Some m → IsStood m.entity
   constant_stood true c rest m k f h =
-      subst (λ (m : Meant). IsStood m.entity) (some_same h) (subst (λ o. IsStood (option_map (λ s. entity.Value s) o)) (sym k.1) tt)
+      subst (λ (m : NameMeaning). IsStood m.entity) (some_same h) (subst (λ o. IsStood (option_map (λ s. entity.Value s) o)) (sym k.1) tt)
   constant_stood false c rest m k f h = f h
 
-  items_stood : (i : ℕ) (xs : List Item) (m : Meant) → AreConstant p xs → items_named p i xs name ≡ Some m → IsStood m.entity
+  items_stood : (i : ℕ) (xs : List Item) (m : NameMeaning) → AreConstant p xs → items_named p i xs name ≡ Some m → IsStood m.entity
   items_stood i [] m k h = none_some h
   items_stood i (ClassItem c ∷ xs) m k h = class_stood (same_name c.name name) (items_named p (i + 1) xs name) m (items_stood (i + 1) xs m k) h
   items_stood i (RoutineItem r ∷ xs) m k h = routine_stood (rules.is_here r.sig.owner && same_name r.sig.name name) i (items_named p (i + 1) xs name) m (items_stood (i + 1) xs m k) h
@@ -123,8 +123,8 @@ module _ (p : Program) (name : List ℕ) where
   items_stood i (ForwardItem f ∷ xs) m k h = class_stood (same_name f.name name) (items_named p (i + 1) xs name) m (items_stood (i + 1) xs m k) h
   items_stood i (UsingItem q ∷ xs) m k h = items_stood (i + 1) xs m k h
 
-  outer_stood : (b : Bool) (m : Meant) → AreConstant p p.items → (if b then Some (outer entity.ClassName) else items_named p 0 p.items name) ≡ Some m → IsStood m.entity
-  outer_stood true m k h = subst (λ (m : Meant). IsStood m.entity) (some_same h) tt
+  outer_stood : (b : Bool) (m : NameMeaning) → AreConstant p p.items → (if b then Some (outer entity.ClassName) else items_named p 0 p.items name) ≡ Some m → IsStood m.entity
+  outer_stood true m k h = subst (λ (m : NameMeaning). IsStood m.entity) (some_same h) tt
   outer_stood false m k h = items_stood 0 p.items m k h
 
 module _ (p : Program) (formed : IsFormed p) (u : Unbroken (program_visits p)) where
@@ -134,7 +134,7 @@ module _ (p : Program) (formed : IsFormed p) (u : Unbroken (program_visits p)) w
   told : Told t p
   told = law_told p formed u
 
-  module _ (i : ℕ) (c : Class) (e : class_at p i ≡ Some c) (name : List ℕ) (x : Meant) (h : member_named p i name ≡ Some x) where
+  module _ (i : ℕ) (c : Class) (e : class_at p i ≡ Some c) (name : List ℕ) (x : NameMeaning) (h : member_named p i name ≡ Some x) where
     field_found : is_field_origin x.origin ≡ true → Found p c name x (leading_cells c.kind) (fields_of c.members)
     field_found r = found p i c name x e h r
 
@@ -208,17 +208,17 @@ module _ (p : Program) (formed : IsFormed p) (u : Unbroken (program_visits p)) w
         let same : entity.Method i j inner true ≡ w = some_same (sym (ap entity_by_path z) ∙ q) in
         subst (λ w. Agrees t g sc p w (tree.member_meant p i (tree.Of m) name)) same (method_agrees p i c name formed u e t g sc told (ap (of_kind is_mutex) e) (tree.Of m) y j inner true sig d k n)
 
-  member_known : (i : ℕ) (name : List ℕ) (x : Meant) → member_named p i name ≡ Some x → (c : Class) × (class_at p i ≡ Some c)
+  member_known : (i : ℕ) (name : List ℕ) (x : NameMeaning) → member_named p i name ≡ Some x → (c : Class) × (class_at p i ≡ Some c)
   member_known i name x h = by (class_at p i) h
     where
       by : (o : Option Class) → rules.member_in p i o name ≡ Some x → (c : Class) × (o ≡ Some c)
       by None h = none_some h
       by (Some c) h = (c, refl)
 
-  any_member_stood : (i : ℕ) (name : List ℕ) (x : Meant) → member_named p i name ≡ Some x → IsStood x.entity
+  any_member_stood : (i : ℕ) (name : List ℕ) (x : NameMeaning) → member_named p i name ≡ Some x → IsStood x.entity
   any_member_stood i name x h = let c = member_known i name x h in member_stood i c.0 c.1 name x h
 
-  path_stood : (w : Entity) (name : List ℕ) (x : Meant) → path_member p w name ≡ Some x → IsStood x.entity
+  path_stood : (w : Entity) (name : List ℕ) (x : NameMeaning) → path_member p w name ≡ Some x → IsStood x.entity
   path_stood (entity.Place (sort.Object i k)) name x h = any_member_stood i name x h
   path_stood (entity.Place sort.Void) name x h = none_some h
   path_stood (entity.Place sort.Int) name x h = none_some h
@@ -276,17 +276,17 @@ module _ (p : Program) (formed : IsFormed p) (u : Unbroken (program_visits p)) w
   outer_agrees g sc name = law_items t g sc (plain_env p no_around) u told.routines refl name refl
 
   -- a routine, its class, and where it stands
-  abbrev pub HomeIs : Defined → Option Home → Type 0
+  abbrev pub HomeIs : Defined → Option OwnClass → Type 0
   HomeIs d None = place_by p d ≡ None
   HomeIs d (Some h) = (c : Class) × (class_at p h.class ≡ Some c) × (h.kind ≡ c.kind) × (place_by p d ≡ Some h.class)
 
-  abbrev Names : Sig → Option Home → Bool → Option ℕ → Type 0
+  abbrev Names : Sig → Option OwnClass → Bool → Option ℕ → Type 0
   Names g o main class = (sc : List Name) (name : List ℕ) → AgreesIf t g sc p (meant_entity (named_behind (own_named p main o name) (outer_named p name))) (tree.own_meant p class name)
 
-  in_class_agree : (g : Sig) (main : Bool) (h : Home) (c : Class) → class_at p h.class ≡ Some c → g.this ≡ Some h.class → Names g (Some h) main (Some h.class)
+  in_class_agree : (g : Sig) (main : Bool) (h : OwnClass) (c : Class) → class_at p h.class ≡ Some c → g.this ≡ Some h.class → Names g (Some h) main (Some h.class)
   in_class_agree g main h c e this sc name = by (member_named p h.class name) refl
     where
-      by : (o : Option Meant) → member_named p h.class name ≡ o → AgreesIf t g sc p (meant_entity (named_behind o (outer_named p name))) (tree.own_meant p (Some h.class) name)
+      by : (o : Option NameMeaning) → member_named p h.class name ≡ o → AgreesIf t g sc p (meant_entity (named_behind o (outer_named p name))) (tree.own_meant p (Some h.class) name)
       by (Some x) q = own_agrees h.class c e name x q g sc this
       by None q =
           let n = nothing_is p h.class c name formed u e tree.Own q in
@@ -297,23 +297,23 @@ module _ (p : Program) (formed : IsFormed p) (u : Unbroken (program_visits p)) w
   main_agree g main sc name =
       law_items t g sc (plain_env p (record { home = None; main = main; role = role.Plain; inner = false; returns = false; in_loop = false; in_handler = false; joins = false; bound = None })) u told.routines refl name refl
 
-  abbrev AllStood : Option Home → Bool → Type 0
-  AllStood o main = (name : List ℕ) (m : Meant) → named_behind (own_named p main o name) (outer_named p name) ≡ Some m → IsStood m.entity
+  abbrev AllStood : Option OwnClass → Bool → Type 0
+  AllStood o main = (name : List ℕ) (m : NameMeaning) → named_behind (own_named p main o name) (outer_named p name) ≡ Some m → IsStood m.entity
 
-  behind_stood : (o : Option Meant) (name : List ℕ) (m : Meant) → (o ≡ Some m → IsStood m.entity) → named_behind o (outer_named p name) ≡ Some m → IsStood m.entity
+  behind_stood : (o : Option NameMeaning) (name : List ℕ) (m : NameMeaning) → (o ≡ Some m → IsStood m.entity) → named_behind o (outer_named p name) ≡ Some m → IsStood m.entity
   behind_stood (Some x) name m f h = f h
   behind_stood None name m f h = outer_stood p name (is_given name) m formed.constants h
 
-  all_stood : (o : Option Home) (main : Bool) → AllStood o main
+  all_stood : (o : Option OwnClass) (main : Bool) → AllStood o main
   all_stood (Some h) main name m q = behind_stood (member_named p h.class name) name m (any_member_stood h.class name m) q
   all_stood None false name m q = behind_stood None name m (λ e. none_some e) q
   all_stood None true name m q = behind_stood (if same_name main_name name then Some main_meant else None) name m (by (same_name main_name name)) q
     where
       by : (b : Bool) → (if b then Some main_meant else None) ≡ Some m → IsStood m.entity
-      by true h = subst (λ (m : Meant). IsStood m.entity) (some_same h) tt
+      by true h = subst (λ (m : NameMeaning). IsStood m.entity) (some_same h) tt
       by false h = none_some h
 
-  path_agrees : (g : Sig) (o : Option Home) (sc : List Name) (i : ℕ) (k : Kind) (name : List ℕ) (x : Meant) (m : tree.Meant) → object_member p (sort.Object i k) name ≡ Some x → is_mutex_field_of (Some x) ≡ false → names_condition (Some x) ≡ false → Agrees t g sc p (entity.Place (sort.Object i k)) m → AgreesIf t g sc p (open_entity o x) (tree.object_member p (Some i) m.expr name)
+  path_agrees : (g : Sig) (o : Option OwnClass) (sc : List Name) (i : ℕ) (k : Kind) (name : List ℕ) (x : NameMeaning) (m : tree.Meant) → object_member p (sort.Object i k) name ≡ Some x → is_mutex_field_of (Some x) ≡ false → names_condition (Some x) ≡ false → Agrees t g sc p (entity.Place (sort.Object i k)) m → AgreesIf t g sc p (open_entity o x) (tree.object_member p (Some i) m.expr name)
   path_agrees g o sc i k name x m h no_mutex no_condition a w q =
       let c = member_known i name x h in
       path_by i c.0 c.1 name x h g sc m.expr a.0.0 no_mutex no_condition (meaning p i c.0 name x c.1 h) w (open_some i c.0 c.1 name x h (is_open o x.origin) x.entity w q)
@@ -327,7 +327,7 @@ module _ (p : Program) (formed : IsFormed p) (u : Unbroken (program_visits p)) w
       by true e = refl
       by false e = false_true (subst (λ b. returns_scalar p b ≡ true) (f e) h)
 
-  switches : (g : Sig) (h : Home) (c : Class) (inner : Bool) → class_at p h.class ≡ Some c → h.kind ≡ c.kind → g.this ≡ Some h.class → may_switch_in inner h ≡ true → Executing t g
+  switches : (g : Sig) (h : OwnClass) (c : Class) (inner : Bool) → class_at p h.class ≡ Some c → h.kind ≡ c.kind → g.this ≡ Some h.class → may_switch_in inner h ≡ true → Executing t g
   switches g h c inner e k this w = (h.class, this, ap (of_kind has_execution) e ∙ subst (λ z. has_execution z ≡ true) k (by h.kind w))
     where
       by : (k : Kind) → (is_coroutine k || (is_cormonitor k && inner)) ≡ true → has_execution k ≡ true
@@ -338,11 +338,11 @@ module _ (p : Program) (formed : IsFormed p) (u : Unbroken (program_visits p)) w
       by kind.Task w = false_true w
       by kind.Event w = false_true w
 
-  accepts : (g : Sig) (h : Home) (c : Class) (mark : Mark) (sig : Declared) → class_at p h.class ≡ Some c → h.kind ≡ c.kind → g.this ≡ Some h.class → is_inner h mark sig ≡ true → InMutex t g
+  accepts : (g : Sig) (h : OwnClass) (c : Class) (mark : MutexMark) (sig : Declared) → class_at p h.class ≡ Some c → h.kind ≡ c.kind → g.this ≡ Some h.class → is_inner h mark sig ≡ true → InMutex t g
   accepts g h c mark sig e k this w =
       (h.class, this, ap (of_kind is_mutex) e ∙ subst (λ z. is_mutex z ≡ true) k (left_is (is_mutex h.kind) _ w))
 
-  pub rooted : (g : Sig) (d : Defined) (o : Option Home) (main : Bool) (mark : Mark) → g.this ≡ place_by p d → g.whole ≡ not (is_plain d.routine.sig.role) → (is_plain d.routine.sig.role ≡ false → d.routine.sig.ret ≡ base.Void) → HomeIs d o → Rooted t g p (sig_around p o main mark d.routine.sig) (place_by p d)
+  pub rooted : (g : Sig) (d : Defined) (o : Option OwnClass) (main : Bool) (mark : MutexMark) → g.this ≡ place_by p d → g.whole ≡ not (is_plain d.routine.sig.role) → (is_plain d.routine.sig.role ≡ false → d.routine.sig.ret ≡ base.Void) → HomeIs d o → Rooted t g p (sig_around p o main mark d.routine.sig) (place_by p d)
   rooted g d None main mark this whole void at = record {
     told = told;
     refers = refl;
@@ -366,6 +366,6 @@ module _ (p : Program) (formed : IsFormed p) (u : Unbroken (program_visits p)) w
     members = path_stood;
     results = results;
     returning = λ q. whole ∙ returns_plain d.routine.sig void q;
-    switching = λ x q w. switches g h at.0 (is_inner h mark d.routine.sig) at.1 at.2 (this ∙ at.3) (subst (λ (z : Home). may_switch_in (is_inner h mark d.routine.sig) z ≡ true) (sym (some_same q)) w);
+    switching = λ x q w. switches g h at.0 (is_inner h mark d.routine.sig) at.1 at.2 (this ∙ at.3) (subst (λ (z : OwnClass). may_switch_in (is_inner h mark d.routine.sig) z ≡ true) (sym (some_same q)) w);
     accepting = λ q. accepts g h at.0 mark d.routine.sig at.1 at.2 (this ∙ at.3) (left_is (is_inner h mark d.routine.sig) _ q);
   }

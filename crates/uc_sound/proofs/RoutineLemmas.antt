@@ -20,7 +20,7 @@ use Rattle.uc_resolve.specs.Standings.{routine_from, params_of}
 use Rattle.uc_rules.specs.declared.rule.Rule.TheVariants.{S5, S6, S14, S17, S22}
 use Rattle.uc_rules.specs.declared.rules.Entity.TheVariants as entity
 use Rattle.uc_rules.specs.declared.rules.Sort.{Sort}
-use Rattle.uc_rules.specs.declared.rules.Meant.{Meant}
+use Rattle.uc_rules.specs.declared.rules.NameMeaning.{NameMeaning}
 use Rattle.uc_rules.specs.Names as rules
 use Rattle.uc_rules.specs.Names.{first_of, outer, is_here, routine_sig, params_in, items_named, outer_named, constant_meant, item_sig, form_sig}
 use Rattle.uc_rules.specs.Sorts.{sort_of}
@@ -67,7 +67,7 @@ module _ (p : Program) (name : List ℕ) where
   routine_same : (i j : ℕ) → meant_entity (Some (outer (entity.Routine i))) ≡ Some (entity.Routine j) → i ≡ j
   routine_same i j h = cc
 
-  by_sig : (b : Bool) (i j : ℕ) (x : Item) (sig : Sig) (rest : Option Meant) → slice_get p.items i ≡ Some x → item_sig x ≡ Some sig → (is_here sig.owner && same_name sig.name name) ≡ b → (meant_entity rest ≡ Some (entity.Routine j) → ItemFound p name j) → meant_entity (first_of (if b then Some (outer (entity.Routine i)) else None) rest) ≡ Some (entity.Routine j) → ItemFound p name j
+  by_sig : (b : Bool) (i j : ℕ) (x : Item) (sig : Sig) (rest : Option NameMeaning) → slice_get p.items i ≡ Some x → item_sig x ≡ Some sig → (is_here sig.owner && same_name sig.name name) ≡ b → (meant_entity rest ≡ Some (entity.Routine j) → ItemFound p name j) → meant_entity (first_of (if b then Some (outer (entity.Routine i)) else None) rest) ≡ Some (entity.Routine j) → ItemFound p name j
   by_sig true i j x sig rest e s w f h =
       let q = routine_same i j h in
       record {
@@ -80,7 +80,7 @@ module _ (p : Program) (name : List ℕ) where
       }
   by_sig false i j x sig rest e s w f h = f h
 
-  by_class : (b : Bool) (j : ℕ) (rest : Option Meant) → (meant_entity rest ≡ Some (entity.Routine j) → ItemFound p name j) → meant_entity (first_of (if b then Some (outer entity.ClassName) else None) rest) ≡ Some (entity.Routine j) → ItemFound p name j
+  by_class : (b : Bool) (j : ℕ) (rest : Option NameMeaning) → (meant_entity rest ≡ Some (entity.Routine j) → ItemFound p name j) → meant_entity (first_of (if b then Some (outer entity.ClassName) else None) rest) ≡ Some (entity.Routine j) → ItemFound p name j
   by_class true j rest f h = absurd (cc)
   by_class false j rest f h = f h
 
@@ -88,7 +88,7 @@ module _ (p : Program) (name : List ℕ) where
   constant_none j None h = none_some h
   constant_none j (Some s) h = absurd (cc)
 
-  by_constant : (b : Bool) (c : Constant) (j : ℕ) (rest : Option Meant) → (meant_entity rest ≡ Some (entity.Routine j) → ItemFound p name j) → meant_entity (first_of (if b then Some (constant_meant p c) else None) rest) ≡ Some (entity.Routine j) → ItemFound p name j
+  by_constant : (b : Bool) (c : Constant) (j : ℕ) (rest : Option NameMeaning) → (meant_entity rest ≡ Some (entity.Routine j) → ItemFound p name j) → meant_entity (first_of (if b then Some (constant_meant p c) else None) rest) ≡ Some (entity.Routine j) → ItemFound p name j
   by_constant true c j rest f h = constant_none j (sort_of p c.base) h
   by_constant false c j rest f h = f h
 

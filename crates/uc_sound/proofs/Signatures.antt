@@ -4,10 +4,10 @@ use Rattle.std.specs.Prelude.{◌&&◌, not, slice_get, if◌then◌else◌, nat
 use Rattle.std.proofs.lemmas.Bool.{eqb-true, eq-eqb}
 use Rattle.uc_tree.specs.declared.kinds.Role.{Role}
 use Rattle.uc_tree.specs.declared.kinds.Role.TheVariants as role
-use Rattle.uc_tree.specs.declared.rows.Held.{Held}
-use Rattle.uc_tree.specs.declared.rows.Object.{Object}
+use Rattle.uc_tree.specs.declared.rows.FieldLayout.{FieldLayout}
+use Rattle.uc_tree.specs.declared.rows.FieldClass.{FieldClass}
 use Rattle.uc_tree.specs.Gathered.{gathered_all}
-use Rattle.uc_tree.specs.Rows.{Row, row_at}
+use Rattle.uc_tree.specs.Rows.{ClassLayout, row_at}
 use Rattle.uc_tree.specs.Cells.{classes_of, rows_of, row_of}
 use Rattle.uc_tree.specs.Constants.{constants_of}
 use Rattle.uc_tree.specs.Numbering.{is_event, is_plain, own_texts, own_sites, Defined, routines_of}
@@ -54,18 +54,18 @@ module _ (p : Program) where
 
   -- what nobody wrote
 
-  object_few : (heights : ℕ → ℕ) (top : ℕ) → ((i : ℕ) → heights i ≤ top) → (o : Option Object) → object_height heights o ≤ suc top
+  object_few : (heights : ℕ → ℕ) (top : ℕ) → ((i : ℕ) → heights i ≤ top) → (o : Option FieldClass) → object_height heights o ≤ suc top
   object_few heights top f None = omega arith
   object_few heights top f (Some o) = let r = f o.class in omega (arith, r)
 
-  tallest_few : (heights : ℕ → ℕ) (top : ℕ) → ((i : ℕ) → heights i ≤ top) → (hs : List Held) → tallest heights hs ≤ suc top
+  tallest_few : (heights : ℕ → ℕ) (top : ℕ) → ((i : ℕ) → heights i ≤ top) → (hs : List FieldLayout) → tallest heights hs ≤ suc top
   tallest_few heights top f [] = omega arith
   tallest_few heights top f (h ∷ hs) =
       let a = object_few heights top f h.object in
       let b = tallest_few heights top f hs in
       omega (arith, a, b)
 
-  height_few : (depth : ℕ) (rows : List Row) (i : ℕ) → height_within depth rows i ≤ depth
+  height_few : (depth : ℕ) (rows : List ClassLayout) (i : ℕ) → height_within depth rows i ≤ depth
   unfolding height_within
   height_few zero rows i = let e : height_within zero rows i ≡ 0 = refl in omega (arith, e)
   height_few (suc depth) rows i = tallest_few (height_within depth rows) depth (height_few depth rows) (row_at rows i).held

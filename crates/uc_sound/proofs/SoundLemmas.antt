@@ -6,7 +6,7 @@ use Rattle.std.proofs.lemmas.Bool.{eqb-true, eq-eqb}
 use Rattle.std.proofs.lemmas.Option.{slice_get_past}
 use Rattle.uc_tree.specs.declared.kinds.Kind.{Kind}
 use Rattle.uc_tree.specs.declared.kinds.Kind.TheVariants as kind
-use Rattle.uc_tree.specs.declared.kinds.Mark.{Mark}
+use Rattle.uc_tree.specs.declared.kinds.MutexMark.{MutexMark}
 use Rattle.uc_tree.specs.declared.kinds.Param.{Param}
 use Rattle.uc_tree.specs.declared.kinds.Role.{Role}
 use Rattle.uc_tree.specs.declared.kinds.Role.TheVariants as role
@@ -20,8 +20,8 @@ use Rattle.uc_tree.specs.Source.{Stmts, Nil, Then, Whole, Routine}
 use Rattle.uc_resolve.specs.Standings.{params_of}
 use Rattle.uc_resolve.specs.Resolve.{Scope, init_named, init_args, stmts_meant, routine_scope, place_by, class_by, place_or_zero, main_at, freed, set_up, started_in, enlivened, fields_built, construction, construction_ends, nowhere, body_by, routine_meant, unwritten_meant, unwritten_body, source_of}
 use Rattle.uc_rules.specs.declared.rule.Rule.TheVariants.{S6, S14, S17}
-use Rattle.uc_rules.specs.declared.rules.Around.{Around}
-use Rattle.uc_rules.specs.declared.rules.Home.{Home}
+use Rattle.uc_rules.specs.declared.rules.Surroundings.{Surroundings}
+use Rattle.uc_rules.specs.declared.rules.OwnClass.{OwnClass}
 use Rattle.uc_rules.specs.Asked.{unless}
 use Rattle.uc_rules.specs.Sorts.{has_main}
 use Rattle.uc_rules.specs.Names as rules
@@ -143,12 +143,12 @@ module _ (p : Program) (formed : IsFormed p) (u : Unbroken (program_visits p)) w
   params_around [] env = refl
   params_around (x ∷ xs) env = params_around xs (with_param env x)
 
-  home_of_around : (o : Option Home) (main : Bool) (mark : Mark) (sig : Declared) → (sig_around p o main mark sig).home ≡ o
+  home_of_around : (o : Option OwnClass) (main : Bool) (mark : MutexMark) (sig : Declared) → (sig_around p o main mark sig).home ≡ o
   home_of_around None main mark sig = refl
   home_of_around (Some h) main mark sig = refl
 
 -- where the rules and the names are those of a place in the routine
-starts_at : (p : Program) (formed : IsFormed p) (u : Unbroken (program_visits p)) (env : Env) (same : env.program ≡ p) (i : ℕ) (c : Class) (e : class_at p i ≡ Some c) (g : Sig) (this : g.this ≡ Some i) (h : Home) (s : Scope) (inits : List Init) (body : Stmts) → env.around.home ≡ Some h → h.class ≡ i → ((sc : List Name) → Within (table_of p) g sc env s.class s.names) → Unbroken (inits_visits env None inits) → has_unset p inits (Some c) ≡ false → ((sc : List Name) → FineStmts (table_of p) g sc body) → FineStmts (table_of p) g [] (construction p (Some c) i inits s body)
+starts_at : (p : Program) (formed : IsFormed p) (u : Unbroken (program_visits p)) (env : Env) (same : env.program ≡ p) (i : ℕ) (c : Class) (e : class_at p i ≡ Some c) (g : Sig) (this : g.this ≡ Some i) (h : OwnClass) (s : Scope) (inits : List Init) (body : Stmts) → env.around.home ≡ Some h → h.class ≡ i → ((sc : List Name) → Within (table_of p) g sc env s.class s.names) → Unbroken (inits_visits env None inits) → has_unset p inits (Some c) ≡ false → ((sc : List Name) → FineStmts (table_of p) g sc body) → FineStmts (table_of p) g [] (construction p (Some c) i inits s body)
 starts_at p formed u env same i c e g this h s inits body at_home class_is w v unset r =
     subst (λ q. FineStmts (table_of q) g [] (construction q (Some c) i inits s body)) same (construction_fine env.program formed1 u1 i c e1 g this inits s (field_starts env formed1 u1 i c e1 g this h at_home class_is s (λ sc. subst (λ q. Within (table_of q) g sc env s.class s.names) (sym same) (w sc)) inits v (subst (λ q. has_unset q inits (Some c) ≡ false) (sym same) unset)) body (λ sc. subst (λ q. FineStmts (table_of q) g sc body) (sym same) (r sc)) [])
   where
@@ -198,17 +198,17 @@ module _ (p : Program) (formed : IsFormed p) (u : Unbroken (program_visits p)) w
     same = params_program d.routine.sig.params start
 
     home_is : inner.around.home ≡ s.home
-    home_is = ap (λ (a : Around). a.home) (params_around p formed u d.routine.sig.params start) ∙ home_of_around p formed u s.home s.main s.mark d.routine.sig
+    home_is = ap (λ (a : Surroundings). a.home) (params_around p formed u d.routine.sig.params start) ∙ home_of_around p formed u s.home s.main s.mark d.routine.sig
 
-    unset : (h : Home) (c : Class) → s.home ≡ Some h → class_at p h.class ≡ Some c → has_unset p d.routine.inits (Some c) ≡ false
+    unset : (h : OwnClass) (c : Class) → s.home ≡ Some h → class_at p h.class ≡ Some c → has_unset p d.routine.inits (Some c) ≡ false
     unset h c q at =
         let b = one (AtInits inner d.routine.sig d.routine.inits) (first (AtInits inner d.routine.sig d.routine.inits ∷ []) (inits_visits inner None d.routine.inits ++ stmts_visits d.routine.body inner) all) in
         let l : unless (not (has_unset inner.program d.routine.inits (home_class inner))) S17 d.routine.sig.pos ++ [] ≡ [] = subst (λ r. (if rules.is_constructor r then unless (not (has_unset inner.program d.routine.inits (home_class inner))) S17 d.routine.sig.pos else first_init_breaks d.routine.inits) ++ [] ≡ []) maker b in
         let none = not_is (has_unset inner.program d.routine.inits (home_class inner)) (holds (not (has_unset inner.program d.routine.inits (home_class inner))) S17 d.routine.sig.pos _ l) in
-        let class_is : home_class inner ≡ Some c = ap (λ o. option_and_then (λ (h : Home). class_at inner.program h.class) o) (home_is ∙ q) ∙ (ap (λ z. class_at z h.class) same ∙ at) in
+        let class_is : home_class inner ≡ Some c = ap (λ o. option_and_then (λ (h : OwnClass). class_at inner.program h.class) o) (home_is ∙ q) ∙ (ap (λ z. class_at z h.class) same ∙ at) in
         subst (λ z. has_unset z d.routine.inits (Some c) ≡ false) same (subst (λ o. has_unset inner.program d.routine.inits o ≡ false) class_is none)
 
-    by_home : (o : Option Home) → s.home ≡ o → HomeIs p formed u d o → FineStmts table g [] (construction p (class_by p (place_by p d)) (place_or_zero p (place_by p d)) d.routine.inits scope (Then (Whole d.routine.brace.line (stmts_meant p d.routine.body scope)) (construction_ends p (class_by p (place_by p d)) (place_or_zero p (place_by p d)))))
+    by_home : (o : Option OwnClass) → s.home ≡ o → HomeIs p formed u d o → FineStmts table g [] (construction p (class_by p (place_by p d)) (place_or_zero p (place_by p d)) d.routine.inits scope (Then (Whole d.routine.brace.line (stmts_meant p d.routine.body scope)) (construction_ends p (class_by p (place_by p d)) (place_or_zero p (place_by p d)))))
     by_home None q at =
         subst (λ (z : Option ℕ). FineStmts table g [] (construction p (class_by p z) (place_or_zero p z) d.routine.inits scope (Then (Whole d.routine.brace.line (stmts_meant p d.routine.body scope)) (construction_ends p (class_by p z) (place_or_zero p z))))) (sym at) (whole_body [])
     by_home (Some h) q at =

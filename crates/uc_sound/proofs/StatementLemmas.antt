@@ -8,7 +8,7 @@ use Rattle.uc_tree.specs.declared.kinds.Base.TheVariants as base
 use Rattle.uc_tree.specs.declared.kinds.Kind.{Kind}
 use Rattle.uc_tree.specs.declared.kinds.Kind.TheVariants as kind
 use Rattle.uc_tree.specs.declared.kinds.HandlerKind.{HandlerKind}
-use Rattle.uc_tree.specs.declared.kinds.Known.{Known}
+use Rattle.uc_tree.specs.declared.kinds.LocalVariable.{LocalVariable}
 use Rattle.uc_tree.specs.Cells.{classes_of}
 use Rattle.uc_tree.specs.Gathered.{gathered, gathered_all, gathered_maybe, gathered_handlers, gathered_clauses}
 use Rattle.uc_tree.specs.Numbering.{is_event, is_given, is_mutex}
@@ -22,10 +22,10 @@ use Rattle.uc_resolve.specs.Standings as tree
 use Rattle.uc_resolve.specs.Standings.{meant, params_of, args_by, args_meant, known_meant, known_by, result_of}
 use Rattle.uc_resolve.specs.Resolve.{Scope, with_declared, with_all, scope_after, scope_past, scope_past_all, within_accept, scope_past_clause, scope_past_clauses, within_events, event_constructor, number_of_event, built_event, in_handler, scope_past_handler, declared_then, declared_alone, test_of, step_of, order_of, stmt_then, names_behind, stmt_meant, stmts_meant, maybe_meant, clauses_meant, else_meant, handlers_meant}
 use Rattle.uc_rules.specs.declared.rule.Rule.TheVariants.{S12, S21, S22, O9}
-use Rattle.uc_rules.specs.declared.rules.Around.{Around}
+use Rattle.uc_rules.specs.declared.rules.Surroundings.{Surroundings}
 use Rattle.uc_rules.specs.declared.rules.Entity.{Entity}
 use Rattle.uc_rules.specs.declared.rules.Entity.TheVariants as entity
-use Rattle.uc_rules.specs.declared.rules.Home.{Home}
+use Rattle.uc_rules.specs.declared.rules.OwnClass.{OwnClass}
 use Rattle.uc_rules.specs.declared.rules.Origin.TheVariants as origin
 use Rattle.uc_rules.specs.declared.rules.Sort.{Sort}
 use Rattle.uc_rules.specs.declared.rules.Sort.TheVariants as sort
@@ -103,16 +103,16 @@ all_behind g p b (d ∷ ds) s h = all_behind g p b ds (with_declared p s b d) (b
 module _ (t : Table) (g : Sig) where
   -- what stands round a statement within another one
 
-  joins_rooted : (z : Bool) (p : Program) (a : Around) (class : Option ℕ) → Rooted t g p a class → Rooted t g p (with_joins z a) class
+  joins_rooted : (z : Bool) (p : Program) (a : Surroundings) (class : Option ℕ) → Rooted t g p a class → Rooted t g p (with_joins z a) class
   joins_rooted z p a class h = record { told = h.told; refers = h.refers; classes = h.classes; names = h.names; stood = h.stood; member = h.member; members = h.members; results = h.results; returning = h.returning; switching = h.switching; accepting = h.accepting }
 
-  loop_rooted : (p : Program) (a : Around) (class : Option ℕ) → Rooted t g p a class → Rooted t g p (in_loop a) class
+  loop_rooted : (p : Program) (a : Surroundings) (class : Option ℕ) → Rooted t g p a class → Rooted t g p (in_loop a) class
   loop_rooted p a class h = record { told = h.told; refers = h.refers; classes = h.classes; names = h.names; stood = h.stood; member = h.member; members = h.members; results = h.results; returning = h.returning; switching = h.switching; accepting = h.accepting }
 
-  handler_rooted : (p : Program) (a : Around) (class : Option ℕ) → Rooted t g p a class → Rooted t g p (around_handler a) class
+  handler_rooted : (p : Program) (a : Surroundings) (class : Option ℕ) → Rooted t g p a class → Rooted t g p (around_handler a) class
   handler_rooted p a class h = record { told = h.told; refers = h.refers; classes = h.classes; names = h.names; stood = h.stood; member = h.member; members = h.members; results = h.results; returning = h.returning; switching = h.switching; accepting = h.accepting }
 
-  module _ (sc : List Name) (env : Env) (class : Option ℕ) (names : List Known) (h : Within t g sc env class names) where
+  module _ (sc : List Name) (env : Env) (class : Option ℕ) (names : List LocalVariable) (h : Within t g sc env class names) where
     in_opened : Within t g sc (opened env) class names
     in_opened = record { rooted = joins_rooted false env.program env.around class h.rooted; alike = h.alike; stood = h.stood }
 
@@ -155,7 +155,7 @@ module _ (t : Table) (g : Sig) where
       let b : breaks_at (AtReturn env p (Some (entity_of env e))) ≡ [] = one (AtReturn env p (Some (entity_of env e))) (second (visits env e) _ u) in
       returns_by env.around.returns (entity_of env e) p (none_left (return_breaks env.around.returns (Some (entity_of env e)) p) _ b)
 
-  switch_by : (o : Option Home) (a : Around) → may_switch a o ≡ true → ((h : Home) → o ≡ Some h → may_switch_in a.inner h ≡ true → Executing t g) → Executing t g
+  switch_by : (o : Option OwnClass) (a : Surroundings) → may_switch a o ≡ true → ((h : OwnClass) → o ≡ Some h → may_switch_in a.inner h ≡ true → Executing t g) → Executing t g
   switch_by None a h f = false_true h
   switch_by (Some x) a h f = f x refl h
 
@@ -165,7 +165,7 @@ module _ (t : Table) (g : Sig) where
 
   -- events
 
-  event_plain : (p : Program) (a : Around) (class : Option ℕ) → Rooted t g p a class → (name : List ℕ) (i : ℕ) (k : Kind) → class_named p name ≡ Some (sort.Object i k) → is_event k ≡ true → t.mutex i ≡ false
+  event_plain : (p : Program) (a : Surroundings) (class : Option ℕ) → Rooted t g p a class → (name : List ℕ) (i : ℕ) (k : Kind) → class_named p name ≡ Some (sort.Object i k) → is_event k ≡ true → t.mutex i ≡ false
   event_plain p a class h name i k e v = h.classes (base.Named name) i k e ∙ by k v
     where
       by : (k : Kind) → is_event k ≡ true → is_mutex k ≡ false
@@ -208,19 +208,19 @@ module _ (t : Table) (g : Sig) where
 
   -- a handler's parameter
 
-  abbrev param_of : List ℕ → List ℕ → ℕ → Known
+  abbrev param_of : List ℕ → List ℕ → ℕ → LocalVariable
   param_of name event cell = record { name = name; ty = tree.scalar (base.Named event); cell = cell }
 
-  caught_placed : (p : Program) (a : Around) (class : Option ℕ) → Rooted t g p a class → (event : List ℕ) (o : Option ℕ) → event_place p (base.Named event) ≡ o → IsPlaced t (caught_ty o)
+  caught_placed : (p : Program) (a : Surroundings) (class : Option ℕ) → Rooted t g p a class → (event : List ℕ) (o : Option ℕ) → event_place p (base.Named event) ≡ o → IsPlaced t (caught_ty o)
   caught_placed p a class h event None e = tt
   caught_placed p a class h event (Some i) e = let r = event_sorted (classes_of p.items) 0 event i e in event_plain p a class h event i r.0 r.1 r.2
 
-  caught_fine : (sc : List Name) (p : Program) (a : Around) (class : Option ℕ) → Rooted t g p a class → (name event : List ℕ) (cell : ℕ) → Among g.locals cell (caught_ty (event_place p (base.Named event))) → (z : Bool) → Fine t g sc (known_by z (param_of name event cell)).expr
+  caught_fine : (sc : List Name) (p : Program) (a : Surroundings) (class : Option ℕ) → Rooted t g p a class → (name event : List ℕ) (cell : ℕ) → Among g.locals cell (caught_ty (event_place p (base.Named event))) → (z : Bool) → Fine t g sc (known_by z (param_of name event cell)).expr
   caught_fine sc p a class h name event cell m true = (Num, inr (inl refl))
   caught_fine sc p a class h name event cell m false =
       (caught_ty (event_place p (base.Named event)), (inr (inr m), caught_placed p a class h event (event_place p (base.Named event)) refl))
 
-  caught_agrees : (sc : List Name) (p : Program) (a : Around) (class : Option ℕ) → Rooted t g p a class → (name event : List ℕ) (cell : ℕ) → Among g.locals cell (caught_ty (event_place p (base.Named event))) → (z : Bool) → AgreesIf t g sc p (if z then Some entity.ClassName else option_map place_of (event_sort p event)) (known_meant p (param_of name event cell))
+  caught_agrees : (sc : List Name) (p : Program) (a : Surroundings) (class : Option ℕ) → Rooted t g p a class → (name event : List ℕ) (cell : ℕ) → Among g.locals cell (caught_ty (event_place p (base.Named event))) → (z : Bool) → AgreesIf t g sc p (if z then Some entity.ClassName else option_map place_of (event_sort p event)) (known_meant p (param_of name event cell))
   caught_agrees sc p a class h name event cell m true w q =
       subst (λ w. Agrees t g sc p w (known_meant p (param_of name event cell))) (some_same q) (caught_fine sc p a class h name event cell m (tree.has_number p (tree.scalar (base.Named event))))
   caught_agrees sc p a class h name event cell m false w q = by (class_named p event) refl q

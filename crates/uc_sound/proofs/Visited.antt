@@ -17,7 +17,7 @@ use Rattle.uc_rules.specs.declared.rule.Rule.TheVariants.{S1}
 use Rattle.uc_rules.specs.declared.rule.Break.{Break}
 use Rattle.uc_rules.specs.declared.rules.Sort.{Sort}
 use Rattle.uc_rules.specs.declared.rules.FieldPlace.{FieldPlace}
-use Rattle.uc_rules.specs.declared.rules.Home.{Home}
+use Rattle.uc_rules.specs.declared.rules.OwnClass.{OwnClass}
 use Rattle.uc_rules.specs.Asked.{of_sort}
 use Rattle.uc_rules.specs.Sorts.{sort_of}
 use Rattle.uc_rules.specs.Names.{place_in}
@@ -73,11 +73,11 @@ module _ (p : Program) where
   class_from k i (UsingItem r ∷ xs) u n c j q e =
       class_from (k + 0) (i + 1) xs (second (AtItem p (UsingItem r) i ∷ item_visits p k (UsingItem r)) (items_visits p (k + 0) (i + 1) xs) u) n c j (omega (arith, q)) e
 
-  pub record MemberRules (h : Home) (c : Class) (j : ℕ) (m : Member) : Type 0 where
+  pub record MemberRules (h : OwnClass) (c : Class) (j : ℕ) (m : Member) : Type 0 where
     pub own : breaks_at (AtMark (plain_env p (class_around h)) c m) ≡ []
     pub inner : Unbroken (form_visits p h c j m.mark m.access m.form)
 
-  member_from : (h : Home) (c : Class) (j : ℕ) (ms : List Member) → Unbroken (members_visits p h c j ms) → (n : ℕ) (m : Member) (l : ℕ) → j + n ≡ l → slice_get ms n ≡ Some m → MemberRules h c l m
+  member_from : (h : OwnClass) (c : Class) (j : ℕ) (ms : List Member) → Unbroken (members_visits p h c j ms) → (n : ℕ) (m : Member) (l : ℕ) → j + n ≡ l → slice_get ms n ≡ Some m → MemberRules h c l m
   member_from h c j [] u n m l q e = none_some e
   member_from h c j (x ∷ xs) u zero m l q e =
       let here : Unbroken (AtMark (plain_env p (class_around h)) c x ∷ form_visits p h c j x.mark x.access x.form) = first (AtMark (plain_env p (class_around h)) c x ∷ form_visits p h c j x.mark x.access x.form) (members_visits p h c (j + 1) xs) u in
@@ -87,7 +87,7 @@ module _ (p : Program) where
   member_from h c j (x ∷ xs) u (suc n) m l q e =
       member_from h c (j + 1) xs (second (AtMark (plain_env p (class_around h)) c x ∷ form_visits p h c j x.mark x.access x.form) (members_visits p h c (j + 1) xs) u) n m l (omega (arith, q)) e
 
-  pub record FieldRules (h : Home) (c : Class) (f : ClassField) : Type 0 where
+  pub record FieldRules (h : OwnClass) (c : Class) (f : ClassField) : Type 0 where
     pub access : Access
     pub place : FieldPlace
     pub own : breaks_at (AtField (plain_env p (class_around h)) c access f.base f.declarator place) ≡ []
@@ -101,7 +101,7 @@ module _ (p : Program) where
     pub member_at : slice_get c.members place.member ≡ Some member
     pub listed : slice_get fields place.index ≡ Some f.declarator
 
-  listed_from : (h : Home) (c : Class) (m : Member) (at : Pos) (all : List Declarator) (b : Base) (s : Sort) (j i : ℕ) (ds : List Declarator) → slice_get c.members j ≡ Some m → m.form ≡ FieldsMember at b all → ((n k : ℕ) (d : Declarator) → i + n ≡ k → slice_get ds n ≡ Some d → slice_get all k ≡ Some d) → sort_of p b ≡ Some s → Unbroken (fields_visits (plain_env p (class_around h)) c m.access b j i ds) → (n : ℕ) (f : ClassField) → slice_get (declared_fields b ds) n ≡ Some f → FieldRules h c f
+  listed_from : (h : OwnClass) (c : Class) (m : Member) (at : Pos) (all : List Declarator) (b : Base) (s : Sort) (j i : ℕ) (ds : List Declarator) → slice_get c.members j ≡ Some m → m.form ≡ FieldsMember at b all → ((n k : ℕ) (d : Declarator) → i + n ≡ k → slice_get ds n ≡ Some d → slice_get all k ≡ Some d) → sort_of p b ≡ Some s → Unbroken (fields_visits (plain_env p (class_around h)) c m.access b j i ds) → (n : ℕ) (f : ClassField) → slice_get (declared_fields b ds) n ≡ Some f → FieldRules h c f
   listed_from h c m at all b s j i [] w q l k u n f e = none_some e
   listed_from h c m at all b s j i (d ∷ ds) w q l k u zero f e =
       let env = plain_env p (class_around h) in
@@ -124,7 +124,7 @@ module _ (p : Program) where
       let env = plain_env p (class_around h) in
       listed_from h c m at all b s j (i + 1) ds w q (λ n k d z. l (suc n) k d (omega (arith, z))) k (second (maybe_visits env d.len ++ AtField env c m.access b d (place_in j i) ∷ []) (fields_visits env c m.access b j (i + 1) ds) u) n f e
 
-  in_form : (h : Home) (c : Class) (j : ℕ) (m : Member) (form : MemberForm) → slice_get c.members j ≡ Some m → m.form ≡ form → Unbroken (form_visits p h c j m.mark m.access form) → (n : ℕ) (f : ClassField) → slice_get (form_fields form) n ≡ Some f → FieldRules h c f
+  in_form : (h : OwnClass) (c : Class) (j : ℕ) (m : Member) (form : MemberForm) → slice_get c.members j ≡ Some m → m.form ≡ form → Unbroken (form_visits p h c j m.mark m.access form) → (n : ℕ) (f : ClassField) → slice_get (form_fields form) n ≡ Some f → FieldRules h c f
   in_form h c j m (FieldsMember at b ds) w q u n f e =
       let env = plain_env p (class_around h) in
       let k = base_known env at b (one (AtBase env at b) (first (AtBase env at b ∷ []) (fields_visits env c m.access b j 0 ds) u)) in
@@ -132,7 +132,7 @@ module _ (p : Program) where
   in_form h c j m (RoutineMember r) w q u n f e = none_some e
   in_form h c j m (ProtoMember s) w q u n f e = none_some e
 
-  fields_from : (h : Home) (c : Class) (j : ℕ) (ms : List Member) → ((k : ℕ) (m : Member) (l : ℕ) → j + k ≡ l → slice_get ms k ≡ Some m → slice_get c.members l ≡ Some m) → Unbroken (members_visits p h c j ms) → (n : ℕ) (f : ClassField) → slice_get (fields_of ms) n ≡ Some f → FieldRules h c f
+  fields_from : (h : OwnClass) (c : Class) (j : ℕ) (ms : List Member) → ((k : ℕ) (m : Member) (l : ℕ) → j + k ≡ l → slice_get ms k ≡ Some m → slice_get c.members l ≡ Some m) → Unbroken (members_visits p h c j ms) → (n : ℕ) (f : ClassField) → slice_get (fields_of ms) n ≡ Some f → FieldRules h c f
   fields_from h c j [] l u n f e = none_some e
   fields_from h c j (m ∷ ms) l u n f e = by (in_either (form_fields m.form) (fields_of ms) n f e) (fields_from h c (j + 1) ms (λ k x i q e. l (suc k) x i (omega (arith, q)) e) (second (AtMark (plain_env p (class_around h)) c m ∷ form_visits p h c j m.mark m.access m.form) (members_visits p h c (j + 1) ms) u))
     where
@@ -158,7 +158,7 @@ module _ (p : Program) where
     pub item_rules : (i : ℕ) (x : Item) → slice_get p.items i ≡ Some x → ItemRules x i
     item_rules i x e = item_from 0 0 p.items items i x i (omega arith) e
 
-    abbrev pub home : ℕ → Class → Home
+    abbrev pub home : ℕ → Class → OwnClass
     home i c = record { class = i; kind = c.kind }
 
     pub class_rules : (i : ℕ) (c : Class) → class_at p i ≡ Some c → Unbroken (class_visits p i c)

@@ -13,7 +13,7 @@ use uc_entry::fault::RunFault;
 use uc_entry::request::Request;
 use uc_frames::cell::Cell;
 use uc_frames::work::Work;
-use uc_machine::exec::Reason;
+use uc_machine::exec::UnwindReason;
 use uc_tree::limits::CALLS;
 
 // A mutex object by its number.
@@ -81,10 +81,10 @@ fn is_last(depth: Option<u32>) -> bool
 }
 
 // Whether an event unwinds.
-fn by_event(why: Option<Reason>) -> bool
+fn by_event(why: Option<UnwindReason>) -> bool
     ensures { result ≡ by_event why }
 {
-    matches!(why, Some(Reason::Event { .. }))
+    matches!(why, Some(UnwindReason::Event { .. }))
 }
 
 // The running call leaves the object at hand; where that is not the last leave, or the call is unwound, the task goes on at this op.

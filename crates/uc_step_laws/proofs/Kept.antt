@@ -13,7 +13,7 @@ use Rattle.uc_machine.specs.declared.exec.Home.{Home}
 use Rattle.uc_machine.specs.declared.exec.Home.TheVariants as home
 use Rattle.uc_machine.specs.declared.exec.Owner.{Owner}
 use Rattle.uc_machine.specs.declared.exec.Owner.TheVariants.{Frame, Fields}
-use Rattle.uc_machine.specs.declared.exec.Reason.{Reason}
+use Rattle.uc_machine.specs.declared.exec.UnwindReason.{UnwindReason}
 use Rattle.uc_machine.specs.declared.exec.Stage.{Stage}
 use Rattle.uc_machine.specs.declared.exec.Stage.TheVariants.{Fresh, Started, Ended}
 use Rattle.uc_machine.specs.Executions.{Links, Execution, update, exec_eq, joined, members_at, set_members, change, change_in, slot_in, parked_at, frames_by, frames_changed, frame_changed, with_owned, with_frames}

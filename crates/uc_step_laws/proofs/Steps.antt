@@ -18,8 +18,8 @@ use Rattle.uc_entry.specs.declared.request.Request.TheVariants as ask
 use Rattle.uc_entry.specs.Keyed.{find, signed_64}
 use Rattle.uc_machine.specs.declared.exec.Exec.{Exec}
 use Rattle.uc_machine.specs.declared.exec.Pending.{Pending}
-use Rattle.uc_machine.specs.declared.exec.Reason.{Reason}
-use Rattle.uc_machine.specs.declared.exec.Reason.TheVariants as reason
+use Rattle.uc_machine.specs.declared.exec.UnwindReason.{UnwindReason}
+use Rattle.uc_machine.specs.declared.exec.UnwindReason.TheVariants as reason
 use Rattle.uc_machine.specs.declared.exec.Visited.{Visited}
 use Rattle.uc_machine.specs.Switches as sw
 use Rattle.uc_machine.specs.Switches.{Moved, To, Stops}
@@ -235,7 +235,7 @@ module _ (ks : List ℕ) where
     live None todo h = ends _ _ h
     live (Some r) todo h = either (StepHolding ks) (sw.is_live (piece.exec_at (top (drop r.params s.run.operands)) s.env) s.env) _ _ (go _ _ h) (stop NotLive todo _ h)
 
-    pub land : (o : Option Reason) (todo : List Todo) → plain todo ≡ true → StepHolding ks (quiet.land_step o todo s)
+    pub land : (o : Option UnwindReason) (todo : List Todo) → plain todo ≡ true → StepHolding ks (quiet.land_step o todo s)
     land None todo h = go _ _ h
     land (Some why) todo h = go _ _ h
 
@@ -254,7 +254,7 @@ module _ (ks : List ℕ) where
         let o = piece.object_in (top (drop r.params s.run.operands)) in
         either (StepHolding ks) (monitors.may_call r.written s) _ _ (enter_at (find o s.env.depths) o m todo h) (stop Depth todo _ h)
 
-    pub polled : (o : Option Reason) (todo : List Todo) → plain todo ≡ true → plain (monitors.leave_todo o todo) ≡ true
+    pub polled : (o : Option UnwindReason) (todo : List Todo) → plain todo ≡ true → plain (monitors.leave_todo o todo) ≡ true
     polled None todo h = h
     polled (Some why) todo h = h
 
@@ -339,7 +339,7 @@ module _ (ks : List ℕ) where
     catches None e todo h = go _ _ h
     catches (Some x) e todo h = record { control = h; callers = callers; env = env }
 
-    pub guarded : (hs : Handlers) (o : Option Reason) (todo : List Todo) → plain todo ≡ true → StepHolding ks (raising.guard_left hs o todo s)
+    pub guarded : (hs : Handlers) (o : Option UnwindReason) (todo : List Todo) → plain todo ≡ true → StepHolding ks (raising.guard_left hs o todo s)
     guarded hs (Some (reason.Event n x y)) todo h = catches _ _ todo h
     guarded hs o todo h = go _ _ h
 
@@ -360,11 +360,11 @@ module _ (ks : List ℕ) where
     scope src.Leaves true todo h = record { control = h; callers = callers; env = env }
     scope c b todo h = go (raising.left_todo c (piece.Unwind ∷ todo)) [] (left_cleans c (piece.Unwind ∷ todo) h)
 
-    pub main_left : (o : Option Reason) (todo : List Todo) → plain todo ≡ true → StepHolding ks (raising.main_left o todo s)
+    pub main_left : (o : Option UnwindReason) (todo : List Todo) → plain todo ≡ true → StepHolding ks (raising.main_left o todo s)
     main_left (Some (reason.ReturnTo n)) todo h = record { control = h; callers = callers; env = env }
     main_left o todo h = stop Unhandled todo [] h
 
-    pub coroutine_left : (o : Option Reason) (todo : List Todo) → plain todo ≡ true → StepHolding ks (raising.coroutine_left o todo s)
+    pub coroutine_left : (o : Option UnwindReason) (todo : List Todo) → plain todo ≡ true → StepHolding ks (raising.coroutine_left o todo s)
     coroutine_left (Some (reason.ReturnTo n)) todo h = record { control = h; callers = callers; env = env }
     coroutine_left (Some reason.Destroyed) todo h = moved _ todo _ h (taken_down_holding ks (at todo [] s) (go todo [] h))
     coroutine_left o todo h = moved _ todo _ h (escape_holding ks (at todo [] s) (go todo [] h))
@@ -378,7 +378,7 @@ module _ (ks : List ℕ) where
     unwind_past piece.IsFinishCoroutine todo h = coroutine_left s.run.raised todo h
     unwind_past k todo h = go _ _ h
 
-    pub pass_on : (o : Option Reason) (c : Active) (cs : List Active) → plain c.control ≡ true → PlainRuns cs → plain s.run.control ≡ true → StepHolding ks (raising.pass_on o c cs s)
+    pub pass_on : (o : Option UnwindReason) (c : Active) (cs : List Active) → plain c.control ≡ true → PlainRuns cs → plain s.run.control ≡ true → StepHolding ks (raising.pass_on o c cs s)
     pass_on None c cs a b h = record { control = h; callers = callers; env = env; form = tt }
     pass_on (Some why) c cs a b h = record { control = a; callers = b; env = like ks env refl refl refl }
 

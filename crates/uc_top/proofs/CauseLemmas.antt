@@ -3,7 +3,7 @@ use Rattle.std.proofs.Common.{◌≡◌, ℕ, List, [], length, refl, sym, ◌�
 use Rattle.std.specs.Prelude.{Contains}
 use Rattle.uc_tree.specs.declared.limits.TheConstants.{NESTING}
 use Rattle.uc_tree.specs.declared.pos.Pos.{Pos}
-use Rattle.uc_tree.specs.declared.scan.Reason.{Reason}
+use Rattle.uc_tree.specs.declared.scan.LexicalFault.{LexicalFault}
 use Rattle.uc_tree.specs.declared.token.Token.{Token}
 use Rattle.uc_tree.specs.Programs.{Program}
 use Rattle.uc_tree.specs.Tokens.{tokens, Read, Refused, pos_at}
@@ -23,7 +23,7 @@ use Rattle.uc_top.proofs.FaultLemmas.{one_fault}
 use Rattle.uc_top.proofs.FirstLemmas.{one_first}
 use Rattle.uc_top.proofs.Frames.{not_fit}
 
-one_lexical : (text : List ℕ) (v w : Reason) (here there : Pos) → HasFault text v here → HasFault text w there → Lexical v here ≡ Lexical w there
+one_lexical : (text : List ℕ) (v w : LexicalFault) (here there : Pos) → HasFault text v here → HasFault text w there → Lexical v here ≡ Lexical w there
 one_lexical text v w here there a b =
     let e : Refused v a.at ≡ Refused w b.at = sym a.lexed ∙ b.lexed in
     let why : v ≡ w = cc in

@@ -3,7 +3,7 @@ use Rattle.std.proofs.Common.{◌≡◌, ◌≢◌, ℕ, List, [], ◌⊎◌, in
 use Rattle.std.specs.Prelude.{IsTrue, Option, Contains}
 use Rattle.uc_tree.specs.declared.limits.TheConstants.{PROGRAM_BYTES, JOURNAL_BYTES, NESTING}
 use Rattle.uc_tree.specs.declared.pos.Pos.{Pos}
-use Rattle.uc_tree.specs.declared.scan.Reason.{Reason}
+use Rattle.uc_tree.specs.declared.scan.LexicalFault.{LexicalFault}
 use Rattle.uc_tree.specs.declared.token.Token.{Token}
 use Rattle.uc_tree.specs.Tokens.{tokens, Read}
 use Rattle.uc_grammar.specs.Text.{IsProgram}
@@ -401,7 +401,7 @@ pub given : (s : Scene) (h : HasTexts s) {c : Command} {text input : List ℕ} �
 given s h g = given_by s h g.asks g.reads
 
 -- a text without tokens is no program
-pub unlexed : {text : List ℕ} {why : Reason} {here : Pos} {p : Program} → HasFault text why here → IsAcceptedText text p → ⊥
+pub unlexed : {text : List ℕ} {why : LexicalFault} {here : Pos} {p : Program} → HasFault text why here → IsAcceptedText text p → ⊥
 unlexed f is = absurd (let e = sym f.lexed ∙ is.spells.lexed in cc)
 
 -- nor is one whose tokens are no program

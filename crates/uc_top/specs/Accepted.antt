@@ -3,7 +3,7 @@ use Rattle.std.specs.Prelude.{◌≡◌, ℕ, zero, suc, ◌<◌, ◌≤◌, Lis
 use Rattle.uc_tree.specs.declared.limits.TheConstants.{NESTING, FRAME_CELLS, PROGRAM_SIZE}
 use Rattle.uc_tree.specs.declared.token.Token.{Token}
 use Rattle.uc_tree.specs.declared.pos.Pos.{Pos}
-use Rattle.uc_tree.specs.declared.scan.Reason.{Reason}
+use Rattle.uc_tree.specs.declared.scan.LexicalFault.{LexicalFault}
 use Rattle.uc_tree.specs.Tokens.{tokens, Read, Refused, pos_at}
 use Rattle.uc_tree.specs.Programs.{Program}
 use Rattle.uc_tree.specs.Cells.{routine_cells}
@@ -77,7 +77,7 @@ pub record IsAcceptedText (text : List ℕ) (program : Program) : Type 0 where
   pub accepted : IsAccepted program
 
 -- the text has no tokens: at the least offset, which is at this place, none can stand, for this reason
-pub record HasFault (text : List ℕ) (why : Reason) (pos : Pos) : Type 0 where
+pub record HasFault (text : List ℕ) (why : LexicalFault) (pos : Pos) : Type 0 where
   pub at : ℕ
   pub lexed : tokens text ≡ Refused why at
   pub place : pos ≡ pos_at text at

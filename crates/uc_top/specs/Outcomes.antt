@@ -2,7 +2,7 @@
 use Rattle.std.specs.Prelude.{◌≡◌, ◌≢◌, ℕ, ◌<◌, List, [], ◌⊎◌, IsTrue, codes}
 use Rattle.uc_tree.specs.declared.limits.TheConstants.{PROGRAM_BYTES, JOURNAL_BYTES}
 use Rattle.uc_tree.specs.declared.pos.Pos.{Pos}
-use Rattle.uc_tree.specs.declared.scan.Reason.{Reason}
+use Rattle.uc_tree.specs.declared.scan.LexicalFault.{LexicalFault}
 use Rattle.uc_tree.specs.Programs.{Program}
 use Rattle.uc_outside.specs.Faults.{CountRose}
 use Rattle.uc_outside.specs.Reading.{StoreState, HasFile}
@@ -84,7 +84,7 @@ OfEnding status = (status ≡ 0) ⊎ (status ≡ 5) ⊎ (status ≡ 6) ⊎ (stat
 
 -- the refusals of texts
 pub data OfText : Refusal → Type 0 where
-  lexical : (why : Reason) (pos : Pos) → OfText (refusal.Lexical why pos)
+  lexical : (why : LexicalFault) (pos : Pos) → OfText (refusal.Lexical why pos)
   syntax : (pos : Pos) → OfText (refusal.Syntax pos)
   deep : (pos : Pos) → OfText (refusal.TooDeep pos)
   broken : (rule : Rule) (pos : Pos) → OfText (refusal.Broken rule pos)

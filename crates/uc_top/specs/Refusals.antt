@@ -2,8 +2,8 @@
 use Rattle.std.specs.Prelude.{◌≡◌, ℕ, ◌⊎◌, List, [], ◌∷◌, codes, decimal, Option, Some}
 use Rattle.std.specs.List.{concat}
 use Rattle.uc_tree.specs.declared.pos.Pos.{Pos}
-use Rattle.uc_tree.specs.declared.scan.Reason.{Reason}
-use Rattle.uc_tree.specs.declared.scan.Reason.TheVariants as reason
+use Rattle.uc_tree.specs.declared.scan.LexicalFault.{LexicalFault}
+use Rattle.uc_tree.specs.declared.scan.LexicalFault.TheVariants as reason
 use Rattle.uc_tree.specs.declared.limits.TheConstants.{PROGRAM_BYTES, INPUT_BYTES, JOURNAL_BYTES}
 use Rattle.uc_rules.specs.RuleNames.{rule_name}
 use Rattle.uc_outside.specs.Reading.{StoreState, KeepsFiles, ReadBytes, ReadFailed, ReadTooLong}
@@ -38,7 +38,7 @@ placed_line pos reason =
     concat (codes "ucpp: " ∷ (decimal pos.line ∷ (codes ":" ∷ (decimal pos.col ∷ (codes ": " ∷ (reason ∷ (codes "\n" ∷ [])))))))
 
 -- why a text has no tokens
-abbrev pub lexical_reason : Reason → List ℕ
+abbrev pub lexical_reason : LexicalFault → List ℕ
 lexical_reason reason.BadByte = codes "bad byte"
 lexical_reason reason.OpenComment = codes "comment not closed"
 lexical_reason reason.OpenText = codes "text not closed"

@@ -1,7 +1,7 @@
 -- What a call answers to a text that is refused: just that refusal, with its place.
 use Rattle.std.specs.Prelude.{◌≡◌, ℕ, ◌⊎◌, IsTrue}
 use Rattle.uc_tree.specs.declared.pos.Pos.{Pos}
-use Rattle.uc_tree.specs.declared.scan.Reason.{Reason}
+use Rattle.uc_tree.specs.declared.scan.LexicalFault.{LexicalFault}
 use Rattle.uc_rules.specs.declared.rule.Rule.{Rule}
 use Rattle.uc_acts.specs.Journal.{Journal}
 use Rattle.uc_top.specs.declared.refusals.Refusal.{Refusal}
@@ -22,7 +22,7 @@ GetsJust s status journal r = ToldAs s r status journal ⊎ (status ≡ 3) ⊎ (
 -- over a store that tells the named texts
 pub record TextAnswers (s : Scene) (status : ℕ) (journal : Journal) : Type 0 where
   -- the text has no tokens
-  pub lexical : (h : HasTexts s) (why : Reason) (pos : Pos) → HasFault h.program.bytes why pos → GetsJust s status journal (refusal.Lexical why pos)
+  pub lexical : (h : HasTexts s) (why : LexicalFault) (pos : Pos) → HasFault h.program.bytes why pos → GetsJust s status journal (refusal.Lexical why pos)
   -- its tokens stop being the beginning of a program, or something in them is nested too deep
   pub syntax : (h : HasTexts s) (pos : Pos) → HasSyntaxFault h.program.bytes pos → GetsJust s status journal (refusal.Syntax pos)
   pub too_deep : (h : HasTexts s) (pos : Pos) → HasDeepFault h.program.bytes pos → GetsJust s status journal (refusal.TooDeep pos)

@@ -26,7 +26,7 @@ use uc_rules::checked::RuleFault;
 use uc_tree::limits::{INPUT_BYTES, JOURNAL_BYTES, PROGRAM_BYTES};
 use uc_tree::pos::Pos;
 use uc_tree::program::Program;
-use uc_tree::scan::Reason;
+use uc_tree::scan::LexicalFault;
 use uc_tree::token::Token;
 use uc_words::{Job, WordsFault, read_words};
 
@@ -274,18 +274,18 @@ fn do_text<R: Threads + Wait + Sync, G: Gate + Sync>(
             Err(refusal) => Err(refusal),
         },
         Err(LexFault::NoMemory) => Err(Refusal::NoMemory),
-        Err(LexFault::BadByte { at }) => Err(fault_at(text, Reason::BadByte, at)),
-        Err(LexFault::OpenComment { at }) => Err(fault_at(text, Reason::OpenComment, at)),
-        Err(LexFault::OpenText { at }) => Err(fault_at(text, Reason::OpenText, at)),
-        Err(LexFault::NumberTooWide { at }) => Err(fault_at(text, Reason::NumberTooWide, at)),
+        Err(LexFault::BadByte { at }) => Err(fault_at(text, LexicalFault::BadByte, at)),
+        Err(LexFault::OpenComment { at }) => Err(fault_at(text, LexicalFault::OpenComment, at)),
+        Err(LexFault::OpenText { at }) => Err(fault_at(text, LexicalFault::OpenText, at)),
+        Err(LexFault::NumberTooWide { at }) => Err(fault_at(text, LexicalFault::NumberTooWide, at)),
         Err(LexFault::TextTooLong { at, len }) => {
-            Err(fault_at(text, Reason::TextTooLong(len), at))
+            Err(fault_at(text, LexicalFault::TextTooLong(len), at))
         }
     }
 }
 
 // The refusal of a text without tokens.
-fn fault_at(text: &[u8], why: Reason, at: u32) -> Refusal
+fn fault_at(text: &[u8], why: LexicalFault, at: u32) -> Refusal
     requires size { length text.now ≤ PROGRAM_BYTES }
     requires inside { at < length text.now }
     ensures { tokens text.now ≡ Refused why at → TextRefused text.now result }

@@ -9,7 +9,7 @@ use itoa::Buffer;
 use uc_outside::{Sink, SinkFault, put_all};
 use uc_rules::rule::Rule;
 use uc_tree::pos::Pos;
-use uc_tree::scan::Reason;
+use uc_tree::scan::LexicalFault;
 
 /// Why nothing is run.
 #[derive(Clone, Copy, PartialEq, Eq, Debug)]
@@ -21,7 +21,7 @@ pub enum Refusal {
     /// A named file is longer than its text may be.
     TooLong,
     /// The text has no tokens, and where it stops having them.
-    Lexical(Reason, Pos),
+    Lexical(LexicalFault, Pos),
     /// Where the text stops being the beginning of a program.
     Syntax(Pos),
     /// Where a piece begins that is nested too deep.
@@ -92,15 +92,15 @@ pub(crate) fn put_refusal<E: Sink>(
 }
 
 // What is said of a text without tokens.
-fn lexical_text(why: Reason) -> &'static [u8]
+fn lexical_text(why: LexicalFault) -> &'static [u8]
     ensures { result.now ≡ lexical_reason why }
 {
     match why {
-        Reason::BadByte => b"bad byte",
-        Reason::OpenComment => b"comment not closed",
-        Reason::OpenText => b"text not closed",
-        Reason::NumberTooWide => b"number too wide",
-        Reason::TextTooLong(_) => b"text too long",
+        LexicalFault::BadByte => b"bad byte",
+        LexicalFault::OpenComment => b"comment not closed",
+        LexicalFault::OpenText => b"text not closed",
+        LexicalFault::NumberTooWide => b"number too wide",
+        LexicalFault::TextTooLong(_) => b"text too long",
     }
 }
 

@@ -3,13 +3,13 @@ use Rattle.std.proofs.Common.{◌≡◌, ℕ, zero, suc, ◌+◌, ◌*◌, ℤ, 
 use Rattle.std.specs.Prelude.{if◌then◌else◌, slice_get}
 use Rattle.uc_tree.specs.declared.kinds.Base.{Base}
 use Rattle.uc_tree.specs.declared.kinds.Base.TheVariants as base
-use Rattle.uc_tree.specs.declared.rows.Object.{Object}
-use Rattle.uc_tree.specs.declared.rows.Held.{Held}
+use Rattle.uc_tree.specs.declared.rows.FieldClass.{FieldClass}
+use Rattle.uc_tree.specs.declared.rows.FieldLayout.{FieldLayout}
 use Rattle.uc_tree.specs.Constants.{constants_of, length_in}
 use Rattle.uc_tree.specs.Expressions.{Expr}
 use Rattle.uc_tree.specs.Statements.{Declarator}
 use Rattle.uc_tree.specs.Programs.{MemberForm, FieldsMember, RoutineMember, ProtoMember, Member, Class, Constant, Program}
-use Rattle.uc_tree.specs.Rows.{Row, row_at, has_itself, element_cells, held_cells, all_held_cells, row_cells, cells_within}
+use Rattle.uc_tree.specs.Rows.{ClassLayout, row_at, has_itself, element_cells, held_cells, all_held_cells, row_cells, cells_within}
 use Rattle.uc_tree.specs.Cells.{classes_of, object_of, held_by, member_held, members_held, row_of, rows_of, leading_cells, seen_in}
 use Rattle.uc_tree.specs.Source.{Shape, Binding, Last, shape_cells}
 use Rattle.uc_tree.specs.Objects.{class_at, ClassField, declared_fields, form_fields, fields_of, shape_of, kept_shape, arrayed, field_shape, fields_shape, behind_bindings, form_shape, shape_within}
@@ -29,12 +29,12 @@ bindings_cells : (n : ℕ) (s : Shape) → shape_cells (behind_bindings n s) ≡
 bindings_cells zero s = omega arith
 bindings_cells (suc n) s = let h = bindings_cells n s in omega (arith, h)
 
-all_held : (cells : ℕ → ℕ) (xs ys : List Held) → all_held_cells cells (xs ++ ys) ≡ all_held_cells cells xs + all_held_cells cells ys
+all_held : (cells : ℕ → ℕ) (xs ys : List FieldLayout) → all_held_cells cells (xs ++ ys) ≡ all_held_cells cells xs + all_held_cells cells ys
 all_held cells [] ys = omega arith
 all_held cells (x ∷ xs) ys = let h = all_held cells xs ys in omega (arith, h)
 
 -- the row of a class, where there is one
-abbrev row_by : List Class → List Constant → Option Class → Row
+abbrev row_by : List Class → List Constant → Option Class → ClassLayout
 row_by cs ks None = record { leading = 0; held = [] }
 row_by cs ks (Some c) = row_of cs ks c
 
@@ -49,7 +49,7 @@ module _ (shapes : ℕ → Shape) (cells : ℕ → ℕ) (same : (j : ℕ) → sh
   plain_cells true j = same j
   plain_cells false j = refl
 
-  kept_cells : (o : Option Object) (b : Base) → shape_cells (kept_shape shapes o b) ≡ element_cells cells o
+  kept_cells : (o : Option FieldClass) (b : Base) → shape_cells (kept_shape shapes o b) ≡ element_cells cells o
   kept_cells None b = base_cells b
   kept_cells (Some o) b = plain_cells o.plain o.class
 

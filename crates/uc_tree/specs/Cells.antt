@@ -6,11 +6,11 @@ use Rattle.uc_tree.specs.declared.kinds.Base.TheVariants as base
 use Rattle.uc_tree.specs.declared.kinds.Kind.{Kind}
 use Rattle.uc_tree.specs.declared.kinds.Kind.TheVariants as kind
 use Rattle.uc_tree.specs.declared.kinds.Param.{Param}
-use Rattle.uc_tree.specs.declared.rows.Object.{Object}
-use Rattle.uc_tree.specs.declared.rows.Held.{Held}
+use Rattle.uc_tree.specs.declared.rows.FieldClass.{FieldClass}
+use Rattle.uc_tree.specs.declared.rows.FieldLayout.{FieldLayout}
 use Rattle.uc_tree.specs.Names.{same_name}
 use Rattle.uc_tree.specs.Constants.{constants_of, value_of_name, elements}
-use Rattle.uc_tree.specs.Rows.{Row, cells_of, held_cells, element_cells}
+use Rattle.uc_tree.specs.Rows.{ClassLayout, cells_of, held_cells, element_cells}
 use Rattle.uc_tree.specs.Statements.{Declarator, ForStart, NoFor, ForDeclare, ForEvaluate, Stmt, Block, Empty, Evaluate, Declare, If, While, Do, For, Break, Continue, Return, Try, Throw, Raise, RaiseAt, Enable, Disable, Accept, Print, PrintTogether, Read, Resume, Suspend, Yield, Migrate, Stmts, NoStmts, MoreStmts, MaybeStmt, NoStmt, OneStmt, Handler, Handles, Handlers, NoHandlers, MoreHandlers, Clause, Accepts, Clauses, NoClauses, MoreClauses}
 use Rattle.uc_tree.specs.Programs.{Routine, MemberForm, FieldsMember, RoutineMember, ProtoMember, Member, Class, Constant, Item, ClassItem, RoutineItem, ConstItem, ProtoItem, ForwardItem, UsingItem, Program}
 
@@ -25,7 +25,7 @@ classes_of (ForwardItem forward ∷ is) = classes_of is
 classes_of (UsingItem pos ∷ is) = classes_of is
 
 -- an object of a class of this kind; an event has none
-abbrev pub object_of_kind : ℕ → Kind → Option Object
+abbrev pub object_of_kind : ℕ → Kind → Option FieldClass
 object_of_kind i kind.Class = Some (record { class = i; plain = true })
 object_of_kind i kind.Coroutine = Some (record { class = i; plain = true })
 object_of_kind i kind.Monitor = Some (record { class = i; plain = false })
@@ -34,12 +34,12 @@ object_of_kind i kind.Task = Some (record { class = i; plain = false })
 object_of_kind i kind.Event = None
 
 -- of two classes with one name the first is meant; the first of the list has the number i
-abbrev pub object_named : List Class → ℕ → List ℕ → Option Object
+abbrev pub object_named : List Class → ℕ → List ℕ → Option FieldClass
 object_named [] i name = None
 object_named (c ∷ cs) i name = if same_name c.name name then object_of_kind i c.kind else object_named cs (i + 1) name
 
 -- a base that is `void`, an event or undeclared counts as one that is no object
-abbrev pub object_of : List Class → Base → Option Object
+abbrev pub object_of : List Class → Base → Option FieldClass
 object_of cs base.Void = None
 object_of cs base.Int = None
 object_of cs base.Char = None
@@ -50,7 +50,7 @@ object_of cs base.Processor = None
 object_of cs (base.Named name) = object_named cs 0 name
 
 -- what a declarator holds; `named` gives the values of names in its length
-abbrev pub held_by : List Class → (List ℕ → Option ℤ) → Base → Declarator → Held
+abbrev pub held_by : List Class → (List ℕ → Option ℤ) → Base → Declarator → FieldLayout
 held_by cs named b d = record { count = elements named d; object = if d.by_ref then None else object_of cs b }
 
 -- a member of a class hides a constant of its name in the lengths of the class
@@ -69,12 +69,12 @@ has_member c name = list_any (λ m. member_form_named name m.form) c.members
 abbrev pub seen_in : List Constant → Class → List ℕ → Option ℤ
 seen_in constants c name = if has_member c name then None else value_of_name constants name
 
-abbrev pub member_held : List Class → (List ℕ → Option ℤ) → MemberForm → List Held
+abbrev pub member_held : List Class → (List ℕ → Option ℤ) → MemberForm → List FieldLayout
 member_held cs named (FieldsMember at b ds) = map (held_by cs named b) ds
 member_held cs named (RoutineMember routine) = []
 member_held cs named (ProtoMember sig) = []
 
-abbrev pub members_held : List Class → (List ℕ → Option ℤ) → List Member → List Held
+abbrev pub members_held : List Class → (List ℕ → Option ℤ) → List Member → List FieldLayout
 members_held cs named [] = []
 members_held cs named (m ∷ ms) = member_held cs named m.form ++ members_held cs named ms
 
@@ -87,11 +87,11 @@ leading_cells kind.Cormonitor = 1
 leading_cells kind.Task = 0
 leading_cells kind.Event = 0
 
-abbrev pub row_of : List Class → List Constant → Class → Row
+abbrev pub row_of : List Class → List Constant → Class → ClassLayout
 row_of cs constants c = record { leading = leading_cells c.kind; held = members_held cs (seen_in constants c) c.members }
 
 -- what the classes of a program hold
-abbrev pub rows_of : Program → List Row
+abbrev pub rows_of : Program → List ClassLayout
 rows_of p = map (row_of (classes_of p.items) (constants_of p.items)) (classes_of p.items)
 
 -- the cells of the class with this place among the classes of a program

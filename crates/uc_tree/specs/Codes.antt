@@ -17,8 +17,8 @@ use Rattle.uc_tree.specs.declared.kinds.Kind.{Kind}
 use Rattle.uc_tree.specs.declared.kinds.Kind.TheVariants as kind
 use Rattle.uc_tree.specs.declared.kinds.Access.{Access}
 use Rattle.uc_tree.specs.declared.kinds.Access.TheVariants as access
-use Rattle.uc_tree.specs.declared.kinds.Mark.{Mark}
-use Rattle.uc_tree.specs.declared.kinds.Mark.TheVariants as mark
+use Rattle.uc_tree.specs.declared.kinds.MutexMark.{MutexMark}
+use Rattle.uc_tree.specs.declared.kinds.MutexMark.TheVariants as mark
 use Rattle.uc_tree.specs.declared.kinds.Role.{Role}
 use Rattle.uc_tree.specs.declared.kinds.Role.TheVariants as role
 
@@ -303,22 +303,22 @@ access_again access.Protected = refl
 abbrev pub access_codec : Codec Access
 access_codec = by_number access_number access_of access_again
 
-abbrev mark_number : Mark → ℕ
+abbrev mark_number : MutexMark → ℕ
 mark_number mark.Unmarked = 0
 mark_number mark.Mutex = 1
 mark_number mark.Nomutex = 2
 
-abbrev mark_of : ℕ → Mark
+abbrev mark_of : ℕ → MutexMark
 mark_of zero = mark.Unmarked
 mark_of (suc zero) = mark.Mutex
 mark_of _ = mark.Nomutex
 
-abbrev mark_again : (x : Mark) → mark_of (mark_number x) ≡ x
+abbrev mark_again : (x : MutexMark) → mark_of (mark_number x) ≡ x
 mark_again mark.Unmarked = refl
 mark_again mark.Mutex = refl
 mark_again mark.Nomutex = refl
 
-abbrev pub mark_codec : Codec Mark
+abbrev pub mark_codec : Codec MutexMark
 mark_codec = by_number mark_number mark_of mark_again
 
 abbrev role_number : Role → ℕ

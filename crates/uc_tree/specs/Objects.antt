@@ -6,14 +6,14 @@ use Rattle.uc_tree.specs.declared.kinds.Kind.{Kind}
 use Rattle.uc_tree.specs.declared.kinds.Kind.TheVariants as kind
 use Rattle.uc_tree.specs.declared.kinds.Role.{Role}
 use Rattle.uc_tree.specs.declared.kinds.Role.TheVariants as role
-use Rattle.uc_tree.specs.declared.rows.Object.{Object}
-use Rattle.uc_tree.specs.declared.rows.Held.{Held}
+use Rattle.uc_tree.specs.declared.rows.FieldClass.{FieldClass}
+use Rattle.uc_tree.specs.declared.rows.FieldLayout.{FieldLayout}
 use Rattle.uc_tree.specs.Names.{same_name}
 use Rattle.uc_tree.specs.Constants.{constants_of, elements}
 use Rattle.uc_tree.specs.Expressions.{Expr}
 use Rattle.uc_tree.specs.Statements.{Declarator}
 use Rattle.uc_tree.specs.Programs.{MemberForm, FieldsMember, RoutineMember, ProtoMember, Member, Class, Program}
-use Rattle.uc_tree.specs.Rows.{Row, row_at, has_itself}
+use Rattle.uc_tree.specs.Rows.{ClassLayout, row_at, has_itself}
 use Rattle.uc_tree.specs.Cells.{classes_of, object_of, rows_of, leading_cells, seen_in}
 use Rattle.uc_tree.specs.Numbering.{is_event, is_plain, class_number, Defined, routines_of}
 use Rattle.uc_tree.specs.Source.{Shape, Integer, Character, Truth, Binding, Last, Field, Array}
@@ -41,7 +41,7 @@ place_from (c ∷ cs) i (suc n) = if is_event c.kind then place_from cs (i + 1) 
 abbrev pub place_of : Program → ℕ → Option ℕ
 place_of p number = place_from (classes_of p.items) 0 number
 
-abbrev pub plain_in : Option Object → Option ℕ
+abbrev pub plain_in : Option FieldClass → Option ℕ
 plain_in None = None
 plain_in (Some o) = if o.plain then Some o.class else None
 
@@ -85,7 +85,7 @@ pub data Making : Type 0 where
   ACluster : Making
   AProcessor : Making
 
-abbrev pub making_by : Option Object → Base → Option Making
+abbrev pub making_by : Option FieldClass → Base → Option Making
 making_by (Some o) b = Some (if o.plain then APlain o.class else AMutex o.class)
 making_by None base.Cluster = Some ACluster
 making_by None base.Processor = Some AProcessor
@@ -146,7 +146,7 @@ shape_of base.Processor = Binding
 shape_of (base.Named name) = Integer
 
 -- one element of a base, where `shapes` gives what objects of the classes hold: an object of a mutex type is known by its number
-abbrev pub kept_shape : (ℕ → Shape) → Option Object → Base → Shape
+abbrev pub kept_shape : (ℕ → Shape) → Option FieldClass → Base → Shape
 kept_shape shapes None b = shape_of b
 kept_shape shapes (Some o) b = if o.plain then shapes o.class else Binding
 
@@ -229,16 +229,16 @@ pub record Unwritten : Type 0 where
   pub class : ℕ
   pub role : Role
 
-abbrev pub object_height : (ℕ → ℕ) → Option Object → ℕ
+abbrev pub object_height : (ℕ → ℕ) → Option FieldClass → ℕ
 object_height heights None = 0
 object_height heights (Some o) = suc (heights o.class)
 
-abbrev pub tallest : (ℕ → ℕ) → List Held → ℕ
+abbrev pub tallest : (ℕ → ℕ) → List FieldLayout → ℕ
 tallest heights [] = 0
 tallest heights (h ∷ hs) = max (object_height heights h.object) (tallest heights hs)
 
 -- how many classes deep a class is, so many classes deep at most
-unfoldable pub height_within : ℕ → List Row → ℕ → ℕ
+unfoldable pub height_within : ℕ → List ClassLayout → ℕ → ℕ
 height_within zero rows i = 0
 height_within (suc depth) rows i = tallest (height_within depth rows) (row_at rows i).held
 

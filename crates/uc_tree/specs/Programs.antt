@@ -6,7 +6,7 @@ use Rattle.uc_tree.specs.declared.kinds.Base.{Base}
 use Rattle.uc_tree.specs.declared.kinds.Owner.{Owner}
 use Rattle.uc_tree.specs.declared.kinds.Kind.{Kind}
 use Rattle.uc_tree.specs.declared.kinds.Access.{Access}
-use Rattle.uc_tree.specs.declared.kinds.Mark.{Mark}
+use Rattle.uc_tree.specs.declared.kinds.MutexMark.{MutexMark}
 use Rattle.uc_tree.specs.declared.kinds.Role.{Role}
 use Rattle.uc_tree.specs.declared.kinds.Param.{Param}
 use Rattle.uc_tree.specs.declared.kinds.Forward.{Forward}
@@ -43,7 +43,7 @@ pub data MemberForm : Type 0 where
 pub record Member : Type 0 where
   pub pos : Pos
   pub access : Access
-  pub mark : Mark
+  pub mark : MutexMark
   pub form : MemberForm
 
 pub record Class : Type 0 where

@@ -6,7 +6,7 @@ ghost use Rattle.uc_tree.specs.ProgramMain.{is_void, is_int, returns_as_main, is
 
 use crate::declare::Declarator;
 use crate::expr::Expr;
-use crate::kinds::{Access, Base, Kind, Mark, Owner, Param, Role};
+use crate::kinds::{Access, Base, Kind, MutexMark, Owner, Param, Role};
 use crate::name::Name;
 use crate::pos::Pos;
 use crate::stmt::Stmt;
@@ -143,7 +143,7 @@ impl Model for Routine {
 pub struct Member {
     pub pos: Pos,
     pub access: Access,
-    pub mark: Mark,
+    pub mark: MutexMark,
     pub form: MemberForm,
 }
 

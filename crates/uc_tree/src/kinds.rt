@@ -27,7 +27,7 @@ pub enum Access {
 
 /// What is written before a member.
 #[derive(Clone, Copy, PartialEq, Eq, Debug)]
-pub enum Mark {
+pub enum MutexMark {
     Unmarked,
     Mutex,
     Nomutex,
@@ -107,7 +107,7 @@ pub struct Ty {
 
 /// A name in scope: its type, and the first cell of its variable in the frame.
 #[derive(Drop)]
-pub struct Known {
+pub struct LocalVariable {
     pub name: Name,
     pub ty: Ty,
     pub cell: u32,

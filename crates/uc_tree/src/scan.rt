@@ -5,7 +5,7 @@ use crate::token::TokenKind;
 
 /// A place on the way through a text.
 #[derive(Clone, Copy, PartialEq, Eq, Debug)]
-pub struct Place {
+pub struct ScanPlace {
     /// The offset in the text, from 0.
     pub at: u32,
     pub pos: Pos,
@@ -15,18 +15,18 @@ pub struct Place {
 
 /// What stands at a place of a text.
 #[derive(Drop)]
-pub enum Found {
+pub enum Lexeme {
     /// That many bytes that give no token.
     Skip(usize),
     /// A token of that many bytes.
     Take(TokenKind, usize),
     /// No token can stand here; the number is how far behind the place the fault is.
-    Stop(Reason, usize),
+    Stop(LexicalFault, usize),
 }
 
 /// Why a text has no tokens.
 #[derive(Clone, Copy, PartialEq, Eq, Debug)]
-pub enum Reason {
+pub enum LexicalFault {
     /// A byte that cannot stand there.
     BadByte,
     /// A comment without its end.

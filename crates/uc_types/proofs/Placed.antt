@@ -8,10 +8,10 @@ use Rattle.uc_tree.specs.Statements.{Declarator}
 use Rattle.uc_tree.specs.Numbering.{is_plain}
 use Rattle.uc_tree.specs.declared.kinds.Base.{Base}
 use Rattle.uc_tree.specs.declared.kinds.Access.{Access}
-use Rattle.uc_tree.specs.declared.kinds.Mark.{Mark}
+use Rattle.uc_tree.specs.declared.kinds.MutexMark.{MutexMark}
 use Rattle.uc_rules.specs.declared.rules.Entity.TheVariants.{Routine}
-use Rattle.uc_rules.specs.declared.rules.Meant.{Meant}
-use Rattle.uc_rules.specs.declared.rules.Seen.{Seen}
+use Rattle.uc_rules.specs.declared.rules.NameMeaning.{NameMeaning}
+use Rattle.uc_rules.specs.declared.rules.LocalName.{LocalName}
 use Rattle.uc_rules.specs.declared.rules.Sort.TheVariants.{Object}
 use Rattle.uc_rules.specs.Sorts.{class_sort}
 use Rattle.uc_tree.specs.Cells.{classes_of}
@@ -54,7 +54,7 @@ module _ {A : Type 0} (f : A → Class) where
   class_nowhere (x ∷ xs) i name h = missing_case (same_name (f x).name name) x xs i name (class_nowhere xs (i + 1) name) h
 
 -- what the first of a name means stands at its place
-meant_case : (b : Bool) (s : Seen) (ss : List Seen) (i : ℕ) (name : List ℕ) (p : ℕ) → (place_from (i + 1) (map (λ s. s.name) ss) name ≡ Some p → option_map (λ s. s.meant) (slice_get ss (p - (i + 1))) ≡ first_named ss name) → (if b then Some i else place_from (i + 1) (map (λ s. s.name) ss) name) ≡ Some p → option_map (λ s. s.meant) (slice_get (s ∷ ss) (p - i)) ≡ (if b then Some s.meant else first_named ss name)
+meant_case : (b : Bool) (s : LocalName) (ss : List LocalName) (i : ℕ) (name : List ℕ) (p : ℕ) → (place_from (i + 1) (map (λ s. s.name) ss) name ≡ Some p → option_map (λ s. s.meant) (slice_get ss (p - (i + 1))) ≡ first_named ss name) → (if b then Some i else place_from (i + 1) (map (λ s. s.name) ss) name) ≡ Some p → option_map (λ s. s.meant) (slice_get (s ∷ ss) (p - i)) ≡ (if b then Some s.meant else first_named ss name)
 meant_case true s ss i name p more h =
     let is : i ≡ p = cc in
     let first : p - i ≡ 0 = omega (arith, is) in
@@ -64,46 +64,46 @@ meant_case false s ss i name p more h =
     let next : p - i ≡ suc (p - (i + 1)) = omega (arith, low) in
     ap (λ k. option_map (λ s. s.meant) (slice_get (s ∷ ss) k)) next ∙ more h
 
-meant_placed : (ss : List Seen) (i : ℕ) (name : List ℕ) (p : ℕ) → place_from i (map (λ s. s.name) ss) name ≡ Some p → option_map (λ s. s.meant) (slice_get ss (p - i)) ≡ first_named ss name
+meant_placed : (ss : List LocalName) (i : ℕ) (name : List ℕ) (p : ℕ) → place_from i (map (λ s. s.name) ss) name ≡ Some p → option_map (λ s. s.meant) (slice_get ss (p - i)) ≡ first_named ss name
 meant_placed [] i name p h = cc
 meant_placed (s ∷ ss) i name p h = meant_case (same_name s.name name) s ss i name p (meant_placed ss (i + 1) name p) h
 
-pub meant_found : (ss : List Seen) (name : List ℕ) (p : ℕ) → Some p ≡ place_from 0 (map (λ s. s.name) ss) name → option_map (λ s. s.meant) (slice_get ss p) ≡ first_named ss name
+pub meant_found : (ss : List LocalName) (name : List ℕ) (p : ℕ) → Some p ≡ place_from 0 (map (λ s. s.name) ss) name → option_map (λ s. s.meant) (slice_get ss p) ≡ first_named ss name
 meant_found ss name p h = let e : p - 0 ≡ p = omega arith in ap (λ k. option_map (λ s. s.meant) (slice_get ss k)) (sym e) ∙ meant_placed ss 0 name p (sym h)
 
-unmeant_case : (b : Bool) (s : Seen) (ss : List Seen) (i : ℕ) (name : List ℕ) → (None ≡ place_from (i + 1) (map (λ s. s.name) ss) name → None ≡ first_named ss name) → None ≡ (if b then Some i else place_from (i + 1) (map (λ s. s.name) ss) name) → None ≡ (if b then Some s.meant else first_named ss name)
+unmeant_case : (b : Bool) (s : LocalName) (ss : List LocalName) (i : ℕ) (name : List ℕ) → (None ≡ place_from (i + 1) (map (λ s. s.name) ss) name → None ≡ first_named ss name) → None ≡ (if b then Some i else place_from (i + 1) (map (λ s. s.name) ss) name) → None ≡ (if b then Some s.meant else first_named ss name)
 unmeant_case true s ss i name more h = cc
 unmeant_case false s ss i name more h = more h
 
-pub meant_nowhere : (ss : List Seen) (i : ℕ) (name : List ℕ) → None ≡ place_from i (map (λ s. s.name) ss) name → None ≡ first_named ss name
+pub meant_nowhere : (ss : List LocalName) (i : ℕ) (name : List ℕ) → None ≡ place_from i (map (λ s. s.name) ss) name → None ≡ first_named ss name
 meant_nowhere [] i name h = refl
 meant_nowhere (s ∷ ss) i name h = unmeant_case (same_name s.name name) s ss i name (meant_nowhere ss (i + 1) name) h
 
 -- a listing has just what the definitions name
-chosen : (b : Bool) (m : Meant) (o other : Option Meant) → (if b then Some m else first_of o other) ≡ first_of (if b then Some m else o) other
+chosen : (b : Bool) (m : NameMeaning) (o other : Option NameMeaning) → (if b then Some m else first_of o other) ≡ first_of (if b then Some m else o) other
 chosen true m o other = refl
 chosen false m o other = refl
 
-pub named_append : (xs ys : List Seen) (name : List ℕ) → first_named (xs ++ ys) name ≡ first_of (first_named xs name) (first_named ys name)
+pub named_append : (xs ys : List LocalName) (name : List ℕ) → first_named (xs ++ ys) name ≡ first_of (first_named xs name) (first_named ys name)
 named_append [] ys name = refl
 named_append (x ∷ xs) ys name = ap (λ o. if same_name x.name name then Some x.meant else o) (named_append xs ys name) ∙ chosen (same_name x.name name) x.meant (first_named xs name) (first_named ys name)
 
-lone_case : (b t : Bool) (m : Meant) → (if b && t then Some m else None) ≡ (if b then (if t then Some m else None) else None)
+lone_case : (b t : Bool) (m : NameMeaning) → (if b && t then Some m else None) ≡ (if b then (if t then Some m else None) else None)
 lone_case true t m = refl
 lone_case false t m = refl
 
-listed_case : (b : Bool) (s : Seen) (name : List ℕ) → (if b then (if same_name s.name name then Some s.meant else None) else None) ≡ first_named (if b then s ∷ [] else []) name
+listed_case : (b : Bool) (s : LocalName) (name : List ℕ) → (if b then (if same_name s.name name then Some s.meant else None) else None) ≡ first_named (if b then s ∷ [] else []) name
 listed_case true s name = refl
 listed_case false s name = refl
 
-pub lone_named : (b : Bool) (s : Seen) (name : List ℕ) → (if b && same_name s.name name then Some s.meant else None) ≡ first_named (if b then s ∷ [] else []) name
+pub lone_named : (b : Bool) (s : LocalName) (name : List ℕ) → (if b && same_name s.name name then Some s.meant else None) ≡ first_named (if b then s ∷ [] else []) name
 lone_named b s name = lone_case b (same_name s.name name) s.meant ∙ listed_case b s name
 
 fields_named : (p : Program) (o : Owned) (a : Access) (j i : ℕ) (b : Base) (ds : List Declarator) (name : List ℕ) → field_named p o a j i b ds name ≡ first_named (fields_seen p o a j i b ds) name
 fields_named p o a j i b [] name = refl
 fields_named p o a j i b (d ∷ ds) name = ap (λ x. if same_name d.name name then Some (field_meant p o a (place_in j i) b d) else x) (fields_named p o a j (i + 1) b ds name)
 
-form_is : (p : Program) (o : Owned) (m : Mark) (a : Access) (j : ℕ) (f : MemberForm) (name : List ℕ) → form_named p o m a j f name ≡ first_named (form_seen p o m a j f) name
+form_is : (p : Program) (o : Owned) (m : MutexMark) (a : Access) (j : ℕ) (f : MemberForm) (name : List ℕ) → form_named p o m a j f name ≡ first_named (form_seen p o m a j f) name
 form_is p o m a j (FieldsMember at b ds) name = fields_named p o a j 0 b ds name
 form_is p o m a j (RoutineMember r) name = lone_named (is_plain r.sig.role) (seen r.sig.name (method_meant o m a j)) name
 form_is p o m a j (ProtoMember sig) name = lone_named (is_plain sig.role) (seen sig.name (method_meant o m a j)) name
@@ -152,8 +152,8 @@ member_case p i name (Some c) h =
     ap (λ x. option_and_then (λ ss. first_named ss name) x) (class_listed p 0 (classes_of p.items) i c h ∙ ap (λ n. Some (class_seen p n c)) e)
     ∙ sym (members_are p (record { place = i; class = c }) 0 c.members name)
 
-pub member_is : (p : Program) (ds : List (List Seen)) (i : ℕ) (name : List ℕ) → ds ≡ classes_seen p 0 (classes_of p.items) → option_and_then (λ ss. first_named ss name) (slice_get ds i) ≡ member_named p i name
+pub member_is : (p : Program) (ds : List (List LocalName)) (i : ℕ) (name : List ℕ) → ds ≡ classes_seen p 0 (classes_of p.items) → option_and_then (λ ss. first_named ss name) (slice_get ds i) ≡ member_named p i name
 member_is p ds i name h = ap (λ l. option_and_then (λ ss. first_named ss name) (slice_get l i)) h ∙ member_case p i name (slice_get (classes_of p.items) i) refl
 
-pub outer_is : (p : Program) (ss : List Seen) (name : List ℕ) → ss ≡ items_seen p 0 p.items → first_named ss name ≡ items_named p 0 p.items name
+pub outer_is : (p : Program) (ss : List LocalName) (name : List ℕ) → ss ≡ items_seen p 0 p.items → first_named ss name ≡ items_named p 0 p.items name
 outer_is p ss name h = ap (λ l. first_named l name) h ∙ sym (items_are p 0 p.items name)

@@ -3,7 +3,7 @@ use Rattle.std.specs.Prelude.{◌≡◌, ℕ, List, map}
 use Rattle.uc_tree.specs.declared.kinds.Param.{Param}
 use Rattle.uc_tree.specs.Programs.{Class, Item, Program}
 use Rattle.uc_tree.specs.Cells.{classes_of}
-use Rattle.uc_rules.specs.declared.rules.Seen.{Seen}
+use Rattle.uc_rules.specs.declared.rules.LocalName.{LocalName}
 use Rattle.uc_types.specs.Listings.{classes_seen, items_seen}
 use Rattle.uc_types.specs.Members.{built_with, numbered_in}
 
@@ -11,7 +11,7 @@ pub record IsTabled (p : Program) (classes : List Class) (sized : Program) : Typ
   pub classes_are : classes ≡ classes_of p.items
   pub sized_is : sized ≡ p
 
-pub record IsListed (p : Program) (members : List (List Seen)) (outer : List Seen) : Type 0 where
+pub record IsListed (p : Program) (members : List (List LocalName)) (outer : List LocalName) : Type 0 where
   pub members_are : members ≡ classes_seen p 0 (classes_of p.items)
   pub outer_is : outer ≡ items_seen p 0 p.items
 

@@ -20,7 +20,7 @@ use crate::sort::{is_coroutine, is_mutex, is_public};
 use crate::spans::{class_allows, is_field_before};
 use crate::tables::Tables;
 use uc_rules::rule::Rule;
-use uc_rules::rules::{Bound, Entity, Expected, FieldPlace, Home, Meant, Origin, Sort};
+use uc_rules::rules::{Bound, Entity, Expected, FieldPlace, NameMeaning, Origin, OwnClass, Sort};
 use uc_tree::name::Name;
 use uc_tree::ops::{BinaryOp, UnaryOp};
 use uc_tree::pos::Pos;
@@ -126,7 +126,7 @@ pub fn ask_index(
     }
 }
 
-fn is_home(home: Option<Home>, class: usize) -> bool
+fn is_home(home: Option<OwnClass>, class: usize) -> bool
     ensures { result ≡ is_home home class }
 {
     match home {
@@ -135,7 +135,7 @@ fn is_home(home: Option<Home>, class: usize) -> bool
     }
 }
 
-fn is_open(home: Option<Home>, origin: Origin) -> bool
+fn is_open(home: Option<OwnClass>, origin: Origin) -> bool
     ensures { result ≡ is_open home origin }
 {
     match origin {
@@ -168,7 +168,7 @@ fn is_condition_of(entity: Option<Entity>) -> bool
     }
 }
 
-fn is_mutex_field_of(meant: Option<Meant>) -> bool
+fn is_mutex_field_of(meant: Option<NameMeaning>) -> bool
     ensures { result ≡ is_mutex_field_of meant }
 {
     match meant {
@@ -177,7 +177,7 @@ fn is_mutex_field_of(meant: Option<Meant>) -> bool
     }
 }
 
-fn names_condition(meant: Option<Meant>) -> bool
+fn names_condition(meant: Option<NameMeaning>) -> bool
     ensures { result ≡ names_condition meant }
 {
     match meant {
@@ -186,7 +186,7 @@ fn names_condition(meant: Option<Meant>) -> bool
     }
 }
 
-fn is_open_member(home: Option<Home>, meant: Option<Meant>) -> bool
+fn is_open_member(home: Option<OwnClass>, meant: Option<NameMeaning>) -> bool
     ensures { result ≡ is_open_member home meant }
 {
     match meant {
@@ -223,7 +223,7 @@ fn by_path(entity: Entity) -> Entity
     }
 }
 
-fn open_entity(home: Option<Home>, meant: Meant) -> Option<Entity>
+fn open_entity(home: Option<OwnClass>, meant: NameMeaning) -> Option<Entity>
     ensures { result ≡ open_entity home meant }
 {
     if !is_open(home, meant.origin) {
@@ -358,7 +358,7 @@ fn may_use_origin(tables: &Tables, bound: Bound, origin: Origin) -> bool
     }
 }
 
-fn may_use(tables: &Tables, bound: Bound, meant: Option<Meant>) -> bool
+fn may_use(tables: &Tables, bound: Bound, meant: Option<NameMeaning>) -> bool
     ensures { result ≡ may_use tables.now bound meant }
 {
     match meant {
@@ -367,7 +367,7 @@ fn may_use(tables: &Tables, bound: Bound, meant: Option<Meant>) -> bool
     }
 }
 
-fn note_bound(names: &Names, meant: Option<Meant>, found: &mut Found)
+fn note_bound(names: &Names, meant: Option<NameMeaning>, found: &mut Found)
     ensures { (name : List ℕ) → meant ≡ named names.now name → found.new ≡ after found.old (use_breaks names.now names.now.around.bound name) }
 {
     match names.around().bound {
@@ -379,7 +379,7 @@ fn note_bound(names: &Names, meant: Option<Meant>, found: &mut Found)
     }
 }
 
-fn entity_of(meant: Option<Meant>) -> Option<Entity>
+fn entity_of(meant: Option<NameMeaning>) -> Option<Entity>
     ensures { result ≡ meant_entity meant }
 {
     let meant = meant?;

@@ -17,7 +17,7 @@ use uc_layout::lists::classes_in;
 use uc_layout::places::{place_in, places_of_classes};
 use uc_layout::sizes::Sizes;
 use uc_names::scope::Scope;
-use uc_rules::rules::{Entity, Meant, Origin, Sort};
+use uc_rules::rules::{Entity, NameMeaning, Origin, Sort};
 use uc_tree::class::Class;
 use uc_tree::declare::Declarator;
 use uc_tree::expr::Expr;
@@ -204,14 +204,14 @@ impl<'a> Bases<'a> {
     }
 
     /// What a constant stands for.
-    pub fn constant_meant(&self, constant: &Constant) -> Meant
+    pub fn constant_meant(&self, constant: &Constant) -> NameMeaning
         ensures { result ≡ constant_meant self.now constant.now }
     {
         let entity = match self.sort_of(&constant.base) {
             Some(sort) => Some(Entity::Value { sort }),
             None => None,
         };
-        Meant {
+        NameMeaning {
             entity,
             origin: Origin::Outer,
         }

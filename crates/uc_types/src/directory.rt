@@ -8,29 +8,29 @@ use std::alloc::{AllocError, Global};
 use std::marker::Model;
 use uc_layout::places::{no_places, note_place, place_in};
 use uc_names::scope::Scope;
-use uc_rules::rules::{Meant, Seen};
+use uc_rules::rules::{LocalName, NameMeaning};
 use uc_tree::name::Name;
 
 /// Names with what they mean; of two with one name the first counts. Contracts see the list.
 #[derive(Drop)]
 pub struct Directory {
-    seen: Vec<Seen>,
+    seen: Vec<LocalName>,
     places: Scope,
 }
 
 impl Model for Directory {
     ghost use Rattle.std.specs.Prelude.{List, map};
-    ghost use Rattle.uc_rules.specs.declared.rules.Seen.{Seen};
+    ghost use Rattle.uc_rules.specs.declared.rules.LocalName.{LocalName};
     ghost use Rattle.uc_layout.specs.Places.{IsPlaces};
 
-    ghost Value = { List Seen };
+    ghost Value = { List LocalName };
 
     ghost view = { λ a. a.seen.items };
 
     ghost invariant = { λ a. IsPlaces (map (λ s. s.name) a.seen.items) a.places };
 }
 
-fn places_of(alloc: Global, seen: &[Seen]) -> Result<Scope, AllocError>
+fn places_of(alloc: Global, seen: &[LocalName]) -> Result<Scope, AllocError>
     ensures { IfOk result (λ places. IsPlaces (map (λ s. s.name) seen.now) places) }
 {
     let mut places = no_places(alloc)?;
@@ -41,7 +41,7 @@ fn places_of(alloc: Global, seen: &[Seen]) -> Result<Scope, AllocError>
 }
 
 /// What the name with this place means.
-pub fn meant_at(seen: &[Seen], place: usize) -> Option<Meant>
+pub fn meant_at(seen: &[LocalName], place: usize) -> Option<NameMeaning>
     ensures { result ≡ option_map (λ s. s.meant) (slice_get seen.now place) }
 {
     match seen.get(place) {
@@ -50,7 +50,7 @@ pub fn meant_at(seen: &[Seen], place: usize) -> Option<Meant>
     }
 }
 
-fn find(seen: &[Seen], places: &Scope, name: &Name) -> Option<Meant>
+fn find(seen: &[LocalName], places: &Scope, name: &Name) -> Option<NameMeaning>
     requires { IsPlaces (map (λ s. s.name) seen.now) places.now }
     ensures { result ≡ first_named seen.now name.now }
 {
@@ -62,7 +62,7 @@ fn find(seen: &[Seen], places: &Scope, name: &Name) -> Option<Meant>
 
 impl Directory {
     /// The table of these names.
-    pub fn new(alloc: Global, seen: Vec<Seen>) -> Result<Directory, AllocError>
+    pub fn new(alloc: Global, seen: Vec<LocalName>) -> Result<Directory, AllocError>
         ensures { IfOk result (λ d. d ≡ seen.items) }
     {
         let places = places_of(alloc, &seen)?;
@@ -70,7 +70,7 @@ impl Directory {
     }
 
     /// What a name means.
-    pub fn find(&self, name: &Name) -> Option<Meant>
+    pub fn find(&self, name: &Name) -> Option<NameMeaning>
         ensures { result ≡ first_named self.now name.now }
     {
         find(&self.seen, &self.places, name)

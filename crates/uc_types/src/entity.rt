@@ -10,7 +10,7 @@ ghost use Rattle.uc_tree.specs.Names.{same_name, fail_name};
 
 use crate::sort::{is_char, is_condition, is_int, is_scalar_sort, same_sort};
 use crate::tables::Tables;
-use uc_rules::rules::{Entity, Expected, Meant, Operation, Sort, Target};
+use uc_rules::rules::{Entity, Expected, NameMeaning, Operation, Sort, Target};
 use uc_tree::kinds::{Base, Param};
 use uc_tree::name::Name;
 use uc_tree::ops::BinaryOp;
@@ -158,7 +158,7 @@ fn operation_named(name: &Name) -> Option<Operation>
     }
 }
 
-fn object_member(tables: &Tables, sort: Sort, name: &Name) -> Option<Meant>
+fn object_member(tables: &Tables, sort: Sort, name: &Name) -> Option<NameMeaning>
     ensures { result ≡ object_member tables.now sort name.now }
 {
     match sort {
@@ -190,7 +190,7 @@ fn input_member(name: &Name) -> Option<Entity>
 }
 
 /// The member of a class that is named behind a `.`.
-pub fn path_member(tables: &Tables, entity: Entity, name: &Name) -> Option<Meant>
+pub fn path_member(tables: &Tables, entity: Entity, name: &Name) -> Option<NameMeaning>
     ensures { result ≡ path_member tables.now entity name.now }
 {
     match entity {

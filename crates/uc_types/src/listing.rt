@@ -19,10 +19,10 @@ use uc_layout::known::names_of_members;
 use uc_layout::named::NameValues;
 use uc_layout::sizes::Sizes;
 use uc_names::scope::Scope;
-use uc_rules::rules::{Entity, FieldPlace, Meant, Origin, Seen};
+use uc_rules::rules::{Entity, FieldPlace, LocalName, NameMeaning, Origin};
 use uc_tree::class::{Class, Member, MemberForm, Sig};
 use uc_tree::declare::Declarator;
-use uc_tree::kinds::{Access, Base, Mark, Owner};
+use uc_tree::kinds::{Access, Base, MutexMark, Owner};
 use uc_tree::name::Name;
 use uc_tree::program::{Item, ItemForm};
 
@@ -57,14 +57,14 @@ struct Listed<'a> {
 
 fn push_name(
     alloc: Global,
-    list: &mut Vec<Seen>,
+    list: &mut Vec<LocalName>,
     name: &Name,
-    meant: Meant,
+    meant: NameMeaning,
 ) -> Result<(), AllocError>
     ensures { OnOk result (list.new.items ≡ list.old.items ++ seen name.now meant ∷ []) }
 {
     let name = name.copy(alloc)?;
-    list.push(Seen { name, meant })?;
+    list.push(LocalName { name, meant })?;
     Ok(())
 }
 
@@ -80,12 +80,12 @@ fn field_meant(
     field: FieldPlace,
     base: &Base,
     declarator: &Declarator,
-) -> Meant
+) -> NameMeaning
     ensures { result ≡ field_meant listed.now.bases.now (record { place = listed.now.place; class = listed.now.class.now }) access field base.now declarator.now }
 {
     let count = count_of(listed, declarator);
     let class = listed.class;
-    Meant {
+    NameMeaning {
         entity: listed.bases.declared_entity(base, declarator, count),
         origin: Origin::Field {
             class: listed.place,
@@ -99,7 +99,7 @@ fn field_meant(
 
 fn push_fields(
     alloc: Global,
-    list: &mut Vec<Seen>,
+    list: &mut Vec<LocalName>,
     listed: &Listed,
     access: Access,
     member: usize,
@@ -116,7 +116,7 @@ fn push_fields(
     Ok(())
 }
 
-fn method_meant(listed: &Listed, mark: Mark, access: Access, member: usize) -> Meant
+fn method_meant(listed: &Listed, mark: MutexMark, access: Access, member: usize) -> NameMeaning
     ensures { result ≡ method_meant (record { place = listed.now.place; class = listed.now.class.now }) mark access member }
 {
     let class = listed.class;
@@ -126,7 +126,7 @@ fn method_meant(listed: &Listed, mark: Mark, access: Access, member: usize) -> M
         inner: is_inner_only(class.kind, mark, access),
         by_path: false,
     };
-    Meant {
+    NameMeaning {
         entity: Some(entity),
         origin: Origin::Method {
             class: listed.place,
@@ -137,9 +137,9 @@ fn method_meant(listed: &Listed, mark: Mark, access: Access, member: usize) -> M
 
 fn push_method(
     alloc: Global,
-    list: &mut Vec<Seen>,
+    list: &mut Vec<LocalName>,
     listed: &Listed,
-    mark: Mark,
+    mark: MutexMark,
     access: Access,
     member: usize,
     sig: &Sig,
@@ -155,7 +155,7 @@ fn push_method(
 
 fn push_form(
     alloc: Global,
-    list: &mut Vec<Seen>,
+    list: &mut Vec<LocalName>,
     listed: &Listed,
     place: usize,
     member: &Member,
@@ -184,7 +184,11 @@ fn push_form(
     }
 }
 
-fn members_in(alloc: Global, listed: &Listed, members: &[Member]) -> Result<Vec<Seen>, AllocError>
+fn members_in(
+    alloc: Global,
+    listed: &Listed,
+    members: &[Member],
+) -> Result<Vec<LocalName>, AllocError>
     ensures { IfOk result (λ v. v.items ≡ members_seen listed.now.bases.now (record { place = listed.now.place; class = listed.now.class.now }) 0 members.now) }
 {
     let mut list = Vec::new(alloc);
@@ -251,10 +255,10 @@ fn is_here(owner: &Owner) -> bool
 }
 
 /// What stands outside of classes.
-pub fn outer(entity: Entity) -> Meant
+pub fn outer(entity: Entity) -> NameMeaning
     ensures { result ≡ outer entity }
 {
-    Meant {
+    NameMeaning {
         entity: Some(entity),
         origin: Origin::Outer,
     }
@@ -262,7 +266,7 @@ pub fn outer(entity: Entity) -> Meant
 
 fn push_routine(
     alloc: Global,
-    list: &mut Vec<Seen>,
+    list: &mut Vec<LocalName>,
     item: usize,
     sig: &Sig,
 ) -> Result<(), AllocError>
@@ -276,7 +280,7 @@ fn push_routine(
 
 fn push_item(
     alloc: Global,
-    list: &mut Vec<Seen>,
+    list: &mut Vec<LocalName>,
     bases: &Bases,
     place: usize,
     item: &Item,
@@ -308,7 +312,7 @@ fn push_item(
     }
 }
 
-fn items_in(alloc: Global, bases: &Bases, items: &[Item]) -> Result<Vec<Seen>, AllocError>
+fn items_in(alloc: Global, bases: &Bases, items: &[Item]) -> Result<Vec<LocalName>, AllocError>
     ensures { IfOk result (λ v. v.items ≡ items_seen bases.now 0 items.now) }
 {
     let mut list = Vec::new(alloc);

@@ -16,7 +16,7 @@ use std::marker::Model;
 use uc_layout::eval::{binary_of, unary_of};
 use uc_layout::held::sound_length;
 use uc_names::scope::Scope;
-use uc_rules::rules::{Around, Entity, Meant, Origin, Seen};
+use uc_rules::rules::{Entity, LocalName, NameMeaning, Origin, Surroundings};
 use uc_tree::declare::Declarator;
 use uc_tree::expr::{Expr, ExprForm, Link};
 use uc_tree::int::int_of;
@@ -29,8 +29,8 @@ use uc_tree::name::Name;
 pub struct Names<'a> {
     alloc: Global,
     tables: &'a Tables<'a>,
-    around: Around,
-    names: Vec<Seen>,
+    around: Surroundings,
+    names: Vec<LocalName>,
     outside: usize,
     places: Scope,
 }
@@ -56,12 +56,12 @@ impl<'a> Model for Names<'a> {
 pub struct Mark {
     count: usize,
     outside: usize,
-    around: Around,
+    around: Surroundings,
 }
 
 impl<'a> Names<'a> {
     /// Where no local is in scope.
-    pub fn new(alloc: Global, tables: &'a Tables<'a>, around: Around) -> Names<'a>
+    pub fn new(alloc: Global, tables: &'a Tables<'a>, around: Surroundings) -> Names<'a>
         ensures { result ≡ plain_env tables.now around }
     {
         let names = Vec::new(alloc);
@@ -88,26 +88,26 @@ impl<'a> Names<'a> {
     }
 
     /// What stands round the place.
-    pub fn around(&self) -> Around
+    pub fn around(&self) -> Surroundings
         ensures { result ≡ self.now.around }
     {
         self.around
     }
 
     /// What stands round the place from now on.
-    pub fn set_around(&mut self, around: Around)
+    pub fn set_around(&mut self, around: Surroundings)
         ensures { self.new ≡ with_around self.old around }
     {
         self.around = around;
     }
 
-    fn local_named(&self, name: &Name) -> Option<Meant>
+    fn local_named(&self, name: &Name) -> Option<NameMeaning>
         ensures { result ≡ local_named self.now.names name.now }
     {
         find(&self.names, &self.places, name)
     }
 
-    fn own_named(&self, name: &Name) -> Option<Meant>
+    fn own_named(&self, name: &Name) -> Option<NameMeaning>
         ensures { result ≡ own_named self.now.program self.now.around.main self.now.around.home name.now }
     {
         let around = self.around;
@@ -121,7 +121,7 @@ impl<'a> Names<'a> {
     }
 
     /// What a name stands for.
-    pub fn named(&self, name: &Name) -> Option<Meant>
+    pub fn named(&self, name: &Name) -> Option<NameMeaning>
         ensures { result ≡ named self.now name.now }
     {
         let local = self.local_named(name);
@@ -162,19 +162,19 @@ impl<'a> Names<'a> {
         has_behind(&self.names, &self.places, self.outside, name)
     }
 
-    fn push(&mut self, name: &Name, meant: Meant) -> Result<(), AllocError>
+    fn push(&mut self, name: &Name, meant: NameMeaning) -> Result<(), AllocError>
         ensures { OnOk result (self.new ≡ with_seen self.old (record { name = name.now; meant = meant })) }
     {
         push_seen(self.alloc, &mut self.names, &mut self.places, name, meant)?;
         Ok(())
     }
 
-    fn declared_meant(&self, base: &Base, declarator: &Declarator) -> Meant
+    fn declared_meant(&self, base: &Base, declarator: &Declarator) -> NameMeaning
         ensures { result ≡ (seen_as self.now base.now declarator.now).meant }
     {
         let count = length_of(self, &declarator.len);
         let tables = self.tables;
-        Meant {
+        NameMeaning {
             entity: tables.declared_entity(base, declarator, count),
             origin: Origin::Local,
         }
@@ -189,7 +189,7 @@ impl<'a> Names<'a> {
         Ok(())
     }
 
-    fn param_meant(&self, param: &Param) -> Meant
+    fn param_meant(&self, param: &Param) -> NameMeaning
         ensures { result ≡ (param_seen self.now.program param.now).meant }
     {
         let tables = self.tables;
@@ -197,7 +197,7 @@ impl<'a> Names<'a> {
             Some(sort) => Some(Entity::Place { sort }),
             None => None,
         };
-        Meant {
+        NameMeaning {
             entity,
             origin: Origin::Parameter {
                 by_ref: param.by_ref,
@@ -236,7 +236,7 @@ impl<'a> Names<'a> {
     {
         match param {
             Some(param) => {
-                let meant = Meant {
+                let meant = NameMeaning {
                     entity: self.caught(event),
                     origin: Origin::Local,
                 };
@@ -278,11 +278,11 @@ impl<'a> Names<'a> {
     }
 }
 
-fn main_named(main: bool, name: &Name) -> Option<Meant>
+fn main_named(main: bool, name: &Name) -> Option<NameMeaning>
     ensures { result ≡ (if main then (if same_name main_name name.now then Some main_meant else None) else None) }
 {
     if main && name.is(b"main") {
-        Some(Meant {
+        Some(NameMeaning {
             entity: Some(Entity::Main),
             origin: Origin::Outer,
         })
@@ -309,10 +309,10 @@ fn declare_alone(places: &mut Scope, name: &Name, id: u32) -> Result<(), AllocEr
 // One more name. Memory is wanting where its place is not below 2^32.
 fn push_seen(
     alloc: Global,
-    names: &mut Vec<Seen>,
+    names: &mut Vec<LocalName>,
     places: &mut Scope,
     name: &Name,
-    meant: Meant,
+    meant: NameMeaning,
 ) -> Result<(), AllocError>
     requires { places.old ≡ stacked 0 names.old.items [] }
     ensures stacked { places.new ≡ stacked 0 names.new.items [] }
@@ -321,7 +321,7 @@ fn push_seen(
     let copy = name.copy(alloc)?;
     let id = place_id(names.len())?;
     declare_alone(places, name, id)?;
-    if let Err(_) = names.push(Seen { name: copy, meant }) {
+    if let Err(_) = names.push(LocalName { name: copy, meant }) {
         places.close();
         return Err(AllocError);
     }
@@ -338,7 +338,7 @@ fn place_id(place: usize) -> Result<u32, AllocError>
 }
 
 // Takes names back until so many are left.
-fn close_to(names: &mut Vec<Seen>, places: &mut Scope, count: usize)
+fn close_to(names: &mut Vec<LocalName>, places: &mut Scope, count: usize)
     requires { places.old ≡ stacked 0 names.old.items [] }
     ensures stacked { places.new ≡ stacked 0 names.new.items [] }
     ensures left { names.new.items ≡ take count names.old.items }
@@ -351,7 +351,7 @@ fn close_to(names: &mut Vec<Seen>, places: &mut Scope, count: usize)
     names.truncate(place);
 }
 
-fn find(names: &[Seen], places: &Scope, name: &Name) -> Option<Meant>
+fn find(names: &[LocalName], places: &Scope, name: &Name) -> Option<NameMeaning>
     requires { places.now ≡ stacked 0 names.now [] }
     ensures { result ≡ local_named names.now name.now }
 {
@@ -361,7 +361,7 @@ fn find(names: &[Seen], places: &Scope, name: &Name) -> Option<Meant>
     }
 }
 
-fn has_behind(names: &[Seen], places: &Scope, outside: usize, name: &Name) -> bool
+fn has_behind(names: &[LocalName], places: &Scope, outside: usize, name: &Name) -> bool
     requires { places.now ≡ stacked 0 names.now [] }
     ensures { result ≡ list_any (λ s. same_name s.name name.now) (drop outside names.now) }
 {

@@ -6,7 +6,7 @@ ghost use Rattle.uc_rules.specs.Names.{is_constructor, is_destructor, is_inner_o
 ghost use Rattle.uc_rules.specs.Sorts.{has_main, is_char, is_cluster, is_condition, is_cormonitor, is_coroutine, is_event_class, is_int, is_mutex_class, is_plain_class, is_plain_kind, is_processor, is_same_class, is_scalar_sort, is_task, is_truth, is_void, of_class, same_sort};
 
 use uc_rules::rules::Sort;
-use uc_tree::kinds::{Access, Kind, Mark, Role};
+use uc_tree::kinds::{Access, Kind, MutexMark, Role};
 
 /// Whether it is a scalar.
 pub fn is_scalar_sort(sort: Sort) -> bool
@@ -197,25 +197,25 @@ pub fn is_destructor(role: Role) -> bool
 }
 
 /// Whether it is marked `_Nomutex`.
-pub fn is_nomutex(mark: Mark) -> bool
+pub fn is_nomutex(mark: MutexMark) -> bool
     ensures { result ≡ is_nomutex mark }
 {
-    matches!(mark, Mark::Nomutex)
+    matches!(mark, MutexMark::Nomutex)
 }
 
 /// Whether it is a mutex member, where it may be one.
-pub fn is_exclusive(mark: Mark, access: Access) -> bool
+pub fn is_exclusive(mark: MutexMark, access: Access) -> bool
     ensures { result ≡ is_exclusive mark access }
 {
     match mark {
-        Mark::Unmarked => is_public(access),
-        Mark::Mutex => true,
-        Mark::Nomutex => false,
+        MutexMark::Unmarked => is_public(access),
+        MutexMark::Mutex => true,
+        MutexMark::Nomutex => false,
     }
 }
 
 /// Whether only inner routines of its class may call it.
-pub fn is_inner_only(kind: Kind, mark: Mark, access: Access) -> bool
+pub fn is_inner_only(kind: Kind, mark: MutexMark, access: Access) -> bool
     ensures { result ≡ is_inner_only kind mark access }
 {
     is_mutex(kind) && !(is_exclusive(mark, access) || (is_nomutex(mark) && is_public(access)))

@@ -23,7 +23,7 @@ use crate::sort::is_constructor;
 use std::alloc::{AllocError, Global};
 use std::marker::Model;
 use uc_layout::sizes::Sizes;
-use uc_rules::rules::{Entity, Meant, Sort};
+use uc_rules::rules::{Entity, NameMeaning, Sort};
 use uc_tree::class::{Class, Member, MemberForm, Routine, Sig};
 use uc_tree::declare::Declarator;
 use uc_tree::kinds::{Base, Param};
@@ -110,7 +110,7 @@ fn item_sig(item: &Item) -> Option<&Sig>
     }
 }
 
-fn named_in(directories: &[Directory], class: usize, name: &Name) -> Option<Meant>
+fn named_in(directories: &[Directory], class: usize, name: &Name) -> Option<NameMeaning>
     ensures { result ≡ option_and_then (λ ss. first_named ss name.now) (slice_get directories.now class) }
 {
     match directories.get(class) {
@@ -206,13 +206,13 @@ impl<'a> Tables<'a> {
     }
 
     /// A member of the class with this place, but for constructors and destructors.
-    pub fn member_named(&self, class: usize, name: &Name) -> Option<Meant>
+    pub fn member_named(&self, class: usize, name: &Name) -> Option<NameMeaning>
         ensures { result ≡ member_named self.now class name.now }
     {
         named_in(&self.members, class, name)
     }
 
-    fn item_named(&self, name: &Name) -> Option<Meant>
+    fn item_named(&self, name: &Name) -> Option<NameMeaning>
         ensures { result ≡ items_named self.now 0 self.now.items name.now }
     {
         let meant = self.outer.find(name);
@@ -220,7 +220,7 @@ impl<'a> Tables<'a> {
     }
 
     /// What all of the program sees under a name.
-    pub fn outer_named(&self, name: &Name) -> Option<Meant>
+    pub fn outer_named(&self, name: &Name) -> Option<NameMeaning>
         ensures { result ≡ outer_named self.now name.now }
     {
         if is_given(name) {

@@ -5,7 +5,7 @@ use Rattle.uc_tree.specs.Source.{Source, Stmts, Routine, Purpose, TaskMain, Coro
 use Rattle.uc_machine.specs.declared.exec.Exec.{Exec}
 use Rattle.uc_machine.specs.declared.exec.Owner.TheVariants.{Frame, Fields}
 use Rattle.uc_machine.specs.Executions.{Links, exec_eq, others, Execution, update, joined, members_at, set_members, change, change_in, slot_in, frames_by, frames_changed, frame_changed, value_changed, parked_at, with_owned}
-use Rattle.uc_machine.specs.declared.exec.Reason.{Reason}
+use Rattle.uc_machine.specs.declared.exec.UnwindReason.{UnwindReason}
 use Rattle.uc_machine.specs.Quiet as q
 use Rattle.uc_machine.specs.Quiet.{Value, Number, Place, Running, Object, Nothing, Link, Slot, FieldAt, At, Env, Members, Active, State, Step, Goes, Ticks, Asks, Todo, at, in_env, top, below, number, is_zero, loaded, written, further, address, variable_at, this_frame, nought, index_in, outcome, Outcome, Gives, Faults, LAST_ADDRESS, act, eval_step, object_step, quiet, with_elements, converting}
 use Rattle.uc_machine.specs.Pieces as pc
@@ -217,7 +217,7 @@ module _ (t : Table) where
   go_on_ok (Some p) s a r i = switched_ok p.0 p.1 s a r i
 
   -- why it is unwound is no matter
-  there_ok : (why : Reason) (x : Ex) → Rests t x → Rests t (sw.unwound_there why x)
+  there_ok : (why : UnwindReason) (x : Ex) → Rests t x → Rests t (sw.unwound_there why x)
   there_ok why x r = record {
     sigs = r.sigs;
     frames = r.frames;

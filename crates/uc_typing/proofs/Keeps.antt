@@ -11,7 +11,7 @@ use Rattle.uc_entry.specs.declared.fault.RunFault.TheVariants.{BlockedInside}
 use Rattle.uc_tree.specs.declared.limits.TheConstants.{PENDING_EVENTS}
 use Rattle.uc_machine.specs.Insides as inside
 use Rattle.uc_machine.specs.Raising.{Event, event_in}
-use Rattle.uc_machine.specs.declared.exec.Reason.{Reason}
+use Rattle.uc_machine.specs.declared.exec.UnwindReason.{UnwindReason}
 use Rattle.uc_machine.specs.Quiet as q
 use Rattle.uc_machine.specs.Quiet.{Value, Number, Place, Running, Object, Nothing, Link, Slot, FieldAt, At, Env, Active, State, Step, Goes, Ticks, Asks, Todo, at, in_env, top, below, number, is_zero, loaded, written, further, address, variable_at, this_frame, nought, index_in, outcome, Outcome, Gives, Faults, LAST_ADDRESS, act, eval_step, object_step, quiet, with_elements, converting, return_step, object_in, as_number, this_object, mask_of}
 use Rattle.uc_machine.specs.Pieces as pc
@@ -108,7 +108,7 @@ module _ (t : Table) (source : Source) (sound : Sound t source) (s : State) (sig
   live None todo own o h = tt
   live (Some x) todo own o h = either (After t source) (sw.is_live (pc.exec_at (top (drop x.params s.run.operands)) s.env) s.env) _ _ (run sc own todo _ o h) tt
 
-  land : (why : Option Reason) (todo : List Todo) (own : List Ty) → Ok t g sc todo own → Values t own s.run.operands → After t source (q.land_step why todo s)
+  land : (why : Option UnwindReason) (todo : List Todo) (own : List Ty) → Ok t g sc todo own → Values t own s.run.operands → After t source (q.land_step why todo s)
   land None todo own o h = run sc own todo _ o h
   land (Some why) todo own o h = run sc [] (pc.Unwind ∷ todo) [] (left t g sc todo own o) tt
 
@@ -134,7 +134,7 @@ module _ (t : Table) (source : Source) (sound : Sound t source) (s : State) (sig
     idle = x.idle;
   }
 
-  left_todo : (why : Option Reason) (todo : List Todo) (own : List Ty) → Ok t g sc todo own → Ok t g sc (q.leave_todo why todo) own
+  left_todo : (why : Option UnwindReason) (todo : List Todo) (own : List Ty) → Ok t g sc todo own → Ok t g sc (q.leave_todo why todo) own
   left_todo None todo own o = o
   left_todo (Some why) todo own o = o
 

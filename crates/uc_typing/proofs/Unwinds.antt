@@ -3,8 +3,8 @@ use Rattle.std.proofs.Common.{◌≡◌, ℕ, suc, ◌<◌, List, [], ◌∷◌,
 use Rattle.std.specs.Prelude.{nat_eq, if◌then◌else◌}
 use Rattle.uc_tree.specs.Source.{Source, Handlers, CleanUp, Destroys, DestroysAll, Unwinds, Forgets, Leaves, Ends, Frees, Restores, ToReturn}
 use Rattle.uc_machine.specs.Executions.{at_depth, others}
-use Rattle.uc_machine.specs.declared.exec.Reason.{Reason}
-use Rattle.uc_machine.specs.declared.exec.Reason.TheVariants as reason
+use Rattle.uc_machine.specs.declared.exec.UnwindReason.{UnwindReason}
+use Rattle.uc_machine.specs.declared.exec.UnwindReason.TheVariants as reason
 use Rattle.uc_machine.specs.declared.exec.Visited.{Visited}
 use Rattle.uc_machine.specs.Raising as r
 use Rattle.uc_machine.specs.Quiet.{Value, Active, State, Todo, at, below}
@@ -141,7 +141,7 @@ module _ (t : Table) where
 
   module _ (source : Source) (s : State) (sigs : List Sig) (g : Sig) (sc : List Name) (frames : Framed t sigs s.env.frames) (frame : at_depth sigs s.run.frame ≡ Some g) (this : IsThis t g.this s.run.this) (callers : Waits t (others sigs) s.callers) (idle : Idle t s.env) where
     -- the running activation goes on with this to do, whatever else it keeps
-    calm : (inner : List Name) (own : List Ty) (todo : List Todo) (vs : List Value) (why : Option Reason) → Ok t g inner todo own → Values t own vs → Typed t [] (record s { run = record s.run { control = todo; operands = vs; raised = why } })
+    calm : (inner : List Name) (own : List Ty) (todo : List Todo) (vs : List Value) (why : Option UnwindReason) → Ok t g inner todo own → Values t own vs → Typed t [] (record s { run = record s.run { control = todo; operands = vs; raised = why } })
     calm inner own todo vs why o h = record {
       sigs = sigs;
       frames = frames;
@@ -157,19 +157,19 @@ module _ (t : Table) where
     catch None e todo f o l = on todo l
     catch (Some h) e todo f o l = calm sc (Num ∷ (Num ∷ (Num ∷ []))) (r.handler_todo h todo) (r.operands_of e) None (handler_ok t g sc h todo f o) (tt, (tt, (tt, tt)))
 
-    guard : (hs : Handlers) (why : Option Reason) (todo : List Todo) → FineHandlers t g sc hs → Ok t g sc todo [] → Left t g sc todo → After t source (r.guard_left hs why todo s)
+    guard : (hs : Handlers) (why : Option UnwindReason) (todo : List Todo) → FineHandlers t g sc hs → Ok t g sc todo [] → Left t g sc todo → After t source (r.guard_left hs why todo s)
     guard hs (Some (reason.Event n x y)) todo f o l = catch _ _ todo (handlers_fine t g sc false _ hs f) o l
     guard hs (Some (reason.ReturnTo n)) todo f o l = on todo l
     guard hs (Some reason.Destroyed) todo f o l = on todo l
     guard hs None todo f o l = on todo l
 
-    main : (why : Option Reason) (todo : List Todo) → Ok t g sc todo [] → After t source (r.main_left why todo s)
+    main : (why : Option UnwindReason) (todo : List Todo) → Ok t g sc todo [] → After t source (r.main_left why todo s)
     main (Some (reason.ReturnTo n)) todo o = calm sc [] (pc.Finish ∷ todo) [] None o tt
     main (Some (reason.Event n x y)) todo o = tt
     main (Some reason.Destroyed) todo o = tt
     main None todo o = tt
 
-    coroutine : (why : Option Reason) (todo : List Todo) → Ok t g sc todo [] → After t source (r.coroutine_left why todo s)
+    coroutine : (why : Option UnwindReason) (todo : List Todo) → Ok t g sc todo [] → After t source (r.coroutine_left why todo s)
     coroutine (Some (reason.ReturnTo n)) todo o = calm sc [] (pc.FinishCoroutine ∷ todo) [] None o tt
     coroutine (Some reason.Destroyed) todo o = moved t source (at todo [] s) _ (taken_down_ok t (at todo [] s) idle)
     coroutine (Some (reason.Event n x y)) todo o = moved t source (at todo [] s) _ (escape_ok t (at todo [] s) idle)
@@ -208,7 +208,7 @@ module _ (t : Table) where
     past pc.IsFinish todo m = main s.run.raised todo m
     past pc.IsFinishCoroutine todo m = coroutine s.run.raised todo m
 
-    pass : (why : Option Reason) (c : Active) (cs : List Active) → Waits t (others sigs) (c ∷ cs) → After t source (r.pass_on why c cs s)
+    pass : (why : Option UnwindReason) (c : Active) (cs : List Active) → Waits t (others sigs) (c ∷ cs) → After t source (r.pass_on why c cs s)
     pass None c cs w = tt
     pass (Some why) c cs w = left_ok t source _ s sigs c cs refl refl refl refl s.run.counts idle frames w
 

@@ -1,6 +1,6 @@
 use Rattle.std.proofs.Common.{◌≡◌, ◌∙◌, ap, sym, List, []}
-use Rattle.uc_tree.specs.declared.rows.Held.{Held}
-use Rattle.uc_tree.specs.Rows.{Row, row_at}
+use Rattle.uc_tree.specs.declared.rows.FieldLayout.{FieldLayout}
+use Rattle.uc_tree.specs.Rows.{ClassLayout, row_at}
 use Rattle.uc_layout.proofs.CellTablesLemmas.{row_is}
 use Rattle.uc_layout.proofs.DepthsLemmas.{row_past}
 use Rattle.uc_layout.proofs.sizes.held_at.Goals as goal

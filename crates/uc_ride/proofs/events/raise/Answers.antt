@@ -1,6 +1,6 @@
 use Rattle.std.proofs.Common.{◌≡◌, ◌∷◌, None, sym, ap, subst, ◌∙◌, to_z, of_z, w64, rules}
 use Rattle.uc_code.specs.Layout.{laid_of}
-use Rattle.uc_machine.specs.declared.exec.Reason.TheVariants as reason
+use Rattle.uc_machine.specs.declared.exec.UnwindReason.TheVariants as reason
 use Rattle.uc_machine.specs.Raising.{event_in}
 use Rattle.uc_except.specs.Handling.{IsFound, handler_begun}
 use Rattle.uc_except.proofs.Handled.{begun_as}
