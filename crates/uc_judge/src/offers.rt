@@ -1,6 +1,6 @@
 // What an accept statement offers under a mask.
 
-ghost use Rattle.std.specs.Prelude.{◌≡◌, ◌==◌, ◌++◌, ℕ, List, map, option_map};
+ghost use Rattle.std.specs.Prelude.{◌≡◌, ◌==◌, ◌<◌, true, map, option_map};
 ghost use Rattle.std.specs.List.{list_any};
 ghost use Rattle.uc_acts.specs.Doors.{offers};
 ghost use Rattle.uc_tree.specs.SiteOffers.{has_bit, offers_from, clause_for, oldest, met};
@@ -11,13 +11,13 @@ use uc_tree::site::{Members, Site};
 /// A caller whom an accept takes, the member that it calls, and the clause that lists it.
 #[derive(Clone, Copy)]
 pub struct Taken {
-    pub clause: u64,
+    pub clause: u8,
     pub member: u8,
     pub task: u32,
 }
 
 /// The clause of an accept statement, from 1, that takes a caller of a member: the first of those in the mask that lists it.
-pub fn clause_for(sites: &[Site], site: u64, mask: u64, member: u8) -> Option<u64>
+pub fn clause_for(sites: &[Site], site: u64, mask: u64, member: u8) -> Option<u8>
     ensures { result ≡ clause_for (offers sites.now site mask) member }
 {
     match sites.get(site as usize) {
@@ -39,18 +39,19 @@ pub fn met(sites: &[Site], site: u64, mask: u64, waiting: &[(u32, u8)]) -> Optio
 
 /// Whether a mask has a bit.
 pub(crate) fn has_bit(bit: usize, mask: u64) -> bool
-    ensures { result ≡ has_bit bit mask }
+    ensures value { result ≡ has_bit bit mask }
+    ensures bit { result ≡ true → bit < 64 }
 {
     bit < 64 && (mask >> bit) % 2 == 1
 }
 
 // The first clause in a mask that lists a member.
-fn clause_among(clauses: &[Members], mask: u64, member: u8) -> Option<u64>
+fn clause_among(clauses: &[Members], mask: u64, member: u8) -> Option<u8>
     ensures { result ≡ clause_for (offers_from 0 mask clauses.now) member }
 {
     for (at, clause) in clauses.iter().enumerate() {
         if has_bit(at, mask) && lists(clause, member) {
-            return Some(at as u64 + 1);
+            return Some(at as u8 + 1);
         }
     }
     None
@@ -69,7 +70,7 @@ fn met_among(clauses: &[Members], mask: u64, waiting: &[(u32, u8)]) -> Option<Ta
 {
     for (at, clause) in clauses.iter().enumerate() {
         if has_bit(at, mask) {
-            let taken = met_by_clause(clause, at as u64 + 1, waiting);
+            let taken = met_by_clause(clause, at as u8 + 1, waiting);
             if taken.is_some() {
                 return taken;
             }
@@ -79,7 +80,7 @@ fn met_among(clauses: &[Members], mask: u64, waiting: &[(u32, u8)]) -> Option<Ta
 }
 
 // Whom one clause takes.
-fn met_by_clause(members: &Members, clause: u64, waiting: &[(u32, u8)]) -> Option<Taken>
+fn met_by_clause(members: &Members, clause: u8, waiting: &[(u32, u8)]) -> Option<Taken>
     ensures { option_map as_met result ≡ met (map (λ m. (clause, m)) members.now) waiting.now }
 {
     for member in &members.numbers {

@@ -16,9 +16,9 @@ use uc_entry::entry::{Entry, EntryKind, Options};
 #[derive(Drop)]
 pub struct Processors {
     // Each with its cluster.
-    all: Vec<(u64, u64)>,
-    open: Vec<(u64, u64)>,
-    closed: Vec<u64>,
+    all: Vec<(u32, u32)>,
+    open: Vec<(u32, u32)>,
+    closed: Vec<u32>,
 }
 
 impl Processors {
@@ -42,7 +42,7 @@ impl Processors {
     {
         match e.kind {
             EntryKind::Processor => {
-                let row = (number(e.a), number(e.b));
+                let row = (number(e.a) as u32, number(e.b) as u32);
                 self.all.push(row)?;
                 if !is_among(row.0, &self.closed) {
                     self.open.push(row)?;
@@ -50,7 +50,7 @@ impl Processors {
                 Ok(())
             }
             EntryKind::ProcessorEnd => {
-                let processor = number(e.a);
+                let processor = number(e.a) as u32;
                 self.closed.push(processor)?;
                 self.open.retain(|row| row.0 != processor);
                 Ok(())
@@ -60,21 +60,21 @@ impl Processors {
     }
 
     /// Those that are not closed, each with its cluster.
-    pub fn open(&self) -> &[(u64, u64)]
+    pub fn open(&self) -> &[(u32, u32)]
         ensures { (opts : Options) (j : Journal) → AreProcessors self.now opts j → result.now ≡ open_processors opts j }
     {
         &self.open
     }
 
     /// The cluster of a processor, closed or not, or 0.
-    pub fn cluster_of(&self, processor: u64) -> u64
+    pub fn cluster_of(&self, processor: u32) -> u32
         ensures { (opts : Options) (j : Journal) → AreProcessors self.now opts j → result ≡ cluster_in processor (processors opts j) }
     {
         cluster_in(&self.all, processor)
     }
 
     /// Whether one that is not closed is on a cluster.
-    pub fn serve(&self, cluster: u64) -> bool
+    pub fn serve(&self, cluster: u32) -> bool
         ensures { (opts : Options) (j : Journal) → AreProcessors self.now opts j → result ≡ list_any (λ x. x.1 == cluster) (open_processors opts j) }
     {
         self.open.iter().any(|row| row.1 == cluster)
@@ -82,25 +82,25 @@ impl Processors {
 }
 
 // The opening processors, on the cluster 0.
-fn opening(alloc: Global, count: u32) -> Result<Vec<(u64, u64)>, AllocError>
+fn opening(alloc: Global, count: u32) -> Result<Vec<(u32, u32)>, AllocError>
     ensures { IfOk result (λ rows. rows.items ≡ map (λ p. (p, 0)) (range_with_len 0 count)) }
 {
     let mut rows = Vec::new(alloc);
     for number in 0..count {
-        rows.push((u64::from(number), 0))?;
+        rows.push((number, 0))?;
     }
     Ok(rows)
 }
 
 // Whether a number is among others.
-fn is_among(number: u64, others: &[u64]) -> bool
+fn is_among(number: u32, others: &[u32]) -> bool
     ensures { result ≡ list_any (λ x. x == number) others.now }
 {
     others.iter().any(|other| *other == number)
 }
 
 // The cluster of a processor among these, or 0.
-fn cluster_in(rows: &[(u64, u64)], processor: u64) -> u64
+fn cluster_in(rows: &[(u32, u32)], processor: u32) -> u32
     ensures { result ≡ cluster_in processor rows.now }
 {
     for row in rows {

@@ -10,7 +10,7 @@ ghost use Rattle.uc_acts.specs.Answers.{first_of};
 ghost use Rattle.uc_acts.specs.Journal.{Journal};
 ghost use Rattle.uc_entry.specs.declared.entry.Options.{Options};
 ghost use Rattle.uc_acts.specs.Queues.{ready, running, tasks_on, is_nobody, clusters, dispatches, takes_off, leaves_cluster, none_running, none_ready, none_served, processor_count, cluster_count, open_processors};
-ghost use Rattle.uc_judge.specs.Scheduled.{IsSchedule, placed, of_number};
+ghost use Rattle.uc_judge.specs.Scheduled.{IsSchedule, placed, of_number, only_of};
 
 use crate::effects::{
     actor_behind, dispatches, leaves_cluster, number, takes_off, task_put_on, task_readied,
@@ -77,6 +77,13 @@ impl Schedule {
         first_of_number(&self.running, u64::from(processor))
     }
 
+    /// Who runs on a processor, where just one task does.
+    pub fn only_running(&self, processor: u8) -> Option<u32>
+        ensures { (j : Journal) → IsSchedule self.now j → result ≡ only_of (running processor j) }
+    {
+        only_of_number(&self.running, u64::from(processor))
+    }
+
     /// Whether no task runs on any of the first so many processors.
     pub fn none_running(&self, processors: u64) -> bool
         ensures { (opts : Options) (j : Journal) → IsSchedule self.now j → processors ≡ processor_count opts j → result ≡ none_running opts j }
@@ -92,11 +99,10 @@ impl Schedule {
     }
 
     /// Whether no task is ready on the cluster of any of these processors, which are open.
-    pub fn none_served(&self, open: &[(u64, u64)]) -> bool
+    pub fn none_served(&self, open: &[(u32, u32)]) -> bool
         ensures { (opts : Options) (j : Journal) → IsSchedule self.now j → open.now ≡ open_processors opts j → result ≡ none_served opts j }
     {
-        open.iter()
-            .all(|row| first_of_number(&self.ready, row.1).is_none())
+        open.iter().all(|row| first_of_number(&self.ready, u64::from(row.1)).is_none())
     }
 
     /// Whether no task that has not ended is on a cluster.
@@ -114,6 +120,21 @@ fn first_of_number(rows: &[(u32, u64)], number: u64) -> Option<u32>
     for row in rows {
         if row.1 == number {
             return Some(row.0);
+        }
+    }
+    None
+}
+
+// The task of one number, where just one has it.
+fn only_of_number(rows: &[(u32, u64)], number: u64) -> Option<u32>
+    ensures { result ≡ only_of (of_number number rows.now) }
+{
+    for (at, row) in rows.iter().enumerate() {
+        if row.1 == number {
+            if first_of_number(&rows[at + 1..], number).is_none() {
+                return Some(row.0);
+            }
+            return None;
         }
     }
     None

@@ -25,7 +25,7 @@ pub struct OnStack {
     /// The number and the mask of the accept statement of an acceptor.
     pub accept: Option<(u64, u64)>,
     /// The clause by which its accept was met, or 0.
-    pub clause: u64,
+    pub clause: u8,
     /// The task whose call met it, until that leaves.
     pub met: Option<u32>,
     /// Whether that call has failed.
@@ -77,7 +77,7 @@ impl Stacks {
     }
 
     /// The clause by which the accept of a task on the stack of an object was met, or 0.
-    pub fn clause_of(&self, object: u32, task: u32) -> u64
+    pub fn clause_of(&self, object: u32, task: u32) -> u8
         ensures { (sites : List Site) (j : Journal) → AreStacks self.now sites j → result ≡ clause_of sites object task j }
     {
         match self.stacks.get(&object) {
@@ -206,7 +206,7 @@ fn meet_top(rows: &mut Vec<OnStack>, sites: &[Site], task: u32, called: Option<u
 }
 
 // The clause of an acceptor that takes a caller of a member, or 0.
-fn clause_by(sites: &[Site], accept: Option<(u64, u64)>, member: u8) -> u64
+fn clause_by(sites: &[Site], accept: Option<(u64, u64)>, member: u8) -> u8
     ensures { result ≡ or_0 (clause_for (offers_told sites.now accept) member) }
 {
     match accept {
@@ -244,7 +244,7 @@ fn without_call(row: &OnStack, task: u32, failed: bool) -> OnStack
 }
 
 // The clause of a task on a stack, or 0.
-fn clause_on(rows: &[OnStack], task: u32) -> u64
+fn clause_on(rows: &[OnStack], task: u32) -> u8
     ensures { (sites : List Site) → result ≡ clause_on task (map (as_on_stack sites) rows.now) }
 {
     for row in rows {
