@@ -7,3 +7,4 @@ pub mod Rows
 pub mod Numbers
 pub mod Owned
 pub mod Opening
+pub mod Events
