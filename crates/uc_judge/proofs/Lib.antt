@@ -8,3 +8,4 @@ pub mod Numbers
 pub mod Owned
 pub mod Opening
 pub mod Events
+pub mod Offering
