@@ -11,3 +11,4 @@ pub mod Events
 pub mod Offering
 pub mod Housing
 pub mod Below
+pub mod Stacking
