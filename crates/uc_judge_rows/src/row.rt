@@ -1,0 +1,102 @@
+// A journal with its accept statements and its changes, and what is judged of it.
+
+use crate::asked::script_of;
+use crate::change::{Change, put};
+use std::alloc::{AllocError, Global};
+use uc_entry::entry::Entry;
+use uc_journal::{read_journal, version};
+use uc_judge::judge;
+use uc_judge::verdict::Verdict;
+use uc_tree::site::{Members, Site};
+
+#[derive(Drop)]
+pub(crate) struct Row {
+    sites: Vec<Site>,
+    heading: String,
+    entries: Vec<String>,
+    changes: Vec<Change>,
+}
+
+impl Row {
+    pub(crate) fn new(alloc: Global) -> Row {
+        Row {
+            sites: Vec::new(alloc),
+            heading: String::new(alloc),
+            entries: Vec::new(alloc),
+            changes: Vec::new(alloc),
+        }
+    }
+
+    /// Adds an accept statement.
+    pub(crate) fn add_site(&mut self, alloc: Global, line: &str) -> Result<(), AllocError> {
+        let mut clauses = Vec::new(alloc);
+        for list in line.split_whitespace().skip(1) {
+            clauses.push(members_of(alloc, list)?)?;
+        }
+        self.sites.push(Site {
+            class: 0,
+            clauses,
+            has_else: line.starts_with("1"),
+        })?;
+        Ok(())
+    }
+
+    /// Adds the heading of the journal or its next entry.
+    pub(crate) fn add_entry(&mut self, alloc: Global, line: &str) -> Result<(), AllocError> {
+        if line.starts_with("ucpp-journal ") {
+            return put(&mut self.heading, line);
+        }
+        self.entries.push(String::from_str(alloc, line)?)?;
+        Ok(())
+    }
+
+    pub(crate) fn add_change(&mut self, change: Change) -> Result<(), AllocError> {
+        self.changes.push(change)?;
+        Ok(())
+    }
+
+    /// The verdicts on the journal, and with each change.
+    pub(crate) fn answer(&self, alloc: Global) -> Result<String, AllocError> {
+        let mut told = String::new(alloc);
+        if self.entries.is_empty() {
+            return Ok(told);
+        }
+        let mut text = String::from_str(alloc, self.heading.as_str())?;
+        for entry in &self.entries {
+            put(&mut text, entry.as_str())?;
+        }
+        let Ok(journal) = read_journal(alloc, text.as_bytes()) else {
+            put(&mut told, "no journal")?;
+            return Ok(told);
+        };
+        put(&mut told, self.judged(alloc, &journal, text.as_str())?.as_str())?;
+        for change in &self.changes {
+            let text = change.made(alloc, self.heading.as_str(), &self.entries)?;
+            let verdict = self.judged(alloc, &journal, text.as_str())?;
+            put(&mut told, format!(in alloc; "{}: {verdict}", change.line())?.as_str())?;
+        }
+        Ok(told)
+    }
+
+    // The verdict on a text, where the tasks ask what this journal tells.
+    fn judged(&self, alloc: Global, run: &[Entry], text: &str) -> Result<String, AllocError> {
+        let Ok(journal) = read_journal(alloc, text.as_bytes()) else {
+            return String::from_str(alloc, "no journal");
+        };
+        let lines = version(text.as_bytes()) == 2;
+        let script = script_of(alloc, run)?;
+        match judge(alloc, &self.sites, &[], script, &journal, lines)? {
+            Verdict::Yes => String::from_str(alloc, "yes"),
+            Verdict::No { entry } => format!(in alloc; "not a run at entry {entry}"),
+        }
+    }
+}
+
+// The members of a clause, parted by commas.
+fn members_of(alloc: Global, list: &str) -> Result<Members, AllocError> {
+    let mut numbers = Vec::new(alloc);
+    for number in list.split(',') {
+        numbers.push(number.parse::<u8>().unwrap_or(0))?;
+    }
+    Ok(Members { numbers })
+}
