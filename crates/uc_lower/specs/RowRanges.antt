@@ -1,6 +1,6 @@
 -- What holds of each handler row of code, also of one that covers no op from which an event may come, so that what code is laid out
 -- does not tell of it.
-use Rattle.std.specs.Prelude.{◌≡◌, ℕ, ◌≤◌, ◌<◌, List, length, Some, slice_get}
+use Rattle.std.specs.Prelude.{◌≡◌, ℕ, ◌≤◌, ◌<◌, length, Some, slice_get}
 use Rattle.uc_code.specs.Codes.{Code}
 use Rattle.uc_code.specs.declared.rows.HandlerRow.{HandlerRow}
 

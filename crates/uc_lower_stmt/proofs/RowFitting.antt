@@ -1,6 +1,6 @@
 -- How rows that come with ops are joined.
-use Rattle.std.proofs.Common.{◌≡◌, ℕ, suc, zero, ◌+◌, ◌*◌, ◌≤◌, List, [], ◌∷◌, length, refl, ap, sym, subst, ◌∙◌, arith, Option, Some, None}
-use Rattle.uc_tree.specs.Source.{Way, ToBreak, ToContinue, ToReturn, ToEnd}
+use Rattle.std.proofs.Common.{◌≡◌, ℕ, suc, zero, ◌+◌, ◌≤◌, List, [], ◌∷◌, length, refl, ap, sym, subst, ◌∙◌, arith, Option, Some, None}
+use Rattle.uc_tree.specs.Source.{ToBreak, ToContinue, ToReturn, ToEnd}
 use Rattle.uc_code.specs.declared.rows.Array.{Array}
 use Rattle.uc_code.specs.declared.rows.Cleaning.{Cleaning}
 use Rattle.uc_code.specs.declared.rows.Cleaning.TheVariants as cleaning
@@ -9,11 +9,11 @@ use Rattle.uc_code.specs.declared.rows.CodeMark.TheVariants as mark
 use Rattle.uc_code.specs.declared.rows.Opening.{Opening}
 use Rattle.uc_code.specs.declared.rows.Opening.TheVariants as opening
 use Rattle.uc_code.specs.Drafts.{Draft}
-use Rattle.uc_code.specs.Emits.{Puts, clean_length, clean_by, done_length, manner_length, place_length}
+use Rattle.uc_code.specs.Emits.{Puts, clean_length, clean_by}
 use Rattle.uc_code.specs.Layout.{Laid, guards}
 use Rattle.uc_code.specs.Lowered.{ExitAt}
 use Rattle.uc_code.specs.OpenRows.{opened, opening_mark}
-use Rattle.uc_code.specs.RowCounts.{array_rows, cleaning_rows, exit_rows, loop_rows, return_rows}
+use Rattle.uc_code.specs.RowCounts.{array_rows, cleaning_rows, loop_rows, return_rows}
 use Rattle.uc_code.specs.RowGrowth.{BeginBy, AddsRows}
 use Rattle.uc_code.proofs.Growth.{rows_opened}
 use Rattle.uc_code.proofs.Putting.{clean_is}

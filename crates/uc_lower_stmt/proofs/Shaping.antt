@@ -14,7 +14,7 @@ use Rattle.uc_code.proofs.Patches.{bare_stays, length-patched, patched_at, same_
 use Rattle.uc_lower_expr.specs.DraftGrowth.{Adds}
 use Rattle.uc_lower_stmt.specs.LowersStatement.{Lowers}
 use Rattle.uc_lower_stmt.specs.Control.{BeginCode}
-use Rattle.uc_lower_stmt.specs.RowFit.{RowsFit, open_rows}
+use Rattle.uc_lower_stmt.specs.RowFit.{open_rows}
 use Rattle.uc_lower_stmt.proofs.RowFitting.{fit_like}
 
 -- code with at most n ops more, for which S holds

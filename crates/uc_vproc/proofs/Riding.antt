@@ -1,5 +1,5 @@
 -- What a ride brings.
-use Rattle.std.proofs.Common.{◌≡◌, ◌≤◌, ℕ, List, Option, Some, refl, sym, ap, ◌∙◌, subst}
+use Rattle.std.proofs.Common.{◌≡◌, ◌≤◌, ℕ, Option, Some, refl, sym, ap, ◌∙◌, subst}
 use Rattle.std.specs.Option.{option_map}
 use Rattle.uc_tree.specs.Source.{Source}
 use Rattle.uc_entry.specs.Listed.{Listed}

@@ -348,9 +348,9 @@ module _ (code : Code) (main : ℕ) where
 
     -- what comes of a call that hands out
     pub handed_on : (old new : Store (Option Machine) Members) → kept old ≡ k → {step : Step} → WasHandedOut old new step → Advanced k ns room n (kept new) (noted ns n step new.journal) registry step
-    handed_on old new same (none_left e) =
+    handed_on before new same (none_left e) =
         subst (λ (x : Store (Option Machine) Members). Advanced k ns room n (kept x) (noted ns n Over x.journal) registry Over) (sym e) (subst (λ (x : Kept (Option Machine) Members). Advanced k ns room n x (noted ns n Over x.journal) registry Over) (sym same) (still_by k.abandoned Over (λ f. f) tt registry (λ f. refl)))
-    handed_on old new same (gave step o wanted going d h) =
+    handed_on before new same (gave how o wanted going d h) =
         began (kept new) h (ap (λ (x : Kept (Option Machine) Members). x.abandoned) (sym same) ∙ wanted) (ap (λ (x : Kept (Option Machine) Members). is_over x.journal) (sym same) ∙ going) (subst (λ x. Dispatched x o (kept new)) same d)
 
   -- told of the fields of the locked value
