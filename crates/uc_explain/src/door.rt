@@ -1,14 +1,17 @@
 // What stands at one object.
 
-ghost use Rattle.std.specs.Prelude.{◌≡◌, ◌==◌, ℕ, ℤ, List, map, OnOk, OnErr};
-ghost use Rattle.std.specs.List.{filter};
+ghost use Rattle.std.specs.Prelude.{◌≡◌, ◌==◌, ◌||◌, not, ℕ, ℤ, List, map, OnOk, OnErr};
+ghost use Rattle.std.specs.List.{filter, list_any};
 ghost use Rattle.uc_acts.specs.Queues.{successor};
 ghost use Rattle.uc_acts.specs.Fit.{IsFit};
 ghost use Rattle.uc_explain.specs.Shown.{in_order};
 ghost use Rattle.uc_explain.specs.Steps.{after, nothing};
 
 use crate::effects::accept_behind;
-use crate::lists::{first_at, move_blocked, move_inside, move_stacked, move_waiting, wait_place};
+use crate::lists::{
+    first_at, has_other, has_other_call, has_other_wait, move_blocked, move_inside, move_stacked,
+    move_waiting, wait_place,
+};
 use std::alloc::{AllocError, Global};
 use std::marker::Model;
 use uc_entry::entry::Entry;
@@ -78,6 +81,19 @@ impl Door {
         let from = first_at(&self.conds, cond);
         let to = wait_place(&self.conds, cond);
         &self.waits[from..to]
+    }
+
+    /// Whether a task other than this one waits, is stacked or is blocked.
+    pub(crate) fn has_others(&self, task: u32) -> bool
+        ensures { result ≡ (list_any (λ w. not (w.0 == task)) self.now.waiting || (list_any (λ s. not (s == task)) self.now.stacked || list_any (λ b. not (b.0 == task)) self.now.blocked)) }
+    {
+        if has_other_call(&self.waiting, task) {
+            return true;
+        }
+        if has_other(&self.stacked, task) {
+            return true;
+        }
+        has_other_wait(&self.waits, task)
     }
 
     /// Who is let in next, and the way.

@@ -4,7 +4,7 @@ ghost use Rattle.std.specs.Prelude.{◌≡◌, ◌++◌, ◌∷◌, [], ℕ, OnO
 ghost use Rattle.uc_acts.specs.Fit.{IsFit};
 ghost use Rattle.uc_acts.specs.Journal.{Journal, inside};
 ghost use Rattle.uc_acts.specs.Queues.{waiting, stacked, next};
-ghost use Rattle.uc_acts.specs.Doors.{blocked, open_at};
+ghost use Rattle.uc_acts.specs.Doors.{blocked, open_at, has_others};
 ghost use Rattle.uc_explain.specs.Shown.{in_order, accept_of};
 ghost use Rattle.uc_explain.specs.Seen.{AreViewsOf, seen_at};
 
@@ -88,6 +88,16 @@ impl Views {
         match self.doors.get(&object) {
             Some(door) => door.blocked_on(u64::from(cond)),
             None => &[],
+        }
+    }
+
+    /// Whether a task other than this one waits, is stacked or is blocked at an object.
+    pub fn has_others(&self, object: u32, task: u32) -> bool
+        ensures { (j : Journal) → AreViewsOf self.now j → result ≡ has_others object task j }
+    {
+        match self.doors.get(&object) {
+            Some(door) => door.has_others(task),
+            None => false,
         }
     }
 

@@ -7,3 +7,8 @@ pub mod Rows
 pub mod Numbers
 pub mod Owned
 pub mod Opening
+pub mod Events
+pub mod Offering
+pub mod Housing
+pub mod Below
+pub mod Stacking

@@ -9,3 +9,7 @@ pub mod Scheduled
 pub mod Counted
 pub mod Tasked
 pub mod Opened
+pub mod PendingEvents
+pub mod Offers
+pub mod ClauseStacks
+pub mod ProcessorRows

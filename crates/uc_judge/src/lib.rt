@@ -3,11 +3,16 @@
 
 pub mod accepts;
 pub mod asks;
+pub mod busy;
 pub mod counts;
 mod effects;
 pub mod laws;
+pub mod offers;
+pub mod pending;
+pub mod processors;
 pub mod samples;
 pub mod schedule;
 pub mod script;
+pub mod stacks;
 pub mod tasks;
 pub mod verdict;

@@ -1,15 +1,16 @@
 // Who is ready, who runs, and on which cluster each task is.
 
-ghost use Rattle.std.specs.Prelude.{◌≡◌, ◌++◌, ◌∷◌, ◌==◌, ◌&&◌, ◌<◌, [], ℕ, not, OnOk, unwrap_or, vec_len, vec_capacity};
-ghost use Rattle.std.specs.List.{filter};
+ghost use Rattle.std.specs.Prelude.{◌≡◌, ◌++◌, ◌∷◌, ◌==◌, ◌&&◌, ◌<◌, [], ℕ, not, nat_lt, OnOk, unwrap_or, vec_len, vec_capacity};
+ghost use Rattle.std.specs.List.{filter, list_any, list_all};
 ghost use Rattle.std.specs.Option.{option_to_list};
 ghost use Rattle.std.specs.Ordering.{nat_cmp};
 ghost use Rattle.std.specs.BTreeMap.{get};
 ghost use Rattle.uc_acts.specs.Fit.{IsFit};
 ghost use Rattle.uc_acts.specs.Answers.{first_of};
 ghost use Rattle.uc_acts.specs.Journal.{Journal};
-ghost use Rattle.uc_acts.specs.Queues.{ready, running, tasks_on, is_nobody, clusters, dispatches, takes_off, leaves_cluster};
-ghost use Rattle.uc_judge.specs.Scheduled.{IsSchedule, placed, of_number};
+ghost use Rattle.uc_entry.specs.declared.entry.Options.{Options};
+ghost use Rattle.uc_acts.specs.Queues.{ready, running, tasks_on, is_nobody, clusters, dispatches, takes_off, leaves_cluster, none_running, none_ready, none_served, processor_count, cluster_count, open_processors};
+ghost use Rattle.uc_judge.specs.Scheduled.{IsSchedule, placed, of_number, only_of};
 
 use crate::effects::{
     actor_behind, dispatches, leaves_cluster, number, takes_off, task_put_on, task_readied,
@@ -76,6 +77,34 @@ impl Schedule {
         first_of_number(&self.running, u64::from(processor))
     }
 
+    /// Who runs on a processor, where just one task does.
+    pub fn only_running(&self, processor: u8) -> Option<u32>
+        ensures { (j : Journal) → IsSchedule self.now j → result ≡ only_of (running processor j) }
+    {
+        only_of_number(&self.running, u64::from(processor))
+    }
+
+    /// Whether no task runs on any of the first so many processors.
+    pub fn none_running(&self, processors: u64) -> bool
+        ensures { (opts : Options) (j : Journal) → IsSchedule self.now j → processors ≡ processor_count opts j → result ≡ none_running opts j }
+    {
+        !has_below(&self.running, processors)
+    }
+
+    /// Whether no task is ready on any of the first so many clusters.
+    pub fn none_ready(&self, clusters: u64) -> bool
+        ensures { (j : Journal) → IsSchedule self.now j → clusters ≡ cluster_count j → result ≡ none_ready j }
+    {
+        !has_below(&self.ready, clusters)
+    }
+
+    /// Whether no task is ready on the cluster of any of these processors, which are open.
+    pub fn none_served(&self, processors: &[(u32, u32)]) -> bool
+        ensures { (opts : Options) (j : Journal) → IsSchedule self.now j → processors.now ≡ open_processors opts j → result ≡ none_served opts j }
+    {
+        none_on(&self.ready, processors)
+    }
+
     /// Whether no task that has not ended is on a cluster.
     pub fn is_empty(&self, cluster: u64) -> bool
         ensures { (j : Journal) → IsSchedule self.now j → result ≡ is_nobody (tasks_on cluster j) }
@@ -94,6 +123,40 @@ fn first_of_number(rows: &[(u32, u64)], number: u64) -> Option<u32>
         }
     }
     None
+}
+
+// The task of one number, where just one has it.
+fn only_of_number(rows: &[(u32, u64)], number: u64) -> Option<u32>
+    ensures { result ≡ only_of (of_number number rows.now) }
+{
+    for (at, row) in rows.iter().enumerate() {
+        if row.1 == number {
+            return match first_of_number(&rows[at + 1..], number) {
+                Some(_) => None,
+                None => Some(row.0),
+            };
+        }
+    }
+    None
+}
+
+// Whether a number is less than this one.
+fn has_below(rows: &[(u32, u64)], number: u64) -> bool
+    ensures { result ≡ list_any (λ r. nat_lt r.1 number) rows.now }
+{
+    rows.iter().any(|row| row.1 < number)
+}
+
+// Whether no task has the number of the cluster of any of these processors.
+fn none_on(rows: &[(u32, u64)], processors: &[(u32, u32)]) -> bool
+    ensures { result ≡ list_all (λ x. is_nobody (of_number x.1 rows.now)) processors.now }
+{
+    for processor in processors {
+        if first_of_number(rows, u64::from(processor.1)).is_some() {
+            return false;
+        }
+    }
+    true
 }
 
 // Where the tasks are behind an entry.
