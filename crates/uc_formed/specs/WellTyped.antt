@@ -56,7 +56,7 @@ pub record IsWellTyped (p : Program) : Type 0 where
   pub mains : (r : ℕ) → BeginsTask p r → IsTask (table_of p) r
   -- a task begins in order
   pub begins : (r o : ℕ) → BeginsTask p r → Typed (table_of p) [] (first_state (routine_of (source_of p) r) o)
-  -- and all that it reaches is in order, as far as what it reads of bindings is of its type
+  -- and all that it reaches is in order where what is read of bindings is of its type in all that it reaches, with any hand
   pub reached : (r o : ℕ) → BeginsTask p r → ((u : State) → Reaches p r o u → ReadsIn (table_of p) u) → (u : State) → Reaches p r o u → Typed (table_of p) [] u
   -- so is each state of each task, as far as what was read of bindings on the way to it is of its type
   pub states : (u : State) (i : IsTaskState p u) → ReadsTo p u i → Typed (table_of p) [] u

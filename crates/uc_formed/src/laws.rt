@@ -4,8 +4,9 @@ ghost use Rattle.uc_formed.specs.Formed.{LawFormed, LawTokens};
 ghost use Rattle.uc_formed.specs.WellTyped.{LawWellTyped};
 
 /// A program that all of a list of tokens spell is formed, where there are no more tokens than
-/// numbers of classes: constructors and destructors return nothing, constants are of scalar bases,
-/// handlers of all events have no parameter, and so on.
+/// numbers of classes: constructors and destructors return nothing, and stand outside of classes
+/// under the name of their class; constants are of scalar bases; handlers of all events have no
+/// parameter; classes have numbers, and no routine has more parameters than there are addresses.
 pub fn law_formed()
     ensures { LawFormed }
 {}
@@ -16,7 +17,9 @@ pub fn law_tokens()
 {}
 
 /// The resolved tree of every program whose text is accepted is well typed, and its tasks begin in
-/// order; all that a task reaches is in order as long as what it reads of bindings is of its type.
+/// order. Each state of each task is in order as far as what was read of bindings on the way to it
+/// was of its type; all that a task reaches is where that holds of all that it reaches, whatever the
+/// hand.
 pub fn law_well_typed()
     ensures { LawWellTyped }
 {}

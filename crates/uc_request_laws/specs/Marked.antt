@@ -59,7 +59,7 @@ abbrev pub Known : Expr → (ℕ → Type 0) → Type 0
 Known (src.Literal (pos k)) next = next k
 Known e next = ⊥
 
--- an event that is raised at a task has a number
+-- an event that is raised at a task has a number below 64
 abbrev pub EventKnown : Request → Type 0
 EventKnown (ask.Raise o event x y) = event < EVENTS
 EventKnown r = Unit {0}

@@ -22,7 +22,7 @@ use Rattle.uc_site_laws.specs.Resting.{AllWait, RestsEnv}
 use Rattle.uc_request_laws.specs.Counted.{CountedSource}
 use Rattle.uc_request_laws.specs.Marked.{operands, Finds, Runs, Waits, EventKnown, MarkedState, MarkedAsk, MarkedStep}
 
--- of any source in which arguments are counted
+-- of any source in which arguments are counted, and events that are raised at others have numbers below 64
 pub record LawSteps : Type 0 where
   pub begins : (source : Source) → CountedSource source → (r o : ℕ) → MarkedState source (first_state (routine_of source r) o)
   pub steps : (source : Source) → CountedSource source → (s : State) → MarkedState source s → MarkedStep source (quiet source s)

@@ -3,9 +3,10 @@
 ghost use Rattle.uc_request_laws.specs.RequestLaws.{LawEvents, LawNames, LawSteps};
 ghost use Rattle.uc_request_laws.specs.Holds.{LawHolds, LawTexts};
 
-/// Where each call of a source has as many arguments as its routine has parameters, the number of an
-/// event that is raised at another execution lies among the operands where it is expected, from the
-/// start of a task on: each quiet step keeps that, and each answer that suits what was asked.
+/// Where each call of a source has as many arguments as its routine has parameters, and events that
+/// are raised at others are written with numbers below 64, the number of such an event lies among the
+/// operands where it is expected, from the start of a task on: each quiet step keeps that, and each
+/// answer that suits what was asked.
 pub fn law_steps()
     ensures { LawSteps }
 {}

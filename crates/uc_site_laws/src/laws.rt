@@ -9,9 +9,9 @@ pub fn law_steps()
     ensures { LawSteps }
 {}
 
-/// In the source of every program all names are known: an accept statement has its number in the
-/// text of the program, with as many clauses as stand there, a mutex member has a number of at most
-/// 31, and an event that is raised at another execution has one below 64.
+/// In the source of every program all names are known: the number of an accept statement is that of
+/// one of the program's, which has as many clauses, a mutex member has a number of at most 31, and an
+/// event that is raised at another execution has one below 64.
 pub fn law_source()
     ensures { LawSource }
 {}
