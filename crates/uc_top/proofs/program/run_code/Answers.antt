@@ -4,8 +4,8 @@ use Rattle.uc_tree.specs.ProgramMain.{main_number, main_among}
 use Rattle.uc_top.proofs.Ran.{its_source, program_ran, run_ends}
 use Rattle.uc_top.proofs.program.run_code.Goals as goal
 
-pub run_main-journal-requires-clause-source : goal.run_main-journal-requires-clause-source
-run_main-journal-requires-clause-source g c =
+pub run_main-requires-clause-source : goal.run_main-requires-clause-source
+run_main-requires-clause-source g c =
     let p = c.args.program.now in
     let items = c.deref.ensures.value ∙ ap (λ q. q.items) c.program.view_is in
     let number : main_number p ≡ c.in-Some.main = sym (c.in-Some.ensures.number p ∙ ap (main_among p) items) in
