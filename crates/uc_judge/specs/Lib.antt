@@ -13,3 +13,5 @@ pub mod PendingEvents
 pub mod Offers
 pub mod ClauseStacks
 pub mod ProcessorRows
+pub mod Actors
+pub mod Ledgers
