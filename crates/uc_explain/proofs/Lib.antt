@@ -4,3 +4,4 @@ pub mod WaitLemmas
 pub mod StepLemmas
 pub mod LineLemmas
 pub mod ViewLemmas
+pub mod OthersLemmas

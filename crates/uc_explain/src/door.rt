@@ -8,7 +8,10 @@ ghost use Rattle.uc_explain.specs.Shown.{in_order};
 ghost use Rattle.uc_explain.specs.Steps.{after, nothing};
 
 use crate::effects::accept_behind;
-use crate::lists::{first_at, move_blocked, move_inside, move_stacked, move_waiting, wait_place};
+use crate::lists::{
+    first_at, has_other, has_other_call, has_other_wait, move_blocked, move_inside, move_stacked,
+    move_waiting, wait_place,
+};
 use std::alloc::{AllocError, Global};
 use std::marker::Model;
 use uc_entry::entry::Entry;
@@ -84,9 +87,13 @@ impl Door {
     pub(crate) fn has_others(&self, task: u32) -> bool
         ensures { result ≡ (list_any (λ w. not (w.0 == task)) self.now.waiting || (list_any (λ s. not (s == task)) self.now.stacked || list_any (λ b. not (b.0 == task)) self.now.blocked)) }
     {
-        self.waiting.iter().any(|call| call.0 != task)
-            || self.stacked.iter().any(|other| *other != task)
-            || self.waits.iter().any(|wait| wait.0 != task)
+        if has_other_call(&self.waiting, task) {
+            return true;
+        }
+        if has_other(&self.stacked, task) {
+            return true;
+        }
+        has_other_wait(&self.waits, task)
     }
 
     /// Who is let in next, and the way.

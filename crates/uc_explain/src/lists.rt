@@ -1,7 +1,7 @@
 // The lists of an object, each as one entry more leaves it.
 
-ghost use Rattle.std.specs.Prelude.{◌≡◌, ◌<◌, ◌≤◌, not, nat_lt, length, vec_len, vec_capacity};
-ghost use Rattle.std.specs.List.{insert, prefix_len};
+ghost use Rattle.std.specs.Prelude.{◌≡◌, ◌<◌, ◌≤◌, ◌==◌, not, nat_lt, length, vec_len, vec_capacity};
+ghost use Rattle.std.specs.List.{insert, list_any, prefix_len};
 ghost use Rattle.uc_acts.specs.Fit.{IsFit};
 ghost use Rattle.uc_explain.specs.Shown.{placed};
 ghost use Rattle.uc_explain.specs.Steps.{inside_then, waiting_then, stacked_then, blocked_then, waits_of, waits_kept};
@@ -134,4 +134,25 @@ fn drop_waits(conds: &mut Vec<u64>, waits: &mut Vec<(u32, i64)>, e: &Entry)
             at += 1;
         }
     }
+}
+
+/// Whether a task other than this one is among those who call.
+pub(crate) fn has_other_call(calls: &[(u32, u8)], task: u32) -> bool
+    ensures { result ≡ list_any (λ w. not (w.0 == task)) calls.now }
+{
+    calls.iter().any(|call| call.0 != task)
+}
+
+/// Whether a task other than this one is among some tasks.
+pub(crate) fn has_other(tasks: &[u32], task: u32) -> bool
+    ensures { result ≡ list_any (λ t. not (t == task)) tasks.now }
+{
+    tasks.iter().any(|other| *other != task)
+}
+
+/// Whether a task other than this one is among those who are blocked.
+pub(crate) fn has_other_wait(waits: &[(u32, i64)], task: u32) -> bool
+    ensures { result ≡ list_any (λ w. not (w.0 == task)) waits.now }
+{
+    waits.iter().any(|wait| wait.0 != task)
 }
