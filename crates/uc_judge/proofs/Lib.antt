@@ -7,3 +7,5 @@ pub mod Rows
 pub mod Numbers
 pub mod Owned
 pub mod Opening
+pub mod Events
+pub mod Offering

@@ -99,10 +99,10 @@ impl Schedule {
     }
 
     /// Whether no task is ready on the cluster of any of these processors, which are open.
-    pub fn none_served(&self, open: &[(u32, u32)]) -> bool
-        ensures { (opts : Options) (j : Journal) → IsSchedule self.now j → open.now ≡ open_processors opts j → result ≡ none_served opts j }
+    pub fn none_served(&self, processors: &[(u32, u32)]) -> bool
+        ensures { (opts : Options) (j : Journal) → IsSchedule self.now j → processors.now ≡ open_processors opts j → result ≡ none_served opts j }
     {
-        open.iter().all(|row| first_of_number(&self.ready, u64::from(row.1)).is_none())
+        processors.iter().all(|row| first_of_number(&self.ready, u64::from(row.1)).is_none())
     }
 
     /// Whether no task that has not ended is on a cluster.
