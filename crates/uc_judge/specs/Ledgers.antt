@@ -1,13 +1,15 @@
 -- All that a judge keeps of the journal that it makes.
-use Rattle.std.specs.Prelude.{◌≡◌, ◌<◌, ◌^◌, List, ◌++◌, length}
+use Rattle.std.specs.Prelude.{◌≡◌, ◌<◌, ◌^◌, ℕ, zero, suc, Bool, true, false, List, [], ◌∷◌, ◌++◌, length}
 use Rattle.uc_tree.specs.Programs.{Site}
 use Rattle.uc_entry.specs.declared.entry.Entry.{Entry}
+use Rattle.uc_entry.specs.declared.entry.EntryKind.{EntryKind}
+use Rattle.uc_entry.specs.declared.entry.EntryKind.TheVariants as kind
 use Rattle.uc_entry.specs.declared.request.Request.{Request}
 use Rattle.uc_entry.specs.declared.entry.Options.{Options}
 use Rattle.uc_entry.specs.Faults.{fault_number}
 use Rattle.uc_entry.specs.declared.fault.RunFault.TheVariants as run_fault
 use Rattle.uc_acts.specs.Journal.{Journal, no_cost}
-use Rattle.uc_acts.specs.Acts.{fault, settled, row}
+use Rattle.uc_acts.specs.Acts.{fault, settled, row, push, admit}
 use Rattle.uc_explain.specs.Seen.{AreViewsOf}
 use Rattle.uc_judge.specs.declared.actor.Actor.{Actor}
 use Rattle.uc_judge.specs.declared.ledger.Ledger.{Ledger}
@@ -16,9 +18,9 @@ use Rattle.uc_judge.specs.Scheduled.{IsSchedule}
 use Rattle.uc_judge.specs.Counted.{AreCounts}
 use Rattle.uc_judge.specs.Tasked.{AreTasks}
 use Rattle.uc_judge.specs.Opened.{AreAccepts}
-use Rattle.uc_judge.specs.Raised.{ArePending}
+use Rattle.uc_judge.specs.PendingEvents.{ArePending}
 use Rattle.uc_judge.specs.ClauseStacks.{AreStacks}
-use Rattle.uc_judge.specs.Housed.{AreProcessors}
+use Rattle.uc_judge.specs.ProcessorRows.{AreProcessors}
 
 -- what is kept is of the journal that is kept, of a program with these accept statements
 pub record IsLedger (s : Ledger) (sites : List Site) : Type 0 where
@@ -45,3 +47,19 @@ busy_fault a = fault a.processor a.task no_cost (fault_number run_fault.DestroyB
 -- these entries of an act are added, up to the first that destroys what is in use
 abbrev pub Settles : Ledger → Ledger → List Site → Actor → List Entry → Type 0
 Settles old new sites a es = Adds old new sites (settled (busy_fault a) old.entries.items es)
+
+-- what is added where a task asks this
+abbrev pub Takes : Ledger → Ledger → List Site → List ℕ → Actor → Request → Type 0
+Takes old new sites input a r =
+    Settles old new sites a (row old.opts sites input old.entries.items a.processor a.task (cost_of a) a.line r)
+
+-- an entry that is no admission and no destruction
+abbrev pub is_safe : EntryKind → Bool
+is_safe kind.Admit = false
+is_safe kind.Gone = false
+is_safe _ = true
+
+-- the entry of a caller whom an accept takes
+abbrev pub caller_taken : ℕ → ℕ → ℕ → ℕ → List Entry
+caller_taken p o zero u = push p u o ∷ []
+caller_taken p o (suc m) u = admit p u o 1 0 ∷ []

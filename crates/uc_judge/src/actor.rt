@@ -1,6 +1,6 @@
 // Who acts, and the entries that it makes.
 
-ghost use Rattle.std.specs.Prelude.{◌≡◌, ◌≤◌, pos};
+ghost use Rattle.std.specs.Prelude.{◌≡◌, ◌+◌, ◌≤◌, pos};
 ghost use Rattle.uc_tree.specs.declared.limits.TheConstants.{TICKS_MAX};
 ghost use Rattle.uc_entry.specs.declared.entry.EntryKind.TheVariants as variant;
 ghost use Rattle.uc_acts.specs.Fit.{IsFit, types_of};
@@ -161,13 +161,14 @@ impl Actor {
     }
 
     /// What was read in a form, behind so many bytes.
-    pub(crate) fn read(self, form: u8, got: Got, used: u32) -> Entry
+    pub(crate) fn read(self, form: u8, got: Got, used: u64) -> Entry
+        requires { used + got.taken ≤ 9223372036854775807 }
         ensures is { result ≡ read_entry self.processor self.task (cost_of self) form got used }
         ensures fit { IsFit result }
     {
         let mut e = self.entry(EntryKind::Read, 0, i64::from(form), got.value);
         e.c = truth(got.failed);
-        e.d = i64::from(used) + i64::from(got.taken);
+        e.d = (used + u64::from(got.taken)) as i64;
         e
     }
 

@@ -1,6 +1,6 @@
 // The numbers of a journal: what is made, what is read, and how far it has come.
 
-ghost use Rattle.std.specs.Prelude.{◌≡◌, ◌++◌, ◌∷◌, ◌<◌, ◌^◌, ◌||◌, [], ℕ, Bool, length};
+ghost use Rattle.std.specs.Prelude.{◌≡◌, ◌++◌, ◌∷◌, ◌<◌, ◌≤◌, ◌^◌, ◌||◌, [], ℕ, Bool, length};
 ghost use Rattle.uc_acts.specs.Journal.{Journal, is_ending};
 ghost use Rattle.uc_acts.specs.Known.{is_make, is_spawn};
 ghost use Rattle.uc_acts.specs.Queues.{is_cluster, is_processor, ends_first};
@@ -31,6 +31,7 @@ pub struct Counts {
     pub first_ended: bool,
     /// Whether an ending stands.
     pub is_over: bool,
+    ghost read: { bytes_read ≤ 9223372036854775807 },
 }
 
 impl Counts {
@@ -131,7 +132,9 @@ fn ends_first(e: &Entry) -> bool
 
 // The bytes that are read behind an entry.
 fn bytes_behind(e: &Entry, before: u64) -> u64
-    ensures { result ≡ used_by e.now.kind e.now before }
+    requires { before ≤ 9223372036854775807 }
+    ensures value { result ≡ used_by e.now.kind e.now before }
+    ensures bound { result ≤ 9223372036854775807 }
 {
     match e.kind {
         EntryKind::Read => number(e.d),
