@@ -9,3 +9,4 @@ pub mod Owned
 pub mod Opening
 pub mod Events
 pub mod Offering
+pub mod Settling

@@ -1,13 +1,13 @@
 // Who acts, and the entries that it makes.
 
-ghost use Rattle.std.specs.Prelude.{◌≡◌, ◌+◌, ◌≤◌, pos};
+ghost use Rattle.std.specs.Prelude.{◌≡◌, ◌≤◌, ℕ, pos};
 ghost use Rattle.uc_tree.specs.declared.limits.TheConstants.{TICKS_MAX};
 ghost use Rattle.uc_entry.specs.declared.entry.EntryKind.TheVariants as variant;
 ghost use Rattle.uc_acts.specs.Fit.{IsFit, types_of};
 ghost use Rattle.uc_acts.specs.Journal.{cost, entry, asking, begin};
 ghost use Rattle.uc_acts.specs.Pending.{signed_64};
 ghost use Rattle.uc_acts.specs.Acts.{truth, accept_entry, admit_failed, push, fault, raise_entry, poll_entry, read_entry, dispatch};
-ghost use Rattle.uc_judge.specs.Actors.{cost_of};
+ghost use Rattle.uc_judge.specs.Actors.{cost_of, IsRead};
 
 use uc_acts::got::Got;
 use uc_entry::entry::{Entry, EntryKind, Options};
@@ -161,14 +161,14 @@ impl Actor {
     }
 
     /// What was read in a form, behind so many bytes.
-    pub(crate) fn read(self, form: u8, got: Got, used: u64) -> Entry
-        requires { used + got.taken ≤ 9223372036854775807 }
-        ensures is { result ≡ read_entry self.processor self.task (cost_of self) form got used }
+    pub(crate) fn read(self, form: u8, got: Got, used: i64) -> Entry
+        requires { IsRead used got.taken }
+        ensures is { (n : ℕ) → used ≡ pos n → result ≡ read_entry self.processor self.task (cost_of self) form got n }
         ensures fit { IsFit result }
     {
         let mut e = self.entry(EntryKind::Read, 0, i64::from(form), got.value);
         e.c = truth(got.failed);
-        e.d = (used + u64::from(got.taken)) as i64;
+        e.d = used + i64::from(got.taken);
         e
     }
 

@@ -1,6 +1,6 @@
 // What an entry does to the tasks.
 
-ghost use Rattle.std.specs.Prelude.{◌≡◌, ◌≤◌};
+ghost use Rattle.std.specs.Prelude.{◌≡◌};
 ghost use Rattle.uc_acts.specs.Fit.{IsFit};
 ghost use Rattle.uc_acts.specs.Journal.{number, where_true};
 ghost use Rattle.uc_acts.specs.Queues.{actor, readies, dispatches, puts_on, takes_off, comes_to_stand, leaves_cluster};
@@ -9,8 +9,7 @@ use uc_entry::entry::{Entry, EntryKind};
 
 /// The number that a field holds.
 pub(crate) fn number(field: i64) -> u64
-    ensures value { result ≡ number field }
-    ensures bound { result ≤ 9223372036854775807 }
+    ensures { result ≡ number field }
 {
     if field < 0 {
         return 0;

@@ -1,6 +1,6 @@
 // The entries that are added where a task asks, one function for each request.
 
-ghost use Rattle.std.specs.Prelude.{◌≡◌, ◌+◌, ◌<◌, ◌≤◌, ◌^◌, ◌∷◌, [], ℕ, List, true, OnOk, length, drop};
+ghost use Rattle.std.specs.Prelude.{◌≡◌, ◌+◌, ◌<◌, ◌≤◌, ◌^◌, ◌∷◌, [], ℕ, pos, List, true, OnOk, length, drop};
 ghost use Rattle.uc_tree.specs.Programs.{Site};
 ghost use Rattle.uc_tree.specs.declared.limits.TheConstants.{INPUT_BYTES};
 ghost use Rattle.uc_entry.specs.declared.entry.Entry.{Entry};
@@ -9,7 +9,7 @@ ghost use Rattle.uc_acts.specs.Fit.{IsFit};
 ghost use Rattle.uc_acts.specs.Answers.{first_of};
 ghost use Rattle.uc_acts.specs.Queues.{is_nobody};
 ghost use Rattle.uc_acts.specs.Doors.{site_at, blocked};
-ghost use Rattle.uc_acts.specs.Reading.{next_read};
+ghost use Rattle.uc_acts.specs.Reading.{next_read, bytes_used};
 ghost use Rattle.uc_acts.specs.Acts.{fault as fault_entry, admission, clause_by_way, failed_by_way, left_by, met_by, called};
 ghost use Rattle.uc_entry.specs.Faults.{fault_number};
 ghost use Rattle.uc_judge.specs.Actors.{cost_of};
@@ -444,7 +444,7 @@ impl Ledger {
         requires few { length self.now.entries.items < 2 ^ 32 }
         requires short { length input.now ≤ INPUT_BYTES }
         ensures got { (sites : List Site) → IsLedger self.now sites → result ≡ next_read form input.now self.now.entries.items }
-        ensures within { self.now.counts.bytes_read + result.taken ≤ 9223372036854775807 }
+        ensures within { (sites : List Site) → IsLedger self.now sites → bytes_used self.now.entries.items + result.taken ≤ 9223372036854775807 }
     {
         if self.counts.has_failed {
             return Got {
@@ -536,12 +536,11 @@ fn has_else(sites: &[Site], site: u32) -> bool
 }
 
 // The input behind so many bytes.
-fn rest_behind(input: &[u8], used: u64) -> &[u8]
-    ensures { result.now ≡ drop used input.now }
+fn rest_behind(input: &[u8], used: i64) -> &[u8]
+    ensures { (n : ℕ) → used ≡ pos n → result.now ≡ drop n input.now }
 {
-    if used < input.len() as u64 {
-        &input[used as usize..]
-    } else {
-        &[]
+    if used < 0 || used as usize >= input.len() {
+        return &[];
     }
+    &input[used as usize..]
 }
