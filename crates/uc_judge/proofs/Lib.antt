@@ -10,3 +10,4 @@ pub mod Opening
 pub mod Events
 pub mod Offering
 pub mod Settling
+pub mod Housing

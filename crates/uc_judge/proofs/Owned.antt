@@ -34,7 +34,7 @@ told_none : (o : Option ℕ) → first_told o None ≡ o
 told_none None = refl
 told_none (Some n) = refl
 
-flip : (a b : ℕ) → (a == b) ≡ (b == a)
+pub flip : (a b : ℕ) → (a == b) ≡ (b == a)
 flip a b = by (cases_eq a b)
   where
     by : ((a ≡ b) ⊎ (a ≢ b)) → (a == b) ≡ (b == a)

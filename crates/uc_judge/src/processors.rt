@@ -17,7 +17,7 @@ use uc_entry::entry::{Entry, EntryKind, Options};
 pub struct Processors {
     // Each with its cluster.
     all: Vec<(u32, u32)>,
-    open: Vec<(u32, u32)>,
+    opened: Vec<(u32, u32)>,
     closed: Vec<u32>,
 }
 
@@ -27,10 +27,10 @@ impl Processors {
         ensures { IfOk result (λ s. AreProcessors s opts.now []) }
     {
         let all = opening(alloc, opts.processors)?;
-        let open = opening(alloc, opts.processors)?;
+        let opened = opening(alloc, opts.processors)?;
         Ok(Processors {
             all,
-            open,
+            opened,
             closed: Vec::new(alloc),
         })
     }
@@ -45,14 +45,14 @@ impl Processors {
                 let row = (number(e.a) as u32, number(e.b) as u32);
                 self.all.push(row)?;
                 if !is_among(row.0, &self.closed) {
-                    self.open.push(row)?;
+                    self.opened.push(row)?;
                 }
                 Ok(())
             }
             EntryKind::ProcessorEnd => {
                 let processor = number(e.a) as u32;
                 self.closed.push(processor)?;
-                self.open.retain(|row| row.0 != processor);
+                self.opened.retain(|row| row.0 != processor);
                 Ok(())
             }
             _ => Ok(()),
@@ -63,7 +63,7 @@ impl Processors {
     pub fn open(&self) -> &[(u32, u32)]
         ensures { (opts : Options) (j : Journal) → AreProcessors self.now opts j → result.now ≡ open_processors opts j }
     {
-        &self.open
+        &self.opened
     }
 
     /// The cluster of a processor, closed or not, or 0.
@@ -77,7 +77,7 @@ impl Processors {
     pub fn serve(&self, cluster: u32) -> bool
         ensures { (opts : Options) (j : Journal) → AreProcessors self.now opts j → result ≡ list_any (λ x. x.1 == cluster) (open_processors opts j) }
     {
-        self.open.iter().any(|row| row.1 == cluster)
+        has_cluster(&self.opened, cluster)
     }
 }
 
@@ -97,6 +97,13 @@ fn is_among(number: u32, others: &[u32]) -> bool
     ensures { result ≡ list_any (λ x. x == number) others.now }
 {
     others.iter().any(|other| *other == number)
+}
+
+// Whether one of some processors is on a cluster.
+fn has_cluster(rows: &[(u32, u32)], cluster: u32) -> bool
+    ensures { result ≡ list_any (λ x. x.1 == cluster) rows.now }
+{
+    rows.iter().any(|row| row.1 == cluster)
 }
 
 // The cluster of a processor among these, or 0.
