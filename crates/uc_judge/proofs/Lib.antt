@@ -11,3 +11,4 @@ pub mod Events
 pub mod Offering
 pub mod Settling
 pub mod Housing
+pub mod Below

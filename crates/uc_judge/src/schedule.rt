@@ -1,7 +1,7 @@
 // Who is ready, who runs, and on which cluster each task is.
 
-ghost use Rattle.std.specs.Prelude.{◌≡◌, ◌++◌, ◌∷◌, ◌==◌, ◌&&◌, ◌<◌, [], ℕ, not, OnOk, unwrap_or, vec_len, vec_capacity};
-ghost use Rattle.std.specs.List.{filter};
+ghost use Rattle.std.specs.Prelude.{◌≡◌, ◌++◌, ◌∷◌, ◌==◌, ◌&&◌, ◌<◌, [], ℕ, not, nat_lt, OnOk, unwrap_or, vec_len, vec_capacity};
+ghost use Rattle.std.specs.List.{filter, list_any, list_all};
 ghost use Rattle.std.specs.Option.{option_to_list};
 ghost use Rattle.std.specs.Ordering.{nat_cmp};
 ghost use Rattle.std.specs.BTreeMap.{get};
@@ -88,21 +88,21 @@ impl Schedule {
     pub fn none_running(&self, processors: u64) -> bool
         ensures { (opts : Options) (j : Journal) → IsSchedule self.now j → processors ≡ processor_count opts j → result ≡ none_running opts j }
     {
-        !self.running.iter().any(|row| row.1 < processors)
+        !has_below(&self.running, processors)
     }
 
     /// Whether no task is ready on any of the first so many clusters.
     pub fn none_ready(&self, clusters: u64) -> bool
         ensures { (j : Journal) → IsSchedule self.now j → clusters ≡ cluster_count j → result ≡ none_ready j }
     {
-        !self.ready.iter().any(|row| row.1 < clusters)
+        !has_below(&self.ready, clusters)
     }
 
     /// Whether no task is ready on the cluster of any of these processors, which are open.
     pub fn none_served(&self, processors: &[(u32, u32)]) -> bool
         ensures { (opts : Options) (j : Journal) → IsSchedule self.now j → processors.now ≡ open_processors opts j → result ≡ none_served opts j }
     {
-        processors.iter().all(|row| first_of_number(&self.ready, u64::from(row.1)).is_none())
+        none_on(&self.ready, processors)
     }
 
     /// Whether no task that has not ended is on a cluster.
@@ -131,13 +131,32 @@ fn only_of_number(rows: &[(u32, u64)], number: u64) -> Option<u32>
 {
     for (at, row) in rows.iter().enumerate() {
         if row.1 == number {
-            if first_of_number(&rows[at + 1..], number).is_none() {
-                return Some(row.0);
-            }
-            return None;
+            return match first_of_number(&rows[at + 1..], number) {
+                Some(_) => None,
+                None => Some(row.0),
+            };
         }
     }
     None
+}
+
+// Whether a number is less than this one.
+fn has_below(rows: &[(u32, u64)], number: u64) -> bool
+    ensures { result ≡ list_any (λ r. nat_lt r.1 number) rows.now }
+{
+    rows.iter().any(|row| row.1 < number)
+}
+
+// Whether no task has the number of the cluster of any of these processors.
+fn none_on(rows: &[(u32, u64)], processors: &[(u32, u32)]) -> bool
+    ensures { result ≡ list_all (λ x. is_nobody (of_number x.1 rows.now)) processors.now }
+{
+    for processor in processors {
+        if first_of_number(rows, u64::from(processor.1)).is_some() {
+            return false;
+        }
+    }
+    true
 }
 
 // Where the tasks are behind an entry.

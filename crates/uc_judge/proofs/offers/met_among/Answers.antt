@@ -13,6 +13,6 @@ returns-then-is_some c =
 pub loop-at-preserved : goal.loop-at-preserved
 loop-at-preserved c =
     elim c.if-has_bit.branch [
-      then-has_bit+else-is_some w ↦ c.loop-at.invariant ∙ met_unlisted c.args.mask c.args.waiting.now c.args.clauses.now c.loop-at.at c.index-clauses-at.result c.loop-at-test.true c.index-clauses-at.is (sym c.has_bit.ensures.value ∙ w.if-has_bit.true) (option_map as_met w.met_by_clause-taken.result) w.met_by_clause-taken.ensures (mapped_some as_met w.met_by_clause-taken.result ∙ sym w.is_some.ensures ∙ w.if-is_some.false)
-    | else-has_bit w ↦ c.loop-at.invariant ∙ met_masked c.args.mask c.args.waiting.now c.args.clauses.now c.loop-at.at c.index-clauses-at.result c.loop-at-test.true c.index-clauses-at.is (sym c.has_bit.ensures.value ∙ w.if-has_bit.false)
+      | then-has_bit+else-is_some w ↦ c.loop-at.invariant ∙ met_unlisted c.args.mask c.args.waiting.now c.args.clauses.now c.loop-at.at c.index-clauses-at.result c.loop-at-test.true c.index-clauses-at.is (sym c.has_bit.ensures.value ∙ w.if-has_bit.true) (option_map as_met w.met_by_clause-taken.result) w.met_by_clause-taken.ensures (mapped_some as_met w.met_by_clause-taken.result ∙ sym w.is_some.ensures ∙ w.if-is_some.false)
+      | else-has_bit w ↦ c.loop-at.invariant ∙ met_masked c.args.mask c.args.waiting.now c.args.clauses.now c.loop-at.at c.index-clauses-at.result c.loop-at-test.true c.index-clauses-at.is (sym c.has_bit.ensures.value ∙ w.if-has_bit.false)
     ]
