@@ -22,17 +22,21 @@ use Rattle.uc_judge.specs.PendingEvents.{ArePending}
 use Rattle.uc_judge.specs.ClauseStacks.{AreStacks}
 use Rattle.uc_judge.specs.ProcessorRows.{AreProcessors}
 
--- what is kept is of the journal that is kept, of a program with these accept statements
-pub record IsLedger (s : Ledger) (sites : List Site) : Type 0 where
+-- what is kept is of a journal of a program with these accept statements
+pub record IsKept (s : Ledger) (sites : List Site) (j : Journal) : Type 0 where
   pub few : s.opts.processors < 2 ^ 32
-  pub views : AreViewsOf s.views s.entries.items
-  pub schedule : IsSchedule s.schedule s.entries.items
-  pub counts : length s.entries.items < 2 ^ 32 → AreCounts s.counts s.opts s.entries.items
-  pub tasks : AreTasks s.tasks s.opts s.entries.items
-  pub accepts : AreAccepts s.accepts s.entries.items
-  pub pending : ArePending s.pending s.entries.items
-  pub stacks : AreStacks s.stacks sites s.entries.items
-  pub processors : AreProcessors s.processors s.opts s.entries.items
+  pub views : AreViewsOf s.views j
+  pub schedule : IsSchedule s.schedule j
+  pub counts : length j < 2 ^ 32 → AreCounts s.counts s.opts j
+  pub tasks : AreTasks s.tasks s.opts j
+  pub accepts : AreAccepts s.accepts j
+  pub pending : ArePending s.pending j
+  pub stacks : AreStacks s.stacks sites j
+  pub processors : AreProcessors s.processors s.opts j
+
+-- it is of the journal that is kept
+abbrev pub IsLedger : Ledger → List Site → Type 0
+IsLedger s sites = IsKept s sites s.entries.items
 
 -- these entries are added
 pub record Adds (old new : Ledger) (sites : List Site) (a : List Entry) : Type 0 where

@@ -40,19 +40,19 @@ pub(crate) struct Ledger {
 
 impl Ledger {
     /// Of a journal without entries.
-    pub(crate) fn new(alloc: Global, opts: &Options) -> Result<Ledger, AllocError>
+    pub(crate) fn new(alloc: Global, opts: Options) -> Result<Ledger, AllocError>
         ensures entries { IfOk result (λ s. s.entries.items ≡ []) }
-        ensures opts { IfOk result (λ s. s.opts ≡ opts.now) }
+        ensures opts { IfOk result (λ s. s.opts ≡ opts) }
         ensures ledger { IfOk result (λ s. (sites : List Site) → IsLedger s sites) }
     {
-        let processors = Processors::new(alloc, opts)?;
+        let processors = Processors::new(alloc, &opts)?;
         Ok(Ledger {
-            opts: *opts,
+            opts,
             entries: Vec::new(alloc),
             views: Views::new(alloc),
             schedule: Schedule::new(alloc),
-            counts: Counts::new(opts),
-            tasks: Tasks::new(alloc, opts),
+            counts: Counts::new(&opts),
+            tasks: Tasks::new(alloc, &opts),
             accepts: Accepts::new(alloc),
             pending: Pending::new(alloc),
             stacks: Stacks::new(alloc),

@@ -197,9 +197,9 @@ impl Ledger {
         ensures { OnOk result ((input : List ℕ) → Takes self.old self.new sites.now input actor (ask.Call object member)) }
     {
         let is_free = self.views.inside(object).is_empty();
-        let open = self.accepts.open_at(object);
+        let accept = self.accepts.open_at(object);
         self.add(sites, actor.call(object, member))?;
-        self.let_in(sites, actor, object, member, is_free, open)?;
+        self.let_in(sites, actor, object, member, is_free, accept)?;
         Ok(())
     }
 
@@ -211,12 +211,12 @@ impl Ledger {
         object: u32,
         member: u8,
         is_free: bool,
-        open: Option<OpenAccept>,
+        accept: Option<OpenAccept>,
     ) -> Result<(), AllocError>
         requires ledger { IsLedger self.old sites.now }
-        ensures { OnOk result ((within : List ℕ) (opened : List Entry) → is_free ≡ is_nobody within → open ≡ opened_of opened → Settles self.old self.new sites.now actor (called sites.now actor.processor actor.task object member within opened)) }
+        ensures { OnOk result ((within : List ℕ) (opened : List Entry) → is_free ≡ is_nobody within → accept ≡ opened_of opened → Settles self.old self.new sites.now actor (called sites.now actor.processor actor.task object member within opened)) }
     {
-        match open {
+        match accept {
             Some(accept) => {
                 let clause = clause_for(sites, accept.site, accept.mask, member);
                 self.meet(sites, actor, object, member, accept.task, clause)?;
