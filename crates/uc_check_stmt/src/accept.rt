@@ -205,7 +205,7 @@ fn note_owned(
                 tables,
                 place,
                 class,
-                names: tables.numbered(place),
+                names: tables.mutex_members(place),
             };
             note_clauses(names.alloc(), listing, clauses, found)?;
             Ok(())

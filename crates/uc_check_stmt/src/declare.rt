@@ -23,7 +23,7 @@ use uc_tree::kinds::Base;
 use uc_tree::limits::ARRAY_LENGTH;
 use uc_tree::pos::Pos;
 use uc_types::ask::ask_argument;
-use uc_types::entity::{expected, is_scalar};
+use uc_types::entity::{expected_of, is_scalar};
 use uc_types::expr::{check_args, check_expr};
 use uc_types::found::Found;
 use uc_types::names::{Names, length_value};
@@ -31,7 +31,7 @@ use uc_types::sort::{is_condition, is_event, is_event_sort};
 
 /// How a variable starts: whether by `=`, with how many values, and whether a single one, if there is one, is a scalar.
 #[derive(Clone, Copy)]
-pub struct Started {
+pub struct VariableStart {
     pub by_value: bool,
     pub count: usize,
     pub single: bool,
@@ -55,7 +55,7 @@ fn check_value(names: &Names, e: &Expr, target: Target, found: &mut Found) -> Op
     ensures breaks { found.new ≡ noted found.old (arg_visits names.now e.now (expected names.now.program target 0)) }
 {
     let entity = check_expr(names, e, found);
-    let expected = expected(names.tables(), target, 0);
+    let expected = expected_of(names.tables(), target, 0);
     let _fits = ask_argument(e.first_token(), expected, entity, found);
     entity
 }
@@ -84,21 +84,21 @@ fn check_single(names: &Names, args: &[Expr], target: Target, found: &mut Found)
 }
 
 #[tactic(auto, using(crate::proofs::Joined::joining))]
-fn check_start(names: &Names, start: &Start, target: Target, found: &mut Found) -> Started
+fn check_start(names: &Names, start: &Start, target: Target, found: &mut Found) -> VariableStart
     ensures by_value { result.by_value ≡ is_value_start start.now }
     ensures count { result.count ≡ count (start_values start.now) }
     ensures single { result.single ≡ are_single names.now (start_values start.now) }
     ensures breaks { found.new ≡ noted found.old (args_visits names.now (start_values start.now) target 0) }
 {
     match &start.form {
-        StartForm::Nothing => Started {
+        StartForm::Nothing => VariableStart {
             by_value: false,
             count: 0,
             single: true,
         },
         StartForm::Value { value } => {
             let entity = check_value(names, value, target, found);
-            Started {
+            VariableStart {
                 by_value: true,
                 count: 1,
                 single: is_scalar_of(entity),
@@ -106,7 +106,7 @@ fn check_start(names: &Names, start: &Start, target: Target, found: &mut Found) 
         }
         StartForm::Args { args } => {
             let single = check_single(names, args, target, found);
-            Started {
+            VariableStart {
                 by_value: false,
                 count: args.len(),
                 single,
@@ -187,7 +187,7 @@ pub fn is_element(names: &Names, sort: Sort) -> bool
     }
 }
 
-fn starts_well(names: &Names, start: Started, sort: Sort) -> bool
+fn starts_well(names: &Names, start: VariableStart, sort: Sort) -> bool
     ensures { result ≡ starts_well names.now.program start.by_value start.count start.single sort }
 {
     match sort {
@@ -208,7 +208,7 @@ fn judge_start(
     names: &Names,
     sort: Option<Sort>,
     len: &Option<Expr>,
-    start: Started,
+    start: VariableStart,
     at: Pos,
     found: &mut Found,
 )

@@ -21,7 +21,7 @@ ghost use Rattle.uc_types.specs.FirstBreak.{told, told_forms, told_names, told_o
 ghost use Rattle.uc_classes.specs.Circling.{AreFields, Walks};
 
 use crate::circle::leads_back;
-use crate::class::{Listed, Walked};
+use crate::class::{ClassWalk, FieldList};
 use crate::conditions::count_conditions;
 use std::alloc::{AllocError, Global};
 use uc_check_decl::class::{
@@ -119,8 +119,8 @@ fn note_field_sort(names: &Names, declarator: &Declarator, sort: Option<Sort>, f
 
 fn is_new(
     names: &Names,
-    walked: Walked,
-    listed: Listed,
+    walked: ClassWalk,
+    listed: FieldList,
     index: usize,
     declarator: &Declarator,
 ) -> bool
@@ -143,8 +143,8 @@ fn is_new(
 
 fn leads_home(
     names: &Names,
-    walked: Walked,
-    listed: Listed,
+    walked: ClassWalk,
+    listed: FieldList,
     index: usize,
     declarator: &Declarator,
 ) -> bool
@@ -167,8 +167,8 @@ fn is_open(kind: Kind, access: Access) -> bool
 
 fn note_declared(
     names: &Names,
-    walked: Walked,
-    listed: Listed,
+    walked: ClassWalk,
+    listed: FieldList,
     index: usize,
     declarator: &Declarator,
     found: &mut Found,
@@ -182,8 +182,8 @@ fn note_declared(
 
 fn note_circle(
     names: &Names,
-    walked: Walked,
-    listed: Listed,
+    walked: ClassWalk,
+    listed: FieldList,
     index: usize,
     declarator: &Declarator,
     found: &mut Found,
@@ -220,8 +220,8 @@ fn note_access(class: &Class, access: Access, declarator: &Declarator, found: &m
 // What the rules on names, types and places ask of a field.
 fn note_text(
     names: &Names,
-    walked: Walked,
-    listed: Listed,
+    walked: ClassWalk,
+    listed: FieldList,
     index: usize,
     declarator: &Declarator,
     found: &mut Found,
@@ -245,7 +245,7 @@ fn note_text(
 // What the rules on who owns what ask of a field.
 fn note_owned(
     names: &Names,
-    walked: Walked,
+    walked: ClassWalk,
     base: &Base,
     declarator: &Declarator,
     found: &mut Found,
@@ -261,8 +261,8 @@ fn note_owned(
 /// A field of a class, by its place in its list.
 pub fn ask_field(
     names: &Names,
-    walked: Walked,
-    listed: Listed,
+    walked: ClassWalk,
+    listed: FieldList,
     index: usize,
     declarator: &Declarator,
     found: &mut Found,
@@ -281,7 +281,7 @@ pub fn ask_field(
 // Whether a member is sound, in the program of the names.
 fn is_sound(
     names: &Names,
-    walked: Walked,
+    walked: ClassWalk,
     proto: bool,
     sig: &Sig,
     member: usize,
@@ -297,7 +297,7 @@ fn is_sound(
 // Behind the second constructor of a class no further one goes through the members before it.
 fn note_sound(
     names: &Names,
-    walked: Walked,
+    walked: ClassWalk,
     proto: bool,
     sig: &Sig,
     member: usize,
@@ -313,7 +313,7 @@ fn note_sound(
     Ok(())
 }
 
-fn is_free(names: &Names, walked: Walked, sig: &Sig, member: usize) -> bool
+fn is_free(names: &Names, walked: ClassWalk, sig: &Sig, member: usize) -> bool
     requires walks { Walks names.now.program walked.home walked.class.now walked.circular walked.holders.now walked.bound.known walked.bound.names.now }
     ensures { result ≡ is_new_routine walked.entry.class.now member sig.now }
 {
@@ -328,7 +328,7 @@ fn is_free(names: &Names, walked: Walked, sig: &Sig, member: usize) -> bool
     new
 }
 
-fn note_routine(names: &Names, walked: Walked, sig: &Sig, member: usize, found: &mut Found)
+fn note_routine(names: &Names, walked: ClassWalk, sig: &Sig, member: usize, found: &mut Found)
     requires walks { Walks names.now.program walked.home walked.class.now walked.circular walked.holders.now walked.bound.known walked.bound.names.now }
     ensures { found.new ≡ after found.old (unless (is_new_routine walked.entry.class.now member sig.now) S2 sig.now.pos) }
 {
@@ -339,7 +339,7 @@ fn note_routine(names: &Names, walked: Walked, sig: &Sig, member: usize, found: 
 /// A member that is a routine or a prototype, by its place.
 pub fn ask_routine(
     names: &Names,
-    walked: Walked,
+    walked: ClassWalk,
     proto: bool,
     sig: &Sig,
     member: usize,

@@ -6,7 +6,7 @@ ghost use Rattle.uc_rules.specs.ClassBreaks.{field_object, leads_back};
 ghost use Rattle.uc_layout.specs.ContainmentProgress.{flag_at};
 ghost use Rattle.uc_classes.specs.Circling.{AreFields, Walks};
 
-use crate::class::{Listed, Walked};
+use crate::class::{ClassWalk, FieldList};
 use uc_layout::circles::flag_at;
 use uc_tree::declare::Declarator;
 use uc_tree::kinds::Base;
@@ -34,8 +34,8 @@ fn object_leads(holders: &[bool], to: usize, object: Option<FieldClass>) -> bool
 /// Whether a field of a class leads back to it.
 pub fn leads_back(
     tables: &Tables,
-    walked: Walked,
-    listed: Listed,
+    walked: ClassWalk,
+    listed: FieldList,
     index: usize,
     declarator: &Declarator,
 ) -> bool

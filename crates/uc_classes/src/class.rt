@@ -39,7 +39,7 @@ use uc_types::tables::Tables;
 /// have it in theirs, the fields that its constructors bind to fields of the same object, and the names of its numbered
 /// members.
 #[derive(Clone, Copy)]
-pub struct Walked<'a> {
+pub struct ClassWalk<'a> {
     pub alloc: Global,
     pub tables: &'a Tables<'a>,
     pub index: &'a Index<'a>,
@@ -61,7 +61,7 @@ struct Circle<'a> {
 
 /// A list of fields: the place of its member, the access and the base.
 #[derive(Clone, Copy)]
-pub struct Listed<'a> {
+pub struct FieldList<'a> {
     pub member: usize,
     pub access: Access,
     pub base: &'a Base,
@@ -130,8 +130,8 @@ pub fn sig_around(
 #[tactic(auto, using(uc_check_stmt::proofs::Joined::joining))]
 fn check_field(
     names: &Names,
-    walked: Walked,
-    listed: Listed,
+    walked: ClassWalk,
+    listed: FieldList,
     index: usize,
     declarator: &Declarator,
     found: &mut Found,
@@ -150,8 +150,8 @@ fn check_field(
 #[tactic(auto, using(uc_check_stmt::proofs::Joined::joining))]
 fn check_fields(
     names: &Names,
-    walked: Walked,
-    listed: Listed,
+    walked: ClassWalk,
+    listed: FieldList,
     found: &mut Found,
 ) -> Result<(), AllocError>
     requires home { names.now.around.home ≡ Some walked.home }
@@ -166,8 +166,8 @@ fn check_fields(
 }
 
 fn check_listed(
-    walked: Walked,
-    listed: Listed,
+    walked: ClassWalk,
+    listed: FieldList,
     at: Pos,
     found: &mut Found,
 ) -> Result<(), AllocError>
@@ -182,7 +182,7 @@ fn check_listed(
 }
 
 fn ask_inner(
-    walked: Walked,
+    walked: ClassWalk,
     proto: bool,
     sig: &Sig,
     place: usize,
@@ -197,7 +197,7 @@ fn ask_inner(
 }
 
 // The environment of a routine in its class, before its parameters.
-fn inner_names<'a>(walked: Walked<'a>, mark: MutexMark, sig: &Sig) -> Names<'a>
+fn inner_names<'a>(walked: ClassWalk<'a>, mark: MutexMark, sig: &Sig) -> Names<'a>
     ensures { result ≡ sig_env walked.entry.tables.now walked.entry.home mark sig.now }
 {
     let around = sig_around(walked.tables, Some(walked.home), false, mark, sig);
@@ -205,7 +205,7 @@ fn inner_names<'a>(walked: Walked<'a>, mark: MutexMark, sig: &Sig) -> Names<'a>
 }
 
 fn check_inner(
-    walked: Walked,
+    walked: ClassWalk,
     place: usize,
     mark: MutexMark,
     routine: &Routine,
@@ -221,7 +221,7 @@ fn check_inner(
 }
 
 fn check_proto(
-    walked: Walked,
+    walked: ClassWalk,
     place: usize,
     mark: MutexMark,
     sig: &Sig,
@@ -237,7 +237,7 @@ fn check_proto(
 }
 
 fn check_form(
-    walked: Walked,
+    walked: ClassWalk,
     place: usize,
     member: &Member,
     found: &mut Found,
@@ -252,7 +252,7 @@ fn check_form(
             base,
             declarators,
         } => {
-            let listed = Listed {
+            let listed = FieldList {
                 member: place,
                 access: member.access,
                 base,
@@ -274,7 +274,7 @@ fn check_form(
 
 #[tactic(auto, using(uc_check_stmt::proofs::Joined::joining))]
 fn check_member(
-    walked: Walked,
+    walked: ClassWalk,
     place: usize,
     member: &Member,
     found: &mut Found,
@@ -292,7 +292,7 @@ fn check_member(
 }
 
 #[tactic(auto, using(uc_check_stmt::proofs::Joined::joining))]
-fn check_members(walked: Walked, found: &mut Found) -> Result<(), AllocError>
+fn check_members(walked: ClassWalk, found: &mut Found) -> Result<(), AllocError>
     requires walks { Walks walked.tables.now walked.home walked.class.now walked.circular walked.holders.now walked.bound.known walked.bound.names.now }
     requires names { map (λ n. n.now) walked.numbered.now ≡ take MEMBERS (mutex_members walked.class.now) }
     requires few { length walked.numbered.now ≤ MEMBERS }
@@ -364,7 +364,7 @@ fn check_held<'x>(
 {
     let known = is_mutex(class.kind) && found.is_open(Rule::O5, class.pos);
     let names = bound_fields(alloc, tables, class, home.class, known)?;
-    let walked = Walked {
+    let walked = ClassWalk {
         alloc,
         tables,
         index,
@@ -376,7 +376,7 @@ fn check_held<'x>(
             known,
             names: &names,
         },
-        numbered: tables.numbered(home.class),
+        numbered: tables.mutex_members(home.class),
     };
     check_members(walked, found)?;
     Ok(())

@@ -19,20 +19,20 @@ use uc_types::tables::Tables;
 
 // A class whose conditions are counted, with its lengths.
 #[derive(Clone, Copy)]
-struct Counted<'a> {
+struct ConditionCount<'a> {
     tables: &'a Tables<'a>,
     class: &'a Class,
     lengths: Lengths<'a>,
     ghost lengths_are: { lengths_by lengths ≡ seen_in (constants_of tables.now.items) class.now },
 }
 
-fn count_of(counted: &Counted, declarator: &Declarator) -> u32
+fn count_of(counted: &ConditionCount, declarator: &Declarator) -> u32
     ensures { result ≡ elements (seen_in (constants_of counted.now.tables.now.items) counted.now.class.now) declarator.now }
 {
     elements_of(&counted.lengths, declarator)
 }
 
-fn sum_of(counted: &Counted, conditions: &[&Declarator]) -> u64
+fn sum_of(counted: &ConditionCount, conditions: &[&Declarator]) -> u64
     ensures { result ≡ capped (elements_of (seen_in (constants_of counted.now.tables.now.items) counted.now.class.now) (map (λ d. d.now) conditions.now)) }
 {
     let mut count: u64 = 0;
@@ -58,7 +58,7 @@ fn count_among<'x>(
         sizes: tables.sizes(),
         members: &names,
     };
-    let counted = Counted {
+    let counted = ConditionCount {
         tables,
         class,
         lengths,

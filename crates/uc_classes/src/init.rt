@@ -20,7 +20,7 @@ use uc_tree::class::Init;
 use uc_tree::expr::{Expr, ExprForm};
 use uc_tree::name::Name;
 use uc_types::ask::{ask_argument, is_reference};
-use uc_types::entity::expected;
+use uc_types::entity::expected_of;
 use uc_types::expr::check_expr;
 use uc_types::found::Found;
 use uc_types::names::Names;
@@ -137,7 +137,7 @@ fn check_init_args(
     ensures breaks { found.new ≡ noted found.old (init_args_visits names.old field (exprs_of args.now) target 0) }
 {
     for (place, arg) in args.iter().enumerate() {
-        let expected = expected(names.tables(), target, place);
+        let expected = expected_of(names.tables(), target, place);
         let _entity = check_init_arg(names, field, arg, expected, found);
     }
 }
@@ -156,7 +156,7 @@ fn check_values(
     ensures breaks { found.new ≡ noted found.old (init_args_visits names.old field (exprs_of args.now) target 0) }
 {
     if args.len() == 1 {
-        let expected = expected(names.tables(), target, 0);
+        let expected = expected_of(names.tables(), target, 0);
         let entity = check_init_arg(names, field, &args[0], expected, found);
         return is_scalar_of(entity);
     }

@@ -134,7 +134,7 @@ fn check_proto(
 
 // What stands before an item: so many classes, of which so many are events.
 #[derive(Clone, Copy)]
-struct Before {
+struct EarlierItems {
     classes: usize,
     events: usize,
 }
@@ -143,7 +143,7 @@ fn check_item(
     alloc: Global,
     tables: &Tables,
     index: &Index,
-    before: Before,
+    before: EarlierItems,
     item: &Item,
     found: &mut Found,
 ) -> Result<(), AllocError>
@@ -208,7 +208,7 @@ fn check_placed(
     alloc: Global,
     tables: &Tables,
     index: &Index,
-    before: Before,
+    before: EarlierItems,
     item: &Item,
     place: usize,
     found: &mut Found,
@@ -238,7 +238,7 @@ pub fn check_items(
     let mut classes = 0;
     let mut events = 0;
     for (place, item) in items.iter().enumerate() {
-        let before = Before { classes, events };
+        let before = EarlierItems { classes, events };
         check_placed(alloc, tables, index, before, item, place, found)?;
         classes += class_count(item);
         events += event_count(item);

@@ -1,7 +1,7 @@
 -- The code of accept statements is paced.
 use Rattle.std.proofs.Common.{◌≡◌, ℕ, zero, suc, ◌+◌, ◌<◌, ◌≤◌, List, [], ◌∷◌, Bool, true, length, refl, ap, sym, subst, ◌∙◌, arith}
 use Rattle.uc_code.specs.declared.op.Op.TheVariants as op
-use Rattle.uc_code.specs.declared.rows.Mark.{Mark}
+use Rattle.uc_code.specs.declared.rows.CodeMark.{CodeMark}
 use Rattle.uc_code.specs.declared.rows.RoutineCode.{RoutineCode}
 use Rattle.uc_code.specs.Layout.{Laid}
 use Rattle.uc_code.specs.Pace.{In, Onward, height}
@@ -10,7 +10,7 @@ use Rattle.uc_code.proofs.Heights.{Outside, Plain, Each, Around, around_less, pa
 use Rattle.uc_code.proofs.Pacing as pacing
 
 module _ (code : Laid) (table : List RoutineCode) (any : Bool) where
-  abbrev Paces : List Mark → (ℕ → ℕ → Type 0) → Type 0
+  abbrev Paces : List CodeMark → (ℕ → ℕ → Type 0) → Type 0
   Paces ms B = pacing.Paces code table any ms B
 
   abbrev Loud : ℕ → ℕ → Type 0
@@ -24,11 +24,11 @@ module _ (code : Laid) (table : List RoutineCode) (any : Bool) where
 
   -- a call that has failed is raised
 
-  raised_paces : any ≡ true → (ms : List Mark) (line : ℕ) → Paces ms (Both (Risk code ms op.Raise line) (One code op.Discard line))
+  raised_paces : any ≡ true → (ms : List CodeMark) (line : ℕ) → Paces ms (Both (Risk code ms op.Raise line) (One code op.Discard line))
   raised_paces t ms line =
       pacing.both code table any ms (pacing.raise_paces code table any t ms line) (pacing.onward_paces code table any ms op.Discard line (λ n k h. refl) (λ k t. refl) (λ at l. l) (λ from to floor at i. i))
 
-  failed_paces : any ≡ true → (ms : List Mark) (line : ℕ) → Paces ms (FailedAt code ms line)
+  failed_paces : any ≡ true → (ms : List CodeMark) (line : ℕ) → Paces ms (FailedAt code ms line)
   failed_paces t ms line =
       let b = raised_paces t ms line in
       record {
@@ -54,7 +54,7 @@ module _ (code : Laid) (table : List RoutineCode) (any : Bool) where
 
   -- what asks, and what goes on behind the answer
 
-  pub accepts_paces : any ≡ true → (ms : List Mark) (site guards line : ℕ) → Paces ms (AcceptsAt code ms site guards line)
+  pub accepts_paces : any ≡ true → (ms : List CodeMark) (site guards line : ℕ) → Paces ms (AcceptsAt code ms site guards line)
   accepts_paces t ms site guards line =
       let b = failed_paces t ms line in
       let c = pacing.poll_paces code table any t ms line in
@@ -141,7 +141,7 @@ module _ (code : Laid) (table : List RoutineCode) (any : Bool) where
 
   -- branches
 
-  pub record Branches (ms : List Mark) (B : ℕ → List ℕ → ℕ → ℕ → ℕ → Type 0) : Type 0 where
+  pub record Branches (ms : List CodeMark) (B : ℕ → List ℕ → ℕ → ℕ → ℕ → Type 0) : Type 0 where
     pub rises : (o : ℕ) (ps : List ℕ) (a z : ℕ) → B o ps z a z → a ≤ z
     pub bounds : (o : ℕ) (ps : List ℕ) (a z : ℕ) → B o ps z a z → Between a z o × AllBetween a z ps
     pub plains : (o : ℕ) (ps : List ℕ) (a z : ℕ) → B o ps z a z → Plain code table z → Plain code table o × AllPlain ps
@@ -159,7 +159,7 @@ module _ (code : Laid) (table : List RoutineCode) (any : Bool) where
   between_more a m z [] l t = tt
   between_more a m z (p ∷ ps) l t = let f = t.0.first in (record { first = omega arith; last = t.0.last }, between_more a m z ps l t.1)
 
-  pub none_branches : (ms : List Mark) → Branches ms NoBranch
+  pub none_branches : (ms : List CodeMark) → Branches ms NoBranch
   none_branches ms = record {
     rises = λ o ps a z h. let e = h.nothing in omega arith;
     bounds = λ o ps a z h. let e = h.nothing in let g = h.goes in (record { first = omega arith; last = omega arith }, none_between a z ps h.none);
@@ -169,7 +169,7 @@ module _ (code : Laid) (table : List RoutineCode) (any : Bool) where
     stays = λ from to floor o ps a z h n l m x. let e = h.nothing in stay_none code table from to floor a z (omega arith);
   }
 
-  pub else_branches : {B : ℕ → ℕ → Type 0} → (ms : List Mark) → Paces ms B → Branches ms (λ o ps end. ElseAt o ps B)
+  pub else_branches : {B : ℕ → ℕ → Type 0} → (ms : List CodeMark) → Paces ms B → Branches ms (λ o ps end. ElseAt o ps B)
   else_branches {B} ms b = record {
     rises = λ o ps a z h. b.rises a z h.body;
     bounds = λ o ps a z h. let e = h.here in let k = b.rises a z h.body in (record { first = omega arith; last = omega arith }, none_between a z ps h.none);
@@ -179,7 +179,7 @@ module _ (code : Laid) (table : List RoutineCode) (any : Bool) where
     stays = λ from to floor o ps a z h n l m x. b.stays from to floor a z h.body n l m x;
   }
 
-  pub clause_branches : {B : ℕ → ℕ → Type 0} {R : ℕ → List ℕ → ℕ → ℕ → ℕ → Type 0} → (ms : List Mark) (line : ℕ) → Paces ms B → Branches ms R → Branches ms (λ o ps end. ClauseAt code line ps end B (λ rest. R o rest end))
+  pub clause_branches : {B : ℕ → ℕ → Type 0} {R : ℕ → List ℕ → ℕ → ℕ → ℕ → Type 0} → (ms : List CodeMark) (line : ℕ) → Paces ms B → Branches ms R → Branches ms (λ o ps end. ClauseAt code line ps end B (λ rest. R o rest end))
   clause_branches {B} {R} ms line b c = record {
     rises = λ o ps a z h. let k = b.rises a h.middle h.body in let l = c.rises o h.rest (h.middle + 1) z h.others in omega arith;
     bounds = λ o ps a z h.
@@ -215,7 +215,7 @@ module _ (code : Laid) (table : List RoutineCode) (any : Bool) where
 
   -- the choice of a branch
 
-  pub chooses_paces : {B : ℕ → List ℕ → ℕ → ℕ → ℕ → Type 0} → (ms : List Mark) (line clauses : ℕ) → Branches ms B → Paces ms (ChoosesAt code line clauses B)
+  pub chooses_paces : {B : ℕ → List ℕ → ℕ → ℕ → ℕ → Type 0} → (ms : List CodeMark) (line clauses : ℕ) → Branches ms B → Paces ms (ChoosesAt code line clauses B)
   chooses_paces {B} ms line clauses b = record {
     rises = λ a z h. let k = jumps_long line (h.otherwise ∷ h.places) (a + 1) h.middle h.jumps in let l = b.rises h.otherwise h.places h.middle z h.branches in omega arith;
     plain = λ a z h p.

@@ -3,7 +3,7 @@ use Rattle.std.proofs.Common.{◌≡◌, ℕ, zero, suc, ◌+◌, ◌-◌, ◌<�
 use Rattle.std.specs.Prelude.{slice_set}
 use Rattle.std.proofs.lemmas.List.{take_more, take_all}
 use Rattle.uc_code.specs.declared.rows.HandlerRow.{HandlerRow}
-use Rattle.uc_code.specs.declared.rows.Mark.{Mark}
+use Rattle.uc_code.specs.declared.rows.CodeMark.{CodeMark}
 use Rattle.uc_code.specs.OpenRows.{closed_row, closed_rows}
 use Rattle.uc_code.proofs.Closing.{reverse_push}
 
@@ -25,16 +25,16 @@ closed_past rows k here entry n e l = past_is rows k here entry (omega arith)
 
 -- the last mark is the innermost one
 
-last_take : (marks : List Mark) (i : ℕ) (d : Mark) → i < length marks → reverse (take (i + 1) marks) ≡ get_or marks i d ∷ reverse (take i marks)
+last_take : (marks : List CodeMark) (i : ℕ) (d : CodeMark) → i < length marks → reverse (take (i + 1) marks) ≡ get_or marks i d ∷ reverse (take i marks)
 last_take marks i d l = ap reverse (take_more marks i d l) ∙ reverse_push (take i marks) (get_or marks i d)
 
-pub reverse_take : (marks : List Mark) (i : ℕ) (d : Mark) → 0 < i → i ≤ length marks → reverse (take i marks) ≡ get_or marks (i - 1) d ∷ reverse (take (i - 1) marks)
+pub reverse_take : (marks : List CodeMark) (i : ℕ) (d : CodeMark) → 0 < i → i ≤ length marks → reverse (take i marks) ≡ get_or marks (i - 1) d ∷ reverse (take (i - 1) marks)
 reverse_take marks i d p l =
     let e : i ≡ (i - 1) + 1 = omega arith in
     ap (λ k. reverse (take k marks)) e ∙ last_take marks (i - 1) d (omega arith)
 
 -- all but the last
-rest_is : (marks rest : List Mark) → rest ≡ take (length marks - 1) marks → reverse rest ≡ drop 1 (reverse marks)
+rest_is : (marks rest : List CodeMark) → rest ≡ take (length marks - 1) marks → reverse rest ≡ drop 1 (reverse marks)
 rest_is [] rest e = rw e refl
 rest_is (m ∷ ms) rest e =
     let n : ℕ = length ms in
@@ -44,5 +44,5 @@ rest_is (m ∷ ms) rest e =
     let h : rest ≡ take n (m ∷ ms) = e ∙ ap (λ k. take k (m ∷ ms)) f in
     ap reverse h ∙ sym (ap (λ q. drop 1 q) g)
 
-pub reverse_rest : (marks rest : List Mark) (n : ℕ) → n ≡ length marks → rest ≡ take (n - 1) marks → reverse rest ≡ drop 1 (reverse marks)
+pub reverse_rest : (marks rest : List CodeMark) (n : ℕ) → n ≡ length marks → rest ≡ take (n - 1) marks → reverse rest ≡ drop 1 (reverse marks)
 reverse_rest marks rest n e h = rest_is marks rest (h ∙ ap (λ k. take (k - 1) marks) e)

@@ -1,17 +1,17 @@
 -- A row is opened or closed: what stands before keeps its handlers, and the clean-ups that are set stay.
-use Rattle.std.proofs.Common.{◌≡◌, ℕ, zero, suc, ◌<◌, ◌≤◌, List, [], ◌∷◌, ◌++◌, length, reverse, drop, true, Option, Some, refl, ap, sym, subst, ◌∙◌, arith}
+use Rattle.std.proofs.Common.{◌≡◌, ℕ, zero, suc, ◌<◌, ◌≤◌, List, [], ◌∷◌, ◌++◌, length, reverse, drop, true, Option, Some, refl, ap, sym, subst, ◌∙◌, arith, ◌⊎◌, inl, inr}
 use Rattle.std.specs.Prelude.{slice_get}
 use Rattle.std.proofs.lemmas.Bool.{le-leb}
-use Rattle.std.proofs.lemmas.List.{reverse-append, length-reverse}
+use Rattle.std.proofs.lemmas.List.{reverse-append, reverse-reverse, length-reverse}
 use Rattle.uc_code.specs.declared.rows.HandlerRow.{HandlerRow}
 use Rattle.uc_code.specs.declared.rows.RowKind.TheVariants as kind
 use Rattle.uc_code.specs.declared.rows.TheConstants.{ANY_EVENT, OPEN_END}
-use Rattle.uc_code.specs.declared.rows.Mark.{Mark}
+use Rattle.uc_code.specs.declared.rows.CodeMark.{CodeMark}
 use Rattle.uc_code.specs.declared.rows.Opening.{Opening}
 use Rattle.uc_code.specs.declared.rows.Opening.TheVariants as opening
 use Rattle.uc_code.specs.Layout.{covers, takes_events, from_row, from_newest}
-use Rattle.uc_code.specs.OpenRows.{row_in, handler_in, guard_in, opening_mark, opening_kind, made, Nested, Bare, Ended, InBody, InLoop, InRow, closed_row, closed_rows}
-use Rattle.uc_code.proofs.Nesting.{nested_rise}
+use Rattle.uc_code.specs.OpenRows.{row_in, handler_in, guard_in, opening_mark, opening_kind, made, Nested, Bare, Ended, InBody, InLoop, InRow, IsEnded, AreEnded, IsSettled, closed_row, closed_rows}
+use Rattle.uc_code.proofs.Nesting.{nested_rise, older_named}
 
 pub reverse_cons : {X : Type 0} → (x : X) (xs : List X) → reverse (x ∷ xs) ≡ reverse xs ++ x ∷ []
 reverse_cons x xs = reverse-append (x ∷ []) xs
@@ -92,7 +92,7 @@ module _ (here entry : ℕ) where
       rw (e, closes_row ps os k s.outer c, closes_newest ps os k next c h g) refl
 
   -- the row of the innermost mark is closed, and the mark is left
-  pub record Leaves (rs : List HandlerRow) (ms : List Mark) (k : ℕ) : Type 0 where
+  pub record Leaves (rs : List HandlerRow) (ms : List CodeMark) (k : ℕ) : Type 0 where
     pub rows : List HandlerRow
     pub row : HandlerRow
     pub closes : Closes rs rows k
@@ -106,7 +106,7 @@ module _ (here entry : ℕ) where
   some_is : (a b : ℕ) → (let o : Option ℕ = Some a in o ≡ Some b) → a ≡ b
   some_is a b e = cc
 
-  row_is : (o : Opening) (n k : ℕ) (ms : List Mark) → row_in (opening_mark o n ∷ ms) ≡ Some k → n ≡ k
+  row_is : (o : Opening) (n k : ℕ) (ms : List CodeMark) → row_in (opening_mark o n ∷ ms) ≡ Some k → n ≡ k
   row_is (opening.Main main routine line) n k ms e = some_is n k e
   row_is (opening.Whole leave) n k ms e = some_is n k e
   row_is opening.Handler n k ms e = some_is n k e
@@ -115,7 +115,7 @@ module _ (here entry : ℕ) where
   row_is opening.Elements n k ms e = some_is n k e
   row_is (opening.Outward below) n k ms e = some_is n k e
 
-  clean_is : (o : Opening) (from n k : ℕ) (ms ns : List Mark) → handler_in (opening_mark o n ∷ ms) ≡ Some k → IsCleanUp (made o from ns)
+  clean_is : (o : Opening) (from n k : ℕ) (ms ns : List CodeMark) → handler_in (opening_mark o n ∷ ms) ≡ Some k → IsCleanUp (made o from ns)
   clean_is (opening.Main main routine line) from n k ms ns e = record { kind = refl; event = refl; rest = refl }
   clean_is (opening.Whole leave) from n k ms ns e = record { kind = refl; event = refl; rest = refl }
   clean_is opening.Handler from n k ms ns e = absurd (cc)
@@ -124,7 +124,7 @@ module _ (here entry : ℕ) where
   clean_is opening.Elements from n k ms ns e = record { kind = refl; event = refl; rest = refl }
   clean_is (opening.Outward below) from n k ms ns e = absurd (cc)
 
-  guard_is : (o : Opening) (n k : ℕ) (ms : List Mark) → guard_in (opening_mark o n ∷ ms) ≡ Some k → takes_events (opening_kind o) ≡ true
+  guard_is : (o : Opening) (n k : ℕ) (ms : List CodeMark) → guard_in (opening_mark o n ∷ ms) ≡ Some k → takes_events (opening_kind o) ≡ true
   guard_is (opening.Main main routine line) n k ms e = absurd (cc)
   guard_is (opening.Whole leave) n k ms e = absurd (cc)
   guard_is opening.Handler n k ms e = refl
@@ -133,15 +133,18 @@ module _ (here entry : ℕ) where
   guard_is opening.Elements n k ms e = absurd (cc)
   guard_is (opening.Outward below) n k ms e = absurd (cc)
 
-  pub leaves : (at : ℕ) (rs : List HandlerRow) (ms : List Mark) (k : ℕ) → at ≤ here → Nested at rs ms → row_in ms ≡ Some k → Leaves rs ms k
+  pub leaves : (at : ℕ) (rs : List HandlerRow) (ms : List CodeMark) (k : ℕ) → at ≤ here → Nested at rs ms → row_in ms ≡ Some k → Leaves rs ms k
   leaves at rs ms k g Bare e = absurd (cc)
   leaves at rs ms k g (Ended r qs _ l n) e =
       let f = leaves at qs ms k g n e in
+      let w = l.within in
+      let o = l.outer in
+      let len : length f.rows ≡ length qs = closes_length qs f.rows k f.closes in
       record {
         rows = r ∷ f.rows;
         row = f.row;
         closes = Later r qs f.rows k f.closes;
-        nested = Ended r f.rows (drop 1 ms) (omega arith) f.nested;
+        nested = Ended r f.rows (drop 1 ms) (record { within = omega arith; range = l.range; outer = omega arith }) f.nested;
         there = older_of r f.row qs k f.there;
         bare = f.bare;
         lasts = f.lasts;
@@ -157,10 +160,53 @@ module _ (here entry : ℕ) where
         rows = closed_row here entry r ∷ qs;
         row = r;
         closes = subst (λ m. Closes (r ∷ qs) (closed_row here entry r ∷ qs) m) q (Top r qs refl);
-        nested = Ended (closed_row here entry r) qs ns (omega arith) (nested_rise at here g qs ns n);
+        nested = Ended (closed_row here entry r) qs ns (record { within = omega arith; range = omega arith; outer = older_named at o qs ns n }) (nested_rise at here g qs ns n);
         there = subst (λ m. slice_get (reverse (r ∷ qs)) m ≡ Some r) q (last_of r qs);
         bare = refl;
         lasts = refl;
         clean = λ h. clean_is o from (length qs) k ns ns h;
         guard = λ h. guard_is o (length qs) k ns h;
       }
+
+-- where there is no mark, all rows have ended
+
+record Last (xs : List HandlerRow) (x : HandlerRow) (n : ℕ) (y : HandlerRow) : Type 0 where
+  pub number : n ≡ length xs
+  pub is : x ≡ y
+
+seen_at : (xs : List HandlerRow) (x : HandlerRow) (n : ℕ) (y : HandlerRow) → slice_get (xs ++ x ∷ []) n ≡ Some y → (slice_get xs n ≡ Some y) ⊎ Last xs x n y
+seen_at [] x zero y e = inr (record { number = refl; is = cc })
+seen_at [] x (suc n) y e = absurd (cc)
+seen_at (z ∷ xs) x zero y e = inl e
+seen_at (z ∷ xs) x (suc n) y e = elim (seen_at xs x n y e) [
+  | inl f ↦ inl f
+  | inr l ↦ inr (record { number = ap suc l.number; is = l.is })
+]
+
+no_row : (n : ℕ) (r : HandlerRow) → slice_get (reverse []) n ≡ Some r → ⊥
+no_row zero r e = absurd (cc)
+no_row (suc n) r e = absurd (cc)
+
+mark_there : (o : Opening) (n : ℕ) (ms : List CodeMark) → opening_mark o n ∷ ms ≡ [] → ⊥
+mark_there o n ms e = cc
+
+rows_end : (here there : ℕ) (rs : List HandlerRow) (ms : List CodeMark) → here ≤ there → ms ≡ [] → Nested here rs ms → (n : ℕ) (r : HandlerRow) → slice_get (reverse rs) n ≡ Some r → IsEnded there n r
+rows_end here there rs ms l f Bare n r e = absurd (no_row n r e)
+rows_end here there rs ms l f (Ended q qs _ w k) n r e = elim (seen_at (reverse qs) q n r (ap (λ x. slice_get x n) (sym (reverse_cons q qs)) ∙ e)) [
+  | inl g ↦ rows_end here there qs ms l f k n r g
+  | inr a ↦
+      let m : length (reverse qs) ≡ length qs = length-reverse qs in
+      let i = w.within in
+      let o = w.outer in
+      let b = a.number in
+      let c : IsEnded there n q = record { within = omega arith; range = w.range; outer = omega arith } in
+      subst (IsEnded there n) a.is c
+]
+rows_end here there rs ms l f (InBody routine _ qs k) n r e = absurd (cc)
+rows_end here there rs ms l f (InLoop leave again _ qs k) n r e = absurd (cc)
+rows_end here there rs ms l f (InRow o from qs ns g k) n r e = absurd (mark_there o (length qs) ns f)
+
+pub all_ended : (ops settled : ℕ) (rows : List HandlerRow) (ms : List CodeMark) → IsSettled ops settled rows ms → ms ≡ [] → AreEnded ops rows
+all_ended ops settled rows ms s e = record {
+  each = λ n r g. rows_end settled ops (reverse rows) ms s.past e s.nested n r (ap (λ l. slice_get l n) (reverse-reverse rows) ∙ g);
+}

@@ -8,8 +8,8 @@ use Rattle.uc_code.specs.declared.rows.Cleaning.{Cleaning}
 use Rattle.uc_code.specs.declared.rows.Cleaning.TheVariants as cleaning
 use Rattle.uc_code.specs.declared.rows.Manner.{Manner}
 use Rattle.uc_code.specs.declared.rows.Manner.TheVariants as manner
-use Rattle.uc_code.specs.declared.rows.Mark.{Mark}
-use Rattle.uc_code.specs.declared.rows.Mark.TheVariants as mark
+use Rattle.uc_code.specs.declared.rows.CodeMark.{CodeMark}
+use Rattle.uc_code.specs.declared.rows.CodeMark.TheVariants as mark
 use Rattle.uc_code.specs.declared.rows.ObjectCall.{ObjectCall}
 use Rattle.uc_code.specs.declared.rows.Opening.TheVariants as opening
 use Rattle.uc_code.specs.Drafts.{Draft}
@@ -17,15 +17,18 @@ use Rattle.uc_code.specs.Layout.{Laid, laid_in, handlers, under, routine_in}
 use Rattle.uc_code.specs.CodeShapes.{One, Risk, CallsBehind, Both, LeavesAt, Kept}
 use Rattle.uc_code.specs.Lowered.{CalledAt, CallDone, CleanBy, CleanAt, ExitAt}
 use Rattle.uc_code.specs.OpenRows.{Below, Falling, AllBehind, row_in, opened, closed, exit_room}
-use Rattle.uc_code.specs.Emits.{Puts, PutsLeft, Leaves}
+use Rattle.uc_code.specs.RowCounts.{cleaning_rows, exit_rows}
+use Rattle.uc_code.specs.RowGrowth.{AddsRows}
+use Rattle.uc_code.specs.Emits.{Puts, PutsLeft, Leaves, clean_length}
+use Rattle.uc_code.proofs.Growth.{rows_as, rows_then, rows_last, rows_opened, rows_closed}
 use Rattle.uc_code.proofs.Stable.{kept_then, kept_piece, kept_refl}
 use Rattle.uc_code.proofs.Nesting.{under_all, under_drop}
-use Rattle.uc_code.proofs.Putting.{clean_stable, marks_of}
+use Rattle.uc_code.proofs.Putting.{clean_stable, clean_is, marks_of}
 use Rattle.uc_code.proofs.Sweeping.{like_puts, like_opened, like_closed, like_rest, closed_ops, closed_marks}
 
 -- a clean-up is the same under marks with the same handlers in the same routine
 
-module _ (code : Laid) (line : ℕ) (ms ns : List Mark) (h : handlers ms ≡ handlers ns) (r : routine_in ms ≡ routine_in ns) where
+module _ (code : Laid) (line : ℕ) (ms ns : List CodeMark) (h : handlers ms ≡ handlers ns) (r : routine_in ms ≡ routine_in ns) where
   risk_moves : (o : Op) (a z : ℕ) → Risk code ms o line a z → Risk code ns o line a z
   risk_moves o a z k = record { here = k.here; end = k.end; under = k.under ∙ h }
 
@@ -58,7 +61,7 @@ module _ (code : Laid) (line : ℕ) (ms ns : List Mark) (h : handlers ms ≡ han
     second = k.second;
   }
 
-module _ (code : Laid) (line : ℕ) (ms ns : List Mark) (h : handlers ms ≡ handlers ns) (r : routine_in ms ≡ routine_in ns) where
+module _ (code : Laid) (line : ℕ) (ms ns : List CodeMark) (h : handlers ms ≡ handlers ns) (r : routine_in ms ≡ routine_in ns) where
   by_moves : (o : Option Array) (what : ObjectCall) (a z : ℕ) → CleanBy code line o what ms a z → CleanBy code line o what ns a z
   by_moves None what a z k = done_moves code line ms ns h r what a z k
   by_moves (Some x) what a z k =
@@ -89,8 +92,8 @@ module _ (code : Laid) (line : ℕ) (ms ns : List Mark) (h : handlers ms ≡ han
 
 -- a clean-up on the way out: a row that performs nothing is around it
 
-module _ (what : Cleaning) (row line : ℕ) (d0 d1 d2 d3 : Draft) (o1 : d1 ≡ opened (opening.Outward row) d0) (k1 : Kept (laid_in d0) (laid_in d1)) (p2 : Puts 23 (λ code. CleanAt code line what d1.marks) d1 d2) (c3 : d3 ≡ closed 1 d2) (k3 : Kept (laid_in d2) (laid_in d3)) where
-  abbrev ns : List Mark
+module _ (what : Cleaning) (row line : ℕ) (d0 d1 d2 d3 : Draft) (o1 : d1 ≡ opened (opening.Outward row) d0) (k1 : Kept (laid_in d0) (laid_in d1)) (p2 : Puts (cleaning_rows what) 23 (λ code. CleanAt code line what d1.marks) d1 d2) (c3 : d3 ≡ closed 1 d2) (k3 : Kept (laid_in d2) (laid_in d3)) where
+  abbrev ns : List CodeMark
   ns = mark.Outward row (length d0.rows) ∷ d0.marks
 
   marks1 : d1.marks ≡ ns
@@ -100,7 +103,7 @@ module _ (what : Cleaning) (row line : ℕ) (d0 d1 d2 d3 : Draft) (o1 : d1 ≡ o
   marks2 = marks_of p2 ∙ marks1
 
   marks3 : d3.marks ≡ d0.marks
-  marks3 = closed_marks 1 (length d0.rows) d2 d3 c3 (ap (λ (l : List Mark). row_in l) marks2) ∙ ap (λ (l : List Mark). drop 1 l) marks2
+  marks3 = closed_marks 1 (length d0.rows) d2 d3 c3 (ap (λ (l : List CodeMark). row_in l) marks2) ∙ ap (λ (l : List CodeMark). drop 1 l) marks2
 
   ops1 : length d1.ops ≡ length d0.ops
   ops1 = ap (λ (d : Draft). length d.ops) o1
@@ -111,10 +114,19 @@ module _ (what : Cleaning) (row line : ℕ) (d0 d1 d2 d3 : Draft) (o1 : d1 ≡ o
   moved : CleanAt (laid_in d3) line what d1.marks (length d1.ops) (length d2.ops)
   moved = kept_piece (λ c. CleanAt c line what d1.marks) (clean_stable line what d1.marks) (laid_in d2) (laid_in d3) (length d1.ops) (length d2.ops) (omega arith) k3 p2.code
 
+  grown : AddsRows (suc (cleaning_rows what)) (length d3.ops + 1) d0 d3
+  grown =
+      let g1 : AddsRows 1 (length d1.ops) d0 d1 = rows_opened (opening.Outward row) d0 d1 o1 in
+      let g2 : AddsRows (1 + cleaning_rows what) (length d2.ops) d0 d2 = rows_then p2.kept.longer g1 p2.rows in
+      let one : 1 + cleaning_rows what ≡ suc (cleaning_rows what) = omega arith in
+      let g3 : AddsRows (1 + cleaning_rows what) (length d2.ops + 1) d0 d3 = rows_last (omega arith) g2 (rows_closed 1 d2 d3 c3) in
+      rows_as one (let b = ops3 in omega arith) g3
+
   pub puts_left : PutsLeft what row line d0 d3
   puts_left = record {
     rest = like_rest d0 d3 (like_closed 1 d0 d2 d3 (like_puts d0 d1 d2 (like_opened (opening.Outward row) d0 d0 d1 refl o1) p2) c3) marks3;
     kept = kept_then (laid_in d0) (laid_in d1) (laid_in d3) k1 (kept_then (laid_in d1) (laid_in d2) (laid_in d3) p2.kept k3);
+    rows = grown;
     room = (let r = p2.room in let a = ops1 in let b = ops3 in omega arith);
     code = λ ms h r.
         let g : handlers d1.marks ≡ handlers ms = ap handlers marks1 ∙ sym h in
@@ -129,7 +141,7 @@ below_least a b [] h k = tt
 below_least a b (n ∷ ns) h k = let l = h.0 in let m = k.0 in (omega arith, below_least a b ns h.1 k.1)
 
 -- from some marks on to those that are left of them
-pub record Passing (all rest : List Mark) : Type 0 where
+pub record Passing (all rest : List CodeMark) : Type 0 where
   pub bound : ℕ
   pub low : Below bound (handlers rest)
   pub cut : (k : ℕ) → k ≤ bound → under k (handlers all) ≡ under k (handlers rest)
@@ -149,14 +161,14 @@ below_bound : (ns : List ℕ) → Below (bound_of ns) ns
 below_bound [] = tt
 below_bound (n ∷ ns) = (omega arith, below_more (bound_of ns) (max (suc n) (bound_of ns)) ns (omega arith) (below_bound ns))
 
-pub passes_none : (all : List Mark) → Falling all → AllBehind all → Passing all all
+pub passes_none : (all : List CodeMark) → Falling all → AllBehind all → Passing all all
 passes_none all f b = record { bound = bound_of (handlers all); low = below_bound (handlers all); cut = λ k l. refl; routine = refl; falling = f; behind = b }
 
 drop_row : (k row : ℕ) (ns : List ℕ) → k ≤ row → under k (row ∷ ns) ≡ under k ns
 drop_row k row ns l = under_drop k row ns l
 
 -- a row is passed
-pass_row : (all : List Mark) (m : Mark) (rest : List Mark) (row : ℕ) → handlers (m ∷ rest) ≡ row ∷ handlers rest → routine_in (m ∷ rest) ≡ routine_in rest → Below row (handlers rest) → Falling rest → AllBehind rest → Passing all (m ∷ rest) → Passing all rest
+pass_row : (all : List CodeMark) (m : CodeMark) (rest : List CodeMark) (row : ℕ) → handlers (m ∷ rest) ≡ row ∷ handlers rest → routine_in (m ∷ rest) ≡ routine_in rest → Below row (handlers rest) → Falling rest → AllBehind rest → Passing all (m ∷ rest) → Passing all rest
 pass_row all m rest row h r b f s p =
     let low : Below p.bound (row ∷ handlers rest) = subst (Below p.bound) h p.low in
     let l = low.0 in
@@ -170,60 +182,70 @@ pass_row all m rest row h r b f s p =
     }
 
 -- so the clean-up of a scope that is left has the rows around it
-pub passes_under : (all : List Mark) (what : Cleaning) (line row : ℕ) (rest : List Mark) → Passing all (mark.Clean what line row ∷ rest) → handlers rest ≡ under row (handlers all)
+pub passes_under : (all : List CodeMark) (what : Cleaning) (line row : ℕ) (rest : List CodeMark) → Passing all (mark.Clean what line row ∷ rest) → handlers rest ≡ under row (handlers all)
 passes_under all what line row rest p =
     let low : Below p.bound (row ∷ handlers rest) = p.low in
     let l = low.0 in
     sym (p.cut row (omega arith) ∙ (drop_row row row (handlers rest) (omega arith) ∙ under_all row (handlers rest) p.falling.0))
 
-pub passes_clean : (all : List Mark) (what : Cleaning) (line row : ℕ) (rest : List Mark) → Passing all (mark.Clean what line row ∷ rest) → Passing all rest
+pub passes_clean : (all : List CodeMark) (what : Cleaning) (line row : ℕ) (rest : List CodeMark) → Passing all (mark.Clean what line row ∷ rest) → Passing all rest
 passes_clean all what line row rest p = pass_row all (mark.Clean what line row) rest row refl refl p.falling.0 p.falling.1 p.behind.1 p
 
-pub passes_part : (all : List Mark) (row : ℕ) (rest : List Mark) → Passing all (mark.Part row ∷ rest) → Passing all rest
+pub passes_part : (all : List CodeMark) (row : ℕ) (rest : List CodeMark) → Passing all (mark.Part row ∷ rest) → Passing all rest
 passes_part all row rest p = pass_row all (mark.Part row) rest row refl refl p.falling.0 p.falling.1 p.behind p
 
-pub passes_elements : (all : List Mark) (row : ℕ) (rest : List Mark) → Passing all (mark.Elements row ∷ rest) → Passing all rest
+pub passes_elements : (all : List CodeMark) (row : ℕ) (rest : List CodeMark) → Passing all (mark.Elements row ∷ rest) → Passing all rest
 passes_elements all row rest p = pass_row all (mark.Elements row) rest row refl refl p.falling.0 p.falling.1 p.behind p
 
-pub passes_guard : (all : List Mark) (row : ℕ) (rest : List Mark) → Passing all (mark.Guard row ∷ rest) → Passing all rest
+pub passes_guard : (all : List CodeMark) (row : ℕ) (rest : List CodeMark) → Passing all (mark.Guard row ∷ rest) → Passing all rest
 passes_guard all row rest p = pass_row all (mark.Guard row) rest row refl refl p.falling.0 p.falling.1 p.behind p
 
-pub passes_loop : (all : List Mark) (leave again : ℕ) (rest : List Mark) → Passing all (mark.Loop leave again ∷ rest) → Passing all rest
+pub passes_loop : (all : List CodeMark) (leave again : ℕ) (rest : List CodeMark) → Passing all (mark.Loop leave again ∷ rest) → Passing all rest
 passes_loop all leave again rest p = record { bound = p.bound; low = p.low; cut = p.cut; routine = p.routine; falling = p.falling; behind = p.behind }
 
 -- what is left of an exit
 
 pub leaves_none : (w : Way) (old : Draft) → Leaves w old old old.marks
-leaves_none w old = record { same = refl; kept = kept_refl (laid_in old); room = omega arith; on = λ code z k h. h }
+leaves_none w old = record { same = refl; kept = kept_refl (laid_in old); more = refl; begin = λ k l b. b; room = omega arith; on = λ code z k h. h }
 
 -- a mark that takes no ops on the way
-pub leaves_mark : (w : Way) (old now : Draft) (m : Mark) (rest : List Mark) → exit_room (m ∷ rest) ≡ exit_room rest → ((code : Laid) (a z : ℕ) → ExitAt code w rest a z → ExitAt code w (m ∷ rest) a z) → Leaves w old now (m ∷ rest) → Leaves w old now rest
-leaves_mark w old now m rest e f p = record {
+pub leaves_mark : (w : Way) (old now : Draft) (m : CodeMark) (rest : List CodeMark) → exit_room (m ∷ rest) ≡ exit_room rest → exit_rows w (m ∷ rest) ≡ exit_rows w rest → ((code : Laid) (a z : ℕ) → ExitAt code w rest a z → ExitAt code w (m ∷ rest) a z) → Leaves w old now (m ∷ rest) → Leaves w old now rest
+leaves_mark w old now m rest e i f p = record {
   same = p.same;
   kept = p.kept;
+  more = let r = p.more in omega arith;
+  begin = p.begin;
   room = let r = p.room in omega arith;
   on = λ code z k h. p.on code z k (f code (length now.ops) z h);
 }
 
-clean_exit : (code : Laid) (w : Way) (what : Cleaning) (line row : ℕ) (rest : List Mark) (a z : ℕ) → Both (CleanAt code line what rest) (ExitAt code w rest) a z → ExitAt code w (mark.Clean what line row ∷ rest) a z
+clean_exit : (code : Laid) (w : Way) (what : Cleaning) (line row : ℕ) (rest : List CodeMark) (a z : ℕ) → Both (CleanAt code line what rest) (ExitAt code w rest) a z → ExitAt code w (mark.Clean what line row ∷ rest) a z
 clean_exit code ToBreak what line row rest a z h = h
 clean_exit code ToContinue what line row rest a z h = h
 clean_exit code ToReturn what line row rest a z h = h
 clean_exit code ToEnd what line row rest a z h = h
 
+clean_exit_rows : (w : Way) (what : Cleaning) (line row : ℕ) (rest : List CodeMark) → exit_rows w (mark.Clean what line row ∷ rest) ≡ suc (cleaning_rows what + exit_rows w rest)
+clean_exit_rows ToBreak what line row rest = refl
+clean_exit_rows ToContinue what line row rest = refl
+clean_exit_rows ToReturn what line row rest = refl
+clean_exit_rows ToEnd what line row rest = refl
+
 same_then : (a b c : Draft) → b ≡ record a { ops = b.ops; rows = b.rows; settled = b.settled } → c ≡ record b { ops = c.ops; rows = c.rows; settled = c.settled } → c ≡ record a { ops = c.ops; rows = c.rows; settled = c.settled }
 same_then a b c h k = k ∙ ap (λ d. let e : Draft = record d { ops = c.ops; rows = c.rows; settled = c.settled } in e) h
 
 -- the scope of an object is left
-pub leaves_clean : (w : Way) (old now next : Draft) (what : Cleaning) (line row : ℕ) (rest : List Mark) → Passing old.marks (mark.Clean what line row ∷ rest) → Leaves w old now (mark.Clean what line row ∷ rest) → PutsLeft what row line now next → Leaves w old next rest
+pub leaves_clean : (w : Way) (old now next : Draft) (what : Cleaning) (line row : ℕ) (rest : List CodeMark) → Passing old.marks (mark.Clean what line row ∷ rest) → Leaves w old now (mark.Clean what line row ∷ rest) → PutsLeft what row line now next → Leaves w old next rest
 leaves_clean w old now next what line row rest s p q =
     let m : now.marks ≡ old.marks = ap (λ (d : Draft). d.marks) p.same in
-    let h : handlers rest ≡ under row (handlers now.marks) = passes_under old.marks what line row rest s ∙ ap (λ (ms : List Mark). under row (handlers ms)) (sym m) in
+    let h : handlers rest ≡ under row (handlers now.marks) = passes_under old.marks what line row rest s ∙ ap (λ (ms : List CodeMark). under row (handlers ms)) (sym m) in
     let r : routine_in rest ≡ routine_in now.marks = s.routine ∙ ap routine_in (sym m) in
     let c : CleanAt (laid_in next) line what rest (length now.ops) (length next.ops) = q.code rest h r in
     record {
       same = same_then old now next p.same q.rest;
       kept = kept_then (laid_in old) (laid_in now) (laid_in next) p.kept q.kept;
+      more = (let a = p.more in let b = q.rows.more in let e = clean_exit_rows w what line row rest in omega arith);
+      begin = λ k l b. q.rows.begin k l (p.begin k (let n : length next.ops ≡ length now.ops + clean_length what = clean_is (laid_in next) line what rest (length now.ops) (length next.ops) c in omega arith) b);
       room = (let a = p.room in let b = q.room in omega arith);
       on = λ code z k g. p.on code z (kept_then (laid_in now) (laid_in next) code q.kept k) (clean_exit code w what line row rest (length now.ops) z (record {
         middle = length next.ops;
@@ -233,10 +255,14 @@ leaves_clean w old now next what line row rest s p q =
     }
 
 -- the last op of an exit
-pub leaves_end : (w : Way) (old now new : Draft) (rest : List Mark) (o : Op) (line : ℕ) → 1 ≤ exit_room rest → ((code : Laid) (a z : ℕ) → One code o line a z → ExitAt code w rest a z) → Leaves w old now rest → Puts 1 (λ code. One code o line) now new → Puts (exit_room old.marks) (λ code. ExitAt code w old.marks) old new
-leaves_end w old now new rest o line l f p q = record {
+pub leaves_end : (w : Way) (old now new : Draft) (rest : List CodeMark) (o : Op) (line : ℕ) → 1 ≤ exit_room rest → exit_rows w rest ≡ 0 → ((code : Laid) (a z : ℕ) → One code o line a z → ExitAt code w rest a z) → Leaves w old now rest → Puts 0 1 (λ code. One code o line) now new → Puts (exit_rows w old.marks) (exit_room old.marks) (λ code. ExitAt code w old.marks) old new
+leaves_end w old now new rest o line l i f p q = record {
   rest = same_then old now new p.same q.rest;
   kept = kept_then (laid_in old) (laid_in now) (laid_in new) p.kept q.kept;
+  rows = record {
+    more = let a = p.more in let b = q.rows.more in omega arith;
+    begin = λ k g b. q.rows.begin k g (p.begin k (let e = q.code.end in omega arith) b);
+  };
   room = let a = p.room in let b = q.room in omega arith;
   code = p.on (laid_in new) (length new.ops) q.kept (f (laid_in new) (length now.ops) (length new.ops) q.code);
 }

@@ -6,8 +6,8 @@ use Rattle.uc_code.specs.declared.rows.MainOf.{MainOf}
 use Rattle.uc_code.specs.declared.rows.MainOf.TheVariants as main_of
 use Rattle.uc_code.specs.declared.rows.Handler.{Handler}
 use Rattle.uc_code.specs.declared.rows.HandlerRow.{HandlerRow}
-use Rattle.uc_code.specs.declared.rows.Mark.{Mark}
-use Rattle.uc_code.specs.declared.rows.Mark.TheVariants as mark
+use Rattle.uc_code.specs.declared.rows.CodeMark.{CodeMark}
+use Rattle.uc_code.specs.declared.rows.CodeMark.TheVariants as mark
 use Rattle.uc_code.specs.declared.rows.RoutineCode.{RoutineCode}
 use Rattle.uc_code.specs.declared.rows.RowKind.TheVariants.{CatchResume}
 use Rattle.uc_code.specs.Layout.{Laid, handlers, guards}
@@ -19,7 +19,7 @@ use Rattle.uc_code.proofs.Powers.{power_rises}
 use Rattle.uc_code.proofs.Pacing as pacing
 
 module _ (code : Laid) (table : List RoutineCode) (any : Bool) where
-  abbrev Paces : List Mark → (ℕ → ℕ → Type 0) → Type 0
+  abbrev Paces : List CodeMark → (ℕ → ℕ → Type 0) → Type 0
   Paces ms B = pacing.Paces code table any ms B
 
   abbrev Loud : ℕ → ℕ → Type 0
@@ -30,7 +30,7 @@ module _ (code : Laid) (table : List RoutineCode) (any : Bool) where
 
   -- a block that is left as a whole
 
-  pub whole_paces : (ms : List Mark) (line : ℕ) (B : List Mark → ℕ → ℕ → Type 0) → ((ns : List Mark) → Paces ns (B ns)) → Paces ms (WholeAt code line ms B)
+  pub whole_paces : (ms : List CodeMark) (line : ℕ) (B : List CodeMark → ℕ → ℕ → Type 0) → ((ns : List CodeMark) → Paces ns (B ns)) → Paces ms (WholeAt code line ms B)
   whole_paces ms line B b =
       let tested = pacing.handled_paces code table any ms line in
       record {
@@ -44,7 +44,7 @@ module _ (code : Laid) (table : List RoutineCode) (any : Bool) where
             let e : a + 2 ≡ (a + 1) + 1 = omega arith in
             jump_plain code table a (a + 2) line h.begin (jump_outside code table (a + 1) z line h.leave (subst (Outside code table) e body.outside));
         each = λ q a z h r p.
-            let m : List Mark = mark.Whole (a + 1) h.row ∷ ms in
+            let m : List CodeMark = mark.Whole (a + 1) h.row ∷ ms in
             let l = (b m).rises (a + 2) h.body_end h.body in
             let i = h.tests.end in
             let t = tested.plain (h.body_end + 1) z h.tests p in
@@ -64,7 +64,7 @@ module _ (code : Laid) (table : List RoutineCode) (any : Bool) where
             join code table h.body_end (h.body_end + 1) z (only code table h.body_end (h.body_end + 1) refl (jump_paced code table h.body_end z line h.skip (omega arith) t.outside p))
             (tested.each q (h.body_end + 1) z h.tests r p))));
         stays = λ from to floor a z h n l k x.
-            let m : List Mark = mark.Whole (a + 1) h.row ∷ ms in
+            let m : List CodeMark = mark.Whole (a + 1) h.row ∷ ms in
             let i = (b m).rises (a + 2) h.body_end h.body in
             let e = h.tests.end in
             let g = row_in code table from to h.row (clean_up (h.body_end + 1)) h.handler (end_in from to a (h.body_end + 1) (omega arith) l (omega arith)) in
@@ -102,8 +102,8 @@ module _ (code : Laid) (table : List RoutineCode) (any : Bool) where
   end_stays main_of.Task from to floor line a z h e = stay_one code table from to floor a z op.EndTask line h e tt
   end_stays main_of.Coroutine from to floor line a z h e = stay_one code table from to floor a z op.EndMain line h e tt
 
-  module _ (main : MainOf) (number line : ℕ) (B : List Mark → ℕ → ℕ → Type 0) (b : (ns : List Mark) → Paces ns (B ns)) where
-    abbrev marks : ℕ → List Mark
+  module _ (main : MainOf) (number line : ℕ) (B : List CodeMark → ℕ → ℕ → Type 0) (b : (ns : List CodeMark) → Paces ns (B ns)) where
+    abbrev marks : ℕ → List CodeMark
     marks row = mark.Finish main number line row ∷ []
 
     pub main_rises : (a z : ℕ) → MainAt code main number line B a z → a < z
@@ -137,7 +137,7 @@ module _ (code : Laid) (table : List RoutineCode) (any : Bool) where
         (left_stays main a to floor line (h.body_end + 1) z h.unwound (omega arith)))
 
   -- the code of one handler, which may go on at this pad
-  pub record Handles (ms : List Mark) (resumes : Bool) (K : ℕ → ℕ → ℕ → Type 0) : Type 0 where
+  pub record Handles (ms : List CodeMark) (resumes : Bool) (K : ℕ → ℕ → ℕ → Type 0) : Type 0 where
     pub rises : (pad a z : ℕ) → K pad a z → a ≤ z
     pub plain : (pad a z : ℕ) → K pad a z → Plain code table z → Plain code table a
     pub each : Starts code table → (pad a z : ℕ) → K pad a z → PadTo code table pad z → Around code table ms z → Plain code table z → Each code table a z
@@ -148,7 +148,7 @@ module _ (code : Laid) (table : List RoutineCode) (any : Bool) where
 
   -- handlers that catch
 
-  pub catch_handles : (ms : List Mark) (line : ℕ) (B : ℕ → ℕ → Type 0) → Paces ms B → Handles ms false (λ pad. Both B (One code (op.Jump pad) line))
+  pub catch_handles : (ms : List CodeMark) (line : ℕ) (B : ℕ → ℕ → Type 0) → Paces ms B → Handles ms false (λ pad. Both B (One code (op.Jump pad) line))
   catch_handles ms line B b = record {
     rises = λ pad a z h. let k = b.rises a h.middle h.first in let e = h.second.end in omega arith;
     plain = λ pad a z h p. b.plain a h.middle h.first (jump_plain code table h.middle pad line h.second.here (subst (Outside code table) h.second.end p.outside));
@@ -165,7 +165,7 @@ module _ (code : Laid) (table : List RoutineCode) (any : Bool) where
   }
 
   -- behind code that only goes on
-  pub kept_handles : (ms : List Mark) (C : ℕ → ℕ → Type 0) (K : ℕ → ℕ → ℕ → Type 0) → Paces ms C → Handles ms false K → Handles ms false (λ pad. Both C (K pad))
+  pub kept_handles : (ms : List CodeMark) (C : ℕ → ℕ → Type 0) (K : ℕ → ℕ → ℕ → Type 0) → Paces ms C → Handles ms false K → Handles ms false (λ pad. Both C (K pad))
   kept_handles ms C K c k = record {
     rises = λ pad a z h. let i = c.rises a h.middle h.first in let j = k.rises pad h.middle z h.second in omega arith;
     plain = λ pad a z h p. c.plain a h.middle h.first (k.plain pad h.middle z h.second p);
@@ -182,11 +182,11 @@ module _ (code : Laid) (table : List RoutineCode) (any : Bool) where
 
   -- handlers of resumptions
 
-  module _ (ms : List Mark) (line : ℕ) (C : ℕ → ℕ → Type 0) (B : List Mark → ℕ → ℕ → Type 0) (c : (ns : List Mark) → Paces ns C) (b : (ns : List Mark) → Paces ns (B ns)) where
+  module _ (ms : List CodeMark) (line : ℕ) (C : ℕ → ℕ → Type 0) (B : List CodeMark → ℕ → ℕ → Type 0) (c : (ns : List CodeMark) → Paces ns C) (b : (ns : List CodeMark) → Paces ns (B ns)) where
     abbrev Apart : ℕ → ℕ → Type 0
     Apart = Both C (ApartAt code ms B)
 
-    abbrev inner : ℕ → List Mark
+    abbrev inner : ℕ → List CodeMark
     inner row = mark.Outward 0 row ∷ ms
 
     apart_longer : (a z : ℕ) → Apart a z → a < z
@@ -204,7 +204,7 @@ module _ (code : Laid) (table : List RoutineCode) (any : Bool) where
 
     apart_stays : (from to floor a z : ℕ) → Apart a z → from ≤ a → z ≤ to → Loud floor to → AllStay code table from to floor a z
     apart_stays from to floor a z h l m x =
-        let ns : List Mark = inner h.second.row in
+        let ns : List CodeMark = inner h.second.row in
         let k = (c ns).rises a h.middle h.first in
         let i = (b ns).rises h.middle h.second.body_end h.second.body in
         let e = h.second.end in
@@ -218,7 +218,7 @@ module _ (code : Laid) (table : List RoutineCode) (any : Bool) where
       rises = λ pad a z h. let l = apart_longer a z h in omega arith;
       plain = λ pad a z h p. (c (inner h.second.row)).plain a h.middle h.first (apart_body a z h p);
       each = λ q pad a z h x r p.
-          let ns : List Mark = inner h.second.row in
+          let ns : List CodeMark = inner h.second.row in
           let k = (b ns).rises h.middle h.second.body_end h.second.body in
           let e = h.second.end in
           join code table a h.middle z ((c ns).each q a h.middle h.first (refl, around_less code table ms h.middle z (omega arith) r) (apart_body a z h p)) (
@@ -235,11 +235,11 @@ module _ (code : Laid) (table : List RoutineCode) (any : Bool) where
     pub ahead : Ahead code table row y ns
     pub same : ahead.handler.rest ≡ rest
 
-  abbrev pub RowsAhead : ℕ → ℕ → List Mark → ℕ → Type 0
+  abbrev pub RowsAhead : ℕ → ℕ → List CodeMark → ℕ → Type 0
   RowsAhead first zero ms y = Unit {0}
   RowsAhead first (suc n) ms y = RowAhead (first + n) y (length (handlers ms)) (handlers (guards first n ms)) × RowsAhead first n ms y
 
-  around_guards : (first n : ℕ) (ms : List Mark) (y : ℕ) → RowsAhead first n ms y → Around code table ms y → Around code table (guards first n ms) y
+  around_guards : (first n : ℕ) (ms : List CodeMark) (y : ℕ) → RowsAhead first n ms y → Around code table ms y → Around code table (guards first n ms) y
   around_guards first zero ms y h r = r
   around_guards first (suc n) ms y h r = (h.0.ahead, around_guards first n ms y h.1 r)
 
@@ -247,7 +247,7 @@ module _ (code : Laid) (table : List RoutineCode) (any : Bool) where
   RowsIn from to first zero = Unit {0}
   RowsIn from to first (suc n) = RowIn code table from to (first + n) × RowsIn from to first n
 
-  env_guards : (from to first n : ℕ) (ms : List Mark) → RowsIn from to first n → Env code table from to ms → Env code table from to (guards first n ms)
+  env_guards : (from to first n : ℕ) (ms : List CodeMark) → RowsIn from to first n → Env code table from to ms → Env code table from to (guards first n ms)
   env_guards from to first zero ms h r = r
   env_guards from to first (suc n) ms h r = (h.0, env_guards from to first n ms h.1 r)
 
@@ -255,18 +255,18 @@ module _ (code : Laid) (table : List RoutineCode) (any : Bool) where
   row_rest n h r a e = let f : Some r ≡ Some a.row = sym e ∙ a.there in let g : r ≡ a.row = cc in ap (λ (q : HandlerRow). q.rest) g ∙ a.rest
 
   -- those of one block have as many rows outwards of it
-  beneath_guards : (entry first n y : ℕ) (ms : List Mark) → RowsAhead first n ms y → Beneath code table entry (length (handlers ms)) (handlers ms) → Beneath code table entry (length (handlers ms)) (handlers (guards first n ms))
+  beneath_guards : (entry first n y : ℕ) (ms : List CodeMark) → RowsAhead first n ms y → Beneath code table entry (length (handlers ms)) (handlers ms) → Beneath code table entry (length (handlers ms)) (handlers (guards first n ms))
   beneath_guards entry first zero y ms h b = b
   beneath_guards entry first (suc n) y ms h b =
       ((λ r q e l. let f : r.rest ≡ length (handlers ms) = row_rest (first + n) h.0.ahead.handler r h.0.ahead.there q ∙ h.0.same in absurd (omega arith)), beneath_guards entry first n y ms h.1 b)
 
   -- there are no fewer rows with them
-  guards_long : (first n : ℕ) (ms : List Mark) → length (handlers ms) ≤ length (handlers (guards first n ms))
+  guards_long : (first n : ℕ) (ms : List CodeMark) → length (handlers ms) ≤ length (handlers (guards first n ms))
   guards_long first zero ms = omega arith
   guards_long first (suc n) ms = let l = guards_long first n ms in omega arith
 
   -- the handlers of a guarded block, in order
-  pub record AllHandle (ms : List Mark) (count : ℕ) (H : ℕ → ℕ → ℕ → ℕ → Type 0) : Type 0 where
+  pub record AllHandle (ms : List CodeMark) (count : ℕ) (H : ℕ → ℕ → ℕ → ℕ → Type 0) : Type 0 where
     pub rises : (first pad a z : ℕ) → H first pad a z → a ≤ z
     pub plain : (first pad a z : ℕ) → H first pad a z → Plain code table z → Plain code table a
     pub each : Starts code table → (first pad a z : ℕ) → H first pad a z → PadTo code table pad z → Around code table ms z → Plain code table z → Each code table a z
@@ -274,7 +274,7 @@ module _ (code : Laid) (table : List RoutineCode) (any : Bool) where
     pub ahead : (first pad a z : ℕ) → H first pad a z → Around code table ms z → Plain code table z → (y : ℕ) → y ≤ a → RowsAhead first count ms y
     pub inside : (from to first pad a z : ℕ) → H first pad a z → from ≤ a → z < to → RowsIn from to first count
 
-  pub no_handles : (ms : List Mark) → AllHandle ms 0 (λ first pad. Nothing)
+  pub no_handles : (ms : List CodeMark) → AllHandle ms 0 (λ first pad. Nothing)
   no_handles ms = record {
     rises = λ first pad a z h. let e = h.end in omega arith;
     plain = λ first pad a z h p. subst (Plain code table) h.end p;
@@ -295,7 +295,7 @@ module _ (code : Laid) (table : List RoutineCode) (any : Bool) where
   no_resumption : {X : Type 0} → kind_of false ≡ CatchResume → X
   no_resumption e = absurd (cc)
 
-  module _ (ms : List Mark) (count : ℕ) (event : Option ℕ) where
+  module _ (ms : List CodeMark) (count : ℕ) (event : Option ℕ) where
     -- what a handler of resumptions may not find begins below its text
     nested : (resumes : Bool) (K : ℕ → ℕ → ℕ → Type 0) → Handles ms resumes K → (first pad a z y : ℕ) → K pad a z → Around code table ms z → RowsAhead first count ms y → kind_of resumes ≡ CatchResume → Beneath code table a (length (handlers ms)) (handlers (guards first count ms))
     nested false K k first pad a z y h r g e = no_resumption e
@@ -344,7 +344,7 @@ module _ (code : Laid) (table : List RoutineCode) (any : Bool) where
 
   -- a guarded block
 
-  pub guarded_paces : (ms : List Mark) (line count : ℕ) (B : List Mark → ℕ → ℕ → Type 0) (H : ℕ → ℕ → ℕ → ℕ → Type 0) → ((ns : List Mark) → Paces ns (B ns)) → AllHandle ms count H → Paces ms (Guarded code line ms count B H)
+  pub guarded_paces : (ms : List CodeMark) (line count : ℕ) (B : List CodeMark → ℕ → ℕ → Type 0) (H : ℕ → ℕ → ℕ → ℕ → Type 0) → ((ns : List CodeMark) → Paces ns (B ns)) → AllHandle ms count H → Paces ms (Guarded code line ms count B H)
   guarded_paces ms line count B H b all =
       let inner = λ (a : ℕ) (z : ℕ) (h : Guarded code line ms count B H a z) (p : Plain code table z).
       (b (guards h.first count ms)).plain (a + 2) h.body_end h.body (jump_plain code table h.body_end (a + 1) line h.leave (all.plain h.first (a + 1) (h.body_end + 1) z h.handlers p).outside) in

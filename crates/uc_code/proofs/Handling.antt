@@ -7,7 +7,7 @@ use Rattle.std.proofs.lemmas.List.{length-reverse}
 use Rattle.uc_code.specs.declared.rows.Handler.{Handler}
 use Rattle.uc_code.specs.declared.rows.HandlerRow.{HandlerRow}
 use Rattle.uc_code.specs.declared.rows.Instruction.{Instruction}
-use Rattle.uc_code.specs.declared.rows.Mark.{Mark}
+use Rattle.uc_code.specs.declared.rows.CodeMark.{CodeMark}
 use Rattle.uc_code.specs.declared.rows.Opening.TheVariants as opening
 use Rattle.uc_code.specs.declared.rows.RowKind.{RowKind}
 use Rattle.uc_code.specs.declared.rows.RowKind.TheVariants as kind
@@ -106,11 +106,14 @@ module _ (h : Handler) (takes : takes_events h.kind ≡ true) where
   none_of all qs k (Later s ps os _ c) e = absurd (cc)
 
   -- a row of a mark is open, and so none of those
-  handles_nested : (here : ℕ) (rs qs : List HandlerRow) (k : ℕ) (ms : List Mark) → Nested here rs ms → Handles rs qs k → Nested here qs ms
+  handles_nested : (here : ℕ) (rs qs : List HandlerRow) (k : ℕ) (ms : List CodeMark) → Nested here rs ms → Handles rs qs k → Nested here qs ms
   handles_nested here rs qs k ms Bare a = none_of rs qs k a refl
   handles_nested here rs qs k ms (Ended r ps _ l n) a = elim (which rs qs k r ps a refl) [
-    | inl t ↦ subst (λ x. Nested here x ms) (sym t.is) (Ended (handled_row h r) ps ms l n)
-    | inr u ↦ subst (λ x. Nested here x ms) (sym u.is) (Ended r u.others ms l (handles_nested here ps u.others k ms n u.handles))
+    | inl t ↦ subst (λ x. Nested here x ms) (sym t.is) (Ended (handled_row h r) ps ms (record { within = l.within; range = l.range; outer = l.outer }) n)
+    | inr u ↦
+        let w : length u.others ≡ length ps = handles_length ps u.others k u.handles in
+        let o = l.outer in
+        subst (λ x. Nested here x ms) (sym u.is) (Ended r u.others ms (record { within = l.within; range = l.range; outer = omega arith }) (handles_nested here ps u.others k ms n u.handles))
   ]
   handles_nested here rs qs k ms (InBody routine _ ns n) a = InBody routine qs ns (handles_nested here rs qs k ns n a)
   handles_nested here rs qs k ms (InLoop leave again _ ns n) a = InLoop leave again qs ns (handles_nested here rs qs k ns n a)
@@ -136,7 +139,7 @@ this_handled h k [] r e = absurd (cc)
 this_handled h zero (q ∷ rs) r e = let f : q ≡ r = cc in rw f refl
 this_handled h (suc k) (q ∷ rs) r e = this_handled h k rs r e
 
-length_handled : (h : Handler) (k : ℕ) (rows : List HandlerRow) → length (handled_rows h k rows) ≡ length rows
+pub length_handled : (h : Handler) (k : ℕ) (rows : List HandlerRow) → length (handled_rows h k rows) ≡ length rows
 length_handled h k [] = refl
 length_handled h zero (r ∷ rs) = refl
 length_handled h (suc k) (r ∷ rs) = ap suc (length_handled h k rs)
@@ -145,7 +148,7 @@ module _ (h : Handler) (ops : List Instruction) (rows : List HandlerRow) (k : �
   changed : Handles h takes (reverse rows) (reverse (handled_rows h k rows)) k
   changed = handles_list h takes rows k b.row b.there b.kind b.ended
 
-  pub settled_handler : (settled : ℕ) (ms : List Mark) → IsSettled (length ops) settled rows ms → IsSettled (length ops) settled (handled_rows h k rows) ms
+  pub settled_handler : (settled : ℕ) (ms : List CodeMark) → IsSettled (length ops) settled rows ms → IsSettled (length ops) settled (handled_rows h k rows) ms
   settled_handler settled ms s = record {
     past = s.past;
     few = let f = s.few in let e = length_handled h k rows in omega arith;
@@ -201,7 +204,7 @@ under_few below (n ∷ ns) = elim (cases_lt n below) [
   | inr l ↦ let e : length (under below (n ∷ ns)) ≡ length (under below ns) = ap length (under_drop below n ns l) in let k = under_few below ns in omega arith
 ]
 
-rows_few : (here : ℕ) (rs : List HandlerRow) (ms : List Mark) → Nested here rs ms → length (handlers ms) ≤ length rs
+rows_few : (here : ℕ) (rs : List HandlerRow) (ms : List CodeMark) → Nested here rs ms → length (handlers ms) ≤ length rs
 rows_few here rs ms Bare = omega arith
 rows_few here rs ms (Ended r qs _ l n) = let k = rows_few here qs ms n in omega arith
 rows_few here rs ms (InBody routine _ ns n) = rows_few here rs ns n
@@ -214,13 +217,13 @@ rows_few here rs ms (InRow opening.Part from qs ns l n) = let k = rows_few here 
 rows_few here rs ms (InRow opening.Elements from qs ns l n) = let k = rows_few here qs ns n in omega arith
 rows_few here rs ms (InRow (opening.Outward below) from qs ns l n) = let k = rows_few here qs ns n in let m = under_few below (handlers ns) in omega arith
 
-pub handlers_few : (ops settled : ℕ) (rows : List HandlerRow) (ms : List Mark) → IsSettled ops settled rows ms → length (handlers ms) ≤ length rows
+pub handlers_few : (ops settled : ℕ) (rows : List HandlerRow) (ms : List CodeMark) → IsSettled ops settled rows ms → length (handlers ms) ≤ length rows
 handlers_few ops settled rows ms s = let l = rows_few settled (reverse rows) ms s.nested in let e = length-reverse rows in omega arith
 
 -- how many rows stand outwards of a guarded block
-pub rows_are : (count all ops settled : ℕ) (seen marks : List Mark) (rows : List HandlerRow) → count ≡ length (under all (handlers (reverse seen))) → seen ≡ marks → all ≡ length rows → IsSettled ops settled rows (reverse marks) → count ≡ length (handlers (reverse marks))
+pub rows_are : (count all ops settled : ℕ) (seen marks : List CodeMark) (rows : List HandlerRow) → count ≡ length (under all (handlers (reverse seen))) → seen ≡ marks → all ≡ length rows → IsSettled ops settled rows (reverse marks) → count ≡ length (handlers (reverse marks))
 rows_are count all ops settled seen marks rows c e n s =
-    c ∙ (ap (λ (l : List Mark). length (under all (handlers (reverse l)))) e ∙ (ap (λ k. length (under k (handlers (reverse marks)))) n ∙ ap length (all_rows ops settled rows (reverse marks) s)))
+    c ∙ (ap (λ (l : List CodeMark). length (under all (handlers (reverse l)))) e ∙ (ap (λ k. length (under k (handlers (reverse marks)))) n ∙ ap length (all_rows ops settled rows (reverse marks) s)))
 
-pub rows_fit : (ops settled : ℕ) (rows : List HandlerRow) (ms : List Mark) → IsSettled ops settled rows ms → Fits w32 (length (handlers ms))
+pub rows_fit : (ops settled : ℕ) (rows : List HandlerRow) (ms : List CodeMark) → IsSettled ops settled rows ms → Fits w32 (length (handlers ms))
 rows_fit ops settled rows ms s = let l = handlers_few ops settled rows ms s in let f = s.few in let g : length (handlers ms) < 2 ^ 32 = omega arith in search (rules, ints, g)

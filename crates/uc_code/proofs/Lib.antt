@@ -5,6 +5,7 @@ pub mod Closed
 pub mod Closing
 pub mod Exiting
 pub mod GuardRows
+pub mod Growth
 pub mod Guards
 pub mod Handling
 pub mod Heights

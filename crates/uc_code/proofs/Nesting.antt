@@ -5,7 +5,7 @@ use Rattle.std.specs.Prelude.{nat_eq, nat_lt}
 use Rattle.std.proofs.lemmas.Bool.{cases_lt, eq-eqb, ne_eqb, lt-ltb, le-ltb, le-leb, lt-leb}
 use Rattle.uc_code.specs.declared.rows.HandlerRow.{HandlerRow}
 use Rattle.uc_code.specs.declared.rows.TheConstants.{OPEN_END}
-use Rattle.uc_code.specs.declared.rows.Mark.{Mark}
+use Rattle.uc_code.specs.declared.rows.CodeMark.{CodeMark}
 use Rattle.uc_code.specs.declared.rows.Opening.{Opening}
 use Rattle.uc_code.specs.declared.rows.Opening.TheVariants as opening
 use Rattle.uc_code.specs.Layout.{under, handlers, covers, counted_by, from_row, from_newest}
@@ -66,7 +66,7 @@ own_in opening.Part n = n ∷ []
 own_in opening.Elements n = n ∷ []
 own_in (opening.Outward below) n = []
 
-handlers_in : (o : Opening) (n : ℕ) (ms : List Mark) → handlers (opening_mark o n ∷ ms) ≡ own_in o n ++ opening_around o ms
+handlers_in : (o : Opening) (n : ℕ) (ms : List CodeMark) → handlers (opening_mark o n ∷ ms) ≡ own_in o n ++ opening_around o ms
 handlers_in (opening.Main main routine line) n ms = refl
 handlers_in (opening.Whole leave) n ms = refl
 handlers_in opening.Handler n ms = refl
@@ -85,7 +85,7 @@ counted_in opening.Elements n = refl
 counted_in (opening.Outward below) n = refl
 
 module _ (here : ℕ) where
-  pub all_below : (rs : List HandlerRow) (ms : List Mark) → Nested here rs ms → Below (length rs) (handlers ms)
+  pub all_below : (rs : List HandlerRow) (ms : List CodeMark) → Nested here rs ms → Below (length rs) (handlers ms)
   all_below rs ms Bare = tt
   all_below rs ms (Ended r qs _ l n) = below_rise (length qs) (length rs) (handlers ms) (omega arith) (all_below qs ms n)
   all_below rs ms (InBody routine _ qs n) = all_below rs qs n
@@ -100,7 +100,7 @@ module _ (here : ℕ) where
 
   -- the rows of marks, where those from a number on are left
 
-  named_own : (o : Opening) (from below : ℕ) (qs : List HandlerRow) (ns : List Mark) → Below (length qs) (handlers ns) → ((b : ℕ) → from_row qs (named_by (under b (handlers ns))) ≡ under b (handlers ns)) → own_in o (length qs) ≡ length qs ∷ [] → opening_around o ns ≡ handlers ns → from_row (made o from ns ∷ qs) (named_by (under below (length qs ∷ handlers ns))) ≡ under below (length qs ∷ handlers ns)
+  named_own : (o : Opening) (from below : ℕ) (qs : List HandlerRow) (ns : List CodeMark) → Below (length qs) (handlers ns) → ((b : ℕ) → from_row qs (named_by (under b (handlers ns))) ≡ under b (handlers ns)) → own_in o (length qs) ≡ length qs ∷ [] → opening_around o ns ≡ handlers ns → from_row (made o from ns ∷ qs) (named_by (under below (length qs ∷ handlers ns))) ≡ under below (length qs ∷ handlers ns)
   named_own o from below qs ns b ih w e = elim (cases_lt (length qs) below) [
     | inl h ↦
         let all : under below (handlers ns) ≡ handlers ns = under_all below (handlers ns) (below_rise (length qs) below (handlers ns) (omega arith) b) in
@@ -116,7 +116,7 @@ module _ (here : ℕ) where
         ap (λ l. from_row (made o from ns ∷ qs) (named_by l)) t ∙ (other_name (made o from ns) qs (under below (handlers ns)) (below_under (length qs) below (handlers ns) b) ∙ (ih below ∙ sym t))
   ]
 
-  pub named : (rs : List HandlerRow) (ms : List Mark) → Nested here rs ms → (below : ℕ) → from_row rs (named_by (under below (handlers ms))) ≡ under below (handlers ms)
+  pub named : (rs : List HandlerRow) (ms : List CodeMark) → Nested here rs ms → (below : ℕ) → from_row rs (named_by (under below (handlers ms))) ≡ under below (handlers ms)
   named rs ms Bare below = refl
   named rs ms (Ended r qs _ l n) below = other_name r qs (under below (handlers ms)) (below_under (length qs) below (handlers ms) (all_below qs ms n)) ∙ named qs ms n below
   named rs ms (InBody routine _ qs n) below = named rs qs n below
@@ -133,12 +133,12 @@ module _ (here : ℕ) where
       let r : HandlerRow = made (opening.Outward less) from ns in
       ap (λ l. from_row (r ∷ qs) (named_by l)) e ∙ (other_name r qs (under (min below less) (handlers ns)) b ∙ (named qs ns n (min below less) ∙ sym e))
 
-  all_named : (qs : List HandlerRow) (ns : List Mark) → Nested here qs ns → from_row qs (named_by (handlers ns)) ≡ handlers ns
+  all_named : (qs : List HandlerRow) (ns : List CodeMark) → Nested here qs ns → from_row qs (named_by (handlers ns)) ≡ handlers ns
   all_named qs ns n =
       let same : under (length qs) (handlers ns) ≡ handlers ns = under_all (length qs) (handlers ns) (all_below qs ns n) in
       ap (λ l. from_row qs (named_by l)) (sym same) ∙ (named qs ns n (length qs) ∙ same)
 
-  around_named : (o : Opening) (qs : List HandlerRow) (ns : List Mark) → Nested here qs ns → from_row qs (named_by (opening_around o ns)) ≡ opening_around o ns
+  around_named : (o : Opening) (qs : List HandlerRow) (ns : List CodeMark) → Nested here qs ns → from_row qs (named_by (opening_around o ns)) ≡ opening_around o ns
   around_named (opening.Main main routine line) qs ns n = all_named qs ns n
   around_named (opening.Whole leave) qs ns n = all_named qs ns n
   around_named opening.Handler qs ns n = all_named qs ns n
@@ -146,6 +146,17 @@ module _ (here : ℕ) where
   around_named opening.Part qs ns n = all_named qs ns n
   around_named opening.Elements qs ns n = all_named qs ns n
   around_named (opening.Outward below) qs ns n = named qs ns n below
+
+  -- the row around a new one is older
+
+  pub older_named : (o : Opening) (qs : List HandlerRow) (ns : List CodeMark) → Nested here qs ns → named_by (opening_around o ns) ≤ length qs
+  older_named (opening.Main main routine line) qs ns n = name_small (length qs) (handlers ns) (all_below qs ns n)
+  older_named (opening.Whole leave) qs ns n = name_small (length qs) (handlers ns) (all_below qs ns n)
+  older_named opening.Handler qs ns n = name_small (length qs) (handlers ns) (all_below qs ns n)
+  older_named (opening.Object what line) qs ns n = name_small (length qs) (handlers ns) (all_below qs ns n)
+  older_named opening.Part qs ns n = name_small (length qs) (handlers ns) (all_below qs ns n)
+  older_named opening.Elements qs ns n = name_small (length qs) (handlers ns) (all_below qs ns n)
+  older_named (opening.Outward below) qs ns n = name_small (length qs) (under below (handlers ns)) (below_under (length qs) below (handlers ns) (all_below qs ns n))
 
   -- each op from here on has the handlers of the marks
 
@@ -156,9 +167,9 @@ module _ (here : ℕ) where
   covers_open : (r : HandlerRow) (next : ℕ) → r.from < next → next ≤ r.to → covers r next ≡ true
   covers_open r next h g = rw (lt-ltb r.from next h, le-leb next r.to g) refl
 
-  pub newest : (rs : List HandlerRow) (ms : List Mark) → Nested here rs ms → (next : ℕ) → here < next → next ≤ OPEN_END → from_newest rs next ≡ handlers ms
+  pub newest : (rs : List HandlerRow) (ms : List CodeMark) → Nested here rs ms → (next : ℕ) → here < next → next ≤ OPEN_END → from_newest rs next ≡ handlers ms
   newest rs ms Bare next g m = refl
-  newest rs ms (Ended r qs _ l n) next g m = let c : covers r next ≡ false = covers_past (nat_lt r.from next) r next refl (omega arith) in rw c (newest qs ms n next g m)
+  newest rs ms (Ended r qs _ l n) next g m = let w = l.within in let c : covers r next ≡ false = covers_past (nat_lt r.from next) r next refl (omega arith) in rw c (newest qs ms n next g m)
   newest rs ms (InBody routine _ qs n) next g m = newest rs qs n next g m
   newest rs ms (InLoop leave again _ qs n) next g m = newest rs qs n next g m
   newest rs ms (InRow o from qs ns l n) next g m =
@@ -168,15 +179,15 @@ module _ (here : ℕ) where
       f ∙ (ap (λ l. l ++ from_row qs (named_by (opening_around o ns))) (counted_in o (length qs)) ∙ (ap (λ l. own_in o (length qs) ++ l) (around_named o qs ns n) ∙ sym (handlers_in o (length qs) ns)))
 
 -- further on all still fits
-pub nested_rise : (here there : ℕ) → here ≤ there → (rs : List HandlerRow) (ms : List Mark) → Nested here rs ms → Nested there rs ms
+pub nested_rise : (here there : ℕ) → here ≤ there → (rs : List HandlerRow) (ms : List CodeMark) → Nested here rs ms → Nested there rs ms
 nested_rise here there g rs ms Bare = Bare
-nested_rise here there g rs ms (Ended r qs _ l n) = Ended r qs ms (omega arith) (nested_rise here there g qs ms n)
+nested_rise here there g rs ms (Ended r qs _ l n) = let w = l.within in Ended r qs ms (record { within = omega arith; range = l.range; outer = l.outer }) (nested_rise here there g qs ms n)
 nested_rise here there g rs ms (InBody routine _ qs n) = InBody routine rs qs (nested_rise here there g rs qs n)
 nested_rise here there g rs ms (InLoop leave again _ qs n) = InLoop leave again rs qs (nested_rise here there g rs qs n)
 nested_rise here there g rs ms (InRow o from qs ns l n) = InRow o from qs ns (omega arith) (nested_rise here there g qs ns n)
 
 -- the rows of the marks fall
-pub falls : (here : ℕ) (rs : List HandlerRow) (ms : List Mark) → Nested here rs ms → Falling ms
+pub falls : (here : ℕ) (rs : List HandlerRow) (ms : List CodeMark) → Nested here rs ms → Falling ms
 falls here rs ms Bare = tt
 falls here rs ms (Ended r qs _ l n) = falls here qs ms n
 falls here rs ms (InBody routine _ qs n) = falls here rs qs n

@@ -9,8 +9,8 @@ use Rattle.uc_code.specs.declared.op.Op.{Op}
 use Rattle.uc_code.specs.declared.op.Op.TheVariants as op
 use Rattle.uc_code.specs.declared.rows.MainOf.{MainOf}
 use Rattle.uc_code.specs.declared.rows.MainOf.TheVariants as main_of
-use Rattle.uc_code.specs.declared.rows.Mark.{Mark}
-use Rattle.uc_code.specs.declared.rows.Mark.TheVariants as mark
+use Rattle.uc_code.specs.declared.rows.CodeMark.{CodeMark}
+use Rattle.uc_code.specs.declared.rows.CodeMark.TheVariants as mark
 use Rattle.uc_code.specs.declared.rows.RoutineCode.{RoutineCode}
 use Rattle.uc_code.specs.Codes.{Code}
 use Rattle.uc_code.specs.Layout.{Laid, laid_of}
@@ -25,19 +25,19 @@ use Rattle.uc_code.proofs.Guards as blocks
 use Rattle.uc_code.proofs.Accepting as accepting
 
 module _ (code : Laid) (table : List RoutineCode) (any : Bool) where
-  abbrev Paces : List Mark → (ℕ → ℕ → Type 0) → Type 0
+  abbrev Paces : List CodeMark → (ℕ → ℕ → Type 0) → Type 0
   Paces ms B = pacing.Paces code table any ms B
 
-  onward : (ms : List Mark) (o : Op) (line : ℕ) → ((n k h : ℕ) → climb_op n k o h ≡ suc h) → ((k : ℕ) (t : Option Test) → test_by o k t ≡ t) → ((at : ℕ) → Onward code table at (at + 1) → Paced code table at o) → ((from to floor at : ℕ) → In code table from to (at + 1) → Stays code table from to floor at o) → Paces ms (One code o line)
+  onward : (ms : List CodeMark) (o : Op) (line : ℕ) → ((n k h : ℕ) → climb_op n k o h ≡ suc h) → ((k : ℕ) (t : Option Test) → test_by o k t ≡ t) → ((at : ℕ) → Onward code table at (at + 1) → Paced code table at o) → ((from to floor at : ℕ) → In code table from to (at + 1) → Stays code table from to floor at o) → Paces ms (One code o line)
   onward ms o line c t f g = pacing.onward_paces code table any ms o line c t f g
 
-  both : {B C : ℕ → ℕ → Type 0} → (ms : List Mark) → Paces ms B → Paces ms C → Paces ms (Both B C)
+  both : {B C : ℕ → ℕ → Type 0} → (ms : List CodeMark) → Paces ms B → Paces ms C → Paces ms (Both B C)
   both ms b c = pacing.both code table any ms b c
 
-  fork : {B C : ℕ → ℕ → Type 0} → (ms : List Mark) (line : ℕ) → Paces ms B → Paces ms C → Paces ms (Fork code line B C)
+  fork : {B C : ℕ → ℕ → Type 0} → (ms : List CodeMark) (line : ℕ) → Paces ms B → Paces ms C → Paces ms (Fork code line B C)
   fork ms line b c = pacing.fork code table any ms line b c
 
-  operator_paces : (ms : List Mark) (line : ℕ) (o : Operator) → Paces ms (One code (operator_op o) line)
+  operator_paces : (ms : List CodeMark) (line : ℕ) (o : Operator) → Paces ms (One code (operator_op o) line)
   operator_paces ms line Plus = onward ms op.Add line (λ n k h. refl) (λ k t. refl) (λ at l. l) (λ from to floor at i. i)
   operator_paces ms line Minus = onward ms op.Subtract line (λ n k h. refl) (λ k t. refl) (λ at l. l) (λ from to floor at i. i)
   operator_paces ms line Times = onward ms op.Multiply line (λ n k h. refl) (λ k t. refl) (λ at l. l) (λ from to floor at i. i)
@@ -46,15 +46,15 @@ module _ (code : Laid) (table : List RoutineCode) (any : Bool) where
   operator_paces ms line Equal = onward ms op.Equal line (λ n k h. refl) (λ k t. refl) (λ at l. l) (λ from to floor at i. i)
   operator_paces ms line NotEqual = onward ms op.NotEqual line (λ n k h. refl) (λ k t. refl) (λ at l. l) (λ from to floor at i. i)
   operator_paces ms line Less = onward ms op.Less line (λ n k h. refl) (λ k t. refl) (λ at l. l) (λ from to floor at i. i)
-  operator_paces ms line AtMost = onward ms op.AtMost line (λ n k h. refl) (λ k t. refl) (λ at l. l) (λ from to floor at i. i)
+  operator_paces ms line AtMost = onward ms op.LessEqual line (λ n k h. refl) (λ k t. refl) (λ at l. l) (λ from to floor at i. i)
   operator_paces ms line Greater = onward ms op.Greater line (λ n k h. refl) (λ k t. refl) (λ at l. l) (λ from to floor at i. i)
-  operator_paces ms line AtLeast = onward ms op.AtLeast line (λ n k h. refl) (λ k t. refl) (λ at l. l) (λ from to floor at i. i)
+  operator_paces ms line AtLeast = onward ms op.GreaterEqual line (λ n k h. refl) (λ k t. refl) (λ at l. l) (λ from to floor at i. i)
 
-  item_paces : (ms : List Mark) (line : ℕ) (i : Item) → Paces ms (One code (item_op i) line)
+  item_paces : (ms : List CodeMark) (line : ℕ) (i : Item) → Paces ms (One code (item_op i) line)
   item_paces ms line (Show form e) = onward ms (op.Print form) line (λ n k h. refl) (λ k t. refl) (λ at l. l) (λ from to floor at i. i)
   item_paces ms line (ShowText k) = onward ms (op.Text k) line (λ n k h. refl) (λ k t. refl) (λ at l. l) (λ from to floor at i. i)
 
-  convert_paces : (ms : List Mark) (line : ℕ) (s : Shape) → Paces ms (ConvertAt code line s)
+  convert_paces : (ms : List CodeMark) (line : ℕ) (s : Shape) → Paces ms (ConvertAt code line s)
   convert_paces ms line Integer = pacing.nothing_paces code table any ms
   convert_paces ms line Character = onward ms op.ToChar line (λ n k h. refl) (λ k t. refl) (λ at l. l) (λ from to floor at i. i)
   convert_paces ms line Truth = onward ms op.ToBool line (λ n k h. refl) (λ k t. refl) (λ at l. l) (λ from to floor at i. i)
@@ -73,7 +73,7 @@ module _ (code : Laid) (table : List RoutineCode) (any : Bool) where
   no_silence t e = let f : true ≡ false = sym t ∙ e in absurd (cc)
 
   mutual
-    expr_paces : (ms : List Mark) (line : ℕ) (e : Expr) → (any ≡ false → silent_expr e) → Paces ms (ExprAt code line ms e)
+    expr_paces : (ms : List CodeMark) (line : ℕ) (e : Expr) → (any ≡ false → silent_expr e) → Paces ms (ExprAt code line ms e)
     expr_paces ms line (Literal n) f = onward ms (op.Push n) line (λ n k h. refl) (λ k t. refl) (λ at l. l) (λ from to floor at i. i)
     expr_paces ms line (Variable k) f = onward ms (op.Local k) line (λ n k h. refl) (λ k t. refl) (λ at l. l) (λ from to floor at i. i)
     expr_paces ms line (Element n s a i) f = both ms (expr_paces ms line a (λ q. (f q).0)) (both ms (expr_paces ms line i (λ q. (f q).1)) (onward ms (op.Index n (shape_cells s)) line (λ n k h. refl) (λ k t. refl) (λ at l. l) (λ from to floor at i. i)))
@@ -96,13 +96,13 @@ module _ (code : Laid) (table : List RoutineCode) (any : Bool) where
         both ms (expr_paces ms line a (λ q. (f q).1)) (both ms (operator_paces ms line o) (both ms (convert_paces ms line s) (onward ms op.Keep line (λ n k h. refl) (λ k t. refl) (λ at l. l) (λ from to floor at i. i)))))))
     expr_paces ms line (StepBehind o s p) f =
         both ms (expr_paces ms line p f) (both ms (onward ms op.Duplicate line (λ n k h. refl) (λ k t. refl) (λ at l. l) (λ from to floor at i. i)) (both ms (onward ms op.Load line (λ n k h. refl) (λ k t. refl) (λ at l. l) (λ from to floor at i. i)) (
-        both ms (onward ms op.Over line (λ n k h. refl) (λ k t. refl) (λ at l. l) (λ from to floor at i. i)) (both ms (onward ms op.Over line (λ n k h. refl) (λ k t. refl) (λ at l. l) (λ from to floor at i. i)) (both ms (onward ms (op.Push (pos 1)) line (λ n k h. refl) (λ k t. refl) (λ at l. l) (λ from to floor at i. i)) (
+        both ms (onward ms op.CopyBelow line (λ n k h. refl) (λ k t. refl) (λ at l. l) (λ from to floor at i. i)) (both ms (onward ms op.CopyBelow line (λ n k h. refl) (λ k t. refl) (λ at l. l) (λ from to floor at i. i)) (both ms (onward ms (op.Push (pos 1)) line (λ n k h. refl) (λ k t. refl) (λ at l. l) (λ from to floor at i. i)) (
         both ms (operator_paces ms line o) (both ms (convert_paces ms line s) (both ms (onward ms op.Store line (λ n k h. refl) (λ k t. refl) (λ at l. l) (λ from to floor at i. i)) (onward ms op.DiscardBelow line (λ n k h. refl) (λ k t. refl) (λ at l. l) (λ from to floor at i. i))))))))))
     expr_paces ms line Fail f = onward ms op.Fail line (λ n k h. refl) (λ k t. refl) (λ at l. l) (λ from to floor at i. i)
     expr_paces ms line (Call r es) f = both ms (args_paces ms line es f) (pacing.call_paces code table any ms line r)
     expr_paces ms line (OfObject o) f = object_paces ms line o f
 
-    object_paces : (ms : List Mark) (line : ℕ) (o : ObjectExpr) → (any ≡ false → silent_object o) → Paces ms (ObjectAt code line ms o)
+    object_paces : (ms : List CodeMark) (line : ℕ) (o : ObjectExpr) → (any ≡ false → silent_object o) → Paces ms (ObjectAt code line ms o)
     object_paces ms line This f = onward ms op.Own line (λ n k h. refl) (λ k t. refl) (λ at l. l) (λ from to floor at i. i)
     object_paces ms line (OwnField s i) f = onward ms (op.This (field_cells s i)) line (λ n k h. refl) (λ k t. refl) (λ at l. l) (λ from to floor at i. i)
     object_paces ms line (GetOwn s i) f = onward ms (op.ViaThis (field_cells s i)) line (λ n k h. refl) (λ k t. refl) (λ at l. l) (λ from to floor at i. i)
@@ -130,51 +130,51 @@ module _ (code : Laid) (table : List RoutineCode) (any : Bool) where
     object_paces ms line (IsEmpty c) f = both ms (expr_paces ms line c f) (onward ms op.Empty line (λ n k h. refl) (λ k t. refl) (λ at l. l) (λ from to floor at i. i))
     object_paces ms line (FrontOf c) f = both ms (expr_paces ms line c f) (onward ms op.Front line (λ n k h. refl) (λ k t. refl) (λ at l. l) (λ from to floor at i. i))
 
-    args_paces : (ms : List Mark) (line : ℕ) (es : Exprs) → (any ≡ false → silent_exprs es) → Paces ms (ArgumentsAt code line ms es)
+    args_paces : (ms : List CodeMark) (line : ℕ) (es : Exprs) → (any ≡ false → silent_exprs es) → Paces ms (ArgumentsAt code line ms es)
     args_paces ms line NoExprs f = pacing.nothing_paces code table any ms
     args_paces ms line (MoreExprs e es) f = both ms (expr_paces ms line e (λ q. (f q).0)) (args_paces ms line es (λ q. (f q).1))
 
-  value_paces : any ≡ true → (ms : List Mark) (line : ℕ) (i : Item) → Paces ms (ValueAt code line ms i)
+  value_paces : any ≡ true → (ms : List CodeMark) (line : ℕ) (i : Item) → Paces ms (ValueAt code line ms i)
   value_paces t ms line (Show form e) = expr_paces ms line e (λ q. no_silence t q)
   value_paces t ms line (ShowText k) = pacing.nothing_paces code table any ms
 
-  items_paces : any ≡ true → (ms : List Mark) (line : ℕ) (is : List Item) → Paces ms (ItemsAt code line ms is)
+  items_paces : any ≡ true → (ms : List CodeMark) (line : ℕ) (is : List Item) → Paces ms (ItemsAt code line ms is)
   items_paces t ms line [] = pacing.nothing_paces code table any ms
   items_paces t ms line (i ∷ is) = both ms (value_paces t ms line i) (both ms (item_paces ms line i) (items_paces t ms line is))
 
-  values_paces : any ≡ true → (ms : List Mark) (line : ℕ) (is : List Item) → Paces ms (ValuesAt code line ms is)
+  values_paces : any ≡ true → (ms : List CodeMark) (line : ℕ) (is : List Item) → Paces ms (ValuesAt code line ms is)
   values_paces t ms line [] = pacing.nothing_paces code table any ms
   values_paces t ms line (i ∷ is) = both ms (value_paces t ms line i) (values_paces t ms line is)
 
-  pieces_paces : (ms : List Mark) (line : ℕ) (is : List Item) → Paces ms (PiecesAt code line is)
+  pieces_paces : (ms : List CodeMark) (line : ℕ) (is : List Item) → Paces ms (PiecesAt code line is)
   pieces_paces ms line [] = pacing.nothing_paces code table any ms
   pieces_paces ms line (i ∷ is) = both ms (pieces_paces ms line is) (item_paces ms line i)
 
-  together_paces : any ≡ true → (ms : List Mark) (line : ℕ) (is : List Item) → Paces ms (TogetherAt code line ms is)
+  together_paces : any ≡ true → (ms : List CodeMark) (line : ℕ) (is : List Item) → Paces ms (TogetherAt code line ms is)
   together_paces t ms line is =
       both ms (values_paces t ms line is) (both ms (onward ms op.Hold line (λ n k h. refl) (λ k t. refl) (λ at l. l) (λ from to floor at i. i)) (both ms (pieces_paces ms line is) (onward ms op.Flush line (λ n k h. refl) (λ k t. refl) (λ at l. l) (λ from to floor at i. i))))
 
-  targets_paces : any ≡ true → (ms : List Mark) (line : ℕ) (ts : List Target) → Paces ms (TargetsAt code line ms ts)
+  targets_paces : any ≡ true → (ms : List CodeMark) (line : ℕ) (ts : List Target) → Paces ms (TargetsAt code line ms ts)
   targets_paces t ms line [] = pacing.nothing_paces code table any ms
   targets_paces t ms line (x ∷ ts) =
       both ms (expr_paces ms line x.place (λ q. no_silence t q)) (both ms (onward ms (op.Read x.form) line (λ n k h. refl) (λ k t. refl) (λ at l. l) (λ from to floor at i. i)) (both ms (onward ms op.Store line (λ n k h. refl) (λ k t. refl) (λ at l. l) (λ from to floor at i. i)) (targets_paces t ms line ts)))
 
-  start_paces : any ≡ true → (ms : List Mark) (line cell : ℕ) (value : Option Expr) → Paces ms (StartAt code line ms cell value)
+  start_paces : any ≡ true → (ms : List CodeMark) (line cell : ℕ) (value : Option Expr) → Paces ms (StartAt code line ms cell value)
   start_paces t ms line cell None = pacing.nothing_paces code table any ms
   start_paces t ms line cell (Some e) = both ms (onward ms (op.Local cell) line (λ n k h. refl) (λ k t. refl) (λ at l. l) (λ from to floor at i. i)) (both ms (expr_paces ms line e (λ q. no_silence t q)) (onward ms op.Store line (λ n k h. refl) (λ k t. refl) (λ at l. l) (λ from to floor at i. i)))
 
-  variables_paces : any ≡ true → (ms : List Mark) (line : ℕ) (ds : List Declared) → Paces ms (VariablesAt code line ms ds)
+  variables_paces : any ≡ true → (ms : List CodeMark) (line : ℕ) (ds : List Declared) → Paces ms (VariablesAt code line ms ds)
   variables_paces t ms line [] = pacing.nothing_paces code table any ms
   variables_paces t ms line (d ∷ ds) = both ms (onward ms (op.Clear d.cell d.cells) line (λ n k h. refl) (λ k t. refl) (λ at l. l) (λ from to floor at i. i)) (both ms (start_paces t ms line d.cell d.value) (variables_paces t ms line ds))
 
   -- events
 
-  fields_paces : (ms : List Mark) (line n k : ℕ) → Paces ms (FieldsAt code line n k)
+  fields_paces : (ms : List CodeMark) (line n k : ℕ) → Paces ms (FieldsAt code line n k)
   fields_paces ms line n k =
       both ms (onward ms op.Discard line (λ n k h. refl) (λ k t. refl) (λ at l. l) (λ from to floor at i. i)) (both ms (onward ms (op.Push (pos n)) line (λ n k h. refl) (λ k t. refl) (λ at l. l) (λ from to floor at i. i)) (
       both ms (onward ms (op.Via k) line (λ n k h. refl) (λ k t. refl) (λ at l. l) (λ from to floor at i. i)) (onward ms (op.Via (k + 1)) line (λ n k h. refl) (λ k t. refl) (λ at l. l) (λ from to floor at i. i))))
 
-  raised_paces : any ≡ true → (ms : List Mark) (line : ℕ) (r : Raised) → Paces ms (RaisedAt code line ms r)
+  raised_paces : any ≡ true → (ms : List CodeMark) (line : ℕ) (r : Raised) → Paces ms (RaisedAt code line ms r)
   raised_paces t ms line (Plainly n) =
       both ms (onward ms (op.Push (pos n)) line (λ n k h. refl) (λ k t. refl) (λ at l. l) (λ from to floor at i. i)) (
       both ms (onward ms (op.Push (pos 0)) line (λ n k h. refl) (λ k t. refl) (λ at l. l) (λ from to floor at i. i)) (onward ms (op.Push (pos 0)) line (λ n k h. refl) (λ k t. refl) (λ at l. l) (λ from to floor at i. i)))
@@ -184,20 +184,20 @@ module _ (code : Laid) (table : List RoutineCode) (any : Bool) where
       both ms (onward ms (op.Via k) line (λ n k h. refl) (λ k t. refl) (λ at l. l) (λ from to floor at i. i)) (
       both ms (onward ms (op.Via (k + 1)) line (λ n k h. refl) (λ k t. refl) (λ at l. l) (λ from to floor at i. i)) (onward ms (op.Via (k + 2)) line (λ n k h. refl) (λ k t. refl) (λ at l. l) (λ from to floor at i. i)))
 
-  keep_paces : (ms : List Mark) (line k : ℕ) → Paces ms (KeepAt code line k)
+  keep_paces : (ms : List CodeMark) (line k : ℕ) → Paces ms (KeepAt code line k)
   keep_paces ms line k = both ms (onward ms (op.Set k) line (λ n k h. refl) (λ k t. refl) (λ at l. l) (λ from to floor at i. i)) (onward ms op.Discard line (λ n k h. refl) (λ k t. refl) (λ at l. l) (λ from to floor at i. i))
 
-  keeps_paces : (ms : List Mark) (line k : ℕ) → Paces ms (KeepsAt code line k)
+  keeps_paces : (ms : List CodeMark) (line k : ℕ) → Paces ms (KeepsAt code line k)
   keeps_paces ms line k = both ms (keep_paces ms line (k + 2)) (both ms (keep_paces ms line (k + 1)) (keep_paces ms line k))
 
-  drop_paces : (ms : List Mark) (line : ℕ) → Paces ms (One code op.Discard line)
+  drop_paces : (ms : List CodeMark) (line : ℕ) → Paces ms (One code op.Discard line)
   drop_paces ms line = onward ms op.Discard line (λ n k h. refl) (λ k t. refl) (λ at l. l) (λ from to floor at i. i)
 
-  end_paces : (main : MainOf) (ms : List Mark) (line : ℕ) → Paces ms (One code (main_end main) line)
+  end_paces : (main : MainOf) (ms : List CodeMark) (line : ℕ) → Paces ms (One code (main_end main) line)
   end_paces main_of.Task ms line = pacing.task_end_paces code table any ms line
   end_paces main_of.Coroutine ms line = pacing.main_end_paces code table any ms line
 
-  exit_paces : any ≡ true → (w : Way) (ms : List Mark) → Paces ms (ExitAt code w ms)
+  exit_paces : any ≡ true → (w : Way) (ms : List CodeMark) → Paces ms (ExitAt code w ms)
   exit_paces t ToBreak [] = pacing.return_paces code table any [] 0
   exit_paces t ToContinue [] = pacing.return_paces code table any [] 0
   exit_paces t ToReturn [] = pacing.value_return_paces code table any [] 0
@@ -221,16 +221,16 @@ module _ (code : Laid) (table : List RoutineCode) (any : Bool) where
   exit_paces t ToReturn (mark.Outward below row ∷ ms) = pacing.value_return_paces code table any (mark.Outward below row ∷ ms) 0
   exit_paces t ToEnd (mark.Outward below row ∷ ms) = pacing.none_return_paces code table any (mark.Outward below row ∷ ms) 0
 
-  step_paces : any ≡ true → (ms : List Mark) (line : ℕ) (step : Option Expr) → Paces ms (StepAt code line ms step)
+  step_paces : any ≡ true → (ms : List CodeMark) (line : ℕ) (step : Option Expr) → Paces ms (StepAt code line ms step)
   step_paces t ms line None = pacing.nothing_paces code table any ms
   step_paces t ms line (Some e) = both ms (expr_paces ms line e (λ q. no_silence t q)) (drop_paces ms line)
 
-  catches_paces : (ms : List Mark) (line cell : ℕ) (B : List Mark → ℕ → ℕ → Type 0) → ((ns : List Mark) → Paces ns (B ns)) → blocks.Handles code table any ms false (λ pad. Both (KeepsAt code line cell) (Both (B ms) (One code (op.Jump pad) line)))
+  catches_paces : (ms : List CodeMark) (line cell : ℕ) (B : List CodeMark → ℕ → ℕ → Type 0) → ((ns : List CodeMark) → Paces ns (B ns)) → blocks.Handles code table any ms false (λ pad. Both (KeepsAt code line cell) (Both (B ms) (One code (op.Jump pad) line)))
   catches_paces ms line cell B b =
       let k = blocks.catch_handles code table any ms line (B ms) (b ms) in
       blocks.kept_handles code table any ms (KeepsAt code line cell) (λ pad. Both (B ms) (One code (op.Jump pad) line)) (keeps_paces ms line cell) k
 
-  handler_handles : (resumes : Bool) (ms : List Mark) (line cell : ℕ) (B : List Mark → ℕ → ℕ → Type 0) → ((ns : List Mark) → Paces ns (B ns)) → blocks.Handles code table any ms resumes (λ pad. Both (KeepsAt code line cell) (HandlerBy code resumes ms pad line B))
+  handler_handles : (resumes : Bool) (ms : List CodeMark) (line cell : ℕ) (B : List CodeMark → ℕ → ℕ → Type 0) → ((ns : List CodeMark) → Paces ns (B ns)) → blocks.Handles code table any ms resumes (λ pad. Both (KeepsAt code line cell) (HandlerBy code resumes ms pad line B))
   handler_handles false ms line cell B b = catches_paces ms line cell B b
   handler_handles true ms line cell B b = blocks.apart_handles code table any ms line (KeepsAt code line cell) B (λ ns. keeps_paces ns line cell) b
 
@@ -241,7 +241,7 @@ module _ (code : Laid) (table : List RoutineCode) (any : Bool) where
       let l = p.low in
       paced_by code table a op.NoReturn line h (down code table a (a + 1) (outside_next code table a op.NoReturn line h (λ k t. refl) p.outside) p.outside (omega arith))
 
-  no_return_paces : (ms : List Mark) (line : ℕ) → Paces ms (One code op.NoReturn line)
+  no_return_paces : (ms : List CodeMark) (line : ℕ) → Paces ms (One code op.NoReturn line)
   no_return_paces ms line = record {
     rises = λ a z h. let e = h.end in omega arith;
     plain = λ a z h p. own_plain code table a op.NoReturn line h.here (λ n k x. refl) (λ k t. refl) (subst (Outside code table) h.end p.outside);
@@ -249,13 +249,13 @@ module _ (code : Laid) (table : List RoutineCode) (any : Bool) where
     stays = λ from to floor a z h n l m x. stay_one code table from to floor a z op.NoReturn line h.here h.end (pacing.next_in code table any from to a z h.end l m);
   }
 
-  guards_paces : any ≡ true → (ms : List Mark) (line : ℕ) (cs : Clauses) → Paces ms (GuardsAt code ms line cs)
+  guards_paces : any ≡ true → (ms : List CodeMark) (line : ℕ) (cs : Clauses) → Paces ms (GuardsAt code ms line cs)
   guards_paces t ms line NoClauses = pacing.nothing_paces code table any ms
   guards_paces t ms line (Otherwise b) = pacing.nothing_paces code table any ms
   guards_paces t ms line (MoreClauses guard b cs) = both ms (expr_paces ms line guard (λ q. no_silence t q)) (guards_paces t ms line cs)
 
   mutual
-    stmt_paces : (ms : List Mark) (s : Stmt) → (any ≡ false → silent s) → Paces ms (StmtAt code ms s)
+    stmt_paces : (ms : List CodeMark) (s : Stmt) → (any ≡ false → silent s) → Paces ms (StmtAt code ms s)
     stmt_paces ms (Skip line) f = pacing.nothing_paces code table any ms
     stmt_paces ms (Block line body) f = stmts_paces ms line body f
     stmt_paces ms (Whole line body) f = blocks.whole_paces code table any ms line (λ ns. StmtsAt code ns line body) (λ ns. stmts_paces ns line body f)
@@ -276,7 +276,7 @@ module _ (code : Laid) (table : List RoutineCode) (any : Bool) where
     stmt_paces ms (OfEvents s) f = event_paces ms s (raised_any any f)
     stmt_paces ms (OfTasks s) f = task_paces ms s f
 
-    task_paces : (ms : List Mark) (s : TaskStmt) → (any ≡ false → silent_task s) → Paces ms (TaskAt code ms s)
+    task_paces : (ms : List CodeMark) (s : TaskStmt) → (any ≡ false → silent_task s) → Paces ms (TaskAt code ms s)
     task_paces ms (Resume line) f = both ms (pacing.resume_paces code table any (raised_any any f) ms line) (both ms (pacing.land_paces code table any ms line) (pacing.poll_paces code table any (raised_any any f) ms line))
     task_paces ms (Suspend line) f = both ms (onward ms op.Suspend line (λ n k h. refl) (λ k t. refl) (λ at l. l) (λ from to floor at i. i)) (both ms (pacing.land_paces code table any ms line) (pacing.poll_paces code table any (raised_any any f) ms line))
     task_paces ms (SetUp r) f = pacing.set_up_paces code table any ms 0 r
@@ -288,12 +288,12 @@ module _ (code : Laid) (table : List RoutineCode) (any : Bool) where
         let t = raised_any any f in
         both ms (guards_paces t ms line cs) (both ms (accepting.accepts_paces code table any t ms site (clause_count cs) line) (accepting.chooses_paces code table any ms line (clause_count cs) (branches_pace t ms line cs)))
 
-    branches_pace : any ≡ true → (ms : List Mark) (line : ℕ) (cs : Clauses) → accepting.Branches code table any ms (λ o ps end. BranchesAt code ms line cs o ps end)
+    branches_pace : any ≡ true → (ms : List CodeMark) (line : ℕ) (cs : Clauses) → accepting.Branches code table any ms (λ o ps end. BranchesAt code ms line cs o ps end)
     branches_pace t ms line NoClauses = accepting.none_branches code table any ms
     branches_pace t ms line (Otherwise b) = accepting.else_branches code table any ms (stmt_paces ms b (λ q. no_silence t q))
     branches_pace t ms line (MoreClauses guard b cs) = accepting.clause_branches code table any ms line (stmt_paces ms b (λ q. no_silence t q)) (branches_pace t ms line cs)
 
-    event_paces : (ms : List Mark) (s : EventStmt) → any ≡ true → Paces ms (EventAt code ms s)
+    event_paces : (ms : List CodeMark) (s : EventStmt) → any ≡ true → Paces ms (EventAt code ms s)
     event_paces ms (Throw line r) t = both ms (raised_paces t ms line r) (pacing.throw_paces code table any ms line)
     event_paces ms (Raise line r) t = both ms (raised_paces t ms line r) (both ms (pacing.raise_paces code table any t ms line) (drop_paces ms line))
     event_paces ms (Try line body hs) t =
@@ -306,13 +306,13 @@ module _ (code : Laid) (table : List RoutineCode) (any : Bool) where
         spans.scoped_paces code table any ms line (Restores cell) (λ ns. Both (One code (op.Disable events cell) line) (StmtAt code ns s)) (λ e. tt) (λ u. exit_paces u ToReturn ms)
         (λ ns. both ns (onward ns (op.Disable events cell) line (λ n k h. refl) (λ k t. refl) (λ at l. l) (λ from to floor at i. i)) (stmt_paces ns s (λ q. no_silence t q)))
 
-    handlers_paces : (ms : List Mark) (hs : Handlers) → any ≡ true → blocks.AllHandle code table any ms (handler_rows hs) (λ first pad. HandlersAt code ms first pad hs)
+    handlers_paces : (ms : List CodeMark) (hs : Handlers) → any ≡ true → blocks.AllHandle code table any ms (handler_rows hs) (λ first pad. HandlersAt code ms first pad hs)
     handlers_paces ms NoHandlers t = blocks.no_handles code table any ms
     handlers_paces ms (MoreHandlers resumes event cell line body rest) t =
         blocks.more_handles code table any ms (handler_rows rest) event resumes (λ pad. Both (KeepsAt code line cell) (HandlerBy code resumes ms pad line (λ ns. StmtsAt code ns line body))) (λ first pad. HandlersAt code ms first pad rest)
         (handler_handles resumes ms line cell (λ ns. StmtsAt code ns line body) (λ ns. stmts_paces ns line body (λ e. no_silence t e))) (handlers_paces ms rest t)
 
-    stmts_paces : (ms : List Mark) (line : ℕ) (ss : Stmts) → (any ≡ false → silent_all ss) → Paces ms (StmtsAt code ms line ss)
+    stmts_paces : (ms : List CodeMark) (line : ℕ) (ss : Stmts) → (any ≡ false → silent_all ss) → Paces ms (StmtsAt code ms line ss)
     stmts_paces ms line Nil f = pacing.nothing_paces code table any ms
     stmts_paces ms line (Then s ss) f = both ms (stmt_paces ms s (λ e. (f e).0)) (stmts_paces ms line ss (λ e. (f e).1))
     stmts_paces ms line (Scoped c ss) f = spans.scoped_paces code table any ms line c (λ ns. StmtsAt code ns line ss) (λ e. (f e).0) (λ t. exit_paces t ToReturn ms) (λ ns. stmts_paces ns line ss (λ e. (f e).1))
@@ -370,7 +370,7 @@ module _ (code : Laid) (table : List RoutineCode) (any : Bool) where
 
   main_ends : (main : MainOf) (number line : ℕ) (ss : Stmts) → (any ≡ false → silent_all ss) → Ends number (MainAt code main number line (λ ms. StmtsAt code ms line ss))
   main_ends main number line ss f =
-      let b = λ (ns : List Mark). stmts_paces ns line ss f in
+      let b = λ (ns : List CodeMark). stmts_paces ns line ss f in
       record {
         rises = λ a z h. blocks.main_rises code table any main number line (λ ms. StmtsAt code ms line ss) b a z h;
         plain = λ a z h o. blocks.main_plain code table any main number line (λ ms. StmtsAt code ms line ss) b a z h o;

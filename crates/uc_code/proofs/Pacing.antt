@@ -3,8 +3,8 @@ use Rattle.std.proofs.Common.{◌≡◌, ℕ, suc, ◌+◌, ◌*◌, ◌^◌, �
 use Rattle.uc_tree.specs.Source.{Order, TestFirst, BodyFirst, NoTest}
 use Rattle.uc_code.specs.declared.op.Op.{Op}
 use Rattle.uc_code.specs.declared.op.Op.TheVariants as op
-use Rattle.uc_code.specs.declared.rows.Mark.{Mark}
-use Rattle.uc_code.specs.declared.rows.Mark.TheVariants as mark
+use Rattle.uc_code.specs.declared.rows.CodeMark.{CodeMark}
+use Rattle.uc_code.specs.declared.rows.CodeMark.TheVariants as mark
 use Rattle.uc_code.specs.declared.rows.RoutineCode.{RoutineCode}
 use Rattle.uc_code.specs.Layout.{Laid, handlers, chain}
 use Rattle.uc_code.specs.Pace.{behind, climb_op, height, power, Test, test_by, above, In, Risks, Stays, Waits, Calling, Begins, High, Onward, Paced}
@@ -23,7 +23,7 @@ module _ (code : Laid) (table : List RoutineCode) (any : Bool) where
   Loud floor to = Allowed any floor to
 
   -- under marks a piece is paced, where what stands behind it is plain; an activation stays in the text around it
-  pub record Paces (ms : List Mark) (B : ℕ → ℕ → Type 0) : Type 0 where
+  pub record Paces (ms : List CodeMark) (B : ℕ → ℕ → Type 0) : Type 0 where
     pub rises : (a z : ℕ) → B a z → a ≤ z
     pub plain : (a z : ℕ) → B a z → Plain code table z → Plain code table a
     pub each : Starts code table → (a z : ℕ) → B a z → Around code table ms z → Plain code table z → Each code table a z
@@ -35,7 +35,7 @@ module _ (code : Laid) (table : List RoutineCode) (any : Bool) where
   pub end_in : (from to a z : ℕ) → a ≤ z → from ≤ a → z < to → In code table from to z
   end_in from to a z k l m = record { first = omega arith; last = m }
 
-  pub nothing_paces : (ms : List Mark) → Paces ms Nothing
+  pub nothing_paces : (ms : List CodeMark) → Paces ms Nothing
   nothing_paces ms = record {
     rises = λ a z h. let e = h.end in omega arith;
     plain = λ a z h p. subst (Plain code table) h.end p;
@@ -44,7 +44,7 @@ module _ (code : Laid) (table : List RoutineCode) (any : Bool) where
   }
 
   -- an op that only goes on
-  pub onward_paces : (ms : List Mark) (o : Op) (line : ℕ) → ((n k h : ℕ) → climb_op n k o h ≡ suc h) → ((k : ℕ) (t : Option Test) → test_by o k t ≡ t) → ((at : ℕ) → Onward code table at (at + 1) → Paced code table at o) → ((from to floor at : ℕ) → In code table from to (at + 1) → Stays code table from to floor at o) → Paces ms (One code o line)
+  pub onward_paces : (ms : List CodeMark) (o : Op) (line : ℕ) → ((n k h : ℕ) → climb_op n k o h ≡ suc h) → ((k : ℕ) (t : Option Test) → test_by o k t ≡ t) → ((at : ℕ) → Onward code table at (at + 1) → Paced code table at o) → ((from to floor at : ℕ) → In code table from to (at + 1) → Stays code table from to floor at o) → Paces ms (One code o line)
   onward_paces ms o line c t f g = record {
     rises = λ a z h. let e = h.end in omega arith;
     plain = λ a z h p. onward_plain code table a o line h.here c t (subst (Plain code table) h.end p);
@@ -52,7 +52,7 @@ module _ (code : Laid) (table : List RoutineCode) (any : Bool) where
     stays = λ from to floor a z h n l m x. stay_one code table from to floor a z o line h.here h.end (g from to floor a (next_in from to a z h.end l m));
   }
 
-  pub both_paces : (ms : List Mark) (B C : ℕ → ℕ → Type 0) → Paces ms B → Paces ms C → Paces ms (Both B C)
+  pub both_paces : (ms : List CodeMark) (B C : ℕ → ℕ → Type 0) → Paces ms B → Paces ms C → Paces ms (Both B C)
   both_paces ms B C b c = record {
     rises = λ a z h. let l = b.rises a h.middle h.first in let k = c.rises h.middle z h.second in omega arith;
     plain = λ a z h p. b.plain a h.middle h.first (c.plain h.middle z h.second p);
@@ -63,10 +63,10 @@ module _ (code : Laid) (table : List RoutineCode) (any : Bool) where
         stay_join code table from to floor a h.middle z (b.stays from to floor a h.middle h.first n l (omega arith) x) (c.stays from to floor h.middle z h.second n (omega arith) m x);
   }
 
-  pub both : {B C : ℕ → ℕ → Type 0} → (ms : List Mark) → Paces ms B → Paces ms C → Paces ms (Both B C)
+  pub both : {B C : ℕ → ℕ → Type 0} → (ms : List CodeMark) → Paces ms B → Paces ms C → Paces ms (Both B C)
   both {B} {C} ms b c = both_paces ms B C b c
 
-  pub fork_paces : (ms : List Mark) (line : ℕ) (B C : ℕ → ℕ → Type 0) → Paces ms B → Paces ms C → Paces ms (Fork code line B C)
+  pub fork_paces : (ms : List CodeMark) (line : ℕ) (B C : ℕ → ℕ → Type 0) → Paces ms B → Paces ms C → Paces ms (Fork code line B C)
   fork_paces ms line B C b c = record {
     rises = λ a z h. let l = b.rises (a + 1) h.middle h.first in let k = c.rises (h.middle + 1) z h.second in omega arith;
     plain = λ a z h p.
@@ -94,7 +94,7 @@ module _ (code : Laid) (table : List RoutineCode) (any : Bool) where
         stay_join code table from to floor h.middle (h.middle + 1) z left (c.stays from to floor (h.middle + 1) z h.second n (omega arith) m x)));
   }
 
-  pub fork : {B C : ℕ → ℕ → Type 0} → (ms : List Mark) (line : ℕ) → Paces ms B → Paces ms C → Paces ms (Fork code line B C)
+  pub fork : {B C : ℕ → ℕ → Type 0} → (ms : List CodeMark) (line : ℕ) → Paces ms B → Paces ms C → Paces ms (Fork code line B C)
   fork {B} {C} ms line b c = fork_paces ms line B C b c
 
   -- the end of a routine: nothing goes on behind it
@@ -104,12 +104,12 @@ module _ (code : Laid) (table : List RoutineCode) (any : Bool) where
   pub return_each : (line a z : ℕ) → One code op.Return line a z → Each code table a z
   return_each line a z h = only code table a z h.end (paced_by code table a op.Return line h.here tt)
 
-  pub never_paces : (ms : List Mark) → Paces ms Never
+  pub never_paces : (ms : List CodeMark) → Paces ms Never
   never_paces ms = record { rises = λ a z h. absurd h; plain = λ a z h p. absurd h; each = λ q a z h r p. absurd h; stays = λ from to floor a z h n l m x. absurd h }
 
   -- a call stands behind a tick, or leads further on
 
-  high_paces : (ms : List Mark) (line r : ℕ) (o : Op) → ((n k h : ℕ) → climb_op n k o h ≡ behind n 0 + 2) → ((k : ℕ) (t : Option Test) → test_by o k t ≡ t) → ((at : ℕ) → Calling code table at r × Waits code table at × High code table at → Paced code table at o) → ((from to floor at : ℕ) → In code table from to (at + 1) × Risks code table from to at → Stays code table from to floor at o) → Paces ms (Both (One code op.Tick line) (Risk code ms o line))
+  high_paces : (ms : List CodeMark) (line r : ℕ) (o : Op) → ((n k h : ℕ) → climb_op n k o h ≡ behind n 0 + 2) → ((k : ℕ) (t : Option Test) → test_by o k t ≡ t) → ((at : ℕ) → Calling code table at r × Waits code table at × High code table at → Paced code table at o) → ((from to floor at : ℕ) → In code table from to (at + 1) × Risks code table from to at → Stays code table from to floor at o) → Paces ms (Both (One code op.Tick line) (Risk code ms o line))
   high_paces ms line r o c t f g = record {
     rises = λ a z h. let e = h.first.end in let i = h.second.end in omega arith;
     plain = λ a z h p.
@@ -131,21 +131,21 @@ module _ (code : Laid) (table : List RoutineCode) (any : Bool) where
         (stay_one code table from to floor h.middle z o line h.second.here h.second.end (g from to floor h.middle (next_in from to h.middle z h.second.end (omega arith) m, risks_in code table from to h.middle ms u n)));
   }
 
-  pub call_paces : (ms : List Mark) (line r : ℕ) → Paces ms (Both (One code op.Tick line) (Risk code ms (op.Call r) line))
+  pub call_paces : (ms : List CodeMark) (line r : ℕ) → Paces ms (Both (One code op.Tick line) (Risk code ms (op.Call r) line))
   call_paces ms line r = high_paces ms line r (op.Call r) (λ n k h. refl) (λ k t. refl) (λ at p. p) (λ from to floor at s. s)
 
-  pub call_on_paces : (ms : List Mark) (line r : ℕ) → Paces ms (Both (One code op.Tick line) (Risk code ms (op.CallOn r) line))
+  pub call_on_paces : (ms : List CodeMark) (line r : ℕ) → Paces ms (Both (One code op.Tick line) (Risk code ms (op.CallOn r) line))
   call_on_paces ms line r = high_paces ms line r (op.CallOn r) (λ n k h. refl) (λ k t. refl) (λ at p. p) (λ from to floor at s. s)
 
   -- what stands right behind a tick: a call that is high, or an op that falls to what does
 
-  pub record Above (ms : List Mark) (B : ℕ → ℕ → Type 0) : Type 0 where
+  pub record Above (ms : List CodeMark) (B : ℕ → ℕ → Type 0) : Type 0 where
     pub rises : (a z : ℕ) → B a z → a < z
     pub outside : (a z : ℕ) → B a z → Outside code table z → Outside code table a
     pub each : Starts code table → (a z : ℕ) → B a z → Around code table ms z → Plain code table z → Each code table a z
     pub stays : (from to floor a z : ℕ) → B a z → Env code table from to ms → from ≤ a → z < to → Loud floor to → AllStay code table from to floor a z
 
-  pub call_above : (ms : List Mark) (line r : ℕ) → Above ms (Risk code ms (op.CallOn r) line)
+  pub call_above : (ms : List CodeMark) (line r : ℕ) → Above ms (Risk code ms (op.CallOn r) line)
   call_above ms line r = record {
     rises = λ a z h. let e = h.end in omega arith;
     outside = λ a z h o. outside_next code table a (op.CallOn r) line h.here (λ k t. refl) (subst (Outside code table) h.end o);
@@ -158,7 +158,7 @@ module _ (code : Laid) (table : List RoutineCode) (any : Bool) where
         stay_one code table from to floor a z (op.CallOn r) line h.here h.end (next_in from to a z h.end l m, risks_in code table from to a ms u n);
   }
 
-  pub more_above : {B : ℕ → ℕ → Type 0} → (ms : List Mark) (o : Op) (line : ℕ) → ((n k h : ℕ) → climb_op n k o h ≡ suc h) → ((k : ℕ) (t : Option Test) → test_by o k t ≡ t) → ((at : ℕ) → Onward code table at (at + 1) → Paced code table at o) → ((from to floor at : ℕ) → In code table from to (at + 1) → Stays code table from to floor at o) → Above ms B → Above ms (Both (One code o line) B)
+  pub more_above : {B : ℕ → ℕ → Type 0} → (ms : List CodeMark) (o : Op) (line : ℕ) → ((n k h : ℕ) → climb_op n k o h ≡ suc h) → ((k : ℕ) (t : Option Test) → test_by o k t ≡ t) → ((at : ℕ) → Onward code table at (at + 1) → Paced code table at o) → ((from to floor at : ℕ) → In code table from to (at + 1) → Stays code table from to floor at o) → Above ms B → Above ms (Both (One code o line) B)
   more_above {B} ms o line c t f g b = record {
     rises = λ a z h. let e = h.first.end in let i = b.rises h.middle z h.second in omega arith;
     outside = λ a z h x. outside_next code table a o line h.first.here t (subst (Outside code table) h.first.end (b.outside h.middle z h.second x));
@@ -176,7 +176,7 @@ module _ (code : Laid) (table : List RoutineCode) (any : Bool) where
         (b.stays from to floor h.middle z h.second n (omega arith) m x);
   }
 
-  pub ticked_paces : {B : ℕ → ℕ → Type 0} → (ms : List Mark) (line : ℕ) → Above ms B → Paces ms (Both (One code op.Tick line) B)
+  pub ticked_paces : {B : ℕ → ℕ → Type 0} → (ms : List CodeMark) (line : ℕ) → Above ms B → Paces ms (Both (One code op.Tick line) B)
   ticked_paces {B} ms line b = record {
     rises = λ a z h. let e = h.first.end in let i = b.rises h.middle z h.second in omega arith;
     plain = λ a z h p. tick_plain code table a line h.first.here (subst (Outside code table) h.first.end (b.outside h.middle z h.second p.outside));
@@ -191,16 +191,16 @@ module _ (code : Laid) (table : List RoutineCode) (any : Bool) where
 
   -- a coroutine must be live, a mutex object is entered, or made
 
-  pub call_live_paces : (ms : List Mark) (line r : ℕ) → Paces ms (Both (One code op.Tick line) (Both (One code (op.Alive r) line) (Risk code ms (op.CallOn r) line)))
+  pub call_live_paces : (ms : List CodeMark) (line r : ℕ) → Paces ms (Both (One code op.Tick line) (Both (One code (op.Alive r) line) (Risk code ms (op.CallOn r) line)))
   call_live_paces ms line r = ticked_paces ms line (more_above ms (op.Alive r) line (λ n k h. refl) (λ k t. refl) (λ at l. l) (λ from to floor at i. i) (call_above ms line r))
 
-  pub enter_paces : (ms : List Mark) (line k r : ℕ) → Paces ms (Both (One code op.Tick line) (Both (One code (op.Enter k r) line) (Risk code ms (op.CallOn r) line)))
+  pub enter_paces : (ms : List CodeMark) (line k r : ℕ) → Paces ms (Both (One code op.Tick line) (Both (One code (op.Enter k r) line) (Risk code ms (op.CallOn r) line)))
   enter_paces ms line k r = ticked_paces ms line (more_above ms (op.Enter k r) line (λ n k h. refl) (λ k t. refl) (λ at l. l) (λ from to floor at i. i) (call_above ms line r))
 
-  pub make_paces : (ms : List Mark) (line c r : ℕ) → Paces ms (Both (One code op.Tick line) (Both (One code (op.Make c r) line) (Both (One code (op.BindMade c r) line) (Risk code ms (op.CallOn r) line))))
+  pub make_paces : (ms : List CodeMark) (line c r : ℕ) → Paces ms (Both (One code op.Tick line) (Both (One code (op.Make c r) line) (Both (One code (op.BindMade c r) line) (Risk code ms (op.CallOn r) line))))
   make_paces ms line c r = ticked_paces ms line (more_above ms (op.Make c r) line (λ n k h. refl) (λ k t. refl) (λ at l. l) (λ from to floor at i. i) (more_above ms (op.BindMade c r) line (λ n k h. refl) (λ k t. refl) (λ at l. l) (λ from to floor at i. i) (call_above ms line r)))
 
-  pub calls_behind_paces : (ms : List Mark) (line r : ℕ) → Paces ms (CallsBehind code ms r line)
+  pub calls_behind_paces : (ms : List CodeMark) (line r : ℕ) → Paces ms (CallsBehind code ms r line)
   calls_behind_paces ms line r = record {
     rises = λ a z h. let e = h.risk.end in omega arith;
     plain = λ a z h p. own_plain code table a (op.CallUnwritten r) line h.risk.here (λ n k x. refl) (λ k t. refl) (subst (Outside code table) h.risk.end p.outside);
@@ -224,7 +224,7 @@ module _ (code : Laid) (table : List RoutineCode) (any : Bool) where
   }
 
   -- an op from which an event may come and nothing else
-  pub risk_paces : (ms : List Mark) (o : Op) (line : ℕ) → ((n k h : ℕ) → climb_op n k o h ≡ behind n k) → ((k : ℕ) (t : Option Test) → test_by o k t ≡ t) → ((at : ℕ) → at < length code.ops → height code.ops at ≡ behind (length code.ops) at → chain code.rows (at + 1) ≡ handlers ms → Around code table ms (at + 1) → Plain code table (at + 1) → Outside code table at → Paced code table at o) → ((from to floor at : ℕ) → at < length code.ops → height code.ops at ≡ behind (length code.ops) at → at + 1 < to → Loud floor to → In code table from to (at + 1) → Risks code table from to at → Stays code table from to floor at o) → Paces ms (Risk code ms o line)
+  pub risk_paces : (ms : List CodeMark) (o : Op) (line : ℕ) → ((n k h : ℕ) → climb_op n k o h ≡ behind n k) → ((k : ℕ) (t : Option Test) → test_by o k t ≡ t) → ((at : ℕ) → at < length code.ops → height code.ops at ≡ behind (length code.ops) at → chain code.rows (at + 1) ≡ handlers ms → Around code table ms (at + 1) → Plain code table (at + 1) → Outside code table at → Paced code table at o) → ((from to floor at : ℕ) → at < length code.ops → height code.ops at ≡ behind (length code.ops) at → at + 1 < to → Loud floor to → In code table from to (at + 1) → Risks code table from to at → Stays code table from to floor at o) → Paces ms (Risk code ms o line)
   risk_paces ms o line c t f g = record {
     rises = λ a z h. let e = h.end in omega arith;
     plain = λ a z h p. own_plain code table a o line h.here c t (subst (Outside code table) h.end p.outside);
@@ -243,14 +243,14 @@ module _ (code : Laid) (table : List RoutineCode) (any : Bool) where
         stay_one code table from to floor a z o line h.here h.end (g from to floor a w e (omega arith) x (next_in from to a z h.end l m) (risks_in code table from to a ms u n));
   }
 
-  pub unwind_paces : (ms : List Mark) (line : ℕ) → Paces ms (Risk code ms op.Unwind line)
+  pub unwind_paces : (ms : List CodeMark) (line : ℕ) → Paces ms (Risk code ms op.Unwind line)
   unwind_paces ms line = risk_paces ms op.Unwind line (λ n k h. refl) (λ k t. refl) (λ at w e u y p o. risky code table at ms u w (omega arith) y) (λ from to floor at w e l x i r. r)
 
-  pub throw_paces : (ms : List Mark) (line : ℕ) → Paces ms (Risk code ms op.Throw line)
+  pub throw_paces : (ms : List CodeMark) (line : ℕ) → Paces ms (Risk code ms op.Throw line)
   throw_paces ms line = risk_paces ms op.Throw line (λ n k h. refl) (λ k t. refl) (λ at w e u y p o. risky code table at ms u w (omega arith) y) (λ from to floor at w e l x i r. r)
 
   -- a raise, where there are any
-  pub raise_paces : any ≡ true → (ms : List Mark) (line : ℕ) → Paces ms (Risk code ms op.Raise line)
+  pub raise_paces : any ≡ true → (ms : List CodeMark) (line : ℕ) → Paces ms (Risk code ms op.Raise line)
   raise_paces raised ms line =
       risk_paces ms op.Raise line (λ n k h. refl) (λ k t. refl)
       (λ at w e u y p o. let l = p.low in raises_at code table at (risky code table at ms u w (omega arith) y) o p (omega arith) (omega arith))
@@ -260,14 +260,14 @@ module _ (code : Laid) (table : List RoutineCode) (any : Bool) where
       (i, r, omega arith))
 
   -- the test where a block is unwound that is left as a whole
-  pub handled_paces : (ms : List Mark) (line : ℕ) → Paces ms (Risk code ms op.Handled line)
+  pub handled_paces : (ms : List CodeMark) (line : ℕ) → Paces ms (Risk code ms op.Handled line)
   handled_paces ms line =
       risk_paces ms op.Handled line (λ n k h. refl) (λ k t. refl)
       (λ at w e u y p o. let l = p.low in (risky code table at ms u w (omega arith) y, down code table at (at + 1) o p.outside (omega arith)))
       (λ from to floor at w e l x i r. (i, r))
 
   -- where a switch comes back
-  pub land_paces : (ms : List Mark) (line : ℕ) → Paces ms (Risk code ms op.Land line)
+  pub land_paces : (ms : List CodeMark) (line : ℕ) → Paces ms (Risk code ms op.Land line)
   land_paces ms line =
       risk_paces ms op.Land line (λ n k h. refl) (λ k t. refl)
       (λ at w e u y p o. let l = p.low in (risky code table at ms u w (omega arith) y, down code table at (at + 1) o p.outside (omega arith)))
@@ -281,7 +281,7 @@ module _ (code : Laid) (table : List RoutineCode) (any : Bool) where
       let k = power_room_less (behind (length code.ops) to) (behind (length code.ops) 0 + 2) (omega arith) in
       omega arith
 
-  pub resume_paces : (any ≡ true) → (ms : List Mark) (line : ℕ) → Paces ms (One code op.Resume line)
+  pub resume_paces : (any ≡ true) → (ms : List CodeMark) (line : ℕ) → Paces ms (One code op.Resume line)
   resume_paces t ms line = record {
     rises = λ a z h. let e = h.end in omega arith;
     plain = λ a z h p. onward_plain code table a op.Resume line h.here (λ n k x. refl) (λ k x. refl) (subst (Plain code table) h.end p);
@@ -298,7 +298,7 @@ module _ (code : Laid) (table : List RoutineCode) (any : Bool) where
 
   -- events are delivered one by one: behind the tick or the request of a poll another one may follow
 
-  poll_outside : (ms : List Mark) (line a z : ℕ) → PollAt code ms line a z → Outside code table z → Entered a
+  poll_outside : (ms : List CodeMark) (line a z : ℕ) → PollAt code ms line a z → Outside code table z → Entered a
   poll_outside ms line a z h o =
       let e : z ≡ (a + 3) + 1 = (let i = h.end in omega arith) in
       let f : a + 3 ≡ (a + 2) + 1 = omega arith in
@@ -308,13 +308,13 @@ module _ (code : Laid) (table : List RoutineCode) (any : Bool) where
       let deliver : Outside code table (a + 1) = outside_next code table (a + 1) (op.Deliver z) line h.deliver.here (λ k t. refl) (subst (Outside code table) g discard) in
       record { again = again; discard = discard; deliver = deliver; poll = outside_next code table a (op.Poll z) line h.poll (λ k t. refl) deliver }
 
-  poll_height : (ms : List Mark) (line a z : ℕ) → PollAt code ms line a z → height code.ops a ≡ behind (length code.ops) z + 1
+  poll_height : (ms : List CodeMark) (line a z : ℕ) → PollAt code ms line a z → height code.ops a ≡ behind (length code.ops) z + 1
   poll_height ms line a z h = height_is code table a (op.Poll z) line h.poll
 
-  again_height : (ms : List Mark) (line a z : ℕ) → PollAt code ms line a z → height code.ops (a + 3) ≡ behind (length code.ops) (a + 3)
+  again_height : (ms : List CodeMark) (line a z : ℕ) → PollAt code ms line a z → height code.ops (a + 3) ≡ behind (length code.ops) (a + 3)
   again_height ms line a z h = height_is code table (a + 3) (op.Jump a) line h.again ∙ if_ge (a + 3) a (behind (length code.ops) a + 1) (behind (length code.ops) (a + 3)) (omega arith)
 
-  discard_height : (ms : List Mark) (line a z : ℕ) → PollAt code ms line a z → height code.ops (a + 2) ≡ behind (length code.ops) (a + 3) + 1
+  discard_height : (ms : List CodeMark) (line a z : ℕ) → PollAt code ms line a z → height code.ops (a + 2) ≡ behind (length code.ops) (a + 3) + 1
   discard_height ms line a z h =
       let e : height code.ops (a + 2) ≡ suc (height code.ops ((a + 2) + 1)) = height_is code table (a + 2) op.Discard line h.discard in
       let f : (a + 2) + 1 ≡ a + 3 = omega arith in
@@ -323,7 +323,7 @@ module _ (code : Laid) (table : List RoutineCode) (any : Bool) where
       omega arith
 
   -- the op that delivers
-  deliver_risk : any ≡ true → (ms : List Mark) (line a z : ℕ) → PollAt code ms line a z → Around code table ms z → Plain code table z → Paced code table (a + 1) (op.Deliver z)
+  deliver_risk : any ≡ true → (ms : List CodeMark) (line a z : ℕ) → PollAt code ms line a z → Around code table ms z → Plain code table z → Paced code table (a + 1) (op.Deliver z)
   deliver_risk t ms line a z h x p =
       let i = h.end in
       let o = poll_outside ms line a z h p.outside in
@@ -340,7 +340,7 @@ module _ (code : Laid) (table : List RoutineCode) (any : Bool) where
         down code table (a + 1) z o.deliver p.outside (omega arith),
       )
 
-  pub poll_paces : any ≡ true → (ms : List Mark) (line : ℕ) → Paces ms (PollAt code ms line)
+  pub poll_paces : any ≡ true → (ms : List CodeMark) (line : ℕ) → Paces ms (PollAt code ms line)
   poll_paces t ms line = record {
     rises = λ a z h. let e = h.end in omega arith;
     plain = λ a z h p.
@@ -379,12 +379,12 @@ module _ (code : Laid) (table : List RoutineCode) (any : Bool) where
   }
 
   -- a mutex call leaves its object: it goes on behind the poll, or behind a request
-  leave_outside : any ≡ true → (ms : List Mark) (line a z : ℕ) → LeavesAt code ms line a z → Plain code table z → Outside code table a
+  leave_outside : any ≡ true → (ms : List CodeMark) (line a z : ℕ) → LeavesAt code ms line a z → Plain code table z → Outside code table a
   leave_outside t ms line a z h p =
       let u = (poll_paces t ms line).plain (a + 1) z h.polls p in
       outside_next code table a (op.Leave z) line h.leave (λ k t. refl) u.outside
 
-  pub leaves_paces : any ≡ true → (ms : List Mark) (line : ℕ) → Paces ms (LeavesAt code ms line)
+  pub leaves_paces : any ≡ true → (ms : List CodeMark) (line : ℕ) → Paces ms (LeavesAt code ms line)
   leaves_paces t ms line = record {
     rises = λ a z h. let e = h.polls.end in omega arith;
     plain = λ a z h p.
@@ -415,7 +415,7 @@ module _ (code : Laid) (table : List RoutineCode) (any : Bool) where
       let m = power_less (height code.ops c.entry) (behind (length code.ops) 0 + 2) (omega arith) in
       rw (burden_is code table c.entry 0 s.outside) m
 
-  pub set_up_paces : (ms : List Mark) (line r : ℕ) → Paces ms (One code (op.Coroutine r) line)
+  pub set_up_paces : (ms : List CodeMark) (line r : ℕ) → Paces ms (One code (op.Coroutine r) line)
   set_up_paces ms line r = record {
     rises = λ a z h. let e = h.end in omega arith;
     plain = λ a z h p. onward_plain code table a (op.Coroutine r) line h.here (λ n k x. refl) (λ k x. refl) (subst (Plain code table) h.end p);
@@ -424,7 +424,7 @@ module _ (code : Laid) (table : List RoutineCode) (any : Bool) where
   }
 
   -- a loop whose parts are paced under its mark
-  module _ (ms : List Mark) (line : ℕ) (T S : ℕ → ℕ → Type 0) (B : Mark → ℕ → ℕ → Type 0) (t : Paces ms T) (s : Paces ms S) (b : (m : Mark) → Paces (m ∷ ms) (B m)) where
+  module _ (ms : List CodeMark) (line : ℕ) (T S : ℕ → ℕ → Type 0) (B : CodeMark → ℕ → ℕ → Type 0) (t : Paces ms T) (s : Paces ms S) (b : (m : CodeMark) → Paces (m ∷ ms) (B m)) where
     back_rises : (o : Order) (turn a z : ℕ) → BackAt code o T turn line a z → a < z
     back_rises TestFirst turn a z h = let k = t.rises a h.middle h.first in let e = h.second.end in omega arith
     back_rises BodyFirst turn a z h = let k = t.rises a h.middle h.first in let e = h.second.end in omega arith
@@ -539,7 +539,7 @@ module _ (code : Laid) (table : List RoutineCode) (any : Bool) where
 
   -- an exit: a return, or a jump to a pad of the innermost loop
 
-  pub leave_paces : (ms : List Mark) (leave again : ℕ) → Paces (mark.Loop leave again ∷ ms) (Any code (op.Jump leave))
+  pub leave_paces : (ms : List CodeMark) (leave again : ℕ) → Paces (mark.Loop leave again ∷ ms) (Any code (op.Jump leave))
   leave_paces ms leave again = record {
     rises = λ a z h. let e = h.one.end in omega arith;
     plain = λ a z h p. jump_plain code table a leave h.line h.one.here (subst (Outside code table) h.one.end p.outside);
@@ -547,7 +547,7 @@ module _ (code : Laid) (table : List RoutineCode) (any : Bool) where
     stays = λ from to floor a z h n l m x. stay_one code table from to floor a z (op.Jump leave) h.line h.one.here h.one.end n.0;
   }
 
-  pub again_paces : (ms : List Mark) (leave again : ℕ) → Paces (mark.Loop leave again ∷ ms) (Any code (op.Jump again))
+  pub again_paces : (ms : List CodeMark) (leave again : ℕ) → Paces (mark.Loop leave again ∷ ms) (Any code (op.Jump again))
   again_paces ms leave again = record {
     rises = λ a z h. let e = h.one.end in omega arith;
     plain = λ a z h p. jump_plain code table a again h.line h.one.here (subst (Outside code table) h.one.end p.outside);
@@ -555,7 +555,7 @@ module _ (code : Laid) (table : List RoutineCode) (any : Bool) where
     stays = λ from to floor a z h n l m x. stay_one code table from to floor a z (op.Jump again) h.line h.one.here h.one.end n.1;
   }
 
-  pub whole_exit_paces : (ms : List Mark) (leave row : ℕ) → Paces (mark.Whole leave row ∷ ms) (Any code (op.Jump leave))
+  pub whole_exit_paces : (ms : List CodeMark) (leave row : ℕ) → Paces (mark.Whole leave row ∷ ms) (Any code (op.Jump leave))
   whole_exit_paces ms leave row = record {
     rises = λ a z h. let e = h.one.end in omega arith;
     plain = λ a z h p. jump_plain code table a leave h.line h.one.here (subst (Outside code table) h.one.end p.outside);
@@ -563,14 +563,14 @@ module _ (code : Laid) (table : List RoutineCode) (any : Bool) where
     stays = λ from to floor a z h n l m x. stay_one code table from to floor a z (op.Jump leave) h.line h.one.here h.one.end n.0;
   }
 
-  pub in_loop : {B : ℕ → ℕ → Type 0} → (ms : List Mark) (leave again : ℕ) → Paces ms B → Paces (mark.Loop leave again ∷ ms) B
+  pub in_loop : {B : ℕ → ℕ → Type 0} → (ms : List CodeMark) (leave again : ℕ) → Paces ms B → Paces (mark.Loop leave again ∷ ms) B
   in_loop ms leave again b = record { rises = b.rises; plain = b.plain; each = λ q a z h r p. b.each q a z h r.2 p; stays = λ from to floor a z h n l m x. b.stays from to floor a z h n.2 l m x }
 
   -- a mark around which nothing else is asked
-  pub under_mark : {B : ℕ → ℕ → Type 0} → (m : Mark) (ms : List Mark) → ((z : ℕ) → Around code table (m ∷ ms) z → Around code table ms z) → ((from to : ℕ) → Env code table from to (m ∷ ms) → Env code table from to ms) → Paces ms B → Paces (m ∷ ms) B
+  pub under_mark : {B : ℕ → ℕ → Type 0} → (m : CodeMark) (ms : List CodeMark) → ((z : ℕ) → Around code table (m ∷ ms) z → Around code table ms z) → ((from to : ℕ) → Env code table from to (m ∷ ms) → Env code table from to ms) → Paces ms B → Paces (m ∷ ms) B
   under_mark m ms f g b = record { rises = b.rises; plain = b.plain; each = λ q a z h r p. b.each q a z h (f z r) p; stays = λ from to floor a z h n l k x. b.stays from to floor a z h (g from to n) l k x }
 
-  pub return_paces : (ms : List Mark) (line : ℕ) → Paces ms (One code op.Return line)
+  pub return_paces : (ms : List CodeMark) (line : ℕ) → Paces ms (One code op.Return line)
   return_paces ms line = record {
     rises = λ a z h. let e = h.end in omega arith;
     plain = λ a z h p. return_plain line a z h p.outside;
@@ -578,7 +578,7 @@ module _ (code : Laid) (table : List RoutineCode) (any : Bool) where
     stays = λ from to floor a z h n l m x. stay_one code table from to floor a z op.Return line h.here h.end tt;
   }
 
-  pub main_end_paces : (ms : List Mark) (line : ℕ) → Paces ms (One code op.EndMain line)
+  pub main_end_paces : (ms : List CodeMark) (line : ℕ) → Paces ms (One code op.EndMain line)
   main_end_paces ms line = record {
     rises = λ a z h. let e = h.end in omega arith;
     plain = λ a z h p. own_plain code table a op.EndMain line h.here (λ n k x. refl) (λ k t. refl) (subst (Outside code table) h.end p.outside);
@@ -586,7 +586,7 @@ module _ (code : Laid) (table : List RoutineCode) (any : Bool) where
     stays = λ from to floor a z h n l m x. stay_one code table from to floor a z op.EndMain line h.here h.end tt;
   }
 
-  pub task_end_paces : (ms : List Mark) (line : ℕ) → Paces ms (One code op.EndTask line)
+  pub task_end_paces : (ms : List CodeMark) (line : ℕ) → Paces ms (One code op.EndTask line)
   task_end_paces ms line = record {
     rises = λ a z h. let e = h.end in omega arith;
     plain = λ a z h p. own_plain code table a op.EndTask line h.here (λ n k x. refl) (λ k t. refl) (subst (Outside code table) h.end p.outside);
@@ -594,7 +594,7 @@ module _ (code : Laid) (table : List RoutineCode) (any : Bool) where
     stays = λ from to floor a z h n l m x. stay_one code table from to floor a z op.EndTask line h.here h.end tt;
   }
 
-  pub value_return_paces : (ms : List Mark) (line : ℕ) → Paces ms (One code op.ReturnValue line)
+  pub value_return_paces : (ms : List CodeMark) (line : ℕ) → Paces ms (One code op.ReturnValue line)
   value_return_paces ms line = record {
     rises = λ a z h. let e = h.end in omega arith;
     plain = λ a z h p. own_plain code table a op.ReturnValue line h.here (λ n k x. refl) (λ k t. refl) (subst (Outside code table) h.end p.outside);
@@ -602,7 +602,7 @@ module _ (code : Laid) (table : List RoutineCode) (any : Bool) where
     stays = λ from to floor a z h n l m x. stay_one code table from to floor a z op.ReturnValue line h.here h.end tt;
   }
 
-  pub none_return_paces : (ms : List Mark) (line : ℕ) → Paces ms (One code op.ReturnNone line)
+  pub none_return_paces : (ms : List CodeMark) (line : ℕ) → Paces ms (One code op.ReturnNone line)
   none_return_paces ms line = record {
     rises = λ a z h. let e = h.end in omega arith;
     plain = λ a z h p. own_plain code table a op.ReturnNone line h.here (λ n k x. refl) (λ k t. refl) (subst (Outside code table) h.end p.outside);

@@ -2,7 +2,7 @@
 use Rattle.std.proofs.Common.{◌≡◌, ℕ, suc, ◌+◌, ◌-◌, ◌*◌, ◌^◌, ◌<◌, ◌≤◌, min, List, Option, Some, length, refl, ap, subst, ◌∙◌, arith}
 use Rattle.uc_code.specs.declared.op.Op.{Op}
 use Rattle.uc_code.specs.declared.op.Op.TheVariants as op
-use Rattle.uc_code.specs.declared.rows.Mark.{Mark}
+use Rattle.uc_code.specs.declared.rows.CodeMark.{CodeMark}
 use Rattle.uc_code.specs.declared.rows.ObjectCall.{ObjectCall}
 use Rattle.uc_code.specs.declared.rows.RoutineCode.{RoutineCode}
 use Rattle.uc_code.specs.Layout.{Laid, handlers, routine_in}
@@ -26,7 +26,7 @@ module _ (code : Laid) (table : List RoutineCode) where
   pub test_falls : (test turn : ℕ) (o : Op) (at first few : ℕ) → In code table test turn o test → Outside code table at → Low code table test → Low code table turn → height code.ops at ≡ behind (length code.ops) at → at < turn → at < test → turn < length code.ops → test < length code.ops → few < 2 ^ 32 → burden code.ops test first ≡ power (height code.ops test) + few * power (height code.ops turn) → (e : ℕ) → burden code.ops test first < burden code.ops at e
   test_falls test turn o at first few n q l m h x y v w f b = λ e. rw (burden_is code table at e q, b) (power_few few (height code.ops test) (height code.ops turn) (height code.ops at) f (omega arith) (omega arith))
 
-  module _ (line : ℕ) (ms : List Mark) (what : ObjectCall) (test turn z : ℕ) where
+  module _ (line : ℕ) (ms : List CodeMark) (what : ObjectCall) (test turn z : ℕ) where
     -- destruction
 
     pub sweep_in : Rounds code line op.Sweep (CallDone code line what ms) test turn z → In code table test turn (op.Sweep turn) turn

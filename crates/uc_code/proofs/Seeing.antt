@@ -1,9 +1,9 @@
 -- The innermost row of marks that is below a number.
 use Rattle.std.proofs.Common.{◌≡◌, ℕ, suc, ◌+◌, ◌-◌, ◌<◌, ◌≤◌, min, List, ◌∷◌, length, get_or, reverse, take, Some, refl, ap, sym, ◌∙◌, arith, inl, inr}
 use Rattle.std.proofs.lemmas.Bool.{cases_lt, lt-ltb, le-ltb}
-use Rattle.uc_code.specs.declared.rows.Mark.{Mark}
-use Rattle.uc_code.specs.declared.rows.Mark.TheVariants as mark
-use Rattle.uc_code.specs.declared.marks.Seen.TheVariants as seen
+use Rattle.uc_code.specs.declared.rows.CodeMark.{CodeMark}
+use Rattle.uc_code.specs.declared.rows.CodeMark.TheVariants as mark
+use Rattle.uc_code.specs.declared.marks.RowView.TheVariants as seen
 use Rattle.uc_code.specs.Layout.{under, handlers}
 use Rattle.uc_code.specs.OpenRows.{first_in, seen_row, seen_at}
 use Rattle.uc_code.proofs.Nesting.{under_take, under_drop, under_under}
@@ -39,7 +39,7 @@ row_next row bound k hs e = elim (cases_lt row bound) [
   | inr l ↦ let q : bound ≡ k = same_bound bound k (sym (past_seen row bound l) ∙ e) in under_drop bound row hs l ∙ ap (λ b. under b hs) q
 ]
 
-pub seen_row_is : (m : Mark) (ms : List Mark) (bound k : ℕ) → seen_at m bound ≡ seen.Row k → under bound (handlers (m ∷ ms)) ≡ k ∷ under bound (handlers ms)
+pub seen_row_is : (m : CodeMark) (ms : List CodeMark) (bound k : ℕ) → seen_at m bound ≡ seen.Row k → under bound (handlers (m ∷ ms)) ≡ k ∷ under bound (handlers ms)
 seen_row_is (mark.Body routine) ms bound k e = no_row bound k e
 seen_row_is (mark.Loop leave again) ms bound k e = no_row bound k e
 seen_row_is (mark.Outward below row) ms bound k e = no_row (min bound below) k e
@@ -50,7 +50,7 @@ seen_row_is (mark.Guard row) ms bound k e = row_seen row bound k (handlers ms) e
 seen_row_is (mark.Finish main routine line row) ms bound k e = row_seen row bound k (handlers ms) e
 seen_row_is (mark.Whole leave row) ms bound k e = row_seen row bound k (handlers ms) e
 
-pub seen_next : (m : Mark) (ms : List Mark) (bound k : ℕ) → seen_at m bound ≡ seen.Bound k → under bound (handlers (m ∷ ms)) ≡ under k (handlers ms)
+pub seen_next : (m : CodeMark) (ms : List CodeMark) (bound k : ℕ) → seen_at m bound ≡ seen.Bound k → under bound (handlers (m ∷ ms)) ≡ under k (handlers ms)
 seen_next (mark.Body routine) ms bound k e = ap (λ b. under b (handlers ms)) (same_bound bound k e)
 seen_next (mark.Loop leave again) ms bound k e = ap (λ b. under b (handlers ms)) (same_bound bound k e)
 seen_next (mark.Outward below row) ms bound k e = under_under bound below (handlers ms) ∙ ap (λ b. under b (handlers ms)) (same_bound (min bound below) k e)
@@ -63,7 +63,7 @@ seen_next (mark.Whole leave row) ms bound k e = row_next row bound k (handlers m
 
 -- the steps of the loops
 
-module _ (marks : List Mark) (i : ℕ) (d : Mark) (p : 0 < i) (l : i ≤ length marks) where
+module _ (marks : List CodeMark) (i : ℕ) (d : CodeMark) (p : 0 < i) (l : i ≤ length marks) where
   innermost : reverse (take i marks) ≡ get_or marks (i - 1) d ∷ reverse (take (i - 1) marks)
   innermost = reverse_take marks i d p l
 

@@ -10,8 +10,8 @@ use Rattle.uc_code.specs.declared.rows.Instruction.{Instruction}
 use Rattle.uc_code.specs.declared.rows.RowKind.{RowKind}
 use Rattle.uc_code.specs.declared.rows.Handler.{Handler}
 use Rattle.uc_code.specs.declared.rows.TheConstants.{OPEN_END}
-use Rattle.uc_code.specs.declared.rows.Mark.{Mark}
-use Rattle.uc_code.specs.declared.rows.Mark.TheVariants as mark
+use Rattle.uc_code.specs.declared.rows.CodeMark.{CodeMark}
+use Rattle.uc_code.specs.declared.rows.CodeMark.TheVariants as mark
 use Rattle.uc_code.specs.declared.rows.Opening.{Opening}
 use Rattle.uc_code.specs.declared.rows.Opening.TheVariants as opening
 use Rattle.uc_code.specs.Drafts.{ops_with}
@@ -23,7 +23,7 @@ use Rattle.uc_code.proofs.Nesting.{newest, nested_rise, all_below, under_all, be
 use Rattle.uc_code.proofs.Closing.{Leaves, leaves, closes_list, closes_newest, reverse_push}
 
 -- the op that comes next has the handlers of the marks
-pub risk_with : (ops : List Instruction) (settled : ℕ) (rows : List HandlerRow) (ms : List Mark) (o : Op) (line : ℕ) → length ops < PROGRAM_OPS → IsSettled (length ops) settled rows ms → Risk (record { ops = ops_with ops o line; rows = rows }) ms o line (length ops) (length (ops_with ops o line))
+pub risk_with : (ops : List Instruction) (settled : ℕ) (rows : List HandlerRow) (ms : List CodeMark) (o : Op) (line : ℕ) → length ops < PROGRAM_OPS → IsSettled (length ops) settled rows ms → Risk (record { ops = ops_with ops o line; rows = rows }) ms o line (length ops) (length (ops_with ops o line))
 risk_with ops settled rows ms o line l s =
     let code : Laid = record { ops = ops; rows = rows } in
     let one = one_with code o line in
@@ -37,25 +37,25 @@ risk_with ops settled rows ms o line l s =
 
 -- more ops, fewer ops behind all rows
 
-pub settled_more : (ops more settled : ℕ) (rows : List HandlerRow) (ms : List Mark) → ops ≤ more → IsSettled ops settled rows ms → IsSettled more settled rows ms
+pub settled_more : (ops more settled : ℕ) (rows : List HandlerRow) (ms : List CodeMark) → ops ≤ more → IsSettled ops settled rows ms → IsSettled more settled rows ms
 settled_more ops more settled rows ms l s = record { past = let p = s.past in omega arith; few = s.few; nested = s.nested; behind = s.behind }
 
-pub settled_cut : (ops count settled : ℕ) (rows : List HandlerRow) (ms : List Mark) → settled ≤ count → IsSettled ops settled rows ms → IsSettled (min count ops) settled rows ms
+pub settled_cut : (ops count settled : ℕ) (rows : List HandlerRow) (ms : List CodeMark) → settled ≤ count → IsSettled ops settled rows ms → IsSettled (min count ops) settled rows ms
 settled_cut ops count settled rows ms l s = record { past = let p = s.past in omega arith; few = s.few; nested = s.nested; behind = s.behind }
 
 -- marks without rows
 
-pub settled_body : (ops settled routine : ℕ) (rows : List HandlerRow) (ms : List Mark) → IsSettled ops settled rows ms → IsSettled ops settled rows (mark.Body routine ∷ ms)
+pub settled_body : (ops settled routine : ℕ) (rows : List HandlerRow) (ms : List CodeMark) → IsSettled ops settled rows ms → IsSettled ops settled rows (mark.Body routine ∷ ms)
 settled_body ops settled routine rows ms s = record { past = s.past; few = s.few; nested = InBody routine (reverse rows) ms s.nested; behind = s.behind }
 
-pub settled_loop : (ops settled leave again : ℕ) (rows : List HandlerRow) (ms : List Mark) → IsSettled ops settled rows ms → IsSettled ops settled rows (mark.Loop leave again ∷ ms)
+pub settled_loop : (ops settled leave again : ℕ) (rows : List HandlerRow) (ms : List CodeMark) → IsSettled ops settled rows ms → IsSettled ops settled rows (mark.Loop leave again ∷ ms)
 settled_loop ops settled leave again rows ms s = record { past = s.past; few = s.few; nested = InLoop leave again (reverse rows) ms s.nested; behind = s.behind }
 
-abbrev pub tail_of : List Mark → List Mark
+abbrev pub tail_of : List CodeMark → List CodeMark
 tail_of [] = []
 tail_of (m ∷ ms) = ms
 
-rowless_opening : (o : Opening) (n : ℕ) (ms : List Mark) → is_rowless (opening_mark o n ∷ ms) ≡ false
+rowless_opening : (o : Opening) (n : ℕ) (ms : List CodeMark) → is_rowless (opening_mark o n ∷ ms) ≡ false
 rowless_opening (opening.Main main routine line) n ms = refl
 rowless_opening (opening.Whole leave) n ms = refl
 rowless_opening opening.Handler n ms = refl
@@ -64,14 +64,14 @@ rowless_opening opening.Part n ms = refl
 rowless_opening opening.Elements n ms = refl
 rowless_opening (opening.Outward below) n ms = refl
 
-nested_left : (here : ℕ) (rs : List HandlerRow) (ms : List Mark) → Nested here rs ms → is_rowless ms ≡ true → Nested here rs (left_marks ms)
+nested_left : (here : ℕ) (rs : List HandlerRow) (ms : List CodeMark) → Nested here rs ms → is_rowless ms ≡ true → Nested here rs (left_marks ms)
 nested_left here rs ms Bare e = Bare
 nested_left here rs ms (Ended r qs _ l n) e = Ended r qs (left_marks ms) l (nested_left here qs ms n e)
 nested_left here rs ms (InBody routine _ qs n) e = n
 nested_left here rs ms (InLoop leave again _ qs n) e = n
 nested_left here rs ms (InRow o from qs ns l n) e = let f : true ≡ false = sym e ∙ rowless_opening o (length qs) ns in absurd (cc)
 
-behind_left : (ms : List Mark) → AllBehind ms → AllBehind (left_marks ms)
+behind_left : (ms : List CodeMark) → AllBehind ms → AllBehind (left_marks ms)
 behind_left [] b = b
 behind_left (mark.Body routine ∷ ms) b = b
 behind_left (mark.Finish main routine line row ∷ ms) b = b
@@ -83,11 +83,11 @@ behind_left (mark.Part row ∷ ms) b = b
 behind_left (mark.Elements row ∷ ms) b = b
 behind_left (mark.Outward below row ∷ ms) b = b
 
-pub settled_left : (ops settled : ℕ) (rows : List HandlerRow) (ms : List Mark) → is_rowless ms ≡ true → IsSettled ops settled rows ms → IsSettled ops settled rows (left_marks ms)
+pub settled_left : (ops settled : ℕ) (rows : List HandlerRow) (ms : List CodeMark) → is_rowless ms ≡ true → IsSettled ops settled rows ms → IsSettled ops settled rows (left_marks ms)
 settled_left ops settled rows ms e s = record { past = s.past; few = s.few; nested = nested_left settled (reverse rows) ms s.nested e; behind = behind_left ms s.behind }
 
 -- where it has no row, the innermost mark is what is left out
-pub left_rowless : (m : Mark) (ms : List Mark) → is_rowless (m ∷ ms) ≡ true → left_marks (m ∷ ms) ≡ ms
+pub left_rowless : (m : CodeMark) (ms : List CodeMark) → is_rowless (m ∷ ms) ≡ true → left_marks (m ∷ ms) ≡ ms
 left_rowless (mark.Body routine) ms e = refl
 left_rowless (mark.Finish main routine line row) ms e = absurd (cc)
 left_rowless (mark.Loop leave again) ms e = refl
@@ -98,7 +98,7 @@ left_rowless (mark.Part row) ms e = absurd (cc)
 left_rowless (mark.Elements row) ms e = absurd (cc)
 left_rowless (mark.Outward below row) ms e = absurd (cc)
 
-pub left_not : (ms : List Mark) → is_rowless ms ≡ false → left_marks ms ≡ ms
+pub left_not : (ms : List CodeMark) → is_rowless ms ≡ false → left_marks ms ≡ ms
 left_not [] e = refl
 left_not (mark.Body routine ∷ ms) e = absurd (cc)
 left_not (mark.Finish main routine line row ∷ ms) e = refl
@@ -110,13 +110,13 @@ left_not (mark.Part row ∷ ms) e = refl
 left_not (mark.Elements row ∷ ms) e = refl
 left_not (mark.Outward below row ∷ ms) e = refl
 
-pub left_tail : (ms : List Mark) → is_rowless ms ≡ true → left_marks ms ≡ drop 1 ms
+pub left_tail : (ms : List CodeMark) → is_rowless ms ≡ true → left_marks ms ≡ drop 1 ms
 left_tail [] e = refl
 left_tail (m ∷ ms) e = left_rowless m ms e
 
 -- opening
 
-behind_opening : (o : Opening) (n : ℕ) (ms : List Mark) → OpensBehind o ms → AllBehind ms → AllBehind (opening_mark o n ∷ ms)
+behind_opening : (o : Opening) (n : ℕ) (ms : List CodeMark) → OpensBehind o ms → AllBehind ms → AllBehind (opening_mark o n ∷ ms)
 behind_opening (opening.Main main routine line) n ms h b = b
 behind_opening (opening.Whole leave) n ms h b = b
 behind_opening opening.Handler n ms h b = b
@@ -125,7 +125,7 @@ behind_opening opening.Part n ms h b = b
 behind_opening opening.Elements n ms h b = b
 behind_opening (opening.Outward below) n ms h b = b
 
-pub settled_open : (o : Opening) (ops settled : ℕ) (rows : List HandlerRow) (ms : List Mark) → length rows < OPEN_END → OpensBehind o ms → IsSettled ops settled rows ms → IsSettled ops ops (rows ++ made o ops ms ∷ []) (opening_mark o (length rows) ∷ ms)
+pub settled_open : (o : Opening) (ops settled : ℕ) (rows : List HandlerRow) (ms : List CodeMark) → length rows < OPEN_END → OpensBehind o ms → IsSettled ops settled rows ms → IsSettled ops ops (rows ++ made o ops ms ∷ []) (opening_mark o (length rows) ∷ ms)
 settled_open o ops settled rows ms l h s =
     let e : length (reverse rows) ≡ length rows = length-reverse rows in
     let r : HandlerRow = made o ops ms in
@@ -138,14 +138,14 @@ settled_open o ops settled rows ms l h s =
       behind = behind_opening o (length rows) ms h s.behind;
     }
 
-rows_below : (ops settled : ℕ) (rows : List HandlerRow) (ms : List Mark) → IsSettled ops settled rows ms → Below (length rows) (handlers ms)
+rows_below : (ops settled : ℕ) (rows : List HandlerRow) (ms : List CodeMark) → IsSettled ops settled rows ms → Below (length rows) (handlers ms)
 rows_below ops settled rows ms s = subst (λ k. Below k (handlers ms)) (length-reverse rows) (all_below settled (reverse rows) ms s.nested)
 
-pub all_rows : (ops settled : ℕ) (rows : List HandlerRow) (ms : List Mark) → IsSettled ops settled rows ms → under (length rows) (handlers ms) ≡ handlers ms
+pub all_rows : (ops settled : ℕ) (rows : List HandlerRow) (ms : List CodeMark) → IsSettled ops settled rows ms → under (length rows) (handlers ms) ≡ handlers ms
 all_rows ops settled rows ms s = under_all (length rows) (handlers ms) (rows_below ops settled rows ms s)
 
 -- the row around a new one
-pub outer_is : (o : Opening) (ops settled : ℕ) (rows : List HandlerRow) (ms : List Mark) → IsSettled ops settled rows ms → first_in (under (opening_bound o (length rows)) (handlers ms)) ≡ first_in (opening_around o ms)
+pub outer_is : (o : Opening) (ops settled : ℕ) (rows : List HandlerRow) (ms : List CodeMark) → IsSettled ops settled rows ms → first_in (under (opening_bound o (length rows)) (handlers ms)) ≡ first_in (opening_around o ms)
 outer_is (opening.Main main routine line) ops settled rows ms s = ap first_in (all_rows ops settled rows ms s)
 outer_is (opening.Whole leave) ops settled rows ms s = ap first_in (all_rows ops settled rows ms s)
 outer_is opening.Handler ops settled rows ms s = ap first_in (all_rows ops settled rows ms s)
@@ -159,7 +159,7 @@ first_small k [] n b e = absurd (cc)
 first_small k (m ∷ ns) n b e = let f : m ≡ n = cc in let l = b.0 in omega arith
 
 -- its name fits
-pub outer_fits : (b ops settled : ℕ) (rows : List HandlerRow) (ms : List Mark) (row : Option ℕ) → length rows < OPEN_END → row ≡ first_in (under b (handlers ms)) → IsSettled ops settled rows ms → (n : ℕ) → row ≡ Some n → n + 1 < 2 ^ 32
+pub outer_fits : (b ops settled : ℕ) (rows : List HandlerRow) (ms : List CodeMark) (row : Option ℕ) → length rows < OPEN_END → row ≡ first_in (under b (handlers ms)) → IsSettled ops settled rows ms → (n : ℕ) → row ≡ Some n → n + 1 < 2 ^ 32
 outer_fits b ops settled rows ms row l e s n q =
     let k : n < length rows = first_small (length rows) (under b (handlers ms)) n (below_under (length rows) b (handlers ms) (rows_below ops settled rows ms s)) (sym e ∙ q) in
     omega arith
@@ -202,7 +202,7 @@ length_closed here entry k [] = refl
 length_closed here entry zero (r ∷ rs) = refl
 length_closed here entry (suc k) (r ∷ rs) = ap suc (length_closed here entry k rs)
 
-behind_tail : (ms : List Mark) → AllBehind ms → AllBehind (drop 1 ms)
+behind_tail : (ms : List CodeMark) → AllBehind ms → AllBehind (drop 1 ms)
 behind_tail [] b = b
 behind_tail (mark.Body routine ∷ ms) b = b
 behind_tail (mark.Finish main routine line row ∷ ms) b = b
@@ -214,7 +214,7 @@ behind_tail (mark.Part row ∷ ms) b = b
 behind_tail (mark.Elements row ∷ ms) b = b
 behind_tail (mark.Outward below row ∷ ms) b = b
 
-module _ (entry : ℕ) (ops : List Instruction) (settled : ℕ) (rows : List HandlerRow) (ms : List Mark) (k : ℕ) (s : IsSettled (length ops) settled rows ms) (e : row_in ms ≡ Some k) where
+module _ (entry : ℕ) (ops : List Instruction) (settled : ℕ) (rows : List HandlerRow) (ms : List CodeMark) (k : ℕ) (s : IsSettled (length ops) settled rows ms) (e : row_in ms ≡ Some k) where
   abbrev here : ℕ
   here = length ops
 
@@ -285,7 +285,7 @@ module _ (entry : ℕ) (ops : List Instruction) (settled : ℕ) (rows : List Han
     none = e;
   }
 
-pub handler_row : (ms : List Mark) (k : ℕ) → handler_in ms ≡ Some k → row_in ms ≡ Some k
+pub handler_row : (ms : List CodeMark) (k : ℕ) → handler_in ms ≡ Some k → row_in ms ≡ Some k
 handler_row [] k e = absurd (cc)
 handler_row (mark.Body routine ∷ ms) k e = absurd (cc)
 handler_row (mark.Finish main routine line row ∷ ms) k e = e
@@ -297,7 +297,7 @@ handler_row (mark.Part row ∷ ms) k e = e
 handler_row (mark.Elements row ∷ ms) k e = e
 handler_row (mark.Outward below row ∷ ms) k e = absurd (cc)
 
-pub guard_row : (ms : List Mark) (k : ℕ) → guard_in ms ≡ Some k → row_in ms ≡ Some k
+pub guard_row : (ms : List CodeMark) (k : ℕ) → guard_in ms ≡ Some k → row_in ms ≡ Some k
 guard_row [] k e = absurd (cc)
 guard_row (mark.Body routine ∷ ms) k e = absurd (cc)
 guard_row (mark.Finish main routine line row ∷ ms) k e = absurd (cc)
@@ -309,7 +309,7 @@ guard_row (mark.Part row ∷ ms) k e = absurd (cc)
 guard_row (mark.Elements row ∷ ms) k e = absurd (cc)
 guard_row (mark.Outward below row ∷ ms) k e = absurd (cc)
 
-pub guard_entry : (ms : List Mark) (k entry : ℕ) → guard_in ms ≡ Some k → entry_in ms entry ≡ 0
+pub guard_entry : (ms : List CodeMark) (k entry : ℕ) → guard_in ms ≡ Some k → entry_in ms entry ≡ 0
 guard_entry [] k entry e = absurd (cc)
 guard_entry (mark.Body routine ∷ ms) k entry e = absurd (cc)
 guard_entry (mark.Finish main routine line row ∷ ms) k entry e = absurd (cc)
@@ -321,7 +321,7 @@ guard_entry (mark.Part row ∷ ms) k entry e = absurd (cc)
 guard_entry (mark.Elements row ∷ ms) k entry e = absurd (cc)
 guard_entry (mark.Outward below row ∷ ms) k entry e = absurd (cc)
 
-pub handler_entry : (ms : List Mark) (k entry : ℕ) → handler_in ms ≡ Some k → entry_in ms entry ≡ entry
+pub handler_entry : (ms : List CodeMark) (k entry : ℕ) → handler_in ms ≡ Some k → entry_in ms entry ≡ entry
 handler_entry [] k entry e = absurd (cc)
 handler_entry (mark.Body routine ∷ ms) k entry e = refl
 handler_entry (mark.Finish main routine line row ∷ ms) k entry e = refl
@@ -333,14 +333,14 @@ handler_entry (mark.Part row ∷ ms) k entry e = refl
 handler_entry (mark.Elements row ∷ ms) k entry e = refl
 handler_entry (mark.Outward below row ∷ ms) k entry e = refl
 
-pub handler_none : (ms : List Mark) (k : ℕ) → row_in ms ≡ None → handler_in ms ≡ Some k → ⊥
+pub handler_none : (ms : List CodeMark) (k : ℕ) → row_in ms ≡ None → handler_in ms ≡ Some k → ⊥
 handler_none ms k e h = let f : Some k ≡ None = sym (handler_row ms k h) ∙ e in absurd (cc)
 
 same_some : (a b : ℕ) → (let o : Option ℕ = Some a in o ≡ Some b) → a ≡ b
 same_some a b e = cc
 
 -- the row that is closed is the one that the innermost mark has, and its clean-up begins there
-pub handler_closed : (entry : ℕ) (ops : List Instruction) (settled : ℕ) (rows : List HandlerRow) (ms : List Mark) (k : ℕ) → IsSettled (length ops) settled rows ms → row_in ms ≡ Some k → 0 < entry → (row : ℕ) → handler_in ms ≡ Some row → HandlerAt (record { ops = ops; rows = closed_rows (length ops) (entry_in ms entry) k rows }) row (clean_up entry)
+pub handler_closed : (entry : ℕ) (ops : List Instruction) (settled : ℕ) (rows : List HandlerRow) (ms : List CodeMark) (k : ℕ) → IsSettled (length ops) settled rows ms → row_in ms ≡ Some k → 0 < entry → (row : ℕ) → handler_in ms ≡ Some row → HandlerAt (record { ops = ops; rows = closed_rows (length ops) (entry_in ms entry) k rows }) row (clean_up entry)
 handler_closed entry ops settled rows ms k s e l row h =
     let q : k ≡ row = same_some k row (sym e ∙ handler_row ms row h) in
     let g : handler_in ms ≡ Some k = h ∙ ap (λ (n : ℕ). Some n) (sym q) in
@@ -348,7 +348,7 @@ handler_closed entry ops settled rows ms k s e l row h =
     subst (λ n. HandlerAt (record { ops = ops; rows = closed_rows (length ops) (entry_in ms entry) k rows }) n (clean_up entry)) q
     (subst (λ n. HandlerAt (record { ops = ops; rows = closed_rows (length ops) n k rows }) k (clean_up entry)) (sym f) (handler_close entry ops settled rows ms k s e l g))
 
-pub bare_closed : (entry : ℕ) (ops : List Instruction) (settled : ℕ) (rows : List HandlerRow) (ms : List Mark) (k : ℕ) → IsSettled (length ops) settled rows ms → row_in ms ≡ Some k → length ops ≤ PROGRAM_OPS → (row : ℕ) → guard_in ms ≡ Some row → IsBare (record { ops = ops; rows = closed_rows (length ops) (entry_in ms entry) k rows }) row
+pub bare_closed : (entry : ℕ) (ops : List Instruction) (settled : ℕ) (rows : List HandlerRow) (ms : List CodeMark) (k : ℕ) → IsSettled (length ops) settled rows ms → row_in ms ≡ Some k → length ops ≤ PROGRAM_OPS → (row : ℕ) → guard_in ms ≡ Some row → IsBare (record { ops = ops; rows = closed_rows (length ops) (entry_in ms entry) k rows }) row
 bare_closed entry ops settled rows ms k s e l row h =
     let q : k ≡ row = same_some k row (sym e ∙ guard_row ms row h) in
     let g : guard_in ms ≡ Some k = h ∙ ap (λ (n : ℕ). Some n) (sym q) in
@@ -356,5 +356,5 @@ bare_closed entry ops settled rows ms k s e l row h =
     (bare_close (entry_in ms entry) ops settled rows ms k s e (guard_entry ms row entry h) l g)
 
 -- the row that is made
-pub row_made : (o : Opening) (ops from outer event : ℕ) (kind : RowKind) (ms : List Mark) → from ≡ ops → outer ≡ named_by (opening_around o ms) → kind ≡ opening_kind o → event ≡ opening_event o → (let r : HandlerRow = record { from = from; to = OPEN_END; outer = outer; kind = kind; event = event; rest = 0; entry = 0 } in r ≡ made o ops ms)
+pub row_made : (o : Opening) (ops from outer event : ℕ) (kind : RowKind) (ms : List CodeMark) → from ≡ ops → outer ≡ named_by (opening_around o ms) → kind ≡ opening_kind o → event ≡ opening_event o → (let r : HandlerRow = record { from = from; to = OPEN_END; outer = outer; kind = kind; event = event; rest = 0; entry = 0 } in r ≡ made o ops ms)
 row_made o ops from outer event kind ms e f k g = rw (e, f, k, g) refl

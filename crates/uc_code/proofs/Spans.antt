@@ -11,15 +11,15 @@ use Rattle.uc_code.specs.declared.rows.Cleaning.{Cleaning}
 use Rattle.uc_code.specs.declared.rows.Cleaning.TheVariants as cleaning
 use Rattle.uc_code.specs.declared.rows.Manner.{Manner}
 use Rattle.uc_code.specs.declared.rows.Manner.TheVariants as manner
-use Rattle.uc_code.specs.declared.rows.Mark.{Mark}
-use Rattle.uc_code.specs.declared.rows.Mark.TheVariants as mark
+use Rattle.uc_code.specs.declared.rows.CodeMark.{CodeMark}
+use Rattle.uc_code.specs.declared.rows.CodeMark.TheVariants as mark
 use Rattle.uc_code.specs.declared.rows.ObjectCall.{ObjectCall}
 use Rattle.uc_code.specs.declared.rows.Resource.{Resource}
 use Rattle.uc_code.specs.declared.rows.Resource.TheVariants as resource
 use Rattle.uc_code.specs.declared.rows.RoutineCode.{RoutineCode}
 use Rattle.uc_code.specs.declared.rows.RowKind.TheVariants.{CatchResume, CleanUp as OfCleanUp}
-use Rattle.uc_code.specs.declared.rows.Spot.{Spot}
-use Rattle.uc_code.specs.declared.rows.Spot.TheVariants as spot
+use Rattle.uc_code.specs.declared.rows.ObjectSpot.{ObjectSpot}
+use Rattle.uc_code.specs.declared.rows.ObjectSpot.TheVariants as spot
 use Rattle.uc_code.specs.ObjectCalls.{Cleans, One as CleansOne, All as CleansAll, TakesDown, IsForgotten, Left, Ended, Freed, Restored}
 use Rattle.uc_code.specs.Silent.{silent_clean}
 use Rattle.uc_code.specs.Layout.{Laid, handlers, routine_in}
@@ -33,16 +33,16 @@ use Rattle.uc_code.proofs.Rounds.{before_turns, test_falls, sweep_test, sweep_in
 use Rattle.uc_code.proofs.Pacing as pacing
 
 module _ (code : Laid) (table : List RoutineCode) (any : Bool) where
-  abbrev Paces : List Mark → (ℕ → ℕ → Type 0) → Type 0
+  abbrev Paces : List CodeMark → (ℕ → ℕ → Type 0) → Type 0
   Paces ms B = pacing.Paces code table any ms B
 
   abbrev Loud : ℕ → ℕ → Type 0
   Loud floor to = pacing.Loud code table any floor to
 
-  onward : (ms : List Mark) (o : Op) (line : ℕ) → ((n k h : ℕ) → climb_op n k o h ≡ suc h) → ((k : ℕ) (t : Option Test) → test_by o k t ≡ t) → ((at : ℕ) → Onward code table at (at + 1) → Paced code table at o) → ((from to floor at : ℕ) → In code table from to (at + 1) → Stays code table from to floor at o) → Paces ms (One code o line)
+  onward : (ms : List CodeMark) (o : Op) (line : ℕ) → ((n k h : ℕ) → climb_op n k o h ≡ suc h) → ((k : ℕ) (t : Option Test) → test_by o k t ≡ t) → ((at : ℕ) → Onward code table at (at + 1) → Paced code table at o) → ((from to floor at : ℕ) → In code table from to (at + 1) → Stays code table from to floor at o) → Paces ms (One code o line)
   onward ms o line c t f g = pacing.onward_paces code table any ms o line c t f g
 
-  both : {B C : ℕ → ℕ → Type 0} → (ms : List Mark) → Paces ms B → Paces ms C → Paces ms (Both B C)
+  both : {B C : ℕ → ℕ → Type 0} → (ms : List CodeMark) → Paces ms B → Paces ms C → Paces ms (Both B C)
   both ms b c = pacing.both code table any ms b c
 
   next_in : (from to a z : ℕ) → z ≡ a + 1 → from ≤ a → z < to → In code table from to (a + 1)
@@ -53,32 +53,32 @@ module _ (code : Laid) (table : List RoutineCode) (any : Bool) where
 
   -- calls of constructors and destructors
 
-  pub spot_paces : (ms : List Mark) (line : ℕ) (s : Spot) → Paces ms (One code (spot_op s) line)
+  pub spot_paces : (ms : List CodeMark) (line : ℕ) (s : ObjectSpot) → Paces ms (One code (spot_op s) line)
   spot_paces ms line (spot.Local k) = onward ms (op.Local k) line (λ n k h. refl) (λ k t. refl) (λ at l. l) (λ from to floor at i. i)
   spot_paces ms line (spot.This k) = onward ms (op.This k) line (λ n k h. refl) (λ k t. refl) (λ at l. l) (λ from to floor at i. i)
 
-  place_paces : (ms : List Mark) (line : ℕ) (s : Spot) (a : Option ArrayOf) → Paces ms (SpotAt code line s a)
+  place_paces : (ms : List CodeMark) (line : ℕ) (s : ObjectSpot) (a : Option ArrayOf) → Paces ms (SpotAt code line s a)
   place_paces ms line s None = spot_paces ms line s
   place_paces ms line s (Some a) =
       both ms (spot_paces ms line s) (both ms (onward ms op.Counted line (λ n k h. refl) (λ k t. refl) (λ at l. l) (λ from to floor at i. i)) (onward ms (op.Index a.length a.size) line (λ n k h. refl) (λ k t. refl) (λ at l. l) (λ from to floor at i. i)))
 
-  found_paces : (ms : List Mark) (line : ℕ) (m : Manner) (s : Spot) (a : Option ArrayOf) → Paces ms (FoundAt code line m s a)
+  found_paces : (ms : List CodeMark) (line : ℕ) (m : Manner) (s : ObjectSpot) (a : Option ArrayOf) → Paces ms (FoundAt code line m s a)
   found_paces ms line manner.Plain s a = place_paces ms line s a
   found_paces ms line (manner.Makes c) s a = place_paces ms line s a
   found_paces ms line manner.Ends s a = both ms (place_paces ms line s a) (onward ms op.Load line (λ n k h. refl) (λ k t. refl) (λ at l. l) (λ from to floor at i. i))
   found_paces ms line (manner.Opens of) s a = place_paces ms line s a
   found_paces ms line (manner.Closes of) s a = both ms (place_paces ms line s a) (onward ms op.Load line (λ n k h. refl) (λ k t. refl) (λ at l. l) (λ from to floor at i. i))
 
-  opened_paces : (ms : List Mark) (line : ℕ) (of : Resource) → Paces ms (OpenedAt code line of)
+  opened_paces : (ms : List CodeMark) (line : ℕ) (of : Resource) → Paces ms (OpenedAt code line of)
   opened_paces ms line resource.Cluster = both ms (onward ms op.Cluster line (λ n k h. refl) (λ k t. refl) (λ at l. l) (λ from to floor at i. i)) (onward ms op.Bind line (λ n k h. refl) (λ k t. refl) (λ at l. l) (λ from to floor at i. i))
   opened_paces ms line resource.Processor =
       both ms (both ms (onward ms (op.Push (pos 0)) line (λ n k h. refl) (λ k t. refl) (λ at l. l) (λ from to floor at i. i)) (onward ms op.Processor line (λ n k h. refl) (λ k t. refl) (λ at l. l) (λ from to floor at i. i))) (onward ms op.Bind line (λ n k h. refl) (λ k t. refl) (λ at l. l) (λ from to floor at i. i))
 
-  closed_paces : (ms : List Mark) (line : ℕ) (of : Resource) → Paces ms (One code (close_op of) line)
+  closed_paces : (ms : List CodeMark) (line : ℕ) (of : Resource) → Paces ms (One code (close_op of) line)
   closed_paces ms line resource.Cluster = onward ms op.ClusterEnd line (λ n k h. refl) (λ k t. refl) (λ at l. l) (λ from to floor at i. i)
   closed_paces ms line resource.Processor = onward ms op.ProcessorEnd line (λ n k h. refl) (λ k t. refl) (λ at l. l) (λ from to floor at i. i)
 
-  called_paces : (ms : List Mark) (line : ℕ) (m : Manner) (written : Bool) (r : ℕ) → Paces ms (CalledAt code line ms m written r)
+  called_paces : (ms : List CodeMark) (line : ℕ) (m : Manner) (written : Bool) (r : ℕ) → Paces ms (CalledAt code line ms m written r)
   called_paces ms line manner.Plain true r = both ms (pacing.nothing_paces code table any ms) (pacing.call_on_paces code table any ms line r)
   called_paces ms line manner.Plain false r = pacing.calls_behind_paces code table any ms line r
   called_paces ms line (manner.Makes c) true r = both ms (pacing.nothing_paces code table any ms) (pacing.make_paces code table any ms line c r)
@@ -89,30 +89,30 @@ module _ (code : Laid) (table : List RoutineCode) (any : Bool) where
   called_paces ms line (manner.Opens of) written r = opened_paces ms line of
   called_paces ms line (manner.Closes of) written r = closed_paces ms line of
 
-  pub done_paces : (ms : List Mark) (line : ℕ) (what : ObjectCall) → Paces ms (CallDone code line what ms)
+  pub done_paces : (ms : List CodeMark) (line : ℕ) (what : ObjectCall) → Paces ms (CallDone code line what ms)
   done_paces ms line what =
       both ms (both ms (found_paces ms line what.manner what.spot what.array) (called_paces ms line what.manner what.written what.routine)) (onward ms op.Discard line (λ n k h. refl) (λ k t. refl) (λ at l. l) (λ from to floor at i. i))
 
   -- turns over elements
 
   -- what is asked of turns that build or destroy
-  record Round (line : ℕ) (ms : List Mark) (back : ℕ → Op) (T : List Mark → ℕ → ℕ → Type 0) : Type 0 where
+  record Round (line : ℕ) (ms : List CodeMark) (back : ℕ → Op) (T : List CodeMark → ℕ → ℕ → Type 0) : Type 0 where
     pub rises : (row test turn z : ℕ) → Rounds code line back (T (mark.Elements row ∷ ms)) test turn z → turn ≤ test
     pub inside : (row test turn z : ℕ) → Rounds code line back (T (mark.Elements row ∷ ms)) test turn z → InTurn code table test turn (back turn) turn
     pub each : (row test turn z : ℕ) → Rounds code line back (T (mark.Elements row ∷ ms)) test turn z → ((at : ℕ) → turn ≤ at → at < test → behind (length code.ops) at ≤ height code.ops at → InTurn code table test turn (back turn) at → Entries code table at (row ∷ handlers ms)) → Nests code table (row ∷ handlers ms) → Starts code table → Further code table (routine_in ms) z → Plain code table z → Each code table turn z
     pub stays : (row test turn z from to floor : ℕ) → Rounds code line back (T (mark.Elements row ∷ ms)) test turn z → Env code table from to (mark.Elements row ∷ ms) → from ≤ turn → z < to → Loud floor to → AllStay code table from to floor turn z
 
   -- and of the first count
-  abbrev CountFalls : ℕ → List Mark → ℕ → ℕ → (ℕ → Op) → (List Mark → ℕ → ℕ → Type 0) → Type 0
+  abbrev CountFalls : ℕ → List CodeMark → ℕ → ℕ → (ℕ → Op) → (List CodeMark → ℕ → ℕ → Type 0) → Type 0
   CountFalls line ms first most back T = most < 2 ^ 32 → (row test turn z at : ℕ) → Rounds code line back (T (mark.Elements row ∷ ms)) test turn z → Outside code table at → height code.ops at ≡ behind (length code.ops) at → at < turn → (e : ℕ) → burden code.ops test first < burden code.ops at e
 
-  sweep_rises : (line : ℕ) (what : ObjectCall) (ms : List Mark) (test turn z : ℕ) → Rounds code line op.Sweep (CallDone code line what ms) test turn z → turn ≤ test
+  sweep_rises : (line : ℕ) (what : ObjectCall) (ms : List CodeMark) (test turn z : ℕ) → Rounds code line op.Sweep (CallDone code line what ms) test turn z → turn ≤ test
   sweep_rises line what ms test turn z h = (done_paces ms line what).rises turn test h.turn
 
-  built_paces : (ms : List Mark) (line : ℕ) (what : ObjectCall) → Paces ms (CallAt code line what ms)
+  built_paces : (ms : List CodeMark) (line : ℕ) (what : ObjectCall) → Paces ms (CallAt code line what ms)
   built_paces ms line what = both ms (found_paces ms line what.manner what.spot what.array) (called_paces ms line what.manner what.written what.routine)
 
-  fill_rises : (line most : ℕ) (what : ObjectCall) (ms : List Mark) (test turn z : ℕ) → Rounds code line (op.Fill most) (CallBuilt code line what ms) test turn z → turn ≤ test
+  fill_rises : (line most : ℕ) (what : ObjectCall) (ms : List CodeMark) (test turn z : ℕ) → Rounds code line (op.Fill most) (CallBuilt code line what ms) test turn z → turn ≤ test
   fill_rises line most what ms test turn z h =
       let c = h.turn in
       let k = (built_paces ms line what).rises turn c.middle c.first in
@@ -121,11 +121,11 @@ module _ (code : Laid) (table : List RoutineCode) (any : Bool) where
       omega arith
 
   -- what is asked of those that destroy what stands when an event comes
-  record Undo (line : ℕ) (ms : List Mark) (D : List Mark → ℕ → ℕ → Type 0) : Type 0 where
+  record Undo (line : ℕ) (ms : List CodeMark) (D : List CodeMark → ℕ → ℕ → Type 0) : Type 0 where
     pub test : (row test turn z : ℕ) → Rounds code line op.Sweep (D (mark.Elements row ∷ ms)) test turn z → InTurn code table test turn (op.Sweep turn) test
     pub low : (row test turn z : ℕ) → Rounds code line op.Sweep (D (mark.Elements row ∷ ms)) test turn z → Low code table turn
 
-  sweep_undo : (line : ℕ) (ms : List Mark) (what : ObjectCall) → Undo line ms (CallDone code line what)
+  sweep_undo : (line : ℕ) (ms : List CodeMark) (what : ObjectCall) → Undo line ms (CallDone code line what)
   sweep_undo line ms what = record {
     test = λ row test turn z h. sweep_test code table line (mark.Elements row ∷ ms) what test turn z h;
     low = λ row test turn z h. sweep_low code table line (mark.Elements row ∷ ms) what test turn z h;
@@ -149,7 +149,7 @@ module _ (code : Laid) (table : List RoutineCode) (any : Bool) where
       let f : h.row.kind ≡ CatchResume = ap (λ (x : HandlerRow). x.kind) (sym (clean_row row entry r h q)) ∙ e in
       clean_is_none (sym h.kind ∙ f)
 
-  sweep_round : (line : ℕ) (ms : List Mark) (what : ObjectCall) → Round line ms op.Sweep (CallDone code line what)
+  sweep_round : (line : ℕ) (ms : List CodeMark) (what : ObjectCall) → Round line ms op.Sweep (CallDone code line what)
   sweep_round line ms what = record {
     rises = λ row test turn z h. sweep_rises line what (mark.Elements row ∷ ms) test turn z h;
     inside = λ row test turn z h. sweep_in code table line (mark.Elements row ∷ ms) what test turn z h;
@@ -161,14 +161,14 @@ module _ (code : Laid) (table : List RoutineCode) (any : Bool) where
         (stay_one code table from to floor test z (op.Sweep turn) line h.again h.end (end_in from to turn turn (omega arith) l (omega arith), next_in from to test z h.end (omega arith) m));
   }
 
-  sweep_count : (line : ℕ) (ms : List Mark) (n : ℕ) (what : ObjectCall) → CountFalls line ms n n op.Sweep (CallDone code line what)
+  sweep_count : (line : ℕ) (ms : List CodeMark) (n : ℕ) (what : ObjectCall) → CountFalls line ms n n op.Sweep (CallDone code line what)
   sweep_count line ms n what few row test turn z at h o e l =
-      let ns : List Mark = mark.Elements row ∷ ms in
+      let ns : List CodeMark = mark.Elements row ∷ ms in
       let r = sweep_rises line what ns test turn z h in
       let w = within code table test (op.Sweep turn) line h.again in
       test_falls code table test turn (op.Sweep turn) at n n (sweep_test code table line ns what test turn z h) o (sweep_low_test code table line ns what test turn z h) (sweep_low code table line ns what test turn z h) e l (omega arith) (omega arith) w few (sweep_begins code table line ns what test turn z n h)
 
-  fill_round : (line : ℕ) (ms : List Mark) (most : ℕ) (few : most < 2 ^ 32) (what : ObjectCall) → Round line ms (op.Fill most) (CallBuilt code line what)
+  fill_round : (line : ℕ) (ms : List CodeMark) (most : ℕ) (few : most < 2 ^ 32) (what : ObjectCall) → Round line ms (op.Fill most) (CallBuilt code line what)
   fill_round line ms most few what = record {
     rises = λ row test turn z h. fill_rises line most what (mark.Elements row ∷ ms) test turn z h;
     inside = λ row test turn z h. fill_in code table line (mark.Elements row ∷ ms) what test turn z most few h;
@@ -186,17 +186,17 @@ module _ (code : Laid) (table : List RoutineCode) (any : Bool) where
         (stay_one code table from to floor test z (op.Fill most turn) line h.again h.end (end_in from to turn turn (omega arith) l (omega arith), next_in from to test z h.end (omega arith) m))));
   }
 
-  fill_count : (line : ℕ) (ms : List Mark) (most : ℕ) (what : ObjectCall) → CountFalls line ms 0 most (op.Fill most) (CallBuilt code line what)
+  fill_count : (line : ℕ) (ms : List CodeMark) (most : ℕ) (what : ObjectCall) → CountFalls line ms 0 most (op.Fill most) (CallBuilt code line what)
   fill_count line ms most what few row test turn z at h o e l =
-      let ns : List Mark = mark.Elements row ∷ ms in
+      let ns : List CodeMark = mark.Elements row ∷ ms in
       let r = fill_rises line most what ns test turn z h in
       let w = within code table test (op.Fill most turn) line h.again in
       test_falls code table test turn (op.Fill most turn) at 0 most (fill_test code table line ns what test turn z most few h) o (fill_low_test code table line ns what test turn z most few h) (fill_low code table line ns what test turn z most few h) e l (omega arith) (omega arith) w few (fill_begins code table line ns what test turn z most few h)
 
-  unwind_plain : (ms : List Mark) (line a z : ℕ) → Risk code ms op.Unwind line a z → Plain code table z → Plain code table a
+  unwind_plain : (ms : List CodeMark) (line a z : ℕ) → Risk code ms op.Unwind line a z → Plain code table z → Plain code table a
   unwind_plain ms line a z h p = own_plain code table a op.Unwind line h.here (λ n k x. refl) (λ k t. refl) (subst (Outside code table) h.end p.outside)
 
-  module _ (line : ℕ) (ms : List Mark) (first most : ℕ) (back : ℕ → Op) (T D : List Mark → ℕ → ℕ → Type 0) (t : most < 2 ^ 32 → Round line ms back T) (f : CountFalls line ms first most back T) (d : Round line ms op.Sweep D) (u : Undo line ms D) where
+  module _ (line : ℕ) (ms : List CodeMark) (first most : ℕ) (back : ℕ → Op) (T D : List CodeMark → ℕ → ℕ → Type 0) (t : most < 2 ^ 32 → Round line ms back T) (f : CountFalls line ms first most back T) (d : Round line ms op.Sweep D) (u : Undo line ms D) where
     elements_rise : (a z : ℕ) → OverElements code line ms first most back op.Sweep T D a z → (a < z)
     elements_rise a z h =
         let k = (t h.few).rises h.row h.test (a + 1) (h.test + 1) h.rounds in
@@ -280,7 +280,7 @@ module _ (code : Laid) (table : List RoutineCode) (any : Bool) where
           ((pacing.unwind_paces code table any ms line).stays from to floor h.end z h.unwind n (omega arith) m x))));
     }
 
-  clean_by_paces : (ms : List Mark) (line : ℕ) (a : Option ArrayOf) (what : ObjectCall) → Paces ms (CleanBy code line a what ms)
+  clean_by_paces : (ms : List CodeMark) (line : ℕ) (a : Option ArrayOf) (what : ObjectCall) → Paces ms (CleanBy code line a what ms)
   clean_by_paces ms line None what = done_paces ms line what
   clean_by_paces ms line (Some a) what =
       elements_paces line ms a.length a.length op.Sweep (CallDone code line what) (CallDone code line what) (λ few. sweep_round line ms what) (sweep_count line ms a.length what) (sweep_round line ms what) (sweep_undo line ms what)
@@ -309,7 +309,7 @@ module _ (code : Laid) (table : List RoutineCode) (any : Bool) where
   silent_of c what (Freed main) s = tt
   silent_of c what (Restored cell) s = tt
 
-  pub clean_paces : (ms : List Mark) (line : ℕ) (what : Cleaning) → (any ≡ false → silent_by what) → Paces ms (CleanAt code line what ms)
+  pub clean_paces : (ms : List CodeMark) (line : ℕ) (what : Cleaning) → (any ≡ false → silent_by what) → Paces ms (CleanAt code line what ms)
   clean_paces ms line (cleaning.Call what) f = clean_by_paces ms line what.array what
   clean_paces ms line cleaning.TakeDown f = onward ms op.UnwindCoroutine line (λ n k h. refl) (λ k t. refl) (λ at l. l) (λ from to floor at i. i)
   clean_paces ms line cleaning.Forget f = onward ms op.Forget line (λ n k h. refl) (λ k t. refl) (λ at l. l) (λ from to floor at i. i)
@@ -319,7 +319,7 @@ module _ (code : Laid) (table : List RoutineCode) (any : Bool) where
   clean_paces ms line (cleaning.Free (Some r)) f = onward ms (op.Spawn r) line (λ n k h. refl) (λ k t. refl) (λ at l. l) (λ from to floor at i. i)
   clean_paces ms line (cleaning.Restore cell) f = onward ms (op.Restore cell) line (λ n k h. refl) (λ k t. refl) (λ at l. l) (λ from to floor at i. i)
 
-  pub filled_paces : (ms : List Mark) (line n : ℕ) (b d : Expr) → Paces ms (FilledAt code line ms n b d)
+  pub filled_paces : (ms : List CodeMark) (line n : ℕ) (b d : Expr) → Paces ms (FilledAt code line ms n b d)
   filled_paces ms line n b d =
       let all = λ (x : ObjectCall) (y : ObjectCall). elements_paces line ms 0 n (op.Fill n) (CallBuilt code line x) (CallDone code line y) (λ few. fill_round line ms n few x) (fill_count line ms n x) (sweep_round line ms y) (sweep_undo line ms y) in
       record {
@@ -331,7 +331,7 @@ module _ (code : Laid) (table : List RoutineCode) (any : Bool) where
 
   -- scopes of objects, and what follows a part
 
-  module _ (ms : List Mark) (line : ℕ) (M : ℕ → Mark) (C U : ℕ → ℕ → Type 0) (B : List Mark → ℕ → ℕ → Type 0) (m : (row z : ℕ) → Ahead code table row z (handlers ms) → Around code table ms z → Around code table (M row ∷ ms) z) (i : (from to row : ℕ) → RowIn code table from to row → Env code table from to ms → Env code table from to (M row ∷ ms)) (c : Paces ms C) (u : Paces ms U) (b : (ns : List Mark) → Paces ns (B ns)) where
+  module _ (ms : List CodeMark) (line : ℕ) (M : ℕ → CodeMark) (C U : ℕ → ℕ → Type 0) (B : List CodeMark → ℕ → ℕ → Type 0) (m : (row z : ℕ) → Ahead code table row z (handlers ms) → Around code table ms z → Around code table (M row ∷ ms) z) (i : (from to row : ℕ) → RowIn code table from to row → Env code table from to ms → Env code table from to (M row ∷ ms)) (c : Paces ms C) (u : Paces ms U) (b : (ns : List CodeMark) → Paces ns (B ns)) where
     unwinding_paces : Paces ms (Both C (Risk code ms op.Unwind line))
     unwinding_paces = both ms c (pacing.unwind_paces code table any ms line)
 
@@ -398,10 +398,10 @@ module _ (code : Laid) (table : List RoutineCode) (any : Bool) where
 
   -- pads
 
-  undone_paces : (ms : List Mark) (line : ℕ) (C : ℕ → ℕ → Type 0) → Paces ms C → Paces ms (Both C (Risk code ms op.Unwind line))
+  undone_paces : (ms : List CodeMark) (line : ℕ) (C : ℕ → ℕ → Type 0) → Paces ms C → Paces ms (Both C (Risk code ms op.Unwind line))
   undone_paces ms line C c = both ms c (pacing.unwind_paces code table any ms line)
 
-  arrives_paces : any ≡ true → (ms : List Mark) (line : ℕ) → Paces ms (ExitAt code ToReturn ms) → Paces ms (ArrivesAt code line ms)
+  arrives_paces : any ≡ true → (ms : List CodeMark) (line : ℕ) → Paces ms (ExitAt code ToReturn ms) → Paces ms (ArrivesAt code line ms)
   arrives_paces t ms line x =
       let l = pacing.leaves_paces code table any t ms line in
       let unwinds = undone_paces ms line (LeavesAt code ms line) l in
@@ -432,7 +432,7 @@ module _ (code : Laid) (table : List RoutineCode) (any : Bool) where
             (returns.stays from to floor h.arrived z h.returns n (omega arith) m v));
       }
 
-  pad_paces : (ms : List Mark) (line : ℕ) (what : Cleaning) → (any ≡ false → silent_by what) → (any ≡ true → Paces ms (ExitAt code ToReturn ms)) → Paces ms (PadAt code line what ms)
+  pad_paces : (ms : List CodeMark) (line : ℕ) (what : Cleaning) → (any ≡ false → silent_by what) → (any ≡ true → Paces ms (ExitAt code ToReturn ms)) → Paces ms (PadAt code line what ms)
   pad_paces ms line (cleaning.Call what) f x = undone_paces ms line (CleanAt code line (cleaning.Call what) ms) (clean_paces ms line (cleaning.Call what) f)
   pad_paces ms line cleaning.TakeDown f x = undone_paces ms line (CleanAt code line cleaning.TakeDown ms) (clean_paces ms line cleaning.TakeDown f)
   pad_paces ms line cleaning.Forget f x = undone_paces ms line (CleanAt code line cleaning.Forget ms) (clean_paces ms line cleaning.Forget f)
@@ -441,7 +441,7 @@ module _ (code : Laid) (table : List RoutineCode) (any : Bool) where
   pad_paces ms line (cleaning.Free main) f x = undone_paces ms line (One code op.GiveUp line) (onward ms op.GiveUp line (λ n k h. refl) (λ k t. refl) (λ at l. l) (λ from to floor at i. i))
   pad_paces ms line (cleaning.Restore cell) f x = undone_paces ms line (CleanAt code line (cleaning.Restore cell) ms) (clean_paces ms line (cleaning.Restore cell) f)
 
-  pub scoped_paces : (ms : List Mark) (line : ℕ) (c : CleanUp) (B : List Mark → ℕ → ℕ → Type 0) → (any ≡ false → silent_clean c) → (any ≡ true → Paces ms (ExitAt code ToReturn ms)) → ((ns : List Mark) → Paces ns (B ns)) → Paces ms (ScopedAt code line ms c B)
+  pub scoped_paces : (ms : List CodeMark) (line : ℕ) (c : CleanUp) (B : List CodeMark → ℕ → ℕ → Type 0) → (any ≡ false → silent_clean c) → (any ≡ true → Paces ms (ExitAt code ToReturn ms)) → ((ns : List CodeMark) → Paces ns (B ns)) → Paces ms (ScopedAt code line ms c B)
   scoped_paces ms line c B f e b =
       let all = λ (what : Cleaning) (k : Cleans c what). scope_paces ms line (λ row. mark.Clean what line row) (CleanAt code line what ms) (PadAt code line what ms) B (λ row z x r. (x, r)) (λ from to row x n. (x, n)) (clean_paces ms line what (λ i. silent_of c what k (f i))) (pad_paces ms line what (λ i. silent_of c what k (f i)) e) b in
       record {
@@ -451,7 +451,7 @@ module _ (code : Laid) (table : List RoutineCode) (any : Bool) where
         stays = λ from to floor a z h n l m x. (all h.what h.cleans).stays from to floor a z h.scope n l m x;
       }
 
-  pub built_part_paces : (ms : List Mark) (line : ℕ) (c : CleanUp) (B : List Mark → ℕ → ℕ → Type 0) → (any ≡ false → silent_clean c) → ((ns : List Mark) → Paces ns (B ns)) → Paces ms (BuiltAt code line ms c B)
+  pub built_part_paces : (ms : List CodeMark) (line : ℕ) (c : CleanUp) (B : List CodeMark → ℕ → ℕ → Type 0) → (any ≡ false → silent_clean c) → ((ns : List CodeMark) → Paces ns (B ns)) → Paces ms (BuiltAt code line ms c B)
   built_part_paces ms line c B f b =
       let all = λ (what : Cleaning) (k : Cleans c what). part_paces ms line (λ row. mark.Part row) (CleanAt code line what ms) (Both (CleanAt code line what ms) (Risk code ms op.Unwind line)) B (λ row z x r. (x, r)) (λ from to row x n. (x, n)) (clean_paces ms line what (λ i. silent_of c what k (f i))) (undone_paces ms line (CleanAt code line what ms) (clean_paces ms line what (λ i. silent_of c what k (f i)))) b in
       record {

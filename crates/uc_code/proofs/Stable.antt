@@ -6,8 +6,8 @@ use Rattle.uc_code.specs.declared.op.Op.{Op}
 use Rattle.uc_tree.specs.Source.{Order, TestFirst, BodyFirst, NoTest}
 use Rattle.uc_code.specs.declared.op.Op.TheVariants.{Jump, IfZero, IfNonzero, Tick, CallUnwritten, Count, Return, Handled, Unwind, Raise, Poll, Deliver, Discard, Leave, Accept, Failed, Choose}
 use Rattle.uc_code.specs.declared.rows.MainOf.{MainOf}
-use Rattle.uc_code.specs.declared.rows.Mark.{Mark}
-use Rattle.uc_code.specs.declared.rows.Mark.TheVariants.{Finish, Whole, Elements, Outward}
+use Rattle.uc_code.specs.declared.rows.CodeMark.{CodeMark}
+use Rattle.uc_code.specs.declared.rows.CodeMark.TheVariants.{Finish, Whole, Elements, Outward}
 use Rattle.uc_code.specs.declared.rows.Handler.{Handler}
 use Rattle.uc_code.specs.Layout.{Laid, guards}
 use Rattle.uc_code.specs.CodeShapes.{Nothing, Never, One, Risk, CallsBehind, Both, Behind, When, Unless, Fork, Leads, Arrived, Jumped, pads_at, begin_at, BackAt, Turns, WholeAt, main_end, main_left, MainAt, Guarded, HandledAt, ApartAt, clean_up, Rounds, OverElements, ScopeOf, BehindPart, PollAt, LeavesAt, FailedAt, AcceptsAt, JumpsAt, ChoosesAt, NoBranch, ElseAt, ClauseAt, Same, Kept, KeptBut, Stable}
@@ -76,7 +76,7 @@ one_stable op line = record {
   moves = λ old new a z s h. let e = h.end in record { here = s.same a op line (omega arith) (omega arith) h.here; end = h.end };
 }
 
-pub risk_stable : (ms : List Mark) (op : Op) (line : ℕ) → Stable (λ code. Risk code ms op line)
+pub risk_stable : (ms : List CodeMark) (op : Op) (line : ℕ) → Stable (λ code. Risk code ms op line)
 risk_stable ms op line = record {
   rises = λ code a z h. let e = h.end in omega arith;
   moves = λ old new a z s h.
@@ -84,7 +84,7 @@ risk_stable ms op line = record {
       record { here = s.same a op line (omega arith) (omega arith) h.here; end = h.end; under = s.chains z (omega arith) (omega arith) ∙ h.under };
 }
 
-pub calls_behind_stable : (ms : List Mark) (r line : ℕ) → Stable (λ code. CallsBehind code ms r line)
+pub calls_behind_stable : (ms : List CodeMark) (r line : ℕ) → Stable (λ code. CallsBehind code ms r line)
 calls_behind_stable ms r line = record {
   rises = λ code a z h. (risk_stable ms (CallUnwritten r) line).rises code a z h.risk;
   moves = λ old new a z s h. record { risk = (risk_stable ms (CallUnwritten r) line).moves old new a z s h.risk; behind = h.behind };
@@ -145,7 +145,7 @@ module _ (B : Laid → ℕ → ℕ → Type 0) (b : Stable B) where
 pub behind_stable : (B : Laid → ℕ → ℕ → Type 0) → Stable B → (op : Op) (line : ℕ) → Stable (λ code. Behind code (B code) op line)
 behind_stable B b op line = both_stable B b (λ code. One code op line) (one_stable op line)
 
-pub poll_stable : (ms : List Mark) (line : ℕ) → Stable (λ code. PollAt code ms line)
+pub poll_stable : (ms : List CodeMark) (line : ℕ) → Stable (λ code. PollAt code ms line)
 poll_stable ms line = record {
   rises = λ code a z h. let e = h.end in omega arith;
   moves = λ old new a z s h.
@@ -184,7 +184,7 @@ back_more TestFirst T turn line t code a z h = let l = t.rises code a h.middle h
 back_more BodyFirst T turn line t code a z h = let l = t.rises code a h.middle h.first in let e = h.second.end in omega arith
 back_more NoTest T turn line t code a z h = let e = h.end in omega arith
 
-module _ (line : ℕ) (order : Order) (T S : Laid → ℕ → ℕ → Type 0) (B : Laid → Mark → ℕ → ℕ → Type 0) (t : Stable T) (s : Stable S) (b : (m : Mark) → Stable (λ code. B code m)) where
+module _ (line : ℕ) (order : Order) (T S : Laid → ℕ → ℕ → Type 0) (B : Laid → CodeMark → ℕ → ℕ → Type 0) (t : Stable T) (s : Stable S) (b : (m : CodeMark) → Stable (λ code. B code m)) where
   pub turns_stable : Stable (λ code. Turns code line order (T code) (S code) (B code))
   turns_stable = record {
     rises = λ code a z h.
@@ -211,8 +211,8 @@ module _ (line : ℕ) (order : Order) (T S : Laid → ℕ → ℕ → Type 0) (B
 
 -- a block that is left as a whole, and the statements of a main
 
-module _ (line : ℕ) (B : Laid → List Mark → ℕ → ℕ → Type 0) (b : (ns : List Mark) → Stable (λ code. B code ns)) where
-  pub whole_stable : (ms : List Mark) → Stable (λ code. WholeAt code line ms (B code))
+module _ (line : ℕ) (B : Laid → List CodeMark → ℕ → ℕ → Type 0) (b : (ns : List CodeMark) → Stable (λ code. B code ns)) where
+  pub whole_stable : (ms : List CodeMark) → Stable (λ code. WholeAt code line ms (B code))
   whole_stable ms = record {
     rises = λ code a z h.
         let l = (b (Whole (a + 1) h.row ∷ ms)).rises code (a + 2) h.body_end h.body in
@@ -255,7 +255,7 @@ module _ (line : ℕ) (B : Laid → List Mark → ℕ → ℕ → Type 0) (b : (
 
 -- guarded blocks
 
-module _ (line count : ℕ) (ms : List Mark) (B : Laid → List Mark → ℕ → ℕ → Type 0) (H : Laid → ℕ → ℕ → ℕ → ℕ → Type 0) (b : (ns : List Mark) → Stable (λ code. B code ns)) (h : (first pad : ℕ) → Stable (λ code. H code first pad)) where
+module _ (line count : ℕ) (ms : List CodeMark) (B : Laid → List CodeMark → ℕ → ℕ → Type 0) (H : Laid → ℕ → ℕ → ℕ → ℕ → Type 0) (b : (ns : List CodeMark) → Stable (λ code. B code ns)) (h : (first pad : ℕ) → Stable (λ code. H code first pad)) where
   pub guarded_stable : Stable (λ code. Guarded code line ms count (B code) (H code))
   guarded_stable = record {
     rises = λ code a z g.
@@ -282,7 +282,7 @@ handled_stable number handler B b = record {
   moves = λ old new a z s h. record { handler_at = s.handlers number (handler a) h.handler_at; body = b.moves old new a z s h.body };
 }
 
-pub apart_stable : (ms : List Mark) (B : Laid → List Mark → ℕ → ℕ → Type 0) → ((ns : List Mark) → Stable (λ code. B code ns)) → Stable (λ code. ApartAt code ms (B code))
+pub apart_stable : (ms : List CodeMark) (B : Laid → List CodeMark → ℕ → ℕ → Type 0) → ((ns : List CodeMark) → Stable (λ code. B code ns)) → Stable (λ code. ApartAt code ms (B code))
 apart_stable ms B b = record {
   rises = λ code a z h. let l = (b (Outward 0 h.row ∷ ms)).rises code a h.body_end h.body in let e = h.end in omega arith;
   moves = λ old new a z s h.
@@ -316,7 +316,7 @@ module _ (line : ℕ) (back : ℕ → Op) (T : Laid → ℕ → ℕ → Type 0) 
         };
   }
 
-module _ (line : ℕ) (ms : List Mark) (first most : ℕ) (back undo : ℕ → Op) (T D : Laid → List Mark → ℕ → ℕ → Type 0) (t : (ns : List Mark) → Stable (λ code. T code ns)) (d : (ns : List Mark) → Stable (λ code. D code ns)) where
+module _ (line : ℕ) (ms : List CodeMark) (first most : ℕ) (back undo : ℕ → Op) (T D : Laid → List CodeMark → ℕ → ℕ → Type 0) (t : (ns : List CodeMark) → Stable (λ code. T code ns)) (d : (ns : List CodeMark) → Stable (λ code. D code ns)) where
   pub elements_stable : Stable (λ code. OverElements code line ms first most back undo (T code) (D code))
   elements_stable = record {
     rises = λ code a z h.
@@ -344,7 +344,7 @@ module _ (line : ℕ) (ms : List Mark) (first most : ℕ) (back undo : ℕ → O
   }
 
 -- a mutex call leaves its object
-pub leaves_stable : (ms : List Mark) (line : ℕ) → Stable (λ code. LeavesAt code ms line)
+pub leaves_stable : (ms : List CodeMark) (line : ℕ) → Stable (λ code. LeavesAt code ms line)
 leaves_stable ms line = record {
   rises = λ code a z h. let k = (poll_stable ms line).rises code (a + 1) z h.polls in omega arith;
   moves = λ old new a z s h.
@@ -358,7 +358,7 @@ leaves_stable ms line = record {
 
 -- accept statements
 
-failed_stable : (ms : List Mark) (line : ℕ) → Stable (λ code. FailedAt code ms line)
+failed_stable : (ms : List CodeMark) (line : ℕ) → Stable (λ code. FailedAt code ms line)
 failed_stable ms line =
     let b = both_stable (λ code. Risk code ms Raise line) (risk_stable ms Raise line) (λ code. One code Discard line) (one_stable Discard line) in
     record {
@@ -368,7 +368,7 @@ failed_stable ms line =
           record { test = s.same a (Failed z) line (omega arith) (omega arith) h.test; raises = b.moves old new (a + 1) z (part old new a z (a + 1) z (omega arith) (omega arith) s) h.raises };
     }
 
-pub accepts_stable : (ms : List Mark) (site guards line : ℕ) → Stable (λ code. AcceptsAt code ms site guards line)
+pub accepts_stable : (ms : List CodeMark) (site guards line : ℕ) → Stable (λ code. AcceptsAt code ms site guards line)
 accepts_stable ms site guards line = record {
   rises = λ code a z h.
       let k = (failed_stable ms line).rises code (a + 1) h.middle h.failed in
@@ -440,7 +440,7 @@ chooses_stable line clauses B b = record {
 
 -- scopes of objects, and what follows a part
 
-module _ (line : ℕ) (ms : List Mark) (M : ℕ → Mark) (C U : Laid → ℕ → ℕ → Type 0) (B : Laid → List Mark → ℕ → ℕ → Type 0) (c : Stable C) (u : Stable U) (b : (ns : List Mark) → Stable (λ code. B code ns)) where
+module _ (line : ℕ) (ms : List CodeMark) (M : ℕ → CodeMark) (C U : Laid → ℕ → ℕ → Type 0) (B : Laid → List CodeMark → ℕ → ℕ → Type 0) (c : Stable C) (u : Stable U) (b : (ns : List CodeMark) → Stable (λ code. B code ns)) where
   unwinds_stable : Stable (λ code. Both (C code) (Risk code ms Unwind line))
   unwinds_stable = both_stable C c (λ code. Risk code ms Unwind line) (risk_stable ms Unwind line)
 

@@ -3,8 +3,8 @@ use Rattle.std.proofs.Common.{◌≡◌, ℕ, ◌+◌, ◌^◌, ◌<◌, List, �
 use Rattle.uc_code.specs.declared.op.Op.TheVariants as op
 use Rattle.uc_code.specs.declared.rows.Instruction.{Instruction}
 use Rattle.uc_code.specs.declared.rows.HandlerRow.{HandlerRow}
-use Rattle.uc_code.specs.declared.rows.Mark.{Mark}
-use Rattle.uc_code.specs.declared.rows.Mark.TheVariants as mark
+use Rattle.uc_code.specs.declared.rows.CodeMark.{CodeMark}
+use Rattle.uc_code.specs.declared.rows.CodeMark.TheVariants as mark
 use Rattle.uc_code.specs.declared.rows.ObjectCall.{ObjectCall}
 use Rattle.uc_code.specs.declared.rows.Opening.{Opening}
 use Rattle.uc_code.specs.declared.rows.Opening.TheVariants as opening
@@ -14,11 +14,13 @@ use Rattle.uc_code.specs.CodeShapes.{OpAt, One, Risk, HandlerAt, clean_up, OverE
 use Rattle.uc_code.specs.Lowered.{CallDone}
 use Rattle.uc_code.specs.OpenRows.{row_in, handler_in, entry_in, opened, closed, closed_by}
 use Rattle.uc_code.specs.Emits.{Puts, done_length}
+use Rattle.uc_code.specs.RowGrowth.{AddsRows}
+use Rattle.uc_code.proofs.Growth.{rows_then, rows_last, rows_opened, rows_closed}
 use Rattle.uc_code.proofs.Stable.{kept_then, kept_piece}
 use Rattle.uc_code.proofs.Putting.{done_stable, done_is, marks_of}
 
 -- a draft with other ops, rows and marks
-abbrev pub with_parts : List Instruction → List HandlerRow → ℕ → List Mark → Draft → Draft
+abbrev pub with_parts : List Instruction → List HandlerRow → ℕ → List CodeMark → Draft → Draft
 with_parts ops rows settled ms d = record d { ops = ops; rows = rows; settled = settled; marks = ms }
 
 abbrev pub Like : Draft → Draft → Type 0
@@ -27,8 +29,8 @@ Like old new = new ≡ with_parts new.ops new.rows new.settled new.marks old
 like_then : (a b c : Draft) → Like a b → Like b c → Like a c
 like_then a b c h k = k ∙ ap (λ d. with_parts c.ops c.rows c.settled c.marks d) h
 
-pub like_puts : {n : ℕ} {S : Laid → ℕ → ℕ → Type 0} → (a b c : Draft) → Like a b → Puts n S b c → Like a c
-like_puts a b c h p = let m = marks_of p in like_then a b c h (p.rest ∙ ap (λ (ms : List Mark). let d : Draft = with_parts c.ops c.rows c.settled ms b in d) (sym m))
+pub like_puts : {r n : ℕ} {S : Laid → ℕ → ℕ → Type 0} → (a b c : Draft) → Like a b → Puts r n S b c → Like a c
+like_puts a b c h p = let m = marks_of p in like_then a b c h (p.rest ∙ ap (λ (ms : List CodeMark). let d : Draft = with_parts c.ops c.rows c.settled ms b in d) (sym m))
 
 pub like_opened : (o : Opening) (a b c : Draft) → Like a b → c ≡ opened o b → Like a c
 like_opened o a b c h e = like_then a b c h (subst (λ (d : Draft). Like b d) (sym e) refl)
@@ -41,7 +43,7 @@ pub like_closed : (ahead : ℕ) (a b c : Draft) → Like a b → c ≡ closed ah
 like_closed ahead a b c h e = like_then a b c h (subst (λ (d : Draft). Like b d) (sym e) (closed_like (row_in b.marks) (entry_in b.marks (length b.ops + ahead)) b))
 
 pub like_rest : (a b : Draft) → Like a b → b.marks ≡ a.marks → b ≡ record a { ops = b.ops; rows = b.rows; settled = b.settled }
-like_rest a b h m = h ∙ ap (λ (ms : List Mark). let d : Draft = with_parts b.ops b.rows b.settled ms a in d) m
+like_rest a b h m = h ∙ ap (λ (ms : List CodeMark). let d : Draft = with_parts b.ops b.rows b.settled ms a in d) m
 
 ops_closed : (r : Option ℕ) (entry : ℕ) (b : Draft) → (closed_by r entry b).ops ≡ b.ops
 ops_closed None entry b = refl
@@ -58,22 +60,22 @@ pub closed_marks : (ahead k : ℕ) (b c : Draft) → c ≡ closed ahead b → ro
 closed_marks ahead k b c e r = ap (λ (d : Draft). d.marks) e ∙ marks_closed (row_in b.marks) (entry_in b.marks (length b.ops + ahead)) k b r
 
 module _ (line n start test entry : ℕ) (few : n < 2 ^ 32) (what : ObjectCall) (d0 d1 d2 d3 d4 d5 d6 d7 d8 d9 : Draft)
-    (p1 : Puts 1 (λ code. One code (op.Count n test) line) d0 d1) (o2 : d2 ≡ opened opening.Elements d1) (k2 : Kept (laid_in d1) (laid_in d2))
-    (p3 : Puts 9 (λ code. CallDone code line what d2.marks) d2 d3) (p4 : Puts 1 (λ code. One code (op.Sweep (start + 1)) line) d3 d4) (p5 : Puts 1 (λ code. One code (op.Jump (entry + 2)) line) d4 d5)
-    (p6 : Puts 9 (λ code. CallDone code line what d5.marks) d5 d6) (c7 : d7 ≡ closed 0 d6) (k7 : Kept (laid_in d6) (laid_in d7)) (h7 : (row : ℕ) → handler_in d6.marks ≡ Some row → HandlerAt (laid_in d7) row (clean_up (length d6.ops + 0)))
-    (p8 : Puts 1 (λ code. One code (op.Sweep (test + 2)) line) d7 d8) (p9 : Puts 1 (λ code. Risk code d8.marks op.Unwind line) d8 d9)
+    (p1 : Puts 0 1 (λ code. One code (op.Count n test) line) d0 d1) (o2 : d2 ≡ opened opening.Elements d1) (k2 : Kept (laid_in d1) (laid_in d2))
+    (p3 : Puts 0 9 (λ code. CallDone code line what d2.marks) d2 d3) (p4 : Puts 0 1 (λ code. One code (op.Sweep (start + 1)) line) d3 d4) (p5 : Puts 0 1 (λ code. One code (op.Jump (entry + 2)) line) d4 d5)
+    (p6 : Puts 0 9 (λ code. CallDone code line what d5.marks) d5 d6) (c7 : d7 ≡ closed 0 d6) (k7 : Kept (laid_in d6) (laid_in d7)) (h7 : (row : ℕ) → handler_in d6.marks ≡ Some row → HandlerAt (laid_in d7) row (clean_up (length d6.ops + 0)))
+    (p8 : Puts 0 1 (λ code. One code (op.Sweep (test + 2)) line) d7 d8) (p9 : Puts 0 1 (λ code. Risk code d8.marks op.Unwind line) d8 d9)
     (st : start ≡ length d0.ops) (te : test ≡ start + 1 + done_length what) (en : entry ≡ test + 2 + done_length what) where
-  abbrev ms : List Mark
+  abbrev ms : List CodeMark
   ms = d0.marks
 
   abbrev row : ℕ
   row = length d1.rows
 
-  abbrev ns : List Mark
+  abbrev ns : List CodeMark
   ns = mark.Elements row ∷ ms
 
   marks2 : d2.marks ≡ ns
-  marks2 = ap (λ (d : Draft). d.marks) o2 ∙ ap (λ (l : List Mark). mark.Elements row ∷ l) (marks_of p1)
+  marks2 = ap (λ (d : Draft). d.marks) o2 ∙ ap (λ (l : List CodeMark). mark.Elements row ∷ l) (marks_of p1)
 
   marks5 : d5.marks ≡ ns
   marks5 = marks_of p5 ∙ (marks_of p4 ∙ (marks_of p3 ∙ marks2))
@@ -82,7 +84,7 @@ module _ (line n start test entry : ℕ) (few : n < 2 ^ 32) (what : ObjectCall) 
   marks6 = marks_of p6 ∙ marks5
 
   marks7 : d7.marks ≡ ms
-  marks7 = closed_marks 0 row d6 d7 c7 (ap row_in marks6) ∙ ap (λ (l : List Mark). drop 1 l) marks6
+  marks7 = closed_marks 0 row d6 d7 c7 (ap row_in marks6) ∙ ap (λ (l : List CodeMark). drop 1 l) marks6
 
   marks8 : d8.marks ≡ ms
   marks8 = marks_of p8 ∙ marks7
@@ -174,10 +176,23 @@ module _ (line n start test entry : ℕ) (few : n < 2 ^ 32) (what : ObjectCall) 
       let e : length d6.ops + 0 ≡ entry = (let a = at_entry in omega arith) in
       keep7.handlers row (clean_up entry) (subst (λ k. HandlerAt (laid_in d7) row (clean_up k)) e (h7 row (ap handler_in marks6)))
 
-  pub swept : Puts 23 (λ c. OverElements c line ms n n op.Sweep op.Sweep (CallDone c line what) (CallDone c line what)) d0 d9
+  -- one row comes to them
+  grown : AddsRows 1 (length d9.ops) d0 d9
+  grown =
+      let g1 : AddsRows 1 (length d2.ops) d0 d2 = rows_then (omega arith) p1.rows (rows_opened opening.Elements d1 d2 o2) in
+      let g3 : AddsRows 1 (length d3.ops) d0 d3 = rows_last p3.kept.longer g1 p3.rows in
+      let g4 : AddsRows 1 (length d4.ops) d0 d4 = rows_last p4.kept.longer g3 p4.rows in
+      let g5 : AddsRows 1 (length d5.ops) d0 d5 = rows_last p5.kept.longer g4 p5.rows in
+      let g6 : AddsRows 1 (length d6.ops) d0 d6 = rows_last p6.kept.longer g5 p6.rows in
+      let g7 : AddsRows 1 (length d6.ops + 0) d0 d7 = rows_last (omega arith) g6 (rows_closed 0 d6 d7 c7) in
+      let g8 : AddsRows 1 (length d8.ops) d0 d8 = rows_last (let a = at_entry in let b = ops8 in omega arith) g7 p8.rows in
+      rows_last p9.kept.longer g8 p9.rows
+
+  pub swept : Puts 1 23 (λ c. OverElements c line ms n n op.Sweep op.Sweep (CallDone c line what) (CallDone c line what)) d0 d9
   swept = record {
     rest = like_rest d0 d9 (like_puts d0 d8 d9 (like_puts d0 d7 d8 (like_closed 0 d0 d6 d7 (like_puts d0 d5 d6 (like_puts d0 d4 d5 (like_puts d0 d3 d4 (like_puts d0 d2 d3 (like_opened opening.Elements d0 d1 d2 (like_puts d0 d0 d1 refl p1) o2) p3) p4) p5) p6) c7) p8) p9) (marks_of p9 ∙ marks8);
     kept = kept_then (laid_in d0) (laid_in d1) code p1.kept keep1;
+    rows = grown;
     room = (let a = ops9 in let b = p3.room in let c = p6.room in let e = ops2 in let f = ops5 in let g = at_entry in let h = at_test in omega arith);
     code = record {
       row = row;

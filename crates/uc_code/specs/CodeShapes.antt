@@ -9,8 +9,8 @@ use Rattle.uc_code.specs.declared.rows.RowKind.TheVariants.{CleanUp}
 use Rattle.uc_code.specs.declared.rows.TheConstants.{ANY_EVENT, OPEN_END}
 use Rattle.uc_code.specs.declared.rows.MainOf.{MainOf}
 use Rattle.uc_code.specs.declared.rows.MainOf.TheVariants as main_of
-use Rattle.uc_code.specs.declared.rows.Mark.{Mark}
-use Rattle.uc_code.specs.declared.rows.Mark.TheVariants.{Finish, Loop, Whole, Elements, Outward}
+use Rattle.uc_code.specs.declared.rows.CodeMark.{CodeMark}
+use Rattle.uc_code.specs.declared.rows.CodeMark.TheVariants.{Finish, Loop, Whole, Elements, Outward}
 use Rattle.uc_tree.specs.Source.{Order, TestFirst, BodyFirst, NoTest}
 use Rattle.uc_code.specs.Layout.{Laid, handlers, guards, routine_in, chain, takes_events}
 
@@ -22,7 +22,7 @@ pub record OpAt (code : Laid) (a : ℕ) (op : Op) (line : ℕ) : Type 0 where
 pub record Nothing (a z : ℕ) : Type 0 where
   pub end : z ≡ a
 
--- no range: the code of what is not built yet
+-- no range: no code is that of such a piece
 abbrev pub Never : ℕ → ℕ → Type 0
 Never a z = ⊥
 
@@ -32,13 +32,13 @@ pub record One (code : Laid) (op : Op) (line a z : ℕ) : Type 0 where
   pub end : z ≡ a + 1
 
 -- one op from which an event may come: its handlers are those of the marks
-pub record Risk (code : Laid) (marks : List Mark) (op : Op) (line a z : ℕ) : Type 0 where
+pub record Risk (code : Laid) (marks : List CodeMark) (op : Op) (line a z : ℕ) : Type 0 where
   pub here : OpAt code a op line
   pub end : z ≡ a + 1
   pub under : chain code.rows z ≡ handlers marks
 
 -- a call of a constructor or a destructor that nobody wrote, which stands further on among the routines
-pub record CallsBehind (code : Laid) (marks : List Mark) (routine line a z : ℕ) : Type 0 where
+pub record CallsBehind (code : Laid) (marks : List CodeMark) (routine line a z : ℕ) : Type 0 where
   pub risk : Risk code marks (CallUnwritten routine) line a z
   pub behind : routine_in marks < routine
 
@@ -93,7 +93,7 @@ pub record Fork (code : Laid) (line : ℕ) (B C : ℕ → ℕ → Type 0) (a z :
   pub second : C (middle + 1) z
 
 -- the pads of a loop that begins here: `break` jumps to the first, `continue` to the second
-abbrev pub pads_at : ℕ → Mark
+abbrev pub pads_at : ℕ → CodeMark
 pads_at a = Loop (a + 1) (a + 2)
 
 -- where a loop begins
@@ -109,7 +109,7 @@ BackAt code BodyFirst T turn line = Both T (One code (IfNonzero turn) line)
 BackAt code NoTest T turn line = One code (Jump turn) line
 
 -- a loop: a jump to where it begins, the two pads, a tick, the body under the mark of the loop, the step, and the test
-pub record Turns (code : Laid) (line : ℕ) (order : Order) (T S : ℕ → ℕ → Type 0) (B : Mark → ℕ → ℕ → Type 0) (a z : ℕ) : Type 0 where
+pub record Turns (code : Laid) (line : ℕ) (order : Order) (T S : ℕ → ℕ → Type 0) (B : CodeMark → ℕ → ℕ → Type 0) (a z : ℕ) : Type 0 where
   pub step_at : ℕ
   pub test_at : ℕ
   pub begin : OpAt code a (Jump (begin_at order (a + 3) test_at)) line
@@ -122,7 +122,7 @@ pub record Turns (code : Laid) (line : ℕ) (order : Order) (T S : ℕ → ℕ �
 
 -- a block that is left as a whole: a jump over the pad by which whatever leaves it goes on behind it. Where it is unwound, an op tests
 -- whether that is over.
-pub record WholeAt (code : Laid) (line : ℕ) (ms : List Mark) (B : List Mark → ℕ → ℕ → Type 0) (a z : ℕ) : Type 0 where
+pub record WholeAt (code : Laid) (line : ℕ) (ms : List CodeMark) (B : List CodeMark → ℕ → ℕ → Type 0) (a z : ℕ) : Type 0 where
   pub row : ℕ
   pub body_end : ℕ
   pub begin : OpAt code a (Jump (a + 2)) line
@@ -143,7 +143,7 @@ main_left main_of.Task = Unhandled
 main_left main_of.Coroutine = Escape
 
 -- the statements of a main, which ends in this line, also where it is unwound
-pub record MainAt (code : Laid) (main : MainOf) (routine line : ℕ) (B : List Mark → ℕ → ℕ → Type 0) (a z : ℕ) : Type 0 where
+pub record MainAt (code : Laid) (main : MainOf) (routine line : ℕ) (B : List CodeMark → ℕ → ℕ → Type 0) (a z : ℕ) : Type 0 where
   pub row : ℕ
   pub body_end : ℕ
   pub body : B (Finish main routine line row ∷ []) a body_end
@@ -154,7 +154,7 @@ pub record MainAt (code : Laid) (main : MainOf) (routine line : ℕ) (B : List M
 
 -- a guarded block with so many handlers: a jump over the pad by which its statements and its handlers go on behind it, the statements,
 -- and behind them the handlers, the first of which has the last row
-pub record Guarded (code : Laid) (line : ℕ) (ms : List Mark) (count : ℕ) (B : List Mark → ℕ → ℕ → Type 0) (H : ℕ → ℕ → ℕ → ℕ → Type 0) (a z : ℕ) : Type 0 where
+pub record Guarded (code : Laid) (line : ℕ) (ms : List CodeMark) (count : ℕ) (B : List CodeMark → ℕ → ℕ → Type 0) (H : ℕ → ℕ → ℕ → ℕ → Type 0) (a z : ℕ) : Type 0 where
   pub first : ℕ
   pub body_end : ℕ
   pub begin : OpAt code a (Jump (a + 2)) line
@@ -169,7 +169,7 @@ pub record HandledAt (code : Laid) (number : ℕ) (handler : ℕ → Handler) (B
   pub body : B a z
 
 -- statements of a handler of resumptions, which has nothing around it in its routine
-pub record ApartAt (code : Laid) (ms : List Mark) (B : List Mark → ℕ → ℕ → Type 0) (a z : ℕ) : Type 0 where
+pub record ApartAt (code : Laid) (ms : List CodeMark) (B : List CodeMark → ℕ → ℕ → Type 0) (a z : ℕ) : Type 0 where
   pub row : ℕ
   pub body_end : ℕ
   pub body : B (Outward 0 row ∷ ms) a body_end
@@ -184,7 +184,7 @@ pub record Rounds (code : Laid) (line : ℕ) (back : ℕ → Op) (T : ℕ → �
 
 -- turns over the elements of an array of a length: so many stand at first, which are tested before a turn. Where an event comes, those
 -- that stand are destroyed by turns of the second form, from the test on, and unwinding goes on.
-pub record OverElements (code : Laid) (line : ℕ) (ms : List Mark) (first most : ℕ) (back undo : ℕ → Op) (T D : List Mark → ℕ → ℕ → Type 0) (a z : ℕ) : Type 0 where
+pub record OverElements (code : Laid) (line : ℕ) (ms : List CodeMark) (first most : ℕ) (back undo : ℕ → Op) (T D : List CodeMark → ℕ → ℕ → Type 0) (a z : ℕ) : Type 0 where
   pub row : ℕ
   pub test : ℕ
   pub entry : ℕ
@@ -198,7 +198,7 @@ pub record OverElements (code : Laid) (line : ℕ) (ms : List Mark) (first most 
   pub handler : HandlerAt code row (clean_up entry)
 
 -- what follows an object that is built: statements in its scope, its clean-up, and a pad that cleans up where they are unwound
-pub record ScopeOf (code : Laid) (line : ℕ) (ms : List Mark) (M : ℕ → Mark) (C U : ℕ → ℕ → Type 0) (B : List Mark → ℕ → ℕ → Type 0) (a z : ℕ) : Type 0 where
+pub record ScopeOf (code : Laid) (line : ℕ) (ms : List CodeMark) (M : ℕ → CodeMark) (C U : ℕ → ℕ → Type 0) (B : List CodeMark → ℕ → ℕ → Type 0) (a z : ℕ) : Type 0 where
   pub row : ℕ
   pub body_end : ℕ
   pub clean_end : ℕ
@@ -209,7 +209,7 @@ pub record ScopeOf (code : Laid) (line : ℕ) (ms : List Mark) (M : ℕ → Mark
   pub handler : HandlerAt code row (clean_up (clean_end + 1))
 
 -- what follows a part of an object that is built: the other parts and the body, and behind them its clean-up, for unwinding alone
-pub record BehindPart (code : Laid) (line : ℕ) (ms : List Mark) (M : ℕ → Mark) (C : ℕ → ℕ → Type 0) (B : List Mark → ℕ → ℕ → Type 0) (a z : ℕ) : Type 0 where
+pub record BehindPart (code : Laid) (line : ℕ) (ms : List CodeMark) (M : ℕ → CodeMark) (C : ℕ → ℕ → Type 0) (B : List CodeMark → ℕ → ℕ → Type 0) (a z : ℕ) : Type 0 where
   pub row : ℕ
   pub body_end : ℕ
   pub body : B (M row ∷ ms) a body_end
@@ -219,7 +219,7 @@ pub record BehindPart (code : Laid) (line : ℕ) (ms : List Mark) (M : ℕ → M
 
 -- the events that are enabled and pending are delivered one by one: each is raised for resumption, what its handler hands over goes, and
 -- the next one is asked for
-pub record PollAt (code : Laid) (ms : List Mark) (line a z : ℕ) : Type 0 where
+pub record PollAt (code : Laid) (ms : List CodeMark) (line a z : ℕ) : Type 0 where
   pub poll : OpAt code a (Poll z) line
   pub deliver : Risk code ms (Deliver z) line (a + 1) (a + 2)
   pub discard : OpAt code (a + 2) Discard line
@@ -227,17 +227,17 @@ pub record PollAt (code : Laid) (ms : List Mark) (line a z : ℕ) : Type 0 where
   pub end : z ≡ a + 4
 
 -- a mutex call leaves the object at hand, and goes on behind this. A call that is not unwound and has left it is delivered events then
-pub record LeavesAt (code : Laid) (ms : List Mark) (line a z : ℕ) : Type 0 where
+pub record LeavesAt (code : Laid) (ms : List CodeMark) (line a z : ℕ) : Type 0 where
   pub leave : OpAt code a (Leave z) line
   pub polls : PollAt code ms line (a + 1) z
 
 -- where the call that an accept statement took has failed, that is raised for resumption
-pub record FailedAt (code : Laid) (ms : List Mark) (line a z : ℕ) : Type 0 where
+pub record FailedAt (code : Laid) (ms : List CodeMark) (line a z : ℕ) : Type 0 where
   pub test : OpAt code a (Failed z) line
   pub raises : Both (Risk code ms Raise line) (One code Discard line) (a + 1) z
 
 -- an accept statement with so many guards asks, and then is delivered events; without a true guard it goes on behind this
-pub record AcceptsAt (code : Laid) (ms : List Mark) (site guards line a z : ℕ) : Type 0 where
+pub record AcceptsAt (code : Laid) (ms : List CodeMark) (site guards line a z : ℕ) : Type 0 where
   pub middle : ℕ
   pub asks : OpAt code a (Accept site guards z) line
   pub failed : FailedAt code ms line (a + 1) middle

@@ -5,7 +5,7 @@ use Rattle.uc_code.specs.declared.op.Op.{Op}
 use Rattle.uc_tree.specs.declared.kinds.LocalVariable.{LocalVariable}
 use Rattle.uc_code.specs.declared.rows.HandlerRow.{HandlerRow}
 use Rattle.uc_code.specs.declared.rows.Instruction.{Instruction}
-use Rattle.uc_code.specs.declared.rows.Mark.{Mark}
+use Rattle.uc_code.specs.declared.rows.CodeMark.{CodeMark}
 use Rattle.uc_code.specs.declared.rows.RoutineCode.{RoutineCode}
 
 -- the ops so far, the rows so far, the op from which on they are those of the marks, the place at which lowering stands, what
@@ -18,7 +18,7 @@ pub record Draft : Type 0 where
   pub rows : List HandlerRow
   pub settled : ℕ
   pub place : Place
-  pub marks : List Mark
+  pub marks : List CodeMark
   pub scopes : ℕ
   pub names : List LocalVariable
   pub handled : ℕ

@@ -13,3 +13,5 @@ pub mod Emits
 pub mod CodeShapes
 pub mod Silent
 pub mod RowTable
+pub mod RowCounts
+pub mod RowGrowth

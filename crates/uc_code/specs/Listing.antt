@@ -3,7 +3,7 @@ use Rattle.std.specs.Prelude.{ℕ, ℤ, pos, ◌+◌, List, [], ◌∷◌, ◌++
 use Rattle.std.specs.Fmt.{signed_decimal}
 use Rattle.uc_code.specs.declared.op.Op.{Op}
 use Rattle.uc_tree.specs.ValueForms.{form_number}
-use Rattle.uc_code.specs.declared.op.Op.TheVariants.{Push, Duplicate, Discard, Over, DiscardBelow, Local, Own, This, Via, ViaThis, Field, Counted, Index, Load, Store, Keep, Set, Bind, Clear, Add, Subtract, Multiply, Divide, Remainder, Negate, Not, Equal, NotEqual, Less, AtMost, Greater, AtLeast, ToChar, ToBool, Jump, IfZero, IfNonzero, Count, More, Fill, Sweep, Tick, Call, CallOn, CallUnwritten, Return, ReturnValue, ReturnNone, NoReturn, Enter, Leave, Arrive, Make, BindMade, Made, Spawn, Gone, GiveUp, Coroutine, Live, Alive, UnwindCoroutine, Forget, Resume, Suspend, Land, EndMain, EndTask, Escape, Throw, Raise, RaiseAt, Handled, Unhandled, Unwind, Enable, Disable, Restore, Poll, Deliver, Accept, Failed, Choose, Condition, Wait, Signal, SignalBlock, Empty, Front, Print, Text, Hold, Flush, Read, Fail, Yield, Cluster, ClusterEnd, Processor, ProcessorEnd, Migrate}
+use Rattle.uc_code.specs.declared.op.Op.TheVariants.{Push, Duplicate, Discard, CopyBelow, DiscardBelow, Local, Own, This, Via, ViaThis, Field, Counted, Index, Load, Store, Keep, Set, Bind, Clear, Add, Subtract, Multiply, Divide, Remainder, Negate, Not, Equal, NotEqual, Less, LessEqual, Greater, GreaterEqual, ToChar, ToBool, Jump, IfZero, IfNonzero, Count, More, Fill, Sweep, Tick, Call, CallOn, CallUnwritten, Return, ReturnValue, ReturnNone, NoReturn, Enter, Leave, Arrive, Make, BindMade, Made, Spawn, Gone, GiveUp, Coroutine, Live, Alive, UnwindCoroutine, Forget, Resume, Suspend, Land, EndMain, EndTask, Escape, Throw, Raise, RaiseAt, Handled, Unhandled, Unwind, Enable, Disable, Restore, Poll, Deliver, Accept, Failed, Choose, Condition, Wait, Signal, SignalBlock, Empty, Front, Print, Text, Hold, Flush, Read, Fail, Yield, Cluster, ClusterEnd, Processor, ProcessorEnd, Migrate}
 use Rattle.uc_code.specs.declared.rows.HandlerRow.{HandlerRow}
 use Rattle.uc_code.specs.declared.rows.RowKind.{RowKind}
 use Rattle.uc_code.specs.declared.rows.RowKind.TheVariants.{Catch, CatchResume, CleanUp}
@@ -15,7 +15,7 @@ abbrev pub word_of : Op → List ℕ
 word_of (Push _) = codes "push"
 word_of Duplicate = codes "dup"
 word_of Discard = codes "drop"
-word_of Over = codes "over"
+word_of CopyBelow = codes "over"
 word_of DiscardBelow = codes "nip"
 word_of (Local _) = codes "local"
 word_of Own = codes "own"
@@ -41,9 +41,9 @@ word_of Not = codes "not"
 word_of Equal = codes "eq"
 word_of NotEqual = codes "ne"
 word_of Less = codes "lt"
-word_of AtMost = codes "le"
+word_of LessEqual = codes "le"
 word_of Greater = codes "gt"
-word_of AtLeast = codes "ge"
+word_of GreaterEqual = codes "ge"
 word_of ToChar = codes "char"
 word_of ToBool = codes "bool"
 word_of (Jump _) = codes "jump"
@@ -119,7 +119,7 @@ abbrev pub operands_of : Op → List ℤ
 operands_of (Push n) = n ∷ []
 operands_of Duplicate = []
 operands_of Discard = []
-operands_of Over = []
+operands_of CopyBelow = []
 operands_of DiscardBelow = []
 operands_of (Local n) = pos n ∷ []
 operands_of Own = []
@@ -145,9 +145,9 @@ operands_of Not = []
 operands_of Equal = []
 operands_of NotEqual = []
 operands_of Less = []
-operands_of AtMost = []
+operands_of LessEqual = []
 operands_of Greater = []
-operands_of AtLeast = []
+operands_of GreaterEqual = []
 operands_of ToChar = []
 operands_of ToBool = []
 operands_of (Jump n) = pos n ∷ []

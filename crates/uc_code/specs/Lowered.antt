@@ -4,10 +4,10 @@ use Rattle.std.specs.Prelude.{◌≡◌, ℕ, suc, ◌+◌, ◌<◌, max, slice_
 use Rattle.uc_tree.specs.Source.{Shape, Integer, Character, Truth, Binding, Last, Field, Array, shape_cells, field_cells, Operator, Plus, Minus, Times, Over, Modulo, Equal, NotEqual, Less, AtMost, Greater, AtLeast, Expr, Literal, Variable, Element, Get, Load, Negated, Not, AsCharacter, AsTruth, Operate, And, Or, Set, Assign, First, Update, StepBehind, Fail, Call, OfObject, ObjectExpr, This, OwnField, GetOwn, FieldOf, Counted, CallOn, CallUnwritten, CallLive, EnterOn, EndOn, Bind, MakeOn, NewCluster, NewProcessor, EndCluster, EndProcessor, ConditionAt, Wait, Signal, SignalBlock, IsEmpty, FrontOf, Exprs, NoExprs, MoreExprs, Item, Show, ShowText, Target, Declared, Stmt, Skip, Block, Whole, Evaluate, Declare, Print, PrintTogether, Read, If, Loop, Break, Continue, Return, Owes, Fill, OfEvents, OfTasks, TaskStmt, Resume, Suspend, SetUp, Enliven, TakeDown, Yield, Migrate, Accept, EventStmt, Throw, Raise, Try, RaiseAt, Enable, Disable, Raised, Plainly, BuiltAt as BuildsAt, AgainFrom, Handlers, NoHandlers, MoreHandlers, Clauses, NoClauses, Otherwise, MoreClauses, clause_count, CleanUp, Restores, Stmts, Nil, Then, Scoped, Built, Way, ToBreak, ToContinue, ToReturn, ToEnd, Purpose, TaskMain, CoroutineMain, Procedure, Function, Builder, Routine, Source}
 use Rattle.uc_code.specs.declared.op.Op.{Op}
 use Rattle.uc_code.specs.declared.op.Op.TheVariants as op
-use Rattle.uc_code.specs.declared.rows.Mark.{Mark}
-use Rattle.uc_code.specs.declared.rows.Mark.TheVariants as mark
-use Rattle.uc_code.specs.declared.rows.Spot.{Spot}
-use Rattle.uc_code.specs.declared.rows.Spot.TheVariants as spot
+use Rattle.uc_code.specs.declared.rows.CodeMark.{CodeMark}
+use Rattle.uc_code.specs.declared.rows.CodeMark.TheVariants as mark
+use Rattle.uc_code.specs.declared.rows.ObjectSpot.{ObjectSpot}
+use Rattle.uc_code.specs.declared.rows.ObjectSpot.TheVariants as spot
 use Rattle.uc_code.specs.declared.rows.Array.{Array as ArrayOf}
 use Rattle.uc_code.specs.declared.rows.Resource.{Resource}
 use Rattle.uc_code.specs.declared.rows.Resource.TheVariants as resource
@@ -40,9 +40,9 @@ operator_op Modulo = op.Remainder
 operator_op Equal = op.Equal
 operator_op NotEqual = op.NotEqual
 operator_op Less = op.Less
-operator_op AtMost = op.AtMost
+operator_op AtMost = op.LessEqual
 operator_op Greater = op.Greater
-operator_op AtLeast = op.AtLeast
+operator_op AtLeast = op.GreaterEqual
 
 -- the op that prints an item, whose value is the top operand
 abbrev pub item_op : Item → Op
@@ -71,7 +71,7 @@ handler_rows NoHandlers = 0
 handler_rows (MoreHandlers resumes event cell line body rest) = suc (handler_rows rest)
 
 -- where an object begins
-abbrev pub spot_op : Spot → Op
+abbrev pub spot_op : ObjectSpot → Op
 spot_op (spot.Local k) = op.Local k
 spot_op (spot.This k) = op.This k
 
@@ -96,7 +96,7 @@ module _ (code : Laid) (line : ℕ) where
   ConvertAt (Array n s) = Nothing
 
   abbrev mutual
-    pub ExprAt : List Mark → Expr → ℕ → ℕ → Type 0
+    pub ExprAt : List CodeMark → Expr → ℕ → ℕ → Type 0
     ExprAt ms (Literal n) = Is (op.Push n)
     ExprAt ms (Variable k) = Is (op.Local k)
     ExprAt ms (Element n s a i) = Both (ExprAt ms a) (Both (ExprAt ms i) (Is (op.Index n (shape_cells s))))
@@ -117,12 +117,12 @@ module _ (code : Laid) (line : ℕ) where
         Both (ExprAt ms p) (Both (Is op.Duplicate) (Both (Is op.Load) (Both (ExprAt ms a) (Both (Is (operator_op o)) (Both (ConvertAt s) (Is op.Keep))))))
     -- the old value stays below until the new one is written
     ExprAt ms (StepBehind o s p) =
-        Both (ExprAt ms p) (Both (Is op.Duplicate) (Both (Is op.Load) (Both (Is op.Over) (Both (Is op.Over) (Both (Is (op.Push (pos 1))) (Both (Is (operator_op o)) (Both (ConvertAt s) (Both (Is op.Store) (Is op.DiscardBelow)))))))))
+        Both (ExprAt ms p) (Both (Is op.Duplicate) (Both (Is op.Load) (Both (Is op.CopyBelow) (Both (Is op.CopyBelow) (Both (Is (op.Push (pos 1))) (Both (Is (operator_op o)) (Both (ConvertAt s) (Both (Is op.Store) (Is op.DiscardBelow)))))))))
     ExprAt ms Fail = Is op.Fail
     ExprAt ms (Call r es) = Both (ArgumentsAt ms es) (Both (Is op.Tick) (Risk code ms (op.Call r) line))
     ExprAt ms (OfObject o) = ObjectAt ms o
 
-    pub ObjectAt : List Mark → ObjectExpr → ℕ → ℕ → Type 0
+    pub ObjectAt : List CodeMark → ObjectExpr → ℕ → ℕ → Type 0
     ObjectAt ms This = Is op.Own
     ObjectAt ms (OwnField s i) = Is (op.This (field_cells s i))
     ObjectAt ms (GetOwn s i) = Is (op.ViaThis (field_cells s i))
@@ -155,20 +155,20 @@ module _ (code : Laid) (line : ℕ) where
     ObjectAt ms (FrontOf c) = Both (ExprAt ms c) (Is op.Front)
 
     -- arguments, from left to right
-    pub ArgumentsAt : List Mark → Exprs → ℕ → ℕ → Type 0
+    pub ArgumentsAt : List CodeMark → Exprs → ℕ → ℕ → Type 0
     ArgumentsAt ms NoExprs = Nothing
     ArgumentsAt ms (MoreExprs e es) = Both (ExprAt ms e) (ArgumentsAt ms es)
 
   -- the value of an item; a text has none
-  abbrev pub ValueAt : List Mark → Item → ℕ → ℕ → Type 0
+  abbrev pub ValueAt : List CodeMark → Item → ℕ → ℕ → Type 0
   ValueAt ms (Show form e) = ExprAt ms e
   ValueAt ms (ShowText k) = Nothing
 
-  abbrev pub ItemsAt : List Mark → List Item → ℕ → ℕ → Type 0
+  abbrev pub ItemsAt : List CodeMark → List Item → ℕ → ℕ → Type 0
   ItemsAt ms [] = Nothing
   ItemsAt ms (i ∷ is) = Both (ValueAt ms i) (Both (Is (item_op i)) (ItemsAt ms is))
 
-  abbrev pub ValuesAt : List Mark → List Item → ℕ → ℕ → Type 0
+  abbrev pub ValuesAt : List CodeMark → List Item → ℕ → ℕ → Type 0
   ValuesAt ms [] = Nothing
   ValuesAt ms (i ∷ is) = Both (ValueAt ms i) (ValuesAt ms is)
 
@@ -177,23 +177,23 @@ module _ (code : Laid) (line : ℕ) where
   PiecesAt [] = Nothing
   PiecesAt (i ∷ is) = Both (PiecesAt is) (Is (item_op i))
 
-  abbrev pub TogetherAt : List Mark → List Item → ℕ → ℕ → Type 0
+  abbrev pub TogetherAt : List CodeMark → List Item → ℕ → ℕ → Type 0
   TogetherAt ms is = Both (ValuesAt ms is) (Both (Is op.Hold) (Both (PiecesAt is) (Is op.Flush)))
 
-  abbrev pub TargetsAt : List Mark → List Target → ℕ → ℕ → Type 0
+  abbrev pub TargetsAt : List CodeMark → List Target → ℕ → ℕ → Type 0
   TargetsAt ms [] = Nothing
   TargetsAt ms (t ∷ ts) = Both (ExprAt ms t.place) (Both (Is (op.Read t.form)) (Both (Is op.Store) (TargetsAt ms ts)))
 
-  abbrev pub StartAt : List Mark → ℕ → Option Expr → ℕ → ℕ → Type 0
+  abbrev pub StartAt : List CodeMark → ℕ → Option Expr → ℕ → ℕ → Type 0
   StartAt ms cell None = Nothing
   StartAt ms cell (Some e) = Both (Is (op.Local cell)) (Both (ExprAt ms e) (Is op.Store))
 
-  abbrev pub VariablesAt : List Mark → List Declared → ℕ → ℕ → Type 0
+  abbrev pub VariablesAt : List CodeMark → List Declared → ℕ → ℕ → Type 0
   VariablesAt ms [] = Nothing
   VariablesAt ms (d ∷ ds) = Both (Is (op.Clear d.cell d.cells)) (Both (StartAt ms d.cell d.value) (VariablesAt ms ds))
 
   -- the step of a loop, if there is one
-  abbrev pub StepAt : List Mark → Option Expr → ℕ → ℕ → Type 0
+  abbrev pub StepAt : List CodeMark → Option Expr → ℕ → ℕ → Type 0
   StepAt ms None = Nothing
   StepAt ms (Some e) = Both (ExprAt ms e) (Is op.Discard)
 
@@ -204,7 +204,7 @@ module _ (code : Laid) (line : ℕ) where
   FieldsAt n k = Both (Is op.Discard) (Both (Is (op.Push (pos n))) (Both (Is (op.Via k)) (Is (op.Via (k + 1)))))
 
   -- an event as the newest operands: its number and its fields
-  abbrev pub RaisedAt : List Mark → Raised → ℕ → ℕ → Type 0
+  abbrev pub RaisedAt : List CodeMark → Raised → ℕ → ℕ → Type 0
   RaisedAt ms (Plainly n) = Both (Is (op.Push (pos n))) (Both (Is (op.Push (pos 0))) (Is (op.Push (pos 0))))
   RaisedAt ms (BuildsAt n k e) =
       Both (Is (op.Clear k EVENT_FIELDS)) (Both (ExprAt ms e) (FieldsAt n k))
@@ -222,12 +222,12 @@ module _ (code : Laid) (line : ℕ) where
   -- calls of constructors and destructors without arguments
 
   -- where the object lies, or the element that is counted
-  abbrev pub SpotAt : Spot → Option ArrayOf → ℕ → ℕ → Type 0
+  abbrev pub SpotAt : ObjectSpot → Option ArrayOf → ℕ → ℕ → Type 0
   SpotAt s None = Is (spot_op s)
   SpotAt s (Some a) = Both (Is (spot_op s)) (Both (Is op.Counted) (Is (op.Index a.length a.size)))
 
   -- of what is destroyed by its number, as a mutex object is, that stands there
-  abbrev pub FoundAt : Manner → Spot → Option ArrayOf → ℕ → ℕ → Type 0
+  abbrev pub FoundAt : Manner → ObjectSpot → Option ArrayOf → ℕ → ℕ → Type 0
   FoundAt manner.Plain s o = SpotAt s o
   FoundAt (manner.Makes c) s o = SpotAt s o
   FoundAt manner.Ends s o = Both (SpotAt s o) (Is op.Load)
@@ -240,7 +240,7 @@ module _ (code : Laid) (line : ℕ) where
   OpenedAt resource.Processor = Both (Both (Is (op.Push (pos 0))) (Is op.Processor)) (Is op.Bind)
 
   -- a written routine is called behind a tick, without arguments; a mutex object is made or entered before
-  abbrev pub CalledAt : List Mark → Manner → Bool → ℕ → ℕ → ℕ → Type 0
+  abbrev pub CalledAt : List CodeMark → Manner → Bool → ℕ → ℕ → ℕ → Type 0
   CalledAt ms manner.Plain true r = Both Nothing (Both (Is op.Tick) (Risk code ms (op.CallOn r) line))
   CalledAt ms manner.Plain false r = CallsBehind code ms r line
   CalledAt ms (manner.Makes c) true r = Both Nothing (Both (Is op.Tick) (Both (Is (op.Make c r)) (Both (Is (op.BindMade c r)) (Risk code ms (op.CallOn r) line))))
@@ -250,23 +250,23 @@ module _ (code : Laid) (line : ℕ) where
   CalledAt ms (manner.Opens of) written r = OpenedAt of
   CalledAt ms (manner.Closes of) written r = Is (close_op of)
 
-  abbrev pub CallAt : ObjectCall → List Mark → ℕ → ℕ → Type 0
+  abbrev pub CallAt : ObjectCall → List CodeMark → ℕ → ℕ → Type 0
   CallAt what ms = Both (FoundAt what.manner what.spot what.array) (CalledAt ms what.manner what.written what.routine)
 
   -- such a call, whose value goes; and before one more element stands
-  abbrev pub CallDone : ObjectCall → List Mark → ℕ → ℕ → Type 0
+  abbrev pub CallDone : ObjectCall → List CodeMark → ℕ → ℕ → Type 0
   CallDone what ms = Both (CallAt what ms) (Is op.Discard)
 
-  abbrev pub CallBuilt : ObjectCall → List Mark → ℕ → ℕ → Type 0
+  abbrev pub CallBuilt : ObjectCall → List CodeMark → ℕ → ℕ → Type 0
   CallBuilt what ms = Both (CallAt what ms) (Both (Is op.Discard) (Is op.More))
 
   -- an object is cleaned up; all elements of an array are, the last one first
-  abbrev pub CleanBy : Option ArrayOf → ObjectCall → List Mark → ℕ → ℕ → Type 0
+  abbrev pub CleanBy : Option ArrayOf → ObjectCall → List CodeMark → ℕ → ℕ → Type 0
   CleanBy None what ms = CallDone what ms
   CleanBy (Some a) what ms = OverElements code line ms a.length a.length op.Sweep op.Sweep (CallDone what) (CallDone what)
 
   -- a coroutine is unwound, its execution is no more
-  abbrev pub CleanAt : Cleaning → List Mark → ℕ → ℕ → Type 0
+  abbrev pub CleanAt : Cleaning → List CodeMark → ℕ → ℕ → Type 0
   CleanAt (cleaning.Call what) ms = CleanBy what.array what ms
   CleanAt cleaning.TakeDown ms = Is op.UnwindCoroutine
   CleanAt cleaning.Forget ms = Is op.Forget
@@ -279,7 +279,7 @@ module _ (code : Laid) (line : ℕ) where
   CleanAt (cleaning.Restore cell) ms = Is (op.Restore cell)
 
   -- the elements of an array are built, the first one first
-  pub record FilledAt (ms : List Mark) (n : ℕ) (b d : Expr) (a z : ℕ) : Type 0 where
+  pub record FilledAt (ms : List CodeMark) (n : ℕ) (b d : Expr) (a z : ℕ) : Type 0 where
     pub builder : ObjectCall
     pub destroyer : ObjectCall
     pub builds : Calls b builder
@@ -295,7 +295,7 @@ module _ (code : Laid) where
   -- what leaves the statements of a routine: the objects in whose scope it stands are cleaned up, the innermost first, each in the
   -- line of its block; then comes a jump to a pad of the innermost loop or of a block that is left as a whole, or a return. A main ends in the line of its block, a call
   -- in that of its caller.
-  abbrev pub ExitAt : Way → List Mark → ℕ → ℕ → Type 0
+  abbrev pub ExitAt : Way → List CodeMark → ℕ → ℕ → Type 0
   ExitAt ToBreak [] = One code op.Return 0
   ExitAt ToContinue [] = One code op.Return 0
   ExitAt ToReturn [] = One code op.ReturnValue 0
@@ -322,14 +322,14 @@ module _ (code : Laid) where
 
   -- the pad of a mutex call: a return of a handler that arrives there is over, and then the call returns what that hands over; else it
   -- leaves its object, and unwinding goes on
-  pub record ArrivesAt (line : ℕ) (ms : List Mark) (a z : ℕ) : Type 0 where
+  pub record ArrivesAt (line : ℕ) (ms : List CodeMark) (a z : ℕ) : Type 0 where
     pub arrived : ℕ
     pub arrives : OpAt code a (op.Arrive arrived) line
     pub unwinds : Both (LeavesAt code ms line) (Risk code ms op.Unwind line) (a + 1) arrived
     pub returns : Both (LeavesAt code ms line) (ExitAt ToReturn ms) arrived z
 
   -- the pad of a scope that is unwound: its clean-up, and unwinding goes on; the building of a mutex object is given up
-  abbrev pub PadAt : ℕ → Cleaning → List Mark → ℕ → ℕ → Type 0
+  abbrev pub PadAt : ℕ → Cleaning → List CodeMark → ℕ → ℕ → Type 0
   PadAt line (cleaning.Call what) ms = Both (CleanAt code line (cleaning.Call what) ms) (Risk code ms op.Unwind line)
   PadAt line cleaning.TakeDown ms = Both (CleanAt code line cleaning.TakeDown ms) (Risk code ms op.Unwind line)
   PadAt line cleaning.Forget ms = Both (CleanAt code line cleaning.Forget ms) (Risk code ms op.Unwind line)
@@ -339,19 +339,19 @@ module _ (code : Laid) where
   PadAt line (cleaning.Restore cell) ms = Both (CleanAt code line (cleaning.Restore cell) ms) (Risk code ms op.Unwind line)
 
   -- what follows in the scope of an object
-  pub record ScopedAt (line : ℕ) (ms : List Mark) (c : CleanUp) (B : List Mark → ℕ → ℕ → Type 0) (a z : ℕ) : Type 0 where
+  pub record ScopedAt (line : ℕ) (ms : List CodeMark) (c : CleanUp) (B : List CodeMark → ℕ → ℕ → Type 0) (a z : ℕ) : Type 0 where
     pub what : Cleaning
     pub cleans : Cleans c what
     pub scope : ScopeOf code line ms (λ row. mark.Clean what line row) (CleanAt code line what ms) (PadAt line what ms) B a z
 
   -- what follows a part of an object under construction
-  pub record BuiltAt (line : ℕ) (ms : List Mark) (c : CleanUp) (B : List Mark → ℕ → ℕ → Type 0) (a z : ℕ) : Type 0 where
+  pub record BuiltAt (line : ℕ) (ms : List CodeMark) (c : CleanUp) (B : List CodeMark → ℕ → ℕ → Type 0) (a z : ℕ) : Type 0 where
     pub what : Cleaning
     pub cleans : Cleans c what
     pub part : BehindPart code line ms (λ row. mark.Part row) (CleanAt code line what ms) B a z
 
   -- a handler that catches goes on behind its guarded block, by its pad; one of resumptions ends, and what raised the event goes on
-  abbrev pub HandlerBy : Bool → List Mark → ℕ → ℕ → (List Mark → ℕ → ℕ → Type 0) → ℕ → ℕ → Type 0
+  abbrev pub HandlerBy : Bool → List CodeMark → ℕ → ℕ → (List CodeMark → ℕ → ℕ → Type 0) → ℕ → ℕ → Type 0
   HandlerBy false ms pad line B = Both (B ms) (One code (op.Jump pad) line)
   HandlerBy true ms pad line B = ApartAt code ms B
 
@@ -361,14 +361,14 @@ module _ (code : Laid) where
     pub handler : B a z
 
   -- the guards of an accept statement, from left to right
-  abbrev pub GuardsAt : List Mark → ℕ → Clauses → ℕ → ℕ → Type 0
+  abbrev pub GuardsAt : List CodeMark → ℕ → Clauses → ℕ → ℕ → Type 0
   GuardsAt ms line NoClauses = Nothing
   GuardsAt ms line (Otherwise b) = Nothing
   GuardsAt ms line (MoreClauses guard b cs) = Both (ExprAt code line ms guard) (GuardsAt ms line cs)
 
   -- a statement sets its own line
   abbrev mutual
-    pub StmtAt : List Mark → Stmt → ℕ → ℕ → Type 0
+    pub StmtAt : List CodeMark → Stmt → ℕ → ℕ → Type 0
     StmtAt ms (Skip line) = Nothing
     StmtAt ms (Block line body) = StmtsAt ms line body
     StmtAt ms (Whole line body) = WholeAt code line ms (λ ns. StmtsAt ns line body)
@@ -389,7 +389,7 @@ module _ (code : Laid) where
     StmtAt ms (OfTasks s) = TaskAt ms s
 
     -- what goes on behind a switch may be unwound there, and is delivered events
-    pub TaskAt : List Mark → TaskStmt → ℕ → ℕ → Type 0
+    pub TaskAt : List CodeMark → TaskStmt → ℕ → ℕ → Type 0
     TaskAt ms (Resume line) = Both (One code op.Resume line) (Both (Risk code ms op.Land line) (PollAt code ms line))
     TaskAt ms (Suspend line) = Both (One code op.Suspend line) (Both (Risk code ms op.Land line) (PollAt code ms line))
     -- what nobody wrote
@@ -403,13 +403,13 @@ module _ (code : Laid) where
         Both (GuardsAt ms line cs) (Both (AcceptsAt code ms site (clause_count cs) line) (ChoosesAt code line (clause_count cs) (λ otherwise places end. BranchesAt ms line cs otherwise places end)))
 
     -- the branches of these clauses, each at its place, and what is done without a clause; all go on at the end
-    pub BranchesAt : List Mark → ℕ → Clauses → ℕ → List ℕ → ℕ → ℕ → ℕ → Type 0
+    pub BranchesAt : List CodeMark → ℕ → Clauses → ℕ → List ℕ → ℕ → ℕ → ℕ → Type 0
     BranchesAt ms line NoClauses otherwise places end = NoBranch otherwise places end
     BranchesAt ms line (Otherwise b) otherwise places end = ElseAt otherwise places (StmtAt ms b)
     BranchesAt ms line (MoreClauses guard b cs) otherwise places end =
         ClauseAt code line places end (StmtAt ms b) (λ rest. BranchesAt ms line cs otherwise rest end)
 
-    pub EventAt : List Mark → EventStmt → ℕ → ℕ → Type 0
+    pub EventAt : List CodeMark → EventStmt → ℕ → ℕ → Type 0
     EventAt ms (Throw line r) = Both (RaisedAt code line ms r) (Risk code ms op.Throw line)
     -- what the handler hands over goes
     EventAt ms (Raise line r) = Both (RaisedAt code line ms r) (Both (Risk code ms op.Raise line) (One code op.Discard line))
@@ -422,13 +422,13 @@ module _ (code : Laid) where
         ScopedAt line ms (Restores cell) (λ ns. Both (One code (op.Disable events cell) line) (StmtAt ns s))
 
     -- the handlers of a guarded block whose last one has this row; a handler that catches goes on at this pad
-    pub HandlersAt : List Mark → ℕ → ℕ → Handlers → ℕ → ℕ → Type 0
+    pub HandlersAt : List CodeMark → ℕ → ℕ → Handlers → ℕ → ℕ → Type 0
     HandlersAt ms first pad NoHandlers = Nothing
     HandlersAt ms first pad (MoreHandlers resumes event cell line body rest) =
         Both (NamedAt event (HandledAt code (first + handler_rows rest) (handler_of resumes event (length (handlers ms))) (Both (KeepsAt code line cell) (HandlerBy resumes ms pad line (λ ns. StmtsAt ns line body))))) (HandlersAt ms first pad rest)
 
     -- the statements of a block of this line
-    pub StmtsAt : List Mark → ℕ → Stmts → ℕ → ℕ → Type 0
+    pub StmtsAt : List CodeMark → ℕ → Stmts → ℕ → ℕ → Type 0
     StmtsAt ms line Nil = Nothing
     StmtsAt ms line (Then s ss) = Both (StmtAt ms s) (StmtsAt ms line ss)
     StmtsAt ms line (Scoped c ss) = ScopedAt line ms c (λ ns. StmtsAt ns line ss)

@@ -1,19 +1,19 @@
 -- Rows while code is laid out: a row is open from its first op on, and closed behind its last one.
-use Rattle.std.specs.Prelude.{◌≡◌, ℕ, zero, suc, ◌+◌, ◌<◌, ◌≤◌, ◌++◌, List, [], ◌∷◌, length, reverse, drop, min, Bool, true, false, nat_lt, if◌then◌else◌, Option, Some, None}
+use Rattle.std.specs.Prelude.{◌≡◌, ℕ, zero, suc, ◌+◌, ◌<◌, ◌≤◌, ◌++◌, List, [], ◌∷◌, length, reverse, drop, min, Bool, true, false, nat_lt, if◌then◌else◌, slice_get, Option, Some, None}
 use Rattle.uc_code.specs.declared.rows.HandlerRow.{HandlerRow}
 use Rattle.uc_code.specs.declared.rows.Handler.{Handler}
 use Rattle.uc_code.specs.declared.rows.RowKind.{RowKind}
 use Rattle.uc_code.specs.declared.rows.RowKind.TheVariants.{Catch, CleanUp}
 use Rattle.uc_code.specs.declared.rows.TheConstants.{ANY_EVENT, NO_EVENT, OPEN_END}
-use Rattle.uc_code.specs.declared.rows.Mark.{Mark}
-use Rattle.uc_code.specs.declared.rows.Mark.TheVariants as mark
+use Rattle.uc_code.specs.declared.rows.CodeMark.{CodeMark}
+use Rattle.uc_code.specs.declared.rows.CodeMark.TheVariants as mark
 use Rattle.uc_code.specs.declared.rows.ObjectCall.{ObjectCall}
 use Rattle.uc_code.specs.declared.rows.Cleaning.{Cleaning}
 use Rattle.uc_code.specs.declared.rows.Cleaning.TheVariants as cleaning
 use Rattle.uc_code.specs.declared.rows.Opening.{Opening}
 use Rattle.uc_code.specs.declared.rows.Opening.TheVariants as opening
-use Rattle.uc_code.specs.declared.marks.Seen.{Seen}
-use Rattle.uc_code.specs.declared.marks.Seen.TheVariants as seen
+use Rattle.uc_code.specs.declared.marks.RowView.{RowView}
+use Rattle.uc_code.specs.declared.marks.RowView.TheVariants as seen
 use Rattle.uc_code.specs.Drafts.{Draft}
 use Rattle.uc_code.specs.Layout.{under, handlers, routine_in}
 
@@ -31,7 +31,7 @@ abbrev pub named_by : List ℕ → ℕ
 named_by ns = name_of (first_in ns)
 
 -- the row of a mark, if it has one
-abbrev pub row_in : List Mark → Option ℕ
+abbrev pub row_in : List CodeMark → Option ℕ
 row_in [] = None
 row_in (mark.Body routine ∷ ms) = None
 row_in (mark.Finish main routine line row ∷ ms) = Some row
@@ -44,7 +44,7 @@ row_in (mark.Elements row ∷ ms) = Some row
 row_in (mark.Outward below row ∷ ms) = Some row
 
 -- the same, where the row has a clean-up
-abbrev pub handler_in : List Mark → Option ℕ
+abbrev pub handler_in : List CodeMark → Option ℕ
 handler_in [] = None
 handler_in (mark.Body routine ∷ ms) = None
 handler_in (mark.Finish main routine line row ∷ ms) = Some row
@@ -57,7 +57,7 @@ handler_in (mark.Elements row ∷ ms) = Some row
 handler_in (mark.Outward below row ∷ ms) = None
 
 -- the same, where it is that of a handler of a guarded block
-abbrev pub guard_in : List Mark → Option ℕ
+abbrev pub guard_in : List CodeMark → Option ℕ
 guard_in [] = None
 guard_in (mark.Body routine ∷ ms) = None
 guard_in (mark.Finish main routine line row ∷ ms) = None
@@ -72,7 +72,7 @@ guard_in (mark.Outward below row ∷ ms) = None
 -- opening
 
 -- the mark of a row
-abbrev pub opening_mark : Opening → ℕ → Mark
+abbrev pub opening_mark : Opening → ℕ → CodeMark
 opening_mark (opening.Main main routine line) row = mark.Finish main routine line row
 opening_mark (opening.Whole leave) row = mark.Whole leave row
 opening_mark opening.Handler row = mark.Guard row
@@ -111,7 +111,7 @@ opening_bound opening.Elements rows = rows
 opening_bound (opening.Outward below) rows = below
 
 -- the rows around it
-abbrev pub opening_around : Opening → List Mark → List ℕ
+abbrev pub opening_around : Opening → List CodeMark → List ℕ
 opening_around (opening.Main main routine line) ms = handlers ms
 opening_around (opening.Whole leave) ms = handlers ms
 opening_around opening.Handler ms = handlers ms
@@ -121,7 +121,7 @@ opening_around opening.Elements ms = handlers ms
 opening_around (opening.Outward below) ms = under below (handlers ms)
 
 -- the row that an opening makes
-abbrev pub made : Opening → ℕ → List Mark → HandlerRow
+abbrev pub made : Opening → ℕ → List CodeMark → HandlerRow
 made o from ms = record { from = from; to = OPEN_END; outer = named_by (opening_around o ms); kind = opening_kind o; event = opening_event o; rest = 0; entry = 0 }
 
 -- a draft in which a row is opened
@@ -129,11 +129,11 @@ abbrev pub opened : Opening → Draft → Draft
 opened o d = record d { rows = d.rows ++ made o (length d.ops) d.marks ∷ []; settled = length d.ops; marks = opening_mark o (length d.rows) ∷ d.marks }
 
 -- a constructor or a destructor that nobody wrote stands further on among the routines than what calls it
-pub record StandsBehind (ms : List Mark) (what : ObjectCall) : Type 0 where
+pub record StandsBehind (ms : List CodeMark) (what : ObjectCall) : Type 0 where
   pub behind : what.written ≡ false → routine_in ms < what.routine
 
 -- so it does for what cleans up by a call
-abbrev pub CleansBehind : List Mark → Cleaning → Type 0
+abbrev pub CleansBehind : List CodeMark → Cleaning → Type 0
 CleansBehind ms (cleaning.Call what) = StandsBehind ms what
 CleansBehind ms cleaning.TakeDown = Unit {0}
 CleansBehind ms cleaning.Forget = Unit {0}
@@ -143,7 +143,7 @@ CleansBehind ms (cleaning.Free main) = Unit {0}
 CleansBehind ms (cleaning.Restore cell) = Unit {0}
 
 -- so it is for what cleans up the objects in whose scope these marks stand
-abbrev pub OpensBehind : Opening → List Mark → Type 0
+abbrev pub OpensBehind : Opening → List CodeMark → Type 0
 OpensBehind (opening.Main main routine line) ms = Unit {0}
 OpensBehind (opening.Whole leave) ms = Unit {0}
 OpensBehind opening.Handler ms = Unit {0}
@@ -152,7 +152,7 @@ OpensBehind opening.Part ms = Unit {0}
 OpensBehind opening.Elements ms = Unit {0}
 OpensBehind (opening.Outward below) ms = Unit {0}
 
-abbrev pub AllBehind : List Mark → Type 0
+abbrev pub AllBehind : List CodeMark → Type 0
 AllBehind [] = Unit {0}
 AllBehind (mark.Body routine ∷ ms) = AllBehind ms
 AllBehind (mark.Finish main routine line row ∷ ms) = AllBehind ms
@@ -164,14 +164,24 @@ AllBehind (mark.Part row ∷ ms) = AllBehind ms
 AllBehind (mark.Elements row ∷ ms) = AllBehind ms
 AllBehind (mark.Outward below row ∷ ms) = AllBehind ms
 
+-- the row of this number ends by this place, not before it begins, and the row around it is older
+pub record IsEnded (here number : ℕ) (r : HandlerRow) : Type 0 where
+  pub within : r.to ≤ here
+  pub range : r.from ≤ r.to
+  pub outer : r.outer ≤ number
+
+-- all rows are
+pub record AreEnded (here : ℕ) (rows : List HandlerRow) : Type 0 where
+  pub each : (number : ℕ) (row : HandlerRow) → slice_get rows number ≡ Some row → IsEnded here number row
+
 -- the marks and the rows fit one another: a mark with a row has one that is still open, the marks around it have older rows, and
--- every row that is no mark's ends by this place. The newest row stands first.
-pub data Nested (here : ℕ) : List HandlerRow → List Mark → Type 0 where
+-- every row that is no mark's has ended by this place. The newest row stands first.
+pub data Nested (here : ℕ) : List HandlerRow → List CodeMark → Type 0 where
   Bare : Nested here [] []
-  Ended : (r : HandlerRow) (rs : List HandlerRow) (ms : List Mark) → r.to ≤ here → Nested here rs ms → Nested here (r ∷ rs) ms
-  InBody : (routine : ℕ) (rs : List HandlerRow) (ms : List Mark) → Nested here rs ms → Nested here rs (mark.Body routine ∷ ms)
-  InLoop : (leave again : ℕ) (rs : List HandlerRow) (ms : List Mark) → Nested here rs ms → Nested here rs (mark.Loop leave again ∷ ms)
-  InRow : (o : Opening) (from : ℕ) (rs : List HandlerRow) (ms : List Mark) → from ≤ here → Nested here rs ms → Nested here (made o from ms ∷ rs) (opening_mark o (length rs) ∷ ms)
+  Ended : (r : HandlerRow) (rs : List HandlerRow) (ms : List CodeMark) → IsEnded here (length rs) r → Nested here rs ms → Nested here (r ∷ rs) ms
+  InBody : (routine : ℕ) (rs : List HandlerRow) (ms : List CodeMark) → Nested here rs ms → Nested here rs (mark.Body routine ∷ ms)
+  InLoop : (leave again : ℕ) (rs : List HandlerRow) (ms : List CodeMark) → Nested here rs ms → Nested here rs (mark.Loop leave again ∷ ms)
+  InRow : (o : Opening) (from : ℕ) (rs : List HandlerRow) (ms : List CodeMark) → from ≤ here → Nested here rs ms → Nested here (made o from ms ∷ rs) (opening_mark o (length rs) ∷ ms)
 
 -- numbers below another
 abbrev pub Below : ℕ → List ℕ → Type 0
@@ -179,7 +189,7 @@ Below k [] = Unit {0}
 Below k (n ∷ ns) = (n < k) × Below k ns
 
 -- the rows of marks are newer than those of the marks around them
-abbrev pub Falling : List Mark → Type 0
+abbrev pub Falling : List CodeMark → Type 0
 Falling [] = Unit {0}
 Falling (mark.Body routine ∷ ms) = Falling ms
 Falling (mark.Finish main routine line row ∷ ms) = Below row (handlers ms) × Falling ms
@@ -192,7 +202,7 @@ Falling (mark.Elements row ∷ ms) = Below row (handlers ms) × Falling ms
 Falling (mark.Outward below row ∷ ms) = Falling ms
 
 -- a draft's ops from a place on have the handlers of its marks, of which it has so few that a number names each
-pub record IsSettled (ops settled : ℕ) (rows : List HandlerRow) (ms : List Mark) : Type 0 where
+pub record IsSettled (ops settled : ℕ) (rows : List HandlerRow) (ms : List CodeMark) : Type 0 where
   pub past : settled ≤ ops
   pub few : length rows ≤ OPEN_END
   pub nested : Nested settled (reverse rows) ms
@@ -215,7 +225,7 @@ closed_by None entry d = d
 closed_by (Some number) entry d = record d { rows = closed_rows (length d.ops) entry number d.rows; settled = length d.ops; marks = drop 1 d.marks }
 
 -- the row of a handler has none until that is laid out
-abbrev pub entry_in : List Mark → ℕ → ℕ
+abbrev pub entry_in : List CodeMark → ℕ → ℕ
 entry_in [] entry = entry
 entry_in (mark.Body routine ∷ ms) entry = entry
 entry_in (mark.Finish main routine line row ∷ ms) entry = entry
@@ -245,7 +255,7 @@ handled_rows h (suc number) (r ∷ rs) = r ∷ handled_rows h number rs
 
 -- leaving a mark that has no row
 
-abbrev pub is_rowless : List Mark → Bool
+abbrev pub is_rowless : List CodeMark → Bool
 is_rowless [] = false
 is_rowless (mark.Body routine ∷ ms) = true
 is_rowless (mark.Finish main routine line row ∷ ms) = false
@@ -257,7 +267,7 @@ is_rowless (mark.Part row ∷ ms) = false
 is_rowless (mark.Elements row ∷ ms) = false
 is_rowless (mark.Outward below row ∷ ms) = false
 
-abbrev pub left_marks : List Mark → List Mark
+abbrev pub left_marks : List CodeMark → List CodeMark
 left_marks [] = []
 left_marks (mark.Body routine ∷ ms) = ms
 left_marks (mark.Finish main routine line row ∷ ms) = mark.Finish main routine line row ∷ ms
@@ -271,10 +281,10 @@ left_marks (mark.Outward below row ∷ ms) = mark.Outward below row ∷ ms
 
 -- what a mark tells of the rows below a number
 
-abbrev pub seen_row : ℕ → ℕ → Seen
+abbrev pub seen_row : ℕ → ℕ → RowView
 seen_row row bound = if nat_lt row bound then seen.Row row else seen.Bound bound
 
-abbrev pub seen_at : Mark → ℕ → Seen
+abbrev pub seen_at : CodeMark → ℕ → RowView
 seen_at (mark.Body routine) bound = seen.Bound bound
 seen_at (mark.Finish main routine line row) bound = seen_row row bound
 seen_at (mark.Loop leave again) bound = seen.Bound bound
@@ -290,7 +300,7 @@ seen_at (mark.Outward below row) bound = seen.Bound (min bound below)
 abbrev pub clean_room : ℕ
 clean_room = 23
 
-abbrev pub exit_room : List Mark → ℕ
+abbrev pub exit_room : List CodeMark → ℕ
 exit_room [] = 1
 exit_room (mark.Body routine ∷ ms) = 1
 exit_room (mark.Finish main routine line row ∷ ms) = 1

@@ -10,19 +10,22 @@ ghost use Rattle.uc_code.specs.declared.rows.Resource.{Resource};
 ghost use Rattle.uc_code.specs.Lowered.{spot_op, close_op, SpotAt, FoundAt, OpenedAt, CalledAt, CallAt, CallDone, CleanBy, CleanAt, ExitAt};
 ghost use Rattle.uc_code.specs.Layout.{routine_in};
 ghost use Rattle.uc_code.specs.OpenRows.{StandsBehind, CleansBehind, clean_room, exit_room};
+ghost use Rattle.uc_code.specs.RowCounts.{array_rows, cleaning_rows, exit_rows};
 ghost use Rattle.uc_code.specs.Emits.{Puts, PutsLeft, PastBehind, PutsPast, past_room, manner_length, done_length, call_length, clean_length, end_op, ends_at};
 
 use crate::draft::Draft;
 use crate::op::Op;
 use crate::raising::put_poll;
-use crate::rows::{Array, Cleaning, Manner, Mark, ObjectCall, Opening, Resource, Spot, Way};
+use crate::rows::{
+    Array, Cleaning, CodeMark, Manner, ObjectCall, ObjectSpot, Opening, Resource, Way,
+};
 use std::alloc::AllocError;
 use uc_tree::limits::DESTRUCTOR;
 
 // One op.
 pub(crate) fn put(op: Op, line: u32, out: &mut Draft) -> Result<(), AllocError>
     requires { length out.old.ops < PROGRAM_OPS }
-    ensures { OnOk result (Puts 1 (λ code. One code op line) out.old out.new) }
+    ensures { OnOk result (Puts 0 1 (λ code. One code op line) out.old out.new) }
 {
     out.emit(op, line)?;
     Ok(())
@@ -31,26 +34,26 @@ pub(crate) fn put(op: Op, line: u32, out: &mut Draft) -> Result<(), AllocError>
 // One op from which an event may come.
 pub(crate) fn put_at_risk(op: Op, line: u32, out: &mut Draft) -> Result<(), AllocError>
     requires { length out.old.ops < PROGRAM_OPS }
-    ensures { OnOk result (Puts 1 (λ code. Risk code out.old.marks op line) out.old out.new) }
+    ensures { OnOk result (Puts 0 1 (λ code. Risk code out.old.marks op line) out.old out.new) }
 {
     out.emit_at_risk(op, line)?;
     Ok(())
 }
 
 // Where an object begins.
-fn spot_op(spot: Spot) -> Op
+fn spot_op(spot: ObjectSpot) -> Op
     ensures { result ≡ spot_op spot }
 {
     match spot {
-        Spot::Local(cell) => Op::Local(cell),
-        Spot::This(cell) => Op::This(cell),
+        ObjectSpot::Local(cell) => Op::Local(cell),
+        ObjectSpot::This(cell) => Op::This(cell),
     }
 }
 
 // The element that is counted.
-fn put_element(spot: Spot, array: Array, line: u32, out: &mut Draft) -> Result<(), AllocError>
+fn put_element(spot: ObjectSpot, array: Array, line: u32, out: &mut Draft) -> Result<(), AllocError>
     requires { length out.old.ops + 3 ≤ PROGRAM_OPS }
-    ensures { OnOk result (Puts 3 (λ code. SpotAt code line spot (Some array)) out.old out.new) }
+    ensures { OnOk result (Puts 0 3 (λ code. SpotAt code line spot (Some array)) out.old out.new) }
 {
     put(spot_op(spot), line, out)?;
     put(Op::Counted, line, out)?;
@@ -66,9 +69,14 @@ fn put_element(spot: Spot, array: Array, line: u32, out: &mut Draft) -> Result<(
 }
 
 // Where the object lies, or the element that is counted.
-fn put_place(spot: Spot, array: Option<Array>, line: u32, out: &mut Draft) -> Result<(), AllocError>
+fn put_place(
+    spot: ObjectSpot,
+    array: Option<Array>,
+    line: u32,
+    out: &mut Draft,
+) -> Result<(), AllocError>
     requires { length out.old.ops + 3 ≤ PROGRAM_OPS }
-    ensures { OnOk result (Puts 3 (λ code. SpotAt code line spot array) out.old out.new) }
+    ensures { OnOk result (Puts 0 3 (λ code. SpotAt code line spot array) out.old out.new) }
 {
     match array {
         Some(array) => {
@@ -84,14 +92,14 @@ fn put_place(spot: Spot, array: Option<Array>, line: u32, out: &mut Draft) -> Re
 
 // The number that stands there.
 fn put_number(
-    spot: Spot,
+    spot: ObjectSpot,
     array: Option<Array>,
     line: u32,
     out: &mut Draft,
 ) -> Result<(), AllocError>
     requires { length out.old.ops + 4 ≤ PROGRAM_OPS }
-    ensures ends { OnOk result (Puts 4 (λ code. FoundAt code line manner.Ends spot array) out.old out.new) }
-    ensures closes { (of : Resource) → OnOk result (Puts 4 (λ code. FoundAt code line (manner.Closes of) spot array) out.old out.new) }
+    ensures ends { OnOk result (Puts 0 4 (λ code. FoundAt code line manner.Ends spot array) out.old out.new) }
+    ensures closes { (of : Resource) → OnOk result (Puts 0 4 (λ code. FoundAt code line (manner.Closes of) spot array) out.old out.new) }
 {
     put_place(spot, array, line, out)?;
     put(Op::Load, line, out)?;
@@ -101,7 +109,7 @@ fn put_number(
 // A written routine is called behind a tick.
 fn put_written(routine: u32, line: u32, out: &mut Draft) -> Result<(), AllocError>
     requires { length out.old.ops + 2 ≤ PROGRAM_OPS }
-    ensures { OnOk result (Puts 2 (λ code. CalledAt code line out.old.marks manner.Plain true routine) out.old out.new) }
+    ensures { OnOk result (Puts 0 2 (λ code. CalledAt code line out.old.marks manner.Plain true routine) out.old out.new) }
 {
     put(Op::Tick, line, out)?;
     put_at_risk(Op::CallOn(routine), line, out)?;
@@ -111,7 +119,7 @@ fn put_written(routine: u32, line: u32, out: &mut Draft) -> Result<(), AllocErro
 // A mutex object is made, and then a written routine builds it.
 fn put_made_written(class: u32, routine: u32, line: u32, out: &mut Draft) -> Result<(), AllocError>
     requires { length out.old.ops + 4 ≤ PROGRAM_OPS }
-    ensures { OnOk result (Puts 4 (λ code. CalledAt code line out.old.marks (manner.Makes class) true routine) out.old out.new) }
+    ensures { OnOk result (Puts 0 4 (λ code. CalledAt code line out.old.marks (manner.Makes class) true routine) out.old out.new) }
 {
     put(Op::Tick, line, out)?;
     put(Op::Make { class, routine }, line, out)?;
@@ -129,7 +137,7 @@ fn put_made_unwritten(
 ) -> Result<(), AllocError>
     requires room { length out.old.ops + 3 ≤ PROGRAM_OPS }
     requires behind { routine_in out.old.marks < routine }
-    ensures { OnOk result (Puts 3 (λ code. CalledAt code line out.old.marks (manner.Makes class) false routine) out.old out.new) }
+    ensures { OnOk result (Puts 0 3 (λ code. CalledAt code line out.old.marks (manner.Makes class) false routine) out.old out.new) }
 {
     put(Op::Make { class, routine }, line, out)?;
     put(Op::BindMade { class, routine }, line, out)?;
@@ -140,7 +148,7 @@ fn put_made_unwritten(
 // A mutex object is entered, and then a written routine destroys it.
 fn put_ended_written(routine: u32, line: u32, out: &mut Draft) -> Result<(), AllocError>
     requires { length out.old.ops + 3 ≤ PROGRAM_OPS }
-    ensures { OnOk result (Puts 3 (λ code. CalledAt code line out.old.marks manner.Ends true routine) out.old out.new) }
+    ensures { OnOk result (Puts 0 3 (λ code. CalledAt code line out.old.marks manner.Ends true routine) out.old out.new) }
 {
     let enter = Op::Enter {
         member: DESTRUCTOR,
@@ -156,7 +164,7 @@ fn put_ended_written(routine: u32, line: u32, out: &mut Draft) -> Result<(), All
 fn put_ended_unwritten(routine: u32, line: u32, out: &mut Draft) -> Result<(), AllocError>
     requires room { length out.old.ops + 2 ≤ PROGRAM_OPS }
     requires behind { routine_in out.old.marks < routine }
-    ensures { OnOk result (Puts 2 (λ code. CalledAt code line out.old.marks manner.Ends false routine) out.old out.new) }
+    ensures { OnOk result (Puts 0 2 (λ code. CalledAt code line out.old.marks manner.Ends false routine) out.old out.new) }
 {
     let enter = Op::Enter {
         member: DESTRUCTOR,
@@ -171,7 +179,7 @@ fn put_ended_unwritten(routine: u32, line: u32, out: &mut Draft) -> Result<(), A
 fn put_plain(routine: u32, written: bool, line: u32, out: &mut Draft) -> Result<(), AllocError>
     requires room { length out.old.ops + 2 ≤ PROGRAM_OPS }
     requires behind { written ≡ false → routine_in out.old.marks < routine }
-    ensures { OnOk result (Puts 2 (λ code. CalledAt code line out.old.marks manner.Plain written routine) out.old out.new) }
+    ensures { OnOk result (Puts 0 2 (λ code. CalledAt code line out.old.marks manner.Plain written routine) out.old out.new) }
 {
     if written {
         put_written(routine, line, out)?;
@@ -192,7 +200,7 @@ fn put_made(
 ) -> Result<(), AllocError>
     requires room { length out.old.ops + 4 ≤ PROGRAM_OPS }
     requires behind { written ≡ false → routine_in out.old.marks < routine }
-    ensures { OnOk result (Puts 4 (λ code. CalledAt code line out.old.marks (manner.Makes class) written routine) out.old out.new) }
+    ensures { OnOk result (Puts 0 4 (λ code. CalledAt code line out.old.marks (manner.Makes class) written routine) out.old out.new) }
 {
     if written {
         put_made_written(class, routine, line, out)?;
@@ -207,7 +215,7 @@ fn put_made(
 fn put_ended(routine: u32, written: bool, line: u32, out: &mut Draft) -> Result<(), AllocError>
     requires room { length out.old.ops + 4 ≤ PROGRAM_OPS }
     requires behind { written ≡ false → routine_in out.old.marks < routine }
-    ensures { OnOk result (Puts 4 (λ code. CalledAt code line out.old.marks manner.Ends written routine) out.old out.new) }
+    ensures { OnOk result (Puts 0 4 (λ code. CalledAt code line out.old.marks manner.Ends written routine) out.old out.new) }
 {
     if written {
         put_ended_written(routine, line, out)?;
@@ -221,7 +229,7 @@ fn put_ended(routine: u32, written: bool, line: u32, out: &mut Draft) -> Result<
 // A cluster, or a processor of the first cluster, is asked for, and bound.
 fn put_opened(of: Resource, line: u32, out: &mut Draft) -> Result<(), AllocError>
     requires { length out.old.ops + 3 ≤ PROGRAM_OPS }
-    ensures { OnOk result (Puts 3 (λ code. OpenedAt code line of) out.old out.new) }
+    ensures { OnOk result (Puts 0 3 (λ code. OpenedAt code line of) out.old out.new) }
 {
     match of {
         Resource::Cluster => {
@@ -252,7 +260,7 @@ fn close_op(of: Resource) -> Op
 fn put_called(what: ObjectCall, line: u32, out: &mut Draft) -> Result<(), AllocError>
     requires room { length out.old.ops + 4 ≤ PROGRAM_OPS }
     requires behind { StandsBehind out.old.marks what }
-    ensures { OnOk result (Puts 4 (λ code. CalledAt code line out.old.marks what.manner what.written what.routine) out.old out.new) }
+    ensures { OnOk result (Puts 0 4 (λ code. CalledAt code line out.old.marks what.manner what.written what.routine) out.old out.new) }
 {
     match what.manner {
         Manner::Plain => {
@@ -281,7 +289,7 @@ fn put_called(what: ObjectCall, line: u32, out: &mut Draft) -> Result<(), AllocE
 // Where it lies, of what is destroyed by its number that.
 fn put_found(what: ObjectCall, line: u32, out: &mut Draft) -> Result<(), AllocError>
     requires { length out.old.ops + 4 ≤ PROGRAM_OPS }
-    ensures { OnOk result (Puts 4 (λ code. FoundAt code line what.manner what.spot what.array) out.old out.new) }
+    ensures { OnOk result (Puts 0 4 (λ code. FoundAt code line what.manner what.spot what.array) out.old out.new) }
 {
     match what.manner {
         Manner::Plain => {
@@ -311,7 +319,7 @@ fn put_found(what: ObjectCall, line: u32, out: &mut Draft) -> Result<(), AllocEr
 pub fn put_call(what: ObjectCall, line: u32, out: &mut Draft) -> Result<(), AllocError>
     requires room { length out.old.ops + 8 ≤ PROGRAM_OPS }
     requires behind { StandsBehind out.old.marks what }
-    ensures { OnOk result (Puts 8 (λ code. CallAt code line what out.old.marks) out.old out.new) }
+    ensures { OnOk result (Puts 0 8 (λ code. CallAt code line what out.old.marks) out.old out.new) }
 {
     put_found(what, line, out)?;
     put_called(what, line, out)?;
@@ -322,7 +330,7 @@ pub fn put_call(what: ObjectCall, line: u32, out: &mut Draft) -> Result<(), Allo
 pub fn put_done(what: ObjectCall, line: u32, out: &mut Draft) -> Result<(), AllocError>
     requires room { length out.old.ops + 9 ≤ PROGRAM_OPS }
     requires behind { StandsBehind out.old.marks what }
-    ensures { OnOk result (Puts 9 (λ code. CallDone code line what out.old.marks) out.old out.new) }
+    ensures { OnOk result (Puts 0 9 (λ code. CallDone code line what out.old.marks) out.old out.new) }
 {
     put_call(what, line, out)?;
     put(Op::Discard, line, out)?;
@@ -378,7 +386,7 @@ pub fn clean_length(what: Cleaning) -> u32
 fn put_sweep(what: ObjectCall, array: Array, line: u32, out: &mut Draft) -> Result<(), AllocError>
     requires room { length out.old.ops + clean_room ≤ PROGRAM_OPS }
     requires behind { StandsBehind out.old.marks what }
-    ensures { OnOk result (Puts clean_room (λ code. CleanBy code line (Some array) what out.old.marks) out.old out.new) }
+    ensures { OnOk result (Puts 1 clean_room (λ code. CleanBy code line (Some array) what out.old.marks) out.old out.new) }
 {
     let start = out.here();
     let test = start + 1 + done_length(what);
@@ -403,7 +411,7 @@ fn put_sweep(what: ObjectCall, array: Array, line: u32, out: &mut Draft) -> Resu
 fn put_destroyed(what: ObjectCall, line: u32, out: &mut Draft) -> Result<(), AllocError>
     requires room { length out.old.ops + clean_room ≤ PROGRAM_OPS }
     requires behind { StandsBehind out.old.marks what }
-    ensures { OnOk result (Puts clean_room (λ code. CleanAt code line (cleaning.Call what) out.old.marks) out.old out.new) }
+    ensures { OnOk result (Puts (array_rows what.array) clean_room (λ code. CleanAt code line (cleaning.Call what) out.old.marks) out.old out.new) }
 {
     match what.array {
         Some(array) => {
@@ -420,7 +428,7 @@ fn put_destroyed(what: ObjectCall, line: u32, out: &mut Draft) -> Result<(), All
 // The running mutex call leaves its object, and is delivered events.
 fn put_leave(line: u32, out: &mut Draft) -> Result<(), AllocError>
     requires { length out.old.ops + 5 ≤ PROGRAM_OPS }
-    ensures { OnOk result (Puts 5 (λ code. LeavesAt code out.old.marks line) out.old out.new) }
+    ensures { OnOk result (Puts 0 5 (λ code. LeavesAt code out.old.marks line) out.old out.new) }
 {
     let behind = out.here() + 5;
     put(Op::Leave(behind), line, out)?;
@@ -431,7 +439,7 @@ fn put_leave(line: u32, out: &mut Draft) -> Result<(), AllocError>
 // The building of a mutex object ends: it is free, or begins as a task with this main.
 fn put_freed(main: Option<u32>, line: u32, out: &mut Draft) -> Result<(), AllocError>
     requires { length out.old.ops < PROGRAM_OPS }
-    ensures { OnOk result (Puts 1 (λ code. CleanAt code line (cleaning.Free main) out.old.marks) out.old out.new) }
+    ensures { OnOk result (Puts 0 1 (λ code. CleanAt code line (cleaning.Free main) out.old.marks) out.old out.new) }
 {
     match main {
         None => {
@@ -449,7 +457,7 @@ fn put_freed(main: Option<u32>, line: u32, out: &mut Draft) -> Result<(), AllocE
 pub fn put_clean(what: Cleaning, line: u32, out: &mut Draft) -> Result<(), AllocError>
     requires room { length out.old.ops + clean_room ≤ PROGRAM_OPS }
     requires behind { CleansBehind out.old.marks what }
-    ensures { OnOk result (Puts clean_room (λ code. CleanAt code line what out.old.marks) out.old out.new) }
+    ensures { OnOk result (Puts (cleaning_rows what) clean_room (λ code. CleanAt code line what out.old.marks) out.old out.new) }
 {
     match what {
         Cleaning::Call(call) => {
@@ -496,24 +504,24 @@ fn end_op(way: Way) -> Op
 }
 
 // How a way out ends at a mark, where it does: its last op, and the line of that.
-fn ends_at(way: Way, mark: Mark, line: u32) -> Option<(Op, u32)>
+fn ends_at(way: Way, mark: CodeMark, line: u32) -> Option<(Op, u32)>
     ensures { result ≡ ends_at way mark line }
 {
     match mark {
-        Mark::Body { .. } => Some((end_op(way), 0)),
-        Mark::Finish { main, line, .. } => Some((main.end(), line)),
-        Mark::Loop { leave, again } => match way {
+        CodeMark::Body { .. } => Some((end_op(way), 0)),
+        CodeMark::Finish { main, line, .. } => Some((main.end(), line)),
+        CodeMark::Loop { leave, again } => match way {
             Way::Break => Some((Op::Jump(leave), line)),
             Way::Continue => Some((Op::Jump(again), line)),
             Way::Value => None,
             Way::End => None,
         },
-        Mark::Whole { leave, .. } => Some((Op::Jump(leave), line)),
-        Mark::Guard { .. } => None,
-        Mark::Clean { .. } => None,
-        Mark::Part { .. } => None,
-        Mark::Elements { .. } => None,
-        Mark::Outward { .. } => Some((end_op(way), 0)),
+        CodeMark::Whole { leave, .. } => Some((Op::Jump(leave), line)),
+        CodeMark::Guard { .. } => None,
+        CodeMark::Clean { .. } => None,
+        CodeMark::Part { .. } => None,
+        CodeMark::Elements { .. } => None,
+        CodeMark::Outward { .. } => Some((end_op(way), 0)),
     }
 }
 
@@ -530,24 +538,24 @@ fn put_left(what: Cleaning, row: u32, line: u32, out: &mut Draft) -> Result<(), 
 }
 
 // A mark is left on the way out.
-fn put_past(mark: Mark, out: &mut Draft) -> Result<(), AllocError>
+fn put_past(mark: CodeMark, out: &mut Draft) -> Result<(), AllocError>
     requires room { length out.old.ops + past_room mark ≤ PROGRAM_OPS }
     requires behind { PastBehind mark out.old.marks }
     ensures { OnOk result (PutsPast mark out.old out.new) }
 {
     match mark {
-        Mark::Body { .. } => Ok(()),
-        Mark::Finish { .. } => Ok(()),
-        Mark::Loop { .. } => Ok(()),
-        Mark::Whole { .. } => Ok(()),
-        Mark::Guard { .. } => Ok(()),
-        Mark::Clean { what, line, row } => {
+        CodeMark::Body { .. } => Ok(()),
+        CodeMark::Finish { .. } => Ok(()),
+        CodeMark::Loop { .. } => Ok(()),
+        CodeMark::Whole { .. } => Ok(()),
+        CodeMark::Guard { .. } => Ok(()),
+        CodeMark::Clean { what, line, row } => {
             put_left(what, row, line, out)?;
             Ok(())
         }
-        Mark::Part { .. } => Ok(()),
-        Mark::Elements { .. } => Ok(()),
-        Mark::Outward { .. } => Ok(()),
+        CodeMark::Part { .. } => Ok(()),
+        CodeMark::Elements { .. } => Ok(()),
+        CodeMark::Outward { .. } => Ok(()),
     }
 }
 
@@ -555,7 +563,7 @@ fn put_past(mark: Mark, out: &mut Draft) -> Result<(), AllocError>
 /// of memory the draft is spent.
 pub fn put_exit(way: Way, line: u32, out: &mut Draft) -> Result<(), AllocError>
     requires { length out.old.ops + exit_room out.old.marks ≤ PROGRAM_OPS }
-    ensures { OnOk result (Puts (exit_room out.old.marks) (λ code. ExitAt code (way_of way) out.old.marks) out.old out.new) }
+    ensures { OnOk result (Puts (exit_rows (way_of way) out.old.marks) (exit_room out.old.marks) (λ code. ExitAt code (way_of way) out.old.marks) out.old out.new) }
 {
     let mut i = out.marks().len();
     while i > 0 {

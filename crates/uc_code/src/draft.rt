@@ -4,19 +4,19 @@ ghost use Rattle.std.specs.Prelude.{◌≡◌, ◌+◌, ◌^◌, ◌<◌, ◌≤
 ghost use Rattle.uc_tree.specs.declared.limits.TheConstants.{FRAME_CELLS, PROGRAM_OPS, PROGRAM_SIZE};
 ghost use Rattle.uc_code.specs.Drafts.{ops_with, patched, IsInnermost, IsUnknown};
 ghost use Rattle.uc_code.specs.Layout.{laid_in, handlers, takes_events};
-ghost use Rattle.uc_code.specs.declared.rows.Mark.TheVariants as mark;
-ghost use Rattle.uc_code.specs.OpenRows.{AllBehind, Falling, OpensBehind, handler_in, guard_in, opened, closed, handled_rows, left_marks};
+ghost use Rattle.uc_code.specs.declared.rows.CodeMark.TheVariants as mark;
+ghost use Rattle.uc_code.specs.OpenRows.{AllBehind, AreEnded, Falling, OpensBehind, handler_in, guard_in, opened, closed, handled_rows, left_marks};
 ghost use Rattle.uc_code.specs.CodeShapes.{HandlerAt, IsBare, Kept, KeptBut, Risk, clean_up};
 
 use crate::code::Code;
-use crate::draft_parts::Outside;
+use crate::draft_parts::OuterScope;
 use crate::marks::{
     bound_of, close_row, entry_of, event_of, handle_row, has_no_row, kind_of, mark_of, name_of,
     row_below, row_of, rows_below,
 };
 use crate::op::Op;
 use crate::rows::{
-    Handler, HandlerRow, Instruction, Mark, OPEN_END, Opening, RoutineCode, RowKind,
+    CodeMark, Handler, HandlerRow, Instruction, OPEN_END, Opening, RoutineCode, RowKind,
 };
 use std::alloc::{AllocError, Global};
 use std::marker::Model;
@@ -31,7 +31,7 @@ pub struct Draft {
     rows: Vec<HandlerRow>,
     settled: u32,
     place: Place,
-    marks: Vec<Mark>,
+    marks: Vec<CodeMark>,
     scopes: u32,
     names: Vec<LocalVariable>,
     handled: u32,
@@ -253,7 +253,7 @@ impl Draft {
         ensures ok { OnOk result (self.new ≡ record self.old { marks = mark.Body routine ∷ self.old.marks }) }
         ensures err { OnErr result (self.new ≡ self.old) }
     {
-        self.marks.push(Mark::Body { routine })?;
+        self.marks.push(CodeMark::Body { routine })?;
         Ok(())
     }
 
@@ -262,7 +262,7 @@ impl Draft {
         ensures ok { OnOk result (self.new ≡ record self.old { marks = mark.Loop leave again ∷ self.old.marks }) }
         ensures err { OnErr result (self.new ≡ self.old) }
     {
-        self.marks.push(Mark::Loop { leave, again })?;
+        self.marks.push(CodeMark::Loop { leave, again })?;
         Ok(())
     }
 
@@ -276,7 +276,7 @@ impl Draft {
     }
 
     /// What stands around this place, the innermost last.
-    pub fn marks(&self) -> &[Mark]
+    pub fn marks(&self) -> &[CodeMark]
         ensures marks { reverse result.now ≡ self.now.marks }
         ensures behind { AllBehind self.now.marks }
         ensures falling { Falling self.now.marks }
@@ -293,12 +293,12 @@ impl Draft {
     }
 
     /// Opens a scope of the routine, and tells what is in scope around it.
-    pub fn open_scope(&mut self) -> Outside
+    pub fn open_scope(&mut self) -> OuterScope
         requires { self.old.scopes < PROGRAM_SIZE }
         ensures outside { result ≡ record { names = length self.old.names; scope = self.old.place.scope } }
         ensures opened { self.new ≡ record self.old { place = record self.old.place { scope = self.old.scopes + 1 }; scopes = self.old.scopes + 1 } }
     {
-        let outside = Outside {
+        let outside = OuterScope {
             names: self.names.len(),
             scope: self.place.scope,
         };
@@ -308,7 +308,7 @@ impl Draft {
     }
 
     /// Leaves a scope. Its names go; its cells stay theirs until the routine ends.
-    pub fn leave_scope(&mut self, outside: Outside)
+    pub fn leave_scope(&mut self, outside: OuterScope)
         ensures { self.new ≡ record self.old { place = record self.old.place { scope = outside.scope }; names = take outside.names self.old.names } }
     {
         self.place.scope = outside.scope;
@@ -423,9 +423,11 @@ impl Draft {
         innermost_of(&self.names, name)
     }
 
-    /// The code, with these accept statements, text literals and cells of classes.
+    /// The code, with these accept statements, text literals and cells of classes. Where nothing stands around this place, all rows have
+    /// ended.
     pub fn finish(self, sites: Vec<Site>, texts: Vec<Text>, classes: Vec<u32>) -> Code
-        ensures { result ≡ record { ops = self.ops; rows = self.rows; sites = sites.items; texts = texts.items; routines = self.routines; classes = classes.items } }
+        ensures code { result ≡ record { ops = self.ops; rows = self.rows; sites = sites.items; texts = texts.items; routines = self.routines; classes = classes.items } }
+        ensures ended { self.marks ≡ [] → AreEnded (length self.ops) self.rows }
     {
         Code {
             ops: self.ops,

@@ -2,7 +2,7 @@
 
 /// What was in scope before a scope was opened: how many names, and the number of the scope around it.
 #[derive(Clone, Copy, PartialEq, Eq, Debug)]
-pub struct Outside {
+pub struct OuterScope {
     pub names: usize,
     pub scope: u32,
 }

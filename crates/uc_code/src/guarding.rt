@@ -1,7 +1,7 @@
 // The rows of guarded blocks.
 
 ghost use Rattle.std.specs.Prelude.{◌≡◌, ◌<◌, ℕ, List, length, OnOk};
-ghost use Rattle.uc_code.specs.declared.rows.Mark.{Mark};
+ghost use Rattle.uc_code.specs.declared.rows.CodeMark.{CodeMark};
 ghost use Rattle.uc_code.specs.Layout.{guards};
 ghost use Rattle.uc_code.specs.Guarding.{ClosesGuards, OpensGuards};
 
@@ -23,7 +23,7 @@ pub fn open_guards(count: usize, out: &mut Draft) -> Result<(), AllocError>
 /// Closes these rows, where the statements of the guarded block end.
 pub fn close_guards(count: usize, out: &mut Draft)
     requires { 0 < length out.old.ops }
-    ensures { (first : ℕ) (ms : List Mark) → out.old.marks ≡ guards first count ms → ClosesGuards first count ms out.old out.new }
+    ensures { (first : ℕ) (ms : List CodeMark) → out.old.marks ≡ guards first count ms → ClosesGuards first count ms out.old out.new }
 {
     for _ in 0..count {
         out.close(0);

@@ -1,14 +1,14 @@
 // Marks and their rows.
 
 ghost use Rattle.std.specs.Prelude.{◌≡◌, ◌<◌, ◌+◌, ◌^◌, ℕ, List, ◌∷◌, length, reverse, Some};
-ghost use Rattle.uc_code.specs.declared.rows.Mark.{Mark};
+ghost use Rattle.uc_code.specs.declared.rows.CodeMark.{CodeMark};
 ghost use Rattle.uc_code.specs.Layout.{under, handlers};
 ghost use Rattle.uc_code.specs.OpenRows.{first_in, name_of, row_in, opening_mark, opening_kind, opening_event, opening_bound, entry_in, closed_rows, handled_rows, is_rowless, seen_at, seen_row};
 
-use crate::rows::{ANY_EVENT, Handler, HandlerRow, Mark, NO_EVENT, Opening, RowKind};
+use crate::rows::{ANY_EVENT, CodeMark, Handler, HandlerRow, NO_EVENT, Opening, RowKind};
 
 /// The mark of a row that is opened.
-pub(crate) fn mark_of(opening: Opening, row: u32) -> Mark
+pub(crate) fn mark_of(opening: Opening, row: u32) -> CodeMark
     ensures { result ≡ opening_mark opening row }
 {
     match opening {
@@ -16,18 +16,18 @@ pub(crate) fn mark_of(opening: Opening, row: u32) -> Mark
             main,
             routine,
             line,
-        } => Mark::Finish {
+        } => CodeMark::Finish {
             main,
             routine,
             line,
             row,
         },
-        Opening::Whole { leave } => Mark::Whole { leave, row },
-        Opening::Handler => Mark::Guard { row },
-        Opening::Object { what, line } => Mark::Clean { what, line, row },
-        Opening::Part => Mark::Part { row },
-        Opening::Elements => Mark::Elements { row },
-        Opening::Outward { below } => Mark::Outward { below, row },
+        Opening::Whole { leave } => CodeMark::Whole { leave, row },
+        Opening::Handler => CodeMark::Guard { row },
+        Opening::Object { what, line } => CodeMark::Clean { what, line, row },
+        Opening::Part => CodeMark::Part { row },
+        Opening::Elements => CodeMark::Elements { row },
+        Opening::Outward { below } => CodeMark::Outward { below, row },
     }
 }
 
@@ -86,7 +86,7 @@ pub(crate) fn name_of(row: Option<u32>) -> u32
 }
 
 /// The row of the innermost mark.
-pub(crate) fn row_of(marks: &[Mark]) -> Option<u32>
+pub(crate) fn row_of(marks: &[CodeMark]) -> Option<u32>
     ensures { result ≡ row_in (reverse marks.now) }
 {
     match marks.last() {
@@ -95,24 +95,24 @@ pub(crate) fn row_of(marks: &[Mark]) -> Option<u32>
     }
 }
 
-fn row_at(mark: Mark) -> Option<u32>
-    ensures { (ms : List Mark) → result ≡ row_in (mark ∷ ms) }
+fn row_at(mark: CodeMark) -> Option<u32>
+    ensures { (ms : List CodeMark) → result ≡ row_in (mark ∷ ms) }
 {
     match mark {
-        Mark::Body { .. } => None,
-        Mark::Finish { row, .. } => Some(row),
-        Mark::Loop { .. } => None,
-        Mark::Whole { row, .. } => Some(row),
-        Mark::Guard { row } => Some(row),
-        Mark::Clean { row, .. } => Some(row),
-        Mark::Part { row } => Some(row),
-        Mark::Elements { row } => Some(row),
-        Mark::Outward { row, .. } => Some(row),
+        CodeMark::Body { .. } => None,
+        CodeMark::Finish { row, .. } => Some(row),
+        CodeMark::Loop { .. } => None,
+        CodeMark::Whole { row, .. } => Some(row),
+        CodeMark::Guard { row } => Some(row),
+        CodeMark::Clean { row, .. } => Some(row),
+        CodeMark::Part { row } => Some(row),
+        CodeMark::Elements { row } => Some(row),
+        CodeMark::Outward { row, .. } => Some(row),
     }
 }
 
 /// Whether the innermost mark may be left as it is.
-pub(crate) fn has_no_row(marks: &[Mark]) -> bool
+pub(crate) fn has_no_row(marks: &[CodeMark]) -> bool
     ensures { result ≡ is_rowless (reverse marks.now) }
 {
     match marks.last() {
@@ -121,24 +121,24 @@ pub(crate) fn has_no_row(marks: &[Mark]) -> bool
     }
 }
 
-fn is_rowless(mark: Mark) -> bool
-    ensures { (ms : List Mark) → result ≡ is_rowless (mark ∷ ms) }
+fn is_rowless(mark: CodeMark) -> bool
+    ensures { (ms : List CodeMark) → result ≡ is_rowless (mark ∷ ms) }
 {
     match mark {
-        Mark::Body { .. } => true,
-        Mark::Finish { .. } => false,
-        Mark::Loop { .. } => true,
-        Mark::Whole { .. } => false,
-        Mark::Guard { .. } => false,
-        Mark::Clean { .. } => false,
-        Mark::Part { .. } => false,
-        Mark::Elements { .. } => false,
-        Mark::Outward { .. } => false,
+        CodeMark::Body { .. } => true,
+        CodeMark::Finish { .. } => false,
+        CodeMark::Loop { .. } => true,
+        CodeMark::Whole { .. } => false,
+        CodeMark::Guard { .. } => false,
+        CodeMark::Clean { .. } => false,
+        CodeMark::Part { .. } => false,
+        CodeMark::Elements { .. } => false,
+        CodeMark::Outward { .. } => false,
     }
 }
 
 /// The innermost row of marks that is below this number.
-pub(crate) fn row_below(marks: &[Mark], below: u32) -> Option<u32>
+pub(crate) fn row_below(marks: &[CodeMark], below: u32) -> Option<u32>
     ensures { result ≡ first_in (under below (handlers (reverse marks.now))) }
 {
     let mut bound = below;
@@ -146,8 +146,8 @@ pub(crate) fn row_below(marks: &[Mark], below: u32) -> Option<u32>
     while i > 0 {
         i -= 1;
         match see(marks[i], bound) {
-            Seen::Row(row) => return Some(row),
-            Seen::Bound(next) => bound = next,
+            RowView::Row(row) => return Some(row),
+            RowView::Bound(next) => bound = next,
         }
     }
     None
@@ -155,35 +155,35 @@ pub(crate) fn row_below(marks: &[Mark], below: u32) -> Option<u32>
 
 /// What a mark tells of the rows below a number: the innermost of them, or a number below which those of the other marks are.
 #[derive(Clone, Copy)]
-pub(crate) enum Seen {
+pub(crate) enum RowView {
     Row(u32),
     Bound(u32),
 }
 
-fn see(mark: Mark, bound: u32) -> Seen
+fn see(mark: CodeMark, bound: u32) -> RowView
     ensures { result ≡ seen_at mark bound }
 {
     match mark {
-        Mark::Body { .. } => Seen::Bound(bound),
-        Mark::Finish { row, .. } => seen_row(row, bound),
-        Mark::Loop { .. } => Seen::Bound(bound),
-        Mark::Whole { row, .. } => seen_row(row, bound),
-        Mark::Guard { row } => seen_row(row, bound),
-        Mark::Clean { row, .. } => seen_row(row, bound),
-        Mark::Part { row } => seen_row(row, bound),
-        Mark::Elements { row } => seen_row(row, bound),
-        Mark::Outward { below, .. } => Seen::Bound(bound.min(below)),
+        CodeMark::Body { .. } => RowView::Bound(bound),
+        CodeMark::Finish { row, .. } => seen_row(row, bound),
+        CodeMark::Loop { .. } => RowView::Bound(bound),
+        CodeMark::Whole { row, .. } => seen_row(row, bound),
+        CodeMark::Guard { row } => seen_row(row, bound),
+        CodeMark::Clean { row, .. } => seen_row(row, bound),
+        CodeMark::Part { row } => seen_row(row, bound),
+        CodeMark::Elements { row } => seen_row(row, bound),
+        CodeMark::Outward { below, .. } => RowView::Bound(bound.min(below)),
     }
 }
 
 // The row, if it is below the bound.
-fn seen_row(row: u32, bound: u32) -> Seen
+fn seen_row(row: u32, bound: u32) -> RowView
     ensures { result ≡ seen_row row bound }
 {
     if row < bound {
-        Seen::Row(row)
+        RowView::Row(row)
     } else {
-        Seen::Bound(bound)
+        RowView::Bound(bound)
     }
 }
 
@@ -208,7 +208,7 @@ pub(crate) fn close_row(rows: &mut Vec<HandlerRow>, number: u32, here: u32, entr
 
 /// Where the code begins that the row of the innermost mark names, once that is closed: the row of a handler names none until the handler
 /// is laid out.
-pub(crate) fn entry_of(marks: &[Mark], entry: u32) -> u32
+pub(crate) fn entry_of(marks: &[CodeMark], entry: u32) -> u32
     ensures { result ≡ entry_in (reverse marks.now) entry }
 {
     match marks.last() {
@@ -217,19 +217,19 @@ pub(crate) fn entry_of(marks: &[Mark], entry: u32) -> u32
     }
 }
 
-fn entry_at(mark: Mark, entry: u32) -> u32
-    ensures { (ms : List Mark) → result ≡ entry_in (mark ∷ ms) entry }
+fn entry_at(mark: CodeMark, entry: u32) -> u32
+    ensures { (ms : List CodeMark) → result ≡ entry_in (mark ∷ ms) entry }
 {
     match mark {
-        Mark::Body { .. } => entry,
-        Mark::Finish { .. } => entry,
-        Mark::Loop { .. } => entry,
-        Mark::Whole { .. } => entry,
-        Mark::Guard { .. } => 0,
-        Mark::Clean { .. } => entry,
-        Mark::Part { .. } => entry,
-        Mark::Elements { .. } => entry,
-        Mark::Outward { .. } => entry,
+        CodeMark::Body { .. } => entry,
+        CodeMark::Finish { .. } => entry,
+        CodeMark::Loop { .. } => entry,
+        CodeMark::Whole { .. } => entry,
+        CodeMark::Guard { .. } => 0,
+        CodeMark::Clean { .. } => entry,
+        CodeMark::Part { .. } => entry,
+        CodeMark::Elements { .. } => entry,
+        CodeMark::Outward { .. } => entry,
     }
 }
 
@@ -253,7 +253,7 @@ pub(crate) fn handle_row(rows: &mut Vec<HandlerRow>, number: u32, handler: Handl
 }
 
 /// How many rows of marks are below this number.
-pub(crate) fn rows_below(marks: &[Mark], below: u32) -> usize
+pub(crate) fn rows_below(marks: &[CodeMark], below: u32) -> usize
     ensures { result ≡ length (under below (handlers (reverse marks.now))) }
 {
     let mut count = 0;
@@ -262,8 +262,8 @@ pub(crate) fn rows_below(marks: &[Mark], below: u32) -> usize
     while i > 0 {
         i -= 1;
         match see(marks[i], bound) {
-            Seen::Row(_) => count += 1,
-            Seen::Bound(next) => bound = next,
+            RowView::Row(_) => count += 1,
+            RowView::Bound(next) => bound = next,
         }
     }
     count

@@ -18,7 +18,7 @@ pub enum Op {
     /// Drops the top operand.
     Discard,
     /// Pushes the operand under the top one once more.
-    Over,
+    CopyBelow,
     /// Drops the operand under the top one.
     DiscardBelow,
     /// The place of this cell of the frame.
@@ -70,11 +70,11 @@ pub enum Op {
     /// Whether the first is less.
     Less,
     /// Whether the first is at most the second.
-    AtMost,
+    LessEqual,
     /// Whether the first is greater.
     Greater,
     /// Whether the first is at least the second.
-    AtLeast,
+    GreaterEqual,
     /// The number as a `char`.
     ToChar,
     /// The number as a `bool`.
@@ -231,7 +231,7 @@ impl Op {
             Op::Push(_) => b"push",
             Op::Duplicate => b"dup",
             Op::Discard => b"drop",
-            Op::Over => b"over",
+            Op::CopyBelow => b"over",
             Op::DiscardBelow => b"nip",
             Op::Local(_) => b"local",
             Op::Own => b"own",
@@ -257,9 +257,9 @@ impl Op {
             Op::Equal => b"eq",
             Op::NotEqual => b"ne",
             Op::Less => b"lt",
-            Op::AtMost => b"le",
+            Op::LessEqual => b"le",
             Op::Greater => b"gt",
-            Op::AtLeast => b"ge",
+            Op::GreaterEqual => b"ge",
             Op::ToChar => b"char",
             Op::ToBool => b"bool",
             Op::Jump(_) => b"jump",
@@ -340,7 +340,7 @@ impl Op {
             Op::Push(number) => Operands::Constant(number),
             Op::Duplicate => Operands::Nothing,
             Op::Discard => Operands::Nothing,
-            Op::Over => Operands::Nothing,
+            Op::CopyBelow => Operands::Nothing,
             Op::DiscardBelow => Operands::Nothing,
             Op::Local(number) => Operands::One(number as u64),
             Op::Own => Operands::Nothing,
@@ -366,9 +366,9 @@ impl Op {
             Op::Equal => Operands::Nothing,
             Op::NotEqual => Operands::Nothing,
             Op::Less => Operands::Nothing,
-            Op::AtMost => Operands::Nothing,
+            Op::LessEqual => Operands::Nothing,
             Op::Greater => Operands::Nothing,
-            Op::AtLeast => Operands::Nothing,
+            Op::GreaterEqual => Operands::Nothing,
             Op::ToChar => Operands::Nothing,
             Op::ToBool => Operands::Nothing,
             Op::Jump(number) => Operands::One(number as u64),

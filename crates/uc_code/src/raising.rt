@@ -16,7 +16,7 @@ use std::alloc::AllocError;
 /// Adds the code that finds the event of this number, with fields that are 0. After want of memory the draft is spent.
 pub fn put_plain(event: u8, line: u32, out: &mut Draft) -> Result<(), AllocError>
     requires { length out.old.ops + 3 ≤ PROGRAM_OPS }
-    ensures { OnOk result (Puts 3 (λ code. RaisedAt code line out.old.marks (Plainly event)) out.old out.new) }
+    ensures { OnOk result (Puts 0 3 (λ code. RaisedAt code line out.old.marks (Plainly event)) out.old out.new) }
 {
     put(Op::Push(event as i64), line, out)?;
     put(Op::Push(0), line, out)?;
@@ -28,7 +28,7 @@ pub fn put_plain(event: u8, line: u32, out: &mut Draft) -> Result<(), AllocError
 /// of memory the draft is spent.
 pub fn put_again(cell: u32, line: u32, out: &mut Draft) -> Result<(), AllocError>
     requires { length out.old.ops + 3 ≤ PROGRAM_OPS }
-    ensures { OnOk result (Puts 3 (λ code. RaisedAt code line out.old.marks (AgainFrom cell)) out.old out.new) }
+    ensures { OnOk result (Puts 0 3 (λ code. RaisedAt code line out.old.marks (AgainFrom cell)) out.old out.new) }
 {
     if cell > u32::MAX - 2 {
         return Err(AllocError);
@@ -44,7 +44,7 @@ pub fn put_again(cell: u32, line: u32, out: &mut Draft) -> Result<(), AllocError
 pub fn put_built(event: u8, cell: u32, line: u32, out: &mut Draft) -> Result<(), AllocError>
     requires room { length out.old.ops + 4 ≤ PROGRAM_OPS }
     requires cell { cell + 1 < 2 ^ 32 }
-    ensures { OnOk result (Puts 4 (λ code. FieldsAt code line event cell) out.old out.new) }
+    ensures { OnOk result (Puts 0 4 (λ code. FieldsAt code line event cell) out.old out.new) }
 {
     put(Op::Discard, line, out)?;
     put(Op::Push(event as i64), line, out)?;
@@ -56,7 +56,7 @@ pub fn put_built(event: u8, cell: u32, line: u32, out: &mut Draft) -> Result<(),
 /// Adds the code that throws the event that is found. After want of memory the draft is spent.
 pub fn put_throw(line: u32, out: &mut Draft) -> Result<(), AllocError>
     requires { length out.old.ops < PROGRAM_OPS }
-    ensures { OnOk result (Puts 1 (λ code. Risk code out.old.marks op.Throw line) out.old out.new) }
+    ensures { OnOk result (Puts 0 1 (λ code. Risk code out.old.marks op.Throw line) out.old out.new) }
 {
     put_at_risk(Op::Throw, line, out)?;
     Ok(())
@@ -65,7 +65,7 @@ pub fn put_throw(line: u32, out: &mut Draft) -> Result<(), AllocError>
 /// Adds the code that raises it for resumption, and drops what the handler hands over. After want of memory the draft is spent.
 pub fn put_raise(line: u32, out: &mut Draft) -> Result<(), AllocError>
     requires { length out.old.ops + 2 ≤ PROGRAM_OPS }
-    ensures { OnOk result (Puts 2 (λ code. Both (Risk code out.old.marks op.Raise line) (One code op.Discard line)) out.old out.new) }
+    ensures { OnOk result (Puts 0 2 (λ code. Both (Risk code out.old.marks op.Raise line) (One code op.Discard line)) out.old out.new) }
 {
     put_at_risk(Op::Raise, line, out)?;
     put(Op::Discard, line, out)?;
@@ -75,7 +75,7 @@ pub fn put_raise(line: u32, out: &mut Draft) -> Result<(), AllocError>
 /// Adds the code that is delivered events, one by one, and raises each for resumption. After want of memory the draft is spent.
 pub fn put_poll(line: u32, out: &mut Draft) -> Result<(), AllocError>
     requires { length out.old.ops + 4 ≤ PROGRAM_OPS }
-    ensures { OnOk result (Puts 4 (λ code. PollAt code out.old.marks line) out.old out.new) }
+    ensures { OnOk result (Puts 0 4 (λ code. PollAt code out.old.marks line) out.old out.new) }
 {
     let begin = out.here();
     put(Op::Poll(begin + 4), line, out)?;
@@ -89,7 +89,7 @@ pub fn put_poll(line: u32, out: &mut Draft) -> Result<(), AllocError>
 pub fn put_kept(cell: u32, line: u32, out: &mut Draft) -> Result<(), AllocError>
     requires room { length out.old.ops + 6 ≤ PROGRAM_OPS }
     requires cell { cell + 2 < 2 ^ 32 }
-    ensures { OnOk result (Puts 6 (λ code. KeepsAt code line cell) out.old out.new) }
+    ensures { OnOk result (Puts 0 6 (λ code. KeepsAt code line cell) out.old out.new) }
 {
     put_set(cell + 2, line, out)?;
     put_set(cell + 1, line, out)?;
@@ -100,7 +100,7 @@ pub fn put_kept(cell: u32, line: u32, out: &mut Draft) -> Result<(), AllocError>
 // The newest operand is kept in a cell, and goes.
 fn put_set(cell: u32, line: u32, out: &mut Draft) -> Result<(), AllocError>
     requires { length out.old.ops + 2 ≤ PROGRAM_OPS }
-    ensures { OnOk result (Puts 2 (λ code. Both (One code (op.Set cell) line) (One code op.Discard line)) out.old out.new) }
+    ensures { OnOk result (Puts 0 2 (λ code. Both (One code (op.Set cell) line) (One code op.Discard line)) out.old out.new) }
 {
     put(Op::Set(cell), line, out)?;
     put(Op::Discard, line, out)?;

@@ -71,7 +71,7 @@ pub struct Handler {
 
 /// Where an object lies: from this cell of the frame on, or from this cell of the object at hand on.
 #[derive(Clone, Copy, PartialEq, Eq, Debug)]
-pub enum Spot {
+pub enum ObjectSpot {
     Local(u32),
     This(u32),
 }
@@ -106,7 +106,7 @@ pub enum Manner {
 /// counted of an array that begins there: the number of the routine, whether it is written, and how it is called.
 #[derive(Clone, Copy, PartialEq, Eq, Debug)]
 pub struct ObjectCall {
-    pub spot: Spot,
+    pub spot: ObjectSpot,
     pub array: Option<Array>,
     pub routine: u32,
     pub written: bool,
@@ -164,7 +164,7 @@ impl MainOf {
 /// block, and its row; a part of an object under construction, with its row; the turns over the elements of an array, with
 /// their row; or the code of an exit or of a handler of resumptions, which has left all marks with rows from this number on.
 #[derive(Clone, Copy, PartialEq, Eq, Debug)]
-pub enum Mark {
+pub enum CodeMark {
     Body {
         routine: u32,
     },

@@ -3,7 +3,7 @@ use Rattle.std.proofs.Common.{◌≡◌, ◌≢◌, ℕ, zero, suc, ◌<◌, ◌
 use Rattle.std.specs.List.{AllByRecursion, remove}
 use Rattle.std.proofs.lemmas.Bool.{cases_eq}
 use Rattle.std.proofs.lemmas.List.{map-append}
-use Rattle.uc_condition.specs.declared.buckets.Row.{Row}
+use Rattle.uc_condition.specs.declared.buckets.WaitRow.{WaitRow}
 use Rattle.uc_condition.specs.declared.buckets.Bucket.{Bucket}
 use Rattle.uc_condition.specs.declared.buckets.Found.{Found}
 use Rattle.uc_condition.specs.Waiting.{Wait, IsApart, place}
@@ -27,14 +27,14 @@ is_not_0 n = no_test (suc n == 0) (λ s. absurd (let e = test_same (suc n) 0 s i
 abbrev bucket : ℕ → ℕ → ℕ → Bucket
 bucket n f l = record { count = n; first = f; last = l }
 
-last_known : (rows : List Row) (i n f l : ℕ) → 0 < n → IsBucket rows i (bucket n f l) → IsPlaced rows i l
+last_known : (rows : List WaitRow) (i n f l : ℕ) → 0 < n → IsBucket rows i (bucket n f l) → IsPlaced rows i l
 last_known rows i zero f l lt is = absurd (omega arith)
 last_known rows i (suc n) f l lt is = subst (IsPlaced rows i) is.ends (all_last (IsPlaced rows i) f (tasks_from rows n (row_at rows f).next) is.placed.0 is.placed.1)
 
-pub last_placed : (rows : List Row) (i : ℕ) (b : Bucket) → 0 < b.count → IsBucket rows i b → IsPlaced rows i b.last
+pub last_placed : (rows : List WaitRow) (i : ℕ) (b : Bucket) → 0 < b.count → IsBucket rows i b → IsPlaced rows i b.last
 last_placed rows i b lt is = last_known rows i b.count b.first b.last lt is
 
-module _ (rows : List Row) (i t : ℕ) (row : Row) (lt : t < length rows) where
+module _ (rows : List WaitRow) (i t : ℕ) (row : WaitRow) (lt : t < length rows) where
   longer_rows : (n f l : ℕ) → linked rows (bucket (suc n) f l) t row ≡ with_next (slice_set rows t row) l t
   longer_rows n f l = ap (λ (b : Bool). cond b (slice_set rows t row) (with_next (slice_set rows t row) l t)) (is_not_0 n)
 
@@ -49,7 +49,7 @@ module _ (rows : List Row) (i t : ℕ) (row : Row) (lt : t < length rows) where
       let long = subst (λ (m : ℕ). m ≡ length new) (length-set rows t row) refl in
       let now = same_bucket rows new i (bucket (suc n) f l) (omega (arith, long)) same is in
       let known = (last_known rows i (suc n) f l (omega arith) is).0 in
-      ap (λ (r : List Row). tasks_in r (linked_bucket (bucket (suc n) f l) t)) (longer_rows n f l)
+      ap (λ (r : List WaitRow). tasks_in r (linked_bucket (bucket (suc n) f l) t)) (longer_rows n f l)
       ∙ ap (tasks_in (with_next new l t)) (longer n f l)
       ∙ ap (λ (m : ℕ). tasks_from (with_next new l t) m f) (add-one (suc n))
       ∙ more_from new n f l t (subst (λ (m : ℕ). l < m) (sym (length-set rows t row)) known) now.apart now.ends
@@ -57,11 +57,11 @@ module _ (rows : List Row) (i t : ℕ) (row : Row) (lt : t < length rows) where
 
   link_fields : (n f l : ℕ) (ts : List ℕ) → IsBucket rows i (bucket n f l) → map (wait_of (linked rows (bucket n f l) t row)) ts ≡ map (wait_of (slice_set rows t row)) ts
   link_fields zero f l ts is = refl
-  link_fields (suc n) f l ts is = ap (λ (r : List Row). map (wait_of r) ts) (longer_rows n f l) ∙ next_waits (slice_set rows t row) l t ts (subst (λ (m : ℕ). l < m) (sym (length-set rows t row)) (last_known rows i (suc n) f l (omega arith) is).0)
+  link_fields (suc n) f l ts is = ap (λ (r : List WaitRow). map (wait_of r) ts) (longer_rows n f l) ∙ next_waits (slice_set rows t row) l t ts (subst (λ (m : ℕ). l < m) (sym (length-set rows t row)) (last_known rows i (suc n) f l (omega arith) is).0)
 
   link_placed : (n f l : ℕ) (ts : List ℕ) → IsBucket rows i (bucket n f l) → AllByRecursion (IsPlaced (slice_set rows t row) i) ts → AllByRecursion (IsPlaced (linked rows (bucket n f l) t row) i) ts
   link_placed zero f l ts is h = h
-  link_placed (suc n) f l ts is h = subst (λ (r : List Row). AllByRecursion (IsPlaced r i) ts) (sym (longer_rows n f l)) (next_placed (slice_set rows t row) l t i ts (subst (λ (m : ℕ). l < m) (sym (length-set rows t row)) (last_known rows i (suc n) f l (omega arith) is).0) h)
+  link_placed (suc n) f l ts is h = subst (λ (r : List WaitRow). AllByRecursion (IsPlaced r i) ts) (sym (longer_rows n f l)) (next_placed (slice_set rows t row) l t i ts (subst (λ (m : ℕ). l < m) (sym (length-set rows t row)) (last_known rows i (suc n) f l (omega arith) is).0) h)
 
   link_last : (n f l : ℕ) → (linked_bucket (bucket n f l) t).last ≡ t
   link_last zero f l = refl
@@ -74,14 +74,14 @@ module _ (rows : List Row) (i t : ℕ) (row : Row) (lt : t < length rows) where
       ∙ link_fields b.count b.first b.last (ts ++ t ∷ []) is
       ∙ map-append (wait_of new) ts (t ∷ [])
       ∙ ap (λ (l : List Wait). l ++ wait_of new t ∷ []) (same_waits rows new ts (set_off rows t row ts off))
-      ∙ ap (λ (r : Row). waits_in rows b ++ (record { object = r.object; cond = r.cond; task = t; n = r.n }) ∷ []) (set_here rows t row lt)
+      ∙ ap (λ (r : WaitRow). waits_in rows b ++ (record { object = r.object; cond = r.cond; task = t; n = r.n }) ∷ []) (set_here rows t row lt)
 
   pub link_bucket : (b : Bucket) → IsBucket rows i b → AllByRecursion (λ u. u ≢ t) (tasks_in rows b) → place row.object row.cond ≡ i → IsBucket (linked rows b t row) i (linked_bucket b t)
   link_bucket b is off at =
       let new = slice_set rows t row in let ts = tasks_in rows b in
       let e = link_tasks b.count b.first b.last is off in
       let long = subst (λ (m : ℕ). m ≡ length new) (length-set rows t row) refl in
-      let here : IsPlaced new i t = (omega (arith, lt, long), ap (λ (r : Row). place r.object r.cond) (set_here rows t row lt) ∙ at) in
+      let here : IsPlaced new i t = (omega (arith, lt, long), ap (λ (r : WaitRow). place r.object r.cond) (set_here rows t row lt) ∙ at) in
       let placed = all_push (IsPlaced new i) ts t (same_placed rows new i ts (omega (arith, long)) (set_off rows t row ts off) is.placed) here in
       let last = link_last b.count b.first b.last in
       record {
@@ -97,7 +97,7 @@ module _ (rows : List Row) (i t : ℕ) (row : Row) (lt : t < length rows) where
       let new = slice_set rows t row in
       let away = out (omega arith) in
       let one = (set_off new l (record (row_at new l) { next = t }) (u ∷ []) (away.0, tt)).0 in
-      (ap (λ (r : List Row). row_at r u) (longer_rows n f l) ∙ one ∙ (set_off rows t row (u ∷ []) (off.0, tt)).0, linked_same (suc n) f l ts off.1 (λ _. away.1))
+      (ap (λ (r : List WaitRow). row_at r u) (longer_rows n f l) ∙ one ∙ (set_off rows t row (u ∷ []) (off.0, tt)).0, linked_same (suc n) f l ts off.1 (λ _. away.1))
 
   -- tasks of another bucket keep their rows
   pub link_same : (b : Bucket) (ts : List ℕ) → AllByRecursion (λ u. u ≢ t) ts → (0 < b.count → AllByRecursion (λ u. u ≢ b.last) ts) → AllByRecursion (Same rows (linked rows b t row)) ts
@@ -108,7 +108,7 @@ module _ (rows : List Row) (i t : ℕ) (row : Row) (lt : t < length rows) where
     where
       by : (n l : ℕ) → length (linked rows (bucket n 0 l) t row) ≡ length rows
       by zero l = length-set rows t row
-      by (suc n) l = ap (λ (r : List Row). length r) (longer_rows n 0 l) ∙ length-set (slice_set rows t row) l (record (row_at (slice_set rows t row) l) { next = t }) ∙ length-set rows t row
+      by (suc n) l = ap (λ (r : List WaitRow). length r) (longer_rows n 0 l) ∙ length-set (slice_set rows t row) l (record (row_at (slice_set rows t row) l) { next = t }) ∙ length-set rows t row
 
 -- ---- one less
 abbrev found : ℕ → ℕ → ℕ → Found
@@ -127,7 +127,7 @@ last_tail d x (y ∷ ys) h = h
 one_less : (n : ℕ) → suc n - 1 ≡ n
 one_less n = omega arith
 
-module _ (rows : List Row) (i o c : ℕ) where
+module _ (rows : List WaitRow) (i o c : ℕ) where
   shorter_rows : (j b t : ℕ) → unlinked rows (found (suc j) b t) ≡ with_next rows b (row_at rows t).next
   shorter_rows j b t = ap (λ (y : Bool). cond y rows (with_next rows b (row_at rows t).next)) (is_not_0 j)
 
@@ -140,7 +140,7 @@ module _ (rows : List Row) (i o c : ℕ) where
   unlink_tasks (suc n) f l (suc j) b t is h =
       let lt = h.within in
       let known = (at_behind (IsPlaced rows i) rows (suc n) f j (omega (arith, lt)) is.placed).0 in
-      ap (λ (r : List Row). tasks_in r (unlinked_bucket rows (bucket (suc n) f l) (found (suc j) b t))) (shorter_rows j b t)
+      ap (λ (r : List WaitRow). tasks_in r (unlinked_bucket rows (bucket (suc n) f l) (found (suc j) b t))) (shorter_rows j b t)
       ∙ ap (tasks_in (with_next rows b (row_at rows t).next)) (shorter (suc n) f l j b t)
       ∙ ap (λ (m : ℕ). tasks_from (with_next rows b (row_at rows t).next) m f) (one_less n)
       ∙ ap (λ (x : ℕ). tasks_from (with_next rows x (row_at rows t).next) n f) (h.before j refl)
@@ -152,11 +152,11 @@ module _ (rows : List Row) (i o c : ℕ) where
 
   unlink_fields : (n f l k b t : ℕ) (ts : List ℕ) → IsBucket rows i (bucket n f l) → IsFound rows (bucket n f l) o c (found k b t) → map (wait_of (unlinked rows (found k b t))) ts ≡ map (wait_of rows) ts
   unlink_fields n f l zero b t ts is h = refl
-  unlink_fields n f l (suc j) b t ts is h = ap (λ (r : List Row). map (wait_of r) ts) (shorter_rows j b t) ∙ next_waits rows b (row_at rows t).next ts (before_known n f l j b t is h).0
+  unlink_fields n f l (suc j) b t ts is h = ap (λ (r : List WaitRow). map (wait_of r) ts) (shorter_rows j b t) ∙ next_waits rows b (row_at rows t).next ts (before_known n f l j b t is h).0
 
   unlink_placed : (n f l k b t : ℕ) (ts : List ℕ) → IsBucket rows i (bucket n f l) → IsFound rows (bucket n f l) o c (found k b t) → AllByRecursion (IsPlaced rows i) ts → AllByRecursion (IsPlaced (unlinked rows (found k b t)) i) ts
   unlink_placed n f l zero b t ts is h p = p
-  unlink_placed n f l (suc j) b t ts is h p = subst (λ (r : List Row). AllByRecursion (IsPlaced r i) ts) (sym (shorter_rows j b t)) (next_placed rows b (row_at rows t).next i ts (before_known n f l j b t is h).0 p)
+  unlink_placed n f l (suc j) b t ts is h p = subst (λ (r : List WaitRow). AllByRecursion (IsPlaced r i) ts) (sym (shorter_rows j b t)) (next_placed rows b (row_at rows t).next i ts (before_known n f l j b t is h).0 p)
 
   unlink_last : (n f l k b t : ℕ) → IsBucket rows i (bucket n f l) → IsFound rows (bucket n f l) o c (found k b t) → last_or (unlinked_bucket rows (bucket n f l) (found k b t)).last (remove (tasks_from rows n f) k) ≡ (unlinked_bucket rows (bucket n f l) (found k b t)).last
   unlink_last zero f l k b t is h = absurd (let lt = h.within in omega (arith, lt))
@@ -203,7 +203,7 @@ module _ (rows : List Row) (i o c : ℕ) where
   unlinked_same n f l zero b t ts is h off = all_more (λ u. place (row_at rows u).object (row_at rows u).cond ≢ i) (Same rows rows) (λ u n. refl) ts off
   unlinked_same n f l (suc j) b t ts is h off =
       let at = (before_known n f l j b t is h).1 in
-      subst (λ (r : List Row). AllByRecursion (Same rows r) ts) (sym (shorter_rows j b t)) (set_off rows b (record (row_at rows b) { next = (row_at rows t).next }) ts (all_more (λ u. place (row_at rows u).object (row_at rows u).cond ≢ i) (λ u. u ≢ b) (λ u n e. n (ap (λ (x : ℕ). place (row_at rows x).object (row_at rows x).cond) e ∙ at)) ts off))
+      subst (λ (r : List WaitRow). AllByRecursion (Same rows r) ts) (sym (shorter_rows j b t)) (set_off rows b (record (row_at rows b) { next = (row_at rows t).next }) ts (all_more (λ u. place (row_at rows u).object (row_at rows u).cond ≢ i) (λ u. u ≢ b) (λ u n e. n (ap (λ (x : ℕ). place (row_at rows x).object (row_at rows x).cond) e ∙ at)) ts off))
 
   -- tasks of another bucket keep their rows
   pub unlink_same : (b : Bucket) (g : Found) (ts : List ℕ) → IsBucket rows i b → IsFound rows b o c g → AllByRecursion (λ u. place (row_at rows u).object (row_at rows u).cond ≢ i) ts → AllByRecursion (Same rows (unlinked rows g)) ts
@@ -211,7 +211,7 @@ module _ (rows : List Row) (i o c : ℕ) where
 
   unlinked_length : (n f l k b t : ℕ) → length (unlinked rows (found k b t)) ≡ length rows
   unlinked_length n f l zero b t = refl
-  unlinked_length n f l (suc j) b t = ap (λ (r : List Row). length r) (shorter_rows j b t) ∙ length-set rows b (record (row_at rows b) { next = (row_at rows t).next })
+  unlinked_length n f l (suc j) b t = ap (λ (r : List WaitRow). length r) (shorter_rows j b t) ∙ length-set rows b (record (row_at rows b) { next = (row_at rows t).next })
 
   pub unlink_length : (g : Found) → length (unlinked rows g) ≡ length rows
   unlink_length g = unlinked_length 0 0 0 g.at g.before g.task

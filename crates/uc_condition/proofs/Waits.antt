@@ -7,7 +7,7 @@ use Rattle.std.proofs.lemmas.List.Elements.{filter-append}
 use Rattle.std.proofs.lemmas.Map.Steps.{length-le_from_distinct_below}
 use Rattle.std.proofs.Math.ListN.{get_or-eq_default}
 use lib.Dec.{eqb}
-use Rattle.uc_condition.specs.declared.buckets.Row.{Row}
+use Rattle.uc_condition.specs.declared.buckets.WaitRow.{WaitRow}
 use Rattle.uc_condition.specs.declared.buckets.Bucket.{Bucket}
 use Rattle.uc_condition.specs.declared.buckets.Found.{Found}
 use Rattle.uc_condition.specs.Waiting.{Wait, place, put, first_number, rest_of, is_nobody, no_wait, is_at, with_number, queue_of, waits_at, all_at, IsApart, IsFirstAt}
@@ -112,26 +112,26 @@ waits_same queue o c none p d = same_case ((o == p) && (c == d)) (queue p d) (re
     ap (λ (k : ℕ). queue k d) (sym (test_same o p e.0)) ∙ ap (queue o) (sym (test_same c d e.1)) ∙ none ∙ ap rest_of (sym none))
 
 -- ---- the buckets
-pub at_bucket : (rows : List Row) (bs : List Bucket) (k : ℕ) → slice_index_or (all_waits rows bs) k [] ≡ waits_in rows (bucket_at bs k)
+pub at_bucket : (rows : List WaitRow) (bs : List Bucket) (k : ℕ) → slice_index_or (all_waits rows bs) k [] ≡ waits_in rows (bucket_at bs k)
 at_bucket rows bs k = Rattle.std.proofs.Math.ListN.get_or-map (waits_in rows) bs k no_bucket
 
-pub at_tasks : (rows : List Row) (n s k d : ℕ) → k < n → slice_index_or (tasks_from rows n s) k d ≡ task_behind rows k s
+pub at_tasks : (rows : List WaitRow) (n s k d : ℕ) → k < n → slice_index_or (tasks_from rows n s) k d ≡ task_behind rows k s
 at_tasks rows zero s k d lt = absurd (omega arith)
 at_tasks rows (suc n) s zero d lt = refl
 at_tasks rows (suc n) s (suc k) d lt = at_tasks rows n (row_at rows s).next k d (omega arith)
 
-pub wait_at : (rows : List Row) (b : Bucket) (k : ℕ) → k < b.count → slice_index_or (waits_in rows b) k no_wait ≡ wait_of rows (task_behind rows k b.first)
+pub wait_at : (rows : List WaitRow) (b : Bucket) (k : ℕ) → k < b.count → slice_index_or (waits_in rows b) k no_wait ≡ wait_of rows (task_behind rows k b.first)
 wait_at rows b k lt =
     let n = tasks_length rows b in
     get_or-map (wait_of rows) (tasks_in rows b) k 0 no_wait (omega (arith, lt, n)) ∙ ap (wait_of rows) (at_tasks rows b.count b.first k 0 lt)
 
-pub found_first : (rows : List Row) (b : Bucket) (o c : ℕ) (f : Found) → IsFound rows b o c f → slice_index_or (waits_in rows b) f.at no_wait ≡ wait_of rows f.task
+pub found_first : (rows : List WaitRow) (b : Bucket) (o c : ℕ) (f : Found) → IsFound rows b o c f → slice_index_or (waits_in rows b) f.at no_wait ≡ wait_of rows f.task
 found_first rows b o c f h = wait_at rows b f.at h.within ∙ ap (wait_of rows) (sym h.task)
 
-pub waits_length : (rows : List Row) (b : Bucket) → length (waits_in rows b) ≡ b.count
+pub waits_length : (rows : List WaitRow) (b : Bucket) → length (waits_in rows b) ≡ b.count
 waits_length rows b = length-map (tasks_in rows b) (wait_of rows) ∙ tasks_length rows b
 
-pub is_first : (rows : List Row) (b : Bucket) (o c : ℕ) (f : Found) → IsFound rows b o c f → IsFirstAt o c (waits_in rows b) f.at
+pub is_first : (rows : List WaitRow) (b : Bucket) (o c : ℕ) (f : Found) → IsFound rows b o c f → IsFirstAt o c (waits_in rows b) f.at
 is_first rows b o c f h =
     let lt = h.within in let n = waits_length rows b in
     record { within = omega (arith, lt, n); here = ap (is_at o c) (found_first rows b o c f h) ∙ h.here; before = h.older }
@@ -187,7 +187,7 @@ all_changed o (x ∷ xs) (y ∷ ys) (suc i) e lt h =
     let first = ap (waits_at o) (h 0 (λ z. omega (arith, z))) in let ih = all_changed o xs ys i (omega (arith, e)) (omega arith) (λ k n. h (suc k) (λ z. n (omega (arith, z)))) in
     omega (arith, first, ih)
 
-pub all_more_empty : (o : ℕ) (rows : List Row) (bs : List Bucket) (n : ℕ) → all_at o (all_waits rows (bs ++ replicate n no_bucket)) ≡ all_at o (all_waits rows bs)
+pub all_more_empty : (o : ℕ) (rows : List WaitRow) (bs : List Bucket) (n : ℕ) → all_at o (all_waits rows (bs ++ replicate n no_bucket)) ≡ all_at o (all_waits rows bs)
 all_more_empty o rows [] zero = refl
 all_more_empty o rows [] (suc n) = let ih = all_more_empty o rows [] n in omega (arith, ih)
 all_more_empty o rows (b ∷ bs) n = ap (λ (m : ℕ). waits_at o (waits_in rows b) + m) (all_more_empty o rows bs n)
@@ -233,10 +233,10 @@ pub all_some : (o : ℕ) (xs : List (List Wait)) → 0 < all_at o xs → (k : �
 all_some o [] h = absurd (omega arith)
 all_some o (q ∷ xs) h = some_case o q xs (waits_at o q) refl h (all_some o xs)
 
-abbrev Busy : ℕ → List Row → ℕ → List ℕ → Type 0
+abbrev Busy : ℕ → List WaitRow → ℕ → List ℕ → Type 0
 Busy o rows i ts = (c : ℕ) × (place o c ≡ i) × (is_nobody (queue_of (map (wait_of rows) ts) o c) ≡ false)
 
-busy_case : (o : ℕ) (rows : List Row) (i t : ℕ) (ts : List ℕ) (b : Bool) → ((row_at rows t).object == o) ≡ b → IsPlaced rows i t → 0 < cond b 1 0 + waits_at o (map (wait_of rows) ts) → (0 < waits_at o (map (wait_of rows) ts) → Busy o rows i ts) → Busy o rows i (t ∷ ts)
+busy_case : (o : ℕ) (rows : List WaitRow) (i t : ℕ) (ts : List ℕ) (b : Bool) → ((row_at rows t).object == o) ≡ b → IsPlaced rows i t → 0 < cond b 1 0 + waits_at o (map (wait_of rows) ts) → (0 < waits_at o (map (wait_of rows) ts) → Busy o rows i ts) → Busy o rows i (t ∷ ts)
 busy_case o rows i t ts true e p g later =
     let w = wait_of rows t in let rest = filter (is_at o w.cond) (map (wait_of rows) ts) in
     let here : is_at o w.cond w ≡ true = joint (w.object == o) (w.cond == w.cond) e (same_test w.cond) in
@@ -248,7 +248,7 @@ busy_case o rows i t ts false e p g later =
     let off : is_at o more.0 w ≡ false = ap (λ (b : Bool). b && (w.cond == more.0)) e in
     (more.0, more.1, ap (λ (b : Bool). is_nobody (map with_number (cond b (w ∷ rest) rest))) off ∙ more.2)
 
-pub busy_bucket : (o : ℕ) (rows : List Row) (i : ℕ) (ts : List ℕ) → AllByRecursion (IsPlaced rows i) ts → 0 < waits_at o (map (wait_of rows) ts) → (c : ℕ) × (place o c ≡ i) × (is_nobody (queue_of (map (wait_of rows) ts) o c) ≡ false)
+pub busy_bucket : (o : ℕ) (rows : List WaitRow) (i : ℕ) (ts : List ℕ) → AllByRecursion (IsPlaced rows i) ts → 0 < waits_at o (map (wait_of rows) ts) → (c : ℕ) × (place o c ≡ i) × (is_nobody (queue_of (map (wait_of rows) ts) o c) ≡ false)
 busy_bucket o rows i [] p h = absurd (omega arith)
 busy_bucket o rows i (t ∷ ts) p h = busy_case o rows i t ts ((row_at rows t).object == o) refl p.0 h (busy_bucket o rows i ts p.1)
 
@@ -261,7 +261,7 @@ head_case : (b : Bool) (t : ℕ) (w : Wait) (l : List Wait) → b ≡ true → A
 head_case true t w l e h = h.0
 head_case false t w l e h = absurd cc
 
-pub away : (t : ℕ) (rows : List Row) (i : ℕ) (ts : List ℕ) → AllByRecursion (IsPlaced rows i) ts → ((o c : ℕ) → place o c ≡ i → AllByRecursion (λ v. v.0 ≢ t) (queue_of (map (wait_of rows) ts) o c)) → AllByRecursion (λ u. u ≢ t) ts
+pub away : (t : ℕ) (rows : List WaitRow) (i : ℕ) (ts : List ℕ) → AllByRecursion (IsPlaced rows i) ts → ((o c : ℕ) → place o c ≡ i → AllByRecursion (λ v. v.0 ≢ t) (queue_of (map (wait_of rows) ts) o c)) → AllByRecursion (λ u. u ≢ t) ts
 away t rows i [] p free = tt
 away t rows i (u ∷ ts) p free =
     let w = wait_of rows u in (
@@ -273,7 +273,7 @@ off_case : (b : Bool) (t : ℕ) (w : Wait) (l : List Wait) → w.task ≢ t → 
 off_case true t w l n h = (n, h)
 off_case false t w l n h = h
 
-pub off_queue : (t : ℕ) (rows : List Row) (ts : List ℕ) → AllByRecursion (λ u. u ≢ t) ts → (o c : ℕ) → AllByRecursion (λ v. v.0 ≢ t) (queue_of (map (wait_of rows) ts) o c)
+pub off_queue : (t : ℕ) (rows : List WaitRow) (ts : List ℕ) → AllByRecursion (λ u. u ≢ t) ts → (o c : ℕ) → AllByRecursion (λ v. v.0 ≢ t) (queue_of (map (wait_of rows) ts) o c)
 off_queue t rows [] h o c = tt
 off_queue t rows (u ∷ ts) h o c = off_case (is_at o c (wait_of rows u)) t (wait_of rows u) (filter (is_at o c) (map (wait_of rows) ts)) h.0 (off_queue t rows ts h.1 o c)
 

@@ -4,7 +4,7 @@ ghost use Rattle.uc_condition.specs.Waiting.{IsFree, Became, queue_at, SameQueue
 ghost use Rattle.uc_condition.specs.Buckets.{no_row, no_bucket, bucket_at};
 ghost use Rattle.uc_condition.specs.declared.buckets.TheConstants.{BUCKETS};
 
-use crate::buckets::{BUCKETS, Bucket, Row, find, link, place, unlink};
+use crate::buckets::{BUCKETS, Bucket, WaitRow, find, link, place, unlink};
 use std::alloc::{AllocError, Global};
 use std::marker::Model;
 
@@ -16,7 +16,7 @@ use std::marker::Model;
 #[derive(Drop)]
 pub struct Conditions {
     // By the task, for those that wait.
-    rows: Vec<Row>,
+    rows: Vec<WaitRow>,
     buckets: Vec<Bucket>,
     // By the object: how many tasks wait on its conditions.
     counts: Vec<u64>,
@@ -74,7 +74,7 @@ impl Conditions {
     {
         let at = place(object, cond);
         let bucket = bucket_at(&self.buckets, at);
-        let row = Row {
+        let row = WaitRow {
             object,
             cond,
             n,
@@ -127,7 +127,7 @@ impl Conditions {
     }
 }
 
-const NO_ROW: Row = Row {
+const NO_ROW: WaitRow = WaitRow {
     object: 0,
     cond: 0,
     n: 0,
@@ -158,7 +158,7 @@ fn count_at(counts: &Vec<u64>, object: u32) -> u64
     }
 }
 
-fn add_rows(rows: &mut Vec<Row>, tasks: u32) -> Result<(), AllocError>
+fn add_rows(rows: &mut Vec<WaitRow>, tasks: u32) -> Result<(), AllocError>
     ensures ok { OnOk result (rows.new.items ≡ rows.old.items ++ replicate (tasks - length rows.old.items) no_row) }
     ensures err { OnErr result (rows.new.items ≡ rows.old.items) }
 {

@@ -17,7 +17,7 @@ use Rattle.uc_code.specs.declared.rows.Instruction.{Instruction}
 use Rattle.uc_code.specs.declared.rows.MainOf.TheVariants as main_of
 use Rattle.uc_code.specs.Layout.{Laid}
 use Rattle.uc_code.specs.CodeShapes.{OpAt, Arrived}
-use Rattle.uc_frames.specs.Machine.{Active, Machine}
+use Rattle.uc_frames.specs.Machine.{Activation, Machine}
 use Rattle.uc_frames.specs.Machine as machine
 use Rattle.uc_frames.specs.Objects.{arrived_at}
 use Rattle.uc_frames.specs.StandsByParts.{Lined, Numbered, MembersStand}
@@ -54,7 +54,7 @@ module _ (source : Source) (code : Laid) (old new : Machine) (s : State) where
           after = t;
           by = w;
           stands = subst (λ (m : Machine). Stands code m t) (sym q) (record {
-            run = record { marks = h.run.marks; follows = h.run.follows; is = ap (λ (a : Active). calmed (old.run.control + 1) a) h.run.is };
+            run = record { marks = h.run.marks; follows = h.run.follows; is = ap (λ (a : Activation). calmed (old.run.control + 1) a) h.run.is };
             callers = h.callers;
             env = h.env;
           });
@@ -69,7 +69,7 @@ module _ (source : Source) (code : Laid) (old new : Machine) (s : State) where
               rest = h.run.rest;
               todo = refl;
               rows = record { marks = h.run.marks; at = old.run.control + 1; follows = h.run.follows; under = h.run.tests.under };
-              is = ap (λ (a : Active). let b : Active = record a { control = old.run.control + 1 } in b) h.run.is;
+              is = ap (λ (a : Activation). let b : Activation = record a { control = old.run.control + 1 } in b) h.run.is;
             };
             callers = h.callers;
             env = h.env;
@@ -78,7 +78,7 @@ module _ (source : Source) (code : Laid) (old new : Machine) (s : State) where
 
     pub block_left : (b : Bool) (behind : ℕ) → behind ≡ old.run.control + 1 → b ≡ arrives old.run.raised (length old.callers) → new ≡ block_over b behind old → BlockLeft source code b new s
     block_left b behind k e q =
-        let r : old.run.raised ≡ s.run.raised = ap (λ (a : Active). a.raised) h.run.is in
+        let r : old.run.raised ≡ s.run.raised = ap (λ (a : Activation). a.raised) h.run.is in
         let n : length old.callers ≡ length s.callers = same_count code old.callers s.callers h.callers in
         let f : b ≡ arrives s.run.raised (length s.callers) = e ∙ (ap (λ o. arrives o (length old.callers)) r ∙ ap (arrives s.run.raised) n) in
         block_by b (past_is ∙ ap (λ c. whole_left c h.run.rest s) (sym f)) (q ∙ ap (λ j. block_over b j old) k)
@@ -118,7 +118,7 @@ module _ (source : Source) (code : Laid) (old new : Machine) (s : State) where
           after = t;
           by = more w stay;
           stands = subst (λ (m : Machine). Stands code m t) (sym q) (record {
-            run = record { marks = h.run.marks; follows = arrived_follows; is = ap (λ (a : Active). arrived_at h.run.pad.arrived a) h.run.is };
+            run = record { marks = h.run.marks; follows = arrived_follows; is = ap (λ (a : Activation). arrived_at h.run.pad.arrived a) h.run.is };
             callers = h.callers;
             env = h.env;
           });
@@ -129,7 +129,7 @@ module _ (source : Source) (code : Laid) (old new : Machine) (s : State) where
           after = t;
           by = more w stay;
           stands = subst (λ (m : Machine). Stands code m t) (sym q) (record {
-            run = record { marks = h.run.marks; follows = left_follows; is = ap (λ (a : Active). let b : Active = record a { control = old.run.control + 1 } in b) h.run.is };
+            run = record { marks = h.run.marks; follows = left_follows; is = ap (λ (a : Activation). let b : Activation = record a { control = old.run.control + 1 } in b) h.run.is };
             callers = h.callers;
             env = h.env;
           });
@@ -137,7 +137,7 @@ module _ (source : Source) (code : Laid) (old new : Machine) (s : State) where
 
     pub call_left : (b : Bool) (arrived behind line : ℕ) → OpAt code old.run.control (op.Arrive arrived) line → behind ≡ old.run.control + 1 → b ≡ arrives old.run.raised (length old.callers) → new ≡ call_over b arrived behind old → Leads source code (Stands code) new s
     call_left b arrived behind line o k e q =
-        let r : old.run.raised ≡ s.run.raised = ap (λ (a : Active). a.raised) h.run.is in
+        let r : old.run.raised ≡ s.run.raised = ap (λ (a : Activation). a.raised) h.run.is in
         let n : length old.callers ≡ length s.callers = same_count code old.callers s.callers h.callers in
         let f : b ≡ arrives s.run.raised (length s.callers) = e ∙ (ap (λ x. arrives x (length old.callers)) r ∙ ap (arrives s.run.raised) n) in
         let to : arrived ≡ h.run.pad.arrived = same_arrival arrived h.run.pad.arrived _ _ (slice_get code.ops old.run.control) o.here h.run.pad.arrives.here in
@@ -158,7 +158,7 @@ module _ (source : Source) (code : Laid) (old new : Machine) (s : State) where
     held_if : (b : Bool) → is_held_up s.env.own s.env ≡ b → step source calm ≡ (if b then quiet.fault BlockedInside h.run.rest [] calm else quiet.return_step nought s.callers calm)
     held_if b e = finish_is ∙ ap (λ x. if x then quiet.fault BlockedInside h.run.rest [] calm else quiet.return_step nought s.callers calm) e
 
-    ended : (ms : List Active) (cs : List quiet.Active) → old.callers ≡ ms → s.callers ≡ cs → Lined (CallerStands code) ms cs → step source s ≡ Goes calm → step source calm ≡ quiet.return_step nought s.callers calm → new ≡ main_over (ended_by ms) old → MainLeft source code (ended_by ms) new s
+    ended : (ms : List Activation) (cs : List quiet.Active) → old.callers ≡ ms → s.callers ≡ cs → Lined (CallerStands code) ms cs → step source s ≡ Goes calm → step source calm ≡ quiet.return_step nought s.callers calm → new ≡ main_over (ended_by ms) old → MainLeft source code (ended_by ms) new s
     ended [] [] i j l w v q = record {
       before = calm;
       after = calm;
@@ -171,7 +171,7 @@ module _ (source : Source) (code : Laid) (old new : Machine) (s : State) where
     ended (m ∷ ms) [] i j l w v q = absurd l
     ended (m ∷ ms) (c ∷ cs) i j l w v q =
         let t : State = returned (Some nought) s.run.counts c cs s.env in
-        let b : old.run.counts ≡ s.run.counts = ap (λ (a : Active). a.counts) h.run.is in
+        let b : old.run.counts ≡ s.run.counts = ap (λ (a : Activation). a.counts) h.run.is in
         let u = env_left code s.run.counts old.env s.env h.env in
         let p : new ≡ left machine.nought (m ∷ ms) old = q ∙ ap (λ ns. left machine.nought ns old) i in
         let y : step source calm ≡ Goes t = v ∙ ap (λ ns. quiet.return_step nought ns calm) j in
@@ -195,5 +195,5 @@ module _ (source : Source) (code : Laid) (old new : Machine) (s : State) where
 
     pub main_left_as : (e : TaskMainEnd) → e ≡ main_by held old.run.raised old.callers → new ≡ main_over e old → MainLeft source code e new s
     main_left_as e k q =
-        let r : s.run.raised ≡ old.run.raised = sym (ap (λ (a : Active). a.raised) h.run.is) in
+        let r : s.run.raised ≡ old.run.raised = sym (ap (λ (a : Activation). a.raised) h.run.is) in
         by_reason old.run.raised e refl r k q

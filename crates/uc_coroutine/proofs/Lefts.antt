@@ -12,7 +12,7 @@ use Rattle.uc_machine.specs.Pieces.{Unwind}
 use Rattle.uc_machine.specs.Raising.{arrives, escapes, why_by, pass_on, leave_for, leave_step, return_past, end_by}
 use Rattle.uc_code.specs.Layout.{Laid}
 use Rattle.uc_frames.specs.declared.cell.Cell.{Cell}
-use Rattle.uc_frames.specs.Machine.{Active, Machine, Cells, cell_of}
+use Rattle.uc_frames.specs.Machine.{Activation, Machine, Cells, cell_of}
 use Rattle.uc_frames.specs.StandsByParts.{Lined}
 use Rattle.uc_frames.specs.Stands.{image, RunStands, CallerStands, EnvironmentStands, Stands}
 use Rattle.uc_frames.specs.Calls.{left}
@@ -28,7 +28,7 @@ frames_others [] = refl
 frames_others (f ∷ fs) = refl
 
 module _ (code : Laid) where
-  pub same_count : (ms : List Active) (cs : List quiet.Active) → Lined (CallerStands code) ms cs → length ms ≡ length cs
+  pub same_count : (ms : List Activation) (cs : List quiet.Active) → Lined (CallerStands code) ms cs → length ms ≡ length cs
   same_count [] [] h = refl
   same_count [] (c ∷ cs) h = absurd h
   same_count (m ∷ ms) [] h = absurd h
@@ -48,23 +48,23 @@ module _ (code : Laid) where
   }
 
   -- the one that waits goes on with what it is handed
-  pub handed_on : (m : Active) (c : quiet.Active) (x : Cell) (v : Value) → x ≡ cell_of v → RunStands code m c → RunStands code (record m { operands = x ∷ m.operands }) (record c { operands = v ∷ c.operands })
+  pub handed_on : (m : Activation) (c : quiet.Active) (x : Cell) (v : Value) → x ≡ cell_of v → RunStands code m c → RunStands code (record m { operands = x ∷ m.operands }) (record c { operands = v ∷ c.operands })
   handed_on m c x v e h = record {
     marks = h.marks;
     follows = h.follows;
     is =
-        ap (λ (a : Active). let b : Active = record a { operands = x ∷ a.operands } in b) h.is
-        ∙ ap (λ y. let b : Active = record (image m.control c) { operands = y ∷ map cell_of c.operands } in b) e;
+        ap (λ (a : Activation). let b : Activation = record a { operands = x ∷ a.operands } in b) h.is
+        ∙ ap (λ y. let b : Activation = record (image m.control c) { operands = y ∷ map cell_of c.operands } in b) e;
   }
 
   -- it is unwound in its turn
-  pub unwound_on : (m : Active) (c : quiet.Active) (why : UnwindReason) (x : Cell) (v : Value) → x ≡ cell_of v → CallerStands code m c → UnwindStands code (unwound_by why x m) (unwound (Unwind ∷ c.control) why v c)
+  pub unwound_on : (m : Activation) (c : quiet.Active) (why : UnwindReason) (x : Cell) (v : Value) → x ≡ cell_of v → CallerStands code m c → UnwindStands code (unwound_by why x m) (unwound (Unwind ∷ c.control) why v c)
   unwound_on m c why x v e h = record {
     rest = c.control;
     todo = refl;
     rows = record { marks = h.stands.marks; at = m.control; follows = h.stands.follows; under = h.under };
     is =
-        ap (λ (a : Active). unwound_by why x a) h.stands.is
+        ap (λ (a : Activation). unwound_by why x a) h.stands.is
         ∙ ap (λ y. unwound_by why y (image m.control c)) e;
   }
 
@@ -74,13 +74,13 @@ module _ (source : Source) (code : Laid) where
     r = s.run.raised
 
     raised_is : old.run.raised ≡ r
-    raised_is = ap (λ (a : Active). a.raised) h.run.is
+    raised_is = ap (λ (a : Activation). a.raised) h.run.is
 
     result_is : old.run.result ≡ cell_of s.run.result
-    result_is = ap (λ (a : Active). a.result) h.run.is
+    result_is = ap (λ (a : Activation). a.result) h.run.is
 
     counts_is : old.run.counts ≡ s.run.counts
-    counts_is = ap (λ (a : Active). a.counts) h.run.is
+    counts_is = ap (λ (a : Activation). a.counts) h.run.is
 
     step_is : step source s ≡ leave_step s.callers s
     step_is = ap (λ todo. quiet.act_todo source todo s) h.run.todo
@@ -88,7 +88,7 @@ module _ (source : Source) (code : Laid) where
     env_now : EnvironmentStands code (record old.env { frames = others old.env.frames; links = one_call_less old.run.counts old.env.links }) (record s.env { frames = others s.env.frames; links = one_call_less s.run.counts s.env.links })
     env_now = subst (λ b. EnvironmentStands code (record old.env { frames = others old.env.frames; links = one_call_less b old.env.links }) (record s.env { frames = others s.env.frames; links = one_call_less s.run.counts s.env.links })) (sym counts_is) (env_left code s.run.counts old.env s.env h.env)
 
-    returns : (m : Active) (ms : List Active) (c : quiet.Active) (cs : List quiet.Active) → CallerStands code m c → Lined (CallerStands code) ms cs → step source s ≡ quiet.return_step s.run.result (c ∷ cs) s → new ≡ left old.run.result (m ∷ ms) old → GoesTo source code (Stands code) new s
+    returns : (m : Activation) (ms : List Activation) (c : quiet.Active) (cs : List quiet.Active) → CallerStands code m c → Lined (CallerStands code) ms cs → step source s ≡ quiet.return_step s.run.result (c ∷ cs) s → new ≡ left old.run.result (m ∷ ms) old → GoesTo source code (Stands code) new s
     returns m ms c cs k l w q = record {
       after = returned (Some s.run.result) s.run.counts c cs s.env;
       by = w;
@@ -96,7 +96,7 @@ module _ (source : Source) (code : Laid) where
           (record { run = handed_on code m c old.run.result s.run.result result_is k.stands; callers = l; env = env_now });
     }
 
-    passes : (why : UnwindReason) (m : Active) (ms : List Active) (c : quiet.Active) (cs : List quiet.Active) → CallerStands code m c → Lined (CallerStands code) ms cs → step source s ≡ Goes (left_for s.run.counts (unwound (Unwind ∷ c.control) why s.run.result c) cs s.env) → new ≡ passed why old.run.result (m ∷ ms) old → GoesTo source code (Unwinds code) new s
+    passes : (why : UnwindReason) (m : Activation) (ms : List Activation) (c : quiet.Active) (cs : List quiet.Active) → CallerStands code m c → Lined (CallerStands code) ms cs → step source s ≡ Goes (left_for s.run.counts (unwound (Unwind ∷ c.control) why s.run.result c) cs s.env) → new ≡ passed why old.run.result (m ∷ ms) old → GoesTo source code (Unwinds code) new s
     passes why m ms c cs k l w q = record {
       after = left_for s.run.counts (unwound (Unwind ∷ c.control) why s.run.result c) cs s.env;
       by = w;
@@ -105,30 +105,30 @@ module _ (source : Source) (code : Laid) where
     }
 
     -- what becomes of it, by its reason
-    by_reason : (o : Option UnwindReason) (m : Active) (ms : List Active) (c : quiet.Active) (cs : List quiet.Active) → CallerStands code m c → Lined (CallerStands code) ms cs → old.callers ≡ m ∷ ms → old.run.raised ≡ o → step source s ≡ pass_on o c cs s → new ≡ left_as (goes_by o) old → LeftAs source code (goes_by o) new s
+    by_reason : (o : Option UnwindReason) (m : Activation) (ms : List Activation) (c : quiet.Active) (cs : List quiet.Active) → CallerStands code m c → Lined (CallerStands code) ms cs → old.callers ≡ m ∷ ms → old.run.raised ≡ o → step source s ≡ pass_on o c cs s → new ≡ left_as (goes_by o) old → LeftAs source code (goes_by o) new s
     by_reason None m ms c cs k l i z w q = w
     by_reason (Some why) m ms c cs k l i z w q =
-        let x : m.raised ≡ c.raised = ap (λ (a : Active). a.raised) k.stands.is in
+        let x : m.raised ≡ c.raised = ap (λ (a : Activation). a.raised) k.stands.is in
         passes (why_by why c.raised) m ms c cs k l w
         (q ∙ (ap (λ o. passed_as o old) z ∙ (ap (λ ns. passed_for why ns old) i ∙ ap (λ o. passed (why_by why o) old.run.result (m ∷ ms) old) x)))
 
-    by_escape : (b : Bool) (m : Active) (ms : List Active) (c : quiet.Active) (cs : List quiet.Active) → CallerStands code m c → Lined (CallerStands code) ms cs → old.callers ≡ m ∷ ms → step source s ≡ leave_for b c cs s → new ≡ left_as (if b then Escaped else goes_by r) old → LeftAs source code (if b then Escaped else goes_by r) new s
+    by_escape : (b : Bool) (m : Activation) (ms : List Activation) (c : quiet.Active) (cs : List quiet.Active) → CallerStands code m c → Lined (CallerStands code) ms cs → old.callers ≡ m ∷ ms → step source s ≡ leave_for b c cs s → new ≡ left_as (if b then Escaped else goes_by r) old → LeftAs source code (if b then Escaped else goes_by r) new s
     by_escape true m ms c cs k l i w q = w
     by_escape false m ms c cs k l i w q = by_reason r m ms c cs k l i raised_is w q
 
-    by_arrival : (b : Bool) (m : Active) (ms : List Active) (c : quiet.Active) (cs : List quiet.Active) → CallerStands code m c → Lined (CallerStands code) ms cs → old.callers ≡ m ∷ ms → step source s ≡ (if b then quiet.return_step s.run.result (c ∷ cs) s else leave_for (escapes r c.raised) c cs s) → new ≡ left_as (if b then Returned else (if escapes r c.raised then Escaped else goes_by r)) old → LeftAs source code (if b then Returned else (if escapes r c.raised then Escaped else goes_by r)) new s
+    by_arrival : (b : Bool) (m : Activation) (ms : List Activation) (c : quiet.Active) (cs : List quiet.Active) → CallerStands code m c → Lined (CallerStands code) ms cs → old.callers ≡ m ∷ ms → step source s ≡ (if b then quiet.return_step s.run.result (c ∷ cs) s else leave_for (escapes r c.raised) c cs s) → new ≡ left_as (if b then Returned else (if escapes r c.raised then Escaped else goes_by r)) old → LeftAs source code (if b then Returned else (if escapes r c.raised then Escaped else goes_by r)) new s
     by_arrival true m ms c cs k l i w q = returns m ms c cs k l w (q ∙ ap (λ ns. left old.run.result ns old) i)
     by_arrival false m ms c cs k l i w q = by_escape (escapes r c.raised) m ms c cs k l i w q
 
-    ending_is : (m : Active) (ms : List Active) (c : quiet.Active) (cs : List quiet.Active) → CallerStands code m c → Lined (CallerStands code) ms cs → ending_by old.run.raised (m ∷ ms) ≡ (if arrives r (length (c ∷ cs)) then Returned else (if escapes r c.raised then Escaped else goes_by r))
+    ending_is : (m : Activation) (ms : List Activation) (c : quiet.Active) (cs : List quiet.Active) → CallerStands code m c → Lined (CallerStands code) ms cs → ending_by old.run.raised (m ∷ ms) ≡ (if arrives r (length (c ∷ cs)) then Returned else (if escapes r c.raised then Escaped else goes_by r))
     ending_is m ms c cs k l =
         let n : length (m ∷ ms) ≡ length (c ∷ cs) = ap suc (same_count code ms cs l) in
-        let x : m.raised ≡ c.raised = ap (λ (a : Active). a.raised) k.stands.is in
+        let x : m.raised ≡ c.raised = ap (λ (a : Activation). a.raised) k.stands.is in
         ap (λ o. ending_by o (m ∷ ms)) raised_is
         ∙ (ap (λ j. if arrives r j then Returned else (if escapes r m.raised then Escaped else goes_by r)) n
         ∙ ap (λ o. if arrives r (length (c ∷ cs)) then Returned else (if escapes r o then Escaped else goes_by r)) x)
 
-    by_callers : (ms : List Active) (cs : List quiet.Active) (o : Left) → old.callers ≡ ms → step source s ≡ leave_step cs s → Lined (CallerStands code) ms cs → o ≡ ending_by old.run.raised ms → new ≡ left_as o old → LeftAs source code o new s
+    by_callers : (ms : List Activation) (cs : List quiet.Active) (o : Left) → old.callers ≡ ms → step source s ≡ leave_step cs s → Lined (CallerStands code) ms cs → o ≡ ending_by old.run.raised ms → new ≡ left_as o old → LeftAs source code o new s
     by_callers [] [] o i w l e q = subst (λ x. LeftAs source code x new s) (sym e) w
     by_callers [] (c ∷ cs) o i w l e q = absurd l
     by_callers (m ∷ ms) [] o i w l e q = absurd l
@@ -149,7 +149,7 @@ module _ (code : Laid) (old new : Machine) (s : State) (given : Cell) (value : V
   env_past : EnvironmentStands code (record old.env { frames = others old.env.frames; links = one_call_less old.run.counts old.env.links }) (record s.env { frames = others s.env.frames; links = one_call_less s.run.counts s.env.links })
   env_past = subst (λ b. EnvironmentStands code (record old.env { frames = others old.env.frames; links = one_call_less b old.env.links }) (record s.env { frames = others s.env.frames; links = one_call_less s.run.counts s.env.links })) (sym h.counts) (env_left code s.run.counts old.env s.env h.env)
 
-  past_by : (o : Option Visited) (ms : List Active) (cs : List quiet.Active) → Lined (CallerStands code) ms cs → end_by s.run.handles value s ≡ end_at o value cs s → Made (past_of o given ms old) old true new → ReturnsPast code value new s
+  past_by : (o : Option Visited) (ms : List Activation) (cs : List quiet.Active) → Lined (CallerStands code) ms cs → end_by s.run.handles value s ≡ end_at o value cs s → Made (past_of o given ms old) old true new → ReturnsPast code value new s
   past_by None ms cs l w m = absurd (cc)
   past_by (Some v) [] cs l w m = absurd (cc)
   past_by (Some v) (m ∷ ms) [] l w q = absurd l

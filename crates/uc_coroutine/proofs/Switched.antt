@@ -14,7 +14,7 @@ use Rattle.uc_machine.specs.Raising.{coroutine_left, unwind_past}
 use Rattle.uc_code.specs.declared.rows.MainOf.TheVariants as main_of
 use Rattle.uc_code.specs.Layout.{Laid}
 use Rattle.uc_frames.specs.declared.cell.Cell.{Cell}
-use Rattle.uc_frames.specs.Machine.{Active, Machine, cell_of, own_exec, resumed}
+use Rattle.uc_frames.specs.Machine.{Activation, Machine, cell_of, own_exec, resumed}
 use Rattle.uc_frames.specs.StandsByParts.{MovedStand}
 use Rattle.uc_frames.specs.Stands.{RunStands, CallerStands, Stands}
 use Rattle.uc_frames.specs.SwitchStands.{landing, Resumes, Suspends, TakesDown, EndsCoroutine}
@@ -53,7 +53,7 @@ module _ (source : Source) (code : Laid) (old new : Machine) (s : State) where
   pub takes_down_as : TakesDown code old s → (o : Option RunFault) → o ≡ fault_in (take_down (own_exec old) old) → new ≡ state_in old (take_down (own_exec old) old) → SwitchedAs source code o new s
   takes_down_as h o e q =
       let t : State = record s { run = record s.run { control = h.rest } } in
-      let this : old.run.this ≡ cell_of s.run.this = ap (λ (a : Active). a.this) h.stands.run.is in
+      let this : old.run.this ≡ cell_of s.run.this = ap (λ (a : Activation). a.this) h.stands.run.is in
       moved_now (take_down (own_exec old) old) (take_down (quiet.own_exec s) t) t
       (take_down_both (RunStands code) (CallerStands code) cell_of (raised_stands code) (own_exec old) (quiet.own_exec s) old t (own_exec_of code old t this h.stands.env) h.stands)
       (ap (λ todo. quiet.act_todo source todo s) h.todo) o e q
@@ -90,5 +90,5 @@ module _ (source : Source) (code : Laid) (old new : Machine) (s : State) where
 
     pub leaves_main_as : (o : Option RunFault) → o ≡ fault_in (left_by old.run.raised old) → new ≡ state_in old (left_by old.run.raised old) → SwitchedAs source code o new s
     leaves_main_as o e q =
-        let r : old.run.raised ≡ s.run.raised = ap (λ (a : Active). a.raised) h.run.is in
+        let r : old.run.raised ≡ s.run.raised = ap (λ (a : Activation). a.raised) h.run.is in
         by_reason s.run.raised left_is o (e ∙ ap (λ z. fault_in (left_by z old)) r) (q ∙ ap (λ z. state_in old (left_by z old)) r)

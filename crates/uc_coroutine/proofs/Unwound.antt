@@ -12,9 +12,9 @@ use Rattle.uc_code.specs.declared.rows.RowKind.TheVariants as kind
 use Rattle.uc_code.specs.declared.rows.MainOf.{MainOf}
 use Rattle.uc_code.specs.Layout.{Laid, handlers, chain}
 use Rattle.uc_code.specs.CodeShapes.{HandlerAt, clean_up}
-use Rattle.uc_frames.specs.declared.search.Sought.{Sought}
-use Rattle.uc_frames.specs.declared.search.Sought.TheVariants as sought
-use Rattle.uc_frames.specs.Machine.{Active, Machine}
+use Rattle.uc_frames.specs.declared.search.HandlerQuery.{HandlerQuery}
+use Rattle.uc_frames.specs.declared.search.HandlerQuery.TheVariants as sought
+use Rattle.uc_frames.specs.Machine.{Activation, Machine}
 use Rattle.uc_frames.specs.Searches.{catches, cleans, row_takes, is_named, is_found, first_in, stops, stops_at, first_stop, catcher_in}
 use Rattle.uc_frames.specs.Stands.{image, Stands}
 use Rattle.uc_frames.specs.Unwinding.{cleaning}
@@ -42,11 +42,11 @@ either_named false b e f = absurd (cc)
 
 module _ (rows : List HandlerRow) where
   -- what is found is one that is looked for
-  found_by : (b : Bool) (w : Sought) (x n : ℕ) (o : Option ℕ) → is_found w x (slice_get rows x) ≡ b → (o ≡ Some n → is_found w n (slice_get rows n) ≡ true) → (if b then Some x else o) ≡ Some n → is_found w n (slice_get rows n) ≡ true
+  found_by : (b : Bool) (w : HandlerQuery) (x n : ℕ) (o : Option ℕ) → is_found w x (slice_get rows x) ≡ b → (o ≡ Some n → is_found w n (slice_get rows n) ≡ true) → (if b then Some x else o) ≡ Some n → is_found w n (slice_get rows n) ≡ true
   found_by true w x n o q f e = let y : x ≡ n = cc in subst (λ k. is_found w k (slice_get rows k) ≡ true) y q
   found_by false w x n o q f e = f e
 
-  found_is : (w : Sought) (ns : List ℕ) (n : ℕ) → first_in w rows ns ≡ Some n → is_found w n (slice_get rows n) ≡ true
+  found_is : (w : HandlerQuery) (ns : List ℕ) (n : ℕ) → first_in w rows ns ≡ Some n → is_found w n (slice_get rows n) ≡ true
   found_is w [] n e = absurd (cc)
   found_is w (x ∷ xs) n e = found_by (is_found w x (slice_get rows x)) w x n (first_in w rows xs) refl (found_is w xs n) e
 
@@ -156,11 +156,11 @@ module _ (code : Laid) where
     r = s.run.raised
 
     raised_is : old.run.raised ≡ r
-    raised_is = ap (λ (a : Active). a.raised) h.run.is
+    raised_is = ap (λ (a : Activation). a.raised) h.run.is
 
     -- the machine at another op without operands
     cleaned : (entry : ℕ) (todo : List Todo) → cleaning entry old.run ≡ image entry (record s.run { control = todo; operands = [] })
-    cleaned entry todo = ap (λ (a : Active). cleaning entry a) h.run.is
+    cleaned entry todo = ap (λ (a : Activation). cleaning entry a) h.run.is
 
     cleaned_now : (n entry : ℕ) → HandlerAt code n (clean_up entry) → cleaned_by (slice_get code.rows n) old ≡ record old { run = cleaning entry old.run }
     cleaned_now n entry w =

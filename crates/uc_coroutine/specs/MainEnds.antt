@@ -10,7 +10,7 @@ use Rattle.uc_machine.specs.Executions.{calmed}
 use Rattle.uc_machine.specs.Quiet.{State, Asks, quiet, Quietly, line_of}
 use Rattle.uc_code.specs.Layout.{Laid}
 use Rattle.uc_frames.specs.Objects.{arrived_at}
-use Rattle.uc_frames.specs.Machine.{Active, Machine, cell_of, nought}
+use Rattle.uc_frames.specs.Machine.{Activation, Machine, cell_of, nought}
 use Rattle.uc_frames.specs.Calls.{left}
 use Rattle.uc_frames.specs.StandsByParts.{Numbered, MembersStand}
 use Rattle.uc_frames.specs.Stands.{RunStands, CallerStands, Stands}
@@ -34,16 +34,16 @@ abbrev pub is_return : Option UnwindReason → Bool
 is_return (Some (reason.ReturnTo home)) = true
 is_return _ = false
 
-abbrev pub ended_by : List Active → TaskMainEnd
+abbrev pub ended_by : List Activation → TaskMainEnd
 ended_by [] = Ended
 ended_by (c ∷ cs) = Returned
 
 -- where the task is held up in its own object, or is not
-abbrev pub returned_by : Bool → List Active → TaskMainEnd
+abbrev pub returned_by : Bool → List Activation → TaskMainEnd
 returned_by true cs = HeldUp
 returned_by false cs = ended_by cs
 
-abbrev pub main_by : Bool → Option UnwindReason → List Active → TaskMainEnd
+abbrev pub main_by : Bool → Option UnwindReason → List Activation → TaskMainEnd
 main_by held (Some (reason.ReturnTo home)) cs = returned_by held cs
 main_by held _ cs = Unhandled
 

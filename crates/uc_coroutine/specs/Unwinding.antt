@@ -6,9 +6,9 @@ use Rattle.uc_machine.specs.declared.exec.Visited.{Visited}
 use Rattle.uc_machine.specs.Raising.{arrives, escapes, why_by}
 use Rattle.uc_code.specs.declared.rows.HandlerRow.{HandlerRow}
 use Rattle.uc_code.specs.Layout.{chain}
-use Rattle.uc_frames.specs.declared.search.Sought.TheVariants.{Stop}
+use Rattle.uc_frames.specs.declared.search.HandlerQuery.TheVariants.{Stop}
 use Rattle.uc_frames.specs.declared.cell.Cell.{Cell}
-use Rattle.uc_frames.specs.Machine.{Active, Machine}
+use Rattle.uc_frames.specs.Machine.{Activation, Machine}
 use Rattle.uc_frames.specs.Searches.{is_named, first_in}
 use Rattle.uc_frames.specs.Unwinding.{cleaning, passed}
 use Rattle.uc_frames.specs.Calls.{left}
@@ -26,12 +26,12 @@ cleaned_by (Some r) m = record m { run = cleaning r.entry m.run }
 
 -- the running activation is left for the newest of these, which is unwound in its turn; where that is destroyed with its coroutine, that
 -- goes on
-abbrev pub passed_for : UnwindReason → List Active → Machine → Machine
+abbrev pub passed_for : UnwindReason → List Activation → Machine → Machine
 passed_for why [] m = m
 passed_for why (c ∷ cs) m = passed (why_by why c.raised) m.run.result (c ∷ cs) m
 
 -- so it is, where one of these waits
-abbrev pub passed_on : Option UnwindReason → List Active → Machine → Option Machine
+abbrev pub passed_on : Option UnwindReason → List Activation → Machine → Option Machine
 passed_on None cs m = None
 passed_on (Some why) [] m = None
 passed_on (Some why) (c ∷ cs) m = Some (passed_for why (c ∷ cs) m)
@@ -55,7 +55,7 @@ goes_by None = Ended
 goes_by (Some why) = PassedOn
 
 -- what becomes of an activation of which nothing is left
-abbrev pub ending_by : Option UnwindReason → List Active → Left
+abbrev pub ending_by : Option UnwindReason → List Activation → Left
 ending_by r [] = Ended
 ending_by r (c ∷ cs) = if arrives r (length (c ∷ cs)) then Returned else (if escapes r c.raised then Escaped else goes_by r)
 
@@ -71,7 +71,7 @@ left_as Returned m = left m.run.result m.callers m
 left_as PassedOn m = passed_as m.run.raised m
 
 -- a return leaves the handler of a resumption
-abbrev pub past_of : Option Visited → Cell → List Active → Machine → Option Machine
+abbrev pub past_of : Option Visited → Cell → List Activation → Machine → Option Machine
 past_of None given cs m = None
 past_of (Some v) given [] m = None
 past_of (Some v) given (c ∷ cs) m = Some (passed (reason.ReturnTo v.home) given (c ∷ cs) m)

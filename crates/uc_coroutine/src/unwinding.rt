@@ -11,7 +11,7 @@ ghost use Rattle.uc_coroutine.specs.UnwindingSteps.{IsOwn, UnwoundTo};
 ghost use Rattle.uc_coroutine.specs.Unwinding.{point_in, cleaned_by, passed_on, step_of, Made};
 
 use uc_code::code::Code;
-use uc_frames::search::{Sought, first_handler};
+use uc_frames::search::{HandlerQuery, first_handler};
 use uc_frames::work::Work;
 use uc_machine::exec::UnwindReason;
 
@@ -32,7 +32,7 @@ fn step(code: &Code, work: &mut Work, frame: u32, row: Option<u32>) -> bool
 {
     let level = work.level();
     let point = point_of(level, frame, row);
-    match first_handler(code, work.next(), Sought::Stop(point)) {
+    match first_handler(code, work.next(), HandlerQuery::Stop(point)) {
         Some(number) => {
             if is_point(point, number) {
                 return false;

@@ -5,12 +5,12 @@ use Rattle.uc_tree.specs.Source.{Handlers}
 use Rattle.uc_machine.specs.Quiet as quiet
 use Rattle.uc_machine.specs.Quiet.{Todo, Sort, Simple, IsLoop, IsWhole, IsClean, IsFill, IsSweep, IsPart, IsGuard, IsFinish, IsFinishCoroutine, sort, own_line}
 use Rattle.uc_machine.specs.Raising.{Event, Handler, handler_for, count_by, count_round}
-use Rattle.uc_code.specs.declared.rows.Mark.{Mark}
+use Rattle.uc_code.specs.declared.rows.CodeMark.{CodeMark}
 use Rattle.uc_code.specs.Layout.{Laid, handlers, chain}
 use Rattle.uc_code.specs.CodeShapes.{HandlerAt, clean_up}
 use Rattle.uc_code.specs.Lowered.{handler_rows}
-use Rattle.uc_frames.specs.declared.search.Sought.TheVariants as sought
-use Rattle.uc_frames.specs.Machine.{Active}
+use Rattle.uc_frames.specs.declared.search.HandlerQuery.TheVariants as sought
+use Rattle.uc_frames.specs.Machine.{Activation}
 use Rattle.uc_frames.specs.StandsByParts.{Lined}
 use Rattle.uc_frames.specs.Searches.{is_found, first_in}
 use Rattle.uc_frames.specs.Stands.{PieceAt, AtGuard, FollowsBy, FollowsAt}
@@ -64,7 +64,7 @@ module _ (code : Laid) (e : Event) where
   found_behind [] ys q = refl
   found_behind (x ∷ xs) ys q = behind_by (is_found (sought.Catch e.number) x (slice_get code.rows x)) x (look xs) (look (xs ++ ys)) (look ys) (found_behind xs ys) q
 
-  guard_by : (o : Option ℕ) (p : Option Handler) (hs : Handlers) (ps : List Todo) (outer : List Mark) (first exit : ℕ) (q : Option Handler) → Choice code outer exit false o p → FollowsAt code ps outer exit → look (numbers first (handler_rows hs)) ≡ o → Caught code (look (handlers outer)) q → Caught code (look (numbers first (handler_rows hs) ++ handlers outer)) (catch_or p q)
+  guard_by : (o : Option ℕ) (p : Option Handler) (hs : Handlers) (ps : List Todo) (outer : List CodeMark) (first exit : ℕ) (q : Option Handler) → Choice code outer exit false o p → FollowsAt code ps outer exit → look (numbers first (handler_rows hs)) ≡ o → Caught code (look (handlers outer)) q → Caught code (look (numbers first (handler_rows hs) ++ handlers outer)) (catch_or p q)
   guard_by None None hs ps outer first exit q c f k h = subst (λ o. Caught code o q) (sym (found_behind (numbers first (handler_rows hs)) (handlers outer) k)) h
   guard_by None (Some h) hs ps outer first exit q c f k g = absurd c
   guard_by (Some r) None hs ps outer first exit q c f k g = absurd c
@@ -73,19 +73,19 @@ module _ (code : Laid) (e : Event) where
       (record { event = c.event; rest = length (handlers outer); entry = c.entry; handler = c.handler; todo = ps; marks = outer; follows = follows_caught code outer exit r h c ps f })
 
   abbrev Finds : List Todo → Type 0
-  Finds ps = (ms : List Mark) (k : ℕ) → FollowsAt code ps ms k → Caught code (look (handlers ms)) (catch_in e ps)
+  Finds ps = (ms : List CodeMark) (k : ℕ) → FollowsAt code ps ms k → Caught code (look (handlers ms)) (catch_in e ps)
 
-  at_guard : (hs : Handlers) (ps : List Todo) (ms : List Mark) (k : ℕ) → AtGuard code hs (FollowsAt code ps) ms k → Finds ps → Caught code (look (handlers ms)) (catch_or (handler_for false e hs) (catch_in e ps))
+  at_guard : (hs : Handlers) (ps : List Todo) (ms : List CodeMark) (k : ℕ) → AtGuard code hs (FollowsAt code ps) ms k → Finds ps → Caught code (look (handlers ms)) (catch_or (handler_for false e hs) (catch_in e ps))
   at_guard hs ps ms k f ih =
       let l : handlers ms ≡ numbers f.first (handler_rows hs) ++ handlers f.outer = ap handlers f.pops ∙ guards_rows f.first (handler_rows hs) f.outer in
       subst (λ ns. Caught code (look ns) (catch_or (handler_for false e hs) (catch_in e ps))) (sym l)
       (guard_by (look (numbers f.first (handler_rows hs))) (handler_for false e hs) hs ps f.outer f.first f.end (catch_in e ps)
       (chosen_in code f.outer f.end false e f.first hs f.from f.to f.handlers) f.on refl (ih f.outer f.end f.on))
 
-  one_row : (ms : List Mark) (ns : List ℕ) (row entry : ℕ) (q : Option Handler) → handlers ms ≡ row ∷ ns → HandlerAt code row (clean_up entry) → Caught code (look ns) q → Caught code (look (handlers ms)) q
+  one_row : (ms : List CodeMark) (ns : List ℕ) (row entry : ℕ) (q : Option Handler) → handlers ms ≡ row ∷ ns → HandlerAt code row (clean_up entry) → Caught code (look ns) q → Caught code (look (handlers ms)) q
   one_row ms ns row entry q l h f = subst (λ o. Caught code o q) (sym (ap look l ∙ past_clean row entry ns h)) f
 
-  finds_by : (x : Sort) (P : ℕ → ℕ → Type 0) (ps : List Todo) → Finds ps → (ms : List Mark) (k : ℕ) → FollowsBy code (own_line ps) (count_round ps) x P (FollowsAt code ps) ms k → Caught code (look (handlers ms)) (catch_by x e (catch_in e ps))
+  finds_by : (x : Sort) (P : ℕ → ℕ → Type 0) (ps : List Todo) → Finds ps → (ms : List CodeMark) (k : ℕ) → FollowsBy code (own_line ps) (count_round ps) x P (FollowsAt code ps) ms k → Caught code (look (handlers ms)) (catch_by x e (catch_in e ps))
   finds_by Simple P ps ih ms k f = ih ms f.to f.on
   finds_by (IsLoop o t s b) P ps ih ms k f = subst (λ ns. Caught code (look ns) (catch_in e ps)) (sym (ap handlers f.pops)) (ih f.outer f.end f.on)
   finds_by IsWhole P ps ih ms k f = one_row ms (handlers f.outer) f.row f.entry (catch_in e ps) (ap handlers f.pops) f.handler (ih f.outer f.end f.on)
@@ -111,7 +111,7 @@ module _ (code : Laid) (e : Event) where
   looks (Some r) None n m x y h k f = absurd h
   looks (Some r) (Some z) n m x y h k f = (sym k, h)
 
-  pub catches_as : (ms : List Active) (cs : List quiet.Active) → Lined (SearchStands code) ms cs → CaughtAs code (caught code.rows e.number ms) (catcher e cs)
+  pub catches_as : (ms : List Activation) (cs : List quiet.Active) → Lined (SearchStands code) ms cs → CaughtAs code (caught code.rows e.number ms) (catcher e cs)
   catches_as [] [] h = tt
   catches_as [] (c ∷ cs) h = absurd h
   catches_as (m ∷ ms) [] h = absurd h

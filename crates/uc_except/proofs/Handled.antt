@@ -13,8 +13,8 @@ use Rattle.uc_code.specs.declared.rows.HandlerRow.{HandlerRow}
 use Rattle.uc_code.specs.Layout.{Laid}
 use Rattle.uc_frames.specs.declared.cell.Cell.{Cell}
 use Rattle.uc_frames.specs.declared.event.Event.{Event}
-use Rattle.uc_frames.specs.declared.event.Handling.{Handling}
-use Rattle.uc_frames.specs.Machine.{Active, Machine, cell_of}
+use Rattle.uc_frames.specs.declared.event.HandlerStart.{HandlerStart}
+use Rattle.uc_frames.specs.Machine.{Activation, Machine, cell_of}
 use Rattle.uc_frames.specs.StandsByParts.{Lined}
 use Rattle.uc_frames.specs.Stands.{image, FollowsAt, RunStands, CallerStands, EnvironmentStands, Stands}
 use Rattle.uc_frames.specs.Unwinding.{catching, handler_of, handled}
@@ -54,7 +54,7 @@ module _ (source : Source) (code : Laid) where
         ∙ (ap (λ k. handled_by k w.row frame (event_fields e) old) w.kind
         ∙ ap (λ k. let m : Machine = record old { run = catching k (event_fields e) old.run } in m) w.entry) in
         let t : State = caught source code s.run s.callers s.env s.run.raised c.event c.handler c.todo in
-        let is : catching c.entry (event_fields c.event) old.run ≡ image c.entry t.run = ap (λ (a : Active). catching c.entry (event_fields c.event) a) h.run.is in
+        let is : catching c.entry (event_fields c.event) old.run ≡ image c.entry t.run = ap (λ (a : Activation). catching c.entry (event_fields c.event) a) h.run.is in
         let b : new ≡ record old { run = catching c.entry (event_fields c.event) old.run } =
         (q ∙ a) ∙ ap (λ x. let m : Machine = record old { run = catching c.entry (event_fields x) old.run } in m) (sym i) in
         record {
@@ -78,18 +78,18 @@ module _ (source : Source) (code : Laid) where
       abbrev pub searched : quiet.Active
       searched = record s.run { control = h.rest }
 
-      abbrev acts : List Active
+      abbrev acts : List Activation
       acts = old.run ∷ old.callers
 
-      caller_search : (m : Active) (c : quiet.Active) → CallerStands code m c → SearchStands code m c
+      caller_search : (m : Activation) (c : quiet.Active) → CallerStands code m c → SearchStands code m c
       caller_search m c k = record {
         rows = record { marks = k.stands.marks; at = m.control; follows = k.stands.follows; under = k.under };
-        this = ap (λ (a : Active). a.this) k.stands.is;
-        frame = ap (λ (a : Active). a.frame) k.stands.is;
-        handles = ap (λ (a : Active). a.handles) k.stands.is;
+        this = ap (λ (a : Activation). a.this) k.stands.is;
+        frame = ap (λ (a : Activation). a.frame) k.stands.is;
+        handles = ap (λ (a : Activation). a.handles) k.stands.is;
       }
 
-      callers_search : (ms : List Active) (cs : List quiet.Active) → Lined (CallerStands code) ms cs → Lined (SearchStands code) ms cs
+      callers_search : (ms : List Activation) (cs : List quiet.Active) → Lined (CallerStands code) ms cs → Lined (SearchStands code) ms cs
       callers_search [] [] l = tt
       callers_search [] (c ∷ cs) l = absurd l
       callers_search (m ∷ ms) [] l = absurd l
@@ -98,9 +98,9 @@ module _ (source : Source) (code : Laid) where
       run_search : SearchStands code old.run searched
       run_search = record {
         rows = record { marks = h.run.stands.marks; at = h.run.stands.follows.to; follows = h.run.stands.follows.on; under = h.run.under };
-        this = ap (λ (a : Active). a.this) h.run.stands.is;
-        frame = ap (λ (a : Active). a.frame) h.run.stands.is;
-        handles = ap (λ (a : Active). a.handles) h.run.stands.is;
+        this = ap (λ (a : Activation). a.this) h.run.stands.is;
+        frame = ap (λ (a : Activation). a.frame) h.run.stands.is;
+        handles = ap (λ (a : Activation). a.handles) h.run.stands.is;
       }
 
       pub all_search : Lined (SearchStands code) acts (searched ∷ s.callers)
@@ -116,7 +116,7 @@ module _ (source : Source) (code : Laid) where
       begins frame row f k w q =
           let g = k.resumes in
           let d = g.handler in
-          let u : Handling = handling_of d.row frame (event_fields e) k.active in
+          let u : HandlerStart = handling_of d.row frame (event_fields e) k.active in
           let a : handler_begun code.rows (At frame row) (event_fields e) old ≡ handled u old =
           ap (λ o. handled_at o frame (event_fields e) old) d.there
           ∙ (ap (λ k. handled_by k d.row frame (event_fields e) old) d.kind
@@ -127,10 +127,10 @@ module _ (source : Source) (code : Laid) where
           ∙ (ap (λ n. let x : Visited = record { level = frame; rest = f.visited.rest; home = n } in x) (sym k.home)
           ∙ ap (λ n. let x : Visited = record { level = n; rest = f.visited.rest; home = f.visited.home } in x) (sym k.level)) in
           let i : handler_of u ≡ image g.entry t.run =
-          ap (λ n. let x : Active = record (handler_of u) { control = n } in x) d.entry
-          ∙ (ap (λ n. let x : Active = record (handler_of u) { control = g.entry; this = n } in x) k.this
-          ∙ (ap (λ n. let x : Active = record (handler_of u) { control = g.entry; this = cell_of f.this; frame = n } in x) k.variables
-          ∙ ap (λ n. let x : Active = record (handler_of u) { control = g.entry; this = cell_of f.this; frame = f.frame; handles = Some n } in x) v)) in
+          ap (λ n. let x : Activation = record (handler_of u) { control = n } in x) d.entry
+          ∙ (ap (λ n. let x : Activation = record (handler_of u) { control = g.entry; this = n } in x) k.this
+          ∙ (ap (λ n. let x : Activation = record (handler_of u) { control = g.entry; this = cell_of f.this; frame = n } in x) k.variables
+          ∙ ap (λ n. let x : Activation = record (handler_of u) { control = g.entry; this = cell_of f.this; frame = f.frame; handles = Some n } in x) v)) in
           let c : EnvironmentStands code (record old.env { frames = [] ∷ old.env.frames }) (record s.env { frames = [] ∷ s.env.frames }) = record {
             frames = frames_more s.env.frames old.env.frames h.env.frames;
             links = h.env.links;

@@ -6,7 +6,7 @@ use Rattle.std.proofs.lemmas.List.{length-drop}
 use Rattle.uc_machine.specs.Executions.{at_depth}
 use Rattle.uc_machine.specs.declared.exec.Visited.{Visited}
 use Rattle.uc_code.specs.declared.rows.HandlerRow.{HandlerRow}
-use Rattle.uc_frames.specs.Machine.{Active}
+use Rattle.uc_frames.specs.Machine.{Activation}
 use Rattle.uc_except.specs.declared.found.Found.TheVariants.{Handler, None as Nowhere}
 use Rattle.uc_except.specs.RowSearch.{found_at, caught, resumed, catch_in, resumption_in, resumed_from, handles_in}
 
@@ -81,33 +81,33 @@ module _ {X : Type 0} where
 
 module _ (rows : List HandlerRow) (e : ℕ) where
   -- the first ones that catch an event
-  pub caught_here : (acts : List Active) (d row : ℕ) (a : Active) → at_depth acts d ≡ Some a → catch_in rows e (Some a) ≡ Some row → caught rows e (oldest (suc d) acts) ≡ Handler d row
+  pub caught_here : (acts : List Activation) (d row : ℕ) (a : Activation) → at_depth acts d ≡ Some a → catch_in rows e (Some a) ≡ Some row → caught rows e (oldest (suc d) acts) ≡ Handler d row
   caught_here acts d row a h f =
       let l = depth_within acts d a h in
       let n : length (oldest d acts) ≡ d = oldest_count acts d (omega arith) in
       ap (caught rows e) (here acts d a h) ∙ (ap (λ o. found_at o (length (oldest d acts)) (caught rows e (oldest d acts))) f ∙ ap (λ z. Handler z row) n)
 
-  pub caught_on : (acts : List Active) (d : ℕ) (a : Active) → at_depth acts d ≡ Some a → catch_in rows e (Some a) ≡ None → caught rows e (oldest (suc d) acts) ≡ caught rows e (oldest d acts)
+  pub caught_on : (acts : List Activation) (d : ℕ) (a : Activation) → at_depth acts d ≡ Some a → catch_in rows e (Some a) ≡ None → caught rows e (oldest (suc d) acts) ≡ caught rows e (oldest d acts)
   caught_on acts d a h f =
       ap (caught rows e) (here acts d a h) ∙ ap (λ o. found_at o (length (oldest d acts)) (caught rows e (oldest d acts))) f
 
   -- resumptions
-  from_by : (rest : Option ℕ) (a : Active) (acts : List Active) → resumed_from rows rest e (a ∷ acts) ≡ found_at (resumption_in rows rest e (Some a)) (length acts) (resumed rows a.handles e acts)
+  from_by : (rest : Option ℕ) (a : Activation) (acts : List Activation) → resumed_from rows rest e (a ∷ acts) ≡ found_at (resumption_in rows rest e (Some a)) (length acts) (resumed rows a.handles e acts)
   from_by None a acts = refl
   from_by (Some r) a acts = refl
 
-  pub resumed_here : (acts : List Active) (d row : ℕ) (rest : Option ℕ) (a : Active) → at_depth acts d ≡ Some a → resumption_in rows rest e (Some a) ≡ Some row → resumed_from rows rest e (oldest (suc d) acts) ≡ Handler d row
+  pub resumed_here : (acts : List Activation) (d row : ℕ) (rest : Option ℕ) (a : Activation) → at_depth acts d ≡ Some a → resumption_in rows rest e (Some a) ≡ Some row → resumed_from rows rest e (oldest (suc d) acts) ≡ Handler d row
   resumed_here acts d row rest a h f =
       let l = depth_within acts d a h in
       let n : length (oldest d acts) ≡ d = oldest_count acts d (omega arith) in
       ap (resumed_from rows rest e) (here acts d a h) ∙ (from_by rest a (oldest d acts) ∙ (ap (λ o. found_at o (length (oldest d acts)) (resumed rows a.handles e (oldest d acts))) f ∙ ap (λ z. Handler z row) n))
 
-  pub resumed_on : (acts : List Active) (d : ℕ) (rest : Option ℕ) (a : Active) → at_depth acts d ≡ Some a → resumption_in rows rest e (Some a) ≡ None → resumed_from rows rest e (oldest (suc d) acts) ≡ resumed rows a.handles e (oldest d acts)
+  pub resumed_on : (acts : List Activation) (d : ℕ) (rest : Option ℕ) (a : Activation) → at_depth acts d ≡ Some a → resumption_in rows rest e (Some a) ≡ None → resumed_from rows rest e (oldest (suc d) acts) ≡ resumed rows a.handles e (oldest d acts)
   resumed_on acts d rest a h f =
       ap (resumed_from rows rest e) (here acts d a h) ∙ (from_by rest a (oldest d acts) ∙ ap (λ o. found_at o (length (oldest d acts)) (resumed rows a.handles e (oldest d acts))) f)
 
   -- behind an activation that handles a resumption the search goes on at one level
-  further_by : (b : Bool) (v : Visited) (a : Active) (acts : List Active) → nat_eq (length acts) v.level ≡ b → (v.level < length acts → resumed rows (Some v) e acts ≡ resumed_from rows (Some v.rest) e (oldest (suc v.level) acts)) → v.level < suc (length acts) → resumed rows (Some v) e (a ∷ acts) ≡ resumed_from rows (Some v.rest) e (oldest (suc v.level) (a ∷ acts))
+  further_by : (b : Bool) (v : Visited) (a : Activation) (acts : List Activation) → nat_eq (length acts) v.level ≡ b → (v.level < length acts → resumed rows (Some v) e acts ≡ resumed_from rows (Some v.rest) e (oldest (suc v.level) acts)) → v.level < suc (length acts) → resumed rows (Some v) e (a ∷ acts) ≡ resumed_from rows (Some v.rest) e (oldest (suc v.level) (a ∷ acts))
   further_by true v a acts q f l =
       let n : length acts ≡ v.level = grind (arith, q) in
       let o : oldest (suc v.level) (a ∷ acts) ≡ a ∷ acts = oldest_all (a ∷ acts) (suc v.level) (omega arith) in
@@ -118,33 +118,33 @@ module _ (rows : List HandlerRow) (e : ℕ) where
       let o : oldest (suc v.level) (a ∷ acts) ≡ oldest (suc v.level) acts = oldest_past a acts (suc v.level) (omega arith) in
       rw (q, o) (f k)
 
-  pub further : (v : Visited) (acts : List Active) → v.level < length acts → resumed rows (Some v) e acts ≡ resumed_from rows (Some v.rest) e (oldest (suc v.level) acts)
+  pub further : (v : Visited) (acts : List Activation) → v.level < length acts → resumed rows (Some v) e acts ≡ resumed_from rows (Some v.rest) e (oldest (suc v.level) acts)
   further v [] l = absurd (omega arith)
   further v (a ∷ acts) l = further_by (nat_eq (length acts) v.level) v a acts refl (further v acts) l
 
-  nowhere_by : (b : Bool) (v : Visited) (a : Active) (acts : List Active) → nat_eq (length acts) v.level ≡ b → suc (length acts) ≤ v.level → resumed rows (Some v) e acts ≡ Nowhere → resumed rows (Some v) e (a ∷ acts) ≡ Nowhere
+  nowhere_by : (b : Bool) (v : Visited) (a : Activation) (acts : List Activation) → nat_eq (length acts) v.level ≡ b → suc (length acts) ≤ v.level → resumed rows (Some v) e acts ≡ Nowhere → resumed rows (Some v) e (a ∷ acts) ≡ Nowhere
   nowhere_by true v a acts q l f = let n : length acts ≡ v.level = grind (arith, q) in absurd (omega arith)
   nowhere_by false v a acts q l f = rw q f
 
-  pub nowhere : (v : Visited) (acts : List Active) → length acts ≤ v.level → resumed rows (Some v) e acts ≡ Nowhere
+  pub nowhere : (v : Visited) (acts : List Activation) → length acts ≤ v.level → resumed rows (Some v) e acts ≡ Nowhere
   nowhere v [] l = refl
   nowhere v (a ∷ acts) l = nowhere_by (nat_eq (length acts) v.level) v a acts refl l (nowhere v acts (omega arith))
 
   -- the steps of the loops
 
-  module _ (acts : List Active) (d : ℕ) (l : d < length acts) where
-    caught_step_by : (o : Option Active) → at_depth acts d ≡ o → catch_in rows e o ≡ None → caught rows e (oldest (suc d) acts) ≡ caught rows e (oldest d acts)
+  module _ (acts : List Activation) (d : ℕ) (l : d < length acts) where
+    caught_step_by : (o : Option Activation) → at_depth acts d ≡ o → catch_in rows e o ≡ None → caught rows e (oldest (suc d) acts) ≡ caught rows e (oldest d acts)
     caught_step_by None q f = let k = depth_none acts d q in absurd (omega arith)
     caught_step_by (Some a) q f = caught_on acts d a q f
 
     pub caught_step : catch_in rows e (at_depth acts d) ≡ None → caught rows e (oldest (suc d) acts) ≡ caught rows e (oldest d acts)
     caught_step f = caught_step_by (at_depth acts d) refl f
 
-    from_none : (xs : List Active) → resumed rows None e xs ≡ resumed_from rows None e xs
+    from_none : (xs : List Activation) → resumed rows None e xs ≡ resumed_from rows None e xs
     from_none [] = refl
     from_none (x ∷ xs) = refl
 
-    resumed_step_by : (o : Option Active) (rest : Option ℕ) → at_depth acts d ≡ o → resumption_in rows rest e o ≡ None → resumed_from rows rest e (oldest (suc d) acts) ≡ resumed rows (handles_in o) e (oldest d acts)
+    resumed_step_by : (o : Option Activation) (rest : Option ℕ) → at_depth acts d ≡ o → resumption_in rows rest e o ≡ None → resumed_from rows rest e (oldest (suc d) acts) ≡ resumed rows (handles_in o) e (oldest d acts)
     resumed_step_by None rest q f = let k = depth_none acts d q in absurd (omega arith)
     resumed_step_by (Some a) rest q f = resumed_on acts d rest a q f
 
@@ -166,24 +166,24 @@ module _ (rows : List HandlerRow) (e : ℕ) where
         let n : length (oldest d acts) ≡ d = oldest_count acts d (omega arith) in
         resumed_step rest f ∙ (ap (λ o. resumed rows o e (oldest d acts)) q ∙ nowhere v (oldest d acts) (omega arith))
 
-  caught_found_by : (acts : List Active) (d row : ℕ) (o : Option Active) → at_depth acts d ≡ o → catch_in rows e o ≡ Some row → caught rows e (oldest (suc d) acts) ≡ Handler d row
+  caught_found_by : (acts : List Activation) (d row : ℕ) (o : Option Activation) → at_depth acts d ≡ o → catch_in rows e o ≡ Some row → caught rows e (oldest (suc d) acts) ≡ Handler d row
   caught_found_by acts d row None q f = absurd (cc)
   caught_found_by acts d row (Some a) q f = caught_here acts d row a q f
 
-  pub caught_found : (acts : List Active) (d row : ℕ) → catch_in rows e (at_depth acts d) ≡ Some row → caught rows e (oldest (suc d) acts) ≡ Handler d row
+  pub caught_found : (acts : List Activation) (d row : ℕ) → catch_in rows e (at_depth acts d) ≡ Some row → caught rows e (oldest (suc d) acts) ≡ Handler d row
   caught_found acts d row f = caught_found_by acts d row (at_depth acts d) refl f
 
-  resumed_found_by : (acts : List Active) (d row : ℕ) (rest : Option ℕ) (o : Option Active) → at_depth acts d ≡ o → resumption_in rows rest e o ≡ Some row → resumed_from rows rest e (oldest (suc d) acts) ≡ Handler d row
+  resumed_found_by : (acts : List Activation) (d row : ℕ) (rest : Option ℕ) (o : Option Activation) → at_depth acts d ≡ o → resumption_in rows rest e o ≡ Some row → resumed_from rows rest e (oldest (suc d) acts) ≡ Handler d row
   resumed_found_by acts d row None None q f = absurd (cc)
   resumed_found_by acts d row (Some n) None q f = absurd (cc)
   resumed_found_by acts d row rest (Some a) q f = resumed_here acts d row rest a q f
 
-  pub resumed_found : (acts : List Active) (d row : ℕ) (rest : Option ℕ) → resumption_in rows rest e (at_depth acts d) ≡ Some row → resumed_from rows rest e (oldest (suc d) acts) ≡ Handler d row
+  pub resumed_found : (acts : List Activation) (d row : ℕ) (rest : Option ℕ) → resumption_in rows rest e (at_depth acts d) ≡ Some row → resumed_from rows rest e (oldest (suc d) acts) ≡ Handler d row
   resumed_found acts d row rest f = resumed_found_by acts d row rest (at_depth acts d) refl f
 
-  all_by : (acts : List Active) → resumed_from rows None e acts ≡ resumed rows None e acts
+  all_by : (acts : List Activation) → resumed_from rows None e acts ≡ resumed rows None e acts
   all_by [] = refl
   all_by (a ∷ acts) = refl
 
-  pub resumed_all : (acts : List Active) (k : ℕ) → length acts ≤ k → resumed_from rows None e (oldest k acts) ≡ resumed rows None e acts
+  pub resumed_all : (acts : List Activation) (k : ℕ) → length acts ≤ k → resumed_from rows None e (oldest k acts) ≡ resumed rows None e acts
   resumed_all acts k l = ap (resumed_from rows None e) (oldest_all acts k l) ∙ all_by acts

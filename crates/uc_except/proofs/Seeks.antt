@@ -9,12 +9,12 @@ use Rattle.uc_machine.specs.Quiet as quiet
 use Rattle.uc_machine.specs.Quiet.{Todo, Sort, Simple, IsLoop, IsWhole, IsClean, IsFill, IsSweep, IsPart, IsGuard, IsFinish, IsFinishCoroutine, sort, own_line}
 use Rattle.uc_machine.specs.Raising.{Event, Handler, Hit, Found as Sought, handler_for, handler_count, count_by, count_round, within as within_list, hit_or, hit_by, hit_in, home_of, found_or, seek}
 use Rattle.uc_code.specs.declared.rows.HandlerRow.{HandlerRow}
-use Rattle.uc_code.specs.declared.rows.Mark.{Mark}
+use Rattle.uc_code.specs.declared.rows.CodeMark.{CodeMark}
 use Rattle.uc_code.specs.Layout.{Laid, under, handlers, chain}
 use Rattle.uc_code.specs.CodeShapes.{HandlerAt, clean_up}
 use Rattle.uc_code.specs.Lowered.{handler_rows}
-use Rattle.uc_frames.specs.declared.search.Sought.TheVariants as sought
-use Rattle.uc_frames.specs.Machine.{Active}
+use Rattle.uc_frames.specs.declared.search.HandlerQuery.TheVariants as sought
+use Rattle.uc_frames.specs.Machine.{Activation}
 use Rattle.uc_frames.specs.StandsByParts.{Lined}
 use Rattle.uc_frames.specs.Searches.{is_found, first_in, behind_row, within, last_of, chain_within}
 use Rattle.uc_frames.specs.Stands.{PieceAt, IsLast, OfRoutine, OfHandler, AtGuard, FollowsBy, FollowsAt}
@@ -30,7 +30,7 @@ under_none : (ns : List ℕ) → under 0 ns ≡ []
 under_none [] = refl
 under_none (n ∷ ns) = let e : nat_lt n 0 ≡ false = le-ltb n 0 (omega arith) in rw e (under_none ns)
 
-pub last_rows : (code : Laid) (ms : List Mark) → IsLast code ms → handlers ms ≡ []
+pub last_rows : (code : Laid) (ms : List CodeMark) → IsLast code ms → handlers ms ≡ []
 last_rows code ms (OfRoutine k) = refl
 last_rows code ms (OfHandler row outer) = under_none (handlers outer)
 
@@ -82,7 +82,7 @@ behind_by true x o p q f e = absurd (cc)
 behind_by false x o p q f e = f e
 
 module _ (code : Laid) where
-  counts_by : (x : Sort) (P : ℕ → ℕ → Type 0) (ps : List Todo) → ((ms : List Mark) (k : ℕ) → FollowsAt code ps ms k → count_round ps ≡ length (handlers ms)) → (ms : List Mark) (k : ℕ) → FollowsBy code (own_line ps) (count_round ps) x P (FollowsAt code ps) ms k → count_by x + count_round ps ≡ length (handlers ms)
+  counts_by : (x : Sort) (P : ℕ → ℕ → Type 0) (ps : List Todo) → ((ms : List CodeMark) (k : ℕ) → FollowsAt code ps ms k → count_round ps ≡ length (handlers ms)) → (ms : List CodeMark) (k : ℕ) → FollowsBy code (own_line ps) (count_round ps) x P (FollowsAt code ps) ms k → count_by x + count_round ps ≡ length (handlers ms)
   counts_by Simple P ps ih ms k f = let h = ih ms f.to f.on in omega arith
   counts_by (IsLoop o t e b) P ps ih ms k f = let h = ih f.outer f.end f.on in let l : length (handlers ms) ≡ length (handlers f.outer) = ap (λ ns. length (handlers ns)) f.pops in omega arith
   counts_by IsWhole P ps ih ms k f = let h = ih f.outer f.end f.on in let l : length (handlers ms) ≡ suc (length (handlers f.outer)) = ap (λ ns. length (handlers ns)) f.pops in omega arith
@@ -99,7 +99,7 @@ module _ (code : Laid) where
   counts_by IsFinish P ps ih ms k f = let z = f.behind in let l : length (handlers ms) ≡ 1 = ap (λ ns. length (handlers ns)) f.pops in omega arith
   counts_by IsFinishCoroutine P ps ih ms k f = let z = f.behind in let l : length (handlers ms) ≡ 1 = ap (λ ns. length (handlers ns)) f.pops in omega arith
 
-  pub counts : (ps : List Todo) (ms : List Mark) (k : ℕ) → FollowsAt code ps ms k → count_round ps ≡ length (handlers ms)
+  pub counts : (ps : List Todo) (ms : List CodeMark) (k : ℕ) → FollowsAt code ps ms k → count_round ps ≡ length (handlers ms)
   counts [] ms k f = sym (ap length (last_rows code ms f.last))
   counts (p ∷ ps) ms k f = counts_by (sort p) (PieceAt code (own_line ps) ms p) ps (counts ps) ms k f
 
@@ -123,7 +123,7 @@ module _ (code : Laid) where
     found_behind rows (x ∷ xs) ys q = behind_by (is_found (sought.Resume e.number) x (slice_get rows x)) x _ _ _ (found_behind rows xs ys) q
 
     -- a guarded block
-    guard_by : (o : Option ℕ) (p : Option Handler) (hs : Handlers) (outer : List Mark) (first exit n : ℕ) (q : Option Hit) → Choice code outer exit true o p → n ≡ length (handlers outer) → look (numbers first (handler_rows hs)) ≡ o → Hits code (look (handlers outer)) q → Hits code (look (numbers first (handler_rows hs) ++ handlers outer)) (hit_or p n q)
+    guard_by : (o : Option ℕ) (p : Option Handler) (hs : Handlers) (outer : List CodeMark) (first exit n : ℕ) (q : Option Hit) → Choice code outer exit true o p → n ≡ length (handlers outer) → look (numbers first (handler_rows hs)) ≡ o → Hits code (look (handlers outer)) q → Hits code (look (numbers first (handler_rows hs) ++ handlers outer)) (hit_or p n q)
     guard_by None None hs outer first exit n q c m k h = subst (λ o. Hits code o q) (sym (found_behind code.rows (numbers first (handler_rows hs)) (handlers outer) k)) h
     guard_by None (Some h) hs outer first exit n q c m k f = absurd c
     guard_by (Some r) None hs outer first exit n q c m k f = absurd c
@@ -131,17 +131,17 @@ module _ (code : Laid) where
         subst (λ o. Hits code o (Some (record { handler = h; rest = n }))) (sym (found_first code.rows (numbers first (handler_rows hs)) (handlers outer) r k))
         (subst (λ j. ResumesAt code r j h) (sym m) (record { event = c.event; entry = c.entry; handler = c.handler; marks = _; follows = follows_resumed code outer exit r h c }))
 
-    at_guard : (hs : Handlers) (ps : List Todo) (ms : List Mark) (k : ℕ) → AtGuard code hs (FollowsAt code ps) ms k → ((ns : List Mark) (j : ℕ) → FollowsAt code ps ns j → Hits code (look (handlers ns)) (hit_in e ps)) → Hits code (look (handlers ms)) (hit_or (handler_for true e hs) (count_round ps) (hit_in e ps))
+    at_guard : (hs : Handlers) (ps : List Todo) (ms : List CodeMark) (k : ℕ) → AtGuard code hs (FollowsAt code ps) ms k → ((ns : List CodeMark) (j : ℕ) → FollowsAt code ps ns j → Hits code (look (handlers ns)) (hit_in e ps)) → Hits code (look (handlers ms)) (hit_or (handler_for true e hs) (count_round ps) (hit_in e ps))
     at_guard hs ps ms k f ih =
         let l : handlers ms ≡ numbers f.first (handler_rows hs) ++ handlers f.outer = ap handlers f.pops ∙ guards_rows f.first (handler_rows hs) f.outer in
         subst (λ ns. Hits code (look ns) (hit_or (handler_for true e hs) (count_round ps) (hit_in e ps))) (sym l)
         (guard_by (look (numbers f.first (handler_rows hs))) (handler_for true e hs) hs f.outer f.first f.end (count_round ps) (hit_in e ps)
         (chosen_in code f.outer f.end true e f.first hs f.from f.to f.handlers) (counts ps f.outer f.end f.on) refl (ih f.outer f.end f.on))
 
-    one_row : (ms : List Mark) (ns : List ℕ) (row entry : ℕ) (q : Option Hit) → handlers ms ≡ row ∷ ns → HandlerAt code row (clean_up entry) → Hits code (look ns) q → Hits code (look (handlers ms)) q
+    one_row : (ms : List CodeMark) (ns : List ℕ) (row entry : ℕ) (q : Option Hit) → handlers ms ≡ row ∷ ns → HandlerAt code row (clean_up entry) → Hits code (look ns) q → Hits code (look (handlers ms)) q
     one_row ms ns row entry q l h f = subst (λ o. Hits code o q) (sym (ap look l ∙ past_clean row entry ns h)) f
 
-    finds_by : (x : Sort) (P : ℕ → ℕ → Type 0) (ps : List Todo) → ((ms : List Mark) (k : ℕ) → FollowsAt code ps ms k → Hits code (look (handlers ms)) (hit_in e ps)) → (ms : List Mark) (k : ℕ) → FollowsBy code (own_line ps) (count_round ps) x P (FollowsAt code ps) ms k → Hits code (look (handlers ms)) (hit_by x (count_round ps) e (hit_in e ps))
+    finds_by : (x : Sort) (P : ℕ → ℕ → Type 0) (ps : List Todo) → ((ms : List CodeMark) (k : ℕ) → FollowsAt code ps ms k → Hits code (look (handlers ms)) (hit_in e ps)) → (ms : List CodeMark) (k : ℕ) → FollowsBy code (own_line ps) (count_round ps) x P (FollowsAt code ps) ms k → Hits code (look (handlers ms)) (hit_by x (count_round ps) e (hit_in e ps))
     finds_by Simple P ps ih ms k f = ih ms f.to f.on
     finds_by (IsLoop o t s b) P ps ih ms k f = subst (λ ns. Hits code (look ns) (hit_in e ps)) (sym (ap handlers f.pops)) (ih f.outer f.end f.on)
     finds_by IsWhole P ps ih ms k f = one_row ms (handlers f.outer) f.row f.entry (hit_in e ps) (ap handlers f.pops) f.handler (ih f.outer f.end f.on)
@@ -155,7 +155,7 @@ module _ (code : Laid) where
     finds_by IsFinishCoroutine P ps ih ms k f =
         one_row ms [] f.row f.entry (hit_in e ps) (ap handlers f.pops) f.handler (subst (λ q. Hits code None q) (sym (none_hit e ps f.behind)) tt)
 
-    pub finds : (ps : List Todo) (ms : List Mark) (k : ℕ) → FollowsAt code ps ms k → Hits code (look (handlers ms)) (hit_in e ps)
+    pub finds : (ps : List Todo) (ms : List CodeMark) (k : ℕ) → FollowsAt code ps ms k → Hits code (look (handlers ms)) (hit_in e ps)
     finds [] ms k f = subst (λ ns. Hits code (look ns) None) (sym (last_rows code ms f.last)) tt
     finds (p ∷ ps) ms k f = finds_by (sort p) (PieceAt code (own_line ps) ms p) ps (finds ps) ms k f
 
@@ -178,14 +178,14 @@ module _ (code : Laid) where
         ∙ ap (λ m. within code.rows n m ns) (clean_behind row entry (length ns) h)
 
     abbrev Within : ℕ → List Todo → Type 0
-    Within n ps = (ms : List Mark) (k round : ℕ) → FollowsAt code ps ms k → length (handlers ms) ≤ round → Hits code (look (within code.rows n round (handlers ms))) (hit_in e (within_list n ps))
+    Within n ps = (ms : List CodeMark) (k round : ℕ) → FollowsAt code ps ms k → length (handlers ms) ≤ round → Hits code (look (within code.rows n round (handlers ms))) (hit_in e (within_list n ps))
 
-    row_within : (n round row entry : ℕ) (ms outer : List Mark) (q : Option Hit) → handlers ms ≡ row ∷ handlers outer → HandlerAt code row (clean_up entry) → nat_eq (length (handlers ms)) n ≡ false → Hits code (look (within code.rows n (length (handlers outer)) (handlers outer))) q → Hits code (look (within code.rows n round (handlers ms))) q
+    row_within : (n round row entry : ℕ) (ms outer : List CodeMark) (q : Option Hit) → handlers ms ≡ row ∷ handlers outer → HandlerAt code row (clean_up entry) → nat_eq (length (handlers ms)) n ≡ false → Hits code (look (within code.rows n (length (handlers outer)) (handlers outer))) q → Hits code (look (within code.rows n round (handlers ms))) q
     row_within n round row entry ms outer q l h d f =
         let z : nat_eq (length (row ∷ handlers outer)) n ≡ false = ap (λ ns. nat_eq (length ns) n) (sym l) ∙ d in
         subst (λ ns. Hits code (look ns) q) (sym (ap (within code.rows n round) l ∙ past_row n round row entry (handlers outer) h z)) f
 
-    guard_within : (n round : ℕ) (hs : Handlers) (ps : List Todo) (ms : List Mark) (k : ℕ) → AtGuard code hs (FollowsAt code ps) ms k → length (handlers ms) ≤ round → nat_eq (length (handlers ms)) n ≡ false → Within n ps → Hits code (look (within code.rows n round (handlers ms))) (hit_in e (within_list n ps))
+    guard_within : (n round : ℕ) (hs : Handlers) (ps : List Todo) (ms : List CodeMark) (k : ℕ) → AtGuard code hs (FollowsAt code ps) ms k → length (handlers ms) ≤ round → nat_eq (length (handlers ms)) n ≡ false → Within n ps → Hits code (look (within code.rows n round (handlers ms))) (hit_in e (within_list n ps))
     guard_within n round hs ps ms k f l d ih =
         let a : handlers ms ≡ numbers f.first (handler_rows hs) ++ handlers f.outer = ap handlers f.pops ∙ guards_rows f.first (handler_rows hs) f.outer in
         let c = numbers_count f.first (handler_rows hs) (handlers f.outer) in
@@ -201,7 +201,7 @@ module _ (code : Laid) where
               subst (λ ns. Hits code (look (within code.rows n round ns)) (hit_in e (within_list n ps))) (sym x) (ih f.outer f.end round f.on (omega arith))
         ]
 
-    within_by : (x : Sort) (P : ℕ → ℕ → Type 0) (n : ℕ) (ps : List Todo) → Within n ps → (ms : List Mark) (k round : ℕ) → FollowsBy code (own_line ps) (count_round ps) x P (FollowsAt code ps) ms k → length (handlers ms) ≤ round → nat_eq (length (handlers ms)) n ≡ false → Hits code (look (within code.rows n round (handlers ms))) (hit_in e (within_list n ps))
+    within_by : (x : Sort) (P : ℕ → ℕ → Type 0) (n : ℕ) (ps : List Todo) → Within n ps → (ms : List CodeMark) (k round : ℕ) → FollowsBy code (own_line ps) (count_round ps) x P (FollowsAt code ps) ms k → length (handlers ms) ≤ round → nat_eq (length (handlers ms)) n ≡ false → Hits code (look (within code.rows n round (handlers ms))) (hit_in e (within_list n ps))
     within_by Simple P n ps ih ms k round f l d = ih ms f.to round f.on l
     within_by (IsLoop o t s b) P n ps ih ms k round f l d =
         let x : handlers ms ≡ handlers f.outer = ap handlers f.pops in
@@ -217,7 +217,7 @@ module _ (code : Laid) where
     within_by IsFinishCoroutine P n ps ih ms k round f l d =
         row_within n round f.row f.entry ms [] _ (ap handlers f.pops) f.handler d (subst (λ q. Hits code None q) (sym (none_within e n ps f.behind)) tt)
 
-    within_test : (b : Bool) (n round : ℕ) (p : Todo) (ps : List Todo) (ms : List Mark) → nat_eq (length (handlers ms)) n ≡ b → length (handlers ms) ≤ round → Hits code (look (handlers ms)) (hit_in e (p ∷ ps)) → (nat_eq (length (handlers ms)) n ≡ false → Hits code (look (within code.rows n round (handlers ms))) (hit_in e (within_list n ps))) → Hits code (look (within code.rows n round (handlers ms))) (hit_in e (if b then p ∷ ps else within_list n ps))
+    within_test : (b : Bool) (n round : ℕ) (p : Todo) (ps : List Todo) (ms : List CodeMark) → nat_eq (length (handlers ms)) n ≡ b → length (handlers ms) ≤ round → Hits code (look (handlers ms)) (hit_in e (p ∷ ps)) → (nat_eq (length (handlers ms)) n ≡ false → Hits code (look (within code.rows n round (handlers ms))) (hit_in e (within_list n ps))) → Hits code (look (within code.rows n round (handlers ms))) (hit_in e (if b then p ∷ ps else within_list n ps))
     within_test true n round p ps ms d l w f = subst (λ ns. Hits code (look ns) (hit_in e (p ∷ ps))) (sym (whole_within n round (handlers ms) d l)) w
     within_test false n round p ps ms d l w f = f d
 
@@ -231,26 +231,26 @@ module _ (code : Laid) where
 
   -- over the activations
 
-  pub lengths : (ms : List Active) (cs : List quiet.Active) → Lined (SearchStands code) ms cs → length ms ≡ length cs
+  pub lengths : (ms : List Activation) (cs : List quiet.Active) → Lined (SearchStands code) ms cs → length ms ≡ length cs
   lengths [] [] h = refl
   lengths [] (c ∷ cs) h = absurd h
   lengths (m ∷ ms) [] h = absurd h
   lengths (m ∷ ms) (c ∷ cs) h = ap suc (lengths ms cs h.1)
 
-  further_there : (a x : Active) (acts : List Active) (d : ℕ) → at_depth acts d ≡ Some x → at_depth (a ∷ acts) d ≡ Some x
+  further_there : (a x : Activation) (acts : List Activation) (d : ℕ) → at_depth acts d ≡ Some x → at_depth (a ∷ acts) d ≡ Some x
   further_there a x acts d q =
       let l = depth_within acts d x q in
       let n : d ≡ length acts → ⊥ = λ z. omega arith in
       let t : nat_eq d (length acts) ≡ false = ne_eqb d (length acts) n in
       rw t q
 
-  further_by : (a : Active) (acts : List Active) (x : Found) (q : Option Sought) → FoundAs code acts x q → FoundAs code (a ∷ acts) x q
+  further_by : (a : Activation) (acts : List Activation) (x : Found) (q : Option Sought) → FoundAs code acts x q → FoundAs code (a ∷ acts) x q
   further_by a acts Nowhere None h = tt
   further_by a acts Nowhere (Some f) h = absurd h
   further_by a acts (At frame row) None h = absurd h
   further_by a acts (At frame row) (Some f) h = record { level = h.level; resumes = h.resumes; active = h.active; there = further_there a h.active acts frame h.there; this = h.this; variables = h.variables; home = h.home }
 
-  looks : (o : Option ℕ) (q : Option Hit) (m : Active) (c : quiet.Active) (ms : List Active) (cs : List quiet.Active) (x : Found) (y : Option Sought) → Hits code o q → SearchStands code m c → length ms ≡ length cs → FoundAs code ms x y → FoundAs code (m ∷ ms) (found_at o (length ms) x) (found_or q c cs y)
+  looks : (o : Option ℕ) (q : Option Hit) (m : Activation) (c : quiet.Active) (ms : List Activation) (cs : List quiet.Active) (x : Found) (y : Option Sought) → Hits code o q → SearchStands code m c → length ms ≡ length cs → FoundAs code ms x y → FoundAs code (m ∷ ms) (found_at o (length ms) x) (found_or q c cs y)
   looks None None m c ms cs x y h k n f = further_by m ms x y f
   looks None (Some z) m c ms cs x y h k n f = absurd h
   looks (Some r) None m c ms cs x y h k n f = absurd h
@@ -264,11 +264,11 @@ module _ (code : Laid) where
     home = ap (λ o. home_of o (length cs)) (sym k.handles) ∙ ap (λ l. home_of m.handles l) (sym n);
   }
 
-  either : (b : Bool) (acts : List Active) (x w : Found) (y z : Option Sought) → FoundAs code acts x y → FoundAs code acts w z → FoundAs code acts (if b then x else w) (if b then y else z)
+  either : (b : Bool) (acts : List Activation) (x w : Found) (y z : Option Sought) → FoundAs code acts x y → FoundAs code acts w z → FoundAs code acts (if b then x else w) (if b then y else z)
   either true acts x w y z f g = f
   either false acts x w y z f g = g
 
-  pub seeks : (o : Option Visited) (e : Event) (ms : List Active) (cs : List quiet.Active) → Lined (SearchStands code) ms cs → FoundAs code ms (resumed code.rows o e.number ms) (seek o e cs)
+  pub seeks : (o : Option Visited) (e : Event) (ms : List Activation) (cs : List quiet.Active) → Lined (SearchStands code) ms cs → FoundAs code ms (resumed code.rows o e.number ms) (seek o e cs)
   seeks None e [] [] h = tt
   seeks (Some v) e [] [] h = tt
   seeks None e [] (c ∷ cs) h = absurd h

@@ -5,8 +5,8 @@ use Rattle.uc_machine.specs.declared.exec.Visited.{Visited}
 use Rattle.uc_code.specs.declared.rows.HandlerRow.{HandlerRow}
 use Rattle.uc_code.specs.Layout.{chain}
 use Rattle.uc_frames.specs.PaceInvariant.{place_or, taken_at}
-use Rattle.uc_frames.specs.Machine.{Active}
-use Rattle.uc_frames.specs.declared.search.Sought.TheVariants.{Resume}
+use Rattle.uc_frames.specs.Machine.{Activation}
+use Rattle.uc_frames.specs.declared.search.HandlerQuery.TheVariants.{Resume}
 use Rattle.uc_frames.specs.Searches.{first_in, chain_within}
 use Rattle.uc_except.specs.declared.found.Found.{Found}
 use Rattle.uc_except.specs.declared.found.Found.TheVariants.{Handler, None as Nowhere}
@@ -25,7 +25,7 @@ place_if true f g p q e h = e
 place_if false f g p q e h = h
 
 module _ (rows : List HandlerRow) where
-  places : (o : Option Visited) (event : ℕ) (cs : List Active) → place_of (resumed rows o event cs) ≡ taken_at rows o event cs
+  places : (o : Option Visited) (event : ℕ) (cs : List Activation) → place_of (resumed rows o event cs) ≡ taken_at rows o event cs
   places None event [] = refl
   places (Some v) event [] = refl
   places None event (a ∷ cs) = place_at (first_in (Resume event) rows (chain rows a.control)) (length cs) (resumed rows a.handles event cs) (taken_at rows a.handles event cs) (places a.handles event cs)
@@ -36,5 +36,5 @@ module _ (rows : List HandlerRow) where
       (place_at (first_in (Resume event) rows (chain_within v.rest rows a.control)) (length cs) (resumed rows a.handles event cs) (taken_at rows a.handles event cs) (places a.handles event cs))
       (places (Some v) event cs)
 
-  pub taken : (o : Option Visited) (event frame row : ℕ) (cs : List Active) → resumed rows o event cs ≡ Handler frame row → taken_at rows o event cs ≡ Some (frame, row)
+  pub taken : (o : Option Visited) (event frame row : ℕ) (cs : List Activation) → resumed rows o event cs ≡ Handler frame row → taken_at rows o event cs ≡ Some (frame, row)
   taken o event frame row cs e = sym (places o event cs) ∙ ap place_of e

@@ -10,7 +10,7 @@ use Rattle.uc_machine.specs.Pieces.{Unwind}
 use Rattle.uc_machine.specs.Raising as raising
 use Rattle.uc_machine.specs.Raising.{event_in, throw_step, handle_step, seek}
 use Rattle.uc_code.specs.Layout.{Laid}
-use Rattle.uc_frames.specs.Machine.{Active, Machine}
+use Rattle.uc_frames.specs.Machine.{Activation, Machine}
 use Rattle.uc_frames.specs.StandsByParts.{Lined}
 use Rattle.uc_frames.specs.Stands.{image, CallerStands, EnvironmentStands}
 use Rattle.uc_frames.specs.Unwinding.{unwound_by}
@@ -36,7 +36,7 @@ module _ (source : Source) (code : Laid) (old new : Machine) (s : State) where
     rest = rest;
     todo = refl;
     rows = r;
-    is = ap (λ (a : Active). unwound_by why a.result a) i;
+    is = ap (λ (a : Activation). unwound_by why a.result a) i;
   }
 
   throws_by : (rest : List Todo) (e : raising.Event) (vs : List Value) → RowsStand code rest old.run.control → old.run ≡ image old.run.control (record s.run { operands = vs }) → Lined (CallerStands code) old.callers s.callers → EnvironmentStands code old.env s.env → step source s ≡ throw_step e rest s → new ≡ thrown (reason_by e) old → UnwindsNow source code new s

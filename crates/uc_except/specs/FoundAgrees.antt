@@ -4,11 +4,11 @@ use Rattle.uc_machine.specs.Executions.{at_depth}
 use Rattle.uc_machine.specs.Quiet as quiet
 use Rattle.uc_machine.specs.Quiet.{Todo, Sort, IsGuard, sort}
 use Rattle.uc_machine.specs.Raising.{Event, Handler, Hit, Found as Sought, handler_for, home_of, handler_todo}
-use Rattle.uc_code.specs.declared.rows.Mark.{Mark}
+use Rattle.uc_code.specs.declared.rows.CodeMark.{CodeMark}
 use Rattle.uc_code.specs.Layout.{Laid}
 use Rattle.uc_code.specs.CodeShapes.{HandlerAt}
 use Rattle.uc_code.specs.Lowered.{handler_of}
-use Rattle.uc_frames.specs.Machine.{Active, cell_of}
+use Rattle.uc_frames.specs.Machine.{Activation, cell_of}
 use Rattle.uc_frames.specs.Stands.{FollowsAt}
 use Rattle.uc_except.specs.declared.found.Found.{Found}
 use Rattle.uc_except.specs.declared.found.Found.TheVariants.{Handler as At, None as Nowhere}
@@ -47,7 +47,7 @@ module _ (code : Laid) where
     pub event : Option ℕ
     pub entry : ℕ
     pub handler : HandlerAt code row (handler_of true event rest entry)
-    pub marks : List Mark
+    pub marks : List CodeMark
     pub follows : FollowsAt code (handler_todo h []) marks entry
 
   -- what is found in an activation
@@ -58,16 +58,16 @@ module _ (code : Laid) where
   Hits (Some row) (Some h) = ResumesAt row h.rest h.handler
 
   -- what is found among activations
-  pub record Meets (acts : List Active) (frame row : ℕ) (f : Sought) : Type 0 where
+  pub record Meets (acts : List Activation) (frame row : ℕ) (f : Sought) : Type 0 where
     pub level : f.visited.level ≡ frame
     pub resumes : ResumesAt row f.visited.rest f.handler
-    pub active : Active
+    pub active : Activation
     pub there : at_depth acts frame ≡ Some active
     pub this : active.this ≡ cell_of f.this
     pub variables : active.frame ≡ f.frame
     pub home : f.visited.home ≡ home_of active.handles frame
 
-  abbrev pub FoundAs : List Active → Found → Option Sought → Type 0
+  abbrev pub FoundAs : List Activation → Found → Option Sought → Type 0
   FoundAs acts Nowhere None = Unit {0}
   FoundAs acts Nowhere (Some f) = ⊥
   FoundAs acts (At frame row) None = ⊥
@@ -82,7 +82,7 @@ module _ (code : Laid) where
     pub entry : ℕ
     pub handler : HandlerAt code row (handler_of false event rest entry)
     pub todo : List Todo
-    pub marks : List Mark
+    pub marks : List CodeMark
     pub follows : FollowsAt code (handler_todo h todo) marks entry
 
   abbrev pub Caught : Option ℕ → Option Handler → Type 0

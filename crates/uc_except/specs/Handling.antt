@@ -10,8 +10,8 @@ use Rattle.uc_code.specs.declared.rows.RowKind.{RowKind}
 use Rattle.uc_code.specs.declared.rows.RowKind.TheVariants as kind
 use Rattle.uc_code.specs.Layout.{Laid}
 use Rattle.uc_frames.specs.declared.event.Event.{Event}
-use Rattle.uc_frames.specs.declared.event.Handling.{Handling}
-use Rattle.uc_frames.specs.Machine.{Active, Machine}
+use Rattle.uc_frames.specs.declared.event.HandlerStart.{HandlerStart}
+use Rattle.uc_frames.specs.Machine.{Activation, Machine}
 use Rattle.uc_frames.specs.Stands.{Stands}
 use Rattle.uc_frames.specs.Unwinding.{unwound_by, catching, handled}
 use Rattle.uc_frames.specs.UnwindingStands.{Unwinds}
@@ -19,7 +19,7 @@ use Rattle.uc_except.specs.declared.found.Found.{Found}
 use Rattle.uc_except.specs.declared.found.Found.TheVariants.{Handler, None as Nowhere}
 
 -- a handler of resumptions uses what the activation uses in which it stands
-abbrev pub handling_of : HandlerRow → ℕ → Event → Active → Handling
+abbrev pub handling_of : HandlerRow → ℕ → Event → Activation → HandlerStart
 handling_of r frame e a = record {
   entry = r.entry;
   this = a.this;
@@ -28,7 +28,7 @@ handling_of r frame e a = record {
   event = e;
 }
 
-abbrev pub resumed_by : Option Active → HandlerRow → ℕ → Event → Machine → Machine
+abbrev pub resumed_by : Option Activation → HandlerRow → ℕ → Event → Machine → Machine
 resumed_by None r frame e m = m
 resumed_by (Some a) r frame e m = handled (handling_of r frame e a) m
 

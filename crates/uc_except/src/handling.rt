@@ -19,7 +19,7 @@ use crate::found::Found;
 use std::alloc::AllocError;
 use uc_code::code::Code;
 use uc_code::rows::{HandlerRow, RowKind};
-use uc_frames::event::{Event, Handling};
+use uc_frames::event::{Event, HandlerStart};
 use uc_frames::work::Work;
 use uc_machine::exec::{UnwindReason, Visited};
 
@@ -122,13 +122,13 @@ fn begin_resumption(
 }
 
 // What the handler of a row uses, which stands in the activation with so many below it.
-fn handling_at(work: &Work, row: HandlerRow, frame: u32, event: Event) -> Option<Handling>
+fn handling_at(work: &Work, row: HandlerRow, frame: u32, event: Event) -> Option<HandlerStart>
     ensures { result
         ≡ option_map (handling_of row frame event) (at_depth (work.now.run ∷ work.now.callers) frame) }
 {
     match work.activation(frame) {
         None => None,
-        Some(active) => Some(Handling {
+        Some(active) => Some(HandlerStart {
             entry: row.entry,
             this: active.this(),
             frame: active.frame(),

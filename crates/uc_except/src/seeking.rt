@@ -7,14 +7,14 @@ ghost use Rattle.uc_code.specs.Layout.{chain, laid_of};
 ghost use Rattle.uc_frames.specs.StandsByParts.{Lined};
 ghost use Rattle.uc_frames.specs.UnwindingStands.{SearchStands};
 ghost use Rattle.uc_except.specs.FoundAgrees.{FoundAs, CaughtAs, catcher};
-ghost use Rattle.uc_frames.specs.declared.search.Sought.TheVariants as sought;
+ghost use Rattle.uc_frames.specs.declared.search.HandlerQuery.TheVariants as sought;
 ghost use Rattle.uc_frames.specs.Searches.{first_in};
 ghost use Rattle.uc_machine.specs.Executions.{at_depth};
 ghost use Rattle.uc_except.specs.RowSearch.{caught, resumed, catch_in, resumption_in, handles_in};
 
 use crate::found::Found;
 use uc_code::code::Code;
-use uc_frames::search::{Sought, first_handler, first_within};
+use uc_frames::search::{HandlerQuery, first_handler, first_within};
 use uc_frames::work::Work;
 use uc_machine::exec::Visited;
 
@@ -46,7 +46,7 @@ fn search(code: &Code, work: &Work, event: u8, resume: bool) -> Found
 pub fn catching_row(code: &Code, work: &Work, event: u8) -> Option<u32>
     ensures { result ≡ first_in (sought.Catch event) code.now.rows (chain code.now.rows work.now.run.control) }
 {
-    first_handler(code, work.next(), Sought::Catch(event))
+    first_handler(code, work.next(), HandlerQuery::Catch(event))
 }
 
 fn termination(code: &Code, work: &Work, event: u8) -> Found
@@ -70,7 +70,7 @@ fn catch_at(code: &Code, work: &Work, level: u32, event: u8) -> Option<u32>
 {
     match work.activation(level) {
         None => None,
-        Some(active) => first_handler(code, active.next(), Sought::Catch(event)),
+        Some(active) => first_handler(code, active.next(), HandlerQuery::Catch(event)),
     }
 }
 
@@ -111,8 +111,8 @@ fn resumption_at(code: &Code, work: &Work, level: u32, rest: Option<u32>, event:
     match work.activation(level) {
         None => None,
         Some(active) => match rest {
-            None => first_handler(code, active.next(), Sought::Resume(event)),
-            Some(rest) => first_within(code, active.next(), rest, Sought::Resume(event)),
+            None => first_handler(code, active.next(), HandlerQuery::Resume(event)),
+            Some(rest) => first_within(code, active.next(), rest, HandlerQuery::Resume(event)),
         },
     }
 }

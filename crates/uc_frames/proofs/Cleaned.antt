@@ -6,8 +6,8 @@ use Rattle.uc_machine.specs.Quiet.{Todo, State, own_line, clean_todo, goes}
 use Rattle.uc_machine.specs.Pieces.{Unwind, GiveUpNow}
 use Rattle.uc_machine.specs.Raising.{scope_left}
 use Rattle.uc_code.specs.declared.op.Op.TheVariants as op
-use Rattle.uc_code.specs.declared.rows.Mark.{Mark}
-use Rattle.uc_code.specs.declared.rows.Mark.TheVariants as mark
+use Rattle.uc_code.specs.declared.rows.CodeMark.{CodeMark}
+use Rattle.uc_code.specs.declared.rows.CodeMark.TheVariants as mark
 use Rattle.uc_code.specs.declared.rows.Cleaning.{Cleaning}
 use Rattle.uc_code.specs.Layout.{Laid}
 use Rattle.uc_code.specs.CodeShapes.{Risk, HandlerAt, clean_up, OverElements, Leads, Arrived, Jumped}
@@ -24,15 +24,15 @@ module _ (code : Laid) where
   clean_stops (Some e) n entry h = let t = h.there in let k = h.kind in rw (t, k) refl
 
   -- behind it the unwinding goes on
-  pub goes_on : (ps : List Todo) (ms : List Mark) (pc at back end : ℕ) → Leads code pc at → Risk code ms op.Unwind (own_line ps) at back → FollowsAt code ps ms end → FollowsAt code (Unwind ∷ ps) ms pc
+  pub goes_on : (ps : List Todo) (ms : List CodeMark) (pc at back end : ℕ) → Leads code pc at → Risk code ms op.Unwind (own_line ps) at back → FollowsAt code ps ms end → FollowsAt code (Unwind ∷ ps) ms pc
   goes_on ps ms pc at back end l r f = record { from = at; to = end; leads = l; piece = record { end = back; unwinds = r }; on = f }
 
   -- the code of a clean-up does it
   pub record Begins (todo : List Todo) (pc : ℕ) : Type 0 where
-    pub marks : List Mark
+    pub marks : List CodeMark
     pub follows : FollowsAt code todo marks pc
 
-  pub begins_clean : (c : CleanUp) (what : Cleaning) → Cleans c what → (ps : List Todo) (ms : List Mark) (a m back end : ℕ) → CleanAt code (own_line ps) what ms a m → Risk code ms op.Unwind (own_line ps) m back → FollowsAt code ps ms end → Begins (clean_todo c (Unwind ∷ ps)) a
+  pub begins_clean : (c : CleanUp) (what : Cleaning) → Cleans c what → (ps : List Todo) (ms : List CodeMark) (a m back end : ℕ) → CleanAt code (own_line ps) what ms a m → Risk code ms op.Unwind (own_line ps) m back → FollowsAt code ps ms end → Begins (clean_todo c (Unwind ∷ ps)) a
   begins_clean c _ (CleansOne e what k n) ps ms a m back end h r f =
       let d : CallDone code (own_line ps) what ms a m = subst (λ o. CleanBy code (own_line ps) o what ms a m) n h in
       record {
@@ -104,11 +104,11 @@ module _ (code : Laid) where
     pub begins : Begins todo pc
 
   -- but a mutex call, where a return may arrive
-  pub record TestsFirst (c : CleanUp) (ps : List Todo) (ms : List Mark) (pc back : ℕ) : Type 0 where
+  pub record TestsFirst (c : CleanUp) (ps : List Todo) (ms : List CodeMark) (pc back : ℕ) : Type 0 where
     pub is : c ≡ Leaves
     pub pad : ArrivesAt code (own_line ps) ms pc back
 
-  pub pads : (c : CleanUp) (what : Cleaning) → Cleans c what → (ps : List Todo) (ms : List Mark) (a back end : ℕ) → PadAt code (own_line ps) what ms a back → FollowsAt code ps ms end → TestsFirst c ps ms a back ⊎ CleansFirst c ps a
+  pub pads : (c : CleanUp) (what : Cleaning) → Cleans c what → (ps : List Todo) (ms : List CodeMark) (a back end : ℕ) → PadAt code (own_line ps) what ms a back → FollowsAt code ps ms end → TestsFirst c ps ms a back ⊎ CleansFirst c ps a
   pads c _ (CleansOne e what k n) ps ms a back end h f =
       inr (record { todo = clean_todo c (Unwind ∷ ps); left = λ arrived s. refl; begins = begins_clean c _ (CleansOne e what k n) ps ms a h.middle back end h.first h.second f })
   pads c _ (All n size e what k q) ps ms a back end h f =

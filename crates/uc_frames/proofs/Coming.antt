@@ -13,12 +13,12 @@ use Rattle.uc_code.specs.declared.op.Op.TheVariants as op
 use Rattle.uc_code.specs.declared.rows.HandlerRow.{HandlerRow}
 use Rattle.uc_code.specs.declared.rows.MainOf.{MainOf}
 use Rattle.uc_code.specs.declared.rows.MainOf.TheVariants as main_of
-use Rattle.uc_code.specs.declared.rows.Mark.{Mark}
+use Rattle.uc_code.specs.declared.rows.CodeMark.{CodeMark}
 use Rattle.uc_code.specs.declared.rows.ObjectCall.{ObjectCall}
 use Rattle.uc_code.specs.Layout.{Laid, under, handlers}
 use Rattle.uc_code.specs.CodeShapes.{Risk, HandlerAt, clean_up, Arrived}
 use Rattle.uc_code.specs.Lowered.{handler_rows}
-use Rattle.uc_frames.specs.declared.search.Sought.TheVariants as sought
+use Rattle.uc_frames.specs.declared.search.HandlerQuery.TheVariants as sought
 use Rattle.uc_frames.specs.Searches.{stops_at, first_stop, first_in}
 use Rattle.uc_frames.specs.Stands.{finish_sort, PieceAt, IsLast, OfRoutine, OfHandler, AtWhole, AtClean, AtFinish, AtTest, AtGuard, FollowsBy, FollowsAt}
 use Rattle.uc_frames.proofs.Guards.{numbers, guards_rows, Choice, chosen_in, stops_in, none_stops, follows_caught}
@@ -29,7 +29,7 @@ under_none : (ns : List ℕ) → under 0 ns ≡ []
 under_none [] = refl
 under_none (n ∷ ns) = let e : nat_lt n 0 ≡ false = le-ltb n 0 (omega arith) in rw e (under_none ns)
 
-last_rows : (code : Laid) (ms : List Mark) → IsLast code ms → handlers ms ≡ []
+last_rows : (code : Laid) (ms : List CodeMark) → IsLast code ms → handlers ms ≡ []
 last_rows code ms (OfRoutine k) = refl
 last_rows code ms (OfHandler row outer) = under_none (handlers outer)
 
@@ -85,21 +85,21 @@ module _ (source : Source) (code : Laid) (a : Active) (cs : List Active) (env : 
   before o s t e (ToHandler row _ h) = ToHandler row s (catch_before row s t e h)
 
   abbrev All : List Todo → Type 0
-  All ps = (ms : List Mark) (k : ℕ) (vs : List Value) → FollowsAt code ps ms k → ComesTo (first_stop ev code.rows (handlers ms)) (at vs (Unwind ∷ ps))
+  All ps = (ms : List CodeMark) (k : ℕ) (vs : List Value) → FollowsAt code ps ms k → ComesTo (first_stop ev code.rows (handlers ms)) (at vs (Unwind ∷ ps))
 
   -- a row with a clean-up stops the unwinding
-  row_stops : (ms : List Mark) (rows : List ℕ) (row entry : ℕ) → handlers ms ≡ row ∷ rows → HandlerAt code row (clean_up entry) → first_stop ev code.rows (handlers ms) ≡ Some row
+  row_stops : (ms : List CodeMark) (rows : List ℕ) (row entry : ℕ) → handlers ms ≡ row ∷ rows → HandlerAt code row (clean_up entry) → first_stop ev code.rows (handlers ms) ≡ Some row
   row_stops ms rows row entry q h =
       let b : stops_at ev (slice_get code.rows row) ≡ true = clean_stops code ev row entry h in
       ap (first_stop ev code.rows) q ∙ ap (λ t. if t then Some row else first_stop ev code.rows rows) b
 
-  at_clean : (ms : List Mark) (rows : List ℕ) (row entry : ℕ) (s : State) (todo : List Todo) → handlers ms ≡ row ∷ rows → HandlerAt code row (clean_up entry) → Begins code todo entry → quiet source s ≡ Goes (at [] todo) → ComesTo (first_stop ev code.rows (handlers ms)) s
+  at_clean : (ms : List CodeMark) (rows : List ℕ) (row entry : ℕ) (s : State) (todo : List Todo) → handlers ms ≡ row ∷ rows → HandlerAt code row (clean_up entry) → Begins code todo entry → quiet source s ≡ Goes (at [] todo) → ComesTo (first_stop ev code.rows (handlers ms)) s
   at_clean ms rows row entry s todo q h b e =
       subst (λ o. ComesTo o s) (sym (row_stops ms rows row entry q h))
       (ToCleanUp row s (record { entry = entry; handler = h; todo = todo; marks = b.marks; follows = b.follows; by = more e stay }))
 
   -- a guarded block, by the event
-  guard_by : (o : Option ℕ) (p : Option Handler) (e : Event) (q : Todo) (hs : Handlers) (ps : List Todo) (outer : List Mark) (first exit : ℕ) (vs : List Value) → r ≡ Some (reason.Event e.number e.x e.y) → Choice code outer exit false o p → FollowsAt code ps outer exit → quiet source (at vs (Unwind ∷ (q ∷ ps))) ≡ catch_step p e ps (at vs (Unwind ∷ (q ∷ ps))) → first_stop (Some e.number) code.rows (numbers first (handler_rows hs)) ≡ o → ComesTo (first_stop (Some e.number) code.rows (handlers outer)) (at [] (Unwind ∷ ps)) → ComesTo (first_stop (Some e.number) code.rows (numbers first (handler_rows hs) ++ handlers outer)) (at vs (Unwind ∷ (q ∷ ps)))
+  guard_by : (o : Option ℕ) (p : Option Handler) (e : Event) (q : Todo) (hs : Handlers) (ps : List Todo) (outer : List CodeMark) (first exit : ℕ) (vs : List Value) → r ≡ Some (reason.Event e.number e.x e.y) → Choice code outer exit false o p → FollowsAt code ps outer exit → quiet source (at vs (Unwind ∷ (q ∷ ps))) ≡ catch_step p e ps (at vs (Unwind ∷ (q ∷ ps))) → first_stop (Some e.number) code.rows (numbers first (handler_rows hs)) ≡ o → ComesTo (first_stop (Some e.number) code.rows (handlers outer)) (at [] (Unwind ∷ ps)) → ComesTo (first_stop (Some e.number) code.rows (numbers first (handler_rows hs) ++ handlers outer)) (at vs (Unwind ∷ (q ∷ ps)))
   guard_by None None e q hs ps outer first exit vs i c f w k ih =
       subst (λ o. ComesTo o (at vs (Unwind ∷ (q ∷ ps)))) (sym (stop_beyond (Some e.number) code.rows (numbers first (handler_rows hs)) (handlers outer) k))
       (before _ (at vs (Unwind ∷ (q ∷ ps))) (at [] (Unwind ∷ ps)) w ih)
@@ -121,7 +121,7 @@ module _ (source : Source) (code : Laid) (a : Active) (cs : List Active) (env : 
         by = more w stay;
       }))
 
-  guard_none : (o : Option UnwindReason) → r ≡ o → event_by o ≡ None → (q : Todo) (hs : Handlers) (ps : List Todo) (ms : List Mark) (k : ℕ) (vs : List Value) → AtGuard code hs (FollowsAt code ps) ms k → quiet source (at vs (Unwind ∷ (q ∷ ps))) ≡ Goes (at [] (Unwind ∷ ps)) → All ps → ComesTo (first_stop (event_by o) code.rows (handlers ms)) (at vs (Unwind ∷ (q ∷ ps)))
+  guard_none : (o : Option UnwindReason) → r ≡ o → event_by o ≡ None → (q : Todo) (hs : Handlers) (ps : List Todo) (ms : List CodeMark) (k : ℕ) (vs : List Value) → AtGuard code hs (FollowsAt code ps) ms k → quiet source (at vs (Unwind ∷ (q ∷ ps))) ≡ Goes (at [] (Unwind ∷ ps)) → All ps → ComesTo (first_stop (event_by o) code.rows (handlers ms)) (at vs (Unwind ∷ (q ∷ ps)))
   guard_none o i n q hs ps ms k vs f w ih =
       let l : handlers ms ≡ numbers f.first (handler_rows hs) ++ handlers f.outer = ap handlers f.pops ∙ guards_rows f.first (handler_rows hs) f.outer in
       let z : event_by r ≡ event_by o = ap event_by i in
@@ -132,7 +132,7 @@ module _ (source : Source) (code : Laid) (a : Active) (cs : List Active) (env : 
       (before _ (at vs (Unwind ∷ (q ∷ ps))) (at [] (Unwind ∷ ps)) w
       (subst (λ x. ComesTo (first_stop x code.rows (handlers f.outer)) (at [] (Unwind ∷ ps))) z (ih f.outer f.end [] f.on))))
 
-  at_guard : (o : Option UnwindReason) → r ≡ o → (q : Todo) (hs : Handlers) (ps : List Todo) (ms : List Mark) (k : ℕ) (vs : List Value) → AtGuard code hs (FollowsAt code ps) ms k → quiet source (at vs (Unwind ∷ (q ∷ ps))) ≡ guard_left hs o ps (at vs (Unwind ∷ (q ∷ ps))) → All ps → ComesTo (first_stop (event_by o) code.rows (handlers ms)) (at vs (Unwind ∷ (q ∷ ps)))
+  at_guard : (o : Option UnwindReason) → r ≡ o → (q : Todo) (hs : Handlers) (ps : List Todo) (ms : List CodeMark) (k : ℕ) (vs : List Value) → AtGuard code hs (FollowsAt code ps) ms k → quiet source (at vs (Unwind ∷ (q ∷ ps))) ≡ guard_left hs o ps (at vs (Unwind ∷ (q ∷ ps))) → All ps → ComesTo (first_stop (event_by o) code.rows (handlers ms)) (at vs (Unwind ∷ (q ∷ ps)))
   at_guard (Some (reason.Event n x y)) i q hs ps ms k vs f w ih =
       let e : Event = record { number = n; x = x; y = y } in
       let l : handlers ms ≡ numbers f.first (handler_rows hs) ++ handlers f.outer = ap handlers f.pops ∙ guards_rows f.first (handler_rows hs) f.outer in
@@ -147,7 +147,7 @@ module _ (source : Source) (code : Laid) (a : Active) (cs : List Active) (env : 
   at_guard (Some reason.Destroyed) i q hs ps ms k vs f w ih = guard_none (Some reason.Destroyed) i refl q hs ps ms k vs f w ih
 
   -- the end of a block that is left as a whole, and of a main
-  at_block : (q : Todo) (ps : List Todo) (ms : List Mark) (k : ℕ) (vs : List Value) → sort q ≡ IsWhole → AtWhole code (own_line ps) (FollowsAt code ps) ms k → ComesTo (first_stop ev code.rows (handlers ms)) (at vs (Unwind ∷ (q ∷ ps)))
+  at_block : (q : Todo) (ps : List Todo) (ms : List CodeMark) (k : ℕ) (vs : List Value) → sort q ≡ IsWhole → AtWhole code (own_line ps) (FollowsAt code ps) ms k → ComesTo (first_stop ev code.rows (handlers ms)) (at vs (Unwind ∷ (q ∷ ps)))
   at_block q ps ms k vs i f =
       let s : State = at vs (Unwind ∷ (q ∷ ps)) in
       let t = f.tests in
@@ -165,14 +165,14 @@ module _ (source : Source) (code : Laid) (a : Active) (cs : List Active) (env : 
         by = stay;
       }))
 
-  at_main : (whose : MainOf) (q : Todo) (ps : List Todo) (round : ℕ) (ms : List Mark) (k : ℕ) (vs : List Value) → sort q ≡ finish_sort whose → AtFinish code whose (own_line ps) round ms k → ComesTo (first_stop ev code.rows (handlers ms)) (at vs (Unwind ∷ (q ∷ ps)))
+  at_main : (whose : MainOf) (q : Todo) (ps : List Todo) (round : ℕ) (ms : List CodeMark) (k : ℕ) (vs : List Value) → sort q ≡ finish_sort whose → AtFinish code whose (own_line ps) round ms k → ComesTo (first_stop ev code.rows (handlers ms)) (at vs (Unwind ∷ (q ∷ ps)))
   at_main whose q ps round ms k vs i f =
       let s : State = at vs (Unwind ∷ (q ∷ ps)) in
       subst (λ o. ComesTo o s) (sym (row_stops ms [] f.row f.entry (ap handlers f.pops) f.handler))
       (ToMain whose f.row s (record { entry = f.entry; handler = f.handler; finish = q; main = i; rest = ps; ends = f.unwound; operands = vs; by = stay }))
 
   -- the end of the scope of an object, of which that of a mutex call is tested first
-  at_scope : (q : Todo) (c : CleanUp) (ps : List Todo) (ms : List Mark) (k : ℕ) (vs : List Value) → sort q ≡ IsClean c → (f : AtClean code (own_line ps) c (FollowsAt code ps) ms k) → TestsFirst code c ps f.outer f.entry f.back ⊎ CleansFirst code c ps f.entry → ComesTo (first_stop ev code.rows (handlers ms)) (at vs (Unwind ∷ (q ∷ ps)))
+  at_scope : (q : Todo) (c : CleanUp) (ps : List Todo) (ms : List CodeMark) (k : ℕ) (vs : List Value) → sort q ≡ IsClean c → (f : AtClean code (own_line ps) c (FollowsAt code ps) ms k) → TestsFirst code c ps f.outer f.entry f.back ⊎ CleansFirst code c ps f.entry → ComesTo (first_stop ev code.rows (handlers ms)) (at vs (Unwind ∷ (q ∷ ps)))
   at_scope q c ps ms k vs i f (inl d) =
       let s : State = at vs (Unwind ∷ (q ∷ ps)) in
       subst (λ o. ComesTo o s) (sym (row_stops ms (handlers f.outer) f.row f.entry (ap handlers f.pops) f.handler))
@@ -195,7 +195,7 @@ module _ (source : Source) (code : Laid) (a : Active) (cs : List Active) (env : 
       (rw i (d.left (arrives r (length cs)) (at vs (Unwind ∷ (q ∷ ps)))))
 
   -- elements are destroyed
-  at_elements : (q : Todo) (back : ℕ → Op) (T : ObjectCall → List Mark → ℕ → ℕ → Type 0) (e d : Expr) (ps : List Todo) (ms : List Mark) (k : ℕ) (vs : List Value) → AtTest code (own_line ps) back T e d (FollowsAt code ps) ms k → quiet source (at vs (Unwind ∷ (q ∷ ps))) ≡ Goes (at [] (Sweep d ∷ (Unwind ∷ ps))) → ComesTo (first_stop ev code.rows (handlers ms)) (at vs (Unwind ∷ (q ∷ ps)))
+  at_elements : (q : Todo) (back : ℕ → Op) (T : ObjectCall → List CodeMark → ℕ → ℕ → Type 0) (e d : Expr) (ps : List Todo) (ms : List CodeMark) (k : ℕ) (vs : List Value) → AtTest code (own_line ps) back T e d (FollowsAt code ps) ms k → quiet source (at vs (Unwind ∷ (q ∷ ps))) ≡ Goes (at [] (Sweep d ∷ (Unwind ∷ ps))) → ComesTo (first_stop ev code.rows (handlers ms)) (at vs (Unwind ∷ (q ∷ ps)))
   at_elements q back T e d ps ms k vs f w =
       at_clean ms (handlers f.outer) f.row f.entry (at vs (Unwind ∷ (q ∷ ps))) (Sweep d ∷ (Unwind ∷ ps)) (ap handlers f.pops) f.handler
       (record {
@@ -224,7 +224,7 @@ module _ (source : Source) (code : Laid) (a : Active) (cs : List Active) (env : 
         };
       }) w
 
-  comes_by : (q : Todo) (x : Sort) (P : ℕ → ℕ → Type 0) (ps : List Todo) → x ≡ sort q → All ps → (ms : List Mark) (k : ℕ) (vs : List Value) → FollowsBy code (own_line ps) (count_round ps) x P (FollowsAt code ps) ms k → ComesTo (first_stop ev code.rows (handlers ms)) (at vs (Unwind ∷ (q ∷ ps)))
+  comes_by : (q : Todo) (x : Sort) (P : ℕ → ℕ → Type 0) (ps : List Todo) → x ≡ sort q → All ps → (ms : List CodeMark) (k : ℕ) (vs : List Value) → FollowsBy code (own_line ps) (count_round ps) x P (FollowsAt code ps) ms k → ComesTo (first_stop ev code.rows (handlers ms)) (at vs (Unwind ∷ (q ∷ ps)))
   comes_by q Simple P ps i ih ms k vs f = before _ (at vs (Unwind ∷ (q ∷ ps))) (at [] (Unwind ∷ ps)) (rw (← i) refl) (ih ms f.to [] f.on)
   comes_by q (IsLoop o t e b) P ps i ih ms k vs f =
       subst (λ ns. ComesTo (first_stop ev code.rows ns) (at vs (Unwind ∷ (q ∷ ps)))) (sym (ap handlers f.pops))

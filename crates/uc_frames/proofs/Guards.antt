@@ -7,13 +7,13 @@ use Rattle.uc_machine.specs.Quiet.{Todo, Rest, Within}
 use Rattle.uc_machine.specs.Raising.{Event, Handler, takes, same_kind, handler_for, handler_count, handler_todo}
 use Rattle.uc_code.specs.declared.rows.HandlerRow.{HandlerRow}
 use Rattle.uc_code.specs.declared.rows.TheConstants.{ANY_EVENT}
-use Rattle.uc_code.specs.declared.rows.Mark.{Mark}
-use Rattle.uc_code.specs.declared.rows.Mark.TheVariants as mark
+use Rattle.uc_code.specs.declared.rows.CodeMark.{CodeMark}
+use Rattle.uc_code.specs.declared.rows.CodeMark.TheVariants as mark
 use Rattle.uc_code.specs.Layout.{Laid, guards, handlers, takes_events}
 use Rattle.uc_code.specs.CodeShapes.{Both, HandlerAt, Arrived, Jumped}
 use Rattle.uc_code.specs.Lowered.{kind_of, event_of, IsNamed, handler_of, handler_rows, KeepsAt, HandlerBy, StmtsAt, HandlersAt}
-use Rattle.uc_frames.specs.declared.search.Sought.{Sought}
-use Rattle.uc_frames.specs.declared.search.Sought.TheVariants as sought
+use Rattle.uc_frames.specs.declared.search.HandlerQuery.{HandlerQuery}
+use Rattle.uc_frames.specs.declared.search.HandlerQuery.TheVariants as sought
 use Rattle.uc_frames.specs.Searches.{catches, resumes, cleans, row_takes, is_sought, is_found, first_in, stops, stops_at, first_stop, behind_row, within}
 use Rattle.uc_frames.proofs.Named.{not_both}
 use Rattle.uc_frames.specs.Stands.{OfHandler, FollowsAt}
@@ -23,7 +23,7 @@ abbrev pub numbers : ℕ → ℕ → List ℕ
 numbers first zero = []
 numbers first (suc n) = (first + n) ∷ numbers first n
 
-pub guards_rows : (first n : ℕ) (ms : List Mark) → handlers (guards first n ms) ≡ numbers first n ++ handlers ms
+pub guards_rows : (first n : ℕ) (ms : List CodeMark) → handlers (guards first n ms) ≡ numbers first n ++ handlers ms
 guards_rows first zero ms = refl
 guards_rows first (suc n) ms = ap (λ ns. (first + n) ∷ ns) (guards_rows first n ms)
 
@@ -36,7 +36,7 @@ rows_count NoHandlers = refl
 rows_count (MoreHandlers r e c l b rest) = ap suc (rows_count rest)
 
 -- what is looked for
-abbrev pub sought_of : Bool → ℕ → Sought
+abbrev pub sought_of : Bool → ℕ → HandlerQuery
 sought_of true e = sought.Resume e
 sought_of false e = sought.Catch e
 
@@ -67,7 +67,7 @@ behind_is true r m n k q = rw k q
 behind_is false r m n k q = rw k q
 
 -- a handler keeps its event first
-keeps : (code : Laid) (ns : List Mark) (h : Handler) (todo : List Todo) (a z : ℕ) → KeepsAt code h.line h.cell a z → FollowsAt code (Rest h.body ∷ (Within h.line ∷ todo)) ns z → FollowsAt code (handler_todo h todo) ns a
+keeps : (code : Laid) (ns : List CodeMark) (h : Handler) (todo : List Todo) (a z : ℕ) → KeepsAt code h.line h.cell a z → FollowsAt code (Rest h.body ∷ (Within h.line ∷ todo)) ns z → FollowsAt code (handler_todo h todo) ns a
 keeps code ns h todo a z k f =
     let x = k.first in
     let y = k.second.first in
@@ -109,7 +109,7 @@ keeps code ns h todo a z k f =
           };
     }
 
-module _ (code : Laid) (ms : List Mark) (exit : ℕ) where
+module _ (code : Laid) (ms : List CodeMark) (exit : ℕ) where
   -- a handler of this kind that was found by its row
   pub record Chosen (kind : Bool) (row : ℕ) (h : Handler) : Type 0 where
     pub event : Option ℕ
@@ -223,7 +223,7 @@ module _ (code : Laid) (ms : List Mark) (exit : ℕ) where
   follows_resumed row h c =
       let k = c.body.first in
       let b = c.body.second in
-      let ns : List Mark = mark.Outward 0 b.row ∷ ms in
+      let ns : List CodeMark = mark.Outward 0 b.row ∷ ms in
       keeps code ns h [] c.entry c.body.middle k
       (record {
         from = c.body.middle;

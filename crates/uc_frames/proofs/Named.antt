@@ -8,7 +8,7 @@ use Rattle.uc_code.specs.declared.rows.HandlerRow.{HandlerRow}
 use Rattle.uc_code.specs.declared.rows.RowKind.TheVariants as kind
 use Rattle.uc_code.specs.Layout.{covers, counted_by, from_row, from_newest, chain}
 use Rattle.uc_code.specs.RowTable.{name_or, covering_from}
-use Rattle.uc_frames.specs.declared.search.Sought.{Sought}
+use Rattle.uc_frames.specs.declared.search.HandlerQuery.{HandlerQuery}
 use Rattle.uc_frames.specs.Searches.{is_found, is_sought, first_in, behind_row, within, counted, own_row, named, last_of, IsHandler, IsSoughtAt}
 
 not_same : (n k : ℕ) → n ≤ k → nat_eq n (suc k) ≡ false
@@ -104,7 +104,7 @@ beyond_by : (b : Bool) (x : ℕ) (o p q : Option ℕ) → (o ≡ None → p ≡ 
 beyond_by true x o p q f e = absurd (cc)
 beyond_by false x o p q f e = f e
 
-module _ (w : Sought) (rows : List HandlerRow) where
+module _ (w : HandlerQuery) (rows : List HandlerRow) where
   first_found : (xs ys : List ℕ) (n : ℕ) → first_in w rows xs ≡ Some n → first_in w rows (xs ++ ys) ≡ Some n
   first_found [] ys n e = absurd (cc)
   first_found (x ∷ xs) ys n e = found_by (is_found w x (slice_get rows x)) x n (first_in w rows xs) (first_in w rows (xs ++ ys)) (first_found xs ys n) e
@@ -253,7 +253,7 @@ within_none rows n number at count round h e =
     let y : named rows at ≡ [] = ap (named rows) e ∙ z in
     z ∙ (sym (ap (within rows n round) y) ∙ h.same)
 
-pub none_first : (w : Sought) (rows : List HandlerRow) (at : ℕ) → at ≡ 0 → None ≡ first_in w rows (named rows at)
+pub none_first : (w : HandlerQuery) (rows : List HandlerRow) (at : ℕ) → at ≡ 0 → None ≡ first_in w rows (named rows at)
 none_first w rows at e = sym (ap (first_in w rows) (ap (named rows) e ∙ zero_named (reverse rows)))
 
 pub none_count : (rows : List HandlerRow) (at count all : ℕ) → at ≡ 0 → count + length (named rows at) ≡ all → count ≡ all
@@ -270,7 +270,7 @@ count_more rows at outer count all row q r h =
     let f : length (named rows at) ≡ suc (length (named rows outer)) = ap length (q ∙ ap (λ ns. ns ++ named rows outer) r.own) in omega arith
 
 -- a row that is looked for is the first one from there on
-module _ (w : Sought) (rows : List HandlerRow) (at : ℕ) (b : Bool) (s : IsSoughtAt w rows (at - 1) b) (t : b ≡ true) (p : 0 < at) (l : at ≤ length rows) where
+module _ (w : HandlerQuery) (rows : List HandlerRow) (at : ℕ) (b : Bool) (s : IsSoughtAt w rows (at - 1) b) (t : b ≡ true) (p : 0 < at) (l : at ≤ length rows) where
   pub sought_found : first_in w rows (named rows at) ≡ Some (at - 1)
   sought_found =
       let d : HandlerRow = record { from = 0; to = 0; outer = 0; kind = kind.Catch; event = 0; rest = 0; entry = 0 } in

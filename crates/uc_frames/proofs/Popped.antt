@@ -7,11 +7,11 @@ use Rattle.uc_machine.specs.Pieces.{Unwind}
 use Rattle.uc_machine.specs.Raising.{as_event, event_in}
 use Rattle.uc_code.specs.declared.op.Op.{Op}
 use Rattle.uc_code.specs.declared.op.Op.TheVariants as op
-use Rattle.uc_code.specs.declared.rows.Mark.{Mark}
+use Rattle.uc_code.specs.declared.rows.CodeMark.{CodeMark}
 use Rattle.uc_code.specs.Layout.{Laid, handlers, chain}
 use Rattle.uc_code.specs.CodeShapes.{OpAt, One, Risk, Both, Arrived}
 use Rattle.uc_frames.specs.declared.event.Event.{Event}
-use Rattle.uc_frames.specs.Machine.{Active, Machine, cell_of, cell_number, top, below, line_in}
+use Rattle.uc_frames.specs.Machine.{Activation, Machine, cell_of, cell_number, top, below, line_in}
 use Rattle.uc_frames.specs.StandsByParts.{Lined}
 use Rattle.uc_frames.specs.Stands.{image, GoesOn, FollowsAt, CallerStands, EnvironmentStands}
 use Rattle.uc_frames.specs.Unwinding.{cleaning, event_at}
@@ -53,15 +53,15 @@ event_is vs = ap raised_as (sym (popped vs))
 abbrev pub behind_event : Machine → Machine
 behind_event m = record m { run = record m.run { control = m.run.control + 1; operands = below (below (below m.run.operands)) } }
 
-module _ (code : Laid) (m : Machine) (s : State) (rest : List Todo) (ms : List Mark) (i : m.run ≡ image m.run.control s.run) (l : Lined (CallerStands code) m.callers s.callers) (e : EnvironmentStands code m.env s.env) where
+module _ (code : Laid) (m : Machine) (s : State) (rest : List Todo) (ms : List CodeMark) (i : m.run ≡ image m.run.control s.run) (l : Lined (CallerStands code) m.callers s.callers) (e : EnvironmentStands code m.env s.env) where
   abbrev left_operands : List Value
   left_operands = quiet.below (quiet.below (quiet.below s.run.operands))
 
   pub image_behind : (todo : List Todo) → (behind_event m).run ≡ image (m.run.control + 1) (record s.run { control = todo; operands = left_operands })
   image_behind todo =
-      let a : below (below (below m.run.operands)) ≡ map cell_of left_operands = ap (λ (x : Active). below (below (below x.operands))) i ∙ below_three s.run.operands in
-      ap (λ (x : Active). let y : Active = record x { control = m.run.control + 1; operands = below (below (below m.run.operands)) } in y) i
-      ∙ ap (λ os. let y : Active = record (image (m.run.control + 1) s.run) { operands = os } in y) a
+      let a : below (below (below m.run.operands)) ≡ map cell_of left_operands = ap (λ (x : Activation). below (below (below x.operands))) i ∙ below_three s.run.operands in
+      ap (λ (x : Activation). let y : Activation = record x { control = m.run.control + 1; operands = below (below (below m.run.operands)) } in y) i
+      ∙ ap (λ os. let y : Activation = record (image (m.run.control + 1) s.run) { operands = os } in y) a
 
   -- behind an op of its line, which has the handlers of the marks
   pub raises_as : (o : Op) → s.run.control ≡ RaiseNow ∷ rest → OpAt code m.run.control o (own_line rest) → chain code.rows (m.run.control + 1) ≡ handlers ms → FollowsAt code (DropNow ∷ rest) ms (m.run.control + 1) → Raises code (behind_event m) s
@@ -104,7 +104,7 @@ module _ (code : Laid) (m : Machine) (s : State) (rest : List Todo) (ms : List M
       rest = rest;
       todo = q;
       rows = record { marks = ms; at = from; follows = f; under = subst (λ n. chain code.rows n ≡ handlers ms) g.unwinds.end g.unwinds.under };
-      is = ap (λ (x : Active). cleaning (m.run.control + 1) x) i;
+      is = ap (λ (x : Activation). cleaning (m.run.control + 1) x) i;
     };
     callers = l;
     env = e;

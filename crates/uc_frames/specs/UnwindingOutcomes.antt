@@ -7,7 +7,7 @@ use Rattle.uc_machine.specs.Quiet.{Todo, Value, Active, Env, State, Quietly, IsW
 use Rattle.uc_machine.specs.Pieces.{Unwind}
 use Rattle.uc_machine.specs.Raising.{Event, Handler, handler_todo, operands_of}
 use Rattle.uc_code.specs.declared.rows.MainOf.{MainOf}
-use Rattle.uc_code.specs.declared.rows.Mark.{Mark}
+use Rattle.uc_code.specs.declared.rows.CodeMark.{CodeMark}
 use Rattle.uc_code.specs.Layout.{Laid}
 use Rattle.uc_code.specs.declared.op.Op.TheVariants as op
 use Rattle.uc_code.specs.CodeShapes.{OpAt, Risk, HandlerAt, clean_up, main_left}
@@ -33,7 +33,7 @@ module _ (source : Source) (code : Laid) (a : Active) (cs : List Active) (env : 
     pub entry : ℕ
     pub handler : HandlerAt code row (clean_up entry)
     pub todo : List Todo
-    pub marks : List Mark
+    pub marks : List CodeMark
     pub follows : FollowsAt code todo marks entry
     pub by : Quietly source s (st [] todo)
 
@@ -44,7 +44,7 @@ module _ (source : Source) (code : Laid) (a : Active) (cs : List Active) (env : 
     pub block : Todo
     pub whole : sort block ≡ IsWhole
     pub rest : List Todo
-    pub marks : List Mark
+    pub marks : List CodeMark
     pub tests : Risk code marks op.Handled (own_line rest) entry (entry + 1)
     pub follows : FollowsAt code rest marks (entry + 1)
     pub operands : List Value
@@ -57,7 +57,7 @@ module _ (source : Source) (code : Laid) (a : Active) (cs : List Active) (env : 
     pub call : Todo
     pub leaves : sort call ≡ IsClean LeavesIt
     pub rest : List Todo
-    pub marks : List Mark
+    pub marks : List CodeMark
     pub back : ℕ
     pub pad : ArrivesAt code (own_line rest) marks entry back
     pub at : ℕ
@@ -86,7 +86,7 @@ module _ (source : Source) (code : Laid) (a : Active) (cs : List Active) (env : 
     pub handler_at : HandlerAt code row (handler_of false named rest entry)
     pub handler : Handler
     pub todo : List Todo
-    pub marks : List Mark
+    pub marks : List CodeMark
     pub follows : FollowsAt code (handler_todo handler todo) marks entry
     pub by : Quietly source s (caught event handler todo)
 

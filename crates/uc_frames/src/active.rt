@@ -8,7 +8,7 @@ ghost use Rattle.uc_frames.specs.Objects.{arrived_at};
 ghost use Rattle.uc_frames.specs.Unwinding.{event_at, unwound_by, cleaning, catching, handler_of, operands_of};
 
 use crate::cell::{Cell, number_in};
-use crate::event::{Event, Handling, event_number};
+use crate::event::{Event, HandlerStart, event_number};
 use crate::operands::{
     drop_newest, event_operands, new_frame, push_event, put_event, put_on_many, put_on_top,
     put_on_two,
@@ -22,7 +22,7 @@ use uc_machine::exec::{UnwindReason, Visited};
 /// uses, whether it counts as an active call, how many elements stand of the array that it builds or destroys, how far the search
 /// came where it handles a resumption, why it is unwound, and what a return that unwinds it hands over. A call that wants memory in vain changes nothing.
 #[derive(Drop)]
-pub struct Active {
+pub struct Activation {
     next: u32,
     operands: Vec<Cell>,
     this: Cell,
@@ -34,22 +34,22 @@ pub struct Active {
     result: Cell,
 }
 
-impl Model for Active {
+impl Model for Activation {
     ghost use Rattle.std.specs.Prelude.{reverse};
-    ghost use Rattle.uc_frames.specs.Machine.{Active};
+    ghost use Rattle.uc_frames.specs.Machine.{Activation};
 
-    ghost Value = { Active };
+    ghost Value = { Activation };
 
     ghost view = { λ a. record { control = a.next; operands = reverse a.operands.items; this = a.this; frame = a.frame; counts = a.counts; elements = a.elements; handles = a.handles; raised = a.raised; result = a.result } };
 }
 
-impl Active {
+impl Activation {
     /// An activation as it begins, at this op, with an empty list for its operands.
-    pub fn new(operands: Vec<Cell>, entry: u32, this: Cell, frame: u32, counts: bool) -> Active
+    pub fn new(operands: Vec<Cell>, entry: u32, this: Cell, frame: u32, counts: bool) -> Activation
         requires { operands.items ≡ [] }
         ensures { result ≡ begun entry this frame Cell.Nothing counts }
     {
-        Active {
+        Activation {
             next: entry,
             operands,
             this,
@@ -63,12 +63,12 @@ impl Active {
     }
 
     /// An activation as a handler of a resumption begins, with room for its event in an empty list for its operands.
-    pub fn handler(operands: Vec<Cell>, handling: Handling) -> Active
+    pub fn handler(operands: Vec<Cell>, handling: HandlerStart) -> Activation
         requires empty { operands.items ≡ [] }
         requires room { 3 ≤ vec_capacity operands }
         ensures { result ≡ handler_of handling }
     {
-        Active {
+        Activation {
             next: handling.entry,
             operands: event_operands(operands, handling.event),
             this: handling.this,

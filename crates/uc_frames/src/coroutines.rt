@@ -11,7 +11,7 @@ ghost use Rattle.uc_frames.specs.Unwinding.{delivered};
 
 use crate::cell::{Cell, exec_in};
 use crate::numbered::{is_same_home, position};
-use crate::parked::Parked;
+use crate::parked::ParkedStack;
 use crate::work::Work;
 use std::alloc::AllocError;
 use uc_code::rows::RoutineCode;
@@ -109,7 +109,7 @@ impl Work {
         }
     }
 
-    fn add(&mut self, home: Home, stack: Parked) -> Result<(), AllocError>
+    fn add(&mut self, home: Home, stack: ParkedStack) -> Result<(), AllocError>
         ensures ok { OnOk result (self.new ≡ record self.old { env = born home stack self.old.env }) }
         ensures err { OnErr result (self.new ≡ self.old) }
     {

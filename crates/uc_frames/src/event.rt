@@ -18,7 +18,7 @@ pub struct Event {
 /// A resumption handler that begins: its first op, the object and the depth of the frame that it uses, how far the search for it
 /// came, and its event.
 #[derive(Clone, Copy)]
-pub struct Handling {
+pub struct HandlerStart {
     pub entry: u32,
     pub this: Cell,
     pub frame: u32,

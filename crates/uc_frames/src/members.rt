@@ -12,7 +12,7 @@ ghost use Rattle.uc_frames.specs.Machine.{nought, cell_written, lively, pended};
 use crate::cell::Cell;
 use crate::frames::{get, put, zeros};
 use crate::numbered::position_in_order;
-use crate::parked::Parked;
+use crate::parked::ParkedStack;
 use std::alloc::{AllocError, Global};
 use std::marker::Model;
 use std::mem;
@@ -25,7 +25,7 @@ use uc_machine::exec::Pending;
 pub struct Members {
     cells: Vec<Cell>,
     serial: u64,
-    parked: List<(u64, Option<Parked>)>,
+    parked: List<(u64, Option<ParkedStack>)>,
     engaged: u64,
 }
 
@@ -84,7 +84,7 @@ impl Members {
     }
 
     /// The execution of that number, if it is left and does not run.
-    pub fn parked(&self, serial: u64) -> Option<&Parked>
+    pub fn parked(&self, serial: u64) -> Option<&ParkedStack>
         ensures { MatchOption result (joined (find serial self.now.parked) ≡ None) (λ s. joined (find serial self.now.parked) ≡ Some s.now) }
     {
         match position_in_order(&self.parked, serial) {
@@ -120,7 +120,7 @@ impl Members {
     }
 
     /// One more execution is left here. A home at which `u64::MAX` were made has no more.
-    pub fn add(&mut self, stack: Parked) -> Result<(), AllocError>
+    pub fn add(&mut self, stack: ParkedStack) -> Result<(), AllocError>
         ensures ok { OnOk result (self.new ≡ one_more stack self.old) }
         ensures err { OnErr result (self.new ≡ self.old) }
     {
@@ -136,7 +136,7 @@ impl Members {
     }
 
     /// That execution is left here as this, or runs where it is nothing. What was left of it is handed over.
-    pub fn exchange(&mut self, serial: u64, slot: Option<Parked>) -> Option<Parked>
+    pub fn exchange(&mut self, serial: u64, slot: Option<ParkedStack>) -> Option<ParkedStack>
         ensures value { result ≡ joined (find serial self.old.parked) }
         ensures after { self.new ≡ slot_set serial slot self.old }
     {
@@ -191,7 +191,7 @@ impl Members {
 }
 
 // 1 of an execution that has a mutex call that has not ended, or builds a mutex object; else 0.
-fn engaged_in(slot: &Option<Parked>) -> u64
+fn engaged_in(slot: &Option<ParkedStack>) -> u64
     ensures { result ≡ engaged_in slot.now }
 {
     match slot {

@@ -17,11 +17,11 @@ use uc_machine::exec::{Exec, Pending, UnwindReason};
 
 /// A stack in a place of its own, so that it is handed on without being moved. Contracts see the stack.
 #[derive(Drop)]
-pub struct Parked {
+pub struct ParkedStack {
     stack: Box<Stack>,
 }
 
-impl Model for Parked {
+impl Model for ParkedStack {
     ghost use Rattle.std.specs.Prelude.{ℕ};
     ghost use Rattle.uc_machine.specs.Executions.{Execution};
     ghost use Rattle.uc_frames.specs.declared.cell.Cell.{Cell};
@@ -31,14 +31,14 @@ impl Model for Parked {
     ghost view = { λ p. p.stack.value };
 }
 
-impl Parked {
+impl ParkedStack {
     /// An execution for this object, whose main has not begun.
-    pub fn fresh(alloc: Global, routine: RoutineCode, this: Cell) -> Result<Parked, AllocError>
+    pub fn fresh(alloc: Global, routine: RoutineCode, this: Cell) -> Result<ParkedStack, AllocError>
         ensures { IfOk result (λ p. p ≡ fresh_execution routine this) }
     {
         let stack = Stack::fresh(alloc, routine, this)?;
         let stack = Box::new(alloc, stack)?;
-        Ok(Parked { stack })
+        Ok(ParkedStack { stack })
     }
 
     /// This one runs from now on, and the one that ran is left here.

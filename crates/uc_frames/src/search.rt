@@ -10,14 +10,14 @@ use uc_code::rows::{ANY_EVENT, HandlerRow, NO_EVENT, RowKind};
 /// What is looked for: a handler that catches an event or takes it as a resumption, or what stops an unwinding, which is a
 /// clean-up or the row of this number.
 #[derive(Clone, Copy)]
-pub enum Sought {
+pub enum HandlerQuery {
     Catch(u8),
     Resume(u8),
     Stop(Option<u32>),
 }
 
 /// The first of the handlers of the op before `next` that is looked for, by the number of its row.
-pub fn first_handler(code: &Code, next: u32, sought: Sought) -> Option<u32>
+pub fn first_handler(code: &Code, next: u32, sought: HandlerQuery) -> Option<u32>
     ensures { result ≡ first_in sought code.now.rows (chain code.now.rows next) }
 {
     let rows = code.rows();
@@ -25,7 +25,7 @@ pub fn first_handler(code: &Code, next: u32, sought: Sought) -> Option<u32>
 }
 
 /// The same within so many of them, where all handlers of a guarded block are passed over together.
-pub fn first_within(code: &Code, next: u32, rest: u32, sought: Sought) -> Option<u32>
+pub fn first_within(code: &Code, next: u32, rest: u32, sought: HandlerQuery) -> Option<u32>
     ensures { result ≡ first_in sought code.now.rows (chain_within rest code.now.rows next) }
 {
     let rows = code.rows();
@@ -42,7 +42,7 @@ fn covering(code: &Code, next: u32) -> usize
 }
 
 // The first one of a row and those outwards of it.
-fn first_from(rows: &[HandlerRow], number: usize, sought: Sought) -> Option<u32>
+fn first_from(rows: &[HandlerRow], number: usize, sought: HandlerQuery) -> Option<u32>
     requires few { length rows.now < 2 ^ 32 }
     requires near { number ≤ length rows.now }
     ensures { result ≡ first_in sought rows.now (named rows.now number) }
@@ -58,7 +58,7 @@ fn first_from(rows: &[HandlerRow], number: usize, sought: Sought) -> Option<u32>
 }
 
 // Whether a row, by its number plus 1, is one that is looked for.
-fn is_sought_at(rows: &[HandlerRow], at: usize, sought: Sought) -> bool
+fn is_sought_at(rows: &[HandlerRow], at: usize, sought: HandlerQuery) -> bool
     requires few { length rows.now < 2 ^ 32 }
     requires first { 0 < at }
     requires near { at ≤ length rows.now }
@@ -151,13 +151,13 @@ fn round_behind(row: HandlerRow, count: usize) -> usize
     }
 }
 
-fn seeks(sought: Sought, number: u32, row: HandlerRow) -> bool
+fn seeks(sought: HandlerQuery, number: u32, row: HandlerRow) -> bool
     ensures { result ≡ is_sought sought number row }
 {
     match sought {
-        Sought::Catch(event) => catches(row.kind) && takes(row, event),
-        Sought::Resume(event) => resumes(row.kind) && takes(row, event),
-        Sought::Stop(named) => is_named(named, number) || cleans(row.kind),
+        HandlerQuery::Catch(event) => catches(row.kind) && takes(row, event),
+        HandlerQuery::Resume(event) => resumes(row.kind) && takes(row, event),
+        HandlerQuery::Stop(named) => is_named(named, number) || cleans(row.kind),
     }
 }
 

@@ -13,10 +13,10 @@ ghost use Rattle.uc_machine.specs.declared.exec.UnwindReason.TheVariants as reas
 ghost use Rattle.uc_machine.specs.declared.exec.Stage.TheVariants.{Ended};
 ghost use Rattle.uc_tree.specs.declared.limits.TheConstants.{CALLS};
 
-use crate::active::Active;
+use crate::active::Activation;
 use crate::call::Call;
 use crate::cell::Cell;
-use crate::event::{Event, Handling, event_of};
+use crate::event::{Event, HandlerStart, event_of};
 use crate::frames::{clear_in, get_in, put_in, zeros};
 use crate::links::Links;
 use std::alloc::{AllocError, Global};
@@ -31,8 +31,8 @@ use uc_machine::exec::{Exec, Pending, UnwindReason, Visited};
 #[derive(Drop)]
 pub struct Stack {
     alloc: Global,
-    running: Active,
-    callers: Vec<Active>,
+    running: Activation,
+    callers: Vec<Activation>,
     frames: Vec<Vec<Cell>>,
     links: Links,
     spare: Vec<Vec<Cell>>,
@@ -60,7 +60,7 @@ impl Stack {
         frames.push(frame)?;
         Ok(Stack {
             alloc,
-            running: Active::new(Vec::new(alloc), routine.entry, this, 0, false),
+            running: Activation::new(Vec::new(alloc), routine.entry, this, 0, false),
             callers: Vec::new(alloc),
             frames,
             links: Links::new(alloc),
@@ -165,7 +165,7 @@ impl Stack {
     }
 
     /// The activation that has so many below it.
-    pub fn activation(&self, level: u32) -> Option<&Active>
+    pub fn activation(&self, level: u32) -> Option<&Activation>
         ensures { MatchOption result (at_depth (self.now.run ∷ self.now.callers) level ≡ None) (λ a. at_depth (self.now.run ∷ self.now.callers) level ≡ Some a.now) }
     {
         let waiting = self.callers.len();
@@ -197,7 +197,7 @@ impl Stack {
         let frame = self.running.frame_of_call(empty, call.routine)?;
         self.callers.reserve(1)?;
         self.frames.push(frame)?;
-        let callee = Active::new(operands, call.routine.entry, call.this, depth, call.counts);
+        let callee = Activation::new(operands, call.routine.entry, call.this, depth, call.counts);
         let mut caller = mem::replace(&mut self.running, callee);
         caller.wait_for(call.taken);
         self.callers.push_reserved(caller);
@@ -242,7 +242,7 @@ impl Stack {
     }
 
     /// The handler of a resumption begins on top, with an empty frame of its own. A stack of `u32::MAX` frames or calls has no more.
-    pub fn enter_handler(&mut self, handling: Handling) -> Result<(), AllocError>
+    pub fn enter_handler(&mut self, handling: HandlerStart) -> Result<(), AllocError>
         ensures ok { OnOk result (self.new ≡ stack_handled handling self.old) }
         ensures err { OnErr result (self.new ≡ self.old) }
     {
@@ -257,14 +257,14 @@ impl Stack {
         operands.reserve(3)?;
         self.callers.reserve(1)?;
         self.frames.push(frame)?;
-        let handler = Active::handler(operands, handling);
+        let handler = Activation::handler(operands, handling);
         let raiser = mem::replace(&mut self.running, handler);
         self.callers.push_reserved(raiser);
         Ok(())
     }
 
     // This activation goes on in the place of the newest one, which goes with its frame.
-    fn go_back(&mut self, caller: Active)
+    fn go_back(&mut self, caller: Activation)
         ensures { self.new ≡ record self.old { run = caller; frames = drop 1 self.old.frames; links = one_call_less self.old.run.counts self.old.links } }
     {
         let left = mem::replace(&mut self.running, caller);
@@ -548,7 +548,7 @@ fn keep_list(spare: &mut Vec<Vec<Cell>>, list: Vec<Cell>) {
 }
 
 // The line of an op, or of the newest of these calls that has one.
-fn line_from(code: &Code, callers: &[Active], line: u32) -> u32
+fn line_from(code: &Code, callers: &[Activation], line: u32) -> u32
     ensures { result ≡ line_at code.now.ops line (reverse callers.now) }
 {
     match callers.split_last() {

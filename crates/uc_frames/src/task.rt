@@ -12,15 +12,15 @@ ghost use Rattle.uc_frames.specs.Objects.{arrived_at};
 ghost use Rattle.uc_frames.specs.Unwinding.{IsCaller, event_at, unwound_by, cleaning, catching, passed, handled, delivered};
 ghost use Rattle.uc_tree.specs.declared.limits.TheConstants.{CALLS};
 
-use crate::active::Active;
+use crate::active::Activation;
 use crate::call::Call;
 use crate::cell::Cell;
-use crate::event::{Event, Handling};
+use crate::event::{Event, HandlerStart};
 use crate::inside::Depths;
 use crate::links::Links;
 use crate::members::Members;
 use crate::numbered::is_same;
-use crate::parked::Parked;
+use crate::parked::ParkedStack;
 use crate::pieces::Pieces;
 use crate::stack::Stack;
 use std::alloc::{AllocError, Global};
@@ -221,7 +221,7 @@ impl Task {
         self.running.level()
     }
 
-    pub(crate) fn activation(&self, level: u32) -> Option<&Active>
+    pub(crate) fn activation(&self, level: u32) -> Option<&Activation>
         ensures { MatchOption result (at_depth (self.now.run ∷ self.now.callers) level ≡ None) (λ a. at_depth (self.now.run ∷ self.now.callers) level ≡ Some a.now) }
     {
         self.running.activation(level)
@@ -235,7 +235,7 @@ impl Task {
         called
     }
 
-    pub(crate) fn enter_handler(&mut self, handling: Handling) -> Result<(), AllocError>
+    pub(crate) fn enter_handler(&mut self, handling: HandlerStart) -> Result<(), AllocError>
         ensures ok { OnOk result (self.new ≡ handled handling self.old) }
         ensures err { OnErr result (self.new ≡ self.old) }
     {
@@ -378,7 +378,7 @@ impl Task {
     }
 
     // Another execution runs from now on; the one that ran is handed over in its place.
-    pub(crate) fn run(&mut self, exec: Exec, stack: Parked) -> Parked
+    pub(crate) fn run(&mut self, exec: Exec, stack: ParkedStack) -> ParkedStack
         ensures value { result ≡ stopped self.old }
         ensures after { self.new ≡ spread exec stack self.old.env }
     {
@@ -389,15 +389,15 @@ impl Task {
     }
 
     // An execution for the object at hand, whose main is this routine and has not begun.
-    pub(crate) fn fresh(&self, routine: RoutineCode, this: Cell) -> Result<Parked, AllocError>
+    pub(crate) fn fresh(&self, routine: RoutineCode, this: Cell) -> Result<ParkedStack, AllocError>
         ensures { IfOk result (λ s. s ≡ fresh_execution routine this) }
     {
-        let stack = Parked::fresh(self.alloc, routine, this)?;
+        let stack = ParkedStack::fresh(self.alloc, routine, this)?;
         Ok(stack)
     }
 
     // One more execution is left at home in the task of that object, if it is this one.
-    pub(crate) fn add(&mut self, task: u32, stack: Parked) -> Result<(), AllocError>
+    pub(crate) fn add(&mut self, task: u32, stack: ParkedStack) -> Result<(), AllocError>
         ensures ok { OnOk result (self.new ≡ record self.old { env = born (Home.Task task) stack self.old.env }) }
         ensures err { OnErr result (self.new ≡ self.old) }
     {
@@ -413,8 +413,8 @@ impl Task {
         &mut self,
         task: u32,
         serial: u64,
-        slot: Option<Parked>,
-    ) -> Option<Parked>
+        slot: Option<ParkedStack>,
+    ) -> Option<ParkedStack>
         ensures value { result ≡ joined (slot_in serial (members_at (Home.Task task) self.old.env)) }
         ensures after { self.new ≡ record self.old { env = change (Home.Task task) (slot_set serial slot) self.old.env } }
     {

@@ -13,13 +13,13 @@ ghost use Rattle.uc_frames.specs.Calls.{left, called};
 ghost use Rattle.uc_frames.specs.Unwinding.{IsCaller, event_at, unwound_by, cleaning, catching, passed, handled, delivered};
 ghost use Rattle.uc_tree.specs.declared.limits.TheConstants.{CALLS, UNHANDLED};
 
-use crate::active::Active;
+use crate::active::Activation;
 use crate::call::Call;
 use crate::cell::{Cell, exec_in};
-use crate::event::{Event, Handling};
+use crate::event::{Event, HandlerStart};
 use crate::members::Members;
 use crate::numbered::{is_same_home, position};
-use crate::parked::Parked;
+use crate::parked::ParkedStack;
 use crate::pieces::Pieces;
 use crate::task::Task;
 use std::alloc::{AllocError, Global};
@@ -140,7 +140,7 @@ impl Work {
     }
 
     /// The activation that has so many below it.
-    pub fn activation(&self, level: u32) -> Option<&Active>
+    pub fn activation(&self, level: u32) -> Option<&Activation>
         ensures { MatchOption result (at_depth (self.now.run ∷ self.now.callers) level ≡ None) (λ a. at_depth (self.now.run ∷ self.now.callers) level ≡ Some a.now) }
     {
         self.task.activation(level)
@@ -157,7 +157,7 @@ impl Work {
     }
 
     /// The handler of a resumption begins on top, with an empty frame of its own.
-    pub fn enter_handler(&mut self, handling: Handling) -> Result<(), AllocError>
+    pub fn enter_handler(&mut self, handling: HandlerStart) -> Result<(), AllocError>
         ensures ok { OnOk result (self.new ≡ handled handling self.old) }
         ensures err { OnErr result (self.new ≡ self.old) }
     {
@@ -415,7 +415,7 @@ impl Work {
     }
 
     // An execution in hand that does not run.
-    pub(crate) fn parked(&self, exec: Exec) -> Option<&Parked>
+    pub(crate) fn parked(&self, exec: Exec) -> Option<&ParkedStack>
         ensures { MatchOption result (parked_at exec self.now.env ≡ None) (λ s. parked_at exec self.now.env ≡ Some s.now) }
     {
         match self.members(exec.home) {
@@ -573,7 +573,7 @@ impl Work {
     }
 
     // The running execution stops, and this one, which was taken out, goes on.
-    fn run(&mut self, exec: Exec, stack: Parked)
+    fn run(&mut self, exec: Exec, stack: ParkedStack)
         ensures { self.new ≡ spread exec stack (set_slot self.old.env.exec (Some (stopped self.old)) self.old.env) }
     {
         let stops = self.task.exec();
@@ -582,7 +582,7 @@ impl Work {
     }
 
     // An execution in hand is left as this, or runs where it is nothing; what was left of it is handed over.
-    fn exchange(&mut self, exec: Exec, slot: Option<Parked>) -> Option<Parked>
+    fn exchange(&mut self, exec: Exec, slot: Option<ParkedStack>) -> Option<ParkedStack>
         ensures value { result ≡ parked_at exec self.old.env }
         ensures after { self.new ≡ record self.old { env = set_slot exec slot self.old.env } }
     {

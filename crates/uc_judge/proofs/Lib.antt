@@ -12,3 +12,4 @@ pub mod Offering
 pub mod Settling
 pub mod Housing
 pub mod Below
+pub mod Stacking

@@ -33,7 +33,7 @@ opened_step kind.Accept e xs = by (holds 0 e.d)
 opened_step kind.Admit e xs = ap (λ l. opened_of (l ++ [])) (none_kept xs)
 opened_step k e xs = stays xs
 
-not_at : (k q : ℕ) → (k ≡ q → ⊥) → is_at (nat_cmp k) q ≡ false
+pub not_at : (k q : ℕ) → (k ≡ q → ⊥) → is_at (nat_cmp k) q ≡ false
 not_at k q n = by (nat_lt k q) (k == q) (ne_eqb k q n)
   where
     by : (b e : Bool) → e ≡ false → is_eq (cond b Less (cond e Equal Greater)) ≡ false

@@ -26,7 +26,7 @@ use Rattle.uc_kernel_core.specs.Mirrors.{Seen, Appended}
 use Rattle.uc_kernel_core.specs.CoreActs.{IsReady, IsFirst, Gave, GaveNone}
 use Rattle.uc_kernel_core.specs.CoreActs as book
 use Rattle.uc_kernel.specs.declared.given.Given.{Given}
-use Rattle.uc_kernel.specs.declared.rests.Rest.{Rest}
+use Rattle.uc_kernel.specs.declared.rests.TaskAtRest.{TaskAtRest}
 use Rattle.uc_kernel.specs.Numbered.{or_else, gathered}
 use Rattle.uc_kernel.specs.KernelState.{Same, stored, kept, handed, with_entry, member_among, task_in}
 use Rattle.uc_kernel.specs.Calls.{HandsOut, Gives, GivesNone, Dispatched}
@@ -58,7 +58,7 @@ seen_is s s' a h =
 pub differ : (u t : ℕ) → (u == t) ≡ false → u ≢ t
 differ u t h e = no_both (u == t) (eq-eqb u t e) h
 
-module _ {T M : Type 0} (s : Seen) (tasks : List (Option (Rest T M))) (loose : List (Option M)) (k : IsKept s tasks loose) (going : is_over s.journal ≡ false) where
+module _ {T M : Type 0} (s : Seen) (tasks : List (Option (TaskAtRest T M))) (loose : List (Option M)) (k : IsKept s tasks loose) (going : is_over s.journal ≡ false) where
   abbrev j : Journal
   j = s.journal
 
@@ -119,13 +119,13 @@ module _ {T M : Type 0} (s : Seen) (tasks : List (Option (Rest T M))) (loose : L
         by true g = ap (λ w. get_or (set tasks t None) w None) (eqb-true u t g) ∙ get_or-set_same tasks t None None known
         by false g = get_or-set_other tasks t u None None (differ u t g) ∙ h
 
-    other : (u : ℕ) (r : Rest T M) → slice_index_or (slice_set tasks t None) u None ≡ Some r → (u == t) ≡ false
+    other : (u : ℕ) (r : TaskAtRest T M) → slice_index_or (slice_set tasks t None) u None ≡ Some r → (u == t) ≡ false
     other u r h = not_true (u == t) (λ g. clash (sym (ap (λ w. get_or (set tasks t None) w None) (eqb-true u t g) ∙ get_or-set_same tasks t None None known) ∙ h))
       where
         clash : None ≡ Some r → ⊥
         clash e = cc
 
-    stays : (u : ℕ) (r : Rest T M) → slice_index_or (slice_set tasks t None) u None ≡ Some r → slice_index_or tasks u None ≡ Some r
+    stays : (u : ℕ) (r : TaskAtRest T M) → slice_index_or (slice_set tasks t None) u None ≡ Some r → slice_index_or tasks u None ≡ Some r
     stays u r h = sym (get_or-set_other tasks t u None None (differ u t (other u r h))) ∙ h
 
     pub lies_given : Lies (s.journal ++ dispatch p t ∷ []) (slice_set tasks t None) loose
@@ -211,7 +211,7 @@ module _ {T M : Type 0} (s : Seen) (tasks : List (Option (Rest T M))) (loose : L
       }
 
   -- a dispatch that gave a task
-  module _ (p t : ℕ) (s' : Seen) (gave : Gave s s' p t) (tasks' : List (Option (Rest T M))) (tasks_is : tasks' ≡ slice_set tasks t None) where
+  module _ (p t : ℕ) (s' : Seen) (gave : Gave s s' p t) (tasks' : List (Option (TaskAtRest T M))) (tasks_is : tasks' ≡ slice_set tasks t None) where
     pub kept_some : IsKept s' tasks' loose
     kept_some =
         subst (λ x. IsKept x tasks' loose) (sym (seen_is s s' (dispatch p t ∷ []) gave.appended)) (subst (λ l. IsKept (seen_of (s.journal ++ dispatch p t ∷ []) s.sites s.opts s.input) l loose) (sym tasks_is) (kept_given p t gave.first.serves gave.room))

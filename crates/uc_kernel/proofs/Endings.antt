@@ -11,7 +11,7 @@ use Rattle.uc_acts.specs.Journal.{Journal, held, is_over}
 use Rattle.uc_acts.specs.Known.{has, is_gone_by, takes_object, takes_out, spawns}
 use Rattle.uc_acts.specs.Sound.{Sound}
 use Rattle.uc_kernel_core.specs.Mirrors.{Seen}
-use Rattle.uc_kernel.specs.declared.rests.Rest.{Rest}
+use Rattle.uc_kernel.specs.declared.rests.TaskAtRest.{TaskAtRest}
 use Rattle.uc_kernel.specs.Numbered.{keys, or_else, without}
 use Rattle.uc_kernel.specs.KernelState.{Kept, kept, stored, put_back, task_in, member_in, member_among}
 use Rattle.uc_kernel.specs.Calls.{Ends}
@@ -22,11 +22,11 @@ use Rattle.uc_kernel.proofs.Lying.{loose_none, others_none, nowhere_else}
 use Rattle.uc_kernel.proofs.Stages.{differ, find_out, find_kept}
 
 -- an act of task t from the journal j ends the run; the first entry alone may destroy an object
-module _ {T M : Type 0} (s : Seen) (t : ℕ) (j : Journal) (a : List Entry) (after : s.journal ≡ j ++ a) (over : is_over s.journal ≡ true) (sound : Sound j) (items : List (ℕ × M)) (hand_is : keys items ≡ held t j) (tasks : List (Option (Rest T M))) (loose : List (Option M)) (lies : Lies j tasks loose) (mine : slice_index_or tasks t None ≡ None) (known : t < length tasks) (born : (u : ℕ) → spawns a u ≡ false) (first : Entry) (takes : (k : ℕ) → takes_out a k ≡ takes_object first.kind first k) (held_it : (k : ℕ) → takes_object first.kind first k ≡ true → has (held t j) k ≡ true) (value : T) (members' : Listed (ℕ × M)) (dropped : members'.items ≡ (if is_gone_by first.kind then without first.object items else items)) (wanted : Bool) (child : Option T) where
-  abbrev rest : Rest T M
+module _ {T M : Type 0} (s : Seen) (t : ℕ) (j : Journal) (a : List Entry) (after : s.journal ≡ j ++ a) (over : is_over s.journal ≡ true) (sound : Sound j) (items : List (ℕ × M)) (hand_is : keys items ≡ held t j) (tasks : List (Option (TaskAtRest T M))) (loose : List (Option M)) (lies : Lies j tasks loose) (mine : slice_index_or tasks t None ≡ None) (known : t < length tasks) (born : (u : ℕ) → spawns a u ≡ false) (first : Entry) (takes : (k : ℕ) → takes_out a k ≡ takes_object first.kind first k) (held_it : (k : ℕ) → takes_object first.kind first k ≡ true → has (held t j) k ≡ true) (value : T) (members' : Listed (ℕ × M)) (dropped : members'.items ≡ (if is_gone_by first.kind then without first.object items else items)) (wanted : Bool) (child : Option T) where
+  abbrev rest : TaskAtRest T M
   rest = record { task = value; members = members' }
 
-  abbrev tasks3 : List (Option (Rest T M))
+  abbrev tasks3 : List (Option (TaskAtRest T M))
   tasks3 = slice_set tasks t (Some (record { task = value; members = members' }))
 
   abbrev back : Kept T M

@@ -22,7 +22,7 @@ use Rattle.uc_kernel_core.specs.Mirrors.{Seen}
 use Rattle.uc_kernel.specs.declared.given.Given.{Given}
 use Rattle.uc_kernel.specs.declared.given.Next.{Next}
 use Rattle.uc_kernel.specs.declared.given.Next.TheVariants.{Go, Blocked, Ended}
-use Rattle.uc_kernel.specs.declared.rests.Rest.{Rest}
+use Rattle.uc_kernel.specs.declared.rests.TaskAtRest.{TaskAtRest}
 use Rattle.uc_kernel.specs.Numbered.{keys, or_else, gathered}
 use Rattle.uc_kernel.specs.KernelState.{Kept, kept, stored, put_back, task_in, member_in, member_among}
 use Rattle.uc_kernel.specs.Calls.{Goes, Blocks, Follows}
@@ -43,7 +43,7 @@ one_of t r xs (inl none) h = clash (sym h ∙ none)
 one_of t r xs (inr one) h = one
 
 -- the journal i goes on from j by the act a of task t on p, and this came of it
-module _ {T M : Type 0} (s : Seen) (t p : ℕ) (j : Journal) (a : List Entry) (after : s.journal ≡ j ++ a) (runs_on : KernelRuns s.opts s.sites s.input s.journal) (range : InRange s.opts) (runs0 : KernelRuns s.opts s.sites s.input j) (runs : running p j ≡ t ∷ []) (sound0 : Sound j) (apart_runs : (q : ℕ) → (q == p) ≡ false → running q s.journal ≡ running q j) (items : List (ℕ × M)) (child : Option T) (tasks : List (Option (Rest T M))) (loose : List (Option M)) (lies : Lies j tasks loose) (hand2 : Listed (ℕ × M)) (tasks2 : List (Option (Rest T M))) (loose2 : List (Option M)) (d : Done t p j s.journal a items child tasks loose hand2 tasks2 loose2) where
+module _ {T M : Type 0} (s : Seen) (t p : ℕ) (j : Journal) (a : List Entry) (after : s.journal ≡ j ++ a) (runs_on : KernelRuns s.opts s.sites s.input s.journal) (range : InRange s.opts) (runs0 : KernelRuns s.opts s.sites s.input j) (runs : running p j ≡ t ∷ []) (sound0 : Sound j) (apart_runs : (q : ℕ) → (q == p) ≡ false → running q s.journal ≡ running q j) (items : List (ℕ × M)) (child : Option T) (tasks : List (Option (TaskAtRest T M))) (loose : List (Option M)) (lies : Lies j tasks loose) (hand2 : Listed (ℕ × M)) (tasks2 : List (Option (TaskAtRest T M))) (loose2 : List (Option M)) (d : Done t p j s.journal a items child tasks loose hand2 tasks2 loose2) where
   sound : Sound s.journal
   sound = (good_whole s.opts s.sites s.input runs_on).sound
 
@@ -112,13 +112,13 @@ module _ {T M : Type 0} (s : Seen) (t p : ℕ) (j : Journal) (a : List Entry) (a
       there now u false e lt f = there_else u e lt f
 
   module _ (known : t < length tasks) (value : T) where
-    abbrev rest : Rest T M
+    abbrev rest : TaskAtRest T M
     rest = record { task = value; members = hand2 }
 
     known2 : t < length tasks2
     known2 = known_then known
 
-    abbrev tasks3 : List (Option (Rest T M))
+    abbrev tasks3 : List (Option (TaskAtRest T M))
     tasks3 = slice_set tasks2 t (Some (record { task = value; members = hand2 }))
 
     at_t : slice_index_or tasks3 t None ≡ Some rest
@@ -139,15 +139,15 @@ module _ {T M : Type 0} (s : Seen) (t p : ℕ) (j : Journal) (a : List Entry) (a
       there = λ u lt f. there u (u == t) refl (subst (λ n. u < n) (length-set tasks2 t (Some rest)) lt) f;
     }
       where
-        is_rest : (u : ℕ) (r : Rest T M) → (u == t) ≡ true → slice_index_or tasks3 u None ≡ Some r → rest ≡ r
+        is_rest : (u : ℕ) (r : TaskAtRest T M) → (u == t) ≡ true → slice_index_or tasks3 u None ≡ Some r → rest ≡ r
         is_rest u r e f = some-same (sym at_t ∙ ap (λ v. slice_index_or tasks3 v None) (sym (eqb-true u t e)) ∙ f)
 
-        hands : (u : ℕ) (r : Rest T M) (c : Bool) → (u == t) ≡ c → slice_index_or tasks3 u None ≡ Some r → keys r.members.items ≡ held u s.journal
+        hands : (u : ℕ) (r : TaskAtRest T M) (c : Bool) → (u == t) ≡ c → slice_index_or tasks3 u None ≡ Some r → keys r.members.items ≡ held u s.journal
         hands u r true e f =
             ap (λ x. keys x.members.items) (sym (is_rest u r e f)) ∙ d.mid.hand_is ∙ ap (λ v. held v s.journal) (sym (eqb-true u t e))
         hands u r false e f = d.mid.hands u r (sym (at_other u e) ∙ f)
 
-        room : (u : ℕ) (r : Rest T M) (c : Bool) → (u == t) ≡ c → slice_index_or tasks3 u None ≡ Some r → is_ready (spot u s.journal) ≡ false → 1 ≤ r.members.spare
+        room : (u : ℕ) (r : TaskAtRest T M) (c : Bool) → (u == t) ≡ c → slice_index_or tasks3 u None ≡ Some r → is_ready (spot u s.journal) ≡ false → 1 ≤ r.members.spare
         room u r true e f n = subst (λ x. 1 ≤ x.members.spare) (is_rest u r e f) (d.own_room free)
         room u r false e f n = d.room u r (sym (at_other u e) ∙ f) n
 
@@ -255,14 +255,14 @@ module _ {T M : Type 0} (s : Seen) (t p : ℕ) (j : Journal) (a : List Entry) (a
           members o None f =
               ap (or_else (slice_index_or loose2 o None)) (among_same o t (Some rest) tasks2 (f ∙ ap (member_in o) (sym d.mid.mine))) ∙ ap (λ z. or_else z (or_else (slice_index_or loose2 o None) (member_among o tasks2))) (sym f) ∙ d.view o
 
-      pub follows : (next : Next T M) (tasks' : List (Option (Rest T M))) → is_over s.journal ≡ false → HandedOn s p t value hand2 tasks2 next tasks' → Follows back (kept (stored s wanted tasks' loose2)) p t next
+      pub follows : (next : Next T M) (tasks' : List (Option (TaskAtRest T M))) → is_over s.journal ≡ false → HandedOn s p t value hand2 tasks2 next tasks' → Follows back (kept (stored s wanted tasks' loose2)) p t next
       follows (Go g) tasks' going w =
           subst (λ l. Goes back (kept (stored s wanted l loose2)) p t g) (sym w.rest) (goes g going (record { runner = w.runner; runs = w.runs; processor = w.processor; task = w.task; members_are = w.members_are; answer = w.answer; left = w.left; rest = refl }))
       follows Blocked tasks' going w =
           subst (λ l. Blocks back (kept (stored s wanted l loose2)) p) (sym w.rest) (blocks going w.free)
       follows Ended tasks' going w = absurd w
 
-    pub lies_on : (next : Next T M) (tasks' : List (Option (Rest T M))) → HandedOn s p t value hand2 tasks2 next tasks' → Lies s.journal tasks' loose2
+    pub lies_on : (next : Next T M) (tasks' : List (Option (TaskAtRest T M))) → HandedOn s p t value hand2 tasks2 next tasks' → Lies s.journal tasks' loose2
     lies_on (Go g) tasks' w = subst (λ l. Lies s.journal l loose2) (sym w.rest) (lies_going w.runner w.runs)
     lies_on Blocked tasks' w = subst (λ l. Lies s.journal l loose2) (sym w.rest) (lies_blocked w.free)
     lies_on Ended tasks' w = absurd w

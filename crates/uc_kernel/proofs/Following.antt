@@ -27,7 +27,7 @@ use Rattle.uc_acts.proofs.Others.{flip, running_apart}
 use Rattle.uc_kernel_core.specs.Mirrors.{Seen}
 use Rattle.uc_kernel_core.specs.CoreActs.{makes_new}
 use Rattle.uc_kernel.specs.declared.given.Back.{Back}
-use Rattle.uc_kernel.specs.declared.rests.Rest.{Rest}
+use Rattle.uc_kernel.specs.declared.rests.TaskAtRest.{TaskAtRest}
 use Rattle.uc_kernel.specs.KernelState.{task_in}
 use Rattle.uc_kernel.specs.AtRest.{Lies, IsAct, CanLetIn, LetIn, LetInBy, none_there, own, another, hand_after, loose_after, admission_in, is_admit, is_ready, AreApart}
 use Rattle.uc_kernel.proofs.Hands.{no_both, some-same}
@@ -96,7 +96,7 @@ trails_spawn (e ∷ a) u h = ap (λ b. b || spawns a u) (none e.kind h.0) ∙ tr
     none kind.Spawn n = cc
     none x n = refl
 
-trails_mid : {T M : Type 0} (t : ℕ) (j a : List Entry) → AllTrail a → (hand : List (ℕ × M)) (tasks : List (Option (Rest T M))) (loose : List (Option M)) → Mid t j hand tasks loose → Mid t (j ++ a) hand tasks loose
+trails_mid : {T M : Type 0} (t : ℕ) (j a : List Entry) → AllTrail a → (hand : List (ℕ × M)) (tasks : List (Option (TaskAtRest T M))) (loose : List (Option M)) → Mid t j hand tasks loose → Mid t (j ++ a) hand tasks loose
 trails_mid t j [] h hand tasks loose m = subst (λ i. Mid t i hand tasks loose) (sym (append-nil j)) m
 trails_mid t j (e ∷ a) h hand tasks loose m =
     subst (λ i. Mid t i hand tasks loose) (append_assoc j (e ∷ []) a) (trails_mid t (j ++ e ∷ []) a h.1 hand tasks loose (trail_step t j e h.0 hand tasks loose m))
@@ -203,11 +203,11 @@ admit_trails : (e : Entry) → e.kind ≡ kind.Admit → trails e.kind ≡ true 
 admit_trails e h t = no_both (trails e.kind) t (ap trails h)
 
 -- what an admission does to one task at rest
-data Slot {T M : Type 0} (e : Entry) (t : ℕ) (tasks tasks' : List (Option (Rest T M))) (u : ℕ) : Type 0 where
+data Slot {T M : Type 0} (e : Entry) (t : ℕ) (tasks tasks' : List (Option (TaskAtRest T M))) (u : ℕ) : Type 0 where
   stays : slice_index_or tasks' u None ≡ slice_index_or tasks u None → Slot e t tasks tasks' u
-  gave : (r r' : Rest T M) → u ≡ e.task → (e.task == t) ≡ false → slice_index_or tasks u None ≡ Some r → slice_index_or tasks' u None ≡ Some r' → r'.task ≡ r.task → Slot e t tasks tasks' u
+  gave : (r r' : TaskAtRest T M) → u ≡ e.task → (e.task == t) ≡ false → slice_index_or tasks u None ≡ Some r → slice_index_or tasks' u None ≡ Some r' → r'.task ≡ r.task → Slot e t tasks tasks' u
 
-module _ {T M : Type 0} (e : Entry) (t : ℕ) (h h' : Listed (ℕ × M)) (tasks tasks' : List (Option (Rest T M))) (loose : List (Option M)) where
+module _ {T M : Type 0} (e : Entry) (t : ℕ) (h h' : Listed (ℕ × M)) (tasks tasks' : List (Option (TaskAtRest T M))) (loose : List (Option M)) where
   slot_of : e.task < length tasks → LetIn e t h h' tasks tasks' loose → (u : ℕ) → Slot e t tasks tasks' u
   slot_of known (none_there n k q) u = stays (ap (λ l. slice_index_or l u None) q)
   slot_of known (own y n same k q) u = stays (ap (λ l. slice_index_or l u None) q)
@@ -230,7 +230,7 @@ module _ {T M : Type 0} (e : Entry) (t : ℕ) (h h' : Listed (ℕ × M)) (tasks 
   hand_stays (own y n same k q) f = absurd (f same)
   hand_stays (another y r r' n other k there gives q) f = k
 
-module _ {T M : Type 0} {e : Entry} {t : ℕ} {tasks tasks' : List (Option (Rest T M))} (u : ℕ) where
+module _ {T M : Type 0} {e : Entry} {t : ℕ} {tasks tasks' : List (Option (TaskAtRest T M))} (u : ℕ) where
   value_stays : Slot e t tasks tasks' u → task_in (slice_index_or tasks' u None) ≡ task_in (slice_index_or tasks u None)
   value_stays (stays same) = ap task_in same
   value_stays (gave r r' same other before after task) = ap task_in after ∙ ap (λ z. Some z) task ∙ sym (ap task_in before)
@@ -244,12 +244,12 @@ module _ {T M : Type 0} {e : Entry} {t : ℕ} {tasks tasks' : List (Option (Rest
   still_none_of (gave r r' same other before after task) f = none-some (sym f ∙ before)
 
 -- what came of an act, before its task goes on or is put to rest
-pub record Done {T M : Type 0} (t p : ℕ) (j i : Journal) (a : List Entry) (items : List (ℕ × M)) (child : Option T) (tasks : List (Option (Rest T M))) (loose : List (Option M)) (hand2 : Listed (ℕ × M)) (tasks2 : List (Option (Rest T M))) (loose2 : List (Option M)) : Type 0 where
+pub record Done {T M : Type 0} (t p : ℕ) (j i : Journal) (a : List Entry) (items : List (ℕ × M)) (child : Option T) (tasks : List (Option (TaskAtRest T M))) (loose : List (Option M)) (hand2 : Listed (ℕ × M)) (tasks2 : List (Option (TaskAtRest T M))) (loose2 : List (Option M)) : Type 0 where
   pub mid : Mid t i hand2.items tasks2 loose2
   pub view : (k : ℕ) → all_members hand2.items tasks2 loose2 k ≡ (if takes_out a k then None else all_members items tasks loose k)
   pub most : AtMost t (running p i)
   pub values : (u : ℕ) → (u == t) ≡ false → task_in (slice_index_or tasks2 u None) ≡ (if spawns a u then child else task_in (slice_index_or tasks u None))
-  pub room : (u : ℕ) (r : Rest T M) → slice_index_or tasks2 u None ≡ Some r → is_ready (spot u i) ≡ false → 1 ≤ r.members.spare
+  pub room : (u : ℕ) (r : TaskAtRest T M) → slice_index_or tasks2 u None ≡ Some r → is_ready (spot u i) ≡ false → 1 ≤ r.members.spare
   pub own_room : running p i ≡ [] → 1 ≤ hand2.spare
   pub was_none : (u : ℕ) → slice_index_or tasks2 u None ≡ None → slice_index_or tasks u None ≡ None
   pub still_none : (u : ℕ) → u < length tasks → slice_index_or tasks u None ≡ None → slice_index_or tasks2 u None ≡ None
@@ -257,7 +257,7 @@ pub record Done {T M : Type 0} (t p : ℕ) (j i : Journal) (a : List Entry) (ite
   pub less : (u : ℕ) → u < length tasks2 → slice_index_or tasks2 u None ≡ None → u < length tasks
   pub longer : length tasks ≤ length tasks2
 
-module _ {T M : Type 0} (s : Seen) (t : ℕ) (first : Entry) (admission : Option Entry) (b : Back T M) (tasks : List (Option (Rest T M))) (loose : List (Option M)) (x : IsAct s t first admission b tasks loose) (plain : makes_new b.asked.request ≡ false) where
+module _ {T M : Type 0} (s : Seen) (t : ℕ) (first : Entry) (admission : Option Entry) (b : Back T M) (tasks : List (Option (TaskAtRest T M))) (loose : List (Option M)) (x : IsAct s t first admission b tasks loose) (plain : makes_new b.asked.request ≡ false) where
   abbrev p : ℕ
   p = b.processor
 
@@ -436,7 +436,7 @@ module _ {T M : Type 0} (s : Seen) (t : ℕ) (first : Entry) (admission : Option
   }
 
   -- ---- what came of the act, in the hand and at rest
-  module _ (hand1 hand2 : Listed (ℕ × M)) (tasks2 : List (Option (Rest T M))) (loose1 loose2 : List (Option M)) (hand1_is : hand1.items ≡ hand_after first b.members.items) (spare1 : b.members.spare ≤ hand1.spare) (loose1_is : loose1 ≡ loose_after first b.members.items loose) (let_in : LetInBy admission t hand1 hand2 tasks tasks2 loose1 loose2) where
+  module _ (hand1 hand2 : Listed (ℕ × M)) (tasks2 : List (Option (TaskAtRest T M))) (loose1 loose2 : List (Option M)) (hand1_is : hand1.items ≡ hand_after first b.members.items) (spare1 : b.members.spare ≤ hand1.spare) (loose1_is : loose1 ≡ loose_after first b.members.items loose) (let_in : LetInBy admission t hand1 hand2 tasks tasks2 loose1 loose2) where
     mid1' : Mid t j1 hand1.items tasks loose1
     mid1' = subst (λ l. Mid t j1 hand1.items tasks l) (sym loose1_is) (subst (λ h. Mid t j1 h tasks (loose_after first b.members.items loose)) (sym hand1_is) mid1)
 
@@ -502,7 +502,7 @@ module _ {T M : Type 0} (s : Seen) (t : ℕ) (first : Entry) (admission : Option
             spare2 : hand2 ≡ hand1 → 1 ≤ hand2.spare
             spare2 h = let e : hand2.spare ≡ hand1.spare = ap (λ x. x.spare) h in let r = x.room in omega (arith, e, r, spare1)
 
-            room2 : (e : Entry) (u : ℕ) (r : Rest T M) → Slot e t tasks tasks2 u → slice_index_or tasks2 u None ≡ Some r → is_ready (spot u s.journal) ≡ false → ((e.task == t) ≡ false → is_ready (spot e.task s.journal) ≡ true) → (is_ready (spot u x.before) ≡ true → is_ready (spot u s.journal) ≡ true) → 1 ≤ r.members.spare
+            room2 : (e : Entry) (u : ℕ) (r : TaskAtRest T M) → Slot e t tasks tasks2 u → slice_index_or tasks2 u None ≡ Some r → is_ready (spot u s.journal) ≡ false → ((e.task == t) ≡ false → is_ready (spot e.task s.journal) ≡ true) → (is_ready (spot u x.before) ≡ true → is_ready (spot u s.journal) ≡ true) → 1 ≤ r.members.spare
             room2 e u r (stays same) f n let_it k = x.lies.room u r (sym same ∙ f) (not_ready u n k)
             room2 e u r (gave q q' same other before after task) f n let_it k =
                 absurd (no_both (is_ready (spot u s.journal)) (ap (λ v. is_ready (spot v s.journal)) same ∙ let_it other) n)

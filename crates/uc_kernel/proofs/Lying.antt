@@ -9,7 +9,7 @@ use Rattle.uc_acts.specs.Sound.{Sound}
 use Rattle.uc_acts.specs.Stations.{times}
 use Rattle.uc_acts.proofs.Held.{law_held}
 use Rattle.uc_acts.proofs.Moves.{only_one}
-use Rattle.uc_kernel.specs.declared.rests.Rest.{Rest}
+use Rattle.uc_kernel.specs.declared.rests.TaskAtRest.{TaskAtRest}
 use Rattle.uc_kernel.specs.Numbered.{keys, or_else, gathered}
 use Rattle.uc_kernel.specs.KernelState.{member_in, member_among}
 use Rattle.uc_kernel.specs.AtRest.{AreApart}
@@ -33,9 +33,9 @@ one_holder j s t u o h n =
 pub apart_of : {M : Type 0} (t : ℕ) (j : Journal) (ps : List (ℕ × M)) → keys ps ≡ held t j → AreApart ps
 apart_of t j ps h = λ o. subst (λ ks. times o ks ≤ 1) (sym h) ((law_held j).once t o)
 
-module _ {T M : Type 0} (j : Journal) (tasks : List (Option (Rest T M))) (loose : List (Option M)) where
+module _ {T M : Type 0} (j : Journal) (tasks : List (Option (TaskAtRest T M))) (loose : List (Option M)) where
   abbrev pub HandsAre : Type 0
-  HandsAre = (t : ℕ) (r : Rest T M) → slice_index_or tasks t None ≡ Some r → keys r.members.items ≡ held t j
+  HandsAre = (t : ℕ) (r : TaskAtRest T M) → slice_index_or tasks t None ≡ Some r → keys r.members.items ≡ held t j
 
   abbrev pub LooseAre : Type 0
   LooseAre = (o : ℕ) (m : M) → slice_index_or loose o None ≡ Some m → (t : ℕ) → has (held t j) o ≡ false
@@ -51,7 +51,7 @@ module _ {T M : Type 0} (j : Journal) (tasks : List (Option (Rest T M))) (loose 
   pub no_member : HandsAre → (u o : ℕ) → has (held u j) o ≡ false → member_in o (slice_index_or tasks u None) ≡ None
   no_member h u o e = by (slice_index_or tasks u None) refl
     where
-      by : (x : Option (Rest T M)) → slice_index_or tasks u None ≡ x → member_in o x ≡ None
+      by : (x : Option (TaskAtRest T M)) → slice_index_or tasks u None ≡ x → member_in o x ≡ None
       by None g = refl
       by (Some r) g = none_found o r.members.items (ap (λ ks. has ks o) (h u r g) ∙ e)
 
@@ -71,11 +71,11 @@ module _ {T M : Type 0} (j : Journal) (tasks : List (Option (Rest T M))) (loose 
   nobody_has h o e = among_none o tasks (λ u. no_member h u o (e u))
 
   -- the members of a task at rest
-  pub member_of : Sound j → HandsAre → LooseAre → (t : ℕ) → t < length tasks → (r : Rest T M) → slice_index_or tasks t None ≡ Some r → (o : ℕ) (m : M) → find o r.members.items ≡ Some m → or_else (slice_index_or loose o None) (member_among o tasks) ≡ Some m
+  pub member_of : Sound j → HandsAre → LooseAre → (t : ℕ) → t < length tasks → (r : TaskAtRest T M) → slice_index_or tasks t None ≡ Some r → (o : ℕ) (m : M) → find o r.members.items ≡ Some m → or_else (slice_index_or loose o None) (member_among o tasks) ≡ Some m
   member_of s h l t lt r is o m e =
       let holds : has (held t j) o ≡ true = ap (λ ks. has ks o) (sym (h t r is)) ∙ find_some o m r.members.items e in
       ap (λ x. or_else x (member_among o tasks)) (loose_none l t o holds) ∙ among_only o t m tasks lt (ap (member_in o) is ∙ e) (others_none s h t o holds)
 
-  pub gathered_of : Sound j → HandsAre → LooseAre → (t : ℕ) → t < length tasks → (r : Rest T M) → slice_index_or tasks t None ≡ Some r → r.members.items ≡ gathered (held t j) (λ o. or_else (slice_index_or loose o None) (member_among o tasks))
+  pub gathered_of : Sound j → HandsAre → LooseAre → (t : ℕ) → t < length tasks → (r : TaskAtRest T M) → slice_index_or tasks t None ≡ Some r → r.members.items ≡ gathered (held t j) (λ o. or_else (slice_index_or loose o None) (member_among o tasks))
   gathered_of s h l t lt r is =
       sym (ap (λ ks. gathered ks (λ o. or_else (slice_index_or loose o None) (member_among o tasks))) (sym (h t r is)) ∙ gathered_hand r.members.items _ (apart_of t j r.members.items (h t r is)) (member_of s h l t lt r is))

@@ -37,7 +37,7 @@ use Rattle.uc_kernel.specs.declared.given.Back.{Back}
 use Rattle.uc_kernel.specs.declared.given.Given.{Given}
 use Rattle.uc_kernel.specs.declared.given.Next.{Next}
 use Rattle.uc_kernel.specs.declared.given.Next.TheVariants.{Go, Blocked, Ended}
-use Rattle.uc_kernel.specs.declared.rests.Rest.{Rest}
+use Rattle.uc_kernel.specs.declared.rests.TaskAtRest.{TaskAtRest}
 use Rattle.uc_kernel.specs.Numbered.{keys, or_else, added, gathered}
 use Rattle.uc_kernel.specs.KernelState.{Kept, kept, stored, put_back, task_in, member_among}
 use Rattle.uc_kernel.specs.Calls.{LacksNew, Goes, Ends, Follows, is_object}
@@ -67,7 +67,7 @@ slot_more [] (suc i) = refl
 slot_more (x ∷ xs) zero = refl
 slot_more (x ∷ xs) (suc i) = slot_more xs i
 
-module _ {T M : Type 0} (s : Seen) (t p : ℕ) (k : Cost) (class : ℕ) (j : Journal) (after : s.journal ≡ j ++ asking kind.Make p t k (object_count j) (pos class) (pos 0) ∷ []) (runs_on : KernelRuns s.opts s.sites s.input s.journal) (going : is_over s.journal ≡ false) (runs : running p j ≡ t ∷ []) (sound : Sound j) (items : List (ℕ × M)) (hand_is : keys items ≡ held t j) (tasks : List (Option (Rest T M))) (loose : List (Option M)) (lies : Lies j tasks loose) where
+module _ {T M : Type 0} (s : Seen) (t p : ℕ) (k : Cost) (class : ℕ) (j : Journal) (after : s.journal ≡ j ++ asking kind.Make p t k (object_count j) (pos class) (pos 0) ∷ []) (runs_on : KernelRuns s.opts s.sites s.input s.journal) (going : is_over s.journal ≡ false) (runs : running p j ≡ t ∷ []) (sound : Sound j) (items : List (ℕ × M)) (hand_is : keys items ≡ held t j) (tasks : List (Option (TaskAtRest T M))) (loose : List (Option M)) (lies : Lies j tasks loose) where
   abbrev e : Entry
   e = asking kind.Make p t k (object_count j) (pos class) (pos 0)
 
@@ -145,7 +145,7 @@ module _ {T M : Type 0} (s : Seen) (t p : ℕ) (k : Cost) (class : ℕ) (j : Jou
       none_some : {A : Type 0} {x : A} → None ≡ Some x → ⊥
       none_some f = cc
 
-      not_mine : (u : ℕ) (r : Rest T M) → slice_index_or tasks u None ≡ Some r → (u == t) ≡ false
+      not_mine : (u : ℕ) (r : TaskAtRest T M) → slice_index_or tasks u None ≡ Some r → (u == t) ≡ false
       not_mine u r h = not_true (u == t) (λ g. none_some (sym mine ∙ ap (λ v. slice_index_or tasks v None) (sym (eqb-true u t g)) ∙ h))
 
       not_new : (m : ℕ) (y : M) → slice_index_or loose m None ≡ Some y → (object_count j == m) ≡ false
@@ -298,7 +298,7 @@ made_spawns (e ∷ a) u h = or_both (spawns_task u e.kind e) (spawns a u) (none 
 abbrev pub nothing_gone : Entry
 nothing_gone = entry kind.Limit 0 0 0 0 (pos 0) (pos 0)
 
-module _ {T M : Type 0} (s : Seen) (t : ℕ) (b : Back T M) (tasks : List (Option (Rest T M))) (loose : List (Option M)) (x : FromAct s t b tasks loose) (makes : IsMake b.asked.request) where
+module _ {T M : Type 0} (s : Seen) (t : ℕ) (b : Back T M) (tasks : List (Option (TaskAtRest T M))) (loose : List (Option M)) (x : FromAct s t b tasks loose) (makes : IsMake b.asked.request) where
   sound0 : Sound x.before
   sound0 = (good_whole s.opts s.sites s.input x.runs).sound
 
@@ -340,7 +340,7 @@ module _ {T M : Type 0} (s : Seen) (t : ℕ) (b : Back T M) (tasks : List (Optio
     pub few_made : length (running b.processor s.journal) ≤ 1
     few_made = subst (λ l. length l ≤ 1) (sym still_runs) (omega arith)
 
-    module _ (next : Next T M) (tasks' : List (Option (Rest T M))) (handed_on : HandedOn s b.processor t b.task b.members tasks next tasks') where
+    module _ (next : Next T M) (tasks' : List (Option (TaskAtRest T M))) (handed_on : HandedOn s b.processor t b.task b.members tasks next tasks') where
       pub lies_on_made : Lies s.journal tasks' (loose ++ None ∷ [])
       lies_on_made = by next handed_on
         where

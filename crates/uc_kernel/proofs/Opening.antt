@@ -13,7 +13,7 @@ use Rattle.uc_acts.specs.KernelRuns.{InRange, begun}
 use Rattle.uc_acts.proofs.Moves.{spot_moves}
 use Rattle.uc_acts.proofs.Others.{flip}
 use Rattle.uc_kernel_core.specs.Mirrors.{Seen}
-use Rattle.uc_kernel.specs.declared.rests.Rest.{Rest}
+use Rattle.uc_kernel.specs.declared.rests.TaskAtRest.{TaskAtRest}
 use Rattle.uc_kernel.specs.Numbered.{keys, or_else}
 use Rattle.uc_kernel.specs.KernelState.{kept, stored, task_in, member_among}
 use Rattle.uc_kernel.specs.Calls.{Opened}
@@ -50,8 +50,8 @@ objects_first : (opts : Options) → object_count (begin opts ∷ []) ≡ 1
 unfolding object_count
 objects_first opts = refl
 
-module _ {T M : Type 0} (opts : Options) (rest : Rest T M) (own : M) (items : rest.members.items ≡ (0, own) ∷ []) where
-  abbrev tasks : List (Option (Rest T M))
+module _ {T M : Type 0} (opts : Options) (rest : TaskAtRest T M) (own : M) (items : rest.members.items ≡ (0, own) ∷ []) where
+  abbrev tasks : List (Option (TaskAtRest T M))
   tasks = Some rest ∷ []
 
   abbrev loose : List (Option M)
@@ -60,11 +60,11 @@ module _ {T M : Type 0} (opts : Options) (rest : Rest T M) (own : M) (items : re
   abbrev j : Journal
   j = begin opts ∷ []
 
-  hands : (t : ℕ) (r : Rest T M) → slice_index_or tasks t None ≡ Some r → keys r.members.items ≡ held t j
+  hands : (t : ℕ) (r : TaskAtRest T M) → slice_index_or tasks t None ≡ Some r → keys r.members.items ≡ held t j
   hands zero r h = ap (λ x. keys x.members.items) (sym (some-same h)) ∙ ap keys items ∙ sym (held_first opts)
   hands (suc t) r h = none_some h
 
-  room : (t : ℕ) (r : Rest T M) → slice_index_or tasks t None ≡ Some r → is_ready (spot t j) ≡ false → 1 ≤ r.members.spare
+  room : (t : ℕ) (r : TaskAtRest T M) → slice_index_or tasks t None ≡ Some r → is_ready (spot t j) ≡ false → 1 ≤ r.members.spare
   room zero r h f = absurd (no_both (is_ready (spot 0 j)) (ready_first opts) f)
   room (suc t) r h f = none_some h
 
@@ -95,7 +95,7 @@ module _ {T M : Type 0} (opts : Options) (rest : Rest T M) (own : M) (items : re
     there = there;
   }
 
-module _ {T M : Type 0} (sites : List Site) (opts : Options) (input : List ℕ) (first : T) (own : M) (range : InRange opts) (small : length input ≤ INPUT_BYTES) (s : Seen) (s_is : s ≡ record { journal = begin opts ∷ []; sites = sites; opts = opts; input = input }) (tasks : List (Option (Rest T M))) (is_first : IsFirst first own tasks) (loose : List (Option M)) (loose_is : loose ≡ None ∷ []) where
+module _ {T M : Type 0} (sites : List Site) (opts : Options) (input : List ℕ) (first : T) (own : M) (range : InRange opts) (small : length input ≤ INPUT_BYTES) (s : Seen) (s_is : s ≡ record { journal = begin opts ∷ []; sites = sites; opts = opts; input = input }) (tasks : List (Option (TaskAtRest T M))) (is_first : IsFirst first own tasks) (loose : List (Option M)) (loose_is : loose ≡ None ∷ []) where
   pub kept_first : IsKept s tasks loose
   kept_first =
       subst (λ x. IsKept x tasks loose) (sym s_is) (subst (λ l. IsKept (seen_of (begin opts ∷ []) sites opts input) l loose) (sym is_first.is) (subst (λ l. IsKept (seen_of (begin opts ∷ []) sites opts input) (Some is_first.rest ∷ []) l) (sym loose_is) (record {

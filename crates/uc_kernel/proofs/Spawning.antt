@@ -35,7 +35,7 @@ use Rattle.uc_acts.proofs.Given.{held_given}
 use Rattle.uc_acts.proofs.Law.{good_whole, lawful_act}
 use Rattle.uc_kernel_core.specs.Mirrors.{Seen}
 use Rattle.uc_kernel.specs.declared.given.Back.{Back}
-use Rattle.uc_kernel.specs.declared.rests.Rest.{Rest}
+use Rattle.uc_kernel.specs.declared.rests.TaskAtRest.{TaskAtRest}
 use Rattle.uc_kernel.specs.Numbered.{keys, or_else, without}
 use Rattle.uc_kernel.specs.KernelState.{Kept, kept, stored, put_back, task_in, member_in, member_among}
 use Rattle.uc_kernel.specs.Calls.{Ends}
@@ -60,7 +60,7 @@ or_both_else : {A : Type 0} (x y z : Option A) → or_else x (or_else y z) ≡ o
 or_both_else None y z = refl
 or_both_else (Some x) y z = refl
 
-pub among_more : {T M : Type 0} (o : ℕ) (x : Option (Rest T M)) (rs : List (Option (Rest T M))) → member_among o (rs ++ x ∷ []) ≡ or_else (member_among o rs) (member_in o x)
+pub among_more : {T M : Type 0} (o : ℕ) (x : Option (TaskAtRest T M)) (rs : List (Option (TaskAtRest T M))) → member_among o (rs ++ x ∷ []) ≡ or_else (member_among o rs) (member_in o x)
 among_more o x [] = or_nothing (member_in o x)
 among_more o x (r ∷ rs) =
     ap (or_else (member_in o r)) (among_more o x rs) ∙ or_both_else (member_in o r) (member_among o rs) (member_in o x)
@@ -72,7 +72,7 @@ slot_at : {A : Type 0} (xs : List (Option A)) (x : Option A) → get_or (xs ++ x
 slot_at xs x = get_or-append_seam xs x [] None
 
 -- the new task's entry
-module _ {T M : Type 0} (t p : ℕ) (k : Cost) (o : ℕ) (j : Journal) (sound : Sound j) (runs : running p j ≡ t ∷ []) (inside_it : inside o j ≡ t ∷ []) (items : List (ℕ × M)) (hand_is : keys items ≡ held t j) (child : T) (tasks : List (Option (Rest T M))) (loose : List (Option M)) (lies : Lies j tasks loose) (r : Rest T M) (r_task : r.task ≡ child) (m : M) (found : find o items ≡ Some m) (r_items : r.members.items ≡ (o, m) ∷ []) where
+module _ {T M : Type 0} (t p : ℕ) (k : Cost) (o : ℕ) (j : Journal) (sound : Sound j) (runs : running p j ≡ t ∷ []) (inside_it : inside o j ≡ t ∷ []) (items : List (ℕ × M)) (hand_is : keys items ≡ held t j) (child : T) (tasks : List (Option (TaskAtRest T M))) (loose : List (Option M)) (lies : Lies j tasks loose) (r : TaskAtRest T M) (r_task : r.task ≡ child) (m : M) (found : find o items ≡ Some m) (r_items : r.members.items ≡ (o, m) ∷ []) where
   abbrev e : Entry
   e = asking kind.Spawn p t k o (pos (task_count j)) (pos 0)
 
@@ -126,7 +126,7 @@ module _ {T M : Type 0} (t p : ℕ) (k : Cost) (o : ℕ) (j : Journal) (sound : 
   slot_other (y ∷ xs) x zero n = refl
   slot_other (y ∷ xs) x (suc u) n = slot_other xs x u (λ q. n (ap suc q))
 
-  abbrev tasks2 : List (Option (Rest T M))
+  abbrev tasks2 : List (Option (TaskAtRest T M))
   tasks2 = tasks ++ Some r ∷ []
 
   at_new : slice_index_or tasks2 (task_count j) None ≡ Some r
@@ -194,7 +194,7 @@ module _ {T M : Type 0} (t p : ℕ) (k : Cost) (o : ℕ) (j : Journal) (sound : 
         o_held : (k : ℕ) → ((u : ℕ) → has (held u i) k ≡ false) → (k == o) ≡ false
         o_held k free = not_true (k == o) (λ g. no_both (has (held (task_count j) i) k) (ap (λ xs. has xs k) held_new ∙ ap (has (held (task_count j) j ++ o ∷ [])) (eqb-true k o g) ∙ has_last (held (task_count j) j) o) (free (task_count j)))
 
-        hands : (u : ℕ) (q : Rest T M) (b : Bool) → (u == task_count j) ≡ b → slice_index_or tasks2 u None ≡ Some q → keys q.members.items ≡ held u i
+        hands : (u : ℕ) (q : TaskAtRest T M) (b : Bool) → (u == task_count j) ≡ b → slice_index_or tasks2 u None ≡ Some q → keys q.members.items ≡ held u i
         hands u q true g h =
             let same = eqb-true u (task_count j) g in
             let is : r ≡ q = some-same (sym at_new ∙ ap (λ v. slice_index_or tasks2 v None) (sym same) ∙ h) in
@@ -235,7 +235,7 @@ module _ {T M : Type 0} (t p : ℕ) (k : Cost) (o : ℕ) (j : Journal) (sound : 
         values u true g = rw g (ap (λ v. task_in (slice_index_or tasks2 v None)) (eqb-true u (task_count j) g) ∙ ap task_in at_new ∙ ap (λ x. Some x) r_task)
         values u false g = rw g (ap task_in (at_other u g))
 
-        room : (u : ℕ) (q : Rest T M) (b : Bool) → (u == task_count j) ≡ b → slice_index_or tasks2 u None ≡ Some q → is_ready (spot u i) ≡ false → 1 ≤ q.members.spare
+        room : (u : ℕ) (q : TaskAtRest T M) (b : Bool) → (u == task_count j) ≡ b → slice_index_or tasks2 u None ≡ Some q → is_ready (spot u i) ≡ false → 1 ≤ q.members.spare
         room u q true g h f = absurd (no_both (is_ready (spot u i)) (ap is_ready (spot_moves j e u g)) f)
         room u q false g h f = lies.room u q (sym (at_other u g) ∙ h) (ap is_ready (sym (spot_stays j e u g)) ∙ f)
 
@@ -256,10 +256,10 @@ module _ {T M : Type 0} (t p : ℕ) (k : Cost) (o : ℕ) (j : Journal) (sound : 
 
   -- ---- where the act ends the run
   module _ (s : Seen) (a : List Entry) (after : s.journal ≡ j ++ a) (over : is_over s.journal ≡ true) (takes : (k : ℕ) → takes_out a k ≡ false) (born : (u : ℕ) → spawns a u ≡ (u == task_count j)) (value : T) (hand2 : Listed (ℕ × M)) (hand2_is : hand2.items ≡ without o items) (wanted : Bool) where
-    abbrev rest : Rest T M
+    abbrev rest : TaskAtRest T M
     rest = record { task = value; members = hand2 }
 
-    abbrev tasks3 : List (Option (Rest T M))
+    abbrev tasks3 : List (Option (TaskAtRest T M))
     tasks3 = slice_set (tasks ++ Some r ∷ []) t (Some (record { task = value; members = hand2 }))
 
     abbrev back : Kept T M
@@ -499,7 +499,7 @@ kind_is : (k : EntryKind) → is_spawn k ≡ true → k ≡ kind.Spawn
 kind_is kind.Spawn h = refl
 kind_is k h = cc
 
-module _ {T M : Type 0} (s : Seen) (t : ℕ) (b : Back T M) (tasks : List (Option (Rest T M))) (loose : List (Option M)) (x : FromAct s t b tasks loose) (sp : IsSpawn b.asked.request) (first : Entry) (first_there : slice_get s.journal (length x.before) ≡ Some first) where
+module _ {T M : Type 0} (s : Seen) (t : ℕ) (b : Back T M) (tasks : List (Option (TaskAtRest T M))) (loose : List (Option M)) (x : FromAct s t b tasks loose) (sp : IsSpawn b.asked.request) (first : Entry) (first_there : slice_get s.journal (length x.before) ≡ Some first) where
   abbrev act_of : List Entry
   act_of = act s.opts s.sites s.input x.before b.processor t b.ticks b.asked
 
@@ -560,7 +560,7 @@ module _ {T M : Type 0} (s : Seen) (t : ℕ) (b : Back T M) (tasks : List (Optio
   ended_without n w =
       ended s t x.before act_of x.after (over_without n) sound_spawn b.members.items x.hand tasks loose x.lies (x.lies.out b.processor t x.asks.runs) known_spawn (no_spawn act_of first head.rest head.is shape n) nothing_gone (no_taken act_of shape) (λ k h. cc) b.task b.members refl w b.child
 
-  module _ (c : T) (c_is : b.child ≡ Some c) (spawned : is_spawn first.kind ≡ true) (hand2 : Listed (ℕ × M)) (hand2_is : hand2.items ≡ without first.object b.members.items) (spare : b.members.spare ≤ hand2.spare) (tasks2 : List (Option (Rest T M))) (settled_is : (y : T) (m : M) → b.child ≡ Some y → find first.object b.members.items ≡ Some m → HasChild tasks tasks2 y first.object m) where
+  module _ (c : T) (c_is : b.child ≡ Some c) (spawned : is_spawn first.kind ≡ true) (hand2 : Listed (ℕ × M)) (hand2_is : hand2.items ≡ without first.object b.members.items) (spare : b.members.spare ≤ hand2.spare) (tasks2 : List (Option (TaskAtRest T M))) (settled_is : (y : T) (m : M) → b.child ≡ Some y → find first.object b.members.items ≡ Some m → HasChild tasks tasks2 y first.object m) where
     object_is : first.object ≡ object
     object_is = ap (λ e. e.object) (first_made (kind_is first.kind spawned))
 

@@ -18,7 +18,7 @@ use Rattle.uc_acts.proofs.Living.{gone_still, gone_same}
 use Rattle.uc_acts.proofs.Counted.{gone_push, has_filter}
 use Rattle.uc_acts.proofs.SoundLemmas.{tasks_push, objects_push, self_test, plus}
 use Rattle.uc_acts.proofs.Others.{flip}
-use Rattle.uc_kernel.specs.declared.rests.Rest.{Rest}
+use Rattle.uc_kernel.specs.declared.rests.TaskAtRest.{TaskAtRest}
 use Rattle.uc_kernel.specs.Numbered.{keys, or_else, without}
 use Rattle.uc_kernel.specs.KernelState.{member_in, member_among}
 use Rattle.uc_kernel.specs.AtRest.{goes_out, hand_after, laid, loose_after, LetIn, none_there, own, another}
@@ -33,7 +33,7 @@ abbrev pub ArePresent : {M : Type 0} → Journal → List (Option M) → Type 0
 ArePresent j loose = (o : ℕ) → o < object_count j → is_gone o j ≡ false → ((t : ℕ) → has (held t j) o ≡ false) → slice_index_or loose o None ≡ None → ⊥
 
 -- what lies where in the middle of an act of task t, with its hand
-pub record Mid {T M : Type 0} (t : ℕ) (j : Journal) (hand : List (ℕ × M)) (tasks : List (Option (Rest T M))) (loose : List (Option M)) : Type 0 where
+pub record Mid {T M : Type 0} (t : ℕ) (j : Journal) (hand : List (ℕ × M)) (tasks : List (Option (TaskAtRest T M))) (loose : List (Option M)) : Type 0 where
   pub hand_is : keys hand ≡ held t j
   pub hands : HandsAre j tasks loose
   pub loose_are : LooseAre j tasks loose
@@ -43,7 +43,7 @@ pub record Mid {T M : Type 0} (t : ℕ) (j : Journal) (hand : List (ℕ × M)) (
   pub objects_are : length loose ≡ object_count j
 
 -- the members of an object, in the hand or at rest
-abbrev pub all_members : {T M : Type 0} → List (ℕ × M) → List (Option (Rest T M)) → List (Option M) → ℕ → Option M
+abbrev pub all_members : {T M : Type 0} → List (ℕ × M) → List (Option (TaskAtRest T M)) → List (Option M) → ℕ → Option M
 all_members hand tasks loose o = or_else (find o hand) (or_else (slice_index_or loose o None) (member_among o tasks))
 
 -- ---- hands
@@ -203,7 +203,7 @@ has_last [] o = in_one o
 has_last (x ∷ xs) o = or_last (x == o) (has (xs ++ o ∷ []) o) (has_last xs o)
 
 -- the first entry of an act
-module _ {T M : Type 0} (t : ℕ) (j : Journal) (s : Sound j) (e : Entry) (l : Legal e j) (plain : is_plain e.kind ≡ true) (mine : e.task ≡ t) (hand : List (ℕ × M)) (tasks : List (Option (Rest T M))) (loose : List (Option M)) (m : Mid t j hand tasks loose) where
+module _ {T M : Type 0} (t : ℕ) (j : Journal) (s : Sound j) (e : Entry) (l : Legal e j) (plain : is_plain e.kind ≡ true) (mine : e.task ≡ t) (hand : List (ℕ × M)) (tasks : List (Option (TaskAtRest T M))) (loose : List (Option M)) (m : Mid t j hand tasks loose) where
   abbrev o : ℕ
   o = e.object
 
@@ -330,7 +330,7 @@ module _ {T M : Type 0} (t : ℕ) (j : Journal) (s : Sound j) (e : Entry) (l : L
     objects_are = lengths (goes_out e.kind e) ∙ m.objects_are ∙ sym (same_objects j e (plain_counts e.kind plain).1);
   }
     where
-      clash : (r : Rest T M) → None ≡ Some r → ⊥
+      clash : (r : TaskAtRest T M) → None ≡ Some r → ⊥
       clash r e = cc
 
       lengths : (b : Bool) → length (if b then laid e.object (find e.object hand) loose else loose) ≡ length loose
@@ -387,7 +387,7 @@ module _ {T M : Type 0} (t : ℕ) (j : Journal) (s : Sound j) (e : Entry) (l : L
           rw (f, h, stays) refl
 
 -- an admission
-module _ {T M : Type 0} (t : ℕ) (j : Journal) (s : Sound j) (e : Entry) (l : Legal e j) (admits : e.kind ≡ kind.Admit) (hand hand' : Listed (ℕ × M)) (tasks tasks' : List (Option (Rest T M))) (loose : List (Option M)) (m : Mid t j hand.items tasks loose) (known : e.task < length tasks) (alive : is_gone e.object j ≡ false) (in_it : LetIn e t hand hand' tasks tasks' loose) where
+module _ {T M : Type 0} (t : ℕ) (j : Journal) (s : Sound j) (e : Entry) (l : Legal e j) (admits : e.kind ≡ kind.Admit) (hand hand' : Listed (ℕ × M)) (tasks tasks' : List (Option (TaskAtRest T M))) (loose : List (Option M)) (m : Mid t j hand.items tasks loose) (known : e.task < length tasks) (alive : is_gone e.object j ≡ false) (in_it : LetIn e t hand hand' tasks tasks' loose) where
   empty : (u : ℕ) → has (held u j) e.object ≡ false
   empty u =
       let door : inside e.object j ≡ [] = subst (λ k. DoorFit k e (inside e.object j) (open_at e.object j)) admits l.door in
@@ -452,7 +452,7 @@ module _ {T M : Type 0} (t : ℕ) (j : Journal) (s : Sound j) (e : Entry) (l : L
       let n = loose_stays k y f in
       held_after u k n (m.loose_are k y (sym (loose_before k n) ∙ f) u)
 
-  not_mine : (u : ℕ) (r : Rest T M) → slice_index_or tasks u None ≡ Some r → (u == t) ≡ false
+  not_mine : (u : ℕ) (r : TaskAtRest T M) → slice_index_or tasks u None ≡ Some r → (u == t) ≡ false
   not_mine u r h = not_true (u == t) (λ g. clash (sym m.mine ∙ ap (λ v. slice_index_or tasks v None) (sym (eqb-true u t g)) ∙ h))
     where
       clash : None ≡ Some r → ⊥
@@ -487,7 +487,7 @@ module _ {T M : Type 0} (t : ℕ) (j : Journal) (s : Sound j) (e : Entry) (l : L
         objects_are = length-set loose e.object None ∙ m.objects_are ∙ sym (same_objects j e no_make);
       }
         where
-          hand_of : (u : ℕ) (q : Rest T M) (b : Bool) → (u == e.task) ≡ b → slice_index_or (slice_set tasks e.task (Some r')) u None ≡ Some q → keys q.members.items ≡ held u (j ++ e ∷ [])
+          hand_of : (u : ℕ) (q : TaskAtRest T M) (b : Bool) → (u == e.task) ≡ b → slice_index_or (slice_set tasks e.task (Some r')) u None ≡ Some q → keys q.members.items ≡ held u (j ++ e ∷ [])
           hand_of u q true g f =
               let same = eqb-true u e.task g in
               let is : r' ≡ q = some-same (sym (get_or-set_same tasks e.task (Some r') None known) ∙ ap (λ v. get_or (set tasks e.task (Some r')) v None) (sym same) ∙ f) in
@@ -525,7 +525,7 @@ module _ {T M : Type 0} (t : ℕ) (j : Journal) (s : Sound j) (e : Entry) (l : L
           ap (λ x. or_else (find k x.items) (or_else (slice_index_or (slice_set loose e.object None) k None) (member_among k tasks'))) h ∙ ap (λ x. or_else (find k hand.items) (or_else x (member_among k tasks'))) (loose_before k g) ∙ ap (λ x. or_else (find k hand.items) (or_else (slice_index_or loose k None) x)) (ap (member_among k) q ∙ among_same k e.task (Some r') tasks same)
 
 -- an entry that lets nobody in or out
-pub trail_step : {T M : Type 0} (t : ℕ) (j : Journal) (e : Entry) → trails e.kind ≡ true → (hand : List (ℕ × M)) (tasks : List (Option (Rest T M))) (loose : List (Option M)) → Mid t j hand tasks loose → Mid t (j ++ e ∷ []) hand tasks loose
+pub trail_step : {T M : Type 0} (t : ℕ) (j : Journal) (e : Entry) → trails e.kind ≡ true → (hand : List (ℕ × M)) (tasks : List (Option (TaskAtRest T M))) (loose : List (Option M)) → Mid t j hand tasks loose → Mid t (j ++ e ∷ []) hand tasks loose
 trail_step t j e h hand tasks loose m =
     let c = trail_counts e.kind h in
     record {

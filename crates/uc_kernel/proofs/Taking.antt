@@ -13,7 +13,7 @@ use Rattle.uc_kernel_core.specs.Mirrors.{Seen, Appended}
 use Rattle.uc_kernel_core.specs.CoreActs.{acts, makes_new}
 use Rattle.uc_kernel.specs.declared.given.Back.{Back}
 use Rattle.uc_kernel.specs.declared.given.Next.{Next}
-use Rattle.uc_kernel.specs.declared.rests.Rest.{Rest}
+use Rattle.uc_kernel.specs.declared.rests.TaskAtRest.{TaskAtRest}
 use Rattle.uc_kernel.specs.KernelState.{Store, kept, stored, put_back}
 use Rattle.uc_kernel.specs.Calls.{MayBring, Acted, Follows}
 use Rattle.uc_kernel.specs.AtRest.{Lies, IsKept, IsAct, IsSpawn, FromAct, FromFirst, admission_in, earlier}
@@ -47,7 +47,7 @@ less_at i i' l l' e f h =
     let a : length i ≡ length i' = ap length e in
     let b : length l ≡ length l' = ap length f in omega (arith, a, b, h)
 
-module _ {T M : Type 0} (s : Seen) (wanted : Bool) (tasks : List (Option (Rest T M))) (loose : List (Option M)) (k : IsKept s tasks loose) (going : is_over s.journal ≡ false) (b : Back T M) (brings : MayBring (kept (stored s wanted tasks loose)) b) where
+module _ {T M : Type 0} (s : Seen) (wanted : Bool) (tasks : List (Option (TaskAtRest T M))) (loose : List (Option M)) (k : IsKept s tasks loose) (going : is_over s.journal ≡ false) (b : Back T M) (brings : MayBring (kept (stored s wanted tasks loose)) b) where
   -- who acts, as the core is told
   module _ (p t ticks line : ℕ) (p_is : p ≡ b.processor) (t_is : t ≡ brings.task) (ticks_is : ticks ≡ b.ticks) (line_is : line ≡ b.asked.line) where
     pub asks_it : MayAsk s.opts s.sites s.journal p t ticks b.asked.request
@@ -96,7 +96,7 @@ module _ {T M : Type 0} (s : Seen) (wanted : Bool) (tasks : List (Option (Rest T
         pub is_act : IsAct s' t first admission b tasks loose
         is_act = subst (λ x. IsAct x t first admission b tasks loose) (sym same_seen) at_seen
 
-        module _ (tasks' : List (Option (Rest T M))) (loose' : List (Option M)) (plain : makes_new b.asked.request ≡ false) (lies : is_over s'.journal ≡ false → Lies s'.journal tasks' loose') where
+        module _ (tasks' : List (Option (TaskAtRest T M))) (loose' : List (Option M)) (plain : makes_new b.asked.request ≡ false) (lies : is_over s'.journal ≡ false → Lies s'.journal tasks' loose') where
           pub kept_on : IsKept s' tasks' loose'
           kept_on = record {
             runs = runs_on s' t first admission b tasks loose is_act plain;
@@ -105,7 +105,7 @@ module _ {T M : Type 0} (s : Seen) (wanted : Bool) (tasks : List (Option (Rest T
             lies = lies;
           }
 
-        module _ (tasks' : List (Option (Rest T M))) (loose' : List (Option M)) (next : Next T M) (follows : (x : IsAct s' t first admission b tasks loose) (w : Bool) → Follows (put_back (act s'.opts s'.sites s'.input x.before b.processor t b.ticks b.asked) t b.task b.members.items b.child (kept (stored (earlier x.before s') w tasks loose))) (kept (stored s' w tasks' loose')) b.processor t next) where
+        module _ (tasks' : List (Option (TaskAtRest T M))) (loose' : List (Option M)) (next : Next T M) (follows : (x : IsAct s' t first admission b tasks loose) (w : Bool) → Follows (put_back (act s'.opts s'.sites s'.input x.before b.processor t b.ticks b.asked) t b.task b.members.items b.child (kept (stored (earlier x.before s') w tasks loose))) (kept (stored s' w tasks' loose')) b.processor t next) where
           abbrev Claim : Seen → ℕ → Type 0
           Claim y u = Follows (put_back (act s.opts s.sites s.input s.journal b.processor u b.ticks b.asked) u b.task b.members.items b.child (kept (stored s wanted tasks loose))) (kept (stored y wanted tasks' loose')) b.processor u next
 
@@ -161,7 +161,7 @@ module _ {T M : Type 0} (s : Seen) (wanted : Bool) (tasks : List (Option (Rest T
         pub from_first : FromFirst s' t first b tasks loose
         from_first = subst (λ x. FromFirst x t first b tasks loose) (sym same_seen) first_seen
 
-        module _ (tasks' : List (Option (Rest T M))) (loose' : List (Option M)) (next : Next T M) (follows : (x : FromFirst s' t first b tasks loose) (w : Bool) → Follows (put_back (act s'.opts s'.sites s'.input x.before b.processor t b.ticks b.asked) t b.task b.members.items b.child (kept (stored (earlier x.before s') w tasks loose))) (kept (stored s' w tasks' loose')) b.processor t next) where
+        module _ (tasks' : List (Option (TaskAtRest T M))) (loose' : List (Option M)) (next : Next T M) (follows : (x : FromFirst s' t first b tasks loose) (w : Bool) → Follows (put_back (act s'.opts s'.sites s'.input x.before b.processor t b.ticks b.asked) t b.task b.members.items b.child (kept (stored (earlier x.before s') w tasks loose))) (kept (stored s' w tasks' loose')) b.processor t next) where
           abbrev Told : Seen → ℕ → Type 0
           Told y u = Follows (put_back (act s.opts s.sites s.input s.journal b.processor u b.ticks b.asked) u b.task b.members.items b.child (kept (stored s wanted tasks loose))) (kept (stored y wanted tasks' loose')) b.processor u next
 
@@ -181,7 +181,7 @@ module _ {T M : Type 0} (s : Seen) (wanted : Bool) (tasks : List (Option (Rest T
             follows = λ g u runs. subst (Told s') (same_one t u (sym asks_t.runs ∙ runs)) (told s' same_seen follows);
           }
 
-      module _ (tasks' : List (Option (Rest T M))) (loose' : List (Option M)) where
+      module _ (tasks' : List (Option (TaskAtRest T M))) (loose' : List (Option M)) where
         pub kept_from : (is_over s'.journal ≡ false → Lies s'.journal tasks' loose') → IsKept s' tasks' loose'
         kept_from lies = record {
           runs = subst (KernelRuns s'.opts s'.sites s'.input) (sym from_act.after) (more from_act.runs from_act.going (kernel_runs.acts b.processor t b.ticks b.asked from_act.asks));

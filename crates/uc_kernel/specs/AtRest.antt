@@ -23,7 +23,7 @@ use Rattle.uc_kernel.specs.declared.given.Back.{Back}
 use Rattle.uc_kernel.specs.declared.given.Given.{Given}
 use Rattle.uc_kernel.specs.declared.given.Next.{Next}
 use Rattle.uc_kernel.specs.declared.given.Next.TheVariants.{Go, Blocked, Ended}
-use Rattle.uc_kernel.specs.declared.rests.Rest.{Rest}
+use Rattle.uc_kernel.specs.declared.rests.TaskAtRest.{TaskAtRest}
 use Rattle.uc_kernel.specs.Numbered.{keys, without}
 
 -- a spot at which nobody is let in
@@ -37,10 +37,10 @@ pub record IsOut (t : ℕ) (j : Journal) : Type 0 where
   pub runs : running processor j ≡ t ∷ []
 
 -- what lies where, while the run goes on: a task at rest has the members of the objects that it is inside, in their order; loose members are those of objects that nobody is inside
-pub record Lies {T M : Type 0} (j : Journal) (tasks : List (Option (Rest T M))) (loose : List (Option M)) : Type 0 where
-  pub hands : (t : ℕ) (r : Rest T M) → slice_index_or tasks t None ≡ Some r → keys r.members.items ≡ held t j
+pub record Lies {T M : Type 0} (j : Journal) (tasks : List (Option (TaskAtRest T M))) (loose : List (Option M)) : Type 0 where
+  pub hands : (t : ℕ) (r : TaskAtRest T M) → slice_index_or tasks t None ≡ Some r → keys r.members.items ≡ held t j
   -- who may be let in has room for one more
-  pub room : (t : ℕ) (r : Rest T M) → slice_index_or tasks t None ≡ Some r → is_ready (spot t j) ≡ false → 1 ≤ r.members.spare
+  pub room : (t : ℕ) (r : TaskAtRest T M) → slice_index_or tasks t None ≡ Some r → is_ready (spot t j) ≡ false → 1 ≤ r.members.spare
   pub loose_are : (o : ℕ) (m : M) → slice_index_or loose o None ≡ Some m → (t : ℕ) → has (held t j) o ≡ false
   -- an object that is there and that nobody is inside has its members among them
   pub present : (o : ℕ) → o < object_count j → is_gone o j ≡ false → ((t : ℕ) → has (held t j) o ≡ false) → slice_index_or loose o None ≡ None → ⊥
@@ -50,7 +50,7 @@ pub record Lies {T M : Type 0} (j : Journal) (tasks : List (Option (Rest T M))) 
   pub out : (p t : ℕ) → running p j ≡ t ∷ [] → slice_index_or tasks t None ≡ None
   pub there : (t : ℕ) → t < length tasks → slice_index_or tasks t None ≡ None → IsOut t j
 
-pub record IsKept {T M : Type 0} (s : Seen) (tasks : List (Option (Rest T M))) (loose : List (Option M)) : Type 0 where
+pub record IsKept {T M : Type 0} (s : Seen) (tasks : List (Option (TaskAtRest T M))) (loose : List (Option M)) : Type 0 where
   pub runs : KernelRuns s.opts s.sites s.input s.journal
   pub range : InRange s.opts
   pub small : length s.input ≤ INPUT_BYTES
@@ -93,19 +93,19 @@ abbrev pub AreApart : {M : Type 0} → List (ℕ × M) → Type 0
 AreApart h = (o : ℕ) → times o (keys h) ≤ 1
 
 -- a task at rest has room for one more in its hand
-abbrev pub HasRoom : {T M : Type 0} → List (Option (Rest T M)) → ℕ → Type 0
-HasRoom {T} {M} tasks t = (r : Rest T M) → slice_index_or tasks t None ≡ Some r → 1 ≤ r.members.spare
+abbrev pub HasRoom : {T M : Type 0} → List (Option (TaskAtRest T M)) → ℕ → Type 0
+HasRoom {T} {M} tasks t = (r : TaskAtRest T M) → slice_index_or tasks t None ≡ Some r → 1 ≤ r.members.spare
 
 -- members went into the hand of a task at rest
-pub record GivenTo {T M : Type 0} (o : ℕ) (m : M) (r r' : Rest T M) : Type 0 where
+pub record GivenTo {T M : Type 0} (o : ℕ) (m : M) (r r' : TaskAtRest T M) : Type 0 where
   pub task : r'.task ≡ r.task
   pub items : r'.members.items ≡ r.members.items ++ (o, m) ∷ []
 
 -- the members of an object, where they are loose, go to whoever is let in: into the hand of the acting task, or of a task at rest
-pub data LetIn {T M : Type 0} (e : Entry) (t : ℕ) (h h' : Listed (ℕ × M)) (tasks tasks' : List (Option (Rest T M))) (loose : List (Option M)) : Type 0 where
+pub data LetIn {T M : Type 0} (e : Entry) (t : ℕ) (h h' : Listed (ℕ × M)) (tasks tasks' : List (Option (TaskAtRest T M))) (loose : List (Option M)) : Type 0 where
   none_there : slice_index_or loose e.object None ≡ None → h' ≡ h → tasks' ≡ tasks → LetIn e t h h' tasks tasks' loose
   own : (m : M) → slice_index_or loose e.object None ≡ Some m → (e.task == t) ≡ true → h'.items ≡ h.items ++ (e.object, m) ∷ [] → tasks' ≡ tasks → LetIn e t h h' tasks tasks' loose
-  another : (m : M) (r r' : Rest T M) → slice_index_or loose e.object None ≡ Some m → (e.task == t) ≡ false → h' ≡ h → slice_index_or tasks e.task None ≡ Some r → GivenTo e.object m r r' → tasks' ≡ slice_set tasks e.task (Some r') → LetIn e t h h' tasks tasks' loose
+  another : (m : M) (r r' : TaskAtRest T M) → slice_index_or loose e.object None ≡ Some m → (e.task == t) ≡ false → h' ≡ h → slice_index_or tasks e.task None ≡ Some r → GivenTo e.object m r r' → tasks' ≡ slice_set tasks e.task (Some r') → LetIn e t h h' tasks tasks' loose
 
 -- the members of object o stand at place i of a hand, and nowhere before
 pub record Stands {M : Type 0} (o : ℕ) (h : List (ℕ × M)) (i : ℕ) : Type 0 where
@@ -115,7 +115,7 @@ pub record Stands {M : Type 0} (o : ℕ) (h : List (ℕ × M)) (i : ℕ) : Type 
   pub finds : find o h ≡ Some item
 
 -- the same as FromAct, with the first entry of the act and the admission that comes second, if one does
-pub record IsAct {T M : Type 0} (s : Seen) (t : ℕ) (first : Entry) (admission : Option Entry) (b : Back T M) (tasks : List (Option (Rest T M))) (loose : List (Option M)) : Type 0 where
+pub record IsAct {T M : Type 0} (s : Seen) (t : ℕ) (first : Entry) (admission : Option Entry) (b : Back T M) (tasks : List (Option (TaskAtRest T M))) (loose : List (Option M)) : Type 0 where
   pub before : Journal
   pub runs : KernelRuns s.opts s.sites s.input before
   pub going : is_over before ≡ false
@@ -141,14 +141,14 @@ IsSpawn (ask.Spawn o) = Unit {0}
 IsSpawn r = ⊥
 
 -- what is handed out for task t, which runs on p, from what was at rest
-pub record TakenOut {T M : Type 0} (s : Seen) (p t : ℕ) (r : Option (Rest T M)) (g : Given T M) : Type 0 where
+pub record TakenOut {T M : Type 0} (s : Seen) (p t : ℕ) (r : Option (TaskAtRest T M)) (g : Given T M) : Type 0 where
   pub rest : r ≡ Some (record { task = g.task; members = g.members })
   pub processor : g.processor ≡ p
   pub answer : (x : Answer) → answer_to s.sites t s.journal ≡ Some x → g.answer ≡ x
   pub left : g.left ≡ left s.opts s.journal t
 
 -- the task goes on with this value and these members, and what is at rest stays
-pub record GoesWith {T M : Type 0} (s : Seen) (p t : ℕ) (value : T) (members : Listed (ℕ × M)) (tasks tasks' : List (Option (Rest T M))) (g : Given T M) : Type 0 where
+pub record GoesWith {T M : Type 0} (s : Seen) (p t : ℕ) (value : T) (members : Listed (ℕ × M)) (tasks tasks' : List (Option (TaskAtRest T M))) (g : Given T M) : Type 0 where
   pub runner : ℕ
   pub runs : running p s.journal ≡ runner ∷ []
   pub processor : g.processor ≡ p
@@ -158,29 +158,29 @@ pub record GoesWith {T M : Type 0} (s : Seen) (p t : ℕ) (value : T) (members :
   pub left : g.left ≡ left s.opts s.journal t
   pub rest : tasks' ≡ tasks
 
-pub record RestsWith {T M : Type 0} (s : Seen) (p t : ℕ) (value : T) (members : Listed (ℕ × M)) (tasks tasks' : List (Option (Rest T M))) : Type 0 where
+pub record RestsWith {T M : Type 0} (s : Seen) (p t : ℕ) (value : T) (members : Listed (ℕ × M)) (tasks tasks' : List (Option (TaskAtRest T M))) : Type 0 where
   pub free : running p s.journal ≡ []
   pub rest : tasks' ≡ slice_set tasks t (Some (record { task = value; members = members }))
 
-abbrev pub HandedOn : {T M : Type 0} → Seen → ℕ → ℕ → T → Listed (ℕ × M) → List (Option (Rest T M)) → Next T M → List (Option (Rest T M)) → Type 0
+abbrev pub HandedOn : {T M : Type 0} → Seen → ℕ → ℕ → T → Listed (ℕ × M) → List (Option (TaskAtRest T M)) → Next T M → List (Option (TaskAtRest T M)) → Type 0
 HandedOn s p t value members tasks (Go g) tasks' = GoesWith s p t value members tasks tasks' g
 HandedOn s p t value members tasks Blocked tasks' = RestsWith s p t value members tasks tasks'
 HandedOn s p t value members tasks Ended tasks' = ⊥
 
 -- task 0 at rest, with the members of object 0
-pub record IsFirst {T M : Type 0} (first : T) (own : M) (tasks : List (Option (Rest T M))) : Type 0 where
-  pub rest : Rest T M
+pub record IsFirst {T M : Type 0} (first : T) (own : M) (tasks : List (Option (TaskAtRest T M))) : Type 0 where
+  pub rest : TaskAtRest T M
   pub is : tasks ≡ Some rest ∷ []
   pub task : rest.task ≡ first
   pub items : rest.members.items ≡ (0, own) ∷ []
 
 -- what an admission, if there is one, does to what lies where
-pub record LetInBy {T M : Type 0} (admission : Option Entry) (t : ℕ) (h h' : Listed (ℕ × M)) (tasks tasks' : List (Option (Rest T M))) (loose loose' : List (Option M)) : Type 0 where
+pub record LetInBy {T M : Type 0} (admission : Option Entry) (t : ℕ) (h h' : Listed (ℕ × M)) (tasks tasks' : List (Option (TaskAtRest T M))) (loose loose' : List (Option M)) : Type 0 where
   pub none : admission ≡ None → (h' ≡ h) × (tasks' ≡ tasks) × (loose' ≡ loose)
   pub some : (e : Entry) → admission ≡ Some e → LetIn e t h h' tasks tasks' loose × (loose' ≡ slice_set loose e.object None)
 
 -- what an admission, if there is one, asks of what lies where
-pub record CanLetIn {T M : Type 0} (admission : Option Entry) (t : ℕ) (h : Listed (ℕ × M)) (tasks : List (Option (Rest T M))) (loose : List (Option M)) : Type 0 where
+pub record CanLetIn {T M : Type 0} (admission : Option Entry) (t : ℕ) (h : Listed (ℕ × M)) (tasks : List (Option (TaskAtRest T M))) (loose : List (Option M)) : Type 0 where
   pub object : (e : Entry) → admission ≡ Some e → e.object < length loose
   pub known : (e : Entry) → admission ≡ Some e → e.task < length tasks
   pub own : (e : Entry) → admission ≡ Some e → (e.task == t) ≡ true → 1 ≤ h.spare
@@ -188,7 +188,7 @@ pub record CanLetIn {T M : Type 0} (admission : Option Entry) (t : ℕ) (h : Lis
   pub there : (e : Entry) → admission ≡ Some e → (e.task == t) ≡ false → slice_index_or tasks e.task None ≡ None → ⊥
 
 -- the journal of s goes on from an earlier one by the act of what was brought, and what is at rest still lies as it did before
-pub record FromAct {T M : Type 0} (s : Seen) (t : ℕ) (b : Back T M) (tasks : List (Option (Rest T M))) (loose : List (Option M)) : Type 0 where
+pub record FromAct {T M : Type 0} (s : Seen) (t : ℕ) (b : Back T M) (tasks : List (Option (TaskAtRest T M))) (loose : List (Option M)) : Type 0 where
   pub before : Journal
   pub runs : KernelRuns s.opts s.sites s.input before
   pub going : is_over before ≡ false
@@ -200,14 +200,14 @@ pub record FromAct {T M : Type 0} (s : Seen) (t : ℕ) (b : Back T M) (tasks : L
   pub lies : Lies before tasks loose
 
 -- a new task is at rest, with the members of its object in its hand
-pub record HasChild {T M : Type 0} (tasks tasks' : List (Option (Rest T M))) (child : T) (o : ℕ) (m : M) : Type 0 where
-  pub rest : Rest T M
+pub record HasChild {T M : Type 0} (tasks tasks' : List (Option (TaskAtRest T M))) (child : T) (o : ℕ) (m : M) : Type 0 where
+  pub rest : TaskAtRest T M
   pub task : rest.task ≡ child
   pub items : rest.members.items ≡ (o, m) ∷ []
   pub last : tasks' ≡ tasks ++ Some rest ∷ []
 
 -- the same, with the first entry of the act
-pub record FromFirst {T M : Type 0} (s : Seen) (t : ℕ) (first : Entry) (b : Back T M) (tasks : List (Option (Rest T M))) (loose : List (Option M)) : Type 0 where
+pub record FromFirst {T M : Type 0} (s : Seen) (t : ℕ) (first : Entry) (b : Back T M) (tasks : List (Option (TaskAtRest T M))) (loose : List (Option M)) : Type 0 where
   pub before : Journal
   pub from : FromAct s t b tasks loose
   pub before_is : before ≡ from.before

@@ -7,7 +7,7 @@ use Rattle.uc_entry.specs.Keyed.{find}
 use Rattle.uc_acts.specs.Journal.{held}
 use Rattle.uc_acts.specs.Known.{has, spawns, takes_out}
 use Rattle.uc_kernel_core.specs.Mirrors.{Seen}
-use Rattle.uc_kernel.specs.declared.rests.Rest.{Rest}
+use Rattle.uc_kernel.specs.declared.rests.TaskAtRest.{TaskAtRest}
 use Rattle.uc_kernel.specs.Numbered.{or_else}
 
 -- values at rest by task, members at rest by object, wherever they lie
@@ -60,10 +60,10 @@ pub record Store (T M : Type 0) : Type 0 where
   pub opts : Options
   pub input : List ℕ
   pub abandoned : Bool
-  pub tasks : List (Option (Rest T M))
+  pub tasks : List (Option (TaskAtRest T M))
   pub loose : List (Option M)
 
-abbrev pub stored : {T M : Type 0} → Seen → Bool → List (Option (Rest T M)) → List (Option M) → Store T M
+abbrev pub stored : {T M : Type 0} → Seen → Bool → List (Option (TaskAtRest T M)) → List (Option M) → Store T M
 stored s abandoned tasks loose = record {
   journal = s.journal;
   sites = s.sites;
@@ -74,16 +74,16 @@ stored s abandoned tasks loose = record {
   loose = loose;
 }
 
-abbrev pub task_in : {T M : Type 0} → Option (Rest T M) → Option T
+abbrev pub task_in : {T M : Type 0} → Option (TaskAtRest T M) → Option T
 task_in None = None
 task_in (Some r) = Some r.task
 
 -- the members of object o in the hand of a task at rest
-abbrev pub member_in : {T M : Type 0} → ℕ → Option (Rest T M) → Option M
+abbrev pub member_in : {T M : Type 0} → ℕ → Option (TaskAtRest T M) → Option M
 member_in o None = None
 member_in o (Some r) = find o r.members.items
 
-abbrev pub member_among : {T M : Type 0} → ℕ → List (Option (Rest T M)) → Option M
+abbrev pub member_among : {T M : Type 0} → ℕ → List (Option (TaskAtRest T M)) → Option M
 member_among o [] = None
 member_among o (r ∷ rs) = or_else (member_in o r) (member_among o rs)
 

@@ -10,14 +10,14 @@ use crate::kernel::Kernel;
 
 /// A task that runs, and the ticks that it has left.
 #[derive(Clone, Copy, PartialEq, Eq, Debug)]
-pub struct Runner {
+pub struct RunningTask {
     pub task: u32,
     pub left: u32,
 }
 
 impl<T, M> Kernel<T, M> {
     /// Who runs on a processor. None where nobody does, or the run is over.
-    pub fn runner(&self, processor: u32) -> Option<Runner>
+    pub fn runner(&self, processor: u32) -> Option<RunningTask>
         ensures none { IfNone result (Journal.is_over self.now.journal ≡ false → running processor self.now.journal ≡ []) }
         ensures some { IfSome result (λ r. IsRunner self.now.opts self.now.journal processor r) }
         ensures small { IfSome result (λ r. r.task < TASKS) }
@@ -27,7 +27,7 @@ impl<T, M> Kernel<T, M> {
         }
         match self.book.runner(processor) {
             None => None,
-            Some(task) => Some(Runner {
+            Some(task) => Some(RunningTask {
                 task,
                 left: self.book.left(task),
             }),

@@ -19,22 +19,24 @@ ghost use Rattle.uc_kernel.specs.AtRest.{earlier, AreApart, FromAct, FromFirst, 
 
 use crate::given::{Back, Given, Next, Shape};
 use crate::hand::take_from;
-use crate::rests::{Rest, admission_at, drop_destroyed, entry_at, follow_first, follow_second};
+use crate::rests::{
+    TaskAtRest, admission_at, drop_destroyed, entry_at, follow_first, follow_second,
+};
 use std::alloc::{AllocError, Global};
 use std::marker::Model;
 use uc_entry::entry::{Entry, EntryKind, Options};
 use uc_entry::list::List;
 use uc_entry::request::{Answer, Request};
-use uc_kernel_core::book::Book;
+use uc_kernel_core::book::KernelCore;
 use uc_kernel_core::entries::Actor;
 
 /// The journal of a run with its queues, the values of the tasks that do not run, and the members of objects that no
 /// running task is inside.
 #[derive(Drop)]
 pub struct Kernel<T, M> {
-    pub(crate) book: Book,
+    pub(crate) book: KernelCore,
     // By the task.
-    tasks: Vec<Option<Rest<T, M>>>,
+    tasks: Vec<Option<TaskAtRest<T, M>>>,
     // By the object: the members of those that nobody is inside.
     loose: Vec<Option<M>>,
     abandoned: bool,
@@ -69,7 +71,7 @@ impl<T: Drop, M: Drop> Kernel<T, M> {
         ensures { IfOk result (λ k. Opened shape.sites.items opts input.items first own (kept k)) }
     {
         let Shape { sites } = shape;
-        let book = Book::open(alloc, &opts, sites, input)?;
+        let book = KernelCore::open(alloc, &opts, sites, input)?;
         let tasks = first_tasks(alloc, first, own)?;
         let loose = first_loose(alloc)?;
         Ok(Kernel {
@@ -223,14 +225,14 @@ impl<T: Drop, M: Drop> Kernel<T, M> {
 }
 
 // Whether the run is over.
-fn is_over(book: &Book) -> bool
+fn is_over(book: &KernelCore) -> bool
     ensures { result ≡ Journal.is_over book.now.journal }
 {
     book.ending().is_some()
 }
 
 // The task that acts.
-fn actor<T, M>(book: &Book, back: &Back<T, M>) -> Actor
+fn actor<T, M>(book: &KernelCore, back: &Back<T, M>) -> Actor
     requires going { Journal.is_over book.now.journal ≡ false }
     ensures processor { (t : ℕ) → running back.now.processor book.now.journal ≡ t ∷ [] → result.processor ≡ back.now.processor }
     ensures task { (t : ℕ) → running back.now.processor book.now.journal ≡ t ∷ [] → result.task ≡ t }
@@ -250,7 +252,7 @@ fn actor<T, M>(book: &Book, back: &Back<T, M>) -> Actor
 }
 
 // What the journal tells a task to go on with.
-fn answer_of(book: &Book, task: u32) -> Answer
+fn answer_of(book: &KernelCore, task: u32) -> Answer
     requires going { Journal.is_over book.now.journal ≡ false }
     requires small { task < TASKS }
     ensures { (x : _) → answer_to book.now.sites task book.now.journal ≡ Some x → result ≡ x }
@@ -263,8 +265,8 @@ fn answer_of(book: &Book, task: u32) -> Answer
 
 // Hands out a task at rest.
 fn take_out<T: Drop, M: Drop>(
-    book: &Book,
-    tasks: &mut Vec<Option<Rest<T, M>>>,
+    book: &KernelCore,
+    tasks: &mut Vec<Option<TaskAtRest<T, M>>>,
     processor: u32,
     task: u32,
 ) -> Option<Given<T, M>>
@@ -288,8 +290,8 @@ fn take_out<T: Drop, M: Drop>(
 
 // The task goes on where it still runs, and is put to rest otherwise.
 fn hand_on<T: Drop, M: Drop>(
-    book: &Book,
-    tasks: &mut Vec<Option<Rest<T, M>>>,
+    book: &KernelCore,
+    tasks: &mut Vec<Option<TaskAtRest<T, M>>>,
     processor: u32,
     task: u32,
     value: T,
@@ -310,7 +312,7 @@ fn hand_on<T: Drop, M: Drop>(
             left: book.left(task),
         }),
         None => {
-            tasks[task as usize] = Some(Rest {
+            tasks[task as usize] = Some(TaskAtRest {
                 task: value,
                 members,
             });
@@ -321,8 +323,8 @@ fn hand_on<T: Drop, M: Drop>(
 
 // What follows the act of a task, once its entries stand.
 fn follow<T: Drop, M: Drop>(
-    book: &Book,
-    tasks: &mut Vec<Option<Rest<T, M>>>,
+    book: &KernelCore,
+    tasks: &mut Vec<Option<TaskAtRest<T, M>>>,
     loose: &mut Vec<Option<M>>,
     task: u32,
     first: Entry,
@@ -342,7 +344,7 @@ fn follow<T: Drop, M: Drop>(
     } = back;
     if is_over(book) {
         drop_destroyed(&first, &mut members);
-        tasks[task as usize] = Some(Rest {
+        tasks[task as usize] = Some(TaskAtRest {
             task: value,
             members,
         });
@@ -377,7 +379,7 @@ fn object_of(request: &Request) -> u32
 
 // A new task is at rest, inside an object in its creator's place.
 fn settle_child<T: Drop, M: Drop>(
-    tasks: &mut Vec<Option<Rest<T, M>>>,
+    tasks: &mut Vec<Option<TaskAtRest<T, M>>>,
     object: u32,
     child: Option<T>,
     hand: List<(u64, M)>,
@@ -394,7 +396,7 @@ fn settle_child<T: Drop, M: Drop>(
     let own = take_from(members, object);
     match child {
         None => {}
-        Some(child) => tasks.push_reserved(Some(Rest {
+        Some(child) => tasks.push_reserved(Some(TaskAtRest {
             task: child,
             members: with_own(hand, object, own),
         })),
@@ -428,8 +430,8 @@ fn makes_none(e: &Entry) -> bool
 
 // What follows the act of a task that makes a task.
 fn follow_spawn<T: Drop, M: Drop>(
-    book: &Book,
-    tasks: &mut Vec<Option<Rest<T, M>>>,
+    book: &KernelCore,
+    tasks: &mut Vec<Option<TaskAtRest<T, M>>>,
     loose: &Vec<Option<M>>,
     task: u32,
     first: Entry,
@@ -453,7 +455,7 @@ fn follow_spawn<T: Drop, M: Drop>(
         ..
     } = back;
     if makes_none(&first) {
-        tasks[task as usize] = Some(Rest {
+        tasks[task as usize] = Some(TaskAtRest {
             task: value,
             members,
         });
@@ -461,7 +463,7 @@ fn follow_spawn<T: Drop, M: Drop>(
     }
     settle_child(tasks, first.object, child, hand, &mut members);
     if is_over(book) {
-        tasks[task as usize] = Some(Rest {
+        tasks[task as usize] = Some(TaskAtRest {
             task: value,
             members,
         });
@@ -472,8 +474,8 @@ fn follow_spawn<T: Drop, M: Drop>(
 
 // What follows the act of a task that makes an object.
 fn follow_make<T: Drop, M: Drop>(
-    book: &Book,
-    tasks: &mut Vec<Option<Rest<T, M>>>,
+    book: &KernelCore,
+    tasks: &mut Vec<Option<TaskAtRest<T, M>>>,
     loose: &mut Vec<Option<M>>,
     task: u32,
     back: Back<T, M>,
@@ -492,7 +494,7 @@ fn follow_make<T: Drop, M: Drop>(
         ..
     } = back;
     if is_over(book) {
-        tasks[task as usize] = Some(Rest {
+        tasks[task as usize] = Some(TaskAtRest {
             task: value,
             members,
         });
@@ -507,14 +509,14 @@ fn first_tasks<T: Drop, M: Drop>(
     alloc: Global,
     first: T,
     own: M,
-) -> Result<Vec<Option<Rest<T, M>>>, AllocError>
+) -> Result<Vec<Option<TaskAtRest<T, M>>>, AllocError>
     ensures { IfOk result (λ v. IsFirst first own v.items) }
 {
     let mut members = List::new(alloc);
     members.room()?;
     members.push((0, own));
     let mut tasks = Vec::with_capacity(alloc, 1)?;
-    tasks.push_reserved(Some(Rest {
+    tasks.push_reserved(Some(TaskAtRest {
         task: first,
         members,
     }));

@@ -11,7 +11,7 @@ use uc_entry::list::List;
 
 /// A task at rest: its value, and the members of the objects that it is inside.
 #[derive(Drop)]
-pub struct Rest<T, M> {
+pub struct TaskAtRest<T, M> {
     pub task: T,
     pub members: List<(u64, M)>,
 }
@@ -96,11 +96,16 @@ pub fn drop_destroyed<M: Drop>(e: &Entry, hand: &mut List<(u64, M)>)
 }
 
 /// Puts the members of an object into the hand of a task at rest.
-fn give<T: Drop, M: Drop>(tasks: &mut Vec<Option<Rest<T, M>>>, task: u32, object: u32, members: M)
+fn give<T: Drop, M: Drop>(
+    tasks: &mut Vec<Option<TaskAtRest<T, M>>>,
+    task: u32,
+    object: u32,
+    members: M,
+)
     requires known { task < length tasks.old.items }
     requires room { HasRoom tasks.old.items task }
     requires there { (slice_index_or tasks.old.items task None ≡ None) → ⊥ }
-    ensures { (r : Rest T M) → slice_index_or tasks.old.items task None ≡ Some r → (r' : Rest T M) × GivenTo object members r r' × (tasks.new.items ≡ slice_set tasks.old.items task (Some r')) }
+    ensures { (r : TaskAtRest T M) → slice_index_or tasks.old.items task None ≡ Some r → (r' : TaskAtRest T M) × GivenTo object members r r' × (tasks.new.items ≡ slice_set tasks.old.items task (Some r')) }
 {
     match tasks[task as usize].take() {
         None => {}
@@ -116,7 +121,7 @@ pub fn follow_admission<T: Drop, M: Drop>(
     e: &Entry,
     task: u32,
     hand: &mut List<(u64, M)>,
-    tasks: &mut Vec<Option<Rest<T, M>>>,
+    tasks: &mut Vec<Option<TaskAtRest<T, M>>>,
     loose: &mut Vec<Option<M>>,
 )
     requires object { e.now.object < length loose.old.items }
@@ -145,7 +150,7 @@ pub fn follow_second<T: Drop, M: Drop>(
     admission: Option<Entry>,
     task: u32,
     hand: &mut List<(u64, M)>,
-    tasks: &mut Vec<Option<Rest<T, M>>>,
+    tasks: &mut Vec<Option<TaskAtRest<T, M>>>,
     loose: &mut Vec<Option<M>>,
 )
     requires can { CanLetIn admission task hand.old tasks.old.items loose.old.items }

@@ -5,12 +5,12 @@ ghost use Rattle.uc_acts.specs.KernelRuns.{IsAt};
 ghost use Rattle.uc_entry.specs.declared.request.Request.TheVariants as ask;
 ghost use Rattle.uc_kernel_core.specs.Mirrors.{Appended, MayAct, rows};
 
-use crate::book::Book;
+use crate::book::KernelCore;
 use crate::entries::{Actor, accept_entry, admit_entry, push_entry};
 use crate::uncounted::accept_at;
 use uc_accept::Accepted;
 
-impl Book {
+impl KernelCore {
     /// A task accepts at a statement, with a mask of its true clauses.
     pub(crate) fn accept(&mut self, who: Actor, object: u32, site: u32, mask: u32)
         requires may { MayAct self.old who.processor who.task }

@@ -6,12 +6,12 @@ ghost use Rattle.uc_acts.specs.KernelRuns.{Fits, MayAsk};
 ghost use Rattle.uc_kernel_core.specs.Mirrors.{Appended, MayAct, rows};
 ghost use Rattle.uc_kernel_core.specs.CoreActs.{acts, makes_new, IsReady};
 
-use crate::book::Book;
+use crate::book::KernelCore;
 use crate::entries::Actor;
 use std::alloc::AllocError;
 use uc_entry::request::Request;
 
-impl Book {
+impl KernelCore {
     /// The act of what a task asks: any request but those for which memory is taken, `make_object` and `spawn`.
     pub fn act(&mut self, who: Actor, request: &Request)
         requires ready { IsReady self.old }

@@ -8,11 +8,11 @@ ghost use Rattle.uc_acts.specs.Queues.{running};
 ghost use Rattle.uc_acts.specs.Serves.{left};
 ghost use Rattle.uc_kernel_journal.specs.JournalSums.{last_kind};
 
-use crate::book::Book;
+use crate::book::KernelCore;
 use uc_entry::entry::EntryKind;
 use uc_entry::request::Answer;
 
-impl Book {
+impl KernelCore {
     /// The kind of the entry that ends the run, if there is one. It is the last.
     pub fn ending(&self) -> Option<EntryKind>
         ensures over { is_some result ≡ is_over self.now.journal }
@@ -36,7 +36,7 @@ impl Book {
         requires task { task < TASKS }
         ensures { result ≡ left self.now.opts self.now.journal task }
     {
-        let used = self.told.spent(task);
+        let used = self.told.ticks_since_dispatch(task);
         u64::from(self.opts.slice).saturating_sub(used) as u32
     }
 

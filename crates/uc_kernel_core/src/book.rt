@@ -33,15 +33,15 @@ use uc_entry::entry::{Entry, EntryKind, Options};
 use uc_entry::request::Piece;
 use uc_events::Events;
 use uc_input::reading::read_form;
-use uc_kernel_journal::Chronicle;
+use uc_kernel_journal::KernelJournal;
 use uc_mutex::Entries;
 use uc_tree::limits::TASKS;
 use uc_tree::site::Site;
 
 /// The journal of a run and the queues of its kernel.
 #[derive(Drop)]
-pub struct Book {
-    pub(crate) told: Chronicle,
+pub struct KernelCore {
+    pub(crate) told: KernelJournal,
     pub(crate) entries: Entries,
     pub(crate) conditions: Conditions,
     pub(crate) events: Events,
@@ -58,7 +58,7 @@ pub struct Book {
     pub(crate) input: Vec<u8>,
 }
 
-impl Model for Book {
+impl Model for KernelCore {
     ghost use Rattle.uc_kernel_core.specs.Mirrors.{Seen, seen, IsBook};
 
     ghost Value = { Seen };
@@ -68,19 +68,19 @@ impl Model for Book {
     ghost invariant = { λ b. IsBook b.told b.entries b.conditions b.events b.clusters b.marks.items b.inside_marks.items b.owners.items b.own.items b.opts };
 }
 
-impl Book {
+impl KernelCore {
     /// A run that opens with these options, over these accept statements and this input.
     pub fn open(
         alloc: Global,
         opts: &Options,
         sites: Vec<Site>,
         input: Vec<u8>,
-    ) -> Result<Book, AllocError>
+    ) -> Result<KernelCore, AllocError>
         requires options { InRange opts.now }
         requires sites { AreKnownSites sites.items }
         ensures { IfOk result (λ b. b ≡ record { journal = begin opts.now ∷ []; sites = sites.items; opts = opts.now; input = input.items }) }
     {
-        let told = Chronicle::new(alloc, opts, sites, TASKS, opts.entries + 40)?;
+        let told = KernelJournal::new(alloc, opts, sites, TASKS, opts.entries + 40)?;
         let entries = first_entries(alloc)?;
         let conditions = first_conditions(alloc)?;
         let events = first_events(alloc)?;
@@ -89,7 +89,7 @@ impl Book {
         let inside_marks = no_marks(alloc, 1)?;
         let owners = first_owners(alloc)?;
         let own = first_objects(alloc, TASKS)?;
-        Ok(Book {
+        Ok(KernelCore {
             told,
             entries,
             conditions,
@@ -408,7 +408,7 @@ impl Book {
         requires going { is_over self.now.journal ≡ false }
         ensures { result ≡ has_failed self.now.journal }
     {
-        self.told.failed()
+        self.told.has_read_failed()
     }
 
     fn bytes_used(&self) -> u32
@@ -426,7 +426,7 @@ impl Book {
         ensures sum { bytes_used self.now.journal + result.taken < 4294967296 }
     {
         got_after(
-            self.told.failed(),
+            self.told.has_read_failed(),
             form,
             self.told.bytes() as usize,
             self.input.as_slice(),

@@ -5,12 +5,12 @@ ghost use Rattle.uc_acts.specs.KernelRuns.{IsOutside};
 ghost use Rattle.uc_entry.specs.declared.request.Request.TheVariants as ask;
 ghost use Rattle.uc_kernel_core.specs.Mirrors.{Appended, MayAct, rows};
 
-use crate::book::{Book, destroys_busy};
+use crate::book::{KernelCore, destroys_busy};
 use crate::entries::{Actor, admit_entry, busy_entry, call_entry, push_entry};
 use uc_mutex::called::Called;
 use uc_tree::limits::DESTRUCTOR;
 
-impl Book {
+impl KernelCore {
     /// A task calls a member of an object that it is not inside.
     pub(crate) fn call(&mut self, who: Actor, object: u32, member: u8)
         requires may { MayAct self.old who.processor who.task }

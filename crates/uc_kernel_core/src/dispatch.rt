@@ -2,11 +2,11 @@
 ghost use Rattle.std.specs.Prelude.{◌≡◌, IfSome, IfNone};
 ghost use Rattle.uc_kernel_core.specs.CoreActs.{Gave, GaveNone, IsReady};
 
-use crate::book::Book;
+use crate::book::KernelCore;
 use crate::entries::{closing_entry, dispatch_entry};
 use uc_entry::entry::EntryKind;
 
-impl Book {
+impl KernelCore {
     /// The least processor that is open and free and whose cluster has a ready task is given the front of that cluster's queue:
     /// the processor and the task. `None`, exactly where there is no such processor, and nothing changes, or where there is no
     /// room for a dispatch and one entry more, and the limit ends the run.

@@ -8,12 +8,12 @@ ghost use Rattle.uc_acts.specs.Acts.{closing, fitted, verdict};
 ghost use Rattle.uc_kernel_core.specs.Mirrors.{Appended};
 ghost use Rattle.uc_kernel_core.specs.CoreActs.{Replaced};
 
-use crate::book::Book;
+use crate::book::KernelCore;
 use crate::entries::{Actor, closing_entry};
 use uc_cluster::Stalled;
 use uc_entry::entry::EntryKind;
 
-impl Book {
+impl KernelCore {
     /// Ends the act whose entries stand behind the first `before`.
     pub(crate) fn finish(&mut self, who: Actor, before: usize)
         requires task { who.task < TASKS }

@@ -4,12 +4,12 @@ ghost use Rattle.uc_acts.specs.Queues.{cluster_count, processor_count};
 ghost use Rattle.uc_entry.specs.declared.request.Request.TheVariants as ask;
 ghost use Rattle.uc_kernel_core.specs.Mirrors.{Appended, MayAct, rows};
 
-use crate::book::Book;
+use crate::book::KernelCore;
 use crate::entries::{Actor, fault_entry, number_entry};
 use uc_entry::entry::EntryKind;
 use uc_entry::fault::RunFault;
 
-impl Book {
+impl KernelCore {
     /// A task makes a cluster.
     pub(crate) fn cluster(&mut self, who: Actor)
         requires may { MayAct self.old who.processor who.task }

@@ -7,10 +7,10 @@ ghost use Rattle.uc_acts.specs.Known.{object_count, owner};
 ghost use Rattle.uc_entry.specs.declared.request.Request.TheVariants as ask;
 ghost use Rattle.uc_kernel_core.specs.Mirrors.{Appended, MayAct, rows};
 
-use crate::book::Book;
+use crate::book::KernelCore;
 use crate::entries::{Actor, fault_entry, raise_entry};
 
-impl Book {
+impl KernelCore {
     /// Whether an object is some task's own, while the run goes on.
     pub fn is_owned(&self, object: u32) -> bool
         requires going { is_over self.now.journal ≡ false }

@@ -8,14 +8,14 @@ ghost use Rattle.uc_acts.specs.Known.{owner};
 ghost use Rattle.uc_entry.specs.declared.request.Request.TheVariants as ask;
 ghost use Rattle.uc_kernel_core.specs.Mirrors.{Appended, MayAct, rows};
 
-use crate::book::Book;
+use crate::book::KernelCore;
 use crate::entries::{Actor, fault_entry, object_entry};
 use std::alloc::AllocError;
 use uc_entry::entry::EntryKind;
 use uc_entry::fault::RunFault;
 use uc_tree::limits::{OBJECTS, TASKS};
 
-impl Book {
+impl KernelCore {
     /// One thing too many is asked for.
     fn too_many(&mut self, who: Actor, what: RunFault)
         requires may { MayAct self.old who.processor who.task }

@@ -15,12 +15,12 @@ ghost use Rattle.uc_entry.specs.declared.request.Request.TheVariants as ask;
 ghost use Rattle.uc_kernel_core.specs.Mirrors.{Appended, CanPut, MayAct, rows};
 ghost use Rattle.uc_kernel_core.specs.Waiters.{front_admitted, front_pushed};
 
-use crate::book::{Book, destroys_busy};
+use crate::book::{KernelCore, destroys_busy};
 use crate::entries::{Actor, admit_entry, busy_entry, condition_entry, push_entry, signal_entry};
 use crate::uncounted::push_on;
 use uc_entry::entry::EntryKind;
 
-impl Book {
+impl KernelCore {
     /// A task waits on a condition of the object that it is inside: it goes out, and off its processor.
     fn put_wait(&mut self, who: Actor, object: u32, cond: u16, n: i64)
         requires can { CanPut self.old (Journal.asking kind.Wait who.processor who.task (cost who.ticks who.line) object (pos cond) n) }

@@ -23,7 +23,7 @@ use uc_tree::site::Site;
 /// Contracts see the journal, the accept statements, for how many entries memory was taken, and for how many tasks. `new`
 /// takes all memory, and writes to none that tasks to come would have; no other call takes any.
 #[derive(Drop)]
-pub struct Chronicle {
+pub struct KernelJournal {
     sites: Vec<Site>,
     journal: Vec<Entry>,
     // Ticks of all tasks.
@@ -42,7 +42,7 @@ pub struct Chronicle {
     tasks: u32,
 }
 
-impl Model for Chronicle {
+impl Model for KernelJournal {
     ghost use Rattle.std.specs.Prelude.{◌≤◌};
     ghost use Rattle.std.specs.Vec.{vec_capacity};
     ghost use Rattle.uc_kernel_journal.specs.JournalSums.{Told, IsTold};
@@ -54,7 +54,7 @@ impl Model for Chronicle {
     ghost invariant = { λ c. (c.room ≤ vec_capacity c.journal) × IsTold c.sites.items c.journal.items c.ticks c.spent c.answers c.bytes c.failed c.ended c.room c.tasks };
 }
 
-impl Chronicle {
+impl KernelJournal {
     /// The journal of a run that opens with these options, with room for so many entries, and for the answers of so many
     /// tasks.
     pub fn new(
@@ -63,7 +63,7 @@ impl Chronicle {
         sites: Vec<Site>,
         tasks: u32,
         room: u32,
-    ) -> Result<Chronicle, AllocError>
+    ) -> Result<KernelJournal, AllocError>
         requires options { InRange opts.now }
         requires sites { AreShort sites.items }
         requires tasks { 1 ≤ tasks }
@@ -74,7 +74,7 @@ impl Chronicle {
         let spent = Table::new(alloc, tasks, 0)?;
         let answers = first_answers(alloc, tasks)?;
         journal.push_reserved(begin_entry(opts));
-        Ok(Chronicle {
+        Ok(KernelJournal {
             sites,
             journal,
             ticks: 0,
@@ -140,7 +140,7 @@ impl Chronicle {
     }
 
     /// The ticks of a task since its last dispatch.
-    pub fn spent(&self, task: u32) -> u64
+    pub fn ticks_since_dispatch(&self, task: u32) -> u64
         requires going { is_over self.now.journal ≡ false }
         requires task { task < self.now.tasks }
         ensures { result ≡ used task self.now.journal }
@@ -166,7 +166,7 @@ impl Chronicle {
     }
 
     /// Whether a read has failed.
-    pub fn failed(&self) -> bool
+    pub fn has_read_failed(&self) -> bool
         requires going { is_over self.now.journal ≡ false }
         ensures { result ≡ has_failed self.now.journal }
     {

@@ -4,4 +4,4 @@
 pub mod chronicle;
 mod notes;
 
-pub use chronicle::Chronicle;
+pub use chronicle::KernelJournal;

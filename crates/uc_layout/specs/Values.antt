@@ -4,7 +4,7 @@ use Rattle.std.specs.List.{list_any}
 use Rattle.uc_tree.specs.Names.{same_name}
 use Rattle.uc_tree.specs.Programs.{Constant, Member}
 use Rattle.uc_tree.specs.Cells.{member_form_named}
-use Rattle.uc_layout.specs.declared.named.Named.{Named}
+use Rattle.uc_layout.specs.declared.named.VisibleValues.{VisibleValues}
 
 -- what a table gives for a name: the value of the first constant of that name; the first of the list has the place i
 abbrev pub value_from : List Constant → ℕ → List (Option ℤ) → List ℕ → Option ℤ
@@ -18,5 +18,5 @@ value_at cs vs = value_from cs 0 vs
 abbrev pub seen_at : List Constant → List (Option ℤ) → List Member → List ℕ → Option ℤ
 seen_at cs vs ms name = if list_any (λ m. member_form_named name m.form) ms then None else value_at cs vs name
 
-abbrev pub seen_by : Named → List ℕ → Option ℤ
+abbrev pub seen_by : VisibleValues → List ℕ → Option ℤ
 seen_by n = seen_at (map (λ c. c.now) n.constants.now) n.values.now n.hidden.now

@@ -5,7 +5,7 @@ ghost use Rattle.uc_tree.specs.Constants.{unary_value, binary_value, converted, 
 ghost use Rattle.uc_tree.specs.Expressions.{links_of};
 ghost use Rattle.uc_layout.specs.Values.{seen_by};
 
-use crate::named::{NameValues, Named};
+use crate::named::{NameValues, VisibleValues};
 use uc_tree::expr::{Expr, ExprForm, Link};
 use uc_tree::int::{difference, int_of, negated, product, quotient, remainder, sum};
 use uc_tree::kinds::Base;
@@ -63,7 +63,7 @@ pub fn converted_to(base: &Base, x: i64) -> i64
 }
 
 /// The value of an expression, in which these are the values of names.
-pub fn value_of(e: &Expr, named: &Named) -> Option<i64>
+pub fn value_of(e: &Expr, named: &VisibleValues) -> Option<i64>
     ensures { result ≡ value_in e.now (seen_by named.now) }
 {
     let value = value_by(e, named);

@@ -9,9 +9,9 @@ ghost use Rattle.uc_tree.specs.Objects.{event_from};
 ghost use Rattle.uc_layout.specs.FieldContents.{event_in, row_by, rows_by};
 
 use crate::eval::value_by;
-use crate::known::{Inside, names_of_members};
+use crate::known::{HiddenByTable, names_of_members};
 use crate::named::NameValues;
-use crate::places::{Classes, Known};
+use crate::places::{Classes, ConstantValues};
 use std::alloc::{AllocError, Global};
 use uc_tree::class::{Class, Member, MemberForm};
 use uc_tree::declare::Declarator;
@@ -231,13 +231,13 @@ pub fn leading_cells(kind: Kind) -> u32
 fn row_of(
     alloc: Global,
     classes: &Classes,
-    known: &Known,
+    known: &ConstantValues,
     class: &Class,
 ) -> Result<ClassLayout, AllocError>
     ensures { IfOk result (λ r. r ≡ row_by (map (λ c. c.now) classes.now.list.now) (map (λ c. c.now) known.now.constants.now) known.now.values.now class.now) }
 {
     let members = names_of_members(alloc, &class.members)?;
-    let inside = Inside {
+    let inside = HiddenByTable {
         known: *known,
         members: &members,
     };
@@ -252,7 +252,7 @@ fn row_of(
 pub fn rows_of(
     alloc: Global,
     classes: &Classes,
-    known: &Known,
+    known: &ConstantValues,
 ) -> Result<Vec<ClassLayout>, AllocError>
     ensures { IfOk result (λ v. v.items ≡ rows_by (map (λ c. c.now) classes.now.list.now) (map (λ c. c.now) known.now.constants.now) known.now.values.now) }
 {

@@ -9,14 +9,14 @@ ghost use Rattle.uc_names.specs.Blocks.{found};
 ghost use Rattle.uc_layout.specs.Known.{known_by, shown_by, inside_by};
 
 use crate::named::{NameValues, is_member};
-use crate::places::{Known, place_in};
+use crate::places::{ConstantValues, place_in};
 use std::alloc::{AllocError, Global};
 use uc_names::scope::Scope;
 use uc_tree::class::{Member, MemberForm};
 use uc_tree::declare::Declarator;
 use uc_tree::name::Name;
 
-impl<'a> NameValues for Known<'a> {
+impl<'a> NameValues for ConstantValues<'a> {
     ghost value_named = { known_by };
 
     fn value(&self, name: &Name) -> Option<i64> {
@@ -33,12 +33,12 @@ impl<'a> NameValues for Known<'a> {
 /// The same among these members of a class, which hide constants of their names. It goes through the members for each name
 /// that is a constant's.
 #[derive(Clone, Copy)]
-pub struct Shown<'a> {
-    pub known: Known<'a>,
+pub struct HiddenByList<'a> {
+    pub known: ConstantValues<'a>,
     pub members: &'a [Member],
 }
 
-impl<'a> NameValues for Shown<'a> {
+impl<'a> NameValues for HiddenByList<'a> {
     ghost value_named = { shown_by };
 
     fn value(&self, name: &Name) -> Option<i64> {
@@ -57,12 +57,12 @@ impl<'a> NameValues for Shown<'a> {
 
 /// The same among members whose names are in a table.
 #[derive(Clone, Copy)]
-pub struct Inside<'a> {
-    pub known: Known<'a>,
+pub struct HiddenByTable<'a> {
+    pub known: ConstantValues<'a>,
     pub members: &'a Scope,
 }
 
-impl<'a> NameValues for Inside<'a> {
+impl<'a> NameValues for HiddenByTable<'a> {
     ghost value_named = { inside_by };
 
     fn value(&self, name: &Name) -> Option<i64> {

@@ -23,13 +23,13 @@ pub trait NameValues {
 /// The values of names: of constants, with a value or none for each in the table, but for those that members of a class
 /// hide.
 #[derive(Clone, Copy)]
-pub struct Named<'a> {
+pub struct VisibleValues<'a> {
     pub constants: &'a [&'a Constant],
     pub values: &'a [Option<i64>],
     pub hidden: &'a [Member],
 }
 
-impl<'a> NameValues for Named<'a> {
+impl<'a> NameValues for VisibleValues<'a> {
     ghost value_named = { seen_by };
 
     fn value(&self, name: &Name) -> Option<i64> {

@@ -104,7 +104,7 @@ impl<'a> Constants<'a> {
 
 /// The values of constants, with a value or none for each in the table.
 #[derive(Clone, Copy)]
-pub struct Known<'a> {
+pub struct ConstantValues<'a> {
     pub constants: &'a [&'a Constant],
     pub places: &'a Scope,
     pub values: &'a [Option<i64>],

@@ -14,10 +14,10 @@ ghost use Rattle.uc_tree.specs.Constants.{constant_named, constants_of, elements
 use crate::cells::{cells_of, element_cells};
 use crate::circles::{circles_of, flag_at, holders_of, reaching};
 use crate::held::{elements_of, event_named, event_of, held_by, object_of, rows_of};
-use crate::known::Shown;
+use crate::known::HiddenByList;
 use crate::lists::{classes_in, constants_in};
 use crate::named::NameValues;
-use crate::places::{Classes, Known, place_in, places_of_classes, places_of_constants};
+use crate::places::{Classes, ConstantValues, place_in, places_of_classes, places_of_constants};
 use crate::settle::settle_classes;
 use crate::tables::values_of;
 use std::alloc::{AllocError, Global};
@@ -78,7 +78,7 @@ fn rows_in<'x, 'y>(
         list: classes,
         places: class_places,
     };
-    let known = Known {
+    let known = ConstantValues {
         constants,
         places: constant_places,
         values,
@@ -242,7 +242,7 @@ impl<'a> Sizes<'a> {
     pub fn elements_in(&self, class: &Class, declarator: &Declarator) -> u32
         ensures { result ≡ elements (seen_in (constants_of self.now.items) class.now) declarator.now }
     {
-        let shown = Shown {
+        let shown = HiddenByList {
             known: self.known(),
             members: &class.members,
         };
@@ -265,10 +265,10 @@ impl<'a> Sizes<'a> {
         }
     }
 
-    fn known(&self) -> Known<'_>
+    fn known(&self) -> ConstantValues<'_>
         ensures { known_by result ≡ value_of_name (constants_of self.now.items) }
     {
-        Known {
+        ConstantValues {
             constants: &self.constants,
             places: &self.constant_places,
             values: &self.values,

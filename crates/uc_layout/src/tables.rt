@@ -10,12 +10,12 @@ ghost use Rattle.uc_layout.specs.ValueProgress.{Under, Sound, Reckoned, known};
 
 use crate::eval::{converted_to, value_by};
 use crate::order::order_of;
-use crate::places::{Constants, Known};
+use crate::places::{ConstantValues, Constants};
 use std::alloc::{AllocError, Global};
 use uc_names::scope::Scope;
 use uc_tree::program::Constant;
 
-fn own_value(constant: &Constant, known: &Known) -> Option<i64>
+fn own_value(constant: &Constant, known: &ConstantValues) -> Option<i64>
     ensures { result ≡ own_value (known_by known.now) constant.now }
 {
     match value_by(&constant.value, known) {
@@ -44,7 +44,7 @@ fn reckon<'x>(
         return false;
     }
     let constant = constants[place];
-    let known = Known {
+    let known = ConstantValues {
         constants,
         places,
         values,

@@ -14,7 +14,7 @@ use Rattle.uc_code.specs.Drafts.{Draft}
 use Rattle.uc_code.specs.Layout.{Laid, laid_in}
 use Rattle.uc_code.specs.CodeShapes.{Kept, Stable}
 use Rattle.uc_code.specs.declared.op.Op.TheVariants as op
-use Rattle.uc_code.specs.declared.rows.Mark.TheVariants as mark
+use Rattle.uc_code.specs.declared.rows.CodeMark.TheVariants as mark
 use Rattle.uc_code.specs.Lowered.{StmtsAt, BodyAt, RoutineAt, RoutinesAt}
 use Rattle.uc_code.proofs.Stable.{kept_same, main_stable, one_stable}
 use Rattle.uc_lower_expr.proofs.Settled.{both}

@@ -11,12 +11,12 @@ use Rattle.uc_tree.specs.Source.{Expr, Stmt, Stmts, Nil, Then, Built, Whole}
 use Rattle.uc_resolve.specs.Resolve.{Meant, Scope, body_by, build, class_by, clean_up, construction, construction_ends, destruction, nowhere, place_or_zero, scope_behind, stmts_meant, unwritten_body}
 use Rattle.uc_code.specs.declared.rows.Array.{Array}
 use Rattle.uc_code.specs.declared.rows.Manner.{Manner}
-use Rattle.uc_code.specs.declared.rows.Mark.{Mark}
+use Rattle.uc_code.specs.declared.rows.CodeMark.{CodeMark}
 use Rattle.uc_code.specs.declared.rows.ObjectCall.{ObjectCall}
 use Rattle.uc_code.specs.declared.rows.Cleaning.{Cleaning}
 use Rattle.uc_code.specs.declared.rows.Cleaning.TheVariants as cleaning
 use Rattle.uc_code.specs.declared.rows.Opening.TheVariants as opening
-use Rattle.uc_code.specs.declared.rows.Spot.{Spot}
+use Rattle.uc_code.specs.declared.rows.ObjectSpot.{ObjectSpot}
 use Rattle.uc_code.specs.Drafts.{Draft}
 use Rattle.uc_code.specs.Layout.{laid_in}
 use Rattle.uc_code.specs.OpenRows.{StandsBehind, CleansBehind, opened}
@@ -40,7 +40,7 @@ use Rattle.uc_lower_stmt.specs.OpenScopes.{Pending}
 use Rattle.uc_code.proofs.Stable.{kept_then}
 use Rattle.uc_lower_class.specs.Bodies.{LowersBare, LowersBody, LowersRaised, LowersUnwritten, LowersWhole, built_at, built_room, freed_at, freed_in, left_at, mutex_by, raise_room, raised_body, role_room, unwritten_room, whole_room}
 use Rattle.uc_lower_class.specs.Fields.{PartBehind, all_built, all_left, all_room, left_count, left_room, live_room, mutex_count, own_close, part_room}
-use Rattle.uc_lower_class.specs.declared.parts.Part.{Part}
+use Rattle.uc_lower_class.specs.declared.parts.ObjectPart.{ObjectPart}
 use Rattle.uc_lower_class.specs.OpenParts.{Constructs, EndsParts, LeavesAll, NoParts, PartsIn}
 use Rattle.uc_lower_class.proofs.Fielding.{part_fits}
 use Rattle.uc_lower_class.proofs.Living.{mutex_few}
@@ -49,11 +49,11 @@ use Rattle.uc_lower_class.proofs.Wholes.{arm_built}
 
 -- an object that is built, and its part
 
-pub stands_by : (p : Program) (m : Made) (ms ns : List Mark) (wanted : Role) (how : Manner) (s : Spot) (o : Option Array) (what : Cleaning) → AllStandBehind p m ms → ns ≡ ms → what ≡ cleaning.Call (call_by (made_routine p wanted m) how s o) → CleansBehind ns what
+pub stands_by : (p : Program) (m : Made) (ms ns : List CodeMark) (wanted : Role) (how : Manner) (s : ObjectSpot) (o : Option Array) (what : Cleaning) → AllStandBehind p m ms → ns ≡ ms → what ≡ cleaning.Call (call_by (made_routine p wanted m) how s o) → CleansBehind ns what
 stands_by p m ms ns wanted how s o what b e w =
-    subst (λ (x : Cleaning). CleansBehind ns x) (sym w) (subst (λ (os : List Mark). StandsBehind os (call_by (made_routine p wanted m) how s o)) (sym e) (record { behind = λ h. b.each wanted h }))
+    subst (λ (x : Cleaning). CleansBehind ns x) (sym w) (subst (λ (os : List CodeMark). StandsBehind os (call_by (made_routine p wanted m) how s o)) (sym e) (record { behind = λ h. b.each wanted h }))
 
-pub part_built : (p : Program) (m : Made) (n : ℕ) (s : Spot) (l : Option ℕ) (place : Expr) (ms : List Meant) (what : Cleaning) (ws us : List Cleaning) (old mid new : Draft) → Puts (n + build_room l) (λ code. StmtAt code old.marks (build p 0 (making_of p m) l place ms)) old mid
+pub part_built : (p : Program) (m : Made) (n : ℕ) (s : ObjectSpot) (l : Option ℕ) (place : Expr) (ms : List Meant) (what : Cleaning) (ws us : List Cleaning) (old mid new : Draft) → Puts (n + build_room l) (λ code. StmtAt code old.marks (build p 0 (making_of p m) l place ms)) old mid
     → us ≡ ws ++ what ∷ [] → what ≡ cleaning.Call (destroyer_of p m s (array_by p m l)) → Cleans (clean_up p (making_of p m) l place) what → new ≡ opened opening.Part mid → Kept (laid_in mid) (laid_in new) → AllStandBehind p m old.marks
     → Constructs (n + part_room l) (λ rest. Then (build p 0 (making_of p m) l place ms) (Built (clean_up p (making_of p m) l place) rest)) ws old us new
 part_built p m n s l place ms what ws us old mid new h f w g e k b =
@@ -105,7 +105,7 @@ whole_on p r s old new e h =
     subst (λ (t : Scope). Lowers (whole_room r) (stmts_size r.body) (stmts_cells r.body (declared_cells p)) (stmts_scopes r.body) (λ code. StmtAt code old.marks (block_of_body p r t)) (scope_behind p r.body t) old new) e h
 
 pub raised_laid : (p : Program) (place : Option ℕ) (r : Routine) (us : List Cleaning) (d0 d1 d2 d3 new : Draft) → Constructs (built_room p place r) (built_at p place r (scope_of d0)) [] d0 us d1 → LowersWhole p r d1 d2
-    → ((ms : List Mark) → Adds (live_room (class_by p place)) (λ code. StmtsAt code ms 0 (construction_ends p (class_by p place) (place_or_zero p place))) d2 d3) → EndsParts (reverse us) d3 new → LowersRaised p place r d0 new
+    → ((ms : List CodeMark) → Adds (live_room (class_by p place)) (λ code. StmtsAt code ms 0 (construction_ends p (class_by p place) (place_or_zero p place))) d2 d3) → EndsParts (reverse us) d3 new → LowersRaised p place r d0 new
 raised_laid p place r us d0 d1 d2 d3 new h w l g =
     let scope : scope_of d1 ≡ scope_of d0 = ap scope_of h.rest in
     let within : Lowers (whole_room r + live_room (class_by p place)) (stmts_size r.body) (stmts_cells r.body (declared_cells p)) (stmts_scopes r.body) (λ code. StmtsAt code d1.marks 0 (body_within p place r (scope_of d0))) (scope_behind p r.body (scope_of d0)) d1 d3 =
@@ -118,8 +118,8 @@ scope_around : {n m k c d o : ℕ} {F : Stmts → Stmts} {t : Scope} {d0 d1 d2 n
 scope_around {n} {m} {k} {c} {d} {o} {F} {t} {d0} {d1} {d2} {new} ss depth q h w e =
     let marks2 : d2.marks ≡ d1.marks = ap (λ (x : Draft). x.marks) w.rest in
     let before : Pending (laid_in d2) 0 d0.marks (length d0.ops) h.steps d2.marks (length d1.ops) =
-    subst (λ (ms : List Mark). Pending (laid_in d2) 0 d0.marks (length d0.ops) h.steps ms (length d1.ops)) (sym marks2) (pending_kept (laid_in d1) 0 d0.marks (length d0.ops) (laid_in d2) h.steps d1.marks (length d1.ops) (omega arith) w.kept h.code) in
-    let within : StmtsAt (laid_in d2) d2.marks 0 ss (length d1.ops) (length d2.ops) = subst (λ (ms : List Mark). StmtsAt (laid_in d2) ms 0 ss (length d1.ops) (length d2.ops)) (sym marks2) w.code in
+    subst (λ (ms : List CodeMark). Pending (laid_in d2) 0 d0.marks (length d0.ops) h.steps ms (length d1.ops)) (sym marks2) (pending_kept (laid_in d1) 0 d0.marks (length d0.ops) (laid_in d2) h.steps d1.marks (length d1.ops) (omega arith) w.kept h.code) in
+    let within : StmtsAt (laid_in d2) d2.marks 0 ss (length d1.ops) (length d2.ops) = subst (λ (ms : List CodeMark). StmtsAt (laid_in d2) ms 0 ss (length d1.ops) (length d2.ops)) (sym marks2) w.code in
     let b = e.block 0 (length d0.ops) (length d1.ops) h.steps d0.marks ss (sym q) h.none before within in
     let ends : closing new.marks ≡ closing d0.marks = ap closing b.marks in
     let same : closing d2.marks ≡ closing d1.marks = ap closing marks2 in
@@ -145,7 +145,7 @@ scope_around {n} {m} {k} {c} {d} {o} {F} {t} {d0} {d1} {d2} {new} ss depth q h w
         let all : new ≡ record d0 { ops = new.ops; rows = new.rows; settled = new.settled; scopes = d2.scopes; names = d2.names; cells = d2.cells; hidden = d2.hidden; texts = d2.texts; sites = d2.sites } =
         r3 ∙ ap (λ (x : Draft). let y : Draft = record x { ops = new.ops; rows = new.rows; settled = new.settled; marks = new.marks } in y) r2
         ∙ ap (λ (x : Draft). let y : Draft = record x { ops = new.ops; rows = new.rows; settled = new.settled; marks = new.marks; scopes = d2.scopes; names = d2.names; cells = d2.cells; hidden = d2.hidden; texts = d2.texts; sites = d2.sites } in y) r1
-        ∙ ap (λ (ms : List Mark). let y : Draft = record d0 { ops = new.ops; rows = new.rows; settled = new.settled; marks = ms; scopes = d2.scopes; names = d2.names; cells = d2.cells; hidden = d2.hidden; texts = d2.texts; sites = d2.sites } in y) m3 in
+        ∙ ap (λ (ms : List CodeMark). let y : Draft = record d0 { ops = new.ops; rows = new.rows; settled = new.settled; marks = ms; scopes = d2.scopes; names = d2.names; cells = d2.cells; hidden = d2.hidden; texts = d2.texts; sites = d2.sites } in y) m3 in
         subst (λ (x : Draft). new ≡ record d0 { ops = new.ops; rows = new.rows; settled = new.settled; scopes = x.scopes; names = x.names; cells = x.cells; hidden = x.hidden; texts = x.texts; sites = x.sites }) (sym r3) all
 
 -- what is reckoned for the scope of a mutex object
@@ -176,7 +176,7 @@ abbrev low_bare : ℕ → Stmts → Draft → Draft → Type 0
 low_bare n ss old new = Lowers n 0 0 0 (λ code. StmtsAt code old.marks 0 ss) (scope_of old) old new
 
 pub bare_laid : (p : Program) (i : ℕ) (us : List Cleaning) (d0 d1 d2 new : Draft) → scope_of d0 ≡ nowhere p → Constructs (all_room [] (class_at p i)) (all_built p i [] (scope_of d0) (class_at p i)) [] d0 us d1
-    → ((ms : List Mark) → Adds (live_room (class_at p i)) (λ code. StmtsAt code ms 0 (construction_ends p (class_at p i) i)) d1 d2) → EndsParts (reverse us) d2 new → LowersBare p i d0 new
+    → ((ms : List CodeMark) → Adds (live_room (class_at p i)) (λ code. StmtsAt code ms 0 (construction_ends p (class_at p i) i)) d1 d2) → EndsParts (reverse us) d2 new → LowersBare p i d0 new
 bare_laid p i us d0 d1 d2 new e h l g =
     let ends : Stmts = construction_ends p (class_at p i) i in
     let within : Lowers (live_room (class_at p i)) 0 0 0 (λ code. StmtsAt code d1.marks 0 (construction_ends p (class_at p i) i)) (scope_of d1) d1 d2 = lowers_adds 0 0 (l d1.marks) in
@@ -212,7 +212,7 @@ clean_some (cleaning.Restore cell) = omega arith
 
 -- the parts of fields that are built are those of the marks, behind a block too
 pub parts_on : {n : ℕ} {F : Stmts → Stmts} (us : List Cleaning) (d0 d1 d2 : Draft) → Constructs n F [] d0 us d1 → d2.marks ≡ d1.marks → PartsIn (reverse us) d2.marks
-parts_on us d0 d1 d2 h e = subst (λ (ms : List Mark). PartsIn (reverse us) ms) (sym e) (h.parts (NoParts d0.marks))
+parts_on us d0 d1 d2 h e = subst (λ (ms : List CodeMark). PartsIn (reverse us) ms) (sym e) (h.parts (NoParts d0.marks))
 
 -- how many ops a part takes
 
@@ -225,8 +225,8 @@ none_room None = omega arith
 none_room (Some n) = omega arith
 
 -- what stands further on than a part's routine
-pub behind_in : (p : Program) (ms : List Mark) (o : Option Part) (part : Part) → o ≡ Some part → PartBehind p ms o → AllStandBehind p part.made ms
-behind_in p ms o part e b = subst (λ (x : Option Part). PartBehind p ms x) e b
+pub behind_in : (p : Program) (ms : List CodeMark) (o : Option ObjectPart) (part : ObjectPart) → o ≡ Some part → PartBehind p ms o → AllStandBehind p part.made ms
+behind_in p ms o part e b = subst (λ (x : Option ObjectPart). PartBehind p ms x) e b
 
 -- no part stands at first
 pub from_none : {n : ℕ} {F : Stmts → Stmts} {ws us : List Cleaning} {old new : Draft} → ws ≡ [] → Constructs n F ws old us new → Constructs n F [] old us new

@@ -18,8 +18,8 @@ use Rattle.uc_tree.specs.Programs.{Class, Program, Routine, Sig}
 use Rattle.uc_tree.specs.Source as source
 use Rattle.uc_resolve.specs.Resolve.{Scope, body_by, class_by, has_coroutines, has_number_in, has_tasks, is_main, params_known, purpose_of, role_purpose, routine_meant, routine_scope, scope_behind, unwritten_body, unwritten_meant}
 use Rattle.uc_code.specs.declared.op.Op.TheVariants as op
-use Rattle.uc_code.specs.declared.rows.Mark.{Mark}
-use Rattle.uc_code.specs.declared.rows.Mark.TheVariants as mark
+use Rattle.uc_code.specs.declared.rows.CodeMark.{CodeMark}
+use Rattle.uc_code.specs.declared.rows.CodeMark.TheVariants as mark
 use Rattle.uc_code.specs.declared.rows.HandlerRow.{HandlerRow}
 use Rattle.uc_code.specs.declared.rows.Instruction.{Instruction}
 use Rattle.uc_code.specs.declared.rows.RoutineCode.{RoutineCode}
@@ -75,7 +75,7 @@ module _ (home number n k c o : ℕ) (body : source.Stmts) (after : Scope) (begi
   body_at : StmtsAt (laid_in new) (mark.Body home ∷ []) 0 body (length d0.ops) (length d2.ops)
   body_at =
       (stmts_stable (mark.Body home ∷ []) 0 body).moves (laid_in d2) (laid_in new) (length d0.ops) (length d2.ops) (kept_same (laid_in d2) (laid_in new) (length d0.ops) (length d2.ops) (omega arith) kept_two)
-      (subst (λ (a : ℕ). StmtsAt (laid_in d2) (mark.Body home ∷ []) 0 body a (length d2.ops)) ops_first (subst (λ (ms : List Mark). StmtsAt (laid_in d2) ms 0 body (length first.ops) (length d2.ops)) fm h.code))
+      (subst (λ (a : ℕ). StmtsAt (laid_in d2) (mark.Body home ∷ []) 0 body a (length d2.ops)) ops_first (subst (λ (ms : List CodeMark). StmtsAt (laid_in d2) ms 0 body (length first.ops) (length d2.ops)) fm h.code))
 
   end_at : One (laid_in new) op.Return 0 (length d2.ops) (length new.ops)
   end_at =

@@ -13,11 +13,11 @@ use Rattle.uc_tree.specs.Source.{field_cells, Expr, Literal, OfObject, OwnField,
 use Rattle.uc_resolve.specs.Resolve.{Meant, args_meant, meant, build, clean_up, value_of, field_built, field_making, field_left, field_start, field_type, length_in_class}
 use Rattle.uc_code.specs.declared.op.Op.{Op}
 use Rattle.uc_code.specs.declared.op.Op.TheVariants as op
-use Rattle.uc_code.specs.declared.rows.Mark.{Mark}
+use Rattle.uc_code.specs.declared.rows.CodeMark.{CodeMark}
 use Rattle.uc_code.specs.declared.rows.Cleaning.{Cleaning}
 use Rattle.uc_code.specs.declared.rows.Cleaning.TheVariants as cleaning
-use Rattle.uc_code.specs.declared.rows.Spot.{Spot}
-use Rattle.uc_code.specs.declared.rows.Spot.TheVariants as spot
+use Rattle.uc_code.specs.declared.rows.ObjectSpot.{ObjectSpot}
+use Rattle.uc_code.specs.declared.rows.ObjectSpot.TheVariants as spot
 use Rattle.uc_code.specs.Drafts.{Draft}
 use Rattle.uc_code.specs.Layout.{Laid}
 use Rattle.uc_code.specs.Lowered.{StmtAt}
@@ -34,7 +34,7 @@ use Rattle.uc_lower_expr.proofs.Adding.{adds_as, adds_both, adds_more}
 use Rattle.uc_lower_expr.proofs.Arms.{converted_at}
 use Rattle.uc_lower_expr.proofs.Settled.{both, expr_stable}
 use Rattle.uc_lower_stmt.specs.Objects.{array_by, build_room, call_by, destroyer_of, object_ended}
-use Rattle.uc_lower_class.specs.declared.parts.Part.{Part}
+use Rattle.uc_lower_class.specs.declared.parts.ObjectPart.{ObjectPart}
 use Rattle.uc_lower_class.specs.Fields.{StartedCode, field_then, held_by, keep_op, left_then, part_in, part_room, started_then}
 use Rattle.uc_lower_class.specs.OpenParts.{Constructs}
 use Rattle.uc_lower_class.proofs.Parting.{constructs_as, constructs_does, constructs_nothing, puts_adds}
@@ -63,25 +63,25 @@ module _ (p : Program) (c : Class) (i number : ℕ) (f : ClassField) (v : Field)
 
 -- the part that a field is
 
-abbrev part_by : Bool → Option Made → ℕ → Option ℕ → Option Part
+abbrev part_by : Bool → Option Made → ℕ → Option ℕ → Option ObjectPart
 part_by r o cell len = if r then None else option_map (λ m. record { made = m; spot = spot.This cell; length = len }) o
 
-record Parts (r : Bool) (o : Option Made) (cell : ℕ) (len : Option ℕ) (part : Part) : Type 0 where
+record Parts (r : Bool) (o : Option Made) (cell : ℕ) (len : Option ℕ) (part : ObjectPart) : Type 0 where
   object : (if r then None else o) ≡ Some part.made
   here : o ≡ Some part.made
   begins : part.spot ≡ spot.This cell
   long : part.length ≡ len
 
-parts_by : (r : Bool) (o : Option Made) (cell : ℕ) (len : Option ℕ) (part : Part) → part_by r o cell len ≡ Some part → Parts r o cell len part
+parts_by : (r : Bool) (o : Option Made) (cell : ℕ) (len : Option ℕ) (part : ObjectPart) → part_by r o cell len ≡ Some part → Parts r o cell len part
 parts_by true o cell len part e = cc
 parts_by false None cell len part e = cc
 parts_by false (Some m) cell len part e =
     let is : part ≡ record { made = m; spot = spot.This cell; length = len } = cc in
     record {
-      object = ap (λ (q : Part). Some q.made) (sym is);
-      here = ap (λ (q : Part). Some q.made) (sym is);
-      begins = ap (λ (q : Part). q.spot) is;
-      long = ap (λ (q : Part). q.length) is;
+      object = ap (λ (q : ObjectPart). Some q.made) (sym is);
+      here = ap (λ (q : ObjectPart). Some q.made) (sym is);
+      begins = ap (λ (q : ObjectPart). q.spot) is;
+      long = ap (λ (q : ObjectPart). q.length) is;
     }
 
 no_part : (r : Bool) (o : Option Made) (cell : ℕ) (len : Option ℕ) → part_by r o cell len ≡ None → (if r then None else o) ≡ None
@@ -89,14 +89,14 @@ no_part true o cell len e = refl
 no_part false None cell len e = refl
 no_part false (Some m) cell len e = cc
 
-pub part_made : (v : Field) (part : Part) → part_in v ≡ Some part → v.made ≡ Some part.made
+pub part_made : (v : Field) (part : ObjectPart) → part_in v ≡ Some part → v.made ≡ Some part.made
 part_made v part e = (parts_by v.by_ref v.made v.cell v.told.elements part e).here
 
-pub part_long : (v : Field) (part : Part) → part_in v ≡ Some part → part.length ≡ v.told.elements
+pub part_long : (v : Field) (part : ObjectPart) → part_in v ≡ Some part → part.length ≡ v.told.elements
 part_long v part e = (parts_by v.by_ref v.made v.cell v.told.elements part e).long
 
 -- a reference is bound, a scalar is written
-start_code : (p : Program) (b : Bool) (s t : Shape) (n : ℕ) (m : Meant) (ms : List Mark) (code : Laid) (a z : ℕ) → StartedCode ms (field_cells t n) b (held_by b s m) code a z → StmtAt code ms (Evaluate 0 (field_start p b s (OfObject (OwnField t n)) m)) a z
+start_code : (p : Program) (b : Bool) (s t : Shape) (n : ℕ) (m : Meant) (ms : List CodeMark) (code : Laid) (a z : ℕ) → StartedCode ms (field_cells t n) b (held_by b s m) code a z → StmtAt code ms (Evaluate 0 (field_start p b s (OfObject (OwnField t n)) m)) a z
 start_code p true s t n m ms code a z h = h
 start_code p false s t n m ms code a z h = h
 
@@ -105,25 +105,25 @@ module _ (p : Program) (c : Class) (i number : ℕ) (f : ClassField) (v : Field)
   place = OfObject (OwnField (class_shape p i) number)
 
   -- what that makes
-  abbrev made_of : Part → Making
+  abbrev made_of : ObjectPart → Making
   made_of part = making_of p part.made
 
-  pub field_made : (part : Part) → part_in v ≡ Some part → field_making p f ≡ Some (made_of part)
+  pub field_made : (part : ObjectPart) → part_in v ≡ Some part → field_making p f ≡ Some (made_of part)
   field_made part e = making_told p c i number f v h ∙ ap (λ (o : Option Made). option_map (making_of p) o) (parts_by v.by_ref v.made v.cell v.told.elements part e).object
 
-  pub field_begins : (part : Part) → part_in v ≡ Some part → BeginsAt place part.spot
+  pub field_begins : (part : ObjectPart) → part_in v ≡ Some part → BeginsAt place part.spot
   field_begins part e =
       let same : spot.This (field_cells (class_shape p i) number) ≡ part.spot = ap spot.This h.cell ∙ sym (parts_by v.by_ref v.made v.cell v.told.elements part e).begins in
-      subst (λ (s : Spot). BeginsAt place s) same (InObject (class_shape p i) number)
+      subst (λ (s : ObjectSpot). BeginsAt place s) same (InObject (class_shape p i) number)
 
-  length_is : (part : Part) → part_in v ≡ Some part → length_in_class p c i f ≡ part.length
+  length_is : (part : ObjectPart) → part_in v ≡ Some part → length_in_class p c i f ≡ part.length
   length_is part e = told_length p c i number f v h ∙ sym (part_long v part e)
 
-  pub field_part : (part : Part) → part_in v ≡ Some part → (args : List Meant) (rest : Stmts) → Then (build p 0 (made_of part) part.length place args) (Built (clean_up p (made_of part) part.length place) rest) ≡ field_then p c i number f args rest
+  pub field_part : (part : ObjectPart) → part_in v ≡ Some part → (args : List Meant) (rest : Stmts) → Then (build p 0 (made_of part) part.length place args) (Built (clean_up p (made_of part) part.length place) rest) ≡ field_then p c i number f args rest
   field_part part e args rest =
       sym (ap (λ (o : Option Making). field_built p o f (length_in_class p c i f) place args rest) (field_made part e) ∙ ap (λ (l : Option ℕ). field_built p (Some (made_of part)) f l place args rest) (length_is part e))
 
-  pub left_part : (part : Part) → part_in v ≡ Some part → (rest : Stmts) → Scoped (clean_up p (made_of part) part.length place) rest ≡ left_then p c i number f rest
+  pub left_part : (part : ObjectPart) → part_in v ≡ Some part → (rest : Stmts) → Scoped (clean_up p (made_of part) part.length place) rest ≡ left_then p c i number f rest
   left_part part e rest =
       sym (ap (λ (o : Option Making). field_left p o (length_in_class p c i f) place rest) (field_made part e) ∙ ap (λ (l : Option ℕ). field_left p (Some (made_of part)) l place rest) (length_is part e))
 
@@ -159,16 +159,16 @@ held_value {n} {old} {mid} {new} r s m e h g =
 
 pub started_code : (n cell : ℕ) (r : Bool) (e : Expr) (d0 d1 d2 d3 d4 : Draft) → Adds 1 (OpCode 0 (op.This cell)) d0 d1 → Adds n (ExprCode 0 d1.marks e) d1 d2 → Adds 1 (OpCode 0 (keep_op r)) d2 d3 → Adds 1 (OpCode 0 op.Discard) d3 d4 → Adds (n + 3) (StartedCode d0.marks cell r e) d0 d4
 started_code n cell r e d0 d1 d2 d3 d4 h1 h2 h3 h4 =
-    let k2 = subst (λ (ms : List Mark). Adds n (ExprCode 0 ms e) d1 d2) (ap (λ (d : Draft). d.marks) h1.rest) h2 in
+    let k2 = subst (λ (ms : List CodeMark). Adds n (ExprCode 0 ms e) d1 d2) (ap (λ (d : Draft). d.marks) h1.rest) h2 in
     let inner = both (one_stable (op.This cell) 0) (both (expr_stable 0 d0.marks e) (one_stable (keep_op r) 0)) in
     adds_more (omega arith) (adds_both inner (adds_both (one_stable (op.This cell) 0) h1 (adds_both (expr_stable 0 d0.marks e) k2 h3)) h4)
 
 -- how many ops a part takes
 
-pub part_fits : (p : Program) (m : Made) (s : Spot) (l : Option ℕ) → build_room l + (clean_length (cleaning.Call (destroyer_of p m s (array_by p m l))) + 2) ≤ part_room l
+pub part_fits : (p : Program) (m : Made) (s : ObjectSpot) (l : Option ℕ) → build_room l + (clean_length (cleaning.Call (destroyer_of p m s (array_by p m l))) + 2) ≤ part_room l
 part_fits p (made.Object i) s l = by_routine p i (is_mutex_at p i) (routine_for p i role.Destructor).number (routine_for p i role.Destructor).written s l
   where
-    by_routine : (p : Program) (i : ℕ) (mutex : Bool) (k : ℕ) (w : Bool) (s : Spot) (l : Option ℕ) → build_room l + (clean_length (cleaning.Call (call_by (record { number = k; written = w }) (object_ended mutex) s (array_by p (made.Object i) l))) + 2) ≤ part_room l
+    by_routine : (p : Program) (i : ℕ) (mutex : Bool) (k : ℕ) (w : Bool) (s : ObjectSpot) (l : Option ℕ) → build_room l + (clean_length (cleaning.Call (call_by (record { number = k; written = w }) (object_ended mutex) s (array_by p (made.Object i) l))) + 2) ≤ part_room l
     by_routine p i true k true s None = omega arith
     by_routine p i true k false s None = omega arith
     by_routine p i true k true s (Some n) = omega arith

@@ -12,7 +12,7 @@ use Rattle.uc_resolve.specs.Resolve.{Scope, construction_ends, ending, enlivened
 use Rattle.uc_code.specs.declared.op.Op.TheVariants as op
 use Rattle.uc_code.specs.declared.rows.Cleaning.{Cleaning}
 use Rattle.uc_code.specs.declared.rows.Cleaning.TheVariants as cleaning
-use Rattle.uc_code.specs.declared.rows.Mark.{Mark}
+use Rattle.uc_code.specs.declared.rows.CodeMark.{CodeMark}
 use Rattle.uc_code.specs.declared.rows.Opening.TheVariants as opening
 use Rattle.uc_code.specs.Drafts.{Draft}
 use Rattle.uc_code.specs.Layout.{laid_in}
@@ -50,16 +50,16 @@ start_on p b ws us old new e g = subst (λ (x : Bool). Constructs (start_room x)
 pub start_none : (p : Program) (b : Bool) (ws : List Cleaning) (old : Draft) → b ≡ false → Constructs (start_room b) (started_in p b) ws old ws old
 start_none p b ws old e = subst (λ (x : Bool). Constructs (start_room x) (started_in p x) ws old ws old) (sym e) (constructs_as (constructs_nothing ws old) (omega arith) (λ ss. refl))
 
-pub enliven_on : (p : Program) (b : Bool) (ms : List Mark) (old new : Draft) → b ≡ true → Adds 1 (OpCode 0 op.Live) old new → Adds (enliven_room b) (λ code. StmtsAt code ms 0 (enlivened p b)) old new
+pub enliven_on : (p : Program) (b : Bool) (ms : List CodeMark) (old new : Draft) → b ≡ true → Adds 1 (OpCode 0 op.Live) old new → Adds (enliven_room b) (λ code. StmtsAt code ms 0 (enlivened p b)) old new
 enliven_on p b ms old new e h =
     subst (λ (x : Bool). Adds (enliven_room x) (λ code. StmtsAt code ms 0 (enlivened p x)) old new) (sym e) (
     adds_as h (λ code a z w. record { middle = z; first = w; second = record { end = refl } }))
 
-pub enliven_none : (p : Program) (b : Bool) (ms : List Mark) (old : Draft) → b ≡ false → Adds (enliven_room b) (λ code. StmtsAt code ms 0 (enlivened p b)) old old
+pub enliven_none : (p : Program) (b : Bool) (ms : List CodeMark) (old : Draft) → b ≡ false → Adds (enliven_room b) (λ code. StmtsAt code ms 0 (enlivened p b)) old old
 enliven_none p b ms old e = subst (λ (x : Bool). Adds (enliven_room x) (λ code. StmtsAt code ms 0 (enlivened p x)) old old) (sym e) (adds_nothing old)
 
 -- what follows the body, by the class
-pub ends_as : (p : Program) (o : Option Class) (i : ℕ) (ms : List Mark) (old new : Draft) → ((p : Program) (ms : List Mark) → Adds (enliven_room (has_coroutines p o)) (λ code. StmtsAt code ms 0 (enlivened p (has_coroutines p o))) old new) → Adds (live_room o) (λ code. StmtsAt code ms 0 (construction_ends p o i)) old new
+pub ends_as : (p : Program) (o : Option Class) (i : ℕ) (ms : List CodeMark) (old new : Draft) → ((p : Program) (ms : List CodeMark) → Adds (enliven_room (has_coroutines p o)) (λ code. StmtsAt code ms 0 (enlivened p (has_coroutines p o))) old new) → Adds (live_room o) (λ code. StmtsAt code ms 0 (construction_ends p o i)) old new
 ends_as p None i ms old new h = h p ms
 ends_as p (Some c) i ms old new h = h p ms
 

@@ -2,8 +2,8 @@
 use Rattle.std.proofs.Common.{◌≡◌, ℕ, ◌+◌, ◌≤◌, List, [], ◌∷◌, ◌++◌, drop, length, reverse, refl, ap, sym, subst, ◌∙◌, arith, append_assoc}
 use Rattle.std.proofs.lemmas.List.{reverse-append}
 use Rattle.uc_tree.specs.Source.{CleanUp, Stmt, Stmts, Then, Scoped, Built}
-use Rattle.uc_code.specs.declared.rows.Mark.{Mark}
-use Rattle.uc_code.specs.declared.rows.Mark.TheVariants as mark
+use Rattle.uc_code.specs.declared.rows.CodeMark.{CodeMark}
+use Rattle.uc_code.specs.declared.rows.CodeMark.TheVariants as mark
 use Rattle.uc_code.specs.declared.rows.Cleaning.{Cleaning}
 use Rattle.uc_code.specs.declared.rows.Opening.TheVariants as opening
 use Rattle.uc_code.specs.Drafts.{Draft}
@@ -28,7 +28,7 @@ block_join ks (Opens c ∷ ls) ss = block_join ks ls (Scoped c ss)
 block_join ks (Builds c ∷ ls) ss = block_join ks ls (Built c ss)
 
 -- what is laid out stays where more comes behind it
-pub pended_kept : (old new : Laid) (ms : List Mark) (a : ℕ) (ws : List Cleaning) (ks : List Step) (ns : List Mark) (z : ℕ) → Kept old new → z ≤ length old.ops → Pended old ms a ws ks ns z → Pended new ms a ws ks ns z
+pub pended_kept : (old new : Laid) (ms : List CodeMark) (a : ℕ) (ws : List Cleaning) (ks : List Step) (ns : List CodeMark) (z : ℕ) → Kept old new → z ≤ length old.ops → Pended old ms a ws ks ns z → Pended new ms a ws ks ns z
 pended_kept old new ms a ws ks ns z k l Begins = Begins
 pended_kept old new ms a ws ks ns z k l (Done vs qs os y w s p at) =
     let le = (stmt_stable os s).rises old y w at in
@@ -37,29 +37,29 @@ pended_kept old new ms a ws ks ns z k l (Parted vs qs os w row c what p g) = Par
 
 -- steps without a part are statements of the block around them
 
-record Collected (code : Laid) (ms : List Mark) (a : ℕ) (ns : List Mark) (z : ℕ) (whole : Stmts) : Type 0 where
+record Collected (code : Laid) (ms : List CodeMark) (a : ℕ) (ns : List CodeMark) (z : ℕ) (whole : Stmts) : Type 0 where
   same : ns ≡ ms
   block : StmtsAt code ms 0 whole a z
 
-collected : (code : Laid) (ms : List Mark) (a : ℕ) (ks : List Step) (ns : List Mark) (y z : ℕ) (ss : Stmts) → Pended code ms a [] ks ns y → StmtsAt code ns 0 ss y z → Collected code ms a ns z (block_of ks ss)
+collected : (code : Laid) (ms : List CodeMark) (a : ℕ) (ks : List Step) (ns : List CodeMark) (y z : ℕ) (ss : Stmts) → Pended code ms a [] ks ns y → StmtsAt code ns 0 ss y z → Collected code ms a ns z (block_of ks ss)
 collected code ms a ks ns y z ss Begins h = record { same = refl; block = h }
 collected code ms a ks ns y z ss (Done vs qs os x w s p at) h = collected code ms a qs os x z (Then s ss) p (record { middle = w; first = at; second = h })
 
 -- the parts are those of the innermost marks
 
-drop_none : (ns : List Mark) → drop 0 ns ≡ ns
+drop_none : (ns : List CodeMark) → drop 0 ns ≡ ns
 drop_none [] = refl
 drop_none (n ∷ ns) = refl
 
-pub marks_behind : (code : Laid) (ms : List Mark) (a : ℕ) (ws : List Cleaning) (ks : List Step) (ns : List Mark) (z : ℕ) → Pended code ms a ws ks ns z → drop (length ws) ns ≡ ms
+pub marks_behind : (code : Laid) (ms : List CodeMark) (a : ℕ) (ws : List Cleaning) (ks : List Step) (ns : List CodeMark) (z : ℕ) → Pended code ms a ws ks ns z → drop (length ws) ns ≡ ms
 marks_behind code ms a ws ks ns z Begins = drop_none ms
 marks_behind code ms a ws ks ns z (Done vs qs os x w s p at) = marks_behind code ms a vs qs os x p
 marks_behind code ms a ws ks ns z (Parted vs qs os x row c what p g) = marks_behind code ms a vs qs os x p
 
 -- what stands before the newest part, and behind it
-record Uncovered (code : Laid) (ms : List Mark) (a : ℕ) (what : Cleaning) (ws : List Cleaning) (ns : List Mark) (z : ℕ) (whole : Stmts) : Type 0 where
+record Uncovered (code : Laid) (ms : List CodeMark) (a : ℕ) (what : Cleaning) (ws : List Cleaning) (ns : List CodeMark) (z : ℕ) (whole : Stmts) : Type 0 where
   row : ℕ
-  outer : List Mark
+  outer : List CodeMark
   is : ns ≡ mark.Part row ∷ outer
   left : List Step
   at : ℕ
@@ -70,7 +70,7 @@ record Uncovered (code : Laid) (ms : List Mark) (a : ℕ) (what : Cleaning) (ws 
   body : StmtsAt code ns 0 rest at z
   block : block_of left (Built clean rest) ≡ whole
 
-uncovered : (code : Laid) (ms : List Mark) (a : ℕ) (what : Cleaning) (ws : List Cleaning) (ks : List Step) (ns : List Mark) (y z : ℕ) (ss : Stmts) → Pended code ms a (what ∷ ws) ks ns y → StmtsAt code ns 0 ss y z → Uncovered code ms a what ws ns z (block_of ks ss)
+uncovered : (code : Laid) (ms : List CodeMark) (a : ℕ) (what : Cleaning) (ws : List Cleaning) (ks : List Step) (ns : List CodeMark) (y z : ℕ) (ss : Stmts) → Pended code ms a (what ∷ ws) ks ns y → StmtsAt code ns 0 ss y z → Uncovered code ms a what ws ns z (block_of ks ss)
 uncovered code ms a what ws ks ns y z ss (Done vs qs os x w s p at) h = uncovered code ms a what ws qs os x z (Then s ss) p (record { middle = w; first = at; second = h })
 uncovered code ms a what ws ks ns y z ss (Parted vs qs os x row c w p g) h = record { row = row; outer = os; is = refl; left = qs; at = x; clean = c; rest = ss; before = p; cleans = g; body = h; block = refl }
 
@@ -96,10 +96,10 @@ module _ (what : Cleaning) (ws : List Cleaning) (old mid new : Draft) (q : InPar
   long = h.kept.longer
 
   -- the part that is uncovered has ended in the draft between
-  built : (ms : List Mark) (a y : ℕ) (whole : Stmts) (u : Uncovered was ms a what ws old.marks (length old.ops) whole) → StmtsAt now u.outer 0 (Built u.clean u.rest) u.at (length mid.ops)
+  built : (ms : List CodeMark) (a y : ℕ) (whole : Stmts) (u : Uncovered was ms a what ws old.marks (length old.ops) whole) → StmtsAt now u.outer 0 (Built u.clean u.rest) u.at (length mid.ops)
   built ms a y whole u =
       let ends = h.part u.row u.outer u.is in
-      let body : StmtsAt was (mark.Part u.row ∷ u.outer) 0 u.rest u.at (length old.ops) = subst (λ (ns : List Mark). StmtsAt was ns 0 u.rest u.at (length old.ops)) u.is u.body in
+      let body : StmtsAt was (mark.Part u.row ∷ u.outer) 0 u.rest u.at (length old.ops) = subst (λ (ns : List CodeMark). StmtsAt was ns 0 u.rest u.at (length old.ops)) u.is u.body in
       record {
         what = what;
         cleans = u.cleans;
@@ -113,16 +113,16 @@ module _ (what : Cleaning) (ws : List Cleaning) (old mid new : Draft) (q : InPar
         };
       }
 
-  closed : (ms : List Mark) (a y : ℕ) (whole : Stmts) → Uncovered was ms a what ws old.marks (length old.ops) whole → StmtsAt (laid_in new) ms 0 whole a (length new.ops)
+  closed : (ms : List CodeMark) (a y : ℕ) (whole : Stmts) → Uncovered was ms a what ws old.marks (length old.ops) whole → StmtsAt (laid_in new) ms 0 whole a (length new.ops)
   closed ms a y whole u =
       let marks : mid.marks ≡ u.outer = h.marks u.row u.outer u.is in
-      let body = (stmts_stable (mark.Part u.row ∷ u.outer) 0 u.rest).rises was u.at (length old.ops) (subst (λ (ns : List Mark). StmtsAt was ns 0 u.rest u.at (length old.ops)) u.is u.body) in
-      let before : Pended now ms a ws u.left mid.marks u.at = subst (λ (ns : List Mark). Pended now ms a ws u.left ns u.at) (sym marks) (pended_kept was now ms a ws u.left u.outer u.at h.kept body u.before) in
-      let behind : StmtsAt now mid.marks 0 (Built u.clean u.rest) u.at (length mid.ops) = subst (λ (ns : List Mark). StmtsAt now ns 0 (Built u.clean u.rest) u.at (length mid.ops)) (sym marks) (built ms a y whole u) in
+      let body = (stmts_stable (mark.Part u.row ∷ u.outer) 0 u.rest).rises was u.at (length old.ops) (subst (λ (ns : List CodeMark). StmtsAt was ns 0 u.rest u.at (length old.ops)) u.is u.body) in
+      let before : Pended now ms a ws u.left mid.marks u.at = subst (λ (ns : List CodeMark). Pended now ms a ws u.left ns u.at) (sym marks) (pended_kept was now ms a ws u.left u.outer u.at h.kept body u.before) in
+      let behind : StmtsAt now mid.marks 0 (Built u.clean u.rest) u.at (length mid.ops) = subst (λ (ns : List CodeMark). StmtsAt now ns 0 (Built u.clean u.rest) u.at (length mid.ops)) (sym marks) (built ms a y whole u) in
       subst (λ (ss : Stmts). StmtsAt (laid_in new) ms 0 ss a (length new.ops)) u.block (g.block ms a u.at u.left (Built u.clean u.rest) before behind)
 
   bare : new.marks ≡ drop (length (what ∷ ws)) old.marks
-  bare = g.marks ∙ ap (λ (ns : List Mark). drop (length ws) ns) (h.marks q.row q.outer q.is) ∙ sym (ap (λ (ns : List Mark). drop (length (what ∷ ws)) ns) q.is)
+  bare = g.marks ∙ ap (λ (ns : List CodeMark). drop (length ws) ns) (h.marks q.row q.outer q.is) ∙ sym (ap (λ (ns : List CodeMark). drop (length (what ∷ ws)) ns) q.is)
 
   pub ends_part : EndsParts (what ∷ ws) old new
   ends_part = record {
@@ -135,14 +135,14 @@ module _ (what : Cleaning) (ws : List Cleaning) (old mid new : Draft) (q : InPar
 
 -- the parts of marks
 
-pub in_part : (what : Cleaning) (ws : List Cleaning) (ms : List Mark) → PartsIn (what ∷ ws) ms → InPart ms
+pub in_part : (what : Cleaning) (ws : List Cleaning) (ms : List CodeMark) → PartsIn (what ∷ ws) ms → InPart ms
 in_part what ws ms (MoreParts w us row ns b p) = record { row = row; outer = ns; is = refl }
 
-pub part_behind : (what : Cleaning) (ws : List Cleaning) (ms : List Mark) → PartsIn (what ∷ ws) ms → CleansBehind ms what
+pub part_behind : (what : Cleaning) (ws : List Cleaning) (ms : List CodeMark) → PartsIn (what ∷ ws) ms → CleansBehind ms what
 part_behind what ws ms (MoreParts w us row ns b p) = cleans_under what row ns b
 
-pub parts_behind : (what : Cleaning) (ws : List Cleaning) (ms ns : List Mark) → ns ≡ drop 1 ms → PartsIn (what ∷ ws) ms → PartsIn ws ns
-parts_behind what ws ms ns e (MoreParts w us row os b p) = subst (λ (qs : List Mark). PartsIn us qs) (sym (e ∙ drop_none os)) p
+pub parts_behind : (what : Cleaning) (ws : List Cleaning) (ms ns : List CodeMark) → ns ≡ drop 1 ms → PartsIn (what ∷ ws) ms → PartsIn ws ns
+parts_behind what ws ms ns e (MoreParts w us row os b p) = subst (λ (qs : List CodeMark). PartsIn us qs) (sym (e ∙ drop_none os)) p
 
 -- room
 
@@ -203,11 +203,11 @@ constructs_does {n} {old} {new} s ws h =
       rest = subst (λ (d : Draft). d ≡ record old { ops = d.ops; rows = d.rows; settled = d.settled; marks = d.marks }) (sym h.rest) refl;
       kept = h.kept;
       room = let x = h.room in omega arith;
-      parts = λ p. subst (λ (ns : List Mark). PartsIn (reverse ws) ns) (sym marks) p;
+      parts = λ p. subst (λ (ns : List CodeMark). PartsIn (reverse ws) ns) (sym marks) p;
       inside = ap routine_in marks;
       steps = Does s ∷ [];
       block = λ ss. refl;
-      code = λ ms a ks p. subst (λ (ns : List Mark). Pended (laid_in new) ms a (reverse ws) (Does s ∷ ks) ns (length new.ops)) (sym marks)
+      code = λ ms a ks p. subst (λ (ns : List CodeMark). Pended (laid_in new) ms a (reverse ws) (Does s ∷ ks) ns (length new.ops)) (sym marks)
           (Done (reverse ws) ks old.marks (length old.ops) (length new.ops) s (pended_kept (laid_in old) (laid_in new) ms a (reverse ws) ks old.marks (length old.ops) h.kept (omega arith) p) h.code);
     }
 
@@ -253,7 +253,7 @@ ending_begin ws old p = record { parts = p; room = omega arith; on = λ new e. e
 pub ending_step : (ws : List Cleaning) (old : Draft) (what : Cleaning) (us : List Cleaning) (now mid : Draft) → Ending ws old (what ∷ us) now → ClosesPart what 0 now mid → Ending ws old us mid
 ending_step ws old what us now mid b h =
     let q = in_part what us now.marks b.parts in
-    let marks : mid.marks ≡ drop 1 now.marks = h.marks q.row q.outer q.is ∙ sym (ap (λ (ns : List Mark). drop 1 ns) q.is ∙ drop_none q.outer) in
+    let marks : mid.marks ≡ drop 1 now.marks = h.marks q.row q.outer q.is ∙ sym (ap (λ (ns : List CodeMark). drop 1 ns) q.is ∙ drop_none q.outer) in
     record {
       parts = parts_behind what us now.marks mid.marks marks b.parts;
       room = let x = h.room in let y = b.room in omega arith;

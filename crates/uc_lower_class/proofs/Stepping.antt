@@ -9,7 +9,7 @@ use Rattle.uc_tree.specs.Programs.{Class, Init, Program}
 use Rattle.uc_tree.specs.Cells.{leading_cells}
 use Rattle.uc_tree.specs.Objects.{Making, ClassField, class_at, class_made, fields_of, making}
 use Rattle.uc_resolve.specs.Resolve.{Meant, Scope, args_meant, context_at, field_making}
-use Rattle.uc_code.specs.declared.rows.Mark.{Mark}
+use Rattle.uc_code.specs.declared.rows.CodeMark.{CodeMark}
 use Rattle.uc_code.specs.declared.rows.Cleaning.{Cleaning}
 use Rattle.uc_code.specs.Drafts.{Draft}
 use Rattle.uc_code.specs.Layout.{routine_in}
@@ -21,7 +21,7 @@ use Rattle.uc_lower_expr.specs.declared.making.Made.TheVariants as made
 use Rattle.uc_lower_expr.specs.Meanings.{is_mutex_at, making_of}
 use Rattle.uc_lower_expr.proofs.Knowing.{class_told, made_class}
 use Rattle.uc_lower_stmt.specs.LowersStatement.{scope_of}
-use Rattle.uc_lower_class.specs.declared.parts.Part.{Part}
+use Rattle.uc_lower_class.specs.declared.parts.ObjectPart.{ObjectPart}
 use Rattle.uc_lower_class.specs.Inits.{init_exprs}
 use Rattle.uc_lower_class.specs.Fields.{FieldsBehind, PartBehind, field_then, fields_room, left_then, part_in, part_room, room_by}
 use Rattle.uc_lower_class.specs.OpenParts.{Constructs, Opens}
@@ -66,13 +66,13 @@ module _ (p : Program) (c : Class) (i place : ℕ) (v : Field) (n : Nth p c i pl
   made_behind there number b made.Cluster h wanted unwritten = absurd (true≢false unwritten)
   made_behind there number b made.Processor h wanted unwritten = absurd (true≢false unwritten)
 
-  behind_by : (there : class_at p i ≡ Some c) (number : ℕ) (ms : List Mark) → FieldsBehind p i number → routine_in ms ≡ number → (o : Option Part) → part_in v ≡ o → PartBehind p ms o
+  behind_by : (there : class_at p i ≡ Some c) (number : ℕ) (ms : List CodeMark) → FieldsBehind p i number → routine_in ms ≡ number → (o : Option ObjectPart) → part_in v ≡ o → PartBehind p ms o
   behind_by there number ms b e None h = tt
   behind_by there number ms b e (Some part) h = record {
     each = λ wanted unwritten. let l = made_behind there number b part.made (field_made p c i (leading_cells c.kind + place) n.field v n.at part h) wanted unwritten in omega (arith, l, e);
   }
 
-  pub part_stands : (there : class_at p i ≡ Some c) (number : ℕ) (ms : List Mark) → FieldsBehind p i number → routine_in ms ≡ number → PartBehind p ms (part_in v)
+  pub part_stands : (there : class_at p i ≡ Some c) (number : ℕ) (ms : List CodeMark) → FieldsBehind p i number → routine_in ms ≡ number → PartBehind p ms (part_in v)
   part_stands there number ms b e = behind_by there number ms b e (part_in v) refl
 
   room_of : part_room v.told.elements ≡ room_by n.field.declarator.len

@@ -11,8 +11,8 @@ use Rattle.uc_tree.specs.Programs.{Program, Routine}
 use Rattle.uc_resolve.specs.Resolve.{Scope, scope_behind, stmts_meant}
 use Rattle.uc_code.specs.declared.op.Op.{Op}
 use Rattle.uc_code.specs.declared.op.Op.TheVariants as op
-use Rattle.uc_code.specs.declared.rows.Mark.{Mark}
-use Rattle.uc_code.specs.declared.rows.Mark.TheVariants as mark
+use Rattle.uc_code.specs.declared.rows.CodeMark.{CodeMark}
+use Rattle.uc_code.specs.declared.rows.CodeMark.TheVariants as mark
 use Rattle.uc_code.specs.declared.rows.Opening.TheVariants as opening
 use Rattle.uc_code.specs.declared.rows.Cleaning.{Cleaning}
 use Rattle.uc_code.specs.Drafts.{Draft, patched}
@@ -51,7 +51,7 @@ module _ (line start end n k c o : ℕ) (ss : Stmts) (after : Scope) (d0 d1 d2 d
   abbrev a : ℕ
   a = length d0.ops
 
-  abbrev ms : List Mark
+  abbrev ms : List CodeMark
   ms = d0.marks
 
   abbrev row : ℕ
@@ -76,7 +76,7 @@ module _ (line start end n k c o : ℕ) (ss : Stmts) (after : Scope) (d0 d1 d2 d
   entered = o3 ∙ ap (λ (x : ℕ). opened (opening.Whole (x + 1)) d2) st
 
   inside : d3.marks ≡ mark.Whole (a + 1) row ∷ ms
-  inside = ap (λ (d : Draft). d.marks) entered ∙ ap (λ (ns : List Mark). mark.Whole (a + 1) row ∷ ns) marks_two
+  inside = ap (λ (d : Draft). d.marks) entered ∙ ap (λ (ns : List CodeMark). mark.Whole (a + 1) row ∷ ns) marks_two
 
   ops_three : d3.ops ≡ d2.ops
   ops_three = ap (λ (d : Draft). d.ops) entered
@@ -88,7 +88,7 @@ module _ (line start end n k c o : ℕ) (ss : Stmts) (after : Scope) (d0 d1 d2 d
   marks_four = ap (λ (d : Draft). d.marks) h.rest ∙ inside
 
   marks_five : d5.marks ≡ ms
-  marks_five = closed_marks 1 row d4 d5 c5 (ap row_in marks_four) ∙ ap (λ (ns : List Mark). drop 1 ns) marks_four
+  marks_five = closed_marks 1 row d4 d5 c5 (ap row_in marks_four) ∙ ap (λ (ns : List CodeMark). drop 1 ns) marks_four
 
   marks_six : d6.marks ≡ ms
   marks_six = ap (λ (d : Draft). d.marks) g6.rest ∙ marks_five
@@ -147,7 +147,7 @@ module _ (line start end n k c o : ℕ) (ss : Stmts) (after : Scope) (d0 d1 d2 d
   body : StmtsAt now (mark.Whole (a + 1) row ∷ ms) line ss (a + 2) (length d4.ops)
   body =
       let l = kept_four.longer in
-      let under = subst (λ (ns : List Mark). StmtsAt (laid_in d4) ns line ss (length d3.ops) (length d4.ops)) inside h.code in
+      let under = subst (λ (ns : List CodeMark). StmtsAt (laid_in d4) ns line ss (length d3.ops) (length d4.ops)) inside h.code in
       let here = subst (λ (x : ℕ). StmtsAt (laid_in d4) (mark.Whole (a + 1) row ∷ ms) line ss x (length d4.ops)) long_three under in
       let there = kept_piece (λ x. StmtsAt x (mark.Whole (a + 1) row ∷ ms) line ss) (stmts_stable (mark.Whole (a + 1) row ∷ ms) line ss) (laid_in d4) was (a + 2) (length d4.ops) (omega arith) kept_four here in
       (stmts_stable (mark.Whole (a + 1) row ∷ ms) line ss).moves was now (a + 2) (length d4.ops) (part was now (a + 2) (length d7.ops) (a + 2) (length d4.ops) (omega arith) (omega arith) behind) there
@@ -166,7 +166,7 @@ module _ (line start end n k c o : ℕ) (ss : Stmts) (after : Scope) (d0 d1 d2 d
   tests =
       let low = h.kept.longer in
       let three = long_three in
-      let under = subst (λ (ns : List Mark). Risk was ns op.Handled line (length d6.ops) (length d7.ops)) marks_six g7.code in
+      let under = subst (λ (ns : List CodeMark). Risk was ns op.Handled line (length d6.ops) (length d7.ops)) marks_six g7.code in
       let here = subst (λ (x : ℕ). Risk was ms op.Handled line x (length d7.ops)) long_six under in
       (risk_stable ms op.Handled line).moves was now (length d4.ops + 1) (length d7.ops) (part was now (a + 2) (length d7.ops) (length d4.ops + 1) (length d7.ops) (omega arith) (omega arith) behind) here
 
@@ -188,7 +188,7 @@ module _ (line start end n k c o : ℕ) (ss : Stmts) (after : Scope) (d0 d1 d2 d
       ∙ ap (λ (d : Draft). let x : Draft = record d { ops = d5.ops; rows = d5.rows; settled = d5.settled; marks = d5.marks } in x) h.rest
       ∙ ap (λ (d : Draft). let x : Draft = record d { ops = d5.ops; rows = d5.rows; settled = d5.settled; marks = d5.marks; scopes = d4.scopes; names = d4.names; cells = d4.cells; hidden = d4.hidden; texts = d4.texts; sites = d4.sites } in x)
       (entered ∙ ap (λ (d : Draft). opened (opening.Whole (a + 1)) d) (g2.rest ∙ ap (λ (d : Draft). let x : Draft = record d { ops = d2.ops } in x) g1.rest))
-      ∙ ap (λ (ns : List Mark). let x : Draft = record d0 { ops = d5.ops; rows = d5.rows; settled = d5.settled; marks = ns; scopes = d4.scopes; names = d4.names; cells = d4.cells; hidden = d4.hidden; texts = d4.texts; sites = d4.sites } in x) marks_five
+      ∙ ap (λ (ns : List CodeMark). let x : Draft = record d0 { ops = d5.ops; rows = d5.rows; settled = d5.settled; marks = ns; scopes = d4.scopes; names = d4.names; cells = d4.cells; hidden = d4.hidden; texts = d4.texts; sites = d4.sites } in x) marks_five
 
   new_whole : new ≡ record d0 { ops = now.ops; rows = d5.rows; settled = d5.settled; scopes = d4.scopes; names = d4.names; cells = d4.cells; hidden = d4.hidden; texts = d4.texts; sites = d4.sites }
   new_whole = is ∙ ap (λ (d : Draft). let x : Draft = record d { ops = now.ops } in x) (g7.rest ∙ ap (λ (d : Draft). let x : Draft = record d { ops = d7.ops } in x) (g6.rest ∙ ap (λ (d : Draft). let x : Draft = record d { ops = d6.ops } in x) five_is))
@@ -226,23 +226,23 @@ module _ (n m k c o : ℕ) (F : Stmts → Stmts) (us : List Cleaning) (ss : Stmt
   laid = h.code d0.marks (length d0.ops) [] Begins
 
   marks_back : new.marks ≡ d0.marks
-  marks_back = e.marks ∙ ap (λ (ns : List Mark). drop (length (reverse us)) ns) marks_two-built ∙ marks_behind (laid_in d1) d0.marks (length d0.ops) (reverse us) (h.steps ++ []) d1.marks (length d1.ops) laid
+  marks_back = e.marks ∙ ap (λ (ns : List CodeMark). drop (length (reverse us)) ns) marks_two-built ∙ marks_behind (laid_in d1) d0.marks (length d0.ops) (reverse us) (h.steps ++ []) d1.marks (length d1.ops) laid
 
   block_is : block_of (h.steps ++ []) ss ≡ F ss
   block_is = block_join [] h.steps ss ∙ h.block ss
 
   built_code : StmtsAt (laid_in new) d0.marks 0 (F ss) (length d0.ops) (length new.ops)
   built_code =
-      let before : Pended (laid_in d2) d0.marks (length d0.ops) (reverse us) (h.steps ++ []) d2.marks (length d1.ops) = subst (λ (ns : List Mark). Pended (laid_in d2) d0.marks (length d0.ops) (reverse us) (h.steps ++ []) ns (length d1.ops)) (sym marks_two-built)
+      let before : Pended (laid_in d2) d0.marks (length d0.ops) (reverse us) (h.steps ++ []) d2.marks (length d1.ops) = subst (λ (ns : List CodeMark). Pended (laid_in d2) d0.marks (length d0.ops) (reverse us) (h.steps ++ []) ns (length d1.ops)) (sym marks_two-built)
       (pended_kept (laid_in d1) (laid_in d2) d0.marks (length d0.ops) (reverse us) (h.steps ++ []) d1.marks (length d1.ops) w.kept (omega arith) laid) in
-      let behind : StmtsAt (laid_in d2) d2.marks 0 ss (length d1.ops) (length d2.ops) = subst (λ (ns : List Mark). StmtsAt (laid_in d2) ns 0 ss (length d1.ops) (length d2.ops)) (sym marks_two-built) w.code in
+      let behind : StmtsAt (laid_in d2) d2.marks 0 ss (length d1.ops) (length d2.ops) = subst (λ (ns : List CodeMark). StmtsAt (laid_in d2) ns 0 ss (length d1.ops) (length d2.ops)) (sym marks_two-built) w.code in
       subst (λ (qs : Stmts). StmtsAt (laid_in new) d0.marks 0 qs (length d0.ops) (length new.ops)) block_is (e.block d0.marks (length d0.ops) (length d1.ops) (h.steps ++ []) ss before behind)
 
   new_is : new ≡ record d0 { ops = new.ops; rows = new.rows; settled = new.settled; scopes = d2.scopes; names = d2.names; cells = d2.cells; hidden = d2.hidden; texts = d2.texts; sites = d2.sites }
   new_is =
       e.rest ∙ ap (λ (d : Draft). let x : Draft = record d { ops = new.ops; rows = new.rows; settled = new.settled; marks = new.marks } in x) w.rest
       ∙ ap (λ (d : Draft). let x : Draft = record d { ops = new.ops; rows = new.rows; settled = new.settled; marks = new.marks; scopes = d2.scopes; names = d2.names; cells = d2.cells; hidden = d2.hidden; texts = d2.texts; sites = d2.sites } in x) h.rest
-      ∙ ap (λ (ns : List Mark). let x : Draft = record d0 { ops = new.ops; rows = new.rows; settled = new.settled; marks = ns; scopes = d2.scopes; names = d2.names; cells = d2.cells; hidden = d2.hidden; texts = d2.texts; sites = d2.sites } in x) marks_back
+      ∙ ap (λ (ns : List CodeMark). let x : Draft = record d0 { ops = new.ops; rows = new.rows; settled = new.settled; marks = ns; scopes = d2.scopes; names = d2.names; cells = d2.cells; hidden = d2.hidden; texts = d2.texts; sites = d2.sites } in x) marks_back
 
   pub arm_built : Lowers (n + m) k c o (λ code. StmtsAt code d0.marks 0 (F ss)) after d0 new
   arm_built =

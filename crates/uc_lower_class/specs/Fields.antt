@@ -10,8 +10,8 @@ use Rattle.uc_tree.specs.Numbering.{is_mutex}
 use Rattle.uc_tree.specs.Objects.{ClassField, has_execution, class_at, class_made, class_shape, fields_of, making}
 use Rattle.uc_tree.specs.Source.{Expr, Shape, Stmts}
 use Rattle.uc_resolve.specs.Resolve.{Meant, Own, Scope, converted, ending, value_of, field_built, field_making, field_left, field_place, field_started, fields_built, fields_left, forgotten, length_in_class, set_up, started_in, taken_down}
-use Rattle.uc_code.specs.declared.rows.Mark.{Mark}
-use Rattle.uc_code.specs.declared.rows.Spot.TheVariants as spot
+use Rattle.uc_code.specs.declared.rows.CodeMark.{CodeMark}
+use Rattle.uc_code.specs.declared.rows.ObjectSpot.TheVariants as spot
 use Rattle.uc_code.specs.declared.op.Op.{Op}
 use Rattle.uc_code.specs.declared.op.Op.TheVariants as op
 use Rattle.uc_code.specs.Layout.{Laid}
@@ -21,11 +21,11 @@ use Rattle.uc_code.specs.Lowered.{ExprAt}
 use Rattle.uc_lower_expr.specs.declared.fields.Field.{Field}
 use Rattle.uc_lower_expr.specs.Members.{routine_for}
 use Rattle.uc_lower_stmt.specs.Blocks.{AllStandBehind}
-use Rattle.uc_lower_class.specs.declared.parts.Part.{Part}
+use Rattle.uc_lower_class.specs.declared.parts.ObjectPart.{ObjectPart}
 use Rattle.uc_lower_class.specs.Inits.{init_exprs}
 
 -- the part that a field is
-abbrev pub part_in : Field → Option Part
+abbrev pub part_in : Field → Option ObjectPart
 part_in v = if v.by_ref then None else option_map (λ m. record { made = m; spot = spot.This v.cell; length = v.told.elements }) v.made
 
 -- at most so many ops build a part besides its arguments, and end what follows it
@@ -43,7 +43,7 @@ fields_room inits [] = 0
 fields_room inits (f ∷ fs) = room_by f.declarator.len + OPS_FOR_SIZE * exprs_size (init_exprs inits f.declarator.name) + fields_room inits fs
 
 -- what builds and destroys it, and nobody wrote, stands further on than the routine of these marks, where the field is a part
-abbrev pub PartBehind : Program → List Mark → Option Part → Type 0
+abbrev pub PartBehind : Program → List CodeMark → Option ObjectPart → Type 0
 PartBehind p ms None = Unit {0}
 PartBehind p ms (Some part) = AllStandBehind p part.made ms
 
@@ -73,7 +73,7 @@ held_by by_ref s m = if by_ref then m.expr else converted s (value_of m)
 abbrev pub keep_op : Bool → Op
 keep_op by_ref = if by_ref then op.Bind else op.Keep
 
-abbrev pub StartedCode : List Mark → ℕ → Bool → Expr → Laid → ℕ → ℕ → Type 0
+abbrev pub StartedCode : List CodeMark → ℕ → Bool → Expr → Laid → ℕ → ℕ → Type 0
 StartedCode ms cell by_ref e code = Both (Both (One code (op.This cell) 0) (Both (ExprAt code 0 ms e) (One code (keep_op by_ref) 0))) (One code op.Discard 0)
 
 -- how many ops end the scope of a field, and one of the object at hand

@@ -1,8 +1,8 @@
 -- Parts of an object under construction that are built, while what follows them is still to come.
 use Rattle.std.specs.Prelude.{◌≡◌, ℕ, ◌+◌, ◌*◌, ◌≤◌, List, [], ◌∷◌, ◌++◌, drop, length, reverse}
 use Rattle.uc_tree.specs.Source.{CleanUp, Stmt, Stmts}
-use Rattle.uc_code.specs.declared.rows.Mark.{Mark}
-use Rattle.uc_code.specs.declared.rows.Mark.TheVariants as mark
+use Rattle.uc_code.specs.declared.rows.CodeMark.{CodeMark}
+use Rattle.uc_code.specs.declared.rows.CodeMark.TheVariants as mark
 use Rattle.uc_code.specs.declared.rows.Cleaning.{Cleaning}
 use Rattle.uc_code.specs.Drafts.{Draft}
 use Rattle.uc_code.specs.Layout.{Laid, laid_in, routine_in}
@@ -17,15 +17,15 @@ use Rattle.uc_lower_class.specs.Fields.{field_close}
 
 -- steps that are laid out in no line, from these marks and this place to those marks and that place, with the clean-ups of the parts
 -- among them; the newest stands first
-pub data Pended (code : Laid) (ms : List Mark) (a : ℕ) : List Cleaning → List Step → List Mark → ℕ → Type 0 where
+pub data Pended (code : Laid) (ms : List CodeMark) (a : ℕ) : List Cleaning → List Step → List CodeMark → ℕ → Type 0 where
   Begins : Pended code ms a [] [] ms a
-  Done : (ws : List Cleaning) (ks : List Step) (ns : List Mark) (y z : ℕ) (s : Stmt) → Pended code ms a ws ks ns y → StmtAt code ns s y z → Pended code ms a ws (Does s ∷ ks) ns z
-  Parted : (ws : List Cleaning) (ks : List Step) (ns : List Mark) (z row : ℕ) (c : CleanUp) (what : Cleaning) → Pended code ms a ws ks ns z → Cleans c what → Pended code ms a (what ∷ ws) (Builds c ∷ ks) (mark.Part row ∷ ns) z
+  Done : (ws : List Cleaning) (ks : List Step) (ns : List CodeMark) (y z : ℕ) (s : Stmt) → Pended code ms a ws ks ns y → StmtAt code ns s y z → Pended code ms a ws (Does s ∷ ks) ns z
+  Parted : (ws : List Cleaning) (ks : List Step) (ns : List CodeMark) (z row : ℕ) (c : CleanUp) (what : Cleaning) → Pended code ms a ws ks ns z → Cleans c what → Pended code ms a (what ∷ ws) (Builds c ∷ ks) (mark.Part row ∷ ns) z
 
 -- these parts are those of the innermost marks
-pub data PartsIn : List Cleaning → List Mark → Type 0 where
-  NoParts : (ms : List Mark) → PartsIn [] ms
-  MoreParts : (what : Cleaning) (ws : List Cleaning) (row : ℕ) (ms : List Mark) → CleansBehind ms what → PartsIn ws ms → PartsIn (what ∷ ws) (mark.Part row ∷ ms)
+pub data PartsIn : List Cleaning → List CodeMark → Type 0 where
+  NoParts : (ms : List CodeMark) → PartsIn [] ms
+  MoreParts : (what : Cleaning) (ws : List Cleaning) (row : ℕ) (ms : List CodeMark) → CleansBehind ms what → PartsIn ws ms → PartsIn (what ∷ ws) (mark.Part row ∷ ms)
 
 -- the ops that end what follows these parts
 abbrev pub end_room : List Cleaning → ℕ
@@ -42,14 +42,14 @@ pub record Constructs (n : ℕ) (F : Stmts → Stmts) (ws : List Cleaning) (old 
   pub inside : routine_in new.marks ≡ routine_in old.marks
   pub steps : List Step
   pub block : (ss : Stmts) → block_of steps ss ≡ F ss
-  pub code : (ms : List Mark) (a : ℕ) (ks : List Step) → Pended (laid_in old) ms a (reverse ws) ks old.marks (length old.ops) → Pended (laid_in new) ms a (reverse us) (steps ++ ks) new.marks (length new.ops)
+  pub code : (ms : List CodeMark) (a : ℕ) (ks : List Step) → Pended (laid_in old) ms a (reverse ws) ks old.marks (length old.ops) → Pended (laid_in new) ms a (reverse us) (steps ++ ks) new.marks (length new.ops)
 
 -- a draft in which what follows these parts has ended, the newest of which stands first
 pub record EndsParts (ws : List Cleaning) (old new : Draft) : Type 0 where
   pub rest : new ≡ record old { ops = new.ops; rows = new.rows; settled = new.settled; marks = new.marks }
   pub kept : Kept (laid_in old) (laid_in new)
   pub room : length new.ops ≤ length old.ops + end_room ws
-  pub block : (ms : List Mark) (a y : ℕ) (ks : List Step) (ss : Stmts) → Pended (laid_in old) ms a ws ks old.marks y → StmtsAt (laid_in old) old.marks 0 ss y (length old.ops) → StmtsAt (laid_in new) ms 0 (block_of ks ss) a (length new.ops)
+  pub block : (ms : List CodeMark) (a y : ℕ) (ks : List Step) (ss : Stmts) → Pended (laid_in old) ms a ws ks old.marks y → StmtsAt (laid_in old) old.marks 0 ss y (length old.ops) → StmtsAt (laid_in new) ms 0 (block_of ks ss) a (length new.ops)
   pub marks : new.marks ≡ drop (length ws) old.marks
 
 -- the scopes of all of them are opened, and behind that an execution is unwound

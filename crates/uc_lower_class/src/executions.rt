@@ -6,7 +6,7 @@ ghost use Rattle.uc_tree.specs.Cells.{classes_of};
 ghost use Rattle.uc_tree.specs.Programs.{Program};
 ghost use Rattle.uc_tree.specs.Source.{Built, CleanUp};
 ghost use Rattle.uc_resolve.specs.Resolve.{class_by, construction_ends, ending, enlivened, forgotten, place_or_zero, set_up, started_in, taken_down};
-ghost use Rattle.uc_code.specs.declared.rows.Mark.{Mark};
+ghost use Rattle.uc_code.specs.declared.rows.CodeMark.{CodeMark};
 ghost use Rattle.uc_code.specs.Lowered.{StmtsAt};
 ghost use Rattle.uc_code.specs.ObjectCalls.{Cleans};
 ghost use Rattle.uc_code.specs.OpenRows.{CleansBehind};
@@ -73,7 +73,7 @@ pub(crate) fn open_started(
 // Behind its body it is live.
 fn enliven(coroutine: bool, out: &mut Draft) -> Result<(), AllocError>
     requires { length out.old.ops + enliven_room coroutine ≤ PROGRAM_OPS }
-    ensures { OnOk result ((p : Program) (ms : List Mark) → Adds (enliven_room coroutine) (λ code. StmtsAt code ms 0 (enlivened p coroutine)) out.old out.new) }
+    ensures { OnOk result ((p : Program) (ms : List CodeMark) → Adds (enliven_room coroutine) (λ code. StmtsAt code ms 0 (enlivened p coroutine)) out.old out.new) }
 {
     if coroutine {
         put(Op::Live, 0, out)?;
@@ -89,7 +89,7 @@ pub(crate) fn end_construction(
     out: &mut Draft,
 ) -> Result<(), AllocError>
     requires { length out.old.ops + live_room (class_by names.now class) ≤ PROGRAM_OPS }
-    ensures { OnOk result ((ms : List Mark) → Adds (live_room (class_by names.now class)) (λ code. StmtsAt code ms 0 (construction_ends names.now (class_by names.now class) (place_or_zero names.now class))) out.old out.new) }
+    ensures { OnOk result ((ms : List CodeMark) → Adds (live_room (class_by names.now class)) (λ code. StmtsAt code ms 0 (construction_ends names.now (class_by names.now class) (place_or_zero names.now class))) out.old out.new) }
 {
     let coroutine = names.has_coroutines(class);
     enliven(coroutine, out)?;

@@ -22,7 +22,7 @@ ghost use Rattle.uc_lower_class.specs.OpenParts.{Constructs, EndsParts, Opens, P
 use std::alloc::AllocError;
 use uc_code::draft::Draft;
 use uc_code::op::Op;
-use uc_code::rows::{Cleaning, Opening, Spot};
+use uc_code::rows::{Cleaning, ObjectSpot, Opening};
 use uc_lower_expr::expr::{lower_expr, lower_value};
 use uc_lower_expr::fields::Field;
 use uc_lower_expr::making::Made;
@@ -33,23 +33,23 @@ use uc_tree::expr::Expr;
 
 /// A field that is an object, a cluster or a processor: what is made, where it begins, and the length of an array.
 #[derive(Clone, Copy)]
-pub(crate) struct Part {
+pub(crate) struct ObjectPart {
     pub made: Made,
-    pub spot: Spot,
+    pub spot: ObjectSpot,
     pub length: Option<u32>,
 }
 
 // The part that a field is. A reference names no object of its own.
-fn part_of(field: Field) -> Option<Part>
+fn part_of(field: Field) -> Option<ObjectPart>
     ensures { result ≡ part_in field }
 {
     if field.by_ref {
         return None;
     }
     match field.made {
-        Some(made) => Some(Part {
+        Some(made) => Some(ObjectPart {
             made,
-            spot: Spot::This(field.cell),
+            spot: ObjectSpot::This(field.cell),
             length: field.told.elements,
         }),
         None => None,
@@ -121,7 +121,7 @@ fn lower_started(
 
 // An object is built, and what follows stands behind it, as a part of the object under construction.
 fn lower_part(
-    part: Part,
+    part: ObjectPart,
     args: &[Expr],
     names: &ProgramNames,
     parts: &mut Vec<Cleaning>,

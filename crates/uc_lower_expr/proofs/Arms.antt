@@ -12,7 +12,7 @@ use Rattle.uc_tree.specs.Objects.{shape_of}
 use Rattle.uc_resolve.specs.Resolve.{scalar as scalar_type, value_meant, Meant, converted, value_by, value_of, Standing, AtVariable, AtPlace, AsNumber, AsValue, has_number, known_by, known_named, known_meant, name_meant, item_meant, constant_meant_by, routine_meant_by, routine_from, variable_in, updated, updated_by, stepped, stepped_by, step_meant}
 use Rattle.uc_code.specs.declared.op.Op.{Op}
 use Rattle.uc_code.specs.declared.op.Op.TheVariants as op
-use Rattle.uc_code.specs.declared.rows.Mark.{Mark}
+use Rattle.uc_code.specs.declared.rows.CodeMark.{CodeMark}
 use Rattle.uc_code.specs.Drafts.{Draft}
 use Rattle.uc_code.specs.Layout.{Laid, laid_in}
 use Rattle.uc_code.specs.CodeShapes.{One, Both, Stable}
@@ -22,9 +22,9 @@ use Rattle.uc_lower_expr.specs.declared.meaning.Scalar.{Scalar}
 use Rattle.uc_lower_expr.specs.declared.meaning.Scalar.TheVariants as scalar
 use Rattle.uc_lower_expr.specs.declared.meaning.Standing.{Standing as Told}
 use Rattle.uc_lower_expr.specs.declared.meaning.Standing.TheVariants as standing
-use Rattle.uc_lower_expr.specs.declared.meaning.Meaning.{Meaning}
+use Rattle.uc_lower_expr.specs.declared.meaning.ExprMeaning.{ExprMeaning}
 use Rattle.uc_lower_expr.specs.declared.names.Variable.{Variable}
-use Rattle.uc_lower_expr.specs.declared.numbering.Fixed.{Fixed}
+use Rattle.uc_lower_expr.specs.declared.numbering.ConstantMeaning.{ConstantMeaning}
 use Rattle.uc_lower_expr.specs.Numbered.{IsFixed}
 use Rattle.uc_lower_expr.specs.Meanings.{FieldAt, Begins, StandsAs, cell_in, shape_as, Tells}
 use Rattle.uc_lower_expr.specs.DraftGrowth.{Adds, Cuts, Grows, ExprCode, ConvertCode, OpCode, fetched}
@@ -50,14 +50,14 @@ pub arm_end : (line : ℕ) (o : Op) (s : Shape) (d0 d1 d2 d3 : Draft) → Adds 1
 arm_end line o s d0 d1 d2 d3 h1 h2 h3 = adds_more (omega arith) (adds_both (one_stable o line) h1 (adds_both (convert_stable line s) h2 h3))
 
 pub arm_step : (line : ℕ) (o : Op) (s : Shape) (d0 d1 d2 d3 d4 d5 d6 d7 d8 d9 : Draft)
-    → Adds 1 (OpCode line op.Duplicate) d0 d1 → Adds 1 (OpCode line op.Load) d1 d2 → Adds 1 (OpCode line op.Over) d2 d3 → Adds 1 (OpCode line op.Over) d3 d4
+    → Adds 1 (OpCode line op.Duplicate) d0 d1 → Adds 1 (OpCode line op.Load) d1 d2 → Adds 1 (OpCode line op.CopyBelow) d2 d3 → Adds 1 (OpCode line op.CopyBelow) d3 d4
     → Adds 1 (OpCode line (op.Push (pos 1))) d4 d5 → Adds 1 (OpCode line o) d5 d6 → Adds 1 (ConvertCode line s) d6 d7 → Adds 1 (OpCode line op.Store) d7 d8 → Adds 1 (OpCode line op.DiscardBelow) d8 d9
     → Adds 9 (StepCode line o s) d0 d9
 arm_step line o s d0 d1 d2 d3 d4 d5 d6 d7 d8 d9 h1 h2 h3 h4 h5 h6 h7 h8 h9 =
-    adds_more (omega arith) (adds_both (one_stable op.Duplicate line) h1 (adds_both (one_stable op.Load line) h2 (adds_both (one_stable op.Over line) h3 (adds_both (one_stable op.Over line) h4 (adds_both (one_stable (op.Push (pos 1)) line) h5 (adds_both (one_stable o line) h6 (adds_both (convert_stable line s) h7 (adds_both (one_stable op.Store line) h8 h9))))))))
+    adds_more (omega arith) (adds_both (one_stable op.Duplicate line) h1 (adds_both (one_stable op.Load line) h2 (adds_both (one_stable op.CopyBelow line) h3 (adds_both (one_stable op.CopyBelow line) h4 (adds_both (one_stable (op.Push (pos 1)) line) h5 (adds_both (one_stable o line) h6 (adds_both (convert_stable line s) h7 (adds_both (one_stable op.Store line) h8 h9))))))))
 
 -- a step of a variable
-pub arm_set_by_one : (ms : List Mark) (line k : ℕ) (o : Op) (s : Shape) (d0 d1 d2 d3 d4 d5 : Draft)
+pub arm_set_by_one : (ms : List CodeMark) (line k : ℕ) (o : Op) (s : Shape) (d0 d1 d2 d3 d4 d5 : Draft)
     → Adds 1 (OpCode line (op.Via k)) d0 d1 → Adds 1 (OpCode line (op.Push (pos 1))) d1 d2 → Adds 1 (OpCode line o) d2 d3 → Adds 1 (ConvertCode line s) d3 d4 → Adds 1 (OpCode line (op.Set k)) d4 d5
     → Adds 5 (SetByCode line ms k o s (Literal (pos 1))) d0 d5
 arm_set_by_one ms line k o s d0 d1 d2 d3 d4 d5 h1 h2 h3 h4 h5 =
@@ -65,17 +65,17 @@ arm_set_by_one ms line k o s d0 d1 d2 d3 d4 d5 h1 h2 h3 h4 h5 =
     (adds_both (both (one_stable (op.Via k) line) (both (one_stable (op.Push (pos 1)) line) (one_stable o line)))
     (adds_both (one_stable (op.Via k) line) h1 (adds_both (one_stable (op.Push (pos 1)) line) h2 h3)) h4) h5)
 
-set_by_stable : (ms : List Mark) (line k : ℕ) (o : Op) (s : Shape) (e : Expr) → Stable (SetByCode line ms k o s e)
+set_by_stable : (ms : List CodeMark) (line k : ℕ) (o : Op) (s : Shape) (e : Expr) → Stable (SetByCode line ms k o s e)
 set_by_stable ms line k o s e = both (both (both (one_stable (op.Via k) line) (both (expr_stable line ms e) (one_stable o line))) (convert_stable line s)) (one_stable (op.Set k) line)
 
-pub arm_behind : (ms : List Mark) (line k : ℕ) (o : Op) (s : Shape) (d0 d1 d2 d3 : Draft)
+pub arm_behind : (ms : List CodeMark) (line k : ℕ) (o : Op) (s : Shape) (d0 d1 d2 d3 : Draft)
     → Adds 1 (OpCode line (op.Via k)) d0 d1 → Adds 5 (SetByCode line ms k o s (Literal (pos 1))) d1 d2 → Adds 1 (OpCode line op.Discard) d2 d3
     → Adds 7 (BehindCode line ms k o s) d0 d3
 arm_behind ms line k o s d0 d1 d2 d3 h1 h2 h3 = adds_more (omega arith) (adds_both (one_stable (op.Via k) line) h1 (adds_both (set_by_stable ms line k o s (Literal (pos 1))) h2 h3))
 
 -- a value of the same type
-pub as_value : {p : Program} → (told t : Meaning) (m : Meant) (e : Expr) → t ≡ record told { standing = standing.Value } → Tells p told m → Tells p t (record { expr = e; ty = m.ty; standing = AsValue })
-as_value {p} told t m e i u = subst (λ (x : Meaning). Tells p x (record { expr = e; ty = m.ty; standing = AsValue })) (sym i) (record { shape = u.shape; class = u.class; numbered = u.numbered; event = u.event; len = u.len; standing = refl })
+pub as_value : {p : Program} → (told t : ExprMeaning) (m : Meant) (e : Expr) → t ≡ record told { standing = standing.Value } → Tells p told m → Tells p t (record { expr = e; ty = m.ty; standing = AsValue })
+as_value {p} told t m e i u = subst (λ (x : ExprMeaning). Tells p x (record { expr = e; ty = m.ty; standing = AsValue })) (sym i) (record { shape = u.shape; class = u.class; numbered = u.numbered; event = u.event; len = u.len; standing = refl })
 
 -- names and the cells of an element
 
@@ -83,15 +83,15 @@ as_value {p} told t m e i u = subst (λ (x : Meaning). Tells p x (record { expr 
 abbrev meant_by : Bool → LocalVariable → Meant
 meant_by b k = if b then record { expr = Get k.cell; ty = k.ty; standing = AtPlace } else record { expr = Var k.cell; ty = k.ty; standing = AtVariable k.cell }
 
-told_by : {p : Program} → (k : LocalVariable) (v : Meaning) (x : Told) (b : Bool) → ((e : Expr) → Tells p v (value_meant e (scalar_type k.ty.base))) → x ≡ standing_by false b k.cell → Tells p (record v { elements = k.ty.len; standing = x }) (meant_by b k)
+told_by : {p : Program} → (k : LocalVariable) (v : ExprMeaning) (x : Told) (b : Bool) → ((e : Expr) → Tells p v (value_meant e (scalar_type k.ty.base))) → x ≡ standing_by false b k.cell → Tells p (record v { elements = k.ty.len; standing = x }) (meant_by b k)
 told_by k v x true h e = let u = h (Literal (pos 0)) in record { shape = u.shape; class = u.class; numbered = u.numbered; event = u.event; len = refl; standing = subst (λ (y : Told). StandsAs y AtPlace) (sym e) refl }
 told_by k v x false h e = let u = h (Literal (pos 0)) in record { shape = u.shape; class = u.class; numbered = u.numbered; event = u.event; len = refl; standing = subst (λ (y : Told). StandsAs y (AtVariable k.cell)) (sym e) refl }
 
-told_held : {p : Program} → (k : LocalVariable) (v : Meaning) (x : Told) (n : Bool) → ((e : Expr) → Tells p v (value_meant e (scalar_type k.ty.base))) → x ≡ standing_by n k.ty.by_ref k.cell → Tells p (record v { elements = k.ty.len; standing = x }) (known_by n k)
+told_held : {p : Program} → (k : LocalVariable) (v : ExprMeaning) (x : Told) (n : Bool) → ((e : Expr) → Tells p v (value_meant e (scalar_type k.ty.base))) → x ≡ standing_by n k.ty.by_ref k.cell → Tells p (record v { elements = k.ty.len; standing = x }) (known_by n k)
 told_held k v x true h e = let u = h (Literal (pos 0)) in record { shape = u.shape; class = u.class; numbered = u.numbered; event = u.event; len = refl; standing = subst (λ (y : Told). StandsAs y AsNumber) (sym e) refl }
 told_held k v x false h e = told_by k v x k.ty.by_ref h e
 
-pub told_known : {p : Program} → (k : LocalVariable) (v : Meaning) (x : Told) → ((e : Expr) → Tells p v (value_meant e (scalar_type k.ty.base))) → x ≡ standing_by (has_number p k.ty) k.ty.by_ref k.cell → Tells p (record v { elements = k.ty.len; standing = x }) (known_meant p k)
+pub told_known : {p : Program} → (k : LocalVariable) (v : ExprMeaning) (x : Told) → ((e : Expr) → Tells p v (value_meant e (scalar_type k.ty.base))) → x ≡ standing_by (has_number p k.ty) k.ty.by_ref k.cell → Tells p (record v { elements = k.ty.len; standing = x }) (known_meant p k)
 told_known {p} k v x h e = told_held k v x (has_number p k.ty) h e
 
 -- the variable that is told of
@@ -112,21 +112,21 @@ variable_told (standing.Condition k) s h = ap variable_in h
 variable_told (standing.CallOf c) s h = ap variable_in h
 variable_told standing.Nothing s h = ap variable_in h
 
-pub told_variable : {p : Program} → (s : Meaning) (m : Meant) (k : ℕ) → Tells p s m → Some k ≡ cell_in s.standing → variable_in m.standing ≡ Some k
+pub told_variable : {p : Program} → (s : ExprMeaning) (m : Meant) (k : ℕ) → Tells p s m → Some k ≡ cell_in s.standing → variable_in m.standing ≡ Some k
 told_variable s m k u e = variable_told s.standing m.standing u.standing ∙ sym e
 
-pub told_no_variable : {p : Program} → (s : Meaning) (m : Meant) → Tells p s m → None ≡ cell_in s.standing → variable_in m.standing ≡ None
+pub told_no_variable : {p : Program} → (s : ExprMeaning) (m : Meant) → Tells p s m → None ≡ cell_in s.standing → variable_in m.standing ≡ None
 told_no_variable s m u e = variable_told s.standing m.standing u.standing ∙ sym e
 
 -- the standing that is told, where it is this
-pub stands : {p : Program} → (s : Meaning) (m : Meant) (x : Told) → Tells p s m → s.standing ≡ x → StandsAs x m.standing
+pub stands : {p : Program} → (s : ExprMeaning) (m : Meant) (x : Told) → Tells p s m → s.standing ≡ x → StandsAs x m.standing
 stands s m x u e = subst (λ (y : Told). StandsAs y m.standing) e u.standing
 
-bumped_tells : {p : Program} → (o : StepOp) (told t : Meaning) (m : Meant) → t ≡ record told { standing = standing.Value } → Tells p told m → Tells p t (bumped o m)
+bumped_tells : {p : Program} → (o : StepOp) (told t : ExprMeaning) (m : Meant) → t ≡ record told { standing = standing.Value } → Tells p told m → Tells p t (bumped o m)
 bumped_tells step.Increment told t m i u = as_value told t m _ i u
 bumped_tells step.Decrement told t m i u = as_value told t m _ i u
 
-step_tells : {p : Program} → (o : StepOp) (told t : Meaning) (m : Meant) → t ≡ record told { standing = standing.Value } → Tells p told m → Tells p t (step_meant o m)
+step_tells : {p : Program} → (o : StepOp) (told t : ExprMeaning) (m : Meant) → t ≡ record told { standing = standing.Value } → Tells p told m → Tells p t (step_meant o m)
 step_tells step.Increment told t m i u = as_value told t m _ i u
 step_tells step.Decrement told t m i u = as_value told t m _ i u
 
@@ -134,7 +134,7 @@ pub name_told : (p : Program) (class : Option ℕ) (names : List LocalVariable) 
 name_told p class names name v n = subst (λ (o : Option LocalVariable). Tells p v.told (name_meant p class name o)) (sym n.is) n.tells
 
 -- under marks
-module _ (ms : List Mark) where
+module _ (ms : List CodeMark) where
   pub converted_at : (line : ℕ) (s : Shape) (e : Expr) (code : Laid) (a z : ℕ) → Both (ExprAt code line ms e) (ConvertAt code line s) a z → ExprAt code line ms (converted s e) a z
   converted_at line Integer e code a z h = and_nothing (ExprAt code line ms e) a z h
   converted_at line Character e code a z h = h
@@ -165,7 +165,7 @@ module _ (ms : List Mark) where
       subst (λ (k : ℕ). Adds 1 (OpCode line (place_op_of v.held k)) old new) (sym n.cell) (
       subst (λ (x : Op). Adds 1 (OpCode line x) old new) i h))))
 
-  pub item_fixed : (p : Program) (line : ℕ) (name : List ℕ) (v : Fixed) (x : ℤ) (old new : Draft) → IsFixed p name v → x ≡ v.value → Adds 1 (OpCode line (op.Push x)) old new → Adds 1 (ExprCode line ms (item_meant p name).expr) old new
+  pub item_fixed : (p : Program) (line : ℕ) (name : List ℕ) (v : ConstantMeaning) (x : ℤ) (old new : Draft) → IsFixed p name v → x ≡ v.value → Adds 1 (OpCode line (op.Push x)) old new → Adds 1 (ExprCode line ms (item_meant p name).expr) old new
   item_fixed p line name v x old new f e h =
       subst (λ (o : Option Constant). Adds 1 (ExprCode line ms (constant_meant_by p name o).expr) old new) (sym f.is) (subst (λ (z : ℤ). Adds 1 (OpCode line (op.Push z)) old new) (e ∙ f.value) h)
 
@@ -178,7 +178,7 @@ module _ (ms : List Mark) where
       subst (λ (o : Option Constant). Adds 1 (ExprCode line ms (constant_meant_by p name o).expr) old new) (sym e) (routine_code p line (routine_from (routines_of p) 0 name) old new h)
 
   -- the value of a variable, of an own field, of another place, and of what is a value
-  pub load_variable : {p : Program} → (line a k : ℕ) (s t : Meaning) (old new : Draft) → a ≤ length old.ops → s.standing ≡ standing.Variable k → t ≡ record s { standing = standing.Value } → Restarts (op.Via k) line a old new → Grows p 1 line ms a fetched s t old new
+  pub load_variable : {p : Program} → (line a k : ℕ) (s t : ExprMeaning) (old new : Draft) → a ≤ length old.ops → s.standing ≡ standing.Variable k → t ≡ record s { standing = standing.Value } → Restarts (op.Via k) line a old new → Grows p 1 line ms a fetched s t old new
   load_variable line a k s t old new l e i h =
       grows_restart 1 line ms a fetched s t (op.Via k) old new (omega arith) l h
       (λ m u. as_value s t m (value_of m) i u)
@@ -187,19 +187,19 @@ module _ (ms : List Mark) where
   field_value : (line k : ℕ) (s : Standing) (e : Expr) (code : Laid) (a z : ℕ) → FieldAt k s → One code (op.ViaThis k) line a z → ExprAt code line ms (value_by s e) a z
   field_value line k s e code a z (Begins t i is) h = subst (λ (n : ℕ). One code (op.ViaThis n) line a z) (sym is) h
 
-  pub load_field : {p : Program} → (line a k : ℕ) (s t : Meaning) (old new : Draft) → a ≤ length old.ops → s.standing ≡ standing.Field k → t ≡ record s { standing = standing.Value } → Restarts (op.ViaThis k) line a old new → Grows p 1 line ms a fetched s t old new
+  pub load_field : {p : Program} → (line a k : ℕ) (s t : ExprMeaning) (old new : Draft) → a ≤ length old.ops → s.standing ≡ standing.Field k → t ≡ record s { standing = standing.Value } → Restarts (op.ViaThis k) line a old new → Grows p 1 line ms a fetched s t old new
   load_field line a k s t old new l e i h =
       grows_restart 1 line ms a fetched s t (op.ViaThis k) old new (omega arith) l h
       (λ m u. as_value s t m (value_of m) i u)
       (λ m u code z w. field_value line k m.standing m.expr code a z (stands s m (standing.Field k) u e) w)
 
-  pub load_place : {p : Program} → (line a : ℕ) (s t : Meaning) (old new : Draft) → a ≤ length old.ops → s.standing ≡ standing.Place → t ≡ record s { standing = standing.Value } → Adds 1 (OpCode line op.Load) old new → Grows p 1 line ms a fetched s t old new
+  pub load_place : {p : Program} → (line a : ℕ) (s t : ExprMeaning) (old new : Draft) → a ≤ length old.ops → s.standing ≡ standing.Place → t ≡ record s { standing = standing.Value } → Adds 1 (OpCode line op.Load) old new → Grows p 1 line ms a fetched s t old new
   load_place line a s t old new l e i h =
       grows_adds 1 line ms a fetched s t (OpCode line op.Load) old new l h
       (λ m u. as_value s t m (value_of m) i u)
       (λ m u code b z w v. subst (λ (o : Standing). ExprAt code line ms (value_by o m.expr) a z) (sym (stands s m standing.Place u e)) (record { middle = b; first = w; second = v }))
 
-  pub load_none : {p : Program} → (line a : ℕ) (x : Told) (s t : Meaning) (old : Draft) → a ≤ length old.ops → s.standing ≡ x → ((o : Standing) (e : Expr) → StandsAs x o → value_by o e ≡ e) → t ≡ record s { standing = standing.Value } → Grows p 1 line ms a fetched s t old old
+  pub load_none : {p : Program} → (line a : ℕ) (x : Told) (s t : ExprMeaning) (old : Draft) → a ≤ length old.ops → s.standing ≡ x → ((o : Standing) (e : Expr) → StandsAs x o → value_by o e ≡ e) → t ≡ record s { standing = standing.Value } → Grows p 1 line ms a fetched s t old old
   load_none line a x s t old l e same i = record {
     rest = refl;
     front = record { same = λ j o n p q h. h; chains = λ next p h. refl; handlers = λ k e h. h };
@@ -250,30 +250,30 @@ module _ (ms : List Mark) where
   step_place_at line step.Increment m code a b z is h g = stepped_place line Plus m code a b z is h g
   step_place_at line step.Decrement m code a b z is h g = stepped_place line Minus m code a b z is h g
 
-  pub arm_bump_variable : {p : Program} → (line k a : ℕ) (o : StepOp) (x : Op) (s t : Meaning) (old mid new : Draft) → a ≤ length old.ops → Some k ≡ cell_in s.standing → x ≡ step_op_of o → t ≡ record s { standing = standing.Value } → ms ≡ old.marks → Cuts a old mid → Adds 5 (SetByCode line mid.marks k x (shape_as s.scalar) (Literal (pos 1))) mid new → Grows p 6 line ms a (bumped o) s t old new
+  pub arm_bump_variable : {p : Program} → (line k a : ℕ) (o : StepOp) (x : Op) (s t : ExprMeaning) (old mid new : Draft) → a ≤ length old.ops → Some k ≡ cell_in s.standing → x ≡ step_op_of o → t ≡ record s { standing = standing.Value } → ms ≡ old.marks → Cuts a old mid → Adds 5 (SetByCode line mid.marks k x (shape_as s.scalar) (Literal (pos 1))) mid new → Grows p 6 line ms a (bumped o) s t old new
   arm_bump_variable line k a o x s t old mid new l e i j w c h =
-      let h1 : Adds 5 (SetByCode line ms k x (shape_as s.scalar) (Literal (pos 1))) mid new = subst (λ (ns : List Mark). Adds 5 (SetByCode line ns k x (shape_as s.scalar) (Literal (pos 1))) mid new) (ap (λ (d : Draft). d.marks) c.rest ∙ sym w) h in
+      let h1 : Adds 5 (SetByCode line ms k x (shape_as s.scalar) (Literal (pos 1))) mid new = subst (λ (ns : List CodeMark). Adds 5 (SetByCode line ns k x (shape_as s.scalar) (Literal (pos 1))) mid new) (ap (λ (d : Draft). d.marks) c.rest ∙ sym w) h in
       let h2 : Adds 5 (SetByCode line ms k (step_op_of o) (shape_as s.scalar) (Literal (pos 1))) mid new = subst (λ (y : Op). Adds 5 (SetByCode line ms k y (shape_as s.scalar) (Literal (pos 1))) mid new) i h1 in
       grows_cut 6 line ms a (bumped o) s t (SetByCode line ms k (step_op_of o) (shape_as s.scalar) (Literal (pos 1))) old mid new l c (adds_more (omega arith) h2)
       (λ m u. bumped_tells o s t m j u)
       (λ m u code z v. bump_variable_at line k o m code a z (told_variable s m k u e) (subst (λ (y : Shape). SetByCode line ms k (step_op_of o) y (Literal (pos 1)) code a z) (sym u.shape) v))
 
-  pub arm_bump_place : {p : Program} → (line a : ℕ) (o : StepOp) (x : Op) (s t : Meaning) (old new : Draft) → a ≤ length old.ops → None ≡ cell_in s.standing → x ≡ step_op_of o → t ≡ record s { standing = standing.Value } → Adds 6 (UpdateCode line ms x (shape_as s.scalar) (Literal (pos 1))) old new → Grows p 6 line ms a (bumped o) s t old new
+  pub arm_bump_place : {p : Program} → (line a : ℕ) (o : StepOp) (x : Op) (s t : ExprMeaning) (old new : Draft) → a ≤ length old.ops → None ≡ cell_in s.standing → x ≡ step_op_of o → t ≡ record s { standing = standing.Value } → Adds 6 (UpdateCode line ms x (shape_as s.scalar) (Literal (pos 1))) old new → Grows p 6 line ms a (bumped o) s t old new
   arm_bump_place line a o x s t old new l e i j h =
       let h2 : Adds 6 (UpdateCode line ms (step_op_of o) (shape_as s.scalar) (Literal (pos 1))) old new = subst (λ (y : Op). Adds 6 (UpdateCode line ms y (shape_as s.scalar) (Literal (pos 1))) old new) i h in
       grows_adds 6 line ms a (bumped o) s t (UpdateCode line ms (step_op_of o) (shape_as s.scalar) (Literal (pos 1))) old new l h2
       (λ m u. bumped_tells o s t m j u)
       (λ m u code b z w v. bump_place_at line o m code a b z (told_no_variable s m u e) w (subst (λ (y : Shape). UpdateCode line ms (step_op_of o) y (Literal (pos 1)) code b z) (sym u.shape) v))
 
-  pub arm_step_variable : {p : Program} → (line k a : ℕ) (o : StepOp) (x : Op) (s t : Meaning) (old mid new : Draft) → a ≤ length old.ops → Some k ≡ cell_in s.standing → x ≡ step_op_of o → t ≡ record s { standing = standing.Value } → ms ≡ old.marks → Cuts a old mid → Adds 7 (BehindCode line mid.marks k x (shape_as s.scalar)) mid new → Grows p 9 line ms a (step_meant o) s t old new
+  pub arm_step_variable : {p : Program} → (line k a : ℕ) (o : StepOp) (x : Op) (s t : ExprMeaning) (old mid new : Draft) → a ≤ length old.ops → Some k ≡ cell_in s.standing → x ≡ step_op_of o → t ≡ record s { standing = standing.Value } → ms ≡ old.marks → Cuts a old mid → Adds 7 (BehindCode line mid.marks k x (shape_as s.scalar)) mid new → Grows p 9 line ms a (step_meant o) s t old new
   arm_step_variable line k a o x s t old mid new l e i j w c h =
-      let h1 : Adds 7 (BehindCode line ms k x (shape_as s.scalar)) mid new = subst (λ (ns : List Mark). Adds 7 (BehindCode line ns k x (shape_as s.scalar)) mid new) (ap (λ (d : Draft). d.marks) c.rest ∙ sym w) h in
+      let h1 : Adds 7 (BehindCode line ms k x (shape_as s.scalar)) mid new = subst (λ (ns : List CodeMark). Adds 7 (BehindCode line ns k x (shape_as s.scalar)) mid new) (ap (λ (d : Draft). d.marks) c.rest ∙ sym w) h in
       let h2 : Adds 7 (BehindCode line ms k (step_op_of o) (shape_as s.scalar)) mid new = subst (λ (y : Op). Adds 7 (BehindCode line ms k y (shape_as s.scalar)) mid new) i h1 in
       grows_cut 9 line ms a (step_meant o) s t (BehindCode line ms k (step_op_of o) (shape_as s.scalar)) old mid new l c (adds_more (omega arith) h2)
       (λ m u. step_tells o s t m j u)
       (λ m u code z v. step_variable_at line k o m code a z (told_variable s m k u e) (subst (λ (y : Shape). BehindCode line ms k (step_op_of o) y code a z) (sym u.shape) v))
 
-  pub arm_step_place : {p : Program} → (line a : ℕ) (o : StepOp) (x : Op) (s t : Meaning) (old new : Draft) → a ≤ length old.ops → None ≡ cell_in s.standing → x ≡ step_op_of o → t ≡ record s { standing = standing.Value } → Adds 9 (StepCode line x (shape_as s.scalar)) old new → Grows p 9 line ms a (step_meant o) s t old new
+  pub arm_step_place : {p : Program} → (line a : ℕ) (o : StepOp) (x : Op) (s t : ExprMeaning) (old new : Draft) → a ≤ length old.ops → None ≡ cell_in s.standing → x ≡ step_op_of o → t ≡ record s { standing = standing.Value } → Adds 9 (StepCode line x (shape_as s.scalar)) old new → Grows p 9 line ms a (step_meant o) s t old new
   arm_step_place line a o x s t old new l e i j h =
       let h2 : Adds 9 (StepCode line (step_op_of o) (shape_as s.scalar)) old new = subst (λ (y : Op). Adds 9 (StepCode line y (shape_as s.scalar)) old new) i h in
       grows_adds 9 line ms a (step_meant o) s t (StepCode line (step_op_of o) (shape_as s.scalar)) old new l h2

@@ -18,7 +18,7 @@ use Rattle.uc_tree.specs.Numbering.{is_event, at_most, class_names, place_from a
 use Rattle.uc_tree.specs.Source.{Binding, Expr, shape_cells}
 use Rattle.uc_resolve.specs.Resolve.{AsValue, result_of, scalar, value_meant}
 use Rattle.uc_tree.specs.Objects.{Making, APlain, AMutex, making, making_by, class_made, is_numbered, class_at, number_in, number_at, place_from, place_of, shape_of, kept_shape, class_shape, base_shape, written_at, unwritten_number}
-use Rattle.uc_lower_expr.specs.declared.meaning.Meaning.{Meaning}
+use Rattle.uc_lower_expr.specs.declared.meaning.ExprMeaning.{ExprMeaning}
 use Rattle.uc_lower_expr.specs.declared.meaning.Scalar.TheVariants as scalars
 use Rattle.uc_lower_expr.specs.declared.meaning.Standing.TheVariants as standing
 use Rattle.uc_lower_expr.specs.declared.making.Made.{Made}
@@ -165,14 +165,14 @@ module _ (p : Program) (fit : FitClasses p) where
 
 -- what a routine hands over
 
-pub result_told : (p : Program) (r : ℕ) (b : Base) (t : Meaning) (e : Expr) → result_of p r ≡ b → ((e : Expr) → Tells p t (value_meant e (scalar b))) → Tells p t (record { expr = e; ty = scalar (result_of p r); standing = AsValue })
+pub result_told : (p : Program) (r : ℕ) (b : Base) (t : ExprMeaning) (e : Expr) → result_of p r ≡ b → ((e : Expr) → Tells p t (value_meant e (scalar b))) → Tells p t (record { expr = e; ty = scalar (result_of p r); standing = AsValue })
 result_told p r b t e is h = subst (λ (x : Base). Tells p t (value_meant e (scalar x))) (sym is) (h e)
 
 void_told : (p : Program) (e : Expr) → Tells p (record { scalar = scalars.Number; class = None; numbered = false; event = None; elements = None; standing = standing.Value }) (value_meant e (scalar base.Void))
 void_told p e = record { shape = refl; class = refl; numbered = refl; event = refl; len = refl; standing = refl }
 
-pub result_none : (p : Program) (r : ℕ) (t : Meaning) (e : Expr) → result_of p r ≡ base.Void → t ≡ record { scalar = scalars.Number; class = None; numbered = false; event = None; elements = None; standing = standing.Value } → Tells p t (record { expr = e; ty = scalar (result_of p r); standing = AsValue })
-result_none p r t e is h = result_told p r base.Void t e is (λ d. subst (λ (x : Meaning). Tells p x (value_meant d (scalar base.Void))) (sym h) (void_told p d))
+pub result_none : (p : Program) (r : ℕ) (t : ExprMeaning) (e : Expr) → result_of p r ≡ base.Void → t ≡ record { scalar = scalars.Number; class = None; numbered = false; event = None; elements = None; standing = standing.Value } → Tells p t (record { expr = e; ty = scalar (result_of p r); standing = AsValue })
+result_none p r t e is h = result_told p r base.Void t e is (λ d. subst (λ (x : ExprMeaning). Tells p x (value_meant d (scalar base.Void))) (sym h) (void_told p d))
 
 -- what builds and destroys
 

@@ -12,7 +12,7 @@ use Rattle.uc_tree.specs.Objects.{is_coroutine, class_at, class_shape, class_mad
 use Rattle.uc_resolve.specs.Resolve.{Meant, Standing, AsValue, AsInput, AsFail, AsMember, AsLiveMember, AsMutexMember, no_meaning, NumberedField, class_or_event, call_of_condition, condition_call, condition_meant, field_type, Whose, Own, Of, object_of_whose, field_by, field_by_ref, field_found, method_by, method_standing, member_by, member_in, member_meant, meant_or, own_meant, item_meant, constant_meant_by, routine_meant_by, object_member, place_member, part_by, field_meant, bool_type, result_of, scalar}
 use Rattle.uc_code.specs.declared.op.Op.{Op}
 use Rattle.uc_code.specs.declared.op.Op.TheVariants as op
-use Rattle.uc_code.specs.declared.rows.Mark.{Mark}
+use Rattle.uc_code.specs.declared.rows.CodeMark.{CodeMark}
 use Rattle.uc_code.specs.Drafts.{Draft}
 use Rattle.uc_code.specs.Layout.{Laid}
 use Rattle.uc_code.specs.CodeShapes.{One}
@@ -22,9 +22,9 @@ use Rattle.uc_lower_expr.specs.declared.meaning.Scalar.TheVariants as shape
 use Rattle.uc_lower_expr.specs.declared.meaning.ConditionCall.{ConditionCall as TheCall}
 use Rattle.uc_lower_expr.specs.declared.meaning.Standing.{Standing as Told}
 use Rattle.uc_lower_expr.specs.declared.meaning.Standing.TheVariants as standing
-use Rattle.uc_lower_expr.specs.declared.meaning.Meaning.{Meaning}
+use Rattle.uc_lower_expr.specs.declared.meaning.ExprMeaning.{ExprMeaning}
 use Rattle.uc_lower_expr.specs.declared.fields.Field.{Field}
-use Rattle.uc_lower_expr.specs.declared.numbering.Fixed.{Fixed}
+use Rattle.uc_lower_expr.specs.declared.numbering.ConstantMeaning.{ConstantMeaning}
 use Rattle.uc_lower_expr.specs.Numbered.{IsFixed}
 use Rattle.uc_lower_expr.specs.Meanings.{FieldAt, Begins, StandsAs, Tells, call_of, is_coroutine_in, member_standing, mutex_number_in}
 use Rattle.uc_lower_expr.specs.Members.{IsFieldAt, IsField, held_standing, no_field, member_at}
@@ -132,9 +132,9 @@ own_told_by p c i f v true b h = field_told p c i f v standing.Number (field_by 
 own_told_by p c i f v false true h = field_told p c i f v standing.Place (field_by false true (class_shape p i) f.number Own (field_type p c f.field)) h refl refl
 own_told_by p c i f v false false h = field_told p c i f v (standing.Field v.cell) (field_by false false (class_shape p i) f.number Own (field_type p c f.field)) h refl (Begins (class_shape p i) f.number h.cell)
 
-pub own_told : (p : Program) (i : ℕ) (name : List ℕ) (v : Field) (x : Told) (t : Meaning) → IsField p i name v → v.condition ≡ None → x ≡ own_standing v.number v.by_ref v.cell → t ≡ record v.told { standing = x } → Tells p t (own_meant p (Some i) name)
+pub own_told : (p : Program) (i : ℕ) (name : List ℕ) (v : Field) (x : Told) (t : ExprMeaning) → IsField p i name v → v.condition ≡ None → x ≡ own_standing v.number v.by_ref v.cell → t ≡ record v.told { standing = x } → Tells p t (own_meant p (Some i) name)
 own_told p i name v x t f none e is =
-    subst (λ (y : Meaning). Tells p y (own_meant p (Some i) name)) (sym (is ∙ ap (λ (y : Told). let w : Meaning = record v.told { standing = y } in w) e)) (
+    subst (λ (y : ExprMeaning). Tells p y (own_meant p (Some i) name)) (sym (is ∙ ap (λ (y : Told). let w : ExprMeaning = record v.told { standing = y } in w) e)) (
     subst (λ (y : Meant). Tells p (record v.told { standing = own_standing v.number v.by_ref v.cell }) y) (sym (own_field p i name v f none)) (
     subst (λ (b : Bool). Tells p (record v.told { standing = own_standing v.number v.by_ref v.cell }) (field_by v.number b (class_shape p i) f.numbered.number Own (field_type p f.class f.numbered.field))) (sym f.at.by_ref) (own_told_by p f.class i f.numbered v v.number v.by_ref f.at)))
 
@@ -142,38 +142,38 @@ own_told p i name v x t f none e is =
 condition_told : (p : Program) (i k : ℕ) (name : List ℕ) (v : Field) (f : IsField p i name v) → Tells p (record v.told { standing = standing.Condition k }) (condition_meant k (field_type p f.class f.numbered.field))
 condition_told p i k name v f = field_told p f.class i f.numbered v (standing.Condition k) (condition_meant k (field_type p f.class f.numbered.field)) f.at refl refl
 
-pub own_condition_told : (p : Program) (i k : ℕ) (name : List ℕ) (v : Field) (t : Meaning) → IsField p i name v → v.condition ≡ Some k → t ≡ record v.told { standing = standing.Condition k } → Tells p t (own_meant p (Some i) name)
+pub own_condition_told : (p : Program) (i k : ℕ) (name : List ℕ) (v : Field) (t : ExprMeaning) → IsField p i name v → v.condition ≡ Some k → t ≡ record v.told { standing = standing.Condition k } → Tells p t (own_meant p (Some i) name)
 own_condition_told p i k name v t f e is =
-    subst (λ (y : Meaning). Tells p y (own_meant p (Some i) name)) (sym is) (
+    subst (λ (y : ExprMeaning). Tells p y (own_meant p (Some i) name)) (sym is) (
     subst (λ (y : Meant). Tells p (record v.told { standing = standing.Condition k }) y) (sym (own_condition p i name v k f e)) (condition_told p i k name v f))
 
 own_standing_told : (m : Option ℕ) (d : Bool) (r : ℕ) → StandsAs (member_standing m false r) (path_standing m d Own r)
 own_standing_told (Some m) d r = refl
 own_standing_told None d r = refl
 
-pub own_method_told : (p : Program) (m : Option ℕ) (d : Bool) (r : ℕ) (u t : Meaning) → ((e : Expr) → Tells p u (record { expr = e; ty = scalar (result_of p r); standing = AsValue })) → t ≡ record u { standing = member_standing m false r } → Tells p t (method_as p m d Own r)
+pub own_method_told : (p : Program) (m : Option ℕ) (d : Bool) (r : ℕ) (u t : ExprMeaning) → ((e : Expr) → Tells p u (record { expr = e; ty = scalar (result_of p r); standing = AsValue })) → t ≡ record u { standing = member_standing m false r } → Tells p t (method_as p m d Own r)
 own_method_told p m d r u t h e =
     let v = h (Literal (pos 0)) in
-    subst (λ (y : Meaning). Tells p y (method_as p m d Own r)) (sym e) (record { shape = v.shape; class = v.class; numbered = v.numbered; event = v.event; len = v.len; standing = own_standing_told m d r })
+    subst (λ (y : ExprMeaning). Tells p y (method_as p m d Own r)) (sym e) (record { shape = v.shape; class = v.class; numbered = v.numbered; event = v.event; len = v.len; standing = own_standing_told m d r })
 
 standing_told : (m : Option ℕ) (d : Bool) (object : Expr) (r : ℕ) → StandsAs (member_standing m d r) (path_standing m d (Of object) r)
 standing_told (Some m) d object r = refl
 standing_told None true object r = refl
 standing_told None false object r = refl
 
-method_told : (p : Program) (m : Option ℕ) (d : Bool) (r : ℕ) (u t : Meaning) (object : Expr) → ((e : Expr) → Tells p u (record { expr = e; ty = scalar (result_of p r); standing = AsValue })) → t ≡ record u { standing = member_standing m d r } → Tells p t (method_as p m d (Of object) r)
+method_told : (p : Program) (m : Option ℕ) (d : Bool) (r : ℕ) (u t : ExprMeaning) (object : Expr) → ((e : Expr) → Tells p u (record { expr = e; ty = scalar (result_of p r); standing = AsValue })) → t ≡ record u { standing = member_standing m d r } → Tells p t (method_as p m d (Of object) r)
 method_told p m d r u t object h e =
     let v = h (Literal (pos 0)) in
-    subst (λ (y : Meaning). Tells p y (method_as p m d (Of object) r)) (sym e) (record { shape = v.shape; class = v.class; numbered = v.numbered; event = v.event; len = v.len; standing = standing_told m d object r })
+    subst (λ (y : ExprMeaning). Tells p y (method_as p m d (Of object) r)) (sym e) (record { shape = v.shape; class = v.class; numbered = v.numbered; event = v.event; len = v.len; standing = standing_told m d object r })
 
 -- what a name of the program stands for is told
 
-pub routine_named : (p : Program) (r : ℕ) (o : Option ℕ) (u t : Meaning) → ((e : Expr) → Tells p u (record { expr = e; ty = scalar (result_of p r); standing = AsValue })) → t ≡ record u { standing = standing.Routine r } → o ≡ Some r → Tells p t (routine_meant_by p o)
+pub routine_named : (p : Program) (r : ℕ) (o : Option ℕ) (u t : ExprMeaning) → ((e : Expr) → Tells p u (record { expr = e; ty = scalar (result_of p r); standing = AsValue })) → t ≡ record u { standing = standing.Routine r } → o ≡ Some r → Tells p t (routine_meant_by p o)
 routine_named p r o u t h e is =
     let v = h (Literal (pos 0)) in
-    subst (λ (x : Option ℕ). Tells p t (routine_meant_by p x)) (sym is) (subst (λ (y : Meaning). Tells p y (routine_meant_by p (Some r))) (sym e) (record { shape = v.shape; class = v.class; numbered = v.numbered; event = v.event; len = v.len; standing = refl }))
+    subst (λ (x : Option ℕ). Tells p t (routine_meant_by p x)) (sym is) (subst (λ (y : ExprMeaning). Tells p y (routine_meant_by p (Some r))) (sym e) (record { shape = v.shape; class = v.class; numbered = v.numbered; event = v.event; len = v.len; standing = refl }))
 
-pub fixed_named : (p : Program) (name : List ℕ) (v : Fixed) → IsFixed p name v → Tells p v.told (item_meant p name)
+pub fixed_named : (p : Program) (name : List ℕ) (v : ConstantMeaning) → IsFixed p name v → Tells p v.told (item_meant p name)
 fixed_named p name v f = subst (λ (o : Option Constant). Tells p v.told (constant_meant_by p name o)) (sym f.is) (f.tells _)
 
 -- behind the place of its object, a field, and what it holds
@@ -184,7 +184,7 @@ pub arm_held_field : (line : ℕ) (b : Bool) (k : ℕ) (old mid new : Draft) →
 arm_held_field line b k old mid new e h g = subst (λ (x : Bool). Adds 2 (FieldCode line x k) old new) (sym e) (adds_both (one_stable (op.Field k) line) h g)
 
 -- the code of own names
-module _ (ms : List Mark) (line : ℕ) where
+module _ (ms : List CodeMark) (line : ℕ) where
   own_code_by : (b : Bool) (s : Shape) (n k : ℕ) (ty : Ty) (code : Laid) (a z : ℕ) → field_cells s n ≡ k → One code (own_place_op b k) line a z → ExprAt code line ms (field_by_ref b s n Own ty).expr a z
   own_code_by true s n k ty code a z e h = subst (λ (x : ℕ). One code (op.ViaThis x) line a z) (sym e) h
   own_code_by false s n k ty code a z e h = subst (λ (x : ℕ). One code (op.This x) line a z) (sym e) h
@@ -204,10 +204,10 @@ module _ (ms : List Mark) (line : ℕ) where
   own_condition_code p i k n name v old new f e is h =
       subst (λ (m : Meant). Adds 1 (ExprCode line ms m.expr) old new) (sym (own_condition p i name v k f e)) (subst (λ (x : ℤ). Adds 1 (OpCode line (op.Push x)) old new) is h)
 
-  pub arm_condition : (p : Program) (i a k : ℕ) (n : ℤ) (name : List ℕ) (v : Field) (s t : Meaning) (old new : Draft) → a ≤ length old.ops → IsField p i name v → v.condition ≡ Some k → n ≡ pos k → t ≡ record v.told { standing = standing.Condition k } → Restarts (op.Push n) line a old new → Grows p OPS_FOR_SIZE line ms a (λ m. member_meant p i (Of m.expr) name) s t old new
+  pub arm_condition : (p : Program) (i a k : ℕ) (n : ℤ) (name : List ℕ) (v : Field) (s t : ExprMeaning) (old new : Draft) → a ≤ length old.ops → IsField p i name v → v.condition ≡ Some k → n ≡ pos k → t ≡ record v.told { standing = standing.Condition k } → Restarts (op.Push n) line a old new → Grows p OPS_FOR_SIZE line ms a (λ m. member_meant p i (Of m.expr) name) s t old new
   arm_condition p i a k n name v s t old new l f e is q h =
       grows_restart OPS_FOR_SIZE line ms a (λ m. member_meant p i (Of m.expr) name) s t (op.Push n) old new (omega arith) l h
-      (λ m u. subst (λ (y : Meaning). Tells p y (member_meant p i (Of m.expr) name)) (sym q) (subst (λ (y : Meant). Tells p (record v.told { standing = standing.Condition k }) y) (sym (condition_is p i name (Of m.expr) v k f e)) (condition_told p i k name v f)))
+      (λ m u. subst (λ (y : ExprMeaning). Tells p y (member_meant p i (Of m.expr) name)) (sym q) (subst (λ (y : Meant). Tells p (record v.told { standing = standing.Condition k }) y) (sym (condition_is p i name (Of m.expr) v k f e)) (condition_told p i k name v f)))
       (λ m u code z w. subst (λ (y : Meant). ExprAt code line ms y.expr a z) (sym (condition_is p i name (Of m.expr) v k f e)) (subst (λ (x : ℤ). One code (op.Push x) line a z) is w))
 
   pub own_method_code : (p : Program) (i r : ℕ) (name : List ℕ) (old new : Draft) → no_field p i name (class_at p i) → member_at p i name (class_at p i) ≡ Some r → Adds 1 (OpCode line op.Own) old new → Adds 1 (ExprCode line ms (own_meant p (Some i) name).expr) old new
@@ -231,7 +231,7 @@ module _ (ms : List Mark) (line : ℕ) where
   type_by false true s n e ty = refl
   type_by false false s n e ty = refl
 
-  pub arm_field : (p : Program) (i a : ℕ) (name : List ℕ) (v : Field) (s : Meaning) (old new : Draft) → a ≤ length old.ops → IsField p i name v → v.condition ≡ None → Adds 2 (FieldCode line (v.number || v.by_ref) v.cell) old new → Grows p OPS_FOR_SIZE line ms a (λ m. member_meant p i (Of m.expr) name) s v.told old new
+  pub arm_field : (p : Program) (i a : ℕ) (name : List ℕ) (v : Field) (s : ExprMeaning) (old new : Draft) → a ≤ length old.ops → IsField p i name v → v.condition ≡ None → Adds 2 (FieldCode line (v.number || v.by_ref) v.cell) old new → Grows p OPS_FOR_SIZE line ms a (λ m. member_meant p i (Of m.expr) name) s v.told old new
   arm_field p i a name v s old new l f none h =
       let b = f.numbered.field.declarator.by_ref in
       let ty = field_type p f.class f.numbered.field in
@@ -240,7 +240,7 @@ module _ (ms : List Mark) (line : ℕ) where
       (λ m u code c z w g. subst (λ (x : Meant). ExprAt code line ms x.expr a z) (sym (field_is p i name (Of m.expr) v f none)) (
       field_code_by v.number b (class_shape p i) f.numbered.number v.cell ty m.expr code a c z f.at.cell w (subst (λ (y : Bool). FieldCode line (v.number || y) v.cell code c z) (sym f.at.by_ref) g)))
 
-  pub arm_method : (p : Program) (i a r : ℕ) (name : List ℕ) (s u t : Meaning) (old : Draft) → a ≤ length old.ops → no_field p i name (class_at p i) → member_at p i name (class_at p i) ≡ Some r → ((e : Expr) → Tells p u (record { expr = e; ty = scalar (result_of p r); standing = AsValue })) → t ≡ record u { standing = member_standing (mutex_number_in (class_at p i) name) (is_coroutine_in (class_at p i)) r } → Grows p OPS_FOR_SIZE line ms a (λ m. member_meant p i (Of m.expr) name) s t old old
+  pub arm_method : (p : Program) (i a r : ℕ) (name : List ℕ) (s u t : ExprMeaning) (old : Draft) → a ≤ length old.ops → no_field p i name (class_at p i) → member_at p i name (class_at p i) ≡ Some r → ((e : Expr) → Tells p u (record { expr = e; ty = scalar (result_of p r); standing = AsValue })) → t ≡ record u { standing = member_standing (mutex_number_in (class_at p i) name) (is_coroutine_in (class_at p i)) r } → Grows p OPS_FOR_SIZE line ms a (λ m. member_meant p i (Of m.expr) name) s t old old
   arm_method p i a r name s u t old l h k g e = record {
     rest = refl;
     front = record { same = λ j o n x y w. w; chains = λ next x w. refl; handlers = λ k e w. w };
@@ -254,21 +254,21 @@ module _ (ms : List Mark) (line : ℕ) where
 
 -- what has no member
 
-pub array_none : (p : Program) (name : List ℕ) (s : Meaning) (n : ℕ) → s.elements ≡ Some n → (m : Meant) → Tells p s m → place_member p m.ty.len m name ≡ no_meaning
+pub array_none : (p : Program) (name : List ℕ) (s : ExprMeaning) (n : ℕ) → s.elements ≡ Some n → (m : Meant) → Tells p s m → place_member p m.ty.len m name ≡ no_meaning
 array_none p name s n e m u = ap (λ (o : Option ℕ). place_member p o m name) (u.len ∙ e)
 
 -- whose members it has
-members_by : (p : Program) (s : Meaning) (o : Option ℕ) → class_or_event s.class s.event ≡ o → (m : Meant) → Tells p s m → class_or_event (class_made (making p m.ty.base)) (event_place p m.ty.base) ≡ o
+members_by : (p : Program) (s : ExprMeaning) (o : Option ℕ) → class_or_event s.class s.event ≡ o → (m : Meant) → Tells p s m → class_or_event (class_made (making p m.ty.base)) (event_place p m.ty.base) ≡ o
 members_by p s o e m u = ap (λ (x : Option ℕ). class_or_event x (event_place p m.ty.base)) u.class ∙ ap (class_or_event s.class) u.event ∙ e
 
-pub scalar_none : (p : Program) (name : List ℕ) (s : Meaning) → s.elements ≡ None → class_or_event s.class s.event ≡ None → (m : Meant) → Tells p s m → place_member p m.ty.len m name ≡ no_meaning
+pub scalar_none : (p : Program) (name : List ℕ) (s : ExprMeaning) → s.elements ≡ None → class_or_event s.class s.event ≡ None → (m : Meant) → Tells p s m → place_member p m.ty.len m name ≡ no_meaning
 scalar_none p name s e k m u = ap (λ (o : Option ℕ). place_member p o m name) (u.len ∙ e) ∙ ap (λ (o : Option ℕ). object_member p o m.expr name) (members_by p s None k m u)
 
-pub object_is : (p : Program) (name : List ℕ) (s : Meaning) (i : ℕ) → s.elements ≡ None → class_or_event s.class s.event ≡ Some i → (m : Meant) → Tells p s m → place_member p m.ty.len m name ≡ member_meant p i (Of m.expr) name
+pub object_is : (p : Program) (name : List ℕ) (s : ExprMeaning) (i : ℕ) → s.elements ≡ None → class_or_event s.class s.event ≡ Some i → (m : Meant) → Tells p s m → place_member p m.ty.len m name ≡ member_meant p i (Of m.expr) name
 object_is p name s i e k m u = ap (λ (o : Option ℕ). place_member p o m name) (u.len ∙ e) ∙ ap (λ (o : Option ℕ). object_member p o m.expr name) (members_by p s (Some i) k m u)
 
 -- from the same of what is told
-pub grows_told : {p : Program} {n line : ℕ} {ms : List Mark} {a : ℕ} {f g : Meant → Meant} {s t : Meaning} {old new : Draft} → ((m : Meant) → Tells p s m → f m ≡ g m) → Grows p n line ms a f s t old new → Grows p n line ms a g s t old new
+pub grows_told : {p : Program} {n line : ℕ} {ms : List CodeMark} {a : ℕ} {f g : Meant → Meant} {s t : ExprMeaning} {old new : Draft} → ((m : Meant) → Tells p s m → f m ≡ g m) → Grows p n line ms a f s t old new → Grows p n line ms a g s t old new
 grows_told {p} {n} {line} {ms} {a} {f} {g} {s} {t} {old} {new} e h = record {
   rest = h.rest;
   front = h.front;
@@ -280,54 +280,54 @@ grows_told {p} {n} {line} {ms} {a} {f} {g} {s} {t} {old} {new} e h = record {
   };
 }
 
-pub grown_told : {E : Type 0} (r : Result Meaning E) (p : Program) (n line : ℕ) (ms : List Mark) (a : ℕ) (f g : Meant → Meant) (s : Meaning) (old new : Draft) → ((m : Meant) → Tells p s m → f m ≡ g m) → IfOk r (λ t. Grows p n line ms a f s t old new) → IfOk r (λ t. Grows p n line ms a g s t old new)
+pub grown_told : {E : Type 0} (r : Result ExprMeaning E) (p : Program) (n line : ℕ) (ms : List CodeMark) (a : ℕ) (f g : Meant → Meant) (s : ExprMeaning) (old new : Draft) → ((m : Meant) → Tells p s m → f m ≡ g m) → IfOk r (λ t. Grows p n line ms a f s t old new) → IfOk r (λ t. Grows p n line ms a g s t old new)
 grown_told (Ok t) p n line ms a f g s old new e h = grows_told e h
 grown_told (Err x) p n line ms a f g s old new e h = tt
 
 -- a field or a member by what the root stands for
 
 -- what no part stands behind
-no_parts_by : (p : Program) (name : List ℕ) (x : Told) → ((o : Standing) (m : Meant) → StandsAs x o → part_by p o m name ≡ no_meaning) → (s : Meaning) → s.standing ≡ x → (m : Meant) → Tells p s m → field_meant p m name ≡ no_meaning
+no_parts_by : (p : Program) (name : List ℕ) (x : Told) → ((o : Standing) (m : Meant) → StandsAs x o → part_by p o m name ≡ no_meaning) → (s : ExprMeaning) → s.standing ≡ x → (m : Meant) → Tells p s m → field_meant p m name ≡ no_meaning
 no_parts_by p name x none s e m u = none m.standing m (stands s m x u e)
 
-pub no_part : {E : Type 0} (r : Result Meaning E) (p : Program) (ms : List Mark) (line a : ℕ) (name : List ℕ) (x : Told) (s : Meaning) (old new : Draft) → a ≤ length old.ops → s.standing ≡ x → ((o : Standing) (m : Meant) → StandsAs x o → part_by p o m name ≡ no_meaning) → OnOk r (Restarts (op.Push (pos 0)) line a old new) → IfOk r (λ t. t ≡ record { scalar = shape.Number; class = None; numbered = false; event = None; elements = None; standing = standing.Nothing }) → IfOk r (λ t. Grows p OPS_FOR_SIZE line ms a (λ m. field_meant p m name) s t old new)
+pub no_part : {E : Type 0} (r : Result ExprMeaning E) (p : Program) (ms : List CodeMark) (line a : ℕ) (name : List ℕ) (x : Told) (s : ExprMeaning) (old new : Draft) → a ≤ length old.ops → s.standing ≡ x → ((o : Standing) (m : Meant) → StandsAs x o → part_by p o m name ≡ no_meaning) → OnOk r (Restarts (op.Push (pos 0)) line a old new) → IfOk r (λ t. t ≡ record { scalar = shape.Number; class = None; numbered = false; event = None; elements = None; standing = standing.Nothing }) → IfOk r (λ t. Grows p OPS_FOR_SIZE line ms a (λ m. field_meant p m name) s t old new)
 no_part r p ms line a name x s old new l e none h q = put_for_nothing ms r p OPS_FOR_SIZE line a (λ m. field_meant p m name) s old new (omega arith) l (no_parts_by p name x none s e) h q
 
 -- places have the members of their objects
 
-variable_part : (p : Program) (name : List ℕ) (k : ℕ) (s : Meaning) → s.standing ≡ standing.Variable k → (m : Meant) → Tells p s m → place_member p m.ty.len m name ≡ field_meant p m name
+variable_part : (p : Program) (name : List ℕ) (k : ℕ) (s : ExprMeaning) → s.standing ≡ standing.Variable k → (m : Meant) → Tells p s m → place_member p m.ty.len m name ≡ field_meant p m name
 variable_part p name k s e m u = sym (ap (λ (o : Standing). part_by p o m name) (stands s m (standing.Variable k) u e))
 
 field_part_by : (p : Program) (name : List ℕ) (k : ℕ) (o : Standing) (m : Meant) → FieldAt k o → place_member p m.ty.len m name ≡ part_by p o m name
 field_part_by p name k o m (Begins t i e) = refl
 
-number_part : (p : Program) (name : List ℕ) (s : Meaning) → s.standing ≡ standing.Number → (m : Meant) → Tells p s m → place_member p m.ty.len m name ≡ field_meant p m name
+number_part : (p : Program) (name : List ℕ) (s : ExprMeaning) → s.standing ≡ standing.Number → (m : Meant) → Tells p s m → place_member p m.ty.len m name ≡ field_meant p m name
 number_part p name s e m u = sym (ap (λ (o : Standing). part_by p o m name) (stands s m standing.Number u e))
 
-place_part : (p : Program) (name : List ℕ) (s : Meaning) → s.standing ≡ standing.Place → (m : Meant) → Tells p s m → place_member p m.ty.len m name ≡ field_meant p m name
+place_part : (p : Program) (name : List ℕ) (s : ExprMeaning) → s.standing ≡ standing.Place → (m : Meant) → Tells p s m → place_member p m.ty.len m name ≡ field_meant p m name
 place_part p name s e m u = sym (ap (λ (o : Standing). part_by p o m name) (stands s m standing.Place u e))
 
-pub variable_member : {E : Type 0} (r : Result Meaning E) (p : Program) (n line : ℕ) (ms : List Mark) (a k : ℕ) (name : List ℕ) (s : Meaning) (old new : Draft) → s.standing ≡ standing.Variable k → IfOk r (λ t. Grows p n line ms a (λ m. place_member p m.ty.len m name) s t old new) → IfOk r (λ t. Grows p n line ms a (λ m. field_meant p m name) s t old new)
+pub variable_member : {E : Type 0} (r : Result ExprMeaning E) (p : Program) (n line : ℕ) (ms : List CodeMark) (a k : ℕ) (name : List ℕ) (s : ExprMeaning) (old new : Draft) → s.standing ≡ standing.Variable k → IfOk r (λ t. Grows p n line ms a (λ m. place_member p m.ty.len m name) s t old new) → IfOk r (λ t. Grows p n line ms a (λ m. field_meant p m name) s t old new)
 variable_member r p n line ms a k name s old new e h = grown_told r p n line ms a (λ m. place_member p m.ty.len m name) (λ m. field_meant p m name) s old new (variable_part p name k s e) h
 
-pub field_member : {E : Type 0} (r : Result Meaning E) (p : Program) (n line : ℕ) (ms : List Mark) (a k : ℕ) (name : List ℕ) (s : Meaning) (old new : Draft) → s.standing ≡ standing.Field k → IfOk r (λ t. Grows p n line ms a (λ m. place_member p m.ty.len m name) s t old new) → IfOk r (λ t. Grows p n line ms a (λ m. field_meant p m name) s t old new)
+pub field_member : {E : Type 0} (r : Result ExprMeaning E) (p : Program) (n line : ℕ) (ms : List CodeMark) (a k : ℕ) (name : List ℕ) (s : ExprMeaning) (old new : Draft) → s.standing ≡ standing.Field k → IfOk r (λ t. Grows p n line ms a (λ m. place_member p m.ty.len m name) s t old new) → IfOk r (λ t. Grows p n line ms a (λ m. field_meant p m name) s t old new)
 field_member r p n line ms a k name s old new e h = grown_told r p n line ms a (λ m. place_member p m.ty.len m name) (λ m. field_meant p m name) s old new (λ m u. field_part_by p name k m.standing m (stands s m (standing.Field k) u e)) h
 
-pub at_place_member : {E : Type 0} (r : Result Meaning E) (p : Program) (n line : ℕ) (ms : List Mark) (a : ℕ) (name : List ℕ) (s : Meaning) (old new : Draft) → s.standing ≡ standing.Place → IfOk r (λ t. Grows p n line ms a (λ m. place_member p m.ty.len m name) s t old new) → IfOk r (λ t. Grows p n line ms a (λ m. field_meant p m name) s t old new)
+pub at_place_member : {E : Type 0} (r : Result ExprMeaning E) (p : Program) (n line : ℕ) (ms : List CodeMark) (a : ℕ) (name : List ℕ) (s : ExprMeaning) (old new : Draft) → s.standing ≡ standing.Place → IfOk r (λ t. Grows p n line ms a (λ m. place_member p m.ty.len m name) s t old new) → IfOk r (λ t. Grows p n line ms a (λ m. field_meant p m name) s t old new)
 at_place_member r p n line ms a name s old new e h = grown_told r p n line ms a (λ m. place_member p m.ty.len m name) (λ m. field_meant p m name) s old new (place_part p name s e) h
 
-pub number_member : {E : Type 0} (r : Result Meaning E) (p : Program) (n line : ℕ) (ms : List Mark) (a : ℕ) (name : List ℕ) (s : Meaning) (old new : Draft) → s.standing ≡ standing.Number → IfOk r (λ t. Grows p n line ms a (λ m. place_member p m.ty.len m name) s t old new) → IfOk r (λ t. Grows p n line ms a (λ m. field_meant p m name) s t old new)
+pub number_member : {E : Type 0} (r : Result ExprMeaning E) (p : Program) (n line : ℕ) (ms : List CodeMark) (a : ℕ) (name : List ℕ) (s : ExprMeaning) (old new : Draft) → s.standing ≡ standing.Number → IfOk r (λ t. Grows p n line ms a (λ m. place_member p m.ty.len m name) s t old new) → IfOk r (λ t. Grows p n line ms a (λ m. field_meant p m name) s t old new)
 number_member r p n line ms a name s old new e h = grown_told r p n line ms a (λ m. place_member p m.ty.len m name) (λ m. field_meant p m name) s old new (number_part p name s e) h
 
 -- a condition has calls
 
-condition_part : (p : Program) (name : List ℕ) (k : ℕ) (s : Meaning) → s.standing ≡ standing.Condition k → (m : Meant) → Tells p s m → field_meant p m name ≡ call_of_condition m (condition_call name)
+condition_part : (p : Program) (name : List ℕ) (k : ℕ) (s : ExprMeaning) → s.standing ≡ standing.Condition k → (m : Meant) → Tells p s m → field_meant p m name ≡ call_of_condition m (condition_call name)
 condition_part p name k s e m u = ap (λ (o : Standing). part_by p o m name) (stands s m (standing.Condition k) u e)
 
 pub called_by : (name : List ℕ) (r o : Option TheCall) → option_map call_of r ≡ condition_call name → r ≡ o → option_map call_of o ≡ condition_call name
 called_by name r o h e = ap (option_map call_of) (sym e) ∙ h
 
-pub arm_named_call : (p : Program) (ms : List Mark) (line a k : ℕ) (c : TheCall) (name : List ℕ) (s t : Meaning) (old : Draft) → a ≤ length old.ops → s.standing ≡ standing.Condition k → Some (call_of c) ≡ condition_call name → t ≡ record { scalar = shape.Number; class = None; numbered = false; event = None; elements = None; standing = standing.CallOf c } → Grows p OPS_FOR_SIZE line ms a (λ m. field_meant p m name) s t old old
+pub arm_named_call : (p : Program) (ms : List CodeMark) (line a k : ℕ) (c : TheCall) (name : List ℕ) (s t : ExprMeaning) (old : Draft) → a ≤ length old.ops → s.standing ≡ standing.Condition k → Some (call_of c) ≡ condition_call name → t ≡ record { scalar = shape.Number; class = None; numbered = false; event = None; elements = None; standing = standing.CallOf c } → Grows p OPS_FOR_SIZE line ms a (λ m. field_meant p m name) s t old old
 arm_named_call p ms line a k c name s t old l e h q = record {
   rest = refl;
   front = record { same = λ j o n x y w. w; chains = λ next x w. refl; handlers = λ k e w. w };
@@ -336,7 +336,7 @@ arm_named_call p ms line a k c name s t old l e h q = record {
   code = λ m st.
       let is : field_meant p m name ≡ call_of_condition m (Some (call_of c)) = condition_part p name k s e m st.tells ∙ ap (call_of_condition m) (sym h) in
       record {
-        tells = subst (λ (x : Meant). Tells p t x) (sym is) (subst (λ (y : Meaning). Tells p y (call_of_condition m (Some (call_of c)))) (sym q) (record { shape = refl; class = refl; numbered = refl; event = refl; len = refl; standing = refl }));
+        tells = subst (λ (x : Meant). Tells p t x) (sym is) (subst (λ (y : ExprMeaning). Tells p y (call_of_condition m (Some (call_of c)))) (sym q) (record { shape = refl; class = refl; numbered = refl; event = refl; len = refl; standing = refl }));
         code = subst (λ (x : Meant). ExprAt (record { ops = old.ops; rows = old.rows }) line ms x.expr a (length old.ops)) (sym is) st.code;
       };
 }
@@ -347,16 +347,16 @@ input_by : (p : Program) (b : Bool) → Tells p (if b then record { scalar = sha
 input_by p true = record { shape = refl; class = refl; numbered = refl; event = refl; len = refl; standing = refl }
 input_by p false = record { shape = refl; class = refl; numbered = refl; event = refl; len = refl; standing = refl }
 
-input_code : (ms : List Mark) (line : ℕ) (b : Bool) (code : Laid) (a z : ℕ) → One code (op.Push (pos 0)) line a z → ExprAt code line ms (if b then record { expr = Literal (pos 0); ty = bool_type; standing = AsFail } else no_meaning).expr a z
+input_code : (ms : List CodeMark) (line : ℕ) (b : Bool) (code : Laid) (a z : ℕ) → One code (op.Push (pos 0)) line a z → ExprAt code line ms (if b then record { expr = Literal (pos 0); ty = bool_type; standing = AsFail } else no_meaning).expr a z
 input_code ms line true code a z h = h
 input_code ms line false code a z h = h
 
-arm_input : (p : Program) (ms : List Mark) (line a : ℕ) (name : List ℕ) (s t : Meaning) (old new : Draft) → a ≤ length old.ops → s.standing ≡ standing.Input → t ≡ input_told name → Restarts (op.Push (pos 0)) line a old new → Grows p OPS_FOR_SIZE line ms a (λ m. field_meant p m name) s t old new
+arm_input : (p : Program) (ms : List CodeMark) (line a : ℕ) (name : List ℕ) (s t : ExprMeaning) (old new : Draft) → a ≤ length old.ops → s.standing ≡ standing.Input → t ≡ input_told name → Restarts (op.Push (pos 0)) line a old new → Grows p OPS_FOR_SIZE line ms a (λ m. field_meant p m name) s t old new
 arm_input p ms line a name s t old new l e q h =
     grows_restart OPS_FOR_SIZE line ms a (λ m. field_meant p m name) s t (op.Push (pos 0)) old new (omega arith) l h
-    (λ m u. subst (λ (o : Standing). Tells p t (part_by p o m name)) (sym (stands s m standing.Input u e)) (subst (λ (y : Meaning). Tells p y (part_by p AsInput m name)) (sym q) (input_by p (same_name name fail_name))))
+    (λ m u. subst (λ (o : Standing). Tells p t (part_by p o m name)) (sym (stands s m standing.Input u e)) (subst (λ (y : ExprMeaning). Tells p y (part_by p AsInput m name)) (sym q) (input_by p (same_name name fail_name))))
     (λ m u code z w. subst (λ (o : Standing). ExprAt code line ms (part_by p o m name).expr a z) (sym (stands s m standing.Input u e)) (input_code ms line (same_name name fail_name) code a z w))
 
-pub input_member : {E : Type 0} (r : Result Meaning E) (p : Program) (ms : List Mark) (line a : ℕ) (name : List ℕ) (s : Meaning) (old new : Draft) → a ≤ length old.ops → s.standing ≡ standing.Input → OnOk r (Restarts (op.Push (pos 0)) line a old new) → IfOk r (λ t. t ≡ input_told name) → IfOk r (λ t. Grows p OPS_FOR_SIZE line ms a (λ m. field_meant p m name) s t old new)
+pub input_member : {E : Type 0} (r : Result ExprMeaning E) (p : Program) (ms : List CodeMark) (line a : ℕ) (name : List ℕ) (s : ExprMeaning) (old new : Draft) → a ≤ length old.ops → s.standing ≡ standing.Input → OnOk r (Restarts (op.Push (pos 0)) line a old new) → IfOk r (λ t. t ≡ input_told name) → IfOk r (λ t. Grows p OPS_FOR_SIZE line ms a (λ m. field_meant p m name) s t old new)
 input_member (Ok t) p ms line a name s old new l e h q = arm_input p ms line a name s t old new l e q h
 input_member (Err x) p ms line a name s old new l e h q = tt

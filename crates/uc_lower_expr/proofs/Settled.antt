@@ -3,7 +3,7 @@ use Rattle.std.proofs.Common.{ℕ, List, true, false, pos}
 use Rattle.uc_tree.specs.declared.limits.TheConstants.{DESTRUCTOR}
 use Rattle.uc_tree.specs.Source.{Shape, Integer, Character, Truth, Binding, Last, Field, Array, shape_cells, field_cells, Expr, Literal, Variable, Element, Get, Load, Negated, Not, AsCharacter, AsTruth, Operate, And, Or, Set, Assign, First, Update, StepBehind, Fail, Call, OfObject, ObjectExpr, This, OwnField, GetOwn, FieldOf, Counted, CallOn, CallUnwritten, CallLive, EnterOn, EndOn, Bind, MakeOn, NewCluster, NewProcessor, EndCluster, EndProcessor, ConditionAt, Wait, Signal, SignalBlock, IsEmpty, FrontOf, Exprs, NoExprs, MoreExprs}
 use Rattle.uc_code.specs.declared.op.Op.TheVariants as op
-use Rattle.uc_code.specs.declared.rows.Mark.{Mark}
+use Rattle.uc_code.specs.declared.rows.CodeMark.{CodeMark}
 use Rattle.uc_code.specs.Layout.{Laid}
 use Rattle.uc_code.specs.CodeShapes.{One, Both, Fork, Stable}
 use Rattle.uc_code.specs.Lowered.{operator_op, ExprAt, ObjectAt}
@@ -27,7 +27,7 @@ convert_stable line (Field s t) = nothing_stable
 convert_stable line (Array n s) = nothing_stable
 
 mutual
-  pub expr_stable : (line : ℕ) (ms : List Mark) (e : Expr) → Stable (ExprCode line ms e)
+  pub expr_stable : (line : ℕ) (ms : List CodeMark) (e : Expr) → Stable (ExprCode line ms e)
   expr_stable line ms (Literal n) = one_stable (op.Push n) line
   expr_stable line ms (Variable k) = one_stable (op.Local k) line
   expr_stable line ms (Element n s a i) = both (expr_stable line ms a) (both (expr_stable line ms i) (one_stable (op.Index n (shape_cells s)) line))
@@ -44,12 +44,12 @@ mutual
   expr_stable line ms (Assign p a) = both (expr_stable line ms p) (both (expr_stable line ms a) (one_stable op.Keep line))
   expr_stable line ms (First a b) = both (expr_stable line ms a) (both (expr_stable line ms b) (one_stable op.Discard line))
   expr_stable line ms (Update o s p a) = both (expr_stable line ms p) (both (one_stable op.Duplicate line) (both (one_stable op.Load line) (both (expr_stable line ms a) (both (one_stable (operator_op o) line) (both (convert_stable line s) (one_stable op.Keep line))))))
-  expr_stable line ms (StepBehind o s p) = both (expr_stable line ms p) (both (one_stable op.Duplicate line) (both (one_stable op.Load line) (both (one_stable op.Over line) (both (one_stable op.Over line) (both (one_stable (op.Push (pos 1)) line) (both (one_stable (operator_op o) line) (both (convert_stable line s) (both (one_stable op.Store line) (one_stable op.DiscardBelow line)))))))))
+  expr_stable line ms (StepBehind o s p) = both (expr_stable line ms p) (both (one_stable op.Duplicate line) (both (one_stable op.Load line) (both (one_stable op.CopyBelow line) (both (one_stable op.CopyBelow line) (both (one_stable (op.Push (pos 1)) line) (both (one_stable (operator_op o) line) (both (convert_stable line s) (both (one_stable op.Store line) (one_stable op.DiscardBelow line)))))))))
   expr_stable line ms Fail = one_stable op.Fail line
   expr_stable line ms (Call r es) = both (args_stable line ms es) (both (one_stable op.Tick line) (risk_stable ms (op.Call r) line))
   expr_stable line ms (OfObject o) = object_stable line ms o
 
-  object_stable : (line : ℕ) (ms : List Mark) (o : ObjectExpr) → Stable (λ code. ObjectAt code line ms o)
+  object_stable : (line : ℕ) (ms : List CodeMark) (o : ObjectExpr) → Stable (λ code. ObjectAt code line ms o)
   object_stable line ms This = one_stable op.Own line
   object_stable line ms (OwnField s i) = one_stable (op.This (field_cells s i)) line
   object_stable line ms (GetOwn s i) = one_stable (op.ViaThis (field_cells s i)) line
@@ -75,12 +75,12 @@ mutual
   object_stable line ms (IsEmpty c) = both (expr_stable line ms c) (one_stable op.Empty line)
   object_stable line ms (FrontOf c) = both (expr_stable line ms c) (one_stable op.Front line)
 
-  pub args_stable : (line : ℕ) (ms : List Mark) (es : Exprs) → Stable (ArgumentsCode line ms es)
+  pub args_stable : (line : ℕ) (ms : List CodeMark) (es : Exprs) → Stable (ArgumentsCode line ms es)
   args_stable line ms NoExprs = nothing_stable
   args_stable line ms (MoreExprs e es) = both (expr_stable line ms e) (args_stable line ms es)
 
 pub begin_stable : (line : ℕ) → Stable (BeginCode line)
 begin_stable line = both (one_stable op.Duplicate line) (one_stable op.Load line)
 
-pub value_truth_stable : (line : ℕ) (ms : List Mark) (e : Expr) → Stable (λ code. Both (ExprAt code line ms e) (One code op.ToBool line))
+pub value_truth_stable : (line : ℕ) (ms : List CodeMark) (e : Expr) → Stable (λ code. Both (ExprAt code line ms e) (One code op.ToBool line))
 value_truth_stable line ms e = both (expr_stable line ms e) (one_stable op.ToBool line)

@@ -16,7 +16,7 @@ use Rattle.uc_lower_expr.specs.declared.meaning.ConditionCall.{ConditionCall}
 use Rattle.uc_lower_expr.specs.declared.meaning.ConditionCall.TheVariants as call
 use Rattle.uc_lower_expr.specs.declared.meaning.Standing.{Standing}
 use Rattle.uc_lower_expr.specs.declared.meaning.Standing.TheVariants as standing
-use Rattle.uc_lower_expr.specs.declared.meaning.Meaning.{Meaning}
+use Rattle.uc_lower_expr.specs.declared.meaning.ExprMeaning.{ExprMeaning}
 
 abbrev pub shape_as : Scalar → Shape
 shape_as scalar.Number = Integer
@@ -125,7 +125,7 @@ held_as true = standing.Number
 held_as false = standing.Place
 
 -- what is told of an element of what is told of
-abbrev pub element_told : Meaning → Meaning
+abbrev pub element_told : ExprMeaning → ExprMeaning
 element_told told = record told { elements = None; standing = held_as told.numbered }
 
 -- the standing that is told
@@ -147,7 +147,7 @@ StandsAs standing.Nothing s = s ≡ resolve.AsNothing
 
 -- what is told of an expression of a program that stands for this: how its base keeps a number, the class of objects that it names,
 -- plain or of a mutex type, whether what it names is known by its number, the event that it names, its length, and its standing
-pub record Tells (p : Program) (told : Meaning) (m : resolve.Meant) : Type 0 where
+pub record Tells (p : Program) (told : ExprMeaning) (m : resolve.Meant) : Type 0 where
   pub shape : shape_of m.ty.base ≡ shape_as told.scalar
   pub class : class_made (making p m.ty.base) ≡ told.class
   pub numbered : is_numbered (making p m.ty.base) ≡ told.numbered

@@ -12,7 +12,7 @@ use Rattle.uc_tree.specs.Objects.{class_at, unwritten_number}
 use Rattle.uc_tree.specs.Source.{Expr}
 use Rattle.uc_resolve.specs.Resolve.{is_here, routine_from, scalar, value_meant, value_or_zero}
 use Rattle.uc_lower_expr.specs.Meanings.{Tells}
-use Rattle.uc_lower_expr.specs.declared.numbering.Fixed.{Fixed}
+use Rattle.uc_lower_expr.specs.declared.numbering.ConstantMeaning.{ConstantMeaning}
 use Rattle.uc_lower_expr.specs.declared.numbering.Numbering.{Numbering}
 
 -- a routine that is called by its name alone: the number of its class is 0
@@ -49,7 +49,7 @@ pub record IsNumbering (p : Program) (n : Numbering) : Type 0 where
   pub members : AreExclusive p n.members.items
 
 -- the constant of a name, with its value, and what is told of it
-pub record IsFixed (p : Program) (name : List ℕ) (v : Fixed) : Type 0 where
+pub record IsFixed (p : Program) (name : List ℕ) (v : ConstantMeaning) : Type 0 where
   pub constant : Constant
   pub is : constant_named (constants_of p.items) name ≡ Some constant
   pub value : v.value ≡ value_or_zero (value_of_name (constants_of p.items) name)

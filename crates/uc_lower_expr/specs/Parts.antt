@@ -14,7 +14,7 @@ use Rattle.uc_tree.specs.Programs.{Program}
 use Rattle.uc_resolve.specs.Resolve.{ConditionCall, Waits, Signals, SignalsBlocking, AsksEmpty, AsksFront, Meant, has_number, known_named, known_meant, updated, arg_meant}
 use Rattle.uc_code.specs.declared.op.Op.{Op}
 use Rattle.uc_code.specs.declared.op.Op.TheVariants as op
-use Rattle.uc_code.specs.declared.rows.Mark.{Mark}
+use Rattle.uc_code.specs.declared.rows.CodeMark.{CodeMark}
 use Rattle.uc_code.specs.Drafts.{Draft}
 use Rattle.uc_code.specs.Layout.{Laid, laid_in}
 use Rattle.uc_code.specs.CodeShapes.{Nothing, One, Both, Fork, PollAt, Same}
@@ -23,22 +23,22 @@ use Rattle.uc_lower_expr.specs.declared.meaning.Scalar.{Scalar}
 use Rattle.uc_lower_expr.specs.declared.meaning.Scalar.TheVariants as scalar
 use Rattle.uc_lower_expr.specs.declared.meaning.Standing.{Standing}
 use Rattle.uc_lower_expr.specs.declared.meaning.Standing.TheVariants as standing
-use Rattle.uc_lower_expr.specs.declared.meaning.Meaning.{Meaning}
-use Rattle.uc_lower_expr.specs.declared.ops.Joining.{Joining}
-use Rattle.uc_lower_expr.specs.declared.ops.Joining.TheVariants as joining
+use Rattle.uc_lower_expr.specs.declared.meaning.ExprMeaning.{ExprMeaning}
+use Rattle.uc_lower_expr.specs.declared.ops.BinaryCode.{BinaryCode}
+use Rattle.uc_lower_expr.specs.declared.ops.BinaryCode.TheVariants as joining
 use Rattle.uc_lower_expr.specs.declared.names.Variable.{Variable}
 use Rattle.uc_lower_expr.specs.Meanings.{Tells}
 
 -- how an operator joins two sides
-abbrev pub joining_of : BinaryOp → Joining
+abbrev pub joining_of : BinaryOp → BinaryCode
 joining_of binary.Or = joining.Either
 joining_of binary.And = joining.Each
 joining_of binary.Equal = joining.By op.Equal scalar.Truth
 joining_of binary.NotEqual = joining.By op.NotEqual scalar.Truth
 joining_of binary.Less = joining.By op.Less scalar.Truth
-joining_of binary.LessEqual = joining.By op.AtMost scalar.Truth
+joining_of binary.LessEqual = joining.By op.LessEqual scalar.Truth
 joining_of binary.Greater = joining.By op.Greater scalar.Truth
-joining_of binary.GreaterEqual = joining.By op.AtLeast scalar.Truth
+joining_of binary.GreaterEqual = joining.By op.GreaterEqual scalar.Truth
 joining_of binary.Add = joining.By op.Add scalar.Number
 joining_of binary.Sub = joining.By op.Subtract scalar.Number
 joining_of binary.Mul = joining.By op.Multiply scalar.Number
@@ -59,12 +59,12 @@ step_op_of step.Increment = op.Add
 step_op_of step.Decrement = op.Subtract
 
 -- the code behind the value of a left side
-abbrev pub RightCode : ℕ → List Mark → Joining → Expr → Laid → ℕ → ℕ → Type 0
+abbrev pub RightCode : ℕ → List CodeMark → BinaryCode → Expr → Laid → ℕ → ℕ → Type 0
 RightCode line ms joining.Either e code = Fork code line (One code (op.Push (pos 1)) line) (Both (ExprAt code line ms e) (One code op.ToBool line))
 RightCode line ms joining.Each e code = Fork code line (Both (ExprAt code line ms e) (One code op.ToBool line)) (One code (op.Push (pos 0)) line)
 RightCode line ms (joining.By o s) e code = Both (ExprAt code line ms e) (One code o line)
 
-abbrev pub scalar_of : Joining → Scalar
+abbrev pub scalar_of : BinaryCode → Scalar
 scalar_of joining.Either = scalar.Truth
 scalar_of joining.Each = scalar.Truth
 scalar_of (joining.By o s) = s
@@ -76,46 +76,46 @@ BeginCode line code = Both (One code op.Duplicate line) (One code op.Load line)
 abbrev pub EndCode : ℕ → Op → Shape → Laid → ℕ → ℕ → Type 0
 EndCode line o s code = Both (One code o line) (Both (ConvertAt code line s) (One code op.Keep line))
 
-abbrev pub UpdateCode : ℕ → List Mark → Op → Shape → Expr → Laid → ℕ → ℕ → Type 0
+abbrev pub UpdateCode : ℕ → List CodeMark → Op → Shape → Expr → Laid → ℕ → ℕ → Type 0
 UpdateCode line ms o s e code =
     Both (One code op.Duplicate line) (Both (One code op.Load line) (Both (ExprAt code line ms e) (Both (One code o line) (Both (ConvertAt code line s) (One code op.Keep line)))))
 
 -- the code that writes a value to a variable, and what combines the variable with a value
-abbrev pub SetCode : ℕ → List Mark → ℕ → Shape → Expr → Laid → ℕ → ℕ → Type 0
+abbrev pub SetCode : ℕ → List CodeMark → ℕ → Shape → Expr → Laid → ℕ → ℕ → Type 0
 SetCode line ms k s e code = Both (Both (ExprAt code line ms e) (ConvertAt code line s)) (One code (op.Set k) line)
 
-abbrev pub SetByCode : ℕ → List Mark → ℕ → Op → Shape → Expr → Laid → ℕ → ℕ → Type 0
+abbrev pub SetByCode : ℕ → List CodeMark → ℕ → Op → Shape → Expr → Laid → ℕ → ℕ → Type 0
 SetByCode line ms k o s e code =
     Both (Both (Both (One code (op.Via k) line) (Both (ExprAt code line ms e) (One code o line))) (ConvertAt code line s)) (One code (op.Set k) line)
 
 -- the code that writes a value to a variable, or to the place before it, combined with the old value where there is an op
-abbrev pub VariableCode : ℕ → List Mark → Option Op → ℕ → Shape → Expr → Laid → ℕ → ℕ → Type 0
+abbrev pub VariableCode : ℕ → List CodeMark → Option Op → ℕ → Shape → Expr → Laid → ℕ → ℕ → Type 0
 VariableCode line ms None k s e = SetCode line ms k s e
 VariableCode line ms (Some o) k s e = SetByCode line ms k o s e
 
-abbrev pub PlaceCode : ℕ → List Mark → Option Op → Shape → Expr → Laid → ℕ → ℕ → Type 0
+abbrev pub PlaceCode : ℕ → List CodeMark → Option Op → Shape → Expr → Laid → ℕ → ℕ → Type 0
 PlaceCode line ms None s e code = Both (ExprAt code line ms e) (Both (ConvertAt code line s) (One code op.Keep line))
 PlaceCode line ms (Some o) s e code = UpdateCode line ms o s e code
 
 -- the code of a step behind a variable: the old value, the new one is written and left
-abbrev pub BehindCode : ℕ → List Mark → ℕ → Op → Shape → Laid → ℕ → ℕ → Type 0
+abbrev pub BehindCode : ℕ → List CodeMark → ℕ → Op → Shape → Laid → ℕ → ℕ → Type 0
 BehindCode line ms k o s code = Both (One code (op.Via k) line) (Both (SetByCode line ms k o s (Literal (pos 1)) code) (One code op.Discard line))
 
 -- the code of an argument
-abbrev pub ArgumentCode : ℕ → List Mark → Param → Meant → Laid → ℕ → ℕ → Type 0
+abbrev pub ArgumentCode : ℕ → List CodeMark → Param → Meant → Laid → ℕ → ℕ → Type 0
 ArgumentCode line ms x m code = ExprAt code line ms (arg_meant x m)
 
 -- the code of a step behind its place
 abbrev pub StepCode : ℕ → Op → Shape → Laid → ℕ → ℕ → Type 0
 StepCode line o s code =
-    Both (One code op.Duplicate line) (Both (One code op.Load line) (Both (One code op.Over line) (Both (One code op.Over line) (Both (One code (op.Push (pos 1)) line) (Both (One code o line) (Both (ConvertAt code line s) (Both (One code op.Store line) (One code op.DiscardBelow line))))))))
+    Both (One code op.Duplicate line) (Both (One code op.Load line) (Both (One code op.CopyBelow line) (Both (One code op.CopyBelow line) (Both (One code (op.Push (pos 1)) line) (Both (One code o line) (Both (ConvertAt code line s) (Both (One code op.Store line) (One code op.DiscardBelow line))))))))
 
 -- the code of a wait, behind the number of its condition and what it stores
-abbrev pub WaitCode : ℕ → List Mark → Laid → ℕ → ℕ → Type 0
+abbrev pub WaitCode : ℕ → List CodeMark → Laid → ℕ → ℕ → Type 0
 WaitCode line ms code = Both (One code op.Wait line) (PollAt code ms line)
 
 -- the code of a call of a condition, behind its number; what a wait stores
-abbrev pub CalledCode : ℕ → List Mark → ConditionCall → Expr → Laid → ℕ → ℕ → Type 0
+abbrev pub CalledCode : ℕ → List CodeMark → ConditionCall → Expr → Laid → ℕ → ℕ → Type 0
 CalledCode line ms Waits e code = Both (ExprAt code line ms e) (WaitCode line ms code)
 CalledCode line ms Signals e code = One code op.Signal line
 CalledCode line ms SignalsBlocking e code = One code op.SignalBlock line
@@ -169,5 +169,5 @@ bumped step.Increment m = updated Plus m (Literal (pos 1))
 bumped step.Decrement m = updated Minus m (Literal (pos 1))
 
 -- what is told of a member of `cin`
-abbrev pub input_told : List ℕ → Meaning
+abbrev pub input_told : List ℕ → ExprMeaning
 input_told name = if same_name name fail_name then record { scalar = scalar.Truth; class = None; numbered = false; event = None; elements = None; standing = standing.Fail } else record { scalar = scalar.Number; class = None; numbered = false; event = None; elements = None; standing = standing.Nothing }

@@ -11,9 +11,9 @@ ghost use Rattle.uc_lower_expr.specs.Meanings.{Tells, call_of, element_told, sha
 ghost use Rattle.uc_lower_expr.specs.DraftGrowth.{Adds, Grows, ExprCode, ArgumentsCode, LiveCallCode, MutexCallCode};
 ghost use Rattle.uc_lower_expr.specs.Parts.{CalledCode, RightCode, VariableCode, PlaceCode, ArgumentCode, FoundCode};
 
-use crate::meaning::{ConditionCall, Meaning, Scalar, Standing};
+use crate::meaning::{ConditionCall, ExprMeaning, Scalar, Standing};
 use crate::members::{lower_field, lower_name, put_nothing};
-use crate::ops::{Joining, combining, joined_by};
+use crate::ops::{BinaryCode, combining, joined_by};
 use crate::program_names::ProgramNames;
 use crate::put::{
     begin_update, close_fork, cut, end_update, put, put_at_risk, put_bump, put_conversion,
@@ -34,7 +34,7 @@ pub fn lower_expr(
     line: u32,
     names: &ProgramNames,
     out: &mut Draft,
-) -> Result<Meaning, AllocError>
+) -> Result<ExprMeaning, AllocError>
     requires { length out.old.ops + OPS_FOR_SIZE * expr_size e.now ≤ PROGRAM_OPS }
     ensures code { OnOk result (Adds (OPS_FOR_SIZE * expr_size e.now - 2) (ExprCode line out.old.marks (meant (context_in names.now out.old) e.now).expr) out.old out.new) }
     ensures tells { IfOk result (λ told. Tells names.now told (meant (context_in names.now out.old) e.now)) }
@@ -42,20 +42,20 @@ pub fn lower_expr(
     match &e.form {
         ExprForm::Number { value } => {
             put(Op::Push(*value), line, out)?;
-            Ok(Meaning::value(Scalar::Number))
+            Ok(ExprMeaning::value(Scalar::Number))
         }
         ExprForm::Character { byte } => {
             put(Op::Push(i64::from(*byte)), line, out)?;
-            Ok(Meaning::value(Scalar::Character))
+            Ok(ExprMeaning::value(Scalar::Character))
         }
         ExprForm::Truth { value } => {
             put(Op::Push(i64::from(*value)), line, out)?;
-            Ok(Meaning::value(Scalar::Truth))
+            Ok(ExprMeaning::value(Scalar::Truth))
         }
         ExprForm::Name { name } => lower_name(name, line, names, out),
         ExprForm::Cin => {
             put(Op::Push(0), line, out)?;
-            let value = Meaning::value(Scalar::Number);
+            let value = ExprMeaning::value(Scalar::Number);
             Ok(value.standing_as(Standing::Input))
         }
         ExprForm::Postfix { root, parts } => {
@@ -85,7 +85,7 @@ pub fn lower_value(
     line: u32,
     names: &ProgramNames,
     out: &mut Draft,
-) -> Result<Meaning, AllocError>
+) -> Result<ExprMeaning, AllocError>
     requires { length out.old.ops + OPS_FOR_SIZE * expr_size e.now ≤ PROGRAM_OPS }
     ensures code { OnOk result (Adds (OPS_FOR_SIZE * expr_size e.now) (ExprCode line out.old.marks (value_of (meant (context_in names.now out.old) e.now))) out.old out.new) }
     ensures tells { IfOk result (λ told. Tells names.now told (meant (context_in names.now out.old) e.now)) }
@@ -103,7 +103,7 @@ fn lower_unary(
     line: u32,
     names: &ProgramNames,
     out: &mut Draft,
-) -> Result<Meaning, AllocError>
+) -> Result<ExprMeaning, AllocError>
     requires { length out.old.ops + OPS_FOR_SIZE * (1 + expr_size operand.now) ≤ PROGRAM_OPS }
     ensures code { OnOk result (Adds (OPS_FOR_SIZE * (1 + expr_size operand.now) - 2) (ExprCode line out.old.marks (unary_meant op (meant (context_in names.now out.old) operand.now)).expr) out.old out.new) }
     ensures tells { IfOk result (λ told. Tells names.now told (unary_meant op (meant (context_in names.now out.old) operand.now))) }
@@ -112,16 +112,16 @@ fn lower_unary(
         UnaryOp::Minus => {
             let _told = lower_value(operand, line, names, out)?;
             put(Op::Negate, line, out)?;
-            Ok(Meaning::value(Scalar::Number))
+            Ok(ExprMeaning::value(Scalar::Number))
         }
         UnaryOp::Plus => {
             let _told = lower_value(operand, line, names, out)?;
-            Ok(Meaning::value(Scalar::Number))
+            Ok(ExprMeaning::value(Scalar::Number))
         }
         UnaryOp::Not => {
             let _told = lower_value(operand, line, names, out)?;
             put(Op::Not, line, out)?;
-            Ok(Meaning::value(Scalar::Truth))
+            Ok(ExprMeaning::value(Scalar::Truth))
         }
         UnaryOp::Increment => {
             let start = out.here();
@@ -144,7 +144,7 @@ fn lower_assign(
     line: u32,
     names: &ProgramNames,
     out: &mut Draft,
-) -> Result<Meaning, AllocError>
+) -> Result<ExprMeaning, AllocError>
     requires { length out.old.ops + OPS_FOR_SIZE * (1 + expr_size place.now + expr_size value.now) ≤ PROGRAM_OPS }
     ensures code { OnOk result (Adds (OPS_FOR_SIZE * (1 + expr_size place.now + expr_size value.now) - 2) (ExprCode line out.old.marks (assign_meant op (meant (context_in names.now out.old) place.now) (meant (context_in names.now out.old) value.now)).expr) out.old out.new) }
     ensures tells { IfOk result (λ told. Tells names.now told (assign_meant op (meant (context_in names.now out.old) place.now) (meant (context_in names.now out.old) value.now))) }
@@ -158,13 +158,13 @@ fn lower_assign(
 #[cycle(lower)]
 fn lower_written(
     op: AssignOp,
-    told: Meaning,
+    told: ExprMeaning,
     value: &Expr,
     start: u32,
     line: u32,
     names: &ProgramNames,
     out: &mut Draft,
-) -> Result<Meaning, AllocError>
+) -> Result<ExprMeaning, AllocError>
     requires settled { out.old.settled ≤ start }
     requires inside { start ≤ length out.old.ops }
     requires room { length out.old.ops + OPS_FOR_SIZE * expr_size value.now + 5 ≤ PROGRAM_OPS }
@@ -245,12 +245,12 @@ fn lower_to_place(
 #[cycle(lower)]
 fn lower_links(
     links: &[Link],
-    first: Meaning,
+    first: ExprMeaning,
     start: u32,
     line: u32,
     names: &ProgramNames,
     out: &mut Draft,
-) -> Result<Meaning, AllocError>
+) -> Result<ExprMeaning, AllocError>
     requires settled { out.old.settled ≤ start }
     requires inside { start ≤ length out.old.ops }
     requires room { length out.old.ops + OPS_FOR_SIZE * links_size (links_of links.now) ≤ PROGRAM_OPS }
@@ -266,12 +266,12 @@ fn lower_links(
 #[cycle(lower)]
 fn lower_link(
     link: &Link,
-    left: Meaning,
+    left: ExprMeaning,
     start: u32,
     line: u32,
     names: &ProgramNames,
     out: &mut Draft,
-) -> Result<Meaning, AllocError>
+) -> Result<ExprMeaning, AllocError>
     requires settled { out.old.settled ≤ start }
     requires inside { start ≤ length out.old.ops }
     requires room { length out.old.ops + OPS_FOR_SIZE * link_size link.now ≤ PROGRAM_OPS }
@@ -280,12 +280,12 @@ fn lower_link(
     let joining = joined_by(link.op);
     put_load(left, start, line, out)?;
     lower_right(joining, &link.right, line, names, out)?;
-    Ok(Meaning::value(joining.scalar()))
+    Ok(ExprMeaning::value(joining.scalar()))
 }
 
 #[cycle(lower)]
 fn lower_right(
-    joining: Joining,
+    joining: BinaryCode,
     right: &Expr,
     line: u32,
     names: &ProgramNames,
@@ -295,7 +295,7 @@ fn lower_right(
     ensures { OnOk result (Adds (OPS_FOR_SIZE * expr_size right.now + 4) (RightCode line out.old.marks joining (value_of (meant (context_in names.now out.old) right.now))) out.old out.new) }
 {
     match joining {
-        Joining::Either => {
+        BinaryCode::Either => {
             let choose = out.here();
             put(Op::IfZero(0), line, out)?;
             put(Op::Push(1), line, out)?;
@@ -306,7 +306,7 @@ fn lower_right(
             close_fork(choose, leave, out);
             Ok(())
         }
-        Joining::Each => {
+        BinaryCode::Each => {
             let choose = out.here();
             put(Op::IfZero(0), line, out)?;
             let _told = lower_value(right, line, names, out)?;
@@ -317,7 +317,7 @@ fn lower_right(
             close_fork(choose, leave, out);
             Ok(())
         }
-        Joining::By(op, _) => {
+        BinaryCode::By(op, _) => {
             let _told = lower_value(right, line, names, out)?;
             put(op, line, out)?;
             Ok(())
@@ -328,12 +328,12 @@ fn lower_right(
 #[cycle(lower)]
 fn lower_parts(
     parts: &[Part],
-    root: Meaning,
+    root: ExprMeaning,
     start: u32,
     line: u32,
     names: &ProgramNames,
     out: &mut Draft,
-) -> Result<Meaning, AllocError>
+) -> Result<ExprMeaning, AllocError>
     requires settled { out.old.settled ≤ start }
     requires inside { start ≤ length out.old.ops }
     requires room { length out.old.ops + OPS_FOR_SIZE * parts_size (parts_of parts.now) ≤ PROGRAM_OPS }
@@ -349,12 +349,12 @@ fn lower_parts(
 #[cycle(lower)]
 fn lower_part(
     part: &Part,
-    told: Meaning,
+    told: ExprMeaning,
     start: u32,
     line: u32,
     names: &ProgramNames,
     out: &mut Draft,
-) -> Result<Meaning, AllocError>
+) -> Result<ExprMeaning, AllocError>
     requires settled { out.old.settled ≤ start }
     requires inside { start ≤ length out.old.ops }
     requires room { length out.old.ops + OPS_FOR_SIZE * part_size part.now ≤ PROGRAM_OPS }
@@ -371,12 +371,12 @@ fn lower_part(
 #[cycle(lower)]
 fn lower_index(
     index: &Expr,
-    told: Meaning,
+    told: ExprMeaning,
     start: u32,
     line: u32,
     names: &ProgramNames,
     out: &mut Draft,
-) -> Result<Meaning, AllocError>
+) -> Result<ExprMeaning, AllocError>
     requires settled { out.old.settled ≤ start }
     requires inside { start ≤ length out.old.ops }
     requires room { length out.old.ops + OPS_FOR_SIZE * (1 + expr_size index.now) ≤ PROGRAM_OPS }
@@ -385,7 +385,7 @@ fn lower_index(
     match told.elements {
         None => {
             restart(Op::Push(0), start, line, out)?;
-            Ok(Meaning::nothing())
+            Ok(ExprMeaning::nothing())
         }
         Some(length) => match told.standing.condition() {
             Some(first) => {
@@ -393,7 +393,7 @@ fn lower_index(
                 let _index = lower_value(index, line, names, out)?;
                 let count = length;
                 put(Op::Condition { first, count }, line, out)?;
-                Ok(Meaning {
+                Ok(ExprMeaning {
                     elements: None,
                     ..told
                 })
@@ -410,7 +410,7 @@ fn lower_index(
 }
 
 // Behind the place of an element of an array: of one that is known by its number, that.
-fn put_element(told: Meaning, line: u32, out: &mut Draft) -> Result<Meaning, AllocError>
+fn put_element(told: ExprMeaning, line: u32, out: &mut Draft) -> Result<ExprMeaning, AllocError>
     requires { length out.old.ops < PROGRAM_OPS }
     ensures code { OnOk result (Adds 1 (FoundCode line told.numbered) out.old out.new) }
     ensures tells { IfOk result (λ element. element ≡ element_told told) }
@@ -418,7 +418,7 @@ fn put_element(told: Meaning, line: u32, out: &mut Draft) -> Result<Meaning, All
     if told.numbered {
         put(Op::Load, line, out)?;
     }
-    Ok(Meaning {
+    Ok(ExprMeaning {
         elements: None,
         standing: Standing::held_as(told.numbered),
         ..told
@@ -452,12 +452,12 @@ fn put_mutex_call(member: u8, routine: u32, line: u32, out: &mut Draft) -> Resul
 #[cycle(lower)]
 fn lower_call(
     args: &[Expr],
-    told: Meaning,
+    told: ExprMeaning,
     start: u32,
     line: u32,
     names: &ProgramNames,
     out: &mut Draft,
-) -> Result<Meaning, AllocError>
+) -> Result<ExprMeaning, AllocError>
     requires settled { out.old.settled ≤ start }
     requires inside { start ≤ length out.old.ops }
     requires room { length out.old.ops + OPS_FOR_SIZE * (1 + exprs_size (exprs_of args.now)) ≤ PROGRAM_OPS }
@@ -466,7 +466,7 @@ fn lower_call(
     match told.standing {
         Standing::Fail => {
             restart(Op::Fail, start, line, out)?;
-            Ok(Meaning::value(Scalar::Truth))
+            Ok(ExprMeaning::value(Scalar::Truth))
         }
         Standing::Routine(routine) => {
             cut(start, out);
@@ -511,7 +511,7 @@ fn lower_condition_call(
     line: u32,
     names: &ProgramNames,
     out: &mut Draft,
-) -> Result<Meaning, AllocError>
+) -> Result<ExprMeaning, AllocError>
     requires { length out.old.ops + OPS_FOR_SIZE * (1 + exprs_size (exprs_of args.now)) ≤ PROGRAM_OPS }
     ensures code { OnOk result (Adds (OPS_FOR_SIZE * (1 + exprs_size (exprs_of args.now))) (CalledCode line out.old.marks (call_of call) (stored_by (args_meant (context_in names.now out.old) (exprs_of args.now)))) out.old out.new) }
     ensures tells { IfOk result (λ told. (e : Resolved) (values : List Meant) → Tells names.now told (condition_called (call_of call) e values)) }
@@ -520,23 +520,23 @@ fn lower_condition_call(
         ConditionCall::Wait => {
             lower_stored(args, line, names, out)?;
             put_wait(line, out)?;
-            Ok(Meaning::value(Scalar::Number))
+            Ok(ExprMeaning::value(Scalar::Number))
         }
         ConditionCall::Signal => {
             put(Op::Signal, line, out)?;
-            Ok(Meaning::value(Scalar::Number))
+            Ok(ExprMeaning::value(Scalar::Number))
         }
         ConditionCall::SignalBlock => {
             put(Op::SignalBlock, line, out)?;
-            Ok(Meaning::value(Scalar::Number))
+            Ok(ExprMeaning::value(Scalar::Number))
         }
         ConditionCall::Empty => {
             put(Op::Empty, line, out)?;
-            Ok(Meaning::value(Scalar::Truth))
+            Ok(ExprMeaning::value(Scalar::Truth))
         }
         ConditionCall::Front => {
             put(Op::Front, line, out)?;
-            Ok(Meaning::value(Scalar::Number))
+            Ok(ExprMeaning::value(Scalar::Number))
         }
     }
 }

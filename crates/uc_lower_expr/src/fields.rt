@@ -11,7 +11,7 @@ ghost use Rattle.uc_lower_expr.specs.Members.{AreFields, AreTables, FitClasses, 
 ghost use Rattle.uc_lower_expr.specs.FieldTables.{HasNames, Notes, condition_by, conditions_by, is_number, length_by, number_by, one_scalar};
 
 use crate::making::{Made, made_by};
-use crate::meaning::{Meaning, Scalar, Standing};
+use crate::meaning::{ExprMeaning, Scalar, Standing};
 use std::alloc::{AllocError, Global};
 use uc_layout::held::leading_cells;
 use uc_layout::places::{no_places, note_place, place_in};
@@ -34,7 +34,7 @@ pub struct Field {
     pub number: bool,
     pub condition: Option<u32>,
     pub made: Option<Made>,
-    pub told: Meaning,
+    pub told: ExprMeaning,
 }
 
 impl Field {
@@ -57,11 +57,11 @@ pub struct FieldTable {
 }
 
 /// What is told of a value of this base.
-pub fn value_of_base(sizes: &Sizes, base: &Base) -> Meaning
+pub fn value_of_base(sizes: &Sizes, base: &Base) -> ExprMeaning
     ensures tells { (e : Expr) → Tells sizes.now result (value_meant e (scalar base.now)) }
     ensures len { result.elements ≡ None }
 {
-    Meaning {
+    ExprMeaning {
         scalar: Scalar::of_base(base),
         class: sizes.class_made(base),
         numbered: sizes.is_numbered(base),
@@ -171,7 +171,7 @@ fn note_field(
                 number,
                 condition: condition_of(base, table.conditions),
                 made: made_by(sizes, base),
-                told: Meaning {
+                told: ExprMeaning {
                     elements: length_of(declarator, what.count),
                     standing: Standing::held_as(number),
                     ..value

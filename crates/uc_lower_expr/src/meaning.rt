@@ -135,7 +135,7 @@ impl Standing {
 /// How the base of an expression's type keeps a number, the class of objects or the event that the base names, by its place among the
 /// classes of the program, whether what it names is known by its number, the length of an array, and what the expression is.
 #[derive(Clone, Copy, PartialEq, Eq, Debug)]
-pub struct Meaning {
+pub struct ExprMeaning {
     pub scalar: Scalar,
     pub class: Option<usize>,
     pub numbered: bool,
@@ -162,12 +162,12 @@ impl Scalar {
     }
 }
 
-impl Meaning {
+impl ExprMeaning {
     /// A scalar value.
-    pub fn value(scalar: Scalar) -> Meaning
+    pub fn value(scalar: Scalar) -> ExprMeaning
         ensures { result ≡ record { scalar = scalar; class = None; numbered = false; event = None; elements = None; standing = Standing.Value } }
     {
-        Meaning {
+        ExprMeaning {
             scalar,
             class: None,
             numbered: false,
@@ -178,10 +178,10 @@ impl Meaning {
     }
 
     /// What breaks a rule: the value 0, which stands for nothing.
-    pub fn nothing() -> Meaning
+    pub fn nothing() -> ExprMeaning
         ensures { result ≡ record { scalar = Scalar.Number; class = None; numbered = false; event = None; elements = None; standing = Standing.Nothing } }
     {
-        Meaning {
+        ExprMeaning {
             scalar: Scalar::Number,
             class: None,
             numbered: false,
@@ -202,9 +202,9 @@ impl Meaning {
     }
 
     /// The same type with another standing.
-    pub fn standing_as(self, standing: Standing) -> Meaning
+    pub fn standing_as(self, standing: Standing) -> ExprMeaning
         ensures { result ≡ record self { standing = standing } }
     {
-        Meaning { standing, ..self }
+        ExprMeaning { standing, ..self }
     }
 }

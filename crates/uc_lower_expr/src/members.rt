@@ -11,7 +11,7 @@ ghost use Rattle.uc_lower_expr.specs.Members.{no_field};
 ghost use Rattle.uc_lower_expr.specs.Parts.{FieldCode, Restarts, place_op_of, own_place_op, own_standing, input_told};
 
 use crate::fields::Field;
-use crate::meaning::{ConditionCall, Meaning, Scalar, Standing};
+use crate::meaning::{ConditionCall, ExprMeaning, Scalar, Standing};
 use crate::names::variable_named;
 use crate::program_names::ProgramNames;
 use crate::put::{put, restart};
@@ -26,7 +26,7 @@ pub(crate) fn lower_name(
     line: u32,
     names: &ProgramNames,
     out: &mut Draft,
-) -> Result<Meaning, AllocError>
+) -> Result<ExprMeaning, AllocError>
     requires { length out.old.ops < PROGRAM_OPS }
     ensures code { OnOk result (Adds 1 (ExprCode line out.old.marks (name_meant names.now out.old.place.class name.now (known_named out.old.names name.now)).expr) out.old out.new) }
     ensures tells { IfOk result (λ told. Tells names.now told (name_meant names.now out.old.place.class name.now (known_named out.old.names name.now))) }
@@ -50,7 +50,7 @@ fn lower_own_name(
     line: u32,
     names: &ProgramNames,
     out: &mut Draft,
-) -> Result<Meaning, AllocError>
+) -> Result<ExprMeaning, AllocError>
     requires { length out.old.ops < PROGRAM_OPS }
     ensures code { OnOk result (Adds 1 (ExprCode line out.old.marks (own_meant names.now (Some class) name.now).expr) out.old out.new) }
     ensures tells { IfOk result (λ told. Tells names.now told (own_meant names.now (Some class) name.now)) }
@@ -102,7 +102,7 @@ fn lower_own_member(
     line: u32,
     names: &ProgramNames,
     out: &mut Draft,
-) -> Result<Meaning, AllocError>
+) -> Result<ExprMeaning, AllocError>
     requires room { length out.old.ops < PROGRAM_OPS }
     requires no_field { no_field names.now class name.now (class_at names.now class) }
     ensures code { OnOk result (Adds 1 (ExprCode line out.old.marks (own_meant names.now (Some class) name.now).expr) out.old out.new) }
@@ -130,7 +130,7 @@ fn lower_item_name(
     line: u32,
     names: &ProgramNames,
     out: &mut Draft,
-) -> Result<Meaning, AllocError>
+) -> Result<ExprMeaning, AllocError>
     requires { length out.old.ops < PROGRAM_OPS }
     ensures code { OnOk result (Adds 1 (ExprCode line out.old.marks (item_meant names.now name.now).expr) out.old out.new) }
     ensures tells { IfOk result (λ told. Tells names.now told (item_meant names.now name.now)) }
@@ -147,26 +147,26 @@ fn lower_item_name(
     }
 }
 
-fn routine_told(name: &Name, names: &ProgramNames) -> Meaning
+fn routine_told(name: &Name, names: &ProgramNames) -> ExprMeaning
     ensures { Tells names.now result (routine_meant_by names.now (routine_from (routines_of names.now) 0 name.now)) }
 {
     match names.routine(name) {
         Some(routine) => names
             .result(routine)
             .standing_as(Standing::Routine(routine)),
-        None => Meaning::nothing(),
+        None => ExprMeaning::nothing(),
     }
 }
 
 // A field or a member of what stands from `start` on, or a call of a condition. `fail` is the only one of `cin`.
 pub(crate) fn lower_field(
     name: &Name,
-    told: Meaning,
+    told: ExprMeaning,
     start: u32,
     line: u32,
     names: &ProgramNames,
     out: &mut Draft,
-) -> Result<Meaning, AllocError>
+) -> Result<ExprMeaning, AllocError>
     requires settled { out.old.settled ≤ start }
     requires inside { start ≤ length out.old.ops }
     requires room { length out.old.ops + OPS_FOR_SIZE ≤ PROGRAM_OPS }
@@ -186,7 +186,7 @@ pub(crate) fn lower_field(
         Standing::MutexMember { .. } => put_nothing(start, line, out),
         Standing::Condition(_) => match ConditionCall::named(name) {
             Some(call) => {
-                let value = Meaning::value(Scalar::Number);
+                let value = ExprMeaning::value(Scalar::Number);
                 Ok(value.standing_as(Standing::CallOf(call)))
             }
             None => put_nothing(start, line, out),
@@ -197,7 +197,7 @@ pub(crate) fn lower_field(
 }
 
 // What breaks a rule stands for 0 and for nothing.
-pub(crate) fn put_nothing(start: u32, line: u32, out: &mut Draft) -> Result<Meaning, AllocError>
+pub(crate) fn put_nothing(start: u32, line: u32, out: &mut Draft) -> Result<ExprMeaning, AllocError>
     requires settled { out.old.settled ≤ start }
     requires inside { start ≤ length out.old.ops }
     requires room { start < PROGRAM_OPS }
@@ -205,7 +205,7 @@ pub(crate) fn put_nothing(start: u32, line: u32, out: &mut Draft) -> Result<Mean
     ensures tells { IfOk result (λ told. told ≡ record { scalar = Scalar.Number; class = None; numbered = false; event = None; elements = None; standing = Standing.Nothing }) }
 {
     restart(Op::Push(0), start, line, out)?;
-    Ok(Meaning::nothing())
+    Ok(ExprMeaning::nothing())
 }
 
 fn lower_input_member(
@@ -213,7 +213,7 @@ fn lower_input_member(
     start: u32,
     line: u32,
     out: &mut Draft,
-) -> Result<Meaning, AllocError>
+) -> Result<ExprMeaning, AllocError>
     requires settled { out.old.settled ≤ start }
     requires inside { start ≤ length out.old.ops }
     requires room { start < PROGRAM_OPS }
@@ -224,25 +224,25 @@ fn lower_input_member(
     Ok(input_told(name))
 }
 
-fn input_told(name: &Name) -> Meaning
+fn input_told(name: &Name) -> ExprMeaning
     ensures { result ≡ input_told name.now }
 {
     if name.is(b"fail") {
-        let member = Meaning::value(Scalar::Truth);
+        let member = ExprMeaning::value(Scalar::Truth);
         return member.standing_as(Standing::Fail);
     }
-    Meaning::nothing()
+    ExprMeaning::nothing()
 }
 
 // A member of an object at the place that stands from `start` on, or a field of the event there. An array has none.
 fn lower_member(
     name: &Name,
-    told: Meaning,
+    told: ExprMeaning,
     start: u32,
     line: u32,
     names: &ProgramNames,
     out: &mut Draft,
-) -> Result<Meaning, AllocError>
+) -> Result<ExprMeaning, AllocError>
     requires settled { out.old.settled ≤ start }
     requires inside { start ≤ length out.old.ops }
     requires room { length out.old.ops + OPS_FOR_SIZE ≤ PROGRAM_OPS }
@@ -277,12 +277,12 @@ fn member_of(mutex: Option<u8>, live: bool, routine: u32) -> Standing
 fn lower_member_of(
     class: usize,
     name: &Name,
-    told: Meaning,
+    told: ExprMeaning,
     start: u32,
     line: u32,
     names: &ProgramNames,
     out: &mut Draft,
-) -> Result<Meaning, AllocError>
+) -> Result<ExprMeaning, AllocError>
     requires settled { out.old.settled ≤ start }
     requires inside { start ≤ length out.old.ops }
     requires room { length out.old.ops + OPS_FOR_SIZE ≤ PROGRAM_OPS }

@@ -5,7 +5,7 @@ ghost use Rattle.uc_resolve.specs.Resolve.{has_number, known_named};
 ghost use Rattle.uc_lower_expr.specs.Parts.{IsVariable, standing_by};
 
 use crate::fields::value_of_base;
-use crate::meaning::{Meaning, Standing};
+use crate::meaning::{ExprMeaning, Standing};
 use crate::program_names::ProgramNames;
 use uc_code::draft::Draft;
 use uc_tree::kinds::Ty;
@@ -17,7 +17,7 @@ use uc_tree::name::Name;
 pub struct Variable {
     pub cell: u32,
     pub held: bool,
-    pub told: Meaning,
+    pub told: ExprMeaning,
 }
 
 // What is known by its number is the number that it holds, a reference is the place.
@@ -48,7 +48,7 @@ pub(crate) fn variable_named(out: &Draft, names: &ProgramNames, name: &Name) -> 
             Some(Variable {
                 cell: known.cell,
                 held: is_held(number, known.ty.by_ref),
-                told: Meaning {
+                told: ExprMeaning {
                     elements: known.ty.len,
                     standing: standing_of(number, known.ty.by_ref, known.cell),
                     ..value_of_base(names.sizes(), &known.ty.base)

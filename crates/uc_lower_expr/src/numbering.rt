@@ -1,13 +1,13 @@
 // What is numbered in a program, and what its items give names.
 
-use crate::meaning::Meaning;
+use crate::meaning::ExprMeaning;
 use uc_names::scope::Scope;
 use uc_tree::class::Routine;
 
 /// A constant: what is told of it as a value, and the value.
 #[derive(Clone, Copy, PartialEq, Eq, Debug)]
-pub struct Fixed {
-    pub told: Meaning,
+pub struct ConstantMeaning {
+    pub told: ExprMeaning,
     pub value: i64,
 }
 

@@ -9,43 +9,43 @@ use uc_tree::ops::{AssignOp, BinaryOp, StepOp};
 
 /// How an operator joins two sides: `||`, `&&`, or an op whose value is such a scalar.
 #[derive(Clone, Copy)]
-pub enum Joining {
+pub enum BinaryCode {
     Either,
     Each,
     By(Op, Scalar),
 }
 
-impl Joining {
+impl BinaryCode {
     // What scalar the joined value is.
     pub(crate) fn scalar(self) -> Scalar
         ensures { result ≡ scalar_of self }
     {
         match self {
-            Joining::Either => Scalar::Truth,
-            Joining::Each => Scalar::Truth,
-            Joining::By(_, scalar) => scalar,
+            BinaryCode::Either => Scalar::Truth,
+            BinaryCode::Each => Scalar::Truth,
+            BinaryCode::By(_, scalar) => scalar,
         }
     }
 }
 
 // How an operator joins its sides.
-pub(crate) fn joined_by(op: BinaryOp) -> Joining
+pub(crate) fn joined_by(op: BinaryOp) -> BinaryCode
     ensures { result ≡ joining_of op }
 {
     match op {
-        BinaryOp::Or => Joining::Either,
-        BinaryOp::And => Joining::Each,
-        BinaryOp::Equal => Joining::By(Op::Equal, Scalar::Truth),
-        BinaryOp::NotEqual => Joining::By(Op::NotEqual, Scalar::Truth),
-        BinaryOp::Less => Joining::By(Op::Less, Scalar::Truth),
-        BinaryOp::LessEqual => Joining::By(Op::AtMost, Scalar::Truth),
-        BinaryOp::Greater => Joining::By(Op::Greater, Scalar::Truth),
-        BinaryOp::GreaterEqual => Joining::By(Op::AtLeast, Scalar::Truth),
-        BinaryOp::Add => Joining::By(Op::Add, Scalar::Number),
-        BinaryOp::Sub => Joining::By(Op::Subtract, Scalar::Number),
-        BinaryOp::Mul => Joining::By(Op::Multiply, Scalar::Number),
-        BinaryOp::Div => Joining::By(Op::Divide, Scalar::Number),
-        BinaryOp::Rem => Joining::By(Op::Remainder, Scalar::Number),
+        BinaryOp::Or => BinaryCode::Either,
+        BinaryOp::And => BinaryCode::Each,
+        BinaryOp::Equal => BinaryCode::By(Op::Equal, Scalar::Truth),
+        BinaryOp::NotEqual => BinaryCode::By(Op::NotEqual, Scalar::Truth),
+        BinaryOp::Less => BinaryCode::By(Op::Less, Scalar::Truth),
+        BinaryOp::LessEqual => BinaryCode::By(Op::LessEqual, Scalar::Truth),
+        BinaryOp::Greater => BinaryCode::By(Op::Greater, Scalar::Truth),
+        BinaryOp::GreaterEqual => BinaryCode::By(Op::GreaterEqual, Scalar::Truth),
+        BinaryOp::Add => BinaryCode::By(Op::Add, Scalar::Number),
+        BinaryOp::Sub => BinaryCode::By(Op::Subtract, Scalar::Number),
+        BinaryOp::Mul => BinaryCode::By(Op::Multiply, Scalar::Number),
+        BinaryOp::Div => BinaryCode::By(Op::Divide, Scalar::Number),
+        BinaryOp::Rem => BinaryCode::By(Op::Remainder, Scalar::Number),
     }
 }
 

@@ -19,8 +19,8 @@ ghost use Rattle.uc_lower_expr.specs.Known.{HasRoutines, NotesFields, is_event_i
 use crate::events::{builders_of, events_of, is_event, number_of};
 use crate::fields::{Field, FieldTable, count_of, field_of, fields_of, nth_field, value_of_base};
 use crate::making::{Made, made_by};
-use crate::meaning::{Meaning, Scalar};
-use crate::numbering::{ClassRoutine, Fixed, Numbering};
+use crate::meaning::{ExprMeaning, Scalar};
+use crate::numbering::{ClassRoutine, ConstantMeaning, Numbering};
 use crate::routine_table::{RoutineTable, main_number_in, member_in, table_of, tables_of};
 use std::alloc::{AllocError, Global};
 use std::marker::Model;
@@ -399,11 +399,11 @@ impl<'a> ProgramNames<'a> {
     }
 
     /// The constant of a name. One that has no value counts as 0.
-    pub fn constant(&self, name: &Name) -> Option<Fixed>
+    pub fn constant(&self, name: &Name) -> Option<ConstantMeaning>
         ensures { MatchOption result (constant_named (constants_of self.now.items) name.now ≡ None) (λ v. IsFixed self.now name.now v) }
     {
         match self.sizes.constant(name) {
-            Some(constant) => Some(Fixed {
+            Some(constant) => Some(ConstantMeaning {
                 told: value_of_base(self.sizes, &constant.base),
                 value: self.sizes.value_of(name).unwrap_or(0),
             }),
@@ -430,12 +430,12 @@ impl<'a> ProgramNames<'a> {
     }
 
     /// What is told of the value that a routine hands over.
-    pub fn result(&self, number: u32) -> Meaning
+    pub fn result(&self, number: u32) -> ExprMeaning
         ensures { (e : Expr) → Tells self.now result (record { expr = e; ty = scalar (result_of self.now number); standing = AsValue }) }
     {
         match routine_at(&self.numbering.routines, number) {
             Some(routine) => value_of_base(self.sizes, result_of(sig_of(routine))),
-            None => Meaning::value(Scalar::Number),
+            None => ExprMeaning::value(Scalar::Number),
         }
     }
 

@@ -10,7 +10,7 @@ ghost use Rattle.uc_lower_expr.specs.Meanings.{shape_as};
 ghost use Rattle.uc_lower_expr.specs.DraftGrowth.{Adds, Cuts, Grows, OpCode, RiskCode, ConvertCode, fetched};
 ghost use Rattle.uc_lower_expr.specs.Parts.{WaitCode, BeginCode, EndCode, UpdateCode, SetByCode, BehindCode, StepCode, Restarts, bumped};
 
-use crate::meaning::{Meaning, Scalar, Standing};
+use crate::meaning::{ExprMeaning, Scalar, Standing};
 use crate::ops::stepping;
 use std::alloc::AllocError;
 use uc_code::draft::Draft;
@@ -72,11 +72,11 @@ pub(crate) fn put_wait(line: u32, out: &mut Draft) -> Result<(), AllocError>
 
 /// The value of what stands from `start` on: of a variable and of an own field in its place, of another place behind it.
 pub fn put_load(
-    told: Meaning,
+    told: ExprMeaning,
     start: u32,
     line: u32,
     out: &mut Draft,
-) -> Result<Meaning, AllocError>
+) -> Result<ExprMeaning, AllocError>
     requires settled { out.old.settled ≤ start }
     requires inside { start ≤ length out.old.ops }
     requires room { length out.old.ops < PROGRAM_OPS }
@@ -187,11 +187,11 @@ fn set_by_one(
 // A step before what stands from `start` on.
 pub(crate) fn put_bump(
     step: StepOp,
-    told: Meaning,
+    told: ExprMeaning,
     start: u32,
     line: u32,
     out: &mut Draft,
-) -> Result<Meaning, AllocError>
+) -> Result<ExprMeaning, AllocError>
     requires settled { out.old.settled ≤ start }
     requires inside { start ≤ length out.old.ops }
     requires room { length out.old.ops + 6 ≤ PROGRAM_OPS }
@@ -234,8 +234,8 @@ fn put_step(op: Op, scalar: Scalar, line: u32, out: &mut Draft) -> Result<(), Al
 {
     put(Op::Duplicate, line, out)?;
     put(Op::Load, line, out)?;
-    put(Op::Over, line, out)?;
-    put(Op::Over, line, out)?;
+    put(Op::CopyBelow, line, out)?;
+    put(Op::CopyBelow, line, out)?;
     put(Op::Push(1), line, out)?;
     put(op, line, out)?;
     put_conversion(scalar, line, out)?;
@@ -247,11 +247,11 @@ fn put_step(op: Op, scalar: Scalar, line: u32, out: &mut Draft) -> Result<(), Al
 // A step behind what stands from `start` on.
 pub(crate) fn put_stepped(
     step: StepOp,
-    told: Meaning,
+    told: ExprMeaning,
     start: u32,
     line: u32,
     out: &mut Draft,
-) -> Result<Meaning, AllocError>
+) -> Result<ExprMeaning, AllocError>
     requires settled { out.old.settled ≤ start }
     requires inside { start ≤ length out.old.ops }
     requires room { length out.old.ops + 9 ≤ PROGRAM_OPS }

@@ -20,7 +20,7 @@ use Rattle.uc_tree.specs.Statements.{Accept, Accepts, Clause, MaybeStmt, NoStmt,
 use Rattle.uc_tree.specs.StatementSizes.{clauses_size, maybe_stmt_size, stmt_size}
 use Rattle.uc_resolve.specs.Resolve.{Context, Scope, clauses_meant, context_at, else_meant, scope_after, scope_past, scope_past_clauses, test_of, within_accept}
 use Rattle.uc_code.specs.declared.op.Op.TheVariants as op
-use Rattle.uc_code.specs.declared.rows.Mark.{Mark}
+use Rattle.uc_code.specs.declared.rows.CodeMark.{CodeMark}
 use Rattle.uc_code.specs.Drafts.{Draft, patched}
 use Rattle.uc_code.specs.Emits.{Puts}
 use Rattle.uc_code.specs.Layout.{Laid, laid_in}
@@ -45,7 +45,7 @@ use Rattle.uc_lower_stmt.proofs.Stating.{as_stmt}
 
 -- guards
 
-pub guards_code_stable : (line : ℕ) (ms : List Mark) (c : Context) (xs : List Clause) → Stable (GuardsCode line ms c xs)
+pub guards_code_stable : (line : ℕ) (ms : List CodeMark) (c : Context) (xs : List Clause) → Stable (GuardsCode line ms c xs)
 guards_code_stable line ms c [] = nothing_stable
 guards_code_stable line ms c (x ∷ xs) = both (expr_stable line ms (guard_meant c (guard_of x))) (guards_code_stable line ms c xs)
 
@@ -56,7 +56,7 @@ guard_written p line e g old new is h = subst (λ (o : Option expr.Expr). Adds (
 pub guard_left_out : (p : Program) (line : ℕ) (g : Option expr.Expr) (old new : Draft) → g ≡ None → Adds 1 (OpCode line (op.Push (pos 1))) old new → Adds (guard_room g) (ExprCode line old.marks (guard_meant (context_in p old) g)) old new
 guard_left_out p line g old new is h = subst (λ (o : Option expr.Expr). Adds (guard_room o) (ExprCode line old.marks (guard_meant (context_in p old) o)) old new) (sym is) h
 
-guards_append : (line : ℕ) (ms : List Mark) (c : Context) (code : Laid) (xs : List Clause) (x : Clause) (a b z : ℕ) → GuardsCode line ms c xs code a b → ExprAt code line ms (guard_meant c (guard_of x)) b z → GuardsCode line ms c (xs ++ x ∷ []) code a z
+guards_append : (line : ℕ) (ms : List CodeMark) (c : Context) (code : Laid) (xs : List Clause) (x : Clause) (a b z : ℕ) → GuardsCode line ms c xs code a b → ExprAt code line ms (guard_meant c (guard_of x)) b z → GuardsCode line ms c (xs ++ x ∷ []) code a z
 guards_append line ms c code [] x a b z h g = record { middle = z; first = subst (λ (y : ℕ). ExprAt code line ms (guard_meant c (guard_of x)) y z) h.end g; second = record { end = refl } }
 guards_append line ms c code (y ∷ ys) x a b z h g = record { middle = h.middle; first = h.first; second = guards_append line ms c code ys x h.middle b z h.second g }
 
@@ -84,7 +84,7 @@ guards_step p xs i x line old mid new h e g k =
 
 -- what asks
 
-accept_of : (code : Laid) (ms : List Mark) (site guards line fail end a z : ℕ) → fail ≡ a + 4 → end ≡ a + 8 → Both (One code (op.Accept site guards end) line) (Both (One code (op.Failed fail) line) (Both (Both (Risk code ms op.Raise line) (One code op.Discard line)) (PollAt code ms line))) a z → AcceptsAt code ms site guards line a z
+accept_of : (code : Laid) (ms : List CodeMark) (site guards line fail end a z : ℕ) → fail ≡ a + 4 → end ≡ a + 8 → Both (One code (op.Accept site guards end) line) (Both (One code (op.Failed fail) line) (Both (Both (Risk code ms op.Raise line) (One code op.Discard line)) (PollAt code ms line))) a z → AcceptsAt code ms site guards line a z
 accept_of code ms site guards line fail end a z f e h =
     let i = h.first.end in
     let j = h.second.first.end in
@@ -106,11 +106,11 @@ accept_of code ms site guards line fail end a z f e h =
 pub puts_accept : (site guards line ask : ℕ) (d0 d1 d2 d3 d4 : Draft) → ask ≡ length d0.ops → Adds 1 (OpCode line (op.Accept site guards (ask + 8))) d0 d1 → Adds 1 (OpCode line (op.Failed (ask + 4))) d1 d2
     → Puts 2 (λ code. Both (Risk code d2.marks op.Raise line) (One code op.Discard line)) d2 d3 → Puts 4 (λ code. PollAt code d3.marks line) d3 d4 → Puts 8 (λ code. AcceptsAt code d0.marks site guards line) d0 d4
 puts_accept site guards line ask d0 d1 d2 d3 d4 e p q r t =
-    let ms : List Mark = d0.marks in
+    let ms : List CodeMark = d0.marks in
     let marks2 : d2.marks ≡ ms = ap (λ (d : Draft). d.marks) q.rest ∙ ap (λ (d : Draft). d.marks) p.rest in
     let marks3 : d3.marks ≡ ms = ap (λ (d : Draft). d.marks) r.rest ∙ marks2 in
-    let raise : Puts 2 (λ code. Both (Risk code ms op.Raise line) (One code op.Discard line)) d2 d3 = subst (λ (ns : List Mark). Puts 2 (λ code. Both (Risk code ns op.Raise line) (One code op.Discard line)) d2 d3) marks2 r in
-    let poll : Puts 4 (λ code. PollAt code ms line) d3 d4 = subst (λ (ns : List Mark). Puts 4 (λ code. PollAt code ns line) d3 d4) marks3 t in
+    let raise : Puts 2 (λ code. Both (Risk code ms op.Raise line) (One code op.Discard line)) d2 d3 = subst (λ (ns : List CodeMark). Puts 2 (λ code. Both (Risk code ns op.Raise line) (One code op.Discard line)) d2 d3) marks2 r in
+    let poll : Puts 4 (λ code. PollAt code ms line) d3 d4 = subst (λ (ns : List CodeMark). Puts 4 (λ code. PollAt code ns line) d3 d4) marks3 t in
     let all = puts_both (one_stable (op.Accept site guards (ask + 8)) line) (puts_adds p) (puts_both (one_stable (op.Failed (ask + 4)) line) (puts_adds q) (puts_both (both (risk_stable ms op.Raise line) (one_stable op.Discard line)) raise poll)) in
     record { rest = all.rest; kept = all.kept; room = all.room; code = accept_of (laid_in d4) ms site guards line (ask + 4) (ask + 8) (length d0.ops) (length d4.ops) (ap (λ (x : ℕ). x + 4) e) (ap (λ (x : ℕ). x + 8) e) all.code }
 
@@ -143,7 +143,7 @@ holes_more line count d0 d1 d2 h g = adds_as (adds_both (holes_stable line count
 module _ (p : Program) (line site count choose : ℕ) (xs : List Clause) (d0 d1 d2 d3 d4 d5 : Draft) (se : site ≡ d0.sites) (ne : count ≡ length xs) (ad : d1 ≡ record d0 { sites = d0.sites + 1 })
     (g : Adds (guards_room xs) (GuardsCode line d1.marks (context_in p d1) xs) d1 d2) (q : Puts 8 (λ code. AcceptsAt code d2.marks site count line) d2 d3) (ce : choose ≡ length d3.ops) (c : Adds 1 (OpCode line (op.Choose count 0)) d3 d4)
     (h : Adds (length xs + 1) (HolesCode line (length xs + 1)) d4 d5) where
-  abbrev around : List Mark
+  abbrev around : List CodeMark
   around = d0.marks
 
   abbrev many : ℕ
@@ -160,7 +160,7 @@ module _ (p : Program) (line site count choose : ℕ) (xs : List Clause) (d0 d1 
       let marks : d2.marks ≡ around = ap (λ (d : Draft). d.marks) g.rest ∙ ap (λ (d : Draft). d.marks) ad in
       subst (λ (k : ℕ). Puts 8 (λ code. AcceptsAt code around d0.sites k line) d2 d3) ne (
       subst (λ (k : ℕ). Puts 8 (λ code. AcceptsAt code around k count line) d2 d3) se (
-      subst (λ (ns : List Mark). Puts 8 (λ code. AcceptsAt code ns site count line) d2 d3) marks q))
+      subst (λ (ns : List CodeMark). Puts 8 (λ code. AcceptsAt code ns site count line) d2 d3) marks q))
 
   chooses : Adds 1 (OpCode line (op.Choose many 0)) d3 d4
   chooses = subst (λ (k : ℕ). Adds 1 (OpCode line (op.Choose k 0)) d3 d4) ne c
@@ -186,7 +186,7 @@ guard_is : (p : Program) (s : Scope) (g : Option expr.Expr) → guard_meant (con
 guard_is p s None = refl
 guard_is p s (Some e) = refl
 
-guards_are : (p : Program) (line : ℕ) (ns : List Mark) (xs : List Clause) (other : MaybeStmt) (s t : Scope) (code : Laid) (a z : ℕ) → GuardsCode line ns (context_at p s) xs code a z → GuardsAt code ns line (clauses_meant p (clauses_of xs) s (else_meant p other t)) a z
+guards_are : (p : Program) (line : ℕ) (ns : List CodeMark) (xs : List Clause) (other : MaybeStmt) (s t : Scope) (code : Laid) (a z : ℕ) → GuardsCode line ns (context_at p s) xs code a z → GuardsAt code ns line (clauses_meant p (clauses_of xs) s (else_meant p other t)) a z
 guards_are p line ns [] NoStmt s t code a z h = h
 guards_are p line ns [] (OneStmt body) s t code a z h = h
 guards_are p line ns (Accepts place guard members body ∷ xs) other s t code a z h = record {
@@ -208,7 +208,7 @@ module _ (p : Program) (line choose first count end : ℕ) (xs : List Clause) (o
   abbrev t : Scope
   t = within_accept p s
 
-  abbrev ms : List Mark
+  abbrev ms : List CodeMark
   ms = d0.marks
 
   abbrev n : ℕ
@@ -306,7 +306,7 @@ module _ (p : Program) (line choose first count end : ℕ) (xs : List Clause) (o
       let m = ce in
       let was : BranchesAt l2 ms line meant o ps (length d2.ops) (length d1.ops) (length d2.ops) =
       subst (λ (u : Scope). BranchesAt l2 ms line (clauses_meant p (clauses_of xs) u (else_meant p other (scope_past_clauses p (clauses_of xs) u))) o ps (length d2.ops) (length d1.ops) (length d2.ops)) h.scope (
-      subst (λ (ns : List Mark). BranchesAt l2 ns line (clauses_meant p (clauses_of xs) (scope_of d1) (else_meant p other (scope_past_clauses p (clauses_of xs) (scope_of d1)))) o ps (length d2.ops) (length d1.ops) (length d2.ops)) marks_one (
+      subst (λ (ns : List CodeMark). BranchesAt l2 ns line (clauses_meant p (clauses_of xs) (scope_of d1) (else_meant p other (scope_past_clauses p (clauses_of xs) (scope_of d1)))) o ps (length d2.ops) (length d1.ops) (length d2.ops)) marks_one (
       subst (λ (k : ℕ). BranchesAt l2 d1.marks line (clauses_meant p (clauses_of xs) (scope_of d1) (else_meant p other (scope_past_clauses p (clauses_of xs) (scope_of d1)))) o ps (length d2.ops) k (length d2.ops)) long_jumping b.branches.code)) in
       (branches_stable ms line meant o ps (length d2.ops)).moves l2 now (length d1.ops) (length d2.ops) (same_after l2 choose (op.Choose n (length d2.ops)) (length d1.ops) (length d2.ops) (omega arith)) was
 
@@ -330,7 +330,7 @@ module _ (p : Program) (line choose first count end : ℕ) (xs : List Clause) (o
 
   done : LowersAccept p line xs other d0 last
   done =
-      let objects : size (objects_in d1.marks) ≡ size (objects_in ms) = ap (λ (ns : List Mark). size (objects_in ns)) marks_one in
+      let objects : size (objects_in d1.marks) ≡ size (objects_in ms) = ap (λ (ns : List CodeMark). size (objects_in ns)) marks_one in
       let l = rises_one in
       let m = rises_two in
       record {

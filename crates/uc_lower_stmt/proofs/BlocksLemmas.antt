@@ -3,8 +3,8 @@ use Rattle.std.proofs.Common.{◌≡◌, ℕ, suc, ◌+◌, ◌≤◌, ◌<◌, 
 use Rattle.std.specs.Prelude.{nat_le}
 use Rattle.std.proofs.lemmas.Bool.{lt-leb, le-leb}
 use Rattle.uc_tree.specs.Source.{CleanUp, Stmts, Then, Scoped, Built}
-use Rattle.uc_code.specs.declared.rows.Mark.{Mark}
-use Rattle.uc_code.specs.declared.rows.Mark.TheVariants as mark
+use Rattle.uc_code.specs.declared.rows.CodeMark.{CodeMark}
+use Rattle.uc_code.specs.declared.rows.CodeMark.TheVariants as mark
 use Rattle.uc_code.specs.declared.rows.Cleaning.{Cleaning}
 use Rattle.uc_code.specs.declared.rows.Cleaning.TheVariants as cleaning
 use Rattle.uc_code.specs.Drafts.{Draft}
@@ -24,26 +24,26 @@ use Rattle.uc_lower_stmt.proofs.Kept.{stmt_stable, stmts_stable}
 
 -- steps that are laid out
 
-module _ (code : Laid) (line : ℕ) (ms : List Mark) (a : ℕ) where
-  pub pending_rises : (ks : List Step) (ns : List Mark) (z : ℕ) → Pending code line ms a ks ns z → a ≤ z
+module _ (code : Laid) (line : ℕ) (ms : List CodeMark) (a : ℕ) where
+  pub pending_rises : (ks : List Step) (ns : List CodeMark) (z : ℕ) → Pending code line ms a ks ns z → a ≤ z
   pending_rises ks ns z Begins = omega arith
   pending_rises ks ns z (Done qs os y w s p at) = let l = pending_rises qs os y p in let m = (stmt_stable os s).rises code y w at in omega arith
   pending_rises ks ns z (Opened qs os y row c what p g) = pending_rises qs os y p
   pending_rises ks ns z (Parted qs os y row c what p g) = pending_rises qs os y p
 
-  pub pending_marks : (ks : List Step) (ns : List Mark) (z : ℕ) → Pending code line ms a ks ns z → length ms ≤ length ns
+  pub pending_marks : (ks : List Step) (ns : List CodeMark) (z : ℕ) → Pending code line ms a ks ns z → length ms ≤ length ns
   pending_marks ks ns z Begins = omega arith
   pending_marks ks ns z (Done qs os y w s p at) = pending_marks qs os y p
   pending_marks ks ns z (Opened qs os y row c what p g) = let l = pending_marks qs os y p in omega arith
   pending_marks ks ns z (Parted qs os y row c what p g) = let l = pending_marks qs os y p in omega arith
 
-  pub pending_routine : (ks : List Step) (ns : List Mark) (z : ℕ) → Pending code line ms a ks ns z → routine_in ns ≡ routine_in ms
+  pub pending_routine : (ks : List Step) (ns : List CodeMark) (z : ℕ) → Pending code line ms a ks ns z → routine_in ns ≡ routine_in ms
   pending_routine ks ns z Begins = refl
   pending_routine ks ns z (Done qs os y w s p at) = pending_routine qs os y p
   pending_routine ks ns z (Opened qs os y row c what p g) = pending_routine qs os y p
   pending_routine ks ns z (Parted qs os y row c what p g) = pending_routine qs os y p
 
-  pub pending_kept : (new : Laid) (ks : List Step) (ns : List Mark) (z : ℕ) → z ≤ length code.ops → Kept code new → Pending code line ms a ks ns z → Pending new line ms a ks ns z
+  pub pending_kept : (new : Laid) (ks : List Step) (ns : List CodeMark) (z : ℕ) → z ≤ length code.ops → Kept code new → Pending code line ms a ks ns z → Pending new line ms a ks ns z
   pending_kept new ks ns z l k Begins = Begins
   pending_kept new ks ns z l k (Done qs os y w s p at) =
       let m = (stmt_stable os s).rises code y w at in
@@ -51,7 +51,7 @@ module _ (code : Laid) (line : ℕ) (ms : List Mark) (a : ℕ) where
   pending_kept new ks ns z l k (Opened qs os y row c what p g) = Opened qs os y row c what (pending_kept new qs os y l k p) g
   pending_kept new ks ns z l k (Parted qs os y row c what p g) = Parted qs os y row c what (pending_kept new qs os y l k p) g
 
-  pub pending_join : (ks : List Step) (ns : List Mark) (y : ℕ) → Pending code line ms a ks ns y → (js : List Step) (os : List Mark) (z : ℕ) → Pending code line ns y js os z → Pending code line ms a (js ++ ks) os z
+  pub pending_join : (ks : List Step) (ns : List CodeMark) (y : ℕ) → Pending code line ms a ks ns y → (js : List Step) (os : List CodeMark) (z : ℕ) → Pending code line ns y js os z → Pending code line ms a (js ++ ks) os z
   pending_join ks ns y p js os z Begins = p
   pending_join ks ns y p js os z (Done qs ps x w s q at) = Done (qs ++ ks) ps x w s (pending_join ks ns y p qs ps x q) at
   pending_join ks ns y p js os z (Opened qs ps x row c what q g) = Opened (qs ++ ks) ps x row c what (pending_join ks ns y p qs ps x q) g
@@ -59,11 +59,11 @@ module _ (code : Laid) (line : ℕ) (ms : List Mark) (a : ℕ) where
 
   -- where statements at the end of a block have taken up those before them: the whole block stands, or the scope of an object is the
   -- innermost that is left
-  pub data Taken (ns : List Mark) (z : ℕ) (whole : Stmts) : Type 0 where
+  pub data Taken (ns : List CodeMark) (z : ℕ) (whole : Stmts) : Type 0 where
     Whole : ns ≡ ms → StmtsAt code ns line whole a z → Taken ns z whole
-    Within : (ks : List Step) (os : List Mark) (y row : ℕ) (c : CleanUp) (what : Cleaning) (ss : Stmts) → NoCall c → NoParts ks → ns ≡ mark.Clean what line row ∷ os → Pending code line ms a ks os y → Cleans c what → StmtsAt code ns line ss y z → block_of ks (Scoped c ss) ≡ whole → Taken ns z whole
+    Within : (ks : List Step) (os : List CodeMark) (y row : ℕ) (c : CleanUp) (what : Cleaning) (ss : Stmts) → NoCall c → NoParts ks → ns ≡ mark.Clean what line row ∷ os → Pending code line ms a ks os y → Cleans c what → StmtsAt code ns line ss y z → block_of ks (Scoped c ss) ≡ whole → Taken ns z whole
 
-  pub taken_up : (ks : List Step) (ns : List Mark) (y z : ℕ) (ss : Stmts) → NoParts ks → Pending code line ms a ks ns y → StmtsAt code ns line ss y z → Taken ns z (block_of ks ss)
+  pub taken_up : (ks : List Step) (ns : List CodeMark) (y z : ℕ) (ss : Stmts) → NoParts ks → Pending code line ms a ks ns y → StmtsAt code ns line ss y z → Taken ns z (block_of ks ss)
   taken_up ks ns y z ss n Begins h = Whole refl h
   taken_up ks ns y z ss n (Done qs os x w s p at) h = taken_up qs os x z (Then s ss) n p (record { middle = y; first = at; second = h })
   taken_up ks ns y z ss n (Opened qs os x row c what p g) h = Within qs os y row c what ss n.0 n.1 refl p g h refl
@@ -116,7 +116,7 @@ clean_some c what line Ended x = refl
 clean_some c what line (Freed main) x = refl
 clean_some c what line (Restored cell) x = refl
 
-clean_scope : (m : Mark) (ms : List Mark) (o : ObjectScope) → scope_at m ≡ Some o → AllBehind (m ∷ ms) → InScope o.what o.line (m ∷ ms) × (leaves o.what ≡ false)
+clean_scope : (m : CodeMark) (ms : List CodeMark) (o : ObjectScope) → scope_at m ≡ Some o → AllBehind (m ∷ ms) → InScope o.what o.line (m ∷ ms) × (leaves o.what ≡ false)
 clean_scope (mark.Clean what line row) ms o e b =
     let f = clean_by what line o e in
     (record { row = row; outer = ms; is = ap (λ (x : Cleaning). mark.Clean x line row ∷ ms) f.0 ∙ ap (λ (x : ℕ). mark.Clean o.what x row ∷ ms) f.1.0; behind = subst (λ (x : Cleaning). CleansBehind ms x) f.0 b.0 }, f.1.1)
@@ -129,28 +129,28 @@ clean_scope (mark.Part row) ms o e b = absurd (none_some o e)
 clean_scope (mark.Elements row) ms o e b = absurd (none_some o e)
 clean_scope (mark.Outward below row) ms o e b = absurd (none_some o e)
 
-innermost_scope : (b : Bool) (ms : List Mark) (o : ObjectScope) → innermost_by b ms ≡ Some o → AllBehind ms → InScope o.what o.line ms × (leaves o.what ≡ false)
+innermost_scope : (b : Bool) (ms : List CodeMark) (o : ObjectScope) → innermost_by b ms ≡ Some o → AllBehind ms → InScope o.what o.line ms × (leaves o.what ≡ false)
 innermost_scope true ms o e b = absurd (none_some o e)
 innermost_scope false [] o e b = absurd (none_some o e)
 innermost_scope false (m ∷ ms) o e b = clean_scope m ms o e b
 
-pub in_scope : (ms : List Mark) (count : ℕ) (o : ObjectScope) → innermost_in ms count ≡ Some o → AllBehind ms → InScope o.what o.line ms
+pub in_scope : (ms : List CodeMark) (count : ℕ) (o : ObjectScope) → innermost_in ms count ≡ Some o → AllBehind ms → InScope o.what o.line ms
 in_scope ms count o e b = (innermost_scope (nat_le (length ms) count) ms o e b).0
 
-pub no_call : (ms : List Mark) (count : ℕ) (o : ObjectScope) → innermost_in ms count ≡ Some o → AllBehind ms → leaves o.what ≡ false
+pub no_call : (ms : List CodeMark) (count : ℕ) (o : ObjectScope) → innermost_in ms count ≡ Some o → AllBehind ms → leaves o.what ≡ false
 no_call ms count o e b = (innermost_scope (nat_le (length ms) count) ms o e b).1
 
-few_marks : (ms : List Mark) (count : ℕ) (o : ObjectScope) → length ms ≤ count → innermost_in ms count ≡ Some o → ⊥
+few_marks : (ms : List CodeMark) (count : ℕ) (o : ObjectScope) → length ms ≤ count → innermost_in ms count ≡ Some o → ⊥
 few_marks ms count o l e = none_some o (sym (ap (λ (b : Bool). innermost_by b ms) (le-leb (length ms) count l)) ∙ e)
 
-many_marks : (ms : List Mark) (count row line : ℕ) (c : CleanUp) (what : Cleaning) (os : List Mark) → Cleans c what → NoCall c → ms ≡ mark.Clean what line row ∷ os → count ≤ length os → innermost_in ms count ≡ None → ⊥
+many_marks : (ms : List CodeMark) (count row line : ℕ) (c : CleanUp) (what : Cleaning) (os : List CodeMark) → Cleans c what → NoCall c → ms ≡ mark.Clean what line row ∷ os → count ≤ length os → innermost_in ms count ≡ None → ⊥
 many_marks ms count row line c what os g x e l n =
-    let t : innermost_in (mark.Clean what line row ∷ os) count ≡ None = ap (λ (xs : List Mark). innermost_in xs count) (sym e) ∙ n in
+    let t : innermost_in (mark.Clean what line row ∷ os) count ≡ None = ap (λ (xs : List CodeMark). innermost_in xs count) (sym e) ∙ n in
     let f : nat_le (length (mark.Clean what line row ∷ os)) count ≡ false = lt-leb (length (mark.Clean what line row ∷ os)) count (omega arith) in
     none_some (record { what = what; line = line }) (sym t ∙ (ap (λ (b : Bool). innermost_by b (mark.Clean what line row ∷ os)) f ∙ clean_some c what line g x))
 
 -- the end of the scope of that mark is reckoned
-pub scope_room : (what : Cleaning) (line : ℕ) (ms : List Mark) → InScope what line ms → close_room what ≤ closing ms
+pub scope_room : (what : Cleaning) (line : ℕ) (ms : List CodeMark) → InScope what line ms → close_room what ≤ closing ms
 scope_room what line ms h = let e : closing ms ≡ close_room what + closing h.outer = ap closing h.is in omega (arith, e)
 
 -- how scopes end, one after another
@@ -163,11 +163,11 @@ ending_none count d = record {
   block = λ line a y ks ms ss l n p h. record { steps = ks; none = n; behind = ss; middle = y; before = p; code = h; same = refl };
 }
 
-same_mark : (what : Cleaning) (line row : ℕ) (os : List Mark) (w : Cleaning) (k r : ℕ) (ps : List Mark) → mark.Clean what line row ∷ os ≡ mark.Clean w k r ∷ ps → (what ≡ w) × (line ≡ k)
+same_mark : (what : Cleaning) (line row : ℕ) (os : List CodeMark) (w : Cleaning) (k r : ℕ) (ps : List CodeMark) → mark.Clean what line row ∷ os ≡ mark.Clean w k r ∷ ps → (what ≡ w) × (line ≡ k)
 same_mark what line row os w k r ps e = (cc, cc)
 
 module _ (count : ℕ) (scope : ObjectScope) (now next : Draft) (at : innermost_in now.marks count ≡ Some scope) (all : AllBehind now.marks) (h : ClosesScope (close_room scope.what) scope.what scope.line now next) where
-  scope_next : (line : ℕ) (ms : List Mark) (whole : Stmts) (a : ℕ) → length ms ≡ count → Unended line ms whole a now → Unended line ms whole a next
+  scope_next : (line : ℕ) (ms : List CodeMark) (whole : Stmts) (a : ℕ) → length ms ≡ count → Unended line ms whole a now → Unended line ms whole a next
   scope_next line ms whole a l u = by_taken (taken_up (laid_in now) line ms a u.steps now.marks u.middle (length now.ops) u.behind u.none u.before u.code)
     where
       by_taken : Taken (laid_in now) line ms a now.marks (length now.ops) (block_of u.steps u.behind) → Unended line ms whole a next
@@ -179,7 +179,7 @@ module _ (count : ℕ) (scope : ObjectScope) (now next : Draft) (at : innermost_
           let ends = h.scope row os f in
           let marks : next.marks ≡ os = h.marks row os f in
           let body : StmtsAt (laid_in next) (mark.Clean what line row ∷ os) line ss y (length now.ops) =
-          subst (λ (xs : List Mark). StmtsAt (laid_in next) xs line ss y (length now.ops)) e (kept_piece (λ k. StmtsAt k now.marks line ss) (stmts_stable now.marks line ss) (laid_in now) (laid_in next) y (length now.ops) (omega arith) h.kept s) in
+          subst (λ (xs : List CodeMark). StmtsAt (laid_in next) xs line ss y (length now.ops)) e (kept_piece (λ k. StmtsAt k now.marks line ss) (stmts_stable now.marks line ss) (laid_in now) (laid_in next) y (length now.ops) (omega arith) h.kept s) in
           let rises = (stmts_stable now.marks line ss).rises (laid_in now) y (length now.ops) s in
           let there = pending_kept (laid_in now) line ms a (laid_in next) ks os y (omega arith) h.kept p in
           let ended =
@@ -193,8 +193,8 @@ module _ (count : ℕ) (scope : ObjectScope) (now next : Draft) (at : innermost_
             none = n;
             behind = Scoped c ss;
             middle = y;
-            before = subst (λ (xs : List Mark). Pending (laid_in next) line ms a ks xs y) (sym marks) there;
-            code = subst (λ (xs : List Mark). StmtsAt (laid_in next) xs line (Scoped c ss) y (length next.ops)) (sym marks) (record { what = what; cleans = g; scope = ended });
+            before = subst (λ (xs : List CodeMark). Pending (laid_in next) line ms a ks xs y) (sym marks) there;
+            code = subst (λ (xs : List CodeMark). StmtsAt (laid_in next) xs line (Scoped c ss) y (length next.ops)) (sym marks) (record { what = what; cleans = g; scope = ended });
             same = q ∙ u.same;
           }
 
@@ -226,11 +226,11 @@ scopes_ended count old now none u = record {
   block = λ line a y ks ms ss l n p h. stands line ms (block_of ks ss) a l (u.block line a y ks ms ss l n p h);
 }
   where
-    stands : (line : ℕ) (ms : List Mark) (whole : Stmts) (a : ℕ) → length ms ≡ count → Unended line ms whole a now → BlockStands line ms whole a now
+    stands : (line : ℕ) (ms : List CodeMark) (whole : Stmts) (a : ℕ) → length ms ≡ count → Unended line ms whole a now → BlockStands line ms whole a now
     stands line ms whole a l w = by_taken (taken_up (laid_in now) line ms a w.steps now.marks w.middle (length now.ops) w.behind w.none w.before w.code)
       where
         by_taken : Taken (laid_in now) line ms a now.marks (length now.ops) (block_of w.steps w.behind) → BlockStands line ms whole a now
-        by_taken (Whole e s) = record { marks = e; code = subst (λ (ss : Stmts). StmtsAt (laid_in now) ms line ss a (length now.ops)) w.same (subst (λ (xs : List Mark). StmtsAt (laid_in now) xs line (block_of w.steps w.behind) a (length now.ops)) e s) }
+        by_taken (Whole e s) = record { marks = e; code = subst (λ (ss : Stmts). StmtsAt (laid_in now) ms line ss a (length now.ops)) w.same (subst (λ (xs : List CodeMark). StmtsAt (laid_in now) xs line (block_of w.steps w.behind) a (length now.ops)) e s) }
         by_taken (Within ks os y row c what ss x n e p g s q) =
             let k = pending_marks (laid_in now) line ms a ks os y p in
             absurd (many_marks now.marks count row line c what os g x e (omega arith) none)

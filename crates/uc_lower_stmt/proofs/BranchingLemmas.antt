@@ -13,7 +13,7 @@ use Rattle.uc_tree.specs.Statements.{Accepts, Clause, MaybeStmt, NoStmt, OneStmt
 use Rattle.uc_tree.specs.StatementSizes.{clauses_size, maybe_stmt_size}
 use Rattle.uc_resolve.specs.Resolve.{Scope, clauses_meant, else_meant, maybe_meant, scope_past, scope_past_clauses, stmt_meant}
 use Rattle.uc_code.specs.declared.op.Op.TheVariants as op
-use Rattle.uc_code.specs.declared.rows.Mark.{Mark}
+use Rattle.uc_code.specs.declared.rows.CodeMark.{CodeMark}
 use Rattle.uc_code.specs.Drafts.{Draft, patched}
 use Rattle.uc_code.specs.Layout.{Laid, laid_in}
 use Rattle.uc_code.specs.CodeShapes.{Kept, One, OpAt, Stable}
@@ -33,7 +33,7 @@ use Rattle.uc_lower_stmt.proofs.Kept.{branches_stable, stmt_stable}
 
 -- without a clause
 
-else_at_end : (p : Program) (line otherwise : ℕ) (other : MaybeStmt) (s : Scope) (ms : List Mark) (code : Laid) (a z : ℕ) → otherwise ≡ a → StmtAt code ms (maybe_meant p other s) a z → BranchesAt code ms line (else_meant p other s) otherwise [] z a z
+else_at_end : (p : Program) (line otherwise : ℕ) (other : MaybeStmt) (s : Scope) (ms : List CodeMark) (code : Laid) (a z : ℕ) → otherwise ≡ a → StmtAt code ms (maybe_meant p other s) a z → BranchesAt code ms line (else_meant p other s) otherwise [] z a z
 else_at_end p line otherwise NoStmt s ms code a z e h = record { goes = e ∙ sym h.end; none = refl; nothing = h.end }
 else_at_end p line otherwise (OneStmt body) s ms code a z e h = record { here = e; none = refl; body = h }
 
@@ -71,7 +71,7 @@ module _ (p : Program) (line else_at first here leave end : ℕ) (place : Pos) (
   abbrev s : Scope
   s = scope_of d0
 
-  abbrev ms : List Mark
+  abbrev ms : List CodeMark
   ms = d0.marks
 
   abbrev o : ℕ
@@ -149,7 +149,7 @@ module _ (p : Program) (line else_at first here leave end : ℕ) (place : Pos) (
   four =
       subst (λ (t : Scope). Lowers (size (objects_in ms)) (clauses_size (clauses_of xs) + maybe_stmt_size other) (clauses_cells (clauses_of xs) (declared_cells p) + maybe_cells other (declared_cells p)) (clauses_scopes (clauses_of xs) + maybe_scopes other)
       (BranchesCode p line ms xs other t o ps) (past_branches p xs other t) (set d3) d4) scope_three (
-      subst (λ (ns : List Mark). Lowers (size (objects_in ns)) (clauses_size (clauses_of xs) + maybe_stmt_size other) (clauses_cells (clauses_of xs) (declared_cells p) + maybe_cells other (declared_cells p)) (clauses_scopes (clauses_of xs) + maybe_scopes other)
+      subst (λ (ns : List CodeMark). Lowers (size (objects_in ns)) (clauses_size (clauses_of xs) + maybe_stmt_size other) (clauses_cells (clauses_of xs) (declared_cells p) + maybe_cells other (declared_cells p)) (clauses_scopes (clauses_of xs) + maybe_scopes other)
       (BranchesCode p line ns xs other (scope_of d3) o ps) (past_branches p xs other (scope_of d3)) (set d3) d4) marks_three b.branches)
 
   abbrev was : Laid

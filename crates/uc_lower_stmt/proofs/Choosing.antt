@@ -13,7 +13,7 @@ use Rattle.uc_tree.specs.Source.{Expr}
 use Rattle.uc_resolve.specs.Resolve.{Scope, meant, value_of, stmt_meant, maybe_meant, scope_past}
 use Rattle.uc_code.specs.declared.op.Op.TheVariants as op
 use Rattle.uc_code.specs.declared.rows.Instruction.{Instruction}
-use Rattle.uc_code.specs.declared.rows.Mark.{Mark}
+use Rattle.uc_code.specs.declared.rows.CodeMark.{CodeMark}
 use Rattle.uc_code.specs.Drafts.{Draft, patched}
 use Rattle.uc_code.specs.Layout.{Laid, laid_in}
 use Rattle.uc_code.specs.CodeShapes.{Both, Fork}
@@ -30,18 +30,18 @@ use Rattle.uc_lower_stmt.proofs.Kept.{stmt_stable}
 use Rattle.uc_lower_stmt.proofs.Shaping.{Longer, adds_longer, lowers_longer, longer_both, longer_fork, lowers_done}
 
 -- a statement under these marks, in this scope
-abbrev pub AloneIn : Program → Stmt → List Mark → Scope → Draft → Draft → Type 0
+abbrev pub AloneIn : Program → Stmt → List CodeMark → Scope → Draft → Draft → Type 0
 AloneIn p s ms t old new = Lowers (OPS_FOR_SIZE * size_at s (objects_in ms)) (stmt_size s) (stmt_cells s (declared_cells p)) (alone_scopes s + stmt_scopes s) (λ code. StmtAt code ms (stmt_meant p s t)) (scope_past p s t) old new
 
 -- the same code under other names of the same marks and scope
-pub alone_as : (p : Program) (s : Stmt) (ms : List Mark) (t : Scope) (d old new : Draft) → d.marks ≡ ms → scope_of d ≡ t → AloneIn p s d.marks (scope_of d) old new → AloneIn p s ms t old new
-alone_as p s ms t d old new e f h = subst (λ (u : Scope). AloneIn p s ms u old new) f (subst (λ (ns : List Mark). AloneIn p s ns (scope_of d) old new) e h)
+pub alone_as : (p : Program) (s : Stmt) (ms : List CodeMark) (t : Scope) (d old new : Draft) → d.marks ≡ ms → scope_of d ≡ t → AloneIn p s d.marks (scope_of d) old new → AloneIn p s ms t old new
+alone_as p s ms t d old new e f h = subst (λ (u : Scope). AloneIn p s ms u old new) f (subst (λ (ns : List CodeMark). AloneIn p s ns (scope_of d) old new) e h)
 
-abbrev pub MaybeIn : Program → MaybeStmt → List Mark → Scope → Draft → Draft → Type 0
+abbrev pub MaybeIn : Program → MaybeStmt → List CodeMark → Scope → Draft → Draft → Type 0
 MaybeIn p m ms t old new = Lowers (OPS_FOR_SIZE * maybe_at_size m (objects_in ms)) (maybe_stmt_size m) (maybe_cells m (declared_cells p)) (maybe_scopes m) (λ code. StmtAt code ms (maybe_meant p m t)) (maybe_past p m t) old new
 
-pub maybe_as : (p : Program) (m : MaybeStmt) (ms : List Mark) (t : Scope) (d old new : Draft) → d.marks ≡ ms → scope_of d ≡ t → MaybeIn p m d.marks (scope_of d) old new → MaybeIn p m ms t old new
-maybe_as p m ms t d old new e f h = subst (λ (u : Scope). MaybeIn p m ms u old new) f (subst (λ (ns : List Mark). MaybeIn p m ns (scope_of d) old new) e h)
+pub maybe_as : (p : Program) (m : MaybeStmt) (ms : List CodeMark) (t : Scope) (d old new : Draft) → d.marks ≡ ms → scope_of d ≡ t → MaybeIn p m d.marks (scope_of d) old new → MaybeIn p m ms t old new
+maybe_as p m ms t d old new e f h = subst (λ (u : Scope). MaybeIn p m ms u old new) f (subst (λ (ns : List CodeMark). MaybeIn p m ns (scope_of d) old new) e h)
 
 module _ (p : Program) (line : ℕ) (test : tree.Expr) (chosen : Stmt) (other : MaybeStmt) (old e1 e2 e3 e4 e5 new : Draft) (choose leave : ℕ)
     (a : Adds (OPS_FOR_SIZE * expr_size test) (ExprCode line old.marks (value_of (meant (context_in p old) test))) old e1) (ce : choose ≡ length e1.ops) (b : Adds 1 (OpCode line (op.IfZero 0)) e1 e2) (h : LowersAlone p chosen e2 e3)
@@ -50,7 +50,7 @@ module _ (p : Program) (line : ℕ) (test : tree.Expr) (chosen : Stmt) (other : 
   abbrev s : Scope
   s = scope_of old
 
-  abbrev ms : List Mark
+  abbrev ms : List CodeMark
   ms = old.marks
 
   abbrev value : Expr

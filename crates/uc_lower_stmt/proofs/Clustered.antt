@@ -9,7 +9,7 @@ use Rattle.uc_tree.specs.Programs.{Program}
 use Rattle.uc_tree.specs.Source.{Bind, Expr, NewCluster, NewProcessor, OfObject}
 use Rattle.uc_resolve.specs.Resolve.{args_meant, cluster_in, meant}
 use Rattle.uc_code.specs.declared.op.Op.TheVariants as op
-use Rattle.uc_code.specs.declared.rows.Spot.{Spot}
+use Rattle.uc_code.specs.declared.rows.ObjectSpot.{ObjectSpot}
 use Rattle.uc_code.specs.Drafts.{Draft}
 use Rattle.uc_code.specs.Lowered.{spot_op}
 use Rattle.uc_code.specs.ObjectCalls.{BeginsAt}
@@ -20,7 +20,7 @@ use Rattle.uc_lower_expr.proofs.Adding.{adds_as, adds_both, adds_more}
 use Rattle.uc_lower_expr.proofs.Settled.{both, expr_stable}
 use Rattle.uc_lower_stmt.proofs.Building.{begins}
 
-pub arm_cluster : (line : ℕ) (spot : Spot) (old d1 d2 new : Draft) → Adds 1 (OpCode line (spot_op spot)) old d1 → Adds 1 (OpCode line op.Cluster) d1 d2 → Adds 1 (OpCode line op.Bind) d2 new
+pub arm_cluster : (line : ℕ) (spot : ObjectSpot) (old d1 d2 new : Draft) → Adds 1 (OpCode line (spot_op spot)) old d1 → Adds 1 (OpCode line op.Cluster) d1 d2 → Adds 1 (OpCode line op.Bind) d2 new
     → (place : Expr) → BeginsAt place spot → Adds 3 (ExprCode line old.marks (OfObject (Bind place (OfObject NewCluster)))) old new
 arm_cluster line spot old d1 d2 new a b c place at =
     adds_as (adds_both (one_stable (spot_op spot) line) a (adds_both (one_stable op.Cluster line) b c)) (λ code x z h. record { middle = h.middle; first = begins code line old.marks place spot at x h.middle h.first; second = h.second })
@@ -43,7 +43,7 @@ pub cluster_first : (p : Program) (xs : List tree.Expr) (line : ℕ) (old new : 
 cluster_first p [] line old new e h = adds_more (omega arith) h
 cluster_first p (x ∷ xs) line old new e h = cc
 
-pub arm_processor : (n line : ℕ) (cluster : Expr) (spot : Spot) (old d1 d2 d3 new : Draft) → Adds 1 (OpCode line (spot_op spot)) old d1 → Adds (n + 1) (ExprCode line old.marks cluster) d1 d2 → Adds 1 (OpCode line op.Processor) d2 d3 → Adds 1 (OpCode line op.Bind) d3 new
+pub arm_processor : (n line : ℕ) (cluster : Expr) (spot : ObjectSpot) (old d1 d2 d3 new : Draft) → Adds 1 (OpCode line (spot_op spot)) old d1 → Adds (n + 1) (ExprCode line old.marks cluster) d1 d2 → Adds 1 (OpCode line op.Processor) d2 d3 → Adds 1 (OpCode line op.Bind) d3 new
     → (place : Expr) → BeginsAt place spot → Adds (n + 4) (ExprCode line old.marks (OfObject (Bind place (OfObject (NewProcessor cluster))))) old new
 arm_processor n line cluster spot old d1 d2 d3 new a b c d place at =
     adds_more (omega arith) (

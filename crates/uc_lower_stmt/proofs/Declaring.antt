@@ -20,7 +20,7 @@ use Rattle.uc_tree.specs.Source.{Shape, Expr}
 use Rattle.uc_tree.specs.Objects.{shape_of}
 use Rattle.uc_resolve.specs.Resolve.{Scope, meant, value_of, converted, start_meant, first_value, declared_type, declared_known, declared_meant, all_declared, with_declared, with_all}
 use Rattle.uc_code.specs.declared.op.Op.TheVariants as op
-use Rattle.uc_code.specs.declared.rows.Mark.{Mark}
+use Rattle.uc_code.specs.declared.rows.CodeMark.{CodeMark}
 use Rattle.uc_code.specs.Drafts.{Draft}
 use Rattle.uc_code.specs.Layout.{Laid}
 use Rattle.uc_code.specs.CodeShapes.{One, Both}
@@ -36,7 +36,7 @@ use Rattle.uc_lower_stmt.specs.Pieces.{StartCode, VariablesCode}
 use Rattle.uc_lower_stmt.proofs.Kept.{variables_stable}
 use Rattle.uc_lower_stmt.proofs.Joined.{lowers_as, lowers_join}
 
-pub arm_first : (n line : ℕ) (ms : List Mark) (cell : ℕ) (s : Shape) (e : Expr) (d0 d1 d2 d3 d4 : Draft) → Adds 1 (OpCode line (op.Local cell)) d0 d1 → Adds n (ExprCode line ms e) d1 d2 → Adds 1 (ConvertCode line s) d2 d3 → Adds 1 (OpCode line op.Store) d3 d4 → Adds (n + 3) (StartCode line ms cell (Some (converted s e))) d0 d4
+pub arm_first : (n line : ℕ) (ms : List CodeMark) (cell : ℕ) (s : Shape) (e : Expr) (d0 d1 d2 d3 d4 : Draft) → Adds 1 (OpCode line (op.Local cell)) d0 d1 → Adds n (ExprCode line ms e) d1 d2 → Adds 1 (ConvertCode line s) d2 d3 → Adds 1 (OpCode line op.Store) d3 d4 → Adds (n + 3) (StartCode line ms cell (Some (converted s e))) d0 d4
 arm_first n line ms cell s e d0 d1 d2 d3 d4 h1 h2 h3 h4 =
     let value : Adds (n + 1) (ExprCode line ms (converted s e)) d1 d3 = adds_as (adds_both (expr_stable line ms e) h2 h3) (λ code x z h. converted_at ms line s e code x z h) in
     adds_more (omega arith) (adds_both (one_stable (op.Local cell) line) h1 (adds_both (expr_stable line ms (converted s e)) value h4))
@@ -124,7 +124,7 @@ arm_declared p b d line cell cells name ty x st d0 d1 d2 new le ce xe se ne te h
 
 -- lists of declarators
 
-variables_push : (p : Program) (b : Base) (line : ℕ) (ms : List Mark) (code : Laid) (xs : List Declarator) (x : Declarator) (s : Scope) (a y z : ℕ) → VariablesAt code line ms (all_declared p s b xs) a y → VariablesAt code line ms (declared_meant p (with_all p s b xs) b x ∷ []) y z → VariablesAt code line ms (all_declared p s b (xs ++ x ∷ [])) a z
+variables_push : (p : Program) (b : Base) (line : ℕ) (ms : List CodeMark) (code : Laid) (xs : List Declarator) (x : Declarator) (s : Scope) (a y z : ℕ) → VariablesAt code line ms (all_declared p s b xs) a y → VariablesAt code line ms (declared_meant p (with_all p s b xs) b x ∷ []) y z → VariablesAt code line ms (all_declared p s b (xs ++ x ∷ [])) a z
 variables_push p b line ms code [] x s a y z h g = subst (λ w. VariablesAt code line ms (declared_meant p s b x ∷ []) w z) h.end g
 variables_push p b line ms code (d ∷ ds) x s a y z h g = record {
   middle = h.middle;
@@ -162,7 +162,7 @@ declarators_step p b xs i x line old mid new h e g k =
     let s : Scope = scope_of old in
     let split : ys ++ x ∷ [] ≡ take (i + 1) xs = ap (λ (y : Declarator). ys ++ y ∷ []) e ∙ sym (take_more xs i x h) in
     let k0 : Lowers (OPS_FOR_SIZE * declarator_size x) 0 (declared_cells p b x) 0 (VariablesCode line old.marks (declared_meant p (scope_of mid) b x ∷ [])) (with_declared p (scope_of mid) b x) mid new =
-    subst (λ (l : List Mark). Lowers (OPS_FOR_SIZE * declarator_size x) 0 (declared_cells p b x) 0 (VariablesCode line l (declared_meant p (scope_of mid) b x ∷ [])) (with_declared p (scope_of mid) b x) mid new) (ap (λ (d : Draft). d.marks) g.rest) k in
+    subst (λ (l : List CodeMark). Lowers (OPS_FOR_SIZE * declarator_size x) 0 (declared_cells p b x) 0 (VariablesCode line l (declared_meant p (scope_of mid) b x ∷ [])) (with_declared p (scope_of mid) b x) mid new) (ap (λ (d : Draft). d.marks) g.rest) k in
     let k1 : Lowers (OPS_FOR_SIZE * declarator_size x) 0 (declared_cells p b x) 0 (VariablesCode line old.marks (declared_meant p (with_all p s b ys) b x ∷ [])) (with_declared p (with_all p s b ys) b x) mid new =
     subst (λ (t : Scope). Lowers (OPS_FOR_SIZE * declarator_size x) 0 (declared_cells p b x) 0 (VariablesCode line old.marks (declared_meant p t b x ∷ [])) (with_declared p t b x) mid new) g.scope k0 in
     subst (λ (zs : List Declarator). Lowers (OPS_FOR_SIZE * declarators_size zs) 0 (declarators_cells (declared_cells p b) zs) 0 (VariablesCode line old.marks (all_declared p s b zs)) (with_all p s b zs) old new) split (

@@ -19,8 +19,8 @@ use Rattle.uc_tree.specs.StatementSizes.{stmt_size}
 use Rattle.uc_resolve.specs.Resolve.{Scope, events_meant, events_named, number_of_event, scope_after, scope_past, stmt_meant, within_events}
 use Rattle.uc_code.specs.declared.op.Op.TheVariants as op
 use Rattle.uc_code.specs.declared.rows.Cleaning.TheVariants as cleaning
-use Rattle.uc_code.specs.declared.rows.Mark.{Mark}
-use Rattle.uc_code.specs.declared.rows.Mark.TheVariants as mark
+use Rattle.uc_code.specs.declared.rows.CodeMark.{CodeMark}
+use Rattle.uc_code.specs.declared.rows.CodeMark.TheVariants as mark
 use Rattle.uc_code.specs.declared.rows.Opening.TheVariants as opening
 use Rattle.uc_code.specs.CodeShapes.{Both, Kept, PollAt, Stable}
 use Rattle.uc_code.specs.Drafts.{Draft}
@@ -64,14 +64,14 @@ named_by_bits p es i n mask e l is number so =
 
 -- the op, and what is delivered
 
-pub switch_stable : (how : Enabling) (events cell line : ℕ) (ms : List Mark) → Stable (SwitchCode how events cell line ms)
+pub switch_stable : (how : Enabling) (events cell line : ℕ) (ms : List CodeMark) → Stable (SwitchCode how events cell line ms)
 switch_stable enabling.Enable events cell line ms = both (one_stable (op.Enable events cell) line) (poll_stable ms line)
 switch_stable enabling.Disable events cell line ms = one_stable (op.Disable events cell) line
 
 pub switched_on : (how : Enabling) (events cell line : ℕ) (d0 d1 d2 : Draft) → how ≡ enabling.Enable → Adds 1 (OpCode line (op.Enable events cell)) d0 d1 → Puts 4 (λ code. PollAt code d1.marks line) d1 d2 → Puts 5 (SwitchCode how events cell line d0.marks) d0 d2
 switched_on how events cell line d0 d1 d2 is h q =
     let marks : d1.marks ≡ d0.marks = ap (λ (d : Draft). d.marks) h.rest in
-    let poll : Puts 4 (λ code. PollAt code d0.marks line) d1 d2 = subst (λ (ms : List Mark). Puts 4 (λ code. PollAt code ms line) d1 d2) marks q in
+    let poll : Puts 4 (λ code. PollAt code d0.marks line) d1 d2 = subst (λ (ms : List CodeMark). Puts 4 (λ code. PollAt code ms line) d1 d2) marks q in
     subst (λ (k : Enabling). Puts 5 (SwitchCode k events cell line d0.marks) d0 d2) (sym is) (puts_both (one_stable (op.Enable events cell) line) (puts_adds h) poll)
 
 pub switched_off : (how : Enabling) (events cell line : ℕ) (d0 d1 : Draft) → how ≡ enabling.Disable → Adds 1 (OpCode line (op.Disable events cell)) d0 d1 → Puts 5 (SwitchCode how events cell line d0.marks) d0 d1
@@ -80,13 +80,13 @@ switched_off how events cell line d0 d1 is h =
 
 -- the statement in its scope
 
-abbrev Inside : Enabling → ℕ → ℕ → ℕ → source.Stmt → Laid → List Mark → ℕ → ℕ → Type 0
+abbrev Inside : Enabling → ℕ → ℕ → ℕ → source.Stmt → Laid → List CodeMark → ℕ → ℕ → Type 0
 Inside how events cell line s code ns = Both (SwitchCode how events cell line ns code) (StmtAt code ns s)
 
-inside_stable : (how : Enabling) (events cell line : ℕ) (s : source.Stmt) (ns : List Mark) → Stable (λ code. Inside how events cell line s code ns)
+inside_stable : (how : Enabling) (events cell line : ℕ) (s : source.Stmt) (ns : List CodeMark) → Stable (λ code. Inside how events cell line s code ns)
 inside_stable how events cell line s ns = both (switch_stable how events cell line ns) (stmt_stable ns s)
 
-event_at : (how : Enabling) (events cell line : ℕ) (s : source.Stmt) (code : Laid) (ms : List Mark) (a z : ℕ) → ScopedAt code line ms (Restores cell) (Inside how events cell line s code) a z → EventAt code ms (enabling_as how line events cell s) a z
+event_at : (how : Enabling) (events cell line : ℕ) (s : source.Stmt) (code : Laid) (ms : List CodeMark) (a z : ℕ) → ScopedAt code line ms (Restores cell) (Inside how events cell line s code) a z → EventAt code ms (enabling_as how line events cell s) a z
 event_at enabling.Enable events cell line s code ms a z h =
     let b = h.scope.body in
     record {
@@ -108,7 +108,7 @@ event_at enabling.Disable events cell line s code ms a z h = h
 -- a scope is opened behind one hidden cell more, and events are enabled or disabled in it
 
 module _ (how : Enabling) (line mask cell : ℕ) (d0 d1 d2 d3 : Draft) (h1 : d1 ≡ record d0 { hidden = d0.hidden + 1 }) (h2 : d2 ≡ opened (opening.Object (cleaning.Restore cell) line) d1) (h3 : Puts 5 (SwitchCode how mask cell line d2.marks) d2 d3) where
-  abbrev pub inner : Mark
+  abbrev pub inner : CodeMark
   inner = mark.Clean (cleaning.Restore cell) line (length d1.rows)
 
   pub scope_begun : d2 ≡ record d0 { rows = d2.rows; settled = d2.settled; marks = inner ∷ d0.marks; hidden = d0.hidden + 1 }
@@ -145,7 +145,7 @@ module _ (p : Program) (how : Enabling) (line mask cell : ℕ) (es : List EventN
   abbrev done : source.Stmt
   done = stmt_meant p body (within_events p (scope_of d0))
 
-  abbrev m : Mark
+  abbrev m : CodeMark
   m = mark.Clean (cleaning.Restore cell) line (length d1.rows)
 
   marks3 : d3.marks ≡ m ∷ d0.marks
@@ -179,8 +179,8 @@ module _ (p : Program) (how : Enabling) (line mask cell : ℕ) (es : List EventN
       let all = lowers_join (switch_stable how mask cell line d2.marks) (lowers_puts 0 0 h3) h4 in
       record {
         middle = all.code.middle;
-        first = subst (λ (a : ℕ). SwitchCode how mask cell line (m ∷ d0.marks) (laid_in d4) a all.code.middle) ops2 (subst (λ (ms : List Mark). SwitchCode how mask cell line ms (laid_in d4) (length d2.ops) all.code.middle) marks2 all.code.first);
-        second = subst (λ (t : Scope). StmtAt (laid_in d4) (m ∷ d0.marks) (stmt_meant p body t) all.code.middle (length d4.ops)) scope3 (subst (λ (ms : List Mark). StmtAt (laid_in d4) ms (stmt_meant p body (scope_of d3)) all.code.middle (length d4.ops)) marks3 all.code.second);
+        first = subst (λ (a : ℕ). SwitchCode how mask cell line (m ∷ d0.marks) (laid_in d4) a all.code.middle) ops2 (subst (λ (ms : List CodeMark). SwitchCode how mask cell line ms (laid_in d4) (length d2.ops) all.code.middle) marks2 all.code.first);
+        second = subst (λ (t : Scope). StmtAt (laid_in d4) (m ∷ d0.marks) (stmt_meant p body t) all.code.middle (length d4.ops)) scope3 (subst (λ (ms : List CodeMark). StmtAt (laid_in d4) ms (stmt_meant p body (scope_of d3)) all.code.middle (length d4.ops)) marks3 all.code.second);
       }
 
   module _ (h5 : ClosesScope 4 (cleaning.Restore cell) line d4 new) where
@@ -214,7 +214,7 @@ module _ (p : Program) (how : Enabling) (line mask cell : ℕ) (es : List EventN
         h5.rest
         ∙ ap (λ (x : Draft). let y : Draft = record x { ops = new.ops; rows = new.rows; settled = new.settled; marks = new.marks } in y) h4.rest
         ∙ ap (λ (x : Draft). let y : Draft = record x { ops = new.ops; rows = new.rows; settled = new.settled; marks = new.marks; scopes = d4.scopes; names = d4.names; cells = d4.cells; hidden = d4.hidden; texts = d4.texts; sites = d4.sites } in y) (is_switched how line mask cell d0 d1 d2 d3 h1 h2 h3)
-        ∙ ap (λ (ms : List Mark). let y : Draft = record d0 { ops = new.ops; rows = new.rows; settled = new.settled; marks = ms; scopes = d4.scopes; names = d4.names; cells = d4.cells; hidden = d4.hidden; texts = d4.texts; sites = d4.sites } in y) marks_new
+        ∙ ap (λ (ms : List CodeMark). let y : Draft = record d0 { ops = new.ops; rows = new.rows; settled = new.settled; marks = ms; scopes = d4.scopes; names = d4.names; cells = d4.cells; hidden = d4.hidden; texts = d4.texts; sites = d4.sites } in y) marks_new
 
     kept_new : Kept (laid_in d0) (laid_in new)
     kept_new =

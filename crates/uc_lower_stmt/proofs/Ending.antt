@@ -7,8 +7,8 @@ use Rattle.uc_tree.specs.Source.{ToReturn}
 use Rattle.uc_code.specs.declared.rows.Manner.{Manner}
 use Rattle.uc_code.specs.declared.rows.Manner.TheVariants as manner
 use Rattle.uc_code.specs.declared.rows.Resource.TheVariants as resource
-use Rattle.uc_code.specs.declared.rows.Mark.{Mark}
-use Rattle.uc_code.specs.declared.rows.Mark.TheVariants as mark
+use Rattle.uc_code.specs.declared.rows.CodeMark.{CodeMark}
+use Rattle.uc_code.specs.declared.rows.CodeMark.TheVariants as mark
 use Rattle.uc_code.specs.declared.rows.ObjectCall.{ObjectCall}
 use Rattle.uc_code.specs.declared.rows.Cleaning.{Cleaning}
 use Rattle.uc_code.specs.declared.rows.Cleaning.TheVariants as cleaning
@@ -26,11 +26,11 @@ use Rattle.uc_lower_stmt.specs.Objects.{InScope, InPart, ScopeEnds, PartEnds, Cl
 
 -- what stands in a scope, and its end
 
-pub scope_ended : (code : Laid) (line : ℕ) (ms : List Mark) (what : Cleaning) (row : ℕ) (B : List Mark → ℕ → ℕ → Type 0) (a y z : ℕ) → B (mark.Clean what line row ∷ ms) a y → ScopeEnds code line ms what row y z
+pub scope_ended : (code : Laid) (line : ℕ) (ms : List CodeMark) (what : Cleaning) (row : ℕ) (B : List CodeMark → ℕ → ℕ → Type 0) (a y z : ℕ) → B (mark.Clean what line row ∷ ms) a y → ScopeEnds code line ms what row y z
     → ScopeOf code line ms (λ r. mark.Clean what line r) (CleanAt code line what ms) (PadAt code line what ms) B a z
 scope_ended code line ms what row B a y z b h = record { row = row; body_end = y; clean_end = h.clean_end; body = b; clean = h.clean; leave = h.leave; unwinds = h.unwinds; handler = h.handler }
 
-pub part_ended : (code : Laid) (line : ℕ) (ms : List Mark) (what : Cleaning) (row : ℕ) (B : List Mark → ℕ → ℕ → Type 0) (a y z : ℕ) → B (mark.Part row ∷ ms) a y → PartEnds code line ms what row y z
+pub part_ended : (code : Laid) (line : ℕ) (ms : List CodeMark) (what : Cleaning) (row : ℕ) (B : List CodeMark → ℕ → ℕ → Type 0) (a y z : ℕ) → B (mark.Part row ∷ ms) a y → PartEnds code line ms what row y z
     → BehindPart code line ms (λ r. mark.Part r) (CleanAt code line what ms) B a z
 part_ended code line ms what row B a y z b h = record { row = row; body_end = y; body = b; leave = h.leave; unwinds = h.unwinds; handler = h.handler }
 
@@ -108,12 +108,12 @@ freed_as line (Some r) o old new e h = subst (λ (x : Op). Puts 1 (λ code. One 
 
 -- under marks from which the innermost one is gone, a routine still stands further on
 
-pub behind_scope : (what : Cleaning) (line : ℕ) (ms ns : List Mark) → InScope what line ms → ns ≡ drop 1 ms → CleansBehind ns what
+pub behind_scope : (what : Cleaning) (line : ℕ) (ms ns : List CodeMark) → InScope what line ms → ns ≡ drop 1 ms → CleansBehind ns what
 behind_scope what line ms ns h e =
-    let f : ns ≡ h.outer = e ∙ ap (λ (l : List Mark). drop 1 l) h.is in
-    subst (λ (l : List Mark). CleansBehind l what) (sym f) h.behind
+    let f : ns ≡ h.outer = e ∙ ap (λ (l : List CodeMark). drop 1 l) h.is in
+    subst (λ (l : List CodeMark). CleansBehind l what) (sym f) h.behind
 
-cleans_past : (what : Cleaning) (row : ℕ) (ms : List Mark) → CleansBehind (mark.Part row ∷ ms) what → CleansBehind ms what
+cleans_past : (what : Cleaning) (row : ℕ) (ms : List CodeMark) → CleansBehind (mark.Part row ∷ ms) what → CleansBehind ms what
 cleans_past (cleaning.Call what) row ms b = record { behind = b.behind }
 cleans_past cleaning.TakeDown row ms b = tt
 cleans_past cleaning.Forget row ms b = tt
@@ -122,7 +122,7 @@ cleans_past cleaning.End row ms b = tt
 cleans_past (cleaning.Free main) row ms b = tt
 cleans_past (cleaning.Restore cell) row ms b = tt
 
-pub cleans_under : (what : Cleaning) (row : ℕ) (ms : List Mark) → CleansBehind ms what → CleansBehind (mark.Part row ∷ ms) what
+pub cleans_under : (what : Cleaning) (row : ℕ) (ms : List CodeMark) → CleansBehind ms what → CleansBehind (mark.Part row ∷ ms) what
 cleans_under (cleaning.Call what) row ms b = record { behind = b.behind }
 cleans_under cleaning.TakeDown row ms b = tt
 cleans_under cleaning.Forget row ms b = tt
@@ -131,11 +131,11 @@ cleans_under cleaning.End row ms b = tt
 cleans_under (cleaning.Free main) row ms b = tt
 cleans_under (cleaning.Restore cell) row ms b = tt
 
-pub behind_part : (what : Cleaning) (ms ns : List Mark) → InPart ms → CleansBehind ms what → ns ≡ drop 1 ms → CleansBehind ns what
+pub behind_part : (what : Cleaning) (ms ns : List CodeMark) → InPart ms → CleansBehind ms what → ns ≡ drop 1 ms → CleansBehind ns what
 behind_part what ms ns h b e =
-    let a : CleansBehind (mark.Part h.row ∷ h.outer) what = subst (λ (l : List Mark). CleansBehind l what) h.is b in
-    let f : ns ≡ h.outer = e ∙ ap (λ (l : List Mark). drop 1 l) h.is in
-    subst (λ (l : List Mark). CleansBehind l what) (sym f) (cleans_past what h.row h.outer a)
+    let a : CleansBehind (mark.Part h.row ∷ h.outer) what = subst (λ (l : List CodeMark). CleansBehind l what) h.is b in
+    let f : ns ≡ h.outer = e ∙ ap (λ (l : List CodeMark). drop 1 l) h.is in
+    subst (λ (l : List CodeMark). CleansBehind l what) (sym f) (cleans_past what h.row h.outer a)
 
 pub marks_past_scope : (what : Cleaning) (line ahead : ℕ) (d0 d1 : Draft) → InScope what line d0.marks → d1 ≡ closed ahead d0 → d1.marks ≡ drop 1 d0.marks
 marks_past_scope what line ahead d0 d1 h e = closed_marks ahead h.row d0 d1 e (ap row_in h.is)
@@ -145,7 +145,7 @@ marks_past_part ahead d0 d1 h e = closed_marks ahead h.row d0 d1 e (ap row_in h.
 
 -- the pad of a scope
 
-unwound : (code : Laid) (line : ℕ) (what : Cleaning) (ms : List Mark) (a z : ℕ) → frees what ≡ false → leaves what ≡ false → Both (CleanAt code line what ms) (Risk code ms op.Unwind line) a z → PadAt code line what ms a z
+unwound : (code : Laid) (line : ℕ) (what : Cleaning) (ms : List CodeMark) (a z : ℕ) → frees what ≡ false → leaves what ≡ false → Both (CleanAt code line what ms) (Risk code ms op.Unwind line) a z → PadAt code line what ms a z
 unwound code line (cleaning.Call what) ms a z f l h = h
 unwound code line cleaning.TakeDown ms a z f l h = h
 unwound code line cleaning.Forget ms a z f l h = h
@@ -154,7 +154,7 @@ unwound code line cleaning.End ms a z f l h = h
 unwound code line (cleaning.Free main) ms a z f l h = absurd (true≢false f)
 unwound code line (cleaning.Restore cell) ms a z f l h = h
 
-given_up : (code : Laid) (line : ℕ) (what : Cleaning) (ms : List Mark) (a z : ℕ) → frees what ≡ true → Both (One code op.GiveUp line) (Risk code ms op.Unwind line) a z → PadAt code line what ms a z
+given_up : (code : Laid) (line : ℕ) (what : Cleaning) (ms : List CodeMark) (a z : ℕ) → frees what ≡ true → Both (One code op.GiveUp line) (Risk code ms op.Unwind line) a z → PadAt code line what ms a z
 given_up code line (cleaning.Call what) ms a z f h = absurd (true≢false (sym f))
 given_up code line cleaning.TakeDown ms a z f h = absurd (true≢false (sym f))
 given_up code line cleaning.Forget ms a z f h = absurd (true≢false (sym f))
@@ -173,7 +173,7 @@ pad_unwound line what d0 d1 d2 f l p q =
     puts_as (puts_both (clean_stable line what d0.marks) p (puts_risk_behind op.Unwind line d0 d1 d2 p q)) (λ code a z h. unwound code line what d0.marks a z f l h)
 
 -- how long it is
-pad_is : (code : Laid) (line : ℕ) (what : Cleaning) (ms : List Mark) (a z : ℕ) → leaves what ≡ false → PadAt code line what ms a z → z ≡ a + clean_length what + 1
+pad_is : (code : Laid) (line : ℕ) (what : Cleaning) (ms : List CodeMark) (a z : ℕ) → leaves what ≡ false → PadAt code line what ms a z → z ≡ a + clean_length what + 1
 pad_is code line (cleaning.Call what) ms a z l h = let e = clean_is code line (cleaning.Call what) ms a h.middle h.first in let f = h.second.end in omega arith
 pad_is code line cleaning.TakeDown ms a z l h = let e = h.first.end in let f = h.second.end in omega arith
 pad_is code line cleaning.Forget ms a z l h = let e = h.first.end in let f = h.second.end in omega arith
@@ -240,7 +240,7 @@ module _ (n line end ahead : ℕ) (what : Cleaning) (d0 d1 d2 d3 d4 : Draft) (in
     kept = kept_then (laid_in d0) (laid_in d1) code k1 keep1;
     room = l;
     scope = λ row ms e.
-        let t : drop 1 d0.marks ≡ ms = ap (λ (l : List Mark). drop 1 l) e in
+        let t : drop 1 d0.marks ≡ ms = ap (λ (l : List CodeMark). drop 1 l) e in
         record {
           clean_end = length d2.ops;
           clean = subst (λ l. CleanAt code line what l (length d0.ops) (length d2.ops)) t clean_at;
@@ -248,7 +248,7 @@ module _ (n line end ahead : ℕ) (what : Cleaning) (d0 d1 d2 d3 d4 : Draft) (in
           unwinds = subst (λ l. PadAt code line what l (length d2.ops + 1) (length d4.ops)) t pad_at;
           handler = handler_at row (ap handler_in e);
         };
-    marks = λ row ms e. marks_of p4 ∙ (marks3 ∙ ap (λ (l : List Mark). drop 1 l) e);
+    marks = λ row ms e. marks_of p4 ∙ (marks3 ∙ ap (λ (l : List CodeMark). drop 1 l) e);
   }
 
 pub scope_closed : (line end ahead : ℕ) (what : Cleaning) (d0 d1 d2 d3 d4 : Draft) → InScope what line d0.marks → leaves what ≡ false
@@ -265,7 +265,7 @@ scope_closed line end ahead what d0 d1 d2 d3 d4 s l c1 k1 h1 p2 p3 p4 ae ee =
 
 -- a mutex call: its pad, and its end
 
-leave_code : {line : ℕ} {ms : List Mark} {old new : Draft} → Puts 23 (λ code. CleanAt code line cleaning.Leave ms) old new → length new.ops ≡ length old.ops + 5
+leave_code : {line : ℕ} {ms : List CodeMark} {old new : Draft} → Puts 23 (λ code. CleanAt code line cleaning.Leave ms) old new → length new.ops ≡ length old.ops + 5
 leave_code {line} {ms} {old} {new} p = clean_is (laid_in new) line cleaning.Leave ms (length old.ops) (length new.ops) p.code
 
 module _ (line arrived routine : ℕ) (d0 d1 d2 d3 d4 d5 : Draft) (body : d0.marks ≡ mark.Body routine ∷ []) (here : arrived ≡ length d0.ops + 7)
@@ -285,11 +285,11 @@ module _ (line arrived routine : ℕ) (d0 d1 d2 d3 d4 d5 : Draft) (body : d0.mar
 
   arrive_all : Puts 60 (λ code. Both (One code (op.Arrive arrived) line) (Both (LeavesAt code d0.marks line) (Both (Risk code d0.marks op.Unwind line) (Both (LeavesAt code d0.marks line) (ExitAt code ToReturn d0.marks))))) d0 d5
   arrive_all =
-      let q2 : Puts 23 (λ code. LeavesAt code d0.marks line) d1 d2 = subst (λ (ms : List Mark). Puts 23 (λ code. LeavesAt code ms line) d1 d2) (marks_of p1) p2 in
-      let q3 : Puts 1 (λ code. Risk code d0.marks op.Unwind line) d2 d3 = subst (λ (ms : List Mark). Puts 1 (λ code. Risk code ms op.Unwind line) d2 d3) (marks_of p2 ∙ marks_of p1) p3 in
-      let q4 : Puts 23 (λ code. LeavesAt code d0.marks line) d3 d4 = subst (λ (ms : List Mark). Puts 23 (λ code. LeavesAt code ms line) d3 d4) arrive_marks p4 in
+      let q2 : Puts 23 (λ code. LeavesAt code d0.marks line) d1 d2 = subst (λ (ms : List CodeMark). Puts 23 (λ code. LeavesAt code ms line) d1 d2) (marks_of p1) p2 in
+      let q3 : Puts 1 (λ code. Risk code d0.marks op.Unwind line) d2 d3 = subst (λ (ms : List CodeMark). Puts 1 (λ code. Risk code ms op.Unwind line) d2 d3) (marks_of p2 ∙ marks_of p1) p3 in
+      let q4 : Puts 23 (λ code. LeavesAt code d0.marks line) d3 d4 = subst (λ (ms : List CodeMark). Puts 23 (λ code. LeavesAt code ms line) d3 d4) arrive_marks p4 in
       let q5 : Puts 1 (λ code. ExitAt code ToReturn d0.marks) d4 d5 =
-      record { rest = p5.rest; kept = p5.kept; room = exit_one; code = subst (λ (ms : List Mark). ExitAt (laid_in d5) ToReturn ms (length d4.ops) (length d5.ops)) exit_marks p5.code } in
+      record { rest = p5.rest; kept = p5.kept; room = exit_one; code = subst (λ (ms : List CodeMark). ExitAt (laid_in d5) ToReturn ms (length d4.ops) (length d5.ops)) exit_marks p5.code } in
       puts_more (omega arith) (puts_both (one_stable (op.Arrive arrived) line) p1 (puts_both (leaves_stable d0.marks line) q2 (puts_both (risk_stable d0.marks op.Unwind line) q3 (puts_both (leaves_stable d0.marks line) q4 q5))))
 
   arrives_at : (code : Laid) (a z : ℕ) → arrived ≡ a + 7 → Both (One code (op.Arrive arrived) line) (Both (LeavesAt code d0.marks line) (Both (Risk code d0.marks op.Unwind line) (Both (LeavesAt code d0.marks line) (ExitAt code ToReturn d0.marks)))) a z → ArrivesAt code line d0.marks a z
@@ -322,10 +322,10 @@ module _ (line arrived routine : ℕ) (d0 d1 d2 d3 d4 d5 : Draft) (body : d0.mar
       record { rest = arrive_all.rest; kept = arrive_all.kept; room = (omega (arith, a.1, here)); code = arrives_at (laid_in d5) (length d0.ops) (length d5.ops) here arrive_all.code }
 
 -- the exit is one op
-exit_is : (code : Laid) (routine a z : ℕ) (ms : List Mark) → ms ≡ mark.Body routine ∷ [] → ExitAt code ToReturn ms a z → z ≡ a + 1
-exit_is code routine a z ms e h = (subst (λ (l : List Mark). ExitAt code ToReturn l a z) e h).end
+exit_is : (code : Laid) (routine a z : ℕ) (ms : List CodeMark) → ms ≡ mark.Body routine ∷ [] → ExitAt code ToReturn ms a z → z ≡ a + 1
+exit_is code routine a z ms e h = (subst (λ (l : List CodeMark). ExitAt code ToReturn l a z) e h).end
 
-arrival_is : (code : Laid) (line routine a z : ℕ) (ms : List Mark) → ms ≡ mark.Body routine ∷ [] → ArrivesAt code line ms a z → z ≡ a + 13
+arrival_is : (code : Laid) (line routine a z : ℕ) (ms : List CodeMark) → ms ≡ mark.Body routine ∷ [] → ArrivesAt code line ms a z → z ≡ a + 13
 arrival_is code line routine a z ms e h =
     let i = h.unwinds.first.polls.end in
     let j = h.unwinds.second.end in
@@ -403,11 +403,11 @@ module _ (line end : ℕ) (what : Cleaning) (d0 d1 d2 d3 d4 : Draft) (in_part : 
     kept = kept_then (laid_in d0) (laid_in d1) all k1 stay1;
     room = (let b = to_end in omega (arith, ee));
     part = λ row ms e.
-        let t : drop 1 d0.marks ≡ ms = ap (λ (l : List Mark). drop 1 l) e in
+        let t : drop 1 d0.marks ≡ ms = ap (λ (l : List CodeMark). drop 1 l) e in
         record {
           leave = left_at;
           unwinds = record { middle = length d3.ops; first = subst (λ l. CleanAt all line what l (length d0.ops + 1) (length d3.ops)) t cleaned_at; second = subst (λ l. Risk all l op.Unwind line (length d3.ops) (length d4.ops)) t unwound_at };
           handler = stay1.handlers row (clean_up (length d0.ops + 1)) (h1 row (ap handler_in e));
         };
-    marks = λ row ms e. marks_of p4 ∙ (past3 ∙ ap (λ (l : List Mark). drop 1 l) e);
+    marks = λ row ms e. marks_of p4 ∙ (past3 ∙ ap (λ (l : List CodeMark). drop 1 l) e);
   }

@@ -1,8 +1,8 @@
 -- The code that builds all elements of an array, as it is added to a draft.
 use Rattle.std.proofs.Common.{◌≡◌, ℕ, ◌+◌, ◌^◌, ◌<◌, List, ◌∷◌, length, drop, Some, refl, ap, sym, subst, ◌∙◌, arith}
 use Rattle.uc_code.specs.declared.op.Op.TheVariants as op
-use Rattle.uc_code.specs.declared.rows.Mark.{Mark}
-use Rattle.uc_code.specs.declared.rows.Mark.TheVariants as mark
+use Rattle.uc_code.specs.declared.rows.CodeMark.{CodeMark}
+use Rattle.uc_code.specs.declared.rows.CodeMark.TheVariants as mark
 use Rattle.uc_code.specs.declared.rows.ObjectCall.{ObjectCall}
 use Rattle.uc_code.specs.declared.rows.Opening.TheVariants as opening
 use Rattle.uc_code.specs.Drafts.{Draft}
@@ -17,10 +17,10 @@ use Rattle.uc_code.proofs.Sweeping.{like_puts, like_opened, like_closed, like_re
 use Rattle.uc_lower_expr.proofs.Settled.{both}
 use Rattle.uc_lower_stmt.specs.Objects.{FillCode}
 
-pub built_stable : (line : ℕ) (what : ObjectCall) (ms : List Mark) → Stable (λ code. CallBuilt code line what ms)
+pub built_stable : (line : ℕ) (what : ObjectCall) (ms : List CodeMark) → Stable (λ code. CallBuilt code line what ms)
 built_stable line what ms = both (call_stable line what ms) (both (one_stable op.Discard line) (one_stable op.More line))
 
-built_is : (code : Laid) (line : ℕ) (what : ObjectCall) (ms : List Mark) (a z : ℕ) → CallBuilt code line what ms a z → z ≡ a + done_length what + 1
+built_is : (code : Laid) (line : ℕ) (what : ObjectCall) (ms : List CodeMark) (a z : ℕ) → CallBuilt code line what ms a z → z ≡ a + done_length what + 1
 built_is code line what ms a z h =
     let d : CallDone code line what ms a h.second.middle = record { middle = h.middle; first = h.first; second = h.second.first } in
     let e = done_is code line what ms a h.second.middle d in
@@ -36,17 +36,17 @@ module _ (line n start test entry : ℕ) (few : n < 2 ^ 32) (builder destroyer :
     (p6 : Puts 9 (λ code. CallDone code line destroyer d5.marks) d5 d6) (c7 : d7 ≡ closed 0 d6) (k7 : Kept (laid_in d6) (laid_in d7)) (h7 : (row : ℕ) → handler_in d6.marks ≡ Some row → HandlerAt (laid_in d7) row (clean_up (length d6.ops + 0)))
     (p8 : Puts 1 (λ code. One code (op.Sweep (test + 2)) line) d7 d8) (p9 : Puts 1 (λ code. Risk code d8.marks op.Unwind line) d8 d9)
     (st : start ≡ length d0.ops) (te : test ≡ start + 2 + done_length builder) (en : entry ≡ test + 2 + done_length destroyer) where
-  abbrev ms : List Mark
+  abbrev ms : List CodeMark
   ms = d0.marks
 
   abbrev row : ℕ
   row = length d1.rows
 
-  abbrev ns : List Mark
+  abbrev ns : List CodeMark
   ns = mark.Elements row ∷ ms
 
   marks2 : d2.marks ≡ ns
-  marks2 = ap (λ (d : Draft). d.marks) o2 ∙ ap (λ (l : List Mark). mark.Elements row ∷ l) (marks_of p1)
+  marks2 = ap (λ (d : Draft). d.marks) o2 ∙ ap (λ (l : List CodeMark). mark.Elements row ∷ l) (marks_of p1)
 
   marks5 : d5.marks ≡ ns
   marks5 = marks_of p5 ∙ (marks_of p4 ∙ (marks_of p3 ∙ marks2))
@@ -55,7 +55,7 @@ module _ (line n start test entry : ℕ) (few : n < 2 ^ 32) (builder destroyer :
   marks6 = marks_of p6 ∙ marks5
 
   marks7 : d7.marks ≡ ms
-  marks7 = closed_marks 0 row d6 d7 c7 (ap row_in marks6) ∙ ap (λ (l : List Mark). drop 1 l) marks6
+  marks7 = closed_marks 0 row d6 d7 c7 (ap row_in marks6) ∙ ap (λ (l : List CodeMark). drop 1 l) marks6
 
   marks8 : d8.marks ≡ ms
   marks8 = marks_of p8 ∙ marks7

@@ -13,8 +13,8 @@ use Rattle.uc_tree.specs.Sizes.{size_at}
 use Rattle.uc_tree.specs.Statements as tree
 use Rattle.uc_tree.specs.StatementSizes.{handler_size, handlers_size, stmt_size, stmts_size}
 use Rattle.uc_code.specs.declared.op.Op.{Op}
-use Rattle.uc_code.specs.declared.draft_parts.Outside.{Outside}
-use Rattle.uc_code.specs.declared.rows.Mark.{Mark}
+use Rattle.uc_code.specs.declared.draft_parts.OuterScope.{OuterScope}
+use Rattle.uc_code.specs.declared.rows.CodeMark.{CodeMark}
 use Rattle.uc_code.specs.declared.rows.Opening.TheVariants as opening
 use Rattle.uc_code.specs.Drafts.{Draft}
 use Rattle.uc_code.specs.Guarding.{ClosesGuards, OpensGuards}
@@ -208,7 +208,7 @@ scoped_fits p n c o k d0 d1 f e = subst (λ (d : Draft). Fits p n c o k d) (sym 
 pub left_fits : (p : Program) (n c o k scope names : ℕ) (d0 d1 : Draft) → Fits p n c o k d0 → d1 ≡ record d0 { place = record d0.place { scope = scope }; names = take names d0.names } → Fits p n c o k d1
 left_fits p n c o k scope names d0 d1 f e = subst (λ (d : Draft). Fits p n c o k d) (sym e) (record { inside = f.inside; entry = f.entry; room = f.room; cells = f.cells; scopes = f.scopes; texts = f.texts })
 
-pub closed_fits : (p : Program) (n c o k first count : ℕ) (ms : List Mark) (d0 d1 : Draft) → Fits p n c o k d0 → d0.marks ≡ guards first count ms → ClosesGuards first count ms d0 d1 → Fits p n c o k d1
+pub closed_fits : (p : Program) (n c o k first count : ℕ) (ms : List CodeMark) (d0 d1 : Draft) → Fits p n c o k d0 → d0.marks ≡ guards first count ms → ClosesGuards first count ms d0 d1 → Fits p n c o k d1
 closed_fits p n c o k first count ms d0 d1 f e cg =
     let marks : d1.marks ≡ ms = ap (λ (d : Draft). d.marks) cg.rest in
     fits_like d0 d1 (ap routine_in marks ∙ sym (ap routine_in e ∙ guards_routine first count ms)) (ap closing marks ∙ sym (ap closing e ∙ guards_closing first count ms))
@@ -262,10 +262,10 @@ try_fits p line count body hs x y d0 d1 d2 d3 d4 i r h s t g1 g2 og e =
     block_fits p count (1 + OPS_FOR_SIZE * (handlers_size hs + exits_handlers hs (objects_in d2.marks))) (handlers_cells hs (declared_cells p)) (handlers_scopes hs) (handlers_size hs) body d2 d3 d4 f og e
 
 -- behind its statements
-module _ (p : Program) (line brace count : ℕ) (body : tree.Stmts) (hs : tree.Handlers) (out : Outside) (x : Op) (d2 d3 b1 b2 d4 d5 d6 : Draft)
+module _ (p : Program) (line brace count : ℕ) (body : tree.Stmts) (hs : tree.Handlers) (out : OuterScope) (x : Op) (d2 d3 b1 b2 d4 d5 d6 : Draft)
     (f : Fits p (OPS_FOR_SIZE * sizes_at body (objects_in b1.marks) + (1 + OPS_FOR_SIZE * (handlers_size hs + exits_handlers hs (objects_in d2.marks)))) (stmts_cells body (declared_cells p) + handlers_cells hs (declared_cells p)) (stmts_scopes body + handlers_scopes hs) (stmts_size body + handlers_size hs) b1)
     (og : OpensGuards count d2 d3) (e1 : b1 ≡ scoping.opened d3) (w : LowersStmts p brace body b1 b2) (e4 : d4 ≡ record b2 { place = record b2.place { scope = out.scope }; names = take out.names b2.names })
-    (cg : (first : ℕ) (ms : List Mark) → d4.marks ≡ guards first count ms → ClosesGuards first count ms d4 d5) where
+    (cg : (first : ℕ) (ms : List CodeMark) → d4.marks ≡ guards first count ms → ClosesGuards first count ms d4 d5) where
   pub tried_fits : Fits p (1 + OPS_FOR_SIZE * (handlers_size hs + exits_handlers hs (objects_in d2.marks))) (handlers_cells hs (declared_cells p)) (handlers_scopes hs) (handlers_size hs) d4
   tried_fits = left_fits p _ _ _ _ out.scope out.names b2 d4 (fits_behind f w) e4
 

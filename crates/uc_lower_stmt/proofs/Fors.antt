@@ -18,7 +18,7 @@ use Rattle.uc_tree.specs.Source as source
 use Rattle.uc_tree.specs.Source.{Order, Expr}
 use Rattle.uc_resolve.specs.Resolve.{Scope, meant, scope_past, for_scope, order_of, test_of}
 use Rattle.uc_code.specs.declared.op.Op.TheVariants as op
-use Rattle.uc_code.specs.declared.draft_parts.Outside.{Outside}
+use Rattle.uc_code.specs.declared.draft_parts.OuterScope.{OuterScope}
 use Rattle.uc_code.specs.Drafts.{Draft}
 use Rattle.uc_code.specs.Lowered.{StmtAt}
 use Rattle.uc_lower_expr.specs.DraftGrowth.{Adds, ExprCode, OpCode}
@@ -67,7 +67,7 @@ loop_as p line t test step body s n old new f o q h =
     subst (λ (x : Order). Lowers n (stmt_size body) (stmt_cells body (declared_cells p)) (alone_scopes body + stmt_scopes body) (λ code. StmtAt code old.marks (loop_meant p line x (turning_test p s t) step body s)) (scope_past p body s) old new) o (
     subst (λ (u : Scope). Lowers n (stmt_size body) (stmt_cells body (declared_cells p)) (alone_scopes body + stmt_scopes body) (λ code. StmtAt code old.marks (loop_meant p line (turning_order t) (turning_test p u t) step body u)) (scope_past p body u) old new) f h))
 
-pub arm_for : (p : Program) (line count : ℕ) (start : ForStart) (test step : Option tree.Expr) (body : Stmt) (t : Turning) (out : Outside) (old d1 d2 d3 d4 new : Draft) → out ≡ record { names = length old.names; scope = old.place.scope } → d1 ≡ opened old
+pub arm_for : (p : Program) (line count : ℕ) (start : ForStart) (test step : Option tree.Expr) (body : Stmt) (t : Turning) (out : OuterScope) (old d1 d2 d3 d4 new : Draft) → out ≡ record { names = length old.names; scope = old.place.scope } → d1 ≡ opened old
     → count ≡ length d1.marks → LaysStart p line start d1 d2 → turning_order t ≡ order_of p test → ((s : Scope) → turning_test p s t ≡ test_of p s test) → turning_size t ≡ maybe_expr_size test → LowersLoop p line t step body d2 d3 → EndsScopes count d3 d4
     → new ≡ record d4 { place = record d4.place { scope = out.scope }; names = take out.names d4.names } → LowersFor p line start test step body old new
 arm_for p line count start test step body t out old d1 d2 d3 d4 new oe e1 ce h o q z k w e2 =

@@ -3,7 +3,7 @@ use Rattle.std.proofs.Common.{◌≡◌, ℕ, zero, suc, ◌+◌, ◌≤◌, ◌
 use Rattle.std.specs.Prelude.{slice_get}
 use Rattle.uc_resolve.specs.Resolve.{Scope}
 use Rattle.uc_code.specs.declared.rows.HandlerRow.{HandlerRow}
-use Rattle.uc_code.specs.declared.rows.Mark.{Mark}
+use Rattle.uc_code.specs.declared.rows.CodeMark.{CodeMark}
 use Rattle.uc_code.specs.Drafts.{Draft}
 use Rattle.uc_code.specs.Layout.{Laid, guards, laid_in, routine_in}
 use Rattle.uc_code.specs.CodeShapes.{Both, Kept, KeptBut, Same, Stable}
@@ -13,15 +13,15 @@ use Rattle.uc_lower_stmt.specs.LowersStatement.{Lowers}
 
 -- marks of handlers are those of no object, and lie in the routine in which they are opened
 
-pub guards_objects : (first n : ℕ) (ms : List Mark) → objects_in (guards first n ms) ≡ objects_in ms
+pub guards_objects : (first n : ℕ) (ms : List CodeMark) → objects_in (guards first n ms) ≡ objects_in ms
 guards_objects first zero ms = refl
 guards_objects first (suc n) ms = guards_objects first n ms
 
-pub guards_closing : (first n : ℕ) (ms : List Mark) → closing (guards first n ms) ≡ closing ms
+pub guards_closing : (first n : ℕ) (ms : List CodeMark) → closing (guards first n ms) ≡ closing ms
 guards_closing first zero ms = refl
 guards_closing first (suc n) ms = guards_closing first n ms
 
-pub guards_routine : (first n : ℕ) (ms : List Mark) → routine_in (guards first n ms) ≡ routine_in ms
+pub guards_routine : (first n : ℕ) (ms : List CodeMark) → routine_in (guards first n ms) ≡ routine_in ms
 guards_routine first zero ms = refl
 guards_routine first (suc n) ms = guards_routine first n ms
 

@@ -16,11 +16,11 @@ use Rattle.uc_tree.specs.Numbering.{at_most, event_names, own_sites, own_texts, 
 use Rattle.uc_tree.specs.Programs.{Program}
 use Rattle.uc_resolve.specs.Resolve.{Scope, event_of_handler, number_of_event, handlers_meant, in_handler, scope_behind, scope_past_handler, stmts_meant, takes_resumptions, with_event}
 use Rattle.uc_tree.specs.Statements as tree
-use Rattle.uc_code.specs.declared.draft_parts.Outside.{Outside}
+use Rattle.uc_code.specs.declared.draft_parts.OuterScope.{OuterScope}
 use Rattle.uc_code.specs.declared.op.Op.TheVariants as op
 use Rattle.uc_code.specs.declared.rows.HandlerRow.{HandlerRow}
-use Rattle.uc_code.specs.declared.rows.Mark.{Mark}
-use Rattle.uc_code.specs.declared.rows.Mark.TheVariants as mark
+use Rattle.uc_code.specs.declared.rows.CodeMark.{CodeMark}
+use Rattle.uc_code.specs.declared.rows.CodeMark.TheVariants as mark
 use Rattle.uc_code.specs.declared.rows.RowKind.{RowKind}
 use Rattle.uc_code.specs.declared.rows.Opening.TheVariants as opening
 use Rattle.uc_code.specs.Drafts.{Draft}
@@ -70,7 +70,7 @@ module _ (p : Program) (pad line : ℕ) (resumes : Bool) (body : tree.Stmts) (d0
   abbrev code : Laid
   code = laid_in new
 
-  abbrev inner : List Mark
+  abbrev inner : List CodeMark
   inner = mark.Outward 0 row ∷ d0.marks
 
   marks1 : d1.marks ≡ inner
@@ -80,7 +80,7 @@ module _ (p : Program) (pad line : ℕ) (resumes : Bool) (body : tree.Stmts) (d0
   marks2 = ap (λ (d : Draft). d.marks) w.rest ∙ marks1
 
   marks3 : d3.marks ≡ d0.marks
-  marks3 = closed_marks 0 row d2 d3 ce (ap row_in marks2) ∙ ap (λ (ms : List Mark). drop 1 ms) marks2
+  marks3 = closed_marks 0 row d2 d3 ce (ap row_in marks2) ∙ ap (λ (ms : List CodeMark). drop 1 ms) marks2
 
   ops1 : length d1.ops ≡ length d0.ops
   ops1 = ap (λ (d : Draft). length d.ops) oe
@@ -98,7 +98,7 @@ module _ (p : Program) (pad line : ℕ) (resumes : Bool) (body : tree.Stmts) (d0
   body_at =
       subst (λ (s : Scope). StmtsAt code inner line (stmts_meant p body s) (length d0.ops) (length d2.ops)) scope1 (
       subst (λ (a : ℕ). StmtsAt code inner line (stmts_meant p body (scope_of d1)) a (length d2.ops)) ops1 (
-      subst (λ (ms : List Mark). StmtsAt code ms line (stmts_meant p body (scope_of d1)) (length d1.ops) (length d2.ops)) marks1 (
+      subst (λ (ms : List CodeMark). StmtsAt code ms line (stmts_meant p body (scope_of d1)) (length d1.ops) (length d2.ops)) marks1 (
       kept_piece (λ c. StmtsAt c d1.marks line (stmts_meant p body (scope_of d1))) (stmts_stable d1.marks line (stmts_meant p body (scope_of d1))) (laid_in d2) code (length d1.ops) (length d2.ops) (omega arith) keep2 w.code)))
 
   apart : ApartAt code d0.marks (λ ns. StmtsAt code ns line (stmts_meant p body (scope_of d0))) (length d0.ops) (length new.ops)
@@ -115,7 +115,7 @@ module _ (p : Program) (pad line : ℕ) (resumes : Bool) (body : tree.Stmts) (d0
       like_closed 0 d2 d2 d3 refl ce
       ∙ ap (λ (d : Draft). let x : Draft = record d { ops = d3.ops; rows = d3.rows; settled = d3.settled; marks = d3.marks } in x) w.rest
       ∙ ap (λ (d : Draft). let x : Draft = record d { ops = d3.ops; rows = d3.rows; settled = d3.settled; marks = d3.marks; scopes = d2.scopes; names = d2.names; cells = d2.cells; hidden = d2.hidden; texts = d2.texts; sites = d2.sites } in x) oe
-      ∙ ap (λ (ms : List Mark). let x : Draft = record d0 { ops = d3.ops; rows = d3.rows; settled = d3.settled; marks = ms; scopes = d2.scopes; names = d2.names; cells = d2.cells; hidden = d2.hidden; texts = d2.texts; sites = d2.sites } in x) marks3
+      ∙ ap (λ (ms : List CodeMark). let x : Draft = record d0 { ops = d3.ops; rows = d3.rows; settled = d3.settled; marks = ms; scopes = d2.scopes; names = d2.names; cells = d2.cells; hidden = d2.hidden; texts = d2.texts; sites = d2.sites } in x) marks3
 
   rest : new ≡ record d0 { ops = new.ops; rows = d3.rows; settled = d3.settled; scopes = d2.scopes; names = d2.names; cells = d2.cells; hidden = d2.hidden; texts = d2.texts; sites = d2.sites }
   rest = g.rest ∙ ap (λ (d : Draft). let x : Draft = record d { ops = new.ops } in x) rest3
@@ -214,7 +214,7 @@ module _ (p : Program) (row pad : ℕ) (pos : Pos) (kind : HandlerKind) (event p
             middle = length d1.ops;
             first = kept_piece (λ c. KeepsAt c brace.line d0.hidden) (keeps_stable brace.line d0.hidden) (laid_in d1) (laid_in d2) (length d0.ops) (length d1.ops) (omega arith) w.kept en.keeps;
             second = subst (λ (x : Scope). HandlerBy (laid_in d2) (takes_resumptions kind) d0.marks pad brace.line (λ ns. StmtsAt (laid_in d2) ns brace.line (stmts_meant p body x)) (length d1.ops) (length d2.ops)) en.scope
-                (subst (λ (ms : List Mark). HandlerBy (laid_in d2) (takes_resumptions kind) ms pad brace.line (λ ns. StmtsAt (laid_in d2) ns brace.line (stmts_meant p body (scope_of d1))) (length d1.ops) (length d2.ops)) marks1 w.code);
+                (subst (λ (ms : List CodeMark). HandlerBy (laid_in d2) (takes_resumptions kind) ms pad brace.line (λ ns. StmtsAt (laid_in d2) ns brace.line (stmts_meant p body (scope_of d1))) (length d1.ops) (length d2.ops)) marks1 w.code);
           };
         };
       }
@@ -245,21 +245,21 @@ module _ (p : Program) (row pad : ℕ) (pos : Pos) (kind : HandlerKind) (event p
       }
 
 -- where its body is a slice
-pub handler_done : (p : Program) (row pad line : ℕ) (pos : Pos) (kind : HandlerKind) (event param : Option (List ℕ)) (brace : Pos) (xs ys : List tree.Stmt) (h : tree.Handler) (out : Outside) (around : ℕ) (d0 d1 d2 d3 new : Draft) → tree.Handles pos kind event param brace (tree.stmts_of ys) ≡ h → xs ≡ ys → line ≡ brace.line
+pub handler_done : (p : Program) (row pad line : ℕ) (pos : Pos) (kind : HandlerKind) (event param : Option (List ℕ)) (brace : Pos) (xs ys : List tree.Stmt) (h : tree.Handler) (out : OuterScope) (around : ℕ) (d0 d1 d2 d3 new : Draft) → tree.Handles pos kind event param brace (tree.stmts_of ys) ≡ h → xs ≡ ys → line ≡ brace.line
     → out ≡ record { names = length d0.names; scope = d0.place.scope } → around ≡ d0.handled → EntersHandler p row (takes_resumptions kind) event param line d0 d1 → LowersBody p pad (takes_resumptions kind) line (tree.stmts_of xs) d1 d2
     → d3 ≡ record d2 { place = record d2.place { scope = out.scope }; names = take out.names d2.names } → new ≡ record d3 { handled = around } → LowersHandler p row pad h d0 new
 handler_done p row pad line pos kind event param brace xs ys h out around d0 d1 d2 d3 new is e l oe ae en w le he =
     let en1 : EntersHandler p row (takes_resumptions kind) event param brace.line d0 d1 = subst (λ (n : ℕ). EntersHandler p row (takes_resumptions kind) event param n d0 d1) l en in
     let w1 : LowersBody p pad (takes_resumptions kind) brace.line (tree.stmts_of xs) d1 d2 = subst (λ (n : ℕ). LowersBody p pad (takes_resumptions kind) n (tree.stmts_of xs) d1 d2) l w in
     let w2 : LowersBody p pad (takes_resumptions kind) brace.line (tree.stmts_of ys) d1 d2 = subst (λ (zs : List tree.Stmt). LowersBody p pad (takes_resumptions kind) brace.line (tree.stmts_of zs) d1 d2) e w1 in
-    let left : d3 ≡ record d2 { place = record d2.place { scope = d0.place.scope }; names = take (length d0.names) d2.names } = le ∙ ap (λ (x : Outside). let d : Draft = record d2 { place = record d2.place { scope = x.scope }; names = take x.names d2.names } in d) oe in
+    let left : d3 ≡ record d2 { place = record d2.place { scope = d0.place.scope }; names = take (length d0.names) d2.names } = le ∙ ap (λ (x : OuterScope). let d : Draft = record d2 { place = record d2.place { scope = x.scope }; names = take x.names d2.names } in d) oe in
     let back : new ≡ record d3 { handled = d0.handled } = he ∙ ap (λ (n : ℕ). let d : Draft = record d3 { handled = n } in d) ae in
     subst (λ (x : tree.Handler). LowersHandler p row pad x d0 new) is (handler_laid p row pad pos kind event param brace (tree.stmts_of ys) d0 d1 d2 d3 new en1 w2 left back)
 
-handler_code_stable : (p : Program) (row pad : ℕ) (ms : List Mark) (h : tree.Handler) (s : Scope) → Stable (HandlerCode p row pad ms h s)
+handler_code_stable : (p : Program) (row pad : ℕ) (ms : List CodeMark) (h : tree.Handler) (s : Scope) → Stable (HandlerCode p row pad ms h s)
 handler_code_stable p row pad ms (tree.Handles pos kind event param brace body) s =
     let ss = stmts_meant p body (in_handler p (tree.Handles pos kind event param brace body) s) in
-    let B : Laid → List Mark → ℕ → ℕ → Type 0 = λ code ns. StmtsAt code ns brace.line ss in
+    let B : Laid → List CodeMark → ℕ → ℕ → Type 0 = λ code ns. StmtsAt code ns brace.line ss in
     named_stable (event_of_handler p event) (λ code. HandledAt code row (handler_of (takes_resumptions kind) (event_of_handler p event) (length (handlers ms))) (Both (KeepsAt code brace.line s.hidden) (HandlerBy code (takes_resumptions kind) ms pad brace.line (B code))))
     (handled_stable row (handler_of (takes_resumptions kind) (event_of_handler p event) (length (handlers ms))) (λ code. Both (KeepsAt code brace.line s.hidden) (HandlerBy code (takes_resumptions kind) ms pad brace.line (B code)))
     (both (keeps_stable brace.line s.hidden) (handler_stable (takes_resumptions kind) ms pad brace.line B (λ ns. stmts_stable ns brace.line ss))))
@@ -284,7 +284,7 @@ handlers_none p first pad old = from_as (from_lowers first (lowers_nothing old))
 pub handlers_more : (p : Program) (first pad : ℕ) (h : tree.Handler) (hs : tree.Handlers) (d0 d1 d2 : Draft) → LowersHandler p (first + length (tree.handler_list hs)) pad h d0 d1 → LowersHandlers p first pad hs d1 d2 → LowersHandlers p first pad (tree.MoreHandlers h hs) d0 d2
 handlers_more p first pad (tree.Handles pos kind event param brace body) hs d0 d1 d2 w v =
     let h : tree.Handler = tree.Handles pos kind event param brace body in
-    let ms : List Mark = d0.marks in
+    let ms : List CodeMark = d0.marks in
     let s : Scope = scope_of d0 in
     let more : Scope = scope_past_handler p h s in
     let row : ℕ = first + length (tree.handler_list hs) in
@@ -297,7 +297,7 @@ handlers_more p first pad (tree.Handles pos kind event param brace body) hs d0 d
     (λ code a z x. record {
       middle = x.middle;
       first = subst (λ (n : ℕ). HandlerCode p (first + n) pad ms h s code a x.middle) rows x.first;
-      second = subst (λ (t : Scope). HandlersAt code ms first pad (handlers_meant p hs t) x.middle z) w.scope (subst (λ (ns : List Mark). HandlersAt code ns first pad (handlers_meant p hs (scope_of d1)) x.middle z) marks1 x.second);
+      second = subst (λ (t : Scope). HandlersAt code ms first pad (handlers_meant p hs t) x.middle z) w.scope (subst (λ (ns : List CodeMark). HandlersAt code ns first pad (handlers_meant p hs (scope_of d1)) x.middle z) marks1 x.second);
     })
     (omega (arith, exits1)) (omega arith) (omega arith) refl
 

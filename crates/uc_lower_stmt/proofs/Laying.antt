@@ -2,7 +2,7 @@
 use Rattle.std.proofs.Common.{◌≡◌, ℕ, ◌+◌, ◌≤◌, List, [], ◌∷◌, ◌++◌, length, refl, ap, sym, subst, ◌∙◌, arith}
 use Rattle.uc_tree.specs.Source.{Stmt, Stmts, Nil, Then}
 use Rattle.uc_resolve.specs.Resolve.{Scope}
-use Rattle.uc_code.specs.declared.rows.Mark.{Mark}
+use Rattle.uc_code.specs.declared.rows.CodeMark.{CodeMark}
 use Rattle.uc_code.specs.Drafts.{Draft}
 use Rattle.uc_code.specs.Layout.{Laid, laid_in, routine_in}
 use Rattle.uc_code.specs.Lowered.{StmtAt, StmtsAt}
@@ -72,7 +72,7 @@ lays_one {n} {k} {c} {o} {s} {t} {old} {new} line h =
     let e : objects_in new.marks ≡ objects_in old.marks = ap objects_in m in
     let f : closing new.marks ≡ closing old.marks = ap closing m in
     record {
-      rest = h.rest ∙ ap (λ (ms : List Mark). let y : Draft = record old { ops = new.ops; rows = new.rows; settled = new.settled; marks = ms; scopes = new.scopes; names = new.names; cells = new.cells; hidden = new.hidden; texts = new.texts; sites = new.sites } in y) (sym m);
+      rest = h.rest ∙ ap (λ (ms : List CodeMark). let y : Draft = record old { ops = new.ops; rows = new.rows; settled = new.settled; marks = ms; scopes = new.scopes; names = new.names; cells = new.cells; hidden = new.hidden; texts = new.texts; sites = new.sites } in y) (sym m);
       scope = h.scope;
       opened = h.opened;
       kept = h.kept;
@@ -83,7 +83,7 @@ lays_one {n} {k} {c} {o} {s} {t} {old} {new} line h =
       steps = Does s ∷ [];
       none = tt;
       block = λ ss. refl;
-      code = subst (λ (ms : List Mark). Pending (laid_in new) line old.marks (length old.ops) (Does s ∷ []) ms (length new.ops)) (sym m) (Done [] old.marks (length old.ops) (length new.ops) s Begins h.code);
+      code = subst (λ (ms : List CodeMark). Pending (laid_in new) line old.marks (length old.ops) (Does s ∷ []) ms (length new.ops)) (sym m) (Done [] old.marks (length old.ops) (length new.ops) s Begins h.code);
     }
 
 -- the scopes of a block have ended, and it is as one piece
@@ -110,7 +110,7 @@ lays_ended {n} {k} {c} {d} {o} {line} {f} {t} {old} {mid} {new} count ce h w =
         let a : new ≡ record old { ops = new.ops; rows = new.rows; settled = new.settled; marks = new.marks; scopes = mid.scopes; names = mid.names; cells = mid.cells; hidden = mid.hidden; texts = mid.texts; sites = mid.sites } =
         w.rest ∙ ap (λ (x : Draft). let y : Draft = record x { ops = new.ops; rows = new.rows; settled = new.settled; marks = new.marks } in y) h.rest in
         subst (λ (x : Draft). new ≡ record old { ops = new.ops; rows = new.rows; settled = new.settled; scopes = x.scopes; names = x.names; cells = x.cells; hidden = x.hidden; texts = x.texts; sites = x.sites }) (sym w.rest) (
-        a ∙ ap (λ (ms : List Mark). let y : Draft = record old { ops = new.ops; rows = new.rows; settled = new.settled; marks = ms; scopes = mid.scopes; names = mid.names; cells = mid.cells; hidden = mid.hidden; texts = mid.texts; sites = mid.sites } in y) m)
+        a ∙ ap (λ (ms : List CodeMark). let y : Draft = record old { ops = new.ops; rows = new.rows; settled = new.settled; marks = ms; scopes = mid.scopes; names = mid.names; cells = mid.cells; hidden = mid.hidden; texts = mid.texts; sites = mid.sites } in y) m)
 
 -- the routine stays the same
 pub lays_routine : {n k c d o line : ℕ} {f : Stmts → Stmts} {t : Scope} {old new : Draft} → Lays n k c d o line f t old new → routine_in new.marks ≡ routine_in old.marks

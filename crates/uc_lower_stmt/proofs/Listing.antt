@@ -18,7 +18,7 @@ use Rattle.uc_tree.specs.Objects.{Making, making}
 use Rattle.uc_tree.specs.Programs.{Program}
 use Rattle.uc_tree.specs.Source as source
 use Rattle.uc_resolve.specs.Resolve.{Scope, all_declared, declared_alone, declared_then, objects_scoped, stmt_meant, stmts_meant, stmt_then, scope_after, scope_behind, with_all}
-use Rattle.uc_code.specs.declared.rows.Mark.{Mark}
+use Rattle.uc_code.specs.declared.rows.CodeMark.{CodeMark}
 use Rattle.uc_code.specs.Drafts.{Draft}
 use Rattle.uc_code.specs.Lowered.{StmtAt, StmtsAt}
 use Rattle.uc_lower_stmt.specs.declared.stmt.Objects.{Objects}
@@ -304,7 +304,7 @@ pub list_start : (p : Program) (line : ℕ) (xs : List Stmt) (old : Draft) → L
 list_start p line [] old = lays_as (lays_nothing line old) refl (λ ss. refl) (omega arith) (omega arith) (omega arith) (omega arith) (omega arith)
 list_start p line (x ∷ xs) old = lays_as (lays_nothing line old) refl (λ ss. refl) (omega arith) (omega arith) (omega arith) (omega arith) (omega arith)
 
-pub marks_count : (xs ms : List Mark) (n : ℕ) → n ≡ length xs → reverse xs ≡ ms → n ≡ length ms
+pub marks_count : (xs ms : List CodeMark) (n : ℕ) → n ≡ length xs → reverse xs ≡ ms → n ≡ length ms
 marks_count xs ms n e r = e ∙ (sym (length-reverse xs) ∙ ap length r)
 
 pub list_ended : (p : Program) (line count n : ℕ) (xs : List Stmt) (old mid new : Draft) → count ≡ length old.marks → length xs ≤ n → LaysStmts p line (take n xs) old mid → EndsScopes count mid new → LowersStmts p line (stmts_of xs) old new

@@ -20,13 +20,13 @@ use Rattle.uc_resolve.specs.Resolve.{Scope, Context, Meant, args_meant, context_
 use Rattle.uc_code.specs.declared.op.Op.TheVariants as op
 use Rattle.uc_code.specs.declared.rows.Array.{Array}
 use Rattle.uc_code.specs.declared.rows.Manner.{Manner}
-use Rattle.uc_code.specs.declared.rows.Mark.{Mark}
-use Rattle.uc_code.specs.declared.rows.Mark.TheVariants as mark
+use Rattle.uc_code.specs.declared.rows.CodeMark.{CodeMark}
+use Rattle.uc_code.specs.declared.rows.CodeMark.TheVariants as mark
 use Rattle.uc_code.specs.declared.rows.Cleaning.{Cleaning}
 use Rattle.uc_code.specs.declared.rows.Cleaning.TheVariants as cleaning
 use Rattle.uc_code.specs.declared.rows.Opening.TheVariants as opening
-use Rattle.uc_code.specs.declared.rows.Spot.{Spot}
-use Rattle.uc_code.specs.declared.rows.Spot.TheVariants.{Local}
+use Rattle.uc_code.specs.declared.rows.ObjectSpot.{ObjectSpot}
+use Rattle.uc_code.specs.declared.rows.ObjectSpot.TheVariants.{Local}
 use Rattle.uc_code.specs.Drafts.{Draft}
 use Rattle.uc_code.specs.Layout.{laid_in, routine_in}
 use Rattle.uc_code.specs.ObjectCalls.{BeginsAt, InFrame, Cleans, One as CleansOne, All, TakesDown, IsForgotten, Left, Ended, Freed, Restored}
@@ -60,16 +60,16 @@ made_behind p n wanted (made.Object i) l e = behind_by p i n wanted (written_at 
 made_behind p n wanted made.Cluster l e = absurd (cc)
 made_behind p n wanted made.Processor l e = absurd (cc)
 
-pub all_behind : (p : Program) (m : Made) (ms : List Mark) → routine_in ms < length (routines_of p) → AllStandBehind p m ms
+pub all_behind : (p : Program) (m : Made) (ms : List CodeMark) → routine_in ms < length (routines_of p) → AllStandBehind p m ms
 all_behind p m ms l = record { each = λ wanted e. made_behind p (routine_in ms) wanted m l e }
 
-pub behind_of : (p : Program) (m : Made) (wanted : Role) (how : Manner) (spot : Spot) (array : Option Array) (ms ns : List Mark) → AllStandBehind p m ms → ns ≡ ms → StandsBehind ns (call_by (made_routine p wanted m) how spot array)
-behind_of p m wanted how spot array ms ns b e = record { behind = λ f. subst (λ (l : List Mark). routine_in l < (made_routine p wanted m).number) (sym e) (b.each wanted f) }
+pub behind_of : (p : Program) (m : Made) (wanted : Role) (how : Manner) (spot : ObjectSpot) (array : Option Array) (ms ns : List CodeMark) → AllStandBehind p m ms → ns ≡ ms → StandsBehind ns (call_by (made_routine p wanted m) how spot array)
+behind_of p m wanted how spot array ms ns b e = record { behind = λ f. subst (λ (l : List CodeMark). routine_in l < (made_routine p wanted m).number) (sym e) (b.each wanted f) }
 
-pub behind_call : (p : Program) (m : Made) (spot : Spot) (array : Option Array) (what : Cleaning) (ms ns : List Mark) → what ≡ cleaning.Call (destroyer_of p m spot array) → AllStandBehind p m ms → ns ≡ ms → CleansBehind ns what
+pub behind_call : (p : Program) (m : Made) (spot : ObjectSpot) (array : Option Array) (what : Cleaning) (ms ns : List CodeMark) → what ≡ cleaning.Call (destroyer_of p m spot array) → AllStandBehind p m ms → ns ≡ ms → CleansBehind ns what
 behind_call p m spot array what ms ns w b e = subst (λ (x : Cleaning). CleansBehind ns x) (sym w) (behind_of p m role.Destructor (ended_by p m) spot array ms ns b e)
 
-pub behind_next : (p : Program) (m : Made) (ms ns : List Mark) → AllStandBehind p m ms → routine_in ns ≡ routine_in ms → AllStandBehind p m ns
+pub behind_next : (p : Program) (m : Made) (ms ns : List CodeMark) → AllStandBehind p m ms → routine_in ns ≡ routine_in ms → AllStandBehind p m ns
 behind_next p m ms ns b e = record { each = λ wanted f. let l = b.each wanted f in omega (arith, e) }
 
 -- arguments
@@ -129,7 +129,7 @@ module _ (p : Program) (m : Making) (b : Base) (d : Declarator) (line block cell
   built : Puts (OPS_FOR_SIZE * exprs_size (exprs_of args) + build_room elements) (λ code. StmtAt code d1.marks (build p line m elements (Variable cell) (args_meant (context_in p d1) (exprs_of args)))) d1 d2
   built = h2 (Variable cell) place
 
-  abbrev inner : Mark
+  abbrev inner : CodeMark
   inner = mark.Clean what block (length d2.rows)
 
   abbrev last : Draft
@@ -179,7 +179,7 @@ module _ (p : Program) (m : Making) (b : Base) (d : Declarator) (line block cell
       subst (λ (x : Option ℕ). StmtAt (laid_in last) d0.marks (build p line m x there (start_args p s d.start)) (length d1.ops) (length d2.ops)) ne (
       subst (λ (x : ℕ). StmtAt (laid_in last) d0.marks (build p line m elements (Variable x) (start_args p s d.start)) (length d1.ops) (length d2.ops)) le (
       subst (λ (x : List Meant). StmtAt (laid_in last) d0.marks (build p line m elements (Variable cell) x) (length d1.ops) (length d2.ops)) args_are (
-      subst (λ (ms : List Mark). StmtAt (laid_in last) ms (build p line m elements (Variable cell) (args_meant (context_in p d1) (exprs_of args))) (length d1.ops) (length d2.ops)) marks1 (
+      subst (λ (ms : List CodeMark). StmtAt (laid_in last) ms (build p line m elements (Variable cell) (args_meant (context_in p d1) (exprs_of args))) (length d1.ops) (length d2.ops)) marks1 (
       kept_piece (λ k. StmtAt k d1.marks (build p line m elements (Variable cell) (args_meant (context_in p d1) (exprs_of args)))) (stmt_stable d1.marks (build p line m elements (Variable cell) (args_meant (context_in p d1) (exprs_of args))))
       (laid_in d2) (laid_in last) (length d1.ops) (length d2.ops) (omega arith) keep2 built.code))))
 

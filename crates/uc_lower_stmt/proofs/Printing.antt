@@ -22,7 +22,7 @@ use Rattle.uc_tree.specs.Objects.{shape_of}
 use Rattle.uc_resolve.specs.Resolve.{Scope, Context, Meant, meant, value_of, form_of, newline, context_at, items_meant, target_meant, targets_meant}
 use Rattle.uc_code.specs.declared.op.Op.{Op}
 use Rattle.uc_code.specs.declared.op.Op.TheVariants as op
-use Rattle.uc_code.specs.declared.rows.Mark.{Mark}
+use Rattle.uc_code.specs.declared.rows.CodeMark.{CodeMark}
 use Rattle.uc_code.specs.Drafts.{Draft}
 use Rattle.uc_code.specs.Layout.{Laid, laid_in}
 use Rattle.uc_code.specs.CodeShapes.{Nothing, One, Both}
@@ -30,7 +30,7 @@ use Rattle.uc_code.specs.Lowered.{item_op, ExprAt, ItemsAt, ValuesAt, PiecesAt, 
 use Rattle.uc_code.proofs.Stable.{one_stable, kept_refl}
 use Rattle.uc_lower_expr.specs.declared.meaning.Scalar.{Scalar}
 use Rattle.uc_lower_expr.specs.declared.meaning.Scalar.TheVariants as scalar
-use Rattle.uc_lower_expr.specs.declared.meaning.Meaning.{Meaning}
+use Rattle.uc_lower_expr.specs.declared.meaning.ExprMeaning.{ExprMeaning}
 use Rattle.uc_lower_expr.specs.Meanings.{shape_as, Tells}
 use Rattle.uc_lower_expr.specs.Contexts.{context_in}
 use Rattle.uc_lower_expr.specs.DraftGrowth.{Adds, ExprCode, OpCode}
@@ -70,7 +70,7 @@ form_as_shape scalar.Character = refl
 form_as_shape scalar.Truth = refl
 form_as_shape scalar.Binding = refl
 
-pub form_told : (p : Program) (m : Meant) (t : Meaning) → Tells p t m → form_as t.scalar ≡ form_of m.ty.base
+pub form_told : (p : Program) (m : Meant) (t : ExprMeaning) → Tells p t m → form_as t.scalar ≡ form_of m.ty.base
 form_told p m t u = form_as_shape t.scalar ∙ sym (ap form_in u.shape) ∙ sym (form_of_shape m.ty.base)
 
 -- single items
@@ -205,11 +205,11 @@ module _ (program : Program) where
   pub op_text : (i : OutItem) (p : Pos) (t : List ℕ) (s : Scope) (n : ℕ) → Literal p t ≡ i → n ≡ s.texts → op.Text n ∷ [] ≡ map item_op (items_at s (i ∷ []))
   op_text i p t s n e h = subst (λ (x : OutItem). op.Text n ∷ [] ≡ map item_op (items_at s (x ∷ []))) e (ap (λ (y : ℕ). let l : List Op = op.Text y ∷ [] in l) h)
 
-  pub op_value : (i : OutItem) (p : Pos) (v : tree.Expr) (s : Scope) (t : Meaning) (n : ValueForm) → Printed p v ≡ i → n ≡ form_as t.scalar → Tells program t (meant (context_at program s) v) → op.Print n ∷ [] ≡ map item_op (items_at s (i ∷ []))
+  pub op_value : (i : OutItem) (p : Pos) (v : tree.Expr) (s : Scope) (t : ExprMeaning) (n : ValueForm) → Printed p v ≡ i → n ≡ form_as t.scalar → Tells program t (meant (context_at program s) v) → op.Print n ∷ [] ≡ map item_op (items_at s (i ∷ []))
   op_value i p v s t n e h u = subst (λ (x : OutItem). op.Print n ∷ [] ≡ map item_op (items_at s (x ∷ []))) e (ap (λ (y : ValueForm). let l : List Op = op.Print y ∷ [] in l) (h ∙ form_told program (meant (context_at program s) v) t u))
 
   -- an item with its op: where there is one value, its op stands behind it
-  one_item : (is : List Item) (o : Op) (line : ℕ) (ms : List Mark) (code : Laid) (a b z : ℕ) → o ∷ [] ≡ map item_op is → ValuesAt code line ms is a b → One code o line b z → ItemsAt code line ms is a z
+  one_item : (is : List Item) (o : Op) (line : ℕ) (ms : List CodeMark) (code : Laid) (a b z : ℕ) → o ∷ [] ≡ map item_op is → ValuesAt code line ms is a b → One code o line b z → ItemsAt code line ms is a z
   one_item [] o line ms code a b z e h g = cc
   one_item (i ∷ []) o line ms code a b z e h g =
       let is : o ≡ item_op i = cc in
@@ -233,11 +233,11 @@ module _ (program : Program) where
       ∙ ap (λ l. ShowText s.texts ∷ l) (items_push (record s { texts = s.texts + 1 }) xs x)
   items_push s (Printed p v ∷ xs) x = ap (λ l. Show (form_of (meant (context_at program s) v).ty.base) (value_of (meant (context_at program s) v)) ∷ l) (items_push s xs x)
 
-  items_at_append : (line : ℕ) (ms : List Mark) (code : Laid) (xs ys : List Item) (a b z : ℕ) → ItemsAt code line ms xs a b → ItemsAt code line ms ys b z → ItemsAt code line ms (xs ++ ys) a z
+  items_at_append : (line : ℕ) (ms : List CodeMark) (code : Laid) (xs ys : List Item) (a b z : ℕ) → ItemsAt code line ms xs a b → ItemsAt code line ms ys b z → ItemsAt code line ms (xs ++ ys) a z
   items_at_append line ms code [] ys a b z h g = subst (λ y. ItemsAt code line ms ys y z) h.end g
   items_at_append line ms code (x ∷ xs) ys a b z h g = record { middle = h.middle; first = h.first; second = record { middle = h.second.middle; first = h.second.first; second = items_at_append line ms code xs ys h.second.middle b z h.second.second g } }
 
-  values_at_append : (line : ℕ) (ms : List Mark) (code : Laid) (xs ys : List Item) (a b z : ℕ) → ValuesAt code line ms xs a b → ValuesAt code line ms ys b z → ValuesAt code line ms (xs ++ ys) a z
+  values_at_append : (line : ℕ) (ms : List CodeMark) (code : Laid) (xs ys : List Item) (a b z : ℕ) → ValuesAt code line ms xs a b → ValuesAt code line ms ys b z → ValuesAt code line ms (xs ++ ys) a z
   values_at_append line ms code [] ys a b z h g = subst (λ y. ValuesAt code line ms ys y z) h.end g
   values_at_append line ms code (x ∷ xs) ys a b z h g = record { middle = h.middle; first = h.first; second = values_at_append line ms code xs ys h.middle b z h.second g }
 
@@ -250,7 +250,7 @@ module _ (program : Program) where
       let s : Scope = scope_of old in
       let split : ys ++ x ∷ [] ≡ take (i + 1) xs = ap (λ (y : OutItem). ys ++ y ∷ []) e ∙ sym (take_more xs i x h) in
       let k0 : Lowers (OPS_FOR_SIZE * out_item_size x) (out_item_size x) 0 0 (ItemsCode line old.marks (items_at (scope_of mid) (x ∷ []))) (with_texts (scope_of mid) (texts_among (x ∷ []))) mid new =
-      subst (λ (l : List Mark). Lowers (OPS_FOR_SIZE * out_item_size x) (out_item_size x) 0 0 (ItemsCode line l (items_at (scope_of mid) (x ∷ []))) (with_texts (scope_of mid) (texts_among (x ∷ []))) mid new) (ap (λ (d : Draft). d.marks) g.rest) k in
+      subst (λ (l : List CodeMark). Lowers (OPS_FOR_SIZE * out_item_size x) (out_item_size x) 0 0 (ItemsCode line l (items_at (scope_of mid) (x ∷ []))) (with_texts (scope_of mid) (texts_among (x ∷ []))) mid new) (ap (λ (d : Draft). d.marks) g.rest) k in
       let k1 : Lowers (OPS_FOR_SIZE * out_item_size x) (out_item_size x) 0 0 (ItemsCode line old.marks (items_at (with_texts s (texts_among ys)) (x ∷ []))) (with_texts (with_texts s (texts_among ys)) (texts_among (x ∷ []))) mid new =
       subst (λ (t : Scope). Lowers (OPS_FOR_SIZE * out_item_size x) (out_item_size x) 0 0 (ItemsCode line old.marks (items_at t (x ∷ []))) (with_texts t (texts_among (x ∷ []))) mid new) g.scope k0 in
       subst (λ (zs : List OutItem). Lowers (OPS_FOR_SIZE * out_items_size zs) (out_items_size zs) 0 0 (ItemsCode line old.marks (items_at s zs)) (with_texts s (texts_among zs)) old new) split (
@@ -267,7 +267,7 @@ module _ (program : Program) where
       let s : Scope = scope_of old in
       let split : ys ++ x ∷ [] ≡ take (i + 1) xs = ap (λ (y : OutItem). ys ++ y ∷ []) e ∙ sym (take_more xs i x h) in
       let k0 : Lowers (OPS_FOR_SIZE * out_item_size x - 1) (out_item_size x) 0 0 (ValuesCode line old.marks (items_at (scope_of mid) (x ∷ []))) (with_texts (scope_of mid) (texts_among (x ∷ []))) mid new =
-      subst (λ (l : List Mark). Lowers (OPS_FOR_SIZE * out_item_size x - 1) (out_item_size x) 0 0 (ValuesCode line l (items_at (scope_of mid) (x ∷ []))) (with_texts (scope_of mid) (texts_among (x ∷ []))) mid new) (ap (λ (d : Draft). d.marks) g.rest) k in
+      subst (λ (l : List CodeMark). Lowers (OPS_FOR_SIZE * out_item_size x - 1) (out_item_size x) 0 0 (ValuesCode line l (items_at (scope_of mid) (x ∷ []))) (with_texts (scope_of mid) (texts_among (x ∷ []))) mid new) (ap (λ (d : Draft). d.marks) g.rest) k in
       let k1 : Lowers (OPS_FOR_SIZE * out_item_size x - 1) (out_item_size x) 0 0 (ValuesCode line old.marks (items_at (with_texts s (texts_among ys)) (x ∷ []))) (with_texts (with_texts s (texts_among ys)) (texts_among (x ∷ []))) mid new =
       subst (λ (t : Scope). Lowers (OPS_FOR_SIZE * out_item_size x - 1) (out_item_size x) 0 0 (ValuesCode line old.marks (items_at t (x ∷ []))) (with_texts t (texts_among (x ∷ []))) mid new) g.scope k0 in
       let c = items_count xs i (omega arith) in
@@ -307,7 +307,7 @@ module _ (program : Program) where
       lowers_as (lowers_put (values_stable line d0.marks is) h1 (adds_both (one_stable op.Hold line) h2 (adds_both (pieces_stable line is) h3' h4))) refl (λ code a z w. w) (omega (arith, n, c)) (omega arith) (omega arith) (omega arith)
 
   -- places that are read
-  pub arm_target : (n line : ℕ) (ms : List Mark) (form : ValueForm) (m : Meant) (t : Meaning) (k : ℕ) (d0 d1 d2 d3 : Draft) → n + 2 ≤ k → form ≡ form_as t.scalar → Tells program t m → Adds n (ExprCode line ms m.expr) d0 d1 → Adds 1 (OpCode line (op.Read form)) d1 d2 → Adds 1 (OpCode line op.Store) d2 d3 → Adds k (TargetsCode line ms (record { form = form_of m.ty.base; place = m.expr } ∷ [])) d0 d3
+  pub arm_target : (n line : ℕ) (ms : List CodeMark) (form : ValueForm) (m : Meant) (t : ExprMeaning) (k : ℕ) (d0 d1 d2 d3 : Draft) → n + 2 ≤ k → form ≡ form_as t.scalar → Tells program t m → Adds n (ExprCode line ms m.expr) d0 d1 → Adds 1 (OpCode line (op.Read form)) d1 d2 → Adds 1 (OpCode line op.Store) d2 d3 → Adds k (TargetsCode line ms (record { form = form_of m.ty.base; place = m.expr } ∷ [])) d0 d3
   arm_target n line ms form m t k d0 d1 d2 d3 l e u h1 h2 h3 =
       let h2' : Adds 1 (OpCode line (op.Read (form_of m.ty.base))) d1 d2 = subst (λ (x : ValueForm). Adds 1 (OpCode line (op.Read x)) d1 d2) (e ∙ form_told program m t u) h2 in
       let h3' : Adds 1 (λ code. Both (One code op.Store line) Nothing) d2 d3 = adds_as h3 (λ code a z w. and_none (One code op.Store line) a z w) in
@@ -317,7 +317,7 @@ module _ (program : Program) where
   targets_push c [] x = refl
   targets_push c (y ∷ ys) x = ap (λ l. target_meant c y ∷ l) (targets_push c ys x)
 
-  targets_at_append : (line : ℕ) (ms : List Mark) (code : Laid) (xs ys : List Target) (a b z : ℕ) → TargetsAt code line ms xs a b → TargetsAt code line ms ys b z → TargetsAt code line ms (xs ++ ys) a z
+  targets_at_append : (line : ℕ) (ms : List CodeMark) (code : Laid) (xs ys : List Target) (a b z : ℕ) → TargetsAt code line ms xs a b → TargetsAt code line ms ys b z → TargetsAt code line ms (xs ++ ys) a z
   targets_at_append line ms code [] ys a b z h g = subst (λ y. TargetsAt code line ms ys y z) h.end g
   targets_at_append line ms code (x ∷ xs) ys a b z h g = record { middle = h.middle; first = h.first; second = record { middle = h.second.middle; first = h.second.first; second = record { middle = h.second.second.middle; first = h.second.second.first; second = targets_at_append line ms code xs ys h.second.second.middle b z h.second.second.second g } } }
 

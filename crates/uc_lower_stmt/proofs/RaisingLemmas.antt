@@ -12,7 +12,7 @@ use Rattle.uc_tree.specs.Source.{BuiltAt, CallOn, Exprs, OfObject, Plainly, Agai
 use Rattle.uc_tree.specs.declared.pos.Pos.{Pos}
 use Rattle.uc_tree.specs.Statements.{Raise, RaiseAt, Raised, Stmt, Throw}
 use Rattle.uc_code.specs.declared.op.Op.TheVariants as op
-use Rattle.uc_code.specs.declared.rows.Mark.{Mark}
+use Rattle.uc_code.specs.declared.rows.CodeMark.{CodeMark}
 use Rattle.uc_code.specs.Drafts.{Draft}
 use Rattle.uc_code.specs.Layout.{Laid, laid_in}
 use Rattle.uc_code.specs.Lowered.{FieldsAt, RaisedAt}
@@ -48,7 +48,7 @@ built_raised p line event r cell n ps es d0 d1 d2 d3 d4 d5 d6 pe a1 a2 a3 a4 a5 
     let args : Exprs = args_by ps (args_meant (context_in p d0) es) in
     let c3 : Adds n (ArgumentsCode line d0.marks args) d2 d3 = subst (λ (d : Draft). Adds n (ArgumentsCode line d.marks (args_by ps (args_meant (context_in p d) es))) d2 d3) e2 a3 in
     let m4 : d4.marks ≡ d0.marks = adds_marks a4 ∙ adds_marks a3 ∙ adds_marks a2 ∙ adds_marks a1 in
-    let c5 : Adds 1 (RiskCode line d0.marks (op.CallOn r)) d4 d5 = subst (λ (ms : List Mark). Adds 1 (RiskCode line ms (op.CallOn r)) d4 d5) m4 a5 in
+    let c5 : Adds 1 (RiskCode line d0.marks (op.CallOn r)) d4 d5 = subst (λ (ms : List CodeMark). Adds 1 (RiskCode line ms (op.CallOn r)) d4 d5) m4 a5 in
     let call = adds_both (one_stable (op.Local cell) line) a2 (adds_both (args_stable line d0.marks args) c3 (adds_both (one_stable op.Tick line) a4 c5)) in
     subst (λ (xs : List Param). Puts (n + 8) (λ code. RaisedAt code line d0.marks (built_at p xs es event r cell d0)) d0 d6) pe
     (puts_more (omega arith) (puts_both (one_stable (op.Clear cell EVENT_FIELDS) line) (puts_adds a1) (puts_both (expr_stable line d0.marks (OfObject (CallOn r (Variable cell) args))) (puts_adds call) b)))
@@ -85,7 +85,7 @@ module _ (p : Program) (line event cell : ℕ) (r : Raised) (d0 d1 d2 : Draft) (
 
   pub arm_plain : event_constructor p r.name ≡ None → Puts 3 (λ code. RaisedAt code line d1.marks (Plainly event)) d1 d2 → LowersRaised p line (Some r) d0 d2
   arm_plain none w =
-      let here : What 3 (Plainly event) = subst (λ (ms : List Mark). Puts 3 (λ code. RaisedAt code line ms (Plainly event)) d1 d2) (ap (λ (d : Draft). d.marks) e) w in
+      let here : What 3 (Plainly event) = subst (λ (ms : List CodeMark). Puts 3 (λ code. RaisedAt code line ms (Plainly event)) d1 d2) (ap (λ (d : Draft). d.marks) e) w in
       lowers_as (raised_puts EVENT_FIELDS e (means 3 None none here)) refl (λ code a z x. x) (omega arith) (omega arith) (omega arith) refl
 
   pub arm_built : (routine : ℕ) (es : tree.Exprs) → es ≡ r.args → event_constructor p r.name ≡ Some routine → Puts (OPS_FOR_SIZE * exprs_size es + 8) (λ code. RaisedAt code line d1.marks (built_at p (params_of p routine) es event routine cell d1)) d1 d2 → LowersRaised p line (Some r) d0 d2
@@ -108,12 +108,12 @@ arm_again p line r cell d0 d1 is e w =
 
 pub arm_throw : (p : Program) (line : ℕ) (r : Option Raised) (d0 d1 d2 : Draft) → LowersRaised p line r d0 d1 → Puts 1 (λ code. Risk code d1.marks op.Throw line) d1 d2 → LowersRaise p (source.Throw line (raised_meant p (scope_of d0) r)) r d0 d2
 arm_throw p line r d0 d1 d2 h w =
-    let here : Puts 1 (λ code. Risk code d0.marks op.Throw line) d1 d2 = subst (λ (ms : List Mark). Puts 1 (λ code. Risk code ms op.Throw line) d1 d2) (ap (λ (d : Draft). d.marks) h.rest) w in
+    let here : Puts 1 (λ code. Risk code d0.marks op.Throw line) d1 d2 = subst (λ (ms : List CodeMark). Puts 1 (λ code. Risk code ms op.Throw line) d1 d2) (ap (λ (d : Draft). d.marks) h.rest) w in
     lowers_as (lowers_join (raised_stable line d0.marks (raised_meant p (scope_of d0) r)) h (lowers_puts 0 0 here)) h.scope (λ code a z x. x) (omega arith) (omega arith) (omega arith) refl
 
 pub arm_raise : (p : Program) (line : ℕ) (r : Option Raised) (d0 d1 d2 : Draft) → LowersRaised p line r d0 d1 → Puts 2 (λ code. Both (Risk code d1.marks op.Raise line) (One code op.Discard line)) d1 d2 → LowersRaise p (source.Raise line (raised_meant p (scope_of d0) r)) r d0 d2
 arm_raise p line r d0 d1 d2 h w =
-    let here : Puts 2 (λ code. Both (Risk code d0.marks op.Raise line) (One code op.Discard line)) d1 d2 = subst (λ (ms : List Mark). Puts 2 (λ code. Both (Risk code ms op.Raise line) (One code op.Discard line)) d1 d2) (ap (λ (d : Draft). d.marks) h.rest) w in
+    let here : Puts 2 (λ code. Both (Risk code d0.marks op.Raise line) (One code op.Discard line)) d1 d2 = subst (λ (ms : List CodeMark). Puts 2 (λ code. Both (Risk code ms op.Raise line) (One code op.Discard line)) d1 d2) (ap (λ (d : Draft). d.marks) h.rest) w in
     lowers_as (lowers_join (raised_stable line d0.marks (raised_meant p (scope_of d0) r)) h (lowers_puts 0 0 here)) h.scope (λ code a z x. x) (omega arith) (omega arith) (omega arith) refl
 
 -- behind the event stands its target
@@ -125,7 +125,7 @@ arm_raise_at p line r e d0 d1 d2 d3 h a b =
     let target : source.Expr = (meant (context_at p s) e).expr in
     let a1 : Adds (OPS_FOR_SIZE * expr_size e - 2) (ExprCode line d0.marks target) d1 d2 =
     subst (λ (c : Context). Adds (OPS_FOR_SIZE * expr_size e - 2) (ExprCode line d0.marks (meant c e).expr) d1 d2) same (
-    subst (λ (ms : List Mark). Adds (OPS_FOR_SIZE * expr_size e - 2) (ExprCode line ms (meant (context_in p d1) e).expr) d1 d2) marks a) in
+    subst (λ (ms : List CodeMark). Adds (OPS_FOR_SIZE * expr_size e - 2) (ExprCode line ms (meant (context_in p d1) e).expr) d1 d2) marks a) in
     let all = lowers_join (raised_stable line d0.marks (raised_meant p s (Some r))) h (lowers_adds 0 0 (adds_both (expr_stable line d0.marks target) a1 b)) in
     let scope : scope_of d3 ≡ hidden_past s EVENT_FIELDS = ap scope_of b.rest ∙ ap scope_of a.rest ∙ h.scope in
     lowers_as all (sym all.scope ∙ scope) (λ code x z w. w) (omega arith) (omega arith) (omega arith) refl

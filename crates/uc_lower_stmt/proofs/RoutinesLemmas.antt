@@ -24,8 +24,8 @@ use Rattle.uc_code.specs.declared.op.Op.TheVariants as op
 use Rattle.uc_code.specs.declared.rows.Cleaning.TheVariants as cleaning
 use Rattle.uc_code.specs.declared.rows.MainOf.{MainOf}
 use Rattle.uc_code.specs.declared.rows.MainOf.TheVariants as main_of
-use Rattle.uc_code.specs.declared.rows.Mark.{Mark}
-use Rattle.uc_code.specs.declared.rows.Mark.TheVariants as mark
+use Rattle.uc_code.specs.declared.rows.CodeMark.{CodeMark}
+use Rattle.uc_code.specs.declared.rows.CodeMark.TheVariants as mark
 use Rattle.uc_code.specs.declared.rows.Opening.TheVariants as opening
 use Rattle.uc_code.specs.declared.rows.RoutineCode.{RoutineCode}
 use Rattle.uc_code.specs.Drafts.{Draft}
@@ -123,13 +123,13 @@ module _ (p : Program) (r : Routine) (main : MainOf) (number line : ℕ) (body :
   code = laid_in new
 
   marks1 : d1.marks ≡ mark.Finish main number line row ∷ []
-  marks1 = ap (λ (d : Draft). d.marks) oe ∙ ap (λ (ms : List Mark). mark.Finish main number line row ∷ ms) none
+  marks1 = ap (λ (d : Draft). d.marks) oe ∙ ap (λ (ms : List CodeMark). mark.Finish main number line row ∷ ms) none
 
   marks2 : d2.marks ≡ mark.Finish main number line row ∷ []
   marks2 = ap (λ (d : Draft). d.marks) h.rest ∙ marks1
 
   marks3 : d3.marks ≡ d0.marks
-  marks3 = closed_marks 1 row d2 d3 ce (ap row_in marks2) ∙ ap (λ (ms : List Mark). drop 1 ms) marks2 ∙ sym none
+  marks3 = closed_marks 1 row d2 d3 ce (ap row_in marks2) ∙ ap (λ (ms : List CodeMark). drop 1 ms) marks2 ∙ sym none
 
   ops1 : length d1.ops ≡ length d0.ops
   ops1 = ap (λ (d : Draft). length d.ops) oe
@@ -153,7 +153,7 @@ module _ (p : Program) (r : Routine) (main : MainOf) (number line : ℕ) (body :
   body_at =
       subst (λ (s : Scope). StmtsAt code (mark.Finish main number line row ∷ []) line (stmts_meant p body s) (length d0.ops) (length d2.ops)) scope1 (
       subst (λ (a : ℕ). StmtsAt code (mark.Finish main number line row ∷ []) line (stmts_meant p body (scope_of d1)) a (length d2.ops)) ops1 (
-      subst (λ (ms : List Mark). StmtsAt code ms line (stmts_meant p body (scope_of d1)) (length d1.ops) (length d2.ops)) marks1 (
+      subst (λ (ms : List CodeMark). StmtsAt code ms line (stmts_meant p body (scope_of d1)) (length d1.ops) (length d2.ops)) marks1 (
       kept_piece (λ c. StmtsAt c d1.marks line (stmts_meant p body (scope_of d1))) (stmts_stable d1.marks line (stmts_meant p body (scope_of d1))) (laid_in d2) code (length d1.ops) (length d2.ops) (omega arith) keep2 h.code)))
 
   main_at : MainAt code main number line (λ ms. StmtsAt code ms line (stmts_meant p body (scope_of d0))) (length d0.ops) (length new.ops)
@@ -174,7 +174,7 @@ module _ (p : Program) (r : Routine) (main : MainOf) (number line : ℕ) (body :
       like_closed 1 d2 d2 d3 refl ce
       ∙ ap (λ (d : Draft). let x : Draft = record d { ops = d3.ops; rows = d3.rows; settled = d3.settled; marks = d3.marks } in x) h.rest
       ∙ ap (λ (d : Draft). let x : Draft = record d { ops = d3.ops; rows = d3.rows; settled = d3.settled; marks = d3.marks; scopes = d2.scopes; names = d2.names; cells = d2.cells; hidden = d2.hidden; texts = d2.texts; sites = d2.sites } in x) oe
-      ∙ ap (λ (ms : List Mark). let x : Draft = record d0 { ops = d3.ops; rows = d3.rows; settled = d3.settled; marks = ms; scopes = d2.scopes; names = d2.names; cells = d2.cells; hidden = d2.hidden; texts = d2.texts; sites = d2.sites } in x) marks3
+      ∙ ap (λ (ms : List CodeMark). let x : Draft = record d0 { ops = d3.ops; rows = d3.rows; settled = d3.settled; marks = ms; scopes = d2.scopes; names = d2.names; cells = d2.cells; hidden = d2.hidden; texts = d2.texts; sites = d2.sites } in x) marks3
 
   rest : new ≡ record d0 { ops = new.ops; rows = d3.rows; settled = d3.settled; scopes = d2.scopes; names = d2.names; cells = d2.cells; hidden = d2.hidden; texts = d2.texts; sites = d2.sites }
   rest = g5.rest ∙ ap (λ (d : Draft). let x : Draft = record d { ops = new.ops } in x) g4.rest ∙ ap (λ (d : Draft). let x : Draft = record d { ops = new.ops } in x) rest3
@@ -215,7 +215,7 @@ pub called_lowered : (p : Program) (r : Routine) (b : Base) (number line : ℕ) 
     → d1 ≡ record d0 { marks = mark.Body number ∷ d0.marks } → LowersStmts p line body d1 d2 → d3 ≡ record d2 { marks = left_marks d2.marks } → Adds 2 (EndCode (is_void b) line) d3 new → LowersRoutine p (value_purpose p r.sig.ret) number r d0 new
 called_lowered p r b number line body d0 d1 d2 d3 new none le be re e1 h e3 g =
     let first : Draft = record d0 { marks = mark.Body number ∷ [] } in
-    let is : d1 ≡ first = e1 ∙ ap (λ (ms : List Mark). let x : Draft = record d0 { marks = mark.Body number ∷ ms } in x) none in
+    let is : d1 ≡ first = e1 ∙ ap (λ (ms : List CodeMark). let x : Draft = record d0 { marks = mark.Body number ∷ ms } in x) none in
     let none_in : objects_in d1.marks ≡ 0 = ap (λ (d : Draft). objects_in d.marks) is in
     let size : sizes_at body (objects_in d1.marks) ≡ sizes_at body 0 = ap (sizes_at body) none_in in
     let all = lowers_put (stmts_stable d1.marks line (stmts_meant p body (scope_of d1))) (lowers_marked (mark.Body number) d0 d3 refl e1 e3 h) g in
@@ -229,7 +229,7 @@ called_lowered p r b number line body d0 d1 d2 d3 new none le be re e1 h e3 g =
 
 -- behind those of a mutex member, and in the scope that leaves its object
 
-owed_at : (p : Program) (all : Laid) (v : Bool) (ms : List Mark) (line a z : ℕ) → OwedCode v line all a z → StmtsAt all ms 0 (owing p line (if v then source.Procedure else source.Function)) a z
+owed_at : (p : Program) (all : Laid) (v : Bool) (ms : List CodeMark) (line a z : ℕ) → OwedCode v line all a z → StmtsAt all ms 0 (owing p line (if v then source.Procedure else source.Function)) a z
 owed_at p all true ms line a z h = h
 owed_at p all false ms line a z h = record { middle = z; first = h; second = record { end = refl } }
 
@@ -242,7 +242,7 @@ module _ (p : Program) (v : Bool) (routine line : ℕ) (body : Stmts) (d1 d2 d3 
   abbrev scope_row : ℕ
   scope_row = length d1.rows
 
-  abbrev within : List Mark
+  abbrev within : List CodeMark
   within = mark.Clean cleaning.Leave 0 scope_row ∷ d1.marks
 
   abbrev last : Laid
@@ -273,7 +273,7 @@ module _ (p : Program) (v : Bool) (routine line : ℕ) (body : Stmts) (d1 d2 d3 
   block_at =
       subst (λ (s : Scope). StmtsAt last within line (stmts_meant p body s) (length d1.ops) (length d3.ops)) scope2 (
       subst (λ (a : ℕ). StmtsAt last within line (stmts_meant p body (scope_of d2)) a (length d3.ops)) ops2 (
-      subst (λ (ms : List Mark). StmtsAt last ms line (stmts_meant p body (scope_of d2)) (length d2.ops) (length d3.ops)) within2 (
+      subst (λ (ms : List CodeMark). StmtsAt last ms line (stmts_meant p body (scope_of d2)) (length d2.ops) (length d3.ops)) within2 (
       kept_piece (λ c. StmtsAt c d2.marks line (stmts_meant p body (scope_of d2))) (stmts_stable d2.marks line (stmts_meant p body (scope_of d2))) (laid_in d3) last (length d2.ops) (length d3.ops) (omega arith) stays4 h.code)))
 
   owes_at : StmtsAt last within 0 (owing p line (if v then source.Procedure else source.Function)) (length d3.ops) (length d4.ops)
@@ -295,11 +295,11 @@ module _ (p : Program) (v : Bool) (routine line : ℕ) (body : Stmts) (d1 d2 d3 
       c5.rest ∙ ap (λ (d : Draft). let x : Draft = record d { ops = d5.ops; rows = d5.rows; settled = d5.settled; marks = d5.marks } in x) g4.rest
       ∙ ap (λ (d : Draft). let x : Draft = record d { ops = d5.ops; rows = d5.rows; settled = d5.settled; marks = d5.marks } in x) h.rest
       ∙ ap (λ (d : Draft). let x : Draft = record d { ops = d5.ops; rows = d5.rows; settled = d5.settled; marks = d5.marks; scopes = d3.scopes; names = d3.names; cells = d3.cells; hidden = d3.hidden; texts = d3.texts; sites = d3.sites } in x) e2
-      ∙ ap (λ (ms : List Mark). let x : Draft = record d1 { ops = d5.ops; rows = d5.rows; settled = d5.settled; marks = ms; scopes = d3.scopes; names = d3.names; cells = d3.cells; hidden = d3.hidden; texts = d3.texts; sites = d3.sites } in x) outside5
+      ∙ ap (λ (ms : List CodeMark). let x : Draft = record d1 { ops = d5.ops; rows = d5.rows; settled = d5.settled; marks = ms; scopes = d3.scopes; names = d3.names; cells = d3.cells; hidden = d3.hidden; texts = d3.texts; sites = d3.sites } in x) outside5
 
   pub mutex_scoped : Lowers (OPS_FOR_SIZE * sizes_at body 0 + 20) (stmts_size body) (stmts_cells body (declared_cells p)) (stmts_scopes body) (λ code. StmtsAt code d1.marks 0 (source.Scoped source.Leaves mutex_meant)) (scope_behind p body (scope_of d1)) d1 d5
   mutex_scoped =
-      let none_in : objects_in d2.marks ≡ 0 = ap objects_in (within2 ∙ ap (λ (ms : List Mark). mark.Clean cleaning.Leave 0 scope_row ∷ ms) in_body) in
+      let none_in : objects_in d2.marks ≡ 0 = ap objects_in (within2 ∙ ap (λ (ms : List CodeMark). mark.Clean cleaning.Leave 0 scope_row ∷ ms) in_body) in
       let size : sizes_at body (objects_in d2.marks) ≡ sizes_at body 0 = ap (sizes_at body) none_in in
       let scopes2 : d2.scopes ≡ d1.scopes = ap (λ (d : Draft). d.scopes) e2 in
       let texts2 : d2.texts ≡ d1.texts = ap (λ (d : Draft). d.texts) e2 in
@@ -329,7 +329,7 @@ pub mutex_lowered : (p : Program) (r : Routine) (b : Base) (number line : ℕ) (
     → ClosesScope call_room cleaning.Leave 0 d4 d5 → d6 ≡ record d5 { marks = left_marks d5.marks } → Adds 1 (OpCode 0 op.Return) d6 new → LowersMutex p number r d0 new
 mutex_lowered p r b number line body d0 d1 d2 d3 d4 d5 d6 new none le be re e1 e2 k2 h g4 c5 e6 g =
     let first : Draft = record d0 { marks = mark.Body number ∷ [] } in
-    let is : d1 ≡ first = e1 ∙ ap (λ (ms : List Mark). let x : Draft = record d0 { marks = mark.Body number ∷ ms } in x) none in
+    let is : d1 ≡ first = e1 ∙ ap (λ (ms : List CodeMark). let x : Draft = record d0 { marks = mark.Body number ∷ ms } in x) none in
     let scoped = mutex_scoped p (is_void b) number line body d1 d2 d3 d4 d5 (ap (λ (d : Draft). d.marks) is) e2 k2 h g4 c5 in
     let all = lowers_put (stmts_stable d1.marks 0 (source.Scoped source.Leaves (source.Then (source.Block line (stmts_meant p body (scope_of d1))) (owing p line (value_purpose p b))))) (lowers_marked (mark.Body number) d0 d6 refl e1 e6 scoped) g in
     let whole : MutexOf p b number line body d0 new =

@@ -7,7 +7,7 @@ use Rattle.uc_tree.specs.Statements.{Declarator, ForStart, NoFor, ForDeclare, Fo
 use Rattle.uc_tree.specs.Scopes.{alone_scopes}
 use Rattle.uc_tree.specs.Programs.{Program}
 use Rattle.uc_resolve.specs.Resolve.{Scope, with_declared, with_all, declared_known, names_behind, scope_after, scope_behind, for_scope}
-use Rattle.uc_code.specs.declared.draft_parts.Outside.{Outside}
+use Rattle.uc_code.specs.declared.draft_parts.OuterScope.{OuterScope}
 use Rattle.uc_code.specs.Drafts.{Draft}
 use Rattle.uc_code.specs.Layout.{Laid}
 use Rattle.uc_lower_stmt.specs.LowersStatement.{Lowers, LowersStmt, scope_of}
@@ -18,7 +18,7 @@ use Rattle.uc_lower_stmt.proofs.Joined.{lowers_as}
 abbrev pub opened : Draft → Draft
 opened d = record d { place = record d.place { scope = d.scopes + 1 }; scopes = d.scopes + 1 }
 
-pub lowers_scoped : {n k c o : ℕ} {S : Laid → ℕ → ℕ → Type 0} {t : Scope} {old last : Draft} → (out : Outside) (new : Draft) → out ≡ record { names = length old.names; scope = old.place.scope } → take (length old.names) t.names ≡ old.names
+pub lowers_scoped : {n k c o : ℕ} {S : Laid → ℕ → ℕ → Type 0} {t : Scope} {old last : Draft} → (out : OuterScope) (new : Draft) → out ≡ record { names = length old.names; scope = old.place.scope } → take (length old.names) t.names ≡ old.names
     → Lowers n k c o S t (opened old) last → new ≡ record last { place = record last.place { scope = out.scope }; names = take out.names last.names } → Lowers n k c (1 + o) S (record t { names = old.names }) old new
 lowers_scoped {n} {k} {c} {o} {S} {t} {old} {last} out new oe te h e =
     subst (λ (d : Draft). Lowers n k c (1 + o) S (record t { names = old.names }) old d) (sym is) (record {
@@ -39,7 +39,7 @@ lowers_scoped {n} {k} {c} {o} {S} {t} {old} {last} out new oe te h e =
     g = subst (λ (d : Draft). Lowers n k c o S t (opened old) d) h.rest h
 
     is : new ≡ record old { ops = last.ops; rows = last.rows; settled = last.settled; scopes = last.scopes; names = take (length old.names) last.names; cells = last.cells; hidden = last.hidden; texts = last.texts; sites = last.sites }
-    is = e ∙ ap (λ (x : Outside). let d : Draft = record last { place = record last.place { scope = x.scope }; names = take x.names last.names } in d) oe
+    is = e ∙ ap (λ (x : OuterScope). let d : Draft = record last { place = record last.place { scope = x.scope }; names = take x.names last.names } in d) oe
         ∙ ap (λ (x : Draft). let d : Draft = record x { place = record x.place { scope = old.place.scope }; names = take (length old.names) last.names } in d) h.rest
 
 -- the names in scope only grow
@@ -194,7 +194,7 @@ arm_alone p s old new e h =
     let none = no_scope s e in
     lowers_as h (ap (λ (ns : List LocalVariable). let t : Scope = record (scope_after p s (scope_of old)) { names = ns } in t) (names_left p s (scope_of old) e)) (λ code a z w. w) (omega arith) (omega arith) (omega arith) (omega arith)
 
-pub arm_alone_scoped : (p : Program) (s : Stmt) (out : Outside) (old d1 d2 new : Draft) → is_declaration s ≡ true → out ≡ record { names = length old.names; scope = old.place.scope } → d1 ≡ opened old → LowersStmt p s d1 d2
+pub arm_alone_scoped : (p : Program) (s : Stmt) (out : OuterScope) (old d1 d2 new : Draft) → is_declaration s ≡ true → out ≡ record { names = length old.names; scope = old.place.scope } → d1 ≡ opened old → LowersStmt p s d1 d2
     → new ≡ record d2 { place = record d2.place { scope = out.scope }; names = take out.names d2.names } → LowersAlone p s old new
 arm_alone_scoped p s out old d1 d2 new e oe e1 h e2 =
     let one = one_scope s e in

@@ -4,7 +4,7 @@ use Rattle.std.proofs.lemmas.Option.{slice_get_within}
 use Rattle.uc_tree.specs.Source.{Order}
 use Rattle.uc_resolve.specs.Resolve.{Scope}
 use Rattle.uc_code.specs.declared.op.Op.TheVariants as op
-use Rattle.uc_code.specs.declared.rows.Mark.{Mark}
+use Rattle.uc_code.specs.declared.rows.CodeMark.{CodeMark}
 use Rattle.uc_code.specs.Drafts.{Draft, patched}
 use Rattle.uc_code.specs.Layout.{Laid, laid_in}
 use Rattle.uc_code.specs.OpenRows.{left_marks}
@@ -53,12 +53,12 @@ lowers_done {n} {k} {c} {o} {m} {S} {T} {s} {old} {mid} {new} h e g =
     })
 
 -- what is lowered under one more mark, which is left behind it
-pub lowers_marked : {n k c o : ℕ} {S : Laid → ℕ → ℕ → Type 0} {s : Scope} {mid last : Draft} → (m : Mark) (old new : Draft) → left_marks (m ∷ old.marks) ≡ old.marks → mid ≡ record old { marks = m ∷ old.marks } → new ≡ record last { marks = left_marks last.marks } → Lowers n k c o S s mid last → Lowers n k c o S s old new
+pub lowers_marked : {n k c o : ℕ} {S : Laid → ℕ → ℕ → Type 0} {s : Scope} {mid last : Draft} → (m : CodeMark) (old new : Draft) → left_marks (m ∷ old.marks) ≡ old.marks → mid ≡ record old { marks = m ∷ old.marks } → new ≡ record last { marks = left_marks last.marks } → Lowers n k c o S s mid last → Lowers n k c o S s old new
 lowers_marked {n} {k} {c} {o} {S} {s} {mid} {last} m old new l e f h =
     let g : Lowers n k c o S s (record old { marks = m ∷ old.marks }) last = subst (λ (d : Draft). Lowers n k c o S s d last) e h in
     let i : record last { marks = left_marks last.marks } ≡ record old { ops = last.ops; rows = last.rows; settled = last.settled; scopes = last.scopes; names = last.names; cells = last.cells; hidden = last.hidden; texts = last.texts; sites = last.sites } =
     ap (λ (d : Draft). let x : Draft = record d { marks = left_marks d.marks } in x) g.rest
-    ∙ ap (λ (ms : List Mark). let x : Draft = record old { ops = last.ops; rows = last.rows; settled = last.settled; marks = ms; scopes = last.scopes; names = last.names; cells = last.cells; hidden = last.hidden; texts = last.texts; sites = last.sites } in x) l in
+    ∙ ap (λ (ms : List CodeMark). let x : Draft = record old { ops = last.ops; rows = last.rows; settled = last.settled; marks = ms; scopes = last.scopes; names = last.names; cells = last.cells; hidden = last.hidden; texts = last.texts; sites = last.sites } in x) l in
     subst (λ (d : Draft). Lowers n k c o S s old d) (sym f) (record {
       rest = i;
       scope = g.scope;
@@ -134,7 +134,7 @@ module _ (line m k : ℕ) (B C : Laid → ℕ → ℕ → Type 0) (b : Stable B)
   }
 
 -- a loop, whose jump and pads are patched at its end
-module _ (line : ℕ) (order : Order) (p q r : ℕ) (T S : Laid → ℕ → ℕ → Type 0) (B : Laid → Mark → ℕ → ℕ → Type 0) (t : Stable T) (s : Stable S) (b : (m : Mark) → Stable (λ code. B code m)) (d0 d1 d2 d3 d4 : Laid)
+module _ (line : ℕ) (order : Order) (p q r : ℕ) (T S : Laid → ℕ → ℕ → Type 0) (B : Laid → CodeMark → ℕ → ℕ → Type 0) (t : Stable T) (s : Stable S) (b : (m : CodeMark) → Stable (λ code. B code m)) (d0 d1 d2 d3 d4 : Laid)
     (g : Longer 4 (BeginCode line) d0 d1) (h : Longer p (λ code. B code (pads_at (length d0.ops))) d1 d2) (k : Longer q S d2 d3) (j : Longer r (λ code. BackAt code order (T code) (length d0.ops + 3) line) d3 d4) where
   abbrev start : ℕ
   start = length d0.ops

@@ -20,10 +20,10 @@ use Rattle.uc_tree.specs.Objects.{shape_of}
 use Rattle.uc_resolve.specs.Resolve.{Scope, meant, value_of, converted, result_of, targets_meant, scope_past, scope_after}
 use Rattle.uc_code.specs.declared.op.Op.TheVariants as op
 use Rattle.uc_code.specs.declared.rows.Cleaning.TheVariants as cleaning
-use Rattle.uc_code.specs.declared.rows.Mark.{Mark}
-use Rattle.uc_code.specs.declared.rows.Mark.TheVariants as mark
+use Rattle.uc_code.specs.declared.rows.CodeMark.{CodeMark}
+use Rattle.uc_code.specs.declared.rows.CodeMark.TheVariants as mark
 use Rattle.uc_code.specs.declared.rows.Way.TheVariants as way
-use Rattle.uc_code.specs.declared.draft_parts.Outside.{Outside}
+use Rattle.uc_code.specs.declared.draft_parts.OuterScope.{OuterScope}
 use Rattle.uc_code.specs.Drafts.{Draft}
 use Rattle.uc_code.specs.Exits.{way_of}
 use Rattle.uc_code.specs.Lowered.{ExitAt}
@@ -85,7 +85,7 @@ arm_read p s place xs ys old new h i a =
 
 -- a block
 
-pub arm_block : (p : Program) (s : Stmt) (place : Pos) (xs ys : List Stmt) (out : Outside) (old d1 d2 new : Draft) → Block place (stmts_of ys) ≡ s → xs ≡ ys
+pub arm_block : (p : Program) (s : Stmt) (place : Pos) (xs ys : List Stmt) (out : OuterScope) (old d1 d2 new : Draft) → Block place (stmts_of ys) ≡ s → xs ≡ ys
     → out ≡ record { names = length old.names; scope = old.place.scope } → d1 ≡ opened old
     → LowersStmts p place.line (stmts_of xs) d1 d2
     → new ≡ record d2 { place = record d2.place { scope = out.scope }; names = take out.names d2.names }
@@ -146,7 +146,7 @@ arm_for_stmt p s place start test step body body0 old new h i a =
 
 -- an exit cleans up each object in scope, and leaves a mutex call
 
-calls_few : (ms : List Mark) → calls_in ms ≤ 1
+calls_few : (ms : List CodeMark) → calls_in ms ≤ 1
 calls_few [] = omega arith
 calls_few (mark.Body routine ∷ ms) = calls_few ms
 calls_few (mark.Finish main routine line row ∷ ms) = calls_few ms
@@ -164,7 +164,7 @@ calls_few (mark.Part row ∷ ms) = calls_few ms
 calls_few (mark.Elements row ∷ ms) = calls_few ms
 calls_few (mark.Outward below row ∷ ms) = calls_few ms
 
-exit_counted : (ms : List Mark) → exit_room ms ≤ 1 + 23 * calls_in ms + 23 * objects_in ms
+exit_counted : (ms : List CodeMark) → exit_room ms ≤ 1 + 23 * calls_in ms + 23 * objects_in ms
 exit_counted [] = omega arith
 exit_counted (mark.Body routine ∷ ms) = omega arith
 exit_counted (mark.Finish main routine line row ∷ ms) = omega arith
@@ -182,7 +182,7 @@ exit_counted (mark.Part row ∷ ms) = exit_counted ms
 exit_counted (mark.Elements row ∷ ms) = exit_counted ms
 exit_counted (mark.Outward below row ∷ ms) = omega arith
 
-pub exit_few : (ms : List Mark) → exit_room ms ≤ 24 + 23 * objects_in ms
+pub exit_few : (ms : List CodeMark) → exit_room ms ≤ 24 + 23 * objects_in ms
 exit_few ms = let h = exit_counted ms in let k = calls_few ms in omega arith
 
 pub arm_break : (p : Program) (s : Stmt) (place : Pos) (old new : Draft) → Break place ≡ s → Puts (exit_room old.marks) (λ code. ExitAt code (way_of way.Break) old.marks) old new → LowersStmt p s old new
@@ -207,7 +207,7 @@ arm_handed p n line r value e v d0 d1 d2 d3 is at shape a b c =
     let routine : d0.place.routine ≡ r = sym (ap (λ (d : Draft). d.place.routine) a.rest) ∙ sym at in
     let kept : shape_of (result_of p d0.place.routine) ≡ shape_as v = ap (λ (k : ℕ). shape_of (result_of p k)) routine ∙ shape in
     let b1 : Adds 1 (ConvertCode line (shape_of (result_of p d0.place.routine))) d1 d2 = subst (λ (y : Shape). Adds 1 (ConvertCode line y) d1 d2) (sym kept) b in
-    let c1 : Puts (exit_room d0.marks) (λ code. ExitAt code (way_of way.Value) d0.marks) d2 d3 = subst (λ (ms : List Mark). Puts (exit_room ms) (λ code. ExitAt code (way_of way.Value) ms) d2 d3) marks c in
+    let c1 : Puts (exit_room d0.marks) (λ code. ExitAt code (way_of way.Value) d0.marks) d2 d3 = subst (λ (ms : List CodeMark). Puts (exit_room ms) (λ code. ExitAt code (way_of way.Value) ms) d2 d3) marks c in
     let y : Expr = converted (shape_of (result_of p d0.place.routine)) x in
     let whole : Adds (n + 1) (ExprCode line d0.marks y) d0 d2 = adds_as (adds_both (expr_stable line d0.marks x) a b1) (λ code u z w. converted_at d0.marks line (shape_of (result_of p d0.place.routine)) x code u z w) in
     subst (λ (o : Option tree.Expr). Puts (n + 1 + exit_room d0.marks) (ReturnCode p line d0.marks (scope_of d0) o) d0 d3) (sym is) (puts_both (expr_stable line d0.marks y) (puts_adds whole) c1)

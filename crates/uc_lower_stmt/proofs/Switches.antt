@@ -5,7 +5,7 @@ use Rattle.uc_tree.specs.Programs.{Program}
 use Rattle.uc_tree.specs.Statements.{Resume, Stmt, Suspend, Yield}
 use Rattle.uc_code.specs.declared.op.Op.{Op}
 use Rattle.uc_code.specs.declared.op.Op.TheVariants as op
-use Rattle.uc_code.specs.declared.rows.Mark.{Mark}
+use Rattle.uc_code.specs.declared.rows.CodeMark.{CodeMark}
 use Rattle.uc_code.specs.Drafts.{Draft}
 use Rattle.uc_code.specs.Emits.{Puts}
 use Rattle.uc_code.specs.CodeShapes.{Both, One, PollAt, Risk}
@@ -22,8 +22,8 @@ pub switched : (line : ℕ) (o : Op) (d0 d1 d2 d3 : Draft) → Adds 1 (OpCode li
 switched line o d0 d1 d2 d3 h g q =
     let marks1 : d1.marks ≡ d0.marks = ap (λ (d : Draft). d.marks) h.rest in
     let marks2 : d2.marks ≡ d0.marks = ap (λ (d : Draft). d.marks) g.rest ∙ marks1 in
-    let land : Adds 1 (RiskCode line d0.marks op.Land) d1 d2 = subst (λ (ms : List Mark). Adds 1 (RiskCode line ms op.Land) d1 d2) marks1 g in
-    let poll : Puts 4 (λ code. PollAt code d0.marks line) d2 d3 = subst (λ (ms : List Mark). Puts 4 (λ code. PollAt code ms line) d2 d3) marks2 q in
+    let land : Adds 1 (RiskCode line d0.marks op.Land) d1 d2 = subst (λ (ms : List CodeMark). Adds 1 (RiskCode line ms op.Land) d1 d2) marks1 g in
+    let poll : Puts 4 (λ code. PollAt code d0.marks line) d2 d3 = subst (λ (ms : List CodeMark). Puts 4 (λ code. PollAt code ms line) d2 d3) marks2 q in
     puts_both (one_stable o line) (puts_adds h) (puts_both (risk_stable d0.marks op.Land line) (puts_adds land) poll)
 
 pub arm_resume : (p : Program) (s : Stmt) (place : Pos) (old new : Draft) → Resume place ≡ s → Puts 6 (λ code. Both (One code op.Resume place.line) (Both (Risk code old.marks op.Land place.line) (PollAt code old.marks place.line))) old new → LowersStmt p s old new
@@ -37,7 +37,7 @@ arm_suspend p s place old new e h =
 pub yielded : (line : ℕ) (d0 d1 d2 : Draft) → Adds 1 (OpCode line op.Yield) d0 d1 → Puts 4 (λ code. PollAt code d1.marks line) d1 d2 → Puts 5 (λ code. Both (One code op.Yield line) (PollAt code d0.marks line)) d0 d2
 yielded line d0 d1 d2 h q =
     let marks1 : d1.marks ≡ d0.marks = ap (λ (d : Draft). d.marks) h.rest in
-    puts_both (one_stable op.Yield line) (puts_adds h) (subst (λ (ms : List Mark). Puts 4 (λ code. PollAt code ms line) d1 d2) marks1 q)
+    puts_both (one_stable op.Yield line) (puts_adds h) (subst (λ (ms : List CodeMark). Puts 4 (λ code. PollAt code ms line) d1 d2) marks1 q)
 
 pub arm_yield : (p : Program) (s : Stmt) (place : Pos) (old new : Draft) → Yield place ≡ s → Puts 5 (λ code. Both (One code op.Yield place.line) (PollAt code old.marks place.line)) old new → LowersStmt p s old new
 arm_yield p s place old new e h =

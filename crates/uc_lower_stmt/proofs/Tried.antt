@@ -15,10 +15,10 @@ use Rattle.uc_tree.specs.Source as source
 use Rattle.uc_tree.specs.Source.{Stmts}
 use Rattle.uc_tree.specs.Statements as tree
 use Rattle.uc_tree.specs.StatementSizes.{handlers_size, stmts_size}
-use Rattle.uc_code.specs.declared.draft_parts.Outside.{Outside}
+use Rattle.uc_code.specs.declared.draft_parts.OuterScope.{OuterScope}
 use Rattle.uc_code.specs.declared.op.Op.{Op}
 use Rattle.uc_code.specs.declared.op.Op.TheVariants as op
-use Rattle.uc_code.specs.declared.rows.Mark.{Mark}
+use Rattle.uc_code.specs.declared.rows.CodeMark.{CodeMark}
 use Rattle.uc_code.specs.Drafts.{Draft, patched}
 use Rattle.uc_code.specs.Layout.{Laid, guards, laid_in}
 use Rattle.uc_code.specs.Lowered.{HandlersAt, StmtsAt, handler_rows}
@@ -51,13 +51,13 @@ kept_patch old now at o k l = record {
 
 module _ (line start first end n nn m k c o j b q : ℕ) (hs : source.Handlers) (ss : Stmts) (mid after : Scope) (d0 d1 d2 d3 d4 d5 d6 d7 new : Draft)
     (st : start ≡ length d0.ops) (fe : first ≡ length d2.rows) (ne : n ≡ handler_rows hs) (g1 : Adds 1 (OpCode line (op.Jump (start + 2))) d0 d1) (g2 : Adds 1 (OpCode line (op.Jump 0)) d1 d2)
-    (og : OpensGuards n d2 d3) (h : Lowers nn k c o (λ code. StmtsAt code d3.marks line ss) mid d3 d4) (cg : (f : ℕ) (ns : List Mark) → d4.marks ≡ guards f n ns → ClosesGuards f n ns d4 d5)
+    (og : OpensGuards n d2 d3) (h : Lowers nn k c o (λ code. StmtsAt code d3.marks line ss) mid d3 d4) (cg : (f : ℕ) (ns : List CodeMark) → d4.marks ≡ guards f n ns → ClosesGuards f n ns d4 d5)
     (g6 : Adds 1 (OpCode line (op.Jump (start + 1))) d5 d6) (w : LowersFrom first m j b q (λ code. HandlersAt code d6.marks first (start + 1) hs) after d6 d7)
     (ee : end ≡ length d7.ops) (pt : new ≡ record d7 { ops = patched d7.ops (start + 1) (op.Jump end) }) where
   abbrev a : ℕ
   a = length d0.ops
 
-  abbrev ms : List Mark
+  abbrev ms : List CodeMark
   ms = d0.marks
 
   abbrev was : Laid
@@ -154,8 +154,8 @@ module _ (line start first end n nn m k c o j b q : ℕ) (hs : source.Handlers) 
       let l = low in
       let z = long_six in
       let y = high in
-      let ns : List Mark = guards first n ms in
-      let under = subst (λ (xs : List Mark). StmtsAt (laid_in d4) xs line ss (length d3.ops) (length d4.ops)) inside h.code in
+      let ns : List CodeMark = guards first n ms in
+      let under = subst (λ (xs : List CodeMark). StmtsAt (laid_in d4) xs line ss (length d3.ops) (length d4.ops)) inside h.code in
       let here = subst (λ (x : ℕ). StmtsAt (laid_in d4) ns line ss x (length d4.ops)) long_three under in
       let six = kept_piece (λ x. StmtsAt x ns line ss) (stmts_stable ns line ss) (laid_in d4) (laid_in d6) (a + 2) (length d4.ops) (omega arith) kept_four here in
       let there = (stmts_stable ns line ss).moves (laid_in d6) was (a + 2) (length d4.ops) (part (laid_in d6) was 0 (length d6.ops) (a + 2) (length d4.ops) (omega arith) (omega arith) kept_six) six in
@@ -173,7 +173,7 @@ module _ (line start first end n nn m k c o j b q : ℕ) (hs : source.Handlers) 
   handled : HandlersAt now ms first (a + 1) hs (length d4.ops + 1) (length d7.ops)
   handled =
       let l = low in
-      let one = subst (λ (ns : List Mark). HandlersAt was ns first (start + 1) hs (length d6.ops) (length d7.ops)) marks_six w.code in
+      let one = subst (λ (ns : List CodeMark). HandlersAt was ns first (start + 1) hs (length d6.ops) (length d7.ops)) marks_six w.code in
       let two = subst (λ (x : ℕ). HandlersAt was ms first (x + 1) hs (length d6.ops) (length d7.ops)) st one in
       let three = subst (λ (x : ℕ). HandlersAt was ms first (a + 1) hs x (length d7.ops)) long_six two in
       (handlers_stable ms first (a + 1) hs).moves was now (length d4.ops + 1) (length d7.ops) (part was now (a + 2) (length d7.ops) (length d4.ops + 1) (length d7.ops) (omega arith) (omega arith) behind) three
@@ -234,10 +234,10 @@ module _ (line start first end n nn m k c o j b q : ℕ) (hs : source.Handlers) 
 
 -- a statement of one
 
-pub arm_try : (p : Program) (line brace start first end n : ℕ) (body : tree.Stmts) (hs : tree.Handlers) (out : Outside) (d0 d1 d2 d3 b1 b2 d4 d5 d6 d7 new : Draft) → start ≡ length d0.ops → first ≡ length d2.rows → n ≡ length (tree.handler_list hs)
+pub arm_try : (p : Program) (line brace start first end n : ℕ) (body : tree.Stmts) (hs : tree.Handlers) (out : OuterScope) (d0 d1 d2 d3 b1 b2 d4 d5 d6 d7 new : Draft) → start ≡ length d0.ops → first ≡ length d2.rows → n ≡ length (tree.handler_list hs)
     → Adds 1 (OpCode line (op.Jump (start + 2))) d0 d1 → Adds 1 (OpCode line (op.Jump 0)) d1 d2 → OpensGuards n d2 d3
     → out ≡ record { names = length d3.names; scope = d3.place.scope } → b1 ≡ opened d3 → LowersStmts p brace body b1 b2 → d4 ≡ record b2 { place = record b2.place { scope = out.scope }; names = take out.names b2.names }
-    → ((f : ℕ) (ns : List Mark) → d4.marks ≡ guards f n ns → ClosesGuards f n ns d4 d5) → Adds 1 (OpCode line (op.Jump (start + 1))) d5 d6 → LowersHandlers p first (start + 1) hs d6 d7
+    → ((f : ℕ) (ns : List CodeMark) → d4.marks ≡ guards f n ns → ClosesGuards f n ns d4 d5) → Adds 1 (OpCode line (op.Jump (start + 1))) d5 d6 → LowersHandlers p first (start + 1) hs d6 d7
     → end ≡ length d7.ops → new ≡ record d7 { ops = patched d7.ops (start + 1) (op.Jump end) } → LowersTry p line brace body hs d0 new
 arm_try p line brace start first end n body hs out d0 d1 d2 d3 b1 b2 d4 d5 d6 d7 new st fe ne g1 g2 og oe e1 h e4 cg g6 w ee pt =
     let s : Scope = scope_of d0 in

@@ -10,8 +10,8 @@ use Rattle.uc_tree.specs.Source.{Order, Expr}
 use Rattle.uc_resolve.specs.Resolve.{Scope, stmt_meant, scope_past, step_of}
 use Rattle.uc_code.specs.declared.op.Op.TheVariants as op
 use Rattle.uc_code.specs.declared.rows.Instruction.{Instruction}
-use Rattle.uc_code.specs.declared.rows.Mark.{Mark}
-use Rattle.uc_code.specs.declared.rows.Mark.TheVariants as mark
+use Rattle.uc_code.specs.declared.rows.CodeMark.{CodeMark}
+use Rattle.uc_code.specs.declared.rows.CodeMark.TheVariants as mark
 use Rattle.uc_code.specs.Drafts.{Draft, patched}
 use Rattle.uc_code.specs.Layout.{Laid, laid_in}
 use Rattle.uc_code.specs.OpenRows.{left_marks}
@@ -55,7 +55,7 @@ module _ (p : Program) (line : ℕ) (t : Turning) (step : Option tree.Expr) (bod
   abbrev s : Scope
   s = scope_of old
 
-  abbrev ms : List Mark
+  abbrev ms : List CodeMark
   ms = old.marks
 
   abbrev n : ℕ
@@ -65,7 +65,7 @@ module _ (p : Program) (line : ℕ) (t : Turning) (step : Option tree.Expr) (bod
   enters = en ∙ ap (λ (x : ℕ). let d : Draft = record e1 { marks = mark.Loop (x + 1) (x + 2) ∷ e1.marks } in d) st
 
   marks_in : m1.marks ≡ pads_at n ∷ ms
-  marks_in = ap (λ (d : Draft). d.marks) enters ∙ ap (λ (ns : List Mark). pads_at n ∷ ns) (ap (λ (d : Draft). d.marks) g.rest)
+  marks_in = ap (λ (d : Draft). d.marks) enters ∙ ap (λ (ns : List CodeMark). pads_at n ∷ ns) (ap (λ (d : Draft). d.marks) g.rest)
 
   scope_in : scope_of m1 ≡ s
   scope_in = ap scope_of enters ∙ ap scope_of g.rest
@@ -79,7 +79,7 @@ module _ (p : Program) (line : ℕ) (t : Turning) (step : Option tree.Expr) (bod
   steps : Adds (OPS_FOR_SIZE * maybe_expr_size step) (λ code. StepAt code line ms (step_of p s step)) e2 e3
   steps =
       subst (λ (x : Option Expr). Adds (OPS_FOR_SIZE * maybe_expr_size step) (λ code. StepAt code line ms x) e2 e3) (ap (λ (u : Scope). step_of p u step) turn.scope ∙ step_same p body s step) (
-      subst (λ (ns : List Mark). Adds (OPS_FOR_SIZE * maybe_expr_size step) (λ code. StepAt code line ns (step_of p (scope_of e2) step)) e2 e3) marks_two k)
+      subst (λ (ns : List CodeMark). Adds (OPS_FOR_SIZE * maybe_expr_size step) (λ code. StepAt code line ns (step_of p (scope_of e2) step)) e2 e3) marks_two k)
 
   marks_three : e3.marks ≡ ms
   marks_three = ap (λ (d : Draft). d.marks) k.rest ∙ marks_two
@@ -88,7 +88,7 @@ module _ (p : Program) (line : ℕ) (t : Turning) (step : Option tree.Expr) (bod
   tests =
       subst (λ (x : ℕ). Adds (OPS_FOR_SIZE * turning_size t + 1) (λ code. BackAt code (turning_order t) (ExprAt code line ms (turning_test p s t)) (x + 3) line) e3 e4) st (
       subst (λ (x : Expr). Adds (OPS_FOR_SIZE * turning_size t + 1) (λ code. BackAt code (turning_order t) (ExprAt code line ms x) (start + 3) line) e3 e4) (ap (λ (u : Scope). turning_test p u t) (ap scope_of k.rest ∙ turn.scope) ∙ test_same p body s t) (
-      subst (λ (ns : List Mark). Adds (OPS_FOR_SIZE * turning_size t + 1) (λ code. BackAt code (turning_order t) (ExprAt code line ns (turning_test p (scope_of e3) t)) (start + 3) line) e3 e4) marks_three j))
+      subst (λ (ns : List CodeMark). Adds (OPS_FOR_SIZE * turning_size t + 1) (λ code. BackAt code (turning_order t) (ExprAt code line ns (turning_test p (scope_of e3) t)) (start + 3) line) e3 e4) marks_three j))
 
   is : new.ops ≡ looped (turning_order t) n (length e2.ops) (length e3.ops) e4.ops
   is = ap (λ (d : Draft). d.ops) f

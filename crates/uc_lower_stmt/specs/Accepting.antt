@@ -13,7 +13,7 @@ use Rattle.uc_tree.specs.StatementSizes.{clauses_size, maybe_stmt_size}
 use Rattle.uc_resolve.specs.Resolve.{Context, Scope, clauses_meant, context_at, else_meant, scope_past_clauses, value_in_scope, within_accept}
 use Rattle.uc_code.specs.declared.op.Op.TheVariants as op
 use Rattle.uc_code.specs.declared.rows.Instruction.{Instruction}
-use Rattle.uc_code.specs.declared.rows.Mark.{Mark}
+use Rattle.uc_code.specs.declared.rows.CodeMark.{CodeMark}
 use Rattle.uc_code.specs.Drafts.{Draft, patched}
 use Rattle.uc_code.specs.Layout.{Laid}
 use Rattle.uc_code.specs.CodeShapes.{AcceptsAt, Both, Nothing, One, OpAt}
@@ -46,7 +46,7 @@ guards_room [] = 0
 guards_room (x ∷ xs) = guard_room (guard_of x) + guards_room xs
 
 -- their code, from left to right
-abbrev pub GuardsCode : ℕ → List Mark → Context → List Clause → Laid → ℕ → ℕ → Type 0
+abbrev pub GuardsCode : ℕ → List CodeMark → Context → List Clause → Laid → ℕ → ℕ → Type 0
 GuardsCode line ms c [] code = Nothing
 GuardsCode line ms c (x ∷ xs) code = Both (ExprAt code line ms (guard_meant c (guard_of x))) (GuardsCode line ms c xs code)
 
@@ -61,7 +61,7 @@ abbrev pub HolesCode : ℕ → ℕ → Laid → ℕ → ℕ → Type 0
 HolesCode line count code = HolesAt code line count
 
 -- what stands before the branches: the guards, what asks, and the choice, whose jumps have no places yet
-abbrev pub ChoiceCode : ℕ → List Mark → Context → ℕ → List Clause → Laid → ℕ → ℕ → Type 0
+abbrev pub ChoiceCode : ℕ → List CodeMark → Context → ℕ → List Clause → Laid → ℕ → ℕ → Type 0
 ChoiceCode line ms c site xs code =
     Both (GuardsCode line ms c xs code) (Both (AcceptsAt code ms site (length xs) line) (Both (One code (op.Choose (length xs) 0) line) (HolesAt code line (length xs + 1))))
 
@@ -88,7 +88,7 @@ branches_room [] k = 0
 branches_room (x ∷ xs) k = 1 + OPS_FOR_SIZE * size_at (branch_of x) k + branches_room xs k
 
 -- behind each of them all goes on where the last one ends
-abbrev pub BranchesCode : Program → ℕ → List Mark → List Clause → MaybeStmt → Scope → ℕ → List ℕ → Laid → ℕ → ℕ → Type 0
+abbrev pub BranchesCode : Program → ℕ → List CodeMark → List Clause → MaybeStmt → Scope → ℕ → List ℕ → Laid → ℕ → ℕ → Type 0
 BranchesCode p line ms xs other s otherwise places code a z =
     BranchesAt code ms line (clauses_meant p (clauses_of xs) s (else_meant p other (scope_past_clauses p (clauses_of xs) s))) otherwise places z a z
 

@@ -7,8 +7,8 @@ use Rattle.uc_tree.specs.Statements.{Start, NoStart, StartValue, StartArgs}
 use Rattle.uc_resolve.specs.Resolve.{Context, Meant, args_meant}
 use Rattle.uc_code.specs.declared.rows.Cleaning.{Cleaning}
 use Rattle.uc_code.specs.declared.rows.Cleaning.TheVariants as cleaning
-use Rattle.uc_code.specs.declared.rows.Mark.{Mark}
-use Rattle.uc_code.specs.declared.rows.Mark.TheVariants as mark
+use Rattle.uc_code.specs.declared.rows.CodeMark.{CodeMark}
+use Rattle.uc_code.specs.declared.rows.CodeMark.TheVariants as mark
 use Rattle.uc_code.specs.Drafts.{Draft}
 use Rattle.uc_code.specs.Layout.{laid_in, routine_in}
 use Rattle.uc_code.specs.CodeShapes.{Kept}
@@ -20,11 +20,11 @@ use Rattle.uc_lower_stmt.specs.Marked.{taken}
 use Rattle.uc_lower_stmt.specs.OpenScopes.{Step, NoParts, Pending, block_of}
 
 -- what builds and destroys what is made, and nobody wrote, stands further on than the routine of these marks
-pub record AllStandBehind (p : Program) (m : Made) (ms : List Mark) : Type 0 where
+pub record AllStandBehind (p : Program) (m : Made) (ms : List CodeMark) : Type 0 where
   pub each : (wanted : Role) → (made_routine p wanted m).written ≡ false → routine_in ms < (made_routine p wanted m).number
 
 -- these statements are a block of this line, under the marks of a draft, and nothing stands behind it
-pub record BlockStands (line : ℕ) (ms : List Mark) (ss : Stmts) (a : ℕ) (d : Draft) : Type 0 where
+pub record BlockStands (line : ℕ) (ms : List CodeMark) (ss : Stmts) (a : ℕ) (d : Draft) : Type 0 where
   pub marks : d.marks ≡ ms
   pub code : StmtsAt (laid_in d) ms line ss a (length d.ops)
 
@@ -34,10 +34,10 @@ pub record EndsScopes (count : ℕ) (old new : Draft) : Type 0 where
   pub rest : new ≡ record old { ops = new.ops; rows = new.rows; settled = new.settled; marks = new.marks }
   pub kept : Kept (laid_in old) (laid_in new)
   pub room : taken new ≤ taken old
-  pub block : (line a y : ℕ) (ks : List Step) (ms : List Mark) (ss : Stmts) → length ms ≡ count → NoParts ks → Pending (laid_in old) line ms a ks old.marks y → StmtsAt (laid_in old) old.marks line ss y (length old.ops) → BlockStands line ms (block_of ks ss) a new
+  pub block : (line a y : ℕ) (ks : List Step) (ms : List CodeMark) (ss : Stmts) → length ms ≡ count → NoParts ks → Pending (laid_in old) line ms a ks old.marks y → StmtsAt (laid_in old) old.marks line ss y (length old.ops) → BlockStands line ms (block_of ks ss) a new
 
 -- in between: steps and statements that make the same block
-pub record Unended (line : ℕ) (ms : List Mark) (whole : Stmts) (a : ℕ) (d : Draft) : Type 0 where
+pub record Unended (line : ℕ) (ms : List CodeMark) (whole : Stmts) (a : ℕ) (d : Draft) : Type 0 where
   pub steps : List Step
   pub none : NoParts steps
   pub behind : Stmts
@@ -50,7 +50,7 @@ pub record EndingScopes (count : ℕ) (old now : Draft) : Type 0 where
   pub rest : now ≡ record old { ops = now.ops; rows = now.rows; settled = now.settled; marks = now.marks }
   pub kept : Kept (laid_in old) (laid_in now)
   pub room : taken now ≤ taken old
-  pub block : (line a y : ℕ) (ks : List Step) (ms : List Mark) (ss : Stmts) → length ms ≡ count → NoParts ks → Pending (laid_in old) line ms a ks old.marks y → StmtsAt (laid_in old) old.marks line ss y (length old.ops) → Unended line ms (block_of ks ss) a now
+  pub block : (line a y : ℕ) (ks : List Step) (ms : List CodeMark) (ss : Stmts) → length ms ≡ count → NoParts ks → Pending (laid_in old) line ms a ks old.marks y → StmtsAt (laid_in old) old.marks line ss y (length old.ops) → Unended line ms (block_of ks ss) a now
 
 -- the arguments with which an object starts
 abbrev pub started_args : Context → Start → List Meant
@@ -69,7 +69,7 @@ scope_by cleaning.End line = Some (record { what = cleaning.End; line = line })
 scope_by (cleaning.Free main) line = Some (record { what = cleaning.Free main; line = line })
 scope_by (cleaning.Restore cell) line = Some (record { what = cleaning.Restore cell; line = line })
 
-abbrev pub scope_at : Mark → Option ObjectScope
+abbrev pub scope_at : CodeMark → Option ObjectScope
 scope_at (mark.Clean what line row) = scope_by what line
 scope_at (mark.Body routine) = None
 scope_at (mark.Finish main routine line row) = None
@@ -80,10 +80,10 @@ scope_at (mark.Part row) = None
 scope_at (mark.Elements row) = None
 scope_at (mark.Outward below row) = None
 
-abbrev pub innermost_by : Bool → List Mark → Option ObjectScope
+abbrev pub innermost_by : Bool → List CodeMark → Option ObjectScope
 innermost_by true ms = None
 innermost_by false [] = None
 innermost_by false (m ∷ ms) = scope_at m
 
-abbrev pub innermost_in : List Mark → ℕ → Option ObjectScope
+abbrev pub innermost_in : List CodeMark → ℕ → Option ObjectScope
 innermost_in ms count = innermost_by (nat_le (length ms) count) ms

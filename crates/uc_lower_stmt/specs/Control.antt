@@ -16,7 +16,7 @@ use Rattle.uc_tree.specs.Source as source
 use Rattle.uc_tree.specs.Source.{Order, TestFirst, BodyFirst, NoTest, Expr, Literal}
 use Rattle.uc_resolve.specs.Resolve.{Scope, context_at, value_in_scope, declared_alone, declared_then, start_then, stmt_then, stmt_meant, maybe_meant, scope_after, scope_past, with_all, return_meant, for_scope, order_of, test_of, step_of}
 use Rattle.uc_code.specs.declared.op.Op.TheVariants as op
-use Rattle.uc_code.specs.declared.rows.Mark.{Mark}
+use Rattle.uc_code.specs.declared.rows.CodeMark.{CodeMark}
 use Rattle.uc_code.specs.Drafts.{Draft, patched}
 use Rattle.uc_code.specs.Layout.{Laid}
 use Rattle.uc_code.specs.CodeShapes.{One, Both, begin_at, BackAt}
@@ -51,13 +51,13 @@ turning_size turning.NoTest = 0
 abbrev pub BeginCode : ℕ → Laid → ℕ → ℕ → Type 0
 BeginCode line code = Both (One code (op.Jump 0) line) (Both (One code (op.Jump 0) line) (Both (One code (op.Jump 0) line) (One code op.Tick line)))
 
-abbrev pub StepCode : Program → ℕ → List Mark → Scope → Option tree.Expr → Laid → ℕ → ℕ → Type 0
+abbrev pub StepCode : Program → ℕ → List CodeMark → Scope → Option tree.Expr → Laid → ℕ → ℕ → Type 0
 StepCode p line ms s step code = StepAt code line ms (step_of p s step)
 
-abbrev pub BackCode : Program → ℕ → List Mark → Scope → Turning → ℕ → Laid → ℕ → ℕ → Type 0
+abbrev pub BackCode : Program → ℕ → List CodeMark → Scope → Turning → ℕ → Laid → ℕ → ℕ → Type 0
 BackCode p line ms s t turn code = BackAt code (turning_order t) (ExprAt code line ms (turning_test p s t)) turn line
 
-abbrev pub ReturnCode : Program → ℕ → List Mark → Scope → Option tree.Expr → Laid → ℕ → ℕ → Type 0
+abbrev pub ReturnCode : Program → ℕ → List CodeMark → Scope → Option tree.Expr → Laid → ℕ → ℕ → Type 0
 ReturnCode p line ms s value code = StmtAt code ms (source.Return line (return_meant p s value))
 
 -- the jump and the pads of a loop that begins at start

@@ -11,7 +11,7 @@ use Rattle.uc_tree.specs.Statements.{Stmt}
 use Rattle.uc_tree.specs.StatementSizes.{stmt_size}
 use Rattle.uc_resolve.specs.Resolve.{Scope, events_meant, scope_past, stmt_meant, within_events}
 use Rattle.uc_code.specs.declared.op.Op.TheVariants as op
-use Rattle.uc_code.specs.declared.rows.Mark.{Mark}
+use Rattle.uc_code.specs.declared.rows.CodeMark.{CodeMark}
 use Rattle.uc_code.specs.CodeShapes.{Both, One, PollAt}
 use Rattle.uc_code.specs.Drafts.{Draft}
 use Rattle.uc_code.specs.Layout.{Laid}
@@ -22,7 +22,7 @@ use Rattle.uc_lower_stmt.specs.Marked.{objects_in}
 use Rattle.uc_lower_stmt.specs.LowersStatement.{Lowers, scope_of}
 
 -- the op that enables or disables events, of which a cell keeps which were enabled before, and what is delivered then
-abbrev pub SwitchCode : Enabling → ℕ → ℕ → ℕ → List Mark → Laid → ℕ → ℕ → Type 0
+abbrev pub SwitchCode : Enabling → ℕ → ℕ → ℕ → List CodeMark → Laid → ℕ → ℕ → Type 0
 SwitchCode enabling.Enable events cell line ms code = Both (One code (op.Enable events cell) line) (PollAt code ms line)
 SwitchCode enabling.Disable events cell line ms code = One code (op.Disable events cell) line
 

@@ -10,7 +10,7 @@ use Rattle.uc_tree.specs.Scopes.{handler_scopes, handlers_scopes, stmts_scopes}
 use Rattle.uc_tree.specs.Source.{Block, Nil, Then, Try}
 use Rattle.uc_tree.specs.Statements as tree
 use Rattle.uc_tree.specs.StatementSizes.{handler_size, handlers_size, stmts_size}
-use Rattle.uc_code.specs.declared.rows.Mark.{Mark}
+use Rattle.uc_code.specs.declared.rows.CodeMark.{CodeMark}
 use Rattle.uc_code.specs.Drafts.{Draft}
 use Rattle.uc_code.specs.Layout.{Laid, handlers, laid_in}
 use Rattle.uc_code.specs.Lowered.{EventAt, HandlerBy, HandlersAt, IsNamed, KeepsAt, NamedAt, StmtsAt, handler_of}
@@ -22,7 +22,7 @@ use Rattle.uc_lower_stmt.specs.LowersStatement.{Lowers, scope_of, sizes_at}
 -- one handler
 
 -- the code of a handler with this row, which goes on by this pad
-abbrev pub HandlerCode : Program → ℕ → ℕ → List Mark → tree.Handler → Scope → Laid → ℕ → ℕ → Type 0
+abbrev pub HandlerCode : Program → ℕ → ℕ → List CodeMark → tree.Handler → Scope → Laid → ℕ → ℕ → Type 0
 HandlerCode p row pad ms (tree.Handles pos kind event param brace body) s code =
     NamedAt code (event_of_handler p event) (HandledAt code row (handler_of (takes_resumptions kind) (event_of_handler p event) (length (handlers ms))) (Both (KeepsAt code brace.line s.hidden)
     (HandlerBy code (takes_resumptions kind) ms pad brace.line (λ ns. StmtsAt code ns brace.line (stmts_meant p body (in_handler p (tree.Handles pos kind event param brace body) s))))))

@@ -2,8 +2,8 @@
 use Rattle.std.specs.Prelude.{ℕ, ◌+◌, ◌*◌, List, [], ◌∷◌, length}
 use Rattle.uc_code.specs.declared.rows.Cleaning.{Cleaning}
 use Rattle.uc_code.specs.declared.rows.Cleaning.TheVariants as cleaning
-use Rattle.uc_code.specs.declared.rows.Mark.{Mark}
-use Rattle.uc_code.specs.declared.rows.Mark.TheVariants as mark
+use Rattle.uc_code.specs.declared.rows.CodeMark.{CodeMark}
+use Rattle.uc_code.specs.declared.rows.CodeMark.TheVariants as mark
 use Rattle.uc_code.specs.Drafts.{Draft}
 use Rattle.uc_code.specs.OpenRows.{clean_room}
 
@@ -18,7 +18,7 @@ called_by cleaning.End calls = calls
 called_by (cleaning.Free main) calls = calls
 called_by (cleaning.Restore cell) calls = calls
 
-abbrev pub calls_in : List Mark → ℕ
+abbrev pub calls_in : List CodeMark → ℕ
 calls_in [] = 0
 calls_in (mark.Body routine ∷ ms) = calls_in ms
 calls_in (mark.Finish main routine line row ∷ ms) = calls_in ms
@@ -42,7 +42,7 @@ counted_by cleaning.End calls = 1
 counted_by (cleaning.Free main) calls = 1
 counted_by (cleaning.Restore cell) calls = 1
 
-abbrev pub objects_in : List Mark → ℕ
+abbrev pub objects_in : List CodeMark → ℕ
 objects_in [] = 0
 objects_in (mark.Body routine ∷ ms) = objects_in ms
 objects_in (mark.Finish main routine line row ∷ ms) = objects_in ms
@@ -65,7 +65,7 @@ close_room cleaning.End = 4
 close_room (cleaning.Free main) = 4
 close_room (cleaning.Restore cell) = 4
 
-abbrev pub closing : List Mark → ℕ
+abbrev pub closing : List CodeMark → ℕ
 closing [] = 0
 closing (mark.Body routine ∷ ms) = closing ms
 closing (mark.Finish main routine line row ∷ ms) = closing ms

@@ -9,13 +9,13 @@ use Rattle.uc_code.specs.declared.op.Op.TheVariants as op
 use Rattle.uc_code.specs.declared.rows.Array.{Array}
 use Rattle.uc_code.specs.declared.rows.Manner.{Manner}
 use Rattle.uc_code.specs.declared.rows.Manner.TheVariants as manner
-use Rattle.uc_code.specs.declared.rows.Mark.{Mark}
-use Rattle.uc_code.specs.declared.rows.Mark.TheVariants as mark
+use Rattle.uc_code.specs.declared.rows.CodeMark.{CodeMark}
+use Rattle.uc_code.specs.declared.rows.CodeMark.TheVariants as mark
 use Rattle.uc_code.specs.declared.rows.ObjectCall.{ObjectCall}
 use Rattle.uc_code.specs.declared.rows.Resource.TheVariants as resource
 use Rattle.uc_code.specs.declared.rows.Cleaning.{Cleaning}
 use Rattle.uc_code.specs.declared.rows.Cleaning.TheVariants as cleaning
-use Rattle.uc_code.specs.declared.rows.Spot.{Spot}
+use Rattle.uc_code.specs.declared.rows.ObjectSpot.{ObjectSpot}
 use Rattle.uc_code.specs.Drafts.{Draft}
 use Rattle.uc_code.specs.Layout.{Laid, laid_in}
 use Rattle.uc_code.specs.OpenRows.{CleansBehind, clean_room}
@@ -28,7 +28,7 @@ use Rattle.uc_lower_expr.specs.declared.numbering.ClassRoutine.{ClassRoutine}
 use Rattle.uc_lower_expr.specs.Meanings.{is_mutex_at}
 use Rattle.uc_lower_expr.specs.Members.{made_routine}
 
-abbrev pub call_by : ClassRoutine → Manner → Spot → Option Array → ObjectCall
+abbrev pub call_by : ClassRoutine → Manner → ObjectSpot → Option Array → ObjectCall
 call_by r m spot array = record { spot = spot; array = array; routine = r.number; written = r.written; manner = m }
 
 -- how an object of the class with the place i is built, and destroyed, by whether it is a mutex object
@@ -67,10 +67,10 @@ array_by p m None = None
 array_by p m (Some n) = Some (record { length = n; size = element_cells p m })
 
 -- the calls that build and destroy it, which begins in a spot, or each element of an array
-abbrev pub builder_of : Program → Made → Spot → Option Array → ObjectCall
+abbrev pub builder_of : Program → Made → ObjectSpot → Option Array → ObjectCall
 builder_of p m spot array = call_by (made_routine p role.Constructor m) (built_by p m) spot array
 
-abbrev pub destroyer_of : Program → Made → Spot → Option Array → ObjectCall
+abbrev pub destroyer_of : Program → Made → ObjectSpot → Option Array → ObjectCall
 destroyer_of p m spot array = call_by (made_routine p role.Destructor m) (ended_by p m) spot array
 
 -- the turns that build an array: at most so many ops; what builds an object, arguments apart, or an array
@@ -81,23 +81,23 @@ abbrev pub build_room : Option ℕ → ℕ
 build_room None = 6
 build_room (Some n) = fill_room
 
-abbrev pub FillCode : ℕ → List Mark → ObjectCall → ObjectCall → ℕ → Laid → ℕ → ℕ → Type 0
+abbrev pub FillCode : ℕ → List CodeMark → ObjectCall → ObjectCall → ℕ → Laid → ℕ → ℕ → Type 0
 FillCode line ms builder destroyer n code = OverElements code line ms 0 n (op.Fill n) op.Sweep (CallBuilt code line builder) (CallDone code line destroyer)
 
 -- the innermost mark is the scope of an object with this clean-up, in a block of this line; it is a part of an object under construction
-pub record InScope (what : Cleaning) (line : ℕ) (ms : List Mark) : Type 0 where
+pub record InScope (what : Cleaning) (line : ℕ) (ms : List CodeMark) : Type 0 where
   pub row : ℕ
-  pub outer : List Mark
+  pub outer : List CodeMark
   pub is : ms ≡ mark.Clean what line row ∷ outer
   pub behind : CleansBehind outer what
 
-pub record InPart (ms : List Mark) : Type 0 where
+pub record InPart (ms : List CodeMark) : Type 0 where
   pub row : ℕ
-  pub outer : List Mark
+  pub outer : List CodeMark
   pub is : ms ≡ mark.Part row ∷ outer
 
 -- behind the statements in the scope of an object, up to z: its clean-up, and a pad for unwinding
-pub record ScopeEnds (code : Laid) (line : ℕ) (ms : List Mark) (what : Cleaning) (row a z : ℕ) : Type 0 where
+pub record ScopeEnds (code : Laid) (line : ℕ) (ms : List CodeMark) (what : Cleaning) (row a z : ℕ) : Type 0 where
   pub clean_end : ℕ
   pub clean : CleanAt code line what ms a clean_end
   pub leave : OpAt code clean_end (op.Jump z) line
@@ -105,7 +105,7 @@ pub record ScopeEnds (code : Laid) (line : ℕ) (ms : List Mark) (what : Cleanin
   pub handler : HandlerAt code row (clean_up (clean_end + 1))
 
 -- behind what follows a part of an object under construction: its clean-up, for unwinding alone
-pub record PartEnds (code : Laid) (line : ℕ) (ms : List Mark) (what : Cleaning) (row a z : ℕ) : Type 0 where
+pub record PartEnds (code : Laid) (line : ℕ) (ms : List CodeMark) (what : Cleaning) (row a z : ℕ) : Type 0 where
   pub leave : OpAt code a (op.Jump z) line
   pub unwinds : Both (CleanAt code line what ms) (Risk code ms op.Unwind line) (a + 1) z
   pub handler : HandlerAt code row (clean_up (a + 1))
@@ -115,16 +115,16 @@ pub record ClosesScope (n : ℕ) (what : Cleaning) (line : ℕ) (old new : Draft
   pub rest : new ≡ record old { ops = new.ops; rows = new.rows; settled = new.settled; marks = new.marks }
   pub kept : Kept (laid_in old) (laid_in new)
   pub room : length new.ops ≤ length old.ops + n
-  pub scope : (row : ℕ) (ms : List Mark) → old.marks ≡ mark.Clean what line row ∷ ms → ScopeEnds (laid_in new) line ms what row (length old.ops) (length new.ops)
-  pub marks : (row : ℕ) (ms : List Mark) → old.marks ≡ mark.Clean what line row ∷ ms → new.marks ≡ ms
+  pub scope : (row : ℕ) (ms : List CodeMark) → old.marks ≡ mark.Clean what line row ∷ ms → ScopeEnds (laid_in new) line ms what row (length old.ops) (length new.ops)
+  pub marks : (row : ℕ) (ms : List CodeMark) → old.marks ≡ mark.Clean what line row ∷ ms → new.marks ≡ ms
 
 -- the same of a part of an object under construction
 pub record ClosesPart (what : Cleaning) (line : ℕ) (old new : Draft) : Type 0 where
   pub rest : new ≡ record old { ops = new.ops; rows = new.rows; settled = new.settled; marks = new.marks }
   pub kept : Kept (laid_in old) (laid_in new)
   pub room : length new.ops ≤ length old.ops + (clean_length what + 2)
-  pub part : (row : ℕ) (ms : List Mark) → old.marks ≡ mark.Part row ∷ ms → PartEnds (laid_in new) line ms what row (length old.ops) (length new.ops)
-  pub marks : (row : ℕ) (ms : List Mark) → old.marks ≡ mark.Part row ∷ ms → new.marks ≡ ms
+  pub part : (row : ℕ) (ms : List CodeMark) → old.marks ≡ mark.Part row ∷ ms → PartEnds (laid_in new) line ms what row (length old.ops) (length new.ops)
+  pub marks : (row : ℕ) (ms : List CodeMark) → old.marks ≡ mark.Part row ∷ ms → new.marks ≡ ms
 
 -- a mutex object is made, and its place bound to it; nothing is done for others
 abbrev pub MadeCode : ℕ → Manner → ℕ → Laid → ℕ → ℕ → Type 0
@@ -170,7 +170,7 @@ most_clean (cleaning.Free main) = 1
 most_clean (cleaning.Restore cell) = 1
 
 -- the marks of a mutex call, outside of its scope: those of a routine alone, so that a return ends it
-pub record InCall (ms : List Mark) : Type 0 where
+pub record InCall (ms : List CodeMark) : Type 0 where
   pub routine : ℕ
   pub is : ms ≡ mark.Body routine ∷ []
 

@@ -2,8 +2,8 @@
 use Rattle.std.specs.Prelude.{◌≡◌, ℕ, ◌+◌, ◌≤◌, List, [], ◌∷◌, length}
 use Rattle.uc_tree.specs.Source.{CleanUp, Destroys, DestroysAll, Unwinds, Forgets, Leaves, Ends, Frees, Restores, Stmt, Stmts, Then, Scoped, Built}
 use Rattle.uc_resolve.specs.Resolve.{Scope}
-use Rattle.uc_code.specs.declared.rows.Mark.{Mark}
-use Rattle.uc_code.specs.declared.rows.Mark.TheVariants as mark
+use Rattle.uc_code.specs.declared.rows.CodeMark.{CodeMark}
+use Rattle.uc_code.specs.declared.rows.CodeMark.TheVariants as mark
 use Rattle.uc_code.specs.declared.rows.Cleaning.{Cleaning}
 use Rattle.uc_code.specs.Drafts.{Draft}
 use Rattle.uc_code.specs.Layout.{Laid, laid_in}
@@ -46,11 +46,11 @@ NoParts (Opens c ∷ ks) = NoCall c × NoParts ks
 NoParts (Builds c ∷ ks) = ⊥
 
 -- steps that are laid out in a block of this line: from these marks and this place to those marks and that place
-pub data Pending (code : Laid) (line : ℕ) (ms : List Mark) (a : ℕ) : List Step → List Mark → ℕ → Type 0 where
+pub data Pending (code : Laid) (line : ℕ) (ms : List CodeMark) (a : ℕ) : List Step → List CodeMark → ℕ → Type 0 where
   Begins : Pending code line ms a [] ms a
-  Done : (ks : List Step) (ns : List Mark) (y z : ℕ) (s : Stmt) → Pending code line ms a ks ns y → StmtAt code ns s y z → Pending code line ms a (Does s ∷ ks) ns z
-  Opened : (ks : List Step) (ns : List Mark) (z row : ℕ) (c : CleanUp) (what : Cleaning) → Pending code line ms a ks ns z → Cleans c what → Pending code line ms a (Opens c ∷ ks) (mark.Clean what line row ∷ ns) z
-  Parted : (ks : List Step) (ns : List Mark) (z row : ℕ) (c : CleanUp) (what : Cleaning) → Pending code line ms a ks ns z → Cleans c what → Pending code line ms a (Builds c ∷ ks) (mark.Part row ∷ ns) z
+  Done : (ks : List Step) (ns : List CodeMark) (y z : ℕ) (s : Stmt) → Pending code line ms a ks ns y → StmtAt code ns s y z → Pending code line ms a (Does s ∷ ks) ns z
+  Opened : (ks : List Step) (ns : List CodeMark) (z row : ℕ) (c : CleanUp) (what : Cleaning) → Pending code line ms a ks ns z → Cleans c what → Pending code line ms a (Opens c ∷ ks) (mark.Clean what line row ∷ ns) z
+  Parted : (ks : List Step) (ns : List CodeMark) (z row : ℕ) (c : CleanUp) (what : Cleaning) → Pending code line ms a ks ns z → Cleans c what → Pending code line ms a (Builds c ∷ ks) (mark.Part row ∷ ns) z
 
 -- a draft with some steps of a block more, by which a block that goes on in some way is made of one: at most n ops, those that
 -- end the new scopes included, k text literals, c cells and d objects in scope more, o scopes more, and this scope behind them

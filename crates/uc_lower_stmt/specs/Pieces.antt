@@ -4,29 +4,29 @@ use Rattle.uc_tree.specs.declared.kinds.ValueForm.{ValueForm}
 use Rattle.uc_tree.specs.declared.kinds.ValueForm.TheVariants as value_form
 use Rattle.uc_tree.specs.Source.{Expr, Item, Target, Declared}
 use Rattle.uc_code.specs.declared.op.Op.{Op}
-use Rattle.uc_code.specs.declared.rows.Mark.{Mark}
+use Rattle.uc_code.specs.declared.rows.CodeMark.{CodeMark}
 use Rattle.uc_code.specs.Layout.{Laid}
 use Rattle.uc_code.specs.CodeShapes.{Nothing, One, Both}
 use Rattle.uc_code.specs.Lowered.{ItemsAt, ValuesAt, TogetherAt, TargetsAt, StartAt, VariablesAt}
 use Rattle.uc_lower_expr.specs.declared.meaning.Scalar.{Scalar}
 use Rattle.uc_lower_expr.specs.declared.meaning.Scalar.TheVariants as scalar
 
-abbrev pub ItemsCode : ℕ → List Mark → List Item → Laid → ℕ → ℕ → Type 0
+abbrev pub ItemsCode : ℕ → List CodeMark → List Item → Laid → ℕ → ℕ → Type 0
 ItemsCode line ms is code = ItemsAt code line ms is
 
-abbrev pub ValuesCode : ℕ → List Mark → List Item → Laid → ℕ → ℕ → Type 0
+abbrev pub ValuesCode : ℕ → List CodeMark → List Item → Laid → ℕ → ℕ → Type 0
 ValuesCode line ms is code = ValuesAt code line ms is
 
-abbrev pub TargetsCode : ℕ → List Mark → List Target → Laid → ℕ → ℕ → Type 0
+abbrev pub TargetsCode : ℕ → List CodeMark → List Target → Laid → ℕ → ℕ → Type 0
 TargetsCode line ms ts code = TargetsAt code line ms ts
 
-abbrev pub StartCode : ℕ → List Mark → ℕ → Option Expr → Laid → ℕ → ℕ → Type 0
+abbrev pub StartCode : ℕ → List CodeMark → ℕ → Option Expr → Laid → ℕ → ℕ → Type 0
 StartCode line ms cell value code = StartAt code line ms cell value
 
-abbrev pub VariablesCode : ℕ → List Mark → List Declared → Laid → ℕ → ℕ → Type 0
+abbrev pub VariablesCode : ℕ → List CodeMark → List Declared → Laid → ℕ → ℕ → Type 0
 VariablesCode line ms ds code = VariablesAt code line ms ds
 
-abbrev pub TogetherCode : ℕ → List Mark → List Item → Laid → ℕ → ℕ → Type 0
+abbrev pub TogetherCode : ℕ → List CodeMark → List Item → Laid → ℕ → ℕ → Type 0
 TogetherCode line ms is code = TogetherAt code line ms is
 
 -- ops in a row, the last of the list first

@@ -20,7 +20,7 @@ use crate::objects::{clean_call, close_scope, lower_build};
 use std::alloc::{AllocError, Global};
 use uc_code::draft::Draft;
 use uc_code::op::Op;
-use uc_code::rows::{Cleaning, Mark, Opening, Spot};
+use uc_code::rows::{Cleaning, CodeMark, ObjectSpot, Opening};
 use uc_lower_expr::making::Made;
 use uc_lower_expr::program_names::ProgramNames;
 use uc_lower_expr::put::put;
@@ -61,7 +61,7 @@ fn lower_object(
     let cells = names.sizes().cells_of_variable(base, declarator) as u32;
     let cell = out.cells();
     put(Op::Clear { cell, cells }, line, out)?;
-    let spot = Spot::Local(cell);
+    let spot = ObjectSpot::Local(cell);
     let elements = length_of(names, declarator);
     let args = args_of(&declarator.start);
     lower_build(made, spot, elements, args, line, names, out)?;
@@ -117,24 +117,24 @@ fn scope_by(what: Cleaning, line: u32) -> Option<ObjectScope>
     }
 }
 
-fn scope_at(mark: Mark) -> Option<ObjectScope>
+fn scope_at(mark: CodeMark) -> Option<ObjectScope>
     ensures { result ≡ scope_at mark }
 {
     match mark {
-        Mark::Clean { what, line, .. } => scope_by(what, line),
-        Mark::Body { .. } => None,
-        Mark::Finish { .. } => None,
-        Mark::Loop { .. } => None,
-        Mark::Whole { .. } => None,
-        Mark::Guard { .. } => None,
-        Mark::Part { .. } => None,
-        Mark::Elements { .. } => None,
-        Mark::Outward { .. } => None,
+        CodeMark::Clean { what, line, .. } => scope_by(what, line),
+        CodeMark::Body { .. } => None,
+        CodeMark::Finish { .. } => None,
+        CodeMark::Loop { .. } => None,
+        CodeMark::Whole { .. } => None,
+        CodeMark::Guard { .. } => None,
+        CodeMark::Part { .. } => None,
+        CodeMark::Elements { .. } => None,
+        CodeMark::Outward { .. } => None,
     }
 }
 
 // The innermost scope of an object, where more marks stand than so many.
-fn innermost(marks: &[Mark], count: usize) -> Option<ObjectScope>
+fn innermost(marks: &[CodeMark], count: usize) -> Option<ObjectScope>
     ensures { result ≡ innermost_in (reverse marks.now) count }
 {
     if marks.len() <= count {

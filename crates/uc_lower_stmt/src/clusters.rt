@@ -14,14 +14,14 @@ use crate::objects::spot_op;
 use std::alloc::AllocError;
 use uc_code::draft::Draft;
 use uc_code::op::Op;
-use uc_code::rows::Spot;
+use uc_code::rows::ObjectSpot;
 use uc_lower_expr::expr::lower_expr;
 use uc_lower_expr::program_names::ProgramNames;
 use uc_lower_expr::put::put;
 use uc_tree::expr::Expr;
 
 // A cluster is asked for.
-pub(crate) fn open_cluster(spot: Spot, line: u32, out: &mut Draft) -> Result<(), AllocError>
+pub(crate) fn open_cluster(spot: ObjectSpot, line: u32, out: &mut Draft) -> Result<(), AllocError>
     requires { length out.old.ops + 3 ≤ PROGRAM_OPS }
     ensures room { OnOk result (length out.new.ops ≤ length out.old.ops + 3) }
     ensures code { OnOk result ((place : Place) → BeginsAt place spot → Adds 3 (ExprCode line out.old.marks (OfObject (Bind place (OfObject NewCluster)))) out.old out.new) }
@@ -56,7 +56,7 @@ fn lower_cluster(
 
 // A processor is asked for.
 pub(crate) fn open_processor(
-    spot: Spot,
+    spot: ObjectSpot,
     args: &[Expr],
     line: u32,
     names: &ProgramNames,

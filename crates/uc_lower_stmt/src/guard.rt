@@ -21,7 +21,7 @@ ghost use Rattle.uc_lower_stmt.specs.LowersStatement.{sizes_at};
 use crate::stmt::lower_stmts;
 use std::alloc::{AllocError, Global};
 use uc_code::draft::Draft;
-use uc_code::draft_parts::Outside;
+use uc_code::draft_parts::OuterScope;
 use uc_code::guarding::{close_guards, open_guards};
 use uc_code::op::Op;
 use uc_code::raising::put_kept;
@@ -99,7 +99,7 @@ fn enter_handler(
     line: u32,
     row: u32,
     out: &mut Draft,
-) -> Result<Outside, AllocError>
+) -> Result<OuterScope, AllocError>
     requires bare { IsBare (laid_in out.old) row }
     requires entry { 0 < length out.old.ops }
     requires room { length out.old.ops + 6 ≤ PROGRAM_OPS }

@@ -24,7 +24,7 @@ use std::alloc::AllocError;
 use uc_code::cleaning::{clean_length, done_length, put_call, put_clean, put_done, put_exit};
 use uc_code::draft::Draft;
 use uc_code::op::Op;
-use uc_code::rows::{Array, Cleaning, Manner, ObjectCall, Opening, Resource, Spot, Way};
+use uc_code::rows::{Array, Cleaning, Manner, ObjectCall, ObjectSpot, Opening, Resource, Way};
 use uc_lower_expr::expr::lower_args;
 use uc_lower_expr::making::Made;
 use uc_lower_expr::numbering::ClassRoutine;
@@ -37,17 +37,22 @@ use uc_tree::laws::law_cells;
 const ARRIVAL: u32 = 13;
 
 // Where an object begins.
-pub(crate) fn spot_op(spot: Spot) -> Op
+pub(crate) fn spot_op(spot: ObjectSpot) -> Op
     ensures { result ≡ spot_op spot }
 {
     match spot {
-        Spot::Local(cell) => Op::Local(cell),
-        Spot::This(cell) => Op::This(cell),
+        ObjectSpot::Local(cell) => Op::Local(cell),
+        ObjectSpot::This(cell) => Op::This(cell),
     }
 }
 
 // A call of a routine without arguments.
-fn call_by(routine: ClassRoutine, manner: Manner, spot: Spot, array: Option<Array>) -> ObjectCall
+fn call_by(
+    routine: ClassRoutine,
+    manner: Manner,
+    spot: ObjectSpot,
+    array: Option<Array>,
+) -> ObjectCall
     ensures { result ≡ call_by routine manner spot array }
 {
     ObjectCall {
@@ -131,7 +136,12 @@ fn no_routine() -> ClassRoutine
 }
 
 // The call that builds what is made, without arguments.
-fn builder_of(made: Made, spot: Spot, array: Option<Array>, names: &ProgramNames) -> ObjectCall
+fn builder_of(
+    made: Made,
+    spot: ObjectSpot,
+    array: Option<Array>,
+    names: &ProgramNames,
+) -> ObjectCall
     requires { HasClass names.now made }
     ensures { result ≡ builder_of names.now made spot array }
 {
@@ -151,7 +161,12 @@ fn builder_of(made: Made, spot: Spot, array: Option<Array>, names: &ProgramNames
 }
 
 // The call that destroys it.
-fn destroyer_of(made: Made, spot: Spot, array: Option<Array>, names: &ProgramNames) -> ObjectCall
+fn destroyer_of(
+    made: Made,
+    spot: ObjectSpot,
+    array: Option<Array>,
+    names: &ProgramNames,
+) -> ObjectCall
     requires { HasClass names.now made }
     ensures { result ≡ destroyer_of names.now made spot array }
 {
@@ -171,7 +186,12 @@ fn destroyer_of(made: Made, spot: Spot, array: Option<Array>, names: &ProgramNam
 }
 
 /// The call that cleans up an object, a cluster or a processor, or each of so many elements of an array, which begins in a spot.
-pub fn clean_call(made: Made, spot: Spot, elements: Option<u32>, names: &ProgramNames) -> Cleaning
+pub fn clean_call(
+    made: Made,
+    spot: ObjectSpot,
+    elements: Option<u32>,
+    names: &ProgramNames,
+) -> Cleaning
     requires { HasClass names.now made }
     ensures call { result ≡ cleaning.Call (destroyer_of names.now made spot (array_by names.now made elements)) }
     ensures cleans { (place : Place) → BeginsAt place spot → Cleans (clean_up names.now (making_of names.now made) elements place) result }
@@ -204,7 +224,7 @@ fn put_made(
 // An object of the class with this place, which begins in a spot, is built.
 fn construct_object(
     class: usize,
-    spot: Spot,
+    spot: ObjectSpot,
     args: &[Expr],
     line: u32,
     names: &ProgramNames,
@@ -234,7 +254,7 @@ fn construct_object(
 /// is spent.
 pub fn lower_construction(
     made: Made,
-    spot: Spot,
+    spot: ObjectSpot,
     args: &[Expr],
     line: u32,
     names: &ProgramNames,
@@ -314,7 +334,7 @@ fn put_fill(
 /// arguments. After want of memory the draft is spent.
 pub fn lower_build(
     made: Made,
-    spot: Spot,
+    spot: ObjectSpot,
     elements: Option<u32>,
     args: &[Expr],
     line: u32,

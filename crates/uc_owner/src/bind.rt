@@ -47,7 +47,7 @@ fn is_field_meant(meant: Option<NameMeaning>) -> bool
 
 // A constructor of the class with this place, with the names of its parameters.
 #[derive(Clone, Copy)]
-struct Built<'a> {
+struct ConstructorNames<'a> {
     tables: &'a Tables<'a>,
     class: usize,
     routine: &'a Routine,
@@ -56,13 +56,13 @@ struct Built<'a> {
 }
 
 // Whether a name stands for a field of the class in the constructor.
-fn is_own_field(built: &Built, name: &Name) -> bool
+fn is_own_field(built: &ConstructorNames, name: &Name) -> bool
     ensures { result ≡ names_own_field built.now.tables.now built.now.class built.now.routine.now (Some name.now) }
 {
     !has_name(built.params, name) && is_field_meant(built.tables.member_named(built.class, name))
 }
 
-fn begins_with_own(built: &Built, e: &Expr) -> bool
+fn begins_with_own(built: &ConstructorNames, e: &Expr) -> bool
     ensures { result ≡ names_own_field built.now.tables.now built.now.class built.now.routine.now (root_name e.now) }
 {
     match root_name(e) {
@@ -71,13 +71,13 @@ fn begins_with_own(built: &Built, e: &Expr) -> bool
     }
 }
 
-fn binds_own(built: &Built, args: &[Expr]) -> bool
+fn binds_own(built: &ConstructorNames, args: &[Expr]) -> bool
     ensures { result ≡ binds_own built.now.tables.now built.now.class built.now.routine.now (exprs_of args.now) }
 {
     args.len() == 1 && begins_with_own(built, &args[0])
 }
 
-fn note_init(names: &mut Scope, built: &Built, init: &Init) -> Result<(), AllocError>
+fn note_init(names: &mut Scope, built: &ConstructorNames, init: &Init) -> Result<(), AllocError>
     requires { 0 < length names.old }
     ensures open { OnOk result (0 < length names.new) }
     ensures noted { OnOk result ((x : List ℕ) → is_some (found names.new x) ≡ (is_some (found names.old x) || init_binds built.now.tables.now built.now.class x built.now.routine.now init.now)) }
@@ -89,7 +89,7 @@ fn note_init(names: &mut Scope, built: &Built, init: &Init) -> Result<(), AllocE
     Ok(())
 }
 
-fn note_inits(names: &mut Scope, built: &Built, inits: &[Init]) -> Result<(), AllocError>
+fn note_inits(names: &mut Scope, built: &ConstructorNames, inits: &[Init]) -> Result<(), AllocError>
     requires { 0 < length names.old }
     ensures open { OnOk result (0 < length names.new) }
     ensures noted { OnOk result ((x : List ℕ) → is_some (found names.new x) ≡ (is_some (found names.old x) || list_any (init_binds built.now.tables.now built.now.class x built.now.routine.now) inits.now)) }
@@ -112,7 +112,7 @@ fn note_constructor(
     ensures noted { OnOk result ((x : List ℕ) → is_some (found names.new x) ≡ (is_some (found names.old x) || list_any (init_binds tables.now class x routine.now) routine.now.inits)) }
 {
     let params = names_of_params(alloc, &routine.sig.params)?;
-    let built = Built {
+    let built = ConstructorNames {
         tables,
         class,
         routine,

@@ -15,10 +15,10 @@ use Rattle.uc_code.specs.Layout.{laid_of, chain}
 use Rattle.uc_code.specs.Pace.{burden, In, IsPaced}
 use Rattle.uc_frames.specs.declared.cell.Cell.{Cell}
 use Rattle.uc_frames.specs.declared.event.Event.{Event}
-use Rattle.uc_frames.specs.declared.search.Sought.TheVariants.{Catch, Stop}
+use Rattle.uc_frames.specs.declared.search.HandlerQuery.TheVariants.{Catch, Stop}
 use Rattle.uc_frames.specs.PaceInvariant.{Whole, Behind, Entry, AllWait, taken_at, UnwoundBelow, LeavesBelow, RaisesBelow}
 use Rattle.uc_frames.specs.Calls.{left}
-use Rattle.uc_frames.specs.Machine.{Active, Machine, nought}
+use Rattle.uc_frames.specs.Machine.{Activation, Machine, nought}
 use Rattle.uc_frames.specs.Searches.{catches, row_takes, is_found, is_named, first_in}
 use Rattle.uc_frames.specs.Unwinding.{passed}
 use Rattle.uc_frames.specs.Weight.{waits}
@@ -198,7 +198,7 @@ module _ (code : Code) (w : ℕ) where
 
   -- the one that waits goes on
 
-  returned_by : (given : Cell) (m n : Machine) (us : List Active) → m.callers ≡ us → (us ≡ [] → ⊥) → n ≡ left given us m → LeavesBelow (laid_of code) code.routines w m → RunLowers code w n
+  returned_by : (given : Cell) (m n : Machine) (us : List Activation) → m.callers ≡ us → (us ≡ [] → ⊥) → n ≡ left given us m → LeavesBelow (laid_of code) code.routines w m → RunLowers code w n
   returned_by given m n [] e f b u = absurd (f refl)
   returned_by given m n (c ∷ us) e f b u =
       returns_below (laid_of code) code.routines w m n c us e (ap (λ (y : Machine). y.callers) b) (ap (λ (y : Machine). y.run.control) b) (ap (λ (y : Machine). y.run.elements) b) (ap (λ (y : Machine). y.run.handles) b) (ap (λ (y : Machine). y.run.counts) b) u
@@ -217,7 +217,7 @@ module _ (code : Code) (w : ℕ) where
 
   -- the one that waits is unwound in its turn
 
-  passed_by : (why : UnwindReason) (m n : Machine) (us : List Active) → m.callers ≡ us → (us ≡ [] → ⊥) → n ≡ passed why m.run.result us m → UnwoundBelow (laid_of code) code.routines w m → UnwoundBelow (laid_of code) code.routines w n × (left_in code n < left_in code m)
+  passed_by : (why : UnwindReason) (m n : Machine) (us : List Activation) → m.callers ≡ us → (us ≡ [] → ⊥) → n ≡ passed why m.run.result us m → UnwoundBelow (laid_of code) code.routines w m → UnwoundBelow (laid_of code) code.routines w n × (left_in code n < left_in code m)
   passed_by why m n [] e f b u = absurd (f refl)
   passed_by why m n (c ∷ us) e f b u =
       let p = ap (λ (y : Machine). y.callers) b in
@@ -227,7 +227,7 @@ module _ (code : Code) (w : ℕ) where
       let k = ap (λ (y : Machine). y.run.counts) b in
       (passes (laid_of code) code.routines w m n c us e p q i h k u, passes_less (laid_of code) code.routines m n c us e p q i h k)
 
-  passed_on_by : (why : UnwindReason) (m n : Machine) (us : List Active) → m.callers ≡ us → (us ≡ [] → ⊥) → n ≡ passed_for why us m → UnwoundBelow (laid_of code) code.routines w m → UnwoundBelow (laid_of code) code.routines w n × (left_in code n < left_in code m)
+  passed_on_by : (why : UnwindReason) (m n : Machine) (us : List Activation) → m.callers ≡ us → (us ≡ [] → ⊥) → n ≡ passed_for why us m → UnwoundBelow (laid_of code) code.routines w m → UnwoundBelow (laid_of code) code.routines w n × (left_in code n < left_in code m)
   passed_on_by why m n [] e f b u = absurd (f refl)
   passed_on_by why m n (c ∷ us) e f b u = passed_by (why_by why c.raised) m n (c ∷ us) e f b u
 
@@ -241,7 +241,7 @@ module _ (code : Code) (w : ℕ) where
 
   -- a return leaves a handler
 
-  past_by : (o : Option Visited) (given : Cell) (m n : Machine) (us : List Active) → m.callers ≡ us → (us ≡ [] → ⊥) → Made (past_of o given us m) m true n → LeavesBelow (laid_of code) code.routines w m → UnwoundBelow (laid_of code) code.routines w n
+  past_by : (o : Option Visited) (given : Cell) (m n : Machine) (us : List Activation) → m.callers ≡ us → (us ≡ [] → ⊥) → Made (past_of o given us m) m true n → LeavesBelow (laid_of code) code.routines w m → UnwoundBelow (laid_of code) code.routines w n
   past_by None given m n us e f (x, b) u = absurd (cc)
   past_by (Some v) given m n [] e f g u = absurd (f refl)
   past_by (Some v) given m n (c ∷ us) e f (x, b) u =
@@ -252,7 +252,7 @@ module _ (code : Code) (w : ℕ) where
 
   -- a main ends for one that waits
 
-  main_calls : (held : Bool) (r : Option UnwindReason) (us : List Active) → end.Returned ≡ main_by held r us → us ≡ [] → ⊥
+  main_calls : (held : Bool) (r : Option UnwindReason) (us : List Activation) → end.Returned ≡ main_by held r us → us ≡ [] → ⊥
   main_calls held None us e f = absurd (cc)
   main_calls held (Some (reason.Event n x y)) us e f = absurd (cc)
   main_calls true (Some (reason.ReturnTo home)) us e f = absurd (cc)
@@ -265,7 +265,7 @@ module _ (code : Code) (w : ℕ) where
 
   -- the running activation is left
 
-  waits_for : (r : Option UnwindReason) (us : List Active) (o : Left) → o ≡ ending_by r us → (o ≡ leave.Ended → ⊥) → us ≡ [] → ⊥
+  waits_for : (r : Option UnwindReason) (us : List Activation) (o : Left) → o ≡ ending_by r us → (o ≡ leave.Ended → ⊥) → us ≡ [] → ⊥
   waits_for r [] o e f g = f e
   waits_for r (c ∷ us) o e f g = absurd (cc)
 
@@ -278,7 +278,7 @@ module _ (code : Code) (w : ℕ) where
   pub leave_returns : (m n : Machine) → leave.Returned ≡ ending_by m.run.raised m.callers → n ≡ left_as leave.Returned m → UnwoundBelow (laid_of code) code.routines w m → RunLowers code w n
   leave_returns m n e b u = returned_goes m.run.result m n (waits_for m.run.raised m.callers leave.Returned e returned_is) b (may_leave (laid_of code) code.routines w m u)
 
-  why_passed : (r : Option UnwindReason) (us : List Active) → leave.PassedOn ≡ ending_by r us → (why : UnwindReason) × (r ≡ Some why)
+  why_passed : (r : Option UnwindReason) (us : List Activation) → leave.PassedOn ≡ ending_by r us → (why : UnwindReason) × (r ≡ Some why)
   why_passed None [] e = absurd (cc)
   why_passed None (c ∷ us) e = absurd (cc)
   why_passed (Some why) us e = (why, refl)

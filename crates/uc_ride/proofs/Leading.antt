@@ -25,7 +25,7 @@ use Rattle.uc_code.specs.Layout.{Laid, laid_of}
 use Rattle.uc_code.specs.Lowered.{Lowered}
 use Rattle.uc_frames.specs.declared.event.Event.{Event}
 use Rattle.uc_frames.specs.declared.cell.Cell.{Cell}
-use Rattle.uc_frames.specs.Machine.{Active, Machine, cell_of, line_at}
+use Rattle.uc_frames.specs.Machine.{Activation, Machine, cell_of, line_at}
 use Rattle.uc_frames.specs.Stands.{Stands}
 use Rattle.uc_frames.specs.UnwindingStands.{raised_as, Unwinds, TestsBlock, TestsCall, EndsMain, LeavesNow, Raises, Throws, Returns}
 use Rattle.uc_frames.proofs.Finishes.{main_line}
@@ -43,7 +43,7 @@ use Rattle.uc_step.specs.declared.stepped.Stepped.TheVariants.{Quiet, Tick, Ask,
 use Rattle.uc_step.specs.Simulation.{behind_line, HandStands, Follow}
 use Rattle.uc_step.proofs.Apart.{no_test, no_arrival, no_end, no_coroutine_end}
 use Rattle.uc_step.proofs.Simulates.{lines}
-use Rattle.uc_ride.specs.declared.events.Test.TheVariants.{Block, Task, Coroutine, Call, Nothing}
+use Rattle.uc_ride.specs.declared.events.EndTest.TheVariants.{Block, Task, Coroutine, Call, Nothing}
 use Rattle.uc_ride.specs.UnwindingFalls.{stop_by, test_by}
 
 true_false : true ≡ false → ⊥
@@ -91,7 +91,7 @@ module _ (source : Source) (code : Laid) where
 
   -- a return leaves a handler, for the one that waits
 
-  kept_past : (o : Option Visited) (given : Cell) (m n : Machine) (us : List Active) (v : Visited) → o ≡ Some v → (us ≡ [] → ⊥) → Made (past_of o given us m) m false n → ⊥
+  kept_past : (o : Option Visited) (given : Cell) (m n : Machine) (us : List Activation) (v : Visited) → o ≡ Some v → (us ≡ [] → ⊥) → Made (past_of o given us m) m false n → ⊥
   kept_past None given m n us v e f g = absurd (cc)
   kept_past (Some x) given m n [] v e f g = f refl
   kept_past (Some x) given m n (c ∷ us) v e f (i, b) = absurd (cc)

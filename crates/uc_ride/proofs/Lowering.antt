@@ -16,10 +16,10 @@ use Rattle.uc_code.specs.Layout.{laid_of, chain}
 use Rattle.uc_code.specs.Pace.{IsPaced}
 use Rattle.uc_frames.specs.declared.cell.Cell.{Cell}
 use Rattle.uc_frames.specs.declared.event.Event.{Event}
-use Rattle.uc_frames.specs.declared.search.Sought.TheVariants.{Catch}
+use Rattle.uc_frames.specs.declared.search.HandlerQuery.TheVariants.{Catch}
 use Rattle.uc_frames.specs.PaceInvariant.{taken_at, Idly, Within, Goes, ResumesBelow}
 use Rattle.uc_frames.specs.Calls.{left}
-use Rattle.uc_frames.specs.Machine.{Active, Machine, Cells, nought, own_exec, resumed}
+use Rattle.uc_frames.specs.Machine.{Activation, Machine, Cells, nought, own_exec, resumed}
 use Rattle.uc_frames.specs.Searches.{first_in}
 use Rattle.uc_frames.specs.Unwinding.{passed}
 use Rattle.uc_frames.proofs.Idling.{same_idly}
@@ -140,15 +140,15 @@ module _ (code : Code) (w : ℕ) where
 
   -- an activation is left
 
-  left_env : (given : Cell) (m n : Machine) (us : List Active) → n ≡ left given us m → Idly (laid_of code) code.routines m.env n.env
+  left_env : (given : Cell) (m n : Machine) (us : List Activation) → n ≡ left given us m → Idly (laid_of code) code.routines m.env n.env
   left_env given m n [] b = same_env m n (ap (λ (x : Machine). x.env) b)
   left_env given m n (c ∷ us) b = called_env m n _ m.run.counts (ap (λ (x : Machine). x.env) b)
 
-  passed_env : (why : UnwindReason) (given : Cell) (m n : Machine) (us : List Active) → n ≡ passed why given us m → Idly (laid_of code) code.routines m.env n.env
+  passed_env : (why : UnwindReason) (given : Cell) (m n : Machine) (us : List Activation) → n ≡ passed why given us m → Idly (laid_of code) code.routines m.env n.env
   passed_env why given m n [] b = same_env m n (ap (λ (x : Machine). x.env) b)
   passed_env why given m n (c ∷ us) b = called_env m n _ m.run.counts (ap (λ (x : Machine). x.env) b)
 
-  passed_for_env : (why : UnwindReason) (m n : Machine) (us : List Active) → n ≡ passed_for why us m → Idly (laid_of code) code.routines m.env n.env
+  passed_for_env : (why : UnwindReason) (m n : Machine) (us : List Activation) → n ≡ passed_for why us m → Idly (laid_of code) code.routines m.env n.env
   passed_for_env why m n [] b = same_env m n (ap (λ (x : Machine). x.env) b)
   passed_for_env why m n (c ∷ us) b = called_env m n _ m.run.counts (ap (λ (x : Machine). x.env) b)
 
@@ -156,7 +156,7 @@ module _ (code : Code) (w : ℕ) where
   passed_as_env None m n b = same_env m n (ap (λ (x : Machine). x.env) b)
   passed_as_env (Some why) m n b = passed_for_env why m n m.callers b
 
-  past_env : (o : Option Visited) (given : Cell) (m n : Machine) (us : List Active) → Made (past_of o given us m) m true n → Idly (laid_of code) code.routines m.env n.env
+  past_env : (o : Option Visited) (given : Cell) (m n : Machine) (us : List Activation) → Made (past_of o given us m) m true n → Idly (laid_of code) code.routines m.env n.env
   past_env None given m n us (x, b) = absurd (cc)
   past_env (Some v) given m n [] (x, b) = absurd (cc)
   past_env (Some v) given m n (c ∷ us) (x, b) = passed_env (reason.ReturnTo v.home) given m n (c ∷ us) b

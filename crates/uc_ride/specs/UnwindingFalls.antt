@@ -16,12 +16,12 @@ use Rattle.uc_step.specs.declared.stepped.Stepped.{Stepped}
 use Rattle.uc_step.specs.declared.stepped.Stepped.TheVariants.{Quiet, Tick, Ask, Unwind}
 use Rattle.uc_step.specs.WeightFalls.{Keeps, FallsBelow}
 use Rattle.uc_ride.specs.declared.events.Caught.{Caught}
-use Rattle.uc_ride.specs.declared.events.Settled.{Settled}
-use Rattle.uc_ride.specs.declared.events.Settled.TheVariants as settled
-use Rattle.uc_ride.specs.declared.events.Test.{Test}
-use Rattle.uc_ride.specs.declared.events.Test.TheVariants.{Block, Task, Coroutine, Call, Nothing}
-use Rattle.uc_ride.specs.declared.events.Unwound.{Unwound}
-use Rattle.uc_ride.specs.declared.events.Unwound.TheVariants as unwound
+use Rattle.uc_ride.specs.declared.events.OpEnd.{OpEnd}
+use Rattle.uc_ride.specs.declared.events.OpEnd.TheVariants as settled
+use Rattle.uc_ride.specs.declared.events.EndTest.{EndTest}
+use Rattle.uc_ride.specs.declared.events.EndTest.TheVariants.{Block, Task, Coroutine, Call, Nothing}
+use Rattle.uc_ride.specs.declared.events.UnwindEnd.{UnwindEnd}
+use Rattle.uc_ride.specs.declared.events.UnwindEnd.TheVariants as unwound
 
 -- the row of what is caught
 abbrev pub row_of : Option Caught → Option ℕ
@@ -29,7 +29,7 @@ row_of None = None
 row_of (Some c) = Some c.row
 
 -- the test that an op makes
-abbrev pub test_by : Op → Test
+abbrev pub test_by : Op → EndTest
 test_by op.Handled = Block
 test_by op.Unhandled = Task
 test_by op.Escape = Coroutine
@@ -43,12 +43,12 @@ stop_by line (Some f) = Ask (record { request = ask.Fault (fault_number f); line
 
 -- these ends as those of an op; this is asked, if anything is
 
-abbrev pub how_settled : Settled → Asked → Stepped
+abbrev pub how_settled : OpEnd → Asked → Stepped
 how_settled settled.On a = Quiet
 how_settled settled.Tick a = Tick
 how_settled settled.Asks a = Ask a
 
-abbrev pub how_unwound : Unwound → Asked → Stepped
+abbrev pub how_unwound : UnwindEnd → Asked → Stepped
 how_unwound unwound.On a = Quiet
 how_unwound unwound.Still a = Unwind
 how_unwound unwound.Asks a = Ask a
@@ -59,7 +59,7 @@ module _ (code : Code) where
   left_in m = waits code.ops (m.run ∷ m.callers)
 
   -- a step of unwinding leaves less than w, and where it goes on less than before
-  abbrev pub StepFalls : ℕ → ℕ → Unwound → Asked → Machine → Type 0
+  abbrev pub StepFalls : ℕ → ℕ → UnwindEnd → Asked → Machine → Type 0
   StepFalls w left unwound.On a m = FallsBelow code w Quiet m
   StepFalls w left unwound.Still a m = FallsBelow code w Unwind m × (left_in m < left)
   StepFalls w left unwound.Asks a m = FallsBelow code w (Ask a) m

@@ -42,7 +42,7 @@ use uc_step::stepped::Stepped;
 /// How an op ends with what an event or a switch leads to by it: the task goes on, after a tick or without one, or it asks what is then
 /// written where a request was lent.
 #[derive(Clone, Copy)]
-pub(crate) enum Settled {
+pub(crate) enum OpEnd {
     On,
     Tick,
     Asks,
@@ -50,7 +50,7 @@ pub(crate) enum Settled {
 
 /// How a step of unwinding ends: the task goes on, or it still unwinds, or it asks, as above.
 #[derive(Clone, Copy)]
-pub(crate) enum Unwound {
+pub(crate) enum UnwindEnd {
     On,
     Still,
     Asks,
@@ -59,7 +59,7 @@ pub(crate) enum Unwound {
 /// What the first op of a row tests: whether a block, a mutex call or a main that is unwound up to it is left, or nothing, where it cleans up. The
 /// main is that of a task or of a coroutine.
 #[derive(Clone, Copy)]
-pub(crate) enum Test {
+pub(crate) enum EndTest {
     Block,
     Task,
     Coroutine,
@@ -80,18 +80,18 @@ pub(crate) fn settle(
     work: &mut Work,
     how: &Stepped,
     asked: &mut Asked,
-) -> Result<Settled, AllocError>
+) -> Result<OpEnd, AllocError>
     requires paced { IsPaced (laid_of code.now) code.now.routines }
     requires below { (w : ℕ) × FallsBelow code.now w how.now work.old }
     ensures source { IfOk result (λ after. (source : Source) (s : State) → Lowered source code.now → Follow (laid_of code.now) source how.now work.old s → Follow (laid_of code.now) source (how_settled after asked.new) work.new s) }
     ensures falls { IfOk result (λ after. (w : ℕ) → FallsBelow code.now w how.now work.old → FallsBelow code.now w (how_settled after asked.new) work.new) }
 {
     match *how {
-        Stepped::Quiet => Ok(Settled::On),
-        Stepped::Tick => Ok(Settled::Tick),
+        Stepped::Quiet => Ok(OpEnd::On),
+        Stepped::Tick => Ok(OpEnd::Tick),
         Stepped::Ask(request) => {
             *asked = request;
-            Ok(Settled::Asks)
+            Ok(OpEnd::Asks)
         }
         Stepped::Throw(event) => {
             throw(work, event.number, event.x, event.y);
@@ -112,25 +112,25 @@ pub(crate) fn settle(
                 Ok(end)
             } else {
                 *asked = asks(code, 0, work, Request::End);
-                Ok(Settled::Asks)
+                Ok(OpEnd::Asks)
             }
         }
         Stepped::Resume => Ok(settle_resume(code, work, asked)),
         Stepped::Suspend => Ok(settle_suspend(code, work, asked)),
         Stepped::TakeDown => {
             take_down(work);
-            Ok(Settled::On)
+            Ok(OpEnd::On)
         }
         Stepped::EndMain => Ok(settle_end(code, work, asked)),
         Stepped::Astray => {
             *asked = asks(code, 0, work, Request::End);
-            Ok(Settled::Asks)
+            Ok(OpEnd::Asks)
         }
     }
 }
 
 // Resumes the execution of the coroutine whose member runs; in a main, the one that runs, which is a fault.
-fn settle_resume(code: &Code, work: &mut Work, asked: &mut Asked) -> Settled
+fn settle_resume(code: &Code, work: &mut Work, asked: &mut Asked) -> OpEnd
     ensures source { (source : Source) (s : State) → Follow (laid_of code.now) source Stepped.Resume work.old s → Follow (laid_of code.now) source (how_settled result asked.new) work.new s }
     ensures falls { (w : ℕ) → FallsBelow code.now w Stepped.Resume work.old → FallsBelow code.now w (how_settled result asked.new) work.new }
 {
@@ -140,7 +140,7 @@ fn settle_resume(code: &Code, work: &mut Work, asked: &mut Asked) -> Settled
 }
 
 // The running execution is suspended.
-fn settle_suspend(code: &Code, work: &mut Work, asked: &mut Asked) -> Settled
+fn settle_suspend(code: &Code, work: &mut Work, asked: &mut Asked) -> OpEnd
     ensures source { (source : Source) (s : State) → Follow (laid_of code.now) source Stepped.Suspend work.old s → Follow (laid_of code.now) source (how_settled result asked.new) work.new s }
     ensures falls { (w : ℕ) → FallsBelow code.now w Stepped.Suspend work.old → FallsBelow code.now w (how_settled result asked.new) work.new }
 {
@@ -150,7 +150,7 @@ fn settle_suspend(code: &Code, work: &mut Work, asked: &mut Asked) -> Settled
 }
 
 // The main of a coroutine ends.
-fn settle_end(code: &Code, work: &mut Work, asked: &mut Asked) -> Settled
+fn settle_end(code: &Code, work: &mut Work, asked: &mut Asked) -> OpEnd
     ensures source { (source : Source) (s : State) → Follow (laid_of code.now) source Stepped.EndMain work.old s → Follow (laid_of code.now) source (how_settled result asked.new) work.new s }
     ensures falls { (w : ℕ) → FallsBelow code.now w Stepped.EndMain work.old → FallsBelow code.now w (how_settled result asked.new) work.new }
 {
@@ -161,29 +161,24 @@ fn settle_end(code: &Code, work: &mut Work, asked: &mut Asked) -> Settled
 
 // What is asked behind the op of a switch, where that is a fault, in the line of the op before the next one, or of the newest call around it
 // that has one.
-fn switched(code: &Code, work: &Work, fault: Option<RunFault>, asked: &mut Asked) -> Settled
+fn switched(code: &Code, work: &Work, fault: Option<RunFault>, asked: &mut Asked) -> OpEnd
     ensures { how_settled result asked.new ≡ stop_by (behind_line (laid_of code.now) work.now) fault }
 {
     match fault {
-        None => Settled::On,
+        None => OpEnd::On,
         Some(fault) => {
             let number = fault.number();
             *asked = Asked {
                 request: Request::Fault { number },
                 line: work.line_behind(code),
             };
-            Settled::Asks
+            OpEnd::Asks
         }
     }
 }
 
 // The handler begins that the event finds; where it finds none, it is thrown.
-fn raise(
-    code: &Code,
-    work: &mut Work,
-    event: Event,
-    asked: &mut Asked,
-) -> Result<Settled, AllocError>
+fn raise(code: &Code, work: &mut Work, event: Event, asked: &mut Asked) -> Result<OpEnd, AllocError>
     requires paced { IsPaced (laid_of code.now) code.now.routines }
     requires below { (w : ℕ) × FallsBelow code.now w (Stepped.Raise event) work.old }
     ensures source { IfOk result (λ end. (source : Source) (s : State) → Lowered source code.now → Follow (laid_of code.now) source (Stepped.Raise event) work.old s → Follow (laid_of code.now) source (how_settled end asked.new) work.new s) }
@@ -198,13 +193,13 @@ fn raise(
         }
         Found::Handler { .. } => {
             handle(code, work, &found, event.number, event.x, event.y)?;
-            Ok(Settled::On)
+            Ok(OpEnd::On)
         }
     }
 }
 
 // Step after step, as long as it unwinds.
-fn unwinds(code: &Code, work: &mut Work, asked: &mut Asked) -> Result<Settled, AllocError>
+fn unwinds(code: &Code, work: &mut Work, asked: &mut Asked) -> Result<OpEnd, AllocError>
     requires paced { IsPaced (laid_of code.now) code.now.routines }
     requires below { (w : ℕ) × FallsBelow code.now w Stepped.Unwind work.old }
     ensures source { IfOk result (λ end. (source : Source) (s : State) → Lowered source code.now → Unwinds (laid_of code.now) work.old s → Follow (laid_of code.now) source (how_settled end asked.new) work.new s) }
@@ -213,16 +208,16 @@ fn unwinds(code: &Code, work: &mut Work, asked: &mut Asked) -> Result<Settled, A
     'steps: loop {
         let how = unwind_once(code, work, asked)?;
         match how {
-            Unwound::On => return Ok(Settled::On),
-            Unwound::Still => {}
-            Unwound::Asks => return Ok(Settled::Asks),
+            UnwindEnd::On => return Ok(OpEnd::On),
+            UnwindEnd::Still => {}
+            UnwindEnd::Asks => return Ok(OpEnd::Asks),
         }
     }
 }
 
 // One step: a clean-up of the running activation begins, or the test at the end of a block or of a main is made; or the handler that catches
 // the event begins; or the activation is left.
-fn unwind_once(code: &Code, work: &mut Work, asked: &mut Asked) -> Result<Unwound, AllocError>
+fn unwind_once(code: &Code, work: &mut Work, asked: &mut Asked) -> Result<UnwindEnd, AllocError>
     requires paced { IsPaced (laid_of code.now) code.now.routines }
     ensures source { IfOk result (λ after. (source : Source) (s : State) → Lowered source code.now → Unwinds (laid_of code.now) work.old s → Follow (laid_of code.now) source (how_unwound after asked.new) work.new s) }
     ensures falls { IfOk result (λ after. (w : ℕ) → FallsBelow code.now w Stepped.Unwind work.old → StepFalls code.now w (left_in code.now work.old) after asked.new work.new) }
@@ -245,7 +240,7 @@ fn unwind_once(code: &Code, work: &mut Work, asked: &mut Asked) -> Result<Unwoun
                 let row = caught.row;
                 let found = Found::Handler { frame, row };
                 handle(code, work, &found, event.number, event.x, event.y)?;
-                Ok(Unwound::On)
+                Ok(UnwindEnd::On)
             }
         }
     }
@@ -284,32 +279,32 @@ fn row_in(caught: Option<Caught>) -> Option<u32>
 }
 
 // What begins: a test ends the unwinding, or lets it go on; a clean-up is executed.
-fn begin(code: &Code, work: &mut Work, asked: &mut Asked) -> Result<Unwound, AllocError>
+fn begin(code: &Code, work: &mut Work, asked: &mut Asked) -> Result<UnwindEnd, AllocError>
     requires paced { IsPaced (laid_of code.now) code.now.routines }
     ensures source { IfOk result (λ after. (source : Source) (s : State) → Lowered source code.now → Begins source (laid_of code.now) work.old s → Follow (laid_of code.now) source (how_unwound after asked.new) work.new s) }
     ensures falls { IfOk result (λ after. (w left : ℕ) → EnteredBelow code.now w left work.old → StepFalls code.now w left after asked.new work.new) }
 {
     let next = work.next();
     match op_at(code, next) {
-        None => Ok(Unwound::On),
+        None => Ok(UnwindEnd::On),
         Some(instruction) => match test_of(instruction.op) {
-            Test::Nothing => Ok(Unwound::On),
-            Test::Block => {
+            EndTest::Nothing => Ok(UnwindEnd::On),
+            EndTest::Block => {
                 if end_block(work, next + 1) {
-                    Ok(Unwound::On)
+                    Ok(UnwindEnd::On)
                 } else {
-                    Ok(Unwound::Still)
+                    Ok(UnwindEnd::Still)
                 }
             }
-            Test::Call { arrived } => {
+            EndTest::Call { arrived } => {
                 end_call(work, arrived, next + 1)?;
-                Ok(Unwound::On)
+                Ok(UnwindEnd::On)
             }
-            Test::Task => {
+            EndTest::Task => {
                 let after = end_on(code, work, instruction.line, asked)?;
                 Ok(after)
             }
-            Test::Coroutine => {
+            EndTest::Coroutine => {
                 let after = leave_coroutine(code, work, instruction.line, asked);
                 Ok(after)
             }
@@ -326,20 +321,25 @@ fn op_at(code: &Code, at: u32) -> Option<Instruction>
     ops.get(at as usize).copied()
 }
 
-fn test_of(op: Op) -> Test
+fn test_of(op: Op) -> EndTest
     ensures { result ≡ test_by op }
 {
     match op {
-        Op::Handled => Test::Block,
-        Op::Unhandled => Test::Task,
-        Op::Escape => Test::Coroutine,
-        Op::Arrive(arrived) => Test::Call { arrived },
-        _ => Test::Nothing,
+        Op::Handled => EndTest::Block,
+        Op::Unhandled => EndTest::Task,
+        Op::Escape => EndTest::Coroutine,
+        Op::Arrive(arrived) => EndTest::Call { arrived },
+        _ => EndTest::Nothing,
     }
 }
 
 // The main of a task that is unwound ends, by an op of this line.
-fn end_on(code: &Code, work: &mut Work, line: u32, asked: &mut Asked) -> Result<Unwound, AllocError>
+fn end_on(
+    code: &Code,
+    work: &mut Work,
+    line: u32,
+    asked: &mut Asked,
+) -> Result<UnwindEnd, AllocError>
     requires { slice_get code.now.ops work.old.run.control ≡ Some (record { op = Op.Unhandled; line = line }) }
     ensures source { IfOk result (λ after. (source : Source) (s : State) → Lowered source code.now → Begins source (laid_of code.now) work.old s → Follow (laid_of code.now) source (how_unwound after asked.new) work.new s) }
     ensures falls { IfOk result (λ after. (w left : ℕ) → EnteredBelow code.now w left work.old → StepFalls code.now w left after asked.new work.new) }
@@ -348,37 +348,37 @@ fn end_on(code: &Code, work: &mut Work, line: u32, asked: &mut Asked) -> Result<
     match end {
         TaskMainEnd::Ended => {
             *asked = asks(code, line, work, Request::End);
-            Ok(Unwound::Asks)
+            Ok(UnwindEnd::Asks)
         }
-        TaskMainEnd::Returned => Ok(Unwound::On),
+        TaskMainEnd::Returned => Ok(UnwindEnd::On),
         TaskMainEnd::Unhandled => {
             *asked = faults(code, line, work, RunFault::Unhandled);
-            Ok(Unwound::Asks)
+            Ok(UnwindEnd::Asks)
         }
         TaskMainEnd::HeldUp => {
             *asked = faults(code, line, work, RunFault::BlockedInside);
-            Ok(Unwound::Asks)
+            Ok(UnwindEnd::Asks)
         }
     }
 }
 
 // The main of a coroutine that is unwound is left, by an op of this line: another execution goes on, or none can.
-fn leave_coroutine(code: &Code, work: &mut Work, line: u32, asked: &mut Asked) -> Unwound
+fn leave_coroutine(code: &Code, work: &mut Work, line: u32, asked: &mut Asked) -> UnwindEnd
     requires { slice_get code.now.ops work.old.run.control ≡ Some (record { op = Op.Escape; line = line }) }
     ensures source { (source : Source) (s : State) → Lowered source code.now → Begins source (laid_of code.now) work.old s → Follow (laid_of code.now) source (how_unwound result asked.new) work.new s }
     ensures falls { (w left : ℕ) → EnteredBelow code.now w left work.old → StepFalls code.now w left result asked.new work.new }
 {
     match leave_main(work) {
-        None => Unwound::On,
+        None => UnwindEnd::On,
         Some(fault) => {
             *asked = faults(code, line, work, fault);
-            Unwound::Asks
+            UnwindEnd::Asks
         }
     }
 }
 
 // The running activation, of which nothing is left, is left.
-fn leave_on(code: &Code, work: &mut Work, asked: &mut Asked) -> Result<Unwound, AllocError>
+fn leave_on(code: &Code, work: &mut Work, asked: &mut Asked) -> Result<UnwindEnd, AllocError>
     ensures source { IfOk result (λ after. (source : Source) (s : State) → LeavesNow (laid_of code.now) work.old s → Follow (laid_of code.now) source (how_unwound after asked.new) work.new s) }
     ensures falls { IfOk result (λ after. (w : ℕ) → FallsBelow code.now w Stepped.Unwind work.old → StepFalls code.now w (left_in code.now work.old) after asked.new work.new) }
 {
@@ -386,14 +386,14 @@ fn leave_on(code: &Code, work: &mut Work, asked: &mut Asked) -> Result<Unwound, 
     match left {
         Left::Ended => {
             *asked = asks(code, 0, work, Request::End);
-            Ok(Unwound::Asks)
+            Ok(UnwindEnd::Asks)
         }
-        Left::Returned => Ok(Unwound::On),
+        Left::Returned => Ok(UnwindEnd::On),
         Left::Escaped => {
             *asked = faults(code, 0, work, RunFault::EscapeInUnwind);
-            Ok(Unwound::Asks)
+            Ok(UnwindEnd::Asks)
         }
-        Left::PassedOn => Ok(Unwound::Still),
+        Left::PassedOn => Ok(UnwindEnd::Still),
     }
 }
 

@@ -14,7 +14,7 @@ ghost use Rattle.uc_step.specs.Simulation.{behind_line, StandsAfter};
 ghost use Rattle.uc_ride.specs.UnwindingFalls.{KeepsAfter, BurstKeeps, ChildKeeps};
 ghost use Rattle.uc_ride.specs.RideStands.{spawned_by, main_at, main_behind, burst_of, BornAs, Rode, HasBurst, HasRidden};
 
-use crate::events::{Settled, settle};
+use crate::events::{OpEnd, settle};
 use std::alloc::AllocError;
 use uc_code::code::Code;
 use uc_code::op::Op;
@@ -24,7 +24,7 @@ use uc_frames::task::Task;
 use uc_frames::work::Work;
 use uc_outside::Gate;
 use uc_step::step::{answer as give, step};
-use uc_step::stepped::{Onward, Stepped};
+use uc_step::stepped::{QuietResult, Stepped};
 
 /// How a ride ended: the task with its hand, the new task where one is spawned, the ticks, and what is asked.
 #[derive(Drop)]
@@ -171,14 +171,14 @@ fn burst(
 {
     'ops: loop {
         match step(code, work, stop)? {
-            Onward::Quiet => {}
-            Onward::Tick => return Ok(BurstEnd::Tick),
-            Onward::Stops => {
+            QuietResult::Quiet => {}
+            QuietResult::Tick => return Ok(BurstEnd::Tick),
+            QuietResult::Stops => {
                 let after = settle(code, work, stop, asked)?;
                 match after {
-                    Settled::On => {}
-                    Settled::Tick => return Ok(BurstEnd::Tick),
-                    Settled::Asks => return Ok(BurstEnd::Asks),
+                    OpEnd::On => {}
+                    OpEnd::Tick => return Ok(BurstEnd::Tick),
+                    OpEnd::Asks => return Ok(BurstEnd::Asks),
                 }
             }
         }

@@ -6,8 +6,8 @@ use Rattle.uc_machine.specs.Quiet as quiet
 use Rattle.uc_machine.specs.Quiet.{Todo, Rest, Within, behind_body, routine_todo, first_state}
 use Rattle.uc_code.specs.declared.op.Op.TheVariants as op
 use Rattle.uc_code.specs.declared.rows.MainOf.TheVariants as main_of
-use Rattle.uc_code.specs.declared.rows.Mark.{Mark}
-use Rattle.uc_code.specs.declared.rows.Mark.TheVariants as mark
+use Rattle.uc_code.specs.declared.rows.CodeMark.{CodeMark}
+use Rattle.uc_code.specs.declared.rows.CodeMark.TheVariants as mark
 use Rattle.uc_code.specs.declared.rows.RoutineCode.{RoutineCode}
 use Rattle.uc_code.specs.Codes.{Code}
 use Rattle.uc_code.specs.Layout.{Laid, laid_of}
@@ -22,7 +22,7 @@ use Rattle.uc_step.proofs.Routines.{routine_at}
 module _ (code : Laid) where
   -- the code from here on does what is to do in a routine, in these marks
   pub record Begun (todo : List Todo) (entry : ℕ) : Type 0 where
-    pub marks : List Mark
+    pub marks : List CodeMark
     pub follows : FollowsAt code todo marks entry
 
   -- the end of a routine that is no main

@@ -6,7 +6,7 @@ ghost use Rattle.uc_step.specs.OpEffects.{act_accept, chosen, with_operands, end
 ghost use Rattle.uc_step.specs.declared.stepped.Stepped.{Stepped};
 
 use crate::mutex::this_object;
-use crate::stepped::{Onward, Stepped, asked, faulted};
+use crate::stepped::{QuietResult, Stepped, asked, faulted};
 use std::alloc::AllocError;
 use uc_code::code::Code;
 use uc_code::op::Op;
@@ -26,7 +26,7 @@ pub(crate) fn accept(
     site: u32,
     guards: u32,
     end: u32,
-) -> Result<Onward, AllocError>
+) -> Result<QuietResult, AllocError>
     ensures ok { IfOk result (λ how. Does code.now line (Op.Accept site guards end) work.old (ended how stop.new) work.new) }
     ensures err { OnErr result (work.new ≡ work.old) }
 {
@@ -38,19 +38,24 @@ pub(crate) fn accept(
     work.replace_many(guards, Cell::Number(0))?;
     if mask == 0 {
         work.go(end);
-        return Ok(Onward::Quiet);
+        return Ok(QuietResult::Quiet);
     }
     work.pop();
     if work.is_held_up(object) {
         *stop = faulted(code, line, work, RunFault::BlockedInside);
-        return Ok(Onward::Stops);
+        return Ok(QuietResult::Stops);
     }
     *stop = asked(code, line, work, Request::Accept { object, site, mask });
-    Ok(Onward::Stops)
+    Ok(QuietResult::Stops)
 }
 
 // Where the call that was taken has failed, the event of that is pushed; else the task goes on elsewhere.
-pub(crate) fn failed(code: &Code, line: u32, work: &mut Work, to: u32) -> Result<Onward, AllocError>
+pub(crate) fn failed(
+    code: &Code,
+    line: u32,
+    work: &mut Work,
+    to: u32,
+) -> Result<QuietResult, AllocError>
     ensures ok { IfOk result (λ how. (stop : Stepped) → Does code.now line (Op.Failed to) work.old (ended how stop) work.new) }
     ensures err { OnErr result (work.new ≡ work.old) }
 {
@@ -60,7 +65,7 @@ pub(crate) fn failed(code: &Code, line: u32, work: &mut Work, to: u32) -> Result
     } else {
         work.put_failure()?;
     }
-    Ok(Onward::Quiet)
+    Ok(QuietResult::Quiet)
 }
 
 // So many ops further on, of this many, or at this op. There is no room for code that ends so far on.
@@ -86,12 +91,12 @@ pub(crate) fn choose(
     work: &mut Work,
     clauses: u32,
     end: u32,
-) -> Result<Onward, AllocError>
+) -> Result<QuietResult, AllocError>
     ensures ok { IfOk result (λ how. (stop : Stepped) → Does code.now line (Op.Choose clauses end) work.old (ended how stop) work.new) }
     ensures err { OnErr result (work.new ≡ work.old) }
 {
     let at = chosen(clauses, end, work.next(), number_in(work.top()))?;
     work.pop();
     work.go(at);
-    Ok(Onward::Quiet)
+    Ok(QuietResult::Quiet)
 }

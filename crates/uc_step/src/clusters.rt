@@ -4,7 +4,7 @@ ghost use Rattle.std.specs.Prelude.{◌≡◌, IfOk, OnErr};
 ghost use Rattle.uc_step.specs.OpEffects.{ended, Does};
 
 use crate::mutex::object_in;
-use crate::stepped::{Onward, Stepped, asked};
+use crate::stepped::{QuietResult, Stepped, asked};
 use std::alloc::AllocError;
 use uc_code::code::Code;
 use uc_code::op::Op;
@@ -13,12 +13,12 @@ use uc_frames::cell::Cell;
 use uc_frames::work::Work;
 
 // A processor of a cluster is asked for.
-pub(crate) fn processor(code: &Code, line: u32, work: &mut Work, stop: &mut Stepped) -> Onward
+pub(crate) fn processor(code: &Code, line: u32, work: &mut Work, stop: &mut Stepped) -> QuietResult
     ensures { Does code.now line Op.Processor work.old (ended result stop.new) work.new }
 {
     let cluster = object_in(work.pop());
     *stop = asked(code, line, work, Request::Processor { cluster });
-    Onward::Stops
+    QuietResult::Stops
 }
 
 pub(crate) fn cluster_end(
@@ -26,14 +26,14 @@ pub(crate) fn cluster_end(
     line: u32,
     work: &mut Work,
     stop: &mut Stepped,
-) -> Result<Onward, AllocError>
+) -> Result<QuietResult, AllocError>
     ensures ok { IfOk result (λ how. Does code.now line Op.ClusterEnd work.old (ended how stop.new) work.new) }
     ensures err { OnErr result (work.new ≡ work.old) }
 {
     let cluster = object_in(work.top());
     work.replace(Cell::Number(0))?;
     *stop = asked(code, line, work, Request::ClusterEnd { cluster });
-    Ok(Onward::Stops)
+    Ok(QuietResult::Stops)
 }
 
 pub(crate) fn processor_end(
@@ -41,20 +41,20 @@ pub(crate) fn processor_end(
     line: u32,
     work: &mut Work,
     stop: &mut Stepped,
-) -> Result<Onward, AllocError>
+) -> Result<QuietResult, AllocError>
     ensures ok { IfOk result (λ how. Does code.now line Op.ProcessorEnd work.old (ended how stop.new) work.new) }
     ensures err { OnErr result (work.new ≡ work.old) }
 {
     let processor = object_in(work.top());
     work.replace(Cell::Number(0))?;
     *stop = asked(code, line, work, Request::ProcessorEnd { processor });
-    Ok(Onward::Stops)
+    Ok(QuietResult::Stops)
 }
 
-pub(crate) fn migrate(code: &Code, line: u32, work: &mut Work, stop: &mut Stepped) -> Onward
+pub(crate) fn migrate(code: &Code, line: u32, work: &mut Work, stop: &mut Stepped) -> QuietResult
     ensures { Does code.now line Op.Migrate work.old (ended result stop.new) work.new }
 {
     let cluster = object_in(work.pop());
     *stop = asked(code, line, work, Request::Migrate { cluster });
-    Onward::Stops
+    QuietResult::Stops
 }

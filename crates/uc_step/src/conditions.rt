@@ -5,7 +5,7 @@ ghost use Rattle.uc_step.specs.OpEffects.{condition_in, ended, Does};
 
 use crate::memory::index_below;
 use crate::mutex::this_object;
-use crate::stepped::{Onward, Stepped, asked, faulted};
+use crate::stepped::{QuietResult, Stepped, asked, faulted};
 use std::alloc::AllocError;
 use uc_code::code::Code;
 use uc_code::op::Op;
@@ -37,7 +37,7 @@ pub(crate) fn condition(
     stop: &mut Stepped,
     first: u32,
     count: u32,
-) -> Result<Onward, AllocError>
+) -> Result<QuietResult, AllocError>
     ensures ok { IfOk result (λ how. Does code.now line (Op.Condition first count) work.old (ended how stop.new) work.new) }
     ensures err { OnErr result (work.new ≡ work.old) }
 {
@@ -45,11 +45,11 @@ pub(crate) fn condition(
         None => {
             work.pop();
             *stop = faulted(code, line, work, RunFault::Index);
-            Ok(Onward::Stops)
+            Ok(QuietResult::Stops)
         }
         Some(i) => {
             work.replace(Cell::Number(i64::from(first) + i64::from(i)))?;
-            Ok(Onward::Quiet)
+            Ok(QuietResult::Quiet)
         }
     }
 }
@@ -60,20 +60,20 @@ pub(crate) fn wait(
     line: u32,
     work: &mut Work,
     stop: &mut Stepped,
-) -> Result<Onward, AllocError>
+) -> Result<QuietResult, AllocError>
     ensures ok { IfOk result (λ how. Does code.now line Op.Wait work.old (ended how stop.new) work.new) }
     ensures err { OnErr result (work.new ≡ work.old) }
 {
     let object = this_object(work);
     if work.is_held_up(object) {
         *stop = faulted(code, line, work, RunFault::BlockedInside);
-        return Ok(Onward::Stops);
+        return Ok(QuietResult::Stops);
     }
     let cond = condition_in(work.second())?;
     let n = number_in(work.top());
     work.replace_two(Cell::Number(0))?;
     *stop = asked(code, line, work, Request::Wait { object, cond, n });
-    Ok(Onward::Stops)
+    Ok(QuietResult::Stops)
 }
 
 pub(crate) fn signal(
@@ -81,7 +81,7 @@ pub(crate) fn signal(
     line: u32,
     work: &mut Work,
     stop: &mut Stepped,
-) -> Result<Onward, AllocError>
+) -> Result<QuietResult, AllocError>
     ensures ok { IfOk result (λ how. Does code.now line Op.Signal work.old (ended how stop.new) work.new) }
     ensures err { OnErr result (work.new ≡ work.old) }
 {
@@ -89,7 +89,7 @@ pub(crate) fn signal(
     let cond = condition_in(work.top())?;
     work.replace(Cell::Number(0))?;
     *stop = asked(code, line, work, Request::Signal { object, cond });
-    Ok(Onward::Stops)
+    Ok(QuietResult::Stops)
 }
 
 // A task is blocked by a signal, unless it is held up.
@@ -98,19 +98,19 @@ pub(crate) fn signal_block(
     line: u32,
     work: &mut Work,
     stop: &mut Stepped,
-) -> Result<Onward, AllocError>
+) -> Result<QuietResult, AllocError>
     ensures ok { IfOk result (λ how. Does code.now line Op.SignalBlock work.old (ended how stop.new) work.new) }
     ensures err { OnErr result (work.new ≡ work.old) }
 {
     let object = this_object(work);
     if work.is_held_up(object) {
         *stop = faulted(code, line, work, RunFault::BlockedInside);
-        return Ok(Onward::Stops);
+        return Ok(QuietResult::Stops);
     }
     let cond = condition_in(work.top())?;
     work.replace(Cell::Number(0))?;
     *stop = asked(code, line, work, Request::SignalBlock { object, cond });
-    Ok(Onward::Stops)
+    Ok(QuietResult::Stops)
 }
 
 pub(crate) fn empty(
@@ -118,7 +118,7 @@ pub(crate) fn empty(
     line: u32,
     work: &mut Work,
     stop: &mut Stepped,
-) -> Result<Onward, AllocError>
+) -> Result<QuietResult, AllocError>
     ensures ok { IfOk result (λ how. Does code.now line Op.Empty work.old (ended how stop.new) work.new) }
     ensures err { OnErr result (work.new ≡ work.old) }
 {
@@ -126,7 +126,7 @@ pub(crate) fn empty(
     let cond = condition_in(work.top())?;
     work.pop();
     *stop = asked(code, line, work, Request::Empty { object, cond });
-    Ok(Onward::Stops)
+    Ok(QuietResult::Stops)
 }
 
 pub(crate) fn front(
@@ -134,7 +134,7 @@ pub(crate) fn front(
     line: u32,
     work: &mut Work,
     stop: &mut Stepped,
-) -> Result<Onward, AllocError>
+) -> Result<QuietResult, AllocError>
     ensures ok { IfOk result (λ how. Does code.now line Op.Front work.old (ended how stop.new) work.new) }
     ensures err { OnErr result (work.new ≡ work.old) }
 {
@@ -142,5 +142,5 @@ pub(crate) fn front(
     let cond = condition_in(work.top())?;
     work.pop();
     *stop = asked(code, line, work, Request::Front { object, cond });
-    Ok(Onward::Stops)
+    Ok(QuietResult::Stops)
 }

@@ -4,7 +4,7 @@ ghost use Rattle.std.specs.Prelude.{◌≡◌, IfOk, OnErr};
 ghost use Rattle.uc_step.specs.OpEffects.{ended, Does};
 ghost use Rattle.uc_step.specs.declared.stepped.Stepped.{Stepped};
 
-use crate::stepped::{Onward, Stepped, asked, faulted};
+use crate::stepped::{QuietResult, Stepped, asked, faulted};
 use std::alloc::AllocError;
 use uc_code::code::Code;
 use uc_code::op::Op;
@@ -18,22 +18,22 @@ pub(crate) fn set_up(
     line: u32,
     work: &mut Work,
     number: u32,
-) -> Result<Onward, AllocError>
+) -> Result<QuietResult, AllocError>
     ensures ok { IfOk result (λ how. (stop : Stepped) → Does code.now line (Op.Coroutine number) work.old (ended how stop) work.new) }
     ensures err { OnErr result (work.new ≡ work.old) }
 {
     if let Some(routine) = code.routine(number) {
         work.set_up(routine)?;
     }
-    Ok(Onward::Quiet)
+    Ok(QuietResult::Quiet)
 }
 
-pub(crate) fn enliven(code: &Code, line: u32, work: &mut Work) -> Result<Onward, AllocError>
+pub(crate) fn enliven(code: &Code, line: u32, work: &mut Work) -> Result<QuietResult, AllocError>
     ensures ok { IfOk result (λ how. (stop : Stepped) → Does code.now line Op.Live work.old (ended how stop) work.new) }
     ensures err { OnErr result (work.new ≡ work.old) }
 {
     work.enliven();
-    Ok(Onward::Quiet)
+    Ok(QuietResult::Quiet)
 }
 
 // The coroutine below the arguments of a routine must be live.
@@ -43,44 +43,44 @@ pub(crate) fn alive(
     work: &mut Work,
     stop: &mut Stepped,
     number: u32,
-) -> Onward
+) -> QuietResult
     ensures { Does code.now line (Op.Alive number) work.old (ended result stop.new) work.new }
 {
     match code.routine(number) {
         None => {
             *stop = asked(code, line, work, Request::End);
-            Onward::Stops
+            QuietResult::Stops
         }
         Some(routine) => {
             if work.is_live(routine.params) {
-                Onward::Quiet
+                QuietResult::Quiet
             } else {
                 *stop = faulted(code, line, work, RunFault::NotLive);
-                Onward::Stops
+                QuietResult::Stops
             }
         }
     }
 }
 
-pub(crate) fn forget(code: &Code, line: u32, work: &mut Work) -> Result<Onward, AllocError>
+pub(crate) fn forget(code: &Code, line: u32, work: &mut Work) -> Result<QuietResult, AllocError>
     ensures ok { IfOk result (λ how. (stop : Stepped) → Does code.now line Op.Forget work.old (ended how stop) work.new) }
     ensures err { OnErr result (work.new ≡ work.old) }
 {
     work.forget();
-    Ok(Onward::Quiet)
+    Ok(QuietResult::Quiet)
 }
 
 // Where an execution stopped it goes on, or is unwound.
-pub(crate) fn land(code: &Code, line: u32, work: &mut Work, stop: &mut Stepped) -> Onward
+pub(crate) fn land(code: &Code, line: u32, work: &mut Work, stop: &mut Stepped) -> QuietResult
     ensures { Does code.now line Op.Land work.old (ended result stop.new) work.new }
 {
     match work.raised() {
-        None => Onward::Quiet,
+        None => QuietResult::Quiet,
         Some(_) => {
             let next = work.next();
             work.clean(next);
             *stop = Stepped::Unwind;
-            Onward::Stops
+            QuietResult::Stops
         }
     }
 }

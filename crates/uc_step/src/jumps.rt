@@ -5,7 +5,7 @@ ghost use Rattle.uc_step.specs.OpEffects.{act_enter, act_return, act_end, ended,
 ghost use Rattle.uc_step.specs.declared.stepped.Stepped.{Stepped};
 ghost use Rattle.uc_frames.specs.Calls.{plain_call, object_call};
 
-use crate::stepped::{Onward, Stepped, asked, faulted};
+use crate::stepped::{QuietResult, Stepped, asked, faulted};
 use std::alloc::AllocError;
 use uc_code::code::Code;
 use uc_code::op::Op;
@@ -17,12 +17,17 @@ use uc_frames::cell::{Cell, number_in};
 use uc_frames::work::Work;
 use uc_tree::limits::CALLS;
 
-pub(crate) fn jump(code: &Code, line: u32, work: &mut Work, to: u32) -> Result<Onward, AllocError>
+pub(crate) fn jump(
+    code: &Code,
+    line: u32,
+    work: &mut Work,
+    to: u32,
+) -> Result<QuietResult, AllocError>
     ensures ok { IfOk result (λ how. (stop : Stepped) → Does code.now line (Op.Jump to) work.old (ended how stop) work.new) }
     ensures err { OnErr result (work.new ≡ work.old) }
 {
     work.go(to);
-    Ok(Onward::Quiet)
+    Ok(QuietResult::Quiet)
 }
 
 pub(crate) fn if_zero(
@@ -30,14 +35,14 @@ pub(crate) fn if_zero(
     line: u32,
     work: &mut Work,
     to: u32,
-) -> Result<Onward, AllocError>
+) -> Result<QuietResult, AllocError>
     ensures ok { IfOk result (λ how. (stop : Stepped) → Does code.now line (Op.IfZero to) work.old (ended how stop) work.new) }
     ensures err { OnErr result (work.new ≡ work.old) }
 {
     if number_in(work.pop()) == 0 {
         work.go(to);
     }
-    Ok(Onward::Quiet)
+    Ok(QuietResult::Quiet)
 }
 
 pub(crate) fn if_nonzero(
@@ -45,14 +50,14 @@ pub(crate) fn if_nonzero(
     line: u32,
     work: &mut Work,
     to: u32,
-) -> Result<Onward, AllocError>
+) -> Result<QuietResult, AllocError>
     ensures ok { IfOk result (λ how. (stop : Stepped) → Does code.now line (Op.IfNonzero to) work.old (ended how stop) work.new) }
     ensures err { OnErr result (work.new ≡ work.old) }
 {
     if number_in(work.pop()) != 0 {
         work.go(to);
     }
-    Ok(Onward::Quiet)
+    Ok(QuietResult::Quiet)
 }
 
 pub(crate) fn return_value(
@@ -60,7 +65,7 @@ pub(crate) fn return_value(
     line: u32,
     work: &mut Work,
     stop: &mut Stepped,
-) -> Result<Onward, AllocError>
+) -> Result<QuietResult, AllocError>
     ensures ok { IfOk result (λ how. Does code.now line Op.ReturnValue work.old (ended how stop.new) work.new) }
     ensures err { OnErr result (work.new ≡ work.old) }
 {
@@ -74,7 +79,7 @@ pub(crate) fn return_none(
     line: u32,
     work: &mut Work,
     stop: &mut Stepped,
-) -> Result<Onward, AllocError>
+) -> Result<QuietResult, AllocError>
     ensures ok { IfOk result (λ how. Does code.now line Op.ReturnNone work.old (ended how stop.new) work.new) }
     ensures err { OnErr result (work.new ≡ work.old) }
 {
@@ -89,7 +94,7 @@ fn end(
     work: &mut Work,
     stop: &mut Stepped,
     given: Cell,
-) -> Result<Onward, AllocError>
+) -> Result<QuietResult, AllocError>
     ensures ok { IfOk result (λ how. Ends (act_end code.now line given work.old.run.handles work.old) (ended how stop.new) work.new) }
     ensures err { OnErr result (work.new ≡ work.old) }
 {
@@ -100,7 +105,7 @@ fn end(
         }
         Some(_) => {
             *stop = Stepped::Past(given);
-            Ok(Onward::Stops)
+            Ok(QuietResult::Stops)
         }
     }
 }
@@ -112,15 +117,15 @@ pub(crate) fn give_back(
     work: &mut Work,
     stop: &mut Stepped,
     given: Cell,
-) -> Result<Onward, AllocError>
+) -> Result<QuietResult, AllocError>
     ensures ok { IfOk result (λ how. Ends (act_return code.now line given work.old.callers work.old) (ended how stop.new) work.new) }
     ensures err { OnErr result (work.new ≡ work.old) }
 {
     if work.leave(given)? {
-        Ok(Onward::Quiet)
+        Ok(QuietResult::Quiet)
     } else {
         *stop = asked(code, line, work, Request::End);
-        Ok(Onward::Stops)
+        Ok(QuietResult::Stops)
     }
 }
 
@@ -130,13 +135,13 @@ pub(crate) fn end_task(
     line: u32,
     work: &mut Work,
     stop: &mut Stepped,
-) -> Result<Onward, AllocError>
+) -> Result<QuietResult, AllocError>
     ensures ok { IfOk result (λ how. Does code.now line Op.EndTask work.old (ended how stop.new) work.new) }
     ensures err { OnErr result (work.new ≡ work.old) }
 {
     if work.is_held_up(work.own()) {
         *stop = faulted(code, line, work, RunFault::BlockedInside);
-        Ok(Onward::Stops)
+        Ok(QuietResult::Stops)
     } else {
         let how = give_back(code, line, work, stop, Cell::Number(0))?;
         Ok(how)
@@ -144,13 +149,13 @@ pub(crate) fn end_task(
 }
 
 // Unwinding goes on behind a clean-up, without operands.
-pub(crate) fn unwind(code: &Code, line: u32, work: &mut Work, stop: &mut Stepped) -> Onward
+pub(crate) fn unwind(code: &Code, line: u32, work: &mut Work, stop: &mut Stepped) -> QuietResult
     ensures { Does code.now line Op.Unwind work.old (ended result stop.new) work.new }
 {
     let next = work.next();
     work.clean(next);
     *stop = Stepped::Unwind;
-    Onward::Stops
+    QuietResult::Stops
 }
 
 pub(crate) fn call(
@@ -159,14 +164,14 @@ pub(crate) fn call(
     work: &mut Work,
     stop: &mut Stepped,
     number: u32,
-) -> Result<Onward, AllocError>
+) -> Result<QuietResult, AllocError>
     ensures ok { IfOk result (λ how. Does code.now line (Op.Call number) work.old (ended how stop.new) work.new) }
     ensures err { OnErr result (work.new ≡ work.old) }
 {
     match code.routine(number) {
         None => {
             *stop = asked(code, line, work, Request::End);
-            Ok(Onward::Stops)
+            Ok(QuietResult::Stops)
         }
         Some(routine) => {
             let how = enter(code, line, work, stop, plain_call(routine))?;
@@ -182,16 +187,16 @@ fn enter(
     work: &mut Work,
     stop: &mut Stepped,
     call: Call,
-) -> Result<Onward, AllocError>
+) -> Result<QuietResult, AllocError>
     ensures ok { IfOk result (λ how. Ends (act_enter code.now line call work.old) (ended how stop.new) work.new) }
     ensures err { OnErr result (work.new ≡ work.old) }
 {
     if work.calls() < CALLS {
         work.enter(call)?;
-        Ok(Onward::Quiet)
+        Ok(QuietResult::Quiet)
     } else {
         *stop = faulted(code, line, work, RunFault::Depth);
-        Ok(Onward::Stops)
+        Ok(QuietResult::Stops)
     }
 }
 
@@ -225,14 +230,14 @@ pub(crate) fn call_on(
     work: &mut Work,
     stop: &mut Stepped,
     number: u32,
-) -> Result<Onward, AllocError>
+) -> Result<QuietResult, AllocError>
     ensures ok { IfOk result (λ how. Does code.now line (Op.CallOn number) work.old (ended how stop.new) work.new) }
     ensures err { OnErr result (work.new ≡ work.old) }
 {
     match code.routine(number) {
         None => {
             *stop = asked(code, line, work, Request::End);
-            Ok(Onward::Stops)
+            Ok(QuietResult::Stops)
         }
         Some(routine) => {
             let call = object_call(routine, true, work);
@@ -249,19 +254,19 @@ pub(crate) fn call_unwritten(
     work: &mut Work,
     stop: &mut Stepped,
     number: u32,
-) -> Result<Onward, AllocError>
+) -> Result<QuietResult, AllocError>
     ensures ok { IfOk result (λ how. Does code.now line (Op.CallUnwritten number) work.old (ended how stop.new) work.new) }
     ensures err { OnErr result (work.new ≡ work.old) }
 {
     match code.routine(number) {
         None => {
             *stop = asked(code, line, work, Request::End);
-            Ok(Onward::Stops)
+            Ok(QuietResult::Stops)
         }
         Some(routine) => {
             let call = object_call(routine, false, work);
             work.enter(call)?;
-            Ok(Onward::Quiet)
+            Ok(QuietResult::Quiet)
         }
     }
 }

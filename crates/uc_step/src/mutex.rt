@@ -5,7 +5,7 @@ ghost use Rattle.uc_step.specs.OpEffects.{act_built, act_leave_last, may_call, e
 ghost use Rattle.uc_machine.specs.Insides.{is_last};
 ghost use Rattle.uc_frames.specs.Objects.{by_event, object_in, this_object};
 
-use crate::stepped::{Onward, Stepped, asked, faulted};
+use crate::stepped::{QuietResult, Stepped, asked, faulted};
 use std::alloc::AllocError;
 use uc_code::code::Code;
 use uc_code::op::Op;
@@ -48,26 +48,26 @@ pub(crate) fn enter(
     stop: &mut Stepped,
     member: u8,
     number: u32,
-) -> Result<Onward, AllocError>
+) -> Result<QuietResult, AllocError>
     ensures ok { IfOk result (λ how. Does code.now line (Op.Enter member number) work.old (ended how stop.new) work.new) }
     ensures err { OnErr result (work.new ≡ work.old) }
 {
     let Some(routine) = code.routine(number) else {
         *stop = asked(code, line, work, Request::End);
-        return Ok(Onward::Stops);
+        return Ok(QuietResult::Stops);
     };
     if !may_call(work, routine.written) {
         *stop = faulted(code, line, work, RunFault::Depth);
-        return Ok(Onward::Stops);
+        return Ok(QuietResult::Stops);
     }
     let object = object_in(work.below(routine.params));
     let inside = work.depth(object).is_some();
     work.begin_call(object)?;
     if inside {
-        return Ok(Onward::Quiet);
+        return Ok(QuietResult::Quiet);
     }
     *stop = asked(code, line, work, Request::Call { object, member });
-    Ok(Onward::Stops)
+    Ok(QuietResult::Stops)
 }
 
 // Whether the call that ends is the last one in an object.
@@ -88,18 +88,24 @@ fn by_event(why: Option<UnwindReason>) -> bool
 }
 
 // The running call leaves the object at hand; where that is not the last leave, or the call is unwound, the task goes on at this op.
-pub(crate) fn leave(code: &Code, line: u32, work: &mut Work, stop: &mut Stepped, to: u32) -> Onward
+pub(crate) fn leave(
+    code: &Code,
+    line: u32,
+    work: &mut Work,
+    stop: &mut Stepped,
+    to: u32,
+) -> QuietResult
     ensures { Does code.now line (Op.Leave to) work.old (ended result stop.new) work.new }
 {
     let object = this_object(work);
     if !is_last(work.depth(object)) {
         work.end_call(object);
         work.go(to);
-        return Onward::Quiet;
+        return QuietResult::Quiet;
     }
     if work.is_held_up(object) {
         *stop = faulted(code, line, work, RunFault::BlockedInside);
-        return Onward::Stops;
+        return QuietResult::Stops;
     }
     leave_last(code, line, work, stop, object, to)
 }
@@ -112,7 +118,7 @@ fn leave_last(
     stop: &mut Stepped,
     object: u32,
     to: u32,
-) -> Onward
+) -> QuietResult
     ensures { Ends (act_leave_last code.now line to object work.old) (ended result stop.new) work.new }
 {
     let why = work.raised();
@@ -123,7 +129,7 @@ fn leave_last(
     if why.is_some() {
         work.go(to);
     }
-    Onward::Stops
+    QuietResult::Stops
 }
 
 // A mutex object is asked for, which a routine builds.
@@ -134,21 +140,21 @@ pub(crate) fn make(
     stop: &mut Stepped,
     class: u32,
     number: u32,
-) -> Result<Onward, AllocError>
+) -> Result<QuietResult, AllocError>
     ensures ok { IfOk result (λ how. Does code.now line (Op.Make class number) work.old (ended how stop.new) work.new) }
     ensures err { OnErr result (work.new ≡ work.old) }
 {
     let Some(routine) = code.routine(number) else {
         *stop = asked(code, line, work, Request::End);
-        return Ok(Onward::Stops);
+        return Ok(QuietResult::Stops);
     };
     if !may_call(work, routine.written) {
         *stop = faulted(code, line, work, RunFault::Depth);
-        return Ok(Onward::Stops);
+        return Ok(QuietResult::Stops);
     }
     work.begin_build()?;
     *stop = asked(code, line, work, Request::Make { class });
-    Ok(Onward::Stops)
+    Ok(QuietResult::Stops)
 }
 
 // What was made is bound to its place.
@@ -159,17 +165,17 @@ pub(crate) fn bind_made(
     stop: &mut Stepped,
     class: u32,
     number: u32,
-) -> Onward
+) -> QuietResult
     ensures { Does code.now line (Op.BindMade class number) work.old (ended result stop.new) work.new }
 {
     match code.routine(number) {
         None => {
             *stop = asked(code, line, work, Request::End);
-            Onward::Stops
+            QuietResult::Stops
         }
         Some(routine) => {
             work.bind_made(routine);
-            Onward::Quiet
+            QuietResult::Quiet
         }
     }
 }
@@ -182,21 +188,21 @@ fn built(
     stop: &mut Stepped,
     object: u32,
     request: Request,
-) -> Onward
+) -> QuietResult
     ensures { Ends (act_built code.now line object request work.old) (ended result stop.new) work.new }
 {
     let is_blocked = work.is_held_up(object);
     if is_blocked {
         *stop = faulted(code, line, work, RunFault::BlockedInside);
-        return Onward::Stops;
+        return QuietResult::Stops;
     }
     *stop = asked(code, line, work, request);
     work.end_build(object);
-    Onward::Stops
+    QuietResult::Stops
 }
 
 // It is free.
-pub(crate) fn made(code: &Code, line: u32, work: &mut Work, stop: &mut Stepped) -> Onward
+pub(crate) fn made(code: &Code, line: u32, work: &mut Work, stop: &mut Stepped) -> QuietResult
     ensures { Does code.now line Op.Made work.old (ended result stop.new) work.new }
 {
     let object = this_object(work);
@@ -210,7 +216,7 @@ pub(crate) fn spawn(
     work: &mut Work,
     stop: &mut Stepped,
     main: u32,
-) -> Onward
+) -> QuietResult
     ensures { Does code.now line (Op.Spawn main) work.old (ended result stop.new) work.new }
 {
     let object = this_object(work);
@@ -218,21 +224,21 @@ pub(crate) fn spawn(
 }
 
 // The call in which it is destroyed ends.
-pub(crate) fn gone(code: &Code, line: u32, work: &mut Work, stop: &mut Stepped) -> Onward
+pub(crate) fn gone(code: &Code, line: u32, work: &mut Work, stop: &mut Stepped) -> QuietResult
     ensures { Does code.now line Op.Gone work.old (ended result stop.new) work.new }
 {
     let object = this_object(work);
     *stop = asked(code, line, work, Request::Gone { object });
     work.end_gone(object);
-    Onward::Stops
+    QuietResult::Stops
 }
 
 // Its building is given up.
-pub(crate) fn give_up(code: &Code, line: u32, work: &mut Work, stop: &mut Stepped) -> Onward
+pub(crate) fn give_up(code: &Code, line: u32, work: &mut Work, stop: &mut Stepped) -> QuietResult
     ensures { Does code.now line Op.GiveUp work.old (ended result stop.new) work.new }
 {
     let object = this_object(work);
     *stop = asked(code, line, work, Request::Gone { object });
     work.end_build(object);
-    Onward::Stops
+    QuietResult::Stops
 }

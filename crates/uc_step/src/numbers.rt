@@ -7,22 +7,23 @@ ghost use Rattle.uc_machine.specs.Quiet.{outcome, int_outcome, truth};
 ghost use Rattle.uc_step.specs.OperatorResults.{operator_of, outcome_of};
 
 use uc_entry::fault::RunFault;
-use uc_tree::int::{difference, negated, product, quotient, remainder, sum};
+use uc_tree::int;
+use uc_tree::int::{difference, negated, product, quotient, sum};
 
 // A number, or a fault.
 #[derive(Clone, Copy)]
-pub(crate) enum Given {
+pub(crate) enum Computed {
     Number(i64),
     Fault(RunFault),
 }
 
 // A number that must be an `int`: where there is none, the operation has overflowed.
-fn in_range(number: Option<i64>) -> Given
+fn in_range(number: Option<i64>) -> Computed
     ensures { (z : ℤ) → number ≡ int_value z → outcome_of result ≡ int_outcome z }
 {
     match number {
-        Some(number) => Given::Number(number),
-        None => Given::Fault(RunFault::Overflow),
+        Some(number) => Computed::Number(number),
+        None => Computed::Fault(RunFault::Overflow),
     }
 }
 
@@ -33,82 +34,82 @@ pub(crate) fn one_if(holds: bool) -> i64
     if holds { 1 } else { 0 }
 }
 
-fn plus(left: i64, right: i64) -> Given
+fn add(left: i64, right: i64) -> Computed
     ensures { outcome_of result ≡ outcome Plus left right }
 {
     in_range(sum(left, right))
 }
 
-fn minus(left: i64, right: i64) -> Given
+fn subtract(left: i64, right: i64) -> Computed
     ensures { outcome_of result ≡ outcome Minus left right }
 {
     in_range(difference(left, right))
 }
 
-fn times(left: i64, right: i64) -> Given
+fn multiply(left: i64, right: i64) -> Computed
     ensures { outcome_of result ≡ outcome Times left right }
 {
     in_range(product(left, right))
 }
 
-fn over(left: i64, right: i64) -> Given
+fn divide(left: i64, right: i64) -> Computed
     ensures { outcome_of result ≡ outcome Over left right }
 {
     if right == 0 {
-        return Given::Fault(RunFault::DivideByZero);
+        return Computed::Fault(RunFault::DivideByZero);
     }
     in_range(quotient(left, right))
 }
 
-fn modulo(left: i64, right: i64) -> Given
+fn remainder(left: i64, right: i64) -> Computed
     ensures { outcome_of result ≡ outcome Modulo left right }
 {
     if right == 0 {
-        return Given::Fault(RunFault::DivideByZero);
+        return Computed::Fault(RunFault::DivideByZero);
     }
-    in_range(remainder(left, right))
+    in_range(int::remainder(left, right))
 }
 
-pub(crate) fn negative(number: i64) -> Given
+pub(crate) fn negative(number: i64) -> Computed
     ensures { outcome_of result ≡ int_outcome (neg_ℤ number) }
 {
     in_range(negated(number))
 }
 
-fn equal(left: i64, right: i64) -> Given
+fn equal(left: i64, right: i64) -> Computed
     ensures { outcome_of result ≡ outcome Equal left right }
 {
-    Given::Number(one_if(left == right))
+    Computed::Number(one_if(left == right))
 }
 
-fn not_equal(left: i64, right: i64) -> Given
+fn not_equal(left: i64, right: i64) -> Computed
     ensures { outcome_of result ≡ outcome NotEqual left right }
 {
-    Given::Number(one_if(left != right))
+    Computed::Number(one_if(left != right))
 }
 
-fn less(left: i64, right: i64) -> Given
+fn less(left: i64, right: i64) -> Computed
     ensures { outcome_of result ≡ outcome Less left right }
 {
-    Given::Number(one_if(left < right))
+    Computed::Number(one_if(left < right))
 }
 
-fn at_most(left: i64, right: i64) -> Given
+fn at_most(left: i64, right: i64) -> Computed
     ensures { outcome_of result ≡ outcome AtMost left right }
 {
-    Given::Number(one_if(left <= right))
+    Computed::Number(one_if(left <= right))
 }
 
-fn greater(left: i64, right: i64) -> Given
+fn greater(left: i64, right: i64) -> Computed
     ensures { outcome_of result ≡ outcome Greater left right }
 {
-    Given::Number(one_if(left > right))
+    Computed::Number(one_if(left > right))
 }
 
-fn at_least(left: i64, right: i64) -> Given
+fn at_least(left: i64, right: i64) -> Computed
     ensures { outcome_of result ≡ outcome AtLeast left right }
 {
-    Given::Number(one_if(left >= right))
+    Computed::Number(one_if(left >= right))
 }
 
 // An operator of two numbers.
@@ -129,15 +130,15 @@ pub(crate) enum Operator {
 
 impl Operator {
     // What it gives for two numbers.
-    pub(crate) fn given(self, left: i64, right: i64) -> Given
+    pub(crate) fn given(self, left: i64, right: i64) -> Computed
         ensures { outcome_of result ≡ outcome (operator_of self) left right }
     {
         match self {
-            Operator::Plus => plus(left, right),
-            Operator::Minus => minus(left, right),
-            Operator::Times => times(left, right),
-            Operator::Over => over(left, right),
-            Operator::Modulo => modulo(left, right),
+            Operator::Plus => add(left, right),
+            Operator::Minus => subtract(left, right),
+            Operator::Times => multiply(left, right),
+            Operator::Over => divide(left, right),
+            Operator::Modulo => remainder(left, right),
             Operator::Equal => equal(left, right),
             Operator::NotEqual => not_equal(left, right),
             Operator::Less => less(left, right),

@@ -4,20 +4,20 @@ ghost use Rattle.std.specs.Prelude.{◌≡◌, IfOk, OnErr};
 ghost use Rattle.uc_step.specs.OpEffects.{ended, Does};
 ghost use Rattle.uc_step.specs.declared.stepped.Stepped.{Stepped};
 
-use crate::stepped::Onward;
+use crate::stepped::QuietResult;
 use std::alloc::AllocError;
 use uc_code::code::Code;
 use uc_code::op::Op;
 use uc_frames::cell::{Cell, further_on};
 use uc_frames::work::Work;
 
-pub(crate) fn own(code: &Code, line: u32, work: &mut Work) -> Result<Onward, AllocError>
+pub(crate) fn own(code: &Code, line: u32, work: &mut Work) -> Result<QuietResult, AllocError>
     ensures ok { IfOk result (λ how. (stop : Stepped) → Does code.now line Op.Own work.old (ended how stop) work.new) }
     ensures err { OnErr result (work.new ≡ work.old) }
 {
     let object = work.this();
     work.push(object)?;
-    Ok(Onward::Quiet)
+    Ok(QuietResult::Quiet)
 }
 
 pub(crate) fn own_place(
@@ -25,13 +25,13 @@ pub(crate) fn own_place(
     line: u32,
     work: &mut Work,
     cell: u32,
-) -> Result<Onward, AllocError>
+) -> Result<QuietResult, AllocError>
     ensures ok { IfOk result (λ how. (stop : Stepped) → Does code.now line (Op.This cell) work.old (ended how stop) work.new) }
     ensures err { OnErr result (work.new ≡ work.old) }
 {
     let place = further_on(u64::from(cell), work.this());
     work.push(place)?;
-    Ok(Onward::Quiet)
+    Ok(QuietResult::Quiet)
 }
 
 pub(crate) fn held_by_own(
@@ -39,13 +39,13 @@ pub(crate) fn held_by_own(
     line: u32,
     work: &mut Work,
     cell: u32,
-) -> Result<Onward, AllocError>
+) -> Result<QuietResult, AllocError>
     ensures ok { IfOk result (λ how. (stop : Stepped) → Does code.now line (Op.ViaThis cell) work.old (ended how stop) work.new) }
     ensures err { OnErr result (work.new ≡ work.old) }
 {
     let held = work.read(further_on(u64::from(cell), work.this()));
     work.push(held)?;
-    Ok(Onward::Quiet)
+    Ok(QuietResult::Quiet)
 }
 
 pub(crate) fn field(
@@ -53,22 +53,22 @@ pub(crate) fn field(
     line: u32,
     work: &mut Work,
     cells: u32,
-) -> Result<Onward, AllocError>
+) -> Result<QuietResult, AllocError>
     ensures ok { IfOk result (λ how. (stop : Stepped) → Does code.now line (Op.Field cells) work.old (ended how stop) work.new) }
     ensures err { OnErr result (work.new ≡ work.old) }
 {
     let place = further_on(u64::from(cells), work.top());
     work.replace(place)?;
-    Ok(Onward::Quiet)
+    Ok(QuietResult::Quiet)
 }
 
-pub(crate) fn counted(code: &Code, line: u32, work: &mut Work) -> Result<Onward, AllocError>
+pub(crate) fn counted(code: &Code, line: u32, work: &mut Work) -> Result<QuietResult, AllocError>
     ensures ok { IfOk result (λ how. (stop : Stepped) → Does code.now line Op.Counted work.old (ended how stop) work.new) }
     ensures err { OnErr result (work.new ≡ work.old) }
 {
     let elements = work.elements();
     work.push(Cell::Number(i64::from(elements)))?;
-    Ok(Onward::Quiet)
+    Ok(QuietResult::Quiet)
 }
 
 pub(crate) fn count(
@@ -77,21 +77,21 @@ pub(crate) fn count(
     work: &mut Work,
     elements: u32,
     test: u32,
-) -> Result<Onward, AllocError>
+) -> Result<QuietResult, AllocError>
     ensures ok { IfOk result (λ how. (stop : Stepped) → Does code.now line (Op.Count elements test) work.old (ended how stop) work.new) }
     ensures err { OnErr result (work.new ≡ work.old) }
 {
     work.set_elements(elements);
     work.go(test);
-    Ok(Onward::Quiet)
+    Ok(QuietResult::Quiet)
 }
 
-pub(crate) fn more(code: &Code, line: u32, work: &mut Work) -> Result<Onward, AllocError>
+pub(crate) fn more(code: &Code, line: u32, work: &mut Work) -> Result<QuietResult, AllocError>
     ensures ok { IfOk result (λ how. (stop : Stepped) → Does code.now line Op.More work.old (ended how stop) work.new) }
     ensures err { OnErr result (work.new ≡ work.old) }
 {
     work.set_elements(work.elements().saturating_add(1));
-    Ok(Onward::Quiet)
+    Ok(QuietResult::Quiet)
 }
 
 pub(crate) fn fill(
@@ -100,14 +100,14 @@ pub(crate) fn fill(
     work: &mut Work,
     length: u32,
     turn: u32,
-) -> Result<Onward, AllocError>
+) -> Result<QuietResult, AllocError>
     ensures ok { IfOk result (λ how. (stop : Stepped) → Does code.now line (Op.Fill length turn) work.old (ended how stop) work.new) }
     ensures err { OnErr result (work.new ≡ work.old) }
 {
     if work.elements() < length {
         work.go(turn);
     }
-    Ok(Onward::Quiet)
+    Ok(QuietResult::Quiet)
 }
 
 pub(crate) fn sweep(
@@ -115,7 +115,7 @@ pub(crate) fn sweep(
     line: u32,
     work: &mut Work,
     turn: u32,
-) -> Result<Onward, AllocError>
+) -> Result<QuietResult, AllocError>
     ensures ok { IfOk result (λ how. (stop : Stepped) → Does code.now line (Op.Sweep turn) work.old (ended how stop) work.new) }
     ensures err { OnErr result (work.new ≡ work.old) }
 {
@@ -124,5 +124,5 @@ pub(crate) fn sweep(
         work.set_elements(elements - 1);
         work.go(turn);
     }
-    Ok(Onward::Quiet)
+    Ok(QuietResult::Quiet)
 }

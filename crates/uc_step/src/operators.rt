@@ -6,8 +6,8 @@ ghost use Rattle.uc_step.specs.OpEffects.{act_operator, ended, Does, Ends};
 ghost use Rattle.uc_step.specs.declared.stepped.Stepped.{Stepped};
 ghost use Rattle.uc_step.specs.OperatorResults.{operator_of};
 
-use crate::numbers::{Given, Operator, negative, one_if};
-use crate::stepped::{Onward, Stepped, faulted};
+use crate::numbers::{Computed, Operator, negative, one_if};
+use crate::stepped::{QuietResult, Stepped, faulted};
 use std::alloc::AllocError;
 use uc_code::code::Code;
 use uc_code::op::Op;
@@ -22,20 +22,20 @@ pub(crate) fn two(
     work: &mut Work,
     stop: &mut Stepped,
     operator: Operator,
-) -> Result<Onward, AllocError>
+) -> Result<QuietResult, AllocError>
     ensures ok { IfOk result (λ how. Ends (act_operator code.now line (operator_of operator) work.old) (ended how stop.new) work.new) }
     ensures err { OnErr result (work.new ≡ work.old) }
 {
     match operator.given(second(work), newest(work)) {
-        Given::Number(number) => {
+        Computed::Number(number) => {
             work.replace_two(Cell::Number(number))?;
-            Ok(Onward::Quiet)
+            Ok(QuietResult::Quiet)
         }
-        Given::Fault(fault) => {
+        Computed::Fault(fault) => {
             work.pop();
             work.pop();
             *stop = faulted(code, line, work, fault);
-            Ok(Onward::Stops)
+            Ok(QuietResult::Stops)
         }
     }
 }
@@ -46,19 +46,19 @@ pub(crate) fn negate(
     line: u32,
     work: &mut Work,
     stop: &mut Stepped,
-) -> Result<Onward, AllocError>
+) -> Result<QuietResult, AllocError>
     ensures ok { IfOk result (λ how. Does code.now line Op.Negate work.old (ended how stop.new) work.new) }
     ensures err { OnErr result (work.new ≡ work.old) }
 {
     match negative(newest(work)) {
-        Given::Number(number) => {
+        Computed::Number(number) => {
             work.replace(Cell::Number(number))?;
-            Ok(Onward::Quiet)
+            Ok(QuietResult::Quiet)
         }
-        Given::Fault(fault) => {
+        Computed::Fault(fault) => {
             work.pop();
             *stop = faulted(code, line, work, fault);
-            Ok(Onward::Stops)
+            Ok(QuietResult::Stops)
         }
     }
 }
@@ -77,29 +77,29 @@ fn second(work: &Work) -> i64
     number_in(work.second())
 }
 
-pub(crate) fn not(code: &Code, line: u32, work: &mut Work) -> Result<Onward, AllocError>
+pub(crate) fn not(code: &Code, line: u32, work: &mut Work) -> Result<QuietResult, AllocError>
     ensures ok { IfOk result (λ how. (stop : Stepped) → Does code.now line Op.Not work.old (ended how stop) work.new) }
     ensures err { OnErr result (work.new ≡ work.old) }
 {
     let number = newest(work);
     work.replace(Cell::Number(one_if(number == 0)))?;
-    Ok(Onward::Quiet)
+    Ok(QuietResult::Quiet)
 }
 
-pub(crate) fn to_char(code: &Code, line: u32, work: &mut Work) -> Result<Onward, AllocError>
+pub(crate) fn to_char(code: &Code, line: u32, work: &mut Work) -> Result<QuietResult, AllocError>
     ensures ok { IfOk result (λ how. (stop : Stepped) → Does code.now line Op.ToChar work.old (ended how stop) work.new) }
     ensures err { OnErr result (work.new ≡ work.old) }
 {
     let number = newest(work);
     work.replace(Cell::Number(number.rem_euclid(CHAR_VALUES)))?;
-    Ok(Onward::Quiet)
+    Ok(QuietResult::Quiet)
 }
 
-pub(crate) fn to_bool(code: &Code, line: u32, work: &mut Work) -> Result<Onward, AllocError>
+pub(crate) fn to_bool(code: &Code, line: u32, work: &mut Work) -> Result<QuietResult, AllocError>
     ensures ok { IfOk result (λ how. (stop : Stepped) → Does code.now line Op.ToBool work.old (ended how stop) work.new) }
     ensures err { OnErr result (work.new ≡ work.old) }
 {
     let number = newest(work);
     work.replace(Cell::Number(if number == 0 { 0 } else { 1 }))?;
-    Ok(Onward::Quiet)
+    Ok(QuietResult::Quiet)
 }

@@ -6,7 +6,7 @@ ghost use Rattle.uc_frames.specs.Unwinding.{event_at};
 ghost use Rattle.uc_step.specs.OpEffects.{act_pend, act_pend_at, with_operands, without_event, ended, Does, Ends};
 ghost use Rattle.uc_step.specs.declared.stepped.Stepped.{Stepped};
 
-use crate::stepped::{Onward, Stepped, asked, faulted};
+use crate::stepped::{QuietResult, Stepped, asked, faulted};
 use std::alloc::AllocError;
 use uc_code::code::Code;
 use uc_code::op::Op;
@@ -24,7 +24,7 @@ pub(crate) fn raise_at(
     line: u32,
     work: &mut Work,
     stop: &mut Stepped,
-) -> Result<Onward, AllocError>
+) -> Result<QuietResult, AllocError>
     ensures ok { IfOk result (λ how. Does code.now line Op.RaiseAt work.old (ended how stop.new) work.new) }
     ensures err { OnErr result (work.new ≡ work.old) }
 {
@@ -47,7 +47,7 @@ pub(crate) fn raise_at(
                     y,
                 },
             );
-            Ok(Onward::Stops)
+            Ok(QuietResult::Stops)
         }
         Cell::Number(_) | Cell::Place(_, _) | Cell::Running(_) | Cell::Nothing => {
             let exec = exec_in(work.read(place));
@@ -74,7 +74,7 @@ fn pend_at(
     work: &mut Work,
     stop: &mut Stepped,
     exec: Option<Exec>,
-) -> Result<Onward, AllocError>
+) -> Result<QuietResult, AllocError>
     ensures ok { IfOk result (λ how. Ends (act_pend_at code.now line exec (event_at (below work.old.run.operands)) (without_event (with_operands (below work.old.run.operands) work.old))) (ended how stop.new) work.new) }
     ensures err { OnErr result (work.new ≡ work.old) }
 {
@@ -82,13 +82,13 @@ fn pend_at(
         None => {
             pop_raised(work);
             *stop = faulted(code, line, work, RunFault::NotLive);
-            Ok(Onward::Stops)
+            Ok(QuietResult::Stops)
         }
         Some(exec) => {
             if !work.is_live_at(exec) {
                 pop_raised(work);
                 *stop = faulted(code, line, work, RunFault::NotLive);
-                return Ok(Onward::Stops);
+                return Ok(QuietResult::Stops);
             }
             let how = pend(code, line, work, stop, exec)?;
             Ok(how)
@@ -103,14 +103,14 @@ fn pend(
     work: &mut Work,
     stop: &mut Stepped,
     exec: Exec,
-) -> Result<Onward, AllocError>
+) -> Result<QuietResult, AllocError>
     ensures ok { IfOk result (λ how. Ends (act_pend code.now line exec (event_at (below work.old.run.operands)) (without_event (with_operands (below work.old.run.operands) work.old))) (ended how stop.new) work.new) }
     ensures err { OnErr result (work.new ≡ work.old) }
 {
     if work.pending_count(exec) >= usize::from(PENDING_EVENTS) {
         pop_raised(work);
         *stop = faulted(code, line, work, RunFault::TooManyPending);
-        return Ok(Onward::Stops);
+        return Ok(QuietResult::Stops);
     }
     let Event {
         number: event,
@@ -119,7 +119,7 @@ fn pend(
     } = work.event_below();
     work.raise_at(exec, Pending { event, x, y })?;
     pop_raised(work);
-    Ok(Onward::Quiet)
+    Ok(QuietResult::Quiet)
 }
 
 // More events are enabled; a cell keeps which were.
@@ -129,13 +129,13 @@ pub(crate) fn enable(
     work: &mut Work,
     events: u64,
     cell: u32,
-) -> Result<Onward, AllocError>
+) -> Result<QuietResult, AllocError>
     ensures ok { IfOk result (λ how. (stop : Stepped) → Does code.now line (Op.Enable events cell) work.old (ended how stop) work.new) }
     ensures err { OnErr result (work.new ≡ work.old) }
 {
     let more = work.enabled() | events;
     work.enable(more, cell);
-    Ok(Onward::Quiet)
+    Ok(QuietResult::Quiet)
 }
 
 pub(crate) fn disable(
@@ -144,13 +144,13 @@ pub(crate) fn disable(
     work: &mut Work,
     events: u64,
     cell: u32,
-) -> Result<Onward, AllocError>
+) -> Result<QuietResult, AllocError>
     ensures ok { IfOk result (λ how. (stop : Stepped) → Does code.now line (Op.Disable events cell) work.old (ended how stop) work.new) }
     ensures err { OnErr result (work.new ≡ work.old) }
 {
     let less = work.enabled() & !events;
     work.enable(less, cell);
-    Ok(Onward::Quiet)
+    Ok(QuietResult::Quiet)
 }
 
 // Those are enabled again that a cell keeps.
@@ -159,10 +159,10 @@ pub(crate) fn restore(
     line: u32,
     work: &mut Work,
     cell: u32,
-) -> Result<Onward, AllocError>
+) -> Result<QuietResult, AllocError>
     ensures ok { IfOk result (λ how. (stop : Stepped) → Does code.now line (Op.Restore cell) work.old (ended how stop) work.new) }
     ensures err { OnErr result (work.new ≡ work.old) }
 {
     work.restore(cell);
-    Ok(Onward::Quiet)
+    Ok(QuietResult::Quiet)
 }

@@ -4,7 +4,7 @@ ghost use Rattle.std.specs.Prelude.{◌≡◌, IfOk, OnErr};
 ghost use Rattle.uc_step.specs.OpEffects.{ended, Does};
 ghost use Rattle.uc_step.specs.declared.stepped.Stepped.{Stepped};
 
-use crate::stepped::{Onward, Stepped, asked};
+use crate::stepped::{QuietResult, Stepped, asked};
 use std::alloc::AllocError;
 use uc_code::code::Code;
 use uc_code::op::Op;
@@ -20,7 +20,7 @@ pub(crate) fn print(
     work: &mut Work,
     stop: &mut Stepped,
     form: ValueForm,
-) -> Result<Onward, AllocError>
+) -> Result<QuietResult, AllocError>
     ensures ok { IfOk result (λ how. Does code.now line (Op.Print form) work.old (ended how stop.new) work.new) }
     ensures err { OnErr result (work.new ≡ work.old) }
 {
@@ -31,11 +31,11 @@ pub(crate) fn print(
     if work.is_gathering() {
         work.gather(piece)?;
         work.pop();
-        Ok(Onward::Quiet)
+        Ok(QuietResult::Quiet)
     } else {
         work.pop();
         *stop = asked(code, line, work, print_request(&[piece]));
-        Ok(Onward::Stops)
+        Ok(QuietResult::Stops)
     }
 }
 
@@ -45,7 +45,7 @@ pub(crate) fn text(
     work: &mut Work,
     stop: &mut Stepped,
     number: u32,
-) -> Result<Onward, AllocError>
+) -> Result<QuietResult, AllocError>
     ensures ok { IfOk result (λ how. Does code.now line (Op.Text number) work.old (ended how stop.new) work.new) }
     ensures err { OnErr result (work.new ≡ work.old) }
 {
@@ -55,31 +55,31 @@ pub(crate) fn text(
     };
     if work.is_gathering() {
         work.gather(piece)?;
-        Ok(Onward::Quiet)
+        Ok(QuietResult::Quiet)
     } else {
         *stop = asked(code, line, work, print_request(&[piece]));
-        Ok(Onward::Stops)
+        Ok(QuietResult::Stops)
     }
 }
 
-pub(crate) fn hold(code: &Code, line: u32, work: &mut Work) -> Result<Onward, AllocError>
+pub(crate) fn hold(code: &Code, line: u32, work: &mut Work) -> Result<QuietResult, AllocError>
     ensures ok { IfOk result (λ how. (stop : Stepped) → Does code.now line Op.Hold work.old (ended how stop) work.new) }
     ensures err { OnErr result (work.new ≡ work.old) }
 {
     work.begin_gather();
-    Ok(Onward::Quiet)
+    Ok(QuietResult::Quiet)
 }
 
-pub(crate) fn flush(code: &Code, line: u32, work: &mut Work, stop: &mut Stepped) -> Onward
+pub(crate) fn flush(code: &Code, line: u32, work: &mut Work, stop: &mut Stepped) -> QuietResult
     ensures { Does code.now line Op.Flush work.old (ended result stop.new) work.new }
 {
     match work.take_gathered() {
-        None => Onward::Quiet,
+        None => QuietResult::Quiet,
         Some(pieces) => match pieces.request() {
-            None => Onward::Quiet,
+            None => QuietResult::Quiet,
             Some(request) => {
                 *stop = asked(code, line, work, request);
-                Onward::Stops
+                QuietResult::Stops
             }
         },
     }
@@ -91,10 +91,10 @@ pub(crate) fn read(
     work: &mut Work,
     stop: &mut Stepped,
     form: ValueForm,
-) -> Onward
+) -> QuietResult
     ensures { Does code.now line (Op.Read form) work.old (ended result stop.new) work.new }
 {
     let form = form.number();
     *stop = asked(code, line, work, Request::Read { form });
-    Onward::Stops
+    QuietResult::Stops
 }

@@ -4,7 +4,7 @@ ghost use Rattle.std.specs.Prelude.{◌≡◌, IfOk, OnErr};
 ghost use Rattle.uc_machine.specs.Insides.{oldest_enabled};
 ghost use Rattle.uc_step.specs.OpEffects.{act_pending, ended, Does, Ends};
 
-use crate::stepped::{Onward, Stepped, asked};
+use crate::stepped::{QuietResult, Stepped, asked};
 use std::alloc::AllocError;
 use uc_code::code::Code;
 use uc_code::op::Op;
@@ -19,18 +19,18 @@ pub(crate) fn poll(
     work: &mut Work,
     stop: &mut Stepped,
     to: u32,
-) -> Result<Onward, AllocError>
+) -> Result<QuietResult, AllocError>
     ensures ok { IfOk result (λ how. Does code.now line (Op.Poll to) work.old (ended how stop.new) work.new) }
     ensures err { OnErr result (work.new ≡ work.old) }
 {
     let mask = work.enabled();
     if mask == 0 {
         work.go(to);
-        return Ok(Onward::Quiet);
+        return Ok(QuietResult::Quiet);
     }
     if work.is_own() {
         *stop = asked(code, line, work, Request::Poll { mask });
-        Ok(Onward::Stops)
+        Ok(QuietResult::Stops)
     } else {
         let how = take_pending(code, work, stop, to)?;
         Ok(how)
@@ -43,15 +43,15 @@ fn take_pending(
     work: &mut Work,
     stop: &mut Stepped,
     to: u32,
-) -> Result<Onward, AllocError>
+) -> Result<QuietResult, AllocError>
     ensures ok { IfOk result (λ how. Ends (act_pending code.now to (oldest_enabled work.old.env.links) work.old) (ended how stop.new) work.new) }
     ensures err { OnErr result (work.new ≡ work.old) }
 {
     if work.deliver()? {
-        Ok(Onward::Tick)
+        Ok(QuietResult::Tick)
     } else {
         work.go(to);
-        Ok(Onward::Quiet)
+        Ok(QuietResult::Quiet)
     }
 }
 
@@ -62,7 +62,7 @@ pub(crate) fn deliver(
     work: &mut Work,
     stop: &mut Stepped,
     to: u32,
-) -> Onward
+) -> QuietResult
     ensures { Does code.now line (Op.Deliver to) work.old (ended result stop.new) work.new }
 {
     let number = work.below(2);
@@ -70,11 +70,11 @@ pub(crate) fn deliver(
     match number {
         Cell::Nothing => {
             work.go(to);
-            Onward::Quiet
+            QuietResult::Quiet
         }
         Cell::Number(_) | Cell::Place(_, _) | Cell::Running(_) | Cell::Object(_) => {
             *stop = Stepped::Raise(event);
-            Onward::Stops
+            QuietResult::Stops
         }
     }
 }

@@ -4,7 +4,7 @@ ghost use Rattle.std.specs.Prelude.{◌≡◌, IfOk, OnErr};
 ghost use Rattle.uc_step.specs.OpEffects.{ended, Does};
 ghost use Rattle.uc_step.specs.declared.stepped.Stepped.{Stepped};
 
-use crate::stepped::Onward;
+use crate::stepped::QuietResult;
 use std::alloc::AllocError;
 use uc_code::code::Code;
 use uc_code::op::Op;
@@ -16,45 +16,49 @@ pub(crate) fn push(
     line: u32,
     work: &mut Work,
     number: i64,
-) -> Result<Onward, AllocError>
+) -> Result<QuietResult, AllocError>
     ensures ok { IfOk result (λ how. (stop : Stepped) → Does code.now line (Op.Push number) work.old (ended how stop) work.new) }
     ensures err { OnErr result (work.new ≡ work.old) }
 {
     work.push(Cell::Number(number))?;
-    Ok(Onward::Quiet)
+    Ok(QuietResult::Quiet)
 }
 
-pub(crate) fn duplicate(code: &Code, line: u32, work: &mut Work) -> Result<Onward, AllocError>
+pub(crate) fn duplicate(code: &Code, line: u32, work: &mut Work) -> Result<QuietResult, AllocError>
     ensures ok { IfOk result (λ how. (stop : Stepped) → Does code.now line Op.Duplicate work.old (ended how stop) work.new) }
     ensures err { OnErr result (work.new ≡ work.old) }
 {
     let top = work.top();
     work.push(top)?;
-    Ok(Onward::Quiet)
+    Ok(QuietResult::Quiet)
 }
 
-pub(crate) fn discard(code: &Code, line: u32, work: &mut Work) -> Result<Onward, AllocError>
+pub(crate) fn discard(code: &Code, line: u32, work: &mut Work) -> Result<QuietResult, AllocError>
     ensures ok { IfOk result (λ how. (stop : Stepped) → Does code.now line Op.Discard work.old (ended how stop) work.new) }
     ensures err { OnErr result (work.new ≡ work.old) }
 {
     work.pop();
-    Ok(Onward::Quiet)
+    Ok(QuietResult::Quiet)
 }
 
-pub(crate) fn over(code: &Code, line: u32, work: &mut Work) -> Result<Onward, AllocError>
-    ensures ok { IfOk result (λ how. (stop : Stepped) → Does code.now line Op.Over work.old (ended how stop) work.new) }
+pub(crate) fn over(code: &Code, line: u32, work: &mut Work) -> Result<QuietResult, AllocError>
+    ensures ok { IfOk result (λ how. (stop : Stepped) → Does code.now line Op.CopyBelow work.old (ended how stop) work.new) }
     ensures err { OnErr result (work.new ≡ work.old) }
 {
     let second = work.second();
     work.push(second)?;
-    Ok(Onward::Quiet)
+    Ok(QuietResult::Quiet)
 }
 
-pub(crate) fn discard_below(code: &Code, line: u32, work: &mut Work) -> Result<Onward, AllocError>
+pub(crate) fn discard_below(
+    code: &Code,
+    line: u32,
+    work: &mut Work,
+) -> Result<QuietResult, AllocError>
     ensures ok { IfOk result (λ how. (stop : Stepped) → Does code.now line Op.DiscardBelow work.old (ended how stop) work.new) }
     ensures err { OnErr result (work.new ≡ work.old) }
 {
     let top = work.top();
     work.replace_two(top)?;
-    Ok(Onward::Quiet)
+    Ok(QuietResult::Quiet)
 }

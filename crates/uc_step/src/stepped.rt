@@ -14,7 +14,7 @@ use uc_frames::work::Work;
 
 /// How an op ends: going on; going on after a tick; or otherwise, as the stop that the op was lent tells.
 #[derive(Clone, Copy)]
-pub enum Onward {
+pub enum QuietResult {
     Quiet,
     Tick,
     Stops,

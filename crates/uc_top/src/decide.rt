@@ -32,7 +32,7 @@ use uc_words::{Job, WordsFault, read_words};
 
 /// Why nothing is run, and the name of the file that was not read.
 #[derive(Clone, Copy)]
-pub(crate) struct Why<'a> {
+pub(crate) struct RefusedFor<'a> {
     pub refusal: Refusal,
     pub name: &'a str,
 }
@@ -44,7 +44,7 @@ pub(crate) fn decide<'a, R: Threads + Wait + Sync, G: Gate + Sync, S: Store>(
     alloc: Global,
     words: &'a [String],
     store: &mut S,
-) -> Result<Run, Why<'a>>
+) -> Result<Run, RefusedFor<'a>>
     ensures done { IfOk result (λ run. HasDone (map string_bytes words.now) (S.state store.old) (S.state store.new) run.journal.items run.output.items run.ending) }
     ensures store { KeepsFiles (S.state store.old) (S.state store.new) }
     ensures refused { IfErr result (λ why. Refuses (map string_bytes words.now) (S.state store.old) (S.state store.new) why.refusal why.name.now) }
@@ -65,7 +65,7 @@ fn do_job<'a, R: Threads + Wait + Sync, G: Gate + Sync, S: Store>(
     alloc: Global,
     job: Job<'a>,
     store: &mut S,
-) -> Result<Run, Why<'a>>
+) -> Result<Run, RefusedFor<'a>>
     requires range { IsInRange (command_of job) }
     ensures did { IfOk result (λ run. CommandDid (command_of job.entry) (S.state store.old) (S.state store.new) run.journal.items run.output.items run.ending) }
     ensures store { KeepsFiles (S.state store.old) (S.state store.new) }
@@ -109,7 +109,7 @@ fn explain_file<'a, S: Store>(
     file: &'a str,
     object: u32,
     store: &mut S,
-) -> Result<Run, Why<'a>>
+) -> Result<Run, RefusedFor<'a>>
     ensures did { IfOk result (λ run. JournalExplained (S.state store.old) (S.state store.new) file.now object run.journal.items run.output.items run.ending) }
     ensures store { KeepsFiles (S.state store.old) (S.state store.new) }
     ensures refused { IfErr result (λ why. JournalRefused (S.state store.old) (S.state store.new) file.now why.refusal why.name.now) }
@@ -139,7 +139,7 @@ fn explain_text(alloc: Global, text: &[u8], object: u32) -> Result<Run, Refusal>
 }
 
 // The refusal of words that are no line.
-fn bad_word<'a>(fault: WordsFault) -> Why<'a>
+fn bad_word<'a>(fault: WordsFault) -> RefusedFor<'a>
     ensures { result.refusal ≡ Refusal.Word (number_of fault) }
 {
     match fault {
@@ -148,10 +148,10 @@ fn bad_word<'a>(fault: WordsFault) -> Why<'a>
 }
 
 // A refusal that names no file.
-fn unnamed<'a>(refusal: Refusal) -> Why<'a>
+fn unnamed<'a>(refusal: Refusal) -> RefusedFor<'a>
     ensures { result.refusal ≡ refusal }
 {
-    Why { refusal, name: "" }
+    RefusedFor { refusal, name: "" }
 }
 
 fn do_files<'a, R: Threads + Wait + Sync, G: Gate + Sync, S: Store>(
@@ -162,7 +162,7 @@ fn do_files<'a, R: Threads + Wait + Sync, G: Gate + Sync, S: Store>(
     named: Option<&'a str>,
     purpose: Purpose,
     store: &mut S,
-) -> Result<Run, Why<'a>>
+) -> Result<Run, RefusedFor<'a>>
     requires purpose { HasEntries purpose }
     ensures did { IfOk result (λ run. FilesDid (S.state store.old) (S.state store.new) file.now (option_copied named.entry) purpose run.journal.items run.output.items run.ending) }
     ensures store { KeepsFiles (S.state store.old) (S.state store.new) }
@@ -189,7 +189,7 @@ fn read_texts<'a, S: Store>(
     file: &'a str,
     named: Option<&'a str>,
     store: &mut S,
-) -> Result<Texts, Why<'a>>
+) -> Result<Texts, RefusedFor<'a>>
     ensures program { IfOk result (λ texts. length texts.program.items ≤ PROGRAM_BYTES) }
     ensures input { IfOk result (λ texts. length texts.input.items ≤ INPUT_BYTES) }
     ensures read { IfOk result (λ texts. ReadsTexts (S.state store.old) (S.state store.new) file.now (option_copied named.entry) texts.program.items texts.input.items) }
@@ -210,7 +210,7 @@ fn read_input<'a, S: Store>(
     alloc: Global,
     named: Option<&'a str>,
     store: &mut S,
-) -> Result<Vec<u8>, Why<'a>>
+) -> Result<Vec<u8>, RefusedFor<'a>>
     ensures within { IfOk result (λ v. length v.items ≤ INPUT_BYTES) }
     ensures same { IfOk result (λ v. (S.state store.new).count ≡ (S.state store.old).count) }
     ensures read { IfOk result (λ v. ReadsInput (S.state store.old) (S.state store.new) (option_copied named.entry) v.items) }
@@ -231,7 +231,7 @@ fn read_named<'a, S: Store>(
     name: &'a str,
     limit: u32,
     store: &mut S,
-) -> Result<Vec<u8>, Why<'a>>
+) -> Result<Vec<u8>, RefusedFor<'a>>
     ensures store { KeepsFiles (S.state store.old) (S.state store.new) }
     ensures read { IfOk result (λ v. ReadBytes (S.state store.old) (S.state store.new) name.now limit v.items) }
     ensures named { IfErr result (λ why. why.name.now ≡ name.now) }
@@ -239,15 +239,15 @@ fn read_named<'a, S: Store>(
 {
     match store.read(alloc, name, limit) {
         Ok(bytes) => Ok(bytes),
-        Err(StoreFault::Failed) => Err(Why {
+        Err(StoreFault::Failed) => Err(RefusedFor {
             refusal: Refusal::CannotRead,
             name,
         }),
-        Err(StoreFault::TooLong) => Err(Why {
+        Err(StoreFault::TooLong) => Err(RefusedFor {
             refusal: Refusal::TooLong,
             name,
         }),
-        Err(StoreFault::NoMemory) => Err(Why {
+        Err(StoreFault::NoMemory) => Err(RefusedFor {
             refusal: Refusal::NoMemory,
             name,
         }),

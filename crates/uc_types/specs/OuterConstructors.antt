@@ -25,11 +25,11 @@ constructors_in name [] = []
 constructors_in name (x ∷ xs) = constructor_in name x ++ constructors_in name xs
 
 -- those of one class, with its name
-pub record Group : Type 0 where
+pub record ClassConstructors : Type 0 where
   pub owner : List ℕ
   pub routines : List Routine
 
-abbrev pub group_named : List Group → List ℕ → List Routine
+abbrev pub group_named : List ClassConstructors → List ℕ → List Routine
 group_named [] name = []
 group_named (g ∷ gs) name = if same_name g.owner name then g.routines else group_named gs name
 
@@ -37,13 +37,13 @@ group_named (g ∷ gs) name = if same_name g.owner name then g.routines else gro
 abbrev pub grown : List ℕ → List ℕ → Routine → List Routine
 grown owner name r = if same_name owner name then r ∷ [] else []
 
-abbrev pub grown_at : List Group → ℕ → Routine → List Group
+abbrev pub grown_at : List ClassConstructors → ℕ → Routine → List ClassConstructors
 grown_at [] i r = []
 grown_at (g ∷ gs) zero r = record { owner = g.owner; routines = g.routines ++ r ∷ [] } ∷ gs
 grown_at (g ∷ gs) (suc i) r = g ∷ grown_at gs i r
 
-pub record ArePlaced (groups : List Group) (places : List Block) : Type 0 where
+pub record ArePlaced (groups : List ClassConstructors) (places : List Block) : Type 0 where
   pub places_are : IsPlaces (map (λ g. g.owner) groups) places
 
-pub record AreGrouped (groups : List Group) (items : List Item) : Type 0 where
+pub record AreGrouped (groups : List ClassConstructors) (items : List Item) : Type 0 where
   pub groups_are : (name : List ℕ) → group_named groups name ≡ constructors_in name items

@@ -11,8 +11,8 @@ ghost use Rattle.uc_rules.specs.Visits.{AtArgument, AtAssign, AtCall, AtChange, 
 ghost use Rattle.uc_types.specs.FirstBreak.{told};
 
 use crate::entity::{
-    binary_gives, built_in, element, fits, given, is_array, is_main, is_object, is_of_conditions,
-    is_place, is_scalar, path_member, takes, value_of,
+    binary_gives, built_in, element, fits, is_array, is_main, is_object, is_of_conditions,
+    is_place, is_scalar, operation_result, path_member, takes, value_of,
 };
 use crate::found::Found;
 use crate::names::Names;
@@ -309,7 +309,7 @@ pub fn ask_call(
     found.note_unless(takes, Rule::S10, sign);
     found.note_unless(may_be_called(names.around().inner, entity), Rule::O3, sign);
     if sound && (takes && !is_main) {
-        given(tables, entity)
+        operation_result(tables, entity)
     } else {
         None
     }

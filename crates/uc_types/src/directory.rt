@@ -13,12 +13,12 @@ use uc_tree::name::Name;
 
 /// Names with what they mean; of two with one name the first counts. Contracts see the list.
 #[derive(Drop)]
-pub struct Directory {
+pub struct NameTable {
     seen: Vec<LocalName>,
     places: Scope,
 }
 
-impl Model for Directory {
+impl Model for NameTable {
     ghost use Rattle.std.specs.Prelude.{List, map};
     ghost use Rattle.uc_rules.specs.declared.rules.LocalName.{LocalName};
     ghost use Rattle.uc_layout.specs.Places.{IsPlaces};
@@ -60,13 +60,13 @@ fn find(seen: &[LocalName], places: &Scope, name: &Name) -> Option<NameMeaning>
     }
 }
 
-impl Directory {
+impl NameTable {
     /// The table of these names.
-    pub fn new(alloc: Global, seen: Vec<LocalName>) -> Result<Directory, AllocError>
+    pub fn new(alloc: Global, seen: Vec<LocalName>) -> Result<NameTable, AllocError>
         ensures { IfOk result (λ d. d ≡ seen.items) }
     {
         let places = places_of(alloc, &seen)?;
-        Ok(Directory { seen, places })
+        Ok(NameTable { seen, places })
     }
 
     /// What a name means.

@@ -340,7 +340,7 @@ pub fn is_main(tables: &Tables, entity: Entity) -> bool
 }
 
 /// What a call of it gives.
-pub fn given(tables: &Tables, entity: Entity) -> Option<Entity>
+pub fn operation_result(tables: &Tables, entity: Entity) -> Option<Entity>
     ensures { result ≡ given tables.now entity }
 {
     match entity {
@@ -409,7 +409,7 @@ fn param_expected(tables: &Tables, params: &[Param], place: usize) -> Expected
 }
 
 /// What is asked of the argument with this place in a list.
-pub fn expected(tables: &Tables, target: Target, place: usize) -> Expected
+pub fn expected_of(tables: &Tables, target: Target, place: usize) -> Expected
     ensures { result ≡ expected tables.now target place }
 {
     match target {

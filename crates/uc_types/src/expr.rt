@@ -10,7 +10,7 @@ use crate::ask::{
     ask_argument, ask_assign, ask_call, ask_change, ask_index, ask_member, ask_operands, ask_unary,
     ask_use,
 };
-use crate::entity::{call_target, expected};
+use crate::entity::{call_target, expected_of};
 use crate::found::Found;
 use crate::names::Names;
 use uc_rules::rule::Rule;
@@ -193,7 +193,7 @@ fn check_arg(names: &Names, arg: &Expr, target: Target, place: usize, found: &mu
     ensures breaks { found.new ≡ noted found.old (arg_visits names.now arg.now (expected names.now.program target place)) }
 {
     let entity = check_expr(names, arg, found);
-    let expected = expected(names.tables(), target, place);
+    let expected = expected_of(names.tables(), target, place);
     ask_argument(arg.first_token(), expected, entity, found)
 }
 

@@ -11,7 +11,7 @@ ghost use Rattle.uc_types.specs.Lengths.{lengths_by};
 ghost use Rattle.uc_types.specs.Listings.{class_seen, classes_seen, fields_seen, form_seen, item_seen, items_seen, members_seen, method_meant, method_seen, routine_seen, seen};
 
 use crate::bases::Bases;
-use crate::directory::Directory;
+use crate::directory::NameTable;
 use crate::sort::{is_inner_only, is_plain};
 use std::alloc::{AllocError, Global};
 use uc_layout::held::elements_of;
@@ -204,7 +204,7 @@ fn names_in_class<'x>(
     bases: &'x Bases<'x>,
     place: usize,
     class: &'x Class,
-) -> Result<Directory, AllocError>
+) -> Result<NameTable, AllocError>
     ensures { IfOk result (λ d. d ≡ class_seen bases.now place class.now) }
 {
     let names = names_of_members(alloc, &class.members)?;
@@ -219,7 +219,7 @@ fn names_in_class<'x>(
         lengths,
     };
     let list = members_in(alloc, &listed, &class.members)?;
-    let directory = Directory::new(alloc, list)?;
+    let directory = NameTable::new(alloc, list)?;
     Ok(directory)
 }
 
@@ -227,7 +227,7 @@ fn names_in_each<'x>(
     alloc: Global,
     bases: &'x Bases<'x>,
     classes: &'x [&'x Class],
-) -> Result<Vec<Directory>, AllocError>
+) -> Result<Vec<NameTable>, AllocError>
     ensures { IfOk result (λ v. v.items ≡ classes_seen bases.now 0 (map (λ c. c.now) classes.now)) }
 {
     let mut directories = Vec::new(alloc);
@@ -241,7 +241,7 @@ fn names_in_each<'x>(
 pub fn names_in_classes<'x>(
     alloc: Global,
     bases: &'x Bases<'x>,
-) -> Result<Vec<Directory>, AllocError>
+) -> Result<Vec<NameTable>, AllocError>
     ensures { IfOk result (λ v. v.items ≡ classes_seen bases.now 0 (classes_of bases.now.items)) }
 {
     let directories = names_in_each(alloc, bases, bases.classes())?;
@@ -323,11 +323,11 @@ fn items_in(alloc: Global, bases: &Bases, items: &[Item]) -> Result<Vec<LocalNam
 }
 
 /// The names that all of the program sees.
-pub fn names_outside(alloc: Global, bases: &Bases) -> Result<Directory, AllocError>
+pub fn names_outside(alloc: Global, bases: &Bases) -> Result<NameTable, AllocError>
     ensures { IfOk result (λ d. d ≡ items_seen bases.now 0 bases.now.items) }
 {
     let program = bases.program();
     let list = items_in(alloc, bases, &program.items)?;
-    let directory = Directory::new(alloc, list)?;
+    let directory = NameTable::new(alloc, list)?;
     Ok(directory)
 }

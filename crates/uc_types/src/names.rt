@@ -53,7 +53,7 @@ impl<'a> Model for Names<'a> {
 
 /// A scope to come back to.
 #[derive(Clone, Copy)]
-pub struct Mark {
+pub struct ScopeMark {
     count: usize,
     outside: usize,
     around: Surroundings,
@@ -248,12 +248,12 @@ impl<'a> Names<'a> {
     }
 
     /// Where to come back to.
-    pub fn mark(&self) -> Mark
+    pub fn mark(&self) -> ScopeMark
         ensures count { result.count ≡ length self.now.names }
         ensures outside { result.outside ≡ self.now.outside }
         ensures around { result.around ≡ self.now.around }
     {
-        Mark {
+        ScopeMark {
             count: self.names.len(),
             outside: self.outside,
             around: self.around,
@@ -269,7 +269,7 @@ impl<'a> Names<'a> {
     }
 
     /// The innermost scope ends, and the one of the mark is the innermost again.
-    pub fn close(&mut self, mark: Mark)
+    pub fn close(&mut self, mark: ScopeMark)
         ensures { self.new ≡ record { program = self.old.program; around = mark.around; names = take mark.count self.old.names; outside = mark.outside } }
     {
         close_to(&mut self.names, &mut self.places, mark.count);

@@ -15,25 +15,25 @@ use uc_tree::program::{Item, ItemForm};
 
 // The constructors of one class, with its name.
 #[derive(Drop)]
-struct Group<'a> {
+struct ClassConstructors<'a> {
     owner: &'a Name,
     routines: Vec<&'a Routine>,
 }
 
-impl<'a> Model for Group<'a> {
+impl<'a> Model for ClassConstructors<'a> {
     ghost use Rattle.std.specs.Coded.{codes};
     ghost use Rattle.std.specs.Prelude.{map};
     ghost use Rattle.uc_tree.specs.ProgramCodes.{routine_coded};
-    ghost use Rattle.uc_types.specs.OuterConstructors.{Group};
+    ghost use Rattle.uc_types.specs.OuterConstructors.{ClassConstructors};
 
-    ghost Value = { Group };
+    ghost Value = { ClassConstructors };
 
     ghost coded = { Prim.hlevel (codes, routine_coded) };
 
     ghost view = { λ a. record { owner = a.owner.now; routines = map (λ r. r.now) a.routines.items } };
 }
 
-impl<'a> Group<'a> {
+impl<'a> ClassConstructors<'a> {
     fn push(&mut self, routine: &'a Routine) -> Result<(), AllocError>
         ensures { OnOk result (self.new ≡ record { owner = self.old.owner; routines = self.old.routines ++ routine.now ∷ [] }) }
     {
@@ -46,7 +46,7 @@ impl<'a> Group<'a> {
 #[derive(Drop)]
 pub struct OuterConstructors<'a> {
     items: &'a [Item],
-    groups: Vec<Group<'a>>,
+    groups: Vec<ClassConstructors<'a>>,
     places: Scope,
 }
 
@@ -68,7 +68,7 @@ impl<'a> Model for OuterConstructors<'a> {
 
 // One more constructor of a class that has a group.
 fn grow<'a>(
-    groups: &mut Vec<Group<'a>>,
+    groups: &mut Vec<ClassConstructors<'a>>,
     place: usize,
     routine: &'a Routine,
 ) -> Result<(), AllocError>
@@ -86,7 +86,7 @@ fn grow<'a>(
 // The first constructor of a class.
 fn begin<'a>(
     alloc: Global,
-    groups: &mut Vec<Group<'a>>,
+    groups: &mut Vec<ClassConstructors<'a>>,
     owner: &'a Name,
     routine: &'a Routine,
 ) -> Result<(), AllocError>
@@ -94,13 +94,13 @@ fn begin<'a>(
 {
     let mut routines = Vec::new(alloc);
     routines.push(routine)?;
-    groups.push(Group { owner, routines })?;
+    groups.push(ClassConstructors { owner, routines })?;
     Ok(())
 }
 
 fn push<'a>(
     alloc: Global,
-    groups: &mut Vec<Group<'a>>,
+    groups: &mut Vec<ClassConstructors<'a>>,
     places: &mut Scope,
     owner: &'a Name,
     routine: &'a Routine,
@@ -124,7 +124,7 @@ fn push<'a>(
 
 fn push_owned<'a>(
     alloc: Global,
-    groups: &mut Vec<Group<'a>>,
+    groups: &mut Vec<ClassConstructors<'a>>,
     places: &mut Scope,
     routine: &'a Routine,
 ) -> Result<(), AllocError>
@@ -147,7 +147,7 @@ fn push_owned<'a>(
 
 fn push_item<'a>(
     alloc: Global,
-    groups: &mut Vec<Group<'a>>,
+    groups: &mut Vec<ClassConstructors<'a>>,
     places: &mut Scope,
     item: &'a Item,
 ) -> Result<(), AllocError>
@@ -170,7 +170,7 @@ fn push_item<'a>(
 
 fn push_items<'a>(
     alloc: Global,
-    groups: &mut Vec<Group<'a>>,
+    groups: &mut Vec<ClassConstructors<'a>>,
     places: &mut Scope,
     items: &'a [Item],
 ) -> Result<(), AllocError>
@@ -184,7 +184,7 @@ fn push_items<'a>(
     Ok(())
 }
 
-fn routines_at<'x>(groups: &'x [Group<'x>], place: usize) -> &'x [&'x Routine]
+fn routines_at<'x>(groups: &'x [ClassConstructors<'x>], place: usize) -> &'x [&'x Routine]
     ensures { map (λ r. r.now) result.now ≡ unwrap_or (option_map (λ g. g.routines) (slice_get groups.now place)) [] }
 {
     if let Some(group) = groups.get(place) {
@@ -193,7 +193,7 @@ fn routines_at<'x>(groups: &'x [Group<'x>], place: usize) -> &'x [&'x Routine]
     &[]
 }
 
-fn find<'x>(groups: &'x [Group<'x>], places: &Scope, name: &Name) -> &'x [&'x Routine]
+fn find<'x>(groups: &'x [ClassConstructors<'x>], places: &Scope, name: &Name) -> &'x [&'x Routine]
     requires { ArePlaced groups.now places.now }
     ensures { map (λ r. r.now) result.now ≡ group_named groups.now name.now }
 {

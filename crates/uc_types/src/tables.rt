@@ -15,7 +15,7 @@ ghost use Rattle.uc_rules.specs.Scopes.{event_named, event_sort};
 ghost use Rattle.uc_rules.specs.Sorts.{class_at, class_named, sort_of};
 
 use crate::bases::{Bases, is_given};
-use crate::directory::Directory;
+use crate::directory::NameTable;
 use crate::listing::{names_in_classes, names_outside, outer};
 use crate::members::{names_at, params_at, params_in_each};
 use crate::outside::OuterConstructors;
@@ -34,8 +34,8 @@ use uc_tree::program::{Item, ItemForm, Program};
 #[derive(Drop)]
 pub struct Tables<'a> {
     bases: Bases<'a>,
-    members: Vec<Directory>,
-    outer: Directory,
+    members: Vec<NameTable>,
+    outer: NameTable,
     params: Vec<&'a [Param]>,
     numbered: Vec<Vec<&'a Name>>,
     constructors: OuterConstructors<'a>,
@@ -110,7 +110,7 @@ fn item_sig(item: &Item) -> Option<&Sig>
     }
 }
 
-fn named_in(directories: &[Directory], class: usize, name: &Name) -> Option<NameMeaning>
+fn named_in(directories: &[NameTable], class: usize, name: &Name) -> Option<NameMeaning>
     ensures { result ≡ option_and_then (λ ss. first_named ss name.now) (slice_get directories.now class) }
 {
     match directories.get(class) {
@@ -261,7 +261,7 @@ impl<'a> Tables<'a> {
     }
 
     /// The names of the mutex members of the class with this place besides its destructor, as far as they have numbers.
-    pub fn numbered(&self, class: usize) -> &[&Name]
+    pub fn mutex_members(&self, class: usize) -> &[&Name]
         ensures names { (c : Class) → class_at self.now class ≡ Some c → map (λ n. n.now) result.now ≡ take MEMBERS (mutex_members c) }
         ensures few { length result.now ≤ MEMBERS }
     {

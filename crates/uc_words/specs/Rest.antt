@@ -7,7 +7,7 @@ use Rattle.uc_words.specs.declared.job.Job.{Job}
 use Rattle.uc_words.specs.declared.job.Job.TheVariants.{Run, Check, Lower, Make, Explain}
 use Rattle.uc_words.specs.declared.job.WordsFault.{WordsFault}
 use Rattle.uc_words.specs.declared.job.WordsFault.TheVariants.{Word}
-use Rattle.uc_words.specs.declared.told.Told.{Told}
+use Rattle.uc_words.specs.declared.told.RunOptions.{RunOptions}
 
 -- what a job says
 abbrev pub command_of : Job → Command
@@ -28,7 +28,7 @@ pub record Parts : Type 0 where
   pub journal : Bool
   pub input : Option (List ℕ)
 
-abbrev pub parts_of : Told → Parts
+abbrev pub parts_of : RunOptions → Parts
 parts_of t = record {
   file = option_copied t.file;
   numbers = record { processors = t.processors; slice = t.slice; ticks = t.ticks; entries = t.entries };

@@ -8,14 +8,14 @@ ghost use Rattle.uc_words.specs.Rest.{command_of, number_of, parts_of, words_of,
 use crate::job::{Job, WordsFault};
 use crate::number::read_number;
 use crate::numbers::NumberOption;
-use crate::told::{Told, has_number, with_number};
+use crate::told::{RunOptions, has_number, with_number};
 use uc_entry::entry::Options;
 use uc_tree::limits::{ENTRIES_DEFAULT, PROCESSORS_DEFAULT, SLICE_DEFAULT, TICKS_DEFAULT};
 
 /// What is told once a piece is read, and the words behind it.
 #[derive(Clone, Copy)]
 pub struct Step<'a> {
-    pub told: Told<'a>,
+    pub told: RunOptions<'a>,
     pub rest: &'a [String],
 }
 
@@ -23,7 +23,7 @@ pub struct Step<'a> {
 pub fn read_piece<'a>(
     word: &'a str,
     behind: &'a [String],
-    told: Told<'a>,
+    told: RunOptions<'a>,
 ) -> Result<Step<'a>, WordsFault>
     ensures leads { IfOk result (λ step. Leads (parts_of told.entry) (word.now ∷ map string_bytes behind.now) (parts_of step.told) (map string_bytes step.rest.now)) }
     ensures shorter { IfOk result (λ step. length step.rest.now ≤ length behind.now) }
@@ -49,7 +49,7 @@ pub fn read_piece<'a>(
 fn read_file<'a>(
     word: &'a str,
     behind: &'a [String],
-    told: Told<'a>,
+    told: RunOptions<'a>,
 ) -> Result<Step<'a>, WordsFault>
     requires no_number { (option : NumberOption) → word.now ≡ option_word option → ⊥ }
     requires no_journal { word.now ≡ codes "--journal" → ⊥ }
@@ -64,7 +64,7 @@ fn read_file<'a>(
     if !is_name(word) {
         return Err(fault_at(told, 1));
     }
-    let more = Told {
+    let more = RunOptions {
         file: Some(word),
         ..told
     };
@@ -78,7 +78,7 @@ fn read_file<'a>(
 fn read_option<'a>(
     option: NumberOption,
     behind: &'a [String],
-    told: Told<'a>,
+    told: RunOptions<'a>,
 ) -> Result<Step<'a>, WordsFault>
     ensures leads { IfOk result (λ step. Leads (parts_of told.entry) (option_word option ∷ map string_bytes behind.now) (parts_of step.told) (map string_bytes step.rest.now)) }
     ensures shorter { IfOk result (λ step. length step.rest.now ≤ length behind.now) }
@@ -98,7 +98,7 @@ fn read_option<'a>(
 }
 
 // Reads `--journal`, which has no value.
-fn read_journal<'a>(behind: &'a [String], told: Told<'a>) -> Result<Step<'a>, WordsFault>
+fn read_journal<'a>(behind: &'a [String], told: RunOptions<'a>) -> Result<Step<'a>, WordsFault>
     ensures leads { IfOk result (λ step. Leads (parts_of told.entry) (codes "--journal" ∷ map string_bytes behind.now) (parts_of step.told) (map string_bytes step.rest.now)) }
     ensures shorter { IfOk result (λ step. length step.rest.now ≤ length behind.now) }
     ensures fault { IfErr result (λ fault. BadRest (parts_of told.entry) (codes "--journal" ∷ map string_bytes behind.now) (number_of fault)) }
@@ -106,7 +106,7 @@ fn read_journal<'a>(behind: &'a [String], told: Told<'a>) -> Result<Step<'a>, Wo
     if told.journal {
         return Err(fault_at(told, 1));
     }
-    let more = Told {
+    let more = RunOptions {
         journal: true,
         ..told
     };
@@ -117,7 +117,7 @@ fn read_journal<'a>(behind: &'a [String], told: Told<'a>) -> Result<Step<'a>, Wo
 }
 
 // Reads the name behind `--input`.
-fn read_input<'a>(behind: &'a [String], told: Told<'a>) -> Result<Step<'a>, WordsFault>
+fn read_input<'a>(behind: &'a [String], told: RunOptions<'a>) -> Result<Step<'a>, WordsFault>
     ensures leads { IfOk result (λ step. Leads (parts_of told.entry) (codes "--input" ∷ map string_bytes behind.now) (parts_of step.told) (map string_bytes step.rest.now)) }
     ensures shorter { IfOk result (λ step. length step.rest.now ≤ length behind.now) }
     ensures fault { IfErr result (λ fault. BadRest (parts_of told.entry) (codes "--input" ∷ map string_bytes behind.now) (number_of fault)) }
@@ -132,7 +132,7 @@ fn read_input<'a>(behind: &'a [String], told: Told<'a>) -> Result<Step<'a>, Word
     if !is_name(name) {
         return Err(fault_at(told, 2));
     }
-    let more = Told {
+    let more = RunOptions {
         input: Some(name),
         ..told
     };
@@ -140,7 +140,7 @@ fn read_input<'a>(behind: &'a [String], told: Told<'a>) -> Result<Step<'a>, Word
 }
 
 /// The job, once all words are read.
-pub fn finish(told: Told<'_>) -> Result<Job<'_>, WordsFault>
+pub fn finish(told: RunOptions<'_>) -> Result<Job<'_>, WordsFault>
     ensures line { IfOk result (λ job. Goes (parts_of told.entry) [] (command_of job)) }
     ensures only { IfOk result (λ job. (other : Command) → Goes (parts_of told.entry) [] other → other ≡ command_of job) }
     ensures fault { IfErr result (λ fault. BadRest (parts_of told.entry) [] (number_of fault)) }
@@ -155,7 +155,7 @@ pub fn finish(told: Told<'_>) -> Result<Job<'_>, WordsFault>
 }
 
 // The job of a file and what its options say.
-fn job_of<'a>(file: &'a str, told: Told<'a>) -> Job<'a>
+fn job_of<'a>(file: &'a str, told: RunOptions<'a>) -> Job<'a>
     ensures { command_of result ≡ RunFile file.now (options_with (parts_of told.entry).numbers) (parts_of told.entry).journal (parts_of told.entry).input }
 {
     Job::Run {
@@ -172,7 +172,7 @@ fn job_of<'a>(file: &'a str, told: Told<'a>) -> Job<'a>
 }
 
 // The fault of the word that is so many words behind those that told the parts.
-fn fault_at(told: Told<'_>, ahead: u32) -> WordsFault
+fn fault_at(told: RunOptions<'_>, ahead: u32) -> WordsFault
     requires { ahead ≤ 2 }
     ensures { number_of result ≡ words_of (parts_of told.entry) + ahead }
 {
@@ -186,7 +186,7 @@ fn fault_at(told: Told<'_>, ahead: u32) -> WordsFault
 }
 
 // How many words told the numbers.
-fn words_of_numbers(told: Told<'_>) -> u32
+fn words_of_numbers(told: RunOptions<'_>) -> u32
     ensures words { result ≡ words_of_numbers (parts_of told.entry).numbers }
     ensures few { result ≤ 8 }
 {

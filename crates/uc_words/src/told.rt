@@ -8,7 +8,7 @@ use crate::numbers::NumberOption;
 
 /// Each part of a line `run`, where a word told it.
 #[derive(Clone, Copy)]
-pub struct Told<'a> {
+pub struct RunOptions<'a> {
     pub file: Option<&'a str>,
     pub processors: Option<u32>,
     pub slice: Option<u32>,
@@ -19,7 +19,7 @@ pub struct Told<'a> {
 }
 
 /// Whether the number of an option is told.
-pub(crate) fn has_number(told: Told<'_>, option: NumberOption) -> bool
+pub(crate) fn has_number(told: RunOptions<'_>, option: NumberOption) -> bool
     ensures { result ≡ is_some (words.number_of_option (rest.parts_of told.entry).numbers option) }
 {
     match option {
@@ -31,24 +31,24 @@ pub(crate) fn has_number(told: Told<'_>, option: NumberOption) -> bool
 }
 
 /// The same with the number of an option.
-pub(crate) fn with_number<'a>(told: Told<'a>, option: NumberOption, n: u64) -> Told<'a>
+pub(crate) fn with_number<'a>(told: RunOptions<'a>, option: NumberOption, n: u64) -> RunOptions<'a>
     requires { n ≤ words.most_of option }
     ensures { rest.parts_of result ≡ rest.with_number (rest.parts_of told.entry) option n }
 {
     match option {
-        NumberOption::Processors => Told {
+        NumberOption::Processors => RunOptions {
             processors: Some(n as u32),
             ..told
         },
-        NumberOption::Slice => Told {
+        NumberOption::Slice => RunOptions {
             slice: Some(n as u32),
             ..told
         },
-        NumberOption::Ticks => Told {
+        NumberOption::Ticks => RunOptions {
             ticks: Some(n),
             ..told
         },
-        NumberOption::Entries => Told {
+        NumberOption::Entries => RunOptions {
             entries: Some(n as u32),
             ..told
         },

@@ -7,7 +7,7 @@ ghost use Rattle.uc_words.specs.Rest.{command_of, number_of, nothing, Goes, BadR
 use crate::commands::{read_explain, read_make, read_name};
 use crate::job::{Job, WordsFault};
 use crate::pieces::{finish, read_piece};
-use crate::told::Told;
+use crate::told::RunOptions;
 
 /// The job of these words, which is the only one that they ask for, or the first word at fault.
 pub fn read_words(words: &[String]) -> Result<Job<'_>, WordsFault>
@@ -58,7 +58,7 @@ fn read_run(words: &[String]) -> Result<Job<'_>, WordsFault>
     ensures only { IfOk result (λ job. (other : Command) → Goes nothing (map string_bytes words.now) other → other ≡ command_of job) }
     ensures fault { IfErr result (λ fault. BadRest nothing (map string_bytes words.now) (number_of fault)) }
 {
-    let mut told = Told {
+    let mut told = RunOptions {
         file: None,
         processors: None,
         slice: None,

@@ -7,7 +7,7 @@ use Rattle.uc_tree.specs.StatementSizes.{maybe_stmt_size, stmt_size}
 use Rattle.uc_tree.specs.StatementViews.{maybe_at}
 use Rattle.uc_lower_stmt.specs.Control.{is_declaration}
 use Rattle.uc_lower_stmt.proofs.Parting.{arm_no_other}
-use Rattle.uc_code.specs.declared.rows.Mark.{Mark}
+use Rattle.uc_code.specs.declared.rows.CodeMark.{CodeMark}
 use Rattle.uc_code.specs.Drafts.{Draft}
 use Rattle.uc_lower_stmt.proofs.Stating.{stmt_is, arm_empty, arm_evaluate, arm_migrate, arm_declare, arm_print, arm_print_together, arm_read, arm_block, arm_if, arm_while, arm_do, arm_for_stmt, arm_break, arm_continue, arm_return, exit_few, sizes_at_item}
 use Rattle.uc_lower_stmt.proofs.EnablingLemmas.{arm_disable, arm_enable, arm_enabling, disable_asks, enable_asks, in_enabling, is_switched, marks_switched, objects_switched, room_done, taken_switched}
@@ -253,7 +253,7 @@ stmt::lower_if-lower_alone-requires t c =
     let ms : c.put.new.out.marks ≡ c.args.out.now.marks = ap (λ (d : Draft). d.marks) b.rest ∙ ap (λ (d : Draft). d.marks) a.rest in
     let inside = ap routine_in ms in
     let objects = ap closing ms in
-    let size = ap (λ (l : List Mark). size_at c.args.chosen.now (objects_in l)) ms in
+    let size = ap (λ (l : List CodeMark). size_at c.args.chosen.now (objects_in l)) ms in
     let cells = ap (λ (d : Draft). d.cells) b.rest ∙ ap (λ (d : Draft). d.cells) a.rest in
     let scopes = ap (λ (d : Draft). d.scopes) b.rest ∙ ap (λ (d : Draft). d.scopes) a.rest in
     let texts = ap (λ (d : Draft). d.texts) b.rest ∙ ap (λ (d : Draft). d.texts) a.rest in
@@ -276,8 +276,8 @@ stmt::lower_if-lower_maybe-requires t c =
     let ns : c.put-2.new.out.marks ≡ c.args.out.now.marks = ap (λ (d : Draft). d.marks) k.rest ∙ ap (λ (d : Draft). d.marks) h.rest ∙ ms in
     let inside = ap routine_in ns in
     let objects = ap closing ns in
-    let size = ap (λ (l : List Mark). size_at c.args.chosen.now (objects_in l)) ms in
-    let other = ap (λ (l : List Mark). maybe_at_size (maybe_at c.args.other.now) (objects_in l)) ns in
+    let size = ap (λ (l : List CodeMark). size_at c.args.chosen.now (objects_in l)) ms in
+    let other = ap (λ (l : List CodeMark). maybe_at_size (maybe_at c.args.other.now) (objects_in l)) ns in
     let cells = ap (λ (d : Draft). d.cells) b.rest ∙ ap (λ (d : Draft). d.cells) a.rest in
     let scopes = ap (λ (d : Draft). d.scopes) b.rest ∙ ap (λ (d : Draft). d.scopes) a.rest in
     let texts = ap (λ (d : Draft). d.texts) b.rest ∙ ap (λ (d : Draft). d.texts) a.rest in

@@ -15,8 +15,8 @@ loop-place-preserved c =
     let i = c.loop-place.place in
     let f = c.loop-place.found in
     let same : c.loop-place.names ≡ env = c.loop-place.invariant.names in
-    let asked : c.expected-expected.result ≡ entities.expected env.program target i = c.expected-expected.ensures ∙ ap (λ p. entities.expected p target i) (c.tables.ensures ∙ ap (λ n. n.program) same) in
+    let asked : c.expected_of-expected.result ≡ entities.expected env.program target i = c.expected_of-expected.ensures ∙ ap (λ p. entities.expected p target i) (c.tables.ensures ∙ ap (λ n. n.program) same) in
     record {
       names = c.check_init_arg-entity.ensures.names ∙ same;
-      breaks = walked_by (λ k x. init_arg_visits env field x (entities.expected env.program target k)) (λ k x. k + 1) (λ k xs. init_args_visits env field (exprs_of xs) target k) (λ k x xs. refl) i (i + 1) c.args.args.now i e f _ _ c.loop-place-test.true c.index-args-place.is refl (c.check_init_arg-entity.ensures.breaks ∙ ap (λ n. noted f (init_arg_visits n field e c.expected-expected.result)) same ∙ ap (λ x. noted f (init_arg_visits env field e x)) asked) c.loop-place.invariant.breaks;
+      breaks = walked_by (λ k x. init_arg_visits env field x (entities.expected env.program target k)) (λ k x. k + 1) (λ k xs. init_args_visits env field (exprs_of xs) target k) (λ k x xs. refl) i (i + 1) c.args.args.now i e f _ _ c.loop-place-test.true c.index-args-place.is refl (c.check_init_arg-entity.ensures.breaks ∙ ap (λ n. noted f (init_arg_visits n field e c.expected_of-expected.result)) same ∙ ap (λ x. noted f (init_arg_visits env field e x)) asked) c.loop-place.invariant.breaks;
     }

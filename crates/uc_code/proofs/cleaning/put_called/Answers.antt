@@ -28,4 +28,4 @@ pub returns-in_ok-put_opened-in-Opens : goal.returns-in_ok-put_opened-in-Opens
 returns-in_ok-put_opened-in-Opens c = puts_called c.args.line c.args.what _ c.args.out.now c.put_opened.new.out c.in-Opens.is (omega arith) c.in_ok-put_opened-in-Opens.ensures
 
 pub returns-in_ok-put-in-Closes : goal.returns-in_ok-put-in-Closes
-returns-in_ok-put-in-Closes c = puts_called c.args.line c.args.what _ c.args.out.now c.put.new.out c.in-Closes.is (omega arith) (subst (λ (o : Op). Puts 1 (λ code. One code o c.args.line) c.args.out.now c.put.new.out) c.close_op.ensures c.in_ok-put-in-Closes.ensures)
+returns-in_ok-put-in-Closes c = puts_called c.args.line c.args.what _ c.args.out.now c.put.new.out c.in-Closes.is (omega arith) (subst (λ (o : Op). Puts 0 1 (λ code. One code o c.args.line) c.args.out.now c.put.new.out) c.close_op.ensures c.in_ok-put-in-Closes.ensures)

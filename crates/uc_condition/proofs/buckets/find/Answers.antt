@@ -1,7 +1,7 @@
 use Rattle.std.proofs.Common.{◌≡◌, ◌<◌, ◌+◌, ℕ, suc, length, ap, sym, ◌∙◌, arith, subst}
 use Rattle.std.specs.List.{filter}
 use Rattle.std.proofs.lemmas.List.{get_or_default, take_all}
-use Rattle.uc_condition.specs.declared.buckets.Row.{Row}
+use Rattle.uc_condition.specs.declared.buckets.WaitRow.{WaitRow}
 use Rattle.uc_condition.specs.Waiting.{is_at}
 use Rattle.uc_condition.specs.Buckets.{no_row, row_at, is_row_at, waits_in, wait_of, task_behind}
 use Rattle.uc_condition.proofs.Linked.{at_behind, behind_next}
@@ -36,7 +36,7 @@ loop-at-preserved c =
     let one_more : suc n ≡ n + 1 = omega arith in
     let fails = ap (is_row_at c.args.object c.args.cond) (sym same) ∙ sym c.is_row_at.ensures ∙ c.if-is_row_at.false in
     record {
-      task = ap (λ (r : Row). r.next) same ∙ ap (λ (t : ℕ). (row_at rows t).next) c.loop-at.invariant.task ∙ behind_next rows n b.first ∙ ap (λ (k : ℕ). task_behind rows k b.first) one_more;
+      task = ap (λ (r : WaitRow). r.next) same ∙ ap (λ (t : ℕ). (row_at rows t).next) c.loop-at.invariant.task ∙ behind_next rows n b.first ∙ ap (λ (k : ℕ). task_behind rows k b.first) one_more;
       before = λ k e. c.loop-at.invariant.task ∙ ap (λ (m : ℕ). task_behind rows m b.first) (let same_place : n ≡ k = omega (arith, e) in same_place);
       older = first_passes c.args.object c.args.cond n (waits_in rows b) (let e = waits_length rows b in omega (arith, e)) c.loop-at.invariant.older
           (ap (is_at c.args.object c.args.cond) (wait_at rows b n (omega arith) ∙ ap (wait_of rows) (sym c.loop-at.invariant.task)) ∙ fails);

@@ -1,7 +1,7 @@
 use Rattle.std.proofs.Common.{Bool, List, ap, subst, ◌∙◌, arith}
 use Rattle.uc_tree.specs.Programs.{Program}
 use Rattle.uc_resolve.specs.Resolve.{class_by, enlivened, place_or_zero}
-use Rattle.uc_code.specs.declared.rows.Mark.{Mark}
+use Rattle.uc_code.specs.declared.rows.CodeMark.{CodeMark}
 use Rattle.uc_code.specs.Lowered.{StmtsAt}
 use Rattle.uc_lower_expr.specs.DraftGrowth.{Adds}
 use Rattle.uc_lower_class.specs.Fields.{enliven_room}
@@ -17,4 +17,4 @@ enliven-requires c =
 pub returns : goal.returns
 returns c = λ ms.
     ends_as c.args.names.now (class_by c.args.names.now c.args.class) (place_or_zero c.args.names.now c.args.class) ms c.args.out.now c.enliven.new.out
-    (subst (λ (b : Bool). (p : Program) (ns : List Mark) → Adds (enliven_room b) (λ code. StmtsAt code ns 0 (enlivened p b)) c.args.out.now c.enliven.new.out) c.has_coroutines-coroutine.ensures c.in_ok-enliven.ensures)
+    (subst (λ (b : Bool). (p : Program) (ns : List CodeMark) → Adds (enliven_room b) (λ code. StmtsAt code ns 0 (enlivened p b)) c.args.out.now c.enliven.new.out) c.has_coroutines-coroutine.ensures c.in_ok-enliven.ensures)

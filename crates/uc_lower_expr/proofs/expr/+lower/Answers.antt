@@ -6,7 +6,7 @@ use Rattle.uc_tree.specs.declared.limits.TheConstants.{OPS_FOR_SIZE}
 use Rattle.uc_tree.specs.ExpressionSizes.{expr_size, exprs_size, link_size}
 use Rattle.uc_resolve.specs.Resolve.{Context, args_by, meant, value_of}
 use Rattle.uc_code.specs.declared.op.Op.TheVariants as op
-use Rattle.uc_lower_expr.specs.declared.ops.Joining.TheVariants as joining
+use Rattle.uc_lower_expr.specs.declared.ops.BinaryCode.TheVariants as joining
 use Rattle.uc_lower_expr.specs.Contexts.{context_in}
 use Rattle.uc_lower_expr.proofs.Adding.{adds_settled, rest_behind, rest_then, live_in, wait_in, mutex_in, risk_in, adds_more, adds_both, adds_fork}
 use Rattle.uc_lower_expr.proofs.Growing.{grows_settled}

@@ -1,6 +1,6 @@
 use Rattle.std.proofs.Common.{Some, None, ap, sym, ◌∙◌}
 use Rattle.uc_resolve.specs.Resolve.{Standing, call_of_condition, part_by}
-use Rattle.uc_lower_expr.specs.declared.meaning.Meaning.{Meaning}
+use Rattle.uc_lower_expr.specs.declared.meaning.ExprMeaning.{ExprMeaning}
 use Rattle.uc_lower_expr.specs.declared.meaning.Standing.TheVariants as standing
 use Rattle.uc_lower_expr.proofs.MembersLemmas.{arm_named_call, called_by, no_part, input_member, variable_member, field_member, at_place_member, number_member}
 use Rattle.uc_lower_expr.proofs.members.lower_field.Goals as goal
@@ -42,7 +42,7 @@ pub returns-in-Nothing : goal.returns-in-Nothing
 returns-in-Nothing c = no_part c.put_nothing-in-Nothing.result c.args.names.now c.args.out.now.marks c.args.line c.args.start c.args.name.now standing.Nothing c.args.told _ _ c.requires.inside c.in-Nothing.is (λ o m h. ap (λ (s : Standing). part_by c.args.names.now s m c.args.name.now) h) c.put_nothing-in-Nothing.ensures.code c.put_nothing-in-Nothing.ensures.tells
 
 pub returns-in-Some : goal.returns-in-Some
-returns-in-Some c = arm_named_call c.args.names.now c.args.out.now.marks c.args.line c.args.start c.in-Condition.field-0 c.in-Some.call c.args.name.now c.args.told _ _ c.requires.inside c.in-Condition.is (called_by c.args.name.now c.named.result (Some c.in-Some.call) c.named.ensures c.in-Some.is) (c.standing_as.ensures ∙ ap (λ (x : Meaning). let w : Meaning = record x { standing = standing.CallOf c.in-Some.call } in w) c.value-value.ensures)
+returns-in-Some c = arm_named_call c.args.names.now c.args.out.now.marks c.args.line c.args.start c.in-Condition.field-0 c.in-Some.call c.args.name.now c.args.told _ _ c.requires.inside c.in-Condition.is (called_by c.args.name.now c.named.result (Some c.in-Some.call) c.named.ensures c.in-Some.is) (c.standing_as.ensures ∙ ap (λ (x : ExprMeaning). let w : ExprMeaning = record x { standing = standing.CallOf c.in-Some.call } in w) c.value-value.ensures)
 
 pub returns-in-None : goal.returns-in-None
 returns-in-None c = no_part c.put_nothing-in-None.result c.args.names.now c.args.out.now.marks c.args.line c.args.start c.args.name.now (standing.Condition c.in-Condition.field-0) c.args.told _ _ c.requires.inside c.in-Condition.is (λ o m h. ap (λ (s : Standing). part_by c.args.names.now s m c.args.name.now) h ∙ ap (call_of_condition m) (sym (called_by c.args.name.now c.named.result None c.named.ensures c.in-None.is))) c.put_nothing-in-None.ensures.code c.put_nothing-in-None.ensures.tells

@@ -1,7 +1,7 @@
 use Rattle.std.proofs.Common.{rules, ℕ, Bool, Option, ap, sym, arith, ◌∙◌}
 use Rattle.uc_tree.specs.Objects.{class_at}
 use Rattle.uc_resolve.specs.Resolve.{Of, member_meant}
-use Rattle.uc_lower_expr.specs.declared.meaning.Meaning.{Meaning}
+use Rattle.uc_lower_expr.specs.declared.meaning.ExprMeaning.{ExprMeaning}
 use Rattle.uc_lower_expr.specs.declared.meaning.Standing.{Standing as Told}
 use Rattle.uc_lower_expr.specs.Meanings.{member_standing, mutex_number_in}
 use Rattle.uc_lower_expr.proofs.MembersLemmas.{none_is, arm_condition, arm_field, arm_method}
@@ -19,7 +19,7 @@ returns-in-Some-member c =
     let p = c.args.names.now in
     arm_method c.args.out.now.marks c.args.line p c.args.class c.args.start c.in-Some-member.routine c.args.name.now c.args.told _ _ _ c.requires.inside c.in-None.ensures (sym c.member.ensures ∙ c.in-Some-member.is) c.result.ensures (
     c.standing_as-in-Some-member.ensures
-    ∙ ap (λ (x : Told). let w : Meaning = record c.result.result { standing = x } in w) (
+    ∙ ap (λ (x : Told). let w : ExprMeaning = record c.result.result { standing = x } in w) (
     c.member_of-standing.ensures
     ∙ ap (λ (m : Option ℕ). member_standing m c.is_coroutine.result c.in-Some-member.routine) c.mutex_number-mutex.ensures
     ∙ ap (λ (b : Bool). member_standing (mutex_number_in (class_at p c.args.class) c.args.name.now) b c.in-Some-member.routine) c.is_coroutine.ensures))

@@ -1,7 +1,7 @@
 use Rattle.std.proofs.Common.{◌≡◌, ◌<◌, ◌^◌, None, Some, true, false, refl, sym, ap, subst, ◌∙◌, to_z, of_z, w64, rules}
 use Rattle.uc_code.specs.Layout.{laid_of, chain}
 use Rattle.uc_frames.specs.UnwindingOutcomes.{event_by}
-use Rattle.uc_frames.specs.Machine.{Active}
+use Rattle.uc_frames.specs.Machine.{Activation}
 use Rattle.uc_frames.specs.Searches.{catcher_in}
 use Rattle.uc_frames.specs.UnwindingStands.{Unwinds}
 use Rattle.uc_coroutine.specs.UnwindingSteps.{IsOwn, UnwoundTo}
@@ -50,7 +50,7 @@ returns-in_ok-handle-in-Some-clause-source c =
     λ source s low h.
     let u = subst (λ b. UnwoundTo source (laid_of code) b c.row_in.result n s) c.if-unwind.false (c.unwind.ensures.source source s h own) in
     let k = subst (λ r. UnwoundTo source (laid_of code) false r n s) some u in
-    let r : s.run.raised ≡ m.run.raised = sym (ap (λ (a : Active). a.raised) h.run.is) in
+    let r : s.run.raised ≡ m.run.raised = sym (ap (λ (a : Activation). a.raised) h.run.is) in
     let g = c.in_ok-handle-in-Some.ensures.caught source s c.level-frame.result row (subst (λ x. Unwinds (laid_of code) x s) (sym same) h) (reason_as source (laid_of code) s.run.raised e.number e.x e.y (to_z w64 (of_z w64 e.x)) (to_z w64 (of_z w64 e.y)) (r ∙ why) x y) refl k in
     (g.after, g.by, g.stands)
 

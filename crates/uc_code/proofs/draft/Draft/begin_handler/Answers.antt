@@ -1,6 +1,6 @@
 use Rattle.std.proofs.Common.{◌≡◌, List, length, reverse, ap, sym, subst, refl, arith, rules}
 use Rattle.uc_code.specs.declared.rows.Handler.{Handler}
-use Rattle.uc_code.specs.declared.rows.Mark.{Mark}
+use Rattle.uc_code.specs.declared.rows.CodeMark.{CodeMark}
 use Rattle.uc_code.specs.Drafts.{Draft}
 use Rattle.uc_code.specs.Layout.{laid_in, handlers}
 use Rattle.uc_code.specs.CodeShapes.{IsBare}
@@ -9,14 +9,14 @@ use Rattle.uc_code.proofs.draft.Draft.begin_handler.Goals as goal
 
 pub overflow_cast-handler : goal.overflow_cast-handler
 overflow_cast-handler c =
-    let ms : List Mark = reverse c.self.inside.marks.items in
+    let ms : List CodeMark = reverse c.self.inside.marks.items in
     let num : c.len.result ≡ length c.self.inside.rows.items = search rules in
     let b : c.rows_below.result ≡ length (handlers ms) = rows_are c.rows_below.result c.len.result (length c.self.inside.ops.items) c.self.inside.settled c.deref.result.now c.self.inside.marks.items c.self.inside.rows.items c.rows_below.ensures c.deref.ensures.value num c.self.invariant.1 in
     rw b (rows_fit (length c.self.inside.ops.items) c.self.inside.settled c.self.inside.rows.items ms c.self.invariant.1)
 
 pub invariant_of-self : goal.invariant_of-self
 invariant_of-self c =
-    let ms : List Mark = reverse c.self.inside.marks.items in
+    let ms : List CodeMark = reverse c.self.inside.marks.items in
     let num : c.len.result ≡ length c.self.inside.rows.items = search rules in
     let b : c.rows_below.result ≡ length (handlers ms) = rows_are c.rows_below.result c.len.result (length c.self.inside.ops.items) c.self.inside.settled c.deref.result.now c.self.inside.marks.items c.self.inside.rows.items c.rows_below.ensures c.deref.ensures.value num c.self.invariant.1 in
     let len : c.len-2.result ≡ length c.self.inside.ops.items = search rules in
@@ -26,7 +26,7 @@ invariant_of-self c =
 
 pub returns-clause-begun : goal.returns-clause-begun
 returns-clause-begun c =
-    let ms : List Mark = reverse c.self.inside.marks.items in
+    let ms : List CodeMark = reverse c.self.inside.marks.items in
     let num : c.len.result ≡ length c.self.inside.rows.items = search rules in
     let b : c.rows_below.result ≡ length (handlers ms) = rows_are c.rows_below.result c.len.result (length c.self.inside.ops.items) c.self.inside.settled c.deref.result.now c.self.inside.marks.items c.self.inside.rows.items c.rows_below.ensures c.deref.ensures.value num c.self.invariant.1 in
     let len : c.len-2.result ≡ length c.self.inside.ops.items = search rules in
@@ -34,7 +34,7 @@ returns-clause-begun c =
 
 pub returns-clause-handler : goal.returns-clause-handler
 returns-clause-handler c =
-    let ms : List Mark = reverse c.self.inside.marks.items in
+    let ms : List CodeMark = reverse c.self.inside.marks.items in
     let num : c.len.result ≡ length c.self.inside.rows.items = search rules in
     let b : c.rows_below.result ≡ length (handlers ms) = rows_are c.rows_below.result c.len.result (length c.self.inside.ops.items) c.self.inside.settled c.deref.result.now c.self.inside.marks.items c.self.inside.rows.items c.rows_below.ensures c.deref.ensures.value num c.self.invariant.1 in
     let len : c.len-2.result ≡ length c.self.inside.ops.items = search rules in
@@ -46,7 +46,7 @@ returns-clause-handler c =
 
 pub returns-clause-kept : goal.returns-clause-kept
 returns-clause-kept c =
-    let ms : List Mark = reverse c.self.inside.marks.items in
+    let ms : List CodeMark = reverse c.self.inside.marks.items in
     let num : c.len.result ≡ length c.self.inside.rows.items = search rules in
     let b : c.rows_below.result ≡ length (handlers ms) = rows_are c.rows_below.result c.len.result (length c.self.inside.ops.items) c.self.inside.settled c.deref.result.now c.self.inside.marks.items c.self.inside.rows.items c.rows_below.ensures c.deref.ensures.value num c.self.invariant.1 in
     let len : c.len-2.result ≡ length c.self.inside.ops.items = search rules in

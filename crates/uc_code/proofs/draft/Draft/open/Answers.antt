@@ -1,6 +1,6 @@
 use Rattle.std.proofs.Common.{◌≡◌, ◌∙◌, ◌<◌, ◌++◌, [], ◌∷◌, List, length, reverse, ap, sym, subst, refl, rules}
 use Rattle.uc_code.specs.declared.rows.HandlerRow.{HandlerRow}
-use Rattle.uc_code.specs.declared.rows.Mark.{Mark}
+use Rattle.uc_code.specs.declared.rows.CodeMark.{CodeMark}
 use Rattle.uc_code.specs.declared.rows.TheConstants.{OPEN_END}
 use Rattle.uc_code.specs.Drafts.{Draft}
 use Rattle.uc_code.specs.Layout.{handlers, under}
@@ -17,7 +17,7 @@ name_of-outer-requires c =
 
 pub invariant_of-self-2 : goal.invariant_of-self-2
 invariant_of-self-2 c =
-    let ms : List Mark = reverse c.self.inside.marks.items in
+    let ms : List CodeMark = reverse c.self.inside.marks.items in
     let l : length c.self.inside.rows.items < OPEN_END = search rules in
     let len : c.len.result ≡ length c.self.inside.ops.items = search rules in
     let len2 : c.len-2.result ≡ length c.self.inside.ops.items = search rules in
@@ -33,7 +33,7 @@ invariant_of-self-2 c =
 
 pub returns-clause-ok : goal.returns-clause-ok
 returns-clause-ok c =
-    let ms : List Mark = reverse c.self.inside.marks.items in
+    let ms : List CodeMark = reverse c.self.inside.marks.items in
     let len : c.len.result ≡ length c.self.inside.ops.items = search rules in
     let len2 : c.len-2.result ≡ length c.self.inside.ops.items = search rules in
     let num : c.len-number.result ≡ length c.self.inside.rows.items = search rules in
@@ -47,6 +47,6 @@ returns-clause-ok c =
 
 pub returns-clause-kept : goal.returns-clause-kept
 returns-clause-kept c =
-    let ms : List Mark = reverse c.self.inside.marks.items in
+    let ms : List CodeMark = reverse c.self.inside.marks.items in
     let len : c.len.result ≡ length c.self.inside.ops.items = search rules in
     rw (← c.self.view_is, c.in_default.ensures.items) (kept_open c.self.inside.ops.items c.self.inside.rows.items _ len)

@@ -1,7 +1,7 @@
 use Rattle.std.proofs.Common.{◌≡◌, ◌≢◌, ℕ, ◌<◌, ◌-◌, List, ap, sym, ◌∙◌, subst, arith, slice_set, length, refl, []}
 use Rattle.std.specs.List.{AllByRecursion}
 use Rattle.std.proofs.lemmas.List.{get_or_default}
-use Rattle.uc_condition.specs.declared.buckets.Row.{Row}
+use Rattle.uc_condition.specs.declared.buckets.WaitRow.{WaitRow}
 use Rattle.uc_condition.specs.declared.buckets.Bucket.{Bucket}
 use Rattle.uc_condition.specs.Waiting.{Waiting, place, put, first_task, rest_of, queue_at}
 use Rattle.uc_condition.specs.Buckets.{bucket_at, all_waits, tasks_in, unlinked, unlinked_bucket, IsFound}
@@ -72,7 +72,7 @@ returns-in-Some-clause-queues c =
       tasks = ap (λ (v : Waiting). v.tasks) c.self.view_is;
       objects = ap (λ (v : Waiting). v.objects) c.self.view_is;
       queue = λ p d.
-          ap (λ (r : List Row). queue_in (all_waits r (slice_set bs c.place-at.result c.unlink-shorter.result)) p d) c.unlink-shorter.ensures.rows
+          ap (λ (r : List WaitRow). queue_in (all_waits r (slice_set bs c.place-at.result c.unlink-shorter.result)) p d) c.unlink-shorter.ensures.rows
           ∙ ap (λ (l : List Bucket). queue_in (all_waits (unlinked rows f) l) p d) buckets_are
           ∙ take_queues rows bs s.counts.items c.self.invariant o k f h p d
           ∙ ap (λ (v : Waiting). put o k (rest_of (queue_at v o k)) (queue_at v) p d) c.self.view_is;
@@ -85,7 +85,7 @@ returns-in-Some-clause-free c =
     let h = subst (λ (b : Bucket). IsFound rows b o k f) b_is c.in-Some.ensures.some in
     let buckets_are = ap (λ (i : ℕ). slice_set bs i c.unlink-shorter.result) c.place-at.ensures ∙ ap (slice_set bs (place o k)) (c.unlink-shorter.ensures.bucket ∙ ap (λ (b : Bucket). unlinked_bucket rows b f) b_is) in
     λ p d.
-    subst (λ (r : List Row). AllByRecursion (λ w. w.0 ≢ f.task) (queue_in (all_waits r (slice_set bs c.place-at.result c.unlink-shorter.result)) p d)) (sym c.unlink-shorter.ensures.rows)
+    subst (λ (r : List WaitRow). AllByRecursion (λ w. w.0 ≢ f.task) (queue_in (all_waits r (slice_set bs c.place-at.result c.unlink-shorter.result)) p d)) (sym c.unlink-shorter.ensures.rows)
     (subst (λ (l : List Bucket). AllByRecursion (λ w. w.0 ≢ f.task) (queue_in (all_waits (unlinked rows f) l) p d)) (sym buckets_are) (take_free rows bs s.counts.items c.self.invariant o k f h p d))
 
 pub returns-in-None-clause-value : goal.returns-in-None-clause-value

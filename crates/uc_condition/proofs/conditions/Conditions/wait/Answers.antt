@@ -1,7 +1,7 @@
 use Rattle.std.proofs.Common.{◌≡◌, ◌≢◌, ℕ, ℤ, ◌<◌, ◌+◌, ◌++◌, ◌∷◌, [], List, ap, sym, ◌∙◌, subst, arith, rules, length, slice_set, to_z, of_z, w64}
 use Rattle.std.specs.List.{AllByRecursion}
 use Rattle.std.proofs.lemmas.List.{get_or_default}
-use Rattle.uc_condition.specs.declared.buckets.Row.{Row}
+use Rattle.uc_condition.specs.declared.buckets.WaitRow.{WaitRow}
 use Rattle.uc_condition.specs.declared.buckets.Bucket.{Bucket}
 use Rattle.uc_condition.specs.Waiting.{Waiting, place, put, queue_at}
 use Rattle.uc_condition.specs.Buckets.{bucket_at, all_waits, linked, linked_bucket}
@@ -66,7 +66,7 @@ invariant_of-self c =
     let free = subst (λ (v : Waiting). (a d : ℕ) → AllByRecursion (λ w. w.0 ≢ t) (queue_at v a d)) (sym c.self.view_is) c.requires.free in
     let b_is = c.bucket_at-bucket.ensures ∙ ap (bucket_at bs) c.place-at.ensures in
     let h = c.self.invariant.has_counts in
-    let row : Row = record { object = o; cond = k; n = c.args.n; next = 0 } in
+    let row : WaitRow = record { object = o; cond = k; n = c.args.n; next = 0 } in
     let n_is : to_z w64 (of_z w64 c.args.n) ≡ c.args.n = search rules in
     let is = c.index_mut-2.ensures.value ∙ get_or_default s.counts.items o c.index_mut-2.result.now 0 (omega (arith, known, h)) in
     same_table
@@ -82,7 +82,7 @@ returns c =
     let known : o < s.objects = subst (λ (v : Waiting). o < v.objects) (sym c.self.view_is) c.requires.object in
     let free = subst (λ (v : Waiting). (a d : ℕ) → AllByRecursion (λ w. w.0 ≢ t) (queue_at v a d)) (sym c.self.view_is) c.requires.free in
     let b_is = c.bucket_at-bucket.ensures ∙ ap (bucket_at bs) c.place-at.ensures in
-    let row : Row = record { object = o; cond = k; n = n; next = 0 } in
+    let row : WaitRow = record { object = o; cond = k; n = n; next = 0 } in
     let n_is : to_z w64 (of_z w64 n) ≡ n = search rules in
     let rows_are = c.link-longer.ensures.rows ∙ ap (λ (z : ℤ). linked rows c.bucket_at-bucket.result t (record { object = o; cond = k; n = z; next = 0 })) n_is ∙ ap (λ (b : Bucket). linked rows b t row) b_is in
     let buckets_are = ap (λ (i : ℕ). slice_set bs i c.link-longer.result) c.place-at.ensures ∙ ap (slice_set bs (place o k)) (c.link-longer.ensures.bucket ∙ ap (λ (b : Bucket). linked_bucket b t) b_is) in
@@ -90,7 +90,7 @@ returns c =
       tasks = ap (λ (v : Waiting). v.tasks) c.self.view_is;
       objects = ap (λ (v : Waiting). v.objects) c.self.view_is;
       queue = λ p d.
-          ap (λ (r : List Row). queue_in (all_waits r (slice_set bs c.place-at.result c.link-longer.result)) p d) rows_are
+          ap (λ (r : List WaitRow). queue_in (all_waits r (slice_set bs c.place-at.result c.link-longer.result)) p d) rows_are
           ∙ ap (λ (l : List Bucket). queue_in (all_waits (linked rows (bucket_at bs (place o k)) t row) l) p d) buckets_are
           ∙ link_queues rows bs s.counts.items c.self.invariant o k t n lt known free p d
           ∙ ap (λ (v : Waiting). put o k (queue_at v o k ++ (t, n) ∷ []) (queue_at v) p d) c.self.view_is;
