@@ -133,7 +133,7 @@ written_append lines (e ∷ a) b = ap (λ l. lined lines e ∷ l) (written_appen
 
 pub written_length : (lines : Bool) (a : List Entry) → length (written lines a) ≡ length a
 written_length lines [] = refl
-written_length lines (e ∷ a) = ap (λ n. 1 + n) (written_length lines a)
+written_length lines (e ∷ a) = ap suc (written_length lines a)
 
 pub written_over : (lines : Bool) (a : List Entry) → is_over (written lines a) ≡ is_over a
 unfolding is_over

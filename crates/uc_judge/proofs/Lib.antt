@@ -13,3 +13,4 @@ pub mod Settling
 pub mod Housing
 pub mod Below
 pub mod Stacking
+pub mod Walking

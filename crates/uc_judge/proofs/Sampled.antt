@@ -47,13 +47,13 @@ module _ (lines : Bool) where
       let m : Runs (script lines) options (j ++ act_of (script lines) options j 0 0 s.ticks s.asked) (told_of unmoved [] x (act_of (script lines) options j 0 0 s.ticks s.asked)) = more r o (acts 0 0 s.ticks s.asked x h d) in
       subst (λ y. Runs (script lines) options (j ++ a) y) t (subst (λ b. Runs (script lines) options (j ++ b) (told_of unmoved [] x b)) e m)
 
-three : Entry
+abbrev three : Entry
 three = asking kind.Print 0 0 (cost 0 1) 0 (pos 0) (pos 3)
 
-line_end : Entry
+abbrev line_end : Entry
 line_end = asking kind.Print 0 0 (cost 0 1) 0 (pos 1) (pos 10)
 
-last : Entry
+abbrev last : Entry
 last = asking kind.End 0 0 (cost 0 1) 0 (pos 0) (pos 0)
 
 dispatched : (lines : Bool) → Runs (script lines) options (begin options ∷ dispatch 0 0 ∷ []) (asks_print 0 (pos 3) ∷ asks_print 1 (pos 10) ∷ asks_end ∷ [])

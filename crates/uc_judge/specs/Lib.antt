@@ -15,3 +15,4 @@ pub mod ClauseStacks
 pub mod ProcessorRows
 pub mod Actors
 pub mod Ledgers
+pub mod Compared
