@@ -14,3 +14,4 @@ pub mod Housing
 pub mod Below
 pub mod Stacking
 pub mod Walking
+pub mod Fitted

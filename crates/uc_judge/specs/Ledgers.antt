@@ -4,6 +4,7 @@ use Rattle.uc_tree.specs.Programs.{Site}
 use Rattle.uc_entry.specs.declared.entry.Entry.{Entry}
 use Rattle.uc_entry.specs.declared.entry.EntryKind.{EntryKind}
 use Rattle.uc_entry.specs.declared.entry.EntryKind.TheVariants as kind
+use Rattle.uc_entry.specs.declared.request.Asked.{Asked}
 use Rattle.uc_entry.specs.declared.request.Request.{Request}
 use Rattle.uc_entry.specs.declared.entry.Options.{Options}
 use Rattle.uc_entry.specs.Faults.{fault_number}
@@ -67,3 +68,7 @@ is_safe _ = true
 abbrev pub caller_taken : ℕ → ℕ → ℕ → ℕ → List Entry
 caller_taken p o zero u = push p u o ∷ []
 caller_taken p o (suc m) u = admit p u o 1 0 ∷ []
+
+-- what a task asks in its line
+abbrev pub asked_of : Actor → Request → Asked
+asked_of a r = record { request = r; line = a.line }

@@ -4,7 +4,7 @@ ghost use Rattle.std.specs.Prelude.{◌≡◌, ◌≤◌, ℕ, pos};
 ghost use Rattle.uc_tree.specs.declared.limits.TheConstants.{TICKS_MAX};
 ghost use Rattle.uc_entry.specs.declared.entry.EntryKind.TheVariants as variant;
 ghost use Rattle.uc_acts.specs.Fit.{IsFit, types_of};
-ghost use Rattle.uc_acts.specs.Journal.{cost, entry, asking, begin};
+ghost use Rattle.uc_acts.specs.Journal.{entry, asking, begin};
 ghost use Rattle.uc_acts.specs.Pending.{signed_64};
 ghost use Rattle.uc_acts.specs.Acts.{truth, accept_entry, admit_failed, push, fault, raise_entry, poll_entry, read_entry, dispatch};
 ghost use Rattle.uc_judge.specs.Actors.{cost_of, IsRead};
@@ -59,6 +59,13 @@ impl Actor {
         ensures fit { IsFit result }
     {
         self.entry(kind, 0, 0, 0)
+    }
+
+    /// An ending.
+    pub(crate) fn ending(self, kind: EntryKind) -> Entry
+        ensures { result ≡ entry kind self.processor self.task 0 0 (pos 0) (pos 0) }
+    {
+        self.freed().entry(kind, 0, 0, 0)
     }
 
     /// An entry that names an object alone.

@@ -1,11 +1,12 @@
 // All that a judge keeps of the journal that it makes.
 
-ghost use Rattle.std.specs.Prelude.{◌≡◌, ◌<◌, ◌^◌, ◌∷◌, [], List, IfOk, OnOk, length, not};
+ghost use Rattle.std.specs.Prelude.{◌≡◌, ◌<◌, ◌^◌, ◌∷◌, [], List, true, IfOk, IfSome, OnOk, length, not};
 ghost use Rattle.uc_tree.specs.Programs.{Site};
 ghost use Rattle.uc_acts.specs.Fit.{IsFit};
 ghost use Rattle.uc_acts.specs.Doors.{destroys_busy};
 ghost use Rattle.uc_acts.specs.Queues.{is_in_use};
 ghost use Rattle.uc_acts.specs.Acts.{verdict};
+ghost use Rattle.uc_acts.specs.Journal.{is_ending};
 ghost use Rattle.uc_judge.specs.Ledgers.{IsLedger, Adds, Settles};
 
 use crate::accepts::Accepts;
@@ -108,7 +109,8 @@ impl Ledger {
     /// How the run ends behind what stands, if it does.
     pub(crate) fn ending(&self) -> Option<EntryKind>
         requires { length self.now.entries.items < 2 ^ 32 }
-        ensures { (sites : List Site) → IsLedger self.now sites → result ≡ verdict self.now.opts self.now.entries.items }
+        ensures verdict { (sites : List Site) → IsLedger self.now sites → result ≡ verdict self.now.opts self.now.entries.items }
+        ensures kind { IfSome result (λ kind. is_ending kind ≡ true) }
     {
         if self.counts.first_ended {
             return Some(EntryKind::Done);

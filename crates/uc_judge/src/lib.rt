@@ -2,6 +2,7 @@
 #![tactic(auto)]
 
 pub mod accepts;
+mod acting;
 mod actor;
 pub mod asks;
 pub mod busy;

@@ -1,0 +1,62 @@
+-- An act as it fits.
+use Rattle.std.proofs.Common.{◌≡◌, ℕ, ◌+◌, ◌<◌, ◌≤◌, Bool, true, false, cond, List, [], ◌∷◌, ◌++◌, Option, Some, None, refl, sym, ap, ◌∙◌, arith, length, take, drop, append_assoc, append-nil, length-append}
+use Rattle.std.specs.Prelude.{pos, nat_le}
+use Rattle.std.specs.List.{list_any}
+use Rattle.std.proofs.lemmas.Bool.{leb-true, leb-false}
+use Rattle.std.proofs.lemmas.List.{take-append-drop}
+use Rattle.uc_entry.specs.declared.entry.Entry.{Entry}
+use Rattle.uc_entry.specs.declared.entry.EntryKind.{EntryKind}
+use Rattle.uc_entry.specs.declared.entry.EntryKind.TheVariants as kind
+use Rattle.uc_entry.specs.declared.entry.Options.{Options}
+use Rattle.uc_acts.specs.Journal.{Journal, entry, is_over}
+use Rattle.uc_acts.specs.Acts.{fitted, closing, ending, is_faulty, verdict}
+
+no_both : (b : Bool) → b ≡ true → b ≡ false → ⊥
+no_both b t f = cc
+
+pub take_of : (j a : List Entry) (n : ℕ) → n ≡ length j → take n (j ++ a) ≡ j
+take_of [] a n h = ap (λ k. take k a) h
+take_of (e ∷ j) a n h = ap (λ k. take k (e ∷ (j ++ a))) h ∙ ap (λ l. e ∷ l) (take_of j a (length j) refl)
+
+pub drop_of : (j a : List Entry) (n : ℕ) → n ≡ length j → drop n (j ++ a) ≡ a
+drop_of [] a n h = ap (λ k. drop k a) h
+drop_of (e ∷ j) a n h = ap (λ k. drop k (e ∷ (j ++ a))) h ∙ drop_of j a (length j) refl
+
+module _ (opts : Options) (j : Journal) (p t : ℕ) (a : List Entry) where
+  -- one entry more fits
+  pub fits : length j + length a < opts.entries → fitted opts j p t a ≡ a
+  fits lt = by (nat_le (length j + length a + 1) opts.entries) refl
+    where
+      by : (b : Bool) → nat_le (length j + length a + 1) opts.entries ≡ b → cond b a (entry kind.Limit p t 0 0 (pos 0) (pos 0) ∷ []) ≡ a
+      by true h = refl
+      by false h = let g = leb-false (length j + length a + 1) opts.entries h in absurd (omega (arith, g, lt))
+
+  pub fits_not : opts.entries ≤ length j + length a → fitted opts j p t a ≡ entry kind.Limit p t 0 0 (pos 0) (pos 0) ∷ []
+  fits_not le = by (nat_le (length j + length a + 1) opts.entries) refl
+    where
+      by : (b : Bool) → nat_le (length j + length a + 1) opts.entries ≡ b → cond b a (entry kind.Limit p t 0 0 (pos 0) (pos 0) ∷ []) ≡ entry kind.Limit p t 0 0 (pos 0) (pos 0) ∷ []
+      by false h = refl
+      by true h = let g = leb-true (length j + length a + 1) opts.entries h in absurd (omega (arith, g, le))
+
+-- too many entries already, whatever ending follows
+pub act_full : (opts : Options) (j : Journal) (p t : ℕ) (a e : List Entry) (all new : List Entry) → all ≡ j ++ a → nat_le opts.entries (length all) ≡ true → new ≡ j ++ entry kind.Limit p t 0 0 (pos 0) (pos 0) ∷ [] → new ≡ j ++ fitted opts j p t (a ++ e)
+act_full opts j p t a e all new h full g =
+    let n = leb-true opts.entries (length all) full in
+    let l = ap length h in
+    let m = length-append j a in
+    let o = length-append a e in
+    g ∙ ap (λ l. j ++ l) (sym (fits_not opts j p t (a ++ e) (omega (arith, n, l, m, o))))
+
+-- a fault is the ending
+pub act_faulty : (opts : Options) (j : Journal) (p t : ℕ) (a : List Entry) (all : List Entry) → all ≡ j ++ a → nat_le opts.entries (length all) ≡ false → is_faulty a ≡ true → all ≡ j ++ fitted opts j p t (a ++ ending opts j p t a)
+act_faulty opts j p t a all h full f =
+    let n = leb-false opts.entries (length all) full in
+    let l = ap length h in
+    let m = length-append j a in
+    let same : a ++ ending opts j p t a ≡ a = ap (λ b. a ++ cond b [] (closing p t (verdict opts (j ++ a)))) f ∙ append-nil a in
+    h ∙ ap (λ l. j ++ l) (sym (ap (fitted opts j p t) same ∙ fits opts j p t a (omega (arith, n, l, m))))
+
+-- any other entries are closed
+pub act_closed : (opts : Options) (j : Journal) (p t : ℕ) (a : List Entry) (all new : List Entry) → all ≡ j ++ a → is_faulty a ≡ false → new ≡ j ++ fitted opts j p t (a ++ closing p t (verdict opts all)) → new ≡ j ++ fitted opts j p t (a ++ ending opts j p t a)
+act_closed opts j p t a all new h f g =
+    g ∙ ap (λ l. j ++ fitted opts j p t (a ++ closing p t (verdict opts l))) h ∙ ap (λ b. j ++ fitted opts j p t (a ++ cond b [] (closing p t (verdict opts (j ++ a))))) (sym f)
