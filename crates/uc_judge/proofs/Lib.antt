@@ -15,3 +15,5 @@ pub mod Below
 pub mod Stacking
 pub mod Walking
 pub mod Fitted
+pub mod Comparing
+pub mod Printing

@@ -16,3 +16,4 @@ pub mod ProcessorRows
 pub mod Actors
 pub mod Ledgers
 pub mod Compared
+pub mod Narrow

@@ -9,7 +9,7 @@ ghost use Rattle.uc_acts.specs.Fit.{IsFit};
 ghost use Rattle.uc_acts.specs.Answers.{first_of};
 ghost use Rattle.uc_acts.specs.Queues.{is_nobody};
 ghost use Rattle.uc_acts.specs.Doors.{site_at, blocked};
-ghost use Rattle.uc_acts.specs.Reading.{next_read, bytes_used};
+ghost use Rattle.uc_acts.specs.Reading.{next_read};
 ghost use Rattle.uc_acts.specs.Acts.{fault as fault_entry, admission, clause_by_way, failed_by_way, left_by, met_by, called};
 ghost use Rattle.uc_entry.specs.Faults.{fault_number};
 ghost use Rattle.uc_judge.specs.Actors.{cost_of};
@@ -441,11 +441,11 @@ impl Ledger {
 
     // What the next read takes.
     fn next_read(&self, input: &[u8], form: u8) -> Got
-        requires few { length self.now.entries.items < 2 ^ 32 }
         requires short { length input.now ≤ INPUT_BYTES }
-        ensures got { (sites : List Site) → IsLedger self.now sites → result ≡ next_read form input.now self.now.entries.items }
-        ensures within { (sites : List Site) → IsLedger self.now sites → bytes_used self.now.entries.items + result.taken ≤ 9223372036854775807 }
+        ensures got { (sites : List Site) → IsLedger self.now sites → length self.now.entries.items < 2 ^ 32 → result ≡ next_read form input.now self.now.entries.items }
+        ensures within { (n : ℕ) → self.now.counts.bytes_read ≡ pos n → n + result.taken ≤ 9223372036854775807 }
     {
+        let used = self.counts.bytes_read;
         if self.counts.has_failed {
             return Got {
                 value: 0,
@@ -453,7 +453,7 @@ impl Ledger {
                 taken: 0,
             };
         }
-        read_form(form, rest_behind(input, self.counts.bytes_read))
+        read_form(form, rest_behind(input, used))
     }
 
     fn cluster(&mut self, sites: &[Site], actor: Actor) -> Result<(), AllocError>
@@ -537,7 +537,10 @@ fn has_else(sites: &[Site], site: u32) -> bool
 
 // The input behind so many bytes.
 fn rest_behind(input: &[u8], used: i64) -> &[u8]
-    ensures { (n : ℕ) → used ≡ pos n → result.now ≡ drop n input.now }
+    requires { length input.now ≤ INPUT_BYTES }
+    ensures rest { (n : ℕ) → used ≡ pos n → result.now ≡ drop n input.now }
+    ensures short { length result.now ≤ INPUT_BYTES }
+    ensures within { (n : ℕ) → used ≡ pos n → n + length result.now ≤ 9223372036854775807 }
 {
     if used < 0 || used as usize >= input.len() {
         return &[];
