@@ -1,14 +1,14 @@
 -- An act as it fits.
-use Rattle.std.proofs.Common.{◌≡◌, ℕ, ◌+◌, ◌<◌, ◌≤◌, Bool, true, false, cond, List, [], ◌∷◌, ◌++◌, Option, Some, None, refl, sym, ap, ◌∙◌, arith, length, take, drop, append_assoc, append-nil, length-append}
+use Rattle.std.proofs.Common.{◌≡◌, ℕ, zero, suc, ◌+◌, ◌<◌, ◌≤◌, ◌||◌, Bool, true, false, cond, List, [], ◌∷◌, ◌++◌, Option, Some, None, refl, sym, ap, ◌∙◌, arith, length, take, drop, append_assoc, append-nil, length-append}
 use Rattle.std.specs.Prelude.{pos, nat_le}
-use Rattle.std.specs.List.{list_any}
 use Rattle.std.proofs.lemmas.Bool.{leb-true, leb-false}
 use Rattle.std.proofs.lemmas.List.{take-append-drop}
 use Rattle.uc_entry.specs.declared.entry.Entry.{Entry}
 use Rattle.uc_entry.specs.declared.entry.EntryKind.{EntryKind}
 use Rattle.uc_entry.specs.declared.entry.EntryKind.TheVariants as kind
 use Rattle.uc_entry.specs.declared.entry.Options.{Options}
-use Rattle.uc_acts.specs.Journal.{Journal, entry, is_over}
+use Rattle.uc_acts.specs.Journal.{Journal, entry, is_over, is_ending}
+use Rattle.uc_acts.proofs.Bounds.{over_push}
 use Rattle.uc_acts.specs.Acts.{fitted, closing, ending, is_faulty, verdict}
 
 no_both : (b : Bool) → b ≡ true → b ≡ false → ⊥
@@ -21,6 +21,11 @@ take_of (e ∷ j) a n h = ap (λ k. take k (e ∷ (j ++ a))) h ∙ ap (λ l. e �
 pub drop_of : (j a : List Entry) (n : ℕ) → n ≡ length j → drop n (j ++ a) ≡ a
 drop_of [] a n h = ap (λ k. drop k a) h
 drop_of (e ∷ j) a n h = ap (λ k. drop k (e ∷ (j ++ a))) h ∙ drop_of j a (length j) refl
+
+pub take_within : (m : ℕ) (a rest : List Entry) → m ≤ length a → take m (a ++ rest) ≡ take m a
+take_within zero a rest le = refl
+take_within (suc m) [] rest le = absurd (omega (arith, le))
+take_within (suc m) (e ∷ a) rest le = ap (λ l. e ∷ l) (take_within m a rest (omega (arith, le)))
 
 module _ (opts : Options) (j : Journal) (p t : ℕ) (a : List Entry) where
   -- one entry more fits
@@ -60,3 +65,47 @@ act_faulty opts j p t a all h full f =
 pub act_closed : (opts : Options) (j : Journal) (p t : ℕ) (a : List Entry) (all new : List Entry) → all ≡ j ++ a → is_faulty a ≡ false → new ≡ j ++ fitted opts j p t (a ++ closing p t (verdict opts all)) → new ≡ j ++ fitted opts j p t (a ++ ending opts j p t a)
 act_closed opts j p t a all new h f g =
     g ∙ ap (λ l. j ++ fitted opts j p t (a ++ closing p t (verdict opts l))) h ∙ ap (λ b. j ++ fitted opts j p t (a ++ cond b [] (closing p t (verdict opts (j ++ a))))) (sym f)
+
+-- closing
+
+parts : (from : ℕ) (all : List Entry) → length (take from all) + length (drop from all) ≡ length all
+parts from all =
+    sym (length-append (take from all) (drop from all)) ∙ ap length (take-append-drop from all)
+
+module _ (opts : Options) (from p t : ℕ) (all : List Entry) (v : Option EntryKind) where
+  pub closed_none : v ≡ None → length all < opts.entries → all ≡ take from all ++ fitted opts (take from all) p t (drop from all ++ closing p t v)
+  closed_none h lt =
+      let n = parts from all in
+      sym (take-append-drop from all) ∙ ap (λ l. take from all ++ l) (sym (ap (λ w. fitted opts (take from all) p t (drop from all ++ closing p t w)) h ∙ ap (fitted opts (take from all) p t) (append-nil (drop from all)) ∙ fits opts (take from all) p t (drop from all) (omega (arith, n, lt))))
+
+  module _ (k : EntryKind) (h : v ≡ Some k) (one : List Entry) (g : one ≡ all ++ entry k p t 0 0 (pos 0) (pos 0) ∷ []) where
+    pub closed_some : nat_le opts.entries (length one) ≡ false → one ≡ take from all ++ fitted opts (take from all) p t (drop from all ++ closing p t v)
+    closed_some full =
+        let lt = leb-false opts.entries (length one) full in
+        let n = parts from all in
+        let m = ap length g in
+        let o = length-append all (entry k p t 0 0 (pos 0) (pos 0) ∷ []) in
+        let q = length-append (drop from all) (entry k p t 0 0 (pos 0) (pos 0) ∷ []) in
+        g ∙ ap (λ l. l ++ entry k p t 0 0 (pos 0) (pos 0) ∷ []) (sym (take-append-drop from all)) ∙ append_assoc (take from all) (drop from all) (entry k p t 0 0 (pos 0) (pos 0) ∷ []) ∙ ap (λ l. take from all ++ l) (sym (ap (λ w. fitted opts (take from all) p t (drop from all ++ closing p t w)) h ∙ fits opts (take from all) p t (drop from all ++ entry k p t 0 0 (pos 0) (pos 0) ∷ []) (omega (arith, lt, n, m, o, q))))
+
+    pub closed_limit : (new : List Entry) → from ≤ length all → nat_le opts.entries (length one) ≡ true → new ≡ take from one ++ entry kind.Limit p t 0 0 (pos 0) (pos 0) ∷ [] → new ≡ take from all ++ fitted opts (take from all) p t (drop from all ++ closing p t v)
+    closed_limit new le full f =
+        let lt = leb-true opts.entries (length one) full in
+        let n = parts from all in
+        let m = ap length g in
+        let o = length-append all (entry k p t 0 0 (pos 0) (pos 0) ∷ []) in
+        let q = length-append (drop from all) (entry k p t 0 0 (pos 0) (pos 0) ∷ []) in
+        f ∙ ap (λ l. l ++ entry kind.Limit p t 0 0 (pos 0) (pos 0) ∷ []) (ap (take from) g ∙ take_within from all _ le) ∙ ap (λ l. take from all ++ l) (sym (ap (λ w. fitted opts (take from all) p t (drop from all ++ closing p t w)) h ∙ fits_not opts (take from all) p t (drop from all ++ entry k p t 0 0 (pos 0) (pos 0) ∷ []) (omega (arith, lt, n, m, o, q))))
+
+-- behind an ending the run is over
+pub over_ended : (all one : List Entry) (x : Entry) → one ≡ all ++ x ∷ [] → is_ending x.kind ≡ true → is_over one ≡ false → ⊥
+over_ended all one x h g o =
+    no_both (is_over one) (ap is_over h ∙ over_push all (x ∷ []) ∙ ap (λ b. is_over all || b) (last x g) ∙ or_true (is_over all)) o
+  where
+    last : (x : Entry) → is_ending x.kind ≡ true → is_over (x ∷ []) ≡ true
+    unfolding is_over
+    last x g = ap (λ b. b || false) g
+
+    or_true : (b : Bool) → (b || true) ≡ true
+    or_true true = refl
+    or_true false = refl

@@ -17,3 +17,4 @@ pub mod Walking
 pub mod Fitted
 pub mod Comparing
 pub mod Printing
+pub mod Signals

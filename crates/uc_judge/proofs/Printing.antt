@@ -9,13 +9,9 @@ use Rattle.uc_acts.specs.Journal.{Journal, Cost, no_cost, asking}
 use Rattle.uc_acts.specs.Acts.{prints, settled}
 use Rattle.uc_judge.specs.declared.actor.Actor.{Actor}
 use Rattle.uc_judge.specs.declared.ledger.Ledger.{Ledger}
+use Rattle.uc_judge.specs.Actors.{cost_at}
 use Rattle.uc_judge.specs.Ledgers.{Adds, Settles, busy_fault}
 use Rattle.uc_judge.proofs.Settling.{settled_on}
-
--- what the entry of an item carries
-abbrev pub cost_at : Cost → ℕ → Cost
-cost_at k zero = k
-cost_at k (suc i) = no_cost
 
 free_at : (i : ℕ) → cost_at no_cost i ≡ no_cost
 free_at zero = refl

@@ -1,5 +1,5 @@
 -- All that a judge keeps of the journal that it makes.
-use Rattle.std.specs.Prelude.{◌≡◌, ◌<◌, ◌^◌, ℕ, zero, suc, Bool, true, false, List, [], ◌∷◌, ◌++◌, length}
+use Rattle.std.specs.Prelude.{◌≡◌, ◌<◌, ◌^◌, ℕ, Bool, true, false, List, ◌++◌, length}
 use Rattle.uc_tree.specs.Programs.{Site}
 use Rattle.uc_entry.specs.declared.entry.Entry.{Entry}
 use Rattle.uc_entry.specs.declared.entry.EntryKind.{EntryKind}
@@ -10,7 +10,7 @@ use Rattle.uc_entry.specs.declared.entry.Options.{Options}
 use Rattle.uc_entry.specs.Faults.{fault_number}
 use Rattle.uc_entry.specs.declared.fault.RunFault.TheVariants as run_fault
 use Rattle.uc_acts.specs.Journal.{Journal, no_cost}
-use Rattle.uc_acts.specs.Acts.{fault, settled, row, push, admit}
+use Rattle.uc_acts.specs.Acts.{fault, settled, row}
 use Rattle.uc_explain.specs.Seen.{AreViewsOf}
 use Rattle.uc_judge.specs.declared.actor.Actor.{Actor}
 use Rattle.uc_judge.specs.declared.ledger.Ledger.{Ledger}
@@ -63,11 +63,6 @@ abbrev pub is_safe : EntryKind → Bool
 is_safe kind.Admit = false
 is_safe kind.Gone = false
 is_safe _ = true
-
--- the entry of a caller whom an accept takes
-abbrev pub caller_taken : ℕ → ℕ → ℕ → ℕ → List Entry
-caller_taken p o zero u = push p u o ∷ []
-caller_taken p o (suc m) u = admit p u o 1 0 ∷ []
 
 -- what a task asks in its line
 abbrev pub asked_of : Actor → Request → Asked

@@ -7,7 +7,7 @@ ghost use Rattle.uc_acts.specs.Fit.{IsFit, types_of};
 ghost use Rattle.uc_acts.specs.Journal.{entry, asking, begin};
 ghost use Rattle.uc_acts.specs.Pending.{signed_64};
 ghost use Rattle.uc_acts.specs.Acts.{truth, accept_entry, admit_failed, push, fault, raise_entry, poll_entry, read_entry, dispatch};
-ghost use Rattle.uc_judge.specs.Actors.{cost_of, IsRead};
+ghost use Rattle.uc_judge.specs.Actors.{cost_of, cost_at, IsRead};
 
 use uc_acts::got::Got;
 use uc_entry::entry::{Entry, EntryKind, Options};
@@ -32,6 +32,18 @@ impl Actor {
             ticks: 0,
             line: 0,
         }
+    }
+
+    /// Who prints an item, by its place: only the first entry of an act carries ticks and a line.
+    pub(crate) fn of_item(self, i: usize) -> Actor
+        ensures cost { cost_of result ≡ cost_at (cost_of self) i }
+        ensures processor { result.processor ≡ self.processor }
+        ensures task { result.task ≡ self.task }
+    {
+        if i == 0 {
+            return self;
+        }
+        self.freed()
     }
 
     /// An entry of this kind with two fields.

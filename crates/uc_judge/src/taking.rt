@@ -10,17 +10,17 @@ ghost use Rattle.uc_acts.specs.Answers.{first_of};
 ghost use Rattle.uc_acts.specs.Queues.{is_nobody};
 ghost use Rattle.uc_acts.specs.Doors.{site_at, blocked};
 ghost use Rattle.uc_acts.specs.Reading.{next_read};
-ghost use Rattle.uc_acts.specs.Acts.{fault as fault_entry, admission, clause_by_way, failed_by_way, left_by, met_by, called};
+ghost use Rattle.uc_acts.specs.Acts.{fault as fault_entry, admission, clause_by_way, failed_by_way, left_by, met_by, called, took};
 ghost use Rattle.uc_entry.specs.Faults.{fault_number};
 ghost use Rattle.uc_judge.specs.Actors.{cost_of};
 ghost use Rattle.uc_judge.specs.Asking.{IsWhole};
 ghost use Rattle.uc_judge.specs.Opened.{opened_of};
-ghost use Rattle.uc_judge.specs.Ledgers.{IsLedger, Settles, Takes, is_safe, caller_taken};
+ghost use Rattle.uc_judge.specs.Ledgers.{IsLedger, Settles, Takes, is_safe};
 
 use crate::accepts::OpenAccept;
 use crate::actor::Actor;
 use crate::ledger::Ledger;
-use crate::offers::{clause_for, met};
+use crate::offers::{Taken, clause_for, met};
 use std::alloc::AllocError;
 use uc_acts::got::Got;
 use uc_entry::entry::{Entry, EntryKind};
@@ -93,6 +93,19 @@ impl Ledger {
         ensures { OnOk result (Settles self.old self.new sites.now actor (e ∷ [])) }
     {
         self.add(sites, e)?;
+        Ok(())
+    }
+
+    // Adds an entry that destroys nothing, and one behind it.
+    fn pair(&mut self, sites: &[Site], actor: Actor, e: Entry, f: Entry) -> Result<(), AllocError>
+        requires fit { IsFit e }
+        requires fit_behind { IsFit f }
+        requires ledger { IsLedger self.old sites.now }
+        requires safe { is_safe e.kind ≡ true }
+        ensures { OnOk result (Settles self.old self.new sites.now actor (e ∷ f ∷ [])) }
+    {
+        self.add(sites, e)?;
+        let _going = self.put(sites, actor, f)?;
         Ok(())
     }
 
@@ -275,9 +288,7 @@ impl Ledger {
         let waiting = self.views.waiting(object);
         match met(sites, u64::from(site), u64::from(mask), waiting) {
             Some(taken) => {
-                let how = if taken.member == DESTRUCTOR { 3 } else { 1 };
-                self.add(sites, actor.accept(object, site, mask, has_else, how))?;
-                self.take_caller(sites, actor, object, taken.member, taken.task)?;
+                self.take_caller(sites, actor, object, site, mask, has_else, taken)?;
                 Ok(())
             }
             None => {
@@ -288,23 +299,27 @@ impl Ledger {
         }
     }
 
-    // The caller of a member whom an accept takes: the destructor's is pushed, any other is let in.
+    // An accept takes a caller: the destructor's is pushed, any other is let in.
     fn take_caller(
         &mut self,
         sites: &[Site],
         actor: Actor,
         object: u32,
-        member: u8,
-        caller: u32,
+        site: u32,
+        mask: u32,
+        has_else: bool,
+        taken: Taken,
     ) -> Result<(), AllocError>
         requires ledger { IsLedger self.old sites.now }
-        ensures { OnOk result (Settles self.old self.new sites.now actor (caller_taken actor.processor object member caller)) }
+        ensures { OnOk result (Settles self.old self.new sites.now actor (took actor.processor actor.task (cost_of actor) object site mask has_else taken.member taken.task)) }
     {
-        if member == DESTRUCTOR {
-            self.one(sites, actor, actor.push(caller, object))?;
+        if taken.member == DESTRUCTOR {
+            let e = actor.accept(object, site, mask, has_else, 3);
+            self.pair(sites, actor, e, actor.push(taken.task, object))?;
             return Ok(());
         }
-        let _going = self.put(sites, actor, actor.admit(caller, object, 1, 0, false))?;
+        let e = actor.accept(object, site, mask, has_else, 1);
+        self.pair(sites, actor, e, actor.admit(taken.task, object, 1, 0, false))?;
         Ok(())
     }
 
@@ -347,8 +362,8 @@ impl Ledger {
     {
         match self.first_blocked(object, cond) {
             Some(wait) => {
-                self.add(sites, actor.signal(EntryKind::SignalBlock, object, cond, true))?;
-                let _going = self.put(sites, actor, actor.admit(wait.0, object, 4, 0, false))?;
+                let e = actor.signal(EntryKind::SignalBlock, object, cond, true);
+                self.pair(sites, actor, e, actor.admit(wait.0, object, 4, 0, false))?;
                 Ok(())
             }
             None => {
@@ -418,11 +433,9 @@ impl Ledger {
         requires within { n ≤ length items.now }
         ensures { OnOk result ((input : List ℕ) → Takes self.old self.new sites.now input actor (ask.Print n items.now)) }
     {
-        let mut cause = actor;
         for i in 0..usize::from(n) {
             let item = items[i];
-            self.add(sites, cause.print(item.form, item.value))?;
-            cause = actor.freed();
+            self.add(sites, actor.of_item(i).print(item.form, item.value))?;
         }
         Ok(())
     }
