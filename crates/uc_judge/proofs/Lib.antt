@@ -15,6 +15,6 @@ pub mod Below
 pub mod Stacking
 pub mod Walking
 pub mod Fitted
-pub mod Comparing
+pub mod Compares
 pub mod Printing
 pub mod Signals
