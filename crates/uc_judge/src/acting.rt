@@ -1,12 +1,11 @@
 // The act of what a task asks, and its end.
 
 ghost use Rattle.std.specs.Prelude.{◌≡◌, ◌<◌, ◌≤◌, ◌^◌, ◌++◌, ◌∷◌, [], List, pos, false, OnOk, length, nat_le, take, drop};
-ghost use Rattle.std.specs.List.{list_any};
 ghost use Rattle.uc_tree.specs.declared.limits.TheConstants.{INPUT_BYTES};
-ghost use Rattle.uc_acts.specs.Journal.{entry, is_fault, is_over};
+ghost use Rattle.uc_acts.specs.Journal.{entry, is_over};
 ghost use Rattle.uc_tree.specs.Programs.{Site};
 ghost use Rattle.uc_entry.specs.declared.entry.EntryKind.TheVariants as variant;
-ghost use Rattle.uc_acts.specs.Acts.{act, fitted, closing, verdict};
+ghost use Rattle.uc_acts.specs.Acts.{act, fitted, closing, is_faulty, verdict};
 ghost use Rattle.uc_judge.specs.Asking.{IsWhole};
 ghost use Rattle.uc_judge.specs.Ledgers.{IsLedger, asked_of};
 
@@ -41,7 +40,7 @@ impl Ledger {
             self.limit(from, actor)?;
             return Ok(());
         }
-        if has_fault(&self.entries[from..]) {
+        if self.has_failed(from) {
             return Ok(());
         }
         self.close(from, actor)?;
@@ -54,6 +53,14 @@ impl Ledger {
         ensures few { result ≡ false → length self.now.entries.items < 2 ^ 32 }
     {
         self.opts.entries as usize <= self.entries.len()
+    }
+
+    // Whether a fault is among the entries from a number on.
+    fn has_failed(&self, from: usize) -> bool
+        requires { from ≤ length self.now.entries.items }
+        ensures { result ≡ is_faulty (drop from self.now.entries.items) }
+    {
+        has_fault(&self.entries[from..])
     }
 
     // Adds the ending, if the run ends, or the limit in place of the entries from a number on where it does not fit.
@@ -100,7 +107,7 @@ impl Ledger {
 
 // Whether a fault is among entries.
 fn has_fault(entries: &[Entry]) -> bool
-    ensures { result ≡ list_any (λ e. is_fault e.kind) entries.now }
+    ensures { result ≡ is_faulty entries.now }
 {
     entries.iter().any(|e| matches!(e.kind, EntryKind::Fault))
 }
