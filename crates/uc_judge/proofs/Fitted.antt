@@ -116,8 +116,8 @@ over_ended all one x h g o =
     no_both (is_over one) (ap is_over h ∙ over_push all (x ∷ []) ∙ ap (λ b. is_over all || b) (over_one x g) ∙ or_true (is_over all)) o
 
 -- the act of what a task asks, where the limit takes its place, where it is a fault, and where it is closed
-module _ {old mid : Ledger} {sites : List Site} {input : List ℕ} (a : Actor) (r : Request) (from : ℕ) (at : from ≡ length old.entries.items) (takes : Takes old mid sites input a r) where
-  rows : List Entry
+module _ {old mid : Ledger} {sites : List Site} (input : List ℕ) (a : Actor) (r : Request) (from : ℕ) (at : from ≡ length old.entries.items) (takes : Takes old mid sites input a r) where
+  abbrev rows : List Entry
   rows = entries_of old.opts sites input old.entries.items a.processor a.task a.ticks (asked_of a r)
 
   made : mid.entries.items ≡ old.entries.items ++ rows
@@ -129,14 +129,14 @@ module _ {old mid : Ledger} {sites : List Site} {input : List ℕ} (a : Actor) (
   behind : drop from mid.entries.items ≡ rows
   behind = ap (drop from) made ∙ drop_of old.entries.items rows from at
 
-  pub act_limit : {new : Ledger} → nat_le mid.opts.entries (length mid.entries.items) ≡ true → new.entries.items ≡ take from mid.entries.items ++ entry kind.Limit a.processor a.task 0 0 (pos 0) (pos 0) ∷ [] → new.entries.items ≡ old.entries.items ++ act old.opts sites input old.entries.items a.processor a.task a.ticks (asked_of a r)
-  act_limit {new} full h =
+  pub act_limit : (new : Ledger) → nat_le mid.opts.entries (length mid.entries.items) ≡ true → new.entries.items ≡ take from mid.entries.items ++ entry kind.Limit a.processor a.task 0 0 (pos 0) (pos 0) ∷ [] → new.entries.items ≡ old.entries.items ++ act old.opts sites input old.entries.items a.processor a.task a.ticks (asked_of a r)
+  act_limit new full h =
       act_full old.opts old.entries.items a.processor a.task rows (ending old.opts old.entries.items a.processor a.task rows) mid.entries.items new.entries.items made (ap (λ o. nat_le o.entries (length mid.entries.items)) (sym takes.opts) ∙ full) (h ∙ ap (λ l. l ++ entry kind.Limit a.processor a.task 0 0 (pos 0) (pos 0) ∷ []) before)
 
   pub act_fault : nat_le mid.opts.entries (length mid.entries.items) ≡ false → is_faulty (drop from mid.entries.items) ≡ true → mid.entries.items ≡ old.entries.items ++ act old.opts sites input old.entries.items a.processor a.task a.ticks (asked_of a r)
   act_fault full f =
       act_faulty old.opts old.entries.items a.processor a.task rows mid.entries.items made (ap (λ o. nat_le o.entries (length mid.entries.items)) (sym takes.opts) ∙ full) (ap is_faulty (sym behind) ∙ f)
 
-  pub act_end : {new : Ledger} → is_faulty (drop from mid.entries.items) ≡ false → new.entries.items ≡ take from mid.entries.items ++ fitted mid.opts (take from mid.entries.items) a.processor a.task (drop from mid.entries.items ++ closing a.processor a.task (verdict mid.opts mid.entries.items)) → new.entries.items ≡ old.entries.items ++ act old.opts sites input old.entries.items a.processor a.task a.ticks (asked_of a r)
-  act_end {new} f h =
+  pub act_end : (new : Ledger) → is_faulty (drop from mid.entries.items) ≡ false → new.entries.items ≡ take from mid.entries.items ++ fitted mid.opts (take from mid.entries.items) a.processor a.task (drop from mid.entries.items ++ closing a.processor a.task (verdict mid.opts mid.entries.items)) → new.entries.items ≡ old.entries.items ++ act old.opts sites input old.entries.items a.processor a.task a.ticks (asked_of a r)
+  act_end new f h =
       act_closed old.opts old.entries.items a.processor a.task rows mid.entries.items new.entries.items made (ap is_faulty (sym behind) ∙ f) (h ∙ ap (λ l. l ++ fitted mid.opts l a.processor a.task (drop from mid.entries.items ++ closing a.processor a.task (verdict mid.opts mid.entries.items))) before ∙ ap (λ l. old.entries.items ++ fitted mid.opts old.entries.items a.processor a.task (l ++ closing a.processor a.task (verdict mid.opts mid.entries.items))) behind ∙ ap (λ o. old.entries.items ++ fitted o old.entries.items a.processor a.task (rows ++ closing a.processor a.task (verdict o mid.entries.items))) takes.opts)

@@ -180,7 +180,7 @@ impl Ledger {
     fn make(&mut self, sites: &[Site], actor: Actor, class: u32) -> Result<(), AllocError>
         requires ledger { IsLedger self.old sites.now }
         requires few { length self.old.entries.items < 2 ^ 32 }
-        ensures { OnOk result ((input : List ℕ) → Takes self.old self.new sites.now input actor (ask.Make class)) }
+        ensures { OnOk result (Takes self.old self.new sites.now [] actor (ask.Make class)) }
     {
         let objects = self.counts.objects;
         if objects < u64::from(OBJECTS) {
@@ -194,7 +194,7 @@ impl Ledger {
     fn spawn(&mut self, sites: &[Site], actor: Actor, object: u32) -> Result<(), AllocError>
         requires ledger { IsLedger self.old sites.now }
         requires few { length self.old.entries.items < 2 ^ 32 }
-        ensures { OnOk result ((input : List ℕ) → Takes self.old self.new sites.now input actor (ask.Spawn object)) }
+        ensures { OnOk result (Takes self.old self.new sites.now [] actor (ask.Spawn object)) }
     {
         let tasks = self.counts.tasks;
         if tasks < u64::from(TASKS) {
@@ -207,7 +207,7 @@ impl Ledger {
 
     fn call(&mut self, sites: &[Site], actor: Actor, object: u32, member: u8) -> Result<(), AllocError>
         requires ledger { IsLedger self.old sites.now }
-        ensures { OnOk result ((input : List ℕ) → Takes self.old self.new sites.now input actor (ask.Call object member)) }
+        ensures { OnOk result (Takes self.old self.new sites.now [] actor (ask.Call object member)) }
     {
         let is_free = self.views.inside(object).is_empty();
         let accept = self.accepts.open_at(object);
@@ -282,7 +282,7 @@ impl Ledger {
         mask: u32,
     ) -> Result<(), AllocError>
         requires ledger { IsLedger self.old sites.now }
-        ensures { OnOk result ((input : List ℕ) → Takes self.old self.new sites.now input actor (ask.Accept object site mask)) }
+        ensures { OnOk result (Takes self.old self.new sites.now [] actor (ask.Accept object site mask)) }
     {
         let has_else = has_else(sites, site);
         let waiting = self.views.waiting(object);
@@ -335,7 +335,7 @@ impl Ledger {
 
     fn signal(&mut self, sites: &[Site], actor: Actor, object: u32, cond: u16) -> Result<(), AllocError>
         requires ledger { IsLedger self.old sites.now }
-        ensures { OnOk result ((input : List ℕ) → Takes self.old self.new sites.now input actor (ask.Signal object cond)) }
+        ensures { OnOk result (Takes self.old self.new sites.now [] actor (ask.Signal object cond)) }
     {
         match self.first_blocked(object, cond) {
             Some(wait) => {
@@ -358,7 +358,7 @@ impl Ledger {
         cond: u16,
     ) -> Result<(), AllocError>
         requires ledger { IsLedger self.old sites.now }
-        ensures { OnOk result ((input : List ℕ) → Takes self.old self.new sites.now input actor (ask.SignalBlock object cond)) }
+        ensures { OnOk result (Takes self.old self.new sites.now [] actor (ask.SignalBlock object cond)) }
     {
         match self.first_blocked(object, cond) {
             Some(wait) => {
@@ -375,7 +375,7 @@ impl Ledger {
 
     fn empty(&mut self, sites: &[Site], actor: Actor, object: u32, cond: u16) -> Result<(), AllocError>
         requires ledger { IsLedger self.old sites.now }
-        ensures { OnOk result ((input : List ℕ) → Takes self.old self.new sites.now input actor (ask.Empty object cond)) }
+        ensures { OnOk result (Takes self.old self.new sites.now [] actor (ask.Empty object cond)) }
     {
         let nobody = self.first_blocked(object, cond).is_none();
         self.one(sites, actor, actor.signal(EntryKind::Empty, object, cond, nobody))?;
@@ -384,7 +384,7 @@ impl Ledger {
 
     fn front(&mut self, sites: &[Site], actor: Actor, object: u32, cond: u16) -> Result<(), AllocError>
         requires ledger { IsLedger self.old sites.now }
-        ensures { OnOk result ((input : List ℕ) → Takes self.old self.new sites.now input actor (ask.Front object cond)) }
+        ensures { OnOk result (Takes self.old self.new sites.now [] actor (ask.Front object cond)) }
     {
         match self.first_blocked(object, cond) {
             Some(wait) => {
@@ -408,7 +408,7 @@ impl Ledger {
         y: i64,
     ) -> Result<(), AllocError>
         requires ledger { IsLedger self.old sites.now }
-        ensures { OnOk result ((input : List ℕ) → Takes self.old self.new sites.now input actor (ask.Raise object event x y)) }
+        ensures { OnOk result (Takes self.old self.new sites.now [] actor (ask.Raise object event x y)) }
     {
         let target = self.tasks.owner(object);
         if self.pending.count(target) < PENDING_EVENTS as usize {
@@ -421,7 +421,7 @@ impl Ledger {
 
     fn poll(&mut self, sites: &[Site], actor: Actor, mask: u64) -> Result<(), AllocError>
         requires ledger { IsLedger self.old sites.now }
-        ensures { OnOk result ((input : List ℕ) → Takes self.old self.new sites.now input actor (ask.Poll mask)) }
+        ensures { OnOk result (Takes self.old self.new sites.now [] actor (ask.Poll mask)) }
     {
         let event = self.pending.oldest_in(mask, actor.task);
         self.one(sites, actor, actor.poll(mask, event))?;
@@ -431,7 +431,7 @@ impl Ledger {
     fn print(&mut self, sites: &[Site], actor: Actor, n: u8, items: &[Piece]) -> Result<(), AllocError>
         requires ledger { IsLedger self.old sites.now }
         requires within { n ≤ length items.now }
-        ensures { OnOk result ((input : List ℕ) → Takes self.old self.new sites.now input actor (ask.Print n items.now)) }
+        ensures { OnOk result (Takes self.old self.new sites.now [] actor (ask.Print n items.now)) }
     {
         for i in 0..usize::from(n) {
             let item = items[i];
@@ -472,7 +472,7 @@ impl Ledger {
     fn cluster(&mut self, sites: &[Site], actor: Actor) -> Result<(), AllocError>
         requires ledger { IsLedger self.old sites.now }
         requires few { length self.old.entries.items < 2 ^ 32 }
-        ensures { OnOk result ((input : List ℕ) → Takes self.old self.new sites.now input actor ask.Cluster) }
+        ensures { OnOk result (Takes self.old self.new sites.now [] actor ask.Cluster) }
     {
         let clusters = self.counts.clusters;
         if clusters < u64::from(CLUSTERS) {
@@ -485,7 +485,7 @@ impl Ledger {
 
     fn cluster_end(&mut self, sites: &[Site], actor: Actor, cluster: u32) -> Result<(), AllocError>
         requires ledger { IsLedger self.old sites.now }
-        ensures { OnOk result ((input : List ℕ) → Takes self.old self.new sites.now input actor (ask.ClusterEnd cluster)) }
+        ensures { OnOk result (Takes self.old self.new sites.now [] actor (ask.ClusterEnd cluster)) }
     {
         if self.is_in_use(cluster) {
             self.fault(sites, actor, RunFault::DestroyBusy)?;
@@ -498,7 +498,7 @@ impl Ledger {
     fn processor(&mut self, sites: &[Site], actor: Actor, cluster: u32) -> Result<(), AllocError>
         requires ledger { IsLedger self.old sites.now }
         requires few { length self.old.entries.items < 2 ^ 32 }
-        ensures { OnOk result ((input : List ℕ) → Takes self.old self.new sites.now input actor (ask.Processor cluster)) }
+        ensures { OnOk result (Takes self.old self.new sites.now [] actor (ask.Processor cluster)) }
     {
         let processors = self.counts.processors;
         if processors < u64::from(PROCESSORS) {
@@ -512,7 +512,7 @@ impl Ledger {
 
     fn processor_end(&mut self, sites: &[Site], actor: Actor, processor: u32) -> Result<(), AllocError>
         requires ledger { IsLedger self.old sites.now }
-        ensures { OnOk result ((input : List ℕ) → Takes self.old self.new sites.now input actor (ask.ProcessorEnd processor)) }
+        ensures { OnOk result (Takes self.old self.new sites.now [] actor (ask.ProcessorEnd processor)) }
     {
         let cluster = self.processors.cluster_of(processor);
         let e = actor.processor(EntryKind::ProcessorEnd, processor, cluster);
@@ -522,7 +522,7 @@ impl Ledger {
 
     fn end(&mut self, sites: &[Site], actor: Actor) -> Result<(), AllocError>
         requires ledger { IsLedger self.old sites.now }
-        ensures { OnOk result ((input : List ℕ) → Takes self.old self.new sites.now input actor ask.End) }
+        ensures { OnOk result (Takes self.old self.new sites.now [] actor ask.End) }
     {
         let object = self.tasks.own_object(actor.task);
         self.go_out(sites, actor, actor.at(EntryKind::End, object))?;
@@ -531,7 +531,7 @@ impl Ledger {
 
     fn gone(&mut self, sites: &[Site], actor: Actor, object: u32) -> Result<(), AllocError>
         requires ledger { IsLedger self.old sites.now }
-        ensures { OnOk result ((input : List ℕ) → Takes self.old self.new sites.now input actor (ask.Gone object)) }
+        ensures { OnOk result (Takes self.old self.new sites.now [] actor (ask.Gone object)) }
     {
         let _going = self.put(sites, actor, actor.at(EntryKind::Gone, object))?;
         Ok(())

@@ -7,7 +7,7 @@ use Rattle.uc_judge.proofs.Signals.{call_settles, order_nobody, length_nobody}
 use Rattle.uc_judge.proofs.ledger.Ledger.call.Goals as goal
 
 pub returns : goal.returns
-returns c input =
+returns c =
     let j = c.args.self.now.entries.items in
     let h = c.requires.ledger in
     let a = c.args.actor in

@@ -26,7 +26,7 @@ loop-i-preserved c =
     prints_more a.processor a.task (cost_of a) items i d c.print.result lt (item_is a.processor a.task (cost_at (cost_of a) i) (get_or items i d) c.print.result _ _ _ _ _ c.print.ensures.is c.of_item.ensures.processor c.of_item.ensures.task c.of_item.ensures.cost (search rules) (search rules)) c.loop-i.invariant c.in_ok-add.ensures
 
 pub returns : goal.returns
-returns c input =
+returns c =
     let a = c.args.actor in
     let items = c.args.items.now in
     let t = c.loop-i-test.false in
