@@ -2,11 +2,15 @@
 #![tactic(auto)]
 
 pub mod accepts;
+mod acting;
+mod actor;
 pub mod asks;
 pub mod busy;
+pub mod comparing;
 pub mod counts;
 mod effects;
 pub mod laws;
+mod ledger;
 pub mod offers;
 pub mod pending;
 pub mod processors;
@@ -14,5 +18,7 @@ pub mod samples;
 pub mod schedule;
 pub mod script;
 pub mod stacks;
+mod taking;
 pub mod tasks;
+pub mod telling;
 pub mod verdict;
