@@ -102,18 +102,18 @@ module _ (opts : Options) (from p t : ℕ) (all : List Entry) (v : Option EntryK
         let q = length-append (drop from all) (entry k p t 0 0 (pos 0) (pos 0) ∷ []) in
         f ∙ ap (λ l. l ++ entry kind.Limit p t 0 0 (pos 0) (pos 0) ∷ []) (ap (take from) g ∙ take_within from all _ le) ∙ ap (λ l. take from all ++ l) (sym (ap (λ w. fitted opts (take from all) p t (drop from all ++ closing p t w)) h ∙ fits_not opts (take from all) p t (drop from all ++ entry k p t 0 0 (pos 0) (pos 0) ∷ []) (omega (arith, lt, n, m, o, q))))
 
+or_true : (b : Bool) → (b || true) ≡ true
+or_true true = refl
+or_true false = refl
+
+over_one : (x : Entry) → is_ending x.kind ≡ true → is_over (x ∷ []) ≡ true
+unfolding is_over
+over_one x g = ap (λ b. b || false) g
+
 -- behind an ending the run is over
 pub over_ended : (all one : List Entry) (x : Entry) → one ≡ all ++ x ∷ [] → is_ending x.kind ≡ true → is_over one ≡ false → ⊥
 over_ended all one x h g o =
-    no_both (is_over one) (ap is_over h ∙ over_push all (x ∷ []) ∙ ap (λ b. is_over all || b) (last x g) ∙ or_true (is_over all)) o
-  where
-    last : (x : Entry) → is_ending x.kind ≡ true → is_over (x ∷ []) ≡ true
-    unfolding is_over
-    last x g = ap (λ b. b || false) g
-
-    or_true : (b : Bool) → (b || true) ≡ true
-    or_true true = refl
-    or_true false = refl
+    no_both (is_over one) (ap is_over h ∙ over_push all (x ∷ []) ∙ ap (λ b. is_over all || b) (over_one x g) ∙ or_true (is_over all)) o
 
 -- the act of what a task asks, where the limit takes its place, where it is a fault, and where it is closed
 module _ {old mid : Ledger} {sites : List Site} {input : List ℕ} (a : Actor) (r : Request) (from : ℕ) (at : from ≡ length old.entries.items) (takes : Takes old mid sites input a r) where

@@ -34,6 +34,10 @@ prints_more {old} p t k items i d e lt h f g = record {
   ledger = g.ledger;
 }
 
+pub item_is : (p t : ℕ) (k : Cost) (x : Piece) (e : Entry) (p' t' : ℕ) (k' : Cost) (f : ℕ) (v : ℤ) → e ≡ asking kind.Print p' t' k' 0 (pos f) v → p' ≡ p → t' ≡ t → k' ≡ k → f ≡ x.form → v ≡ x.value → e ≡ item_entry p t k x
+item_is p t k x e p' t' k' f v h a b c d g =
+    h ∙ ap (λ n. asking kind.Print n t' k' 0 (pos f) v) a ∙ ap (λ n. asking kind.Print p n k' 0 (pos f) v) b ∙ ap (λ n. asking kind.Print p t n 0 (pos f) v) c ∙ ap (λ n. asking kind.Print p t k 0 (pos n) v) d ∙ ap (λ n. asking kind.Print p t k 0 (pos x.form) n) g
+
 -- a print destroys nothing
 safe_prints : (f : Entry) (j : Journal) (p t : ℕ) (k : Cost) (items : List Piece) → settled f j (prints p t k items) ≡ prints p t k items
 safe_prints f j p t k [] = refl

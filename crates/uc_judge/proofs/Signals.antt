@@ -27,23 +27,26 @@ module _ {old new : Ledger} {sites : List Site} (a : Actor) where
   end_settles e object own h g s =
       subst (λ o. Settles old new sites a (left_by sites old.entries.items a.processor o (asking kind.End a.processor a.task (cost_of a) o (pos 0) (pos 0)))) g (subst (λ x. Settles old new sites a (left_by sites old.entries.items a.processor x.object x)) h s)
 
-  -- an event is raised, or there is one too many
-  module _ (o event : ℕ) (x y : ℤ) (target first : ℕ) (g : target ≡ first) (j : Journal) (n : ℕ) (k : n ≡ length (pending target j)) (f : Entry) where
-    raise_by : (b : Bool) → nat_lt n PENDING_EVENTS ≡ b → nat_lt (length (pending first j)) PENDING_EVENTS ≡ b
-    raise_by b h = ap (λ t. nat_lt (length (pending t j)) PENDING_EVENTS) (sym g) ∙ ap (λ m. nat_lt m PENDING_EVENTS) (sym k) ∙ h
-
-    pub raise_settles : (e : Entry) → n < PENDING_EVENTS → e ≡ raise_entry a.processor a.task (cost_of a) o target event x y → Settles old new sites a (e ∷ []) → Settles old new sites a (or_fault (nat_lt (length (pending first j)) PENDING_EVENTS) (raise_entry a.processor a.task (cost_of a) o first event x y) f)
-    raise_settles e lt h s =
-        subst (λ b. Settles old new sites a (or_fault b (raise_entry a.processor a.task (cost_of a) o first event x y) f)) (sym (raise_by true (lt-ltb n PENDING_EVENTS lt))) (subst (λ t. Settles old new sites a (raise_entry a.processor a.task (cost_of a) o t event x y ∷ [])) g (subst (λ z. Settles old new sites a (z ∷ [])) h s))
-
-    pub fault_settles : PENDING_EVENTS ≤ n → Settles old new sites a (f ∷ []) → Settles old new sites a (or_fault (nat_lt (length (pending first j)) PENDING_EVENTS) (raise_entry a.processor a.task (cost_of a) o first event x y) f)
-    fault_settles le s =
-        subst (λ b. Settles old new sites a (or_fault b (raise_entry a.processor a.task (cost_of a) o first event x y) f)) (sym (raise_by false (le-ltb n PENDING_EVENTS le))) s
-
   -- an accept takes whom it meets
   pub accepted_met : (o site mask : ℕ) (has has' : Bool) → has ≡ has' → (taken : Taken) (r : Option Taken) (m : Option Met) → r ≡ Some taken → option_map as_met r ≡ m → Settles old new sites a (took a.processor a.task (cost_of a) o site mask has taken.member taken.task) → Settles old new sites a (accepted a.processor a.task (cost_of a) o site mask has' m)
   accepted_met o site mask has has' h taken r m g k s =
       subst (λ n. Settles old new sites a (accepted a.processor a.task (cost_of a) o site mask has' n)) (sym (ap (option_map as_met) g) ∙ k) (subst (λ b. Settles old new sites a (took a.processor a.task (cost_of a) o site mask b taken.member taken.task)) h s)
+
+-- an event is raised, or there is one too many
+
+raise_by : (target first : ℕ) → target ≡ first → (j : Journal) (n : ℕ) → n ≡ length (pending target j) → (b : Bool) → nat_lt n PENDING_EVENTS ≡ b → nat_lt (length (pending first j)) PENDING_EVENTS ≡ b
+raise_by target first g j n k b h =
+    ap (λ t. nat_lt (length (pending t j)) PENDING_EVENTS) (sym g) ∙ ap (λ m. nat_lt m PENDING_EVENTS) (sym k) ∙ h
+
+module _ {old new : Ledger} {sites : List Site} (a : Actor) (o event : ℕ) (x y : ℤ) (target first : ℕ) (g : target ≡ first) (j : Journal) (n : ℕ) (k : n ≡ length (pending target j)) (f : Entry) where
+  pub raise_settles : (e : Entry) (x' y' : ℤ) → x' ≡ x → y' ≡ y → n < PENDING_EVENTS → e ≡ raise_entry a.processor a.task (cost_of a) o target event x' y' → Settles old new sites a (e ∷ []) → Settles old new sites a (or_fault (nat_lt (length (pending first j)) PENDING_EVENTS) (raise_entry a.processor a.task (cost_of a) o first event x y) f)
+  raise_settles e x' y' i l lt h s =
+      let is : e ≡ raise_entry a.processor a.task (cost_of a) o first event x y = h ∙ ap (λ z. raise_entry a.processor a.task (cost_of a) o target event z y') i ∙ ap (λ z. raise_entry a.processor a.task (cost_of a) o target event x z) l ∙ ap (λ t. raise_entry a.processor a.task (cost_of a) o t event x y) g in
+      subst (λ b. Settles old new sites a (or_fault b (raise_entry a.processor a.task (cost_of a) o first event x y) f)) (sym (raise_by target first g j n k true (lt-ltb n PENDING_EVENTS lt))) (subst (λ z. Settles old new sites a (z ∷ [])) is s)
+
+  pub fault_settles : PENDING_EVENTS ≤ n → Settles old new sites a (f ∷ []) → Settles old new sites a (or_fault (nat_lt (length (pending first j)) PENDING_EVENTS) (raise_entry a.processor a.task (cost_of a) o first event x y) f)
+  fault_settles le s =
+      subst (λ b. Settles old new sites a (or_fault b (raise_entry a.processor a.task (cost_of a) o first event x y) f)) (sym (raise_by target first g j n k false (le-ltb n PENDING_EVENTS le))) s
 
 -- a call, and who is let in by it
 pub call_settles : {old mid new : Ledger} {sites : List Site} (a : Actor) (o m : ℕ) (e : Entry) (rest : List Entry) → e ≡ asking kind.Call a.processor a.task (cost_of a) o (pos m) (pos 0) → Adds old mid sites (e ∷ []) → Settles mid new sites a rest → Settles old new sites a (asking kind.Call a.processor a.task (cost_of a) o (pos m) (pos 0) ∷ rest)
@@ -75,5 +78,5 @@ pub length_nobody : (xs : List ℕ) → (length xs == 0) ≡ is_nobody xs
 length_nobody [] = refl
 length_nobody (x ∷ xs) = ne_eqb (length (x ∷ xs)) 0 (λ h. omega (arith, h))
 
-pub is_read : (z : ℤ) (n taken : ℕ) → z ≡ pos n → n + taken ≤ 9223372036854775807 → IsRead z taken
-is_read z n taken h le = subst (λ x. IsRead x taken) (sym h) le
+pub is_read : (now z : ℤ) (n taken : ℕ) → now ≡ z → z ≡ pos n → n + taken ≤ 9223372036854775807 → IsRead now taken
+is_read now z n taken g h le = subst (λ x. IsRead x taken) (sym (g ∙ h)) le
