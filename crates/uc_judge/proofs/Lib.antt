@@ -19,3 +19,4 @@ pub mod Compares
 pub mod Printing
 pub mod Signals
 pub mod SameEntry
+pub mod Service
