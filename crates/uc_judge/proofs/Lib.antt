@@ -18,3 +18,5 @@ pub mod Fitted
 pub mod Compares
 pub mod Printing
 pub mod Signals
+pub mod SameEntry
+pub mod Service

@@ -16,6 +16,7 @@ pub mod processors;
 pub mod samples;
 pub mod schedule;
 pub mod script;
+mod serving;
 pub mod stacks;
 mod taking;
 pub mod tasks;
