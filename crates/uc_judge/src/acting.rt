@@ -19,7 +19,7 @@ use uc_tree::site::Site;
 impl Ledger {
     /// Adds the act of what a task asks: its entries, the ending behind them, or the limit in place of an act for which there is no
     /// room. Behind an ending no more can be added.
-    pub(crate) fn act(
+    pub fn act(
         &mut self,
         sites: &[Site],
         input: &[u8],

@@ -14,11 +14,11 @@ use uc_entry::entry::{Entry, EntryKind, Options};
 
 /// A task that runs, its processor, the ticks that it makes before it asks, and the line of what it asks.
 #[derive(Clone, Copy)]
-pub(crate) struct Actor {
-    pub(crate) processor: u8,
-    pub(crate) task: u32,
-    pub(crate) ticks: u32,
-    pub(crate) line: u32,
+pub struct Actor {
+    pub processor: u8,
+    pub task: u32,
+    pub ticks: u32,
+    pub line: u32,
 }
 
 impl Actor {
@@ -282,7 +282,7 @@ fn truth(holds: bool) -> i64
 }
 
 /// A processor is given a task.
-pub(crate) fn dispatch(processor: u8, task: u32) -> Entry
+pub fn dispatch(processor: u8, task: u32) -> Entry
     ensures is { result ≡ dispatch processor task }
     ensures fit { IsFit result }
 {
@@ -296,7 +296,7 @@ pub(crate) fn dispatch(processor: u8, task: u32) -> Entry
 }
 
 /// The first entry of a journal.
-pub(crate) fn begin(opts: &Options) -> Entry
+pub fn begin(opts: &Options) -> Entry
     requires { opts.now.ticks ≤ TICKS_MAX }
     ensures is { result ≡ begin opts.now }
     ensures fit { IsFit result }

@@ -26,9 +26,9 @@ use uc_tree::site::Site;
 
 /// A journal, and all that is kept of it.
 #[derive(Drop)]
-pub(crate) struct Ledger {
-    pub(crate) opts: Options,
-    pub(crate) entries: Vec<Entry>,
+pub struct Ledger {
+    pub opts: Options,
+    pub entries: Vec<Entry>,
     pub(crate) views: Views,
     pub(crate) schedule: Schedule,
     pub(crate) counts: Counts,
@@ -41,7 +41,7 @@ pub(crate) struct Ledger {
 
 impl Ledger {
     /// Of a journal without entries.
-    pub(crate) fn new(alloc: Global, opts: Options) -> Result<Ledger, AllocError>
+    pub fn new(alloc: Global, opts: Options) -> Result<Ledger, AllocError>
         ensures entries { IfOk result (λ s. s.entries.items ≡ []) }
         ensures opts { IfOk result (λ s. s.opts ≡ opts) }
         ensures ledger { IfOk result (λ s. (sites : List Site) → IsLedger s sites) }
@@ -62,7 +62,7 @@ impl Ledger {
     }
 
     /// Adds the next entry. After want of memory it is spent.
-    pub(crate) fn add(&mut self, sites: &[Site], e: Entry) -> Result<(), AllocError>
+    pub fn add(&mut self, sites: &[Site], e: Entry) -> Result<(), AllocError>
         requires fit { IsFit e }
         requires ledger { IsLedger self.old sites.now }
         ensures { OnOk result (Adds self.old self.new sites.now (e ∷ [])) }

@@ -3,14 +3,14 @@
 
 pub mod accepts;
 mod acting;
-mod actor;
+pub mod actor;
 pub mod asks;
 pub mod busy;
 pub mod comparing;
 pub mod counts;
 mod effects;
 pub mod laws;
-mod ledger;
+pub mod ledger;
 pub mod offers;
 pub mod pending;
 pub mod processors;

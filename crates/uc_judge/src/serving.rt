@@ -14,7 +14,7 @@ use crate::schedule::Schedule;
 
 impl Ledger {
     /// Whether a processor may be given a task: it is open and free, and its cluster's queue begins with the task.
-    pub(crate) fn serves(&self, processor: u8, task: u32) -> bool
+    pub fn serves(&self, processor: u8, task: u32) -> bool
         ensures yes { result ≡ true → (sites : List Site) → IsLedger self.now sites → Serves self.now.opts self.now.entries.items processor task }
         ensures no { result ≡ false → (sites : List Site) → IsLedger self.now sites → Serves self.now.opts self.now.entries.items processor task → ⊥ }
     {
