@@ -47,12 +47,12 @@ module _ (lines : Bool) (a z : List Entry) (i : ℕ) (d : Entry) where
     rest = g.rest;
     is = g.is;
     off = λ y k.
-      let l = ap length g.is in
-      let m = length-append (written lines (take i a)) g.rest in
-      let n = ap length k in
-      let s = size lt in
-      let le : i < length z = omega (arith, l, m, n, s) in
-      h le (ap first_of (sym (next lt le g) ∙ k));
+        let l = ap length g.is in
+        let m = length-append (written lines (take i a)) g.rest in
+        let n = ap length k in
+        let s = size lt in
+        let le : i < length z = omega (arith, l, m, n, s) in
+        h le (ap first_of (sym (next lt le g) ∙ k));
     place = size lt;
   }
 

@@ -148,7 +148,12 @@ impl Actor {
         ensures is { result ≡ raise_entry self.processor self.task (cost_of self) object target event x y }
         ensures fit { IsFit result }
     {
-        let mut e = self.entry(EntryKind::Raise, object, i64::from(target), i64::from(event));
+        let mut e = self.entry(
+            EntryKind::Raise,
+            object,
+            i64::from(target),
+            i64::from(event),
+        );
         e.c = x;
         e.d = y;
         e

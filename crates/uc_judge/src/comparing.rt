@@ -10,7 +10,8 @@ ghost use Rattle.uc_judge.specs.Compared.{Compares};
 use crate::actor::begin;
 use uc_entry::entry::{Entry, Options};
 use uc_tree::limits::{
-    ENTRIES_MAX, ENTRIES_MIN, PROCESSORS, PROCESSORS_MIN, SLICE_MAX, SLICE_MIN, TICKS_MAX, TICKS_MIN,
+    ENTRIES_MAX, ENTRIES_MIN, PROCESSORS, PROCESSORS_MIN, SLICE_MAX, SLICE_MIN, TICKS_MAX,
+    TICKS_MIN,
 };
 
 /// Of entries that were made, the number of the first that does not stand in a journal, where it has lines or not.

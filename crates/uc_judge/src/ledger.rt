@@ -92,7 +92,10 @@ impl Ledger {
                 line: e.line,
                 ..actor
             };
-            self.add(sites, cause.fault(RunFault::DestroyBusy.number(), actor.line))?;
+            self.add(
+                sites,
+                cause.fault(RunFault::DestroyBusy.number(), actor.line),
+            )?;
             return Ok(false);
         }
         self.add(sites, e)?;

@@ -21,7 +21,12 @@ impl Ledger {
         if self.schedule.first_running(processor).is_some() {
             return false;
         }
-        any_serves(&self.schedule, self.processors.open(), u32::from(processor), task)
+        any_serves(
+            &self.schedule,
+            self.processors.open(),
+            u32::from(processor),
+            task,
+        )
     }
 }
 

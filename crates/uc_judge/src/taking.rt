@@ -47,7 +47,11 @@ impl Ledger {
     {
         match request {
             Request::Make { class } => self.make(sites, actor, *class),
-            Request::Made { object } => self.go_out(sites, actor, actor.at(EntryKind::Made, *object)),
+            Request::Made { object } => self.go_out(
+                sites,
+                actor,
+                actor.at(EntryKind::Made, *object),
+            ),
             Request::Spawn { object } => self.spawn(sites, actor, *object),
             Request::Call { object, member } => self.call(sites, actor, *object, *member),
             Request::Leave { object, failed } => {
@@ -57,15 +61,24 @@ impl Ledger {
                 self.accept(sites, actor, *object, *site, *mask)
             }
             Request::Wait { object, cond, n } => {
-                self.go_out(sites, actor, actor.wait(EntryKind::Wait, *object, *cond, *n))
+                self.go_out(
+                    sites,
+                    actor,
+                    actor.wait(EntryKind::Wait, *object, *cond, *n),
+                )
             }
             Request::Signal { object, cond } => self.signal(sites, actor, *object, *cond),
-            Request::SignalBlock { object, cond } => self.signal_block(sites, actor, *object, *cond),
+            Request::SignalBlock { object, cond } => self.signal_block(
+                sites, actor, *object, *cond,
+            ),
             Request::Empty { object, cond } => self.empty(sites, actor, *object, *cond),
             Request::Front { object, cond } => self.front(sites, actor, *object, *cond),
-            Request::Raise { object, event, x, y } => {
-                self.raise(sites, actor, *object, *event, *x, *y)
-            }
+            Request::Raise {
+                object,
+                event,
+                x,
+                y,
+            } => { self.raise(sites, actor, *object, *event, *x, *y) }
             Request::Poll { mask } => self.poll(sites, actor, *mask),
             Request::Yield => self.one(sites, actor, actor.plain(EntryKind::Yield)),
             Request::Slice => self.one(sites, actor, actor.plain(EntryKind::Slice)),
@@ -184,7 +197,11 @@ impl Ledger {
     {
         let objects = self.counts.objects;
         if objects < u64::from(OBJECTS) {
-            self.one(sites, actor, actor.made(EntryKind::Make, objects as u32, class))?;
+            self.one(
+                sites,
+                actor,
+                actor.made(EntryKind::Make, objects as u32, class),
+            )?;
             return Ok(());
         }
         self.fault(sites, actor, RunFault::TooManyObjects)?;
@@ -198,14 +215,24 @@ impl Ledger {
     {
         let tasks = self.counts.tasks;
         if tasks < u64::from(TASKS) {
-            self.one(sites, actor, actor.made(EntryKind::Spawn, object, tasks as u32))?;
+            self.one(
+                sites,
+                actor,
+                actor.made(EntryKind::Spawn, object, tasks as u32),
+            )?;
             return Ok(());
         }
         self.fault(sites, actor, RunFault::TooManyTasks)?;
         Ok(())
     }
 
-    fn call(&mut self, sites: &[Site], actor: Actor, object: u32, member: u8) -> Result<(), AllocError>
+    fn call(
+        &mut self,
+        sites: &[Site],
+        actor: Actor,
+        object: u32,
+        member: u8,
+    ) -> Result<(), AllocError>
         requires ledger { IsLedger self.old sites.now }
         ensures { OnOk result (Takes self.old self.new sites.now [] actor (ask.Call object member)) }
     {
@@ -237,7 +264,11 @@ impl Ledger {
             }
             None => {
                 if is_free {
-                    let _going = self.put(sites, actor, actor.admit(actor.task, object, 0, 0, false))?;
+                    let _going = self.put(
+                        sites,
+                        actor,
+                        actor.admit(actor.task, object, 0, 0, false),
+                    )?;
                 }
                 Ok(())
             }
@@ -293,7 +324,11 @@ impl Ledger {
             }
             None => {
                 let how = if has_else { 2 } else { 0 };
-                self.one(sites, actor, actor.accept(object, site, mask, has_else, how))?;
+                self.one(
+                    sites,
+                    actor,
+                    actor.accept(object, site, mask, has_else, how),
+                )?;
                 Ok(())
             }
         }
@@ -319,7 +354,12 @@ impl Ledger {
             return Ok(());
         }
         let e = actor.accept(object, site, mask, has_else, 1);
-        self.pair(sites, actor, e, actor.admit(taken.task, object, 1, 0, false))?;
+        self.pair(
+            sites,
+            actor,
+            e,
+            actor.admit(taken.task, object, 1, 0, false),
+        )?;
         Ok(())
     }
 
@@ -333,7 +373,13 @@ impl Ledger {
         }
     }
 
-    fn signal(&mut self, sites: &[Site], actor: Actor, object: u32, cond: u16) -> Result<(), AllocError>
+    fn signal(
+        &mut self,
+        sites: &[Site],
+        actor: Actor,
+        object: u32,
+        cond: u16,
+    ) -> Result<(), AllocError>
         requires ledger { IsLedger self.old sites.now }
         ensures { OnOk result (Takes self.old self.new sites.now [] actor (ask.Signal object cond)) }
     {
@@ -344,7 +390,11 @@ impl Ledger {
                 Ok(())
             }
             None => {
-                self.one(sites, actor, actor.signal(EntryKind::Signal, object, cond, false))?;
+                self.one(
+                    sites,
+                    actor,
+                    actor.signal(EntryKind::Signal, object, cond, false),
+                )?;
                 Ok(())
             }
         }
@@ -367,28 +417,52 @@ impl Ledger {
                 Ok(())
             }
             None => {
-                self.one(sites, actor, actor.signal(EntryKind::SignalBlock, object, cond, false))?;
+                self.one(
+                    sites,
+                    actor,
+                    actor.signal(EntryKind::SignalBlock, object, cond, false),
+                )?;
                 Ok(())
             }
         }
     }
 
-    fn empty(&mut self, sites: &[Site], actor: Actor, object: u32, cond: u16) -> Result<(), AllocError>
+    fn empty(
+        &mut self,
+        sites: &[Site],
+        actor: Actor,
+        object: u32,
+        cond: u16,
+    ) -> Result<(), AllocError>
         requires ledger { IsLedger self.old sites.now }
         ensures { OnOk result (Takes self.old self.new sites.now [] actor (ask.Empty object cond)) }
     {
         let nobody = self.first_blocked(object, cond).is_none();
-        self.one(sites, actor, actor.signal(EntryKind::Empty, object, cond, nobody))?;
+        self.one(
+            sites,
+            actor,
+            actor.signal(EntryKind::Empty, object, cond, nobody),
+        )?;
         Ok(())
     }
 
-    fn front(&mut self, sites: &[Site], actor: Actor, object: u32, cond: u16) -> Result<(), AllocError>
+    fn front(
+        &mut self,
+        sites: &[Site],
+        actor: Actor,
+        object: u32,
+        cond: u16,
+    ) -> Result<(), AllocError>
         requires ledger { IsLedger self.old sites.now }
         ensures { OnOk result (Takes self.old self.new sites.now [] actor (ask.Front object cond)) }
     {
         match self.first_blocked(object, cond) {
             Some(wait) => {
-                self.one(sites, actor, actor.wait(EntryKind::Front, object, cond, wait.1))?;
+                self.one(
+                    sites,
+                    actor,
+                    actor.wait(EntryKind::Front, object, cond, wait.1),
+                )?;
                 Ok(())
             }
             None => {
@@ -428,7 +502,13 @@ impl Ledger {
         Ok(())
     }
 
-    fn print(&mut self, sites: &[Site], actor: Actor, n: u8, items: &[Piece]) -> Result<(), AllocError>
+    fn print(
+        &mut self,
+        sites: &[Site],
+        actor: Actor,
+        n: u8,
+        items: &[Piece],
+    ) -> Result<(), AllocError>
         requires ledger { IsLedger self.old sites.now }
         requires within { n ≤ length items.now }
         ensures { OnOk result (Takes self.old self.new sites.now [] actor (ask.Print n items.now)) }
@@ -440,7 +520,13 @@ impl Ledger {
         Ok(())
     }
 
-    fn read(&mut self, sites: &[Site], input: &[u8], actor: Actor, form: u8) -> Result<(), AllocError>
+    fn read(
+        &mut self,
+        sites: &[Site],
+        input: &[u8],
+        actor: Actor,
+        form: u8,
+    ) -> Result<(), AllocError>
         requires ledger { IsLedger self.old sites.now }
         requires few { length self.old.entries.items < 2 ^ 32 }
         requires short { length input.now ≤ INPUT_BYTES }
@@ -476,7 +562,11 @@ impl Ledger {
     {
         let clusters = self.counts.clusters;
         if clusters < u64::from(CLUSTERS) {
-            self.one(sites, actor, actor.cluster(EntryKind::Cluster, clusters as u32))?;
+            self.one(
+                sites,
+                actor,
+                actor.cluster(EntryKind::Cluster, clusters as u32),
+            )?;
             return Ok(());
         }
         self.fault(sites, actor, RunFault::TooManyProcessors)?;
@@ -510,7 +600,12 @@ impl Ledger {
         Ok(())
     }
 
-    fn processor_end(&mut self, sites: &[Site], actor: Actor, processor: u32) -> Result<(), AllocError>
+    fn processor_end(
+        &mut self,
+        sites: &[Site],
+        actor: Actor,
+        processor: u32,
+    ) -> Result<(), AllocError>
         requires ledger { IsLedger self.old sites.now }
         ensures { OnOk result (Takes self.old self.new sites.now [] actor (ask.ProcessorEnd processor)) }
     {

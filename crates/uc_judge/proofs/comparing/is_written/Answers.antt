@@ -16,6 +16,6 @@ returns-clause-same c h =
     let kept : ℤ → ℤ = λ z. to_z w64 (of_z w64 z) in
     let same = same_entry c.args.entry.now (of_ (kept e.a) (kept e.b) (kept e.c) (kept e.d) line) (sym c.eq.ensures ∙ h) ∙ ap (λ z. of_ z (kept e.b) (kept e.c) (kept e.d) line) a ∙ ap (λ z. of_ e.a z (kept e.c) (kept e.d) line) b ∙ ap (λ z. of_ e.a e.b z (kept e.d) line) k ∙ ap (λ z. of_ e.a e.b e.c z line) d in
     elim c.if-lines.branch [
-      then-lines w ↦ same ∙ ap (λ l. record e { line = l }) w.line-is ∙ sym (ap (λ b. lined b e) w.if-lines.true)
-    | else-lines w ↦ same ∙ ap (λ l. record e { line = l }) w.line-is ∙ sym (ap (λ b. lined b e) w.if-lines.false)
+      | then-lines w ↦ same ∙ ap (λ l. record e { line = l }) w.line-is ∙ sym (ap (λ b. lined b e) w.if-lines.true)
+      | else-lines w ↦ same ∙ ap (λ l. record e { line = l }) w.line-is ∙ sym (ap (λ b. lined b e) w.if-lines.false)
     ]
