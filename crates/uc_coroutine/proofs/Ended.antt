@@ -9,7 +9,7 @@ use Rattle.uc_machine.specs.Quiet.{Finish, State, Goes, stay, more, nought, quie
 use Rattle.uc_machine.specs.Pieces.{Unwind, LeaveNow, Exit}
 use Rattle.uc_machine.specs.Monitors.{unless_held_up}
 use Rattle.uc_machine.specs.Insides.{is_held_up}
-use Rattle.uc_entry.specs.declared.fault.RunFault.TheVariants.{BlockedInside}
+use Rattle.uc_entry.specs.declared.fault.RunFault.TheVariants.{BlockedInside, Unhandled}
 use Rattle.std.specs.Prelude.{if◌then◌else◌, slice_get}
 use Rattle.uc_machine.specs.Raising.{arrives, whole_left, scope_left, main_left, unwind_past}
 use Rattle.uc_code.specs.declared.op.Op.TheVariants as op
@@ -28,6 +28,7 @@ use Rattle.uc_frames.proofs.Finishes.{main_line}
 use Rattle.uc_frames.proofs.Insides.{own_held_up_both}
 use Rattle.uc_frames.specs.UnwindingStands.{TestsBlock, TestsCall, EndsMain, Unwinds}
 use Rattle.uc_coroutine.specs.declared.testing.TaskMainEnd.{TaskMainEnd}
+use Rattle.uc_coroutine.specs.declared.testing.TaskMainEnd.TheVariants as end
 use Rattle.uc_coroutine.specs.UnwindingSteps.{Leads}
 use Rattle.uc_coroutine.specs.MainEnds.{block_over, call_over, ended_by, returned_by, main_by, main_over, BlockLeft, MainLeft}
 use Rattle.uc_coroutine.proofs.Lefts.{same_count, handed_on, env_left}
@@ -151,6 +152,10 @@ module _ (source : Source) (code : Laid) (old new : Machine) (s : State) where
     abbrev calm : State
     calm = record s { run = calmed (Finish ∷ h.run.rest) s.run }
 
+    -- what is in hand stands still
+    hand_same : new ≡ old → Numbered (MembersStand (RunStands code) (CallerStands code) machine.cell_of) new.env.hand s.env.hand
+    hand_same q = subst (λ (m : Machine). Numbered (MembersStand (RunStands code) (CallerStands code) machine.cell_of) m.env.hand s.env.hand) (sym q) h.env.hand
+
     -- the step at its end
     finish_is : step source calm ≡ unless_held_up s.env.own (quiet.return_step nought s.callers calm) h.run.rest calm
     finish_is = refl
@@ -165,7 +170,7 @@ module _ (source : Source) (code : Laid) (old new : Machine) (s : State) where
       by = more w stay;
       line = sym (main_line code main_of.Task old s h);
       asks = v ∙ ap (λ cs. quiet.return_step nought cs calm) j;
-      hand = subst (λ (m : Machine). Numbered (MembersStand (RunStands code) (CallerStands code) machine.cell_of) m.env.hand s.env.hand) (sym q) h.env.hand;
+      hand = hand_same q;
     }
     ended [] (c ∷ cs) i j l w v q = absurd l
     ended (m ∷ ms) [] i j l w v q = absurd l
@@ -180,18 +185,21 @@ module _ (source : Source) (code : Laid) (old new : Machine) (s : State) where
 
     -- where the task is held up in its own object, that is a fault
     returned_as : (b : Bool) → is_held_up s.env.own s.env ≡ b → step source s ≡ Goes calm → new ≡ main_over (returned_by b old.callers) old → MainLeft source code (returned_by b old.callers) new s
-    returned_as true e w q = record { before = calm; after = _; by = more w stay; line = sym (main_line code main_of.Task old s h); asks = held_if true e }
+    returned_as true e w q = record { before = calm; after = _; by = more w stay; line = sym (main_line code main_of.Task old s h); asks = held_if true e; hand = hand_same q }
     returned_as false e w q = ended old.callers s.callers refl refl h.callers w (held_if false e) q
 
     abbrev held : Bool
     held = is_held_up old.env.own old.env
 
+    unhandled : step source s ≡ quiet.fault Unhandled h.run.rest [] s → new ≡ old → MainLeft source code end.Unhandled new s
+    unhandled w q = record { before = s; after = quiet.at h.run.rest [] s; by = stay; line = refl; asks = w; hand = hand_same q }
+
     by_reason : (o : Option UnwindReason) (e : TaskMainEnd) → old.run.raised ≡ o → s.run.raised ≡ o → e ≡ main_by held o old.callers → new ≡ main_over e old → MainLeft source code e new s
-    by_reason None e i j k q = subst (λ x. MainLeft source code x new s) (sym k) (record { after = _; asks = main_is ∙ ap (λ o. main_left o h.run.rest s) j })
-    by_reason (Some (reason.Event n x y)) e i j k q = subst (λ x. MainLeft source code x new s) (sym k) (record { after = _; asks = main_is ∙ ap (λ o. main_left o h.run.rest s) j })
+    by_reason None e i j k q = subst (λ x. MainLeft source code x new s) (sym k) (unhandled (main_is ∙ ap (λ o. main_left o h.run.rest s) j) (q ∙ ap (λ x. main_over x old) k))
+    by_reason (Some (reason.Event n x y)) e i j k q = subst (λ x. MainLeft source code x new s) (sym k) (unhandled (main_is ∙ ap (λ o. main_left o h.run.rest s) j) (q ∙ ap (λ x. main_over x old) k))
     by_reason (Some (reason.ReturnTo home)) e i j k q =
         subst (λ x. MainLeft source code x new s) (sym k) (returned_as held (sym (own_held_up_both _ _ _ old.env s.env h.env)) (main_is ∙ ap (λ o. main_left o h.run.rest s) j) (q ∙ ap (λ x. main_over x old) k))
-    by_reason (Some reason.Destroyed) e i j k q = subst (λ x. MainLeft source code x new s) (sym k) (record { after = _; asks = main_is ∙ ap (λ o. main_left o h.run.rest s) j })
+    by_reason (Some reason.Destroyed) e i j k q = subst (λ x. MainLeft source code x new s) (sym k) (unhandled (main_is ∙ ap (λ o. main_left o h.run.rest s) j) (q ∙ ap (λ x. main_over x old) k))
 
     pub main_left_as : (e : TaskMainEnd) → e ≡ main_by held old.run.raised old.callers → new ≡ main_over e old → MainLeft source code e new s
     main_left_as e k q =

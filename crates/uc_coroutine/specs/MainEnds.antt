@@ -7,18 +7,17 @@ use Rattle.uc_entry.specs.declared.fault.RunFault.TheVariants as fault
 use Rattle.uc_entry.specs.Faults.{fault_number}
 use Rattle.uc_entry.specs.declared.request.Request.TheVariants as ask
 use Rattle.uc_machine.specs.Executions.{calmed}
-use Rattle.uc_machine.specs.Quiet.{State, Asks, quiet, Quietly, line_of}
+use Rattle.uc_machine.specs.Quiet.{State}
 use Rattle.uc_code.specs.Layout.{Laid}
 use Rattle.uc_frames.specs.Objects.{arrived_at}
-use Rattle.uc_frames.specs.Machine.{Activation, Machine, cell_of, nought}
+use Rattle.uc_frames.specs.Machine.{Activation, Machine, nought}
 use Rattle.uc_frames.specs.Calls.{left}
-use Rattle.uc_frames.specs.StandsByParts.{Numbered, MembersStand}
-use Rattle.uc_frames.specs.Stands.{RunStands, CallerStands, Stands}
+use Rattle.uc_frames.specs.Stands.{Stands}
 use Rattle.uc_frames.specs.UnwindingStands.{Unwinds}
 use Rattle.uc_coroutine.specs.declared.testing.TaskMainEnd.{TaskMainEnd}
 use Rattle.uc_coroutine.specs.declared.testing.TaskMainEnd.TheVariants.{Ended, Returned, Unhandled, HeldUp}
 use Rattle.uc_coroutine.specs.UnwindingSteps.{Leads, GoesTo}
-use Rattle.uc_coroutine.specs.Switching.{AsksFault}
+use Rattle.uc_coroutine.specs.Switching.{AsksBehind}
 
 -- an unwinding is over, or goes on at this op
 abbrev pub block_over : Bool → ℕ → Machine → Machine
@@ -58,21 +57,8 @@ module _ (source : Source) (code : Laid) where
   BlockLeft true m s = GoesTo source code (Stands code) m s
   BlockLeft false m s = GoesTo source code (Unwinds code) m s
 
-  -- it asks this, behind some quiet steps, in the same line, and what it has in hand stands
-  pub record AsksEnd (m : Machine) (s : State) : Type 0 where
-    pub before : State
-    pub after : State
-    pub by : Quietly source s before
-    pub line : line_of before ≡ line_of s
-    pub asks : quiet source before ≡ Asks ask.End after
-    pub hand : Numbered (MembersStand (RunStands code) (CallerStands code) cell_of) m.env.hand after.env.hand
-
-  pub record AsksUnhandled (s : State) : Type 0 where
-    pub after : State
-    pub asks : quiet source s ≡ Asks (ask.Fault (fault_number fault.Unhandled)) after
-
   abbrev pub MainLeft : TaskMainEnd → Machine → State → Type 0
-  MainLeft Ended m s = AsksEnd m s
+  MainLeft Ended m s = AsksBehind source code ask.End m s
   MainLeft Returned m s = Leads source code (Stands code) m s
-  MainLeft Unhandled m s = AsksUnhandled s
-  MainLeft HeldUp m s = AsksFault source code fault.BlockedInside s
+  MainLeft Unhandled m s = AsksBehind source code (ask.Fault (fault_number fault.Unhandled)) m s
+  MainLeft HeldUp m s = AsksBehind source code (ask.Fault (fault_number fault.BlockedInside)) m s

@@ -5,13 +5,15 @@ use Rattle.uc_machine.specs.declared.exec.UnwindReason.{UnwindReason}
 use Rattle.uc_machine.specs.declared.exec.UnwindReason.TheVariants as reason
 use Rattle.uc_entry.specs.declared.fault.RunFault.{RunFault}
 use Rattle.uc_entry.specs.Faults.{fault_number}
+use Rattle.uc_entry.specs.declared.request.Request.{Request}
 use Rattle.uc_entry.specs.declared.request.Request.TheVariants as ask
 use Rattle.uc_machine.specs.Quiet.{State, Asks, quiet, Quietly, line_of}
 use Rattle.uc_machine.specs.Executions as exec
 use Rattle.uc_machine.specs.Switches.{Moved, To, Stops, finish, escape, taken_down}
 use Rattle.uc_code.specs.Layout.{Laid}
-use Rattle.uc_frames.specs.Machine.{Machine}
-use Rattle.uc_frames.specs.Stands.{Stands}
+use Rattle.uc_frames.specs.Machine.{Machine, cell_of}
+use Rattle.uc_frames.specs.StandsByParts.{Numbered, MembersStand}
+use Rattle.uc_frames.specs.Stands.{RunStands, CallerStands, Stands}
 use Rattle.uc_coroutine.specs.UnwindingSteps.{Leads}
 
 module _ {C V : Type 0} where
@@ -32,14 +34,15 @@ module _ {C V : Type 0} where
   left_by _ s = escape s
 
 module _ (source : Source) (code : Laid) where
-  -- it ends by this fault, behind some quiet steps, in the same line
-  pub record AsksFault (f : RunFault) (s : State) : Type 0 where
+  -- it asks this, behind some quiet steps, in the same line, and what it has in hand stands
+  pub record AsksBehind (r : Request) (m : Machine) (s : State) : Type 0 where
     pub before : State
     pub after : State
     pub by : Quietly source s before
     pub line : line_of before ≡ line_of s
-    pub asks : quiet source before ≡ Asks (ask.Fault (fault_number f)) after
+    pub asks : quiet source before ≡ Asks r after
+    pub hand : Numbered (MembersStand (RunStands code) (CallerStands code) cell_of) m.env.hand after.env.hand
 
   abbrev pub SwitchedAs : Option RunFault → Machine → State → Type 0
   SwitchedAs None m s = Leads source code (Stands code) m s
-  SwitchedAs (Some f) m s = AsksFault f s
+  SwitchedAs (Some f) m s = AsksBehind (ask.Fault (fault_number f)) m s

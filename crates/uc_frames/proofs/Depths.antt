@@ -1,5 +1,5 @@
 -- The oldest frame first, as it is kept, and the newest first, as contracts see it.
-use Rattle.std.proofs.Common.{◌≡◌, ℕ, zero, suc, ◌+◌, ◌-◌, ◌<◌, List, [], ◌∷◌, length, Some, None, true, false, refl, sym, ap, ◌∙◌, arith, set, map, reverse, get_or}
+use Rattle.std.proofs.Common.{◌≡◌, ℕ, zero, suc, ◌+◌, ◌-◌, ◌<◌, ◌≤◌, List, [], ◌∷◌, length, Some, None, true, false, refl, sym, ap, ◌∙◌, arith, set, map, reverse, get_or}
 use Rattle.std.specs.Prelude.{slice_get, slice_set, slice_index_or, nat_eq}
 use mathlib.Core.List.{reverse_aux}
 use Rattle.std.proofs.lemmas.Bool.{eq-eqb, ne_eqb}
@@ -72,17 +72,43 @@ module _ {X : Type 0} where
   set_reverse xs d y = let k : 0 + d ≡ d = omega arith in rw k at (set_new xs [] d y)
 
 module _ {V : Type 0} where
-  pub read_view : (xs : List (List V)) (f k : ℕ) (v : V) → slice_index_or (list_in (slice_get xs f)) k v ≡ slice_index_or (list_in (at_depth (reverse xs) f)) k v
+  read_view : (xs : List (List V)) (f k : ℕ) (v : V) → slice_index_or (list_in (slice_get xs f)) k v ≡ slice_index_or (list_in (at_depth (reverse xs) f)) k v
   read_view xs f k v = rw (at_reverse xs f) refl
 
-  pub change_view : (xs ys : List (List V)) (f : ℕ) (g : List V → List V) → ys ≡ slice_set xs f (g (list_in (slice_get xs f))) → reverse ys ≡ frame_changed f g (reverse xs)
+  change_view : (xs ys : List (List V)) (f : ℕ) (g : List V → List V) → ys ≡ slice_set xs f (g (list_in (slice_get xs f))) → reverse ys ≡ frame_changed f g (reverse xs)
   change_view xs ys f g e = ap reverse e ∙ rw (at_reverse xs f) (sym (set_reverse xs f _))
 
   frame_read : {A : Type 0} (h : A → List V) (xs : List A) (f : ℕ) (v : A) → f < length xs → v ≡ get_or xs f v → list_in (slice_get (map h xs) f) ≡ h v
   frame_read h xs f v l e = ap list_in (slice_get-map h xs f) ∙ ap (λ o. list_in (option_map h o)) (slice_get_read xs (length xs) f v refl l e)
 
-  pub set_frame : {A : Type 0} (h : A → List V) (xs : List A) (f : ℕ) (g : List V → List V) (v w : A) → f < length xs → v ≡ get_or xs f v → h w ≡ g (h v) → map h (set xs f w) ≡ slice_set (map h xs) f (g (list_in (slice_get (map h xs) f)))
+  set_frame : {A : Type 0} (h : A → List V) (xs : List A) (f : ℕ) (g : List V → List V) (v w : A) → f < length xs → v ≡ get_or xs f v → h w ≡ g (h v) → map h (set xs f w) ≡ slice_set (map h xs) f (g (list_in (slice_get (map h xs) f)))
   set_frame h xs f g v w l q e = map-set h xs f w ∙ ap (slice_set (map h xs) f) (e ∙ ap g (sym (frame_read h xs f v l q)))
+
+  -- a frame that is there, as contracts see it
+
+  pub read_there : {A : Type 0} (h : A → List V) (xs : List A) (f k : ℕ) (d : V) (v : A) → f < length xs → v ≡ get_or xs f v → slice_index_or (h v) k d ≡ slice_index_or (list_in (at_depth (reverse (map h xs)) f)) k d
+  read_there h xs f k d v l e = ap (λ ys. slice_index_or ys k d) (sym (frame_read h xs f v l e)) ∙ read_view (map h xs) f k d
+
+  pub write_there : {A : Type 0} (h : A → List V) (xs : List A) (f : ℕ) (g : List V → List V) (v w : A) → f < length xs → v ≡ get_or xs f v → h w ≡ g (h v) → reverse (map h (set xs f w)) ≡ frame_changed f g (reverse (map h xs))
+  write_there h xs f g v w l q e = change_view (map h xs) (map h (set xs f w)) f g (set_frame h xs f g v w l q e)
+
+  -- one that is not there
+
+  no_frame : {A : Type 0} (h : A → List V) (xs : List A) (f : ℕ) → length xs ≤ f → slice_get (map h xs) f ≡ None
+  no_frame h [] f l = refl
+  no_frame h (x ∷ xs) zero l = absurd (omega arith)
+  no_frame h (x ∷ xs) (suc f) l = no_frame h xs f (omega arith)
+
+  set_nothing : {A : Type 0} (h : A → List V) (xs : List A) (f : ℕ) (y : List V) → length xs ≤ f → map h xs ≡ slice_set (map h xs) f y
+  set_nothing h [] f y l = refl
+  set_nothing h (x ∷ xs) zero y l = absurd (omega arith)
+  set_nothing h (x ∷ xs) (suc f) y l = ap (λ ys. h x ∷ ys) (set_nothing h xs f y (omega arith))
+
+  pub read_nothing : {A : Type 0} (h : A → List V) (xs : List A) (f k : ℕ) (d : V) → length xs ≤ f → d ≡ slice_index_or (list_in (at_depth (reverse (map h xs)) f)) k d
+  read_nothing h xs f k d l = ap (λ o. slice_index_or (list_in o) k d) (sym (no_frame h xs f l)) ∙ read_view (map h xs) f k d
+
+  pub write_nothing : {A : Type 0} (h : A → List V) (xs : List A) (f : ℕ) (g : List V → List V) → length xs ≤ f → reverse (map h xs) ≡ frame_changed f g (reverse (map h xs))
+  write_nothing h xs f g l = change_view (map h xs) (map h xs) f g (set_nothing h xs f _ l)
 
 -- the activation of a depth, of the newest one and those that wait
 module _ {X : Type 0} (run : X) (xs : List X) (d : ℕ) where

@@ -1,14 +1,13 @@
 -- Executions that are left at a home, changed, exchanged, or no more.
 use Rattle.std.proofs.Common.{◌≡◌, ℕ, List, Option, Some, None, sym, ap, ◌∙◌, get_or}
 use Rattle.std.specs.Prelude.{slice_set}
-use Rattle.uc_machine.specs.declared.exec.Home.TheVariants.{Object}
-use Rattle.uc_machine.specs.Executions.{Links, Execution, joined, update, change_in, change, frames_by, frames_changed}
+use Rattle.uc_machine.specs.Executions.{Links, Execution, joined, update, frames_by, frames_changed}
 use Rattle.uc_entry.specs.Keyed.{find}
 use Rattle.uc_machine.specs.Switches.{slot_set, slot_gone, links_by, links_changed}
 use Rattle.uc_frames.specs.declared.cell.Cell.{Cell}
-use Rattle.uc_frames.specs.Machine.{Machine, Members, with_hand}
+use Rattle.uc_frames.specs.Machine.{Members}
 use Rattle.uc_frames.specs.Numbered.{IsAt}
-use Rattle.uc_frames.proofs.Positions.{update_none, without_none, find_is, set_is, set_same, joined_is}
+use Rattle.uc_frames.proofs.Positions.{update_none, without_none, set_is, set_same, joined_is}
 
 abbrev Slot : Type 0
 Slot = Option (Execution ℕ Cell)
@@ -49,10 +48,3 @@ module _ (k : ℕ) (m : Members) where
 
   pub frames_absent : (g : List (List Cell) → List (List Cell)) → find k m.parked ≡ None → m ≡ frames_changed k g m
   frames_absent g e = sym (ap (λ z. frames_by k g (joined z) m) e)
-
--- what is at home in an object in hand is changed
-module _ (o : ℕ) (t : Machine) (hs : List (ℕ × Members)) (i : ℕ) (h : IsAt o hs i) (p : ℕ × Members) (e : p ≡ get_or hs i p) where
-  pub hand_there : (g : Members → Members) (m : Members) → m ≡ g p.1 → with_hand (slice_set hs i (p.0, m)) t ≡ (let s : Machine = with_hand hs t in record s { env = change (Object o) g s.env })
-  hand_there g m q =
-      ap (λ (l : List (ℕ × Members)). with_hand l t) (set_is o hs i h p e m ∙ ap (λ z. update o z hs) q)
-      ∙ sym (ap (λ x. let s : Machine = with_hand hs t in let r : Machine = record s { env = change_in (Object o) g x s.env } in r) (find_is o hs i h p e))

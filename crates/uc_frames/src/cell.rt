@@ -6,7 +6,7 @@ ghost use Rattle.uc_frames.specs.Machine.{cell_number, exec_in as exec_named, sh
 use uc_machine::exec::{Exec, Owner};
 
 /// A number; a place, by what holds it and the cells before it there; an execution; a mutex object; or nothing.
-#[derive(Clone, Copy, PartialEq, Eq, Debug)]
+#[derive(Clone, Copy)]
 pub enum Cell {
     Number(i64),
     Place(Owner, u64),

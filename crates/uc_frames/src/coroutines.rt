@@ -10,7 +10,10 @@ ghost use Rattle.uc_frames.specs.Machine.{top, exec_at, own_exec, resumed, home_
 ghost use Rattle.uc_frames.specs.Unwinding.{delivered};
 
 use crate::cell::{Cell, exec_in};
+use crate::event::event_of;
+use crate::links::drop_enabled;
 use crate::numbered::{is_same_home, position};
+use crate::operands::push_event;
 use crate::parked::ParkedStack;
 use crate::work::Work;
 use std::alloc::AllocError;
@@ -30,7 +33,7 @@ impl Work {
         ensures { result ≡ resumed self.now }
     {
         if self.home() == 0 {
-            Some(self.exec())
+            Some(self.task.parts.exec)
         } else {
             self.own_exec()
         }
@@ -60,12 +63,12 @@ impl Work {
     pub fn is_live_at(&self, exec: Exec) -> bool
         ensures { result ≡ live_at exec self.now.env }
     {
-        if self.task.runs(exec) {
-            return self.task.links().is_live();
+        if self.runs(exec) {
+            return self.task.parts.running.links.live;
         }
         match self.parked(exec) {
             None => false,
-            Some(stack) => stack.links().is_live(),
+            Some(stack) => stack.stack.links.live,
         }
     }
 
@@ -75,7 +78,7 @@ impl Work {
         ensures err { OnErr result (self.new ≡ self.old) }
     {
         let this = self.this();
-        let stack = self.task.fresh(routine, this)?;
+        let stack = ParkedStack::fresh(self.task.parts.alloc, routine, this)?;
         let home = self.home_at(this);
         let exec = self.new_exec(home);
         self.add(home, stack)?;
@@ -88,11 +91,11 @@ impl Work {
         ensures { result ≡ home_at place self.now.env }
     {
         match place {
-            Cell::Number(_) => self.exec().home,
+            Cell::Number(_) => self.task.parts.exec.home,
             Cell::Place(owner, _) => home_in(owner),
-            Cell::Running(_) => self.exec().home,
+            Cell::Running(_) => self.task.parts.exec.home,
             Cell::Object(object) => Home::Object(object),
-            Cell::Nothing => self.exec().home,
+            Cell::Nothing => self.task.parts.exec.home,
         }
     }
 
@@ -115,13 +118,15 @@ impl Work {
     {
         match home {
             Home::Task(task) => {
-                self.task.add(task, stack)?;
+                if task == self.task.parts.own {
+                    self.task.parts.house.add(stack)?;
+                }
                 Ok(())
             }
             Home::Object(object) => {
                 if let Some(i) = position(&self.hand, u64::from(object)) {
                     let members = self.hand.get_mut(i);
-                    members.1.add(stack)?;
+                    members.1.house.add(stack)?;
                 }
                 Ok(())
             }
@@ -141,8 +146,8 @@ impl Work {
     pub fn set_live(&mut self, exec: Exec, live: bool)
         ensures { self.new ≡ record self.old { env = with_links (lively live) exec self.old.env } }
     {
-        if self.task.runs(exec) {
-            self.task.set_own_live(live);
+        if self.runs(exec) {
+            self.task.parts.running.links.set_live(live);
         } else {
             self.set_parked_live(exec, live);
         }
@@ -152,11 +157,15 @@ impl Work {
         ensures { self.new ≡ record self.old { env = change exec.home (links_changed (lively live) exec.serial) self.old.env } }
     {
         match exec.home {
-            Home::Task(task) => self.task.set_live(task, exec.serial, live),
+            Home::Task(task) => {
+                if task == self.task.parts.own {
+                    self.task.parts.house.set_live(exec.serial, live);
+                }
+            }
             Home::Object(object) => {
                 if let Some(i) = position(&self.hand, u64::from(object)) {
                     let members = self.hand.get_mut(i);
-                    members.1.set_live(exec.serial, live);
+                    members.1.house.set_live(exec.serial, live);
                 }
             }
         }
@@ -166,14 +175,14 @@ impl Work {
     pub fn own(&self) -> u32
         ensures { result ≡ self.now.env.own }
     {
-        self.task.own()
+        self.task.parts.own
     }
 
     /// Whether the task's own execution runs, and not that of a coroutine.
     pub fn is_own(&self) -> bool
         ensures { result ≡ is_own self.now.env }
     {
-        self.task.runs(Exec {
+        self.runs(Exec {
             home: Home::Task(self.own()),
             serial: 0,
         })
@@ -184,7 +193,7 @@ impl Work {
     pub fn is_held_up(&self, object: u32) -> bool
         ensures { result ≡ is_held_up object self.now.env }
     {
-        if is_same_home(self.exec().home, Home::Object(object)) {
+        if is_same_home(self.task.parts.exec.home, Home::Object(object)) {
             return true;
         }
         match self.members(Home::Object(object)) {
@@ -197,7 +206,7 @@ impl Work {
     pub fn enabled(&self) -> u64
         ensures { result ≡ self.now.env.links.enabled }
     {
-        self.task.links().enabled()
+        self.task.parts.running.links.enabled
     }
 
     /// The oldest event that is pending and enabled at the running execution, if there is one, is delivered: it goes, and its number and its
@@ -207,8 +216,16 @@ impl Work {
         ensures after { OnOk result (self.new ≡ delivered (oldest_enabled self.old.env.links) self.old) }
         ensures err { OnErr result (self.new ≡ self.old) }
     {
-        let there = self.task.deliver()?;
-        Ok(there)
+        let running = &mut self.task.parts.running;
+        match running.links.oldest_enabled() {
+            None => Ok(false),
+            Some(pending) => {
+                running.run.operands.reserve(3)?;
+                push_event(&mut running.run.operands, event_of(pending));
+                drop_enabled(&mut running.links.pending, running.links.enabled);
+                Ok(true)
+            }
+        }
     }
 
     /// The execution of the coroutine at hand is no more.
@@ -224,11 +241,15 @@ impl Work {
         ensures { self.new ≡ record self.old { env = gone exec self.old.env } }
     {
         match exec.home {
-            Home::Task(task) => self.task.remove(task, exec.serial),
+            Home::Task(task) => {
+                if task == self.task.parts.own {
+                    self.task.parts.house.remove(exec.serial);
+                }
+            }
             Home::Object(object) => {
                 if let Some(i) = position(&self.hand, u64::from(object)) {
                     let members = self.hand.get_mut(i);
-                    members.1.remove(exec.serial);
+                    members.1.house.remove(exec.serial);
                 }
             }
         }

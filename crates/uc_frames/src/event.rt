@@ -8,7 +8,7 @@ use crate::cell::{Cell, number_in};
 use uc_machine::exec::{Pending, Visited};
 
 /// An event by its number, with its fields.
-#[derive(Clone, Copy, PartialEq, Eq, Debug)]
+#[derive(Clone, Copy)]
 pub struct Event {
     pub number: u8,
     pub x: i64,

@@ -1,7 +1,7 @@
-// Cells in frames, the oldest frame first.
+// Cells in frames, the oldest frame first. Contracts see the newest first.
 
-ghost use Rattle.std.specs.Prelude.{◌≡◌, length, map, replicate, IfOk, slice_index_or, slice_get, slice_set, vec_len};
-ghost use Rattle.uc_machine.specs.Executions.{list_in, values_cleared};
+ghost use Rattle.std.specs.Prelude.{◌≡◌, length, map, replicate, reverse, IfOk, slice_index_or, vec_len};
+ghost use Rattle.uc_machine.specs.Executions.{at_depth, frame_changed, list_in, values_cleared};
 ghost use Rattle.uc_frames.specs.Machine.{nought, cell_written};
 
 use crate::cell::{Cell, written_over};
@@ -53,33 +53,38 @@ fn zero(cells: &mut [Cell])
     }
 }
 
-pub(crate) fn get_in(frames: &Vec<Vec<Cell>>, frame: u32, at: u64) -> Cell
+// The cell at a place of a frame, 0 where there is none. The oldest frame has depth 0.
+pub(crate) fn read_in(frames: &Vec<Vec<Cell>>, depth: u32, at: u64) -> Cell
     ensures { result
-        ≡ slice_index_or (list_in (slice_get (map (λ f. f.items) frames.now.items) frame)) at nought }
+        ≡ slice_index_or (list_in (at_depth (reverse (map (λ f. f.items) frames.now.items)) depth)) at nought }
 {
-    match frames.get(frame as usize) {
-        None => Cell::Number(0),
-        Some(cells) => get(cells, at),
+    let frame = depth as usize;
+    if frame < frames.len() {
+        get(&frames[frame], at)
+    } else {
+        Cell::Number(0)
     }
 }
 
-pub(crate) fn put_in(frames: &mut Vec<Vec<Cell>>, frame: u32, at: u64, cell: Cell)
-    ensures items { map (λ f. f.items) frames.new.items
-        ≡ slice_set (map (λ f. f.items) frames.old.items) frame (cell_written at cell (list_in (slice_get (map (λ f. f.items) frames.old.items) frame))) }
+// A cell is written at a place of a frame; a binding stays.
+pub(crate) fn write_in(frames: &mut Vec<Vec<Cell>>, depth: u32, at: u64, cell: Cell)
+    ensures items { reverse (map (λ f. f.items) frames.new.items)
+        ≡ frame_changed depth (cell_written at cell) (reverse (map (λ f. f.items) frames.old.items)) }
     ensures len { vec_len frames.new ≡ vec_len frames.old }
 {
-    let frame = frame as usize;
+    let frame = depth as usize;
     if frame < frames.len() {
         put(&mut frames[frame], at, cell);
     }
 }
 
-pub(crate) fn clear_in(frames: &mut Vec<Vec<Cell>>, frame: u32, from: u32, count: u32)
-    ensures items { map (λ f. f.items) frames.new.items
-        ≡ slice_set (map (λ f. f.items) frames.old.items) frame (values_cleared from count nought (list_in (slice_get (map (λ f. f.items) frames.old.items) frame))) }
+// So many cells of a frame are 0, from this one on.
+pub(crate) fn clear_in(frames: &mut Vec<Vec<Cell>>, depth: u32, from: u32, count: u32)
+    ensures items { reverse (map (λ f. f.items) frames.new.items)
+        ≡ frame_changed depth (values_cleared from count nought) (reverse (map (λ f. f.items) frames.old.items)) }
     ensures len { vec_len frames.new ≡ vec_len frames.old }
 {
-    let frame = frame as usize;
+    let frame = depth as usize;
     if frame < frames.len() {
         clear(&mut frames[frame], from, count);
     }

@@ -1,6 +1,7 @@
 // The cells of tasks: stacks of frames, and what is at home in tasks and mutex objects.
 #![tactic(auto)]
 
+mod activations;
 pub mod active;
 pub mod call;
 pub mod cell;
@@ -18,5 +19,6 @@ mod pending;
 pub mod pieces;
 pub mod search;
 pub mod stack;
+mod switching;
 pub mod task;
 pub mod work;

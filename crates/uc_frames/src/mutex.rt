@@ -4,13 +4,14 @@ ghost use Rattle.std.specs.Prelude.{◌≡◌, ◌≤◌, ◌++◌, [], drop, If
 ghost use Rattle.uc_machine.specs.Executions.{taken};
 ghost use Rattle.uc_machine.specs.Pieces.{is_zero};
 ghost use Rattle.uc_entry.specs.Keyed.{find};
-ghost use Rattle.uc_machine.specs.Insides.{build_begun, build_ended, call_begun, call_ended, call_gone, counted_no_more};
+ghost use Rattle.uc_machine.specs.Insides.{build_begun, build_ended, call_begun, call_ended, call_gone};
 ghost use Rattle.uc_frames.specs.Machine.{first_machine, top, below, cell_number};
-ghost use Rattle.uc_frames.specs.Objects.{arrived_at, bound, guard_bit, mask_of, with_object};
+ghost use Rattle.uc_frames.specs.Objects.{bound, guard_bit, mask_of, with_object};
 ghost use Rattle.uc_frames.specs.Unwinding.{failure, operands_of};
 
 use crate::cell::{Cell, number_in};
 use crate::members::Members;
+use crate::operands::put_below;
 use crate::task::Task;
 use crate::work::Work;
 use std::alloc::AllocError;
@@ -22,7 +23,7 @@ impl Work {
     pub fn child(&self, main: RoutineCode, own: u32) -> Result<Task, AllocError>
         ensures { IfOk result (λ t. t ≡ first_machine main own) }
     {
-        let child = Task::first(self.task.alloc(), main, own)?;
+        let child = Task::first(self.task.parts.alloc, main, own)?;
         Ok(child)
     }
 
@@ -30,7 +31,7 @@ impl Work {
     pub fn depth(&self, object: u32) -> Option<u32>
         ensures { result ≡ find object self.now.env.depths }
     {
-        self.task.depths().at(object)
+        self.task.parts.depths.at(object)
     }
 
     /// A mutex call of an object begins. Counts at their most have want of memory.
@@ -38,7 +39,12 @@ impl Work {
         ensures ok { OnOk result (self.new ≡ record self.old { env = call_begun object self.old.env }) }
         ensures err { OnErr result (self.new ≡ self.old) }
     {
-        self.task.begin_call(object)?;
+        let parts = &mut *self.task.parts;
+        if parts.running.links.mutex_calls == u32::MAX {
+            return Err(AllocError);
+        }
+        parts.depths.deepen(object)?;
+        parts.running.links.mutex_calls += 1;
         Ok(())
     }
 
@@ -46,14 +52,18 @@ impl Work {
     pub fn end_call(&mut self, object: u32)
         ensures { self.new ≡ record self.old { env = call_ended object self.old.env } }
     {
-        self.task.end_call(object);
+        let parts = &mut *self.task.parts;
+        parts.depths.lessen(object);
+        parts.running.links.mutex_calls = parts.running.links.mutex_calls.saturating_sub(1);
     }
 
     /// The mutex call in which an object is destroyed ends.
     pub fn end_gone(&mut self, object: u32)
         ensures { self.new ≡ record self.old { env = call_gone object self.old.env } }
     {
-        self.task.end_gone(object);
+        self.task.parts.depths.leave(object);
+        let links = &mut self.task.parts.running.links;
+        links.mutex_calls = links.mutex_calls.saturating_sub(1);
     }
 
     /// The building of a mutex object begins. Counts at their most have want of memory.
@@ -61,7 +71,11 @@ impl Work {
         ensures ok { OnOk result (self.new ≡ record self.old { env = build_begun self.old.env }) }
         ensures err { OnErr result (self.new ≡ self.old) }
     {
-        self.task.begin_build()?;
+        let links = &mut self.task.parts.running.links;
+        if links.builds == u32::MAX {
+            return Err(AllocError);
+        }
+        links.builds += 1;
         Ok(())
     }
 
@@ -69,14 +83,9 @@ impl Work {
     pub fn end_build(&mut self, object: u32)
         ensures { self.new ≡ record self.old { env = build_ended object self.old.env } }
     {
-        self.task.end_build(object);
-    }
-
-    /// The running activation is no active call any more.
-    pub fn count_no_more(&mut self)
-        ensures { self.new ≡ counted_no_more self.old }
-    {
-        self.task.count_no_more();
+        let parts = &mut *self.task.parts;
+        parts.depths.leave(object);
+        parts.running.links.builds = parts.running.links.builds.saturating_sub(1);
     }
 
     /// The place below the arguments of a routine is bound to the newest operand, which goes and stands there.
@@ -85,7 +94,8 @@ impl Work {
     {
         let made = self.pop();
         let place = self.below(routine.params);
-        self.task.put_below(routine.params, made);
+        let operands = &mut self.task.parts.running.run.operands;
+        put_below(operands, routine.params, made);
         self.write(place, made);
     }
 
@@ -95,8 +105,8 @@ impl Work {
         ensures err { OnErr result (self.new ≡ self.old) }
     {
         self.hand.room()?;
-        let members = Members::new(self.task.alloc(), cells)?;
-        self.task.enter_new(object)?;
+        let members = Members::new(self.task.parts.alloc, cells)?;
+        self.task.parts.depths.enter(object)?;
         self.hand.push((u64::from(object), members));
         Ok(())
     }
@@ -119,17 +129,9 @@ impl Work {
         ensures ok { OnOk result (self.new ≡ record self.old { run = record self.old.run { operands = operands_of failure ++ below self.old.run.operands } }) }
         ensures err { OnErr result (self.new ≡ self.old) }
     {
-        self.task.push_all(&[Cell::Number(0), Cell::Number(0)])?;
-        self.task.put_below(2, Cell::Number(i64::from(FAILURE)));
-        Ok(())
-    }
-
-    /// A return of a handler has arrived at the running mutex call, which goes on at this op with what that hands over.
-    pub fn arrive(&mut self, to: u32) -> Result<(), AllocError>
-        ensures ok { OnOk result (self.new ≡ record self.old { run = arrived_at to self.old.run }) }
-        ensures err { OnErr result (self.new ≡ self.old) }
-    {
-        self.task.arrive(to)?;
+        self.push_all(&[Cell::Number(0), Cell::Number(0)])?;
+        let failure = Cell::Number(i64::from(FAILURE));
+        put_below(&mut self.task.parts.running.run.operands, 2, failure);
         Ok(())
     }
 }

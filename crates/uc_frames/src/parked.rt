@@ -1,24 +1,22 @@
 // An execution that does not run.
 
-ghost use Rattle.std.specs.Prelude.{◌≡◌, Some, IfOk, OnOk, OnErr, slice_index_or, false};
+ghost use Rattle.std.specs.Prelude.{◌≡◌, IfOk, OnOk, OnErr, slice_index_or};
 ghost use Rattle.uc_machine.specs.Executions.{at_depth, list_in, frame_changed};
-ghost use Rattle.uc_machine.specs.Switches.{woken, unwound_there};
-ghost use Rattle.uc_machine.specs.declared.exec.UnwindReason.TheVariants as reason;
 ghost use Rattle.uc_frames.specs.Machine.{nought, cell_written, fresh_execution, lively, pended};
 
 use crate::cell::Cell;
-use crate::links::Links;
+use crate::frames::{read_in, write_in};
 use crate::stack::Stack;
 use std::alloc::{AllocError, Global};
 use std::marker::Model;
 use std::mem;
 use uc_code::rows::RoutineCode;
-use uc_machine::exec::{Exec, Pending, UnwindReason};
+use uc_machine::exec::{Pending, Stage};
 
 /// A stack in a place of its own, so that it is handed on without being moved. Contracts see the stack.
 #[derive(Drop)]
 pub struct ParkedStack {
-    stack: Box<Stack>,
+    pub(crate) stack: Box<Stack>,
 }
 
 impl Model for ParkedStack {
@@ -32,17 +30,22 @@ impl Model for ParkedStack {
 }
 
 impl ParkedStack {
-    /// An execution for this object, whose main has not begun.
-    pub fn fresh(alloc: Global, routine: RoutineCode, this: Cell) -> Result<ParkedStack, AllocError>
+    // An execution for this object, whose main has not begun.
+    pub(crate) fn fresh(
+        alloc: Global,
+        routine: RoutineCode,
+        this: Cell,
+    ) -> Result<ParkedStack, AllocError>
         ensures { IfOk result (λ p. p ≡ fresh_execution routine this) }
     {
-        let stack = Stack::fresh(alloc, routine, this)?;
+        let mut stack = Stack::first(alloc, routine, this)?;
+        stack.links.stage = Stage::Fresh;
         let stack = Box::new(alloc, stack)?;
         Ok(ParkedStack { stack })
     }
 
-    /// This one runs from now on, and the one that ran is left here.
-    pub fn swap(&mut self, running: &mut Stack)
+    // This one runs from now on, and the one that ran is left here.
+    pub(crate) fn swap(&mut self, running: &mut Stack)
         ensures left { self.new ≡ running.old }
         ensures runs { running.new ≡ self.old }
     {
@@ -50,61 +53,33 @@ impl ParkedStack {
         mem::swap(stack, running);
     }
 
-    /// What travels with it besides its activations and its frames.
-    pub fn links(&self) -> &Links
-        ensures { result.now ≡ self.now.links }
+    // The cell at a place of a frame, 0 where there is none. The oldest frame has depth 0.
+    pub(crate) fn read(&self, depth: u32, at: u64) -> Cell
+        ensures { result ≡ slice_index_or (list_in (at_depth self.now.frames depth)) at nought }
     {
-        self.stack.links()
+        read_in(&self.stack.frames, depth, at)
     }
 
-    /// It is resumed by another.
-    pub fn wake(&mut self, by: Exec)
-        ensures { self.new ≡ record self.old { links = woken by self.old.links } }
+    // A cell is written at a place of a frame; a binding stays.
+    pub(crate) fn write(&mut self, depth: u32, at: u64, cell: Cell)
+        ensures { self.new ≡ record self.old { frames = frame_changed depth (cell_written at cell) self.old.frames } }
     {
-        self.stack.wake(by);
+        write_in(&mut self.stack.frames, depth, at, cell);
     }
 
-    /// Its coroutine is live; or it is no more, and its main does not begin, or go on, any more.
-    pub fn set_live(&mut self, live: bool)
+    // Its coroutine is live; or it is no more, and its main does not begin, or go on, any more.
+    pub(crate) fn set_live(&mut self, live: bool)
         ensures { self.new ≡ record self.old { links = lively live self.old.links } }
     {
-        self.stack.set_live(live);
+        self.stack.links.set_live(live);
     }
 
-    /// One more event is pending.
-    pub fn add_pending(&mut self, event: Pending) -> Result<(), AllocError>
+    // One more event is pending.
+    pub(crate) fn add_pending(&mut self, event: Pending) -> Result<(), AllocError>
         ensures ok { OnOk result (self.new ≡ record self.old { links = pended event self.old.links }) }
         ensures err { OnErr result (self.new ≡ self.old) }
     {
-        self.stack.add_pending(event)?;
+        self.stack.links.pending.push(event)?;
         Ok(())
-    }
-
-    /// It is to be unwound for this reason, as soon as it goes on.
-    pub fn raise(&mut self, why: UnwindReason)
-        ensures { self.new ≡ unwound_there why self.old }
-    {
-        self.stack.raise(why);
-    }
-
-    /// Its coroutine is destroyed by another, for which it is to be unwound.
-    pub fn destroy(&mut self, by: Exec)
-        ensures { self.new ≡ unwound_there reason.Destroyed (record self.old { links = record self.old.links { live = false; destroyer = Some by } }) }
-    {
-        self.stack.destroy(by);
-    }
-
-    /// The cell at a place of a frame, 0 where there is none. The oldest frame has depth 0.
-    pub fn read(&self, depth: u32, at: u64) -> Cell
-        ensures { result ≡ slice_index_or (list_in (at_depth self.now.frames depth)) at nought }
-    {
-        self.stack.read(depth, at)
-    }
-
-    /// A cell is written at a place of a frame; a binding stays.
-    pub fn write(&mut self, depth: u32, at: u64, cell: Cell)
-        ensures { self.new ≡ record self.old { frames = frame_changed depth (cell_written at cell) self.old.frames } }
-    {
-        self.stack.write(depth, at, cell);
     }
 }

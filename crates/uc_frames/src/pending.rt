@@ -22,7 +22,7 @@ impl Work {
     {
         let before = signed(self.enabled());
         self.set(cell, Cell::Number(before));
-        self.task.set_enabled(events);
+        self.task.parts.running.links.enabled = events;
     }
 
     /// Only those events are enabled there that such a cell keeps.
@@ -30,7 +30,7 @@ impl Work {
         ensures { self.new ≡ record self.old { env = with_enabled (events_in (cell_number (loaded (shifted cell (Cell.Place (this_frame self.old) 0)) self.old.env))) self.old.env } }
     {
         let kept = number_in(self.get(cell));
-        self.task.set_enabled(unsigned(kept));
+        self.task.parts.running.links.enabled = unsigned(kept);
     }
 
     /// The event that stands below the newest operand.
@@ -48,12 +48,12 @@ impl Work {
     pub fn pending_count(&self, exec: Exec) -> usize
         ensures { result ≡ length (pending_at exec self.now.env) }
     {
-        if self.task.runs(exec) {
-            return self.task.links().pending_count();
+        if self.runs(exec) {
+            return self.task.parts.running.links.pending.len();
         }
         match self.parked(exec) {
             None => 0,
-            Some(stack) => stack.links().pending_count(),
+            Some(stack) => stack.stack.links.pending.len(),
         }
     }
 
@@ -62,8 +62,8 @@ impl Work {
         ensures ok { OnOk result (self.new ≡ record self.old { env = raised_at exec event self.old.env }) }
         ensures err { OnErr result (self.new ≡ self.old) }
     {
-        if self.task.runs(exec) {
-            self.task.add_own_pending(event)?;
+        if self.runs(exec) {
+            self.task.parts.running.links.pending.push(event)?;
         } else {
             self.add_pending(exec, event)?;
         }
@@ -76,13 +76,15 @@ impl Work {
     {
         match exec.home {
             Home::Task(task) => {
-                self.task.add_pending(task, exec.serial, event)?;
+                if task == self.task.parts.own {
+                    self.task.parts.house.add_pending(exec.serial, event)?;
+                }
                 Ok(())
             }
             Home::Object(object) => {
                 if let Some(i) = position(&self.hand, u64::from(object)) {
                     let members = self.hand.get_mut(i);
-                    members.1.add_pending(exec.serial, event)?;
+                    members.1.house.add_pending(exec.serial, event)?;
                 }
                 Ok(())
             }

@@ -1,5 +1,5 @@
 -- The processors with one entry more.
-use Rattle.std.proofs.Common.{◌≡◌, ℕ, zero, suc, ℤ, pos, ◌+◌, ◌==◌, ◌||◌, Bool, true, false, cond, not, List, [], ◌∷◌, ◌++◌, Option, Some, None, map, refl, sym, ap, ◌∙◌, subst, append-nil, append_assoc, arith}
+use Rattle.std.proofs.Common.{◌≡◌, ℕ, zero, suc, ◌+◌, ◌==◌, ◌||◌, Bool, true, false, cond, not, List, [], ◌∷◌, ◌++◌, None, map, refl, sym, ap, ◌∙◌, subst, append-nil, append_assoc, arith}
 use Rattle.std.specs.Option.{option_to_list}
 use Rattle.std.specs.List.{filter, list_any, range_with_len}
 use Rattle.std.proofs.lemmas.List.{map-append}
@@ -10,7 +10,7 @@ use Rattle.uc_entry.specs.declared.entry.EntryKind.TheVariants as kind
 use Rattle.uc_entry.specs.declared.entry.Options.{Options}
 use Rattle.uc_acts.specs.Fit.{AreOf, types_of, numbers_of}
 use Rattle.uc_acts.specs.Open.{still_open}
-use Rattle.uc_acts.specs.Journal.{Journal, number, holds}
+use Rattle.uc_acts.specs.Journal.{Journal, number}
 use Rattle.uc_acts.specs.Queues.{processors, open_processors, makes_processor, closes}
 use Rattle.uc_acts.proofs.OpenLemmas.{still_open_push, filter_true, any_push}
 use Rattle.uc_judge.proofs.Events.{holds_number}

@@ -26,9 +26,8 @@ use Rattle.uc_acts.proofs.Hush.{is_silent}
 use Rattle.uc_acts.proofs.Others.{flip, running_apart}
 use Rattle.uc_kernel_core.specs.Mirrors.{Seen}
 use Rattle.uc_kernel_core.specs.CoreActs.{makes_new}
-use Rattle.uc_kernel.specs.declared.given.Back.{Back}
 use Rattle.uc_kernel.specs.declared.rests.TaskAtRest.{TaskAtRest}
-use Rattle.uc_kernel.specs.KernelState.{task_in}
+use Rattle.uc_kernel.specs.KernelState.{Brought, task_in}
 use Rattle.uc_kernel.specs.AtRest.{Lies, IsAct, CanLetIn, LetIn, LetInBy, none_there, own, another, hand_after, loose_after, admission_in, is_admit, is_ready, AreApart}
 use Rattle.uc_kernel.proofs.Hands.{no_both, some-same}
 use Rattle.uc_kernel.proofs.Lying.{not_true, apart_of}
@@ -257,7 +256,7 @@ pub record Done {T M : Type 0} (t p : ℕ) (j i : Journal) (a : List Entry) (ite
   pub less : (u : ℕ) → u < length tasks2 → slice_index_or tasks2 u None ≡ None → u < length tasks
   pub longer : length tasks ≤ length tasks2
 
-module _ {T M : Type 0} (s : Seen) (t : ℕ) (first : Entry) (admission : Option Entry) (b : Back T M) (tasks : List (Option (TaskAtRest T M))) (loose : List (Option M)) (x : IsAct s t first admission b tasks loose) (plain : makes_new b.asked.request ≡ false) where
+module _ {T M : Type 0} (s : Seen) (t : ℕ) (first : Entry) (admission : Option Entry) (b : Brought T M) (tasks : List (Option (TaskAtRest T M))) (loose : List (Option M)) (x : IsAct s t first admission b tasks loose) (plain : makes_new b.asked.request ≡ false) where
   abbrev p : ℕ
   p = b.processor
 

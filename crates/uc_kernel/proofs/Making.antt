@@ -33,13 +33,12 @@ use Rattle.uc_acts.proofs.Others.{flip}
 use Rattle.uc_acts.proofs.Law.{good_whole}
 use Rattle.uc_acts.proofs.Answered.{law_answered, answer_push}
 use Rattle.uc_kernel_core.specs.Mirrors.{Seen}
-use Rattle.uc_kernel.specs.declared.given.Back.{Back}
 use Rattle.uc_kernel.specs.declared.given.Given.{Given}
 use Rattle.uc_kernel.specs.declared.given.Next.{Next}
 use Rattle.uc_kernel.specs.declared.given.Next.TheVariants.{Go, Blocked, Ended}
 use Rattle.uc_kernel.specs.declared.rests.TaskAtRest.{TaskAtRest}
 use Rattle.uc_kernel.specs.Numbered.{keys, or_else, added, gathered}
-use Rattle.uc_kernel.specs.KernelState.{Kept, kept, stored, put_back, task_in, member_among}
+use Rattle.uc_kernel.specs.KernelState.{Brought, Kept, kept, stored, put_back, task_in, member_among}
 use Rattle.uc_kernel.specs.Calls.{LacksNew, Goes, Ends, Follows, is_object}
 use Rattle.uc_kernel.specs.AtRest.{Lies, FromAct, is_admit, IsMake, is_ready, GoesWith, HandedOn, earlier, AreApart}
 use Rattle.uc_kernel.proofs.Hands.{no_both, none_found, gathered_hand}
@@ -298,7 +297,7 @@ made_spawns (e ∷ a) u h = or_both (spawns_task u e.kind e) (spawns a u) (none 
 abbrev pub nothing_gone : Entry
 nothing_gone = entry kind.Limit 0 0 0 0 (pos 0) (pos 0)
 
-module _ {T M : Type 0} (s : Seen) (t : ℕ) (b : Back T M) (tasks : List (Option (TaskAtRest T M))) (loose : List (Option M)) (x : FromAct s t b tasks loose) (makes : IsMake b.asked.request) where
+module _ {T M : Type 0} (s : Seen) (t : ℕ) (b : Brought T M) (tasks : List (Option (TaskAtRest T M))) (loose : List (Option M)) (x : FromAct s t b tasks loose) (makes : IsMake b.asked.request) where
   sound0 : Sound x.before
   sound0 = (good_whole s.opts s.sites s.input x.runs).sound
 

@@ -34,10 +34,9 @@ use Rattle.uc_acts.proofs.Acting.{is_own, AllBy, by_act, object_of, destroys}
 use Rattle.uc_acts.proofs.Given.{held_given}
 use Rattle.uc_acts.proofs.Law.{good_whole, lawful_act}
 use Rattle.uc_kernel_core.specs.Mirrors.{Seen}
-use Rattle.uc_kernel.specs.declared.given.Back.{Back}
 use Rattle.uc_kernel.specs.declared.rests.TaskAtRest.{TaskAtRest}
 use Rattle.uc_kernel.specs.Numbered.{keys, or_else, without}
-use Rattle.uc_kernel.specs.KernelState.{Kept, kept, stored, put_back, task_in, member_in, member_among}
+use Rattle.uc_kernel.specs.KernelState.{Brought, Kept, kept, stored, put_back, task_in, member_in, member_among}
 use Rattle.uc_kernel.specs.Calls.{Ends}
 use Rattle.uc_kernel.specs.AtRest.{Lies, AreApart, FromAct, HasChild, IsSpawn, earlier, is_ready}
 use Rattle.uc_kernel.proofs.Hands.{no_both, some-same, find_none, find_some}
@@ -499,7 +498,7 @@ kind_is : (k : EntryKind) → is_spawn k ≡ true → k ≡ kind.Spawn
 kind_is kind.Spawn h = refl
 kind_is k h = cc
 
-module _ {T M : Type 0} (s : Seen) (t : ℕ) (b : Back T M) (tasks : List (Option (TaskAtRest T M))) (loose : List (Option M)) (x : FromAct s t b tasks loose) (sp : IsSpawn b.asked.request) (first : Entry) (first_there : slice_get s.journal (length x.before) ≡ Some first) where
+module _ {T M : Type 0} (s : Seen) (t : ℕ) (b : Brought T M) (tasks : List (Option (TaskAtRest T M))) (loose : List (Option M)) (x : FromAct s t b tasks loose) (sp : IsSpawn b.asked.request) (first : Entry) (first_there : slice_get s.journal (length x.before) ≡ Some first) where
   abbrev act_of : List Entry
   act_of = act s.opts s.sites s.input x.before b.processor t b.ticks b.asked
 

@@ -11,10 +11,9 @@ use Rattle.uc_acts.specs.KernelRuns as kernel_runs
 use Rattle.uc_acts.specs.Acts.{act}
 use Rattle.uc_kernel_core.specs.Mirrors.{Seen, Appended}
 use Rattle.uc_kernel_core.specs.CoreActs.{acts, makes_new}
-use Rattle.uc_kernel.specs.declared.given.Back.{Back}
 use Rattle.uc_kernel.specs.declared.given.Next.{Next}
 use Rattle.uc_kernel.specs.declared.rests.TaskAtRest.{TaskAtRest}
-use Rattle.uc_kernel.specs.KernelState.{Store, kept, stored, put_back}
+use Rattle.uc_kernel.specs.KernelState.{Brought, Store, kept, stored, put_back}
 use Rattle.uc_kernel.specs.Calls.{MayBring, Acted, Follows}
 use Rattle.uc_kernel.specs.AtRest.{Lies, IsKept, IsAct, IsSpawn, FromAct, FromFirst, admission_in, earlier}
 use Rattle.uc_kernel.proofs.Hands.{no_both}
@@ -28,7 +27,7 @@ longer P [] h = absurd h
 longer P (e ∷ a) h = omega arith
 
 -- what is brought, told of the fields of a kernel
-pub brought : {T M : Type 0} (x y : Store T M) (b : Back T M) → y ≡ x → (is_over x.journal ≡ false → MayBring (kept x) b) → is_over y.journal ≡ false → MayBring (kept y) b
+pub brought : {T M : Type 0} (x y : Store T M) (b : Brought T M) → y ≡ x → (is_over x.journal ≡ false → MayBring (kept x) b) → is_over y.journal ≡ false → MayBring (kept y) b
 brought x y b e f g = subst (λ z. is_over z.journal ≡ false → MayBring (kept z) b) (sym e) f g
 
 pub told_at : (i i' l l' : List Entry) (first : Entry) → i ≡ i' → l ≡ l' → slice_get i (length l) ≡ Some first → slice_get i' (length l') ≡ Some first
@@ -47,7 +46,7 @@ less_at i i' l l' e f h =
     let a : length i ≡ length i' = ap length e in
     let b : length l ≡ length l' = ap length f in omega (arith, a, b, h)
 
-module _ {T M : Type 0} (s : Seen) (wanted : Bool) (tasks : List (Option (TaskAtRest T M))) (loose : List (Option M)) (k : IsKept s tasks loose) (going : is_over s.journal ≡ false) (b : Back T M) (brings : MayBring (kept (stored s wanted tasks loose)) b) where
+module _ {T M : Type 0} (s : Seen) (wanted : Bool) (tasks : List (Option (TaskAtRest T M))) (loose : List (Option M)) (k : IsKept s tasks loose) (going : is_over s.journal ≡ false) (b : Brought T M) (brings : MayBring (kept (stored s wanted tasks loose)) b) where
   -- who acts, as the core is told
   module _ (p t ticks line : ℕ) (p_is : p ≡ b.processor) (t_is : t ≡ brings.task) (ticks_is : ticks ≡ b.ticks) (line_is : line ≡ b.asked.line) where
     pub asks_it : MayAsk s.opts s.sites s.journal p t ticks b.asked.request

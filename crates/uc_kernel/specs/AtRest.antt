@@ -12,8 +12,10 @@ use Rattle.uc_acts.specs.Known.{has, object_count, task_count, is_gone, is_gone_
 use Rattle.uc_acts.specs.Stations.{Ready, times}
 use Rattle.uc_acts.specs.Sound.{Spot, At, spot}
 use Rattle.uc_acts.specs.KernelRuns.{InRange, KernelRuns, MayAsk}
+use Rattle.uc_kernel_core.specs.CoreActs.{makes_new}
 use Rattle.uc_kernel_core.specs.Mirrors.{Seen}
 use Rattle.uc_acts.specs.Acts.{act}
+use Rattle.uc_entry.specs.declared.request.Asked.{Asked}
 use Rattle.uc_entry.specs.declared.request.Request.{Request}
 use Rattle.uc_entry.specs.declared.request.Request.TheVariants as ask
 use Rattle.uc_entry.specs.declared.request.Answer.{Answer}
@@ -25,6 +27,7 @@ use Rattle.uc_kernel.specs.declared.given.Next.{Next}
 use Rattle.uc_kernel.specs.declared.given.Next.TheVariants.{Go, Blocked, Ended}
 use Rattle.uc_kernel.specs.declared.rests.TaskAtRest.{TaskAtRest}
 use Rattle.uc_kernel.specs.Numbered.{keys, without}
+use Rattle.uc_kernel.specs.KernelState.{Brought, with_asked}
 
 -- a spot at which nobody is let in
 abbrev pub is_ready : Spot → Bool
@@ -115,7 +118,7 @@ pub record Stands {M : Type 0} (o : ℕ) (h : List (ℕ × M)) (i : ℕ) : Type 
   pub finds : find o h ≡ Some item
 
 -- the same as FromAct, with the first entry of the act and the admission that comes second, if one does
-pub record IsAct {T M : Type 0} (s : Seen) (t : ℕ) (first : Entry) (admission : Option Entry) (b : Back T M) (tasks : List (Option (TaskAtRest T M))) (loose : List (Option M)) : Type 0 where
+pub record IsAct {T M : Type 0} (s : Seen) (t : ℕ) (first : Entry) (admission : Option Entry) (b : Brought T M) (tasks : List (Option (TaskAtRest T M))) (loose : List (Option M)) : Type 0 where
   pub before : Journal
   pub runs : KernelRuns s.opts s.sites s.input before
   pub going : is_over before ≡ false
@@ -188,7 +191,7 @@ pub record CanLetIn {T M : Type 0} (admission : Option Entry) (t : ℕ) (h : Lis
   pub there : (e : Entry) → admission ≡ Some e → (e.task == t) ≡ false → slice_index_or tasks e.task None ≡ None → ⊥
 
 -- the journal of s goes on from an earlier one by the act of what was brought, and what is at rest still lies as it did before
-pub record FromAct {T M : Type 0} (s : Seen) (t : ℕ) (b : Back T M) (tasks : List (Option (TaskAtRest T M))) (loose : List (Option M)) : Type 0 where
+pub record FromAct {T M : Type 0} (s : Seen) (t : ℕ) (b : Brought T M) (tasks : List (Option (TaskAtRest T M))) (loose : List (Option M)) : Type 0 where
   pub before : Journal
   pub runs : KernelRuns s.opts s.sites s.input before
   pub going : is_over before ≡ false
@@ -199,6 +202,18 @@ pub record FromAct {T M : Type 0} (s : Seen) (t : ℕ) (b : Back T M) (tasks : L
   pub room : 1 ≤ b.members.spare
   pub lies : Lies before tasks loose
 
+-- the journal of s stands behind the act of something that makes nothing new, and was asked with what was brought
+pub record AfterAct {T M : Type 0} (s : Seen) (t : ℕ) (first : Entry) (admission : Option Entry) (b : Back T M) (tasks : List (Option (TaskAtRest T M))) (loose : List (Option M)) : Type 0 where
+  pub asked : Asked
+  pub old : makes_new asked.request ≡ false
+  pub act : IsAct s t first admission (with_asked b asked) tasks loose
+
+-- the same, of an object that was made
+pub record AfterMake {T M : Type 0} (s : Seen) (t : ℕ) (b : Back T M) (tasks : List (Option (TaskAtRest T M))) (loose : List (Option M)) : Type 0 where
+  pub asked : Asked
+  pub makes : IsMake asked.request
+  pub from : FromAct s t (with_asked b asked) tasks loose
+
 -- a new task is at rest, with the members of its object in its hand
 pub record HasChild {T M : Type 0} (tasks tasks' : List (Option (TaskAtRest T M))) (child : T) (o : ℕ) (m : M) : Type 0 where
   pub rest : TaskAtRest T M
@@ -207,8 +222,14 @@ pub record HasChild {T M : Type 0} (tasks tasks' : List (Option (TaskAtRest T M)
   pub last : tasks' ≡ tasks ++ Some rest ∷ []
 
 -- the same, with the first entry of the act
-pub record FromFirst {T M : Type 0} (s : Seen) (t : ℕ) (first : Entry) (b : Back T M) (tasks : List (Option (TaskAtRest T M))) (loose : List (Option M)) : Type 0 where
+pub record FromFirst {T M : Type 0} (s : Seen) (t : ℕ) (first : Entry) (b : Brought T M) (tasks : List (Option (TaskAtRest T M))) (loose : List (Option M)) : Type 0 where
   pub before : Journal
   pub from : FromAct s t b tasks loose
   pub before_is : before ≡ from.before
   pub first_is : slice_get s.journal (length from.before) ≡ Some first
+
+-- the journal of s stands behind the act of a spawn that was asked with what was brought
+pub record AfterSpawn {T M : Type 0} (s : Seen) (t : ℕ) (first : Entry) (b : Back T M) (tasks : List (Option (TaskAtRest T M))) (loose : List (Option M)) : Type 0 where
+  pub asked : Asked
+  pub spawns : IsSpawn asked.request
+  pub act : FromFirst s t first (with_asked b asked) tasks loose

@@ -14,14 +14,13 @@ use Rattle.uc_acts.specs.KernelRuns.{MayAsk}
 use Rattle.uc_acts.specs.Acts.{act, dispatch, lone_limit}
 use Rattle.uc_kernel_core.specs.CoreActs.{IsFirst}
 use Rattle.uc_kernel.specs.declared.given.Given.{Given}
-use Rattle.uc_kernel.specs.declared.given.Back.{Back}
 use Rattle.uc_kernel.specs.declared.given.Next.{Next}
 use Rattle.uc_kernel.specs.declared.given.Next.TheVariants.{Go, Blocked, Ended}
 use Rattle.uc_kernel.specs.Numbered.{keys, gathered}
-use Rattle.uc_kernel.specs.KernelState.{Kept, Same, put_back, handed, with_entry}
+use Rattle.uc_kernel.specs.KernelState.{Brought, Kept, Same, put_back, handed, with_entry}
 
 -- what a worker brings may be taken: its task runs on its processor, what it asks fits, and its members are those of the objects that the task is inside, in the order in which it entered them, with room for one more
-pub record MayBring {T M : Type 0} (k : Kept T M) (b : Back T M) : Type 0 where
+pub record MayBring {T M : Type 0} (k : Kept T M) (b : Brought T M) : Type 0 where
   pub task : ℕ
   pub asks : MayAsk k.opts k.sites k.journal b.processor task b.ticks b.asked.request
   pub hand : keys b.members.items ≡ held task k.journal
@@ -81,7 +80,7 @@ LacksNew j t Blocked = Unit {0}
 LacksNew j t Ended = Unit {0}
 
 -- the act of what a worker brings
-pub record Acted {T M : Type 0} (old : Kept T M) (b : Back T M) (next : Next T M) (new : Kept T M) : Type 0 where
+pub record Acted {T M : Type 0} (old : Kept T M) (b : Brought T M) (next : Next T M) (new : Kept T M) : Type 0 where
   pub over : is_over old.journal ≡ true → IsOver old new next
   pub follows : is_over old.journal ≡ false → (t : ℕ) → running b.processor old.journal ≡ t ∷ [] → Follows (put_back (act old.opts old.sites old.input old.journal b.processor t b.ticks b.asked) t b.task b.members.items b.child old) new b.processor t next
 

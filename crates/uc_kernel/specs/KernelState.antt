@@ -3,10 +3,13 @@ use Rattle.std.specs.Prelude.{◌≡◌, ℕ, ◌==◌, Bool, List, [], ◌∷�
 use Rattle.uc_tree.specs.Programs.{Site}
 use Rattle.uc_entry.specs.declared.entry.Entry.{Entry}
 use Rattle.uc_entry.specs.declared.entry.Options.{Options}
+use Rattle.uc_entry.specs.declared.request.Asked.{Asked}
 use Rattle.uc_entry.specs.Keyed.{find}
+use Rattle.uc_entry.specs.Listed.{Listed}
 use Rattle.uc_acts.specs.Journal.{held}
 use Rattle.uc_acts.specs.Known.{has, spawns, takes_out}
 use Rattle.uc_kernel_core.specs.Mirrors.{Seen}
+use Rattle.uc_kernel.specs.declared.given.Back.{Back}
 use Rattle.uc_kernel.specs.declared.rests.TaskAtRest.{TaskAtRest}
 use Rattle.uc_kernel.specs.Numbered.{or_else}
 
@@ -29,6 +32,18 @@ pub record Same {T M : Type 0} (old new : Kept T M) : Type 0 where
   pub abandoned : new.abandoned ≡ old.abandoned
   pub values : (t : ℕ) → new.values t ≡ old.values t
   pub members : (o : ℕ) → new.members o ≡ old.members o
+
+-- what a worker brings of a task, and what that asks
+pub record Brought (T M : Type 0) : Type 0 where
+  pub processor : ℕ
+  pub task : T
+  pub members : Listed (ℕ × M)
+  pub child : Option T
+  pub ticks : ℕ
+  pub asked : Asked
+
+abbrev pub with_asked : {T M : Type 0} → Back T M → Asked → Brought T M
+with_asked b asked = record { processor = b.processor; task = b.task; members = b.members; child = b.child; ticks = b.ticks; asked = asked }
 
 -- with the entries a of an act of task t, and what was brought for it put to rest: its value, its members by object but for what the act takes out, and the value of the task that the act spawns
 abbrev pub put_back : {T M : Type 0} → List Entry → ℕ → T → List (ℕ × M) → Option T → Kept T M → Kept T M

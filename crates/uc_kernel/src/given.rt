@@ -1,7 +1,7 @@
 //! What a kernel is opened with, what it hands out, and what is brought back to it.
 
 use uc_entry::list::List;
-use uc_entry::request::{Answer, Asked};
+use uc_entry::request::Answer;
 use uc_tree::site::Site;
 
 /// What a kernel is to know of a program: its accept statements by their numbers.
@@ -22,7 +22,7 @@ pub struct Given<T, M> {
 }
 
 /// A task that asks: its processor, its value, its members as they were handed out, with those of an object that it has made
-/// since, the ticks that it made, and what it asks in which line. With a spawn comes the value of the new task.
+/// since, and the ticks that it made. With a spawn comes the value of the new task. What it asks in which line is lent beside it.
 #[derive(Drop)]
 pub struct Back<T, M> {
     pub processor: u32,
@@ -30,7 +30,6 @@ pub struct Back<T, M> {
     pub members: List<(u64, M)>,
     pub child: Option<T>,
     pub ticks: u32,
-    pub asked: Asked,
 }
 
 /// What comes next on a processor: its task goes on, or has left it, or the run is over.

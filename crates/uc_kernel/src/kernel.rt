@@ -13,9 +13,9 @@ ghost use Rattle.uc_entry.specs.declared.request.Request.TheVariants as ask;
 ghost use Rattle.uc_kernel_core.specs.CoreActs.{makes_new};
 ghost use Rattle.uc_kernel_core.specs.Mirrors.{AreKnownSites};
 ghost use Rattle.uc_kernel.specs.Numbered.{without};
-ghost use Rattle.uc_kernel.specs.KernelState.{kept, put_back, stored};
+ghost use Rattle.uc_kernel.specs.KernelState.{kept, put_back, stored, with_asked};
 ghost use Rattle.uc_kernel.specs.Calls.{MayBring, Acted, Dispatched, EndsRun, Follows, LacksNew, Opened};
-ghost use Rattle.uc_kernel.specs.AtRest.{earlier, AreApart, FromAct, FromFirst, HasChild, IsAct, IsFirst, HandedOn, TakenOut, IsMake, IsSpawn, Lies};
+ghost use Rattle.uc_kernel.specs.AtRest.{earlier, AfterAct, AfterMake, AfterSpawn, AreApart, HasChild, IsFirst, HandedOn, TakenOut, IsMake, IsSpawn, Lies};
 
 use crate::given::{Back, Given, Next, Shape};
 use crate::hand::take_from;
@@ -26,7 +26,7 @@ use std::alloc::{AllocError, Global};
 use std::marker::Model;
 use uc_entry::entry::{Entry, EntryKind, Options};
 use uc_entry::list::List;
-use uc_entry::request::{Answer, Request};
+use uc_entry::request::{Answer, Asked, Request};
 use uc_kernel_core::book::KernelCore;
 use uc_kernel_core::entries::Actor;
 
@@ -102,17 +102,17 @@ impl<T: Drop, M: Drop> Kernel<T, M> {
 
     /// The act of what a task asks: any request but Make and Spawn. Where the run is over before, nothing changes, and what
     /// was brought is dropped.
-    pub fn act(&mut self, back: Back<T, M>) -> Next<T, M>
-        requires fits { Journal.is_over self.old.journal ≡ false → MayBring (kept self.old) back }
-        requires old { makes_new back.asked.request ≡ false }
-        ensures { Acted (kept self.old) back result (kept self.new) }
+    pub fn act(&mut self, back: Back<T, M>, asked: &Asked) -> Next<T, M>
+        requires fits { Journal.is_over self.old.journal ≡ false → MayBring (kept self.old) (with_asked back asked.now) }
+        requires old { makes_new asked.now.request ≡ false }
+        ensures { Acted (kept self.old) (with_asked back asked.now) result (kept self.new) }
     {
         if is_over(&self.book) {
             return Next::Ended;
         }
-        let who = actor(&self.book, &back);
+        let who = actor(&self.book, &back, asked);
         let before = self.book.journal().len();
-        self.book.act(who, &back.asked.request);
+        self.book.act(who, &asked.request);
         let first = entry_at(self.book.journal(), before);
         let admission = admission_at(self.book.journal(), before + 1);
         follow(
@@ -128,18 +128,18 @@ impl<T: Drop, M: Drop> Kernel<T, M> {
 
     /// The act of a task that makes an object: the task goes on with the object's number, and brings its members with its next
     /// request. Where memory is wanting nothing changes, and what was brought is dropped.
-    pub fn make_object(&mut self, back: Back<T, M>) -> Result<Next<T, M>, AllocError>
-        requires fits { Journal.is_over self.old.journal ≡ false → MayBring (kept self.old) back }
-        requires makes { IsMake back.asked.request }
-        ensures ok { IfOk result (λ next. Acted (kept self.old) back next (kept self.new)) }
+    pub fn make_object(&mut self, back: Back<T, M>, asked: &Asked) -> Result<Next<T, M>, AllocError>
+        requires fits { Journal.is_over self.old.journal ≡ false → MayBring (kept self.old) (with_asked back asked.now) }
+        requires makes { IsMake asked.now.request }
+        ensures ok { IfOk result (λ next. Acted (kept self.old) (with_asked back asked.now) next (kept self.new)) }
         ensures lacks { IfOk result (λ next. (t : ℕ) → running back.processor self.old.journal ≡ t ∷ [] → LacksNew self.new.journal t next) }
         ensures err { OnErr result (self.new ≡ self.old) }
     {
         if is_over(&self.book) {
             return Ok(Next::Ended);
         }
-        let class = class_of(&back.asked.request);
-        let who = actor(&self.book, &back);
+        let class = class_of(&asked.request);
+        let who = actor(&self.book, &back, asked);
         self.loose.reserve(1)?;
         self.book.make_object(who, class)?;
         let next = follow_make(&self.book, &mut self.tasks, &mut self.loose, who.task, back);
@@ -148,18 +148,18 @@ impl<T: Drop, M: Drop> Kernel<T, M> {
 
     /// The act of a task that makes a task for an object that it is inside: the new task is ready, inside that object in its
     /// place. Where memory is wanting nothing changes, and what was brought is dropped.
-    pub fn spawn(&mut self, back: Back<T, M>) -> Result<Next<T, M>, AllocError>
-        requires fits { Journal.is_over self.old.journal ≡ false → MayBring (kept self.old) back }
-        requires spawns { IsSpawn back.asked.request }
+    pub fn spawn(&mut self, back: Back<T, M>, asked: &Asked) -> Result<Next<T, M>, AllocError>
+        requires fits { Journal.is_over self.old.journal ≡ false → MayBring (kept self.old) (with_asked back asked.now) }
+        requires spawns { IsSpawn asked.now.request }
         requires child { IsSome back.child }
-        ensures ok { IfOk result (λ next. Acted (kept self.old) back next (kept self.new)) }
+        ensures ok { IfOk result (λ next. Acted (kept self.old) (with_asked back asked.now) next (kept self.new)) }
         ensures err { OnErr result (self.new ≡ self.old) }
     {
         if is_over(&self.book) {
             return Ok(Next::Ended);
         }
-        let object = object_of(&back.asked.request);
-        let who = actor(&self.book, &back);
+        let object = object_of(&asked.request);
+        let who = actor(&self.book, &back, asked);
         let before = self.book.journal().len();
         let mut hand = List::new(self.alloc);
         hand.room()?;
@@ -232,12 +232,12 @@ fn is_over(book: &KernelCore) -> bool
 }
 
 // The task that acts.
-fn actor<T, M>(book: &KernelCore, back: &Back<T, M>) -> Actor
+fn actor<T, M>(book: &KernelCore, back: &Back<T, M>, asked: &Asked) -> Actor
     requires going { Journal.is_over book.now.journal ≡ false }
     ensures processor { (t : ℕ) → running back.now.processor book.now.journal ≡ t ∷ [] → result.processor ≡ back.now.processor }
     ensures task { (t : ℕ) → running back.now.processor book.now.journal ≡ t ∷ [] → result.task ≡ t }
     ensures ticks { result.ticks ≡ back.now.ticks }
-    ensures line { result.line ≡ back.now.asked.line }
+    ensures line { result.line ≡ asked.now.line }
 {
     let (processor, task) = match book.runner(back.processor) {
         Some(task) => (back.processor as u8, task),
@@ -247,7 +247,7 @@ fn actor<T, M>(book: &KernelCore, back: &Back<T, M>) -> Actor
         processor,
         task,
         ticks: back.ticks,
-        line: back.asked.line,
+        line: asked.line,
     }
 }
 
@@ -331,10 +331,9 @@ fn follow<T: Drop, M: Drop>(
     admission: Option<Entry>,
     back: Back<T, M>,
 ) -> Next<T, M>
-    requires is { IsAct book.now task first admission back tasks.old.items loose.old.items }
-    requires old { makes_new back.asked.request ≡ false }
+    requires after { AfterAct book.now task first admission back tasks.old.items loose.old.items }
     ensures lies { Journal.is_over book.now.journal ≡ false → Lies book.now.journal tasks.new.items loose.new.items }
-    ensures follows { (x : IsAct book.now task first admission back tasks.old.items loose.old.items) (b : Bool) → Follows (put_back (act book.now.opts book.now.sites book.now.input x.before back.processor task back.ticks back.asked) task back.task back.members.items back.child (kept (stored (earlier x.before book.now) b tasks.old.items loose.old.items))) (kept (stored book.now b tasks.new.items loose.new.items)) back.processor task result }
+    ensures follows { (x : AfterAct book.now task first admission back tasks.old.items loose.old.items) (b : Bool) → Follows (put_back (act book.now.opts book.now.sites book.now.input x.act.before back.processor task back.ticks x.asked) task back.task back.members.items back.child (kept (stored (earlier x.act.before book.now) b tasks.old.items loose.old.items))) (kept (stored book.now b tasks.new.items loose.new.items)) back.processor task result }
 {
     let Back {
         processor,
@@ -438,14 +437,13 @@ fn follow_spawn<T: Drop, M: Drop>(
     hand: List<(u64, M)>,
     back: Back<T, M>,
 ) -> Next<T, M>
-    requires is { FromFirst book.now task first back tasks.old.items loose.now.items }
-    requires spawns { IsSpawn back.asked.request }
+    requires after { AfterSpawn book.now task first back tasks.old.items loose.now.items }
     requires child { IsSome back.child }
     requires room { 1 ≤ hand.spare }
     requires empty { hand.items ≡ [] }
     requires reserved { vec_len tasks.old < vec_capacity tasks.old }
     ensures lies { Journal.is_over book.now.journal ≡ false → Lies book.now.journal tasks.new.items loose.now.items }
-    ensures follows { (x : FromFirst book.now task first back tasks.old.items loose.now.items) (b : Bool) → Follows (put_back (act book.now.opts book.now.sites book.now.input x.before back.processor task back.ticks back.asked) task back.task back.members.items back.child (kept (stored (earlier x.before book.now) b tasks.old.items loose.now.items))) (kept (stored book.now b tasks.new.items loose.now.items)) back.processor task result }
+    ensures follows { (x : AfterSpawn book.now task first back tasks.old.items loose.now.items) (b : Bool) → Follows (put_back (act book.now.opts book.now.sites book.now.input x.act.before back.processor task back.ticks x.asked) task back.task back.members.items back.child (kept (stored (earlier x.act.before book.now) b tasks.old.items loose.now.items))) (kept (stored book.now b tasks.new.items loose.now.items)) back.processor task result }
 {
     let Back {
         processor,
@@ -480,12 +478,11 @@ fn follow_make<T: Drop, M: Drop>(
     task: u32,
     back: Back<T, M>,
 ) -> Next<T, M>
-    requires is { FromAct book.now task back tasks.old.items loose.old.items }
-    requires makes { IsMake back.asked.request }
+    requires after { AfterMake book.now task back tasks.old.items loose.old.items }
     requires reserved { vec_len loose.old < vec_capacity loose.old }
     ensures lies { Journal.is_over book.now.journal ≡ false → Lies book.now.journal tasks.new.items loose.new.items }
     ensures lacks { LacksNew book.now.journal task result }
-    ensures follows { (x : FromAct book.now task back tasks.old.items loose.old.items) (b : Bool) → Follows (put_back (act book.now.opts book.now.sites book.now.input x.before back.processor task back.ticks back.asked) task back.task back.members.items back.child (kept (stored (earlier x.before book.now) b tasks.old.items loose.old.items))) (kept (stored book.now b tasks.new.items loose.new.items)) back.processor task result }
+    ensures follows { (x : AfterMake book.now task back tasks.old.items loose.old.items) (b : Bool) → Follows (put_back (act book.now.opts book.now.sites book.now.input x.from.before back.processor task back.ticks x.asked) task back.task back.members.items back.child (kept (stored (earlier x.from.before book.now) b tasks.old.items loose.old.items))) (kept (stored book.now b tasks.new.items loose.new.items)) back.processor task result }
 {
     let Back {
         processor,

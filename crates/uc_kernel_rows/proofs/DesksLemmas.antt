@@ -10,10 +10,9 @@ use Rattle.uc_entry.specs.declared.entry.Options.{Options}
 use Rattle.uc_acts.specs.Journal.{Journal, is_over, is_ending}
 use Rattle.uc_acts.specs.Acts.{act, dispatch, lone_limit}
 use Rattle.uc_kernel.specs.declared.given.Given.{Given}
-use Rattle.uc_kernel.specs.declared.given.Back.{Back}
 use Rattle.uc_kernel.specs.declared.given.Next.{Next}
 use Rattle.uc_kernel.specs.declared.given.Next.TheVariants.{Go, Blocked, Ended}
-use Rattle.uc_kernel.specs.KernelState.{Kept, Store, Same, kept, put_back}
+use Rattle.uc_kernel.specs.KernelState.{Brought, Kept, Store, Same, kept, put_back}
 use Rattle.uc_kernel.specs.Calls.{Acted, MayBring, Dispatched, GivesNone, over, abandoned, nobody, no_room, Follows, EndsRun, Opened}
 use Rattle.uc_kernel_rows.specs.Watched.{Watched, Watches, nothing_read, noted_all}
 use Rattle.uc_kernel_rows.specs.Desks.{IsDesk}
@@ -46,7 +45,7 @@ module _ {T M : Type 0} (old new : Kept T M) where
   went_follows a p t value brought child Blocked x = record { added = a; journal = x.rest.journal; sites = x.rest.sites; opts = x.rest.opts }
   went_follows a p t value brought child Ended x = record { added = a; journal = x.rest.journal; sites = x.rest.sites; opts = x.rest.opts }
 
-  pub went_acted : (b : Back T M) (next : Next T M) → Acted old b next new → (is_over old.journal ≡ false → MayBring old b) → Went old new
+  pub went_acted : (b : Brought T M) (next : Next T M) → Acted old b next new → (is_over old.journal ≡ false → MayBring old b) → Went old new
   went_acted b next x may = by (is_over old.journal) refl
     where
       by : (c : Bool) → is_over old.journal ≡ c → Went old new

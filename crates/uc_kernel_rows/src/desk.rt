@@ -4,7 +4,7 @@ ghost use Rattle.uc_tree.specs.declared.limits.TheConstants.{INPUT_BYTES};
 ghost use Rattle.uc_acts.specs.Journal.{is_over};
 ghost use Rattle.uc_acts.specs.KernelRuns.{InRange};
 ghost use Rattle.uc_kernel_core.specs.CoreActs.{makes_new};
-ghost use Rattle.uc_kernel.specs.KernelState.{kept};
+ghost use Rattle.uc_kernel.specs.KernelState.{kept, with_asked};
 ghost use Rattle.uc_kernel.specs.Calls.{Acted, MayBring};
 ghost use Rattle.uc_kernel.specs.AtRest.{IsMake, IsSpawn};
 ghost use Rattle.uc_kernel_rows.specs.Desks.{HasForm, IsDesk};
@@ -13,7 +13,7 @@ use crate::sites::known_sites;
 use crate::watch::Watch;
 use std::alloc::{AllocError, Global};
 use uc_entry::entry::{Entry, Options};
-use uc_entry::request::Request;
+use uc_entry::request::{Asked, Request};
 use uc_kernel::given::{Back, Given, Next, Shape};
 use uc_kernel::kernel::Kernel;
 use uc_tree::limits::{
@@ -119,10 +119,11 @@ fn may_bring(
     sites: &Vec<Site>,
     opts: &Options,
     back: &Back<u32, u32>,
+    asked: &Asked,
 ) -> bool
     requires desk { IsDesk kernel.now watch.now sites.now.items opts.now }
     requires room { 1 ≤ back.now.members.spare }
-    ensures { result ≡ true → is_over kernel.now.journal ≡ false → MayBring (kept kernel.now) back.now }
+    ensures { result ≡ true → is_over kernel.now.journal ≡ false → MayBring (kept kernel.now) (with_asked back.now asked.now) }
 {
     match kernel.runner(back.processor) {
         None => kernel.ending().is_some(),
@@ -131,7 +132,7 @@ fn may_bring(
                 return false;
             }
             watch.is_hand(runner.task, &back.members)
-                && watch.fits(sites, opts, runner.task, &back.asked.request)
+                && watch.fits(sites, opts, runner.task, &asked.request)
         }
     }
 }
@@ -148,22 +149,26 @@ fn form_of(request: &Request) -> Form
 }
 
 // Brings what a task asks to the kernel.
-fn bring(kernel: &mut Kernel<u32, u32>, back: Back<u32, u32>) -> Result<Next<u32, u32>, AllocError>
-    requires may { is_over kernel.old.journal ≡ false → MayBring (kept kernel.old) back }
+fn bring(
+    kernel: &mut Kernel<u32, u32>,
+    back: Back<u32, u32>,
+    asked: &Asked,
+) -> Result<Next<u32, u32>, AllocError>
+    requires may { is_over kernel.old.journal ≡ false → MayBring (kept kernel.old) (with_asked back asked.now) }
     requires child { IsSome back.child }
-    ensures { OnOk result ((next : Next _ _) × (result ≡ Ok next) × Acted (kept kernel.old) back next (kept kernel.new)) }
+    ensures { OnOk result ((next : Next _ _) × (result ≡ Ok next) × Acted (kept kernel.old) (with_asked back asked.now) next (kept kernel.new)) }
 {
-    match form_of(&back.asked.request) {
+    match form_of(&asked.request) {
         Form::Makes => {
-            let next = kernel.make_object(back)?;
+            let next = kernel.make_object(back, asked)?;
             Ok(next)
         }
         Form::Spawns => {
-            let next = kernel.spawn(back)?;
+            let next = kernel.spawn(back, asked)?;
             Ok(next)
         }
         Form::Acts => {
-            let next = kernel.act(back);
+            let next = kernel.act(back, asked);
             Ok(next)
         }
     }
@@ -176,17 +181,18 @@ pub fn take_turn(
     sites: &Vec<Site>,
     opts: &Options,
     back: Back<u32, u32>,
+    asked: &Asked,
 ) -> Result<Turn, AllocError>
     requires desk { IsDesk kernel.old watch.old sites.now.items opts.now }
     requires room { 1 ≤ back.members.spare }
     requires child { IsSome back.child }
     ensures { OnOk result (IsDesk kernel.new watch.new sites.now.items opts.now) }
 {
-    if !may_bring(kernel, watch, sites, opts, &back) {
+    if !may_bring(kernel, watch, sites, opts, &back, asked) {
         return Ok(Turn::Refused(back));
     }
     let before = kernel.journal().len();
-    let next = bring(kernel, back)?;
+    let next = bring(kernel, back, asked)?;
     watch.read(behind(kernel.journal(), before))?;
     Ok(Turn::Taken(next))
 }

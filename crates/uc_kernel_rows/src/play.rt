@@ -70,7 +70,6 @@ fn back_of(given: Given<u32, u32>, order: &Order) -> Result<Back<u32, u32>, Allo
         members,
         child: Some(order.child),
         ticks: order.ticks,
-        asked: order.asked,
     })
 }
 
@@ -132,6 +131,7 @@ fn ask(alloc: Global, desk: &mut Desk, order: &Order) -> Result<String, AllocErr
                 &desk.sites,
                 &desk.opts,
                 back,
+                &order.asked,
             )?;
             let text = turn_text(alloc, &turn)?;
             keep(&mut desk.hands, turn, &order.asked.request)?;

@@ -28,13 +28,17 @@ use Rattle.uc_code.specs.CodeShapes.{Kept}
 use Rattle.uc_numbering.specs.declared.routines.Defined.{Defined as Found}
 use Rattle.uc_numbering.specs.Routines.{defined_at}
 use Rattle.uc_lower_stmt.specs.Routines.{frame_cells}
-use Rattle.uc_lower.specs.RoutineLayout.{Lays, LaysAll, defined_sites, defined_texts, last_of, own_room, routine_room, unwritten_rooms}
+use Rattle.uc_lower.specs.RoutineLayout.{BeginBefore, Lays, LaysAll, defined_sites, defined_texts, last_of, own_room, routine_room, unwritten_rooms}
 use Rattle.uc_lower.specs.Refusals.{Fits}
 use Rattle.uc_lower.proofs.SiteLemmas.{stmts_alike}
 use Rattle.uc_lower.proofs.Costs.{own_few, own_size, owns, owns_push, size_split}
 use Rattle.uc_lower.proofs.RoutineLayoutLemmas.{lays_step, room_within, rooms_within, sites_push, taken_more, texts_push, within}
 use Rattle.uc_lower.proofs.Rooms.{rooms_fit}
 use Rattle.uc_lower.proofs.Silence.{silent_behind}
+use Rattle.uc_code.specs.declared.rows.HandlerRow.{HandlerRow}
+use Rattle.uc_code.specs.OpenRows.{AreEnded}
+use Rattle.uc_lower_stmt.specs.RowFit.{RoutineRows}
+use Rattle.uc_lower.specs.RowRanges.{HasRows}
 
 -- a routine that was found is that of the program
 
@@ -143,12 +147,12 @@ stands_none p all d h = record { lays = h; texts = no_texts (routines_of p); few
     no_sites (x ∷ xs) = refl
 
 pub stands_next : (p : Program) (all i texts sites : ℕ) (x : Defined) (old new : Draft) → length (routines_of p) ≤ all → slice_get (routines_of p) i ≡ Some x → Stands p all i texts sites old
-    → Kept (laid_in old) (laid_in new) → length new.ops ≤ length old.ops + routine_room p x
+    → Kept (laid_in old) (laid_in new) → RoutineRows old new → length new.ops ≤ length old.ops + routine_room p x
     → RoutineAt (laid_in new) (last_of (routines_of p)) i (routine_meant p x.routine (routine_scope p x.routine (place_by p x) i texts sites)) (record { entry = length old.ops; cells = frame_cells p x.routine; params = length x.routine.sig.params; written = true }) (length old.ops) (length new.ops)
     → new.routines ≡ slice_set old.routines i (record { entry = length old.ops; cells = frame_cells p x.routine; params = length x.routine.sig.params; written = true }) → new.marks ≡ []
     → new.texts ≡ texts + length (gathered_all own_texts x.routine.body) → new.texts ≤ texts + stmts_size x.routine.body → new.sites ≡ sites + length (gathered_all (own_sites None 0) x.routine.body)
     → Stands p all (i + 1) new.texts new.sites new
-stands_next p all i texts sites x old new enough at h k r c w marks te tf se =
+stands_next p all i texts sites x old new enough at h k rr r c w marks te tf se =
     let split : take (i + 1) (routines_of p) ≡ take i (routines_of p) ++ x ∷ [] = taken_more (routines_of p) i x at in
     let t : defined_texts (take (i + 1) (routines_of p)) ≡ defined_texts (take i (routines_of p)) + length (gathered_all own_texts x.routine.body) = ap defined_texts split ∙ texts_push (take i (routines_of p)) x in
     let s : owns (take (i + 1) (routines_of p)) ≡ owns (take i (routines_of p)) + (1 + own_size x.routine) = ap owns split ∙ owns_push (take i (routines_of p)) x in
@@ -159,7 +163,7 @@ stands_next p all i texts sites x old new enough at h k r c w marks te tf se =
     let hf = h.few in
     let hs = h.sites in
     record {
-      lays = lays_step p (routines_of p) all i texts sites x old new at (omega (arith, there, enough)) h.lays h.texts h.sites k r c w marks;
+      lays = lays_step p (routines_of p) all i texts sites x old new at (omega (arith, there, enough)) h.lays h.texts h.sites k rr r c w marks;
       texts = te ∙ ap (λ (n : ℕ). n + length (gathered_all own_texts x.routine.body)) ht ∙ sym t;
       few = omega (arith, s, hf, tf);
       sites = omega (arith, se, hs, u, alike);
@@ -203,3 +207,19 @@ whole_few p all count new sites texts classes code none n h ce =
     let room = h.room in
     let fit = rooms_fit p none in
     omega (arith, co, us, room, fit)
+
+-- each row lies among the ops
+
+entry_of : (ops : ℕ) (rs : List HandlerRow) (n : ℕ) (r : HandlerRow) → BeginBefore ops rs → slice_get rs n ≡ Some r → r.entry < ops
+entry_of ops [] n r b e = absurd (cc)
+entry_of ops (q ∷ rs) zero r b e = let is : q ≡ r = cc in let i : q.entry ≡ r.entry = ap (λ (x : HandlerRow). x.entry) is in let l = b.0 in omega arith
+entry_of ops (q ∷ rs) (suc n) r b e = entry_of ops rs n r b.1 e
+
+pub whole_rows : (p : Program) (ds : List Defined) (us : List Unwritten) (all count : ℕ) (new : Draft) (sites : List Site) (texts : List (List ℕ)) (classes : List ℕ) (code : Code) → LaysAll p ds us all count new → (new.marks ≡ [] → AreEnded (length new.ops) new.rows)
+    → code ≡ record { ops = new.ops; rows = new.rows; sites = sites; texts = texts; routines = new.routines; classes = classes } → HasRows code
+whole_rows p ds us all count new sites texts classes code h ended ce =
+    let rows = ended h.outside in
+    subst (λ (c : Code). HasRows c) (sym ce) (record {
+      few = h.few;
+      each = λ n r e. let i = rows.each n r e in record { range = i.range; within = i.within; entry = entry_of (length new.ops) new.rows n r h.begin e; outer = i.outer };
+    })

@@ -26,7 +26,10 @@ use Rattle.uc_tree.specs.Numbering.{is_plain}
 use Rattle.uc_lower_stmt.specs.Routines.{frame_cells}
 use Rattle.uc_lower_stmt.specs.LowersStatement.{sizes_at}
 use Rattle.uc_lower_class.specs.Bodies.{builder_room}
-use Rattle.uc_lower.specs.RoutineLayout.{Lays, LaysAll, defined_sites, defined_texts, last_of, own_room, role_room_of, routine_room, unwritten_rooms, written_room}
+use Rattle.uc_lower.specs.RoutineLayout.{BeginBefore, Lays, LaysAll, defined_sites, defined_texts, last_of, own_room, role_room_of, routine_room, unwritten_rooms, written_room}
+use Rattle.uc_code.specs.declared.rows.HandlerRow.{HandlerRow}
+use Rattle.uc_code.specs.RowGrowth.{BeginBy}
+use Rattle.uc_lower_stmt.specs.RowFit.{RoutineRows}
 
 -- the statements of a routine and its end
 body_stable : (q : source.Purpose) (n line : ℕ) (ss : source.Stmts) → Stable (λ code. BodyAt code q n line ss)
@@ -156,14 +159,35 @@ pub meant_long : (p : Program) (ds : List Defined) (n t s : ℕ) → length (rou
 meant_long p [] n t s = refl
 meant_long p (d ∷ ds) n t s = ap suc (meant_long p ds (n + 1) (t + length (gathered_all own_texts d.routine.body)) (s + length (gathered_all (own_sites d.class d.number) d.routine.body)))
 
-pub lays_none : (p : Program) (ds : List Defined) (all : ℕ) (d : Draft) → d.ops ≡ [] → d.marks ≡ [] → length d.routines ≡ all → Lays p ds all 0 d
-lays_none p ds all d e f g = record { code = record { end = ap (λ l. length l) e }; room = let l : length d.ops ≡ 0 = ap (λ l. length l) e in omega arith; outside = f; table = g }
+-- the handlers of rows, by places before the end and by the last place
+
+begin_by : (ops k : ℕ) (rs : List HandlerRow) → ops ≤ k + 1 → BeginBefore ops rs → BeginBy k rs
+begin_by ops k [] l b = tt
+begin_by ops k (r ∷ rs) l b = let x = b.0 in (omega arith, begin_by ops k rs l b.1)
+
+begin_before : (ops k : ℕ) (rs : List HandlerRow) → k < ops → BeginBy k rs → BeginBefore ops rs
+begin_before ops k [] l b = tt
+begin_before ops k (r ∷ rs) l b = let x = b.0 in (omega arith, begin_before ops k rs l b.1)
+
+none_before : (rs : List HandlerRow) (ops : ℕ) → length rs ≤ 0 → BeginBefore ops rs
+none_before [] ops l = tt
+none_before (r ∷ rs) ops l = absurd (omega arith)
+
+begins : (old new : Draft) → length old.ops ≤ length new.ops → length new.rows ≤ length new.ops → BeginBefore (length old.ops) old.rows → RoutineRows old new → BeginBefore (length new.ops) new.rows
+begins old new up few b rr = by_ops (length new.ops) refl
+  where
+    by_ops : (n : ℕ) → length new.ops ≡ n → BeginBefore (length new.ops) new.rows
+    by_ops zero e = none_before new.rows (length new.ops) (omega arith)
+    by_ops (suc k) e = begin_before (length new.ops) k new.rows (omega arith) (rr.begin k (omega arith) (begin_by (length old.ops) k old.rows (omega arith) b))
+
+pub lays_none : (p : Program) (ds : List Defined) (all : ℕ) (d : Draft) → d.ops ≡ [] → d.rows ≡ [] → d.marks ≡ [] → length d.routines ≡ all → Lays p ds all 0 d
+lays_none p ds all d e b f g = record { code = record { end = ap (λ l. length l) e }; few = (let n : length d.rows ≡ 0 = ap (λ l. length l) b in omega arith); begin = subst (BeginBefore (length d.ops)) (sym b) tt; room = let l : length d.ops ≡ 0 = ap (λ l. length l) e in omega arith; outside = f; table = g }
 
 pub lays_step : (p : Program) (ds : List Defined) (all i texts sites : ℕ) (x : Defined) (old new : Draft) → slice_get ds i ≡ Some x → i < all → Lays p ds all i old → texts ≡ defined_texts (take i ds) → sites ≡ defined_sites (take i ds)
-    → Kept (laid_in old) (laid_in new) → length new.ops ≤ length old.ops + routine_room p x
+    → Kept (laid_in old) (laid_in new) → RoutineRows old new → length new.ops ≤ length old.ops + routine_room p x
     → RoutineAt (laid_in new) (last_of ds) i (routine_meant p x.routine (routine_scope p x.routine (place_by p x) i texts sites)) (record { entry = length old.ops; cells = frame_cells p x.routine; params = length x.routine.sig.params; written = true }) (length old.ops) (length new.ops)
     → new.routines ≡ slice_set old.routines i (record { entry = length old.ops; cells = frame_cells p x.routine; params = length x.routine.sig.params; written = true }) → new.marks ≡ [] → Lays p ds all (i + 1) new
-lays_step p ds all i texts sites x old new at known h te se k r c w marks =
+lays_step p ds all i texts sites x old new at known h te se k rr r c w marks =
     let row : RoutineCode = record { entry = length old.ops; cells = frame_cells p x.routine; params = length x.routine.sig.params; written = true } in
     let xs : List Defined = take i ds in
     let split : xs ++ x ∷ [] ≡ take (i + 1) ds = sym (taken_more ds i x at) in
@@ -190,6 +214,8 @@ lays_step p ds all i texts sites x old new at known h te se k r c w marks =
     let room = h.room in
     record {
       code = subst (λ (l : List RoutineCode). RoutinesAt (laid_in new) (last_of ds) 0 (routines_meant p (take (i + 1) ds) 0 0 0) l 0 (length new.ops)) codes (subst (λ (l : List source.Routine). RoutinesAt (laid_in new) (last_of ds) 0 l (take i old.routines ++ row ∷ []) 0 (length new.ops)) sources all_at);
+      few = (let x = h.few in let y = rr.few in omega arith);
+      begin = begins old new k.longer (let x = h.few in let y = rr.few in omega arith) h.begin rr;
       room = omega (arith, size, room, r);
       outside = marks;
       table = ap (λ (l : List RoutineCode). length l) w ∙ length_set old.routines i row ∙ table;
@@ -229,6 +255,8 @@ all_none p ds us all count d c h =
     let more : count ≡ length ds + 0 = omega (arith, c) in
     record {
       code = subst (λ (rs : List source.Routine). RoutinesAt (laid_in d) (last_of ds) 0 rs (take (length ds + 0) d.routines) 0 (length d.ops)) (sym (append-nil (routines_meant p ds 0 0 0))) (subst (λ n. RoutinesAt (laid_in d) (last_of ds) 0 (routines_meant p ds 0 0 0) (take n d.routines) 0 (length d.ops)) more (subst (λ (xs : List Defined). RoutinesAt (laid_in d) (last_of ds) 0 (routines_meant p xs 0 0 0) (take count d.routines) 0 (length d.ops)) whole h.code));
+      few = h.few;
+      begin = h.begin;
       room = let r = h.room in let e = ap (written_room p) whole in omega (arith, r, e);
       outside = h.outside;
       table = h.table;
@@ -239,10 +267,10 @@ all_none p ds us all count d c h =
     whole_list (x ∷ xs) = ap (λ l. x ∷ l) (whole_list xs)
 
 pub all_step : (p : Program) (ds : List Defined) (us : List Unwritten) (all i : ℕ) (u : Unwritten) (old new : Draft) → slice_get us i ≡ Some u → length ds + i < all → LaysAll p ds us all i old
-    → Kept (laid_in old) (laid_in new) → length new.ops ≤ length old.ops + own_room p u
+    → Kept (laid_in old) (laid_in new) → RoutineRows old new → length new.ops ≤ length old.ops + own_room p u
     → RoutineAt (laid_in new) (last_of ds) (length ds + i) (unwritten_meant p u) (record { entry = length old.ops; cells = 0; params = 0; written = false }) (length old.ops) (length new.ops)
     → new.routines ≡ slice_set old.routines (length ds + i) (record { entry = length old.ops; cells = 0; params = 0; written = false }) → new.marks ≡ [] → LaysAll p ds us all (i + 1) new
-all_step p ds us all i u old new at known h k r c w marks =
+all_step p ds us all i u old new at known h k rr r c w marks =
     let row : RoutineCode = record { entry = length old.ops; cells = 0; params = 0; written = false } in
     let n : ℕ = length ds + i in
     let t = taken_next us i u at in
@@ -259,6 +287,8 @@ all_step p ds us all i u old new at known h k r c w marks =
     let room = h.room in
     record {
       code = subst (λ (l : List RoutineCode). RoutinesAt (laid_in new) (last_of ds) 0 (routines_meant p ds 0 0 0 ++ all_unwritten p (take (i + 1) us)) l 0 (length new.ops)) codes (subst (λ (l : List source.Routine). RoutinesAt (laid_in new) (last_of ds) 0 l (take n old.routines ++ row ∷ []) 0 (length new.ops)) sources all_at);
+      few = (let x = h.few in let y = rr.few in omega arith);
+      begin = begins old new k.longer (let x = h.few in let y = rr.few in omega arith) h.begin rr;
       room = omega (arith, size, room, r);
       outside = marks;
       table = ap (λ (l : List RoutineCode). length l) w ∙ length_set old.routines n row ∙ table;

@@ -1,5 +1,5 @@
 -- Routines that are laid out, one after another, and the ops that they take at most.
-use Rattle.std.specs.Prelude.{◌≡◌, ℕ, ◌+◌, ◌*◌, ◌≤◌, List, [], ◌∷◌, ◌++◌, length, take}
+use Rattle.std.specs.Prelude.{◌≡◌, ℕ, ◌+◌, ◌*◌, ◌≤◌, ◌<◌, List, [], ◌∷◌, ◌++◌, length, take}
 use Rattle.uc_tree.specs.declared.limits.TheConstants.{OPS_FOR_SIZE}
 use Rattle.uc_tree.specs.declared.kinds.Role.{Role}
 use Rattle.uc_tree.specs.declared.kinds.Role.TheVariants as role
@@ -9,6 +9,7 @@ use Rattle.uc_tree.specs.Objects.{Unwritten, class_at}
 use Rattle.uc_tree.specs.Programs.{Program}
 use Rattle.uc_resolve.specs.Resolve.{all_unwritten, place_by, routines_meant}
 use Rattle.uc_code.specs.Drafts.{Draft}
+use Rattle.uc_code.specs.declared.rows.HandlerRow.{HandlerRow}
 use Rattle.uc_code.specs.Layout.{laid_in}
 use Rattle.uc_code.specs.Lowered.{RoutinesAt}
 use Rattle.uc_lower_stmt.specs.LowersStatement.{sizes_at}
@@ -50,9 +51,16 @@ abbrev pub last_of : List Defined → ℕ
 last_of [] = 0
 last_of (d ∷ ds) = length ds
 
+-- the handlers of these rows begin at one of so many ops
+abbrev pub BeginBefore : ℕ → List HandlerRow → Type 0
+BeginBefore ops [] = Unit {0}
+BeginBefore ops (r ∷ rs) = (r.entry < ops) × BeginBefore ops rs
+
 -- a draft in which the first so many of the written routines stand, of so many routines in all
 pub record Lays (p : Program) (ds : List Defined) (all count : ℕ) (d : Draft) : Type 0 where
   pub code : RoutinesAt (laid_in d) (last_of ds) 0 (routines_meant p (take count ds) 0 0 0) (take count d.routines) 0 (length d.ops)
+  pub few : length d.rows ≤ length d.ops
+  pub begin : BeginBefore (length d.ops) d.rows
   pub room : length d.ops ≤ written_room p (take count ds)
   pub outside : d.marks ≡ []
   pub table : length d.routines ≡ all
@@ -60,6 +68,8 @@ pub record Lays (p : Program) (ds : List Defined) (all count : ℕ) (d : Draft) 
 -- one in which all written ones stand, and the first so many of those that nobody wrote
 pub record LaysAll (p : Program) (ds : List Defined) (us : List Unwritten) (all count : ℕ) (d : Draft) : Type 0 where
   pub code : RoutinesAt (laid_in d) (last_of ds) 0 (routines_meant p ds 0 0 0 ++ all_unwritten p (take count us)) (take (length ds + count) d.routines) 0 (length d.ops)
+  pub few : length d.rows ≤ length d.ops
+  pub begin : BeginBefore (length d.ops) d.rows
   pub room : length d.ops ≤ written_room p ds + unwritten_rooms p (take count us)
   pub outside : d.marks ≡ []
   pub table : length d.routines ≡ all

@@ -1,6 +1,6 @@
 -- What holds of each handler row of code, also of one that covers no op from which an event may come, so that what code is laid out
 -- does not tell of it.
-use Rattle.std.specs.Prelude.{◌≡◌, ℕ, ◌≤◌, ◌<◌, List, length, Some, slice_get}
+use Rattle.std.specs.Prelude.{◌≡◌, ℕ, ◌≤◌, ◌<◌, length, Some, slice_get}
 use Rattle.uc_code.specs.Codes.{Code}
 use Rattle.uc_code.specs.declared.rows.HandlerRow.{HandlerRow}
 
@@ -11,10 +11,6 @@ pub record IsRowOf (ops number : ℕ) (row : HandlerRow) : Type 0 where
   pub within : row.to ≤ ops
   pub entry : row.entry < ops
   pub outer : row.outer ≤ number
-
--- so it is with the first rows, so many
-pub record AreRowsBefore (ops count : ℕ) (rows : List HandlerRow) : Type 0 where
-  pub each : (number : ℕ) (row : HandlerRow) → number < count → slice_get rows number ≡ Some row → IsRowOf ops number row
 
 -- there are no more rows than ops, and each is such a one
 pub record HasRows (code : Code) : Type 0 where

@@ -14,7 +14,7 @@ ghost use Rattle.uc_code.specs.Lowered.{Lowered};
 ghost use Rattle.uc_numbering.specs.Routines.{defined_at};
 ghost use Rattle.uc_implicit.specs.Unwritten.{number_of_class, unwritten_as};
 ghost use Rattle.uc_lower.specs.Refusals.{Fits, FitsAll, IsFirstLarge, Refuses};
-ghost use Rattle.uc_lower.specs.RowRanges.{HasRows, IsRowOf};
+ghost use Rattle.uc_lower.specs.RowRanges.{HasRows};
 
 use crate::numbering::{cells_of_classes, members_of_classes, numbering_of};
 use crate::program_main::number_of_main;
@@ -22,7 +22,6 @@ use crate::routines::{lower_all_unwritten, lower_routines, no_code};
 use std::alloc::{AllocError, Global};
 use uc_code::code::Code;
 use uc_code::draft::Draft;
-use uc_code::rows::HandlerRow;
 use uc_implicit::numbers::numbers_of_classes;
 use uc_implicit::unwritten::{Unwritten, unwritten_of};
 use uc_layout::frames::cells_of_routine;
@@ -82,6 +81,7 @@ fn lower_named(
     ensures lowered { IfOk result (λ code. Lowered (source_of program.now) code) }
     ensures paced { IfOk result (λ code. IsPaced (laid_of code) code.routines) }
     ensures few { IfOk result (λ code. length code.ops ≤ OPS_FOR_SIZE * program_size program.now) }
+    ensures rows { IfOk result (λ code. HasRows code) }
 {
     let mut out = Draft::new(alloc, no_code(alloc, defined.len() + unwritten.len())?);
     let main = match number_of_main(&program.items) {
@@ -119,6 +119,7 @@ fn lower_all(
     ensures lowered { IfOk result (λ code. Lowered (source_of program.now) code) }
     ensures paced { IfOk result (λ code. IsPaced (laid_of code) code.routines) }
     ensures few { IfOk result (λ code. length code.ops ≤ OPS_FOR_SIZE * program_size program.now) }
+    ensures rows { IfOk result (λ code. HasRows code) }
 {
     let classes = classes_in(alloc, &program.items)?;
     let members = members_of_classes(alloc, &classes)?;
@@ -126,33 +127,6 @@ fn lower_all(
     let names = ProgramNames::new(alloc, sizes, numbering)?;
     let code = lower_named(alloc, program, &names, defined, count, unwritten);
     code
-}
-
-// Whether a row, which has this number, is one of code of so many ops.
-fn is_row(row: &HandlerRow, number: usize, ops: usize) -> bool
-    ensures { IsTrue result → IsRowOf ops number row.now }
-{
-    row.from <= row.to
-        && row.to as usize <= ops
-        && (row.entry as usize) < ops
-        && row.outer as usize <= number
-}
-
-// Whether code has no more rows than ops, and each of them is one of it.
-fn has_rows(code: &Code) -> bool
-    ensures { IsTrue result → HasRows code.now }
-{
-    let rows = code.rows();
-    let ops = code.ops().len();
-    if rows.len() > ops {
-        return false;
-    }
-    for number in 0..rows.len() {
-        if !is_row(&rows[number], number, ops) {
-            return false;
-        }
-    }
-    true
 }
 
 // Whether all routines have numbers.
@@ -188,11 +162,8 @@ fn lower_fit(
     if !are_few(count, unwritten.len()) {
         return Err(AllocError);
     }
-    let code = lower_all(alloc, program, sizes, defined, count, &unwritten, numbers)?;
-    if !has_rows(&code) {
-        return Err(AllocError);
-    }
-    Ok(code)
+    let code = lower_all(alloc, program, sizes, defined, count, &unwritten, numbers);
+    code
 }
 
 fn lower_defined(
@@ -227,8 +198,7 @@ fn lower_defined(
 }
 
 /// The code of a program that breaks no rule, of which these are the sizes. Its frames are tested first, then its size. The code has
-/// at most `OPS_FOR_SIZE` ops for each unit of the program's size, and no more rows than ops; each row lies among them. This is
-/// tested of the rows: where it were not so, the answer would be want of memory.
+/// at most `OPS_FOR_SIZE` ops for each unit of the program's size, and no more rows than ops; each row lies among them.
 pub fn lower(alloc: Global, program: &Program, sizes: &Sizes) -> Result<Code, LowerFault>
     requires unbroken { breaks_of program.now ≡ [] }
     requires sizes { sizes.now ≡ program.now }

@@ -29,7 +29,7 @@ use Rattle.uc_lower_expr.specs.declared.making.Made.{Made}
 use Rattle.uc_lower_expr.specs.Meanings.{making_of}
 use Rattle.uc_lower_expr.specs.Members.{made_routine}
 use Rattle.uc_lower_stmt.specs.Blocks.{AllStandBehind, EndsScopes}
-use Rattle.uc_lower_stmt.specs.Objects.{array_by, build_room, call_by, destroyer_of, ended_by}
+use Rattle.uc_lower_stmt.specs.Objects.{array_by, build_room, build_rows, call_by, destroyer_of, ended_by}
 use Rattle.uc_lower_stmt.specs.LowersStatement.{Lowers, scope_of}
 use Rattle.uc_lower_stmt.proofs.Joined.{lowers_adds, lowers_as, lowers_nothing, lowers_put}
 use Rattle.uc_lower_stmt.proofs.Laying.{lays_ended, lays_join, lays_nothing, lays_one}
@@ -46,6 +46,8 @@ use Rattle.uc_lower_class.proofs.Fielding.{part_fits}
 use Rattle.uc_lower_class.proofs.Living.{mutex_few}
 use Rattle.uc_lower_class.proofs.Parting.{constructs_as, constructs_does, constructs_part, constructs_then}
 use Rattle.uc_lower_class.proofs.Wholes.{arm_built}
+use Rattle.uc_lower_stmt.proofs.Openings.{build_long}
+use Rattle.uc_lower_stmt.proofs.RowFitting.{fit_then}
 
 -- an object that is built, and its part
 
@@ -53,13 +55,13 @@ pub stands_by : (p : Program) (m : Made) (ms ns : List CodeMark) (wanted : Role)
 stands_by p m ms ns wanted how s o what b e w =
     subst (λ (x : Cleaning). CleansBehind ns x) (sym w) (subst (λ (os : List CodeMark). StandsBehind os (call_by (made_routine p wanted m) how s o)) (sym e) (record { behind = λ h. b.each wanted h }))
 
-pub part_built : (p : Program) (m : Made) (n : ℕ) (s : ObjectSpot) (l : Option ℕ) (place : Expr) (ms : List Meant) (what : Cleaning) (ws us : List Cleaning) (old mid new : Draft) → Puts (n + build_room l) (λ code. StmtAt code old.marks (build p 0 (making_of p m) l place ms)) old mid
+pub part_built : (p : Program) (m : Made) (n : ℕ) (s : ObjectSpot) (l : Option ℕ) (place : Expr) (ms : List Meant) (what : Cleaning) (ws us : List Cleaning) (old mid new : Draft) → Puts (build_rows l) (n + build_room l) (λ code. StmtAt code old.marks (build p 0 (making_of p m) l place ms)) old mid
     → us ≡ ws ++ what ∷ [] → what ≡ cleaning.Call (destroyer_of p m s (array_by p m l)) → Cleans (clean_up p (making_of p m) l place) what → new ≡ opened opening.Part mid → Kept (laid_in mid) (laid_in new) → AllStandBehind p m old.marks
     → Constructs (n + part_room l) (λ rest. Then (build p 0 (making_of p m) l place ms) (Built (clean_up p (making_of p m) l place) rest)) ws old us new
 part_built p m n s l place ms what ws us old mid new h f w g e k b =
     let marks : mid.marks ≡ old.marks = ap (λ (d : Draft). d.marks) h.rest in
     let fits : build_room l + (clean_length what + 2) ≤ part_room l = subst (λ (x : Cleaning). build_room l + (clean_length x + 2) ≤ part_room l) (sym w) (part_fits p m s l) in
-    constructs_as (constructs_then (constructs_does (build p 0 (making_of p m) l place ms) ws h) (constructs_part (clean_up p (making_of p m) l place) what ws us mid new e f k g (stands_by p m old.marks mid.marks role.Destructor (ended_by p m) s (array_by p m l) what b marks w))) (omega (arith, fits)) (λ ss. refl)
+    constructs_as (constructs_then (constructs_does (build p 0 (making_of p m) l place ms) ws (build_long p 0 (making_of p m) l place ms (laid_in mid) old.marks (length old.ops) (length mid.ops) h.code) h) (constructs_part (clean_up p (making_of p m) l place) what ws us mid new e f k g (stands_by p m old.marks mid.marks role.Destructor (ended_by p m) s (array_by p m l) what b marks w))) (omega (arith, fits)) (λ ss. refl)
 
 -- the fields of a class that may be missing
 
@@ -131,6 +133,7 @@ scope_around {n} {m} {k} {c} {d} {o} {F} {t} {d0} {d1} {d2} {new} ss depth q h w
       scope = ap scope_of e.rest ∙ w.scope;
       opened = (let x = h.opened in let y = w.opened in omega arith);
       kept = kept_then (laid_in d0) (laid_in d1) (laid_in new) h.kept (kept_then (laid_in d1) (laid_in d2) (laid_in new) w.kept e.kept);
+      rows = fit_then e.kept.longer (fit_then w.kept.longer h.rows w.rows) e.rows;
       room = (let x = h.room in let y = w.room in let z = e.room in omega (arith, ends, same));
       texts = (let x = h.texts in let y = w.texts in omega arith);
       cells = (let x = h.cells in let y = w.cells in omega arith);

@@ -35,10 +35,13 @@ use Rattle.uc_lower_stmt.specs.LowersStatement.{Lowers, scope_of}
 use Rattle.uc_lower_stmt.proofs.Counted.{behind_counted}
 use Rattle.uc_lower_stmt.proofs.Kept.{stmts_stable}
 use Rattle.uc_lower_class.specs.Bodies.{LowersBody, LowersUnwritten, builder_room, role_room, unwritten_room}
+use Rattle.uc_code.specs.RowGrowth.{BeginBy}
+use Rattle.uc_lower_stmt.specs.RowFit.{RoutineRows, open_rows}
 
 -- a routine with this body is laid out, and written down under its number
 pub record Placed (home number n : ℕ) (body : source.Stmts) (begins : RoutineCode) (old new : Draft) : Type 0 where
   pub kept : Kept (laid_in old) (laid_in new)
+  pub rows : RoutineRows old new
   pub room : length new.ops ≤ length old.ops + (n + 1)
   pub code : Both (StmtsAt (laid_in new) (mark.Body home ∷ []) 0 body) (One (laid_in new) op.Return 0) (length old.ops) (length new.ops)
   pub written : new.routines ≡ slice_set old.routines number begins
@@ -69,6 +72,9 @@ module _ (home number n k c o : ℕ) (body : source.Stmts) (after : Scope) (begi
   ops_first : length first.ops ≡ length d0.ops
   ops_first = ap length fo
 
+  rows_new : new.rows ≡ d2.rows
+  rows_new = ap (λ (d : Draft). d.rows) e ∙ ap (λ (d : Draft). d.rows) g.rest ∙ ap (λ (d : Draft). d.rows) lv
+
   kept_two : Kept (laid_in d2) (laid_in new)
   kept_two = subst (λ (code : Laid). Kept (laid_in d2) code) (sym laid_new) (subst (λ (code : Laid). Kept code (laid_in d4)) laid_three g.kept)
 
@@ -85,6 +91,19 @@ module _ (home number n k c o : ℕ) (body : source.Stmts) (after : Scope) (begi
   pub arm_placed : Placed home number n body begins d0 new
   arm_placed = record {
     kept = kept_then (laid_in d0) (laid_in d2) (laid_in new) (subst (λ (code : Laid). Kept code (laid_in d2)) laid_first h.kept) kept_two;
+    rows = record {
+      few =
+          let x = h.rows.few in
+          let m1 : open_rows first.marks ≡ 0 = ap open_rows fm in
+          let m2 : open_rows d2.marks ≡ open_rows first.marks = ap (λ (d : Draft). open_rows d.marks) h.rest in
+          let r1 : length first.rows ≡ length d0.rows = ap length fw in
+          let r2 : length new.rows ≡ length d2.rows = ap length rows_new in
+          let g1 = g.code.end in
+          omega (arith, ops_three, ops_new, ops_first);
+      begin = λ i l w.
+          let g1 = g.code.end in
+          subst (BeginBy i) (sym rows_new) (h.rows.begin i (omega (arith, ops_three, ops_new)) (subst (BeginBy i) (sym fw) w));
+    };
     room = let x = h.room in let y = g.room in let a = ops_three in let b = ops_new in let f = ops_first in omega arith;
     code = record { middle = length d2.ops; first = body_at; second = end_at };
     written = ap (λ (d : Draft). d.routines) e ∙ ap (λ (l : List RoutineCode). slice_set l number begins) (ap (λ (d : Draft). d.routines) g.rest ∙ ap (λ (d : Draft). d.routines) lv ∙ ap (λ (d : Draft). d.routines) h.rest ∙ fr);
@@ -143,6 +162,7 @@ builder_purpose p r number c e m =
 -- what lowering one does to a draft
 pub record Written (p : Program) (r : Routine) (s : Scope) (class : Option ℕ) (last number : ℕ) (old new : Draft) : Type 0 where
   pub kept : Kept (laid_in old) (laid_in new)
+  pub rows : RoutineRows old new
   pub room : length new.ops ≤ length old.ops + builder_room p r class
   pub code : RoutineAt (laid_in new) last number (routine_meant p r s) (record { entry = length old.ops; cells = frame_cells p r; params = length r.sig.params; written = true }) (length old.ops) (length new.ops)
   pub written : new.routines ≡ slice_set old.routines number (record { entry = length old.ops; cells = frame_cells p r; params = length r.sig.params; written = true })
@@ -199,6 +219,7 @@ module _ (p : Program) (r : Routine) (wanted : Role) (class : Option ℕ) (last 
       let purpose = builder_purpose p r number (class_by p class) builds main in
       record {
         kept = placed.kept;
+        rows = placed.rows;
         room = placed.room;
         code = record {
           entry = refl;
@@ -233,6 +254,9 @@ module _ (p : Program) (u : Unwritten) (number entry : ℕ) (d0 d1 d2 d3 d4 new 
       arm_placed number number (unwritten_room u.role (class_at p u.class)) 0 0 0 (unwritten_body p u.role u.class) (scope_of bare) (record { entry = length d0.ops; cells = 0; params = 0; written = false }) d0 bare d2 d3 d4 new refl refl refl refl
       (subst (λ (d : Draft). LowersUnwritten p u.role u.class d d2) e1 h) lv g
       (e ∙ ap (λ (n : ℕ). let d : Draft = record d4 { routines = slice_set d4.routines number (record { entry = n; cells = 0; params = 0; written = false }) } in d) ee)
+
+  pub unwritten_rows : RoutineRows d0 new
+  unwritten_rows = arm_unwritten.rows
 
   pub unwritten_at : (last : ℕ) → last ≤ number → RoutineAt (laid_in new) last number (unwritten_meant p u) (record { entry = length d0.ops; cells = 0; params = 0; written = false }) (length d0.ops) (length new.ops)
   unwritten_at last l = record {

@@ -14,6 +14,7 @@ use Rattle.uc_lower_stmt.proofs.Laying.{lays_as, lays_join, lays_nothing}
 use Rattle.uc_lower_stmt.proofs.Openings.{closes_few, counts_one}
 use Rattle.uc_lower_class.specs.Fields.{field_close}
 use Rattle.uc_lower_class.specs.OpenParts.{LeavesAll, Opens}
+use Rattle.uc_lower_stmt.proofs.RowFitting.{fit_opened}
 
 pub opens_nothing : (n : ℕ) (old : Draft) → Opens n (λ ss. ss) old old
 opens_nothing n old = lays_as (lays_nothing 0 old) refl (λ ss. refl) (omega arith) (omega arith) (omega arith) (omega arith) (omega arith)
@@ -30,6 +31,7 @@ scope_opened n c what old l k g x = record {
   scope = refl;
   opened = omega arith;
   kept = k;
+  rows = fit_opened (opening.Object what 0) old (opened (opening.Object what 0) old) refl;
   room = omega arith;
   texts = omega arith;
   cells = omega arith;

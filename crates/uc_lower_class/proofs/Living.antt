@@ -37,9 +37,9 @@ use Rattle.uc_lower_class.proofs.Parting.{constructs_as, constructs_does, constr
 
 pub set_up_on : (p : Program) (b : Bool) (i r : ℕ) (ws us : List Cleaning) (d0 d1 new : Draft) → b ≡ true → r ≡ main_at p i → Adds 1 (OpCode 0 (op.Coroutine r)) d0 d1 → ((c : CleanUp) → Cleans c cleaning.Forget → Constructs (clean_length cleaning.Forget + 2) (λ ss. Built c ss) ws d1 us new) → Constructs (set_up_room b) (set_up p b i) ws d0 us new
 set_up_on p b i r ws us d0 d1 new e m h g =
-    let does : Puts 1 (λ code. StmtAt code d0.marks (OfTasks (SetUp (main_at p i)))) d0 d1 = puts_adds (subst (λ (k : ℕ). Adds 1 (OpCode 0 (op.Coroutine k)) d0 d1) m h) in
+    let does : Puts 0 1 (λ code. StmtAt code d0.marks (OfTasks (SetUp (main_at p i)))) d0 d1 = puts_adds (subst (λ (k : ℕ). Adds 1 (OpCode 0 (op.Coroutine k)) d0 d1) m h) in
     subst (λ (x : Bool). Constructs (set_up_room x) (set_up p x i) ws d0 us new) (sym e) (
-    constructs_as (constructs_then (constructs_does (OfTasks (SetUp (main_at p i))) ws does) (g Forgets IsForgotten)) (omega arith) (λ ss. refl))
+    constructs_as (constructs_then (constructs_does (OfTasks (SetUp (main_at p i))) ws (let l = does.kept.longer in omega arith) does) (g Forgets IsForgotten)) (omega arith) (λ ss. refl))
 
 pub set_up_none : (p : Program) (b : Bool) (i : ℕ) (ws : List Cleaning) (old : Draft) → b ≡ false → Constructs (set_up_room b) (set_up p b i) ws old ws old
 set_up_none p b i ws old e = subst (λ (x : Bool). Constructs (set_up_room x) (set_up p x i) ws old ws old) (sym e) (constructs_as (constructs_nothing ws old) (omega arith) (λ ss. refl))

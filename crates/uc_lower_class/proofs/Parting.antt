@@ -13,6 +13,7 @@ use Rattle.uc_code.specs.CodeShapes.{Kept}
 use Rattle.uc_code.specs.Lowered.{StmtAt, StmtsAt}
 use Rattle.uc_code.specs.ObjectCalls.{Cleans}
 use Rattle.uc_code.specs.Emits.{Puts, clean_length}
+use Rattle.uc_code.proofs.Growth.{rows_same}
 use Rattle.uc_code.proofs.Stable.{kept_refl, kept_then, kept_same}
 use Rattle.uc_lower_expr.specs.DraftGrowth.{Adds}
 use Rattle.uc_lower_stmt.specs.Objects.{ClosesPart, InPart}
@@ -20,6 +21,7 @@ use Rattle.uc_lower_stmt.specs.OpenScopes.{Step, Does, Opens, Builds, block_of}
 use Rattle.uc_lower_stmt.proofs.Ending.{cleans_under}
 use Rattle.uc_lower_stmt.proofs.Kept.{stmt_stable, stmts_stable}
 use Rattle.uc_lower_class.specs.OpenParts.{Pended, Begins, Done, Parted, PartsIn, MoreParts, Constructs, EndsParts, end_room}
+use Rattle.uc_lower_stmt.proofs.RowFitting.{fit_opened, fit_puts, fit_refl, fit_then}
 
 pub block_join : (ks ls : List Step) (ss : Stmts) → block_of (ls ++ ks) ss ≡ block_of ks (block_of ls ss)
 block_join ks [] ss = refl
@@ -80,6 +82,7 @@ pub ends_nothing : (old : Draft) → EndsParts [] old old
 ends_nothing old = record {
   rest = refl;
   kept = kept_refl (laid_in old);
+  rows = fit_refl old;
   room = omega arith;
   block = λ ms a y ks ss p h. (collected (laid_in old) ms a ks old.marks y (length old.ops) ss p h).block;
   marks = sym (drop_none old.marks);
@@ -128,6 +131,7 @@ module _ (what : Cleaning) (ws : List Cleaning) (old mid new : Draft) (q : InPar
   ends_part = record {
     rest = g.rest ∙ ap (λ (d : Draft). let x : Draft = record d { ops = new.ops; rows = new.rows; settled = new.settled; marks = new.marks } in x) h.rest;
     kept = kept_then was now (laid_in new) h.kept g.kept;
+    rows = fit_then g.kept.longer h.rows g.rows;
     room = let x = h.room in let y = g.room in omega arith;
     block = λ ms a y ks ss p at. closed ms a y (block_of ks ss) (uncovered was ms a what ws ks old.marks y (length old.ops) ss p at);
     marks = bare;
@@ -162,6 +166,7 @@ pub constructs_nothing : (ws : List Cleaning) (old : Draft) → Constructs 0 (λ
 constructs_nothing ws old = record {
   rest = refl;
   kept = kept_refl (laid_in old);
+  rows = fit_refl old;
   room = omega arith;
   parts = λ h. h;
   inside = refl;
@@ -174,6 +179,7 @@ pub constructs_as : {m n : ℕ} {F G : Stmts → Stmts} {ws us : List Cleaning} 
 constructs_as {m} {n} {F} {G} {ws} {us} {old} {new} h l e = record {
   rest = h.rest;
   kept = h.kept;
+  rows = h.rows;
   room = let x = h.room in omega arith;
   parts = h.parts;
   inside = h.inside;
@@ -186,6 +192,7 @@ pub constructs_then : {m n : ℕ} {F G : Stmts → Stmts} {ws us vs : List Clean
 constructs_then {m} {n} {F} {G} {ws} {us} {vs} {old} {mid} {new} h g = record {
   rest = g.rest ∙ ap (λ (d : Draft). let x : Draft = record d { ops = new.ops; rows = new.rows; settled = new.settled; marks = new.marks } in x) h.rest;
   kept = kept_then (laid_in old) (laid_in mid) (laid_in new) h.kept g.kept;
+  rows = fit_then g.kept.longer h.rows g.rows;
   room = let x = h.room in let y = g.room in omega arith;
   parts = λ p. g.parts (h.parts p);
   inside = g.inside ∙ h.inside;
@@ -196,12 +203,13 @@ constructs_then {m} {n} {F} {G} {ws} {us} {vs} {old} {mid} {new} h g = record {
 
 -- a statement, and what follows a part
 
-pub constructs_does : {n : ℕ} {old new : Draft} → (s : Stmt) (ws : List Cleaning) → Puts n (λ code. StmtAt code old.marks s) old new → Constructs n (λ ss. Then s ss) ws old ws new
-constructs_does {n} {old} {new} s ws h =
+pub constructs_does : {r n : ℕ} {old new : Draft} → (s : Stmt) (ws : List Cleaning) → r + length old.ops ≤ length new.ops → Puts r n (λ code. StmtAt code old.marks s) old new → Constructs n (λ ss. Then s ss) ws old ws new
+constructs_does {r} {n} {old} {new} s ws l h =
     let marks : new.marks ≡ old.marks = ap (λ (d : Draft). d.marks) h.rest in
     record {
       rest = subst (λ (d : Draft). d ≡ record old { ops = d.ops; rows = d.rows; settled = d.settled; marks = d.marks }) (sym h.rest) refl;
       kept = h.kept;
+      rows = fit_puts l h;
       room = let x = h.room in omega arith;
       parts = λ p. subst (λ (ns : List CodeMark). PartsIn (reverse ws) ns) (sym marks) p;
       inside = ap routine_in marks;
@@ -211,10 +219,11 @@ constructs_does {n} {old} {new} s ws h =
           (Done (reverse ws) ks old.marks (length old.ops) (length new.ops) s (pended_kept (laid_in old) (laid_in new) ms a (reverse ws) ks old.marks (length old.ops) h.kept (omega arith) p) h.code);
     }
 
-pub puts_adds : {n : ℕ} {S : Laid → ℕ → ℕ → Type 0} {old new : Draft} → Adds n S old new → Puts n S old new
+pub puts_adds : {n : ℕ} {S : Laid → ℕ → ℕ → Type 0} {old new : Draft} → Adds n S old new → Puts 0 n S old new
 puts_adds {n} {S} {old} {new} h = record {
   rest = subst (λ (d : Draft). d ≡ record old { ops = d.ops; rows = d.rows; settled = d.settled }) (sym h.rest) refl;
   kept = h.kept;
+  rows = rows_same (ap (λ (d : Draft). d.rows) h.rest);
   room = h.room;
   code = h.code;
 }
@@ -226,6 +235,7 @@ parts_push : (c : CleanUp) (what : Cleaning) (ws : List Cleaning) (old : Draft) 
 parts_push c what ws old k g b = record {
   rest = refl;
   kept = k;
+  rows = fit_opened opening.Part old (opened opening.Part old) refl;
   room = let e = end_push ws what in omega arith;
   parts = λ p. subst (λ (us : List Cleaning). PartsIn us (mark.Part (length old.rows) ∷ old.marks)) (sym (reverse_push ws what)) (MoreParts what (reverse ws) (length old.rows) old.marks b p);
   inside = refl;

@@ -31,6 +31,9 @@ use Rattle.uc_lower_class.specs.Bodies.{LowersWhole, whole_room}
 use Rattle.uc_lower_stmt.proofs.Kept.{stmts_stable}
 use Rattle.uc_lower_class.specs.OpenParts.{Pended, Begins, Constructs, EndsParts}
 use Rattle.uc_lower_class.proofs.Parting.{block_join, end_reverse, marks_behind, pended_kept}
+use Rattle.uc_code.proofs.Growth.{rows_closed}
+use Rattle.uc_lower_stmt.specs.RowFit.{RowsFit, open_rows}
+use Rattle.uc_lower_stmt.proofs.RowFitting.{fit_adds, fit_closed, fit_opened, fit_then}
 
 -- what was laid out before a place stays where the op at the place is another one
 kept_patch : (old now : Laid) (at : ℕ) (o : Op) → Kept old now → length old.ops ≤ at → Kept old (record { ops = patched now.ops at o; rows = now.rows })
@@ -210,6 +213,11 @@ module _ (line start end n k c o : ℕ) (ss : Stmts) (after : Scope) (d0 d1 d2 d
         rest = subst (λ (d : Draft). d ≡ record d0 { ops = d.ops; rows = d.rows; settled = d.settled; scopes = d.scopes; names = d.names; cells = d.cells; hidden = d.hidden; texts = d.texts; sites = d.sites }) (sym new_whole) refl;
         scope = ap scope_of is ∙ ap scope_of g7.rest ∙ ap scope_of g6.rest ∙ ap scope_of (like_closed 1 d4 d4 d5 refl c5) ∙ h.scope;
         opened = let x = h.opened in omega arith;
+        rows =
+            let two : RowsFit 0 d0 d2 = fit_then g2.kept.longer (fit_adds g1) (fit_adds g2) in
+            let four : RowsFit 0 d0 d4 = fit_then h.kept.longer (fit_then k3.longer two (fit_opened (opening.Whole (start + 1)) d2 d3 o3)) h.rows in
+            let e7 = g7.code.end in
+            fit_closed four (rows_closed 1 d4 d5 c5) (ap (λ (d : Draft). d.rows) new_whole) (ap open_rows marks_four) (ap (λ (d : Draft). open_rows d.marks) new_whole) (omega (arith, long_new, long, long_six, e7)) (omega (arith, long_new, long, long_six, e7));
         kept = subst (λ (code : Laid). Kept (laid_in d0) code) (sym laid_new) (kept_patch (laid_in d0) was (a + 1) (op.Jump (length d7.ops)) kept_all (omega arith));
         room = let x = h.room in let y = long in let w = g7.code.end in let v = long_six in let u = long_three in omega arith;
         texts = let x = h.texts in omega arith;
@@ -257,6 +265,7 @@ module _ (n m k c o : ℕ) (F : Stmts → Stmts) (us : List Cleaning) (ss : Stmt
         scope = ap scope_of e.rest ∙ w.scope;
         opened = let x = w.opened in omega arith;
         kept = kept_then (laid_in d0) (laid_in d1) (laid_in new) h.kept (kept_then (laid_in d1) (laid_in d2) (laid_in new) w.kept e.kept);
+        rows = fit_then e.kept.longer (fit_then w.kept.longer h.rows w.rows) e.rows;
         room = let x = h.room in let y = w.room in let z = e.room in let r = end_reverse us in omega arith;
         texts = let x = w.texts in omega arith;
         cells = let x = w.cells in omega arith;

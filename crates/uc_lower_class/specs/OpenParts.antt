@@ -14,6 +14,7 @@ use Rattle.uc_code.specs.Emits.{clean_length}
 use Rattle.uc_lower_stmt.specs.OpenScopes.{Step, Does, Builds, Lays, block_of}
 use Rattle.uc_lower_stmt.specs.LowersStatement.{scope_of}
 use Rattle.uc_lower_class.specs.Fields.{field_close}
+use Rattle.uc_lower_stmt.specs.RowFit.{RowsFit}
 
 -- steps that are laid out in no line, from these marks and this place to those marks and that place, with the clean-ups of the parts
 -- among them; the newest stands first
@@ -37,6 +38,7 @@ end_room (w ∷ ws) = clean_length w + 2 + end_room ws
 pub record Constructs (n : ℕ) (F : Stmts → Stmts) (ws : List Cleaning) (old : Draft) (us : List Cleaning) (new : Draft) : Type 0 where
   pub rest : new ≡ record old { ops = new.ops; rows = new.rows; settled = new.settled; marks = new.marks }
   pub kept : Kept (laid_in old) (laid_in new)
+  pub rows : RowsFit 0 old new
   pub room : length new.ops + end_room us ≤ length old.ops + end_room ws + n
   pub parts : PartsIn (reverse ws) old.marks → PartsIn (reverse us) new.marks
   pub inside : routine_in new.marks ≡ routine_in old.marks
@@ -48,6 +50,7 @@ pub record Constructs (n : ℕ) (F : Stmts → Stmts) (ws : List Cleaning) (old 
 pub record EndsParts (ws : List Cleaning) (old new : Draft) : Type 0 where
   pub rest : new ≡ record old { ops = new.ops; rows = new.rows; settled = new.settled; marks = new.marks }
   pub kept : Kept (laid_in old) (laid_in new)
+  pub rows : RowsFit 0 old new
   pub room : length new.ops ≤ length old.ops + end_room ws
   pub block : (ms : List CodeMark) (a y : ℕ) (ks : List Step) (ss : Stmts) → Pended (laid_in old) ms a ws ks old.marks y → StmtsAt (laid_in old) old.marks 0 ss y (length old.ops) → StmtsAt (laid_in new) ms 0 (block_of ks ss) a (length new.ops)
   pub marks : new.marks ≡ drop (length ws) old.marks

@@ -8,6 +8,7 @@ use Rattle.uc_code.specs.Layout.{Laid, laid_in}
 use Rattle.uc_code.specs.Drafts.{Draft, ops_with, patched}
 use Rattle.uc_code.specs.CodeShapes.{OpAt, Nothing, Risk, Both, Fork, PollAt, Same, Kept, Stable}
 use Rattle.uc_code.specs.Emits.{Puts}
+use Rattle.uc_code.specs.RowGrowth.{BeginBy}
 use Rattle.uc_code.proofs.Stable.{kept_refl, kept_then, kept_same, same_then}
 use Rattle.uc_code.proofs.Putting.{puts_poll}
 use Rattle.uc_code.proofs.Patches.{bare_stays, kept_with, one_with, length-patched, patched_at, same_before, same_after}
@@ -71,10 +72,14 @@ adds_both {m} {n} {B} {C} {old} {mid} {new} b h g = record {
 
 -- events are delivered
 module _ (line e b : ℕ) (d0 d1 d2 d3 d4 : Draft) where
-  as_puts : {S : Laid → ℕ → ℕ → Type 0} {old new : Draft} → Adds 1 S old new → Puts 1 S old new
+  as_puts : {S : Laid → ℕ → ℕ → Type 0} {old new : Draft} → Adds 1 S old new → Puts 0 1 S old new
   as_puts {S} {old} {new} h = record {
     rest = subst (λ (d : Draft). d ≡ record old { ops = d.ops; rows = d.rows; settled = d.settled }) (sym h.rest) refl;
     kept = h.kept;
+    rows = record {
+      more = let e : length old.rows ≡ length old.rows + 0 = omega arith in subst (λ (d : Draft). length d.rows ≡ length old.rows + 0) (sym h.rest) e;
+      begin = λ k m b. subst (λ (d : Draft). BeginBy k d.rows) (sym h.rest) b;
+    };
     room = h.room;
     code = h.code;
   }

@@ -33,7 +33,7 @@ use Rattle.uc_lower_expr.specs.Contexts.{context_in}
 use Rattle.uc_lower_expr.specs.DraftGrowth.{Adds, ExprCode, OpCode}
 use Rattle.uc_lower_expr.proofs.Adding.{adds_as, adds_both, adds_more, adds_nothing}
 use Rattle.uc_lower_expr.proofs.Settled.{both, expr_stable}
-use Rattle.uc_lower_stmt.specs.Accepting.{ChoiceCode, GuardsCode, HolesAt, HolesCode, LowersAccept, LowersBranches, LowersChoice, accept_room, branch_of, branches_room, choice_room, guard_meant, guard_of, guard_room, guards_room, past_branches}
+use Rattle.uc_lower_stmt.specs.Accepting.{choice_set, ChoiceCode, GuardsCode, HolesAt, HolesCode, LowersAccept, LowersBranches, LowersChoice, accept_room, branch_of, branches_room, choice_room, guard_meant, guard_of, guard_room, guards_room, past_branches}
 use Rattle.uc_lower_stmt.specs.Control.{maybe_at_size, maybe_past}
 use Rattle.uc_lower_stmt.specs.LowersStatement.{Lowers, LowersStmt, scope_of}
 use Rattle.uc_lower_stmt.specs.Marked.{objects_in, taken}
@@ -42,6 +42,8 @@ use Rattle.uc_lower_stmt.proofs.Joined.{lowers_as, lowers_puts, puts_adds}
 use Rattle.uc_lower_stmt.proofs.Jumping.{before_chosen, chosen, jumps_chosen, jumps_stable, kept_until, length_chosen, one_set, until_chosen}
 use Rattle.uc_lower_stmt.proofs.Kept.{branches_stable}
 use Rattle.uc_lower_stmt.proofs.Stating.{as_stmt}
+use Rattle.uc_lower_stmt.specs.RowFit.{RowsFit}
+use Rattle.uc_lower_stmt.proofs.RowFitting.{fit_like, fit_then}
 
 -- guards
 
@@ -104,15 +106,15 @@ accept_of code ms site guards line fail end a z f e h =
     }
 
 pub puts_accept : (site guards line ask : ℕ) (d0 d1 d2 d3 d4 : Draft) → ask ≡ length d0.ops → Adds 1 (OpCode line (op.Accept site guards (ask + 8))) d0 d1 → Adds 1 (OpCode line (op.Failed (ask + 4))) d1 d2
-    → Puts 2 (λ code. Both (Risk code d2.marks op.Raise line) (One code op.Discard line)) d2 d3 → Puts 4 (λ code. PollAt code d3.marks line) d3 d4 → Puts 8 (λ code. AcceptsAt code d0.marks site guards line) d0 d4
+    → Puts 0 2 (λ code. Both (Risk code d2.marks op.Raise line) (One code op.Discard line)) d2 d3 → Puts 0 4 (λ code. PollAt code d3.marks line) d3 d4 → Puts 0 8 (λ code. AcceptsAt code d0.marks site guards line) d0 d4
 puts_accept site guards line ask d0 d1 d2 d3 d4 e p q r t =
     let ms : List CodeMark = d0.marks in
     let marks2 : d2.marks ≡ ms = ap (λ (d : Draft). d.marks) q.rest ∙ ap (λ (d : Draft). d.marks) p.rest in
     let marks3 : d3.marks ≡ ms = ap (λ (d : Draft). d.marks) r.rest ∙ marks2 in
-    let raise : Puts 2 (λ code. Both (Risk code ms op.Raise line) (One code op.Discard line)) d2 d3 = subst (λ (ns : List CodeMark). Puts 2 (λ code. Both (Risk code ns op.Raise line) (One code op.Discard line)) d2 d3) marks2 r in
-    let poll : Puts 4 (λ code. PollAt code ms line) d3 d4 = subst (λ (ns : List CodeMark). Puts 4 (λ code. PollAt code ns line) d3 d4) marks3 t in
+    let raise : Puts 0 2 (λ code. Both (Risk code ms op.Raise line) (One code op.Discard line)) d2 d3 = subst (λ (ns : List CodeMark). Puts 0 2 (λ code. Both (Risk code ns op.Raise line) (One code op.Discard line)) d2 d3) marks2 r in
+    let poll : Puts 0 4 (λ code. PollAt code ms line) d3 d4 = subst (λ (ns : List CodeMark). Puts 0 4 (λ code. PollAt code ns line) d3 d4) marks3 t in
     let all = puts_both (one_stable (op.Accept site guards (ask + 8)) line) (puts_adds p) (puts_both (one_stable (op.Failed (ask + 4)) line) (puts_adds q) (puts_both (both (risk_stable ms op.Raise line) (one_stable op.Discard line)) raise poll)) in
-    record { rest = all.rest; kept = all.kept; room = all.room; code = accept_of (laid_in d4) ms site guards line (ask + 4) (ask + 8) (length d0.ops) (length d4.ops) (ap (λ (x : ℕ). x + 4) e) (ap (λ (x : ℕ). x + 8) e) all.code }
+    record { rest = all.rest; kept = all.kept; rows = all.rows; room = all.room; code = accept_of (laid_in d4) ms site guards line (ask + 4) (ask + 8) (length d0.ops) (length d4.ops) (ap (λ (x : ℕ). x + 4) e) (ap (λ (x : ℕ). x + 8) e) all.code }
 
 -- jumps without places
 
@@ -141,7 +143,7 @@ holes_more line count d0 d1 d2 h g = adds_as (adds_both (holes_stable line count
 -- what stands before the branches
 
 module _ (p : Program) (line site count choose : ℕ) (xs : List Clause) (d0 d1 d2 d3 d4 d5 : Draft) (se : site ≡ d0.sites) (ne : count ≡ length xs) (ad : d1 ≡ record d0 { sites = d0.sites + 1 })
-    (g : Adds (guards_room xs) (GuardsCode line d1.marks (context_in p d1) xs) d1 d2) (q : Puts 8 (λ code. AcceptsAt code d2.marks site count line) d2 d3) (ce : choose ≡ length d3.ops) (c : Adds 1 (OpCode line (op.Choose count 0)) d3 d4)
+    (g : Adds (guards_room xs) (GuardsCode line d1.marks (context_in p d1) xs) d1 d2) (q : Puts 0 8 (λ code. AcceptsAt code d2.marks site count line) d2 d3) (ce : choose ≡ length d3.ops) (c : Adds 1 (OpCode line (op.Choose count 0)) d3 d4)
     (h : Adds (length xs + 1) (HolesCode line (length xs + 1)) d4 d5) where
   abbrev around : List CodeMark
   around = d0.marks
@@ -155,27 +157,27 @@ module _ (p : Program) (line site count choose : ℕ) (xs : List Clause) (d0 d1 
   guards : Adds (guards_room xs) (GuardsCode line around in_context xs) d1 d2
   guards = subst (λ (d : Draft). Adds (guards_room xs) (GuardsCode line d.marks (context_in p d) xs) d1 d2) ad g
 
-  asks : Puts 8 (λ code. AcceptsAt code around d0.sites many line) d2 d3
+  asks : Puts 0 8 (λ code. AcceptsAt code around d0.sites many line) d2 d3
   asks =
       let marks : d2.marks ≡ around = ap (λ (d : Draft). d.marks) g.rest ∙ ap (λ (d : Draft). d.marks) ad in
-      subst (λ (k : ℕ). Puts 8 (λ code. AcceptsAt code around d0.sites k line) d2 d3) ne (
-      subst (λ (k : ℕ). Puts 8 (λ code. AcceptsAt code around k count line) d2 d3) se (
-      subst (λ (ns : List CodeMark). Puts 8 (λ code. AcceptsAt code ns site count line) d2 d3) marks q))
+      subst (λ (k : ℕ). Puts 0 8 (λ code. AcceptsAt code around d0.sites k line) d2 d3) ne (
+      subst (λ (k : ℕ). Puts 0 8 (λ code. AcceptsAt code around k count line) d2 d3) se (
+      subst (λ (ns : List CodeMark). Puts 0 8 (λ code. AcceptsAt code ns site count line) d2 d3) marks q))
 
   chooses : Adds 1 (OpCode line (op.Choose many 0)) d3 d4
   chooses = subst (λ (k : ℕ). Adds 1 (OpCode line (op.Choose k 0)) d3 d4) ne c
 
-  all : Puts (choice_room xs) (ChoiceCode line around in_context d0.sites xs) d1 d5
+  all : Puts 0 (choice_room xs) (ChoiceCode line around in_context d0.sites xs) d1 d5
   all =
       let w = puts_both (guards_code_stable line around in_context xs) (puts_adds guards) (puts_both (accepts_stable around d0.sites many line) asks (puts_both (one_stable (op.Choose many 0) line) (puts_adds chooses) (puts_adds h))) in
-      record { rest = w.rest; kept = w.kept; room = let r = w.room in omega arith; code = w.code }
+      record { rest = w.rest; kept = w.kept; rows = w.rows; room = let r = w.room in omega arith; code = w.code }
 
   pub choice_laid : LowersChoice p line xs d0 d5
   choice_laid =
       let l : Lowers (choice_room xs) 0 0 0 (ChoiceCode line around in_context d0.sites xs) (scope_of d1) d1 d5 = lowers_puts 0 0 all in
       let m : Lowers (choice_room xs) 0 0 0 (ChoiceCode line around in_context d0.sites xs) (scope_of (record d0 { sites = d0.sites + 1 })) (record d0 { sites = d0.sites + 1 }) d5 =
       subst (λ (d : Draft). Lowers (choice_room xs) 0 0 0 (ChoiceCode line around in_context d0.sites xs) (scope_of d) d d5) ad l in
-      record { rest = m.rest; scope = m.scope; opened = m.opened; kept = m.kept; room = m.room; texts = m.texts; cells = m.cells; code = m.code }
+      record { rest = m.rest; scope = m.scope; opened = m.opened; kept = m.kept; rows = record { few = m.rows.few; begin = m.rows.begin }; room = m.room; texts = m.texts; cells = m.cells; code = m.code }
 
   pub choice_place : choose + (many + 2) ≡ length d5.ops
   choice_place = let e = c.code.end in let f = h.code.end in omega (arith, ce, e, f)
@@ -340,6 +342,10 @@ module _ (p : Program) (line choose first count end : ℕ) (xs : List Clause) (o
         scope = b.branches.scope ∙ ap (λ (u : Scope). past_branches p xs other u) h.scope;
         opened = (let u = h.opened in let v = b.branches.opened in omega arith);
         kept = kept_until (laid_in d0) l2 choose (op.Choose n (length d2.ops)) (kept_then (laid_in d0) jumping l2 kept_jumping b.branches.kept) (omega arith);
+        rows =
+            let set : Draft = choice_set (choose + 1) first o ps d1 in
+            let one : RowsFit 0 d0 set = fit_like d0 set refl refl refl refl long_jumping refl h.rows in
+            fit_like d0 last refl refl refl refl long refl (fit_then b.branches.kept.longer one b.branches.rows);
         room = (let u = h.room in let v = b.branches.room in omega (arith, objects, long, long_jumping, u, v));
         texts = (let u = h.texts in let v = b.branches.texts in omega arith);
         cells = (let u = h.cells in let v = b.branches.cells in omega arith);

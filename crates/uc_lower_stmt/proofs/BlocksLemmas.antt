@@ -21,6 +21,7 @@ use Rattle.uc_lower_stmt.specs.Objects.{ClosesScope, InScope, leaves}
 use Rattle.uc_lower_stmt.specs.OpenScopes.{Step, Does, Opens, Builds, NoCall, NoParts, block_of, Pending, Begins, Done, Opened, Parted}
 use Rattle.uc_lower_stmt.proofs.Ending.{scope_ended}
 use Rattle.uc_lower_stmt.proofs.Kept.{stmt_stable, stmts_stable}
+use Rattle.uc_lower_stmt.proofs.RowFitting.{fit_refl, fit_then}
 
 -- steps that are laid out
 
@@ -159,6 +160,7 @@ pub ending_none : (count : ℕ) (d : Draft) → EndingScopes count d d
 ending_none count d = record {
   rest = refl;
   kept = kept_refl (laid_in d);
+  rows = fit_refl d;
   room = omega arith;
   block = λ line a y ks ms ss l n p h. record { steps = ks; none = n; behind = ss; middle = y; before = p; code = h; same = refl };
 }
@@ -207,6 +209,7 @@ module _ (count : ℕ) (scope : ObjectScope) (now next : Draft) (at : innermost_
       record {
         rest = h.rest ∙ ap (λ (d : Draft). let e : Draft = record d { ops = next.ops; rows = next.rows; settled = next.settled; marks = next.marks } in e) u.rest;
         kept = kept_then (laid_in old) (laid_in now) (laid_in next) u.kept h.kept;
+        rows = fit_then h.kept.longer u.rows h.rows;
         room = (let r = h.room in let s = u.room in omega (arith, o, q));
         block = λ line a y ks ms ss l n p k. scope_next line ms (block_of ks ss) a l (u.block line a y ks ms ss l n p k);
       }
@@ -222,6 +225,7 @@ pub scopes_ended : (count : ℕ) (old now : Draft) → innermost_in now.marks co
 scopes_ended count old now none u = record {
   rest = u.rest;
   kept = u.kept;
+  rows = u.rows;
   room = u.room;
   block = λ line a y ks ms ss l n p h. stands line ms (block_of ks ss) a l (u.block line a y ks ms ss l n p h);
 }

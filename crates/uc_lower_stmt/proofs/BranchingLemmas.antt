@@ -30,6 +30,7 @@ use Rattle.uc_lower_stmt.proofs.Joined.{lowers_adds}
 use Rattle.uc_lower_stmt.proofs.BranchFitting.{no_clauses}
 use Rattle.uc_lower_stmt.proofs.Jumping.{kept_until, length_chosen, lowers_chosen, one_set}
 use Rattle.uc_lower_stmt.proofs.Kept.{branches_stable, stmt_stable}
+use Rattle.uc_lower_stmt.proofs.RowFitting.{fit_like, fit_then}
 
 -- without a clause
 
@@ -48,6 +49,7 @@ branch_last p line else_at first here xs other d0 d1 new none he pt m =
       scope = k.scope;
       opened = let w = k.opened in omega (arith, w);
       kept = k.kept;
+      rows = k.rows;
       room = let w = k.room in omega (arith, w);
       texts = let w = k.texts in omega (arith, w);
       cells = let w = k.cells in omega (arith, w);
@@ -216,6 +218,7 @@ module _ (p : Program) (line else_at first here leave end : ℕ) (place : Pos) (
     scope = four.scope;
     opened = (let u = two.opened in let v = three.opened in let w = four.opened in omega arith);
     kept = kept_until (laid_in start) was y (op.Jump (length d4.ops)) kept_start (let l = long_start in let m = past in omega arith);
+    rows = fit_like start last refl refl refl refl long refl (fit_then four.kept.longer (fit_then three.kept.longer two.rows three.rows) four.rows);
     room = (let u = two.room in let v = three.room in let w = four.room in let l = long in omega arith);
     texts = (let u = two.texts in let v = three.texts in let w = four.texts in omega arith);
     cells = (let u = two.cells in let v = three.cells in let w = four.cells in omega arith);

@@ -37,7 +37,7 @@ use Rattle.uc_lower_expr.specs.Members.{HasClass, routine_by, routine_for}
 use Rattle.uc_lower_expr.specs.DraftGrowth.{Adds, ExprCode, ArgumentsCode, OpCode, RiskCode}
 use Rattle.uc_lower_expr.proofs.Adding.{adds_as, adds_both, adds_more, adds_nothing}
 use Rattle.uc_lower_expr.proofs.Settled.{args_stable, expr_stable}
-use Rattle.uc_lower_stmt.specs.Objects.{FillCode, MadeCode, array_by, build_room, builder_of, call_by, destroyer_of, element_cells, fill_room, object_built, object_cells, object_ended}
+use Rattle.uc_lower_stmt.specs.Objects.{FillCode, MadeCode, array_by, build_room, build_rows, builder_of, call_by, destroyer_of, element_cells, fill_room, object_built, object_cells, object_ended}
 use Rattle.uc_lower_stmt.proofs.Joined.{puts_adds}
 
 -- cells that are not capped
@@ -251,18 +251,18 @@ module _ (p : Program) where
   -- the statement that builds one, or the elements of an array
 
   pub arm_one : (m : Made) (line : ℕ) (spot : ObjectSpot) (length : Option ℕ) (args : List Meant) (n : ℕ) (old d1 new : Draft) → length ≡ None → ((place : Expr) → BeginsAt place spot → Adds (n + 5) (ExprCode line old.marks (constructed p (making_of p m) place args)) old d1) → Adds 1 (OpCode line op.Discard) d1 new
-      → (place : Expr) → BeginsAt place spot → Puts (n + build_room length) (λ code. StmtAt code old.marks (build p line (making_of p m) length place args)) old new
+      → (place : Expr) → BeginsAt place spot → Puts (build_rows length) (n + build_room length) (λ code. StmtAt code old.marks (build p line (making_of p m) length place args)) old new
   arm_one m line spot length args n old d1 new e a b place h =
-      subst (λ (o : Option ℕ). Puts (n + build_room o) (λ code. StmtAt code old.marks (build p line (making_of p m) o place args)) old new) (sym e) (
+      subst (λ (o : Option ℕ). Puts (build_rows o) (n + build_room o) (λ code. StmtAt code old.marks (build p line (making_of p m) o place args)) old new) (sym e) (
       puts_adds (adds_more (omega arith) (adds_both (expr_stable line old.marks (constructed p (making_of p m) place args)) (a place h) b)))
 
   pub arm_all : LawCells → (m : Made) (line : ℕ) (spot : ObjectSpot) (length : Option ℕ) (array : Option Array) (args : List Meant) (n count : ℕ) (builder destroyer : ObjectCall) (old new : Draft) → length ≡ Some count → array ≡ array_by p m (Some count)
-      → builder ≡ builder_of p m spot array → destroyer ≡ destroyer_of p m spot array → Puts fill_room (FillCode line old.marks builder destroyer count) old new
-      → (place : Expr) → BeginsAt place spot → Puts (n + build_room length) (λ code. StmtAt code old.marks (build p line (making_of p m) length place args)) old new
+      → builder ≡ builder_of p m spot array → destroyer ≡ destroyer_of p m spot array → Puts 1 fill_room (FillCode line old.marks builder destroyer count) old new
+      → (place : Expr) → BeginsAt place spot → Puts (build_rows length) (n + build_room length) (λ code. StmtAt code old.marks (build p line (making_of p m) length place args)) old new
   arm_all laws m line spot length array args n count builder destroyer old new e ae be de h place b =
       let g : builder ≡ builder_of p m spot (array_by p m (Some count)) = be ∙ ap (builder_of p m spot) ae in
       let k : destroyer ≡ destroyer_of p m spot (array_by p m (Some count)) = de ∙ ap (destroyer_of p m spot) ae in
-      subst (λ (o : Option ℕ). Puts (n + build_room o) (λ code. StmtAt code old.marks (build p line (making_of p m) o place args)) old new) (sym e) (
+      subst (λ (o : Option ℕ). Puts (build_rows o) (n + build_room o) (λ code. StmtAt code old.marks (build p line (making_of p m) o place args)) old new) (sym e) (
       puts_more (omega arith) (puts_as h (λ code x z w. record {
         builder = builder;
         destroyer = destroyer;

@@ -28,6 +28,7 @@ use Rattle.uc_lower_stmt.specs.Control.{LowersAlone, LowersMaybe, LowersIf, mayb
 use Rattle.uc_lower_stmt.proofs.Joined.{lowers_adds, lowers_as, lowers_join, lowers_put}
 use Rattle.uc_lower_stmt.proofs.Kept.{stmt_stable}
 use Rattle.uc_lower_stmt.proofs.Shaping.{Longer, adds_longer, lowers_longer, longer_both, longer_fork, lowers_done}
+use Rattle.uc_code.proofs.Patches.{length-patched}
 
 -- a statement under these marks, in this scope
 abbrev pub AloneIn : Program → Stmt → List CodeMark → Scope → Draft → Draft → Type 0
@@ -112,4 +113,4 @@ module _ (p : Program) (line : ℕ) (test : tree.Expr) (chosen : Stmt) (other : 
       let three = both two (one_stable (op.Jump 0) line) in
       let all = lowers_join three (lowers_put two (lowers_join one (lowers_put (expr_stable line ms value) (lowers_adds 0 0 a) b) first) c) second in
       let ops_are : new ≡ record e5 { ops = new.ops } = f ∙ ap (λ (l : List Instruction). let d : Draft = record e5 { ops = l } in d) (sym (ap (λ (d : Draft). d.ops) f)) in
-      lowers_as (lowers_done all ops_are whole) refl (λ code x z w. w) (omega arith) (omega arith) (omega arith) (omega arith)
+      lowers_as (lowers_done all ops_are (ap length is ∙ length-patched (patched e5.ops (length e1.ops) (op.IfZero (length e3.ops + 1))) (length e3.ops) (op.Jump (length e5.ops)) ∙ length-patched e5.ops (length e1.ops) (op.IfZero (length e3.ops + 1))) whole) refl (λ code x z w. w) (omega arith) (omega arith) (omega arith) (omega arith)

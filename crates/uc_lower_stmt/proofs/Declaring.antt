@@ -35,6 +35,7 @@ use Rattle.uc_lower_stmt.specs.LowersStatement.{Lowers, scope_of}
 use Rattle.uc_lower_stmt.specs.Pieces.{StartCode, VariablesCode}
 use Rattle.uc_lower_stmt.proofs.Kept.{variables_stable}
 use Rattle.uc_lower_stmt.proofs.Joined.{lowers_as, lowers_join}
+use Rattle.uc_lower_stmt.proofs.RowFitting.{fit_ops}
 
 pub arm_first : (n line : ℕ) (ms : List CodeMark) (cell : ℕ) (s : Shape) (e : Expr) (d0 d1 d2 d3 d4 : Draft) → Adds 1 (OpCode line (op.Local cell)) d0 d1 → Adds n (ExprCode line ms e) d1 d2 → Adds 1 (ConvertCode line s) d2 d3 → Adds 1 (OpCode line op.Store) d3 d4 → Adds (n + 3) (StartCode line ms cell (Some (converted s e))) d0 d4
 arm_first n line ms cell s e d0 d1 d2 d3 d4 h1 h2 h3 h4 =
@@ -88,6 +89,7 @@ arm_declared p b d line cell cells name ty x st d0 d1 d2 new le ce xe se ne te h
       scope = refl;
       opened = omega arith;
       kept = all.kept;
+      rows = fit_ops refl refl all.kept.longer;
       room = let r = all.room in omega arith;
       texts = omega arith;
       cells = omega arith;

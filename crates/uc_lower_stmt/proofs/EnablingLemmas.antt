@@ -46,6 +46,8 @@ use Rattle.uc_lower_stmt.proofs.HandlingLemmas.{event_few}
 use Rattle.uc_lower_stmt.proofs.Joined.{lowers_as, lowers_join, lowers_puts, puts_adds}
 use Rattle.uc_lower_stmt.proofs.Kept.{stmt_stable}
 use Rattle.uc_lower_stmt.proofs.Stating.{as_stmt}
+use Rattle.uc_lower_stmt.specs.RowFit.{RowsFit, open_rows}
+use Rattle.uc_lower_stmt.proofs.RowFitting.{fit_like, fit_none, fit_opened, fit_then}
 
 -- the events of a list
 
@@ -68,15 +70,15 @@ pub switch_stable : (how : Enabling) (events cell line : ℕ) (ms : List CodeMar
 switch_stable enabling.Enable events cell line ms = both (one_stable (op.Enable events cell) line) (poll_stable ms line)
 switch_stable enabling.Disable events cell line ms = one_stable (op.Disable events cell) line
 
-pub switched_on : (how : Enabling) (events cell line : ℕ) (d0 d1 d2 : Draft) → how ≡ enabling.Enable → Adds 1 (OpCode line (op.Enable events cell)) d0 d1 → Puts 4 (λ code. PollAt code d1.marks line) d1 d2 → Puts 5 (SwitchCode how events cell line d0.marks) d0 d2
+pub switched_on : (how : Enabling) (events cell line : ℕ) (d0 d1 d2 : Draft) → how ≡ enabling.Enable → Adds 1 (OpCode line (op.Enable events cell)) d0 d1 → Puts 0 4 (λ code. PollAt code d1.marks line) d1 d2 → Puts 0 5 (SwitchCode how events cell line d0.marks) d0 d2
 switched_on how events cell line d0 d1 d2 is h q =
     let marks : d1.marks ≡ d0.marks = ap (λ (d : Draft). d.marks) h.rest in
-    let poll : Puts 4 (λ code. PollAt code d0.marks line) d1 d2 = subst (λ (ms : List CodeMark). Puts 4 (λ code. PollAt code ms line) d1 d2) marks q in
-    subst (λ (k : Enabling). Puts 5 (SwitchCode k events cell line d0.marks) d0 d2) (sym is) (puts_both (one_stable (op.Enable events cell) line) (puts_adds h) poll)
+    let poll : Puts 0 4 (λ code. PollAt code d0.marks line) d1 d2 = subst (λ (ms : List CodeMark). Puts 0 4 (λ code. PollAt code ms line) d1 d2) marks q in
+    subst (λ (k : Enabling). Puts 0 5 (SwitchCode k events cell line d0.marks) d0 d2) (sym is) (puts_both (one_stable (op.Enable events cell) line) (puts_adds h) poll)
 
-pub switched_off : (how : Enabling) (events cell line : ℕ) (d0 d1 : Draft) → how ≡ enabling.Disable → Adds 1 (OpCode line (op.Disable events cell)) d0 d1 → Puts 5 (SwitchCode how events cell line d0.marks) d0 d1
+pub switched_off : (how : Enabling) (events cell line : ℕ) (d0 d1 : Draft) → how ≡ enabling.Disable → Adds 1 (OpCode line (op.Disable events cell)) d0 d1 → Puts 0 5 (SwitchCode how events cell line d0.marks) d0 d1
 switched_off how events cell line d0 d1 is h =
-    subst (λ (k : Enabling). Puts 5 (SwitchCode k events cell line d0.marks) d0 d1) (sym is) (puts_more (omega arith) (puts_adds h))
+    subst (λ (k : Enabling). Puts 0 5 (SwitchCode k events cell line d0.marks) d0 d1) (sym is) (puts_more (omega arith) (puts_adds h))
 
 -- the statement in its scope
 
@@ -107,7 +109,7 @@ event_at enabling.Disable events cell line s code ms a z h = h
 
 -- a scope is opened behind one hidden cell more, and events are enabled or disabled in it
 
-module _ (how : Enabling) (line mask cell : ℕ) (d0 d1 d2 d3 : Draft) (h1 : d1 ≡ record d0 { hidden = d0.hidden + 1 }) (h2 : d2 ≡ opened (opening.Object (cleaning.Restore cell) line) d1) (h3 : Puts 5 (SwitchCode how mask cell line d2.marks) d2 d3) where
+module _ (how : Enabling) (line mask cell : ℕ) (d0 d1 d2 d3 : Draft) (h1 : d1 ≡ record d0 { hidden = d0.hidden + 1 }) (h2 : d2 ≡ opened (opening.Object (cleaning.Restore cell) line) d1) (h3 : Puts 0 5 (SwitchCode how mask cell line d2.marks) d2 d3) where
   abbrev pub inner : CodeMark
   inner = mark.Clean (cleaning.Restore cell) line (length d1.rows)
 
@@ -138,7 +140,7 @@ module _ (how : Enabling) (line mask cell : ℕ) (d0 d1 d2 d3 : Draft) (h1 : d1 
 module _ (p : Program) (how : Enabling) (line mask cell : ℕ) (es : List EventName) (body : Stmt) (d0 d1 d2 d3 d4 new : Draft)
     (me : mask ≡ events_meant p es) (ce : cell ≡ d0.hidden) (h1 : d1 ≡ record d0 { hidden = d0.hidden + 1 })
     (h2 : d2 ≡ opened (opening.Object (cleaning.Restore cell) line) d1) (k2 : Kept (laid_in d1) (laid_in d2))
-    (h3 : Puts 5 (SwitchCode how mask cell line d2.marks) d2 d3) (h4 : LowersAlone p body d3 d4) where
+    (h3 : Puts 0 5 (SwitchCode how mask cell line d2.marks) d2 d3) (h4 : LowersAlone p body d3 d4) where
   abbrev s : Scope
   s = scope_of d0
 
@@ -235,6 +237,10 @@ module _ (p : Program) (how : Enabling) (line mask cell : ℕ) (es : List EventN
           scope = ap scope_of h5.rest ∙ h4.scope ∙ ap (λ (t : Scope). scope_past p body t) scope3;
           opened = let x = h4.opened in omega (arith, x, scopes, scopes_new);
           kept = kept_new;
+          rows =
+              let one : RowsFit 0 d1 d2 = fit_opened (opening.Object (cleaning.Restore cell) line) d1 d2 h2 in
+              let begun : RowsFit 0 d0 d2 = fit_like d0 d2 (sym (ap (λ (d : Draft). d.rows) h1)) (sym (ap (λ (d : Draft). length d.ops) h1)) (sym (ap (λ (d : Draft). open_rows d.marks) h1)) refl refl refl one in
+              fit_then h5.kept.longer (fit_then h4.kept.longer (fit_then h3.kept.longer begun (fit_none h3)) h4.rows) h5.rows;
           room = let x = h5.room in let y = room_done in omega (arith, x, y);
           texts = let x = h4.texts in omega (arith, x, texts, texts_new);
           cells = let x = h4.cells in omega (arith, x, cells, cells_new);

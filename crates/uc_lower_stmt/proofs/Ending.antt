@@ -1,5 +1,5 @@
 -- The end of the scope of an object, and of what follows a part of one.
-use Rattle.std.proofs.Common.{◌≡◌, ℕ, ◌+◌, ◌*◌, ◌≤◌, List, [], ◌∷◌, length, drop, Option, Some, None, Bool, true, false, true≢false, refl, ap, sym, subst, ◌∙◌, arith}
+use Rattle.std.proofs.Common.{◌≡◌, ℕ, suc, ◌+◌, ◌*◌, ◌≤◌, List, [], ◌∷◌, length, drop, Option, Some, None, Bool, true, false, true≢false, refl, ap, sym, subst, ◌∙◌, arith}
 use Rattle.uc_code.specs.declared.op.Op.{Op}
 use Rattle.uc_code.specs.declared.op.Op.TheVariants as op
 use Rattle.uc_code.specs.declared.rows.Array.{Array}
@@ -17,12 +17,17 @@ use Rattle.uc_code.specs.Layout.{Laid, laid_in}
 use Rattle.uc_code.specs.CodeShapes.{OpAt, One, Risk, Both, HandlerAt, LeavesAt, clean_up, ScopeOf, BehindPart, Kept}
 use Rattle.uc_code.specs.Lowered.{ArrivesAt, CleanAt, ExitAt, PadAt}
 use Rattle.uc_code.specs.OpenRows.{CleansBehind, exit_room, handler_in, row_in, closed}
+use Rattle.uc_code.specs.RowCounts.{cleaning_rows, return_rows}
 use Rattle.uc_code.specs.Emits.{Puts, place_length, called_length, manner_length, clean_by, clean_length}
 use Rattle.uc_code.proofs.Stable.{kept_then, kept_piece, leaves_stable, one_stable, risk_stable}
-use Rattle.uc_code.proofs.Putting.{clean_is, clean_stable, marks_of, puts_as, puts_both, puts_more, puts_risk_behind}
+use Rattle.uc_code.proofs.Growth.{rows_as, rows_closed}
+use Rattle.uc_code.proofs.Putting.{clean_is, clean_stable, marks_of, puts_as, puts_both, puts_more, puts_risk_behind, puts_rows}
 use Rattle.uc_code.proofs.Sweeping.{like_puts, like_closed, closed_ops, closed_marks}
 use Rattle.uc_lower_stmt.specs.Marked.{close_room}
 use Rattle.uc_lower_stmt.specs.Objects.{InScope, InPart, ScopeEnds, PartEnds, ClosesScope, ClosesPart, call_room, free_op, frees, leaves, most_clean}
+use Rattle.uc_lower_stmt.proofs.Joined.{puts_counted}
+use Rattle.uc_lower_stmt.specs.RowFit.{open_rows}
+use Rattle.uc_lower_stmt.proofs.RowFitting.{clean_long}
 
 -- what stands in a scope, and its end
 
@@ -96,15 +101,15 @@ most_few (cleaning.Free main) = omega arith
 most_few (cleaning.Restore cell) = omega arith
 
 -- what is laid out for this clean-up
-pub cleaned_as : (line : ℕ) (what this : Cleaning) (old new : Draft) → what ≡ this → Puts (most_clean this) (λ code. CleanAt code line this old.marks) old new → Puts (most_clean what) (λ code. CleanAt code line what old.marks) old new
-cleaned_as line what this old new e h = subst (λ (c : Cleaning). Puts (most_clean c) (λ code. CleanAt code line c old.marks) old new) (sym e) h
+pub cleaned_as : (line : ℕ) (what this : Cleaning) (old new : Draft) → what ≡ this → Puts (cleaning_rows this) (most_clean this) (λ code. CleanAt code line this old.marks) old new → Puts (cleaning_rows what) (most_clean what) (λ code. CleanAt code line what old.marks) old new
+cleaned_as line what this old new e h = subst (λ (c : Cleaning). Puts (cleaning_rows c) (most_clean c) (λ code. CleanAt code line c old.marks) old new) (sym e) h
 
-pub cleaned_most : (line : ℕ) (what this : Cleaning) (old new : Draft) → what ≡ this → most_clean this ≡ 23 → Puts 23 (λ code. CleanAt code line what old.marks) old new → Puts (most_clean what) (λ code. CleanAt code line what old.marks) old new
+pub cleaned_most : (line : ℕ) (what this : Cleaning) (old new : Draft) → what ≡ this → most_clean this ≡ 23 → Puts (cleaning_rows what) 23 (λ code. CleanAt code line what old.marks) old new → Puts (cleaning_rows what) (most_clean what) (λ code. CleanAt code line what old.marks) old new
 cleaned_most line what this old new e m h = let k = ap most_clean e in puts_more (omega (arith, k, m)) h
 
-pub freed_as : (line : ℕ) (main : Option ℕ) (o : Op) (old new : Draft) → o ≡ free_op main → Puts 1 (λ code. One code o line) old new → Puts 1 (λ code. CleanAt code line (cleaning.Free main) old.marks) old new
-freed_as line None o old new e h = subst (λ (x : Op). Puts 1 (λ code. One code x line) old new) e h
-freed_as line (Some r) o old new e h = subst (λ (x : Op). Puts 1 (λ code. One code x line) old new) e h
+pub freed_as : (line : ℕ) (main : Option ℕ) (o : Op) (old new : Draft) → o ≡ free_op main → Puts 0 1 (λ code. One code o line) old new → Puts 0 1 (λ code. CleanAt code line (cleaning.Free main) old.marks) old new
+freed_as line None o old new e h = subst (λ (x : Op). Puts 0 1 (λ code. One code x line) old new) e h
+freed_as line (Some r) o old new e h = subst (λ (x : Op). Puts 0 1 (λ code. One code x line) old new) e h
 
 -- under marks from which the innermost one is gone, a routine still stands further on
 
@@ -163,14 +168,24 @@ given_up code line cleaning.End ms a z f h = absurd (true≢false (sym f))
 given_up code line (cleaning.Free main) ms a z f h = h
 given_up code line (cleaning.Restore cell) ms a z f h = absurd (true≢false (sym f))
 
-pub pad_given_up : (line : ℕ) (what : Cleaning) (d0 d1 d2 : Draft) → frees what ≡ true → Puts 1 (λ code. One code op.GiveUp line) d0 d1 → Puts 1 (λ code. Risk code d1.marks op.Unwind line) d1 d2 → Puts (most_clean what + 1) (λ code. PadAt code line what d0.marks) d0 d2
+-- the building of a mutex object has no array
+frees_none : (what : Cleaning) → frees what ≡ true → 0 ≡ cleaning_rows what
+frees_none (cleaning.Call what) f = absurd (true≢false (sym f))
+frees_none cleaning.TakeDown f = refl
+frees_none cleaning.Forget f = refl
+frees_none cleaning.Leave f = refl
+frees_none cleaning.End f = refl
+frees_none (cleaning.Free main) f = refl
+frees_none (cleaning.Restore cell) f = refl
+
+pub pad_given_up : (line : ℕ) (what : Cleaning) (d0 d1 d2 : Draft) → frees what ≡ true → Puts 0 1 (λ code. One code op.GiveUp line) d0 d1 → Puts 0 1 (λ code. Risk code d1.marks op.Unwind line) d1 d2 → Puts (cleaning_rows what) (most_clean what + 1) (λ code. PadAt code line what d0.marks) d0 d2
 pad_given_up line what d0 d1 d2 f p q =
     let few = most_some what in
-    puts_more (omega (arith, few)) (puts_as (puts_both (one_stable op.GiveUp line) p (puts_risk_behind op.Unwind line d0 d1 d2 p q)) (λ code a z h. given_up code line what d0.marks a z f h))
+    puts_counted (frees_none what f) (puts_more (omega (arith, few)) (puts_as (puts_both (one_stable op.GiveUp line) p (puts_risk_behind op.Unwind line d0 d1 d2 p q)) (λ code a z h. given_up code line what d0.marks a z f h)))
 
-pub pad_unwound : (line : ℕ) (what : Cleaning) (d0 d1 d2 : Draft) → frees what ≡ false → leaves what ≡ false → Puts (most_clean what) (λ code. CleanAt code line what d0.marks) d0 d1 → Puts 1 (λ code. Risk code d1.marks op.Unwind line) d1 d2 → Puts (most_clean what + 1) (λ code. PadAt code line what d0.marks) d0 d2
+pub pad_unwound : (line : ℕ) (what : Cleaning) (d0 d1 d2 : Draft) → frees what ≡ false → leaves what ≡ false → Puts (cleaning_rows what) (most_clean what) (λ code. CleanAt code line what d0.marks) d0 d1 → Puts 0 1 (λ code. Risk code d1.marks op.Unwind line) d1 d2 → Puts (cleaning_rows what) (most_clean what + 1) (λ code. PadAt code line what d0.marks) d0 d2
 pad_unwound line what d0 d1 d2 f l p q =
-    puts_as (puts_both (clean_stable line what d0.marks) p (puts_risk_behind op.Unwind line d0 d1 d2 p q)) (λ code a z h. unwound code line what d0.marks a z f l h)
+    puts_counted (omega arith) (puts_as (puts_rows (clean_stable line what d0.marks) p (puts_risk_behind op.Unwind line d0 d1 d2 p q)) (λ code a z h. unwound code line what d0.marks a z f l h))
 
 -- how long it is
 pad_is : (code : Laid) (line : ℕ) (what : Cleaning) (ms : List CodeMark) (a z : ℕ) → leaves what ≡ false → PadAt code line what ms a z → z ≡ a + clean_length what + 1
@@ -184,9 +199,9 @@ pad_is code line (cleaning.Restore cell) ms a z l h = let e = h.first.end in let
 
 -- the end of a scope: a pad that is as long as is reckoned beforehand
 
-module _ (n line end ahead : ℕ) (what : Cleaning) (d0 d1 d2 d3 d4 : Draft) (in_scope : InScope what line d0.marks)
+module _ (r n line end ahead : ℕ) (what : Cleaning) (d0 d1 d2 d3 d4 : Draft) (in_scope : InScope what line d0.marks)
     (c1 : d1 ≡ closed ahead d0) (k1 : Kept (laid_in d0) (laid_in d1)) (h1 : (row : ℕ) → handler_in d0.marks ≡ Some row → HandlerAt (laid_in d1) row (clean_up (length d0.ops + ahead)))
-    (p2 : Puts 23 (λ code. CleanAt code line what d1.marks) d1 d2) (p3 : Puts 1 (λ code. One code (op.Jump end) line) d2 d3) (p4 : Puts n (λ code. PadAt code line what d3.marks) d3 d4)
+    (p2 : Puts (cleaning_rows what) 23 (λ code. CleanAt code line what d1.marks) d1 d2) (p3 : Puts 0 1 (λ code. One code (op.Jump end) line) d2 d3) (p4 : Puts r n (λ code. PadAt code line what d3.marks) d3 d4)
     (ae : ahead ≡ clean_length what + 1) (ee : end ≡ length d4.ops) where
   abbrev code : Laid
   code = laid_in d4
@@ -234,10 +249,25 @@ module _ (n line end ahead : ℕ) (what : Cleaning) (d0 d1 d2 d3 d4 : Draft) (in
       let e : length d0.ops + ahead ≡ length d2.ops + 1 = (let a = ops2 in let b = ae in omega arith) in
       keep1.handlers row (clean_up (length d2.ops + 1)) (subst (λ k. HandlerAt (laid_in d1) row (clean_up k)) e (h1 row h))
 
-  scope_with : (m : ℕ) → length d4.ops ≤ length d0.ops + m → ClosesScope m what line d0 d4
-  scope_with m l = record {
+  scope_with : (m : ℕ) → length d4.ops ≤ length d0.ops + m → cleaning_rows what + r + 1 + length d0.ops ≤ length d4.ops → ClosesScope m what line d0 d4
+  scope_with m l pays = record {
     rest = like_puts d0 d3 d4 (like_puts d0 d2 d3 (like_puts d0 d1 d2 (like_closed ahead d0 d0 d1 refl c1) p2) p3) p4;
     kept = kept_then (laid_in d0) (laid_in d1) code k1 keep1;
+    rows = record {
+      few =
+          let x1 = (rows_closed ahead d0 d1 c1).more in
+          let x2 = p2.rows.more in
+          let x3 = p3.rows.more in
+          let x4 = p4.rows.more in
+          let o0 : open_rows d0.marks ≡ suc (open_rows in_scope.outer) = ap open_rows in_scope.is in
+          let o4 : open_rows d4.marks ≡ open_rows in_scope.outer = ap open_rows (marks_of p4 ∙ (marks3 ∙ ap (λ (ms : List CodeMark). drop 1 ms) in_scope.is)) in
+          omega arith;
+      begin = λ k i w.
+          let y = p2.kept.longer in
+          let z = p3.kept.longer in
+          let u = p4.kept.longer in
+          p4.rows.begin k i (p3.rows.begin k (omega arith) (p2.rows.begin k (omega arith) ((rows_closed ahead d0 d1 c1).begin k (omega (arith, ops2, ops3, ae, u)) w)));
+    };
     room = l;
     scope = λ row ms e.
         let t : drop 1 d0.marks ≡ ms = ap (λ (l : List CodeMark). drop 1 l) e in
@@ -253,7 +283,7 @@ module _ (n line end ahead : ℕ) (what : Cleaning) (d0 d1 d2 d3 d4 : Draft) (in
 
 pub scope_closed : (line end ahead : ℕ) (what : Cleaning) (d0 d1 d2 d3 d4 : Draft) → InScope what line d0.marks → leaves what ≡ false
     → d1 ≡ closed ahead d0 → Kept (laid_in d0) (laid_in d1) → ((row : ℕ) → handler_in d0.marks ≡ Some row → HandlerAt (laid_in d1) row (clean_up (length d0.ops + ahead)))
-    → Puts (most_clean what) (λ code. CleanAt code line what d1.marks) d1 d2 → Puts 1 (λ code. One code (op.Jump end) line) d2 d3 → Puts (most_clean what + 1) (λ code. PadAt code line what d3.marks) d3 d4
+    → Puts (cleaning_rows what) (most_clean what) (λ code. CleanAt code line what d1.marks) d1 d2 → Puts 0 1 (λ code. One code (op.Jump end) line) d2 d3 → Puts (cleaning_rows what) (most_clean what + 1) (λ code. PadAt code line what d3.marks) d3 d4
     → ahead ≡ clean_length what + 1 → end ≡ length d0.ops + 2 * clean_length what + 2 → ClosesScope (close_room what) what line d0 d4
 scope_closed line end ahead what d0 d1 d2 d3 d4 s l c1 k1 h1 p2 p3 p4 ae ee =
     let o1 : length d1.ops ≡ length d0.ops = ap length (closed_ops ahead d0 d1 c1) in
@@ -261,16 +291,16 @@ scope_closed line end ahead what d0 d1 d2 d3 d4 s l c1 k1 h1 p2 p3 p4 ae ee =
     let b = p3.code.end in
     let c = pad_is (laid_in d4) line what d3.marks (length d3.ops) (length d4.ops) l p4.code in
     let f = close_few what l in
-    scope_with (most_clean what + 1) line end ahead what d0 d1 d2 d3 d4 s c1 k1 h1 (puts_more (most_few what) p2) p3 p4 ae (omega (arith, ee)) (close_room what) (omega (arith, ee))
+    scope_with (cleaning_rows what) (most_clean what + 1) line end ahead what d0 d1 d2 d3 d4 s c1 k1 h1 (puts_more (most_few what) p2) p3 p4 ae (omega (arith, ee)) (close_room what) (omega (arith, ee)) (let g = clean_long what in omega (arith, ee, g))
 
 -- a mutex call: its pad, and its end
 
-leave_code : {line : ℕ} {ms : List CodeMark} {old new : Draft} → Puts 23 (λ code. CleanAt code line cleaning.Leave ms) old new → length new.ops ≡ length old.ops + 5
+leave_code : {line : ℕ} {ms : List CodeMark} {old new : Draft} → Puts 0 23 (λ code. CleanAt code line cleaning.Leave ms) old new → length new.ops ≡ length old.ops + 5
 leave_code {line} {ms} {old} {new} p = clean_is (laid_in new) line cleaning.Leave ms (length old.ops) (length new.ops) p.code
 
 module _ (line arrived routine : ℕ) (d0 d1 d2 d3 d4 d5 : Draft) (body : d0.marks ≡ mark.Body routine ∷ []) (here : arrived ≡ length d0.ops + 7)
-    (p1 : Puts 1 (λ code. One code (op.Arrive arrived) line) d0 d1) (p2 : Puts 23 (λ code. CleanAt code line cleaning.Leave d1.marks) d1 d2) (p3 : Puts 1 (λ code. Risk code d2.marks op.Unwind line) d2 d3)
-    (p4 : Puts 23 (λ code. CleanAt code line cleaning.Leave d3.marks) d3 d4) (p5 : Puts (exit_room d4.marks) (λ code. ExitAt code ToReturn d4.marks) d4 d5) where
+    (p1 : Puts 0 1 (λ code. One code (op.Arrive arrived) line) d0 d1) (p2 : Puts 0 23 (λ code. CleanAt code line cleaning.Leave d1.marks) d1 d2) (p3 : Puts 0 1 (λ code. Risk code d2.marks op.Unwind line) d2 d3)
+    (p4 : Puts 0 23 (λ code. CleanAt code line cleaning.Leave d3.marks) d3 d4) (p5 : Puts (return_rows d4.marks) (exit_room d4.marks) (λ code. ExitAt code ToReturn d4.marks) d4 d5) where
   arrive_marks : d3.marks ≡ d0.marks
   arrive_marks = marks_of p3 ∙ (marks_of p2 ∙ marks_of p1)
 
@@ -283,13 +313,13 @@ module _ (line arrived routine : ℕ) (d0 d1 d2 d3 d4 d5 : Draft) (body : d0.mar
   arrive_ops : (length d1.ops ≡ length d0.ops + 1) × (length d3.ops ≡ arrived)
   arrive_ops = let a = p1.code.end in let b = leave_code p2 in let c = p3.code.end in (omega arith, omega (arith, here))
 
-  arrive_all : Puts 60 (λ code. Both (One code (op.Arrive arrived) line) (Both (LeavesAt code d0.marks line) (Both (Risk code d0.marks op.Unwind line) (Both (LeavesAt code d0.marks line) (ExitAt code ToReturn d0.marks))))) d0 d5
+  arrive_all : Puts 0 60 (λ code. Both (One code (op.Arrive arrived) line) (Both (LeavesAt code d0.marks line) (Both (Risk code d0.marks op.Unwind line) (Both (LeavesAt code d0.marks line) (ExitAt code ToReturn d0.marks))))) d0 d5
   arrive_all =
-      let q2 : Puts 23 (λ code. LeavesAt code d0.marks line) d1 d2 = subst (λ (ms : List CodeMark). Puts 23 (λ code. LeavesAt code ms line) d1 d2) (marks_of p1) p2 in
-      let q3 : Puts 1 (λ code. Risk code d0.marks op.Unwind line) d2 d3 = subst (λ (ms : List CodeMark). Puts 1 (λ code. Risk code ms op.Unwind line) d2 d3) (marks_of p2 ∙ marks_of p1) p3 in
-      let q4 : Puts 23 (λ code. LeavesAt code d0.marks line) d3 d4 = subst (λ (ms : List CodeMark). Puts 23 (λ code. LeavesAt code ms line) d3 d4) arrive_marks p4 in
-      let q5 : Puts 1 (λ code. ExitAt code ToReturn d0.marks) d4 d5 =
-      record { rest = p5.rest; kept = p5.kept; room = exit_one; code = subst (λ (ms : List CodeMark). ExitAt (laid_in d5) ToReturn ms (length d4.ops) (length d5.ops)) exit_marks p5.code } in
+      let q2 : Puts 0 23 (λ code. LeavesAt code d0.marks line) d1 d2 = subst (λ (ms : List CodeMark). Puts 0 23 (λ code. LeavesAt code ms line) d1 d2) (marks_of p1) p2 in
+      let q3 : Puts 0 1 (λ code. Risk code d0.marks op.Unwind line) d2 d3 = subst (λ (ms : List CodeMark). Puts 0 1 (λ code. Risk code ms op.Unwind line) d2 d3) (marks_of p2 ∙ marks_of p1) p3 in
+      let q4 : Puts 0 23 (λ code. LeavesAt code d0.marks line) d3 d4 = subst (λ (ms : List CodeMark). Puts 0 23 (λ code. LeavesAt code ms line) d3 d4) arrive_marks p4 in
+      let q5 : Puts 0 1 (λ code. ExitAt code ToReturn d0.marks) d4 d5 =
+      record { rest = p5.rest; kept = p5.kept; rows = rows_as (ap return_rows (exit_marks ∙ body)) (omega arith) p5.rows; room = exit_one; code = subst (λ (ms : List CodeMark). ExitAt (laid_in d5) ToReturn ms (length d4.ops) (length d5.ops)) exit_marks p5.code } in
       puts_more (omega arith) (puts_both (one_stable (op.Arrive arrived) line) p1 (puts_both (leaves_stable d0.marks line) q2 (puts_both (risk_stable d0.marks op.Unwind line) q3 (puts_both (leaves_stable d0.marks line) q4 q5))))
 
   arrives_at : (code : Laid) (a z : ℕ) → arrived ≡ a + 7 → Both (One code (op.Arrive arrived) line) (Both (LeavesAt code d0.marks line) (Both (Risk code d0.marks op.Unwind line) (Both (LeavesAt code d0.marks line) (ExitAt code ToReturn d0.marks)))) a z → ArrivesAt code line d0.marks a z
@@ -314,12 +344,12 @@ module _ (line arrived routine : ℕ) (d0 d1 d2 d3 d4 d5 : Draft) (body : d0.mar
         };
       }
 
-  pub call_arrives : Puts 13 (λ code. ArrivesAt code line d0.marks) d0 d5
+  pub call_arrives : Puts 0 13 (λ code. ArrivesAt code line d0.marks) d0 d5
   call_arrives =
       let a = arrive_ops in
       let b = leave_code p4 in
       let c = exit_one in
-      record { rest = arrive_all.rest; kept = arrive_all.kept; room = (omega (arith, a.1, here)); code = arrives_at (laid_in d5) (length d0.ops) (length d5.ops) here arrive_all.code }
+      record { rest = arrive_all.rest; kept = arrive_all.kept; rows = arrive_all.rows; room = (omega (arith, a.1, here)); code = arrives_at (laid_in d5) (length d0.ops) (length d5.ops) here arrive_all.code }
 
 -- the exit is one op
 exit_is : (code : Laid) (routine a z : ℕ) (ms : List CodeMark) → ms ≡ mark.Body routine ∷ [] → ExitAt code ToReturn ms a z → z ≡ a + 1
@@ -335,7 +365,7 @@ arrival_is code line routine a z ms e h =
 
 pub call_closed : (line end routine : ℕ) (d0 d1 d2 d3 d4 : Draft) → InScope cleaning.Leave line d0.marks → drop 1 d0.marks ≡ mark.Body routine ∷ []
     → d1 ≡ closed 6 d0 → Kept (laid_in d0) (laid_in d1) → ((row : ℕ) → handler_in d0.marks ≡ Some row → HandlerAt (laid_in d1) row (clean_up (length d0.ops + 6)))
-    → Puts 23 (λ code. CleanAt code line cleaning.Leave d1.marks) d1 d2 → Puts 1 (λ code. One code (op.Jump end) line) d2 d3 → Puts 13 (λ code. ArrivesAt code line d3.marks) d3 d4
+    → Puts 0 23 (λ code. CleanAt code line cleaning.Leave d1.marks) d1 d2 → Puts 0 1 (λ code. One code (op.Jump end) line) d2 d3 → Puts 0 13 (λ code. ArrivesAt code line d3.marks) d3 d4
     → end ≡ length d0.ops + 19 → ClosesScope call_room cleaning.Leave line d0 d4
 call_closed line end routine d0 d1 d2 d3 d4 s body c1 k1 h1 p2 p3 p4 ee =
     let o1 : length d1.ops ≡ length d0.ops = ap length (closed_ops 6 d0 d1 c1) in
@@ -344,11 +374,11 @@ call_closed line end routine d0 d1 d2 d3 d4 s body c1 k1 h1 p2 p3 p4 ee =
     let past = marks_past_scope cleaning.Leave line 6 d0 d1 s c1 in
     let m3 : d3.marks ≡ mark.Body routine ∷ [] = marks_of p3 ∙ (marks_of p2 ∙ (past ∙ body)) in
     let c = arrival_is (laid_in d4) line routine (length d3.ops) (length d4.ops) d3.marks m3 p4.code in
-    scope_with 13 line end 6 cleaning.Leave d0 d1 d2 d3 d4 s c1 k1 h1 p2 p3 p4 refl (omega (arith, ee)) call_room (omega arith)
+    scope_with 0 13 line end 6 cleaning.Leave d0 d1 d2 d3 d4 s c1 k1 h1 p2 p3 p4 refl (omega (arith, ee)) call_room (omega arith) (omega arith)
 
 module _ (line end : ℕ) (what : Cleaning) (d0 d1 d2 d3 d4 : Draft) (in_part : InPart d0.marks)
     (c1 : d1 ≡ closed 1 d0) (k1 : Kept (laid_in d0) (laid_in d1)) (h1 : (row : ℕ) → handler_in d0.marks ≡ Some row → HandlerAt (laid_in d1) row (clean_up (length d0.ops + 1)))
-    (p2 : Puts 1 (λ code. One code (op.Jump end) line) d1 d2) (p3 : Puts 23 (λ code. CleanAt code line what d2.marks) d2 d3) (p4 : Puts 1 (λ code. Risk code d3.marks op.Unwind line) d3 d4)
+    (p2 : Puts 0 1 (λ code. One code (op.Jump end) line) d1 d2) (p3 : Puts (cleaning_rows what) 23 (λ code. CleanAt code line what d2.marks) d2 d3) (p4 : Puts 0 1 (λ code. Risk code d3.marks op.Unwind line) d3 d4)
     (ee : end ≡ length d0.ops + clean_length what + 2) where
   abbrev all : Laid
   all = laid_in d4
@@ -401,6 +431,23 @@ module _ (line end : ℕ) (what : Cleaning) (d0 d1 d2 d3 d4 : Draft) (in_part : 
   part_closed = record {
     rest = like_puts d0 d3 d4 (like_puts d0 d2 d3 (like_puts d0 d1 d2 (like_closed 1 d0 d0 d1 refl c1) p2) p3) p4;
     kept = kept_then (laid_in d0) (laid_in d1) all k1 stay1;
+    rows = record {
+      few =
+          let x1 = (rows_closed 1 d0 d1 c1).more in
+          let x2 = p2.rows.more in
+          let x3 = p3.rows.more in
+          let x4 = p4.rows.more in
+          let o0 : open_rows d0.marks ≡ suc (open_rows in_part.outer) = ap open_rows in_part.is in
+          let o4 : open_rows d4.marks ≡ open_rows in_part.outer = ap open_rows (marks_of p4 ∙ (past3 ∙ ap (λ (ms : List CodeMark). drop 1 ms) in_part.is)) in
+          let g = clean_long what in
+          let e4 = p4.code.end in
+          omega (arith, long2, long3);
+      begin = λ k i w.
+          let y = p2.kept.longer in
+          let z = p3.kept.longer in
+          let u = p4.kept.longer in
+          p4.rows.begin k i (p3.rows.begin k (omega arith) (p2.rows.begin k (omega arith) ((rows_closed 1 d0 d1 c1).begin k (omega (arith, long2, z, u)) w)));
+    };
     room = (let b = to_end in omega (arith, ee));
     part = λ row ms e.
         let t : drop 1 d0.marks ≡ ms = ap (λ (l : List CodeMark). drop 1 l) e in

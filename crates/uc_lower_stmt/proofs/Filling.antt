@@ -11,6 +11,8 @@ use Rattle.uc_code.specs.CodeShapes.{OpAt, One, Risk, HandlerAt, clean_up, Kept,
 use Rattle.uc_code.specs.Lowered.{CallAt, CallBuilt, CallDone}
 use Rattle.uc_code.specs.OpenRows.{handler_in, row_in, opened, closed}
 use Rattle.uc_code.specs.Emits.{Puts, done_length}
+use Rattle.uc_code.specs.RowGrowth.{AddsRows}
+use Rattle.uc_code.proofs.Growth.{rows_then, rows_last, rows_opened, rows_closed}
 use Rattle.uc_code.proofs.Stable.{kept_then, kept_piece, one_stable}
 use Rattle.uc_code.proofs.Putting.{call_stable, done_is, done_stable, marks_of, puts_both, puts_more}
 use Rattle.uc_code.proofs.Sweeping.{like_puts, like_opened, like_closed, like_rest, closed_ops, closed_marks}
@@ -27,14 +29,14 @@ built_is code line what ms a z h =
     let f = h.second.second.end in
     omega arith
 
-pub puts_built : (line : ℕ) (what : ObjectCall) (d0 d1 d2 d3 : Draft) → Puts 8 (λ code. CallAt code line what d0.marks) d0 d1 → Puts 1 (λ code. One code op.Discard line) d1 d2 → Puts 1 (λ code. One code op.More line) d2 d3 → Puts 10 (λ code. CallBuilt code line what d0.marks) d0 d3
+pub puts_built : (line : ℕ) (what : ObjectCall) (d0 d1 d2 d3 : Draft) → Puts 0 8 (λ code. CallAt code line what d0.marks) d0 d1 → Puts 0 1 (λ code. One code op.Discard line) d1 d2 → Puts 0 1 (λ code. One code op.More line) d2 d3 → Puts 0 10 (λ code. CallBuilt code line what d0.marks) d0 d3
 puts_built line what d0 d1 d2 d3 p q r = puts_more (omega arith) (puts_both (call_stable line what d0.marks) p (puts_both (one_stable op.Discard line) q r))
 
 module _ (line n start test entry : ℕ) (few : n < 2 ^ 32) (builder destroyer : ObjectCall) (d0 d1 d2 d3 d4 d5 d6 d7 d8 d9 : Draft)
-    (p1 : Puts 1 (λ code. One code (op.Count 0 test) line) d0 d1) (o2 : d2 ≡ opened opening.Elements d1) (k2 : Kept (laid_in d1) (laid_in d2))
-    (p3 : Puts 10 (λ code. CallBuilt code line builder d2.marks) d2 d3) (p4 : Puts 1 (λ code. One code (op.Fill n (start + 1)) line) d3 d4) (p5 : Puts 1 (λ code. One code (op.Jump (entry + 2)) line) d4 d5)
-    (p6 : Puts 9 (λ code. CallDone code line destroyer d5.marks) d5 d6) (c7 : d7 ≡ closed 0 d6) (k7 : Kept (laid_in d6) (laid_in d7)) (h7 : (row : ℕ) → handler_in d6.marks ≡ Some row → HandlerAt (laid_in d7) row (clean_up (length d6.ops + 0)))
-    (p8 : Puts 1 (λ code. One code (op.Sweep (test + 2)) line) d7 d8) (p9 : Puts 1 (λ code. Risk code d8.marks op.Unwind line) d8 d9)
+    (p1 : Puts 0 1 (λ code. One code (op.Count 0 test) line) d0 d1) (o2 : d2 ≡ opened opening.Elements d1) (k2 : Kept (laid_in d1) (laid_in d2))
+    (p3 : Puts 0 10 (λ code. CallBuilt code line builder d2.marks) d2 d3) (p4 : Puts 0 1 (λ code. One code (op.Fill n (start + 1)) line) d3 d4) (p5 : Puts 0 1 (λ code. One code (op.Jump (entry + 2)) line) d4 d5)
+    (p6 : Puts 0 9 (λ code. CallDone code line destroyer d5.marks) d5 d6) (c7 : d7 ≡ closed 0 d6) (k7 : Kept (laid_in d6) (laid_in d7)) (h7 : (row : ℕ) → handler_in d6.marks ≡ Some row → HandlerAt (laid_in d7) row (clean_up (length d6.ops + 0)))
+    (p8 : Puts 0 1 (λ code. One code (op.Sweep (test + 2)) line) d7 d8) (p9 : Puts 0 1 (λ code. Risk code d8.marks op.Unwind line) d8 d9)
     (st : start ≡ length d0.ops) (te : test ≡ start + 2 + done_length builder) (en : entry ≡ test + 2 + done_length destroyer) where
   abbrev ms : List CodeMark
   ms = d0.marks
@@ -147,10 +149,23 @@ module _ (line n start test entry : ℕ) (few : n < 2 ^ 32) (builder destroyer :
       let e : length d6.ops + 0 ≡ entry = (let a = at_entry in omega arith) in
       keep7.handlers row (clean_up entry) (subst (λ k. HandlerAt (laid_in d7) row (clean_up k)) e (h7 row (ap handler_in marks6)))
 
-  pub filled : Puts 24 (FillCode line ms builder destroyer n) d0 d9
+  -- one row comes to them
+  grown : AddsRows 1 (length d9.ops) d0 d9
+  grown =
+      let g1 : AddsRows 1 (length d2.ops) d0 d2 = rows_then (omega arith) p1.rows (rows_opened opening.Elements d1 d2 o2) in
+      let g3 : AddsRows 1 (length d3.ops) d0 d3 = rows_last p3.kept.longer g1 p3.rows in
+      let g4 : AddsRows 1 (length d4.ops) d0 d4 = rows_last p4.kept.longer g3 p4.rows in
+      let g5 : AddsRows 1 (length d5.ops) d0 d5 = rows_last p5.kept.longer g4 p5.rows in
+      let g6 : AddsRows 1 (length d6.ops) d0 d6 = rows_last p6.kept.longer g5 p6.rows in
+      let g7 : AddsRows 1 (length d6.ops + 0) d0 d7 = rows_last (omega arith) g6 (rows_closed 0 d6 d7 c7) in
+      let g8 : AddsRows 1 (length d8.ops) d0 d8 = rows_last (let a = at_entry in let b = ops8 in omega arith) g7 p8.rows in
+      rows_last p9.kept.longer g8 p9.rows
+
+  pub filled : Puts 1 24 (FillCode line ms builder destroyer n) d0 d9
   filled = record {
     rest = like_rest d0 d9 (like_puts d0 d8 d9 (like_puts d0 d7 d8 (like_closed 0 d0 d6 d7 (like_puts d0 d5 d6 (like_puts d0 d4 d5 (like_puts d0 d3 d4 (like_puts d0 d2 d3 (like_opened opening.Elements d0 d1 d2 (like_puts d0 d0 d1 refl p1) o2) p3) p4) p5) p6) c7) p8) p9) (marks_of p9 ∙ marks8);
     kept = kept_then (laid_in d0) (laid_in d1) code p1.kept keep1;
+    rows = grown;
     room = (let a = ops9 in let b = p3.room in let c = p6.room in let e = ops2 in let f = ops5 in let g = at_entry in let h = at_test in omega arith);
     code = record {
       row = row;

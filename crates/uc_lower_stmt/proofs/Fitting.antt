@@ -61,8 +61,8 @@ fits_like {p} {n} {c} {o} {k} d e h1 h2 h3 h4 h5 h6 f = record {
 
 -- behind a piece
 
-pub fits_from : {p : Program} {f n m k j c b o q : ℕ} {S : Laid → ℕ → ℕ → Type 0} {t : Scope} {old new : Draft} → Fits p (n + m) (c + b) (o + q) (k + j) old → LowersFrom f n k c o S t old new → Fits p m b q j new
-fits_from {p} {f} {n} {m} {k} {j} {c} {b} {o} {q} {S} {t} {old} {new} h w =
+pub fits_from : {p : Program} {less f n m k j c b o q : ℕ} {S : Laid → ℕ → ℕ → Type 0} {t : Scope} {old new : Draft} → Fits p (n + m) (c + b) (o + q) (k + j) old → LowersFrom less f n k c o S t old new → Fits p m b q j new
+fits_from {p} {less} {f} {n} {m} {k} {j} {c} {b} {o} {q} {S} {t} {old} {new} h w =
     let routine : routine_in new.marks ≡ routine_in old.marks = ap (λ (d : Draft). routine_in d.marks) w.rest in
     let objects : closing new.marks ≡ closing old.marks = ap (λ (d : Draft). closing d.marks) w.rest in
     record {

@@ -10,6 +10,7 @@ use Rattle.uc_code.specs.CodeShapes.{Both, Kept, KeptBut, Same, Stable}
 use Rattle.uc_lower_stmt.specs.Guarding.{KeptUnder, LowersFrom}
 use Rattle.uc_lower_stmt.specs.Marked.{closing, objects_in}
 use Rattle.uc_lower_stmt.specs.LowersStatement.{Lowers}
+use Rattle.uc_lower_stmt.proofs.RowFitting.{fit_then}
 
 -- marks of handlers are those of no object, and lie in the routine in which they are opened
 
@@ -71,24 +72,26 @@ under_same n old new a z b k = record { same = λ i op line l m o. k.same i op l
 
 -- pieces are joined
 
-pub from_join : {f g n k c o m j b q : ℕ} {S T : Laid → ℕ → ℕ → Type 0} {s t : Scope} {old mid new : Draft} → g ≤ f → Stable S → LowersFrom f n k c o S s old mid → LowersFrom g m j b q T t mid new → LowersFrom g (n + m) (k + j) (c + b) (o + q) (λ code. Both (S code) (T code)) t old new
-from_join {f} {g} {n} {k} {c} {o} {m} {j} {b} {q} {S} {T} {s} {t} {old} {mid} {new} l st h w = record {
+pub from_join : {u v f g n k c o m j b q : ℕ} {S T : Laid → ℕ → ℕ → Type 0} {s t : Scope} {old mid new : Draft} → g ≤ f → Stable S → LowersFrom u f n k c o S s old mid → LowersFrom v g m j b q T t mid new → LowersFrom (u + v) g (n + m) (k + j) (c + b) (o + q) (λ code. Both (S code) (T code)) t old new
+from_join {u} {v} {f} {g} {n} {k} {c} {o} {m} {j} {b} {q} {S} {T} {s} {t} {old} {mid} {new} l st h w = record {
   rest = w.rest ∙ ap (λ (x : Draft). let y : Draft = record x { ops = new.ops; rows = new.rows; settled = new.settled; scopes = new.scopes; names = new.names; cells = new.cells; hidden = new.hidden; texts = new.texts; sites = new.sites } in y) h.rest;
   scope = w.scope;
-  opened = let x = h.opened in let y = w.opened in omega arith;
+  opened = let a = h.opened in let e = w.opened in omega arith;
   kept = under_then f g (laid_in old) (laid_in mid) (laid_in new) l h.kept w.kept;
-  room = let x = h.room in let y = w.room in omega arith;
-  texts = let x = h.texts in let y = w.texts in omega arith;
-  cells = let x = h.cells in let y = w.cells in omega arith;
+  rows = fit_then w.kept.longer h.rows w.rows;
+  room = let a = h.room in let e = w.room in omega arith;
+  texts = let a = h.texts in let e = w.texts in omega arith;
+  cells = let a = h.cells in let e = w.cells in omega arith;
   code = record { middle = length mid.ops; first = st.moves (laid_in mid) (laid_in new) (length old.ops) (length mid.ops) (under_same g (laid_in mid) (laid_in new) (length old.ops) (length mid.ops) (omega arith) w.kept) h.code; second = w.code };
 }
 
-pub from_lowers : {n k c o : ℕ} {S : Laid → ℕ → ℕ → Type 0} {t : Scope} {old new : Draft} → (f : ℕ) → Lowers n k c o S t old new → LowersFrom f n k c o S t old new
+pub from_lowers : {n k c o : ℕ} {S : Laid → ℕ → ℕ → Type 0} {t : Scope} {old new : Draft} → (f : ℕ) → Lowers n k c o S t old new → LowersFrom 0 f n k c o S t old new
 from_lowers {n} {k} {c} {o} {S} {t} {old} {new} f h = record {
   rest = h.rest;
   scope = h.scope;
   opened = h.opened;
   kept = under_kept f (laid_in old) (laid_in new) h.kept;
+  rows = h.rows;
   room = h.room;
   texts = h.texts;
   cells = h.cells;

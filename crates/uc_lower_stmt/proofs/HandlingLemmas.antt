@@ -42,6 +42,10 @@ use Rattle.uc_lower_stmt.proofs.GuardingLemmas.{from_join, from_lowers, under_bu
 use Rattle.uc_lower_stmt.proofs.Joined.{lowers_as, lowers_nothing, lowers_put}
 use Rattle.uc_lower_stmt.proofs.Kept.{handler_stable, keeps_stable, named_stable, stmts_stable}
 use Rattle.uc_lower_stmt.proofs.Scoping.{back_out}
+use Rattle.uc_lower_stmt.specs.RowFit.{RowsFit, open_rows}
+use Rattle.uc_code.specs.RowGrowth.{AddsRows, BeginBy}
+use Rattle.uc_code.proofs.Growth.{rows_closed}
+use Rattle.uc_lower_stmt.proofs.RowFitting.{fit_closed, fit_less, fit_like, fit_opened, fit_then}
 
 -- a block has a row for each handler
 pub rows_are : (p : Program) (hs : tree.Handlers) (s : Scope) → handler_rows (handlers_meant p hs s) ≡ length (tree.handler_list hs)
@@ -120,6 +124,9 @@ module _ (p : Program) (pad line : ℕ) (resumes : Bool) (body : tree.Stmts) (d0
   rest : new ≡ record d0 { ops = new.ops; rows = d3.rows; settled = d3.settled; scopes = d2.scopes; names = d2.names; cells = d2.cells; hidden = d2.hidden; texts = d2.texts; sites = d2.sites }
   rest = g.rest ∙ ap (λ (d : Draft). let x : Draft = record d { ops = new.ops } in x) rest3
 
+  marks_new : new.marks ≡ d0.marks
+  marks_new = ap (λ (d : Draft). d.marks) rest
+
   pub arm_resumes : LowersBody p pad resumes line body d0 new
   arm_resumes =
       let same : objects_in d1.marks ≡ objects_in d0.marks = ap objects_in marks1 in
@@ -135,6 +142,12 @@ module _ (p : Program) (pad line : ℕ) (resumes : Bool) (body : tree.Stmts) (d0
         scope = ap scope_of g.rest ∙ ap scope_of (like_closed 0 d2 d2 d3 refl ce) ∙ w.scope ∙ ap (scope_behind p body) scope1;
         opened = (let x = w.opened in omega arith);
         kept = kept_then (laid_in d0) (laid_in d1) code k1 (kept_then (laid_in d1) (laid_in d2) code w.kept keep2);
+        rows =
+            let one : RowsFit 0 d0 d2 = fit_then w.kept.longer (fit_opened (opening.Outward 0) d0 d1 oe) w.rows in
+            let end = g.code.end in
+            let r3 = rows_closed 0 d2 d3 ce in
+            let r4 : new.rows ≡ d3.rows = ap (λ (d : Draft). d.rows) g.rest in
+            fit_closed one r3 r4 (ap open_rows marks2) (ap open_rows marks_new) (omega (arith, ops3, end)) (omega (arith, ops3, end));
         room = (let x = w.room in let y = g.room in omega (arith, size, ops1, ops3));
         texts = (let x = w.texts in omega arith);
         cells = (let x = w.cells in omega arith);
@@ -238,6 +251,7 @@ module _ (p : Program) (row pad : ℕ) (pos : Pos) (kind : HandlerKind) (event p
         scope = behind;
         opened = (let x = w.opened in let y = en.opened in omega arith);
         kept = under_then row row (laid_in d0) (laid_in d1) laid (omega arith) en.kept (under_kept row (laid_in d1) laid keeps_laid);
+        rows = fit_like d0 new refl refl refl (ap (λ (d : Draft). d.rows) rest_laid) ops2 (ap (λ (d : Draft). open_rows d.marks) rest_laid ∙ sym (ap open_rows (ap (λ (d : Draft). d.marks) w.rest ∙ marks1))) (fit_then w.kept.longer en.rows w.rows);
         room = (let x = w.room in let y = en.room in omega (arith, size));
         texts = (let x = w.texts in omega arith);
         cells = (let x = w.cells in omega arith);
@@ -266,12 +280,13 @@ handler_code_stable p row pad ms (tree.Handles pos kind event param brace body) 
 
 -- all handlers of a block
 
-pub from_as : {f n k c o m j b q : ℕ} {S T : Laid → ℕ → ℕ → Type 0} {s t : Scope} {old new : Draft} → LowersFrom f n k c o S s old new → s ≡ t → ((code : Laid) (a z : ℕ) → S code a z → T code a z) → n ≤ m → k ≤ j → c ≤ b → o ≡ q → LowersFrom f m j b q T t old new
-from_as {f} {n} {k} {c} {o} {m} {j} {b} {q} {S} {T} {s} {t} {old} {new} h e g l1 l2 l3 l4 = record {
+pub from_as : {x y f n k c o m j b q : ℕ} {S T : Laid → ℕ → ℕ → Type 0} {s t : Scope} {old new : Draft} → LowersFrom x f n k c o S s old new → y ≤ x → s ≡ t → ((code : Laid) (a z : ℕ) → S code a z → T code a z) → n ≤ m → k ≤ j → c ≤ b → o ≡ q → LowersFrom y f m j b q T t old new
+from_as {x} {y} {f} {n} {k} {c} {o} {m} {j} {b} {q} {S} {T} {s} {t} {old} {new} h l0 e g l1 l2 l3 l4 = record {
   rest = h.rest;
   scope = h.scope ∙ e;
   opened = let x = h.opened in omega arith;
   kept = h.kept;
+  rows = fit_less l0 h.rows;
   room = let x = h.room in omega arith;
   texts = let x = h.texts in omega arith;
   cells = let x = h.cells in omega arith;
@@ -279,7 +294,7 @@ from_as {f} {n} {k} {c} {o} {m} {j} {b} {q} {S} {T} {s} {t} {old} {new} h e g l1
 }
 
 pub handlers_none : (p : Program) (first pad : ℕ) (old : Draft) → LowersHandlers p first pad tree.NoHandlers old old
-handlers_none p first pad old = from_as (from_lowers first (lowers_nothing old)) refl (λ code a z x. x) (omega arith) (omega arith) (omega arith) refl
+handlers_none p first pad old = from_as (from_lowers first (lowers_nothing old)) (omega arith) refl (λ code a z x. x) (omega arith) (omega arith) (omega arith) refl
 
 pub handlers_more : (p : Program) (first pad : ℕ) (h : tree.Handler) (hs : tree.Handlers) (d0 d1 d2 : Draft) → LowersHandler p (first + length (tree.handler_list hs)) pad h d0 d1 → LowersHandlers p first pad hs d1 d2 → LowersHandlers p first pad (tree.MoreHandlers h hs) d0 d2
 handlers_more p first pad (tree.Handles pos kind event param brace body) hs d0 d1 d2 w v =
@@ -293,7 +308,7 @@ handlers_more p first pad (tree.Handles pos kind event param brace body) hs d0 d
     let objects1 : objects_in d1.marks ≡ objects_in ms = ap objects_in marks1 in
     let exits1 = ap (exits_handlers hs) objects1 in
     let last : past_handlers p hs (scope_of d1) ≡ past_handlers p hs more = ap (past_handlers p hs) w.scope in
-    from_as (from_join (omega arith) (handler_code_stable p row pad ms h s) w v) last
+    from_as (from_join (omega arith) (handler_code_stable p row pad ms h s) w v) (omega arith) last
     (λ code a z x. record {
       middle = x.middle;
       first = subst (λ (n : ℕ). HandlerCode p (first + n) pad ms h s code a x.middle) rows x.first;
@@ -340,6 +355,13 @@ named_few p (Some name) = record { few = λ n e. let is : number_of_event p name
 
 -- where a handler begins
 
+keeps_long : (line cell : ℕ) (code : Laid) (a z : ℕ) → KeepsAt code line cell a z → a + 1 ≤ z
+keeps_long line cell code a z h =
+    let a1 = h.first.first.end in let a2 = h.first.second.end in
+    let b1 = h.second.first.first.end in let b2 = h.second.first.second.end in
+    let c1 = h.second.second.first.end in let c2 = h.second.second.second.end in
+    omega arith
+
 pub kinds_take : (taker : RowKind) (resumes : Bool) → taker ≡ kind_of resumes → takes_events taker ≡ true
 kinds_take taker true e = ap takes_events e
 kinds_take taker false e = ap takes_events e
@@ -347,8 +369,8 @@ kinds_take taker false e = ap takes_events e
 module _ (p : Program) (row number cell scope : ℕ) (taker : RowKind) (resumes : Bool) (event param : Option (List ℕ)) (line : ℕ) (d0 d1 d2 d3 d4 d5 new : Draft)
     (ke : taker ≡ kind_of resumes) (ne : number ≡ event_of (event_of_handler p event)) (few : IsNamed (event_of_handler p event))
     (b1 : d1 ≡ record d0 { rows = d1.rows }) (h1 : HandlerAt (laid_in d1) row (record { kind = taker; event = number; rest = length (handlers d0.marks); entry = length d0.ops })) (k1 : KeptBut row (laid_in d0) (laid_in d1))
-    (e2 : d2 ≡ record d1 { hidden = d1.hidden + KEPT_CELLS }) (ce : cell ≡ d1.hidden) (p3 : Puts 6 (λ code. KeepsAt code line cell) d2 d3) (e4 : d4 ≡ record d3 { handled = cell })
-    (e5 : d5 ≡ record d4 { place = record d4.place { scope = scope }; scopes = d4.scopes + 1 }) (e6 : (q : Program) (u : Scope) → u.names ≡ d5.names → cell + 1 ≡ u.hidden + 1 → new ≡ record d5 { names = (with_event q param event u).names }) where
+    (e2 : d2 ≡ record d1 { hidden = d1.hidden + KEPT_CELLS }) (ce : cell ≡ d1.hidden) (p3 : Puts 0 6 (λ code. KeepsAt code line cell) d2 d3) (e4 : d4 ≡ record d3 { handled = cell })
+    (grown : AddsRows 0 (length d0.ops) d0 d1) (e5 : d5 ≡ record d4 { place = record d4.place { scope = scope }; scopes = d4.scopes + 1 }) (e6 : (q : Program) (u : Scope) → u.names ≡ d5.names → cell + 1 ≡ u.hidden + 1 → new ≡ record d5 { names = (with_event q param event u).names }) where
   cell_is : cell ≡ d0.hidden
   cell_is = ce ∙ ap (λ (d : Draft). d.hidden) b1
 
@@ -388,6 +410,15 @@ module _ (p : Program) (row number cell scope : ℕ) (taker : RowKind) (resumes 
     scope = in_it;
     opened = refl;
     kept = under_then row row (laid_in d0) (laid_in d1) (laid_in d3) (omega arith) (under_but row (laid_in d0) (laid_in d1) k1) (under_kept row (laid_in d1) (laid_in d3) keep_begun);
+    rows = record {
+      few =
+          let a = p3.rows.more in
+          let b : length d2.rows ≡ length d1.rows = ap (λ (d : Draft). length d.rows) e2 in
+          let g = grown.more in
+          let c = keeps_long line cell (laid_in d3) (length d2.ops) (length d3.ops) p3.code in
+          omega (arith, ops_begun);
+      begin = λ k l w. p3.rows.begin k l (subst (BeginBy k) (sym (ap (λ (d : Draft). d.rows) e2)) (grown.begin k (let c = keeps_long line cell (laid_in d3) (length d2.ops) (length d3.ops) p3.code in omega (arith, ops_begun)) w));
+    };
     room = (let x = p3.room in omega (arith, ops_begun));
     named = few;
     handler = subst (λ (k : RowKind). HandlerAt (laid_in d3) row (record { kind = k; event = event_of (event_of_handler p event); rest = length (handlers d0.marks); entry = length d0.ops })) ke

@@ -14,6 +14,7 @@ use Rattle.uc_code.proofs.Stable.{nothing_stable, one_stable, same_then}
 use Rattle.uc_lower_expr.proofs.Settled.{both}
 use Rattle.uc_lower_stmt.specs.Accepting.{choice_set, jumps_set}
 use Rattle.uc_lower_stmt.specs.LowersStatement.{Lowers}
+use Rattle.uc_lower_stmt.proofs.RowFitting.{fit_like}
 
 pub jumps_stable : (line : ℕ) (tos : List ℕ) → Stable (λ code. JumpsAt code line tos)
 jumps_stable line [] = nothing_stable
@@ -137,6 +138,7 @@ module _ (else_at first otherwise : ℕ) (places : List ℕ) where
         scope = h.scope;
         opened = h.opened;
         kept = kept_chosen (laid_in old) (laid_in new) h.kept;
+        rows = fit_like (choice_set else_at first otherwise places old) (choice_set else_at first otherwise places new) refl a refl refl b refl h.rows;
         room = let r = h.room in omega arith;
         texts = h.texts;
         cells = h.cells;

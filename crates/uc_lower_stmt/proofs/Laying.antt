@@ -12,6 +12,7 @@ use Rattle.uc_lower_stmt.specs.Marked.{closing, objects_in}
 use Rattle.uc_lower_stmt.specs.OpenScopes.{Does, block_of, Pending, Begins, Done, Lays}
 use Rattle.uc_lower_stmt.specs.LowersStatement.{Lowers, scope_of}
 use Rattle.uc_lower_stmt.proofs.BlocksLemmas.{block_join, none_join, pending_join, pending_kept, pending_routine}
+use Rattle.uc_lower_stmt.proofs.RowFitting.{fit_refl, fit_then}
 
 pub lays_nothing : (line : ℕ) (old : Draft) → Lays 0 0 0 0 0 line (λ ss. ss) (scope_of old) old old
 lays_nothing line old = record {
@@ -19,6 +20,7 @@ lays_nothing line old = record {
   scope = refl;
   opened = omega arith;
   kept = kept_refl (laid_in old);
+  rows = fit_refl old;
   room = omega arith;
   texts = omega arith;
   cells = omega arith;
@@ -35,6 +37,7 @@ lays_as h x fg l1 l2 l3 l4 l5 = record {
   scope = h.scope ∙ x;
   opened = let y = h.opened in omega arith;
   kept = h.kept;
+  rows = h.rows;
   room = let y = h.room in omega arith;
   texts = let y = h.texts in omega arith;
   cells = let y = h.cells in omega arith;
@@ -51,6 +54,7 @@ lays_join {n} {k} {c} {d} {o} {m} {j} {b} {e} {q} {line} {f} {g} {s} {t} {old} {
   scope = w.scope;
   opened = let x = h.opened in let y = w.opened in omega arith;
   kept = kept_then (laid_in old) (laid_in mid) (laid_in new) h.kept w.kept;
+  rows = fit_then w.kept.longer h.rows w.rows;
   room = let x = h.room in let y = w.room in omega arith;
   texts = let x = h.texts in let y = w.texts in omega arith;
   cells = let x = h.cells in let y = w.cells in omega arith;
@@ -76,6 +80,7 @@ lays_one {n} {k} {c} {o} {s} {t} {old} {new} line h =
       scope = h.scope;
       opened = h.opened;
       kept = h.kept;
+      rows = h.rows;
       room = (let x = h.room in omega (arith, f));
       texts = h.texts;
       cells = h.cells;
@@ -99,6 +104,7 @@ lays_ended {n} {k} {c} {d} {o} {line} {f} {t} {old} {mid} {new} count ce h w =
       scope = ap scope_of w.rest ∙ h.scope;
       opened = scopes ∙ h.opened;
       kept = kept_then (laid_in old) (laid_in mid) (laid_in new) h.kept w.kept;
+      rows = fit_then w.kept.longer h.rows w.rows;
       room = (let x = h.room in let y = w.room in omega (arith, e));
       texts = (let x = h.texts in omega (arith, texts));
       cells = (let x = h.cells in omega (arith, cells));

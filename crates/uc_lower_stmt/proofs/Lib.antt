@@ -26,6 +26,7 @@ pub mod Parting
 pub mod Printing
 pub mod RaisingLemmas
 pub mod RoutinesLemmas
+pub mod RowFitting
 pub mod Scoping
 pub mod Shaping
 pub mod Stating

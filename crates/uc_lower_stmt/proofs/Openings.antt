@@ -28,7 +28,7 @@ use Rattle.uc_code.specs.declared.rows.Opening.TheVariants as opening
 use Rattle.uc_code.specs.declared.rows.ObjectSpot.{ObjectSpot}
 use Rattle.uc_code.specs.declared.rows.ObjectSpot.TheVariants.{Local}
 use Rattle.uc_code.specs.Drafts.{Draft}
-use Rattle.uc_code.specs.Layout.{laid_in, routine_in}
+use Rattle.uc_code.specs.Layout.{Laid, laid_in, routine_in}
 use Rattle.uc_code.specs.ObjectCalls.{BeginsAt, InFrame, Cleans, One as CleansOne, All, TakesDown, IsForgotten, Left, Ended, Freed, Restored}
 use Rattle.uc_code.specs.OpenRows.{StandsBehind, CleansBehind, opened}
 use Rattle.uc_code.specs.Emits.{Puts}
@@ -43,11 +43,15 @@ use Rattle.uc_lower_expr.specs.Members.{made_routine, routine_by}
 use Rattle.uc_lower_stmt.specs.Blocks.{AllStandBehind, started_args}
 use Rattle.uc_lower_expr.proofs.Walks.{some_size}
 use Rattle.uc_lower_stmt.specs.Marked.{calls_in, close_room, counted_by}
-use Rattle.uc_lower_stmt.specs.Objects.{build_room, call_by, destroyer_of, ended_by}
+use Rattle.uc_lower_stmt.specs.Objects.{build_room, build_rows, call_by, destroyer_of, ended_by}
 use Rattle.uc_lower_stmt.specs.OpenScopes.{Does, Opens, NoCall, Begins, Done, Opened, Lays}
 use Rattle.uc_lower_stmt.specs.LowersStatement.{scope_of}
 use Rattle.uc_lower_stmt.proofs.Kept.{stmt_stable}
 use Rattle.uc_lower_stmt.proofs.Laying.{lays_as, lays_join, lays_nothing}
+use Rattle.uc_code.proofs.Putting.{done_stable}
+use Rattle.uc_lower_stmt.specs.RowFit.{RowsFit, open_rows}
+use Rattle.uc_lower_stmt.proofs.Filling.{built_stable}
+use Rattle.uc_lower_stmt.proofs.RowFitting.{fit_adds, fit_like, fit_opened, fit_puts, fit_then}
 
 -- routines that nobody wrote stand behind all others
 
@@ -110,10 +114,22 @@ closes_few c what Ended = omega arith
 closes_few c what (Freed main) = omega arith
 closes_few c what (Restored cell) = omega arith
 
+-- what builds it has more ops than rows
+pub build_long : (p : Program) (line : ℕ) (m : Making) (elements : Option ℕ) (place : Expr) (args : List Meant) (code : Laid) (ms : List CodeMark) (a z : ℕ) → StmtAt code ms (build p line m elements place args) a z → build_rows elements + a ≤ z
+build_long p line m None place args code ms a z h = let l = (stmt_stable ms (build p line m None place args)).rises code a z h in omega arith
+build_long p line m (Some n) place args code ms a z h =
+    let f = h.filled in
+    let b = f.rounds.end in
+    let l = f.undoes.end in
+    let u = f.unwind.end in
+    let r = (built_stable line h.builder (mark.Elements f.row ∷ ms)).rises code (a + 1) f.test f.rounds.turn in
+    let s = (done_stable line h.destroyer (mark.Elements f.row ∷ ms)).rises code (f.test + 2) f.entry f.undoes.turn in
+    omega arith
+
 module _ (p : Program) (m : Making) (b : Base) (d : Declarator) (line block cell cells : ℕ) (elements : Option ℕ) (args : List tree.Expr) (what : Cleaning) (d0 d1 d2 d3 new : Draft)
     (le : cell ≡ d0.cells) (ce : cells ≡ declared_cells p b d) (ne : elements ≡ length_of p d d.len) (ae : (c : Context) → args_meant c (exprs_of args) ≡ started_args c d.start) (few : exprs_size (exprs_of args) ≤ start_size d.start)
     (c1 : Adds 1 (OpCode line (op.Clear cell cells)) d0 d1)
-    (h2 : (place : Expr) → BeginsAt place (Local cell) → Puts (OPS_FOR_SIZE * exprs_size (exprs_of args) + build_room elements) (λ code. StmtAt code d1.marks (build p line m elements place (args_meant (context_in p d1) (exprs_of args)))) d1 d2)
+    (h2 : (place : Expr) → BeginsAt place (Local cell) → Puts (build_rows elements) (OPS_FOR_SIZE * exprs_size (exprs_of args) + build_room elements) (λ code. StmtAt code d1.marks (build p line m elements place (args_meant (context_in p d1) (exprs_of args)))) d1 d2)
     (cleans : (place : Expr) → BeginsAt place (Local cell) → Cleans (clean_up p m elements place) what)
     (o3 : d3 ≡ opened (opening.Object what block) d2) (k3 : Kept (laid_in d2) (laid_in d3))
     (e4 : new ≡ record d3 { names = d3.names ++ declared_known p (scope_of d3) b d ∷ []; cells = d3.cells + cells }) where
@@ -126,7 +142,7 @@ module _ (p : Program) (m : Making) (b : Base) (d : Declarator) (line block cell
   abbrev place : BeginsAt (Variable cell) (Local cell)
   place = InFrame cell
 
-  built : Puts (OPS_FOR_SIZE * exprs_size (exprs_of args) + build_room elements) (λ code. StmtAt code d1.marks (build p line m elements (Variable cell) (args_meant (context_in p d1) (exprs_of args)))) d1 d2
+  built : Puts (build_rows elements) (OPS_FOR_SIZE * exprs_size (exprs_of args) + build_room elements) (λ code. StmtAt code d1.marks (build p line m elements (Variable cell) (args_meant (context_in p d1) (exprs_of args)))) d1 d2
   built = h2 (Variable cell) place
 
   abbrev inner : CodeMark
@@ -188,6 +204,9 @@ module _ (p : Program) (m : Making) (b : Base) (d : Declarator) (line block cell
       subst (λ (x : Option ℕ). Cleans (clean_up p m x there) what) ne (
       subst (λ (x : ℕ). Cleans (clean_up p m elements (Variable x)) what) le (cleans (Variable cell) place))
 
+  marks_last : inner ∷ d0.marks ≡ d3.marks
+  marks_last = sym (ap (λ (x : Draft). x.marks) opened_is ∙ ap (λ (ms : List CodeMark). inner ∷ ms) (ap (λ (x : Draft). x.marks) built_is))
+
   pub arm_object : Lays (OPS_FOR_SIZE * declarator_size d) 0 (declared_cells p b d) 1 0 block (object_scoped p m line b d (scope_of d0)) (with_declared p (scope_of d0) b d) d0 new
   arm_object =
       let declares : Stmt = Declare line (record { cell = s.cells; cells = declared_cells p b d; value = None } ∷ []) in
@@ -197,6 +216,10 @@ module _ (p : Program) (m : Making) (b : Base) (d : Declarator) (line block cell
         scope = refl;
         opened = omega arith;
         kept = kept_then (laid_in d0) (laid_in d1) (laid_in last) c1.kept keep1;
+        rows =
+            let one : RowsFit 0 d0 d2 = fit_then built.kept.longer (fit_adds c1) (fit_puts (build_long p line m elements (Variable cell) (args_meant (context_in p d1) (exprs_of args)) (laid_in d2) d1.marks (length d1.ops) (length d2.ops) built.code) built) in
+            let all : RowsFit 0 d0 d3 = fit_then k3.longer one (fit_opened (opening.Object what block) d2 d3 o3) in
+            fit_like d0 last refl refl refl refl (ap length (sym ops3)) (ap open_rows marks_last) all;
         room = (let x = c1.room in let y = built.room in let z = length_counts p d d.len in let e : build_room elements ≡ build_room (length_of p d d.len) = ap build_room ne in let k = closes_few c what cleaned in omega (arith, few, e));
         texts = omega arith;
         cells = omega arith;

@@ -40,6 +40,7 @@ use Rattle.uc_lower_stmt.specs.LowersStatement.{Lowers, scope_of}
 use Rattle.uc_lower_stmt.specs.Pieces.{ItemsCode, ValuesCode, PiecesCode, TogetherCode, TargetsCode, form_as}
 use Rattle.uc_lower_stmt.proofs.Kept.{items_stable, values_stable, pieces_stable, ops_stable, targets_stable}
 use Rattle.uc_lower_stmt.proofs.Joined.{lowers_adds, lowers_as, lowers_join, lowers_put}
+use Rattle.uc_lower_stmt.proofs.RowFitting.{fit_ops}
 
 -- forms
 
@@ -193,6 +194,7 @@ module _ (program : Program) where
         scope = refl;
         opened = omega arith;
         kept = kept_refl (laid_in old);
+        rows = fit_ops refl refl (omega arith);
         room = omega arith;
         texts = omega arith;
         cells = omega arith;

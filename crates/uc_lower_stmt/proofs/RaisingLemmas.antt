@@ -30,6 +30,8 @@ use Rattle.uc_lower_stmt.proofs.Counted.{counted, counted_as}
 use Rattle.uc_lower_stmt.proofs.Stating.{as_stmt}
 use Rattle.uc_lower_stmt.proofs.Joined.{lowers_adds, lowers_as, lowers_join, lowers_puts, puts_adds}
 use Rattle.uc_lower_stmt.proofs.Kept.{raised_stable}
+use Rattle.uc_lower_stmt.specs.RowFit.{open_rows}
+use Rattle.uc_lower_stmt.proofs.RowFitting.{fit_like, fit_none}
 
 -- an event whose constructor is written
 
@@ -41,8 +43,8 @@ adds_marks h = ap (λ (d : Draft). d.marks) h.rest
 
 pub built_raised : (p : Program) (line event r cell n : ℕ) (ps : List Param) (es : tree.Exprs) (d0 d1 d2 d3 d4 d5 d6 : Draft) → ps ≡ params_of p r
     → Adds 1 (OpCode line (op.Clear cell EVENT_FIELDS)) d0 d1 → Adds 1 (OpCode line (op.Local cell)) d1 d2 → Adds n (ArgumentsCode line d2.marks (args_by ps (args_meant (context_in p d2) es))) d2 d3
-    → Adds 1 (OpCode line op.Tick) d3 d4 → Adds 1 (RiskCode line d4.marks (op.CallOn r)) d4 d5 → Puts 4 (λ code. FieldsAt code line event cell) d5 d6
-    → Puts (n + 8) (λ code. RaisedAt code line d0.marks (built_at p (params_of p r) es event r cell d0)) d0 d6
+    → Adds 1 (OpCode line op.Tick) d3 d4 → Adds 1 (RiskCode line d4.marks (op.CallOn r)) d4 d5 → Puts 0 4 (λ code. FieldsAt code line event cell) d5 d6
+    → Puts 0 (n + 8) (λ code. RaisedAt code line d0.marks (built_at p (params_of p r) es event r cell d0)) d0 d6
 built_raised p line event r cell n ps es d0 d1 d2 d3 d4 d5 d6 pe a1 a2 a3 a4 a5 b =
     let e2 : d2 ≡ record d0 { ops = d2.ops } = a2.rest ∙ ap (λ (x : Draft). let y : Draft = record x { ops = d2.ops } in y) a1.rest in
     let args : Exprs = args_by ps (args_meant (context_in p d0) es) in
@@ -50,11 +52,11 @@ built_raised p line event r cell n ps es d0 d1 d2 d3 d4 d5 d6 pe a1 a2 a3 a4 a5 
     let m4 : d4.marks ≡ d0.marks = adds_marks a4 ∙ adds_marks a3 ∙ adds_marks a2 ∙ adds_marks a1 in
     let c5 : Adds 1 (RiskCode line d0.marks (op.CallOn r)) d4 d5 = subst (λ (ms : List CodeMark). Adds 1 (RiskCode line ms (op.CallOn r)) d4 d5) m4 a5 in
     let call = adds_both (one_stable (op.Local cell) line) a2 (adds_both (args_stable line d0.marks args) c3 (adds_both (one_stable op.Tick line) a4 c5)) in
-    subst (λ (xs : List Param). Puts (n + 8) (λ code. RaisedAt code line d0.marks (built_at p xs es event r cell d0)) d0 d6) pe
+    subst (λ (xs : List Param). Puts 0 (n + 8) (λ code. RaisedAt code line d0.marks (built_at p xs es event r cell d0)) d0 d6) pe
     (puts_more (omega arith) (puts_both (one_stable (op.Clear cell EVENT_FIELDS) line) (puts_adds a1) (puts_both (expr_stable line d0.marks (OfObject (CallOn r (Variable cell) args))) (puts_adds call) b)))
 
 -- behind so many hidden cells more
-raised_puts : {n : ℕ} {S : Laid → ℕ → ℕ → Type 0} {d0 d1 d2 : Draft} → (h : ℕ) → d1 ≡ record d0 { hidden = d0.hidden + h } → Puts n S d1 d2 → Lowers n 0 0 0 S (hidden_past (scope_of d0) h) d0 d2
+raised_puts : {n : ℕ} {S : Laid → ℕ → ℕ → Type 0} {d0 d1 d2 : Draft} → (h : ℕ) → d1 ≡ record d0 { hidden = d0.hidden + h } → Puts 0 n S d1 d2 → Lowers n 0 0 0 S (hidden_past (scope_of d0) h) d0 d2
 raised_puts {n} {S} {d0} {d1} {d2} h e w =
     let is : d2 ≡ record d0 { ops = d2.ops; rows = d2.rows; settled = d2.settled; hidden = d0.hidden + h } = w.rest ∙ ap (λ (x : Draft). let y : Draft = record x { ops = d2.ops; rows = d2.rows; settled = d2.settled } in y) e in
     let long : length d1.ops ≡ length d0.ops = ap (λ (d : Draft). length d.ops) e in
@@ -63,6 +65,7 @@ raised_puts {n} {S} {d0} {d1} {d2} h e w =
       scope = ap scope_of is;
       opened = let x : d2.scopes ≡ d0.scopes = ap (λ (d : Draft). d.scopes) is in omega arith;
       kept = subst (λ (d : Draft). Kept (laid_in d) (laid_in d2)) e w.kept;
+      rows = fit_like d0 d2 (sym (ap (λ (d : Draft). d.rows) e)) (sym long) (sym (ap (λ (d : Draft). open_rows d.marks) e)) refl refl refl (fit_none w);
       room = let x = w.room in omega arith;
       texts = let x : d2.texts ≡ d0.texts = ap (λ (d : Draft). d.texts) is in omega arith;
       cells = let x : d2.cells ≡ d0.cells = ap (λ (d : Draft). d.cells) is in omega arith;
@@ -77,43 +80,43 @@ module _ (p : Program) (line event cell : ℕ) (r : Raised) (d0 d1 d2 : Draft) (
   args = args_meant (context_at p s) r.args
 
   abbrev What : ℕ → source.Raised → Type 0
-  What n what = Puts n (λ code. RaisedAt code line d0.marks what) d1 d2
+  What n what = Puts 0 n (λ code. RaisedAt code line d0.marks what) d1 d2
 
   means : (n : ℕ) (o : Option ℕ) → event_constructor p r.name ≡ o → What n (built_event p s event o args) → What n (raised_meant p s (Some r))
   means n o is h =
       subst (λ (x : Option ℕ). What n (built_event p s (number_of_event p r.name) x args)) (sym is) (subst (λ (m : ℕ). What n (built_event p s m o args)) ev h)
 
-  pub arm_plain : event_constructor p r.name ≡ None → Puts 3 (λ code. RaisedAt code line d1.marks (Plainly event)) d1 d2 → LowersRaised p line (Some r) d0 d2
+  pub arm_plain : event_constructor p r.name ≡ None → Puts 0 3 (λ code. RaisedAt code line d1.marks (Plainly event)) d1 d2 → LowersRaised p line (Some r) d0 d2
   arm_plain none w =
-      let here : What 3 (Plainly event) = subst (λ (ms : List CodeMark). Puts 3 (λ code. RaisedAt code line ms (Plainly event)) d1 d2) (ap (λ (d : Draft). d.marks) e) w in
+      let here : What 3 (Plainly event) = subst (λ (ms : List CodeMark). Puts 0 3 (λ code. RaisedAt code line ms (Plainly event)) d1 d2) (ap (λ (d : Draft). d.marks) e) w in
       lowers_as (raised_puts EVENT_FIELDS e (means 3 None none here)) refl (λ code a z x. x) (omega arith) (omega arith) (omega arith) refl
 
-  pub arm_built : (routine : ℕ) (es : tree.Exprs) → es ≡ r.args → event_constructor p r.name ≡ Some routine → Puts (OPS_FOR_SIZE * exprs_size es + 8) (λ code. RaisedAt code line d1.marks (built_at p (params_of p routine) es event routine cell d1)) d1 d2 → LowersRaised p line (Some r) d0 d2
+  pub arm_built : (routine : ℕ) (es : tree.Exprs) → es ≡ r.args → event_constructor p r.name ≡ Some routine → Puts 0 (OPS_FOR_SIZE * exprs_size es + 8) (λ code. RaisedAt code line d1.marks (built_at p (params_of p routine) es event routine cell d1)) d1 d2 → LowersRaised p line (Some r) d0 d2
   arm_built routine es ae is w =
       let n : ℕ = OPS_FOR_SIZE * exprs_size r.args + 8 in
-      let over : Puts n (λ code. RaisedAt code line d1.marks (built_at p (params_of p routine) r.args event routine cell d1)) d1 d2 =
-      subst (λ (xs : tree.Exprs). Puts (OPS_FOR_SIZE * exprs_size xs + 8) (λ code. RaisedAt code line d1.marks (built_at p (params_of p routine) xs event routine cell d1)) d1 d2) ae w in
-      let here : What n (built_at p (params_of p routine) r.args event routine cell d0) = subst (λ (d : Draft). Puts n (λ code. RaisedAt code line d.marks (built_at p (params_of p routine) r.args event routine cell d)) d1 d2) e over in
+      let over : Puts 0 n (λ code. RaisedAt code line d1.marks (built_at p (params_of p routine) r.args event routine cell d1)) d1 d2 =
+      subst (λ (xs : tree.Exprs). Puts 0 (OPS_FOR_SIZE * exprs_size xs + 8) (λ code. RaisedAt code line d1.marks (built_at p (params_of p routine) xs event routine cell d1)) d1 d2) ae w in
+      let here : What n (built_at p (params_of p routine) r.args event routine cell d0) = subst (λ (d : Draft). Puts 0 n (λ code. RaisedAt code line d.marks (built_at p (params_of p routine) r.args event routine cell d)) d1 d2) e over in
       let there : What n (built_at p (params_of p routine) r.args event routine d0.hidden d0) = subst (λ (c : ℕ). What n (built_at p (params_of p routine) r.args event routine c d0)) ce here in
       lowers_as (raised_puts EVENT_FIELDS e (means n (Some routine) is there)) refl (λ code a z x. x) (omega arith) (omega arith) (omega arith) refl
 
 -- again the event that is handled
-pub arm_again : (p : Program) (line : ℕ) (r : Option Raised) (cell : ℕ) (d0 d1 : Draft) → r ≡ None → cell ≡ d0.handled → Puts 3 (λ code. RaisedAt code line d0.marks (AgainFrom cell)) d0 d1 → LowersRaised p line r d0 d1
+pub arm_again : (p : Program) (line : ℕ) (r : Option Raised) (cell : ℕ) (d0 d1 : Draft) → r ≡ None → cell ≡ d0.handled → Puts 0 3 (λ code. RaisedAt code line d0.marks (AgainFrom cell)) d0 d1 → LowersRaised p line r d0 d1
 arm_again p line r cell d0 d1 is e w =
-    let here : Puts 3 (λ code. RaisedAt code line d0.marks (AgainFrom d0.handled)) d0 d1 = subst (λ (c : ℕ). Puts 3 (λ code. RaisedAt code line d0.marks (AgainFrom c)) d0 d1) e w in
+    let here : Puts 0 3 (λ code. RaisedAt code line d0.marks (AgainFrom d0.handled)) d0 d1 = subst (λ (c : ℕ). Puts 0 3 (λ code. RaisedAt code line d0.marks (AgainFrom c)) d0 d1) e w in
     let none : d0.hidden ≡ d0.hidden + 0 = omega arith in
     subst (λ (o : Option Raised). LowersRaised p line o d0 d1) (sym is) (lowers_as (lowers_puts 0 0 here) (ap (λ (n : ℕ). let t : Scope = record (scope_of d0) { hidden = n } in t) none) (λ code a z x. x) (omega arith) (omega arith) (omega arith) refl)
 
 -- the statements
 
-pub arm_throw : (p : Program) (line : ℕ) (r : Option Raised) (d0 d1 d2 : Draft) → LowersRaised p line r d0 d1 → Puts 1 (λ code. Risk code d1.marks op.Throw line) d1 d2 → LowersRaise p (source.Throw line (raised_meant p (scope_of d0) r)) r d0 d2
+pub arm_throw : (p : Program) (line : ℕ) (r : Option Raised) (d0 d1 d2 : Draft) → LowersRaised p line r d0 d1 → Puts 0 1 (λ code. Risk code d1.marks op.Throw line) d1 d2 → LowersRaise p (source.Throw line (raised_meant p (scope_of d0) r)) r d0 d2
 arm_throw p line r d0 d1 d2 h w =
-    let here : Puts 1 (λ code. Risk code d0.marks op.Throw line) d1 d2 = subst (λ (ms : List CodeMark). Puts 1 (λ code. Risk code ms op.Throw line) d1 d2) (ap (λ (d : Draft). d.marks) h.rest) w in
+    let here : Puts 0 1 (λ code. Risk code d0.marks op.Throw line) d1 d2 = subst (λ (ms : List CodeMark). Puts 0 1 (λ code. Risk code ms op.Throw line) d1 d2) (ap (λ (d : Draft). d.marks) h.rest) w in
     lowers_as (lowers_join (raised_stable line d0.marks (raised_meant p (scope_of d0) r)) h (lowers_puts 0 0 here)) h.scope (λ code a z x. x) (omega arith) (omega arith) (omega arith) refl
 
-pub arm_raise : (p : Program) (line : ℕ) (r : Option Raised) (d0 d1 d2 : Draft) → LowersRaised p line r d0 d1 → Puts 2 (λ code. Both (Risk code d1.marks op.Raise line) (One code op.Discard line)) d1 d2 → LowersRaise p (source.Raise line (raised_meant p (scope_of d0) r)) r d0 d2
+pub arm_raise : (p : Program) (line : ℕ) (r : Option Raised) (d0 d1 d2 : Draft) → LowersRaised p line r d0 d1 → Puts 0 2 (λ code. Both (Risk code d1.marks op.Raise line) (One code op.Discard line)) d1 d2 → LowersRaise p (source.Raise line (raised_meant p (scope_of d0) r)) r d0 d2
 arm_raise p line r d0 d1 d2 h w =
-    let here : Puts 2 (λ code. Both (Risk code d0.marks op.Raise line) (One code op.Discard line)) d1 d2 = subst (λ (ms : List CodeMark). Puts 2 (λ code. Both (Risk code ms op.Raise line) (One code op.Discard line)) d1 d2) (ap (λ (d : Draft). d.marks) h.rest) w in
+    let here : Puts 0 2 (λ code. Both (Risk code d0.marks op.Raise line) (One code op.Discard line)) d1 d2 = subst (λ (ms : List CodeMark). Puts 0 2 (λ code. Both (Risk code ms op.Raise line) (One code op.Discard line)) d1 d2) (ap (λ (d : Draft). d.marks) h.rest) w in
     lowers_as (lowers_join (raised_stable line d0.marks (raised_meant p (scope_of d0) r)) h (lowers_puts 0 0 here)) h.scope (λ code a z x. x) (omega arith) (omega arith) (omega arith) refl
 
 -- behind the event stands its target

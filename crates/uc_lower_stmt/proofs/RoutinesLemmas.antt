@@ -48,6 +48,10 @@ use Rattle.uc_lower_stmt.proofs.Unnumbered.{main_unnumbered}
 use Rattle.uc_lower_stmt.proofs.Counted.{behind_counted}
 use Rattle.uc_lower_stmt.proofs.Joined.{lowers_as, lowers_put}
 use Rattle.uc_lower_stmt.proofs.Shaping.{lowers_marked}
+use Rattle.uc_lower_stmt.specs.RowFit.{RoutineRows, RowsFit, open_rows}
+use Rattle.uc_code.specs.RowGrowth.{BeginBy}
+use Rattle.uc_code.proofs.Growth.{rows_closed}
+use Rattle.uc_lower_stmt.proofs.RowFitting.{fit_adds, fit_closed, fit_opened, fit_then}
 
 -- parameters one by one
 
@@ -194,10 +198,32 @@ module _ (p : Program) (r : Routine) (main : MainOf) (number line : ℕ) (body :
         scope = ap scope_of g5.rest ∙ ap scope_of g4.rest ∙ ap scope_of (like_closed 1 d2 d2 d3 refl ce) ∙ h.scope ∙ ap (scope_behind p body) scope1;
         opened = (let x = h.opened in omega arith);
         kept = kept_then (laid_in d0) (laid_in d1) code k1 (kept_then (laid_in d1) (laid_in d2) code h.kept keep2);
+        rows =
+            let one : RowsFit 0 d0 d2 = fit_then h.kept.longer (fit_opened (opening.Main main number line) d0 d1 oe) h.rows in
+            let e4 = g4.code.end in
+            let e5 = g5.code.end in
+            let same : new.rows ≡ d3.rows = ap (λ (d : Draft). d.rows) g5.rest ∙ ap (λ (d : Draft). d.rows) g4.rest in
+            fit_closed one (rows_closed 1 d2 d3 ce) same (ap open_rows marks2 ∙ sym (ap (λ (ms : List CodeMark). suc (open_rows ms)) none)) (ap (λ (d : Draft). open_rows d.marks) rest) (omega (arith, ops3, e4, e5)) (omega (arith, ops3, e4, e5));
         room = (let x = h.room in let y = g4.room in let z = g5.room in omega (arith, size, ops1, ops3));
         texts = (let x = h.texts in omega arith);
         cells = (let x = h.cells in omega arith);
         code = main_code code main number line (stmts_meant p body (scope_of d0)) (length d0.ops) (length new.ops) main_at;
+      }
+
+  pub main_rows : RoutineRows d0 new
+  main_rows =
+      let e4 = g4.code.end in
+      let e5 = g5.code.end in
+      let same : new.rows ≡ d3.rows = ap (λ (d : Draft). d.rows) g5.rest ∙ ap (λ (d : Draft). d.rows) g4.rest in
+      record {
+        few =
+            let x = whole.rows.few in
+            let y : open_rows new.marks ≡ open_rows d0.marks = ap (λ (d : Draft). open_rows d.marks) rest in
+            omega arith;
+        begin = λ k l w.
+            let up = h.kept.longer in
+            let two = h.rows.begin k (omega (arith, ops3)) ((fit_opened (opening.Main main number line) d0 d1 oe).begin k (omega (arith, ops3, up)) w) in
+            subst (BeginBy k) (sym same) ((rows_closed 1 d2 d3 ce).begin k (omega (arith, ops3)) two);
       }
 
   pub main_lowered : LowersRoutine p (purpose_by main) number r d0 new
@@ -226,6 +252,36 @@ called_lowered p r b number line body d0 d1 d2 d3 new none le be re e1 h e3 g =
     subst (λ (x : Base). LowersRoutine p (value_purpose p x) number r d0 new) re (
     subst (λ (ss : Stmts). LowersRoutine p (value_purpose p b) number (record r { body = ss }) d0 new) be (
     subst (λ (l : ℕ). LowersRoutine p (value_purpose p b) number (record r { body = body; brace = record r.brace { line = l } }) d0 new) le whole))
+
+-- a routine whose statements fit, and behind them an op at least
+routine_rows : (d0 d2 new : Draft) → RowsFit 0 d0 d2 → d2.marks ≡ d0.marks → new.rows ≡ d2.rows → length d2.ops + 1 ≤ length new.ops → RoutineRows d0 new
+routine_rows d0 d2 new h m e l = record {
+  few = let x = h.few in let y : open_rows d2.marks ≡ open_rows d0.marks = ap open_rows m in let z : length new.rows ≡ length d2.rows = ap length e in omega arith;
+  begin = λ k i w. subst (BeginBy k) (sym e) (h.begin k (omega arith) w);
+}
+
+end_some : (v : Bool) (line : ℕ) (code : Laid) (a z : ℕ) → EndCode v line code a z → a + 1 ≤ z
+end_some true line code a z h = let e = h.end in omega arith
+end_some false line code a z h = let e = h.first.end in let f = h.second.end in omega arith
+
+pub called_rows : (p : Program) (b : Base) (number line : ℕ) (body : Stmts) (d0 d1 d2 d3 new : Draft) → d1 ≡ record d0 { marks = mark.Body number ∷ d0.marks } → LowersStmts p line body d1 d2 → d3 ≡ record d2 { marks = left_marks d2.marks } → Adds 2 (EndCode (is_void b) line) d3 new → RoutineRows d0 new
+called_rows p b number line body d0 d1 d2 d3 new e1 h e3 g =
+    let within = lowers_marked (mark.Body number) d0 d3 refl e1 e3 h in
+    let l = end_some (is_void b) line (laid_in new) (length d3.ops) (length new.ops) g.code in
+    routine_rows d0 d3 new within.rows (ap (λ (d : Draft). d.marks) within.rest) (ap (λ (d : Draft). d.rows) g.rest) l
+
+-- the same draft, but for what is known of routines and of the place
+pub rows_routine : (d0 d1 d2 new : Draft) → d1.rows ≡ d0.rows → d1.ops ≡ d0.ops → new.rows ≡ d2.rows → new.ops ≡ d2.ops → RoutineRows d1 d2 → RoutineRows d0 new
+rows_routine d0 d1 d2 new r1 o1 r2 o2 h = record {
+  few =
+      let x = h.few in
+      let a : length d1.rows ≡ length d0.rows = ap length r1 in
+      let b : length d1.ops ≡ length d0.ops = ap length o1 in
+      let c : length new.rows ≡ length d2.rows = ap length r2 in
+      let e : length new.ops ≡ length d2.ops = ap length o2 in
+      omega arith;
+  begin = λ k l w. let e : length new.ops ≡ length d2.ops = ap length o2 in subst (BeginBy k) (sym r2) (h.begin k (omega arith) (subst (BeginBy k) (sym r1) w));
+}
 
 -- behind those of a mutex member, and in the scope that leaves its object
 
@@ -312,6 +368,9 @@ module _ (p : Program) (v : Bool) (routine line : ℕ) (body : Stmts) (d1 d2 d3 
         scope = ap scope_of c5.rest ∙ (ap scope_of g4.rest ∙ (h.scope ∙ ap (scope_behind p body) scope2));
         opened = (let x = h.opened in omega arith);
         kept = kept_then (laid_in d1) (laid_in d2) last k2 (kept_then (laid_in d2) (laid_in d3) last h.kept stays4);
+        rows =
+            let one : RowsFit 0 d1 d3 = fit_then h.kept.longer (fit_opened (opening.Object cleaning.Leave 0) d1 d2 e2) h.rows in
+            fit_then c5.kept.longer (fit_then g4.kept.longer one (fit_adds g4)) c5.rows;
         room = (let x = h.room in let y = g4.room in let z = c5.room in omega (arith, size, ops2));
         texts = (let x = h.texts in omega arith);
         cells = (let x = h.cells in omega arith);
@@ -323,6 +382,15 @@ abbrev MutexOf : Program → Base → ℕ → ℕ → Stmts → Draft → Draft 
 MutexOf p b last line body old new =
     Lowers (OPS_FOR_SIZE * (1 + sizes_at body 0)) (stmts_size body) (stmts_cells body (declared_cells p)) (stmts_scopes body)
     (λ code. Both (StmtsAt code (mark.Body last ∷ []) 0 (source.Scoped source.Leaves (source.Then (source.Block line (stmts_meant p body (scope_of old))) (owing p line (value_purpose p b))))) (One code op.Return 0)) (scope_behind p body (scope_of old)) old new
+
+pub mutex_rows : (p : Program) (b : Base) (number line : ℕ) (body : Stmts) (d0 d1 d2 d3 d4 d5 d6 new : Draft) → d0.marks ≡ []
+    → d1 ≡ record d0 { marks = mark.Body number ∷ d0.marks } → d2 ≡ opened (opening.Object cleaning.Leave 0) d1 → Kept (laid_in d1) (laid_in d2) → LowersStmts p line body d2 d3 → Adds 1 (OwedCode (is_void b) line) d3 d4
+    → ClosesScope call_room cleaning.Leave 0 d4 d5 → d6 ≡ record d5 { marks = left_marks d5.marks } → Adds 1 (OpCode 0 op.Return) d6 new → RoutineRows d0 new
+mutex_rows p b number line body d0 d1 d2 d3 d4 d5 d6 new none e1 e2 k2 h g4 c5 e6 g =
+    let is : d1.marks ≡ mark.Body number ∷ [] = ap (λ (d : Draft). d.marks) e1 ∙ ap (λ (ms : List CodeMark). mark.Body number ∷ ms) none in
+    let within = lowers_marked (mark.Body number) d0 d6 refl e1 e6 (mutex_scoped p (is_void b) number line body d1 d2 d3 d4 d5 is e2 k2 h g4 c5) in
+    let l = g.code.end in
+    routine_rows d0 d6 new within.rows (ap (λ (d : Draft). d.marks) within.rest) (ap (λ (d : Draft). d.rows) g.rest) (omega arith)
 
 pub mutex_lowered : (p : Program) (r : Routine) (b : Base) (number line : ℕ) (body : Stmts) (d0 d1 d2 d3 d4 d5 d6 new : Draft) → d0.marks ≡ [] → line ≡ r.brace.line → body ≡ r.body → b ≡ r.sig.ret
     → d1 ≡ record d0 { marks = mark.Body number ∷ d0.marks } → d2 ≡ opened (opening.Object cleaning.Leave 0) d1 → Kept (laid_in d1) (laid_in d2) → LowersStmts p line body d2 d3 → Adds 1 (OwedCode (is_void b) line) d3 d4

@@ -26,6 +26,7 @@ lowers_scoped {n} {k} {c} {o} {S} {t} {old} {last} out new oe te h e =
       scope = ap (λ (x : Scope). let y : Scope = record x { names = take (length old.names) x.names } in y) g.scope ∙ ap (λ (ns : List LocalVariable). let y : Scope = record t { names = ns } in y) te;
       opened = let x = g.opened in omega arith;
       kept = g.kept;
+      rows = record { few = g.rows.few; begin = g.rows.begin };
       room = g.room;
       texts = g.texts;
       cells = g.cells;

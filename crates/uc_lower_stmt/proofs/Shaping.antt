@@ -14,6 +14,8 @@ use Rattle.uc_code.proofs.Patches.{bare_stays, length-patched, patched_at, same_
 use Rattle.uc_lower_expr.specs.DraftGrowth.{Adds}
 use Rattle.uc_lower_stmt.specs.LowersStatement.{Lowers}
 use Rattle.uc_lower_stmt.specs.Control.{BeginCode}
+use Rattle.uc_lower_stmt.specs.RowFit.{open_rows}
+use Rattle.uc_lower_stmt.proofs.RowFitting.{fit_like}
 
 -- code with at most n ops more, for which S holds
 pub record Longer (n : ℕ) (S : Laid → ℕ → ℕ → Type 0) (old new : Laid) : Type 0 where
@@ -39,13 +41,14 @@ longer_both {m} {n} {B} {C} {old} {mid} {new} b h g = record {
 }
 
 -- what came to a draft besides its ops stays where these are replaced
-pub lowers_done : {n k c o m : ℕ} {S T : Laid → ℕ → ℕ → Type 0} {s : Scope} {old mid new : Draft} → Lowers n k c o S s old mid → new ≡ record mid { ops = new.ops } → Longer m T (laid_in old) (record { ops = new.ops; rows = mid.rows }) → Lowers m k c o T s old new
-lowers_done {n} {k} {c} {o} {m} {S} {T} {s} {old} {mid} {new} h e g =
+pub lowers_done : {n k c o m : ℕ} {S T : Laid → ℕ → ℕ → Type 0} {s : Scope} {old mid new : Draft} → Lowers n k c o S s old mid → new ≡ record mid { ops = new.ops } → length new.ops ≡ length mid.ops → Longer m T (laid_in old) (record { ops = new.ops; rows = mid.rows }) → Lowers m k c o T s old new
+lowers_done {n} {k} {c} {o} {m} {S} {T} {s} {old} {mid} {new} h e l g =
     subst (λ (d : Draft). Lowers m k c o T s old d) (sym e) (record {
       rest = ap (λ (d : Draft). let x : Draft = record d { ops = new.ops } in x) h.rest;
       scope = h.scope;
       opened = h.opened;
       kept = g.kept;
+      rows = fit_like old (record mid { ops = new.ops }) refl refl refl refl l refl h.rows;
       room = g.room;
       texts = h.texts;
       cells = h.cells;
@@ -64,6 +67,14 @@ lowers_marked {n} {k} {c} {o} {S} {s} {mid} {last} m old new l e f h =
       scope = g.scope;
       opened = g.opened;
       kept = g.kept;
+      rows = record {
+        few =
+            let x = g.rows.few in
+            let inner : open_rows last.marks ≡ open_rows (m ∷ old.marks) = ap (λ (d : Draft). open_rows d.marks) g.rest in
+            let outer : open_rows (left_marks last.marks) ≡ open_rows old.marks = ap (λ (d : Draft). open_rows (left_marks d.marks)) g.rest ∙ ap open_rows l in
+            omega arith;
+        begin = g.rows.begin;
+      };
       room = g.room;
       texts = g.texts;
       cells = g.cells;

@@ -17,7 +17,8 @@ use Rattle.uc_tree.specs.Numbering.{own_texts, own_sites}
 use Rattle.uc_tree.specs.Programs.{Program}
 use Rattle.uc_tree.specs.Source.{Shape, Expr}
 use Rattle.uc_tree.specs.Objects.{shape_of}
-use Rattle.uc_resolve.specs.Resolve.{Scope, meant, value_of, converted, result_of, targets_meant, scope_past, scope_after}
+use Rattle.uc_code.specs.Layout.{Laid, laid_in}
+use Rattle.uc_resolve.specs.Resolve.{Scope, context_at, meant, value_of, converted, result_of, targets_meant, scope_past, scope_after}
 use Rattle.uc_code.specs.declared.op.Op.TheVariants as op
 use Rattle.uc_code.specs.declared.rows.Cleaning.TheVariants as cleaning
 use Rattle.uc_code.specs.declared.rows.CodeMark.{CodeMark}
@@ -29,7 +30,8 @@ use Rattle.uc_code.specs.Exits.{way_of}
 use Rattle.uc_code.specs.Lowered.{ExitAt}
 use Rattle.uc_code.specs.OpenRows.{exit_room}
 use Rattle.uc_code.specs.Emits.{Puts}
-use Rattle.uc_code.proofs.Putting.{puts_both}
+use Rattle.uc_code.specs.RowCounts.{loop_rows, return_rows}
+use Rattle.uc_code.proofs.Putting.{puts_rows}
 use Rattle.uc_lower_expr.specs.declared.meaning.Scalar.{Scalar}
 use Rattle.uc_lower_expr.specs.Contexts.{context_in}
 use Rattle.uc_lower_expr.specs.Meanings.{shape_as}
@@ -42,7 +44,8 @@ use Rattle.uc_lower_stmt.specs.LowersStatement.{Lowers, LowersStmt, LowersStmts,
 use Rattle.uc_lower_stmt.specs.Marked.{calls_in, objects_in}
 use Rattle.uc_lower_stmt.specs.Pieces.{ItemsCode, TogetherCode, TargetsCode}
 use Rattle.uc_lower_stmt.specs.Control.{ReturnCode, LowersDeclaration, LowersIf, LowersLoop, LowersFor, maybe_past, for_past}
-use Rattle.uc_lower_stmt.proofs.Joined.{lowers_adds, lowers_nothing, lowers_as, lowers_puts, puts_adds}
+use Rattle.uc_lower_stmt.proofs.Joined.{lowers_adds, lowers_nothing, lowers_as, lowers_rows, puts_adds, puts_counted}
+use Rattle.uc_lower_stmt.proofs.RowFitting.{break_long, continue_long, end_long, return_long}
 use Rattle.uc_lower_stmt.proofs.Printing.{with_texts, texts_among, items_at}
 use Rattle.uc_lower_stmt.proofs.Counted.{counted, counted_as, with_is, nothing_counted, texts_counted, declared_counted, behind_counted}
 use Rattle.uc_lower_stmt.proofs.Scoping.{opened, lowers_scoped, back_out}
@@ -185,35 +188,42 @@ exit_counted (mark.Outward below row ∷ ms) = omega arith
 pub exit_few : (ms : List CodeMark) → exit_room ms ≤ 24 + 23 * objects_in ms
 exit_few ms = let h = exit_counted ms in let k = calls_few ms in omega arith
 
-pub arm_break : (p : Program) (s : Stmt) (place : Pos) (old new : Draft) → Break place ≡ s → Puts (exit_room old.marks) (λ code. ExitAt code (way_of way.Break) old.marks) old new → LowersStmt p s old new
+pub arm_break : (p : Program) (s : Stmt) (place : Pos) (old new : Draft) → Break place ≡ s → Puts (loop_rows old.marks) (exit_room old.marks) (λ code. ExitAt code (way_of way.Break) old.marks) old new → LowersStmt p s old new
 arm_break p s place old new h a =
     let few = exit_few old.marks in
-    as_stmt p s (Break place) old new h (lowers_as (lowers_puts 0 0 a) (nothing_counted (scope_of old)) (λ code x z w. w) (omega arith) (omega arith) (omega arith) (omega arith))
+    as_stmt p s (Break place) old new h (lowers_as (lowers_rows 0 0 (break_long (laid_in new) old.marks (length old.ops) (length new.ops) a.code) a) (nothing_counted (scope_of old)) (λ code x z w. w) (omega arith) (omega arith) (omega arith) (omega arith))
 
-pub arm_continue : (p : Program) (s : Stmt) (place : Pos) (old new : Draft) → Continue place ≡ s → Puts (exit_room old.marks) (λ code. ExitAt code (way_of way.Continue) old.marks) old new → LowersStmt p s old new
+pub arm_continue : (p : Program) (s : Stmt) (place : Pos) (old new : Draft) → Continue place ≡ s → Puts (loop_rows old.marks) (exit_room old.marks) (λ code. ExitAt code (way_of way.Continue) old.marks) old new → LowersStmt p s old new
 arm_continue p s place old new h a =
     let few = exit_few old.marks in
-    as_stmt p s (Continue place) old new h (lowers_as (lowers_puts 0 0 a) (nothing_counted (scope_of old)) (λ code x z w. w) (omega arith) (omega arith) (omega arith) (omega arith))
+    as_stmt p s (Continue place) old new h (lowers_as (lowers_rows 0 0 (continue_long (laid_in new) old.marks (length old.ops) (length new.ops) a.code) a) (nothing_counted (scope_of old)) (λ code x z w. w) (omega arith) (omega arith) (omega arith) (omega arith))
 
-pub arm_return : (p : Program) (s : Stmt) (place : Pos) (value : Option tree.Expr) (old new : Draft) → Return place value ≡ s → Puts (OPS_FOR_SIZE * (1 + maybe_expr_size value + objects_in old.marks)) (ReturnCode p place.line old.marks (scope_of old) value) old new → LowersStmt p s old new
-arm_return p s place value old new h a = as_stmt p s (Return place value) old new h (lowers_as (lowers_puts 0 0 a) (nothing_counted (scope_of old)) (λ code x z w. w) (omega arith) (omega arith) (omega arith) (omega arith))
+value_long : (p : Program) (line : ℕ) (ms : List CodeMark) (s : Scope) (value : Option tree.Expr) (code : Laid) (a z : ℕ) → ReturnCode p line ms s value code a z → return_rows ms + a ≤ z
+value_long p line ms s None code a z h = end_long code ms a z h
+value_long p line ms s (Some e) code a z h =
+    let m = (expr_stable line ms (converted (shape_of (result_of p s.routine)) (value_of (meant (context_at p s) e)))).rises code a h.middle h.first in
+    let r = return_long code ms h.middle z h.second in
+    omega arith
+
+pub arm_return : (p : Program) (s : Stmt) (place : Pos) (value : Option tree.Expr) (old new : Draft) → Return place value ≡ s → Puts (return_rows old.marks) (OPS_FOR_SIZE * (1 + maybe_expr_size value + objects_in old.marks)) (ReturnCode p place.line old.marks (scope_of old) value) old new → LowersStmt p s old new
+arm_return p s place value old new h a = as_stmt p s (Return place value) old new h (lowers_as (lowers_rows 0 0 (value_long p place.line old.marks (scope_of old) value (laid_in new) (length old.ops) (length new.ops) a.code) a) (nothing_counted (scope_of old)) (λ code x z w. w) (omega arith) (omega arith) (omega arith) (omega arith))
 
 -- a return's value
 pub arm_handed : (p : Program) (n line r : ℕ) (value : Option tree.Expr) (e : tree.Expr) (v : Scalar) (d0 d1 d2 d3 : Draft) → value ≡ Some e → r ≡ d1.place.routine → shape_of (result_of p r) ≡ shape_as v → Adds n (ExprCode line d0.marks (value_of (meant (context_in p d0) e))) d0 d1 → Adds 1 (ConvertCode line (shape_as v)) d1 d2
-    → Puts (exit_room d2.marks) (λ code. ExitAt code (way_of way.Value) d2.marks) d2 d3 → Puts (n + 1 + exit_room d0.marks) (ReturnCode p line d0.marks (scope_of d0) value) d0 d3
+    → Puts (return_rows d2.marks) (exit_room d2.marks) (λ code. ExitAt code (way_of way.Value) d2.marks) d2 d3 → Puts (return_rows d0.marks) (n + 1 + exit_room d0.marks) (ReturnCode p line d0.marks (scope_of d0) value) d0 d3
 arm_handed p n line r value e v d0 d1 d2 d3 is at shape a b c =
     let x : Expr = value_of (meant (context_in p d0) e) in
     let marks : d2.marks ≡ d0.marks = ap (λ (d : Draft). d.marks) b.rest ∙ ap (λ (d : Draft). d.marks) a.rest in
     let routine : d0.place.routine ≡ r = sym (ap (λ (d : Draft). d.place.routine) a.rest) ∙ sym at in
     let kept : shape_of (result_of p d0.place.routine) ≡ shape_as v = ap (λ (k : ℕ). shape_of (result_of p k)) routine ∙ shape in
     let b1 : Adds 1 (ConvertCode line (shape_of (result_of p d0.place.routine))) d1 d2 = subst (λ (y : Shape). Adds 1 (ConvertCode line y) d1 d2) (sym kept) b in
-    let c1 : Puts (exit_room d0.marks) (λ code. ExitAt code (way_of way.Value) d0.marks) d2 d3 = subst (λ (ms : List CodeMark). Puts (exit_room ms) (λ code. ExitAt code (way_of way.Value) ms) d2 d3) marks c in
+    let c1 : Puts (return_rows d0.marks) (exit_room d0.marks) (λ code. ExitAt code (way_of way.Value) d0.marks) d2 d3 = subst (λ (ms : List CodeMark). Puts (return_rows ms) (exit_room ms) (λ code. ExitAt code (way_of way.Value) ms) d2 d3) marks c in
     let y : Expr = converted (shape_of (result_of p d0.place.routine)) x in
     let whole : Adds (n + 1) (ExprCode line d0.marks y) d0 d2 = adds_as (adds_both (expr_stable line d0.marks x) a b1) (λ code u z w. converted_at d0.marks line (shape_of (result_of p d0.place.routine)) x code u z w) in
-    subst (λ (o : Option tree.Expr). Puts (n + 1 + exit_room d0.marks) (ReturnCode p line d0.marks (scope_of d0) o) d0 d3) (sym is) (puts_both (expr_stable line d0.marks y) (puts_adds whole) c1)
+    subst (λ (o : Option tree.Expr). Puts (return_rows d0.marks) (n + 1 + exit_room d0.marks) (ReturnCode p line d0.marks (scope_of d0) o) d0 d3) (sym is) (puts_counted (omega arith) (puts_rows (expr_stable line d0.marks y) (puts_adds whole) c1))
 
-pub arm_ended : (p : Program) (line : ℕ) (value : Option tree.Expr) (d0 d1 : Draft) → value ≡ None → Puts (exit_room d0.marks) (λ code. ExitAt code (way_of way.End) d0.marks) d0 d1 → Puts (exit_room d0.marks) (ReturnCode p line d0.marks (scope_of d0) value) d0 d1
-arm_ended p line value d0 d1 is a = subst (λ (o : Option tree.Expr). Puts (exit_room d0.marks) (ReturnCode p line d0.marks (scope_of d0) o) d0 d1) (sym is) a
+pub arm_ended : (p : Program) (line : ℕ) (value : Option tree.Expr) (d0 d1 : Draft) → value ≡ None → Puts (return_rows d0.marks) (exit_room d0.marks) (λ code. ExitAt code (way_of way.End) d0.marks) d0 d1 → Puts (return_rows d0.marks) (exit_room d0.marks) (ReturnCode p line d0.marks (scope_of d0) value) d0 d1
+arm_ended p line value d0 d1 is a = subst (λ (o : Option tree.Expr). Puts (return_rows d0.marks) (exit_room d0.marks) (ReturnCode p line d0.marks (scope_of d0) o) d0 d1) (sym is) a
 
 -- lists of statements
 

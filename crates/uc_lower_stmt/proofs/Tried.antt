@@ -38,6 +38,9 @@ use Rattle.uc_lower_stmt.proofs.Joined.{lowers_as}
 use Rattle.uc_lower_stmt.proofs.Kept.{handlers_stable, stmts_stable}
 use Rattle.uc_lower_stmt.proofs.Scoping.{back_out, lowers_scoped, opened}
 use Rattle.uc_lower_stmt.proofs.Stating.{as_stmt}
+use Rattle.uc_lower_stmt.specs.RowFit.{RowsFit, open_rows}
+use Rattle.uc_code.specs.RowGrowth.{BeginBy}
+use Rattle.uc_lower_stmt.proofs.RowFitting.{fit_like, open_guards_rows}
 
 -- what was laid out before a place stays where the op at the place is another one
 kept_patch : (old now : Laid) (at : ℕ) (o : Op) → Kept old now → length old.ops ≤ at → Kept old (record { ops = patched now.ops at o; rows = now.rows })
@@ -49,10 +52,10 @@ kept_patch old now at o k l = record {
   bare = λ number w. bare_stays now (record { ops = patched now.ops at o; rows = now.rows }) refl number (k.bare number w);
 }
 
-module _ (line start first end n nn m k c o j b q : ℕ) (hs : source.Handlers) (ss : Stmts) (mid after : Scope) (d0 d1 d2 d3 d4 d5 d6 d7 new : Draft)
-    (st : start ≡ length d0.ops) (fe : first ≡ length d2.rows) (ne : n ≡ handler_rows hs) (g1 : Adds 1 (OpCode line (op.Jump (start + 2))) d0 d1) (g2 : Adds 1 (OpCode line (op.Jump 0)) d1 d2)
+module _ (less line start first end n nn m k c o j b q : ℕ) (hs : source.Handlers) (ss : Stmts) (mid after : Scope) (d0 d1 d2 d3 d4 d5 d6 d7 new : Draft)
+    (st : start ≡ length d0.ops) (fe : first ≡ length d2.rows) (ne : n ≡ handler_rows hs) (paid : n ≤ less) (g1 : Adds 1 (OpCode line (op.Jump (start + 2))) d0 d1) (g2 : Adds 1 (OpCode line (op.Jump 0)) d1 d2)
     (og : OpensGuards n d2 d3) (h : Lowers nn k c o (λ code. StmtsAt code d3.marks line ss) mid d3 d4) (cg : (f : ℕ) (ns : List CodeMark) → d4.marks ≡ guards f n ns → ClosesGuards f n ns d4 d5)
-    (g6 : Adds 1 (OpCode line (op.Jump (start + 1))) d5 d6) (w : LowersFrom first m j b q (λ code. HandlersAt code d6.marks first (start + 1) hs) after d6 d7)
+    (g6 : Adds 1 (OpCode line (op.Jump (start + 1))) d5 d6) (w : LowersFrom less first m j b q (λ code. HandlersAt code d6.marks first (start + 1) hs) after d6 d7)
     (ee : end ≡ length d7.ops) (pt : new ≡ record d7 { ops = patched d7.ops (start + 1) (op.Jump end) }) where
   abbrev a : ℕ
   a = length d0.ops
@@ -207,6 +210,29 @@ module _ (line start first end n nn m k c o j b q : ℕ) (hs : source.Handlers) 
       is ∙ ap (λ (d : Draft). let x : Draft = record d { ops = now.ops } in x) w.rest
       ∙ ap (λ (d : Draft). let x : Draft = record d { ops = now.ops; rows = d7.rows; settled = d7.settled; scopes = d7.scopes; names = d7.names; cells = d7.cells; hidden = d7.hidden; texts = d7.texts; sites = d7.sites } in x) six_is
 
+  grown : RowsFit 0 d0 d7
+  grown = record {
+    few =
+        let a2 : length d3.rows ≡ length d2.rows + n = og.rows.more in
+        let a4 = h.rows.few in
+        let a5 = closes.rows.more in
+        let a6 : length d6.rows ≡ length d5.rows = ap (λ (d : Draft). length d.rows) g6.rest in
+        let a7 = w.rows.few in
+        let m3 : open_rows d3.marks ≡ n + open_rows ms = ap open_rows inside ∙ open_guards_rows first n ms in
+        let m4 : open_rows d4.marks ≡ n + open_rows ms = ap open_rows marks_four ∙ open_guards_rows first n ms in
+        let m6 : open_rows d6.marks ≡ open_rows ms = ap open_rows marks_six in
+        let m7 : open_rows d7.marks ≡ open_rows d6.marks = ap (λ (d : Draft). open_rows d.marks) w.rest in
+        omega (arith, rows_two, long_three, long_six, paid);
+    begin = λ x l u.
+        let up = w.kept.longer in
+        let four = h.kept.longer in
+        let none : BeginBy x d2.rows = subst (BeginBy x) (sym (ap (λ (d : Draft). d.rows) g2.rest ∙ ap (λ (d : Draft). d.rows) g1.rest)) u in
+        let three = og.rows.begin x (omega (arith, long_two, long_three, long_six)) none in
+        let body = h.rows.begin x (omega (arith, long_six)) three in
+        let five = closes.rows.begin x (omega (arith, long_six)) body in
+        w.rows.begin x l (subst (BeginBy x) (sym (ap (λ (d : Draft). d.rows) g6.rest)) five);
+  }
+
   pub arm_guarded : Lowers (3 + nn + m) (k + j) (c + b) (o + q) (λ code. Guarded code line ms (handler_rows hs) (λ ns. StmtsAt code ns line ss) (λ f pad. HandlersAt code ms f pad hs)) after d0 new
   arm_guarded =
       let texts_three : d3.texts ≡ d0.texts = ap (λ (d : Draft). d.texts) three in
@@ -224,6 +250,7 @@ module _ (line start first end n nn m k c o j b q : ℕ) (hs : source.Handlers) 
         rest = subst (λ (d : Draft). d ≡ record d0 { ops = d.ops; rows = d.rows; settled = d.settled; scopes = d.scopes; names = d.names; cells = d.cells; hidden = d.hidden; texts = d.texts; sites = d.sites }) (sym new_is) refl;
         scope = ap scope_of is ∙ w.scope;
         opened = let x = h.opened in let y = w.opened in omega arith;
+        rows = fit_like d0 new refl refl refl (ap (λ (d : Draft). d.rows) is) (long_new ∙ long) (ap (λ (d : Draft). open_rows d.marks) is) grown;
         kept = subst (λ (code : Laid). Kept (laid_in d0) code) (sym laid_new) (kept_patch (laid_in d0) was (a + 1) (op.Jump (length d7.ops)) kept_all (omega arith));
         room = let x = h.room in let y = w.room in let z = long in let v = long_six in let u = long_three in omega arith;
         texts = let x = h.texts in let y = w.texts in omega arith;
@@ -260,10 +287,10 @@ arm_try p line brace start first end n body hs out d0 d1 d2 d3 b1 b2 d4 d5 d6 d7
     let exits6 = ap (exits_handlers hs) objects6 in
     let sources : source.Handlers = handlers_meant p hs past in
     let m : ℕ = OPS_FOR_SIZE * (handlers_size hs + exits_handlers hs (objects_in d6.marks)) in
-    let laid : LowersFrom first m (handlers_size hs) (handlers_cells hs (declared_cells p)) (handlers_scopes hs) (λ code. HandlersAt code d6.marks first (start + 1) sources) (past_handlers p hs past) d6 d7 =
-    from_as w (ap (past_handlers p hs) scope6) (λ code a z x. subst (λ (t : Scope). HandlersAt code d6.marks first (start + 1) (handlers_meant p hs t) a z) scope6 x) (omega arith) (omega arith) (omega arith) refl in
-    let all = arm_guarded line start first end n (OPS_FOR_SIZE * sizes_at body (objects_in d3.marks)) m (stmts_size body) (stmts_cells body (declared_cells p)) (1 + stmts_scopes body) (handlers_size hs) (handlers_cells hs (declared_cells p)) (handlers_scopes hs)
-    sources ss past (past_handlers p hs past) d0 d1 d2 d3 d4 d5 d6 d7 new st fe (ne ∙ sym (rows_are p hs past)) g1 g2 og block cg g6 laid ee pt in
+    let laid : LowersFrom (length (tree.handler_list hs)) first m (handlers_size hs) (handlers_cells hs (declared_cells p)) (handlers_scopes hs) (λ code. HandlersAt code d6.marks first (start + 1) sources) (past_handlers p hs past) d6 d7 =
+    from_as w (omega arith) (ap (past_handlers p hs) scope6) (λ code a z x. subst (λ (t : Scope). HandlersAt code d6.marks first (start + 1) (handlers_meant p hs t) a z) scope6 x) (omega arith) (omega arith) (omega arith) refl in
+    let all = arm_guarded (length (tree.handler_list hs)) line start first end n (OPS_FOR_SIZE * sizes_at body (objects_in d3.marks)) m (stmts_size body) (stmts_cells body (declared_cells p)) (1 + stmts_scopes body) (handlers_size hs) (handlers_cells hs (declared_cells p)) (handlers_scopes hs)
+    sources ss past (past_handlers p hs past) d0 d1 d2 d3 d4 d5 d6 d7 new st fe (ne ∙ sym (rows_are p hs past)) (omega (arith, ne)) g1 g2 og block cg g6 laid ee pt in
     lowers_as all refl (λ code a z x. x) (omega (arith, size3, exits6)) (omega arith) (omega arith) refl
 
 -- behind one

@@ -29,6 +29,7 @@ use Rattle.uc_lower_stmt.proofs.Joined.{lowers_adds, lowers_as, lowers_join, low
 use Rattle.uc_lower_stmt.proofs.Kept.{stmt_stable, step_stable}
 use Rattle.uc_lower_stmt.proofs.Shaping.{Longer, adds_longer, lowers_longer, longer_turns, lowers_done, lowers_marked}
 use Rattle.uc_lower_stmt.proofs.Choosing.{AloneIn, alone_as}
+use Rattle.uc_code.proofs.Patches.{length-patched}
 
 -- what a loop asks of the scope of its body is the same behind it
 
@@ -47,6 +48,12 @@ begin_stable line = both (one_stable (op.Jump 0) line) (both (one_stable (op.Jum
 -- the ops of a loop with its jump and its pads
 abbrev looped : Order → ℕ → ℕ → ℕ → List Instruction → List Instruction
 looped order start step_at test_at ops = patched (patched (patched ops start (op.Jump (begin_at order (start + 3) test_at))) (start + 1) (op.Jump (length ops))) (start + 2) (op.Jump step_at)
+
+length-looped : (order : Order) (start step_at test_at : ℕ) (ops : List Instruction) → length (looped order start step_at test_at ops) ≡ length ops
+length-looped order start step_at test_at ops =
+    let one : List Instruction = patched ops start (op.Jump (begin_at order (start + 3) test_at)) in
+    let two : List Instruction = patched one (start + 1) (op.Jump (length ops)) in
+    length-patched two (start + 2) (op.Jump step_at) ∙ length-patched one (start + 1) (op.Jump (length ops)) ∙ length-patched ops start (op.Jump (begin_at order (start + 3) test_at))
 
 module _ (p : Program) (line : ℕ) (t : Turning) (step : Option tree.Expr) (body : Stmt) (old e1 m1 m2 e2 e3 e4 new : Draft) (start step_at test_at : ℕ)
     (g : Adds 4 (BeginCode line) old e1) (st : start ≡ length old.ops) (en : m1 ≡ record e1 { marks = mark.Loop (start + 1) (start + 2) ∷ e1.marks }) (h : LowersAlone p body m1 m2) (lv : e2 ≡ record m2 { marks = left_marks m2.marks })
@@ -119,4 +126,4 @@ module _ (p : Program) (line : ℕ) (t : Turning) (step : Option tree.Expr) (bod
       let two = both one (step_stable line ms (step_of p s step)) in
       let all = lowers_put two (lowers_put one (lowers_join (begin_stable line) (lowers_adds 0 0 g) turn) steps) tests in
       let ops_are : new ≡ record e4 { ops = new.ops } = f ∙ ap (λ (l : List Instruction). let d : Draft = record e4 { ops = l } in d) (sym (ap (λ (d : Draft). d.ops) f)) in
-      lowers_as (lowers_done all ops_are whole) refl (λ code x z w. w) (omega arith) (omega arith) (omega arith) (omega arith)
+      lowers_as (lowers_done all ops_are (ap length is ∙ length-looped (turning_order t) n (length e2.ops) (length e3.ops) e4.ops) whole) refl (λ code x z w. w) (omega arith) (omega arith) (omega arith) (omega arith)

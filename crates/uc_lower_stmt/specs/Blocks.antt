@@ -17,6 +17,7 @@ use Rattle.uc_lower_expr.specs.declared.making.Made.{Made}
 use Rattle.uc_lower_expr.specs.Members.{made_routine}
 use Rattle.uc_lower_stmt.specs.declared.block.ObjectScope.{ObjectScope}
 use Rattle.uc_lower_stmt.specs.Marked.{taken}
+use Rattle.uc_lower_stmt.specs.RowFit.{RowsFit}
 use Rattle.uc_lower_stmt.specs.OpenScopes.{Step, NoParts, Pending, block_of}
 
 -- what builds and destroys what is made, and nobody wrote, stands further on than the routine of these marks
@@ -33,6 +34,7 @@ pub record BlockStands (line : ℕ) (ms : List CodeMark) (ss : Stmts) (a : ℕ) 
 pub record EndsScopes (count : ℕ) (old new : Draft) : Type 0 where
   pub rest : new ≡ record old { ops = new.ops; rows = new.rows; settled = new.settled; marks = new.marks }
   pub kept : Kept (laid_in old) (laid_in new)
+  pub rows : RowsFit 0 old new
   pub room : taken new ≤ taken old
   pub block : (line a y : ℕ) (ks : List Step) (ms : List CodeMark) (ss : Stmts) → length ms ≡ count → NoParts ks → Pending (laid_in old) line ms a ks old.marks y → StmtsAt (laid_in old) old.marks line ss y (length old.ops) → BlockStands line ms (block_of ks ss) a new
 
@@ -49,6 +51,7 @@ pub record Unended (line : ℕ) (ms : List CodeMark) (whole : Stmts) (a : ℕ) (
 pub record EndingScopes (count : ℕ) (old now : Draft) : Type 0 where
   pub rest : now ≡ record old { ops = now.ops; rows = now.rows; settled = now.settled; marks = now.marks }
   pub kept : Kept (laid_in old) (laid_in now)
+  pub rows : RowsFit 0 old now
   pub room : taken now ≤ taken old
   pub block : (line a y : ℕ) (ks : List Step) (ms : List CodeMark) (ss : Stmts) → length ms ≡ count → NoParts ks → Pending (laid_in old) line ms a ks old.marks y → StmtsAt (laid_in old) old.marks line ss y (length old.ops) → Unended line ms (block_of ks ss) a now
 

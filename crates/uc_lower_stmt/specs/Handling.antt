@@ -18,6 +18,7 @@ use Rattle.uc_code.specs.CodeShapes.{Both, HandledAt, HandlerAt}
 use Rattle.uc_lower_stmt.specs.Guarding.{KeptUnder, LowersFrom}
 use Rattle.uc_lower_stmt.specs.Marked.{objects_in}
 use Rattle.uc_lower_stmt.specs.LowersStatement.{Lowers, scope_of, sizes_at}
+use Rattle.uc_lower_stmt.specs.RowFit.{RowsFit}
 
 -- one handler
 
@@ -34,6 +35,7 @@ pub record EntersHandler (p : Program) (row : ℕ) (resumes : Bool) (event param
   pub scope : scope_of new ≡ record (with_event p param event (scope_of old)) { handled = old.hidden; hidden = old.hidden + KEPT_CELLS }
   pub opened : new.scopes ≡ old.scopes + 1
   pub kept : KeptUnder row (laid_in old) (laid_in new)
+  pub rows : RowsFit 1 old new
   pub room : length new.ops ≤ length old.ops + 6
   pub named : IsNamed (event_of_handler p event)
   pub handler : HandlerAt (laid_in new) row (handler_of resumes (event_of_handler p event) (length (handlers old.marks)) (length old.ops))
@@ -47,7 +49,7 @@ LowersBody p pad resumes line body old new =
 
 abbrev pub LowersHandler : Program → ℕ → ℕ → tree.Handler → Draft → Draft → Type 0
 LowersHandler p row pad h old new =
-    LowersFrom row (OPS_FOR_SIZE * (handler_size h + exits_handler h (objects_in old.marks))) (handler_size h) (handler_cells h (declared_cells p)) (handler_scopes h) (HandlerCode p row pad old.marks h (scope_of old)) (scope_past_handler p h (scope_of old)) old new
+    LowersFrom 1 row (OPS_FOR_SIZE * (handler_size h + exits_handler h (objects_in old.marks))) (handler_size h) (handler_cells h (declared_cells p)) (handler_scopes h) (HandlerCode p row pad old.marks h (scope_of old)) (scope_past_handler p h (scope_of old)) old new
 
 -- all handlers of a block
 
@@ -57,7 +59,7 @@ past_handlers p (tree.MoreHandlers h hs) s = past_handlers p hs (scope_past_hand
 
 abbrev pub LowersHandlers : Program → ℕ → ℕ → tree.Handlers → Draft → Draft → Type 0
 LowersHandlers p first pad hs old new =
-    LowersFrom first (OPS_FOR_SIZE * (handlers_size hs + exits_handlers hs (objects_in old.marks))) (handlers_size hs) (handlers_cells hs (declared_cells p)) (handlers_scopes hs)
+    LowersFrom (length (tree.handler_list hs)) first (OPS_FOR_SIZE * (handlers_size hs + exits_handlers hs (objects_in old.marks))) (handlers_size hs) (handlers_cells hs (declared_cells p)) (handlers_scopes hs)
     (λ code. HandlersAt code old.marks first pad (handlers_meant p hs (scope_of old))) (past_handlers p hs (scope_of old)) old new
 
 -- a guarded block of this line, whose own block has that of its brace

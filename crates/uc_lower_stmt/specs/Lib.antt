@@ -11,4 +11,5 @@ pub mod OpenScopes
 pub mod Pieces
 pub mod Raising
 pub mod Routines
+pub mod RowFit
 pub mod LowersStatement

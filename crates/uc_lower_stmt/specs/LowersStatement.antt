@@ -14,6 +14,7 @@ use Rattle.uc_code.specs.Layout.{Laid, laid_in}
 use Rattle.uc_code.specs.CodeShapes.{Kept}
 use Rattle.uc_code.specs.Lowered.{StmtAt, StmtsAt}
 use Rattle.uc_lower_stmt.specs.Marked.{objects_in}
+use Rattle.uc_lower_stmt.specs.RowFit.{RowsFit}
 
 -- where a draft stands: its class and routine, its names, the innermost handler's cells, and the cells, hidden cells, text literals
 -- and accept statements so far
@@ -27,6 +28,7 @@ pub record Lowers (n k c o : ℕ) (S : Laid → ℕ → ℕ → Type 0) (after :
   pub scope : scope_of new ≡ after
   pub opened : new.scopes ≡ old.scopes + o
   pub kept : Kept (laid_in old) (laid_in new)
+  pub rows : RowsFit 0 old new
   pub room : length new.ops ≤ length old.ops + n
   pub texts : new.texts ≤ old.texts + k
   pub cells : new.cells ≤ old.cells + c

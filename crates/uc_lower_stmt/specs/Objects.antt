@@ -27,6 +27,7 @@ use Rattle.uc_lower_expr.specs.declared.making.Made.TheVariants as made
 use Rattle.uc_lower_expr.specs.declared.numbering.ClassRoutine.{ClassRoutine}
 use Rattle.uc_lower_expr.specs.Meanings.{is_mutex_at}
 use Rattle.uc_lower_expr.specs.Members.{made_routine}
+use Rattle.uc_lower_stmt.specs.RowFit.{RowsFit}
 
 abbrev pub call_by : ClassRoutine → Manner → ObjectSpot → Option Array → ObjectCall
 call_by r m spot array = record { spot = spot; array = array; routine = r.number; written = r.written; manner = m }
@@ -81,6 +82,11 @@ abbrev pub build_room : Option ℕ → ℕ
 build_room None = 6
 build_room (Some n) = fill_room
 
+-- an array has a row, by its turns
+abbrev pub build_rows : Option ℕ → ℕ
+build_rows None = 0
+build_rows (Some n) = 1
+
 abbrev pub FillCode : ℕ → List CodeMark → ObjectCall → ObjectCall → ℕ → Laid → ℕ → ℕ → Type 0
 FillCode line ms builder destroyer n code = OverElements code line ms 0 n (op.Fill n) op.Sweep (CallBuilt code line builder) (CallDone code line destroyer)
 
@@ -114,6 +120,7 @@ pub record PartEnds (code : Laid) (line : ℕ) (ms : List CodeMark) (what : Clea
 pub record ClosesScope (n : ℕ) (what : Cleaning) (line : ℕ) (old new : Draft) : Type 0 where
   pub rest : new ≡ record old { ops = new.ops; rows = new.rows; settled = new.settled; marks = new.marks }
   pub kept : Kept (laid_in old) (laid_in new)
+  pub rows : RowsFit 0 old new
   pub room : length new.ops ≤ length old.ops + n
   pub scope : (row : ℕ) (ms : List CodeMark) → old.marks ≡ mark.Clean what line row ∷ ms → ScopeEnds (laid_in new) line ms what row (length old.ops) (length new.ops)
   pub marks : (row : ℕ) (ms : List CodeMark) → old.marks ≡ mark.Clean what line row ∷ ms → new.marks ≡ ms
@@ -122,6 +129,7 @@ pub record ClosesScope (n : ℕ) (what : Cleaning) (line : ℕ) (old new : Draft
 pub record ClosesPart (what : Cleaning) (line : ℕ) (old new : Draft) : Type 0 where
   pub rest : new ≡ record old { ops = new.ops; rows = new.rows; settled = new.settled; marks = new.marks }
   pub kept : Kept (laid_in old) (laid_in new)
+  pub rows : RowsFit 0 old new
   pub room : length new.ops ≤ length old.ops + (clean_length what + 2)
   pub part : (row : ℕ) (ms : List CodeMark) → old.marks ≡ mark.Part row ∷ ms → PartEnds (laid_in new) line ms what row (length old.ops) (length new.ops)
   pub marks : (row : ℕ) (ms : List CodeMark) → old.marks ≡ mark.Part row ∷ ms → new.marks ≡ ms

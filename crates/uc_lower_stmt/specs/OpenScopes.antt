@@ -12,6 +12,7 @@ use Rattle.uc_code.specs.Lowered.{StmtAt}
 use Rattle.uc_code.specs.ObjectCalls.{Cleans}
 use Rattle.uc_lower_stmt.specs.Marked.{objects_in, taken}
 use Rattle.uc_lower_stmt.specs.LowersStatement.{scope_of}
+use Rattle.uc_lower_stmt.specs.RowFit.{RowsFit}
 
 -- what stands in a block, one after another: a statement, the begin of the scope of an object, or that of what follows a part of an
 -- object under construction
@@ -59,6 +60,7 @@ pub record Lays (n k c d o line : ℕ) (f : Stmts → Stmts) (after : Scope) (ol
   pub scope : scope_of new ≡ after
   pub opened : new.scopes ≡ old.scopes + o
   pub kept : Kept (laid_in old) (laid_in new)
+  pub rows : RowsFit 0 old new
   pub room : taken new ≤ taken old + n
   pub texts : new.texts ≤ old.texts + k
   pub cells : new.cells ≤ old.cells + c

@@ -37,7 +37,9 @@ fn lower_guard(
     out: &mut Draft,
 ) -> Result<(), AllocError>
     requires { length out.old.ops + guard_room (guard_of clause.now) ≤ PROGRAM_OPS }
-    ensures { OnOk result (Adds (guard_room (guard_of clause.now)) (ExprCode line out.old.marks (guard_meant (context_in names.now out.old) (guard_of clause.now))) out.old out.new) }
+    ensures { OnOk result (Adds (guard_room (guard_of clause.now))
+        (ExprCode line out.old.marks (guard_meant (context_in names.now out.old)
+        (guard_of clause.now))) out.old out.new) }
 {
     match &clause.guard {
         Some(test) => {
@@ -58,7 +60,9 @@ fn lower_guards(
     out: &mut Draft,
 ) -> Result<(), AllocError>
     requires { length out.old.ops + guards_room clauses.now ≤ PROGRAM_OPS }
-    ensures { OnOk result (Adds (guards_room clauses.now) (GuardsCode line out.old.marks (context_in names.now out.old) clauses.now) out.old out.new) }
+    ensures { OnOk result (Adds (guards_room clauses.now)
+        (GuardsCode line out.old.marks (context_in names.now out.old) clauses.now) out.old
+        out.new) }
 {
     for clause in clauses {
         lower_guard(clause, line, names, out)?;
@@ -69,7 +73,8 @@ fn lower_guards(
 // The statement of this number asks, a call that has failed is raised for resumption, and events are delivered.
 fn put_accept(site: u32, guards: u32, line: u32, out: &mut Draft) -> Result<(), AllocError>
     requires { length out.old.ops + 8 ≤ PROGRAM_OPS }
-    ensures { OnOk result (Puts 8 (λ code. AcceptsAt code out.old.marks site guards line) out.old out.new) }
+    ensures { OnOk result (Puts 0 8 (λ code. AcceptsAt code out.old.marks site guards line) out.old
+        out.new) }
 {
     let ask = out.here();
     let end = ask + 8;
@@ -136,11 +141,18 @@ fn lower_branches(
     requires inside { routine_in out.old.marks < length (routines_of names.now) }
     requires before { else_at < first }
     requires jumps { first + length clauses.now ≤ length out.old.ops }
-    requires room { taken out.old + (branches_room clauses.now (objects_in out.old.marks) + OPS_FOR_SIZE * maybe_at_size (maybe_at other.now) (objects_in out.old.marks)) ≤ PROGRAM_OPS }
-    requires cells { out.old.cells + (clauses_cells (clauses_of clauses.now) (declared_cells names.now) + maybe_cells (maybe_at other.now) (declared_cells names.now)) ≤ FRAME_CELLS }
-    requires scopes { out.old.scopes + (clauses_scopes (clauses_of clauses.now) + maybe_scopes (maybe_at other.now)) ≤ PROGRAM_SIZE }
-    requires texts { out.old.texts + (clauses_size (clauses_of clauses.now) + maybe_stmt_size (maybe_at other.now)) ≤ PROGRAM_SIZE }
-    ensures { OnOk result (LowersBranches names.now line else_at first clauses.now (maybe_at other.now) out.old out.new) }
+    requires room { taken out.old + (branches_room clauses.now (objects_in out.old.marks) +
+        OPS_FOR_SIZE * maybe_at_size (maybe_at other.now) (objects_in out.old.marks)) ≤
+        PROGRAM_OPS }
+    requires cells { out.old.cells + (clauses_cells (clauses_of clauses.now)
+        (declared_cells names.now) + maybe_cells (maybe_at other.now) (declared_cells names.now)) ≤
+        FRAME_CELLS }
+    requires scopes { out.old.scopes + (clauses_scopes (clauses_of clauses.now) + maybe_scopes
+        (maybe_at other.now)) ≤ PROGRAM_SIZE }
+    requires texts { out.old.texts + (clauses_size (clauses_of clauses.now) + maybe_stmt_size
+        (maybe_at other.now)) ≤ PROGRAM_SIZE }
+    ensures { OnOk result (LowersBranches names.now line else_at first clauses.now
+        (maybe_at other.now) out.old out.new) }
 {
     match clauses.split_first() {
         None => {
@@ -172,11 +184,17 @@ pub(crate) fn lower_accept(
     out: &mut Draft,
 ) -> Result<(), AllocError>
     requires inside { routine_in out.old.marks < length (routines_of names.now) }
-    requires room { taken out.old + accept_room clauses.now (maybe_at other.now) (objects_in out.old.marks) ≤ PROGRAM_OPS }
-    requires cells { out.old.cells + (clauses_cells (clauses_of clauses.now) (declared_cells names.now) + maybe_cells (maybe_at other.now) (declared_cells names.now)) ≤ FRAME_CELLS }
-    requires scopes { out.old.scopes + (clauses_scopes (clauses_of clauses.now) + maybe_scopes (maybe_at other.now)) ≤ PROGRAM_SIZE }
-    requires texts { out.old.texts + (clauses_size (clauses_of clauses.now) + maybe_stmt_size (maybe_at other.now)) ≤ PROGRAM_SIZE }
-    ensures { OnOk result (LowersAccept names.now line clauses.now (maybe_at other.now) out.old out.new) }
+    requires room { taken out.old + accept_room clauses.now (maybe_at other.now)
+        (objects_in out.old.marks) ≤ PROGRAM_OPS }
+    requires cells { out.old.cells + (clauses_cells (clauses_of clauses.now)
+        (declared_cells names.now) + maybe_cells (maybe_at other.now) (declared_cells names.now)) ≤
+        FRAME_CELLS }
+    requires scopes { out.old.scopes + (clauses_scopes (clauses_of clauses.now) + maybe_scopes
+        (maybe_at other.now)) ≤ PROGRAM_SIZE }
+    requires texts { out.old.texts + (clauses_size (clauses_of clauses.now) + maybe_stmt_size
+        (maybe_at other.now)) ≤ PROGRAM_SIZE }
+    ensures { OnOk result (LowersAccept names.now line clauses.now (maybe_at other.now) out.old
+        out.new) }
 {
     let choose = lower_choice(clauses, line, names, out)?;
     lower_branches(

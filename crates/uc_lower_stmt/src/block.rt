@@ -54,9 +54,14 @@ fn lower_object(
 ) -> Result<(), AllocError>
     requires class { HasClass names.now made }
     requires room { taken out.old + OPS_FOR_SIZE * declarator_size declarator.now ≤ PROGRAM_OPS }
-    requires cells { out.old.cells + declared_cells names.now base.now declarator.now ≤ FRAME_CELLS }
+    requires cells { out.old.cells + declared_cells names.now base.now declarator.now ≤
+        FRAME_CELLS }
     requires behind { AllStandBehind names.now made out.old.marks }
-    ensures { OnOk result (Lays (OPS_FOR_SIZE * declarator_size declarator.now) 0 (declared_cells names.now base.now declarator.now) 1 0 block (object_scoped names.now (making_of names.now made) line base.now declarator.now (scope_of out.old)) (with_declared names.now (scope_of out.old) base.now declarator.now) out.old out.new) }
+    ensures { OnOk result (Lays (OPS_FOR_SIZE * declarator_size declarator.now) 0
+        (declared_cells names.now base.now declarator.now) 1 0 block
+        (object_scoped names.now (making_of names.now made) line base.now declarator.now
+        (scope_of out.old)) (with_declared names.now (scope_of out.old) base.now declarator.now)
+        out.old out.new) }
 {
     let cells = names.sizes().cells_of_variable(base, declarator) as u32;
     let cell = out.cells();
@@ -85,9 +90,15 @@ pub(crate) fn lower_objects(
 ) -> Result<(), AllocError>
     requires class { HasClass names.now made }
     requires room { taken out.old + OPS_FOR_SIZE * declarators_size declarators.now ≤ PROGRAM_OPS }
-    requires cells { out.old.cells + declarators_cells (declared_cells names.now base.now) declarators.now ≤ FRAME_CELLS }
+    requires cells { out.old.cells + declarators_cells (declared_cells names.now base.now)
+        declarators.now ≤ FRAME_CELLS }
     requires behind { AllStandBehind names.now made out.old.marks }
-    ensures { OnOk result (Lays (OPS_FOR_SIZE * declarators_size declarators.now) 0 (declarators_cells (declared_cells names.now base.now) declarators.now) (length declarators.now) 0 block (objects_scoped names.now (making_of names.now made) line base.now declarators.now (scope_of out.old)) (with_all names.now (scope_of out.old) base.now declarators.now) out.old out.new) }
+    ensures { OnOk result (Lays (OPS_FOR_SIZE * declarators_size declarators.now) 0
+        (declarators_cells (declared_cells names.now base.now) declarators.now)
+        (length declarators.now) 0 block
+        (objects_scoped names.now (making_of names.now made) line base.now declarators.now
+        (scope_of out.old)) (with_all names.now (scope_of out.old) base.now declarators.now)
+        out.old out.new) }
 {
     for declarator in declarators {
         lower_object(alloc, names, made, base, declarator, line, block, out)?;

@@ -24,7 +24,9 @@ use uc_tree::expr::Expr;
 pub(crate) fn open_cluster(spot: ObjectSpot, line: u32, out: &mut Draft) -> Result<(), AllocError>
     requires { length out.old.ops + 3 ≤ PROGRAM_OPS }
     ensures room { OnOk result (length out.new.ops ≤ length out.old.ops + 3) }
-    ensures code { OnOk result ((place : Place) → BeginsAt place spot → Adds 3 (ExprCode line out.old.marks (OfObject (Bind place (OfObject NewCluster)))) out.old out.new) }
+    ensures code { OnOk result ((place : Place) → BeginsAt place spot → Adds 3
+        (ExprCode line out.old.marks (OfObject (Bind place (OfObject NewCluster)))) out.old
+        out.new) }
 {
     put(spot_op(spot), line, out)?;
     put(Op::Cluster, line, out)?;
@@ -39,8 +41,11 @@ fn lower_cluster(
     names: &ProgramNames,
     out: &mut Draft,
 ) -> Result<(), AllocError>
-    requires { length out.old.ops + OPS_FOR_SIZE * exprs_size (exprs_of args.now) + 1 ≤ PROGRAM_OPS }
-    ensures { OnOk result (Adds (OPS_FOR_SIZE * exprs_size (exprs_of args.now) + 1) (ExprCode line out.old.marks (cluster_in (args_meant (context_in names.now out.old) (exprs_of args.now)))) out.old out.new) }
+    requires { length out.old.ops + OPS_FOR_SIZE * exprs_size (exprs_of args.now) + 1 ≤
+        PROGRAM_OPS }
+    ensures { OnOk result (Adds (OPS_FOR_SIZE * exprs_size (exprs_of args.now) + 1)
+        (ExprCode line out.old.marks (cluster_in
+        (args_meant (context_in names.now out.old) (exprs_of args.now)))) out.old out.new) }
 {
     match args.first() {
         Some(arg) => {
@@ -62,9 +67,16 @@ pub(crate) fn open_processor(
     names: &ProgramNames,
     out: &mut Draft,
 ) -> Result<(), AllocError>
-    requires { length out.old.ops + OPS_FOR_SIZE * exprs_size (exprs_of args.now) + 4 ≤ PROGRAM_OPS }
-    ensures room { OnOk result (length out.new.ops ≤ length out.old.ops + (OPS_FOR_SIZE * exprs_size (exprs_of args.now) + 4)) }
-    ensures code { OnOk result ((place : Place) → BeginsAt place spot → Adds (OPS_FOR_SIZE * exprs_size (exprs_of args.now) + 4) (ExprCode line out.old.marks (OfObject (Bind place (OfObject (NewProcessor (cluster_in (args_meant (context_in names.now out.old) (exprs_of args.now)))))))) out.old out.new) }
+    requires { length out.old.ops + OPS_FOR_SIZE * exprs_size (exprs_of args.now) + 4 ≤
+        PROGRAM_OPS }
+    ensures room { OnOk result (length out.new.ops ≤ length out.old.ops +
+        (OPS_FOR_SIZE * exprs_size (exprs_of args.now) + 4)) }
+    ensures code { OnOk result ((place : Place) → BeginsAt place spot → Adds
+        (OPS_FOR_SIZE * exprs_size (exprs_of args.now) + 4)
+        (ExprCode line out.old.marks (OfObject
+        (Bind place (OfObject (NewProcessor
+        (cluster_in (args_meant (context_in names.now out.old) (exprs_of args.now)))))))) out.old
+        out.new) }
 {
     put(spot_op(spot), line, out)?;
     lower_cluster(args, line, names, out)?;

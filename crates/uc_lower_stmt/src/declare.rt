@@ -80,7 +80,10 @@ fn lower_first(
     out: &mut Draft,
 ) -> Result<(), AllocError>
     requires { length out.old.ops + OPS_FOR_SIZE * expr_size value.now + 3 ≤ PROGRAM_OPS }
-    ensures { OnOk result (Adds (OPS_FOR_SIZE * expr_size value.now + 3) (StartCode line out.old.marks cell (Some (converted (shape_as scalar) (value_of (meant (context_in names.now out.old) value.now))))) out.old out.new) }
+    ensures { OnOk result (Adds (OPS_FOR_SIZE * expr_size value.now + 3)
+        (StartCode line out.old.marks cell
+        (Some (converted (shape_as scalar)
+        (value_of (meant (context_in names.now out.old) value.now))))) out.old out.new) }
 {
     put(Op::Local(cell), line, out)?;
     let _told = lower_value(value, line, names, out)?;
@@ -98,7 +101,9 @@ fn lower_start(
     out: &mut Draft,
 ) -> Result<(), AllocError>
     requires { length out.old.ops + OPS_FOR_SIZE * start_size start.now + 3 ≤ PROGRAM_OPS }
-    ensures { OnOk result (Adds (OPS_FOR_SIZE * start_size start.now + 3) (StartCode line out.old.marks cell (start_meant (context_in names.now out.old) (shape_as scalar) start.now)) out.old out.new) }
+    ensures { OnOk result (Adds (OPS_FOR_SIZE * start_size start.now + 3)
+        (StartCode line out.old.marks cell
+        (start_meant (context_in names.now out.old) (shape_as scalar) start.now)) out.old out.new) }
 {
     match &start.form {
         StartForm::Nothing => Ok(()),
@@ -116,8 +121,12 @@ fn lower_args(
     names: &ProgramNames,
     out: &mut Draft,
 ) -> Result<(), AllocError>
-    requires { length out.old.ops + OPS_FOR_SIZE * exprs_size (exprs_of args.now) + 3 ≤ PROGRAM_OPS }
-    ensures { OnOk result (Adds (OPS_FOR_SIZE * exprs_size (exprs_of args.now) + 3) (StartCode line out.old.marks cell (first_value (context_in names.now out.old) (shape_as scalar) (exprs_of args.now))) out.old out.new) }
+    requires { length out.old.ops + OPS_FOR_SIZE * exprs_size (exprs_of args.now) + 3 ≤
+        PROGRAM_OPS }
+    ensures { OnOk result (Adds (OPS_FOR_SIZE * exprs_size (exprs_of args.now) + 3)
+        (StartCode line out.old.marks cell
+        (first_value (context_in names.now out.old) (shape_as scalar) (exprs_of args.now))) out.old
+        out.new) }
 {
     match args.first() {
         Some(value) => lower_first(value, cell, scalar, line, names, out),
@@ -134,9 +143,15 @@ fn lower_declarator(
     line: u32,
     out: &mut Draft,
 ) -> Result<(), AllocError>
-    requires room { length out.old.ops + OPS_FOR_SIZE * declarator_size declarator.now ≤ PROGRAM_OPS }
-    requires cells { out.old.cells + declared_cells names.now base.now declarator.now ≤ FRAME_CELLS }
-    ensures { OnOk result (Lowers (OPS_FOR_SIZE * declarator_size declarator.now) 0 (declared_cells names.now base.now declarator.now) 0 (VariablesCode line out.old.marks (declared_meant names.now (scope_of out.old) base.now declarator.now ∷ [])) (with_declared names.now (scope_of out.old) base.now declarator.now) out.old out.new) }
+    requires room { length out.old.ops + OPS_FOR_SIZE * declarator_size declarator.now ≤
+        PROGRAM_OPS }
+    requires cells { out.old.cells + declared_cells names.now base.now declarator.now ≤
+        FRAME_CELLS }
+    ensures { OnOk result (Lowers (OPS_FOR_SIZE * declarator_size declarator.now) 0
+        (declared_cells names.now base.now declarator.now) 0
+        (VariablesCode line out.old.marks
+        (declared_meant names.now (scope_of out.old) base.now declarator.now ∷ []))
+        (with_declared names.now (scope_of out.old) base.now declarator.now) out.old out.new) }
 {
     let cells = names.sizes().cells_of_variable(base, declarator) as u32;
     let cell = out.cells();
@@ -158,7 +173,11 @@ pub(crate) fn declare_variable(
 ) -> Result<(), AllocError>
     requires cells { cells ≡ declared_cells names.now base.now declarator.now }
     requires room { out.old.cells + cells ≤ FRAME_CELLS }
-    ensures { OnOk result (out.new ≡ record out.old { names = out.old.names ++ declared_known names.now (scope_of out.old) base.now declarator.now ∷ []; cells = out.old.cells + cells }) }
+    ensures { OnOk result (out.new ≡ record out.old {
+      names = out.old.names ++ declared_known names.now (scope_of out.old) base.now
+          declarator.now ∷ [];
+      cells = out.old.cells + cells;
+    }) }
 {
     let name = declarator.name.copy(alloc)?;
     let ty = type_of(alloc, names, base, declarator)?;
@@ -175,9 +194,15 @@ pub fn lower_declarators(
     line: u32,
     out: &mut Draft,
 ) -> Result<(), AllocError>
-    requires room { length out.old.ops + OPS_FOR_SIZE * declarators_size declarators.now ≤ PROGRAM_OPS }
-    requires cells { out.old.cells + declarators_cells (declared_cells names.now base.now) declarators.now ≤ FRAME_CELLS }
-    ensures { OnOk result (Lowers (OPS_FOR_SIZE * declarators_size declarators.now) 0 (declarators_cells (declared_cells names.now base.now) declarators.now) 0 (VariablesCode line out.old.marks (all_declared names.now (scope_of out.old) base.now declarators.now)) (with_all names.now (scope_of out.old) base.now declarators.now) out.old out.new) }
+    requires room { length out.old.ops + OPS_FOR_SIZE * declarators_size declarators.now ≤
+        PROGRAM_OPS }
+    requires cells { out.old.cells + declarators_cells (declared_cells names.now base.now)
+        declarators.now ≤ FRAME_CELLS }
+    ensures { OnOk result (Lowers (OPS_FOR_SIZE * declarators_size declarators.now) 0
+        (declarators_cells (declared_cells names.now base.now) declarators.now) 0
+        (VariablesCode line out.old.marks
+        (all_declared names.now (scope_of out.old) base.now declarators.now))
+        (with_all names.now (scope_of out.old) base.now declarators.now) out.old out.new) }
 {
     for declarator in declarators {
         lower_declarator(alloc, names, base, declarator, line, out)?;

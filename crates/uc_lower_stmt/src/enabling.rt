@@ -57,7 +57,8 @@ fn put_enabling(
     out: &mut Draft,
 ) -> Result<(), AllocError>
     requires { length out.old.ops + 5 ≤ PROGRAM_OPS }
-    ensures { OnOk result (Puts 5 (SwitchCode how events cell line out.old.marks) out.old out.new) }
+    ensures { OnOk result (Puts 0 5 (SwitchCode how events cell line out.old.marks) out.old
+        out.new) }
 {
     match how {
         Enabling::Enable => {
@@ -85,9 +86,11 @@ pub(crate) fn lower_enabling(
     out: &mut Draft,
 ) -> Result<(), AllocError>
     requires inside { routine_in out.old.marks < length (routines_of names.now) }
-    requires room { taken out.old + OPS_FOR_SIZE * (1 + size_at body.now (objects_in out.old.marks + 1)) ≤ PROGRAM_OPS }
+    requires room { taken out.old + OPS_FOR_SIZE *
+        (1 + size_at body.now (objects_in out.old.marks + 1)) ≤ PROGRAM_OPS }
     requires cells { out.old.cells + stmt_cells body.now (declared_cells names.now) ≤ FRAME_CELLS }
-    requires scopes { out.old.scopes + (alone_scopes body.now + stmt_scopes body.now) ≤ PROGRAM_SIZE }
+    requires scopes { out.old.scopes + (alone_scopes body.now + stmt_scopes body.now) ≤
+        PROGRAM_SIZE }
     requires texts { out.old.texts + stmt_size body.now ≤ PROGRAM_SIZE }
     ensures { OnOk result (LowersEnabling names.now how line events.now body.now out.old out.new) }
 {

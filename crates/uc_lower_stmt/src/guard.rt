@@ -73,7 +73,8 @@ fn declare_event(
     cell: u32,
     out: &mut Draft,
 ) -> Result<(), AllocError>
-    ensures { OnOk result ((p : Program) (s : Scope) → s.names ≡ out.old.names → cell ≡ s.hidden + 1 → out.new ≡ record out.old { names = (with_event p param.now event.now s).names }) }
+    ensures { OnOk result ((p : Program) (s : Scope) → s.names ≡ out.old.names → cell ≡ s.hidden +
+        1 → out.new ≡ record out.old { names = (with_event p param.now event.now s).names }) }
 {
     let Some(param) = param else {
         return Ok(());
@@ -104,8 +105,10 @@ fn enter_handler(
     requires entry { 0 < length out.old.ops }
     requires room { length out.old.ops + 6 ≤ PROGRAM_OPS }
     requires scopes { out.old.scopes < PROGRAM_SIZE }
-    ensures outside { IfOk result (λ outside. outside ≡ record { names = length out.old.names; scope = out.old.place.scope }) }
-    ensures entered { OnOk result (EntersHandler names.now row (takes_resumptions kind) event.now param.now line out.old out.new) }
+    ensures outside { IfOk result (λ outside. outside ≡ record
+        { names = length out.old.names; scope = out.old.place.scope }) }
+    ensures entered { OnOk result (EntersHandler names.now row (takes_resumptions kind) event.now
+        param.now line out.old out.new) }
 {
     let number = event_of(names, event);
     out.begin_handler(row, kind_of(kind), number);
@@ -130,11 +133,14 @@ fn lower_body(
 ) -> Result<(), AllocError>
     requires inside { routine_in out.old.marks < length (routines_of names.now) }
     requires entry { 0 < length out.old.ops }
-    requires room { taken out.old + (2 + OPS_FOR_SIZE * sizes_at (stmts_of body.now) (objects_in out.old.marks)) ≤ PROGRAM_OPS }
-    requires cells { out.old.cells + stmts_cells (stmts_of body.now) (declared_cells names.now) ≤ FRAME_CELLS }
+    requires room { taken out.old + (2 + OPS_FOR_SIZE * sizes_at (stmts_of body.now)
+        (objects_in out.old.marks)) ≤ PROGRAM_OPS }
+    requires cells { out.old.cells + stmts_cells (stmts_of body.now) (declared_cells names.now) ≤
+        FRAME_CELLS }
     requires scopes { out.old.scopes + stmts_scopes (stmts_of body.now) ≤ PROGRAM_SIZE }
     requires texts { out.old.texts + stmts_size (stmts_of body.now) ≤ PROGRAM_SIZE }
-    ensures { OnOk result (LowersBody names.now pad (takes_resumptions kind) line (stmts_of body.now) out.old out.new) }
+    ensures { OnOk result (LowersBody names.now pad (takes_resumptions kind) line
+        (stmts_of body.now) out.old out.new) }
 {
     match kind {
         HandlerKind::Catch => {
@@ -165,8 +171,11 @@ fn lower_handler(
     requires bare { IsBare (laid_in out.old) row }
     requires entry { 0 < length out.old.ops }
     requires inside { routine_in out.old.marks < length (routines_of names.now) }
-    requires room { taken out.old + OPS_FOR_SIZE * (handler_size handler.now + exits_handler handler.now (objects_in out.old.marks)) ≤ PROGRAM_OPS }
-    requires cells { out.old.cells + handler_cells handler.now (declared_cells names.now) ≤ FRAME_CELLS }
+    requires room { taken out.old + OPS_FOR_SIZE *
+        (handler_size handler.now + exits_handler handler.now (objects_in out.old.marks)) ≤
+        PROGRAM_OPS }
+    requires cells { out.old.cells + handler_cells handler.now (declared_cells names.now) ≤
+        FRAME_CELLS }
     requires scopes { out.old.scopes + handler_scopes handler.now ≤ PROGRAM_SIZE }
     requires texts { out.old.texts + handler_size handler.now ≤ PROGRAM_SIZE }
     ensures { OnOk result (LowersHandler names.now row pad handler.now out.old out.new) }
@@ -204,11 +213,15 @@ fn lower_handlers(
     requires rows { first + length handlers.now < 2 ^ 32 }
     requires entry { 0 < length out.old.ops }
     requires inside { routine_in out.old.marks < length (routines_of names.now) }
-    requires room { taken out.old + OPS_FOR_SIZE * (handlers_size (handlers_of handlers.now) + exits_handlers (handlers_of handlers.now) (objects_in out.old.marks)) ≤ PROGRAM_OPS }
-    requires cells { out.old.cells + handlers_cells (handlers_of handlers.now) (declared_cells names.now) ≤ FRAME_CELLS }
+    requires room { taken out.old + OPS_FOR_SIZE *
+        (handlers_size (handlers_of handlers.now) + exits_handlers (handlers_of handlers.now)
+        (objects_in out.old.marks)) ≤ PROGRAM_OPS }
+    requires cells { out.old.cells + handlers_cells (handlers_of handlers.now)
+        (declared_cells names.now) ≤ FRAME_CELLS }
     requires scopes { out.old.scopes + handlers_scopes (handlers_of handlers.now) ≤ PROGRAM_SIZE }
     requires texts { out.old.texts + handlers_size (handlers_of handlers.now) ≤ PROGRAM_SIZE }
-    ensures { OnOk result (LowersHandlers names.now first pad (handlers_of handlers.now) out.old out.new) }
+    ensures { OnOk result (LowersHandlers names.now first pad (handlers_of handlers.now) out.old
+        out.new) }
 {
     match handlers.split_first() {
         None => Ok(()),
@@ -234,11 +247,18 @@ pub(crate) fn lower_try(
     out: &mut Draft,
 ) -> Result<(), AllocError>
     requires inside { routine_in out.old.marks < length (routines_of names.now) }
-    requires room { taken out.old + OPS_FOR_SIZE * (1 + sizes_at (stmts_of body.now) (objects_in out.old.marks) + (handlers_size (handlers_of handlers.now) + exits_handlers (handlers_of handlers.now) (objects_in out.old.marks))) ≤ PROGRAM_OPS }
-    requires cells { out.old.cells + (stmts_cells (stmts_of body.now) (declared_cells names.now) + handlers_cells (handlers_of handlers.now) (declared_cells names.now)) ≤ FRAME_CELLS }
-    requires scopes { out.old.scopes + (1 + stmts_scopes (stmts_of body.now) + handlers_scopes (handlers_of handlers.now)) ≤ PROGRAM_SIZE }
-    requires texts { out.old.texts + (stmts_size (stmts_of body.now) + handlers_size (handlers_of handlers.now)) ≤ PROGRAM_SIZE }
-    ensures { OnOk result (LowersTry names.now line brace (stmts_of body.now) (handlers_of handlers.now) out.old out.new) }
+    requires room { taken out.old + OPS_FOR_SIZE *
+        (1 + sizes_at (stmts_of body.now) (objects_in out.old.marks) +
+        (handlers_size (handlers_of handlers.now) + exits_handlers (handlers_of handlers.now)
+        (objects_in out.old.marks))) ≤ PROGRAM_OPS }
+    requires cells { out.old.cells + (stmts_cells (stmts_of body.now) (declared_cells names.now) +
+        handlers_cells (handlers_of handlers.now) (declared_cells names.now)) ≤ FRAME_CELLS }
+    requires scopes { out.old.scopes + (1 + stmts_scopes (stmts_of body.now) + handlers_scopes
+        (handlers_of handlers.now)) ≤ PROGRAM_SIZE }
+    requires texts { out.old.texts + (stmts_size (stmts_of body.now) + handlers_size
+        (handlers_of handlers.now)) ≤ PROGRAM_SIZE }
+    ensures { OnOk result (LowersTry names.now line brace (stmts_of body.now)
+        (handlers_of handlers.now) out.old out.new) }
 {
     let start = out.here();
     put(Op::Jump(start + 2), line, out)?;

@@ -11,13 +11,14 @@ ghost use Rattle.uc_code.specs.declared.rows.Cleaning.TheVariants as cleaning;
 ghost use Rattle.uc_code.specs.Lowered.{ArrivesAt, CallBuilt, CleanAt, PadAt, StmtAt, spot_op};
 ghost use Rattle.uc_code.specs.ObjectCalls.{BeginsAt, Cleans};
 ghost use Rattle.uc_code.specs.OpenRows.{StandsBehind, CleansBehind, clean_room};
+ghost use Rattle.uc_code.specs.RowCounts.{cleaning_rows};
 ghost use Rattle.uc_code.specs.Emits.{Puts};
 ghost use Rattle.uc_lower_expr.specs.DraftGrowth.{Adds, ExprCode};
 ghost use Rattle.uc_lower_expr.specs.Contexts.{context_in};
 ghost use Rattle.uc_lower_expr.specs.Meanings.{is_mutex_at, making_by, making_of};
 ghost use Rattle.uc_lower_expr.specs.Members.{HasClass, no_routine};
 ghost use Rattle.uc_lower_stmt.specs.Marked.{close_room};
-ghost use Rattle.uc_lower_stmt.specs.Objects.{ClosesPart, ClosesScope, FillCode, InCall, InPart, InScope, MadeCode, array_by, arrival_room, build_room, builder_of, call_by, call_room, destroyer_of, element_cells, fill_room, free_op, frees, leaves, most_clean, object_built, object_cells, object_ended};
+ghost use Rattle.uc_lower_stmt.specs.Objects.{ClosesPart, ClosesScope, FillCode, InCall, InPart, InScope, MadeCode, array_by, arrival_room, build_room, build_rows, builder_of, call_by, call_room, destroyer_of, element_cells, fill_room, free_op, frees, leaves, most_clean, object_built, object_cells, object_ended};
 
 use crate::clusters::{open_cluster, open_processor};
 use std::alloc::AllocError;
@@ -193,8 +194,10 @@ pub fn clean_call(
     names: &ProgramNames,
 ) -> Cleaning
     requires { HasClass names.now made }
-    ensures call { result ≡ cleaning.Call (destroyer_of names.now made spot (array_by names.now made elements)) }
-    ensures cleans { (place : Place) → BeginsAt place spot → Cleans (clean_up names.now (making_of names.now made) elements place) result }
+    ensures call { result ≡ cleaning.Call (destroyer_of names.now made spot
+        (array_by names.now made elements)) }
+    ensures cleans { (place : Place) → BeginsAt place spot → Cleans
+        (clean_up names.now (making_of names.now made) elements place) result }
 {
     law_cells();
     let array = array_of(made, elements, names);
@@ -211,7 +214,8 @@ fn put_made(
 ) -> Result<(), AllocError>
     requires class { class < length (classes_of names.now.items) }
     requires room { length out.old.ops + 2 ≤ PROGRAM_OPS }
-    ensures { OnOk result (Adds 2 (MadeCode line (object_built names.now class (is_mutex_at names.now class)) routine) out.old out.new) }
+    ensures { OnOk result (Adds 2 (MadeCode line
+        (object_built names.now class (is_mutex_at names.now class)) routine) out.old out.new) }
 {
     if names.is_mutex(class) {
         let class = names.class_number(class);
@@ -231,10 +235,17 @@ fn construct_object(
     out: &mut Draft,
 ) -> Result<(), AllocError>
     requires class { class < length (classes_of names.now.items) }
-    requires room { length out.old.ops + OPS_FOR_SIZE * exprs_size (exprs_of args.now) + 5 ≤ PROGRAM_OPS }
-    requires behind { StandsBehind out.old.marks (builder_of names.now (Made.Object class) spot None) }
-    ensures room { OnOk result (length out.new.ops ≤ length out.old.ops + (OPS_FOR_SIZE * exprs_size (exprs_of args.now) + 5)) }
-    ensures code { OnOk result ((place : Place) → BeginsAt place spot → Adds (OPS_FOR_SIZE * exprs_size (exprs_of args.now) + 5) (ExprCode line out.old.marks (constructed names.now (making_by class (is_mutex_at names.now class)) place (args_meant (context_in names.now out.old) (exprs_of args.now)))) out.old out.new) }
+    requires room { length out.old.ops + OPS_FOR_SIZE * exprs_size (exprs_of args.now) + 5 ≤
+        PROGRAM_OPS }
+    requires behind { StandsBehind out.old.marks (builder_of names.now (Made.Object class) spot
+        None) }
+    ensures room { OnOk result (length out.new.ops ≤ length out.old.ops +
+        (OPS_FOR_SIZE * exprs_size (exprs_of args.now) + 5)) }
+    ensures code { OnOk result ((place : Place) → BeginsAt place spot → Adds
+        (OPS_FOR_SIZE * exprs_size (exprs_of args.now) + 5)
+        (ExprCode line out.old.marks (constructed names.now
+        (making_by class (is_mutex_at names.now class)) place
+        (args_meant (context_in names.now out.old) (exprs_of args.now)))) out.old out.new) }
 {
     let routine = names.constructor_of(class);
     put(spot_op(spot), line, out)?;
@@ -261,10 +272,15 @@ pub fn lower_construction(
     out: &mut Draft,
 ) -> Result<(), AllocError>
     requires class { HasClass names.now made }
-    requires room { length out.old.ops + OPS_FOR_SIZE * exprs_size (exprs_of args.now) + 5 ≤ PROGRAM_OPS }
+    requires room { length out.old.ops + OPS_FOR_SIZE * exprs_size (exprs_of args.now) + 5 ≤
+        PROGRAM_OPS }
     requires behind { StandsBehind out.old.marks (builder_of names.now made spot None) }
-    ensures room { OnOk result (length out.new.ops ≤ length out.old.ops + (OPS_FOR_SIZE * exprs_size (exprs_of args.now) + 5)) }
-    ensures code { OnOk result ((place : Place) → BeginsAt place spot → Adds (OPS_FOR_SIZE * exprs_size (exprs_of args.now) + 5) (ExprCode line out.old.marks (constructed names.now (making_of names.now made) place (args_meant (context_in names.now out.old) (exprs_of args.now)))) out.old out.new) }
+    ensures room { OnOk result (length out.new.ops ≤ length out.old.ops +
+        (OPS_FOR_SIZE * exprs_size (exprs_of args.now) + 5)) }
+    ensures code { OnOk result ((place : Place) → BeginsAt place spot → Adds
+        (OPS_FOR_SIZE * exprs_size (exprs_of args.now) + 5)
+        (ExprCode line out.old.marks (constructed names.now (making_of names.now made) place
+        (args_meant (context_in names.now out.old) (exprs_of args.now)))) out.old out.new) }
 {
     match made {
         Made::Object(class) => {
@@ -286,7 +302,8 @@ pub fn lower_construction(
 fn put_built(builder: ObjectCall, line: u32, out: &mut Draft) -> Result<(), AllocError>
     requires room { length out.old.ops + 10 ≤ PROGRAM_OPS }
     requires behind { StandsBehind out.old.marks builder }
-    ensures { OnOk result (Puts 10 (λ code. CallBuilt code line builder out.old.marks) out.old out.new) }
+    ensures { OnOk result (Puts 0 10 (λ code. CallBuilt code line builder out.old.marks) out.old
+        out.new) }
 {
     put_call(builder, line, out)?;
     put(Op::Discard, line, out)?;
@@ -305,7 +322,8 @@ fn put_fill(
     requires room { length out.old.ops + fill_room ≤ PROGRAM_OPS }
     requires builds { StandsBehind out.old.marks builder }
     requires destroys { StandsBehind out.old.marks destroyer }
-    ensures { OnOk result (Puts fill_room (FillCode line out.old.marks builder destroyer count) out.old out.new) }
+    ensures { OnOk result (Puts 1 fill_room (FillCode line out.old.marks builder destroyer count)
+        out.old out.new) }
 {
     let start = out.here();
     let test = start + 2 + done_length(builder);
@@ -342,10 +360,17 @@ pub fn lower_build(
     out: &mut Draft,
 ) -> Result<(), AllocError>
     requires class { HasClass names.now made }
-    requires room { length out.old.ops + OPS_FOR_SIZE * exprs_size (exprs_of args.now) + build_room elements ≤ PROGRAM_OPS }
-    requires builds { StandsBehind out.old.marks (builder_of names.now made spot (array_by names.now made elements)) }
-    requires destroys { StandsBehind out.old.marks (destroyer_of names.now made spot (array_by names.now made elements)) }
-    ensures { OnOk result ((place : Place) → BeginsAt place spot → Puts (OPS_FOR_SIZE * exprs_size (exprs_of args.now) + build_room elements) (λ code. StmtAt code out.old.marks (build names.now line (making_of names.now made) elements place (args_meant (context_in names.now out.old) (exprs_of args.now)))) out.old out.new) }
+    requires room { length out.old.ops + OPS_FOR_SIZE * exprs_size (exprs_of args.now) + build_room
+        elements ≤ PROGRAM_OPS }
+    requires builds { StandsBehind out.old.marks (builder_of names.now made spot
+        (array_by names.now made elements)) }
+    requires destroys { StandsBehind out.old.marks (destroyer_of names.now made spot
+        (array_by names.now made elements)) }
+    ensures { OnOk result ((place : Place) → BeginsAt place spot → Puts (build_rows elements)
+        (OPS_FOR_SIZE * exprs_size (exprs_of args.now) + build_room elements)
+        (λ code. StmtAt code out.old.marks
+        (build names.now line (making_of names.now made) elements place
+        (args_meant (context_in names.now out.old) (exprs_of args.now)))) out.old out.new) }
 {
     match elements {
         None => {
@@ -393,7 +418,8 @@ fn free_op(main: Option<u32>) -> Op
 fn put_cleaned(what: Cleaning, line: u32, out: &mut Draft) -> Result<(), AllocError>
     requires room { length out.old.ops + most_clean what ≤ PROGRAM_OPS }
     requires behind { CleansBehind out.old.marks what }
-    ensures { OnOk result (Puts (most_clean what) (λ code. CleanAt code line what out.old.marks) out.old out.new) }
+    ensures { OnOk result (Puts (cleaning_rows what) (most_clean what)
+        (λ code. CleanAt code line what out.old.marks) out.old out.new) }
 {
     match what {
         Cleaning::Call(_) => {
@@ -432,7 +458,8 @@ fn put_pad(what: Cleaning, line: u32, out: &mut Draft) -> Result<(), AllocError>
     requires room { length out.old.ops + (most_clean what + 1) ≤ PROGRAM_OPS }
     requires behind { CleansBehind out.old.marks what }
     requires other { leaves what ≡ false }
-    ensures { OnOk result (Puts (most_clean what + 1) (λ code. PadAt code line what out.old.marks) out.old out.new) }
+    ensures { OnOk result (Puts (cleaning_rows what) (most_clean what + 1)
+        (λ code. PadAt code line what out.old.marks) out.old out.new) }
 {
     if frees(what) {
         put(Op::GiveUp, line, out)?;
@@ -449,7 +476,8 @@ fn put_pad(what: Cleaning, line: u32, out: &mut Draft) -> Result<(), AllocError>
 fn put_arrival(line: u32, out: &mut Draft) -> Result<(), AllocError>
     requires call { InCall out.old.marks }
     requires room { length out.old.ops + (clean_room + 7) ≤ PROGRAM_OPS }
-    ensures { OnOk result (Puts arrival_room (λ code. ArrivesAt code line out.old.marks) out.old out.new) }
+    ensures { OnOk result (Puts 0 arrival_room (λ code. ArrivesAt code line out.old.marks) out.old
+        out.new) }
 {
     let arrived = out.here() + 7;
     put(Op::Arrive(arrived), line, out)?;

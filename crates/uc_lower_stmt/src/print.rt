@@ -45,8 +45,13 @@ fn lower_piece(
 ) -> Result<Op, AllocError>
     requires room { length out.old.ops + OPS_FOR_SIZE * out_item_size item.now ≤ PROGRAM_OPS }
     requires texts { out.old.texts < PROGRAM_SIZE }
-    ensures code { OnOk result (Lowers (OPS_FOR_SIZE * out_item_size item.now - 1) (out_item_size item.now) 0 0 (ValuesCode line out.old.marks (items_meant (context_in names.now out.old) out.old.texts (item.now ∷ []))) (record (scope_of out.old) { texts = out.old.texts + length (item_texts (item.now ∷ [])) }) out.old out.new) }
-    ensures op { IfOk result (λ op. op ∷ [] ≡ map item_op (items_meant (context_in names.now out.old) out.old.texts (item.now ∷ []))) }
+    ensures code { OnOk result (Lowers (OPS_FOR_SIZE * out_item_size item.now - 1)
+        (out_item_size item.now) 0 0 (ValuesCode line out.old.marks
+        (items_meant (context_in names.now out.old) out.old.texts (item.now ∷ [])))
+        (record (scope_of out.old) { texts = out.old.texts + length (item_texts (item.now ∷ [])) })
+        out.old out.new) }
+    ensures op { IfOk result (λ op. op ∷ [] ≡ map item_op
+        (items_meant (context_in names.now out.old) out.old.texts (item.now ∷ []))) }
 {
     match &item.form {
         OutForm::Endl => {
@@ -69,7 +74,11 @@ fn lower_item(
 ) -> Result<(), AllocError>
     requires room { length out.old.ops + OPS_FOR_SIZE * out_item_size item.now ≤ PROGRAM_OPS }
     requires texts { out.old.texts < PROGRAM_SIZE }
-    ensures { OnOk result (Lowers (OPS_FOR_SIZE * out_item_size item.now) (out_item_size item.now) 0 0 (ItemsCode line out.old.marks (items_meant (context_in names.now out.old) out.old.texts (item.now ∷ []))) (record (scope_of out.old) { texts = out.old.texts + length (item_texts (item.now ∷ [])) }) out.old out.new) }
+    ensures { OnOk result (Lowers (OPS_FOR_SIZE * out_item_size item.now) (out_item_size item.now)
+        0 0 (ItemsCode line out.old.marks
+        (items_meant (context_in names.now out.old) out.old.texts (item.now ∷ [])))
+        (record (scope_of out.old) { texts = out.old.texts + length (item_texts (item.now ∷ [])) })
+        out.old out.new) }
 {
     let op = lower_piece(item, line, names, out)?;
     put(op, line, out)?;
@@ -85,7 +94,11 @@ pub fn lower_items(
 ) -> Result<(), AllocError>
     requires room { length out.old.ops + OPS_FOR_SIZE * out_items_size items.now ≤ PROGRAM_OPS }
     requires texts { out.old.texts + out_items_size items.now ≤ PROGRAM_SIZE }
-    ensures { OnOk result (Lowers (OPS_FOR_SIZE * out_items_size items.now) (out_items_size items.now) 0 0 (ItemsCode line out.old.marks (items_meant (context_in names.now out.old) out.old.texts items.now)) (record (scope_of out.old) { texts = out.old.texts + length (item_texts items.now) }) out.old out.new) }
+    ensures { OnOk result (Lowers (OPS_FOR_SIZE * out_items_size items.now)
+        (out_items_size items.now) 0 0 (ItemsCode line out.old.marks
+        (items_meant (context_in names.now out.old) out.old.texts items.now))
+        (record (scope_of out.old) { texts = out.old.texts + length (item_texts items.now) })
+        out.old out.new) }
 {
     for item in items {
         lower_item(item, line, names, out)?;
@@ -103,8 +116,13 @@ fn lower_pieces(
 ) -> Result<Vec<Op>, AllocError>
     requires room { length out.old.ops + OPS_FOR_SIZE * out_items_size items.now ≤ PROGRAM_OPS }
     requires texts { out.old.texts + out_items_size items.now ≤ PROGRAM_SIZE }
-    ensures code { OnOk result (Lowers (OPS_FOR_SIZE * out_items_size items.now - length items.now) (out_items_size items.now) 0 0 (ValuesCode line out.old.marks (items_meant (context_in names.now out.old) out.old.texts items.now)) (record (scope_of out.old) { texts = out.old.texts + length (item_texts items.now) }) out.old out.new) }
-    ensures ops { IfOk result (λ pieces. pieces.items ≡ map item_op (items_meant (context_in names.now out.old) out.old.texts items.now)) }
+    ensures code { OnOk result (Lowers (OPS_FOR_SIZE * out_items_size items.now - length items.now)
+        (out_items_size items.now) 0 0 (ValuesCode line out.old.marks
+        (items_meant (context_in names.now out.old) out.old.texts items.now))
+        (record (scope_of out.old) { texts = out.old.texts + length (item_texts items.now) })
+        out.old out.new) }
+    ensures ops { IfOk result (λ pieces. pieces.items ≡ map item_op
+        (items_meant (context_in names.now out.old) out.old.texts items.now)) }
 {
     let mut pieces = Vec::new(alloc);
     for item in items {
@@ -135,9 +153,14 @@ pub fn lower_together(
     names: &ProgramNames,
     out: &mut Draft,
 ) -> Result<(), AllocError>
-    requires room { length out.old.ops + OPS_FOR_SIZE * (1 + out_items_size items.now) ≤ PROGRAM_OPS }
+    requires room { length out.old.ops + OPS_FOR_SIZE * (1 + out_items_size items.now) ≤
+        PROGRAM_OPS }
     requires texts { out.old.texts + out_items_size items.now ≤ PROGRAM_SIZE }
-    ensures { OnOk result (Lowers (OPS_FOR_SIZE * (1 + out_items_size items.now)) (out_items_size items.now) 0 0 (TogetherCode line out.old.marks (items_meant (context_in names.now out.old) out.old.texts items.now)) (record (scope_of out.old) { texts = out.old.texts + length (item_texts items.now) }) out.old out.new) }
+    ensures { OnOk result (Lowers (OPS_FOR_SIZE * (1 + out_items_size items.now))
+        (out_items_size items.now) 0 0 (TogetherCode line out.old.marks
+        (items_meant (context_in names.now out.old) out.old.texts items.now))
+        (record (scope_of out.old) { texts = out.old.texts + length (item_texts items.now) })
+        out.old out.new) }
 {
     let pieces = lower_pieces(alloc, items, line, names, out)?;
     put(Op::Hold, line, out)?;
@@ -153,7 +176,9 @@ fn lower_target(
     out: &mut Draft,
 ) -> Result<(), AllocError>
     requires { length out.old.ops + OPS_FOR_SIZE * expr_size place.now ≤ PROGRAM_OPS }
-    ensures { OnOk result (Adds (OPS_FOR_SIZE * expr_size place.now) (TargetsCode line out.old.marks (target_meant (context_in names.now out.old) place.now ∷ [])) out.old out.new) }
+    ensures { OnOk result (Adds (OPS_FOR_SIZE * expr_size place.now)
+        (TargetsCode line out.old.marks (target_meant (context_in names.now out.old) place.now ∷
+        [])) out.old out.new) }
 {
     let told = lower_expr(place, line, names, out)?;
     put(Op::Read(form(told.scalar)), line, out)?;
@@ -169,7 +194,9 @@ pub fn lower_targets(
     out: &mut Draft,
 ) -> Result<(), AllocError>
     requires { length out.old.ops + OPS_FOR_SIZE * exprs_size (exprs_of places.now) ≤ PROGRAM_OPS }
-    ensures { OnOk result (Adds (OPS_FOR_SIZE * exprs_size (exprs_of places.now)) (TargetsCode line out.old.marks (targets_meant (context_in names.now out.old) (exprs_of places.now))) out.old out.new) }
+    ensures { OnOk result (Adds (OPS_FOR_SIZE * exprs_size (exprs_of places.now))
+        (TargetsCode line out.old.marks (targets_meant (context_in names.now out.old)
+        (exprs_of places.now))) out.old out.new) }
 {
     for place in places {
         lower_target(place, line, names, out)?;

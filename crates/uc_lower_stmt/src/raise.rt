@@ -36,9 +36,14 @@ fn lower_built(
     names: &ProgramNames,
     out: &mut Draft,
 ) -> Result<(), AllocError>
-    requires room { length out.old.ops + OPS_FOR_SIZE * exprs_size (exprs_of args.now) + 8 ≤ PROGRAM_OPS }
+    requires room { length out.old.ops + OPS_FOR_SIZE * exprs_size (exprs_of args.now) + 8 ≤
+        PROGRAM_OPS }
     requires cell { cell + 1 < 2 ^ 32 }
-    ensures { OnOk result (Puts (OPS_FOR_SIZE * exprs_size (exprs_of args.now) + 8) (λ code. RaisedAt code line out.old.marks (BuiltAt event cell (OfObject (CallOn routine (Variable cell) (args_by (params_of names.now routine) (args_meant (context_in names.now out.old) (exprs_of args.now))))))) out.old out.new) }
+    ensures { OnOk result (Puts 0 (OPS_FOR_SIZE * exprs_size (exprs_of args.now) + 8)
+        (λ code. RaisedAt code line out.old.marks
+        (BuiltAt event cell (OfObject (CallOn routine (Variable cell)
+        (args_by (params_of names.now routine)
+        (args_meant (context_in names.now out.old) (exprs_of args.now))))))) out.old out.new) }
 {
     put(
         Op::Clear {
@@ -110,8 +115,11 @@ pub(crate) fn lower_throw(
     names: &ProgramNames,
     out: &mut Draft,
 ) -> Result<(), AllocError>
-    requires { length out.old.ops + OPS_FOR_SIZE * (1 + maybe_raised_size raised.now) ≤ PROGRAM_OPS }
-    ensures { OnOk result (LowersRaise names.now (Throw line (raised_meant names.now (scope_of out.old) raised.now)) raised.now out.old out.new) }
+    requires { length out.old.ops + OPS_FOR_SIZE * (1 + maybe_raised_size raised.now) ≤
+        PROGRAM_OPS }
+    ensures { OnOk result (LowersRaise names.now
+        (Throw line (raised_meant names.now (scope_of out.old) raised.now)) raised.now out.old
+        out.new) }
 {
     lower_raised(raised, line, names, out)?;
     put_throw(line, out)?;
@@ -126,8 +134,11 @@ pub(crate) fn lower_raise(
     names: &ProgramNames,
     out: &mut Draft,
 ) -> Result<(), AllocError>
-    requires { length out.old.ops + OPS_FOR_SIZE * (1 + maybe_raised_size raised.now) ≤ PROGRAM_OPS }
-    ensures { OnOk result (LowersRaise names.now (Raise line (raised_meant names.now (scope_of out.old) raised.now)) raised.now out.old out.new) }
+    requires { length out.old.ops + OPS_FOR_SIZE * (1 + maybe_raised_size raised.now) ≤
+        PROGRAM_OPS }
+    ensures { OnOk result (LowersRaise names.now
+        (Raise line (raised_meant names.now (scope_of out.old) raised.now)) raised.now out.old
+        out.new) }
 {
     lower_raised(raised, line, names, out)?;
     put_raise(line, out)?;
@@ -142,7 +153,8 @@ pub(crate) fn lower_raise_at(
     names: &ProgramNames,
     out: &mut Draft,
 ) -> Result<(), AllocError>
-    requires { length out.old.ops + OPS_FOR_SIZE * (1 + raised_size raised.now + expr_size target.now) ≤ PROGRAM_OPS }
+    requires { length out.old.ops + OPS_FOR_SIZE *
+        (1 + raised_size raised.now + expr_size target.now) ≤ PROGRAM_OPS }
     ensures { OnOk result (LowersRaiseAt names.now line raised.now target.now out.old out.new) }
 {
     lower_new(raised, line, names, out)?;

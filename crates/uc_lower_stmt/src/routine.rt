@@ -14,6 +14,7 @@ ghost use Rattle.uc_code.specs.Layout.{laid_in};
 ghost use Rattle.uc_code.specs.CodeShapes.{Kept};
 ghost use Rattle.uc_code.specs.Lowered.{RoutineAt};
 ghost use Rattle.uc_lower_expr.specs.DraftGrowth.{Adds};
+ghost use Rattle.uc_lower_stmt.specs.RowFit.{RoutineRows};
 ghost use Rattle.uc_lower_stmt.specs.LowersStatement.{sizes_at};
 ghost use Rattle.uc_lower_stmt.specs.Routines.{EndCode, OwedCode, LowersMutex, LowersPlain, LowersRoutine, frame_cells, main_in, purpose_by};
 
@@ -68,7 +69,11 @@ pub fn declare_params(
     out: &mut Draft,
 ) -> Result<(), AllocError>
     requires { out.old.cells + params_cells names.now params.now ≤ FRAME_CELLS }
-    ensures { OnOk result (out.new ≡ record out.old { names = out.old.names ++ params_known names.now out.old.cells params.now; cells = out.old.cells + params_cells names.now params.now }) }
+    ensures { OnOk result (out.new ≡ record out.old {
+      names = out.old.names ++ params_known names.now out.old.cells params.now;
+      cells =
+          out.old.cells + params_cells names.now params.now;
+    }) }
 {
     for param in params {
         let name = param.name.copy(alloc)?;
@@ -109,11 +114,15 @@ fn lower_main(
 ) -> Result<(), AllocError>
     requires written { last < length (routines_of names.now) }
     requires outside { out.old.marks ≡ [] }
-    requires room { length out.old.ops + OPS_FOR_SIZE * (1 + sizes_at routine.now.body 0) ≤ PROGRAM_OPS }
-    requires cells { out.old.cells + stmts_cells routine.now.body (declared_cells names.now) ≤ FRAME_CELLS }
+    requires room { length out.old.ops + OPS_FOR_SIZE * (1 + sizes_at routine.now.body 0) ≤
+        PROGRAM_OPS }
+    requires cells { out.old.cells + stmts_cells routine.now.body (declared_cells names.now) ≤
+        FRAME_CELLS }
     requires scopes { out.old.scopes + stmts_scopes routine.now.body ≤ PROGRAM_SIZE }
     requires texts { out.old.texts + stmts_size routine.now.body ≤ PROGRAM_SIZE }
-    ensures { OnOk result (LowersRoutine names.now (purpose_by main) last routine.now out.old out.new) }
+    ensures code { OnOk result (LowersRoutine names.now (purpose_by main) last routine.now out.old
+        out.new) }
+    ensures rows { OnOk result (RoutineRows out.old out.new) }
 {
     let line = line_of(routine);
     let _row = out.open(Opening::Main {
@@ -138,11 +147,15 @@ fn lower_called(
 ) -> Result<(), AllocError>
     requires written { last < length (routines_of names.now) }
     requires outside { out.old.marks ≡ [] }
-    requires room { length out.old.ops + OPS_FOR_SIZE * (1 + sizes_at routine.now.body 0) ≤ PROGRAM_OPS }
-    requires cells { out.old.cells + stmts_cells routine.now.body (declared_cells names.now) ≤ FRAME_CELLS }
+    requires room { length out.old.ops + OPS_FOR_SIZE * (1 + sizes_at routine.now.body 0) ≤
+        PROGRAM_OPS }
+    requires cells { out.old.cells + stmts_cells routine.now.body (declared_cells names.now) ≤
+        FRAME_CELLS }
     requires scopes { out.old.scopes + stmts_scopes routine.now.body ≤ PROGRAM_SIZE }
     requires texts { out.old.texts + stmts_size routine.now.body ≤ PROGRAM_SIZE }
-    ensures { OnOk result (LowersRoutine names.now (value_purpose names.now routine.now.sig.ret) last routine.now out.old out.new) }
+    ensures code { OnOk result (LowersRoutine names.now
+        (value_purpose names.now routine.now.sig.ret) last routine.now out.old out.new) }
+    ensures rows { OnOk result (RoutineRows out.old out.new) }
 {
     let line = line_of(routine);
     out.enter_body(last)?;
@@ -174,11 +187,14 @@ fn lower_mutex(
 ) -> Result<(), AllocError>
     requires written { last < length (routines_of names.now) }
     requires outside { out.old.marks ≡ [] }
-    requires room { length out.old.ops + OPS_FOR_SIZE * (1 + sizes_at routine.now.body 0) ≤ PROGRAM_OPS }
-    requires cells { out.old.cells + stmts_cells routine.now.body (declared_cells names.now) ≤ FRAME_CELLS }
+    requires room { length out.old.ops + OPS_FOR_SIZE * (1 + sizes_at routine.now.body 0) ≤
+        PROGRAM_OPS }
+    requires cells { out.old.cells + stmts_cells routine.now.body (declared_cells names.now) ≤
+        FRAME_CELLS }
     requires scopes { out.old.scopes + stmts_scopes routine.now.body ≤ PROGRAM_SIZE }
     requires texts { out.old.texts + stmts_size routine.now.body ≤ PROGRAM_SIZE }
-    ensures { OnOk result (LowersMutex names.now last routine.now out.old out.new) }
+    ensures code { OnOk result (LowersMutex names.now last routine.now out.old out.new) }
+    ensures rows { OnOk result (RoutineRows out.old out.new) }
 {
     let line = line_of(routine);
     out.enter_body(last)?;
@@ -205,15 +221,20 @@ fn lower_statements(
     out: &mut Draft,
 ) -> Result<(), AllocError>
     requires plain { is_plain routine.now.sig.role ≡ true }
-    requires main { main ≡ main_in names.now number (class_by names.now out.old.place.class) routine.now.sig }
-    requires named { nat_eq number (main_number names.now) ≡ true → is_main names.now routine.now.sig ≡ true }
+    requires main { main ≡ main_in names.now number (class_by names.now out.old.place.class)
+        routine.now.sig }
+    requires named { nat_eq number (main_number names.now) ≡ true → is_main names.now
+        routine.now.sig ≡ true }
     requires written { last < length (routines_of names.now) }
     requires outside { out.old.marks ≡ [] }
-    requires room { length out.old.ops + OPS_FOR_SIZE * (1 + sizes_at routine.now.body 0) ≤ PROGRAM_OPS }
-    requires cells { out.old.cells + stmts_cells routine.now.body (declared_cells names.now) ≤ FRAME_CELLS }
+    requires room { length out.old.ops + OPS_FOR_SIZE * (1 + sizes_at routine.now.body 0) ≤
+        PROGRAM_OPS }
+    requires cells { out.old.cells + stmts_cells routine.now.body (declared_cells names.now) ≤
+        FRAME_CELLS }
     requires scopes { out.old.scopes + stmts_scopes routine.now.body ≤ PROGRAM_SIZE }
     requires texts { out.old.texts + stmts_size routine.now.body ≤ PROGRAM_SIZE }
-    ensures { OnOk result (LowersPlain names.now number last routine.now out.old out.new) }
+    ensures code { OnOk result (LowersPlain names.now number last routine.now out.old out.new) }
+    ensures rows { OnOk result (RoutineRows out.old out.new) }
 {
     match main {
         Some(main) => {
@@ -248,23 +269,46 @@ pub fn lower_routine(
 ) -> Result<(), AllocError>
     requires plain { is_plain routine.now.sig.role ≡ true }
     requires main { main ≡ main_in names.now number (class_by names.now class) routine.now.sig }
-    requires named { nat_eq number (main_number names.now) ≡ true → is_main names.now routine.now.sig ≡ true }
+    requires named { nat_eq number (main_number names.now) ≡ true → is_main names.now
+        routine.now.sig ≡ true }
     requires few_params { length routine.now.sig.params ≤ PROGRAM_SIZE }
     requires known { number < length out.old.routines }
     requires behind { number ≤ last }
     requires written { last < length (routines_of names.now) }
     requires outside { out.old.marks ≡ [] }
-    requires room { length out.old.ops + OPS_FOR_SIZE * (1 + sizes_at routine.now.body 0) ≤ PROGRAM_OPS }
+    requires room { length out.old.ops + OPS_FOR_SIZE * (1 + sizes_at routine.now.body 0) ≤
+        PROGRAM_OPS }
     requires cells { routine_cells names.now routine.now ≤ FRAME_CELLS }
     requires texts { texts + stmts_size routine.now.body ≤ PROGRAM_SIZE }
     ensures kept { OnOk result (Kept (laid_in out.old) (laid_in out.new)) }
-    ensures room { OnOk result (length out.new.ops ≤ length out.old.ops + OPS_FOR_SIZE * (1 + sizes_at routine.now.body 0)) }
-    ensures code { OnOk result (RoutineAt (laid_in out.new) last number (routine_meant names.now routine.now (routine_scope names.now routine.now class number texts sites)) (record { entry = length out.old.ops; cells = frame_cells names.now routine.now; params = length routine.now.sig.params; written = true }) (length out.old.ops) (length out.new.ops)) }
-    ensures written { OnOk result (out.new.routines ≡ slice_set out.old.routines number (record { entry = length out.old.ops; cells = frame_cells names.now routine.now; params = length routine.now.sig.params; written = true })) }
+    ensures rows { OnOk result (RoutineRows out.old out.new) }
+    ensures room { OnOk result (length out.new.ops ≤ length out.old.ops + OPS_FOR_SIZE *
+        (1 + sizes_at routine.now.body 0)) }
+    ensures code { OnOk result (RoutineAt (laid_in out.new) last number
+        (routine_meant names.now routine.now
+        (routine_scope names.now routine.now class number texts sites))
+        (record {
+          entry = length out.old.ops;
+          cells = frame_cells names.now routine.now;
+          params =
+              length routine.now.sig.params;
+          written = true;
+        }) (length out.old.ops)
+        (length out.new.ops)) }
+    ensures written { OnOk result (out.new.routines ≡ slice_set out.old.routines number
+        (record {
+          entry = length out.old.ops;
+          cells = frame_cells names.now routine.now;
+          params =
+              length routine.now.sig.params;
+          written = true;
+        })) }
     ensures outside { OnOk result (out.new.marks ≡ []) }
-    ensures texts { OnOk result (out.new.texts ≡ texts + length (gathered_all own_texts routine.now.body)) }
+    ensures texts { OnOk result (out.new.texts ≡ texts + length
+        (gathered_all own_texts routine.now.body)) }
     ensures few_texts { OnOk result (out.new.texts ≤ texts + stmts_size routine.now.body) }
-    ensures sites { OnOk result (out.new.sites ≡ sites + length (gathered_all (own_sites None 0) routine.now.body)) }
+    ensures sites { OnOk result (out.new.sites ≡ sites + length
+        (gathered_all (own_sites None 0) routine.now.body)) }
 {
     let entry = out.here();
     let sig = sig_of(routine);

@@ -18,6 +18,7 @@ ghost use Rattle.uc_tree.specs.Cells.{declared_cells, declarators_cells, for_cel
 ghost use Rattle.uc_resolve.specs.Resolve.{Scope, order_of, test_of};
 ghost use Rattle.uc_code.specs.Layout.{routine_in};
 ghost use Rattle.uc_code.specs.Emits.{Puts};
+ghost use Rattle.uc_code.specs.RowCounts.{return_rows};
 ghost use Rattle.uc_code.specs.CodeShapes.{begin_at};
 ghost use Rattle.uc_lower_expr.specs.DraftGrowth.{Adds};
 ghost use Rattle.uc_lower_stmt.specs.Marked.{objects_in, taken};
@@ -56,7 +57,8 @@ pub fn lower_stmt(
     out: &mut Draft,
 ) -> Result<(), AllocError>
     requires inside { routine_in out.old.marks < length (routines_of names.now) }
-    requires room { taken out.old + OPS_FOR_SIZE * size_at s.now (objects_in out.old.marks) ≤ PROGRAM_OPS }
+    requires room { taken out.old + OPS_FOR_SIZE * size_at s.now (objects_in out.old.marks) ≤
+        PROGRAM_OPS }
     requires cells { out.old.cells + stmt_cells s.now (declared_cells names.now) ≤ FRAME_CELLS }
     requires scopes { out.old.scopes + stmt_scopes s.now ≤ PROGRAM_SIZE }
     requires texts { out.old.texts + stmt_size s.now ≤ PROGRAM_SIZE }
@@ -193,8 +195,10 @@ pub fn lower_stmts(
     out: &mut Draft,
 ) -> Result<(), AllocError>
     requires inside { routine_in out.old.marks < length (routines_of names.now) }
-    requires room { taken out.old + OPS_FOR_SIZE * sizes_at (stmts_of stmts.now) (objects_in out.old.marks) ≤ PROGRAM_OPS }
-    requires cells { out.old.cells + stmts_cells (stmts_of stmts.now) (declared_cells names.now) ≤ FRAME_CELLS }
+    requires room { taken out.old + OPS_FOR_SIZE * sizes_at (stmts_of stmts.now)
+        (objects_in out.old.marks) ≤ PROGRAM_OPS }
+    requires cells { out.old.cells + stmts_cells (stmts_of stmts.now) (declared_cells names.now) ≤
+        FRAME_CELLS }
     requires scopes { out.old.scopes + stmts_scopes (stmts_of stmts.now) ≤ PROGRAM_SIZE }
     requires texts { out.old.texts + stmts_size (stmts_of stmts.now) ≤ PROGRAM_SIZE }
     ensures { OnOk result (LowersStmts names.now line (stmts_of stmts.now) out.old out.new) }
@@ -217,7 +221,8 @@ fn lower_next(
     out: &mut Draft,
 ) -> Result<(), AllocError>
     requires inside { routine_in out.old.marks < length (routines_of names.now) }
-    requires room { taken out.old + OPS_FOR_SIZE * size_at s.now (objects_in out.old.marks) ≤ PROGRAM_OPS }
+    requires room { taken out.old + OPS_FOR_SIZE * size_at s.now (objects_in out.old.marks) ≤
+        PROGRAM_OPS }
     requires cells { out.old.cells + stmt_cells s.now (declared_cells names.now) ≤ FRAME_CELLS }
     requires scopes { out.old.scopes + stmt_scopes s.now ≤ PROGRAM_SIZE }
     requires texts { out.old.texts + stmt_size s.now ≤ PROGRAM_SIZE }
@@ -302,8 +307,10 @@ fn lower_declaration(
 ) -> Result<(), AllocError>
     requires inside { routine_in out.old.marks < length (routines_of names.now) }
     requires room { taken out.old + OPS_FOR_SIZE * declarators_size declarators.now ≤ PROGRAM_OPS }
-    requires cells { out.old.cells + declarators_cells (declared_cells names.now base.now) declarators.now ≤ FRAME_CELLS }
-    ensures { OnOk result (LowersDeclaration names.now line base.now declarators.now out.old out.new) }
+    requires cells { out.old.cells + declarators_cells (declared_cells names.now base.now)
+        declarators.now ≤ FRAME_CELLS }
+    ensures { OnOk result (LowersDeclaration names.now line base.now declarators.now out.old
+        out.new) }
 {
     match names.made(base) {
         Some(made) => {
@@ -360,7 +367,8 @@ pub(crate) fn lower_alone(
     out: &mut Draft,
 ) -> Result<(), AllocError>
     requires inside { routine_in out.old.marks < length (routines_of names.now) }
-    requires room { taken out.old + OPS_FOR_SIZE * size_at s.now (objects_in out.old.marks) ≤ PROGRAM_OPS }
+    requires room { taken out.old + OPS_FOR_SIZE * size_at s.now (objects_in out.old.marks) ≤
+        PROGRAM_OPS }
     requires cells { out.old.cells + stmt_cells s.now (declared_cells names.now) ≤ FRAME_CELLS }
     requires scopes { out.old.scopes + (alone_scopes s.now + stmt_scopes s.now) ≤ PROGRAM_SIZE }
     requires texts { out.old.texts + stmt_size s.now ≤ PROGRAM_SIZE }
@@ -385,8 +393,10 @@ pub(crate) fn lower_maybe(
     out: &mut Draft,
 ) -> Result<(), AllocError>
     requires inside { routine_in out.old.marks < length (routines_of names.now) }
-    requires room { taken out.old + OPS_FOR_SIZE * maybe_at_size (maybe_at other.now) (objects_in out.old.marks) ≤ PROGRAM_OPS }
-    requires cells { out.old.cells + maybe_cells (maybe_at other.now) (declared_cells names.now) ≤ FRAME_CELLS }
+    requires room { taken out.old + OPS_FOR_SIZE * maybe_at_size (maybe_at other.now)
+        (objects_in out.old.marks) ≤ PROGRAM_OPS }
+    requires cells { out.old.cells + maybe_cells (maybe_at other.now) (declared_cells names.now) ≤
+        FRAME_CELLS }
     requires scopes { out.old.scopes + maybe_scopes (maybe_at other.now) ≤ PROGRAM_SIZE }
     requires texts { out.old.texts + maybe_stmt_size (maybe_at other.now) ≤ PROGRAM_SIZE }
     ensures { OnOk result (LowersMaybe names.now (maybe_at other.now) out.old out.new) }
@@ -411,11 +421,17 @@ fn lower_if(
     out: &mut Draft,
 ) -> Result<(), AllocError>
     requires inside { routine_in out.old.marks < length (routines_of names.now) }
-    requires room { taken out.old + OPS_FOR_SIZE * (1 + expr_size test.now + size_at chosen.now (objects_in out.old.marks) + maybe_at_size (maybe_at other.now) (objects_in out.old.marks)) ≤ PROGRAM_OPS }
-    requires cells { out.old.cells + (stmt_cells chosen.now (declared_cells names.now) + maybe_cells (maybe_at other.now) (declared_cells names.now)) ≤ FRAME_CELLS }
-    requires scopes { out.old.scopes + (alone_scopes chosen.now + stmt_scopes chosen.now + maybe_scopes (maybe_at other.now)) ≤ PROGRAM_SIZE }
-    requires texts { out.old.texts + (stmt_size chosen.now + maybe_stmt_size (maybe_at other.now)) ≤ PROGRAM_SIZE }
-    ensures { OnOk result (LowersIf names.now line test.now chosen.now (maybe_at other.now) out.old out.new) }
+    requires room { taken out.old + OPS_FOR_SIZE *
+        (1 + expr_size test.now + size_at chosen.now (objects_in out.old.marks) + maybe_at_size
+        (maybe_at other.now) (objects_in out.old.marks)) ≤ PROGRAM_OPS }
+    requires cells { out.old.cells + (stmt_cells chosen.now (declared_cells names.now) +
+        maybe_cells (maybe_at other.now) (declared_cells names.now)) ≤ FRAME_CELLS }
+    requires scopes { out.old.scopes + (alone_scopes chosen.now + stmt_scopes chosen.now +
+        maybe_scopes (maybe_at other.now)) ≤ PROGRAM_SIZE }
+    requires texts { out.old.texts + (stmt_size chosen.now + maybe_stmt_size (maybe_at other.now))
+        ≤ PROGRAM_SIZE }
+    ensures { OnOk result (LowersIf names.now line test.now chosen.now (maybe_at other.now) out.old
+        out.new) }
 {
     let _told = lower_value(test, line, names, out)?;
     let choose = out.here();
@@ -448,7 +464,8 @@ fn lower_step(
     out: &mut Draft,
 ) -> Result<(), AllocError>
     requires { length out.old.ops + OPS_FOR_SIZE * maybe_expr_size step.now ≤ PROGRAM_OPS }
-    ensures { OnOk result (Adds (OPS_FOR_SIZE * maybe_expr_size step.now) (StepCode names.now line out.old.marks (scope_of out.old) step.now) out.old out.new) }
+    ensures { OnOk result (Adds (OPS_FOR_SIZE * maybe_expr_size step.now)
+        (StepCode names.now line out.old.marks (scope_of out.old) step.now) out.old out.new) }
 {
     match step {
         Some(step) => {
@@ -469,7 +486,9 @@ fn lower_back(
     out: &mut Draft,
 ) -> Result<(), AllocError>
     requires { length out.old.ops + OPS_FOR_SIZE * turning_size turning + 1 ≤ PROGRAM_OPS }
-    ensures { OnOk result (Adds (OPS_FOR_SIZE * turning_size turning.entry + 1) (BackCode names.now line out.old.marks (scope_of out.old) turning.entry turn) out.old out.new) }
+    ensures { OnOk result (Adds (OPS_FOR_SIZE * turning_size turning.entry + 1)
+        (BackCode names.now line out.old.marks (scope_of out.old) turning.entry turn) out.old
+        out.new) }
 {
     match turning {
         Turning::TestFirst(test) => {
@@ -523,11 +542,15 @@ fn lower_loop(
     out: &mut Draft,
 ) -> Result<(), AllocError>
     requires inside { routine_in out.old.marks < length (routines_of names.now) }
-    requires room { taken out.old + OPS_FOR_SIZE * (1 + turning_size turning + maybe_expr_size step.now + size_at body.now (objects_in out.old.marks)) ≤ PROGRAM_OPS }
+    requires room { taken out.old + OPS_FOR_SIZE *
+        (1 + turning_size turning + maybe_expr_size step.now + size_at body.now
+        (objects_in out.old.marks)) ≤ PROGRAM_OPS }
     requires cells { out.old.cells + stmt_cells body.now (declared_cells names.now) ≤ FRAME_CELLS }
-    requires scopes { out.old.scopes + (alone_scopes body.now + stmt_scopes body.now) ≤ PROGRAM_SIZE }
+    requires scopes { out.old.scopes + (alone_scopes body.now + stmt_scopes body.now) ≤
+        PROGRAM_SIZE }
     requires texts { out.old.texts + stmt_size body.now ≤ PROGRAM_SIZE }
-    ensures { OnOk result (LowersLoop names.now line turning.entry step.now body.now out.old out.new) }
+    ensures { OnOk result (LowersLoop names.now line turning.entry step.now body.now out.old
+        out.new) }
 {
     let start = out.here();
     begin_loop(line, out)?;
@@ -583,8 +606,10 @@ fn lower_for_declaration(
 ) -> Result<(), AllocError>
     requires inside { routine_in out.old.marks < length (routines_of names.now) }
     requires room { taken out.old + OPS_FOR_SIZE * declarators_size declarators.now ≤ PROGRAM_OPS }
-    requires cells { out.old.cells + declarators_cells (declared_cells names.now base.now) declarators.now ≤ FRAME_CELLS }
-    ensures { OnOk result (LaysDeclaration names.now line line base.now declarators.now out.old out.new) }
+    requires cells { out.old.cells + declarators_cells (declared_cells names.now base.now)
+        declarators.now ≤ FRAME_CELLS }
+    ensures { OnOk result (LaysDeclaration names.now line line base.now declarators.now out.old
+        out.new) }
 {
     match names.made(base) {
         Some(made) => {
@@ -622,11 +647,16 @@ fn lower_for(
     out: &mut Draft,
 ) -> Result<(), AllocError>
     requires inside { routine_in out.old.marks < length (routines_of names.now) }
-    requires room { taken out.old + OPS_FOR_SIZE * (1 + for_start_size start.now + maybe_expr_size test.now + maybe_expr_size step.now + size_at body.now (objects_in out.old.marks + for_declares start.now)) ≤ PROGRAM_OPS }
-    requires cells { out.old.cells + (for_cells start.now (declared_cells names.now) + stmt_cells body.now (declared_cells names.now)) ≤ FRAME_CELLS }
-    requires scopes { out.old.scopes + (1 + alone_scopes body.now + stmt_scopes body.now) ≤ PROGRAM_SIZE }
+    requires room { taken out.old + OPS_FOR_SIZE *
+        (1 + for_start_size start.now + maybe_expr_size test.now + maybe_expr_size step.now +
+        size_at body.now (objects_in out.old.marks + for_declares start.now)) ≤ PROGRAM_OPS }
+    requires cells { out.old.cells + (for_cells start.now (declared_cells names.now) + stmt_cells
+        body.now (declared_cells names.now)) ≤ FRAME_CELLS }
+    requires scopes { out.old.scopes + (1 + alone_scopes body.now + stmt_scopes body.now) ≤
+        PROGRAM_SIZE }
     requires texts { out.old.texts + stmt_size body.now ≤ PROGRAM_SIZE }
-    ensures { OnOk result (LowersFor names.now line start.now test.now step.now body.now out.old out.new) }
+    ensures { OnOk result (LowersFor names.now line start.now test.now step.now body.now out.old
+        out.new) }
 {
     let outside = out.open_scope();
     let depth = out.marks().len();
@@ -644,8 +674,11 @@ fn lower_return(
     names: &ProgramNames,
     out: &mut Draft,
 ) -> Result<(), AllocError>
-    requires { taken out.old + OPS_FOR_SIZE * (1 + maybe_expr_size value.now + objects_in out.old.marks) ≤ PROGRAM_OPS }
-    ensures { OnOk result (Puts (OPS_FOR_SIZE * (1 + maybe_expr_size value.now + objects_in out.old.marks)) (ReturnCode names.now line out.old.marks (scope_of out.old) value.now) out.old out.new) }
+    requires { taken out.old + OPS_FOR_SIZE *
+        (1 + maybe_expr_size value.now + objects_in out.old.marks) ≤ PROGRAM_OPS }
+    ensures { OnOk result (Puts (return_rows out.old.marks)
+        (OPS_FOR_SIZE * (1 + maybe_expr_size value.now + objects_in out.old.marks))
+        (ReturnCode names.now line out.old.marks (scope_of out.old) value.now) out.old out.new) }
 {
     match value {
         Some(value) => {

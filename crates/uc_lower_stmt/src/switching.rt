@@ -15,7 +15,9 @@ use uc_lower_expr::put::{put, put_at_risk};
 /// memory the draft is spent.
 pub(crate) fn put_switch(op: Op, line: u32, out: &mut Draft) -> Result<(), AllocError>
     requires { length out.old.ops + 6 ≤ PROGRAM_OPS }
-    ensures { OnOk result (Puts 6 (λ code. Both (One code op line) (Both (Risk code out.old.marks Op.Land line) (PollAt code out.old.marks line))) out.old out.new) }
+    ensures { OnOk result (Puts 0 6 (λ code. Both (One code op line)
+        (Both (Risk code out.old.marks Op.Land line) (PollAt code out.old.marks line))) out.old
+        out.new) }
 {
     put(op, line, out)?;
     put_at_risk(Op::Land, line, out)?;
@@ -26,7 +28,8 @@ pub(crate) fn put_switch(op: Op, line: u32, out: &mut Draft) -> Result<(), Alloc
 /// Adds the op that lets others run, behind which the task is delivered events. After want of memory the draft is spent.
 pub(crate) fn put_yield(line: u32, out: &mut Draft) -> Result<(), AllocError>
     requires { length out.old.ops + 5 ≤ PROGRAM_OPS }
-    ensures { OnOk result (Puts 5 (λ code. Both (One code Op.Yield line) (PollAt code out.old.marks line)) out.old out.new) }
+    ensures { OnOk result (Puts 0 5 (λ code. Both (One code Op.Yield line)
+        (PollAt code out.old.marks line)) out.old out.new) }
 {
     put(Op::Yield, line, out)?;
     put_poll(line, out)?;

@@ -180,7 +180,7 @@ fn note_reference(
     declarator: &Declarator,
     found: &mut Found,
 ) -> Result<(), AllocError>
-    requires bound { (home : rules.Home) → names.now.around.home ≡ Some home → AreBound names.now.program class.now home.class bound.known bound.names.now }
+    requires bound { (home : rules.OwnClass) → names.now.around.home ≡ Some home → AreBound names.now.program class.now home.class bound.known bound.names.now }
     ensures { OnOk result ((b : base.Base) → sort ≡ sort_of names.now.program b → found.new ≡ after found.old (reference_breaks names.now class.now names.now.around.home b declarator.now)) }
 {
     match names.around().home {
@@ -201,7 +201,7 @@ pub fn note_field(
     declarator: &Declarator,
     found: &mut Found,
 ) -> Result<(), AllocError>
-    requires bound { (home : rules.Home) → names.now.around.home ≡ Some home → AreBound names.now.program class.now home.class bound.known bound.names.now }
+    requires bound { (home : rules.OwnClass) → names.now.around.home ≡ Some home → AreBound names.now.program class.now home.class bound.known bound.names.now }
     ensures { OnOk result ((access : Access) (field : FieldPlace) → found.new ≡ after (after found.old (lone_condition (AtField names.now class.now access base.now declarator.now field))) (unbound_reference (AtField names.now class.now access base.now declarator.now field))) }
 {
     let sort = names.tables().sort_of(base);

@@ -292,8 +292,8 @@ module _ (source : Source) (code : Code) (low : Lowered source code) (m n : Mach
     ended_by : (e : TaskMainEnd) (t : State) → Quietly source s t → line_at code.ops line m.callers ≡ line_of t → MainLeft source (laid_of code) e n t → Follow (laid_of code) source (ended e) n s
     ended_by end.Ended t q l x = (x.before, x.after, ask.End, then_quietly q x.by, x.asks, asked_as main_of.Task line is ask.End (line_of x.before) (l ∙ sym x.line), x.hand)
     ended_by end.Returned t q l x = (x.after, then_quietly q x.by, x.stands)
-    ended_by end.Unhandled t q l x = (t, x.after, ask.Fault (fault_number Unhandled), q, x.asks, asked_as main_of.Task line is (ask.Fault (fault_number Unhandled)) (line_of t) l, tt)
-    ended_by end.HeldUp t q l x = (x.before, x.after, ask.Fault (fault_number BlockedInside), then_quietly q x.by, x.asks, asked_as main_of.Task line is (ask.Fault (fault_number BlockedInside)) (line_of x.before) (l ∙ sym x.line), tt)
+    ended_by end.Unhandled t q l x = (x.before, x.after, ask.Fault (fault_number Unhandled), then_quietly q x.by, x.asks, asked_as main_of.Task line is (ask.Fault (fault_number Unhandled)) (line_of x.before) (l ∙ sym x.line), x.hand)
+    ended_by end.HeldUp t q l x = (x.before, x.after, ask.Fault (fault_number BlockedInside), then_quietly q x.by, x.asks, asked_as main_of.Task line is (ask.Fault (fault_number BlockedInside)) (line_of x.before) (l ∙ sym x.line), x.hand)
 
     pub ends : (e : TaskMainEnd) → ((t : State) → EndsMain (laid_of code) main_of.Task m t → MainLeft source (laid_of code) e n t) → Begins source (laid_of code) m s → Follow (laid_of code) source (ended e) n s
     ends e f (inl l) = absurd (no_end source code low m l.after l.stands line is)
@@ -310,7 +310,7 @@ module _ (source : Source) (code : Code) (low : Lowered source code) (m n : Mach
 
     switched_by : (o : Option RunFault) (t : State) → Quietly source s t → line_at code.ops line m.callers ≡ line_of t → SwitchedAs source (laid_of code) o n t → Follow (laid_of code) source (left_by o) n s
     switched_by None t q l x = (x.after, then_quietly q x.by, x.stands)
-    switched_by (Some f) t q l x = (x.before, x.after, ask.Fault (fault_number f), then_quietly q x.by, x.asks, asked_as main_of.Coroutine line is (ask.Fault (fault_number f)) (line_of x.before) (l ∙ sym x.line), tt)
+    switched_by (Some f) t q l x = (x.before, x.after, ask.Fault (fault_number f), then_quietly q x.by, x.asks, asked_as main_of.Coroutine line is (ask.Fault (fault_number f)) (line_of x.before) (l ∙ sym x.line), x.hand)
 
     pub leaves_coroutine : (o : Option RunFault) → ((t : State) → EndsMain (laid_of code) main_of.Coroutine m t → SwitchedAs source (laid_of code) o n t) → Begins source (laid_of code) m s → Follow (laid_of code) source (left_by o) n s
     leaves_coroutine o f (inl l) = absurd (no_coroutine_end source code low m l.after l.stands line is)
@@ -328,7 +328,7 @@ module _ (source : Source) (code : Code) (m n : Machine) (s t : State) (p : Quie
   switch_stops : (f : RunFault) → n ≡ m → behind_line (laid_of code) m ≡ line_of t → SwitchedAs source (laid_of code) (Some f) n t → Follow (laid_of code) source (stop_by (behind_line (laid_of code) n) (Some f)) n s
   switch_stops f e l x =
       let k : behind_line (laid_of code) n ≡ line_of x.before = ap (behind_line (laid_of code)) e ∙ (l ∙ sym x.line) in
-      (x.before, x.after, ask.Fault (fault_number f), then_quietly p x.by, x.asks, ap (λ (y : ℕ). let b : Asked = record { request = ask.Fault (fault_number f); line = y } in b) k, tt)
+      (x.before, x.after, ask.Fault (fault_number f), then_quietly p x.by, x.asks, ap (λ (y : ℕ). let b : Asked = record { request = ask.Fault (fault_number f); line = y } in b) k, x.hand)
 
   -- whether or not it is a fault
   pub switch_settles : (o : Option RunFault) (how : Stepped) → ((f : RunFault) → Some f ≡ o → n ≡ m) → behind_line (laid_of code) m ≡ line_of t → how ≡ stop_by (behind_line (laid_of code) n) o → SwitchedAs source (laid_of code) o n t → Follow (laid_of code) source how n s
@@ -357,5 +357,5 @@ module _ (source : Source) (code : Code) (m n : Machine) (s : State) where
   pub leaves : (l : Left) → LeavesNow (laid_of code) m s → n ≡ left_as l m → LeftAs source (laid_of code) l n s → Follow (laid_of code) source (left_how l) n s
   leaves left.Ended h e x = (s, s, ask.End, stay, x, as_asked ask.End (no_line h), subst (λ (y : Machine). HandStands (laid_of code) y s) (sym e) h.env.hand)
   leaves left.Returned h e x = (x.after, more x.by stay, x.stands)
-  leaves left.Escaped h e x = (s, s, ask.Fault (fault_number EscapeInUnwind), stay, x, as_asked (ask.Fault (fault_number EscapeInUnwind)) (no_line h), tt)
+  leaves left.Escaped h e x = (s, s, ask.Fault (fault_number EscapeInUnwind), stay, x, as_asked (ask.Fault (fault_number EscapeInUnwind)) (no_line h), subst (λ (y : Machine). HandStands (laid_of code) y s) (sym e) h.env.hand)
   leaves left.PassedOn h e x = (x.after, more x.by stay, x.stands)

@@ -26,13 +26,12 @@ use uc_outside::Gate;
 use uc_step::step::{answer as give, step};
 use uc_step::stepped::{QuietResult, Stepped};
 
-/// How a ride ended: the task with its hand, the new task where one is spawned, the ticks, and what is asked.
+/// How a ride ended: the task with its hand, the new task where one is spawned, and the ticks.
 #[derive(Drop)]
 pub struct Ridden {
     pub work: Work,
     pub child: Option<Task>,
     pub ticks: u32,
-    pub asked: Asked,
 }
 
 /// How a burst of ops ends: by a tick, or by a request, which is then written where one was lent.
@@ -42,14 +41,16 @@ pub(crate) enum BurstEnd {
     Asks,
 }
 
-/// Goes on with an answer up to a request, or up to so many ticks, and then asks for a slice. Where `dispatches` is not 0 it
-/// tells the gate first. No answer depends on the last three arguments. A new task has its memory before it is asked for. Without
-/// memory the task is lost, and so it is where one is spawned whose main the code does not have.
+/// Goes on with an answer up to a request, or up to so many ticks, and then asks for a slice. What is asked is written where it is
+/// lent. Where `dispatches` is not 0 it tells the gate first. No answer depends on the last three arguments. A new task has its
+/// memory before it is asked for. Without memory the task is lost, and so it is where one is spawned whose main the code does not
+/// have.
 pub fn ride<G: Gate>(
     code: &Code,
     work: Work,
     answer: Answer,
     quantum: u32,
+    asked: &mut Asked,
     gate: &G,
     processor: u32,
     dispatches: u64,
@@ -57,10 +58,10 @@ pub fn ride<G: Gate>(
     requires some { 1 ≤ quantum }
     requires paced { IsPaced (laid_of code.now) code.now.routines }
     requires kept { Keeps code.now work }
-    ensures rides { IfOk result (λ r. (source : Source) (s : State) → Lowered source code.now → Rests (laid_of code.now) work s → Rode source (laid_of code.now) (answering.answered source answer s) quantum r.ticks r.asked r.work r.child) }
+    ensures rides { IfOk result (λ r. (source : Source) (s : State) → Lowered source code.now → Rests (laid_of code.now) work s → Rode source (laid_of code.now) (answering.answered source answer s) quantum r.ticks asked.new r.work r.child) }
     ensures few { IfOk result (λ r. r.ticks ≤ quantum) }
-    ensures early { IfOk result (λ r. (r.asked.request ≡ ask.Slice → ⊥) → r.ticks < quantum) }
-    ensures kept { IfOk result (λ r. KeepsAfter code.now r.asked.request r.work) }
+    ensures early { IfOk result (λ r. (asked.new.request ≡ ask.Slice → ⊥) → r.ticks < quantum) }
+    ensures kept { IfOk result (λ r. KeepsAfter code.now asked.new.request r.work) }
     ensures born { IfOk result (λ r. ChildKeeps code.now r.child) }
 {
     if dispatches != 0 {
@@ -68,23 +69,14 @@ pub fn ride<G: Gate>(
     }
     let mut work = work;
     give(code, &mut work, answer)?;
-    let mut asked = Asked {
-        request: Request::Slice,
-        line: 0,
-    };
-    let ticks = go_on(code, &mut work, quantum, &mut asked)?;
-    let child = spawn(code, &work, asked.request)?;
-    Ok(Ridden {
-        work,
-        child,
-        ticks,
-        asked,
-    })
+    let ticks = go_on(code, &mut work, quantum, asked)?;
+    let child = spawn(code, &work, &asked.request)?;
+    Ok(Ridden { work, child, ticks })
 }
 
 // The task that is spawned, where one is: its main is that of the op before the next one.
-fn spawn(code: &Code, work: &Work, request: Request) -> Result<Option<Task>, AllocError>
-    ensures born { IfOk result (λ child. (source : Source) (s : State) → Lowered source code.now → StandsAfter (laid_of code.now) request work.now s → BornAs source (laid_of code.now) request child s) }
+fn spawn(code: &Code, work: &Work, request: &Request) -> Result<Option<Task>, AllocError>
+    ensures born { IfOk result (λ child. (source : Source) (s : State) → Lowered source code.now → StandsAfter (laid_of code.now) request.now work.now s → BornAs source (laid_of code.now) request.now child s) }
     ensures kept { IfOk result (λ child. ChildKeeps code.now child) }
 {
     match spawned(request) {
@@ -100,10 +92,10 @@ fn spawn(code: &Code, work: &Work, request: Request) -> Result<Option<Task>, All
 }
 
 // The object of the task that is spawned, if one is.
-fn spawned(request: Request) -> Option<u32>
-    ensures { result ≡ spawned_by request }
+fn spawned(request: &Request) -> Option<u32>
+    ensures { result ≡ spawned_by request.now }
 {
-    match request {
+    match *request {
         Request::Spawn { object } => Some(object),
         _ => None,
     }

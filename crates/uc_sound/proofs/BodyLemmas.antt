@@ -194,7 +194,7 @@ module _ (p : Program) where
 
   -- the program's main is plain
 
-  main_sig : (s : Declared) → is_program_main s ≡ true → is_main_sig s ≡ true
+  pub main_sig : (s : Declared) → is_program_main s ≡ true → is_main_sig s ≡ true
   main_sig s h =
       let plain = left_is (is_plain s.role) (same_name s.name main_name && (is_main_base s.owner s.ret && nat_eq (length s.params) 0)) h in
       let h1 = right_is (is_plain s.role) (same_name s.name main_name && (is_main_base s.owner s.ret && nat_eq (length s.params) 0)) h in

@@ -19,3 +19,4 @@ pub mod RoutineBodies
 pub mod ConstructionLemmas
 pub mod BuildingLemmas
 pub mod SoundLemmas
+pub mod MainLemmas

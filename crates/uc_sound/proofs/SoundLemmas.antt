@@ -91,7 +91,7 @@ module _ (p : Program) (formed : IsFormed p) (u : Unbroken (program_visits p)) w
     by_form j m (RoutineMember r) a f h = main_sig_is j r.sig (ap (option_and_then (λ (c : Class). option_and_then (λ (m : Member). form_sig m.form) (slice_get c.members j))) e ∙ (ap (option_and_then (λ (m : Member). form_sig m.form)) a ∙ ap form_sig f)) h
     by_form j m (ProtoMember s) a f h = main_sig_is j s (ap (option_and_then (λ (c : Class). option_and_then (λ (m : Member). form_sig m.form) (slice_get c.members j))) e ∙ (ap (option_and_then (λ (m : Member). form_sig m.form)) a ∙ ap form_sig f)) h
 
-    main_is : has_main c.kind ≡ true → IsMain t g (main_at p i)
+    pub main_is : has_main c.kind ≡ true → IsMain t g (main_at p i)
     main_is h =
         let well : is_well_mained c ≡ true = holds (is_well_mained c) S6 c.pos _ (class_own p u i c e) in
         let k = subst (λ (b : Bool). (if b then list_any (λ (m : Member). form_is_main m.form) c.members else not (list_any (λ n. same_name n main_name) (members_declare c.members))) ≡ true) h well in

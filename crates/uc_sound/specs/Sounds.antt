@@ -1,7 +1,10 @@
 -- The resolved tree of every accepted program is sound: each of its routines is in order under its signature.
-use Rattle.std.specs.Prelude.{◌≡◌, ℕ, []}
-use Rattle.uc_tree.specs.Programs.{Program}
-use Rattle.uc_resolve.specs.Resolve.{source_of}
+use Rattle.std.specs.Prelude.{◌≡◌, ℕ, [], true, Some}
+use Rattle.uc_tree.specs.Objects.{class_at}
+use Rattle.uc_tree.specs.ProgramMain.{main_number}
+use Rattle.uc_tree.specs.Programs.{Class, Program}
+use Rattle.uc_resolve.specs.Resolve.{source_of, main_at}
+use Rattle.uc_rules.specs.Sorts.{is_task}
 use Rattle.uc_rules.specs.Breaks.{breaks_of}
 use Rattle.uc_tree.specs.Source.{routine_of}
 use Rattle.uc_machine.specs.Quiet.{State, first_state}
@@ -17,3 +20,12 @@ LawSound = (p : Program) → IsFormed p → breaks_of p ≡ [] → Sound (table_
 -- read of bindings is of its type.
 abbrev pub LawRuns : Type 0
 LawRuns = (p : Program) → IsFormed p → breaks_of p ≡ [] → (r o : ℕ) → IsTask (table_of p) r → ((u : State) → GoesOn (table_of p) (source_of p) (first_state (routine_of (source_of p) r) o) u → ReadsIn (table_of p) u) → (u : State) → GoesOn (table_of p) (source_of p) (first_state (routine_of (source_of p) r) o) u → Typed (table_of p) [] u
+
+-- a task begins with the program's main, or with that of a task class
+pub data BeginsTask (p : Program) (r : ℕ) : Type 0 where
+  of_program : r ≡ main_number p → BeginsTask p r
+  of_class : (i : ℕ) (c : Class) → class_at p i ≡ Some c → is_task c.kind ≡ true → r ≡ main_at p i → BeginsTask p r
+
+-- These mains are there, have no parameters, and are at no object, or at one of a mutex class.
+abbrev pub LawMains : Type 0
+LawMains = (p : Program) → IsFormed p → breaks_of p ≡ [] → (r : ℕ) → BeginsTask p r → IsTask (table_of p) r

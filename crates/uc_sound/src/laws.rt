@@ -1,7 +1,7 @@
 // The laws of programs that break no rule: each is a function whose contract is the law.
 
 ghost use Rattle.uc_sound.specs.Routines.{LawRoutines};
-ghost use Rattle.uc_sound.specs.Sounds.{LawRuns, LawSound};
+ghost use Rattle.uc_sound.specs.Sounds.{LawMains, LawRuns, LawSound};
 ghost use Rattle.uc_sound.specs.Statements.{LawStatements};
 ghost use Rattle.uc_sound.specs.Told.{LawTold};
 ghost use Rattle.uc_typing.specs.Typing.{Sig, Table};
@@ -37,4 +37,10 @@ pub fn law_sound()
 /// answered, as long as what it reads of bindings is of its type.
 pub fn law_runs()
     ensures { LawRuns }
+{}
+
+/// The mains with which tasks begin, that of the program and those of its task classes, are mains of
+/// tasks: so all that is reached from their start is in order, as `law_runs` says.
+pub fn law_mains()
+    ensures { LawMains }
 {}

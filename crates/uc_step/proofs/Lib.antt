@@ -1,3 +1,4 @@
+pub mod Alone
 pub mod Settles
 pub mod SettleExpressions
 pub mod SettleLists

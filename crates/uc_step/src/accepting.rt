@@ -2,11 +2,11 @@
 
 ghost use Rattle.std.specs.Prelude.{◌≡◌, IfOk, OnErr};
 ghost use Rattle.uc_machine.specs.Pieces.{as_number};
-ghost use Rattle.uc_step.specs.OpEffects.{act_accept, chosen, with_operands, ended, Does, Ends};
+ghost use Rattle.uc_step.specs.OpEffects.{chosen, ended, Does, DoesAlone};
 ghost use Rattle.uc_step.specs.declared.stepped.Stepped.{Stepped};
 
 use crate::mutex::this_object;
-use crate::stepped::{QuietResult, Stepped, asked, faulted};
+use crate::stepped::{QuietResult, Stepped, put_fault, put_request};
 use std::alloc::AllocError;
 use uc_code::code::Code;
 use uc_code::op::Op;
@@ -42,21 +42,20 @@ pub(crate) fn accept(
     }
     work.pop();
     if work.is_held_up(object) {
-        *stop = faulted(code, line, work, RunFault::BlockedInside);
-        return Ok(QuietResult::Stops);
+        return Ok(put_fault(code, line, work, stop, RunFault::BlockedInside));
     }
-    *stop = asked(code, line, work, Request::Accept { object, site, mask });
-    Ok(QuietResult::Stops)
+    Ok(put_request(
+        code,
+        line,
+        work,
+        stop,
+        Request::Accept { object, site, mask },
+    ))
 }
 
 // Where the call that was taken has failed, the event of that is pushed; else the task goes on elsewhere.
-pub(crate) fn failed(
-    code: &Code,
-    line: u32,
-    work: &mut Work,
-    to: u32,
-) -> Result<QuietResult, AllocError>
-    ensures ok { IfOk result (λ how. (stop : Stepped) → Does code.now line (Op.Failed to) work.old (ended how stop) work.new) }
+pub(crate) fn failed(work: &mut Work, to: u32) -> Result<QuietResult, AllocError>
+    ensures ok { IfOk result (λ how. (stop : Stepped) → DoesAlone (Op.Failed to) work.old (ended how stop) work.new) }
     ensures err { OnErr result (work.new ≡ work.old) }
 {
     if number_in(work.top()) == 0 {
@@ -85,14 +84,8 @@ fn chosen(clauses: u32, to: u32, next: u32, number: i64) -> Result<u32, AllocErr
 }
 
 // The branch of a clause by its number, or elsewhere.
-pub(crate) fn choose(
-    code: &Code,
-    line: u32,
-    work: &mut Work,
-    clauses: u32,
-    end: u32,
-) -> Result<QuietResult, AllocError>
-    ensures ok { IfOk result (λ how. (stop : Stepped) → Does code.now line (Op.Choose clauses end) work.old (ended how stop) work.new) }
+pub(crate) fn choose(work: &mut Work, clauses: u32, end: u32) -> Result<QuietResult, AllocError>
+    ensures ok { IfOk result (λ how. (stop : Stepped) → DoesAlone (Op.Choose clauses end) work.old (ended how stop) work.new) }
     ensures err { OnErr result (work.new ≡ work.old) }
 {
     let at = chosen(clauses, end, work.next(), number_in(work.top()))?;

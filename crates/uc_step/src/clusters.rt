@@ -4,7 +4,7 @@ ghost use Rattle.std.specs.Prelude.{◌≡◌, IfOk, OnErr};
 ghost use Rattle.uc_step.specs.OpEffects.{ended, Does};
 
 use crate::mutex::object_in;
-use crate::stepped::{QuietResult, Stepped, asked};
+use crate::stepped::{QuietResult, Stepped, put_request};
 use std::alloc::AllocError;
 use uc_code::code::Code;
 use uc_code::op::Op;
@@ -17,8 +17,7 @@ pub(crate) fn processor(code: &Code, line: u32, work: &mut Work, stop: &mut Step
     ensures { Does code.now line Op.Processor work.old (ended result stop.new) work.new }
 {
     let cluster = object_in(work.pop());
-    *stop = asked(code, line, work, Request::Processor { cluster });
-    QuietResult::Stops
+    put_request(code, line, work, stop, Request::Processor { cluster })
 }
 
 pub(crate) fn cluster_end(
@@ -32,8 +31,7 @@ pub(crate) fn cluster_end(
 {
     let cluster = object_in(work.top());
     work.replace(Cell::Number(0))?;
-    *stop = asked(code, line, work, Request::ClusterEnd { cluster });
-    Ok(QuietResult::Stops)
+    Ok(put_request(code, line, work, stop, Request::ClusterEnd { cluster }))
 }
 
 pub(crate) fn processor_end(
@@ -47,14 +45,12 @@ pub(crate) fn processor_end(
 {
     let processor = object_in(work.top());
     work.replace(Cell::Number(0))?;
-    *stop = asked(code, line, work, Request::ProcessorEnd { processor });
-    Ok(QuietResult::Stops)
+    Ok(put_request(code, line, work, stop, Request::ProcessorEnd { processor }))
 }
 
 pub(crate) fn migrate(code: &Code, line: u32, work: &mut Work, stop: &mut Stepped) -> QuietResult
     ensures { Does code.now line Op.Migrate work.old (ended result stop.new) work.new }
 {
     let cluster = object_in(work.pop());
-    *stop = asked(code, line, work, Request::Migrate { cluster });
-    QuietResult::Stops
+    put_request(code, line, work, stop, Request::Migrate { cluster })
 }

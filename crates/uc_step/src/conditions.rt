@@ -5,7 +5,7 @@ ghost use Rattle.uc_step.specs.OpEffects.{condition_in, ended, Does};
 
 use crate::memory::index_below;
 use crate::mutex::this_object;
-use crate::stepped::{QuietResult, Stepped, asked, faulted};
+use crate::stepped::{QuietResult, Stepped, put_fault, put_request};
 use std::alloc::AllocError;
 use uc_code::code::Code;
 use uc_code::op::Op;
@@ -44,8 +44,7 @@ pub(crate) fn condition(
     match index_below(count, number_in(work.top())) {
         None => {
             work.pop();
-            *stop = faulted(code, line, work, RunFault::Index);
-            Ok(QuietResult::Stops)
+            Ok(put_fault(code, line, work, stop, RunFault::Index))
         }
         Some(i) => {
             work.replace(Cell::Number(i64::from(first) + i64::from(i)))?;
@@ -66,14 +65,12 @@ pub(crate) fn wait(
 {
     let object = this_object(work);
     if work.is_held_up(object) {
-        *stop = faulted(code, line, work, RunFault::BlockedInside);
-        return Ok(QuietResult::Stops);
+        return Ok(put_fault(code, line, work, stop, RunFault::BlockedInside));
     }
     let cond = condition_in(work.second())?;
     let n = number_in(work.top());
     work.replace_two(Cell::Number(0))?;
-    *stop = asked(code, line, work, Request::Wait { object, cond, n });
-    Ok(QuietResult::Stops)
+    Ok(put_request(code, line, work, stop, Request::Wait { object, cond, n }))
 }
 
 pub(crate) fn signal(
@@ -88,8 +85,7 @@ pub(crate) fn signal(
     let object = this_object(work);
     let cond = condition_in(work.top())?;
     work.replace(Cell::Number(0))?;
-    *stop = asked(code, line, work, Request::Signal { object, cond });
-    Ok(QuietResult::Stops)
+    Ok(put_request(code, line, work, stop, Request::Signal { object, cond }))
 }
 
 // A task is blocked by a signal, unless it is held up.
@@ -104,13 +100,17 @@ pub(crate) fn signal_block(
 {
     let object = this_object(work);
     if work.is_held_up(object) {
-        *stop = faulted(code, line, work, RunFault::BlockedInside);
-        return Ok(QuietResult::Stops);
+        return Ok(put_fault(code, line, work, stop, RunFault::BlockedInside));
     }
     let cond = condition_in(work.top())?;
     work.replace(Cell::Number(0))?;
-    *stop = asked(code, line, work, Request::SignalBlock { object, cond });
-    Ok(QuietResult::Stops)
+    Ok(put_request(
+        code,
+        line,
+        work,
+        stop,
+        Request::SignalBlock { object, cond },
+    ))
 }
 
 pub(crate) fn empty(
@@ -125,8 +125,7 @@ pub(crate) fn empty(
     let object = this_object(work);
     let cond = condition_in(work.top())?;
     work.pop();
-    *stop = asked(code, line, work, Request::Empty { object, cond });
-    Ok(QuietResult::Stops)
+    Ok(put_request(code, line, work, stop, Request::Empty { object, cond }))
 }
 
 pub(crate) fn front(
@@ -141,6 +140,5 @@ pub(crate) fn front(
     let object = this_object(work);
     let cond = condition_in(work.top())?;
     work.pop();
-    *stop = asked(code, line, work, Request::Front { object, cond });
-    Ok(QuietResult::Stops)
+    Ok(put_request(code, line, work, stop, Request::Front { object, cond }))
 }

@@ -1,25 +1,19 @@
 // The ops of coroutines, but for those that switch.
 
-ghost use Rattle.std.specs.Prelude.{◌≡◌, IfOk, OnErr};
-ghost use Rattle.uc_step.specs.OpEffects.{ended, Does};
+ghost use Rattle.std.specs.Prelude.{◌≡◌, ℕ, IfOk, OnErr};
+ghost use Rattle.uc_step.specs.OpEffects.{ended, Does, DoesAlone};
 ghost use Rattle.uc_step.specs.declared.stepped.Stepped.{Stepped};
 
-use crate::stepped::{QuietResult, Stepped, asked, faulted};
+use crate::stepped::{QuietResult, Stepped, put_end, put_fault};
 use std::alloc::AllocError;
 use uc_code::code::Code;
 use uc_code::op::Op;
 use uc_entry::fault::RunFault;
-use uc_entry::request::Request;
 use uc_frames::work::Work;
 
 // The object at hand gets an execution.
-pub(crate) fn set_up(
-    code: &Code,
-    line: u32,
-    work: &mut Work,
-    number: u32,
-) -> Result<QuietResult, AllocError>
-    ensures ok { IfOk result (λ how. (stop : Stepped) → Does code.now line (Op.Coroutine number) work.old (ended how stop) work.new) }
+pub(crate) fn set_up(code: &Code, work: &mut Work, number: u32) -> Result<QuietResult, AllocError>
+    ensures ok { IfOk result (λ how. (line : ℕ) (stop : Stepped) → Does code.now line (Op.Coroutine number) work.old (ended how stop) work.new) }
     ensures err { OnErr result (work.new ≡ work.old) }
 {
     if let Some(routine) = code.routine(number) {
@@ -28,8 +22,8 @@ pub(crate) fn set_up(
     Ok(QuietResult::Quiet)
 }
 
-pub(crate) fn enliven(code: &Code, line: u32, work: &mut Work) -> Result<QuietResult, AllocError>
-    ensures ok { IfOk result (λ how. (stop : Stepped) → Does code.now line Op.Live work.old (ended how stop) work.new) }
+pub(crate) fn enliven(work: &mut Work) -> Result<QuietResult, AllocError>
+    ensures ok { IfOk result (λ how. (stop : Stepped) → DoesAlone Op.Live work.old (ended how stop) work.new) }
     ensures err { OnErr result (work.new ≡ work.old) }
 {
     work.enliven();
@@ -47,23 +41,19 @@ pub(crate) fn alive(
     ensures { Does code.now line (Op.Alive number) work.old (ended result stop.new) work.new }
 {
     match code.routine(number) {
-        None => {
-            *stop = asked(code, line, work, Request::End);
-            QuietResult::Stops
-        }
+        None => { put_end(code, line, work, stop) }
         Some(routine) => {
             if work.is_live(routine.params) {
                 QuietResult::Quiet
             } else {
-                *stop = faulted(code, line, work, RunFault::NotLive);
-                QuietResult::Stops
+                put_fault(code, line, work, stop, RunFault::NotLive)
             }
         }
     }
 }
 
-pub(crate) fn forget(code: &Code, line: u32, work: &mut Work) -> Result<QuietResult, AllocError>
-    ensures ok { IfOk result (λ how. (stop : Stepped) → Does code.now line Op.Forget work.old (ended how stop) work.new) }
+pub(crate) fn forget(work: &mut Work) -> Result<QuietResult, AllocError>
+    ensures ok { IfOk result (λ how. (stop : Stepped) → DoesAlone Op.Forget work.old (ended how stop) work.new) }
     ensures err { OnErr result (work.new ≡ work.old) }
 {
     work.forget();
@@ -71,8 +61,8 @@ pub(crate) fn forget(code: &Code, line: u32, work: &mut Work) -> Result<QuietRes
 }
 
 // Where an execution stopped it goes on, or is unwound.
-pub(crate) fn land(code: &Code, line: u32, work: &mut Work, stop: &mut Stepped) -> QuietResult
-    ensures { Does code.now line Op.Land work.old (ended result stop.new) work.new }
+pub(crate) fn land(work: &mut Work, stop: &mut Stepped) -> QuietResult
+    ensures { DoesAlone Op.Land work.old (ended result stop.new) work.new }
 {
     match work.raised() {
         None => QuietResult::Quiet,

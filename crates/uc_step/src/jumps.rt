@@ -1,42 +1,31 @@
 // The ops that go on elsewhere, calls, and the ends of activations.
 
 ghost use Rattle.std.specs.Prelude.{◌≡◌, IfOk, OnErr};
-ghost use Rattle.uc_step.specs.OpEffects.{act_enter, act_return, act_end, ended, Does, Ends};
+ghost use Rattle.uc_step.specs.OpEffects.{act_enter, act_return, act_end, ended, Does, DoesAlone, Ends};
 ghost use Rattle.uc_step.specs.declared.stepped.Stepped.{Stepped};
-ghost use Rattle.uc_frames.specs.Calls.{plain_call, object_call};
+ghost use Rattle.uc_frames.specs.Calls.{object_call};
 
-use crate::stepped::{QuietResult, Stepped, asked, faulted};
+use crate::stepped::{QuietResult, Stepped, put_end, put_fault};
 use std::alloc::AllocError;
 use uc_code::code::Code;
 use uc_code::op::Op;
 use uc_code::rows::RoutineCode;
 use uc_entry::fault::RunFault;
-use uc_entry::request::Request;
 use uc_frames::call::Call;
 use uc_frames::cell::{Cell, number_in};
 use uc_frames::work::Work;
 use uc_tree::limits::CALLS;
 
-pub(crate) fn jump(
-    code: &Code,
-    line: u32,
-    work: &mut Work,
-    to: u32,
-) -> Result<QuietResult, AllocError>
-    ensures ok { IfOk result (λ how. (stop : Stepped) → Does code.now line (Op.Jump to) work.old (ended how stop) work.new) }
+pub(crate) fn jump(work: &mut Work, to: u32) -> Result<QuietResult, AllocError>
+    ensures ok { IfOk result (λ how. (stop : Stepped) → DoesAlone (Op.Jump to) work.old (ended how stop) work.new) }
     ensures err { OnErr result (work.new ≡ work.old) }
 {
     work.go(to);
     Ok(QuietResult::Quiet)
 }
 
-pub(crate) fn if_zero(
-    code: &Code,
-    line: u32,
-    work: &mut Work,
-    to: u32,
-) -> Result<QuietResult, AllocError>
-    ensures ok { IfOk result (λ how. (stop : Stepped) → Does code.now line (Op.IfZero to) work.old (ended how stop) work.new) }
+pub(crate) fn if_zero(work: &mut Work, to: u32) -> Result<QuietResult, AllocError>
+    ensures ok { IfOk result (λ how. (stop : Stepped) → DoesAlone (Op.IfZero to) work.old (ended how stop) work.new) }
     ensures err { OnErr result (work.new ≡ work.old) }
 {
     if number_in(work.pop()) == 0 {
@@ -45,13 +34,8 @@ pub(crate) fn if_zero(
     Ok(QuietResult::Quiet)
 }
 
-pub(crate) fn if_nonzero(
-    code: &Code,
-    line: u32,
-    work: &mut Work,
-    to: u32,
-) -> Result<QuietResult, AllocError>
-    ensures ok { IfOk result (λ how. (stop : Stepped) → Does code.now line (Op.IfNonzero to) work.old (ended how stop) work.new) }
+pub(crate) fn if_nonzero(work: &mut Work, to: u32) -> Result<QuietResult, AllocError>
+    ensures ok { IfOk result (λ how. (stop : Stepped) → DoesAlone (Op.IfNonzero to) work.old (ended how stop) work.new) }
     ensures err { OnErr result (work.new ≡ work.old) }
 {
     if number_in(work.pop()) != 0 {
@@ -60,40 +44,13 @@ pub(crate) fn if_nonzero(
     Ok(QuietResult::Quiet)
 }
 
-pub(crate) fn return_value(
-    code: &Code,
-    line: u32,
-    work: &mut Work,
-    stop: &mut Stepped,
-) -> Result<QuietResult, AllocError>
-    ensures ok { IfOk result (λ how. Does code.now line Op.ReturnValue work.old (ended how stop.new) work.new) }
-    ensures err { OnErr result (work.new ≡ work.old) }
-{
-    let given = work.top();
-    let how = end(code, line, work, stop, given)?;
-    Ok(how)
-}
-
-pub(crate) fn return_none(
-    code: &Code,
-    line: u32,
-    work: &mut Work,
-    stop: &mut Stepped,
-) -> Result<QuietResult, AllocError>
-    ensures ok { IfOk result (λ how. Does code.now line Op.ReturnNone work.old (ended how stop.new) work.new) }
-    ensures err { OnErr result (work.new ≡ work.old) }
-{
-    let how = end(code, line, work, stop, Cell::Number(0))?;
-    Ok(how)
-}
-
 // The end of a routine; that of a handler of resumptions is left to others.
-fn end(
+pub(crate) fn end(
     code: &Code,
     line: u32,
+    given: Cell,
     work: &mut Work,
     stop: &mut Stepped,
-    given: Cell,
 ) -> Result<QuietResult, AllocError>
     ensures ok { IfOk result (λ how. Ends (act_end code.now line given work.old.run.handles work.old) (ended how stop.new) work.new) }
     ensures err { OnErr result (work.new ≡ work.old) }
@@ -124,8 +81,7 @@ pub(crate) fn give_back(
     if work.leave(given)? {
         Ok(QuietResult::Quiet)
     } else {
-        *stop = asked(code, line, work, Request::End);
-        Ok(QuietResult::Stops)
+        Ok(put_end(code, line, work, stop))
     }
 }
 
@@ -140,8 +96,7 @@ pub(crate) fn end_task(
     ensures err { OnErr result (work.new ≡ work.old) }
 {
     if work.is_held_up(work.own()) {
-        *stop = faulted(code, line, work, RunFault::BlockedInside);
-        Ok(QuietResult::Stops)
+        Ok(put_fault(code, line, work, stop, RunFault::BlockedInside))
     } else {
         let how = give_back(code, line, work, stop, Cell::Number(0))?;
         Ok(how)
@@ -149,8 +104,8 @@ pub(crate) fn end_task(
 }
 
 // Unwinding goes on behind a clean-up, without operands.
-pub(crate) fn unwind(code: &Code, line: u32, work: &mut Work, stop: &mut Stepped) -> QuietResult
-    ensures { Does code.now line Op.Unwind work.old (ended result stop.new) work.new }
+pub(crate) fn unwind(work: &mut Work, stop: &mut Stepped) -> QuietResult
+    ensures { DoesAlone Op.Unwind work.old (ended result stop.new) work.new }
 {
     let next = work.next();
     work.clean(next);
@@ -169,12 +124,15 @@ pub(crate) fn call(
     ensures err { OnErr result (work.new ≡ work.old) }
 {
     match code.routine(number) {
-        None => {
-            *stop = asked(code, line, work, Request::End);
-            Ok(QuietResult::Stops)
-        }
+        None => { Ok(put_end(code, line, work, stop)) }
         Some(routine) => {
-            let how = enter(code, line, work, stop, plain_call(routine))?;
+            let call = Call {
+                routine,
+                this: Cell::Nothing,
+                taken: u64::from(routine.params),
+                counts: true,
+            };
+            let how = enter(code, line, work, stop, call)?;
             Ok(how)
         }
     }
@@ -195,20 +153,7 @@ fn enter(
         work.enter(call)?;
         Ok(QuietResult::Quiet)
     } else {
-        *stop = faulted(code, line, work, RunFault::Depth);
-        Ok(QuietResult::Stops)
-    }
-}
-
-// A call without an object, which counts.
-fn plain_call(routine: RoutineCode) -> Call
-    ensures { result ≡ plain_call routine }
-{
-    Call {
-        routine,
-        this: Cell::Nothing,
-        taken: u64::from(routine.params),
-        counts: true,
+        Ok(put_fault(code, line, work, stop, RunFault::Depth))
     }
 }
 
@@ -235,10 +180,7 @@ pub(crate) fn call_on(
     ensures err { OnErr result (work.new ≡ work.old) }
 {
     match code.routine(number) {
-        None => {
-            *stop = asked(code, line, work, Request::End);
-            Ok(QuietResult::Stops)
-        }
+        None => { Ok(put_end(code, line, work, stop)) }
         Some(routine) => {
             let call = object_call(routine, true, work);
             let how = enter(code, line, work, stop, call)?;
@@ -259,10 +201,7 @@ pub(crate) fn call_unwritten(
     ensures err { OnErr result (work.new ≡ work.old) }
 {
     match code.routine(number) {
-        None => {
-            *stop = asked(code, line, work, Request::End);
-            Ok(QuietResult::Stops)
-        }
+        None => { Ok(put_end(code, line, work, stop)) }
         Some(routine) => {
             let call = object_call(routine, false, work);
             work.enter(call)?;

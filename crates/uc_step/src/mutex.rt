@@ -1,11 +1,11 @@
 // The ops of mutex objects: a task enters and leaves them, makes them and destroys them.
 
-ghost use Rattle.std.specs.Prelude.{◌≡◌, IfOk, OnErr};
-ghost use Rattle.uc_step.specs.OpEffects.{act_built, act_leave_last, may_call, ended, Does, Ends};
+ghost use Rattle.std.specs.Prelude.{◌≡◌, ℕ, IfOk, OnErr};
+ghost use Rattle.uc_step.specs.OpEffects.{act_built, may_call, ended, Does, Ends};
 ghost use Rattle.uc_machine.specs.Insides.{is_last};
 ghost use Rattle.uc_frames.specs.Objects.{by_event, object_in, this_object};
 
-use crate::stepped::{QuietResult, Stepped, asked, faulted};
+use crate::stepped::{QuietResult, Stepped, put_end, put_fault, put_request};
 use std::alloc::AllocError;
 use uc_code::code::Code;
 use uc_code::op::Op;
@@ -53,12 +53,10 @@ pub(crate) fn enter(
     ensures err { OnErr result (work.new ≡ work.old) }
 {
     let Some(routine) = code.routine(number) else {
-        *stop = asked(code, line, work, Request::End);
-        return Ok(QuietResult::Stops);
+        return Ok(put_end(code, line, work, stop));
     };
     if !may_call(work, routine.written) {
-        *stop = faulted(code, line, work, RunFault::Depth);
-        return Ok(QuietResult::Stops);
+        return Ok(put_fault(code, line, work, stop, RunFault::Depth));
     }
     let object = object_in(work.below(routine.params));
     let inside = work.depth(object).is_some();
@@ -66,8 +64,7 @@ pub(crate) fn enter(
     if inside {
         return Ok(QuietResult::Quiet);
     }
-    *stop = asked(code, line, work, Request::Call { object, member });
-    Ok(QuietResult::Stops)
+    Ok(put_request(code, line, work, stop, Request::Call { object, member }))
 }
 
 // Whether the call that ends is the last one in an object.
@@ -87,7 +84,8 @@ fn by_event(why: Option<UnwindReason>) -> bool
     matches!(why, Some(UnwindReason::Event { .. }))
 }
 
-// The running call leaves the object at hand; where that is not the last leave, or the call is unwound, the task goes on at this op.
+// The running call leaves the object at hand: by its last leave it asks. Where that is not the last one, or the call is unwound, the task
+// goes on at this op.
 pub(crate) fn leave(
     code: &Code,
     line: u32,
@@ -104,32 +102,17 @@ pub(crate) fn leave(
         return QuietResult::Quiet;
     }
     if work.is_held_up(object) {
-        *stop = faulted(code, line, work, RunFault::BlockedInside);
-        return QuietResult::Stops;
+        return put_fault(code, line, work, stop, RunFault::BlockedInside);
     }
-    leave_last(code, line, work, stop, object, to)
-}
-
-// So it asks.
-fn leave_last(
-    code: &Code,
-    line: u32,
-    work: &mut Work,
-    stop: &mut Stepped,
-    object: u32,
-    to: u32,
-) -> QuietResult
-    ensures { Ends (act_leave_last code.now line to object work.old) (ended result stop.new) work.new }
-{
     let why = work.raised();
     let failed = by_event(why);
-    *stop = asked(code, line, work, Request::Leave { object, failed });
+    let how = put_request(code, line, work, stop, Request::Leave { object, failed });
     work.end_call(object);
     work.count_no_more();
     if why.is_some() {
         work.go(to);
     }
-    QuietResult::Stops
+    how
 }
 
 // A mutex object is asked for, which a routine builds.
@@ -145,16 +128,13 @@ pub(crate) fn make(
     ensures err { OnErr result (work.new ≡ work.old) }
 {
     let Some(routine) = code.routine(number) else {
-        *stop = asked(code, line, work, Request::End);
-        return Ok(QuietResult::Stops);
+        return Ok(put_end(code, line, work, stop));
     };
     if !may_call(work, routine.written) {
-        *stop = faulted(code, line, work, RunFault::Depth);
-        return Ok(QuietResult::Stops);
+        return Ok(put_fault(code, line, work, stop, RunFault::Depth));
     }
     work.begin_build()?;
-    *stop = asked(code, line, work, Request::Make { class });
-    Ok(QuietResult::Stops)
+    Ok(put_request(code, line, work, stop, Request::Make { class }))
 }
 
 // What was made is bound to its place.
@@ -163,16 +143,12 @@ pub(crate) fn bind_made(
     line: u32,
     work: &mut Work,
     stop: &mut Stepped,
-    class: u32,
     number: u32,
 ) -> QuietResult
-    ensures { Does code.now line (Op.BindMade class number) work.old (ended result stop.new) work.new }
+    ensures { (class : ℕ) → Does code.now line (Op.BindMade class number) work.old (ended result stop.new) work.new }
 {
     match code.routine(number) {
-        None => {
-            *stop = asked(code, line, work, Request::End);
-            QuietResult::Stops
-        }
+        None => { put_end(code, line, work, stop) }
         Some(routine) => {
             work.bind_made(routine);
             QuietResult::Quiet
@@ -193,12 +169,11 @@ fn built(
 {
     let is_blocked = work.is_held_up(object);
     if is_blocked {
-        *stop = faulted(code, line, work, RunFault::BlockedInside);
-        return QuietResult::Stops;
+        return put_fault(code, line, work, stop, RunFault::BlockedInside);
     }
-    *stop = asked(code, line, work, request);
+    let how = put_request(code, line, work, stop, request);
     work.end_build(object);
-    QuietResult::Stops
+    how
 }
 
 // It is free.
@@ -210,14 +185,8 @@ pub(crate) fn made(code: &Code, line: u32, work: &mut Work, stop: &mut Stepped) 
 }
 
 // It begins as a task.
-pub(crate) fn spawn(
-    code: &Code,
-    line: u32,
-    work: &mut Work,
-    stop: &mut Stepped,
-    main: u32,
-) -> QuietResult
-    ensures { Does code.now line (Op.Spawn main) work.old (ended result stop.new) work.new }
+pub(crate) fn spawn(code: &Code, line: u32, work: &mut Work, stop: &mut Stepped) -> QuietResult
+    ensures { (main : ℕ) → Does code.now line (Op.Spawn main) work.old (ended result stop.new) work.new }
 {
     let object = this_object(work);
     built(code, line, work, stop, object, Request::Spawn { object })
@@ -228,9 +197,9 @@ pub(crate) fn gone(code: &Code, line: u32, work: &mut Work, stop: &mut Stepped) 
     ensures { Does code.now line Op.Gone work.old (ended result stop.new) work.new }
 {
     let object = this_object(work);
-    *stop = asked(code, line, work, Request::Gone { object });
+    let how = put_request(code, line, work, stop, Request::Gone { object });
     work.end_gone(object);
-    QuietResult::Stops
+    how
 }
 
 // Its building is given up.
@@ -238,7 +207,7 @@ pub(crate) fn give_up(code: &Code, line: u32, work: &mut Work, stop: &mut Steppe
     ensures { Does code.now line Op.GiveUp work.old (ended result stop.new) work.new }
 {
     let object = this_object(work);
-    *stop = asked(code, line, work, Request::Gone { object });
+    let how = put_request(code, line, work, stop, Request::Gone { object });
     work.end_build(object);
-    QuietResult::Stops
+    how
 }

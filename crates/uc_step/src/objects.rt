@@ -1,7 +1,7 @@
 // The ops on the object at hand, on fields, and on the elements of arrays of objects.
 
 ghost use Rattle.std.specs.Prelude.{◌≡◌, IfOk, OnErr};
-ghost use Rattle.uc_step.specs.OpEffects.{ended, Does};
+ghost use Rattle.uc_step.specs.OpEffects.{ended, DoesAlone};
 ghost use Rattle.uc_step.specs.declared.stepped.Stepped.{Stepped};
 
 use crate::stepped::QuietResult;
@@ -11,8 +11,8 @@ use uc_code::op::Op;
 use uc_frames::cell::{Cell, further_on};
 use uc_frames::work::Work;
 
-pub(crate) fn own(code: &Code, line: u32, work: &mut Work) -> Result<QuietResult, AllocError>
-    ensures ok { IfOk result (λ how. (stop : Stepped) → Does code.now line Op.Own work.old (ended how stop) work.new) }
+pub(crate) fn own(work: &mut Work) -> Result<QuietResult, AllocError>
+    ensures ok { IfOk result (λ how. (stop : Stepped) → DoesAlone Op.Own work.old (ended how stop) work.new) }
     ensures err { OnErr result (work.new ≡ work.old) }
 {
     let object = work.this();
@@ -20,13 +20,8 @@ pub(crate) fn own(code: &Code, line: u32, work: &mut Work) -> Result<QuietResult
     Ok(QuietResult::Quiet)
 }
 
-pub(crate) fn own_place(
-    code: &Code,
-    line: u32,
-    work: &mut Work,
-    cell: u32,
-) -> Result<QuietResult, AllocError>
-    ensures ok { IfOk result (λ how. (stop : Stepped) → Does code.now line (Op.This cell) work.old (ended how stop) work.new) }
+pub(crate) fn own_place(work: &mut Work, cell: u32) -> Result<QuietResult, AllocError>
+    ensures ok { IfOk result (λ how. (stop : Stepped) → DoesAlone (Op.This cell) work.old (ended how stop) work.new) }
     ensures err { OnErr result (work.new ≡ work.old) }
 {
     let place = further_on(u64::from(cell), work.this());
@@ -34,13 +29,8 @@ pub(crate) fn own_place(
     Ok(QuietResult::Quiet)
 }
 
-pub(crate) fn held_by_own(
-    code: &Code,
-    line: u32,
-    work: &mut Work,
-    cell: u32,
-) -> Result<QuietResult, AllocError>
-    ensures ok { IfOk result (λ how. (stop : Stepped) → Does code.now line (Op.ViaThis cell) work.old (ended how stop) work.new) }
+pub(crate) fn held_by_own(work: &mut Work, cell: u32) -> Result<QuietResult, AllocError>
+    ensures ok { IfOk result (λ how. (stop : Stepped) → DoesAlone (Op.ViaThis cell) work.old (ended how stop) work.new) }
     ensures err { OnErr result (work.new ≡ work.old) }
 {
     let held = work.read(further_on(u64::from(cell), work.this()));
@@ -48,13 +38,8 @@ pub(crate) fn held_by_own(
     Ok(QuietResult::Quiet)
 }
 
-pub(crate) fn field(
-    code: &Code,
-    line: u32,
-    work: &mut Work,
-    cells: u32,
-) -> Result<QuietResult, AllocError>
-    ensures ok { IfOk result (λ how. (stop : Stepped) → Does code.now line (Op.Field cells) work.old (ended how stop) work.new) }
+pub(crate) fn field(work: &mut Work, cells: u32) -> Result<QuietResult, AllocError>
+    ensures ok { IfOk result (λ how. (stop : Stepped) → DoesAlone (Op.Field cells) work.old (ended how stop) work.new) }
     ensures err { OnErr result (work.new ≡ work.old) }
 {
     let place = further_on(u64::from(cells), work.top());
@@ -62,8 +47,8 @@ pub(crate) fn field(
     Ok(QuietResult::Quiet)
 }
 
-pub(crate) fn counted(code: &Code, line: u32, work: &mut Work) -> Result<QuietResult, AllocError>
-    ensures ok { IfOk result (λ how. (stop : Stepped) → Does code.now line Op.Counted work.old (ended how stop) work.new) }
+pub(crate) fn counted(work: &mut Work) -> Result<QuietResult, AllocError>
+    ensures ok { IfOk result (λ how. (stop : Stepped) → DoesAlone Op.Counted work.old (ended how stop) work.new) }
     ensures err { OnErr result (work.new ≡ work.old) }
 {
     let elements = work.elements();
@@ -71,14 +56,8 @@ pub(crate) fn counted(code: &Code, line: u32, work: &mut Work) -> Result<QuietRe
     Ok(QuietResult::Quiet)
 }
 
-pub(crate) fn count(
-    code: &Code,
-    line: u32,
-    work: &mut Work,
-    elements: u32,
-    test: u32,
-) -> Result<QuietResult, AllocError>
-    ensures ok { IfOk result (λ how. (stop : Stepped) → Does code.now line (Op.Count elements test) work.old (ended how stop) work.new) }
+pub(crate) fn count(work: &mut Work, elements: u32, test: u32) -> Result<QuietResult, AllocError>
+    ensures ok { IfOk result (λ how. (stop : Stepped) → DoesAlone (Op.Count elements test) work.old (ended how stop) work.new) }
     ensures err { OnErr result (work.new ≡ work.old) }
 {
     work.set_elements(elements);
@@ -86,22 +65,16 @@ pub(crate) fn count(
     Ok(QuietResult::Quiet)
 }
 
-pub(crate) fn more(code: &Code, line: u32, work: &mut Work) -> Result<QuietResult, AllocError>
-    ensures ok { IfOk result (λ how. (stop : Stepped) → Does code.now line Op.More work.old (ended how stop) work.new) }
+pub(crate) fn more(work: &mut Work) -> Result<QuietResult, AllocError>
+    ensures ok { IfOk result (λ how. (stop : Stepped) → DoesAlone Op.More work.old (ended how stop) work.new) }
     ensures err { OnErr result (work.new ≡ work.old) }
 {
     work.set_elements(work.elements().saturating_add(1));
     Ok(QuietResult::Quiet)
 }
 
-pub(crate) fn fill(
-    code: &Code,
-    line: u32,
-    work: &mut Work,
-    length: u32,
-    turn: u32,
-) -> Result<QuietResult, AllocError>
-    ensures ok { IfOk result (λ how. (stop : Stepped) → Does code.now line (Op.Fill length turn) work.old (ended how stop) work.new) }
+pub(crate) fn fill(work: &mut Work, length: u32, turn: u32) -> Result<QuietResult, AllocError>
+    ensures ok { IfOk result (λ how. (stop : Stepped) → DoesAlone (Op.Fill length turn) work.old (ended how stop) work.new) }
     ensures err { OnErr result (work.new ≡ work.old) }
 {
     if work.elements() < length {
@@ -110,13 +83,8 @@ pub(crate) fn fill(
     Ok(QuietResult::Quiet)
 }
 
-pub(crate) fn sweep(
-    code: &Code,
-    line: u32,
-    work: &mut Work,
-    turn: u32,
-) -> Result<QuietResult, AllocError>
-    ensures ok { IfOk result (λ how. (stop : Stepped) → Does code.now line (Op.Sweep turn) work.old (ended how stop) work.new) }
+pub(crate) fn sweep(work: &mut Work, turn: u32) -> Result<QuietResult, AllocError>
+    ensures ok { IfOk result (λ how. (stop : Stepped) → DoesAlone (Op.Sweep turn) work.old (ended how stop) work.new) }
     ensures err { OnErr result (work.new ≡ work.old) }
 {
     let elements = work.elements();

@@ -3,10 +3,10 @@
 ghost use Rattle.std.specs.Prelude.{◌≡◌, IfOk, OnErr};
 ghost use Rattle.uc_frames.specs.Machine.{below, exec_at};
 ghost use Rattle.uc_frames.specs.Unwinding.{event_at};
-ghost use Rattle.uc_step.specs.OpEffects.{act_pend, act_pend_at, with_operands, without_event, ended, Does, Ends};
+ghost use Rattle.uc_step.specs.OpEffects.{act_pend_at, enabling, leaves, with_operands, without_event, ended, Does, DoesAlone, Ends};
 ghost use Rattle.uc_step.specs.declared.stepped.Stepped.{Stepped};
 
-use crate::stepped::{QuietResult, Stepped, asked, faulted};
+use crate::stepped::{QuietResult, Stepped, put_fault, put_request};
 use std::alloc::AllocError;
 use uc_code::code::Code;
 use uc_code::op::Op;
@@ -36,18 +36,18 @@ pub(crate) fn raise_at(
                 x,
                 y,
             } = pop_raised(work);
-            *stop = asked(
+            Ok(put_request(
                 code,
                 line,
                 work,
+                stop,
                 Request::Raise {
                     object,
                     event,
                     x,
                     y,
                 },
-            );
-            Ok(QuietResult::Stops)
+            ))
         }
         Cell::Number(_) | Cell::Place(_, _) | Cell::Running(_) | Cell::Nothing => {
             let exec = exec_in(work.read(place));
@@ -67,7 +67,7 @@ fn pop_raised(work: &mut Work) -> Event
     event
 }
 
-// The event is pending at the coroutine of an execution, which must be live.
+// The event is pending at the coroutine of an execution, which must be live, unless too many are.
 fn pend_at(
     code: &Code,
     line: u32,
@@ -78,39 +78,17 @@ fn pend_at(
     ensures ok { IfOk result (λ how. Ends (act_pend_at code.now line exec (event_at (below work.old.run.operands)) (without_event (with_operands (below work.old.run.operands) work.old))) (ended how stop.new) work.new) }
     ensures err { OnErr result (work.new ≡ work.old) }
 {
-    match exec {
-        None => {
-            pop_raised(work);
-            *stop = faulted(code, line, work, RunFault::NotLive);
-            Ok(QuietResult::Stops)
-        }
-        Some(exec) => {
-            if !work.is_live_at(exec) {
-                pop_raised(work);
-                *stop = faulted(code, line, work, RunFault::NotLive);
-                return Ok(QuietResult::Stops);
-            }
-            let how = pend(code, line, work, stop, exec)?;
-            Ok(how)
-        }
+    let Some(exec) = exec else {
+        pop_raised(work);
+        return Ok(put_fault(code, line, work, stop, RunFault::NotLive));
+    };
+    if !work.is_live_at(exec) {
+        pop_raised(work);
+        return Ok(put_fault(code, line, work, stop, RunFault::NotLive));
     }
-}
-
-// It is pending there, unless too many are.
-fn pend(
-    code: &Code,
-    line: u32,
-    work: &mut Work,
-    stop: &mut Stepped,
-    exec: Exec,
-) -> Result<QuietResult, AllocError>
-    ensures ok { IfOk result (λ how. Ends (act_pend code.now line exec (event_at (below work.old.run.operands)) (without_event (with_operands (below work.old.run.operands) work.old))) (ended how stop.new) work.new) }
-    ensures err { OnErr result (work.new ≡ work.old) }
-{
     if work.pending_count(exec) >= usize::from(PENDING_EVENTS) {
         pop_raised(work);
-        *stop = faulted(code, line, work, RunFault::TooManyPending);
-        return Ok(QuietResult::Stops);
+        return Ok(put_fault(code, line, work, stop, RunFault::TooManyPending));
     }
     let Event {
         number: event,
@@ -122,47 +100,36 @@ fn pend(
     Ok(QuietResult::Quiet)
 }
 
-// More events are enabled; a cell keeps which were.
-pub(crate) fn enable(
-    code: &Code,
-    line: u32,
-    work: &mut Work,
-    events: u64,
-    cell: u32,
-) -> Result<QuietResult, AllocError>
-    ensures ok { IfOk result (λ how. (stop : Stepped) → Does code.now line (Op.Enable events cell) work.old (ended how stop) work.new) }
+// These events are enabled, and no others; a cell keeps which were.
+pub(crate) fn enable(events: u64, cell: u32, work: &mut Work) -> Result<QuietResult, AllocError>
+    ensures ok { IfOk result (λ how. (stop : Stepped) → Ends (leaves Stepped.Quiet (enabling events cell work.old)) (ended how stop) work.new) }
     ensures err { OnErr result (work.new ≡ work.old) }
 {
-    let more = work.enabled() | events;
-    work.enable(more, cell);
-    Ok(QuietResult::Quiet)
-}
-
-pub(crate) fn disable(
-    code: &Code,
-    line: u32,
-    work: &mut Work,
-    events: u64,
-    cell: u32,
-) -> Result<QuietResult, AllocError>
-    ensures ok { IfOk result (λ how. (stop : Stepped) → Does code.now line (Op.Disable events cell) work.old (ended how stop) work.new) }
-    ensures err { OnErr result (work.new ≡ work.old) }
-{
-    let less = work.enabled() & !events;
-    work.enable(less, cell);
+    work.enable(events, cell);
     Ok(QuietResult::Quiet)
 }
 
 // Those are enabled again that a cell keeps.
-pub(crate) fn restore(
-    code: &Code,
-    line: u32,
-    work: &mut Work,
-    cell: u32,
-) -> Result<QuietResult, AllocError>
-    ensures ok { IfOk result (λ how. (stop : Stepped) → Does code.now line (Op.Restore cell) work.old (ended how stop) work.new) }
+pub(crate) fn restore(work: &mut Work, cell: u32) -> Result<QuietResult, AllocError>
+    ensures ok { IfOk result (λ how. (stop : Stepped) → DoesAlone (Op.Restore cell) work.old (ended how stop) work.new) }
     ensures err { OnErr result (work.new ≡ work.old) }
 {
     work.restore(cell);
     Ok(QuietResult::Quiet)
+}
+
+// The newest operands are an event, which is thrown.
+pub(crate) fn throw(work: &mut Work, stop: &mut Stepped) -> QuietResult
+    ensures { DoesAlone Op.Throw work.old (ended result stop.new) work.new }
+{
+    *stop = Stepped::Throw(work.pop_event());
+    QuietResult::Stops
+}
+
+// They are one that is raised for its handler.
+pub(crate) fn raise(work: &mut Work, stop: &mut Stepped) -> QuietResult
+    ensures { DoesAlone Op.Raise work.old (ended result stop.new) work.new }
+{
+    *stop = Stepped::Raise(work.pop_event());
+    QuietResult::Stops
 }

@@ -1,10 +1,11 @@
 // The ops that print and read.
 
 ghost use Rattle.std.specs.Prelude.{◌≡◌, IfOk, OnErr};
-ghost use Rattle.uc_step.specs.OpEffects.{ended, Does};
+ghost use Rattle.uc_frames.specs.Machine.{line_at};
+ghost use Rattle.uc_step.specs.OpEffects.{bare_request, ended, Does, DoesAlone};
 ghost use Rattle.uc_step.specs.declared.stepped.Stepped.{Stepped};
 
-use crate::stepped::{QuietResult, Stepped, asked};
+use crate::stepped::{QuietResult, Stepped, put_request};
 use std::alloc::AllocError;
 use uc_code::code::Code;
 use uc_code::op::Op;
@@ -34,8 +35,7 @@ pub(crate) fn print(
         Ok(QuietResult::Quiet)
     } else {
         work.pop();
-        *stop = asked(code, line, work, print_request(&[piece]));
-        Ok(QuietResult::Stops)
+        Ok(put_request(code, line, work, stop, print_request(&[piece])))
     }
 }
 
@@ -57,13 +57,12 @@ pub(crate) fn text(
         work.gather(piece)?;
         Ok(QuietResult::Quiet)
     } else {
-        *stop = asked(code, line, work, print_request(&[piece]));
-        Ok(QuietResult::Stops)
+        Ok(put_request(code, line, work, stop, print_request(&[piece])))
     }
 }
 
-pub(crate) fn hold(code: &Code, line: u32, work: &mut Work) -> Result<QuietResult, AllocError>
-    ensures ok { IfOk result (λ how. (stop : Stepped) → Does code.now line Op.Hold work.old (ended how stop) work.new) }
+pub(crate) fn hold(work: &mut Work) -> Result<QuietResult, AllocError>
+    ensures ok { IfOk result (λ how. (stop : Stepped) → DoesAlone Op.Hold work.old (ended how stop) work.new) }
     ensures err { OnErr result (work.new ≡ work.old) }
 {
     work.begin_gather();
@@ -77,10 +76,7 @@ pub(crate) fn flush(code: &Code, line: u32, work: &mut Work, stop: &mut Stepped)
         None => QuietResult::Quiet,
         Some(pieces) => match pieces.request() {
             None => QuietResult::Quiet,
-            Some(request) => {
-                *stop = asked(code, line, work, request);
-                QuietResult::Stops
-            }
+            Some(request) => { put_request(code, line, work, stop, request) }
         },
     }
 }
@@ -95,6 +91,22 @@ pub(crate) fn read(
     ensures { Does code.now line (Op.Read form) work.old (ended result stop.new) work.new }
 {
     let form = form.number();
-    *stop = asked(code, line, work, Request::Read { form });
-    QuietResult::Stops
+    put_request(code, line, work, stop, Request::Read { form })
+}
+
+// A request that names nothing.
+pub(crate) fn put_bare(
+    code: &Code,
+    line: u32,
+    work: &Work,
+    stop: &mut Stepped,
+    op: Op,
+) -> QuietResult
+    ensures { ended result stop.new ≡ Stepped.Ask (record { request = bare_request op; line = line_at code.now.ops line work.now.callers }) }
+{
+    match op {
+        Op::Yield => put_request(code, line, work, stop, Request::Yield),
+        Op::Cluster => put_request(code, line, work, stop, Request::Cluster),
+        _ => put_request(code, line, work, stop, Request::Fail),
+    }
 }

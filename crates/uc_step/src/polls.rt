@@ -2,9 +2,9 @@
 
 ghost use Rattle.std.specs.Prelude.{◌≡◌, IfOk, OnErr};
 ghost use Rattle.uc_machine.specs.Insides.{oldest_enabled};
-ghost use Rattle.uc_step.specs.OpEffects.{act_pending, ended, Does, Ends};
+ghost use Rattle.uc_step.specs.OpEffects.{ended, Does, DoesAlone};
 
-use crate::stepped::{QuietResult, Stepped, asked};
+use crate::stepped::{QuietResult, Stepped, put_request};
 use std::alloc::AllocError;
 use uc_code::code::Code;
 use uc_code::op::Op;
@@ -12,7 +12,8 @@ use uc_entry::request::Request;
 use uc_frames::cell::Cell;
 use uc_frames::work::Work;
 
-// A task asks for an enabled event; where none is enabled, it goes on elsewhere.
+// A task asks for an enabled event, and a coroutine is delivered the oldest of those that are pending. Where none is enabled, or none
+// pending at a coroutine, it goes on elsewhere.
 pub(crate) fn poll(
     code: &Code,
     line: u32,
@@ -29,41 +30,18 @@ pub(crate) fn poll(
         return Ok(QuietResult::Quiet);
     }
     if work.is_own() {
-        *stop = asked(code, line, work, Request::Poll { mask });
-        Ok(QuietResult::Stops)
-    } else {
-        let how = take_pending(code, work, stop, to)?;
-        Ok(how)
+        return Ok(put_request(code, line, work, stop, Request::Poll { mask }));
     }
-}
-
-// A coroutine is delivered the oldest of its pending events that is enabled; without one it goes on elsewhere.
-fn take_pending(
-    code: &Code,
-    work: &mut Work,
-    stop: &mut Stepped,
-    to: u32,
-) -> Result<QuietResult, AllocError>
-    ensures ok { IfOk result (λ how. Ends (act_pending code.now to (oldest_enabled work.old.env.links) work.old) (ended how stop.new) work.new) }
-    ensures err { OnErr result (work.new ≡ work.old) }
-{
     if work.deliver()? {
-        Ok(QuietResult::Tick)
-    } else {
-        work.go(to);
-        Ok(QuietResult::Quiet)
+        return Ok(QuietResult::Tick);
     }
+    work.go(to);
+    Ok(QuietResult::Quiet)
 }
 
 // What was delivered is raised; where that is nothing, the task goes on elsewhere.
-pub(crate) fn deliver(
-    code: &Code,
-    line: u32,
-    work: &mut Work,
-    stop: &mut Stepped,
-    to: u32,
-) -> QuietResult
-    ensures { Does code.now line (Op.Deliver to) work.old (ended result stop.new) work.new }
+pub(crate) fn deliver(work: &mut Work, stop: &mut Stepped, to: u32) -> QuietResult
+    ensures { DoesAlone (Op.Deliver to) work.old (ended result stop.new) work.new }
 {
     let number = work.below(2);
     let event = work.pop_event();

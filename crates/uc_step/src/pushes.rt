@@ -1,7 +1,7 @@
 // The ops that only push and drop operands.
 
 ghost use Rattle.std.specs.Prelude.{◌≡◌, IfOk, OnErr};
-ghost use Rattle.uc_step.specs.OpEffects.{ended, Does};
+ghost use Rattle.uc_step.specs.OpEffects.{ended, DoesAlone};
 ghost use Rattle.uc_step.specs.declared.stepped.Stepped.{Stepped};
 
 use crate::stepped::QuietResult;
@@ -11,21 +11,16 @@ use uc_code::op::Op;
 use uc_frames::cell::Cell;
 use uc_frames::work::Work;
 
-pub(crate) fn push(
-    code: &Code,
-    line: u32,
-    work: &mut Work,
-    number: i64,
-) -> Result<QuietResult, AllocError>
-    ensures ok { IfOk result (λ how. (stop : Stepped) → Does code.now line (Op.Push number) work.old (ended how stop) work.new) }
+pub(crate) fn push(work: &mut Work, number: i64) -> Result<QuietResult, AllocError>
+    ensures ok { IfOk result (λ how. (stop : Stepped) → DoesAlone (Op.Push number) work.old (ended how stop) work.new) }
     ensures err { OnErr result (work.new ≡ work.old) }
 {
     work.push(Cell::Number(number))?;
     Ok(QuietResult::Quiet)
 }
 
-pub(crate) fn duplicate(code: &Code, line: u32, work: &mut Work) -> Result<QuietResult, AllocError>
-    ensures ok { IfOk result (λ how. (stop : Stepped) → Does code.now line Op.Duplicate work.old (ended how stop) work.new) }
+pub(crate) fn duplicate(work: &mut Work) -> Result<QuietResult, AllocError>
+    ensures ok { IfOk result (λ how. (stop : Stepped) → DoesAlone Op.Duplicate work.old (ended how stop) work.new) }
     ensures err { OnErr result (work.new ≡ work.old) }
 {
     let top = work.top();
@@ -33,16 +28,16 @@ pub(crate) fn duplicate(code: &Code, line: u32, work: &mut Work) -> Result<Quiet
     Ok(QuietResult::Quiet)
 }
 
-pub(crate) fn discard(code: &Code, line: u32, work: &mut Work) -> Result<QuietResult, AllocError>
-    ensures ok { IfOk result (λ how. (stop : Stepped) → Does code.now line Op.Discard work.old (ended how stop) work.new) }
+pub(crate) fn discard(work: &mut Work) -> Result<QuietResult, AllocError>
+    ensures ok { IfOk result (λ how. (stop : Stepped) → DoesAlone Op.Discard work.old (ended how stop) work.new) }
     ensures err { OnErr result (work.new ≡ work.old) }
 {
     work.pop();
     Ok(QuietResult::Quiet)
 }
 
-pub(crate) fn over(code: &Code, line: u32, work: &mut Work) -> Result<QuietResult, AllocError>
-    ensures ok { IfOk result (λ how. (stop : Stepped) → Does code.now line Op.CopyBelow work.old (ended how stop) work.new) }
+pub(crate) fn over(work: &mut Work) -> Result<QuietResult, AllocError>
+    ensures ok { IfOk result (λ how. (stop : Stepped) → DoesAlone Op.CopyBelow work.old (ended how stop) work.new) }
     ensures err { OnErr result (work.new ≡ work.old) }
 {
     let second = work.second();
@@ -50,12 +45,8 @@ pub(crate) fn over(code: &Code, line: u32, work: &mut Work) -> Result<QuietResul
     Ok(QuietResult::Quiet)
 }
 
-pub(crate) fn discard_below(
-    code: &Code,
-    line: u32,
-    work: &mut Work,
-) -> Result<QuietResult, AllocError>
-    ensures ok { IfOk result (λ how. (stop : Stepped) → Does code.now line Op.DiscardBelow work.old (ended how stop) work.new) }
+pub(crate) fn discard_below(work: &mut Work) -> Result<QuietResult, AllocError>
+    ensures ok { IfOk result (λ how. (stop : Stepped) → DoesAlone Op.DiscardBelow work.old (ended how stop) work.new) }
     ensures err { OnErr result (work.new ≡ work.old) }
 {
     let top = work.top();

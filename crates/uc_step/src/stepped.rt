@@ -4,6 +4,7 @@ ghost use Rattle.std.specs.Prelude.{◌≡◌};
 ghost use Rattle.uc_entry.specs.declared.request.Request.TheVariants as ask;
 ghost use Rattle.uc_entry.specs.Faults.{fault_number};
 ghost use Rattle.uc_frames.specs.Machine.{line_at};
+ghost use Rattle.uc_step.specs.OpEffects.{ended};
 
 use uc_code::code::Code;
 use uc_entry::fault::RunFault;
@@ -41,18 +42,42 @@ pub enum Stepped {
     Astray,
 }
 
-// It asks, by an op of this line.
-pub(crate) fn asked(code: &Code, line: u32, work: &Work, request: Request) -> Stepped
-    ensures { result ≡ Stepped.Ask (record { request = request; line = line_at code.now.ops line work.now.callers }) }
+// It asks, by an op of this line. This and the two below stand apart from the ops, none of which makes room for a request that it does
+// not ask.
+#[inline(never)]
+pub(crate) fn put_request(
+    code: &Code,
+    line: u32,
+    work: &Work,
+    stop: &mut Stepped,
+    request: Request,
+) -> QuietResult
+    ensures { ended result stop.new ≡ Stepped.Ask (record { request = request; line = line_at code.now.ops line work.now.callers }) }
 {
     let line = work.line(code, line);
-    Stepped::Ask(Asked { request, line })
+    *stop = Stepped::Ask(Asked { request, line });
+    QuietResult::Stops
+}
+
+// The end of the task is asked so.
+#[inline(never)]
+pub(crate) fn put_end(code: &Code, line: u32, work: &Work, stop: &mut Stepped) -> QuietResult
+    ensures { ended result stop.new ≡ Stepped.Ask (record { request = ask.End; line = line_at code.now.ops line work.now.callers }) }
+{
+    put_request(code, line, work, stop, Request::End)
 }
 
 // A run fault, by an op of this line.
-pub(crate) fn faulted(code: &Code, line: u32, work: &Work, fault: RunFault) -> Stepped
-    ensures { result ≡ Stepped.Ask (record { request = ask.Fault (fault_number fault); line = line_at code.now.ops line work.now.callers }) }
+#[inline(never)]
+pub(crate) fn put_fault(
+    code: &Code,
+    line: u32,
+    work: &Work,
+    stop: &mut Stepped,
+    fault: RunFault,
+) -> QuietResult
+    ensures { ended result stop.new ≡ Stepped.Ask (record { request = ask.Fault (fault_number fault); line = line_at code.now.ops line work.now.callers }) }
 {
     let number = fault.number();
-    asked(code, line, work, Request::Fault { number })
+    put_request(code, line, work, stop, Request::Fault { number })
 }

@@ -38,7 +38,7 @@ is_ended : (j : Journal) (last : Entry) → EndsRun j last → IsEnded j
 is_ended j last e = record { before = e.before; last = last; is = e.last; kind = ending_kind last.kind e.ends }
 
 -- the source of an accepted program has this main
-its_source : (p : Program) (code : Code) (main : ℕ) → IsAccepted p → Lowered (source_of p) code → main_number p ≡ main → IsSource code main (source_of p)
+pub its_source : (p : Program) (code : Code) (main : ℕ) → IsAccepted p → Lowered (source_of p) code → main_number p ≡ main → IsSource code main (source_of p)
 its_source p code main accepted lowered number =
     let m = main_there p accepted.no_break in record { lowered = lowered; main_is = number; routine = m.routine; there = m.there }
 

@@ -14,7 +14,7 @@ ghost use Rattle.uc_code.specs.Lowered.{Lowered};
 ghost use Rattle.uc_lower.specs.RowRanges.{HasRows};
 ghost use Rattle.uc_acts.specs.Texts.{printed};
 ghost use Rattle.uc_make.specs.Generated.{generated};
-ghost use Rattle.uc_vproc.specs.Rest.{IsSource};
+ghost use Rattle.uc_vproc.specs.Rest.{HasSource, IsSource};
 ghost use Rattle.uc_vproc.specs.Runs.{IsRunOf};
 ghost use Rattle.uc_top.specs.Commands.{ProgramRan, RunsNothing, told_text};
 ghost use Rattle.uc_acts.specs.KernelRuns.{InRange};
@@ -219,6 +219,7 @@ fn run_main<R: Threads + Wait + Sync, G: Gate + Sync>(
     input: &[u8],
     opts: Options,
 ) -> Result<Vec<Entry>, AllocError>
+    requires source { HasSource code.now main }
     requires range { InRange opts }
     requires small { length input.now ≤ INPUT_BYTES }
     requires paced { IsPaced (laid_of code.now) code.now.routines }

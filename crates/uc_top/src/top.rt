@@ -29,7 +29,8 @@ pub struct Outcome {
 ///
 /// Statuses: 0 done, 1 the text has no tokens, is no program, or is one that breaks a rule or is too large, 2 the words are no
 /// line, 3 a file was not read, 4 a put failed, 5 a run fault, 6 a deadlock or tasks that no processor serves, 7 the limit on
-/// entries or on ticks, 8 out of memory, or a test before an act that said no, 10 the text is no journal's. The order of work is: words, file, input, tokens,
+/// entries or on ticks, 8 out of memory, or a test that said no: that
+/// what is counted while code is made has numbers, or a test before an act; 10 the text is no journal's. The order of work is: words, file, input, tokens,
 /// program, rules, sizes, code, run, out, err; the first refusal decides.
 pub fn run_words<R: Threads + Wait + Sync, S: Store, O: Sink, E: Sink, G: Gate + Sync>(
     rt: &R,

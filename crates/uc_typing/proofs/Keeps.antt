@@ -105,7 +105,7 @@ module _ (t : Table) (source : Source) (sound : Sound t source) (s : State) (sig
       run_in sc [] own todo _ _ s.run.elements (written_idle t s.run.this (Running (sw.new_exec (q.home_at s.run.this s.env) s.env)) (sw.born (q.home_at s.run.this s.env) (q.fresh x s.run.this) s.env) f) (framed_written t sigs s.run.this (Running (sw.new_exec (q.home_at s.run.this s.env) s.env)) (sw.born (q.home_at s.run.this s.env) (q.fresh x s.run.this) s.env) (subst (Framed t sigs) (sym (born_frames t (q.home_at s.run.this s.env) (q.fresh x s.run.this) s.env)) frames)) o h
 
   live : (c : Option Routine) (todo : List Todo) (own : List Ty) → Ok t g sc todo own → Values t own s.run.operands → After t source (q.live_step c todo s)
-  live None todo own o h = tt
+  live None todo own o h = idle
   live (Some x) todo own o h = either (After t source) (sw.is_live (pc.exec_at (top (drop x.params s.run.operands)) s.env) s.env) _ _ (run sc own todo _ o h) tt
 
   land : (why : Option UnwindReason) (todo : List Todo) (own : List Ty) → Ok t g sc todo own → Values t own s.run.operands → After t source (q.land_step why todo s)
@@ -121,7 +121,7 @@ module _ (t : Table) (source : Source) (sound : Sound t source) (s : State) (sig
   enter_by None i m todo own o h = run_in sc [] own todo _ (inside.call_begun i s.env) s.run.elements idle frames o h
 
   enters : (m : ℕ) (c : Option Routine) (todo : List Todo) (own : List Ty) → Ok t g sc todo own → Values t own s.run.operands → After t source (q.enter_step m c todo s)
-  enters m None todo own o h = tt
+  enters m None todo own o h = idle
   enters m (Some x) todo own o h =
       either (After t source) (q.may_call x.written s) _ _ (enter_by (find (object_in (top (drop x.params s.run.operands))) s.env.depths) (object_in (top (drop x.params s.run.operands))) m todo own o h) tt
 
@@ -144,12 +144,12 @@ module _ (t : Table) (source : Source) (sound : Sound t source) (s : State) (sig
       held_up i todo _ (uncounted [] _ (run_in sc [] own (q.leave_todo s.run.raised todo) _ (inside.call_ended i s.env) s.run.elements idle frames (left_todo s.run.raised todo own o) h))
 
   makes : (n r : ℕ) (x : Option Routine) (todo : List Todo) (own more : List Ty) (c : ℕ) → Makes t n r own more c → Ok t g sc todo (onto (t.routine r).params (Raw c ∷ more)) → Values t own s.run.operands → After t source (q.make_step n r x todo s)
-  makes n r None todo own more c m o h = tt
+  makes n r None todo own more c m o h = idle
   makes n r (Some x) todo own more c m o h =
       either (After t source) (q.may_call x.written s) _ _ (c, m.2, m.3, run_in sc (Raw c ∷ []) own (pc.BindMadeNow n r ∷ todo) _ (inside.build_begun s.env) s.run.elements idle frames (more, c, m, refl, o) h) tt
 
   binds : (n r : ℕ) (x : Option Routine) (todo : List Todo) (d : ℕ) (own more : List Ty) (c : ℕ) → d ≡ c → slice_get source.routines r ≡ x → Makes t n r own more c → Ok t g sc todo (onto (t.routine r).params (Raw c ∷ more)) → Values t (Raw d ∷ own) s.run.operands → After t source (q.bind_step x todo s)
-  binds n r None todo d own more c u e m o h = tt
+  binds n r None todo d own more c u e m o h = idle
   binds n r (Some x) todo d own more c u e m o h =
       let i : slice_set own x.params (Raw c) ≡ onto (t.routine r).params (Raw c ∷ more) = ap (λ n. slice_set own n (Raw c)) (sound.routines r x e).params ∙ (ap (λ l. slice_set l (length (t.routine r).params) (Raw c)) m.0 ∙ replaced_onto (t.routine r).params more (Cell (Raw c)) (Raw c)) in
       let v : Values t (slice_set own x.params (Raw c)) (slice_set (below s.run.operands) x.params (top s.run.operands)) = values_set t x.params own (below s.run.operands) (Raw c) (top s.run.operands) (rest_of t (Raw d) own s.run.operands h) (subst (λ d. IsObject t d (top s.run.operands)) u (newest t (Raw d) own s.run.operands h)) in

@@ -29,7 +29,7 @@ module _ (t : Table) where
 module _ (t : Table) (source : Source) where
   -- the end of an activation, which hands over a number
   pub returned_ok : (given : Value) (s : State) (sigs : List Sig) (cs : List Active) → Idle t s.env → Framed t sigs s.env.frames → Waits t (others sigs) cs → After t source (pc.return_step given cs s)
-  returned_ok given s sigs [] i f w = tt
+  returned_ok given s sigs [] i f w = i
   returned_ok given s sigs (c ∷ cs) i f w = record {
     sigs = others sigs;
     frames = framed_others t sigs s.env.frames f;
@@ -65,7 +65,7 @@ module _ (t : Table) (source : Source) where
   }
 
   past_ok : (v : Visited) (given : Value) (s : State) (sigs : List Sig) (cs : List Active) → Idle t s.env → Framed t sigs s.env.frames → Waits t (others sigs) cs → After t source (r.return_past v given cs s)
-  past_ok v given s sigs [] i f w = tt
+  past_ok v given s sigs [] i f w = i
   past_ok v given s sigs (c ∷ cs) i f w = left_ok _ s sigs c cs refl refl refl refl s.run.counts i f w
 
   end_ok : (h : Option Visited) (given : Value) (s : State) (sigs : List Sig) → Idle t s.env → Framed t sigs s.env.frames → Waits t (others sigs) s.callers → After t source (r.end_by h given s)
@@ -117,7 +117,7 @@ module _ (t : Table) (source : Source) where
         }
 
     pub call_ok : (n : ℕ) (c : Option Routine) (own more : List Ty) (todo : List Todo) → slice_get source.routines n ≡ c → own ≡ onto (t.routine n).params more → (t.routine n).this ≡ None → Ok t g sc todo (Num ∷ more) → Values t own s.run.operands → After t source (q.call_step c todo s)
-    call_ok n None own more todo e u i o h = tt
+    call_ok n None own more todo e u i o h = idle
     call_ok n (Some r) own more todo e u i o h =
         let x = sound.routines n r e in
         let v : Values t (onto (t.routine n).params more) s.run.operands = subst (λ l. Values t l s.run.operands) u h in
@@ -133,12 +133,12 @@ module _ (t : Table) (source : Source) where
         begun_ok n r (top (drop r.params s.run.operands)) counts more (object_ty (t.routine n).whole c ∷ more) todo (below (drop r.params s.run.operands)) e v (subst (λ o. IsThis t o (top (drop r.params s.run.operands))) (sym i) (as_this (t.routine n).whole c (top (drop r.params s.run.operands)) (newest t (object_ty (t.routine n).whole c) more (drop r.params s.run.operands) d))) o (rest_of t (object_ty (t.routine n).whole c) more (drop r.params s.run.operands) d)
 
     pub call_on_ok : (n : ℕ) (c : Option Routine) (own more : List Ty) (k : ℕ) (todo : List Todo) → slice_get source.routines n ≡ c → own ≡ onto (t.routine n).params (object_ty (t.routine n).whole k ∷ more) → (t.routine n).this ≡ Some k → Ok t g sc todo (Num ∷ more) → Values t own s.run.operands → After t source (q.call_on_step c todo s)
-    call_on_ok n None own more k todo e u i o h = tt
+    call_on_ok n None own more k todo e u i o h = idle
     call_on_ok n (Some r) own more k todo e u i o h =
         either (After t source) (nat_lt s.env.links.calls CALLS) _ _ (on_begun n r true own more k todo e u i o h) tt
 
     pub call_unwritten_ok : (n : ℕ) (c : Option Routine) (own more : List Ty) (k : ℕ) (todo : List Todo) → slice_get source.routines n ≡ c → own ≡ onto (t.routine n).params (object_ty (t.routine n).whole k ∷ more) → (t.routine n).this ≡ Some k → Ok t g sc todo (Num ∷ more) → Values t own s.run.operands → After t source (q.call_unwritten_step c todo s)
-    call_unwritten_ok n None own more k todo e u i o h = tt
+    call_unwritten_ok n None own more k todo e u i o h = idle
     call_unwritten_ok n (Some r) own more k todo e u i o h = on_begun n r false own more k todo e u i o h
 
     -- an exit

@@ -209,7 +209,7 @@ module _ (t : Table) where
     past pc.IsFinishCoroutine todo m = coroutine s.run.raised todo m
 
     pass : (why : Option UnwindReason) (c : Active) (cs : List Active) → Waits t (others sigs) (c ∷ cs) → After t source (r.pass_on why c cs s)
-    pass None c cs w = tt
+    pass None c cs w = idle
     pass (Some why) c cs w = left_ok t source _ s sigs c cs refl refl refl refl s.run.counts idle frames w
 
     leave_for : (b : Bool) (c : Active) (cs : List Active) → Waits t (others sigs) (c ∷ cs) → After t source (r.leave_for b c cs s)
@@ -217,7 +217,7 @@ module _ (t : Table) where
     leave_for false c cs w = pass s.run.raised c cs w
 
     leave : (cs : List Active) → Waits t (others sigs) cs → After t source (r.leave_step cs s)
-    leave [] w = tt
+    leave [] w = idle
     leave (c ∷ cs) w =
         either (After t source) (r.arrives s.run.raised (length (c ∷ cs))) _ _ (returned_ok t source s.run.result s sigs (c ∷ cs) idle frames w) (leave_for (r.escapes s.run.raised c.raised) c cs w)
 

@@ -150,7 +150,8 @@ IsOfTask t (Some c) = t.mutex c ≡ true
 abbrev pub IsTask : Table → ℕ → Type 0
 IsTask t r = IsOfTask t (t.routine r).this × ((t.routine r).params ≡ []) × IsRoutine t r
 
--- a state that has asked is to be given what the answer tells, and what is spawned is a task; behind a fault and an end there is nothing
+-- a state that has asked is to be given what the answer tells, and what is spawned is a task; behind an end what others may go on with is
+-- in order, and behind a fault there is nothing
 abbrev pub Asked : Table → Source → Request → State → Type 0
 Asked t source (ask.Make n) s = (c : ℕ) × (t.number c ≡ n) × (t.mutex c ≡ true) × Typed t (Raw c ∷ []) s
 Asked t source (ask.Spawn o) s = IsTask t (child_main source s.run.control) × Typed t [] s
@@ -162,7 +163,7 @@ Asked t source (ask.Read form) s = Typed t (Num ∷ []) s
 Asked t source ask.Fail s = Typed t (Num ∷ []) s
 Asked t source ask.Cluster s = Typed t (Clu ∷ []) s
 Asked t source (ask.Processor c) s = Typed t (Pro ∷ []) s
-Asked t source ask.End s = Unit {0}
+Asked t source ask.End s = Idle t s.env
 Asked t source (ask.Fault n) s = Unit {0}
 Asked t source _ s = Typed t [] s
 

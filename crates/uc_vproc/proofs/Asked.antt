@@ -21,14 +21,14 @@ use Rattle.uc_acts.proofs.Counted.{law_made}
 use Rattle.uc_acts.proofs.Hush.{is_silent}
 use Rattle.uc_acts.proofs.Living.{going_row}
 use Rattle.uc_acts.proofs.Making.{law_makes}
+use Rattle.uc_kernel.specs.AtRest.{IsMake}
 use Rattle.uc_kernel.proofs.Lying.{not_true}
 use Rattle.uc_kernel.proofs.Shapes.{Shaped, is_plain, is_making, is_spawning, shaped_act, shaped_make, shaped_spawn}
 use Rattle.uc_kernel.proofs.Making.{over_fault, second_spawn}
-use Rattle.uc_vproc.specs.declared.step.Handed.{Handed}
 use Rattle.uc_vproc.specs.declared.step.Step.{Step}
-use Rattle.uc_vproc.specs.declared.step.Step.TheVariants.{Going}
 use Rattle.uc_vproc.specs.Rest.{faults}
 use Rattle.uc_vproc.specs.Registries.{AreThere}
+use Rattle.uc_vproc.specs.Desks.{IsTold}
 use Rattle.uc_vproc.proofs.Makers.{not_both, is_nil}
 
 plain_spawns : (u : ℕ) (k : EntryKind) (e : Entry) → is_plain k ≡ true → spawns_task u k e ≡ false
@@ -141,8 +141,8 @@ module _ (opts : Options) (sites : List Site) (input : List ℕ) (j : Journal) (
       destroyed_is asked.request t j x.0 ∙ ap ask.Gone (sym x.1)
 
   -- the objects of which it is told that they are there, are there behind the act
-  pub there_by : KernelRuns opts sites input j → is_over j ≡ false → MayAsk opts sites j p t n asked.request → KernelRuns opts sites input (j ++ act opts sites input j p t n asked) → is_over (j ++ act opts sites input j p t n asked) ≡ false → (there : List Bool) → AreThere there j → (step : Step) → ((h : Handed) (o : ℕ) → step ≡ Going h → h.made ≡ Some o → has (held t (j ++ act opts sites input j p t n asked)) o ≡ true) → (o : ℕ) → ((slice_index_or there o false ≡ true) × (asked.request ≡ ask.Gone o → ⊥)) ⊎ ((h : Handed) × (step ≡ Going h) × (h.made ≡ Some o)) → has (made (j ++ act opts sites input j p t n asked)) o ≡ true
+  pub there_by : KernelRuns opts sites input j → is_over j ≡ false → MayAsk opts sites j p t n asked.request → KernelRuns opts sites input (j ++ act opts sites input j p t n asked) → is_over (j ++ act opts sites input j p t n asked) ≡ false → (there : List Bool) → AreThere there j → (step : Step) → (IsMake asked.request → (o : ℕ) → IsTold o step → has (held t (j ++ act opts sites input j p t n asked)) o ≡ true) → (o : ℕ) → ((slice_index_or there o false ≡ true) × (asked.request ≡ ask.Gone o → ⊥)) ⊎ (IsMake asked.request × IsTold o step) → has (made (j ++ act opts sites input j p t n asked)) o ≡ true
   there_by runs going may runs' going' there are step new o (inl x) =
       (law_makes opts sites input j p t n asked runs may going').stays o (are o x.0) (not_true (takes_out (act opts sites input j p t n asked) o) (λ h. x.1 (taken_is o h)))
   there_by runs going may runs' going' there are step new o (inr x) =
-      law_made opts sites input (j ++ act opts sites input j p t n asked) runs' going' t o (new x.0 o x.1 x.2)
+      law_made opts sites input (j ++ act opts sites input j p t n asked) runs' going' t o (new x.0 o x.1)

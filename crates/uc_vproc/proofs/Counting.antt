@@ -1,8 +1,7 @@
--- What may be asked for, behind a dispatch and behind an act; and that a task which makes a cluster or a processor holds what it held.
-use Rattle.std.proofs.Common.{◌≡◌, ℕ, pos, ◌+◌, ◌≤◌, ◌==◌, ◌&&◌, ◌||◌, Bool, true, false, cond, List, [], ◌∷◌, ◌++◌, Option, Some, None, refl, sym, ap, ◌∙◌, subst, arith}
-use Rattle.std.specs.Prelude.{if◌then◌else◌, nat_lt}
+-- What may be asked for, behind a dispatch and behind an act.
+use Rattle.std.proofs.Common.{◌≡◌, ℕ, pos, ◌+◌, ◌≤◌, Bool, true, false, cond, List, [], ◌∷◌, ◌++◌, sym, ap, ◌∙◌, subst, arith}
+use Rattle.std.specs.Prelude.{nat_lt}
 use Rattle.std.specs.List.{count_by}
-use Rattle.std.proofs.lemmas.Bool.{eq-eqb}
 use Rattle.std.proofs.lemmas.List.Sums.{sum_by-append}
 use Rattle.uc_tree.specs.Programs.{Site}
 use Rattle.uc_tree.specs.declared.limits.TheConstants.{CLUSTERS, PROCESSORS}
@@ -14,29 +13,22 @@ use Rattle.uc_entry.specs.declared.request.Asked.{Asked}
 use Rattle.uc_entry.specs.declared.request.Request.{Request}
 use Rattle.uc_entry.specs.declared.request.Request.TheVariants as ask
 use Rattle.uc_entry.specs.Faults.{fault_number}
-use Rattle.uc_entry.specs.Keyed.{find}
-use Rattle.uc_acts.specs.Journal.{Journal, asking, cost, held, is_over, is_task, lets_in, moves, where_true}
-use Rattle.uc_acts.specs.Known.{has, takes_out}
+use Rattle.uc_acts.specs.Journal.{Journal, asking, cost, held, is_over}
+use Rattle.uc_acts.specs.Known.{has}
 use Rattle.uc_acts.specs.Queues.{cluster_count, is_cluster, is_processor, processor_count}
 use Rattle.uc_acts.specs.Serves.{Serves}
 use Rattle.uc_acts.specs.Acts.{act, dispatch, fault, or_fault, row}
 use Rattle.uc_acts.specs.KernelRuns.{KernelRuns, MayAsk}
 use Rattle.uc_acts.proofs.Given.{law_dispatch}
-use Rattle.uc_acts.proofs.Hush.{hush, is_silent}
 use Rattle.uc_acts.proofs.Living.{going_row}
-use Rattle.uc_acts.proofs.OpenLemmas.{still_open_silent}
-use Rattle.uc_kernel.specs.Numbered.{added, gathered, keys, or_else}
-use Rattle.uc_kernel.proofs.Hands.{find_none}
-use Rattle.uc_kernel.proofs.Lying.{not_true}
+use Rattle.uc_kernel.specs.AtRest.{IsMake}
 use Rattle.uc_kernel.proofs.Making.{over_fault}
 use Rattle.uc_vproc.specs.declared.registry.Registry.{Registry}
-use Rattle.uc_vproc.specs.declared.step.Handed.{Handed}
 use Rattle.uc_vproc.specs.declared.step.Step.{Step}
-use Rattle.uc_vproc.specs.declared.step.Step.TheVariants.{Going}
-use Rattle.uc_vproc.specs.Registries.{Tells, is_counting, new_clusters, new_processors, sort_of}
-use Rattle.uc_vproc.specs.Desks.{RegistryAfter}
+use Rattle.uc_vproc.specs.Registries.{Tells, new_clusters, new_processors, sort_of}
+use Rattle.uc_vproc.specs.Desks.{IsTold, RegistryAfter}
 use Rattle.uc_vproc.proofs.Makers.{not_both}
-use Rattle.uc_vproc.proofs.Asked.{taken_is, there_by}
+use Rattle.uc_vproc.proofs.Asked.{there_by}
 
 -- how many there are behind more entries
 clusters_more : (j a : Journal) → cluster_count (j ++ a) ≡ cluster_count j + count_by (λ e. is_cluster e.kind) a
@@ -62,28 +54,6 @@ told_given opts sites input j p t runs serves r x = record {
   masks = x.masks;
 }
 
--- an entry that leaves every door alone
-held_silent : (t : ℕ) (j : Journal) (e : Entry) → is_silent e.kind ≡ true → held t (j ++ e ∷ []) ≡ held t j
-unfolding held
-held_silent t j e h =
-    let x = hush e.kind e h in
-    still_open_silent (λ e. where_true (is_task t (lets_in e.kind e)) e.object) (λ e o. (e.object == o) && moves e.kind e t) j e (ap (λ u. where_true (is_task t u) e.object) x.lets_in) (λ o. ap (λ b. (e.object == o) && b) (x.moves t) ∙ and_false (e.object == o))
-  where
-    and_false : (b : Bool) → (b && false) ≡ false
-    and_false true = refl
-    and_false false = refl
-
--- one entry, which leaves every door alone
-record Lone (a : List Entry) : Type 0 where
-  entry : Entry
-  is : a ≡ entry ∷ []
-  silent : is_silent entry.kind ≡ true
-
-or_fault_lone : (b : Bool) (j : Journal) (p t k n line : ℕ) (e : Entry) → is_silent e.kind ≡ true → is_over (j ++ or_fault b e (fault p t (cost k line) n line)) ≡ false → Lone (or_fault b e (fault p t (cost k line) n line))
-or_fault_lone true j p t k n line e s h = record { entry = e; is = refl; silent = s }
-or_fault_lone false j p t k n line e s h =
-    not_both (is_over (j ++ fault p t (cost k line) n line ∷ [])) (over_fault j p t (cost k line) n line) h
-
 or_fault_more : (P : Journal → ℕ) (b : Bool) (j : Journal) (p t k n line : ℕ) (e : Entry) → P j + 1 ≤ P (j ++ e ∷ []) → is_over (j ++ or_fault b e (fault p t (cost k line) n line)) ≡ false → P j + 1 ≤ P (j ++ or_fault b e (fault p t (cost k line) n line))
 or_fault_more P true j p t k n line e le h = le
 or_fault_more P false j p t k n line e le h =
@@ -92,13 +62,6 @@ or_fault_more P false j p t k n line e le h =
 module _ (opts : Options) (sites : List Site) (input : List ℕ) (j : Journal) (p t k line : ℕ) where
   abbrev of : Request → List Entry
   of r = row opts sites input j p t (cost k line) line r
-
-  lone_row : (r : Request) → is_counting (sort_of r) ≡ true → is_over (j ++ of r) ≡ false → Lone (of r)
-  lone_row ask.Cluster c h =
-      or_fault_lone (nat_lt (cluster_count j) CLUSTERS) j p t k (fault_number run_fault.TooManyProcessors) line (asking kind.Cluster p t (cost k line) 0 (pos (cluster_count j)) (pos 0)) refl h
-  lone_row (ask.Processor x) c h =
-      or_fault_lone (nat_lt (processor_count opts j) PROCESSORS) j p t k (fault_number run_fault.TooManyProcessors) line (asking kind.Processor p t (cost k line) 0 (pos (processor_count opts j)) (pos x)) refl h
-  lone_row r c h = absurd (cc c)
 
   clusters_row : (r : Request) → is_over (j ++ of r) ≡ false → cluster_count j + new_clusters (sort_of r) ≤ cluster_count (j ++ of r)
   clusters_row ask.Cluster h =
@@ -112,29 +75,6 @@ module _ (opts : Options) (sites : List Site) (input : List ℕ) (j : Journal) (
       or_fault_more (processor_count opts) (nat_lt (processor_count opts j) PROCESSORS) j p t k (fault_number run_fault.TooManyProcessors) line e (let n = processors_more opts j (e ∷ []) in omega (arith, n)) h
   processors_row r h = processors_stay opts j (of r)
 
--- a hand that is gathered from where each is
-module _ {M : Type 0} where
-  added_key : (o : ℕ) (x : Option M) (ms : List (ℕ × M)) → (x ≡ None → ⊥) → keys (added o x ms) ≡ o ∷ keys ms
-  added_key o None ms h = absurd (h refl)
-  added_key o (Some m) ms h = refl
-
-  gathered_keys : (os : List ℕ) (f : ℕ → Option M) → ((o : ℕ) → has os o ≡ true → f o ≡ None → ⊥) → keys (gathered os f) ≡ os
-  gathered_keys [] f h = refl
-  gathered_keys (o ∷ os) f h =
-      added_key o (f o) (gathered os f) (h o (ap (λ b. b || has os o) (eq-eqb o o refl))) ∙ ap (λ ks. o ∷ ks) (gathered_keys os f (λ n e. h n (or_right (o == n) (has os n) e)))
-    where
-      or_right : (b c : Bool) → c ≡ true → (b || c) ≡ true
-      or_right true c e = refl
-      or_right false c e = e
-
-  some_left : (b : Bool) (x y : Option M) → b ≡ false → (x ≡ None → ⊥) → (if b then None else or_else x y) ≡ None → ⊥
-  some_left true x y e h f = cc e
-  some_left false None y e h f = h refl
-  some_left false (Some m) y e h f = cc f
-
-no_taker : (r : Request) (o : ℕ) → is_counting (sort_of r) ≡ true → r ≡ ask.Gone o → ⊥
-no_taker r o c e = absurd (cc (sym c ∙ ap (λ q. is_counting (sort_of q)) e))
-
 module _ (opts : Options) (sites : List Site) (input : List ℕ) (j : Journal) (p t n : ℕ) (asked : Asked) where
   abbrev a : List Entry
   a = act opts sites input j p t n asked
@@ -143,7 +83,7 @@ module _ (opts : Options) (sites : List Site) (input : List ℕ) (j : Journal) (
   going h = (going_row opts sites input j p t n asked h).0
 
   -- behind an act
-  pub told_by : KernelRuns opts sites input j → is_over j ≡ false → MayAsk opts sites j p t n asked.request → KernelRuns opts sites input (j ++ act opts sites input j p t n asked) → is_over (j ++ act opts sites input j p t n asked) ≡ false → (r : Registry) → Tells opts sites j r → (r' : Registry) (step : Step) → RegistryAfter r r' asked.request step → ((h : Handed) (o : ℕ) → step ≡ Going h → h.made ≡ Some o → has (held t (j ++ act opts sites input j p t n asked)) o ≡ true) → Tells opts sites (j ++ act opts sites input j p t n asked) r'
+  pub told_by : KernelRuns opts sites input j → is_over j ≡ false → MayAsk opts sites j p t n asked.request → KernelRuns opts sites input (j ++ act opts sites input j p t n asked) → is_over (j ++ act opts sites input j p t n asked) ≡ false → (r : Registry) → Tells opts sites j r → (r' : Registry) (step : Step) → RegistryAfter r r' asked.request step → (IsMake asked.request → (o : ℕ) → IsTold o step → has (held t (j ++ act opts sites input j p t n asked)) o ≡ true) → Tells opts sites (j ++ act opts sites input j p t n asked) r'
   told_by runs going_on may runs' going' r x r' step w new =
       let same = going going' in
       let on = ap (λ l. is_over (j ++ l)) (sym same) ∙ going' in
@@ -159,11 +99,3 @@ module _ (opts : Options) (sites : List Site) (input : List ℕ) (j : Journal) (
             let d = w.processors in omega (arith, more, c, d);
         masks = w.masks ∙ x.masks;
       }
-
-  -- the hand of a task that has made a cluster or a processor has what it is inside
-  pub counting_hand : {M : Type 0} → is_counting (sort_of asked.request) ≡ true → is_over (j ++ act opts sites input j p t n asked) ≡ false → (ms : List (ℕ × M)) → keys ms ≡ held t j → (rest : ℕ → Option M) → keys (gathered (held t (j ++ act opts sites input j p t n asked)) (λ o. if takes_out (act opts sites input j p t n asked) o then None else or_else (find o ms) (rest o))) ≡ held t (j ++ act opts sites input j p t n asked)
-  counting_hand c h ms hand rest =
-      let same = going h in
-      let lone = subst Lone (sym same) (lone_row opts sites input j p t n asked.line asked.request c (ap (λ l. is_over (j ++ l)) (sym same) ∙ h)) in
-      let stays : held t (j ++ a) ≡ held t j = ap (λ l. held t (j ++ l)) lone.is ∙ held_silent t j lone.entry lone.silent in
-      gathered_keys (held t (j ++ a)) _ (λ o e. some_left (takes_out a o) (find o ms) (rest o) (not_true (takes_out a o) (λ f. no_taker asked.request o c (taken_is opts sites input j p t n asked o f))) (λ f. not_both (has (held t (j ++ a)) o) e (ap (λ os. has os o) (stays ∙ sym hand) ∙ find_none o ms f)))

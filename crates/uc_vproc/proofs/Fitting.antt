@@ -13,8 +13,9 @@ use Rattle.uc_acts.specs.Queues.{cluster_count, processor_count}
 use Rattle.uc_acts.specs.KernelRuns.{Fits, KernelRuns, IsAt, IsMade, IsOutside}
 use Rattle.uc_acts.proofs.Held.{law_held}
 use Rattle.uc_acts.proofs.Counted.{counted_run, law_made}
+use Rattle.uc_step_laws.specs.Hands.{HasForm}
 use Rattle.uc_vproc.specs.declared.fits.Place.TheVariants as place
-use Rattle.uc_vproc.specs.Places.{place_of, IsAccepting, IsApart, IsBare, IsOwned, IsPrint}
+use Rattle.uc_vproc.specs.Places.{place_of, IsAccepting, IsApart, IsBare, IsOwned}
 use Rattle.uc_vproc.specs.Registries.{AreThere, mask_counts}
 
 pub not_true_false : (b : Bool) → not b ≡ true → b ≡ false
@@ -45,15 +46,17 @@ module _ (opts : Options) (sites : List Site) (input : List ℕ) (j : Journal) (
         let known = (counted_run opts sites input runs).of_made o (law_made opts sites input j runs going t o it) in
         record { inside = sym ((law_held j).inside t o) ∙ it; known = record { made = known.0; not_gone = known.1 } }
 
-    pub fits_anywhere : (r : Request) → place_of own r ≡ place.Anywhere → Fits opts sites j t r
-    fits_anywhere (ask.Poll m) e = tt
-    fits_anywhere ask.Yield e = tt
-    fits_anywhere ask.Slice e = tt
-    fits_anywhere ask.Fail e = tt
-    fits_anywhere (ask.Fault n) e = tt
-    fits_anywhere (ask.Make c) e = tt
-    fits_anywhere ask.Cluster e = tt
-    fits_anywhere r e = absurd (cc e)
+    pub fits_anywhere : (r : Request) → HasForm r → place_of own r ≡ place.Anywhere → Fits opts sites j t r
+    fits_anywhere (ask.Poll m) h e = tt
+    fits_anywhere ask.Yield h e = tt
+    fits_anywhere ask.Slice h e = tt
+    fits_anywhere ask.Fail h e = tt
+    fits_anywhere (ask.Fault n) h e = tt
+    fits_anywhere (ask.Make c) h e = tt
+    fits_anywhere ask.Cluster h e = tt
+    fits_anywhere (ask.Print n items) h e = h
+    fits_anywhere (ask.Read form) h e = h
+    fits_anywhere r h e = absurd (cc e)
 
     at_same : (a o : ℕ) → place.At a ≡ place.At o → o ≡ a
     at_same a o e = cc e
@@ -91,19 +94,6 @@ module _ (opts : Options) (sites : List Site) (input : List ℕ) (j : Journal) (
         let f : m ≡ n = cc e in
         (subst (λ z. IsOutside t z j) s (record { outside = sym ((law_held j).inside t o) ∙ ap (λ l. has l o) (sym same) ∙ b.apart; known = known_there there are o b.known }), subst (λ z. z ≤ MEMBERS) f b.is_member)
     fits_apart there are o m r b e = absurd (cc e)
-
-    pub fits_print : (n room : ℕ) (r : Request) → IsPrint n room → place_of own r ≡ place.Prints n room → Fits opts sites j t r
-    fits_print n room (ask.Print m items) p e =
-        let a : m ≡ n = cc e in
-        let b : length items ≡ room = cc e in
-        let some = p.some in
-        let most = p.most in
-        (omega (arith, a, some), omega (arith, a, most), b ∙ p.room_is)
-    fits_print n room r p e = absurd (cc e)
-
-    pub fits_read : (form : ℕ) (r : Request) → form ≤ 1 → place_of own r ≡ place.Reads form → Fits opts sites j t r
-    fits_read form (ask.Read m) le e = let a : m ≡ form = cc e in omega (arith, a, le)
-    fits_read form r le e = absurd (cc e)
 
     pub fits_accepting : (o site mask : ℕ) (masks : List ℕ) (r : Request) → masks ≡ mask_counts sites → IsAccepting masks hand o site mask → place_of own r ≡ place.Accepting o site mask → Fits opts sites j t r
     fits_accepting o site mask masks (ask.Accept a s m) are b e =

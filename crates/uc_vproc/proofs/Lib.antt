@@ -3,6 +3,8 @@ pub mod Parts
 pub mod Asked
 pub mod Counting
 pub mod Putting
+pub mod AskingLemmas
+pub mod EndedLemmas
 pub mod Acts
 pub mod Steps
 pub mod Turns

@@ -12,9 +12,8 @@ use Rattle.uc_acts.specs.Queues.{running}
 use Rattle.uc_acts.proofs.Acting.{is_giving}
 use Rattle.uc_acts.proofs.Seats.{running_other}
 use Rattle.uc_lock.specs.Journals.{made_by}
-use Rattle.uc_vproc.specs.declared.step.Handed.{Handed}
 use Rattle.uc_vproc.specs.declared.step.Step.{Step}
-use Rattle.uc_vproc.specs.Makers.{Log, Notes, paired, tagged, entries, names, gives, server_from, server, given_in, handed_from, handed_out, MayMake, Manned}
+use Rattle.uc_vproc.specs.Makers.{Handed, Log, Notes, paired, tagged, entries, names, gives, server_from, server, given_in, handed_from, handed_out, MayMake, Manned}
 
 pub not_both : {A : Type 0} (b : Bool) → b ≡ true → b ≡ false → A
 not_both b e f = absurd (cc (e, f))

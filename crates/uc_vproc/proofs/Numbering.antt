@@ -23,10 +23,6 @@ module _ {M : Type 0} where
   keys_append [] b = refl
   keys_append (p ∷ a) b = ap (λ l. p.0 ∷ l) (keys_append a b)
 
-  pub keys_long : (ps : List (ℕ × M)) → length (keys ps) ≡ length ps
-  keys_long [] = refl
-  keys_long (p ∷ ps) = ap suc (keys_long ps)
-
   pub key_next : (ps : List (ℕ × M)) (i : ℕ) (p : ℕ × M) → i < length ps → p ≡ get_or ps i p → keys (take (i + 1) ps) ≡ keys (take i ps) ++ p.0 ∷ []
   key_next ps i p lt e =
       ap keys (take_more ps i p lt) ∙ keys_append (take i ps) (get_or ps i p ∷ []) ∙ ap (λ q. keys (take i ps) ++ q.0 ∷ []) (sym e)
@@ -42,10 +38,3 @@ module _ {M : Type 0} where
 
   pub none_next : (ps : List (ℕ × M)) (i o : ℕ) (p : ℕ × M) → i < length ps → p ≡ get_or ps i p → (p.0 ≡ o → ⊥) → has (keys (take i ps)) o ≡ false → has (keys (take (i + 1) ps)) o ≡ false
   none_next ps i o p lt e d h = ap (λ ks. has ks o) (key_next ps i p lt e) ∙ has_more (keys (take i ps)) p.0 o h (ne_eqb p.0 o d)
-
--- the same of plain numbers
-pub number_next : (ns : List ℕ) (i d : ℕ) → i < length ns → take (i + 1) ns ≡ take i ns ++ get_or ns i d ∷ []
-number_next ns i d lt = take_more ns i d lt
-
-pub numbers_whole : (ns : List ℕ) (n : ℕ) → length ns ≤ n → take n ns ≡ ns
-numbers_whole ns n le = take_all n ns le

@@ -18,12 +18,13 @@ use Rattle.uc_step.specs.Starts.{Starts}
 use Rattle.uc_frames.specs.StandsByParts.{Alike}
 use Rattle.uc_step.specs.WeightFalls.{Keeps}
 use Rattle.uc_meaning.specs.Runs.{first_world, begun as begun_with}
+use Rattle.uc_program_laws.proofs.Ticks.{left_begin}
 use Rattle.uc_kernel.specs.KernelState.{Kept}
 use Rattle.uc_kernel.specs.Calls.{Opened}
 use Rattle.uc_kernel.proofs.Moving.{running_silent}
 use Rattle.uc_vproc.specs.declared.step.Step.TheVariants.{Idle}
 use Rattle.uc_vproc.specs.Makers.{Notes, nobody, Manned}
-use Rattle.uc_vproc.specs.Rest.{IsSource, IsHome, IsTask}
+use Rattle.uc_vproc.specs.Rest.{HasSource, IsSource, IsHome, IsTask}
 use Rattle.uc_vproc.specs.declared.registry.Registry.{Registry}
 use Rattle.uc_vproc.specs.Registries.{IsOpening, Tells}
 use Rattle.uc_vproc.specs.Desks.{Keeping, no_fields}
@@ -54,7 +55,7 @@ opened_is opts sites input first own k o =
     let wanted = sym o.wanted in
     λ i. record { journal = journal i; sites = sites_are i; opts = opts_are i; input = input_is i; abandoned = wanted i; values = k.values; members = k.members }
 
-module _ (code : Code) (main : ℕ) (opts : Options) (input : List ℕ) (first : Machine) (stands : (source : Source) → IsSource code main source → IsTask code first ((first_world source).tasks 0)) (kept : Keeps code (with_hand [] first)) where
+module _ (code : Code) (main : ℕ) (opts : Options) (input : List ℕ) (first : Machine) (sourced : HasSource code main) (stands : (source : Source) → IsSource code main source → IsTask code first ((first_world source).tasks 0)) (kept : Keeps code (with_hand [] first)) where
   value_by : (source : Source) (is : IsSource code main source) (b : Bool) (t : ℕ) (x : Option (Option Machine)) (v : Machine) → (t == 0) ≡ b → ((t == 0) ≡ true → x ≡ Some (Some first)) → ((t == 0) ≡ false → x ≡ None) → x ≡ Some (Some v) → IsTask code v ((first_world source).tasks t)
   value_by source is true t x v e f h q = let same : first ≡ v = cc (sym (f e) ∙ q) in subst (λ y. IsTask code y ((first_world source).tasks 0)) same (stands source is)
   value_by source is false t x v e f h q = absurd (cc (sym (h e) ∙ q))
@@ -62,6 +63,10 @@ module _ (code : Code) (main : ℕ) (opts : Options) (input : List ℕ) (first :
   kept_by : (b : Bool) (t : ℕ) (x : Option (Option Machine)) (v : Machine) → (t == 0) ≡ b → ((t == 0) ≡ true → x ≡ Some (Some first)) → ((t == 0) ≡ false → x ≡ None) → x ≡ Some (Some v) → Keeps code (with_hand [] v)
   kept_by true t x v e f h q = let same : first ≡ v = cc (sym (f e) ∙ q) in subst (λ y. Keeps code (with_hand [] y)) same kept
   kept_by false t x v e f h q = absurd (cc (sym (h e) ∙ q))
+
+  ended_by : (b : Bool) (x : Option (Option Machine)) → (b ≡ true → x ≡ Some (Some first)) → (b ≡ false → x ≡ None) → x ≡ Some None → ⊥
+  ended_by true x f h q = cc (sym (f refl) ∙ q)
+  ended_by false x f h q = cc (sym (h refl) ∙ q)
 
   home_by : (b : Bool) (x : Option Members) → (b ≡ true → x ≡ Some no_fields) → (b ≡ false → x ≡ None) → Alike (IsHome code) x (if b then Some no_members else None)
   home_by true x f h = subst (λ y. Alike (IsHome code) y (Some no_members)) (sym (f refl)) (record { values = refl; serial = refl; parked = tt })
@@ -94,6 +99,7 @@ module _ (code : Code) (main : ℕ) (opts : Options) (input : List ℕ) (first :
   pub opens : (k : Kept (Option Machine) Members) (ns : Notes) (room : ℕ) (r : Registry) → InRange opts → Opened code.sites opts input (Some first) no_fields k → ns ≡ (nobody, Idle) ∷ [] → opts.entries ≤ room → IsOpening code.sites opts.processors r → Keeping code main k ns room r
   opens k ns room r range o e le one =
       subst (λ x. Keeping code main x ns room r) (opened_is opts code.sites input (Some first) no_fields k o) (subst (λ x. Keeping code main (opened_as opts code.sites input k.values k.members) x room r) (sym e) (record {
+        sourced = sourced;
         range = range;
         sites = refl;
         counted = refl;
@@ -106,16 +112,19 @@ module _ (code : Code) (main : ℕ) (opts : Options) (input : List ℕ) (first :
             values = λ t v q. kept_by (t == 0) t (k.values t) v refl (λ h. ap k.values (eqb-true t 0 h) ∙ o.value) (o.no_value t) q;
             members = λ x m q. idle_by (x == 0) (k.members x) m (λ h. ap k.members (eqb-true x 0 h) ∙ o.members) (o.no_members x) q;
           };
+          ended = λ t q. absurd (ended_by (t == 0) (k.values t) (λ h. ap k.values (eqb-true t 0 h) ∙ o.value) (o.no_value t) q);
           out = λ p t r. absurd (cc (sym (running_first opts p) ∙ r));
           stands = λ source is. record {
             world = first_world source;
             runs = begun_with;
+            fitting = tt;
             values = λ t v q. value_by source is (t == 0) t (k.values t) v refl (λ h. ap k.values (eqb-true t 0 h) ∙ o.value) (o.no_value t) q;
             members = λ x. inl (home_by (x == 0) (k.members x) (λ h. ap k.members (eqb-true x 0 h) ∙ o.members) (o.no_members x));
             hands = λ p t g r f. absurd (cc (sym (running_first opts p) ∙ r));
           };
         };
         told = λ f g. told_first r one;
+        left = λ g. left_begin opts;
       }))
 
 -- the first task stands where the code is that of a source with this main

@@ -90,13 +90,13 @@ module _ (code : Code) where
   goes_kept (ask.Fault n) m f h = absurd (cc f)
   goes_kept r m f h = h
 
-  -- behind one that is no fault its hand stands
-  pub hand_stands_after : (r : Request) (m : Machine) (s : State) → faults r ≡ false → StandsAfter (laid_of code) r m s → Numbered (IsHome code) m.env.hand s.env.hand
-  hand_stands_after ask.End m s f h = h
-  hand_stands_after (ask.Fault n) m s f h = absurd (cc f)
-  hand_stands_after (ask.Make c) m s f h = h.env.hand
-  hand_stands_after (ask.Spawn o) m s f h = h.0.env.hand
-  hand_stands_after r m s f h = h.env.hand
+  -- behind any request its hand stands
+  pub hand_stands_after : (r : Request) (m : Machine) (s : State) → StandsAfter (laid_of code) r m s → Numbered (IsHome code) m.env.hand s.env.hand
+  hand_stands_after ask.End m s h = h
+  hand_stands_after (ask.Fault n) m s h = h
+  hand_stands_after (ask.Make c) m s h = h.env.hand
+  hand_stands_after (ask.Spawn o) m s h = h.0.env.hand
+  hand_stands_after r m s h = h.env.hand
 
   pub hand_kept_after : (r : Request) (m : Machine) → faults r ≡ false → KeepsAfter code r m → EachOf (IdlesAt (laid_of code) code.routines) m.env.hand
   hand_kept_after ask.End m f h = h

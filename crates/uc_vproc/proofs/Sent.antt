@@ -11,10 +11,12 @@ use denote.Struct.Declared.{shape}
 use denote.Param.Send.{IsSend, IsSync, plain_send, view_send, recorded_send, struct_send, recorded_sync, struct_sync, shr_sync}
 use Rattle.std.below.std_heap.proofs.GlobalAllocator.TheSendSync as frees
 use Rattle.std.proofs.alloc.Global.TheSendSync as global
+use Rattle.std.proofs.boxed.Box.TheSendSync as box
 use Rattle.std.proofs.option.Option.TheSendSync as option
 use Rattle.std.proofs.vec.Vec.TheSendSync as vec
 use Rattle.std.proofs.Common.{rules}
 use Rattle.std.specs.contracts.alloc.Global as Global
+use Rattle.std.specs.contracts.boxed.Box as Box
 use Rattle.std.specs.contracts.option.Option as Option
 use Rattle.std.specs.contracts.impls.GlobalAllocator.TheImpl as GlobalAllocator
 use Rattle.std.specs.contracts.snapshot.Snapshot as Snapshot
@@ -43,6 +45,9 @@ use Rattle.uc_vproc.specs.contracts.step.Step as Step
 kernel_sent : IsSend (Kernel.the_row (Option.the_row Task.the_row) Members.the_row)
 kernel_sent = kernel.the_send (Option.the_row Task.the_row) Members.the_row (option.the_send Task.the_row task.the_send) members.the_send
 
+boxed_sent : IsSend (owning.row (Box.the_type (Kernel.the_row (Option.the_row Task.the_row) Members.the_row) Global.the_row GlobalAllocator.ghosts))
+boxed_sent = box.the_send (Kernel.the_row (Option.the_row Task.the_row) Members.the_row) Global.the_row GlobalAllocator.ghosts kernel_sent global.the_send frees.the_frees
+
 snapshot_sent : (R : RattleType) → IsSend (owning.row (Snapshot.the_type R))
 snapshot_sent R = search rules
 
@@ -54,7 +59,7 @@ notes_sent = vec.the_send Note.the_row Global.the_row GlobalAllocator.ghosts not
 
 pub desk_sent : IsSend the_row
 desk_sent =
-    view_send inside.the_row _ _ _ _ (recorded_send inside.the_field.row _ _ inside.the_type.to_one (struct_send (shape inside.the_type) (kernel_sent, (notes_sent, (registry.the_field_send, (snapshot_sent Code.the_row, (plain_send _ _ _ _ _, tt)))))))
+    view_send inside.the_row _ _ _ _ (recorded_send inside.the_field.row _ _ inside.the_type.to_one (struct_send (shape inside.the_type) (boxed_sent, (notes_sent, (registry.the_field_send, (snapshot_sent Code.the_row, (plain_send _ _ _ _ _, tt)))))))
 
 -- what the lock tells of an entry
 abbrev item_row : RattleType

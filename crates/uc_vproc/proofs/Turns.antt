@@ -1,7 +1,7 @@
 -- A dispatch and an act under the lock: what the locked value keeps, and what comes of them.
 use Rattle.std.proofs.Common.{◌==◌, ◌≡◌, ℕ, ◌-◌, ◌+◌, ◌<◌, ◌≤◌, ◌||◌, Bool, true, false, cond, List, [], ◌∷◌, ◌++◌, Option, Some, None, refl, sym, ap, ◌∙◌, subst, length, replicate, arith, length-append, append-nil, is_some, IfNone, IfSome}
 use Rattle.std.specs.Prelude.{if◌then◌else◌}
-use Rattle.std.specs.Option.{option_map, option_to_list}
+use Rattle.std.specs.Option.{option_map}
 use Rattle.std.proofs.lemmas.List.{length-replicate}
 use Rattle.std.proofs.lemmas.Bool.{eqb-true, eq-eqb}
 use Rattle.uc_tree.specs.Source.{Source}
@@ -24,22 +24,23 @@ use Rattle.uc_frames.specs.Machine.{Machine, Members, with_hand}
 use Rattle.uc_frames.specs.PaceInvariant.{IdlesAt}
 use Rattle.uc_step.specs.WeightFalls.{Keeps}
 use Rattle.uc_meaning.specs.Runs.{IsPrefix, more, gives, no_room, drawn, hand_of}
-use Rattle.uc_kernel.specs.Numbered.{keys}
+use Rattle.uc_program_laws.specs.Laws.{AllLeft}
+use Rattle.uc_program_laws.proofs.Ticks.{left_given}
 use Rattle.uc_kernel.specs.KernelState.{Store, kept, Kept, Same, handed, with_entry}
-use Rattle.uc_kernel.specs.Calls.{HandsOut, over, abandoned, nobody, no_room as limited, Dispatched, EndsRun, is_object}
+use Rattle.uc_kernel.specs.Calls.{HandsOut, over, abandoned, nobody, no_room as limited, Dispatched, EndsRun}
 use Rattle.uc_kernel.specs.declared.given.Given.{Given}
 use Rattle.uc_lock.specs.Journals.{Extends}
 use Rattle.uc_vproc.specs.declared.registry.Registry.{Registry}
-use Rattle.uc_vproc.specs.declared.step.Handed.{Handed}
 use Rattle.uc_vproc.specs.declared.step.Step.{Step}
 use Rattle.uc_vproc.specs.declared.step.Step.TheVariants.{Going, Idle, Over}
-use Rattle.uc_vproc.specs.Makers.{Log, Notes, paired, tagged, entries, server, handed_out, Manned}
+use Rattle.uc_vproc.specs.Makers.{Handed, Log, Notes, paired, tagged, entries, server, handed_out, Manned}
 use Rattle.uc_vproc.specs.Registries.{Tells}
 use Rattle.uc_vproc.specs.Rest.{IsSource, IsHome, IsTask, IsWork, OutElse, AtRest, Steady, WasHanded, stops}
-use Rattle.uc_vproc.specs.Desks.{EndsAs, Keeping, Got, Came, HandsNext, boxed, whole, plain, newly, numbered, off, nothing, passes, WasHandedOut, none_left, gave, value_after}
+use Rattle.uc_vproc.specs.Desks.{EndsAs, Keeping, Got, Came, HandsNext, boxed, nothing, passes, WasHandedOut, none_left, gave, value_after}
 use Rattle.uc_vproc.proofs.Makers.{not_both, entries_paired, entries_append, entries_tagged, paired_more, server_push, manned_push, AllOn, handed_still, handed_act, names_none, all_tagged}
 use Rattle.uc_vproc.proofs.Parts.{work_of, kept_work, each_gathered}
 use Rattle.uc_vproc.proofs.Counting.{told_given}
+use Rattle.uc_vproc.proofs.EndedLemmas.{ended_on}
 use Rattle.uc_vproc.proofs.Steps.{Choice, one_same, wait_by, drawn_given, hand_stands, rest_stands}
 
 -- what is the same at each number, is the same
@@ -69,14 +70,6 @@ other_some false x v h = h
 pub or_true : (b : Bool) → (b || true) ≡ true
 or_true true = refl
 or_true false = refl
-
--- a hand from which no new object is missing
-pub whole_keys : (g : Given Machine Members) → keys g.members.items ++ option_to_list (whole g).made ≡ keys g.members.items
-whole_keys g = append-nil (keys g.members.items)
-
--- the object that is missing in what is handed out
-pub made_in : (h h' : Handed) (n : Option ℕ) → h.made ≡ n → Going h ≡ Going h' → h'.made ≡ n
-made_in h h' n e s = let same : h ≡ h' = cc s in ap (λ (x : Handed). x.made) (sym same) ∙ e
 
 pub has_last : (xs : List ℕ) (n : ℕ) → has (xs ++ n ∷ []) n ≡ true
 has_last [] n = ap (λ b. b || false) (eq-eqb n n refl)
@@ -153,12 +146,13 @@ module _ (code : Code) (main : ℕ) where
     entries_more step a = entries_append log (tagged n step a) ∙ ap (λ x. x ++ entries (tagged n step a)) log_is ∙ ap (λ x. k.journal ++ x) (entries_tagged n step a)
 
     -- more entries of one call
-    module _ (step : Step) (a : List Entry) (v : ℕ → Option (Option Machine)) (m : ℕ → Option Members) (b : Bool) (runs : KernelRuns k.opts k.sites k.input (k.journal ++ a)) (manned : Manned (log ++ tagged n step a)) (prefix : (source : Source) → IsSource code main source → IsPrefix source k.input k.opts (k.journal ++ a)) (steady : b ≡ false → is_over (k.journal ++ a) ≡ false → Steady code main (changed k a v m false) (log ++ tagged n step a)) (came : Came code n (log ++ tagged n step a) step) (registry' : Registry) (are : b ≡ false → is_over (k.journal ++ a) ≡ false → Tells k.opts k.sites (k.journal ++ a) registry') where
+    module _ (step : Step) (a : List Entry) (v : ℕ → Option (Option Machine)) (m : ℕ → Option Members) (b : Bool) (runs : KernelRuns k.opts k.sites k.input (k.journal ++ a)) (manned : Manned (log ++ tagged n step a)) (prefix : (source : Source) → IsSource code main source → IsPrefix source k.input k.opts (k.journal ++ a)) (steady : b ≡ false → is_over (k.journal ++ a) ≡ false → Steady code main (changed k a v m false) (log ++ tagged n step a)) (came : Came code n (log ++ tagged n step a) step) (registry' : Registry) (are : b ≡ false → is_over (k.journal ++ a) ≡ false → Tells k.opts k.sites (k.journal ++ a) registry') (tick : is_over (k.journal ++ a) ≡ false → AllLeft k.opts (k.journal ++ a)) where
       log_more : paired (k.journal ++ a) (noted ns n step (k.journal ++ a)) ≡ log ++ tagged n step a
       log_more = ap (paired (k.journal ++ a)) (noted_more k.journal a ns n step keeps.counted) ∙ paired_more n step k.journal ns a keeps.counted
 
       grown : Keeping code main (changed k a v m b) (noted ns n step (k.journal ++ a)) room registry'
       grown = record {
+        sourced = keeps.sourced;
         range = keeps.range;
         sites = keeps.sites;
         counted =
@@ -172,6 +166,7 @@ module _ (code : Code) (main : ℕ) where
         prefix = prefix;
         steady = λ f g. subst (λ l. Steady code main (changed k a v m false) l) (sym log_more) (steady f g);
         told = are;
+        left = tick;
       }
 
       pub advanced : Advanced k ns room n (changed k a v m b) (noted ns n step (k.journal ++ a)) registry' step
@@ -189,6 +184,7 @@ module _ (code : Code) (main : ℕ) where
         let e = noted_same k.journal ns n step keeps.counted in
         subst (λ l. Advanced k ns room n (record k { abandoned = b }) l registry' step) (sym e) (record {
           keeps = record {
+            sourced = keeps.sourced;
             range = keeps.range;
             sites = keeps.sites;
             counted = keeps.counted;
@@ -198,6 +194,7 @@ module _ (code : Code) (main : ℕ) where
             prefix = keeps.prefix;
             steady = λ g h. keeps.steady (f g) h;
             told = λ g h. subst (Tells k.opts k.sites k.journal) (sym (same g)) (keeps.told (f g) h);
+            left = keeps.left;
           };
           log = ([], sym (append-nil log), λ i d lt. absurd (omega (arith, lt)));
           came = came;
@@ -225,13 +222,16 @@ module _ (code : Code) (main : ℕ) where
       given_told : k.abandoned ≡ false → Tells k.opts k.sites (k.journal ++ e ∷ []) registry
       given_told f = told_given k.opts k.sites k.input k.journal p t keeps.runs serves registry (keeps.told f going)
 
+      given_left : AllLeft k.opts (k.journal ++ e ∷ [])
+      given_left = left_given k.opts k.sites k.input k.journal p t keeps.range keeps.runs serves (keeps.left going)
+
       given_manned : (step : Step) → Manned (log ++ tagged n step (e ∷ []))
       given_manned step = manned_push log ((e, step), n) keeps.manned (ap (running p) log_is ∙ serves.free)
 
       -- what is handed out
-      module _ (wanted : k.abandoned ≡ false) (g : Given Machine Members) (processor : g.processor ≡ p) (h : HandsOut (with_entry (dispatch p t) k) p t (boxed g)) (plain : is_object g.answer ≡ false) where
+      module _ (wanted : k.abandoned ≡ false) (g : Handed) (processor : g.processor ≡ p) (h : HandsOut (with_entry (dispatch p t) k) p t (boxed g)) where
         abbrev step : Step
-        step = Going (whole g)
+        step = Going g
 
         abbrev log1 : Log
         log1 = log ++ tagged n step (e ∷ [])
@@ -239,7 +239,7 @@ module _ (code : Code) (main : ℕ) where
         old : Steady code main calm log
         old = keeps.steady wanted going
 
-        handed_now : handed_out p log1 ≡ Some (whole g)
+        handed_now : handed_out p log1 ≡ Some g
         handed_now = handed_act p n log step (e ∷ []) (refl, tt) refl
 
         others : (q : ℕ) → (q == p) ≡ false → handed_out q log1 ≡ handed_out q log
@@ -249,7 +249,7 @@ module _ (code : Code) (main : ℕ) where
         k2 = changed k (e ∷ []) (handed t k1).values (handed t k1).members false
 
         mine : WasHanded k2 log1 p t
-        mine = record { handed = whole g; is = handed_now; keys_are = whole_keys g ∙ h.keys_are plain; answer = h.answer; left_is = h.left }
+        mine = record { handed = g; is = handed_now; answer = h.answer; left_is = h.left }
 
         out_by : (q u : ℕ) (c : Bool) → (q == p) ≡ c → running q (k.journal ++ e ∷ []) ≡ u ∷ [] → WasHanded k2 log1 q u
         out_by q u true d r =
@@ -264,7 +264,6 @@ module _ (code : Code) (main : ℕ) where
             record {
               handed = o.handed;
               is = others q d ∙ o.is;
-              keys_are = o.keys_are ∙ sym x.objects;
               answer = x.answer ∙ o.answer;
               left_is = o.left_is ∙ sym (ap (λ z. k.opts.slice - z) x.ticks);
             }
@@ -283,20 +282,21 @@ module _ (code : Code) (main : ℕ) where
           work_now =
               subst (λ ms. IsWork code g.task ms (drawn (k.journal ++ e ∷ []) x.world t)) (sym h.hand) (work_of code g.task _ (x.world.tasks t) (hand_of (held t (k.journal ++ e ∷ [])) x.world.homes) (x.values t g.task h.value) (hand_stands (IsTask code) (IsHome code) (k.journal ++ e ∷ []) x.world p t sound h.runs k.members members_but))
 
-          work_by : (q u : ℕ) (y : Handed) (c : Bool) → (q == p) ≡ c → running q (k.journal ++ e ∷ []) ≡ u ∷ [] → handed_out q log1 ≡ Some y → IsWork code y.given.task y.given.members.items (drawn (k.journal ++ e ∷ []) x.world u)
+          work_by : (q u : ℕ) (y : Handed) (c : Bool) → (q == p) ≡ c → running q (k.journal ++ e ∷ []) ≡ u ∷ [] → handed_out q log1 ≡ Some y → IsWork code y.task y.members.items (drawn (k.journal ++ e ∷ []) x.world u)
           work_by q u y true d r f =
               let same : q ≡ p = eqb-true q p d in
               let who : t ≡ u = one_same t u (sym h.runs ∙ ap (λ z. running z (k.journal ++ e ∷ [])) (sym same) ∙ r) in
-              let it : whole g ≡ y = cc (sym handed_now ∙ ap (λ z. handed_out z log1) (sym same) ∙ f) in
-              subst (λ z. IsWork code y.given.task y.given.members.items (drawn (k.journal ++ e ∷ []) x.world z)) who (subst (λ (z : Handed). IsWork code z.given.task z.given.members.items (drawn (k.journal ++ e ∷ []) x.world t)) it work_now)
+              let it : g ≡ y = cc (sym handed_now ∙ ap (λ z. handed_out z log1) (sym same) ∙ f) in
+              subst (λ z. IsWork code y.task y.members.items (drawn (k.journal ++ e ∷ []) x.world z)) who (subst (λ (z : Handed). IsWork code z.task z.members.items (drawn (k.journal ++ e ∷ []) x.world t)) it work_now)
           work_by q u y false d r f =
               let law = (law_dispatch k.opts k.sites k.input k.journal p t keeps.runs serves).elsewhere q d in
-              subst (λ z. IsWork code y.given.task y.given.members.items z) (sym (drawn_given (IsTask code) (IsHome code) k.opts k.sites k.input k.journal x.world p t keeps.runs serves u)) (x.hands q u y (sym law.runs ∙ r) (sym (others q d) ∙ f))
+              subst (λ z. IsWork code y.task y.members.items z) (sym (drawn_given (IsTask code) (IsHome code) k.opts k.sites k.input k.journal x.world p t keeps.runs serves u)) (x.hands q u y (sym law.runs ∙ r) (sym (others q d) ∙ f))
 
           rests : AtRest code source k2 log1
           rests = record {
             world = x.world;
             runs = more x.runs going (gives p t serves fits);
+            fitting = (x.fitting, tt);
             values = λ u v f. x.values u v (other_some (u == t) (k.values u) (Some v) f);
             members = rest_stands (IsTask code) (IsHome code) (k.journal ++ e ∷ []) x.world p t sound h.runs k.members members_but;
             hands = λ q u y r f. work_by q u y (q == p) refl r f;
@@ -308,6 +308,7 @@ module _ (code : Code) (main : ℕ) where
             values = λ u v f. old.kept.values u v (other_some (u == t) (k.values u) (Some v) f);
             members = λ o m f. old.kept.members o m (other_some (has (held t (k.journal ++ e ∷ [])) o) (k.members o) m f);
           };
+          ended = λ u f. ended_on u k.journal (e ∷ []) (old.ended u (other_some (u == t) (k.values u) None f));
           out = λ q u r. out_by q u (q == p) refl r;
           stands = rests;
         }
@@ -315,49 +316,42 @@ module _ (code : Code) (main : ℕ) where
         serves1 : server p log1 ≡ Some n
         serves1 = server_push p log ((e, step), n) ∙ ap (λ c. cond c (Some n) (server p log)) (eq-eqb p p refl)
 
-        got1 : Got code n log1 (whole g)
+        got1 : Got code n log1 g
         got1 = record {
           is = ap (λ q. handed_out q log1) processor ∙ handed_now;
           serves = ap (λ q. server q log1) processor ∙ serves1;
           task = t;
           runs = ap (running g.processor) (entries_more step (e ∷ [])) ∙ ap (λ q. running q (k.journal ++ e ∷ [])) processor ∙ h.runs;
+          some = subst (λ q. 1 ≤ q) (sym h.left) (given_left p t h.runs);
           kept = subst (λ ms. Keeps code (with_hand ms g.task)) (sym h.hand) (kept_work code g.task _ (old.kept.values t g.task h.value) (each_gathered (IdlesAt (laid_of code) code.routines) (held t (k.journal ++ e ∷ [])) k.members old.kept.members));
         }
 
         pub given_on : Advanced k ns room n (changed k (e ∷ []) (handed t k1).values (handed t k1).members k.abandoned) (noted ns n step (k.journal ++ e ∷ [])) registry step
-        given_on = advanced step (e ∷ []) (handed t k1).values (handed t k1).members k.abandoned given_runs (given_manned step) given_prefix (λ f o. steady1) got1 registry (λ f o. given_told f)
-
-      -- it is dropped, and the run abandoned
-      pub dropped : (v : ℕ → Option (Option Machine)) (m : ℕ → Option Members) → Advanced k ns room n (changed k (e ∷ []) v m true) (noted ns n Over (k.journal ++ e ∷ [])) registry Over
-      dropped v m = advanced Over (e ∷ []) v m true given_runs (given_manned Over) given_prefix (λ f. absurd (cc f)) tt registry (λ f. absurd (cc f))
+        given_on = advanced step (e ∷ []) (handed t k1).values (handed t k1).members k.abandoned given_runs (given_manned step) given_prefix (λ f o. steady1) got1 registry (λ f o. given_told f) (λ o. given_left)
 
     -- no room for a dispatch
     module _ (going : is_over k.journal ≡ false) (p t : ℕ) (serves : Serves k.opts k.journal p t) (full : k.opts.entries < length k.journal + 2) (step : Step) (came : Came code n (log ++ tagged n step (lone_limit ∷ [])) step) (b : Bool) where
       pub limited_on : Advanced k ns room n (changed k (lone_limit ∷ []) k.values k.members b) (noted ns n step (k.journal ++ lone_limit ∷ [])) registry step
       limited_on =
-          advanced step (lone_limit ∷ []) k.values k.members b (more_in keeps.runs going (none_in p t serves full)) (manned_push log ((lone_limit, step), n) keeps.manned tt) (λ source is. let x = keeps.prefix source is in record { world = x.world; runs = more x.runs going (no_room p t serves full) }) (λ f o. not_both (is_over (k.journal ++ lone_limit ∷ [])) (over_limit k.journal 0 0) o) came registry (λ f o. not_both (is_over (k.journal ++ lone_limit ∷ [])) (over_limit k.journal 0 0) o)
+          advanced step (lone_limit ∷ []) k.values k.members b (more_in keeps.runs going (none_in p t serves full)) (manned_push log ((lone_limit, step), n) keeps.manned tt) (λ source is. let x = keeps.prefix source is in record { world = x.world; runs = more x.runs going (no_room p t serves full) }) (λ f o. not_both (is_over (k.journal ++ lone_limit ∷ [])) (over_limit k.journal 0 0) o) came registry (λ f o. not_both (is_over (k.journal ++ lone_limit ∷ [])) (over_limit k.journal 0 0) o) (λ o. not_both (is_over (k.journal ++ lone_limit ∷ [])) (over_limit k.journal 0 0) o)
 
     -- what comes of a dispatch
-    pub began : (mid new : Store (Option Machine) Members) {o : Option (Given (Option Machine) Members)} {step : Step} → HandsNext mid new o step → k.abandoned ≡ false → is_over k.journal ≡ false → Dispatched k o (kept mid) → Advanced k ns room n (kept new) (noted ns n step new.journal) registry step
-    began mid new (nothing e) wanted going (over h same) = not_both (is_over k.journal) h going
-    began mid new (nothing e) wanted going (abandoned h same) = not_both k.abandoned h wanted
-    began mid new (nothing e) wanted going (nobody h same) =
-        subst (λ (x : Store (Option Machine) Members). Advanced k ns room n (kept x) (noted ns n Idle x.journal) registry Idle) (sym e) (subst (λ (x : Kept (Option Machine) Members). Advanced k ns room n x (noted ns n Idle x.journal) registry Idle) (same_kept k (kept mid) same) (still_by k.abandoned Idle (λ f. f) tt registry (λ f. refl)))
-    began mid new (nothing e) wanted going (limited h w s full same) =
-        subst (λ (x : Store (Option Machine) Members). Advanced k ns room n (kept x) (noted ns n Idle x.journal) registry Idle) (sym e) (subst (λ (x : Kept (Option Machine) Members). Advanced k ns room n x (noted ns n Idle x.journal) registry Idle) (same_kept (with_entry lone_limit k) (kept mid) same) (limited_on going s.processor s.task s.serves full Idle tt k.abandoned))
-    began mid new (passes y z (plain g no_object e)) wanted going gives' =
-        subst (λ (x : Store (Option Machine) Members). Advanced k ns room n (kept x) (noted ns n (Going (whole g)) x.journal) registry (Going (whole g))) (sym e) (subst (λ (x : Kept (Option Machine) Members). Advanced k ns room n x (noted ns n (Going (whole g)) x.journal) registry (Going (whole g))) (same_kept (handed gives'.task (with_entry (dispatch g.processor gives'.task) k)) (kept mid) gives'.rest) (given_on going g.processor gives'.task gives'.first.serves gives'.room wanted g refl gives'.hands no_object))
-    began mid new (passes y z (newly x m h is new_is e)) wanted going gives' = absurd (cc is)
-    began mid new (passes y z (numbered g is e)) wanted going gives' = absurd (cc is)
-    began mid new (passes y z (off x e)) wanted going gives' =
-        subst (λ (s : Store (Option Machine) Members). Advanced k ns room n (kept s) (noted ns n Over s.journal) registry Over) (sym e) (subst (λ (s : Kept (Option Machine) Members). Advanced k ns room n (record s { abandoned = true }) (noted ns n Over s.journal) registry Over) (same_kept (handed gives'.task (with_entry (dispatch x.processor gives'.task) k)) (kept mid) gives'.rest) (dropped going x.processor gives'.task gives'.first.serves gives'.room (handed gives'.task (with_entry (dispatch x.processor gives'.task) k)).values (handed gives'.task (with_entry (dispatch x.processor gives'.task) k)).members))
+    pub began : (new : Kept (Option Machine) Members) {o : Option (Given (Option Machine) Members)} {step : Step} → HandsNext o step → k.abandoned ≡ false → is_over k.journal ≡ false → Dispatched k o new → Advanced k ns room n new (noted ns n step new.journal) registry step
+    began new nothing wanted going (over h same) = not_both (is_over k.journal) h going
+    began new nothing wanted going (abandoned h same) = not_both k.abandoned h wanted
+    began new nothing wanted going (nobody h same) =
+        subst (λ (x : Kept (Option Machine) Members). Advanced k ns room n x (noted ns n Idle x.journal) registry Idle) (same_kept k new same) (still_by k.abandoned Idle (λ f. f) tt registry (λ f. refl))
+    began new nothing wanted going (limited h w s full same) =
+        subst (λ (x : Kept (Option Machine) Members). Advanced k ns room n x (noted ns n Idle x.journal) registry Idle) (same_kept (with_entry lone_limit k) new same) (limited_on going s.processor s.task s.serves full Idle tt k.abandoned)
+    began new (passes g) wanted going d =
+        subst (λ (x : Kept (Option Machine) Members). Advanced k ns room n x (noted ns n (Going g) x.journal) registry (Going g)) (same_kept (handed d.task (with_entry (dispatch g.processor d.task) k)) new d.rest) (given_on going g.processor d.task d.first.serves d.room wanted g refl d.hands)
 
     -- what comes of a call that hands out
     pub handed_on : (old new : Store (Option Machine) Members) → kept old ≡ k → {step : Step} → WasHandedOut old new step → Advanced k ns room n (kept new) (noted ns n step new.journal) registry step
-    handed_on old new same (none_left e) =
+    handed_on before new same (none_left e) =
         subst (λ (x : Store (Option Machine) Members). Advanced k ns room n (kept x) (noted ns n Over x.journal) registry Over) (sym e) (subst (λ (x : Kept (Option Machine) Members). Advanced k ns room n x (noted ns n Over x.journal) registry Over) (sym same) (still_by k.abandoned Over (λ f. f) tt registry (λ f. refl)))
-    handed_on old new same (gave step o mid wanted going d h) =
-        began mid new h (ap (λ (x : Kept (Option Machine) Members). x.abandoned) (sym same) ∙ wanted) (ap (λ (x : Kept (Option Machine) Members). is_over x.journal) (sym same) ∙ going) (subst (λ x. Dispatched x o (kept mid)) same d)
+    handed_on before new same (gave how o wanted going d h) =
+        began (kept new) h (ap (λ (x : Kept (Option Machine) Members). x.abandoned) (sym same) ∙ wanted) (ap (λ (x : Kept (Option Machine) Members). is_over x.journal) (sym same) ∙ going) (subst (λ x. Dispatched x o (kept new)) same d)
 
   -- told of the fields of the locked value
   module _ (k : Kept (Option Machine) Members) (ns : Notes) (room n : ℕ) (new : Kept (Option Machine) Members) (ns' ns'' : Notes) (room' : ℕ) (registry : Registry) (step : Step) (adv : Advanced k ns room n new ns' registry step) (same : ns'' ≡ ns') where

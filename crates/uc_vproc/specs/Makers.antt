@@ -6,7 +6,8 @@ use Rattle.uc_entry.specs.declared.entry.EntryKind.{EntryKind}
 use Rattle.uc_entry.specs.declared.entry.EntryKind.TheVariants as kind
 use Rattle.uc_acts.specs.Journal.{Journal}
 use Rattle.uc_acts.specs.Queues.{running}
-use Rattle.uc_vproc.specs.declared.step.Handed.{Handed}
+use Rattle.uc_frames.specs.Machine.{Machine, Members}
+use Rattle.uc_kernel.specs.declared.given.Given.{Given}
 use Rattle.uc_vproc.specs.declared.step.Step.{Step}
 use Rattle.uc_vproc.specs.declared.step.Step.TheVariants.{Going, Idle, Over}
 
@@ -50,6 +51,10 @@ server_from p m (x ∷ log) = server_from p (if gives p x.0.0.kind x.0.0 then So
 
 unfoldable pub server : ℕ → Log → Option ℕ
 server p log = server_from p None log
+
+-- a task that is handed out, with its hand
+abbrev pub Handed : Type 0
+Handed = Given Machine Members
 
 abbrev pub given_in : Step → Option Handed
 given_in (Going h) = Some h

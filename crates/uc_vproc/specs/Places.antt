@@ -1,7 +1,6 @@
 -- What a request is to fit.
 use Rattle.std.specs.Prelude.{◌≡◌, ℕ, ◌<◌, ◌≤◌, Bool, true, false, List, [], length, slice_index_or}
 use Rattle.uc_tree.specs.declared.limits.TheConstants.{MEMBERS, EVENTS}
-use Rattle.uc_entry.specs.declared.request.TheConstants.{PRINT_ITEMS}
 use Rattle.uc_entry.specs.declared.request.Request.{Request}
 use Rattle.uc_entry.specs.declared.request.Request.TheVariants as ask
 use Rattle.uc_acts.specs.Journal.{Journal}
@@ -18,8 +17,8 @@ place_of own ask.Fail = place.Anywhere
 place_of own (ask.Fault n) = place.Anywhere
 place_of own (ask.Make c) = place.Anywhere
 place_of own ask.Cluster = place.Anywhere
-place_of own (ask.Print n items) = place.Prints n (length items)
-place_of own (ask.Read form) = place.Reads form
+place_of own (ask.Print n items) = place.Anywhere
+place_of own (ask.Read form) = place.Anywhere
 place_of own (ask.Made o) = place.At o
 place_of own (ask.Leave o failed) = place.At o
 place_of own (ask.Wait o c n) = place.At o
@@ -37,12 +36,6 @@ place_of own (ask.ClusterEnd c) = place.Cluster c
 place_of own (ask.Processor c) = place.Cluster c
 place_of own (ask.Migrate c) = place.Cluster c
 place_of own (ask.ProcessorEnd q) = place.Processor q
-
--- a print of so many items, which has room for so many
-pub record IsPrint (n room : ℕ) : Type 0 where
-  pub some : 1 ≤ n
-  pub most : n ≤ PRINT_ITEMS
-  pub room_is : room ≡ PRINT_ITEMS
 
 -- an object in hand that is made and not gone, and no task's own
 pub record IsBare (hand : List ℕ) (o : ℕ) (j : Journal) : Type 0 where

@@ -42,12 +42,6 @@ sort_of ask.Cluster = sort.Clusters
 sort_of (ask.Processor c) = sort.Processors
 sort_of r = sort.Stays
 
--- whether an act makes a cluster or a processor
-abbrev pub is_counting : Sort → Bool
-is_counting sort.Clusters = true
-is_counting sort.Processors = true
-is_counting s = false
-
 -- how many of each an act makes
 abbrev pub new_clusters : Sort → ℕ
 new_clusters sort.Clusters = 1

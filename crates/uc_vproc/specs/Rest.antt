@@ -1,13 +1,12 @@
 -- What stands between acts: what is at rest stands for the world, and so does what each running task was handed.
-use Rattle.std.specs.Prelude.{◌≡◌, ℕ, ◌==◌, ◌⊎◌, Bool, true, false, List, [], ◌∷◌, ◌++◌, Option, Some, None}
+use Rattle.std.specs.Prelude.{◌≡◌, ℕ, ◌==◌, ◌⊎◌, Bool, true, false, List, [], ◌∷◌, Option, Some, None}
 use Rattle.uc_tree.specs.Source.{Source, Routine}
 use Rattle.std.specs.Prelude.{slice_get}
-use Rattle.std.specs.Option.{option_to_list}
 use Rattle.uc_entry.specs.declared.request.Request.{Request}
 use Rattle.uc_entry.specs.declared.request.Request.TheVariants as ask
 use Rattle.uc_acts.specs.Journal.{Journal, held}
 use Rattle.uc_acts.specs.Queues.{running}
-use Rattle.uc_acts.specs.Known.{has}
+use Rattle.uc_acts.specs.Known.{has, has_ended}
 use Rattle.uc_acts.specs.Answers.{answer_to}
 use Rattle.uc_acts.specs.Serves.{left}
 use Rattle.uc_machine.specs.Quiet.{State, Members as Home}
@@ -20,10 +19,9 @@ use Rattle.uc_frames.specs.Stands.{Rests, RunStands, CallerStands}
 use Rattle.uc_frames.specs.StandsByParts.{Alike, MembersStand}
 use Rattle.uc_step.specs.WeightFalls.{Keeps}
 use Rattle.uc_meaning.specs.Runs.{World, Runs, bare, drawn}
-use Rattle.uc_kernel.specs.Numbered.{keys}
+use Rattle.uc_program_laws.specs.Fitting.{RunFits}
 use Rattle.uc_kernel.specs.KernelState.{Kept}
-use Rattle.uc_vproc.specs.declared.step.Handed.{Handed}
-use Rattle.uc_vproc.specs.Makers.{Log, handed_out}
+use Rattle.uc_vproc.specs.Makers.{Log, Handed, handed_out}
 
 -- this code is that of this source, whose main is the routine of this number
 pub record IsSource (code : Code) (main : ℕ) (source : Source) : Type 0 where
@@ -31,6 +29,11 @@ pub record IsSource (code : Code) (main : ℕ) (source : Source) : Type 0 where
   pub main_is : source.main ≡ main
   pub routine : Routine
   pub there : slice_get source.routines source.main ≡ Some routine
+
+-- there is such a source
+pub record HasSource (code : Code) (main : ℕ) : Type 0 where
+  pub source : Source
+  pub is : IsSource code main source
 
 -- whether the task does not go on behind a request: its value is given up
 abbrev pub stops : Request → Bool
@@ -41,6 +44,10 @@ stops r = false
 abbrev pub faults : Request → Bool
 faults (ask.Fault n) = true
 faults r = false
+
+-- a task that is at rest without a value has ended
+abbrev pub AreEnded : Kept (Option Machine) Members → Type 0
+AreEnded k = (u : ℕ) → k.values u ≡ Some None → has_ended u k.journal ≡ true
 
 -- object o is in the hand of a task that runs
 pub record Out (j : Journal) (o : ℕ) : Type 0 where
@@ -58,10 +65,8 @@ pub record OutElse (p : ℕ) (j : Journal) (o : ℕ) : Type 0 where
 pub record WasHanded (k : Kept (Option Machine) Members) (log : Log) (p t : ℕ) : Type 0 where
   pub handed : Handed
   pub is : handed_out p log ≡ Some handed
-  -- an object that the task has just made is missing in its hand, until the task is told of it
-  pub keys_are : keys handed.given.members.items ++ option_to_list handed.made ≡ held t k.journal
-  pub answer : answer_to k.sites t k.journal ≡ Some handed.given.answer
-  pub left_is : handed.given.left ≡ left k.opts k.journal t
+  pub answer : answer_to k.sites t k.journal ≡ Some handed.answer
+  pub left_is : handed.left ≡ left k.opts k.journal t
 
 module _ (code : Code) where
   -- the members of an object stand for those at home in it
@@ -87,12 +92,13 @@ module _ (code : Code) where
   -- what each running task was handed, stands for its part of the world
   abbrev pub HandsStand : Journal → Log → World → Type 0
   HandsStand j log w =
-      (p t : ℕ) (h : Handed) → running p j ≡ t ∷ [] → handed_out p log ≡ Some h → IsWork h.given.task h.given.members.items (drawn j w t)
+      (p t : ℕ) (h : Handed) → running p j ≡ t ∷ [] → handed_out p log ≡ Some h → IsWork h.task h.members.items (drawn j w t)
 
-  -- the kernel between acts, for one source
+  -- the kernel between acts, for one source: all that was asked so far fits
   pub record AtRest (source : Source) (k : Kept (Option Machine) Members) (log : Log) : Type 0 where
     pub world : World
     pub runs : Runs source k.input k.opts k.journal world
+    pub fitting : RunFits source k.input k.opts k.journal world runs
     pub values : TasksStand k.values world
     pub members : HomesStand (Out k.journal) k.members world
     pub hands : HandsStand k.journal log world
@@ -105,5 +111,6 @@ module _ (code : Code) where
   -- while the run goes on, and was not abandoned
   pub record Steady (main : ℕ) (k : Kept (Option Machine) Members) (log : Log) : Type 0 where
     pub kept : RestKept k
+    pub ended : AreEnded k
     pub out : (p t : ℕ) → running p k.journal ≡ t ∷ [] → WasHanded k log p t
     pub stands : (source : Source) → IsSource code main source → AtRest source k log

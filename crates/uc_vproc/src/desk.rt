@@ -6,10 +6,11 @@ ghost use Rattle.uc_acts.specs.KernelRuns.{InRange};
 ghost use Rattle.uc_frames.specs.Machine.{with_hand};
 ghost use Rattle.uc_step.specs.WeightFalls.{Keeps};
 ghost use Rattle.uc_meaning.specs.Runs.{first_world};
+ghost use Rattle.uc_kernel.specs.KernelState.{with_asked};
 ghost use Rattle.uc_kernel_core.specs.Mirrors.{AreKnownSites};
 ghost use Rattle.uc_lock.specs.Journals.{Extends};
 ghost use Rattle.uc_vproc.specs.Makers.{Log};
-ghost use Rattle.uc_vproc.specs.Rest.{IsSource, IsTask};
+ghost use Rattle.uc_vproc.specs.Rest.{HasSource, IsSource, IsTask};
 ghost use Rattle.uc_vproc.specs.Desks.{key_from, no_fields, IsOpened, Came, Saw, Brings, EndsAs};
 
 use crate::put::{hand_out, put};
@@ -21,6 +22,7 @@ use std::marker::Model;
 use std::snapshot::Snapshot;
 use uc_code::code::Code;
 use uc_entry::entry::{Entry, Options};
+use uc_entry::request::Asked;
 use uc_frames::members::Members;
 use uc_frames::task::Task;
 use uc_kernel::given::{Back, Shape};
@@ -65,10 +67,11 @@ impl Note {
     }
 }
 
-/// A kernel with the maker of each entry.
+/// A kernel with the maker of each entry. The kernel lies in a place of its own, since the value under a lock is moved out and in
+/// again each time that it is taken.
 #[derive(Drop)]
 pub struct Desk {
-    kernel: Kernel<Option<Task>, Members>,
+    kernel: Box<Kernel<Option<Task>, Members>>,
     notes: Vec<Note>,
     registry: Registry,
     code: Snapshot<Code>,
@@ -83,9 +86,9 @@ impl Model for Desk {
 
     ghost Value = { Table };
 
-    ghost view = { λ d. record { code = d.code.value; main = d.main; store = d.kernel; log = paired d.kernel.journal d.notes.items } };
+    ghost view = { λ d. record { code = d.code.value; main = d.main; store = d.kernel.value; log = paired d.kernel.value.journal d.notes.items } };
 
-    ghost invariant = { λ d. Keeping d.code.value d.main (kept d.kernel) d.notes.items (vec_capacity d.notes) d.registry };
+    ghost invariant = { λ d. Keeping d.code.value d.main (kept d.kernel.value) d.notes.items (vec_capacity d.notes) d.registry };
 }
 
 impl Journaled for Desk {
@@ -110,6 +113,7 @@ impl Desk {
         first: Task,
         own: Members,
     ) -> Result<Desk, AllocError>
+        requires source { HasSource code.now main }
         requires options { InRange opts }
         requires known { AreKnownSites shape.sites.items }
         requires sites { shape.sites.items ≡ code.now.sites }
@@ -121,7 +125,8 @@ impl Desk {
     {
         let mut notes = Vec::with_capacity(alloc, opts.entries as usize)?;
         let registry = opening(alloc, &shape.sites, opts.processors)?;
-        let kernel = Kernel::open(alloc, shape, opts, input, Some(first), own)?;
+        let opened = Kernel::open(alloc, shape, opts, input, Some(first), own)?;
+        let kernel = Box::new(alloc, opened)?;
         make_notes(&mut notes, 1, NOBODY, &Step::Idle);
         Ok(Desk {
             kernel,
@@ -138,20 +143,20 @@ impl Desk {
         ensures log { Extends maker self.old.log self.new.log }
         ensures came { Came self.old.code maker self.new.log result }
     {
-        let step = hand_out(&mut self.kernel);
+        let step = hand_out(&mut *self.kernel);
         let count = self.kernel.journal().len();
         make_notes(&mut self.notes, count, maker, &step);
         step
     }
 
-    /// The act of what a worker brings from a ride. Where it may not be taken, or memory is wanting, the run is abandoned.
-    pub fn act(&mut self, maker: u32, back: Back<Option<Task>, Members>) -> Step
-        requires brings { (seen : Log) × Saw maker seen self.old.log × Brings self.old.code maker seen back }
+    /// The act of what a worker brings from a ride. Where what is asked does not fit, or memory is wanting, the run is abandoned.
+    pub fn act(&mut self, maker: u32, back: Back<Option<Task>, Members>, asked: &Asked) -> Step
+        requires brings { (seen : Log) × Saw maker seen self.old.log × Brings self.old.code maker seen (with_asked back asked.now) }
         ensures key { key_from self.new ≡ key_from self.old }
         ensures log { Extends maker self.old.log self.new.log }
         ensures came { Came self.old.code maker self.new.log result }
     {
-        let step = put(&mut self.kernel, &mut self.registry, back);
+        let step = put(&mut *self.kernel, &mut self.registry, back, asked);
         let count = self.kernel.journal().len();
         make_notes(&mut self.notes, count, maker, &step);
         step
@@ -180,6 +185,7 @@ impl Desk {
             return Err(AllocError);
         }
         if kernel.ending().is_some() {
+            let kernel = Box::into_inner(kernel);
             Ok(kernel.into_journal())
         } else {
             Err(AllocError)

@@ -4,21 +4,21 @@ ghost use Rattle.uc_tree.specs.declared.limits.TheConstants.{TASKS, MEMBERS, EVE
 ghost use Rattle.uc_acts.specs.Journal.{held, is_over};
 ghost use Rattle.uc_acts.specs.Known.{has, object_count, owner};
 ghost use Rattle.uc_acts.specs.KernelRuns.{KernelRuns, Fits, IsMade};
+ghost use Rattle.uc_step_laws.specs.Hands.{HasForm};
 ghost use Rattle.uc_kernel.specs.Numbered.{keys};
 ghost use Rattle.uc_vproc.specs.Registries.{AreThere, Tells};
-ghost use Rattle.uc_vproc.specs.Places.{place_of, IsPrint, IsBare, IsOwned, IsApart, IsAccepting};
+ghost use Rattle.uc_vproc.specs.Places.{place_of, IsBare, IsOwned, IsApart, IsAccepting};
 
 use crate::registry::Registry;
 use uc_entry::list::List;
-use uc_entry::request::{PRINT_ITEMS, Piece, Request};
+use uc_entry::request::Request;
 use uc_frames::members::Members;
 use uc_frames::task::Task;
 use uc_kernel::kernel::Kernel;
 use uc_tree::limits::{EVENTS, MEMBERS};
 
 /// What a request is to fit: nothing, an object in hand, one in hand that is no task's own, a member of one that is there and not in
-/// hand, an accept statement in one in hand with a mask of its clauses, an event of one that is a task's own, a number of items and their
-/// room, a form, a cluster, or a processor.
+/// hand, an accept statement in one in hand with a mask of its clauses, an event of one that is a task's own, a cluster, or a processor.
 #[derive(Drop)]
 pub enum Place {
     Anywhere,
@@ -27,13 +27,11 @@ pub enum Place {
     Outside(u32, u8),
     Accepting(u32, u32, u32),
     Owned(u32, u8),
-    Prints(u8, usize),
-    Reads(u8),
     Cluster(u32),
     Processor(u32),
 }
 
-/// Whether what a task with this hand asks fits, by what may be asked for.
+/// Whether what a task with this hand asks fits, by what may be asked for. What it prints and reads is in a form that fits.
 pub fn fits(
     kernel: &Kernel<Option<Task>, Members>,
     registry: &Registry,
@@ -45,6 +43,7 @@ pub fn fits(
     requires going { is_over kernel.now.journal ≡ false }
     requires known { task < TASKS }
     requires hand { keys hand.now.items ≡ held task kernel.now.journal }
+    requires form { HasForm request.now }
     requires told { Tells kernel.now.opts kernel.now.sites kernel.now.journal registry.now }
     ensures { result ≡ true → Fits kernel.now.opts kernel.now.sites kernel.now.journal task request.now }
 {
@@ -58,8 +57,6 @@ pub fn fits(
             is_accepting(&registry.masks, hand, object, site, mask)
         }
         Place::Owned(object, event) => is_sought(kernel, &registry.there, object, event),
-        Place::Prints(n, room) => is_print(n, room),
-        Place::Reads(form) => form <= 1,
         Place::Cluster(cluster) => cluster < registry.clusters,
         Place::Processor(processor) => processor < registry.processors,
     }
@@ -77,8 +74,8 @@ fn place_for(own: u32, request: &Request) -> Place
         Request::Fault { .. } => Place::Anywhere,
         Request::Make { .. } => Place::Anywhere,
         Request::Cluster => Place::Anywhere,
-        Request::Print { n, ref items } => Place::Prints(n, room_of(items)),
-        Request::Read { form } => Place::Reads(form),
+        Request::Print { .. } => Place::Anywhere,
+        Request::Read { .. } => Place::Anywhere,
         Request::Made { object } => Place::At(object),
         Request::Leave { object, .. } => Place::At(object),
         Request::Wait { object, .. } => Place::At(object),
@@ -97,26 +94,6 @@ fn place_for(own: u32, request: &Request) -> Place
         Request::Migrate { cluster } => Place::Cluster(cluster),
         Request::ProcessorEnd { processor } => Place::Processor(processor),
     }
-}
-
-// How many items there is room for.
-fn room_of(items: &[Piece; 32]) -> usize
-    ensures { result ≡ length items.now }
-{
-    items.len()
-}
-
-// Whether so many items are a print.
-fn is_print(n: u8, room: usize) -> bool
-    ensures { result ≡ true → IsPrint n room }
-{
-    if n < 1 {
-        return false;
-    }
-    if n > PRINT_ITEMS {
-        return false;
-    }
-    room == PRINT_ITEMS as usize
 }
 
 // Whether the members of an object are in a hand.

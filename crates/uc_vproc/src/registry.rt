@@ -1,10 +1,14 @@
 // What may be asked for: objects, clusters, processors and accept statements.
-ghost use Rattle.std.specs.Prelude.{◌≡◌, ◌≤◌, ◌+◌, ◌^◌, ℕ, true, false, IfOk, length, slice_index_or};
+ghost use Rattle.std.specs.Prelude.{◌≡◌, ◌≤◌, ◌+◌, ◌^◌, ◌<◌, ℕ, true, false, IfOk, IfSome, length, slice_index_or, vec_len, vec_capacity};
+ghost use Rattle.uc_entry.specs.declared.request.Answer.TheVariants as answers;
 ghost use Rattle.uc_mutex.specs.Offers.{IsKnownSite};
 ghost use Rattle.uc_vproc.specs.Registries.{IsOpening, mask_counts};
+ghost use Rattle.uc_vproc.specs.Desks.{IsTold, ThereWith};
 ghost use Rattle.uc_kernel_core.specs.Mirrors.{AreKnownSites};
 
+use crate::step::Step;
 use std::alloc::{AllocError, Global};
+use uc_entry::request::Answer;
 use uc_tree::site::Site;
 
 /// What may be asked for: the objects that are there, so many clusters and processors as were made, and of each accept statement so
@@ -53,6 +57,41 @@ fn mask_count(site: &Site) -> u64
     ensures { result ≡ 2 ^ length site.now.clauses }
 {
     1 << site.clauses.len()
+}
+
+/// An object of which a task is told is there, where it has the next number.
+pub fn put_in(there: &mut Vec<bool>, step: &Step)
+    requires reserved { vec_len there.old < vec_capacity there.old }
+    ensures { ThereWith there.old.items there.new.items step.now }
+{
+    match told(step) {
+        None => {}
+        Some(object) => {
+            if object as usize == there.len() {
+                there.push_reserved(true);
+            }
+        }
+    }
+}
+
+// The object of which a task is told.
+fn told(step: &Step) -> Option<u32>
+    ensures { IfSome result (λ o. IsTold o step.now) }
+{
+    match step {
+        Step::Going(given) => object_of(&given.answer),
+        Step::Idle => None,
+        Step::Over => None,
+    }
+}
+
+fn object_of(answer: &Answer) -> Option<u32>
+    ensures { IfSome result (λ o. answer.now ≡ answers.Object o) }
+{
+    match *answer {
+        Answer::Object(object) => Some(object),
+        _ => None,
+    }
 }
 
 /// One more of what was counted.

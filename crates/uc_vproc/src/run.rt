@@ -6,7 +6,7 @@ ghost use Rattle.uc_acts.specs.KernelRuns.{InRange};
 ghost use Rattle.uc_code.specs.Layout.{laid_of};
 ghost use Rattle.uc_code.specs.Pace.{IsPaced};
 ghost use Rattle.uc_kernel_core.specs.Mirrors.{AreKnownSites};
-ghost use Rattle.uc_vproc.specs.Rest.{IsSource};
+ghost use Rattle.uc_vproc.specs.Rest.{HasSource, IsSource};
 ghost use Rattle.uc_vproc.specs.Runs.{IsRunOf};
 ghost use Rattle.uc_vproc.specs.Desks.{EndsAs, IsOpened};
 
@@ -25,9 +25,9 @@ use uc_outside::Gate;
 use uc_step::begin::begin;
 
 /// Runs a program, whose main is the routine of this number, on this input under these options, with a worker for each processor:
-/// one alone on this thread, several on threads of their own where threads can be made. Of code that was lowered from a source with
-/// this main, the journal is a complete run of it. The gate is told of the first ride behind each dispatch. Without memory, or where a
-/// test of what the program asks says no, there is none.
+/// one alone on this thread, several on threads of their own where threads can be made. Of each source with this main from which the
+/// code was lowered, the journal is a complete run. The gate is told of the first ride behind each dispatch. Without memory, or where
+/// a test of what the program asks says no, there is none.
 pub fn run_processors<R: Threads + Wait + Sync, G: Gate + Sync>(
     rt: &R,
     alloc: Global,
@@ -37,6 +37,7 @@ pub fn run_processors<R: Threads + Wait + Sync, G: Gate + Sync>(
     opts: Options,
     gate: &G,
 ) -> Result<Vec<Entry>, AllocError>
+    requires source { HasSource code.now main }
     requires range { InRange opts }
     requires small { length input.items ≤ INPUT_BYTES }
     requires paced { IsPaced (laid_of code.now) code.now.routines }
@@ -55,6 +56,7 @@ fn open(
     input: Vec<u8>,
     opts: Options,
 ) -> Result<Desk, AllocError>
+    requires source { HasSource code.now main }
     requires range { InRange opts }
     requires small { length input.items ≤ INPUT_BYTES }
     ensures { IfOk result (λ d. IsOpened code.now main input.items opts d) }

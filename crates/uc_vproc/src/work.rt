@@ -1,12 +1,12 @@
 // A worker.
-ghost use Rattle.std.specs.Prelude.{◌≡◌, ◌≤◌, ◌++◌, true, false, Some, IfOk, All, length};
+ghost use Rattle.std.specs.Prelude.{◌≡◌, ◌≤◌, Some, IfOk, All, length};
 ghost use Rattle.uc_code.specs.Layout.{laid_of};
 ghost use Rattle.uc_code.specs.Pace.{IsPaced};
 ghost use Rattle.uc_frames.specs.Machine.{with_hand};
 ghost use Rattle.uc_step.specs.WeightFalls.{Keeps};
-ghost use Rattle.uc_kernel.specs.Numbered.{keys};
+ghost use Rattle.uc_kernel.specs.KernelState.{with_asked};
 ghost use Rattle.uc_lock.specs.Journals.{made_by};
-ghost use Rattle.std.specs.Option.{is_some, option_map, option_to_list};
+ghost use Rattle.std.specs.Option.{is_some, option_map};
 ghost use Rattle.uc_vproc.specs.Makers.{given_in};
 ghost use Rattle.uc_vproc.specs.declared.step.Step.TheVariants.{Going};
 ghost use Rattle.uc_vproc.specs.Desks.{Brings, IsRide, value_after};
@@ -14,14 +14,13 @@ ghost use Rattle.uc_vproc.specs.Rest as rest;
 ghost use Rattle.uc_vproc.specs.Workers.{IsReady, IsSame, HasCome};
 
 use crate::desk::Desk;
-use crate::step::{Handed, Step};
+use crate::step::Step;
 use std::alloc::{AllocError, Global};
 use std::sync::Wait;
 use std::thread;
 use std::thread::{Threads, yield_now};
 use uc_code::code::Code;
-use uc_entry::list::List;
-use uc_entry::request::Request;
+use uc_entry::request::{Asked, Request};
 use uc_frames::members::Members;
 use uc_frames::task::Task;
 use uc_frames::work::Work;
@@ -55,16 +54,17 @@ fn bring<R: Wait>(
     lock: &Shared<Desk>,
     seat: &mut Seat<Desk>,
     back: Back<Option<Task>, Members>,
+    asked: &Asked,
 ) -> Step
     requires ready { IsReady lock.now seat.old }
     requires own { seat.old.own ≡ made_by seat.old.number seat.old.seen }
-    requires brings { Brings lock.now.terms.key.code seat.old.number seat.old.seen back }
+    requires brings { Brings lock.now.terms.key.code seat.old.number seat.old.seen (with_asked back asked.now) }
     ensures same { IsReady lock.now seat.new × IsSame seat.old seat.new }
     ensures came { HasCome lock.now seat.new result }
 {
     let number = seat.number();
     let mut held = lock.take(rt, seat);
-    let step = held.value().act(number, back);
+    let step = held.value().act(number, back, asked);
     lock.give(rt, seat, held);
     step
 }
@@ -80,20 +80,21 @@ fn give_up<R: Wait>(rt: &R, lock: &Shared<Desk>, seat: &mut Seat<Desk>)
     lock.give(rt, seat, held);
 }
 
-// A ride of what was given, outside the lock. A task that does not go on behind its request is given up.
+// A ride of what was given, outside the lock, up to a request, which is written where it is lent. A task that does not go on behind it
+// is given up.
 fn go<G: Gate>(
     alloc: Global,
     code: &Code,
     gate: &G,
     dispatches: u64,
-    handed: Handed,
+    given: Given<Task, Members>,
+    asked: &mut Asked,
 ) -> Result<Back<Option<Task>, Members>, AllocError>
     requires paced { IsPaced (laid_of code.now) code.now.routines }
-    requires some { 1 ≤ handed.given.left }
-    requires kept { Keeps code.now (with_hand handed.given.members.items handed.given.task) }
-    ensures { IfOk result (λ b. IsRide code.now handed b) }
+    requires some { 1 ≤ given.left }
+    requires kept { Keeps code.now (with_hand given.members.items given.task) }
+    ensures { IfOk result (λ b. IsRide code.now given (with_asked b asked.new)) }
 {
-    let Handed { given, made } = handed;
     let Given {
         processor,
         task,
@@ -101,20 +102,11 @@ fn go<G: Gate>(
         answer,
         left,
     } = given;
-    let numbers = numbers_of(alloc, &members, made)?;
     let work = Work::new(task, members);
-    let ridden = ride(code, work, answer, left, gate, processor, dispatches)?;
-    let Ridden {
-        work,
-        child,
-        ticks,
-        asked,
-    } = ridden;
+    let ridden = ride(code, work, answer, left, asked, gate, processor, dispatches)?;
+    let Ridden { work, child, ticks } = ridden;
     let (task, mut members) = work.into_parts();
     members.room()?;
-    if !is_numbered(&members, &numbers) {
-        return Err(AllocError);
-    }
     let task = going_on(&asked.request, task);
     let child = boxed(child);
     Ok(Back {
@@ -123,7 +115,6 @@ fn go<G: Gate>(
         members,
         child,
         ticks,
-        asked,
     })
 }
 
@@ -158,40 +149,6 @@ fn stops(request: &Request) -> bool
     }
 }
 
-// The numbers of the objects in a hand, and of the one that it lacks.
-fn numbers_of(
-    alloc: Global,
-    hand: &List<(u64, Members)>,
-    made: Option<u32>,
-) -> Result<Vec<u64>, AllocError>
-    ensures { IfOk result (λ ns. ns.items ≡ keys hand.now.items ++ option_to_list made) }
-{
-    let mut numbers = Vec::new(alloc);
-    for at in 0..hand.len() {
-        numbers.push(hand.get(at).0)?;
-    }
-    match made {
-        Some(object) => numbers.push(object as u64)?,
-        None => {}
-    }
-    Ok(numbers)
-}
-
-// Whether the objects in a hand have these numbers.
-fn is_numbered(hand: &List<(u64, Members)>, numbers: &[u64]) -> bool
-    ensures { result ≡ true → keys hand.now.items ≡ numbers.now }
-{
-    if hand.len() as usize != numbers.len() {
-        return false;
-    }
-    for at in 0..hand.len() {
-        if hand.get(at).0 != numbers[at as usize] {
-            return false;
-        }
-    }
-    true
-}
-
 // A ride and its act.
 fn turn<R: Wait, G: Gate>(
     rt: &R,
@@ -201,21 +158,21 @@ fn turn<R: Wait, G: Gate>(
     gate: &G,
     dispatches: u64,
     seat: &mut Seat<Desk>,
-    handed: Handed,
+    given: Given<Task, Members>,
 ) -> Step
     requires ready { IsReady lock.now seat.old }
     requires code { lock.now.terms.key.code ≡ code.now }
     requires paced { IsPaced (laid_of code.now) code.now.routines }
-    requires came { HasCome lock.now seat.old (Going handed) }
+    requires came { HasCome lock.now seat.old (Going given) }
     ensures same { IsReady lock.now seat.new × IsSame seat.old seat.new }
     ensures came { HasCome lock.now seat.new result }
 {
-    if handed.given.left == 0 {
-        give_up(rt, lock, seat);
-        return Step::Over;
-    }
-    match go(alloc, code, gate, dispatches, handed) {
-        Ok(back) => bring(rt, lock, seat, back),
+    let mut asked = Asked {
+        request: Request::Slice,
+        line: 0,
+    };
+    match go(alloc, code, gate, dispatches, given, &mut asked) {
+        Ok(back) => bring(rt, lock, seat, back, &asked),
         Err(_) => {
             give_up(rt, lock, seat);
             Step::Over
@@ -259,10 +216,10 @@ pub fn work<R: Wait, G: Gate>(
     let mut yields = IDLE_YIELDS;
     for _ in rt.forever() {
         step = match step {
-            Step::Going(handed) => {
+            Step::Going(given) => {
                 let first = told;
                 told = 0;
-                turn(rt, alloc, lock, code, gate, first, &mut seat, handed)
+                turn(rt, alloc, lock, code, gate, first, &mut seat, given)
             }
             Step::Idle => {
                 let next = begin(rt, lock, &mut seat);

@@ -467,7 +467,7 @@ guard::lower_try-lower_handlers-requires t c =
     let p = c.args.names.now in
     let f = try_fits p c.args.line (length c.args.handlers.now) (stmts_of c.args.body.now) (handlers_of c.args.handlers.now) _ _ c.args.out.now c.put.new.out c.put-2.new.out c.open_guards.new.out c.open_scope-outside.new.self c.requires.inside c.requires.room c.requires.cells c.requires.scopes c.requires.texts c.in_ok-put.ensures c.in_ok-put-2.ensures c.in_ok-open_guards.ensures c.open_scope-outside.ensures.opened in
     let g = handlers_fit p c.args.line c.args.brace (length c.args.handlers.now) (stmts_of c.args.body.now) (handlers_of c.args.handlers.now) c.open_scope-outside.result _ c.put-2.new.out c.open_guards.new.out c.open_scope-outside.new.self c.lower_stmts.new.out c.leave_scope.new.self c.close_guards.new.out c.put-3.new.out f c.in_ok-open_guards.ensures c.open_scope-outside.ensures.opened c.in_ok-lower_stmts.ensures c.leave_scope.ensures c.close_guards.ensures c.in_ok-put-3.ensures in
-    let more = c.in_ok-open_guards.ensures.more in
+    let more = c.in_ok-open_guards.ensures.rows.more in
     let is : c.in-Ok.rows ≡ c.row_count.result = search rules in
     let all : c.in-Ok.rows ≡ length c.open_guards.new.out.rows = omega (arith, is) in
     let first : c.in-Ok.rows - length c.args.handlers.now ≡ length c.put-2.new.out.rows = omega (arith, more, all) in
@@ -476,7 +476,7 @@ guard::lower_try-lower_handlers-requires t c =
 
 pub guard::lower_try-returns : goal.guard::lower_try-returns
 guard::lower_try-returns t c =
-    let more = c.in_ok-open_guards.ensures.more in
+    let more = c.in_ok-open_guards.ensures.rows.more in
     let is : c.in-Ok.rows ≡ c.row_count.result = search rules in
     let all : c.in-Ok.rows ≡ length c.open_guards.new.out.rows = omega (arith, is) in
     let first : c.in-Ok.rows - length c.args.handlers.now ≡ length c.put-2.new.out.rows = omega (arith, more, all) in

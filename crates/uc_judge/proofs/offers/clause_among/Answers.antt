@@ -1,4 +1,4 @@
-use Rattle.std.proofs.Common.{sym, ◌∙◌, arith}
+use Rattle.std.proofs.Common.{sym, ◌∙◌}
 use Rattle.uc_judge.proofs.Offering.{clause_here, clause_unlisted, clause_masked}
 use Rattle.uc_judge.proofs.offers.clause_among.Goals.{else-has_bit-via-then-has_bit+else-lists, else-has_bit-via-else-has_bit}
 use Rattle.uc_judge.proofs.offers.clause_among.Goals as goal

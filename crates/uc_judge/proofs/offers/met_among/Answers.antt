@@ -1,5 +1,5 @@
-use Rattle.std.proofs.Common.{sym, ap, ◌∙◌, arith}
-use Rattle.std.specs.Prelude.{option_map, is_some}
+use Rattle.std.proofs.Common.{sym, ◌∙◌}
+use Rattle.std.specs.Prelude.{option_map}
 use Rattle.uc_judge.specs.Offers.{as_met}
 use Rattle.uc_judge.proofs.Offering.{met_here, met_unlisted, met_masked, mapped_some}
 use Rattle.uc_judge.proofs.offers.met_among.Goals.{then-has_bit+else-is_some, else-has_bit}

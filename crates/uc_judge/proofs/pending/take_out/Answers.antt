@@ -1,4 +1,4 @@
-use Rattle.std.proofs.Common.{◌≡◌, ◌+◌, ◌++◌, ◌+ℤ◌, pos, take, drop, arith, rules, ap, sym, ◌∙◌, to_z, of_z, w64}
+use Rattle.std.proofs.Common.{◌≡◌, ◌++◌, ◌+ℤ◌, pos, take, drop, arith, rules, ap, sym, ◌∙◌, to_z, of_z, w64}
 use Rattle.std.proofs.lemmas.Int.{ints}
 use Rattle.uc_acts.specs.Pending.{drop_first}
 use Rattle.uc_judge.proofs.Events.{is_of, taken_here}

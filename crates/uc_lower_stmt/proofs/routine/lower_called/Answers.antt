@@ -8,7 +8,7 @@ use Rattle.uc_code.specs.Drafts.{Draft}
 use Rattle.uc_code.specs.Layout.{routine_in}
 use Rattle.uc_lower_stmt.specs.Marked.{closing, objects_in}
 use Rattle.uc_lower_stmt.specs.LowersStatement.{sizes_at}
-use Rattle.uc_lower_stmt.proofs.RoutinesLemmas.{called_lowered}
+use Rattle.uc_lower_stmt.proofs.RoutinesLemmas.{called_lowered, called_rows}
 use Rattle.uc_lower_stmt.proofs.routine.lower_called.Goals as goal
 
 pub lower_stmts-requires-clause-cells : goal.lower_stmts-requires-clause-cells
@@ -55,7 +55,12 @@ put_end-requires c =
     let same = ap (λ (d : Draft). length d.ops) c.leave.ensures in
     omega (arith, size, body, ops, same, c.in_ok-lower_stmts.ensures.room, c.requires.room)
 
-pub returns : goal.returns
-returns c =
+pub returns-clause-code : goal.returns-clause-code
+returns-clause-code c =
     called_lowered c.args.names.now c.args.routine.now c.result_of.result.now c.args.last c.line_of-line.result (stmts_of c.body_of.result.now) c.args.out.now c.enter_body.new.self c.lower_stmts.new.out c.leave.new.self c.put_end.new.out
     c.requires.outside c.line_of-line.ensures c.body_of.ensures (c.result_of.ensures ∙ ap (λ (s : Sig). s.ret) c.sig_of.ensures) c.in_ok-enter_body.ensures.ok c.in_ok-lower_stmts.ensures c.leave.ensures c.in_ok-put_end.ensures
+
+pub returns-clause-rows : goal.returns-clause-rows
+returns-clause-rows c =
+    called_rows c.args.names.now c.result_of.result.now c.args.last c.line_of-line.result (stmts_of c.body_of.result.now) c.args.out.now c.enter_body.new.self c.lower_stmts.new.out c.leave.new.self c.put_end.new.out
+    c.in_ok-enter_body.ensures.ok c.in_ok-lower_stmts.ensures c.leave.ensures c.in_ok-put_end.ensures

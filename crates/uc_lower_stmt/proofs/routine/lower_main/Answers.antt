@@ -10,7 +10,7 @@ use Rattle.uc_code.proofs.Sweeping.{closed_ops}
 use Rattle.uc_lower_expr.specs.DraftGrowth.{Adds, OpCode}
 use Rattle.uc_lower_stmt.specs.Marked.{closing, objects_in}
 use Rattle.uc_lower_stmt.specs.LowersStatement.{sizes_at}
-use Rattle.uc_lower_stmt.proofs.RoutinesLemmas.{main_lowered}
+use Rattle.uc_lower_stmt.proofs.RoutinesLemmas.{main_lowered, main_rows}
 use Rattle.uc_lower_stmt.proofs.routine.lower_main.Goals as goal
 
 pub lower_stmts-requires-clause-cells : goal.lower_stmts-requires-clause-cells
@@ -67,8 +67,14 @@ put-requires-2 c =
     let same = ap length (closed_ops 1 c.lower_stmts.new.out c.close.new.self c.close.ensures.closed) in
     omega (arith, size, body, ops, same, c.in_ok-lower_stmts.ensures.room, c.in_ok-put.ensures.room, c.requires.room)
 
-pub returns : goal.returns
-returns c =
+pub returns-clause-code : goal.returns-clause-code
+returns-clause-code c =
     main_lowered c.args.names.now c.args.routine.now c.args.main c.args.last c.line_of-line.result (stmts_of c.body_of.result.now) c.args.out.now c.open.new.self c.lower_stmts.new.out c.close.new.self c.put.new.out c.put-2.new.out
+    c.requires.outside c.line_of-line.ensures c.body_of.ensures c.in_ok-_row.ensures.ok c.in_ok-_row.ensures.kept c.in_ok-lower_stmts.ensures c.close.ensures.closed c.close.ensures.kept c.close.ensures.handler
+    (subst (λ (o : Op). Adds 1 (OpCode c.line_of-line.result o) c.close.new.self c.put.new.out) c.end.ensures c.in_ok-put.ensures) (subst (λ (o : Op). Adds 1 (OpCode c.line_of-line.result o) c.put.new.out c.put-2.new.out) c.left.ensures c.in_ok-put-2.ensures)
+
+pub returns-clause-rows : goal.returns-clause-rows
+returns-clause-rows c =
+    main_rows c.args.names.now c.args.routine.now c.args.main c.args.last c.line_of-line.result (stmts_of c.body_of.result.now) c.args.out.now c.open.new.self c.lower_stmts.new.out c.close.new.self c.put.new.out c.put-2.new.out
     c.requires.outside c.line_of-line.ensures c.body_of.ensures c.in_ok-_row.ensures.ok c.in_ok-_row.ensures.kept c.in_ok-lower_stmts.ensures c.close.ensures.closed c.close.ensures.kept c.close.ensures.handler
     (subst (λ (o : Op). Adds 1 (OpCode c.line_of-line.result o) c.close.new.self c.put.new.out) c.end.ensures c.in_ok-put.ensures) (subst (λ (o : Op). Adds 1 (OpCode c.line_of-line.result o) c.put.new.out c.put-2.new.out) c.left.ensures c.in_ok-put-2.ensures)

@@ -7,7 +7,7 @@ use Rattle.uc_code.specs.Drafts.{Draft}
 use Rattle.uc_lower_stmt.specs.Routines.{main_in}
 use Rattle.uc_lower_stmt.proofs.Declaring.{uncapped}
 use Rattle.uc_lower_stmt.proofs.Opened.{stmts_few}
-use Rattle.uc_lower_stmt.proofs.RoutinesLemmas.{arm_routine, begun_is, plain_role}
+use Rattle.uc_lower_stmt.proofs.RoutinesLemmas.{arm_routine, begun_is, plain_role, rows_routine}
 use Rattle.uc_lower_stmt.proofs.routine.lower_routine.Goals as goal
 
 pub lower_statements-requires-clause-main : goal.lower_statements-requires-clause-main
@@ -44,7 +44,7 @@ returns-clause-kept c =
     let cells = uncapped (routine_cells p r) c.cells_of_routine-variables.result (c.cells_of_routine-variables.ensures ∙ ap (λ (q : Program). capped (routine_cells q r)) c.sizes.ensures) c.requires.cells in
     let begins = begun_is p r c.args.class c.args.number c.cells_of_routine-variables.result c.args.texts c.args.sites c.params_of-params.result.now c.args.out.now c.begin_routine.new.self c.declare_params.new.out xs cells c.begin_routine.ensures c.in_ok-declare_params.ensures in
     (arm_routine p r (plain_role r.sig.role c.requires.plain) c.args.class c.args.last c.args.number c.args.texts c.args.sites c.here-entry.result c.hidden-cells.result (length c.params_of-params.result.now) c.args.out.now c.declare_params.new.out c.lower_statements.new.out c.set_routine.new.self
-    c.requires.behind c.here-entry.ensures.count c.hidden-cells.ensures (ap length xs) begins c.in_ok-lower_statements.ensures c.set_routine.ensures).kept
+    c.requires.behind c.here-entry.ensures.count c.hidden-cells.ensures (ap length xs) begins c.in_ok-lower_statements.ensures.code c.set_routine.ensures).kept
 
 pub returns-clause-room : goal.returns-clause-room
 returns-clause-room c =
@@ -54,7 +54,7 @@ returns-clause-room c =
     let cells = uncapped (routine_cells p r) c.cells_of_routine-variables.result (c.cells_of_routine-variables.ensures ∙ ap (λ (q : Program). capped (routine_cells q r)) c.sizes.ensures) c.requires.cells in
     let begins = begun_is p r c.args.class c.args.number c.cells_of_routine-variables.result c.args.texts c.args.sites c.params_of-params.result.now c.args.out.now c.begin_routine.new.self c.declare_params.new.out xs cells c.begin_routine.ensures c.in_ok-declare_params.ensures in
     (arm_routine p r (plain_role r.sig.role c.requires.plain) c.args.class c.args.last c.args.number c.args.texts c.args.sites c.here-entry.result c.hidden-cells.result (length c.params_of-params.result.now) c.args.out.now c.declare_params.new.out c.lower_statements.new.out c.set_routine.new.self
-    c.requires.behind c.here-entry.ensures.count c.hidden-cells.ensures (ap length xs) begins c.in_ok-lower_statements.ensures c.set_routine.ensures).room
+    c.requires.behind c.here-entry.ensures.count c.hidden-cells.ensures (ap length xs) begins c.in_ok-lower_statements.ensures.code c.set_routine.ensures).room
 
 pub returns-clause-code : goal.returns-clause-code
 returns-clause-code c =
@@ -64,7 +64,7 @@ returns-clause-code c =
     let cells = uncapped (routine_cells p r) c.cells_of_routine-variables.result (c.cells_of_routine-variables.ensures ∙ ap (λ (q : Program). capped (routine_cells q r)) c.sizes.ensures) c.requires.cells in
     let begins = begun_is p r c.args.class c.args.number c.cells_of_routine-variables.result c.args.texts c.args.sites c.params_of-params.result.now c.args.out.now c.begin_routine.new.self c.declare_params.new.out xs cells c.begin_routine.ensures c.in_ok-declare_params.ensures in
     (arm_routine p r (plain_role r.sig.role c.requires.plain) c.args.class c.args.last c.args.number c.args.texts c.args.sites c.here-entry.result c.hidden-cells.result (length c.params_of-params.result.now) c.args.out.now c.declare_params.new.out c.lower_statements.new.out c.set_routine.new.self
-    c.requires.behind c.here-entry.ensures.count c.hidden-cells.ensures (ap length xs) begins c.in_ok-lower_statements.ensures c.set_routine.ensures).code
+    c.requires.behind c.here-entry.ensures.count c.hidden-cells.ensures (ap length xs) begins c.in_ok-lower_statements.ensures.code c.set_routine.ensures).code
 
 pub returns-clause-written : goal.returns-clause-written
 returns-clause-written c =
@@ -74,7 +74,7 @@ returns-clause-written c =
     let cells = uncapped (routine_cells p r) c.cells_of_routine-variables.result (c.cells_of_routine-variables.ensures ∙ ap (λ (q : Program). capped (routine_cells q r)) c.sizes.ensures) c.requires.cells in
     let begins = begun_is p r c.args.class c.args.number c.cells_of_routine-variables.result c.args.texts c.args.sites c.params_of-params.result.now c.args.out.now c.begin_routine.new.self c.declare_params.new.out xs cells c.begin_routine.ensures c.in_ok-declare_params.ensures in
     (arm_routine p r (plain_role r.sig.role c.requires.plain) c.args.class c.args.last c.args.number c.args.texts c.args.sites c.here-entry.result c.hidden-cells.result (length c.params_of-params.result.now) c.args.out.now c.declare_params.new.out c.lower_statements.new.out c.set_routine.new.self
-    c.requires.behind c.here-entry.ensures.count c.hidden-cells.ensures (ap length xs) begins c.in_ok-lower_statements.ensures c.set_routine.ensures).written
+    c.requires.behind c.here-entry.ensures.count c.hidden-cells.ensures (ap length xs) begins c.in_ok-lower_statements.ensures.code c.set_routine.ensures).written
 
 pub returns-clause-outside : goal.returns-clause-outside
 returns-clause-outside c =
@@ -84,7 +84,7 @@ returns-clause-outside c =
     let cells = uncapped (routine_cells p r) c.cells_of_routine-variables.result (c.cells_of_routine-variables.ensures ∙ ap (λ (q : Program). capped (routine_cells q r)) c.sizes.ensures) c.requires.cells in
     let begins = begun_is p r c.args.class c.args.number c.cells_of_routine-variables.result c.args.texts c.args.sites c.params_of-params.result.now c.args.out.now c.begin_routine.new.self c.declare_params.new.out xs cells c.begin_routine.ensures c.in_ok-declare_params.ensures in
     (arm_routine p r (plain_role r.sig.role c.requires.plain) c.args.class c.args.last c.args.number c.args.texts c.args.sites c.here-entry.result c.hidden-cells.result (length c.params_of-params.result.now) c.args.out.now c.declare_params.new.out c.lower_statements.new.out c.set_routine.new.self
-    c.requires.behind c.here-entry.ensures.count c.hidden-cells.ensures (ap length xs) begins c.in_ok-lower_statements.ensures c.set_routine.ensures).outside
+    c.requires.behind c.here-entry.ensures.count c.hidden-cells.ensures (ap length xs) begins c.in_ok-lower_statements.ensures.code c.set_routine.ensures).outside
 
 pub returns-clause-texts : goal.returns-clause-texts
 returns-clause-texts c =
@@ -94,7 +94,7 @@ returns-clause-texts c =
     let cells = uncapped (routine_cells p r) c.cells_of_routine-variables.result (c.cells_of_routine-variables.ensures ∙ ap (λ (q : Program). capped (routine_cells q r)) c.sizes.ensures) c.requires.cells in
     let begins = begun_is p r c.args.class c.args.number c.cells_of_routine-variables.result c.args.texts c.args.sites c.params_of-params.result.now c.args.out.now c.begin_routine.new.self c.declare_params.new.out xs cells c.begin_routine.ensures c.in_ok-declare_params.ensures in
     (arm_routine p r (plain_role r.sig.role c.requires.plain) c.args.class c.args.last c.args.number c.args.texts c.args.sites c.here-entry.result c.hidden-cells.result (length c.params_of-params.result.now) c.args.out.now c.declare_params.new.out c.lower_statements.new.out c.set_routine.new.self
-    c.requires.behind c.here-entry.ensures.count c.hidden-cells.ensures (ap length xs) begins c.in_ok-lower_statements.ensures c.set_routine.ensures).texts
+    c.requires.behind c.here-entry.ensures.count c.hidden-cells.ensures (ap length xs) begins c.in_ok-lower_statements.ensures.code c.set_routine.ensures).texts
 
 pub returns-clause-few_texts : goal.returns-clause-few_texts
 returns-clause-few_texts c =
@@ -104,7 +104,7 @@ returns-clause-few_texts c =
     let cells = uncapped (routine_cells p r) c.cells_of_routine-variables.result (c.cells_of_routine-variables.ensures ∙ ap (λ (q : Program). capped (routine_cells q r)) c.sizes.ensures) c.requires.cells in
     let begins = begun_is p r c.args.class c.args.number c.cells_of_routine-variables.result c.args.texts c.args.sites c.params_of-params.result.now c.args.out.now c.begin_routine.new.self c.declare_params.new.out xs cells c.begin_routine.ensures c.in_ok-declare_params.ensures in
     (arm_routine p r (plain_role r.sig.role c.requires.plain) c.args.class c.args.last c.args.number c.args.texts c.args.sites c.here-entry.result c.hidden-cells.result (length c.params_of-params.result.now) c.args.out.now c.declare_params.new.out c.lower_statements.new.out c.set_routine.new.self
-    c.requires.behind c.here-entry.ensures.count c.hidden-cells.ensures (ap length xs) begins c.in_ok-lower_statements.ensures c.set_routine.ensures).few_texts
+    c.requires.behind c.here-entry.ensures.count c.hidden-cells.ensures (ap length xs) begins c.in_ok-lower_statements.ensures.code c.set_routine.ensures).few_texts
 
 pub returns-clause-sites : goal.returns-clause-sites
 returns-clause-sites c =
@@ -114,4 +114,11 @@ returns-clause-sites c =
     let cells = uncapped (routine_cells p r) c.cells_of_routine-variables.result (c.cells_of_routine-variables.ensures ∙ ap (λ (q : Program). capped (routine_cells q r)) c.sizes.ensures) c.requires.cells in
     let begins = begun_is p r c.args.class c.args.number c.cells_of_routine-variables.result c.args.texts c.args.sites c.params_of-params.result.now c.args.out.now c.begin_routine.new.self c.declare_params.new.out xs cells c.begin_routine.ensures c.in_ok-declare_params.ensures in
     (arm_routine p r (plain_role r.sig.role c.requires.plain) c.args.class c.args.last c.args.number c.args.texts c.args.sites c.here-entry.result c.hidden-cells.result (length c.params_of-params.result.now) c.args.out.now c.declare_params.new.out c.lower_statements.new.out c.set_routine.new.self
-    c.requires.behind c.here-entry.ensures.count c.hidden-cells.ensures (ap length xs) begins c.in_ok-lower_statements.ensures c.set_routine.ensures).sites
+    c.requires.behind c.here-entry.ensures.count c.hidden-cells.ensures (ap length xs) begins c.in_ok-lower_statements.ensures.code c.set_routine.ensures).sites
+
+pub returns-clause-rows : goal.returns-clause-rows
+returns-clause-rows c =
+    rows_routine c.args.out.now c.declare_params.new.out c.lower_statements.new.out c.set_routine.new.self
+    (ap (λ (d : Draft). d.rows) c.in_ok-declare_params.ensures ∙ ap (λ (d : Draft). d.rows) c.begin_routine.ensures)
+    (ap (λ (d : Draft). d.ops) c.in_ok-declare_params.ensures ∙ ap (λ (d : Draft). d.ops) c.begin_routine.ensures)
+    (ap (λ (d : Draft). d.rows) c.set_routine.ensures) (ap (λ (d : Draft). d.ops) c.set_routine.ensures) c.in_ok-lower_statements.ensures.rows

@@ -1,7 +1,15 @@
 use Rattle.std.proofs.Common.{◌≡◌, ◌∙◌, sym, ap}
+use Rattle.uc_resolve.specs.Resolve.{source_of}
 use Rattle.uc_tree.specs.ProgramMain.{main_number, main_among}
-use Rattle.uc_top.proofs.Ran.{program_ran, run_ends}
+use Rattle.uc_top.proofs.Ran.{its_source, program_ran, run_ends}
 use Rattle.uc_top.proofs.program.run_code.Goals as goal
+
+pub run_main-journal-requires-clause-source : goal.run_main-journal-requires-clause-source
+run_main-journal-requires-clause-source g c =
+    let p = c.args.program.now in
+    let items = c.deref.ensures.value ∙ ap (λ q. q.items) c.program.view_is in
+    let number : main_number p ≡ c.in-Some.main = sym (c.in-Some.ensures.number p ∙ ap (main_among p) items) in
+    record { source = source_of p; is = its_source p c.args.code.now c.in-Some.main c.requires.accepted c.requires.lowered number }
 
 pub ending_of-ending-requires : goal.ending_of-ending-requires
 ending_of-ending-requires g c =

@@ -1,4 +1,5 @@
 use Rattle.std.proofs.Common.{sym, ap, ◌∙◌, subst}
+use Rattle.uc_kernel.specs.KernelState.{with_asked}
 use Rattle.uc_lock.specs.Journals.{Extends}
 use Rattle.uc_vproc.specs.Makers.{Log}
 use Rattle.uc_vproc.specs.Desks.{Table, Saw, Brings}
@@ -11,9 +12,9 @@ act-step-requires g c =
     let seen = c.args.seat.now.seen in
     let t = c.take-held.ensures in
     let saw : Saw n seen c.take-held.result.log = record { begins = t.seen; mine = t.own ∙ c.requires.own } in
-    let br : Brings c.take-held.result.code n seen c.args.back = subst (λ (k : RunKey). Brings k.code n seen c.args.back) (sym t.key) c.requires.brings in
+    let br : Brings c.take-held.result.code n seen (with_asked c.args.back c.args.asked.now) = subst (λ (k : RunKey). Brings k.code n seen (with_asked c.args.back c.args.asked.now)) (sym t.key) c.requires.brings in
     record {
-      brings = subst (λ m. (x : Log) × Saw m x c.value.result.now.log × Brings c.value.result.now.code m x c.args.back) (sym c.number-number.ensures) (subst (λ (y : Table). (x : Log) × Saw n x y.log × Brings y.code n x c.args.back) (sym c.value.ensures.value) (seen, saw, br));
+      brings = subst (λ m. (x : Log) × Saw m x c.value.result.now.log × Brings c.value.result.now.code m x (with_asked c.args.back c.args.asked.now)) (sym c.number-number.ensures) (subst (λ (y : Table). (x : Log) × Saw n x y.log × Brings y.code n x (with_asked c.args.back c.args.asked.now)) (sym c.value.ensures.value) (seen, saw, br));
     }
 
 pub give-requires-clause-journal : goal.give-requires-clause-journal

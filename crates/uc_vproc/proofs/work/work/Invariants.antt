@@ -7,5 +7,5 @@ abbrev pub invariant-loop : goal.invariant-loop
 invariant-loop g l = record {
   ready : IsReady l.lock l.seat;
   same : l.seat.number ≡ l.initial.seat.number;
-  came : (handed : _) → l.step ≡ Going handed → HasCome l.lock l.seat (Going handed);
+  came : (given : _) → l.step ≡ Going given → HasCome l.lock l.seat (Going given);
 }

@@ -1,4 +1,4 @@
-use Rattle.std.proofs.Common.{◌==◌, ap, ◌∙◌}
+use Rattle.std.proofs.Common.{◌==◌, ap}
 use Rattle.std.specs.List.{list_any}
 use Rattle.uc_judge.proofs.Housing.{none_made, none_closed}
 use Rattle.uc_judge.proofs.processors.Processors.new.Goals as goal

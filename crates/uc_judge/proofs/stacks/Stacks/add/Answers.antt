@@ -1,4 +1,4 @@
-use Rattle.std.proofs.Common.{ℕ, [], map, ap, sym, ◌∙◌}
+use Rattle.std.proofs.Common.{map, ap, sym, ◌∙◌}
 use Rattle.std.specs.Prelude.{is_some}
 use Rattle.std.specs.Ordering.{nat_cmp}
 use Rattle.std.specs.BTreeMap.{get}

@@ -1,0 +1,12 @@
+use Rattle.std.proofs.Common.{arith}
+use Rattle.uc_frames.specs.Machine.{cell_written}
+use Rattle.uc_frames.proofs.Depths.{write_there, write_nothing}
+use Rattle.uc_frames.proofs.frames.write_in.Goals as goal
+
+pub returns-then-frame-len-clause-items : goal.returns-then-frame-len-clause-items
+returns-then-frame-len-clause-items c =
+    write_there (λ v. v.items) c.args.frames.now.items c.args.depth (cell_written c.args.at c.args.cell) c.index_mut.result.now c.put.new.cells (omega (arith, c.args.frames.now.ok.0)) c.index_mut.ensures.value c.put.ensures
+
+pub returns-else-frame-len-clause-items : goal.returns-else-frame-len-clause-items
+returns-else-frame-len-clause-items c =
+    write_nothing (λ v. v.items) c.args.frames.now.items c.args.depth (cell_written c.args.at c.args.cell) (omega (arith, c.args.frames.now.ok.0))

@@ -1,0 +1,300 @@
+// The activations of the execution that runs: calls, their ends, handlers, and what events do to them.
+
+ghost use Rattle.std.specs.Prelude.{◌≡◌, ◌-◌, ◌<◌, ◌∷◌, [], length, reverse, nat_lt, None, Some, IfOk, OnOk, OnErr, MatchOption, slice_get, true};
+ghost use Rattle.uc_machine.specs.Executions.{at_depth, calmed};
+ghost use Rattle.uc_machine.specs.Insides.{counted_no_more};
+ghost use Rattle.uc_frames.specs.Machine.{line_in, line_at};
+ghost use Rattle.uc_frames.specs.Calls.{left, called};
+ghost use Rattle.uc_frames.specs.Objects.{arrived_at};
+ghost use Rattle.uc_frames.specs.Unwinding.{IsCaller, unwound_by, cleaning, catching, passed, handled};
+ghost use Rattle.uc_tree.specs.declared.limits.TheConstants.{CALLS};
+
+use crate::active::Activation;
+use crate::call::Call;
+use crate::cell::Cell;
+use crate::event::{Event, HandlerStart};
+use crate::operands::{drop_newest, new_frame, put_event};
+use crate::stack::take_list;
+use crate::work::Work;
+use std::alloc::AllocError;
+use std::mem;
+use uc_code::code::Code;
+use uc_machine::exec::{UnwindReason, Visited};
+
+impl Work {
+    /// The next op.
+    pub fn next(&self) -> u32
+        ensures { result ≡ self.now.run.control }
+    {
+        self.task.parts.running.run.next
+    }
+
+    /// Another op is next.
+    pub fn go(&mut self, to: u32)
+        ensures { self.new ≡ record self.old { run = record self.old.run { control = to } } }
+    {
+        self.task.parts.running.run.next = to;
+    }
+
+    /// The object of the running activation.
+    pub fn this(&self) -> Cell
+        ensures { result ≡ self.now.run.this }
+    {
+        self.task.parts.running.run.this
+    }
+
+    /// How many elements stand of the array that the running activation builds or destroys.
+    pub fn elements(&self) -> u32
+        ensures { result ≡ self.now.run.elements }
+    {
+        self.task.parts.running.run.elements
+    }
+
+    /// So many elements stand.
+    pub fn set_elements(&mut self, count: u32)
+        ensures { self.new ≡ record self.old { run = record self.old.run { elements = count } } }
+    {
+        self.task.parts.running.run.elements = count;
+    }
+
+    /// How many calls are active in the running execution.
+    pub fn calls(&self) -> u32
+        ensures { result ≡ self.now.env.links.calls }
+    {
+        self.task.parts.running.links.calls
+    }
+
+    /// Makes a call: the newest operands are the routine's parameters.
+    pub fn enter(&mut self, call: Call) -> Result<(), AllocError>
+        requires { call.counts ≡ true → self.old.env.links.calls < CALLS }
+        ensures ok { OnOk result (self.new ≡ called call self.old) }
+        ensures err { OnErr result (self.new ≡ self.old) }
+    {
+        let running = &mut self.task.parts.running;
+        let depth = running.frames.len() as u32;
+        if depth == u32::MAX {
+            return Err(AllocError);
+        }
+        if running.callers.len() as u32 == u32::MAX {
+            return Err(AllocError);
+        }
+        let empty = take_list(running.alloc, &mut running.spare);
+        let operands = take_list(running.alloc, &mut running.spare);
+        let frame = new_frame(empty, &running.run.operands, call.routine)?;
+        running.callers.reserve(1)?;
+        running.frames.push(frame)?;
+        let callee = Activation::new(operands, call.routine.entry, call.this, depth, call.counts);
+        let mut caller = mem::replace(&mut running.run, callee);
+        drop_newest(&mut caller.operands, call.taken);
+        running.callers.push_reserved(caller);
+        running.links.enter(call.counts);
+        Ok(())
+    }
+
+    /// The running activation is left with its frame, and the one that waits for it goes on with what it is handed. Where none
+    /// waits, all stays as it is, and the answer is false.
+    pub fn leave(&mut self, given: Cell) -> Result<bool, AllocError>
+        ensures called { IfOk result (λ called. called ≡ nat_lt 0 (length self.old.callers)) }
+        ensures after { OnOk result (self.new ≡ left given self.old.callers self.old) }
+        ensures err { OnErr result (self.new ≡ self.old) }
+    {
+        let running = &mut self.task.parts.running;
+        match running.callers.pop() {
+            None => Ok(false),
+            Some(mut caller) => {
+                if caller.operands.push(given).is_err() {
+                    running.callers.push_reserved(caller);
+                    return Err(AllocError);
+                }
+                running.go_back(caller);
+                Ok(true)
+            }
+        }
+    }
+
+    /// How many activations wait for the running one.
+    pub fn level(&self) -> u32
+        ensures { result ≡ length self.now.callers }
+    {
+        self.task.parts.running.callers.len() as u32
+    }
+
+    /// The activation that has so many below it.
+    pub fn activation(&self, level: u32) -> Option<&Activation>
+        ensures { MatchOption result (at_depth (self.now.run ∷ self.now.callers) level ≡ None) (λ a. at_depth (self.now.run ∷ self.now.callers) level ≡ Some a.now) }
+    {
+        self.task.parts.running.activation(level)
+    }
+
+    /// The line of an op; for one of no line that of the newest call around it that has one.
+    pub fn line(&self, code: &Code, line: u32) -> u32
+        ensures { result ≡ line_at code.now.ops line self.now.callers }
+    {
+        line_from(code, &self.task.parts.running.callers, line)
+    }
+
+    /// The line of the op before the next one; of one of no line that of the newest call around it that has one.
+    pub fn line_behind(&self, code: &Code) -> u32
+        ensures { result ≡ line_at code.now.ops (line_in (slice_get code.now.ops (self.now.run.control - 1))) self.now.callers }
+    {
+        self.line(code, line_before(code, self.next()))
+    }
+
+    /// How far the search came, where the running activation handles a resumption.
+    pub fn handles(&self) -> Option<Visited>
+        ensures { result ≡ self.now.run.handles }
+    {
+        self.task.parts.running.run.handles
+    }
+
+    /// Why the running activation is unwound, if it is.
+    pub fn raised(&self) -> Option<UnwindReason>
+        ensures { result ≡ self.now.run.raised }
+    {
+        self.task.parts.running.run.raised
+    }
+
+    /// What a return that unwinds the running activation hands over.
+    pub fn result(&self) -> Cell
+        ensures { result ≡ self.now.run.result }
+    {
+        self.task.parts.running.run.result
+    }
+
+    /// Whether an activation waits, and why it is unwound, if it is.
+    pub fn caller(&self) -> Option<Option<UnwindReason>>
+        ensures { MatchOption result (self.now.callers ≡ []) (λ why. IsCaller why self.now.callers) }
+    {
+        match self.task.parts.running.callers.last() {
+            None => None,
+            Some(caller) => Some(caller.raised),
+        }
+    }
+
+    /// The running activation is unwound for this reason, from its place on; a return that arrives hands this over.
+    pub fn unwind(&mut self, why: UnwindReason, given: Cell)
+        ensures { self.new ≡ record self.old { run = unwound_by why given self.old.run } }
+    {
+        self.task.parts.running.run.unwind(why, given);
+    }
+
+    /// The unwinding of the running activation is over: it goes on at this op.
+    pub fn calm(&mut self, to: u32)
+        ensures { self.new ≡ record self.old { run = calmed to self.old.run } }
+    {
+        let run = &mut self.task.parts.running.run;
+        run.operands.clear();
+        run.next = to;
+        run.raised = None;
+    }
+
+    /// A clean-up of the running activation begins at this op.
+    pub fn clean(&mut self, entry: u32)
+        ensures { self.new ≡ record self.old { run = cleaning entry self.old.run } }
+    {
+        let run = &mut self.task.parts.running.run;
+        run.operands.clear();
+        run.next = entry;
+    }
+
+    /// The handler at this op catches an event in the running activation.
+    pub fn catch_event(&mut self, entry: u32, event: Event) -> Result<(), AllocError>
+        ensures ok { OnOk result (self.new ≡ record self.old { run = catching entry event self.old.run }) }
+        ensures err { OnErr result (self.new ≡ self.old) }
+    {
+        let run = &mut self.task.parts.running.run;
+        put_event(&mut run.operands, event)?;
+        run.next = entry;
+        run.raised = None;
+        Ok(())
+    }
+
+    /// The running activation is left with its frame, and the one that waits for it is unwound in its turn, for this reason and
+    /// with what a return that arrives hands over. Where none waits, all stays as it is, and the answer is false.
+    pub fn pass_on(&mut self, why: UnwindReason, given: Cell) -> bool
+        ensures called { result ≡ nat_lt 0 (length self.old.callers) }
+        ensures after { self.new ≡ passed why given self.old.callers self.old }
+    {
+        let running = &mut self.task.parts.running;
+        match running.callers.pop() {
+            None => false,
+            Some(mut caller) => {
+                caller.unwind(why, given);
+                running.go_back(caller);
+                true
+            }
+        }
+    }
+
+    /// The handler of a resumption begins on top, with an empty frame of its own.
+    pub fn enter_handler(&mut self, handling: HandlerStart) -> Result<(), AllocError>
+        ensures ok { OnOk result (self.new ≡ handled handling self.old) }
+        ensures err { OnErr result (self.new ≡ self.old) }
+    {
+        let running = &mut self.task.parts.running;
+        if running.frames.len() as u32 == u32::MAX {
+            return Err(AllocError);
+        }
+        if running.callers.len() as u32 == u32::MAX {
+            return Err(AllocError);
+        }
+        let frame = take_list(running.alloc, &mut running.spare);
+        let mut operands = take_list(running.alloc, &mut running.spare);
+        operands.reserve(3)?;
+        running.callers.reserve(1)?;
+        running.frames.push(frame)?;
+        let handler = Activation::handler(operands, handling);
+        let raiser = mem::replace(&mut running.run, handler);
+        running.callers.push_reserved(raiser);
+        Ok(())
+    }
+
+    /// The running activation is no active call any more.
+    pub fn count_no_more(&mut self)
+        ensures { self.new ≡ counted_no_more self.old }
+    {
+        let counts = self.task.parts.running.run.counts;
+        self.task.parts.running.links.leave(counts);
+        self.task.parts.running.run.counts = false;
+    }
+
+    /// A return of a handler has arrived at the running mutex call, which goes on at this op with what that hands over.
+    pub fn arrive(&mut self, to: u32) -> Result<(), AllocError>
+        ensures ok { OnOk result (self.new ≡ record self.old { run = arrived_at to self.old.run }) }
+        ensures err { OnErr result (self.new ≡ self.old) }
+    {
+        let run = &mut self.task.parts.running.run;
+        run.operands.reserve(1)?;
+        run.operands.clear();
+        run.operands.push_reserved(run.result);
+        run.next = to;
+        run.raised = None;
+        Ok(())
+    }
+}
+
+// The line of an op, or of the newest of these calls that has one.
+fn line_from(code: &Code, callers: &[Activation], line: u32) -> u32
+    ensures { result ≡ line_at code.now.ops line (reverse callers.now) }
+{
+    match callers.split_last() {
+        None => line,
+        Some((caller, outer)) => {
+            if line == 0 {
+                line_from(code, outer, line_before(code, caller.next()))
+            } else {
+                line
+            }
+        }
+    }
+}
+
+// The line of the op before this one, 0 where there is none.
+fn line_before(code: &Code, next: u32) -> u32
+    ensures { result ≡ line_in (slice_get code.now.ops (next - 1)) }
+{
+    match code.op(next.saturating_sub(1)) {
+        None => 0,
+        Some(instruction) => instruction.line,
+    }
+}

@@ -1,0 +1,6 @@
+pub mod Marks
+pub mod Steps
+pub mod Walk
+pub mod Arguments
+pub mod NamedWorlds
+pub mod MarkedWorlds

@@ -1,0 +1,4 @@
+pub mod Resting
+pub mod Named
+pub mod Naming
+pub mod SiteLaws

@@ -1,0 +1,3 @@
+pub mod Spawning
+pub mod Hands
+pub mod Worlds
