@@ -13,7 +13,7 @@ use Rattle.uc_acts.specs.Acts.{dispatch}
 use Rattle.uc_acts.specs.Serves.{left}
 use Rattle.uc_acts.specs.KernelRuns.{InRange}
 use Rattle.uc_acts.specs.Samples.{options, first_journal}
-use Rattle.uc_judge.specs.Runs.{written, gives, acts, Runs, begun, more, IsStart, IsRun, GoesWrong, off, unended}
+use Rattle.uc_judge.specs.Runs.{gives, acts, Runs, begun, more, IsStart, IsRun, GoesWrong, off, unended}
 use Rattle.uc_judge.specs.Changes.{told_of}
 use Rattle.uc_judge.specs.declared.script.Step.{Step}
 use Rattle.uc_judge.specs.Scripts.{next_of, without_first, Steps, unmoved}

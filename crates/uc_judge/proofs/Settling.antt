@@ -1,5 +1,5 @@
 -- The entries that an act adds, up to the first that destroys what is in use.
-use Rattle.std.proofs.Common.{◌≡◌, ◌<◌, ◌^◌, true, false, Bool, cond, List, [], ◌∷◌, ◌++◌, refl, sym, ap, ◌∙◌, subst, length, append_assoc, append-nil}
+use Rattle.std.proofs.Common.{◌≡◌, ◌<◌, ◌^◌, true, false, cond, List, [], ◌∷◌, ◌++◌, refl, sym, ap, ◌∙◌, subst, length, append_assoc, append-nil}
 use Rattle.uc_tree.specs.Programs.{Site}
 use Rattle.uc_entry.specs.declared.entry.Entry.{Entry}
 use Rattle.uc_entry.specs.declared.entry.EntryKind.{EntryKind}

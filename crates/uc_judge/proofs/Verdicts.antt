@@ -1,5 +1,5 @@
 -- A journal gets one answer.
-use Rattle.std.proofs.Common.{◌≡◌, ℕ, ◌+◌, ◌<◌, Bool, true, false, [], ◌++◌, refl, sym, ap, ◌∙◌, subst, arith, append_assoc, append-nil}
+use Rattle.std.proofs.Common.{◌≡◌, ℕ, ◌+◌, ◌<◌, Bool, true, false, [], ◌++◌, refl, sym, ap, ◌∙◌, arith, append_assoc, append-nil}
 use Rattle.std.specs.Prelude.{take, drop, nat_lt}
 use Rattle.std.proofs.lemmas.Bool.{ltb-true, ltb-false}
 use Rattle.std.proofs.lemmas.List.{take-append-drop}
@@ -7,7 +7,7 @@ use Rattle.std.proofs.Math.Nat.{le_antisymm}
 use Rattle.uc_acts.specs.Journal.{Journal}
 use Rattle.uc_judge.specs.declared.verdict.Verdict.{Verdict}
 use Rattle.uc_judge.specs.declared.verdict.Verdict.TheVariants.{Yes, No}
-use Rattle.uc_judge.specs.Runs.{Cause, Runs, IsStart, IsRun, GoesWrong, off, unended, IsVerdict}
+use Rattle.uc_judge.specs.Runs.{Cause, IsStart, IsRun, GoesWrong, off, unended, IsVerdict}
 use Rattle.uc_judge.specs.Laws.{LawVerdict}
 
 module _ {W : Type 0} (cause : Cause W) (j : Journal) where

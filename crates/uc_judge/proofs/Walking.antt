@@ -1,19 +1,15 @@
 -- Where a journal goes wrong behind the acts that it has taken.
-use Rattle.std.proofs.Common.{◌≡◌, ℕ, zero, suc, ◌+◌, ◌<◌, ◌≤◌, Bool, true, false, List, [], ◌∷◌, ◌++◌, Option, Some, None, refl, sym, ap, ◌∙◌, subst, arith, length, take, append_assoc, append-nil, length-append}
+use Rattle.std.proofs.Common.{◌≡◌, ℕ, zero, suc, ◌+◌, ◌≤◌, true, false, List, [], ◌∷◌, ◌++◌, refl, sym, ap, ◌∙◌, subst, arith, length, take, append_assoc, append-nil, length-append}
 use Rattle.uc_entry.specs.declared.entry.Entry.{Entry}
 use Rattle.uc_entry.specs.declared.entry.Options.{Options}
-use Rattle.uc_entry.specs.declared.request.Asked.{Asked}
-use Rattle.uc_acts.specs.Journal.{Journal, begin, is_over, first_or_0}
-use Rattle.uc_acts.specs.Queues.{running}
-use Rattle.uc_acts.specs.Acts.{dispatch, lone_limit}
-use Rattle.uc_acts.specs.Serves.{Serves, left}
+use Rattle.uc_acts.specs.Journal.{Journal, begin, is_over}
 use Rattle.uc_acts.specs.KernelRuns.{InRange}
 use Rattle.uc_judge.specs.Asking.{AsksOnce, AsksWhole}
-use Rattle.uc_judge.specs.Runs.{lined, written, Cause, May, gives, no_room, acts, Runs, begun, more, IsStart, IsRun, GoesWrong, off, unended}
+use Rattle.uc_judge.specs.Runs.{written, Cause, May, Runs, begun, more, IsStart, IsRun, GoesWrong, off, unended}
 use Rattle.uc_judge.specs.Compared.{TurnsOff}
-use Rattle.uc_judge.proofs.Cuts.{no_both, first_of, is_giving, act_of, starts, proc_of, written_append, written_length, written_over, cancel, View, is_there, is_onward, view, rest_of, same_step, law_cut}
-use Rattle.uc_judge.proofs.Verdicts.{part_start, run_start}
-use Rattle.uc_judge.proofs.Starts.{GoesOn, goes_on}
+use Rattle.uc_judge.proofs.Cuts.{no_both, first_of, written_append, written_length, written_over, cancel, View, is_there, is_onward, view, rest_of, same_step, law_cut}
+use Rattle.uc_judge.proofs.Verdicts.{part_start}
+use Rattle.uc_judge.proofs.Starts.{goes_on}
 
 take_part : (m : ℕ) (p rest : List Entry) → m ≤ length p → take m (p ++ rest) ≡ take m p
 take_part zero p rest le = refl

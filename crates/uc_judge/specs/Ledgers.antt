@@ -6,7 +6,6 @@ use Rattle.uc_entry.specs.declared.entry.EntryKind.{EntryKind}
 use Rattle.uc_entry.specs.declared.entry.EntryKind.TheVariants as kind
 use Rattle.uc_entry.specs.declared.request.Asked.{Asked}
 use Rattle.uc_entry.specs.declared.request.Request.{Request}
-use Rattle.uc_entry.specs.declared.entry.Options.{Options}
 use Rattle.uc_entry.specs.Faults.{fault_number}
 use Rattle.uc_entry.specs.declared.fault.RunFault.TheVariants as run_fault
 use Rattle.uc_acts.specs.Journal.{Journal, no_cost}

@@ -1,4 +1,4 @@
-use Rattle.std.proofs.Common.{◌≡◌, ℤ, true, ap, sym, ◌∙◌, rules, to_z, of_z, w64}
+use Rattle.std.proofs.Common.{◌≡◌, ℤ, ap, sym, ◌∙◌, rules, to_z, of_z, w64}
 use Rattle.uc_judge.specs.Runs.{lined}
 use Rattle.uc_judge.proofs.SameEntry.{entry_of, same_entry}
 use Rattle.uc_judge.proofs.comparing.is_written.Goals.{then-lines, else-lines}

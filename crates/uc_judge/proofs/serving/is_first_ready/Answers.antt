@@ -1,4 +1,4 @@
-use Rattle.std.proofs.Common.{Some, None, ap, sym, ◌∙◌}
+use Rattle.std.proofs.Common.{ap, sym, ◌∙◌}
 use Rattle.uc_acts.specs.Answers.{first_of}
 use Rattle.uc_acts.specs.Queues.{ready}
 use Rattle.uc_judge.proofs.Service.{first_some, first_none}

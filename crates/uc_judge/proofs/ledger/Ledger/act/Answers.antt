@@ -1,4 +1,4 @@
-use Rattle.std.proofs.Common.{sym, ap, ◌∙◌, refl, arith, length, take, [], ◌∷◌}
+use Rattle.std.proofs.Common.{sym, ◌∙◌, refl, arith, take}
 use Rattle.std.specs.Prelude.{pos}
 use Rattle.uc_entry.specs.declared.entry.EntryKind.TheVariants as kind
 use Rattle.uc_acts.specs.Journal.{entry}

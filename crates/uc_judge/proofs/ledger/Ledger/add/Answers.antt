@@ -1,4 +1,4 @@
-use Rattle.std.proofs.Common.{◌+◌, [], ◌∷◌, ◌++◌, refl, arith, length, length-append}
+use Rattle.std.proofs.Common.{[], ◌∷◌, ◌++◌, refl, arith, length-append}
 use Rattle.uc_judge.proofs.Settling.{adds_of, ledger_of}
 use Rattle.uc_judge.proofs.ledger.Ledger.add.Goals as goal
 

@@ -1,4 +1,4 @@
-use Rattle.std.proofs.Common.{sym, ap, ◌∙◌, refl, length, take, [], ◌∷◌}
+use Rattle.std.proofs.Common.{sym, ap, ◌∙◌, refl, length, take}
 use Rattle.std.specs.Prelude.{pos, nat_le}
 use Rattle.uc_entry.specs.declared.entry.EntryKind.TheVariants as kind
 use Rattle.uc_acts.specs.Journal.{entry}
