@@ -13,7 +13,7 @@ use Rattle.uc_entry.specs.declared.request.Asked.{Asked}
 use Rattle.uc_entry.specs.declared.request.Piece.{Piece}
 use Rattle.uc_entry.specs.declared.request.Request.{Request}
 use Rattle.uc_entry.specs.declared.request.Request.TheVariants as ask
-use Rattle.uc_acts.specs.Journal.{Journal, Cost, cost, no_cost, entry, begin, is_over, first_or_0, number}
+use Rattle.uc_acts.specs.Journal.{Journal, Cost, cost, no_cost, entry, begin, is_over, is_ending, first_or_0, number}
 use Rattle.uc_acts.specs.Queues.{running, cluster_count, processor_count, is_in_use}
 use Rattle.uc_acts.specs.Known.{object_count, task_count, owner}
 use Rattle.uc_acts.specs.Pending.{pending, oldest_in}
@@ -23,7 +23,7 @@ use Rattle.uc_acts.specs.Serves.{left}
 use Rattle.uc_acts.proofs.Bounds.{over_limit, over_push}
 use Rattle.uc_judge.specs.Asking.{IsWhole, AsksOnce, AsksWhole}
 use Rattle.uc_judge.specs.Changes.{told_of}
-use Rattle.uc_judge.specs.Runs.{written, Cause, May, gives, no_room, acts, Runs, begun, more}
+use Rattle.uc_judge.specs.Runs.{lined, written, Cause, May, gives, no_room, acts, Runs, begun, more}
 use Rattle.uc_judge.specs.Laws.{Leads, there, onward, LawCut}
 
 pub no_both : (b : Bool) → b ≡ true → b ≡ false → ⊥
@@ -51,11 +51,6 @@ Headed p (e ∷ a) = (e.proc ≡ p) × (is_giving e.kind ≡ false) × (is_limit
 headed_append : (p : ℕ) (a b : List Entry) → Headed p a → Headed p (a ++ b)
 headed_append p [] b h = absurd h
 headed_append p (e ∷ a) b h = h
-
-headed_written : (p : ℕ) (lines : Bool) (a : List Entry) → Headed p a → Headed p (written lines a)
-headed_written p lines [] h = absurd h
-headed_written p true (e ∷ a) h = h
-headed_written p false (e ∷ a) h = h
 
 module _ (opts : Options) (sites : List Site) (input : List ℕ) (j : Journal) (p t : ℕ) (k : Cost) (line : ℕ) where
   headed_or : (b : Bool) (e f : Entry) → Headed p (e ∷ []) → Headed p (f ∷ []) → Headed p (or_fault b e f)
@@ -120,52 +115,61 @@ pub data Begins (p t : ℕ) (a : List Entry) : Type 0 where
   limited : a ≡ entry kind.Limit p t 0 0 (pos 0) (pos 0) ∷ [] → Begins p t a
   begins : Headed p a → Begins p t a
 
-pub act_begins : (opts : Options) (sites : List Site) (input : List ℕ) (lines : Bool) (j : Journal) (p t n : ℕ) (asked : Asked) → IsWhole asked.request → Begins p t (written lines (act opts sites input j p t n asked))
-act_begins opts sites input lines j p t n asked f =
+pub act_begins : (opts : Options) (sites : List Site) (input : List ℕ) (j : Journal) (p t n : ℕ) (asked : Asked) → IsWhole asked.request → Begins p t (act opts sites input j p t n asked)
+act_begins opts sites input j p t n asked f =
     let a = entries_of opts sites input j p t n asked in
     let h = headed_append p a (ending opts j p t a) (headed_settled p t 10 asked.line j (row opts sites input j p t (cost n asked.line) asked.line asked.request) (headed_row opts sites input j p t (cost n asked.line) asked.line asked.request f)) in
-    by lines (a ++ ending opts j p t a) (nat_le (length j + length (a ++ ending opts j p t a) + 1) opts.entries) h
+    by (a ++ ending opts j p t a) (nat_le (length j + length (a ++ ending opts j p t a) + 1) opts.entries) h
   where
-    by : (lines : Bool) (a : List Entry) (c : Bool) → Headed p a → Begins p t (written lines (cond c a (entry kind.Limit p t 0 0 (pos 0) (pos 0) ∷ [])))
-    by lines a true h = begins (headed_written p lines a h)
-    by true a false h = limited refl
-    by false a false h = limited refl
+    by : (a : List Entry) (c : Bool) → Headed p a → Begins p t (cond c a (entry kind.Limit p t 0 0 (pos 0) (pos 0) ∷ []))
+    by a true h = begins h
+    by a false h = limited refl
 
-pub proc_of : (p t : ℕ) (a x : List Entry) → Begins p t a → (first_of (a ++ x)).proc ≡ p
-proc_of p t a x (limited h) = ap (λ l. (first_of (l ++ x)).proc) h
-proc_of p t [] x (begins h) = absurd h
-proc_of p t (e ∷ a) x (begins h) = h.0
+-- as they are written
 
-gives_not : (p t : ℕ) (a x : List Entry) → Begins p t a → is_giving (first_of (a ++ x)).kind ≡ false
-gives_not p t a x (limited h) = ap (λ l. is_giving (first_of (l ++ x)).kind) h
-gives_not p t [] x (begins h) = absurd h
-gives_not p t (e ∷ a) x (begins h) = h.1
+pub written_append : (lines : Bool) (a b : List Entry) → written lines (a ++ b) ≡ written lines a ++ written lines b
+written_append lines [] b = refl
+written_append lines (e ∷ a) b = ap (λ l. lined lines e ∷ l) (written_append lines a b)
+
+pub written_length : (lines : Bool) (a : List Entry) → length (written lines a) ≡ length a
+written_length lines [] = refl
+written_length lines (e ∷ a) = ap suc (written_length lines a)
+
+pub written_over : (lines : Bool) (a : List Entry) → is_over (written lines a) ≡ is_over a
+unfolding is_over
+written_over lines [] = refl
+written_over lines (e ∷ a) = ap (λ b. is_ending e.kind || b) (written_over lines a)
+
+module _ (lines : Bool) (p t : ℕ) where
+  pub proc_of : (a x : List Entry) → Begins p t a → (first_of (written lines a ++ x)).proc ≡ p
+  proc_of a x (limited h) = ap (λ l. (first_of (written lines l ++ x)).proc) h
+  proc_of [] x (begins h) = absurd h
+  proc_of (e ∷ a) x (begins h) = h.0
+
+  pub gives_not : (a x : List Entry) → Begins p t a → is_giving (first_of (written lines a ++ x)).kind ≡ false
+  gives_not a x (limited h) = ap (λ l. is_giving (first_of (written lines l ++ x)).kind) h
+  gives_not [] x (begins h) = absurd h
+  gives_not (e ∷ a) x (begins h) = h.1
+
+  -- an act that begins with the lone limit is it
+  limit_alone : (a x y : List Entry) → Begins p t a → written lines (lone_limit ∷ []) ++ x ≡ written lines a ++ y → lone_limit ∷ [] ≡ a
+  limit_alone a x y (limited h) e =
+      let same = e ∙ ap (λ l. written lines l ++ y) h in
+      let q : 0 ≡ p = ap (λ l. (first_of l).proc) same in
+      let u : 0 ≡ t = ap (λ l. (first_of l).task) same in
+      ap (λ v. entry kind.Limit v 0 0 0 (pos 0) (pos 0) ∷ []) q ∙ ap (λ v. entry kind.Limit p v 0 0 (pos 0) (pos 0) ∷ []) u ∙ sym h
+  limit_alone [] x y (begins h) e = absurd h
+  limit_alone (z ∷ a) x y (begins h) e =
+      absurd (no_both (is_limit z.kind) (ap (λ l. is_limit (first_of l).kind) (sym e)) h.2)
 
 some_entry : (p t : ℕ) (a : List Entry) → Begins p t a → 0 < length a
 some_entry p t a (limited h) = let l : length a ≡ 1 = ap length h in omega (arith, l)
 some_entry p t [] (begins h) = absurd h
 some_entry p t (e ∷ a) (begins h) = omega arith
 
--- an act that begins with the lone limit is it
-limit_alone : (p t : ℕ) (a x y : List Entry) → Begins p t a → (lone_limit ∷ []) ++ x ≡ a ++ y → lone_limit ∷ [] ≡ a
-limit_alone p t a x y (limited h) e =
-    let first : lone_limit ≡ entry kind.Limit p t 0 0 (pos 0) (pos 0) = ap first_of (e ∙ ap (λ l. l ++ y) h) in
-    ap (λ l. l ∷ []) first ∙ sym h
-limit_alone p t [] x y (begins h) e = absurd h
-limit_alone p t (z ∷ a) x y (begins h) e =
-    let first : lone_limit ≡ z = ap first_of e in
-    absurd (no_both (is_limit z.kind) (ap (λ l. is_limit l.kind) (sym first)) h.2)
-
 pub cancel : (j x y : List Entry) → j ++ x ≡ j ++ y → x ≡ y
 cancel [] x y e = e
 cancel (i ∷ j) x y e = cancel j x y (cc e)
-
-longer : (j a x : List Entry) → j ≡ (j ++ a) ++ x → 0 < length a → ⊥
-longer j a x h lt =
-    let l = ap length h in
-    let m = length-append (j ++ a) x in
-    let n = length-append j a in
-    absurd (omega (arith, l, m, n, lt))
 
 -- two acts that begin alike are one, and while the run goes on they leave the same tasks
 pub record Same {W : Type 0} (j a b : List Entry) (v x : W) : Type 0 where
@@ -173,11 +177,11 @@ pub record Same {W : Type 0} (j a b : List Entry) (v x : W) : Type 0 where
   pub tasks : is_over (j ++ a) ≡ false → v ≡ x
 
 abbrev pub act_of : {W : Type 0} → Cause W → Options → Journal → ℕ → ℕ → ℕ → Asked → List Entry
-act_of cause opts j p t k asked = written cause.lines (act opts cause.sites cause.input j p t k asked)
+act_of cause opts j p t k asked = act opts cause.sites cause.input j p t k asked
 
 pub starts : {W : Type 0} (cause : Cause W) → AsksWhole cause.asks → (opts : Options) (j : Journal) (w : W) (p t k : ℕ) (asked : Asked) (x : W) → cause.asks w t (left opts j t) k asked x → Begins p t (act_of cause opts j p t k asked)
 starts cause whole opts j w p t k asked x d =
-    act_begins opts cause.sites cause.input cause.lines j p t k asked (whole w t (left opts j t) k asked x d)
+    act_begins opts cause.sites cause.input j p t k asked (whole w t (left opts j t) k asked x d)
 
 module _ {W : Type 0} {cause : Cause W} (once : AsksOnce cause.asks) (whole : AsksWhole cause.asks) {opts : Options} {j : Journal} {w : W} where
   pub step_some : {a : List Entry} {v : W} → May cause opts j w a v → 0 < length a
@@ -185,33 +189,33 @@ module _ {W : Type 0} {cause : Cause W} (once : AsksOnce cause.asks) (whole : As
   step_some (no_room p t s m) = omega arith
   step_some (acts p t k asked x r d) = some_entry p t (act_of cause opts j p t k asked) (starts cause whole opts j w p t k asked x d)
 
-  pub same_step : {a b : List Entry} {v x : W} → May cause opts j w a v → May cause opts j w b x → (y z : List Entry) → a ++ y ≡ b ++ z → Same j a b v x
+  pub same_step : {a b : List Entry} {v x : W} → May cause opts j w a v → May cause opts j w b x → (y z : List Entry) → written cause.lines a ++ y ≡ written cause.lines b ++ z → Same j a b v x
   same_step (gives p t s m) (gives p' t' s' m') y z e =
       let q : p ≡ p' = ap (λ l. (first_of l).proc) e in
       let u : t ≡ t' = ap (λ l. (first_of l).task) e in
       record { entries = ap (λ v. dispatch v t ∷ []) q ∙ ap (λ v. dispatch p' v ∷ []) u; tasks = λ o. refl }
   same_step (gives p t s m) (no_room p' t' s' m') y z e =
-      absurd (no_both (is_giving (first_of ((dispatch p t ∷ []) ++ y)).kind) refl (ap (λ l. is_giving (first_of l).kind) e))
+      absurd (no_both (is_giving (first_of (written cause.lines (dispatch p t ∷ []) ++ y)).kind) refl (ap (λ l. is_giving (first_of l).kind) e))
   same_step (no_room p t s m) (gives p' t' s' m') y z e =
-      absurd (no_both (is_giving (first_of ((dispatch p' t' ∷ []) ++ z)).kind) refl (ap (λ l. is_giving (first_of l).kind) (sym e)))
+      absurd (no_both (is_giving (first_of (written cause.lines (dispatch p' t' ∷ []) ++ z)).kind) refl (ap (λ l. is_giving (first_of l).kind) (sym e)))
   same_step (gives p t s m) (acts p' t' k' asked' x' r' d') y z e =
-      absurd (no_both (is_giving (first_of (act_of cause opts j p' t' k' asked' ++ z)).kind) (ap (λ l. is_giving (first_of l).kind) (sym e)) (gives_not p' t' (act_of cause opts j p' t' k' asked') z (starts cause whole opts j w p' t' k' asked' x' d')))
+      absurd (no_both (is_giving (first_of (written cause.lines (act_of cause opts j p' t' k' asked') ++ z)).kind) (ap (λ l. is_giving (first_of l).kind) (sym e)) (gives_not cause.lines p' t' (act_of cause opts j p' t' k' asked') z (starts cause whole opts j w p' t' k' asked' x' d')))
   same_step (acts p t k asked x r d) (gives p' t' s' m') y z e =
-      absurd (no_both (is_giving (first_of (act_of cause opts j p t k asked ++ y)).kind) (ap (λ l. is_giving (first_of l).kind) e) (gives_not p t (act_of cause opts j p t k asked) y (starts cause whole opts j w p t k asked x d)))
+      absurd (no_both (is_giving (first_of (written cause.lines (act_of cause opts j p t k asked) ++ y)).kind) (ap (λ l. is_giving (first_of l).kind) e) (gives_not cause.lines p t (act_of cause opts j p t k asked) y (starts cause whole opts j w p t k asked x d)))
   same_step (no_room p t s m) (no_room p' t' s' m') y z e = record { entries = refl; tasks = λ o. refl }
   same_step (no_room p t s m) (acts p' t' k' asked' x' r' d') y z e = record {
-    entries = limit_alone p' t' (act_of cause opts j p' t' k' asked') y z (starts cause whole opts j w p' t' k' asked' x' d') e;
+    entries = limit_alone cause.lines p' t' (act_of cause opts j p' t' k' asked') y z (starts cause whole opts j w p' t' k' asked' x' d') e;
     tasks = λ o. absurd (no_both (is_over (j ++ lone_limit ∷ [])) (over_limit j 0 0) o);
   }
   same_step (acts p t k asked x r d) (no_room p' t' s' m') y z e =
       let a = act_of cause opts j p t k asked in
-      let same : lone_limit ∷ [] ≡ a = limit_alone p t a z y (starts cause whole opts j w p t k asked x d) (sym e) in
+      let same : lone_limit ∷ [] ≡ a = limit_alone cause.lines p t a z y (starts cause whole opts j w p t k asked x d) (sym e) in
       record {
         entries = sym same;
         tasks = λ o. absurd (no_both (is_over (j ++ a)) (ap (λ l. is_over (j ++ l)) (sym same) ∙ over_limit j 0 0) o);
       }
   same_step (acts p t k asked x r d) (acts p' t' k' asked' x' r' d') y z e =
-      let q : p ≡ p' = sym (proc_of p t (act_of cause opts j p t k asked) y (starts cause whole opts j w p t k asked x d)) ∙ ap (λ l. (first_of l).proc) e ∙ proc_of p' t' (act_of cause opts j p' t' k' asked') z (starts cause whole opts j w p' t' k' asked' x' d') in
+      let q : p ≡ p' = sym (proc_of cause.lines p t (act_of cause opts j p t k asked) y (starts cause whole opts j w p t k asked x d)) ∙ ap (λ l. (first_of l).proc) e ∙ proc_of cause.lines p' t' (act_of cause opts j p' t' k' asked') z (starts cause whole opts j w p' t' k' asked' x' d') in
       let u : t ≡ t' = ap first_or_0 (sym r ∙ ap (λ z. running z j) q ∙ r') in
       let walk = once w t (left opts j t) k k' asked asked' x x' d (subst (λ z. cause.asks w z (left opts j z) k' asked' x') (sym u) d') in
       let same : act_of cause opts j p t k asked ≡ act_of cause opts j p' t' k' asked' = ap (λ z. act_of cause opts j z t k asked) q ∙ ap (λ z. act_of cause opts j p' z k asked) u ∙ ap (λ z. act_of cause opts j p' t' z asked) walk.ticks ∙ ap (λ z. act_of cause opts j p' t' k' z) walk.asked in
@@ -256,25 +260,40 @@ over_part true b h = cc
 
 module _ {W : Type 0} {cause : Cause W} (once : AsksOnce cause.asks) (whole : AsksWhole cause.asks) {opts : Options} where
   -- a path that goes on where another one stands passes there
-  pub passes : {i : Journal} {v : W} {j : Journal} {w : W} {k : Journal} {u : W} → Leads cause opts i v j w → is_over j ≡ false → View cause opts i v k u → (x : List Entry) → k ≡ j ++ x → Leads cause opts j w k u
+  pub passes : {i : Journal} {v : W} {j : Journal} {w : W} {k : Journal} {u : W} → Leads cause opts i v j w → is_over j ≡ false → View cause opts i v k u → (x : List Entry) → written cause.lines k ≡ written cause.lines j ++ x → Leads cause opts j w k u
   passes {i} {v} {u = u} there o (is_there a b) x h =
       subst (λ l. Leads cause opts i v l u) (sym a) (subst (λ y. Leads cause opts i v i y) (sym b) there)
   passes there o (is_onward a y p s c) x h = onward p s c
-  passes {i} {j = j} (onward {a} p s c) o (is_there e f) x h =
+  passes {i} {j = j} {k = k} (onward {a} p s c) o (is_there e f) x h =
       let r = rest_of c in
-      absurd (longer i a (r.0 ++ x) (sym e ∙ h ∙ ap (λ l. l ++ x) r.1 ∙ append_assoc (i ++ a) r.0 x) (step_some once whole s))
+      let lt = step_some once whole s in
+      let l = ap length h ∙ length-append (written cause.lines j) x in
+      let lj = written_length cause.lines j in
+      let lk = written_length cause.lines k in
+      let same = ap length e in
+      let long = ap length r.1 ∙ length-append (i ++ a) r.0 in
+      let m = length-append i a in
+      absurd (omega (arith, lt, l, lj, lk, same, long, m))
   passes {i} {j = j} {w} {k} {u} (onward {a} {x = v'} p s c) o (is_onward b y p' s' c') x h =
       let r = rest_of c in
       let r' = rest_of c' in
-      let e : a ++ (r.0 ++ x) ≡ b ++ r'.0 = cancel i (a ++ (r.0 ++ x)) (b ++ r'.0) (sym (append_assoc i a (r.0 ++ x)) ∙ sym (append_assoc (i ++ a) r.0 x) ∙ ap (λ l. l ++ x) (sym r.1) ∙ sym h ∙ r'.1 ∙ append_assoc i b r'.0) in
-      let same = same_step once whole s s' (r.0 ++ x) r'.0 e in
+      let e : written cause.lines a ++ (written cause.lines r.0 ++ x) ≡ written cause.lines b ++ written cause.lines r'.0 = cancel (written cause.lines i) _ _ (sym (from i a r.0 x) ∙ ap (λ l. written cause.lines l ++ x) (sym r.1) ∙ sym h ∙ ap (written cause.lines) r'.1 ∙ to i b r'.0) in
+      let same = same_step once whole s s' (written cause.lines r.0 ++ x) (written cause.lines r'.0) e in
       let going : is_over (i ++ a) ≡ false = over_part (is_over (i ++ a)) (is_over r.0) (sym (over_push (i ++ a) r.0) ∙ ap is_over (sym r.1) ∙ o) in
       let moved : Leads cause opts (i ++ a) v' k u = subst (λ z. Leads cause opts (i ++ a) z k u) (sym (same.tasks going)) (subst (λ l. Leads cause opts (i ++ l) y k u) (sym same.entries) c') in
       passes c o (view moved) x h
+    where
+      to : (i b r : List Entry) → written cause.lines ((i ++ b) ++ r) ≡ written cause.lines i ++ (written cause.lines b ++ written cause.lines r)
+      to i b r =
+          written_append cause.lines (i ++ b) r ∙ ap (λ l. l ++ written cause.lines r) (written_append cause.lines i b) ∙ append_assoc (written cause.lines i) (written cause.lines b) (written cause.lines r)
+
+      from : (i a r x : List Entry) → written cause.lines ((i ++ a) ++ r) ++ x ≡ written cause.lines i ++ (written cause.lines a ++ (written cause.lines r ++ x))
+      from i a r x =
+          ap (λ l. l ++ x) (to i a r) ∙ append_assoc (written cause.lines i) (written cause.lines a ++ written cause.lines r) x ∙ ap (λ l. written cause.lines i ++ l) (append_assoc (written cause.lines a) (written cause.lines r) x)
 
 -- the options stand in the first entry
-same_options : (a b : Options) → begin a ≡ begin b → a ≡ b
-same_options a b h =
+same_options : (lines : Bool) (a b : Options) → lined lines (begin a) ≡ lined lines (begin b) → a ≡ b
+same_options lines a b h =
     let p : a.processors ≡ b.processors = ap (λ e. number e.a) h in
     let s : a.slice ≡ b.slice = ap (λ e. number e.b) h in
     let t : a.ticks ≡ b.ticks = ap (λ e. number e.c) h in
@@ -285,11 +304,11 @@ same_options a b h =
     ∙ ap (λ v. record { processors = b.processors; slice = b.slice; ticks = b.ticks; entries = v }) n
 
 pub law_cut : {W : Type 0} (cause : Cause W) → AsksOnce cause.asks → AsksWhole cause.asks → LawCut cause
-law_cut {W} cause once whole opts other j w rest u r o s =
+law_cut {W} cause once whole opts other j w k u rest r o s h =
     let p = path_of r in
     let q = path_of s in
     let x = rest_of p in
     let y = rest_of q in
-    let same : opts ≡ other = same_options opts other (ap first_of (sym (ap (λ l. l ++ rest) x.1) ∙ y.1)) in
-    let moved : Runs cause opts (j ++ rest) u = subst (λ z. Runs cause z (j ++ rest) u) (sym same) s in
-    (same, passes once whole p o (view (path_of moved)) rest refl)
+    let same : opts ≡ other = same_options cause.lines opts other (ap first_of (sym (ap (λ l. written cause.lines l ++ rest) x.1) ∙ sym h ∙ ap (written cause.lines) y.1)) in
+    let moved : Runs cause opts k u = subst (λ z. Runs cause z k u) (sym same) s in
+    (same, passes once whole p o (view (path_of moved)) rest h)

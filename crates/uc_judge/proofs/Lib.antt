@@ -9,6 +9,14 @@ pub mod Owned
 pub mod Opening
 pub mod Events
 pub mod Offering
+pub mod Settling
 pub mod Housing
 pub mod Below
 pub mod Stacking
+pub mod Walking
+pub mod Fitted
+pub mod Compares
+pub mod Printing
+pub mod Signals
+pub mod SameEntry
+pub mod Service

@@ -1,5 +1,6 @@
 -- The numbers of a journal with one entry more.
 use Rattle.std.proofs.Common.{◌≡◌, ℕ, ◌+◌, ◌-◌, ◌<◌, ◌≤◌, ◌||◌, Bool, true, false, cond, [], ◌∷◌, ◌++◌, refl, sym, ap, ◌∙◌, arith, length, length-append, min}
+use Rattle.std.specs.Prelude.{ℤ, pos}
 use Rattle.std.specs.List.{count_by, sum_by, list_any}
 use Rattle.std.proofs.lemmas.List.Sums.{count_by-le-length, sum_by-append}
 use Rattle.std.proofs.Math.Nat.{min-eq_left}
@@ -52,6 +53,10 @@ used_push n (x ∷ j) e = used_push (used_by x.kind x n) j e
 pub bytes_more : (j : Journal) (e : Entry) (r a : ℕ) → r ≡ used_by e.kind e a → a ≡ bytes_used j → r ≡ bytes_used (j ++ e ∷ [])
 unfolding bytes_used
 bytes_more j e r a h f = h ∙ ap (used_by e.kind e) f ∙ sym (used_push 0 j e)
+
+pub signed_bytes_more : (j : Journal) (e : Entry) (now r x before : ℤ) → now ≡ r → ((n : ℕ) → x ≡ pos n → r ≡ pos (used_by e.kind e n)) → x ≡ before → before ≡ pos (bytes_used j) → now ≡ pos (bytes_used (j ++ e ∷ []))
+signed_bytes_more j e now r x before i h g f =
+    i ∙ h (bytes_used j) (g ∙ f) ∙ ap pos (bytes_more j e (used_by e.kind e (bytes_used j)) (bytes_used j) refl refl)
 
 failed_push : (b : Bool) (j : Journal) (e : Entry) → failed_from b (j ++ e ∷ []) ≡ fails_by e.kind e (failed_from b j)
 failed_push b [] e = refl

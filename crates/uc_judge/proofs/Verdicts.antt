@@ -1,5 +1,5 @@
 -- A journal gets one answer.
-use Rattle.std.proofs.Common.{◌≡◌, ℕ, ◌+◌, ◌<◌, Bool, true, false, [], ◌++◌, refl, sym, ap, ◌∙◌, subst, arith, append_assoc, append-nil}
+use Rattle.std.proofs.Common.{◌≡◌, ℕ, ◌+◌, ◌<◌, Bool, true, false, [], ◌++◌, refl, sym, ap, ◌∙◌, arith, append_assoc, append-nil}
 use Rattle.std.specs.Prelude.{take, drop, nat_lt}
 use Rattle.std.proofs.lemmas.Bool.{ltb-true, ltb-false}
 use Rattle.std.proofs.lemmas.List.{take-append-drop}
@@ -7,18 +7,18 @@ use Rattle.std.proofs.Math.Nat.{le_antisymm}
 use Rattle.uc_acts.specs.Journal.{Journal}
 use Rattle.uc_judge.specs.declared.verdict.Verdict.{Verdict}
 use Rattle.uc_judge.specs.declared.verdict.Verdict.TheVariants.{Yes, No}
-use Rattle.uc_judge.specs.Runs.{Cause, Runs, IsStart, IsRun, GoesWrong, off, unended, IsVerdict}
+use Rattle.uc_judge.specs.Runs.{Cause, IsStart, IsRun, GoesWrong, off, unended, IsVerdict}
 use Rattle.uc_judge.specs.Laws.{LawVerdict}
 
 module _ {W : Type 0} (cause : Cause W) (j : Journal) where
   pub part_start : (n : ℕ) → IsStart cause j → IsStart cause (take n j)
   part_start n s =
       let same : j ++ s.rest ≡ take n j ++ (drop n j ++ s.rest) = ap (λ l. l ++ s.rest) (sym (take-append-drop n j)) ∙ append_assoc (take n j) (drop n j) s.rest in
-      record { opts = s.opts; in_range = s.in_range; tasks = s.tasks; rest = drop n j ++ s.rest; runs = subst (λ l. Runs cause s.opts l s.tasks) same s.runs }
+      record { opts = s.opts; in_range = s.in_range; tasks = s.tasks; all = s.all; runs = s.runs; rest = drop n j ++ s.rest; is = s.is ∙ same }
 
   pub run_start : IsRun cause j → IsStart cause j
   run_start r =
-      record { opts = r.opts; in_range = r.in_range; tasks = r.tasks; rest = []; runs = subst (λ l. Runs cause r.opts l r.tasks) (sym (append-nil j)) r.runs }
+      record { opts = r.opts; in_range = r.in_range; tasks = r.tasks; all = r.all; runs = r.runs; rest = []; is = r.is ∙ sym (append-nil j) }
 
   not_before : (n m : ℕ) → GoesWrong cause j n → GoesWrong cause j m → n < m → ⊥
   not_before n m (off a b c) (off d e f) lt = c (e (n + 1) (omega (arith, lt)))

@@ -1,5 +1,5 @@
 -- The numbers of a journal that a judge keeps.
-use Rattle.std.specs.Prelude.{◌≡◌, ◌-◌, length}
+use Rattle.std.specs.Prelude.{◌≡◌, ◌-◌, pos, length}
 use Rattle.uc_entry.specs.declared.entry.Options.{Options}
 use Rattle.uc_acts.specs.Journal.{Journal, is_over}
 use Rattle.uc_acts.specs.Queues.{cluster_count, processor_count, first_ended, all_ticks}
@@ -14,7 +14,7 @@ pub record AreCounts (c : Counts) (opts : Options) (j : Journal) : Type 0 where
   pub tasks : c.tasks ≡ task_count j
   pub clusters : c.clusters ≡ cluster_count j
   pub processors : c.processors ≡ processor_count opts j
-  pub bytes_read : c.bytes_read ≡ bytes_used j
+  pub bytes_read : c.bytes_read ≡ pos (bytes_used j)
   pub has_failed : c.has_failed ≡ has_failed j
   pub ticks_left : c.ticks_left ≡ opts.ticks - all_ticks j
   pub first_ended : c.first_ended ≡ first_ended j

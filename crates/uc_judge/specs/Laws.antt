@@ -10,17 +10,17 @@ use Rattle.uc_judge.specs.declared.asks.Change.{Change}
 use Rattle.uc_judge.specs.declared.asks.Change.TheVariants as change
 use Rattle.uc_judge.specs.declared.verdict.Verdict.{Verdict}
 use Rattle.uc_judge.specs.Changes.{changes}
-use Rattle.uc_judge.specs.Runs.{Cause, May, Runs, IsVerdict}
+use Rattle.uc_judge.specs.Runs.{written, Cause, May, Runs, IsVerdict}
 
 -- acts that lead from a journal and its tasks to another
 pub data Leads {W : Type 0} (cause : Cause W) (opts : Options) : Journal → W → Journal → W → Type 0 where
   there : {j : Journal} {w : W} → Leads cause opts j w j w
   onward : {j : Journal} {w : W} {a : List Entry} {x : W} {k : Journal} {u : W} → is_over j ≡ false → May cause opts j w a x → Leads cause opts (j ++ a) x k u → Leads cause opts j w k u
 
--- a run that goes on is passed by each run whose journal begins as its journal
+-- a run that goes on is passed by each run whose journal begins as its journal, with lines or without
 abbrev pub LawCut : {W : Type 0} → Cause W → Type 0
 LawCut {W} cause =
-    (opts other : Options) (j : Journal) (w : W) (rest : List Entry) (u : W) → Runs cause opts j w → is_over j ≡ false → Runs cause other (j ++ rest) u → (opts ≡ other) × Leads cause opts j w (j ++ rest) u
+    (opts other : Options) (j : Journal) (w : W) (k : Journal) (u : W) (rest : List Entry) → Runs cause opts j w → is_over j ≡ false → Runs cause other k u → written cause.lines k ≡ written cause.lines j ++ rest → (opts ≡ other) × Leads cause opts j w k u
 
 -- the answer of one journal
 abbrev pub LawVerdict : {W : Type 0} → Cause W → Type 0

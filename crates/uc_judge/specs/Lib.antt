@@ -13,3 +13,7 @@ pub mod PendingEvents
 pub mod Offers
 pub mod ClauseStacks
 pub mod ProcessorRows
+pub mod Actors
+pub mod Ledgers
+pub mod Compared
+pub mod Narrow

@@ -1,5 +1,5 @@
 -- Who is ready and who runs, told by lists that a judge keeps.
-use Rattle.std.specs.Prelude.{◌≡◌, ℕ, ◌==◌, ◌&&◌, List, [], ◌∷◌, Option, Some, None, map, unwrap_or}
+use Rattle.std.specs.Prelude.{◌≡◌, ℕ, ◌==◌, ◌&&◌, List, [], ◌∷◌, Option, Some, None, map, unwrap_or, Bool, false}
 use Rattle.std.specs.List.{filter}
 use Rattle.std.specs.Ordering.{nat_cmp}
 use Rattle.std.specs.BTreeMap.{get}
@@ -36,6 +36,11 @@ of_number k rs = map (λ r. r.0) (filter (λ r. r.1 == k) rs)
 abbrev pub only_of : {A : Type 0} → List A → Option A
 only_of (x ∷ []) = Some x
 only_of _ = None
+
+-- whether task t is the first of a list
+abbrev pub is_first : ℕ → List ℕ → Bool
+is_first t [] = false
+is_first t (x ∷ xs) = x == t
 
 -- the cluster that a task is told to be on
 abbrev pub cluster_told : Schedule → ℕ → ℕ

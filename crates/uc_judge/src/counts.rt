@@ -1,7 +1,7 @@
 // The numbers of a journal: what is made, what is read, and how far it has come.
 
-ghost use Rattle.std.specs.Prelude.{◌≡◌, ◌++◌, ◌∷◌, ◌<◌, ◌^◌, ◌||◌, [], ℕ, Bool, length};
-ghost use Rattle.uc_acts.specs.Journal.{Journal, is_ending};
+ghost use Rattle.std.specs.Prelude.{◌≡◌, ◌++◌, ◌∷◌, ◌<◌, ◌^◌, pos, ◌||◌, [], ℕ, Bool, length};
+ghost use Rattle.uc_acts.specs.Journal.{Journal, is_ending, number};
 ghost use Rattle.uc_acts.specs.Known.{is_make, is_spawn};
 ghost use Rattle.uc_acts.specs.Queues.{is_cluster, is_processor, ends_first};
 ghost use Rattle.uc_acts.specs.Reading.{used_by, fails_by};
@@ -9,7 +9,6 @@ ghost use Rattle.uc_acts.specs.Stations.{one_if};
 ghost use Rattle.uc_entry.specs.declared.entry.Options.{Options};
 ghost use Rattle.uc_judge.specs.Counted.{AreCounts};
 
-use crate::effects::number;
 use uc_entry::entry::{Entry, EntryKind, Options};
 
 /// The numbers of the entries that were added.
@@ -22,7 +21,7 @@ pub struct Counts {
     pub clusters: u64,
     pub processors: u64,
     /// Bytes of the input that the reads took.
-    pub bytes_read: u64,
+    pub bytes_read: i64,
     /// Whether a read has failed.
     pub has_failed: bool,
     /// Ticks up to the bound on those of all tasks.
@@ -130,13 +129,23 @@ fn ends_first(e: &Entry) -> bool
 }
 
 // The bytes that are read behind an entry.
-fn bytes_behind(e: &Entry, before: u64) -> u64
-    ensures { result ≡ used_by e.now.kind e.now before }
+fn bytes_behind(e: &Entry, before: i64) -> i64
+    ensures { (n : ℕ) → before ≡ pos n → result ≡ pos (used_by e.now.kind e.now n) }
 {
     match e.kind {
-        EntryKind::Read => number(e.d),
+        EntryKind::Read => natural(e.d),
         _ => before,
     }
+}
+
+// The number that a field holds.
+fn natural(field: i64) -> i64
+    ensures { result ≡ pos (number field) }
+{
+    if field < 0 {
+        return 0;
+    }
+    field
 }
 
 // Whether a read has failed behind an entry.
