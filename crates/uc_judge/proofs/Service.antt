@@ -1,5 +1,5 @@
 -- Which task a processor may be given.
-use Rattle.std.proofs.Common.{◌≡◌, ℕ, zero, suc, ◌+◌, ◌<◌, ◌==◌, ◌&&◌, ◌||◌, Bool, true, false, List, [], ◌∷◌, Option, Some, None, length, drop, get_or, refl, sym, ap, ◌∙◌, subst, arith}
+use Rattle.std.proofs.Common.{◌≡◌, ℕ, zero, suc, ◌+◌, ◌<◌, ◌==◌, ◌&&◌, ◌||◌, not, Bool, true, false, List, [], ◌∷◌, Option, Some, None, length, drop, get_or, refl, sym, ap, ◌∙◌, subst, arith}
 use Rattle.std.specs.Prelude.{is_some, slice_index_or}
 use Rattle.std.specs.List.{list_any, Contains}
 use Rattle.std.proofs.lemmas.Bool.{eqb-true, eq-eqb}
@@ -7,9 +7,10 @@ use Rattle.std.proofs.lemmas.List.{at_drop_more}
 use Rattle.uc_entry.specs.declared.entry.Options.{Options}
 use Rattle.uc_acts.specs.Answers.{first_of}
 use Rattle.uc_acts.specs.Journal.{Journal}
-use Rattle.uc_acts.specs.Queues.{ready, running, open_processors}
+use Rattle.uc_acts.specs.Queues.{is_nobody, ready, running, open_processors}
 use Rattle.uc_acts.specs.Serves.{Serves}
 use Rattle.uc_judge.specs.Scheduled.{is_first}
+use Rattle.uc_judge.specs.Serving.{ServesAny}
 
 clash : {A : Type 0} (b : Bool) → b ≡ true → b ≡ false → A
 clash true h g = cc
@@ -95,3 +96,28 @@ serves_not opts j p t h s =
 
 pub busy_not : (opts : Options) (j : Journal) (p t : ℕ) → is_some (first_of (running p j)) ≡ true → Serves opts j p t → ⊥
 busy_not opts j p t h s = clash (is_some (first_of (running p j))) h (ap (λ l. is_some (first_of l)) s.free)
+
+-- any processor, and any task
+
+abbrev pub waits_test : Journal → ℕ × ℕ → Bool
+waits_test j x = is_nobody (running x.0 j) && not (is_nobody (ready x.1 j))
+
+empty : {A : Type 0} (xs : List A) → is_nobody xs ≡ true → xs ≡ []
+empty [] h = refl
+empty (x ∷ xs) h = cc
+
+pub any_so : (opts : Options) (j : Journal) → list_any (waits_test j) (open_processors opts j) ≡ true → ServesAny opts j
+any_so opts j h =
+    let r = passing (waits_test j) (open_processors opts j) h in
+    let parts = both (is_nobody (running r.item.0 j)) (not (is_nobody (ready r.item.1 j))) r.passes in
+    queued r.item r.there (empty (running r.item.0 j) parts.0) (ready r.item.1 j) refl parts.1
+  where
+    queued : (x : ℕ × ℕ) → Contains (open_processors opts j) x → running x.0 j ≡ [] → (ts : List ℕ) → ready x.1 j ≡ ts → not (is_nobody ts) ≡ true → ServesAny opts j
+    queued x there free [] e g = cc
+    queued x there free (t ∷ ts) e g = record { processor = x.0; task = t; serves = record { cluster = x.1; later = ts; opened = there; free = free; queued = e } }
+
+pub any_not : (opts : Options) (j : Journal) → list_any (waits_test j) (open_processors opts j) ≡ false → ServesAny opts j → ⊥
+any_not opts j h a =
+    let s = a.serves in
+    let passes : waits_test j (a.processor, s.cluster) ≡ true = ap (λ l. is_nobody l && not (is_nobody (ready s.cluster j))) s.free ∙ ap (λ l. not (is_nobody l)) s.queued in
+    clash (list_any (waits_test j) (open_processors opts j)) (passes_in (waits_test j) (open_processors opts j) (a.processor, s.cluster) s.opened passes) h
