@@ -149,7 +149,8 @@ module _ (t : Table) (g : Sig) (sc : List Name) where
   -- how a member stands: a mutex member enters its object
   abbrev pub IsMethod : ℕ → ℕ → Standing → Type 0
   IsMethod number class st =
-      ((st ≡ tree.AsMember number) ⊎ (st ≡ tree.AsLiveMember number)) ⊎ ((k : ℕ) × (st ≡ tree.AsMutexMember k number) × (t.mutex class ≡ true))
+      ((st ≡ tree.AsMember number) ⊎ (st ≡ tree.AsLiveMember number)) ⊎
+      ((k : ℕ) × (st ≡ tree.AsMutexMember k number) × (t.mutex class ≡ true))
 
   -- the routine of a member, by its number, and its object
   pub record IsMember (p : Program) (i j : ℕ) (m : tree.Meant) : Type 0 where
@@ -166,12 +167,16 @@ module _ (t : Table) (g : Sig) (sc : List Name) where
   abbrev pub Agrees : Program → Entity → tree.Meant → Type 0
   Agrees p (entity.Value s) m = IsAsValue m.standing × ValuedBy m.standing m.expr
   Agrees p (entity.Place s) m =
-      (Yields t g sc m.expr (found_ty s) × (is_scalar_sort s ≡ true → ValuedBy m.standing m.expr)) × StandsAs t g s m.standing × IsOf p None s m.ty
+      (Yields t g sc m.expr (found_ty s) × (is_scalar_sort s ≡ true → ValuedBy m.standing m.expr)) ×
+      StandsAs t g s m.standing × IsOf p None s m.ty
   Agrees p (entity.Array s n) m =
-      Yields t g sc m.expr (row_ty (is_condition s) n s) × StandsBy t g (is_condition s) false m.standing × RowPlaced t (is_condition s) s × IsOf p (Some n) s m.ty
+      Yields t g sc m.expr (row_ty (is_condition s) n s) ×
+      StandsBy t g (is_condition s) false m.standing × RowPlaced t (is_condition s) s ×
+      IsOf p (Some n) s m.ty
   Agrees p (entity.Routine i) m = IsCalled p i m
   Agrees p (entity.Method i j inner path) m = IsMember p i j m
-  Agrees p (entity.Operation o) m = (m.standing ≡ AsCallOf (call_of o)) × Yields t g sc m.expr Num × InMutex t g
+  Agrees p (entity.Operation o) m = (m.standing ≡ AsCallOf (call_of o)) × Yields t g sc m.expr Num ×
+      InMutex t g
   Agrees p entity.Fail m = (m.standing ≡ tree.AsFail) × Fine t g sc m.expr
   Agrees p entity.Input m = (m.standing ≡ tree.AsInput) × Fine t g sc m.expr
   -- a main is not called, and a name of a class is no value: each gives something
@@ -187,16 +192,25 @@ module _ (t : Table) (g : Sig) (sc : List Name) where
   Alike p [] [] = Unit {0}
   Alike p [] (k ∷ ks) = ⊥
   Alike p (s ∷ ss) [] = ⊥
-  Alike p (s ∷ ss) (k ∷ ks) = ((s.name ≡ k.name) × AgreesIf p s.meant.entity (known_meant p k)) × Alike p ss ks
+  Alike p (s ∷ ss) (k ∷ ks) = ((s.name ≡ k.name) × AgreesIf p s.meant.entity (known_meant p k)) ×
+      Alike p ss ks
 
   -- the table tells the classes of the program; both look-ups of names agree: of locals, of other names, and of members of objects
   pub record Tied (env : Env) (class : Option ℕ) (routine : ℕ) (known : List LocalVariable) : Type 0 where
     pub refers : t.refers ≡ true
-    pub classes : (b : Base) (c : ℕ) (k : Kind) → sort_of env.program b ≡ Some (sort.Object c k) → t.mutex c ≡ is_mutex k
+    pub classes : (b : Base) (c : ℕ) (k : Kind) → sort_of env.program b ≡ Some (sort.Object c k) →
+        t.mutex c ≡ is_mutex k
     pub names : Alike env.program env.names known
-    pub outer : (name : List ℕ) → local_named env.names name ≡ None → AgreesIf env.program (meant_entity (named env name)) (tree.own_meant env.program class name)
-    pub member : (c : ℕ) (k : Kind) (name : List ℕ) (x : NameMeaning) (m : tree.Meant) → object_member env.program (sort.Object c k) name ≡ Some x → is_mutex_field_of (Some x) ≡ false → names_condition (Some x) ≡ false → Agrees env.program (entity.Place (sort.Object c k)) m → AgreesIf env.program (open_entity env.around.home x) (tree.object_member env.program (Some c) m.expr name)
+    pub outer : (name : List ℕ) → local_named env.names name ≡ None →
+        AgreesIf env.program (meant_entity (named env name)) (tree.own_meant env.program class name)
+    pub member : (c : ℕ) (k : Kind) (name : List ℕ) (x : NameMeaning) (m : tree.Meant) →
+        object_member env.program (sort.Object c k) name ≡ Some x →
+        is_mutex_field_of (Some x) ≡ false → names_condition (Some x) ≡ false →
+        Agrees env.program (entity.Place (sort.Object c k)) m →
+        AgreesIf env.program (open_entity env.around.home x) (tree.object_member env.program (Some c) m.expr name)
 
   -- what stands for something is in order, where no field of a mutex object and no condition is named behind a `.`, as rules say
   abbrev pub LawAgrees : Type 0
-  LawAgrees = (env : Env) (class : Option ℕ) (routine : ℕ) (known : List LocalVariable) → Tied env class routine known → (e : expr.Expr) → Unbroken (visits env e) → AgreesIf env.program (entity_of env e) (meant (context env class routine known) e)
+  LawAgrees = (env : Env) (class : Option ℕ) (routine : ℕ) (known : List LocalVariable) →
+      Tied env class routine known → (e : expr.Expr) → Unbroken (visits env e) →
+      AgreesIf env.program (entity_of env e) (meant (context env class routine known) e)

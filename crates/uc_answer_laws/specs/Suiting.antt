@@ -56,7 +56,9 @@ asked_form t j = fold (then_form t) JustGo j
 
 abbrev pub LawSuiting : Type 0
 LawSuiting =
-    (opts : Options) (sites : List Site) (input : List ℕ) (j : Journal) → KernelRuns opts sites input j → is_over j ≡ false → (t : ℕ) (a : Answer) → answer_to sites t j ≡ Some a → IsForm (asked_form t j) a
+    (opts : Options) (sites : List Site) (input : List ℕ) (j : Journal) →
+    KernelRuns opts sites input j → is_over j ≡ false → (t : ℕ) (a : Answer) →
+    answer_to sites t j ≡ Some a → IsForm (asked_form t j) a
 
 -- the form that a request asks for
 abbrev pub form_of_request : Request → Form
@@ -79,4 +81,7 @@ pub record AsksFor (j a : List Entry) (t : ℕ) (r : Request) : Type 0 where
 -- an act of a run that goes on is of one request, and this is what its task has asked last
 abbrev pub LawAsking : Type 0
 LawAsking =
-    (opts : Options) (sites : List Site) (input : List ℕ) (j : Journal) (p t k : ℕ) (asked : Asked) → KernelRuns opts sites input j → MayAsk opts sites j p t k asked.request → is_over (j ++ act opts sites input j p t k asked) ≡ false → AsksFor j (act opts sites input j p t k asked) t asked.request
+    (opts : Options) (sites : List Site) (input : List ℕ) (j : Journal) (p t k : ℕ) (asked : Asked) →
+    KernelRuns opts sites input j → MayAsk opts sites j p t k asked.request →
+    is_over (j ++ act opts sites input j p t k asked) ≡ false →
+    AsksFor j (act opts sites input j p t k asked) t asked.request

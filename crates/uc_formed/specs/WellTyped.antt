@@ -34,11 +34,14 @@ Reaches p r o u = GoesOn (table_of p) (source_of p) (first_state (routine_of (so
 -- steps and ticks, with any answer that suits what it has asked, and with a hand in which each execution that may go on is in order.
 pub data IsTaskState (p : Program) : State → Type 0 where
   begun : (o : ℕ) → IsTaskState p (first_state (routine_of (source_of p) (source_of p).main) o)
-  spawned : {s u : State} (o n : ℕ) → IsTaskState p s → quiet (source_of p) s ≡ Asks (Spawn o) u → IsTaskState p (child_of (source_of p) n u)
+  spawned : {s u : State} (o n : ℕ) → IsTaskState p s → quiet (source_of p) s ≡ Asks (Spawn o) u →
+      IsTaskState p (child_of (source_of p) n u)
   steps : {s u : State} → IsTaskState p s → quiet (source_of p) s ≡ Goes u → IsTaskState p u
   ticks : {s u : State} → IsTaskState p s → quiet (source_of p) s ≡ Ticks u → IsTaskState p u
-  told : {s u : State} (q : Request) (a : Answer) → IsTaskState p s → quiet (source_of p) s ≡ Asks q u → Suits q a → IsTaskState p (answered (source_of p) a u)
-  drawn : {s : State} (hand : List (ℕ × Members)) → IsTaskState p s → Inhand (table_of p) hand → IsTaskState p (with_hand hand s)
+  told : {s u : State} (q : Request) (a : Answer) → IsTaskState p s →
+      quiet (source_of p) s ≡ Asks q u → Suits q a → IsTaskState p (answered (source_of p) a u)
+  drawn : {s : State} (hand : List (ℕ × Members)) → IsTaskState p s → Inhand (table_of p) hand →
+      IsTaskState p (with_hand hand s)
 
 -- What is read of bindings at each step on the way to a state is of its type.
 abbrev pub ReadsTo : (p : Program) (u : State) → IsTaskState p u → Type 0
@@ -57,7 +60,9 @@ pub record IsWellTyped (p : Program) : Type 0 where
   -- a task begins in order
   pub begins : (r o : ℕ) → BeginsTask p r → Typed (table_of p) [] (first_state (routine_of (source_of p) r) o)
   -- and all that it reaches is in order where what is read of bindings is of its type in all that it reaches, with any hand
-  pub reached : (r o : ℕ) → BeginsTask p r → ((u : State) → Reaches p r o u → ReadsIn (table_of p) u) → (u : State) → Reaches p r o u → Typed (table_of p) [] u
+  pub reached : (r o : ℕ) → BeginsTask p r →
+      ((u : State) → Reaches p r o u → ReadsIn (table_of p) u) → (u : State) → Reaches p r o u →
+      Typed (table_of p) [] u
   -- so is each state of each task, as far as what was read of bindings on the way to it is of its type
   pub states : (u : State) (i : IsTaskState p u) → ReadsTo p u i → Typed (table_of p) [] u
 

@@ -11,12 +11,12 @@ use Rattle.uc_judge.proofs.Fitted.{drop_of}
 splits : (a : List Entry) (i : ℕ) (d : Entry) → i < length a → a ≡ take i a ++ (get_or a i d ∷ drop (suc i) a)
 splits a i d lt = sym (take-append-drop i a) ∙ ap (λ l. take i a ++ l) (drop-cons a i d lt)
 
-takes_more : (a : List Entry) (i : ℕ) (d : Entry) → i < length a → take (suc i) a ≡ take i a ++ get_or a i d ∷ []
+pub takes_more : (a : List Entry) (i : ℕ) (d : Entry) → i < length a → take (suc i) a ≡ take i a ++ get_or a i d ∷ []
 takes_more [] i d lt = absurd (omega (arith, lt))
 takes_more (e ∷ a) zero d lt = refl
 takes_more (e ∷ a) (suc i) d lt = ap (λ l. e ∷ l) (takes_more a i d (omega (arith, lt)))
 
-takes_all : (a : List Entry) (i : ℕ) → length a ≤ i → take i a ≡ a
+pub takes_all : (a : List Entry) (i : ℕ) → length a ≤ i → take i a ≡ a
 takes_all [] zero le = refl
 takes_all [] (suc i) le = refl
 takes_all (e ∷ a) zero le = absurd (omega (arith, le))

@@ -162,7 +162,7 @@ module _ (lines : Bool) (p t : ℕ) where
   limit_alone (z ∷ a) x y (begins h) e =
       absurd (no_both (is_limit z.kind) (ap (λ l. is_limit (first_of l).kind) (sym e)) h.2)
 
-some_entry : (p t : ℕ) (a : List Entry) → Begins p t a → 0 < length a
+pub some_entry : (p t : ℕ) (a : List Entry) → Begins p t a → 0 < length a
 some_entry p t a (limited h) = let l : length a ≡ 1 = ap length h in omega (arith, l)
 some_entry p t [] (begins h) = absurd h
 some_entry p t (e ∷ a) (begins h) = omega arith

@@ -20,3 +20,7 @@ pub mod Printing
 pub mod Signals
 pub mod SameEntry
 pub mod Service
+pub mod Steps
+pub mod ToldAll
+pub mod Beginnings
+pub mod Narrowing

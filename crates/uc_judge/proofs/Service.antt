@@ -1,14 +1,15 @@
 -- Which task a processor may be given.
-use Rattle.std.proofs.Common.{◌≡◌, ℕ, zero, suc, ◌+◌, ◌<◌, ◌==◌, ◌&&◌, ◌||◌, Bool, true, false, List, [], ◌∷◌, Some, None, length, drop, get_or, refl, sym, ap, ◌∙◌, subst, arith}
-use Rattle.std.specs.Prelude.{is_some}
+use Rattle.std.proofs.Common.{◌≡◌, ℕ, zero, suc, ◌+◌, ◌<◌, ◌==◌, ◌&&◌, ◌||◌, not, Bool, true, false, List, [], ◌∷◌, Option, Some, None, length, drop, get_or, refl, sym, ap, ◌∙◌, subst, arith}
+use Rattle.std.specs.Prelude.{is_some, slice_index_or}
 use Rattle.std.specs.List.{list_any, Contains}
 use Rattle.std.proofs.lemmas.Bool.{eqb-true, eq-eqb}
 use Rattle.std.proofs.lemmas.List.{at_drop_more}
 use Rattle.uc_entry.specs.declared.entry.Options.{Options}
 use Rattle.uc_acts.specs.Answers.{first_of}
 use Rattle.uc_acts.specs.Journal.{Journal}
-use Rattle.uc_acts.specs.Queues.{ready, running, open_processors}
+use Rattle.uc_acts.specs.Queues.{is_nobody, ready, running, open_processors}
 use Rattle.uc_acts.specs.Serves.{Serves}
+use Rattle.uc_acts.specs.Laws.{IsServed}
 use Rattle.uc_judge.specs.Scheduled.{is_first}
 
 clash : {A : Type 0} (b : Bool) → b ≡ true → b ≡ false → A
@@ -95,3 +96,46 @@ serves_not opts j p t h s =
 
 pub busy_not : (opts : Options) (j : Journal) (p t : ℕ) → is_some (first_of (running p j)) ≡ true → Serves opts j p t → ⊥
 busy_not opts j p t h s = clash (is_some (first_of (running p j))) h (ap (λ l. is_some (first_of l)) s.free)
+
+-- any processor, and any task
+
+pub busy_waits : {A : Type 0} (o : Option A) (xs : List A) (b : Bool) → is_some o ≡ true → o ≡ first_of xs → false ≡ (is_nobody xs && b)
+busy_waits o [] b h e = absurd (clash_some (sym h ∙ ap is_some e))
+  where
+    clash_some : true ≡ false → ⊥
+    clash_some e = cc
+busy_waits o (x ∷ xs) b h e = refl
+
+some_waits : {A : Type 0} (o : Option A) (xs : List A) → o ≡ first_of xs → is_some o ≡ not (is_nobody xs)
+some_waits o [] e = ap is_some e
+some_waits o (x ∷ xs) e = ap is_some e
+
+pub free_waits : {A : Type 0} (o n : Option A) (xs ys : List A) → is_some o ≡ false → o ≡ first_of xs → n ≡ first_of ys → is_some n ≡ (is_nobody xs && not (is_nobody ys))
+free_waits o n [] ys h e f = some_waits n ys f
+free_waits o n (x ∷ xs) ys h e f = absurd (clash_some (sym h ∙ ap is_some e))
+  where
+    clash_some : false ≡ true → ⊥
+    clash_some e = cc
+
+abbrev pub waits_test : Journal → ℕ × ℕ → Bool
+waits_test j x = is_nobody (running x.0 j) && not (is_nobody (ready x.1 j))
+
+empty : {A : Type 0} (xs : List A) → is_nobody xs ≡ true → xs ≡ []
+empty [] h = refl
+empty (x ∷ xs) h = cc
+
+pub any_so : (opts : Options) (j : Journal) → list_any (waits_test j) (open_processors opts j) ≡ true → IsServed opts j
+any_so opts j h =
+    let r = passing (waits_test j) (open_processors opts j) h in
+    let parts = both (is_nobody (running r.item.0 j)) (not (is_nobody (ready r.item.1 j))) r.passes in
+    queued r.item r.there (empty (running r.item.0 j) parts.0) (ready r.item.1 j) refl parts.1
+  where
+    queued : (x : ℕ × ℕ) → Contains (open_processors opts j) x → running x.0 j ≡ [] → (ts : List ℕ) → ready x.1 j ≡ ts → not (is_nobody ts) ≡ true → IsServed opts j
+    queued x there free [] e g = cc
+    queued x there free (t ∷ ts) e g = record { processor = x.0; task = t; serves = record { cluster = x.1; later = ts; opened = there; free = free; queued = e } }
+
+pub any_not : (opts : Options) (j : Journal) → list_any (waits_test j) (open_processors opts j) ≡ false → IsServed opts j → ⊥
+any_not opts j h a =
+    let s = a.serves in
+    let passes : waits_test j (a.processor, s.cluster) ≡ true = ap (λ l. is_nobody l && not (is_nobody (ready s.cluster j))) s.free ∙ ap (λ l. not (is_nobody l)) s.queued in
+    clash (list_any (waits_test j) (open_processors opts j)) (passes_in (waits_test j) (open_processors opts j) (a.processor, s.cluster) s.opened passes) h

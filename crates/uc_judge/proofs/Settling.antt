@@ -1,5 +1,6 @@
 -- The entries that an act adds, up to the first that destroys what is in use.
 use Rattle.std.proofs.Common.{◌≡◌, ◌<◌, ◌^◌, true, false, cond, List, [], ◌∷◌, ◌++◌, refl, sym, ap, ◌∙◌, subst, length, append_assoc, append-nil}
+use Rattle.std.specs.List.{All}
 use Rattle.uc_tree.specs.Programs.{Site}
 use Rattle.uc_entry.specs.declared.entry.Entry.{Entry}
 use Rattle.uc_entry.specs.declared.entry.EntryKind.{EntryKind}
@@ -15,6 +16,7 @@ use Rattle.uc_judge.specs.Opened.{AreAccepts}
 use Rattle.uc_judge.specs.PendingEvents.{ArePending}
 use Rattle.uc_judge.specs.ClauseStacks.{AreStacks}
 use Rattle.uc_judge.specs.ProcessorRows.{AreProcessors}
+use Rattle.uc_judge.specs.Narrow.{IsTold}
 use Rattle.uc_judge.specs.declared.actor.Actor.{Actor}
 use Rattle.uc_judge.specs.declared.ledger.Ledger.{Ledger}
 use Rattle.uc_judge.specs.Ledgers.{IsKept, IsLedger, Adds, Settles, busy_fault, is_safe}
@@ -35,9 +37,9 @@ settled_off f j e a h =
     ap (λ b. cond b (record f { ticks = e.ticks; line = e.line } ∷ []) (e ∷ settled f (j ++ e ∷ []) a)) h
 
 -- a ledger, part by part
-pub ledger_of : {s : Ledger} {sites : List Site} (j : Journal) → s.entries.items ≡ j → s.opts.processors < 2 ^ 32 → AreViewsOf s.views j → IsSchedule s.schedule j → (length j < 2 ^ 32 → AreCounts s.counts s.opts j) → AreTasks s.tasks s.opts j → AreAccepts s.accepts j → ArePending s.pending j → AreStacks s.stacks sites j → AreProcessors s.processors s.opts j → IsLedger s sites
-ledger_of {s} {sites} j e few views schedule counts tasks accepts pending stacks processors =
-    subst (λ l. IsKept s sites l) (sym e) (record { few = few; views = views; schedule = schedule; counts = counts; tasks = tasks; accepts = accepts; pending = pending; stacks = stacks; processors = processors })
+pub ledger_of : {s : Ledger} {sites : List Site} (j : Journal) → s.entries.items ≡ j → All IsTold j → s.opts.processors < 2 ^ 32 → AreViewsOf s.views j → IsSchedule s.schedule j → (length j < 2 ^ 32 → AreCounts s.counts s.opts j) → AreTasks s.tasks s.opts j → AreAccepts s.accepts j → ArePending s.pending j → AreStacks s.stacks sites j → AreProcessors s.processors s.opts j → IsLedger s sites
+ledger_of {s} {sites} j e told few views schedule counts tasks accepts pending stacks processors =
+    subst (λ l. IsKept s sites l) (sym e) (record { told = told; few = few; views = views; schedule = schedule; counts = counts; tasks = tasks; accepts = accepts; pending = pending; stacks = stacks; processors = processors })
 
 pub adds_of : {old new : Ledger} {sites : List Site} {a : List Entry} → new.entries.items ≡ old.entries.items ++ a → new.opts ≡ old.opts → IsLedger new sites → Adds old new sites a
 adds_of e o l = record { entries = e; opts = o; ledger = l }

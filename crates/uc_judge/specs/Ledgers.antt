@@ -1,5 +1,6 @@
 -- All that a judge keeps of the journal that it makes.
 use Rattle.std.specs.Prelude.{◌≡◌, ◌<◌, ◌^◌, ℕ, Bool, true, false, List, ◌++◌, length}
+use Rattle.std.specs.List.{All}
 use Rattle.uc_tree.specs.Programs.{Site}
 use Rattle.uc_entry.specs.declared.entry.Entry.{Entry}
 use Rattle.uc_entry.specs.declared.entry.EntryKind.{EntryKind}
@@ -21,9 +22,11 @@ use Rattle.uc_judge.specs.Opened.{AreAccepts}
 use Rattle.uc_judge.specs.PendingEvents.{ArePending}
 use Rattle.uc_judge.specs.ClauseStacks.{AreStacks}
 use Rattle.uc_judge.specs.ProcessorRows.{AreProcessors}
+use Rattle.uc_judge.specs.Narrow.{IsTold}
 
 -- what is kept is of a journal of a program with these accept statements
 pub record IsKept (s : Ledger) (sites : List Site) (j : Journal) : Type 0 where
+  pub told : All IsTold j
   pub few : s.opts.processors < 2 ^ 32
   pub views : AreViewsOf s.views j
   pub schedule : IsSchedule s.schedule j
@@ -57,10 +60,11 @@ abbrev pub Takes : Ledger → Ledger → List Site → List ℕ → Actor → Re
 Takes old new sites input a r =
     Settles old new sites a (row old.opts sites input old.entries.items a.processor a.task (cost_of a) a.line r)
 
--- an entry that is no admission and no destruction
+-- an entry that destroys nothing, and tells neither a clause nor an event
 abbrev pub is_safe : EntryKind → Bool
 is_safe kind.Admit = false
 is_safe kind.Gone = false
+is_safe kind.Poll = false
 is_safe _ = true
 
 -- what a task asks in its line

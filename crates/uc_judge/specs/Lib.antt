@@ -17,3 +17,4 @@ pub mod Actors
 pub mod Ledgers
 pub mod Compared
 pub mod Narrow
+pub mod Walks

@@ -96,7 +96,7 @@ impl Ledger {
     }
 
     // Adds an ending to the entries, and to nothing else.
-    fn stop(&mut self, actor: Actor, kind: EntryKind) -> Result<(), AllocError>
+    pub(crate) fn stop(&mut self, actor: Actor, kind: EntryKind) -> Result<(), AllocError>
         ensures entries { OnOk result (self.new.entries.items ≡ self.old.entries.items ++ entry kind actor.processor actor.task 0 0 (pos 0) (pos 0) ∷ []) }
         ensures opts { OnOk result (self.new.opts ≡ self.old.opts) }
     {

@@ -8,6 +8,7 @@ ghost use Rattle.uc_acts.specs.Journal.{entry, asking, begin};
 ghost use Rattle.uc_acts.specs.Pending.{signed_64};
 ghost use Rattle.uc_acts.specs.Acts.{truth, accept_entry, admit_failed, push, fault, raise_entry, poll_entry, read_entry, dispatch};
 ghost use Rattle.uc_judge.specs.Actors.{cost_of, cost_at, IsRead};
+ghost use Rattle.uc_judge.specs.Narrow.{IsNarrow};
 
 use uc_acts::got::Got;
 use uc_entry::entry::{Entry, EntryKind, Options};
@@ -163,6 +164,7 @@ impl Actor {
     pub(crate) fn poll(self, mask: u64, event: Option<(u8, i64, i64)>) -> Entry
         ensures is { result ≡ poll_entry self.processor self.task (cost_of self) mask event }
         ensures fit { IsFit result }
+        ensures narrow { IsNarrow result.kind result }
     {
         let mut e = self.entry(EntryKind::Poll, 0, 0, signed(mask));
         match event {
@@ -234,6 +236,7 @@ impl Actor {
     pub(crate) fn admit(self, task: u32, object: u32, way: u8, clause: u8, failed: bool) -> Entry
         ensures is { result ≡ admit_failed self.processor task object way clause failed }
         ensures fit { IsFit result }
+        ensures narrow { IsNarrow result.kind result }
     {
         Entry {
             kind: EntryKind::Admit,
@@ -253,6 +256,7 @@ impl Actor {
     pub(crate) fn push(self, task: u32, object: u32) -> Entry
         ensures is { result ≡ push self.processor task object }
         ensures fit { IsFit result }
+        ensures narrow { IsNarrow result.kind result }
     {
         Entry {
             kind: EntryKind::Push,
@@ -290,6 +294,7 @@ fn truth(holds: bool) -> i64
 pub fn dispatch(processor: u8, task: u32) -> Entry
     ensures is { result ≡ dispatch processor task }
     ensures fit { IsFit result }
+    ensures narrow { IsNarrow result.kind result }
 {
     let actor = Actor {
         processor,
@@ -305,6 +310,7 @@ pub fn begin(opts: &Options) -> Entry
     requires { opts.now.ticks ≤ TICKS_MAX }
     ensures is { result ≡ begin opts.now }
     ensures fit { IsFit result }
+    ensures narrow { IsNarrow result.kind result }
 {
     Entry {
         kind: EntryKind::Begin,

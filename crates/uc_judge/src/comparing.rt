@@ -30,7 +30,7 @@ pub fn first_other(made: &[Entry], journal: &[Entry], lines: bool) -> Option<usi
 }
 
 /// Whether an entry is written as another one.
-fn is_written(e: &Entry, entry: &Entry, lines: bool) -> bool
+pub(crate) fn is_written(e: &Entry, entry: &Entry, lines: bool) -> bool
     ensures same { result ≡ true → entry.now ≡ lined lines e.now }
     ensures other { result ≡ false → entry.now ≡ lined lines e.now → ⊥ }
 {

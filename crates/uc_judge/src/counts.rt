@@ -105,7 +105,7 @@ fn is_processor(kind: EntryKind) -> bool
 }
 
 // Whether an entry is an ending.
-fn is_ending(kind: EntryKind) -> bool
+pub(crate) fn is_ending(kind: EntryKind) -> bool
     ensures { result ≡ is_ending kind }
 {
     match kind {

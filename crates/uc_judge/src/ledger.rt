@@ -8,6 +8,7 @@ ghost use Rattle.uc_acts.specs.Queues.{is_in_use};
 ghost use Rattle.uc_acts.specs.Acts.{verdict};
 ghost use Rattle.uc_acts.specs.Journal.{is_ending};
 ghost use Rattle.uc_judge.specs.Ledgers.{IsLedger, Adds, Settles};
+ghost use Rattle.uc_judge.specs.Narrow.{IsNarrow};
 
 use crate::accepts::Accepts;
 use crate::actor::Actor;
@@ -64,6 +65,7 @@ impl Ledger {
     /// Adds the next entry. After want of memory it is spent.
     pub fn add(&mut self, sites: &[Site], e: Entry) -> Result<(), AllocError>
         requires fit { IsFit e }
+        requires narrow { IsNarrow e.kind e }
         requires ledger { IsLedger self.old sites.now }
         ensures { OnOk result (Adds self.old self.new sites.now (e ∷ [])) }
     {
@@ -80,8 +82,10 @@ impl Ledger {
     }
 
     /// Adds the next entry of an act, or the fault in its place where it destroys what is in use. Whether the act goes on.
+    #[tactic(auto, using(crate::proofs::Narrowing::narrowing))]
     pub(crate) fn put(&mut self, sites: &[Site], actor: Actor, e: Entry) -> Result<bool, AllocError>
         requires fit { IsFit e }
+        requires narrow { IsNarrow e.kind e }
         requires ledger { IsLedger self.old sites.now }
         ensures settles { OnOk result (Settles self.old self.new sites.now actor (e ∷ [])) }
         ensures going { IfOk result (λ going. going ≡ not (destroys_busy self.old.entries.items e.kind e)) }

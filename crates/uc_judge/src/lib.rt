@@ -9,6 +9,7 @@ pub mod busy;
 pub mod comparing;
 pub mod counts;
 mod effects;
+pub mod judging;
 pub mod laws;
 pub mod ledger;
 pub mod offers;

@@ -77,6 +77,16 @@ impl Schedule {
         first_of_number(&self.running, u64::from(processor))
     }
 
+    /// Whether a processor has no task, and the queue of a cluster has one.
+    pub fn waits_for(&self, processor: u32, cluster: u32) -> bool
+        ensures { (j : Journal) → IsSchedule self.now j → result ≡ (is_nobody (running processor j) && not (is_nobody (ready cluster j))) }
+    {
+        if first_of_number(&self.running, u64::from(processor)).is_some() {
+            return false;
+        }
+        first_of_number(&self.ready, u64::from(cluster)).is_some()
+    }
+
     /// Who runs on a processor, where just one task does.
     pub fn only_running(&self, processor: u8) -> Option<u32>
         ensures { (j : Journal) → IsSchedule self.now j → result ≡ only_of (running processor j) }

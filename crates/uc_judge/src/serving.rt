@@ -1,10 +1,11 @@
 // Which task a processor may be given.
 
-ghost use Rattle.std.specs.Prelude.{◌≡◌, ◌==◌, ◌&&◌, List, true, false};
+ghost use Rattle.std.specs.Prelude.{◌≡◌, ◌==◌, ◌&&◌, List, true, false, not};
 ghost use Rattle.std.specs.List.{list_any};
 ghost use Rattle.uc_tree.specs.Programs.{Site};
 ghost use Rattle.uc_acts.specs.Journal.{Journal};
-ghost use Rattle.uc_acts.specs.Queues.{ready};
+ghost use Rattle.uc_acts.specs.Laws.{IsServed};
+ghost use Rattle.uc_acts.specs.Queues.{is_nobody, ready, running};
 ghost use Rattle.uc_acts.specs.Serves.{Serves};
 ghost use Rattle.uc_judge.specs.Scheduled.{IsSchedule, is_first};
 ghost use Rattle.uc_judge.specs.Ledgers.{IsLedger};
@@ -28,6 +29,26 @@ impl Ledger {
             task,
         )
     }
+
+    /// Whether any processor may be given any task.
+    pub(crate) fn serves_any(&self) -> bool
+        ensures yes { result ≡ true → (sites : List Site) → IsLedger self.now sites → IsServed self.now.opts self.now.entries.items }
+        ensures no { result ≡ false → (sites : List Site) → IsLedger self.now sites → IsServed self.now.opts self.now.entries.items → ⊥ }
+    {
+        any_waits(&self.schedule, self.processors.open())
+    }
+}
+
+// Whether one of some processors has no task, and its cluster's queue has one.
+fn any_waits(schedule: &Schedule, processors: &[(u32, u32)]) -> bool
+    ensures { (j : Journal) → IsSchedule schedule.now j → result ≡ list_any (λ x. is_nobody (running x.0 j) && not (is_nobody (ready x.1 j))) processors.now }
+{
+    for row in processors {
+        if schedule.waits_for(row.0, row.1) {
+            return true;
+        }
+    }
+    false
 }
 
 // Whether one of some processors has this number, and a task is the first of its cluster's queue.

@@ -16,6 +16,7 @@ ghost use Rattle.uc_judge.specs.Actors.{cost_of};
 ghost use Rattle.uc_judge.specs.Asking.{IsWhole};
 ghost use Rattle.uc_judge.specs.Opened.{opened_of};
 ghost use Rattle.uc_judge.specs.Ledgers.{IsLedger, Settles, Takes, is_safe};
+ghost use Rattle.uc_judge.specs.Narrow.{IsNarrow};
 
 use crate::accepts::OpenAccept;
 use crate::actor::Actor;
@@ -99,6 +100,7 @@ impl Ledger {
     }
 
     // Adds one entry that destroys nothing.
+    #[tactic(auto, using(crate::proofs::Narrowing::narrowing))]
     fn one(&mut self, sites: &[Site], actor: Actor, e: Entry) -> Result<(), AllocError>
         requires fit { IsFit e }
         requires ledger { IsLedger self.old sites.now }
@@ -110,9 +112,11 @@ impl Ledger {
     }
 
     // Adds an entry that destroys nothing, and one behind it.
+    #[tactic(auto, using(crate::proofs::Narrowing::narrowing))]
     fn pair(&mut self, sites: &[Site], actor: Actor, e: Entry, f: Entry) -> Result<(), AllocError>
         requires fit { IsFit e }
         requires fit_behind { IsFit f }
+        requires narrow_behind { IsNarrow f.kind f }
         requires ledger { IsLedger self.old sites.now }
         requires safe { is_safe e.kind ≡ true }
         ensures { OnOk result (Settles self.old self.new sites.now actor (e ∷ f ∷ [])) }
@@ -132,6 +136,7 @@ impl Ledger {
     }
 
     // Adds the entry by which a task goes out of an object, and the admission of whoever is next there.
+    #[tactic(auto, using(crate::proofs::Narrowing::narrowing))]
     fn go_out(&mut self, sites: &[Site], actor: Actor, e: Entry) -> Result<(), AllocError>
         requires fit { IsFit e }
         requires ledger { IsLedger self.old sites.now }
@@ -226,6 +231,7 @@ impl Ledger {
         Ok(())
     }
 
+    #[tactic(auto, using(crate::proofs::Narrowing::narrowing))]
     fn call(
         &mut self,
         sites: &[Site],
@@ -373,6 +379,7 @@ impl Ledger {
         }
     }
 
+    #[tactic(auto, using(crate::proofs::Narrowing::narrowing))]
     fn signal(
         &mut self,
         sites: &[Site],
@@ -498,10 +505,11 @@ impl Ledger {
         ensures { OnOk result (Takes self.old self.new sites.now [] actor (ask.Poll mask)) }
     {
         let event = self.pending.oldest_in(mask, actor.task);
-        self.one(sites, actor, actor.poll(mask, event))?;
+        let _going = self.put(sites, actor, actor.poll(mask, event))?;
         Ok(())
     }
 
+    #[tactic(auto, using(crate::proofs::Narrowing::narrowing))]
     fn print(
         &mut self,
         sites: &[Site],
@@ -624,6 +632,7 @@ impl Ledger {
         Ok(())
     }
 
+    #[tactic(auto, using(crate::proofs::Narrowing::narrowing))]
     fn gone(&mut self, sites: &[Site], actor: Actor, object: u32) -> Result<(), AllocError>
         requires ledger { IsLedger self.old sites.now }
         ensures { OnOk result (Takes self.old self.new sites.now [] actor (ask.Gone object)) }

@@ -8,8 +8,8 @@ ghost use Rattle.uc_acts.specs.Known.{owner};
 ghost use Rattle.uc_entry.specs.declared.request.Request.TheVariants as ask;
 ghost use Rattle.uc_kernel_core.specs.Mirrors.{Appended, MayAct, rows};
 
-use crate::book::KernelCore;
 use crate::entries::{Actor, fault_entry, object_entry};
+use crate::kernel_core::KernelCore;
 use std::alloc::AllocError;
 use uc_entry::entry::EntryKind;
 use uc_entry::fault::RunFault;
@@ -21,7 +21,6 @@ impl KernelCore {
         requires may { MayAct self.old who.processor who.task }
         ensures { Appended self.old self.new (fault who.processor who.task (cost who.ticks who.line) (fault_number what) who.line ∷ []) }
     {
-        self.facts(who.processor, who.task);
         self.put_ending(fault_entry(who, what.number()));
     }
 
@@ -31,7 +30,6 @@ impl KernelCore {
         ensures ok { OnOk result (Appended self.old self.new (rows self.old who.processor who.task who.ticks who.line (ask.Make class))) }
         ensures err { OnErr result (self.new ≡ self.old) }
     {
-        self.facts(who.processor, who.task);
         if self.inside_marks.len() >= OBJECTS as usize {
             self.too_many(who, RunFault::TooManyObjects);
             return Ok(());
@@ -43,7 +41,7 @@ impl KernelCore {
         self.entries.add_object(who.task)?;
         self.owners.push_reserved(None);
         self.inside_marks.push_reserved(false);
-        self.told
+        self.journal
             .push(object_entry(EntryKind::Make, who, object, class));
         Ok(())
     }
@@ -56,7 +54,6 @@ impl KernelCore {
         ensures ok { OnOk result (Appended self.old self.new (rows self.old who.processor who.task who.ticks who.line (ask.Spawn object))) }
         ensures err { OnErr result (self.new ≡ self.old) }
     {
-        self.facts(who.processor, who.task);
         if self.events.count() >= TASKS as usize {
             self.too_many(who, RunFault::TooManyTasks);
             return Ok(());
@@ -65,7 +62,7 @@ impl KernelCore {
         self.conditions.reserve(child + 1, 0)?;
         self.entries.reserve(child + 1)?;
         self.events.reserve(child + 1)?;
-        self.told
+        self.journal
             .push(object_entry(EntryKind::Spawn, who, object, child));
         self.entries.hand_on(object, child);
         self.clusters.add_task(child, who.task);

@@ -383,11 +383,11 @@ impl<'a> ProgramNames<'a> {
         self.sizes
     }
 
-    /// Each class fits: none has itself in its fields.
-    pub fn fit(&self)
-        ensures { FitClasses self.now }
+    /// The cells of an object of the class with this place; 0 where there is no such class.
+    pub fn cells_of_class(&self, class: usize) -> u32
+        ensures { result ≡ class_cells self.now class }
     {
-        let _ = &self.sizes;
+        cells_in(self.sizes, class)
     }
 
     /// What a declaration of this base makes, if it is none of scalars, references or conditions.

@@ -5,3 +5,4 @@ pub mod Worlds
 pub mod Others
 pub mod Through
 pub mod ByHandLemmas
+pub mod NamedWorlds

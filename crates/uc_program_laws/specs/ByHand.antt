@@ -35,7 +35,8 @@ FitsByHand opts sites j t hand (ask.Signal o c) = IsInHand hand o
 FitsByHand opts sites j t hand (ask.SignalBlock o c) = IsInHand hand o
 FitsByHand opts sites j t hand (ask.Empty o c) = IsInHand hand o
 FitsByHand opts sites j t hand (ask.Front o c) = IsInHand hand o
-FitsByHand opts sites j t hand (ask.Raise o event x y) = IsMade o j × (length (owner o j) ≡ 1) × (event < EVENTS)
+FitsByHand opts sites j t hand (ask.Raise o event x y) = IsMade o j × (length (owner o j) ≡ 1) ×
+    (event < EVENTS)
 FitsByHand opts sites j t hand (ask.ClusterEnd c) = c < cluster_count j
 FitsByHand opts sites j t hand (ask.Processor c) = c < cluster_count j
 FitsByHand opts sites j t hand (ask.ProcessorEnd q) = q < processor_count opts j
@@ -47,9 +48,13 @@ FitsByHand opts sites j t hand r = Unit {0}
 -- so it is of what a task of the program asks, as long as all that was asked before fits
 abbrev pub AsksByHand : Source → List ℕ → Options → Type 0
 AsksByHand source input opts =
-    (j : Journal) (w : World) (r : Runs source input opts j w) → RunFits source input opts j w r → is_over j ≡ false → (p t n : ℕ) (s : State) (asked : Asked) → AsksIn source opts j w p t n s asked → FitsByHand opts source.sites j t (keys s.env.hand) asked.request
+    (j : Journal) (w : World) (r : Runs source input opts j w) → RunFits source input opts j w r →
+    is_over j ≡ false → (p t n : ℕ) (s : State) (asked : Asked) →
+    AsksIn source opts j w p t n s asked →
+    FitsByHand opts source.sites j t (keys s.env.hand) asked.request
 
 -- then all that it asks fits
 abbrev pub LawByHand : Type 0
 LawByHand =
-    (source : Source) (input : List ℕ) (opts : Options) → InRange opts → AsksByHand source input opts → Reentry source input opts
+    (source : Source) (input : List ℕ) (opts : Options) → InRange opts →
+    AsksByHand source input opts → Reentry source input opts

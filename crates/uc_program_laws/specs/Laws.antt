@@ -22,6 +22,8 @@ use Rattle.uc_meaning.specs.Runs.{World, Runs, AsksIn, drawn}
 use Rattle.uc_meaning.specs.Cuts.{Cut, Reentry}
 use Rattle.uc_step_laws.specs.Hands.{keys, HasForm}
 use Rattle.uc_program_laws.specs.Fitting.{RunFits, RunEarly}
+use Rattle.uc_site_laws.specs.Named.{NamedSource}
+use Rattle.uc_site_laws.specs.Naming.{NamesKnown}
 
 -- of any run of a kernel
 
@@ -39,7 +41,8 @@ pub record IsOn (p : ℕ) (e : Entry) : Type 0 where
 -- each entry of an act names the processor of its task, and gives none
 abbrev pub LawProcessor : Type 0
 LawProcessor =
-    (opts : Options) (sites : List Site) (input : List ℕ) (j : Journal) (p t k : ℕ) (asked : Asked) → Each (IsOn p) (act opts sites input j p t k asked)
+    (opts : Options) (sites : List Site) (input : List ℕ) (j : Journal) (p t k : ℕ) (asked : Asked) →
+    Each (IsOn p) (act opts sites input j p t k asked)
 
 -- who runs has a tick left
 abbrev pub AllLeft : Options → Journal → Type 0
@@ -48,12 +51,16 @@ AllLeft opts j = (p t : ℕ) → running p j ≡ t ∷ [] → 1 ≤ left opts j 
 -- so it is where each act came early enough
 abbrev pub LawLeft : Type 0
 LawLeft =
-    (opts : Options) (sites : List Site) (input : List ℕ) (j : Journal) → InRange opts → (r : KernelRuns opts sites input j) → RunEarly opts sites input j r → is_over j ≡ false → AllLeft opts j
+    (opts : Options) (sites : List Site) (input : List ℕ) (j : Journal) → InRange opts →
+    (r : KernelRuns opts sites input j) → RunEarly opts sites input j r → is_over j ≡ false →
+    AllLeft opts j
 
 -- who runs has not ended
 abbrev pub LawAlive : Type 0
 LawAlive =
-    (opts : Options) (sites : List Site) (input : List ℕ) (j : Journal) → KernelRuns opts sites input j → is_over j ≡ false → (p t : ℕ) → running p j ≡ t ∷ [] → has_ended t j ≡ false
+    (opts : Options) (sites : List Site) (input : List ℕ) (j : Journal) →
+    KernelRuns opts sites input j → is_over j ≡ false → (p t : ℕ) → running p j ≡ t ∷ [] →
+    has_ended t j ≡ false
 
 -- a task that has not ended by an act behind which the run goes on asked neither its end nor a fault
 pub record AsksToGoOn (asked : Asked) : Type 0 where
@@ -62,7 +69,9 @@ pub record AsksToGoOn (asked : Asked) : Type 0 where
 
 abbrev pub LawEnds : Type 0
 LawEnds =
-    (opts : Options) (sites : List Site) (input : List ℕ) (j : Journal) (p t k : ℕ) (asked : Asked) → is_over (j ++ act opts sites input j p t k asked) ≡ false → has_ended t (j ++ act opts sites input j p t k asked) ≡ false → AsksToGoOn asked
+    (opts : Options) (sites : List Site) (input : List ℕ) (j : Journal) (p t k : ℕ) (asked : Asked) →
+    is_over (j ++ act opts sites input j p t k asked) ≡ false →
+    has_ended t (j ++ act opts sites input j p t k asked) ≡ false → AsksToGoOn asked
 
 -- of runs of programs
 
@@ -77,7 +86,10 @@ pub record AsksWith (source : Source) (opts : Options) (j : Journal) (t n : ℕ)
 
 abbrev pub LawHand : Type 0
 LawHand =
-    (source : Source) (input : List ℕ) (opts : Options) (j : Journal) (w : World) (r : Runs source input opts j w) → InRange opts → RunFits source input opts j w r → is_over j ≡ false → (p t n : ℕ) (s : State) (asked : Asked) → AsksIn source opts j w p t n s asked → AsksWith source opts j t n s asked
+    (source : Source) (input : List ℕ) (opts : Options) (j : Journal) (w : World) (r : Runs source input opts j w) →
+    InRange opts → RunFits source input opts j w r → is_over j ≡ false →
+    (p t n : ℕ) (s : State) (asked : Asked) → AsksIn source opts j w p t n s asked →
+    AsksWith source opts j t n s asked
 
 -- members that are at home somewhere
 pub record IsAtHome (x : Option Members) : Type 0 where
@@ -93,7 +105,8 @@ pub record Homes (j : Journal) (w : World) : Type 0 where
 
 abbrev pub LawHome : Type 0
 LawHome =
-    (source : Source) (input : List ℕ) (opts : Options) (j : Journal) (w : World) (r : Runs source input opts j w) → InRange opts → RunFits source input opts j w r → is_over j ≡ false → Homes j w
+    (source : Source) (input : List ℕ) (opts : Options) (j : Journal) (w : World) (r : Runs source input opts j w) →
+    InRange opts → RunFits source input opts j w r → is_over j ≡ false → Homes j w
 
 -- whether entries name processor p
 abbrev pub names : ℕ → List Entry → Bool
@@ -109,14 +122,33 @@ pub record StaysAs (source : Source) (opts : Options) (p t : ℕ) (j k : Journal
 -- acts of others, which do not name its processor, leave whoever runs there as it is
 abbrev pub LawOthers : Type 0
 LawOthers =
-    (source : Source) (input : List ℕ) (opts : Options) → InRange opts → Reentry source input opts → (j : Journal) (w : World) (parts : List (List Entry)) (later : List Entry) (u : World) → Runs source input opts j w → Cut source input opts j w parts (j ++ later) u → is_over (j ++ later) ≡ false → (p t : ℕ) → running p j ≡ t ∷ [] → names p later ≡ false → StaysAs source opts p t j (j ++ later) w u
+    (source : Source) (input : List ℕ) (opts : Options) → InRange opts → Reentry source input opts →
+    (j : Journal) (w : World) (parts : List (List Entry)) (later : List Entry) (u : World) →
+    Runs source input opts j w → Cut source input opts j w parts (j ++ later) u →
+    is_over (j ++ later) ≡ false → (p t : ℕ) → running p j ≡ t ∷ [] → names p later ≡ false →
+    StaysAs source opts p t j (j ++ later) w u
 
 -- a run of the program passes through an earlier one: these acts lead on from there
 abbrev pub LawThrough : Type 0
 LawThrough =
-    (source : Source) (input : List ℕ) (opts : Options) → Reentry source input opts → (j later : Journal) (w u : World) → Runs source input opts j w → Runs source input opts (j ++ later) u → is_over (j ++ later) ≡ false → (parts : List (List Entry)) × Cut source input opts j w parts (j ++ later) u
+    (source : Source) (input : List ℕ) (opts : Options) → Reentry source input opts →
+    (j later : Journal) (w u : World) → Runs source input opts j w →
+    Runs source input opts (j ++ later) u → is_over (j ++ later) ≡ false →
+    (parts : List (List Entry)) × Cut source input opts j w parts (j ++ later) u
 
 -- so whoever runs on a processor that no later entry names stays as it is
 abbrev pub LawSeat : Type 0
 LawSeat =
-    (source : Source) (input : List ℕ) (opts : Options) → InRange opts → Reentry source input opts → (j later : Journal) (w u : World) → Runs source input opts j w → Runs source input opts (j ++ later) u → is_over (j ++ later) ≡ false → (p t : ℕ) → running p j ≡ t ∷ [] → names p later ≡ false → StaysAs source opts p t j (j ++ later) w u
+    (source : Source) (input : List ℕ) (opts : Options) → InRange opts → Reentry source input opts →
+    (j later : Journal) (w u : World) → Runs source input opts j w →
+    Runs source input opts (j ++ later) u → is_over (j ++ later) ≡ false → (p t : ℕ) →
+    running p j ≡ t ∷ [] → names p later ≡ false → StaysAs source opts p t j (j ++ later) w u
+
+-- in every run of a source of which all names are known, a task asks of a member by a number that there may be, and of an accept
+-- statement of these, with a mask of its clauses
+abbrev pub LawNames : Type 0
+LawNames =
+    (sites : List Site) (source : Source) → NamedSource sites source →
+    (input : List ℕ) (opts : Options) (j : Journal) (w : World) → Runs source input opts j w →
+    (p t n : ℕ) (s : State) (asked : Asked) → AsksIn source opts j w p t n s asked →
+    NamesKnown sites asked.request

@@ -1,7 +1,7 @@
 // The laws: each is a function whose contract is the law.
 
 ghost use Rattle.uc_program_laws.specs.ByHand.{LawByHand};
-ghost use Rattle.uc_program_laws.specs.Laws.{LawProcessor, LawLeft, LawAlive, LawEnds, LawHand, LawHome, LawOthers, LawThrough, LawSeat};
+ghost use Rattle.uc_program_laws.specs.Laws.{LawProcessor, LawLeft, LawAlive, LawEnds, LawHand, LawHome, LawNames, LawOthers, LawThrough, LawSeat};
 
 /// Each entry of an act names the processor of its task, and gives no processor.
 pub fn law_processor()
@@ -31,6 +31,12 @@ pub fn law_ends()
 /// forms.
 pub fn law_hand()
     ensures { LawHand }
+{}
+
+/// In every run of a source of which all names are known, what a task asks names a mutex member by a
+/// number of at most 31, and an accept statement that is known, with a mask of its clauses.
+pub fn law_names()
+    ensures { LawNames }
 {}
 
 /// What a program asks in its runs fits where, as long as all before fits, each object of which

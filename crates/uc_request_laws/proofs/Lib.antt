@@ -1,6 +1,1 @@
-pub mod Marks
-pub mod Steps
-pub mod Walk
-pub mod Arguments
-pub mod NamedWorlds
-pub mod MarkedWorlds
+pub mod RequestLemmas

@@ -46,14 +46,18 @@ HoldsByHand opts j t hand r = Unit {0}
 -- so it is of what a task of the program asks, as long as all that was asked before fits
 abbrev pub AsksHolding : Source → List ℕ → Options → Type 0
 AsksHolding source input opts =
-    (j : Journal) (w : World) (r : Runs source input opts j w) → RunFits source input opts j w r → is_over j ≡ false → (p t n : ℕ) (s : State) (asked : Asked) → AsksIn source opts j w p t n s asked → HoldsByHand opts j t (keys s.env.hand) asked.request
+    (j : Journal) (w : World) (r : Runs source input opts j w) → RunFits source input opts j w r →
+    is_over j ≡ false → (p t n : ℕ) (s : State) (asked : Asked) →
+    AsksIn source opts j w p t n s asked → HoldsByHand opts j t (keys s.env.hand) asked.request
 
 -- then all that a program which breaks no rule asks fits
 abbrev pub LawHolds : Type 0
 LawHolds =
-    (p : Program) → IsFormed p → breaks_of p ≡ [] → (input : List ℕ) (opts : Options) → InRange opts → AsksHolding (source_of p) input opts → Reentry (source_of p) input opts
+    (p : Program) → IsFormed p → breaks_of p ≡ [] → (input : List ℕ) (opts : Options) → InRange opts →
+    AsksHolding (source_of p) input opts → Reentry (source_of p) input opts
 
 -- so does the program of every accepted text
 abbrev pub LawTexts : Type 0
 LawTexts =
-    (text : List ℕ) (p : Program) → IsTextOf text p → (input : List ℕ) (opts : Options) → InRange opts → AsksHolding (source_of p) input opts → Reentry (source_of p) input opts
+    (text : List ℕ) (p : Program) → IsTextOf text p → (input : List ℕ) (opts : Options) →
+    InRange opts → AsksHolding (source_of p) input opts → Reentry (source_of p) input opts

@@ -1,4 +1,2 @@
-pub mod Counted
-pub mod Marked
 pub mod RequestLaws
 pub mod Holds

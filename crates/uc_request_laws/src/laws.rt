@@ -1,15 +1,7 @@
 // The laws: each is a function whose contract is the law.
 
-ghost use Rattle.uc_request_laws.specs.RequestLaws.{LawEvents, LawNames, LawSteps};
+ghost use Rattle.uc_request_laws.specs.RequestLaws.{LawEvents, LawNames};
 ghost use Rattle.uc_request_laws.specs.Holds.{LawHolds, LawTexts};
-
-/// Where each call of a source has as many arguments as its routine has parameters, and events that
-/// are raised at others are written with numbers below 64, the number of such an event lies among the
-/// operands where it is expected, from the start of a task on: each quiet step keeps that, and each
-/// answer that suits what was asked.
-pub fn law_steps()
-    ensures { LawSteps }
-{}
 
 /// In every run of a program what a task asks names a mutex member by a number of at most 31, and
 /// an accept statement of the program, with a mask of its clauses.
@@ -17,7 +9,7 @@ pub fn law_names()
     ensures { LawNames }
 {}
 
-/// So in every run of a program that breaks no rule, as long as all that was asked before fits, what
+/// In every run of a program that breaks no rule, as long as all that was asked before fits, what
 /// is raised at a task is an event by a number below 64.
 pub fn law_events()
     ensures { LawEvents }

@@ -10,7 +10,7 @@ use Rattle.uc_code.specs.Codes.{Code}
 use Rattle.uc_code.specs.Layout.{laid_of}
 use Rattle.uc_code.specs.Lowered.{Lowered}
 use Rattle.uc_frames.specs.Machine.{Machine}
-use Rattle.uc_frames.specs.Stands.{Stands, Binds, Rests, Standing, Binding}
+use Rattle.uc_frames.specs.Stands.{Rests, Standing}
 use Rattle.uc_frames.specs.PaceInvariant.{has_begun, AllIdle}
 use Rattle.uc_step.specs.declared.stepped.Stepped.{Stepped}
 use Rattle.uc_step.specs.declared.stepped.Stepped.TheVariants.{Quiet, Tick, Ask}
@@ -24,14 +24,9 @@ module _ (code : Code) where
   pub come_first : (m : Machine) → HasCome code m m
   come_first m source s l h = record { now = s; rests = h; rides = λ q k u a r. r }
 
-  -- what a step says of each source
+  -- what ops say of each source
   abbrev pub Stepping : Machine → Stepped → Machine → Type 0
   Stepping m how n = (source : Source) (s : State) → Lowered source code → Rests (laid_of code) m s → Follow (laid_of code) source how n s
-
-  -- whether or not it binds what was made
-  pub steps : (m n : Machine) (how : Stepped) → ((source : Source) (s : State) → Lowered source code → Stands (laid_of code) m s → Follow (laid_of code) source how n s) → ((source : Source) (s : State) → Lowered source code → Binds (laid_of code) m s → Follow (laid_of code) source how n s) → Stepping m how n
-  steps m n how f g source s l (Standing _ _ h) = f source s l h
-  steps m n how f g source s l (Binding _ _ h) = g source s l h
 
   -- and settling of what it leaves
   abbrev pub Settling : Stepped → Machine → Stepped → Machine → Type 0

@@ -75,6 +75,7 @@ pub(crate) struct Caught {
 }
 
 /// Goes on from where a step leaves what an event or a switch leads to, up to its end.
+#[inline(never)]
 pub(crate) fn settle(
     code: &Code,
     work: &mut Work,

@@ -23,8 +23,8 @@ use uc_entry::request::{Answer, Asked, Request};
 use uc_frames::task::Task;
 use uc_frames::work::Work;
 use uc_outside::Gate;
-use uc_step::step::{answer as give, step};
-use uc_step::stepped::{QuietResult, Stepped};
+use uc_step::step::{answer as give, run};
+use uc_step::stepped::Stepped;
 
 /// How a ride ended: the task with its hand, the new task where one is spawned, and the ticks.
 #[derive(Drop)]
@@ -149,7 +149,9 @@ fn go_on(code: &Code, work: &mut Work, quantum: u32, asked: &mut Asked) -> Resul
     }
 }
 
-// Ops up to a tick, or up to a request. What was in the stop does not matter.
+// Ops up to a tick, or up to a request. What was in the stop does not matter. It stands in the loop of the ticks, so that a tick costs no
+// call.
+#[inline(always)]
 fn burst(
     code: &Code,
     work: &mut Work,
@@ -161,18 +163,16 @@ fn burst(
     ensures burst { IfOk result (λ end. HasBurst code.now work.old (burst_of end asked.new) work.new) }
     ensures kept { IfOk result (λ end. BurstKeeps code.now (burst_of end asked.new) work.new) }
 {
-    'ops: loop {
-        match step(code, work, stop)? {
-            QuietResult::Quiet => {}
-            QuietResult::Tick => return Ok(BurstEnd::Tick),
-            QuietResult::Stops => {
-                let after = settle(code, work, stop, asked)?;
-                match after {
-                    OpEnd::On => {}
-                    OpEnd::Tick => return Ok(BurstEnd::Tick),
-                    OpEnd::Asks => return Ok(BurstEnd::Asks),
-                }
-            }
+    'stops: loop {
+        let ticked = run(code, work, stop)?;
+        if ticked {
+            return Ok(BurstEnd::Tick);
+        }
+        let after = settle(code, work, stop, asked)?;
+        match after {
+            OpEnd::On => {}
+            OpEnd::Tick => return Ok(BurstEnd::Tick),
+            OpEnd::Asks => return Ok(BurstEnd::Asks),
         }
     }
 }

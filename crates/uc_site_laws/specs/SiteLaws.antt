@@ -14,10 +14,15 @@ use Rattle.uc_site_laws.specs.Naming.{NamedState, NamedAsk, NamedStep}
 
 -- of any source of which all names are known: a task begins with known names, steps and answers keep them, and what a ride asks names what is known
 pub record LawSteps : Type 0 where
-  pub begins : (sites : List Site) (source : Source) → NamedSource sites source → (r o : ℕ) → NamedState sites (first_state (routine_of source r) o)
-  pub steps : (sites : List Site) (source : Source) → NamedSource sites source → (s : State) → NamedState sites s → NamedStep sites (quiet source s)
-  pub told : (sites : List Site) (source : Source) (given : Answer) (s : State) → NamedState sites s → NamedState sites (answered source given s)
-  pub rides : (sites : List Site) (source : Source) → NamedSource sites source → (s u : State) (q k : ℕ) (a : Asked) → Rides source s q u k a → NamedState sites s → NamedAsk sites a.request u
+  pub begins : (sites : List Site) (source : Source) → NamedSource sites source → (r o : ℕ) →
+      NamedState sites (first_state (routine_of source r) o)
+  pub steps : (sites : List Site) (source : Source) → NamedSource sites source → (s : State) →
+      NamedState sites s → NamedStep sites (quiet source s)
+  pub told : (sites : List Site) (source : Source) (given : Answer) (s : State) → NamedState sites s →
+      NamedState sites (answered source given s)
+  pub rides : (sites : List Site) (source : Source) → NamedSource sites source →
+      (s u : State) (q k : ℕ) (a : Asked) → Rides source s q u k a → NamedState sites s →
+      NamedAsk sites a.request u
 
 -- all names are known in the source of every program
 abbrev pub LawSource : Type 0

@@ -42,10 +42,15 @@ pub record Rooted (t : Table) (g : Sig) (p : Program) (a : Surroundings) (class 
   pub told : Told t p
   pub refers : t.refers ≡ true
   pub classes : (b : Base) (c : ℕ) (k : Kind) → sort_of p b ≡ Some (sort.Object c k) → t.mutex c ≡ is_mutex k
-  pub names : (sc : List Name) (name : List ℕ) → AgreesIf t g sc p (meant_entity (root_named p a name)) (tree.own_meant p class name)
+  pub names : (sc : List Name) (name : List ℕ) →
+      AgreesIf t g sc p (meant_entity (root_named p a name)) (tree.own_meant p class name)
   pub stood : (name : List ℕ) (m : NameMeaning) → root_named p a name ≡ Some m → IsStood m.entity
-  pub member : (sc : List Name) (c : ℕ) (k : Kind) (name : List ℕ) (x : NameMeaning) (m : tree.Meant) → object_member p (sort.Object c k) name ≡ Some x → is_mutex_field_of (Some x) ≡ false → names_condition (Some x) ≡ false → Agrees t g sc p (entity.Place (sort.Object c k)) m → AgreesIf t g sc p (open_entity a.home x) (tree.object_member p (Some c) m.expr name)
-  pub members : (w : Entity) (name : List ℕ) (m : NameMeaning) → path_member p w name ≡ Some m → IsStood m.entity
+  pub member : (sc : List Name) (c : ℕ) (k : Kind) (name : List ℕ) (x : NameMeaning) (m : tree.Meant) →
+      object_member p (sort.Object c k) name ≡ Some x → is_mutex_field_of (Some x) ≡ false →
+      names_condition (Some x) ≡ false → Agrees t g sc p (entity.Place (sort.Object c k)) m →
+      AgreesIf t g sc p (open_entity a.home x) (tree.object_member p (Some c) m.expr name)
+  pub members : (w : Entity) (name : List ℕ) (m : NameMeaning) → path_member p w name ≡ Some m →
+      IsStood m.entity
   pub results : (w : Entity) (n : ℕ) → takes p n w ≡ true → is_main p w ≡ false → Stands (given p w)
   -- what returns a value neither builds nor destroys, what switches has an execution, what accepts is in a mutex class
   pub returning : a.returns ≡ true → g.whole ≡ false

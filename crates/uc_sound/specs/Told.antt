@@ -55,12 +55,17 @@ pub record Told (t : Table) (p : Program) : Type 0 where
   pub numbers : (i : ℕ) → t.number i ≡ number_at p i
   pub routines : TellsRoutines t p
   pub classes : (i : ℕ) (c : Class) → class_at p i ≡ Some c → TellsClass t p i c
-  pub members : (i j : ℕ) (c : Class) (sig : Declared) → class_at p i ≡ Some c → method_sig p i j ≡ Some sig → is_plain sig.role ≡ true → TellsMember t p i j sig
-  pub makers : (i : ℕ) (c : Class) (wanted : Role) → class_at p i ≡ Some c → is_event c.kind ≡ false → is_plain wanted ≡ false → TellsMaker t p i wanted
+  pub members : (i j : ℕ) (c : Class) (sig : Declared) → class_at p i ≡ Some c →
+      method_sig p i j ≡ Some sig → is_plain sig.role ≡ true → TellsMember t p i j sig
+  pub makers : (i : ℕ) (c : Class) (wanted : Role) → class_at p i ≡ Some c → is_event c.kind ≡ false →
+      is_plain wanted ≡ false → TellsMaker t p i wanted
   -- what builds an event
-  pub events : (i r : ℕ) (name : List ℕ) → event_place p (base.Named name) ≡ Some i → event_constructor p name ≡ Some r → IsOfClass t p i (constructor_params p i) r
-  pub raised : (r : ℕ) (name : List ℕ) → event_constructor p name ≡ Some r → (i : ℕ) × (class_named p name ≡ Some (sort.Object i kind.Event)) × (is_given name ≡ false)
-  pub events_whole : (i r : ℕ) (name : List ℕ) → event_place p (base.Named name) ≡ Some i → event_constructor p name ≡ Some r → (t.routine r).whole ≡ true
+  pub events : (i r : ℕ) (name : List ℕ) → event_place p (base.Named name) ≡ Some i →
+      event_constructor p name ≡ Some r → IsOfClass t p i (constructor_params p i) r
+  pub raised : (r : ℕ) (name : List ℕ) → event_constructor p name ≡ Some r →
+      (i : ℕ) × (class_named p name ≡ Some (sort.Object i kind.Event)) × (is_given name ≡ false)
+  pub events_whole : (i r : ℕ) (name : List ℕ) → event_place p (base.Named name) ≡ Some i →
+      event_constructor p name ≡ Some r → (t.routine r).whole ≡ true
 
 abbrev pub LawTold : Type 0
 LawTold = (p : Program) → IsFormed p → Unbroken (program_visits p) → Told (table_of p) p

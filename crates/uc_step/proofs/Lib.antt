@@ -15,6 +15,7 @@ pub mod SimulateCalls
 pub mod Simulate
 pub mod Rode
 pub mod WeightFallsLemmas
+pub mod RunsLemmas
 pub mod Apart
 pub mod Idles
 pub mod SimulateSwitches

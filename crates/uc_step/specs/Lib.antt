@@ -1,4 +1,5 @@
 pub mod OpEffects
+pub mod Runs
 pub mod WeightFalls
 pub mod Simulation
 pub mod OperatorResults

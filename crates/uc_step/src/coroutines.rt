@@ -22,14 +22,6 @@ pub(crate) fn set_up(code: &Code, work: &mut Work, number: u32) -> Result<QuietR
     Ok(QuietResult::Quiet)
 }
 
-pub(crate) fn enliven(work: &mut Work) -> Result<QuietResult, AllocError>
-    ensures ok { IfOk result (λ how. (stop : Stepped) → DoesAlone Op.Live work.old (ended how stop) work.new) }
-    ensures err { OnErr result (work.new ≡ work.old) }
-{
-    work.enliven();
-    Ok(QuietResult::Quiet)
-}
-
 // The coroutine below the arguments of a routine must be live.
 pub(crate) fn alive(
     code: &Code,
@@ -52,14 +44,6 @@ pub(crate) fn alive(
     }
 }
 
-pub(crate) fn forget(work: &mut Work) -> Result<QuietResult, AllocError>
-    ensures ok { IfOk result (λ how. (stop : Stepped) → DoesAlone Op.Forget work.old (ended how stop) work.new) }
-    ensures err { OnErr result (work.new ≡ work.old) }
-{
-    work.forget();
-    Ok(QuietResult::Quiet)
-}
-
 // Where an execution stopped it goes on, or is unwound.
 pub(crate) fn land(work: &mut Work, stop: &mut Stepped) -> QuietResult
     ensures { DoesAlone Op.Land work.old (ended result stop.new) work.new }
@@ -68,7 +52,7 @@ pub(crate) fn land(work: &mut Work, stop: &mut Stepped) -> QuietResult
         None => QuietResult::Quiet,
         Some(_) => {
             let next = work.next();
-            work.clean(next);
+            work.begin_clean_up(next);
             *stop = Stepped::Unwind;
             QuietResult::Stops
         }

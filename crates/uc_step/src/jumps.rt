@@ -2,7 +2,6 @@
 
 ghost use Rattle.std.specs.Prelude.{◌≡◌, IfOk, OnErr};
 ghost use Rattle.uc_step.specs.OpEffects.{act_enter, act_return, act_end, ended, Does, DoesAlone, Ends};
-ghost use Rattle.uc_step.specs.declared.stepped.Stepped.{Stepped};
 ghost use Rattle.uc_frames.specs.Calls.{object_call};
 
 use crate::stepped::{QuietResult, Stepped, put_end, put_fault};
@@ -12,37 +11,9 @@ use uc_code::op::Op;
 use uc_code::rows::RoutineCode;
 use uc_entry::fault::RunFault;
 use uc_frames::call::Call;
-use uc_frames::cell::{Cell, number_in};
+use uc_frames::cell::Cell;
 use uc_frames::work::Work;
 use uc_tree::limits::CALLS;
-
-pub(crate) fn jump(work: &mut Work, to: u32) -> Result<QuietResult, AllocError>
-    ensures ok { IfOk result (λ how. (stop : Stepped) → DoesAlone (Op.Jump to) work.old (ended how stop) work.new) }
-    ensures err { OnErr result (work.new ≡ work.old) }
-{
-    work.go(to);
-    Ok(QuietResult::Quiet)
-}
-
-pub(crate) fn if_zero(work: &mut Work, to: u32) -> Result<QuietResult, AllocError>
-    ensures ok { IfOk result (λ how. (stop : Stepped) → DoesAlone (Op.IfZero to) work.old (ended how stop) work.new) }
-    ensures err { OnErr result (work.new ≡ work.old) }
-{
-    if number_in(work.pop()) == 0 {
-        work.go(to);
-    }
-    Ok(QuietResult::Quiet)
-}
-
-pub(crate) fn if_nonzero(work: &mut Work, to: u32) -> Result<QuietResult, AllocError>
-    ensures ok { IfOk result (λ how. (stop : Stepped) → DoesAlone (Op.IfNonzero to) work.old (ended how stop) work.new) }
-    ensures err { OnErr result (work.new ≡ work.old) }
-{
-    if number_in(work.pop()) != 0 {
-        work.go(to);
-    }
-    Ok(QuietResult::Quiet)
-}
 
 // The end of a routine; that of a handler of resumptions is left to others.
 pub(crate) fn end(
@@ -108,7 +79,7 @@ pub(crate) fn unwind(work: &mut Work, stop: &mut Stepped) -> QuietResult
     ensures { DoesAlone Op.Unwind work.old (ended result stop.new) work.new }
 {
     let next = work.next();
-    work.clean(next);
+    work.begin_clean_up(next);
     *stop = Stepped::Unwind;
     QuietResult::Stops
 }

@@ -109,15 +109,6 @@ pub(crate) fn enable(events: u64, cell: u32, work: &mut Work) -> Result<QuietRes
     Ok(QuietResult::Quiet)
 }
 
-// Those are enabled again that a cell keeps.
-pub(crate) fn restore(work: &mut Work, cell: u32) -> Result<QuietResult, AllocError>
-    ensures ok { IfOk result (λ how. (stop : Stepped) → DoesAlone (Op.Restore cell) work.old (ended how stop) work.new) }
-    ensures err { OnErr result (work.new ≡ work.old) }
-{
-    work.restore(cell);
-    Ok(QuietResult::Quiet)
-}
-
 // The newest operands are an event, which is thrown.
 pub(crate) fn throw(work: &mut Work, stop: &mut Stepped) -> QuietResult
     ensures { DoesAlone Op.Throw work.old (ended result stop.new) work.new }

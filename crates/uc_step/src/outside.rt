@@ -2,8 +2,7 @@
 
 ghost use Rattle.std.specs.Prelude.{◌≡◌, IfOk, OnErr};
 ghost use Rattle.uc_frames.specs.Machine.{line_at};
-ghost use Rattle.uc_step.specs.OpEffects.{bare_request, ended, Does, DoesAlone};
-ghost use Rattle.uc_step.specs.declared.stepped.Stepped.{Stepped};
+ghost use Rattle.uc_step.specs.OpEffects.{bare_request, ended, Does};
 
 use crate::stepped::{QuietResult, Stepped, put_request};
 use std::alloc::AllocError;
@@ -59,14 +58,6 @@ pub(crate) fn text(
     } else {
         Ok(put_request(code, line, work, stop, print_request(&[piece])))
     }
-}
-
-pub(crate) fn hold(work: &mut Work) -> Result<QuietResult, AllocError>
-    ensures ok { IfOk result (λ how. (stop : Stepped) → DoesAlone Op.Hold work.old (ended how stop) work.new) }
-    ensures err { OnErr result (work.new ≡ work.old) }
-{
-    work.begin_gather();
-    Ok(QuietResult::Quiet)
 }
 
 pub(crate) fn flush(code: &Code, line: u32, work: &mut Work, stop: &mut Stepped) -> QuietResult

@@ -17,12 +17,17 @@ pub record LawSteps : Type 0 where
 
 -- so does an answer, but for one that tells of a new object where that is bound next: it comes into the hand as the last one
 pub record LawTold : Type 0 where
-  pub settled : (source : Source) (ks : List ℕ) (given : Answer) (s : State) → Holding ks s → Holding ks (answered source given s)
-  pub bound : (source : Source) (ks : List ℕ) (o : ℕ) (s : State) → BindsNext ks s → BindsNext (ks ++ o ∷ []) (answered source (answer.Object o) s)
+  pub settled : (source : Source) (ks : List ℕ) (given : Answer) (s : State) → Holding ks s →
+      Holding ks (answered source given s)
+  pub bound : (source : Source) (ks : List ℕ) (o : ℕ) (s : State) → BindsNext ks s →
+      BindsNext (ks ++ o ∷ []) (answered source (answer.Object o) s)
 
 -- so what a ride asks is asked with the same objects in hand, and of a form; it makes no more ticks than it may, and fewer where it asks anything but a slice
 pub record LawRides : Type 0 where
-  pub settled : (source : Source) (ks : List ℕ) (s u : State) (q k : ℕ) (a : Asked) → Rides source s q u k a → Holding ks s → HasAsked ks a.request u
-  pub bound : (source : Source) (ks : List ℕ) (s u : State) (q k : ℕ) (a : Asked) → Rides source s q u k a → 1 ≤ q → BindsNext ks s → HasAsked ks a.request u
+  pub settled : (source : Source) (ks : List ℕ) (s u : State) (q k : ℕ) (a : Asked) →
+      Rides source s q u k a → Holding ks s → HasAsked ks a.request u
+  pub bound : (source : Source) (ks : List ℕ) (s u : State) (q k : ℕ) (a : Asked) →
+      Rides source s q u k a → 1 ≤ q → BindsNext ks s → HasAsked ks a.request u
   pub within : (source : Source) (s u : State) (q k : ℕ) (a : Asked) → Rides source s q u k a → k ≤ q
-  pub early : (source : Source) (s u : State) (q k : ℕ) (a : Asked) → Rides source s q u k a → (a.request ≡ ask.Slice → ⊥) → k < q
+  pub early : (source : Source) (s u : State) (q k : ℕ) (a : Asked) → Rides source s q u k a →
+      (a.request ≡ ask.Slice → ⊥) → k < q

@@ -6,6 +6,7 @@ ghost use Rattle.uc_tree.specs.Sizes.{program_size};
 ghost use Rattle.uc_tree.specs.declared.limits.TheConstants.{INPUT_BYTES, MAKE_MAX, OPS_FOR_SIZE};
 ghost use Rattle.uc_resolve.specs.Resolve.{source_of};
 ghost use Rattle.uc_rules.specs.Breaks.{breaks_of};
+ghost use Rattle.uc_sound.specs.Formed.{IsFormed};
 ghost use Rattle.uc_top.specs.Accepted.{IsAccepted};
 ghost use Rattle.uc_code.specs.Layout.{laid_of};
 ghost use Rattle.uc_code.specs.Pace.{IsPaced};
@@ -26,17 +27,16 @@ use crate::refusals::Refusal;
 use std::alloc::{AllocError, Global};
 use std::sync::Wait;
 use std::thread::Threads;
+use uc_checked::checked::Checked;
 use uc_code::code::Code;
 use uc_code::listing::listing;
 use uc_entry::entry::{Entry, Options};
 use uc_journal::append_journal;
-use uc_layout::sizes::Sizes;
 use uc_lower::lower::{LowerFault, lower};
 use uc_lower::program_main::number_of_main;
 use uc_make::make;
 use uc_outside::Gate;
 use uc_tree::name::Text;
-use uc_tree::program::Program;
 use uc_vproc::run_processors;
 
 /// The bytes of a line of a listing, at most.
@@ -66,40 +66,19 @@ pub(crate) fn run_program<R: Threads + Wait + Sync, G: Gate + Sync>(
     rt: &R,
     gate: &G,
     alloc: Global,
-    program: &Program,
+    checked: &Checked,
     input: &[u8],
     purpose: Purpose,
 ) -> Result<Run, Refusal>
-    requires unbroken { breaks_of program.now ≡ [] }
+    requires unbroken { breaks_of checked.now ≡ [] }
+    requires formed { IsFormed checked.now }
     requires input { length input.now ≤ INPUT_BYTES }
     requires purpose { HasEntries purpose }
-    ensures ran { IfOk result (λ run. ProgramDid purpose program.now input.now run.journal.items run.output.items run.ending) }
-    ensures refused { IfErr result (ProgramRefused program.now) }
+    ensures ran { IfOk result (λ run. ProgramDid purpose checked.now input.now run.journal.items run.output.items run.ending) }
+    ensures refused { IfErr result (ProgramRefused checked.now) }
 {
-    match Sizes::new(alloc, program) {
-        Ok(sizes) => run_sized(rt, gate, alloc, &sizes, program, input, purpose),
-        Err(_) => Err(Refusal::NoMemory),
-    }
-}
-
-fn run_sized<R: Threads + Wait + Sync, G: Gate + Sync>(
-    rt: &R,
-    gate: &G,
-    alloc: Global,
-    sizes: &Sizes,
-    program: &Program,
-    input: &[u8],
-    purpose: Purpose,
-) -> Result<Run, Refusal>
-    requires sized { sizes.now ≡ program.now }
-    requires unbroken { breaks_of program.now ≡ [] }
-    requires input { length input.now ≤ INPUT_BYTES }
-    requires purpose { HasEntries purpose }
-    ensures ran { IfOk result (λ run. ProgramDid purpose program.now input.now run.journal.items run.output.items run.ending) }
-    ensures refused { IfErr result (ProgramRefused program.now) }
-{
-    match lower(alloc, program, sizes) {
-        Ok(code) => match do_code(rt, gate, alloc, program, &code, input, purpose) {
+    match lower(alloc, checked) {
+        Ok(code) => match do_code(rt, gate, alloc, checked, &code, input, purpose) {
             Ok(run) => Ok(run),
             Err(_) => Err(Refusal::NoMemory),
         },
@@ -114,23 +93,24 @@ fn do_code<R: Threads + Wait + Sync, G: Gate + Sync>(
     rt: &R,
     gate: &G,
     alloc: Global,
-    program: &Program,
+    checked: &Checked,
     code: &Code,
     input: &[u8],
     purpose: Purpose,
 ) -> Result<Run, AllocError>
-    requires accepted { IsAccepted program.now }
-    requires lowered { Lowered (source_of program.now) code.now }
+    requires accepted { IsAccepted checked.now }
+    requires formed { IsFormed checked.now }
+    requires lowered { Lowered (source_of checked.now) code.now }
     requires paced { IsPaced (laid_of code.now) code.now.routines }
-    requires few { length code.now.ops ≤ OPS_FOR_SIZE * program_size program.now }
+    requires few { length code.now.ops ≤ OPS_FOR_SIZE * program_size checked.now }
     requires rows { HasRows code.now }
     requires input { length input.now ≤ INPUT_BYTES }
     requires purpose { HasEntries purpose }
-    ensures { IfOk result (λ run. ProgramDid purpose program.now input.now run.journal.items run.output.items run.ending) }
+    ensures { IfOk result (λ run. ProgramDid purpose checked.now input.now run.journal.items run.output.items run.ending) }
 {
     match purpose {
         Purpose::Run { opts, journal } => {
-            let run = run_code(rt, gate, alloc, program, code, input, opts, journal)?;
+            let run = run_code(rt, gate, alloc, checked, code, input, opts, journal)?;
             Ok(run)
         }
         Purpose::Check => Ok(done_with(alloc, Vec::new(alloc))),
@@ -182,20 +162,22 @@ fn run_code<R: Threads + Wait + Sync, G: Gate + Sync>(
     rt: &R,
     gate: &G,
     alloc: Global,
-    program: &Program,
+    checked: &Checked,
     code: &Code,
     input: &[u8],
     opts: Options,
     too: bool,
 ) -> Result<Run, AllocError>
-    requires accepted { IsAccepted program.now }
-    requires lowered { Lowered (source_of program.now) code.now }
+    requires accepted { IsAccepted checked.now }
+    requires formed { IsFormed checked.now }
+    requires lowered { Lowered (source_of checked.now) code.now }
     requires paced { IsPaced (laid_of code.now) code.now.routines }
     requires input { length input.now ≤ INPUT_BYTES }
     requires options { InRange opts }
-    ensures { IfOk result (λ run. ProgramRan program.now input.now opts too run.journal.items run.output.items run.ending) }
+    ensures { IfOk result (λ run. ProgramRan checked.now input.now opts too run.journal.items run.output.items run.ending) }
 {
     // There are fewer routines than bytes of a text.
+    let program = checked.program();
     let Some(main) = number_of_main(&program.items) else {
         return Err(AllocError);
     };

@@ -28,20 +28,26 @@ use Rattle.uc_sound.specs.Tables.{table_of}
 use Rattle.uc_formed.specs.WellTyped.{IsTextOf}
 
 -- What is read of bindings at the states of a ride, of an act, and of each act of a run, is of its type.
-abbrev pub RideReads : (table : Table) (source : Source) (s : State) (q : ℕ) (u : State) (k : ℕ) (a : Asked) → Rides source s q u k a → Type 0
+abbrev pub RideReads : (table : Table) (source : Source) (s : State) (q : ℕ) (u : State) (k : ℕ) (a : Asked) →
+    Rides source s q u k a → Type 0
 RideReads table source _ _ _ _ _ slices = Unit {0}
-RideReads table source _ _ _ _ _ (goes_on {s} {t = v} {u} {q} {k} {a} e rest) = ReadsIn table s × RideReads table source v (suc q) u k a rest
-RideReads table source _ _ _ _ _ (ticks {s} {t = v} {u} {q} {k} {a} e rest) = ReadsIn table s × RideReads table source v q u k a rest
+RideReads table source _ _ _ _ _ (goes_on {s} {t = v} {u} {q} {k} {a} e rest) = ReadsIn table s ×
+    RideReads table source v (suc q) u k a rest
+RideReads table source _ _ _ _ _ (ticks {s} {t = v} {u} {q} {k} {a} e rest) = ReadsIn table s ×
+    RideReads table source v q u k a rest
 RideReads table source _ _ _ _ _ (asks {s} e) = ReadsIn table s
 
-abbrev pub MayRead : (table : Table) (source : Source) (opts : Options) (input : List ℕ) (j : Journal) (w : World) (a : List Entry) (x : World) → May source opts input j w a x → Type 0
+abbrev pub MayRead : (table : Table) (source : Source) (opts : Options) (input : List ℕ) (j : Journal) (w : World) (a : List Entry) (x : World) →
+    May source opts input j w a x → Type 0
 MayRead table source opts input j w _ _ (gives p t s h) = Unit {0}
 MayRead table source opts input j w _ _ (no_room p t s h) = Unit {0}
 MayRead table source opts input j w _ _ (acts p t n s asked d) = RideReads table source (answered source d.given (drawn j w t)) (left opts j t) s n asked d.rides
 
-abbrev pub RunReads : (table : Table) (source : Source) (input : List ℕ) (opts : Options) (j : Journal) (w : World) → Runs source input opts j w → Type 0
+abbrev pub RunReads : (table : Table) (source : Source) (input : List ℕ) (opts : Options) (j : Journal) (w : World) →
+    Runs source input opts j w → Type 0
 RunReads table source input opts _ _ begun = Unit {0}
-RunReads table source input opts _ _ (more {j} {w} {a} {w' = x} r o m) = RunReads table source input opts j w r × MayRead table source opts input j w a x m
+RunReads table source input opts _ _ (more {j} {w} {a} {w' = x} r o m) = RunReads table source input opts j w r ×
+    MayRead table source opts input j w a x m
 
 -- A task that has asked for an answer of this form is in order with the operands that its answer brings.
 pub record Awaits (table : Table) (source : Source) (form : Form) (s : State) : Type 0 where
@@ -61,12 +67,19 @@ pub record IsTyped (table : Table) (source : Source) (j : Journal) (w : World) :
   pub tasks : (t : ℕ) → has_ended t j ≡ false → Awaits table source (asked_form t j) (w.tasks t)
   pub homes : (o : ℕ) → AtHome table (w.homes o)
   -- whoever runs, told its answer and with its hand
-  pub runs : (p t : ℕ) (a : Answer) → running p j ≡ t ∷ [] → answer_to source.sites t j ≡ Some a → Typed table [] (answered source a (drawn j w t))
+  pub runs : (p t : ℕ) (a : Answer) → running p j ≡ t ∷ [] → answer_to source.sites t j ≡ Some a →
+      Typed table [] (answered source a (drawn j w t))
 
 abbrev pub LawTypedRuns : Type 0
 LawTypedRuns =
-    (table : Table) (source : Source) (input : List ℕ) (opts : Options) (j : Journal) (w : World) (r : Runs source input opts j w) → Sound table source → IsTask table source.main → InRange opts → RunFits source input opts j w r → RunReads table source input opts j w r → is_over j ≡ false → IsTyped table source j w
+    (table : Table) (source : Source) (input : List ℕ) (opts : Options) (j : Journal) (w : World) (r : Runs source input opts j w) →
+    Sound table source → IsTask table source.main → InRange opts → RunFits source input opts j w r →
+    RunReads table source input opts j w r → is_over j ≡ false → IsTyped table source j w
 
 abbrev pub LawTypedTexts : Type 0
 LawTypedTexts =
-    (text : List ℕ) (p : Program) → IsTextOf text p → (input : List ℕ) (opts : Options) (j : Journal) (w : World) (r : Runs (source_of p) input opts j w) → InRange opts → RunFits (source_of p) input opts j w r → RunReads (table_of p) (source_of p) input opts j w r → is_over j ≡ false → IsTyped (table_of p) (source_of p) j w
+    (text : List ℕ) (p : Program) → IsTextOf text p →
+    (input : List ℕ) (opts : Options) (j : Journal) (w : World) (r : Runs (source_of p) input opts j w) →
+    InRange opts → RunFits (source_of p) input opts j w r →
+    RunReads (table_of p) (source_of p) input opts j w r → is_over j ≡ false →
+    IsTyped (table_of p) (source_of p) j w

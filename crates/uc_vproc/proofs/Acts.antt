@@ -41,7 +41,7 @@ use Rattle.uc_vproc.specs.Makers.{Handed, Log, Notes, paired, tagged, server, ha
 use Rattle.uc_vproc.specs.Registries.{Tells, sort_of}
 use Rattle.uc_vproc.specs.Rest.{IsSource, IsHome, IsTask, IsWork, OutElse, AtRest, RestKept, Steady, WasHanded, faults}
 use Rattle.uc_vproc.specs.Desks.{Keeping, Got, Brings, Saw, IsTold, RegistryAfter, boxed, Comes, goes, idles, ends, WasPut, stays, refused, acted}
-use Rattle.uc_vproc.proofs.Makers.{named_all, not_both, is_nil, AllOn, Follows as MannedOn, manned_act, handed_still, handed_act, names_none}
+use Rattle.uc_vproc.proofs.MakersLemmas.{named_all, not_both, is_nil, AllOn, Follows as MannedOn, manned_act, handed_still, handed_act, names_none}
 use Rattle.uc_vproc.proofs.Parts.{task_of, work_of, kept_bare, kept_task, kept_work, goes_stands, goes_kept, hand_kept_after, born_stands, each_gathered, each_found}
 use Rattle.uc_vproc.proofs.Asked.{act_some, goes_on_behind, spawned}
 use Rattle.uc_vproc.proofs.AskingLemmas.{same_sites, served, rode, asks, asks_with, hand, lined}
@@ -232,7 +232,7 @@ module _ (code : Code) (main : ℕ) where
             hands = λ q u g r f. work_idle source is q u g (q == b.processor) refl r f;
           }
 
-          pub idled : (registry' : Registry) → Tells k.opts k.sites (k.journal ++ a) registry' → Advanced code main k ns room n (changed k a rested.values rested.members k.abandoned) (noted ns n Idle (k.journal ++ a)) registry' Idle
+          pub idled : (registry' : Registry) → Tells k.opts (k.journal ++ a) registry' → Advanced code main k ns room n (changed k a rested.values rested.members k.abandoned) (noted ns n Idle (k.journal ++ a)) registry' Idle
           idled registry' are =
               advanced code main k ns room n registry keeps Idle a rested.values rested.members k.abandoned act_runs (on_processor Idle).manned act_prefix (λ f o. record { kept = record { values = kept_rested.values; members = kept_rested.members }; ended = λ u f. value_ended going' u (u == t) (spawns a u) refl f; out = λ q u r. out_idle q u (q == b.processor) refl r; stands = rests_idle }) tt registry' (λ f o. are) act_left
 
@@ -310,14 +310,14 @@ module _ (code : Code) (main : ℕ) where
             kept = subst (λ ms. Keeps code (with_hand ms g.task)) (sym h.hand) (kept_work code g.task _ (kept_rested.values t g.task h.value) (each_gathered (IdlesAt (laid_of code) code.routines) (held t (k.journal ++ a)) rested.members kept_rested.members));
           }
 
-          pub went : (registry' : Registry) → Tells k.opts k.sites (k.journal ++ a) registry' → Advanced code main k ns room n (changed k a (handed t rested).values (handed t rested).members k.abandoned) (noted ns n step (k.journal ++ a)) registry' step
+          pub went : (registry' : Registry) → Tells k.opts (k.journal ++ a) registry' → Advanced code main k ns room n (changed k a (handed t rested).values (handed t rested).members k.abandoned) (noted ns n step (k.journal ++ a)) registry' step
           went registry' are = advanced code main k ns room n registry keeps step a (handed t rested).values (handed t rested).members k.abandoned act_runs (on_processor step).manned act_prefix (λ f o. steady1) got1 registry' (λ f o. are) act_left
 
       not_fault : is_over (k.journal ++ a) ≡ false → faults b.asked.request ≡ false
       not_fault g = goes_on_behind k.opts k.sites k.input k.journal b.processor t b.ticks b.asked g
 
       -- behind the act what is told of what may be asked for is so
-      told_then : (registry' : Registry) (step : Step) → RegistryAfter registry registry' b.asked.request step → is_over (k.journal ++ a) ≡ false → (IsMake b.asked.request → (o : ℕ) → IsTold o step → has (held t (k.journal ++ a)) o ≡ true) → Tells k.opts k.sites (k.journal ++ a) registry'
+      told_then : (registry' : Registry) (step : Step) → RegistryAfter registry registry' b.asked.request step → is_over (k.journal ++ a) ≡ false → (IsMake b.asked.request → (o : ℕ) → IsTold o step → has (held t (k.journal ++ a)) o ≡ true) → Tells k.opts (k.journal ++ a) registry'
       told_then registry' step w going' new =
           told_by k.opts k.sites k.input k.journal b.processor t b.ticks b.asked keeps.runs going may.asks act_runs going' registry (keeps.told wanted going) registry' step w new
 

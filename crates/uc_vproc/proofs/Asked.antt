@@ -29,7 +29,7 @@ use Rattle.uc_vproc.specs.declared.step.Step.{Step}
 use Rattle.uc_vproc.specs.Rest.{faults}
 use Rattle.uc_vproc.specs.Registries.{AreThere}
 use Rattle.uc_vproc.specs.Desks.{IsTold}
-use Rattle.uc_vproc.proofs.Makers.{not_both, is_nil}
+use Rattle.uc_vproc.proofs.MakersLemmas.{not_both, is_nil}
 
 plain_spawns : (u : ℕ) (k : EntryKind) (e : Entry) → is_plain k ≡ true → spawns_task u k e ≡ false
 plain_spawns u kind.Spawn e h = absurd (cc h)

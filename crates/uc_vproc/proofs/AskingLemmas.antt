@@ -1,4 +1,5 @@
--- A ride that is brought asks in the run of each source: with just the objects in hand that its task is inside, in time, and in a form that fits.
+-- A ride that is brought asks in the run of each source: with just the objects in hand that its task is inside, in time, in a form that fits,
+-- and naming members, accept statements and events that there are.
 use Rattle.std.proofs.Common.{◌≡◌, ℕ, false, List, [], ◌∷◌, ◌++◌, Option, Some, None, refl, sym, ap, ◌∙◌, subst, IsSome}
 use Rattle.std.specs.Prelude.{if◌then◌else◌}
 use Rattle.std.specs.Option.{option_map}
@@ -6,6 +7,7 @@ use Rattle.uc_tree.specs.Source.{Source}
 use Rattle.uc_entry.specs.declared.request.Request.{Request}
 use Rattle.uc_entry.specs.declared.request.Request.TheVariants as ask
 use Rattle.uc_acts.specs.Journal.{held, is_over}
+use Rattle.uc_acts.specs.Known.{has}
 use Rattle.uc_acts.specs.Queues.{running}
 use Rattle.uc_acts.specs.Answers.{answer_to}
 use Rattle.uc_acts.specs.Serves.{left}
@@ -21,6 +23,12 @@ use Rattle.uc_meaning.specs.Runs.{AsksIn, drawn}
 use Rattle.uc_step_laws.specs.Hands as hands
 use Rattle.uc_program_laws.specs.Laws.{AsksWith}
 use Rattle.uc_program_laws.proofs.Others.{law_hand}
+use Rattle.uc_program_laws.proofs.NamedWorlds.{law_names}
+use Rattle.uc_site_laws.specs.Named.{NamedSource}
+use Rattle.uc_event_laws.specs.Counted.{CountedSource}
+use Rattle.uc_event_laws.proofs.MarkedWorlds.{law_events}
+use Rattle.uc_hand_laws.proofs.DeepWorlds.{law_calls}
+use Rattle.uc_site_laws.specs.Naming.{NamesKnown}
 use Rattle.uc_kernel.specs.Numbered.{keys}
 use Rattle.uc_kernel.specs.KernelState.{Brought, Kept}
 use Rattle.uc_kernel.specs.AtRest.{IsSpawn}
@@ -29,7 +37,7 @@ use Rattle.uc_vproc.specs.declared.registry.Registry.{Registry}
 use Rattle.uc_vproc.specs.Makers.{Handed, Log, Notes, paired, entries, server, handed_out, Manned}
 use Rattle.uc_vproc.specs.Rest.{IsSource, IsHome, AtRest, Steady, WasHanded, stops}
 use Rattle.uc_vproc.specs.Desks.{Keeping, Brings, Saw, IsAsking, value_after}
-use Rattle.uc_vproc.proofs.Makers.{handed_still, Aloof, aloof, none_since}
+use Rattle.uc_vproc.proofs.MakersLemmas.{handed_still, Aloof, aloof, none_since}
 use Rattle.uc_vproc.proofs.Parts.{hand_stands_after}
 use Rattle.uc_vproc.proofs.Turns.{log_is}
 use Rattle.uc_vproc.proofs.Steps.{keys_lined}
@@ -128,15 +136,18 @@ module _ (code : Code) (main : ℕ) where
         pub hand : keys rode.reached.env.hand ≡ held t k.journal
         hand = keys_same rode.reached.env.hand ∙ asks_with.hand
 
-        asking_by : IsAsking k.opts k.journal t b
-        asking_by = record {
+        asking_by : NamedSource source.sites source → CountedSource source → IsAsking k.opts k.sites k.journal t b
+        asking_by named counted = record {
           hand = keys_lined (IsHome code) b.members.items rode.reached.env.hand lined ∙ hand;
           room = brings.ride.room;
           within = asks_with.within;
           form = asks_with.form;
+          names = subst (λ ss. NamesKnown ss b.asked.request) (sym same_sites) (law_names source.sites source named k.input k.opts k.journal rested_at.world rested_at.runs b.processor t b.ticks rode.reached b.asked asks);
+          event = law_events source counted k.input k.opts keeps.range k.journal rested_at.world rested_at.runs rested_at.fitting going b.processor t b.ticks rode.reached b.asked asks;
+          apart = λ o m e. ap (λ l. has l o) (sym asks_with.hand) ∙ law_calls source k.input k.opts k.journal rested_at.world rested_at.runs keeps.range rested_at.fitting going b.processor t b.ticks rode.reached b.asked asks o m e;
           goes = goes_some b.asked.request brings.ride.after b.task brings.ride.task_is;
           born = λ i. some_mapped brings.ride.child b.child brings.ride.child_is (born_some source (laid_of code) b.asked.request brings.ride.child rode.reached rode.born i);
         }
 
-      pub asking : IsAsking k.opts k.journal t b
-      asking = asking_by keeps.sourced.source keeps.sourced.is
+      pub asking : IsAsking k.opts k.sites k.journal t b
+      asking = asking_by keeps.sourced.source keeps.sourced.is keeps.sourced.names keeps.sourced.counted

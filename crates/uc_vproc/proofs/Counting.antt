@@ -27,7 +27,7 @@ use Rattle.uc_vproc.specs.declared.registry.Registry.{Registry}
 use Rattle.uc_vproc.specs.declared.step.Step.{Step}
 use Rattle.uc_vproc.specs.Registries.{Tells, new_clusters, new_processors, sort_of}
 use Rattle.uc_vproc.specs.Desks.{IsTold, RegistryAfter}
-use Rattle.uc_vproc.proofs.Makers.{not_both}
+use Rattle.uc_vproc.proofs.MakersLemmas.{not_both}
 use Rattle.uc_vproc.proofs.Asked.{there_by}
 
 -- how many there are behind more entries
@@ -46,12 +46,11 @@ processors_stay : (opts : Options) (j a : Journal) → processor_count opts j + 
 processors_stay opts j a = let n = processors_more opts j a in omega (arith, n)
 
 -- behind a dispatch
-pub told_given : (opts : Options) (sites : List Site) (input : List ℕ) (j : Journal) (p t : ℕ) → KernelRuns opts sites input j → Serves opts j p t → (r : Registry) → Tells opts sites j r → Tells opts sites (j ++ dispatch p t ∷ []) r
+pub told_given : (opts : Options) (sites : List Site) (input : List ℕ) (j : Journal) (p t : ℕ) → KernelRuns opts sites input j → Serves opts j p t → (r : Registry) → Tells opts j r → Tells opts (j ++ dispatch p t ∷ []) r
 told_given opts sites input j p t runs serves r x = record {
   objects = λ o h. ap (λ os. has os o) ((law_dispatch opts sites input j p t runs serves).made) ∙ x.objects o h;
   clusters = let n = clusters_stay j (dispatch p t ∷ []) in let c = x.clusters in omega (arith, n, c);
   processors = let n = processors_stay opts j (dispatch p t ∷ []) in let c = x.processors in omega (arith, n, c);
-  masks = x.masks;
 }
 
 or_fault_more : (P : Journal → ℕ) (b : Bool) (j : Journal) (p t k n line : ℕ) (e : Entry) → P j + 1 ≤ P (j ++ e ∷ []) → is_over (j ++ or_fault b e (fault p t (cost k line) n line)) ≡ false → P j + 1 ≤ P (j ++ or_fault b e (fault p t (cost k line) n line))
@@ -83,7 +82,7 @@ module _ (opts : Options) (sites : List Site) (input : List ℕ) (j : Journal) (
   going h = (going_row opts sites input j p t n asked h).0
 
   -- behind an act
-  pub told_by : KernelRuns opts sites input j → is_over j ≡ false → MayAsk opts sites j p t n asked.request → KernelRuns opts sites input (j ++ act opts sites input j p t n asked) → is_over (j ++ act opts sites input j p t n asked) ≡ false → (r : Registry) → Tells opts sites j r → (r' : Registry) (step : Step) → RegistryAfter r r' asked.request step → (IsMake asked.request → (o : ℕ) → IsTold o step → has (held t (j ++ act opts sites input j p t n asked)) o ≡ true) → Tells opts sites (j ++ act opts sites input j p t n asked) r'
+  pub told_by : KernelRuns opts sites input j → is_over j ≡ false → MayAsk opts sites j p t n asked.request → KernelRuns opts sites input (j ++ act opts sites input j p t n asked) → is_over (j ++ act opts sites input j p t n asked) ≡ false → (r : Registry) → Tells opts j r → (r' : Registry) (step : Step) → RegistryAfter r r' asked.request step → (IsMake asked.request → (o : ℕ) → IsTold o step → has (held t (j ++ act opts sites input j p t n asked)) o ≡ true) → Tells opts (j ++ act opts sites input j p t n asked) r'
   told_by runs going_on may runs' going' r x r' step w new =
       let same = going going' in
       let on = ap (λ l. is_over (j ++ l)) (sym same) ∙ going' in
@@ -97,5 +96,4 @@ module _ (opts : Options) (sites : List Site) (input : List ℕ) (j : Journal) (
             let more = subst (λ l. processor_count opts j + new_processors (sort_of asked.request) ≤ processor_count opts (j ++ l)) (sym same) (processors_row opts sites input j p t n asked.line asked.request on) in
             let c = x.processors in
             let d = w.processors in omega (arith, more, c, d);
-        masks = w.masks ∙ x.masks;
       }

@@ -23,7 +23,7 @@ use Rattle.uc_kernel.specs.declared.given.Next.{Next}
 use Rattle.uc_kernel.specs.declared.given.Next.TheVariants.{Go, Blocked, Ended}
 use Rattle.uc_vproc.specs.Rest.{AreEnded, stops}
 use Rattle.uc_vproc.specs.Desks.{LivesIn, LivesNext, value_after}
-use Rattle.uc_vproc.proofs.Makers.{not_both}
+use Rattle.uc_vproc.proofs.MakersLemmas.{not_both}
 
 -- a task that has ended stays so
 pub ended_on : (u : ℕ) (j a : Journal) → has_ended u j ≡ true → has_ended u (j ++ a) ≡ true

@@ -1,36 +1,26 @@
 -- What a task may ask by the objects in its hand and those that are there, fits.
-use Rattle.std.proofs.Common.{◌≡◌, ℕ, zero, suc, ◌<◌, ◌≤◌, ◌^◌, Bool, true, false, not, List, [], ◌∷◌, refl, sym, ap, ◌∙◌, subst, length, arith}
+use Rattle.std.proofs.Common.{◌≡◌, ℕ, ◌<◌, Bool, true, false, not, List, [], refl, sym, ap, ◌∙◌, subst, length}
 use Rattle.std.specs.Prelude.{slice_index_or}
 use Rattle.uc_tree.specs.Programs.{Site}
-use Rattle.uc_tree.specs.declared.limits.TheConstants.{MEMBERS, EVENTS}
 use Rattle.uc_entry.specs.declared.entry.Options.{Options}
 use Rattle.uc_entry.specs.declared.request.Request.{Request}
 use Rattle.uc_entry.specs.declared.request.Request.TheVariants as ask
 use Rattle.uc_acts.specs.Journal.{Journal, held, is_over, own_object}
 use Rattle.uc_acts.specs.Known.{has, owner}
-use Rattle.uc_acts.specs.Doors.{site_at}
 use Rattle.uc_acts.specs.Queues.{cluster_count, processor_count}
-use Rattle.uc_acts.specs.KernelRuns.{Fits, KernelRuns, IsAt, IsMade, IsOutside}
+use Rattle.uc_acts.specs.KernelRuns.{Fits, KernelRuns, IsAt, IsMade}
 use Rattle.uc_acts.proofs.Held.{law_held}
 use Rattle.uc_acts.proofs.Counted.{counted_run, law_made}
+use Rattle.uc_site_laws.specs.Naming.{NamesKnown}
+use Rattle.uc_event_laws.specs.Marked.{EventKnown}
 use Rattle.uc_step_laws.specs.Hands.{HasForm}
 use Rattle.uc_vproc.specs.declared.fits.Place.TheVariants as place
-use Rattle.uc_vproc.specs.Places.{place_of, IsAccepting, IsApart, IsBare, IsOwned}
-use Rattle.uc_vproc.specs.Registries.{AreThere, mask_counts}
+use Rattle.uc_vproc.specs.Places.{place_of, IsBare, IsOwned}
+use Rattle.uc_vproc.specs.Registries.{AreThere}
 
 pub not_true_false : (b : Bool) → not b ≡ true → b ≡ false
 not_true_false true h = absurd (cc h)
 not_true_false false h = refl
-
--- the masks of each accept statement
-masks_long : (sites : List Site) → length (mask_counts sites) ≡ length sites
-masks_long [] = refl
-masks_long (s ∷ sites) = ap suc (masks_long sites)
-
-masks_at : (sites : List Site) (n : ℕ) → n < length sites → slice_index_or (mask_counts sites) n 0 ≡ 2 ^ length (site_at sites n).clauses
-masks_at [] n lt = absurd (omega (arith, lt))
-masks_at (s ∷ sites) zero lt = refl
-masks_at (s ∷ sites) (suc n) lt = masks_at sites n (omega (arith, lt))
 
 module _ (opts : Options) (sites : List Site) (input : List ℕ) (j : Journal) (runs : KernelRuns opts sites input j) where
   -- an object that is there is made and not gone
@@ -64,48 +54,35 @@ module _ (opts : Options) (sites : List Site) (input : List ℕ) (j : Journal) (
     at_near : (a o : ℕ) → has hand o ≡ true → place.At a ≡ place.At o → IsAt t a j
     at_near a o h e = near a (subst (λ x. has hand x ≡ true) (at_same a o e) h)
 
-    pub fits_at : (o : ℕ) (r : Request) → has hand o ≡ true → place_of own r ≡ place.At o → Fits opts sites j t r
-    fits_at o (ask.Made a) h e = at_near a o h e
-    fits_at o (ask.Leave a x) h e = at_near a o h e
-    fits_at o (ask.Wait a c n) h e = at_near a o h e
-    fits_at o (ask.Signal a c) h e = at_near a o h e
-    fits_at o (ask.SignalBlock a c) h e = at_near a o h e
-    fits_at o (ask.Empty a c) h e = at_near a o h e
-    fits_at o (ask.Front a c) h e = at_near a o h e
-    fits_at o (ask.Gone a) h e = at_near a o h e
-    fits_at o ask.End h e = subst (λ x. IsAt t x j) own_is (at_near own o h e)
-    fits_at o r h e = absurd (cc e)
+    pub fits_at : (o : ℕ) (r : Request) → NamesKnown sites r → has hand o ≡ true → place_of own r ≡ place.At o → Fits opts sites j t r
+    fits_at o (ask.Made a) n h e = at_near a o h e
+    fits_at o (ask.Leave a x) n h e = at_near a o h e
+    fits_at o (ask.Wait a c v) n h e = at_near a o h e
+    fits_at o (ask.Signal a c) n h e = at_near a o h e
+    fits_at o (ask.SignalBlock a c) n h e = at_near a o h e
+    fits_at o (ask.Empty a c) n h e = at_near a o h e
+    fits_at o (ask.Front a c) n h e = at_near a o h e
+    fits_at o (ask.Gone a) n h e = at_near a o h e
+    fits_at o (ask.Accept a site mask) n h e = (at_near a o h e, n.0, n.1)
+    fits_at o ask.End n h e = subst (λ x. IsAt t x j) own_is (at_near own o h e)
+    fits_at o r n h e = absurd (cc e)
 
     pub fits_bare : (o : ℕ) (r : Request) → IsBare hand o j → place_of own r ≡ place.Unowned o → Fits opts sites j t r
     fits_bare o (ask.Spawn a) b e =
         let s : o ≡ a = cc e in (near a (subst (λ x. has hand x ≡ true) s b.holds), subst (λ x. owner x j ≡ []) s b.nobody)
     fits_bare o r b e = absurd (cc e)
 
-    pub fits_owned : (o event : ℕ) (r : Request) → IsOwned o event j → place_of own r ≡ place.Owned o event → Fits opts sites j t r
-    fits_owned o event (ask.Raise a n x y) b e =
+    pub fits_owned : (o : ℕ) (r : Request) → EventKnown r → IsOwned o j → place_of own r ≡ place.Owned o → Fits opts sites j t r
+    fits_owned o (ask.Raise a n x y) k b e =
         let s : o ≡ a = cc e in
-        let f : event ≡ n = cc e in
-        (subst (λ z. IsMade z j) s b.known, subst (λ z. length (owner z j) ≡ 1) s b.one, subst (λ z. z < EVENTS) f b.is_event)
-    fits_owned o event r b e = absurd (cc e)
+        (subst (λ z. IsMade z j) s b.known, subst (λ z. length (owner z j) ≡ 1) s b.one, k)
+    fits_owned o r k b e = absurd (cc e)
 
-    pub fits_apart : (there : List Bool) → AreThere there j → (o m : ℕ) (r : Request) → IsApart there hand o m → place_of own r ≡ place.Outside o m → Fits opts sites j t r
-    fits_apart there are o m (ask.Call a n) b e =
+    pub fits_apart : (there : List Bool) → AreThere there j → (o : ℕ) (r : Request) → NamesKnown sites r → ((a m : ℕ) → r ≡ ask.Call a m → has (held t j) a ≡ false) → slice_index_or there o false ≡ true → place_of own r ≡ place.Outside o → Fits opts sites j t r
+    fits_apart there are o (ask.Call a m) n f b e =
         let s : o ≡ a = cc e in
-        let f : m ≡ n = cc e in
-        (subst (λ z. IsOutside t z j) s (record { outside = sym ((law_held j).inside t o) ∙ ap (λ l. has l o) (sym same) ∙ b.apart; known = known_there there are o b.known }), subst (λ z. z ≤ MEMBERS) f b.is_member)
-    fits_apart there are o m r b e = absurd (cc e)
-
-    pub fits_accepting : (o site mask : ℕ) (masks : List ℕ) (r : Request) → masks ≡ mask_counts sites → IsAccepting masks hand o site mask → place_of own r ≡ place.Accepting o site mask → Fits opts sites j t r
-    fits_accepting o site mask masks (ask.Accept a s m) are b e =
-        let f : o ≡ a = cc e in
-        let g : site ≡ s = cc e in
-        let q : mask ≡ m = cc e in
-        let x = subst (λ l. IsAccepting l hand a s m) are (subst (λ z. IsAccepting masks hand a s z) q (subst (λ z. IsAccepting masks hand a z mask) g (subst (λ z. IsAccepting masks hand z site mask) f b))) in
-        let long = masks_long sites in
-        let within = x.known in
-        let lt : s < length sites = omega (arith, long, within) in
-        (near a x.holds, lt, subst (λ z. m < z) (masks_at sites s lt) x.is_mask)
-    fits_accepting o site mask masks r are b e = absurd (cc e)
+        (record { outside = sym ((law_held j).inside t a) ∙ f a m refl; known = known_there there are a (subst (λ z. slice_index_or there z false ≡ true) s b) }, n)
+    fits_apart there are o r n f b e = absurd (cc e)
 
     pub fits_cluster : (c : ℕ) (r : Request) → c < cluster_count j → place_of own r ≡ place.Cluster c → Fits opts sites j t r
     fits_cluster c (ask.ClusterEnd k) lt e = let f : c ≡ k = cc e in subst (λ z. z < cluster_count j) f lt

@@ -1,4 +1,4 @@
-pub mod Makers
+pub mod MakersLemmas
 pub mod Parts
 pub mod Asked
 pub mod Counting

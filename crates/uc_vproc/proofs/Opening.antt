@@ -28,7 +28,7 @@ use Rattle.uc_vproc.specs.Rest.{HasSource, IsSource, IsHome, IsTask}
 use Rattle.uc_vproc.specs.declared.registry.Registry.{Registry}
 use Rattle.uc_vproc.specs.Registries.{IsOpening, Tells}
 use Rattle.uc_vproc.specs.Desks.{Keeping, no_fields}
-use Rattle.uc_vproc.proofs.Makers.{manned_push}
+use Rattle.uc_vproc.proofs.MakersLemmas.{manned_push}
 use Rattle.uc_vproc.proofs.Parts.{born_task}
 
 none_runs : (p : ℕ) → running p [] ≡ []
@@ -88,15 +88,14 @@ module _ (code : Code) (main : ℕ) (opts : Options) (input : List ℕ) (first :
   unfolding processor_count
   first_processors = omega arith
 
-  told_first : (r : Registry) → IsOpening code.sites opts.processors r → Tells opts code.sites (begin opts ∷ []) r
+  told_first : (r : Registry) → IsOpening opts.processors r → Tells opts (begin opts ∷ []) r
   told_first r x = record {
     objects = λ o h. absurd (none_there o (ap (λ l. slice_index_or l o false) (sym x.objects) ∙ h));
     clusters = let c = x.clusters in let n = first_clusters in omega (arith, c, n);
     processors = let c = x.processors_are in let n = first_processors in omega (arith, c, n);
-    masks = x.masks;
   }
 
-  pub opens : (k : Kept (Option Machine) Members) (ns : Notes) (room : ℕ) (r : Registry) → InRange opts → Opened code.sites opts input (Some first) no_fields k → ns ≡ (nobody, Idle) ∷ [] → opts.entries ≤ room → IsOpening code.sites opts.processors r → Keeping code main k ns room r
+  pub opens : (k : Kept (Option Machine) Members) (ns : Notes) (room : ℕ) (r : Registry) → InRange opts → Opened code.sites opts input (Some first) no_fields k → ns ≡ (nobody, Idle) ∷ [] → opts.entries ≤ room → IsOpening opts.processors r → Keeping code main k ns room r
   opens k ns room r range o e le one =
       subst (λ x. Keeping code main x ns room r) (opened_is opts code.sites input (Some first) no_fields k o) (subst (λ x. Keeping code main (opened_as opts code.sites input k.values k.members) x room r) (sym e) (record {
         sourced = sourced;

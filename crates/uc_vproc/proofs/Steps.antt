@@ -32,7 +32,7 @@ use Rattle.uc_kernel.specs.Numbered.{keys, or_else, added, gathered}
 use Rattle.uc_kernel.proofs.Hands.{find_none, none_found}
 use Rattle.uc_kernel.proofs.Lying.{one_holder, not_true}
 use Rattle.uc_vproc.specs.Rest.{Out, OutElse}
-use Rattle.uc_vproc.proofs.Makers.{not_both}
+use Rattle.uc_vproc.proofs.MakersLemmas.{not_both}
 
 abbrev proc_of : Spot → ℕ
 proc_of (At (Running r)) = r

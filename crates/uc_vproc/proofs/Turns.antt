@@ -37,7 +37,7 @@ use Rattle.uc_vproc.specs.Makers.{Handed, Log, Notes, paired, tagged, entries, s
 use Rattle.uc_vproc.specs.Registries.{Tells}
 use Rattle.uc_vproc.specs.Rest.{IsSource, IsHome, IsTask, IsWork, OutElse, AtRest, Steady, WasHanded, stops}
 use Rattle.uc_vproc.specs.Desks.{EndsAs, Keeping, Got, Came, HandsNext, boxed, nothing, passes, WasHandedOut, none_left, gave, value_after}
-use Rattle.uc_vproc.proofs.Makers.{not_both, entries_paired, entries_append, entries_tagged, paired_more, server_push, manned_push, AllOn, handed_still, handed_act, names_none, all_tagged}
+use Rattle.uc_vproc.proofs.MakersLemmas.{not_both, entries_paired, entries_append, entries_tagged, paired_more, server_push, manned_push, AllOn, handed_still, handed_act, names_none, all_tagged}
 use Rattle.uc_vproc.proofs.Parts.{work_of, kept_work, each_gathered}
 use Rattle.uc_vproc.proofs.Counting.{told_given}
 use Rattle.uc_vproc.proofs.EndedLemmas.{ended_on}
@@ -146,7 +146,7 @@ module _ (code : Code) (main : ℕ) where
     entries_more step a = entries_append log (tagged n step a) ∙ ap (λ x. x ++ entries (tagged n step a)) log_is ∙ ap (λ x. k.journal ++ x) (entries_tagged n step a)
 
     -- more entries of one call
-    module _ (step : Step) (a : List Entry) (v : ℕ → Option (Option Machine)) (m : ℕ → Option Members) (b : Bool) (runs : KernelRuns k.opts k.sites k.input (k.journal ++ a)) (manned : Manned (log ++ tagged n step a)) (prefix : (source : Source) → IsSource code main source → IsPrefix source k.input k.opts (k.journal ++ a)) (steady : b ≡ false → is_over (k.journal ++ a) ≡ false → Steady code main (changed k a v m false) (log ++ tagged n step a)) (came : Came code n (log ++ tagged n step a) step) (registry' : Registry) (are : b ≡ false → is_over (k.journal ++ a) ≡ false → Tells k.opts k.sites (k.journal ++ a) registry') (tick : is_over (k.journal ++ a) ≡ false → AllLeft k.opts (k.journal ++ a)) where
+    module _ (step : Step) (a : List Entry) (v : ℕ → Option (Option Machine)) (m : ℕ → Option Members) (b : Bool) (runs : KernelRuns k.opts k.sites k.input (k.journal ++ a)) (manned : Manned (log ++ tagged n step a)) (prefix : (source : Source) → IsSource code main source → IsPrefix source k.input k.opts (k.journal ++ a)) (steady : b ≡ false → is_over (k.journal ++ a) ≡ false → Steady code main (changed k a v m false) (log ++ tagged n step a)) (came : Came code n (log ++ tagged n step a) step) (registry' : Registry) (are : b ≡ false → is_over (k.journal ++ a) ≡ false → Tells k.opts (k.journal ++ a) registry') (tick : is_over (k.journal ++ a) ≡ false → AllLeft k.opts (k.journal ++ a)) where
       log_more : paired (k.journal ++ a) (noted ns n step (k.journal ++ a)) ≡ log ++ tagged n step a
       log_more = ap (paired (k.journal ++ a)) (noted_more k.journal a ns n step keeps.counted) ∙ paired_more n step k.journal ns a keeps.counted
 
@@ -193,7 +193,7 @@ module _ (code : Code) (main : ℕ) where
             manned = keeps.manned;
             prefix = keeps.prefix;
             steady = λ g h. keeps.steady (f g) h;
-            told = λ g h. subst (Tells k.opts k.sites k.journal) (sym (same g)) (keeps.told (f g) h);
+            told = λ g h. subst (Tells k.opts k.journal) (sym (same g)) (keeps.told (f g) h);
             left = keeps.left;
           };
           log = ([], sym (append-nil log), λ i d lt. absurd (omega (arith, lt)));
@@ -219,7 +219,7 @@ module _ (code : Code) (main : ℕ) where
       given_prefix : (source : Source) → IsSource code main source → IsPrefix source k.input k.opts (k.journal ++ e ∷ [])
       given_prefix source is = let x = keeps.prefix source is in record { world = x.world; runs = more x.runs going (gives p t serves fits) }
 
-      given_told : k.abandoned ≡ false → Tells k.opts k.sites (k.journal ++ e ∷ []) registry
+      given_told : k.abandoned ≡ false → Tells k.opts (k.journal ++ e ∷ []) registry
       given_told f = told_given k.opts k.sites k.input k.journal p t keeps.runs serves registry (keeps.told f going)
 
       given_left : AllLeft k.opts (k.journal ++ e ∷ [])

@@ -2,11 +2,13 @@
 use Rattle.std.specs.Prelude.{◌≡◌, ℕ, ◌+◌, ◌≤◌, ◌⊎◌, Bool, true, false, List, [], ◌∷◌, Option, Some, None, IsSome, length, slice_index_or, if◌then◌else◌}
 use Rattle.std.specs.Option.{option_map}
 use Rattle.uc_tree.specs.Source.{Source}
+use Rattle.uc_tree.specs.Programs.{Site}
 use Rattle.uc_entry.specs.declared.entry.Options.{Options}
 use Rattle.uc_entry.specs.declared.request.Request.{Request}
 use Rattle.uc_entry.specs.declared.request.Request.TheVariants as ask
 use Rattle.uc_entry.specs.declared.request.Answer.TheVariants as answer
 use Rattle.uc_acts.specs.Journal.{Journal, begin, held, is_over}
+use Rattle.uc_acts.specs.Known.{has}
 use Rattle.uc_acts.specs.Queues.{running}
 use Rattle.uc_acts.specs.Serves.{left}
 use Rattle.uc_acts.specs.KernelRuns.{InRange, KernelRuns}
@@ -22,6 +24,8 @@ use Rattle.uc_ride.specs.UnwindingFalls.{KeepsAfter, ChildKeeps}
 use Rattle.uc_meaning.specs.Runs.{IsPrefix}
 use Rattle.uc_step_laws.specs.Hands.{HasForm}
 use Rattle.uc_program_laws.specs.Laws.{AllLeft}
+use Rattle.uc_site_laws.specs.Naming.{NamesKnown}
+use Rattle.uc_event_laws.specs.Marked.{EventKnown}
 use Rattle.uc_kernel.specs.Numbered.{keys}
 use Rattle.uc_kernel.specs.KernelState.{Brought, Kept, Store, kept}
 use Rattle.uc_kernel.specs.AtRest.{IsMake, IsSpawn}
@@ -66,7 +70,7 @@ module _ (code : Code) where
     pub manned : Manned (paired k.journal notes)
     pub prefix : (source : Source) → IsSource code main source → IsPrefix source k.input k.opts k.journal
     pub steady : k.abandoned ≡ false → is_over k.journal ≡ false → Steady code main (record k { abandoned = false }) (paired k.journal notes)
-    pub told : k.abandoned ≡ false → is_over k.journal ≡ false → Tells k.opts k.sites k.journal registry
+    pub told : k.abandoned ≡ false → is_over k.journal ≡ false → Tells k.opts k.journal registry
     pub left : is_over k.journal ≡ false → AllLeft k.opts k.journal
 
   -- what a worker with the seat n holds, as of a log: what was handed out for a processor that is served by that seat
@@ -174,15 +178,18 @@ pub record RegistryAfter (old new : Registry) (r : Request) (step : Step) : Type
   pub objects : ThereAfter old.there.items new.there.items r step
   pub clusters : new.clusters ≤ old.clusters + new_clusters (sort_of r)
   pub processors : new.processors ≤ old.processors + new_processors (sort_of r)
-  pub masks : new.masks.items ≡ old.masks.items
 
 -- what is known of a task that asks: it has just the objects in hand that it is inside, with room for one more, makes no more ticks than it
--- has left, and prints and reads in a form that fits; its value comes back where it goes on, and with a spawn the new task
-pub record IsAsking (opts : Options) (j : Journal) (t : ℕ) (b : Brought (Option Machine) Members) : Type 0 where
+-- has left, prints and reads in a form that fits, calls what it is not inside, and names members, accept statements and events that there are; its value comes back where it
+-- goes on, and with a spawn the new task
+pub record IsAsking (opts : Options) (sites : List Site) (j : Journal) (t : ℕ) (b : Brought (Option Machine) Members) : Type 0 where
   pub hand : keys b.members.items ≡ held t j
   pub room : 1 ≤ b.members.spare
   pub within : b.ticks ≤ left opts j t
   pub form : HasForm b.asked.request
+  pub names : NamesKnown sites b.asked.request
+  pub event : EventKnown b.asked.request
+  pub apart : (o m : ℕ) → b.asked.request ≡ ask.Call o m → has (held t j) o ≡ false
   pub goes : stops b.asked.request ≡ false → IsSome b.task
   pub born : IsSpawn b.asked.request → IsSome b.child
 

@@ -1,6 +1,5 @@
 -- What a request is to fit.
-use Rattle.std.specs.Prelude.{◌≡◌, ℕ, ◌<◌, ◌≤◌, Bool, true, false, List, [], length, slice_index_or}
-use Rattle.uc_tree.specs.declared.limits.TheConstants.{MEMBERS, EVENTS}
+use Rattle.std.specs.Prelude.{◌≡◌, ℕ, true, List, [], length}
 use Rattle.uc_entry.specs.declared.request.Request.{Request}
 use Rattle.uc_entry.specs.declared.request.Request.TheVariants as ask
 use Rattle.uc_acts.specs.Journal.{Journal}
@@ -29,9 +28,9 @@ place_of own (ask.Front o c) = place.At o
 place_of own (ask.Gone o) = place.At o
 place_of own ask.End = place.At own
 place_of own (ask.Spawn o) = place.Unowned o
-place_of own (ask.Call o m) = place.Outside o m
-place_of own (ask.Raise o event x y) = place.Owned o event
-place_of own (ask.Accept o site mask) = place.Accepting o site mask
+place_of own (ask.Call o m) = place.Outside o
+place_of own (ask.Raise o event x y) = place.Owned o
+place_of own (ask.Accept o site mask) = place.At o
 place_of own (ask.ClusterEnd c) = place.Cluster c
 place_of own (ask.Processor c) = place.Cluster c
 place_of own (ask.Migrate c) = place.Cluster c
@@ -42,20 +41,7 @@ pub record IsBare (hand : List ℕ) (o : ℕ) (j : Journal) : Type 0 where
   pub holds : has hand o ≡ true
   pub nobody : owner o j ≡ []
 
--- an object that is made and not gone and a task's own, and an event
-pub record IsOwned (o event : ℕ) (j : Journal) : Type 0 where
+-- an object that is made and not gone and a task's own
+pub record IsOwned (o : ℕ) (j : Journal) : Type 0 where
   pub known : IsMade o j
   pub one : length (owner o j) ≡ 1
-  pub is_event : event < EVENTS
-
--- an object that is there and not in hand, and a member
-pub record IsApart (there : List Bool) (hand : List ℕ) (o m : ℕ) : Type 0 where
-  pub known : slice_index_or there o false ≡ true
-  pub apart : has hand o ≡ false
-  pub is_member : m ≤ MEMBERS
-
--- an object in hand, and a mask of the clauses of an accept statement, by how many masks each has
-pub record IsAccepting (masks hand : List ℕ) (o site mask : ℕ) : Type 0 where
-  pub holds : has hand o ≡ true
-  pub known : site < length masks
-  pub is_mask : mask < slice_index_or masks site 0

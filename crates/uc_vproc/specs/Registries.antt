@@ -1,6 +1,5 @@
--- What is told of what may be asked for: objects, clusters, processors and accept statements.
-use Rattle.std.specs.Prelude.{◌≡◌, ℕ, ◌≤◌, ◌^◌, Bool, true, false, List, [], ◌∷◌, length, map, slice_index_or}
-use Rattle.uc_tree.specs.Programs.{Site}
+-- What is told of what may be asked for: objects, clusters and processors.
+use Rattle.std.specs.Prelude.{◌≡◌, ℕ, ◌≤◌, Bool, true, false, List, [], ◌∷◌, slice_index_or}
 use Rattle.uc_entry.specs.declared.entry.Options.{Options}
 use Rattle.uc_entry.specs.declared.request.Request.{Request}
 use Rattle.uc_entry.specs.declared.request.Request.TheVariants as ask
@@ -15,23 +14,17 @@ use Rattle.uc_vproc.specs.declared.registry.Registry.{Registry}
 abbrev pub AreThere : List Bool → Journal → Type 0
 AreThere there j = (o : ℕ) → slice_index_or there o false ≡ true → has (made j) o ≡ true
 
--- how many masks the clauses of each accept statement have
-abbrev pub mask_counts : List Site → List ℕ
-mask_counts sites = map (λ s. 2 ^ length s.clauses) sites
-
 -- what is told, is so: objects are there, and so many clusters and processors were made
-pub record Tells (opts : Options) (sites : List Site) (j : Journal) (r : Registry) : Type 0 where
+pub record Tells (opts : Options) (j : Journal) (r : Registry) : Type 0 where
   pub objects : AreThere r.there.items j
   pub clusters : r.clusters ≤ cluster_count j
   pub processors : r.processors ≤ processor_count opts j
-  pub masks : r.masks.items ≡ mask_counts sites
 
 -- as a run opens: no object that may be called, one cluster, and its processors
-pub record IsOpening (sites : List Site) (processors : ℕ) (r : Registry) : Type 0 where
+pub record IsOpening (processors : ℕ) (r : Registry) : Type 0 where
   pub objects : r.there.items ≡ false ∷ []
   pub clusters : r.clusters ≡ 1
   pub processors_are : r.processors ≡ processors
-  pub masks : r.masks.items ≡ mask_counts sites
 
 -- what an act may change of it
 abbrev pub sort_of : Request → Sort

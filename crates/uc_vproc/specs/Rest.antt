@@ -20,6 +20,8 @@ use Rattle.uc_frames.specs.StandsByParts.{Alike, MembersStand}
 use Rattle.uc_step.specs.WeightFalls.{Keeps}
 use Rattle.uc_meaning.specs.Runs.{World, Runs, bare, drawn}
 use Rattle.uc_program_laws.specs.Fitting.{RunFits}
+use Rattle.uc_site_laws.specs.Named.{NamedSource}
+use Rattle.uc_event_laws.specs.Counted.{CountedSource}
 use Rattle.uc_kernel.specs.KernelState.{Kept}
 use Rattle.uc_vproc.specs.Makers.{Log, Handed, handed_out}
 
@@ -30,10 +32,12 @@ pub record IsSource (code : Code) (main : ℕ) (source : Source) : Type 0 where
   pub routine : Routine
   pub there : slice_get source.routines source.main ≡ Some routine
 
--- there is such a source
+-- there is such a source, of which all names are known, and in which arguments are counted
 pub record HasSource (code : Code) (main : ℕ) : Type 0 where
   pub source : Source
   pub is : IsSource code main source
+  pub names : NamedSource source.sites source
+  pub counted : CountedSource source
 
 -- whether the task does not go on behind a request: its value is given up
 abbrev pub stops : Request → Bool

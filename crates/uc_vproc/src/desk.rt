@@ -124,7 +124,7 @@ impl Desk {
         ensures { IfOk result (λ d. IsOpened code.now main input.items opts d) }
     {
         let mut notes = Vec::with_capacity(alloc, opts.entries as usize)?;
-        let registry = opening(alloc, &shape.sites, opts.processors)?;
+        let registry = opening(alloc, opts.processors)?;
         let opened = Kernel::open(alloc, shape, opts, input, Some(first), own)?;
         let kernel = Box::new(alloc, opened)?;
         make_notes(&mut notes, 1, NOBODY, &Step::Idle);

@@ -1,13 +1,16 @@
 // What a task may ask, by the objects in its hand and those that are there.
-ghost use Rattle.std.specs.Prelude.{◌≡◌, ◌<◌, ◌≤◌, true, false, length, slice_index_or};
-ghost use Rattle.uc_tree.specs.declared.limits.TheConstants.{TASKS, MEMBERS, EVENTS};
+ghost use Rattle.std.specs.Prelude.{◌≡◌, ◌<◌, ℕ, true, false, length, slice_index_or};
+ghost use Rattle.uc_tree.specs.declared.limits.TheConstants.{TASKS};
+ghost use Rattle.uc_entry.specs.declared.request.Request.TheVariants as ask;
 ghost use Rattle.uc_acts.specs.Journal.{held, is_over};
 ghost use Rattle.uc_acts.specs.Known.{has, object_count, owner};
 ghost use Rattle.uc_acts.specs.KernelRuns.{KernelRuns, Fits, IsMade};
 ghost use Rattle.uc_step_laws.specs.Hands.{HasForm};
+ghost use Rattle.uc_site_laws.specs.Naming.{NamesKnown};
+ghost use Rattle.uc_event_laws.specs.Marked.{EventKnown};
 ghost use Rattle.uc_kernel.specs.Numbered.{keys};
 ghost use Rattle.uc_vproc.specs.Registries.{AreThere, Tells};
-ghost use Rattle.uc_vproc.specs.Places.{place_of, IsBare, IsOwned, IsApart, IsAccepting};
+ghost use Rattle.uc_vproc.specs.Places.{place_of, IsBare, IsOwned};
 
 use crate::registry::Registry;
 use uc_entry::list::List;
@@ -15,23 +18,22 @@ use uc_entry::request::Request;
 use uc_frames::members::Members;
 use uc_frames::task::Task;
 use uc_kernel::kernel::Kernel;
-use uc_tree::limits::{EVENTS, MEMBERS};
 
-/// What a request is to fit: nothing, an object in hand, one in hand that is no task's own, a member of one that is there and not in
-/// hand, an accept statement in one in hand with a mask of its clauses, an event of one that is a task's own, a cluster, or a processor.
+/// What a request is to fit: nothing, an object in hand, one in hand that is no task's own, one that is there, one
+/// that is a task's own, a cluster, or a processor.
 #[derive(Drop)]
 pub enum Place {
     Anywhere,
     At(u32),
     Unowned(u32),
-    Outside(u32, u8),
-    Accepting(u32, u32, u32),
-    Owned(u32, u8),
+    Outside(u32),
+    Owned(u32),
     Cluster(u32),
     Processor(u32),
 }
 
-/// Whether what a task with this hand asks fits, by what may be asked for. What it prints and reads is in a form that fits.
+/// Whether what a task with this hand asks fits, by what may be asked for. What it prints and reads is in a form that fits, the
+/// members, accept statements and events that it names are there, and what it calls is not in its hand.
 pub fn fits(
     kernel: &Kernel<Option<Task>, Members>,
     registry: &Registry,
@@ -44,7 +46,10 @@ pub fn fits(
     requires known { task < TASKS }
     requires hand { keys hand.now.items ≡ held task kernel.now.journal }
     requires form { HasForm request.now }
-    requires told { Tells kernel.now.opts kernel.now.sites kernel.now.journal registry.now }
+    requires names { NamesKnown kernel.now.sites request.now }
+    requires event { EventKnown request.now }
+    requires apart { (o m : ℕ) → request.now ≡ ask.Call o m → has (held task kernel.now.journal) o ≡ false }
+    requires told { Tells kernel.now.opts kernel.now.journal registry.now }
     ensures { result ≡ true → Fits kernel.now.opts kernel.now.sites kernel.now.journal task request.now }
 {
     let own = kernel.own_object(task);
@@ -52,11 +57,8 @@ pub fn fits(
         Place::Anywhere => true,
         Place::At(object) => holds(hand, object),
         Place::Unowned(object) => is_bare(kernel, &registry.there, hand, object),
-        Place::Outside(object, member) => is_apart(&registry.there, hand, object, member),
-        Place::Accepting(object, site, mask) => {
-            is_accepting(&registry.masks, hand, object, site, mask)
-        }
-        Place::Owned(object, event) => is_sought(kernel, &registry.there, object, event),
+        Place::Outside(object) => is_there(&registry.there, object),
+        Place::Owned(object) => is_sought(kernel, &registry.there, object),
         Place::Cluster(cluster) => cluster < registry.clusters,
         Place::Processor(processor) => processor < registry.processors,
     }
@@ -85,10 +87,10 @@ fn place_for(own: u32, request: &Request) -> Place
         Request::Front { object, .. } => Place::At(object),
         Request::Gone { object } => Place::At(object),
         Request::End => Place::At(own),
+        Request::Accept { object, .. } => Place::At(object),
         Request::Spawn { object } => Place::Unowned(object),
-        Request::Call { object, member } => Place::Outside(object, member),
-        Request::Raise { object, event, .. } => Place::Owned(object, event),
-        Request::Accept { object, site, mask } => Place::Accepting(object, site, mask),
+        Request::Call { object, .. } => Place::Outside(object),
+        Request::Raise { object, .. } => Place::Owned(object),
         Request::ClusterEnd { cluster } => Place::Cluster(cluster),
         Request::Processor { cluster } => Place::Cluster(cluster),
         Request::Migrate { cluster } => Place::Cluster(cluster),
@@ -129,52 +131,17 @@ fn is_bare(
     !kernel.is_owned(object)
 }
 
-// Whether an object is a task's own, and this is an event.
-fn is_sought(kernel: &Kernel<Option<Task>, Members>, there: &[bool], object: u32, event: u8) -> bool
+// Whether an object is a task's own.
+fn is_sought(kernel: &Kernel<Option<Task>, Members>, there: &[bool], object: u32) -> bool
     requires runs { KernelRuns kernel.now.opts kernel.now.sites kernel.now.input kernel.now.journal }
     requires going { is_over kernel.now.journal ≡ false }
     requires there { AreThere there.now kernel.now.journal }
-    ensures { result ≡ true → IsOwned object event kernel.now.journal }
+    ensures { result ≡ true → IsOwned object kernel.now.journal }
 {
-    if event >= EVENTS {
-        return false;
-    }
     if !is_there(there, object) {
         return false;
     }
     kernel.is_owned(object)
-}
-
-// Whether an object is there and not in hand, and this is a member.
-fn is_apart(there: &[bool], hand: &List<(u64, Members)>, object: u32, member: u8) -> bool
-    ensures { result ≡ true → IsApart there.now (keys hand.now.items) object member }
-{
-    if member > MEMBERS {
-        return false;
-    }
-    if !is_there(there, object) {
-        return false;
-    }
-    !holds(hand, object)
-}
-
-// Whether an object is in hand, and the clauses of an accept statement have this mask.
-fn is_accepting(
-    masks: &[u64],
-    hand: &List<(u64, Members)>,
-    object: u32,
-    site: u32,
-    mask: u32,
-) -> bool
-    ensures { result ≡ true → IsAccepting masks.now (keys hand.now.items) object site mask }
-{
-    if !holds(hand, object) {
-        return false;
-    }
-    match masks.get(site as usize) {
-        None => false,
-        Some(count) => (mask as u64) < *count,
-    }
 }
 
 // Whether an object is told to be there.

@@ -8,4 +8,4 @@ returns-then-arrives-clause-source c =
 
 pub returns-clause-source : goal.returns-clause-source
 returns-clause-source c =
-    λ source code s h line o k. call_left source code c.args.work.now c.go.new.self s h false c.args.arrived c.args.unwound line o k (sym c.if-arrives.false ∙ c.arrives.ensures) c.go.ensures
+    λ source code s h line o k. call_left source code c.args.work.now c.set_next.new.self s h false c.args.arrived c.args.unwound line o k (sym c.if-arrives.false ∙ c.arrives.ensures) c.set_next.ensures

@@ -1,4 +1,4 @@
-use Rattle.uc_request_laws.proofs.MarkedWorlds.{law_holds}
+use Rattle.uc_request_laws.proofs.RequestLemmas.{law_holds}
 use Rattle.uc_request_laws.proofs.laws.law_holds.Goals as goal
 
 pub returns : goal.returns

@@ -1,4 +1,4 @@
-use Rattle.uc_request_laws.proofs.NamedWorlds.{law_names}
+use Rattle.uc_request_laws.proofs.RequestLemmas.{law_names}
 use Rattle.uc_request_laws.proofs.laws.law_names.Goals as goal
 
 pub returns : goal.returns

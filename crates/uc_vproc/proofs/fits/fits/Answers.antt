@@ -1,7 +1,7 @@
-use Rattle.std.proofs.Common.{◌<◌, arith, rules, subst, sym, ◌∙◌}
+use Rattle.std.proofs.Common.{◌<◌, false, arith, rules, sym, ap, ◌∙◌}
+use Rattle.std.specs.Prelude.{slice_index_or}
 use Rattle.uc_kernel.specs.Numbered.{keys}
-use Rattle.uc_vproc.specs.Places.{IsAccepting, IsApart}
-use Rattle.uc_vproc.proofs.Fitting.{fits_anywhere, fits_at, fits_bare, fits_apart, fits_accepting, fits_cluster, fits_owned, fits_processor}
+use Rattle.uc_vproc.proofs.Fitting.{fits_anywhere, fits_at, fits_bare, fits_apart, fits_cluster, fits_owned, fits_processor}
 use Rattle.uc_vproc.proofs.fits.fits.Goals as goal
 
 pub returns-in-Anywhere : goal.returns-in-Anywhere
@@ -12,7 +12,7 @@ returns-in-Anywhere c h =
 pub returns-in-At : goal.returns-in-At
 returns-in-At c h =
     let k = c.args.kernel.now in
-    fits_at k.opts k.sites k.input k.journal c.requires.runs c.requires.going c.args.task (keys c.args.hand.now.items) c.requires.hand c.own_object-own.result c.own_object-own.ensures c.in-At.object c.args.request.now (sym c.holds.ensures ∙ h) (sym c.place_for.ensures ∙ c.in-At.is)
+    fits_at k.opts k.sites k.input k.journal c.requires.runs c.requires.going c.args.task (keys c.args.hand.now.items) c.requires.hand c.own_object-own.result c.own_object-own.ensures c.in-At.object c.args.request.now c.requires.names (sym c.holds.ensures ∙ h) (sym c.place_for.ensures ∙ c.in-At.is)
 
 pub returns-in-Unowned : goal.returns-in-Unowned
 returns-in-Unowned c h =
@@ -22,17 +22,12 @@ returns-in-Unowned c h =
 pub returns-in-Outside : goal.returns-in-Outside
 returns-in-Outside c h =
     let k = c.args.kernel.now in
-    fits_apart k.opts k.sites k.input k.journal c.requires.runs c.requires.going c.args.task (keys c.args.hand.now.items) c.requires.hand c.own_object-own.result c.own_object-own.ensures c.args.registry.now.there.items c.requires.told.objects c.in-Outside.object c.in-Outside.member c.args.request.now (subst (λ l. IsApart l (keys c.args.hand.now.items) c.in-Outside.object c.in-Outside.member) c.deref-in-Outside.ensures.value (c.is_apart.ensures h)) (sym c.place_for.ensures ∙ c.in-Outside.is)
+    fits_apart k.opts k.sites k.input k.journal c.requires.runs c.requires.going c.args.task (keys c.args.hand.now.items) c.requires.hand c.own_object-own.result c.own_object-own.ensures c.args.registry.now.there.items c.requires.told.objects c.in-Outside.object c.args.request.now c.requires.names c.requires.apart (ap (λ l. slice_index_or l c.in-Outside.object false) (sym c.deref-in-Outside.ensures.value) ∙ sym c.is_there.ensures ∙ h) (sym c.place_for.ensures ∙ c.in-Outside.is)
 
 pub returns-in-Owned : goal.returns-in-Owned
 returns-in-Owned c h =
     let k = c.args.kernel.now in
-    fits_owned k.opts k.sites k.input k.journal c.requires.runs c.requires.going c.args.task (keys c.args.hand.now.items) c.requires.hand c.own_object-own.result c.own_object-own.ensures c.in-Owned.object c.in-Owned.event c.args.request.now (c.is_sought.ensures h) (sym c.place_for.ensures ∙ c.in-Owned.is)
-
-pub returns-in-Accepting : goal.returns-in-Accepting
-returns-in-Accepting c h =
-    let k = c.args.kernel.now in
-    fits_accepting k.opts k.sites k.input k.journal c.requires.runs c.requires.going c.args.task (keys c.args.hand.now.items) c.requires.hand c.own_object-own.result c.own_object-own.ensures c.in-Accepting.object c.in-Accepting.site c.in-Accepting.mask c.args.registry.now.masks.items c.args.request.now c.requires.told.masks (subst (λ l. IsAccepting l (keys c.args.hand.now.items) c.in-Accepting.object c.in-Accepting.site c.in-Accepting.mask) c.deref-in-Accepting.ensures.value (c.is_accepting.ensures h)) (sym c.place_for.ensures ∙ c.in-Accepting.is)
+    fits_owned k.opts k.sites k.input k.journal c.requires.runs c.requires.going c.args.task (keys c.args.hand.now.items) c.requires.hand c.own_object-own.result c.own_object-own.ensures c.in-Owned.object c.args.request.now c.requires.event (c.is_sought.ensures h) (sym c.place_for.ensures ∙ c.in-Owned.is)
 
 pub returns-in-Cluster : goal.returns-in-Cluster
 returns-in-Cluster c h =

@@ -1,4 +1,4 @@
-use Rattle.std.proofs.Common.{arith, sym, ◌∙◌}
+use Rattle.std.proofs.Common.{sym, ◌∙◌}
 use Rattle.uc_vproc.proofs.Fitting.{known_there}
 use Rattle.uc_vproc.proofs.fits.is_sought.Goals as goal
 
@@ -10,4 +10,4 @@ is_owned-requires-clause-known c =
 pub returns : goal.returns
 returns c h =
     let k = c.args.kernel.now in
-    record { known = known_there k.opts k.sites k.input k.journal c.requires.runs c.args.there.now c.requires.there c.args.object (sym c.is_there.ensures ∙ c.if-not-is_there.false); one = c.is_owned.ensures.one h; is_event = let l = c.if-event-ge-EVENTS.false in omega (arith, l) }
+    record { known = known_there k.opts k.sites k.input k.journal c.requires.runs c.args.there.now c.requires.there c.args.object (sym c.is_there.ensures ∙ c.if-not-is_there.false); one = c.is_owned.ensures.one h }

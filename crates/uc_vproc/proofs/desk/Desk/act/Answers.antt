@@ -24,11 +24,11 @@ put-step-requires-clause-asks c =
     let registry = c.self.inside.registry in
     let b = with_asked c.args.back c.args.asked.now in
     let br = subst (λ (x : Table). (seen : Log) × Saw n seen x.log × Brings x.code n seen b) (sym c.self.view_is) c.requires.brings in
-    subst (λ (s : Store (Option Machine) Members). s.abandoned ≡ false → is_over s.journal ≡ false → (t : ℕ) → running c.args.back.processor s.journal ≡ t ∷ [] → IsAsking s.opts s.journal t b) (sym c.deref_mut.ensures.value) (λ wanted going t runs. asking code main k ns room n registry c.self.invariant going wanted b br.0 br.1 br.2 t runs)
+    subst (λ (s : Store (Option Machine) Members). s.abandoned ≡ false → is_over s.journal ≡ false → (t : ℕ) → running c.args.back.processor s.journal ≡ t ∷ [] → IsAsking s.opts s.sites s.journal t b) (sym c.deref_mut.ensures.value) (λ wanted going t runs. asking code main k ns room n registry c.self.invariant going wanted b br.0 br.1 br.2 t runs)
 
 pub put-step-requires-clause-told : goal.put-step-requires-clause-told
 put-step-requires-clause-told c =
-    subst (λ (s : Store (Option Machine) Members). s.abandoned ≡ false → is_over s.journal ≡ false → Tells s.opts s.sites s.journal c.self.inside.registry) (sym c.deref_mut.ensures.value) c.self.invariant.told
+    subst (λ (s : Store (Option Machine) Members). s.abandoned ≡ false → is_over s.journal ≡ false → Tells s.opts s.journal c.self.inside.registry) (sym c.deref_mut.ensures.value) c.self.invariant.told
 
 pub put-step-requires-clause-runs : goal.put-step-requires-clause-runs
 put-step-requires-clause-runs c =

@@ -3,7 +3,6 @@ use Rattle.uc_frames.specs.Machine.{Machine, Members}
 use Rattle.uc_kernel.specs.KernelState.{Store, kept}
 use Rattle.uc_kernel.specs.Calls.{Opened}
 use Rattle.uc_vproc.specs.declared.step.Step.TheVariants.{Idle}
-use Rattle.uc_vproc.specs.Registries.{IsOpening}
 use Rattle.uc_vproc.specs.Desks.{Keeping}
 use Rattle.uc_vproc.proofs.Opening.{opens}
 use Rattle.uc_vproc.proofs.desk.Desk.open.Goals as goal
@@ -19,5 +18,4 @@ invariant_of-result c =
     let wide = c.in_ok-notes.ensures.capacity in
     let le : c.args.opts.entries ≤ vec_capacity c.make_notes.new.notes = omega (arith, cap, wide) in
     let registry = c.in_ok-registry.registry in
-    let told = subst (λ s. IsOpening s c.args.opts.processors registry) c.requires.sites (subst (λ s. IsOpening s c.args.opts.processors registry) c.deref.ensures.value c.in_ok-registry.ensures) in
-    subst (λ (s : Store (Option Machine) Members). Keeping c.of.result.value c.args.main (kept s) c.make_notes.new.notes.items (vec_capacity c.make_notes.new.notes) registry) (sym c.in_ok-kernel.ensures.ok) (subst (λ r. Keeping r c.args.main k c.make_notes.new.notes.items (vec_capacity c.make_notes.new.notes) registry) (sym c.of.ensures) (opens code c.args.main c.args.opts c.args.input.items c.args.first c.requires.source c.requires.first c.requires.kept k c.make_notes.new.notes.items (vec_capacity c.make_notes.new.notes) registry c.requires.options o one le told))
+    subst (λ (s : Store (Option Machine) Members). Keeping c.of.result.value c.args.main (kept s) c.make_notes.new.notes.items (vec_capacity c.make_notes.new.notes) registry) (sym c.in_ok-kernel.ensures.ok) (subst (λ r. Keeping r c.args.main k c.make_notes.new.notes.items (vec_capacity c.make_notes.new.notes) registry) (sym c.of.ensures) (opens code c.args.main c.args.opts c.args.input.items c.args.first c.requires.source c.requires.first c.requires.kept k c.make_notes.new.notes.items (vec_capacity c.make_notes.new.notes) registry c.requires.options o one le c.in_ok-registry.ensures))

@@ -1,0 +1,149 @@
+-- Answers, and the start of a task: an answer brings operands, and at most an object in which nothing is to do, where the task is once.
+use Rattle.std.proofs.Common.{◌≡◌, ℕ, ◌+◌, ◌≤◌, List, [], ◌∷◌, ◌++◌, Bool, true, false, Option, Some, None, refl, sym, subst, ap, arith}
+use Rattle.std.specs.Prelude.{nat_eq, if◌then◌else◌}
+use Rattle.std.proofs.lemmas.Bool.{eqb-true}
+use Rattle.uc_tree.specs.Source.{Source, routine_of}
+use Rattle.uc_entry.specs.Keyed.{find}
+use Rattle.uc_entry.specs.declared.request.Answer.{Answer}
+use Rattle.uc_entry.specs.declared.request.Answer.TheVariants as answer
+use Rattle.uc_entry.specs.declared.request.Request.{Request}
+use Rattle.uc_entry.specs.declared.request.Request.TheVariants as ask
+use Rattle.uc_machine.specs.Quiet.{first_state, routine_todo, zeros}
+use Rattle.uc_machine.specs.Pieces as piece
+use Rattle.uc_machine.specs.Pieces.{Value, Object, Todo, State, Members}
+use Rattle.uc_machine.specs.Answering.{answered, child_main, child_of, entered, new_members, with_operand}
+use Rattle.uc_depth_laws.specs.Entering.{holds_object, is_holding, EnteredSource}
+use Rattle.uc_depth_laws.specs.Owing.{more, marks, counted, Any, Entered, EngagedHand, owed_hand, owed_first, owed_own, owed, depth_in, IsBinding, Deep, DeepBehind, DeepAlone, DeepAsk}
+use Rattle.uc_depth_laws.specs.DepthLaws.{Suits, LawSteps}
+use Rattle.uc_depth_laws.proofs.Depths.{counted_least, counted_none, none_first, calling_most}
+use Rattle.uc_depth_laws.proofs.Steps as steps
+use Rattle.uc_depth_laws.proofs.Calls.{body_at}
+use Rattle.uc_depth_laws.proofs.Walk.{walk}
+
+first_depth : (o q : ℕ) → owed_own q o ≤ depth_in (if nat_eq o q then Some 1 else None)
+first_depth o q = by (nat_eq o q)
+  where
+    by : (b : Bool) → (if b then 1 else 0) ≤ depth_in (if b then Some 1 else None)
+    by true = omega arith
+    by false = omega arith
+
+pub begins : (source : Source) → EnteredSource source → (r o : ℕ) → is_holding source r ≡ false → Deep source (first_state (routine_of source r) o)
+begins source known r o e =
+    let x = routine_of source r in
+    let few = steps.routine_marks source x in
+    let z : more (holds_object x.body) 0 ≡ 0 = ap (λ c. more c 0) e in
+    record {
+      first = Any;
+      run = (body_at source known r, (steps.behind source x.purpose x.line).list);
+      callers = tt;
+      env = record { house = (tt, tt); hand = tt };
+      engaged = omega (arith, few, z);
+      depths = λ q.
+          let a = counted_least q (Object o) (marks (routine_todo x)) 0 (omega (arith, few, z)) in
+          let c = counted_none q (Object o) in
+          let d = first_depth o q in
+          omega (arith, a, c, d);
+    }
+
+-- operands where no call is about to begin
+
+operand : (source : Source) (v : Value) (s : State) → DeepAlone source s → DeepAlone source (with_operand v s)
+operand source v s h = record {
+  alone = h.alone;
+  deep = record {
+    first = Any;
+    run = h.alone;
+    callers = h.deep.callers;
+    env = h.deep.env;
+    engaged = h.deep.engaged;
+    depths = λ q.
+        let a = none_first source q s.run.control (v ∷ s.run.operands) h.alone in
+        let b = h.deep.depths q in
+        omega (arith, a, b);
+  };
+}
+
+no_members : (source : Source) (todo : List Todo) → Entered source Any todo → new_members source todo ≡ None
+no_members source [] h = refl
+no_members source (piece.BindMadeNow c r ∷ todo) h = absurd h.0
+no_members source (p ∷ todo) h = refl
+
+alone : (source : Source) (given : Answer) (s : State) → DeepAlone source s → Deep source (answered source given s)
+alone source (answer.Number n) s h = (operand source (piece.Number n) s h).deep
+alone source (answer.Value n failed) s h = (operand source (piece.Number n) s h).deep
+alone source (answer.Object o) s h =
+    subst (λ (m : Option Members). Deep source (with_operand (Object o) (entered m o s))) (sym (no_members source s.run.control h.alone)) (operand source (Object o) s h).deep
+alone source (answer.Clause k failed) s h = (operand source _ _ (operand source _ s h)).deep
+alone source (answer.Event n x y) s h = (operand source _ _ (operand source _ _ (operand source _ s h))).deep
+alone source answer.Nothing s h = (operand source _ _ (operand source _ _ (operand source _ s h))).deep
+alone source answer.Go s h = h.deep
+
+-- a new object
+
+more_hand : (source : Source) (hand : List (ℕ × Members)) (o n : ℕ) → EngagedHand source hand → EngagedHand source (hand ++ (o, zeros n) ∷ [])
+more_hand source [] o n h = (tt, tt)
+more_hand source (p ∷ hand) o n h = (h.0, more_hand source hand o n h.1)
+
+same_hand : (source : Source) (q : ℕ) (hand : List (ℕ × Members)) (o n : ℕ) → owed_hand source q (hand ++ (o, zeros n) ∷ []) ≤ owed_hand source q hand
+same_hand source q [] o n = omega arith
+same_hand source q (p ∷ hand) o n = let h = same_hand source q hand o n in omega (arith, h)
+
+-- it owes what binds it at most one
+binding : (source : Source) (q : ℕ) (todo : List Todo) (v : Value) (vs : List Value) → IsBinding todo → owed_first source q todo (v ∷ vs) ≤ counted q v 1
+binding source q [] v vs h = absurd h
+binding source q (piece.BindMadeNow c r ∷ todo) v vs h = calling_most source q r v
+binding source q (p ∷ todo) v vs h = absurd h
+
+brought : (source : Source) (n o : ℕ) (s : State) → IsBinding s.run.control → DeepBehind source s → find o s.env.depths ≡ None → Deep source (with_operand (Object o) (entered (Some (zeros n)) o s))
+brought source n o s k h e = record {
+  first = h.first;
+  run = h.run;
+  callers = h.callers;
+  env = record { house = h.env.house; hand = more_hand source s.env.hand o n h.env.hand };
+  engaged = h.engaged;
+  depths = λ q. by q (nat_eq o q) refl;
+}
+  where
+    by : (q : ℕ) (c : Bool) → nat_eq o q ≡ c → owed source q (with_operand (Object o) (entered (Some (zeros n)) o s)) ≤ depth_in (if nat_eq o q then Some 1 else find q s.env.depths)
+    by q c g =
+        let a = binding source q s.run.control (Object o) s.run.operands k in
+        let b = same_hand source q s.env.hand o n in
+        let d = h.depths q in
+        let w = with_one c g in
+        omega (arith, a, b, d, w)
+      where
+        with_one : (c : Bool) → nat_eq o q ≡ c → depth_in (find q s.env.depths) + (if nat_eq o q then 1 else 0) ≤ depth_in (if nat_eq o q then Some 1 else find q s.env.depths)
+        with_one true g =
+            let f = ap depth_in (subst (λ k. find k s.env.depths ≡ None) (eqb-true o q g) e) in
+            let x = ap {B = ℕ} (λ b. if b then 1 else 0) g in
+            let y = ap (λ b. depth_in (if b then Some 1 else find q s.env.depths)) g in
+            omega (arith, f, x, y)
+        with_one false g =
+            let x = ap {B = ℕ} (λ b. if b then 1 else 0) g in
+            let y = ap (λ b. depth_in (if b then Some 1 else find q s.env.depths)) g in
+            omega (arith, x, y)
+
+made : (source : Source) (o : ℕ) (s : State) (todo : List Todo) → IsBinding todo → IsBinding s.run.control → DeepBehind source s → find o s.env.depths ≡ None → Deep source (with_operand (Object o) (entered (new_members source todo) o s))
+made source o s [] h k d e = absurd h
+made source o s (piece.BindMadeNow c r ∷ todo) h k d e = brought source _ o s k d e
+made source o s (p ∷ todo) h k d e = absurd h
+
+pub told : (source : Source) (r : Request) (given : Answer) (s : State) → DeepAsk source r s → Suits r given s → Deep source (answered source given s)
+told source (ask.Call o m) given s d e = subst (λ g. Deep source (answered source g s)) (sym e) d
+told source ask.Slice given s d e = subst (λ g. Deep source (answered source g s)) (sym e) d
+told source (ask.Make c) given s d e = subst (λ g. Deep source (answered source g s)) (sym e.1) (made source e.0 s s.run.control d.0 d.0 d.1 e.2)
+told source ask.End given s d e = absurd e
+told source (ask.Fault f) given s d e = absurd e
+told source r given s d e = alone source given s d
+
+-- a main with which a task may begin
+main_at : (source : Source) → EnteredSource source → (todo : List Todo) → Entered source Any todo → is_holding source (child_main source todo) ≡ false
+main_at source known [] h = known.main
+main_at source known (piece.ChildNow r ∷ todo) h = h.0
+main_at source known (p ∷ todo) h = known.main
+
+born : (source : Source) → EnteredSource source → (o n : ℕ) (s : State) → DeepAsk source (ask.Spawn o) s → Deep source (child_of source n s)
+born source known o n s d = begins source known (child_main source s.run.control) n (main_at source known s.run.control d.alone)
+
+pub law_steps : LawSteps
+law_steps = record { begins = begins; born = born; steps = walk; told = told }

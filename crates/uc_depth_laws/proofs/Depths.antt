@@ -1,0 +1,234 @@
+-- Marks, what they are owed, and depths.
+use Rattle.std.proofs.Common.{◌≡◌, ℕ, zero, suc, ◌+◌, ◌≤◌, ◌<◌, Bool, true, false, List, [], ◌∷◌, length, drop, Option, Some, None, inl, inr, refl, sym, subst, ap, arith}
+use Rattle.std.specs.Prelude.{nat_eq, slice_set, if◌then◌else◌}
+use Rattle.std.proofs.lemmas.Bool.{eqb-true}
+use Rattle.std.proofs.lemmas.Bool.Decides.{eqb_tells}
+use Rattle.uc_tree.specs.Source as src
+use Rattle.uc_tree.specs.Source.{Source, Stmts, CleanUp, routine_of}
+use Rattle.uc_entry.specs.Keyed.{find}
+use Rattle.uc_machine.specs.Executions.{update}
+use Rattle.uc_machine.specs.Switches.{without}
+use Rattle.uc_machine.specs.Insides.{deeper, shallower}
+use Rattle.uc_machine.specs.Pieces as piece
+use Rattle.uc_machine.specs.Pieces.{Value, Todo, Sort, top, object_in}
+use Rattle.uc_depth_laws.specs.Entering.{holds_object, is_holding, EnteredStmts, EnteredBody}
+use Rattle.uc_depth_laws.specs.Owing.{more, counted, Any, Skipped, CallOf, Entered, calling, owed_first, first_marks, owed_own, depth_in}
+
+-- marks
+
+pub more_least : (b : Bool) (n : ℕ) → n ≤ more b n
+more_least true n = omega arith
+more_least false n = omega arith
+
+pub more_most : (b : Bool) (n : ℕ) → more b n ≤ suc n
+more_most true n = omega arith
+more_most false n = omega arith
+
+-- none stand in statements that are no routine
+pub holds_none : (source : Source) (ss : Stmts) → EnteredStmts source ss → holds_object ss ≡ false
+holds_none source src.Nil h = refl
+holds_none source (src.Then a ss) h = refl
+holds_none source (src.Scoped c ss) h = h.0
+holds_none source (src.Built c ss) h = refl
+
+pub body_of : (source : Source) (ss : Stmts) → EnteredStmts source ss → EnteredBody source ss
+body_of source src.Nil h = h
+body_of source (src.Then a ss) h = h
+body_of source (src.Scoped c ss) h = (h.1, h.2)
+body_of source (src.Built c ss) h = h
+
+pub still : (source : Source) (ss : Stmts) (n m : ℕ) → EnteredStmts source ss → n ≤ m → more (holds_object ss) n ≤ m
+still source ss n m h l =
+    let e : more (holds_object ss) n ≡ n = ap (λ b. more b n) (holds_none source ss h) in
+    omega (arith, e, l)
+
+-- what is counted
+
+pub counted_least : (q : ℕ) (v : Value) (n m : ℕ) → n ≤ m → counted q v n ≤ counted q v m
+counted_least q v n m l = by (nat_eq (object_in v) q)
+  where
+    by : (b : Bool) → (if b then n else 0) ≤ (if b then m else 0)
+    by true = l
+    by false = omega arith
+
+pub counted_one_less : (q : ℕ) (v : Value) (n m : ℕ) → suc n ≤ m → counted q v n + counted q v 1 ≤ counted q v m
+counted_one_less q v n m l = by (nat_eq (object_in v) q)
+  where
+    by : (b : Bool) → (if b then n else 0) + (if b then 1 else 0) ≤ (if b then m else 0)
+    by true = omega (arith, l)
+    by false = omega arith
+
+pub counted_none : (q : ℕ) (v : Value) → counted q v 0 ≡ 0
+counted_none q v = by (nat_eq (object_in v) q)
+  where
+    by : (b : Bool) → ◌≡◌ {A = ℕ} (if b then 0 else 0) 0
+    by true = refl
+    by false = refl
+
+same_true : (q : ℕ) → nat_eq q q ≡ true
+same_true q = elim (eqb_tells q q) [
+  | inl h ↦ h.0
+  | inr h ↦ absurd (h.1 refl)
+]
+
+pub counted_own : (v : Value) (n : ℕ) → counted (object_in v) v n ≡ n
+counted_own v n = ap (λ b. if b then n else 0) (same_true (object_in v))
+
+pub own_one : (o : ℕ) → owed_own o o ≡ 1
+own_one o = ap {B = ℕ} (λ b. if b then 1 else 0) (same_true o)
+
+-- in a list in which no call comes first that has entered an object
+
+pub none_first : (source : Source) (q : ℕ) (todo : List Todo) (vs : List Value) → Entered source Any todo → owed_first source q todo vs ≡ 0
+none_first source q [] vs h = refl
+none_first source q (piece.CallOnNow r ∷ todo) vs h = ap (λ b. if b then counted q (top (drop (routine_of source r).params vs)) 1 else 0) h.0
+none_first source q (piece.CallUnwrittenNow r ∷ todo) vs h = ap (λ b. if b then counted q (top (drop (routine_of source r).params vs)) 1 else 0) h.0
+none_first source q (piece.BindMadeNow c r ∷ todo) vs h = absurd h.0
+none_first source q (p ∷ todo) vs h = refl
+
+pub none_marked : (source : Source) (todo : List Todo) → Entered source Any todo → first_marks source todo ≡ 0
+none_marked source [] h = refl
+none_marked source (piece.CallOnNow r ∷ todo) h = ap (λ b. more b 0) h.0
+none_marked source (piece.CallUnwrittenNow r ∷ todo) h = ap (λ b. more b 0) h.0
+none_marked source (piece.BindMadeNow c r ∷ todo) h = absurd h.0
+none_marked source (p ∷ todo) h = refl
+
+-- behind what enters an object for a routine
+
+pub calling_most : (source : Source) (q r : ℕ) (v : Value) → calling source q r v ≤ counted q v 1
+calling_most source q r v = by (is_holding source r)
+  where
+    by : (b : Bool) → (if b then counted q v 1 else 0) ≤ counted q v 1
+    by true = omega arith
+    by false = omega arith
+
+-- just what the call of the routine owes
+pub called_first : (source : Source) (q r : ℕ) (todo : List Todo) (vs : List Value) → Entered source (CallOf r) todo → owed_first source q todo vs ≤ calling source q r (top (drop (routine_of source r).params vs))
+called_first source q r [] vs h = omega arith
+called_first source q r (piece.CallOnNow k ∷ todo) vs h = subst (λ n. calling source q k (top (drop (routine_of source k).params vs)) ≤ calling source q n (top (drop (routine_of source n).params vs))) h.0 (omega arith)
+called_first source q r (piece.CallUnwrittenNow k ∷ todo) vs h = subst (λ n. calling source q k (top (drop (routine_of source k).params vs)) ≤ calling source q n (top (drop (routine_of source n).params vs))) h.0 (omega arith)
+called_first source q r (p ∷ todo) vs h = absurd h.0
+
+pub entered_first : (source : Source) (q r : ℕ) (todo : List Todo) (vs : List Value) → Entered source (CallOf r) todo → owed_first source q todo vs ≤ counted q (top (drop (routine_of source r).params vs)) 1
+entered_first source q r todo vs h =
+    let a = called_first source q r todo vs h in
+    let b = calling_most source q r (top (drop (routine_of source r).params vs)) in
+    omega (arith, a, b)
+
+pub called_marks : (source : Source) (r : ℕ) (todo : List Todo) → Entered source (CallOf r) todo → first_marks source todo ≤ more (is_holding source r) 0
+called_marks source r [] h = omega arith
+called_marks source r (piece.CallOnNow k ∷ todo) h = subst (λ n. more (is_holding source k) 0 ≤ more (is_holding source n) 0) h.0 (omega arith)
+called_marks source r (piece.CallUnwrittenNow k ∷ todo) h = subst (λ n. more (is_holding source k) 0 ≤ more (is_holding source n) 0) h.0 (omega arith)
+called_marks source r (p ∷ todo) h = absurd h.0
+
+-- what may stand behind an exit
+
+pub any_skipped : (source : Source) (todo : List Todo) → Entered source Any todo → Entered source Skipped todo
+any_skipped source [] h = tt
+any_skipped source (piece.CallOnNow r ∷ todo) h = (tt, h.1)
+any_skipped source (piece.CallUnwrittenNow r ∷ todo) h = (tt, h.1)
+any_skipped source (p ∷ todo) h = h
+
+pub call_skipped : (source : Source) (r : ℕ) (todo : List Todo) → Entered source (CallOf r) todo → Entered source Skipped todo
+call_skipped source r [] h = tt
+call_skipped source r (piece.CallOnNow k ∷ todo) h = (tt, h.1)
+call_skipped source r (piece.CallUnwrittenNow k ∷ todo) h = (tt, h.1)
+call_skipped source r (p ∷ todo) h = absurd h.0
+
+-- depths
+
+update_here : (o x d : ℕ) (ds : List (ℕ × ℕ)) → find o ds ≡ Some d → find o (update o x ds) ≡ Some x
+update_here o x d [] e = absurd cc
+update_here o x d (p ∷ ds) e = elim (eqb_tells p.0 o) [
+  | inl h ↦
+      let a : find o (update o x (p ∷ ds)) ≡ find o ((o, x) ∷ ds) = ap (λ b. find o (if b then (o, x) ∷ ds else p ∷ update o x ds)) h.0 in
+      subst (λ y. y ≡ Some x) (sym a) (ap (λ b. if b then Some x else find o ds) (same_true o))
+  | inr h ↦
+      let a : find o (update o x (p ∷ ds)) ≡ find o (p ∷ update o x ds) = ap (λ b. find o (if b then (o, x) ∷ ds else p ∷ update o x ds)) h.0 in
+      let c : find o (p ∷ update o x ds) ≡ find o (update o x ds) = ap (λ b. if b then Some p.1 else find o (update o x ds)) h.0 in
+      let f : find o (p ∷ ds) ≡ find o ds = ap (λ b. if b then Some p.1 else find o ds) h.0 in
+      let i : find o (update o x ds) ≡ Some x = update_here o x d ds (subst (λ y. y ≡ Some d) f e) in
+      subst (λ y. y ≡ Some x) (sym a) (subst (λ y. y ≡ Some x) (sym c) i)
+]
+
+-- what stands first is found or not, as it is of this number
+found_of : (q : ℕ) (p : ℕ × ℕ) (xs ys : List (ℕ × ℕ)) → find q xs ≡ find q ys → find q (p ∷ xs) ≡ find q (p ∷ ys)
+found_of q p xs ys e = by (nat_eq p.0 q)
+  where
+    by : (b : Bool) → (if b then Some p.1 else find q xs) ≡ (if b then Some p.1 else find q ys)
+    by true = refl
+    by false = e
+
+passed : (q o : ℕ) (p : ℕ × ℕ) (ds : List (ℕ × ℕ)) → nat_eq o q ≡ false → nat_eq p.0 o ≡ true → find q (p ∷ ds) ≡ find q ds
+passed q o p ds n e =
+    let same : p.0 ≡ o = eqb-true p.0 o e in
+    let f : nat_eq p.0 q ≡ false = subst (λ k. nat_eq k q ≡ false) (sym same) n in
+    ap (λ b. if b then Some p.1 else find q ds) f
+
+update_other : (q o x : ℕ) (ds : List (ℕ × ℕ)) → nat_eq o q ≡ false → find q (update o x ds) ≡ find q ds
+update_other q o x [] n = refl
+update_other q o x (p ∷ ds) n = by (nat_eq p.0 o) refl (update_other q o x ds n)
+  where
+    by : (b : Bool) → nat_eq p.0 o ≡ b → find q (update o x ds) ≡ find q ds → find q (if b then (o, x) ∷ ds else p ∷ update o x ds) ≡ find q (p ∷ ds)
+    by true e i = subst (λ y. y ≡ find q (p ∷ ds)) (sym (ap (λ b. if b then Some x else find q ds) n)) (sym (passed q o p ds n e))
+    by false e i = found_of q p (update o x ds) ds i
+
+pub without_other : (q o : ℕ) (ds : List (ℕ × ℕ)) → nat_eq o q ≡ false → find q (without o ds) ≡ find q ds
+without_other q o [] n = refl
+without_other q o (p ∷ ds) n = by (nat_eq p.0 o) refl (without_other q o ds n)
+  where
+    by : (b : Bool) → nat_eq p.0 o ≡ b → find q (without o ds) ≡ find q ds → find q (if b then ds else p ∷ without o ds) ≡ find q (p ∷ ds)
+    by true e i = sym (passed q o p ds n e)
+    by false e i = found_of q p (without o ds) ds i
+
+-- one deeper
+
+deeper_other : (q o : ℕ) (d : Option ℕ) (ds : List (ℕ × ℕ)) → nat_eq o q ≡ false → find q (deeper d o ds) ≡ find q ds
+deeper_other q o None ds n = ap (λ b. if b then Some 1 else find q ds) n
+deeper_other q o (Some d) ds n = update_other q o (d + 1) ds n
+
+deeper_here : (o : ℕ) (d : Option ℕ) (ds : List (ℕ × ℕ)) → find o ds ≡ d → depth_in d + 1 ≤ depth_in (find o (deeper d o ds))
+deeper_here o None ds e = let a : find o (deeper None o ds) ≡ Some 1 = ap (λ b. if b then Some 1 else find o ds) (same_true o) in let b = ap depth_in a in omega (arith, b)
+deeper_here o (Some d) ds e = let a = update_here o (d + 1) d ds e in let b = ap depth_in a in omega (arith, b)
+
+pub deeper_most : (q : ℕ) (v : Value) (ds : List (ℕ × ℕ)) → depth_in (find q ds) + counted q v 1 ≤ depth_in (find q (deeper (find (object_in v) ds) (object_in v) ds))
+deeper_most q v ds = by (nat_eq (object_in v) q) refl
+  where
+    by : (b : Bool) → nat_eq (object_in v) q ≡ b → depth_in (find q ds) + (if b then 1 else 0) ≤ depth_in (find q (deeper (find (object_in v) ds) (object_in v) ds))
+    by true e =
+        subst (λ k. depth_in (find k ds) + 1 ≤ depth_in (find k (deeper (find (object_in v) ds) (object_in v) ds))) (eqb-true (object_in v) q e) (deeper_here (object_in v) (find (object_in v) ds) ds refl)
+    by false e = let a = ap depth_in (deeper_other q (object_in v) (find (object_in v) ds) ds e) in omega (arith, a)
+
+-- one less deep
+
+shallower_other : (q o : ℕ) (d : Option ℕ) (ds : List (ℕ × ℕ)) → nat_eq o q ≡ false → find q (shallower d o ds) ≡ find q ds
+shallower_other q o None ds n = without_other q o ds n
+shallower_other q o (Some zero) ds n = without_other q o ds n
+shallower_other q o (Some (suc zero)) ds n = without_other q o ds n
+shallower_other q o (Some (suc (suc d))) ds n = update_other q o (suc d) ds n
+
+shallower_here : (o : ℕ) (d : Option ℕ) (ds : List (ℕ × ℕ)) → find o ds ≡ d → depth_in d ≤ depth_in (find o (shallower d o ds)) + 1
+shallower_here o None ds e = omega arith
+shallower_here o (Some zero) ds e = omega arith
+shallower_here o (Some (suc zero)) ds e = omega arith
+shallower_here o (Some (suc (suc d))) ds e = let a = update_here o (suc d) (suc (suc d)) ds e in let b = ap depth_in a in omega (arith, b)
+
+pub shallower_least : (q : ℕ) (v : Value) (ds : List (ℕ × ℕ)) → depth_in (find q ds) ≤ depth_in (find q (shallower (find (object_in v) ds) (object_in v) ds)) + counted q v 1
+shallower_least q v ds = by (nat_eq (object_in v) q) refl
+  where
+    by : (b : Bool) → nat_eq (object_in v) q ≡ b → depth_in (find q ds) ≤ depth_in (find q (shallower (find (object_in v) ds) (object_in v) ds)) + (if b then 1 else 0)
+    by true e =
+        subst (λ k. depth_in (find k ds) ≤ depth_in (find k (shallower (find (object_in v) ds) (object_in v) ds)) + 1) (eqb-true (object_in v) q e) (shallower_here (object_in v) (find (object_in v) ds) ds refl)
+    by false e = let a = ap depth_in (shallower_other q (object_in v) (find (object_in v) ds) ds e) in omega (arith, a)
+
+-- who is deep in an object is inside it
+pub inside_of : (x : Option ℕ) → 1 ≤ depth_in x → (d : ℕ) × (x ≡ Some (suc d))
+inside_of None l = absurd (omega (arith, l))
+inside_of (Some zero) l = absurd (omega (arith, l))
+inside_of (Some (suc d)) l = (d, refl)
+
+-- what is written below some operands is found there
+pub set_top : (n : ℕ) (vs : List Value) (v : Value) → n < length vs → top (drop n (slice_set vs n v)) ≡ v
+set_top n [] v l = absurd (omega (arith, l))
+set_top zero (x ∷ vs) v l = refl
+set_top (suc n) (x ∷ vs) v l = set_top n vs v (omega (arith, l))

@@ -1,0 +1,3 @@
+pub mod Entering
+pub mod Owing
+pub mod DepthLaws

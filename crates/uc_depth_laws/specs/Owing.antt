@@ -1,0 +1,305 @@
+-- What a task owes the objects in which it is: each piece that lets go of the object of its activation is one mark, of which the activation
+-- still has to leave that object once.
+use Rattle.std.specs.Prelude.{◌≡◌, ℕ, suc, ◌+◌, ◌≤◌, ◌<◌, ◌⊎◌, List, [], ◌∷◌, length, drop, Option, Some, None, Bool, true, false, nat_eq, if◌then◌else◌}
+use Rattle.uc_tree.specs.Source.{Source, routine_of}
+use Rattle.uc_entry.specs.Keyed.{find}
+use Rattle.uc_entry.specs.declared.request.Request.{Request}
+use Rattle.uc_entry.specs.declared.request.Request.TheVariants as ask
+use Rattle.uc_machine.specs.Executions.{Links, Execution}
+use Rattle.uc_machine.specs.Insides.{is_held_up}
+use Rattle.uc_machine.specs.Monitors.{this_object}
+use Rattle.uc_machine.specs.Pieces as piece
+use Rattle.uc_machine.specs.Pieces.{Value, Todo, Active, State, Env, Members, Step, Goes, Ticks, Asks, at, top, below, object_in}
+use Rattle.uc_depth_laws.specs.Entering.{lets_go, holds_object, is_holding, EnteredExpr, EnteredExprs, EnteredMaybe, EnteredItems, EnteredTargets, EnteredDeclared, EnteredClean, EnteredStmt, EnteredBody, EnteredHandlers, EnteredClauses}
+
+abbrev pub Ex : Type 0
+Ex = Execution (List Todo) Value
+
+-- marks
+
+-- whether a piece lets go of the object of its activation, or is a routine that begins and will
+abbrev pub owes : Todo → Bool
+owes (piece.Rest ss) = holds_object ss
+owes (piece.Clean c) = lets_go c
+owes piece.LeaveNow = true
+owes piece.GoneNow = true
+owes piece.MadeNow = true
+owes (piece.SpawnNow r) = true
+owes piece.GiveUpNow = true
+owes p = false
+
+abbrev pub more : Bool → ℕ → ℕ
+more true n = suc n
+more false n = n
+
+-- how many of these pieces do
+abbrev pub marks : List Todo → ℕ
+marks [] = 0
+marks (p ∷ todo) = more (owes p) (marks todo)
+
+-- so many, where they are marks of object q
+abbrev pub counted : ℕ → Value → ℕ → ℕ
+counted q v n = if nat_eq (object_in v) q then n else 0
+
+abbrev pub owed_by : ℕ → Active → ℕ
+owed_by q a = counted q a.this (marks a.control)
+
+-- activations that wait
+abbrev pub marks_waiting : List Active → ℕ
+marks_waiting [] = 0
+marks_waiting (a ∷ rest) = marks a.control + marks_waiting rest
+
+abbrev pub owed_waiting : ℕ → List Active → ℕ
+owed_waiting q [] = 0
+owed_waiting q (a ∷ rest) = owed_by q a + owed_waiting q rest
+
+-- what may stand first in a list: any piece, but for a call of a routine that holds its object; behind what leaves all pieces any call;
+-- behind what has entered an object the call of this routine alone; or what binds a new object
+pub data First : Type 0 where
+  Any : First
+  Skipped : First
+  CallOf : ℕ → First
+  Bound : First
+
+abbrev pub next : Todo → First
+next (piece.EnterNow m r) = CallOf r
+next (piece.MakeNow c r) = CallOf r
+next (piece.BindMadeNow c r) = CallOf r
+next piece.Unwind = Skipped
+next (piece.Exit w) = Skipped
+next p = Any
+
+-- one is owed to the own object
+abbrev pub owed_own : ℕ → ℕ → ℕ
+owed_own q own = if nat_eq own q then 1 else 0
+
+-- mutex calls that have not ended, and buildings
+abbrev pub entries : Links → ℕ
+entries l = l.mutex_calls + l.builds
+
+module _ (source : Source) where
+  abbrev pub EnteredPiece : Todo → Type 0
+  EnteredPiece (piece.Eval e) = EnteredExpr source e
+  EnteredPiece (piece.Choose e f) = EnteredExpr source e × EnteredExpr source f
+  EnteredPiece (piece.Branch a b) = EnteredStmt source a × EnteredStmt source b
+  EnteredPiece (piece.Arguments es) = EnteredExprs source es
+  EnteredPiece (piece.CallNow r) = is_holding source r ≡ false
+  EnteredPiece (piece.CallOnNow r) = is_holding source r ≡ false
+  EnteredPiece (piece.CallUnwrittenNow r) = is_holding source r ≡ false
+  EnteredPiece (piece.FillNow n b d) = EnteredExpr source b × EnteredExpr source d
+  EnteredPiece (piece.TurnNow o t e b) = EnteredExpr source t × EnteredMaybe source e × EnteredStmt source b
+  EnteredPiece (piece.Again o t e b) = EnteredExpr source t × EnteredMaybe source e × EnteredStmt source b
+  EnteredPiece (piece.Items is) = EnteredItems source is
+  EnteredPiece (piece.Values is) = EnteredItems source is
+  EnteredPiece (piece.Pieces is) = EnteredItems source is
+  EnteredPiece (piece.Targets xs) = EnteredTargets source xs
+  EnteredPiece (piece.Variables ds) = EnteredDeclared source ds
+  EnteredPiece (piece.Do a) = EnteredStmt source a
+  EnteredPiece (piece.Rest ss) = EnteredBody source ss
+  EnteredPiece (piece.InLoop o t e b) = EnteredExpr source t × EnteredMaybe source e × EnteredStmt source b
+  EnteredPiece (piece.Clean c) = EnteredClean source c
+  EnteredPiece (piece.Sweep e) = EnteredExpr source e
+  EnteredPiece (piece.Part c) = (lets_go c ≡ false) × EnteredClean source c
+  EnteredPiece (piece.Guard hs) = EnteredHandlers source hs
+  EnteredPiece (piece.SetUpNow r) = is_holding source r ≡ false
+  EnteredPiece (piece.SpawnNow r) = is_holding source r ≡ false
+  EnteredPiece (piece.ChildNow r) = is_holding source r ≡ false
+  EnteredPiece (piece.BindMadeNow c r) = ⊥
+  EnteredPiece (piece.Guards cs) = EnteredClauses source cs
+  EnteredPiece (piece.ChooseNow cs) = EnteredClauses source cs
+  EnteredPiece p = Unit {0}
+
+  abbrev pub Allowed : First → Todo → Type 0
+  Allowed Any p = EnteredPiece p
+  Allowed Skipped (piece.CallOnNow k) = Unit {0}
+  Allowed Skipped (piece.CallUnwrittenNow k) = Unit {0}
+  Allowed Skipped p = EnteredPiece p
+  Allowed (CallOf r) (piece.CallOnNow k) = k ≡ r
+  Allowed (CallOf r) (piece.CallUnwrittenNow k) = k ≡ r
+  Allowed (CallOf r) p = ⊥
+  Allowed Bound (piece.BindMadeNow c r) = Unit {0}
+  Allowed Bound p = ⊥
+
+  -- a to-do list in which each call of a routine that holds its object stands right behind what enters that
+  abbrev pub Entered : First → List Todo → Type 0
+  Entered f [] = Unit {0}
+  Entered f (p ∷ todo) = Allowed f p × Entered (next p) todo
+
+  -- an object that has been entered, or made, for the call that comes first is owed that already
+  abbrev pub calling : ℕ → ℕ → Value → ℕ
+  calling q r v = if is_holding source r then counted q v 1 else 0
+
+  abbrev pub owed_first : ℕ → List Todo → List Value → ℕ
+  owed_first q (piece.CallOnNow r ∷ todo) vs = calling q r (top (drop (routine_of source r).params vs))
+  owed_first q (piece.CallUnwrittenNow r ∷ todo) vs = calling q r (top (drop (routine_of source r).params vs))
+  owed_first q (piece.BindMadeNow c r ∷ todo) vs = calling q r (top vs)
+  owed_first q todo vs = 0
+
+  abbrev pub first_marks : List Todo → ℕ
+  first_marks (piece.CallOnNow r ∷ todo) = more (is_holding source r) 0
+  first_marks (piece.CallUnwrittenNow r ∷ todo) = more (is_holding source r) 0
+  first_marks (piece.BindMadeNow c r ∷ todo) = more (is_holding source r) 0
+  first_marks todo = 0
+
+  -- activations that wait
+  abbrev pub AllEntered : List Active → Type 0
+  AllEntered [] = Unit {0}
+  AllEntered (a ∷ rest) = Entered Any a.control × AllEntered rest
+
+  -- an execution that does not run has as many mutex calls and buildings as marks, or more
+  pub record Engaged (x : Ex) : Type 0 where
+    pub first : First
+    pub run : Entered first x.run.control
+    pub callers : AllEntered x.callers
+    pub engaged : first_marks x.run.control + marks x.run.control + marks_waiting x.callers ≤ entries x.links
+
+  abbrev pub EngagedSlot : Option Ex → Type 0
+  EngagedSlot None = Unit {0}
+  EngagedSlot (Some x) = Engaged x
+
+  abbrev pub EngagedParked : List (ℕ × Option Ex) → Type 0
+  EngagedParked [] = Unit {0}
+  EngagedParked (p ∷ ps) = EngagedSlot p.1 × EngagedParked ps
+
+  abbrev pub EngagedHand : List (ℕ × Members) → Type 0
+  EngagedHand [] = Unit {0}
+  EngagedHand (p ∷ ps) = EngagedParked p.1.parked × EngagedHand ps
+
+  -- members, if there are any
+  abbrev pub EngagedMembers : Option Members → Type 0
+  EngagedMembers None = Unit {0}
+  EngagedMembers (Some m) = EngagedParked m.parked
+
+  pub record EngagedEnv (e : Env) : Type 0 where
+    pub house : EngagedParked e.house.parked
+    pub hand : EngagedHand e.hand
+
+  -- what is owed to q by an execution that does not run, by all in a list, in hand, and of a task
+
+  abbrev pub owed_ex : ℕ → Ex → ℕ
+  owed_ex q x = owed_first q x.run.control x.run.operands + owed_by q x.run + owed_waiting q x.callers
+
+  abbrev pub owed_slot : ℕ → Option Ex → ℕ
+  owed_slot q None = 0
+  owed_slot q (Some x) = owed_ex q x
+
+  abbrev pub owed_parked : ℕ → List (ℕ × Option Ex) → ℕ
+  owed_parked q [] = 0
+  owed_parked q (p ∷ ps) = owed_slot q p.1 + owed_parked q ps
+
+  abbrev pub owed_hand : ℕ → List (ℕ × Members) → ℕ
+  owed_hand q [] = 0
+  owed_hand q (p ∷ ps) = owed_parked q p.1.parked + owed_hand q ps
+
+  -- a task has to leave its own object once more, at its end
+  abbrev pub owed_env : ℕ → Env → ℕ
+  owed_env q e = owed_own q e.own + (owed_parked q e.house.parked + owed_hand q e.hand)
+
+  -- but for what has been entered for the call that comes first
+  abbrev pub owed_behind : ℕ → State → ℕ
+  owed_behind q s = owed_by q s.run + owed_waiting q s.callers + owed_env q s.env
+
+  abbrev pub owed : ℕ → State → ℕ
+  owed q s = owed_first q s.run.control s.run.operands + owed_behind q s
+
+module _ (source : Source) where
+  -- what is at home in an object and owes nothing
+  pub record Free (m : Members) : Type 0 where
+    pub parked : EngagedParked source m.parked
+    pub nothing : (q : ℕ) → owed_parked source q m.parked ≡ 0
+
+  -- a hand that is drawn anew: what is in it is what was, or owes nothing
+  abbrev pub Redrawn : List (ℕ × Members) → List (ℕ × Members) → Type 0
+  Redrawn old [] = Unit {0}
+  Redrawn old (p ∷ hand) = (Free p.1 ⊎ (find p.0 old ≡ Some p.1)) × (find p.0 hand ≡ None) × Redrawn old hand
+
+-- the depth in an object, 0 where the task is not inside
+abbrev pub depth_in : Option ℕ → ℕ
+depth_in None = 0
+depth_in (Some d) = d
+
+abbrev pub depth_at : ℕ → Env → ℕ
+depth_at q e = depth_in (find q e.depths)
+
+-- the task is inside an object
+abbrev pub IsInside : ℕ → Env → Type 0
+IsInside o e = (d : ℕ) × (find o e.depths ≡ Some (suc d))
+
+-- what binds a new object comes first
+abbrev pub IsBinding : List Todo → Type 0
+IsBinding (piece.BindMadeNow c r ∷ todo) = Unit {0}
+IsBinding todo = ⊥
+
+-- just before it asks to let go of an object, or to end, a task is inside that, or its own
+abbrev pub LetsGo : Request → Env → Type 0
+LetsGo (ask.Made o) e = IsInside o e
+LetsGo (ask.Spawn o) e = IsInside o e
+LetsGo (ask.Leave o failed) e = IsInside o e
+LetsGo (ask.Gone o) e = IsInside o e
+LetsGo ask.End e = IsInside e.own e
+LetsGo r e = Unit {0}
+
+-- where it asks for what lets others into an object, no execution there holds it up
+abbrev pub Unheld : Request → Env → Type 0
+Unheld (ask.Made o) e = is_held_up o e ≡ false
+Unheld (ask.Spawn o) e = is_held_up o e ≡ false
+Unheld (ask.Leave o failed) e = is_held_up o e ≡ false
+Unheld (ask.Accept o site mask) e = is_held_up o e ≡ false
+Unheld (ask.Wait o c n) e = is_held_up o e ≡ false
+Unheld (ask.SignalBlock o c) e = is_held_up o e ≡ false
+Unheld r e = Unit {0}
+
+module _ (source : Source) where
+  -- a task that goes on, or has asked for a new object and waits: each execution has as many mutex calls and buildings as marks, and the task
+  -- is as deep in each object as it is owed, or deeper
+  pub record Engages (owing : ℕ → ℕ) (s : State) : Type 0 where
+    pub first : First
+    pub run : Entered source first s.run.control
+    pub callers : AllEntered source s.callers
+    pub env : EngagedEnv source s.env
+    pub engaged : first_marks source s.run.control + marks s.run.control + marks_waiting s.callers ≤ entries s.env.links
+    pub depths : (q : ℕ) → owing q ≤ depth_at q s.env
+
+  abbrev pub Deep : State → Type 0
+  Deep s = Engages (λ q. owed source q s) s
+
+  abbrev pub DeepBehind : State → Type 0
+  DeepBehind s = Engages (λ q. owed_behind source q s) s
+
+  -- no call is about to begin
+  pub record DeepAlone (s : State) : Type 0 where
+    pub alone : Entered source Any s.run.control
+    pub deep : Deep s
+
+  -- a task that has asked something, which the answer lets go on; behind an end and a fault nothing goes on
+  abbrev pub DeepAsk : Request → State → Type 0
+  DeepAsk (ask.Call o m) s = Deep s
+  DeepAsk (ask.Make c) s = IsBinding s.run.control × DeepBehind s
+  DeepAsk ask.Slice s = Deep s
+  DeepAsk ask.End s = Unit {0}
+  DeepAsk (ask.Fault f) s = Unit {0}
+  DeepAsk r s = DeepAlone s
+
+  -- so it is of a request of a task that had this before
+  pub record DeepAsking (before : Env) (r : Request) (s : State) : Type 0 where
+    pub state : DeepAsk r s
+    pub inside : LetsGo r before
+    pub unheld : Unheld r s.env
+
+  abbrev pub DeepStep : Env → Step → Type 0
+  DeepStep e (Goes s) = Deep s
+  DeepStep e (Ticks s) = Deep s
+  DeepStep e (Asks r s) = DeepAsking e r s
+
+  -- what a step is to find: where an object has been made, the place that is bound to it; where one is let go of however deep the task
+  -- is, nothing else that is owed to it
+  abbrev pub FairAt : List Todo → State → Type 0
+  FairAt (piece.BindMadeNow c r ∷ todo) s = (routine_of source r).params < length (below s.run.operands)
+  FairAt (piece.MadeNow ∷ todo) s = owed source (this_object s) (at todo s.run.operands s) ≡ 0
+  FairAt (piece.SpawnNow r ∷ todo) s = owed source (this_object s) (at todo s.run.operands s) ≡ 0
+  FairAt (piece.GoneNow ∷ todo) s = owed source (this_object s) (at todo s.run.operands s) ≡ 0
+  FairAt (piece.GiveUpNow ∷ todo) s = owed source (this_object s) (at todo s.run.operands s) ≡ 0
+  FairAt todo s = Unit {0}
+
+  abbrev pub Fair : State → Type 0
+  Fair s = FairAt s.run.control s

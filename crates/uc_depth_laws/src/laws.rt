@@ -1,0 +1,26 @@
+// The laws: each is a function whose contract is the law.
+
+ghost use Rattle.uc_depth_laws.specs.DepthLaws.{LawDrawn, LawFree, LawInside, LawSteps};
+
+/// Where objects are entered by their calls, a task is as deep in each object as it is owed, or
+/// deeper, and each execution has as many mutex calls and buildings as marks, or more: from its start
+/// on, through each quiet step that finds what it is to find, and through each answer. So a task that
+/// asks to let go of an object is inside it.
+pub fn law_steps()
+    ensures { LawSteps }
+{}
+
+/// Who has a mark in the running activation is inside its object.
+pub fn law_inside()
+    ensures { LawInside }
+{}
+
+/// What does not run in an object where nothing is engaged owes nothing to any object.
+pub fn law_free()
+    ensures { LawFree }
+{}
+
+/// A hand that is drawn again and owes no more keeps that.
+pub fn law_drawn()
+    ensures { LawDrawn }
+{}

@@ -1,0 +1,4 @@
+// Laws over how deep tasks are in objects.
+#![tactic(auto)]
+
+pub mod laws;

@@ -1,0 +1,6 @@
+pub mod Holding
+pub mod Lookups
+pub mod Expressions
+pub mod Statements
+pub mod Routines
+pub mod Placed

@@ -1,0 +1,4 @@
+// Laws that programs enter the objects that their calls hold.
+#![tactic(auto)]
+
+pub mod laws;

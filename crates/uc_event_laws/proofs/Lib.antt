@@ -1,0 +1,5 @@
+pub mod Marks
+pub mod Steps
+pub mod Walk
+pub mod Arguments
+pub mod MarkedWorlds

@@ -1,0 +1,4 @@
+// Laws over what tasks raise at tasks.
+#![tactic(auto)]
+
+pub mod laws;

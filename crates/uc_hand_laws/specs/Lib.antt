@@ -1,0 +1,4 @@
+pub mod Deep
+pub mod DeepSteps
+pub mod Places
+pub mod HandLaws

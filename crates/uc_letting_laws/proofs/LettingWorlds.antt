@@ -1,0 +1,545 @@
+-- In every run tasks are as deep in objects as they owe them, as long as each step finds what it is to find.
+use Rattle.std.proofs.Common.{◌≡◌, ℕ, suc, ◌==◌, ◌<◌, ◌≤◌, ◌||◌, ◌⊎◌, inl, inr, Bool, true, false, List, [], ◌∷◌, ◌++◌, Option, Some, None, refl, sym, ap, ◌∙◌, subst, arith, ⊎_elim}
+use Rattle.std.specs.Prelude.{nat_eq, if◌then◌else◌}
+use Rattle.std.proofs.lemmas.Bool.{eqb-true, eq-eqb, cases_lt}
+use Rattle.uc_tree.specs.Source.{Source, routine_of}
+use Rattle.uc_entry.specs.declared.entry.Entry.{Entry}
+use Rattle.uc_entry.specs.declared.entry.Options.{Options}
+use Rattle.uc_entry.specs.declared.request.Answer.{Answer}
+use Rattle.uc_entry.specs.declared.request.Answer.TheVariants as answer
+use Rattle.uc_entry.specs.declared.request.Asked.{Asked}
+use Rattle.uc_entry.specs.declared.request.Request.{Request}
+use Rattle.uc_entry.specs.declared.request.Request.TheVariants as ask
+use Rattle.uc_entry.specs.Keyed.{find}
+use Rattle.uc_acts.specs.Journal.{Journal, begin, cost, inside, held, is_over, own_object}
+use Rattle.uc_acts.specs.Known.{has, task_count, has_ended, spawns, takes_out}
+use Rattle.uc_acts.specs.Answers.{just_made}
+use Rattle.uc_acts.specs.Serves.{Serves}
+use Rattle.uc_acts.specs.Sound.{Sound, Spot}
+use Rattle.uc_acts.specs.Laws.{Makes}
+use Rattle.uc_acts.specs.Acts.{act, row, dispatch, lone_limit}
+use Rattle.uc_acts.specs.KernelRuns.{InRange, Fits, MayAsk}
+use Rattle.uc_acts.proofs.Bounds.{over_limit}
+use Rattle.uc_acts.proofs.Given.{law_dispatch}
+use Rattle.uc_acts.proofs.Hush.{door_silent}
+use Rattle.uc_acts.proofs.Making.{law_new}
+use Rattle.uc_acts.proofs.Law.{good_whole, lawful_act}
+use Rattle.uc_acts.proofs.Living.{going_row}
+use Rattle.uc_acts.proofs.Held.{law_held}
+use Rattle.uc_acts.proofs.Moves.{one_inside}
+use Rattle.uc_machine.specs.Quiet.{State, Members}
+use Rattle.uc_machine.specs.Quiet as quiet
+use Rattle.uc_machine.specs.Insides.{has_engaged, is_held_up}
+use Rattle.uc_machine.specs.Answering.{answered, child_of, with_hand}
+use Rattle.uc_machine.specs.Pieces as piece
+use Rattle.uc_machine.specs.Rides as rides
+use Rattle.uc_machine.specs.Rides.{Rides}
+use Rattle.uc_meaning.specs.Runs.{World, Runs, May, AsksIn, begun, more, gives, no_room, acts, first_world, first_home, drawn, bare, with_home, hand_of, or_else, world_after}
+use Rattle.uc_answer_laws.specs.Suiting.{Form, JustGo, IsForm, form_of_request, asked_form, AsksFor}
+use Rattle.uc_answer_laws.proofs.Told.{form_push, SpotSuits}
+use Rattle.uc_answer_laws.proofs.Runs.{kept_run, law_suiting}
+use Rattle.uc_answer_laws.proofs.Asking.{law_asking}
+use Rattle.uc_step_laws.specs.Hands.{keys}
+use Rattle.uc_step_laws.specs.Holding.{plain}
+use Rattle.uc_step_laws.proofs.Kept.{either}
+use Rattle.uc_program_laws.specs.Fitting.{MayFit, RunFits}
+use Rattle.uc_program_laws.proofs.Alive.{law_alive}
+use Rattle.uc_program_laws.proofs.Ticks.{no_both, not_true}
+use Rattle.uc_program_laws.proofs.Makes.{makes, run_after, same_holder, law_ends}
+use Rattle.uc_program_laws.proofs.Worlds.{IsThere, none_found}
+use Rattle.uc_program_laws.proofs.Others.{RunRests, run_rests, may_ask, asking as asks_with}
+use Rattle.uc_depth_laws.specs.Entering.{EnteredSource}
+use Rattle.uc_depth_laws.specs.Owing as owing
+use Rattle.uc_depth_laws.specs.Owing.{EngagedParked, EngagedHand, EngagedMembers, Free, Redrawn, IsInside as IsDeepInside, Deep, DeepAsk, LetsGo, Unheld, IsBinding}
+use Rattle.uc_depth_laws.specs.DepthLaws.{Suits, LawSteps, LawFree, LawDrawn}
+use Rattle.uc_depth_laws.proofs.Answers.{law_steps}
+use Rattle.uc_depth_laws.proofs.Standing.{law_free, law_drawn}
+use Rattle.uc_letting_laws.specs.Fair.{AskFair, RideFair, MayFair, RunFair}
+use Rattle.uc_letting_laws.specs.LettingLaws.{LetsGoInHand, LawLetsGo}
+use Rattle.uc_hand_laws.specs.Deep as deep
+use Rattle.uc_hand_laws.specs.Deep.{deep_in}
+use Rattle.uc_hand_laws.proofs.Walk.{walk}
+use Rattle.uc_hand_laws.proofs.Lists.{Once, first_once, once_rest}
+use Rattle.uc_letting_laws.proofs.Insiders.{GoesOut, Insiders, row_insiders}
+use Rattle.uc_hand_laws.proofs.Places.{flipped, still}
+use Rattle.uc_hand_laws.proofs.Rows.{over_by}
+use Rattle.uc_hand_laws.proofs.DeepWorlds.{DeepWorld, known, deep_in_hand, deep_run, ended_before, spawns_none, spawned_by, spawned_true}
+
+-- hands
+
+-- members that owe nothing, if there are any
+abbrev pub FreeMembers : (source : Source) → Option Members → Type 0
+FreeMembers source None = Unit {0}
+FreeMembers source (Some m) = Free source m
+
+-- what is drawn for an object owes nothing, or is what was in hand
+abbrev Found : (source : Source) → List (ℕ × Members) → ℕ → Option Members → Type 0
+Found source old o None = Unit {0}
+Found source old o (Some m) = Free source m ⊎ (find o old ≡ Some m)
+
+free_found : (source : Source) (old : List (ℕ × Members)) (o : ℕ) (x : Option Members) → FreeMembers source x → Found source old o x
+free_found source old o None h = tt
+free_found source old o (Some m) h = inl h
+
+has_self : (o : ℕ) (os : List ℕ) → has (o ∷ os) o ≡ true
+has_self o os = ap (λ b. b || has os o) (eq-eqb o o refl)
+
+has_more : (k o : ℕ) (os : List ℕ) → has os o ≡ true → has (k ∷ os) o ≡ true
+has_more k o os h = by (k == o)
+  where
+    by : (b : Bool) → (b || has os o) ≡ true
+    by true = refl
+    by false = h
+
+hand_lacks : (os : List ℕ) (homes : ℕ → Option Members) (o : ℕ) → has os o ≡ false → find o (hand_of os homes) ≡ None
+hand_lacks [] homes o h = refl
+hand_lacks (k ∷ os) homes o h = by (homes k) (k == o) refl h (hand_lacks os homes o)
+  where
+    by : (x : Option Members) (b : Bool) → nat_eq k o ≡ b → (b || has os o) ≡ false → (has os o ≡ false → find o (hand_of os homes) ≡ None) → find o (with_home k x (hand_of os homes)) ≡ None
+    by x true e g ih = cc
+    by None false e g ih = ih g
+    by (Some m) false e g ih = ap (λ b. if b then Some m else find o (hand_of os homes)) e ∙ ih g
+
+hand_finds : (os : List ℕ) (homes : ℕ → Option Members) (o : ℕ) (m : Members) → has os o ≡ true → homes o ≡ Some m → find o (hand_of os homes) ≡ Some m
+hand_finds [] homes o m h e = cc
+hand_finds (k ∷ os) homes o m h e = by (nat_eq k o) refl h (λ g. hand_finds os homes o m g e)
+  where
+    other : (x : Option Members) → nat_eq k o ≡ false → find o (hand_of os homes) ≡ Some m → find o (with_home k x (hand_of os homes)) ≡ Some m
+    other None g f = f
+    other (Some n) g f = ap (λ b. if b then Some n else find o (hand_of os homes)) g ∙ f
+
+    by : (b : Bool) → nat_eq k o ≡ b → (b || has os o) ≡ true → (has os o ≡ true → find o (hand_of os homes) ≡ Some m) → find o (with_home k (homes k) (hand_of os homes)) ≡ Some m
+    by true g i ih =
+        let is : homes k ≡ Some m = ap homes (eqb-true k o g) ∙ e in
+        ap (λ x. find o (with_home k x (hand_of os homes))) is ∙ ap (λ b. if b then Some m else find o (hand_of os homes)) g
+    by false g i ih = other (homes k) g (ih i)
+
+redrawn : (source : Source) (old : List (ℕ × Members)) (os : List ℕ) (homes : ℕ → Option Members) → Once os → ((o : ℕ) → has os o ≡ true → Found source old o (homes o)) → Redrawn source old (hand_of os homes)
+redrawn source old [] homes n f = tt
+redrawn source old (o ∷ os) homes n f =
+    by (homes o) (f o (has_self o os)) (redrawn source old os homes (once_rest o os n) (λ k h. f k (has_more o k os h)))
+  where
+    by : (x : Option Members) → Found source old o x → Redrawn source old (hand_of os homes) → Redrawn source old (with_home o x (hand_of os homes))
+    by None g ih = ih
+    by (Some m) g ih = (g, hand_lacks os homes o (first_once o os n), ih)
+
+-- answers
+
+just_go : (a : Answer) → IsForm JustGo a → a ≡ answer.Go
+just_go answer.Go h = refl
+just_go (answer.Number n) h = absurd h
+just_go (answer.Value n failed) h = absurd h
+just_go (answer.Object o) h = absurd h
+just_go (answer.Clause k failed) h = absurd h
+just_go (answer.Event n x y) h = absurd h
+just_go answer.Nothing h = absurd h
+
+found_none : (o : ℕ) (ps : List (ℕ × ℕ)) → has (keys ps) o ≡ false → find o ps ≡ None
+found_none o [] h = refl
+found_none o (p ∷ ps) h = by (nat_eq p.0 o) (found_none o ps) h
+  where
+    by : (b : Bool) → (has (keys ps) o ≡ false → find o ps ≡ None) → (b || has (keys ps) o) ≡ false → (if b then Some p.1 else find o ps) ≡ None
+    by true ih h = cc
+    by false ih h = ih h
+
+found_some : (o d : ℕ) (ps : List (ℕ × ℕ)) → find o ps ≡ Some d → has (keys ps) o ≡ true
+found_some o d [] h = cc
+found_some o d (p ∷ ps) h = by (nat_eq p.0 o) (found_some o d ps) h
+  where
+    by : (b : Bool) → (find o ps ≡ Some d → has (keys ps) o ≡ true) → (if b then Some p.1 else find o ps) ≡ Some d → (b || has (keys ps) o) ≡ true
+    by true ih h = refl
+    by false ih h = ih h
+
+some_found : (o : ℕ) (ps : List (ℕ × Members)) → has (keys ps) o ≡ true → IsThere (find o ps)
+some_found o [] h = cc
+some_found o (p ∷ ps) h = by (nat_eq p.0 o) (some_found o ps) h
+  where
+    by : (b : Bool) → (has (keys ps) o ≡ true → IsThere (find o ps)) → (b || has (keys ps) o) ≡ true → IsThere (if b then Some p.1 else find o ps)
+    by true ih h = tt
+    by false ih h = ih h
+
+found_engaged : (source : Source) (o : ℕ) (ps : List (ℕ × Members)) (m : Members) → EngagedHand source ps → find o ps ≡ Some m → EngagedParked source m.parked
+found_engaged source o [] m h e = cc
+found_engaged source o (p ∷ ps) m h e = by (nat_eq p.0 o) e (found_engaged source o ps m h.1)
+  where
+    by : (b : Bool) → (if b then Some p.1 else find o ps) ≡ Some m → (find o ps ≡ Some m → EngagedParked source m.parked) → EngagedParked source m.parked
+    by true g ih = let same : p.1 ≡ m = cc in subst (λ n. EngagedParked source n.parked) same h.0
+    by false g ih = ih g
+
+no_binding : (todo : List piece.Todo) → plain todo ≡ true → IsBinding todo → ⊥
+no_binding [] h b = b
+no_binding (piece.BindMadeNow c r ∷ todo) h b = cc
+no_binding (p ∷ todo) h b = b
+
+-- rides
+
+module _ (source : Source) (entered : EnteredSource source) (steps : LawSteps) where
+  pub record RideOwes (ks : List ℕ) (r : Request) (u : State) : Type 0 where
+    pub state : DeepAsk source r u
+    pub lets : LetsGoInHand ks r
+    pub unheld : Unheld r u.env
+
+  lets_in : (ks : List ℕ) (e : quiet.Env) (r : Request) → LetsGo r e → keys e.depths ≡ ks → LetsGoInHand ks r
+  lets_in ks e (ask.Made o) h k = ap (λ l. has l o) (sym k) ∙ found_some o (suc h.0) e.depths h.1
+  lets_in ks e (ask.Spawn o) h k = ap (λ l. has l o) (sym k) ∙ found_some o (suc h.0) e.depths h.1
+  lets_in ks e (ask.Leave o failed) h k = ap (λ l. has l o) (sym k) ∙ found_some o (suc h.0) e.depths h.1
+  lets_in ks e (ask.Gone o) h k = ap (λ l. has l o) (sym k) ∙ found_some o (suc h.0) e.depths h.1
+  lets_in ks e r h k = tt
+
+  pub ride_owes : (ks : List ℕ) (s : State) (q : ℕ) (u : State) (k : ℕ) (a : Asked) (r : Rides source s q u k a) → RideFair source s q u k a r → Deep source s → deep_in s ≡ ks → RideOwes ks a.request u
+  ride_owes ks _ _ _ _ _ rides.slices f d e = record { state = d; lets = tt; unheld = tt }
+  ride_owes ks _ _ _ _ _ (rides.goes_on {s} {t} {u} {q} {k} {a} g r) f d e =
+      ride_owes ks t (suc q) u k a r f.1 (subst (owing.DeepStep source s.env) g (steps.steps source entered s d f.0)) (subst (deep.DeepStep ks) g (walk ks source s e))
+  ride_owes ks _ _ _ _ _ (rides.ticks {s} {t} {u} {q} {k} {a} g r) f d e =
+      ride_owes ks t q u k a r f.1 (subst (owing.DeepStep source s.env) g (steps.steps source entered s d f.0)) (subst (deep.DeepStep ks) g (walk ks source s e))
+  ride_owes ks _ _ _ _ _ (rides.asks {s} {t} {q} {r} g) f d e =
+      let x : owing.DeepAsking source s.env r t = subst (owing.DeepStep source s.env) g (steps.steps source entered s d f) in
+      record { state = x.state; lets = lets_in ks s.env r x.inside e; unheld = x.unheld }
+
+-- tasks at rest, behind what they asked last
+
+abbrev Rests : (source : Source) → Request → State → Type 0
+Rests source ask.End s = ⊥
+Rests source (ask.Fault n) s = ⊥
+Rests source r s = DeepAsk source r s
+
+pub record OwingTask (source : Source) (j : Journal) (u : ℕ) (s : State) : Type 0 where
+  pub request : Request
+  pub form : asked_form u j ≡ form_of_request request
+  pub rests : Rests source request s
+
+pub record OwingWorld (source : Source) (j : Journal) (w : World) : Type 0 where
+  pub tasks : (u : ℕ) → u < task_count j → has_ended u j ≡ false → OwingTask source j u (drawn j w u)
+  pub engaged : (o : ℕ) → EngagedMembers source (w.homes o)
+  pub free : (o : ℕ) → inside o j ≡ [] → FreeMembers source (w.homes o)
+
+module _ (source : Source) (drawing : LawDrawn) where
+  rests_drawn : (r : Request) (hand : List (ℕ × Members)) (s : State) → Rests source r s → Redrawn source s.env.hand hand → Rests source r (with_hand hand s)
+  rests_drawn ask.End hand s h d = absurd h
+  rests_drawn (ask.Fault n) hand s h d = absurd h
+  rests_drawn r hand s h d = drawing.asked source r hand s h d
+
+module _ (source : Source) (entered : EnteredSource source) (steps : LawSteps) (freeing : LawFree) (drawing : LawDrawn) (input : List ℕ) (opts : Options) (range : InRange opts) where
+  module _ {j : Journal} {w : World} (r : RunRests source input opts j w) (going : is_over j ≡ false) (deeps : DeepWorld j w) (x : OwingWorld source j w) (p t n : ℕ) (s : State) (asked : Asked) (d : AsksIn source opts j w p t n s asked) where
+    sound : Sound j
+    sound = (good_whole opts source.sites input r.kernel).sound
+
+    mine : OwingTask source j t (drawn j w t)
+    mine = x.tasks t (known source input opts range r going deeps p t n s asked d) (law_alive opts source.sites input j r.kernel going p t d.runs)
+
+    -- its answer is one to what it asked
+    suits : (q : Request) → asked_form t j ≡ form_of_request q → Rests source q (drawn j w t) → DeepAsk source q (drawn j w t) × Suits q d.given (drawn j w t)
+    suits (ask.Call o m) f h = (h, goes f)
+      where
+        goes : asked_form t j ≡ JustGo → d.given ≡ answer.Go
+        goes f = just_go d.given (subst (λ (y : Form). IsForm y d.given) f (law_suiting opts source.sites input j r.kernel going t d.given d.told))
+    suits ask.Slice f h = (h, goes f)
+      where
+        goes : asked_form t j ≡ JustGo → d.given ≡ answer.Go
+        goes f = just_go d.given (subst (λ (y : Form). IsForm y d.given) f (law_suiting opts source.sites input j r.kernel going t d.given d.told))
+    suits (ask.Make c) f h = (h, makes_known (r.rests.tasks t).control)
+      where
+        makes_known : (plain (w.tasks t).run.control ≡ true) ⊎ ((o : ℕ) × (just_made t j ≡ o ∷ [])) → (o : ℕ) × (d.given ≡ answer.Object o) × (find o (w.tasks t).env.depths ≡ None)
+        makes_known (inl g) = absurd (no_binding (w.tasks t).run.control g h.0)
+        makes_known (inr y) =
+            let new = law_new opts source.sites input j r.kernel going t y.0 y.1 in
+            let told : Some d.given ≡ Some (answer.Object y.0) = sym d.told ∙ new.answer in
+            let here = deeps.tasks t (known source input opts range r going deeps p t n s asked d) (law_alive opts source.sites input j r.kernel going p t d.runs) in
+            (y.0, cc told, found_none y.0 (w.tasks t).env.depths (here.new y.0 y.1))
+    suits ask.End f h = absurd h
+    suits (ask.Fault k) f h = absurd h
+    suits q f h = (h, tt)
+
+    start : Deep source (answered source d.given (drawn j w t))
+    start =
+        let y = suits mine.request mine.form mine.rests in
+        steps.told source mine.request d.given (drawn j w t) y.0 y.1
+
+    module _ (fair : RideFair source _ _ s n asked d.rides) where
+      owes : RideOwes source entered steps (deep_in (answered source d.given (drawn j w t))) asked.request s
+      owes = ride_owes source entered steps (deep_in (answered source d.given (drawn j w t))) _ _ s n asked d.rides fair start refl
+
+      lets_go : LetsGoInHand (keys s.env.hand) asked.request
+      lets_go = by asked.request owes.lets
+        where
+          same : (o : ℕ) → has (deep_in (answered source d.given (drawn j w t))) o ≡ true → has (keys s.env.hand) o ≡ true
+          same o h = sym (deep_in_hand source input opts range r going deeps p t n s asked d o) ∙ h
+
+          by : (q : Request) → LetsGoInHand (deep_in (answered source d.given (drawn j w t))) q → LetsGoInHand (keys s.env.hand) q
+          by (ask.Made o) h = same o h
+          by (ask.Spawn o) h = same o h
+          by (ask.Leave o failed) h = same o h
+          by (ask.Gone o) h = same o h
+          by q h = tt
+
+      hand : keys s.env.hand ≡ held t j
+      hand = (asks_with source input opts range r going p t n s asked d).hand
+
+      in_hand : (o : ℕ) → has (keys s.env.hand) o ≡ has (inside o j) t
+      in_hand o = ap (λ l. has l o) hand ∙ (law_held j).inside t o
+
+      module _ (extra : AskFair source (own_object t j) asked.request s) (f : Fits opts source.sites j t asked.request) (on : is_over (j ++ act opts source.sites input j p t n asked) ≡ false) where
+        abbrev a : List Entry
+        a = act opts source.sites input j p t n asked
+
+        abbrev after : World
+        after = world_after source (act opts source.sites input j p t n asked) w t s
+
+        m : MayAsk opts source.sites j p t n asked.request
+        m = may_ask source input opts range d f
+
+        made : Makes j (act opts source.sites input j p t n asked) t
+        made = makes opts source.sites input j p t n asked r.kernel m on
+
+        sound_after : Sound (j ++ act opts source.sites input j p t n asked)
+        sound_after = (good_whole opts source.sites input (run_after opts source.sites input j p t n asked r.kernel m on)).sound
+
+        is : act opts source.sites input j p t n asked ≡ row opts source.sites input j p t (cost n asked.line) asked.line asked.request
+        is = (going_row opts source.sites input j p t n asked on).0
+
+        insiders : Insiders t (GoesOut t j asked.request) j (j ++ act opts source.sites input j p t n asked)
+        insiders = subst (λ l. Insiders t (GoesOut t j asked.request) j (j ++ l)) (sym is) (row_insiders opts source.sites input j p t (cost n asked.line) asked.line asked.request)
+
+        engaged_hand : EngagedHand source s.env.hand
+        engaged_hand = by asked.request refl owes.state extra
+          where
+            by : (q : Request) → asked.request ≡ q → DeepAsk source q s → AskFair source (own_object t j) q s → EngagedHand source s.env.hand
+            by (ask.Call o c) e h g = h.env.hand
+            by (ask.Make c) e h g = h.1.env.hand
+            by ask.Slice e h g = h.env.hand
+            by ask.End e h g = g.0
+            by (ask.Fault k) e h g =
+                no_both (is_over (j ++ a)) (ap (λ l. is_over (j ++ l)) (is ∙ ap (row opts source.sites input j p t (cost n asked.line) asked.line) e) ∙ over_by j _ refl) on
+            by q e h g = h.deep.env.hand
+
+        homes_by : (P : Option Members → Type 0) (o : ℕ) → (takes_out a o ≡ true → P None) → (takes_out a o ≡ false → P (or_else (find o s.env.hand) (w.homes o))) → P (after.homes o)
+        homes_by P o h k = by (takes_out a o) refl
+          where
+            by : (b : Bool) → takes_out a o ≡ b → P (if b then None else or_else (find o s.env.hand) (w.homes o))
+            by true e = h e
+            by false e = k e
+
+        -- what was in hand and goes out of it owes nothing
+        out_free : (o : ℕ) → has (keys s.env.hand) o ≡ true → is_held_up o s.env ≡ false → FreeMembers source (after.homes o)
+        out_free o h u = homes_by (FreeMembers source) o (λ e. tt) (λ e. by (find o s.env.hand) refl (some_found o s.env.hand h))
+          where
+            or_second : (b c : Bool) → (b || c) ≡ false → c ≡ false
+            or_second true c g = cc
+            or_second false c g = g
+
+            by : (y : Option Members) → find o s.env.hand ≡ y → IsThere y → FreeMembers source (or_else y (w.homes o))
+            by None e g = absurd g
+            by (Some k) e g =
+                freeing source k (found_engaged source o s.env.hand k engaged_hand e) (ap has_engaged (sym e) ∙ or_second _ (has_engaged (find o s.env.hand)) u)
+
+        gone_out : (o : ℕ) → (q : Request) → asked.request ≡ q → GoesOut t j q o → Unheld q s.env → has (keys s.env.hand) o ≡ true → FreeMembers source (after.homes o)
+        gone_out o (ask.Made v) e g u h = out_free o h (ap (λ k. is_held_up k s.env) (sym g) ∙ u)
+        gone_out o (ask.Spawn v) e g u h = out_free o h (ap (λ k. is_held_up k s.env) (sym g) ∙ u)
+        gone_out o (ask.Leave v failed) e g u h = out_free o h (ap (λ k. is_held_up k s.env) (sym g) ∙ u)
+        gone_out o (ask.Wait v c k) e g u h = out_free o h (ap (λ k. is_held_up k s.env) (sym g) ∙ u)
+        gone_out o (ask.Accept v c k) e g u h = out_free o h (ap (λ k. is_held_up k s.env) (sym g) ∙ u)
+        gone_out o (ask.SignalBlock v c) e g u h = out_free o h (ap (λ k. is_held_up k s.env) (sym g) ∙ u)
+        gone_out o ask.End e g u h = out_free o h (ap (λ k. is_held_up k s.env) (sym g) ∙ (subst (λ q. AskFair source (own_object t j) q s) e extra).1)
+        gone_out o (ask.Gone v) e g u h =
+            let out : takes_out a o ≡ true = ap (λ l. takes_out l o) (is ∙ ap (row opts source.sites input j p t (cost n asked.line) asked.line) e) ∙ ap (λ b. b || false) (eq-eqb o v (sym g)) in
+            homes_by (FreeMembers source) o (λ k. tt) (λ k. no_both (takes_out a o) out k)
+        gone_out o q e g u h = absurd g
+
+        -- an object that is left by whoever is inside, or to which somebody comes
+        let_out : (o : ℕ) → (has (inside o j) t ≡ true → has (inside o (j ++ act opts source.sites input j p t n asked)) t ≡ false) → ((v : ℕ) → has (inside o j) v ≡ true → (v == t) ≡ false → ⊥) → FreeMembers source (after.homes o)
+        let_out o out others = by (has (inside o j) t) refl
+          where
+            none : (has (inside o j) t) ≡ false → (l : List ℕ) → inside o j ≡ l → l ≡ []
+            none h [] e = refl
+            none h (v ∷ l) e =
+                let there : has (inside o j) v ≡ true = ap (λ y. has y v) e ∙ has_self v l in
+                absurd (others v there (not_true (v == t) (λ g. no_both (has (inside o j) t) (ap (has (inside o j)) (sym (eqb-true v t g)) ∙ there) h)))
+
+            by : (b : Bool) → has (inside o j) t ≡ b → FreeMembers source (after.homes o)
+            by true h = gone_out o asked.request refl (insiders.own o h (out h)) owes.unheld (in_hand o ∙ h)
+            by false h =
+                homes_by (FreeMembers source) o (λ e. tt) (λ e. subst (λ y. FreeMembers source (or_else y (w.homes o))) (sym (none_found o s.env.hand (in_hand o ∙ h))) (x.free o (none h (inside o j) refl)))
+
+        new_free : (v o : ℕ) → has (inside o (j ++ act opts source.sites input j p t n asked)) v ≡ true → has (inside o j) v ≡ false → FreeMembers source (after.homes o)
+        new_free v o h g =
+            let one = one_inside (j ++ a) o v sound_after h in
+            let_out o (λ e. ap (λ l. has l t) one ∙ ap (λ b. b || false) (not_true (v == t) (λ k. no_both (has (inside o j) v) (ap (has (inside o j)) (eqb-true v t k) ∙ e) g))) (λ u e k. no_both (has (inside o j) v) (ap (has (inside o j)) (sym (eqb-true u v (only u one (insiders.others u o k e)))) ∙ e) g)
+          where
+            only : (u : ℕ) → inside o (j ++ act opts source.sites input j p t n asked) ≡ v ∷ [] → has (inside o (j ++ act opts source.sites input j p t n asked)) u ≡ true → (u == v) ≡ true
+            only u one k = flipped u v ∙ first (v == u) (ap (λ l. has l u) (sym one) ∙ k)
+              where
+                first : (b : Bool) → (b || false) ≡ true → b ≡ true
+                first true e = refl
+                first false e = e
+
+        free_after : (o : ℕ) → inside o (j ++ act opts source.sites input j p t n asked) ≡ [] → FreeMembers source (after.homes o)
+        free_after o h =
+            let_out o (λ e. ap (λ l. has l t) h) (λ v e k. no_both (has (inside o (j ++ a)) v) (insiders.others v o k e) (ap (λ l. has l v) h))
+
+        engaged_after : (o : ℕ) → EngagedMembers source (after.homes o)
+        engaged_after o =
+            homes_by (EngagedMembers source) o (λ e. tt) (λ e. by (find o s.env.hand) refl)
+          where
+            by : (y : Option Members) → find o s.env.hand ≡ y → EngagedMembers source (or_else y (w.homes o))
+            by None e = x.engaged o
+            by (Some k) e = found_engaged source o s.env.hand k engaged_hand e
+
+        -- hands that are drawn anew
+
+        redrawn_to : (u : ℕ) (old : List (ℕ × Members)) → ((o : ℕ) → has (held u j) o ≡ true → (k : Members) → after.homes o ≡ Some k → find o old ≡ Some k) → Redrawn source old (hand_of (held u (j ++ act opts source.sites input j p t n asked)) (world_after source (act opts source.sites input j p t n asked) w t s).homes)
+        redrawn_to u old agree =
+            redrawn source old (held u (j ++ a)) after.homes ((law_held (j ++ a)).once u) (λ o h. by o h (has (held u j) o) refl)
+          where
+            found_as : (o : ℕ) (y : Option Members) → after.homes o ≡ y → ((k : Members) → after.homes o ≡ Some k → find o old ≡ Some k) → Found source old o y
+            found_as o None e f = tt
+            found_as o (Some k) e f = inr (f k e)
+
+            by : (o : ℕ) → has (held u (j ++ a)) o ≡ true → (b : Bool) → has (held u j) o ≡ b → Found source old o (after.homes o)
+            by o h true g = found_as o (after.homes o) refl (agree o g)
+            by o h false g =
+                free_found source old o (after.homes o) (new_free u o (sym ((law_held (j ++ a)).inside u o) ∙ h) (sym ((law_held j).inside u o) ∙ g))
+
+        own_agrees : (o : ℕ) → has (held t j) o ≡ true → (k : Members) → after.homes o ≡ Some k → find o s.env.hand ≡ Some k
+        own_agrees o h k =
+            homes_by (λ y. y ≡ Some k → find o s.env.hand ≡ Some k) o (λ e g. cc) (λ e. by (find o s.env.hand) refl (some_found o s.env.hand (ap (λ l. has l o) hand ∙ h)))
+          where
+            by : (y : Option Members) → find o s.env.hand ≡ y → IsThere y → or_else y (w.homes o) ≡ Some k → find o s.env.hand ≡ Some k
+            by None e i g = absurd i
+            by (Some v) e i g = e ∙ g
+
+        other_agrees : (u : ℕ) → (u == t) ≡ false → (o : ℕ) → has (held u j) o ≡ true → (k : Members) → after.homes o ≡ Some k → find o (hand_of (held u j) w.homes) ≡ Some k
+        other_agrees u n o h k =
+            homes_by (λ y. y ≡ Some k → find o (hand_of (held u j) w.homes) ≡ Some k) o (λ e g. cc) (λ e g. hand_finds (held u j) w.homes o k h (by (find o s.env.hand) (none_found o s.env.hand apart) g))
+          where
+            apart : has (keys s.env.hand) o ≡ false
+            apart =
+                ap (λ l. has l o) hand ∙ not_true (has (held t j) o) (λ e. no_both (u == t) (eq-eqb u t (same_holder j t u o sound e h)) n)
+
+            by : (y : Option Members) → y ≡ None → or_else y (w.homes o) ≡ Some k → w.homes o ≡ Some k
+            by None e g = g
+            by (Some v) e g = cc
+
+        to_rests : (q : Request) → (q ≡ ask.End → ⊥) → ((k : ℕ) → q ≡ ask.Fault k → ⊥) → DeepAsk source q s → Rests source q s
+        to_rests ask.End e g h = absurd (e refl)
+        to_rests (ask.Fault k) e g h = absurd (g k refl)
+        to_rests q e g h = h
+
+        asking : AsksFor j (act opts source.sites input j p t n asked) t asked.request
+        asking = law_asking opts source.sites input j p t n asked r.kernel m on
+
+        own_after : has_ended t (j ++ act opts source.sites input j p t n asked) ≡ false → OwingTask source (j ++ act opts source.sites input j p t n asked) t (with_hand (hand_of (held t (j ++ act opts source.sites input j p t n asked)) (world_after source (act opts source.sites input j p t n asked) w t s).homes) s)
+        own_after h =
+            let k = law_ends opts source.sites input j p t n asked on h in
+            record {
+              request = asked.request;
+              form = asking.own;
+              rests = rests_drawn source drawing asked.request (hand_of (held t (j ++ a)) after.homes) s (to_rests asked.request k.no_end k.no_fault owes.state) (redrawn_to t s.env.hand own_agrees);
+            }
+
+        other_after : (u : ℕ) → (u == t) ≡ false → OwingTask source j u (drawn j w u) → OwingTask source (j ++ act opts source.sites input j p t n asked) u (with_hand (hand_of (held u (j ++ act opts source.sites input j p t n asked)) (world_after source (act opts source.sites input j p t n asked) w t s).homes) (w.tasks u))
+        other_after u h y = record {
+          request = y.request;
+          form = asking.others u h ∙ y.form;
+          rests = rests_drawn source drawing y.request (hand_of (held u (j ++ a)) after.homes) (drawn j w u) y.rests (redrawn_to u (hand_of (held u j) w.homes) (other_agrees u h));
+        }
+
+        child_after : (u : ℕ) → (u == t) ≡ false → task_count j ≤ u → Deep source (child_of source (own_object u (act opts source.sites input j p t n asked)) s) → OwingTask source (j ++ act opts source.sites input j p t n asked) u (with_hand (hand_of (held u (j ++ act opts source.sites input j p t n asked)) (world_after source (act opts source.sites input j p t n asked) w t s).homes) (child_of source (own_object u (act opts source.sites input j p t n asked)) s))
+        child_after u h le c = record {
+          request = ask.Slice;
+          form = asking.others u h ∙ late_form;
+          rests = drawing.asked source ask.Slice (hand_of (held u (j ++ a)) after.homes) (child_of source (own_object u a) s) c (redrawn_to u [] (λ o e k g. no_both (has (held u j) o) e (nowhere o)));
+        }
+          where
+            or_first : (b c : Bool) → (b || c) ≡ false → b ≡ false
+            or_first true c g = cc
+            or_first false c g = refl
+
+            nowhere : (o : ℕ) → has (held u j) o ≡ false
+            nowhere o = (law_held j).inside u o ∙ or_first (has (inside o j) u) _ (deeps.late u o le)
+
+            late_form : asked_form u j ≡ JustGo
+            late_form = subst (λ (P : Spot). SpotSuits P (asked_form u j)) (sound.few u le) ((kept_run opts source.sites input r.kernel going).suits.spots u)
+
+        tasks_after : (u : ℕ) → u < task_count (j ++ act opts source.sites input j p t n asked) → has_ended u (j ++ act opts source.sites input j p t n asked) ≡ false → OwingTask source (j ++ act opts source.sites input j p t n asked) u (drawn (j ++ act opts source.sites input j p t n asked) (world_after source (act opts source.sites input j p t n asked) w t s) u)
+        tasks_after u lt alive = by (u == t) refl
+          where
+            at_rest : State → Type 0
+            at_rest v = OwingTask source (j ++ a) u (with_hand (hand_of (held u (j ++ a)) after.homes) v)
+
+            not_late : spawns a u ≡ false → u < task_count j
+            not_late e =
+                ⊎_elim (λ k. k) (λ le. no_both (spawns a u) (spawned_true source input opts range r going deeps p t n s asked d f on u le lt) e) (cases_lt u (task_count j))
+
+            child_plain : task_count j ≤ u → Deep source (child_of source (own_object u a) s)
+            child_plain le =
+                let b = spawned_by source input opts range r going deeps p t n s asked d f on u le lt in
+                steps.born source entered b.object (own_object u a) s (subst (λ q. DeepAsk source q s) b.request owes.state)
+
+            other : (u == t) ≡ false → (b : Bool) → spawns a u ≡ b → at_rest (if b then child_of source (own_object u a) s else w.tasks u)
+            other h true e =
+                let le : task_count j ≤ u = ⊎_elim (λ lt. no_both (spawns a u) e (spawns_none j a u (lawful_act opts source.sites input j p t n asked sound m) lt)) (λ le. le) (cases_lt u (task_count j)) in
+                child_after u h le (child_plain le)
+            other h false e = other_after u h (x.tasks u (not_late e) (ended_before j a u alive))
+
+            by : (b : Bool) → (u == t) ≡ b → at_rest (if b then bare s else if spawns a u then child_of source (own_object u a) s else w.tasks u)
+            by true h =
+                subst (λ v. OwingTask source (j ++ a) v (with_hand (hand_of (held v (j ++ a)) after.homes) s)) (sym (eqb-true u t h)) (own_after (ap (λ v. has_ended v (j ++ a)) (sym (eqb-true u t h)) ∙ alive))
+            by false h = other h (spawns a u) refl
+
+        pub owing_act : OwingWorld source (j ++ act opts source.sites input j p t n asked) (world_after source (act opts source.sites input j p t n asked) w t s)
+        owing_act = record { tasks = tasks_after; engaged = engaged_after; free = free_after }
+
+  -- a dispatch leaves all as it is
+  owing_given : {j : Journal} {w : World} (p t : ℕ) → RunRests source input opts j w → Serves opts j p t → OwingWorld source j w → OwingWorld source (j ++ dispatch p t ∷ []) w
+  owing_given {j} {w} p t r v x =
+      let d = law_dispatch opts source.sites input j p t r.kernel v in
+      let count : task_count (j ++ dispatch p t ∷ []) ≡ task_count j = (still j (dispatch p t) refl).tasks in
+      record {
+        tasks = λ u lt alive.
+            let y = x.tasks u (omega (arith, lt, count)) (ended_before j (dispatch p t ∷ []) u alive) in
+            record {
+              request = y.request;
+              form = form_push u j (dispatch p t) ∙ y.form;
+              rests = subst (λ l. Rests source y.request (with_hand (hand_of l w.homes) (w.tasks u))) (sym (d.objects u)) y.rests;
+            };
+        engaged = x.engaged;
+        free = λ o h. x.free o (sym (door_silent o j (dispatch p t) refl).inside ∙ h);
+      }
+
+  owing_may : {j : Journal} {w : World} {a : List Entry} {v : World} → RunRests source input opts j w → is_over j ≡ false → DeepWorld j w → OwingWorld source j w → (m : May source opts input j w a v) → MayFit source opts input j w a v m → MayFair source opts input j w a v m → is_over (j ++ a) ≡ false → OwingWorld source (j ++ a) v
+  owing_may r o e x (gives p t s le) f g on = owing_given p t r s x
+  owing_may {j} r o e x (no_room p t s le) f g on = no_both (is_over (j ++ lone_limit ∷ [])) (over_limit j 0 0) on
+  owing_may r o e x (acts p t n s asked d) f g on = owing_act r o e x p t n s asked d g.0 g.1 f on
+
+  -- a run begins with task 0 in object 0
+
+  begin_form : (u : ℕ) → asked_form u (begin opts ∷ []) ≡ JustGo
+  unfolding asked_form
+  begin_form u = refl
+
+  free_none : Free source (quiet.zeros 0)
+  free_none = record { parked = tt; nothing = λ q. refl }
+
+  owing_begin : OwingWorld source (begin opts ∷ []) (first_world source)
+  owing_begin = record {
+    tasks = λ u lt alive. record {
+      request = ask.Slice;
+      form = begin_form u;
+      rests = drawing.asked source ask.Slice (hand_of (held u (begin opts ∷ [])) first_home) (quiet.first_state (routine_of source source.main) 0) (steps.begins source entered source.main 0 entered.main) (redrawn source [] (held u (begin opts ∷ [])) first_home ((law_held (begin opts ∷ [])).once u) (λ o h. either (Found source [] o) (o == 0) (Some (quiet.zeros 0)) None (inl free_none) tt));
+    };
+    engaged = λ o. either (EngagedMembers source) (o == 0) (Some (quiet.zeros 0)) None tt tt;
+    free = λ o h. either (FreeMembers source) (o == 0) (Some (quiet.zeros 0)) None free_none tt;
+  }
+
+  owing_run : {j : Journal} {w : World} → (r : Runs source input opts j w) → RunFits source input opts j w r → RunFair source input opts j w r → is_over j ≡ false → OwingWorld source j w
+  owing_run begun f g on = owing_begin
+  owing_run (more r o m) f g on =
+      owing_may (run_rests source input opts range r f.0 o) o (deep_run source input opts range r f.0 o) (owing_run r f.0 g.0 o) m f.1 g.1 on
+
+  pub lets_go_in_run : {j : Journal} {w : World} → (r : Runs source input opts j w) → RunFits source input opts j w r → RunFair source input opts j w r → is_over j ≡ false → (p t n : ℕ) (s : State) (asked : Asked) (d : AsksIn source opts j w p t n s asked) → RideFair source _ _ s n asked d.rides → LetsGoInHand (keys s.env.hand) asked.request
+  lets_go_in_run r f g on p t n s asked d fair =
+      lets_go (run_rests source input opts range r f on) on (deep_run source input opts range r f on) (owing_run r f g on) p t n s asked d fair
+
+pub law_lets_go : LawLetsGo
+law_lets_go source entered input opts j w r range f g on p t n s asked d fair =
+    lets_go_in_run source entered law_steps law_free law_drawn input opts range r f g on p t n s asked d fair

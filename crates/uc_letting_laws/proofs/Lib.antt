@@ -1,0 +1,2 @@
+pub mod Insiders
+pub mod LettingWorlds

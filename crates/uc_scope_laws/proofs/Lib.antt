@@ -1,0 +1,14 @@
+pub mod Expressions
+pub mod RoomLemmas
+pub mod Steps
+pub mod Walk
+pub mod Statements
+pub mod Routines
+pub mod Unreferring
+pub mod RoomWorlds
+pub mod Stacks
+pub mod Keeping
+pub mod StackSteps
+pub mod StackWalk
+pub mod StackWorlds
+pub mod Openings
