@@ -23,7 +23,7 @@ use Rattle.uc_tree.specs.Cells.{classes_of, object_of_kind, object_named}
 use Rattle.uc_tree.specs.Programs.{Program, Class}
 use Rattle.uc_tree.specs.Programs as whole
 use Rattle.uc_tree.specs.Expressions as expr
-use Rattle.uc_tree.specs.Source.{Shape, Character, Truth, Operator, Plus, Minus, Times, Over, Modulo, Expr, Literal, Operate, Get, Element}
+use Rattle.uc_tree.specs.Source.{Shape, Character, Truth, Operator, Add, Sub, Mul, Div, Rem, Expr, Literal, Operate, Get, Element}
 use Rattle.uc_tree.specs.Objects.{shape_of, making, making_by, is_numbered as is_made_numbered, class_made, event_place, event_from, base_shape}
 use Rattle.uc_resolve.specs.Standings as tree
 use Rattle.uc_resolve.specs.Standings.{Standing, AtVariable, AtField, AtPlace, AsNumber, AsInput, AsFail, AsCondition, known_meant, known_named, name_meant, field_meant, meant, params_of, converted, arg_meant, args_by, args_meant}
@@ -273,8 +273,8 @@ module _ (t : Table) (g : Sig) (sc : List Name) (p : Program) (refers : t.refers
   unary_ok unary.Minus o m ih w h = by_scalar sort.Int o w m _ ih tt h (λ v. (refl, v))
   unary_ok unary.Plus o m ih w h = by_scalar sort.Int o w m _ ih tt h (λ v. v)
   unary_ok unary.Not o m ih w h = by_scalar sort.Bool o w m _ ih tt h (λ v. (refl, v))
-  unary_ok unary.Increment o m ih w h = by_place o w m _ ih tt h (λ a. updated_ok Plus (shape_of m.ty.base) m.standing m.expr (Literal (pos 1)) a refl)
-  unary_ok unary.Decrement o m ih w h = by_place o w m _ ih tt h (λ a. updated_ok Minus (shape_of m.ty.base) m.standing m.expr (Literal (pos 1)) a refl)
+  unary_ok unary.Increment o m ih w h = by_place o w m _ ih tt h (λ a. updated_ok Add (shape_of m.ty.base) m.standing m.expr (Literal (pos 1)) a refl)
+  unary_ok unary.Decrement o m ih w h = by_place o w m _ ih tt h (λ a. updated_ok Sub (shape_of m.ty.base) m.standing m.expr (Literal (pos 1)) a refl)
 
   binary_fine : (op : BinaryOp) (l r : tree.Meant) → ValuedBy t g sc l.standing l.expr → ValuedBy t g sc r.standing r.expr → ValuedBy t g sc (tree.binary_meant op l r).standing (tree.binary_meant op l r).expr
   binary_fine binary.Or l r a b = (refl, a, b)
@@ -315,11 +315,11 @@ module _ (t : Table) (g : Sig) (sc : List Name) (p : Program) (refers : t.refers
 
   assign_fine : (op : AssignOp) (m v : tree.Meant) → Yields t g sc m.expr (Cell Num) → ValuedBy t g sc v.standing v.expr → ValuedBy t g sc (tree.assign_meant op m v).standing (tree.assign_meant op m v).expr
   assign_fine assign.Set m v a y = written_ok m.standing m.expr (converted (shape_of m.ty.base) (tree.value_of v)) a (converted_fine (shape_of m.ty.base) (tree.value_of v) y)
-  assign_fine assign.Add m v a y = updated_ok Plus (shape_of m.ty.base) m.standing m.expr (tree.value_of v) a y
-  assign_fine assign.Sub m v a y = updated_ok Minus (shape_of m.ty.base) m.standing m.expr (tree.value_of v) a y
-  assign_fine assign.Mul m v a y = updated_ok Times (shape_of m.ty.base) m.standing m.expr (tree.value_of v) a y
-  assign_fine assign.Div m v a y = updated_ok Over (shape_of m.ty.base) m.standing m.expr (tree.value_of v) a y
-  assign_fine assign.Rem m v a y = updated_ok Modulo (shape_of m.ty.base) m.standing m.expr (tree.value_of v) a y
+  assign_fine assign.Add m v a y = updated_ok Add (shape_of m.ty.base) m.standing m.expr (tree.value_of v) a y
+  assign_fine assign.Sub m v a y = updated_ok Sub (shape_of m.ty.base) m.standing m.expr (tree.value_of v) a y
+  assign_fine assign.Mul m v a y = updated_ok Mul (shape_of m.ty.base) m.standing m.expr (tree.value_of v) a y
+  assign_fine assign.Div m v a y = updated_ok Div (shape_of m.ty.base) m.standing m.expr (tree.value_of v) a y
+  assign_fine assign.Rem m v a y = updated_ok Rem (shape_of m.ty.base) m.standing m.expr (tree.value_of v) a y
 
   assign_ok : (op : AssignOp) (o u : Option Entity) (m v : tree.Meant) → AgreesIf t g sc p o m → AgreesIf t g sc p u v → AgreesIf t g sc p (of_assign o u) (tree.assign_meant op m v)
   assign_ok op None u m v f k w h = none_some h
@@ -330,8 +330,8 @@ module _ (t : Table) (g : Sig) (sc : List Name) (p : Program) (refers : t.refers
       as_value a.0 w (tree.assign_meant op m v) a.1 (assign_value op m v) (assign_fine op m v a.2 (scalar y v i.0 (k y refl)))
 
   step_ok : (op : StepOp) (o : Option Entity) (m : tree.Meant) → AgreesIf t g sc p o m → AgreesIf t g sc p (of_place o) (tree.step_meant op m)
-  step_ok step.Increment o m ih w h = by_place o w m _ ih tt h (λ a. stepped_ok Plus (shape_of m.ty.base) m.standing m.expr a)
-  step_ok step.Decrement o m ih w h = by_place o w m _ ih tt h (λ a. stepped_ok Minus (shape_of m.ty.base) m.standing m.expr a)
+  step_ok step.Increment o m ih w h = by_place o w m _ ih tt h (λ a. stepped_ok Add (shape_of m.ty.base) m.standing m.expr a)
+  step_ok step.Decrement o m ih w h = by_place o w m _ ih tt h (λ a. stepped_ok Sub (shape_of m.ty.base) m.standing m.expr a)
 
   -- an element
   element_condition : (st : Standing) (n : ℕ) (m : tree.Meant) (i : Expr) → IsAsCondition t g st → sort_of p m.ty.base ≡ Some sort.Condition → Yields t g sc i Num → Agrees t g sc p (entity.Place sort.Condition) (tree.element_in p st n m i)

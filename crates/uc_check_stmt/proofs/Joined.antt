@@ -5,11 +5,11 @@ use Rattle.uc_rules.specs.declared.rule.Break.{Break}
 use Rattle.uc_rules.specs.Entities.{count}
 use Rattle.uc_rules.specs.Firsts.{sooner, after}
 use Rattle.uc_rules.specs.Visits.{Visit}
-use Rattle.uc_types.specs.FirstBreak.{told, noted}
+use Rattle.uc_types.specs.FirstBreak.{first_break_after, with_visits}
 
-pub noted_append : (f : Option Break) (a b : List Visit) → noted f (a ++ b) ≡ noted (noted f a) b
+pub noted_append : (f : Option Break) (a b : List Visit) → with_visits f (a ++ b) ≡ with_visits (with_visits f a) b
 noted_append f [] b = refl
-noted_append f (v ∷ a) b = noted_append (told f v) a b
+noted_append f (v ∷ a) b = noted_append (first_break_after f v) a b
 
 pub count_is : (es : List Expr) → count (exprs_of es) ≡ length es
 count_is [] = refl

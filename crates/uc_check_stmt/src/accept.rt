@@ -13,7 +13,7 @@ ghost use Rattle.uc_rules.specs.OwnerBreaks.{may_accept};
 ghost use Rattle.uc_rules.specs.ProgramVisits.{home_member};
 ghost use Rattle.uc_rules.specs.Sorts.{class_at};
 ghost use Rattle.uc_rules.specs.Visits.{AtAccept, AtHandlers};
-ghost use Rattle.uc_types.specs.FirstBreak.{told};
+ghost use Rattle.uc_types.specs.FirstBreak.{first_break_after};
 
 use std::alloc::{AllocError, Global};
 use uc_numbering::members::member_number;
@@ -240,7 +240,7 @@ pub fn ask_accept(
     at: Pos,
     found: &mut Found,
 ) -> Result<(), AllocError>
-    ensures { OnOk result (found.new ≡ told found.old (AtAccept names.now at (clauses_of clauses.now))) }
+    ensures { OnOk result (found.new ≡ first_break_after found.old (AtAccept names.now at (clauses_of clauses.now))) }
 {
     note_listed(names, clauses, found)?;
     found.note_unless(may_accept(names.around()), Rule::O9, at);
@@ -304,7 +304,7 @@ fn resumes_then(resumes: bool, kind: HandlerKind, all: bool) -> bool
 
 /// The handlers of a guarded block.
 pub fn ask_handlers(names: &Names, handlers: &[Handler], found: &mut Found)
-    ensures { found.new ≡ told found.old (AtHandlers names.now (handlers_of handlers.now)) }
+    ensures { found.new ≡ first_break_after found.old (AtHandlers names.now (handlers_of handlers.now)) }
 {
     note_handlers(names, handlers, found);
 }

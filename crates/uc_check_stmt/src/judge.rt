@@ -5,7 +5,7 @@ ghost use Rattle.uc_rules.specs.ExpressionBreaks.{event_takes, is_new, raise_bre
 ghost use Rattle.uc_rules.specs.Firsts.{after};
 ghost use Rattle.uc_rules.specs.OwnerBreaks.{is_cluster_place, is_raise_target, is_raise_target_sort, may_switch, returned_breaks};
 ghost use Rattle.uc_rules.specs.Visits.{AtAgain, AtBase, AtCaught, AtCondition, AtEvent, AtLoopExit, AtMigrate, AtPrinted, AtRaise, AtRaiseTarget, AtRead, AtReturn, AtStatement, AtSwitch, AtTogether};
-ghost use Rattle.uc_types.specs.FirstBreak.{told};
+ghost use Rattle.uc_types.specs.FirstBreak.{first_break_after};
 
 use uc_entry::request::PRINT_ITEMS;
 use uc_rules::rule::Rule;
@@ -22,7 +22,7 @@ use uc_types::sort::{is_cluster, is_cormonitor, is_coroutine, is_task};
 
 /// A base that is used.
 pub fn ask_base(names: &Names, base: &Base, at: Pos, found: &mut Found)
-    ensures { found.new ≡ told found.old (AtBase names.now at base.now) }
+    ensures { found.new ≡ first_break_after found.old (AtBase names.now at base.now) }
 {
     let tables = names.tables();
     found.note_unless(tables.sort_of(base).is_some(), Rule::S1, at);
@@ -30,7 +30,7 @@ pub fn ask_base(names: &Names, base: &Base, at: Pos, found: &mut Found)
 
 /// A condition.
 pub fn ask_condition(entity: Option<Entity>, at: Pos, found: &mut Found)
-    ensures { found.new ≡ told found.old (AtCondition at entity) }
+    ensures { found.new ≡ first_break_after found.old (AtCondition at entity) }
 {
     if let Some(entity) = entity {
         found.note_unless(is_scalar(entity), Rule::S8, at);
@@ -39,7 +39,7 @@ pub fn ask_condition(entity: Option<Entity>, at: Pos, found: &mut Found)
 
 /// An expression whose value is not used.
 pub fn ask_statement(entity: Option<Entity>, at: Pos, found: &mut Found)
-    ensures { found.new ≡ told found.old (AtStatement at entity) }
+    ensures { found.new ≡ first_break_after found.old (AtStatement at entity) }
 {
     if let Some(entity) = entity {
         found.note_unless(
@@ -72,7 +72,7 @@ fn note_object(entity: Option<Entity>, at: Pos, found: &mut Found)
 
 /// A return, with what its value stands for where it has one.
 pub fn ask_return(names: &Names, value: Option<Option<Entity>>, at: Pos, found: &mut Found)
-    ensures { found.new ≡ told found.old (AtReturn names.now at value) }
+    ensures { found.new ≡ first_break_after found.old (AtReturn names.now at value) }
 {
     let returns = names.around().returns;
     match value {
@@ -86,7 +86,7 @@ pub fn ask_return(names: &Names, value: Option<Option<Entity>>, at: Pos, found: 
 
 /// A printed item.
 pub fn ask_printed(entity: Option<Entity>, sign: Pos, found: &mut Found)
-    ensures { found.new ≡ told found.old (AtPrinted sign entity) }
+    ensures { found.new ≡ first_break_after found.old (AtPrinted sign entity) }
 {
     if let Some(entity) = entity {
         found.note_unless(is_scalar(entity), Rule::S24, sign);
@@ -95,7 +95,7 @@ pub fn ask_printed(entity: Option<Entity>, sign: Pos, found: &mut Found)
 
 /// The items under an `osacquire`.
 pub fn ask_together(items: &[OutItem], found: &mut Found)
-    ensures { found.new ≡ told found.old (AtTogether items.now) }
+    ensures { found.new ≡ first_break_after found.old (AtTogether items.now) }
 {
     match items.get(usize::from(PRINT_ITEMS)) {
         Some(item) => found.note(Rule::S24, item.sign),
@@ -105,7 +105,7 @@ pub fn ask_together(items: &[OutItem], found: &mut Found)
 
 /// A place to read into.
 pub fn ask_read(entity: Option<Entity>, at: Pos, found: &mut Found)
-    ensures { found.new ≡ told found.old (AtRead at entity) }
+    ensures { found.new ≡ first_break_after found.old (AtRead at entity) }
 {
     if let Some(entity) = entity {
         found.note_unless(is_readable(entity), Rule::S24, at);
@@ -114,14 +114,14 @@ pub fn ask_read(entity: Option<Entity>, at: Pos, found: &mut Found)
 
 /// A `break` or `continue`.
 pub fn ask_loop_exit(names: &Names, at: Pos, found: &mut Found)
-    ensures { found.new ≡ told found.old (AtLoopExit names.now at) }
+    ensures { found.new ≡ first_break_after found.old (AtLoopExit names.now at) }
 {
     found.note_unless(names.around().in_loop, Rule::S13, at);
 }
 
 /// The name of an event.
 pub fn ask_event(names: &Names, name: &Name, at: Pos, found: &mut Found)
-    ensures { found.new ≡ told found.old (AtEvent names.now at name.now) }
+    ensures { found.new ≡ first_break_after found.old (AtEvent names.now at name.now) }
 {
     let tables = names.tables();
     let is_event = tables.event_named(name).is_some();
@@ -158,14 +158,14 @@ fn note_raise(names: &Names, name: &Name, count: usize, at: Pos, found: &mut Fou
 
 /// A raise with so many arguments.
 pub fn ask_raise(names: &Names, name: &Name, count: usize, at: Pos, found: &mut Found)
-    ensures { found.new ≡ told found.old (AtRaise names.now at name.now count) }
+    ensures { found.new ≡ first_break_after found.old (AtRaise names.now at name.now count) }
 {
     note_raise(names, name, count, at, found);
 }
 
 /// A raise of the event that is handled.
 pub fn ask_again(names: &Names, at: Pos, found: &mut Found)
-    ensures { found.new ≡ told found.old (AtAgain names.now at) }
+    ensures { found.new ≡ first_break_after found.old (AtAgain names.now at) }
 {
     found.note_unless(names.around().in_handler, Rule::S23, at);
 }
@@ -199,7 +199,7 @@ fn is_cluster_place(entity: Entity) -> bool
 
 /// The object after `_At`.
 pub fn ask_raise_target(entity: Option<Entity>, at: Pos, found: &mut Found)
-    ensures { found.new ≡ told found.old (AtRaiseTarget at entity) }
+    ensures { found.new ≡ first_break_after found.old (AtRaiseTarget at entity) }
 {
     if let Some(entity) = entity {
         found.note_unless(!is_of_conditions(entity), Rule::O4, at);
@@ -209,7 +209,7 @@ pub fn ask_raise_target(entity: Option<Entity>, at: Pos, found: &mut Found)
 
 /// The object of `migrate`.
 pub fn ask_migrate(entity: Option<Entity>, at: Pos, found: &mut Found)
-    ensures { found.new ≡ told found.old (AtMigrate at entity) }
+    ensures { found.new ≡ first_break_after found.old (AtMigrate at entity) }
 {
     if let Some(entity) = entity {
         found.note_unless(!is_of_conditions(entity), Rule::O4, at);
@@ -226,7 +226,7 @@ pub fn is_new(names: &Names, name: &Name) -> bool
 
 /// The parameter of a handler.
 pub fn ask_caught(names: &Names, name: &Option<Name>, at: Pos, found: &mut Found)
-    ensures { found.new ≡ told found.old (AtCaught names.now at name.now) }
+    ensures { found.new ≡ first_break_after found.old (AtCaught names.now at name.now) }
 {
     match name {
         Some(name) => found.note_unless(is_new(names, name), Rule::S2, at),
@@ -245,7 +245,7 @@ fn may_switch(around: Surroundings) -> bool
 
 /// A `resume` or `suspend`.
 pub fn ask_switch(names: &Names, at: Pos, found: &mut Found)
-    ensures { found.new ≡ told found.old (AtSwitch names.now at) }
+    ensures { found.new ≡ first_break_after found.old (AtSwitch names.now at) }
 {
     found.note_unless(may_switch(names.around()), Rule::O9, at);
 }

@@ -4,7 +4,7 @@ ghost use Rattle.std.specs.Prelude.{◌≡◌};
 ghost use Rattle.uc_tree.specs.Expressions.{exprs_of};
 ghost use Rattle.uc_rules.specs.Entities.{count, entity_of};
 ghost use Rattle.uc_rules.specs.Visits.{args_visits, class_target, condition_visits, event_class_target, event_target, events_visits, maybe_condition_visits, maybe_statement_visits, out_visits, outs_visits, raise_visits, raised_visits, read_visits, reads_visits, return_visits, statement_visits};
-ghost use Rattle.uc_types.specs.FirstBreak.{noted};
+ghost use Rattle.uc_types.specs.FirstBreak.{with_visits};
 
 use crate::judge::{
     ask_again, ask_condition, ask_event, ask_printed, ask_raise, ask_read, ask_return,
@@ -23,7 +23,7 @@ use uc_types::names::Names;
 /// A condition.
 #[tactic(auto, using(crate::proofs::Joined::joining))]
 pub fn check_condition(names: &Names, test: &Expr, found: &mut Found)
-    ensures { found.new ≡ noted found.old (condition_visits names.now test.now) }
+    ensures { found.new ≡ with_visits found.old (condition_visits names.now test.now) }
 {
     let entity = check_expr(names, test, found);
     ask_condition(entity, test.first_token(), found);
@@ -31,7 +31,7 @@ pub fn check_condition(names: &Names, test: &Expr, found: &mut Found)
 
 /// A condition, where there is one.
 pub fn check_maybe_condition(names: &Names, test: &Option<Expr>, found: &mut Found)
-    ensures { found.new ≡ noted found.old (maybe_condition_visits names.now test.now) }
+    ensures { found.new ≡ with_visits found.old (maybe_condition_visits names.now test.now) }
 {
     match test {
         Some(test) => check_condition(names, test, found),
@@ -42,7 +42,7 @@ pub fn check_maybe_condition(names: &Names, test: &Option<Expr>, found: &mut Fou
 /// An expression whose value is not used.
 #[tactic(auto, using(crate::proofs::Joined::joining))]
 pub fn check_statement(names: &Names, e: &Expr, found: &mut Found)
-    ensures { found.new ≡ noted found.old (statement_visits names.now e.now) }
+    ensures { found.new ≡ with_visits found.old (statement_visits names.now e.now) }
 {
     let entity = check_expr(names, e, found);
     ask_statement(entity, e.first_token(), found);
@@ -50,7 +50,7 @@ pub fn check_statement(names: &Names, e: &Expr, found: &mut Found)
 
 /// The same, where there is one.
 pub fn check_maybe_statement(names: &Names, e: &Option<Expr>, found: &mut Found)
-    ensures { found.new ≡ noted found.old (maybe_statement_visits names.now e.now) }
+    ensures { found.new ≡ with_visits found.old (maybe_statement_visits names.now e.now) }
 {
     match e {
         Some(e) => check_statement(names, e, found),
@@ -61,7 +61,7 @@ pub fn check_maybe_statement(names: &Names, e: &Option<Expr>, found: &mut Found)
 /// A return.
 #[tactic(auto, using(crate::proofs::Joined::joining))]
 pub fn check_return(names: &Names, value: &Option<Expr>, at: Pos, found: &mut Found)
-    ensures { found.new ≡ noted found.old (return_visits names.now at value.now) }
+    ensures { found.new ≡ with_visits found.old (return_visits names.now at value.now) }
 {
     match value {
         Some(value) => {
@@ -74,7 +74,7 @@ pub fn check_return(names: &Names, value: &Option<Expr>, at: Pos, found: &mut Fo
 
 #[tactic(auto, using(crate::proofs::Joined::joining))]
 fn check_item(names: &Names, item: &OutItem, found: &mut Found)
-    ensures { found.new ≡ noted found.old (out_visits names.now item.now) }
+    ensures { found.new ≡ with_visits found.old (out_visits names.now item.now) }
 {
     match &item.form {
         OutForm::Endl => {}
@@ -89,7 +89,7 @@ fn check_item(names: &Names, item: &OutItem, found: &mut Found)
 /// Printed items.
 #[tactic(auto, using(crate::proofs::Joined::joining))]
 pub fn check_items(names: &Names, items: &[OutItem], found: &mut Found)
-    ensures { found.new ≡ noted found.old (outs_visits names.now items.now) }
+    ensures { found.new ≡ with_visits found.old (outs_visits names.now items.now) }
 {
     for item in items {
         check_item(names, item, found);
@@ -98,7 +98,7 @@ pub fn check_items(names: &Names, items: &[OutItem], found: &mut Found)
 
 #[tactic(auto, using(crate::proofs::Joined::joining))]
 fn check_place(names: &Names, place: &Expr, found: &mut Found)
-    ensures { found.new ≡ noted found.old (read_visits names.now place.now) }
+    ensures { found.new ≡ with_visits found.old (read_visits names.now place.now) }
 {
     let entity = check_expr(names, place, found);
     ask_read(entity, place.first_token(), found);
@@ -107,7 +107,7 @@ fn check_place(names: &Names, place: &Expr, found: &mut Found)
 /// Places to read into.
 #[tactic(auto, using(crate::proofs::Joined::joining))]
 pub fn check_places(names: &Names, places: &[Expr], found: &mut Found)
-    ensures { found.new ≡ noted found.old (reads_visits names.now (exprs_of places.now)) }
+    ensures { found.new ≡ with_visits found.old (reads_visits names.now (exprs_of places.now)) }
 {
     for place in places {
         check_place(names, place, found);
@@ -136,7 +136,7 @@ fn event_target(names: &Names, name: &Name) -> Target
 #[tactic(auto, using(crate::proofs::Joined::joining))]
 fn check_raised_args(names: &Names, raised: &Raised, found: &mut Found) -> usize
     ensures count { result ≡ count raised.now.args }
-    ensures breaks { found.new ≡ noted found.old (args_visits names.now raised.now.args (event_target names.now raised.now.name) 0) }
+    ensures breaks { found.new ≡ with_visits found.old (args_visits names.now raised.now.args (event_target names.now raised.now.name) 0) }
 {
     let target = event_target(names, &raised.name);
     let _sound = check_args(names, &raised.args, target, found);
@@ -146,7 +146,7 @@ fn check_raised_args(names: &Names, raised: &Raised, found: &mut Found) -> usize
 /// A raise of an event.
 #[tactic(auto, using(crate::proofs::Joined::joining))]
 pub fn check_raised(names: &Names, raised: &Raised, at: Pos, found: &mut Found)
-    ensures { found.new ≡ noted found.old (raised_visits names.now at raised.now) }
+    ensures { found.new ≡ with_visits found.old (raised_visits names.now at raised.now) }
 {
     ask_event(names, &raised.name, raised.pos, found);
     let count = check_raised_args(names, raised, found);
@@ -155,7 +155,7 @@ pub fn check_raised(names: &Names, raised: &Raised, at: Pos, found: &mut Found)
 
 /// A raise of an event, or of the one that is handled.
 pub fn check_raise(names: &Names, raised: &Option<Raised>, at: Pos, found: &mut Found)
-    ensures { found.new ≡ noted found.old (raise_visits names.now at raised.now) }
+    ensures { found.new ≡ with_visits found.old (raise_visits names.now at raised.now) }
 {
     match raised {
         Some(raised) => check_raised(names, raised, at, found),
@@ -166,7 +166,7 @@ pub fn check_raise(names: &Names, raised: &Option<Raised>, at: Pos, found: &mut 
 /// The names of events in a list.
 #[tactic(auto, using(crate::proofs::Joined::joining))]
 pub fn check_events(names: &Names, events: &[EventName], found: &mut Found)
-    ensures { found.new ≡ noted found.old (events_visits names.now events.now) }
+    ensures { found.new ≡ with_visits found.old (events_visits names.now events.now) }
 {
     for event in events {
         ask_event(names, &event.name, event.pos, found);

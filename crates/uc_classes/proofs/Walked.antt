@@ -9,17 +9,17 @@ use Rattle.uc_rules.specs.declared.rules.FieldPlace.{FieldPlace}
 use Rattle.uc_rules.specs.ProgramVisits.{argument_env}
 use Rattle.uc_rules.specs.Scopes.{Env, with_around}
 use Rattle.uc_rules.specs.Visits.{Visit}
-use Rattle.uc_types.specs.FirstBreak.{noted}
+use Rattle.uc_types.specs.FirstBreak.{with_visits}
 use Rattle.uc_check_stmt.proofs.Joined.{noted_append}
 use Rattle.uc_check_stmt.proofs.Walks.{split}
 
-pub walked_by : {S A : Type 0} (own : S → A → List Visit) (next : S → A → S) (all : S → List A → List Visit) → ((s : S) (x : A) (xs : List A) → all s (x ∷ xs) ≡ own s x ++ all (next s x) xs) → (s now : S) (xs : List A) (i : ℕ) (x : A) (f g r : Option Break) → i < length xs → x ≡ get_or xs i x → now ≡ next s x → g ≡ noted f (own s x) → noted f (all s (drop i xs)) ≡ r → noted g (all now (drop (i + 1) xs)) ≡ r
+pub walked_by : {S A : Type 0} (own : S → A → List Visit) (next : S → A → S) (all : S → List A → List Visit) → ((s : S) (x : A) (xs : List A) → all s (x ∷ xs) ≡ own s x ++ all (next s x) xs) → (s now : S) (xs : List A) (i : ℕ) (x : A) (f g r : Option Break) → i < length xs → x ≡ get_or xs i x → now ≡ next s x → g ≡ with_visits f (own s x) → with_visits f (all s (drop i xs)) ≡ r → with_visits g (all now (drop (i + 1) xs)) ≡ r
 walked_by own next all opens s now xs i x f g r h k a b inv =
     let rest = drop (i + 1) xs in
-    ap (λ y. noted g (all y rest)) a
-    ∙ ap (λ y. noted y (all (next s x) rest)) b
+    ap (λ y. with_visits g (all y rest)) a
+    ∙ ap (λ y. with_visits y (all (next s x) rest)) b
     ∙ sym (noted_append f (own s x) (all (next s x) rest))
-    ∙ ap (λ l. noted f l) (sym (ap (λ l. all s l) (split xs i x h k) ∙ opens s x rest))
+    ∙ ap (λ l. with_visits f l) (sym (ap (λ l. all s l) (split xs i x h k) ∙ opens s x rest))
     ∙ inv
 
 -- what stands at a place of a list

@@ -17,7 +17,7 @@ ghost use Rattle.uc_rules.specs.ProgramVisits.{home_member};
 ghost use Rattle.uc_rules.specs.Sorts.{class_at, is_coroutine, sort_of};
 ghost use Rattle.uc_rules.specs.Visits.{AtClass, AtConstant, AtField, AtInit, AtInits, AtItem, AtMark, AtParam, AtProgram, AtRoutine, AtSig};
 ghost use Rattle.uc_rules.specs.declared.rule.Rule.TheVariants.{S16, S17, S18, S2, S22, S4, S5};
-ghost use Rattle.uc_types.specs.FirstBreak.{told, told_forms, told_names, told_owners, told_uses, told_values};
+ghost use Rattle.uc_types.specs.FirstBreak.{first_break_after, told_forms, told_names, told_owners, told_uses, told_values};
 ghost use Rattle.uc_classes.specs.Circling.{AreFields, Walks};
 
 use crate::circle::leads_back;
@@ -73,7 +73,7 @@ fn note_param_sort(names: &Names, param: &Param, found: &mut Found)
 
 /// A parameter.
 pub fn ask_param(names: &Names, param: &Param, found: &mut Found)
-    ensures { found.new ≡ told found.old (AtParam names.now param.now) }
+    ensures { found.new ≡ first_break_after found.old (AtParam names.now param.now) }
 {
     found.note_unless(judge::is_new(names, &param.name), Rule::S2, param.pos);
     note_param_sort(names, param, found);
@@ -82,7 +82,7 @@ pub fn ask_param(names: &Names, param: &Param, found: &mut Found)
 
 /// A signature.
 pub fn ask_sig(names: &Names, sig: &Sig, found: &mut Found)
-    ensures { found.new ≡ told found.old (AtSig names.now sig.now) }
+    ensures { found.new ≡ first_break_after found.old (AtSig names.now sig.now) }
 {
     note_returned(names, sig, found);
 }
@@ -271,7 +271,7 @@ pub fn ask_field(
     requires walks { Walks names.now.program walked.home walked.class.now walked.circular walked.holders.now walked.bound.known walked.bound.names.now }
     requires fields { AreFields walked.class.now listed.member listed.base.now listed.declarators.now }
     requires there { slice_get listed.declarators.now index ≡ Some declarator.now }
-    ensures { OnOk result (found.new ≡ told found.old (AtField names.now walked.entry.class.now listed.entry.access listed.entry.base.now declarator.now (place_in listed.entry.member index))) }
+    ensures { OnOk result (found.new ≡ first_break_after found.old (AtField names.now walked.entry.class.now listed.entry.access listed.entry.base.now declarator.now (place_in listed.entry.member index))) }
 {
     note_text(names, walked, listed, index, declarator, found);
     note_owned(names, walked, listed.base, declarator, found)?;
@@ -347,7 +347,7 @@ pub fn ask_routine(
 ) -> Result<(), AllocError>
     requires walks { Walks names.now.program walked.home walked.class.now walked.circular walked.holders.now walked.bound.known walked.bound.names.now }
     requires indexed { walked.index.now ≡ names.now.program }
-    ensures { OnOk result (found.new ≡ told found.old (AtRoutine names.now walked.entry.class.now proto sig.now member)) }
+    ensures { OnOk result (found.new ≡ first_break_after found.old (AtRoutine names.now walked.entry.class.now proto sig.now member)) }
 {
     note_routine(names, walked, sig, member, found);
     note_sound(names, walked, proto, sig, member, found)?;
@@ -364,7 +364,7 @@ pub fn ask_mark(
 )
     requires names { map (λ n. n.now) numbered.now ≡ take MEMBERS (mutex_members class.now) }
     requires few { length numbered.now ≤ MEMBERS }
-    ensures { found.new ≡ told found.old (AtMark names.now class.now member.now) }
+    ensures { found.new ≡ first_break_after found.old (AtMark names.now class.now member.now) }
 {
     found.note_unless(
         is_well_marked(class, numbered, member),
@@ -408,7 +408,7 @@ pub fn ask_class(
 ) -> Result<(), AllocError>
     requires indexed { index.now ≡ names.now.program }
     requires events { events ≡ events_before names.now.program place }
-    ensures { OnOk result (found.new ≡ told found.old (AtClass names.now class.now place)) }
+    ensures { OnOk result (found.new ≡ first_break_after found.old (AtClass names.now class.now place)) }
 {
     let tables = names.tables();
     let few = has_few_conditions(names, class, place)?;
@@ -437,7 +437,7 @@ fn note_constant(names: &Names, constant: &Constant, entity: Option<Entity>, fou
 /// A constant, with what its value stands for.
 pub fn ask_constant(names: &Names, constant: &Constant, entity: Option<Entity>, found: &mut Found)
     requires { entity ≡ entity_of names.now constant.now.value }
-    ensures { found.new ≡ told found.old (AtConstant names.now constant.now) }
+    ensures { found.new ≡ first_break_after found.old (AtConstant names.now constant.now) }
 {
     note_constant(names, constant, entity, found);
 }
@@ -451,7 +451,7 @@ fn note_item(
     found: &mut Found,
 ) -> Result<(), AllocError>
     requires { index.now ≡ tables.now }
-    ensures { OnOk result (found.new ≡ told found.old (AtItem index.now item.now place)) }
+    ensures { OnOk result (found.new ≡ first_break_after found.old (AtItem index.now item.now place)) }
 {
     let at = item_pos(item);
     found.note_unless(is_new_item(index, item, place), Rule::S2, at);
@@ -470,7 +470,7 @@ pub fn ask_item(
     found: &mut Found,
 ) -> Result<(), AllocError>
     requires { index.now ≡ tables.now }
-    ensures { OnOk result (found.new ≡ told found.old (AtItem tables.now item.now place)) }
+    ensures { OnOk result (found.new ≡ first_break_after found.old (AtItem tables.now item.now place)) }
 {
     note_item(alloc, tables, index, item, place, found)?;
     Ok(())
@@ -478,7 +478,7 @@ pub fn ask_item(
 
 /// The program.
 pub fn ask_program(program: &Program, found: &mut Found)
-    ensures { found.new ≡ told found.old (AtProgram program.now) }
+    ensures { found.new ≡ first_break_after found.old (AtProgram program.now) }
 {
     let first = Pos { line: 1, col: 1 };
     found.note_unless(has_one_main(&program.items), Rule::S3, first);
@@ -543,7 +543,7 @@ pub fn ask_inits(
     inits: &[Init],
     found: &mut Found,
 ) -> Result<(), AllocError>
-    ensures { OnOk result (found.new ≡ told found.old (AtInits names.now sig.now inits.now)) }
+    ensures { OnOk result (found.new ≡ first_break_after found.old (AtInits names.now sig.now inits.now)) }
 {
     note_inits(names, sig, inits, found)?;
     Ok(())
@@ -601,7 +601,7 @@ pub fn ask_init(
 )
     requires meant { meant ≡ home_member names.now.program names.now.around.home init.now.name }
     requires single { single ≡ are_single names.now init.now.args }
-    ensures { found.new ≡ told found.old (AtInit names.now init.now last) }
+    ensures { found.new ≡ first_break_after found.old (AtInit names.now init.now last) }
 {
     note_count(names, init, meant, single, found);
     found.note_unless(may_init(last, meant), Rule::S17, init.pos);

@@ -4,7 +4,7 @@ ghost use Rattle.std.specs.Prelude.{◌≡◌, [], ◌∷◌, OnOk};
 ghost use Rattle.uc_rules.specs.ProgramVisits.{base_visits, body_visits, params_visits, routine_visits, sig_visits};
 ghost use Rattle.uc_rules.specs.Scopes.{with_params};
 ghost use Rattle.uc_rules.specs.Visits.{AtBase, AtParam};
-ghost use Rattle.uc_types.specs.FirstBreak.{noted};
+ghost use Rattle.uc_types.specs.FirstBreak.{with_visits};
 
 use crate::ask::{ask_inits, ask_param, ask_sig};
 use crate::init::check_inits;
@@ -18,7 +18,7 @@ use uc_types::names::Names;
 use uc_types::sort::is_plain;
 
 fn check_returned(names: &Names, sig: &Sig, found: &mut Found)
-    ensures { found.new ≡ noted found.old (base_visits names.now sig.now) }
+    ensures { found.new ≡ with_visits found.old (base_visits names.now sig.now) }
 {
     if is_plain(sig.role) {
         ask_base(names, &sig.ret, sig.pos, found);
@@ -26,7 +26,7 @@ fn check_returned(names: &Names, sig: &Sig, found: &mut Found)
 }
 
 fn check_param(names: &Names, param: &Param, found: &mut Found)
-    ensures { found.new ≡ noted found.old (AtBase names.now param.now.pos param.now.base ∷ (AtParam names.now param.now ∷ [])) }
+    ensures { found.new ≡ with_visits found.old (AtBase names.now param.now.pos param.now.base ∷ (AtParam names.now param.now ∷ [])) }
 {
     ask_base(names, &param.base, param.pos, found);
     ask_param(names, param, found);
@@ -35,7 +35,7 @@ fn check_param(names: &Names, param: &Param, found: &mut Found)
 #[tactic(auto, using(uc_check_stmt::proofs::Joined::joining))]
 fn check_params(names: &mut Names, params: &[Param], found: &mut Found) -> Result<(), AllocError>
     ensures names { OnOk result (names.new ≡ with_params names.old params.now) }
-    ensures breaks { OnOk result (found.new ≡ noted found.old (params_visits names.old params.now)) }
+    ensures breaks { OnOk result (found.new ≡ with_visits found.old (params_visits names.old params.now)) }
 {
     for param in params {
         check_param(names, param, found);
@@ -48,7 +48,7 @@ fn check_params(names: &mut Names, params: &[Param], found: &mut Found) -> Resul
 #[tactic(auto, using(uc_check_stmt::proofs::Joined::joining))]
 pub fn check_sig(names: &mut Names, sig: &Sig, found: &mut Found) -> Result<(), AllocError>
     ensures names { OnOk result (names.new ≡ with_params names.old sig.now.params) }
-    ensures breaks { OnOk result (found.new ≡ noted found.old (sig_visits names.old sig.now)) }
+    ensures breaks { OnOk result (found.new ≡ with_visits found.old (sig_visits names.old sig.now)) }
 {
     check_returned(names, sig, found);
     ask_sig(names, sig, found);
@@ -58,7 +58,7 @@ pub fn check_sig(names: &mut Names, sig: &Sig, found: &mut Found) -> Result<(), 
 
 #[tactic(auto, using(uc_check_stmt::proofs::Joined::joining))]
 fn check_body(names: &mut Names, routine: &Routine, found: &mut Found) -> Result<(), AllocError>
-    ensures { OnOk result (found.new ≡ noted found.old (body_visits names.old routine.now)) }
+    ensures { OnOk result (found.new ≡ with_visits found.old (body_visits names.old routine.now)) }
 {
     ask_inits(names, &routine.sig, &routine.inits, found)?;
     check_inits(names, &routine.inits, found);
@@ -73,7 +73,7 @@ pub fn check_routine(
     routine: &Routine,
     found: &mut Found,
 ) -> Result<(), AllocError>
-    ensures { OnOk result (found.new ≡ noted found.old (routine_visits names.old routine.now)) }
+    ensures { OnOk result (found.new ≡ with_visits found.old (routine_visits names.old routine.now)) }
 {
     check_sig(names, &routine.sig, found)?;
     check_body(names, routine, found)?;

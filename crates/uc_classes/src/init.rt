@@ -7,7 +7,7 @@ ghost use Rattle.uc_rules.specs.ExpressionBreaks.{are_single};
 ghost use Rattle.uc_rules.specs.ProgramVisits.{argument_env, bound_of, bound_target, field_of, home_member, init_arg_visits, init_args_visits, init_target, inits_visits, is_name, is_reference, maybe_bound_target, meant_target, origin_target};
 ghost use Rattle.uc_rules.specs.Scopes.{in_argument};
 ghost use Rattle.uc_rules.specs.Visits.{AtInit};
-ghost use Rattle.uc_types.specs.FirstBreak.{noted};
+ghost use Rattle.uc_types.specs.FirstBreak.{with_visits};
 
 use crate::ask::ask_init;
 use uc_check_decl::init::{home_member, last_field, meant_field};
@@ -114,7 +114,7 @@ fn check_init_arg(
 ) -> Option<Entity>
     ensures names { names.new ≡ names.old }
     ensures entity { result ≡ entity_of names.old e.now }
-    ensures breaks { found.new ≡ noted found.old (init_arg_visits names.old field e.now expected) }
+    ensures breaks { found.new ≡ with_visits found.old (init_arg_visits names.old field e.now expected) }
 {
     let around = names.around();
     enter_argument(names, field, e, expected);
@@ -134,7 +134,7 @@ fn check_init_args(
     found: &mut Found,
 )
     ensures names { names.new ≡ names.old }
-    ensures breaks { found.new ≡ noted found.old (init_args_visits names.old field (exprs_of args.now) target 0) }
+    ensures breaks { found.new ≡ with_visits found.old (init_args_visits names.old field (exprs_of args.now) target 0) }
 {
     for (place, arg) in args.iter().enumerate() {
         let expected = expected_of(names.tables(), target, place);
@@ -153,7 +153,7 @@ fn check_values(
 ) -> bool
     ensures names { names.new ≡ names.old }
     ensures single { result ≡ are_single names.old (exprs_of args.now) }
-    ensures breaks { found.new ≡ noted found.old (init_args_visits names.old field (exprs_of args.now) target 0) }
+    ensures breaks { found.new ≡ with_visits found.old (init_args_visits names.old field (exprs_of args.now) target 0) }
 {
     if args.len() == 1 {
         let expected = expected_of(names.tables(), target, 0);
@@ -174,7 +174,7 @@ fn check_init(
 ) -> Option<FieldPlace>
     ensures names { names.new ≡ names.old }
     ensures field { result ≡ field_of names.old init.now.name }
-    ensures breaks { found.new ≡ noted found.old (init_args_visits names.old (field_of names.old init.now.name) init.now.args (init_target names.old init.now.name) 0 ++ AtInit names.old init.now last ∷ []) }
+    ensures breaks { found.new ≡ with_visits found.old (init_args_visits names.old (field_of names.old init.now.name) init.now.args (init_target names.old init.now.name) 0 ++ AtInit names.old init.now last ∷ []) }
 {
     let meant = home_member(names.tables(), names.around().home, &init.name);
     let field = meant_field(meant);
@@ -187,7 +187,7 @@ fn check_init(
 #[tactic(auto, using(uc_check_stmt::proofs::Joined::joining))]
 pub fn check_inits(names: &mut Names, inits: &[Init], found: &mut Found)
     ensures names { names.new ≡ names.old }
-    ensures breaks { found.new ≡ noted found.old (inits_visits names.old None inits.now) }
+    ensures breaks { found.new ≡ with_visits found.old (inits_visits names.old None inits.now) }
 {
     let mut last = None;
     for init in inits {

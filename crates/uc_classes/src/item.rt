@@ -5,7 +5,7 @@ ghost use Rattle.uc_rules.specs.ClassBreaks.{events_before};
 ghost use Rattle.uc_rules.specs.ProgramVisits.{classes_in, is_of_main, item_visits, items_visits, outer_env, outer_mark, routine_visits, sig_visits};
 ghost use Rattle.uc_rules.specs.Scopes.{no_around, plain_env};
 ghost use Rattle.uc_rules.specs.Visits.{AtConstant, AtItem, visits};
-ghost use Rattle.uc_types.specs.FirstBreak.{noted};
+ghost use Rattle.uc_types.specs.FirstBreak.{with_visits};
 ghost use Rattle.uc_classes.specs.Counted.{events_in, ItemAt};
 
 use crate::ask::{ask_constant, ask_item};
@@ -103,7 +103,7 @@ fn check_outer(
     found: &mut Found,
 ) -> Result<(), AllocError>
     requires { index.now ≡ tables.now }
-    ensures { OnOk result (found.new ≡ noted found.old (routine_visits (outer_env tables.now routine.now.sig) routine.now)) }
+    ensures { OnOk result (found.new ≡ with_visits found.old (routine_visits (outer_env tables.now routine.now.sig) routine.now)) }
 {
     let mut names = outer_names(alloc, tables, index, &routine.sig)?;
     check_routine(&mut names, routine, found)?;
@@ -112,7 +112,7 @@ fn check_outer(
 
 #[tactic(auto, using(uc_check_stmt::proofs::Joined::joining))]
 fn check_constant(alloc: Global, tables: &Tables, constant: &Constant, found: &mut Found)
-    ensures { found.new ≡ noted found.old (visits (plain_env tables.now no_around) constant.now.value ++ AtConstant (plain_env tables.now no_around) constant.now ∷ []) }
+    ensures { found.new ≡ with_visits found.old (visits (plain_env tables.now no_around) constant.now.value ++ AtConstant (plain_env tables.now no_around) constant.now ∷ []) }
 {
     let names = Names::new(alloc, tables, no_around());
     let entity = check_expr(&names, &constant.value, found);
@@ -125,7 +125,7 @@ fn check_proto(
     sig: &Sig,
     found: &mut Found,
 ) -> Result<(), AllocError>
-    ensures { OnOk result (found.new ≡ noted found.old (sig_visits (plain_env tables.now no_around) sig.now)) }
+    ensures { OnOk result (found.new ≡ with_visits found.old (sig_visits (plain_env tables.now no_around) sig.now)) }
 {
     let mut names = Names::new(alloc, tables, no_around());
     check_sig(&mut names, sig, found)?;
@@ -150,7 +150,7 @@ fn check_item(
     requires indexed { index.now ≡ tables.now }
     requires events { before.events ≡ events_before tables.now before.classes }
     requires at { ItemAt tables.now before.classes item.now }
-    ensures { OnOk result (found.new ≡ noted found.old (item_visits tables.now before.classes item.now)) }
+    ensures { OnOk result (found.new ≡ with_visits found.old (item_visits tables.now before.classes item.now)) }
 {
     match &item.form {
         ItemForm::Class { class } => {
@@ -216,7 +216,7 @@ fn check_placed(
     requires indexed { index.now ≡ tables.now }
     requires events { before.events ≡ events_before tables.now before.classes }
     requires at { ItemAt tables.now before.classes item.now }
-    ensures { OnOk result (found.new ≡ noted found.old (AtItem tables.now item.now place ∷ item_visits tables.now before.classes item.now)) }
+    ensures { OnOk result (found.new ≡ with_visits found.old (AtItem tables.now item.now place ∷ item_visits tables.now before.classes item.now)) }
 {
     ask_item(alloc, tables, index, item, place, found)?;
     check_item(alloc, tables, index, before, item, found)?;
@@ -232,7 +232,7 @@ pub fn check_items(
     found: &mut Found,
 ) -> Result<(), AllocError>
     requires { index.now ≡ tables.now }
-    ensures { OnOk result (found.new ≡ noted found.old (items_visits tables.now 0 0 tables.now.items)) }
+    ensures { OnOk result (found.new ≡ with_visits found.old (items_visits tables.now 0 0 tables.now.items)) }
 {
     let items = items_of(tables);
     let mut classes = 0;

@@ -3,7 +3,7 @@ use Rattle.std.proofs.Common.{◌≡◌, ℕ, zero, suc, ◌+◌, ◌-◌, ◌<�
 use Rattle.std.specs.Prelude.{slice_get}
 use Rattle.std.proofs.lemmas.Option.{slice_get_within}
 use Rattle.uc_tree.specs.declared.limits.TheConstants.{DESTRUCTOR}
-use Rattle.uc_tree.specs.Source.{Shape, Integer, Character, Truth, Binding, Last, Field, Array, shape_cells, field_cells, Operator, Plus, Minus, Times, Over, Modulo, Equal, NotEqual, Less, AtMost, Greater, AtLeast, Expr, Literal, Variable, Element, Get, Load, Negated, Not, AsCharacter, AsTruth, Operate, And, Or, Set, Assign, First, Update, StepBehind, Fail, Call, OfObject, ObjectExpr, This, OwnField, GetOwn, FieldOf, Counted, CallOn, CallUnwritten, CallLive, EnterOn, EndOn, Bind, MakeOn, NewCluster, NewProcessor, EndCluster, EndProcessor, ConditionAt, Wait, Signal, SignalBlock, IsEmpty, FrontOf, Exprs, NoExprs, MoreExprs, Item, Show, ShowText, Target, Declared, Stmt, Skip, Block, Whole, Evaluate, Declare, Print, PrintTogether, Read, If, Loop, Break, Continue, Return, Owes, Fill, OfEvents, OfTasks, TaskStmt, Resume, Suspend, SetUp, Enliven, TakeDown, Yield, Migrate, Accept, EventStmt, Throw, Raise, Try, RaiseAt, Enable, Disable, Raised, Plainly, BuiltAt as BuildsAt, AgainFrom, Handlers, NoHandlers, MoreHandlers, Clauses, NoClauses, Otherwise, MoreClauses, clause_count, Restores, Stmts, Nil, Then, Scoped, Built, Way, ToBreak, ToContinue, ToReturn, ToEnd, Purpose, TaskMain, CoroutineMain, Procedure, Function, Builder, Routine, Source}
+use Rattle.uc_tree.specs.Source.{Shape, Integer, Character, Truth, Binding, Last, Field, Array, shape_cells, field_cells, Operator, Add, Sub, Mul, Div, Rem, Equal, NotEqual, Less, LessEqual, Greater, GreaterEqual, Expr, Literal, Variable, Element, Get, Load, Negated, Not, AsCharacter, AsTruth, Operate, And, Or, Set, Assign, First, Update, StepBehind, Fail, Call, OfObject, ObjectExpr, This, OwnField, GetOwn, FieldOf, Counted, CallOn, CallUnwritten, CallLive, EnterOn, EndOn, Bind, MakeOn, NewCluster, NewProcessor, EndCluster, EndProcessor, ConditionAt, Wait, Signal, SignalBlock, IsEmpty, FrontOf, Exprs, NoExprs, MoreExprs, Item, Show, ShowText, Target, Declared, Stmt, Skip, Block, Whole, Evaluate, Declare, Print, PrintTogether, Read, If, Loop, Break, Continue, Return, Owes, Fill, OfEvents, OfTasks, TaskStmt, Resume, Suspend, SetUp, Enliven, TakeDown, Yield, Migrate, Accept, EventStmt, Throw, Raise, Try, RaiseAt, Enable, Disable, Raised, Plainly, BuiltAt as BuildsAt, AgainFrom, Handlers, NoHandlers, MoreHandlers, Clauses, NoClauses, Otherwise, MoreClauses, clause_count, Restores, Stmts, Nil, Then, Scoped, Built, Way, ToBreak, ToContinue, ToReturn, ToEnd, Purpose, TaskMain, CoroutineMain, Procedure, Function, Builder, Routine, Source}
 use Rattle.uc_tree.specs.Hidden.{EVENT_FIELDS}
 use Rattle.uc_code.specs.declared.op.Op.{Op}
 use Rattle.uc_code.specs.declared.op.Op.TheVariants as op
@@ -38,17 +38,17 @@ module _ (code : Laid) (table : List RoutineCode) (any : Bool) where
   fork ms line b c = pacing.fork code table any ms line b c
 
   operator_paces : (ms : List CodeMark) (line : ℕ) (o : Operator) → Paces ms (One code (operator_op o) line)
-  operator_paces ms line Plus = onward ms op.Add line (λ n k h. refl) (λ k t. refl) (λ at l. l) (λ from to floor at i. i)
-  operator_paces ms line Minus = onward ms op.Subtract line (λ n k h. refl) (λ k t. refl) (λ at l. l) (λ from to floor at i. i)
-  operator_paces ms line Times = onward ms op.Multiply line (λ n k h. refl) (λ k t. refl) (λ at l. l) (λ from to floor at i. i)
-  operator_paces ms line Over = onward ms op.Divide line (λ n k h. refl) (λ k t. refl) (λ at l. l) (λ from to floor at i. i)
-  operator_paces ms line Modulo = onward ms op.Remainder line (λ n k h. refl) (λ k t. refl) (λ at l. l) (λ from to floor at i. i)
+  operator_paces ms line Add = onward ms op.Add line (λ n k h. refl) (λ k t. refl) (λ at l. l) (λ from to floor at i. i)
+  operator_paces ms line Sub = onward ms op.Subtract line (λ n k h. refl) (λ k t. refl) (λ at l. l) (λ from to floor at i. i)
+  operator_paces ms line Mul = onward ms op.Multiply line (λ n k h. refl) (λ k t. refl) (λ at l. l) (λ from to floor at i. i)
+  operator_paces ms line Div = onward ms op.Divide line (λ n k h. refl) (λ k t. refl) (λ at l. l) (λ from to floor at i. i)
+  operator_paces ms line Rem = onward ms op.Remainder line (λ n k h. refl) (λ k t. refl) (λ at l. l) (λ from to floor at i. i)
   operator_paces ms line Equal = onward ms op.Equal line (λ n k h. refl) (λ k t. refl) (λ at l. l) (λ from to floor at i. i)
   operator_paces ms line NotEqual = onward ms op.NotEqual line (λ n k h. refl) (λ k t. refl) (λ at l. l) (λ from to floor at i. i)
   operator_paces ms line Less = onward ms op.Less line (λ n k h. refl) (λ k t. refl) (λ at l. l) (λ from to floor at i. i)
-  operator_paces ms line AtMost = onward ms op.LessEqual line (λ n k h. refl) (λ k t. refl) (λ at l. l) (λ from to floor at i. i)
+  operator_paces ms line LessEqual = onward ms op.LessEqual line (λ n k h. refl) (λ k t. refl) (λ at l. l) (λ from to floor at i. i)
   operator_paces ms line Greater = onward ms op.Greater line (λ n k h. refl) (λ k t. refl) (λ at l. l) (λ from to floor at i. i)
-  operator_paces ms line AtLeast = onward ms op.GreaterEqual line (λ n k h. refl) (λ k t. refl) (λ at l. l) (λ from to floor at i. i)
+  operator_paces ms line GreaterEqual = onward ms op.GreaterEqual line (λ n k h. refl) (λ k t. refl) (λ at l. l) (λ from to floor at i. i)
 
   item_paces : (ms : List CodeMark) (line : ℕ) (i : Item) → Paces ms (One code (item_op i) line)
   item_paces ms line (Show form e) = onward ms (op.Print form) line (λ n k h. refl) (λ k t. refl) (λ at l. l) (λ from to floor at i. i)

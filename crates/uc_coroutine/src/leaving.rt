@@ -109,7 +109,7 @@ fn leave_handler(work: &mut Work, given: Cell) -> bool
     match work.handles() {
         None => false,
         Some(visited) => {
-            let made = work.pass_on(UnwindReason::ReturnTo(visited.home), given);
+            let made = work.leave_unwinding(UnwindReason::ReturnTo(visited.home), given);
             made
         }
     }

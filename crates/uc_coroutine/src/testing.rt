@@ -46,10 +46,10 @@ fn end_at(work: &mut Work, behind: u32) -> bool
     ensures now { work.new ≡ block_over result behind work.old }
 {
     if arrives(work) {
-        work.calm(behind);
+        work.end_unwinding(behind);
         true
     } else {
-        work.go(behind);
+        work.set_next(behind);
         false
     }
 }
@@ -65,7 +65,7 @@ pub fn end_call(work: &mut Work, arrived: u32, unwound: u32) -> Result<(), Alloc
         work.arrive(arrived)?;
         return Ok(());
     }
-    work.go(unwound);
+    work.set_next(unwound);
     Ok(())
 }
 

@@ -72,7 +72,7 @@ fn clean_up(code: &Code, work: &mut Work, number: u32)
 {
     let rows = code.rows();
     if let Some(row) = rows.get(number as usize).copied() {
-        work.clean(row.entry);
+        work.begin_clean_up(row.entry);
     }
 }
 
@@ -86,7 +86,7 @@ pub(crate) fn pass_on(work: &mut Work) -> bool
             None => false,
             Some(waits) => {
                 let given = work.result();
-                let made = work.pass_on(why_on(why, waits), given);
+                let made = work.leave_unwinding(why_on(why, waits), given);
                 made
             }
         },

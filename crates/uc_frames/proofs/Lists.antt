@@ -3,7 +3,7 @@ use Rattle.std.proofs.Common.{◌≡◌, ℕ, ◌++◌, List, [], ◌∷◌, len
 use Rattle.std.specs.Prelude.{nat_eq, if◌then◌else◌, slice_index_or, slice_set}
 use Rattle.std.proofs.lemmas.List.{length-map, map-set, map-append, take-map, drop-map}
 use Rattle.std.proofs.Math.ListN.{get_or-map}
-use Rattle.uc_machine.specs.Executions.{update, at_depth, set_depth, frame_changed, list_in, joined, taken, value_changed, values_cleared}
+use Rattle.uc_machine.specs.Executions.{update, at_depth, set_depth, frame_changed, list_in, joined, take_operands, value_changed, values_cleared}
 use Rattle.uc_entry.specs.Keyed.{find}
 use Rattle.uc_machine.specs.Switches.{without}
 use Rattle.uc_frames.specs.StandsByParts.{Numbered, Alike}
@@ -87,7 +87,7 @@ module _ {V W : Type 0} (f : W → V) where
       (rw (map-append f (take k vs) (r ++ drop n (drop k vs)), map-append f r (drop n (drop k vs))) refl)
 
   -- so are the newest values, and those that a call takes
-  pub taken_map : (d : W) (n : ℕ) (xs ys : List W) → taken (f d) n (map f xs) (map f ys) ≡ map f (taken d n xs ys)
+  pub taken_map : (d : W) (n : ℕ) (xs ys : List W) → take_operands (f d) n (map f xs) (map f ys) ≡ map f (take_operands d n xs ys)
   taken_map d zero xs ys = refl
   taken_map d (suc n) [] ys = taken_map d n [] (d ∷ ys)
   taken_map d (suc n) (x ∷ xs) ys = taken_map d n xs (x ∷ ys)

@@ -2,7 +2,7 @@
 use Rattle.std.proofs.Common.{◌≡◌, ℕ, zero, suc, ◌+◌, ◌*◌, ◌^◌, ◌<◌, ◌≤◌, arith, List, [], ◌∷◌, Bool, true, false, refl, ap, subst, ◌∙◌, drop}
 use Rattle.std.specs.Prelude.{if◌then◌else◌}
 use native.Mathlib.Numerals.{unary_clauses}
-use Rattle.uc_machine.specs.Executions.{others, first_or, taken}
+use Rattle.uc_machine.specs.Executions.{others, first_or, take_operands}
 use Rattle.uc_frames.specs.declared.cell.Cell.{Cell}
 use Rattle.uc_frames.specs.declared.cell.Cell.TheVariants.{Nothing}
 use Rattle.uc_machine.specs.Pieces.{is_zero}
@@ -22,9 +22,9 @@ top_is [] = refl
 top_is (c ∷ cs) = refl
 
 -- one more is taken in front of the others
-taken_more : (n : ℕ) (cs ds : List Cell) → taken Nothing (suc n) cs ds ≡ top (drop n cs) ∷ taken Nothing n cs ds
+taken_more : (n : ℕ) (cs ds : List Cell) → take_operands Nothing (suc n) cs ds ≡ top (drop n cs) ∷ take_operands Nothing n cs ds
 taken_more zero cs ds = ap (λ c. c ∷ ds) (top_is cs)
-taken_more (suc n) cs ds = taken_more n (others cs) (first_or Nothing cs ∷ ds) ∙ ap (λ es. top es ∷ taken Nothing n (others cs) (first_or Nothing cs ∷ ds)) (drop_others n cs)
+taken_more (suc n) cs ds = taken_more n (others cs) (first_or Nothing cs ∷ ds) ∙ ap (λ es. top es ∷ take_operands Nothing n (others cs) (first_or Nothing cs ∷ ds)) (drop_others n cs)
 
 bit_few : (b : Bool) → (if b then 0 else 1) ≤ 1
 bit_few true = omega arith
@@ -35,7 +35,7 @@ double n = simp unary_clauses (omega arith)
 
 -- so many guards are reckoned
 pub record Masked (count mask : ℕ) (cs : List Cell) : Type 0 where
-  pub value : mask ≡ mask_of (taken Nothing count cs [])
+  pub value : mask ≡ mask_of (take_operands Nothing count cs [])
   pub few : mask < 2 ^ count
 
 pub masks_none : (cs : List Cell) → Masked 0 0 cs
@@ -45,12 +45,12 @@ masks_none cs = record { value = refl; few = omega arith }
 pub masks_more : (count mask bit : ℕ) (cs : List Cell) → Masked count mask cs → bit ≡ guard_bit (top (drop count cs)) → Masked (count + 1) (mask * 2 + bit) cs
 masks_more count mask bit cs h b =
     let next : suc count ≡ count + 1 = omega arith in
-    let all : mask_of (taken Nothing (suc count) cs []) ≡ guard_bit (top (drop count cs)) + 2 * mask_of (taken Nothing count cs []) = ap mask_of (taken_more count cs []) in
+    let all : mask_of (take_operands Nothing (suc count) cs []) ≡ guard_bit (top (drop count cs)) + 2 * mask_of (take_operands Nothing count cs []) = ap mask_of (taken_more count cs []) in
     let v = h.value in
     let few = h.few in
     let one = bit_few (is_zero (cell_number (top (drop count cs)))) in
     let d = double count in
-    record { value = subst (λ k. mask * 2 + bit ≡ mask_of (taken Nothing k cs [])) next (omega arith); few = omega arith }
+    record { value = subst (λ k. mask * 2 + bit ≡ mask_of (take_operands Nothing k cs [])) next (omega arith); few = omega arith }
 
 -- the event below the newest operand
 

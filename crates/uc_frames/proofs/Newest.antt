@@ -5,7 +5,7 @@ use Rattle.std.proofs.lemmas.List.{append_assoc, reverse-append, reverse-reverse
 use Rattle.std.proofs.lemmas.Grind.{common_steps, reverse_onto}
 use Rattle.std.proofs.Math.Seq.{set-append_seam}
 use Rattle.std.specs.Prelude.{slice_set}
-use Rattle.uc_machine.specs.Executions.{taken}
+use Rattle.uc_machine.specs.Executions.{take_operands}
 use Rattle.uc_frames.specs.declared.cell.Cell.{Cell}
 use Rattle.uc_frames.specs.Machine.{top}
 
@@ -62,7 +62,7 @@ module _ {X : Type 0} where
   none_of zero zs = refl
   none_of (suc n) zs = refl
 
-  pub taken_is : (d : X) (n : ℕ) (ys zs : List X) → taken d n ys zs ≡ replicate (n - length ys) d ++ (reverse (take n ys) ++ zs)
+  pub taken_is : (d : X) (n : ℕ) (ys zs : List X) → take_operands d n ys zs ≡ replicate (n - length ys) d ++ (reverse (take n ys) ++ zs)
   taken_is d zero ys zs = let e : 0 - length ys ≡ 0 = omega arith in rw e refl
   taken_is d (suc n) [] zs =
       let e : n - 0 ≡ n = omega arith in
@@ -72,12 +72,12 @@ module _ {X : Type 0} where
       let e : n - length ys ≡ suc n - suc (length ys) = omega arith in
       taken_is d n ys (y ∷ zs) ∙ ap (λ l. replicate (n - length ys) d ++ l) (reversed_more y (take n ys) zs) ∙ ap (λ k. replicate k d ++ (reverse (y ∷ take n ys) ++ zs)) e
 
-  pub framed : (d z : X) (ops ys zs : List X) (params others : ℕ) → ys ≡ replicate (params - length ops) d ++ drop (length ops - params) ops → zs ≡ ys ++ replicate others z → zs ≡ taken d params (reverse ops) (replicate others z)
+  pub framed : (d z : X) (ops ys zs : List X) (params others : ℕ) → ys ≡ replicate (params - length ops) d ++ drop (length ops - params) ops → zs ≡ ys ++ replicate others z → zs ≡ take_operands d params (reverse ops) (replicate others z)
   framed d z ops ys zs params others e f =
       let l : length (reverse ops) ≡ length ops = length-reverse ops in
       let n : reverse (take params (reverse ops)) ≡ drop (length ops - params) ops = newest_are ops params in
       let os : List X = replicate others z in
-      let t : taken d params (reverse ops) os ≡ replicate (params - length ops) d ++ (drop (length ops - params) ops ++ os) =
+      let t : take_operands d params (reverse ops) os ≡ replicate (params - length ops) d ++ (drop (length ops - params) ops ++ os) =
       taken_is d params (reverse ops) os ∙ ap (λ k. replicate (params - k) d ++ (reverse (take params (reverse ops)) ++ os)) l ∙ ap (λ xs. replicate (params - length ops) d ++ (xs ++ os)) n in
       f ∙ ap (λ xs. xs ++ os) e ∙ append_assoc (replicate (params - length ops) d) (drop (length ops - params) ops) os ∙ sym t
 

@@ -30,7 +30,7 @@ impl Work {
     }
 
     /// Another op is next.
-    pub fn go(&mut self, to: u32)
+    pub fn set_next(&mut self, to: u32)
         ensures { self.new ≡ record self.old { run = record self.old.run { control = to } } }
     {
         self.task.parts.running.run.next = to;
@@ -179,7 +179,7 @@ impl Work {
     }
 
     /// The unwinding of the running activation is over: it goes on at this op.
-    pub fn calm(&mut self, to: u32)
+    pub fn end_unwinding(&mut self, to: u32)
         ensures { self.new ≡ record self.old { run = calmed to self.old.run } }
     {
         let run = &mut self.task.parts.running.run;
@@ -189,7 +189,7 @@ impl Work {
     }
 
     /// A clean-up of the running activation begins at this op.
-    pub fn clean(&mut self, entry: u32)
+    pub fn begin_clean_up(&mut self, entry: u32)
         ensures { self.new ≡ record self.old { run = cleaning entry self.old.run } }
     {
         let run = &mut self.task.parts.running.run;
@@ -211,7 +211,7 @@ impl Work {
 
     /// The running activation is left with its frame, and the one that waits for it is unwound in its turn, for this reason and
     /// with what a return that arrives hands over. Where none waits, all stays as it is, and the answer is false.
-    pub fn pass_on(&mut self, why: UnwindReason, given: Cell) -> bool
+    pub fn leave_unwinding(&mut self, why: UnwindReason, given: Cell) -> bool
         ensures called { result ≡ nat_lt 0 (length self.old.callers) }
         ensures after { self.new ≡ passed why given self.old.callers self.old }
     {

@@ -1,7 +1,7 @@
 // A task at mutex objects: its calls, what it builds, and the new objects that come into its hand.
 
 ghost use Rattle.std.specs.Prelude.{◌≡◌, ◌≤◌, ◌++◌, [], drop, IfOk, OnOk, OnErr, false};
-ghost use Rattle.uc_machine.specs.Executions.{taken};
+ghost use Rattle.uc_machine.specs.Executions.{take_operands};
 ghost use Rattle.uc_machine.specs.Pieces.{is_zero};
 ghost use Rattle.uc_entry.specs.Keyed.{find};
 ghost use Rattle.uc_machine.specs.Insides.{build_begun, build_ended, call_begun, call_ended, call_gone};
@@ -114,7 +114,7 @@ impl Work {
     /// So many guards of an accept statement, the newest operand the last one, as bits: the first one is lowest.
     pub fn guards(&self, count: u32) -> u32
         requires { count ≤ 32 }
-        ensures { result ≡ mask_of (taken Cell.Nothing count self.now.run.operands []) }
+        ensures { result ≡ mask_of (take_operands Cell.Nothing count self.now.run.operands []) }
     {
         let mut mask = 0;
         for i in 0..count {

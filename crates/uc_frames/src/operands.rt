@@ -1,7 +1,7 @@
 // Operands, the newest last, and those of the running activation.
 
 ghost use Rattle.std.specs.Prelude.{◌≡◌, ◌∷◌, ◌-◌, ◌+◌, ◌≤◌, ◌++◌, [], length, drop, reverse, replicate, slice_set, OnOk, OnErr, IfOk, vec_capacity};
-ghost use Rattle.uc_machine.specs.Executions.{taken};
+ghost use Rattle.uc_machine.specs.Executions.{take_operands};
 ghost use Rattle.uc_frames.specs.Machine.{top, below, nought};
 ghost use Rattle.uc_frames.specs.Calls.{call_frame};
 ghost use Rattle.uc_frames.specs.Unwinding.{event_at, operands_of};

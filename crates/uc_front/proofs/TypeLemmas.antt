@@ -5,13 +5,13 @@ use Rattle.uc_rules.specs.Breaks.{breaks_among}
 use Rattle.uc_rules.specs.Firsts.{after, is_owner_number}
 use Rattle.uc_rules.specs.RuleNames.{rule_number}
 use Rattle.uc_rules.specs.Visits.{Visit}
-use Rattle.uc_types.specs.FirstBreak.{noted}
+use Rattle.uc_types.specs.FirstBreak.{with_visits}
 use Rattle.uc_types.proofs.Noted.{noted_is}
 use Rattle.uc_classes.proofs.First.{first_is, none_is, all_owners, no_owners}
 use Rattle.uc_front.specs.Typed.{AreOfOwners, IsTextBreak, text_break}
 
-pub found_is : (vs : List Visit) (f g : Option Break) → f ≡ None → g ≡ noted f vs → g ≡ after None (breaks_among vs)
-found_is vs f g e h = h ∙ ap (λ x. noted x vs) e ∙ noted_is None vs
+pub found_is : (vs : List Visit) (f g : Option Break) → f ≡ None → g ≡ with_visits f vs → g ≡ after None (breaks_among vs)
+found_is vs f g e h = h ∙ ap (λ x. with_visits x vs) e ∙ noted_is None vs
 
 -- a break of a rule on who owns what, or not
 owned : (own : Bool) (b : Break) → (if own then None else Some b) ≡ None → own ≡ true

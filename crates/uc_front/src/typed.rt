@@ -6,7 +6,7 @@ ghost use Rattle.uc_rules.specs.Firsts.{is_owner_number};
 ghost use Rattle.uc_rules.specs.Scopes.{Env};
 ghost use Rattle.uc_rules.specs.Sorts.{class_at};
 ghost use Rattle.uc_rules.specs.Visits.{statement_visits};
-ghost use Rattle.uc_types.specs.FirstBreak.{noted};
+ghost use Rattle.uc_types.specs.FirstBreak.{with_visits};
 ghost use Rattle.uc_front.specs.Places.{place_env};
 ghost use Rattle.uc_front.specs.Typed.{AreOfOwners, IsTextFaultOf, class_base, entity_type, expr_type, given_type, sort_base, statement_breaks, text_break, type_with};
 
@@ -117,7 +117,7 @@ fn given_type(alloc: Global, tables: &Tables, entity: Option<Entity>) -> Result<
 #[tactic(auto, using(uc_check_stmt::proofs::Joined::joining))]
 fn check_value(names: &Names, e: &Expr, found: &mut Found) -> Option<Entity>
     ensures entity { result ≡ entity_of names.now e.now }
-    ensures breaks { found.new ≡ noted found.old (statement_visits names.now e.now) }
+    ensures breaks { found.new ≡ with_visits found.old (statement_visits names.now e.now) }
 {
     let entity = check_expr(names, e, found);
     ask_statement(entity, e.first_token(), found);

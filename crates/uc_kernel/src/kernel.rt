@@ -27,7 +27,7 @@ use std::marker::Model;
 use uc_entry::entry::{Entry, EntryKind, Options};
 use uc_entry::list::List;
 use uc_entry::request::{Answer, Asked, Request};
-use uc_kernel_core::book::KernelCore;
+use uc_kernel_core::kernel_core::KernelCore;
 use uc_kernel_core::entries::Actor;
 
 /// The journal of a run with its queues, the values of the tasks that do not run, and the members of objects that no

@@ -187,7 +187,7 @@ module _ (s : Seen) (p t k line o : ℕ) (snd : Sound s.journal) (may : MayAct s
     pub end_aside : spot t (s.journal ++ e ∷ []) ≡ Ended → IsAside t o s1.journal
     end_aside ended = rw a.journal (aside s.journal e t o Ended (is_actor ∙ acts) ended refl refl)
 
--- one entry more in a chronicle
+-- one entry more in a journal
 pub told_rows : (t t' : Told) (opts : Options) (input : List ℕ) (e : Entry) (a : List Entry) → t' ≡ told_more t e → a ≡ e ∷ [] → Appended (seen t opts input) (seen t' opts input) a
 told_rows t t' opts input e a is r = record {
   journal = ap (λ (v : Told). v.journal) is ∙ ap (λ (l : List Entry). t.journal ++ l) (sym r);

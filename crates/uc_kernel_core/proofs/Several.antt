@@ -1,4 +1,4 @@
--- Several entries more in a chronicle, and what the entries behind the first ask.
+-- Several entries more in a journal, and what the entries behind the first ask.
 use Rattle.std.proofs.Common.{◌≡◌, ℕ, ◌+◌, ◌<◌, ◌≤◌, true, false, List, [], ◌∷◌, ◌++◌, refl, sym, ap, ◌∙◌, subst, arith, length}
 use Rattle.std.proofs.lemmas.List.{length-append}
 use Rattle.uc_tree.specs.Programs.{Site}
@@ -30,7 +30,7 @@ pub rest_lawful : (opts : Options) (sites : List Site) (input : List ℕ) (j : J
 rest_lawful opts sites input j p t k line r e a s runs fits is =
     subst (Lawful j) is (row_lawful opts sites input j p t k line s runs r fits)
 
--- the chronicle goes on, and has room
+-- the journal goes on, and has room
 pub told_going : (t t1 : Told) (e : Entry) → t1 ≡ told_more t e → is_over t.journal ≡ false → is_ending e.kind ≡ false → is_over t1.journal ≡ false
 told_going t t1 e i g k = ap (λ (v : Told). is_over v.journal) i ∙ goes_on t.journal e g k
 

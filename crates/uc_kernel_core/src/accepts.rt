@@ -5,7 +5,7 @@ ghost use Rattle.uc_acts.specs.KernelRuns.{IsAt};
 ghost use Rattle.uc_entry.specs.declared.request.Request.TheVariants as ask;
 ghost use Rattle.uc_kernel_core.specs.Mirrors.{Appended, MayAct, rows};
 
-use crate::book::KernelCore;
+use crate::kernel_core::KernelCore;
 use crate::entries::{Actor, accept_entry, admit_entry, push_entry};
 use crate::uncounted::accept_at;
 use uc_accept::Accepted;

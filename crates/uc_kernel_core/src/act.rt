@@ -6,7 +6,7 @@ ghost use Rattle.uc_acts.specs.KernelRuns.{Fits, MayAsk};
 ghost use Rattle.uc_kernel_core.specs.Mirrors.{Appended, MayAct, rows};
 ghost use Rattle.uc_kernel_core.specs.CoreActs.{acts, makes_new, IsReady};
 
-use crate::book::KernelCore;
+use crate::kernel_core::KernelCore;
 use crate::entries::Actor;
 use std::alloc::AllocError;
 use uc_entry::request::Request;

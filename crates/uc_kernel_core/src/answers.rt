@@ -8,7 +8,7 @@ ghost use Rattle.uc_acts.specs.Queues.{running};
 ghost use Rattle.uc_acts.specs.Serves.{left};
 ghost use Rattle.uc_kernel_journal.specs.JournalSums.{last_kind};
 
-use crate::book::KernelCore;
+use crate::kernel_core::KernelCore;
 use uc_entry::entry::EntryKind;
 use uc_entry::request::Answer;
 

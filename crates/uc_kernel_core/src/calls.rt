@@ -5,7 +5,7 @@ ghost use Rattle.uc_acts.specs.KernelRuns.{IsOutside};
 ghost use Rattle.uc_entry.specs.declared.request.Request.TheVariants as ask;
 ghost use Rattle.uc_kernel_core.specs.Mirrors.{Appended, MayAct, rows};
 
-use crate::book::{KernelCore, destroys_busy};
+use crate::kernel_core::{KernelCore, destroys_busy};
 use crate::entries::{Actor, admit_entry, busy_entry, call_entry, push_entry};
 use uc_mutex::called::Called;
 use uc_tree::limits::DESTRUCTOR;

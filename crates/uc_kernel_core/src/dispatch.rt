@@ -2,7 +2,7 @@
 ghost use Rattle.std.specs.Prelude.{◌≡◌, IfSome, IfNone};
 ghost use Rattle.uc_kernel_core.specs.CoreActs.{Gave, GaveNone, IsReady};
 
-use crate::book::KernelCore;
+use crate::kernel_core::KernelCore;
 use crate::entries::{closing_entry, dispatch_entry};
 use uc_entry::entry::EntryKind;
 

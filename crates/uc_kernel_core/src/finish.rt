@@ -8,7 +8,7 @@ ghost use Rattle.uc_acts.specs.Acts.{closing, fitted, verdict};
 ghost use Rattle.uc_kernel_core.specs.Mirrors.{Appended};
 ghost use Rattle.uc_kernel_core.specs.CoreActs.{Replaced};
 
-use crate::book::KernelCore;
+use crate::kernel_core::KernelCore;
 use crate::entries::{Actor, closing_entry};
 use uc_cluster::Stalled;
 use uc_entry::entry::EntryKind;

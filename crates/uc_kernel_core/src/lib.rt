@@ -4,7 +4,7 @@
 mod accepts;
 mod act;
 mod answers;
-pub mod book;
+pub mod kernel_core;
 mod calls;
 mod dispatch;
 pub mod entries;

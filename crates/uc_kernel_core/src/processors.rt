@@ -4,7 +4,7 @@ ghost use Rattle.uc_acts.specs.Queues.{cluster_count, processor_count};
 ghost use Rattle.uc_entry.specs.declared.request.Request.TheVariants as ask;
 ghost use Rattle.uc_kernel_core.specs.Mirrors.{Appended, MayAct, rows};
 
-use crate::book::KernelCore;
+use crate::kernel_core::KernelCore;
 use crate::entries::{Actor, fault_entry, number_entry};
 use uc_entry::entry::EntryKind;
 use uc_entry::fault::RunFault;

@@ -7,7 +7,7 @@ ghost use Rattle.uc_acts.specs.Known.{object_count, owner};
 ghost use Rattle.uc_entry.specs.declared.request.Request.TheVariants as ask;
 ghost use Rattle.uc_kernel_core.specs.Mirrors.{Appended, MayAct, rows};
 
-use crate::book::KernelCore;
+use crate::kernel_core::KernelCore;
 use crate::entries::{Actor, fault_entry, raise_entry};
 
 impl KernelCore {

@@ -8,7 +8,7 @@ ghost use Rattle.uc_acts.specs.Known.{owner};
 ghost use Rattle.uc_entry.specs.declared.request.Request.TheVariants as ask;
 ghost use Rattle.uc_kernel_core.specs.Mirrors.{Appended, MayAct, rows};
 
-use crate::book::KernelCore;
+use crate::kernel_core::KernelCore;
 use crate::entries::{Actor, fault_entry, object_entry};
 use std::alloc::AllocError;
 use uc_entry::entry::EntryKind;

@@ -15,7 +15,7 @@ ghost use Rattle.uc_entry.specs.declared.request.Request.TheVariants as ask;
 ghost use Rattle.uc_kernel_core.specs.Mirrors.{Appended, CanPut, MayAct, rows};
 ghost use Rattle.uc_kernel_core.specs.Waiters.{front_admitted, front_pushed};
 
-use crate::book::{KernelCore, destroys_busy};
+use crate::kernel_core::{KernelCore, destroys_busy};
 use crate::entries::{Actor, admit_entry, busy_entry, condition_entry, push_entry, signal_entry};
 use crate::uncounted::push_on;
 use uc_entry::entry::EntryKind;

@@ -1,4 +1,4 @@
--- What a chronicle keeps, with one entry more.
+-- What the kernel's journal keeps, with one entry more.
 use Rattle.std.proofs.Common.{◌≡◌, ℕ, ◌==◌, ◌+◌, ◌<◌, ◌≤◌, ◌||◌, Bool, true, false, not, cond, List, [], ◌∷◌, ◌++◌, Option, Some, None, zero, suc, refl, sym, ap, ◌∙◌, subst, arith, length, set, get_or, get_or-set_same, get_or-set_other, length-set}
 use Rattle.std.specs.Option.{option_to_list}
 use Rattle.std.specs.List.{filter, list_any, sum_by}

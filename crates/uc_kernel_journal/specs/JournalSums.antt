@@ -1,4 +1,4 @@
--- What contracts see of a chronicle, and what it keeps beside its journal.
+-- What contracts see of the kernel's journal, and what it keeps beside its journal.
 use Rattle.std.specs.Prelude.{◌≡◌, ℕ, ◌*◌, ◌<◌, ◌≤◌, Bool, false, List, [], ◌∷◌, ◌++◌, Option, length, slice_index_or}
 use Rattle.std.specs.List.{AllByRecursion}
 use Rattle.uc_tree.specs.Programs.{Site}

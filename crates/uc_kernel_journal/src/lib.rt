@@ -1,7 +1,7 @@
 // The journal of a run, and what it tells at once: ticks, reads, and the answer of each task.
 #![tactic(auto)]
 
-pub mod chronicle;
+pub mod kernel_journal;
 mod notes;
 
-pub use chronicle::KernelJournal;
+pub use kernel_journal::KernelJournal;

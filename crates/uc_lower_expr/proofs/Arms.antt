@@ -7,7 +7,7 @@ use Rattle.uc_tree.specs.declared.ops.StepOp.TheVariants as step
 use Rattle.uc_tree.specs.Programs.{Constant, Program}
 use Rattle.uc_tree.specs.Constants.{constants_of, constant_named}
 use Rattle.uc_tree.specs.Numbering.{routines_of}
-use Rattle.uc_tree.specs.Source.{Shape, Integer, Character, Truth, Binding, Last, Field, Array, Operator, Plus, Minus, Expr, Literal, Variable as Var, Get, Operate, Set}
+use Rattle.uc_tree.specs.Source.{Shape, Integer, Character, Truth, Binding, Last, Field, Array, Operator, Add, Sub, Expr, Literal, Variable as Var, Get, Operate, Set}
 use Rattle.uc_tree.specs.Objects.{shape_of}
 use Rattle.uc_resolve.specs.Resolve.{scalar as scalar_type, value_meant, Meant, converted, value_by, value_of, Standing, AtVariable, AtPlace, AsNumber, AsValue, has_number, known_by, known_named, known_meant, name_meant, item_meant, constant_meant_by, routine_meant_by, routine_from, variable_in, updated, updated_by, stepped, stepped_by, step_meant}
 use Rattle.uc_code.specs.declared.op.Op.{Op}
@@ -235,20 +235,20 @@ module _ (ms : List CodeMark) where
   -- steps, before and behind
 
   bump_variable_at : (line k : ℕ) (o : StepOp) (m : Meant) (code : Laid) (a z : ℕ) → variable_in m.standing ≡ Some k → SetByCode line ms k (step_op_of o) (shape_of m.ty.base) (Literal (pos 1)) code a z → ExprAt code line ms (bumped o m).expr a z
-  bump_variable_at line k step.Increment m code a z is h = updated_variable line k Plus m (Literal (pos 1)) code a z is h
-  bump_variable_at line k step.Decrement m code a z is h = updated_variable line k Minus m (Literal (pos 1)) code a z is h
+  bump_variable_at line k step.Increment m code a z is h = updated_variable line k Add m (Literal (pos 1)) code a z is h
+  bump_variable_at line k step.Decrement m code a z is h = updated_variable line k Sub m (Literal (pos 1)) code a z is h
 
   bump_place_at : (line : ℕ) (o : StepOp) (m : Meant) (code : Laid) (a b z : ℕ) → variable_in m.standing ≡ None → ExprAt code line ms m.expr a b → UpdateCode line ms (step_op_of o) (shape_of m.ty.base) (Literal (pos 1)) code b z → ExprAt code line ms (bumped o m).expr a z
-  bump_place_at line step.Increment m code a b z is h g = updated_place line Plus m (Literal (pos 1)) code a b z is h g
-  bump_place_at line step.Decrement m code a b z is h g = updated_place line Minus m (Literal (pos 1)) code a b z is h g
+  bump_place_at line step.Increment m code a b z is h g = updated_place line Add m (Literal (pos 1)) code a b z is h g
+  bump_place_at line step.Decrement m code a b z is h g = updated_place line Sub m (Literal (pos 1)) code a b z is h g
 
   step_variable_at : (line k : ℕ) (o : StepOp) (m : Meant) (code : Laid) (a z : ℕ) → variable_in m.standing ≡ Some k → BehindCode line ms k (step_op_of o) (shape_of m.ty.base) code a z → ExprAt code line ms (step_meant o m).expr a z
-  step_variable_at line k step.Increment m code a z is h = stepped_variable line k Plus m code a z is h
-  step_variable_at line k step.Decrement m code a z is h = stepped_variable line k Minus m code a z is h
+  step_variable_at line k step.Increment m code a z is h = stepped_variable line k Add m code a z is h
+  step_variable_at line k step.Decrement m code a z is h = stepped_variable line k Sub m code a z is h
 
   step_place_at : (line : ℕ) (o : StepOp) (m : Meant) (code : Laid) (a b z : ℕ) → variable_in m.standing ≡ None → ExprAt code line ms m.expr a b → StepCode line (step_op_of o) (shape_of m.ty.base) code b z → ExprAt code line ms (step_meant o m).expr a z
-  step_place_at line step.Increment m code a b z is h g = stepped_place line Plus m code a b z is h g
-  step_place_at line step.Decrement m code a b z is h g = stepped_place line Minus m code a b z is h g
+  step_place_at line step.Increment m code a b z is h g = stepped_place line Add m code a b z is h g
+  step_place_at line step.Decrement m code a b z is h g = stepped_place line Sub m code a b z is h g
 
   pub arm_bump_variable : {p : Program} → (line k a : ℕ) (o : StepOp) (x : Op) (s t : ExprMeaning) (old mid new : Draft) → a ≤ length old.ops → Some k ≡ cell_in s.standing → x ≡ step_op_of o → t ≡ record s { standing = standing.Value } → ms ≡ old.marks → Cuts a old mid → Adds 5 (SetByCode line mid.marks k x (shape_as s.scalar) (Literal (pos 1))) mid new → Grows p 6 line ms a (bumped o) s t old new
   arm_bump_variable line k a o x s t old mid new l e i j w c h =

@@ -23,7 +23,7 @@ use Rattle.uc_tree.specs.Expressions as tree
 use Rattle.uc_tree.specs.Expressions.{exprs_of, parts_of, links_of}
 use Rattle.uc_tree.specs.ExpressionViews.{expr_at, part_at}
 use Rattle.uc_tree.specs.ExpressionSizes.{expr_size, exprs_size, part_size, parts_size, link_size, links_size}
-use Rattle.uc_tree.specs.Source.{Shape, shape_cells, Plus, Minus, Times, Over, Modulo, Expr, Element, Call, OfObject, CallOn, CallLive, EnterOn, ConditionAt, Exprs, NoExprs, MoreExprs}
+use Rattle.uc_tree.specs.Source.{Shape, shape_cells, Add, Sub, Mul, Div, Rem, Expr, Element, Call, OfObject, CallOn, CallLive, EnterOn, ConditionAt, Exprs, NoExprs, MoreExprs}
 use Rattle.uc_tree.specs.Objects.{class_made, is_numbered, making, base_shape, shape_of}
 use Rattle.uc_resolve.specs.Resolve.{Meant, Context, meant, value_by, value_of, converted, Standing, AsCondition, AsValue, ConditionCall, Waits, Signals, SignalsBlocking, AsksEmpty, AsksFront, condition_called, stored_by, unary_meant, binary_meant, assign_meant, written_by, variable_in, link_meant, chain_meant, part_meant, args_meant, arg_meant, args_by, params_of, parts_meant, has_number, one_of, place_or_number, element_in, element_by, element_meant, call_by, call_meant, step_meant, no_meaning}
 use Rattle.uc_code.specs.declared.op.Op.{Op}
@@ -290,19 +290,19 @@ module _ (ms : List CodeMark) where
 
   variable_at : (line k : ℕ) (o : AssignOp) (m v : Meant) (code : Laid) (a z : ℕ) → variable_in m.standing ≡ Some k → VariableCode line ms (combining_of o) k (shape_of m.ty.base) (value_of v) code a z → ExprAt code line ms (assign_meant o m v).expr a z
   variable_at line k assign.Set m v code a z is h = set_at line k m (value_of v) code a z is h
-  variable_at line k assign.Add m v code a z is h = updated_variable ms line k Plus m (value_of v) code a z is h
-  variable_at line k assign.Sub m v code a z is h = updated_variable ms line k Minus m (value_of v) code a z is h
-  variable_at line k assign.Mul m v code a z is h = updated_variable ms line k Times m (value_of v) code a z is h
-  variable_at line k assign.Div m v code a z is h = updated_variable ms line k Over m (value_of v) code a z is h
-  variable_at line k assign.Rem m v code a z is h = updated_variable ms line k Modulo m (value_of v) code a z is h
+  variable_at line k assign.Add m v code a z is h = updated_variable ms line k Add m (value_of v) code a z is h
+  variable_at line k assign.Sub m v code a z is h = updated_variable ms line k Sub m (value_of v) code a z is h
+  variable_at line k assign.Mul m v code a z is h = updated_variable ms line k Mul m (value_of v) code a z is h
+  variable_at line k assign.Div m v code a z is h = updated_variable ms line k Div m (value_of v) code a z is h
+  variable_at line k assign.Rem m v code a z is h = updated_variable ms line k Rem m (value_of v) code a z is h
 
   place_at : (line : ℕ) (o : AssignOp) (m v : Meant) (code : Laid) (a b z : ℕ) → variable_in m.standing ≡ None → ExprAt code line ms m.expr a b → PlaceCode line ms (combining_of o) (shape_of m.ty.base) (value_of v) code b z → ExprAt code line ms (assign_meant o m v).expr a z
   place_at line assign.Set m v code a b z is h g = kept_at line m (value_of v) code a b z is h g
-  place_at line assign.Add m v code a b z is h g = updated_place ms line Plus m (value_of v) code a b z is h g
-  place_at line assign.Sub m v code a b z is h g = updated_place ms line Minus m (value_of v) code a b z is h g
-  place_at line assign.Mul m v code a b z is h g = updated_place ms line Times m (value_of v) code a b z is h g
-  place_at line assign.Div m v code a b z is h g = updated_place ms line Over m (value_of v) code a b z is h g
-  place_at line assign.Rem m v code a b z is h g = updated_place ms line Modulo m (value_of v) code a b z is h g
+  place_at line assign.Add m v code a b z is h g = updated_place ms line Add m (value_of v) code a b z is h g
+  place_at line assign.Sub m v code a b z is h g = updated_place ms line Sub m (value_of v) code a b z is h g
+  place_at line assign.Mul m v code a b z is h g = updated_place ms line Mul m (value_of v) code a b z is h g
+  place_at line assign.Div m v code a b z is h g = updated_place ms line Div m (value_of v) code a b z is h g
+  place_at line assign.Rem m v code a b z is h g = updated_place ms line Rem m (value_of v) code a b z is h g
 
   pub arm_to_variable : {p : Program} → (n line k a : ℕ) (o : AssignOp) (x : Option Op) (v : Meant) (s t : ExprMeaning) (old mid new : Draft) → a ≤ length old.ops → Some k ≡ cell_in s.standing → x ≡ combining_of o → t ≡ record s { standing = standing.Value } → Cuts a old mid → Adds n (VariableCode line ms x k (shape_as s.scalar) (value_of v)) mid new → Grows p n line ms a (λ m. assign_meant o m v) s t old new
   arm_to_variable n line k a o x v s t old mid new l e i j c h =

@@ -8,7 +8,7 @@ use Rattle.uc_tree.specs.declared.ops.AssignOp.TheVariants as assign
 use Rattle.uc_tree.specs.declared.ops.StepOp.{StepOp}
 use Rattle.uc_tree.specs.declared.ops.StepOp.TheVariants as step
 use Rattle.uc_tree.specs.declared.kinds.Param.{Param}
-use Rattle.uc_tree.specs.Source.{Shape, Plus, Minus, Expr, Literal}
+use Rattle.uc_tree.specs.Source.{Shape, Add, Sub, Expr, Literal}
 use Rattle.uc_tree.specs.Names.{same_name, fail_name}
 use Rattle.uc_tree.specs.Programs.{Program}
 use Rattle.uc_resolve.specs.Resolve.{ConditionCall, Waits, Signals, SignalsBlocking, AsksEmpty, AsksFront, Meant, has_number, known_named, known_meant, updated, arg_meant}
@@ -165,8 +165,8 @@ place_op_of held k = if held then op.Via k else op.Local k
 
 -- one more or one less is written to what is meant
 abbrev pub bumped : StepOp → Meant → Meant
-bumped step.Increment m = updated Plus m (Literal (pos 1))
-bumped step.Decrement m = updated Minus m (Literal (pos 1))
+bumped step.Increment m = updated Add m (Literal (pos 1))
+bumped step.Decrement m = updated Sub m (Literal (pos 1))
 
 -- what is told of a member of `cin`
 abbrev pub input_told : List ℕ → ExprMeaning

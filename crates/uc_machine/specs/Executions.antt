@@ -146,14 +146,14 @@ first_or d [] = d
 first_or d (x ∷ xs) = x
 
 -- the newest, so many of them, the oldest first, in front of these
-abbrev pub taken : {X : Type 0} → X → ℕ → List X → List X → List X
-taken d zero xs ys = ys
-taken d (suc n) xs ys = taken d n (others xs) (first_or d xs ∷ ys)
+abbrev pub take_operands : {X : Type 0} → X → ℕ → List X → List X → List X
+take_operands d zero xs ys = ys
+take_operands d (suc n) xs ys = take_operands d n (others xs) (first_or d xs ∷ ys)
 
 -- one more, if there is one
-abbrev pub handed : {X : Type 0} → Option X → List X → List X
-handed None xs = xs
-handed (Some x) xs = x ∷ xs
+abbrev pub with_result : {X : Type 0} → Option X → List X → List X
+with_result None xs = xs
+with_result (Some x) xs = x ∷ xs
 
 abbrev pub joined : {X : Type 0} → Option (Option X) → Option X
 joined None = None
@@ -238,7 +238,7 @@ module _ {C V : Type 0} where
   -- the newest activation, which counts or does not, is left with its frame, and the one that waits for it goes on with what it
   -- is handed
   abbrev pub returned : Option V → Bool → Activation C V → List (Activation C V) → Env C V → State C V
-  returned given counts c cs e = record { run = record c { operands = handed given c.operands }; callers = cs; env = record e { frames = others e.frames; links = one_call_less counts e.links } }
+  returned given counts c cs e = record { run = record c { operands = with_result given c.operands }; callers = cs; env = record e { frames = others e.frames; links = one_call_less counts e.links } }
 
   -- a call, which counts or does not: an activation with this to do, for this object, with this frame, before one that waits for
   -- it

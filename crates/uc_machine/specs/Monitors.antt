@@ -7,7 +7,7 @@ use Rattle.uc_machine.specs.declared.exec.UnwindReason.TheVariants as reason
 use Rattle.uc_entry.specs.declared.request.Request.{Request}
 use Rattle.uc_entry.specs.declared.request.Request.TheVariants as ask
 use Rattle.uc_entry.specs.declared.fault.RunFault.TheVariants.{Index, Depth, BlockedInside}
-use Rattle.uc_machine.specs.Executions.{taken}
+use Rattle.uc_machine.specs.Executions.{take_operands}
 use Rattle.uc_entry.specs.Keyed.{find}
 use Rattle.uc_machine.specs.Insides.{is_last, call_begun, call_ended, call_gone, build_begun, build_ended, counted_no_more, is_held_up}
 use Rattle.uc_machine.specs.Pieces.{Value, Todo, State, Env, Step, top, below, number, as_number, is_zero, object_in, nought, written, in_env, goes, turns, fault, asks, Number, Nothing, Do, BindMadeNow, PollNow, FailedNow, RaiseNow}
@@ -111,7 +111,7 @@ accept_by (suc mask) o site todo vs s =
 
 -- so many guards are the newest operands
 abbrev pub accept_step : ℕ → ℕ → ℕ → List Todo → State → Step
-accept_step o site n todo s = accept_by (mask_of (taken Nothing n s.run.operands [])) o site todo (drop n s.run.operands) s
+accept_step o site n todo s = accept_by (mask_of (take_operands Nothing n s.run.operands [])) o site todo (drop n s.run.operands) s
 
 -- where the call that was taken has failed, as the newest operand tells, that is resumed
 abbrev pub failed_step : Bool → List Todo → List Value → State → Step

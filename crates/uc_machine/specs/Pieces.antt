@@ -4,7 +4,7 @@ use Rattle.std.specs.Int.{int_rem_euclid}
 use Rattle.std.specs.Ordering.{int_eq}
 use Rattle.uc_tree.specs.declared.limits.TheConstants.{INT_MIN, INT_MAX, CHAR_VALUES}
 use Rattle.uc_entry.specs.declared.request.TheConstants.{PRINT_ITEMS}
-use Rattle.uc_tree.specs.Source.{Shape, shape_cells, field_cells, Operator, Plus, Minus, Times, Over, Modulo, Equal, NotEqual, Less, AtMost, Greater, AtLeast, Expr, Exprs, Item, Target, Declared, Order, Way, Stmt, CleanUp, Destroys, DestroysAll, Unwinds, Forgets, Leaves, Ends, Frees, Restores, Stmts, Handlers, Clauses}
+use Rattle.uc_tree.specs.Source.{Shape, shape_cells, field_cells, Operator, Add, Sub, Mul, Div, Rem, Equal, NotEqual, Less, LessEqual, Greater, GreaterEqual, Expr, Exprs, Item, Target, Declared, Order, Way, Stmt, CleanUp, Destroys, DestroysAll, Unwinds, Forgets, Leaves, Ends, Frees, Restores, Stmts, Handlers, Clauses}
 use Rattle.uc_tree.specs.declared.kinds.ValueForm.{ValueForm}
 use Rattle.uc_machine.specs.declared.exec.Exec.{Exec}
 use Rattle.uc_machine.specs.declared.exec.Owner.{Owner}
@@ -287,17 +287,17 @@ abbrev pub int_outcome : ℤ → Outcome
 int_outcome n = if fits n then Gives n else Faults Overflow
 
 abbrev pub outcome : Operator → ℤ → ℤ → Outcome
-outcome Plus x y = int_outcome (x +ℤ y)
-outcome Minus x y = int_outcome (x -ℤ y)
-outcome Times x y = int_outcome (x *ℤ y)
-outcome Over x y = if is_zero y then Faults DivideByZero else int_outcome (int_div x y)
-outcome Modulo x y = if is_zero y then Faults DivideByZero else int_outcome (int_rem x y)
+outcome Add x y = int_outcome (x +ℤ y)
+outcome Sub x y = int_outcome (x -ℤ y)
+outcome Mul x y = int_outcome (x *ℤ y)
+outcome Div x y = if is_zero y then Faults DivideByZero else int_outcome (int_div x y)
+outcome Rem x y = if is_zero y then Faults DivideByZero else int_outcome (int_rem x y)
 outcome Equal x y = Gives (truth (int_eq x y))
 outcome NotEqual x y = Gives (truth (if int_eq x y then false else true))
 outcome Less x y = Gives (truth (int_lt x y))
-outcome AtMost x y = Gives (truth (int_le x y))
+outcome LessEqual x y = Gives (truth (int_le x y))
 outcome Greater x y = Gives (truth (int_lt y x))
-outcome AtLeast x y = Gives (truth (int_le y x))
+outcome GreaterEqual x y = Gives (truth (int_le y x))
 
 -- memory
 

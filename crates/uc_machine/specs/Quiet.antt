@@ -14,7 +14,7 @@ use Rattle.uc_entry.specs.declared.fault.RunFault.TheVariants.{Index, Depth, Blo
 use Rattle.uc_entry.specs.declared.request.TheConstants.{TEXT_FORM}
 use Rattle.uc_entry.specs.declared.request.Request.TheVariants as ask
 use Rattle.uc_machine.specs.Executions as exec
-use Rattle.uc_machine.specs.Executions.{no_links, taken, begun, entered}
+use Rattle.uc_machine.specs.Executions.{no_links, take_operands, begun, entered}
 use Rattle.uc_entry.specs.Keyed.{find}
 use Rattle.uc_machine.specs.Switches.{home_in, fresh_links, new_exec, born, forgotten, is_live, enlivened, wake, suspend, finish, take_down}
 use Rattle.uc_entry.specs.Keyed.{signed_64}
@@ -240,7 +240,7 @@ routine_todo r = Rest r.body ∷ behind_body r.purpose r.line
 
 -- the frame of a call: the newest operands are its parameters, and the other cells are 0
 abbrev pub call_frame : Routine → List Value → List Value
-call_frame r vs = taken Nothing r.params vs (replicate (r.cells - r.params) nought)
+call_frame r vs = take_operands Nothing r.params vs (replicate (r.cells - r.params) nought)
 
 -- a routine begins with the newest operands as its parameters, for this object, as a call that counts or does not; this is left
 -- to do and these operands are left to its caller

@@ -5,7 +5,7 @@ use Rattle.uc_tree.specs.Constants.{constant_value}
 use Rattle.uc_tree.specs.Rows.{reaches, cells_within}
 use Rattle.uc_tree.specs.Objects.{shape_within, height_within}
 use Rattle.uc_resolve.specs.Resolve.{source_of}
-use Rattle.uc_tree.specs.Source.{Shape, Integer, Binding, Last, Field as FieldIn, Source, Builder, TaskMain, CoroutineMain, Procedure, Function, NoTest, Plus, Times, Expr, Literal, Variable, Get, Assign, Operate, OfObject, OwnField, GetOwn, Bind, CallOn, CallUnwritten, CallLive, NoExprs, MoreExprs, Show, Destroys, Unwinds, Forgets, Skip, Block, Whole, Evaluate, Declare, Print, Loop, Return, OfEvents, Plainly, Throw, Try, NoHandlers, MoreHandlers, OfTasks, Resume, Suspend, SetUp, Enliven, TakeDown, Stmts, Nil, Then, Scoped, Built, Routine}
+use Rattle.uc_tree.specs.Source.{Shape, Integer, Binding, Last, Field as FieldIn, Source, Builder, TaskMain, CoroutineMain, Procedure, Function, NoTest, Add, Mul, Expr, Literal, Variable, Get, Assign, Operate, OfObject, OwnField, GetOwn, Bind, CallOn, CallUnwritten, CallLive, NoExprs, MoreExprs, Show, Destroys, Unwinds, Forgets, Skip, Block, Whole, Evaluate, Declare, Print, Loop, Return, OfEvents, Plainly, Throw, Try, NoHandlers, MoreHandlers, OfTasks, Resume, Suspend, SetUp, Enliven, TakeDown, Stmts, Nil, Then, Scoped, Built, Routine}
 use Rattle.uc_entry.specs.declared.request.Answer.TheVariants as answer
 use Rattle.uc_entry.specs.declared.entry.EntryKind.TheVariants as kind
 use Rattle.uc_acts.specs.Journal.{entry, begin, is_over, inside, own_object, entries_at}
@@ -58,7 +58,7 @@ prints_one line byte rest = Then (Print line (Show value_form.Character (Literal
 
 abbrev switched_source : Source
 switched_source = record {
-  routines = coroutine_main 1 0 (Then (Block 1 (Then (Skip 1) (Then (Loop 1 NoTest (Literal (pos 1)) None (Block 1 (Then (Evaluate 1 (Assign (OfObject (OwnField (with_field Integer) 1)) (Operate Plus (OfObject (GetOwn (with_field Integer) 1)) (Literal (pos 1))))) (Then (OfTasks (Suspend 1)) Nil)))) Nil))) Nil) ∷ (record { line = 1; cells = 0; params = 0; purpose = Function; written = true; body = Then (OfTasks (Resume 1)) (Then (Return 1 (Some (OfObject (GetOwn (with_field Integer) 1)))) Nil) } ∷ (record { line = 2; cells = 2; params = 0; purpose = TaskMain; written = true; body = in_scope 2 0 2 3 4 (Then (Print 2 (Show value_form.Number (Operate Plus (Operate Times (OfObject (CallLive 1 (Variable 0) NoExprs)) (Literal (pos 10))) (OfObject (CallLive 1 (Variable 0) NoExprs))) ∷ [])) Nil) } ∷ (builds 0 ∷ (destroys ∷ []))));
+  routines = coroutine_main 1 0 (Then (Block 1 (Then (Skip 1) (Then (Loop 1 NoTest (Literal (pos 1)) None (Block 1 (Then (Evaluate 1 (Assign (OfObject (OwnField (with_field Integer) 1)) (Operate Add (OfObject (GetOwn (with_field Integer) 1)) (Literal (pos 1))))) (Then (OfTasks (Suspend 1)) Nil)))) Nil))) Nil) ∷ (record { line = 1; cells = 0; params = 0; purpose = Function; written = true; body = Then (OfTasks (Resume 1)) (Then (Return 1 (Some (OfObject (GetOwn (with_field Integer) 1)))) Nil) } ∷ (record { line = 2; cells = 2; params = 0; purpose = TaskMain; written = true; body = in_scope 2 0 2 3 4 (Then (Print 2 (Show value_form.Number (Operate Add (Operate Mul (OfObject (CallLive 1 (Variable 0) NoExprs)) (Literal (pos 10))) (OfObject (CallLive 1 (Variable 0) NoExprs))) ∷ [])) Nil) } ∷ (builds 0 ∷ (destroys ∷ []))));
   main = 2;
   classes = record { cells = 0 } ∷ (record { cells = 2 } ∷ []);
   sites = [];

@@ -5,7 +5,7 @@ use Rattle.uc_tree.specs.Constants.{constant_value}
 use Rattle.uc_tree.specs.Rows.{reaches, cells_within}
 use Rattle.uc_tree.specs.Objects.{shape_within, height_within}
 use Rattle.uc_resolve.specs.Resolve.{source_of}
-use Rattle.uc_tree.specs.Source.{Accept, Array, Assign, Block, Break, Builder, Declare, Destroys, Element, EndOn, Ends, EnterOn, Equal, Evaluate, Field as FieldIn, Frees, Get, GetOwn, Integer, Last, Leaves, Literal, Load, Loop, MakeOn, Minus, Modulo, MoreClauses, MoreExprs, Nil, NoClauses, NoExprs, NoTest, NotEqual, OfObject, OfTasks, Operate, Owes, OwnField, Plus, Print, Return, Scoped, Show, ShowText, Skip, Source, TaskMain, Then, Update, Variable}
+use Rattle.uc_tree.specs.Source.{Accept, Array, Assign, Block, Break, Builder, Declare, Destroys, Element, EndOn, Ends, EnterOn, Equal, Evaluate, Field as FieldIn, Frees, Get, GetOwn, Integer, Last, Leaves, Literal, Load, Loop, MakeOn, Sub, Rem, MoreClauses, MoreExprs, Nil, NoClauses, NoExprs, NoTest, NotEqual, OfObject, OfTasks, Operate, Owes, OwnField, Add, Print, Return, Scoped, Show, ShowText, Skip, Source, TaskMain, Then, Update, Variable}
 use Rattle.uc_entry.specs.declared.entry.EntryKind.TheVariants as kind
 use Rattle.uc_entry.specs.declared.request.Answer.TheVariants as answer
 use Rattle.uc_acts.specs.Journal.{Journal, cost, entry, asking, begin, is_over, held, inside, own_object, entries_at}
@@ -21,7 +21,7 @@ use Rattle.uc_meaning.proofs.ActsSampled.{given_to, acted_by}
 use Rattle.uc_meaning.specs.MonitorSamples.{guarded_text, guarded_journal, GuardedRun}
 
 abbrev guarded_source : Source
-guarded_source = record { routines = record { line = 2; cells = 0; params = 0; purpose = TaskMain; written = true; body = Then (OfTasks (Accept 2 0 (MoreClauses (Operate Equal (OfObject (GetOwn (FieldIn Integer (FieldIn Integer (FieldIn Integer (FieldIn (Array 2 Integer) Last)))) 2)) (Literal (pos 5))) (Block 2 (Then (Print 2 (ShowText 0 ∷ [])) Nil)) NoClauses))) (Then (Print 3 (ShowText 1 ∷ [])) (Then (Block 4 (Then (Skip 4) (Then (Loop 4 NoTest (Literal (pos 1)) None (Block 4 (Then (OfTasks (Accept 4 1 (MoreClauses (Literal (pos 1)) (Block 4 (Then (Break 4) Nil)) (MoreClauses (Operate NotEqual (OfObject (GetOwn (FieldIn Integer (FieldIn Integer (FieldIn Integer (FieldIn (Array 2 Integer) Last)))) 2)) (Literal (pos 2))) (Block 4 Nil) (MoreClauses (Operate NotEqual (OfObject (GetOwn (FieldIn Integer (FieldIn Integer (FieldIn Integer (FieldIn (Array 2 Integer) Last)))) 2)) (Literal (pos 0))) (Block 5 Nil) NoClauses))))) Nil))) Nil))) (Then (Print 6 (ShowText 2 ∷ Show value_form.Character (Literal (pos 10)) ∷ [])) Nil))) } ∷ record { line = 7; cells = 1; params = 1; purpose = Builder; written = true; body = Scoped Leaves (Then (Block 7 (Then (Evaluate 7 (Assign (Element 2 Integer (OfObject (OwnField (FieldIn Integer (FieldIn Integer (FieldIn Integer (FieldIn (Array 2 Integer) Last)))) 3)) (OfObject (GetOwn (FieldIn Integer (FieldIn Integer (FieldIn Integer (FieldIn (Array 2 Integer) Last)))) 1))) (Get 0))) (Then (Evaluate 7 (Assign (OfObject (OwnField (FieldIn Integer (FieldIn Integer (FieldIn Integer (FieldIn (Array 2 Integer) Last)))) 1)) (Operate Modulo (Operate Plus (OfObject (GetOwn (FieldIn Integer (FieldIn Integer (FieldIn Integer (FieldIn (Array 2 Integer) Last)))) 1)) (Literal (pos 1))) (Literal (pos 2))))) (Then (Evaluate 7 (Update Plus Integer (OfObject (OwnField (FieldIn Integer (FieldIn Integer (FieldIn Integer (FieldIn (Array 2 Integer) Last)))) 2)) (Literal (pos 1)))) Nil)))) Nil) } ∷ record { line = 8; cells = 1; params = 0; purpose = Builder; written = true; body = Scoped Leaves (Then (Block 8 (Then (Declare 8 (record { cell = 0; cells = 1; value = Some (Load (Element 2 Integer (OfObject (OwnField (FieldIn Integer (FieldIn Integer (FieldIn Integer (FieldIn (Array 2 Integer) Last)))) 3)) (OfObject (GetOwn (FieldIn Integer (FieldIn Integer (FieldIn Integer (FieldIn (Array 2 Integer) Last)))) 0)))) } ∷ [])) (Then (Evaluate 8 (Assign (OfObject (OwnField (FieldIn Integer (FieldIn Integer (FieldIn Integer (FieldIn (Array 2 Integer) Last)))) 0)) (Operate Modulo (Operate Plus (OfObject (GetOwn (FieldIn Integer (FieldIn Integer (FieldIn Integer (FieldIn (Array 2 Integer) Last)))) 0)) (Literal (pos 1))) (Literal (pos 2))))) (Then (Evaluate 8 (Update Minus Integer (OfObject (OwnField (FieldIn Integer (FieldIn Integer (FieldIn Integer (FieldIn (Array 2 Integer) Last)))) 2)) (Literal (pos 1)))) (Then (Return 8 (Some (Get 0))) Nil))))) (Then (Owes 8) Nil)) } ∷ record { line = 9; cells = 1; params = 0; purpose = TaskMain; written = true; body = Then (Declare 9 (record { cell = 0; cells = 1; value = None } ∷ [])) (Then (Evaluate 9 (OfObject (MakeOn 1 4 false (Variable 0) NoExprs))) (Scoped (Destroys (OfObject (EndOn 5 false (Load (Variable 0))))) (Then (Evaluate 9 (OfObject (EnterOn 1 1 (Get 0) (MoreExprs (Literal (pos 1)) NoExprs)))) (Then (Evaluate 9 (OfObject (EnterOn 1 1 (Get 0) (MoreExprs (Literal (pos 2)) NoExprs)))) (Then (Print 10 (Show value_form.Number (OfObject (EnterOn 2 2 (Get 0) NoExprs)) ∷ Show value_form.Number (OfObject (EnterOn 2 2 (Get 0) NoExprs)) ∷ Show value_form.Character (Literal (pos 10)) ∷ [])) Nil))))) } ∷ record { line = 0; cells = 0; params = 0; purpose = Builder; written = false; body = Scoped (Frees (Some 0)) Nil } ∷ record { line = 0; cells = 0; params = 0; purpose = Builder; written = false; body = Scoped Ends Nil } ∷ []; main = 3; classes = record { cells = 0 } ∷ record { cells = 5 } ∷ []; sites = record { class = 1; clauses = (1 ∷ []) ∷ []; has_else = false } ∷ record { class = 1; clauses = (0 ∷ []) ∷ (1 ∷ []) ∷ (2 ∷ []) ∷ []; has_else = false } ∷ []; texts = (110 ∷ 101 ∷ 118 ∷ 101 ∷ 114 ∷ []) ∷ (111 ∷ 110 ∷ 32 ∷ []) ∷ (99 ∷ 108 ∷ 111 ∷ 115 ∷ 101 ∷ 100 ∷ []) ∷ [] }
+guarded_source = record { routines = record { line = 2; cells = 0; params = 0; purpose = TaskMain; written = true; body = Then (OfTasks (Accept 2 0 (MoreClauses (Operate Equal (OfObject (GetOwn (FieldIn Integer (FieldIn Integer (FieldIn Integer (FieldIn (Array 2 Integer) Last)))) 2)) (Literal (pos 5))) (Block 2 (Then (Print 2 (ShowText 0 ∷ [])) Nil)) NoClauses))) (Then (Print 3 (ShowText 1 ∷ [])) (Then (Block 4 (Then (Skip 4) (Then (Loop 4 NoTest (Literal (pos 1)) None (Block 4 (Then (OfTasks (Accept 4 1 (MoreClauses (Literal (pos 1)) (Block 4 (Then (Break 4) Nil)) (MoreClauses (Operate NotEqual (OfObject (GetOwn (FieldIn Integer (FieldIn Integer (FieldIn Integer (FieldIn (Array 2 Integer) Last)))) 2)) (Literal (pos 2))) (Block 4 Nil) (MoreClauses (Operate NotEqual (OfObject (GetOwn (FieldIn Integer (FieldIn Integer (FieldIn Integer (FieldIn (Array 2 Integer) Last)))) 2)) (Literal (pos 0))) (Block 5 Nil) NoClauses))))) Nil))) Nil))) (Then (Print 6 (ShowText 2 ∷ Show value_form.Character (Literal (pos 10)) ∷ [])) Nil))) } ∷ record { line = 7; cells = 1; params = 1; purpose = Builder; written = true; body = Scoped Leaves (Then (Block 7 (Then (Evaluate 7 (Assign (Element 2 Integer (OfObject (OwnField (FieldIn Integer (FieldIn Integer (FieldIn Integer (FieldIn (Array 2 Integer) Last)))) 3)) (OfObject (GetOwn (FieldIn Integer (FieldIn Integer (FieldIn Integer (FieldIn (Array 2 Integer) Last)))) 1))) (Get 0))) (Then (Evaluate 7 (Assign (OfObject (OwnField (FieldIn Integer (FieldIn Integer (FieldIn Integer (FieldIn (Array 2 Integer) Last)))) 1)) (Operate Rem (Operate Add (OfObject (GetOwn (FieldIn Integer (FieldIn Integer (FieldIn Integer (FieldIn (Array 2 Integer) Last)))) 1)) (Literal (pos 1))) (Literal (pos 2))))) (Then (Evaluate 7 (Update Add Integer (OfObject (OwnField (FieldIn Integer (FieldIn Integer (FieldIn Integer (FieldIn (Array 2 Integer) Last)))) 2)) (Literal (pos 1)))) Nil)))) Nil) } ∷ record { line = 8; cells = 1; params = 0; purpose = Builder; written = true; body = Scoped Leaves (Then (Block 8 (Then (Declare 8 (record { cell = 0; cells = 1; value = Some (Load (Element 2 Integer (OfObject (OwnField (FieldIn Integer (FieldIn Integer (FieldIn Integer (FieldIn (Array 2 Integer) Last)))) 3)) (OfObject (GetOwn (FieldIn Integer (FieldIn Integer (FieldIn Integer (FieldIn (Array 2 Integer) Last)))) 0)))) } ∷ [])) (Then (Evaluate 8 (Assign (OfObject (OwnField (FieldIn Integer (FieldIn Integer (FieldIn Integer (FieldIn (Array 2 Integer) Last)))) 0)) (Operate Rem (Operate Add (OfObject (GetOwn (FieldIn Integer (FieldIn Integer (FieldIn Integer (FieldIn (Array 2 Integer) Last)))) 0)) (Literal (pos 1))) (Literal (pos 2))))) (Then (Evaluate 8 (Update Sub Integer (OfObject (OwnField (FieldIn Integer (FieldIn Integer (FieldIn Integer (FieldIn (Array 2 Integer) Last)))) 2)) (Literal (pos 1)))) (Then (Return 8 (Some (Get 0))) Nil))))) (Then (Owes 8) Nil)) } ∷ record { line = 9; cells = 1; params = 0; purpose = TaskMain; written = true; body = Then (Declare 9 (record { cell = 0; cells = 1; value = None } ∷ [])) (Then (Evaluate 9 (OfObject (MakeOn 1 4 false (Variable 0) NoExprs))) (Scoped (Destroys (OfObject (EndOn 5 false (Load (Variable 0))))) (Then (Evaluate 9 (OfObject (EnterOn 1 1 (Get 0) (MoreExprs (Literal (pos 1)) NoExprs)))) (Then (Evaluate 9 (OfObject (EnterOn 1 1 (Get 0) (MoreExprs (Literal (pos 2)) NoExprs)))) (Then (Print 10 (Show value_form.Number (OfObject (EnterOn 2 2 (Get 0) NoExprs)) ∷ Show value_form.Number (OfObject (EnterOn 2 2 (Get 0) NoExprs)) ∷ Show value_form.Character (Literal (pos 10)) ∷ [])) Nil))))) } ∷ record { line = 0; cells = 0; params = 0; purpose = Builder; written = false; body = Scoped (Frees (Some 0)) Nil } ∷ record { line = 0; cells = 0; params = 0; purpose = Builder; written = false; body = Scoped Ends Nil } ∷ []; main = 3; classes = record { cells = 0 } ∷ record { cells = 5 } ∷ []; sites = record { class = 1; clauses = (1 ∷ []) ∷ []; has_else = false } ∷ record { class = 1; clauses = (0 ∷ []) ∷ (1 ∷ []) ∷ (2 ∷ []) ∷ []; has_else = false } ∷ []; texts = (110 ∷ 101 ∷ 118 ∷ 101 ∷ 114 ∷ []) ∷ (111 ∷ 110 ∷ 32 ∷ []) ∷ (99 ∷ 108 ∷ 111 ∷ 115 ∷ 101 ∷ 100 ∷ []) ∷ [] }
 
 guarded_is : source_of guarded_text ≡ guarded_source
 unfolding constant_value reaches cells_within shape_within height_within

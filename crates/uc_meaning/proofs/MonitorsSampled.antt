@@ -5,7 +5,7 @@ use Rattle.uc_tree.specs.Constants.{constant_value}
 use Rattle.uc_tree.specs.Rows.{reaches, cells_within}
 use Rattle.uc_tree.specs.Objects.{shape_within, height_within}
 use Rattle.uc_resolve.specs.Resolve.{source_of}
-use Rattle.uc_tree.specs.Source.{Integer, Binding, Last, Field as FieldIn, Source, TaskMain, Builder, Plus, Literal, Variable, Get, Load, Assign, Operate, OfObject, OwnField, GetOwn, EnterOn, EndOn, Bind, MakeOn, NewCluster, EndCluster, NoExprs, MoreExprs, Show, ShowText, Plainly, Destroys, Leaves, Ends, Frees, Block, Whole, Evaluate, Declare, Print, Return, Owes, OfEvents, OfTasks, Nil, Then, Scoped, Throw, Try, NoHandlers, MoreHandlers, Migrate, Accept, NoClauses, MoreClauses}
+use Rattle.uc_tree.specs.Source.{Integer, Binding, Last, Field as FieldIn, Source, TaskMain, Builder, Add, Literal, Variable, Get, Load, Assign, Operate, OfObject, OwnField, GetOwn, EnterOn, EndOn, Bind, MakeOn, NewCluster, EndCluster, NoExprs, MoreExprs, Show, ShowText, Plainly, Destroys, Leaves, Ends, Frees, Block, Whole, Evaluate, Declare, Print, Return, Owes, OfEvents, OfTasks, Nil, Then, Scoped, Throw, Try, NoHandlers, MoreHandlers, Migrate, Accept, NoClauses, MoreClauses}
 use Rattle.uc_entry.specs.declared.entry.EntryKind.TheVariants as kind
 use Rattle.uc_entry.specs.declared.request.Answer.TheVariants as answer
 use Rattle.uc_acts.specs.Journal.{cost, entry, asking, begin, is_over, held, inside, own_object, entries_at}
@@ -104,7 +104,7 @@ pub failed_run : FailedRun
 failed_run = record { run = subst (λ s. IsRun s [] options failed_journal) (sym failed_is) failed_runs }
 
 abbrev bank_source : Source
-bank_source = record { routines = record { line = 1; cells = 1; params = 1; purpose = Builder; written = true; body = Scoped Leaves (Then (Block 1 (Then (Evaluate 1 (Assign (OfObject (OwnField (FieldIn Integer Last) 0)) (Operate Plus (OfObject (GetOwn (FieldIn Integer Last) 0)) (Get 0)))) Nil)) Nil) } ∷ record { line = 1; cells = 0; params = 0; purpose = Builder; written = true; body = Scoped Leaves (Then (Block 1 (Then (Return 1 (Some (OfObject (GetOwn (FieldIn Integer Last) 0)))) Nil)) (Then (Owes 1) Nil)) } ∷ record { line = 2; cells = 0; params = 0; purpose = TaskMain; written = true; body = Then (Evaluate 2 (OfObject (EnterOn 1 0 (OfObject (GetOwn (FieldIn Binding Last) 0)) (MoreExprs (Literal (pos 2)) NoExprs)))) Nil } ∷ record { line = 2; cells = 1; params = 1; purpose = Builder; written = true; body = Scoped (Frees (Some 2)) (Then (Evaluate 0 (OfObject (Bind (OfObject (OwnField (FieldIn Binding Last) 0)) (Get 0)))) (Then (Whole 2 Nil) Nil)) } ∷ record { line = 3; cells = 2; params = 0; purpose = TaskMain; written = true; body = Then (Declare 3 (record { cell = 0; cells = 1; value = None } ∷ [])) (Then (Evaluate 3 (OfObject (MakeOn 1 5 false (Variable 0) NoExprs))) (Scoped (Destroys (OfObject (EndOn 6 false (Load (Variable 0))))) (Then (Block 3 (Then (Declare 3 (record { cell = 1; cells = 1; value = None } ∷ [])) (Then (Evaluate 3 (OfObject (MakeOn 2 3 true (Variable 1) (MoreExprs (Get 0) NoExprs)))) (Scoped (Destroys (OfObject (EndOn 7 false (Load (Variable 1))))) (Then (Evaluate 3 (OfObject (EnterOn 1 0 (Get 0) (MoreExprs (Literal (pos 1)) NoExprs)))) Nil))))) (Then (Print 3 ((Show value_form.Number (OfObject (EnterOn 2 1 (Get 0) NoExprs))) ∷ [])) Nil)))) } ∷ record { line = 0; cells = 0; params = 0; purpose = Builder; written = false; body = Scoped (Frees None) Nil } ∷ record { line = 0; cells = 0; params = 0; purpose = Builder; written = false; body = Scoped Ends Nil } ∷ record { line = 0; cells = 0; params = 0; purpose = Builder; written = false; body = Scoped Ends Nil } ∷ []; main = 4; classes = record { cells = 0 } ∷ record { cells = 1 } ∷ record { cells = 1 } ∷ []; sites = []; texts = [] }
+bank_source = record { routines = record { line = 1; cells = 1; params = 1; purpose = Builder; written = true; body = Scoped Leaves (Then (Block 1 (Then (Evaluate 1 (Assign (OfObject (OwnField (FieldIn Integer Last) 0)) (Operate Add (OfObject (GetOwn (FieldIn Integer Last) 0)) (Get 0)))) Nil)) Nil) } ∷ record { line = 1; cells = 0; params = 0; purpose = Builder; written = true; body = Scoped Leaves (Then (Block 1 (Then (Return 1 (Some (OfObject (GetOwn (FieldIn Integer Last) 0)))) Nil)) (Then (Owes 1) Nil)) } ∷ record { line = 2; cells = 0; params = 0; purpose = TaskMain; written = true; body = Then (Evaluate 2 (OfObject (EnterOn 1 0 (OfObject (GetOwn (FieldIn Binding Last) 0)) (MoreExprs (Literal (pos 2)) NoExprs)))) Nil } ∷ record { line = 2; cells = 1; params = 1; purpose = Builder; written = true; body = Scoped (Frees (Some 2)) (Then (Evaluate 0 (OfObject (Bind (OfObject (OwnField (FieldIn Binding Last) 0)) (Get 0)))) (Then (Whole 2 Nil) Nil)) } ∷ record { line = 3; cells = 2; params = 0; purpose = TaskMain; written = true; body = Then (Declare 3 (record { cell = 0; cells = 1; value = None } ∷ [])) (Then (Evaluate 3 (OfObject (MakeOn 1 5 false (Variable 0) NoExprs))) (Scoped (Destroys (OfObject (EndOn 6 false (Load (Variable 0))))) (Then (Block 3 (Then (Declare 3 (record { cell = 1; cells = 1; value = None } ∷ [])) (Then (Evaluate 3 (OfObject (MakeOn 2 3 true (Variable 1) (MoreExprs (Get 0) NoExprs)))) (Scoped (Destroys (OfObject (EndOn 7 false (Load (Variable 1))))) (Then (Evaluate 3 (OfObject (EnterOn 1 0 (Get 0) (MoreExprs (Literal (pos 1)) NoExprs)))) Nil))))) (Then (Print 3 ((Show value_form.Number (OfObject (EnterOn 2 1 (Get 0) NoExprs))) ∷ [])) Nil)))) } ∷ record { line = 0; cells = 0; params = 0; purpose = Builder; written = false; body = Scoped (Frees None) Nil } ∷ record { line = 0; cells = 0; params = 0; purpose = Builder; written = false; body = Scoped Ends Nil } ∷ record { line = 0; cells = 0; params = 0; purpose = Builder; written = false; body = Scoped Ends Nil } ∷ []; main = 4; classes = record { cells = 0 } ∷ record { cells = 1 } ∷ record { cells = 1 } ∷ []; sites = []; texts = [] }
 
 bank_is : source_of bank_text ≡ bank_source
 unfolding constant_value reaches cells_within shape_within height_within

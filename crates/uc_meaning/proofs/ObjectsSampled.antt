@@ -5,7 +5,7 @@ use Rattle.uc_tree.specs.Constants.{constant_value}
 use Rattle.uc_tree.specs.Rows.{reaches, cells_within}
 use Rattle.uc_tree.specs.Objects.{shape_within, height_within}
 use Rattle.uc_resolve.specs.Resolve.{source_of}
-use Rattle.uc_tree.specs.Source.{Shape, Integer, Binding, Last, Field as FieldIn, Array, Source, Builder, TaskMain, Procedure, Function, NoTest, Plus, Minus, Over, Call, Expr, Literal, Variable, Element, Get, Load, Assign, Operate, OfObject, This, OwnField, GetOwn, Bind, Counted, CallOn, CallUnwritten, NoExprs, MoreExprs, Show, ShowText, Destroys, DestroysAll, Skip, Block, Whole, Evaluate, Declare, Print, Loop, Break, Return, Fill, Stmts, Nil, Then, Scoped, Built}
+use Rattle.uc_tree.specs.Source.{Shape, Integer, Binding, Last, Field as FieldIn, Array, Source, Builder, TaskMain, Procedure, Function, NoTest, Add, Sub, Div, Call, Expr, Literal, Variable, Element, Get, Load, Assign, Operate, OfObject, This, OwnField, GetOwn, Bind, Counted, CallOn, CallUnwritten, NoExprs, MoreExprs, Show, ShowText, Destroys, DestroysAll, Skip, Block, Whole, Evaluate, Declare, Print, Loop, Break, Return, Fill, Stmts, Nil, Then, Scoped, Built}
 use Rattle.uc_entry.specs.declared.request.Answer.TheVariants as answer
 use Rattle.uc_entry.specs.declared.entry.EntryKind.TheVariants as kind
 use Rattle.uc_acts.specs.Journal.{entry, begin, is_over, inside, own_object, entries_at}
@@ -118,7 +118,7 @@ array_run = record { run = subst (λ s. IsRun s [] options array_journal) (sym a
 -- `twice`, the constructor, `get`, main; and the destructor that nobody wrote
 abbrev member_source : Source
 member_source = record {
-  routines = record { line = 1; cells = 0; params = 0; purpose = Function; written = true; body = Then (Return 1 (Some (Operate Plus (own_value one_int 0) (own_value one_int 0)))) Nil } ∷ (record { line = 1; cells = 1; params = 1; purpose = Builder; written = true; body = Then (Evaluate 0 (Assign (own_field one_int 0) (Get 0))) (in_block 1 Nil) } ∷ (record { line = 2; cells = 0; params = 0; purpose = Function; written = true; body = Then (Return 2 (Some (Operate Plus (call_at 0 (OfObject This)) (Literal (pos 1))))) Nil } ∷ (record { line = 3; cells = 1; params = 0; purpose = TaskMain; written = true; body = Then (Declare 3 (record { cell = 0; cells = 1; value = None } ∷ [])) (Then (Evaluate 3 (OfObject (CallOn 1 (Variable 0) (MoreExprs (Literal (pos 5)) NoExprs)))) (Scoped (Destroys (OfObject (CallUnwritten 4 (Variable 0)))) (Then (Print 3 (Show value_form.Number (call_at 2 (Variable 0)) ∷ [])) Nil))) } ∷ (record { line = 0; cells = 0; params = 0; purpose = Builder; written = false; body = Nil } ∷ []))));
+  routines = record { line = 1; cells = 0; params = 0; purpose = Function; written = true; body = Then (Return 1 (Some (Operate Add (own_value one_int 0) (own_value one_int 0)))) Nil } ∷ (record { line = 1; cells = 1; params = 1; purpose = Builder; written = true; body = Then (Evaluate 0 (Assign (own_field one_int 0) (Get 0))) (in_block 1 Nil) } ∷ (record { line = 2; cells = 0; params = 0; purpose = Function; written = true; body = Then (Return 2 (Some (Operate Add (call_at 0 (OfObject This)) (Literal (pos 1))))) Nil } ∷ (record { line = 3; cells = 1; params = 0; purpose = TaskMain; written = true; body = Then (Declare 3 (record { cell = 0; cells = 1; value = None } ∷ [])) (Then (Evaluate 3 (OfObject (CallOn 1 (Variable 0) (MoreExprs (Literal (pos 5)) NoExprs)))) (Scoped (Destroys (OfObject (CallUnwritten 4 (Variable 0)))) (Then (Print 3 (Show value_form.Number (call_at 2 (Variable 0)) ∷ [])) Nil))) } ∷ (record { line = 0; cells = 0; params = 0; purpose = Builder; written = false; body = Nil } ∷ []))));
   main = 3;
   classes = record { cells = 0 } ∷ (record { cells = 1 } ∷ []);
   sites = [];
@@ -182,7 +182,7 @@ bound = own_value (FieldIn Binding Last) 0
 
 abbrev reference_source : Source
 reference_source = record {
-  routines = record { line = 1; cells = 1; params = 1; purpose = Builder; written = true; body = Then (Evaluate 0 (OfObject (Bind (own_field (FieldIn Binding Last) 0) (Get 0)))) (in_block 1 Nil) } ∷ (record { line = 1; cells = 0; params = 0; purpose = Builder; written = true; body = in_block 1 (Then (Evaluate 1 (Assign bound (Operate Plus (Load bound) (Literal (pos 1))))) (Then (Print 1 (Show value_form.Number (Load bound) ∷ [])) Nil)) } ∷ (record { line = 2; cells = 2; params = 1; purpose = Function; written = true; body = Then (Declare 3 (record { cell = 1; cells = 1; value = None } ∷ [])) (Then (Evaluate 3 (OfObject (CallOn 0 (Variable 1) (MoreExprs (Get 0) NoExprs)))) (Scoped (Destroys (call_at 1 (Variable 1))) (Then (Return 3 (Some (Load (Get 0)))) Nil))) } ∷ (record { line = 4; cells = 1; params = 1; purpose = Builder; written = true; body = Then (Evaluate 0 (Assign (own_field one_int 0) (Operate Over (Literal (pos 10)) (Get 0)))) (in_block 4 Nil) } ∷ (record { line = 5; cells = 2; params = 0; purpose = TaskMain; written = true; body = Then (Declare 5 (record { cell = 0; cells = 1; value = None } ∷ [])) (Then (Print 6 (Show value_form.Number (Call 2 (MoreExprs (Variable 0) NoExprs)) ∷ (Show value_form.Number (Get 0) ∷ []))) (Then (Declare 7 (record { cell = 1; cells = 1; value = None } ∷ [])) (Then (Evaluate 7 (OfObject (CallOn 3 (Variable 1) (MoreExprs (Operate Minus (Get 0) (Literal (pos 1))) NoExprs)))) (Scoped (Destroys (OfObject (CallUnwritten 5 (Variable 1)))) Nil)))) } ∷ (record { line = 0; cells = 0; params = 0; purpose = Builder; written = false; body = Nil } ∷ [])))));
+  routines = record { line = 1; cells = 1; params = 1; purpose = Builder; written = true; body = Then (Evaluate 0 (OfObject (Bind (own_field (FieldIn Binding Last) 0) (Get 0)))) (in_block 1 Nil) } ∷ (record { line = 1; cells = 0; params = 0; purpose = Builder; written = true; body = in_block 1 (Then (Evaluate 1 (Assign bound (Operate Add (Load bound) (Literal (pos 1))))) (Then (Print 1 (Show value_form.Number (Load bound) ∷ [])) Nil)) } ∷ (record { line = 2; cells = 2; params = 1; purpose = Function; written = true; body = Then (Declare 3 (record { cell = 1; cells = 1; value = None } ∷ [])) (Then (Evaluate 3 (OfObject (CallOn 0 (Variable 1) (MoreExprs (Get 0) NoExprs)))) (Scoped (Destroys (call_at 1 (Variable 1))) (Then (Return 3 (Some (Load (Get 0)))) Nil))) } ∷ (record { line = 4; cells = 1; params = 1; purpose = Builder; written = true; body = Then (Evaluate 0 (Assign (own_field one_int 0) (Operate Div (Literal (pos 10)) (Get 0)))) (in_block 4 Nil) } ∷ (record { line = 5; cells = 2; params = 0; purpose = TaskMain; written = true; body = Then (Declare 5 (record { cell = 0; cells = 1; value = None } ∷ [])) (Then (Print 6 (Show value_form.Number (Call 2 (MoreExprs (Variable 0) NoExprs)) ∷ (Show value_form.Number (Get 0) ∷ []))) (Then (Declare 7 (record { cell = 1; cells = 1; value = None } ∷ [])) (Then (Evaluate 7 (OfObject (CallOn 3 (Variable 1) (MoreExprs (Operate Sub (Get 0) (Literal (pos 1))) NoExprs)))) (Scoped (Destroys (OfObject (CallUnwritten 5 (Variable 1)))) Nil)))) } ∷ (record { line = 0; cells = 0; params = 0; purpose = Builder; written = false; body = Nil } ∷ [])))));
   main = 4;
   classes = record { cells = 0 } ∷ (record { cells = 1 } ∷ (record { cells = 1 } ∷ []));
   sites = [];

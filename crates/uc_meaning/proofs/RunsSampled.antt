@@ -5,7 +5,7 @@ use Rattle.std.specs.List.{Contains}
 use Rattle.std.proofs.lemmas.Bool.{leb-true}
 use Rattle.uc_tree.specs.declared.kinds.ValueForm.TheVariants as value_form
 use Rattle.uc_resolve.specs.Resolve.{source_of}
-use Rattle.uc_tree.specs.Source.{Source, TaskMain, Function, TestFirst, Less, Plus, Over, Literal, Get, Set, First, Operate, Call, NoExprs, MoreExprs, Show, Block, Declare, Print, Loop, Return, Nil, Then}
+use Rattle.uc_tree.specs.Source.{Source, TaskMain, Function, TestFirst, Less, Add, Div, Literal, Get, Set, First, Operate, Call, NoExprs, MoreExprs, Show, Block, Declare, Print, Loop, Return, Nil, Then}
 use Rattle.uc_entry.specs.declared.entry.Entry.{Entry}
 use Rattle.uc_entry.specs.declared.entry.EntryKind.TheVariants as kind
 use Rattle.uc_entry.specs.declared.entry.Options.{Options}
@@ -127,7 +127,7 @@ loop_source = record {
     params = 0;
     purpose = TaskMain;
     written = true;
-    body = Then (Block 1 (Then (Declare 1 (record { cell = 0; cells = 1; value = Some (Literal (pos 0)) } ∷ [])) (Then (Loop 1 TestFirst (Operate Less (Get 0) (Literal (pos 3))) (Some (First (Get 0) (Set 0 (Operate Plus (Get 0) (Literal (pos 1)))))) (Print 1 (Show value_form.Number (Get 0) ∷ []))) Nil))) Nil;
+    body = Then (Block 1 (Then (Declare 1 (record { cell = 0; cells = 1; value = Some (Literal (pos 0)) } ∷ [])) (Then (Loop 1 TestFirst (Operate Less (Get 0) (Literal (pos 3))) (Some (First (Get 0) (Set 0 (Operate Add (Get 0) (Literal (pos 1)))))) (Print 1 (Show value_form.Number (Get 0) ∷ []))) Nil))) Nil;
   } ∷ [];
   main = 0;
   classes = record { cells = 0 } ∷ [];
@@ -156,7 +156,7 @@ loop_run = record { run = subst (λ s. IsRun s [] two_ticks loop_journal) (sym l
 
 abbrev call_source : Source
 call_source = record {
-  routines = record { line = 1; cells = 1; params = 1; purpose = Function; written = true; body = Then (Return 2 (Some (Operate Over (Literal (pos 10)) (Get 0)))) Nil } ∷ (record { line = 4; cells = 0; params = 0; purpose = TaskMain; written = true; body = Then (Print 5 (Show value_form.Number (Call 0 (MoreExprs (Literal (pos 5)) NoExprs)) ∷ [])) (Then (Print 6 (Show value_form.Number (Call 0 (MoreExprs (Literal (pos 0)) NoExprs)) ∷ [])) Nil) } ∷ []);
+  routines = record { line = 1; cells = 1; params = 1; purpose = Function; written = true; body = Then (Return 2 (Some (Operate Div (Literal (pos 10)) (Get 0)))) Nil } ∷ (record { line = 4; cells = 0; params = 0; purpose = TaskMain; written = true; body = Then (Print 5 (Show value_form.Number (Call 0 (MoreExprs (Literal (pos 5)) NoExprs)) ∷ [])) (Then (Print 6 (Show value_form.Number (Call 0 (MoreExprs (Literal (pos 0)) NoExprs)) ∷ [])) Nil) } ∷ []);
   main = 1;
   classes = record { cells = 0 } ∷ [];
   sites = [];

@@ -9,7 +9,7 @@ ghost use Rattle.uc_rules.specs.Visits.{AtBound, AtField, AtParam};
 ghost use Rattle.uc_tree.specs.declared.kinds.Access.{Access};
 ghost use Rattle.uc_rules.specs.Sorts.{sort_of};
 ghost use Rattle.uc_tree.specs.Numbering.{is_mutex};
-ghost use Rattle.uc_types.specs.FirstBreak.{told};
+ghost use Rattle.uc_types.specs.FirstBreak.{first_break_after};
 ghost use Rattle.uc_rules.specs.declared.rules.FieldPlace.{FieldPlace};
 ghost use Rattle.uc_rules.specs.declared.rules.OwnClass as rules;
 ghost use Rattle.uc_tree.specs.declared.kinds.Base as base;
@@ -253,7 +253,7 @@ fn begins_well(names: &Names, e: &Expr) -> bool
 
 /// What these rules ask of the argument of an initialiser.
 pub fn note_bound(names: &Names, e: &Expr, expected: Expected, found: &mut Found)
-    ensures { found.new ≡ told found.old (AtBound names.now e.now expected) }
+    ensures { found.new ≡ first_break_after found.old (AtBound names.now e.now expected) }
 {
     let holds = !is_reference(expected) || begins_well(names, e);
     found.note_unless(holds, Rule::O6, e.first_token());

@@ -25,7 +25,7 @@ use Rattle.uc_tree.specs.Programs as whole
 use Rattle.uc_tree.specs.Cells.{leading_cells, seen_in}
 use Rattle.uc_tree.specs.Numbering.{is_event, is_plain, member_number, condition_number, Defined, routines_of}
 use Rattle.uc_tree.specs.Objects.{has_execution, is_coroutine, class_at, number_at, making, is_numbered, class_made, ClassField, fields_of, shape_of, class_shape, base_shape, member_from, event_place}
-use Rattle.uc_tree.specs.Source.{Shape, Character, Truth, Operator, Plus, Minus, Times, Over, Modulo, Equal, NotEqual, Less, AtMost, Greater, AtLeast, Expr, Literal, Variable, Element, Get, Load, Negated, Not, AsCharacter, AsTruth, Operate, And, Or, Set, Assign, First, Update, StepBehind, Fail, Call, OfObject, This, OwnField, GetOwn, FieldOf, CallOn, CallLive, EnterOn, ConditionAt, Wait, Signal, SignalBlock, IsEmpty, FrontOf, Exprs, NoExprs, MoreExprs}
+use Rattle.uc_tree.specs.Source.{Shape, Character, Truth, Operator, Add, Sub, Mul, Div, Rem, Equal, NotEqual, Less, LessEqual, Greater, GreaterEqual, Expr, Literal, Variable, Element, Get, Load, Negated, Not, AsCharacter, AsTruth, Operate, And, Or, Set, Assign, First, Update, StepBehind, Fail, Call, OfObject, This, OwnField, GetOwn, FieldOf, CallOn, CallLive, EnterOn, ConditionAt, Wait, Signal, SignalBlock, IsEmpty, FrontOf, Exprs, NoExprs, MoreExprs}
 
 -- types
 
@@ -299,14 +299,14 @@ binary_meant binary.And l r = value_meant (And (value_of l) (value_of r)) bool_t
 binary_meant binary.Equal l r = combined Equal l r bool_type
 binary_meant binary.NotEqual l r = combined NotEqual l r bool_type
 binary_meant binary.Less l r = combined Less l r bool_type
-binary_meant binary.LessEqual l r = combined AtMost l r bool_type
+binary_meant binary.LessEqual l r = combined LessEqual l r bool_type
 binary_meant binary.Greater l r = combined Greater l r bool_type
-binary_meant binary.GreaterEqual l r = combined AtLeast l r bool_type
-binary_meant binary.Add l r = combined Plus l r int_type
-binary_meant binary.Sub l r = combined Minus l r int_type
-binary_meant binary.Mul l r = combined Times l r int_type
-binary_meant binary.Div l r = combined Over l r int_type
-binary_meant binary.Rem l r = combined Modulo l r int_type
+binary_meant binary.GreaterEqual l r = combined GreaterEqual l r bool_type
+binary_meant binary.Add l r = combined Add l r int_type
+binary_meant binary.Sub l r = combined Sub l r int_type
+binary_meant binary.Mul l r = combined Mul l r int_type
+binary_meant binary.Div l r = combined Div l r int_type
+binary_meant binary.Rem l r = combined Rem l r int_type
 
 -- the variable that an expression is, if it is one
 abbrev pub variable_in : Standing → Option ℕ
@@ -330,16 +330,16 @@ abbrev pub unary_meant : UnaryOp → Meant → Meant
 unary_meant unary.Minus m = value_meant (Negated (value_of m)) int_type
 unary_meant unary.Plus m = value_meant (value_of m) int_type
 unary_meant unary.Not m = value_meant (Not (value_of m)) bool_type
-unary_meant unary.Increment m = updated Plus m (Literal (pos 1))
-unary_meant unary.Decrement m = updated Minus m (Literal (pos 1))
+unary_meant unary.Increment m = updated Add m (Literal (pos 1))
+unary_meant unary.Decrement m = updated Sub m (Literal (pos 1))
 
 abbrev pub assign_meant : AssignOp → Meant → Meant → Meant
 assign_meant assign.Set m v = value_meant (written_by (variable_in m.standing) m.expr (converted (shape_of m.ty.base) (value_of v))) m.ty
-assign_meant assign.Add m v = updated Plus m (value_of v)
-assign_meant assign.Sub m v = updated Minus m (value_of v)
-assign_meant assign.Mul m v = updated Times m (value_of v)
-assign_meant assign.Div m v = updated Over m (value_of v)
-assign_meant assign.Rem m v = updated Modulo m (value_of v)
+assign_meant assign.Add m v = updated Add m (value_of v)
+assign_meant assign.Sub m v = updated Sub m (value_of v)
+assign_meant assign.Mul m v = updated Mul m (value_of v)
+assign_meant assign.Div m v = updated Div m (value_of v)
+assign_meant assign.Rem m v = updated Rem m (value_of v)
 
 -- parts behind a root
 
@@ -447,8 +447,8 @@ abbrev pub stepped : Operator → Meant → Meant
 stepped op m = value_meant (stepped_by (variable_in m.standing) op (shape_of m.ty.base) m.expr) m.ty
 
 abbrev pub step_meant : StepOp → Meant → Meant
-step_meant step.Increment m = stepped Plus m
-step_meant step.Decrement m = stepped Minus m
+step_meant step.Increment m = stepped Add m
+step_meant step.Decrement m = stepped Sub m
 
 -- where an expression stands: its program, the place of its class, the number of its routine, and the names in scope, from the
 -- outermost on

@@ -176,14 +176,14 @@ binary_meant binary.And l r h k = record { expr = (value_of l h, value_of r k); 
 binary_meant binary.Equal l r h k = combined src.Equal l r tree.bool_type h k
 binary_meant binary.NotEqual l r h k = combined src.NotEqual l r tree.bool_type h k
 binary_meant binary.Less l r h k = combined src.Less l r tree.bool_type h k
-binary_meant binary.LessEqual l r h k = combined src.AtMost l r tree.bool_type h k
+binary_meant binary.LessEqual l r h k = combined src.LessEqual l r tree.bool_type h k
 binary_meant binary.Greater l r h k = combined src.Greater l r tree.bool_type h k
-binary_meant binary.GreaterEqual l r h k = combined src.AtLeast l r tree.bool_type h k
-binary_meant binary.Add l r h k = combined src.Plus l r tree.int_type h k
-binary_meant binary.Sub l r h k = combined src.Minus l r tree.int_type h k
-binary_meant binary.Mul l r h k = combined src.Times l r tree.int_type h k
-binary_meant binary.Div l r h k = combined src.Over l r tree.int_type h k
-binary_meant binary.Rem l r h k = combined src.Modulo l r tree.int_type h k
+binary_meant binary.GreaterEqual l r h k = combined src.GreaterEqual l r tree.bool_type h k
+binary_meant binary.Add l r h k = combined src.Add l r tree.int_type h k
+binary_meant binary.Sub l r h k = combined src.Sub l r tree.int_type h k
+binary_meant binary.Mul l r h k = combined src.Mul l r tree.int_type h k
+binary_meant binary.Div l r h k = combined src.Div l r tree.int_type h k
+binary_meant binary.Rem l r h k = combined src.Rem l r tree.int_type h k
 
 written_by : (v : Option ℕ) (place e : Expr) → NamedExpr place → NamedExpr e → NamedExpr (tree.written_by v place e)
 written_by None place e h k = (h, k)
@@ -200,16 +200,16 @@ unary_meant : (op : UnaryOp) (m : Meant) → NamedMeant m → NamedMeant (tree.u
 unary_meant unary.Minus m h = record { expr = value_of m h; standing = tt }
 unary_meant unary.Plus m h = record { expr = value_of m h; standing = tt }
 unary_meant unary.Not m h = record { expr = value_of m h; standing = tt }
-unary_meant unary.Increment m h = updated src.Plus m (src.Literal (pos 1)) h tt
-unary_meant unary.Decrement m h = updated src.Minus m (src.Literal (pos 1)) h tt
+unary_meant unary.Increment m h = updated src.Add m (src.Literal (pos 1)) h tt
+unary_meant unary.Decrement m h = updated src.Sub m (src.Literal (pos 1)) h tt
 
 assign_meant : (op : AssignOp) (m v : Meant) → NamedMeant m → NamedMeant v → NamedMeant (tree.assign_meant op m v)
 assign_meant assign.Set m v h k = record { expr = written_by (tree.variable_in m.standing) m.expr (tree.converted (shape_of m.ty.base) (tree.value_of v)) h.expr (converted (shape_of m.ty.base) (tree.value_of v) (value_of v k)); standing = tt }
-assign_meant assign.Add m v h k = updated src.Plus m (tree.value_of v) h (value_of v k)
-assign_meant assign.Sub m v h k = updated src.Minus m (tree.value_of v) h (value_of v k)
-assign_meant assign.Mul m v h k = updated src.Times m (tree.value_of v) h (value_of v k)
-assign_meant assign.Div m v h k = updated src.Over m (tree.value_of v) h (value_of v k)
-assign_meant assign.Rem m v h k = updated src.Modulo m (tree.value_of v) h (value_of v k)
+assign_meant assign.Add m v h k = updated src.Add m (tree.value_of v) h (value_of v k)
+assign_meant assign.Sub m v h k = updated src.Sub m (tree.value_of v) h (value_of v k)
+assign_meant assign.Mul m v h k = updated src.Mul m (tree.value_of v) h (value_of v k)
+assign_meant assign.Div m v h k = updated src.Div m (tree.value_of v) h (value_of v k)
+assign_meant assign.Rem m v h k = updated src.Rem m (tree.value_of v) h (value_of v k)
 
 -- parts behind a root
 
@@ -279,8 +279,8 @@ stepped_by None op s place h = h
 stepped_by (Some v) op s place h = (tt, converted s (src.Operate op (src.Get v) (src.Literal (pos 1))) (tt, tt))
 
 step_meant : (op : StepOp) (m : Meant) → NamedMeant m → NamedMeant (tree.step_meant op m)
-step_meant step.Increment m h = record { expr = stepped_by (tree.variable_in m.standing) src.Plus (shape_of m.ty.base) m.expr h.expr; standing = tt }
-step_meant step.Decrement m h = record { expr = stepped_by (tree.variable_in m.standing) src.Minus (shape_of m.ty.base) m.expr h.expr; standing = tt }
+step_meant step.Increment m h = record { expr = stepped_by (tree.variable_in m.standing) src.Add (shape_of m.ty.base) m.expr h.expr; standing = tt }
+step_meant step.Decrement m h = record { expr = stepped_by (tree.variable_in m.standing) src.Sub (shape_of m.ty.base) m.expr h.expr; standing = tt }
 
 module _ (c : Context) where
   mutual

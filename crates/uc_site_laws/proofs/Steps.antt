@@ -18,7 +18,7 @@ use Rattle.uc_machine.specs.declared.exec.Pending.{Pending}
 use Rattle.uc_machine.specs.declared.exec.UnwindReason.{UnwindReason}
 use Rattle.uc_machine.specs.declared.exec.UnwindReason.TheVariants as reason
 use Rattle.uc_machine.specs.declared.exec.Visited.{Visited}
-use Rattle.uc_machine.specs.Executions.{taken, others, first_or}
+use Rattle.uc_machine.specs.Executions.{take_operands, others, first_or}
 use Rattle.uc_machine.specs.Switches as sw
 use Rattle.uc_machine.specs.Switches.{Moved, To, Stops}
 use Rattle.uc_machine.specs.Insides as inside
@@ -37,7 +37,7 @@ use Rattle.uc_site_laws.proofs.Kept as kept
 
 -- masks: each guard is a bit
 
-taken_length : {X : Type 0} (d : X) (n : ℕ) (xs ys : List X) → length (taken d n xs ys) ≡ n + length ys
+taken_length : {X : Type 0} (d : X) (n : ℕ) (xs ys : List X) → length (take_operands d n xs ys) ≡ n + length ys
 taken_length d zero xs ys = omega arith
 taken_length d (suc n) xs ys = let h = taken_length d n (others xs) (first_or d xs ∷ ys) in h ∙ omega arith
 
@@ -472,7 +472,7 @@ module _ (sites : List Site) where
     -- the mask has a bit for each guard, so for each clause
     pub accept : (o site n : ℕ) (todo : List Todo) → IsSite sites site n → Named sites todo → NamedStep sites (monitors.accept_step o site n todo s)
     accept o site n todo k h =
-        let guards = taken Nothing n s.run.operands [] in
+        let guards = take_operands Nothing n s.run.operands [] in
         let small : monitors.mask_of guards < 2 ^ length guards = mask_small guards in
         let many : length guards ≡ n = taken_length Nothing n s.run.operands [] ∙ omega arith in
         accept_by (monitors.mask_of guards) o site todo _ k.known (subst (λ l. monitors.mask_of guards < 2 ^ l) (many ∙ sym k.clauses_are) small) h

@@ -37,7 +37,7 @@ pub(crate) fn accept(
     let mask = work.guards(guards);
     work.replace_many(guards, Cell::Number(0))?;
     if mask == 0 {
-        work.go(end);
+        work.set_next(end);
         return Ok(QuietResult::Quiet);
     }
     work.pop();
@@ -60,7 +60,7 @@ pub(crate) fn failed(work: &mut Work, to: u32) -> Result<QuietResult, AllocError
 {
     if number_in(work.top()) == 0 {
         work.pop();
-        work.go(to);
+        work.set_next(to);
     } else {
         work.put_failure()?;
     }
@@ -90,6 +90,6 @@ pub(crate) fn choose(work: &mut Work, clauses: u32, end: u32) -> Result<QuietRes
 {
     let at = chosen(clauses, end, work.next(), number_in(work.top()))?;
     work.pop();
-    work.go(at);
+    work.set_next(at);
     Ok(QuietResult::Quiet)
 }

@@ -68,7 +68,7 @@ pub(crate) fn land(work: &mut Work, stop: &mut Stepped) -> QuietResult
         None => QuietResult::Quiet,
         Some(_) => {
             let next = work.next();
-            work.clean(next);
+            work.begin_clean_up(next);
             *stop = Stepped::Unwind;
             QuietResult::Stops
         }

@@ -20,7 +20,7 @@ pub(crate) fn jump(work: &mut Work, to: u32) -> Result<QuietResult, AllocError>
     ensures ok { IfOk result (λ how. (stop : Stepped) → DoesAlone (Op.Jump to) work.old (ended how stop) work.new) }
     ensures err { OnErr result (work.new ≡ work.old) }
 {
-    work.go(to);
+    work.set_next(to);
     Ok(QuietResult::Quiet)
 }
 
@@ -29,7 +29,7 @@ pub(crate) fn if_zero(work: &mut Work, to: u32) -> Result<QuietResult, AllocErro
     ensures err { OnErr result (work.new ≡ work.old) }
 {
     if number_in(work.pop()) == 0 {
-        work.go(to);
+        work.set_next(to);
     }
     Ok(QuietResult::Quiet)
 }
@@ -39,7 +39,7 @@ pub(crate) fn if_nonzero(work: &mut Work, to: u32) -> Result<QuietResult, AllocE
     ensures err { OnErr result (work.new ≡ work.old) }
 {
     if number_in(work.pop()) != 0 {
-        work.go(to);
+        work.set_next(to);
     }
     Ok(QuietResult::Quiet)
 }
@@ -108,7 +108,7 @@ pub(crate) fn unwind(work: &mut Work, stop: &mut Stepped) -> QuietResult
     ensures { DoesAlone Op.Unwind work.old (ended result stop.new) work.new }
 {
     let next = work.next();
-    work.clean(next);
+    work.begin_clean_up(next);
     *stop = Stepped::Unwind;
     QuietResult::Stops
 }

@@ -98,7 +98,7 @@ pub(crate) fn leave(
     let object = this_object(work);
     if !is_last(work.depth(object)) {
         work.end_call(object);
-        work.go(to);
+        work.set_next(to);
         return QuietResult::Quiet;
     }
     if work.is_held_up(object) {
@@ -110,7 +110,7 @@ pub(crate) fn leave(
     work.end_call(object);
     work.count_no_more();
     if why.is_some() {
-        work.go(to);
+        work.set_next(to);
     }
     how
 }

@@ -2,7 +2,7 @@
 
 ghost use Rattle.std.specs.Prelude.{◌≡◌, ℤ};
 ghost use Rattle.uc_tree.specs.Constants.{int_value};
-ghost use Rattle.uc_tree.specs.Source.{Plus, Minus, Times, Over, Modulo, Equal, NotEqual, Less, AtMost, Greater, AtLeast};
+ghost use Rattle.uc_tree.specs.Source.{Add, Sub, Mul, Div, Rem, Equal, NotEqual, Less, LessEqual, Greater, GreaterEqual};
 ghost use Rattle.uc_machine.specs.Quiet.{outcome, int_outcome, truth};
 ghost use Rattle.uc_step.specs.OperatorResults.{operator_of, outcome_of};
 
@@ -36,17 +36,17 @@ pub(crate) fn one_if(holds: bool) -> i64
 // An operator of two numbers.
 #[derive(Clone, Copy)]
 pub(crate) enum Operator {
-    Plus,
-    Minus,
-    Times,
-    Over,
-    Modulo,
+    Add,
+    Sub,
+    Mul,
+    Div,
+    Rem,
     Equal,
     NotEqual,
     Less,
-    AtMost,
+    LessEqual,
     Greater,
-    AtLeast,
+    GreaterEqual,
 }
 
 impl Operator {
@@ -55,16 +55,16 @@ impl Operator {
         ensures { outcome_of result ≡ outcome (operator_of self) left right }
     {
         match self {
-            Operator::Plus => in_range(sum(left, right)),
-            Operator::Minus => in_range(difference(left, right)),
-            Operator::Times => in_range(product(left, right)),
-            Operator::Over => {
+            Operator::Add => in_range(sum(left, right)),
+            Operator::Sub => in_range(difference(left, right)),
+            Operator::Mul => in_range(product(left, right)),
+            Operator::Div => {
                 if right == 0 {
                     return Computed::Fault(RunFault::DivideByZero);
                 }
                 in_range(quotient(left, right))
             }
-            Operator::Modulo => {
+            Operator::Rem => {
                 if right == 0 {
                     return Computed::Fault(RunFault::DivideByZero);
                 }
@@ -73,9 +73,9 @@ impl Operator {
             Operator::Equal => Computed::Number(one_if(left == right)),
             Operator::NotEqual => Computed::Number(one_if(left != right)),
             Operator::Less => Computed::Number(one_if(left < right)),
-            Operator::AtMost => Computed::Number(one_if(left <= right)),
+            Operator::LessEqual => Computed::Number(one_if(left <= right)),
             Operator::Greater => Computed::Number(one_if(left > right)),
-            Operator::AtLeast => Computed::Number(one_if(left >= right)),
+            Operator::GreaterEqual => Computed::Number(one_if(left >= right)),
         }
     }
 }

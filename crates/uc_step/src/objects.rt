@@ -61,7 +61,7 @@ pub(crate) fn count(work: &mut Work, elements: u32, test: u32) -> Result<QuietRe
     ensures err { OnErr result (work.new ≡ work.old) }
 {
     work.set_elements(elements);
-    work.go(test);
+    work.set_next(test);
     Ok(QuietResult::Quiet)
 }
 
@@ -78,7 +78,7 @@ pub(crate) fn fill(work: &mut Work, length: u32, turn: u32) -> Result<QuietResul
     ensures err { OnErr result (work.new ≡ work.old) }
 {
     if work.elements() < length {
-        work.go(turn);
+        work.set_next(turn);
     }
     Ok(QuietResult::Quiet)
 }
@@ -90,7 +90,7 @@ pub(crate) fn sweep(work: &mut Work, turn: u32) -> Result<QuietResult, AllocErro
     let elements = work.elements();
     if elements > 0 {
         work.set_elements(elements - 1);
-        work.go(turn);
+        work.set_next(turn);
     }
     Ok(QuietResult::Quiet)
 }

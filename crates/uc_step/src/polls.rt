@@ -26,7 +26,7 @@ pub(crate) fn poll(
 {
     let mask = work.enabled();
     if mask == 0 {
-        work.go(to);
+        work.set_next(to);
         return Ok(QuietResult::Quiet);
     }
     if work.is_own() {
@@ -35,7 +35,7 @@ pub(crate) fn poll(
     if work.deliver()? {
         return Ok(QuietResult::Tick);
     }
-    work.go(to);
+    work.set_next(to);
     Ok(QuietResult::Quiet)
 }
 
@@ -47,7 +47,7 @@ pub(crate) fn deliver(work: &mut Work, stop: &mut Stepped, to: u32) -> QuietResu
     let event = work.pop_event();
     match number {
         Cell::Nothing => {
-            work.go(to);
+            work.set_next(to);
             QuietResult::Quiet
         }
         Cell::Number(_) | Cell::Place(_, _) | Cell::Running(_) | Cell::Object(_) => {

@@ -36,7 +36,7 @@ pub(crate) fn discard(work: &mut Work) -> Result<QuietResult, AllocError>
     Ok(QuietResult::Quiet)
 }
 
-pub(crate) fn over(work: &mut Work) -> Result<QuietResult, AllocError>
+pub(crate) fn copy_below(work: &mut Work) -> Result<QuietResult, AllocError>
     ensures ok { IfOk result (λ how. (stop : Stepped) → DoesAlone Op.CopyBelow work.old (ended how stop) work.new) }
     ensures err { OnErr result (work.new ≡ work.old) }
 {

@@ -49,17 +49,17 @@ pub data Order : Type 0 where
 
 -- an operator of two numbers
 pub data Operator : Type 0 where
-  Plus : Operator
-  Minus : Operator
-  Times : Operator
-  Over : Operator
-  Modulo : Operator
+  Add : Operator
+  Sub : Operator
+  Mul : Operator
+  Div : Operator
+  Rem : Operator
   Equal : Operator
   NotEqual : Operator
   Less : Operator
-  AtMost : Operator
+  LessEqual : Operator
   Greater : Operator
-  AtLeast : Operator
+  GreaterEqual : Operator
 
 mutual
   -- an expression. A place is a variable, by the first of its cells in the frame, an element of an array, by the length of the

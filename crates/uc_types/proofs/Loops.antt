@@ -9,7 +9,7 @@ use Rattle.uc_rules.specs.declared.rules.Target.{Target}
 use Rattle.uc_rules.specs.Scopes.{Env}
 use Rattle.uc_rules.specs.Entities.{entity_of, part_entity, parts_entity, link_entity, chain_entity, are_sound, call_follows, has_fitting, expected}
 use Rattle.uc_rules.specs.Visits.{part_visits, parts_visits, link_visits, chain_visits, arg_visits, args_visits}
-use Rattle.uc_types.specs.FirstBreak.{noted}
+use Rattle.uc_types.specs.FirstBreak.{with_visits}
 use Rattle.uc_types.proofs.Noted.{noted_append, and_again}
 
 pub split : {A : Type 0} (xs : List A) (i : ℕ) (x : A) → i < length xs → x ≡ get_or xs i x → drop i xs ≡ x ∷ drop (i + 1) xs
@@ -38,37 +38,37 @@ sound_more env es t i e sound one now r h k b d inv =
     ∙ ap (λ l. sound && are_sound env (exprs_of l) t i) (sym (split es i e h k))
     ∙ inv
 
-pub args_more : (env : Env) (es : List Expr) (t : Target) (i : ℕ) (e : Expr) (f g r : Option Break) → i < length es → e ≡ get_or es i e → g ≡ noted f (arg_visits env e (expected env.program t i)) → noted f (args_visits env (exprs_of (drop i es)) t i) ≡ r → noted g (args_visits env (exprs_of (drop (i + 1) es)) t (i + 1)) ≡ r
+pub args_more : (env : Env) (es : List Expr) (t : Target) (i : ℕ) (e : Expr) (f g r : Option Break) → i < length es → e ≡ get_or es i e → g ≡ with_visits f (arg_visits env e (expected env.program t i)) → with_visits f (args_visits env (exprs_of (drop i es)) t i) ≡ r → with_visits g (args_visits env (exprs_of (drop (i + 1) es)) t (i + 1)) ≡ r
 args_more env es t i e f g r h k b inv =
     let more = args_visits env (exprs_of (drop (i + 1) es)) t (i + 1) in
-    ap (λ x. noted x more) b
+    ap (λ x. with_visits x more) b
     ∙ sym (noted_append f (arg_visits env e (expected env.program t i)) more)
-    ∙ ap (λ l. noted f (args_visits env (exprs_of l) t i)) (sym (split es i e h k))
+    ∙ ap (λ l. with_visits f (args_visits env (exprs_of l) t i)) (sym (split es i e h k))
     ∙ inv
 
 pub chain_more : (env : Env) (ls : List Link) (i : ℕ) (l : Link) (w v r : Option Entity) → i < length ls → l ≡ get_or ls i l → v ≡ link_entity env l w → chain_entity env (links_of (drop i ls)) w ≡ r → chain_entity env (links_of (drop (i + 1) ls)) v ≡ r
 chain_more env ls i l w v r h k a inv =
     ap (λ x. chain_entity env (links_of (drop (i + 1) ls)) x) a ∙ ap (λ x. chain_entity env (links_of x) w) (sym (split ls i l h k)) ∙ inv
 
-pub chain_noted : (env : Env) (ls : List Link) (i : ℕ) (l : Link) (w v : Option Entity) (f g r : Option Break) → i < length ls → l ≡ get_or ls i l → v ≡ link_entity env l w → g ≡ noted f (link_visits env l w) → noted f (chain_visits env (links_of (drop i ls)) w) ≡ r → noted g (chain_visits env (links_of (drop (i + 1) ls)) v) ≡ r
+pub chain_noted : (env : Env) (ls : List Link) (i : ℕ) (l : Link) (w v : Option Entity) (f g r : Option Break) → i < length ls → l ≡ get_or ls i l → v ≡ link_entity env l w → g ≡ with_visits f (link_visits env l w) → with_visits f (chain_visits env (links_of (drop i ls)) w) ≡ r → with_visits g (chain_visits env (links_of (drop (i + 1) ls)) v) ≡ r
 chain_noted env ls i l w v f g r h k a b inv =
     let rest = links_of (drop (i + 1) ls) in
-    ap (λ x. noted g (chain_visits env rest x)) a
-    ∙ ap (λ x. noted x (chain_visits env rest (link_entity env l w))) b
+    ap (λ x. with_visits g (chain_visits env rest x)) a
+    ∙ ap (λ x. with_visits x (chain_visits env rest (link_entity env l w))) b
     ∙ sym (noted_append f (link_visits env l w) (chain_visits env rest (link_entity env l w)))
-    ∙ ap (λ x. noted f (chain_visits env (links_of x) w)) (sym (split ls i l h k))
+    ∙ ap (λ x. with_visits f (chain_visits env (links_of x) w)) (sym (split ls i l h k))
     ∙ inv
 
 pub parts_more : (env : Env) (ps : List Part) (i : ℕ) (p : Part) (called : Bool) (w v r : Option Entity) → i < length ps → p ≡ get_or ps i p → called ≡ call_follows (parts_of (drop (i + 1) ps)) → v ≡ part_entity env p called w → parts_entity env (parts_of (drop i ps)) w ≡ r → parts_entity env (parts_of (drop (i + 1) ps)) v ≡ r
 parts_more env ps i p called w v r h k c a inv =
     ap (λ x. parts_entity env (parts_of (drop (i + 1) ps)) x) (a ∙ ap (λ x. part_entity env p x w) c) ∙ ap (λ x. parts_entity env (parts_of x) w) (sym (split ps i p h k)) ∙ inv
 
-pub parts_noted : (env : Env) (ps : List Part) (i : ℕ) (p : Part) (called : Bool) (w v : Option Entity) (f g r : Option Break) → i < length ps → p ≡ get_or ps i p → called ≡ call_follows (parts_of (drop (i + 1) ps)) → v ≡ part_entity env p called w → g ≡ noted f (part_visits env p called w) → noted f (parts_visits env (parts_of (drop i ps)) w) ≡ r → noted g (parts_visits env (parts_of (drop (i + 1) ps)) v) ≡ r
+pub parts_noted : (env : Env) (ps : List Part) (i : ℕ) (p : Part) (called : Bool) (w v : Option Entity) (f g r : Option Break) → i < length ps → p ≡ get_or ps i p → called ≡ call_follows (parts_of (drop (i + 1) ps)) → v ≡ part_entity env p called w → g ≡ with_visits f (part_visits env p called w) → with_visits f (parts_visits env (parts_of (drop i ps)) w) ≡ r → with_visits g (parts_visits env (parts_of (drop (i + 1) ps)) v) ≡ r
 parts_noted env ps i p called w v f g r h k c a b inv =
     let rest = parts_of (drop (i + 1) ps) in
     let now = part_entity env p (call_follows rest) w in
-    ap (λ x. noted g (parts_visits env rest x)) (a ∙ ap (λ x. part_entity env p x w) c)
-    ∙ ap (λ x. noted x (parts_visits env rest now)) (b ∙ ap (λ x. noted f (part_visits env p x w)) c)
+    ap (λ x. with_visits g (parts_visits env rest x)) (a ∙ ap (λ x. part_entity env p x w) c)
+    ∙ ap (λ x. with_visits x (parts_visits env rest now)) (b ∙ ap (λ x. with_visits f (part_visits env p x w)) c)
     ∙ sym (noted_append f (part_visits env p (call_follows rest) w) (parts_visits env rest now))
-    ∙ ap (λ x. noted f (parts_visits env (parts_of x) w)) (sym (split ps i p h k))
+    ∙ ap (λ x. with_visits f (parts_visits env (parts_of x) w)) (sym (split ps i p h k))
     ∙ inv

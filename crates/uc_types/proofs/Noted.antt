@@ -8,18 +8,18 @@ use Rattle.uc_rules.specs.Visits.{Visit}
 use Rattle.uc_rules.specs.ExpressionBreaks.{undeclared, main_called, no_scalar, no_place, no_routine, no_loop, bad_clause, no_event, no_handler, no_stream}
 use Rattle.uc_rules.specs.OwnerBreaks.{unshared_reference, field_outside, called_outside, lone_condition, unbound_reference, unowned_argument, copied_object, no_target}
 use Rattle.uc_rules.specs.Breaks.{declared_twice, no_main, within_itself, badly_defined, badly_mained, bad_argument, bad_return, no_length, no_constant, bad_start, bad_init, not_open, badly_marked, bad_event, breaks_at, breaks_among}
-use Rattle.uc_types.specs.FirstBreak.{told, noted}
+use Rattle.uc_types.specs.FirstBreak.{first_break_after, with_visits}
 
 pub after_append : (f : Option Break) (a b : List Break) → after f (a ++ b) ≡ after (after f a) b
 after_append f [] b = refl
 after_append f (x ∷ a) b = after_append (sooner f x) a b
 
-pub noted_append : (f : Option Break) (a b : List Visit) → noted f (a ++ b) ≡ noted (noted f a) b
+pub noted_append : (f : Option Break) (a b : List Visit) → with_visits f (a ++ b) ≡ with_visits (with_visits f a) b
 noted_append f [] b = refl
-noted_append f (v ∷ a) b = noted_append (told f v) a b
+noted_append f (v ∷ a) b = noted_append (first_break_after f v) a b
 
 -- the breaks at one visit, rule by rule
-told_is : (f : Option Break) (v : Visit) → told f v ≡ after f (breaks_at v)
+told_is : (f : Option Break) (v : Visit) → first_break_after f v ≡ after f (breaks_at v)
 told_is f v = sym (
     after_append f (undeclared v) _
     ∙ after_append _ (declared_twice v) _
@@ -54,9 +54,9 @@ told_is f v = sym (
     ∙ after_append _ (copied_object v) _
     ∙ after_append _ (no_target v) _)
 
-pub noted_is : (f : Option Break) (vs : List Visit) → noted f vs ≡ after f (breaks_among vs)
+pub noted_is : (f : Option Break) (vs : List Visit) → with_visits f vs ≡ after f (breaks_among vs)
 noted_is f [] = refl
-noted_is f (v ∷ vs) = noted_is (told f v) vs ∙ ap (λ g. after g (breaks_among vs)) (told_is f v) ∙ sym (after_append f (breaks_at v) (breaks_among vs))
+noted_is f (v ∷ vs) = noted_is (first_break_after f v) vs ∙ ap (λ g. after g (breaks_among vs)) (told_is f v) ∙ sym (after_append f (breaks_at v) (breaks_among vs))
 
 pub count_is : (es : List Expr) → count (exprs_of es) ≡ length es
 count_is [] = refl

@@ -24,10 +24,10 @@ abbrev pub told_owners : Option Break → Visit → Option Break
 told_owners f v = after (after (after (after (after (after (after (after (after f (unshared_reference v)) (field_outside v)) (called_outside v)) (lone_condition v)) (unbound_reference v)) (unowned_argument v)) (copied_object v)) (no_target v)) (misplaced v)
 
 -- with all breaks at a visit
-abbrev pub told : Option Break → Visit → Option Break
-told f v = told_owners (told_forms (told_values (told_uses (told_names f v) v) v) v) v
+abbrev pub first_break_after : Option Break → Visit → Option Break
+first_break_after f v = told_owners (told_forms (told_values (told_uses (told_names f v) v) v) v) v
 
 -- the same of some visits
-abbrev pub noted : Option Break → List Visit → Option Break
-noted f [] = f
-noted f (v ∷ vs) = noted (told f v) vs
+abbrev pub with_visits : Option Break → List Visit → Option Break
+with_visits f [] = f
+with_visits f (v ∷ vs) = with_visits (first_break_after f v) vs

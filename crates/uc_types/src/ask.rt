@@ -8,7 +8,7 @@ ghost use Rattle.uc_rules.specs.ExpressionBreaks.{is_open_member};
 ghost use Rattle.uc_rules.specs.OwnerBreaks.{is_condition_of, is_mutex_field, is_mutex_field_of, may_be_called, may_use, may_use_field, may_use_origin, names_condition, use_breaks};
 ghost use Rattle.uc_rules.specs.Scopes.{named};
 ghost use Rattle.uc_rules.specs.Visits.{AtArgument, AtAssign, AtCall, AtChange, AtIndex, AtMember, AtOperand, AtOperands, AtUse, unary_visit};
-ghost use Rattle.uc_types.specs.FirstBreak.{told};
+ghost use Rattle.uc_types.specs.FirstBreak.{first_break_after};
 
 use crate::entity::{
     binary_gives, built_in, element, fits, is_array, is_main, is_object, is_of_conditions,
@@ -27,7 +27,7 @@ use uc_tree::pos::Pos;
 
 fn ask_operand(entity: Option<Entity>, gives: Entity, at: Pos, found: &mut Found) -> Option<Entity>
     ensures entity { result ≡ of_scalar entity gives }
-    ensures breaks { found.new ≡ told found.old (AtOperand at entity) }
+    ensures breaks { found.new ≡ first_break_after found.old (AtOperand at entity) }
 {
     let entity = entity?;
     if is_scalar(entity) {
@@ -41,7 +41,7 @@ fn ask_operand(entity: Option<Entity>, gives: Entity, at: Pos, found: &mut Found
 /// What an operator on one operand gives.
 pub fn ask_unary(op: UnaryOp, entity: Option<Entity>, at: Pos, found: &mut Found) -> Option<Entity>
     ensures entity { result ≡ unary_entity op entity }
-    ensures breaks { found.new ≡ told found.old (unary_visit at op entity) }
+    ensures breaks { found.new ≡ first_break_after found.old (unary_visit at op entity) }
 {
     match op {
         UnaryOp::Minus => ask_operand(entity, Entity::Value { sort: Sort::Int }, at, found),
@@ -61,7 +61,7 @@ pub fn ask_operands(
     found: &mut Found,
 ) -> Option<Entity>
     ensures entity { result ≡ of_both both_scalars left right (binary_gives op) }
-    ensures breaks { found.new ≡ told found.old (AtOperands sign left right) }
+    ensures breaks { found.new ≡ first_break_after found.old (AtOperands sign left right) }
 {
     let left = left?;
     let right = right?;
@@ -76,7 +76,7 @@ pub fn ask_operands(
 /// What `++` and `--` give.
 pub fn ask_change(entity: Option<Entity>, sign: Pos, found: &mut Found) -> Option<Entity>
     ensures entity { result ≡ of_place entity }
-    ensures breaks { found.new ≡ told found.old (AtChange sign entity) }
+    ensures breaks { found.new ≡ first_break_after found.old (AtChange sign entity) }
 {
     let entity = entity?;
     found.note_unless(is_scalar(entity), Rule::S8, sign);
@@ -92,7 +92,7 @@ pub fn ask_assign(
     found: &mut Found,
 ) -> Option<Entity>
     ensures entity { result ≡ of_assign place value }
-    ensures breaks { found.new ≡ told found.old (AtAssign sign place value) }
+    ensures breaks { found.new ≡ first_break_after found.old (AtAssign sign place value) }
 {
     let place = place?;
     let value = value?;
@@ -114,7 +114,7 @@ pub fn ask_index(
     found: &mut Found,
 ) -> Option<Entity>
     ensures entity { result ≡ of_index array index }
-    ensures breaks { found.new ≡ told found.old (AtIndex sign array index) }
+    ensures breaks { found.new ≡ first_break_after found.old (AtIndex sign array index) }
 {
     let array = array?;
     let index = index?;
@@ -256,7 +256,7 @@ pub fn ask_member(
     found: &mut Found,
 ) -> Option<Entity>
     ensures entity { result ≡ of_field names.now called name.now entity }
-    ensures breaks { found.new ≡ told found.old (AtMember names.now sign called name.now entity) }
+    ensures breaks { found.new ≡ first_break_after found.old (AtMember names.now sign called name.now entity) }
 {
     let entity = entity?;
     let member = path_member(names.tables(), entity, name);
@@ -299,7 +299,7 @@ pub fn ask_call(
     found: &mut Found,
 ) -> Option<Entity>
     ensures entity { result ≡ of_call names.now.program sound count entity }
-    ensures breaks { found.new ≡ told found.old (AtCall names.now sign count entity) }
+    ensures breaks { found.new ≡ first_break_after found.old (AtCall names.now sign count entity) }
 {
     let entity = entity?;
     let tables = names.tables();
@@ -325,7 +325,7 @@ pub fn is_reference(expected: Expected) -> bool
 /// Whether an argument is what is asked of it.
 pub fn ask_argument(at: Pos, expected: Expected, entity: Option<Entity>, found: &mut Found) -> bool
     ensures sound { result ≡ has_fitting expected entity }
-    ensures breaks { found.new ≡ told found.old (AtArgument at expected entity) }
+    ensures breaks { found.new ≡ first_break_after found.old (AtArgument at expected entity) }
 {
     match entity {
         Some(entity) => {
@@ -389,7 +389,7 @@ fn entity_of(meant: Option<NameMeaning>) -> Option<Entity>
 /// What a name stands for.
 pub fn ask_use(names: &Names, name: &Name, at: Pos, found: &mut Found) -> Option<Entity>
     ensures entity { result ≡ meant_entity (named names.now name.now) }
-    ensures breaks { found.new ≡ told found.old (AtUse names.now at name.now) }
+    ensures breaks { found.new ≡ first_break_after found.old (AtUse names.now at name.now) }
 {
     let meant = names.named(name);
     let inner = names.around().inner;

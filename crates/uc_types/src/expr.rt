@@ -4,7 +4,7 @@ ghost use Rattle.std.specs.Prelude.{◌≡◌, ◌&&◌, [], drop, if◌then◌e
 ghost use Rattle.uc_tree.specs.Expressions.{exprs_of, links_of, parts_of};
 ghost use Rattle.uc_rules.specs.Entities.{are_sound, call_follows, chain_entity, entity_of, expected, field_follows, has_fitting, is_call, is_cin, is_field, is_input, link_entity, part_entity, parts_entity};
 ghost use Rattle.uc_rules.specs.Visits.{arg_visits, args_visits, chain_visits, link_visits, part_visits, parts_visits, root_entity, visits};
-ghost use Rattle.uc_types.specs.FirstBreak.{noted};
+ghost use Rattle.uc_types.specs.FirstBreak.{with_visits};
 
 use crate::ask::{
     ask_argument, ask_assign, ask_call, ask_change, ask_index, ask_member, ask_operands, ask_unary,
@@ -64,7 +64,7 @@ fn is_input(root: &Expr, parts: &[Part]) -> bool
 #[tactic(auto, using(crate::proofs::Noted::noting))]
 pub fn check_expr(names: &Names, e: &Expr, found: &mut Found) -> Option<Entity>
     ensures entity { result ≡ entity_of names.now e.now }
-    ensures breaks { found.new ≡ noted found.old (visits names.now e.now) }
+    ensures breaks { found.new ≡ with_visits found.old (visits names.now e.now) }
 {
     match &e.form {
         ExprForm::Number { .. } => Some(Entity::Value { sort: Sort::Int }),
@@ -104,7 +104,7 @@ pub fn check_expr(names: &Names, e: &Expr, found: &mut Found) -> Option<Entity>
 #[tactic(auto, using(crate::proofs::Noted::noting))]
 fn check_root(names: &Names, root: &Expr, parts: &[Part], found: &mut Found) -> Option<Entity>
     ensures entity { result ≡ root_entity names.now root.now (parts_of parts.now) }
-    ensures breaks { found.new ≡ noted found.old (if is_input root.now (parts_of parts.now) then [] else visits names.now root.now) }
+    ensures breaks { found.new ≡ with_visits found.old (if is_input root.now (parts_of parts.now) then [] else visits names.now root.now) }
 {
     if is_input(root, parts) {
         Some(Entity::Input)
@@ -122,7 +122,7 @@ fn check_parts(
     found: &mut Found,
 ) -> Option<Entity>
     ensures entity { result ≡ parts_entity names.now (parts_of parts.now) root }
-    ensures breaks { found.new ≡ noted found.old (parts_visits names.now (parts_of parts.now) root) }
+    ensures breaks { found.new ≡ with_visits found.old (parts_visits names.now (parts_of parts.now) root) }
 {
     let mut entity = root;
     for (place, part) in parts.iter().enumerate() {
@@ -142,7 +142,7 @@ fn check_part(
     found: &mut Found,
 ) -> Option<Entity>
     ensures entity { result ≡ part_entity names.now part.now called root }
-    ensures breaks { found.new ≡ noted found.old (part_visits names.now part.now called root) }
+    ensures breaks { found.new ≡ with_visits found.old (part_visits names.now part.now called root) }
 {
     match &part.form {
         PartForm::Field { name } => ask_member(names, called, name, root, part.sign, found),
@@ -167,7 +167,7 @@ fn check_chain(
     found: &mut Found,
 ) -> Option<Entity>
     ensures entity { result ≡ chain_entity names.now (links_of rest.now) first }
-    ensures breaks { found.new ≡ noted found.old (chain_visits names.now (links_of rest.now) first) }
+    ensures breaks { found.new ≡ with_visits found.old (chain_visits names.now (links_of rest.now) first) }
 {
     let mut left = first;
     for link in rest {
@@ -180,7 +180,7 @@ fn check_chain(
 #[tactic(auto, using(crate::proofs::Noted::noting))]
 fn check_link(names: &Names, left: Option<Entity>, link: &Link, found: &mut Found) -> Option<Entity>
     ensures entity { result ≡ link_entity names.now link.now left }
-    ensures breaks { found.new ≡ noted found.old (link_visits names.now link.now left) }
+    ensures breaks { found.new ≡ with_visits found.old (link_visits names.now link.now left) }
 {
     let right = check_expr(names, &link.right, found);
     ask_operands(link.op, left, right, link.sign, found)
@@ -190,7 +190,7 @@ fn check_link(names: &Names, left: Option<Entity>, link: &Link, found: &mut Foun
 #[tactic(auto, using(crate::proofs::Noted::noting))]
 fn check_arg(names: &Names, arg: &Expr, target: Target, place: usize, found: &mut Found) -> bool
     ensures sound { result ≡ has_fitting (expected names.now.program target place) (entity_of names.now arg.now) }
-    ensures breaks { found.new ≡ noted found.old (arg_visits names.now arg.now (expected names.now.program target place)) }
+    ensures breaks { found.new ≡ with_visits found.old (arg_visits names.now arg.now (expected names.now.program target place)) }
 {
     let entity = check_expr(names, arg, found);
     let expected = expected_of(names.tables(), target, place);
@@ -202,7 +202,7 @@ fn check_arg(names: &Names, arg: &Expr, target: Target, place: usize, found: &mu
 #[tactic(auto, using(crate::proofs::Noted::noting))]
 pub fn check_args(names: &Names, args: &[Expr], target: Target, found: &mut Found) -> bool
     ensures sound { result ≡ are_sound names.now (exprs_of args.now) target 0 }
-    ensures breaks { found.new ≡ noted found.old (args_visits names.now (exprs_of args.now) target 0) }
+    ensures breaks { found.new ≡ with_visits found.old (args_visits names.now (exprs_of args.now) target 0) }
 {
     let mut sound = true;
     for (place, arg) in args.iter().enumerate() {

@@ -7,7 +7,7 @@ use Rattle.uc_machine.specs.declared.exec.Home.{Home}
 use Rattle.uc_machine.specs.declared.exec.Home.TheVariants as home
 use Rattle.uc_machine.specs.declared.exec.Owner.{Owner}
 use Rattle.uc_machine.specs.declared.exec.Owner.TheVariants.{Frame, Fields}
-use Rattle.uc_machine.specs.Executions.{home_eq, exec_eq, at_depth, set_depth, frame_changed, list_in, first_or, others, taken, value_changed, values_cleared, with_owned, change, change_in, set_members, members_at, frames_changed}
+use Rattle.uc_machine.specs.Executions.{home_eq, exec_eq, at_depth, set_depth, frame_changed, list_in, first_or, others, take_operands, value_changed, values_cleared, with_owned, change, change_in, set_members, members_at, frames_changed}
 use Rattle.uc_machine.specs.Pieces.{Value, Number, Place, Running, Object, Nothing, Env, Members, stored, written, nought, address}
 use Rattle.uc_typing.specs.Typing.{Ty, Num, Cell, Obj, Raw, Row, Clu, Pro, Sig, Table, IsParam}
 use Rattle.uc_typing.specs.Pieces.{onto}
@@ -40,10 +40,10 @@ drop_others zero [] = refl
 drop_others (suc n) [] = refl
 drop_others n (x ∷ xs) = refl
 
-taken_more : {X : Type 0} (d : X) (n : ℕ) (xs ys : List X) → taken d (suc n) xs ys ≡ first_or d (drop n xs) ∷ taken d n xs ys
+taken_more : {X : Type 0} (d : X) (n : ℕ) (xs ys : List X) → take_operands d (suc n) xs ys ≡ first_or d (drop n xs) ∷ take_operands d n xs ys
 taken_more d zero xs ys = refl
 taken_more d (suc n) xs ys =
-    taken_more d n (others xs) (first_or d xs ∷ ys) ∙ ap (λ zs. first_or d zs ∷ taken d (suc n) xs ys) (drop_others n xs)
+    taken_more d n (others xs) (first_or d xs ∷ ys) ∙ ap (λ zs. first_or d zs ∷ take_operands d (suc n) xs ys) (drop_others n xs)
 
 module _ (t : Table) where
   -- operands
@@ -68,7 +68,7 @@ module _ (t : Table) where
 
   -- a frame
 
-  pub bound_call : (ps more : List Ty) (vs ys : List Value) → Values t (onto ps more) vs → Bound t ps (taken Nothing (length ps) vs ys)
+  pub bound_call : (ps more : List Ty) (vs ys : List Value) → Values t (onto ps more) vs → Bound t ps (take_operands Nothing (length ps) vs ys)
   bound_call [] more vs ys h = tt
   bound_call (a ∷ rest) more vs ys h =
       let d : Values t (a ∷ more) (drop (length rest) vs) = subst (λ l. Values t l (drop (length rest) vs)) (drop_onto rest (a ∷ more)) (values_drop (length rest) (onto rest (a ∷ more)) vs h) in

@@ -3,7 +3,7 @@ use Rattle.std.proofs.Common.{◌≡◌, ℕ, zero, suc, ◌<◌, ◌≤◌, Lis
 use Rattle.std.specs.Prelude.{nat_eq, nat_lt, if◌then◌else◌, slice_get, slice_set}
 use Rattle.uc_tree.specs.Source.{Expr, OfObject, Get, NoExprs, MoreExprs, GetOwn, Clauses, NoClauses, Otherwise, MoreClauses, Item, Show, ShowText, Order, Stmt, Source, Routine}
 use Rattle.uc_machine.specs.declared.exec.Owner.TheVariants.{Frame}
-use Rattle.uc_machine.specs.Executions.{at_depth, others, values_cleared, taken}
+use Rattle.uc_machine.specs.Executions.{at_depth, others, values_cleared, take_operands}
 use Rattle.uc_machine.specs.declared.exec.Exec.{Exec}
 use Rattle.uc_machine.specs.declared.exec.Pending.{Pending}
 use Rattle.uc_entry.specs.Keyed.{find, signed_64}
@@ -369,7 +369,7 @@ module _ (t : Table) (source : Source) (sound : Sound t source) (s : State) (sig
   acts (pc.Guards (Otherwise b)) todo own l o h = run sc own todo _ o.1 h
   acts (pc.Guards (MoreClauses guard b cs)) todo own l o h = run sc own _ _ (Num, o.0.0, (o.0.1, o.1)) h
   acts (pc.AcceptNow site n) todo own l o h =
-      accepts (mask_of (taken Nothing n s.run.operands [])) site n todo o.0 o.3 (behind t source sound s sigs g sc frames frame this callers idle (nums n) o.0 n (sym (nums_length n)) (subst (λ l. Values t l s.run.operands) o.1 h))
+      accepts (mask_of (take_operands Nothing n s.run.operands [])) site n todo o.0 o.3 (behind t source sound s sigs g sc frames frame this callers idle (nums n) o.0 n (sym (nums_length n)) (subst (λ l. Values t l s.run.operands) o.1 h))
   acts pc.FailedNow todo (Num ∷ own) l o h = failed (is_zero (number (top s.run.operands))) todo own o (rest_of t Num own s.run.operands h)
   acts pc.FailedNow todo _ l o h = absurd o
   acts (pc.ChooseNow cs) todo (Num ∷ own) l o h =

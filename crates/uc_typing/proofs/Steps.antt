@@ -4,7 +4,7 @@ use Rattle.std.specs.Prelude.{nat_eq, nat_lt, if◌then◌else◌, slice_get}
 use Rattle.std.proofs.lemmas.Bool.{eq-eqb}
 use Rattle.uc_tree.specs.Source.{Shape, Way, ToBreak, ToContinue, ToReturn, ToEnd, Stmt, Stmts, Skip, Block, Whole, Evaluate, Declare, Print, PrintTogether, Read, If, Loop, Break, Continue, Return, Owes, Fill, OfEvents, OfTasks, EventStmt, Throw, Raise, Try, RaiseAt, Enable, Disable, TaskStmt, Resume, Suspend, SetUp, Enliven, TakeDown, Yield, Migrate, Accept, Nil, Then, Scoped, Built, Source, Routine, Purpose, TaskMain, CoroutineMain, Procedure, Function, Builder}
 use Rattle.uc_entry.specs.declared.request.Piece.{Piece}
-use Rattle.uc_machine.specs.Executions.{at_depth, others, taken, left_for}
+use Rattle.uc_machine.specs.Executions.{at_depth, others, take_operands, left_for}
 use Rattle.uc_machine.specs.declared.exec.Visited.{Visited}
 use Rattle.uc_tree.specs.declared.limits.TheConstants.{CALLS}
 use Rattle.uc_machine.specs.Raising as r
@@ -102,7 +102,7 @@ module _ (t : Table) (source : Source) where
         let l : nat_eq (length s.env.frames) (length sigs) ≡ true = eq-eqb (length s.env.frames) (length sigs) (framed_length t sigs s.env.frames frames) in
         record {
           sigs = t.routine n ∷ sigs;
-          frames = (subst (λ c. Bound t (t.routine n).params (taken Nothing c s.run.operands (replicate (r.cells - r.params) nought))) (sym x.params) (bound_call t (t.routine n).params more s.run.operands _ h), frames);
+          frames = (subst (λ c. Bound t (t.routine n).params (take_operands Nothing c s.run.operands (replicate (r.cells - r.params) nought))) (sym x.params) (bound_call t (t.routine n).params more s.run.operands _ h), frames);
           run = record {
             sig = t.routine n;
             own = [];

@@ -4,28 +4,28 @@ use Rattle.uc_tree.specs.StatementSizes.{stmt_size, stmts_size, maybe_stmt_size,
 use Rattle.uc_tree.specs.StatementViews.{maybe_at}
 use Rattle.uc_rules.specs.Scopes.{env_behind}
 use Rattle.uc_rules.specs.Visits.{stmts_visits, handlers_visits, clauses_visits}
-use Rattle.uc_types.specs.FirstBreak.{noted}
+use Rattle.uc_types.specs.FirstBreak.{with_visits}
 use Rattle.uc_check_stmt.proofs.stmt.+stmt.Given as goal
 
 abbrev pub invariant-check_stmts-loop-s : goal.invariant-check_stmts-loop-s
 invariant-check_stmts-loop-s l = record {
   size : stmts_size (stmts_of (drop l.s-index l.body)) ≤ stmts_size (stmts_of l.body);
   names : env_behind l.names (stmts_of (drop l.s-index l.body)) ≡ env_behind l.fn.names (stmts_of l.body);
-  breaks : noted l.found (stmts_visits (stmts_of (drop l.s-index l.body)) l.names) ≡ noted l.fn.found (stmts_visits (stmts_of l.body) l.fn.names);
+  breaks : with_visits l.found (stmts_visits (stmts_of (drop l.s-index l.body)) l.names) ≡ with_visits l.fn.found (stmts_visits (stmts_of l.body) l.fn.names);
 }
 
 abbrev pub invariant-check_handlers-loop-handler : goal.invariant-check_handlers-loop-handler
 invariant-check_handlers-loop-handler l = record {
   size : handlers_size (handlers_of (drop l.handler-index l.handlers)) ≤ handlers_size (handlers_of l.handlers);
   names : l.names ≡ l.fn.names;
-  breaks : noted l.found (handlers_visits (handlers_of (drop l.handler-index l.handlers)) l.fn.names) ≡ noted l.fn.found (handlers_visits (handlers_of l.handlers) l.fn.names);
+  breaks : with_visits l.found (handlers_visits (handlers_of (drop l.handler-index l.handlers)) l.fn.names) ≡ with_visits l.fn.found (handlers_visits (handlers_of l.handlers) l.fn.names);
 }
 
 abbrev pub invariant-check_clauses-loop-clause : goal.invariant-check_clauses-loop-clause
 invariant-check_clauses-loop-clause l = record {
   size : clauses_size (clauses_of (drop l.clause-index l.clauses)) ≤ clauses_size (clauses_of l.clauses);
   names : l.names ≡ l.fn.names;
-  breaks : noted l.found (clauses_visits (clauses_of (drop l.clause-index l.clauses)) l.fn.names) ≡ noted l.fn.found (clauses_visits (clauses_of l.clauses) l.fn.names);
+  breaks : with_visits l.found (clauses_visits (clauses_of (drop l.clause-index l.clauses)) l.fn.names) ≡ with_visits l.fn.found (clauses_visits (clauses_of l.clauses) l.fn.names);
 }
 
 abbrev pub decreases-check_stmt : goal.decreases-check_stmt

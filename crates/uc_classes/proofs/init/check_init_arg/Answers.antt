@@ -5,7 +5,7 @@ use Rattle.uc_rules.specs.ProgramVisits.{argument_env}
 use Rattle.uc_rules.specs.Scopes.{with_around}
 use Rattle.uc_rules.specs.Visits as visit
 use Rattle.uc_rules.specs.Visits.{AtArgument, AtBound}
-use Rattle.uc_types.specs.FirstBreak.{noted, told}
+use Rattle.uc_types.specs.FirstBreak.{with_visits, first_break_after}
 use Rattle.uc_check_stmt.proofs.Joined.{noted_append}
 use Rattle.uc_classes.proofs.Inside.{same_inside}
 use Rattle.uc_classes.proofs.Walked.{back_around}
@@ -26,15 +26,15 @@ returns-clause-breaks c =
     let found = c.check_expr-entity.new.found in
     let entered : c.enter_argument.new.names ≡ inside = c.enter_argument.ensures in
     let entity : c.check_expr-entity.result ≡ entity_of inside e = c.check_expr-entity.ensures.entity ∙ ap (λ n. entity_of n e) entered in
-    let walked : found ≡ noted f (visit.visits inside e) = c.check_expr-entity.ensures.breaks ∙ ap (λ n. noted f (visit.visits n e)) entered in
-    let asked : c.ask_argument-fits.new.found ≡ told (noted f (visit.visits inside e)) (AtArgument (expr_pos e) x (entity_of inside e)) =
+    let walked : found ≡ with_visits f (visit.visits inside e) = c.check_expr-entity.ensures.breaks ∙ ap (λ n. with_visits f (visit.visits n e)) entered in
+    let asked : c.ask_argument-fits.new.found ≡ first_break_after (with_visits f (visit.visits inside e)) (AtArgument (expr_pos e) x (entity_of inside e)) =
     c.ask_argument-fits.ensures.breaks
-    ∙ ap (λ p. told found (AtArgument p x c.check_expr-entity.result)) c.first_token.ensures
-    ∙ ap (λ w. told found (AtArgument (expr_pos e) x w)) entity
-    ∙ ap (λ g. told g (AtArgument (expr_pos e) x (entity_of inside e))) walked in
+    ∙ ap (λ p. first_break_after found (AtArgument p x c.check_expr-entity.result)) c.first_token.ensures
+    ∙ ap (λ w. first_break_after found (AtArgument (expr_pos e) x w)) entity
+    ∙ ap (λ g. first_break_after g (AtArgument (expr_pos e) x (entity_of inside e))) walked in
     let back : c.set_around.new.self ≡ env =
     c.set_around.ensures ∙ ap (λ n. with_around n c.around-around.result) entered ∙ ap (λ a. with_around inside a) c.around-around.ensures ∙ back_around env c.args.field e x in
     c.note_bound.ensures
-    ∙ ap (λ n. told c.ask_argument-fits.new.found (AtBound n e x)) back
-    ∙ ap (λ g. told g (AtBound env e x)) asked
+    ∙ ap (λ n. first_break_after c.ask_argument-fits.new.found (AtBound n e x)) back
+    ∙ ap (λ g. first_break_after g (AtBound env e x)) asked
     ∙ sym (noted_append f (visit.visits inside e) (AtArgument (expr_pos e) x (entity_of inside e) ∷ (AtBound env e x ∷ [])))

@@ -1,7 +1,7 @@
 use Rattle.std.proofs.Common.{◌≡◌, [], ◌∷◌, ◌++◌, refl, ap, ◌∙◌}
 use Rattle.uc_rules.specs.ProgramVisits.{field_of, init_args_visits, init_target, inits_visits, last_field}
 use Rattle.uc_rules.specs.Visits.{AtInit}
-use Rattle.uc_types.specs.FirstBreak.{noted}
+use Rattle.uc_types.specs.FirstBreak.{with_visits}
 use Rattle.uc_classes.proofs.Walked.{walked_by}
 use Rattle.uc_classes.proofs.init.check_inits.Goals as goal
 
@@ -14,5 +14,5 @@ loop-init-preserved c =
     let same : c.loop-init.names ≡ env = c.loop-init.invariant.names in
     record {
       names = c.check_init-field.ensures.names ∙ same;
-      breaks = walked_by (λ l y. init_args_visits env (field_of env y.name) y.args (init_target env y.name) 0 ++ AtInit env y l ∷ []) (λ l y. last_field l (field_of env y.name)) (λ l ys. inits_visits env l ys) (λ l y ys. refl) last _ c.args.inits.now c.loop-init.init-index x f _ _ c.loop-init-test.true c.init-item.is (c.last_field-last.ensures ∙ ap (λ t. last_field last t) (c.check_init-field.ensures.field ∙ ap (λ n. field_of n x.name) same)) (c.check_init-field.ensures.breaks ∙ ap (λ n. noted f (init_args_visits n (field_of n x.name) x.args (init_target n x.name) 0 ++ AtInit n x last ∷ [])) same) c.loop-init.invariant.breaks;
+      breaks = walked_by (λ l y. init_args_visits env (field_of env y.name) y.args (init_target env y.name) 0 ++ AtInit env y l ∷ []) (λ l y. last_field l (field_of env y.name)) (λ l ys. inits_visits env l ys) (λ l y ys. refl) last _ c.args.inits.now c.loop-init.init-index x f _ _ c.loop-init-test.true c.init-item.is (c.last_field-last.ensures ∙ ap (λ t. last_field last t) (c.check_init-field.ensures.field ∙ ap (λ n. field_of n x.name) same)) (c.check_init-field.ensures.breaks ∙ ap (λ n. with_visits f (init_args_visits n (field_of n x.name) x.args (init_target n x.name) 0 ++ AtInit n x last ∷ [])) same) c.loop-init.invariant.breaks;
     }

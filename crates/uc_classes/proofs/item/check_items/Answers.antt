@@ -1,7 +1,7 @@
 use Rattle.std.proofs.Common.{ℕ, ◌+◌, ◌∷◌, drop, refl, ap, subst, sym, arith}
 use Rattle.uc_rules.specs.ProgramVisits.{classes_in, item_visits, items_visits}
 use Rattle.uc_rules.specs.Visits.{AtItem}
-use Rattle.uc_types.specs.FirstBreak.{noted}
+use Rattle.uc_types.specs.FirstBreak.{with_visits}
 use Rattle.uc_check_stmt.proofs.Walks.{split}
 use Rattle.uc_classes.specs.Counted.{StandBefore, events_in}
 use Rattle.uc_classes.proofs.Counts.{stand_first, item_more, item_at}
@@ -16,7 +16,7 @@ loop-place-init c =
       few_classes = omega arith;
       few_events = omega arith;
       stand = subst (λ l. StandBefore p.items l 0 0) (sym same) (stand_first p.items);
-      breaks = ap (λ l. noted c.args.found.now (items_visits p 0 0 l)) same;
+      breaks = ap (λ l. with_visits c.args.found.now (items_visits p 0 0 l)) same;
     }
 
 pub check_placed-requires-clause-at : goal.check_placed-requires-clause-at

@@ -3,28 +3,28 @@ use Rattle.uc_tree.specs.Expressions.{exprs_of, parts_of, links_of}
 use Rattle.uc_tree.specs.ExpressionSizes.{expr_size, exprs_size, part_size, parts_size, link_size, links_size}
 use Rattle.uc_rules.specs.Entities.{parts_entity, chain_entity, are_sound}
 use Rattle.uc_rules.specs.Visits.{parts_visits, chain_visits, args_visits}
-use Rattle.uc_types.specs.FirstBreak.{noted}
+use Rattle.uc_types.specs.FirstBreak.{with_visits}
 use Rattle.uc_types.proofs.expr.+expr.Given as goal
 
 abbrev pub invariant-check_args-loop-place : goal.invariant-check_args-loop-place
 invariant-check_args-loop-place l = record {
   size : exprs_size (exprs_of (drop l.place l.args)) ≤ exprs_size (exprs_of l.args);
   sound : l.sound && are_sound l.names (exprs_of (drop l.place l.args)) l.target l.place ≡ are_sound l.names (exprs_of l.args) l.target 0;
-  breaks : noted l.found (args_visits l.names (exprs_of (drop l.place l.args)) l.target l.place) ≡ noted l.fn.found (args_visits l.names (exprs_of l.args) l.target 0);
+  breaks : with_visits l.found (args_visits l.names (exprs_of (drop l.place l.args)) l.target l.place) ≡ with_visits l.fn.found (args_visits l.names (exprs_of l.args) l.target 0);
 }
 
 abbrev pub invariant-check_parts-loop-place : goal.invariant-check_parts-loop-place
 invariant-check_parts-loop-place l = record {
   size : parts_size (parts_of (drop l.place l.parts)) ≤ parts_size (parts_of l.parts);
   entity : parts_entity l.names (parts_of (drop l.place l.parts)) l.entity ≡ parts_entity l.names (parts_of l.parts) l.fn.root;
-  breaks : noted l.found (parts_visits l.names (parts_of (drop l.place l.parts)) l.entity) ≡ noted l.fn.found (parts_visits l.names (parts_of l.parts) l.fn.root);
+  breaks : with_visits l.found (parts_visits l.names (parts_of (drop l.place l.parts)) l.entity) ≡ with_visits l.fn.found (parts_visits l.names (parts_of l.parts) l.fn.root);
 }
 
 abbrev pub invariant-check_chain-loop-link : goal.invariant-check_chain-loop-link
 invariant-check_chain-loop-link l = record {
   size : links_size (links_of (drop l.link-index l.rest)) ≤ links_size (links_of l.rest);
   entity : chain_entity l.names (links_of (drop l.link-index l.rest)) l.left ≡ chain_entity l.names (links_of l.rest) l.fn.first;
-  breaks : noted l.found (chain_visits l.names (links_of (drop l.link-index l.rest)) l.left) ≡ noted l.fn.found (chain_visits l.names (links_of l.rest) l.fn.first);
+  breaks : with_visits l.found (chain_visits l.names (links_of (drop l.link-index l.rest)) l.left) ≡ with_visits l.fn.found (chain_visits l.names (links_of l.rest) l.fn.first);
 }
 
 abbrev pub decreases-check_expr : goal.decreases-check_expr

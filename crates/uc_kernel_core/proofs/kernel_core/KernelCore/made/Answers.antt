@@ -1,0 +1,64 @@
+use Rattle.std.proofs.Common.{◌∷◌, [], refl, subst}
+use Rattle.std.specs.Prelude.{pos}
+use Rattle.uc_entry.specs.declared.entry.Entry.{Entry}
+use Rattle.uc_entry.specs.declared.entry.EntryKind.TheVariants as kind
+use Rattle.uc_entry.specs.declared.request.Request.TheVariants as ask
+use Rattle.uc_acts.specs.Acts.{fault}
+use Rattle.uc_acts.specs.Journal.{asking, cost, no_cost}
+use Rattle.uc_kernel_core.specs.Mirrors.{Appended}
+use Rattle.uc_kernel_core.proofs.Asks as asks
+use Rattle.uc_kernel_core.proofs.kernel_core.KernelCore.made.Goals as goal
+
+pub put_out-requires-clause-can : goal.put_out-requires-clause-can
+put_out-requires-clause-can c =
+    let s = c.args.self.now in
+    let w = c.args.who in
+    let e = asking kind.Made w.processor w.task (cost w.ticks w.line) c.args.object (pos 0) (pos 0) in
+    rw c.asking.ensures (asks.can_first s w.processor w.task w.ticks w.line (ask.Made c.args.object) e _ c.facts.ensures.sound c.requires.may c.requires.at refl c.facts.ensures.known)
+
+pub put_out-requires-clause-within : goal.put_out-requires-clause-within
+put_out-requires-clause-within c =
+    let s = c.args.self.now in
+    let w = c.args.who in
+    let e = asking kind.Made w.processor w.task (cost w.ticks w.line) c.args.object (pos 0) (pos 0) in
+    rw c.asking.ensures (asks.leave_within s w.processor w.task w.ticks w.line c.args.object c.facts.ensures.sound c.requires.may c.requires.at e refl refl refl refl (λ xs. refl))
+
+pub admit_next-requires-clause-going : goal.admit_next-requires-clause-going
+admit_next-requires-clause-going c =
+    let s = c.args.self.now in
+    let w = c.args.who in
+    let e = asking kind.Made w.processor w.task (cost w.ticks w.line) c.args.object (pos 0) (pos 0) in
+    let a = subst (λ (x : Entry). Appended s c.put_out.new.self (x ∷ [])) c.asking.ensures c.put_out.ensures in
+    asks.leave_going s w.processor w.task w.ticks w.line c.args.object c.facts.ensures.sound c.requires.may c.requires.at e refl refl refl refl (λ xs. refl) c.put_out.new.self a
+
+pub admit_next-requires-clause-known : goal.admit_next-requires-clause-known
+admit_next-requires-clause-known c =
+    let s = c.args.self.now in
+    let w = c.args.who in
+    let e = asking kind.Made w.processor w.task (cost w.ticks w.line) c.args.object (pos 0) (pos 0) in
+    let a = subst (λ (x : Entry). Appended s c.put_out.new.self (x ∷ [])) c.asking.ensures c.put_out.ensures in
+    asks.leave_there s w.processor w.task w.ticks w.line c.args.object c.facts.ensures.sound c.requires.may c.requires.at e refl refl refl refl (λ xs. refl) c.put_out.new.self a
+
+pub admit_next-requires-clause-empty : goal.admit_next-requires-clause-empty
+admit_next-requires-clause-empty c =
+    let s = c.args.self.now in
+    let w = c.args.who in
+    let e = asking kind.Made w.processor w.task (cost w.ticks w.line) c.args.object (pos 0) (pos 0) in
+    let a = subst (λ (x : Entry). Appended s c.put_out.new.self (x ∷ [])) c.asking.ensures c.put_out.ensures in
+    asks.leave_empty s w.processor w.task w.ticks w.line c.args.object c.facts.ensures.sound c.requires.may c.requires.at e refl refl refl refl (λ xs. refl) c.put_out.new.self a
+
+pub admit_next-requires-clause-aside : goal.admit_next-requires-clause-aside
+admit_next-requires-clause-aside c =
+    let s = c.args.self.now in
+    let w = c.args.who in
+    let e = asking kind.Made w.processor w.task (cost w.ticks w.line) c.args.object (pos 0) (pos 0) in
+    let a = subst (λ (x : Entry). Appended s c.put_out.new.self (x ∷ [])) c.asking.ensures c.put_out.ensures in
+    asks.leave_aside s w.processor w.task w.ticks w.line c.args.object c.facts.ensures.sound c.requires.may c.requires.at e refl refl refl refl (λ xs. refl) c.put_out.new.self a (λ u. refl)
+
+pub returns : goal.returns
+returns c =
+    let s = c.args.self.now in
+    let w = c.args.who in
+    let e = asking kind.Made w.processor w.task (cost w.ticks w.line) c.args.object (pos 0) (pos 0) in
+    let a = subst (λ (x : Entry). Appended s c.put_out.new.self (x ∷ [])) c.asking.ensures c.put_out.ensures in
+    asks.left_rows s c.put_out.new.self c.admit_next.new.self e (fault w.processor w.task no_cost 10 w.line) w.processor (record { waits = λ xs. refl; stack = λ xs. refl }) a c.admit_next.ensures
