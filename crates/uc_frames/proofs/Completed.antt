@@ -4,10 +4,15 @@ use Rattle.std.specs.Prelude.{nat_eq, nat_lt, if◌then◌else◌}
 use Rattle.std.proofs.Math.Option.{some-injective}
 use Rattle.std.proofs.lemmas.List.{reverse-append, take_all, take_more}
 use Rattle.uc_machine.specs.declared.exec.UnwindReason.{UnwindReason}
-use Rattle.uc_machine.specs.Executions.{Links, at_depth, first_or, others, one_call_less}
+use Rattle.uc_machine.specs.Executions.{Links, at_depth, begun, first_or, others, one_call_less, one_call_more}
 use Rattle.uc_frames.specs.declared.active.Activation.{Activation as Row}
+use Rattle.uc_frames.specs.declared.call.Call.{Call}
 use Rattle.uc_frames.specs.declared.cell.Cell.{Cell}
-use Rattle.uc_frames.specs.Block.{Contents, Stack, completed, all_completed, with_return, without_call, call_left, unwound_back}
+use Rattle.uc_frames.specs.declared.cell.Cell.TheVariants.{Nothing}
+use Rattle.uc_frames.specs.declared.event.HandlerStart.{HandlerStart}
+use Rattle.uc_frames.specs.Calls.{call_frame}
+use Rattle.uc_frames.specs.Unwinding.{IsCaller, handler_of, operands_of}
+use Rattle.uc_frames.specs.Block.{Contents, Stack, completed, all_completed, with_call, with_return, without_call, call_made, handler_made, call_left, unwound_back}
 
 -- as many, and each at its depth
 
@@ -29,6 +34,29 @@ one_there (a ∷ as) os d r q = rw (completed_count as (others os)) (one_by (nat
 one_by true a as os d r q = (first_or [] os, ap (λ x. Some (completed x (first_or [] os))) (some-injective a r q))
 one_by false a as os d r q = one_there as (others os) d r q
 
+-- an execution by its parts
+abbrev pub stack_of : Row → List Row → Links → Contents → Stack
+stack_of a as k b = record { run = completed a b.operands; callers = all_completed (reverse as) b.waiting; frames = b.frames; links = k }
+
+-- one more activation, and the one that ran waits for it
+
+more : (run : Row) (cs : List Row) (os : List Cell) (ws : List (List Cell)) → all_completed (reverse (cs ++ run ∷ [])) (os ∷ ws) ≡ completed run os ∷ all_completed (reverse cs) ws
+more run cs os ws = ap (λ l. all_completed l (os ∷ ws)) (reverse-append cs (run ∷ []))
+
+pub call_is_made : (run row : Row) (cs : List Row) (k : Links) (b : Contents) (call : Call) → completed row [] ≡ begun call.routine.entry call.this (length b.frames) Nothing call.counts → stack_of row (cs ++ run ∷ []) (one_call_more call.counts k) (with_call call.taken (call_frame call.routine b.operands) b) ≡ call_made call (stack_of run cs k b)
+call_is_made run row cs k b call e =
+    ap (λ a. let s : Stack = record { run = a; callers = all_completed (reverse (cs ++ run ∷ [])) (drop call.taken b.operands ∷ b.waiting); frames = call_frame call.routine b.operands ∷ b.frames; links = one_call_more call.counts k } in s) e
+    ∙ ap (λ l. let s : Stack = record (call_made call (stack_of run cs k b)) { callers = l } in s) (more run cs (drop call.taken b.operands) b.waiting)
+
+pub handler_is_made : (run row : Row) (cs : List Row) (k : Links) (b : Contents) (h : HandlerStart) → completed row (operands_of h.event) ≡ handler_of h → stack_of row (cs ++ run ∷ []) k (record (with_call 0 [] b) { operands = operands_of h.event }) ≡ handler_made h (stack_of run cs k b)
+handler_is_made run row cs k b h e =
+    ap (λ a. let s : Stack = record { run = a; callers = all_completed (reverse (cs ++ run ∷ [])) (b.operands ∷ b.waiting); frames = [] ∷ b.frames; links = k } in s) e
+    ∙ ap (λ l. let s : Stack = record (handler_made h (stack_of run cs k b)) { callers = l } in s) (more run cs b.operands b.waiting)
+
+pub none_waits : (cs : List Row) (ws : List (List Cell)) → length cs ≡ 0 → all_completed (reverse cs) ws ≡ []
+none_waits [] ws e = refl
+none_waits (a ∷ as) ws e = absurd (omega (arith, e))
+
 -- the newest of those that wait
 
 module _ (cs : List Row) (r : Row) (l : 0 < length cs) (e : r ≡ get_or cs (length cs - 1) r) where
@@ -39,10 +67,10 @@ module _ (cs : List Row) (r : Row) (l : 0 < length cs) (e : r ≡ get_or cs (len
       let v : reverse cs ≡ r ∷ reverse (take (length cs - 1) cs) = ap reverse t ∙ reverse-append (take (length cs - 1) cs) (r ∷ []) in
       ap (λ rs. all_completed rs ws) v
 
-  -- it goes on with what it is handed
+  pub caller_is : (ws : List (List Cell)) → IsCaller r.raised (all_completed (reverse cs) ws)
+  caller_is ws = rw (last_waits ws) refl
 
-  abbrev stack_of : Row → List Row → Links → Contents → Stack
-  stack_of a as k b = record { run = completed a b.operands; callers = all_completed (reverse as) b.waiting; frames = b.frames; links = k }
+  -- it goes on with what it is handed
 
   abbrev of_contents : List Cell → List (List Cell) → List (List Cell) → Contents
   of_contents os ws fs = record { operands = os; waiting = ws; frames = fs }

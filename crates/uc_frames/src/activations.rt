@@ -88,7 +88,7 @@ impl Work {
     pub fn level(&self) -> u32
         ensures { result ≡ length self.now.callers }
     {
-        self.task.parts.running.callers.len() as u32
+        self.task.parts.running.level()
     }
 
     /// The activation that has so many below it, but for its operands.
@@ -138,10 +138,7 @@ impl Work {
     pub fn caller(&self) -> Option<Option<UnwindReason>>
         ensures { MatchOption result (self.now.callers ≡ []) (λ why. IsCaller why self.now.callers) }
     {
-        match self.task.parts.running.callers.last() {
-            None => None,
-            Some(caller) => Some(caller.raised),
-        }
+        self.task.parts.running.caller()
     }
 
     /// The running activation is unwound for this reason, from its place on; a return that arrives hands this over.

@@ -2,14 +2,14 @@
 
 ghost use Rattle.std.specs.Prelude.{◌≡◌, ◌∷◌, ◌++◌, ◌+◌, ◌-◌, ◌≤◌, [], length, drop, replicate, reverse, slice_index_or, slice_set, max, vec_capacity, IfOk, OnOk, OnErr};
 ghost use Rattle.uc_machine.specs.Executions.{at_depth, frame_changed, list_in, values_cleared};
-ghost use Rattle.uc_frames.specs.Block.{with_call, with_return, without_call};
+ghost use Rattle.uc_frames.specs.Block.{frame_of, with_call, with_frame, with_return, without_call};
 ghost use Rattle.uc_frames.specs.Calls.{call_frame};
 ghost use Rattle.uc_frames.specs.Machine.{below, cell_written, nought, top};
 ghost use Rattle.uc_frames.specs.Unwinding.{operands_of};
 
-use crate::cell::Cell;
+use crate::cell::{Cell, written_over};
 use crate::event::Event;
-use crate::frames::{clear, get, put, zeros};
+use crate::frames::{clear, zeros};
 use std::alloc::{AllocError, Global};
 use std::marker::Model;
 use uc_code::rows::RoutineCode;
@@ -158,8 +158,8 @@ impl Block {
         ensures ok { OnOk result (self.new ≡ record self.old { operands = cell ∷ drop count self.old.operands }) }
         ensures err { OnErr result (self.new ≡ self.old) }
     {
-        self.cells.reserve(1)?;
         let left = left_of(self.cells.len(), self.newest.start, count);
+        self.cells.reserve(1)?;
         self.cells.truncate(left);
         self.cells.push_reserved(cell);
         Ok(())
@@ -222,7 +222,7 @@ impl Block {
     {
         match extent_at(self.newest, &self.older, depth) {
             None => Cell::Number(0),
-            Some(extent) => get(&self.cells[extent.base..extent.start], at),
+            Some(extent) => cell_in(&self.cells, extent, at),
         }
     }
 
@@ -232,7 +232,7 @@ impl Block {
         ensures { self.new ≡ record self.old { frames = frame_changed depth (cell_written at cell) self.old.frames } }
     {
         if let Some(extent) = extent_at(self.newest, &self.older, depth) {
-            put(&mut self.cells[extent.base..extent.start], at, cell);
+            put_in(&mut self.cells, extent, at, cell);
         }
     }
 
@@ -241,7 +241,7 @@ impl Block {
         ensures { self.new ≡ record self.old { frames = frame_changed depth (values_cleared from count nought) self.old.frames } }
     {
         if let Some(extent) = extent_at(self.newest, &self.older, depth) {
-            clear(&mut self.cells[extent.base..extent.start], from, count);
+            clear_in(&mut self.cells, extent, from, count);
         }
     }
 
@@ -342,17 +342,55 @@ fn left_of(length: usize, start: usize, count: u32) -> usize
 
 // The extent of an activation.
 #[inline(always)]
-fn extent_at(newest: Extent, older: &[Extent], depth: u32) -> Option<Extent>
-    ensures { result ≡ at_depth (newest ∷ reverse older.now) depth }
+fn extent_at(newest: Extent, older: &Vec<Extent>, depth: u32) -> Option<Extent>
+    ensures { result ≡ at_depth (newest ∷ reverse older.now.items) depth }
 {
     let depth = depth as usize;
-    if depth == older.len() {
+    let waiting = older.len();
+    if depth == waiting {
         return Some(newest);
     }
-    if depth < older.len() {
+    if depth < waiting {
         return Some(older[depth]);
     }
     None
+}
+
+// The cell at a place of the frame of an activation, 0 where there is none.
+#[inline(always)]
+fn cell_in(cells: &Vec<Cell>, extent: Extent, at: u64) -> Cell
+    requires { (extent.base ≤ extent.start) × (extent.start ≤ length cells.now.items) }
+    ensures { result ≡ slice_index_or (frame_of extent cells.now.items) at nought }
+{
+    let at = at as usize;
+    if at < extent.start - extent.base {
+        cells[extent.base + at]
+    } else {
+        Cell::Number(0)
+    }
+}
+
+// A cell is written at a place of the frame of an activation, if there is one; a binding stays.
+#[inline(always)]
+fn put_in(cells: &mut Vec<Cell>, extent: Extent, at: u64, cell: Cell)
+    requires { (extent.base ≤ extent.start) × (extent.start ≤ length cells.old.items) }
+    ensures items { cells.new.items ≡ with_frame extent (cell_written at cell (frame_of extent cells.old.items)) cells.old.items }
+    ensures len { length cells.new.items ≡ length cells.old.items }
+{
+    let at = at as usize;
+    if at < extent.start - extent.base {
+        let at = extent.base + at;
+        cells[at] = written_over(cells[at], cell);
+    }
+}
+
+// The cells of the frame of an activation from a place on, so many of them as far as there are any, are 0.
+fn clear_in(cells: &mut Vec<Cell>, extent: Extent, from: u32, count: u32)
+    requires { (extent.base ≤ extent.start) × (extent.start ≤ length cells.old.items) }
+    ensures items { cells.new.items ≡ with_frame extent (values_cleared from count nought (frame_of extent cells.old.items)) cells.old.items }
+    ensures len { length cells.new.items ≡ length cells.old.items }
+{
+    clear(&mut cells[extent.base..extent.start], from, count);
 }
 
 // An event behind these cells, where there is room for it.

@@ -5,6 +5,7 @@ ghost use Rattle.uc_machine.specs.Executions.{at_depth};
 ghost use Rattle.uc_frames.specs.declared.cell.Cell.{Cell};
 ghost use Rattle.uc_frames.specs.Block.{completed, call_made, call_left, handler_made, unwound_back};
 ghost use Rattle.uc_frames.specs.Machine.{first_execution};
+ghost use Rattle.uc_frames.specs.Unwinding.{IsCaller};
 ghost use Rattle.uc_tree.specs.declared.limits.TheConstants.{CALLS};
 
 use crate::active::Activation;
@@ -73,6 +74,25 @@ impl Stack {
             return Some(&self.run);
         }
         None
+    }
+
+    // Whether an activation waits, and why it is unwound, if it is.
+    pub(crate) fn caller(&self) -> Option<Option<UnwindReason>>
+        ensures { MatchOption result (self.now.callers ≡ []) (λ why. IsCaller why self.now.callers) }
+    {
+        let waiting = self.callers.len();
+        if waiting == 0 {
+            return None;
+        }
+        Some(self.callers[waiting - 1].raised)
+    }
+
+    // How many activations wait.
+    #[inline(always)]
+    pub(crate) fn level(&self) -> u32
+        ensures { result ≡ length self.now.callers }
+    {
+        self.callers.len() as u32
     }
 
     // Makes a call. Executions of `u32::MAX` frames, or activations that wait, make no more.
