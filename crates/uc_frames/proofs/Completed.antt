@@ -16,27 +16,29 @@ use Rattle.uc_frames.specs.Block.{Contents, Stack, completed, all_completed, wit
 
 -- as many, and each at its depth
 
-pub completed_count : (as : List Row) (os : List (List Cell)) → length (all_completed as os) ≡ length as
+pub completed_count : (rs : List Row) (os : List (List Cell)) → length (all_completed rs os) ≡ length rs
 completed_count [] os = refl
-completed_count (a ∷ as) os = ap suc (completed_count as (others os))
+completed_count (a ∷ rs) os = ap suc (completed_count rs (others os))
 
-pub none_there : (as : List Row) (os : List (List Cell)) (d : ℕ) → at_depth as d ≡ None → at_depth (all_completed as os) d ≡ None
-none_by : (b : Bool) (a : Row) (as : List Row) (os : List (List Cell)) (d : ℕ) → (if b then Some a else at_depth as d) ≡ None → (if b then Some (completed a (first_or [] os)) else at_depth (all_completed as (others os)) d) ≡ None
+none_by : (b : Bool) (a : Row) (rs : List Row) (os : List (List Cell)) (d : ℕ) → (at_depth rs d ≡ None → at_depth (all_completed rs (others os)) d ≡ None) → (if b then Some a else at_depth rs d) ≡ None → (if b then Some (completed a (first_or [] os)) else at_depth (all_completed rs (others os)) d) ≡ None
+none_by true a rs os d h q = absurd q
+none_by false a rs os d h q = h q
+
+pub none_there : (rs : List Row) (os : List (List Cell)) (d : ℕ) → at_depth rs d ≡ None → at_depth (all_completed rs os) d ≡ None
 none_there [] os d q = refl
-none_there (a ∷ as) os d q = rw (completed_count as (others os)) (none_by (nat_eq d (length as)) a as os d q)
-none_by true a as os d q = absurd q
-none_by false a as os d q = none_there as (others os) d q
+none_there (a ∷ rs) os d q = rw (completed_count rs (others os)) (none_by (nat_eq d (length rs)) a rs os d (λ p. none_there rs (others os) d p) q)
 
-pub one_there : (as : List Row) (os : List (List Cell)) (d : ℕ) (r : Row) → at_depth as d ≡ Some r → (ws : List Cell) × (at_depth (all_completed as os) d ≡ Some (completed r ws))
-one_by : (b : Bool) (a : Row) (as : List Row) (os : List (List Cell)) (d : ℕ) (r : Row) → (if b then Some a else at_depth as d) ≡ Some r → (ws : List Cell) × ((if b then Some (completed a (first_or [] os)) else at_depth (all_completed as (others os)) d) ≡ Some (completed r ws))
+one_by : (b : Bool) (a : Row) (rs : List Row) (os : List (List Cell)) (d : ℕ) (r : Row) → (at_depth rs d ≡ Some r → (ws : List Cell) × (at_depth (all_completed rs (others os)) d ≡ Some (completed r ws))) → (if b then Some a else at_depth rs d) ≡ Some r → (ws : List Cell) × ((if b then Some (completed a (first_or [] os)) else at_depth (all_completed rs (others os)) d) ≡ Some (completed r ws))
+one_by true a rs os d r h q = (first_or [] os, ap (λ x. Some (completed x (first_or [] os))) (some-injective a r q))
+one_by false a rs os d r h q = h q
+
+pub one_there : (rs : List Row) (os : List (List Cell)) (d : ℕ) (r : Row) → at_depth rs d ≡ Some r → (ws : List Cell) × (at_depth (all_completed rs os) d ≡ Some (completed r ws))
 one_there [] os d r q = absurd q
-one_there (a ∷ as) os d r q = rw (completed_count as (others os)) (one_by (nat_eq d (length as)) a as os d r q)
-one_by true a as os d r q = (first_or [] os, ap (λ x. Some (completed x (first_or [] os))) (some-injective a r q))
-one_by false a as os d r q = one_there as (others os) d r q
+one_there (a ∷ rs) os d r q = rw (completed_count rs (others os)) (one_by (nat_eq d (length rs)) a rs os d r (λ p. one_there rs (others os) d r p) q)
 
 -- an execution by its parts
 abbrev pub stack_of : Row → List Row → Links → Contents → Stack
-stack_of a as k b = record { run = completed a b.operands; callers = all_completed (reverse as) b.waiting; frames = b.frames; links = k }
+stack_of a rs k b = record { run = completed a b.operands; callers = all_completed (reverse rs) b.waiting; frames = b.frames; links = k }
 
 -- one more activation, and the one that ran waits for it
 
@@ -55,7 +57,7 @@ handler_is_made run row cs k b h e =
 
 pub none_waits : (cs : List Row) (ws : List (List Cell)) → length cs ≡ 0 → all_completed (reverse cs) ws ≡ []
 none_waits [] ws e = refl
-none_waits (a ∷ as) ws e = absurd (omega (arith, e))
+none_waits (a ∷ rs) ws e = absurd (omega (arith, e))
 
 -- the newest of those that wait
 
