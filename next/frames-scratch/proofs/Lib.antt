@@ -1,0 +1,4 @@
+pub mod Zeros
+pub mod Newest
+pub mod Depths
+pub mod Extents
