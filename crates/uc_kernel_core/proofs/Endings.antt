@@ -14,7 +14,7 @@ use Rattle.uc_entry.specs.declared.request.Piece.{Piece}
 use Rattle.uc_entry.specs.declared.request.Request.{Request}
 use Rattle.uc_entry.specs.declared.request.Request.TheVariants as ask
 use Rattle.uc_acts.specs.Journal.{Journal, entry, inside, own_object, first_or_0, is_over, is_ending, is_fault, Cost, cost, no_cost}
-use Rattle.uc_acts.specs.Queues.{next, cluster_count, processor_count, is_in_use, first_ended, none_running, none_ready, none_served, all_ticks}
+use Rattle.uc_acts.specs.Queues.{next, running, cluster_count, processor_count, is_in_use, first_ended, none_running, none_ready, none_served, all_ticks}
 use Rattle.uc_acts.specs.Known.{object_count, task_count, owner}
 use Rattle.uc_acts.specs.Pending.{pending, oldest_in}
 use Rattle.uc_acts.specs.Doors.{site_at, open_at, offered, next_met, blocked, destroys_busy}
@@ -24,10 +24,15 @@ use Rattle.uc_acts.specs.KernelRuns.{Fits, MayAsk}
 use Rattle.uc_acts.proofs.Bounds.{over_push}
 use Rattle.uc_cluster.specs.declared.clusters.Stalled.{Stalled}
 use Rattle.uc_cluster.specs.declared.clusters.Stalled.TheVariants as stalled
-use Rattle.uc_cluster.specs.Standing.{stalled_by}
-use Rattle.uc_kernel_core.specs.Mirrors.{Seen, Appended, MayAct, rows}
+use Rattle.uc_cluster.specs.Standing.{Standing, stalled_by}
+use Rattle.uc_condition.specs.Waiting.{Waiting}
+use Rattle.uc_events.specs.Pending.{Event}
+use Rattle.uc_kernel_journal.specs.JournalSums.{Told}
+use Rattle.uc_mutex.specs.Doors.{Doors}
+use Rattle.uc_kernel_core.specs.Mirrors.{Seen, Appended, IsBook, MayAct, rows, seen}
 use Rattle.uc_kernel_core.specs.CoreActs.{IsReady, Replaced, acts}
 use Rattle.uc_kernel_core.proofs.Asks.{appended_none}
+use Rattle.uc_kernel_core.proofs.Steps.{run_known}
 
 -- ---- of the entries of a request a fault alone ends the run
 abbrev IsPlain : Entry → Type 0
@@ -346,7 +351,11 @@ pub close_some : (s s1 : Seen) (p t : ℕ) (k : EntryKind) (e : Entry) → is_ov
 close_some s s1 p t k e h g is a = subst (λ b. Appended s s1 (cond b [] (closing p t (verdict s.opts s.journal)))) (sym h) (subst (λ v. Appended s s1 (closing p t v)) g (subst (λ x. Appended s s1 (x ∷ [])) is a))
 
 -- ---- what a task may ask
-pub may_act : (s : Seen) (p t k : ℕ) (r : Request) → IsReady s → MayAsk s.opts s.sites s.journal p t k r → MayAct s p t
-may_act s p t k r ready asks =
-    let room = ready.room in
-    record { going = ready.going; runs = asks.runs; room = omega arith }
+pub may_act : (told : Told) (doors : Doors) (waits : Waiting) (events : List (List Event)) (standing : Standing) (marks ins : List Bool) (owners : List (Option ℕ)) (own : List ℕ) (opts : Options) (input : List ℕ) (s : Seen) (p t k : ℕ) (r : Request) → IsBook told doors waits events standing marks ins owners own opts → seen told opts input ≡ s → IsReady s → MayAsk s.opts s.sites s.journal p t k r → MayAct s p t
+may_act told doors waits events standing marks ins owners own opts input s p t k r book is ready asks =
+    let going = subst (λ (v : Seen). is_over v.journal ≡ false) (sym is) ready.going in
+    let runs = subst (λ (v : Seen). running p v.journal ≡ t ∷ []) (sym is) asks.runs in
+    let room = subst (λ (v : Seen). length v.journal < v.opts.entries) (sym is) ready.room in
+    let m = book.mirrors going in
+    let known = run_known opts told.sites told.journal doors waits events standing marks ins owners own m p t runs in
+    subst (λ (v : Seen). MayAct v p t) is (record { going = going; runs = runs; room = omega arith; known = known; few = m.few; sound = m.sound; stood = m.stood })

@@ -151,11 +151,15 @@ pub record CanPut (s : Seen) (e : Entry) : Type 0 where
 abbrev pub rows : Seen → ℕ → ℕ → ℕ → ℕ → Request → List Entry
 rows s p t k line r = entries_of s.opts s.sites s.input s.journal p t k (record { request = r; line = line })
 
--- task t runs on p, and there is room for its act
+-- task t runs on p, there is room for its act, and the journal is one of a kernel
 pub record MayAct (s : Seen) (p t : ℕ) : Type 0 where
   pub going : is_over s.journal ≡ false
   pub runs : running p s.journal ≡ t ∷ []
   pub room : length s.journal ≤ s.opts.entries
+  pub known : t < TASKS
+  pub few : task_count s.journal ≤ TASKS
+  pub sound : Sound s.journal
+  pub stood : Stood s.sites s.journal
 
 -- the kinds of entries that touch no queue
 abbrev pub is_quiet : EntryKind → Bool

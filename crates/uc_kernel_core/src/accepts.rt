@@ -19,7 +19,6 @@ impl KernelCore {
         requires mask { mask < 2 ^ length (site_at self.old.sites site).clauses }
         ensures { Appended self.old self.new (rows self.old who.processor who.task who.ticks who.line (ask.Accept object site mask)) }
     {
-        self.facts(who.processor, who.task);
         let statement = &self.told.sites()[site as usize];
         let has_else = statement.has_else;
         let accepted = accept_at(&mut self.entries, object, who.task, statement, mask);

@@ -20,7 +20,6 @@ impl KernelCore {
         requires old { makes_new request.now ≡ false }
         ensures { Appended self.old self.new (acts self.old who.processor who.task who.ticks who.line request.now) }
     {
-        self.facts(who.processor, who.task);
         let before = self.told.len();
         self.request(who, request);
         self.finish(who, before);
@@ -33,7 +32,6 @@ impl KernelCore {
         ensures ok { OnOk result (Appended self.old self.new (acts self.old who.processor who.task who.ticks who.line (ask.Make class))) }
         ensures err { OnErr result (self.new ≡ self.old) }
     {
-        self.facts(who.processor, who.task);
         let before = self.told.len();
         self.make(who, class)?;
         self.finish(who, before);
@@ -47,7 +45,6 @@ impl KernelCore {
         ensures ok { OnOk result (Appended self.old self.new (acts self.old who.processor who.task who.ticks who.line (ask.Spawn object))) }
         ensures err { OnErr result (self.new ≡ self.old) }
     {
-        self.facts(who.processor, who.task);
         let before = self.told.len();
         self.add_child(who, object)?;
         self.finish(who, before);

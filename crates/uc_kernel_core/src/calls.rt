@@ -18,7 +18,6 @@ impl KernelCore {
         requires member { member ≤ MEMBERS }
         ensures { Appended self.old self.new (rows self.old who.processor who.task who.ticks who.line (ask.Call object member)) }
     {
-        self.facts(who.processor, who.task);
         let destroys = member == DESTRUCTOR;
         let called = self.entries.call(object, member, who.task);
         self.told.push(call_entry(who, object, member));

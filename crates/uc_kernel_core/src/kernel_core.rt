@@ -5,9 +5,8 @@ ghost use Rattle.uc_acts.specs.Journal;
 ghost use Rattle.uc_entry.specs.declared.entry.EntryKind.TheVariants as kind;
 ghost use Rattle.uc_acts.specs.Journal.{begin, cost, no_cost, is_over, is_ending, inside, own_object};
 ghost use Rattle.uc_acts.specs.Queues.{running};
-ghost use Rattle.uc_acts.specs.Sound.{Sound, Stood};
 ghost use Rattle.uc_acts.specs.Doors.{has_others, blocked};
-ghost use Rattle.uc_acts.specs.Known.{object_count, task_count};
+ghost use Rattle.uc_acts.specs.Known.{object_count};
 ghost use Rattle.uc_entry.specs.declared.request.Request.TheVariants as ask;
 ghost use Rattle.uc_kernel_journal.specs.EntryAnswers.{IsSayable};
 ghost use Rattle.uc_cluster.specs.Standing.{opening, made_ready};
@@ -118,18 +117,6 @@ impl KernelCore {
         self.told.into_journal()
     }
 
-    /// What is known of the journal while the run goes on.
-    pub(crate) fn facts(&self, processor: u8, task: u32)
-        requires may { MayAct self.now processor task }
-        ensures known { task < TASKS }
-        ensures sound { Sound self.now.journal }
-        ensures stood { Stood self.now.sites self.now.journal }
-        ensures few { task_count self.now.journal ≤ TASKS }
-    {
-        let _known = (processor, task);
-        let _input = self.input.len();
-    }
-
     /// An entry that touches no queue.
     pub(crate) fn put_quiet(&mut self, e: Entry)
         requires can { CanPut self.old e }
@@ -218,7 +205,6 @@ impl KernelCore {
         requires at { IsAt who.task object self.old.journal }
         ensures { Appended self.old self.new (rows self.old who.processor who.task who.ticks who.line (ask.Leave object failed)) }
     {
-        self.facts(who.processor, who.task);
         self.put_leave(who, object, failed);
         self.admit_next(who, object);
     }
@@ -229,7 +215,6 @@ impl KernelCore {
         requires at { IsAt who.task object self.old.journal }
         ensures { Appended self.old self.new (rows self.old who.processor who.task who.ticks who.line (ask.Made object)) }
     {
-        self.facts(who.processor, who.task);
         self.put_out(asking(EntryKind::Made, who, object, 0, 0));
         self.admit_next(who, object);
     }
@@ -249,6 +234,7 @@ impl KernelCore {
         self.clusters.end_task(e.task);
     }
 
+    /// The own object of a task, for which it was made. It is 0 for task 0, and for a task that is not made yet.
     pub fn own_object(&self, task: u32) -> u32
         requires going { is_over self.now.journal ≡ false }
         requires known { task < TASKS }
@@ -263,7 +249,6 @@ impl KernelCore {
         requires at { IsAt who.task (own_object who.task self.old.journal) self.old.journal }
         ensures { Appended self.old self.new (rows self.old who.processor who.task who.ticks who.line ask.End) }
     {
-        self.facts(who.processor, who.task);
         let object = self.own_object(who.task);
         self.put_end(asking(EntryKind::End, who, object, 0, 0));
         self.admit_next(who, object);
@@ -284,7 +269,6 @@ impl KernelCore {
         requires at { IsAt who.task object self.old.journal }
         ensures { Appended self.old self.new (rows self.old who.processor who.task who.ticks who.line (ask.Gone object)) }
     {
-        self.facts(who.processor, who.task);
         if self.has_others(who, object) {
             self.put_ending(fault_entry(who, 10));
         } else {
@@ -316,7 +300,6 @@ impl KernelCore {
         requires at { IsAt who.task object self.old.journal }
         ensures { Appended self.old self.new (rows self.old who.processor who.task who.ticks who.line (ask.Empty object cond)) }
     {
-        self.facts(who.processor, who.task);
         let nobody = self.nobody_on(object, cond);
         self.put_quiet(empty_entry(who, object, cond, nobody));
     }
@@ -327,7 +310,6 @@ impl KernelCore {
         requires at { IsAt who.task object self.old.journal }
         ensures { Appended self.old self.new (rows self.old who.processor who.task who.ticks who.line (ask.Front object cond)) }
     {
-        self.facts(who.processor, who.task);
         match self.front_number(object, cond) {
             None => self.put_ending(fault_entry(who, 11)),
             Some(n) => self.put_quiet(condition_entry(EntryKind::Front, who, object, cond, n)),
@@ -339,7 +321,6 @@ impl KernelCore {
         requires may { MayAct self.old who.processor who.task }
         ensures { Appended self.old self.new (rows self.old who.processor who.task who.ticks who.line (ask.Poll mask)) }
     {
-        self.facts(who.processor, who.task);
         let found = self.events.poll(who.task, mask);
         self.told.push(poll_entry(who, mask, found));
     }
@@ -349,7 +330,6 @@ impl KernelCore {
         requires may { MayAct self.old who.processor who.task }
         ensures { Appended self.old self.new (rows self.old who.processor who.task who.ticks who.line (ask.Fault number)) }
     {
-        self.facts(who.processor, who.task);
         self.put_ending(fault_entry(who, number));
     }
 
@@ -358,7 +338,6 @@ impl KernelCore {
         requires may { MayAct self.old who.processor who.task }
         ensures { Appended self.old self.new (rows self.old who.processor who.task who.ticks who.line ask.Fail) }
     {
-        self.facts(who.processor, who.task);
         let failed = self.has_failed();
         self.put_quiet(fail_entry(who, failed));
     }
@@ -368,7 +347,6 @@ impl KernelCore {
         requires may { MayAct self.old who.processor who.task }
         ensures { Appended self.old self.new (rows self.old who.processor who.task who.ticks who.line ask.Slice) }
     {
-        self.facts(who.processor, who.task);
         self.put_back(asking(EntryKind::Slice, who, 0, 0, 0));
     }
 
@@ -377,7 +355,6 @@ impl KernelCore {
         requires may { MayAct self.old who.processor who.task }
         ensures { Appended self.old self.new (rows self.old who.processor who.task who.ticks who.line ask.Yield) }
     {
-        self.facts(who.processor, who.task);
         self.put_back(asking(EntryKind::Yield, who, 0, 0, 0));
     }
 
@@ -387,7 +364,6 @@ impl KernelCore {
         requires items { (1 ≤ n) × (n ≤ 32) }
         ensures { Appended self.old self.new (rows self.old who.processor who.task who.ticks who.line (ask.Print n items.now)) }
     {
-        self.facts(who.processor, who.task);
         for at in 0..n as usize {
             let piece = items[at];
             self.put_print(who, at == 0, piece);
@@ -440,7 +416,6 @@ impl KernelCore {
         requires form { form ≤ 1 }
         ensures { Appended self.old self.new (rows self.old who.processor who.task who.ticks who.line (ask.Read form)) }
     {
-        self.facts(who.processor, who.task);
         let got = self.next_got(form);
         let used = self.bytes_used();
         self.put_quiet(read_entry(who, form, got, used, used + got.taken));

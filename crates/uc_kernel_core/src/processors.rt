@@ -15,7 +15,6 @@ impl KernelCore {
         requires may { MayAct self.old who.processor who.task }
         ensures { Appended self.old self.new (rows self.old who.processor who.task who.ticks who.line ask.Cluster) }
     {
-        self.facts(who.processor, who.task);
         match self.clusters.add_cluster() {
             None => {
                 let fault = RunFault::TooManyProcessors.number();
@@ -33,7 +32,6 @@ impl KernelCore {
         requires known { cluster < cluster_count self.old.journal }
         ensures { Appended self.old self.new (rows self.old who.processor who.task who.ticks who.line (ask.ClusterEnd cluster)) }
     {
-        self.facts(who.processor, who.task);
         if self.clusters.close_cluster(cluster) {
             self.told
                 .push(number_entry(EntryKind::ClusterEnd, who, cluster, 0));
@@ -49,7 +47,6 @@ impl KernelCore {
         requires known { cluster < cluster_count self.old.journal }
         ensures { Appended self.old self.new (rows self.old who.processor who.task who.ticks who.line (ask.Processor cluster)) }
     {
-        self.facts(who.processor, who.task);
         match self.clusters.add_processor(cluster) {
             None => {
                 let fault = RunFault::TooManyProcessors.number();
@@ -68,7 +65,6 @@ impl KernelCore {
         requires known { processor < processor_count self.old.opts self.old.journal }
         ensures { Appended self.old self.new (rows self.old who.processor who.task who.ticks who.line (ask.ProcessorEnd processor)) }
     {
-        self.facts(who.processor, who.task);
         let cluster = self.clusters.cluster_of(processor);
         self.told.push(number_entry(EntryKind::ProcessorEnd, who, processor, cluster));
         self.clusters.close_processor(processor);
@@ -80,7 +76,6 @@ impl KernelCore {
         requires known { cluster < cluster_count self.old.journal }
         ensures { Appended self.old self.new (rows self.old who.processor who.task who.ticks who.line (ask.Migrate cluster)) }
     {
-        self.facts(who.processor, who.task);
         self.told
             .push(number_entry(EntryKind::Migrate, who, cluster, 0));
         self.clusters.free(u32::from(who.processor));

@@ -44,7 +44,6 @@ impl KernelCore {
         requires event { event < EVENTS }
         ensures { Appended self.old self.new (rows self.old who.processor who.task who.ticks who.line (ask.Raise object event x y)) }
     {
-        self.facts(who.processor, who.task);
         let target = self.owner_of(object);
         if self.events.raise(target, event, x, y) {
             self.told

@@ -21,7 +21,6 @@ impl KernelCore {
         requires may { MayAct self.old who.processor who.task }
         ensures { Appended self.old self.new (fault who.processor who.task (cost who.ticks who.line) (fault_number what) who.line ∷ []) }
     {
-        self.facts(who.processor, who.task);
         self.put_ending(fault_entry(who, what.number()));
     }
 
@@ -31,7 +30,6 @@ impl KernelCore {
         ensures ok { OnOk result (Appended self.old self.new (rows self.old who.processor who.task who.ticks who.line (ask.Make class))) }
         ensures err { OnErr result (self.new ≡ self.old) }
     {
-        self.facts(who.processor, who.task);
         if self.inside_marks.len() >= OBJECTS as usize {
             self.too_many(who, RunFault::TooManyObjects);
             return Ok(());
@@ -56,7 +54,6 @@ impl KernelCore {
         ensures ok { OnOk result (Appended self.old self.new (rows self.old who.processor who.task who.ticks who.line (ask.Spawn object))) }
         ensures err { OnErr result (self.new ≡ self.old) }
     {
-        self.facts(who.processor, who.task);
         if self.events.count() >= TASKS as usize {
             self.too_many(who, RunFault::TooManyTasks);
             return Ok(());

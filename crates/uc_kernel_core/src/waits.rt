@@ -43,7 +43,6 @@ impl KernelCore {
         requires at { IsAt who.task object self.old.journal }
         ensures { Appended self.old self.new (rows self.old who.processor who.task who.ticks who.line (ask.Wait object cond n)) }
     {
-        self.facts(who.processor, who.task);
         self.put_wait(who, object, cond, n);
         self.admit_next(who, object);
     }
@@ -71,7 +70,6 @@ impl KernelCore {
         requires at { IsAt who.task object self.old.journal }
         ensures { Appended self.old self.new (rows self.old who.processor who.task who.ticks who.line (ask.Signal object cond)) }
     {
-        self.facts(who.processor, who.task);
         let nobody = self.nobody_on(object, cond);
         self.put_quiet(signal_entry(who, object, cond, nobody));
         self.push_front(who, object, cond);
@@ -134,7 +132,6 @@ impl KernelCore {
         requires at { IsAt who.task object self.old.journal }
         ensures { Appended self.old self.new (rows self.old who.processor who.task who.ticks who.line (ask.SignalBlock object cond)) }
     {
-        self.facts(who.processor, who.task);
         if self.nobody_on(object, cond) {
             self.put_unheard(who, object, cond);
         } else {

@@ -3,6 +3,12 @@ use Rattle.uc_kernel_core.specs.Mirrors.{Seen}
 use Rattle.uc_kernel_core.proofs.Endings as endings
 use Rattle.uc_kernel_core.proofs.kernel_core.KernelCore.act.Goals as goal
 
+pub request-requires-clause-may : goal.request-requires-clause-may
+request-requires-clause-may c = endings.may_act _ _ _ _ _ _ _ _ _ _ _ _ _ _ _ _ c.self.invariant c.self.view_is c.requires.ready c.requires.asks
+
+pub finish-requires-clause-task : goal.finish-requires-clause-task
+finish-requires-clause-task c = (endings.may_act _ _ _ _ _ _ _ _ _ _ _ _ _ _ _ _ c.self.invariant c.self.view_is c.requires.ready c.requires.asks).known
+
 pub finish-requires-clause-room : goal.finish-requires-clause-room
 finish-requires-clause-room c =
     let w = c.args.who in

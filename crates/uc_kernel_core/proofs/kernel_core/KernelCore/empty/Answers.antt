@@ -14,4 +14,4 @@ put_quiet-requires-clause-can c =
     let s = c.args.self.now in
     let w = c.args.who in
     let e = asking kind.Empty w.processor w.task (cost w.ticks w.line) c.args.object (pos c.args.cond) (truth (is_nobody (blocked c.args.object c.args.cond s.journal))) in
-    rw (c.empty_entry.ensures, c.nobody_on-nobody.ensures) (asks.can_first s w.processor w.task w.ticks w.line (ask.Empty c.args.object c.args.cond) e [] c.facts.ensures.sound c.requires.may c.requires.at refl c.facts.ensures.known)
+    rw (c.empty_entry.ensures, c.nobody_on-nobody.ensures) (asks.can_first s w.processor w.task w.ticks w.line (ask.Empty c.args.object c.args.cond) e [] c.requires.may.sound c.requires.may c.requires.at refl c.requires.may.known)

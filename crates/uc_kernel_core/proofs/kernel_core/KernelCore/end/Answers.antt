@@ -17,14 +17,14 @@ put_end-requires-clause-can c =
     let s = c.args.self.now in
     let w = c.args.who in
     let e = asking kind.End w.processor w.task (cost w.ticks w.line) (own_object w.task s.journal) (pos 0) (pos 0) in
-    rw (c.asking.ensures, c.own_object-object.ensures) (asks.can_first s w.processor w.task w.ticks w.line ask.End e _ c.facts.ensures.sound c.requires.may c.requires.at refl c.facts.ensures.known)
+    rw (c.asking.ensures, c.own_object-object.ensures) (asks.can_first s w.processor w.task w.ticks w.line ask.End e _ c.requires.may.sound c.requires.may c.requires.at refl c.requires.may.known)
 
 pub put_end-requires-clause-within : goal.put_end-requires-clause-within
 put_end-requires-clause-within c =
     let s = c.args.self.now in
     let w = c.args.who in
     let e = asking kind.End w.processor w.task (cost w.ticks w.line) (own_object w.task s.journal) (pos 0) (pos 0) in
-    rw (c.asking.ensures, c.own_object-object.ensures) (asks.leave_within s w.processor w.task w.ticks w.line (own_object w.task s.journal) c.facts.ensures.sound c.requires.may c.requires.at e refl refl refl refl (λ xs. refl))
+    rw (c.asking.ensures, c.own_object-object.ensures) (asks.leave_within s w.processor w.task w.ticks w.line (own_object w.task s.journal) c.requires.may.sound c.requires.may c.requires.at e refl refl refl refl (λ xs. refl))
 
 pub admit_next-requires-clause-going : goal.admit_next-requires-clause-going
 admit_next-requires-clause-going c =
@@ -32,7 +32,7 @@ admit_next-requires-clause-going c =
     let w = c.args.who in
     let e = asking kind.End w.processor w.task (cost w.ticks w.line) (own_object w.task s.journal) (pos 0) (pos 0) in
     let a = subst (λ (x : Entry). Appended s c.put_end.new.self (x ∷ [])) (c.asking.ensures ∙ ap (λ o. asking kind.End w.processor w.task (cost w.ticks w.line) o (pos 0) (pos 0)) c.own_object-object.ensures) c.put_end.ensures in
-    asks.leave_going s w.processor w.task w.ticks w.line (own_object w.task s.journal) c.facts.ensures.sound c.requires.may c.requires.at e refl refl refl refl (λ xs. refl) c.put_end.new.self a
+    asks.leave_going s w.processor w.task w.ticks w.line (own_object w.task s.journal) c.requires.may.sound c.requires.may c.requires.at e refl refl refl refl (λ xs. refl) c.put_end.new.self a
 
 pub admit_next-requires-clause-known : goal.admit_next-requires-clause-known
 admit_next-requires-clause-known c =
@@ -40,7 +40,7 @@ admit_next-requires-clause-known c =
     let w = c.args.who in
     let e = asking kind.End w.processor w.task (cost w.ticks w.line) (own_object w.task s.journal) (pos 0) (pos 0) in
     let a = subst (λ (x : Entry). Appended s c.put_end.new.self (x ∷ [])) (c.asking.ensures ∙ ap (λ o. asking kind.End w.processor w.task (cost w.ticks w.line) o (pos 0) (pos 0)) c.own_object-object.ensures) c.put_end.ensures in
-    rw c.own_object-object.ensures (asks.leave_there s w.processor w.task w.ticks w.line (own_object w.task s.journal) c.facts.ensures.sound c.requires.may c.requires.at e refl refl refl refl (λ xs. refl) c.put_end.new.self a)
+    rw c.own_object-object.ensures (asks.leave_there s w.processor w.task w.ticks w.line (own_object w.task s.journal) c.requires.may.sound c.requires.may c.requires.at e refl refl refl refl (λ xs. refl) c.put_end.new.self a)
 
 pub admit_next-requires-clause-empty : goal.admit_next-requires-clause-empty
 admit_next-requires-clause-empty c =
@@ -48,7 +48,7 @@ admit_next-requires-clause-empty c =
     let w = c.args.who in
     let e = asking kind.End w.processor w.task (cost w.ticks w.line) (own_object w.task s.journal) (pos 0) (pos 0) in
     let a = subst (λ (x : Entry). Appended s c.put_end.new.self (x ∷ [])) (c.asking.ensures ∙ ap (λ o. asking kind.End w.processor w.task (cost w.ticks w.line) o (pos 0) (pos 0)) c.own_object-object.ensures) c.put_end.ensures in
-    rw c.own_object-object.ensures (asks.leave_empty s w.processor w.task w.ticks w.line (own_object w.task s.journal) c.facts.ensures.sound c.requires.may c.requires.at e refl refl refl refl (λ xs. refl) c.put_end.new.self a)
+    rw c.own_object-object.ensures (asks.leave_empty s w.processor w.task w.ticks w.line (own_object w.task s.journal) c.requires.may.sound c.requires.may c.requires.at e refl refl refl refl (λ xs. refl) c.put_end.new.self a)
 
 pub admit_next-requires-clause-aside : goal.admit_next-requires-clause-aside
 admit_next-requires-clause-aside c =
@@ -56,7 +56,7 @@ admit_next-requires-clause-aside c =
     let w = c.args.who in
     let e = asking kind.End w.processor w.task (cost w.ticks w.line) (own_object w.task s.journal) (pos 0) (pos 0) in
     let a = subst (λ (x : Entry). Appended s c.put_end.new.self (x ∷ [])) (c.asking.ensures ∙ ap (λ o. asking kind.End w.processor w.task (cost w.ticks w.line) o (pos 0) (pos 0)) c.own_object-object.ensures) c.put_end.ensures in
-    rw c.own_object-object.ensures (asks.end_aside s w.processor w.task w.ticks w.line (own_object w.task s.journal) c.facts.ensures.sound c.requires.may c.requires.at e refl refl refl refl (λ xs. refl) c.put_end.new.self a (spot_moves s.journal e w.task (self_test w.task)))
+    rw c.own_object-object.ensures (asks.end_aside s w.processor w.task w.ticks w.line (own_object w.task s.journal) c.requires.may.sound c.requires.may c.requires.at e refl refl refl refl (λ xs. refl) c.put_end.new.self a (spot_moves s.journal e w.task (self_test w.task)))
 
 pub returns : goal.returns
 returns c =

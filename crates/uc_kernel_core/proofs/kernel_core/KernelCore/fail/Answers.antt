@@ -13,4 +13,4 @@ put_quiet-requires-clause-can c =
     let s = c.args.self.now in
     let w = c.args.who in
     let e = asking kind.Fail w.processor w.task (cost w.ticks w.line) 0 (pos 0) (truth (has_failed s.journal)) in
-    rw (c.fail_entry.ensures, c.has_failed-failed.ensures) (asks.can_first s w.processor w.task w.ticks w.line ask.Fail e [] c.facts.ensures.sound c.requires.may tt refl c.facts.ensures.known)
+    rw (c.fail_entry.ensures, c.has_failed-failed.ensures) (asks.can_first s w.processor w.task w.ticks w.line ask.Fail e [] c.requires.may.sound c.requires.may tt refl c.requires.may.known)

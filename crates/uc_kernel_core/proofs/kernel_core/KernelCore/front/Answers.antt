@@ -13,4 +13,4 @@ put_quiet-requires-clause-can c =
     let w = c.args.who in
     let e = asking kind.Front w.processor w.task (cost w.ticks w.line) c.args.object (pos c.args.cond) c.in-Some.n in
     let same : c.condition_entry.result ≡ asking kind.Front w.processor w.task (cost w.ticks w.line) c.args.object (pos c.args.cond) c.in-Some.n = search rules in
-    rw same (asks.can_first s w.processor w.task w.ticks w.line (ask.Front c.args.object c.args.cond) e [] c.facts.ensures.sound c.requires.may c.requires.at (asks.front_row w.processor w.task (cost w.ticks w.line) w.line c.args.object c.args.cond c.in-Some.n (blocked c.args.object c.args.cond s.journal) (sym c.in-Some.is ∙ c.front_number.ensures)) c.facts.ensures.known)
+    rw same (asks.can_first s w.processor w.task w.ticks w.line (ask.Front c.args.object c.args.cond) e [] c.requires.may.sound c.requires.may c.requires.at (asks.front_row w.processor w.task (cost w.ticks w.line) w.line c.args.object c.args.cond c.in-Some.n (blocked c.args.object c.args.cond s.journal) (sym c.in-Some.is ∙ c.front_number.ensures)) c.requires.may.known)

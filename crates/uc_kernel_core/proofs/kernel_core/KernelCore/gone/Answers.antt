@@ -11,11 +11,11 @@ put_out-requires-clause-can c =
     let s = c.args.self.now in
     let w = c.args.who in
     let e = asking kind.Gone w.processor w.task (cost w.ticks w.line) c.args.object (pos 0) (pos 0) in
-    rw c.asking.ensures (asks.can_first s w.processor w.task w.ticks w.line (ask.Gone c.args.object) e _ c.facts.ensures.sound c.requires.may c.requires.at refl c.facts.ensures.known)
+    rw c.asking.ensures (asks.can_first s w.processor w.task w.ticks w.line (ask.Gone c.args.object) e _ c.requires.may.sound c.requires.may c.requires.at refl c.requires.may.known)
 
 pub put_out-requires-clause-within : goal.put_out-requires-clause-within
 put_out-requires-clause-within c =
     let s = c.args.self.now in
     let w = c.args.who in
     let e = asking kind.Gone w.processor w.task (cost w.ticks w.line) c.args.object (pos 0) (pos 0) in
-    rw c.asking.ensures (asks.leave_within s w.processor w.task w.ticks w.line c.args.object c.facts.ensures.sound c.requires.may c.requires.at e refl refl refl refl (λ xs. refl))
+    rw c.asking.ensures (asks.leave_within s w.processor w.task w.ticks w.line c.args.object c.requires.may.sound c.requires.may c.requires.at e refl refl refl refl (λ xs. refl))

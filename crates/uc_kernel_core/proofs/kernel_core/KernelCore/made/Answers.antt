@@ -14,14 +14,14 @@ put_out-requires-clause-can c =
     let s = c.args.self.now in
     let w = c.args.who in
     let e = asking kind.Made w.processor w.task (cost w.ticks w.line) c.args.object (pos 0) (pos 0) in
-    rw c.asking.ensures (asks.can_first s w.processor w.task w.ticks w.line (ask.Made c.args.object) e _ c.facts.ensures.sound c.requires.may c.requires.at refl c.facts.ensures.known)
+    rw c.asking.ensures (asks.can_first s w.processor w.task w.ticks w.line (ask.Made c.args.object) e _ c.requires.may.sound c.requires.may c.requires.at refl c.requires.may.known)
 
 pub put_out-requires-clause-within : goal.put_out-requires-clause-within
 put_out-requires-clause-within c =
     let s = c.args.self.now in
     let w = c.args.who in
     let e = asking kind.Made w.processor w.task (cost w.ticks w.line) c.args.object (pos 0) (pos 0) in
-    rw c.asking.ensures (asks.leave_within s w.processor w.task w.ticks w.line c.args.object c.facts.ensures.sound c.requires.may c.requires.at e refl refl refl refl (λ xs. refl))
+    rw c.asking.ensures (asks.leave_within s w.processor w.task w.ticks w.line c.args.object c.requires.may.sound c.requires.may c.requires.at e refl refl refl refl (λ xs. refl))
 
 pub admit_next-requires-clause-going : goal.admit_next-requires-clause-going
 admit_next-requires-clause-going c =
@@ -29,7 +29,7 @@ admit_next-requires-clause-going c =
     let w = c.args.who in
     let e = asking kind.Made w.processor w.task (cost w.ticks w.line) c.args.object (pos 0) (pos 0) in
     let a = subst (λ (x : Entry). Appended s c.put_out.new.self (x ∷ [])) c.asking.ensures c.put_out.ensures in
-    asks.leave_going s w.processor w.task w.ticks w.line c.args.object c.facts.ensures.sound c.requires.may c.requires.at e refl refl refl refl (λ xs. refl) c.put_out.new.self a
+    asks.leave_going s w.processor w.task w.ticks w.line c.args.object c.requires.may.sound c.requires.may c.requires.at e refl refl refl refl (λ xs. refl) c.put_out.new.self a
 
 pub admit_next-requires-clause-known : goal.admit_next-requires-clause-known
 admit_next-requires-clause-known c =
@@ -37,7 +37,7 @@ admit_next-requires-clause-known c =
     let w = c.args.who in
     let e = asking kind.Made w.processor w.task (cost w.ticks w.line) c.args.object (pos 0) (pos 0) in
     let a = subst (λ (x : Entry). Appended s c.put_out.new.self (x ∷ [])) c.asking.ensures c.put_out.ensures in
-    asks.leave_there s w.processor w.task w.ticks w.line c.args.object c.facts.ensures.sound c.requires.may c.requires.at e refl refl refl refl (λ xs. refl) c.put_out.new.self a
+    asks.leave_there s w.processor w.task w.ticks w.line c.args.object c.requires.may.sound c.requires.may c.requires.at e refl refl refl refl (λ xs. refl) c.put_out.new.self a
 
 pub admit_next-requires-clause-empty : goal.admit_next-requires-clause-empty
 admit_next-requires-clause-empty c =
@@ -45,7 +45,7 @@ admit_next-requires-clause-empty c =
     let w = c.args.who in
     let e = asking kind.Made w.processor w.task (cost w.ticks w.line) c.args.object (pos 0) (pos 0) in
     let a = subst (λ (x : Entry). Appended s c.put_out.new.self (x ∷ [])) c.asking.ensures c.put_out.ensures in
-    asks.leave_empty s w.processor w.task w.ticks w.line c.args.object c.facts.ensures.sound c.requires.may c.requires.at e refl refl refl refl (λ xs. refl) c.put_out.new.self a
+    asks.leave_empty s w.processor w.task w.ticks w.line c.args.object c.requires.may.sound c.requires.may c.requires.at e refl refl refl refl (λ xs. refl) c.put_out.new.self a
 
 pub admit_next-requires-clause-aside : goal.admit_next-requires-clause-aside
 admit_next-requires-clause-aside c =
@@ -53,7 +53,7 @@ admit_next-requires-clause-aside c =
     let w = c.args.who in
     let e = asking kind.Made w.processor w.task (cost w.ticks w.line) c.args.object (pos 0) (pos 0) in
     let a = subst (λ (x : Entry). Appended s c.put_out.new.self (x ∷ [])) c.asking.ensures c.put_out.ensures in
-    asks.leave_aside s w.processor w.task w.ticks w.line c.args.object c.facts.ensures.sound c.requires.may c.requires.at e refl refl refl refl (λ xs. refl) c.put_out.new.self a (λ u. refl)
+    asks.leave_aside s w.processor w.task w.ticks w.line c.args.object c.requires.may.sound c.requires.may c.requires.at e refl refl refl refl (λ xs. refl) c.put_out.new.self a (λ u. refl)
 
 pub returns : goal.returns
 returns c =

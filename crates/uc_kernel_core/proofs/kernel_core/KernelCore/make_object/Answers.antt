@@ -4,6 +4,12 @@ use Rattle.uc_kernel_core.specs.Mirrors.{Seen}
 use Rattle.uc_kernel_core.proofs.Endings as endings
 use Rattle.uc_kernel_core.proofs.kernel_core.KernelCore.make_object.Goals as goal
 
+pub make-requires-clause-may : goal.make-requires-clause-may
+make-requires-clause-may c = endings.may_act _ _ _ _ _ _ _ _ _ _ _ _ _ _ _ _ c.self.invariant c.self.view_is c.requires.ready c.requires.asks
+
+pub finish-requires-clause-task : goal.finish-requires-clause-task
+finish-requires-clause-task c = (endings.may_act _ _ _ _ _ _ _ _ _ _ _ _ _ _ _ _ c.self.invariant c.self.view_is c.requires.ready c.requires.asks).known
+
 pub returns-clause-ok : goal.returns-clause-ok
 returns-clause-ok c =
     let w = c.args.who in

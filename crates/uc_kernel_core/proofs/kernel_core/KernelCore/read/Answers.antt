@@ -11,4 +11,4 @@ put_quiet-requires-clause-can c =
     let s = c.args.self.now in
     let w = c.args.who in
     let e = read_entry w.processor w.task (cost w.ticks w.line) c.args.form (next_read c.args.form s.input s.journal) (bytes_used s.journal) in
-    rw (c.read_entry.ensures, c.next_got-got.ensures.got, c.bytes_used-used.ensures) (asks.can_first s w.processor w.task w.ticks w.line (ask.Read c.args.form) e _ c.facts.ensures.sound c.requires.may c.requires.form refl c.facts.ensures.known)
+    rw (c.read_entry.ensures, c.next_got-got.ensures.got, c.bytes_used-used.ensures) (asks.can_first s w.processor w.task w.ticks w.line (ask.Read c.args.form) e _ c.requires.may.sound c.requires.may c.requires.form refl c.requires.may.known)

@@ -19,7 +19,7 @@ put_quiet-requires-clause-can c =
     let w = c.args.who in
     let ws = blocked c.args.object c.args.cond s.journal in
     let e = asking kind.Signal w.processor w.task (cost w.ticks w.line) c.args.object (pos c.args.cond) (truth (not (is_nobody ws))) in
-    rw (c.signal_entry.ensures, c.nobody_on-nobody.ensures) (asks.can_first s w.processor w.task w.ticks w.line (ask.Signal c.args.object c.args.cond) e _ c.facts.ensures.sound c.requires.may c.requires.at (seconds.signal_first w.processor w.task (cost w.ticks w.line) c.args.object c.args.cond ws) c.facts.ensures.known)
+    rw (c.signal_entry.ensures, c.nobody_on-nobody.ensures) (asks.can_first s w.processor w.task w.ticks w.line (ask.Signal c.args.object c.args.cond) e _ c.requires.may.sound c.requires.may c.requires.at (seconds.signal_first w.processor w.task (cost w.ticks w.line) c.args.object c.args.cond ws) c.requires.may.known)
 
 pub push_front-requires-clause-going : goal.push_front-requires-clause-going
 push_front-requires-clause-going c =
@@ -55,7 +55,7 @@ push_front-requires-clause-shut c =
     let ws = blocked c.args.object c.args.cond s.journal in
     let e = asking kind.Signal w.processor w.task (cost w.ticks w.line) c.args.object (pos c.args.cond) (truth (not (is_nobody ws))) in
     let a = subst (λ (x : Entry). Appended s c.put_quiet.new.self (x ∷ [])) (c.signal_entry.ensures ∙ ap (λ b. asking kind.Signal w.processor w.task (cost w.ticks w.line) c.args.object (pos c.args.cond) (truth (not b))) c.nobody_on-nobody.ensures) c.put_quiet.ensures in
-    seconds.still_shut s c.put_quiet.new.self e a c.args.object w.task refl refl c.facts.ensures.sound (one_inside s.journal c.args.object w.task c.facts.ensures.sound c.requires.at.inside)
+    seconds.still_shut s c.put_quiet.new.self e a c.args.object w.task refl refl c.requires.may.sound (one_inside s.journal c.args.object w.task c.requires.may.sound c.requires.at.inside)
 
 pub returns : goal.returns
 returns c =

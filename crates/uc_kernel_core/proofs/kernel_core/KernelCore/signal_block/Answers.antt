@@ -20,7 +20,7 @@ put_unheard-requires-clause-can c =
     let none : is_nobody ws ≡ true = sym c.nobody_on.ensures ∙ c.if-nobody_on.true in
     let row = seconds.unheard_first w.processor w.task (cost w.ticks w.line) c.args.object c.args.cond ws none in
     let e = asking kind.SignalBlock w.processor w.task (cost w.ticks w.line) c.args.object (pos c.args.cond) (pos 0) in
-    asks.can_first s w.processor w.task w.ticks w.line (ask.SignalBlock c.args.object c.args.cond) e _ c.facts.ensures.sound c.requires.may c.requires.at row c.facts.ensures.known
+    asks.can_first s w.processor w.task w.ticks w.line (ask.SignalBlock c.args.object c.args.cond) e _ c.requires.may.sound c.requires.may c.requires.at row c.requires.may.known
 
 pub put_signaller-requires-clause-can : goal.put_signaller-requires-clause-can
 put_signaller-requires-clause-can c =
@@ -30,14 +30,14 @@ put_signaller-requires-clause-can c =
     let some : is_nobody ws ≡ false = sym c.nobody_on.ensures ∙ c.if-nobody_on.false in
     let row = seconds.heard_first w.processor w.task (cost w.ticks w.line) c.args.object c.args.cond ws some in
     let e = asking kind.SignalBlock w.processor w.task (cost w.ticks w.line) c.args.object (pos c.args.cond) (pos 1) in
-    asks.can_first s w.processor w.task w.ticks w.line (ask.SignalBlock c.args.object c.args.cond) e _ c.facts.ensures.sound c.requires.may c.requires.at row c.facts.ensures.known
+    asks.can_first s w.processor w.task w.ticks w.line (ask.SignalBlock c.args.object c.args.cond) e _ c.requires.may.sound c.requires.may c.requires.at row c.requires.may.known
 
 pub put_signaller-requires-clause-within : goal.put_signaller-requires-clause-within
 put_signaller-requires-clause-within c =
     let s = c.args.self.now in
     let w = c.args.who in
     let ws = blocked c.args.object c.args.cond s.journal in
-    one_inside s.journal c.args.object w.task c.facts.ensures.sound c.requires.at.inside
+    one_inside s.journal c.args.object w.task c.requires.may.sound c.requires.at.inside
 
 pub admit_front-requires-clause-going : goal.admit_front-requires-clause-going
 admit_front-requires-clause-going c =
@@ -74,7 +74,7 @@ admit_front-requires-clause-empty c =
     let s = c.args.self.now in
     let w = c.args.who in
     let ws = blocked c.args.object c.args.cond s.journal in
-    seconds.signaller_out s c.put_signaller.new.self w.processor w.task (cost w.ticks w.line) c.args.object c.args.cond c.put_signaller.ensures (one_inside s.journal c.args.object w.task c.facts.ensures.sound c.requires.at.inside)
+    seconds.signaller_out s c.put_signaller.new.self w.processor w.task (cost w.ticks w.line) c.args.object c.args.cond c.put_signaller.ensures (one_inside s.journal c.args.object w.task c.requires.may.sound c.requires.at.inside)
 
 pub admit_front-requires-clause-acts : goal.admit_front-requires-clause-acts
 admit_front-requires-clause-acts c =

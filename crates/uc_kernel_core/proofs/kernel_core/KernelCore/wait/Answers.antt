@@ -18,14 +18,14 @@ put_wait-requires-clause-can c =
     let w = c.args.who in
     let e = asking kind.Wait w.processor w.task (cost w.ticks w.line) c.args.object (pos c.args.cond) c.args.n in
     let same : to_z w64 (of_z w64 c.args.n) ≡ c.args.n = search rules in
-    rw same (asks.can_first s w.processor w.task w.ticks w.line (ask.Wait c.args.object c.args.cond c.args.n) e _ c.facts.ensures.sound c.requires.may c.requires.at refl c.facts.ensures.known)
+    rw same (asks.can_first s w.processor w.task w.ticks w.line (ask.Wait c.args.object c.args.cond c.args.n) e _ c.requires.may.sound c.requires.may c.requires.at refl c.requires.may.known)
 
 pub put_wait-requires-clause-within : goal.put_wait-requires-clause-within
 put_wait-requires-clause-within c =
     let s = c.args.self.now in
     let w = c.args.who in
     let e = asking kind.Wait w.processor w.task (cost w.ticks w.line) c.args.object (pos c.args.cond) c.args.n in
-    asks.leave_within s w.processor w.task w.ticks w.line c.args.object c.facts.ensures.sound c.requires.may c.requires.at e refl refl refl refl (λ xs. refl)
+    asks.leave_within s w.processor w.task w.ticks w.line c.args.object c.requires.may.sound c.requires.may c.requires.at e refl refl refl refl (λ xs. refl)
 
 pub admit_next-requires-clause-going : goal.admit_next-requires-clause-going
 admit_next-requires-clause-going c =
@@ -34,7 +34,7 @@ admit_next-requires-clause-going c =
     let e = asking kind.Wait w.processor w.task (cost w.ticks w.line) c.args.object (pos c.args.cond) c.args.n in
     let same : to_z w64 (of_z w64 c.args.n) ≡ c.args.n = search rules in
     let a = subst (λ n. Appended s c.put_wait.new.self (asking kind.Wait w.processor w.task (cost w.ticks w.line) c.args.object (pos c.args.cond) n ∷ [])) same c.put_wait.ensures in
-    asks.leave_going s w.processor w.task w.ticks w.line c.args.object c.facts.ensures.sound c.requires.may c.requires.at e refl refl refl refl (λ xs. refl) c.put_wait.new.self a
+    asks.leave_going s w.processor w.task w.ticks w.line c.args.object c.requires.may.sound c.requires.may c.requires.at e refl refl refl refl (λ xs. refl) c.put_wait.new.self a
 
 pub admit_next-requires-clause-known : goal.admit_next-requires-clause-known
 admit_next-requires-clause-known c =
@@ -43,7 +43,7 @@ admit_next-requires-clause-known c =
     let e = asking kind.Wait w.processor w.task (cost w.ticks w.line) c.args.object (pos c.args.cond) c.args.n in
     let same : to_z w64 (of_z w64 c.args.n) ≡ c.args.n = search rules in
     let a = subst (λ n. Appended s c.put_wait.new.self (asking kind.Wait w.processor w.task (cost w.ticks w.line) c.args.object (pos c.args.cond) n ∷ [])) same c.put_wait.ensures in
-    asks.leave_there s w.processor w.task w.ticks w.line c.args.object c.facts.ensures.sound c.requires.may c.requires.at e refl refl refl refl (λ xs. refl) c.put_wait.new.self a
+    asks.leave_there s w.processor w.task w.ticks w.line c.args.object c.requires.may.sound c.requires.may c.requires.at e refl refl refl refl (λ xs. refl) c.put_wait.new.self a
 
 pub admit_next-requires-clause-room : goal.admit_next-requires-clause-room
 admit_next-requires-clause-room c =
@@ -52,7 +52,7 @@ admit_next-requires-clause-room c =
     let e = asking kind.Wait w.processor w.task (cost w.ticks w.line) c.args.object (pos c.args.cond) c.args.n in
     let same : to_z w64 (of_z w64 c.args.n) ≡ c.args.n = search rules in
     let a = subst (λ n. Appended s c.put_wait.new.self (asking kind.Wait w.processor w.task (cost w.ticks w.line) c.args.object (pos c.args.cond) n ∷ [])) same c.put_wait.ensures in
-    asks.leave_room s w.processor w.task w.ticks w.line c.args.object c.facts.ensures.sound c.requires.may c.requires.at e refl refl refl refl (λ xs. refl) c.put_wait.new.self a
+    asks.leave_room s w.processor w.task w.ticks w.line c.args.object c.requires.may.sound c.requires.may c.requires.at e refl refl refl refl (λ xs. refl) c.put_wait.new.self a
 
 pub admit_next-requires-clause-empty : goal.admit_next-requires-clause-empty
 admit_next-requires-clause-empty c =
@@ -61,7 +61,7 @@ admit_next-requires-clause-empty c =
     let e = asking kind.Wait w.processor w.task (cost w.ticks w.line) c.args.object (pos c.args.cond) c.args.n in
     let same : to_z w64 (of_z w64 c.args.n) ≡ c.args.n = search rules in
     let a = subst (λ n. Appended s c.put_wait.new.self (asking kind.Wait w.processor w.task (cost w.ticks w.line) c.args.object (pos c.args.cond) n ∷ [])) same c.put_wait.ensures in
-    asks.leave_empty s w.processor w.task w.ticks w.line c.args.object c.facts.ensures.sound c.requires.may c.requires.at e refl refl refl refl (λ xs. refl) c.put_wait.new.self a
+    asks.leave_empty s w.processor w.task w.ticks w.line c.args.object c.requires.may.sound c.requires.may c.requires.at e refl refl refl refl (λ xs. refl) c.put_wait.new.self a
 
 pub admit_next-requires-clause-aside : goal.admit_next-requires-clause-aside
 admit_next-requires-clause-aside c =

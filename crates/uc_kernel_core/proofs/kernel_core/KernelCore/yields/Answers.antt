@@ -11,4 +11,4 @@ put_back-requires-clause-can c =
     let s = c.args.self.now in
     let w = c.args.who in
     let e = asking kind.Yield w.processor w.task (cost w.ticks w.line) 0 (pos 0) (pos 0) in
-    rw c.asking.ensures (asks.can_first s w.processor w.task w.ticks w.line ask.Yield e [] c.facts.ensures.sound c.requires.may tt refl c.facts.ensures.known)
+    rw c.asking.ensures (asks.can_first s w.processor w.task w.ticks w.line ask.Yield e [] c.requires.may.sound c.requires.may tt refl c.requires.may.known)
