@@ -92,7 +92,7 @@ fn lower_named(
     lower_all_unwritten(alloc, names, unwritten, count, &mut out)?;
     let sites = sites_of(alloc, program)?;
     let texts = texts_of(alloc, program)?;
-    let classes = cells_of_classes(alloc, program, names.sizes())?;
+    let classes = cells_of_classes(alloc, program, names)?;
     let mut code = out.finish(sites, texts, classes);
     code.tabulate(alloc)?;
     Ok(code)

@@ -2,12 +2,11 @@
 
 ghost use Rattle.std.specs.Prelude.{◌≡◌, ◌++◌, [], ◌∷◌, length, map, take, IfOk, OnOk};
 ghost use Rattle.uc_tree.specs.declared.limits.TheConstants.{MEMBERS};
-ghost use Rattle.uc_tree.specs.Cells.{class_cells, classes_of};
+ghost use Rattle.uc_tree.specs.Cells.{classes_of};
 ghost use Rattle.uc_tree.specs.Numbering.{mutex_members, routines_of};
 ghost use Rattle.uc_tree.specs.Objects.{unwritten_of};
 ghost use Rattle.uc_tree.specs.Programs.{Program};
 ghost use Rattle.uc_resolve.specs.Resolve.{all_classes, classes_meant};
-ghost use Rattle.uc_lower_expr.specs.Members.{FitClasses};
 ghost use Rattle.uc_layout.specs.Places.{IsPlaces};
 ghost use Rattle.uc_lower_expr.specs.Numbered.{AreExclusive, IsNumbering};
 ghost use Rattle.uc_numbering.specs.Routines.{defined_at};
@@ -17,8 +16,8 @@ use std::alloc::{AllocError, Global};
 use uc_implicit::unwritten::{Unwritten, numbers_of};
 use uc_layout::lists::classes_in;
 use uc_layout::places::{no_places, note_place};
-use uc_layout::sizes::Sizes;
 use uc_lower_expr::numbering::Numbering;
+use uc_lower_expr::program_names::ProgramNames;
 use uc_names::scope::Scope;
 use uc_numbering::classes::is_event;
 use uc_numbering::members::members_of;
@@ -111,41 +110,35 @@ pub(crate) fn numbering_of<'a>(
     })
 }
 
-// The cells of the class with this place, which has room.
-fn cells_at(sizes: &Sizes, place: usize) -> u32
-    requires { FitClasses sizes.now }
-    ensures { result ≡ class_cells sizes.now place }
-{
-    sizes.cells_of_class(place) as u32
-}
-
 // Those of one class more, which has this place; an event has none.
 fn push_cells(
     cells: &mut Vec<u32>,
-    sizes: &Sizes,
+    names: &ProgramNames,
     place: usize,
     class: &Class,
 ) -> Result<(), AllocError>
-    requires { FitClasses sizes.now }
-    ensures { OnOk result (cells.new.items ≡ cells.old.items ++ map (λ c. c.cells) (classes_meant sizes.now place (class.now ∷ []))) }
+    ensures { OnOk result (cells.new.items ≡ cells.old.items ++ map (λ c. c.cells) (classes_meant names.now place (class.now ∷ []))) }
 {
     if is_event(class.kind) {
         return Ok(());
     }
-    cells.push(cells_at(sizes, place))?;
+    cells.push(names.cells_of_class(place))?;
     Ok(())
 }
 
 // The cells of these classes, events apart.
-fn cells_in(alloc: Global, sizes: &Sizes, classes: &[&Class]) -> Result<Vec<u32>, AllocError>
-    requires fit { FitClasses sizes.now }
-    requires classes { map (λ c. c.now) classes.now ≡ classes_of sizes.now.items }
-    ensures { IfOk result (λ v. v.items ≡ map (λ c. c.cells) (all_classes sizes.now)) }
+fn cells_in(
+    alloc: Global,
+    names: &ProgramNames,
+    classes: &[&Class],
+) -> Result<Vec<u32>, AllocError>
+    requires classes { map (λ c. c.now) classes.now ≡ classes_of names.now.items }
+    ensures { IfOk result (λ v. v.items ≡ map (λ c. c.cells) (all_classes names.now)) }
 {
     let mut cells = Vec::new(alloc);
     cells.push(0)?;
     for (place, class) in classes.iter().enumerate() {
-        push_cells(&mut cells, sizes, place, class)?;
+        push_cells(&mut cells, names, place, class)?;
     }
     Ok(cells)
 }
@@ -154,13 +147,12 @@ fn cells_in(alloc: Global, sizes: &Sizes, classes: &[&Class]) -> Result<Vec<u32>
 pub(crate) fn cells_of_classes(
     alloc: Global,
     program: &Program,
-    sizes: &Sizes,
+    names: &ProgramNames,
 ) -> Result<Vec<u32>, AllocError>
-    requires sizes { sizes.now ≡ program.now }
-    requires fit { FitClasses program.now }
+    requires names { names.now ≡ program.now }
     ensures { IfOk result (λ v. v.items ≡ map (λ c. c.cells) (all_classes program.now)) }
 {
     let classes = classes_in(alloc, &program.items)?;
-    let cells = cells_in(alloc, sizes, &classes)?;
+    let cells = cells_in(alloc, names, &classes)?;
     Ok(cells)
 }

@@ -14,6 +14,7 @@ ghost use Rattle.uc_tree.specs.declared.kinds.Role.TheVariants as role;
 ghost use Rattle.uc_code.specs.Layout.{laid_in, routine_in};
 ghost use Rattle.uc_code.specs.Lowered.{RoutineAt};
 ghost use Rattle.uc_code.specs.CodeShapes.{Kept};
+ghost use Rattle.uc_lower_expr.specs.Members.{FitClasses};
 ghost use Rattle.uc_lower_stmt.specs.RowFit.{RoutineRows};
 ghost use Rattle.uc_lower_stmt.specs.Marked.{closing};
 ghost use Rattle.uc_lower_stmt.specs.Routines.{frame_cells};
@@ -338,6 +339,7 @@ pub fn lower_unwritten(
     number: u32,
     out: &mut Draft,
 ) -> Result<(), AllocError>
+    requires fit { FitClasses names.now }
     requires unwritten { IsUnwritten names.now (unwritten_as one) number }
     requires known { number < length out.old.routines }
     requires outside { out.old.marks ≡ [] }
@@ -350,7 +352,6 @@ pub fn lower_unwritten(
     ensures outside { OnOk result (out.new.marks ≡ []) }
 {
     let entry = out.here();
-    names.fit();
     out.begin_routine(None, 0, 0, 0, 0);
     out.enter_body(number)?;
     lower_unwritten_body(alloc, names, one.role, one.class, out)?;

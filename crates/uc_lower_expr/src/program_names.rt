@@ -322,13 +322,6 @@ fn place_of(objects: &[usize], number: u32) -> Option<usize>
     objects.get(number as usize - 1).copied()
 }
 
-fn cells_in(sizes: &Sizes, class: usize) -> u32
-    requires { FitClasses sizes.now }
-    ensures { result ≡ class_cells sizes.now class }
-{
-    sizes.cells_of_class(class) as u32
-}
-
 // A written routine, else one that nobody wrote.
 fn routine_or(written: Option<u32>, unwritten: u32) -> ClassRoutine
     ensures { result ≡ routine_or written unwritten }
@@ -383,11 +376,11 @@ impl<'a> ProgramNames<'a> {
         self.sizes
     }
 
-    /// Each class fits: none has itself in its fields.
-    pub fn fit(&self)
-        ensures { FitClasses self.now }
+    /// The cells of an object of the class with this place; 0 where there is no such class.
+    pub fn cells_of_class(&self, class: usize) -> u32
+        ensures { result ≡ class_cells self.now class }
     {
-        let _ = &self.sizes;
+        self.sizes.cells_of_class(class) as u32
     }
 
     /// What a declaration of this base makes, if it is none of scalars, references or conditions.
@@ -592,7 +585,7 @@ impl<'a> ProgramNames<'a> {
             return 1;
         }
         match class {
-            Some(class) => cells_in(self.sizes, class),
+            Some(class) => self.cells_of_class(class),
             None => 1,
         }
     }

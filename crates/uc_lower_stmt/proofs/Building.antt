@@ -3,8 +3,6 @@ use Rattle.std.proofs.Common.{◌≡◌, ℕ, ◌+◌, ◌≤◌, ◌<◌, List,
 use Rattle.uc_tree.specs.declared.kinds.Param.{Param}
 use Rattle.uc_tree.specs.declared.kinds.Role.{Role}
 use Rattle.uc_tree.specs.declared.kinds.Role.TheVariants as role
-use Rattle.uc_tree.specs.declared.limits.TheConstants.{CLASS_CELLS}
-use Rattle.uc_tree.specs.Capped.{capped}
 use Rattle.uc_tree.specs.Cells.{class_cells, classes_of}
 use Rattle.uc_tree.specs.Laws.{LawCells}
 use Rattle.uc_tree.specs.Programs.{Program}
@@ -40,13 +38,9 @@ use Rattle.uc_lower_expr.proofs.Settled.{args_stable, expr_stable}
 use Rattle.uc_lower_stmt.specs.Objects.{FillCode, MadeCode, array_by, build_room, build_rows, builder_of, call_by, destroyer_of, element_cells, fill_room, object_built, object_cells, object_ended}
 use Rattle.uc_lower_stmt.proofs.Joined.{puts_adds}
 
--- cells that are not capped
-cells_kept : (n x : ℕ) → x ≡ capped n → n ≤ CLASS_CELLS → x ≡ n
-cells_kept n x e h = let same : capped n ≡ n = omega arith in e ∙ same
-
 -- of an object; a mutex object is there by its number
-pub cells_plain : (p : Program) (i : ℕ) (mutex : Bool) (x : ℕ) → mutex ≡ false → x ≡ capped (class_cells p i) → class_cells p i ≤ CLASS_CELLS → x ≡ object_cells p i mutex
-cells_plain p i mutex x m e h = cells_kept (class_cells p i) x e h ∙ sym (ap (object_cells p i) m)
+pub cells_plain : (p : Program) (i : ℕ) (mutex : Bool) (x : ℕ) → mutex ≡ false → x ≡ class_cells p i → x ≡ object_cells p i mutex
+cells_plain p i mutex x m e = e ∙ sym (ap (object_cells p i) m)
 
 pub cells_mutex : (p : Program) (i : ℕ) (mutex : Bool) → mutex ≡ true → 1 ≡ object_cells p i mutex
 cells_mutex p i mutex m = sym (ap (object_cells p i) m)

@@ -94,11 +94,10 @@ fn object_ended(class: usize, names: &ProgramNames) -> Manner
 fn object_cells(class: usize, names: &ProgramNames) -> u32
     ensures { result ≡ object_cells names.now class (is_mutex_at names.now class) }
 {
-    names.fit();
     if names.is_mutex(class) {
         1
     } else {
-        names.sizes().cells_of_class(class) as u32
+        names.cells_of_class(class)
     }
 }
 

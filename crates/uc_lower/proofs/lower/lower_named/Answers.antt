@@ -10,7 +10,6 @@ use Rattle.uc_code.proofs.Paces.{lowered_paced}
 use Rattle.uc_lower.specs.RoutineLayout.{LaysAll}
 use Rattle.uc_lower.specs.Refusals.{Fits}
 use Rattle.uc_lower.proofs.Ending.{as_many, whole, whole_few, whole_rows}
-use Rattle.uc_lower.proofs.Ruled.{fit_classes}
 use Rattle.uc_lower.proofs.lower.lower_named.Goals as goal
 
 pub lower_routines-requires-clause-unbroken : goal.lower_routines-requires-clause-unbroken
@@ -53,12 +52,6 @@ returns-clause-few c =
     let lays : LaysAll p (routines_of p) (unwritten_of p) (c.args.count + more) more out = subst (λ (q : Program). LaysAll q (routines_of q) (unwritten_of q) (c.args.count + more) more out) e c.in_ok-lower_all_unwritten.ensures in
     let us : more ≡ length (unwritten_of p) = sym (length-map c.args.unwritten.now unwritten_as) ∙ ap length c.requires.unwritten in
     whole_few p (c.args.count + more) more out _ _ _ c.tabulate.new.self c.requires.unbroken us lays (c.tabulate.ensures ∙ c.finish-code.ensures.code)
-
-pub cells_of_classes-requires-clause-sizes : goal.cells_of_classes-requires-clause-sizes
-cells_of_classes-requires-clause-sizes c = c.sizes.ensures ∙ c.requires.names
-
-pub cells_of_classes-requires-clause-fit : goal.cells_of_classes-requires-clause-fit
-cells_of_classes-requires-clause-fit c = fit_classes c.args.program.now c.requires.unbroken
 
 pub returns-clause-rows : goal.returns-clause-rows
 returns-clause-rows c =

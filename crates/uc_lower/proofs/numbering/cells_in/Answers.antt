@@ -6,13 +6,13 @@ use Rattle.uc_lower.proofs.numbering.cells_in.Goals as goal
 
 pub loop-place-init : goal.loop-place-init
 loop-place-init c =
-    let p = c.args.sizes.now in
+    let p = c.args.names.now in
     let items : c.push.new.self.items ≡ 0 ∷ [] = search rules in
     ap (λ (xs : List ℕ). xs ++ cells_of (classes_meant p 0 (map (λ k. k.now) c.args.classes.now))) items ∙ ap (λ (cs : List Class). 0 ∷ cells_of (classes_meant p 0 cs)) c.requires.classes
 
 pub loop-place-preserved : goal.loop-place-preserved
 loop-place-preserved c =
-    let p = c.args.sizes.now in
+    let p = c.args.names.now in
     let i = c.loop-place.place in
     let x = c.index-classes-place.result in
     let cs : List Class = map (λ k. k.now) c.args.classes.now in

@@ -11,12 +11,16 @@ use Rattle.uc_lower_class.specs.Bodies.{IsUnwritten}
 use Rattle.uc_lower.specs.RoutineLayout.{LaysAll, last_of}
 use Rattle.uc_lower.proofs.Ending.{unwritten_fits}
 use Rattle.uc_lower.proofs.RoutineLayoutLemmas.{all_none, all_step}
+use Rattle.uc_lower.proofs.Ruled.{fit_classes}
 use Rattle.uc_lower.proofs.Silence.{last_few}
 use Rattle.uc_lower.proofs.Unwritten.{is_unwritten}
 use Rattle.uc_lower.proofs.routines.lower_all_unwritten.Goals as goal
 
 pub loop-place-init : goal.loop-place-init
 loop-place-init c = (omega arith, all_none c.args.names.now (routines_of c.args.names.now) (unwritten_of c.args.names.now) (c.args.count + length c.args.unwritten.now) c.args.count c.args.out.now c.requires.count c.requires.lays)
+
+pub lower_unwritten-requires-clause-fit : goal.lower_unwritten-requires-clause-fit
+lower_unwritten-requires-clause-fit c = fit_classes c.args.names.now c.requires.unbroken
 
 pub lower_unwritten-requires-clause-unwritten : goal.lower_unwritten-requires-clause-unwritten
 lower_unwritten-requires-clause-unwritten c =

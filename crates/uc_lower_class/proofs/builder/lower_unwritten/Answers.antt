@@ -15,7 +15,7 @@ returns-clause-code c =
 pub lower_unwritten_body-requires-clause-behind : goal.lower_unwritten_body-requires-clause-behind
 lower_unwritten_body-requires-clause-behind c =
     subst (λ n. FieldsBehind c.args.names.now c.args.one.class n) (sym (ap (λ (d : Draft). routine_in d.marks) (bare_is c.args.number c.args.out.now c.begin_routine.new.self c.enter_body.new.self c.begin_routine.ensures c.in_ok-enter_body.ensures.ok)))
-    (unwritten_behind c.args.names.now c.fit.ensures (unwritten_as c.args.one) c.args.number c.requires.unwritten)
+    (unwritten_behind c.args.names.now c.requires.fit (unwritten_as c.args.one) c.args.number c.requires.unwritten)
 
 pub returns-clause-rows : goal.returns-clause-rows
 returns-clause-rows c =

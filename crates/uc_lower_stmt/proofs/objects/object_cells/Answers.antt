@@ -1,7 +1,4 @@
-use Rattle.std.proofs.Common.{ap, sym, ◌∙◌}
-use Rattle.uc_tree.specs.Capped.{capped}
-use Rattle.uc_tree.specs.Cells.{class_cells}
-use Rattle.uc_tree.specs.Programs.{Program}
+use Rattle.std.proofs.Common.{sym, ◌∙◌}
 use Rattle.uc_lower_expr.specs.Meanings.{is_mutex_at}
 use Rattle.uc_lower_stmt.proofs.Building.{cells_mutex, cells_plain}
 use Rattle.uc_lower_stmt.proofs.objects.object_cells.Goals as goal
@@ -11,4 +8,4 @@ returns-then-is_mutex c = cells_mutex c.args.names.now c.args.class (is_mutex_at
 
 pub returns-else-is_mutex : goal.returns-else-is_mutex
 returns-else-is_mutex c =
-    cells_plain c.args.names.now c.args.class (is_mutex_at c.args.names.now c.args.class) _ (sym c.is_mutex.ensures ∙ c.if-is_mutex.false) (c.cells_of_class.ensures ∙ ap (λ (p : Program). capped (class_cells p c.args.class)) c.sizes.ensures) (c.fit.ensures.small c.args.class)
+    cells_plain c.args.names.now c.args.class (is_mutex_at c.args.names.now c.args.class) _ (sym c.is_mutex.ensures ∙ c.if-is_mutex.false) c.cells_of_class.ensures
