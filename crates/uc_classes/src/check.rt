@@ -19,25 +19,23 @@ fn first_among(
     alloc: Global,
     tables: &Tables,
     index: &Index,
-    program: &Program,
 ) -> Result<Option<Break>, AllocError>
-    requires tables { tables.now ≡ program.now }
-    requires index { index.now ≡ program.now }
-    ensures { IfOk result (λ first. first ≡ after None (breaks_of program.now)) }
+    requires { index.now ≡ tables.now }
+    ensures { IfOk result (λ first. first ≡ after None (breaks_of tables.now)) }
 {
     let mut found = Found::new();
-    ask_program(program, &mut found);
+    ask_program(tables.program(), &mut found);
     check_items(alloc, tables, index, &mut found)?;
     Ok(found.first())
 }
 
-// An owned table has one way to its end: behind the call that reads it no `?` stands.
-fn first_by(alloc: Global, tables: &Tables, program: &Program) -> Result<Option<Break>, AllocError>
-    requires { tables.now ≡ program.now }
-    ensures { IfOk result (λ first. first ≡ after None (breaks_of program.now)) }
+/// The first break of a rule, where the program of these tables breaks one.
+pub fn first_break_by(alloc: Global, tables: &Tables) -> Result<Option<Break>, AllocError>
+    ensures { IfOk result (λ first. first ≡ after None (breaks_of tables.now)) }
 {
-    let index = Index::new(alloc, program)?;
-    let first = first_among(alloc, tables, &index, program);
+    // An owned table has one way to its end: behind the call that reads it no `?` stands.
+    let index = Index::new(alloc, tables.program())?;
+    let first = first_among(alloc, tables, &index);
     first
 }
 
@@ -46,6 +44,6 @@ pub fn first_break(alloc: Global, program: &Program) -> Result<Option<Break>, Al
     ensures { IfOk result (λ first. first ≡ after None (breaks_of program.now)) }
 {
     let tables = tables_of(alloc, program)?;
-    let first = first_by(alloc, &tables, program);
+    let first = first_break_by(alloc, &tables);
     first
 }

@@ -15,12 +15,10 @@ pub record AreFirst (cs : List Class) (count : ℕ) (ms : List (List Block)) : T
 pub first_none : (cs : List Class) → AreFirst cs 0 []
 first_none cs = record { long = refl; each = λ i c bs e g. absurd (cc) }
 
-pub first_more : (cs : List Class) (count : ℕ) (c : Class) (ms : List (List Block)) (bs : List Block) → slice_get cs count ≡ Some c → IsPlaces (take MEMBERS (mutex_members c)) bs → AreFirst cs count ms → AreFirst cs (count + 1) (ms ++ bs ∷ [])
-first_more cs count c ms bs there are h = record {
+pub first_more : (cs : List Class) (count : ℕ) (ms : List (List Block)) (bs : List Block) → ((c : Class) → slice_get cs count ≡ Some c → IsPlaces (take MEMBERS (mutex_members c)) bs) → AreFirst cs count ms → AreFirst cs (count + 1) (ms ++ bs ∷ [])
+first_more cs count ms bs are h = record {
   long = length-append ms (bs ∷ []) ∙ ap (λ n. n + 1) h.long;
   each = λ i d xs a b. last_of (IsPlaces (take MEMBERS (mutex_members d)) xs) ms bs i xs b (λ e. h.each i d xs a e) (λ e f.
-      let k : count ≡ i = sym (e ∙ h.long) in
-      let g : Some c ≡ Some d = sym there ∙ ap (slice_get cs) k ∙ a in
-      let is : c ≡ d = cc in
-      subst (λ (x : List Block). IsPlaces (take MEMBERS (mutex_members d)) x) f (subst (λ (x : Class). IsPlaces (take MEMBERS (mutex_members x)) bs) is are));
+      let k : i ≡ count = e ∙ h.long in
+      subst (λ (x : List Block). IsPlaces (take MEMBERS (mutex_members d)) x) f (are d (ap (slice_get cs) (sym k) ∙ a)));
 }

@@ -20,20 +20,18 @@ use crate::numbering::{cells_of_classes, members_of_classes, numbering_of};
 use crate::program_main::number_of_main;
 use crate::routines::{lower_all_unwritten, lower_routines, no_code};
 use std::alloc::{AllocError, Global};
+use uc_checked::checked::Checked;
+use uc_checked::copies::{copy_sites, copy_texts};
 use uc_code::code::Code;
 use uc_code::draft::Draft;
 use uc_implicit::numbers::numbers_of_classes;
 use uc_implicit::unwritten::{Unwritten, unwritten_of};
 use uc_layout::frames::cells_of_routine;
-use uc_layout::lists::classes_in;
 use uc_layout::sizes::Sizes;
 use uc_lower_expr::program_names::ProgramNames;
 use uc_numbering::routines::{Defined, routines_of};
-use uc_numbering::sites::sites_of;
-use uc_numbering::texts::texts_of;
 use uc_size::program::size_of_program;
 use uc_tree::limits::{FRAME_CELLS, PROGRAM_SIZE};
-use uc_tree::program::Program;
 
 /// Why a program is not lowered: the frame of this routine, the first such, has too many cells; the program counts too much; or
 /// memory is wanting. The greatest number stands for all that are greater.
@@ -65,34 +63,34 @@ fn large_frame(sizes: &Sizes, defined: &[Defined], count: u32) -> Option<LowerFa
 // The code of a program that fits, with these names, and the routines that nobody wrote.
 fn lower_named(
     alloc: Global,
-    program: &Program,
+    checked: &Checked,
     names: &ProgramNames,
     defined: &[Defined],
     count: u32,
     unwritten: &[Unwritten],
 ) -> Result<Code, AllocError>
-    requires unbroken { breaks_of program.now ≡ [] }
-    requires fits { Fits program.now }
-    requires names { names.now ≡ program.now }
-    requires defined { map defined_at defined.now ≡ routines_of program.now }
+    requires unbroken { breaks_of checked.now ≡ [] }
+    requires fits { Fits checked.now }
+    requires names { names.now ≡ checked.now }
+    requires defined { map defined_at defined.now ≡ routines_of checked.now }
     requires count { count ≡ length defined.now }
-    requires unwritten { map unwritten_as unwritten.now ≡ unwritten_of program.now }
+    requires unwritten { map unwritten_as unwritten.now ≡ unwritten_of checked.now }
     requires few { count + length unwritten.now < 2 ^ 32 }
-    ensures lowered { IfOk result (λ code. Lowered (source_of program.now) code) }
+    ensures lowered { IfOk result (λ code. Lowered (source_of checked.now) code) }
     ensures paced { IfOk result (λ code. IsPaced (laid_of code) code.routines) }
-    ensures few { IfOk result (λ code. length code.ops ≤ OPS_FOR_SIZE * program_size program.now) }
+    ensures few { IfOk result (λ code. length code.ops ≤ OPS_FOR_SIZE * program_size checked.now) }
     ensures rows { IfOk result (λ code. HasRows code) }
 {
     let mut out = Draft::new(alloc, no_code(alloc, defined.len() + unwritten.len())?);
-    let main = match number_of_main(&program.items) {
+    let main = match number_of_main(&checked.program().items) {
         Some(main) => main,
         None => return Err(AllocError),
     };
     lower_routines(alloc, names, defined, main, count, &mut out)?;
     lower_all_unwritten(alloc, names, unwritten, count, &mut out)?;
-    let sites = sites_of(alloc, program)?;
-    let texts = texts_of(alloc, program)?;
-    let classes = cells_of_classes(alloc, program, names)?;
+    let sites = copy_sites(alloc, checked.sites())?;
+    let texts = copy_texts(alloc, checked.texts())?;
+    let classes = cells_of_classes(alloc, checked.program(), names)?;
     let mut code = out.finish(sites, texts, classes);
     code.tabulate(alloc)?;
     Ok(code)
@@ -101,31 +99,28 @@ fn lower_named(
 // The code of a program that fits, of whose classes these are the numbers, and these the routines that nobody wrote.
 fn lower_all(
     alloc: Global,
-    program: &Program,
-    sizes: &Sizes,
+    checked: &Checked,
     defined: &[Defined],
     count: u32,
     unwritten: &[Unwritten],
     numbers: Vec<u32>,
 ) -> Result<Code, AllocError>
-    requires unbroken { breaks_of program.now ≡ [] }
-    requires fits { Fits program.now }
-    requires sizes { sizes.now ≡ program.now }
-    requires defined { map defined_at defined.now ≡ routines_of program.now }
+    requires unbroken { breaks_of checked.now ≡ [] }
+    requires fits { Fits checked.now }
+    requires defined { map defined_at defined.now ≡ routines_of checked.now }
     requires count { count ≡ length defined.now }
-    requires unwritten { map unwritten_as unwritten.now ≡ unwritten_of program.now }
+    requires unwritten { map unwritten_as unwritten.now ≡ unwritten_of checked.now }
     requires few { count + length unwritten.now < 2 ^ 32 }
-    requires numbers { numbers.items ≡ map (number_of_class program.now) (classes_of program.now.items) }
-    ensures lowered { IfOk result (λ code. Lowered (source_of program.now) code) }
+    requires numbers { numbers.items ≡ map (number_of_class checked.now) (classes_of checked.now.items) }
+    ensures lowered { IfOk result (λ code. Lowered (source_of checked.now) code) }
     ensures paced { IfOk result (λ code. IsPaced (laid_of code) code.routines) }
-    ensures few { IfOk result (λ code. length code.ops ≤ OPS_FOR_SIZE * program_size program.now) }
+    ensures few { IfOk result (λ code. length code.ops ≤ OPS_FOR_SIZE * program_size checked.now) }
     ensures rows { IfOk result (λ code. HasRows code) }
 {
-    let classes = classes_in(alloc, &program.items)?;
-    let members = members_of_classes(alloc, &classes)?;
+    let members = members_of_classes(alloc, checked, numbers.len())?;
     let numbering = numbering_of(alloc, defined, count, unwritten, numbers, members)?;
-    let names = ProgramNames::new(alloc, sizes, numbering)?;
-    let code = lower_named(alloc, program, &names, defined, count, unwritten);
+    let names = ProgramNames::new(alloc, checked.sizes(), numbering)?;
+    let code = lower_named(alloc, checked, &names, defined, count, unwritten);
     code
 }
 
@@ -142,76 +137,70 @@ fn are_few(count: u32, unwritten: usize) -> bool
 // The code of a program that fits.
 fn lower_fit(
     alloc: Global,
-    program: &Program,
-    sizes: &Sizes,
+    checked: &Checked,
     defined: &[Defined],
     count: u32,
 ) -> Result<Code, AllocError>
-    requires unbroken { breaks_of program.now ≡ [] }
-    requires fits { Fits program.now }
-    requires sizes { sizes.now ≡ program.now }
-    requires defined { map defined_at defined.now ≡ routines_of program.now }
+    requires unbroken { breaks_of checked.now ≡ [] }
+    requires fits { Fits checked.now }
+    requires defined { map defined_at defined.now ≡ routines_of checked.now }
     requires count { count ≡ length defined.now }
-    ensures lowered { IfOk result (λ code. Lowered (source_of program.now) code) }
+    ensures lowered { IfOk result (λ code. Lowered (source_of checked.now) code) }
     ensures paced { IfOk result (λ code. IsPaced (laid_of code) code.routines) }
-    ensures few { IfOk result (λ code. length code.ops ≤ OPS_FOR_SIZE * program_size program.now) }
+    ensures few { IfOk result (λ code. length code.ops ≤ OPS_FOR_SIZE * program_size checked.now) }
     ensures rows { IfOk result (λ code. HasRows code) }
 {
-    let numbers = numbers_of_classes(alloc, program)?;
-    let unwritten = unwritten_of(alloc, sizes, defined, &numbers)?;
+    let numbers = numbers_of_classes(alloc, checked.program())?;
+    let unwritten = unwritten_of(alloc, checked.sizes(), defined, &numbers)?;
     if !are_few(count, unwritten.len()) {
         return Err(AllocError);
     }
-    let code = lower_all(alloc, program, sizes, defined, count, &unwritten, numbers);
+    let code = lower_all(alloc, checked, defined, count, &unwritten, numbers);
     code
 }
 
 fn lower_defined(
     alloc: Global,
-    program: &Program,
-    sizes: &Sizes,
+    checked: &Checked,
     defined: &[Defined],
     count: u32,
 ) -> Result<Code, LowerFault>
-    requires unbroken { breaks_of program.now ≡ [] }
-    requires sizes { sizes.now ≡ program.now }
-    requires defined { map defined_at defined.now ≡ routines_of program.now }
+    requires unbroken { breaks_of checked.now ≡ [] }
+    requires defined { map defined_at defined.now ≡ routines_of checked.now }
     requires count { count ≡ length defined.now }
-    ensures lowered { IfOk result (λ code. Lowered (source_of program.now) code) }
+    ensures lowered { IfOk result (λ code. Lowered (source_of checked.now) code) }
     ensures paced { IfOk result (λ code. IsPaced (laid_of code) code.routines) }
-    ensures few { IfOk result (λ code. length code.ops ≤ OPS_FOR_SIZE * program_size program.now) }
+    ensures few { IfOk result (λ code. length code.ops ≤ OPS_FOR_SIZE * program_size checked.now) }
     ensures rows { IfOk result (λ code. HasRows code) }
-    ensures fits { IfOk result (λ code. Fits program.now) }
-    ensures refused { IfErr result (λ fault. Refuses program.now fault) }
+    ensures fits { IfOk result (λ code. Fits checked.now) }
+    ensures refused { IfErr result (λ fault. Refuses checked.now fault) }
 {
-    if let Some(fault) = large_frame(sizes, defined, count) {
+    if let Some(fault) = large_frame(checked.sizes(), defined, count) {
         return Err(fault);
     }
-    let size = size_of_program(program);
+    let size = size_of_program(checked.program());
     if size > PROGRAM_SIZE {
         return Err(LowerFault::CodeTooLarge { size });
     }
-    match lower_fit(alloc, program, sizes, defined, count) {
+    match lower_fit(alloc, checked, defined, count) {
         Ok(code) => Ok(code),
         Err(_) => Err(LowerFault::NoMemory),
     }
 }
 
-/// The code of a program that breaks no rule, of which these are the sizes. Its frames are tested first, then its size. The code has
-/// at most `OPS_FOR_SIZE` ops for each unit of the program's size, and no more rows than ops; each row lies among them.
-pub fn lower(alloc: Global, program: &Program, sizes: &Sizes) -> Result<Code, LowerFault>
-    requires unbroken { breaks_of program.now ≡ [] }
-    requires sizes { sizes.now ≡ program.now }
-    ensures lowered { IfOk result (λ code. Lowered (source_of program.now) code) }
+/// The code of a program that breaks no rule. Its frames are tested first, then its size. The code has at most `OPS_FOR_SIZE` ops for
+/// each unit of the program's size, and no more rows than ops; each row lies among them.
+pub fn lower(alloc: Global, checked: &Checked) -> Result<Code, LowerFault>
+    ensures lowered { IfOk result (λ code. Lowered (source_of checked.now) code) }
     ensures paced { IfOk result (λ code. IsPaced (laid_of code) code.routines) }
-    ensures few { IfOk result (λ code. length code.ops ≤ OPS_FOR_SIZE * program_size program.now) }
+    ensures few { IfOk result (λ code. length code.ops ≤ OPS_FOR_SIZE * program_size checked.now) }
     ensures rows { IfOk result (λ code. HasRows code) }
-    ensures fits { IfOk result (λ code. Fits program.now) }
-    ensures refused { IfErr result (λ fault. Refuses program.now fault) }
+    ensures fits { IfOk result (λ code. Fits checked.now) }
+    ensures refused { IfErr result (λ fault. Refuses checked.now fault) }
 {
-    match routines_of(alloc, program) {
+    match routines_of(alloc, checked.program()) {
         Ok(defined) => match u32::try_from(defined.len()) {
-            Ok(count) => lower_defined(alloc, program, sizes, &defined, count),
+            Ok(count) => lower_defined(alloc, checked, &defined, count),
             Err(_) => Err(LowerFault::NoMemory),
         },
         Err(_) => Err(LowerFault::NoMemory),

@@ -1,9 +1,8 @@
 // What is numbered in a program, for names; and the cells of its classes.
 
-ghost use Rattle.std.specs.Prelude.{◌≡◌, ◌++◌, [], ◌∷◌, length, map, take, IfOk, OnOk};
-ghost use Rattle.uc_tree.specs.declared.limits.TheConstants.{MEMBERS};
+ghost use Rattle.std.specs.Prelude.{◌≡◌, ◌++◌, [], ◌∷◌, length, map, IfOk, OnOk};
 ghost use Rattle.uc_tree.specs.Cells.{classes_of};
-ghost use Rattle.uc_tree.specs.Numbering.{mutex_members, routines_of};
+ghost use Rattle.uc_tree.specs.Numbering.{routines_of};
 ghost use Rattle.uc_tree.specs.Objects.{unwritten_of};
 ghost use Rattle.uc_tree.specs.Programs.{Program};
 ghost use Rattle.uc_resolve.specs.Resolve.{all_classes, classes_meant};
@@ -13,6 +12,7 @@ ghost use Rattle.uc_numbering.specs.Routines.{defined_at};
 ghost use Rattle.uc_implicit.specs.Unwritten.{number_of_class, unwritten_as};
 
 use std::alloc::{AllocError, Global};
+use uc_checked::checked::Checked;
 use uc_implicit::unwritten::{Unwritten, numbers_of};
 use uc_layout::lists::classes_in;
 use uc_layout::places::{no_places, note_place};
@@ -20,7 +20,6 @@ use uc_lower_expr::numbering::Numbering;
 use uc_lower_expr::program_names::ProgramNames;
 use uc_names::scope::Scope;
 use uc_numbering::classes::is_event;
-use uc_numbering::members::members_of;
 use uc_numbering::routines::Defined;
 use uc_tree::class::{Class, Routine};
 use uc_tree::kinds::Role;
@@ -60,25 +59,18 @@ fn places_of_names(alloc: Global, names: &[&Name]) -> Result<Scope, AllocError>
     Ok(places)
 }
 
-// The places of the mutex members of a class by their names, as far as they have numbers.
-fn places_of_members(alloc: Global, class: &Class) -> Result<Scope, AllocError>
-    ensures { IfOk result (λ places. IsPlaces (take MEMBERS (mutex_members class.now)) places) }
-{
-    let names = members_of(alloc, class)?;
-    let places = places_of_names(alloc, &names)?;
-    Ok(places)
-}
-
-/// Those of these classes of a program, by their places.
+/// The places of the mutex members of the classes of a program by their names, as far as they have numbers. It has so many classes.
 pub(crate) fn members_of_classes(
     alloc: Global,
-    classes: &[&Class],
+    checked: &Checked,
+    count: usize,
 ) -> Result<Vec<Scope>, AllocError>
-    ensures { IfOk result (λ v. (p : Program) → map (λ c. c.now) classes.now ≡ classes_of p.items → AreExclusive p v.items) }
+    requires { count ≡ length (classes_of checked.now.items) }
+    ensures { IfOk result (λ v. AreExclusive checked.now v.items) }
 {
     let mut members = Vec::new(alloc);
-    for class in classes {
-        members.push(places_of_members(alloc, class)?)?;
+    for class in 0..count {
+        members.push(places_of_names(alloc, checked.mutex_members(class))?)?;
     }
     Ok(members)
 }

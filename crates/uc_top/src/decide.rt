@@ -310,7 +310,7 @@ fn do_tokens<R: Threads + Wait + Sync, G: Gate + Sync>(
     ensures refused { IfErr result (TokensRefused text.now tokens.now) }
 {
     match parse(alloc, tokens) {
-        Ok(program) => match do_program(rt, gate, alloc, program, input, purpose) {
+        Ok(program) => match do_program(rt, gate, alloc, &program, input, purpose) {
             Ok(run) => Ok(run),
             Err(refusal) => Err(refusal),
         },
@@ -338,17 +338,17 @@ fn do_program<R: Threads + Wait + Sync, G: Gate + Sync>(
     rt: &R,
     gate: &G,
     alloc: Global,
-    program: Program,
+    program: &Program,
     input: &[u8],
     purpose: Purpose,
 ) -> Result<Run, Refusal>
     requires input { length input.now ≤ INPUT_BYTES }
     requires purpose { HasEntries purpose }
-    ensures did { IfOk result (λ run. ProgramDid purpose program input.now run.journal.items run.output.items run.ending) }
-    ensures refused { IfErr result (ProgramRefused program) }
+    ensures did { IfOk result (λ run. ProgramDid purpose program.now input.now run.journal.items run.output.items run.ending) }
+    ensures refused { IfErr result (ProgramRefused program.now) }
 {
     match check(alloc, program) {
-        Ok(checked) => match run_program(rt, gate, alloc, checked.program(), input, purpose) {
+        Ok(checked) => match run_program(rt, gate, alloc, &checked, input, purpose) {
             Ok(run) => Ok(run),
             Err(refusal) => Err(refusal),
         },

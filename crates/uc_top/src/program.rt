@@ -5,7 +5,6 @@ ghost use Rattle.uc_tree.specs.Source.{Source};
 ghost use Rattle.uc_tree.specs.Sizes.{program_size};
 ghost use Rattle.uc_tree.specs.declared.limits.TheConstants.{INPUT_BYTES, MAKE_MAX, OPS_FOR_SIZE};
 ghost use Rattle.uc_resolve.specs.Resolve.{source_of};
-ghost use Rattle.uc_rules.specs.Breaks.{breaks_of};
 ghost use Rattle.uc_top.specs.Accepted.{IsAccepted};
 ghost use Rattle.uc_code.specs.Layout.{laid_of};
 ghost use Rattle.uc_code.specs.Pace.{IsPaced};
@@ -26,11 +25,11 @@ use crate::refusals::Refusal;
 use std::alloc::{AllocError, Global};
 use std::sync::Wait;
 use std::thread::Threads;
+use uc_checked::checked::Checked;
 use uc_code::code::Code;
 use uc_code::listing::listing;
 use uc_entry::entry::{Entry, Options};
 use uc_journal::append_journal;
-use uc_layout::sizes::Sizes;
 use uc_lower::lower::{LowerFault, lower};
 use uc_lower::program_main::number_of_main;
 use uc_make::make;
@@ -66,39 +65,17 @@ pub(crate) fn run_program<R: Threads + Wait + Sync, G: Gate + Sync>(
     rt: &R,
     gate: &G,
     alloc: Global,
-    program: &Program,
+    checked: &Checked,
     input: &[u8],
     purpose: Purpose,
 ) -> Result<Run, Refusal>
-    requires unbroken { breaks_of program.now ≡ [] }
     requires input { length input.now ≤ INPUT_BYTES }
     requires purpose { HasEntries purpose }
-    ensures ran { IfOk result (λ run. ProgramDid purpose program.now input.now run.journal.items run.output.items run.ending) }
-    ensures refused { IfErr result (ProgramRefused program.now) }
+    ensures ran { IfOk result (λ run. ProgramDid purpose checked.now input.now run.journal.items run.output.items run.ending) }
+    ensures refused { IfErr result (ProgramRefused checked.now) }
 {
-    match Sizes::new(alloc, program) {
-        Ok(sizes) => run_sized(rt, gate, alloc, &sizes, program, input, purpose),
-        Err(_) => Err(Refusal::NoMemory),
-    }
-}
-
-fn run_sized<R: Threads + Wait + Sync, G: Gate + Sync>(
-    rt: &R,
-    gate: &G,
-    alloc: Global,
-    sizes: &Sizes,
-    program: &Program,
-    input: &[u8],
-    purpose: Purpose,
-) -> Result<Run, Refusal>
-    requires sized { sizes.now ≡ program.now }
-    requires unbroken { breaks_of program.now ≡ [] }
-    requires input { length input.now ≤ INPUT_BYTES }
-    requires purpose { HasEntries purpose }
-    ensures ran { IfOk result (λ run. ProgramDid purpose program.now input.now run.journal.items run.output.items run.ending) }
-    ensures refused { IfErr result (ProgramRefused program.now) }
-{
-    match lower(alloc, program, sizes) {
+    let program = checked.program();
+    match lower(alloc, checked) {
         Ok(code) => match do_code(rt, gate, alloc, program, &code, input, purpose) {
             Ok(run) => Ok(run),
             Err(_) => Err(Refusal::NoMemory),

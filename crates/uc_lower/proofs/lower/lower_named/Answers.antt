@@ -23,30 +23,30 @@ lower_routines-requires-clause-defined c = c.requires.defined ∙ ap routines_of
 
 pub returns-clause-lowered : goal.returns-clause-lowered
 returns-clause-lowered c =
-    let p = c.args.program.now in
-    let e : c.args.names.now ≡ c.args.program.now = c.requires.names in
+    let p = c.args.checked.now in
+    let e : c.args.names.now ≡ c.args.checked.now = c.requires.names in
     let out = c.lower_all_unwritten.new.out in
     let more : ℕ = length c.args.unwritten.now in
     let lays : LaysAll p (routines_of p) (unwritten_of p) (c.args.count + more) more out = subst (λ (q : Program). LaysAll q (routines_of q) (unwritten_of q) (c.args.count + more) more out) e c.in_ok-lower_all_unwritten.ensures in
     let us : more ≡ length (unwritten_of p) = sym (length-map c.args.unwritten.now unwritten_as) ∙ ap length c.requires.unwritten in
     let count : c.args.count ≡ length (routines_of p) = c.requires.count ∙ sym (as_many c.args.defined.now (routines_of p) c.requires.defined) in
-    whole p (c.args.count + more) more out _ _ _ c.tabulate.new.self us (ap (λ (k : ℕ). k + more) count) lays c.in_ok-sites.ensures c.in_ok-texts.ensures c.in_ok-classes.ensures (c.tabulate.ensures ∙ c.finish-code.ensures.code)
+    whole p (c.args.count + more) more out _ _ _ c.tabulate.new.self us (ap (λ (k : ℕ). k + more) count) lays (c.in_ok-sites.ensures ∙ c.sites.ensures) (c.in_ok-texts.ensures ∙ c.texts.ensures) (c.in_ok-classes.ensures ∙ ap (λ (q : Program). map (λ k. k.cells) (all_classes q)) c.program.ensures.same) (c.tabulate.ensures ∙ c.finish-code.ensures.code)
 
 pub returns-clause-paced : goal.returns-clause-paced
 returns-clause-paced c =
-    let p = c.args.program.now in
-    let e : c.args.names.now ≡ c.args.program.now = c.requires.names in
+    let p = c.args.checked.now in
+    let e : c.args.names.now ≡ c.args.checked.now = c.requires.names in
     let out = c.lower_all_unwritten.new.out in
     let more : ℕ = length c.args.unwritten.now in
     let lays : LaysAll p (routines_of p) (unwritten_of p) (c.args.count + more) more out = subst (λ (q : Program). LaysAll q (routines_of q) (unwritten_of q) (c.args.count + more) more out) e c.in_ok-lower_all_unwritten.ensures in
     let us : more ≡ length (unwritten_of p) = sym (length-map c.args.unwritten.now unwritten_as) ∙ ap length c.requires.unwritten in
     let count : c.args.count ≡ length (routines_of p) = c.requires.count ∙ sym (as_many c.args.defined.now (routines_of p) c.requires.defined) in
-    lowered_paced (source_of p) c.tabulate.new.self (whole p (c.args.count + more) more out _ _ _ c.tabulate.new.self us (ap (λ (k : ℕ). k + more) count) lays c.in_ok-sites.ensures c.in_ok-texts.ensures c.in_ok-classes.ensures (c.tabulate.ensures ∙ c.finish-code.ensures.code))
+    lowered_paced (source_of p) c.tabulate.new.self (whole p (c.args.count + more) more out _ _ _ c.tabulate.new.self us (ap (λ (k : ℕ). k + more) count) lays (c.in_ok-sites.ensures ∙ c.sites.ensures) (c.in_ok-texts.ensures ∙ c.texts.ensures) (c.in_ok-classes.ensures ∙ ap (λ (q : Program). map (λ k. k.cells) (all_classes q)) c.program.ensures.same) (c.tabulate.ensures ∙ c.finish-code.ensures.code))
 
 pub returns-clause-few : goal.returns-clause-few
 returns-clause-few c =
-    let p = c.args.program.now in
-    let e : c.args.names.now ≡ c.args.program.now = c.requires.names in
+    let p = c.args.checked.now in
+    let e : c.args.names.now ≡ c.args.checked.now = c.requires.names in
     let out = c.lower_all_unwritten.new.out in
     let more : ℕ = length c.args.unwritten.now in
     let lays : LaysAll p (routines_of p) (unwritten_of p) (c.args.count + more) more out = subst (λ (q : Program). LaysAll q (routines_of q) (unwritten_of q) (c.args.count + more) more out) e c.in_ok-lower_all_unwritten.ensures in

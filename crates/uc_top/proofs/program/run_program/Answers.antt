@@ -1,7 +1,7 @@
 use Rattle.std.proofs.Common.{subst}
 use Rattle.uc_lower.specs.Refusals.{Refuses, IsLarge}
 use Rattle.uc_top.proofs.Frames.{accepted, fit_frames}
-use Rattle.uc_top.proofs.program.run_sized.Goals as goal
+use Rattle.uc_top.proofs.program.run_program.Goals as goal
 
 pub do_code-requires-clause-accepted : goal.do_code-requires-clause-accepted
 do_code-requires-clause-accepted g c κs within = accepted c.args.program.now c.requires.unbroken c.in-Ok.ensures.fits
