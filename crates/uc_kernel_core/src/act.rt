@@ -6,8 +6,8 @@ ghost use Rattle.uc_acts.specs.KernelRuns.{Fits, MayAsk};
 ghost use Rattle.uc_kernel_core.specs.Mirrors.{Appended, MayAct, rows};
 ghost use Rattle.uc_kernel_core.specs.CoreActs.{acts, makes_new, IsReady};
 
-use crate::kernel_core::KernelCore;
 use crate::entries::Actor;
+use crate::kernel_core::KernelCore;
 use std::alloc::AllocError;
 use uc_entry::request::Request;
 
@@ -20,7 +20,7 @@ impl KernelCore {
         requires old { makes_new request.now ≡ false }
         ensures { Appended self.old self.new (acts self.old who.processor who.task who.ticks who.line request.now) }
     {
-        let before = self.told.len();
+        let before = self.journal.len();
         self.request(who, request);
         self.finish(who, before);
     }
@@ -32,7 +32,7 @@ impl KernelCore {
         ensures ok { OnOk result (Appended self.old self.new (acts self.old who.processor who.task who.ticks who.line (ask.Make class))) }
         ensures err { OnErr result (self.new ≡ self.old) }
     {
-        let before = self.told.len();
+        let before = self.journal.len();
         self.make(who, class)?;
         self.finish(who, before);
         Ok(())
@@ -45,7 +45,7 @@ impl KernelCore {
         ensures ok { OnOk result (Appended self.old self.new (acts self.old who.processor who.task who.ticks who.line (ask.Spawn object))) }
         ensures err { OnErr result (self.new ≡ self.old) }
     {
-        let before = self.told.len();
+        let before = self.journal.len();
         self.add_child(who, object)?;
         self.finish(who, before);
         Ok(())

@@ -18,7 +18,7 @@ impl KernelCore {
         ensures over { is_some result ≡ is_over self.now.journal }
         ensures last { IfSome result (λ k. k ≡ last_kind self.now.journal) }
     {
-        self.told.ending()
+        self.journal.ending()
     }
 
     /// What a task is told to go on with, if it is.
@@ -27,7 +27,7 @@ impl KernelCore {
         requires task { task < TASKS }
         ensures { result ≡ answer_to self.now.sites task self.now.journal }
     {
-        self.told.answer(task)
+        self.journal.answer(task)
     }
 
     /// The ticks that a task has left of its slice.
@@ -36,7 +36,7 @@ impl KernelCore {
         requires task { task < TASKS }
         ensures { result ≡ left self.now.opts self.now.journal task }
     {
-        let used = self.told.ticks_since_dispatch(task);
+        let used = self.journal.ticks_since_dispatch(task);
         u64::from(self.opts.slice).saturating_sub(used) as u32
     }
 

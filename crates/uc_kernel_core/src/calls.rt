@@ -5,8 +5,8 @@ ghost use Rattle.uc_acts.specs.KernelRuns.{IsOutside};
 ghost use Rattle.uc_entry.specs.declared.request.Request.TheVariants as ask;
 ghost use Rattle.uc_kernel_core.specs.Mirrors.{Appended, MayAct, rows};
 
-use crate::kernel_core::{KernelCore, destroys_busy};
 use crate::entries::{Actor, admit_entry, busy_entry, call_entry, push_entry};
+use crate::kernel_core::{KernelCore, destroys_busy};
 use uc_mutex::called::Called;
 use uc_tree::limits::DESTRUCTOR;
 
@@ -20,28 +20,29 @@ impl KernelCore {
     {
         let destroys = member == DESTRUCTOR;
         let called = self.entries.call(object, member, who.task);
-        self.told.push(call_entry(who, object, member));
+        self.journal.push(call_entry(who, object, member));
         self.marks[who.task as usize] = destroys;
         match called {
             Called::Waits => self.clusters.free(u32::from(who.processor)),
             Called::In(way) => {
                 if destroys_busy(destroys, &self.entries, &self.conditions, object) {
-                    self.told.push(busy_entry(who));
+                    self.journal.push(busy_entry(who));
                     return;
                 }
-                self.told.push(admit_entry(who, who.task, object, way, 0));
+                self.journal
+                    .push(admit_entry(who, who.task, object, way, 0));
                 self.inside_marks[object as usize] = destroys;
             }
             Called::Pushed { acceptor, clause } => {
                 // The caller is on the stack, so whoever called the destructor before is cut off.
                 let mark = self.marks[acceptor as usize];
                 if mark {
-                    self.told.push(busy_entry(who));
+                    self.journal.push(busy_entry(who));
                     return;
                 }
-                self.told
+                self.journal
                     .push(admit_entry(who, acceptor, object, 3, clause));
-                self.told.push(push_entry(who, who.task, object));
+                self.journal.push(push_entry(who, who.task, object));
                 self.clusters.free(u32::from(who.processor));
                 self.clusters.ready(acceptor);
                 self.inside_marks[object as usize] = mark;

@@ -2,8 +2,8 @@
 ghost use Rattle.std.specs.Prelude.{◌≡◌, IfSome, IfNone};
 ghost use Rattle.uc_kernel_core.specs.CoreActs.{Gave, GaveNone, IsReady};
 
-use crate::kernel_core::KernelCore;
 use crate::entries::{closing_entry, dispatch_entry};
+use crate::kernel_core::KernelCore;
 use uc_entry::entry::EntryKind;
 
 impl KernelCore {
@@ -18,11 +18,11 @@ impl KernelCore {
         match self.clusters.dispatch() {
             None => None,
             Some(given) => {
-                if self.told.len() + 2 > self.opts.entries as usize {
-                    self.told.push(closing_entry(EntryKind::Limit, 0, 0));
+                if self.journal.len() + 2 > self.opts.entries as usize {
+                    self.journal.push(closing_entry(EntryKind::Limit, 0, 0));
                     return None;
                 }
-                self.told.push(dispatch_entry(given.0 as u8, given.1));
+                self.journal.push(dispatch_entry(given.0 as u8, given.1));
                 Some(given)
             }
         }

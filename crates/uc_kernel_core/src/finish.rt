@@ -8,8 +8,8 @@ ghost use Rattle.uc_acts.specs.Acts.{closing, fitted, verdict};
 ghost use Rattle.uc_kernel_core.specs.Mirrors.{Appended};
 ghost use Rattle.uc_kernel_core.specs.CoreActs.{Replaced};
 
-use crate::kernel_core::KernelCore;
 use crate::entries::{Actor, closing_entry};
+use crate::kernel_core::KernelCore;
 use uc_cluster::Stalled;
 use uc_entry::entry::EntryKind;
 
@@ -32,7 +32,7 @@ impl KernelCore {
         requires room { length self.old.journal < self.old.opts.entries + 40 }
         ensures { Appended self.old self.new (if is_over self.old.journal then [] else closing who.processor who.task (verdict self.old.opts self.old.journal)) }
     {
-        if self.told.ending().is_some() {
+        if self.journal.ending().is_some() {
             return;
         }
         match self.verdict() {
@@ -47,10 +47,10 @@ impl KernelCore {
         requires ready { before < self.old.opts.entries }
         ensures { Replaced self.old self.new before (fitted self.old.opts (take before self.old.journal) who.processor who.task (drop before self.old.journal)) }
     {
-        if self.told.len() < self.opts.entries as usize {
+        if self.journal.len() < self.opts.entries as usize {
             return;
         }
-        self.told.end_at(
+        self.journal.end_at(
             before,
             closing_entry(EntryKind::Limit, who.processor, who.task),
         );
@@ -61,7 +61,7 @@ impl KernelCore {
         requires going { is_over self.now.journal ≡ false }
         ensures { result ≡ verdict self.now.opts self.now.journal }
     {
-        if self.told.first_ended() {
+        if self.journal.first_ended() {
             return Some(EntryKind::Done);
         }
         match self.clusters.stalled() {
@@ -75,7 +75,7 @@ impl KernelCore {
         requires going { is_over self.now.journal ≡ false }
         ensures { result ≡ (if nat_le self.now.opts.ticks (all_ticks self.now.journal) then Some kind.Limit else None) }
     {
-        if self.opts.ticks <= self.told.ticks() {
+        if self.opts.ticks <= self.journal.ticks() {
             return Some(EntryKind::Limit);
         }
         None

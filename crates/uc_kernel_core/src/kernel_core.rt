@@ -40,7 +40,7 @@ use uc_tree::site::Site;
 /// The journal of a run and the queues of its kernel.
 #[derive(Drop)]
 pub struct KernelCore {
-    pub(crate) told: KernelJournal,
+    pub(crate) journal: KernelJournal,
     pub(crate) entries: Entries,
     pub(crate) conditions: Conditions,
     pub(crate) events: Events,
@@ -62,9 +62,9 @@ impl Model for KernelCore {
 
     ghost Value = { Seen };
 
-    ghost view = { λ b. seen b.told b.opts b.input.items };
+    ghost view = { λ b. seen b.journal b.opts b.input.items };
 
-    ghost invariant = { λ b. IsBook b.told b.entries b.conditions b.events b.clusters b.marks.items b.inside_marks.items b.owners.items b.own.items b.opts };
+    ghost invariant = { λ b. IsBook b.journal b.entries b.conditions b.events b.clusters b.marks.items b.inside_marks.items b.owners.items b.own.items b.opts };
 }
 
 impl KernelCore {
@@ -79,7 +79,7 @@ impl KernelCore {
         requires sites { AreKnownSites sites.items }
         ensures { IfOk result (λ b. b ≡ record { journal = begin opts.now ∷ []; sites = sites.items; opts = opts.now; input = input.items }) }
     {
-        let told = KernelJournal::new(alloc, opts, sites, TASKS, opts.entries + 40)?;
+        let journal = KernelJournal::new(alloc, opts, sites, TASKS, opts.entries + 40)?;
         let entries = first_entries(alloc)?;
         let conditions = first_conditions(alloc)?;
         let events = first_events(alloc)?;
@@ -89,7 +89,7 @@ impl KernelCore {
         let owners = first_owners(alloc)?;
         let own = first_objects(alloc, TASKS)?;
         Ok(KernelCore {
-            told,
+            journal,
             entries,
             conditions,
             events,
@@ -107,14 +107,14 @@ impl KernelCore {
     pub fn journal(&self) -> &[Entry]
         ensures { result.now ≡ self.now.journal }
     {
-        self.told.entries()
+        self.journal.entries()
     }
 
     /// The journal alone.
     pub fn into_journal(self) -> Vec<Entry>
         ensures { result.items ≡ self.journal }
     {
-        self.told.into_journal()
+        self.journal.into_journal()
     }
 
     /// An entry that touches no queue.
@@ -124,7 +124,7 @@ impl KernelCore {
         requires sayable { IsSayable TASKS e.kind e }
         ensures { Appended self.old self.new (e ∷ []) }
     {
-        self.told.push(e);
+        self.journal.push(e);
     }
 
     /// An entry that ends the run.
@@ -135,7 +135,7 @@ impl KernelCore {
         requires task { e.task < TASKS }
         ensures { Appended self.old self.new (e ∷ []) }
     {
-        self.told.push(e);
+        self.journal.push(e);
     }
 
     /// An entry by which its task goes to the back of the ready queue of its cluster.
@@ -145,7 +145,7 @@ impl KernelCore {
         requires runs { running e.proc self.old.journal ≡ e.task ∷ [] }
         ensures { Appended self.old self.new (e ∷ []) }
     {
-        self.told.push(e);
+        self.journal.push(e);
         self.clusters.free(u32::from(e.proc));
         self.clusters.ready(e.task);
     }
@@ -158,7 +158,7 @@ impl KernelCore {
         requires known { e.object < object_count self.old.journal }
         ensures { Appended self.old self.new (e ∷ []) }
     {
-        self.told.push(e);
+        self.journal.push(e);
         self.entries.leave(e.object);
     }
 
@@ -169,7 +169,7 @@ impl KernelCore {
         requires known { object < object_count self.old.journal }
         ensures { Appended self.old self.new (Journal.asking kind.Leave who.processor who.task (cost who.ticks who.line) object (truth failed) (pos 0) ∷ []) }
     {
-        self.told.push(leave_entry(who, object, failed));
+        self.journal.push(leave_entry(who, object, failed));
         self.entries.end_call(object, who.task, failed);
         self.entries.leave(object);
     }
@@ -189,10 +189,10 @@ impl KernelCore {
             Some(passed) => {
                 let mark = self.marks[passed.task as usize];
                 if destroys_busy(mark, &self.entries, &self.conditions, object) {
-                    self.told.push(busy_entry(who));
+                    self.journal.push(busy_entry(who));
                     return;
                 }
-                self.told.push(next_entry(who, object, passed));
+                self.journal.push(next_entry(who, object, passed));
                 self.clusters.ready(passed.task);
                 self.inside_marks[object as usize] = mark;
             }
@@ -228,7 +228,7 @@ impl KernelCore {
         requires known { e.object < object_count self.old.journal }
         ensures { Appended self.old self.new (e ∷ []) }
     {
-        self.told.push(e);
+        self.journal.push(e);
         self.entries.leave(e.object);
         self.clusters.free(u32::from(e.proc));
         self.clusters.end_task(e.task);
@@ -322,7 +322,7 @@ impl KernelCore {
         ensures { Appended self.old self.new (rows self.old who.processor who.task who.ticks who.line (ask.Poll mask)) }
     {
         let found = self.events.poll(who.task, mask);
-        self.told.push(poll_entry(who, mask, found));
+        self.journal.push(poll_entry(who, mask, found));
     }
 
     /// A request that is itself at fault.
@@ -384,14 +384,14 @@ impl KernelCore {
         requires going { is_over self.now.journal ≡ false }
         ensures { result ≡ has_failed self.now.journal }
     {
-        self.told.has_read_failed()
+        self.journal.has_read_failed()
     }
 
     fn bytes_used(&self) -> u32
         requires going { is_over self.now.journal ≡ false }
         ensures { result ≡ bytes_used self.now.journal }
     {
-        self.told.bytes()
+        self.journal.bytes()
     }
 
     /// What the next read of this form takes of the input.
@@ -402,9 +402,9 @@ impl KernelCore {
         ensures sum { bytes_used self.now.journal + result.taken < 4294967296 }
     {
         got_after(
-            self.told.has_read_failed(),
+            self.journal.has_read_failed(),
             form,
-            self.told.bytes() as usize,
+            self.journal.bytes() as usize,
             self.input.as_slice(),
         )
     }

@@ -4,11 +4,11 @@
 mod accepts;
 mod act;
 mod answers;
-pub mod kernel_core;
 mod calls;
 mod dispatch;
 pub mod entries;
 mod finish;
+pub mod kernel_core;
 pub mod laws;
 mod processors;
 mod raises;

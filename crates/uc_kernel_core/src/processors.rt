@@ -4,8 +4,8 @@ ghost use Rattle.uc_acts.specs.Queues.{cluster_count, processor_count};
 ghost use Rattle.uc_entry.specs.declared.request.Request.TheVariants as ask;
 ghost use Rattle.uc_kernel_core.specs.Mirrors.{Appended, MayAct, rows};
 
-use crate::kernel_core::KernelCore;
 use crate::entries::{Actor, fault_entry, number_entry};
+use crate::kernel_core::KernelCore;
 use uc_entry::entry::EntryKind;
 use uc_entry::fault::RunFault;
 
@@ -18,10 +18,10 @@ impl KernelCore {
         match self.clusters.add_cluster() {
             None => {
                 let fault = RunFault::TooManyProcessors.number();
-                self.told.push(fault_entry(who, fault));
+                self.journal.push(fault_entry(who, fault));
             }
             Some(number) => self
-                .told
+                .journal
                 .push(number_entry(EntryKind::Cluster, who, number, 0)),
         }
     }
@@ -33,11 +33,11 @@ impl KernelCore {
         ensures { Appended self.old self.new (rows self.old who.processor who.task who.ticks who.line (ask.ClusterEnd cluster)) }
     {
         if self.clusters.close_cluster(cluster) {
-            self.told
+            self.journal
                 .push(number_entry(EntryKind::ClusterEnd, who, cluster, 0));
         } else {
             let fault = RunFault::DestroyBusy.number();
-            self.told.push(fault_entry(who, fault));
+            self.journal.push(fault_entry(who, fault));
         }
     }
 
@@ -50,10 +50,10 @@ impl KernelCore {
         match self.clusters.add_processor(cluster) {
             None => {
                 let fault = RunFault::TooManyProcessors.number();
-                self.told.push(fault_entry(who, fault));
+                self.journal.push(fault_entry(who, fault));
             }
             Some(number) => {
-                self.told
+                self.journal
                     .push(number_entry(EntryKind::Processor, who, number, cluster));
             }
         }
@@ -66,7 +66,7 @@ impl KernelCore {
         ensures { Appended self.old self.new (rows self.old who.processor who.task who.ticks who.line (ask.ProcessorEnd processor)) }
     {
         let cluster = self.clusters.cluster_of(processor);
-        self.told.push(number_entry(EntryKind::ProcessorEnd, who, processor, cluster));
+        self.journal.push(number_entry(EntryKind::ProcessorEnd, who, processor, cluster));
         self.clusters.close_processor(processor);
     }
 
@@ -76,7 +76,7 @@ impl KernelCore {
         requires known { cluster < cluster_count self.old.journal }
         ensures { Appended self.old self.new (rows self.old who.processor who.task who.ticks who.line (ask.Migrate cluster)) }
     {
-        self.told
+        self.journal
             .push(number_entry(EntryKind::Migrate, who, cluster, 0));
         self.clusters.free(u32::from(who.processor));
         self.clusters.migrate(who.task, cluster);

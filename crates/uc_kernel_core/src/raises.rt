@@ -7,8 +7,8 @@ ghost use Rattle.uc_acts.specs.Known.{object_count, owner};
 ghost use Rattle.uc_entry.specs.declared.request.Request.TheVariants as ask;
 ghost use Rattle.uc_kernel_core.specs.Mirrors.{Appended, MayAct, rows};
 
-use crate::kernel_core::KernelCore;
 use crate::entries::{Actor, fault_entry, raise_entry};
+use crate::kernel_core::KernelCore;
 
 impl KernelCore {
     /// Whether an object is some task's own, while the run goes on.
@@ -46,10 +46,10 @@ impl KernelCore {
     {
         let target = self.owner_of(object);
         if self.events.raise(target, event, x, y) {
-            self.told
+            self.journal
                 .push(raise_entry(who, object, target, event, x, y));
         } else {
-            self.told.push(fault_entry(who, 17));
+            self.journal.push(fault_entry(who, 17));
         }
     }
 }

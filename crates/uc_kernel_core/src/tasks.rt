@@ -8,8 +8,8 @@ ghost use Rattle.uc_acts.specs.Known.{owner};
 ghost use Rattle.uc_entry.specs.declared.request.Request.TheVariants as ask;
 ghost use Rattle.uc_kernel_core.specs.Mirrors.{Appended, MayAct, rows};
 
-use crate::kernel_core::KernelCore;
 use crate::entries::{Actor, fault_entry, object_entry};
+use crate::kernel_core::KernelCore;
 use std::alloc::AllocError;
 use uc_entry::entry::EntryKind;
 use uc_entry::fault::RunFault;
@@ -41,7 +41,7 @@ impl KernelCore {
         self.entries.add_object(who.task)?;
         self.owners.push_reserved(None);
         self.inside_marks.push_reserved(false);
-        self.told
+        self.journal
             .push(object_entry(EntryKind::Make, who, object, class));
         Ok(())
     }
@@ -62,7 +62,7 @@ impl KernelCore {
         self.conditions.reserve(child + 1, 0)?;
         self.entries.reserve(child + 1)?;
         self.events.reserve(child + 1)?;
-        self.told
+        self.journal
             .push(object_entry(EntryKind::Spawn, who, object, child));
         self.entries.hand_on(object, child);
         self.clusters.add_task(child, who.task);

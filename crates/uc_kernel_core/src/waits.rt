@@ -15,8 +15,8 @@ ghost use Rattle.uc_entry.specs.declared.request.Request.TheVariants as ask;
 ghost use Rattle.uc_kernel_core.specs.Mirrors.{Appended, CanPut, MayAct, rows};
 ghost use Rattle.uc_kernel_core.specs.Waiters.{front_admitted, front_pushed};
 
-use crate::kernel_core::{KernelCore, destroys_busy};
 use crate::entries::{Actor, admit_entry, busy_entry, condition_entry, push_entry, signal_entry};
+use crate::kernel_core::{KernelCore, destroys_busy};
 use crate::uncounted::push_on;
 use uc_entry::entry::EntryKind;
 
@@ -29,7 +29,7 @@ impl KernelCore {
         requires known { object < object_count self.old.journal }
         ensures { Appended self.old self.new (Journal.asking kind.Wait who.processor who.task (cost who.ticks who.line) object (pos cond) n ∷ []) }
     {
-        self.told
+        self.journal
             .push(condition_entry(EntryKind::Wait, who, object, cond, n));
         self.entries.leave(object);
         self.conditions.wait(object, cond, who.task, n);
@@ -58,7 +58,7 @@ impl KernelCore {
         match self.conditions.take(object, cond) {
             None => {}
             Some(task) => {
-                self.told.push(push_entry(who, task, object));
+                self.journal.push(push_entry(who, task, object));
                 push_on(&mut self.entries, object, task);
             }
         }
@@ -81,7 +81,7 @@ impl KernelCore {
         requires known { object < object_count self.old.journal }
         ensures { Appended self.old self.new (Journal.asking kind.SignalBlock who.processor who.task (cost who.ticks who.line) object (pos cond) (pos 0) ∷ []) }
     {
-        self.told.push(condition_entry(EntryKind::SignalBlock, who, object, cond, 0));
+        self.journal.push(condition_entry(EntryKind::SignalBlock, who, object, cond, 0));
     }
 
     /// A signaller that finds a waiter goes on the stack, and off its processor.
@@ -92,7 +92,7 @@ impl KernelCore {
         requires known { object < object_count self.old.journal }
         ensures { Appended self.old self.new (Journal.asking kind.SignalBlock who.processor who.task (cost who.ticks who.line) object (pos cond) (pos 1) ∷ []) }
     {
-        self.told.push(condition_entry(EntryKind::SignalBlock, who, object, cond, 1));
+        self.journal.push(condition_entry(EntryKind::SignalBlock, who, object, cond, 1));
         push_on(&mut self.entries, object, who.task);
         self.entries.leave(object);
         self.clusters.free(u32::from(who.processor));
@@ -116,10 +116,10 @@ impl KernelCore {
                 let mark = self.marks[task as usize];
                 self.entries.enter(object, task);
                 if destroys_busy(mark, &self.entries, &self.conditions, object) {
-                    self.told.push(busy_entry(who));
+                    self.journal.push(busy_entry(who));
                     return;
                 }
-                self.told.push(admit_entry(who, task, object, 4, 0));
+                self.journal.push(admit_entry(who, task, object, 4, 0));
                 self.clusters.ready(task);
                 self.inside_marks[object as usize] = mark;
             }

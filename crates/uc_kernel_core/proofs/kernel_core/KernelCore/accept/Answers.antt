@@ -38,7 +38,7 @@ invariant_of-self c =
     let few = subst (λ (s : Seen). c.args.site < length s.sites) (sym c.self.view_is) c.requires.site in
     let small = subst (λ (s : Seen). c.args.mask < 2 ^ length (site_at s.sites c.args.site).clauses) (sym c.self.view_is) c.requires.mask in
     let site = c.index-sites-site.result in
-    let is : site ≡ site_at c.self.inside.told.sites c.args.site = c.index-sites-site.is ∙ ap (λ l. get_or l c.args.site site) c.sites.ensures ∙ same_site c.self.inside.told.sites c.args.site site no_site few in
+    let is : site ≡ site_at c.self.inside.journal.sites c.args.site = c.index-sites-site.is ∙ ap (λ l. get_or l c.args.site site) c.sites.ensures ∙ same_site c.self.inside.journal.sites c.args.site site no_site few in
     let e = sym c.in-Opened.is ∙ c.accept_at-accepted.ensures.value in
     let first : c.accept_entry.result ≡ accept_entry w.processor w.task (cost w.ticks w.line) c.args.object c.args.site c.args.mask site.has_else 0 = c.accept_entry.ensures ∙ ap (λ b. accept_entry w.processor w.task (cost w.ticks w.line) c.args.object c.args.site c.args.mask b 0) (ap (λ (x : Site). x.has_else) c.statement.view_is) in
     let old = c.self.invariant in
@@ -53,7 +53,7 @@ push-requires-in-Caller-2-clause-going c =
     let w = c.args.who in
     let may = subst (λ (s : Seen). MayAct s w.processor w.task) (sym c.self.view_is) c.requires.may in
     let m = c.self.invariant.mirrors may.going in
-    several.told_going c.self.inside.told c.push-in-Caller.new.self c.accept_entry-in-Caller.result c.push-in-Caller.ensures may.going (ap (λ e. is_ending e.kind) c.accept_entry-in-Caller.ensures)
+    several.told_going c.self.inside.journal c.push-in-Caller.new.self c.accept_entry-in-Caller.result c.push-in-Caller.ensures may.going (ap (λ e. is_ending e.kind) c.accept_entry-in-Caller.ensures)
 
 pub push-requires-in-Caller-2-clause-task : goal.push-requires-in-Caller-2-clause-task
 push-requires-in-Caller-2-clause-task c =
@@ -64,7 +64,7 @@ push-requires-in-Caller-2-clause-task c =
     let few = subst (λ (s : Seen). c.args.site < length s.sites) (sym c.self.view_is) c.requires.site in
     let small = subst (λ (s : Seen). c.args.mask < 2 ^ length (site_at s.sites c.args.site).clauses) (sym c.self.view_is) c.requires.mask in
     let site = c.index-sites-site.result in
-    let is : site ≡ site_at c.self.inside.told.sites c.args.site = c.index-sites-site.is ∙ ap (λ l. get_or l c.args.site site) c.sites.ensures ∙ same_site c.self.inside.told.sites c.args.site site no_site few in
+    let is : site ≡ site_at c.self.inside.journal.sites c.args.site = c.index-sites-site.is ∙ ap (λ l. get_or l c.args.site site) c.sites.ensures ∙ same_site c.self.inside.journal.sites c.args.site site no_site few in
     let e = sym c.in-Caller.is ∙ c.accept_at-accepted.ensures.value in
     rw (c.admit_entry.ensures, c.push-in-Caller.ensures, c.self.invariant.tasks) (letting.task_known _ _ _ _ _ _ _ _ _ _ _ m c.args.object at.known.made c.in-Caller.task (acceptances.known_caller _ _ _ _ _ _ _ _ _ _ _ m c.self.inside.input.items w.processor w.task (cost w.ticks w.line) w.line c.args.object c.args.site c.args.mask may.runs at few small site is c.accept_at-accepted.new.entries c.accept_at-accepted.ensures.doors c.in-Caller.task c.in-Caller.clause e))
 
@@ -84,7 +84,7 @@ ready-requires-clause-task c =
     let few = subst (λ (s : Seen). c.args.site < length s.sites) (sym c.self.view_is) c.requires.site in
     let small = subst (λ (s : Seen). c.args.mask < 2 ^ length (site_at s.sites c.args.site).clauses) (sym c.self.view_is) c.requires.mask in
     let site = c.index-sites-site.result in
-    let is : site ≡ site_at c.self.inside.told.sites c.args.site = c.index-sites-site.is ∙ ap (λ l. get_or l c.args.site site) c.sites.ensures ∙ same_site c.self.inside.told.sites c.args.site site no_site few in
+    let is : site ≡ site_at c.self.inside.journal.sites c.args.site = c.index-sites-site.is ∙ ap (λ l. get_or l c.args.site site) c.sites.ensures ∙ same_site c.self.inside.journal.sites c.args.site site no_site few in
     let e = sym c.in-Caller.is ∙ c.accept_at-accepted.ensures.value in
     rw c.free-in-Caller.ensures (letting.task_placed _ _ _ _ _ _ _ _ _ _ _ m c.args.object at.known.made c.in-Caller.task (acceptances.known_caller _ _ _ _ _ _ _ _ _ _ _ m c.self.inside.input.items w.processor w.task (cost w.ticks w.line) w.line c.args.object c.args.site c.args.mask may.runs at few small site is c.accept_at-accepted.new.entries c.accept_at-accepted.ensures.doors c.in-Caller.task c.in-Caller.clause e))
 
@@ -97,7 +97,7 @@ ready-requires-clause-placed c =
     let few = subst (λ (s : Seen). c.args.site < length s.sites) (sym c.self.view_is) c.requires.site in
     let small = subst (λ (s : Seen). c.args.mask < 2 ^ length (site_at s.sites c.args.site).clauses) (sym c.self.view_is) c.requires.mask in
     let site = c.index-sites-site.result in
-    let is : site ≡ site_at c.self.inside.told.sites c.args.site = c.index-sites-site.is ∙ ap (λ l. get_or l c.args.site site) c.sites.ensures ∙ same_site c.self.inside.told.sites c.args.site site no_site few in
+    let is : site ≡ site_at c.self.inside.journal.sites c.args.site = c.index-sites-site.is ∙ ap (λ l. get_or l c.args.site site) c.sites.ensures ∙ same_site c.self.inside.journal.sites c.args.site site no_site few in
     let e = sym c.in-Caller.is ∙ c.accept_at-accepted.ensures.value in
     subst (IsPlaced c.in-Caller.task) (sym c.free-in-Caller.ensures) (acceptances.take_placed _ _ _ _ _ _ _ _ _ _ _ m c.self.inside.input.items w.processor w.task (cost w.ticks w.line) w.line c.args.object c.args.site c.args.mask may.runs at few small site is c.accept_at-accepted.new.entries c.accept_at-accepted.ensures.doors c.in-Caller.task c.in-Caller.clause e _ false refl)
 
@@ -110,7 +110,7 @@ ready-requires-clause-unready c =
     let few = subst (λ (s : Seen). c.args.site < length s.sites) (sym c.self.view_is) c.requires.site in
     let small = subst (λ (s : Seen). c.args.mask < 2 ^ length (site_at s.sites c.args.site).clauses) (sym c.self.view_is) c.requires.mask in
     let site = c.index-sites-site.result in
-    let is : site ≡ site_at c.self.inside.told.sites c.args.site = c.index-sites-site.is ∙ ap (λ l. get_or l c.args.site site) c.sites.ensures ∙ same_site c.self.inside.told.sites c.args.site site no_site few in
+    let is : site ≡ site_at c.self.inside.journal.sites c.args.site = c.index-sites-site.is ∙ ap (λ l. get_or l c.args.site site) c.sites.ensures ∙ same_site c.self.inside.journal.sites c.args.site site no_site few in
     let e = sym c.in-Caller.is ∙ c.accept_at-accepted.ensures.value in
     subst (IsUnready c.in-Caller.task) (sym c.free-in-Caller.ensures) (acceptances.take_unready _ _ _ _ _ _ _ _ _ _ _ m c.self.inside.input.items w.processor w.task (cost w.ticks w.line) w.line c.args.object c.args.site c.args.mask may.runs at few small site is c.accept_at-accepted.new.entries c.accept_at-accepted.ensures.doors c.in-Caller.task c.in-Caller.clause e _ false refl)
 
@@ -123,7 +123,7 @@ invariant_of-self-in-Caller c =
     let few = subst (λ (s : Seen). c.args.site < length s.sites) (sym c.self.view_is) c.requires.site in
     let small = subst (λ (s : Seen). c.args.mask < 2 ^ length (site_at s.sites c.args.site).clauses) (sym c.self.view_is) c.requires.mask in
     let site = c.index-sites-site.result in
-    let is : site ≡ site_at c.self.inside.told.sites c.args.site = c.index-sites-site.is ∙ ap (λ l. get_or l c.args.site site) c.sites.ensures ∙ same_site c.self.inside.told.sites c.args.site site no_site few in
+    let is : site ≡ site_at c.self.inside.journal.sites c.args.site = c.index-sites-site.is ∙ ap (λ l. get_or l c.args.site site) c.sites.ensures ∙ same_site c.self.inside.journal.sites c.args.site site no_site few in
     let e = sym c.in-Caller.is ∙ c.accept_at-accepted.ensures.value in
     let first : c.accept_entry-in-Caller.result ≡ accept_entry w.processor w.task (cost w.ticks w.line) c.args.object c.args.site c.args.mask site.has_else 1 = c.accept_entry-in-Caller.ensures ∙ ap (λ b. accept_entry w.processor w.task (cost w.ticks w.line) c.args.object c.args.site c.args.mask b 1) (ap (λ (x : Site). x.has_else) c.statement.view_is) in
     let old = c.self.invariant in
@@ -142,7 +142,7 @@ invariant_of-self-in-Else c =
     let few = subst (λ (s : Seen). c.args.site < length s.sites) (sym c.self.view_is) c.requires.site in
     let small = subst (λ (s : Seen). c.args.mask < 2 ^ length (site_at s.sites c.args.site).clauses) (sym c.self.view_is) c.requires.mask in
     let site = c.index-sites-site.result in
-    let is : site ≡ site_at c.self.inside.told.sites c.args.site = c.index-sites-site.is ∙ ap (λ l. get_or l c.args.site site) c.sites.ensures ∙ same_site c.self.inside.told.sites c.args.site site no_site few in
+    let is : site ≡ site_at c.self.inside.journal.sites c.args.site = c.index-sites-site.is ∙ ap (λ l. get_or l c.args.site site) c.sites.ensures ∙ same_site c.self.inside.journal.sites c.args.site site no_site few in
     let e = sym c.in-Else.is ∙ c.accept_at-accepted.ensures.value in
     let first : c.accept_entry-in-Else.result ≡ accept_entry w.processor w.task (cost w.ticks w.line) c.args.object c.args.site c.args.mask site.has_else 2 = c.accept_entry-in-Else.ensures ∙ ap (λ b. accept_entry w.processor w.task (cost w.ticks w.line) c.args.object c.args.site c.args.mask b 2) (ap (λ (x : Site). x.has_else) c.statement.view_is) in
     let old = c.self.invariant in
@@ -157,7 +157,7 @@ push-requires-in-Destroyer-2-clause-going c =
     let w = c.args.who in
     let may = subst (λ (s : Seen). MayAct s w.processor w.task) (sym c.self.view_is) c.requires.may in
     let m = c.self.invariant.mirrors may.going in
-    several.told_going c.self.inside.told c.push-in-Destroyer.new.self c.accept_entry-in-Destroyer.result c.push-in-Destroyer.ensures may.going (ap (λ e. is_ending e.kind) c.accept_entry-in-Destroyer.ensures)
+    several.told_going c.self.inside.journal c.push-in-Destroyer.new.self c.accept_entry-in-Destroyer.result c.push-in-Destroyer.ensures may.going (ap (λ e. is_ending e.kind) c.accept_entry-in-Destroyer.ensures)
 
 pub push-requires-in-Destroyer-2-clause-task : goal.push-requires-in-Destroyer-2-clause-task
 push-requires-in-Destroyer-2-clause-task c =
@@ -168,7 +168,7 @@ push-requires-in-Destroyer-2-clause-task c =
     let few = subst (λ (s : Seen). c.args.site < length s.sites) (sym c.self.view_is) c.requires.site in
     let small = subst (λ (s : Seen). c.args.mask < 2 ^ length (site_at s.sites c.args.site).clauses) (sym c.self.view_is) c.requires.mask in
     let site = c.index-sites-site.result in
-    let is : site ≡ site_at c.self.inside.told.sites c.args.site = c.index-sites-site.is ∙ ap (λ l. get_or l c.args.site site) c.sites.ensures ∙ same_site c.self.inside.told.sites c.args.site site no_site few in
+    let is : site ≡ site_at c.self.inside.journal.sites c.args.site = c.index-sites-site.is ∙ ap (λ l. get_or l c.args.site site) c.sites.ensures ∙ same_site c.self.inside.journal.sites c.args.site site no_site few in
     let e = sym c.in-Destroyer.is ∙ c.accept_at-accepted.ensures.value in
     rw (c.push_entry.ensures, c.push-in-Destroyer.ensures, c.self.invariant.tasks) (letting.task_known _ _ _ _ _ _ _ _ _ _ _ m c.args.object at.known.made c.in-Destroyer.task (acceptances.known_destroyer _ _ _ _ _ _ _ _ _ _ _ m c.self.inside.input.items w.processor w.task (cost w.ticks w.line) w.line c.args.object c.args.site c.args.mask may.runs at few small site is c.accept_at-accepted.new.entries c.accept_at-accepted.ensures.doors c.in-Destroyer.task c.in-Destroyer.clause e))
 
@@ -181,7 +181,7 @@ invariant_of-self-in-Destroyer c =
     let few = subst (λ (s : Seen). c.args.site < length s.sites) (sym c.self.view_is) c.requires.site in
     let small = subst (λ (s : Seen). c.args.mask < 2 ^ length (site_at s.sites c.args.site).clauses) (sym c.self.view_is) c.requires.mask in
     let site = c.index-sites-site.result in
-    let is : site ≡ site_at c.self.inside.told.sites c.args.site = c.index-sites-site.is ∙ ap (λ l. get_or l c.args.site site) c.sites.ensures ∙ same_site c.self.inside.told.sites c.args.site site no_site few in
+    let is : site ≡ site_at c.self.inside.journal.sites c.args.site = c.index-sites-site.is ∙ ap (λ l. get_or l c.args.site site) c.sites.ensures ∙ same_site c.self.inside.journal.sites c.args.site site no_site few in
     let e = sym c.in-Destroyer.is ∙ c.accept_at-accepted.ensures.value in
     let first : c.accept_entry-in-Destroyer.result ≡ accept_entry w.processor w.task (cost w.ticks w.line) c.args.object c.args.site c.args.mask site.has_else 3 = c.accept_entry-in-Destroyer.ensures ∙ ap (λ b. accept_entry w.processor w.task (cost w.ticks w.line) c.args.object c.args.site c.args.mask b 3) (ap (λ (x : Site). x.has_else) c.statement.view_is) in
     let old = c.self.invariant in
@@ -200,11 +200,11 @@ returns-in-Opened c =
     let few = subst (λ (s : Seen). c.args.site < length s.sites) (sym c.self.view_is) c.requires.site in
     let small = subst (λ (s : Seen). c.args.mask < 2 ^ length (site_at s.sites c.args.site).clauses) (sym c.self.view_is) c.requires.mask in
     let site = c.index-sites-site.result in
-    let is : site ≡ site_at c.self.inside.told.sites c.args.site = c.index-sites-site.is ∙ ap (λ l. get_or l c.args.site site) c.sites.ensures ∙ same_site c.self.inside.told.sites c.args.site site no_site few in
+    let is : site ≡ site_at c.self.inside.journal.sites c.args.site = c.index-sites-site.is ∙ ap (λ l. get_or l c.args.site site) c.sites.ensures ∙ same_site c.self.inside.journal.sites c.args.site site no_site few in
     let e = sym c.in-Opened.is ∙ c.accept_at-accepted.ensures.value in
     let first : c.accept_entry.result ≡ accept_entry w.processor w.task (cost w.ticks w.line) c.args.object c.args.site c.args.mask site.has_else 0 = c.accept_entry.ensures ∙ ap (λ b. accept_entry w.processor w.task (cost w.ticks w.line) c.args.object c.args.site c.args.mask b 0) (ap (λ (x : Site). x.has_else) c.statement.view_is) in
     let row = acceptances.open_row _ _ _ _ _ _ _ _ _ _ _ m c.self.inside.input.items w.processor w.task (cost w.ticks w.line) w.line c.args.object c.args.site c.args.mask may.runs at few small site is c.accept_at-accepted.new.entries c.accept_at-accepted.ensures.doors e in
-    subst (λ (s : Seen). Appended s (seen c.push.new.self c.self.inside.opts c.self.inside.input.items) (rows s w.processor w.task w.ticks w.line (ask.Accept c.args.object c.args.site c.args.mask))) c.self.view_is (asks.told_rows c.self.inside.told c.push.new.self c.self.inside.opts c.self.inside.input.items c.accept_entry.result _ c.push.ensures (row ∙ ap (λ x. x ∷ []) (sym first)))
+    subst (λ (s : Seen). Appended s (seen c.push.new.self c.self.inside.opts c.self.inside.input.items) (rows s w.processor w.task w.ticks w.line (ask.Accept c.args.object c.args.site c.args.mask))) c.self.view_is (asks.told_rows c.self.inside.journal c.push.new.self c.self.inside.opts c.self.inside.input.items c.accept_entry.result _ c.push.ensures (row ∙ ap (λ x. x ∷ []) (sym first)))
 
 pub returns-in-Caller : goal.returns-in-Caller
 returns-in-Caller c =
@@ -215,12 +215,12 @@ returns-in-Caller c =
     let few = subst (λ (s : Seen). c.args.site < length s.sites) (sym c.self.view_is) c.requires.site in
     let small = subst (λ (s : Seen). c.args.mask < 2 ^ length (site_at s.sites c.args.site).clauses) (sym c.self.view_is) c.requires.mask in
     let site = c.index-sites-site.result in
-    let is : site ≡ site_at c.self.inside.told.sites c.args.site = c.index-sites-site.is ∙ ap (λ l. get_or l c.args.site site) c.sites.ensures ∙ same_site c.self.inside.told.sites c.args.site site no_site few in
+    let is : site ≡ site_at c.self.inside.journal.sites c.args.site = c.index-sites-site.is ∙ ap (λ l. get_or l c.args.site site) c.sites.ensures ∙ same_site c.self.inside.journal.sites c.args.site site no_site few in
     let e = sym c.in-Caller.is ∙ c.accept_at-accepted.ensures.value in
     let first : c.accept_entry-in-Caller.result ≡ accept_entry w.processor w.task (cost w.ticks w.line) c.args.object c.args.site c.args.mask site.has_else 1 = c.accept_entry-in-Caller.ensures ∙ ap (λ b. accept_entry w.processor w.task (cost w.ticks w.line) c.args.object c.args.site c.args.mask b 1) (ap (λ (x : Site). x.has_else) c.statement.view_is) in
     let row = acceptances.take_row _ _ _ _ _ _ _ _ _ _ _ m c.self.inside.input.items w.processor w.task (cost w.ticks w.line) w.line c.args.object c.args.site c.args.mask may.runs at few small site is c.accept_at-accepted.new.entries c.accept_at-accepted.ensures.doors c.in-Caller.task c.in-Caller.clause e _ false refl in
     let same = row ∙ ap (λ x. x ∷ admit w.processor c.in-Caller.task c.args.object 1 0 ∷ []) (sym first) ∙ ap (λ y. c.accept_entry-in-Caller.result ∷ y ∷ []) (sym c.admit_entry.ensures) in
-    subst (λ (s : Seen). Appended s (seen c.push-in-Caller-2.new.self c.self.inside.opts c.self.inside.input.items) (rows s w.processor w.task w.ticks w.line (ask.Accept c.args.object c.args.site c.args.mask))) c.self.view_is (several.told_two c.self.inside.told c.push-in-Caller.new.self c.push-in-Caller-2.new.self c.self.inside.opts c.self.inside.input.items c.accept_entry-in-Caller.result c.admit_entry.result _ c.push-in-Caller.ensures c.push-in-Caller-2.ensures same)
+    subst (λ (s : Seen). Appended s (seen c.push-in-Caller-2.new.self c.self.inside.opts c.self.inside.input.items) (rows s w.processor w.task w.ticks w.line (ask.Accept c.args.object c.args.site c.args.mask))) c.self.view_is (several.told_two c.self.inside.journal c.push-in-Caller.new.self c.push-in-Caller-2.new.self c.self.inside.opts c.self.inside.input.items c.accept_entry-in-Caller.result c.admit_entry.result _ c.push-in-Caller.ensures c.push-in-Caller-2.ensures same)
 
 pub returns-in-Else : goal.returns-in-Else
 returns-in-Else c =
@@ -231,11 +231,11 @@ returns-in-Else c =
     let few = subst (λ (s : Seen). c.args.site < length s.sites) (sym c.self.view_is) c.requires.site in
     let small = subst (λ (s : Seen). c.args.mask < 2 ^ length (site_at s.sites c.args.site).clauses) (sym c.self.view_is) c.requires.mask in
     let site = c.index-sites-site.result in
-    let is : site ≡ site_at c.self.inside.told.sites c.args.site = c.index-sites-site.is ∙ ap (λ l. get_or l c.args.site site) c.sites.ensures ∙ same_site c.self.inside.told.sites c.args.site site no_site few in
+    let is : site ≡ site_at c.self.inside.journal.sites c.args.site = c.index-sites-site.is ∙ ap (λ l. get_or l c.args.site site) c.sites.ensures ∙ same_site c.self.inside.journal.sites c.args.site site no_site few in
     let e = sym c.in-Else.is ∙ c.accept_at-accepted.ensures.value in
     let first : c.accept_entry-in-Else.result ≡ accept_entry w.processor w.task (cost w.ticks w.line) c.args.object c.args.site c.args.mask site.has_else 2 = c.accept_entry-in-Else.ensures ∙ ap (λ b. accept_entry w.processor w.task (cost w.ticks w.line) c.args.object c.args.site c.args.mask b 2) (ap (λ (x : Site). x.has_else) c.statement.view_is) in
     let row = acceptances.no_row _ _ _ _ _ _ _ _ _ _ _ m c.self.inside.input.items w.processor w.task (cost w.ticks w.line) w.line c.args.object c.args.site c.args.mask may.runs at few small site is c.accept_at-accepted.new.entries c.accept_at-accepted.ensures.doors e in
-    subst (λ (s : Seen). Appended s (seen c.push-in-Else.new.self c.self.inside.opts c.self.inside.input.items) (rows s w.processor w.task w.ticks w.line (ask.Accept c.args.object c.args.site c.args.mask))) c.self.view_is (asks.told_rows c.self.inside.told c.push-in-Else.new.self c.self.inside.opts c.self.inside.input.items c.accept_entry-in-Else.result _ c.push-in-Else.ensures (row ∙ ap (λ x. x ∷ []) (sym first)))
+    subst (λ (s : Seen). Appended s (seen c.push-in-Else.new.self c.self.inside.opts c.self.inside.input.items) (rows s w.processor w.task w.ticks w.line (ask.Accept c.args.object c.args.site c.args.mask))) c.self.view_is (asks.told_rows c.self.inside.journal c.push-in-Else.new.self c.self.inside.opts c.self.inside.input.items c.accept_entry-in-Else.result _ c.push-in-Else.ensures (row ∙ ap (λ x. x ∷ []) (sym first)))
 
 pub returns-in-Destroyer : goal.returns-in-Destroyer
 returns-in-Destroyer c =
@@ -246,9 +246,9 @@ returns-in-Destroyer c =
     let few = subst (λ (s : Seen). c.args.site < length s.sites) (sym c.self.view_is) c.requires.site in
     let small = subst (λ (s : Seen). c.args.mask < 2 ^ length (site_at s.sites c.args.site).clauses) (sym c.self.view_is) c.requires.mask in
     let site = c.index-sites-site.result in
-    let is : site ≡ site_at c.self.inside.told.sites c.args.site = c.index-sites-site.is ∙ ap (λ l. get_or l c.args.site site) c.sites.ensures ∙ same_site c.self.inside.told.sites c.args.site site no_site few in
+    let is : site ≡ site_at c.self.inside.journal.sites c.args.site = c.index-sites-site.is ∙ ap (λ l. get_or l c.args.site site) c.sites.ensures ∙ same_site c.self.inside.journal.sites c.args.site site no_site few in
     let e = sym c.in-Destroyer.is ∙ c.accept_at-accepted.ensures.value in
     let first : c.accept_entry-in-Destroyer.result ≡ accept_entry w.processor w.task (cost w.ticks w.line) c.args.object c.args.site c.args.mask site.has_else 3 = c.accept_entry-in-Destroyer.ensures ∙ ap (λ b. accept_entry w.processor w.task (cost w.ticks w.line) c.args.object c.args.site c.args.mask b 3) (ap (λ (x : Site). x.has_else) c.statement.view_is) in
     let row = acceptances.end_row _ _ _ _ _ _ _ _ _ _ _ m c.self.inside.input.items w.processor w.task (cost w.ticks w.line) w.line c.args.object c.args.site c.args.mask may.runs at few small site is c.accept_at-accepted.new.entries c.accept_at-accepted.ensures.doors c.in-Destroyer.task c.in-Destroyer.clause e in
     let same = row ∙ ap (λ x. x ∷ push w.processor c.in-Destroyer.task c.args.object ∷ []) (sym first) ∙ ap (λ y. c.accept_entry-in-Destroyer.result ∷ y ∷ []) (sym c.push_entry.ensures) in
-    subst (λ (s : Seen). Appended s (seen c.push-in-Destroyer-2.new.self c.self.inside.opts c.self.inside.input.items) (rows s w.processor w.task w.ticks w.line (ask.Accept c.args.object c.args.site c.args.mask))) c.self.view_is (several.told_two c.self.inside.told c.push-in-Destroyer.new.self c.push-in-Destroyer-2.new.self c.self.inside.opts c.self.inside.input.items c.accept_entry-in-Destroyer.result c.push_entry.result _ c.push-in-Destroyer.ensures c.push-in-Destroyer-2.ensures same)
+    subst (λ (s : Seen). Appended s (seen c.push-in-Destroyer-2.new.self c.self.inside.opts c.self.inside.input.items) (rows s w.processor w.task w.ticks w.line (ask.Accept c.args.object c.args.site c.args.mask))) c.self.view_is (several.told_two c.self.inside.journal c.push-in-Destroyer.new.self c.push-in-Destroyer-2.new.self c.self.inside.opts c.self.inside.input.items c.accept_entry-in-Destroyer.result c.push_entry.result _ c.push-in-Destroyer.ensures c.push-in-Destroyer-2.ensures same)

@@ -110,7 +110,7 @@ pub invariant_of-self-then-destroys_busy : goal.invariant_of-self-then-destroys_
 invariant_of-self-then-destroys_busy c =
     let old = c.self.invariant in
     record {
-      mirrors = λ h. over_push c.self.inside.told.journal c.busy_entry.result (ap (λ e. is_ending e.kind) c.busy_entry.ensures) (sym (ap (λ (v : Told). is_over v.journal) c.push.ensures) ∙ h);
+      mirrors = λ h. over_push c.self.inside.journal.journal c.busy_entry.result (ap (λ e. is_ending e.kind) c.busy_entry.ensures) (sym (ap (λ (v : Told). is_over v.journal) c.push.ensures) ∙ h);
       space = rw c.push.ensures old.space;
       tasks = rw c.push.ensures old.tasks;
     }
@@ -145,7 +145,7 @@ returns-in-None c =
     let known = subst (λ (s : Seen). c.args.object < object_count s.journal) (sym c.self.view_is) c.requires.known in
     let m = c.self.invariant.mirrors going in
     let none = fronts.nobody_blocked _ _ _ _ _ _ _ _ _ _ _ m c.args.object c.args.cond c.take.new.self c.take.ensures.queues (sym c.in-None.is ∙ c.take.ensures.value) in
-    subst (λ (s : Seen). Appended s (seen c.self.inside.told c.self.inside.opts c.self.inside.input.items) (settled (fault c.args.who.processor c.args.who.task no_cost 10 c.args.who.line) s.journal (front_admitted c.args.who.processor c.args.object (blocked c.args.object c.args.cond s.journal)))) c.self.view_is (rw none (asks.appended_none (seen c.self.inside.told c.self.inside.opts c.self.inside.input.items)))
+    subst (λ (s : Seen). Appended s (seen c.self.inside.journal c.self.inside.opts c.self.inside.input.items) (settled (fault c.args.who.processor c.args.who.task no_cost 10 c.args.who.line) s.journal (front_admitted c.args.who.processor c.args.object (blocked c.args.object c.args.cond s.journal)))) c.self.view_is (rw none (asks.appended_none (seen c.self.inside.journal c.self.inside.opts c.self.inside.input.items)))
 
 pub returns-then-destroys_busy : goal.returns-then-destroys_busy
 returns-then-destroys_busy c =
@@ -166,7 +166,7 @@ returns-then-destroys_busy c =
     let stacked = subst (λ (s : Seen). spot c.args.who.task s.journal ≡ At (Stacked c.args.object)) (sym c.self.view_is) c.requires.stacked in
     let f = fault c.args.who.processor c.args.who.task no_cost 10 c.args.who.line in
     let row = fronts.front_cut _ _ _ _ _ _ _ _ _ _ _ m o k w q u first known p idle empty b _ c.index-mark.ensures c.args.who.task acts stacked c.enter.new.self c.enter.ensures f (c.destroys_busy.ensures.yes c.if-destroys_busy.true) in
-    subst (λ (s : Seen). Appended s (seen c.push.new.self c.self.inside.opts c.self.inside.input.items) (settled (fault c.args.who.processor c.args.who.task no_cost 10 c.args.who.line) s.journal (front_admitted c.args.who.processor c.args.object (blocked c.args.object c.args.cond s.journal)))) c.self.view_is (asks.told_rows c.self.inside.told c.push.new.self c.self.inside.opts c.self.inside.input.items c.busy_entry.result _ c.push.ensures (row ∙ ap (λ e. e ∷ []) (sym c.busy_entry.ensures)))
+    subst (λ (s : Seen). Appended s (seen c.push.new.self c.self.inside.opts c.self.inside.input.items) (settled (fault c.args.who.processor c.args.who.task no_cost 10 c.args.who.line) s.journal (front_admitted c.args.who.processor c.args.object (blocked c.args.object c.args.cond s.journal)))) c.self.view_is (asks.told_rows c.self.inside.journal c.push.new.self c.self.inside.opts c.self.inside.input.items c.busy_entry.result _ c.push.ensures (row ∙ ap (λ e. e ∷ []) (sym c.busy_entry.ensures)))
 
 pub returns-else-destroys_busy : goal.returns-else-destroys_busy
 returns-else-destroys_busy c =
@@ -187,4 +187,4 @@ returns-else-destroys_busy c =
     let stacked = subst (λ (s : Seen). spot c.args.who.task s.journal ≡ At (Stacked c.args.object)) (sym c.self.view_is) c.requires.stacked in
     let f = fault c.args.who.processor c.args.who.task no_cost 10 c.args.who.line in
     let row = fronts.front_kept _ _ _ _ _ _ _ _ _ _ _ m o k w q u first known p idle empty b _ c.index-mark.ensures c.args.who.task acts stacked c.enter.new.self c.enter.ensures f (c.destroys_busy.ensures.no c.if-destroys_busy.false) in
-    subst (λ (s : Seen). Appended s (seen c.push-in-Some.new.self c.self.inside.opts c.self.inside.input.items) (settled (fault c.args.who.processor c.args.who.task no_cost 10 c.args.who.line) s.journal (front_admitted c.args.who.processor c.args.object (blocked c.args.object c.args.cond s.journal)))) c.self.view_is (asks.told_rows c.self.inside.told c.push-in-Some.new.self c.self.inside.opts c.self.inside.input.items c.admit_entry.result _ c.push-in-Some.ensures (row ∙ ap (λ e. e ∷ []) (sym c.admit_entry.ensures)))
+    subst (λ (s : Seen). Appended s (seen c.push-in-Some.new.self c.self.inside.opts c.self.inside.input.items) (settled (fault c.args.who.processor c.args.who.task no_cost 10 c.args.who.line) s.journal (front_admitted c.args.who.processor c.args.object (blocked c.args.object c.args.cond s.journal)))) c.self.view_is (asks.told_rows c.self.inside.journal c.push-in-Some.new.self c.self.inside.opts c.self.inside.input.items c.admit_entry.result _ c.push-in-Some.ensures (row ∙ ap (λ e. e ∷ []) (sym c.admit_entry.ensures)))

@@ -47,7 +47,7 @@ pub invariant_of-self-then-destroys_busy : goal.invariant_of-self-then-destroys_
 invariant_of-self-then-destroys_busy c =
     let old = c.self.invariant in
     record {
-      mirrors = λ h. over_push c.self.inside.told.journal c.busy_entry.result (ap (λ e. is_ending e.kind) c.busy_entry.ensures) (sym (ap (λ (v : Told). is_over v.journal) c.push.ensures) ∙ h);
+      mirrors = λ h. over_push c.self.inside.journal.journal c.busy_entry.result (ap (λ e. is_ending e.kind) c.busy_entry.ensures) (sym (ap (λ (v : Told). is_over v.journal) c.push.ensures) ∙ h);
       space = rw c.push.ensures old.space;
       tasks = rw c.push.ensures old.tasks;
     }
@@ -116,7 +116,7 @@ returns-in-None c =
     let m = c.self.invariant.mirrors going in
     let empty = subst (λ (s : Seen). inside c.args.object s.journal ≡ []) (sym c.self.view_is) c.requires.empty in
     let none = letting.nobody _ _ _ _ _ _ _ _ _ _ _ m c.args.object known empty (sym c.in-None.is ∙ c.next.ensures.value) in
-    subst (λ (s : Seen). Appended s (seen c.self.inside.told c.self.inside.opts c.self.inside.input.items) (settled (fault c.args.who.processor c.args.who.task no_cost 10 c.args.who.line) s.journal (admission s.sites c.args.who.processor c.args.object s.journal (next c.args.object s.journal)))) c.self.view_is (rw none.0 (asks.appended_none (seen c.self.inside.told c.self.inside.opts c.self.inside.input.items)))
+    subst (λ (s : Seen). Appended s (seen c.self.inside.journal c.self.inside.opts c.self.inside.input.items) (settled (fault c.args.who.processor c.args.who.task no_cost 10 c.args.who.line) s.journal (admission s.sites c.args.who.processor c.args.object s.journal (next c.args.object s.journal)))) c.self.view_is (rw none.0 (asks.appended_none (seen c.self.inside.journal c.self.inside.opts c.self.inside.input.items)))
 
 pub returns-then-destroys_busy : goal.returns-then-destroys_busy
 returns-then-destroys_busy c =
@@ -129,7 +129,7 @@ returns-then-destroys_busy c =
     let aside = subst (λ (s : Seen). IsAside c.args.who.task c.args.object s.journal) (sym c.self.view_is) c.requires.aside in
     let mark = letting.mark_of _ _ _ _ _ _ _ _ _ _ _ m c.args.object known empty n is c.index-mark.result.now _ c.index-mark.ensures in
     let row = letting.row_cut _ _ _ _ _ _ _ _ _ _ _ m c.args.object known empty n is c.args.who.task c.args.who.processor c.index-mark.result.now aside mark (fault c.args.who.processor c.args.who.task no_cost 10 c.args.who.line) c.next.new.self c.next.ensures.door (c.destroys_busy.ensures.yes c.if-destroys_busy.true) in
-    subst (λ (s : Seen). Appended s (seen c.push.new.self c.self.inside.opts c.self.inside.input.items) (settled (fault c.args.who.processor c.args.who.task no_cost 10 c.args.who.line) s.journal (admission s.sites c.args.who.processor c.args.object s.journal (next c.args.object s.journal)))) c.self.view_is (asks.told_rows c.self.inside.told c.push.new.self c.self.inside.opts c.self.inside.input.items c.busy_entry.result _ c.push.ensures (row ∙ ap (λ e. e ∷ []) (sym c.busy_entry.ensures)))
+    subst (λ (s : Seen). Appended s (seen c.push.new.self c.self.inside.opts c.self.inside.input.items) (settled (fault c.args.who.processor c.args.who.task no_cost 10 c.args.who.line) s.journal (admission s.sites c.args.who.processor c.args.object s.journal (next c.args.object s.journal)))) c.self.view_is (asks.told_rows c.self.inside.journal c.push.new.self c.self.inside.opts c.self.inside.input.items c.busy_entry.result _ c.push.ensures (row ∙ ap (λ e. e ∷ []) (sym c.busy_entry.ensures)))
 
 pub returns-else-destroys_busy : goal.returns-else-destroys_busy
 returns-else-destroys_busy c =
@@ -142,4 +142,4 @@ returns-else-destroys_busy c =
     let aside = subst (λ (s : Seen). IsAside c.args.who.task c.args.object s.journal) (sym c.self.view_is) c.requires.aside in
     let mark = letting.mark_of _ _ _ _ _ _ _ _ _ _ _ m c.args.object known empty n is c.index-mark.result.now _ c.index-mark.ensures in
     let row = letting.row_kept _ _ _ _ _ _ _ _ _ _ _ m c.args.object known empty n is c.args.who.task c.args.who.processor c.index-mark.result.now aside mark (fault c.args.who.processor c.args.who.task no_cost 10 c.args.who.line) c.next.new.self c.next.ensures.door (c.destroys_busy.ensures.no c.if-destroys_busy.false) in
-    subst (λ (s : Seen). Appended s (seen c.push-in-Some.new.self c.self.inside.opts c.self.inside.input.items) (settled (fault c.args.who.processor c.args.who.task no_cost 10 c.args.who.line) s.journal (admission s.sites c.args.who.processor c.args.object s.journal (next c.args.object s.journal)))) c.self.view_is (asks.told_rows c.self.inside.told c.push-in-Some.new.self c.self.inside.opts c.self.inside.input.items c.next_entry.result _ c.push-in-Some.ensures (row ∙ ap (λ e. e ∷ []) (sym c.next_entry.ensures)))
+    subst (λ (s : Seen). Appended s (seen c.push-in-Some.new.self c.self.inside.opts c.self.inside.input.items) (settled (fault c.args.who.processor c.args.who.task no_cost 10 c.args.who.line) s.journal (admission s.sites c.args.who.processor c.args.object s.journal (next c.args.object s.journal)))) c.self.view_is (asks.told_rows c.self.inside.journal c.push-in-Some.new.self c.self.inside.opts c.self.inside.input.items c.next_entry.result _ c.push-in-Some.ensures (row ∙ ap (λ e. e ∷ []) (sym c.next_entry.ensures)))

@@ -47,7 +47,7 @@ push-requires-then-destroys_busy-clause-going c =
     let may = subst (λ (s : Seen). MayAct s w.processor w.task) (sym c.self.view_is) c.requires.may in
     let out = subst (λ (s : Seen). IsOutside w.task c.args.object s.journal) (sym c.self.view_is) c.requires.outside in
     let m = c.self.invariant.mirrors may.going in
-    several.told_going c.self.inside.told c.push.new.self c.call_entry.result c.push.ensures may.going (ap (λ e. is_ending e.kind) c.call_entry.ensures)
+    several.told_going c.self.inside.journal c.push.new.self c.call_entry.result c.push.ensures may.going (ap (λ e. is_ending e.kind) c.call_entry.ensures)
 
 pub invariant_of-self-then-destroys_busy : goal.invariant_of-self-then-destroys_busy
 invariant_of-self-then-destroys_busy c =
@@ -68,7 +68,7 @@ returns-then-destroys_busy c =
     let row = outcomes.entered_cut _ _ _ _ _ _ _ _ _ _ _ m c.self.inside.input.items w.processor w.task (cost w.ticks w.line) w.line c.args.object c.args.member may.runs out c.requires.member c.in-In.way e c.call-called.new.self c.call-called.ensures.door (c.destroys_busy.ensures.yes c.if-destroys_busy.true) in
     let f = fault w.processor w.task no_cost 10 w.line in
     let same = row ∙ ap (λ x. x ∷ f ∷ []) (sym c.call_entry.ensures) ∙ ap (λ y. c.call_entry.result ∷ y ∷ []) (sym c.busy_entry.ensures) in
-    subst (λ (s : Seen). Appended s (seen c.push-then-destroys_busy.new.self c.self.inside.opts c.self.inside.input.items) (rows s w.processor w.task w.ticks w.line (ask.Call c.args.object c.args.member))) c.self.view_is (several.told_two c.self.inside.told c.push.new.self c.push-then-destroys_busy.new.self c.self.inside.opts c.self.inside.input.items c.call_entry.result c.busy_entry.result _ c.push.ensures c.push-then-destroys_busy.ensures same)
+    subst (λ (s : Seen). Appended s (seen c.push-then-destroys_busy.new.self c.self.inside.opts c.self.inside.input.items) (rows s w.processor w.task w.ticks w.line (ask.Call c.args.object c.args.member))) c.self.view_is (several.told_two c.self.inside.journal c.push.new.self c.push-then-destroys_busy.new.self c.self.inside.opts c.self.inside.input.items c.call_entry.result c.busy_entry.result _ c.push.ensures c.push-then-destroys_busy.ensures same)
 
 pub push-requires-in-In-clause-going : goal.push-requires-in-In-clause-going
 push-requires-in-In-clause-going c =
@@ -76,7 +76,7 @@ push-requires-in-In-clause-going c =
     let may = subst (λ (s : Seen). MayAct s w.processor w.task) (sym c.self.view_is) c.requires.may in
     let out = subst (λ (s : Seen). IsOutside w.task c.args.object s.journal) (sym c.self.view_is) c.requires.outside in
     let m = c.self.invariant.mirrors may.going in
-    several.told_going c.self.inside.told c.push.new.self c.call_entry.result c.push.ensures may.going (ap (λ e. is_ending e.kind) c.call_entry.ensures)
+    several.told_going c.self.inside.journal c.push.new.self c.call_entry.result c.push.ensures may.going (ap (λ e. is_ending e.kind) c.call_entry.ensures)
 
 pub invariant_of-self-in-In : goal.invariant_of-self-in-In
 invariant_of-self-in-In c =
@@ -102,7 +102,7 @@ returns-else-destroys_busy c =
     let e = sym c.in-In.is ∙ c.call-called.ensures.value in
     let row = outcomes.entered_kept _ _ _ _ _ _ _ _ _ _ _ m c.self.inside.input.items w.processor w.task (cost w.ticks w.line) w.line c.args.object c.args.member may.runs out c.requires.member c.in-In.way e c.call-called.new.self c.call-called.ensures.door (c.destroys_busy.ensures.no c.if-destroys_busy.false) in
     let same = row ∙ ap (λ x. x ∷ admit w.processor w.task c.args.object c.in-In.way 0 ∷ []) (sym c.call_entry.ensures) ∙ ap (λ y. c.call_entry.result ∷ y ∷ []) (sym c.admit_entry.ensures) in
-    subst (λ (s : Seen). Appended s (seen c.push-in-In.new.self c.self.inside.opts c.self.inside.input.items) (rows s w.processor w.task w.ticks w.line (ask.Call c.args.object c.args.member))) c.self.view_is (several.told_two c.self.inside.told c.push.new.self c.push-in-In.new.self c.self.inside.opts c.self.inside.input.items c.call_entry.result c.admit_entry.result _ c.push.ensures c.push-in-In.ensures same)
+    subst (λ (s : Seen). Appended s (seen c.push-in-In.new.self c.self.inside.opts c.self.inside.input.items) (rows s w.processor w.task w.ticks w.line (ask.Call c.args.object c.args.member))) c.self.view_is (several.told_two c.self.inside.journal c.push.new.self c.push-in-In.new.self c.self.inside.opts c.self.inside.input.items c.call_entry.result c.admit_entry.result _ c.push.ensures c.push-in-In.ensures same)
 
 pub index-mark-requires : goal.index-mark-requires
 index-mark-requires c =
@@ -122,7 +122,7 @@ push-requires-then-mark-clause-going c =
     let may = subst (λ (s : Seen). MayAct s w.processor w.task) (sym c.self.view_is) c.requires.may in
     let out = subst (λ (s : Seen). IsOutside w.task c.args.object s.journal) (sym c.self.view_is) c.requires.outside in
     let m = c.self.invariant.mirrors may.going in
-    several.told_going c.self.inside.told c.push.new.self c.call_entry.result c.push.ensures may.going (ap (λ e. is_ending e.kind) c.call_entry.ensures)
+    several.told_going c.self.inside.journal c.push.new.self c.call_entry.result c.push.ensures may.going (ap (λ e. is_ending e.kind) c.call_entry.ensures)
 
 pub invariant_of-self-then-mark : goal.invariant_of-self-then-mark
 invariant_of-self-then-mark c =
@@ -143,7 +143,7 @@ returns-then-mark c =
     let row = outcomes.passed_cut _ _ _ _ _ _ _ _ _ _ _ m c.self.inside.input.items w.processor w.task (cost w.ticks w.line) w.line c.args.object c.args.member may.runs out c.requires.member c.in-Pushed.acceptor c.in-Pushed.clause e c.call-called.new.self c.call-called.ensures.door c.index-mark.result.now _ c.index-mark.ensures c.if-mark.true in
     let f = fault w.processor w.task no_cost 10 w.line in
     let same = row ∙ ap (λ x. x ∷ f ∷ []) (sym c.call_entry.ensures) ∙ ap (λ y. c.call_entry.result ∷ y ∷ []) (sym c.busy_entry-then-mark.ensures) in
-    subst (λ (s : Seen). Appended s (seen c.push-then-mark.new.self c.self.inside.opts c.self.inside.input.items) (rows s w.processor w.task w.ticks w.line (ask.Call c.args.object c.args.member))) c.self.view_is (several.told_two c.self.inside.told c.push.new.self c.push-then-mark.new.self c.self.inside.opts c.self.inside.input.items c.call_entry.result c.busy_entry-then-mark.result _ c.push.ensures c.push-then-mark.ensures same)
+    subst (λ (s : Seen). Appended s (seen c.push-then-mark.new.self c.self.inside.opts c.self.inside.input.items) (rows s w.processor w.task w.ticks w.line (ask.Call c.args.object c.args.member))) c.self.view_is (several.told_two c.self.inside.journal c.push.new.self c.push-then-mark.new.self c.self.inside.opts c.self.inside.input.items c.call_entry.result c.busy_entry-then-mark.result _ c.push.ensures c.push-then-mark.ensures same)
 
 pub push-requires-in-Pushed-clause-going : goal.push-requires-in-Pushed-clause-going
 push-requires-in-Pushed-clause-going c =
@@ -151,7 +151,7 @@ push-requires-in-Pushed-clause-going c =
     let may = subst (λ (s : Seen). MayAct s w.processor w.task) (sym c.self.view_is) c.requires.may in
     let out = subst (λ (s : Seen). IsOutside w.task c.args.object s.journal) (sym c.self.view_is) c.requires.outside in
     let m = c.self.invariant.mirrors may.going in
-    several.told_going c.self.inside.told c.push.new.self c.call_entry.result c.push.ensures may.going (ap (λ e. is_ending e.kind) c.call_entry.ensures)
+    several.told_going c.self.inside.journal c.push.new.self c.call_entry.result c.push.ensures may.going (ap (λ e. is_ending e.kind) c.call_entry.ensures)
 
 pub push-requires-in-Pushed-clause-task : goal.push-requires-in-Pushed-clause-task
 push-requires-in-Pushed-clause-task c =
@@ -168,7 +168,7 @@ push-requires-in-Pushed-2-clause-going c =
     let may = subst (λ (s : Seen). MayAct s w.processor w.task) (sym c.self.view_is) c.requires.may in
     let out = subst (λ (s : Seen). IsOutside w.task c.args.object s.journal) (sym c.self.view_is) c.requires.outside in
     let m = c.self.invariant.mirrors may.going in
-    several.told_going c.push.new.self c.push-in-Pushed.new.self c.admit_entry-in-Pushed.result c.push-in-Pushed.ensures (several.told_going c.self.inside.told c.push.new.self c.call_entry.result c.push.ensures may.going (ap (λ e. is_ending e.kind) c.call_entry.ensures)) (ap (λ e. is_ending e.kind) c.admit_entry-in-Pushed.ensures)
+    several.told_going c.push.new.self c.push-in-Pushed.new.self c.admit_entry-in-Pushed.result c.push-in-Pushed.ensures (several.told_going c.self.inside.journal c.push.new.self c.call_entry.result c.push.ensures may.going (ap (λ e. is_ending e.kind) c.call_entry.ensures)) (ap (λ e. is_ending e.kind) c.admit_entry-in-Pushed.ensures)
 
 pub free-requires-in-Pushed : goal.free-requires-in-Pushed
 free-requires-in-Pushed c =
@@ -227,7 +227,7 @@ returns-in-Waits c =
     let m = c.self.invariant.mirrors may.going in
     let e = sym c.in-Waits.is ∙ c.call-called.ensures.value in
     let row = outcomes.waits_row _ _ _ _ _ _ _ _ _ _ _ m c.self.inside.input.items w.processor w.task (cost w.ticks w.line) w.line c.args.object c.args.member may.runs out c.requires.member e c.call-called.new.self c.call-called.ensures.door in
-    subst (λ (s : Seen). Appended s (seen c.push.new.self c.self.inside.opts c.self.inside.input.items) (rows s w.processor w.task w.ticks w.line (ask.Call c.args.object c.args.member))) c.self.view_is (asks.told_rows c.self.inside.told c.push.new.self c.self.inside.opts c.self.inside.input.items c.call_entry.result _ c.push.ensures (row ∙ ap (λ x. x ∷ []) (sym c.call_entry.ensures)))
+    subst (λ (s : Seen). Appended s (seen c.push.new.self c.self.inside.opts c.self.inside.input.items) (rows s w.processor w.task w.ticks w.line (ask.Call c.args.object c.args.member))) c.self.view_is (asks.told_rows c.self.inside.journal c.push.new.self c.self.inside.opts c.self.inside.input.items c.call_entry.result _ c.push.ensures (row ∙ ap (λ x. x ∷ []) (sym c.call_entry.ensures)))
 
 pub returns-else-mark : goal.returns-else-mark
 returns-else-mark c =
@@ -240,4 +240,4 @@ returns-else-mark c =
     let a = admit w.processor c.in-Pushed.acceptor c.args.object 3 c.in-Pushed.clause in
     let b = push w.processor w.task c.args.object in
     let same = row ∙ ap (λ x. x ∷ a ∷ b ∷ []) (sym c.call_entry.ensures) ∙ ap (λ y. c.call_entry.result ∷ y ∷ b ∷ []) (sym c.admit_entry-in-Pushed.ensures) ∙ ap (λ z. c.call_entry.result ∷ c.admit_entry-in-Pushed.result ∷ z ∷ []) (sym c.push_entry.ensures) in
-    subst (λ (s : Seen). Appended s (seen c.push-in-Pushed-2.new.self c.self.inside.opts c.self.inside.input.items) (rows s w.processor w.task w.ticks w.line (ask.Call c.args.object c.args.member))) c.self.view_is (several.told_three c.self.inside.told c.push.new.self c.push-in-Pushed.new.self c.push-in-Pushed-2.new.self c.self.inside.opts c.self.inside.input.items c.call_entry.result c.admit_entry-in-Pushed.result c.push_entry.result _ c.push.ensures c.push-in-Pushed.ensures c.push-in-Pushed-2.ensures same)
+    subst (λ (s : Seen). Appended s (seen c.push-in-Pushed-2.new.self c.self.inside.opts c.self.inside.input.items) (rows s w.processor w.task w.ticks w.line (ask.Call c.args.object c.args.member))) c.self.view_is (several.told_three c.self.inside.journal c.push.new.self c.push-in-Pushed.new.self c.push-in-Pushed-2.new.self c.self.inside.opts c.self.inside.input.items c.call_entry.result c.admit_entry-in-Pushed.result c.push_entry.result _ c.push.ensures c.push-in-Pushed.ensures c.push-in-Pushed-2.ensures same)

@@ -19,11 +19,11 @@ invariant_of-self c =
     let w = c.args.who in
     let may = subst (λ (s : Seen). MayAct s w.processor w.task) (sym c.self.view_is) c.requires.may in
     let m = c.self.invariant.mirrors may.going in
-    let v = seen c.self.inside.told c.self.inside.opts c.self.inside.input.items in
+    let v = seen c.self.inside.journal c.self.inside.opts c.self.inside.input.items in
     let known = steps.run_known _ _ _ _ _ _ _ _ _ _ _ m w.processor w.task may.runs in
     let old = c.self.invariant in
     record {
-      mirrors = λ h. over_push c.self.inside.told.journal c.fault_entry.result (ap (λ e. is_ending e.kind) c.fault_entry.ensures) (sym (ap (λ (v : Told). is_over v.journal) c.push.ensures) ∙ h);
+      mirrors = λ h. over_push c.self.inside.journal.journal c.fault_entry.result (ap (λ e. is_ending e.kind) c.fault_entry.ensures) (sym (ap (λ (v : Told). is_over v.journal) c.push.ensures) ∙ h);
       space = rw c.push.ensures old.space;
       tasks = rw c.push.ensures old.tasks;
     }
@@ -33,7 +33,7 @@ invariant_of-self-in-Some c =
     let w = c.args.who in
     let may = subst (λ (s : Seen). MayAct s w.processor w.task) (sym c.self.view_is) c.requires.may in
     let m = c.self.invariant.mirrors may.going in
-    let v = seen c.self.inside.told c.self.inside.opts c.self.inside.input.items in
+    let v = seen c.self.inside.journal c.self.inside.opts c.self.inside.input.items in
     let known = steps.run_known _ _ _ _ _ _ _ _ _ _ _ m w.processor w.task may.runs in
     let old = c.self.invariant in
     let now : c.add_cluster.new.self ≡ with_cluster c.self.inside.clusters = c.add_cluster.ensures.standing ∙ requests.number_more CLUSTERS c.in-Some.number (length c.self.inside.clusters.queues) (with_cluster c.self.inside.clusters) c.self.inside.clusters (sym c.in-Some.is ∙ c.add_cluster.ensures.value) in

@@ -18,7 +18,7 @@ invariant_of-self c =
     let w = c.args.who in
     let may = subst (λ (s : Seen). MayAct s w.processor w.task) (sym c.self.view_is) c.requires.may in
     let m = c.self.invariant.mirrors may.going in
-    let v = seen c.self.inside.told c.self.inside.opts c.self.inside.input.items in
+    let v = seen c.self.inside.journal c.self.inside.opts c.self.inside.input.items in
     let known = steps.run_known _ _ _ _ _ _ _ _ _ _ _ m w.processor w.task may.runs in
     let fits = subst (λ (s : Seen). c.args.cluster < cluster_count s.journal) (sym c.self.view_is) c.requires.known in
     let old = c.self.invariant in
@@ -34,11 +34,11 @@ invariant_of-self-else-close_cluster c =
     let w = c.args.who in
     let may = subst (λ (s : Seen). MayAct s w.processor w.task) (sym c.self.view_is) c.requires.may in
     let m = c.self.invariant.mirrors may.going in
-    let v = seen c.self.inside.told c.self.inside.opts c.self.inside.input.items in
+    let v = seen c.self.inside.journal c.self.inside.opts c.self.inside.input.items in
     let known = steps.run_known _ _ _ _ _ _ _ _ _ _ _ m w.processor w.task may.runs in
     let old = c.self.invariant in
     record {
-      mirrors = λ h. over_push c.self.inside.told.journal c.fault_entry.result (ap (λ e. is_ending e.kind) c.fault_entry.ensures) (sym (ap (λ (v : Told). is_over v.journal) c.push-else-close_cluster.ensures) ∙ h);
+      mirrors = λ h. over_push c.self.inside.journal.journal c.fault_entry.result (ap (λ e. is_ending e.kind) c.fault_entry.ensures) (sym (ap (λ (v : Told). is_over v.journal) c.push-else-close_cluster.ensures) ∙ h);
       space = rw c.push-else-close_cluster.ensures old.space;
       tasks = rw c.push-else-close_cluster.ensures old.tasks;
     }
@@ -48,15 +48,15 @@ returns-then-close_cluster c =
     let w = c.args.who in
     let may = subst (λ (s : Seen). MayAct s w.processor w.task) (sym c.self.view_is) c.requires.may in
     let m = c.self.invariant.mirrors may.going in
-    let v = seen c.self.inside.told c.self.inside.opts c.self.inside.input.items in
+    let v = seen c.self.inside.journal c.self.inside.opts c.self.inside.input.items in
     let known = steps.run_known _ _ _ _ _ _ _ _ _ _ _ m w.processor w.task may.runs in
-    subst (λ (s : Seen). Appended s (seen c.push.new.self c.self.inside.opts c.self.inside.input.items) (rows s w.processor w.task w.ticks w.line (ask.ClusterEnd c.args.cluster))) c.self.view_is (asks.told_rows c.self.inside.told c.push.new.self c.self.inside.opts c.self.inside.input.items c.number_entry.result _ c.push.ensures (requests.one_row v w.processor w.task w.ticks w.line (ask.ClusterEnd c.args.cluster) _ (requests.cluster_end_row v w.processor w.task w.ticks w.line c.args.cluster c.self.inside.clusters c.close_cluster.result m.clusters_are c.close_cluster.ensures.value ∙ ap (λ b. or_fault b (asking kind.ClusterEnd w.processor w.task (cost w.ticks w.line) 0 (pos c.args.cluster) (pos 0)) (fault w.processor w.task (cost w.ticks w.line) 10 w.line)) c.if-close_cluster.true) refl ∙ ap (λ e. e ∷ []) (sym c.number_entry.ensures)))
+    subst (λ (s : Seen). Appended s (seen c.push.new.self c.self.inside.opts c.self.inside.input.items) (rows s w.processor w.task w.ticks w.line (ask.ClusterEnd c.args.cluster))) c.self.view_is (asks.told_rows c.self.inside.journal c.push.new.self c.self.inside.opts c.self.inside.input.items c.number_entry.result _ c.push.ensures (requests.one_row v w.processor w.task w.ticks w.line (ask.ClusterEnd c.args.cluster) _ (requests.cluster_end_row v w.processor w.task w.ticks w.line c.args.cluster c.self.inside.clusters c.close_cluster.result m.clusters_are c.close_cluster.ensures.value ∙ ap (λ b. or_fault b (asking kind.ClusterEnd w.processor w.task (cost w.ticks w.line) 0 (pos c.args.cluster) (pos 0)) (fault w.processor w.task (cost w.ticks w.line) 10 w.line)) c.if-close_cluster.true) refl ∙ ap (λ e. e ∷ []) (sym c.number_entry.ensures)))
 
 pub returns-else-close_cluster : goal.returns-else-close_cluster
 returns-else-close_cluster c =
     let w = c.args.who in
     let may = subst (λ (s : Seen). MayAct s w.processor w.task) (sym c.self.view_is) c.requires.may in
     let m = c.self.invariant.mirrors may.going in
-    let v = seen c.self.inside.told c.self.inside.opts c.self.inside.input.items in
+    let v = seen c.self.inside.journal c.self.inside.opts c.self.inside.input.items in
     let known = steps.run_known _ _ _ _ _ _ _ _ _ _ _ m w.processor w.task may.runs in
-    subst (λ (s : Seen). Appended s (seen c.push-else-close_cluster.new.self c.self.inside.opts c.self.inside.input.items) (rows s w.processor w.task w.ticks w.line (ask.ClusterEnd c.args.cluster))) c.self.view_is (asks.told_rows c.self.inside.told c.push-else-close_cluster.new.self c.self.inside.opts c.self.inside.input.items c.fault_entry.result _ c.push-else-close_cluster.ensures (requests.one_row v w.processor w.task w.ticks w.line (ask.ClusterEnd c.args.cluster) _ (requests.cluster_end_row v w.processor w.task w.ticks w.line c.args.cluster c.self.inside.clusters c.close_cluster.result m.clusters_are c.close_cluster.ensures.value ∙ ap (λ b. or_fault b (asking kind.ClusterEnd w.processor w.task (cost w.ticks w.line) 0 (pos c.args.cluster) (pos 0)) (fault w.processor w.task (cost w.ticks w.line) 10 w.line)) c.if-close_cluster.false ∙ ap (λ n. fault w.processor w.task (cost w.ticks w.line) n w.line ∷ []) (sym c.number-fault.ensures)) refl ∙ ap (λ e. e ∷ []) (sym c.fault_entry.ensures)))
+    subst (λ (s : Seen). Appended s (seen c.push-else-close_cluster.new.self c.self.inside.opts c.self.inside.input.items) (rows s w.processor w.task w.ticks w.line (ask.ClusterEnd c.args.cluster))) c.self.view_is (asks.told_rows c.self.inside.journal c.push-else-close_cluster.new.self c.self.inside.opts c.self.inside.input.items c.fault_entry.result _ c.push-else-close_cluster.ensures (requests.one_row v w.processor w.task w.ticks w.line (ask.ClusterEnd c.args.cluster) _ (requests.cluster_end_row v w.processor w.task w.ticks w.line c.args.cluster c.self.inside.clusters c.close_cluster.result m.clusters_are c.close_cluster.ensures.value ∙ ap (λ b. or_fault b (asking kind.ClusterEnd w.processor w.task (cost w.ticks w.line) 0 (pos c.args.cluster) (pos 0)) (fault w.processor w.task (cost w.ticks w.line) 10 w.line)) c.if-close_cluster.false ∙ ap (λ n. fault w.processor w.task (cost w.ticks w.line) n w.line ∷ []) (sym c.number-fault.ensures)) refl ∙ ap (λ e. e ∷ []) (sym c.fault_entry.ensures)))

@@ -11,7 +11,7 @@ returns-in-None-clause-nobody c =
     let known = subst (λ (s : Seen). c.args.object < object_count s.journal) (sym c.self.view_is) c.requires.known in
     let m = c.self.invariant.mirrors going in
     let told = raising.owner_told _ _ _ _ _ _ _ _ _ _ _ m c.args.object known c.index.result.now _ c.index.ensures in
-    λ h. sym (ap (λ (s : Seen). owner c.args.object s.journal) c.self.view_is) ∙ raising.nobody_told c.index.result.now (owner c.args.object c.self.inside.told.journal) told c.in-None.is
+    λ h. sym (ap (λ (s : Seen). owner c.args.object s.journal) c.self.view_is) ∙ raising.nobody_told c.index.result.now (owner c.args.object c.self.inside.journal.journal) told c.in-None.is
 
 pub returns-in-Some-clause-one : goal.returns-in-Some-clause-one
 returns-in-Some-clause-one c =
@@ -19,4 +19,4 @@ returns-in-Some-clause-one c =
     let known = subst (λ (s : Seen). c.args.object < object_count s.journal) (sym c.self.view_is) c.requires.known in
     let m = c.self.invariant.mirrors going in
     let told = raising.owner_told _ _ _ _ _ _ _ _ _ _ _ m c.args.object known c.index.result.now _ c.index.ensures in
-    λ h. sym (ap (λ (s : Seen). length (owner c.args.object s.journal)) c.self.view_is) ∙ raising.one_told c.index.result.now (owner c.args.object c.self.inside.told.journal) told _ c.in-Some.is
+    λ h. sym (ap (λ (s : Seen). length (owner c.args.object s.journal)) c.self.view_is) ∙ raising.one_told c.index.result.now (owner c.args.object c.self.inside.journal.journal) told _ c.in-Some.is

@@ -16,7 +16,7 @@ ready-requires-clause-unready c =
     let w = c.args.who in
     let may = subst (λ (s : Seen). MayAct s w.processor w.task) (sym c.self.view_is) c.requires.may in
     let m = c.self.invariant.mirrors may.going in
-    let v = seen c.self.inside.told c.self.inside.opts c.self.inside.input.items in
+    let v = seen c.self.inside.journal c.self.inside.opts c.self.inside.input.items in
     let known = steps.run_known _ _ _ _ _ _ _ _ _ _ _ m w.processor w.task may.runs in
     let there : c.args.cluster < length c.self.inside.clusters.queues = rw m.clusters_are.counted (subst (λ (s : Seen). c.args.cluster < cluster_count s.journal) (sym c.self.view_is) c.requires.known) in
     subst (IsUnready w.task) (sym (c.migrate.ensures ∙ ap (λ (s : Standing). with_place s w.task (Some c.args.cluster)) c.free.ensures)) (stands.migrate_unready _ _ _ _ _ _ _ _ _ _ _ m w.processor w.task (cost w.ticks w.line) c.args.cluster may.runs there)
@@ -26,7 +26,7 @@ invariant_of-self c =
     let w = c.args.who in
     let may = subst (λ (s : Seen). MayAct s w.processor w.task) (sym c.self.view_is) c.requires.may in
     let m = c.self.invariant.mirrors may.going in
-    let v = seen c.self.inside.told c.self.inside.opts c.self.inside.input.items in
+    let v = seen c.self.inside.journal c.self.inside.opts c.self.inside.input.items in
     let known = steps.run_known _ _ _ _ _ _ _ _ _ _ _ m w.processor w.task may.runs in
     let there : c.args.cluster < length c.self.inside.clusters.queues = rw m.clusters_are.counted (subst (λ (s : Seen). c.args.cluster < cluster_count s.journal) (sym c.self.view_is) c.requires.known) in
     let fits = subst (λ (s : Seen). c.args.cluster < cluster_count s.journal) (sym c.self.view_is) c.requires.known in

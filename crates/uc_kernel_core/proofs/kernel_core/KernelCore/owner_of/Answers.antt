@@ -11,7 +11,7 @@ returns-in-None c =
     let known = subst (λ (s : Seen). c.args.object < object_count s.journal) (sym c.self.view_is) c.requires.known in
     let m = c.self.invariant.mirrors going in
     let told = raising.owner_told _ _ _ _ _ _ _ _ _ _ _ m c.args.object known c.index.result.now _ c.index.ensures in
-    raising.nobody_or_0 c.index.result.now (owner c.args.object c.self.inside.told.journal) told c.in-None.is ∙ ap (λ (s : Seen). first_or_0 (owner c.args.object s.journal)) c.self.view_is
+    raising.nobody_or_0 c.index.result.now (owner c.args.object c.self.inside.journal.journal) told c.in-None.is ∙ ap (λ (s : Seen). first_or_0 (owner c.args.object s.journal)) c.self.view_is
 
 pub returns-in-Some : goal.returns-in-Some
 returns-in-Some c =
@@ -19,4 +19,4 @@ returns-in-Some c =
     let known = subst (λ (s : Seen). c.args.object < object_count s.journal) (sym c.self.view_is) c.requires.known in
     let m = c.self.invariant.mirrors going in
     let told = raising.owner_told _ _ _ _ _ _ _ _ _ _ _ m c.args.object known c.index.result.now _ c.index.ensures in
-    raising.owner_or_0 c.index.result.now (owner c.args.object c.self.inside.told.journal) told c.in-Some.task c.in-Some.is ∙ ap (λ (s : Seen). first_or_0 (owner c.args.object s.journal)) c.self.view_is
+    raising.owner_or_0 c.index.result.now (owner c.args.object c.self.inside.journal.journal) told c.in-Some.task c.in-Some.is ∙ ap (λ (s : Seen). first_or_0 (owner c.args.object s.journal)) c.self.view_is

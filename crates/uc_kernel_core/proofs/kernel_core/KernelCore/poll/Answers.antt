@@ -21,7 +21,7 @@ poll-found-requires c =
 pub push-requires-clause-sayable : goal.push-requires-clause-sayable
 push-requires-clause-sayable c =
     let w = c.args.who in
-    subst (λ (e : Entry). IsSayable c.self.inside.told.tasks e.kind e) (sym c.poll_entry.ensures) (asks.poll_sayable c.self.inside.told.tasks w.processor w.task (cost w.ticks w.line) c.args.mask c.poll-found.result (search rules))
+    subst (λ (e : Entry). IsSayable c.self.inside.journal.tasks e.kind e) (sym c.poll_entry.ensures) (asks.poll_sayable c.self.inside.journal.tasks w.processor w.task (cost w.ticks w.line) c.args.mask c.poll-found.result (search rules))
 
 pub invariant_of-self : goal.invariant_of-self
 invariant_of-self c =
@@ -30,7 +30,7 @@ invariant_of-self c =
     let w = c.args.who in
     let old = c.self.invariant in
     let is : c.poll_entry.result ≡ poll_entry w.processor w.task (cost w.ticks w.line) c.args.mask (oldest_in c.args.mask (pending_at c.self.inside.events w.task)) = c.poll_entry.ensures ∙ ap (poll_entry w.processor w.task (cost w.ticks w.line) c.args.mask) c.poll-found.ensures.value in
-    let legal = subst (λ (e : Entry). Legal e c.self.inside.told.journal) (sym c.poll_entry.ensures) (asks.poll_can (seen c.self.inside.told c.self.inside.opts c.self.inside.input.items) w.processor w.task (cost w.ticks w.line) c.args.mask c.poll-found.result) in
+    let legal = subst (λ (e : Entry). Legal e c.self.inside.journal.journal) (sym c.poll_entry.ensures) (asks.poll_can (seen c.self.inside.journal c.self.inside.opts c.self.inside.input.items) w.processor w.task (cost w.ticks w.line) c.args.mask c.poll-found.result) in
     let still = ap (λ (e : Entry). is_still e.kind) c.poll_entry.ensures ∙ asks.poll_still w.processor w.task (cost w.ticks w.line) c.args.mask c.poll-found.result in
     record {
       mirrors = λ _. rw (c.push.ensures, c.poll-found.ensures.events) (steps.m_poll _ _ _ _ _ _ _ _ _ _ _ m w.processor w.task (cost w.ticks w.line) c.args.mask may.runs c.poll_entry.result is legal still);
@@ -44,6 +44,6 @@ returns c =
     let m = c.self.invariant.mirrors may.going in
     let w = c.args.who in
     let found = c.poll-found.ensures.value ∙ steps.poll_found _ _ _ _ _ _ _ _ _ _ _ m w.processor w.task c.args.mask may.runs in
-    let v = seen c.self.inside.told c.self.inside.opts c.self.inside.input.items in
+    let v = seen c.self.inside.journal c.self.inside.opts c.self.inside.input.items in
     let row = asks.poll_settled (fault w.processor w.task no_cost 10 w.line) v.journal w.processor w.task (cost w.ticks w.line) c.args.mask (oldest_in c.args.mask (pending w.task v.journal)) ∙ ap (λ x. poll_entry w.processor w.task (cost w.ticks w.line) c.args.mask x ∷ []) (sym found) ∙ ap (λ e. e ∷ []) (sym c.poll_entry.ensures) in
-    subst (λ (s : Seen). Appended s (seen c.push.new.self c.self.inside.opts c.self.inside.input.items) (rows s w.processor w.task w.ticks w.line (ask.Poll c.args.mask))) c.self.view_is (asks.told_rows c.self.inside.told c.push.new.self c.self.inside.opts c.self.inside.input.items c.poll_entry.result _ c.push.ensures row)
+    subst (λ (s : Seen). Appended s (seen c.push.new.self c.self.inside.opts c.self.inside.input.items) (rows s w.processor w.task w.ticks w.line (ask.Poll c.args.mask))) c.self.view_is (asks.told_rows c.self.inside.journal c.push.new.self c.self.inside.opts c.self.inside.input.items c.poll_entry.result _ c.push.ensures row)

@@ -16,7 +16,7 @@ invariant_of-self c =
     let w = c.args.who in
     let may = subst (λ (s : Seen). MayAct s w.processor w.task) (sym c.self.view_is) c.requires.may in
     let m = c.self.invariant.mirrors may.going in
-    let v = seen c.self.inside.told c.self.inside.opts c.self.inside.input.items in
+    let v = seen c.self.inside.journal c.self.inside.opts c.self.inside.input.items in
     let known = steps.run_known _ _ _ _ _ _ _ _ _ _ _ m w.processor w.task may.runs in
     let fits = subst (λ (s : Seen). c.args.processor < processor_count s.opts s.journal) (sym c.self.view_is) c.requires.known in
     let there : c.args.processor < length c.self.inside.clusters.processors = rw m.clusters_are.desks.counted fits in
@@ -33,8 +33,8 @@ returns c =
     let w = c.args.who in
     let may = subst (λ (s : Seen). MayAct s w.processor w.task) (sym c.self.view_is) c.requires.may in
     let m = c.self.invariant.mirrors may.going in
-    let v = seen c.self.inside.told c.self.inside.opts c.self.inside.input.items in
+    let v = seen c.self.inside.journal c.self.inside.opts c.self.inside.input.items in
     let known = steps.run_known _ _ _ _ _ _ _ _ _ _ _ m w.processor w.task may.runs in
     let fits = subst (λ (s : Seen). c.args.processor < processor_count s.opts s.journal) (sym c.self.view_is) c.requires.known in
     let there : c.args.processor < length c.self.inside.clusters.processors = rw m.clusters_are.desks.counted fits in
-    subst (λ (s : Seen). Appended s (seen c.push.new.self c.self.inside.opts c.self.inside.input.items) (rows s w.processor w.task w.ticks w.line (ask.ProcessorEnd c.args.processor))) c.self.view_is (asks.told_rows c.self.inside.told c.push.new.self c.self.inside.opts c.self.inside.input.items c.number_entry.result _ c.push.ensures (requests.one_row v w.processor w.task w.ticks w.line (ask.ProcessorEnd c.args.processor) _ (ap (λ x. asking kind.ProcessorEnd w.processor w.task (cost w.ticks w.line) 0 (pos c.args.processor) (pos x) ∷ []) (sym (c.cluster_of-cluster.ensures ∙ requests.cluster_told _ _ _ m.clusters_are c.args.processor fits))) refl ∙ ap (λ e. e ∷ []) (sym c.number_entry.ensures)))
+    subst (λ (s : Seen). Appended s (seen c.push.new.self c.self.inside.opts c.self.inside.input.items) (rows s w.processor w.task w.ticks w.line (ask.ProcessorEnd c.args.processor))) c.self.view_is (asks.told_rows c.self.inside.journal c.push.new.self c.self.inside.opts c.self.inside.input.items c.number_entry.result _ c.push.ensures (requests.one_row v w.processor w.task w.ticks w.line (ask.ProcessorEnd c.args.processor) _ (ap (λ x. asking kind.ProcessorEnd w.processor w.task (cost w.ticks w.line) 0 (pos c.args.processor) (pos x) ∷ []) (sym (c.cluster_of-cluster.ensures ∙ requests.cluster_told _ _ _ m.clusters_are c.args.processor fits))) refl ∙ ap (λ e. e ∷ []) (sym c.number_entry.ensures)))

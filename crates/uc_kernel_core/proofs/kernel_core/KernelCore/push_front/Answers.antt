@@ -70,7 +70,7 @@ returns-in-None c =
     let going = subst (λ (s : Seen). is_over s.journal ≡ false) (sym c.self.view_is) c.requires.going in
     let m = c.self.invariant.mirrors going in
     let none = fronts.nobody_blocked _ _ _ _ _ _ _ _ _ _ _ m c.args.object c.args.cond c.take.new.self c.take.ensures.queues (sym c.in-None.is ∙ c.take.ensures.value) in
-    subst (λ (s : Seen). Appended s (seen c.self.inside.told c.self.inside.opts c.self.inside.input.items) (front_pushed c.args.who.processor c.args.object (blocked c.args.object c.args.cond s.journal))) c.self.view_is (rw none (asks.appended_none (seen c.self.inside.told c.self.inside.opts c.self.inside.input.items)))
+    subst (λ (s : Seen). Appended s (seen c.self.inside.journal c.self.inside.opts c.self.inside.input.items) (front_pushed c.args.who.processor c.args.object (blocked c.args.object c.args.cond s.journal))) c.self.view_is (rw none (asks.appended_none (seen c.self.inside.journal c.self.inside.opts c.self.inside.input.items)))
 
 pub returns-in-Some : goal.returns-in-Some
 returns-in-Some c =
@@ -78,4 +78,4 @@ returns-in-Some c =
     let m = c.self.invariant.mirrors going in
     let first = sym c.in-Some.is ∙ c.take.ensures.value in
     let row = fronts.pushed_row _ _ _ _ _ _ _ _ _ _ _ m c.args.object c.args.cond c.take.new.self c.take.ensures.queues c.in-Some.task first c.args.who.processor in
-    subst (λ (s : Seen). Appended s (seen c.push.new.self c.self.inside.opts c.self.inside.input.items) (front_pushed c.args.who.processor c.args.object (blocked c.args.object c.args.cond s.journal))) c.self.view_is (asks.told_rows c.self.inside.told c.push.new.self c.self.inside.opts c.self.inside.input.items c.push_entry.result _ c.push.ensures (row ∙ ap (λ e. e ∷ []) (sym c.push_entry.ensures)))
+    subst (λ (s : Seen). Appended s (seen c.push.new.self c.self.inside.opts c.self.inside.input.items) (front_pushed c.args.who.processor c.args.object (blocked c.args.object c.args.cond s.journal))) c.self.view_is (asks.told_rows c.self.inside.journal c.push.new.self c.self.inside.opts c.self.inside.input.items c.push_entry.result _ c.push.ensures (row ∙ ap (λ e. e ∷ []) (sym c.push_entry.ensures)))

@@ -8,7 +8,7 @@ pub invariant_of-self : goal.invariant_of-self
 invariant_of-self c =
     let old = c.self.invariant in
     record {
-      mirrors = λ h. over_push c.self.inside.told.journal c.args.e c.requires.ends (sym (ap (λ (v : Told). is_over v.journal) c.push.ensures) ∙ h);
+      mirrors = λ h. over_push c.self.inside.journal.journal c.args.e c.requires.ends (sym (ap (λ (v : Told). is_over v.journal) c.push.ensures) ∙ h);
       space = rw c.push.ensures old.space;
       tasks = rw c.push.ensures old.tasks;
     }

@@ -14,7 +14,7 @@ raise-requires-clause-task c =
     let w = c.args.who in
     let may = subst (λ (s : Seen). MayAct s w.processor w.task) (sym c.self.view_is) c.requires.may in
     let m = c.self.invariant.mirrors may.going in
-    let j = c.self.inside.told.journal in
+    let j = c.self.inside.journal.journal in
     let one = subst (λ (s : Seen). length (owner c.args.object s.journal) ≡ 1) (sym c.self.view_is) c.requires.owned in
     let is : c.owner_of-target.result ≡ first_or_0 (owner c.args.object j) = c.owner_of-target.ensures ∙ ap (λ (s : Seen). first_or_0 (owner c.args.object s.journal)) (sym c.self.view_is) in
     let t = c.owner_of-target.result in
@@ -26,7 +26,7 @@ invariant_of-self c =
     let w = c.args.who in
     let may = subst (λ (s : Seen). MayAct s w.processor w.task) (sym c.self.view_is) c.requires.may in
     let m = c.self.invariant.mirrors may.going in
-    let j = c.self.inside.told.journal in
+    let j = c.self.inside.journal.journal in
     let one = subst (λ (s : Seen). length (owner c.args.object s.journal) ≡ 1) (sym c.self.view_is) c.requires.owned in
     let is : c.owner_of-target.result ≡ first_or_0 (owner c.args.object j) = c.owner_of-target.ensures ∙ ap (λ (s : Seen). first_or_0 (owner c.args.object s.journal)) (sym c.self.view_is) in
     let t = c.owner_of-target.result in
@@ -45,7 +45,7 @@ pub invariant_of-self-else-raise : goal.invariant_of-self-else-raise
 invariant_of-self-else-raise c =
     let old = c.self.invariant in
     record {
-      mirrors = λ h. several.over_after c.self.inside.told c.push-else-raise.new.self c.fault_entry.result c.push-else-raise.ensures (ap (λ e. is_ending e.kind) c.fault_entry.ensures) h;
+      mirrors = λ h. several.over_after c.self.inside.journal c.push-else-raise.new.self c.fault_entry.result c.push-else-raise.ensures (ap (λ e. is_ending e.kind) c.fault_entry.ensures) h;
       space = rw c.push-else-raise.ensures old.space;
       tasks = rw c.push-else-raise.ensures old.tasks;
     }
@@ -55,7 +55,7 @@ returns-then-raise c =
     let w = c.args.who in
     let may = subst (λ (s : Seen). MayAct s w.processor w.task) (sym c.self.view_is) c.requires.may in
     let m = c.self.invariant.mirrors may.going in
-    let j = c.self.inside.told.journal in
+    let j = c.self.inside.journal.journal in
     let one = subst (λ (s : Seen). length (owner c.args.object s.journal) ≡ 1) (sym c.self.view_is) c.requires.owned in
     let is : c.owner_of-target.result ≡ first_or_0 (owner c.args.object j) = c.owner_of-target.ensures ∙ ap (λ (s : Seen). first_or_0 (owner c.args.object s.journal)) (sym c.self.view_is) in
     let t = c.owner_of-target.result in
@@ -65,18 +65,18 @@ returns-then-raise c =
     let room = c.raise.ensures.value ∙ raising.target_pending _ _ _ _ _ _ _ _ _ _ _ m c.args.object t lt in
     let f = fault w.processor w.task no_cost 10 w.line in
     let line = fault w.processor w.task (cost w.ticks w.line) 17 w.line in
-    let all = settled f j (row c.self.inside.opts c.self.inside.told.sites c.self.inside.input.items j w.processor w.task (cost w.ticks w.line) w.line (ask.Raise c.args.object c.args.event c.args.x c.args.y)) in
+    let all = settled f j (row c.self.inside.opts c.self.inside.journal.sites c.self.inside.input.items j w.processor w.task (cost w.ticks w.line) w.line (ask.Raise c.args.object c.args.event c.args.x c.args.y)) in
     let e = raise_entry w.processor w.task (cost w.ticks w.line) c.args.object t c.args.event c.args.x c.args.y in
     let first : c.raise_entry.result ≡ e = c.raise_entry.ensures ∙ ap (λ x. raise_entry w.processor w.task (cost w.ticks w.line) c.args.object t c.args.event x (to_z w64 (of_z w64 c.args.y))) same_x ∙ ap (λ y. raise_entry w.processor w.task (cost w.ticks w.line) c.args.object t c.args.event c.args.x y) same_y in
     let same : all ≡ e ∷ [] = raising.raise_all f line j w.processor w.task (cost w.ticks w.line) c.args.object t c.args.event c.args.x c.args.y (first_or_0 (owner c.args.object j)) is (sym c.if-raise.true ∙ room) in
-    subst (λ (s : Seen). Appended s (seen c.push.new.self c.self.inside.opts c.self.inside.input.items) (rows s w.processor w.task w.ticks w.line (ask.Raise c.args.object c.args.event c.args.x c.args.y))) c.self.view_is (asks.told_rows c.self.inside.told c.push.new.self c.self.inside.opts c.self.inside.input.items c.raise_entry.result _ c.push.ensures (same ∙ ap (λ x. x ∷ []) (sym first)))
+    subst (λ (s : Seen). Appended s (seen c.push.new.self c.self.inside.opts c.self.inside.input.items) (rows s w.processor w.task w.ticks w.line (ask.Raise c.args.object c.args.event c.args.x c.args.y))) c.self.view_is (asks.told_rows c.self.inside.journal c.push.new.self c.self.inside.opts c.self.inside.input.items c.raise_entry.result _ c.push.ensures (same ∙ ap (λ x. x ∷ []) (sym first)))
 
 pub returns-else-raise : goal.returns-else-raise
 returns-else-raise c =
     let w = c.args.who in
     let may = subst (λ (s : Seen). MayAct s w.processor w.task) (sym c.self.view_is) c.requires.may in
     let m = c.self.invariant.mirrors may.going in
-    let j = c.self.inside.told.journal in
+    let j = c.self.inside.journal.journal in
     let one = subst (λ (s : Seen). length (owner c.args.object s.journal) ≡ 1) (sym c.self.view_is) c.requires.owned in
     let is : c.owner_of-target.result ≡ first_or_0 (owner c.args.object j) = c.owner_of-target.ensures ∙ ap (λ (s : Seen). first_or_0 (owner c.args.object s.journal)) (sym c.self.view_is) in
     let t = c.owner_of-target.result in
@@ -86,6 +86,6 @@ returns-else-raise c =
     let room = c.raise.ensures.value ∙ raising.target_pending _ _ _ _ _ _ _ _ _ _ _ m c.args.object t lt in
     let f = fault w.processor w.task no_cost 10 w.line in
     let line = fault w.processor w.task (cost w.ticks w.line) 17 w.line in
-    let all = settled f j (row c.self.inside.opts c.self.inside.told.sites c.self.inside.input.items j w.processor w.task (cost w.ticks w.line) w.line (ask.Raise c.args.object c.args.event c.args.x c.args.y)) in
+    let all = settled f j (row c.self.inside.opts c.self.inside.journal.sites c.self.inside.input.items j w.processor w.task (cost w.ticks w.line) w.line (ask.Raise c.args.object c.args.event c.args.x c.args.y)) in
     let same : all ≡ line ∷ [] = raising.fault_all f j w.processor w.task (cost w.ticks w.line) w.line c.args.object t c.args.event c.args.x c.args.y (first_or_0 (owner c.args.object j)) is (sym c.if-raise.false ∙ room) in
-    subst (λ (s : Seen). Appended s (seen c.push-else-raise.new.self c.self.inside.opts c.self.inside.input.items) (rows s w.processor w.task w.ticks w.line (ask.Raise c.args.object c.args.event c.args.x c.args.y))) c.self.view_is (asks.told_rows c.self.inside.told c.push-else-raise.new.self c.self.inside.opts c.self.inside.input.items c.fault_entry.result _ c.push-else-raise.ensures (same ∙ ap (λ x. x ∷ []) (sym c.fault_entry.ensures)))
+    subst (λ (s : Seen). Appended s (seen c.push-else-raise.new.self c.self.inside.opts c.self.inside.input.items) (rows s w.processor w.task w.ticks w.line (ask.Raise c.args.object c.args.event c.args.x c.args.y))) c.self.view_is (asks.told_rows c.self.inside.journal c.push-else-raise.new.self c.self.inside.opts c.self.inside.input.items c.fault_entry.result _ c.push-else-raise.ensures (same ∙ ap (λ x. x ∷ []) (sym c.fault_entry.ensures)))

@@ -14,7 +14,7 @@ pub returns-in-Deadlock : goal.returns-in-Deadlock
 returns-in-Deadlock c =
     let going = subst (λ (s : Seen). is_over s.journal ≡ false) (sym c.self.view_is) c.requires.going in
     let m = c.self.invariant.mirrors going in
-    let v = seen c.self.inside.told c.self.inside.opts c.self.inside.input.items in
+    let v = seen c.self.inside.journal c.self.inside.opts c.self.inside.input.items in
     let a = m.clusters_are in
     let not_yet : first_ended v.journal ≡ false = sym c.first_ended.ensures ∙ c.if-first_ended.false in
     let law = stalled_law v.opts c.self.inside.clusters v.journal a.ready_are a.runs a.counted a.desks in
@@ -24,7 +24,7 @@ pub returns-in-NoProcessor : goal.returns-in-NoProcessor
 returns-in-NoProcessor c =
     let going = subst (λ (s : Seen). is_over s.journal ≡ false) (sym c.self.view_is) c.requires.going in
     let m = c.self.invariant.mirrors going in
-    let v = seen c.self.inside.told c.self.inside.opts c.self.inside.input.items in
+    let v = seen c.self.inside.journal c.self.inside.opts c.self.inside.input.items in
     let a = m.clusters_are in
     let not_yet : first_ended v.journal ≡ false = sym c.first_ended.ensures ∙ c.if-first_ended.false in
     let law = stalled_law v.opts c.self.inside.clusters v.journal a.ready_are a.runs a.counted a.desks in
@@ -34,7 +34,7 @@ pub returns-in-No : goal.returns-in-No
 returns-in-No c =
     let going = subst (λ (s : Seen). is_over s.journal ≡ false) (sym c.self.view_is) c.requires.going in
     let m = c.self.invariant.mirrors going in
-    let v = seen c.self.inside.told c.self.inside.opts c.self.inside.input.items in
+    let v = seen c.self.inside.journal c.self.inside.opts c.self.inside.input.items in
     let a = m.clusters_are in
     let not_yet : first_ended v.journal ≡ false = sym c.first_ended.ensures ∙ c.if-first_ended.false in
     let law = stalled_law v.opts c.self.inside.clusters v.journal a.ready_are a.runs a.counted a.desks in
