@@ -25,7 +25,7 @@ pub struct Checked<'a> {
 impl<'a> Model for Checked<'a> {
     ghost use Rattle.uc_tree.specs.Programs.{Program};
     ghost use Rattle.uc_tree.specs.ProgramCodes.{program_coded};
-    ghost use Rattle.uc_rules.specs.Unbroken.{IsUnbroken};
+    ghost use Rattle.uc_checked.specs.Unbroken.{IsUnbroken};
 
     ghost Value = { Program };
 

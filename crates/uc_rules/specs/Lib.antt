@@ -12,5 +12,4 @@ pub mod ItemBreaks
 pub mod OwnerBreaks
 pub mod Breaks
 pub mod Firsts
-pub mod Unbroken
 pub mod FirstRule

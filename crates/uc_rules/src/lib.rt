@@ -1,4 +1,4 @@
-// The rules of the language: what names and expressions stand for, visits, breaks, and programs that break no rule.
+// The rules of the language: what names and expressions stand for, visits and breaks.
 #![tactic(auto)]
 
 pub mod checked;
