@@ -27,7 +27,7 @@ use Rattle.uc_agreement.specs.Agreement.{context, Agrees, Tied}
 use Rattle.uc_agreement.specs.Unbroken.{Unbroken, Stands, IsKnown}
 use Rattle.uc_agreement.specs.Parts.{LawParts}
 use Rattle.uc_agreement.proofs.Ties.{false_true, scalar, converted_fine, scalar_cell, law_agrees, args_agree}
-use Rattle.uc_agreement.proofs.Unbroken.{none_left, none_right, first, second, one, holds, stands, args_stand}
+use Rattle.uc_agreement.proofs.UnbrokenLemmas.{none_left, none_right, first, second, one, holds, stands, args_stand}
 
 pub only : (b : Bool) (r : Rule) (p : Pos) → unless b r p ≡ [] → b ≡ true
 only true r p h = refl

@@ -29,7 +29,7 @@ use Rattle.uc_agreement.specs.Agreement.{Agrees, AgreesIf}
 use Rattle.uc_agreement.specs.Unbroken.{Unbroken}
 use Rattle.uc_agreement.specs.ItemNames.{TellsRoutine, LawItems}
 use Rattle.uc_agreement.proofs.Ties.{some_same, none_some, false_true}
-use Rattle.uc_agreement.proofs.Unbroken.{none_left, first, second, holds}
+use Rattle.uc_agreement.proofs.UnbrokenLemmas.{none_left, first, second, holds}
 
 -- tests over lists
 

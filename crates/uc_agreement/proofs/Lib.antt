@@ -1,5 +1,5 @@
 pub mod Ties
-pub mod Unbroken
+pub mod UnbrokenLemmas
 pub mod Asking
 pub mod FieldsLemmas
 pub mod DeclarationsLemmas

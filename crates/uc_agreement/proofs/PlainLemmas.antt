@@ -27,7 +27,7 @@ use Rattle.uc_agreement.specs.Agreement.{IsAsValue, found_ty, row_ty, ValuedBy, 
 use Rattle.uc_agreement.specs.Unbroken.{Unbroken}
 use Rattle.uc_agreement.specs.PlainStatements.{IsValued, IsStep, IsPlain, ArePlain, IsMaybePlain, AreClausesPlain, AreHandlersPlain, Stood, LawPlain}
 use Rattle.uc_agreement.proofs.Ties.{false_true, law_agrees}
-use Rattle.uc_agreement.proofs.Unbroken.{none_left, none_right, first, second, one, stands}
+use Rattle.uc_agreement.proofs.UnbrokenLemmas.{none_left, none_right, first, second, one, stands}
 use Rattle.uc_agreement.proofs.Asking.{only, law_parts}
 
 module _ (t : Table) (g : Sig) (sc : List Name) where

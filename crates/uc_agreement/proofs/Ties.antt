@@ -52,7 +52,7 @@ use Rattle.uc_rules.specs.OwnerBreaks.{is_mutex_field_of, names_condition}
 use Rattle.uc_rules.specs.Visits.{AtMember, visits, part_visits, parts_visits, link_visits, chain_visits, arg_visits, args_visits, root_entity}
 use Rattle.uc_rules.specs.Breaks.{breaks_at}
 use Rattle.uc_agreement.specs.Unbroken.{Unbroken}
-use Rattle.uc_agreement.proofs.Unbroken.{none_right, first, second, one, holds}
+use Rattle.uc_agreement.proofs.UnbrokenLemmas.{none_right, first, second, one, holds}
 use Rattle.uc_typing.specs.Typing.{Num, Cell, Obj, Row, Name, Sig, Table, object_ty, IsPlaced, InMutex, Yields, GiveAll}
 use Rattle.uc_agreement.specs.Agreement.{is_numbered, found_ty, place_by, sort_ty, param_ty, IsLike, AreLike, IsAtPlace, IsAsCondition, IsAsValue, StandsBy, RowPlaced, row_ty, call_of, context, ValuedBy, IsCalled, IsMethod, IsMember, Agrees, AgreesIf, Alike, Tied, LawAgrees}
 

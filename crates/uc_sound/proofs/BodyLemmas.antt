@@ -40,7 +40,7 @@ use Rattle.uc_agreement.specs.Agreement.{is_numbered, found_ty, sort_ty, param_t
 use Rattle.uc_agreement.specs.Declarations.{StoodBy}
 use Rattle.uc_agreement.specs.Unbroken.{Unbroken}
 use Rattle.uc_agreement.proofs.Ties.{some_same, none_some, false_true, scalar_cell, scalar_unnumbered}
-use Rattle.uc_agreement.proofs.Unbroken.{none_left, none_right, second, holds}
+use Rattle.uc_agreement.proofs.UnbrokenLemmas.{none_left, none_right, second, holds}
 use Rattle.uc_agreement.proofs.DeclarationsLemmas.{law_declared}
 use Rattle.uc_sound.specs.Tables.{routine_sig_in, written_sigs, unwritten_sig, unwritten_sigs, all_sigs, table_of}
 use Rattle.uc_sound.specs.Rooted.{IsStood, Within}

@@ -46,7 +46,7 @@ use Rattle.uc_agreement.specs.Agreement.{found_ty, sort_ty, IsLike, context}
 use Rattle.uc_agreement.specs.Fields.{field_ty, TellsClass}
 use Rattle.uc_agreement.specs.Unbroken.{Unbroken}
 use Rattle.uc_agreement.proofs.Ties.{some_same, none_some, false_true, scalar, converted_fine, arg_ok}
-use Rattle.uc_agreement.proofs.Unbroken.{none_left, none_right, first, holds}
+use Rattle.uc_agreement.proofs.UnbrokenLemmas.{none_left, none_right, first, holds}
 use Rattle.uc_agreement.proofs.Asking.{only}
 use Rattle.uc_agreement.proofs.FieldsLemmas.{Found, found}
 use Rattle.uc_sound.specs.Formed.{IsFormed}

@@ -25,7 +25,7 @@ use Rattle.uc_agreement.specs.Agreement.{found_ty, place_by, place_ty}
 use Rattle.uc_agreement.specs.Fields.{TellsClass}
 use Rattle.uc_agreement.specs.Unbroken.{Unbroken}
 use Rattle.uc_agreement.proofs.Ties.{false_true}
-use Rattle.uc_agreement.proofs.Unbroken.{none_left, none_right, holds}
+use Rattle.uc_agreement.proofs.UnbrokenLemmas.{none_left, none_right, holds}
 use Rattle.uc_sound.specs.Tables.{of_kind, class_field, listed_field, known_field, table_of}
 use Rattle.uc_sound.specs.Told.{LawTold}
 use Rattle.uc_sound.proofs.Lists.{left_is}

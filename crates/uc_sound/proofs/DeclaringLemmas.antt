@@ -42,7 +42,7 @@ use Rattle.uc_agreement.specs.Agreement.{is_numbered, found_ty, place_by, place_
 use Rattle.uc_agreement.specs.Declarations.{StoodBy}
 use Rattle.uc_agreement.specs.Unbroken.{Unbroken}
 use Rattle.uc_agreement.proofs.Ties.{some_same, none_some, false_true, scalar, converted_fine, law_agrees}
-use Rattle.uc_agreement.proofs.Unbroken.{none_left, none_right, first, holds, stands}
+use Rattle.uc_agreement.proofs.UnbrokenLemmas.{none_left, none_right, first, holds, stands}
 use Rattle.uc_agreement.proofs.DeclarationsLemmas.{law_declared}
 use Rattle.uc_sound.specs.Tables.{declared_ty}
 use Rattle.uc_sound.specs.Rooted.{IsStood, AreStood, Within}

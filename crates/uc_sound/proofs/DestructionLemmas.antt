@@ -38,7 +38,7 @@ use Rattle.uc_agreement.specs.Agreement.{place_ty, param_ty}
 use Rattle.uc_agreement.specs.Fields.{field_ty, TellsClass}
 use Rattle.uc_agreement.specs.Unbroken.{Unbroken}
 use Rattle.uc_agreement.proofs.Ties.{some_same, none_some, false_true}
-use Rattle.uc_agreement.proofs.Unbroken.{first, second}
+use Rattle.uc_agreement.proofs.UnbrokenLemmas.{first, second}
 use Rattle.uc_sound.specs.Formed.{IsFormed}
 use Rattle.uc_sound.specs.Tables.{of_kind, declared_ty, stmts_locals, routine_sig_in, table_of}
 use Rattle.uc_sound.specs.Told.{Told}

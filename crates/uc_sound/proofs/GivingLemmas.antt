@@ -31,7 +31,7 @@ use Rattle.uc_typing.specs.Typing.{Num, Obj, Name, Sig, Table, Yields, Fine}
 use Rattle.uc_agreement.specs.Agreement.{found_ty, row_ty, IsAsValue, ValuedBy, Agrees, AgreesIf, Tied, context}
 use Rattle.uc_agreement.specs.Unbroken.{Unbroken, Stands, IsKnown}
 use Rattle.uc_agreement.proofs.Ties.{some_same, none_some, false_true, law_agrees}
-use Rattle.uc_agreement.proofs.Unbroken.{stands}
+use Rattle.uc_agreement.proofs.UnbrokenLemmas.{stands}
 use Rattle.uc_sound.specs.Rooted.{IsStood, AreStood, Within, root_named}
 
 -- no member that is not there

@@ -23,7 +23,7 @@ use Rattle.uc_typing.specs.States.{IsOfTask, IsTask}
 use Rattle.uc_agreement.specs.Agreement.{param_ty}
 use Rattle.uc_agreement.specs.Unbroken.{Unbroken}
 use Rattle.uc_agreement.proofs.Ties.{false_true}
-use Rattle.uc_agreement.proofs.Unbroken.{none_left, holds}
+use Rattle.uc_agreement.proofs.UnbrokenLemmas.{none_left, holds}
 use Rattle.uc_sound.specs.Formed.{IsFormed}
 use Rattle.uc_sound.specs.Sounds.{of_program, of_class, LawMains}
 use Rattle.uc_sound.specs.Tables.{of_kind, table_of}

@@ -39,7 +39,7 @@ use Rattle.uc_typing.specs.Typing.{Sig as Typed}
 use Rattle.uc_agreement.specs.Agreement.{param_ty, AreLike}
 use Rattle.uc_agreement.specs.Unbroken.{Unbroken}
 use Rattle.uc_agreement.proofs.Ties.{some_same, none_some, false_true}
-use Rattle.uc_agreement.proofs.Unbroken.{none_left, none_right, first, second, holds}
+use Rattle.uc_agreement.proofs.UnbrokenLemmas.{none_left, none_right, first, second, holds}
 use Rattle.uc_sound.specs.Formed.{IsFormed}
 use Rattle.uc_sound.specs.Tables.{table_of}
 use Rattle.uc_sound.specs.Told.{IsOfClass, TellsMember, TellsMaker, role_params}

@@ -35,7 +35,7 @@ use Rattle.uc_typing.specs.Typing.{Ty, Num, Cell, Obj, Raw, Row, Clu, Pro, Name,
 use Rattle.uc_agreement.specs.Agreement.{is_numbered, place_by, place_ty, param_ty, AreLike, Agrees, context}
 use Rattle.uc_agreement.specs.Unbroken.{Unbroken}
 use Rattle.uc_agreement.proofs.Ties.{some_same, none_some, false_true, scalar_unnumbered, law_agrees}
-use Rattle.uc_agreement.proofs.Unbroken.{first, second, one, holds, stands}
+use Rattle.uc_agreement.proofs.UnbrokenLemmas.{first, second, one, holds, stands}
 use Rattle.uc_agreement.proofs.Asking.{only, law_parts}
 use Rattle.uc_sound.specs.Tables.{based_ty, declared_ty, declared_locals}
 use Rattle.uc_sound.specs.Told.{TellsMaker, Told}

@@ -26,7 +26,7 @@ use Rattle.uc_typing.specs.Typing.{Obj, Name, Sig, Table, Yields}
 use Rattle.uc_agreement.specs.Agreement.{AreLike, Agrees, IsMethod}
 use Rattle.uc_agreement.specs.Unbroken.{Unbroken}
 use Rattle.uc_agreement.proofs.Ties.{some_same, none_some, false_true}
-use Rattle.uc_agreement.proofs.Unbroken.{holds}
+use Rattle.uc_agreement.proofs.UnbrokenLemmas.{holds}
 use Rattle.uc_sound.specs.Formed.{IsFormed}
 use Rattle.uc_sound.specs.Told.{Told}
 use Rattle.uc_sound.proofs.Lists.{left_is, right_is, both_are, not_either, any_from, in_left, in_right, map_at, get_take, Order, before, same, behind, order}

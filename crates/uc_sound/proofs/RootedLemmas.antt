@@ -40,7 +40,7 @@ use Rattle.uc_typing.specs.Typing.{Obj, Name, Sig, Table, Executing, InMutex, Yi
 use Rattle.uc_agreement.specs.Agreement.{StandsBy, Agrees, AgreesIf, IsMethod}
 use Rattle.uc_agreement.specs.Unbroken.{Unbroken, Stands}
 use Rattle.uc_agreement.proofs.Ties.{some_same, none_some, false_true}
-use Rattle.uc_agreement.proofs.Unbroken.{none_right, first}
+use Rattle.uc_agreement.proofs.UnbrokenLemmas.{none_right, first}
 use Rattle.uc_agreement.proofs.FieldsLemmas.{Found, found, law_fields}
 use Rattle.uc_agreement.proofs.ItemsLemmas.{law_items}
 use Rattle.uc_sound.specs.Formed.{IsFormed}

@@ -35,7 +35,7 @@ use Rattle.uc_agreement.specs.Agreement.{param_ty, AreLike}
 use Rattle.uc_agreement.specs.Unbroken.{Unbroken}
 use Rattle.uc_agreement.specs.ItemNames.{TellsRoutine, TellsRoutines}
 use Rattle.uc_agreement.proofs.Ties.{some_same, none_some, false_true}
-use Rattle.uc_agreement.proofs.Unbroken.{none_right, first, holds}
+use Rattle.uc_agreement.proofs.UnbrokenLemmas.{none_right, first, holds}
 use Rattle.uc_sound.specs.Formed.{IsFormed}
 use Rattle.uc_sound.specs.Tables.{table_of}
 use Rattle.uc_sound.proofs.Lists.{implied, left_is, right_is, both_are, not_both, case_of, any_at, any_from, all_from, get_take, Order, before, same, behind, order}

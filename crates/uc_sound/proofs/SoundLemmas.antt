@@ -35,7 +35,7 @@ use Rattle.uc_typing.specs.States.{Routine_is}
 use Rattle.uc_agreement.specs.Agreement.{param_ty, AreLike}
 use Rattle.uc_agreement.specs.Unbroken.{Unbroken}
 use Rattle.uc_agreement.proofs.Ties.{none_some, false_true}
-use Rattle.uc_agreement.proofs.Unbroken.{none_right, first, second, one, holds}
+use Rattle.uc_agreement.proofs.UnbrokenLemmas.{none_right, first, second, one, holds}
 use Rattle.uc_sound.specs.Formed.{IsFormed}
 use Rattle.uc_sound.specs.Tables.{routine_sig_in, unwritten_sig, all_sigs, sig_or_none, table_of}
 use Rattle.uc_sound.specs.Told.{Told}

@@ -45,7 +45,7 @@ use Rattle.uc_agreement.specs.Declarations.{StoodBy}
 use Rattle.uc_agreement.specs.Parts.{Parts}
 use Rattle.uc_agreement.specs.Unbroken.{Unbroken}
 use Rattle.uc_agreement.proofs.Ties.{some_same, none_some, false_true}
-use Rattle.uc_agreement.proofs.Unbroken.{none_left, none_right, first, second, one, holds}
+use Rattle.uc_agreement.proofs.UnbrokenLemmas.{none_left, none_right, first, second, one, holds}
 use Rattle.uc_agreement.proofs.Asking.{only, law_parts}
 use Rattle.uc_agreement.proofs.DeclarationsLemmas.{law_declared}
 use Rattle.uc_sound.specs.Formed.{nameless, own_nameless}
