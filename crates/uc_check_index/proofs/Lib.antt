@@ -1,5 +1,0 @@
-pub mod FirstsLemmas
-pub mod KeysLemmas
-pub mod Askings
-pub mod Clashes
-pub mod Marks

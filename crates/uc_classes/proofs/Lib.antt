@@ -1,6 +1,0 @@
-pub mod Circles
-pub mod Counts
-pub mod First
-pub mod Walked
-pub mod NoBack
-mod Inside

@@ -1,5 +1,0 @@
-use Rattle.uc_check_stmt.proofs.Starts.{no_single}
-use Rattle.uc_classes.proofs.init.check_values.Goals as goal
-
-pub returns-clause-single : goal.returns-clause-single
-returns-clause-single c = no_single c.args.names.now c.args.args.now c.is_empty.result c.if-args-eq1.false c.is_empty.ensures

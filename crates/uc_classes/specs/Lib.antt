@@ -1,3 +1,0 @@
-pub mod Circling
-pub mod Counted
-pub mod Apart

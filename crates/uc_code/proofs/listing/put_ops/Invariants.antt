@@ -1,6 +1,0 @@
-use Rattle.std.proofs.Common.{◌≡◌, ◌++◌, take}
-use Rattle.uc_code.specs.Listing.{op_lines}
-use Rattle.uc_code.proofs.listing.put_ops.Given as goal
-
-abbrev pub invariant-loop-number : goal.invariant-loop-number
-invariant-loop-number l = l.text.items ≡ l.initial.text.items ++ op_lines 0 (take l.number l.ops)

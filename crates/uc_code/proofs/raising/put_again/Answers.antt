@@ -1,8 +1,0 @@
-use Rattle.uc_code.specs.declared.op.Op.TheVariants as op
-use Rattle.std.proofs.Common.{◌+◌}
-use Rattle.uc_code.proofs.Stable.{one_stable}
-use Rattle.uc_code.proofs.Putting.{puts_both}
-use Rattle.uc_code.proofs.raising.put_again.Goals as goal
-
-pub returns : goal.returns
-returns c = puts_both (one_stable (op.Via c.args.cell) c.args.line) c.in_ok-put.ensures (puts_both (one_stable (op.Via (c.args.cell + 1)) c.args.line) c.in_ok-put-2.ensures c.in_ok-put-3.ensures)

@@ -1,4 +1,0 @@
-pub mod Ended
-pub mod Lefts
-pub mod Switched
-pub mod Unwound

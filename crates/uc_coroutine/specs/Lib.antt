@@ -1,4 +1,0 @@
-pub mod MainEnds
-pub mod UnwindingSteps
-pub mod Switching
-pub mod Unwinding

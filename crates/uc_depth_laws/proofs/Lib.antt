@@ -1,7 +1,0 @@
-pub mod Kept
-pub mod Depths
-pub mod Standing
-pub mod Steps
-pub mod Calls
-pub mod Walk
-pub mod Answers

@@ -1,4 +1,0 @@
-// Laws over how deep tasks are in objects.
-#![tactic(auto)]
-
-pub mod laws;

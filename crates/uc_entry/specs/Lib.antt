@@ -1,4 +1,0 @@
-pub mod Listed
-pub mod Lending
-pub mod Faults
-pub mod Keyed

@@ -1,3 +1,0 @@
-pub mod Mirrors
-pub mod Rows
-pub mod Takes

@@ -1,3 +1,0 @@
-pub mod RowSearch
-pub mod Handling
-pub mod FoundAgrees

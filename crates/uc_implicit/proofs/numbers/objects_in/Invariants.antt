@@ -1,6 +1,0 @@
-use Rattle.std.proofs.Common.{◌≡◌, ◌++◌, drop, map}
-use Rattle.uc_implicit.specs.Numbers.{objects_of}
-use Rattle.uc_implicit.proofs.numbers.objects_in.Given as goal
-
-abbrev pub invariant-loop-class : goal.invariant-loop-class
-invariant-loop-class l = map (λ c. c.now) l.objects.items ++ objects_of (map (λ c. c.now) (drop l.class-index l.classes)) ≡ objects_of (map (λ c. c.now) l.classes)

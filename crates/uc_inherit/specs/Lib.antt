@@ -1,3 +1,0 @@
-pub mod ClassHeads
-pub mod OpenedTokens
-pub mod Laws

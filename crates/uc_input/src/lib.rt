@@ -1,4 +1,0 @@
-// What a read takes of the input.
-#![tactic(auto)]
-
-pub mod reading;

@@ -1,5 +1,0 @@
-mod Digits
-mod Numbers
-mod Words
-mod Entries
-mod Journals

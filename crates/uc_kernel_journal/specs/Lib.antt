@@ -1,2 +1,0 @@
-pub mod JournalSums
-pub mod EntryAnswers

@@ -1,7 +1,0 @@
-// The journal of a run, and what it tells at once: ticks, reads, and the answer of each task.
-#![tactic(auto)]
-
-pub mod kernel_journal;
-mod notes;
-
-pub use kernel_journal::KernelJournal;

@@ -1,9 +1,0 @@
-pub mod CellTablesLemmas
-pub mod DepthsLemmas
-pub mod Events
-pub mod PlacesLemmas
-pub mod ContainmentProgressLemmas
-pub mod SizedLemmas
-pub mod ValuesLemmas
-pub mod Whole
-pub mod SettledLemmas

@@ -1,2 +1,0 @@
-pub mod Insiders
-pub mod LettingWorlds

@@ -1,2 +1,0 @@
-pub mod Fair
-pub mod LettingLaws

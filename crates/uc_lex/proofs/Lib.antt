@@ -1,4 +1,0 @@
-pub mod Comments
-pub mod Endings
-pub mod Inside
-pub mod Whole

@@ -1,4 +1,0 @@
-pub mod Journals
-pub mod Rule
-pub mod Meanings
-pub mod Lending

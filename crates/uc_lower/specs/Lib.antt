@@ -1,4 +1,0 @@
-pub mod RoutineLayout
-pub mod Mains
-pub mod Refusals
-pub mod RowRanges

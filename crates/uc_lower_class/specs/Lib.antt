@@ -1,4 +1,0 @@
-pub mod Bodies
-pub mod Fields
-pub mod Inits
-pub mod OpenParts

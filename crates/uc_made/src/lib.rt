@@ -1,4 +1,0 @@
-// The law that each generated program is accepted.
-#![tactic(auto)]
-
-pub mod laws;

@@ -1,5 +1,0 @@
-// The symbol table: names declared in nested blocks, of which the innermost declaration counts.
-#![tactic(auto)]
-
-mod newest;
-pub mod scope;

@@ -1,5 +1,0 @@
-pub mod ByClasses
-pub mod FlatLemmas
-pub mod Listed
-pub mod Past
-pub mod Places

@@ -1,4 +1,0 @@
-pub mod Events
-pub mod Flat
-pub mod Routines
-pub mod Sites

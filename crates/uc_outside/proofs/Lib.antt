@@ -1,5 +1,0 @@
-pub mod Found
-pub mod Pieces
-pub mod Read
-pub mod Taken
-pub mod Listed

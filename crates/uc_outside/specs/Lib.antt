@@ -1,6 +1,0 @@
-pub mod Faults
-pub mod Reading
-pub mod Taking
-pub mod Limited
-pub mod Told
-pub mod Memory

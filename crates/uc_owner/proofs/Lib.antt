@@ -1,2 +1,0 @@
-mod Lone
-pub mod Outside

@@ -1,4 +1,0 @@
-pub mod Told
-pub mod LeadsLemmas
-pub mod HeadsLemmas
-pub mod Below

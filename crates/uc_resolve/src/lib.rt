@@ -1,2 +1,0 @@
-// The source that a program's tree stands for.
-#![tactic(auto)]

@@ -1,5 +1,0 @@
-pub mod Children
-pub mod Falling
-pub mod Leading
-pub mod Riding
-pub mod Lowering

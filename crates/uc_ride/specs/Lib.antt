@@ -1,2 +1,0 @@
-pub mod UnwindingFalls
-pub mod RideStands

@@ -1,9 +1,0 @@
-pub mod Ordinary
-pub mod Rooms
-pub mod RoomStates
-pub mod Layout
-pub mod ScopeLaws
-pub mod RoomRuns
-pub mod RoomStacks
-pub mod FrameRuns
-pub mod Opening

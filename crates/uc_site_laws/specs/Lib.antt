@@ -1,4 +1,0 @@
-pub mod Resting
-pub mod Named
-pub mod Naming
-pub mod SiteLaws

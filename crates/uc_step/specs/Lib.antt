@@ -1,6 +1,0 @@
-pub mod OpEffects
-pub mod Runs
-pub mod WeightFalls
-pub mod Simulation
-pub mod OperatorResults
-pub mod Starts

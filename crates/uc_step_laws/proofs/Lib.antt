@@ -1,4 +1,0 @@
-pub mod Kept
-pub mod Steps
-pub mod Walk
-pub mod Told

@@ -1,5 +1,0 @@
--- Numbers that stand still at the greatest `u64`.
-use Rattle.std.specs.Prelude.{ℕ, ◌-◌, ◌^◌, min}
-
-abbrev pub capped : ℕ → ℕ
-capped n = min n (2 ^ 64 - 1)

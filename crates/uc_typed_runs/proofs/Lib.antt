@@ -1,3 +1,0 @@
-pub mod Spawning
-pub mod Hands
-pub mod Worlds

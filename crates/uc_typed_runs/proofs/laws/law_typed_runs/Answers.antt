@@ -1,5 +1,0 @@
-use Rattle.uc_typed_runs.proofs.Worlds.{law_typed_runs}
-use Rattle.uc_typed_runs.proofs.laws.law_typed_runs.Goals as goal
-
-pub returns : goal.returns
-returns c = law_typed_runs

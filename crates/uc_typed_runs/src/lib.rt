@@ -1,4 +1,0 @@
-// That runs of accepted programs stay in order.
-#![tactic(auto)]
-
-pub mod laws;

@@ -1,6 +1,0 @@
-use Rattle.std.proofs.Common.{◌∙◌, ap}
-use Rattle.uc_tree.specs.Constants.{elements}
-use Rattle.uc_types.proofs.listing.count_of.Goals as goal
-
-pub returns : goal.returns
-returns c = c.elements_of.ensures ∙ ap (λ f. elements f c.args.declarator.now) c.args.listed.now.lengths_are

@@ -1,4 +1,0 @@
-mod Goes
-mod Faults
-mod Whole
-mod Bridge

@@ -1,1 +1,0 @@
-void uMain::main() { cout << 1 + 2 << endl; }

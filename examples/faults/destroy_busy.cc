@@ -1,6 +1,0 @@
-void uMain::main() {
-    uCluster kitchen;
-    uProcessor stove(kitchen);
-    migrate(kitchen);
-    cout << "cooking" << endl;
-}

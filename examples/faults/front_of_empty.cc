@@ -1,9 +1,0 @@
-_Monitor Queue {
-    uCondition waiting;
-  public:
-    int next() { return waiting.front(); }
-};
-void uMain::main() {
-    Queue queue;
-    cout << queue.next();
-}

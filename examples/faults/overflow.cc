@@ -1,4 +1,0 @@
-void uMain::main() {
-    int big = 9223372036854775807;
-    cout << big + 1;
-}

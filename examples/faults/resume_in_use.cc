@@ -1,9 +1,0 @@
-_Coroutine Self {
-    void main() { go(); }
-  public:
-    void go() { resume(); }
-};
-void uMain::main() {
-    Self self;
-    self.go();
-}

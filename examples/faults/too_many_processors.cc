@@ -1,3 +1,0 @@
-void uMain::main() {
-    uCluster all[64];
-}

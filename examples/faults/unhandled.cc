@@ -1,4 +1,0 @@
-_Event Lost { };
-void uMain::main() {
-    _Throw Lost();
-}

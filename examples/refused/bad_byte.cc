@@ -1,1 +1,0 @@
-void uMain::main() { int x = 07; }

@@ -1,1 +1,0 @@
-void uMain::main() { /* not closed

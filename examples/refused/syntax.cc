@@ -1,3 +1,0 @@
-void uMain::main() {
-    cout << "hello" << endl
-}

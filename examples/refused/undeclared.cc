@@ -1,4 +1,0 @@
-void uMain::main() {
-    count = 3;
-    cout << count << endl;
-}
