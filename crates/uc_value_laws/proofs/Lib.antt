@@ -1,0 +1,4 @@
+pub mod Cells
+pub mod Keeping
+pub mod Steps
+pub mod Walk
