@@ -33,7 +33,7 @@ use Rattle.uc_rules.specs.ClassBreaks.{is_event_member, is_empty_body}
 use Rattle.uc_rules.specs.ItemBreaks.{is_member_definition, has_class_name, class_declares, form_declares_sig}
 use Rattle.uc_rules.specs.Visits.{AtSig, AtInits, AtRoutine, stmts_visits}
 use Rattle.uc_rules.specs.ProgramVisits.{program_visits, form_visits, routine_visits, body_visits, sig_visits, base_visits, params_visits, inits_visits, sig_env, owner_home, is_of_main, outer_mark, home_of}
-use Rattle.uc_typing.specs.Typing.{Ty, Row, IsParam, Name, Own, Kept, Sig, Table, raw, IsPlaced, InMutex, Executing, Yields, Cleans, FineStmts}
+use Rattle.uc_typing.specs.Typing.{Ty, Row, IsParam, Name, Own, Kept, Sig, Table, raw, IsPlaced, InMutex, Executing, Yields, CleansAt, Cleans, FineStmts}
 use Rattle.uc_agreement.specs.Agreement.{place_ty, param_ty}
 use Rattle.uc_agreement.specs.Fields.{field_ty, TellsClass}
 use Rattle.uc_agreement.specs.Unbroken.{Unbroken}
@@ -54,7 +54,7 @@ use Rattle.uc_sound.proofs.MemberLemmas.{Declares, sig_rules, definition, number
 use Rattle.uc_sound.proofs.ClassLemmas.{mutex_is, law_told}
 use Rattle.uc_sound.proofs.RootedLemmas.{HomeIs, rooted}
 use Rattle.uc_sound.proofs.DeclaringLemmas.{made, making_is}
-use Rattle.uc_sound.proofs.ObjectLemmas.{Making_is, making_ty, made_told, whole_placed, clean_fine}
+use Rattle.uc_sound.proofs.ObjectLemmas.{Making_is, making_ty, made_told, whole_placed, cleans_at, clean_fine}
 use Rattle.uc_sound.proofs.StatementLemmas.{law_statements}
 use Rattle.uc_sound.proofs.BodyLemmas.{params_within, params_one, is_param}
 
@@ -242,7 +242,7 @@ module _ (p : Program) (formed : IsFormed p) (u : Unbroken (program_visits p)) w
 
     -- a field of a class is built and destroyed at its place
     abbrev pub FieldFine : ℕ → ClassField → Type 0
-    FieldFine number f = (m : Making) → field_making p f ≡ Some m → Making_is t g refl p m × ((sc : List Name) → Yields t g sc (field_place (class_shape p i) number tree.Own) (declared_ty (length_in_class p c i f) (raw (making_ty t g refl m))))
+    FieldFine number f = (m : Making) → field_making p f ≡ Some m → Making_is t g refl p m × (t.fields i number ≡ declared_ty (length_in_class p c i f) (making_ty t g refl m)) × ((sc : List Name) → Yields t g sc (field_place (class_shape p i) number tree.Own) (declared_ty (length_in_class p c i f) (raw (making_ty t g refl m))))
 
     abbrev pub AllFine : ℕ → List ClassField → Type 0
     AllFine number fs = (k n : ℕ) (f : ClassField) → number + k ≡ n → slice_get fs k ≡ Some f → FieldFine n f
@@ -265,6 +265,13 @@ module _ (p : Program) (formed : IsFormed p) (u : Unbroken (program_visits p)) w
         made_is : making p f.base ≡ Some m → Making_is t g refl p m × (making_ty t g refl m ≡ place_ty r.sort)
         made_is q = made_told t g refl p f.base r.sort m told (mutex_is p) r.base (is_made q)
 
+        holds : f.declarator.by_ref ≡ false → (l : Option expr.Expr) → f.declarator.len ≡ l → (a : Ty) → a ≡ place_ty r.sort → t.fields i n ≡ declared_ty (tree.field_length (seen_in (constants_of p.items) c) f.declarator l) a
+        holds w l q a s = by_length l (tells.fields k f r.sort at r.base ∙ (ap (λ b. field_ty b f.declarator.len (elements (seen_in (constants_of p.items) c) f.declarator) r.sort) w ∙ ap (λ l. field_ty false l (elements (seen_in (constants_of p.items) c) f.declarator) r.sort) q))
+          where
+            by_length : (l : Option expr.Expr) → t.fields i n ≡ field_ty false l (elements (seen_in (constants_of p.items) c) f.declarator) r.sort → t.fields i n ≡ declared_ty (tree.field_length (seen_in (constants_of p.items) c) f.declarator l) a
+            by_length None z = z ∙ sym s
+            by_length (Some x) z = z ∙ ap (Row (elements (seen_in (constants_of p.items) c) f.declarator)) (sym s)
+
         held : f.declarator.by_ref ≡ false → (l : Option expr.Expr) → f.declarator.len ≡ l → (a : Ty) → a ≡ place_ty r.sort → IsPlaced t a → (sc : List Name) → Yields t g sc (field_place (class_shape p i) n tree.Own) (declared_ty (tree.field_length (seen_in (constants_of p.items) c) f.declarator l) (raw a))
         held w l q a s placed sc = by_length l (tells.fields k f r.sort at r.base ∙ (ap (λ b. field_ty b f.declarator.len (elements (seen_in (constants_of p.items) c) f.declarator) r.sort) w ∙ ap (λ l. field_ty false l (elements (seen_in (constants_of p.items) c) f.declarator) r.sort) q))
           where
@@ -272,24 +279,26 @@ module _ (p : Program) (formed : IsFormed p) (u : Unbroken (program_visits p)) w
             by_length None z = (i, this, refl, subst (IsPlaced t) (s ∙ sym z) placed, inr (ap raw (s ∙ sym z)))
             by_length (Some x) z = (i, this, refl, subst (IsPlaced t) (sym z) tt, inr (ap (λ a. Row (elements (seen_in (constants_of p.items) c) f.declarator) (raw a)) s ∙ ap raw (sym z)))
 
-        by_ref : (b : Bool) → f.declarator.by_ref ≡ b → (if b then None else making p f.base) ≡ Some m → Making_is t g refl p m × ((sc : List Name) → Yields t g sc (field_place (class_shape p i) n tree.Own) (declared_ty (length_in_class p c i f) (raw (making_ty t g refl m))))
+        by_ref : (b : Bool) → f.declarator.by_ref ≡ b → (if b then None else making p f.base) ≡ Some m → Making_is t g refl p m × (t.fields i n ≡ declared_ty (length_in_class p c i f) (making_ty t g refl m)) × ((sc : List Name) → Yields t g sc (field_place (class_shape p i) n tree.Own) (declared_ty (length_in_class p c i f) (raw (making_ty t g refl m))))
         by_ref true w q = none_some q
         by_ref false w q =
             let x = made_is q in
-            (x.0, held w f.declarator.len refl (making_ty t g refl m) x.1 (whole_placed t g refl p m x.0))
+            (x.0, holds w f.declarator.len refl (making_ty t g refl m) x.1, held w f.declarator.len refl (making_ty t g refl m) x.1 (whole_placed t g refl p m x.0))
 
     pub all_fine : AllFine (leading_cells c.kind) (fields_of c.members)
     all_fine k n f q at = subst (λ n. FieldFine n f) q (field_fine k f at)
+
+    pub own_cleaned : (f : ClassField) (number : ℕ) (m : Making) → FieldFine number f → field_making p f ≡ Some m → Cleans t g (Own number) (clean_up p m (length_in_class p c i f) (field_place (class_shape p i) number tree.Own))
+    own_cleaned f number m a q =
+        let x = a m q in
+        let place = field_place (class_shape p i) number tree.Own in
+        (i, this, subst (λ z. CleansAt t z place (clean_up p m (length_in_class p c i f) place)) (sym x.1) (cleans_at t g refl p m (length_in_class p c i f) place x.0))
 
     one_left : (f : ClassField) (number : ℕ) (rest : Stmts) (o : Option Making) → field_making p f ≡ o → FieldFine number f → ((sc : List Name) → FineStmts t g sc rest) → (sc : List Name) → FineStmts t g sc (field_left p o (length_in_class p c i f) (field_place (class_shape p i) number tree.Own) rest)
     one_left f number rest None q a r sc = r sc
     one_left f number rest (Some m) q a r sc =
         let x = a m q in
-        (Own number, cleans (length_in_class p c i f) m, r (Own number ∷ sc), clean_fine t g refl sc p m (length_in_class p c i f) (field_place (class_shape p i) number tree.Own) x.0 (x.1 sc))
-      where
-        cleans : (l : Option ℕ) (m : Making) → Cleans t (Own number) (clean_up p m l (field_place (class_shape p i) number tree.Own))
-        cleans None m = tt
-        cleans (Some n) m = tt
+        (Own number, own_cleaned f number m a q, r (Own number ∷ sc), clean_fine t g refl sc p m (length_in_class p c i f) (field_place (class_shape p i) number tree.Own) x.0 (x.2 sc))
 
     left_fine : (fs : List ClassField) (number : ℕ) (rest : Stmts) → AllFine number fs → ((sc : List Name) → FineStmts t g sc rest) → (sc : List Name) → FineStmts t g sc (fields_left p c i fs number rest)
     left_fine [] number rest a r sc = r sc

@@ -11,12 +11,12 @@ use Rattle.uc_tree.specs.Expressions as expr
 use Rattle.uc_tree.specs.Statements as stmt
 use Rattle.uc_tree.specs.Statements.{Declarator, Start}
 use Rattle.uc_tree.specs.Numbering.{is_event, is_mutex}
-use Rattle.uc_tree.specs.Objects.{number_at, written_at, Making, APlain, AMutex, ACluster, AProcessor}
+use Rattle.uc_tree.specs.Objects.{number_at, class_shape, written_at, Making, APlain, AMutex, ACluster, AProcessor}
 use Rattle.uc_tree.specs.Programs.{Program}
-use Rattle.uc_tree.specs.Source.{Expr, Variable, Load, NoExprs, Stmts, Destroys}
+use Rattle.uc_tree.specs.Source.{Expr, Variable, Element, Load, OfObject, Counted, NoExprs, Stmts}
 use Rattle.uc_resolve.specs.Standings as tree
 use Rattle.uc_resolve.specs.Standings.{params_of, args_by, args_meant, known_meant, value_in_scope}
-use Rattle.uc_resolve.specs.Resolve.{Scope, declared_known, with_declared, with_all, length_of, start_args, all_declared, constructed, destroyed, called_by, made_by, ended_by, cluster_in, counted_element, build, clean_up, objects_scoped}
+use Rattle.uc_resolve.specs.Resolve.{Scope, declared_known, with_declared, with_all, length_of, start_args, all_declared, constructed, destroyed, called_by, made_by, ended_by, cluster_in, made_shape, counted_element, build, clean_up, objects_scoped}
 use Rattle.uc_rules.specs.declared.rule.Rule.TheVariants.{S11, S16}
 use Rattle.uc_rules.specs.declared.rules.Entity.{Entity}
 use Rattle.uc_rules.specs.declared.rules.Entity.TheVariants as entity
@@ -31,7 +31,7 @@ use Rattle.uc_rules.specs.Entities.{entity_of, count, param_expected, fits}
 use Rattle.uc_rules.specs.ExpressionBreaks.{is_value_start, are_single, started_breaks, starts_well, array_starts_well, is_element}
 use Rattle.uc_rules.specs.Visits.{AtVariable, AtArgument, visits, maybe_visits, args_visits, arg_visits, start_values, single_target, variable_target, variable_visits, variables_visits}
 use Rattle.uc_rules.specs.Breaks.{breaks_at}
-use Rattle.uc_typing.specs.Typing.{Ty, Num, Cell, Obj, Raw, Row, Clu, Pro, Name, Var, Sig, Table, raw, IsPlaced, Among, InScope, IsVariable, Yields, Fine, GiveAll, FineDeclared, FineClean, Cleans, FineStmt, FineStmts, IsCluster, object_ty}
+use Rattle.uc_typing.specs.Typing.{Ty, Num, Cell, Obj, Raw, Row, Clu, Pro, Name, Var, Sig, Table, raw, IsPlaced, Among, InScope, IsVariable, Yields, Fine, GiveAll, FineDeclared, FineClean, element_shape, DestroysAt, CleansAt, FineStmt, FineStmts, IsCluster, object_ty}
 use Rattle.uc_agreement.specs.Agreement.{is_numbered, place_by, place_ty, param_ty, AreLike, Agrees, context}
 use Rattle.uc_agreement.specs.Unbroken.{Unbroken}
 use Rattle.uc_agreement.proofs.Ties.{some_same, none_some, false_true, scalar_unnumbered, law_agrees}
@@ -58,7 +58,7 @@ module _ (t : Table) (g : Sig) (refers : t.refers ≡ true) where
 
   -- and the table tells what builds and destroys it
   abbrev pub Making_is : Program → Making → Type 0
-  Making_is p (APlain i) = TellsMaker t p i role.Constructor × TellsMaker t p i role.Destructor × (t.mutex i ≡ false)
+  Making_is p (APlain i) = TellsMaker t p i role.Constructor × TellsMaker t p i role.Destructor × (t.mutex i ≡ false) × (t.shape i ≡ class_shape p i)
   Making_is p (AMutex i) = TellsMaker t p i role.Constructor × TellsMaker t p i role.Destructor × (t.mutex i ≡ true) × (t.number i ≡ number_at p i)
   Making_is p ACluster = Unit {0}
   Making_is p AProcessor = Unit {0}
@@ -109,24 +109,31 @@ module _ (t : Table) (g : Sig) (refers : t.refers ≡ true) where
   destroyed_fine sc p ACluster place k y = (Num, (refl, (inr refers, y)))
   destroyed_fine sc p AProcessor place k y = (Num, (refl, (inr refers, y)))
 
-  -- of an object that is declared the scope knows the place
-  cleans_one : (p : Program) (m : Making) (k : ℕ) → Making_is p m → Cleans t (Var k (making_ty m)) (Destroys (destroyed p m (Variable k)))
-  cleans_one p (APlain i) k w = by (written_at p i role.Destructor) refl
+  -- a clean-up destroys what stands at its place
+  destroyed_at : (p : Program) (m : Making) (place : Expr) → Making_is p m → DestroysAt t (making_ty m) place (destroyed p m place)
+  destroyed_at p (APlain i) place w = by (written_at p i role.Destructor) refl
     where
-      by : (o : Option ℕ) → written_at p i role.Destructor ≡ o → Cleans t (Var k (Obj i)) (Destroys (called_by p i role.Destructor (Variable k) [] o))
+      by : (o : Option ℕ) → written_at p i role.Destructor ≡ o → DestroysAt t (Obj i) place (called_by p i role.Destructor place [] o)
       by None e = (refl, w.1.unwritten_this e)
       by (Some r) e = (refl, (w.1.written r e).this)
-  cleans_one p (AMutex i) k w = by (written_at p i role.Destructor) refl
+  destroyed_at p (AMutex i) place w = by (written_at p i role.Destructor) refl
     where
-      by : (o : Option ℕ) → written_at p i role.Destructor ≡ o → Cleans t (Var k (Cell (Obj i))) (Destroys (ended_by p i (Load (Variable k)) o))
+      by : (o : Option ℕ) → written_at p i role.Destructor ≡ o → DestroysAt t (Cell (Obj i)) place (ended_by p i (Load place) o)
       by None e = (refl, w.1.unwritten_this e)
       by (Some r) e = (refl, (w.1.written r e).this)
-  cleans_one p ACluster k w = refl
-  cleans_one p AProcessor k w = refl
+  destroyed_at p ACluster place w = refl
+  destroyed_at p AProcessor place w = refl
 
-  cleans_all : (p : Program) (m : Making) (k : ℕ) (l : Option ℕ) → Making_is p m → Cleans t (Var k (declared_ty l (making_ty m))) (clean_up p m l (Variable k))
-  cleans_all p m k None w = cleans_one p m k w
-  cleans_all p m k (Some n) w = refl
+  element_kept : (p : Program) (m : Making) → Making_is p m → made_shape p m ≡ element_shape t (making_ty m)
+  element_kept p (APlain i) w = sym w.3
+  element_kept p (AMutex i) w = refl
+  element_kept p ACluster w = refl
+  element_kept p AProcessor w = refl
+
+  pub cleans_at : (p : Program) (m : Making) (l : Option ℕ) (place : Expr) → Making_is p m → CleansAt t (declared_ty l (making_ty m)) place (clean_up p m l place)
+  cleans_at p m None place w = destroyed_at p m place w
+  cleans_at p m (Some n) place w =
+      (refl, subst (λ s. DestroysAt t (making_ty m) (Element n s place (OfObject Counted)) (destroyed p m (counted_element p m n place))) (element_kept p m w) (destroyed_at p m (counted_element p m n place) w))
 
   raw_placed : (p : Program) (m : Making) → Making_is p m → IsPlaced t (raw (making_ty m))
   raw_placed p (APlain i) w = w.2
@@ -161,7 +168,7 @@ module _ (t : Table) (g : Sig) (refers : t.refers ≡ true) where
       plain i k h v w =
           let c = class_of_base p b i k h in
           let e : is_event c.0.kind ≡ false = ap is_event c.2 ∙ v in
-          ((told.makers i c.0 role.Constructor c.1 e refl, told.makers i c.0 role.Destructor c.1 e refl, classes b i k h ∙ w), ap (λ z. place_by z (Obj i)) (sym w))
+          ((told.makers i c.0 role.Constructor c.1 e refl, told.makers i c.0 role.Destructor c.1 e refl, classes b i k h ∙ w, (told.classes i c.0 c.1).shape), ap (λ z. place_by z (Obj i)) (sym w))
 
       mutex : (i : ℕ) (k : Kind) → sort_of p b ≡ Some (sort.Object i k) → is_event k ≡ false → is_mutex k ≡ true → Making_is p (AMutex i) × (Cell (Obj i) ≡ place_by (is_mutex k) (Obj i))
       mutex i k h v w =
@@ -378,7 +385,7 @@ module _ (t : Table) (g : Sig) (refers : t.refers ≡ true) where
       let st = name_stood t g refers (x ∷ sc) env s b d so r placed in
       let w = within_more t g refers (x ∷ sc) env s.class s.names (seen_as env b d) (declared_known p s b d) refl a st wide in
       let more = objects b so m line rest ds (x ∷ sc) (declared env b d) (with_declared p s b d) w (omega (arith, l)) (further p b d ds s held) k q (second (variable_visits env b d) (variables_visits (declared env b d) b ds) u) f in
-      ((l, tt, tt), (build_fine sc p line m len (Variable s.cells) (start_args p s d.start) told.0 y (λ e. declarator_single sc env s h b d so m r q told.0 given (no_length p d d.len e)) (λ e. arrays sc env s h b d so m r q told.0 d.len refl e), (x, cleans_all p m s.cells len told.0, more, clean_fine sc p m len (Variable s.cells) told.0 y)))
+      ((l, tt, tt), (build_fine sc p line m len (Variable s.cells) (start_args p s d.start) told.0 y (λ e. declarator_single sc env s h b d so m r q told.0 given (no_length p d d.len e)) (λ e. arrays sc env s h b d so m r q told.0 d.len refl e), (x, cleans_at p m len (Variable s.cells) told.0, more, clean_fine sc p m len (Variable s.cells) told.0 y)))
     where
       no_length : (p : Program) (d : Declarator) (l : Option expr.Expr) → length_of p d l ≡ None → l ≡ None
       no_length p d None e = refl

@@ -117,11 +117,11 @@ module _ (p : Program) (formed : IsFormed p) (u : Unbroken (program_visits p)) w
     set_up_fine : (b : Bool) → has_execution c.kind ≡ b → (rest : Stmts) → ((sc : List Name) → FineStmts t g sc rest) → (sc : List Name) → FineStmts t g sc (set_up p b i rest)
     set_up_fine false q rest r sc = r sc
     set_up_fine true q rest r sc =
-        ((main_is (mains c.kind q), executing p formed u i c e g this q), (r sc, executing p formed u i c e g this q))
+        ((main_is (mains c.kind q), executing p formed u i c e g this q), (r sc, (executing p formed u i c e g this q, (Kept, tt))))
 
     started_fine : (b : Bool) → has_execution c.kind ≡ b → (rest : Stmts) → ((sc : List Name) → FineStmts t g sc rest) → (sc : List Name) → FineStmts t g sc (started_in p b rest)
     started_fine false q rest r sc = r sc
-    started_fine true q rest r sc = (r sc, executing p formed u i c e g this q)
+    started_fine true q rest r sc = (r sc, (executing p formed u i c e g this q, (Kept, tt)))
 
     pub ends_fine : (sc : List Name) → FineStmts t g sc (construction_ends p (Some c) i)
     ends_fine sc = by (has_execution c.kind) refl

@@ -203,7 +203,7 @@ module _ (t : Table) where
         popped (y ∷ sc) m = scope sc c (r.arrives s.run.raised (length s.callers)) todo m.1 m.2
     past (pc.IsFill n b d) todo m = calm sc [] _ [] s.run.raised (m.0, m.1) tt
     past (pc.IsSweep e) todo m = calm sc [] _ [] s.run.raised (m.0, m.1) tt
-    past (pc.IsPart c) todo m = calm sc [] _ [] s.run.raised (clean_ok t g sc c (pc.Unwind ∷ todo) [] m.0 m.1) tt
+    past (pc.IsPart c) todo m = calm sc [] _ [] s.run.raised (clean_ok t g sc c (pc.Unwind ∷ todo) [] m.0.0 m.1) tt
     past (pc.IsGuard hs) todo m = guard hs s.run.raised todo m.0 m.1 m.2
     past pc.IsFinish todo m = main s.run.raised todo m
     past pc.IsFinishCoroutine todo m = coroutine s.run.raised todo m

@@ -2,7 +2,7 @@
 -- the tree has one clause, which says of which types its parts are and what it gives.
 use Rattle.std.specs.Prelude.{◌≡◌, ℕ, zero, suc, ◌≤◌, ◌<◌, ◌⊎◌, List, [], ◌∷◌, length, Option, Some, None, Bool, true, false}
 use Rattle.uc_machine.specs.Pieces.{LAST_ADDRESS}
-use Rattle.uc_tree.specs.Source.{Shape, Expr, Exprs, ObjectExpr, Literal, Variable, Element, Get, Load, Negated, Not, AsCharacter, AsTruth, Operate, And, Or, Set, Assign, First, Update, StepBehind, Fail, Call, OfObject, NoExprs, MoreExprs, This, OwnField, GetOwn, FieldOf, Counted, CallOn, CallLive, CallUnwritten, EnterOn, EndOn, Bind, MakeOn, NewCluster, NewProcessor, EndCluster, EndProcessor, ConditionAt, Wait, Signal, SignalBlock, IsEmpty, FrontOf, Item, Show, ShowText, Target, Declared, CleanUp, Destroys, DestroysAll, Unwinds, Forgets, Leaves, Ends, Frees, Restores, Stmt, Stmts, Skip, Block, Whole, Evaluate, Declare, Print, PrintTogether, Read, If, Loop, Break, Continue, Return, Owes, Fill, OfEvents, OfTasks, Nil, Then, Scoped, Built, Raised, Plainly, BuiltAt, AgainFrom, EventStmt, Throw, Raise, Try, RaiseAt, Enable, Disable, TaskStmt, Resume, Suspend, SetUp, Enliven, TakeDown, Yield, Migrate, Accept, Handlers, NoHandlers, MoreHandlers, Clauses, NoClauses, Otherwise, MoreClauses}
+use Rattle.uc_tree.specs.Source.{Shape, Binding, Expr, Exprs, ObjectExpr, Literal, Variable, Element, Get, Load, Negated, Not, AsCharacter, AsTruth, Operate, And, Or, Set, Assign, First, Update, StepBehind, Fail, Call, OfObject, NoExprs, MoreExprs, This, OwnField, GetOwn, FieldOf, Counted, CallOn, CallLive, CallUnwritten, EnterOn, EndOn, Bind, MakeOn, NewCluster, NewProcessor, EndCluster, EndProcessor, ConditionAt, Wait, Signal, SignalBlock, IsEmpty, FrontOf, Item, Show, ShowText, Target, Declared, CleanUp, Destroys, DestroysAll, Unwinds, Forgets, Leaves, Ends, Frees, Restores, Stmt, Stmts, Skip, Block, Whole, Evaluate, Declare, Print, PrintTogether, Read, If, Loop, Break, Continue, Return, Owes, Fill, OfEvents, OfTasks, Nil, Then, Scoped, Built, Raised, Plainly, BuiltAt, AgainFrom, EventStmt, Throw, Raise, Try, RaiseAt, Enable, Disable, TaskStmt, Resume, Suspend, SetUp, Enliven, TakeDown, Yield, Migrate, Accept, Handlers, NoHandlers, MoreHandlers, Clauses, NoClauses, Otherwise, MoreClauses}
 
 -- what an operand is: a number; the place of a scalar, of a reference, or of what is known by its number; an object of a class, which is
 -- its place, of a mutex class its number; one that is not whole, since it is being built or destroyed; the place of an array; a cluster,
@@ -248,23 +248,45 @@ module _ (t : Table) (g : Sig) (sc : List Name) where
   FineGuards (Otherwise b) = Unit {0}
   FineGuards (MoreClauses guard b cs) = Yields guard Num × FineGuards cs
 
--- what a clean-up destroys: of an array of so many, of an object, of what is known by its number
-abbrev pub Cleans : Table → Name → CleanUp → Type 0
-Cleans t (Var k (Row n a)) (DestroysAll m e) = n ≡ m
-Cleans t (Var k (Obj c)) (Destroys (OfObject (CallOn r (Variable l) args))) = (k ≡ l) × ((t.routine r).this ≡ Some c)
-Cleans t (Var k (Obj c)) (Destroys (OfObject (CallUnwritten r (Variable l)))) = (k ≡ l) × ((t.routine r).this ≡ Some c)
-Cleans t (Var k (Cell (Obj c))) (Destroys (OfObject (EndOn r written (Load (Variable l))))) = (k ≡ l) × ((t.routine r).this ≡ Some c)
-Cleans t (Var k (Cell Clu)) (Destroys (OfObject (EndCluster (Load (Variable l))))) = k ≡ l
-Cleans t (Var k (Cell Pro)) (Destroys (OfObject (EndProcessor (Load (Variable l))))) = k ≡ l
-Cleans t (Own i) (Destroys e) = Unit {0}
-Cleans t (Own i) (DestroysAll n e) = Unit {0}
-Cleans t Kept Unwinds = Unit {0}
-Cleans t Kept Forgets = Unit {0}
-Cleans t Kept Leaves = Unit {0}
-Cleans t Kept Ends = Unit {0}
-Cleans t Kept (Frees r) = Unit {0}
-Cleans t Kept (Restores k) = Unit {0}
-Cleans t _ _ = ⊥
+-- what an element of an array is kept as
+abbrev pub element_shape : Table → Ty → Shape
+element_shape t (Obj c) = t.shape c
+element_shape t _ = Binding
+
+-- an expression destroys what stands at this place
+abbrev pub DestroysAt : Table → Ty → Expr → Expr → Type 0
+DestroysAt t (Obj c) place (OfObject (CallOn r e args)) = (place ≡ e) × ((t.routine r).this ≡ Some c)
+DestroysAt t (Obj c) place (OfObject (CallUnwritten r e)) = (place ≡ e) × ((t.routine r).this ≡ Some c)
+DestroysAt t (Cell (Obj c)) place (OfObject (EndOn r written (Load e))) = (place ≡ e) × ((t.routine r).this ≡ Some c)
+DestroysAt t (Cell Clu) place (OfObject (EndCluster (Load e))) = place ≡ e
+DestroysAt t (Cell Pro) place (OfObject (EndProcessor (Load e))) = place ≡ e
+DestroysAt t _ place _ = ⊥
+
+-- it destroys the counted element of the array of so many there
+abbrev pub DestroysEach : Table → Ty → ℕ → Expr → Expr → Type 0
+DestroysEach t (Row n a) m place e = (n ≡ m) × DestroysAt t a (Element n (element_shape t a) place (OfObject Counted)) e
+DestroysEach t _ m place e = ⊥
+
+abbrev pub CleansAt : Table → Ty → Expr → CleanUp → Type 0
+CleansAt t a place (Destroys e) = DestroysAt t a place e
+CleansAt t a place (DestroysAll m e) = DestroysEach t a m place e
+CleansAt t a place _ = ⊥
+
+-- what a clean-up takes out of scope: a variable, or a field of the object at hand, by what it destroys at its place
+abbrev pub Cleans : Table → Sig → Name → CleanUp → Type 0
+Cleans t g (Var k a) c = CleansAt t a (Variable k) c
+Cleans t g (Own i) c = (d : ℕ) × (g.this ≡ Some d) × CleansAt t (t.fields d i) (OfObject (OwnField (t.shape d) i)) c
+Cleans t g Kept Unwinds = Unit {0}
+Cleans t g Kept Forgets = Unit {0}
+Cleans t g Kept Leaves = Unit {0}
+Cleans t g Kept Ends = Unit {0}
+Cleans t g Kept (Frees r) = Unit {0}
+Cleans t g Kept (Restores k) = Unit {0}
+Cleans t g Kept _ = ⊥
+
+-- what cleans up a part of the object that is under construction is fine, and takes something out of scope
+abbrev pub FinePart : Table → Sig → List Name → CleanUp → Type 0
+FinePart t g sc c = FineClean t g sc c × ((x : Name) × Cleans t g x c)
 
 module _ (t : Table) (g : Sig) where
   abbrev mutual
@@ -292,8 +314,8 @@ module _ (t : Table) (g : Sig) where
     FineStmts sc Nil = Unit {0}
     FineStmts sc (Then a rest) = FineStmt sc a × FineStmts sc rest
     -- the object is whole in these statements
-    FineStmts sc (Scoped c rest) = (x : Name) × Cleans t x c × FineStmts (x ∷ sc) rest × FineClean t g sc c
-    FineStmts sc (Built c rest) = FineStmts sc rest × FineClean t g sc c
+    FineStmts sc (Scoped c rest) = (x : Name) × Cleans t g x c × FineStmts (x ∷ sc) rest × FineClean t g sc c
+    FineStmts sc (Built c rest) = FineStmts sc rest × FinePart t g sc c
 
     pub FineEvent : List Name → EventStmt → Type 0
     FineEvent sc (Throw line r) = FineRaised t g sc r
