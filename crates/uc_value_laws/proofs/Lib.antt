@@ -2,3 +2,4 @@ pub mod Cells
 pub mod Keeping
 pub mod Steps
 pub mod Walk
+pub mod Readings

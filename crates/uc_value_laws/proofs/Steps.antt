@@ -35,7 +35,7 @@ home_same : (h : Home) → home_eq h h ≡ true
 home_same (home.Task n) = eq-eqb n n refl
 home_same (home.Object o) = eq-eqb o o refl
 
-exec_same : (n : Exec) → exec_eq n n ≡ true
+pub exec_same : (n : Exec) → exec_eq n n ≡ true
 exec_same n =
     let h : home_eq n.home n.home ≡ true = home_same n.home in
     let s : nat_eq n.serial n.serial ≡ true = eq-eqb n.serial n.serial refl in

@@ -1,3 +1,4 @@
 pub mod There
 pub mod ThereStates
 pub mod ValueLaws
+pub mod Reading
