@@ -3,3 +3,4 @@ pub mod Keeping
 pub mod Steps
 pub mod Walk
 pub mod Readings
+pub mod Worlds

@@ -2,3 +2,4 @@ pub mod There
 pub mod ThereStates
 pub mod ValueLaws
 pub mod Reading
+pub mod Opens

@@ -1,5 +1,6 @@
 // The laws: each is a function whose contract is the law.
 
+ghost use Rattle.uc_value_laws.specs.Opens.{LawFair, LawRuns};
 ghost use Rattle.uc_value_laws.specs.Reading.{LawReading};
 ghost use Rattle.uc_value_laws.specs.ValueLaws.{LawSteps};
 
@@ -14,4 +15,17 @@ pub fn law_steps()
 /// or a processor; so does each element of an array.
 pub fn law_reading()
     ensures { LawReading }
+{}
+
+/// Where activations that use one frame stay behind one another, a step finds what it is to find as soon
+/// as a scope opens where its variable holds an object.
+pub fn law_fair()
+    ensures { LawFair }
+{}
+
+/// So in each run of a program that breaks no rule all is there that is in scope and known by its number,
+/// of all tasks, at rest and in each state to which whoever runs comes before it asks, as long as each
+/// scope opens where its variable holds an object.
+pub fn law_runs()
+    ensures { LawRuns }
 {}
