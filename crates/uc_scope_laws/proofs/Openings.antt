@@ -1,5 +1,5 @@
 -- In the source of every program each scope opens behind the statement that builds what it is of.
-use Rattle.std.proofs.Common.{◌≡◌, ℕ, zero, suc, ◌+◌, ◌⊎◌, inl, inr, ◌++◌, Bool, true, false, List, [], ◌∷◌, length, Option, Some, None, refl, sym, ◌∙◌}
+use Rattle.std.proofs.Common.{◌≡◌, ℕ, zero, suc, ◌+◌, inl, inr, ◌++◌, Bool, true, false, List, [], ◌∷◌, length, Option, Some, None, refl, sym, ◌∙◌}
 use Rattle.std.specs.Prelude.{slice_get}
 use Rattle.uc_tree.specs.declared.kinds.Base.{Base}
 use Rattle.uc_tree.specs.declared.kinds.Kind.{Kind}
@@ -20,7 +20,7 @@ use Rattle.uc_resolve.specs.Standings as tree
 use Rattle.uc_resolve.specs.Standings.{Meant}
 use Rattle.uc_resolve.specs.Resolve as meaning
 use Rattle.uc_resolve.specs.Resolve.{Scope, source_of}
-use Rattle.uc_scope_laws.specs.Opening.{Builds, Destroying, is_numbered, IsEndOf, Opens, EndsField, EndsElement, ScopeOpens, PartOpens, OpenStmt, OpenStmts, OpenHandlers, OpenClauses, OpenRoutine, LawOpening}
+use Rattle.uc_scope_laws.specs.Opening.{Builds, Destroying, is_numbered, IsEndOf, Opens, ScopeOpens, PartOpens, OpenStmt, OpenStmts, OpenHandlers, OpenClauses, OpenRoutine, LawOpening}
 
 -- what builds and what destroys the object of a place
 

@@ -1,18 +1,17 @@
 -- A variable in scope that holds what is known by its number holds that.
-use Rattle.std.proofs.Common.{◌≡◌, ℕ, zero, suc, ◌<◌, ◌⊎◌, inl, inr, Bool, true, false, List, [], ◌∷◌, take, Some, refl, sym, ap, ◌∙◌, subst}
+use Rattle.std.proofs.Common.{◌≡◌, ℕ, ◌<◌, inl, inr, Bool, true, List, [], ◌∷◌, take, Some, sym, ap, ◌∙◌, subst}
 use Rattle.std.specs.Prelude.{if◌then◌else◌, slice_index_or}
 use Rattle.uc_tree.specs.Source as src
 use Rattle.uc_tree.specs.Source.{Expr, CleanUp}
-use Rattle.uc_machine.specs.Executions.{exec_eq, at_depth, list_in, frames_in, parked_at}
+use Rattle.uc_machine.specs.Executions.{at_depth, list_in, frames_in, parked_at}
 use Rattle.uc_machine.specs.Pieces as piece
 use Rattle.uc_machine.specs.Pieces.{Link, Slot, At, Value, Todo, Sort, State, nought, address, loaded, further, variable_at}
 use Rattle.uc_typing.specs.Typing as typing
 use Rattle.uc_typing.specs.Typing.{Ty, Num, Cell, Obj, Raw, Row, Clu, Pro, Name, Sig, Table, InScope, DestroysAt, CleansAt, Cleans, Fine, FineClean, FineHandlers}
-use Rattle.uc_typing.specs.Pieces.{Ok, Left, Met, Popped, onto}
-use Rattle.uc_typing.specs.States.{IsNumbered, IsObjectBy, Is, Typed}
+use Rattle.uc_typing.specs.Pieces.{Ok, Left, Met}
+use Rattle.uc_typing.specs.States.{IsNumbered, IsObjectBy, Is}
 use Rattle.uc_typing.proofs.Control as control
-use Rattle.uc_value_laws.specs.There.{OfVariable, OfElements, EndsAt, HoldsObject, IsThere, ThereBy, AllThere, frame_at}
-use Rattle.uc_value_laws.specs.ThereStates.{ThereState}
+use Rattle.uc_value_laws.specs.There.{OfVariable, OfElements, EndsAt, HoldsObject, IsThere, ThereBy, AllThere}
 use Rattle.uc_value_laws.specs.Reading.{cleans, clean_by, own_names, LawReading}
 use Rattle.uc_value_laws.proofs.Steps.{exec_same, here}
 

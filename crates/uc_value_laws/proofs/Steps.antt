@@ -1,5 +1,5 @@
 -- A quiet step of a task in which all is there that is in scope and known by its number leads to one.
-use Rattle.std.proofs.Common.{◌≡◌, ℕ, zero, suc, ◌≤◌, ◌++◌, Bool, true, false, ◌&&◌, List, [], ◌∷◌, length, drop, Option, Some, None, refl, arith, ap, ◌∙◌, subst, sym}
+use Rattle.std.proofs.Common.{◌≡◌, ℕ, zero, suc, ◌≤◌, ◌++◌, Bool, true, false, List, [], ◌∷◌, length, drop, Option, Some, None, refl, arith, ap, ◌∙◌, subst, sym}
 use Rattle.std.specs.Prelude.{nat_eq, nat_lt, if◌then◌else◌}
 use Rattle.std.proofs.lemmas.Bool.{eq-eqb}
 use Rattle.uc_tree.specs.declared.limits.TheConstants.{CALLS, PENDING_EVENTS}
@@ -14,7 +14,7 @@ use Rattle.uc_machine.specs.declared.exec.Pending.{Pending}
 use Rattle.uc_machine.specs.declared.exec.UnwindReason.{UnwindReason}
 use Rattle.uc_machine.specs.declared.exec.UnwindReason.TheVariants as reason
 use Rattle.uc_machine.specs.declared.exec.Visited.{Visited}
-use Rattle.uc_machine.specs.Executions.{others, home_eq, exec_eq, at_depth, list_in, frame_changed, values_cleared, change, frames_changed}
+use Rattle.uc_machine.specs.Executions.{others, home_eq, exec_eq, frame_changed, values_cleared, change, frames_changed}
 use Rattle.uc_machine.specs.Switches as sw
 use Rattle.uc_machine.specs.Switches.{Moved, To, Stops}
 use Rattle.uc_machine.specs.Insides as inside
@@ -25,8 +25,8 @@ use Rattle.uc_machine.specs.Polls as polls
 use Rattle.uc_machine.specs.Quiet as quiet
 use Rattle.uc_machine.specs.Pieces as piece
 use Rattle.uc_machine.specs.Pieces.{Value, Number, Place, Running, Object, Nothing, Todo, Sort, Active, State, Env, Members, Step, Goes, Ticks, Asks, Outcome, Gives, Faults, at, in_env, goes, fault, asks, turns, top, below, number, nought, is_zero, written}
-use Rattle.uc_value_laws.specs.There.{IsThere, ThereBy, AllThere, AllBefore, FrameBefore, frame_at}
-use Rattle.uc_value_laws.specs.ThereStates.{ThereStack, ThereEx, ThereEnv, ThereState, ThereStep, FairAt}
+use Rattle.uc_value_laws.specs.There.{ThereBy, AllThere, AllBefore, FrameBefore, frame_at}
+use Rattle.uc_value_laws.specs.ThereStates.{ThereStack, ThereEx, ThereState, ThereStep, FairAt}
 use Rattle.uc_value_laws.proofs.Cells.{either, set_length, stack_cleared, stack_newer, stack_older, others_length}
 use Rattle.uc_value_laws.proofs.Keeping as kept
 use Rattle.uc_value_laws.proofs.Keeping.{Keeps}

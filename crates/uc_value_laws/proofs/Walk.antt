@@ -1,5 +1,5 @@
 -- Every quiet step of a task in which all is there that is in scope and known by its number, and answers to it.
-use Rattle.std.proofs.Common.{◌≡◌, ℕ, List, [], ◌∷◌, ◌++◌, length, Option, Some, None, refl, subst, arith}
+use Rattle.std.proofs.Common.{◌≡◌, ℕ, List, [], ◌∷◌, ◌++◌, Option, Some, None, refl, subst, arith}
 use Rattle.std.specs.Prelude.{nat_lt, slice_get, drop}
 use Rattle.uc_tree.specs.Source as src
 use Rattle.uc_tree.specs.Source.{Source, Routine, routine_or_none, routine_of}
@@ -14,7 +14,7 @@ use Rattle.uc_machine.specs.Pieces as piece
 use Rattle.uc_machine.specs.Pieces.{Value, Nothing, Todo, State, Env, Members, Step, Goes, Ticks, Asks, at, top, below, number}
 use Rattle.uc_machine.specs.Answering.{answered, entered, new_members, with_operand}
 use Rattle.uc_value_laws.specs.There.{AllThere}
-use Rattle.uc_value_laws.specs.ThereStates.{ThereStack, ThereParked, ThereHand, ThereMembers, ThereEnv, ThereState, ThereStep, FairAt, Fair}
+use Rattle.uc_value_laws.specs.ThereStates.{ThereParked, ThereHand, ThereMembers, ThereState, ThereStep, FairAt, Fair}
 use Rattle.uc_value_laws.specs.ValueLaws.{LawSteps}
 use Rattle.uc_value_laws.proofs.Cells.{either}
 use Rattle.uc_value_laws.proofs.Keeping as kept

@@ -1,5 +1,5 @@
 -- In every run in which scopes open where their variables hold objects, all is there that is in scope and known by its number.
-use Rattle.std.proofs.Common.{◌≡◌, ℕ, zero, suc, ◌+◌, ◌*◌, ◌≤◌, ◌<◌, ◌==◌, List, [], ◌∷◌, Option, Some, None, refl, subst, arith}
+use Rattle.std.proofs.Common.{◌≡◌, ℕ, ◌+◌, ◌*◌, ◌≤◌, ◌<◌, ◌==◌, List, [], ◌∷◌, Option, Some, None, refl, subst, arith}
 use Rattle.std.specs.Prelude.{min}
 use Rattle.std.proofs.Math.Nat.{min-le_left}
 use Rattle.uc_tree.specs.Source as src
@@ -17,7 +17,7 @@ use Rattle.uc_machine.specs.Quiet.{State, Members, no_members, quiet}
 use Rattle.uc_machine.specs.Answering.{answered, child_main}
 use Rattle.uc_machine.specs.Rides as rides
 use Rattle.uc_machine.specs.Rides.{Rides}
-use Rattle.uc_meaning.specs.Runs.{World, AsksIn, May, Runs, gives, no_room, acts, begun, more, bare, with_home, hand_of, drawn, or_else}
+use Rattle.uc_meaning.specs.Runs.{World, May, Runs, gives, no_room, acts, begun, more, bare, with_home, hand_of, drawn, or_else}
 use Rattle.uc_resolve.specs.Resolve.{source_of}
 use Rattle.uc_scope_laws.specs.Rooms.{SourceIn, LiesAt, LiesIn, Destroyed, Lies}
 use Rattle.uc_scope_laws.specs.RoomStates as rooms
@@ -32,7 +32,7 @@ use Rattle.uc_scope_laws.proofs.StackWorlds.{StackWorld}
 use Rattle.uc_scope_laws.proofs.Unreferring.{law_accepted}
 use Rattle.uc_value_laws.specs.There.{EndsAt, OfVariable, OfElements, OfEach, IsBefore, BeforeBy, AllBefore, FrameBefore}
 use Rattle.uc_value_laws.specs.ThereStates.{ThereHand, ThereMembers, ThereState, ThereStep, FairAt, Fair}
-use Rattle.uc_value_laws.specs.Opens.{OpensAt, Opens, LawFair, RideOpens, MayOpen, RunOpens, LeadsOpen, AllIsThere, LawRuns}
+use Rattle.uc_value_laws.specs.Opens.{OpensAt, Opens, LawFair, RideOpens, MayOpen, RunOpens, LeadsOpen, LawRuns}
 use Rattle.uc_value_laws.proofs.Cells.{either}
 use Rattle.uc_value_laws.proofs.Keeping.{found_hand}
 use Rattle.uc_value_laws.proofs.Walk.{walk, first, answered_there}

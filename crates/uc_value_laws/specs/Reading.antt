@@ -1,7 +1,7 @@
 -- What the variables of a typed task hold that its own clean-ups take out of scope.
-use Rattle.std.specs.Prelude.{ℕ, zero, suc, ◌<◌, List, [], ◌∷◌, take}
+use Rattle.std.specs.Prelude.{ℕ, suc, ◌<◌, List, [], ◌∷◌, take}
 use Rattle.uc_tree.specs.Source.{Binding}
-use Rattle.uc_machine.specs.Pieces.{Link, At, Todo, Sort, sort, IsClean, State, loaded, further, variable_at}
+use Rattle.uc_machine.specs.Pieces.{At, Todo, Sort, sort, IsClean, State, loaded, further, variable_at}
 use Rattle.uc_typing.specs.Typing.{Ty, Cell, Row, Name, Table, InScope}
 use Rattle.uc_typing.specs.States.{Is, Typed}
 use Rattle.uc_value_laws.specs.ThereStates.{ThereState}

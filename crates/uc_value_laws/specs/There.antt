@@ -1,6 +1,6 @@
 -- What is known by its number and in scope: the variable that its clean-up ends holds an object.
 use Rattle.std.specs.Prelude.{◌≡◌, ℕ, ◌<◌, List, [], ◌∷◌, slice_index_or}
-use Rattle.uc_tree.specs.Source.{Shape, Binding, Expr, Variable, Element, Load, OfObject, EndOn, EndCluster, EndProcessor, CleanUp, Destroys, DestroysAll}
+use Rattle.uc_tree.specs.Source.{Binding, Expr, Variable, Element, Load, OfObject, EndOn, EndCluster, EndProcessor, CleanUp, Destroys, DestroysAll}
 use Rattle.uc_machine.specs.Executions.{at_depth, list_in}
 use Rattle.uc_machine.specs.Pieces.{Link, Slot, At, Value, nought, address, Todo, Sort, sort, IsClean, Active}
 use Rattle.uc_typing.specs.States.{IsNumbered}
