@@ -23,13 +23,22 @@ pub data Name : Type 0 where
   Own : ℕ → Name
   Kept : Name
 
+-- how a routine comes to run inside the mutex object at hand: it does not; it enters that object, or builds or destroys it; it is called
+-- at that object by what is inside; it is the main, which nobody calls
+pub data Inward : Type 0 where
+  Apart : Inward
+  Enters : Inward
+  Helps : Inward
+  Main : Inward
+
 -- a routine: the class of its object, its parameters, each in a cell of its own, what stands at its other variables, by their first
--- cells, and whether it is a constructor or a destructor, whose body is left as a whole
+-- cells, whether it is a constructor or a destructor, whose body is left as a whole, and how it comes to run inside its object
 pub record Sig : Type 0 where
   pub this : Option ℕ
   pub params : List Ty
   pub locals : List (ℕ × Ty)
   pub whole : Bool
+  pub inward : Inward
 
 -- the routines by their numbers, and how many there are; of the classes what stands at each field, their shapes, whether they are mutex classes, whether their
 -- objects have executions, and their numbers
@@ -104,9 +113,29 @@ IsCluster Num = Unit {0}
 IsCluster Clu = Unit {0}
 IsCluster _ = ⊥
 
--- the object at hand: it is one of a mutex class, it has an execution
+abbrev pub IsInside : Inward → Type 0
+IsInside Apart = ⊥
+IsInside Enters = Unit {0}
+IsInside Helps = Unit {0}
+IsInside Main = Unit {0}
+
+-- what is called from anywhere
+abbrev pub IsOpen : Inward → Type 0
+IsOpen Apart = Unit {0}
+IsOpen Enters = Unit {0}
+IsOpen Helps = ⊥
+IsOpen Main = ⊥
+
+-- what is called at the object of an expression: what only helps inside, at the object at hand alone, inside it
+abbrev pub MayCall : Inward → Sig → Expr → Type 0
+MayCall Apart g e = Unit {0}
+MayCall Enters g e = Unit {0}
+MayCall Helps g e = (e ≡ OfObject This) × IsInside g.inward
+MayCall Main g e = ⊥
+
+-- the object at hand: it is one of a mutex class, and this runs inside it; it has an execution
 abbrev pub InMutex : Table → Sig → Type 0
-InMutex t g = (c : ℕ) × (g.this ≡ Some c) × (t.mutex c ≡ true)
+InMutex t g = (c : ℕ) × (g.this ≡ Some c) × (t.mutex c ≡ true) × IsInside g.inward
 
 abbrev pub Executing : Table → Sig → Type 0
 Executing t g = (c : ℕ) × (g.this ≡ Some c) × (t.executes c ≡ true)
@@ -156,7 +185,7 @@ module _ (t : Table) (g : Sig) (sc : List Name) where
     Yields (Update op s p e) a = (a ≡ Num) × Yields p (Cell Num) × Yields e Num
     Yields (StepBehind op s p) a = (a ≡ Num) × Yields p (Cell Num)
     Yields Fail a = a ≡ Num
-    Yields (Call r args) a = (a ≡ Num) × GiveAll args (t.routine r).params × ((t.routine r).this ≡ None) × IsRoutine t r
+    Yields (Call r args) a = (a ≡ Num) × GiveAll args (t.routine r).params × ((t.routine r).this ≡ None) × IsRoutine t r × IsOpen (t.routine r).inward
     Yields (OfObject o) a = ObjectGives o a
 
     pub GiveAll : Exprs → List Ty → Type 0
@@ -173,14 +202,14 @@ module _ (t : Table) (g : Sig) (sc : List Name) where
     -- no path leads into a mutex object
     ObjectGives (FieldOf s i e) a = (c : ℕ) × Yields e (Obj c) × (s ≡ t.shape c) × (a ≡ t.fields c i) × IsPlaced t (t.fields c i) × (t.mutex c ≡ false)
     ObjectGives Counted a = a ≡ Num
-    ObjectGives (CallOn r e args) a = (a ≡ Num) × CalledAt t r (Yields e) × GiveAll args (t.routine r).params
-    ObjectGives (CallUnwritten r e) a = (a ≡ Num) × CalledAt t r (Yields e) × ([] ≡ (t.routine r).params)
-    ObjectGives (CallLive r e args) a = (a ≡ Num) × CalledAt t r (Yields e) × GiveAll args (t.routine r).params
-    ObjectGives (EnterOn m r e args) a = (a ≡ Num) × EnteredAt t r (Yields e) × GiveAll args (t.routine r).params
-    ObjectGives (EndOn r written e) a = (a ≡ Num) × EnteredAt t r (Yields e) × ([] ≡ (t.routine r).params)
+    ObjectGives (CallOn r e args) a = (a ≡ Num) × CalledAt t r (Yields e) × GiveAll args (t.routine r).params × MayCall (t.routine r).inward g e
+    ObjectGives (CallUnwritten r e) a = (a ≡ Num) × CalledAt t r (Yields e) × ([] ≡ (t.routine r).params) × IsOpen (t.routine r).inward
+    ObjectGives (CallLive r e args) a = (a ≡ Num) × CalledAt t r (Yields e) × GiveAll args (t.routine r).params × IsOpen (t.routine r).inward
+    ObjectGives (EnterOn m r e args) a = (a ≡ Num) × EnteredAt t r (Yields e) × GiveAll args (t.routine r).params × IsOpen (t.routine r).inward
+    ObjectGives (EndOn r written e) a = (a ≡ Num) × EnteredAt t r (Yields e) × ([] ≡ (t.routine r).params) × IsOpen (t.routine r).inward
     ObjectGives (Bind p e) a = Yields p (Cell a) × Yields e a
     -- its place is bound to the new object, which the constructor builds
-    ObjectGives (MakeOn n r written p args) a = (a ≡ Num) × MadeAt t n r (Yields p) × GiveAll args (t.routine r).params
+    ObjectGives (MakeOn n r written p args) a = (a ≡ Num) × MadeAt t n r (Yields p) × GiveAll args (t.routine r).params × IsOpen (t.routine r).inward
     ObjectGives NewCluster a = a ≡ Clu
     ObjectGives (NewProcessor e) a = (a ≡ Pro) × ((b : Ty) × Yields e b × IsCluster b)
     ObjectGives (EndCluster e) a = (a ≡ Num) × Yields e Clu
