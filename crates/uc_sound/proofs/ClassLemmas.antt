@@ -32,7 +32,7 @@ use Rattle.uc_sound.proofs.Lists.{left_is}
 use Rattle.uc_sound.proofs.Visited.{sort_holds, home, field_rules}
 use Rattle.uc_sound.proofs.ClassNames.{Sorted, sorted}
 use Rattle.uc_sound.proofs.RoutineLemmas.{tells_routines}
-use Rattle.uc_sound.proofs.MemberLemmas.{tells_member, tells_maker, tells_event, tells_raised, event_whole}
+use Rattle.uc_sound.proofs.MemberLemmas.{tells_member, tells_maker, tells_event, tells_raised, event_whole, event_apart}
 
 -- the class that a base names
 pub class_of_base : (p : Program) (b : Base) (i : ℕ) (k : Kind) → sort_of p b ≡ Some (sort.Object i k) → (c : Class) × (class_at p i ≡ Some c) × (c.kind ≡ k)
@@ -122,4 +122,5 @@ law_told p formed u = record {
   events = λ i r name h g. tells_event p formed u i r name h g;
   raised = λ r name g. tells_raised p formed u r name g;
   events_whole = λ i r name h g. event_whole p formed u i r name h g;
+  events_apart = λ i r name h g. event_apart p formed u i r name h g;
 }

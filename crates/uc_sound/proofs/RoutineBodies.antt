@@ -181,13 +181,13 @@ module _ (p : Program) (formed : IsFormed p) (u : Unbroken (program_visits p)) w
       by (inl q) ih = of_all (suc top) k x q
       by (inr q) ih = ih q.0 q.1
 
-  unwritten_fine : (x : Unwritten) (r : Role) → x.role ≡ r → OfClass x → is_constructor r ≡ false → FineStmts t (unwritten_sig x) [] (unwritten_body p r x.class)
+  unwritten_fine : (x : Unwritten) (r : Role) → x.role ≡ r → OfClass x → is_constructor r ≡ false → FineStmts t (unwritten_sig p x) [] (unwritten_body p r x.class)
   unwritten_fine x role.Plain q c h = tt
   unwritten_fine x role.Constructor q c h = false_true (sym h)
   unwritten_fine x role.Destructor q c h =
-      subst (λ o. FineStmts t (unwritten_sig x) [] (destruction p o x.class Nil)) (sym c.at) (destruction_fine p formed u x.class c.class c.at (unwritten_sig x) refl Nil (λ sc. tt) [])
+      subst (λ o. FineStmts t (unwritten_sig p x) [] (destruction p o x.class Nil)) (sym c.at) (destruction_fine p formed u x.class c.class c.at (unwritten_sig p x) refl Nil (λ sc. tt) [])
 
-  unwritten_is : (x : Unwritten) → OfClass x → is_constructor x.role ≡ false → Routine_is t (unwritten_sig x) (unwritten_meant p x)
+  unwritten_is : (x : Unwritten) → OfClass x → is_constructor x.role ≡ false → Routine_is t (unwritten_sig p x) (unwritten_meant p x)
   unwritten_is x c h = record { body = unwritten_fine x x.role refl c h; params = refl; purpose = tt }
 
   routines_are : (n : ℕ) (r : Routine) → slice_get (source_of p).routines n ≡ Some r → builds p n ≡ false → Routine_is t (t.routine n) r
@@ -201,7 +201,7 @@ module _ (p : Program) (formed : IsFormed p) (u : Unbroken (program_visits p)) w
           let none : slice_get (routines_of p) n ≡ None = slice_get_past (routines_of p) n (let z : length (routines_of p) ≤ n = omega (arith, a) in z) in
           let l : n - length (routines_of p) ≡ m = omega (arith, a) in
           let k : is_constructor x.role ≡ false = sym (ap (builds_by p n) none ∙ (ap (λ z. unwritten_builds (slice_get (unwritten_of p) z)) l ∙ ap unwritten_builds f)) ∙ h in
-          subst (λ g. Routine_is t g r) (sym (ap sig_or_none s)) (subst (Routine_is t (unwritten_sig x)) (sym q) (unwritten_is x (of_heights (length (classes_of p.items)) m x f) k))
+          subst (λ g. Routine_is t g r) (sym (ap sig_or_none s)) (subst (Routine_is t (unwritten_sig p x)) (sym q) (unwritten_is x (of_heights (length (classes_of p.items)) m x f) k))
 
 pub law_routines : LawRoutines
 law_routines p formed u = record { count = count_is p; routines = routines_are p formed u }

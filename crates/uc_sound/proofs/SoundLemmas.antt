@@ -259,13 +259,13 @@ module _ (p : Program) (formed : IsFormed p) (u : Unbroken (program_visits p)) w
       let h : (is_some (constructor_among c.members) || not (has_unset p [] (Some c))) ≡ true = holds (is_well_built p c) S17 c.pos _ own2 in
       not_is (has_unset p [] (Some c)) (subst (λ o. (is_some o || not (has_unset p [] (Some c))) ≡ true) (no_written i c e v w) h)
 
-  unwritten_constructor : (x : Unwritten) → OfClass p formed u x → x.role ≡ role.Constructor → Routine_is table (unwritten_sig x) (unwritten_meant p x)
+  unwritten_constructor : (x : Unwritten) → OfClass p formed u x → x.role ≡ role.Constructor → Routine_is table (unwritten_sig p x) (unwritten_meant p x)
   unwritten_constructor x k q =
       let c = k.class in
       let unset = unset_none x.class c k.at k.no_event (ap (written_at p x.class) (sym q) ∙ k.missing) in
-      let body : FineStmts table (unwritten_sig x) [] (construction p (Some c) x.class [] (nowhere p) (construction_ends p (Some c) x.class)) = construction_fine p formed u x.class c k.at (unwritten_sig x) refl [] (nowhere p) (λ n f at. none_starts p formed u x.class c k.at (unwritten_sig x) refl [] unset n f at refl) (construction_ends p (Some c) x.class) (ends_fine p formed u x.class c k.at (unwritten_sig x) refl) [] in
+      let body : FineStmts table (unwritten_sig p x) [] (construction p (Some c) x.class [] (nowhere p) (construction_ends p (Some c) x.class)) = construction_fine p formed u x.class c k.at (unwritten_sig p x) refl [] (nowhere p) (λ n f at. none_starts p formed u x.class c k.at (unwritten_sig p x) refl [] unset n f at refl) (construction_ends p (Some c) x.class) (ends_fine p formed u x.class c k.at (unwritten_sig p x) refl) [] in
       record {
-        body = subst (λ r. FineStmts table (unwritten_sig x) [] (unwritten_body p r x.class)) (sym q) (subst (λ (o : Option Class). FineStmts table (unwritten_sig x) [] (construction p o x.class [] (nowhere p) (construction_ends p o x.class))) (sym k.at) body);
+        body = subst (λ r. FineStmts table (unwritten_sig p x) [] (unwritten_body p r x.class)) (sym q) (subst (λ (o : Option Class). FineStmts table (unwritten_sig p x) [] (construction p o x.class [] (nowhere p) (construction_ends p o x.class))) (sym k.at) body);
         params = refl;
         purpose = tt;
       }
@@ -289,7 +289,7 @@ module _ (p : Program) (formed : IsFormed p) (u : Unbroken (program_visits p)) w
           let none : slice_get (routines_of p) n ≡ None = slice_get_past (routines_of p) n (let z : length (routines_of p) ≤ n = omega (arith, a) in z) in
           let l : n - length (routines_of p) ≡ m = omega (arith, a) in
           let k : is_constructor x.role ≡ true = sym (ap (builds_by p n) none ∙ (ap (λ z. unwritten_builds (slice_get (unwritten_of p) z)) l ∙ ap unwritten_builds f)) ∙ h in
-          subst (λ g. Routine_is table g r) (sym (ap sig_or_none s)) (subst (Routine_is table (unwritten_sig x)) (sym q) (unwritten_constructor x (of_heights p formed u (length (classes_of p.items)) m x f) (constructor_role x.role k)))
+          subst (λ g. Routine_is table g r) (sym (ap sig_or_none s)) (subst (Routine_is table (unwritten_sig p x)) (sym q) (unwritten_constructor x (of_heights p formed u (length (classes_of p.items)) m x f) (constructor_role x.role k)))
 
 pub law_sound : LawSound
 law_sound p formed u = record { count = count_is p; routines = λ n r e. by_builds p formed u n r e (builds p n) refl }

@@ -10,7 +10,7 @@ use Rattle.uc_machine.specs.declared.exec.Stage.TheVariants.{Fresh, Started, End
 use Rattle.uc_machine.specs.Executions.{Execution, at_depth, others}
 use Rattle.uc_machine.specs.Pieces.{Link, Slot, FieldAt, At, Value, Number, Place, Running, Object, Nothing, Todo, Active, State, Env, Members, Step, Goes, Ticks, Asks, loaded, further, top, variable_at, Eval, LoadNow}
 use Rattle.uc_machine.specs.Answering.{child_main}
-use Rattle.uc_typing.specs.Typing.{Ty, Num, Cell, Obj, Raw, Row, Clu, Pro, Name, Enters, Sig, Table, IsRoutine, InScope, FineStmts}
+use Rattle.uc_typing.specs.Typing.{Ty, Num, Cell, Obj, Raw, Row, Clu, Pro, Name, Enters, Makes, Sig, Table, IsRoutine, InScope, FineStmts}
 use Rattle.uc_typing.specs.Pieces.{Ok, onto}
 
 -- what a place that is not whole yet is a place of
@@ -230,7 +230,7 @@ pub record Routine_is (t : Table) (g : Sig) (r : Routine) : Type 0 where
   pub body : FineStmts t g [] r.body
   pub params : r.params ≡ length g.params
   pub purpose : IsSorted r.purpose g.whole
-  pub enters : g.inward ≡ Enters → LetsGo r.body
+  pub enters : (g.inward ≡ Enters) ⊎ (g.inward ≡ Makes) → LetsGo r.body
 
 pub record Sound (t : Table) (source : Source) : Type 0 where
   pub count : length source.routines ≡ t.count

@@ -23,11 +23,12 @@ pub data Name : Type 0 where
   Own : ℕ → Name
   Kept : Name
 
--- how a routine comes to run inside the mutex object at hand: it does not; it enters that object, or builds or destroys it; it is called
--- at that object by what is inside; it is the main, which nobody calls
+-- how a routine comes to run inside the mutex object at hand: it does not; it enters that object, or destroys it; it builds it; it is
+-- called at that object by what is inside; it is the main, which nobody calls
 pub data Inward : Type 0 where
   Apart : Inward
   Enters : Inward
+  Makes : Inward
   Helps : Inward
   Main : Inward
 
@@ -116,13 +117,15 @@ IsCluster _ = ⊥
 abbrev pub IsInside : Inward → Type 0
 IsInside Apart = ⊥
 IsInside Enters = Unit {0}
+IsInside Makes = Unit {0}
 IsInside Helps = Unit {0}
 IsInside Main = Unit {0}
 
--- what is called from anywhere
+-- what is called from anywhere, by other than the making of an object
 abbrev pub IsOpen : Inward → Type 0
 IsOpen Apart = Unit {0}
 IsOpen Enters = Unit {0}
+IsOpen Makes = ⊥
 IsOpen Helps = ⊥
 IsOpen Main = ⊥
 
@@ -130,6 +133,7 @@ IsOpen Main = ⊥
 abbrev pub MayCall : Inward → Sig → Expr → Type 0
 MayCall Apart g e = Unit {0}
 MayCall Enters g e = Unit {0}
+MayCall Makes g e = ⊥
 MayCall Helps g e = (e ≡ OfObject This) × IsInside g.inward
 MayCall Main g e = ⊥
 
@@ -147,6 +151,11 @@ IsRoutine t r = r < t.count
 -- a main is at the object at hand, without parameters
 abbrev pub IsMain : Table → Sig → ℕ → Type 0
 IsMain t g r = ((t.routine r).this ≡ g.this) × ((t.routine r).params ≡ []) × IsRoutine t r
+
+-- the main of a mutex object is set up where that is built
+abbrev pub SetsUp : Inward → Inward → Type 0
+SetsUp Main w = w ≡ Makes
+SetsUp _ w = Unit {0}
 
 -- what is called is at an object of its class, which is whole unless it is built or destroyed by that; what gives the object is of
 -- these types
@@ -209,7 +218,7 @@ module _ (t : Table) (g : Sig) (sc : List Name) where
     ObjectGives (EndOn r written e) a = (a ≡ Num) × EnteredAt t r (Yields e) × ([] ≡ (t.routine r).params) × IsOpen (t.routine r).inward
     ObjectGives (Bind p e) a = Yields p (Cell a) × Yields e a
     -- its place is bound to the new object, which the constructor builds
-    ObjectGives (MakeOn n r written p args) a = (a ≡ Num) × MadeAt t n r (Yields p) × GiveAll args (t.routine r).params × IsOpen (t.routine r).inward
+    ObjectGives (MakeOn n r written p args) a = (a ≡ Num) × MadeAt t n r (Yields p) × GiveAll args (t.routine r).params × ((t.routine r).inward ≡ Makes)
     ObjectGives NewCluster a = a ≡ Clu
     ObjectGives (NewProcessor e) a = (a ≡ Pro) × ((b : Ty) × Yields e b × IsCluster b)
     ObjectGives (EndCluster e) a = (a ≡ Num) × Yields e Clu
@@ -362,7 +371,7 @@ module _ (t : Table) (g : Sig) where
     pub FineTask : List Name → TaskStmt → Type 0
     FineTask sc (Resume line) = Executing t g
     FineTask sc (Suspend line) = Unit {0}
-    FineTask sc (SetUp r) = IsMain t g r × Executing t g
+    FineTask sc (SetUp r) = IsMain t g r × Executing t g × SetsUp (t.routine r).inward g.inward
     FineTask sc Enliven = Executing t g
     FineTask sc TakeDown = Executing t g
     FineTask sc (Yield line) = Unit {0}
