@@ -45,7 +45,8 @@ mutex _ h = false_true h
 
 class_main : (p : Program) → IsFormed p → Unbroken (program_visits p) → (i : ℕ) (c : Class) → class_at p i ≡ Some c → is_task c.kind ≡ true → IsTask (table_of p) (main_at p i)
 class_main p formed u i c e h =
-    let m : IsMain (table_of p) (record { this = Some i; params = []; locals = []; whole = false }) (main_at p i) = main_is p formed u i c e (record { this = Some i; params = []; locals = []; whole = false }) refl (mained c.kind h) in
+    let g : Sig = record { this = Some i; params = []; locals = []; whole = false; inward = Apart } in
+    let m : IsMain (table_of p) g (main_at p i) = (main_is p formed u i c e g refl (mained c.kind h)).0 in
     let k : (table_of p).mutex i ≡ true = ap (of_kind is_mutex) e ∙ mutex c.kind h in
     (subst (IsOfTask (table_of p)) (sym m.0) k, m.1, m.2)
 

@@ -275,8 +275,8 @@ module _ (p : Program) (formed : IsFormed p) (u : Unbroken (program_visits p)) w
       ap (λ (g : Typed). g.inward) (has_sig p n x e).sig ∙ ap (λ o. inward_at p o x.routine.sig.role x.routine.sig.name) l
 
   -- what builds or destroys an object of a class
-  role_is : (i : ℕ) (c : Class) (wanted : Role) (name : List ℕ) → class_at p i ≡ Some c → is_plain wanted ≡ false → inward_at p (Some i) wanted name ≡ role_inward wanted (of_kind is_mutex (class_at p i))
-  role_is i c wanted name e w =
+  pub made_inward : (i : ℕ) (c : Class) (wanted : Role) (name : List ℕ) → class_at p i ≡ Some c → is_plain wanted ≡ false → inward_at p (Some i) wanted name ≡ role_inward wanted (of_kind is_mutex (class_at p i))
+  made_inward i c wanted name e w =
       ap (λ o. inward_in p i o wanted name) e ∙ (by wanted (is_mutex c.kind) w ∙ ap (λ o. role_inward wanted (of_kind is_mutex o)) (sym e))
     where
       by : (r : Role) (b : Bool) → is_plain r ≡ false → (if b then inward_by r (same_name name main_name) (is_some (member_number c name)) (helps_in (member_named p i name)) else Apart) ≡ role_inward r b
@@ -448,8 +448,8 @@ module _ (p : Program) (formed : IsFormed p) (u : Unbroken (program_visits p)) w
     unwritten_params = λ h. let k = is_unwritten p i c wanted e v w h in sym (ap (λ (g : Typed). g.params) k.sig);
     unwritten_known = λ h. (is_unwritten p i c wanted e v w h).known;
     unwritten_whole = λ h. let k = is_unwritten p i c wanted e v w h in ap (λ (g : Typed). g.whole) k.sig;
-    written_inward = λ r h. let k = written i r wanted h in inward_is p formed u r k.x (Some i) k.at (numbered_place p formed u i k.x number k.number) ∙ (ap (λ (z : Role). inward_at p (Some i) z k.x.routine.sig.name) (sym k.role) ∙ role_is p formed u i c wanted k.x.routine.sig.name e w);
-    unwritten_inward = λ h. let k = is_unwritten p i c wanted e v w h in ap (λ (g : Typed). g.inward) k.sig ∙ (ap (λ z. inward_at p (Some z) k.unwritten.role []) k.class ∙ (ap (λ (z : Role). inward_at p (Some i) z []) k.role_is ∙ role_is p formed u i c wanted [] e w));
+    written_inward = λ r h. let k = written i r wanted h in inward_is p formed u r k.x (Some i) k.at (numbered_place p formed u i k.x number k.number) ∙ (ap (λ (z : Role). inward_at p (Some i) z k.x.routine.sig.name) (sym k.role) ∙ made_inward p formed u i c wanted k.x.routine.sig.name e w);
+    unwritten_inward = λ h. let k = is_unwritten p i c wanted e v w h in ap (λ (g : Typed). g.inward) k.sig ∙ (ap (λ z. role_inward k.unwritten.role (of_kind is_mutex (class_at p z))) k.class ∙ ap (λ (z : Role). role_inward z (of_kind is_mutex (class_at p i))) k.role_is);
   }
     where
       number : HasNumber p u i

@@ -152,7 +152,7 @@ module _ (p : Program) where
   inward_at (Some i) r name = inward_in i (class_at p i) r name
 
   abbrev pub unwritten_sig : Unwritten → Sig
-  unwritten_sig u = record { this = Some u.class; params = []; locals = []; whole = true; inward = inward_at (Some u.class) u.role [] }
+  unwritten_sig u = record { this = Some u.class; params = []; locals = []; whole = true; inward = role_inward u.role (of_kind is_mutex (class_at p u.class)) }
 
   abbrev pub unwritten_sigs : List Unwritten → List Sig
   unwritten_sigs [] = []

@@ -1,5 +1,5 @@
 -- States whose operands, frames and activations are of the types that their to-do lists ask for, and what an answer brings to one.
-use Rattle.std.specs.Prelude.{◌≡◌, ℕ, ◌<◌, List, [], ◌∷◌, length, slice_get, Option, Some, None, Bool, true, false}
+use Rattle.std.specs.Prelude.{◌≡◌, ℕ, ◌<◌, ◌⊎◌, List, [], ◌∷◌, length, slice_get, Option, Some, None, Bool, true, false}
 use Rattle.uc_tree.specs.Source.{OfObject, Get, GetOwn, Stmts, Scoped, Leaves, Ends, Frees, Source, Routine, Purpose, TaskMain, CoroutineMain, Procedure, Function, Builder}
 use Rattle.uc_entry.specs.declared.request.Request.{Request}
 use Rattle.uc_entry.specs.declared.request.Request.TheVariants as ask
