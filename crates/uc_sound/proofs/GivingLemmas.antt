@@ -27,6 +27,7 @@ use Rattle.uc_rules.specs.Scopes.{Env, named, named_behind, local_named}
 use Rattle.uc_rules.specs.Entities as rules
 use Rattle.uc_rules.specs.Entities.{entity_of, parts_entity, part_entity, chain_entity, link_entity, meant_entity, is_scalar, of_scalar, of_both, both_scalars, of_place, of_index, of_assign, value_of, assigned, element, call_follows, path_member, built_in, condition_member, operation_named, operation_entity, open_entity, entity_by_path, is_open, member_entity, other_member, of_field, of_call, given, sig_gives, value_of_sort, call_target, count, may_call, are_sound}
 use Rattle.uc_rules.specs.Visits.{visits}
+use Rattle.uc_rules.specs.OwnerBreaks.{names_condition}
 use Rattle.uc_typing.specs.Typing.{Num, Obj, Name, Sig, Table, IsInside, Yields, Fine}
 use Rattle.uc_agreement.specs.Agreement.{found_ty, row_ty, IsAsValue, ValuedBy, Agrees, AgreesIf, Tied, context}
 use Rattle.uc_agreement.specs.Unbroken.{Unbroken, Stands, IsKnown}

@@ -18,7 +18,7 @@ use Rattle.uc_rules.specs.declared.rule.Rule.TheVariants.{S3}
 use Rattle.uc_rules.specs.Sorts.{has_main, is_task}
 use Rattle.uc_rules.specs.ItemBreaks.{is_program_main, mains_in, main_breaks}
 use Rattle.uc_rules.specs.ProgramVisits.{program_visits}
-use Rattle.uc_typing.specs.Typing.{Sig, IsMain}
+use Rattle.uc_typing.specs.Typing.{Apart, Sig, IsMain}
 use Rattle.uc_typing.specs.States.{IsOfTask, IsTask}
 use Rattle.uc_agreement.specs.Agreement.{param_ty}
 use Rattle.uc_agreement.specs.Unbroken.{Unbroken}

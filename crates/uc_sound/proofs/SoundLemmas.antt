@@ -235,6 +235,10 @@ module _ (p : Program) (formed : IsFormed p) (u : Unbroken (program_visits p)) w
         let class_is : home_class inner ≡ Some c = ap (λ o. option_and_then (λ (h : OwnClass). class_at inner.program h.class) o) (home_is ∙ q) ∙ (ap (λ z. class_at z h.class) same ∙ at) in
         subst (λ z. has_unset z d.routine.inits (Some c) ≡ false) same (subst (λ o. has_unset inner.program d.routine.inits o ≡ false) class_is none)
 
+    makes : (i : ℕ) (c : Class) → class_at p i ≡ Some c → place_by p d ≡ Some i → g.inward ≡ role_inward role.Constructor (is_mutex c.kind)
+    makes i c q at =
+        ap (λ o. inward_at p o d.routine.sig.role d.routine.sig.name) at ∙ (ap (λ (r : Role). inward_at p (Some i) r d.routine.sig.name) maker ∙ (made_inward p formed u i c role.Constructor d.routine.sig.name q refl ∙ ap (λ o. role_inward role.Constructor (of_kind is_mutex o)) q))
+
     by_home : (o : Option OwnClass) → s.home ≡ o → HomeIs p formed u d o → FineStmts table g [] (construction p (class_by p (place_by p d)) (place_or_zero p (place_by p d)) d.routine.inits scope (Then (Whole d.routine.brace.line (stmts_meant p d.routine.body scope)) (construction_ends p (class_by p (place_by p d)) (place_or_zero p (place_by p d)))))
     by_home None q at =
         subst (λ (z : Option ℕ). FineStmts table g [] (construction p (class_by p z) (place_or_zero p z) d.routine.inits scope (Then (Whole d.routine.brace.line (stmts_meant p d.routine.body scope)) (construction_ends p (class_by p z) (place_or_zero p z))))) (sym at) (whole_body [])
@@ -244,10 +248,6 @@ module _ (p : Program) (formed : IsFormed p) (u : Unbroken (program_visits p)) w
         let inner_body = all_body (Some c) h.class (ends_fine p formed u h.class c at.1 g place) in
         let x = starts_at p formed u inner same h.class c at.1 g place (makes h.class c at.1 place) h scope d.routine.inits (Then (Whole d.routine.brace.line (stmts_meant p d.routine.body scope)) (construction_ends p (Some c) h.class)) (home_is ∙ q) refl (λ sc. routine_within p formed u n d e texts sites s sc) inits_unbroken (unset h c q at.1) inner_body in
         subst (λ (z : Option ℕ). FineStmts table g [] (construction p (class_by p z) (place_or_zero p z) d.routine.inits scope (Then (Whole d.routine.brace.line (stmts_meant p d.routine.body scope)) (construction_ends p (class_by p z) (place_or_zero p z))))) (sym place) (subst (λ (o : Option Class). FineStmts table g [] (construction p o h.class d.routine.inits scope (Then (Whole d.routine.brace.line (stmts_meant p d.routine.body scope)) (construction_ends p o h.class)))) (sym at.1) x)
-
-    makes : (i : ℕ) (c : Class) → class_at p i ≡ Some c → place_by p d ≡ Some i → g.inward ≡ role_inward role.Constructor (is_mutex c.kind)
-    makes i c q at =
-        ap (λ o. inward_at p o d.routine.sig.role d.routine.sig.name) at ∙ (ap (λ (r : Role). inward_at p (Some i) r d.routine.sig.name) maker ∙ (made_inward p formed u i c role.Constructor d.routine.sig.name q refl ∙ ap (λ o. role_inward role.Constructor (of_kind is_mutex o)) q))
 
     constructor_is : Routine_is table g (routine_meant p d.routine scope)
     constructor_is = record {
