@@ -7,6 +7,7 @@ use Rattle.uc_tree.specs.declared.kinds.Param.{Param}
 use Rattle.uc_tree.specs.declared.kinds.LocalVariable.{LocalVariable}
 use Rattle.uc_tree.specs.declared.kinds.Ty.{Ty as Declared}
 use Rattle.uc_tree.specs.Numbering.{is_mutex}
+use Rattle.uc_tree.specs.Objects.{is_task}
 use Rattle.uc_tree.specs.Programs.{Program}
 use Rattle.uc_tree.specs.Expressions as expr
 use Rattle.uc_tree.specs.Source.{Expr, OfObject, This}
@@ -210,6 +211,8 @@ module _ (t : Table) (g : Sig) (sc : List Name) where
     pub refers : t.refers ≡ true
     pub classes : (b : Base) (c : ℕ) (k : Kind) → sort_of env.program b ≡ Some (sort.Object c k) →
         t.mutex c ≡ is_mutex k
+    pub tasks : (b : Base) (c : ℕ) (k : Kind) → sort_of env.program b ≡ Some (sort.Object c k) →
+        t.tasks c ≡ is_task k
     pub inside : env.around.inner ≡ true → IsInside g.inward
     pub names : Alike env.program env.names known
     pub outer : (name : List ℕ) → local_named env.names name ≡ None →

@@ -8,7 +8,7 @@ use Rattle.uc_tree.specs.declared.kinds.Kind.{Kind}
 use Rattle.uc_tree.specs.Expressions as expr
 use Rattle.uc_tree.specs.Cells.{classes_of, leading_cells}
 use Rattle.uc_tree.specs.Numbering.{is_mutex}
-use Rattle.uc_tree.specs.Objects.{ClassField, fields_of, class_at}
+use Rattle.uc_tree.specs.Objects.{ClassField, fields_of, class_at, is_task}
 use Rattle.uc_tree.specs.Programs.{Class, Program}
 use Rattle.uc_rules.specs.declared.rule.Rule.TheVariants.{S2, S4, S14, S16}
 use Rattle.uc_rules.specs.declared.rule.Break.{Break}
@@ -50,6 +50,9 @@ class_of_base p base.Processor i k h = absurd (cc)
 
 pub mutex_is : (p : Program) (b : Base) (i : ℕ) (k : Kind) → sort_of p b ≡ Some (sort.Object i k) → (table_of p).mutex i ≡ is_mutex k
 mutex_is p b i k h = let c = class_of_base p b i k h in ap (of_kind is_mutex) c.1 ∙ ap is_mutex c.2
+
+pub task_is : (p : Program) (b : Base) (i : ℕ) (k : Kind) → sort_of p b ≡ Some (sort.Object i k) → (table_of p).tasks i ≡ is_task k
+task_is p b i k h = let c = class_of_base p b i k h in ap (of_kind is_task) c.1 ∙ ap is_task c.2
 
 -- what is declared is at a place, but for `void` and conditions
 pub placed : (p : Program) (b : Base) (s : Sort) → sort_of p b ≡ Some s → is_void s ≡ false → is_condition s ≡ false → IsPlaced (table_of p) (place_ty s)

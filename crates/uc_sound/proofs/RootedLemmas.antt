@@ -50,7 +50,7 @@ use Rattle.uc_sound.specs.Rooted.{IsStood, Rooted}
 use Rattle.uc_sound.proofs.Lists.{left_is}
 use Rattle.uc_sound.proofs.Visited.{sort_holds, home, field_rules, item_rules, sig_ret}
 use Rattle.uc_sound.proofs.MemberLemmas.{sig_rules, method_at}
-use Rattle.uc_sound.proofs.ClassLemmas.{mutex_is, law_told}
+use Rattle.uc_sound.proofs.ClassLemmas.{mutex_is, task_is, law_told}
 use Rattle.uc_sound.proofs.RootLemmas.{Meaning, a_field, a_method, meaning, nothing_is, method_agrees}
 
 variable_stood : (r : Bool) (l : Option expr.Expr) (n : ℕ) (s : Sort) → IsStood (Some (variable r l n s))
@@ -347,6 +347,7 @@ module _ (p : Program) (formed : IsFormed p) (u : Unbroken (program_visits p)) w
     told = told;
     refers = refl;
     classes = mutex_is p;
+    tasks = task_is p;
     inside = λ h. false_true h;
     names = subst (Names g None main) (sym at) (main_agree g main);
     stood = all_stood None main;
@@ -361,6 +362,7 @@ module _ (p : Program) (formed : IsFormed p) (u : Unbroken (program_visits p)) w
     told = told;
     refers = refl;
     classes = mutex_is p;
+    tasks = task_is p;
     inside = inside h refl;
     names = subst (Names g (Some h) main) (sym at.3) (in_class_agree g main h at.0 at.1 (this ∙ at.3));
     stood = all_stood (Some h) main;

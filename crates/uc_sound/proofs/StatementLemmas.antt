@@ -104,13 +104,13 @@ module _ (t : Table) (g : Sig) where
   -- what stands round a statement within another one
 
   joins_rooted : (z : Bool) (p : Program) (a : Surroundings) (class : Option ℕ) → Rooted t g p a class → Rooted t g p (with_joins z a) class
-  joins_rooted z p a class h = record { told = h.told; refers = h.refers; classes = h.classes; inside = h.inside; names = h.names; stood = h.stood; member = h.member; members = h.members; results = h.results; returning = h.returning; switching = h.switching; accepting = h.accepting }
+  joins_rooted z p a class h = record { told = h.told; refers = h.refers; classes = h.classes; tasks = h.tasks; inside = h.inside; names = h.names; stood = h.stood; member = h.member; members = h.members; results = h.results; returning = h.returning; switching = h.switching; accepting = h.accepting }
 
   loop_rooted : (p : Program) (a : Surroundings) (class : Option ℕ) → Rooted t g p a class → Rooted t g p (in_loop a) class
-  loop_rooted p a class h = record { told = h.told; refers = h.refers; classes = h.classes; inside = h.inside; names = h.names; stood = h.stood; member = h.member; members = h.members; results = h.results; returning = h.returning; switching = h.switching; accepting = h.accepting }
+  loop_rooted p a class h = record { told = h.told; refers = h.refers; classes = h.classes; tasks = h.tasks; inside = h.inside; names = h.names; stood = h.stood; member = h.member; members = h.members; results = h.results; returning = h.returning; switching = h.switching; accepting = h.accepting }
 
   handler_rooted : (p : Program) (a : Surroundings) (class : Option ℕ) → Rooted t g p a class → Rooted t g p (around_handler a) class
-  handler_rooted p a class h = record { told = h.told; refers = h.refers; classes = h.classes; inside = h.inside; names = h.names; stood = h.stood; member = h.member; members = h.members; results = h.results; returning = h.returning; switching = h.switching; accepting = h.accepting }
+  handler_rooted p a class h = record { told = h.told; refers = h.refers; classes = h.classes; tasks = h.tasks; inside = h.inside; names = h.names; stood = h.stood; member = h.member; members = h.members; results = h.results; returning = h.returning; switching = h.switching; accepting = h.accepting }
 
   module _ (sc : List Name) (env : Env) (class : Option ℕ) (names : List LocalVariable) (h : Within t g sc env class names) where
     in_opened : Within t g sc (opened env) class names

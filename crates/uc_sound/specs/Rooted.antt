@@ -4,6 +4,7 @@ use Rattle.uc_tree.specs.declared.kinds.Base.{Base}
 use Rattle.uc_tree.specs.declared.kinds.Kind.{Kind}
 use Rattle.uc_tree.specs.declared.kinds.LocalVariable.{LocalVariable}
 use Rattle.uc_tree.specs.Numbering.{is_mutex}
+use Rattle.uc_tree.specs.Objects.{is_task}
 use Rattle.uc_tree.specs.Programs.{Program}
 use Rattle.uc_resolve.specs.Standings as tree
 use Rattle.uc_rules.specs.declared.rules.Surroundings.{Surroundings}
@@ -42,6 +43,7 @@ pub record Rooted (t : Table) (g : Sig) (p : Program) (a : Surroundings) (class 
   pub told : Told t p
   pub refers : t.refers ≡ true
   pub classes : (b : Base) (c : ℕ) (k : Kind) → sort_of p b ≡ Some (sort.Object c k) → t.mutex c ≡ is_mutex k
+  pub tasks : (b : Base) (c : ℕ) (k : Kind) → sort_of p b ≡ Some (sort.Object c k) → t.tasks c ≡ is_task k
   pub inside : a.inner ≡ true → IsInside g.inward
   pub names : (sc : List Name) (name : List ℕ) →
       (names_condition (root_named p a name) ≡ true → IsInside g.inward) →

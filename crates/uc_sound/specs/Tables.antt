@@ -12,7 +12,7 @@ use Rattle.uc_tree.specs.Constants.{constants_of, elements}
 use Rattle.uc_tree.specs.Cells.{leading_cells, seen_in}
 use Rattle.uc_tree.specs.Gathered.{gathered_all}
 use Rattle.uc_tree.specs.Numbering.{is_plain, is_mutex, main_name, member_number, own_texts, own_sites, Defined, routines_of}
-use Rattle.uc_tree.specs.Objects.{ClassField, fields_of, class_at, number_at, class_shape, has_execution, event_place, Unwritten, unwritten_of}
+use Rattle.uc_tree.specs.Objects.{ClassField, fields_of, class_at, number_at, class_shape, has_execution, is_task, event_place, Unwritten, unwritten_of}
 use Rattle.uc_tree.specs.Programs.{Class, Program}
 use Rattle.uc_resolve.specs.Resolve.{Scope, length_of, with_declared, for_scope, scope_after, scope_past, scope_past_all, within_accept, scope_past_clause, scope_past_clauses, within_events, in_handler, scope_past_handler, routine_scope, place_by}
 use Rattle.uc_rules.specs.declared.rules.Sort.{Sort}
@@ -198,6 +198,7 @@ module _ (p : Program) where
     shape = class_shape p;
     mutex = λ i. of_kind is_mutex (class_at p i);
     executes = λ i. of_kind has_execution (class_at p i);
+    tasks = λ i. of_kind is_task (class_at p i);
     number = number_at p;
     refers = true;
   }

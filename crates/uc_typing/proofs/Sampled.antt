@@ -21,6 +21,7 @@ table = record {
   shape = λ c. Last;
   mutex = λ c. true;
   executes = λ c. false;
+  tasks = λ c. true;
   number = λ c. c;
   refers = true;
 }
@@ -74,6 +75,7 @@ event_table = record {
   shape = shapes;
   mutex = λ c. false;
   executes = λ c. false;
+  tasks = λ c. false;
   number = λ c. c;
   refers = false;
 }

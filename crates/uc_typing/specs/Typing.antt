@@ -42,7 +42,7 @@ pub record Sig : Type 0 where
   pub inward : Inward
 
 -- the routines by their numbers, and how many there are; of the classes what stands at each field, their shapes, whether they are mutex classes, whether their
--- objects have executions, and their numbers
+-- objects have executions, whether those are tasks, and their numbers
 pub record Table : Type 0 where
   pub routine : ℕ → Sig
   pub count : ℕ
@@ -50,6 +50,7 @@ pub record Table : Type 0 where
   pub shape : ℕ → Shape
   pub mutex : ℕ → Bool
   pub executes : ℕ → Bool
+  pub tasks : ℕ → Bool
   pub number : ℕ → ℕ
   -- whether bindings other than parameters are read: references in fields, and what is known by its number
   pub refers : Bool
@@ -143,6 +144,10 @@ InMutex t g = (c : ℕ) × (g.this ≡ Some c) × (t.mutex c ≡ true) × IsInsi
 
 abbrev pub Executing : Table → Sig → Type 0
 Executing t g = (c : ℕ) × (g.this ≡ Some c) × (t.executes c ≡ true)
+
+-- an event is raised at a mutex object that is a task
+abbrev pub IsTarget : Table → ℕ → Type 0
+IsTarget t c = t.mutex c ≡ true → t.tasks c ≡ true
 
 -- a routine that is there
 abbrev pub IsRoutine : Table → ℕ → Type 0
@@ -360,7 +365,7 @@ module _ (t : Table) (g : Sig) where
     FineEvent sc (Raise line r) = FineRaised t g sc r
     FineEvent sc (Try line body hs) = FineStmts sc body × FineHandlers sc hs
     -- at a task, or at a coroutine
-    FineEvent sc (RaiseAt line r e) = FineRaised t g sc r × ((c : ℕ) × Yields t g sc e (Obj c))
+    FineEvent sc (RaiseAt line r e) = FineRaised t g sc r × ((c : ℕ) × Yields t g sc e (Obj c) × IsTarget t c)
     FineEvent sc (Enable line events cell a) = FineStmt (Kept ∷ sc) a
     FineEvent sc (Disable line events cell a) = FineStmt (Kept ∷ sc) a
 
