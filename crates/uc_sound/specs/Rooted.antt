@@ -43,7 +43,8 @@ pub record Rooted (t : Table) (g : Sig) (p : Program) (a : Surroundings) (class 
   pub told : Told t p
   pub refers : t.refers ≡ true
   pub classes : (b : Base) (c : ℕ) (k : Kind) → sort_of p b ≡ Some (sort.Object c k) → t.mutex c ≡ is_mutex k
-  pub tasks : (b : Base) (c : ℕ) (k : Kind) → sort_of p b ≡ Some (sort.Object c k) → t.tasks c ≡ is_task k
+  pub tasks : (b : Base) (c : ℕ) (k : Kind) → sort_of p b ≡ Some (sort.Object c k) →
+      t.tasks c ≡ is_task k
   pub inside : a.inner ≡ true → IsInside g.inward
   pub names : (sc : List Name) (name : List ℕ) →
       (names_condition (root_named p a name) ≡ true → IsInside g.inward) →

@@ -51,8 +51,10 @@ pub record TellsMaker (t : Table) (p : Program) (i : ℕ) (wanted : Role) : Type
   pub unwritten_params : written_at p i wanted ≡ None → [] ≡ (t.routine (unwritten_number p i wanted)).params
   pub unwritten_known : written_at p i wanted ≡ None → IsRoutine t (unwritten_number p i wanted)
   pub unwritten_whole : written_at p i wanted ≡ None → (t.routine (unwritten_number p i wanted)).whole ≡ true
-  pub written_inward : (r : ℕ) → written_at p i wanted ≡ Some r → (t.routine r).inward ≡ role_inward wanted (t.mutex i)
-  pub unwritten_inward : written_at p i wanted ≡ None → (t.routine (unwritten_number p i wanted)).inward ≡ role_inward wanted (t.mutex i)
+  pub written_inward : (r : ℕ) → written_at p i wanted ≡ Some r →
+      (t.routine r).inward ≡ role_inward wanted (t.mutex i)
+  pub unwritten_inward : written_at p i wanted ≡ None →
+      (t.routine (unwritten_number p i wanted)).inward ≡ role_inward wanted (t.mutex i)
 
 pub record Told (t : Table) (p : Program) : Type 0 where
   pub numbers : (i : ℕ) → t.number i ≡ number_at p i
