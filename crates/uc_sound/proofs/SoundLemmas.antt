@@ -30,7 +30,7 @@ use Rattle.uc_rules.specs.Scopes.{Env, plain_env, sig_around, with_param, with_p
 use Rattle.uc_rules.specs.ClassBreaks.{first_init_breaks, form_is_main, is_main_of_class, is_void_base, members_declare, is_well_mained, is_well_built, has_room, has_unset, home_class}
 use Rattle.uc_rules.specs.Visits.{AtInits, stmts_visits}
 use Rattle.uc_rules.specs.ProgramVisits.{program_visits, sig_visits, body_visits, inits_visits}
-use Rattle.uc_typing.specs.Typing.{Name, Kept, Inward, Apart, Enters, Makes, Helps, Main, Sig, Table, IsInside, SetsUp, IsMain, FineStmts}
+use Rattle.uc_typing.specs.Typing.{Name, Kept, Apart, Main, Sig, Table, IsInside, SetsUp, IsMain, FineStmts}
 use Rattle.uc_typing.specs.States.{LetsGo, Routine_is}
 use Rattle.uc_agreement.specs.Agreement.{param_ty, AreLike}
 use Rattle.uc_agreement.specs.Unbroken.{Unbroken}
@@ -76,9 +76,9 @@ module _ (p : Program) (formed : IsFormed p) (u : Unbroken (program_visits p)) w
     length_none [] h = refl
     length_none (x ∷ xs) h = let q = eqb-true (length (x ∷ xs)) 0 h in let z : ⊥ = omega (arith, q) in absurd z
 
-    -- the main of a class is apart where that is no mutex class
+    -- the main of a class runs inside its object where that is a mutex class
     abbrev pub MainIs : Type 0
-    MainIs = IsMain t g (main_at p i) × (is_mutex c.kind ≡ false → (t.routine (main_at p i)).inward ≡ Apart)
+    MainIs = IsMain t g (main_at p i) × ((t.routine (main_at p i)).inward ≡ (if is_mutex c.kind then Main else Apart))
 
     main_sig_is : (j : ℕ) (sig : Declared) → method_sig p i j ≡ Some sig → is_main_of_class sig ≡ true → MainIs
     main_sig_is j sig m h =
@@ -89,7 +89,13 @@ module _ (p : Program) (formed : IsFormed p) (u : Unbroken (program_visits p)) w
         let k = told.members i j c sig e m plain in
         let at : main_at p i ≡ k.number = ap (λ n. unwrap_or (member_from (routines_of p) 0 (number_at p i) n) 0) (sym named) ∙ ap (λ o. unwrap_or o 0) k.found in
         let empty : [] ≡ (t.routine k.number).params = sym (ap (map (param_ty p)) (no_params (params_of p k.number) (subst (λ xs. AreLike p xs (params_of p k.number)) none k.routine.params))) ∙ k.routine.table in
-        (subst (IsMain t g) (sym at) (k.routine.this ∙ sym this, sym empty, k.routine.known), λ m. ap (λ n. (t.routine n).inward) at ∙ (k.inward ∙ (ap (λ o. inward_in p i o sig.role sig.name) e ∙ ap (λ (b : Bool). if b then inward_by sig.role (same_name sig.name main_name) (is_some (member_number c sig.name)) (helps_in (member_named p i sig.name)) else Apart) m)))
+        (subst (IsMain t g) (sym at) (k.routine.this ∙ sym this, sym empty, k.routine.known), ap (λ n. (t.routine n).inward) at ∙ (k.inward ∙ (ap (λ o. inward_in p i o sig.role sig.name) e ∙ by_role sig.role plain (same_name sig.name main_name) (left_is (same_name sig.name main_name) (is_void_base sig.ret && nat_eq (length sig.params) 0) h1))))
+      where
+        by_role : (r : Role) → is_plain r ≡ true → (b : Bool) → b ≡ true → (if is_mutex c.kind then inward_by r b (is_some (member_number c sig.name)) (helps_in (member_named p i sig.name)) else Apart) ≡ (if is_mutex c.kind then Main else Apart)
+        by_role role.Plain w true q = refl
+        by_role role.Plain w false q = false_true q
+        by_role role.Constructor w b q = false_true w
+        by_role role.Destructor w b q = false_true w
 
     by_form : (j : ℕ) (m : Member) (form : MemberForm) → slice_get c.members j ≡ Some m → m.form ≡ form → form_is_main form ≡ true → MainIs
     by_form j m (FieldsMember at b ds) a f h = false_true h
@@ -118,19 +124,15 @@ module _ (p : Program) (formed : IsFormed p) (u : Unbroken (program_visits p)) w
     made_inside : Makers → is_mutex c.kind ≡ true → IsInside g.inward
     made_inside w m = subst IsInside (sym (w ∙ ap (role_inward role.Constructor) m)) tt
 
-    sets_up : (w : Inward) → SetsUp w Makes
-    sets_up Apart = tt
-    sets_up Enters = tt
-    sets_up Makes = tt
-    sets_up Helps = tt
-    sets_up Main = refl
-
     main_set_up : Makers → MainIs → SetsUp (t.routine (main_at p i)).inward g.inward
     main_set_up w m = by (is_mutex c.kind) refl
       where
+        main : (b : Bool) → is_mutex c.kind ≡ b → (t.routine (main_at p i)).inward ≡ (if b then Main else Apart)
+        main b q = m.1 ∙ ap (λ (z : Bool). if z then Main else Apart) q
+
         by : (b : Bool) → is_mutex c.kind ≡ b → SetsUp (t.routine (main_at p i)).inward g.inward
-        by true q = subst (SetsUp (t.routine (main_at p i)).inward) (sym (w ∙ ap (role_inward role.Constructor) q)) (sets_up (t.routine (main_at p i)).inward)
-        by false q = subst (λ w. SetsUp w g.inward) (sym (m.1 q)) tt
+        by true q = subst (λ w. SetsUp w g.inward) (sym (main true q)) (w ∙ ap (role_inward role.Constructor) q)
+        by false q = subst (λ w. SetsUp w g.inward) (sym (main false q)) tt
 
     freed_fine : Makers → (k : Kind) → c.kind ≡ k → (rest : Stmts) → ((sc : List Name) → FineStmts t g sc rest) → (sc : List Name) → FineStmts t g sc (freed p k i rest)
     freed_fine w kind.Class q rest r sc = r sc

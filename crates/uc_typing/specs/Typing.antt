@@ -157,10 +157,11 @@ IsRoutine t r = r < t.count
 abbrev pub IsMain : Table → Sig → ℕ → Type 0
 IsMain t g r = ((t.routine r).this ≡ g.this) × ((t.routine r).params ≡ []) × IsRoutine t r
 
--- the main of a mutex object is set up where that is built
+-- what is set up is a main: that of a mutex object where that is built
 abbrev pub SetsUp : Inward → Inward → Type 0
 SetsUp Main w = w ≡ Makes
-SetsUp _ w = Unit {0}
+SetsUp Apart w = Unit {0}
+SetsUp _ w = ⊥
 
 -- what is called is at an object of its class, which is whole unless it is built or destroyed by that; what gives the object is of
 -- these types
