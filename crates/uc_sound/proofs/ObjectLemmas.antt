@@ -31,13 +31,13 @@ use Rattle.uc_rules.specs.Entities.{entity_of, count, param_expected, fits}
 use Rattle.uc_rules.specs.ExpressionBreaks.{is_value_start, are_single, started_breaks, starts_well, array_starts_well, is_element}
 use Rattle.uc_rules.specs.Visits.{AtVariable, AtArgument, visits, maybe_visits, args_visits, arg_visits, start_values, single_target, variable_target, variable_visits, variables_visits}
 use Rattle.uc_rules.specs.Breaks.{breaks_at}
-use Rattle.uc_typing.specs.Typing.{Ty, Num, Cell, Obj, Raw, Row, Clu, Pro, Name, Var, Sig, Table, raw, IsPlaced, Among, InScope, IsVariable, Yields, Fine, GiveAll, FineDeclared, FineClean, element_shape, DestroysAt, CleansAt, FineStmt, FineStmts, IsCluster, object_ty}
+use Rattle.uc_typing.specs.Typing.{Ty, Num, Cell, Obj, Raw, Row, Clu, Pro, Name, Var, Inward, Apart, Enters, Sig, Table, IsOpen, MayCall, raw, IsPlaced, Among, InScope, IsVariable, Yields, Fine, GiveAll, FineDeclared, FineClean, element_shape, DestroysAt, CleansAt, FineStmt, FineStmts, IsCluster, object_ty}
 use Rattle.uc_agreement.specs.Agreement.{is_numbered, place_by, place_ty, param_ty, AreLike, Agrees, context}
 use Rattle.uc_agreement.specs.Unbroken.{Unbroken}
 use Rattle.uc_agreement.proofs.Ties.{some_same, none_some, false_true, scalar_unnumbered, law_agrees}
 use Rattle.uc_agreement.proofs.UnbrokenLemmas.{first, second, one, holds, stands}
 use Rattle.uc_agreement.proofs.Asking.{only, law_parts}
-use Rattle.uc_sound.specs.Tables.{based_ty, declared_ty, declared_locals}
+use Rattle.uc_sound.specs.Tables.{based_ty, declared_ty, declared_locals, role_inward}
 use Rattle.uc_sound.specs.Told.{TellsMaker, Told}
 use Rattle.uc_sound.specs.Rooted.{Within}
 use Rattle.uc_sound.specs.Statements.{Holds}
@@ -81,17 +81,26 @@ module _ (t : Table) (g : Sig) (refers : t.refers ≡ true) where
   whole_ty : (w : Bool) (i : ℕ) (sc : List Name) (e : Expr) → w ≡ true → Yields t g sc e (Raw i) → Yields t g sc e (object_ty w i)
   whole_ty w i sc e q y = subst (λ w. Yields t g sc e (object_ty w i)) (sym q) y
 
+  apart_open : {w : Inward} → w ≡ Apart → IsOpen w
+  apart_open e = subst IsOpen (sym e) tt
+
+  enters_open : {w : Inward} → w ≡ Enters → IsOpen w
+  enters_open e = subst IsOpen (sym e) tt
+
+  apart_called : {w : Inward} (e : Expr) → w ≡ Apart → MayCall w g e
+  apart_called e q = subst (λ w. MayCall w g e) (sym q) tt
+
   pub constructed_fine : (sc : List Name) (p : Program) (m : Making) (place : Expr) (args : List tree.Meant) → Making_is p m → Yields t g sc place (raw (making_ty m)) → Given sc p m args → Fine t g sc (constructed p m place args)
   constructed_fine sc p (APlain i) place args k y a = by (written_at p i role.Constructor) refl
     where
       by : (o : Option ℕ) → written_at p i role.Constructor ≡ o → Fine t g sc (called_by p i role.Constructor place args o)
-      by None e = (Num, (refl, (i, whole_ty _ i sc place (k.0.unwritten_whole e) y, k.0.unwritten_this e, k.0.unwritten_known e), k.0.unwritten_params e))
-      by (Some r) e = (Num, (refl, (i, whole_ty _ i sc place (k.0.written_whole r e) y, (k.0.written r e).this, (k.0.written r e).known), a r e))
+      by None e = (Num, (refl, (i, whole_ty _ i sc place (k.0.unwritten_whole e) y, k.0.unwritten_this e, k.0.unwritten_known e), k.0.unwritten_params e, apart_open (k.0.unwritten_inward e ∙ ap (role_inward role.Constructor) k.2)))
+      by (Some r) e = (Num, (refl, (i, whole_ty _ i sc place (k.0.written_whole r e) y, (k.0.written r e).this, (k.0.written r e).known), a r e, apart_called place (k.0.written_inward r e ∙ ap (role_inward role.Constructor) k.2)))
   constructed_fine sc p (AMutex i) place args k y a = by (written_at p i role.Constructor) refl
     where
       by : (o : Option ℕ) → written_at p i role.Constructor ≡ o → Fine t g sc (made_by p i place args o)
-      by None e = (Num, (refl, (i, y, k.0.unwritten_this e, k.0.unwritten_known e, k.0.unwritten_whole e, k.3, k.2), subst (GiveAll t g sc NoExprs) (k.0.unwritten_params e) tt))
-      by (Some r) e = (Num, (refl, (i, y, (k.0.written r e).this, (k.0.written r e).known, k.0.written_whole r e, k.3, k.2), a r e))
+      by None e = (Num, (refl, (i, y, k.0.unwritten_this e, k.0.unwritten_known e, k.0.unwritten_whole e, k.3, k.2), subst (GiveAll t g sc NoExprs) (k.0.unwritten_params e) tt, k.0.unwritten_inward e ∙ ap (role_inward role.Constructor) k.2))
+      by (Some r) e = (Num, (refl, (i, y, (k.0.written r e).this, (k.0.written r e).known, k.0.written_whole r e, k.3, k.2), a r e, k.0.written_inward r e ∙ ap (role_inward role.Constructor) k.2))
   constructed_fine sc p ACluster place args k y a = (Clu, (y, refl))
   constructed_fine sc p AProcessor place args k y a = (Pro, (y, (refl, a)))
 
@@ -99,13 +108,13 @@ module _ (t : Table) (g : Sig) (refers : t.refers ≡ true) where
   destroyed_fine sc p (APlain i) place k y = by (written_at p i role.Destructor) refl
     where
       by : (o : Option ℕ) → written_at p i role.Destructor ≡ o → Fine t g sc (called_by p i role.Destructor place [] o)
-      by None e = (Num, (refl, (i, whole_ty _ i sc place (k.1.unwritten_whole e) y, k.1.unwritten_this e, k.1.unwritten_known e), k.1.unwritten_params e))
-      by (Some r) e = (Num, (refl, (i, whole_ty _ i sc place (k.1.written_whole r e) y, (k.1.written r e).this, (k.1.written r e).known), no_arguments (params_of p r) (t.routine r).params p (k.1.written r e).params (k.1.written r e).table [] sc))
+      by None e = (Num, (refl, (i, whole_ty _ i sc place (k.1.unwritten_whole e) y, k.1.unwritten_this e, k.1.unwritten_known e), k.1.unwritten_params e, apart_open (k.1.unwritten_inward e ∙ ap (role_inward role.Destructor) k.2)))
+      by (Some r) e = (Num, (refl, (i, whole_ty _ i sc place (k.1.written_whole r e) y, (k.1.written r e).this, (k.1.written r e).known), no_arguments (params_of p r) (t.routine r).params p (k.1.written r e).params (k.1.written r e).table [] sc, apart_called place (k.1.written_inward r e ∙ ap (role_inward role.Destructor) k.2)))
   destroyed_fine sc p (AMutex i) place k y = by (written_at p i role.Destructor) refl
     where
       by : (o : Option ℕ) → written_at p i role.Destructor ≡ o → Fine t g sc (ended_by p i (Load place) o)
-      by None e = (Num, (refl, (i, whole_ty _ i sc (Load place) (k.1.unwritten_whole e) (inr refers, y), k.1.unwritten_this e, k.1.unwritten_known e, k.2), k.1.unwritten_params e))
-      by (Some r) e = (Num, (refl, (i, whole_ty _ i sc (Load place) (k.1.written_whole r e) (inr refers, y), (k.1.written r e).this, (k.1.written r e).known, k.2), like_none (params_of p r) (t.routine r).params p (k.1.written r e).params (k.1.written r e).table))
+      by None e = (Num, (refl, (i, whole_ty _ i sc (Load place) (k.1.unwritten_whole e) (inr refers, y), k.1.unwritten_this e, k.1.unwritten_known e, k.2), k.1.unwritten_params e, enters_open (k.1.unwritten_inward e ∙ ap (role_inward role.Destructor) k.2)))
+      by (Some r) e = (Num, (refl, (i, whole_ty _ i sc (Load place) (k.1.written_whole r e) (inr refers, y), (k.1.written r e).this, (k.1.written r e).known, k.2), like_none (params_of p r) (t.routine r).params p (k.1.written r e).params (k.1.written r e).table, enters_open (k.1.written_inward r e ∙ ap (role_inward role.Destructor) k.2)))
   destroyed_fine sc p ACluster place k y = (Num, (refl, (inr refers, y)))
   destroyed_fine sc p AProcessor place k y = (Num, (refl, (inr refers, y)))
 

@@ -9,7 +9,7 @@ use Rattle.uc_machine.specs.declared.exec.Visited.{Visited}
 use Rattle.uc_machine.specs.Raising as r
 use Rattle.uc_machine.specs.Quiet.{Value, Active, State, Todo, at, below}
 use Rattle.uc_machine.specs.Pieces as pc
-use Rattle.uc_typing.specs.Typing.{Ty, Num, Name, Sig, Table, FineHandlers, FineClean}
+use Rattle.uc_typing.specs.Typing.{Ty, Num, Name, Apart, Sig, Table, FineHandlers, FineClean}
 use Rattle.uc_typing.specs.Pieces.{Popped, Met, Ok, Left}
 use Rattle.uc_typing.specs.States.{Values, Framed, IsThis, Waits, Typed, After, Idle}
 use Rattle.uc_typing.proofs.Operands.{either}
@@ -137,7 +137,7 @@ module _ (t : Table) where
       (usable_lifted gs _ (seeks (Some v) e (others gs) rest h.1))
 
   abbrev no_sig : Sig
-  no_sig = record { this = None; params = []; locals = []; whole = false }
+  no_sig = record { this = None; params = []; locals = []; whole = false; inward = Apart }
 
   module _ (source : Source) (s : State) (sigs : List Sig) (g : Sig) (sc : List Name) (frames : Framed t sigs s.env.frames) (frame : at_depth sigs s.run.frame ≡ Some g) (this : IsThis t g.this s.run.this) (callers : Waits t (others sigs) s.callers) (idle : Idle t s.env) where
     -- the running activation goes on with this to do, whatever else it keeps

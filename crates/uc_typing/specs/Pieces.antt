@@ -3,7 +3,7 @@
 use Rattle.std.specs.Prelude.{◌≡◌, ℕ, zero, suc, ◌≤◌, List, [], ◌∷◌, length, Some, None, true, false}
 use Rattle.uc_tree.specs.Source.{CleanUp, Item, Show, ShowText, Way, ToBreak, ToContinue, ToReturn, ToEnd, Clauses, NoClauses, Otherwise, MoreClauses}
 use Rattle.uc_machine.specs.Pieces.{Todo, Sort, sort, Eval, LoadNow, ElementNow, FieldNow, NegateNow, NotNow, CharacterNow, TruthNow, OperateNow, CopyNow, CopyBelowNow, DropNow, DropBelowNow, StoreNow, KeepNow, SetNow, BindNow, Choose, Branch, Arguments, TickNow, CallNow, CallOnNow, CallUnwrittenNow, CountNow, MoreNow, TurnNow, Again, PrintNow, TextNow, GatherNow, FlushNow, ReadNow, ClearNow, Items, Values, Pieces, Targets, Variables, Do, Rest, Within, Exit, NoReturnNow, Unwind, ThrowNow, RaiseNow, SetUpNow, EnlivenNow, TakeDownNow, ForgetNow, LiveNow, EnterNow, LeaveNow, MakeNow, BindMadeNow, MadeNow, SpawnNow, ChildNow, GoneNow, GiveUpNow, ClusterNow, ProcessorNow, ClusterEndNow, ProcessorEndNow, ConditionNow, WaitNow, SignalNow, SignalBlockNow, EmptyNow, FrontNow, YieldNow, MigrateNow, Guards, AcceptNow, FailedNow, ChooseNow, RaiseAtNow, EnableNow, DisableNow, RestoreNow, PollNow, DeliverNow, ResumeNow, SuspendNow, Land, Simple, IsLoop, IsWhole, IsClean, IsFill, IsSweep, IsPart, IsGuard, IsFinish, IsFinishCoroutine}
-use Rattle.uc_typing.specs.Typing.{Ty, Num, Cell, Obj, Raw, Row, Clu, Pro, Name, Sig, Table, object_ty, Cleans, IsRead, IsPlaced, IsCluster, IsRoutine, InMutex, Executing, Yields, GiveAll, Fine, FineItems, FineTargets, FineDeclared, FineClean, FinePart, FineGuards, FineStmt, FineStmts, FineLoop, FineHandlers, FineClauses, IsMain}
+use Rattle.uc_typing.specs.Typing.{Ty, Num, Cell, Obj, Raw, Row, Clu, Pro, Name, Sig, Table, object_ty, Cleans, IsRead, IsPlaced, IsCluster, IsTarget, IsRoutine, InMutex, Executing, Yields, GiveAll, Fine, FineItems, FineTargets, FineDeclared, FineClean, FinePart, FineGuards, FineStmt, FineStmts, FineLoop, FineHandlers, FineClauses, IsMain}
 
 abbrev pub IsNone : List Ty → Type 0
 IsNone [] = Unit {0}
@@ -128,7 +128,7 @@ module _ (t : Table) (g : Sig) (sc : List Name) where
   Step FailedNow (Num ∷ more) next = next more
   Step (ChooseNow cs) (Num ∷ more) next = IsNone more × FineClauses t g sc cs × next more
   -- events
-  Step RaiseAtNow (Obj c ∷ (a ∷ (b ∷ (d ∷ more)))) next = next more
+  Step RaiseAtNow (Obj c ∷ (a ∷ (b ∷ (d ∷ more)))) next = IsTarget t c × next more
   Step (EnableNow events cell) tys next = next tys
   Step (DisableNow events cell) tys next = next tys
   Step (RestoreNow cell) tys next = next tys

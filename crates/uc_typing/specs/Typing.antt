@@ -23,16 +23,26 @@ pub data Name : Type 0 where
   Own : ℕ → Name
   Kept : Name
 
+-- how a routine comes to run inside the mutex object at hand: it does not; it enters that object, or destroys it; it builds it; it is
+-- called at that object by what is inside; it is the main, which nobody calls
+pub data Inward : Type 0 where
+  Apart : Inward
+  Enters : Inward
+  Makes : Inward
+  Helps : Inward
+  Main : Inward
+
 -- a routine: the class of its object, its parameters, each in a cell of its own, what stands at its other variables, by their first
--- cells, and whether it is a constructor or a destructor, whose body is left as a whole
+-- cells, whether it is a constructor or a destructor, whose body is left as a whole, and how it comes to run inside its object
 pub record Sig : Type 0 where
   pub this : Option ℕ
   pub params : List Ty
   pub locals : List (ℕ × Ty)
   pub whole : Bool
+  pub inward : Inward
 
 -- the routines by their numbers, and how many there are; of the classes what stands at each field, their shapes, whether they are mutex classes, whether their
--- objects have executions, and their numbers
+-- objects have executions, whether those are tasks, and their numbers
 pub record Table : Type 0 where
   pub routine : ℕ → Sig
   pub count : ℕ
@@ -40,6 +50,7 @@ pub record Table : Type 0 where
   pub shape : ℕ → Shape
   pub mutex : ℕ → Bool
   pub executes : ℕ → Bool
+  pub tasks : ℕ → Bool
   pub number : ℕ → ℕ
   -- whether bindings other than parameters are read: references in fields, and what is known by its number
   pub refers : Bool
@@ -104,12 +115,39 @@ IsCluster Num = Unit {0}
 IsCluster Clu = Unit {0}
 IsCluster _ = ⊥
 
--- the object at hand: it is one of a mutex class, it has an execution
+abbrev pub IsInside : Inward → Type 0
+IsInside Apart = ⊥
+IsInside Enters = Unit {0}
+IsInside Makes = Unit {0}
+IsInside Helps = Unit {0}
+IsInside Main = Unit {0}
+
+-- what is called from anywhere, by other than the making of an object
+abbrev pub IsOpen : Inward → Type 0
+IsOpen Apart = Unit {0}
+IsOpen Enters = Unit {0}
+IsOpen Makes = ⊥
+IsOpen Helps = ⊥
+IsOpen Main = ⊥
+
+-- what is called at the object of an expression: what only helps inside, at the object at hand alone, inside it
+abbrev pub MayCall : Inward → Sig → Expr → Type 0
+MayCall Apart g e = Unit {0}
+MayCall Enters g e = Unit {0}
+MayCall Makes g e = ⊥
+MayCall Helps g e = (e ≡ OfObject This) × IsInside g.inward
+MayCall Main g e = ⊥
+
+-- the object at hand: it is one of a mutex class, and this runs inside it; it has an execution
 abbrev pub InMutex : Table → Sig → Type 0
-InMutex t g = (c : ℕ) × (g.this ≡ Some c) × (t.mutex c ≡ true)
+InMutex t g = (c : ℕ) × (g.this ≡ Some c) × (t.mutex c ≡ true) × IsInside g.inward
 
 abbrev pub Executing : Table → Sig → Type 0
 Executing t g = (c : ℕ) × (g.this ≡ Some c) × (t.executes c ≡ true)
+
+-- an event is raised at a mutex object that is a task
+abbrev pub IsTarget : Table → ℕ → Type 0
+IsTarget t c = t.mutex c ≡ true → t.tasks c ≡ true
 
 -- a routine that is there
 abbrev pub IsRoutine : Table → ℕ → Type 0
@@ -118,6 +156,12 @@ IsRoutine t r = r < t.count
 -- a main is at the object at hand, without parameters
 abbrev pub IsMain : Table → Sig → ℕ → Type 0
 IsMain t g r = ((t.routine r).this ≡ g.this) × ((t.routine r).params ≡ []) × IsRoutine t r
+
+-- what is set up is a main: that of a mutex object where that is built
+abbrev pub SetsUp : Inward → Inward → Type 0
+SetsUp Main w = w ≡ Makes
+SetsUp Apart w = Unit {0}
+SetsUp _ w = ⊥
 
 -- what is called is at an object of its class, which is whole unless it is built or destroyed by that; what gives the object is of
 -- these types
@@ -156,7 +200,7 @@ module _ (t : Table) (g : Sig) (sc : List Name) where
     Yields (Update op s p e) a = (a ≡ Num) × Yields p (Cell Num) × Yields e Num
     Yields (StepBehind op s p) a = (a ≡ Num) × Yields p (Cell Num)
     Yields Fail a = a ≡ Num
-    Yields (Call r args) a = (a ≡ Num) × GiveAll args (t.routine r).params × ((t.routine r).this ≡ None) × IsRoutine t r
+    Yields (Call r args) a = (a ≡ Num) × GiveAll args (t.routine r).params × ((t.routine r).this ≡ None) × IsRoutine t r × IsOpen (t.routine r).inward
     Yields (OfObject o) a = ObjectGives o a
 
     pub GiveAll : Exprs → List Ty → Type 0
@@ -173,14 +217,14 @@ module _ (t : Table) (g : Sig) (sc : List Name) where
     -- no path leads into a mutex object
     ObjectGives (FieldOf s i e) a = (c : ℕ) × Yields e (Obj c) × (s ≡ t.shape c) × (a ≡ t.fields c i) × IsPlaced t (t.fields c i) × (t.mutex c ≡ false)
     ObjectGives Counted a = a ≡ Num
-    ObjectGives (CallOn r e args) a = (a ≡ Num) × CalledAt t r (Yields e) × GiveAll args (t.routine r).params
-    ObjectGives (CallUnwritten r e) a = (a ≡ Num) × CalledAt t r (Yields e) × ([] ≡ (t.routine r).params)
-    ObjectGives (CallLive r e args) a = (a ≡ Num) × CalledAt t r (Yields e) × GiveAll args (t.routine r).params
-    ObjectGives (EnterOn m r e args) a = (a ≡ Num) × EnteredAt t r (Yields e) × GiveAll args (t.routine r).params
-    ObjectGives (EndOn r written e) a = (a ≡ Num) × EnteredAt t r (Yields e) × ([] ≡ (t.routine r).params)
+    ObjectGives (CallOn r e args) a = (a ≡ Num) × CalledAt t r (Yields e) × GiveAll args (t.routine r).params × MayCall (t.routine r).inward g e
+    ObjectGives (CallUnwritten r e) a = (a ≡ Num) × CalledAt t r (Yields e) × ([] ≡ (t.routine r).params) × IsOpen (t.routine r).inward
+    ObjectGives (CallLive r e args) a = (a ≡ Num) × CalledAt t r (Yields e) × GiveAll args (t.routine r).params × IsOpen (t.routine r).inward
+    ObjectGives (EnterOn m r e args) a = (a ≡ Num) × EnteredAt t r (Yields e) × GiveAll args (t.routine r).params × IsOpen (t.routine r).inward
+    ObjectGives (EndOn r written e) a = (a ≡ Num) × EnteredAt t r (Yields e) × ([] ≡ (t.routine r).params) × IsOpen (t.routine r).inward
     ObjectGives (Bind p e) a = Yields p (Cell a) × Yields e a
     -- its place is bound to the new object, which the constructor builds
-    ObjectGives (MakeOn n r written p args) a = (a ≡ Num) × MadeAt t n r (Yields p) × GiveAll args (t.routine r).params
+    ObjectGives (MakeOn n r written p args) a = (a ≡ Num) × MadeAt t n r (Yields p) × GiveAll args (t.routine r).params × ((t.routine r).inward ≡ Makes)
     ObjectGives NewCluster a = a ≡ Clu
     ObjectGives (NewProcessor e) a = (a ≡ Pro) × ((b : Ty) × Yields e b × IsCluster b)
     ObjectGives (EndCluster e) a = (a ≡ Num) × Yields e Clu
@@ -322,7 +366,7 @@ module _ (t : Table) (g : Sig) where
     FineEvent sc (Raise line r) = FineRaised t g sc r
     FineEvent sc (Try line body hs) = FineStmts sc body × FineHandlers sc hs
     -- at a task, or at a coroutine
-    FineEvent sc (RaiseAt line r e) = FineRaised t g sc r × ((c : ℕ) × Yields t g sc e (Obj c))
+    FineEvent sc (RaiseAt line r e) = FineRaised t g sc r × ((c : ℕ) × Yields t g sc e (Obj c) × IsTarget t c)
     FineEvent sc (Enable line events cell a) = FineStmt (Kept ∷ sc) a
     FineEvent sc (Disable line events cell a) = FineStmt (Kept ∷ sc) a
 
@@ -333,7 +377,7 @@ module _ (t : Table) (g : Sig) where
     pub FineTask : List Name → TaskStmt → Type 0
     FineTask sc (Resume line) = Executing t g
     FineTask sc (Suspend line) = Unit {0}
-    FineTask sc (SetUp r) = IsMain t g r × Executing t g
+    FineTask sc (SetUp r) = IsMain t g r × Executing t g × SetsUp (t.routine r).inward g.inward
     FineTask sc Enliven = Executing t g
     FineTask sc TakeDown = Executing t g
     FineTask sc (Yield line) = Unit {0}
