@@ -10,9 +10,9 @@ pub fn law_steps()
     ensures { LawSteps }
 {}
 
-/// In a task whose to-do lists are typed and in which all is there, a variable that its activation's own
-/// clean-ups take out of scope and that is known by its number holds an object of its class, a cluster
-/// or a processor; so does each element of an array.
+/// In a task whose to-do lists are typed and in which all is there, a variable that is known by its number
+/// holds an object of its class, a cluster or a processor, as long as an activation that uses the running
+/// frame has still to clean it up; so does each element of an array. So what is read of it is of its type.
 pub fn law_reading()
     ensures { LawReading }
 {}
