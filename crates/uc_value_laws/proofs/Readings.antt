@@ -5,9 +5,9 @@ use Rattle.uc_tree.specs.Source as src
 use Rattle.uc_tree.specs.Source.{Expr, CleanUp}
 use Rattle.uc_machine.specs.Executions.{at_depth, list_in, frames_in, parked_at}
 use Rattle.uc_machine.specs.Pieces as piece
-use Rattle.uc_machine.specs.Pieces.{Link, Slot, At, Value, Todo, Sort, State, nought, address, loaded, further, variable_at, Active}
+use Rattle.uc_machine.specs.Pieces.{Link, Slot, At, Value, Todo, Sort, State, nought, address, loaded, variable_at, Active}
 use Rattle.uc_typing.specs.Typing as typing
-use Rattle.uc_typing.specs.Typing.{Ty, Num, Cell, Obj, Raw, Row, Clu, Pro, Name, Sig, Table, InScope, DestroysAt, CleansAt, Cleans, Fine, FineClean, FineHandlers}
+use Rattle.uc_typing.specs.Typing.{Ty, Cell, Obj, Row, Clu, Pro, Name, Sig, Table, InScope, DestroysAt, Cleans, Fine, FineClean}
 use Rattle.uc_typing.specs.Pieces.{Ok, Left, Met, onto}
 use Rattle.uc_typing.specs.States.{IsNumbered, IsObjectBy, Is, Active_is, Reads}
 use Rattle.uc_typing.proofs.Control as control

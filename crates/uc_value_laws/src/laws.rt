@@ -1,5 +1,6 @@
 // The laws: each is a function whose contract is the law.
 
+ghost use Rattle.uc_value_laws.specs.Makers.{LawMakers};
 ghost use Rattle.uc_value_laws.specs.Opens.{LawFair, LawRuns};
 ghost use Rattle.uc_value_laws.specs.Reading.{LawReading};
 ghost use Rattle.uc_value_laws.specs.ValueLaws.{LawSteps};
@@ -28,4 +29,11 @@ pub fn law_fair()
 /// scope opens where its variable holds an object.
 pub fn law_runs()
     ensures { LawRuns }
+{}
+
+/// In the source of every program constructors alone bind fields of the object at hand, build parts of it
+/// and give it an execution, and they do so behind each other and not within the statements that they
+/// are written with.
+pub fn law_makers()
+    ensures { LawMakers }
 {}
