@@ -302,5 +302,13 @@ module _ (source : Source) where
   FairAt (piece.GiveUpNow ∷ todo) s = owed source (this_object s) (at todo s.run.operands s) ≡ 0
   FairAt todo s = Unit {0}
 
+  -- the second of these alone
+  abbrev pub AloneAt : List Todo → State → Type 0
+  AloneAt (piece.BindMadeNow c r ∷ todo) s = Unit {0}
+  AloneAt todo s = FairAt todo s
+
+  abbrev pub Alone : State → Type 0
+  Alone s = AloneAt s.run.control s
+
   abbrev pub Fair : State → Type 0
   Fair s = FairAt s.run.control s

@@ -1,5 +1,5 @@
 -- Code that waits, signals and accepts only in routines that hold their object, or that are called on it by such ones.
-use Rattle.std.specs.Prelude.{◌≡◌, ℕ, suc, Option, Some, None, Bool, true, false, slice_get, if◌then◌else◌}
+use Rattle.std.specs.Prelude.{◌≡◌, ℕ, suc, List, Option, Some, None, Bool, true, false, slice_get, if◌then◌else◌}
 use Rattle.uc_tree.specs.Source.{Expr, Exprs, ObjectExpr, OfObject, NoExprs, MoreExprs, This, CallOn, CallLive, CallUnwritten, EnterOn, EndOn, MakeOn, Wait, Signal, SignalBlock, IsEmpty, FrontOf, CleanUp, Item, Target, Declared, Raised, Stmt, Stmts, EventStmt, TaskStmt, Accept, SetUp, Handlers, Clauses, Routine, Source}
 use Rattle.uc_depth_laws.specs.Entering.{lets_go}
 use Rattle.uc_inner_laws.specs.Walks as walk
