@@ -1,6 +1,6 @@
 -- A quiet step of a task in order leads to one, or asks as one does.
 use Rattle.std.proofs.Common.{◌≡◌, ℕ, zero, suc, ◌⊎◌, inl, inr, ◌++◌, Bool, true, false, List, [], ◌∷◌, length, drop, Option, Some, None, refl, sym, ap, ◌∙◌, subst}
-use Rattle.std.specs.Prelude.{nat_eq, nat_lt, if◌then◌else◌}
+use Rattle.std.specs.Prelude.{nat_eq, nat_lt, is_some, if◌then◌else◌}
 use Rattle.uc_tree.specs.declared.limits.TheConstants.{CALLS, PENDING_EVENTS}
 use Rattle.uc_tree.specs.Source as src
 use Rattle.uc_tree.specs.Source.{Shape, Expr, ObjectExpr, Stmt, Stmts, EventStmt, TaskStmt, Routine, Way, CleanUp, Handlers, Source}
@@ -27,7 +27,7 @@ use Rattle.uc_machine.specs.Pieces as piece
 use Rattle.uc_machine.specs.Pieces.{Value, Number, Object, Nothing, Todo, Sort, Active, State, Env, Members, Step, Asks, Outcome, Gives, Faults, at, in_env, fault, top, below, number, written, object_in}
 use Rattle.uc_depth_laws.proofs.Kept.{either}
 use Rattle.uc_inner_laws.specs.Inner.{Part, Plain, Helper, Maker, Ground, ground_of, count, params_at, params, IsPlain, CalledOn, SetsUp, InnerExpr, InnerObject, InnerClean, InnerStmts, InnerStmt, InnerEvent, InnerTask, InnerHandlers, InnerRoutine}
-use Rattle.uc_inner_laws.specs.Standing.{Mark, Any, Own, Thing, IsThing, Holds, rest, rests, anys, bound, IsThere, IsObject, Known, ground, Ready, LeftBy, Ok, Left, IsHome, Backs, IsOwnHome, Stands, Waits, StandsEnv, StandsWith, StandsState, brings, StandsAsk, StandsIn, StandsStep}
+use Rattle.uc_inner_laws.specs.Standing.{Mark, Any, Own, Thing, IsThing, Holds, rest, rests, anys, bound, IsThere, IsObject, Known, ground, Ready, LeftBy, Ok, Left, IsHome, Backs, IsHere, Stands, Waits, StandsEnv, StandsWith, StandsState, brings, StandsAsk, StandsIn, StandsStep}
 use Rattle.uc_inner_laws.proofs.Keeping as kept
 use Rattle.uc_inner_laws.proofs.Keeping.{Kept}
 use Rattle.uc_inner_laws.proofs.Marking as marks
@@ -39,7 +39,7 @@ module _ (part : ℕ → Part) (source : Source) where
   pub record Round (base : Ground) (s : State) : Type 0 where
     pub callers : Waits part source s.env.exec.home s.callers
     pub env : StandsEnv part source s.env
-    pub own : IsOwnHome s.env.own s.env.exec.home
+    pub here : IsHere s.env.own s.env.hand s.env.exec.home
     pub backed : base.inside ≡ true → Backs s.env.exec.home (object_in s.run.this) s.callers
     pub thing : base.made ≡ true → IsThing s.run.this
 
@@ -51,16 +51,16 @@ module _ (part : ℕ → Part) (source : Source) where
           run = record { ground = base; marks = ns; holds = k; ok = h; backed = x.backed; thing = x.thing };
           callers = x.callers;
           env = x.env;
-          own = x.own;
+          here = x.here;
         })
 
     -- the environment changed in nothing that is kept
     pub likes : {e : Env} → e.hand ≡ s.env.hand → e.house ≡ s.env.house → e.own ≡ s.env.own → e.exec ≡ s.env.exec → Kept part source s.env e
-    likes a b c d = record { env = kept.same part source x.env a b c; exec = d; own = c }
+    likes a b c d = record { env = kept.same part source x.env a b c; exec = d; own = c; hand = λ q i. subst (λ (l : List (ℕ × Members)). is_some (find q l) ≡ true) (sym a) i }
 
     -- with other operands and something else to do
     pub go : (ns : List Mark) (todo : List Todo) (vs : List Value) → Holds s.run.this ns vs → Ok part source base ns todo → StandsState part source (at todo vs s)
-    go ns todo vs k h = record { run = record { ground = base; marks = ns; holds = k; ok = h; backed = x.backed; thing = x.thing }; callers = x.callers; env = x.env; own = x.own }
+    go ns todo vs k h = record { run = record { ground = base; marks = ns; holds = k; ok = h; backed = x.backed; thing = x.thing }; callers = x.callers; env = x.env; here = x.here }
 
     -- with something to do before which nothing need be known
     pub anew : (todo : List Todo) (vs : List Value) → Ok part source base [] todo → StandsState part source (at todo vs s)
@@ -79,7 +79,7 @@ module _ (part : ℕ → Part) (source : Source) where
       };
       callers = x.callers;
       env = x.env;
-      own = x.own;
+      here = x.here;
     }
 
     -- with a request
@@ -89,14 +89,14 @@ module _ (part : ℕ → Part) (source : Source) where
         run = subst (λ (n : Exec). Stands part source n.home (brings r) (at todo vs s).run s.callers) (sym c.exec) (record { ground = base; marks = ns; holds = k; ok = h; backed = x.backed; thing = x.thing });
         callers = subst (λ (n : Exec). Waits part source n.home s.callers) (sym c.exec) x.callers;
         env = c.env;
-        own = subst (λ (n : Exec). IsOwnHome e.own n.home) (sym c.exec) (subst (λ o. IsOwnHome o s.env.exec.home) (sym c.own) x.own);
+        here = subst (λ (n : Exec). IsHere e.own e.hand n.home) (sym c.exec) (kept.here_kept part source c s.env.exec.home x.here);
       });
       inside = i;
     }
 
     pub asked : (r : Request) (ns : List Mark) (todo : List Todo) (vs : List Value) → (StandsWith part source (brings r) (at todo vs s) → StandsAsk part source r (at todo vs s)) → StandsIn r s → Holds s.run.this ns vs → Ok part source base (brings r ++ ns) todo → StandsStep part source s (Asks r (at todo vs s))
     asked r ns todo vs f i k h = record {
-      state = f (record { run = record { ground = base; marks = ns; holds = k; ok = h; backed = x.backed; thing = x.thing }; callers = x.callers; env = x.env; own = x.own });
+      state = f (record { run = record { ground = base; marks = ns; holds = k; ok = h; backed = x.backed; thing = x.thing }; callers = x.callers; env = x.env; here = x.here });
       inside = i;
     }
 
@@ -140,7 +140,7 @@ module _ (part : ℕ → Part) (source : Source) where
       run = record { ground = c.0.ground; marks = Any ∷ c.0.marks; holds = (tt, c.0.holds); ok = c.0.ok; backed = c.0.backed; thing = c.0.thing };
       callers = c.1;
       env = kept.same part source x.env refl refl refl;
-      own = x.own;
+      here = x.here;
     }
 
     -- an activation is left for one that waits, which is to be unwound
@@ -158,7 +158,7 @@ module _ (part : ℕ → Part) (source : Source) where
           };
           callers = subst (λ (n : Exec). Waits part source n.home t.callers) (sym ee) (subst (Waits part source s.env.exec.home) (sym ecs) w.1);
           env = kept.same part source x.env eh ei eo;
-          own = subst (λ (n : Exec). IsOwnHome t.env.own n.home) (sym ee) (subst (λ o. IsOwnHome o s.env.exec.home) (sym eo) x.own);
+          here = subst (λ (n : Exec). IsHere t.env.own t.env.hand n.home) (sym ee) (kept.here_kept part source (likes {e = t.env} eh ei eo ee) s.env.exec.home x.here);
         }
 
     past : (v : Visited) (given : Value) (cs : List Active) → Waits part source s.env.exec.home cs → StandsStep part source s (raising.return_past v given cs s)
@@ -258,7 +258,7 @@ module _ (part : ℕ → Part) (source : Source) where
         x.callers,
       );
       env = kept.same part source x.env refl refl refl;
-      own = x.own;
+      here = x.here;
     }
 
     pub raises : (ms : List Mark) (e : raising.Event) (todo : List Todo) → Holds s.run.this ms s.run.operands → Ok part source base (rests 3 ms) todo → StandsStep part source s (raising.raise_step e todo s)
@@ -283,7 +283,7 @@ module _ (part : ℕ → Part) (source : Source) where
     whole false todo h = anew _ _ (marks.left part source base [] todo h)
 
     scope : (c : CleanUp) (b : Bool) (todo : List Todo) → InnerClean part source (ground base todo) c → Ok part source base [] todo → StandsStep part source s (raising.scope_left c b todo s)
-    scope src.Leaves true todo n h = record { run = record { ground = base; marks = []; holds = tt; ok = (tt, marks.left part source base [] todo h); backed = x.backed; thing = x.thing }; callers = x.callers; env = x.env; own = x.own }
+    scope src.Leaves true todo n h = record { run = record { ground = base; marks = []; holds = tt; ok = (tt, marks.left part source base [] todo h); backed = x.backed; thing = x.thing }; callers = x.callers; env = x.env; here = x.here }
     scope c b todo n h = anew (raising.left_todo c (piece.Unwind ∷ todo)) [] (lists.left_cleans part source base c (piece.Unwind ∷ todo) n (marks.left part source base [] todo h))
 
     main_left : (o : Option UnwindReason) (todo : List Todo) → Ok part source base [] todo → StandsStep part source s (raising.main_left o todo s)
@@ -452,7 +452,7 @@ module _ (part : ℕ → Part) (source : Source) where
         run = record { ground = ground_of p; marks = []; holds = tt; ok = lists.routine part source (ground_of p) r n; backed = b; thing = t };
         callers = (record { ground = base; marks = ns; holds = k; ok = h; backed = x.backed; thing = x.thing }, x.callers);
         env = kept.same part source x.env refl refl refl;
-        own = x.own;
+        here = x.here;
       }
 
       dropped : (n : ℕ) → Holds s.run.this (rests n ms) (drop n s.run.operands)
@@ -536,7 +536,7 @@ module _ (part : ℕ → Part) (source : Source) where
           run = record { ground = base; marks = ms; holds = holds; ok = lists.polled part source base s.run.raised ms todo h; backed = x.backed; thing = x.thing };
           callers = x.callers;
           env = kept.same part source x.env refl refl refl;
-          own = x.own;
+          here = x.here;
         };
         inside = tt;
       }
@@ -580,7 +580,7 @@ module _ (part : ℕ → Part) (source : Source) where
       pub enables : (events cell : ℕ) (todo : List Todo) → Ok part source base [] todo → StandsStep part source s (polls.enable_step events cell todo s)
       enables events cell todo h = 
           let w = write (piece.variable_at cell s) (Number (signed_64 s.env.links.enabled)) in
-          go_in [] _ _ _ tt h (record { env = kept.same part source w.env refl refl refl; exec = w.exec; own = w.own })
+          go_in [] _ _ _ tt h (record { env = kept.same part source w.env refl refl refl; exec = w.exec; own = w.own; hand = w.hand })
 
       quiet_poll : (o : Option Pending) (todo : List Todo) → Ok part source base ms todo → StandsStep part source s (polls.quiet_poll o todo s)
       quiet_poll None todo h = go ms _ _ holds h

@@ -1,6 +1,6 @@
 -- Every quiet step of a task in order, answers to it, and what follows for what is asked.
 use Rattle.std.proofs.Common.{◌≡◌, ℕ, ◌<◌, ◌⊎◌, inl, inr, Bool, true, false, List, [], ◌∷◌, ◌++◌, ◌||◌, suc, drop, length, Option, Some, None, refl, sym, subst, ap, ◌∙◌, arith}
-use Rattle.std.specs.Prelude.{nat_lt, slice_get}
+use Rattle.std.specs.Prelude.{nat_lt, nat_eq, is_some, slice_get, if◌then◌else◌}
 use Rattle.std.proofs.lemmas.Bool.{eq-eqb}
 use Rattle.uc_tree.specs.Source as src
 use Rattle.uc_tree.specs.Source.{Source, Routine, routine_or_none, routine_of}
@@ -26,7 +26,7 @@ use Rattle.uc_depth_laws.proofs.Kept.{either}
 use Rattle.uc_depth_laws.proofs.Standing.{law_inside}
 use Rattle.uc_answer_laws.specs.Suiting.{AnObject, AClause, ANumber, AValue, AnEvent, JustGo, IsForm, form_of_request}
 use Rattle.uc_inner_laws.specs.Inner.{Part, Ground, ground_of, params_at, params, InnerMaybe, InnerItems, InnerExpr, InnerStmt, InnerRoutine, InnerSource}
-use Rattle.uc_inner_laws.specs.Standing.{Mark, Any, Thing, IsThing, Meets, Holds, rest, ground, Ok, brings, StandsParked, StandsHand, StandsMembers, StandsEnv, StandsWith, StandsState, IsHome, Backs, IsOwnHome, StandsIn, StandsAsking, StandsStep}
+use Rattle.uc_inner_laws.specs.Standing.{Mark, Any, Thing, IsThing, Meets, Holds, rest, ground, Ok, brings, StandsParked, StandsHand, StandsMembers, StandsEnv, StandsWith, StandsState, IsHome, Backs, IsHere, StandsIn, StandsAsking, StandsStep}
 use Rattle.uc_inner_laws.specs.InnerLaws.{IsAt, LawSteps, LawInside, LawFair}
 use Rattle.uc_inner_laws.proofs.Keeping as kept
 use Rattle.uc_inner_laws.proofs.Marking.{holds_below, there_long}
@@ -158,7 +158,7 @@ module _ (part : ℕ → Part) (source : Source) (known : InnerSource part sourc
   walk s h = by s.run.control refl
     where
       x : Round part source h.run.ground s
-      x = record { callers = h.callers; env = h.env; own = h.own; backed = h.run.backed; thing = h.run.thing }
+      x = record { callers = h.callers; env = h.env; here = h.here; backed = h.run.backed; thing = h.run.thing }
 
       by : (l : List Todo) → s.run.control ≡ l → StandsStep part source s (quiet.act_todo source l s)
       by [] e = steps.returned part source s h.run.ground x _ s.callers h.callers
@@ -170,13 +170,13 @@ module _ (part : ℕ → Part) (source : Source) (known : InnerSource part sourc
     run = record { ground = ground_of p; marks = []; holds = tt; ok = (tt, (tt, tt)); backed = λ i. refl; thing = λ i. refl };
     callers = tt;
     env = record { house = (tt, tt); hand = tt };
-    own = refl;
+    here = refl;
   }
   begins o p (Some r) h = record {
     run = record { ground = ground_of p; marks = []; holds = tt; ok = lists.routine part source (ground_of p) r h; backed = λ i. refl; thing = λ i. refl };
     callers = tt;
     env = record { house = (tt, tt); hand = tt };
-    own = refl;
+    here = refl;
   }
 
   pub first : (r o : ℕ) → StandsState part source (first_state (routine_of source r) o)
@@ -200,12 +200,24 @@ module _ (part : ℕ → Part) (source : Source) where
     run = record { ground = w.run.ground; marks = m ∷ w.run.marks; holds = (k s.run.this, w.run.holds); ok = w.run.ok; backed = w.run.backed; thing = w.run.thing };
     callers = w.callers;
     env = w.env;
-    own = w.own;
+    here = w.here;
   }
 
   found : (m : Mark) (o : ℕ) (x : Option Members) (s : State) → StandsMembers part source (home.Object o) x → StandsWith part source (m ∷ []) s → StandsWith part source (m ∷ []) (entered x o s)
   found m o None s k w = w
-  found m o (Some x) s k w = record { run = w.run; callers = w.callers; env = record { house = w.env.house; hand = more_hand s.env.hand o x k w.env.hand }; own = w.own }
+  found m o (Some x) s k w = record { run = w.run; callers = w.callers; env = record { house = w.env.house; hand = more_hand s.env.hand o x k w.env.hand }; here = still s.env.exec.home w.here }
+    where
+      more : (q : ℕ) (ps : List (ℕ × Members)) → is_some (find q ps) ≡ true → is_some (find q (ps ++ (o, x) ∷ [])) ≡ true
+      more q [] i = absurd (cc)
+      more q (p ∷ ps) i = by (nat_eq p.0 q) i (λ j. more q ps j)
+        where
+          by : (b : Bool) → is_some (if b then Some p.1 else find q ps) ≡ true → (is_some (find q ps) ≡ true → is_some (find q (ps ++ (o, x) ∷ [])) ≡ true) → is_some (if b then Some p.1 else find q (ps ++ (o, x) ∷ [])) ≡ true
+          by true j r = refl
+          by false j r = r j
+
+      still : (h : Home) → IsHere s.env.own s.env.hand h → IsHere s.env.own (s.env.hand ++ (o, x) ∷ []) h
+      still (home.Task t) i = i
+      still (home.Object q) i = more q s.env.hand i
 
   an_object : (m : Mark) (given : Answer) (s : State) → ((this : Value) (o : ℕ) → Meets this m (piece.Object o)) → StandsWith part source (m ∷ []) s → IsForm AnObject given → StandsState part source (answered source given s)
   an_object m (answer.Object o) s k w f =
@@ -217,7 +229,7 @@ module _ (part : ℕ → Part) (source : Source) where
     run = record { ground = w.run.ground; marks = Any ∷ (Any ∷ w.run.marks); holds = (tt, (tt, w.run.holds)); ok = w.run.ok; backed = w.run.backed; thing = w.run.thing };
     callers = w.callers;
     env = w.env;
-    own = w.own;
+    here = w.here;
   }
   a_clause given s w f = absurd f
 
@@ -234,7 +246,7 @@ module _ (part : ℕ → Part) (source : Source) where
     run = record { ground = w.run.ground; marks = Any ∷ (Any ∷ (Any ∷ w.run.marks)); holds = (tt, (tt, (tt, w.run.holds))); ok = w.run.ok; backed = w.run.backed; thing = w.run.thing };
     callers = w.callers;
     env = w.env;
-    own = w.own;
+    here = w.here;
   }
 
   an_event : (given : Answer) (s : State) → StandsWith part source (Any ∷ (Any ∷ (Any ∷ []))) s → IsForm AnEvent given → StandsState part source (answered source given s)
@@ -301,16 +313,24 @@ module _ (h : Home) (o : ℕ) where
       further (inr m) = inr (record { at = suc m.at; active = m.active; there = m.there; this = m.this; marked = m.marked })
 
 module _ (part : ℕ → Part) (source : Source) (s : State) (h : StandsState part source s) (deep : Deep source s) where
-  is_inside : (o : ℕ) → Backs s.env.exec.home o (s.run ∷ s.callers) → IsInside o s.env ⊎ (s.env.exec.home ≡ home.Object o)
+  -- by a mark, or at home in it
+  is_inside : (o : ℕ) → Backs s.env.exec.home o (s.run ∷ s.callers) → IsInside o s.env ⊎ ((s.env.exec.home ≡ home.Object o) × (is_some (find o s.env.hand) ≡ true))
   is_inside o b = by (backing s.env.exec.home o (s.run ∷ s.callers) b)
     where
-      in_home : (k : Home) → IsOwnHome s.env.own k → IsHome k o → IsInside o s.env ⊎ (k ≡ home.Object o)
+      in_home : (k : Home) → IsHere s.env.own s.env.hand k → IsHome k o → IsInside o s.env ⊎ ((k ≡ home.Object o) × (is_some (find o s.env.hand) ≡ true))
       in_home (home.Task t) e i = inl (subst (λ q. IsInside q s.env) (sym e ∙ i) (law_inside.own source s deep))
-      in_home (home.Object q) e i = inr (ap home.Object i)
+      in_home (home.Object q) e i = inr (ap home.Object i, subst (λ k. is_some (find k s.env.hand) ≡ true) i e)
 
-      by : IsHome s.env.exec.home o ⊎ Marked s.env.exec.home o (s.run ∷ s.callers) → IsInside o s.env ⊎ (s.env.exec.home ≡ home.Object o)
-      by (inl i) = in_home s.env.exec.home h.own i
+      by : IsHome s.env.exec.home o ⊎ Marked s.env.exec.home o (s.run ∷ s.callers) → IsInside o s.env ⊎ ((s.env.exec.home ≡ home.Object o) × (is_some (find o s.env.hand) ≡ true))
+      by (inl i) = in_home s.env.exec.home h.here i
       by (inr m) = inl (subst (λ q. IsInside q s.env) m.this (law_inside.marked source s deep m.at m.active m.there m.marked))
+
+  in_hand : (o : ℕ) → Backs s.env.exec.home o (s.run ∷ s.callers) → IsInside o s.env ⊎ (is_some (find o s.env.hand) ≡ true)
+  in_hand o b = by (is_inside o b)
+    where
+      by : IsInside o s.env ⊎ ((s.env.exec.home ≡ home.Object o) × (is_some (find o s.env.hand) ≡ true)) → IsInside o s.env ⊎ (is_some (find o s.env.hand) ≡ true)
+      by (inl i) = inl i
+      by (inr e) = inr e.1
 
   -- where nothing holds it up, it is not at home there
   is_let : (o : ℕ) → Backs s.env.exec.home o (s.run ∷ s.callers) → is_held_up o s.env ≡ false → IsInside o s.env
@@ -322,17 +342,17 @@ module _ (part : ℕ → Part) (source : Source) (s : State) (h : StandsState pa
           let held : is_held_up o s.env ≡ true = ap (λ b. b || has_engaged (find o s.env.hand)) here in
           absurd (cc)
 
-      by : IsInside o s.env ⊎ (s.env.exec.home ≡ home.Object o) → IsInside o s.env
+      by : IsInside o s.env ⊎ ((s.env.exec.home ≡ home.Object o) × (is_some (find o s.env.hand) ≡ true)) → IsInside o s.env
       by (inl i) = i
-      by (inr e) = elsewhere e
+      by (inr e) = elsewhere e.0
 
   asked : (r : Request) → StandsIn r s → IsAt r s
   asked (ask.Wait o c n) i = is_let o i.0 i.1
   asked (ask.SignalBlock o c) i = is_let o i.0 i.1
   asked (ask.Accept o site mask) i = is_let o i.0 i.1
-  asked (ask.Signal o c) i = is_inside o i
-  asked (ask.Empty o c) i = is_inside o i
-  asked (ask.Front o c) i = is_inside o i
+  asked (ask.Signal o c) i = in_hand o i
+  asked (ask.Empty o c) i = in_hand o i
+  asked (ask.Front o c) i = in_hand o i
   asked r i = tt
 
 pub law_is_inside : LawInside

@@ -1,11 +1,11 @@
 -- Whoever waits, signals or accepts in an object is inside it, and a new object finds its place.
-use Rattle.std.specs.Prelude.{◌≡◌, ℕ, ◌<◌, ◌⊎◌, List, ◌∷◌, length}
+use Rattle.std.specs.Prelude.{◌≡◌, ℕ, ◌⊎◌, true, is_some}
 use Rattle.uc_tree.specs.Source.{Source, routine_of}
+use Rattle.uc_entry.specs.Keyed.{find}
 use Rattle.uc_entry.specs.declared.request.Answer.{Answer}
 use Rattle.uc_entry.specs.declared.request.Request.{Request}
 use Rattle.uc_entry.specs.declared.request.Request.TheVariants as ask
-use Rattle.uc_machine.specs.declared.exec.Home.TheVariants as home
-use Rattle.uc_machine.specs.Quiet.{State, Todo, BindMadeNow, Asks, below, quiet, first_state}
+use Rattle.uc_machine.specs.Quiet.{State, Asks, quiet, first_state}
 use Rattle.uc_machine.specs.Answering.{answered}
 use Rattle.uc_answer_laws.specs.Suiting.{IsForm, form_of_request}
 use Rattle.uc_depth_laws.specs.Owing.{IsInside, Deep, Alone, Fair}
@@ -24,14 +24,14 @@ pub record LawSteps : Type 0 where
       StandsState part source (answered source given s)
 
 -- so what a step asks for where it waits, lets others in or accepts, is an object in which the task is; where it only signals or asks for
--- conditions, that or the one in which the running execution is at home
+-- conditions, that or one that it has in hand, as the running execution is at home there
 abbrev pub IsAt : Request → State → Type 0
 IsAt (ask.Wait o c n) s = IsInside o s.env
 IsAt (ask.SignalBlock o c) s = IsInside o s.env
 IsAt (ask.Accept o site mask) s = IsInside o s.env
-IsAt (ask.Signal o c) s = IsInside o s.env ⊎ (s.env.exec.home ≡ home.Object o)
-IsAt (ask.Empty o c) s = IsInside o s.env ⊎ (s.env.exec.home ≡ home.Object o)
-IsAt (ask.Front o c) s = IsInside o s.env ⊎ (s.env.exec.home ≡ home.Object o)
+IsAt (ask.Signal o c) s = IsInside o s.env ⊎ (is_some (find o s.env.hand) ≡ true)
+IsAt (ask.Empty o c) s = IsInside o s.env ⊎ (is_some (find o s.env.hand) ≡ true)
+IsAt (ask.Front o c) s = IsInside o s.env ⊎ (is_some (find o s.env.hand) ≡ true)
 IsAt r s = Unit {0}
 
 abbrev pub LawInside : Type 0

@@ -1,8 +1,9 @@
 -- Executions in which whoever waits, signals or accepts is inside the object of its activation: itself by a mark, or by that of an older
 -- activation of the same object, or at home there.
-use Rattle.std.specs.Prelude.{◌≡◌, ℕ, zero, suc, ◌<◌, ◌⊎◌, ◌++◌, List, [], ◌∷◌, Option, Some, None, Bool, true, false}
+use Rattle.std.specs.Prelude.{◌≡◌, ℕ, zero, suc, ◌<◌, ◌⊎◌, ◌++◌, List, [], ◌∷◌, Option, Some, None, Bool, true, false, is_some}
 use Rattle.uc_tree.specs.Source as src
 use Rattle.uc_tree.specs.Source.{Expr, Source}
+use Rattle.uc_entry.specs.Keyed.{find}
 use Rattle.uc_entry.specs.declared.request.Request.{Request}
 use Rattle.uc_entry.specs.declared.request.Request.TheVariants as ask
 use Rattle.uc_machine.specs.declared.exec.Home.{Home}
@@ -213,10 +214,10 @@ abbrev pub Backs : Home → ℕ → List Active → Type 0
 Backs h o [] = IsHome h o
 Backs h o (a ∷ older) = ((object_in a.this ≡ o) × (0 < marks a.control)) ⊎ Backs h o older
 
--- an execution that is at home in a task is so in this one
-abbrev pub IsOwnHome : ℕ → Home → Type 0
-IsOwnHome own (home.Task t) = t ≡ own
-IsOwnHome own (home.Object q) = Unit {0}
+-- an execution is at home in the task with this own object, or in an object that it has in hand
+abbrev pub IsHere : ℕ → List (ℕ × Members) → Home → Type 0
+IsHere own hand (home.Task t) = t ≡ own
+IsHere own hand (home.Object q) = is_some (find q hand) ≡ true
 
 -- the operands that an answer brings, by the request
 abbrev pub brings : Request → List Mark
@@ -289,7 +290,7 @@ module _ (part : ℕ → Part) (source : Source) where
     pub run : Stands s.env.exec.home ns s.run s.callers
     pub callers : Waits s.env.exec.home s.callers
     pub env : StandsEnv s.env
-    pub own : IsOwnHome s.env.own s.env.exec.home
+    pub here : IsHere s.env.own s.env.hand s.env.exec.home
 
   abbrev pub StandsState : State → Type 0
   StandsState s = StandsWith [] s
