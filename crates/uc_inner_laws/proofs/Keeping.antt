@@ -22,7 +22,7 @@ use Rattle.uc_depth_laws.proofs.Kept.{either}
 use Rattle.uc_inner_laws.specs.Inner.{Part}
 use Rattle.uc_inner_laws.specs.Standing.{Mark, Stands, Waits, StandsEx, StandsSlot, StandsParked, StandsHand, StandsMembers, StandsEnv, IsHere, StandsWith, StandsState}
 
-module _ (part : ℕ → Part) (source : Source) where
+module _ (part : ℕ → Part) (source : Source) (mine : ℕ) where
   -- why an activation is unwound does not matter
   pub calm : (h : Home) (ns : List Mark) (a : Active) (older : List Active) (w : Option UnwindReason) → Stands part source h ns a older → Stands part source h ns (record a { raised = w }) older
   calm h ns a older w s = record { ground = s.ground; marks = s.marks; holds = s.holds; ok = s.ok; backed = s.backed; thing = s.thing }
@@ -193,8 +193,9 @@ module _ (part : ℕ → Part) (source : Source) where
   slot_stands n o e r s = change_stands n.home (sw.slot_set n.serial o) e (λ m h. update_parked n.home n.serial o m.parked r h) s
 
   -- the same state with what is kept
-  pub in_kept : (s : State) (e : Env) → Kept s.env e → StandsState part source s → StandsState part source (record s { env = e })
+  pub in_kept : (s : State) (e : Env) → Kept s.env e → StandsState part source mine s → StandsState part source mine (record s { env = e })
   in_kept s e k h = record {
+    own = k.own ∙ h.own;
     run = subst (λ (n : Exec). Stands part source n.home [] s.run s.callers) (sym k.exec) h.run;
     callers = subst (λ (n : Exec). Waits part source n.home s.callers) (sym k.exec) h.callers;
     env = k.env;
@@ -204,7 +205,7 @@ module _ (part : ℕ → Part) (source : Source) where
   -- switches
 
   abbrev pub StandsMoved : Moved (List Todo) Value → Type 0
-  StandsMoved (To s) = StandsState part source s
+  StandsMoved (To s) = StandsState part source mine s
   StandsMoved (Stops f) = Unit {0}
 
   -- who may be activated
@@ -225,11 +226,11 @@ module _ (part : ℕ → Part) (source : Source) where
   next_at : (own : ℕ) (hand : List (ℕ × Members)) (n : Exec) (x : Ex) → Slot own hand n (Some x) → Next own hand n x
   next_at own hand n x s = (s.0, s.1)
 
-  pub switched_stands : (n : Exec) (x : Ex) (s : State) → Next s.env.own s.env.hand n x → StandsState part source s → StandsState part source (sw.switched n x s)
+  pub switched_stands : (n : Exec) (x : Ex) (s : State) → Next s.env.own s.env.hand n x → StandsState part source mine s → StandsState part source mine (sw.switched n x s)
   switched_stands n x s r h =
       let out : Kept s.env (sw.set_slot n None s.env) = slot_stands n None s.env tt h.env in
       let back : Kept (sw.set_slot n None s.env) (sw.set_slot s.env.exec (Some (sw.stopped s)) (sw.set_slot n None s.env)) = slot_stands s.env.exec (Some (sw.stopped s)) (sw.set_slot n None s.env) (record { run = h.run; callers = h.callers }) out.env in
-      record { run = r.0.run; callers = r.0.callers; env = same back.env refl refl refl; here = here_kept back n.home (here_kept out n.home r.1) }
+      record { own = back.own ∙ (out.own ∙ h.own); run = r.0.run; callers = r.0.callers; env = same back.env refl refl refl; here = here_kept back n.home (here_kept out n.home r.1) }
 
   able_stage : (own : ℕ) (hand : List (ℕ × Members)) (g : Stage) (n : Exec) (x : Ex) → Next own hand n x → StandsNext own hand (sw.able_at g n x)
   able_stage own hand Fresh n x r = tt
@@ -248,58 +249,58 @@ module _ (part : ℕ → Part) (source : Source) where
   or_stands own hand None b h k = k
   or_stands own hand (Some p) b h k = h
 
-  go_on_stands : (o : Option (Exec × Ex)) (s : State) → StandsNext s.env.own s.env.hand o → StandsState part source s → StandsMoved (sw.go_on o s)
+  go_on_stands : (o : Option (Exec × Ex)) (s : State) → StandsNext s.env.own s.env.hand o → StandsState part source mine s → StandsMoved (sw.go_on o s)
   go_on_stands None s r h = tt
   go_on_stands (Some p) s r h = switched_stands p.0 p.1 s r h
 
-  wake_stage : (g : Stage) (n : Exec) (x : Ex) (s : State) → Next s.env.own s.env.hand n x → StandsState part source s → StandsMoved (sw.wake_at g n x s)
+  wake_stage : (g : Stage) (n : Exec) (x : Ex) (s : State) → Next s.env.own s.env.hand n x → StandsState part source mine s → StandsMoved (sw.wake_at g n x s)
   wake_stage Fresh n x s r h = switched_stands n _ s (record { run = r.0.run; callers = r.0.callers }, r.1) h
   wake_stage Started n x s r h = switched_stands n _ s (record { run = r.0.run; callers = r.0.callers }, r.1) h
   wake_stage Ended n x s r h = tt
 
-  wake_slot : (n : Exec) (o : Option Ex) (s : State) → Slot s.env.own s.env.hand n o → StandsState part source s → StandsMoved (sw.wake_by n o s)
+  wake_slot : (n : Exec) (o : Option Ex) (s : State) → Slot s.env.own s.env.hand n o → StandsState part source mine s → StandsMoved (sw.wake_by n o s)
   wake_slot n None s r h = tt
   wake_slot n (Some x) s r h = wake_stage x.links.stage n x s (next_at s.env.own s.env.hand n x r) h
 
-  wake_one_stands : (o : Option Exec) (s : State) → StandsState part source s → StandsMoved (sw.wake_one o s)
+  wake_one_stands : (o : Option Exec) (s : State) → StandsState part source mine s → StandsMoved (sw.wake_one o s)
   wake_one_stands None s h = tt
   wake_one_stands (Some n) s h = either StandsMoved (exec_eq n s.env.exec) (Stops ResumeInUse) (sw.wake_by n (parked_at n s.env) s) tt (wake_slot n (parked_at n s.env) s (slot_at n s.env h.env) h)
 
-  pub wake_stands : (o : Option Exec) (s : State) → StandsState part source s → StandsMoved (sw.wake o s)
+  pub wake_stands : (o : Option Exec) (s : State) → StandsState part source mine s → StandsMoved (sw.wake o s)
   wake_stands o s h = either StandsMoved (sw.in_destruction s.env) (Stops SwitchInUnwind) (sw.wake_one o s) tt (wake_one_stands o s h)
 
-  pub suspend_stands : (s : State) → StandsState part source s → StandsMoved (sw.suspend s)
+  pub suspend_stands : (s : State) → StandsState part source mine s → StandsMoved (sw.suspend s)
   suspend_stands s h = either StandsMoved (sw.in_destruction s.env) (Stops SwitchInUnwind) (sw.go_on (sw.able s.env.links.resumer s.env) s) tt (go_on_stands (sw.able s.env.links.resumer s.env) s (able_stands s.env.links.resumer s.env h.env) h)
 
-  ended_stands : (s : State) → StandsState part source s → StandsState part source (sw.ended s)
-  ended_stands s h = record { run = h.run; callers = h.callers; env = same h.env refl refl refl; here = h.here }
+  ended_stands : (s : State) → StandsState part source mine s → StandsState part source mine (sw.ended s)
+  ended_stands s h = record { own = h.own; run = h.run; callers = h.callers; env = same h.env refl refl refl; here = h.here }
 
-  pub finish_stands : (s : State) → StandsState part source s → StandsMoved (sw.finish s)
+  pub finish_stands : (s : State) → StandsState part source mine s → StandsMoved (sw.finish s)
   finish_stands s h =
       go_on_stands (sw.or_else (sw.able s.env.links.starter s.env) (sw.able s.env.links.resumer s.env)) (sw.ended s) (or_stands s.env.own s.env.hand (sw.able s.env.links.starter s.env) (sw.able s.env.links.resumer s.env) (able_stands s.env.links.starter s.env h.env) (able_stands s.env.links.resumer s.env h.env)) (ended_stands s h)
 
-  throw_stands : (o : Option (Exec × Ex)) (s : State) → StandsNext s.env.own s.env.hand o → StandsState part source s → StandsMoved (sw.throw_at o s)
+  throw_stands : (o : Option (Exec × Ex)) (s : State) → StandsNext s.env.own s.env.hand o → StandsState part source mine s → StandsMoved (sw.throw_at o s)
   throw_stands None s r h = tt
   throw_stands (Some p) s r h = switched_stands p.0 _ s (record { run = calm p.0.home [] p.1.run p.1.callers _ r.0.run; callers = r.0.callers }, r.1) h
 
-  pub escape_stands : (s : State) → StandsState part source s → StandsMoved (sw.escape s)
+  pub escape_stands : (s : State) → StandsState part source mine s → StandsMoved (sw.escape s)
   escape_stands s h = throw_stands (sw.able s.env.links.resumer s.env) (sw.ended s) (able_stands s.env.links.resumer s.env h.env) (ended_stands s h)
 
-  pub taken_down_stands : (s : State) → StandsState part source s → StandsMoved (sw.taken_down s)
+  pub taken_down_stands : (s : State) → StandsState part source mine s → StandsMoved (sw.taken_down s)
   taken_down_stands s h = go_on_stands (sw.able s.env.links.destroyer s.env) (sw.ended s) (able_stands s.env.links.destroyer s.env h.env) (ended_stands s h)
 
-  over_stands : (n : Exec) (s : State) → StandsState part source s → StandsState part source (sw.over n s)
+  over_stands : (n : Exec) (s : State) → StandsState part source mine s → StandsState part source mine (sw.over n s)
   over_stands n s h = in_kept s _ (with_links_stand (λ l. record l { live = false; stage = Ended }) n s.env h.env) h
 
-  take_down_stage : (g : Stage) (n : Exec) (x : Ex) (s : State) → Next s.env.own s.env.hand n x → StandsState part source s → StandsMoved (sw.take_down_at g n x s)
+  take_down_stage : (g : Stage) (n : Exec) (x : Ex) (s : State) → Next s.env.own s.env.hand n x → StandsState part source mine s → StandsMoved (sw.take_down_at g n x s)
   take_down_stage Fresh n x s r h = over_stands n s h
   take_down_stage Started n x s r h = switched_stands n _ s (record { run = calm n.home [] x.run x.callers _ r.0.run; callers = r.0.callers }, r.1) h
   take_down_stage Ended n x s r h = over_stands n s h
 
-  take_down_slot : (n : Exec) (o : Option Ex) (s : State) → Slot s.env.own s.env.hand n o → StandsState part source s → StandsMoved (sw.take_down_by n o s)
+  take_down_slot : (n : Exec) (o : Option Ex) (s : State) → Slot s.env.own s.env.hand n o → StandsState part source mine s → StandsMoved (sw.take_down_by n o s)
   take_down_slot n None s r h = h
   take_down_slot n (Some x) s r h = take_down_stage x.links.stage n x s (next_at s.env.own s.env.hand n x r) h
 
-  pub take_down_stands : (o : Option Exec) (s : State) → StandsState part source s → StandsMoved (sw.take_down o s)
+  pub take_down_stands : (o : Option Exec) (s : State) → StandsState part source mine s → StandsMoved (sw.take_down o s)
   take_down_stands None s h = h
   take_down_stands (Some n) s h = take_down_slot n (parked_at n s.env) s (slot_at n s.env h.env) h

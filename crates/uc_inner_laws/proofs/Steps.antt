@@ -34,40 +34,41 @@ use Rattle.uc_inner_laws.proofs.Marking as marks
 use Rattle.uc_inner_laws.proofs.Marking.{holds_below, holds_drop, holds_bound, rests_anys, rests_bound, object_bound, object_top, ready_inside, ready_thing, Inside, inside_more, ground_inside, ground_made, LeftStands}
 use Rattle.uc_inner_laws.proofs.TodoLists as lists
 
-module _ (part : ℕ → Part) (source : Source) where
+module _ (part : ℕ → Part) (source : Source) (mine : ℕ) where
   -- a task but for what its running activation has to do, with what is known behind that
   pub record Round (base : Ground) (s : State) : Type 0 where
     pub callers : Waits part source s.env.exec.home s.callers
     pub env : StandsEnv part source s.env
+    pub own : s.env.own ≡ mine
     pub here : IsHere s.env.own s.env.hand s.env.exec.home
     pub backed : base.inside ≡ true → Backs s.env.exec.home (object_in s.run.this) s.callers
     pub thing : base.made ≡ true → IsThing s.run.this
 
   module _ (s : State) (base : Ground) (x : Round base s) where
     -- with this to do, and with something written
-    pub go_in : (ns : List Mark) (todo : List Todo) (vs : List Value) (e : Env) → Holds s.run.this ns vs → Ok part source base ns todo → Kept part source s.env e → StandsState part source (at todo vs (in_env e s))
+    pub go_in : (ns : List Mark) (todo : List Todo) (vs : List Value) (e : Env) → Holds s.run.this ns vs → Ok part source base ns todo → Kept part source mine s.env e → StandsState part source mine (at todo vs (in_env e s))
     go_in ns todo vs e k h i =
-        kept.in_kept part source (at todo vs s) e i (record {
+        kept.in_kept part source mine (at todo vs s) e i (record {
           run = record { ground = base; marks = ns; holds = k; ok = h; backed = x.backed; thing = x.thing };
           callers = x.callers;
           env = x.env;
-          here = x.here;
+          own = x.own; here = x.here;
         })
 
     -- the environment changed in nothing that is kept
-    pub likes : {e : Env} → e.hand ≡ s.env.hand → e.house ≡ s.env.house → e.own ≡ s.env.own → e.exec ≡ s.env.exec → Kept part source s.env e
-    likes a b c d = record { env = kept.same part source x.env a b c; exec = d; own = c; hand = λ q i. subst (λ (l : List (ℕ × Members)). is_some (find q l) ≡ true) (sym a) i }
+    pub likes : {e : Env} → e.hand ≡ s.env.hand → e.house ≡ s.env.house → e.own ≡ s.env.own → e.exec ≡ s.env.exec → Kept part source mine s.env e
+    likes a b c d = record { env = kept.same part source mine x.env a b c; exec = d; own = c; hand = λ q i. subst (λ (l : List (ℕ × Members)). is_some (find q l) ≡ true) (sym a) i }
 
     -- with other operands and something else to do
-    pub go : (ns : List Mark) (todo : List Todo) (vs : List Value) → Holds s.run.this ns vs → Ok part source base ns todo → StandsState part source (at todo vs s)
-    go ns todo vs k h = record { run = record { ground = base; marks = ns; holds = k; ok = h; backed = x.backed; thing = x.thing }; callers = x.callers; env = x.env; here = x.here }
+    pub go : (ns : List Mark) (todo : List Todo) (vs : List Value) → Holds s.run.this ns vs → Ok part source base ns todo → StandsState part source mine (at todo vs s)
+    go ns todo vs k h = record { run = record { ground = base; marks = ns; holds = k; ok = h; backed = x.backed; thing = x.thing }; callers = x.callers; env = x.env; own = x.own; here = x.here }
 
     -- with something to do before which nothing need be known
-    pub anew : (todo : List Todo) (vs : List Value) → Ok part source base [] todo → StandsState part source (at todo vs s)
+    pub anew : (todo : List Todo) (vs : List Value) → Ok part source base [] todo → StandsState part source mine (at todo vs s)
     anew todo vs h = go [] todo vs tt h
 
     -- an activation like the running one, with this to do
-    pub changed : (a : Active) → a.this ≡ s.run.this → Ok part source base [] a.control → StandsState part source (record s { run = a })
+    pub changed : (a : Active) → a.this ≡ s.run.this → Ok part source base [] a.control → StandsState part source mine (record s { run = a })
     changed a e h = record {
       run = record {
         ground = base;
@@ -79,52 +80,55 @@ module _ (part : ℕ → Part) (source : Source) where
       };
       callers = x.callers;
       env = x.env;
-      here = x.here;
+      own = x.own; here = x.here;
     }
 
     -- with a request
-    pub asked_in : (r : Request) (ns : List Mark) (todo : List Todo) (vs : List Value) (e : Env) → (StandsWith part source (brings r) (at todo vs (in_env e s)) → StandsAsk part source r (at todo vs (in_env e s))) → StandsIn r s → Holds s.run.this ns vs → Ok part source base (brings r ++ ns) todo → Kept part source s.env e → StandsStep part source s (Asks r (at todo vs (in_env e s)))
+    pub asked_in : (r : Request) (ns : List Mark) (todo : List Todo) (vs : List Value) (e : Env) → (StandsWith part source mine (brings r) (at todo vs (in_env e s)) → StandsAsk part source mine r (at todo vs (in_env e s))) → StandsIn r s → Holds s.run.this ns vs → Ok part source base (brings r ++ ns) todo → Kept part source mine s.env e → StandsStep part source mine s (Asks r (at todo vs (in_env e s)))
     asked_in r ns todo vs e f i k h c = record {
       state = f (record {
         run = subst (λ (n : Exec). Stands part source n.home (brings r) (at todo vs s).run s.callers) (sym c.exec) (record { ground = base; marks = ns; holds = k; ok = h; backed = x.backed; thing = x.thing });
         callers = subst (λ (n : Exec). Waits part source n.home s.callers) (sym c.exec) x.callers;
         env = c.env;
-        here = subst (λ (n : Exec). IsHere e.own e.hand n.home) (sym c.exec) (kept.here_kept part source c s.env.exec.home x.here);
+        own = c.own ∙ x.own;
+        here = subst (λ (n : Exec). IsHere e.own e.hand n.home) (sym c.exec) (kept.here_kept part source mine c s.env.exec.home x.here);
       });
       inside = i;
+      hand = λ q j. c.hand q j;
     }
 
-    pub asked : (r : Request) (ns : List Mark) (todo : List Todo) (vs : List Value) → (StandsWith part source (brings r) (at todo vs s) → StandsAsk part source r (at todo vs s)) → StandsIn r s → Holds s.run.this ns vs → Ok part source base (brings r ++ ns) todo → StandsStep part source s (Asks r (at todo vs s))
+    pub asked : (r : Request) (ns : List Mark) (todo : List Todo) (vs : List Value) → (StandsWith part source mine (brings r) (at todo vs s) → StandsAsk part source mine r (at todo vs s)) → StandsIn r s → Holds s.run.this ns vs → Ok part source base (brings r ++ ns) todo → StandsStep part source mine s (Asks r (at todo vs s))
     asked r ns todo vs f i k h = record {
-      state = f (record { run = record { ground = base; marks = ns; holds = k; ok = h; backed = x.backed; thing = x.thing }; callers = x.callers; env = x.env; here = x.here });
+      state = f (record { run = record { ground = base; marks = ns; holds = k; ok = h; backed = x.backed; thing = x.thing }; callers = x.callers; env = x.env; own = x.own; here = x.here });
       inside = i;
+      hand = λ q j. j;
     }
 
-    pub unchanged : Kept part source s.env s.env
+    pub unchanged : Kept part source mine s.env s.env
     unchanged = likes refl refl refl refl
 
-    pub stop : (f : RunFault) (todo : List Todo) (vs : List Value) → StandsStep part source s (fault f todo vs s)
-    stop f todo vs = record { state = x.env; inside = tt }
+    pub stop : (f : RunFault) (todo : List Todo) (vs : List Value) → StandsStep part source mine s (fault f todo vs s)
+    stop f todo vs = record { state = x.env; inside = tt; hand = λ q j. j }
 
-    ends : (todo : List Todo) (vs : List Value) → StandsStep part source s (Asks ask.End (at todo vs s))
-    ends todo vs = record { state = x.env; inside = tt }
+    ends : (todo : List Todo) (vs : List Value) → StandsStep part source mine s (Asks ask.End (at todo vs s))
+    ends todo vs = record { state = x.env; inside = tt; hand = λ q j. j }
 
-    pub moved : (m : Moved (List Todo) Value) (todo : List Todo) (vs : List Value) → kept.StandsMoved part source m → StandsStep part source s (piece.moves m (at todo vs s))
+    pub moved : (m : Moved (List Todo) Value) (todo : List Todo) (vs : List Value) → kept.StandsMoved part source mine m → StandsStep part source mine s (piece.moves m (at todo vs s))
     moved (To t) todo vs m = m
     moved (Stops f) todo vs m = stop f todo vs
 
-    pub write : (p v : Value) → Kept part source s.env (written p v s.env)
-    write p v = kept.written_stands part source p v s.env x.env
+    pub write : (p v : Value) → Kept part source mine s.env (written p v s.env)
+    write p v = kept.written_stands part source mine p v s.env x.env
 
-    pub outcome : (ms : List Mark) (o : Outcome) (todo : List Todo) (vs : List Value) → Holds s.run.this ms vs → Ok part source base (Any ∷ ms) todo → StandsStep part source s (piece.outcome_step o todo vs s)
+    pub outcome : (ms : List Mark) (o : Outcome) (todo : List Todo) (vs : List Value) → Holds s.run.this ms vs → Ok part source base (Any ∷ ms) todo → StandsStep part source mine s (piece.outcome_step o todo vs s)
     outcome ms (Gives n) todo vs k h = go (Any ∷ ms) todo _ (tt, k) h
     outcome ms (Faults f) todo vs k h = stop f todo vs
 
-    pub element : (ms : List Mark) (k : Shape) (i : Option ℕ) (todo : List Todo) (v : Value) (vs : List Value) → Holds s.run.this ms vs → Ok part source base (Any ∷ ms) todo → StandsStep part source s (piece.element_step k i todo v vs s)
+    pub element : (ms : List Mark) (k : Shape) (i : Option ℕ) (todo : List Todo) (v : Value) (vs : List Value) → Holds s.run.this ms vs → Ok part source base (Any ∷ ms) todo → StandsStep part source mine s (piece.element_step k i todo v vs s)
     element ms k None todo v vs l h = stop Index todo vs
     element ms k (Some i) todo v vs l h = go (Any ∷ ms) todo _ (tt, l) h
 
-    pub condition : (ms : List Mark) (k : ℕ) (i : Option ℕ) (todo : List Todo) → Holds s.run.this ms (below s.run.operands) → Ok part source base (Any ∷ ms) todo → StandsStep part source s (monitors.condition_step k i todo s)
+    pub condition : (ms : List Mark) (k : ℕ) (i : Option ℕ) (todo : List Todo) → Holds s.run.this ms (below s.run.operands) → Ok part source base (Any ∷ ms) todo → StandsStep part source mine s (monitors.condition_step k i todo s)
     condition ms k None todo l h = stop Index todo _
     condition ms k (Some i) todo l h = go (Any ∷ ms) todo _ (tt, l) h
 
@@ -134,17 +138,17 @@ module _ (part : ℕ → Part) (source : Source) where
         marks.backs_first part source s.env.exec.home s.run s.callers base (object_in s.run.this) refl x.backed (subst (Inside base) (sym e) (inside_more base p todo (ground_inside base todo i)))
 
     -- the end of an activation
-    pub returned : (given : Value) (cs : List Active) → Waits part source s.env.exec.home cs → StandsStep part source s (piece.return_step given cs s)
-    returned given [] c = record { state = x.env; inside = tt }
+    pub returned : (given : Value) (cs : List Active) → Waits part source s.env.exec.home cs → StandsStep part source mine s (piece.return_step given cs s)
+    returned given [] c = record { state = x.env; inside = tt; hand = λ q j. j }
     returned given (a ∷ cs) c = record {
       run = record { ground = c.0.ground; marks = Any ∷ c.0.marks; holds = (tt, c.0.holds); ok = c.0.ok; backed = c.0.backed; thing = c.0.thing };
       callers = c.1;
-      env = kept.same part source x.env refl refl refl;
-      here = x.here;
+      env = kept.same part source mine x.env refl refl refl;
+      own = x.own; here = x.here;
     }
 
     -- an activation is left for one that waits, which is to be unwound
-    left_for : (a : Active) (cs : List Active) (t : State) → Waits part source s.env.exec.home (a ∷ cs) → t.run.control ≡ piece.Unwind ∷ a.control → t.run.this ≡ a.this → t.callers ≡ cs → t.env.hand ≡ s.env.hand → t.env.house ≡ s.env.house → t.env.own ≡ s.env.own → t.env.exec ≡ s.env.exec → StandsState part source t
+    left_for : (a : Active) (cs : List Active) (t : State) → Waits part source s.env.exec.home (a ∷ cs) → t.run.control ≡ piece.Unwind ∷ a.control → t.run.this ≡ a.this → t.callers ≡ cs → t.env.hand ≡ s.env.hand → t.env.house ≡ s.env.house → t.env.own ≡ s.env.own → t.env.exec ≡ s.env.exec → StandsState part source mine t
     left_for a cs t w ec et ecs eh ei eo ee =
         let l : LeftStands part source s.env.exec.home a cs = marks.stands_left part source s.env.exec.home (Any ∷ []) a cs w.0 in
         record {
@@ -157,35 +161,36 @@ module _ (part : ℕ → Part) (source : Source) where
             thing = λ i. subst IsThing (sym et) (l.thing i);
           };
           callers = subst (λ (n : Exec). Waits part source n.home t.callers) (sym ee) (subst (Waits part source s.env.exec.home) (sym ecs) w.1);
-          env = kept.same part source x.env eh ei eo;
-          here = subst (λ (n : Exec). IsHere t.env.own t.env.hand n.home) (sym ee) (kept.here_kept part source (likes {e = t.env} eh ei eo ee) s.env.exec.home x.here);
+          env = kept.same part source mine x.env eh ei eo;
+          own = eo ∙ x.own;
+          here = subst (λ (n : Exec). IsHere t.env.own t.env.hand n.home) (sym ee) (kept.here_kept part source mine (likes {e = t.env} eh ei eo ee) s.env.exec.home x.here);
         }
 
-    past : (v : Visited) (given : Value) (cs : List Active) → Waits part source s.env.exec.home cs → StandsStep part source s (raising.return_past v given cs s)
-    past v given [] c = record { state = x.env; inside = tt }
+    past : (v : Visited) (given : Value) (cs : List Active) → Waits part source s.env.exec.home cs → StandsStep part source mine s (raising.return_past v given cs s)
+    past v given [] c = record { state = x.env; inside = tt; hand = λ q j. j }
     past v given (a ∷ cs) c = left_for a cs _ c refl refl refl refl refl refl refl
 
-    end_by : (v : Option Visited) (given : Value) → StandsStep part source s (raising.end_by v given s)
+    end_by : (v : Option Visited) (given : Value) → StandsStep part source mine s (raising.end_by v given s)
     end_by None given = returned given s.callers x.callers
     end_by (Some v) given = past v given s.callers x.callers
 
-    end_step : (w : Way) → StandsStep part source s (quiet.end_step w s)
+    end_step : (w : Way) → StandsStep part source mine s (quiet.end_step w s)
     end_step src.ToReturn = end_by s.run.handles _
     end_step src.ToEnd = end_by s.run.handles _
     end_step src.ToBreak = returned _ s.callers x.callers
     end_step src.ToContinue = returned _ s.callers x.callers
 
-    pub exits : (w : Way) (todo : List Todo) → Left part source base todo → StandsStep part source s (quiet.exit_step w todo s)
+    pub exits : (w : Way) (todo : List Todo) → Left part source base todo → StandsStep part source mine s (quiet.exit_step w todo s)
     exits w [] h = end_step w
     exits w (p ∷ ps) h = anew _ _ (lists.left_behind part source base w (piece.sort p) ps h)
 
     -- statements
 
-    pub swept : (n : ℕ) (e : Expr) (todo : List Todo) → InnerExpr part source (ground base todo) e → Ok part source base [] todo → StandsStep part source s (quiet.sweep_step n e todo s)
+    pub swept : (n : ℕ) (e : Expr) (todo : List Todo) → InnerExpr part source (ground base todo) e → Ok part source base [] todo → StandsStep part source mine s (quiet.sweep_step n e todo s)
     swept zero e todo n h = anew _ _ h
     swept (suc m) e todo n h = changed _ refl (n, inl (tt, (n, h)))
 
-    event_step : (a : EventStmt) (todo : List Todo) → InnerEvent part source (ground base todo) a → Ok part source base [] todo → StandsStep part source s (quiet.event_step a todo s)
+    event_step : (a : EventStmt) (todo : List Todo) → InnerEvent part source (ground base todo) a → Ok part source base [] todo → StandsStep part source mine s (quiet.event_step a todo s)
     event_step (src.Throw line r) todo n h = anew _ _ (lists.raised part source base r _ n (tt, (tt, h)))
     event_step (src.Raise line r) todo n h = anew _ _ (lists.raised part source base r _ n (tt, (tt, h)))
     event_step (src.Try line body hs) todo n h = anew _ _ (n.0, (n.1, (tt, h)))
@@ -193,7 +198,7 @@ module _ (part : ℕ → Part) (source : Source) where
     event_step (src.Enable line events cell a) todo n h = anew _ _ (tt, (tt, (n, (tt, (tt, h)))))
     event_step (src.Disable line events cell a) todo n h = anew _ _ (tt, (n, (tt, (tt, h))))
 
-    task_step : (a : TaskStmt) (todo : List Todo) → InnerTask part source (ground base todo) a → Ok part source base [] todo → StandsStep part source s (quiet.task_step a todo s)
+    task_step : (a : TaskStmt) (todo : List Todo) → InnerTask part source (ground base todo) a → Ok part source base [] todo → StandsStep part source mine s (quiet.task_step a todo s)
     task_step (src.Resume line) todo n h = anew _ _ (tt, (tt, (tt, h)))
     task_step (src.Suspend line) todo n h = anew _ _ (tt, (tt, (tt, h)))
     task_step (src.SetUp r) todo n h = anew _ _ (n.0, h)
@@ -203,7 +208,7 @@ module _ (part : ℕ → Part) (source : Source) where
     task_step (src.Migrate line a) todo n h = anew _ _ (n.1, inl (tt, (tt, h)))
     task_step (src.Accept line site cs) todo n h = anew _ _ (n.1, (n.0, (n.1, (tt, h))))
 
-    pub stmt : (a : Stmt) (todo : List Todo) → InnerStmt part source (ground base todo) a → Ok part source base [] todo → StandsStep part source s (quiet.stmt_step a todo s)
+    pub stmt : (a : Stmt) (todo : List Todo) → InnerStmt part source (ground base todo) a → Ok part source base [] todo → StandsStep part source mine s (quiet.stmt_step a todo s)
     stmt (src.Skip line) todo n h = anew _ _ h
     stmt (src.Block line body) todo n h = anew _ _ (n, (tt, h))
     stmt (src.Whole line body) todo n h = anew _ _ (n, (tt, (tt, h)))
@@ -223,26 +228,26 @@ module _ (part : ℕ → Part) (source : Source) where
     stmt (src.OfEvents a) todo n h = event_step a todo n h
     stmt (src.OfTasks a) todo n h = task_step a todo n h
 
-    pub rest_of : (ss : Stmts) (todo : List Todo) → InnerStmts part source (ground base todo) ss → Ok part source base [] todo → StandsStep part source s (quiet.rest_step ss todo s)
+    pub rest_of : (ss : Stmts) (todo : List Todo) → InnerStmts part source (ground base todo) ss → Ok part source base [] todo → StandsStep part source mine s (quiet.rest_step ss todo s)
     rest_of src.Nil todo n h = anew _ _ h
     rest_of (src.Then a ss) todo n h = anew _ _ (n.0, (n.1, h))
     rest_of (src.Scoped c ss) todo n h = anew _ _ (n.1, (n.0, h))
     rest_of (src.Built c ss) todo n h = anew _ _ (n.1, (n.0, h))
 
-    pub land : (o : Option UnwindReason) (ms : List Mark) (todo : List Todo) → Holds s.run.this ms s.run.operands → Ok part source base ms todo → StandsStep part source s (quiet.land_step o todo s)
+    pub land : (o : Option UnwindReason) (ms : List Mark) (todo : List Todo) → Holds s.run.this ms s.run.operands → Ok part source base ms todo → StandsStep part source mine s (quiet.land_step o todo s)
     land None ms todo k h = go ms _ _ k h
     land (Some why) ms todo k h = anew _ _ (marks.left part source base ms todo h)
 
     -- events
 
-    throws : (e : raising.Event) (todo : List Todo) → Left part source base todo → StandsStep part source s (raising.throw_step e todo s)
+    throws : (e : raising.Event) (todo : List Todo) → Left part source base todo → StandsStep part source mine s (raising.throw_step e todo s)
     throws e todo h = changed _ refl h
 
-    pub thrown : (e : raising.Event) (todo : List Todo) → Ok part source base [] todo → StandsStep part source s (raising.throw_step e todo s)
+    pub thrown : (e : raising.Event) (todo : List Todo) → Ok part source base [] todo → StandsStep part source mine s (raising.throw_step e todo s)
     thrown e todo h = throws e todo (marks.left part source base [] todo h)
 
     -- the activation that raised goes on without the event
-    handles : (ms : List Mark) (f : Option Found) (e : raising.Event) (todo : List Todo) → Holds s.run.this ms s.run.operands → lists.OfFound part source s.env.exec.home ((record s.run { control = todo }) ∷ s.callers) f → Ok part source base (rests 3 ms) todo → StandsStep part source s (raising.handle_step f e todo s)
+    handles : (ms : List Mark) (f : Option Found) (e : raising.Event) (todo : List Todo) → Holds s.run.this ms s.run.operands → lists.OfFound part source s.env.exec.home ((record s.run { control = todo }) ∷ s.callers) f → Ok part source base (rests 3 ms) todo → StandsStep part source mine s (raising.handle_step f e todo s)
     handles ms None e todo k n h = throws e todo (marks.left part source base (rests 3 ms) todo h)
     handles ms (Some f) e todo k n h = record {
       run = record { ground = n.place; marks = []; holds = tt; ok = lists.handled part source n.place f.handler [] n.inner tt; backed = n.backed; thing = n.thing };
@@ -257,11 +262,11 @@ module _ (part : ℕ → Part) (source : Source) where
         },
         x.callers,
       );
-      env = kept.same part source x.env refl refl refl;
-      here = x.here;
+      env = kept.same part source mine x.env refl refl refl;
+      own = x.own; here = x.here;
     }
 
-    pub raises : (ms : List Mark) (e : raising.Event) (todo : List Todo) → Holds s.run.this ms s.run.operands → Ok part source base (rests 3 ms) todo → StandsStep part source s (raising.raise_step e todo s)
+    pub raises : (ms : List Mark) (e : raising.Event) (todo : List Todo) → Holds s.run.this ms s.run.operands → Ok part source base (rests 3 ms) todo → StandsStep part source mine s (raising.raise_step e todo s)
     raises ms e todo k h =
         let round : List Active = (record s.run { control = todo }) ∷ s.callers in
         let here : LeftStands part source s.env.exec.home (record s.run { control = todo }) s.callers = record { ground = base; left = marks.left part source base (rests 3 ms) todo h; backed = x.backed; thing = x.thing } in
@@ -269,33 +274,33 @@ module _ (part : ℕ → Part) (source : Source) where
 
     -- unwinding
 
-    catches : (o : Option Handler) (e : raising.Event) (todo : List Todo) → lists.OfHandler part source (ground base todo) o → Ok part source base [] todo → StandsStep part source s (raising.catch_step o e todo s)
+    catches : (o : Option Handler) (e : raising.Event) (todo : List Todo) → lists.OfHandler part source (ground base todo) o → Ok part source base [] todo → StandsStep part source mine s (raising.catch_step o e todo s)
     catches None e todo n h = anew _ _ (marks.left part source base [] todo h)
     catches (Some x) e todo n h = changed _ refl (lists.handled part source base x todo n h)
 
-    guarded : (hs : Handlers) (o : Option UnwindReason) (todo : List Todo) → InnerHandlers part source (ground base todo) hs → Ok part source base [] todo → StandsStep part source s (raising.guard_left hs o todo s)
+    guarded : (hs : Handlers) (o : Option UnwindReason) (todo : List Todo) → InnerHandlers part source (ground base todo) hs → Ok part source base [] todo → StandsStep part source mine s (raising.guard_left hs o todo s)
     guarded hs (Some (reason.Event n x y)) todo k h =
         catches _ _ todo (lists.handler_for part source (ground base todo) false (record { number = n; x = x; y = y }) hs k) h
     guarded hs o todo k h = anew _ _ (marks.left part source base [] todo h)
 
-    whole : (b : Bool) (todo : List Todo) → Ok part source base [] todo → StandsStep part source s (raising.whole_left b todo s)
+    whole : (b : Bool) (todo : List Todo) → Ok part source base [] todo → StandsStep part source mine s (raising.whole_left b todo s)
     whole true todo h = changed _ refl h
     whole false todo h = anew _ _ (marks.left part source base [] todo h)
 
-    scope : (c : CleanUp) (b : Bool) (todo : List Todo) → InnerClean part source (ground base todo) c → Ok part source base [] todo → StandsStep part source s (raising.scope_left c b todo s)
-    scope src.Leaves true todo n h = record { run = record { ground = base; marks = []; holds = tt; ok = (tt, marks.left part source base [] todo h); backed = x.backed; thing = x.thing }; callers = x.callers; env = x.env; here = x.here }
+    scope : (c : CleanUp) (b : Bool) (todo : List Todo) → InnerClean part source (ground base todo) c → Ok part source base [] todo → StandsStep part source mine s (raising.scope_left c b todo s)
+    scope src.Leaves true todo n h = record { run = record { ground = base; marks = []; holds = tt; ok = (tt, marks.left part source base [] todo h); backed = x.backed; thing = x.thing }; callers = x.callers; env = x.env; own = x.own; here = x.here }
     scope c b todo n h = anew (raising.left_todo c (piece.Unwind ∷ todo)) [] (lists.left_cleans part source base c (piece.Unwind ∷ todo) n (marks.left part source base [] todo h))
 
-    main_left : (o : Option UnwindReason) (todo : List Todo) → Ok part source base [] todo → StandsStep part source s (raising.main_left o todo s)
+    main_left : (o : Option UnwindReason) (todo : List Todo) → Ok part source base [] todo → StandsStep part source mine s (raising.main_left o todo s)
     main_left (Some (reason.ReturnTo n)) todo h = changed _ refl (tt, h)
     main_left o todo h = stop Unhandled todo []
 
-    coroutine_left : (o : Option UnwindReason) (todo : List Todo) → Ok part source base [] todo → StandsStep part source s (raising.coroutine_left o todo s)
+    coroutine_left : (o : Option UnwindReason) (todo : List Todo) → Ok part source base [] todo → StandsStep part source mine s (raising.coroutine_left o todo s)
     coroutine_left (Some (reason.ReturnTo n)) todo h = changed _ refl (tt, h)
-    coroutine_left (Some reason.Destroyed) todo h = moved _ todo _ (kept.taken_down_stands part source (at todo [] s) (anew todo [] h))
-    coroutine_left o todo h = moved _ todo _ (kept.escape_stands part source (at todo [] s) (anew todo [] h))
+    coroutine_left (Some reason.Destroyed) todo h = moved _ todo _ (kept.taken_down_stands part source mine (at todo [] s) (anew todo [] h))
+    coroutine_left o todo h = moved _ todo _ (kept.escape_stands part source mine (at todo [] s) (anew todo [] h))
 
-    unwind_past : (k : Sort) (todo : List Todo) → LeftBy part source (ground base todo) k (Left part source base todo) (Ok part source base [] todo) → StandsStep part source s (raising.unwind_past k todo s)
+    unwind_past : (k : Sort) (todo : List Todo) → LeftBy part source (ground base todo) k (Left part source base todo) (Ok part source base [] todo) → StandsStep part source mine s (raising.unwind_past k todo s)
     unwind_past piece.Simple todo h = anew _ _ h
     unwind_past (piece.IsLoop o t e b) todo h = anew _ _ (marks.left part source base [] todo h.1)
     unwind_past piece.IsWhole todo h = whole _ todo h
@@ -307,30 +312,30 @@ module _ (part : ℕ → Part) (source : Source) where
     unwind_past piece.IsFinish todo h = main_left s.run.raised todo h
     unwind_past piece.IsFinishCoroutine todo h = coroutine_left s.run.raised todo h
 
-    pass_on : (o : Option UnwindReason) (c : Active) (cs : List Active) → Waits part source s.env.exec.home (c ∷ cs) → StandsStep part source s (raising.pass_on o c cs s)
-    pass_on None c cs w = record { state = x.env; inside = tt }
+    pass_on : (o : Option UnwindReason) (c : Active) (cs : List Active) → Waits part source s.env.exec.home (c ∷ cs) → StandsStep part source mine s (raising.pass_on o c cs s)
+    pass_on None c cs w = record { state = x.env; inside = tt; hand = λ q j. j }
     pass_on (Some why) c cs w = left_for c cs _ w refl refl refl refl refl refl refl
 
-    leave_for : (b : Bool) (c : Active) (cs : List Active) → Waits part source s.env.exec.home (c ∷ cs) → StandsStep part source s (raising.leave_for b c cs s)
-    leave_for true c cs w = record { state = x.env; inside = tt }
+    leave_for : (b : Bool) (c : Active) (cs : List Active) → Waits part source s.env.exec.home (c ∷ cs) → StandsStep part source mine s (raising.leave_for b c cs s)
+    leave_for true c cs w = record { state = x.env; inside = tt; hand = λ q j. j }
     leave_for false c cs w = pass_on s.run.raised c cs w
 
-    leaves : (cs : List Active) → Waits part source s.env.exec.home cs → StandsStep part source s (raising.leave_step cs s)
-    leaves [] c = record { state = x.env; inside = tt }
+    leaves : (cs : List Active) → Waits part source s.env.exec.home cs → StandsStep part source mine s (raising.leave_step cs s)
+    leaves [] c = record { state = x.env; inside = tt; hand = λ q j. j }
     leaves (c ∷ cs) p =
-        either (StandsStep part source s) (raising.arrives s.run.raised (length (c ∷ cs))) _ _ (returned s.run.result (c ∷ cs) p) (leave_for _ c cs p)
+        either (StandsStep part source mine s) (raising.arrives s.run.raised (length (c ∷ cs))) _ _ (returned s.run.result (c ∷ cs) p) (leave_for _ c cs p)
 
-    pub unwinds : (todo : List Todo) → Left part source base todo → StandsStep part source s (raising.unwind_step todo s)
+    pub unwinds : (todo : List Todo) → Left part source base todo → StandsStep part source mine s (raising.unwind_step todo s)
     unwinds [] h = leaves s.callers x.callers
     unwinds (p ∷ ps) h = unwind_past (piece.sort p) ps h
 
     -- printing
 
-    pub prints : (o : Option (List Piece)) (p : Piece) (todo : List Todo) (vs : List Value) → Ok part source base [] todo → StandsStep part source s (piece.print_step o p todo vs s)
+    pub prints : (o : Option (List Piece)) (p : Piece) (todo : List Todo) (vs : List Value) → Ok part source base [] todo → StandsStep part source mine s (piece.print_step o p todo vs s)
     prints None p todo vs h = asked _ [] todo vs (λ z. z) tt tt h
     prints (Some ps) p todo vs h = go_in [] _ _ _ tt h (likes refl refl refl refl)
 
-    pub flushes : (o : Option (List Piece)) (todo : List Todo) (vs : List Value) → Ok part source base [] todo → StandsStep part source s (piece.flush_step o todo vs s)
+    pub flushes : (o : Option (List Piece)) (todo : List Todo) (vs : List Value) → Ok part source base [] todo → StandsStep part source mine s (piece.flush_step o todo vs s)
     flushes None todo vs h = anew _ _ h
     flushes (Some []) todo vs h = go_in [] _ _ _ tt h (likes refl refl refl refl)
     flushes (Some (p ∷ ps)) todo vs h = asked_in _ [] todo vs _ (λ z. z) tt tt h (likes refl refl refl refl)
@@ -375,7 +380,7 @@ module _ (part : ℕ → Part) (source : Source) where
 
       -- expressions
 
-      object : (o : ObjectExpr) (todo : List Todo) → InnerObject part source (ground base todo) o → Ok part source base (Any ∷ ms) todo → StandsStep part source s (quiet.object_step o todo s)
+      object : (o : ObjectExpr) (todo : List Todo) → InnerObject part source (ground base todo) o → Ok part source base (Any ∷ ms) todo → StandsStep part source mine s (quiet.object_step o todo s)
       object src.This todo n h = go (Any ∷ ms) _ _ (tt, holds) h
       object (src.OwnField k i) todo n h = go (Any ∷ ms) _ _ (tt, holds) h
       object (src.GetOwn k i) todo n h = go (Any ∷ ms) _ _ (tt, holds) h
@@ -406,7 +411,7 @@ module _ (part : ℕ → Part) (source : Source) where
       object (src.IsEmpty a) todo n h = go ms _ _ holds (n.1, inl (n.0, h))
       object (src.FrontOf a) todo n h = go ms _ _ holds (n.1, inl (n.0, h))
 
-      eval : (a : Expr) (todo : List Todo) → InnerExpr part source (ground base todo) a → Ok part source base (Any ∷ ms) todo → StandsStep part source s (quiet.eval_step a todo s)
+      eval : (a : Expr) (todo : List Todo) → InnerExpr part source (ground base todo) a → Ok part source base (Any ∷ ms) todo → StandsStep part source mine s (quiet.eval_step a todo s)
       eval (src.Literal k) todo n h = go (Any ∷ ms) _ _ (tt, holds) h
       eval (src.Variable k) todo n h = go (Any ∷ ms) _ _ (tt, holds) h
       eval (src.Element m k a i) todo n h = go ms _ _ holds (n.0, inl (n.1, inl (tt, h)))
@@ -432,11 +437,11 @@ module _ (part : ℕ → Part) (source : Source) where
       eval (src.Call r args) todo n h = go ms _ _ holds (n.1, (tt, (n.0.0, called (count args) r ms todo n.0.1 h)))
       eval (src.OfObject o) todo n h = object o todo n h
 
-      known : (e : Expr) (todo : List Todo) → Known e (Ok part source base (Own ∷ ms) todo) → StandsStep part source s (quiet.eval_step e todo s)
+      known : (e : Expr) (todo : List Todo) → Known e (Ok part source base (Own ∷ ms) todo) → StandsStep part source mine s (quiet.eval_step e todo s)
       known (src.OfObject src.This) todo h = go (Own ∷ ms) _ _ (refl, holds) h
       known e todo h = absurd h
 
-      pub evals : (e : Expr) (todo : List Todo) → InnerExpr part source (ground base todo) e → Ok part source base (Any ∷ ms) todo ⊎ Known e (Ok part source base (Own ∷ ms) todo) → StandsStep part source s (quiet.eval_step e todo s)
+      pub evals : (e : Expr) (todo : List Todo) → InnerExpr part source (ground base todo) e → Ok part source base (Any ∷ ms) todo ⊎ Known e (Ok part source base (Own ∷ ms) todo) → StandsStep part source mine s (quiet.eval_step e todo s)
       evals e todo n (inl h) = eval e todo n h
       evals e todo n (inr h) = known e todo h
 
@@ -447,12 +452,12 @@ module _ (part : ℕ → Part) (source : Source) where
       behind ns todo vs o e i =
           marks.backs_first part source s.env.exec.home (record s.run { control = todo; operands = vs }) s.callers base o (sym e) (λ j. subst (λ k. Backs s.env.exec.home k s.callers) (sym e) (x.backed j)) (ground_inside base todo i)
 
-      begun : (p : Part) (r : Routine) (this : Value) (counts : Bool) (ns : List Mark) (todo : List Todo) (vs : List Value) → InnerStmts part source (ground_of p) r.body → ((ground_of p).inside ≡ true → Backs s.env.exec.home (object_in this) ((record s.run { control = todo; operands = vs }) ∷ s.callers)) → ((ground_of p).made ≡ true → IsThing this) → Holds s.run.this ns vs → Ok part source base (Any ∷ ns) todo → StandsStep part source s (quiet.begun_step r this counts todo vs s)
+      begun : (p : Part) (r : Routine) (this : Value) (counts : Bool) (ns : List Mark) (todo : List Todo) (vs : List Value) → InnerStmts part source (ground_of p) r.body → ((ground_of p).inside ≡ true → Backs s.env.exec.home (object_in this) ((record s.run { control = todo; operands = vs }) ∷ s.callers)) → ((ground_of p).made ≡ true → IsThing this) → Holds s.run.this ns vs → Ok part source base (Any ∷ ns) todo → StandsStep part source mine s (quiet.begun_step r this counts todo vs s)
       begun p r this counts ns todo vs n b t k h = record {
         run = record { ground = ground_of p; marks = []; holds = tt; ok = lists.routine part source (ground_of p) r n; backed = b; thing = t };
         callers = (record { ground = base; marks = ns; holds = k; ok = h; backed = x.backed; thing = x.thing }, x.callers);
-        env = kept.same part source x.env refl refl refl;
-        here = x.here;
+        env = kept.same part source mine x.env refl refl refl;
+        own = x.own; here = x.here;
       }
 
       dropped : (n : ℕ) → Holds s.run.this (rests n ms) (drop n s.run.operands)
@@ -461,16 +466,16 @@ module _ (part : ℕ → Part) (source : Source) where
       dropped_one : (n : ℕ) → Holds s.run.this (rests (suc n) ms) (below (drop n s.run.operands))
       dropped_one n = holds_below s.run.this (rests n ms) (drop n s.run.operands) (dropped n)
 
-      pub call : (p : Part) (r : Option Routine) (todo : List Todo) → p ≡ Plain → InnerRoutine part source p r → Ok part source base (Any ∷ rests (params_at r) ms) todo → StandsStep part source s (quiet.call_step r todo s)
+      pub call : (p : Part) (r : Option Routine) (todo : List Todo) → p ≡ Plain → InnerRoutine part source p r → Ok part source base (Any ∷ rests (params_at r) ms) todo → StandsStep part source mine s (quiet.call_step r todo s)
       call p None todo e n h = ends _ _
       call p (Some r) todo e n h =
-          either (StandsStep part source s) (nat_lt s.env.links.calls CALLS) _ _ (begun p r _ true (rests r.params ms) todo _ n (λ i. plain_not (λ (g : Ground). g.inside) refl i) (λ i. plain_not (λ (g : Ground). g.made) refl i) (dropped r.params) h) (stop Depth todo _)
+          either (StandsStep part source mine s) (nat_lt s.env.links.calls CALLS) _ _ (begun p r _ true (rests r.params ms) todo _ n (λ i. plain_not (λ (g : Ground). g.inside) refl i) (λ i. plain_not (λ (g : Ground). g.made) refl i) (dropped r.params) h) (stop Depth todo _)
         where
           plain_not : {A : Type 0} (f : Ground → Bool) → f (ground_of Plain) ≡ false → f (ground_of p) ≡ true → A
           plain_not f a i = let b : f (ground_of Plain) ≡ true = subst (λ q. f (ground_of q) ≡ true) e i in absurd (cc)
 
       -- the same with what is known of the object below the arguments
-      on : (p : Part) (r : Routine) (counts : Bool) (todo : List Todo) → InnerStmts part source (ground_of p) r.body → Ready (ground base todo) p (rests r.params ms) → Ok part source base (Any ∷ rests (suc r.params) ms) todo → StandsStep part source s (quiet.begun_step r (top (drop r.params s.run.operands)) counts todo (below (drop r.params s.run.operands)) s)
+      on : (p : Part) (r : Routine) (counts : Bool) (todo : List Todo) → InnerStmts part source (ground_of p) r.body → Ready (ground base todo) p (rests r.params ms) → Ok part source base (Any ∷ rests (suc r.params) ms) todo → StandsStep part source mine s (quiet.begun_step r (top (drop r.params s.run.operands)) counts todo (below (drop r.params s.run.operands)) s)
       on p r counts todo n k h =
           begun p r (top (drop r.params s.run.operands)) counts (rests (suc r.params) ms) todo (below (drop r.params s.run.operands)) n inner (λ i. ready_thing (ground base todo) p s.run.this (rests r.params ms) (drop r.params s.run.operands) k (dropped r.params) i) (dropped_one r.params) h
         where
@@ -479,24 +484,24 @@ module _ (part : ℕ → Part) (source : Source) where
               let y = ready_inside (ground base todo) p s.run.this (rests r.params ms) (drop r.params s.run.operands) k (dropped r.params) i in
               behind ms todo (below (drop r.params s.run.operands)) (object_in (top (drop r.params s.run.operands))) (ap object_in y.1) y.0
 
-      pub call_on : (p : Part) (r : Option Routine) (todo : List Todo) → InnerRoutine part source p r → Ready (ground base todo) p (rests (params_at r) ms) → Ok part source base (Any ∷ rests (suc (params_at r)) ms) todo → StandsStep part source s (quiet.call_on_step r todo s)
+      pub call_on : (p : Part) (r : Option Routine) (todo : List Todo) → InnerRoutine part source p r → Ready (ground base todo) p (rests (params_at r) ms) → Ok part source base (Any ∷ rests (suc (params_at r)) ms) todo → StandsStep part source mine s (quiet.call_on_step r todo s)
       call_on p None todo n k h = ends _ _
-      call_on p (Some r) todo n k h = either (StandsStep part source s) (nat_lt s.env.links.calls CALLS) _ _ (on p r true todo n k h) (stop Depth todo _)
+      call_on p (Some r) todo n k h = either (StandsStep part source mine s) (nat_lt s.env.links.calls CALLS) _ _ (on p r true todo n k h) (stop Depth todo _)
 
-      pub call_unwritten : (p : Part) (r : Option Routine) (todo : List Todo) → InnerRoutine part source p r → Ready (ground base todo) p (rests (params_at r) ms) → Ok part source base (Any ∷ rests (suc (params_at r)) ms) todo → StandsStep part source s (quiet.call_unwritten_step r todo s)
+      pub call_unwritten : (p : Part) (r : Option Routine) (todo : List Todo) → InnerRoutine part source p r → Ready (ground base todo) p (rests (params_at r) ms) → Ok part source base (Any ∷ rests (suc (params_at r)) ms) todo → StandsStep part source mine s (quiet.call_unwritten_step r todo s)
       call_unwritten p None todo n k h = ends _ _
       call_unwritten p (Some r) todo n k h = on p r false todo n k h
 
-      pub live : (r : Option Routine) (todo : List Todo) → Ok part source base ms todo → StandsStep part source s (quiet.live_step r todo s)
+      pub live : (r : Option Routine) (todo : List Todo) → Ok part source base ms todo → StandsStep part source mine s (quiet.live_step r todo s)
       live None todo h = ends _ _
-      live (Some r) todo h = either (StandsStep part source s) (sw.is_live (piece.exec_at (top (drop r.params s.run.operands)) s.env) s.env) _ _ (go ms _ _ holds h) (stop NotLive todo _)
+      live (Some r) todo h = either (StandsStep part source mine s) (sw.is_live (piece.exec_at (top (drop r.params s.run.operands)) s.env) s.env) _ _ (go ms _ _ holds h) (stop NotLive todo _)
 
       -- the main of a coroutine is at home with that
-      pub set_up : (p : Part) (r : Option Routine) (todo : List Todo) → SetsUp part source (ground base todo) p → InnerRoutine part source p r → Ok part source base [] todo → StandsStep part source s (quiet.set_up_step r todo s)
+      pub set_up : (p : Part) (r : Option Routine) (todo : List Todo) → SetsUp part source (ground base todo) p → InnerRoutine part source p r → Ok part source base [] todo → StandsStep part source mine s (quiet.set_up_step r todo s)
       set_up p None todo k n h = anew _ _ h
       set_up p (Some r) todo k n h =
-          let b = kept.born_stands part source (quiet.home_at s.run.this s.env) (quiet.fresh r s.run.this) s.env (record { run = record { ground = ground_of p; marks = []; holds = tt; ok = lists.routine part source (ground_of p) r n; backed = at_home p k; thing = no_maker p k }; callers = tt }) x.env in
-          go_in [] _ _ _ tt h (kept.behind part source b (kept.written_stands part source s.run.this _ _ b.env))
+          let b = kept.born_stands part source mine (quiet.home_at s.run.this s.env) (quiet.fresh r s.run.this) s.env (record { run = record { ground = ground_of p; marks = []; holds = tt; ok = lists.routine part source (ground_of p) r n; backed = at_home p k; thing = no_maker p k }; callers = tt }) x.env in
+          go_in [] _ _ _ tt h (kept.behind part source mine b (kept.written_stands part source mine s.run.this _ _ b.env))
         where
           at_home : (q : Part) → SetsUp part source (ground base todo) q → (ground_of q).inside ≡ true → IsHome (quiet.home_at s.run.this s.env) (object_in s.run.this)
           at_home Plain k i = absurd (cc)
@@ -512,87 +517,88 @@ module _ (part : ℕ → Part) (source : Source) where
 
       -- mutex objects
 
-      pub unless : (o : ℕ) (step : Step) (todo : List Todo) → (inside.is_held_up o s.env ≡ false → StandsStep part source s step) → StandsStep part source s (monitors.unless_held_up o step todo s)
+      pub unless : (o : ℕ) (step : Step) (todo : List Todo) → (inside.is_held_up o s.env ≡ false → StandsStep part source mine s step) → StandsStep part source mine s (monitors.unless_held_up o step todo s)
       unless o step todo k = by (inside.is_held_up o s.env) refl
         where
-          by : (b : Bool) → inside.is_held_up o s.env ≡ b → StandsStep part source s (if b then fault BlockedInside todo s.run.operands s else step)
+          by : (b : Bool) → inside.is_held_up o s.env ≡ b → StandsStep part source mine s (if b then fault BlockedInside todo s.run.operands s else step)
           by true e = stop BlockedInside todo _
           by false e = k e
 
-      enter_at : (d : Option ℕ) (o m : ℕ) (todo : List Todo) → Ok part source base ms todo → StandsStep part source s (monitors.enter_at d o m todo s)
+      enter_at : (d : Option ℕ) (o m : ℕ) (todo : List Todo) → Ok part source base ms todo → StandsStep part source mine s (monitors.enter_at d o m todo s)
       enter_at (Some d) o m todo h = go_in ms _ _ _ holds h (likes refl refl refl refl)
       enter_at None o m todo h = asked_in _ ms todo _ _ (λ z. z) tt holds h (likes refl refl refl refl)
 
-      pub enter : (m : ℕ) (r : Option Routine) (todo : List Todo) → Ok part source base ms todo → StandsStep part source s (monitors.enter_step m r todo s)
+      pub enter : (m : ℕ) (r : Option Routine) (todo : List Todo) → Ok part source base ms todo → StandsStep part source mine s (monitors.enter_step m r todo s)
       enter m None todo h = ends _ _
       enter m (Some r) todo h =
           let o = piece.object_in (top (drop r.params s.run.operands)) in
-          either (StandsStep part source s) (monitors.may_call r.written s) _ _ (enter_at (find o s.env.depths) o m todo h) (stop Depth todo _)
+          either (StandsStep part source mine s) (monitors.may_call r.written s) _ _ (enter_at (find o s.env.depths) o m todo h) (stop Depth todo _)
 
       -- an activation that has left its object is no active call any more
-      left_calm : (todo : List Todo) → Ok part source base ms todo → StandsStep part source s (Asks (ask.Leave (monitors.this_object s) (monitors.by_event s.run.raised)) (at (monitors.leave_todo s.run.raised todo) s.run.operands (inside.counted_no_more (in_env (inside.call_ended (monitors.this_object s) s.env) s))))
+      left_calm : (todo : List Todo) → Ok part source base ms todo → StandsStep part source mine s (Asks (ask.Leave (monitors.this_object s) (monitors.by_event s.run.raised)) (at (monitors.leave_todo s.run.raised todo) s.run.operands (inside.counted_no_more (in_env (inside.call_ended (monitors.this_object s) s.env) s))))
       left_calm todo h = record {
         state = record {
           run = record { ground = base; marks = ms; holds = holds; ok = lists.polled part source base s.run.raised ms todo h; backed = x.backed; thing = x.thing };
           callers = x.callers;
-          env = kept.same part source x.env refl refl refl;
-          here = x.here;
+          env = kept.same part source mine x.env refl refl refl;
+          own = x.own; here = x.here;
         };
         inside = tt;
+        hand = λ q j. j;
       }
 
-      pub leave : (b : Bool) (todo : List Todo) → Ok part source base ms todo → StandsStep part source s (monitors.leave_at b (monitors.this_object s) todo s)
+      pub leave : (b : Bool) (todo : List Todo) → Ok part source base ms todo → StandsStep part source mine s (monitors.leave_at b (monitors.this_object s) todo s)
       leave false todo h = go_in ms _ _ _ holds h (likes refl refl refl refl)
       leave true todo h = unless (monitors.this_object s) _ todo (λ u. left_calm todo h)
 
-      pub make : (c k : ℕ) (r : Option Routine) (todo : List Todo) → IsThere (rests (params part source k) ms) → Ok part source base (bound (params part source k) ms) todo → StandsStep part source s (monitors.make_step c k r todo s)
+      pub make : (c k : ℕ) (r : Option Routine) (todo : List Todo) → IsThere (rests (params part source k) ms) → Ok part source base (bound (params part source k) ms) todo → StandsStep part source mine s (monitors.make_step c k r todo s)
       make c k None todo t h = ends _ _
       make c k (Some r) todo t h =
-          either (StandsStep part source s) (monitors.may_call r.written s) _ _ (asked_in _ ms _ _ _ (λ z. z) tt holds ((tt, t), h) (likes refl refl refl refl)) (stop Depth todo _)
+          either (StandsStep part source mine s) (monitors.may_call r.written s) _ _ (asked_in _ ms _ _ _ (λ z. z) tt holds ((tt, t), h) (likes refl refl refl refl)) (stop Depth todo _)
 
-      pub bind : (r : Option Routine) (todo : List Todo) → IsObject ms → Ok part source base (bound (params_at r) (rest ms)) todo → StandsStep part source s (monitors.bind_step r todo s)
+      pub bind : (r : Option Routine) (todo : List Todo) → IsObject ms → Ok part source base (bound (params_at r) (rest ms)) todo → StandsStep part source mine s (monitors.bind_step r todo s)
       bind None todo k h = ends _ _
       bind (Some r) todo k h =
           go_in (bound r.params (rest ms)) todo _ _ (holds_bound s.run.this (top s.run.operands) r.params (rest ms) (below s.run.operands) (object_top s.run.this ms s.run.operands k holds) one) h (write _ _)
 
-      pub accept : (mask o site : ℕ) (todo : List Todo) (vs : List Value) → Backs s.env.exec.home o (s.run ∷ s.callers) → Ok part source base [] todo → StandsStep part source s (monitors.accept_by mask o site todo vs s)
+      pub accept : (mask o site : ℕ) (todo : List Todo) (vs : List Value) → Backs s.env.exec.home o (s.run ∷ s.callers) → Ok part source base [] todo → StandsStep part source mine s (monitors.accept_by mask o site todo vs s)
       accept zero o site todo vs i h = anew _ _ h
       accept (suc mask) o site todo vs i h = unless o _ todo (λ u. asked (ask.Accept o site (suc mask)) [] _ vs (λ z. z) (i, u) tt (tt, (tt, h)))
 
-      pub failed : (b : Bool) (todo : List Todo) (vs : List Value) → Ok part source base [] todo → StandsStep part source s (monitors.failed_step b todo vs s)
+      pub failed : (b : Bool) (todo : List Todo) (vs : List Value) → Ok part source base [] todo → StandsStep part source mine s (monitors.failed_step b todo vs s)
       failed true todo vs h = anew _ _ h
       failed false todo vs h = anew _ _ (tt, h)
 
       -- events elsewhere
 
-      pend : (n : Exec) (e : raising.Event) (todo : List Todo) (vs : List Value) → Ok part source base [] todo → StandsStep part source s (polls.pend_step n e todo vs s)
+      pend : (n : Exec) (e : raising.Event) (todo : List Todo) (vs : List Value) → Ok part source base [] todo → StandsStep part source mine s (polls.pend_step n e todo vs s)
       pend n e todo vs h =
-          either (StandsStep part source s) (nat_lt (length (inside.pending_at n s.env)) PENDING_EVENTS) _ _ (go_in [] _ _ _ tt h (kept.with_links_stand part source (λ l. record l { pending = l.pending ++ (record { event = e.number; x = e.x; y = e.y }) ∷ [] }) n s.env x.env)) (stop TooManyPending todo vs)
+          either (StandsStep part source mine s) (nat_lt (length (inside.pending_at n s.env)) PENDING_EVENTS) _ _ (go_in [] _ _ _ tt h (kept.with_links_stand part source mine (λ l. record l { pending = l.pending ++ (record { event = e.number; x = e.x; y = e.y }) ∷ [] }) n s.env x.env)) (stop TooManyPending todo vs)
 
-      pend_at : (o : Option Exec) (e : raising.Event) (todo : List Todo) (vs : List Value) → Ok part source base [] todo → StandsStep part source s (polls.pend_at o e todo vs s)
+      pend_at : (o : Option Exec) (e : raising.Event) (todo : List Todo) (vs : List Value) → Ok part source base [] todo → StandsStep part source mine s (polls.pend_at o e todo vs s)
       pend_at None e todo vs h = stop NotLive todo vs
-      pend_at (Some n) e todo vs h = either (StandsStep part source s) (sw.is_live (Some n) s.env) _ _ (pend n e todo vs h) (stop NotLive todo vs)
+      pend_at (Some n) e todo vs h = either (StandsStep part source mine s) (sw.is_live (Some n) s.env) _ _ (pend n e todo vs h) (stop NotLive todo vs)
 
-      pub raise_at : (v : Value) (e : raising.Event) (todo : List Todo) (vs : List Value) → Ok part source base [] todo → StandsStep part source s (polls.raise_at_step v e todo vs s)
+      pub raise_at : (v : Value) (e : raising.Event) (todo : List Todo) (vs : List Value) → Ok part source base [] todo → StandsStep part source mine s (polls.raise_at_step v e todo vs s)
       raise_at (Object o) e todo vs h = asked (ask.Raise o e.number e.x e.y) [] todo vs (λ z. z) tt tt h
       raise_at v e todo vs h = pend_at (piece.exec_at v s.env) e todo vs h
 
-      pub enables : (events cell : ℕ) (todo : List Todo) → Ok part source base [] todo → StandsStep part source s (polls.enable_step events cell todo s)
+      pub enables : (events cell : ℕ) (todo : List Todo) → Ok part source base [] todo → StandsStep part source mine s (polls.enable_step events cell todo s)
       enables events cell todo h = 
           let w = write (piece.variable_at cell s) (Number (signed_64 s.env.links.enabled)) in
-          go_in [] _ _ _ tt h (record { env = kept.same part source w.env refl refl refl; exec = w.exec; own = w.own; hand = w.hand })
+          go_in [] _ _ _ tt h (record { env = kept.same part source mine w.env refl refl refl; exec = w.exec; own = w.own; hand = w.hand })
 
-      quiet_poll : (o : Option Pending) (todo : List Todo) → Ok part source base ms todo → StandsStep part source s (polls.quiet_poll o todo s)
+      quiet_poll : (o : Option Pending) (todo : List Todo) → Ok part source base ms todo → StandsStep part source mine s (polls.quiet_poll o todo s)
       quiet_poll None todo h = go ms _ _ holds h
       quiet_poll (Some p) todo h = go_in (Any ∷ (Any ∷ (Any ∷ ms))) _ _ _ (tt, (tt, (tt, holds))) (tt, h) (likes refl refl refl refl)
 
-      poll_by : (b : Bool) (todo : List Todo) → Ok part source base ms todo → StandsStep part source s (polls.poll_by b todo s)
+      poll_by : (b : Bool) (todo : List Todo) → Ok part source base ms todo → StandsStep part source mine s (polls.poll_by b todo s)
       poll_by true todo h = asked _ ms _ _ (λ z. z) tt holds (tt, h)
       poll_by false todo h = quiet_poll (inside.oldest_enabled s.env.links) todo h
 
-      pub poll : (todo : List Todo) → Ok part source base ms todo → StandsStep part source s (polls.poll_step todo s)
-      poll todo h = either (StandsStep part source s) (nat_eq s.env.links.enabled 0) _ _ (go ms _ _ holds h) (poll_by (inside.is_own s.env) todo h)
+      pub poll : (todo : List Todo) → Ok part source base ms todo → StandsStep part source mine s (polls.poll_step todo s)
+      poll todo h = either (StandsStep part source mine s) (nat_eq s.env.links.enabled 0) _ _ (go ms _ _ holds h) (poll_by (inside.is_own s.env) todo h)
 
-      pub deliver : (v : Value) (todo : List Todo) → Ok part source base (rests 3 ms) todo → StandsStep part source s (polls.deliver_step v todo s)
+      pub deliver : (v : Value) (todo : List Todo) → Ok part source base (rests 3 ms) todo → StandsStep part source mine s (polls.deliver_step v todo s)
       deliver Nothing todo h = go (rests 3 ms) _ _ (dropped 3) h
       deliver v todo h = go ms _ _ holds (tt, (tt, h))

@@ -16,32 +16,32 @@ use Rattle.uc_inner_laws.specs.Standing.{brings, StandsWith, StandsState, Stands
 -- each answer keep it
 pub record LawSteps : Type 0 where
   pub begins : (part : ℕ → Part) (source : Source) → InnerSource part source → (r o : ℕ) →
-      StandsState part source (first_state (routine_of source r) o)
-  pub steps : (part : ℕ → Part) (source : Source) → InnerSource part source → (s : State) →
-      StandsState part source s → StandsStep part source s (quiet source s)
-  pub told : (part : ℕ → Part) (source : Source) (r : Request) (given : Answer) (s : State) →
-      StandsWith part source (brings r) s → IsForm (form_of_request r) given →
-      StandsState part source (answered source given s)
+      StandsState part source o (first_state (routine_of source r) o)
+  pub steps : (part : ℕ → Part) (source : Source) → InnerSource part source → (mine : ℕ) (s : State) →
+      StandsState part source mine s → StandsStep part source mine s (quiet source s)
+  pub told : (part : ℕ → Part) (source : Source) (mine : ℕ) (r : Request) (given : Answer) (s : State) →
+      StandsWith part source mine (brings r) s → IsForm (form_of_request r) given →
+      StandsState part source mine (answered source given s)
 
 -- so what a step asks for where it waits, lets others in or accepts, is an object in which the task is; where it only signals or asks for
 -- conditions, that or one that it has in hand, as the running execution is at home there
-abbrev pub IsAt : Request → State → Type 0
-IsAt (ask.Wait o c n) s = IsInside o s.env
-IsAt (ask.SignalBlock o c) s = IsInside o s.env
-IsAt (ask.Accept o site mask) s = IsInside o s.env
-IsAt (ask.Signal o c) s = IsInside o s.env ⊎ (is_some (find o s.env.hand) ≡ true)
-IsAt (ask.Empty o c) s = IsInside o s.env ⊎ (is_some (find o s.env.hand) ≡ true)
-IsAt (ask.Front o c) s = IsInside o s.env ⊎ (is_some (find o s.env.hand) ≡ true)
-IsAt r s = Unit {0}
+abbrev pub IsAt : Request → State → State → Type 0
+IsAt (ask.Wait o c n) s t = IsInside o s.env
+IsAt (ask.SignalBlock o c) s t = IsInside o s.env
+IsAt (ask.Accept o site mask) s t = IsInside o s.env
+IsAt (ask.Signal o c) s t = IsInside o s.env ⊎ (is_some (find o t.env.hand) ≡ true)
+IsAt (ask.Empty o c) s t = IsInside o s.env ⊎ (is_some (find o t.env.hand) ≡ true)
+IsAt (ask.Front o c) s t = IsInside o s.env ⊎ (is_some (find o t.env.hand) ≡ true)
+IsAt r s t = Unit {0}
 
 abbrev pub LawInside : Type 0
 LawInside =
-    (part : ℕ → Part) (source : Source) → InnerSource part source → (s : State) →
-    StandsState part source s → Deep source s → (r : Request) (t : State) → quiet source s ≡ Asks r t →
-    IsAt r s
+    (part : ℕ → Part) (source : Source) → InnerSource part source → (mine : ℕ) (s : State) →
+    StandsState part source mine s → Deep source s → (r : Request) (t : State) →
+    quiet source s ≡ Asks r t → IsAt r s t
 
 -- and each step finds what the laws of depths ask, as soon as nothing else is owed to an object that is let go of however deep the task is
 abbrev pub LawFair : Type 0
 LawFair =
-    (part : ℕ → Part) (source : Source) (s : State) → StandsState part source s → Alone source s →
-    Fair source s
+    (part : ℕ → Part) (source : Source) (mine : ℕ) (s : State) → StandsState part source mine s →
+    Alone source s → Fair source s

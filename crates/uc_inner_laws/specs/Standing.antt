@@ -285,27 +285,30 @@ module _ (part : ℕ → Part) (source : Source) where
     pub house : StandsParked (home.Task e.own) e.house.parked
     pub hand : StandsHand e.hand
 
-  -- with it, which is to find operands with these marks
-  pub record StandsWith (ns : List Mark) (s : State) : Type 0 where
+  -- with it, which is to find operands with these marks, and with this own object
+  pub record StandsWith (mine : ℕ) (ns : List Mark) (s : State) : Type 0 where
+    pub own : s.env.own ≡ mine
     pub run : Stands s.env.exec.home ns s.run s.callers
     pub callers : Waits s.env.exec.home s.callers
     pub env : StandsEnv s.env
     pub here : IsHere s.env.own s.env.hand s.env.exec.home
 
-  abbrev pub StandsState : State → Type 0
-  StandsState s = StandsWith [] s
+  abbrev pub StandsState : ℕ → State → Type 0
+  StandsState mine s = StandsWith mine [] s
 
   -- a task that has asked something; behind an end and a fault nothing is done
-  abbrev pub StandsAsk : Request → State → Type 0
-  StandsAsk ask.End s = StandsEnv s.env
-  StandsAsk (ask.Fault f) s = StandsEnv s.env
-  StandsAsk r s = StandsWith (brings r) s
+  abbrev pub StandsAsk : ℕ → Request → State → Type 0
+  StandsAsk mine ask.End s = StandsEnv s.env
+  StandsAsk mine (ask.Fault f) s = StandsEnv s.env
+  StandsAsk mine r s = StandsWith mine (brings r) s
 
-  pub record StandsAsking (before : State) (r : Request) (s : State) : Type 0 where
-    pub state : StandsAsk r s
+  pub record StandsAsking (mine : ℕ) (before : State) (r : Request) (s : State) : Type 0 where
+    pub state : StandsAsk mine r s
     pub inside : StandsIn r before
+    -- what was in hand is
+    pub hand : (q : ℕ) → is_some (find q before.env.hand) ≡ true → is_some (find q s.env.hand) ≡ true
 
-  abbrev pub StandsStep : State → Step → Type 0
-  StandsStep before (Goes s) = StandsState s
-  StandsStep before (Ticks s) = StandsState s
-  StandsStep before (Asks r s) = StandsAsking before r s
+  abbrev pub StandsStep : ℕ → State → Step → Type 0
+  StandsStep mine before (Goes s) = StandsState mine s
+  StandsStep mine before (Ticks s) = StandsState mine s
+  StandsStep mine before (Asks r s) = StandsAsking mine before r s
