@@ -44,7 +44,7 @@ pub enum Stepped {
 
 // It asks, by an op of this line. This and the two below stand apart from the ops, none of which makes room for a request that it does
 // not ask.
-#[inline(never)]
+#[inline(always)]
 pub(crate) fn put_request(
     code: &Code,
     line: u32,
