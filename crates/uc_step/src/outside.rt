@@ -1,7 +1,6 @@
 // The ops that print and read.
 
-ghost use Rattle.std.specs.Prelude.{◌≡◌, ◌∷◌, [], IfOk, OnErr};
-ghost use Rattle.uc_machine.specs.Quiet.{print_of};
+ghost use Rattle.std.specs.Prelude.{◌≡◌, IfOk, OnErr};
 ghost use Rattle.uc_frames.specs.Machine.{line_at};
 ghost use Rattle.uc_step.specs.OpEffects.{bare_request, ended, Does};
 
@@ -15,6 +14,7 @@ use uc_frames::pieces::print_request;
 use uc_frames::work::Work;
 use uc_tree::kinds::ValueForm;
 
+#[inline(never)]
 pub(crate) fn print(
     code: &Code,
     line: u32,
@@ -36,10 +36,11 @@ pub(crate) fn print(
         Ok(QuietResult::Quiet)
     } else {
         work.pop();
-        Ok(put_print(code, line, work, stop, piece))
+        Ok(put_request(code, line, work, stop, print_request(&[piece])))
     }
 }
 
+#[inline(never)]
 pub(crate) fn text(
     code: &Code,
     line: u32,
@@ -59,17 +60,8 @@ pub(crate) fn text(
         work.gather(piece)?;
         Ok(QuietResult::Quiet)
     } else {
-        Ok(put_print(code, line, work, stop, piece))
+        Ok(put_request(code, line, work, stop, print_request(&[piece])))
     }
-}
-
-// It asks to print this item. It stands apart, so that no op makes room for a request while items are gathered.
-#[inline(never)]
-fn put_print(code: &Code, line: u32, work: &Work, stop: &mut Stepped, piece: Piece) -> QuietResult
-    ensures { ended result stop.new
-        ≡ Stepped.Ask (record { request = print_of (piece ∷ []); line = line_at code.now.ops line work.now.callers }) }
-{
-    put_request(code, line, work, stop, print_request(&[piece]))
 }
 
 pub(crate) fn flush(code: &Code, line: u32, work: &mut Work, stop: &mut Stepped) -> QuietResult

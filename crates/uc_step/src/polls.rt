@@ -1,9 +1,7 @@
 // The ops that ask for events and deliver them.
 
 ghost use Rattle.std.specs.Prelude.{◌≡◌, IfOk, OnErr};
-ghost use Rattle.uc_entry.specs.declared.request.Request.TheVariants as ask;
 ghost use Rattle.uc_machine.specs.Insides.{oldest_enabled};
-ghost use Rattle.uc_frames.specs.Machine.{line_at};
 ghost use Rattle.uc_step.specs.OpEffects.{ended, Does, DoesAlone};
 
 use crate::stepped::{QuietResult, Stepped, put_request};
@@ -16,6 +14,7 @@ use uc_frames::work::Work;
 
 // A task asks for an enabled event, and a coroutine is delivered the oldest of those that are pending. Where none is enabled, or none
 // pending at a coroutine, it goes on elsewhere.
+#[inline(never)]
 pub(crate) fn poll(
     code: &Code,
     line: u32,
@@ -33,22 +32,13 @@ pub(crate) fn poll(
         return Ok(QuietResult::Quiet);
     }
     if work.is_own() {
-        return Ok(put_poll(code, line, work, stop, mask));
+        return Ok(put_request(code, line, work, stop, Request::Poll { mask }));
     }
     if work.deliver()? {
         return Ok(QuietResult::Tick);
     }
     work.set_next(to);
     Ok(QuietResult::Quiet)
-}
-
-// It asks for one of these events. It stands apart, so that no op makes room for a request where none is enabled.
-#[inline(never)]
-fn put_poll(code: &Code, line: u32, work: &Work, stop: &mut Stepped, mask: u64) -> QuietResult
-    ensures { ended result stop.new
-        ≡ Stepped.Ask (record { request = ask.Poll mask; line = line_at code.now.ops line work.now.callers }) }
-{
-    put_request(code, line, work, stop, Request::Poll { mask })
 }
 
 // What was delivered is raised; where that is nothing, the task goes on elsewhere.
