@@ -2,7 +2,7 @@
 
 ghost use Rattle.std.specs.Prelude.{◌≡◌, IfOk, OnErr};
 ghost use Rattle.uc_frames.specs.Machine.{top, below, cell_number};
-ghost use Rattle.uc_step.specs.OpEffects.{act_operator, at_op, ended, Does, Ends};
+ghost use Rattle.uc_step.specs.OpEffects.{act_operator, ended, Does, Ends};
 ghost use Rattle.uc_step.specs.OperatorResults.{operator_of};
 
 use crate::numbers::{Computed, Operator, in_range};
@@ -14,21 +14,19 @@ use uc_frames::cell::{Cell, number_in};
 use uc_frames::work::Work;
 use uc_tree::int::negated;
 
-// What was given takes the place of the two newest operands, or is a fault; this op is next.
+// What was given takes the place of the two newest operands, or is a fault.
 #[inline(always)]
 pub(crate) fn two(
     code: &Code,
     line: u32,
-    at: u32,
     work: &mut Work,
     stop: &mut Stepped,
     operator: Operator,
 ) -> Result<QuietResult, AllocError>
     ensures ok { IfOk result (λ how. Ends
-        (act_operator code.now line (operator_of operator) (at_op at work.old)) (ended how stop.new) work.new) }
-    ensures err { OnErr result (work.new ≡ at_op at work.old) }
+        (act_operator code.now line (operator_of operator) work.old) (ended how stop.new) work.new) }
+    ensures err { OnErr result (work.new ≡ work.old) }
 {
-    work.set_next(at);
     match operator.given(number_in(work.second()), number_in(work.top())) {
         Computed::Number(number) => {
             work.replace_two(Cell::Number(number))?;
