@@ -3,7 +3,7 @@ use Rattle.std.proofs.Common.{◌≡◌, ℕ, zero, suc, ◌+◌, ◌-◌, ◌<�
 use Rattle.std.specs.Prelude.{nat_eq, if◌then◌else◌, max, slice_set, slice_index_or}
 use Rattle.std.proofs.lemmas.Bool.{cases_lt}
 use Rattle.std.proofs.Math.Nat.{max-eq_left, max-eq_right}
-use Rattle.std.proofs.Math.Option.{some-injective}
+use Rattle.std.proofs.lemmas.Option.{none-some, same_Some}
 use Rattle.std.proofs.Math.Seq.{take-append_seam, drop-append_seam, take-append-add, drop-append-add}
 use Rattle.std.proofs.lemmas.List.{append_assoc, append-nil, reverse-append, length-append, length-reverse, length-drop, length-take-le, take-take, drop-drop, drop-take, take-append-le, drop-append-le, drop_all, take_all, get_or-drop, length-set, length-replicate, take_more_set, take-set-le, drop-set-add, get_or-take, get_or_past, get_or_default, set-append_left, set-append_right, set_past, take-append-drop}
 use Rattle.uc_machine.specs.Executions.{at_depth, set_depth, frame_changed, values_cleared, list_in, first_or, others}
@@ -258,21 +258,21 @@ module _ {X : Type 0} (b s : ℕ) (fs : List X) (o : b ≤ s) (n : length fs ≡
 -- the extent of a depth lies within
 
 within_by : (b : Bool) (x : Extent) (xs : List Extent) (n d : ℕ) (e : Extent) → Adjoin (x ∷ xs) n → (at_depth xs d ≡ Some e → (e.floor ≤ e.base) × (e.base ≤ e.start) × (e.start ≤ x.floor)) → (if b then Some x else at_depth xs d) ≡ Some e → (e.floor ≤ e.base) × (e.base ≤ e.start) × (e.start ≤ n)
-within_by true x xs n d e a h q = let s : x ≡ e = some-injective x e q in rw (← s) (a.0, a.1, a.2)
+within_by true x xs n d e a h q = let s : x ≡ e = same_Some x e q in rw (← s) (a.0, a.1, a.2)
 within_by false x xs n d e a h q = let w = h q in (w.0, w.1, omega (arith, w.2, a.0, a.1, a.2))
 
 pub within : (xs : List Extent) (n d : ℕ) (e : Extent) → Adjoin xs n → at_depth xs d ≡ Some e → (e.floor ≤ e.base) × (e.base ≤ e.start) × (e.start ≤ n)
-within [] n d e a q = absurd q
+within [] n d e a q = absurd (none-some e q)
 within (x ∷ xs) n d e a q = within_by (nat_eq d (length xs)) x xs n d e a (λ r. within xs x.floor d e a.3 r) q
 
 -- what stands at a depth
 
 frame_at_by : (b : Bool) (x : Extent) (xs : List Extent) (cs : List Cell) (d : ℕ) (e : Extent) → (at_depth xs d ≡ Some e → at_depth (all_frames xs (take x.floor cs)) d ≡ Some (frame_of e cs)) → (if b then Some x else at_depth xs d) ≡ Some e → (if b then Some (frame_of x cs) else at_depth (all_frames xs (take x.floor cs)) d) ≡ Some (frame_of e cs)
-frame_at_by true x xs cs d e h q = ap (λ y. Some (frame_of y cs)) (some-injective x e q)
+frame_at_by true x xs cs d e h q = ap (λ y. Some (frame_of y cs)) (same_Some x e q)
 frame_at_by false x xs cs d e h q = h q
 
 pub frame_at : (xs : List Extent) (cs : List Cell) (d : ℕ) (e : Extent) → Adjoin xs (length cs) → at_depth xs d ≡ Some e → at_depth (all_frames xs cs) d ≡ Some (frame_of e cs)
-frame_at [] cs d e a q = absurd q
+frame_at [] cs d e a q = absurd (none-some e q)
 frame_at (x ∷ xs) cs d e a q =
     let k : length (take x.floor cs) ≡ x.floor = length-take-le x.floor cs (omega (arith, a.0, a.1, a.2)) in
     let f : (at_depth xs d ≡ Some e → at_depth (all_frames xs (take x.floor cs)) d ≡ Some (frame_of e cs)) =
@@ -280,7 +280,7 @@ frame_at (x ∷ xs) cs d e a q =
     rw (frame_count xs (take x.floor cs)) (frame_at_by (nat_eq d (length xs)) x xs cs d e f q)
 
 no_frame_by : (b : Bool) (x : Extent) (xs : List Extent) (cs : List Cell) (d : ℕ) → (at_depth xs d ≡ None → at_depth (all_frames xs (take x.floor cs)) d ≡ None) → (if b then Some x else at_depth xs d) ≡ None → (if b then Some (frame_of x cs) else at_depth (all_frames xs (take x.floor cs)) d) ≡ None
-no_frame_by true x xs cs d h q = absurd q
+no_frame_by true x xs cs d h q = absurd (none-some x (sym q))
 no_frame_by false x xs cs d h q = h q
 
 pub no_frame : (xs : List Extent) (cs : List Cell) (d : ℕ) → at_depth xs d ≡ None → at_depth (all_frames xs cs) d ≡ None
@@ -296,13 +296,13 @@ module _ (d : ℕ) (e : Extent) (fs : List Cell) (n : length fs ≡ e.start - e.
     operands : all_operands xs ds ≡ all_operands xs cs
 
   swaps_by : (b : Bool) (x : Extent) (xs : List Extent) (cs : List Cell) → Adjoin (x ∷ xs) (length cs)
-  → (at_depth xs d ≡ Some e → Swaps xs (take x.floor cs) (replaced e.base e.start fs (take x.floor cs)))
-  → (if b then Some x else at_depth xs d) ≡ Some e
-  → ((frame_of x (replaced e.base e.start fs cs) ∷ all_frames xs (take x.floor (replaced e.base e.start fs cs)))
-    ≡ (if b then fs ∷ all_frames xs (take x.floor cs) else frame_of x cs ∷ set_depth (all_frames xs (take x.floor cs)) d fs))
-  × (all_operands (x ∷ xs) (replaced e.base e.start fs cs) ≡ all_operands (x ∷ xs) cs)
+      → (at_depth xs d ≡ Some e → Swaps xs (take x.floor cs) (replaced e.base e.start fs (take x.floor cs)))
+      → (if b then Some x else at_depth xs d) ≡ Some e
+      → ((frame_of x (replaced e.base e.start fs cs) ∷ all_frames xs (take x.floor (replaced e.base e.start fs cs)))
+        ≡ (if b then fs ∷ all_frames xs (take x.floor cs) else frame_of x cs ∷ set_depth (all_frames xs (take x.floor cs)) d fs))
+      × (all_operands (x ∷ xs) (replaced e.base e.start fs cs) ≡ all_operands (x ∷ xs) cs)
   swaps_by true x xs cs a h q =
-      let s : x ≡ e = some-injective x e q in
+      let s : x ≡ e = same_Some x e q in
       let m : length fs ≡ x.start - x.base = n ∙ ap (λ (y : Extent). y.start - y.base) (sym s) in
       let f : frame_of x (replaced x.base x.start fs cs) ≡ fs = these_between x.base x.start fs a.1 m cs a.2 in
       let t : take x.floor (replaced x.base x.start fs cs) ≡ take x.floor cs = same_before x.base x.start fs a.1 m cs x.floor a.2 a.0 in
@@ -317,7 +317,7 @@ module _ (d : ℕ) (e : Extent) (fs : List Cell) (n : length fs ≡ e.start - e.
       rw (f, t, o) (ap (λ l. frame_of x cs ∷ l) r.frames, ap (λ l. operands_from x cs ∷ l) r.operands)
 
   swaps : (xs : List Extent) (cs : List Cell) → Adjoin xs (length cs) → at_depth xs d ≡ Some e → Swaps xs cs (replaced e.base e.start fs cs)
-  swaps [] cs a q = absurd q
+  swaps [] cs a q = absurd (none-some e q)
   swaps (x ∷ xs) cs a q =
       let k : length (take x.floor cs) ≡ x.floor = length-take-le x.floor cs (omega (arith, a.0, a.1, a.2)) in
       let p = swaps_by (nat_eq d (length xs)) x xs cs a (λ r. swaps xs (take x.floor cs) (rw k a.3) r) q in
@@ -353,7 +353,7 @@ cleared_length k n fs =
     omega (arith, t, u, length-append (take k fs) (drop k fs), length-append (take n (drop k fs)) (drop n (drop k fs)), length-append (take k fs) (replicate m nought ++ drop n (drop k fs)), length-append (replicate m nought) (drop n (drop k fs)), length-replicate m nought)
 
 set_none_by : (b : Bool) (f : List Cell) (fs : List (List Cell)) (d : ℕ) (g : List Cell) → (at_depth fs d ≡ None → set_depth fs d g ≡ fs) → (if b then Some f else at_depth fs d) ≡ None → (if b then g ∷ fs else f ∷ set_depth fs d g) ≡ f ∷ fs
-set_none_by true f fs d g h q = absurd q
+set_none_by true f fs d g h q = absurd (none-some f (sym q))
 set_none_by false f fs d g h q = ap (λ l. f ∷ l) (h q)
 
 set_none : (fs : List (List Cell)) (d : ℕ) (g : List Cell) → at_depth fs d ≡ None → set_depth fs d g ≡ fs
@@ -410,3 +410,16 @@ module _ (e : Extent) (cs : List Cell) (l : e.base ≤ e.start) (h : e.start ≤
   pub cell_not_put : (c : Cell) → e.start - e.base ≤ k → cs ≡ with_frame e (cell_written k c (frame_of e cs)) cs
   cell_not_put c b =
       as_parts ∙ ap (λ ys. with_frame e ys cs) (sym (set_past (frame_of e cs) k (stored c (slice_index_or (frame_of e cs) k nought)) (omega (arith, length_of_frame e cs h))))
+
+  -- the cells of a part of a list that is cleared
+  pub cleared_within : (ds zs : List Cell) (m f n : ℕ) → ds ≡ cs → zs ≡ values_cleared f n nought (take (e.start - e.base) (drop e.base ds)) → m ≡ length cs → take m ((take e.base ds ++ (zs ++ drop (e.start - e.base) (drop e.base ds))) ++ drop (length (take e.base ds ++ (zs ++ drop (e.start - e.base) (drop e.base ds)))) cs) ≡ with_frame e (values_cleared f n nought (frame_of e cs)) cs
+  cleared_within ds zs m f n q z i =
+      let k : e.base + (e.start - e.base) ≡ e.start = omega arith in
+      let p : drop (e.start - e.base) (drop e.base cs) ≡ drop e.start cs = drop-drop (e.start - e.base) e.base cs ∙ ap (λ j. drop j cs) k in
+      let b : take (e.start - e.base) (drop e.base ds) ≡ frame_of e cs = ap (λ l. take (e.start - e.base) (drop e.base l)) q ∙ sym (between cs e.base e.start l) in
+      let y : zs ≡ values_cleared f n nought (frame_of e cs) = z ∙ ap (values_cleared f n nought) b in
+      let w : take e.base ds ++ (zs ++ drop (e.start - e.base) (drop e.base ds)) ≡ with_frame e (values_cleared f n nought (frame_of e cs)) cs =
+      ap (λ l. take e.base l ++ (zs ++ drop (e.start - e.base) (drop e.base l))) q ∙ ap (λ l. take e.base cs ++ (zs ++ l)) p ∙ ap (λ ys. with_frame e ys cs) y in
+      let ws : List Cell = with_frame e (values_cleared f n nought (frame_of e cs)) cs in
+      let s : length ws ≡ length cs = same_length 0 e (values_cleared f n nought (frame_of e cs)) (cleared_length f n (frame_of e cs) ∙ length_of_frame e cs h) cs l h in
+      ap (λ l. take m (l ++ drop (length l) cs)) w ∙ ap (λ j. take j (ws ++ drop (length ws) cs)) (i ∙ sym s) ∙ take-append_seam ws (drop (length ws) cs)

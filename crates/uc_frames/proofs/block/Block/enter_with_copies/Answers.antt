@@ -1,6 +1,6 @@
 use Rattle.std.proofs.Common.{rules, ◌≡◌, ◌∷◌, ◌++◌, ◌+◌, ◌-◌, ◌<◌, ◌≤◌, [], List, Some, None, length, take, drop, replicate, reverse, sym, ap, refl, ◌∙◌, arith}
 use Rattle.std.specs.Prelude.{max}
-use Rattle.std.proofs.lemmas.List.{reverse-append}
+use Rattle.std.proofs.lemmas.List.{reverse-append, length-drop, take_all}
 use Rattle.std.proofs.lemmas.Grind.{common_steps}
 use Rattle.uc_frames.specs.declared.block.Extent.{Extent}
 use Rattle.uc_frames.specs.Block.{contents, operands_from, with_call}
@@ -19,7 +19,9 @@ returns-clause-ok c =
     let y : Extent = record { floor = c.max.result; base = c.len-length.result; start = c.len-length.result + c.len.result } in
     let o : reverse c.push_reserved.new.self.items ≡ x ∷ xs = ap reverse (c.push_reserved.ensures.items ∙ ap (λ l. l ++ x ∷ []) c.in_ok-reserve.ensures.items) ∙ reverse-append c.self.inside.older.items (x ∷ []) in
     let k : c.extend_from_slice.new.self.items ≡ cs ++ fs = grind (arith, common_steps) in
-    let g : fs ≡ call_frame r (operands_from x cs) = c.in_ok-frame.ensures ∙ ap (λ l. call_frame r (reverse (drop x.start l))) c.deref.ensures.value in
+    let ds = c.deref.result.now in
+    let t : take (length ds - x.start) (drop x.start ds) ≡ drop x.start ds = take_all (length ds - x.start) (drop x.start ds) (omega (arith, length-drop x.start ds)) in
+    let g : fs ≡ call_frame r (operands_from x cs) = c.in_ok-frame.ensures ∙ ap (λ l. call_frame r (reverse l)) t ∙ ap (λ l. call_frame r (reverse (drop x.start l))) c.deref.ensures.value in
     let f : c.max.result ≡ max (length cs - c.args.taken) x.start = c.max.ensures ∙ ap (λ i. max i x.start) (c.saturating_sub.ensures ∙ ap (λ i. i - c.args.taken) n) in
     let m : c.len.result ≡ length fs = search rules in
     rw (← c.self.view_is) (ap (λ l. contents y l c.extend_from_slice.new.self.items) o ∙ ap (contents y (x ∷ xs)) k
