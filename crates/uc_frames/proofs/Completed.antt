@@ -55,6 +55,10 @@ handler_is_made run row cs k b h e =
     ap (λ a. let s : Stack = record { run = a; callers = all_completed (reverse (cs ++ run ∷ [])) (b.operands ∷ b.waiting); frames = [] ∷ b.frames; links = k } in s) e
     ∙ ap (λ l. let s : Stack = record (handler_made h (stack_of run cs k b)) { callers = l } in s) (more run cs b.operands b.waiting)
 
+-- the newest of those that wait comes first
+pub last_completed : (cs ds : List Row) (r : Row) (os : List (List Cell)) → cs ≡ ds ++ r ∷ [] → all_completed (reverse cs) os ≡ completed r (first_or [] os) ∷ all_completed (reverse ds) (others os)
+last_completed cs ds r os e = ap (λ l. all_completed (reverse l) os) e ∙ ap (λ l. all_completed l os) (reverse-append ds (r ∷ []))
+
 pub none_waits : (cs : List Row) (ws : List (List Cell)) → length cs ≡ 0 → all_completed (reverse cs) ws ≡ []
 none_waits [] ws e = refl
 none_waits (a ∷ rs) ws e = absurd (omega (arith, e))
@@ -66,8 +70,7 @@ module _ (cs : List Row) (r : Row) (l : 0 < length cs) (e : r ≡ get_or cs (len
   last_waits ws =
       let k : length cs - 1 + 1 ≡ length cs = omega arith in
       let t : cs ≡ take (length cs - 1) cs ++ r ∷ [] = sym (take_all (length cs) cs (omega arith)) ∙ ap (λ n. take n cs) (sym k) ∙ take_more cs (length cs - 1) r (omega arith) ∙ ap (λ x. take (length cs - 1) cs ++ x ∷ []) (sym e) in
-      let v : reverse cs ≡ r ∷ reverse (take (length cs - 1) cs) = ap reverse t ∙ reverse-append (take (length cs - 1) cs) (r ∷ []) in
-      ap (λ rs. all_completed rs ws) v
+      last_completed cs (take (length cs - 1) cs) r ws t
 
   pub caller_is : (ws : List (List Cell)) → IsCaller r.raised (all_completed (reverse cs) ws)
   caller_is ws = rw (last_waits ws) refl

@@ -134,10 +134,12 @@ module _ (x : Extent) (xs : List Extent) (cs : List Cell) (a : Adjoin (x ∷ xs)
       let m : i ≡ max (length cs - 1) x.start = sym (max-eq_left (omega arith)) ∙ ap (λ n. max n x.start) (omega arith) in
       ap (contents x xs) (last_set cs i c e) ∙ in_place x xs cs a 1 i (c ∷ []) m ∙ ap (λ os. let k : Contents = record (contents x xs cs) { operands = c ∷ os } in k) (drop_one (operands_from x cs))
 
-  pub two_replaced : (i : ℕ) (c : Cell) → i + 2 ≡ length cs → x.start + 1 < length cs → contents x xs (take (i + 1) (slice_set cs i c)) ≡ record (contents x xs cs) { operands = c ∷ below (below (operands_from x cs)) }
+  pub two_replaced : (i : ℕ) (c : Cell) → i + 2 ≡ length cs → x.start + 1 < length cs → contents x xs (slice_set (take (i + 1) cs) i c) ≡ record (contents x xs cs) { operands = c ∷ below (below (operands_from x cs)) }
   two_replaced i c e l =
       let m : i ≡ max (length cs - 2) x.start = sym (max-eq_left (omega arith)) ∙ ap (λ n. max n x.start) (omega arith) in
-      ap (contents x xs) (take_more_set cs i c (omega arith)) ∙ in_place x xs cs a 2 i (c ∷ []) m ∙ ap (λ os. let k : Contents = record (contents x xs cs) { operands = c ∷ os } in k) (drop_two (operands_from x cs))
+      let k : length (take (i + 1) cs) ≡ i + 1 = length-take-le (i + 1) cs (omega arith) in
+      let t : slice_set (take (i + 1) cs) i c ≡ take i cs ++ c ∷ [] = last_set (take (i + 1) cs) i c (sym k) ∙ ap (λ l. l ++ c ∷ []) (take-take i (i + 1) cs (omega arith)) in
+      ap (contents x xs) t ∙ in_place x xs cs a 2 i (c ∷ []) m ∙ ap (λ os. let k : Contents = record (contents x xs cs) { operands = c ∷ os } in k) (drop_two (operands_from x cs))
 
   -- another one below so many
   pub one_set : (count i : ℕ) (c : Cell) → i + count + 1 ≡ length cs → x.start ≤ i → contents x xs (slice_set cs i c) ≡ record (contents x xs cs) { operands = slice_set (operands_from x cs) count c }

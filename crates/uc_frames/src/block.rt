@@ -96,9 +96,14 @@ impl Block {
         ensures value { result ≡ top self.old.operands }
         ensures after { self.new ≡ record self.old { operands = below self.old.operands } }
     {
-        let cell = self.below(0);
-        self.drop_newest(1);
-        cell
+        let length = self.cells.len();
+        if 0 < length - self.newest.start {
+            let cell = self.cells[length - 1];
+            self.cells.truncate(length - 1);
+            cell
+        } else {
+            Cell::Nothing
+        }
     }
 
     // The operand below so many of the newest ones; nothing where there is none.
@@ -154,6 +159,7 @@ impl Block {
     }
 
     // One operand in the place of so many of the newest ones, as far as there are any.
+    #[inline(never)]
     pub(crate) fn replace_many(&mut self, count: u32, cell: Cell) -> Result<(), AllocError>
         ensures ok { OnOk result (self.new ≡ record self.old { operands = cell ∷ drop count self.old.operands }) }
         ensures err { OnErr result (self.new ≡ self.old) }
@@ -172,7 +178,7 @@ impl Block {
         ensures err { OnErr result (self.new ≡ self.old) }
     {
         let length = self.cells.len();
-        if self.newest.start < length {
+        if 0 < length - self.newest.start {
             self.cells[length - 1] = cell;
         } else {
             self.cells.push(cell)?;
@@ -187,9 +193,9 @@ impl Block {
         ensures err { OnErr result (self.new ≡ self.old) }
     {
         let length = self.cells.len();
-        if self.newest.start + 1 < length {
-            self.cells[length - 2] = cell;
+        if 1 < length - self.newest.start {
             self.cells.truncate(length - 1);
+            self.cells[length - 2] = cell;
         } else {
             self.replace_many(2, cell)?;
         }
@@ -220,6 +226,17 @@ impl Block {
     pub(crate) fn read(&self, depth: u32, at: u64) -> Cell
         ensures { result ≡ slice_index_or (list_in (at_depth self.now.frames depth)) at nought }
     {
+        if depth as usize == self.older.len() {
+            return cell_in(&self.cells, self.newest, at);
+        }
+        self.read_older(depth, at)
+    }
+
+    // The same where the frame is not the newest one.
+    #[inline(never)]
+    fn read_older(&self, depth: u32, at: u64) -> Cell
+        ensures { result ≡ slice_index_or (list_in (at_depth self.now.frames depth)) at nought }
+    {
         match extent_at(self.newest, &self.older, depth) {
             None => Cell::Number(0),
             Some(extent) => cell_in(&self.cells, extent, at),
@@ -229,6 +246,18 @@ impl Block {
     // A cell is written at a place of a frame; a binding stays.
     #[inline(always)]
     pub(crate) fn write(&mut self, depth: u32, at: u64, cell: Cell)
+        ensures { self.new ≡ record self.old { frames = frame_changed depth (cell_written at cell) self.old.frames } }
+    {
+        if depth as usize == self.older.len() {
+            put_in(&mut self.cells, self.newest, at, cell);
+        } else {
+            self.write_older(depth, at, cell);
+        }
+    }
+
+    // The same where the frame is not the newest one.
+    #[inline(never)]
+    fn write_older(&mut self, depth: u32, at: u64, cell: Cell)
         ensures { self.new ≡ record self.old { frames = frame_changed depth (cell_written at cell) self.old.frames } }
     {
         if let Some(extent) = extent_at(self.newest, &self.older, depth) {

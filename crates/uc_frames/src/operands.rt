@@ -11,6 +11,7 @@ use std::alloc::AllocError;
 
 impl Work {
     /// One more operand.
+    #[inline(always)]
     pub fn push(&mut self, cell: Cell) -> Result<(), AllocError>
         ensures ok { OnOk result (self.new ≡ record self.old { run = record self.old.run { operands = cell ∷ self.old.run.operands } }) }
         ensures err { OnErr result (self.new ≡ self.old) }
@@ -29,6 +30,7 @@ impl Work {
     }
 
     /// Takes the newest operand; nothing where there is none.
+    #[inline(always)]
     pub fn pop(&mut self) -> Cell
         ensures value { result ≡ top self.old.run.operands }
         ensures after { self.new ≡ record self.old { run = record self.old.run { operands = below self.old.run.operands } } }
@@ -49,6 +51,7 @@ impl Work {
     }
 
     /// The newest operand; nothing where there is none.
+    #[inline(always)]
     pub fn top(&self) -> Cell
         ensures { result ≡ top self.now.run.operands }
     {
@@ -56,6 +59,7 @@ impl Work {
     }
 
     /// The operand below the newest one; nothing where there is none.
+    #[inline(always)]
     pub fn second(&self) -> Cell
         ensures { result ≡ top (below self.now.run.operands) }
     {
@@ -63,6 +67,7 @@ impl Work {
     }
 
     /// The operand below so many of the newest ones; nothing where there is none.
+    #[inline(always)]
     pub fn below(&self, count: u32) -> Cell
         ensures { result ≡ top (drop count self.now.run.operands) }
     {
@@ -70,6 +75,7 @@ impl Work {
     }
 
     /// Another operand in the place of the newest one, if there is one.
+    #[inline(always)]
     pub fn replace(&mut self, cell: Cell) -> Result<(), AllocError>
         ensures ok { OnOk result (self.new ≡ record self.old { run = record self.old.run { operands = cell ∷ below self.old.run.operands } }) }
         ensures err { OnErr result (self.new ≡ self.old) }
@@ -79,6 +85,7 @@ impl Work {
     }
 
     /// Another operand in the place of the two newest ones, as far as there are any.
+    #[inline(always)]
     pub fn replace_two(&mut self, cell: Cell) -> Result<(), AllocError>
         ensures ok { OnOk result (self.new ≡ record self.old { run = record self.old.run { operands = cell ∷ below (below self.old.run.operands) } }) }
         ensures err { OnErr result (self.new ≡ self.old) }
