@@ -1,5 +1,5 @@
 -- What changes of the cells of a block change of its contents.
-use Rattle.std.proofs.Common.{◌≡◌, ℕ, zero, suc, ◌+◌, ◌-◌, ◌<◌, ◌≤◌, List, [], ◌∷◌, ◌++◌, length, take, drop, reverse, Option, Some, None, Bool, true, false, refl, sym, ap, ◌∙◌, arith, inl, inr, replicate, get_or}
+use Rattle.std.proofs.Common.{◌≡◌, ℕ, suc, ◌+◌, ◌-◌, ◌<◌, ◌≤◌, List, [], ◌∷◌, ◌++◌, length, take, drop, reverse, Some, None, Bool, true, false, refl, sym, ap, ◌∙◌, arith, inl, inr, replicate, get_or}
 use Rattle.std.specs.Prelude.{nat_eq, if◌then◌else◌, max, slice_set, slice_index_or}
 use Rattle.std.proofs.lemmas.Bool.{cases_lt}
 use Rattle.std.proofs.Math.Nat.{max-eq_left, max-eq_right}
@@ -301,7 +301,7 @@ module _ (d : ℕ) (e : Extent) (fs : List Cell) (n : length fs ≡ e.start - e.
       → (at_depth xs d ≡ Some e → Swaps xs (take x.floor cs) (replaced e.base e.start fs (take x.floor cs)))
       → (if b then Some x else at_depth xs d) ≡ Some e
       → ((frame_of x (replaced e.base e.start fs cs) ∷ all_frames xs (take x.floor (replaced e.base e.start fs cs)))
-        ≡ (if b then fs ∷ all_frames xs (take x.floor cs) else frame_of x cs ∷ set_depth (all_frames xs (take x.floor cs)) d fs))
+      ≡ (if b then fs ∷ all_frames xs (take x.floor cs) else frame_of x cs ∷ set_depth (all_frames xs (take x.floor cs)) d fs))
       × (all_operands (x ∷ xs) (replaced e.base e.start fs cs) ≡ all_operands (x ∷ xs) cs)
   swaps_by true x xs cs a h q =
       let s : x ≡ e = same_Some x e q in

@@ -433,7 +433,11 @@ fn add_event(cells: &mut Vec<Cell>, event: Event)
 }
 
 // The frame of a call: the newest of these operands are its parameters, nothing where there are none, and its other cells are 0.
-fn new_frame(alloc: Global, operands: &[Cell], routine: RoutineCode) -> Result<Vec<Cell>, AllocError>
+fn new_frame(
+    alloc: Global,
+    operands: &[Cell],
+    routine: RoutineCode,
+) -> Result<Vec<Cell>, AllocError>
     ensures { IfOk result (λ cells. cells.items ≡ call_frame routine (reverse operands.now)) }
 {
     let params = routine.params as usize;

@@ -93,7 +93,11 @@ impl Work {
     {
         let made = self.pop();
         let place = self.below(routine.params);
-        self.task.parts.running.block.put_below(routine.params, made);
+        self.task
+            .parts
+            .running
+            .block
+            .put_below(routine.params, made);
         self.write(place, made);
     }
 

@@ -88,7 +88,11 @@ impl Work {
         ensures { self.new ≡ record self.old { env = written (shifted cell (Cell.Place (this_frame self.old) 0)) value self.old.env } }
     {
         let frame = self.task.parts.running.run.frame;
-        self.task.parts.running.block.write(frame, u64::from(cell), value);
+        self.task
+            .parts
+            .running
+            .block
+            .write(frame, u64::from(cell), value);
     }
 
     /// What the place in a cell holds, a mutex object its first field; 0 where the cell is no place, or nothing in hand is there.

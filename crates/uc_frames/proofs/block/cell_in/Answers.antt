@@ -1,4 +1,4 @@
-use Rattle.std.proofs.Common.{rules, ◌≡◌, ◌∷◌, ◌++◌, ◌+◌, ◌-◌, ◌<◌, ◌≤◌, [], List, Some, None, length, take, drop, replicate, reverse, sym, ap, refl, ◌∙◌, arith}
+use Rattle.std.proofs.Common.{arith}
 use Rattle.uc_frames.proofs.Extents.{cell_read, cell_past}
 use Rattle.uc_frames.proofs.block.cell_in.Goals as goal
 

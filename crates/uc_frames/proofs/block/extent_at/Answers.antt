@@ -1,4 +1,4 @@
-use Rattle.std.proofs.Common.{rules, ◌≡◌, ◌∷◌, ◌++◌, ◌+◌, ◌-◌, ◌<◌, ◌≤◌, [], List, Some, None, length, take, drop, replicate, reverse, sym, ap, refl, ◌∙◌, arith}
+use Rattle.std.proofs.Common.{◌<◌, length, sym, refl, ◌∙◌, arith}
 use Rattle.std.proofs.lemmas.Option.{slice_get_read}
 use Rattle.uc_frames.proofs.Depths.{waiting_at, running_at, none_at}
 use Rattle.uc_frames.proofs.block.extent_at.Goals as goal

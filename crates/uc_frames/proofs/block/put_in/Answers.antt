@@ -1,4 +1,4 @@
-use Rattle.std.proofs.Common.{◌+◌, ◌∙◌, ap, arith, slice_set}
+use Rattle.std.proofs.Common.{◌+◌, ◌∙◌, ap, slice_set}
 use Rattle.uc_frames.proofs.Extents.{cell_put, cell_not_put}
 use Rattle.uc_frames.proofs.block.put_in.Goals as goal
 

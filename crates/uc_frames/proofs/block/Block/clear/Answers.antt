@@ -1,6 +1,6 @@
-use Rattle.std.proofs.Common.{rules, ◌≡◌, ◌∷◌, ◌++◌, ◌+◌, ◌-◌, ◌<◌, ◌≤◌, [], List, Some, None, length, take, drop, replicate, reverse, sym, ap, refl, ◌∙◌, arith}
+use Rattle.std.proofs.Common.{◌≡◌, ◌∷◌, Some, None, length, reverse, sym, ap, ◌∙◌}
 use Rattle.uc_machine.specs.Executions.{at_depth, values_cleared}
-use Rattle.uc_frames.specs.Machine.{cell_written, nought}
+use Rattle.uc_frames.specs.Machine.{nought}
 use Rattle.uc_frames.specs.Block.{contents}
 use Rattle.uc_frames.proofs.Extents.{frame_cleared, frame_unchanged, within}
 use Rattle.uc_frames.proofs.block.Block.clear.Goals as goal

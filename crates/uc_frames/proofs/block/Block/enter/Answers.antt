@@ -1,4 +1,4 @@
-use Rattle.std.proofs.Common.{rules, ◌≡◌, ◌∷◌, ◌++◌, ◌+◌, ◌-◌, ◌<◌, ◌≤◌, [], List, Some, None, length, take, drop, replicate, reverse, sym, ap, refl, ◌∙◌, arith}
+use Rattle.std.proofs.Common.{rules, ◌≡◌, ◌∷◌, ◌++◌, ◌+◌, ◌-◌, [], length, replicate, reverse, ap, ◌∙◌, arith}
 use Rattle.std.proofs.lemmas.List.{reverse-append}
 use Rattle.std.proofs.lemmas.Grind.{common_steps}
 use Rattle.uc_frames.specs.declared.block.Extent.{Extent}

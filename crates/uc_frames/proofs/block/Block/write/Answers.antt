@@ -1,4 +1,4 @@
-use Rattle.std.proofs.Common.{rules, ◌≡◌, ◌∷◌, ◌∙◌, length, reverse, Some, sym, ap, arith}
+use Rattle.std.proofs.Common.{rules, ◌≡◌, ◌∷◌, ◌∙◌, length, reverse, Some, ap, arith}
 use Rattle.uc_machine.specs.Executions.{at_depth}
 use Rattle.uc_frames.specs.Block.{contents}
 use Rattle.uc_frames.proofs.Depths.{running_at}

@@ -1,6 +1,6 @@
-use Rattle.std.proofs.Common.{rules, ◌≡◌, ◌∷◌, ◌++◌, ◌+◌, ◌-◌, ◌<◌, ◌≤◌, [], List, Some, None, length, take, drop, replicate, reverse, sym, ap, refl, ◌∙◌, arith}
-use Rattle.uc_machine.specs.Executions.{at_depth, values_cleared}
-use Rattle.uc_frames.specs.Machine.{cell_written, nought}
+use Rattle.std.proofs.Common.{◌≡◌, ◌∷◌, Some, None, length, reverse, sym, ap, ◌∙◌}
+use Rattle.uc_machine.specs.Executions.{at_depth}
+use Rattle.uc_frames.specs.Machine.{cell_written}
 use Rattle.uc_frames.specs.Block.{contents}
 use Rattle.uc_frames.proofs.Extents.{frame_written, frame_unchanged, within}
 use Rattle.uc_frames.proofs.block.Block.write_older.Goals as goal

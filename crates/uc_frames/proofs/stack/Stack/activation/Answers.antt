@@ -1,4 +1,4 @@
-use Rattle.std.proofs.Common.{◌≡◌, ◌<◌, ◌∙◌, ◌∷◌, arith, refl, length, reverse, Some, None}
+use Rattle.std.proofs.Common.{◌≡◌, ◌<◌, ◌∙◌, ◌∷◌, arith, refl, length, reverse, Some}
 use Rattle.std.proofs.lemmas.Option.{slice_get_read}
 use Rattle.uc_machine.specs.Executions.{at_depth}
 use Rattle.uc_frames.proofs.Completed.{none_there, one_there}

@@ -1,4 +1,4 @@
-use Rattle.std.proofs.Common.{rules, ◌≡◌, ◌∷◌, ◌++◌, ◌+◌, ◌-◌, ◌<◌, [], Some, length, reverse, take, refl, sym, ap, ◌∙◌, arith, get_or}
+use Rattle.std.proofs.Common.{rules, ◌≡◌, ◌-◌, length, ap, ◌∙◌, arith, get_or}
 use Rattle.uc_frames.proofs.Completed.{none_waits, caller_is}
 use Rattle.uc_frames.proofs.stack.Stack.caller.Goals as goal
 

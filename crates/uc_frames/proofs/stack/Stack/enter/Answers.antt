@@ -1,5 +1,5 @@
-use Rattle.std.proofs.Common.{rules, ◌≡◌, ◌∷◌, ◌++◌, ◌+◌, ◌-◌, ◌<◌, [], Some, length, reverse, take, refl, sym, ap, ◌∙◌, arith, get_or}
-use Rattle.uc_machine.specs.Executions.{begun, one_call_more}
+use Rattle.std.proofs.Common.{◌≡◌, ◌∷◌, ◌++◌, [], length, ap, ◌∙◌}
+use Rattle.uc_machine.specs.Executions.{begun}
 use Rattle.uc_frames.specs.declared.cell.Cell.TheVariants.{Nothing}
 use Rattle.uc_frames.specs.Block.{completed, with_call}
 use Rattle.uc_frames.specs.Calls.{call_frame}

@@ -1,4 +1,4 @@
-use Rattle.std.proofs.Common.{rules, ◌≡◌, ◌∷◌, ◌++◌, ◌+◌, ◌-◌, ◌<◌, [], Some, length, reverse, take, refl, sym, ap, ◌∙◌, arith, get_or}
+use Rattle.std.proofs.Common.{◌≡◌, ◌∷◌, ◌++◌, [], ap, ◌∙◌}
 use Rattle.uc_frames.proofs.Completed.{stack_of, handler_is_made}
 use Rattle.uc_frames.proofs.stack.Stack.enter_handler.Goals as goal
 

@@ -1,8 +1,6 @@
-use Rattle.std.proofs.Common.{rules, ◌≡◌, ◌∷◌, ◌++◌, ◌+◌, ◌-◌, ◌<◌, [], Some, length, reverse, take, refl, sym, ap, ◌∙◌, arith, get_or}
-use Rattle.uc_machine.specs.Executions.{one_call_less}
+use Rattle.std.proofs.Common.{rules, ◌≡◌, ◌∷◌, ◌-◌, [], length, take, refl, ap, ◌∙◌, arith, get_or}
 use Rattle.uc_frames.specs.Block.{with_return}
-use Rattle.uc_frames.proofs.Completed.{stack_of, none_waits, completed_count, goes_back}
-use Rattle.std.proofs.lemmas.List.{length-reverse}
+use Rattle.uc_frames.proofs.Completed.{stack_of, none_waits, goes_back}
 use Rattle.uc_frames.proofs.stack.Stack.leave.Goals as goal
 
 pub returns-then-waiting-eq0-clause-called : goal.returns-then-waiting-eq0-clause-called

@@ -1,7 +1,6 @@
-use Rattle.std.proofs.Common.{rules, ◌≡◌, ◌∷◌, ◌++◌, ◌+◌, ◌-◌, ◌<◌, [], Some, length, reverse, take, refl, sym, ap, ◌∙◌, arith, get_or}
-use Rattle.uc_machine.specs.Executions.{one_call_less}
+use Rattle.std.proofs.Common.{rules, ◌≡◌, ◌-◌, Some, length, take, ap, ◌∙◌, arith, get_or}
 use Rattle.uc_frames.specs.Block.{without_call}
-use Rattle.uc_frames.proofs.Completed.{stack_of, none_waits, unwinds_back}
+use Rattle.uc_frames.proofs.Completed.{stack_of, unwinds_back}
 use Rattle.uc_frames.proofs.stack.Stack.leave_unwinding.Goals as goal
 
 pub returns-clause-after : goal.returns-clause-after
