@@ -3,7 +3,7 @@ use Rattle.std.proofs.lemmas.Grind.{common_steps}
 use Rattle.uc_frames.specs.declared.cell.Cell.TheVariants.{Nothing}
 use Rattle.uc_frames.specs.Machine.{nought}
 use Rattle.uc_frames.proofs.Newest.{framed}
-use Rattle.uc_frames.proofs.operands.new_frame.Goals as goal
+use Rattle.uc_frames.proofs.block.new_frame.Goals as goal
 
 pub returns : goal.returns
 returns c =
