@@ -1,0 +1,3 @@
+pub mod NamedResting
+pub mod Placed
+pub mod BindingLaws
