@@ -40,5 +40,5 @@ module _ (opts : Options) (j : Journal) (t : ℕ) (hand : List ℕ) where
 pub law_left : LawLeft
 law_left p formed ok input opts range left =
     law_holds p formed ok input opts range (λ j w r f on q t n s asked d.
-        let l = left j w r f on q t n s asked d in
-        by_hand opts j t (keys s.env.hand) asked.request (law_in_hand (part_of p) (source_of p) (law_entered p formed ok) (law_inner p formed ok).source input opts j w r range f l.1 on q t n s asked d l.2) l.0)
+    let l = left j w r f on q t n s asked d in
+    by_hand opts j t (keys s.env.hand) asked.request (law_in_hand (part_of p) (source_of p) (law_entered p formed ok) (law_inner p formed ok).source input opts j w r range f l.1 on q t n s asked d l.2) l.0)
