@@ -27,7 +27,7 @@ use Rattle.uc_machine.specs.Pieces as piece
 use Rattle.uc_machine.specs.Pieces.{Value, Number, Object, Nothing, Todo, Sort, Active, State, Env, Members, Step, Asks, Outcome, Gives, Faults, at, in_env, fault, top, below, number, written, object_in}
 use Rattle.uc_depth_laws.proofs.Kept.{either}
 use Rattle.uc_inner_laws.specs.Inner.{Part, Plain, Helper, Maker, Ground, ground_of, count, params_at, params, IsPlain, CalledOn, SetsUp, InnerExpr, InnerObject, InnerClean, InnerStmts, InnerStmt, InnerEvent, InnerTask, InnerHandlers, InnerRoutine}
-use Rattle.uc_inner_laws.specs.Standing.{Mark, Any, Own, Thing, IsThing, Holds, rest, rests, anys, bound, IsThere, IsObject, Known, ground, Ready, LeftBy, Ok, Left, IsHome, Backs, IsHere, Stands, Waits, StandsEnv, StandsWith, StandsState, brings, StandsAsk, StandsIn, StandsStep}
+use Rattle.uc_inner_laws.specs.Standing.{Mark, Any, Own, IsThing, Holds, rest, rests, anys, bound, IsThere, IsObject, Known, ground, Ready, LeftBy, Ok, Left, IsHome, Backs, IsHere, Stands, Waits, StandsEnv, StandsWith, StandsState, brings, StandsAsk, StandsIn, StandsStep}
 use Rattle.uc_inner_laws.proofs.Keeping as kept
 use Rattle.uc_inner_laws.proofs.Keeping.{Kept}
 use Rattle.uc_inner_laws.proofs.Marking as marks
@@ -52,7 +52,8 @@ module _ (part : ℕ → Part) (source : Source) (mine : ℕ) where
           run = record { ground = base; marks = ns; holds = k; ok = h; backed = x.backed; thing = x.thing };
           callers = x.callers;
           env = x.env;
-          own = x.own; here = x.here;
+          own = x.own;
+          here = x.here;
         })
 
     -- the environment changed in nothing that is kept
@@ -80,7 +81,8 @@ module _ (part : ℕ → Part) (source : Source) (mine : ℕ) where
       };
       callers = x.callers;
       env = x.env;
-      own = x.own; here = x.here;
+      own = x.own;
+      here = x.here;
     }
 
     -- with a request
@@ -144,7 +146,8 @@ module _ (part : ℕ → Part) (source : Source) (mine : ℕ) where
       run = record { ground = c.0.ground; marks = Any ∷ c.0.marks; holds = (tt, c.0.holds); ok = c.0.ok; backed = c.0.backed; thing = c.0.thing };
       callers = c.1;
       env = kept.same part source mine x.env refl refl refl;
-      own = x.own; here = x.here;
+      own = x.own;
+      here = x.here;
     }
 
     -- an activation is left for one that waits, which is to be unwound
@@ -263,7 +266,8 @@ module _ (part : ℕ → Part) (source : Source) (mine : ℕ) where
         x.callers,
       );
       env = kept.same part source mine x.env refl refl refl;
-      own = x.own; here = x.here;
+      own = x.own;
+      here = x.here;
     }
 
     pub raises : (ms : List Mark) (e : raising.Event) (todo : List Todo) → Holds s.run.this ms s.run.operands → Ok part source base (rests 3 ms) todo → StandsStep part source mine s (raising.raise_step e todo s)
@@ -457,7 +461,8 @@ module _ (part : ℕ → Part) (source : Source) (mine : ℕ) where
         run = record { ground = ground_of p; marks = []; holds = tt; ok = lists.routine part source (ground_of p) r n; backed = b; thing = t };
         callers = (record { ground = base; marks = ns; holds = k; ok = h; backed = x.backed; thing = x.thing }, x.callers);
         env = kept.same part source mine x.env refl refl refl;
-        own = x.own; here = x.here;
+        own = x.own;
+        here = x.here;
       }
 
       dropped : (n : ℕ) → Holds s.run.this (rests n ms) (drop n s.run.operands)
@@ -541,7 +546,8 @@ module _ (part : ℕ → Part) (source : Source) (mine : ℕ) where
           run = record { ground = base; marks = ms; holds = holds; ok = lists.polled part source base s.run.raised ms todo h; backed = x.backed; thing = x.thing };
           callers = x.callers;
           env = kept.same part source mine x.env refl refl refl;
-          own = x.own; here = x.here;
+          own = x.own;
+          here = x.here;
         };
         inside = tt;
         hand = λ q j. j;
@@ -584,7 +590,7 @@ module _ (part : ℕ → Part) (source : Source) (mine : ℕ) where
       raise_at v e todo vs h = pend_at (piece.exec_at v s.env) e todo vs h
 
       pub enables : (events cell : ℕ) (todo : List Todo) → Ok part source base [] todo → StandsStep part source mine s (polls.enable_step events cell todo s)
-      enables events cell todo h = 
+      enables events cell todo h =
           let w = write (piece.variable_at cell s) (Number (signed_64 s.env.links.enabled)) in
           go_in [] _ _ _ tt h (record { env = kept.same part source mine w.env refl refl refl; exec = w.exec; own = w.own; hand = w.hand })
 
