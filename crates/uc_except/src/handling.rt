@@ -130,12 +130,12 @@ fn handling_at(work: &Work, row: HandlerRow, frame: u32, event: Event) -> Option
         None => None,
         Some(active) => Some(HandlerStart {
             entry: row.entry,
-            this: active.this(),
-            frame: active.frame(),
+            this: active.this,
+            frame: active.frame,
             visited: Visited {
                 level: frame,
                 rest: row.rest,
-                home: home_at(active.handles(), frame),
+                home: home_at(active.handles, frame),
             },
             event,
         }),

@@ -26,3 +26,5 @@ pub mod Switches
 pub mod Values
 pub mod Weights
 pub mod Zeros
+pub mod Completed
+pub mod Extents

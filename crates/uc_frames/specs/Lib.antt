@@ -1,5 +1,6 @@
 pub mod UnwindingOutcomes
 pub mod PaceInvariant
+pub mod Block
 pub mod Calls
 pub mod Machine
 pub mod Numbered

@@ -1,8 +1,10 @@
 // The activations of the execution that runs: calls, their ends, handlers, and what events do to them.
 
-ghost use Rattle.std.specs.Prelude.{◌≡◌, ◌-◌, ◌<◌, ◌∷◌, [], length, reverse, nat_lt, None, Some, IfOk, OnOk, OnErr, MatchOption, slice_get, true};
+ghost use Rattle.std.specs.Prelude.{◌≡◌, ◌-◌, ◌<◌, ◌∷◌, [], List, length, reverse, nat_lt, None, Some, IfOk, OnOk, OnErr, MatchOption, slice_get, true};
 ghost use Rattle.uc_machine.specs.Executions.{at_depth, calmed};
 ghost use Rattle.uc_machine.specs.Insides.{counted_no_more};
+ghost use Rattle.uc_frames.specs.declared.cell.Cell.{Cell};
+ghost use Rattle.uc_frames.specs.Block.{completed, all_completed};
 ghost use Rattle.uc_frames.specs.Machine.{line_in, line_at};
 ghost use Rattle.uc_frames.specs.Calls.{left, called};
 ghost use Rattle.uc_frames.specs.Objects.{arrived_at};
@@ -13,11 +15,8 @@ use crate::active::Activation;
 use crate::call::Call;
 use crate::cell::Cell;
 use crate::event::{Event, HandlerStart};
-use crate::operands::{drop_newest, new_frame, put_event};
-use crate::stack::take_list;
 use crate::work::Work;
 use std::alloc::AllocError;
-use std::mem;
 use uc_code::code::Code;
 use uc_machine::exec::{UnwindReason, Visited};
 
@@ -70,24 +69,7 @@ impl Work {
         ensures ok { OnOk result (self.new ≡ called call self.old) }
         ensures err { OnErr result (self.new ≡ self.old) }
     {
-        let running = &mut self.task.parts.running;
-        let depth = running.frames.len() as u32;
-        if depth == u32::MAX {
-            return Err(AllocError);
-        }
-        if running.callers.len() as u32 == u32::MAX {
-            return Err(AllocError);
-        }
-        let empty = take_list(running.alloc, &mut running.spare);
-        let operands = take_list(running.alloc, &mut running.spare);
-        let frame = new_frame(empty, &running.run.operands, call.routine)?;
-        running.callers.reserve(1)?;
-        running.frames.push(frame)?;
-        let callee = Activation::new(operands, call.routine.entry, call.this, depth, call.counts);
-        let mut caller = mem::replace(&mut running.run, callee);
-        drop_newest(&mut caller.operands, call.taken);
-        running.callers.push_reserved(caller);
-        running.links.enter(call.counts);
+        self.task.parts.running.enter(call)?;
         Ok(())
     }
 
@@ -98,30 +80,21 @@ impl Work {
         ensures after { OnOk result (self.new ≡ left given self.old.callers self.old) }
         ensures err { OnErr result (self.new ≡ self.old) }
     {
-        let running = &mut self.task.parts.running;
-        match running.callers.pop() {
-            None => Ok(false),
-            Some(mut caller) => {
-                if caller.operands.push(given).is_err() {
-                    running.callers.push_reserved(caller);
-                    return Err(AllocError);
-                }
-                running.go_back(caller);
-                Ok(true)
-            }
-        }
+        let called = self.task.parts.running.leave(given)?;
+        Ok(called)
     }
 
     /// How many activations wait for the running one.
     pub fn level(&self) -> u32
         ensures { result ≡ length self.now.callers }
     {
-        self.task.parts.running.callers.len() as u32
+        self.task.parts.running.level()
     }
 
-    /// The activation that has so many below it.
+    /// The activation that has so many below it, but for its operands.
     pub fn activation(&self, level: u32) -> Option<&Activation>
-        ensures { MatchOption result (at_depth (self.now.run ∷ self.now.callers) level ≡ None) (λ a. at_depth (self.now.run ∷ self.now.callers) level ≡ Some a.now) }
+        ensures { MatchOption result (at_depth (self.now.run ∷ self.now.callers) level ≡ None)
+            (λ a. (os : List Cell) × (at_depth (self.now.run ∷ self.now.callers) level ≡ Some (completed a.now os))) }
     {
         self.task.parts.running.activation(level)
     }
@@ -165,36 +138,36 @@ impl Work {
     pub fn caller(&self) -> Option<Option<UnwindReason>>
         ensures { MatchOption result (self.now.callers ≡ []) (λ why. IsCaller why self.now.callers) }
     {
-        match self.task.parts.running.callers.last() {
-            None => None,
-            Some(caller) => Some(caller.raised),
-        }
+        self.task.parts.running.caller()
     }
 
     /// The running activation is unwound for this reason, from its place on; a return that arrives hands this over.
     pub fn unwind(&mut self, why: UnwindReason, given: Cell)
         ensures { self.new ≡ record self.old { run = unwound_by why given self.old.run } }
     {
-        self.task.parts.running.run.unwind(why, given);
+        let running = &mut self.task.parts.running;
+        running.block.drop_all();
+        running.run.raised = Some(why);
+        running.run.result = given;
     }
 
     /// The unwinding of the running activation is over: it goes on at this op.
     pub fn end_unwinding(&mut self, to: u32)
         ensures { self.new ≡ record self.old { run = calmed to self.old.run } }
     {
-        let run = &mut self.task.parts.running.run;
-        run.operands.clear();
-        run.next = to;
-        run.raised = None;
+        let running = &mut self.task.parts.running;
+        running.block.drop_all();
+        running.run.next = to;
+        running.run.raised = None;
     }
 
     /// A clean-up of the running activation begins at this op.
     pub fn begin_clean_up(&mut self, entry: u32)
         ensures { self.new ≡ record self.old { run = cleaning entry self.old.run } }
     {
-        let run = &mut self.task.parts.running.run;
-        run.operands.clear();
-        run.next = entry;
+        let running = &mut self.task.parts.running;
+        running.block.drop_all();
+        running.run.next = entry;
     }
 
     /// The handler at this op catches an event in the running activation.
@@ -202,10 +175,10 @@ impl Work {
         ensures ok { OnOk result (self.new ≡ record self.old { run = catching entry event self.old.run }) }
         ensures err { OnErr result (self.new ≡ self.old) }
     {
-        let run = &mut self.task.parts.running.run;
-        put_event(&mut run.operands, event)?;
-        run.next = entry;
-        run.raised = None;
+        let running = &mut self.task.parts.running;
+        running.block.put_event(event)?;
+        running.run.next = entry;
+        running.run.raised = None;
         Ok(())
     }
 
@@ -215,15 +188,8 @@ impl Work {
         ensures called { result ≡ nat_lt 0 (length self.old.callers) }
         ensures after { self.new ≡ passed why given self.old.callers self.old }
     {
-        let running = &mut self.task.parts.running;
-        match running.callers.pop() {
-            None => false,
-            Some(mut caller) => {
-                caller.unwind(why, given);
-                running.go_back(caller);
-                true
-            }
-        }
+        let called = self.task.parts.running.leave_unwinding(why, given);
+        called
     }
 
     /// The handler of a resumption begins on top, with an empty frame of its own.
@@ -231,21 +197,7 @@ impl Work {
         ensures ok { OnOk result (self.new ≡ handled handling self.old) }
         ensures err { OnErr result (self.new ≡ self.old) }
     {
-        let running = &mut self.task.parts.running;
-        if running.frames.len() as u32 == u32::MAX {
-            return Err(AllocError);
-        }
-        if running.callers.len() as u32 == u32::MAX {
-            return Err(AllocError);
-        }
-        let frame = take_list(running.alloc, &mut running.spare);
-        let mut operands = take_list(running.alloc, &mut running.spare);
-        operands.reserve(3)?;
-        running.callers.reserve(1)?;
-        running.frames.push(frame)?;
-        let handler = Activation::handler(operands, handling);
-        let raiser = mem::replace(&mut running.run, handler);
-        running.callers.push_reserved(raiser);
+        self.task.parts.running.enter_handler(handling)?;
         Ok(())
     }
 
@@ -263,25 +215,23 @@ impl Work {
         ensures ok { OnOk result (self.new ≡ record self.old { run = arrived_at to self.old.run }) }
         ensures err { OnErr result (self.new ≡ self.old) }
     {
-        let run = &mut self.task.parts.running.run;
-        run.operands.reserve(1)?;
-        run.operands.clear();
-        run.operands.push_reserved(run.result);
-        run.next = to;
-        run.raised = None;
+        let running = &mut self.task.parts.running;
+        running.block.replace_all(running.run.result)?;
+        running.run.next = to;
+        running.run.raised = None;
         Ok(())
     }
 }
 
 // The line of an op, or of the newest of these calls that has one.
 fn line_from(code: &Code, callers: &[Activation], line: u32) -> u32
-    ensures { result ≡ line_at code.now.ops line (reverse callers.now) }
+    ensures { (os : List (List Cell)) → result ≡ line_at code.now.ops line (all_completed (reverse callers.now) os) }
 {
     match callers.split_last() {
         None => line,
         Some((caller, outer)) => {
             if line == 0 {
-                line_from(code, outer, line_before(code, caller.next()))
+                line_from(code, outer, line_before(code, caller.next))
             } else {
                 line
             }

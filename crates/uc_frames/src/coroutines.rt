@@ -13,7 +13,6 @@ use crate::cell::{Cell, exec_in};
 use crate::event::event_of;
 use crate::links::drop_enabled;
 use crate::numbered::{is_same_home, position};
-use crate::operands::push_event;
 use crate::parked::ParkedStack;
 use crate::work::Work;
 use std::alloc::AllocError;
@@ -220,8 +219,7 @@ impl Work {
         match running.links.oldest_enabled() {
             None => Ok(false),
             Some(pending) => {
-                running.run.operands.reserve(3)?;
-                push_event(&mut running.run.operands, event_of(pending));
+                running.block.push_event(event_of(pending))?;
                 drop_enabled(&mut running.links.pending, running.links.enabled);
                 Ok(true)
             }

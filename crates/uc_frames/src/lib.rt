@@ -3,6 +3,7 @@
 
 mod activations;
 pub mod active;
+pub mod block;
 pub mod call;
 pub mod cell;
 mod coroutines;

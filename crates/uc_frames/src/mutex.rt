@@ -11,7 +11,6 @@ ghost use Rattle.uc_frames.specs.Unwinding.{failure, operands_of};
 
 use crate::cell::{Cell, number_in};
 use crate::members::Members;
-use crate::operands::put_below;
 use crate::task::Task;
 use crate::work::Work;
 use std::alloc::AllocError;
@@ -94,8 +93,11 @@ impl Work {
     {
         let made = self.pop();
         let place = self.below(routine.params);
-        let operands = &mut self.task.parts.running.run.operands;
-        put_below(operands, routine.params, made);
+        self.task
+            .parts
+            .running
+            .block
+            .put_below(routine.params, made);
         self.write(place, made);
     }
 
@@ -131,7 +133,7 @@ impl Work {
     {
         self.push_all(&[Cell::Number(0), Cell::Number(0)])?;
         let failure = Cell::Number(i64::from(FAILURE));
-        put_below(&mut self.task.parts.running.run.operands, 2, failure);
+        self.task.parts.running.block.put_below(2, failure);
         Ok(())
     }
 }

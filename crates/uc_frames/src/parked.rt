@@ -5,7 +5,6 @@ ghost use Rattle.uc_machine.specs.Executions.{at_depth, list_in, frame_changed};
 ghost use Rattle.uc_frames.specs.Machine.{nought, cell_written, fresh_execution, lively, pended};
 
 use crate::cell::Cell;
-use crate::frames::{read_in, write_in};
 use crate::stack::Stack;
 use std::alloc::{AllocError, Global};
 use std::marker::Model;
@@ -57,14 +56,14 @@ impl ParkedStack {
     pub(crate) fn read(&self, depth: u32, at: u64) -> Cell
         ensures { result ≡ slice_index_or (list_in (at_depth self.now.frames depth)) at nought }
     {
-        read_in(&self.stack.frames, depth, at)
+        self.stack.block.read(depth, at)
     }
 
     // A cell is written at a place of a frame; a binding stays.
     pub(crate) fn write(&mut self, depth: u32, at: u64, cell: Cell)
         ensures { self.new ≡ record self.old { frames = frame_changed depth (cell_written at cell) self.old.frames } }
     {
-        write_in(&mut self.stack.frames, depth, at, cell);
+        self.stack.block.write(depth, at, cell);
     }
 
     // Its coroutine is live; or it is no more, and its main does not begin, or go on, any more.

@@ -1,40 +1,45 @@
 // The stack of one execution.
 
-ghost use Rattle.std.specs.Prelude.{◌≡◌, ◌∷◌, [], drop, None, Some, IfOk, MatchOption, replicate};
-ghost use Rattle.uc_machine.specs.Executions.{at_depth, one_call_less};
+ghost use Rattle.std.specs.Prelude.{◌≡◌, ◌<◌, ◌∷◌, [], List, length, nat_lt, None, Some, IfOk, OnOk, OnErr, MatchOption, true};
+ghost use Rattle.uc_machine.specs.Executions.{at_depth};
+ghost use Rattle.uc_frames.specs.declared.cell.Cell.{Cell};
+ghost use Rattle.uc_frames.specs.Block.{completed, call_made, call_left, handler_made, unwound_back};
 ghost use Rattle.uc_frames.specs.Machine.{first_execution};
+ghost use Rattle.uc_frames.specs.Unwinding.{IsCaller};
+ghost use Rattle.uc_tree.specs.declared.limits.TheConstants.{CALLS};
 
 use crate::active::Activation;
+use crate::block::Block;
+use crate::call::Call;
 use crate::cell::Cell;
-use crate::frames::zeros;
+use crate::event::HandlerStart;
 use crate::links::Links;
 use std::alloc::{AllocError, Global};
 use std::marker::Model;
-use std::mem;
 use uc_code::rows::RoutineCode;
+use uc_machine::exec::UnwindReason;
 
-/// An execution: its newest activation, those that wait for it, its frames and its links. The lists of calls that have ended
-/// are kept, so that a call takes memory only where no call before it left enough.
+/// An execution: its newest activation, those that wait for it, its frames and operands in one block, and its links. What a call
+/// leaves behind is used by the next, so that a call takes memory only where no call before it left enough.
 #[derive(Drop)]
 pub struct Stack {
-    pub(crate) alloc: Global,
     pub(crate) run: Activation,
     pub(crate) callers: Vec<Activation>,
-    pub(crate) frames: Vec<Vec<Cell>>,
+    pub(crate) block: Block,
     pub(crate) links: Links,
-    pub(crate) spare: Vec<Vec<Cell>>,
 }
 
 impl Model for Stack {
-    ghost use Rattle.std.specs.Prelude.{ℕ, ◌<◌, ◌^◌, map, reverse, vec_len};
+    ghost use Rattle.std.specs.Prelude.{ℕ, ◌≡◌, ◌<◌, ◌^◌, length, reverse, vec_len};
     ghost use Rattle.uc_machine.specs.Executions.{Execution};
     ghost use Rattle.uc_frames.specs.declared.cell.Cell.{Cell};
+    ghost use Rattle.uc_frames.specs.Block.{completed, all_completed};
 
     ghost Value = { Execution ℕ Cell };
 
-    ghost view = { λ s. record { run = s.run; callers = reverse s.callers.items; frames = reverse (map (λ f. f.items) s.frames.items); links = s.links } };
+    ghost view = { λ s. record { run = completed s.run s.block.operands; callers = all_completed (reverse s.callers.items) s.block.waiting; frames = s.block.frames; links = s.links } };
 
-    ghost invariant = { λ s. (vec_len s.frames < 2 ^ 32) × (vec_len s.callers < 2 ^ 32) };
+    ghost invariant = { λ s. (vec_len s.callers < 2 ^ 32) × (length s.callers.items ≡ length s.block.waiting) };
 }
 
 impl Stack {
@@ -46,22 +51,19 @@ impl Stack {
     ) -> Result<Stack, AllocError>
         ensures { IfOk result (λ s. s ≡ first_execution routine this) }
     {
-        let frame = zeros(alloc, routine.cells)?;
-        let mut frames = Vec::new(alloc);
-        frames.push(frame)?;
+        let block = Block::first(alloc, routine.cells)?;
         Ok(Stack {
-            alloc,
-            run: Activation::new(Vec::new(alloc), routine.entry, this, 0, false),
+            run: Activation::new(routine.entry, this, 0, false),
             callers: Vec::new(alloc),
-            frames,
+            block,
             links: Links::new(alloc),
-            spare: Vec::new(alloc),
         })
     }
 
     // The activation that has so many below it.
     pub(crate) fn activation(&self, level: u32) -> Option<&Activation>
-        ensures { MatchOption result (at_depth (self.now.run ∷ self.now.callers) level ≡ None) (λ a. at_depth (self.now.run ∷ self.now.callers) level ≡ Some a.now) }
+        ensures { MatchOption result (at_depth (self.now.run ∷ self.now.callers) level ≡ None)
+            (λ a. (os : List Cell) × (at_depth (self.now.run ∷ self.now.callers) level ≡ Some (completed a.now os))) }
     {
         let waiting = self.callers.len();
         let level = level as usize;
@@ -74,29 +76,98 @@ impl Stack {
         None
     }
 
-    // This activation goes on in the place of the newest one, which goes with its frame.
-    pub(crate) fn go_back(&mut self, caller: Activation)
-        ensures { self.new ≡ record self.old { run = caller; frames = drop 1 self.old.frames; links = one_call_less self.old.run.counts self.old.links } }
+    // Whether an activation waits, and why it is unwound, if it is.
+    pub(crate) fn caller(&self) -> Option<Option<UnwindReason>>
+        ensures { MatchOption result (self.now.callers ≡ []) (λ why. IsCaller why self.now.callers) }
     {
-        let left = mem::replace(&mut self.run, caller);
-        self.links.leave(left.counts);
-        let _ = self.spare.push(left.operands);
-        if let Some(frame) = self.frames.pop() {
-            let _ = self.spare.push(frame);
+        let waiting = self.callers.len();
+        if waiting == 0 {
+            return None;
         }
+        Some(self.callers[waiting - 1].raised)
     }
-}
 
-// An empty list, one of these if there are any.
-pub(crate) fn take_list(alloc: Global, spare: &mut Vec<Vec<Cell>>) -> Vec<Cell>
-    ensures { result.items ≡ [] }
-{
-    match spare.pop() {
-        None => Vec::new(alloc),
-        Some(list) => {
-            let mut list = list;
-            list.clear();
-            list
+    // How many activations wait.
+    #[inline(always)]
+    pub(crate) fn level(&self) -> u32
+        ensures { result ≡ length self.now.callers }
+    {
+        self.callers.len() as u32
+    }
+
+    // Makes a call. Executions of `u32::MAX` frames, or activations that wait, make no more.
+    pub(crate) fn enter(&mut self, call: Call) -> Result<(), AllocError>
+        requires { call.counts ≡ true → self.old.links.calls < CALLS }
+        ensures ok { OnOk result (self.new ≡ call_made call self.old) }
+        ensures err { OnErr result (self.new ≡ self.old) }
+    {
+        let depth = self.block.depth();
+        if depth >= u32::MAX as usize {
+            return Err(AllocError);
         }
+        if self.callers.len() as u32 == u32::MAX {
+            return Err(AllocError);
+        }
+        self.callers.reserve(1)?;
+        self.block.enter(call.routine, call.taken)?;
+        self.callers.push_reserved(self.run);
+        self.run = Activation::new(call.routine.entry, call.this, depth as u32, call.counts);
+        self.links.enter(call.counts);
+        Ok(())
+    }
+
+    // The handler of a resumption begins on top, with an empty frame of its own.
+    pub(crate) fn enter_handler(&mut self, handling: HandlerStart) -> Result<(), AllocError>
+        ensures ok { OnOk result (self.new ≡ handler_made handling self.old) }
+        ensures err { OnErr result (self.new ≡ self.old) }
+    {
+        if self.block.depth() >= u32::MAX as usize {
+            return Err(AllocError);
+        }
+        if self.callers.len() as u32 == u32::MAX {
+            return Err(AllocError);
+        }
+        self.callers.reserve(1)?;
+        self.block.enter_handler(handling.event)?;
+        self.callers.push_reserved(self.run);
+        self.run = Activation::handler(handling);
+        Ok(())
+    }
+
+    // The newest activation is left with its frame, and the one that waits for it goes on with what it is handed. The answer is
+    // whether one waits.
+    pub(crate) fn leave(&mut self, given: Cell) -> Result<bool, AllocError>
+        ensures called { IfOk result (λ called. called ≡ nat_lt 0 (length self.old.callers)) }
+        ensures after { OnOk result (self.new ≡ call_left given self.old.callers self.old) }
+        ensures err { OnErr result (self.new ≡ self.old) }
+    {
+        let waiting = self.callers.len();
+        if waiting == 0 {
+            return Ok(false);
+        }
+        self.block.leave(given)?;
+        self.links.leave(self.run.counts);
+        self.run = self.callers[waiting - 1];
+        self.callers.truncate(waiting - 1);
+        Ok(true)
+    }
+
+    // The newest activation is left with its frame, and the one that waits for it is unwound in its turn, for this reason and with
+    // what a return that arrives hands over. The answer is whether one waits.
+    pub(crate) fn leave_unwinding(&mut self, why: UnwindReason, given: Cell) -> bool
+        ensures called { result ≡ nat_lt 0 (length self.old.callers) }
+        ensures after { self.new ≡ unwound_back why given self.old.callers self.old }
+    {
+        let waiting = self.callers.len();
+        if waiting == 0 {
+            return false;
+        }
+        self.block.leave_unwinding();
+        self.links.leave(self.run.counts);
+        self.run = self.callers[waiting - 1];
+        self.run.raised = Some(why);
+        self.run.result = given;
+        self.callers.truncate(waiting - 1);
+        true
     }
 }

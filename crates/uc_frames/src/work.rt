@@ -7,7 +7,6 @@ ghost use Rattle.uc_machine.specs.Quiet.{with_piece};
 ghost use Rattle.uc_frames.specs.Machine.{nought, cell_written, shifted, loaded, written, this_frame, cleared, with_hand, first_machine};
 
 use crate::cell::Cell;
-use crate::frames::{clear_in, read_in, write_in};
 use crate::members::{House, Members};
 use crate::numbered::position;
 use crate::parked::ParkedStack;
@@ -81,7 +80,7 @@ impl Work {
         ensures { result ≡ loaded (shifted cell (Cell.Place (this_frame self.now) 0)) self.now.env }
     {
         let running = &self.task.parts.running;
-        read_in(&running.frames, running.run.frame, u64::from(cell))
+        running.block.read(running.run.frame, u64::from(cell))
     }
 
     /// A cell of the frame of the running activation is written; a binding stays.
@@ -89,12 +88,11 @@ impl Work {
         ensures { self.new ≡ record self.old { env = written (shifted cell (Cell.Place (this_frame self.old) 0)) value self.old.env } }
     {
         let frame = self.task.parts.running.run.frame;
-        write_in(
-            &mut self.task.parts.running.frames,
-            frame,
-            u64::from(cell),
-            value,
-        );
+        self.task
+            .parts
+            .running
+            .block
+            .write(frame, u64::from(cell), value);
     }
 
     /// What the place in a cell holds, a mutex object its first field; 0 where the cell is no place, or nothing in hand is there.
@@ -116,7 +114,7 @@ impl Work {
         match owner {
             Owner::Frame { exec, depth } => {
                 if self.runs(exec) {
-                    return read_in(&self.task.parts.running.frames, depth, at);
+                    return self.task.parts.running.block.read(depth, at);
                 }
                 match self.parked(exec) {
                     None => Cell::Number(0),
@@ -179,7 +177,7 @@ impl Work {
         match owner {
             Owner::Frame { exec, depth } => {
                 if self.runs(exec) {
-                    write_in(&mut self.task.parts.running.frames, depth, at, cell);
+                    self.task.parts.running.block.write(depth, at, cell);
                 } else {
                     self.write_parked(exec, depth, at, cell);
                 }
@@ -220,7 +218,7 @@ impl Work {
         ensures { self.new ≡ record self.old { env = cleared cell cells self.old } }
     {
         let frame = self.task.parts.running.run.frame;
-        clear_in(&mut self.task.parts.running.frames, frame, cell, cells);
+        self.task.parts.running.block.clear(frame, cell, cells);
     }
 
     /// Whether items are gathered to be printed at once.

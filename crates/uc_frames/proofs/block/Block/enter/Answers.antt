@@ -1,0 +1,21 @@
+use Rattle.std.proofs.Common.{rules, ◌≡◌, ◌∷◌, ◌++◌, ◌+◌, ◌-◌, [], length, replicate, reverse, ap, ◌∙◌, arith}
+use Rattle.std.proofs.lemmas.List.{reverse-append}
+use Rattle.std.proofs.lemmas.Grind.{common_steps}
+use Rattle.uc_frames.specs.declared.block.Extent.{Extent}
+use Rattle.uc_frames.specs.Block.{contents}
+use Rattle.uc_frames.specs.Machine.{nought}
+use Rattle.uc_frames.proofs.Extents.{called_in_place}
+use Rattle.uc_frames.proofs.block.Block.enter.Goals as goal
+
+pub returns-clause-ok : goal.returns-clause-ok
+returns-clause-ok c =
+    let x = c.self.inside.newest in
+    let xs = reverse c.self.inside.older.items in
+    let cs = c.self.inside.cells.items in
+    let r = c.args.routine in
+    let n : c.len-length.result ≡ length cs = search rules in
+    let y : Extent = record { floor = c.len-length.result - c.args.taken; base = c.len-length.result - r.params; start = c.len-length.result + c.saturating_sub-others.result } in
+    let o : reverse c.push_reserved.new.self.items ≡ x ∷ xs = ap reverse (c.push_reserved.ensures.items ∙ ap (λ l. l ++ x ∷ []) c.in_ok-reserve.ensures.items) ∙ reverse-append c.self.inside.older.items (x ∷ []) in
+    let k : c.resize.new.self.items ≡ cs ++ replicate (r.cells - r.params) nought = grind (arith, common_steps) in
+    rw (← c.self.view_is) (ap (λ l. contents y l c.resize.new.self.items) o ∙ ap (contents y (x ∷ xs)) k
+    ∙ called_in_place x xs cs c.self.invariant r c.args.taken y (omega (arith, n)) (omega (arith, n)) (omega (arith, n, c.saturating_sub-others.ensures)) (omega (arith, n, c.if-length-self.false)) (omega (arith, c.if-taken-params.false)))
