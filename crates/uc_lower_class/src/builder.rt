@@ -15,6 +15,7 @@ ghost use Rattle.uc_code.specs.Layout.{laid_in, routine_in};
 ghost use Rattle.uc_code.specs.Lowered.{RoutineAt};
 ghost use Rattle.uc_code.specs.CodeShapes.{Kept};
 ghost use Rattle.uc_lower_expr.specs.Members.{FitClasses};
+ghost use Rattle.uc_lower_stmt.specs.SourceRows.{routine_rows};
 ghost use Rattle.uc_lower_stmt.specs.RowFit.{RoutineRows};
 ghost use Rattle.uc_lower_stmt.specs.Marked.{closing};
 ghost use Rattle.uc_lower_stmt.specs.Routines.{frame_cells};
@@ -216,6 +217,7 @@ pub fn lower_builder(
     requires cells { routine_cells names.now routine.now ≤ FRAME_CELLS }
     requires texts { texts + stmts_size routine.now.body ≤ PROGRAM_SIZE }
     ensures kept { OnOk result (Kept (laid_in out.old) (laid_in out.new)) }
+    ensures count { OnOk result (length out.new.rows ≡ length out.old.rows + routine_rows (routine_meant names.now routine.now (routine_scope names.now routine.now class number texts sites))) }
     ensures rows { OnOk result (RoutineRows out.old out.new) }
     ensures room { OnOk result (length out.new.ops ≤ length out.old.ops + builder_room names.now routine.now class) }
     ensures code { OnOk result (RoutineAt (laid_in out.new) last number (routine_meant names.now routine.now (routine_scope names.now routine.now class number texts sites)) (record { entry = length out.old.ops; cells = frame_cells names.now routine.now; params = length routine.now.sig.params; written = true }) (length out.old.ops) (length out.new.ops)) }
@@ -345,6 +347,7 @@ pub fn lower_unwritten(
     requires outside { out.old.marks ≡ [] }
     requires room { length out.old.ops + (unwritten_room one.role (class_at names.now one.class) + 1) ≤ PROGRAM_OPS }
     ensures kept { OnOk result (Kept (laid_in out.old) (laid_in out.new)) }
+    ensures count { OnOk result (length out.new.rows ≡ length out.old.rows + routine_rows (unwritten_meant names.now (unwritten_as one))) }
     ensures rows { OnOk result (RoutineRows out.old out.new) }
     ensures room { OnOk result (length out.new.ops ≤ length out.old.ops + (unwritten_room one.role (class_at names.now one.class) + 1)) }
     ensures code { OnOk result ((last : ℕ) → last ≤ number → RoutineAt (laid_in out.new) last number (unwritten_meant names.now (unwritten_as one)) (record { entry = length out.old.ops; cells = 0; params = 0; written = false }) (length out.old.ops) (length out.new.ops)) }
