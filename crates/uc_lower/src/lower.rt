@@ -114,7 +114,8 @@ fn lower_all(
     requires count { count ≡ length defined.now }
     requires unwritten { map unwritten_as unwritten.now ≡ unwritten_of checked.now }
     requires few { count + length unwritten.now < 2 ^ 32 }
-    requires numbers { numbers.items ≡ map (number_of_class checked.now) (classes_of checked.now.items) }
+    requires numbers { numbers.items
+        ≡ map (number_of_class checked.now) (classes_of checked.now.items) }
     ensures lowered { IfOk result (λ code. Lowered (source_of checked.now) code) }
     ensures paced { IfOk result (λ code. IsPaced (laid_of code) code.routines) }
     ensures few { IfOk result (λ code. length code.ops ≤ OPS_FOR_SIZE * program_size checked.now) }

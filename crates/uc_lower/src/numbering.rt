@@ -28,7 +28,8 @@ use uc_tree::program::Program;
 
 // The routines alone.
 fn routines_in<'a>(alloc: Global, defined: &[Defined<'a>]) -> Result<Vec<&'a Routine>, AllocError>
-    ensures { IfOk result (λ v. map (λ r. r.now) v.items ≡ map (λ d. d.routine) (map defined_at defined.now)) }
+    ensures { IfOk result (λ v. map (λ r. r.now) v.items
+        ≡ map (λ d. d.routine) (map defined_at defined.now)) }
 {
     let mut routines = Vec::new(alloc);
     for d in defined {
@@ -86,7 +87,10 @@ pub(crate) fn numbering_of<'a>(
     members: Vec<Scope>,
 ) -> Result<Numbering<'a>, AllocError>
     requires count { count ≡ length defined.now }
-    ensures { IfOk result (λ n. (p : Program) → map defined_at defined.now ≡ routines_of p → map unwritten_as unwritten.now ≡ unwritten_of p → classes.items ≡ map (number_of_class p) (classes_of p.items) → AreExclusive p members.items → IsNumbering p n) }
+    ensures { IfOk result (λ n. (p : Program) → map defined_at defined.now ≡ routines_of p →
+        map unwritten_as unwritten.now ≡ unwritten_of p →
+        classes.items ≡ map (number_of_class p) (classes_of p.items) →
+        AreExclusive p members.items → IsNumbering p n) }
 {
     let routines = routines_in(alloc, defined)?;
     let owners = owners_in(alloc, defined)?;
@@ -109,7 +113,8 @@ fn push_cells(
     place: usize,
     class: &Class,
 ) -> Result<(), AllocError>
-    ensures { OnOk result (cells.new.items ≡ cells.old.items ++ map (λ c. c.cells) (classes_meant names.now place (class.now ∷ []))) }
+    ensures { OnOk result (cells.new.items
+        ≡ cells.old.items ++ map (λ c. c.cells) (classes_meant names.now place (class.now ∷ []))) }
 {
     if is_event(class.kind) {
         return Ok(());

@@ -77,7 +77,8 @@ fn main_in(
     class: Option<usize>,
     sig: &Sig,
 ) -> Option<MainOf>
-    ensures { (number : ℕ) → is_program_main ≡ nat_eq number (main_number names.now) → result ≡ main_in names.now number (class_by names.now class) sig.now }
+    ensures { (number : ℕ) → is_program_main ≡ nat_eq number (main_number names.now) →
+        result ≡ main_in names.now number (class_by names.now class) sig.now }
 {
     if is_task_main(names, is_program_main, class, sig) {
         return Some(MainOf::Task);
@@ -95,14 +96,16 @@ fn is_task_main(
     class: Option<usize>,
     sig: &Sig,
 ) -> bool
-    ensures { result ≡ (is_program_main || (has_tasks names.now (class_by names.now class) && is_main names.now sig.now)) }
+    ensures { result ≡ (is_program_main
+        || (has_tasks names.now (class_by names.now class) && is_main names.now sig.now)) }
 {
     is_program_main || (has_tasks(names, class) && is_main(sig))
 }
 
 // Whether it is that of the coroutines of its class.
 fn is_coroutine_main(names: &ProgramNames, class: Option<usize>, sig: &Sig) -> bool
-    ensures { result ≡ (has_coroutines names.now (class_by names.now class) && is_main names.now sig.now) }
+    ensures { result ≡ (has_coroutines names.now (class_by names.now class)
+        && is_main names.now sig.now) }
 {
     names.has_coroutines(class) && is_main(sig)
 }
@@ -148,15 +151,40 @@ fn lower_written(
     requires cells { routine_cells names.now one.now.routine.now ≤ FRAME_CELLS }
     requires texts { texts + stmts_size one.now.routine.now.body ≤ PROGRAM_SIZE }
     ensures kept { OnOk result (Kept (laid_in out.old) (laid_in out.new)) }
-    ensures count { OnOk result (length out.new.rows ≡ length out.old.rows + routine_rows (routine_meant names.now one.now.routine.now (routine_scope names.now one.now.routine.now (place_by names.now (defined_at one.now)) number texts sites))) }
+    ensures count { OnOk result (length out.new.rows
+        ≡ length out.old.rows
+        + routine_rows
+        (routine_meant names.now one.now.routine.now
+        (routine_scope names.now one.now.routine.now
+        (place_by names.now (defined_at one.now)) number texts sites))) }
     ensures rows { OnOk result (RoutineRows out.old out.new) }
-    ensures room { OnOk result (length out.new.ops ≤ length out.old.ops + routine_room names.now (defined_at one.now)) }
-    ensures code { OnOk result (RoutineAt (laid_in out.new) last number (routine_meant names.now one.now.routine.now (routine_scope names.now one.now.routine.now (place_by names.now (defined_at one.now)) number texts sites)) (record { entry = length out.old.ops; cells = frame_cells names.now one.now.routine.now; params = length one.now.routine.now.sig.params; written = true }) (length out.old.ops) (length out.new.ops)) }
-    ensures written { OnOk result (out.new.routines ≡ slice_set out.old.routines number (record { entry = length out.old.ops; cells = frame_cells names.now one.now.routine.now; params = length one.now.routine.now.sig.params; written = true })) }
+    ensures room { OnOk result (length out.new.ops
+        ≤ length out.old.ops + routine_room names.now (defined_at one.now)) }
+    ensures code { OnOk result (RoutineAt (laid_in out.new) last number
+        (routine_meant names.now one.now.routine.now
+        (routine_scope names.now one.now.routine.now
+        (place_by names.now (defined_at one.now)) number texts sites))
+        (record {
+          entry = length out.old.ops;
+          cells = frame_cells names.now one.now.routine.now;
+          params = length one.now.routine.now.sig.params;
+          written = true;
+        }) (length out.old.ops)
+        (length out.new.ops)) }
+    ensures written { OnOk result (out.new.routines
+        ≡ slice_set out.old.routines number
+        (record {
+          entry = length out.old.ops;
+          cells = frame_cells names.now one.now.routine.now;
+          params = length one.now.routine.now.sig.params;
+          written = true;
+        })) }
     ensures outside { OnOk result (out.new.marks ≡ []) }
-    ensures texts { OnOk result (out.new.texts ≡ texts + length (gathered_all own_texts one.now.routine.now.body)) }
+    ensures texts { OnOk result (out.new.texts
+        ≡ texts + length (gathered_all own_texts one.now.routine.now.body)) }
     ensures few_texts { OnOk result (out.new.texts ≤ texts + stmts_size one.now.routine.now.body) }
-    ensures sites { OnOk result (out.new.sites ≡ sites + length (gathered_all (own_sites None 0) one.now.routine.now.body)) }
+    ensures sites { OnOk result (out.new.sites
+        ≡ sites + length (gathered_all (own_sites None 0) one.now.routine.now.body)) }
 {
     let routine = one.routine;
     let class = class_of(names, one);
@@ -192,7 +220,8 @@ pub(crate) fn lower_routines(
     requires ops { out.old.ops ≡ [] }
     requires rows { out.old.rows ≡ [] }
     requires outside { out.old.marks ≡ [] }
-    ensures { OnOk result (Lays names.now (routines_of names.now) (length out.old.routines) count out.new) }
+    ensures { OnOk result (Lays names.now (routines_of names.now)
+        (length out.old.routines) count out.new) }
 {
     let mut texts: u32 = 0;
     let mut sites: u32 = 0;
@@ -228,8 +257,10 @@ pub(crate) fn lower_all_unwritten(
     requires unwritten { map unwritten_as unwritten.now ≡ unwritten_of names.now }
     requires count { count ≡ length (routines_of names.now) }
     requires few { count + length unwritten.now < 2 ^ 32 }
-    requires lays { Lays names.now (routines_of names.now) (count + length unwritten.now) count out.old }
-    ensures { OnOk result (LaysAll names.now (routines_of names.now) (unwritten_of names.now) (count + length unwritten.now) (length unwritten.now) out.new) }
+    requires lays { Lays names.now (routines_of names.now)
+        (count + length unwritten.now) count out.old }
+    ensures { OnOk result (LaysAll names.now (routines_of names.now) (unwritten_of names.now)
+        (count + length unwritten.now) (length unwritten.now) out.new) }
 {
     let mut number = count;
     for place in 0..unwritten.len() {

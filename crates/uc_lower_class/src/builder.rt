@@ -64,8 +64,11 @@ fn build_own(
     out: &mut Draft,
 ) -> Result<(), AllocError>
     requires written { routine_in out.old.marks < length (routines_of names.now) }
-    requires room { length out.old.ops + end_room parts.old.items + built_room names.now class routine.now ≤ PROGRAM_OPS }
-    ensures { OnOk result (Constructs (built_room names.now class routine.now) (built_at names.now class routine.now (scope_of out.old)) parts.old.items out.old parts.new.items out.new) }
+    requires room { length out.old.ops + end_room parts.old.items
+        + built_room names.now class routine.now ≤ PROGRAM_OPS }
+    ensures { OnOk result (Constructs (built_room names.now class routine.now)
+        (built_at names.now class routine.now (scope_of out.old)) parts.old.items out.old
+        parts.new.items out.new) }
 {
     match class {
         Some(class) => {
@@ -81,7 +84,8 @@ fn leave_own(class: Option<usize>, names: &ProgramNames, out: &mut Draft) -> Res
     requires written { routine_in out.old.marks < length (routines_of names.now) }
     requires outside { closing out.old.marks ≡ 0 }
     requires room { length out.old.ops + left_room (class_by names.now class) ≤ PROGRAM_OPS }
-    ensures { OnOk result (LeavesAll (left_room (class_by names.now class)) (left_count (class_by names.now class)) (left_at names.now class) out.old out.new) }
+    ensures { OnOk result (LeavesAll (left_room (class_by names.now class))
+        (left_count (class_by names.now class)) (left_at names.now class) out.old out.new) }
 {
     match class {
         Some(class) => {
@@ -101,8 +105,10 @@ fn lower_raised(
     out: &mut Draft,
 ) -> Result<(), AllocError>
     requires written { routine_in out.old.marks < length (routines_of names.now) }
-    requires room { length out.old.ops + (raise_room names.now class routine.now + part_end) ≤ PROGRAM_OPS }
-    requires cells { out.old.cells + stmts_cells routine.now.body (declared_cells names.now) ≤ FRAME_CELLS }
+    requires room { length out.old.ops + (raise_room names.now class routine.now + part_end)
+        ≤ PROGRAM_OPS }
+    requires cells { out.old.cells + stmts_cells routine.now.body (declared_cells names.now)
+        ≤ FRAME_CELLS }
     requires scopes { out.old.scopes + stmts_scopes routine.now.body ≤ PROGRAM_SIZE }
     requires texts { out.old.texts + stmts_size routine.now.body ≤ PROGRAM_SIZE }
     ensures { OnOk result (LowersRaised names.now class routine.now out.old out.new) }
@@ -125,8 +131,10 @@ fn lower_constructor(
     requires class { class ≡ out.old.place.class }
     requires written { routine_in out.old.marks < length (routines_of names.now) }
     requires outside { closing out.old.marks ≡ 0 }
-    requires room { length out.old.ops + role_room names.now role.Constructor class routine.now ≤ PROGRAM_OPS }
-    requires cells { out.old.cells + stmts_cells routine.now.body (declared_cells names.now) ≤ FRAME_CELLS }
+    requires room { length out.old.ops + role_room names.now role.Constructor class routine.now
+        ≤ PROGRAM_OPS }
+    requires cells { out.old.cells + stmts_cells routine.now.body (declared_cells names.now)
+        ≤ FRAME_CELLS }
     requires scopes { out.old.scopes + stmts_scopes routine.now.body ≤ PROGRAM_SIZE }
     requires texts { out.old.texts + stmts_size routine.now.body ≤ PROGRAM_SIZE }
     ensures { OnOk result (LowersBody names.now role.Constructor routine.now out.old out.new) }
@@ -148,8 +156,10 @@ fn lower_destructor(
     requires class { class ≡ out.old.place.class }
     requires written { routine_in out.old.marks < length (routines_of names.now) }
     requires outside { closing out.old.marks ≡ 0 }
-    requires room { length out.old.ops + role_room names.now role.Destructor class routine.now ≤ PROGRAM_OPS }
-    requires cells { out.old.cells + stmts_cells routine.now.body (declared_cells names.now) ≤ FRAME_CELLS }
+    requires room { length out.old.ops + role_room names.now role.Destructor class routine.now
+        ≤ PROGRAM_OPS }
+    requires cells { out.old.cells + stmts_cells routine.now.body (declared_cells names.now)
+        ≤ FRAME_CELLS }
     requires scopes { out.old.scopes + stmts_scopes routine.now.body ≤ PROGRAM_SIZE }
     requires texts { out.old.texts + stmts_size routine.now.body ≤ PROGRAM_SIZE }
     ensures { OnOk result (LowersBody names.now role.Destructor routine.now out.old out.new) }
@@ -174,7 +184,8 @@ fn lower_body(
     requires written { routine_in out.old.marks < length (routines_of names.now) }
     requires outside { closing out.old.marks ≡ 0 }
     requires room { length out.old.ops + role_room names.now role class routine.now ≤ PROGRAM_OPS }
-    requires cells { out.old.cells + stmts_cells routine.now.body (declared_cells names.now) ≤ FRAME_CELLS }
+    requires cells { out.old.cells + stmts_cells routine.now.body (declared_cells names.now)
+        ≤ FRAME_CELLS }
     requires scopes { out.old.scopes + stmts_scopes routine.now.body ≤ PROGRAM_SIZE }
     requires texts { out.old.texts + stmts_size routine.now.body ≤ PROGRAM_SIZE }
     ensures { OnOk result (LowersBody names.now role routine.now out.old out.new) }
@@ -217,15 +228,38 @@ pub fn lower_builder(
     requires cells { routine_cells names.now routine.now ≤ FRAME_CELLS }
     requires texts { texts + stmts_size routine.now.body ≤ PROGRAM_SIZE }
     ensures kept { OnOk result (Kept (laid_in out.old) (laid_in out.new)) }
-    ensures count { OnOk result (length out.new.rows ≡ length out.old.rows + routine_rows (routine_meant names.now routine.now (routine_scope names.now routine.now class number texts sites))) }
+    ensures count { OnOk result (length out.new.rows
+        ≡ length out.old.rows
+        + routine_rows
+        (routine_meant names.now routine.now
+        (routine_scope names.now routine.now class number texts sites))) }
     ensures rows { OnOk result (RoutineRows out.old out.new) }
-    ensures room { OnOk result (length out.new.ops ≤ length out.old.ops + builder_room names.now routine.now class) }
-    ensures code { OnOk result (RoutineAt (laid_in out.new) last number (routine_meant names.now routine.now (routine_scope names.now routine.now class number texts sites)) (record { entry = length out.old.ops; cells = frame_cells names.now routine.now; params = length routine.now.sig.params; written = true }) (length out.old.ops) (length out.new.ops)) }
-    ensures written { OnOk result (out.new.routines ≡ slice_set out.old.routines number (record { entry = length out.old.ops; cells = frame_cells names.now routine.now; params = length routine.now.sig.params; written = true })) }
+    ensures room { OnOk result (length out.new.ops
+        ≤ length out.old.ops + builder_room names.now routine.now class) }
+    ensures code { OnOk result (RoutineAt (laid_in out.new) last number
+        (routine_meant names.now routine.now
+        (routine_scope names.now routine.now class number texts sites))
+        (record {
+          entry = length out.old.ops;
+          cells = frame_cells names.now routine.now;
+          params = length routine.now.sig.params;
+          written = true;
+        }) (length out.old.ops)
+        (length out.new.ops)) }
+    ensures written { OnOk result (out.new.routines
+        ≡ slice_set out.old.routines number
+        (record {
+          entry = length out.old.ops;
+          cells = frame_cells names.now routine.now;
+          params = length routine.now.sig.params;
+          written = true;
+        })) }
     ensures outside { OnOk result (out.new.marks ≡ []) }
-    ensures texts { OnOk result (out.new.texts ≡ texts + length (gathered_all own_texts routine.now.body)) }
+    ensures texts { OnOk result (out.new.texts
+        ≡ texts + length (gathered_all own_texts routine.now.body)) }
     ensures few_texts { OnOk result (out.new.texts ≤ texts + stmts_size routine.now.body) }
-    ensures sites { OnOk result (out.new.sites ≡ sites + length (gathered_all (own_sites None 0) routine.now.body)) }
+    ensures sites { OnOk result (out.new.sites
+        ≡ sites + length (gathered_all (own_sites None 0) routine.now.body)) }
 {
     let entry = out.here();
     let sig = sig_of(routine);
@@ -261,7 +295,8 @@ fn lower_bare(
 ) -> Result<(), AllocError>
     requires behind { FieldsBehind names.now class (routine_in out.old.marks) }
     requires nowhere { scope_of out.old ≡ nowhere names.now }
-    requires room { length out.old.ops + unwritten_room role.Constructor (class_at names.now class) ≤ PROGRAM_OPS }
+    requires room { length out.old.ops + unwritten_room role.Constructor (class_at names.now class)
+        ≤ PROGRAM_OPS }
     ensures { OnOk result (LowersBare names.now class out.old out.new) }
 {
     let mut parts = Vec::new(alloc);
@@ -280,7 +315,8 @@ fn lower_unwritten_constructor(
     requires behind { FieldsBehind names.now class (routine_in out.old.marks) }
     requires outside { closing out.old.marks ≡ 0 }
     requires nowhere { scope_of out.old ≡ nowhere names.now }
-    requires room { length out.old.ops + unwritten_room role.Constructor (class_at names.now class) ≤ PROGRAM_OPS }
+    requires room { length out.old.ops + unwritten_room role.Constructor (class_at names.now class)
+        ≤ PROGRAM_OPS }
     ensures { OnOk result (LowersUnwritten names.now role.Constructor class out.old out.new) }
 {
     let depth = out.marks().len();
@@ -297,7 +333,8 @@ fn lower_unwritten_destructor(
 ) -> Result<(), AllocError>
     requires behind { FieldsBehind names.now class (routine_in out.old.marks) }
     requires outside { closing out.old.marks ≡ 0 }
-    requires room { length out.old.ops + unwritten_room role.Destructor (class_at names.now class) ≤ PROGRAM_OPS }
+    requires room { length out.old.ops + unwritten_room role.Destructor (class_at names.now class)
+        ≤ PROGRAM_OPS }
     ensures { OnOk result (LowersUnwritten names.now role.Destructor class out.old out.new) }
 {
     let depth = out.marks().len();
@@ -316,7 +353,8 @@ fn lower_unwritten_body(
     requires behind { FieldsBehind names.now class (routine_in out.old.marks) }
     requires outside { closing out.old.marks ≡ 0 }
     requires nowhere { scope_of out.old ≡ nowhere names.now }
-    requires room { length out.old.ops + unwritten_room role (class_at names.now class) ≤ PROGRAM_OPS }
+    requires room { length out.old.ops + unwritten_room role (class_at names.now class)
+        ≤ PROGRAM_OPS }
     ensures { OnOk result (LowersUnwritten names.now role class out.old out.new) }
 {
     match role {
@@ -345,13 +383,21 @@ pub fn lower_unwritten(
     requires unwritten { IsUnwritten names.now (unwritten_as one) number }
     requires known { number < length out.old.routines }
     requires outside { out.old.marks ≡ [] }
-    requires room { length out.old.ops + (unwritten_room one.role (class_at names.now one.class) + 1) ≤ PROGRAM_OPS }
+    requires room { length out.old.ops
+        + (unwritten_room one.role (class_at names.now one.class) + 1) ≤ PROGRAM_OPS }
     ensures kept { OnOk result (Kept (laid_in out.old) (laid_in out.new)) }
-    ensures count { OnOk result (length out.new.rows ≡ length out.old.rows + routine_rows (unwritten_meant names.now (unwritten_as one))) }
+    ensures count { OnOk result (length out.new.rows
+        ≡ length out.old.rows + routine_rows (unwritten_meant names.now (unwritten_as one))) }
     ensures rows { OnOk result (RoutineRows out.old out.new) }
-    ensures room { OnOk result (length out.new.ops ≤ length out.old.ops + (unwritten_room one.role (class_at names.now one.class) + 1)) }
-    ensures code { OnOk result ((last : ℕ) → last ≤ number → RoutineAt (laid_in out.new) last number (unwritten_meant names.now (unwritten_as one)) (record { entry = length out.old.ops; cells = 0; params = 0; written = false }) (length out.old.ops) (length out.new.ops)) }
-    ensures written { OnOk result (out.new.routines ≡ slice_set out.old.routines number (record { entry = length out.old.ops; cells = 0; params = 0; written = false })) }
+    ensures room { OnOk result (length out.new.ops
+        ≤ length out.old.ops + (unwritten_room one.role (class_at names.now one.class) + 1)) }
+    ensures code { OnOk result ((last : ℕ) → last ≤ number →
+        RoutineAt (laid_in out.new) last number (unwritten_meant names.now (unwritten_as one))
+        (record { entry = length out.old.ops; cells = 0; params = 0; written = false })
+        (length out.old.ops) (length out.new.ops)) }
+    ensures written { OnOk result (out.new.routines
+        ≡ slice_set out.old.routines number
+        (record { entry = length out.old.ops; cells = 0; params = 0; written = false })) }
     ensures outside { OnOk result (out.new.marks ≡ []) }
 {
     let entry = out.here();

@@ -27,7 +27,9 @@ use uc_lower_expr::put::put;
 // What follows stands behind a part with this clean-up.
 fn open_part(what: Cleaning, parts: &mut Vec<Cleaning>, out: &mut Draft) -> Result<(), AllocError>
     requires { CleansBehind out.old.marks what }
-    ensures { OnOk result ((c : CleanUp) → Cleans c what → Constructs (clean_length what + 2) (λ rest. Built c rest) parts.old.items out.old parts.new.items out.new) }
+    ensures { OnOk result ((c : CleanUp) → Cleans c what →
+        Constructs (clean_length what + 2)
+        (λ rest. Built c rest) parts.old.items out.old parts.new.items out.new) }
 {
     parts.push(what)?;
     let _row = out.open(Opening::Part)?;
@@ -45,7 +47,8 @@ pub(crate) fn set_up(
 ) -> Result<(), AllocError>
     requires class { class < length (classes_of names.now.items) }
     requires room { length out.old.ops + set_up_room coroutine ≤ PROGRAM_OPS }
-    ensures { OnOk result (Constructs (set_up_room coroutine) (set_up names.now coroutine class) parts.old.items out.old parts.new.items out.new) }
+    ensures { OnOk result (Constructs (set_up_room coroutine)
+        (set_up names.now coroutine class) parts.old.items out.old parts.new.items out.new) }
 {
     if coroutine {
         put(Op::Coroutine(names.main_of(class)), 0, out)?;
@@ -61,7 +64,9 @@ pub(crate) fn open_started(
     parts: &mut Vec<Cleaning>,
     out: &mut Draft,
 ) -> Result<(), AllocError>
-    ensures { OnOk result ((p : Program) → Constructs (start_room coroutine) (started_in p coroutine) parts.old.items out.old parts.new.items out.new) }
+    ensures { OnOk result ((p : Program) →
+        Constructs (start_room coroutine)
+        (started_in p coroutine) parts.old.items out.old parts.new.items out.new) }
 {
     if coroutine {
         open_part(Cleaning::TakeDown, parts, out)?;
@@ -73,7 +78,9 @@ pub(crate) fn open_started(
 // Behind its body it is live.
 fn enliven(coroutine: bool, out: &mut Draft) -> Result<(), AllocError>
     requires { length out.old.ops + enliven_room coroutine ≤ PROGRAM_OPS }
-    ensures { OnOk result ((p : Program) (ms : List CodeMark) → Adds (enliven_room coroutine) (λ code. StmtsAt code ms 0 (enlivened p coroutine)) out.old out.new) }
+    ensures { OnOk result ((p : Program) (ms : List CodeMark) →
+        Adds (enliven_room coroutine)
+        (λ code. StmtsAt code ms 0 (enlivened p coroutine)) out.old out.new) }
 {
     if coroutine {
         put(Op::Live, 0, out)?;
@@ -89,7 +96,11 @@ pub(crate) fn end_construction(
     out: &mut Draft,
 ) -> Result<(), AllocError>
     requires { length out.old.ops + live_room (class_by names.now class) ≤ PROGRAM_OPS }
-    ensures { OnOk result ((ms : List CodeMark) → Adds (live_room (class_by names.now class)) (λ code. StmtsAt code ms 0 (construction_ends names.now (class_by names.now class) (place_or_zero names.now class))) out.old out.new) }
+    ensures { OnOk result ((ms : List CodeMark) →
+        Adds (live_room (class_by names.now class))
+        (λ code. StmtsAt code ms 0
+        (construction_ends names.now (class_by names.now class) (place_or_zero names.now class)))
+        out.old out.new) }
 {
     let coroutine = names.has_coroutines(class);
     enliven(coroutine, out)?;
@@ -99,7 +110,9 @@ pub(crate) fn end_construction(
 /// The scope of the execution of a coroutine that is destroyed is opened, around those of its fields. After want of memory the draft is
 /// spent.
 pub(crate) fn open_execution(coroutine: bool, out: &mut Draft) -> Result<(), AllocError>
-    ensures { OnOk result ((p : Program) → LeavesAll (own_close * forget_count coroutine) (forget_count coroutine) (forgotten p coroutine) out.old out.new) }
+    ensures { OnOk result ((p : Program) →
+        LeavesAll (own_close * forget_count coroutine) (forget_count coroutine)
+        (forgotten p coroutine) out.old out.new) }
 {
     if coroutine {
         let _row = out.open(Opening::Object {
@@ -114,7 +127,9 @@ pub(crate) fn open_execution(coroutine: bool, out: &mut Draft) -> Result<(), All
 /// The scope of a mutex object that is destroyed is opened, around all else: behind it the object is no more. After want of memory the draft
 /// is spent.
 pub(crate) fn open_ending(mutex: bool, out: &mut Draft) -> Result<(), AllocError>
-    ensures { OnOk result ((p : Program) → LeavesAll (own_close * mutex_count mutex) (mutex_count mutex) (ending p mutex) out.old out.new) }
+    ensures { OnOk result ((p : Program) →
+        LeavesAll (own_close * mutex_count mutex) (mutex_count mutex)
+        (ending p mutex) out.old out.new) }
 {
     if mutex {
         let _row = out.open(Opening::Object {
@@ -129,7 +144,8 @@ pub(crate) fn open_ending(mutex: bool, out: &mut Draft) -> Result<(), AllocError
 /// A coroutine that is destroyed is unwound before its body. After want of memory the draft is spent.
 pub(crate) fn take_down(coroutine: bool, out: &mut Draft) -> Result<(), AllocError>
     requires { length out.old.ops + take_down_room coroutine ≤ PROGRAM_OPS }
-    ensures { OnOk result ((p : Program) → LeavesAll (take_down_room coroutine) 0 (taken_down p coroutine) out.old out.new) }
+    ensures { OnOk result ((p : Program) →
+        LeavesAll (take_down_room coroutine) 0 (taken_down p coroutine) out.old out.new) }
 {
     if coroutine {
         put(Op::UnwindCoroutine, 0, out)?;
@@ -156,7 +172,8 @@ pub(crate) fn open_freed(
     names: &ProgramNames,
     out: &mut Draft,
 ) -> Result<(), AllocError>
-    ensures opened { OnOk result (LeavesAll (own_close * mutex_count (mutex_by names.now class)) (mutex_count (mutex_by names.now class)) (freed_at names.now class) out.old out.new) }
+    ensures opened { OnOk result (LeavesAll (own_close * mutex_count (mutex_by names.now class))
+        (mutex_count (mutex_by names.now class)) (freed_at names.now class) out.old out.new) }
     ensures same { OnOk result (length out.new.ops ≡ length out.old.ops) }
 {
     match class {

@@ -34,9 +34,17 @@ fn build_field(
     parts: &mut Vec<Cleaning>,
     out: &mut Draft,
 ) -> Result<(), AllocError>
-    requires room { (c : Whole) (f : ClassField) → class_at names.now class ≡ Some c → slice_get (fields_of c.members) place ≡ Some f → length out.old.ops + end_room parts.old.items + (OPS_FOR_SIZE * exprs_size (exprs_of args.now) + room_by f.declarator.len) ≤ PROGRAM_OPS }
+    requires room { (c : Whole) (f : ClassField) → class_at names.now class ≡ Some c →
+        slice_get (fields_of c.members) place ≡ Some f →
+        length out.old.ops + end_room parts.old.items
+        + (OPS_FOR_SIZE * exprs_size (exprs_of args.now) + room_by f.declarator.len) ≤ PROGRAM_OPS }
     requires behind { FieldsBehind names.now class (routine_in out.old.marks) }
-    ensures { OnOk result ((c : Whole) (f : ClassField) → class_at names.now class ≡ Some c → slice_get (fields_of c.members) place ≡ Some f → Constructs (OPS_FOR_SIZE * exprs_size (exprs_of args.now) + room_by f.declarator.len) (field_then names.now c class (leading_cells c.kind + place) f (args_meant (context_in names.now out.old) (exprs_of args.now))) parts.old.items out.old parts.new.items out.new) }
+    ensures { OnOk result ((c : Whole) (f : ClassField) → class_at names.now class ≡ Some c →
+        slice_get (fields_of c.members) place ≡ Some f →
+        Constructs (OPS_FOR_SIZE * exprs_size (exprs_of args.now) + room_by f.declarator.len)
+        (field_then names.now c class (leading_cells c.kind + place) f
+        (args_meant (context_in names.now out.old) (exprs_of args.now))) parts.old.items out.old
+        parts.new.items out.new) }
 {
     match names.field_at(class, place) {
         Some(field) => {
@@ -58,9 +66,12 @@ fn build_fields(
     out: &mut Draft,
 ) -> Result<(), AllocError>
     requires there { class_at names.now class ≡ Some at.now }
-    requires room { length out.old.ops + end_room parts.old.items + fields_room inits.now (fields_of at.now.members) ≤ PROGRAM_OPS }
+    requires room { length out.old.ops + end_room parts.old.items
+        + fields_room inits.now (fields_of at.now.members) ≤ PROGRAM_OPS }
     requires behind { FieldsBehind names.now class (routine_in out.old.marks) }
-    ensures { OnOk result (Constructs (fields_room inits.now (fields_of at.now.members)) (fields_built names.now at.now class inits.now (scope_of out.old) (fields_of at.now.members) (leading_cells at.now.kind)) parts.old.items out.old parts.new.items out.new) }
+    ensures { OnOk result (Constructs (fields_room inits.now (fields_of at.now.members))
+        (fields_built names.now at.now class inits.now (scope_of out.old) (fields_of at.now.members)
+        (leading_cells at.now.kind)) parts.old.items out.old parts.new.items out.new) }
 {
     let places = places_of(alloc, inits)?;
     let fields = names_of_fields(alloc, at)?;
@@ -83,9 +94,12 @@ fn build_class(
     out: &mut Draft,
 ) -> Result<(), AllocError>
     requires there { class_at names.now class ≡ Some at.now }
-    requires room { length out.old.ops + end_room parts.old.items + all_room inits.now (Some at.now) ≤ PROGRAM_OPS }
+    requires room { length out.old.ops + end_room parts.old.items + all_room inits.now (Some at.now)
+        ≤ PROGRAM_OPS }
     requires behind { FieldsBehind names.now class (routine_in out.old.marks) }
-    ensures { OnOk result (Constructs (all_room inits.now (Some at.now)) (all_built names.now class inits.now (scope_of out.old) (Some at.now)) parts.old.items out.old parts.new.items out.new) }
+    ensures { OnOk result (Constructs (all_room inits.now (Some at.now))
+        (all_built names.now class inits.now (scope_of out.old) (Some at.now)) parts.old.items
+        out.old parts.new.items out.new) }
 {
     let coroutine = names.has_coroutines(Some(class));
     set_up(coroutine, class, names, parts, out)?;
@@ -104,9 +118,12 @@ pub(crate) fn build_all(
     parts: &mut Vec<Cleaning>,
     out: &mut Draft,
 ) -> Result<(), AllocError>
-    requires room { length out.old.ops + end_room parts.old.items + all_room inits.now (class_at names.now class) ≤ PROGRAM_OPS }
+    requires room { length out.old.ops + end_room parts.old.items
+        + all_room inits.now (class_at names.now class) ≤ PROGRAM_OPS }
     requires behind { FieldsBehind names.now class (routine_in out.old.marks) }
-    ensures { OnOk result (Constructs (all_room inits.now (class_at names.now class)) (all_built names.now class inits.now (scope_of out.old) (class_at names.now class)) parts.old.items out.old parts.new.items out.new) }
+    ensures { OnOk result (Constructs (all_room inits.now (class_at names.now class))
+        (all_built names.now class inits.now (scope_of out.old) (class_at names.now class))
+        parts.old.items out.old parts.new.items out.new) }
 {
     match names.sizes().class(class) {
         Some(at) => {
@@ -125,7 +142,9 @@ fn leave_field(
     out: &mut Draft,
 ) -> Result<(), AllocError>
     requires { FieldsBehind names.now class (routine_in out.old.marks) }
-    ensures { OnOk result ((c : Whole) (f : ClassField) → class_at names.now class ≡ Some c → slice_get (fields_of c.members) place ≡ Some f → Opens 1 (left_then names.now c class (leading_cells c.kind + place) f) out.old out.new) }
+    ensures { OnOk result ((c : Whole) (f : ClassField) → class_at names.now class ≡ Some c →
+        slice_get (fields_of c.members) place ≡ Some f →
+        Opens 1 (left_then names.now c class (leading_cells c.kind + place) f) out.old out.new) }
 {
     match names.field_at(class, place) {
         Some(field) => {
@@ -145,7 +164,9 @@ fn leave_fields(
 ) -> Result<(), AllocError>
     requires there { class_at names.now class ≡ Some at.now }
     requires behind { FieldsBehind names.now class (routine_in out.old.marks) }
-    ensures { OnOk result (Opens (length (fields_of at.now.members)) (fields_left names.now at.now class (fields_of at.now.members) (leading_cells at.now.kind)) out.old out.new) }
+    ensures { OnOk result (Opens (length (fields_of at.now.members))
+        (fields_left names.now at.now class (fields_of at.now.members) (leading_cells at.now.kind))
+        out.old out.new) }
 {
     for place in 0..names.field_count(class) {
         leave_field(class, place, names, out)?;
@@ -164,7 +185,8 @@ fn leave_class(
     requires outside { closing out.old.marks ≡ 0 }
     requires room { length out.old.ops + left_room (Some at.now) ≤ PROGRAM_OPS }
     requires behind { FieldsBehind names.now class (routine_in out.old.marks) }
-    ensures { OnOk result (LeavesAll (left_room (Some at.now)) (left_count (Some at.now)) (all_left names.now class (Some at.now)) out.old out.new) }
+    ensures { OnOk result (LeavesAll (left_room (Some at.now)) (left_count (Some at.now))
+        (all_left names.now class (Some at.now)) out.old out.new) }
 {
     let coroutine = names.has_coroutines(Some(class));
     open_ending(names.is_mutex(class), out)?;
@@ -184,7 +206,9 @@ pub(crate) fn leave_all(
     requires outside { closing out.old.marks ≡ 0 }
     requires room { length out.old.ops + left_room (class_at names.now class) ≤ PROGRAM_OPS }
     requires behind { FieldsBehind names.now class (routine_in out.old.marks) }
-    ensures { OnOk result (LeavesAll (left_room (class_at names.now class)) (left_count (class_at names.now class)) (all_left names.now class (class_at names.now class)) out.old out.new) }
+    ensures { OnOk result (LeavesAll (left_room (class_at names.now class))
+        (left_count (class_at names.now class))
+        (all_left names.now class (class_at names.now class)) out.old out.new) }
 {
     match names.sizes().class(class) {
         Some(at) => {

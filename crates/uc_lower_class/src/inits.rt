@@ -56,7 +56,8 @@ fn note_declarators<'a>(
     names: &mut Vec<&'a Name>,
     declarators: &'a [Declarator],
 ) -> Result<(), AllocError>
-    ensures { OnOk result (map (λ n. n.now) names.new.items ≡ map (λ n. n.now) names.old.items ++ map (λ d. d.name) declarators.now) }
+    ensures { OnOk result (map (λ n. n.now) names.new.items
+        ≡ map (λ n. n.now) names.old.items ++ map (λ d. d.name) declarators.now) }
 {
     for declarator in declarators {
         names.push(name_of(declarator))?;
@@ -65,7 +66,8 @@ fn note_declarators<'a>(
 }
 
 fn note_member<'a>(names: &mut Vec<&'a Name>, form: &'a MemberForm) -> Result<(), AllocError>
-    ensures { OnOk result (map (λ n. n.now) names.new.items ≡ map (λ n. n.now) names.old.items ++ names_of (form_fields (member_form_at form.now))) }
+    ensures { OnOk result (map (λ n. n.now) names.new.items
+        ≡ map (λ n. n.now) names.old.items ++ names_of (form_fields (member_form_at form.now))) }
 {
     match form {
         MemberForm::Fields { declarators, .. } => {

@@ -64,7 +64,10 @@ fn put_held(
     out: &mut Draft,
 ) -> Result<(), AllocError>
     requires { length out.old.ops + (OPS_FOR_SIZE * expr_size value.now + 1) ≤ PROGRAM_OPS }
-    ensures { OnOk result (Adds (OPS_FOR_SIZE * expr_size value.now + 1) (ExprCode 0 out.old.marks (held_by field.by_ref (shape_as field.told.scalar) (meant (context_in names.now out.old) value.now))) out.old out.new) }
+    ensures { OnOk result (Adds (OPS_FOR_SIZE * expr_size value.now + 1)
+        (ExprCode 0 out.old.marks
+        (held_by field.by_ref (shape_as field.told.scalar)
+        (meant (context_in names.now out.old) value.now))) out.old out.new) }
 {
     if field.by_ref {
         let _told = lower_expr(value, 0, names, out)?;
@@ -91,7 +94,10 @@ fn put_started(
     out: &mut Draft,
 ) -> Result<(), AllocError>
     requires { length out.old.ops + (OPS_FOR_SIZE * expr_size value.now + 4) ≤ PROGRAM_OPS }
-    ensures { OnOk result (Adds (OPS_FOR_SIZE * expr_size value.now + 4) (StartedCode out.old.marks field.cell field.by_ref (held_by field.by_ref (shape_as field.told.scalar) (meant (context_in names.now out.old) value.now))) out.old out.new) }
+    ensures { OnOk result (Adds (OPS_FOR_SIZE * expr_size value.now + 4)
+        (StartedCode out.old.marks field.cell field.by_ref
+        (held_by field.by_ref (shape_as field.told.scalar)
+        (meant (context_in names.now out.old) value.now))) out.old out.new) }
 {
     put(Op::This(field.cell), 0, out)?;
     put_held(field, value, names, out)?;
@@ -107,8 +113,14 @@ fn lower_started(
     names: &ProgramNames,
     out: &mut Draft,
 ) -> Result<(), AllocError>
-    requires { length out.old.ops + (OPS_FOR_SIZE * exprs_size (exprs_of args.now) + 4) ≤ PROGRAM_OPS }
-    ensures { OnOk result ((c : Class) (i number : ℕ) (f : ClassField) (parts : List Clean) → IsFieldAt names.now c i number f field → Constructs (OPS_FOR_SIZE * exprs_size (exprs_of args.now) + 4) (started_then names.now i number f (args_meant (context_in names.now out.old) (exprs_of args.now))) parts out.old parts out.new) }
+    requires { length out.old.ops + (OPS_FOR_SIZE * exprs_size (exprs_of args.now) + 4)
+        ≤ PROGRAM_OPS }
+    ensures { OnOk result ((c : Class) (i number : ℕ) (f : ClassField) (parts : List Clean) →
+        IsFieldAt names.now c i number f field →
+        Constructs (OPS_FOR_SIZE * exprs_size (exprs_of args.now) + 4)
+        (started_then names.now i number f
+        (args_meant (context_in names.now out.old) (exprs_of args.now))) parts out.old parts
+        out.new) }
 {
     match args.first() {
         Some(value) => {
@@ -128,9 +140,16 @@ fn lower_part(
     out: &mut Draft,
 ) -> Result<(), AllocError>
     requires class { HasClass names.now part.made }
-    requires room { length out.old.ops + end_room parts.old.items + (OPS_FOR_SIZE * exprs_size (exprs_of args.now) + part_room part.length) ≤ PROGRAM_OPS }
+    requires room { length out.old.ops + end_room parts.old.items
+        + (OPS_FOR_SIZE * exprs_size (exprs_of args.now) + part_room part.length) ≤ PROGRAM_OPS }
     requires behind { AllStandBehind names.now part.made out.old.marks }
-    ensures { OnOk result ((place : Place) → BeginsAt place part.spot → Constructs (OPS_FOR_SIZE * exprs_size (exprs_of args.now) + part_room part.length) (λ rest. Then (build names.now 0 (making_of names.now part.made) part.length place (args_meant (context_in names.now out.old) (exprs_of args.now))) (Built (clean_up names.now (making_of names.now part.made) part.length place) rest)) parts.old.items out.old parts.new.items out.new) }
+    ensures { OnOk result ((place : Place) → BeginsAt place part.spot →
+        Constructs (OPS_FOR_SIZE * exprs_size (exprs_of args.now) + part_room part.length)
+        (λ rest. Then
+        (build names.now 0 (making_of names.now part.made) part.length place
+        (args_meant (context_in names.now out.old) (exprs_of args.now)))
+        (Built (clean_up names.now (making_of names.now part.made) part.length place) rest))
+        parts.old.items out.old parts.new.items out.new) }
 {
     lower_build(part.made, part.spot, part.length, args, 0, names, out)?;
     parts.push(clean_call(part.made, part.spot, part.length, names))?;
@@ -147,10 +166,17 @@ pub(crate) fn lower_built(
     parts: &mut Vec<Cleaning>,
     out: &mut Draft,
 ) -> Result<(), AllocError>
-    requires room { length out.old.ops + end_room parts.old.items + (OPS_FOR_SIZE * exprs_size (exprs_of args.now) + part_room field.told.elements) ≤ PROGRAM_OPS }
+    requires room { length out.old.ops + end_room parts.old.items
+        + (OPS_FOR_SIZE * exprs_size (exprs_of args.now) + part_room field.told.elements)
+        ≤ PROGRAM_OPS }
     requires class { (m : Made) → field.made ≡ Some m → HasClass names.now m }
     requires behind { PartBehind names.now out.old.marks (part_in field) }
-    ensures { OnOk result ((c : Class) (i number : ℕ) (f : ClassField) → IsFieldAt names.now c i number f field → Constructs (OPS_FOR_SIZE * exprs_size (exprs_of args.now) + part_room field.told.elements) (field_then names.now c i number f (args_meant (context_in names.now out.old) (exprs_of args.now))) parts.old.items out.old parts.new.items out.new) }
+    ensures { OnOk result ((c : Class) (i number : ℕ) (f : ClassField) →
+        IsFieldAt names.now c i number f field →
+        Constructs (OPS_FOR_SIZE * exprs_size (exprs_of args.now) + part_room field.told.elements)
+        (field_then names.now c i number f
+        (args_meant (context_in names.now out.old) (exprs_of args.now))) parts.old.items out.old
+        parts.new.items out.new) }
 {
     match part_of(field) {
         Some(part) => {
@@ -172,7 +198,9 @@ pub(crate) fn lower_left(
 ) -> Result<(), AllocError>
     requires class { (m : Made) → field.made ≡ Some m → HasClass names.now m }
     requires behind { PartBehind names.now out.old.marks (part_in field) }
-    ensures { OnOk result ((c : Class) (i number : ℕ) (f : ClassField) → IsFieldAt names.now c i number f field → Opens 1 (left_then names.now c i number f) out.old out.new) }
+    ensures { OnOk result ((c : Class) (i number : ℕ) (f : ClassField) →
+        IsFieldAt names.now c i number f field →
+        Opens 1 (left_then names.now c i number f) out.old out.new) }
 {
     match part_of(field) {
         Some(part) => {

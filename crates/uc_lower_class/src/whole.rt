@@ -29,8 +29,10 @@ pub(crate) fn lower_whole(
     out: &mut Draft,
 ) -> Result<(), AllocError>
     requires inside { routine_in out.old.marks < length (routines_of names.now) }
-    requires room { length out.old.ops + (4 + OPS_FOR_SIZE * sizes_at routine.now.body 0) ≤ PROGRAM_OPS }
-    requires cells { out.old.cells + stmts_cells routine.now.body (declared_cells names.now) ≤ FRAME_CELLS }
+    requires room { length out.old.ops + (4 + OPS_FOR_SIZE * sizes_at routine.now.body 0)
+        ≤ PROGRAM_OPS }
+    requires cells { out.old.cells + stmts_cells routine.now.body (declared_cells names.now)
+        ≤ FRAME_CELLS }
     requires scopes { out.old.scopes + stmts_scopes routine.now.body ≤ PROGRAM_SIZE }
     requires texts { out.old.texts + stmts_size routine.now.body ≤ PROGRAM_SIZE }
     ensures { OnOk result (LowersWhole names.now routine.now out.old out.new) }

@@ -116,8 +116,9 @@ fn lower_pieces(
 ) -> Result<Vec<Op>, AllocError>
     requires room { length out.old.ops + OPS_FOR_SIZE * out_items_size items.now ≤ PROGRAM_OPS }
     requires texts { out.old.texts + out_items_size items.now ≤ PROGRAM_SIZE }
-    ensures code { OnOk result (Lowers 0 (OPS_FOR_SIZE * out_items_size items.now - length items.now)
-        (out_items_size items.now) 0 0 (ValuesCode line out.old.marks
+    ensures code { OnOk result (Lowers 0
+        (OPS_FOR_SIZE * out_items_size items.now - length items.now) (out_items_size items.now) 0 0
+        (ValuesCode line out.old.marks
         (items_meant (context_in names.now out.old) out.old.texts items.now))
         (record (scope_of out.old) { texts = out.old.texts + length (item_texts items.now) })
         out.old out.new) }
