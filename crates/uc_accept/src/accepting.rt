@@ -48,9 +48,11 @@ pub fn accept<L: Ledger>(
     requires free { IsFree task entries.old }
     requires inside { (door_at entries.old object).inside ≡ Some task }
     requires site { IsKnownSite site.now }
-    ensures value { result ≡ answer_of site.now.has_else (met (offers_by site.now mask) (door_at entries.old object).waiting) }
+    ensures value { result ≡ answer_of site.now.has_else
+        (met (offers_by site.now mask) (door_at entries.old object).waiting) }
     ensures doors { unpulled entries.new
-        ≡ doors_of entries.old object task site.now.has_else (offers_by site.now mask) (met (offers_by site.now mask) (door_at entries.old object).waiting) }
+        ≡ doors_of entries.old object task site.now.has_else (offers_by site.now mask)
+        (met (offers_by site.now mask) (door_at entries.old object).waiting) }
     ensures moves { moves.new ≤ moves.old + length (offers_by site.now mask) + 3 }
 {
     match pull_first(entries, object, site, mask, moves) {
@@ -83,7 +85,8 @@ fn admit<L: Ledger>(
     requires clause { 0 < taken.clause }
     requires pulled { entries.old.pulled ≡ Some (object, taken.task) }
     ensures value { result ≡ answer_of site.now.has_else (Some (to_met taken)) }
-    ensures doors { entries.new ≡ with_door entries.old object (taken_door task (to_met taken) (door_at entries.old object)) }
+    ensures doors { entries.new ≡ with_door entries.old object
+        (taken_door task (to_met taken) (door_at entries.old object)) }
     ensures moves { moves.new ≤ moves.old + 1 }
 {
     if taken.member == DESTRUCTOR {
@@ -110,13 +113,15 @@ fn pull_first<L: Ledger>(
 ) -> Option<Taken>
     requires object { object < length entries.old.doors }
     requires site { IsKnownSite site.now }
-    ensures value { option_map to_met result ≡ met (offers_by site.now mask) (door_at entries.old object).waiting }
+    ensures value { option_map to_met result
+        ≡ met (offers_by site.now mask) (door_at entries.old object).waiting }
     ensures clause { IfSome result (λ t. 0 < t.clause) }
     ensures pulled { IfSome result (λ t. entries.new ≡ pulled_by entries.old object (Some t.task)) }
     ensures known { IfSome result (λ t. t.task < entries.new.tasks) }
     ensures free { IfSome result (λ t. IsFree t.task entries.new) }
     ensures same { IfNone result (unpulled entries.new ≡ unpulled entries.old) }
-    ensures moves { moves.new ≤ moves.old + length (offers_by site.now mask) + (if is_some result then 1 else 0) }
+    ensures moves { moves.new ≤ moves.old + length (offers_by site.now mask)
+        + (if is_some result then 1 else 0) }
 {
     for at in 0..site.clauses.len() {
         if has_clause(mask, at) {
@@ -140,8 +145,12 @@ fn pull_listed<L: Ledger>(
     requires object { object < length entries.old.doors }
     requires members { AreMembers members.now }
     requires clause { 0 < clause }
-    ensures some { IfSome result (λ t. (rest : List (ℕ × ℕ)) → met (map (λ x. (clause, x)) members.now ++ rest) (door_at entries.old object).waiting ≡ Some (to_met t)) }
-    ensures none { IfNone result ((rest : List (ℕ × ℕ)) → met (map (λ x. (clause, x)) members.now ++ rest) (door_at entries.old object).waiting ≡ met rest (door_at entries.old object).waiting) }
+    ensures some { IfSome result (λ t. (rest : List (ℕ × ℕ)) →
+        met (map (λ x. (clause, x)) members.now ++ rest) (door_at entries.old object).waiting
+        ≡ Some (to_met t)) }
+    ensures none { IfNone result ((rest : List (ℕ × ℕ)) →
+        met (map (λ x. (clause, x)) members.now ++ rest) (door_at entries.old object).waiting
+        ≡ met rest (door_at entries.old object).waiting) }
     ensures clause { IfSome result (λ t. 0 < t.clause) }
     ensures pulled { IfSome result (λ t. entries.new ≡ pulled_by entries.old object (Some t.task)) }
     ensures known { IfSome result (λ t. t.task < entries.new.tasks) }

@@ -65,7 +65,8 @@ fn names_main(sig: &Sig) -> bool
 }
 
 fn form_names_main(form: &MemberForm) -> bool
-    ensures { result ≡ list_any (λ n. same_name n main_name) (form_declares_names (member_form_at form.now)) }
+    ensures { result ≡ list_any (λ n. same_name n main_name)
+        (form_declares_names (member_form_at form.now)) }
 {
     match form {
         MemberForm::Fields { declarators, .. } => names_main_field(declarators),
@@ -141,7 +142,8 @@ fn sig_name(sig: &Sig) -> Option<&Name>
 
 // The name of a routine that may be a mutex member.
 fn form_name(form: &MemberForm) -> Option<&Name>
-    ensures { MatchOption result (member_form_name (member_form_at form.now) ≡ None) (λ n. member_form_name (member_form_at form.now) ≡ Some n.now) }
+    ensures { MatchOption result (member_form_name (member_form_at form.now)
+        ≡ None) (λ n. member_form_name (member_form_at form.now) ≡ Some n.now) }
 {
     match form {
         MemberForm::Fields { .. } => None,

@@ -86,7 +86,8 @@ fn is_kept(class: &Class, member: usize, name: &Name) -> bool
 }
 
 fn is_taken(tables: &Tables, home: usize, class: &Class, place: FieldPlace, name: &Name) -> bool
-    ensures { result ≡ (stands_before place (member_named tables.now home name.now) || is_kept class.now place.member name.now) }
+    ensures { result ≡ (stands_before place (member_named tables.now home name.now)
+        || is_kept class.now place.member name.now) }
 {
     is_named_before(tables, home, place, name) || is_kept(class, place.member, name)
 }
@@ -99,7 +100,8 @@ pub fn is_new_field(
     place: FieldPlace,
     name: &Name,
 ) -> bool
-    ensures { class_at tables.now home ≡ Some class.now → result ≡ is_new_field class.now place (fields_at class.now place.member) name.now }
+    ensures { class_at tables.now home ≡ Some class.now →
+        result ≡ is_new_field class.now place (fields_at class.now place.member) name.now }
 {
     let taken = is_taken(tables, home, class, place, name);
     !taken
@@ -114,7 +116,8 @@ pub fn is_new_routine(
     role: Role,
     name: &Name,
 ) -> bool
-    ensures { class_at tables.now home ≡ Some class.now → result ≡ is_new_routine_by role class.now member name.now }
+    ensures { class_at tables.now home ≡ Some class.now →
+        result ≡ is_new_routine_by role class.now member name.now }
 {
     let place = FieldPlace { member, index: 0 };
     match role {

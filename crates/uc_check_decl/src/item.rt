@@ -30,7 +30,8 @@ fn has_role(sig: &Sig, form: &MemberForm) -> bool
 }
 
 fn item_name(item: &Item) -> Option<&Name>
-    ensures { MatchOption result (item_name item.now ≡ None) (λ n. item_name item.now ≡ Some n.now) }
+    ensures { MatchOption result (item_name item.now ≡ None) (λ n. item_name item.now
+        ≡ Some n.now) }
 {
     match &item.form {
         ItemForm::Class { class } => Some(&class.name),
@@ -43,7 +44,8 @@ fn item_name(item: &Item) -> Option<&Name>
 }
 
 fn outer_name(sig: &Sig) -> Option<&Name>
-    ensures { MatchOption result (outer_name sig.now ≡ None) (λ n. outer_name sig.now ≡ Some n.now) }
+    ensures { MatchOption result (outer_name sig.now ≡ None) (λ n. outer_name sig.now
+        ≡ Some n.now) }
 {
     match &sig.owner {
         Owner::Here => Some(&sig.name),

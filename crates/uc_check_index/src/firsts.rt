@@ -34,7 +34,8 @@ pub fn note(firsts: &mut Scope, key: &[u8], place: usize) -> Result<(), AllocErr
 /// The same of a name, where there is one.
 pub fn note_name(firsts: &mut Scope, name: Option<&Name>, place: usize) -> Result<(), AllocError>
     requires { length firsts.old ≡ 1 }
-    ensures { OnOk result (firsts.new ≡ noted firsts.old (option_map (λ n. n.now) name.entry) place) }
+    ensures { OnOk result (firsts.new
+        ≡ noted firsts.old (option_map (λ n. n.now) name.entry) place) }
 {
     match name {
         Some(name) => {

@@ -73,7 +73,8 @@ impl<'a> Model for Index<'a> {
 }
 
 fn named_in(alloc: Global, items: &[Item]) -> Result<Named, AllocError>
-    ensures { IfOk result (λ n. AreNamed items.now n.classes n.forwards n.routines n.protos n.constants n.builders) }
+    ensures { IfOk result (λ n. AreNamed items.now n.classes n.forwards n.routines n.protos
+        n.constants n.builders) }
 {
     let classes = firsts_by_name(alloc, items, NameTopic::Class)?;
     let forwards = firsts_by_name(alloc, items, NameTopic::Forward)?;
@@ -92,7 +93,8 @@ fn named_in(alloc: Global, items: &[Item]) -> Result<Named, AllocError>
 }
 
 fn keyed_in(alloc: Global, items: &[Item]) -> Result<Keyed, AllocError>
-    ensures { IfOk result (λ k. AreKeyed items.now k.kinds k.protos k.routines k.members k.member_sigs) }
+    ensures { IfOk result (λ k. AreKeyed items.now k.kinds k.protos k.routines k.members
+        k.member_sigs) }
 {
     let kinds = firsts_by_key(alloc, items, KeyTopic::Class)?;
     let protos = firsts_by_key(alloc, items, KeyTopic::Proto)?;
@@ -169,7 +171,11 @@ impl<'a> Index<'a> {
     }
 
     fn any_clashes(&self, name: &Name, place: usize) -> bool
-        ensures { result ≡ (any_named class_name name.now (take place self.now.items) || (any_named forward_name name.now (take place self.now.items) || (any_named routine_name name.now (take place self.now.items) || (any_named proto_name name.now (take place self.now.items) || any_named constant_name name.now (take place self.now.items))))) }
+        ensures { result ≡ (any_named class_name name.now (take place self.now.items)
+            || (any_named forward_name name.now (take place self.now.items)
+            || (any_named routine_name name.now (take place self.now.items)
+            || (any_named proto_name name.now (take place self.now.items)
+            || any_named constant_name name.now (take place self.now.items))))) }
     {
         self.has_class(name, place)
             || (self.has_forward(name, place)
@@ -178,7 +184,10 @@ impl<'a> Index<'a> {
     }
 
     fn clashes_with_class(&self, name: &Name, place: usize) -> bool
-        ensures { result ≡ (any_named class_name name.now (take place self.now.items) || (any_named routine_name name.now (take place self.now.items) || (any_named proto_name name.now (take place self.now.items) || any_named constant_name name.now (take place self.now.items)))) }
+        ensures { result ≡ (any_named class_name name.now (take place self.now.items)
+            || (any_named routine_name name.now (take place self.now.items)
+            || (any_named proto_name name.now (take place self.now.items)
+            || any_named constant_name name.now (take place self.now.items)))) }
     {
         self.has_class(name, place)
             || (self.has_routine(name, place)
@@ -186,7 +195,10 @@ impl<'a> Index<'a> {
     }
 
     fn clashes_with_routine(&self, proto: bool, name: &Name, place: usize) -> bool
-        ensures { result ≡ (any_named class_name name.now (take place self.now.items) || (any_named forward_name name.now (take place self.now.items) || ((not proto && any_named routine_name name.now (take place self.now.items)) || any_named constant_name name.now (take place self.now.items)))) }
+        ensures { result ≡ (any_named class_name name.now (take place self.now.items)
+            || (any_named forward_name name.now (take place self.now.items)
+            || ((not proto && any_named routine_name name.now (take place self.now.items))
+            || any_named constant_name name.now (take place self.now.items)))) }
     {
         self.has_class(name, place)
             || (self.has_forward(name, place)
@@ -194,7 +206,10 @@ impl<'a> Index<'a> {
     }
 
     fn clashes_with_proto(&self, name: &Name, place: usize) -> bool
-        ensures { result ≡ (any_named class_name name.now (take place self.now.items) || (any_named forward_name name.now (take place self.now.items) || (any_named proto_name name.now (take place self.now.items) || any_named constant_name name.now (take place self.now.items)))) }
+        ensures { result ≡ (any_named class_name name.now (take place self.now.items)
+            || (any_named forward_name name.now (take place self.now.items)
+            || (any_named proto_name name.now (take place self.now.items)
+            || any_named constant_name name.now (take place self.now.items)))) }
     {
         self.has_class(name, place)
             || (self.has_forward(name, place)
@@ -202,7 +217,10 @@ impl<'a> Index<'a> {
     }
 
     fn clashes_with_forward(&self, name: &Name, place: usize) -> bool
-        ensures { result ≡ (any_named forward_name name.now (take place self.now.items) || (any_named routine_name name.now (take place self.now.items) || (any_named proto_name name.now (take place self.now.items) || any_named constant_name name.now (take place self.now.items)))) }
+        ensures { result ≡ (any_named forward_name name.now (take place self.now.items)
+            || (any_named routine_name name.now (take place self.now.items)
+            || (any_named proto_name name.now (take place self.now.items)
+            || any_named constant_name name.now (take place self.now.items)))) }
     {
         self.has_forward(name, place)
             || (self.has_routine(name, place)
@@ -210,7 +228,12 @@ impl<'a> Index<'a> {
     }
 
     fn clashes(&self, proto: bool, name: &Name, later: &Item, place: usize) -> bool
-        ensures { result ≡ clash_by proto later.now (any_named class_name name.now (take place self.now.items)) (any_named forward_name name.now (take place self.now.items)) (any_named routine_name name.now (take place self.now.items)) (any_named proto_name name.now (take place self.now.items)) (any_named constant_name name.now (take place self.now.items)) }
+        ensures { result ≡ clash_by proto later.now
+            (any_named class_name name.now (take place self.now.items))
+            (any_named forward_name name.now (take place self.now.items))
+            (any_named routine_name name.now (take place self.now.items))
+            (any_named proto_name name.now (take place self.now.items))
+            (any_named constant_name name.now (take place self.now.items)) }
     {
         match &later.form {
             ItemForm::Class { .. } => self.clashes_with_class(name, place),
@@ -273,7 +296,8 @@ impl<'a> Index<'a> {
         sig: &Sig,
         place: usize,
     ) -> Result<bool, AllocError>
-        ensures { IfOk result (λ b. b ≡ list_any (defines_member class.now sig.now) (take place self.now.items)) }
+        ensures { IfOk result (λ b. b
+            ≡ list_any (defines_member class.now sig.now) (take place self.now.items)) }
     {
         let key = member_key(alloc, class, sig)?;
         let first = first_in(&self.keyed.members, &key);
@@ -287,7 +311,8 @@ impl<'a> Index<'a> {
         class: &Name,
         sig: &Sig,
     ) -> Result<bool, AllocError>
-        ensures { IfOk result (λ b. b ≡ list_any (defines_member_sig class.now sig.now) self.now.items) }
+        ensures { IfOk result (λ b. b
+            ≡ list_any (defines_member_sig class.now sig.now) self.now.items) }
     {
         let key = member_sig_key(alloc, class, sig)?;
         let first = first_in(&self.keyed.member_sigs, &key);

@@ -45,7 +45,8 @@ impl<'a> Model for Protos<'a> {
 }
 
 fn form_role_key(alloc: Global, form: &MemberForm) -> Result<Option<Vec<u8>>, AllocError>
-    ensures { IfOk result (λ key. option_map (λ k. k.items) key ≡ form_role_key (member_form_at form.now)) }
+    ensures { IfOk result (λ key. option_map (λ k. k.items) key
+        ≡ form_role_key (member_form_at form.now)) }
 {
     match form {
         MemberForm::Fields { .. } => Ok(None),
@@ -58,7 +59,8 @@ fn form_role_key(alloc: Global, form: &MemberForm) -> Result<Option<Vec<u8>>, Al
 }
 
 fn form_sig_key(alloc: Global, form: &MemberForm) -> Result<Option<Vec<u8>>, AllocError>
-    ensures { IfOk result (λ key. option_map (λ k. k.items) key ≡ form_sig_key (member_form_at form.now)) }
+    ensures { IfOk result (λ key. option_map (λ k. k.items) key
+        ≡ form_sig_key (member_form_at form.now)) }
 {
     match form {
         MemberForm::Fields { .. } => Ok(None),
@@ -120,7 +122,8 @@ impl<'a> Protos<'a> {
 
     /// Whether one of the members is a prototype with this signature.
     pub fn declares(&self, alloc: Global, sig: &Sig) -> Result<bool, AllocError>
-        ensures { IfOk result (λ b. b ≡ list_any (λ m. form_declares_sig sig.now m.form) self.now.members) }
+        ensures { IfOk result (λ b. b
+            ≡ list_any (λ m. form_declares_sig sig.now m.form) self.now.members) }
     {
         let key = sig_key(alloc, sig)?;
         let first = first_in(&self.sigs, &key);
@@ -141,7 +144,9 @@ impl<'a> Protos<'a> {
 
 // The class that an item is.
 fn class_in(item: &Item) -> Option<&Class>
-    ensures { MatchOption result ((is : List Item) → classes_of (item.now ∷ is) ≡ classes_of is) (λ c. (is : List Item) → classes_of (item.now ∷ is) ≡ c.now ∷ classes_of is) }
+    ensures { MatchOption result ((is : List Item) →
+        classes_of (item.now ∷ is) ≡ classes_of is) (λ c. (is : List Item) →
+        classes_of (item.now ∷ is) ≡ c.now ∷ classes_of is) }
 {
     match &item.form {
         ItemForm::Class { class } => Some(class),

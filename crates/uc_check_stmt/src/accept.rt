@@ -54,7 +54,8 @@ fn list_number(seen: &mut Vec<u8>, number: Option<u8>) -> Result<bool, AllocErro
 }
 
 fn destructor_of(class: &Class, member: &MemberName) -> Option<u8>
-    ensures { result ≡ (if is_mutex class.now.kind && same_name class.now.name member.now.name then Some DESTRUCTOR else None) }
+    ensures { result ≡ (if is_mutex class.now.kind && same_name class.now.name member.now.name
+        then Some DESTRUCTOR else None) }
 {
     if is_mutex(class.kind) && class.name.is(member.name.bytes()) {
         Some(DESTRUCTOR)
@@ -105,7 +106,8 @@ struct Listing<'a> {
 }
 
 fn listed_in(listing: Listing, member: &MemberName) -> Option<u8>
-    ensures { result ≡ listed_in (member_named listing.entry.tables.now listing.entry.place) (Some listing.entry.class.now) member.now }
+    ensures { result ≡ listed_in (member_named listing.entry.tables.now listing.entry.place)
+        (Some listing.entry.class.now) member.now }
 {
     if member.destructor {
         return destructor_of(listing.class, member);
@@ -123,8 +125,14 @@ fn list_members(
     seen: &mut Vec<u8>,
     members: &[MemberName],
 ) -> Result<bool, AllocError>
-    ensures seen { OnOk result (seen.new.items ≡ all_listed seen.old.items (map (listed_in (member_named listing.entry.tables.now listing.entry.place) (Some listing.entry.class.now)) members.now)) }
-    ensures fresh { IfOk result (λ fresh. fresh ≡ are_fresh seen.old.items (map (listed_in (member_named listing.entry.tables.now listing.entry.place) (Some listing.entry.class.now)) members.now)) }
+    ensures seen { OnOk result (seen.new.items
+        ≡ all_listed seen.old.items
+        (map (listed_in (member_named listing.entry.tables.now listing.entry.place)
+        (Some listing.entry.class.now)) members.now)) }
+    ensures fresh { IfOk result (λ fresh. fresh
+        ≡ are_fresh seen.old.items
+        (map (listed_in (member_named listing.entry.tables.now listing.entry.place)
+        (Some listing.entry.class.now)) members.now)) }
 {
     let mut fresh = true;
     for member in members {
@@ -148,7 +156,10 @@ fn note_clauses(
     clauses: &[Clause],
     found: &mut Found,
 ) -> Result<(), AllocError>
-    ensures { OnOk result (found.new ≡ after found.old (clauses_breaks (member_named listing.entry.tables.now listing.entry.place) (Some listing.entry.class.now) 0 [] (clauses_of clauses.now))) }
+    ensures { OnOk result (found.new
+        ≡ after found.old
+        (clauses_breaks (member_named listing.entry.tables.now listing.entry.place)
+        (Some listing.entry.class.now) 0 [] (clauses_of clauses.now))) }
 {
     let mut seen = Vec::new(alloc);
     for (place, clause) in clauses.iter().enumerate() {
@@ -161,13 +172,15 @@ fn note_clauses(
 
 // Where no class is round an accept statement nothing that it lists has a number.
 fn lists_none(members: &[MemberName]) -> bool
-    ensures { (meant : List ℕ → Option NameMeaning) → result ≡ are_fresh [] (map (listed_in meant None) members.now) }
+    ensures { (meant : List ℕ → Option NameMeaning) →
+        result ≡ are_fresh [] (map (listed_in meant None) members.now) }
 {
     members.is_empty()
 }
 
 fn note_unowned(clauses: &[Clause], found: &mut Found)
-    ensures { (meant : List ℕ → Option NameMeaning) → found.new ≡ after found.old (clauses_breaks meant None 0 [] (clauses_of clauses.now)) }
+    ensures { (meant : List ℕ → Option NameMeaning) →
+        found.new ≡ after found.old (clauses_breaks meant None 0 [] (clauses_of clauses.now)) }
 {
     for (place, clause) in clauses.iter().enumerate() {
         let fresh = lists_none(&clause.members);
@@ -196,7 +209,10 @@ fn note_owned(
     clauses: &[Clause],
     found: &mut Found,
 ) -> Result<(), AllocError>
-    ensures { OnOk result (found.new ≡ after found.old (clauses_breaks (member_named names.now.program place) (class_at names.now.program place) 0 [] (clauses_of clauses.now))) }
+    ensures { OnOk result (found.new
+        ≡ after found.old
+        (clauses_breaks (member_named names.now.program place)
+        (class_at names.now.program place) 0 [] (clauses_of clauses.now))) }
 {
     let tables = names.tables();
     match tables.class_at(place) {
@@ -219,7 +235,10 @@ fn note_owned(
 
 // The clauses of an accept statement.
 fn note_listed(names: &Names, clauses: &[Clause], found: &mut Found) -> Result<(), AllocError>
-    ensures { OnOk result (found.new ≡ after found.old (clauses_breaks (home_member names.now.program names.now.around.home) (class_of names.now) 0 [] (clauses_of clauses.now))) }
+    ensures { OnOk result (found.new
+        ≡ after found.old
+        (clauses_breaks (home_member names.now.program names.now.around.home)
+        (class_of names.now) 0 [] (clauses_of clauses.now))) }
 {
     match names.around().home {
         Some(home) => {
@@ -240,7 +259,8 @@ pub fn ask_accept(
     at: Pos,
     found: &mut Found,
 ) -> Result<(), AllocError>
-    ensures { OnOk result (found.new ≡ first_break_after found.old (AtAccept names.now at (clauses_of clauses.now))) }
+    ensures { OnOk result (found.new
+        ≡ first_break_after found.old (AtAccept names.now at (clauses_of clauses.now))) }
 {
     note_listed(names, clauses, found)?;
     found.note_unless(may_accept(names.around()), Rule::O9, at);
@@ -276,7 +296,8 @@ fn is_event_or_all(names: &Names, event: &Option<Name>) -> bool
 
 #[tactic(auto, using(crate::proofs::Joined::joining))]
 fn note_handlers(names: &Names, handlers: &[Handler], found: &mut Found)
-    ensures { found.new ≡ after found.old (handlers_breaks names.now.program false false (handlers_of handlers.now)) }
+    ensures { found.new ≡ after found.old
+        (handlers_breaks names.now.program false false (handlers_of handlers.now)) }
 {
     let mut catches = false;
     let mut resumes = false;
@@ -304,7 +325,8 @@ fn resumes_then(resumes: bool, kind: HandlerKind, all: bool) -> bool
 
 /// The handlers of a guarded block.
 pub fn ask_handlers(names: &Names, handlers: &[Handler], found: &mut Found)
-    ensures { found.new ≡ first_break_after found.old (AtHandlers names.now (handlers_of handlers.now)) }
+    ensures { found.new ≡ first_break_after found.old
+        (AtHandlers names.now (handlers_of handlers.now)) }
 {
     note_handlers(names, handlers, found);
 }

@@ -52,7 +52,8 @@ pub fn check_maybe(names: &Names, e: &Option<Expr>, found: &mut Found)
 #[tactic(auto, using(crate::proofs::Joined::joining))]
 fn check_value(names: &Names, e: &Expr, target: Target, found: &mut Found) -> Option<Entity>
     ensures entity { result ≡ entity_of names.now e.now }
-    ensures breaks { found.new ≡ with_visits found.old (arg_visits names.now e.now (expected names.now.program target 0)) }
+    ensures breaks { found.new ≡ with_visits found.old
+        (arg_visits names.now e.now (expected names.now.program target 0)) }
 {
     let entity = check_expr(names, e, found);
     let expected = expected_of(names.tables(), target, 0);
@@ -73,7 +74,8 @@ pub fn is_scalar_of(entity: Option<Entity>) -> bool
 #[tactic(auto, using(crate::proofs::Joined::joining))]
 fn check_single(names: &Names, args: &[Expr], target: Target, found: &mut Found) -> bool
     ensures single { result ≡ are_single names.now (exprs_of args.now) }
-    ensures breaks { found.new ≡ with_visits found.old (args_visits names.now (exprs_of args.now) target 0) }
+    ensures breaks { found.new ≡ with_visits found.old
+        (args_visits names.now (exprs_of args.now) target 0) }
 {
     if args.len() == 1 {
         let entity = check_value(names, &args[0], target, found);
@@ -88,7 +90,8 @@ fn check_start(names: &Names, start: &Start, target: Target, found: &mut Found) 
     ensures by_value { result.by_value ≡ is_value_start start.now }
     ensures count { result.count ≡ count (start_values start.now) }
     ensures single { result.single ≡ are_single names.now (start_values start.now) }
-    ensures breaks { found.new ≡ with_visits found.old (args_visits names.now (start_values start.now) target 0) }
+    ensures breaks { found.new ≡ with_visits found.old
+        (args_visits names.now (start_values start.now) target 0) }
 {
     match &start.form {
         StartForm::Nothing => VariableStart {
@@ -156,7 +159,8 @@ fn is_length(value: Option<i64>) -> bool
 
 /// A length: of a reference there is none.
 pub fn judge_length(names: &Names, by_ref: bool, len: &Option<Expr>, at: Pos, found: &mut Found)
-    ensures { found.new ≡ after (after found.old (length_breaks names.now by_ref len.now at)) (length_value_breaks names.now len.now) }
+    ensures { found.new ≡ after (after found.old (length_breaks names.now by_ref len.now at))
+        (length_value_breaks names.now len.now) }
 {
     match len {
         Some(len) => {
@@ -212,7 +216,8 @@ fn judge_start(
     at: Pos,
     found: &mut Found,
 )
-    ensures { found.new ≡ after found.old (started_breaks names.now.program len.now start.by_value start.count start.single at sort) }
+    ensures { found.new ≡ after found.old
+        (started_breaks names.now.program len.now start.by_value start.count start.single at sort) }
 {
     match sort {
         Some(sort) => match len {
@@ -245,7 +250,8 @@ fn judge_condition(sort: Option<Sort>, at: Pos, found: &mut Found)
 
 #[tactic(auto, using(crate::proofs::Joined::joining))]
 fn check_variable(names: &Names, base: &Base, declarator: &Declarator, found: &mut Found)
-    ensures { found.new ≡ with_visits found.old (variable_visits names.now base.now declarator.now) }
+    ensures { found.new ≡ with_visits found.old
+        (variable_visits names.now base.now declarator.now) }
 {
     let tables = names.tables();
     let sort = tables.sort_of(base);
@@ -269,7 +275,8 @@ fn check_variables(
     found: &mut Found,
 ) -> Result<(), AllocError>
     ensures names { OnOk result (names.new ≡ all_declared names.old base.now declarators.now) }
-    ensures breaks { OnOk result (found.new ≡ with_visits found.old (variables_visits names.old base.now declarators.now)) }
+    ensures breaks { OnOk result (found.new
+        ≡ with_visits found.old (variables_visits names.old base.now declarators.now)) }
 {
     for declarator in declarators {
         check_variable(names, base, declarator, found);
@@ -288,7 +295,8 @@ pub fn check_declaration(
     found: &mut Found,
 ) -> Result<(), AllocError>
     ensures names { OnOk result (names.new ≡ all_declared names.old base.now declarators.now) }
-    ensures breaks { OnOk result (found.new ≡ with_visits found.old (declaration_visits names.old at base.now declarators.now)) }
+    ensures breaks { OnOk result (found.new
+        ≡ with_visits found.old (declaration_visits names.old at base.now declarators.now)) }
 {
     ask_base(names, base, at, found);
     check_variables(names, base, declarators, found)?;

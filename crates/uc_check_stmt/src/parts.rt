@@ -136,7 +136,8 @@ fn event_target(names: &Names, name: &Name) -> Target
 #[tactic(auto, using(crate::proofs::Joined::joining))]
 fn check_raised_args(names: &Names, raised: &Raised, found: &mut Found) -> usize
     ensures count { result ≡ count raised.now.args }
-    ensures breaks { found.new ≡ with_visits found.old (args_visits names.now raised.now.args (event_target names.now raised.now.name) 0) }
+    ensures breaks { found.new ≡ with_visits found.old
+        (args_visits names.now raised.now.args (event_target names.now raised.now.name) 0) }
 {
     let target = event_target(names, &raised.name);
     let _sound = check_args(names, &raised.args, target, found);

@@ -60,7 +60,8 @@ pub fn with_joins(joins: bool, around: Surroundings) -> Surroundings
 
 #[tactic(auto, using(crate::proofs::Joined::joining))]
 fn check_raise_at(names: &Names, raised: &Raised, target: &Expr, at: Pos, found: &mut Found)
-    ensures { found.new ≡ with_visits found.old (stmt_visits (RaiseAt at raised.now target.now) names.now) }
+    ensures { found.new ≡ with_visits found.old
+        (stmt_visits (RaiseAt at raised.now target.now) names.now) }
 {
     check_raised(names, raised, at, found);
     let entity = check_expr(names, target, found);
@@ -69,7 +70,9 @@ fn check_raise_at(names: &Names, raised: &Raised, target: &Expr, at: Pos, found:
 
 #[tactic(auto, using(crate::proofs::Joined::joining))]
 fn check_migrate(names: &Names, cluster: &Expr, found: &mut Found)
-    ensures { found.new ≡ with_visits found.old (visits names.now cluster.now ++ AtMigrate (expr_pos cluster.now) (entity_of names.now cluster.now) ∷ []) }
+    ensures { found.new ≡ with_visits found.old
+        (visits names.now cluster.now
+        ++ AtMigrate (expr_pos cluster.now) (entity_of names.now cluster.now) ∷ []) }
 {
     let entity = check_expr(names, cluster, found);
     ask_migrate(entity, cluster.first_token(), found);
@@ -78,7 +81,8 @@ fn check_migrate(names: &Names, cluster: &Expr, found: &mut Found)
 #[tactic(auto, using(crate::proofs::Joined::joining))]
 fn check_for_start(names: &mut Names, start: &ForStart, found: &mut Found) -> Result<(), AllocError>
     ensures names { OnOk result (names.new ≡ for_declared names.old start.now) }
-    ensures breaks { OnOk result (found.new ≡ with_visits found.old (for_visits names.old start.now)) }
+    ensures breaks { OnOk result (found.new
+        ≡ with_visits found.old (for_visits names.old start.now)) }
 {
     match &start.form {
         ForForm::Nothing => Ok(()),
@@ -182,7 +186,8 @@ fn check_alone(names: &Names, s: &Stmt, found: &mut Found)
 
 #[tactic(auto, using(crate::proofs::Joined::joining))]
 fn check_together(names: &Names, items: &[OutItem], found: &mut Found)
-    ensures { found.new ≡ with_visits found.old (outs_visits names.now items.now ++ AtTogether items.now ∷ []) }
+    ensures { found.new ≡ with_visits found.old
+        (outs_visits names.now items.now ++ AtTogether items.now ∷ []) }
 {
     check_items(names, items, found);
     ask_together(items, found);
@@ -198,7 +203,10 @@ fn check_if(
     found: &mut Found,
 ) -> Result<(), AllocError>
     ensures names { OnOk result (names.new ≡ names.old) }
-    ensures breaks { OnOk result (found.new ≡ with_visits found.old (condition_visits names.old test.now ++ (stmt_visits chosen.now (opened names.old) ++ maybe_stmt_visits (maybe_at other.now) names.old))) }
+    ensures breaks { OnOk result (found.new
+        ≡ with_visits found.old (condition_visits names.old test.now
+        ++ (stmt_visits chosen.now (opened names.old)
+        ++ maybe_stmt_visits (maybe_at other.now) names.old))) }
 {
     check_condition(names, test, found);
     check_inner(names, names.around(), chosen, found)?;
@@ -215,7 +223,9 @@ fn check_while(
     found: &mut Found,
 ) -> Result<(), AllocError>
     ensures names { OnOk result (names.new ≡ names.old) }
-    ensures breaks { OnOk result (found.new ≡ with_visits found.old (condition_visits names.old test.now ++ stmt_visits body.now (opened (looped names.old)))) }
+    ensures breaks { OnOk result (found.new
+        ≡ with_visits found.old (condition_visits names.old test.now
+        ++ stmt_visits body.now (opened (looped names.old)))) }
 {
     check_condition(names, test, found);
     check_inner(names, in_loop(names.around()), body, found)?;
@@ -231,7 +241,9 @@ fn check_do(
     found: &mut Found,
 ) -> Result<(), AllocError>
     ensures names { OnOk result (names.new ≡ names.old) }
-    ensures breaks { OnOk result (found.new ≡ with_visits found.old (stmt_visits body.now (opened (looped names.old)) ++ condition_visits names.old test.now)) }
+    ensures breaks { OnOk result (found.new
+        ≡ with_visits found.old (stmt_visits body.now (opened (looped names.old))
+        ++ condition_visits names.old test.now)) }
 {
     check_inner(names, in_loop(names.around()), body, found)?;
     check_condition(names, test, found);
@@ -247,7 +259,10 @@ fn check_try(
     found: &mut Found,
 ) -> Result<(), AllocError>
     ensures names { OnOk result (names.new ≡ names.old) }
-    ensures breaks { OnOk result (found.new ≡ with_visits found.old (stmts_visits (stmts_of body.now) (opened names.old) ++ (AtHandlers names.old (handlers_of handlers.now) ∷ handlers_visits (handlers_of handlers.now) names.old))) }
+    ensures breaks { OnOk result (found.new
+        ≡ with_visits found.old (stmts_visits (stmts_of body.now) (opened names.old)
+        ++ (AtHandlers names.old (handlers_of handlers.now)
+        ∷ handlers_visits (handlers_of handlers.now) names.old))) }
 {
     check_guarded(names, body, found)?;
     ask_handlers(names, handlers, found);
@@ -265,7 +280,9 @@ fn check_masked(
     found: &mut Found,
 ) -> Result<(), AllocError>
     ensures names { OnOk result (names.new ≡ names.old) }
-    ensures breaks { OnOk result (found.new ≡ with_visits found.old (events_visits names.old events.now ++ stmt_visits body.now (opened names.old))) }
+    ensures breaks { OnOk result (found.new
+        ≡ with_visits found.old (events_visits names.old events.now
+        ++ stmt_visits body.now (opened names.old))) }
 {
     check_events(names, events, found);
     check_inner(names, names.around(), body, found)?;
@@ -282,7 +299,10 @@ fn check_accept(
     found: &mut Found,
 ) -> Result<(), AllocError>
     ensures names { OnOk result (names.new ≡ names.old) }
-    ensures breaks { OnOk result (found.new ≡ with_visits found.old (AtAccept names.old at (clauses_of clauses.now) ∷ (clauses_visits (clauses_of clauses.now) names.old ++ maybe_stmt_visits (maybe_at other.now) names.old))) }
+    ensures breaks { OnOk result (found.new
+        ≡ with_visits found.old (AtAccept names.old at (clauses_of clauses.now)
+        ∷ (clauses_visits (clauses_of clauses.now) names.old
+        ++ maybe_stmt_visits (maybe_at other.now) names.old))) }
 {
     ask_accept(names, clauses, at, found)?;
     check_clauses(names, clauses, found)?;
@@ -295,7 +315,8 @@ fn check_accept(
 #[tactic(auto, using(crate::proofs::Joined::joining))]
 pub fn check_stmts(names: &mut Names, body: &[Stmt], found: &mut Found) -> Result<(), AllocError>
     ensures names { OnOk result (names.new ≡ env_behind names.old (stmts_of body.now)) }
-    ensures breaks { OnOk result (found.new ≡ with_visits found.old (stmts_visits (stmts_of body.now) names.old)) }
+    ensures breaks { OnOk result (found.new
+        ≡ with_visits found.old (stmts_visits (stmts_of body.now) names.old)) }
 {
     for s in body {
         check_stmt(names, s, found)?;
@@ -307,7 +328,8 @@ pub fn check_stmts(names: &mut Names, body: &[Stmt], found: &mut Found) -> Resul
 #[tactic(auto, using(crate::proofs::Joined::joining, crate::proofs::Blocks::blocks))]
 fn check_block(names: &mut Names, body: &[Stmt], found: &mut Found) -> Result<(), AllocError>
     ensures names { OnOk result (names.new ≡ names.old) }
-    ensures breaks { OnOk result (found.new ≡ with_visits found.old (stmts_visits (stmts_of body.now) (block_env names.old))) }
+    ensures breaks { OnOk result (found.new
+        ≡ with_visits found.old (stmts_visits (stmts_of body.now) (block_env names.old))) }
 {
     let mark = names.mark();
     open_block(names);
@@ -333,7 +355,8 @@ pub fn open_block(names: &mut Names)
 #[tactic(auto, using(crate::proofs::Joined::joining, crate::proofs::Blocks::blocks))]
 fn check_guarded(names: &mut Names, body: &[Stmt], found: &mut Found) -> Result<(), AllocError>
     ensures names { OnOk result (names.new ≡ names.old) }
-    ensures breaks { OnOk result (found.new ≡ with_visits found.old (stmts_visits (stmts_of body.now) (opened names.old))) }
+    ensures breaks { OnOk result (found.new
+        ≡ with_visits found.old (stmts_visits (stmts_of body.now) (opened names.old))) }
 {
     let mark = names.mark();
     names.open();
@@ -352,7 +375,8 @@ fn check_inner(
     found: &mut Found,
 ) -> Result<(), AllocError>
     ensures names { OnOk result (names.new ≡ names.old) }
-    ensures breaks { OnOk result (found.new ≡ with_visits found.old (stmt_visits s.now (opened (with_around names.old around)))) }
+    ensures breaks { OnOk result (found.new
+        ≡ with_visits found.old (stmt_visits s.now (opened (with_around names.old around)))) }
 {
     let mark = names.mark();
     names.set_around(around);
@@ -370,7 +394,8 @@ fn check_maybe_inner(
     found: &mut Found,
 ) -> Result<(), AllocError>
     ensures names { OnOk result (names.new ≡ names.old) }
-    ensures breaks { OnOk result (found.new ≡ with_visits found.old (maybe_stmt_visits (maybe_at s.now) names.old)) }
+    ensures breaks { OnOk result (found.new
+        ≡ with_visits found.old (maybe_stmt_visits (maybe_at s.now) names.old)) }
 {
     match s {
         Some(s) => {
@@ -392,7 +417,11 @@ fn check_for(
     found: &mut Found,
 ) -> Result<(), AllocError>
     ensures names { OnOk result (names.new ≡ names.old) }
-    ensures breaks { OnOk result (found.new ≡ with_visits found.old (for_visits (opened names.old) start.now ++ (maybe_condition_visits (for_declared (opened names.old) start.now) test.now ++ (maybe_statement_visits (for_declared (opened names.old) start.now) step.now ++ stmt_visits body.now (joined (looped (for_declared (opened names.old) start.now))))))) }
+    ensures breaks { OnOk result (found.new
+        ≡ with_visits found.old (for_visits (opened names.old) start.now
+        ++ (maybe_condition_visits (for_declared (opened names.old) start.now) test.now
+        ++ (maybe_statement_visits (for_declared (opened names.old) start.now) step.now
+        ++ stmt_visits body.now (joined (looped (for_declared (opened names.old) start.now))))))) }
 {
     let mark = names.mark();
     names.open();
@@ -409,7 +438,8 @@ fn check_for(
 #[tactic(auto, using(crate::proofs::Joined::joining, crate::proofs::Blocks::blocks))]
 fn check_handler(names: &mut Names, handler: &Handler, found: &mut Found) -> Result<(), AllocError>
     ensures names { OnOk result (names.new ≡ names.old) }
-    ensures breaks { OnOk result (found.new ≡ with_visits found.old (handler_visits handler.now names.old)) }
+    ensures breaks { OnOk result (found.new
+        ≡ with_visits found.old (handler_visits handler.now names.old)) }
 {
     let mark = names.mark();
     names.set_around(in_handler(names.around()));
@@ -429,7 +459,8 @@ fn check_handlers(
     found: &mut Found,
 ) -> Result<(), AllocError>
     ensures names { OnOk result (names.new ≡ names.old) }
-    ensures breaks { OnOk result (found.new ≡ with_visits found.old (handlers_visits (handlers_of handlers.now) names.old)) }
+    ensures breaks { OnOk result (found.new
+        ≡ with_visits found.old (handlers_visits (handlers_of handlers.now) names.old)) }
 {
     for handler in handlers {
         check_handler(names, handler, found)?;
@@ -441,7 +472,8 @@ fn check_handlers(
 #[tactic(auto, using(crate::proofs::Joined::joining))]
 fn check_clause(names: &mut Names, clause: &Clause, found: &mut Found) -> Result<(), AllocError>
     ensures names { OnOk result (names.new ≡ names.old) }
-    ensures breaks { OnOk result (found.new ≡ with_visits found.old (clause_visits clause.now names.old)) }
+    ensures breaks { OnOk result (found.new
+        ≡ with_visits found.old (clause_visits clause.now names.old)) }
 {
     check_maybe_condition(names, &clause.guard, found);
     check_inner(names, names.around(), &clause.body, found)?;
@@ -452,7 +484,8 @@ fn check_clause(names: &mut Names, clause: &Clause, found: &mut Found) -> Result
 #[tactic(auto, using(crate::proofs::Joined::joining))]
 fn check_clauses(names: &mut Names, clauses: &[Clause], found: &mut Found) -> Result<(), AllocError>
     ensures names { OnOk result (names.new ≡ names.old) }
-    ensures breaks { OnOk result (found.new ≡ with_visits found.old (clauses_visits (clauses_of clauses.now) names.old)) }
+    ensures breaks { OnOk result (found.new
+        ≡ with_visits found.old (clauses_visits (clauses_of clauses.now) names.old)) }
 {
     for clause in clauses {
         check_clause(names, clause, found)?;

@@ -68,7 +68,8 @@ impl<'a> Checked<'a> {
 
     /// The names of the mutex members of the class with this place besides its destructor, as far as they have numbers.
     pub fn mutex_members(&self, class: usize) -> &[&Name]
-        ensures { (c : Class) → class_at self.now class ≡ Some c → map (λ n. n.now) result.now ≡ take MEMBERS (mutex_members c) }
+        ensures { (c : Class) → class_at self.now class ≡ Some c →
+            map (λ n. n.now) result.now ≡ take MEMBERS (mutex_members c) }
     {
         self.tables.mutex_members(class)
     }

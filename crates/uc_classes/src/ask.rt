@@ -106,7 +106,8 @@ fn is_field_sort(names: &Names, declarator: &Declarator, sort: Sort) -> bool
 }
 
 fn note_field_sort(names: &Names, declarator: &Declarator, sort: Option<Sort>, found: &mut Found)
-    ensures { found.new ≡ after found.old (of_sort sort (is_field_sort names.now.program declarator.now) S16 declarator.now.pos) }
+    ensures { found.new ≡ after found.old
+        (of_sort sort (is_field_sort names.now.program declarator.now) S16 declarator.now.pos) }
 {
     match sort {
         Some(sort) => {
@@ -124,8 +125,10 @@ fn is_new(
     index: usize,
     declarator: &Declarator,
 ) -> bool
-    requires walks { Walks names.now.program walked.home walked.class.now walked.circular walked.holders.now walked.bound.known walked.bound.names.now }
-    ensures { result ≡ is_new_field walked.entry.class.now (place_in listed.entry.member index) (fields_at walked.entry.class.now listed.entry.member) declarator.now.name }
+    requires walks { Walks names.now.program walked.home walked.class.now walked.circular
+        walked.holders.now walked.bound.known walked.bound.names.now }
+    ensures { result ≡ is_new_field walked.entry.class.now (place_in listed.entry.member index)
+        (fields_at walked.entry.class.now listed.entry.member) declarator.now.name }
 {
     let field = FieldPlace {
         member: listed.member,
@@ -149,10 +152,13 @@ fn leads_home(
     declarator: &Declarator,
 ) -> bool
     requires home { names.now.around.home ≡ Some walked.home }
-    requires walks { Walks names.now.program walked.home walked.class.now walked.circular walked.holders.now walked.bound.known walked.bound.names.now }
-    requires fields { AreFields walked.class.now listed.member listed.base.now listed.declarators.now }
+    requires walks { Walks names.now.program walked.home walked.class.now walked.circular
+        walked.holders.now walked.bound.known walked.bound.names.now }
+    requires fields { AreFields walked.class.now listed.member listed.base.now
+        listed.declarators.now }
     requires there { slice_get listed.declarators.now index ≡ Some declarator.now }
-    ensures { result ≡ home_leads_back names.now.program names.now.around.home listed.entry.base.now declarator.now }
+    ensures { result ≡ home_leads_back names.now.program names.now.around.home listed.entry.base.now
+        declarator.now }
 {
     let back = leads_back(names.tables(), walked, listed, index, declarator);
     back
@@ -173,8 +179,12 @@ fn note_declared(
     declarator: &Declarator,
     found: &mut Found,
 )
-    requires walks { Walks names.now.program walked.home walked.class.now walked.circular walked.holders.now walked.bound.known walked.bound.names.now }
-    ensures { found.new ≡ after found.old (unless (is_new_field walked.entry.class.now (place_in listed.entry.member index) (fields_at walked.entry.class.now listed.entry.member) declarator.now.name) S2 declarator.now.pos) }
+    requires walks { Walks names.now.program walked.home walked.class.now walked.circular
+        walked.holders.now walked.bound.known walked.bound.names.now }
+    ensures { found.new ≡ after found.old
+        (unless (is_new_field walked.entry.class.now (place_in listed.entry.member index)
+        (fields_at walked.entry.class.now listed.entry.member) declarator.now.name) S2
+        declarator.now.pos) }
 {
     let new = is_new(names, walked, listed, index, declarator);
     found.note_unless(new, Rule::S2, declarator.pos);
@@ -189,17 +199,25 @@ fn note_circle(
     found: &mut Found,
 )
     requires home { names.now.around.home ≡ Some walked.home }
-    requires walks { Walks names.now.program walked.home walked.class.now walked.circular walked.holders.now walked.bound.known walked.bound.names.now }
-    requires fields { AreFields walked.class.now listed.member listed.base.now listed.declarators.now }
+    requires walks { Walks names.now.program walked.home walked.class.now walked.circular
+        walked.holders.now walked.bound.known walked.bound.names.now }
+    requires fields { AreFields walked.class.now listed.member listed.base.now
+        listed.declarators.now }
     requires there { slice_get listed.declarators.now index ≡ Some declarator.now }
-    ensures { found.new ≡ after found.old (unless (not (home_leads_back names.now.program names.now.around.home listed.entry.base.now declarator.now)) S4 declarator.now.pos) }
+    ensures { found.new ≡ after found.old
+        (unless (not
+        (home_leads_back names.now.program names.now.around.home listed.entry.base.now
+        declarator.now)) S4 declarator.now.pos) }
 {
     let back = leads_home(names, walked, listed, index, declarator);
     found.note_unless(!back, Rule::S4, declarator.pos);
 }
 
 fn note_length(names: &Names, declarator: &Declarator, found: &mut Found)
-    ensures { found.new ≡ after (after found.old (length_breaks names.now declarator.now.by_ref declarator.now.len declarator.now.pos)) (length_value_breaks names.now declarator.now.len) }
+    ensures { found.new ≡ after
+        (after found.old
+        (length_breaks names.now declarator.now.by_ref declarator.now.len declarator.now.pos))
+        (length_value_breaks names.now declarator.now.len) }
 {
     judge_length(
         names,
@@ -211,7 +229,8 @@ fn note_length(names: &Names, declarator: &Declarator, found: &mut Found)
 }
 
 fn note_access(class: &Class, access: Access, declarator: &Declarator, found: &mut Found)
-    ensures { found.new ≡ after found.old (unless (not (is_coroutine class.now.kind && is_public access)) S18 declarator.now.pos) }
+    ensures { found.new ≡ after found.old
+        (unless (not (is_coroutine class.now.kind && is_public access)) S18 declarator.now.pos) }
 {
     let open = is_open(class.kind, access);
     found.note_unless(!open, Rule::S18, declarator.pos);
@@ -227,10 +246,22 @@ fn note_text(
     found: &mut Found,
 )
     requires home { names.now.around.home ≡ Some walked.home }
-    requires walks { Walks names.now.program walked.home walked.class.now walked.circular walked.holders.now walked.bound.known walked.bound.names.now }
-    requires fields { AreFields walked.class.now listed.member listed.base.now listed.declarators.now }
+    requires walks { Walks names.now.program walked.home walked.class.now walked.circular
+        walked.holders.now walked.bound.known walked.bound.names.now }
+    requires fields { AreFields walked.class.now listed.member listed.base.now
+        listed.declarators.now }
     requires there { slice_get listed.declarators.now index ≡ Some declarator.now }
-    ensures { found.new ≡ told_forms (told_values (told_uses (told_names found.old (AtField names.now walked.entry.class.now listed.entry.access listed.entry.base.now declarator.now (place_in listed.entry.member index))) (AtField names.now walked.entry.class.now listed.entry.access listed.entry.base.now declarator.now (place_in listed.entry.member index))) (AtField names.now walked.entry.class.now listed.entry.access listed.entry.base.now declarator.now (place_in listed.entry.member index))) (AtField names.now walked.entry.class.now listed.entry.access listed.entry.base.now declarator.now (place_in listed.entry.member index)) }
+    ensures { found.new ≡ told_forms
+        (told_values
+        (told_uses (told_names found.old
+        (AtField names.now walked.entry.class.now listed.entry.access listed.entry.base.now
+        declarator.now (place_in listed.entry.member index)))
+        (AtField names.now walked.entry.class.now listed.entry.access listed.entry.base.now
+        declarator.now (place_in listed.entry.member index)))
+        (AtField names.now walked.entry.class.now listed.entry.access listed.entry.base.now
+        declarator.now (place_in listed.entry.member index)))
+        (AtField names.now walked.entry.class.now listed.entry.access listed.entry.base.now
+        declarator.now (place_in listed.entry.member index)) }
 {
     let tables = names.tables();
     let sort = tables.sort_of(listed.base);
@@ -251,8 +282,11 @@ fn note_owned(
     found: &mut Found,
 ) -> Result<(), AllocError>
     requires home { names.now.around.home ≡ Some walked.home }
-    requires walks { Walks names.now.program walked.home walked.class.now walked.circular walked.holders.now walked.bound.known walked.bound.names.now }
-    ensures { OnOk result ((access : Access) (field : FieldPlace) → found.new ≡ told_owners found.old (AtField names.now walked.entry.class.now access base.now declarator.now field)) }
+    requires walks { Walks names.now.program walked.home walked.class.now walked.circular
+        walked.holders.now walked.bound.known walked.bound.names.now }
+    ensures { OnOk result ((access : Access) (field : FieldPlace) →
+        found.new ≡ told_owners found.old
+        (AtField names.now walked.entry.class.now access base.now declarator.now field)) }
 {
     note_field(names, walked.class, walked.bound, base, declarator, found)?;
     Ok(())
@@ -268,10 +302,15 @@ pub fn ask_field(
     found: &mut Found,
 ) -> Result<(), AllocError>
     requires home { names.now.around.home ≡ Some walked.home }
-    requires walks { Walks names.now.program walked.home walked.class.now walked.circular walked.holders.now walked.bound.known walked.bound.names.now }
-    requires fields { AreFields walked.class.now listed.member listed.base.now listed.declarators.now }
+    requires walks { Walks names.now.program walked.home walked.class.now walked.circular
+        walked.holders.now walked.bound.known walked.bound.names.now }
+    requires fields { AreFields walked.class.now listed.member listed.base.now
+        listed.declarators.now }
     requires there { slice_get listed.declarators.now index ≡ Some declarator.now }
-    ensures { OnOk result (found.new ≡ first_break_after found.old (AtField names.now walked.entry.class.now listed.entry.access listed.entry.base.now declarator.now (place_in listed.entry.member index))) }
+    ensures { OnOk result (found.new
+        ≡ first_break_after found.old
+        (AtField names.now walked.entry.class.now listed.entry.access listed.entry.base.now
+        declarator.now (place_in listed.entry.member index))) }
 {
     note_text(names, walked, listed, index, declarator, found);
     note_owned(names, walked, listed.base, declarator, found)?;
@@ -287,7 +326,8 @@ fn is_sound(
     member: usize,
 ) -> Result<bool, AllocError>
     requires { walked.index.now ≡ names.now.program }
-    ensures { IfOk result (λ b. b ≡ is_sound_member names.now.program walked.entry.class.now proto sig.now member) }
+    ensures { IfOk result (λ b. b
+        ≡ is_sound_member names.now.program walked.entry.class.now proto sig.now member) }
 {
     let alloc = walked.alloc;
     let holds = is_sound_member(alloc, walked.index, walked.class, proto, sig, member)?;
@@ -304,7 +344,10 @@ fn note_sound(
     found: &mut Found,
 ) -> Result<(), AllocError>
     requires { walked.index.now ≡ names.now.program }
-    ensures { OnOk result (found.new ≡ after found.old (unless (is_sound_member names.now.program walked.entry.class.now proto sig.now member) S5 sig.now.pos)) }
+    ensures { OnOk result (found.new
+        ≡ after found.old
+        (unless (is_sound_member names.now.program walked.entry.class.now proto sig.now member) S5
+        sig.now.pos)) }
 {
     if found.is_open(Rule::S5, sig.pos) {
         let holds = is_sound(names, walked, proto, sig, member)?;
@@ -314,7 +357,8 @@ fn note_sound(
 }
 
 fn is_free(names: &Names, walked: ClassWalk, sig: &Sig, member: usize) -> bool
-    requires walks { Walks names.now.program walked.home walked.class.now walked.circular walked.holders.now walked.bound.known walked.bound.names.now }
+    requires walks { Walks names.now.program walked.home walked.class.now walked.circular
+        walked.holders.now walked.bound.known walked.bound.names.now }
     ensures { result ≡ is_new_routine walked.entry.class.now member sig.now }
 {
     let new = is_new_routine(
@@ -329,8 +373,10 @@ fn is_free(names: &Names, walked: ClassWalk, sig: &Sig, member: usize) -> bool
 }
 
 fn note_routine(names: &Names, walked: ClassWalk, sig: &Sig, member: usize, found: &mut Found)
-    requires walks { Walks names.now.program walked.home walked.class.now walked.circular walked.holders.now walked.bound.known walked.bound.names.now }
-    ensures { found.new ≡ after found.old (unless (is_new_routine walked.entry.class.now member sig.now) S2 sig.now.pos) }
+    requires walks { Walks names.now.program walked.home walked.class.now walked.circular
+        walked.holders.now walked.bound.known walked.bound.names.now }
+    ensures { found.new ≡ after found.old
+        (unless (is_new_routine walked.entry.class.now member sig.now) S2 sig.now.pos) }
 {
     let free = is_free(names, walked, sig, member);
     found.note_unless(free, Rule::S2, sig.pos);
@@ -345,9 +391,12 @@ pub fn ask_routine(
     member: usize,
     found: &mut Found,
 ) -> Result<(), AllocError>
-    requires walks { Walks names.now.program walked.home walked.class.now walked.circular walked.holders.now walked.bound.known walked.bound.names.now }
+    requires walks { Walks names.now.program walked.home walked.class.now walked.circular
+        walked.holders.now walked.bound.known walked.bound.names.now }
     requires indexed { walked.index.now ≡ names.now.program }
-    ensures { OnOk result (found.new ≡ first_break_after found.old (AtRoutine names.now walked.entry.class.now proto sig.now member)) }
+    ensures { OnOk result (found.new
+        ≡ first_break_after found.old
+        (AtRoutine names.now walked.entry.class.now proto sig.now member)) }
 {
     note_routine(names, walked, sig, member, found);
     note_sound(names, walked, proto, sig, member, found)?;
@@ -374,7 +423,8 @@ pub fn ask_mark(
 }
 
 fn has_few_conditions(names: &Names, class: &Class, place: usize) -> Result<bool, AllocError>
-    ensures { IfOk result (λ few. few ≡ nat_le (condition_count names.now.program place class.now) CLASS_CONDITIONS) }
+    ensures { IfOk result (λ few. few
+        ≡ nat_le (condition_count names.now.program place class.now) CLASS_CONDITIONS) }
 {
     let tables = names.tables();
     let count = count_conditions(names.alloc(), tables, place, class)?;
@@ -408,7 +458,8 @@ pub fn ask_class(
 ) -> Result<(), AllocError>
     requires indexed { index.now ≡ names.now.program }
     requires events { events ≡ events_before names.now.program place }
-    ensures { OnOk result (found.new ≡ first_break_after found.old (AtClass names.now class.now place)) }
+    ensures { OnOk result (found.new
+        ≡ first_break_after found.old (AtClass names.now class.now place)) }
 {
     let tables = names.tables();
     let few = has_few_conditions(names, class, place)?;
@@ -451,7 +502,8 @@ fn note_item(
     found: &mut Found,
 ) -> Result<(), AllocError>
     requires { index.now ≡ tables.now }
-    ensures { OnOk result (found.new ≡ first_break_after found.old (AtItem index.now item.now place)) }
+    ensures { OnOk result (found.new
+        ≡ first_break_after found.old (AtItem index.now item.now place)) }
 {
     let at = item_pos(item);
     found.note_unless(is_new_item(index, item, place), Rule::S2, at);
@@ -470,7 +522,8 @@ pub fn ask_item(
     found: &mut Found,
 ) -> Result<(), AllocError>
     requires { index.now ≡ tables.now }
-    ensures { OnOk result (found.new ≡ first_break_after found.old (AtItem tables.now item.now place)) }
+    ensures { OnOk result (found.new
+        ≡ first_break_after found.old (AtItem tables.now item.now place)) }
 {
     note_item(alloc, tables, index, item, place, found)?;
     Ok(())
@@ -485,7 +538,8 @@ pub fn ask_program(program: &Program, found: &mut Found)
 }
 
 fn home_class<'a>(names: &Names<'a>) -> Option<&'a Class>
-    ensures { MatchOption result (home_class names.now ≡ None) (λ c. home_class names.now ≡ Some c.now) }
+    ensures { MatchOption result (home_class names.now ≡ None) (λ c. home_class names.now
+        ≡ Some c.now) }
 {
     match names.around().home {
         Some(home) => {
@@ -497,7 +551,8 @@ fn home_class<'a>(names: &Names<'a>) -> Option<&'a Class>
 }
 
 fn has_unset_fields(names: &Names, inits: &[Init]) -> Result<bool, AllocError>
-    ensures { IfOk result (λ unset. unset ≡ has_unset names.now.program inits.now (home_class names.now)) }
+    ensures { IfOk result (λ unset. unset
+        ≡ has_unset names.now.program inits.now (home_class names.now)) }
 {
     match home_class(names) {
         Some(class) => {
@@ -510,7 +565,9 @@ fn has_unset_fields(names: &Names, inits: &[Init]) -> Result<bool, AllocError>
 
 // Behind the second constructor of a class no further one goes through its fields.
 fn note_unset(names: &Names, inits: &[Init], at: Pos, found: &mut Found) -> Result<(), AllocError>
-    ensures { OnOk result (found.new ≡ after found.old (unless (not (has_unset names.now.program inits.now (home_class names.now))) S17 at)) }
+    ensures { OnOk result (found.new
+        ≡ after found.old
+        (unless (not (has_unset names.now.program inits.now (home_class names.now))) S17 at)) }
 {
     if !found.is_open(Rule::S17, at) {
         return Ok(());
@@ -543,7 +600,8 @@ pub fn ask_inits(
     inits: &[Init],
     found: &mut Found,
 ) -> Result<(), AllocError>
-    ensures { OnOk result (found.new ≡ first_break_after found.old (AtInits names.now sig.now inits.now)) }
+    ensures { OnOk result (found.new
+        ≡ first_break_after found.old (AtInits names.now sig.now inits.now)) }
 {
     note_inits(names, sig, inits, found)?;
     Ok(())
@@ -558,7 +616,9 @@ fn note_values(
     entity: Option<Entity>,
     found: &mut Found,
 )
-    ensures { found.new ≡ after found.old (asked entity (entity_takes names.now.program by_ref (count init.now.args) single) S16 init.now.pos) }
+    ensures { found.new ≡ after found.old
+        (asked entity
+        (entity_takes names.now.program by_ref (count init.now.args) single) S16 init.now.pos) }
 {
     match entity {
         Some(entity) => {

@@ -26,7 +26,8 @@ fn check_returned(names: &Names, sig: &Sig, found: &mut Found)
 }
 
 fn check_param(names: &Names, param: &Param, found: &mut Found)
-    ensures { found.new ≡ with_visits found.old (AtBase names.now param.now.pos param.now.base ∷ (AtParam names.now param.now ∷ [])) }
+    ensures { found.new ≡ with_visits found.old (AtBase names.now param.now.pos param.now.base
+        ∷ (AtParam names.now param.now ∷ [])) }
 {
     ask_base(names, &param.base, param.pos, found);
     ask_param(names, param, found);
@@ -35,7 +36,8 @@ fn check_param(names: &Names, param: &Param, found: &mut Found)
 #[tactic(auto, using(uc_check_stmt::proofs::Joined::joining))]
 fn check_params(names: &mut Names, params: &[Param], found: &mut Found) -> Result<(), AllocError>
     ensures names { OnOk result (names.new ≡ with_params names.old params.now) }
-    ensures breaks { OnOk result (found.new ≡ with_visits found.old (params_visits names.old params.now)) }
+    ensures breaks { OnOk result (found.new
+        ≡ with_visits found.old (params_visits names.old params.now)) }
 {
     for param in params {
         check_param(names, param, found);
@@ -48,7 +50,8 @@ fn check_params(names: &mut Names, params: &[Param], found: &mut Found) -> Resul
 #[tactic(auto, using(uc_check_stmt::proofs::Joined::joining))]
 pub fn check_sig(names: &mut Names, sig: &Sig, found: &mut Found) -> Result<(), AllocError>
     ensures names { OnOk result (names.new ≡ with_params names.old sig.now.params) }
-    ensures breaks { OnOk result (found.new ≡ with_visits found.old (sig_visits names.old sig.now)) }
+    ensures breaks { OnOk result (found.new
+        ≡ with_visits found.old (sig_visits names.old sig.now)) }
 {
     check_returned(names, sig, found);
     ask_sig(names, sig, found);
@@ -73,7 +76,8 @@ pub fn check_routine(
     routine: &Routine,
     found: &mut Found,
 ) -> Result<(), AllocError>
-    ensures { OnOk result (found.new ≡ with_visits found.old (routine_visits names.old routine.now)) }
+    ensures { OnOk result (found.new
+        ≡ with_visits found.old (routine_visits names.old routine.now)) }
 {
     check_sig(names, &routine.sig, found)?;
     check_body(names, routine, found)?;

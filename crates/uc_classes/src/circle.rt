@@ -39,10 +39,13 @@ pub fn leads_back(
     index: usize,
     declarator: &Declarator,
 ) -> bool
-    requires walks { Walks tables.now walked.home walked.class.now walked.circular walked.holders.now walked.bound.known walked.bound.names.now }
-    requires fields { AreFields walked.class.now listed.member listed.base.now listed.declarators.now }
+    requires walks { Walks tables.now walked.home walked.class.now walked.circular
+        walked.holders.now walked.bound.known walked.bound.names.now }
+    requires fields { AreFields walked.class.now listed.member listed.base.now
+        listed.declarators.now }
     requires there { slice_get listed.declarators.now index ≡ Some declarator.now }
-    ensures { result ≡ leads_back tables.now walked.entry.home.class listed.entry.base.now declarator.now }
+    ensures { result ≡ leads_back tables.now walked.entry.home.class listed.entry.base.now
+        declarator.now }
 {
     if !walked.circular {
         return false;

@@ -137,10 +137,15 @@ fn check_field(
     found: &mut Found,
 ) -> Result<(), AllocError>
     requires home { names.now.around.home ≡ Some walked.home }
-    requires walks { Walks names.now.program walked.home walked.class.now walked.circular walked.holders.now walked.bound.known walked.bound.names.now }
-    requires fields { AreFields walked.class.now listed.member listed.base.now listed.declarators.now }
+    requires walks { Walks names.now.program walked.home walked.class.now walked.circular
+        walked.holders.now walked.bound.known walked.bound.names.now }
+    requires fields { AreFields walked.class.now listed.member listed.base.now
+        listed.declarators.now }
     requires there { slice_get listed.declarators.now index ≡ Some declarator.now }
-    ensures { OnOk result (found.new ≡ with_visits found.old (maybe_visits names.now declarator.now.len ++ AtField names.now walked.entry.class.now listed.entry.access listed.entry.base.now declarator.now (place_in listed.entry.member index) ∷ [])) }
+    ensures { OnOk result (found.new
+        ≡ with_visits found.old (maybe_visits names.now declarator.now.len
+        ++ AtField names.now walked.entry.class.now listed.entry.access listed.entry.base.now
+        declarator.now (place_in listed.entry.member index) ∷ [])) }
 {
     check_maybe(names, &declarator.len, found);
     ask_field(names, walked, listed, index, declarator, found)?;
@@ -155,9 +160,14 @@ fn check_fields(
     found: &mut Found,
 ) -> Result<(), AllocError>
     requires home { names.now.around.home ≡ Some walked.home }
-    requires walks { Walks names.now.program walked.home walked.class.now walked.circular walked.holders.now walked.bound.known walked.bound.names.now }
-    requires fields { AreFields walked.class.now listed.member listed.base.now listed.declarators.now }
-    ensures { OnOk result (found.new ≡ with_visits found.old (fields_visits names.now walked.entry.class.now listed.entry.access listed.entry.base.now listed.entry.member 0 listed.entry.declarators.now)) }
+    requires walks { Walks names.now.program walked.home walked.class.now walked.circular
+        walked.holders.now walked.bound.known walked.bound.names.now }
+    requires fields { AreFields walked.class.now listed.member listed.base.now
+        listed.declarators.now }
+    ensures { OnOk result (found.new
+        ≡ with_visits found.old
+        (fields_visits names.now walked.entry.class.now listed.entry.access listed.entry.base.now
+        listed.entry.member 0 listed.entry.declarators.now)) }
 {
     for (index, declarator) in listed.declarators.iter().enumerate() {
         check_field(names, walked, listed, index, declarator, found)?;
@@ -171,9 +181,18 @@ fn check_listed(
     at: Pos,
     found: &mut Found,
 ) -> Result<(), AllocError>
-    requires walks { Walks walked.tables.now walked.home walked.class.now walked.circular walked.holders.now walked.bound.known walked.bound.names.now }
-    requires fields { AreFields walked.class.now listed.member listed.base.now listed.declarators.now }
-    ensures { OnOk result (found.new ≡ with_visits found.old (AtBase (plain_env walked.entry.tables.now (class_around walked.entry.home)) at listed.entry.base.now ∷ fields_visits (plain_env walked.entry.tables.now (class_around walked.entry.home)) walked.entry.class.now listed.entry.access listed.entry.base.now listed.entry.member 0 listed.entry.declarators.now)) }
+    requires walks { Walks walked.tables.now walked.home walked.class.now walked.circular
+        walked.holders.now walked.bound.known walked.bound.names.now }
+    requires fields { AreFields walked.class.now listed.member listed.base.now
+        listed.declarators.now }
+    ensures { OnOk result (found.new
+        ≡ with_visits found.old
+        (AtBase (plain_env walked.entry.tables.now (class_around walked.entry.home)) at
+        listed.entry.base.now
+        ∷ fields_visits
+        (plain_env walked.entry.tables.now (class_around walked.entry.home)) walked.entry.class.now
+        listed.entry.access listed.entry.base.now listed.entry.member 0
+        listed.entry.declarators.now)) }
 {
     let outer = Names::new(walked.alloc, walked.tables, class_around(walked.home));
     ask_base(&outer, listed.base, at, found);
@@ -188,8 +207,12 @@ fn ask_inner(
     place: usize,
     found: &mut Found,
 ) -> Result<(), AllocError>
-    requires { Walks walked.tables.now walked.home walked.class.now walked.circular walked.holders.now walked.bound.known walked.bound.names.now }
-    ensures { OnOk result (found.new ≡ first_break_after found.old (AtRoutine (plain_env walked.entry.tables.now (class_around walked.entry.home)) walked.entry.class.now proto sig.now place)) }
+    requires { Walks walked.tables.now walked.home walked.class.now walked.circular
+        walked.holders.now walked.bound.known walked.bound.names.now }
+    ensures { OnOk result (found.new
+        ≡ first_break_after found.old
+        (AtRoutine (plain_env walked.entry.tables.now (class_around walked.entry.home))
+        walked.entry.class.now proto sig.now place)) }
 {
     let outer = Names::new(walked.alloc, walked.tables, class_around(walked.home));
     ask_routine(&outer, walked, proto, sig, place, found)?;
@@ -211,8 +234,14 @@ fn check_inner(
     routine: &Routine,
     found: &mut Found,
 ) -> Result<(), AllocError>
-    requires { Walks walked.tables.now walked.home walked.class.now walked.circular walked.holders.now walked.bound.known walked.bound.names.now }
-    ensures { OnOk result (found.new ≡ with_visits found.old (AtRoutine (plain_env walked.entry.tables.now (class_around walked.entry.home)) walked.entry.class.now false routine.now.sig place ∷ routine_visits (sig_env walked.entry.tables.now walked.entry.home mark routine.now.sig) routine.now)) }
+    requires { Walks walked.tables.now walked.home walked.class.now walked.circular
+        walked.holders.now walked.bound.known walked.bound.names.now }
+    ensures { OnOk result (found.new
+        ≡ with_visits found.old
+        (AtRoutine (plain_env walked.entry.tables.now (class_around walked.entry.home))
+        walked.entry.class.now false routine.now.sig place
+        ∷ routine_visits
+        (sig_env walked.entry.tables.now walked.entry.home mark routine.now.sig) routine.now)) }
 {
     ask_inner(walked, false, &routine.sig, place, found)?;
     let mut names = inner_names(walked, mark, &routine.sig);
@@ -227,8 +256,13 @@ fn check_proto(
     sig: &Sig,
     found: &mut Found,
 ) -> Result<(), AllocError>
-    requires { Walks walked.tables.now walked.home walked.class.now walked.circular walked.holders.now walked.bound.known walked.bound.names.now }
-    ensures { OnOk result (found.new ≡ with_visits found.old (AtRoutine (plain_env walked.entry.tables.now (class_around walked.entry.home)) walked.entry.class.now true sig.now place ∷ sig_visits (sig_env walked.entry.tables.now walked.entry.home mark sig.now) sig.now)) }
+    requires { Walks walked.tables.now walked.home walked.class.now walked.circular
+        walked.holders.now walked.bound.known walked.bound.names.now }
+    ensures { OnOk result (found.new
+        ≡ with_visits found.old
+        (AtRoutine (plain_env walked.entry.tables.now (class_around walked.entry.home))
+        walked.entry.class.now true sig.now place
+        ∷ sig_visits (sig_env walked.entry.tables.now walked.entry.home mark sig.now) sig.now)) }
 {
     ask_inner(walked, true, sig, place, found)?;
     let mut names = inner_names(walked, mark, sig);
@@ -243,8 +277,12 @@ fn check_form(
     found: &mut Found,
 ) -> Result<(), AllocError>
     requires at { slice_get walked.class.now.members place ≡ Some member.now }
-    requires walks { Walks walked.tables.now walked.home walked.class.now walked.circular walked.holders.now walked.bound.known walked.bound.names.now }
-    ensures { OnOk result (found.new ≡ with_visits found.old (form_visits walked.entry.tables.now walked.entry.home walked.entry.class.now place member.now.mark member.now.access member.now.form)) }
+    requires walks { Walks walked.tables.now walked.home walked.class.now walked.circular
+        walked.holders.now walked.bound.known walked.bound.names.now }
+    ensures { OnOk result (found.new
+        ≡ with_visits found.old
+        (form_visits walked.entry.tables.now walked.entry.home walked.entry.class.now place
+        member.now.mark member.now.access member.now.form)) }
 {
     match &member.form {
         MemberForm::Fields {
@@ -280,10 +318,17 @@ fn check_member(
     found: &mut Found,
 ) -> Result<(), AllocError>
     requires at { slice_get walked.class.now.members place ≡ Some member.now }
-    requires walks { Walks walked.tables.now walked.home walked.class.now walked.circular walked.holders.now walked.bound.known walked.bound.names.now }
-    requires names { map (λ n. n.now) walked.numbered.now ≡ take MEMBERS (mutex_members walked.class.now) }
+    requires walks { Walks walked.tables.now walked.home walked.class.now walked.circular
+        walked.holders.now walked.bound.known walked.bound.names.now }
+    requires names { map (λ n. n.now) walked.numbered.now
+        ≡ take MEMBERS (mutex_members walked.class.now) }
     requires few { length walked.numbered.now ≤ MEMBERS }
-    ensures { OnOk result (found.new ≡ with_visits found.old (AtMark (plain_env walked.entry.tables.now (class_around walked.entry.home)) walked.entry.class.now member.now ∷ form_visits walked.entry.tables.now walked.entry.home walked.entry.class.now place member.now.mark member.now.access member.now.form)) }
+    ensures { OnOk result (found.new
+        ≡ with_visits found.old
+        (AtMark (plain_env walked.entry.tables.now (class_around walked.entry.home))
+        walked.entry.class.now member.now
+        ∷ form_visits walked.entry.tables.now walked.entry.home walked.entry.class.now place
+        member.now.mark member.now.access member.now.form)) }
 {
     let outer = Names::new(walked.alloc, walked.tables, class_around(walked.home));
     ask_mark(&outer, walked.class, walked.numbered, member, found);
@@ -293,10 +338,15 @@ fn check_member(
 
 #[tactic(auto, using(uc_check_stmt::proofs::Joined::joining))]
 fn check_members(walked: ClassWalk, found: &mut Found) -> Result<(), AllocError>
-    requires walks { Walks walked.tables.now walked.home walked.class.now walked.circular walked.holders.now walked.bound.known walked.bound.names.now }
-    requires names { map (λ n. n.now) walked.numbered.now ≡ take MEMBERS (mutex_members walked.class.now) }
+    requires walks { Walks walked.tables.now walked.home walked.class.now walked.circular
+        walked.holders.now walked.bound.known walked.bound.names.now }
+    requires names { map (λ n. n.now) walked.numbered.now
+        ≡ take MEMBERS (mutex_members walked.class.now) }
     requires few { length walked.numbered.now ≤ MEMBERS }
-    ensures { OnOk result (found.new ≡ with_visits found.old (members_visits walked.entry.tables.now walked.entry.home walked.entry.class.now 0 walked.entry.class.now.members)) }
+    ensures { OnOk result (found.new
+        ≡ with_visits found.old
+        (members_visits walked.entry.tables.now walked.entry.home walked.entry.class.now 0
+        walked.entry.class.now.members)) }
 {
     let members = members_in(walked.class);
     for (place, member) in members.iter().enumerate() {
@@ -318,7 +368,8 @@ fn holders_of(
     place: usize,
     circular: bool,
 ) -> Result<Vec<bool>, AllocError>
-    requires { circular ≡ false → (steps : ℕ) → reaches steps (rows_of tables.now) place place ≡ false }
+    requires { circular ≡ false → (steps : ℕ) →
+        reaches steps (rows_of tables.now) place place ≡ false }
     ensures { IfOk result (λ v. Circling tables.now place circular v.items) }
 {
     if circular {
@@ -340,7 +391,9 @@ fn ask_whole(
 ) -> Result<(), AllocError>
     requires indexed { index.now ≡ tables.now }
     requires events { events ≡ events_before tables.now home.class }
-    ensures { OnOk result (found.new ≡ first_break_after found.old (AtClass (plain_env tables.now (class_around home)) class.now home.class)) }
+    ensures { OnOk result (found.new
+        ≡ first_break_after found.old
+        (AtClass (plain_env tables.now (class_around home)) class.now home.class)) }
 {
     let outer = Names::new(alloc, tables, class_around(home));
     ask_class(&outer, index, class, home.class, events, found)?;
@@ -360,7 +413,8 @@ fn check_held<'x>(
     requires indexed { index.now ≡ tables.now }
     requires at { class_at tables.now home.class ≡ Some class.now }
     requires circle { Circling tables.now home.class circle.circular circle.holders.now }
-    ensures { OnOk result (found.new ≡ with_visits found.old (members_visits tables.now home class.now 0 class.now.members)) }
+    ensures { OnOk result (found.new
+        ≡ with_visits found.old (members_visits tables.now home class.now 0 class.now.members)) }
 {
     let known = is_mutex(class.kind) && found.is_open(Rule::O5, class.pos);
     let names = bound_fields(alloc, tables, class, home.class, known)?;
@@ -392,7 +446,8 @@ fn check_inside(
 ) -> Result<(), AllocError>
     requires indexed { index.now ≡ tables.now }
     requires at { class_at tables.now home.class ≡ Some class.now }
-    ensures { OnOk result (found.new ≡ with_visits found.old (members_visits tables.now home class.now 0 class.now.members)) }
+    ensures { OnOk result (found.new
+        ≡ with_visits found.old (members_visits tables.now home class.now 0 class.now.members)) }
 {
     let circular = tables.sizes().has_itself(home.class);
     let holders = holders_of(alloc, tables, home.class, circular)?;
@@ -417,7 +472,8 @@ pub fn check_class(
     requires indexed { index.now ≡ tables.now }
     requires events { events ≡ events_before tables.now place }
     requires at { class_at tables.now place ≡ Some class.now }
-    ensures { OnOk result (found.new ≡ with_visits found.old (class_visits tables.now place class.now)) }
+    ensures { OnOk result (found.new
+        ≡ with_visits found.old (class_visits tables.now place class.now)) }
 {
     let home = OwnClass {
         class: place,

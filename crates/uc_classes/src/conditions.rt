@@ -27,13 +27,16 @@ struct ConditionCount<'a> {
 }
 
 fn count_of(counted: &ConditionCount, declarator: &Declarator) -> u32
-    ensures { result ≡ elements (seen_in (constants_of counted.now.tables.now.items) counted.now.class.now) declarator.now }
+    ensures { result ≡ elements
+        (seen_in (constants_of counted.now.tables.now.items) counted.now.class.now) declarator.now }
 {
     elements_of(&counted.lengths, declarator)
 }
 
 fn sum_of(counted: &ConditionCount, conditions: &[&Declarator]) -> u64
-    ensures { result ≡ capped (elements_of (seen_in (constants_of counted.now.tables.now.items) counted.now.class.now) (map (λ d. d.now) conditions.now)) }
+    ensures { result ≡ capped
+        (elements_of (seen_in (constants_of counted.now.tables.now.items) counted.now.class.now)
+        (map (λ d. d.now) conditions.now)) }
 {
     let mut count: u64 = 0;
     for declarator in conditions {
@@ -48,7 +51,9 @@ fn count_among<'x>(
     class: &'x Class,
     conditions: &[&Declarator],
 ) -> Result<u64, AllocError>
-    ensures { IfOk result (λ count. count ≡ capped (elements_of (seen_in (constants_of tables.now.items) class.now) (map (λ d. d.now) conditions.now))) }
+    ensures { IfOk result (λ count. count
+        ≡ capped (elements_of (seen_in (constants_of tables.now.items) class.now)
+        (map (λ d. d.now) conditions.now))) }
 {
     if conditions.is_empty() {
         return Ok(0);

@@ -114,7 +114,8 @@ fn check_init_arg(
 ) -> Option<Entity>
     ensures names { names.new ≡ names.old }
     ensures entity { result ≡ entity_of names.old e.now }
-    ensures breaks { found.new ≡ with_visits found.old (init_arg_visits names.old field e.now expected) }
+    ensures breaks { found.new ≡ with_visits found.old
+        (init_arg_visits names.old field e.now expected) }
 {
     let around = names.around();
     enter_argument(names, field, e, expected);
@@ -134,7 +135,8 @@ fn check_init_args(
     found: &mut Found,
 )
     ensures names { names.new ≡ names.old }
-    ensures breaks { found.new ≡ with_visits found.old (init_args_visits names.old field (exprs_of args.now) target 0) }
+    ensures breaks { found.new ≡ with_visits found.old
+        (init_args_visits names.old field (exprs_of args.now) target 0) }
 {
     for (place, arg) in args.iter().enumerate() {
         let expected = expected_of(names.tables(), target, place);
@@ -153,7 +155,8 @@ fn check_values(
 ) -> bool
     ensures names { names.new ≡ names.old }
     ensures single { result ≡ are_single names.old (exprs_of args.now) }
-    ensures breaks { found.new ≡ with_visits found.old (init_args_visits names.old field (exprs_of args.now) target 0) }
+    ensures breaks { found.new ≡ with_visits found.old
+        (init_args_visits names.old field (exprs_of args.now) target 0) }
 {
     if args.len() == 1 {
         let expected = expected_of(names.tables(), target, 0);
@@ -174,7 +177,9 @@ fn check_init(
 ) -> Option<FieldPlace>
     ensures names { names.new ≡ names.old }
     ensures field { result ≡ field_of names.old init.now.name }
-    ensures breaks { found.new ≡ with_visits found.old (init_args_visits names.old (field_of names.old init.now.name) init.now.args (init_target names.old init.now.name) 0 ++ AtInit names.old init.now last ∷ []) }
+    ensures breaks { found.new ≡ with_visits found.old
+        (init_args_visits names.old (field_of names.old init.now.name) init.now.args
+        (init_target names.old init.now.name) 0 ++ AtInit names.old init.now last ∷ []) }
 {
     let meant = home_member(names.tables(), names.around().home, &init.name);
     let field = meant_field(meant);

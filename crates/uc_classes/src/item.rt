@@ -103,7 +103,8 @@ fn check_outer(
     found: &mut Found,
 ) -> Result<(), AllocError>
     requires { index.now ≡ tables.now }
-    ensures { OnOk result (found.new ≡ with_visits found.old (routine_visits (outer_env tables.now routine.now.sig) routine.now)) }
+    ensures { OnOk result (found.new
+        ≡ with_visits found.old (routine_visits (outer_env tables.now routine.now.sig) routine.now)) }
 {
     let mut names = outer_names(alloc, tables, index, &routine.sig)?;
     check_routine(&mut names, routine, found)?;
@@ -112,7 +113,9 @@ fn check_outer(
 
 #[tactic(auto, using(uc_check_stmt::proofs::Joined::joining))]
 fn check_constant(alloc: Global, tables: &Tables, constant: &Constant, found: &mut Found)
-    ensures { found.new ≡ with_visits found.old (visits (plain_env tables.now no_around) constant.now.value ++ AtConstant (plain_env tables.now no_around) constant.now ∷ []) }
+    ensures { found.new ≡ with_visits found.old
+        (visits (plain_env tables.now no_around) constant.now.value
+        ++ AtConstant (plain_env tables.now no_around) constant.now ∷ []) }
 {
     let names = Names::new(alloc, tables, no_around());
     let entity = check_expr(&names, &constant.value, found);
@@ -125,7 +128,8 @@ fn check_proto(
     sig: &Sig,
     found: &mut Found,
 ) -> Result<(), AllocError>
-    ensures { OnOk result (found.new ≡ with_visits found.old (sig_visits (plain_env tables.now no_around) sig.now)) }
+    ensures { OnOk result (found.new
+        ≡ with_visits found.old (sig_visits (plain_env tables.now no_around) sig.now)) }
 {
     let mut names = Names::new(alloc, tables, no_around());
     check_sig(&mut names, sig, found)?;
@@ -150,7 +154,8 @@ fn check_item(
     requires indexed { index.now ≡ tables.now }
     requires events { before.events ≡ events_before tables.now before.classes }
     requires at { ItemAt tables.now before.classes item.now }
-    ensures { OnOk result (found.new ≡ with_visits found.old (item_visits tables.now before.classes item.now)) }
+    ensures { OnOk result (found.new
+        ≡ with_visits found.old (item_visits tables.now before.classes item.now)) }
 {
     match &item.form {
         ItemForm::Class { class } => {
@@ -216,7 +221,9 @@ fn check_placed(
     requires indexed { index.now ≡ tables.now }
     requires events { before.events ≡ events_before tables.now before.classes }
     requires at { ItemAt tables.now before.classes item.now }
-    ensures { OnOk result (found.new ≡ with_visits found.old (AtItem tables.now item.now place ∷ item_visits tables.now before.classes item.now)) }
+    ensures { OnOk result (found.new
+        ≡ with_visits found.old (AtItem tables.now item.now place
+        ∷ item_visits tables.now before.classes item.now)) }
 {
     ask_item(alloc, tables, index, item, place, found)?;
     check_item(alloc, tables, index, before, item, found)?;
@@ -232,7 +239,8 @@ pub fn check_items(
     found: &mut Found,
 ) -> Result<(), AllocError>
     requires { index.now ≡ tables.now }
-    ensures { OnOk result (found.new ≡ with_visits found.old (items_visits tables.now 0 0 tables.now.items)) }
+    ensures { OnOk result (found.new
+        ≡ with_visits found.old (items_visits tables.now 0 0 tables.now.items)) }
 {
     let items = items_of(tables);
     let mut classes = 0;

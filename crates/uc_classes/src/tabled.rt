@@ -17,7 +17,8 @@ fn numbered_in_each<'a>(
     alloc: Global,
     classes: &[&'a Class],
 ) -> Result<Vec<Vec<&'a Name>>, AllocError>
-    ensures { IfOk result (λ v. map (λ ns. map (λ n. n.now) ns.items) v.items ≡ map numbered_in (map (λ c. c.now) classes.now)) }
+    ensures { IfOk result (λ v. map (λ ns. map (λ n. n.now) ns.items) v.items
+        ≡ map numbered_in (map (λ c. c.now) classes.now)) }
 {
     let mut all = Vec::new(alloc);
     for class in classes {
@@ -31,7 +32,8 @@ fn numbered_in_classes<'a>(
     alloc: Global,
     program: &'a Program,
 ) -> Result<Vec<Vec<&'a Name>>, AllocError>
-    ensures { IfOk result (λ v. map (λ ns. map (λ n. n.now) ns.items) v.items ≡ map numbered_in (classes_of program.now.items)) }
+    ensures { IfOk result (λ v. map (λ ns. map (λ n. n.now) ns.items) v.items
+        ≡ map numbered_in (classes_of program.now.items)) }
 {
     let classes = classes_in(alloc, &program.items)?;
     let all = numbered_in_each(alloc, &classes)?;

@@ -121,7 +121,8 @@ impl Clusters {
     /// A processor has no task any more.
     pub fn free(&mut self, processor: u32)
         requires { processor < length self.old.processors }
-        ensures { self.new ≡ with_processor self.old processor (running None (processor_at self.old processor)) }
+        ensures { self.new ≡ with_processor self.old processor
+            (running None (processor_at self.old processor)) }
     {
         let is_open = self.processors[processor as usize].is_open;
         self.processors[processor as usize].task = None;
@@ -131,7 +132,8 @@ impl Clusters {
     /// A processor takes no dispatch any more. The task that runs on it goes on.
     pub fn close_processor(&mut self, processor: u32)
         requires { processor < length self.old.processors }
-        ensures { self.new ≡ with_processor self.old processor (closed (processor_at self.old processor)) }
+        ensures { self.new ≡ with_processor self.old processor
+            (closed (processor_at self.old processor)) }
     {
         self.processors[processor as usize].is_open = false;
         self.idle = self.idle.set(processor, false);
@@ -221,7 +223,8 @@ impl Clusters {
     /// Adds a cluster, and returns its number. `None`, exactly where there are as many as may be.
     pub fn add_cluster(&mut self) -> Option<u32>
         ensures value { result ≡ new_number CLUSTERS (length self.old.queues) }
-        ensures standing { self.new ≡ (if nat_lt (length self.old.queues) CLUSTERS then with_cluster self.old else self.old) }
+        ensures standing { self.new ≡ (if nat_lt (length self.old.queues) CLUSTERS
+            then with_cluster self.old else self.old) }
     {
         let number = self.queues.len() as u32;
         match self.spare.pop() {
@@ -238,7 +241,8 @@ impl Clusters {
     pub fn add_processor(&mut self, cluster: u32) -> Option<u32>
         requires { cluster < length self.old.queues }
         ensures value { result ≡ new_number PROCESSORS (length self.old.processors) }
-        ensures standing { self.new ≡ (if nat_lt (length self.old.processors) PROCESSORS then one_more_processor cluster self.old else self.old) }
+        ensures standing { self.new ≡ (if nat_lt (length self.old.processors) PROCESSORS
+            then one_more_processor cluster self.old else self.old) }
     {
         let number = self.processors.len() as u32;
         if number < PROCESSORS {
@@ -301,7 +305,8 @@ impl Clusters {
         ensures value { result ≡ taking self.now }
         ensures known { IfSome result (λ p. p < length self.now.processors) }
         ensures few { IfSome result (λ p. p < PROCESSORS) }
-        ensures ready { IfSome result (λ p. may_take self.now.queues (processor_at self.now p) ≡ true) }
+        ensures ready { IfSome result (λ p. may_take self.now.queues (processor_at self.now p)
+            ≡ true) }
     {
         self.idle.and(self.served).least()
     }
@@ -349,7 +354,8 @@ fn set_at(sets: &Vec<ProcessorSet>, cluster: u32) -> ProcessorSet
 }
 
 fn spare_queues(alloc: Global) -> Result<Vec<Queue>, AllocError>
-    ensures { IfOk result (λ qs. (length qs.items + 1 ≡ CLUSTERS) × AllByRecursion (λ q. q ≡ []) qs.items) }
+    ensures { IfOk result (λ qs. (length qs.items + 1 ≡ CLUSTERS)
+        × AllByRecursion (λ q. q ≡ []) qs.items) }
 {
     let mut spare = Vec::with_capacity(alloc, CLUSTERS as usize)?;
     for _ in 1..CLUSTERS {
@@ -361,7 +367,8 @@ fn spare_queues(alloc: Global) -> Result<Vec<Queue>, AllocError>
 
 fn opening_processors(alloc: Global, count: u32) -> Result<Vec<Processor>, AllocError>
     requires { count ≤ PROCESSORS }
-    ensures { IfOk result (λ ps. (ps.items ≡ replicate count (new_processor 0)) × (PROCESSORS ≤ vec_capacity ps)) }
+    ensures { IfOk result (λ ps. (ps.items ≡ replicate count (new_processor 0))
+        × (PROCESSORS ≤ vec_capacity ps)) }
 {
     let mut processors = Vec::with_capacity(alloc, PROCESSORS as usize)?;
     for _ in 0..count {

@@ -93,7 +93,8 @@ impl ProcessorSet {
 
     /// The least of the set.
     pub fn least(self) -> Option<u32>
-        ensures some { IfSome result (λ p. (p < 64) × (has self p ≡ true) × ((q : ℕ) → q < p → has self q ≡ false)) }
+        ensures some { IfSome result (λ p. (p < 64) × (has self p ≡ true)
+            × ((q : ℕ) → q < p → has self q ≡ false)) }
         ensures none { IfNone result ((p : ℕ) → has self p ≡ false) }
     {
         if self.bits == 0 {

@@ -98,8 +98,11 @@ fn put_number(
     out: &mut Draft,
 ) -> Result<(), AllocError>
     requires { length out.old.ops + 4 ≤ PROGRAM_OPS }
-    ensures ends { OnOk result (Puts 0 4 (λ code. FoundAt code line manner.Ends spot array) out.old out.new) }
-    ensures closes { (of : Resource) → OnOk result (Puts 0 4 (λ code. FoundAt code line (manner.Closes of) spot array) out.old out.new) }
+    ensures ends { OnOk result (Puts 0 4
+        (λ code. FoundAt code line manner.Ends spot array) out.old out.new) }
+    ensures closes { (of : Resource) →
+        OnOk result (Puts 0 4
+        (λ code. FoundAt code line (manner.Closes of) spot array) out.old out.new) }
 {
     put_place(spot, array, line, out)?;
     put(Op::Load, line, out)?;
@@ -109,7 +112,8 @@ fn put_number(
 // A written routine is called behind a tick.
 fn put_written(routine: u32, line: u32, out: &mut Draft) -> Result<(), AllocError>
     requires { length out.old.ops + 2 ≤ PROGRAM_OPS }
-    ensures { OnOk result (Puts 0 2 (λ code. CalledAt code line out.old.marks manner.Plain true routine) out.old out.new) }
+    ensures { OnOk result (Puts 0 2
+        (λ code. CalledAt code line out.old.marks manner.Plain true routine) out.old out.new) }
 {
     put(Op::Tick, line, out)?;
     put_at_risk(Op::CallOn(routine), line, out)?;
@@ -119,7 +123,9 @@ fn put_written(routine: u32, line: u32, out: &mut Draft) -> Result<(), AllocErro
 // A mutex object is made, and then a written routine builds it.
 fn put_made_written(class: u32, routine: u32, line: u32, out: &mut Draft) -> Result<(), AllocError>
     requires { length out.old.ops + 4 ≤ PROGRAM_OPS }
-    ensures { OnOk result (Puts 0 4 (λ code. CalledAt code line out.old.marks (manner.Makes class) true routine) out.old out.new) }
+    ensures { OnOk result (Puts 0 4
+        (λ code. CalledAt code line out.old.marks (manner.Makes class) true routine) out.old
+        out.new) }
 {
     put(Op::Tick, line, out)?;
     put(Op::Make { class, routine }, line, out)?;
@@ -137,7 +143,9 @@ fn put_made_unwritten(
 ) -> Result<(), AllocError>
     requires room { length out.old.ops + 3 ≤ PROGRAM_OPS }
     requires behind { routine_in out.old.marks < routine }
-    ensures { OnOk result (Puts 0 3 (λ code. CalledAt code line out.old.marks (manner.Makes class) false routine) out.old out.new) }
+    ensures { OnOk result (Puts 0 3
+        (λ code. CalledAt code line out.old.marks (manner.Makes class) false routine) out.old
+        out.new) }
 {
     put(Op::Make { class, routine }, line, out)?;
     put(Op::BindMade { class, routine }, line, out)?;
@@ -148,7 +156,8 @@ fn put_made_unwritten(
 // A mutex object is entered, and then a written routine destroys it.
 fn put_ended_written(routine: u32, line: u32, out: &mut Draft) -> Result<(), AllocError>
     requires { length out.old.ops + 3 ≤ PROGRAM_OPS }
-    ensures { OnOk result (Puts 0 3 (λ code. CalledAt code line out.old.marks manner.Ends true routine) out.old out.new) }
+    ensures { OnOk result (Puts 0 3
+        (λ code. CalledAt code line out.old.marks manner.Ends true routine) out.old out.new) }
 {
     let enter = Op::Enter {
         member: DESTRUCTOR,
@@ -164,7 +173,8 @@ fn put_ended_written(routine: u32, line: u32, out: &mut Draft) -> Result<(), All
 fn put_ended_unwritten(routine: u32, line: u32, out: &mut Draft) -> Result<(), AllocError>
     requires room { length out.old.ops + 2 ≤ PROGRAM_OPS }
     requires behind { routine_in out.old.marks < routine }
-    ensures { OnOk result (Puts 0 2 (λ code. CalledAt code line out.old.marks manner.Ends false routine) out.old out.new) }
+    ensures { OnOk result (Puts 0 2
+        (λ code. CalledAt code line out.old.marks manner.Ends false routine) out.old out.new) }
 {
     let enter = Op::Enter {
         member: DESTRUCTOR,
@@ -179,7 +189,8 @@ fn put_ended_unwritten(routine: u32, line: u32, out: &mut Draft) -> Result<(), A
 fn put_plain(routine: u32, written: bool, line: u32, out: &mut Draft) -> Result<(), AllocError>
     requires room { length out.old.ops + 2 ≤ PROGRAM_OPS }
     requires behind { written ≡ false → routine_in out.old.marks < routine }
-    ensures { OnOk result (Puts 0 2 (λ code. CalledAt code line out.old.marks manner.Plain written routine) out.old out.new) }
+    ensures { OnOk result (Puts 0 2
+        (λ code. CalledAt code line out.old.marks manner.Plain written routine) out.old out.new) }
 {
     if written {
         put_written(routine, line, out)?;
@@ -200,7 +211,9 @@ fn put_made(
 ) -> Result<(), AllocError>
     requires room { length out.old.ops + 4 ≤ PROGRAM_OPS }
     requires behind { written ≡ false → routine_in out.old.marks < routine }
-    ensures { OnOk result (Puts 0 4 (λ code. CalledAt code line out.old.marks (manner.Makes class) written routine) out.old out.new) }
+    ensures { OnOk result (Puts 0 4
+        (λ code. CalledAt code line out.old.marks (manner.Makes class) written routine) out.old
+        out.new) }
 {
     if written {
         put_made_written(class, routine, line, out)?;
@@ -215,7 +228,8 @@ fn put_made(
 fn put_ended(routine: u32, written: bool, line: u32, out: &mut Draft) -> Result<(), AllocError>
     requires room { length out.old.ops + 4 ≤ PROGRAM_OPS }
     requires behind { written ≡ false → routine_in out.old.marks < routine }
-    ensures { OnOk result (Puts 0 4 (λ code. CalledAt code line out.old.marks manner.Ends written routine) out.old out.new) }
+    ensures { OnOk result (Puts 0 4
+        (λ code. CalledAt code line out.old.marks manner.Ends written routine) out.old out.new) }
 {
     if written {
         put_ended_written(routine, line, out)?;
@@ -260,7 +274,9 @@ fn close_op(of: Resource) -> Op
 fn put_called(what: ObjectCall, line: u32, out: &mut Draft) -> Result<(), AllocError>
     requires room { length out.old.ops + 4 ≤ PROGRAM_OPS }
     requires behind { StandsBehind out.old.marks what }
-    ensures { OnOk result (Puts 0 4 (λ code. CalledAt code line out.old.marks what.manner what.written what.routine) out.old out.new) }
+    ensures { OnOk result (Puts 0 4
+        (λ code. CalledAt code line out.old.marks what.manner what.written what.routine) out.old
+        out.new) }
 {
     match what.manner {
         Manner::Plain => {
@@ -289,7 +305,8 @@ fn put_called(what: ObjectCall, line: u32, out: &mut Draft) -> Result<(), AllocE
 // Where it lies, of what is destroyed by its number that.
 fn put_found(what: ObjectCall, line: u32, out: &mut Draft) -> Result<(), AllocError>
     requires { length out.old.ops + 4 ≤ PROGRAM_OPS }
-    ensures { OnOk result (Puts 0 4 (λ code. FoundAt code line what.manner what.spot what.array) out.old out.new) }
+    ensures { OnOk result (Puts 0 4
+        (λ code. FoundAt code line what.manner what.spot what.array) out.old out.new) }
 {
     match what.manner {
         Manner::Plain => {
@@ -386,7 +403,8 @@ pub fn clean_length(what: Cleaning) -> u32
 fn put_sweep(what: ObjectCall, array: Array, line: u32, out: &mut Draft) -> Result<(), AllocError>
     requires room { length out.old.ops + clean_room ≤ PROGRAM_OPS }
     requires behind { StandsBehind out.old.marks what }
-    ensures { OnOk result (Puts 1 clean_room (λ code. CleanBy code line (Some array) what out.old.marks) out.old out.new) }
+    ensures { OnOk result (Puts 1 clean_room
+        (λ code. CleanBy code line (Some array) what out.old.marks) out.old out.new) }
 {
     let start = out.here();
     let test = start + 1 + done_length(what);
@@ -411,7 +429,8 @@ fn put_sweep(what: ObjectCall, array: Array, line: u32, out: &mut Draft) -> Resu
 fn put_destroyed(what: ObjectCall, line: u32, out: &mut Draft) -> Result<(), AllocError>
     requires room { length out.old.ops + clean_room ≤ PROGRAM_OPS }
     requires behind { StandsBehind out.old.marks what }
-    ensures { OnOk result (Puts (array_rows what.array) clean_room (λ code. CleanAt code line (cleaning.Call what) out.old.marks) out.old out.new) }
+    ensures { OnOk result (Puts (array_rows what.array) clean_room
+        (λ code. CleanAt code line (cleaning.Call what) out.old.marks) out.old out.new) }
 {
     match what.array {
         Some(array) => {
@@ -439,7 +458,8 @@ fn put_leave(line: u32, out: &mut Draft) -> Result<(), AllocError>
 // The building of a mutex object ends: it is free, or begins as a task with this main.
 fn put_freed(main: Option<u32>, line: u32, out: &mut Draft) -> Result<(), AllocError>
     requires { length out.old.ops < PROGRAM_OPS }
-    ensures { OnOk result (Puts 0 1 (λ code. CleanAt code line (cleaning.Free main) out.old.marks) out.old out.new) }
+    ensures { OnOk result (Puts 0 1
+        (λ code. CleanAt code line (cleaning.Free main) out.old.marks) out.old out.new) }
 {
     match main {
         None => {
@@ -457,7 +477,8 @@ fn put_freed(main: Option<u32>, line: u32, out: &mut Draft) -> Result<(), AllocE
 pub fn put_clean(what: Cleaning, line: u32, out: &mut Draft) -> Result<(), AllocError>
     requires room { length out.old.ops + clean_room ≤ PROGRAM_OPS }
     requires behind { CleansBehind out.old.marks what }
-    ensures { OnOk result (Puts (cleaning_rows what) clean_room (λ code. CleanAt code line what out.old.marks) out.old out.new) }
+    ensures { OnOk result (Puts (cleaning_rows what) clean_room
+        (λ code. CleanAt code line what out.old.marks) out.old out.new) }
 {
     match what {
         Cleaning::Call(call) => {
@@ -563,7 +584,8 @@ fn put_past(mark: CodeMark, out: &mut Draft) -> Result<(), AllocError>
 /// of memory the draft is spent.
 pub fn put_exit(way: Way, line: u32, out: &mut Draft) -> Result<(), AllocError>
     requires { length out.old.ops + exit_room out.old.marks ≤ PROGRAM_OPS }
-    ensures { OnOk result (Puts (exit_rows (way_of way) out.old.marks) (exit_room out.old.marks) (λ code. ExitAt code (way_of way) out.old.marks) out.old out.new) }
+    ensures { OnOk result (Puts (exit_rows (way_of way) out.old.marks) (exit_room out.old.marks)
+        (λ code. ExitAt code (way_of way) out.old.marks) out.old out.new) }
 {
     let mut i = out.marks().len();
     while i > 0 {

@@ -58,7 +58,21 @@ impl Model for Draft {
 impl Draft {
     /// No op, no row and no name. `routines` is the code of each routine, as far as it is known.
     pub fn new(alloc: Global, routines: Vec<RoutineCode>) -> Draft
-        ensures { result ≡ record { ops = []; rows = []; settled = 0; place = record { class = None; routine = 0; scope = 0 }; marks = []; scopes = 0; names = []; handled = 0; cells = 0; hidden = 0; texts = 0; sites = 0; routines = routines.items } }
+        ensures { result ≡ record {
+          ops = [];
+          rows = [];
+          settled = 0;
+          place = record { class = None; routine = 0; scope = 0 };
+          marks = [];
+          scopes = 0;
+          names = [];
+          handled = 0;
+          cells = 0;
+          hidden = 0;
+          texts = 0;
+          sites = 0;
+          routines = routines.items;
+        } }
     {
         Draft {
             ops: Vec::new(alloc),
@@ -93,7 +107,8 @@ impl Draft {
     /// One more op, which comes from this line.
     pub fn emit(&mut self, op: Op, line: u32) -> Result<(), AllocError>
         requires { length self.old.ops < PROGRAM_OPS }
-        ensures ok { OnOk result (self.new ≡ record self.old { ops = ops_with self.old.ops op line }) }
+        ensures ok { OnOk result (self.new
+            ≡ record self.old { ops = ops_with self.old.ops op line }) }
         ensures err { OnErr result (self.new ≡ self.old) }
     {
         self.ops.push(Instruction { op, line })?;
@@ -103,8 +118,10 @@ impl Draft {
     /// One more op, from which an event may come: its handlers are those of the marks.
     pub fn emit_at_risk(&mut self, op: Op, line: u32) -> Result<(), AllocError>
         requires { length self.old.ops < PROGRAM_OPS }
-        ensures ok { OnOk result (self.new ≡ record self.old { ops = ops_with self.old.ops op line }) }
-        ensures risk { OnOk result (Risk (laid_in self.new) self.old.marks op line (length self.old.ops) (length self.new.ops)) }
+        ensures ok { OnOk result (self.new
+            ≡ record self.old { ops = ops_with self.old.ops op line }) }
+        ensures risk { OnOk result (Risk (laid_in self.new) self.old.marks op line
+            (length self.old.ops) (length self.new.ops)) }
         ensures err { OnErr result (self.new ≡ self.old) }
     {
         self.ops.push(Instruction { op, line })?;
@@ -182,8 +199,10 @@ impl Draft {
         requires entry { 0 < length self.old.ops + ahead }
         ensures closed { self.new ≡ closed ahead self.old }
         ensures kept { Kept (laid_in self.old) (laid_in self.new) }
-        ensures handler { (row : ℕ) → handler_in self.old.marks ≡ Some row → HandlerAt (laid_in self.new) row (clean_up (length self.old.ops + ahead)) }
-        ensures bare { (row : ℕ) → guard_in self.old.marks ≡ Some row → IsBare (laid_in self.new) row }
+        ensures handler { (row : ℕ) → handler_in self.old.marks ≡ Some row →
+            HandlerAt (laid_in self.new) row (clean_up (length self.old.ops + ahead)) }
+        ensures bare { (row : ℕ) → guard_in self.old.marks ≡ Some row →
+            IsBare (laid_in self.new) row }
     {
         let here = self.ops.len() as u32;
         if let Some(number) = row_of(&self.marks) {
@@ -200,8 +219,24 @@ impl Draft {
         requires bare { IsBare (laid_in self.old) row }
         requires kind { takes_events kind ≡ true }
         requires entry { 0 < length self.old.ops }
-        ensures begun { self.new ≡ record self.old { rows = handled_rows (record { kind = kind; event = event; rest = length (handlers self.old.marks); entry = length self.old.ops }) row self.old.rows } }
-        ensures handler { HandlerAt (laid_in self.new) row (record { kind = kind; event = event; rest = length (handlers self.old.marks); entry = length self.old.ops }) }
+        ensures begun { self.new ≡ record self.old {
+          rows = handled_rows
+              (record {
+                kind = kind;
+                event = event;
+                rest = length
+                    (handlers self.old.marks);
+                entry = length self.old.ops;
+              }) row self.old.rows;
+        } }
+        ensures handler { HandlerAt (laid_in self.new) row
+            (record {
+              kind = kind;
+              event = event;
+              rest = length
+                  (handlers self.old.marks);
+              entry = length self.old.ops;
+            }) }
         ensures kept { KeptBut row (laid_in self.old) (laid_in self.new) }
     {
         let handler = Handler {
@@ -231,7 +266,17 @@ impl Draft {
         sites: u32,
     )
         requires { self.old.marks ≡ [] }
-        ensures { self.new ≡ record self.old { place = record { class = class; routine = routine; scope = 0 }; marks = []; scopes = 0; names = []; handled = 0; cells = 0; hidden = hidden; texts = texts; sites = sites } }
+        ensures { self.new ≡ record self.old {
+          place = record { class = class; routine = routine; scope = 0 };
+          marks = [];
+          scopes = 0;
+          names = [];
+          handled = 0;
+          cells = 0;
+          hidden = hidden;
+          texts = texts;
+          sites = sites;
+        } }
     {
         self.place = Place {
             class,
@@ -250,7 +295,8 @@ impl Draft {
 
     /// What is lowered from now on are the statements of this routine.
     pub fn enter_body(&mut self, routine: u32) -> Result<(), AllocError>
-        ensures ok { OnOk result (self.new ≡ record self.old { marks = mark.Body routine ∷ self.old.marks }) }
+        ensures ok { OnOk result (self.new
+            ≡ record self.old { marks = mark.Body routine ∷ self.old.marks }) }
         ensures err { OnErr result (self.new ≡ self.old) }
     {
         self.marks.push(CodeMark::Body { routine })?;
@@ -259,7 +305,8 @@ impl Draft {
 
     /// What is lowered from now on stands in the loop with these pads.
     pub fn enter_loop(&mut self, leave: u32, again: u32) -> Result<(), AllocError>
-        ensures ok { OnOk result (self.new ≡ record self.old { marks = mark.Loop leave again ∷ self.old.marks }) }
+        ensures ok { OnOk result (self.new
+            ≡ record self.old { marks = mark.Loop leave again ∷ self.old.marks }) }
         ensures err { OnErr result (self.new ≡ self.old) }
     {
         self.marks.push(CodeMark::Loop { leave, again })?;
@@ -295,8 +342,17 @@ impl Draft {
     /// Opens a scope of the routine, and tells what is in scope around it.
     pub fn open_scope(&mut self) -> OuterScope
         requires { self.old.scopes < PROGRAM_SIZE }
-        ensures outside { result ≡ record { names = length self.old.names; scope = self.old.place.scope } }
-        ensures opened { self.new ≡ record self.old { place = record self.old.place { scope = self.old.scopes + 1 }; scopes = self.old.scopes + 1 } }
+        ensures outside { result ≡ record {
+          names = length self.old.names;
+          scope = self.old.place.scope;
+        } }
+        ensures opened { self.new ≡ record self.old {
+          place = record self.old.place {
+            scope = self.old.scopes
+                + 1;
+          };
+          scopes = self.old.scopes + 1;
+        } }
     {
         let outside = OuterScope {
             names: self.names.len(),
@@ -309,7 +365,11 @@ impl Draft {
 
     /// Leaves a scope. Its names go; its cells stay theirs until the routine ends.
     pub fn leave_scope(&mut self, outside: OuterScope)
-        ensures { self.new ≡ record self.old { place = record self.old.place { scope = outside.scope }; names = take outside.names self.old.names } }
+        ensures { self.new ≡ record self.old {
+          place = record self.old.place { scope = outside.scope };
+          names = take outside.names
+              self.old.names;
+        } }
     {
         self.place.scope = outside.scope;
         self.names.truncate(outside.names);
@@ -397,7 +457,13 @@ impl Draft {
     /// One more name in scope, whose variable takes the next cells, so many.
     pub fn declare(&mut self, name: Name, ty: Ty, cells: u32) -> Result<(), AllocError>
         requires { self.old.cells + cells ≤ FRAME_CELLS }
-        ensures ok { OnOk result (self.new ≡ record self.old { names = self.old.names ++ record { name = name; ty = ty; cell = self.old.cells } ∷ []; cells = self.old.cells + cells }) }
+        ensures ok { OnOk result (self.new
+            ≡ record self.old {
+              names = self.old.names
+                  ++ record { name = name; ty = ty; cell = self.old.cells } ∷ [];
+              cells = self.old.cells
+                  + cells;
+            }) }
         ensures err { OnErr result (self.new ≡ self.old) }
     {
         let cell = self.cells;
@@ -408,7 +474,11 @@ impl Draft {
 
     /// One more name in scope, for what lies from this cell on.
     pub fn declare_at(&mut self, name: Name, ty: Ty, cell: u32) -> Result<(), AllocError>
-        ensures ok { OnOk result (self.new ≡ record self.old { names = self.old.names ++ record { name = name; ty = ty; cell = cell } ∷ [] }) }
+        ensures ok { OnOk result (self.new
+            ≡ record self.old {
+              names = self.old.names
+                  ++ record { name = name; ty = ty; cell = cell } ∷ [];
+            }) }
         ensures err { OnErr result (self.new ≡ self.old) }
     {
         let known = LocalVariable { name, ty, cell };
@@ -418,7 +488,8 @@ impl Draft {
 
     /// The innermost declaration of a name.
     pub fn find(&self, name: &[u8]) -> Option<&LocalVariable>
-        ensures { MatchOption result (IsUnknown self.now.names name.now) (λ known. IsInnermost self.now.names name.now known.now) }
+        ensures { MatchOption result (IsUnknown self.now.names name.now)
+            (λ known. IsInnermost self.now.names name.now known.now) }
     {
         innermost_of(&self.names, name)
     }
@@ -426,7 +497,14 @@ impl Draft {
     /// The code, with these accept statements, text literals and cells of classes. Where nothing stands around this place, all rows have
     /// ended.
     pub fn finish(self, sites: Vec<Site>, texts: Vec<Text>, classes: Vec<u32>) -> Code
-        ensures code { result ≡ record { ops = self.ops; rows = self.rows; sites = sites.items; texts = texts.items; routines = self.routines; classes = classes.items } }
+        ensures code { result ≡ record {
+          ops = self.ops;
+          rows = self.rows;
+          sites = sites.items;
+          texts = texts.items;
+          routines = self.routines;
+          classes = classes.items;
+        } }
         ensures ended { self.marks ≡ [] → AreEnded (length self.ops) self.rows }
     {
         Code {
@@ -454,7 +532,8 @@ fn patch_op(ops: &mut Vec<Instruction>, at: u32, op: Op)
 
 // The last of the names that is this name.
 fn innermost_of<'a>(names: &'a [LocalVariable], name: &[u8]) -> Option<&'a LocalVariable>
-    ensures { MatchOption result (IsUnknown names.now name.now) (λ known. IsInnermost names.now name.now known.now) }
+    ensures { MatchOption result (IsUnknown names.now name.now)
+        (λ known. IsInnermost names.now name.now known.now) }
 {
     let mut i = names.len();
     while i > 0 {

@@ -23,7 +23,8 @@ pub fn open_guards(count: usize, out: &mut Draft) -> Result<(), AllocError>
 /// Closes these rows, where the statements of the guarded block end.
 pub fn close_guards(count: usize, out: &mut Draft)
     requires { 0 < length out.old.ops }
-    ensures { (first : ℕ) (ms : List CodeMark) → out.old.marks ≡ guards first count ms → ClosesGuards first count ms out.old out.new }
+    ensures { (first : ℕ) (ms : List CodeMark) → out.old.marks ≡ guards first count ms →
+        ClosesGuards first count ms out.old out.new }
 {
     for _ in 0..count {
         out.close(0);

@@ -77,7 +77,8 @@ fn put_fields(text: &mut Vec<u8>, row: &HandlerRow) -> Result<(), AllocError>
 
 // Appends three numbers, each behind a space.
 fn put_three(text: &mut Vec<u8>, first: u64, second: u64, third: u64) -> Result<(), AllocError>
-    ensures { OnOk result (text.new.items ≡ text.old.items ++ spaced (pos first ∷ pos second ∷ pos third ∷ [])) }
+    ensures { OnOk result (text.new.items
+        ≡ text.old.items ++ spaced (pos first ∷ pos second ∷ pos third ∷ [])) }
 {
     put_operand(text, first)?;
     put_operand(text, second)?;

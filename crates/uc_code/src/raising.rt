@@ -16,7 +16,8 @@ use std::alloc::AllocError;
 /// Adds the code that finds the event of this number, with fields that are 0. After want of memory the draft is spent.
 pub fn put_plain(event: u8, line: u32, out: &mut Draft) -> Result<(), AllocError>
     requires { length out.old.ops + 3 ≤ PROGRAM_OPS }
-    ensures { OnOk result (Puts 0 3 (λ code. RaisedAt code line out.old.marks (Plainly event)) out.old out.new) }
+    ensures { OnOk result (Puts 0 3
+        (λ code. RaisedAt code line out.old.marks (Plainly event)) out.old out.new) }
 {
     put(Op::Push(event as i64), line, out)?;
     put(Op::Push(0), line, out)?;
@@ -28,7 +29,8 @@ pub fn put_plain(event: u8, line: u32, out: &mut Draft) -> Result<(), AllocError
 /// of memory the draft is spent.
 pub fn put_again(cell: u32, line: u32, out: &mut Draft) -> Result<(), AllocError>
     requires { length out.old.ops + 3 ≤ PROGRAM_OPS }
-    ensures { OnOk result (Puts 0 3 (λ code. RaisedAt code line out.old.marks (AgainFrom cell)) out.old out.new) }
+    ensures { OnOk result (Puts 0 3
+        (λ code. RaisedAt code line out.old.marks (AgainFrom cell)) out.old out.new) }
 {
     if cell > u32::MAX - 2 {
         return Err(AllocError);
@@ -65,7 +67,9 @@ pub fn put_throw(line: u32, out: &mut Draft) -> Result<(), AllocError>
 /// Adds the code that raises it for resumption, and drops what the handler hands over. After want of memory the draft is spent.
 pub fn put_raise(line: u32, out: &mut Draft) -> Result<(), AllocError>
     requires { length out.old.ops + 2 ≤ PROGRAM_OPS }
-    ensures { OnOk result (Puts 0 2 (λ code. Both (Risk code out.old.marks op.Raise line) (One code op.Discard line)) out.old out.new) }
+    ensures { OnOk result (Puts 0 2
+        (λ code. Both (Risk code out.old.marks op.Raise line) (One code op.Discard line)) out.old
+        out.new) }
 {
     put_at_risk(Op::Raise, line, out)?;
     put(Op::Discard, line, out)?;
@@ -100,7 +104,8 @@ pub fn put_kept(cell: u32, line: u32, out: &mut Draft) -> Result<(), AllocError>
 // The newest operand is kept in a cell, and goes.
 fn put_set(cell: u32, line: u32, out: &mut Draft) -> Result<(), AllocError>
     requires { length out.old.ops + 2 ≤ PROGRAM_OPS }
-    ensures { OnOk result (Puts 0 2 (λ code. Both (One code (op.Set cell) line) (One code op.Discard line)) out.old out.new) }
+    ensures { OnOk result (Puts 0 2
+        (λ code. Both (One code (op.Set cell) line) (One code op.Discard line)) out.old out.new) }
 {
     put(Op::Set(cell), line, out)?;
     put(Op::Discard, line, out)?;

@@ -55,7 +55,8 @@ impl Conditions {
         ensures tasks { OnOk result (self.new.tasks ≡ max self.old.tasks tasks) }
         ensures objects { OnOk result (self.new.objects ≡ max self.old.objects objects) }
         ensures same { SameQueues self.old self.new }
-        ensures err { OnErr result ((self.new.tasks ≡ self.old.tasks) × (self.new.objects ≡ self.old.objects)) }
+        ensures err { OnErr result ((self.new.tasks ≡ self.old.tasks)
+            × (self.new.objects ≡ self.old.objects)) }
     {
         add_buckets(&mut self.buckets)?;
         add_rows(&mut self.rows, tasks)?;
@@ -70,7 +71,8 @@ impl Conditions {
         requires object { object < self.old.objects }
         requires task { task < self.old.tasks }
         requires free { IsFree task self.old }
-        ensures { Became self.old self.new object cond (queue_at self.old object cond ++ (task, n) ∷ []) }
+        ensures { Became self.old self.new object cond (queue_at self.old object cond ++ (task, n)
+            ∷ []) }
     {
         let at = place(object, cond);
         let bucket = bucket_at(&self.buckets, at);
@@ -88,7 +90,8 @@ impl Conditions {
     /// Takes the oldest task out of a queue. `None`, and nothing changes, exactly where nobody waits there.
     pub fn take(&mut self, object: u32, cond: u16) -> Option<u32>
         ensures value { result ≡ first_task (queue_at self.old object cond) }
-        ensures queues { Became self.old self.new object cond (rest_of (queue_at self.old object cond)) }
+        ensures queues { Became self.old self.new object cond
+            (rest_of (queue_at self.old object cond)) }
         ensures free { IfSome result (λ t. IsFree t self.new) }
     {
         let at = place(object, cond);
@@ -159,7 +162,8 @@ fn count_at(counts: &Vec<u64>, object: u32) -> u64
 }
 
 fn add_rows(rows: &mut Vec<WaitRow>, tasks: u32) -> Result<(), AllocError>
-    ensures ok { OnOk result (rows.new.items ≡ rows.old.items ++ replicate (tasks - length rows.old.items) no_row) }
+    ensures ok { OnOk result (rows.new.items
+        ≡ rows.old.items ++ replicate (tasks - length rows.old.items) no_row) }
     ensures err { OnErr result (rows.new.items ≡ rows.old.items) }
 {
     if rows.len() < tasks as usize {
@@ -169,7 +173,8 @@ fn add_rows(rows: &mut Vec<WaitRow>, tasks: u32) -> Result<(), AllocError>
 }
 
 fn add_buckets(buckets: &mut Vec<Bucket>) -> Result<(), AllocError>
-    ensures ok { OnOk result (buckets.new.items ≡ buckets.old.items ++ replicate (BUCKETS - length buckets.old.items) no_bucket) }
+    ensures ok { OnOk result (buckets.new.items
+        ≡ buckets.old.items ++ replicate (BUCKETS - length buckets.old.items) no_bucket) }
     ensures err { OnErr result (buckets.new.items ≡ buckets.old.items) }
 {
     if buckets.len() < BUCKETS as usize {
@@ -179,7 +184,8 @@ fn add_buckets(buckets: &mut Vec<Bucket>) -> Result<(), AllocError>
 }
 
 fn add_counts(counts: &mut Vec<u64>, objects: u32) -> Result<(), AllocError>
-    ensures ok { OnOk result (counts.new.items ≡ counts.old.items ++ replicate (objects - length counts.old.items) 0) }
+    ensures ok { OnOk result (counts.new.items
+        ≡ counts.old.items ++ replicate (objects - length counts.old.items) 0) }
     ensures err { OnErr result (counts.new.items ≡ counts.old.items) }
 {
     if counts.len() < objects as usize {

@@ -32,7 +32,8 @@ pub fn leave(work: &mut Work) -> Result<Left, AllocError>
     ensures how { IfOk result (λ left. left ≡ ending_by work.old.run.raised work.old.callers) }
     ensures ok { IfOk result (λ left. work.new ≡ left_as left work.old) }
     ensures err { OnErr result (work.new ≡ work.old) }
-    ensures source { IfOk result (λ left. (source : Source) (code : Laid) (s : State) → LeavesNow code work.old s → LeftAs source code left work.new s) }
+    ensures source { IfOk result (λ left. (source : Source) (code : Laid) (s : State) →
+        LeavesNow code work.old s → LeftAs source code left work.new s) }
 {
     let left = end(work)?;
     Ok(left)
@@ -96,15 +97,18 @@ fn passing(raised: Option<UnwindReason>, waits: Option<UnwindReason>) -> Left
 /// A return leaves a handler of resumptions: all from its raise on is unwound by a return to the routine in which it stands, to which this is
 /// handed over. Where the running activation is no such handler, or none waits for it, all stays as it is, and the answer is false.
 pub fn return_past(work: &mut Work, given: Cell) -> bool
-    ensures now { Made (past_of work.old.run.handles given work.old.callers work.old) work.old result work.new }
-    ensures source { result ≡ true → (code : Laid) (s : State) (value : Value) → given ≡ cell_of value → Returns code work.old s → ReturnsPast code value work.new s }
+    ensures now { Made (past_of work.old.run.handles given work.old.callers work.old) work.old
+        result work.new }
+    ensures source { result ≡ true → (code : Laid) (s : State) (value : Value) →
+        given ≡ cell_of value → Returns code work.old s → ReturnsPast code value work.new s }
 {
     let made = leave_handler(work, given);
     made
 }
 
 fn leave_handler(work: &mut Work, given: Cell) -> bool
-    ensures { Made (past_of work.old.run.handles given work.old.callers work.old) work.old result work.new }
+    ensures { Made (past_of work.old.run.handles given work.old.callers work.old) work.old result
+        work.new }
 {
     match work.handles() {
         None => false,

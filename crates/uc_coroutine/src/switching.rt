@@ -21,7 +21,8 @@ use uc_machine::exec::{Exec, Stage, UnwindReason};
 pub fn resume(work: &mut Work) -> Option<RunFault>
     ensures fault { result ≡ fault_in (wake_of (resumed work.old) work.old) }
     ensures state { work.new ≡ state_in work.old (wake_of (resumed work.old) work.old) }
-    ensures source { (source : Source) (code : Laid) (s : State) → Resumes code work.old s → SwitchedAs source code result work.new s }
+    ensures source { (source : Source) (code : Laid) (s : State) → Resumes code work.old s →
+        SwitchedAs source code result work.new s }
 {
     let fault = wake_own(work);
     fault
@@ -31,7 +32,8 @@ pub fn resume(work: &mut Work) -> Option<RunFault>
 pub fn suspend(work: &mut Work) -> Option<RunFault>
     ensures fault { result ≡ fault_in (suspend_of work.old) }
     ensures state { work.new ≡ state_in work.old (suspend_of work.old) }
-    ensures source { (source : Source) (code : Laid) (s : State) → Suspends code work.old s → SwitchedAs source code result work.new s }
+    ensures source { (source : Source) (code : Laid) (s : State) → Suspends code work.old s →
+        SwitchedAs source code result work.new s }
 {
     let fault = yield_to_resumer(work);
     fault
@@ -42,7 +44,8 @@ pub fn suspend(work: &mut Work) -> Option<RunFault>
 pub fn finish(work: &mut Work) -> Option<RunFault>
     ensures fault { result ≡ fault_in (finish_of work.old) }
     ensures state { work.new ≡ state_in work.old (finish_of work.old) }
-    ensures source { (source : Source) (code : Laid) (s : State) → EndsCoroutine code work.old s → SwitchedAs source code result work.new s }
+    ensures source { (source : Source) (code : Laid) (s : State) → EndsCoroutine code work.old s →
+        SwitchedAs source code result work.new s }
 {
     let fault = end(work);
     fault
@@ -52,7 +55,8 @@ pub fn finish(work: &mut Work) -> Option<RunFault>
 pub fn take_down(work: &mut Work)
     ensures fault { None ≡ fault_in (take_down_of (own_exec work.old) work.old) }
     ensures state { work.new ≡ state_in work.old (take_down_of (own_exec work.old) work.old) }
-    ensures source { (source : Source) (code : Laid) (s : State) → TakesDown code work.old s → SwitchedAs source code None work.new s }
+    ensures source { (source : Source) (code : Laid) (s : State) → TakesDown code work.old s →
+        SwitchedAs source code None work.new s }
 {
     unwind_own(work);
 }
@@ -62,7 +66,8 @@ pub fn take_down(work: &mut Work)
 pub fn leave_main(work: &mut Work) -> Option<RunFault>
     ensures fault { result ≡ fault_in (left_by work.old.run.raised work.old) }
     ensures state { work.new ≡ state_in work.old (left_by work.old.run.raised work.old) }
-    ensures source { (source : Source) (code : Laid) (s : State) → EndsMain code main_of.Coroutine work.old s → SwitchedAs source code result work.new s }
+    ensures source { (source : Source) (code : Laid) (s : State) →
+        EndsMain code main_of.Coroutine work.old s → SwitchedAs source code result work.new s }
 {
     let fault = leave_by_reason(work);
     fault
@@ -110,7 +115,8 @@ fn wake_one(work: &mut Work, to: Exec) -> Option<RunFault>
 
 // Who may be activated, if it may: one in hand that has begun and not ended.
 fn able(work: &Work, exec: Option<Exec>) -> Option<Exec>
-    ensures { MatchOption result (able_in exec work.now.env ≡ None) (λ n. (x : _) × (able_in exec work.now.env ≡ Some (n, x)) × (parked_at n work.now.env ≡ Some x)) }
+    ensures { MatchOption result (able_in exec work.now.env ≡ None) (λ n. (x : _)
+        × (able_in exec work.now.env ≡ Some (n, x)) × (parked_at n work.now.env ≡ Some x)) }
 {
     match exec {
         None => None,

@@ -35,7 +35,8 @@ pub enum TaskMainEnd {
 pub fn end_block(work: &mut Work, behind: u32) -> bool
     ensures over { result ≡ arrives_by work.old.run.raised (length work.old.callers) }
     ensures now { work.new ≡ block_over result behind work.old }
-    ensures source { (source : Source) (code : Laid) (s : State) → TestsBlock code work.old s → behind ≡ work.old.run.control + 1 → BlockLeft source code result work.new s }
+    ensures source { (source : Source) (code : Laid) (s : State) → TestsBlock code work.old s →
+        behind ≡ work.old.run.control + 1 → BlockLeft source code result work.new s }
 {
     let over = end_at(work, behind);
     over
@@ -57,9 +58,14 @@ fn end_at(work: &mut Work, behind: u32) -> bool
 /// A mutex call that has `arrive` as its next op is unwound: where a return arrives that is over, and the call goes on at `arrived` with what
 /// the return hands over; else its clean-up begins at `unwound`. Without memory for it the task stays as it is.
 pub fn end_call(work: &mut Work, arrived: u32, unwound: u32) -> Result<(), AllocError>
-    ensures now { OnOk result (work.new ≡ call_over (arrives_by work.old.run.raised (length work.old.callers)) arrived unwound work.old) }
+    ensures now { OnOk result (work.new
+        ≡ call_over (arrives_by work.old.run.raised (length work.old.callers)) arrived unwound
+        work.old) }
     ensures err { OnErr result (work.new ≡ work.old) }
-    ensures source { OnOk result ((source : Source) (code : Laid) (s : State) → TestsCall code work.old s → (line : ℕ) → OpAt code work.old.run.control (op.Arrive arrived) line → unwound ≡ work.old.run.control + 1 → Leads source code (Stands code) work.new s) }
+    ensures source { OnOk result ((source : Source) (code : Laid) (s : State) →
+        TestsCall code work.old s → (line : ℕ) →
+        OpAt code work.old.run.control (op.Arrive arrived) line →
+        unwound ≡ work.old.run.control + 1 → Leads source code (Stands code) work.new s) }
 {
     if arrives(work) {
         work.arrive(arrived)?;
@@ -72,17 +78,20 @@ pub fn end_call(work: &mut Work, arrived: u32, unwound: u32) -> Result<(), Alloc
 /// The main of a task that is unwound ends where the reason is a return. Where it is the last activation, an event is not handled, or the task is
 /// held up in its own object, all stays as it is.
 pub fn end_task_main(work: &mut Work) -> Result<TaskMainEnd, AllocError>
-    ensures how { IfOk result (λ end. end ≡ main_by (is_held_up work.old.env.own work.old.env) work.old.run.raised work.old.callers) }
+    ensures how { IfOk result (λ end. end
+        ≡ main_by (is_held_up work.old.env.own work.old.env) work.old.run.raised work.old.callers) }
     ensures now { IfOk result (λ end. work.new ≡ main_over end work.old) }
     ensures err { OnErr result (work.new ≡ work.old) }
-    ensures source { IfOk result (λ end. (source : Source) (code : Laid) (s : State) → EndsMain code main_of.Task work.old s → MainLeft source code end work.new s) }
+    ensures source { IfOk result (λ end. (source : Source) (code : Laid) (s : State) →
+        EndsMain code main_of.Task work.old s → MainLeft source code end work.new s) }
 {
     let end = end_now(work)?;
     Ok(end)
 }
 
 fn end_now(work: &mut Work) -> Result<TaskMainEnd, AllocError>
-    ensures how { IfOk result (λ end. end ≡ main_by (is_held_up work.old.env.own work.old.env) work.old.run.raised work.old.callers) }
+    ensures how { IfOk result (λ end. end
+        ≡ main_by (is_held_up work.old.env.own work.old.env) work.old.run.raised work.old.callers) }
     ensures now { IfOk result (λ end. work.new ≡ main_over end work.old) }
     ensures err { OnErr result (work.new ≡ work.old) }
 {

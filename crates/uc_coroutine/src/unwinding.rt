@@ -21,7 +21,9 @@ use uc_machine::exec::UnwindReason;
 /// all stays as it is, and the answer is false.
 pub fn unwind(code: &Code, work: &mut Work, frame: u32, row: Option<u32>) -> bool
     ensures step { Made (step_of code.now.rows frame row work.old) work.old result work.new }
-    ensures source { (source : Source) (s : State) → Unwinds (laid_of code.now) work.old s → IsOwn (laid_of code.now) frame row work.old → UnwoundTo source (laid_of code.now) result row work.new s }
+    ensures source { (source : Source) (s : State) → Unwinds (laid_of code.now) work.old s →
+        IsOwn (laid_of code.now) frame row work.old →
+        UnwoundTo source (laid_of code.now) result row work.new s }
 {
     let made = step(code, work, frame, row);
     made
@@ -78,7 +80,8 @@ fn clean_up(code: &Code, work: &mut Work, number: u32)
 
 // The running activation is left, where it is unwound and one waits.
 pub(crate) fn pass_on(work: &mut Work) -> bool
-    ensures { Made (passed_on work.old.run.raised work.old.callers work.old) work.old result work.new }
+    ensures { Made (passed_on work.old.run.raised work.old.callers work.old) work.old result
+        work.new }
 {
     match work.raised() {
         None => false,

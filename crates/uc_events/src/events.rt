@@ -73,7 +73,8 @@ impl Events {
         requires task { task < length self.old }
         requires event { event < EVENTS }
         ensures value { result ≡ has_room (pending_at self.old task) }
-        ensures events { self.new ≡ with_pending self.old task (raised (event, x, y) (pending_at self.old task)) }
+        ensures events { self.new ≡ with_pending self.old task
+            (raised (event, x, y) (pending_at self.old task)) }
     {
         self.tasks[task as usize].push(event, x, y)
     }
@@ -82,7 +83,8 @@ impl Events {
     pub fn poll(&mut self, task: u32, mask: u64) -> Option<(u8, i64, i64)>
         requires task { task < length self.old }
         ensures value { result ≡ oldest_in mask (pending_at self.old task) }
-        ensures events { self.new ≡ with_pending self.old task (without_oldest mask (pending_at self.old task)) }
+        ensures events { self.new ≡ with_pending self.old task
+            (without_oldest mask (pending_at self.old task)) }
     {
         self.tasks[task as usize].take(mask)
     }

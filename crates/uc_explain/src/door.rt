@@ -76,7 +76,8 @@ impl Door {
 
     /// Who is blocked on a condition, each with the number given, oldest first.
     pub(crate) fn blocked_on(&self, cond: u64) -> &[(u32, i64)]
-        ensures { (bs : List (ℕ × ℕ × ℤ)) → self.now.blocked ≡ in_order (λ b. b.1) bs → result.now ≡ map (λ b. (b.0, b.2)) (filter (λ b. b.1 == cond) bs) }
+        ensures { (bs : List (ℕ × ℕ × ℤ)) → self.now.blocked ≡ in_order (λ b. b.1) bs →
+            result.now ≡ map (λ b. (b.0, b.2)) (filter (λ b. b.1 == cond) bs) }
     {
         let from = first_at(&self.conds, cond);
         let to = wait_place(&self.conds, cond);
@@ -85,7 +86,9 @@ impl Door {
 
     /// Whether a task other than this one waits, is stacked or is blocked.
     pub(crate) fn has_others(&self, task: u32) -> bool
-        ensures { result ≡ (list_any (λ w. not (w.0 == task)) self.now.waiting || (list_any (λ s. not (s == task)) self.now.stacked || list_any (λ b. not (b.0 == task)) self.now.blocked)) }
+        ensures { result ≡ (list_any (λ w. not (w.0 == task)) self.now.waiting
+            || (list_any (λ s. not (s == task)) self.now.stacked
+            || list_any (λ b. not (b.0 == task)) self.now.blocked)) }
     {
         if has_other_call(&self.waiting, task) {
             return true;

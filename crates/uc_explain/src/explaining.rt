@@ -40,7 +40,8 @@ fn put_changed(
 ) -> Result<(), AllocError>
     requires fit { IsFit e.now }
     requires now { now.now ≡ after e.now before.old }
-    ensures text { OnOk result (text.new.items ≡ text.old.items ++ line_unless (is_same before.old now.now) number now.now) }
+    ensures text { OnOk result (text.new.items
+        ≡ text.old.items ++ line_unless (is_same before.old now.now) number now.now) }
     ensures before { OnOk result (before.new ≡ now.now) }
 {
     if !is_same(before, now) {

@@ -76,7 +76,8 @@ pub(crate) fn move_blocked(conds: &mut Vec<u64>, waits: &mut Vec<(u32, i64)>, e:
     requires conds { vec_len conds.old < vec_capacity conds.old }
     requires waits { vec_len waits.old < vec_capacity waits.old }
     requires same { length conds.old.items ≡ length waits.old.items }
-    ensures rows { waits_of conds.new.items waits.new.items ≡ blocked_then e.now (waits_of conds.old.items waits.old.items) }
+    ensures rows { waits_of conds.new.items waits.new.items
+        ≡ blocked_then e.now (waits_of conds.old.items waits.old.items) }
     ensures same { length conds.new.items ≡ length waits.new.items }
 {
     drop_waits(conds, waits, e);
@@ -119,7 +120,8 @@ pub(crate) fn wait_place(conds: &[u64], cond: u64) -> usize
 // Takes out the waits of whom an entry takes.
 fn drop_waits(conds: &mut Vec<u64>, waits: &mut Vec<(u32, i64)>, e: &Entry)
     requires { length conds.old.items ≡ length waits.old.items }
-    ensures rows { waits_of conds.new.items waits.new.items ≡ waits_kept e.now (waits_of conds.old.items waits.old.items) }
+    ensures rows { waits_of conds.new.items waits.new.items
+        ≡ waits_kept e.now (waits_of conds.old.items waits.old.items) }
     ensures same { length conds.new.items ≡ length waits.new.items }
     ensures bound { vec_len conds.new ≤ vec_len conds.old }
     ensures conds { vec_capacity conds.new ≡ vec_capacity conds.old }

@@ -73,7 +73,8 @@ fn put_calls(text: &mut Vec<u8>, calls: &[(u32, u8)]) -> Result<(), AllocError>
 // Appends those that are blocked parted by spaces, each with its condition.
 fn put_waits(text: &mut Vec<u8>, conds: &[u64], waits: &[(u32, i64)]) -> Result<(), AllocError>
     requires { length conds.now ≡ length waits.now }
-    ensures { OnOk result (text.new.items ≡ text.old.items ++ parted (λ b. colon (b.1, b.0)) (waits_of conds.now waits.now)) }
+    ensures { OnOk result (text.new.items
+        ≡ text.old.items ++ parted (λ b. colon (b.1, b.0)) (waits_of conds.now waits.now)) }
 {
     match (conds.split_first(), waits.split_first()) {
         (Some((cond, conds)), Some((wait, waits))) => {
@@ -91,7 +92,8 @@ fn put_waits(text: &mut Vec<u8>, conds: &[u64], waits: &[(u32, i64)]) -> Result<
 // Appends more of them, each behind a space.
 fn put_more_waits(text: &mut Vec<u8>, conds: &[u64], waits: &[(u32, i64)]) -> Result<(), AllocError>
     requires { length conds.now ≡ length waits.now }
-    ensures { OnOk result (text.new.items ≡ text.old.items ++ flat_map (λ b. 32 ∷ colon (b.1, b.0)) (waits_of conds.now waits.now)) }
+    ensures { OnOk result (text.new.items
+        ≡ text.old.items ++ flat_map (λ b. 32 ∷ colon (b.1, b.0)) (waits_of conds.now waits.now)) }
 {
     for (i, wait) in waits.iter().enumerate() {
         text.push(b' ')?;

@@ -34,7 +34,8 @@ impl Views {
     /// Adds the next entry of the journal. For want of memory nothing changes.
     pub fn add(&mut self, e: &Entry) -> Result<(), AllocError>
         requires { IsFit e.now }
-        ensures ok { OnOk result ((j : Journal) → AreViewsOf self.old j → AreViewsOf self.new (j ++ e.now ∷ [])) }
+        ensures ok { OnOk result ((j : Journal) → AreViewsOf self.old j →
+            AreViewsOf self.new (j ++ e.now ∷ [])) }
         ensures err { OnErr result ((o : ℕ) → seen_at self.new o ≡ seen_at self.old o) }
     {
         match self.doors.get_mut(&e.object) {
@@ -53,7 +54,8 @@ impl Views {
 
     /// Who is inside an object, in order of their numbers.
     pub fn inside(&self, object: u32) -> &[u32]
-        ensures { (j : Journal) → AreViewsOf self.now j → result.now ≡ in_order (λ t. t) (inside object j) }
+        ensures { (j : Journal) → AreViewsOf self.now j →
+            result.now ≡ in_order (λ t. t) (inside object j) }
     {
         match self.doors.get(&object) {
             Some(door) => &door.inside,

@@ -47,7 +47,9 @@ fn class_home(class: &Class, place: usize) -> OwnClass
 }
 
 fn enter_routine(names: &mut Names, routine: &Routine, steps: &[Step]) -> Result<bool, AllocError>
-    ensures { IfOk result (λ there. env_along (AtBody (with_params names.old routine.now.sig.params) routine.now.body) steps.now ≡ reached there names.new) }
+    ensures { IfOk result (λ there. env_along
+        (AtBody (with_params names.old routine.now.sig.params) routine.now.body) steps.now
+        ≡ reached there names.new) }
 {
     add_params(names, &routine.sig.params)?;
     let there = follow_body(names, &routine.body, steps)?;
@@ -55,7 +57,8 @@ fn enter_routine(names: &mut Names, routine: &Routine, steps: &[Step]) -> Result
 }
 
 fn enter_sig(names: &mut Names, sig: &Sig, steps: &[Step]) -> Result<bool, AllocError>
-    ensures { IfOk result (λ there. env_along (AtLeaf (with_params names.old sig.now.params)) steps.now ≡ reached there names.new) }
+    ensures { IfOk result (λ there. env_along
+        (AtLeaf (with_params names.old sig.now.params)) steps.now ≡ reached there names.new) }
 {
     add_params(names, &sig.params)?;
     Ok(is_end(steps))
@@ -68,7 +71,9 @@ fn enter_form(
     steps: &[Step],
 ) -> Result<bool, AllocError>
     requires fresh { names.old ≡ plain_env names.old.program no_around }
-    ensures { IfOk result (λ there. env_along (form_node names.old.program home member.now.mark member.now.form) steps.now ≡ reached there names.new) }
+    ensures { IfOk result (λ there. env_along
+        (form_node names.old.program home member.now.mark member.now.form) steps.now
+        ≡ reached there names.new) }
 {
     match &member.form {
         MemberForm::Fields { .. } => {
@@ -98,7 +103,8 @@ fn enter_class(
     steps: &[Step],
 ) -> Result<bool, AllocError>
     requires fresh { names.old ≡ plain_env names.old.program no_around }
-    ensures { IfOk result (λ there. env_from (class_node names.old.program place class.now number) steps.now ≡ reached there names.new) }
+    ensures { IfOk result (λ there. env_from
+        (class_node names.old.program place class.now number) steps.now ≡ reached there names.new) }
 {
     match class.members.get(number) {
         Some(member) => {
@@ -118,7 +124,9 @@ fn enter_member(
     steps: &[Step],
 ) -> Result<bool, AllocError>
     requires fresh { names.old ≡ plain_env names.old.program no_around }
-    ensures { IfOk result (λ there. env_from (member_node names.old.program classes item.now number) steps.now ≡ reached there names.new) }
+    ensures { IfOk result (λ there. env_from
+        (member_node names.old.program classes item.now number) steps.now
+        ≡ reached there names.new) }
 {
     match &item.form {
         ItemForm::Class { class } => {
@@ -140,7 +148,8 @@ fn enter_outer(
     steps: &[Step],
 ) -> Result<bool, AllocError>
     requires fresh { names.old ≡ plain_env names.old.program no_around }
-    ensures { IfOk result (λ there. env_along (outer_node names.old.program classes item.now) steps.now ≡ reached there names.new) }
+    ensures { IfOk result (λ there. env_along
+        (outer_node names.old.program classes item.now) steps.now ≡ reached there names.new) }
 {
     match &item.form {
         ItemForm::Class { class } => {
@@ -169,7 +178,9 @@ fn enter_item(
     place: &Place,
 ) -> Result<bool, AllocError>
     requires fresh { names.old ≡ plain_env names.old.program no_around }
-    ensures { IfOk result (λ there. env_from (item_node names.old.program classes item.now place.now.member) place.now.steps.items ≡ reached there names.new) }
+    ensures { IfOk result (λ there. env_from
+        (item_node names.old.program classes item.now place.now.member) place.now.steps.items
+        ≡ reached there names.new) }
 {
     match place.member {
         Some(number) => {
@@ -186,7 +197,8 @@ fn enter_item(
 /// Goes to a place of the program, and says whether there is one; then the names are those there.
 pub(crate) fn enter_place(names: &mut Names, place: &Place) -> Result<bool, AllocError>
     requires fresh { names.old ≡ plain_env names.old.program no_around }
-    ensures { IfOk result (λ there. place_env names.old.program place.now.item place.now.member place.now.steps.items ≡ reached there names.new) }
+    ensures { IfOk result (λ there. place_env names.old.program place.now.item place.now.member
+        place.now.steps.items ≡ reached there names.new) }
 {
     let program = names.tables().program();
     match program.items.get(place.item) {

@@ -153,7 +153,8 @@ fn text_break(first: Option<Break>) -> Option<Break>
 pub fn type_in(names: &Names, e: &Expr) -> Result<Ty, RuleFault>
     ensures typed { IfOk result (λ ty. ty ≡ expr_type names.now e.now) }
     ensures kept { OnOk result (AreOfOwners (statement_breaks names.now e.now)) }
-    ensures broken { IfErr result (λ fault. IsTextFaultOf (statement_breaks names.now e.now) fault) }
+    ensures broken { IfErr result
+        (λ fault. IsTextFaultOf (statement_breaks names.now e.now) fault) }
 {
     let mut found = Found::new();
     let entity = check_value(names, e, &mut found);
@@ -170,7 +171,8 @@ pub fn type_in(names: &Names, e: &Expr) -> Result<Ty, RuleFault>
 }
 
 fn is_there(alloc: Global, tables: &Tables, place: &Place) -> Result<bool, AllocError>
-    ensures { IfOk result (λ there. there ≡ is_some (place_env tables.now place.now.item place.now.member place.now.steps.items)) }
+    ensures { IfOk result (λ there. there
+        ≡ is_some (place_env tables.now place.now.item place.now.member place.now.steps.items)) }
 {
     let mut names = Names::new(alloc, tables, no_around());
     let there = enter_place(&mut names, place)?;
@@ -179,7 +181,8 @@ fn is_there(alloc: Global, tables: &Tables, place: &Place) -> Result<bool, Alloc
 
 /// Whether a program has this place.
 pub fn has_place(alloc: Global, program: &Program, place: &Place) -> Result<bool, AllocError>
-    ensures { IfOk result (λ there. there ≡ is_some (place_env program.now place.now.item place.now.member place.now.steps.items)) }
+    ensures { IfOk result (λ there. there
+        ≡ is_some (place_env program.now place.now.item place.now.member place.now.steps.items)) }
 {
     let tables = tables_of(alloc, program)?;
     let there = is_there(alloc, &tables, place)?;
@@ -187,9 +190,15 @@ pub fn has_place(alloc: Global, program: &Program, place: &Place) -> Result<bool
 }
 
 fn type_at(alloc: Global, tables: &Tables, place: &Place, e: &Expr) -> Result<Ty, RuleFault>
-    ensures typed { (env : Env) → place_env tables.now place.now.item place.now.member place.now.steps.items ≡ Some env → IfOk result (λ ty. ty ≡ expr_type env e.now) }
-    ensures kept { (env : Env) → place_env tables.now place.now.item place.now.member place.now.steps.items ≡ Some env → OnOk result (AreOfOwners (statement_breaks env e.now)) }
-    ensures broken { (env : Env) → place_env tables.now place.now.item place.now.member place.now.steps.items ≡ Some env → IfErr result (λ fault. IsTextFaultOf (statement_breaks env e.now) fault) }
+    ensures typed { (env : Env) →
+        place_env tables.now place.now.item place.now.member place.now.steps.items ≡ Some env →
+        IfOk result (λ ty. ty ≡ expr_type env e.now) }
+    ensures kept { (env : Env) →
+        place_env tables.now place.now.item place.now.member place.now.steps.items ≡ Some env →
+        OnOk result (AreOfOwners (statement_breaks env e.now)) }
+    ensures broken { (env : Env) →
+        place_env tables.now place.now.item place.now.member place.now.steps.items ≡ Some env →
+        IfErr result (λ fault. IsTextFaultOf (statement_breaks env e.now) fault) }
 {
     let mut names = Names::new(alloc, tables, no_around());
     let _there = enter_place(&mut names, place)?;
@@ -201,9 +210,15 @@ fn type_at(alloc: Global, tables: &Tables, place: &Place, e: &Expr) -> Result<Ty
 
 /// The same at a place of a program. Of what is no place of it (`has_place`) nothing is said.
 pub fn type_of(alloc: Global, program: &Program, place: &Place, e: &Expr) -> Result<Ty, RuleFault>
-    ensures typed { (env : Env) → place_env program.now place.now.item place.now.member place.now.steps.items ≡ Some env → IfOk result (λ ty. ty ≡ expr_type env e.now) }
-    ensures kept { (env : Env) → place_env program.now place.now.item place.now.member place.now.steps.items ≡ Some env → OnOk result (AreOfOwners (statement_breaks env e.now)) }
-    ensures broken { (env : Env) → place_env program.now place.now.item place.now.member place.now.steps.items ≡ Some env → IfErr result (λ fault. IsTextFaultOf (statement_breaks env e.now) fault) }
+    ensures typed { (env : Env) →
+        place_env program.now place.now.item place.now.member place.now.steps.items ≡ Some env →
+        IfOk result (λ ty. ty ≡ expr_type env e.now) }
+    ensures kept { (env : Env) →
+        place_env program.now place.now.item place.now.member place.now.steps.items ≡ Some env →
+        OnOk result (AreOfOwners (statement_breaks env e.now)) }
+    ensures broken { (env : Env) →
+        place_env program.now place.now.item place.now.member place.now.steps.items ≡ Some env →
+        IfErr result (λ fault. IsTextFaultOf (statement_breaks env e.now) fault) }
 {
     let tables = tables_of(alloc, program)?;
     match type_at(alloc, &tables, place, e) {

@@ -119,7 +119,9 @@ fn enter_behind(
     number: usize,
     steps: &[Step],
 ) -> Result<bool, AllocError>
-    ensures { IfOk result (λ there. env_from (behind_node names.old base.now declarators.now number) steps.now ≡ reached there names.new) }
+    ensures { IfOk result (λ there. env_from
+        (behind_node names.old base.now declarators.now number) steps.now
+        ≡ reached there names.new) }
 {
     if declarators.len() < number {
         return Ok(false);
@@ -134,7 +136,8 @@ fn enter_head(
     number: usize,
     steps: &[Step],
 ) -> Result<bool, AllocError>
-    ensures { IfOk result (λ there. env_from (head_node names.old start.now number) steps.now ≡ reached there names.new) }
+    ensures { IfOk result (λ there. env_from (head_node names.old start.now number) steps.now
+        ≡ reached there names.new) }
 {
     match &start.form {
         ForForm::Nothing => Ok(is_alone(number, steps)),
@@ -157,7 +160,8 @@ pub(crate) fn follow_body(
     body: &[Stmt],
     steps: &[Step],
 ) -> Result<bool, AllocError>
-    ensures { IfOk result (λ there. env_along (AtBody names.old (stmts_of body.now)) steps.now ≡ reached there names.new) }
+    ensures { IfOk result (λ there. env_along (AtBody names.old (stmts_of body.now)) steps.now
+        ≡ reached there names.new) }
 {
     match steps.split_first() {
         Some((step, rest)) => {
@@ -175,7 +179,8 @@ fn enter_body(
     step: Step,
     steps: &[Step],
 ) -> Result<bool, AllocError>
-    ensures { IfOk result (λ there. env_from (body_node names.old (stmts_of body.now) step) steps.now ≡ reached there names.new) }
+    ensures { IfOk result (λ there. env_from
+        (body_node names.old (stmts_of body.now) step) steps.now ≡ reached there names.new) }
 {
     match step {
         Step::At { number } => {
@@ -197,7 +202,8 @@ fn enter_nth(
     number: usize,
     steps: &[Step],
 ) -> Result<bool, AllocError>
-    ensures { IfOk result (λ there. env_from (nth_node names.old (stmts_of body.now) number) steps.now ≡ reached there names.new) }
+    ensures { IfOk result (λ there. env_from
+        (nth_node names.old (stmts_of body.now) number) steps.now ≡ reached there names.new) }
 {
     if body.len() < number {
         return Ok(false);
@@ -214,7 +220,8 @@ fn enter_nth(
 
 #[cycle(follow)]
 fn follow_stmt(names: &mut Names, s: &Stmt, steps: &[Step]) -> Result<bool, AllocError>
-    ensures { IfOk result (λ there. env_along (AtStmt names.old s.now) steps.now ≡ reached there names.new) }
+    ensures { IfOk result (λ there. env_along (AtStmt names.old s.now) steps.now
+        ≡ reached there names.new) }
 {
     match steps.split_first() {
         Some((step, rest)) => {
@@ -227,7 +234,8 @@ fn follow_stmt(names: &mut Names, s: &Stmt, steps: &[Step]) -> Result<bool, Allo
 
 #[cycle(follow)]
 fn enter_stmt(names: &mut Names, s: &Stmt, step: Step, steps: &[Step]) -> Result<bool, AllocError>
-    ensures { IfOk result (λ there. env_from (inner_node names.old s.now step) steps.now ≡ reached there names.new) }
+    ensures { IfOk result (λ there. env_from (inner_node names.old s.now step) steps.now
+        ≡ reached there names.new) }
 {
     match &s.form {
         StmtForm::Block { body } => {
@@ -295,7 +303,9 @@ fn enter_block(
     step: Step,
     steps: &[Step],
 ) -> Result<bool, AllocError>
-    ensures { IfOk result (λ there. env_from (block_node (block_env names.old) (stmts_of body.now) step) steps.now ≡ reached there names.new) }
+    ensures { IfOk result (λ there. env_from
+        (block_node (block_env names.old) (stmts_of body.now) step) steps.now
+        ≡ reached there names.new) }
 {
     match step {
         Step::At { .. } => Ok(false),
@@ -318,7 +328,9 @@ fn enter_declaration(
     step: Step,
     steps: &[Step],
 ) -> Result<bool, AllocError>
-    ensures { IfOk result (λ there. env_from (declaration_node names.old base.now declarators.now step) steps.now ≡ reached there names.new) }
+    ensures { IfOk result (λ there. env_from
+        (declaration_node names.old base.now declarators.now step) steps.now
+        ≡ reached there names.new) }
 {
     match step {
         Step::At { number } => {
@@ -341,7 +353,9 @@ fn enter_if(
     step: Step,
     steps: &[Step],
 ) -> Result<bool, AllocError>
-    ensures { IfOk result (λ there. env_from (if_node names.old chosen.now (maybe_at other.now) step) steps.now ≡ reached there names.new) }
+    ensures { IfOk result (λ there. env_from
+        (if_node names.old chosen.now (maybe_at other.now) step) steps.now
+        ≡ reached there names.new) }
 {
     match step {
         Step::At { .. } => Ok(false),
@@ -366,7 +380,8 @@ fn enter_loop(
     step: Step,
     steps: &[Step],
 ) -> Result<bool, AllocError>
-    ensures { IfOk result (λ there. env_from (held_node (looped names.old) body.now step) steps.now ≡ reached there names.new) }
+    ensures { IfOk result (λ there. env_from (held_node (looped names.old) body.now step) steps.now
+        ≡ reached there names.new) }
 {
     match step {
         Step::At { .. } => Ok(false),
@@ -390,7 +405,8 @@ fn enter_for(
     step: Step,
     steps: &[Step],
 ) -> Result<bool, AllocError>
-    ensures { IfOk result (λ there. env_from (for_node (opened names.old) start.now body.now step) steps.now ≡ reached there names.new) }
+    ensures { IfOk result (λ there. env_from
+        (for_node (opened names.old) start.now body.now step) steps.now ≡ reached there names.new) }
 {
     names.open();
     match step {
@@ -419,7 +435,9 @@ fn enter_try(
     step: Step,
     steps: &[Step],
 ) -> Result<bool, AllocError>
-    ensures { IfOk result (λ there. env_from (try_node names.old (stmts_of body.now) (handlers_of handlers.now) step) steps.now ≡ reached there names.new) }
+    ensures { IfOk result (λ there. env_from
+        (try_node names.old (stmts_of body.now) (handlers_of handlers.now) step) steps.now
+        ≡ reached there names.new) }
 {
     match step {
         Step::At { .. } => Ok(false),
@@ -445,7 +463,8 @@ fn enter_masked(
     step: Step,
     steps: &[Step],
 ) -> Result<bool, AllocError>
-    ensures { IfOk result (λ there. env_from (held_node names.old body.now step) steps.now ≡ reached there names.new) }
+    ensures { IfOk result (λ there. env_from (held_node names.old body.now step) steps.now
+        ≡ reached there names.new) }
 {
     match step {
         Step::At { .. } => Ok(false),
@@ -468,7 +487,9 @@ fn enter_accept(
     step: Step,
     steps: &[Step],
 ) -> Result<bool, AllocError>
-    ensures { IfOk result (λ there. env_from (accept_node names.old (clauses_of clauses.now) (maybe_at other.now) step) steps.now ≡ reached there names.new) }
+    ensures { IfOk result (λ there. env_from
+        (accept_node names.old (clauses_of clauses.now) (maybe_at other.now) step) steps.now
+        ≡ reached there names.new) }
 {
     match step {
         Step::At { .. } => Ok(false),
@@ -489,7 +510,8 @@ fn enter_accept(
 // A statement that stands in another one.
 #[cycle(follow)]
 fn enter_inner(names: &mut Names, s: &Stmt, steps: &[Step]) -> Result<bool, AllocError>
-    ensures { IfOk result (λ there. env_along (AtStmt (opened names.old) s.now) steps.now ≡ reached there names.new) }
+    ensures { IfOk result (λ there. env_along (AtStmt (opened names.old) s.now) steps.now
+        ≡ reached there names.new) }
 {
     names.open();
     let there = follow_stmt(names, s, steps)?;
@@ -498,7 +520,8 @@ fn enter_inner(names: &mut Names, s: &Stmt, steps: &[Step]) -> Result<bool, Allo
 
 #[cycle(follow)]
 fn enter_maybe(names: &mut Names, s: &Option<Box<Stmt>>, steps: &[Step]) -> Result<bool, AllocError>
-    ensures { IfOk result (λ there. env_from (maybe_node names.old (maybe_at s.now)) steps.now ≡ reached there names.new) }
+    ensures { IfOk result (λ there. env_from (maybe_node names.old (maybe_at s.now)) steps.now
+        ≡ reached there names.new) }
 {
     match s {
         Some(s) => {
@@ -516,7 +539,9 @@ fn enter_handlers(
     number: usize,
     steps: &[Step],
 ) -> Result<bool, AllocError>
-    ensures { IfOk result (λ there. env_from (handler_node names.old (handlers_of handlers.now) number) steps.now ≡ reached there names.new) }
+    ensures { IfOk result (λ there. env_from
+        (handler_node names.old (handlers_of handlers.now) number) steps.now
+        ≡ reached there names.new) }
 {
     match handlers.get(number) {
         Some(handler) => {
@@ -529,7 +554,8 @@ fn enter_handlers(
 
 #[cycle(follow)]
 fn enter_handler(names: &mut Names, handler: &Handler, steps: &[Step]) -> Result<bool, AllocError>
-    ensures { IfOk result (λ there. env_along (handling_node names.old handler.now) steps.now ≡ reached there names.new) }
+    ensures { IfOk result (λ there. env_along (handling_node names.old handler.now) steps.now
+        ≡ reached there names.new) }
 {
     names.set_around(in_handler(names.around()));
     names.open();
@@ -545,7 +571,9 @@ fn enter_clauses(
     number: usize,
     steps: &[Step],
 ) -> Result<bool, AllocError>
-    ensures { IfOk result (λ there. env_from (clause_node names.old (clauses_of clauses.now) number) steps.now ≡ reached there names.new) }
+    ensures { IfOk result (λ there. env_from
+        (clause_node names.old (clauses_of clauses.now) number) steps.now
+        ≡ reached there names.new) }
 {
     match clauses.get(number) {
         Some(clause) => {
@@ -558,7 +586,8 @@ fn enter_clauses(
 
 #[cycle(follow)]
 fn enter_clause(names: &mut Names, clause: &Clause, steps: &[Step]) -> Result<bool, AllocError>
-    ensures { IfOk result (λ there. env_along (accepted_node names.old clause.now) steps.now ≡ reached there names.new) }
+    ensures { IfOk result (λ there. env_along (accepted_node names.old clause.now) steps.now
+        ≡ reached there names.new) }
 {
     let there = enter_inner(names, &clause.body, steps)?;
     Ok(there)

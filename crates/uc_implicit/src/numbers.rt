@@ -20,7 +20,8 @@ use uc_tree::program::Program;
 
 // The classes that are no events.
 fn objects_in<'a>(alloc: Global, classes: &[&'a Class]) -> Result<Vec<&'a Class>, AllocError>
-    ensures { IfOk result (λ v. map (λ c. c.now) v.items ≡ objects_of (map (λ c. c.now) classes.now)) }
+    ensures { IfOk result (λ v. map (λ c. c.now) v.items
+        ≡ objects_of (map (λ c. c.now) classes.now)) }
 {
     let mut objects = Vec::new(alloc);
     for class in classes {
@@ -44,7 +45,8 @@ fn number_at(place: usize) -> u32
 
 // The number of a name by the places of classes that are no events; 0 where there is none.
 fn number_among(places: &Scope, name: &Name) -> u32
-    ensures { (names : List (List ℕ)) → IsPlaces names places.now → result ≡ number_by names name.now }
+    ensures { (names : List (List ℕ)) → IsPlaces names places.now →
+        result ≡ number_by names name.now }
 {
     match place_in(places, name) {
         Some(place) => number_at(place),
@@ -53,7 +55,8 @@ fn number_among(places: &Scope, name: &Name) -> u32
 }
 
 fn numbers_in(alloc: Global, classes: &[&Class], places: &Scope) -> Result<Vec<u32>, AllocError>
-    ensures { IfOk result (λ v. (names : List (List ℕ)) → IsPlaces names places.now → v.items ≡ map (λ c. number_by names c.now.name) classes.now) }
+    ensures { IfOk result (λ v. (names : List (List ℕ)) → IsPlaces names places.now →
+        v.items ≡ map (λ c. number_by names c.now.name) classes.now) }
 {
     let mut numbers = Vec::new(alloc);
     for class in classes {
@@ -64,7 +67,8 @@ fn numbers_in(alloc: Global, classes: &[&Class], places: &Scope) -> Result<Vec<u
 
 /// The numbers of the classes of a program by their places, 0 for an event.
 pub fn numbers_of_classes(alloc: Global, program: &Program) -> Result<Vec<u32>, AllocError>
-    ensures { IfOk result (λ v. v.items ≡ map (number_of_class program.now) (classes_of program.now.items)) }
+    ensures { IfOk result (λ v. v.items
+        ≡ map (number_of_class program.now) (classes_of program.now.items)) }
 {
     let classes = classes_in(alloc, &program.items)?;
     let objects = objects_in(alloc, &classes)?;

@@ -29,7 +29,8 @@ const MOST_BELOW: u64 = 9_223_372_036_854_775_808;
 /// Reads the numbers that the form has, each behind a space.
 pub(crate) fn read_fields(text: &[u8], form: Form) -> Option<Fields<'_>>
     ensures fields { IfSome result (λ f. AreNumbers form text.now f.values f.rest.now) }
-    ensures none { IfNone result ((ns : List ℤ) (rest : List ℕ) → length ns ≡ count_in form → AreFields text.now ns rest → ⊥) }
+    ensures none { IfNone result ((ns : List ℤ) (rest : List ℕ) → length ns ≡ count_in form →
+        AreFields text.now ns rest → ⊥) }
 {
     let count = form.count();
     let mut values = [0; 9];

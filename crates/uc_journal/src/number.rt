@@ -24,7 +24,8 @@ pub(crate) fn read_natural(text: &[u8], most: u64) -> Option<Natural<'_>>
     requires most { most ≤ 9223372036854775808 }
     ensures number { IfSome result (λ n. IsNatural text.now n.value n.rest.now) }
     ensures small { IfSome result (λ n. n.value ≤ most) }
-    ensures none { IfNone result ((n : ℕ) → n ≤ most → (rest : List ℕ) → IsNatural text.now n rest → ⊥) }
+    ensures none { IfNone result ((n : ℕ) → n ≤ most → (rest : List ℕ) → IsNatural text.now n rest →
+        ⊥) }
 {
     if let Some(natural) = read_short(text) {
         return Some(natural);
@@ -81,7 +82,8 @@ fn read_long(text: &[u8], most: u64) -> Option<Natural<'_>>
     requires { most ≤ 9223372036854775808 }
     ensures number { IfSome result (λ n. IsNatural text.now n.value n.rest.now) }
     ensures small { IfSome result (λ n. n.value ≤ most) }
-    ensures none { IfNone result ((n : ℕ) → n ≤ most → (rest : List ℕ) → IsNatural text.now n rest → ⊥) }
+    ensures none { IfNone result ((n : ℕ) → n ≤ most → (rest : List ℕ) → IsNatural text.now n rest →
+        ⊥) }
 {
     let count = digit_length(text);
     if count == 0 {

@@ -22,7 +22,8 @@ pub enum JournalFault {
 /// `ucpp-journal 2` is read in the old form, in which an entry has no line: it is 0.
 pub fn read_journal(alloc: Global, text: &[u8]) -> Result<Vec<Entry>, JournalFault>
     ensures journal { IfOk result (λ j. IsTextOf text.now j.items) }
-    ensures only { IfOk result (λ j. (other : Journal) → IsTextOf text.now other → other ≡ j.items) }
+    ensures only { IfOk result (λ j. (other : Journal) → IsTextOf text.now other →
+        other ≡ j.items) }
     ensures fault { IfErr result (IsFault text.now) }
     ensures none { IfErr result (HasNoJournal text.now) }
 {

@@ -38,7 +38,8 @@ impl Accepts {
 
     /// Adds the next entry of the journal. After want of memory it is spent.
     pub fn add(&mut self, e: &Entry) -> Result<(), AllocError>
-        ensures { OnOk result ((j : Journal) → AreAccepts self.old j → AreAccepts self.new (j ++ e.now ∷ [])) }
+        ensures { OnOk result ((j : Journal) → AreAccepts self.old j →
+            AreAccepts self.new (j ++ e.now ∷ [])) }
     {
         let behind = opened_behind(e, value_at(&self.opened, e.object));
         let _before = self.opened.insert(e.object, behind)?;

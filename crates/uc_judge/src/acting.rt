@@ -30,9 +30,13 @@ impl Ledger {
         requires few { length self.old.entries.items < 2 ^ 32 }
         requires short { length input.now ≤ INPUT_BYTES }
         requires whole { IsWhole request.now }
-        ensures entries { OnOk result (self.new.entries.items ≡ self.old.entries.items ++ act self.old.opts sites.now input.now self.old.entries.items actor.processor actor.task actor.ticks (asked_of actor request.now)) }
+        ensures entries { OnOk result (self.new.entries.items
+            ≡ self.old.entries.items
+            ++ act self.old.opts sites.now input.now self.old.entries.items actor.processor
+            actor.task actor.ticks (asked_of actor request.now)) }
         ensures opts { OnOk result (self.new.opts ≡ self.old.opts) }
-        ensures going { OnOk result (is_over self.new.entries.items ≡ false → IsLedger self.new sites.now) }
+        ensures going { OnOk result (is_over self.new.entries.items ≡ false →
+            IsLedger self.new sites.now) }
     {
         let from = self.entries.len();
         self.take_up(sites, input, actor, request)?;
@@ -68,9 +72,15 @@ impl Ledger {
         requires from { from ≤ length self.old.entries.items }
         requires few { length self.old.entries.items < 2 ^ 32 }
         requires room { length self.old.entries.items < self.old.opts.entries }
-        ensures entries { OnOk result ((sites : List Site) → IsLedger self.old sites → self.new.entries.items ≡ take from self.old.entries.items ++ fitted self.old.opts (take from self.old.entries.items) actor.processor actor.task (drop from self.old.entries.items ++ closing actor.processor actor.task (verdict self.old.opts self.old.entries.items))) }
+        ensures entries { OnOk result ((sites : List Site) → IsLedger self.old sites →
+            self.new.entries.items
+            ≡ take from self.old.entries.items
+            ++ fitted self.old.opts (take from self.old.entries.items) actor.processor actor.task
+            (drop from self.old.entries.items
+            ++ closing actor.processor actor.task (verdict self.old.opts self.old.entries.items))) }
         ensures opts { OnOk result (self.new.opts ≡ self.old.opts) }
-        ensures going { OnOk result ((sites : List Site) → IsLedger self.old sites → is_over self.new.entries.items ≡ false → IsLedger self.new sites) }
+        ensures going { OnOk result ((sites : List Site) → IsLedger self.old sites →
+            is_over self.new.entries.items ≡ false → IsLedger self.new sites) }
     {
         match self.ending() {
             Some(kind) => {
@@ -87,7 +97,9 @@ impl Ledger {
     // Puts the limit in place of the entries from a number on.
     fn limit(&mut self, from: usize, actor: Actor) -> Result<(), AllocError>
         requires { from ≤ length self.old.entries.items }
-        ensures entries { OnOk result (self.new.entries.items ≡ take from self.old.entries.items ++ entry variant.Limit actor.processor actor.task 0 0 (pos 0) (pos 0) ∷ []) }
+        ensures entries { OnOk result (self.new.entries.items
+            ≡ take from self.old.entries.items ++ entry variant.Limit actor.processor actor.task 0 0
+            (pos 0) (pos 0) ∷ []) }
         ensures opts { OnOk result (self.new.opts ≡ self.old.opts) }
     {
         self.entries.truncate(from);
@@ -97,7 +109,9 @@ impl Ledger {
 
     // Adds an ending to the entries, and to nothing else.
     pub(crate) fn stop(&mut self, actor: Actor, kind: EntryKind) -> Result<(), AllocError>
-        ensures entries { OnOk result (self.new.entries.items ≡ self.old.entries.items ++ entry kind actor.processor actor.task 0 0 (pos 0) (pos 0) ∷ []) }
+        ensures entries { OnOk result (self.new.entries.items
+            ≡ self.old.entries.items ++ entry kind actor.processor actor.task 0 0 (pos 0) (pos 0)
+            ∷ []) }
         ensures opts { OnOk result (self.new.opts ≡ self.old.opts) }
     {
         self.entries.push(actor.ending(kind))?;

@@ -25,7 +25,12 @@ pub struct Actor {
 impl Actor {
     /// It asks no more behind the first entry of its act.
     pub(crate) fn freed(self) -> Actor
-        ensures { result ≡ record { processor = self.processor; task = self.task; ticks = 0; line = 0 } }
+        ensures { result ≡ record {
+          processor = self.processor;
+          task = self.task;
+          ticks = 0;
+          line = 0;
+        } }
     {
         Actor {
             processor: self.processor,
@@ -68,7 +73,8 @@ impl Actor {
     /// An entry of which only the kind tells.
     pub(crate) fn plain(self, kind: EntryKind) -> Entry
         requires { types_of kind ≡ types_of variant.Yield }
-        ensures is { result ≡ asking kind self.processor self.task (cost_of self) 0 (pos 0) (pos 0) }
+        ensures is { result ≡ asking kind self.processor self.task (cost_of self) 0 (pos 0)
+            (pos 0) }
         ensures fit { IsFit result }
     {
         self.entry(kind, 0, 0, 0)
@@ -84,7 +90,8 @@ impl Actor {
     /// An entry that names an object alone.
     pub(crate) fn at(self, kind: EntryKind, object: u32) -> Entry
         requires { types_of kind ≡ types_of variant.Made }
-        ensures is { result ≡ asking kind self.processor self.task (cost_of self) object (pos 0) (pos 0) }
+        ensures is { result ≡ asking kind self.processor self.task (cost_of self) object (pos 0)
+            (pos 0) }
         ensures fit { IsFit result }
     {
         self.entry(kind, object, 0, 0)
@@ -93,7 +100,8 @@ impl Actor {
     /// An entry that names an object, and a class or a task.
     pub(crate) fn made(self, kind: EntryKind, object: u32, number: u32) -> Entry
         requires { types_of kind ≡ types_of variant.Make }
-        ensures is { result ≡ asking kind self.processor self.task (cost_of self) object (pos number) (pos 0) }
+        ensures is { result ≡ asking kind self.processor self.task (cost_of self) object
+            (pos number) (pos 0) }
         ensures fit { IsFit result }
     {
         self.entry(kind, object, i64::from(number), 0)
@@ -101,7 +109,8 @@ impl Actor {
 
     /// A call of a member.
     pub(crate) fn call(self, object: u32, member: u8) -> Entry
-        ensures is { result ≡ asking variant.Call self.processor self.task (cost_of self) object (pos member) (pos 0) }
+        ensures is { result ≡ asking variant.Call self.processor self.task (cost_of self) object
+            (pos member) (pos 0) }
         ensures fit { IsFit result }
     {
         self.entry(EntryKind::Call, object, i64::from(member), 0)
@@ -109,7 +118,8 @@ impl Actor {
 
     /// The end of a call, which has failed or not.
     pub(crate) fn leave(self, object: u32, failed: bool) -> Entry
-        ensures is { result ≡ asking variant.Leave self.processor self.task (cost_of self) object (truth failed) (pos 0) }
+        ensures is { result ≡ asking variant.Leave self.processor self.task (cost_of self) object
+            (truth failed) (pos 0) }
         ensures fit { IsFit result }
     {
         self.entry(EntryKind::Leave, object, truth(failed), 0)
@@ -117,7 +127,8 @@ impl Actor {
 
     /// An accept of a site with its mask, and how it went.
     pub(crate) fn accept(self, object: u32, site: u32, mask: u32, has_else: bool, how: u8) -> Entry
-        ensures is { result ≡ accept_entry self.processor self.task (cost_of self) object site mask has_else how }
+        ensures is { result ≡ accept_entry self.processor self.task
+            (cost_of self) object site mask has_else how }
         ensures fit { IsFit result }
     {
         let mut e = self.entry(EntryKind::Accept, object, i64::from(site), i64::from(mask));
@@ -129,7 +140,8 @@ impl Actor {
     /// An entry that names a condition and a number.
     pub(crate) fn wait(self, kind: EntryKind, object: u32, cond: u16, n: i64) -> Entry
         requires { types_of kind ≡ types_of variant.Wait }
-        ensures is { result ≡ asking kind self.processor self.task (cost_of self) object (pos cond) n }
+        ensures is { result ≡ asking kind self.processor self.task (cost_of self) object
+            (pos cond) n }
         ensures fit { IsFit result }
     {
         self.entry(kind, object, i64::from(cond), n)
@@ -138,7 +150,8 @@ impl Actor {
     /// An entry that names a condition, and whether somebody or nobody is blocked there.
     pub(crate) fn signal(self, kind: EntryKind, object: u32, cond: u16, holds: bool) -> Entry
         requires { types_of kind ≡ types_of variant.Signal }
-        ensures is { result ≡ asking kind self.processor self.task (cost_of self) object (pos cond) (truth holds) }
+        ensures is { result ≡ asking kind self.processor self.task (cost_of self) object (pos cond)
+            (truth holds) }
         ensures fit { IsFit result }
     {
         self.entry(kind, object, i64::from(cond), truth(holds))
@@ -146,7 +159,8 @@ impl Actor {
 
     /// An event raised at a task.
     pub(crate) fn raise(self, object: u32, target: u32, event: u8, x: i64, y: i64) -> Entry
-        ensures is { result ≡ raise_entry self.processor self.task (cost_of self) object target event x y }
+        ensures is { result ≡ raise_entry self.processor self.task
+            (cost_of self) object target event x y }
         ensures fit { IsFit result }
     {
         let mut e = self.entry(
@@ -180,7 +194,8 @@ impl Actor {
 
     /// A printed item.
     pub(crate) fn print(self, form: u8, value: i64) -> Entry
-        ensures is { result ≡ asking variant.Print self.processor self.task (cost_of self) 0 (pos form) value }
+        ensures is { result ≡ asking variant.Print self.processor self.task (cost_of self) 0
+            (pos form) value }
         ensures fit { IsFit result }
     {
         self.entry(EntryKind::Print, 0, i64::from(form), value)
@@ -189,7 +204,8 @@ impl Actor {
     /// What was read in a form, behind so many bytes.
     pub(crate) fn read(self, form: u8, got: Got, used: i64) -> Entry
         requires { IsRead used got.taken }
-        ensures is { (n : ℕ) → used ≡ pos n → result ≡ read_entry self.processor self.task (cost_of self) form got n }
+        ensures is { (n : ℕ) → used ≡ pos n →
+            result ≡ read_entry self.processor self.task (cost_of self) form got n }
         ensures fit { IsFit result }
     {
         let mut e = self.entry(EntryKind::Read, 0, i64::from(form), got.value);
@@ -200,7 +216,8 @@ impl Actor {
 
     /// Whether a read has failed.
     pub(crate) fn fail(self, has_failed: bool) -> Entry
-        ensures is { result ≡ asking variant.Fail self.processor self.task (cost_of self) 0 (pos 0) (truth has_failed) }
+        ensures is { result ≡ asking variant.Fail self.processor self.task (cost_of self) 0 (pos 0)
+            (truth has_failed) }
         ensures fit { IsFit result }
     {
         self.entry(EntryKind::Fail, 0, 0, truth(has_failed))
@@ -209,7 +226,8 @@ impl Actor {
     /// An entry that names a cluster.
     pub(crate) fn cluster(self, kind: EntryKind, cluster: u32) -> Entry
         requires { types_of kind ≡ types_of variant.Cluster }
-        ensures is { result ≡ asking kind self.processor self.task (cost_of self) 0 (pos cluster) (pos 0) }
+        ensures is { result ≡ asking kind self.processor self.task (cost_of self) 0 (pos cluster)
+            (pos 0) }
         ensures fit { IsFit result }
     {
         self.entry(kind, 0, i64::from(cluster), 0)
@@ -218,7 +236,8 @@ impl Actor {
     /// An entry that names a processor and its cluster.
     pub(crate) fn processor(self, kind: EntryKind, processor: u32, cluster: u32) -> Entry
         requires { types_of kind ≡ types_of variant.Processor }
-        ensures is { result ≡ asking kind self.processor self.task (cost_of self) 0 (pos processor) (pos cluster) }
+        ensures is { result ≡ asking kind self.processor self.task (cost_of self) 0 (pos processor)
+            (pos cluster) }
         ensures fit { IsFit result }
     {
         self.entry(kind, 0, i64::from(processor), i64::from(cluster))

@@ -14,7 +14,8 @@ use uc_explain::Views;
 
 /// Whether an entry would destroy an object at which others stand, or let in the caller of its destructor.
 pub fn destroys_busy(views: &Views, stacks: &Stacks, e: &Entry) -> bool
-    ensures { (sites : List Site) (j : Journal) → AreViewsOf views.now j → AreStacks stacks.now sites j → result ≡ destroys_busy j e.now.kind e.now }
+    ensures { (sites : List Site) (j : Journal) → AreViewsOf views.now j →
+        AreStacks stacks.now sites j → result ≡ destroys_busy j e.now.kind e.now }
 {
     match e.kind {
         EntryKind::Gone => views.has_others(e.object, e.task),

@@ -42,7 +42,8 @@ pub(crate) fn is_written(e: &Entry, entry: &Entry, lines: bool) -> bool
 pub fn options_of(e: &Entry, lines: bool) -> Option<Options>
     ensures range { IfSome result (λ opts. InRange opts) }
     ensures begins { IfSome result (λ opts. e.now ≡ lined lines (begin opts)) }
-    ensures none { IfNone result ((opts : Options) → InRange opts → e.now ≡ lined lines (begin opts) → ⊥) }
+    ensures none { IfNone result ((opts : Options) → InRange opts →
+        e.now ≡ lined lines (begin opts) → ⊥) }
 {
     if e.a < i64::from(PROCESSORS_MIN) || e.a > i64::from(PROCESSORS) {
         return None;

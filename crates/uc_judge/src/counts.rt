@@ -53,7 +53,8 @@ impl Counts {
 
     /// Adds the next entry of the journal.
     pub fn add(&mut self, e: &Entry)
-        ensures { (opts : Options) (j : Journal) → opts.processors < 2 ^ 32 → length j < 2 ^ 32 → AreCounts self.old opts j → AreCounts self.new opts (j ++ e.now ∷ []) }
+        ensures { (opts : Options) (j : Journal) → opts.processors < 2 ^ 32 → length j < 2 ^ 32 →
+            AreCounts self.old opts j → AreCounts self.new opts (j ++ e.now ∷ []) }
     {
         self.entries = self.entries.saturating_add(1);
         self.objects = self.objects.saturating_add(one_if(is_make(e.kind)));

@@ -37,7 +37,8 @@ pub fn judge<A: Asks + Drop>(
     lines: bool,
 ) -> Result<Verdict, AllocError>
     requires short { length input.now ≤ INPUT_BYTES }
-    ensures { IfOk result (λ v. IsVerdict (cause_of A.asks A.told first sites.now input.now lines) journal.now v) }
+    ensures { IfOk result (λ v. IsVerdict
+        (cause_of A.asks A.told first sites.now input.now lines) journal.now v) }
 {
     match options_in(journal, lines) {
         Some(opts) => {
@@ -55,8 +56,10 @@ pub fn judge<A: Asks + Drop>(
 // The options with which a journal begins.
 fn options_in(journal: &[Entry], lines: bool) -> Option<Options>
     ensures range { IfSome result (λ opts. InRange opts) }
-    ensures begins { IfSome result (λ opts. journal.now ≡ lined lines (begin opts) ∷ drop 1 journal.now) }
-    ensures none { IfNone result ((opts : Options) (rest : List Entry) → InRange opts → journal.now ≡ lined lines (begin opts) ∷ rest → ⊥) }
+    ensures begins { IfSome result (λ opts. journal.now
+        ≡ lined lines (begin opts) ∷ drop 1 journal.now) }
+    ensures none { IfNone result ((opts : Options) (rest : List Entry) → InRange opts →
+        journal.now ≡ lined lines (begin opts) ∷ rest → ⊥) }
 {
     match journal.first() {
         Some(e) => options_of(e, lines),
@@ -75,7 +78,10 @@ fn walk<A: Asks>(
 ) -> Result<Verdict, AllocError>
     requires ready { IsReady ledger.old sites.now }
     requires short { length input.now ≤ INPUT_BYTES }
-    ensures { IfOk result (λ v. (first : A) → Stands (cause_of A.asks A.told first sites.now input.now lines) ledger.old tasks.old journal.now → IsVerdict (cause_of A.asks A.told first sites.now input.now lines) journal.now v) }
+    ensures { IfOk result (λ v. (first : A) →
+        Stands (cause_of A.asks A.told first sites.now input.now lines) ledger.old tasks.old
+        journal.now →
+        IsVerdict (cause_of A.asks A.told first sites.now input.now lines) journal.now v) }
 {
     while ledger.entries.len() < journal.len() {
         match step(ledger, tasks, sites, input, journal, lines)? {
@@ -100,7 +106,11 @@ fn step<A: Asks>(
     requires ready { IsReady ledger.old sites.now }
     requires short { length input.now ≤ INPUT_BYTES }
     requires more { length ledger.old.entries.items < length journal.now }
-    ensures comes { IfOk result (λ v. (first : A) → Stands (cause_of A.asks A.told first sites.now input.now lines) ledger.old tasks.old journal.now → Comes (cause_of A.asks A.told first sites.now input.now lines) ledger.new tasks.new journal.now v) }
+    ensures comes { IfOk result (λ v. (first : A) →
+        Stands (cause_of A.asks A.told first sites.now input.now lines) ledger.old tasks.old
+        journal.now →
+        Comes (cause_of A.asks A.told first sites.now input.now lines) ledger.new tasks.new
+        journal.now v) }
     ensures keeps { IfOk result (λ v. Keeps ledger.old ledger.new sites.now v) }
 {
     let from = ledger.entries.len();
@@ -140,7 +150,11 @@ fn follow<A: Asks>(
     requires short { length input.now ≤ INPUT_BYTES }
     requires more { length ledger.old.entries.items < length journal.now }
     requires next { IsNext lines ledger.old journal.now processor task }
-    ensures comes { IfOk result (λ v. (first : A) → Stands (cause_of A.asks A.told first sites.now input.now lines) ledger.old tasks.old journal.now → Comes (cause_of A.asks A.told first sites.now input.now lines) ledger.new tasks.new journal.now v) }
+    ensures comes { IfOk result (λ v. (first : A) →
+        Stands (cause_of A.asks A.told first sites.now input.now lines) ledger.old tasks.old
+        journal.now →
+        Comes (cause_of A.asks A.told first sites.now input.now lines) ledger.new tasks.new
+        journal.now v) }
     ensures keeps { IfOk result (λ v. Keeps ledger.old ledger.new sites.now v) }
 {
     let from = ledger.entries.len();
@@ -216,8 +230,10 @@ fn lone_limit() -> Entry
 impl Ledger {
     // Whether an entry is a dispatch that may follow.
     fn may_give(&self, e: &Entry, lines: bool) -> bool
-        ensures yes { result ≡ true → (sites : List Site) → IsLedger self.now sites → MayGive lines self.now e.now e.now.proc e.now.task }
-        ensures no { result ≡ false → (sites : List Site) → IsLedger self.now sites → (p t : ℕ) → MayGive lines self.now e.now p t → ⊥ }
+        ensures yes { result ≡ true → (sites : List Site) → IsLedger self.now sites →
+            MayGive lines self.now e.now e.now.proc e.now.task }
+        ensures no { result ≡ false → (sites : List Site) → IsLedger self.now sites → (p t : ℕ) →
+            MayGive lines self.now e.now p t → ⊥ }
     {
         if !is_written(&dispatch(e.proc, e.task), e, lines) {
             return false;
@@ -230,8 +246,10 @@ impl Ledger {
 
     // Whether an entry is the limit in place of a dispatch.
     fn may_stop(&self, e: &Entry, lines: bool) -> bool
-        ensures yes { result ≡ true → (sites : List Site) → IsLedger self.now sites → MayStop lines self.now e.now }
-        ensures no { result ≡ false → (sites : List Site) → IsLedger self.now sites → MayStop lines self.now e.now → ⊥ }
+        ensures yes { result ≡ true → (sites : List Site) → IsLedger self.now sites →
+            MayStop lines self.now e.now }
+        ensures no { result ≡ false → (sites : List Site) → IsLedger self.now sites →
+            MayStop lines self.now e.now → ⊥ }
     {
         if !is_written(&lone_limit(), e, lines) {
             return false;
@@ -245,7 +263,8 @@ impl Ledger {
     // The entry of a journal with which it goes on.
     fn next_in(&self, journal: &[Entry]) -> Entry
         requires { length self.now.entries.items < length journal.now }
-        ensures { drop (length self.now.entries.items) journal.now ≡ result ∷ drop (suc (length self.now.entries.items)) journal.now }
+        ensures { drop (length self.now.entries.items) journal.now
+            ≡ result ∷ drop (suc (length self.now.entries.items)) journal.now }
     {
         journal[self.entries.len()]
     }

@@ -9,12 +9,14 @@ use crate::asks::Asks;
 
 /// A journal has one cut into acts: a run that begins as another one, which has not ended, goes on from it by acts.
 pub fn law_cut<A: Asks>()
-    ensures { (first : A) (sites : List Site) (input : List ℕ) (lines : Bool) → LawCut (cause_of A.asks A.told first sites input lines) }
+    ensures { (first : A) (sites : List Site) (input : List ℕ) (lines : Bool) →
+        LawCut (cause_of A.asks A.told first sites input lines) }
 {}
 
 /// A journal gets one answer.
 pub fn law_verdict<A: Asks>()
-    ensures { (first : A) (sites : List Site) (input : List ℕ) (lines : Bool) → LawVerdict (cause_of A.asks A.told first sites input lines) }
+    ensures { (first : A) (sites : List Site) (input : List ℕ) (lines : Bool) →
+        LawVerdict (cause_of A.asks A.told first sites input lines) }
 {}
 
 /// The tasks are told of the answers of a kernel, and of no other.

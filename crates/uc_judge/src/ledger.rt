@@ -88,7 +88,8 @@ impl Ledger {
         requires narrow { IsNarrow e.kind e }
         requires ledger { IsLedger self.old sites.now }
         ensures settles { OnOk result (Settles self.old self.new sites.now actor (e ∷ [])) }
-        ensures going { IfOk result (λ going. going ≡ not (destroys_busy self.old.entries.items e.kind e)) }
+        ensures going { IfOk result (λ going. going
+            ≡ not (destroys_busy self.old.entries.items e.kind e)) }
     {
         if destroys_busy(&self.views, &self.stacks, &e) {
             let cause = Actor {
@@ -108,7 +109,8 @@ impl Ledger {
 
     /// Whether a task that has not ended, or a processor that is not closed, is on a cluster.
     pub(crate) fn is_in_use(&self, cluster: u32) -> bool
-        ensures { (sites : List Site) → IsLedger self.now sites → result ≡ is_in_use self.now.opts cluster self.now.entries.items }
+        ensures { (sites : List Site) → IsLedger self.now sites →
+            result ≡ is_in_use self.now.opts cluster self.now.entries.items }
     {
         !self.schedule.is_empty(u64::from(cluster)) || self.processors.serve(cluster)
     }
@@ -116,7 +118,8 @@ impl Ledger {
     /// How the run ends behind what stands, if it does.
     pub(crate) fn ending(&self) -> Option<EntryKind>
         requires { length self.now.entries.items < 2 ^ 32 }
-        ensures verdict { (sites : List Site) → IsLedger self.now sites → result ≡ verdict self.now.opts self.now.entries.items }
+        ensures verdict { (sites : List Site) → IsLedger self.now sites →
+            result ≡ verdict self.now.opts self.now.entries.items }
         ensures kind { IfSome result (λ kind. is_ending kind ≡ true) }
     {
         if self.counts.first_ended {

@@ -36,7 +36,8 @@ impl Pending {
     /// Adds the next entry of the journal. After want of memory it is spent.
     pub fn add(&mut self, e: &Entry) -> Result<(), AllocError>
         requires { IsFit e.now }
-        ensures { OnOk result ((j : Journal) → ArePending self.old j → ArePending self.new (j ++ e.now ∷ [])) }
+        ensures { OnOk result ((j : Journal) → ArePending self.old j →
+            ArePending self.new (j ++ e.now ∷ [])) }
     {
         match e.kind {
             EntryKind::Raise => {
@@ -92,7 +93,10 @@ fn raise(
     task: u32,
     event: (u8, i64, i64),
 ) -> Result<(), AllocError>
-    ensures { OnOk result ((t : ℕ) → events_of (get nat_cmp tasks.new t) ≡ (if task == t then events_of (get nat_cmp tasks.old t) ++ event ∷ [] else events_of (get nat_cmp tasks.old t))) }
+    ensures { OnOk result ((t : ℕ) →
+        events_of (get nat_cmp tasks.new t)
+        ≡ (if task == t then events_of (get nat_cmp tasks.old t) ++ event ∷ []
+        else events_of (get nat_cmp tasks.old t))) }
 {
     match tasks.get_mut(&task) {
         Some(events) => {
@@ -110,7 +114,10 @@ fn raise(
 
 // Takes out what a poll has delivered to a task: the oldest event whose number is one less than this field.
 fn deliver(tasks: &mut BTreeMap<u32, Vec<(u8, i64, i64)>>, task: u32, field: i64)
-    ensures { (t : ℕ) → events_of (get nat_cmp tasks.new t) ≡ (if task == t then drop_first (λ r. holds (r.0 + 1) field) (events_of (get nat_cmp tasks.old t)) else events_of (get nat_cmp tasks.old t)) }
+    ensures { (t : ℕ) → events_of (get nat_cmp tasks.new t)
+        ≡ (if task == t
+        then drop_first (λ r. holds (r.0 + 1) field) (events_of (get nat_cmp tasks.old t))
+        else events_of (get nat_cmp tasks.old t)) }
 {
     match tasks.get_mut(&task) {
         Some(events) => take_out(events, field),

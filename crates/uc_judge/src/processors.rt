@@ -38,7 +38,8 @@ impl Processors {
     /// Adds the next entry of the journal. After want of memory it is spent.
     pub fn add(&mut self, e: &Entry) -> Result<(), AllocError>
         requires { IsFit e.now }
-        ensures { OnOk result ((opts : Options) (j : Journal) → AreProcessors self.old opts j → AreProcessors self.new opts (j ++ e.now ∷ [])) }
+        ensures { OnOk result ((opts : Options) (j : Journal) → AreProcessors self.old opts j →
+            AreProcessors self.new opts (j ++ e.now ∷ [])) }
     {
         match e.kind {
             EntryKind::Processor => {
@@ -61,21 +62,24 @@ impl Processors {
 
     /// Those that are not closed, each with its cluster.
     pub fn open(&self) -> &[(u32, u32)]
-        ensures { (opts : Options) (j : Journal) → AreProcessors self.now opts j → result.now ≡ open_processors opts j }
+        ensures { (opts : Options) (j : Journal) → AreProcessors self.now opts j →
+            result.now ≡ open_processors opts j }
     {
         &self.opened
     }
 
     /// The cluster of a processor, closed or not, or 0.
     pub fn cluster_of(&self, processor: u32) -> u32
-        ensures { (opts : Options) (j : Journal) → AreProcessors self.now opts j → result ≡ cluster_in processor (processors opts j) }
+        ensures { (opts : Options) (j : Journal) → AreProcessors self.now opts j →
+            result ≡ cluster_in processor (processors opts j) }
     {
         cluster_in(&self.all, processor)
     }
 
     /// Whether one that is not closed is on a cluster.
     pub fn serve(&self, cluster: u32) -> bool
-        ensures { (opts : Options) (j : Journal) → AreProcessors self.now opts j → result ≡ list_any (λ x. x.1 == cluster) (open_processors opts j) }
+        ensures { (opts : Options) (j : Journal) → AreProcessors self.now opts j →
+            result ≡ list_any (λ x. x.1 == cluster) (open_processors opts j) }
     {
         has_cluster(&self.opened, cluster)
     }

@@ -48,7 +48,8 @@ impl Schedule {
     /// Adds the next entry of the journal. After want of memory it is spent.
     pub fn add(&mut self, e: &Entry) -> Result<(), AllocError>
         requires { IsFit e.now }
-        ensures { OnOk result ((j : Journal) → IsSchedule self.old j → IsSchedule self.new (j ++ e.now ∷ [])) }
+        ensures { OnOk result ((j : Journal) → IsSchedule self.old j →
+            IsSchedule self.new (j ++ e.now ∷ [])) }
     {
         self.ready.reserve(1)?;
         self.running.reserve(1)?;
@@ -79,7 +80,8 @@ impl Schedule {
 
     /// Whether a processor has no task, and the queue of a cluster has one.
     pub fn waits_for(&self, processor: u32, cluster: u32) -> bool
-        ensures { (j : Journal) → IsSchedule self.now j → result ≡ (is_nobody (running processor j) && not (is_nobody (ready cluster j))) }
+        ensures { (j : Journal) → IsSchedule self.now j →
+            result ≡ (is_nobody (running processor j) && not (is_nobody (ready cluster j))) }
     {
         if first_of_number(&self.running, u64::from(processor)).is_some() {
             return false;
@@ -96,21 +98,24 @@ impl Schedule {
 
     /// Whether no task runs on any of the first so many processors.
     pub fn none_running(&self, processors: u64) -> bool
-        ensures { (opts : Options) (j : Journal) → IsSchedule self.now j → processors ≡ processor_count opts j → result ≡ none_running opts j }
+        ensures { (opts : Options) (j : Journal) → IsSchedule self.now j →
+            processors ≡ processor_count opts j → result ≡ none_running opts j }
     {
         !has_below(&self.running, processors)
     }
 
     /// Whether no task is ready on any of the first so many clusters.
     pub fn none_ready(&self, clusters: u64) -> bool
-        ensures { (j : Journal) → IsSchedule self.now j → clusters ≡ cluster_count j → result ≡ none_ready j }
+        ensures { (j : Journal) → IsSchedule self.now j → clusters ≡ cluster_count j →
+            result ≡ none_ready j }
     {
         !has_below(&self.ready, clusters)
     }
 
     /// Whether no task is ready on the cluster of any of these processors, which are open.
     pub fn none_served(&self, processors: &[(u32, u32)]) -> bool
-        ensures { (opts : Options) (j : Journal) → IsSchedule self.now j → processors.now ≡ open_processors opts j → result ≡ none_served opts j }
+        ensures { (opts : Options) (j : Journal) → IsSchedule self.now j →
+            processors.now ≡ open_processors opts j → result ≡ none_served opts j }
     {
         none_on(&self.ready, processors)
     }
@@ -172,7 +177,9 @@ fn none_on(rows: &[(u32, u64)], processors: &[(u32, u32)]) -> bool
 // Where the tasks are behind an entry.
 fn move_places(places: &mut BTreeMap<u32, u64>, e: &Entry) -> Result<(), AllocError>
     requires { IsFit e.now }
-    ensures { OnOk result ((t : ℕ) → unwrap_or (get nat_cmp places.new t) 0 ≡ clusters (λ u. unwrap_or (get nat_cmp places.old u) 0) e.now.kind e.now t) }
+    ensures { OnOk result ((t : ℕ) →
+        unwrap_or (get nat_cmp places.new t) 0
+        ≡ clusters (λ u. unwrap_or (get nat_cmp places.old u) 0) e.now.kind e.now t) }
 {
     match e.kind {
         EntryKind::Spawn => {
@@ -211,7 +218,8 @@ fn with_cluster(places: &BTreeMap<u32, u64>, task: Option<u32>) -> Option<(u32, 
 // Takes out whom an entry dispatches, and puts whom it makes ready at the end.
 fn move_ready(ready: &mut Vec<(u32, u64)>, e: &Entry, readied: Option<(u32, u64)>)
     requires { vec_len ready.old < vec_capacity ready.old }
-    ensures { ready.new.items ≡ filter (λ r. not (dispatches e.now.kind e.now r.0)) ready.old.items ++ option_to_list readied }
+    ensures { ready.new.items ≡ filter (λ r. not (dispatches e.now.kind e.now r.0)) ready.old.items
+        ++ option_to_list readied }
 {
     ready.retain(|r| !dispatches(e, r.0));
     match readied {
@@ -223,7 +231,9 @@ fn move_ready(ready: &mut Vec<(u32, u64)>, e: &Entry, readied: Option<(u32, u64)
 // Takes out whom an entry takes off its processor, and puts there whom it puts there.
 fn move_running(running: &mut Vec<(u32, u64)>, e: &Entry, put: Option<u32>)
     requires { vec_len running.old < vec_capacity running.old }
-    ensures { running.new.items ≡ filter (λ r. not ((e.now.proc == r.1) && takes_off e.now.kind e.now r.0)) running.old.items ++ option_to_list (placed (λ t. e.now.proc) put) }
+    ensures { running.new.items
+        ≡ filter (λ r. not ((e.now.proc == r.1) && takes_off e.now.kind e.now r.0))
+        running.old.items ++ option_to_list (placed (λ t. e.now.proc) put) }
 {
     let processor = u64::from(e.proc);
     running.retain(|r| !(processor == r.1 && takes_off(e, r.0)));
@@ -236,7 +246,9 @@ fn move_running(running: &mut Vec<(u32, u64)>, e: &Entry, put: Option<u32>)
 // Takes out who goes from its cluster by an entry, and puts who comes at the end.
 fn move_standing(standing: &mut Vec<(u32, u64)>, e: &Entry, stood: Option<(u32, u64)>)
     requires { vec_len standing.old < vec_capacity standing.old }
-    ensures { standing.new.items ≡ filter (λ r. not (leaves_cluster e.now.kind e.now r.0)) standing.old.items ++ option_to_list stood }
+    ensures { standing.new.items
+        ≡ filter (λ r. not (leaves_cluster e.now.kind e.now r.0)) standing.old.items
+        ++ option_to_list stood }
 {
     standing.retain(|r| !leaves_cluster(e, r.0));
     match stood {

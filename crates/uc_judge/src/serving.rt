@@ -16,8 +16,10 @@ use crate::schedule::Schedule;
 impl Ledger {
     /// Whether a processor may be given a task: it is open and free, and its cluster's queue begins with the task.
     pub fn serves(&self, processor: u8, task: u32) -> bool
-        ensures yes { result ≡ true → (sites : List Site) → IsLedger self.now sites → Serves self.now.opts self.now.entries.items processor task }
-        ensures no { result ≡ false → (sites : List Site) → IsLedger self.now sites → Serves self.now.opts self.now.entries.items processor task → ⊥ }
+        ensures yes { result ≡ true → (sites : List Site) → IsLedger self.now sites →
+            Serves self.now.opts self.now.entries.items processor task }
+        ensures no { result ≡ false → (sites : List Site) → IsLedger self.now sites →
+            Serves self.now.opts self.now.entries.items processor task → ⊥ }
     {
         if self.schedule.first_running(processor).is_some() {
             return false;
@@ -32,8 +34,10 @@ impl Ledger {
 
     /// Whether any processor may be given any task.
     pub(crate) fn serves_any(&self) -> bool
-        ensures yes { result ≡ true → (sites : List Site) → IsLedger self.now sites → IsServed self.now.opts self.now.entries.items }
-        ensures no { result ≡ false → (sites : List Site) → IsLedger self.now sites → IsServed self.now.opts self.now.entries.items → ⊥ }
+        ensures yes { result ≡ true → (sites : List Site) → IsLedger self.now sites →
+            IsServed self.now.opts self.now.entries.items }
+        ensures no { result ≡ false → (sites : List Site) → IsLedger self.now sites →
+            IsServed self.now.opts self.now.entries.items → ⊥ }
     {
         any_waits(&self.schedule, self.processors.open())
     }
@@ -41,7 +45,9 @@ impl Ledger {
 
 // Whether one of some processors has no task, and its cluster's queue has one.
 fn any_waits(schedule: &Schedule, processors: &[(u32, u32)]) -> bool
-    ensures { (j : Journal) → IsSchedule schedule.now j → result ≡ list_any (λ x. is_nobody (running x.0 j) && not (is_nobody (ready x.1 j))) processors.now }
+    ensures { (j : Journal) → IsSchedule schedule.now j →
+        result ≡ list_any
+        (λ x. is_nobody (running x.0 j) && not (is_nobody (ready x.1 j))) processors.now }
 {
     for row in processors {
         if schedule.waits_for(row.0, row.1) {
@@ -53,7 +59,8 @@ fn any_waits(schedule: &Schedule, processors: &[(u32, u32)]) -> bool
 
 // Whether one of some processors has this number, and a task is the first of its cluster's queue.
 fn any_serves(schedule: &Schedule, processors: &[(u32, u32)], processor: u32, task: u32) -> bool
-    ensures { (j : Journal) → IsSchedule schedule.now j → result ≡ list_any (λ x. (x.0 == processor) && is_first task (ready x.1 j)) processors.now }
+    ensures { (j : Journal) → IsSchedule schedule.now j →
+        result ≡ list_any (λ x. (x.0 == processor) && is_first task (ready x.1 j)) processors.now }
 {
     for row in processors {
         if row_serves(schedule, *row, processor, task) {
@@ -64,7 +71,8 @@ fn any_serves(schedule: &Schedule, processors: &[(u32, u32)], processor: u32, ta
 }
 
 fn row_serves(schedule: &Schedule, row: (u32, u32), processor: u32, task: u32) -> bool
-    ensures { (j : Journal) → IsSchedule schedule.now j → result ≡ ((row.0 == processor) && is_first task (ready row.1 j)) }
+    ensures { (j : Journal) → IsSchedule schedule.now j →
+        result ≡ ((row.0 == processor) && is_first task (ready row.1 j)) }
 {
     if row.0 == processor {
         return is_first_ready(schedule, row.1, task);

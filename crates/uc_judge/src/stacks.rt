@@ -57,7 +57,8 @@ impl Stacks {
     /// Adds the next entry of the journal, of a program with these accept statements. After want of memory it is spent.
     pub fn add(&mut self, sites: &[Site], e: &Entry) -> Result<(), AllocError>
         requires { IsFit e.now }
-        ensures { OnOk result ((j : Journal) → AreStacks self.old sites.now j → AreStacks self.new sites.now (j ++ e.now ∷ [])) }
+        ensures { OnOk result ((j : Journal) → AreStacks self.old sites.now j →
+            AreStacks self.new sites.now (j ++ e.now ∷ [])) }
     {
         let called = last_of(&self.called, e.object, e.task);
         match self.stacks.get_mut(&e.object) {
@@ -78,7 +79,8 @@ impl Stacks {
 
     /// The clause by which the accept of a task on the stack of an object was met, or 0.
     pub fn clause_of(&self, object: u32, task: u32) -> u8
-        ensures { (sites : List Site) (j : Journal) → AreStacks self.now sites j → result ≡ clause_of sites object task j }
+        ensures { (sites : List Site) (j : Journal) → AreStacks self.now sites j →
+            result ≡ clause_of sites object task j }
     {
         match self.stacks.get(&object) {
             Some(rows) => clause_on(rows, task),
@@ -88,7 +90,8 @@ impl Stacks {
 
     /// Whether the call that met the accept of a task on the stack of an object has failed.
     pub fn failed_of(&self, object: u32, task: u32) -> bool
-        ensures { (sites : List Site) (j : Journal) → AreStacks self.now sites j → result ≡ failed_of sites object task j }
+        ensures { (sites : List Site) (j : Journal) → AreStacks self.now sites j →
+            result ≡ failed_of sites object task j }
     {
         match self.stacks.get(&object) {
             Some(rows) => failed_on(rows, task),
@@ -98,7 +101,8 @@ impl Stacks {
 
     /// Whether the last call of an object by a task was of its destructor.
     pub fn calls_destructor(&self, object: u32, task: u32) -> bool
-        ensures { (sites : List Site) (j : Journal) → AreStacks self.now sites j → result ≡ calls_destructor object task j }
+        ensures { (sites : List Site) (j : Journal) → AreStacks self.now sites j →
+            result ≡ calls_destructor object task j }
     {
         match last_of(&self.called, object, task) {
             Some(member) => member == DESTRUCTOR,
@@ -120,7 +124,11 @@ fn last_of(called: &BTreeMap<(u32, u32), u8>, object: u32, task: u32) -> Option<
 // Keeps the member that an entry calls.
 fn note_call(called: &mut BTreeMap<(u32, u32), u8>, e: &Entry) -> Result<(), AllocError>
     requires { IsFit e.now }
-    ensures { OnOk result ((o t : ℕ) → get pair_cmp called.new (o, t) ≡ (if e.now.object == o then last_called (λ u. get pair_cmp called.old (o, u)) e.now.kind e.now t else get pair_cmp called.old (o, t))) }
+    ensures { OnOk result ((o t : ℕ) →
+        get pair_cmp called.new (o, t)
+        ≡ (if e.now.object == o
+        then last_called (λ u. get pair_cmp called.old (o, u)) e.now.kind e.now t
+        else get pair_cmp called.old (o, t))) }
 {
     match e.kind {
         EntryKind::Call => {
@@ -138,7 +146,9 @@ fn move_stack(
     e: &Entry,
     called: Option<u8>,
 ) -> Result<(), AllocError>
-    ensures { OnOk result (map (as_on_stack sites.now) rows.new.items ≡ stack_after sites.now e.now.kind e.now called (map (as_on_stack sites.now) rows.old.items)) }
+    ensures { OnOk result (map (as_on_stack sites.now) rows.new.items
+        ≡ stack_after sites.now e.now.kind e.now called
+        (map (as_on_stack sites.now) rows.old.items)) }
 {
     match e.kind {
         EntryKind::Accept => {
@@ -174,7 +184,9 @@ fn move_stack(
 
 // Puts a task on top, an acceptor with its accept statement and mask.
 fn put_top(rows: &mut Vec<OnStack>, task: u32, accept: Option<(u64, u64)>) -> Result<(), AllocError>
-    ensures { OnOk result ((sites : List Site) → map (as_on_stack sites) rows.new.items ≡ put_top (Some task) (offers_told sites accept) (map (as_on_stack sites) rows.old.items)) }
+    ensures { OnOk result ((sites : List Site) →
+        map (as_on_stack sites) rows.new.items
+        ≡ put_top (Some task) (offers_told sites accept) (map (as_on_stack sites) rows.old.items)) }
 {
     rows.reserve(1)?;
     let _put = rows.insert(
@@ -192,7 +204,8 @@ fn put_top(rows: &mut Vec<OnStack>, task: u32, accept: Option<(u64, u64)>) -> Re
 
 // A call of this member by a task meets the accept of the task on top.
 fn meet_top(rows: &mut Vec<OnStack>, sites: &[Site], task: u32, called: Option<u8>)
-    ensures { map (as_on_stack sites.now) rows.new.items ≡ met_top task called (map (as_on_stack sites.now) rows.old.items) }
+    ensures { map (as_on_stack sites.now) rows.new.items
+        ≡ met_top task called (map (as_on_stack sites.now) rows.old.items) }
 {
     match called {
         Some(member) => {
@@ -217,7 +230,9 @@ fn clause_by(sites: &[Site], accept: Option<(u64, u64)>, member: u8) -> u8
 
 // The call of this task, where it met an accept, is over, and has failed or not.
 fn end_calls(rows: &mut Vec<OnStack>, task: u32, failed: bool)
-    ensures { (sites : List Site) → map (as_on_stack sites) rows.new.items ≡ map (left_by_task task failed) (map (as_on_stack sites) rows.old.items) }
+    ensures { (sites : List Site) →
+        map (as_on_stack sites) rows.new.items
+        ≡ map (left_by_task task failed) (map (as_on_stack sites) rows.old.items) }
 {
     for row in rows.iter_mut() {
         *row = without_call(row, task, failed);
@@ -226,7 +241,8 @@ fn end_calls(rows: &mut Vec<OnStack>, task: u32, failed: bool)
 
 // A task on a stack, where the call of this task is over.
 fn without_call(row: &OnStack, task: u32, failed: bool) -> OnStack
-    ensures { (sites : List Site) → as_on_stack sites result ≡ left_by_task task failed (as_on_stack sites row.now) }
+    ensures { (sites : List Site) →
+        as_on_stack sites result ≡ left_by_task task failed (as_on_stack sites row.now) }
 {
     match row.met {
         Some(caller) => {

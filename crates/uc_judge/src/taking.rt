@@ -129,7 +129,9 @@ impl Ledger {
     // Adds the run fault of what was asked.
     fn fault(&mut self, sites: &[Site], actor: Actor, fault: RunFault) -> Result<(), AllocError>
         requires ledger { IsLedger self.old sites.now }
-        ensures { OnOk result (Settles self.old self.new sites.now actor (fault_entry actor.processor actor.task (cost_of actor) (fault_number fault) actor.line ∷ [])) }
+        ensures { OnOk result (Settles self.old self.new sites.now actor
+            (fault_entry actor.processor actor.task (cost_of actor) (fault_number fault) actor.line
+            ∷ [])) }
     {
         self.one(sites, actor, actor.fault(fault.number(), actor.line))?;
         Ok(())
@@ -141,7 +143,8 @@ impl Ledger {
         requires fit { IsFit e }
         requires ledger { IsLedger self.old sites.now }
         requires safe { is_safe e.kind ≡ true }
-        ensures { OnOk result (Settles self.old self.new sites.now actor (left_by sites.now self.old.entries.items actor.processor e.object e)) }
+        ensures { OnOk result (Settles self.old self.new sites.now actor
+            (left_by sites.now self.old.entries.items actor.processor e.object e)) }
     {
         let object = e.object;
         let next = self.views.next(object);
@@ -159,7 +162,8 @@ impl Ledger {
         next: Option<(u32, u8)>,
     ) -> Result<(), AllocError>
         requires ledger { IsLedger self.old sites.now }
-        ensures { OnOk result (Settles self.old self.new sites.now actor (admission sites.now actor.processor object self.old.entries.items next)) }
+        ensures { OnOk result (Settles self.old self.new sites.now actor
+            (admission sites.now actor.processor object self.old.entries.items next)) }
     {
         match next {
             Some(next) => {
@@ -175,7 +179,8 @@ impl Ledger {
 
     // The clause by which the accept of whom a stack gives up was met.
     fn clause_by_way(&self, object: u32, next: (u32, u8)) -> u8
-        ensures { (sites : List Site) → IsLedger self.now sites → result ≡ clause_by_way sites object self.now.entries.items next }
+        ensures { (sites : List Site) → IsLedger self.now sites →
+            result ≡ clause_by_way sites object self.now.entries.items next }
     {
         if next.1 == 3 {
             self.stacks.clause_of(object, next.0)
@@ -186,7 +191,8 @@ impl Ledger {
 
     // Whether the call that met it has failed.
     fn failed_by_way(&self, object: u32, next: (u32, u8)) -> bool
-        ensures { (sites : List Site) → IsLedger self.now sites → result ≡ failed_by_way sites object self.now.entries.items next }
+        ensures { (sites : List Site) → IsLedger self.now sites →
+            result ≡ failed_by_way sites object self.now.entries.items next }
     {
         if next.1 == 3 {
             self.stacks.failed_of(object, next.0)
@@ -260,7 +266,10 @@ impl Ledger {
         accept: Option<OpenAccept>,
     ) -> Result<(), AllocError>
         requires ledger { IsLedger self.old sites.now }
-        ensures { OnOk result ((within : List ℕ) (opened : List Entry) → is_free ≡ is_nobody within → accept ≡ opened_of opened → Settles self.old self.new sites.now actor (called sites.now actor.processor actor.task object member within opened)) }
+        ensures { OnOk result ((within : List ℕ) (opened : List Entry) →
+            is_free ≡ is_nobody within → accept ≡ opened_of opened →
+            Settles self.old self.new sites.now actor
+            (called sites.now actor.processor actor.task object member within opened)) }
     {
         match accept {
             Some(accept) => {
@@ -292,7 +301,8 @@ impl Ledger {
         clause: Option<u8>,
     ) -> Result<(), AllocError>
         requires ledger { IsLedger self.old sites.now }
-        ensures { OnOk result (Settles self.old self.new sites.now actor (met_by actor.processor actor.task object acceptor member clause)) }
+        ensures { OnOk result (Settles self.old self.new sites.now actor
+            (met_by actor.processor actor.task object acceptor member clause)) }
     {
         match clause {
             None => Ok(()),
@@ -319,7 +329,8 @@ impl Ledger {
         mask: u32,
     ) -> Result<(), AllocError>
         requires ledger { IsLedger self.old sites.now }
-        ensures { OnOk result (Takes self.old self.new sites.now [] actor (ask.Accept object site mask)) }
+        ensures { OnOk result (Takes self.old self.new sites.now [] actor
+            (ask.Accept object site mask)) }
     {
         let has_else = has_else(sites, site);
         let waiting = self.views.waiting(object);
@@ -352,7 +363,9 @@ impl Ledger {
         taken: Taken,
     ) -> Result<(), AllocError>
         requires ledger { IsLedger self.old sites.now }
-        ensures { OnOk result (Settles self.old self.new sites.now actor (took actor.processor actor.task (cost_of actor) object site mask has_else taken.member taken.task)) }
+        ensures { OnOk result (Settles self.old self.new sites.now actor
+            (took actor.processor actor.task
+            (cost_of actor) object site mask has_else taken.member taken.task)) }
     {
         if taken.member == DESTRUCTOR {
             let e = actor.accept(object, site, mask, has_else, 3);
@@ -371,7 +384,8 @@ impl Ledger {
 
     // Who has been blocked on a condition for longest, and the number given.
     fn first_blocked(&self, object: u32, cond: u16) -> Option<(u32, i64)>
-        ensures { (sites : List Site) → IsLedger self.now sites → result ≡ first_of (blocked object cond self.now.entries.items) }
+        ensures { (sites : List Site) → IsLedger self.now sites →
+            result ≡ first_of (blocked object cond self.now.entries.items) }
     {
         match self.views.blocked(object, cond).first() {
             Some(wait) => Some(*wait),
@@ -415,7 +429,8 @@ impl Ledger {
         cond: u16,
     ) -> Result<(), AllocError>
         requires ledger { IsLedger self.old sites.now }
-        ensures { OnOk result (Takes self.old self.new sites.now [] actor (ask.SignalBlock object cond)) }
+        ensures { OnOk result (Takes self.old self.new sites.now [] actor
+            (ask.SignalBlock object cond)) }
     {
         match self.first_blocked(object, cond) {
             Some(wait) => {
@@ -489,7 +504,8 @@ impl Ledger {
         y: i64,
     ) -> Result<(), AllocError>
         requires ledger { IsLedger self.old sites.now }
-        ensures { OnOk result (Takes self.old self.new sites.now [] actor (ask.Raise object event x y)) }
+        ensures { OnOk result (Takes self.old self.new sites.now [] actor
+            (ask.Raise object event x y)) }
     {
         let target = self.tasks.owner(object);
         if self.pending.count(target) < PENDING_EVENTS as usize {
@@ -549,8 +565,11 @@ impl Ledger {
     // What the next read takes.
     fn next_read(&self, input: &[u8], form: u8) -> Got
         requires short { length input.now ≤ INPUT_BYTES }
-        ensures got { (sites : List Site) → IsLedger self.now sites → length self.now.entries.items < 2 ^ 32 → result ≡ next_read form input.now self.now.entries.items }
-        ensures within { (n : ℕ) → self.now.counts.bytes_read ≡ pos n → n + result.taken ≤ 9223372036854775807 }
+        ensures got { (sites : List Site) → IsLedger self.now sites →
+            length self.now.entries.items < 2 ^ 32 →
+            result ≡ next_read form input.now self.now.entries.items }
+        ensures within { (n : ℕ) → self.now.counts.bytes_read ≡ pos n →
+            n + result.taken ≤ 9223372036854775807 }
     {
         let used = self.counts.bytes_read;
         if self.counts.has_failed {
@@ -615,7 +634,8 @@ impl Ledger {
         processor: u32,
     ) -> Result<(), AllocError>
         requires ledger { IsLedger self.old sites.now }
-        ensures { OnOk result (Takes self.old self.new sites.now [] actor (ask.ProcessorEnd processor)) }
+        ensures { OnOk result (Takes self.old self.new sites.now [] actor
+            (ask.ProcessorEnd processor)) }
     {
         let cluster = self.processors.cluster_of(processor);
         let e = actor.processor(EntryKind::ProcessorEnd, processor, cluster);

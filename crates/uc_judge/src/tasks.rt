@@ -42,7 +42,8 @@ impl Tasks {
     /// Adds the next entry of the journal. After want of memory it is spent.
     pub fn add(&mut self, e: &Entry) -> Result<(), AllocError>
         requires { IsFit e.now }
-        ensures { OnOk result ((opts : Options) (j : Journal) → AreTasks self.old opts j → AreTasks self.new opts (j ++ e.now ∷ [])) }
+        ensures { OnOk result ((opts : Options) (j : Journal) → AreTasks self.old opts j →
+            AreTasks self.new opts (j ++ e.now ∷ [])) }
     {
         match home_of(e) {
             Some(home) => {
@@ -60,21 +61,24 @@ impl Tasks {
 
     /// The own object of a task, or 0.
     pub fn own_object(&self, task: u32) -> u32
-        ensures { (opts : Options) (j : Journal) → AreTasks self.now opts j → result ≡ own_object task j }
+        ensures { (opts : Options) (j : Journal) → AreTasks self.now opts j →
+            result ≡ own_object task j }
     {
         value_or(&self.own, task, 0)
     }
 
     /// The task whose own object this is, or 0.
     pub fn owner(&self, object: u32) -> u32
-        ensures { (opts : Options) (j : Journal) → AreTasks self.now opts j → result ≡ first_or_0 (owner object j) }
+        ensures { (opts : Options) (j : Journal) → AreTasks self.now opts j →
+            result ≡ first_or_0 (owner object j) }
     {
         value_or(&self.owners, object, 0)
     }
 
     /// The ticks that a task has left since it was given a processor.
     pub fn left(&self, task: u32) -> u32
-        ensures { (opts : Options) (j : Journal) → AreTasks self.now opts j → result ≡ left opts j task }
+        ensures { (opts : Options) (j : Journal) → AreTasks self.now opts j →
+            result ≡ left opts j task }
     {
         value_or(&self.left, task, self.slice)
     }
@@ -103,7 +107,9 @@ fn home_of(e: &Entry) -> Option<(u32, u32)>
 
 // Keeps a value under a key that has none.
 fn keep_first(map: &mut BTreeMap<u32, u32>, key: u32, value: u32) -> Result<(), AllocError>
-    ensures { OnOk result ((k : ℕ) → get nat_cmp map.new k ≡ first_told (get nat_cmp map.old k) (told_for k (Some (key, value)))) }
+    ensures { OnOk result ((k : ℕ) →
+        get nat_cmp map.new k
+        ≡ first_told (get nat_cmp map.old k) (told_for k (Some (key, value)))) }
 {
     match map.get(&key) {
         Some(_) => Ok(()),
@@ -116,7 +122,9 @@ fn keep_first(map: &mut BTreeMap<u32, u32>, key: u32, value: u32) -> Result<(), 
 
 // Takes the ticks of an entry off what its task has left, which is all of them where it is given a processor.
 fn spend(map: &mut BTreeMap<u32, u32>, slice: u32, e: &Entry) -> Result<(), AllocError>
-    ensures { OnOk result ((t : ℕ) → unwrap_or (get nat_cmp map.new t) slice ≡ left_behind slice e.now t (unwrap_or (get nat_cmp map.old t) slice)) }
+    ensures { OnOk result ((t : ℕ) →
+        unwrap_or (get nat_cmp map.new t) slice
+        ≡ left_behind slice e.now t (unwrap_or (get nat_cmp map.old t) slice)) }
 {
     let before = left_before(map, slice, e);
     let _before = map.insert(e.task, before.saturating_sub(e.ticks))?;
@@ -125,7 +133,8 @@ fn spend(map: &mut BTreeMap<u32, u32>, slice: u32, e: &Entry) -> Result<(), Allo
 
 // What the task of an entry has left before its ticks.
 fn left_before(map: &BTreeMap<u32, u32>, slice: u32, e: &Entry) -> u32
-    ensures { result ≡ (if dispatches e.now.kind e.now e.now.task then slice else unwrap_or (get nat_cmp map.now e.now.task) slice) }
+    ensures { result ≡ (if dispatches e.now.kind e.now e.now.task then slice
+        else unwrap_or (get nat_cmp map.now e.now.task) slice) }
 {
     if dispatches(e, e.task) {
         slice

@@ -18,7 +18,8 @@ pub struct RunningTask {
 impl<T, M> Kernel<T, M> {
     /// Who runs on a processor. None where nobody does, or the run is over.
     pub fn runner(&self, processor: u32) -> Option<RunningTask>
-        ensures none { IfNone result (Journal.is_over self.now.journal ≡ false → running processor self.now.journal ≡ []) }
+        ensures none { IfNone result (Journal.is_over self.now.journal ≡ false →
+            running processor self.now.journal ≡ []) }
         ensures some { IfSome result (λ r. IsRunner self.now.opts self.now.journal processor r) }
         ensures small { IfSome result (λ r. r.task < TASKS) }
     {

@@ -8,7 +8,8 @@ use uc_entry::list::List;
 
 /// Where the members of an object stand.
 fn position<M>(hand: &List<(u64, M)>, object: u32) -> Option<u32>
-    ensures { MatchOption result (find object hand.now.items ≡ None) (λ i. Stands object hand.now.items i) }
+    ensures { MatchOption result (find object hand.now.items
+        ≡ None) (λ i. Stands object hand.now.items i) }
 {
     for at in 0..hand.len() {
         if hand.get(at).0 == object as u64 {

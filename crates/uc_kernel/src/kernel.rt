@@ -103,7 +103,8 @@ impl<T: Drop, M: Drop> Kernel<T, M> {
     /// The act of what a task asks: any request but Make and Spawn. Where the run is over before, nothing changes, and what
     /// was brought is dropped.
     pub fn act(&mut self, back: Back<T, M>, asked: &Asked) -> Next<T, M>
-        requires fits { Journal.is_over self.old.journal ≡ false → MayBring (kept self.old) (with_asked back asked.now) }
+        requires fits { Journal.is_over self.old.journal ≡ false →
+            MayBring (kept self.old) (with_asked back asked.now) }
         requires old { makes_new asked.now.request ≡ false }
         ensures { Acted (kept self.old) (with_asked back asked.now) result (kept self.new) }
     {
@@ -129,10 +130,13 @@ impl<T: Drop, M: Drop> Kernel<T, M> {
     /// The act of a task that makes an object: the task goes on with the object's number, and brings its members with its next
     /// request. Where memory is wanting nothing changes, and what was brought is dropped.
     pub fn make_object(&mut self, back: Back<T, M>, asked: &Asked) -> Result<Next<T, M>, AllocError>
-        requires fits { Journal.is_over self.old.journal ≡ false → MayBring (kept self.old) (with_asked back asked.now) }
+        requires fits { Journal.is_over self.old.journal ≡ false →
+            MayBring (kept self.old) (with_asked back asked.now) }
         requires makes { IsMake asked.now.request }
-        ensures ok { IfOk result (λ next. Acted (kept self.old) (with_asked back asked.now) next (kept self.new)) }
-        ensures lacks { IfOk result (λ next. (t : ℕ) → running back.processor self.old.journal ≡ t ∷ [] → LacksNew self.new.journal t next) }
+        ensures ok { IfOk result (λ next. Acted (kept self.old) (with_asked back asked.now) next
+            (kept self.new)) }
+        ensures lacks { IfOk result (λ next. (t : ℕ) →
+            running back.processor self.old.journal ≡ t ∷ [] → LacksNew self.new.journal t next) }
         ensures err { OnErr result (self.new ≡ self.old) }
     {
         if is_over(&self.book) {
@@ -149,10 +153,12 @@ impl<T: Drop, M: Drop> Kernel<T, M> {
     /// The act of a task that makes a task for an object that it is inside: the new task is ready, inside that object in its
     /// place. Where memory is wanting nothing changes, and what was brought is dropped.
     pub fn spawn(&mut self, back: Back<T, M>, asked: &Asked) -> Result<Next<T, M>, AllocError>
-        requires fits { Journal.is_over self.old.journal ≡ false → MayBring (kept self.old) (with_asked back asked.now) }
+        requires fits { Journal.is_over self.old.journal ≡ false →
+            MayBring (kept self.old) (with_asked back asked.now) }
         requires spawns { IsSpawn asked.now.request }
         requires child { IsSome back.child }
-        ensures ok { IfOk result (λ next. Acted (kept self.old) (with_asked back asked.now) next (kept self.new)) }
+        ensures ok { IfOk result (λ next. Acted (kept self.old) (with_asked back asked.now) next
+            (kept self.new)) }
         ensures err { OnErr result (self.new ≡ self.old) }
     {
         if is_over(&self.book) {
@@ -234,8 +240,10 @@ fn is_over(book: &KernelCore) -> bool
 // The task that acts.
 fn actor<T, M>(book: &KernelCore, back: &Back<T, M>, asked: &Asked) -> Actor
     requires going { Journal.is_over book.now.journal ≡ false }
-    ensures processor { (t : ℕ) → running back.now.processor book.now.journal ≡ t ∷ [] → result.processor ≡ back.now.processor }
-    ensures task { (t : ℕ) → running back.now.processor book.now.journal ≡ t ∷ [] → result.task ≡ t }
+    ensures processor { (t : ℕ) → running back.now.processor book.now.journal ≡ t ∷ [] →
+        result.processor ≡ back.now.processor }
+    ensures task { (t : ℕ) → running back.now.processor book.now.journal ≡ t ∷ [] →
+        result.task ≡ t }
     ensures ticks { result.ticks ≡ back.now.ticks }
     ensures line { result.line ≡ asked.now.line }
 {
@@ -274,7 +282,8 @@ fn take_out<T: Drop, M: Drop>(
     requires small { task < TASKS }
     requires known { task < length tasks.old.items }
     ensures tasks { tasks.new.items ≡ slice_set tasks.old.items task None }
-    ensures given { MatchOption result (slice_index_or tasks.old.items task None ≡ None) (λ g. TakenOut book.now processor task (slice_index_or tasks.old.items task None) g) }
+    ensures given { MatchOption result (slice_index_or tasks.old.items task None
+        ≡ None) (λ g. TakenOut book.now processor task (slice_index_or tasks.old.items task None) g) }
 {
     match tasks[task as usize].take() {
         None => None,
@@ -332,8 +341,15 @@ fn follow<T: Drop, M: Drop>(
     back: Back<T, M>,
 ) -> Next<T, M>
     requires after { AfterAct book.now task first admission back tasks.old.items loose.old.items }
-    ensures lies { Journal.is_over book.now.journal ≡ false → Lies book.now.journal tasks.new.items loose.new.items }
-    ensures follows { (x : AfterAct book.now task first admission back tasks.old.items loose.old.items) (b : Bool) → Follows (put_back (act book.now.opts book.now.sites book.now.input x.act.before back.processor task back.ticks x.asked) task back.task back.members.items back.child (kept (stored (earlier x.act.before book.now) b tasks.old.items loose.old.items))) (kept (stored book.now b tasks.new.items loose.new.items)) back.processor task result }
+    ensures lies { Journal.is_over book.now.journal ≡ false →
+        Lies book.now.journal tasks.new.items loose.new.items }
+    ensures follows { (x : AfterAct book.now task first admission back tasks.old.items
+        loose.old.items) (b : Bool) →
+        Follows (put_back
+        (act book.now.opts book.now.sites book.now.input x.act.before back.processor task back.ticks
+        x.asked) task back.task back.members.items back.child
+        (kept (stored (earlier x.act.before book.now) b tasks.old.items loose.old.items)))
+        (kept (stored book.now b tasks.new.items loose.new.items)) back.processor task result }
 {
     let Back {
         processor,
@@ -390,7 +406,8 @@ fn settle_child<T: Drop, M: Drop>(
     requires reserved { vec_len tasks.old < vec_capacity tasks.old }
     ensures members { members.new.items ≡ without object members.old.items }
     ensures spare { members.old.spare ≤ members.new.spare }
-    ensures child { (x : T) (m : M) → child ≡ Some x → find object members.old.items ≡ Some m → HasChild tasks.old.items tasks.new.items x object m }
+    ensures child { (x : T) (m : M) → child ≡ Some x → find object members.old.items ≡ Some m →
+        HasChild tasks.old.items tasks.new.items x object m }
 {
     let own = take_from(members, object);
     match child {
@@ -442,8 +459,15 @@ fn follow_spawn<T: Drop, M: Drop>(
     requires room { 1 ≤ hand.spare }
     requires empty { hand.items ≡ [] }
     requires reserved { vec_len tasks.old < vec_capacity tasks.old }
-    ensures lies { Journal.is_over book.now.journal ≡ false → Lies book.now.journal tasks.new.items loose.now.items }
-    ensures follows { (x : AfterSpawn book.now task first back tasks.old.items loose.now.items) (b : Bool) → Follows (put_back (act book.now.opts book.now.sites book.now.input x.act.before back.processor task back.ticks x.asked) task back.task back.members.items back.child (kept (stored (earlier x.act.before book.now) b tasks.old.items loose.now.items))) (kept (stored book.now b tasks.new.items loose.now.items)) back.processor task result }
+    ensures lies { Journal.is_over book.now.journal ≡ false →
+        Lies book.now.journal tasks.new.items loose.now.items }
+    ensures follows { (x : AfterSpawn book.now task first back tasks.old.items loose.now.items)
+        (b : Bool) →
+        Follows (put_back
+        (act book.now.opts book.now.sites book.now.input x.act.before back.processor task back.ticks
+        x.asked) task back.task back.members.items back.child
+        (kept (stored (earlier x.act.before book.now) b tasks.old.items loose.now.items)))
+        (kept (stored book.now b tasks.new.items loose.now.items)) back.processor task result }
 {
     let Back {
         processor,
@@ -480,9 +504,16 @@ fn follow_make<T: Drop, M: Drop>(
 ) -> Next<T, M>
     requires after { AfterMake book.now task back tasks.old.items loose.old.items }
     requires reserved { vec_len loose.old < vec_capacity loose.old }
-    ensures lies { Journal.is_over book.now.journal ≡ false → Lies book.now.journal tasks.new.items loose.new.items }
+    ensures lies { Journal.is_over book.now.journal ≡ false →
+        Lies book.now.journal tasks.new.items loose.new.items }
     ensures lacks { LacksNew book.now.journal task result }
-    ensures follows { (x : AfterMake book.now task back tasks.old.items loose.old.items) (b : Bool) → Follows (put_back (act book.now.opts book.now.sites book.now.input x.from.before back.processor task back.ticks x.asked) task back.task back.members.items back.child (kept (stored (earlier x.from.before book.now) b tasks.old.items loose.old.items))) (kept (stored book.now b tasks.new.items loose.new.items)) back.processor task result }
+    ensures follows { (x : AfterMake book.now task back tasks.old.items loose.old.items)
+        (b : Bool) →
+        Follows (put_back
+        (act book.now.opts book.now.sites book.now.input x.from.before back.processor task
+        back.ticks x.asked) task back.task back.members.items back.child
+        (kept (stored (earlier x.from.before book.now) b tasks.old.items loose.old.items)))
+        (kept (stored book.now b tasks.new.items loose.new.items)) back.processor task result }
 {
     let Back {
         processor,

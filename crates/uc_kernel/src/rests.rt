@@ -88,7 +88,8 @@ pub fn follow_first<M: Drop>(e: &Entry, hand: &mut List<(u64, M)>, loose: &mut V
 /// Drops the members of an object that an act destroyed.
 pub fn drop_destroyed<M: Drop>(e: &Entry, hand: &mut List<(u64, M)>)
     requires apart { AreApart hand.old.items }
-    ensures { hand.new.items ≡ (if is_gone_by e.now.kind then without e.now.object hand.old.items else hand.old.items) }
+    ensures { hand.new.items
+        ≡ (if is_gone_by e.now.kind then without e.now.object hand.old.items else hand.old.items) }
 {
     if e.kind == EntryKind::Gone {
         let _destroyed = take_from(hand, e.object);
@@ -105,7 +106,9 @@ fn give<T: Drop, M: Drop>(
     requires known { task < length tasks.old.items }
     requires room { HasRoom tasks.old.items task }
     requires there { (slice_index_or tasks.old.items task None ≡ None) → ⊥ }
-    ensures { (r : TaskAtRest T M) → slice_index_or tasks.old.items task None ≡ Some r → (r' : TaskAtRest T M) × GivenTo object members r r' × (tasks.new.items ≡ slice_set tasks.old.items task (Some r')) }
+    ensures { (r : TaskAtRest T M) → slice_index_or tasks.old.items task None ≡ Some r →
+        (r' : TaskAtRest T M) × GivenTo object members r r'
+        × (tasks.new.items ≡ slice_set tasks.old.items task (Some r')) }
 {
     match tasks[task as usize].take() {
         None => {}
@@ -128,8 +131,10 @@ pub fn follow_admission<T: Drop, M: Drop>(
     requires known { e.now.task < length tasks.old.items }
     requires own { (e.now.task == task) ≡ true → 1 ≤ hand.old.spare }
     requires room { (e.now.task == task) ≡ false → HasRoom tasks.old.items e.now.task }
-    requires there { (e.now.task == task) ≡ false → slice_index_or tasks.old.items e.now.task None ≡ None → ⊥ }
-    ensures moved { LetIn e.now task hand.old hand.new tasks.old.items tasks.new.items loose.old.items }
+    requires there { (e.now.task == task) ≡ false →
+        slice_index_or tasks.old.items e.now.task None ≡ None → ⊥ }
+    ensures moved { LetIn e.now task hand.old hand.new tasks.old.items tasks.new.items
+        loose.old.items }
     ensures loose { loose.new.items ≡ slice_set loose.old.items e.now.object None }
 {
     let lifted = loose[e.object as usize].take();
@@ -154,7 +159,8 @@ pub fn follow_second<T: Drop, M: Drop>(
     loose: &mut Vec<Option<M>>,
 )
     requires can { CanLetIn admission task hand.old tasks.old.items loose.old.items }
-    ensures { LetInBy admission task hand.old hand.new tasks.old.items tasks.new.items loose.old.items loose.new.items }
+    ensures { LetInBy admission task hand.old hand.new tasks.old.items tasks.new.items
+        loose.old.items loose.new.items }
 {
     match admission {
         None => {}

@@ -17,7 +17,8 @@ impl KernelCore {
         requires at { IsAt who.task object self.old.journal }
         requires site { site < length self.old.sites }
         requires mask { mask < 2 ^ length (site_at self.old.sites site).clauses }
-        ensures { Appended self.old self.new (rows self.old who.processor who.task who.ticks who.line (ask.Accept object site mask)) }
+        ensures { Appended self.old self.new
+            (rows self.old who.processor who.task who.ticks who.line (ask.Accept object site mask)) }
     {
         let statement = &self.journal.sites()[site as usize];
         let has_else = statement.has_else;

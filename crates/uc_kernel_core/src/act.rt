@@ -15,10 +15,12 @@ impl KernelCore {
     /// The act of what a task asks: any request but those for which memory is taken, `make_object` and `spawn`.
     pub fn act(&mut self, who: Actor, request: &Request)
         requires ready { IsReady self.old }
-        requires asks { MayAsk self.old.opts self.old.sites self.old.journal who.processor who.task who.ticks request.now }
+        requires asks { MayAsk self.old.opts self.old.sites self.old.journal who.processor who.task
+            who.ticks request.now }
         requires small { length self.old.input ≤ INPUT_BYTES }
         requires old { makes_new request.now ≡ false }
-        ensures { Appended self.old self.new (acts self.old who.processor who.task who.ticks who.line request.now) }
+        ensures { Appended self.old self.new
+            (acts self.old who.processor who.task who.ticks who.line request.now) }
     {
         let before = self.journal.len();
         self.request(who, request);
@@ -28,8 +30,10 @@ impl KernelCore {
     /// The act of a task that makes an object. Where memory is wanting nothing changes.
     pub fn make_object(&mut self, who: Actor, class: u32) -> Result<(), AllocError>
         requires ready { IsReady self.old }
-        requires asks { MayAsk self.old.opts self.old.sites self.old.journal who.processor who.task who.ticks (ask.Make class) }
-        ensures ok { OnOk result (Appended self.old self.new (acts self.old who.processor who.task who.ticks who.line (ask.Make class))) }
+        requires asks { MayAsk self.old.opts self.old.sites self.old.journal who.processor who.task
+            who.ticks (ask.Make class) }
+        ensures ok { OnOk result (Appended self.old self.new
+            (acts self.old who.processor who.task who.ticks who.line (ask.Make class))) }
         ensures err { OnErr result (self.new ≡ self.old) }
     {
         let before = self.journal.len();
@@ -41,8 +45,10 @@ impl KernelCore {
     /// The act of a task that makes a task for an object. Where memory is wanting nothing changes.
     pub fn spawn(&mut self, who: Actor, object: u32) -> Result<(), AllocError>
         requires ready { IsReady self.old }
-        requires asks { MayAsk self.old.opts self.old.sites self.old.journal who.processor who.task who.ticks (ask.Spawn object) }
-        ensures ok { OnOk result (Appended self.old self.new (acts self.old who.processor who.task who.ticks who.line (ask.Spawn object))) }
+        requires asks { MayAsk self.old.opts self.old.sites self.old.journal who.processor who.task
+            who.ticks (ask.Spawn object) }
+        ensures ok { OnOk result (Appended self.old self.new
+            (acts self.old who.processor who.task who.ticks who.line (ask.Spawn object))) }
         ensures err { OnErr result (self.new ≡ self.old) }
     {
         let before = self.journal.len();
@@ -57,7 +63,8 @@ impl KernelCore {
         requires fits { Fits self.old.opts self.old.sites self.old.journal who.task request.now }
         requires small { length self.old.input ≤ INPUT_BYTES }
         requires old { makes_new request.now ≡ false }
-        ensures { Appended self.old self.new (rows self.old who.processor who.task who.ticks who.line request.now) }
+        ensures { Appended self.old self.new
+            (rows self.old who.processor who.task who.ticks who.line request.now) }
     {
         match *request {
             Request::Make { .. } => {}

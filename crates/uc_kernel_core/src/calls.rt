@@ -16,7 +16,8 @@ impl KernelCore {
         requires may { MayAct self.old who.processor who.task }
         requires outside { IsOutside who.task object self.old.journal }
         requires member { member ≤ MEMBERS }
-        ensures { Appended self.old self.new (rows self.old who.processor who.task who.ticks who.line (ask.Call object member)) }
+        ensures { Appended self.old self.new
+            (rows self.old who.processor who.task who.ticks who.line (ask.Call object member)) }
     {
         let destroys = member == DESTRUCTOR;
         let called = self.entries.call(object, member, who.task);

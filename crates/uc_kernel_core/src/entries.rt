@@ -42,7 +42,8 @@ pub(crate) fn entry(kind: EntryKind, proc: u8, task: u32, object: u32, a: i64, b
 
 /// The first entry of what a task asks: it carries the task's ticks and the line of the request.
 pub(crate) fn asking(kind: EntryKind, who: Actor, object: u32, a: i64, b: i64) -> Entry
-    ensures { result ≡ Journal.asking kind who.processor who.task (cost who.ticks who.line) object a b }
+    ensures { result ≡ Journal.asking kind who.processor who.task
+        (cost who.ticks who.line) object a b }
 {
     Entry {
         kind,
@@ -60,14 +61,16 @@ pub(crate) fn asking(kind: EntryKind, who: Actor, object: u32, a: i64, b: i64) -
 
 /// An entry of the acting task that names two numbers.
 pub(crate) fn number_entry(kind: EntryKind, who: Actor, a: u32, b: u32) -> Entry
-    ensures { result ≡ Journal.asking kind who.processor who.task (cost who.ticks who.line) 0 (pos a) (pos b) }
+    ensures { result ≡ Journal.asking kind who.processor who.task (cost who.ticks who.line) 0
+        (pos a) (pos b) }
 {
     asking(kind, who, 0, i64::from(a), i64::from(b))
 }
 
 /// An entry of the acting task that names an object and a number.
 pub(crate) fn object_entry(kind: EntryKind, who: Actor, object: u32, a: u32) -> Entry
-    ensures { result ≡ Journal.asking kind who.processor who.task (cost who.ticks who.line) object (pos a) (pos 0) }
+    ensures { result ≡ Journal.asking kind who.processor who.task (cost who.ticks who.line) object
+        (pos a) (pos 0) }
 {
     asking(kind, who, object, i64::from(a), 0)
 }
@@ -88,7 +91,8 @@ pub(crate) fn dispatch_entry(processor: u8, task: u32) -> Entry
 
 /// One printed item: the first alone carries the ticks and the line.
 pub(crate) fn print_entry(who: Actor, first: bool, piece: Piece) -> Entry
-    ensures { result ≡ Journal.asking kind.Print who.processor who.task (if first then cost who.ticks who.line else no_cost) 0 (pos piece.form) piece.value }
+    ensures { result ≡ Journal.asking kind.Print who.processor who.task
+        (if first then cost who.ticks who.line else no_cost) 0 (pos piece.form) piece.value }
 {
     let form = i64::from(piece.form);
     if first {
@@ -107,7 +111,8 @@ pub(crate) fn print_entry(who: Actor, first: bool, piece: Piece) -> Entry
 /// What was read, and the bytes of the input that are used then.
 pub(crate) fn read_entry(who: Actor, form: u8, got: Got, used: u32, now: u32) -> Entry
     requires { now ≡ used + got.taken }
-    ensures { result ≡ Acts.read_entry who.processor who.task (cost who.ticks who.line) form got used }
+    ensures { result ≡ Acts.read_entry who.processor who.task
+        (cost who.ticks who.line) form got used }
 {
     let failed = number_of(got.failed);
     Entry {
@@ -128,7 +133,8 @@ pub(crate) fn number_of(holds: bool) -> i64
 
 /// Whether a read has failed.
 pub(crate) fn fail_entry(who: Actor, failed: bool) -> Entry
-    ensures { result ≡ Journal.asking kind.Fail who.processor who.task (cost who.ticks who.line) 0 (pos 0) (truth failed) }
+    ensures { result ≡ Journal.asking kind.Fail who.processor who.task (cost who.ticks who.line) 0
+        (pos 0) (truth failed) }
 {
     let holds = number_of(failed);
     asking(EntryKind::Fail, who, 0, 0, holds)
@@ -136,7 +142,8 @@ pub(crate) fn fail_entry(who: Actor, failed: bool) -> Entry
 
 /// The task leaves an object: whether its call has failed.
 pub(crate) fn leave_entry(who: Actor, object: u32, failed: bool) -> Entry
-    ensures { result ≡ Journal.asking kind.Leave who.processor who.task (cost who.ticks who.line) object (truth failed) (pos 0) }
+    ensures { result ≡ Journal.asking kind.Leave who.processor who.task
+        (cost who.ticks who.line) object (truth failed) (pos 0) }
 {
     let holds = number_of(failed);
     asking(EntryKind::Leave, who, object, holds, 0)
@@ -171,7 +178,8 @@ pub(crate) fn busy_entry(who: Actor) -> Entry
 }
 
 pub(crate) fn call_entry(who: Actor, object: u32, member: u8) -> Entry
-    ensures { result ≡ Journal.asking kind.Call who.processor who.task (cost who.ticks who.line) object (pos member) (pos 0) }
+    ensures { result ≡ Journal.asking kind.Call who.processor who.task
+        (cost who.ticks who.line) object (pos member) (pos 0) }
 {
     asking(EntryKind::Call, who, object, i64::from(member), 0)
 }
@@ -192,7 +200,8 @@ pub(crate) fn admit_entry(who: Actor, task: u32, object: u32, way: u8, clause: u
 
 /// Whoever is next is let in, an acceptor with its clause, and whether the call that met its accept has failed.
 pub(crate) fn next_entry(who: Actor, object: u32, next: Passed) -> Entry
-    ensures { result ≡ Acts.admit_failed who.processor next.task object next.way next.clause next.failed }
+    ensures { result ≡ Acts.admit_failed who.processor next.task object next.way next.clause
+        next.failed }
 {
     let failed = number_of(next.failed);
     Entry {
@@ -209,7 +218,8 @@ pub(crate) fn push_entry(who: Actor, task: u32, object: u32) -> Entry
 
 /// An entry that names a condition.
 pub(crate) fn condition_entry(kind: EntryKind, who: Actor, object: u32, cond: u16, b: i64) -> Entry
-    ensures { result ≡ Journal.asking kind who.processor who.task (cost who.ticks who.line) object (pos cond) b }
+    ensures { result ≡ Journal.asking kind who.processor who.task (cost who.ticks who.line) object
+        (pos cond) b }
 {
     asking(kind, who, object, i64::from(cond), b)
 }
@@ -241,7 +251,8 @@ fn signed(bits: u64) -> i64
 
 /// Whether nobody waits on a condition.
 pub(crate) fn empty_entry(who: Actor, object: u32, cond: u16, nobody: bool) -> Entry
-    ensures { result ≡ Journal.asking kind.Empty who.processor who.task (cost who.ticks who.line) object (pos cond) (truth nobody) }
+    ensures { result ≡ Journal.asking kind.Empty who.processor who.task
+        (cost who.ticks who.line) object (pos cond) (truth nobody) }
 {
     let holds = number_of(nobody);
     condition_entry(EntryKind::Empty, who, object, cond, holds)
@@ -249,7 +260,8 @@ pub(crate) fn empty_entry(who: Actor, object: u32, cond: u16, nobody: bool) -> E
 
 /// A signal of a condition, and whether nobody waits there.
 pub(crate) fn signal_entry(who: Actor, object: u32, cond: u16, nobody: bool) -> Entry
-    ensures { result ≡ Journal.asking kind.Signal who.processor who.task (cost who.ticks who.line) object (pos cond) (truth (not nobody)) }
+    ensures { result ≡ Journal.asking kind.Signal who.processor who.task
+        (cost who.ticks who.line) object (pos cond) (truth (not nobody)) }
 {
     let found = number_of(!nobody);
     condition_entry(EntryKind::Signal, who, object, cond, found)
@@ -264,7 +276,8 @@ pub(crate) fn accept_entry(
     has_else: bool,
     how: u8,
 ) -> Entry
-    ensures { result ≡ Acts.accept_entry who.processor who.task (cost who.ticks who.line) object site mask has_else how }
+    ensures { result ≡ Acts.accept_entry who.processor who.task
+        (cost who.ticks who.line) object site mask has_else how }
 {
     let has_else = number_of(has_else);
     Entry {
@@ -282,7 +295,8 @@ pub(crate) fn accept_entry(
 
 /// An event with its fields, raised at a task.
 pub(crate) fn raise_entry(who: Actor, object: u32, target: u32, event: u8, x: i64, y: i64) -> Entry
-    ensures { result ≡ Acts.raise_entry who.processor who.task (cost who.ticks who.line) object target event x y }
+    ensures { result ≡ Acts.raise_entry who.processor who.task
+        (cost who.ticks who.line) object target event x y }
 {
     Entry {
         c: x,

@@ -20,7 +20,11 @@ impl KernelCore {
         requires begun { (1 ≤ before) × (before ≤ length self.old.journal) }
         requires ready { before < self.old.opts.entries }
         requires room { length self.old.journal < self.old.opts.entries + 40 }
-        ensures { Replaced self.old self.new before (fitted self.old.opts (take before self.old.journal) who.processor who.task (drop before self.old.journal ++ (if is_over self.old.journal then [] else closing who.processor who.task (verdict self.old.opts self.old.journal)))) }
+        ensures { Replaced self.old self.new before
+            (fitted self.old.opts (take before self.old.journal) who.processor who.task
+            (drop before self.old.journal
+            ++ (if is_over self.old.journal then []
+            else closing who.processor who.task (verdict self.old.opts self.old.journal)))) }
     {
         self.close(who);
         self.fit(who, before);
@@ -30,7 +34,8 @@ impl KernelCore {
     fn close(&mut self, who: Actor)
         requires task { who.task < TASKS }
         requires room { length self.old.journal < self.old.opts.entries + 40 }
-        ensures { Appended self.old self.new (if is_over self.old.journal then [] else closing who.processor who.task (verdict self.old.opts self.old.journal)) }
+        ensures { Appended self.old self.new (if is_over self.old.journal then []
+            else closing who.processor who.task (verdict self.old.opts self.old.journal)) }
     {
         if self.journal.ending().is_some() {
             return;
@@ -45,7 +50,9 @@ impl KernelCore {
     fn fit(&mut self, who: Actor, before: usize)
         requires begun { (1 ≤ before) × (before ≤ length self.old.journal) }
         requires ready { before < self.old.opts.entries }
-        ensures { Replaced self.old self.new before (fitted self.old.opts (take before self.old.journal) who.processor who.task (drop before self.old.journal)) }
+        ensures { Replaced self.old self.new before
+            (fitted self.old.opts (take before self.old.journal) who.processor who.task
+            (drop before self.old.journal)) }
     {
         if self.journal.len() < self.opts.entries as usize {
             return;
@@ -73,7 +80,8 @@ impl KernelCore {
 
     fn ticks_verdict(&self) -> Option<EntryKind>
         requires going { is_over self.now.journal ≡ false }
-        ensures { result ≡ (if nat_le self.now.opts.ticks (all_ticks self.now.journal) then Some kind.Limit else None) }
+        ensures { result ≡ (if nat_le self.now.opts.ticks (all_ticks self.now.journal)
+            then Some kind.Limit else None) }
     {
         if self.opts.ticks <= self.journal.ticks() {
             return Some(EntryKind::Limit);

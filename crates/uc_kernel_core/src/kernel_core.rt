@@ -77,7 +77,14 @@ impl KernelCore {
     ) -> Result<KernelCore, AllocError>
         requires options { InRange opts.now }
         requires sites { AreKnownSites sites.items }
-        ensures { IfOk result (λ b. b ≡ record { journal = begin opts.now ∷ []; sites = sites.items; opts = opts.now; input = input.items }) }
+        ensures { IfOk result (λ b. b
+            ≡ record {
+              journal = begin opts.now
+                  ∷ [];
+              sites = sites.items;
+              opts = opts.now;
+              input = input.items;
+            }) }
     {
         let journal = KernelJournal::new(alloc, opts, sites, TASKS, opts.entries + 40)?;
         let entries = first_entries(alloc)?;
@@ -164,10 +171,14 @@ impl KernelCore {
 
     /// A task leaves an object: its call there is over, and has failed or not.
     fn put_leave(&mut self, who: Actor, object: u32, failed: bool)
-        requires can { CanPut self.old (Journal.asking kind.Leave who.processor who.task (cost who.ticks who.line) object (truth failed) (pos 0)) }
+        requires can { CanPut self.old
+            (Journal.asking kind.Leave who.processor who.task (cost who.ticks who.line) object
+            (truth failed) (pos 0)) }
         requires within { inside object self.old.journal ≡ who.task ∷ [] }
         requires known { object < object_count self.old.journal }
-        ensures { Appended self.old self.new (Journal.asking kind.Leave who.processor who.task (cost who.ticks who.line) object (truth failed) (pos 0) ∷ []) }
+        ensures { Appended self.old self.new
+            (Journal.asking kind.Leave who.processor who.task (cost who.ticks who.line) object
+            (truth failed) (pos 0) ∷ []) }
     {
         self.journal.push(leave_entry(who, object, failed));
         self.entries.end_call(object, who.task, failed);
@@ -182,7 +193,10 @@ impl KernelCore {
         requires empty { inside object self.old.journal ≡ [] }
         requires aside { IsAside who.task object self.old.journal }
         requires task { who.task < TASKS }
-        ensures { Appended self.old self.new (settled (fault who.processor who.task no_cost 10 who.line) self.old.journal (admission self.old.sites who.processor object self.old.journal (next object self.old.journal))) }
+        ensures { Appended self.old self.new
+            (settled (fault who.processor who.task no_cost 10 who.line) self.old.journal
+            (admission self.old.sites who.processor object self.old.journal
+            (next object self.old.journal))) }
     {
         match self.entries.next(object) {
             None => {}
@@ -203,7 +217,8 @@ impl KernelCore {
     pub(crate) fn leave(&mut self, who: Actor, object: u32, failed: bool)
         requires may { MayAct self.old who.processor who.task }
         requires at { IsAt who.task object self.old.journal }
-        ensures { Appended self.old self.new (rows self.old who.processor who.task who.ticks who.line (ask.Leave object failed)) }
+        ensures { Appended self.old self.new
+            (rows self.old who.processor who.task who.ticks who.line (ask.Leave object failed)) }
     {
         self.put_leave(who, object, failed);
         self.admit_next(who, object);
@@ -213,7 +228,8 @@ impl KernelCore {
     pub(crate) fn made(&mut self, who: Actor, object: u32)
         requires may { MayAct self.old who.processor who.task }
         requires at { IsAt who.task object self.old.journal }
-        ensures { Appended self.old self.new (rows self.old who.processor who.task who.ticks who.line (ask.Made object)) }
+        ensures { Appended self.old self.new
+            (rows self.old who.processor who.task who.ticks who.line (ask.Made object)) }
     {
         self.put_out(asking(EntryKind::Made, who, object, 0, 0));
         self.admit_next(who, object);
@@ -247,7 +263,8 @@ impl KernelCore {
     pub(crate) fn end(&mut self, who: Actor)
         requires may { MayAct self.old who.processor who.task }
         requires at { IsAt who.task (own_object who.task self.old.journal) self.old.journal }
-        ensures { Appended self.old self.new (rows self.old who.processor who.task who.ticks who.line ask.End) }
+        ensures { Appended self.old self.new
+            (rows self.old who.processor who.task who.ticks who.line ask.End) }
     {
         let object = self.own_object(who.task);
         self.put_end(asking(EntryKind::End, who, object, 0, 0));
@@ -267,7 +284,8 @@ impl KernelCore {
     pub(crate) fn gone(&mut self, who: Actor, object: u32)
         requires may { MayAct self.old who.processor who.task }
         requires at { IsAt who.task object self.old.journal }
-        ensures { Appended self.old self.new (rows self.old who.processor who.task who.ticks who.line (ask.Gone object)) }
+        ensures { Appended self.old self.new
+            (rows self.old who.processor who.task who.ticks who.line (ask.Gone object)) }
     {
         if self.has_others(who, object) {
             self.put_ending(fault_entry(who, 10));
@@ -298,7 +316,8 @@ impl KernelCore {
     pub(crate) fn empty(&mut self, who: Actor, object: u32, cond: u16)
         requires may { MayAct self.old who.processor who.task }
         requires at { IsAt who.task object self.old.journal }
-        ensures { Appended self.old self.new (rows self.old who.processor who.task who.ticks who.line (ask.Empty object cond)) }
+        ensures { Appended self.old self.new
+            (rows self.old who.processor who.task who.ticks who.line (ask.Empty object cond)) }
     {
         let nobody = self.nobody_on(object, cond);
         self.put_quiet(empty_entry(who, object, cond, nobody));
@@ -308,7 +327,8 @@ impl KernelCore {
     pub(crate) fn front(&mut self, who: Actor, object: u32, cond: u16)
         requires may { MayAct self.old who.processor who.task }
         requires at { IsAt who.task object self.old.journal }
-        ensures { Appended self.old self.new (rows self.old who.processor who.task who.ticks who.line (ask.Front object cond)) }
+        ensures { Appended self.old self.new
+            (rows self.old who.processor who.task who.ticks who.line (ask.Front object cond)) }
     {
         match self.front_number(object, cond) {
             None => self.put_ending(fault_entry(who, 11)),
@@ -319,7 +339,8 @@ impl KernelCore {
     /// A task takes the oldest event of the mask that is pending at it.
     pub(crate) fn poll(&mut self, who: Actor, mask: u64)
         requires may { MayAct self.old who.processor who.task }
-        ensures { Appended self.old self.new (rows self.old who.processor who.task who.ticks who.line (ask.Poll mask)) }
+        ensures { Appended self.old self.new
+            (rows self.old who.processor who.task who.ticks who.line (ask.Poll mask)) }
     {
         let found = self.events.poll(who.task, mask);
         self.journal.push(poll_entry(who, mask, found));
@@ -328,7 +349,8 @@ impl KernelCore {
     /// A request that is itself at fault.
     pub(crate) fn fault(&mut self, who: Actor, number: u8)
         requires may { MayAct self.old who.processor who.task }
-        ensures { Appended self.old self.new (rows self.old who.processor who.task who.ticks who.line (ask.Fault number)) }
+        ensures { Appended self.old self.new
+            (rows self.old who.processor who.task who.ticks who.line (ask.Fault number)) }
     {
         self.put_ending(fault_entry(who, number));
     }
@@ -336,7 +358,8 @@ impl KernelCore {
     /// A task asks whether a read has failed.
     pub(crate) fn fail(&mut self, who: Actor)
         requires may { MayAct self.old who.processor who.task }
-        ensures { Appended self.old self.new (rows self.old who.processor who.task who.ticks who.line ask.Fail) }
+        ensures { Appended self.old self.new
+            (rows self.old who.processor who.task who.ticks who.line ask.Fail) }
     {
         let failed = self.has_failed();
         self.put_quiet(fail_entry(who, failed));
@@ -345,7 +368,8 @@ impl KernelCore {
     /// A task goes to the back, after its slice.
     pub(crate) fn slice(&mut self, who: Actor)
         requires may { MayAct self.old who.processor who.task }
-        ensures { Appended self.old self.new (rows self.old who.processor who.task who.ticks who.line ask.Slice) }
+        ensures { Appended self.old self.new
+            (rows self.old who.processor who.task who.ticks who.line ask.Slice) }
     {
         self.put_back(asking(EntryKind::Slice, who, 0, 0, 0));
     }
@@ -353,7 +377,8 @@ impl KernelCore {
     /// A task goes to the back at will.
     pub(crate) fn yields(&mut self, who: Actor)
         requires may { MayAct self.old who.processor who.task }
-        ensures { Appended self.old self.new (rows self.old who.processor who.task who.ticks who.line ask.Yield) }
+        ensures { Appended self.old self.new
+            (rows self.old who.processor who.task who.ticks who.line ask.Yield) }
     {
         self.put_back(asking(EntryKind::Yield, who, 0, 0, 0));
     }
@@ -362,7 +387,8 @@ impl KernelCore {
     pub(crate) fn print(&mut self, who: Actor, n: u8, items: &[Piece; 32])
         requires may { MayAct self.old who.processor who.task }
         requires items { (1 ≤ n) × (n ≤ 32) }
-        ensures { Appended self.old self.new (rows self.old who.processor who.task who.ticks who.line (ask.Print n items.now)) }
+        ensures { Appended self.old self.new
+            (rows self.old who.processor who.task who.ticks who.line (ask.Print n items.now)) }
     {
         for at in 0..n as usize {
             let piece = items[at];
@@ -375,7 +401,9 @@ impl KernelCore {
         requires going { is_over self.old.journal ≡ false }
         requires room { length self.old.journal < self.old.opts.entries + 40 }
         requires task { who.task < TASKS }
-        ensures { Appended self.old self.new (Journal.asking kind.Print who.processor who.task (if first then cost who.ticks who.line else no_cost) 0 (pos piece.form) piece.value ∷ []) }
+        ensures { Appended self.old self.new
+            (Journal.asking kind.Print who.processor who.task (if first then cost who.ticks who.line
+            else no_cost) 0 (pos piece.form) piece.value ∷ []) }
     {
         self.put_quiet(print_entry(who, first, piece));
     }
@@ -414,7 +442,8 @@ impl KernelCore {
         requires may { MayAct self.old who.processor who.task }
         requires small { length self.old.input ≤ INPUT_BYTES }
         requires form { form ≤ 1 }
-        ensures { Appended self.old self.new (rows self.old who.processor who.task who.ticks who.line (ask.Read form)) }
+        ensures { Appended self.old self.new
+            (rows self.old who.processor who.task who.ticks who.line (ask.Read form)) }
     {
         let got = self.next_got(form);
         let used = self.bytes_used();
@@ -429,8 +458,13 @@ pub(crate) fn destroys_busy(
     conditions: &Conditions,
     object: u32,
 ) -> bool
-    ensures yes { result ≡ true → (mark ≡ true) × ((has_tasks (door_at entries.now object) ≡ true) ⊎ IsBusy object conditions.now) }
-    ensures no { result ≡ false → (mark ≡ false) ⊎ ((has_tasks (door_at entries.now object) ≡ false) × ((c : ℕ) → queue_at conditions.now object c ≡ [])) }
+    ensures yes { result ≡ true →
+        (mark ≡ true)
+        × ((has_tasks (door_at entries.now object) ≡ true) ⊎ IsBusy object conditions.now) }
+    ensures no { result ≡ false →
+        (mark ≡ false)
+        ⊎ ((has_tasks (door_at entries.now object) ≡ false)
+        × ((c : ℕ) → queue_at conditions.now object c ≡ [])) }
 {
     if !mark {
         return false;
@@ -473,7 +507,8 @@ fn first_entries(alloc: Global) -> Result<Entries, AllocError>
 }
 
 fn first_conditions(alloc: Global) -> Result<Conditions, AllocError>
-    ensures { IfOk result (λ w. (w.tasks ≡ 1) × (w.objects ≡ 1) × ((o c : ℕ) → queue_at w o c ≡ [])) }
+    ensures { IfOk result (λ w. (w.tasks ≡ 1) × (w.objects ≡ 1)
+        × ((o c : ℕ) → queue_at w o c ≡ [])) }
 {
     let mut conditions = Conditions::new(alloc);
     conditions.reserve(1, 1)?;

@@ -13,7 +13,8 @@ impl KernelCore {
     /// A task makes a cluster.
     pub(crate) fn cluster(&mut self, who: Actor)
         requires may { MayAct self.old who.processor who.task }
-        ensures { Appended self.old self.new (rows self.old who.processor who.task who.ticks who.line ask.Cluster) }
+        ensures { Appended self.old self.new
+            (rows self.old who.processor who.task who.ticks who.line ask.Cluster) }
     {
         match self.clusters.add_cluster() {
             None => {
@@ -30,7 +31,8 @@ impl KernelCore {
     pub(crate) fn cluster_end(&mut self, who: Actor, cluster: u32)
         requires may { MayAct self.old who.processor who.task }
         requires known { cluster < cluster_count self.old.journal }
-        ensures { Appended self.old self.new (rows self.old who.processor who.task who.ticks who.line (ask.ClusterEnd cluster)) }
+        ensures { Appended self.old self.new
+            (rows self.old who.processor who.task who.ticks who.line (ask.ClusterEnd cluster)) }
     {
         if self.clusters.close_cluster(cluster) {
             self.journal
@@ -45,7 +47,8 @@ impl KernelCore {
     pub(crate) fn processor(&mut self, who: Actor, cluster: u32)
         requires may { MayAct self.old who.processor who.task }
         requires known { cluster < cluster_count self.old.journal }
-        ensures { Appended self.old self.new (rows self.old who.processor who.task who.ticks who.line (ask.Processor cluster)) }
+        ensures { Appended self.old self.new
+            (rows self.old who.processor who.task who.ticks who.line (ask.Processor cluster)) }
     {
         match self.clusters.add_processor(cluster) {
             None => {
@@ -63,7 +66,8 @@ impl KernelCore {
     pub(crate) fn processor_end(&mut self, who: Actor, processor: u32)
         requires may { MayAct self.old who.processor who.task }
         requires known { processor < processor_count self.old.opts self.old.journal }
-        ensures { Appended self.old self.new (rows self.old who.processor who.task who.ticks who.line (ask.ProcessorEnd processor)) }
+        ensures { Appended self.old self.new
+            (rows self.old who.processor who.task who.ticks who.line (ask.ProcessorEnd processor)) }
     {
         let cluster = self.clusters.cluster_of(processor);
         self.journal.push(number_entry(EntryKind::ProcessorEnd, who, processor, cluster));
@@ -74,7 +78,8 @@ impl KernelCore {
     pub(crate) fn migrate(&mut self, who: Actor, cluster: u32)
         requires may { MayAct self.old who.processor who.task }
         requires known { cluster < cluster_count self.old.journal }
-        ensures { Appended self.old self.new (rows self.old who.processor who.task who.ticks who.line (ask.Migrate cluster)) }
+        ensures { Appended self.old self.new
+            (rows self.old who.processor who.task who.ticks who.line (ask.Migrate cluster)) }
     {
         self.journal
             .push(number_entry(EntryKind::Migrate, who, cluster, 0));

@@ -42,7 +42,8 @@ impl KernelCore {
         requires made { IsMade object self.old.journal }
         requires owned { length (owner object self.old.journal) ≡ 1 }
         requires event { event < EVENTS }
-        ensures { Appended self.old self.new (rows self.old who.processor who.task who.ticks who.line (ask.Raise object event x y)) }
+        ensures { Appended self.old self.new
+            (rows self.old who.processor who.task who.ticks who.line (ask.Raise object event x y)) }
     {
         let target = self.owner_of(object);
         if self.events.raise(target, event, x, y) {

@@ -19,7 +19,9 @@ impl KernelCore {
     /// One thing too many is asked for.
     fn too_many(&mut self, who: Actor, what: RunFault)
         requires may { MayAct self.old who.processor who.task }
-        ensures { Appended self.old self.new (fault who.processor who.task (cost who.ticks who.line) (fault_number what) who.line ∷ []) }
+        ensures { Appended self.old self.new
+            (fault who.processor who.task (cost who.ticks who.line) (fault_number what) who.line
+            ∷ []) }
     {
         self.put_ending(fault_entry(who, what.number()));
     }
@@ -27,7 +29,8 @@ impl KernelCore {
     /// A task makes an object. Where memory is wanting nothing changes.
     pub(crate) fn make(&mut self, who: Actor, class: u32) -> Result<(), AllocError>
         requires may { MayAct self.old who.processor who.task }
-        ensures ok { OnOk result (Appended self.old self.new (rows self.old who.processor who.task who.ticks who.line (ask.Make class))) }
+        ensures ok { OnOk result (Appended self.old self.new
+            (rows self.old who.processor who.task who.ticks who.line (ask.Make class))) }
         ensures err { OnErr result (self.new ≡ self.old) }
     {
         if self.inside_marks.len() >= OBJECTS as usize {
@@ -51,7 +54,8 @@ impl KernelCore {
         requires may { MayAct self.old who.processor who.task }
         requires at { IsAt who.task object self.old.journal }
         requires unowned { owner object self.old.journal ≡ [] }
-        ensures ok { OnOk result (Appended self.old self.new (rows self.old who.processor who.task who.ticks who.line (ask.Spawn object))) }
+        ensures ok { OnOk result (Appended self.old self.new
+            (rows self.old who.processor who.task who.ticks who.line (ask.Spawn object))) }
         ensures err { OnErr result (self.new ≡ self.old) }
     {
         if self.events.count() >= TASKS as usize {

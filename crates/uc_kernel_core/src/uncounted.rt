@@ -17,7 +17,8 @@ pub(crate) fn push_on(entries: &mut Entries, object: u32, task: u32)
     requires object { object < length entries.old.doors }
     requires task { task < entries.old.tasks }
     requires free { IsFree task entries.old }
-    ensures { entries.new ≡ with_door entries.old object (on_top (task, unmarked) (door_at entries.old object)) }
+    ensures { entries.new ≡ with_door entries.old object
+        (on_top (task, unmarked) (door_at entries.old object)) }
 {
     push_by::<Brand>(Blank::new(1), entries, object, task)
 }
@@ -27,7 +28,8 @@ fn push_by<L: Ledger>(blank: Blank, entries: &mut Entries, object: u32, task: u3
     requires object { object < length entries.old.doors }
     requires task { task < entries.old.tasks }
     requires free { IsFree task entries.old }
-    ensures { entries.new ≡ with_door entries.old object (on_top (task, unmarked) (door_at entries.old object)) }
+    ensures { entries.new ≡ with_door entries.old object
+        (on_top (task, unmarked) (door_at entries.old object)) }
 {
     let mut moves = Steps::<L>::new(blank);
     entries.push(object, task, &mut moves);
@@ -46,8 +48,11 @@ pub(crate) fn accept_at(
     requires free { IsFree task entries.old }
     requires inside { (door_at entries.old object).inside ≡ Some task }
     requires site { IsKnownSite site.now }
-    ensures value { result ≡ answer_of site.now.has_else (met (offers_by site.now mask) (door_at entries.old object).waiting) }
-    ensures doors { unpulled entries.new ≡ doors_of entries.old object task site.now.has_else (offers_by site.now mask) (met (offers_by site.now mask) (door_at entries.old object).waiting) }
+    ensures value { result ≡ answer_of site.now.has_else
+        (met (offers_by site.now mask) (door_at entries.old object).waiting) }
+    ensures doors { unpulled entries.new
+        ≡ doors_of entries.old object task site.now.has_else (offers_by site.now mask)
+        (met (offers_by site.now mask) (door_at entries.old object).waiting) }
 {
     accept_by::<Brand>(Blank::new(1), entries, object, task, site, mask)
 }
@@ -66,8 +71,11 @@ fn accept_by<L: Ledger>(
     requires free { IsFree task entries.old }
     requires inside { (door_at entries.old object).inside ≡ Some task }
     requires site { IsKnownSite site.now }
-    ensures value { result ≡ answer_of site.now.has_else (met (offers_by site.now mask) (door_at entries.old object).waiting) }
-    ensures doors { unpulled entries.new ≡ doors_of entries.old object task site.now.has_else (offers_by site.now mask) (met (offers_by site.now mask) (door_at entries.old object).waiting) }
+    ensures value { result ≡ answer_of site.now.has_else
+        (met (offers_by site.now mask) (door_at entries.old object).waiting) }
+    ensures doors { unpulled entries.new
+        ≡ doors_of entries.old object task site.now.has_else (offers_by site.now mask)
+        (met (offers_by site.now mask) (door_at entries.old object).waiting) }
 {
     let mut moves = Steps::<L>::new(blank);
     accept(entries, object, task, site, mask, &mut moves)

@@ -23,11 +23,15 @@ use uc_entry::entry::EntryKind;
 impl KernelCore {
     /// A task waits on a condition of the object that it is inside: it goes out, and off its processor.
     fn put_wait(&mut self, who: Actor, object: u32, cond: u16, n: i64)
-        requires can { CanPut self.old (Journal.asking kind.Wait who.processor who.task (cost who.ticks who.line) object (pos cond) n) }
+        requires can { CanPut self.old
+            (Journal.asking kind.Wait who.processor who.task (cost who.ticks who.line) object
+            (pos cond) n) }
         requires runs { running who.processor self.old.journal ≡ who.task ∷ [] }
         requires within { inside object self.old.journal ≡ who.task ∷ [] }
         requires known { object < object_count self.old.journal }
-        ensures { Appended self.old self.new (Journal.asking kind.Wait who.processor who.task (cost who.ticks who.line) object (pos cond) n ∷ []) }
+        ensures { Appended self.old self.new
+            (Journal.asking kind.Wait who.processor who.task (cost who.ticks who.line) object
+            (pos cond) n ∷ []) }
     {
         self.journal
             .push(condition_entry(EntryKind::Wait, who, object, cond, n));
@@ -41,7 +45,8 @@ impl KernelCore {
     pub(crate) fn wait(&mut self, who: Actor, object: u32, cond: u16, n: i64)
         requires may { MayAct self.old who.processor who.task }
         requires at { IsAt who.task object self.old.journal }
-        ensures { Appended self.old self.new (rows self.old who.processor who.task who.ticks who.line (ask.Wait object cond n)) }
+        ensures { Appended self.old self.new
+            (rows self.old who.processor who.task who.ticks who.line (ask.Wait object cond n)) }
     {
         self.put_wait(who, object, cond, n);
         self.admit_next(who, object);
@@ -53,7 +58,8 @@ impl KernelCore {
         requires known { object < object_count self.old.journal }
         requires room { length self.old.journal < self.old.opts.entries + 40 }
         requires shut { open_at object self.old.journal ≡ [] }
-        ensures { Appended self.old self.new (front_pushed who.processor object (blocked object cond self.old.journal)) }
+        ensures { Appended self.old self.new
+            (front_pushed who.processor object (blocked object cond self.old.journal)) }
     {
         match self.conditions.take(object, cond) {
             None => {}
@@ -68,7 +74,8 @@ impl KernelCore {
     pub(crate) fn signal(&mut self, who: Actor, object: u32, cond: u16)
         requires may { MayAct self.old who.processor who.task }
         requires at { IsAt who.task object self.old.journal }
-        ensures { Appended self.old self.new (rows self.old who.processor who.task who.ticks who.line (ask.Signal object cond)) }
+        ensures { Appended self.old self.new
+            (rows self.old who.processor who.task who.ticks who.line (ask.Signal object cond)) }
     {
         let nobody = self.nobody_on(object, cond);
         self.put_quiet(signal_entry(who, object, cond, nobody));
@@ -77,20 +84,28 @@ impl KernelCore {
 
     /// A signaller that finds nobody goes on.
     fn put_unheard(&mut self, who: Actor, object: u32, cond: u16)
-        requires can { CanPut self.old (Journal.asking kind.SignalBlock who.processor who.task (cost who.ticks who.line) object (pos cond) (pos 0)) }
+        requires can { CanPut self.old
+            (Journal.asking kind.SignalBlock who.processor who.task (cost who.ticks who.line) object
+            (pos cond) (pos 0)) }
         requires known { object < object_count self.old.journal }
-        ensures { Appended self.old self.new (Journal.asking kind.SignalBlock who.processor who.task (cost who.ticks who.line) object (pos cond) (pos 0) ∷ []) }
+        ensures { Appended self.old self.new
+            (Journal.asking kind.SignalBlock who.processor who.task (cost who.ticks who.line) object
+            (pos cond) (pos 0) ∷ []) }
     {
         self.journal.push(condition_entry(EntryKind::SignalBlock, who, object, cond, 0));
     }
 
     /// A signaller that finds a waiter goes on the stack, and off its processor.
     fn put_signaller(&mut self, who: Actor, object: u32, cond: u16)
-        requires can { CanPut self.old (Journal.asking kind.SignalBlock who.processor who.task (cost who.ticks who.line) object (pos cond) (pos 1)) }
+        requires can { CanPut self.old
+            (Journal.asking kind.SignalBlock who.processor who.task (cost who.ticks who.line) object
+            (pos cond) (pos 1)) }
         requires runs { running who.processor self.old.journal ≡ who.task ∷ [] }
         requires within { inside object self.old.journal ≡ who.task ∷ [] }
         requires known { object < object_count self.old.journal }
-        ensures { Appended self.old self.new (Journal.asking kind.SignalBlock who.processor who.task (cost who.ticks who.line) object (pos cond) (pos 1) ∷ []) }
+        ensures { Appended self.old self.new
+            (Journal.asking kind.SignalBlock who.processor who.task (cost who.ticks who.line) object
+            (pos cond) (pos 1) ∷ []) }
     {
         self.journal.push(condition_entry(EntryKind::SignalBlock, who, object, cond, 1));
         push_on(&mut self.entries, object, who.task);
@@ -108,7 +123,9 @@ impl KernelCore {
         requires acts { last_actor 0 self.old.journal ≡ who.task }
         requires stacked { spot who.task self.old.journal ≡ At (Stacked object) }
         requires task { who.task < TASKS }
-        ensures { Appended self.old self.new (settled (fault who.processor who.task no_cost 10 who.line) self.old.journal (front_admitted who.processor object (blocked object cond self.old.journal))) }
+        ensures { Appended self.old self.new
+            (settled (fault who.processor who.task no_cost 10 who.line) self.old.journal
+            (front_admitted who.processor object (blocked object cond self.old.journal))) }
     {
         match self.conditions.take(object, cond) {
             None => {}
@@ -130,7 +147,8 @@ impl KernelCore {
     pub(crate) fn signal_block(&mut self, who: Actor, object: u32, cond: u16)
         requires may { MayAct self.old who.processor who.task }
         requires at { IsAt who.task object self.old.journal }
-        ensures { Appended self.old self.new (rows self.old who.processor who.task who.ticks who.line (ask.SignalBlock object cond)) }
+        ensures { Appended self.old self.new
+            (rows self.old who.processor who.task who.ticks who.line (ask.SignalBlock object cond)) }
     {
         if self.nobody_on(object, cond) {
             self.put_unheard(who, object, cond);

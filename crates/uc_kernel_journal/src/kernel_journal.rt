@@ -68,7 +68,14 @@ impl KernelJournal {
         requires sites { AreShort sites.items }
         requires tasks { 1 ≤ tasks }
         requires room { 1 ≤ room }
-        ensures { IfOk result (λ c. c ≡ record { journal = begin opts.now ∷ []; sites = sites.items; room = room; tasks = tasks }) }
+        ensures { IfOk result (λ c. c
+            ≡ record {
+              journal = begin opts.now
+                  ∷ [];
+              sites = sites.items;
+              room = room;
+              tasks = tasks;
+            }) }
     {
         let mut journal = Vec::with_capacity(alloc, room as usize)?;
         let spent = Table::new(alloc, tasks, 0)?;

@@ -204,7 +204,8 @@ pub fn note_answers(answers: &mut Table<Option<Answer>>, sites: &Vec<Site>, e: &
 pub fn note_spent(spent: &mut Table<u64>, e: &Entry)
     requires task { e.now.task < length spent.old }
     requires room { slice_index_or spent.old e.now.task 0 + e.now.ticks < 18446744073709551616 }
-    ensures { spent.new ≡ slice_set spent.old e.now.task (spent_after e.now.kind e.now (slice_index_or spent.old e.now.task 0)) }
+    ensures { spent.new ≡ slice_set spent.old e.now.task
+        (spent_after e.now.kind e.now (slice_index_or spent.old e.now.task 0)) }
 {
     let ticks = u64::from(e.ticks);
     let task = e.task as usize;

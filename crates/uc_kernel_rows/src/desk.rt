@@ -123,7 +123,8 @@ fn may_bring(
 ) -> bool
     requires desk { IsDesk kernel.now watch.now sites.now.items opts.now }
     requires room { 1 ≤ back.now.members.spare }
-    ensures { result ≡ true → is_over kernel.now.journal ≡ false → MayBring (kept kernel.now) (with_asked back.now asked.now) }
+    ensures { result ≡ true → is_over kernel.now.journal ≡ false →
+        MayBring (kept kernel.now) (with_asked back.now asked.now) }
 {
     match kernel.runner(back.processor) {
         None => kernel.ending().is_some(),
@@ -154,9 +155,11 @@ fn bring(
     back: Back<u32, u32>,
     asked: &Asked,
 ) -> Result<Next<u32, u32>, AllocError>
-    requires may { is_over kernel.old.journal ≡ false → MayBring (kept kernel.old) (with_asked back asked.now) }
+    requires may { is_over kernel.old.journal ≡ false →
+        MayBring (kept kernel.old) (with_asked back asked.now) }
     requires child { IsSome back.child }
-    ensures { OnOk result ((next : Next _ _) × (result ≡ Ok next) × Acted (kept kernel.old) (with_asked back asked.now) next (kept kernel.new)) }
+    ensures { OnOk result ((next : Next _ _) × (result ≡ Ok next)
+        × Acted (kept kernel.old) (with_asked back asked.now) next (kept kernel.new)) }
 {
     match form_of(&asked.request) {
         Form::Makes => {

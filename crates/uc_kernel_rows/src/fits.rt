@@ -21,7 +21,8 @@ use uc_tree::site::Site;
 impl Watch {
     // Whether a task is inside an object.
     fn is_inside(&self, task: u32, object: u32) -> bool
-        ensures { result ≡ list_any (λ x. (x.task == task) && (x.object == object)) self.now.inside }
+        ensures { result ≡ list_any
+            (λ x. (x.task == task) && (x.object == object)) self.now.inside }
     {
         let wanted = u64::from(task);
         self.inside
@@ -77,31 +78,37 @@ impl Watch {
     }
 
     fn may_call(&self, task: u32, object: u32, member: u8) -> bool
-        ensures { result ≡ true → (j : Journal) → Watches j self.now → IsOutside task object j × (member ≤ MEMBERS) }
+        ensures { result ≡ true → (j : Journal) → Watches j self.now →
+            IsOutside task object j × (member ≤ MEMBERS) }
     {
         member <= MEMBERS && self.is_outside(task, object)
     }
 
     fn may_spawn(&self, task: u32, object: u32) -> bool
-        ensures { result ≡ true → (j : Journal) → Watches j self.now → IsAt task object j × (owner object j ≡ []) }
+        ensures { result ≡ true → (j : Journal) → Watches j self.now →
+            IsAt task object j × (owner object j ≡ []) }
     {
         self.owner_count(object) == 0 && self.is_at(task, object)
     }
 
     fn may_raise(&self, object: u32, event: u8) -> bool
-        ensures { result ≡ true → (j : Journal) → Watches j self.now → IsMade object j × (length (owner object j) ≡ 1) × (event < EVENTS) }
+        ensures { result ≡ true → (j : Journal) → Watches j self.now →
+            IsMade object j × (length (owner object j) ≡ 1) × (event < EVENTS) }
     {
         event < EVENTS && self.owner_count(object) == 1 && self.is_made(object)
     }
 
     fn may_accept(&self, sites: &Vec<Site>, task: u32, object: u32, site: u32, mask: u32) -> bool
-        ensures { result ≡ true → (j : Journal) → Watches j self.now → IsAt task object j × (site < length sites.now.items) × (mask < 2 ^ length (site_at sites.now.items site).clauses) }
+        ensures { result ≡ true → (j : Journal) → Watches j self.now →
+            IsAt task object j × (site < length sites.now.items)
+            × (mask < 2 ^ length (site_at sites.now.items site).clauses) }
     {
         names_clauses(sites, site, mask) && self.is_at(task, object)
     }
 
     fn may_end(&self, task: u32) -> bool
-        ensures { result ≡ true → (j : Journal) → Watches j self.now → IsAt task (own_object task j) j }
+        ensures { result ≡ true → (j : Journal) → Watches j self.now →
+            IsAt task (own_object task j) j }
     {
         self.is_at(task, self.own_object(task))
     }
@@ -113,7 +120,8 @@ impl Watch {
     }
 
     fn has_processor(&self, opts: &Options, processor: u32) -> bool
-        ensures { result ≡ true → (j : Journal) → Watches j self.now → processor < processor_count opts.now j }
+        ensures { result ≡ true → (j : Journal) → Watches j self.now →
+            processor < processor_count opts.now j }
     {
         if processor < opts.processors {
             return true;
@@ -123,7 +131,8 @@ impl Watch {
 
     /// Whether a request of a task fits.
     pub fn fits(&self, sites: &Vec<Site>, opts: &Options, task: u32, request: &Request) -> bool
-        ensures { result ≡ true → (j : Journal) → Watches j self.now → Fits opts.now sites.now.items j task request.now }
+        ensures { result ≡ true → (j : Journal) → Watches j self.now →
+            Fits opts.now sites.now.items j task request.now }
     {
         match *request {
             Request::Make { .. } => true,
@@ -176,7 +185,8 @@ impl Watch {
 // The place of a hand behind a pair, where the object of a pair of this task stands at this place. A pair of another task
 // has none.
 fn place_behind(hand: &List<(u64, u32)>, at: u32, pair: &Pair, task: u64) -> Option<u32>
-    ensures { IfSome result (λ n. objects_of task (pair.now ∷ []) ++ drop n (keys hand.now.items) ≡ drop at (keys hand.now.items)) }
+    ensures { IfSome result (λ n. objects_of task (pair.now ∷ []) ++ drop n (keys hand.now.items)
+        ≡ drop at (keys hand.now.items)) }
 {
     if pair.task != task {
         return Some(at);
@@ -192,7 +202,9 @@ fn place_behind(hand: &List<(u64, u32)>, at: u32, pair: &Pair, task: u64) -> Opt
 
 // Whether a mask names clauses of a statement alone.
 fn names_clauses(sites: &Vec<Site>, site: u32, mask: u32) -> bool
-    ensures { result ≡ true → (site < length sites.now.items) × (mask < 2 ^ length (site_at sites.now.items site).clauses) }
+    ensures { result ≡ true →
+        (site < length sites.now.items)
+        × (mask < 2 ^ length (site_at sites.now.items site).clauses) }
 {
     if site as usize >= sites.len() {
         return false;

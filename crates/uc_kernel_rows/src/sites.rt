@@ -16,7 +16,8 @@ fn clause(alloc: Global, member: u8) -> Result<Members, AllocError>
 
 // An accept statement of two clauses that list a member each.
 fn site(alloc: Global, first: u8, second: u8, has_else: bool) -> Result<Site, AllocError>
-    ensures { IfOk result (λ s. s ≡ record { class = 0; clauses = (first ∷ []) ∷ (second ∷ []) ∷ []; has_else = has_else }) }
+    ensures { IfOk result (λ s. s
+        ≡ record { class = 0; clauses = (first ∷ []) ∷ (second ∷ []) ∷ []; has_else = has_else }) }
 {
     let mut clauses = Vec::with_capacity(alloc, 2)?;
     let one = clause(alloc, first)?;

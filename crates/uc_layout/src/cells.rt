@@ -54,7 +54,8 @@ fn next_cells(
 ) -> Result<Vec<u64>, AllocError>
     requires full { length circles.now ≡ length rows.now }
     ensures full { IfOk result (λ v. length v.items ≡ length rows.now) }
-    ensures follows { IfOk result (λ v. Follows rows.now circles.now cells.now v.items (length rows.now)) }
+    ensures follows { IfOk result (λ v. Follows rows.now circles.now cells.now v.items
+        (length rows.now)) }
 {
     let mut next = Vec::new(alloc);
     for (place, row) in rows.iter().enumerate() {

@@ -36,7 +36,8 @@ fn mark(rows: &[ClassLayout], flags: &mut [bool], to: usize, place: usize) -> bo
     ensures led { Led rows.now to flags.new }
     ensures more { IsTrue result → flagged flags.old < flagged flags.new }
     ensures same { IsFalse result → flags.new ≡ flags.old }
-    ensures told { IsFalse result → row_leads rows.now flags.old to place ≡ true → flag_at flags.old place ≡ true }
+    ensures told { IsFalse result → row_leads rows.now flags.old to place ≡ true →
+        flag_at flags.old place ≡ true }
 {
     if flags[place] {
         return false;

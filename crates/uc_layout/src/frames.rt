@@ -31,7 +31,8 @@ fn cells_of_params(sizes: &Sizes, params: &[Param]) -> u64
 }
 
 fn cells_of_declarators(sizes: &Sizes, base: &Base, declarators: &[Declarator]) -> u64
-    ensures { result ≡ capped (declarators_cells (declared_cells sizes.now base.now) declarators.now) }
+    ensures { result ≡ capped
+        (declarators_cells (declared_cells sizes.now base.now) declarators.now) }
 {
     let mut cells: u64 = 0;
     for declarator in declarators {
@@ -118,7 +119,8 @@ fn cells_of_maybe(sizes: &Sizes, s: &Option<Box<Stmt>>) -> u64
 
 #[cycle(frames)]
 fn cells_of_handlers(sizes: &Sizes, handlers: &[Handler]) -> u64
-    ensures { result ≡ capped (handlers_cells (handlers_of handlers.now) (declared_cells sizes.now)) }
+    ensures { result ≡ capped
+        (handlers_cells (handlers_of handlers.now) (declared_cells sizes.now)) }
 {
     let mut cells: u64 = 0;
     for handler in handlers {

@@ -149,7 +149,8 @@ pub fn held_by<N: NameValues>(
     base: &Base,
     declarator: &Declarator,
 ) -> FieldLayout
-    ensures { result ≡ held_by (map (λ c. c.now) classes.now.list.now) (N.value_named named.now) base.now declarator.now }
+    ensures { result ≡ held_by (map (λ c. c.now) classes.now.list.now)
+        (N.value_named named.now) base.now declarator.now }
 {
     let object = if declarator.by_ref {
         None
@@ -169,7 +170,10 @@ fn push_fields<N: NameValues>(
     base: &Base,
     declarators: &[Declarator],
 ) -> Result<(), AllocError>
-    ensures { OnOk result (held.new.items ≡ held.old.items ++ map (held_by (map (λ c. c.now) classes.now.list.now) (N.value_named named.now) base.now) declarators.now) }
+    ensures { OnOk result (held.new.items
+        ≡ held.old.items
+        ++ map (held_by (map (λ c. c.now) classes.now.list.now) (N.value_named named.now) base.now)
+        declarators.now) }
 {
     for declarator in declarators {
         held.push(held_by(classes, named, base, declarator))?;
@@ -183,7 +187,9 @@ fn push_member<N: NameValues>(
     named: &N,
     form: &MemberForm,
 ) -> Result<(), AllocError>
-    ensures { OnOk result (held.new.items ≡ held.old.items ++ member_held (map (λ c. c.now) classes.now.list.now) (N.value_named named.now) (member_form_at form.now)) }
+    ensures { OnOk result (held.new.items
+        ≡ held.old.items ++ member_held (map (λ c. c.now) classes.now.list.now)
+        (N.value_named named.now) (member_form_at form.now)) }
 {
     match form {
         MemberForm::Fields {
@@ -205,7 +211,9 @@ fn members_held<N: NameValues>(
     named: &N,
     members: &[Member],
 ) -> Result<Vec<FieldLayout>, AllocError>
-    ensures { IfOk result (λ v. v.items ≡ members_held (map (λ c. c.now) classes.now.list.now) (N.value_named named.now) members.now) }
+    ensures { IfOk result (λ v. v.items
+        ≡ members_held (map (λ c. c.now) classes.now.list.now)
+        (N.value_named named.now) members.now) }
 {
     let mut held = Vec::new(alloc);
     for member in members {
@@ -234,7 +242,9 @@ fn row_of(
     known: &ConstantValues,
     class: &Class,
 ) -> Result<ClassLayout, AllocError>
-    ensures { IfOk result (λ r. r ≡ row_by (map (λ c. c.now) classes.now.list.now) (map (λ c. c.now) known.now.constants.now) known.now.values.now class.now) }
+    ensures { IfOk result (λ r. r
+        ≡ row_by (map (λ c. c.now) classes.now.list.now)
+        (map (λ c. c.now) known.now.constants.now) known.now.values.now class.now) }
 {
     let members = names_of_members(alloc, &class.members)?;
     let inside = HiddenByTable {
@@ -254,7 +264,9 @@ pub fn rows_of(
     classes: &Classes,
     known: &ConstantValues,
 ) -> Result<Vec<ClassLayout>, AllocError>
-    ensures { IfOk result (λ v. v.items ≡ rows_by (map (λ c. c.now) classes.now.list.now) (map (λ c. c.now) known.now.constants.now) known.now.values.now) }
+    ensures { IfOk result (λ v. v.items
+        ≡ rows_by (map (λ c. c.now) classes.now.list.now)
+        (map (λ c. c.now) known.now.constants.now) known.now.values.now) }
 {
     let mut rows = Vec::new(alloc);
     for class in classes.list {

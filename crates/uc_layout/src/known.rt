@@ -77,7 +77,8 @@ impl<'a> NameValues for HiddenByTable<'a> {
 fn note_name(names: &mut Scope, name: &Name) -> Result<(), AllocError>
     requires { 0 < length names.old }
     ensures open { OnOk result (0 < length names.new) }
-    ensures noted { OnOk result ((x : List ℕ) → is_some (found names.new x) ≡ (is_some (found names.old x) || same_name name.now x)) }
+    ensures noted { OnOk result ((x : List ℕ) →
+        is_some (found names.new x) ≡ (is_some (found names.old x) || same_name name.now x)) }
 {
     names.declare(name.bytes(), 0)?;
     Ok(())
@@ -86,7 +87,9 @@ fn note_name(names: &mut Scope, name: &Name) -> Result<(), AllocError>
 fn note_declarators(names: &mut Scope, declarators: &[Declarator]) -> Result<(), AllocError>
     requires { 0 < length names.old }
     ensures open { OnOk result (0 < length names.new) }
-    ensures noted { OnOk result ((x : List ℕ) → is_some (found names.new x) ≡ (is_some (found names.old x) || declares_name x declarators.now)) }
+    ensures noted { OnOk result ((x : List ℕ) →
+        is_some (found names.new x)
+        ≡ (is_some (found names.old x) || declares_name x declarators.now)) }
 {
     for declarator in declarators {
         note_name(names, &declarator.name)?;
@@ -97,7 +100,9 @@ fn note_declarators(names: &mut Scope, declarators: &[Declarator]) -> Result<(),
 fn note_form(names: &mut Scope, form: &MemberForm) -> Result<(), AllocError>
     requires { 0 < length names.old }
     ensures open { OnOk result (0 < length names.new) }
-    ensures noted { OnOk result ((x : List ℕ) → is_some (found names.new x) ≡ (is_some (found names.old x) || member_form_named x (member_form_at form.now))) }
+    ensures noted { OnOk result ((x : List ℕ) →
+        is_some (found names.new x)
+        ≡ (is_some (found names.old x) || member_form_named x (member_form_at form.now))) }
 {
     match form {
         MemberForm::Fields { declarators, .. } => {
@@ -117,7 +122,8 @@ fn note_form(names: &mut Scope, form: &MemberForm) -> Result<(), AllocError>
 
 /// The names of these members of a class.
 pub fn names_of_members(alloc: Global, members: &[Member]) -> Result<Scope, AllocError>
-    ensures { IfOk result (λ names. (x : List ℕ) → is_some (found names x) ≡ list_any (λ m. member_form_named x m.form) members.now) }
+    ensures { IfOk result (λ names. (x : List ℕ) →
+        is_some (found names x) ≡ list_any (λ m. member_form_named x m.form) members.now) }
 {
     let mut names = Scope::new(alloc);
     names.open()?;

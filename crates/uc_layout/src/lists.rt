@@ -11,7 +11,9 @@ use uc_tree::program::{Constant, Item, ItemForm};
 
 // The constant that an item is.
 fn constant_in(item: &Item) -> Option<&Constant>
-    ensures { MatchOption result ((is : List Item) → constants_of (item.now ∷ is) ≡ constants_of is) (λ c. (is : List Item) → constants_of (item.now ∷ is) ≡ c.now ∷ constants_of is) }
+    ensures { MatchOption result ((is : List Item) →
+        constants_of (item.now ∷ is) ≡ constants_of is) (λ c. (is : List Item) →
+        constants_of (item.now ∷ is) ≡ c.now ∷ constants_of is) }
 {
     match &item.form {
         ItemForm::Class { .. } => None,
@@ -25,7 +27,9 @@ fn constant_in(item: &Item) -> Option<&Constant>
 
 // The class that an item is.
 fn class_in(item: &Item) -> Option<&Class>
-    ensures { MatchOption result ((is : List Item) → classes_of (item.now ∷ is) ≡ classes_of is) (λ c. (is : List Item) → classes_of (item.now ∷ is) ≡ c.now ∷ classes_of is) }
+    ensures { MatchOption result ((is : List Item) →
+        classes_of (item.now ∷ is) ≡ classes_of is) (λ c. (is : List Item) →
+        classes_of (item.now ∷ is) ≡ c.now ∷ classes_of is) }
 {
     match &item.form {
         ItemForm::Class { class } => Some(class),

@@ -22,7 +22,8 @@ pub fn no_places(alloc: Global) -> Result<Scope, AllocError>
 /// One more name, with this place. Memory is wanting where the place is not below 2^32.
 pub fn note_place(places: &mut Scope, name: &Name, place: usize) -> Result<(), AllocError>
     requires { length places.old ≡ 1 }
-    ensures { OnOk result ((names : List (List ℕ)) → length names ≡ place → IsPlaces names places.old → IsPlaces (names ++ name.now ∷ []) places.new) }
+    ensures { OnOk result ((names : List (List ℕ)) → length names ≡ place →
+        IsPlaces names places.old → IsPlaces (names ++ name.now ∷ []) places.new) }
 {
     match u32::try_from(place) {
         Ok(id) => {
@@ -57,7 +58,8 @@ pub fn places_of_constants(alloc: Global, constants: &[&Constant]) -> Result<Sco
 
 /// The place of a name in the list that a table was made of.
 pub fn place_in(places: &Scope, name: &Name) -> Option<usize>
-    ensures { (names : List (List ℕ)) → IsPlaces names places.now → result ≡ place_from 0 names name.now }
+    ensures { (names : List (List ℕ)) → IsPlaces names places.now →
+        result ≡ place_from 0 names name.now }
 {
     match places.find(name.bytes()) {
         Some(place) => Some(place as usize),

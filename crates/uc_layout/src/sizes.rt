@@ -72,7 +72,8 @@ fn rows_in<'x, 'y>(
 ) -> Result<Vec<ClassLayout>, AllocError>
     requires classes_placed { IsPlaces (map (λ c. c.now.name) classes.now) class_places.now }
     requires constants_placed { IsPlaces (map (λ c. c.now.name) constants.now) constant_places.now }
-    ensures { IfOk result (λ v. v.items ≡ rows_by (map (λ c. c.now) classes.now) (map (λ c. c.now) constants.now) values.now) }
+    ensures { IfOk result (λ v. v.items
+        ≡ rows_by (map (λ c. c.now) classes.now) (map (λ c. c.now) constants.now) values.now) }
 {
     let classes = Classes {
         list: classes,
@@ -185,7 +186,8 @@ impl<'a> Sizes<'a> {
     /// or through others; false beyond the last.
     pub fn has_itself(&self, place: usize) -> bool
         ensures itself { result ≡ has_itself (rows_of self.now) place }
-        ensures never { result ≡ false → (steps : ℕ) → reaches steps (rows_of self.now) place place ≡ false }
+        ensures never { result ≡ false → (steps : ℕ) →
+            reaches steps (rows_of self.now) place place ≡ false }
     {
         let found = self.circle_at(place);
         found
@@ -230,7 +232,8 @@ impl<'a> Sizes<'a> {
 
     /// The constant of a name, none where no constant has it.
     pub fn constant(&self, name: &Name) -> Option<&Constant>
-        ensures { option_map (λ c. c.now) result ≡ constant_named (constants_of self.now.items) name.now }
+        ensures { option_map (λ c. c.now) result
+            ≡ constant_named (constants_of self.now.items) name.now }
     {
         match place_in(&self.constant_places, name) {
             Some(place) => constant_at(&self.constants, place),
@@ -240,7 +243,8 @@ impl<'a> Sizes<'a> {
 
     /// How many elements a declarator of a class declares, whose members hide constants of their names.
     pub fn elements_in(&self, class: &Class, declarator: &Declarator) -> u32
-        ensures { result ≡ elements (seen_in (constants_of self.now.items) class.now) declarator.now }
+        ensures { result ≡ elements
+            (seen_in (constants_of self.now.items) class.now) declarator.now }
     {
         let shown = HiddenByList {
             known: self.known(),
@@ -277,7 +281,8 @@ impl<'a> Sizes<'a> {
 
     // What a variable holds.
     fn held(&self, base: &Base, declarator: &Declarator) -> FieldLayout
-        ensures { result ≡ held_by (classes_of self.now.items) (value_of_name (constants_of self.now.items)) base.now declarator.now }
+        ensures { result ≡ held_by (classes_of self.now.items)
+            (value_of_name (constants_of self.now.items)) base.now declarator.now }
     {
         held_by(&self.classes(), &self.known(), base, declarator)
     }

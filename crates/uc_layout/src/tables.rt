@@ -38,7 +38,10 @@ fn reckon<'x>(
     ensures sound { Sound (map (λ c. c.now) constants.now) values.new }
     ensures more { IsTrue result → known values.old < known values.new }
     ensures same { IsFalse result → values.new ≡ values.old }
-    ensures reckoned { IsFalse result → (c : Constant) → slice_get (map (λ c. c.now) constants.now) place ≡ Some c → Under (own_value (value_at (map (λ c. c.now) constants.now) values.old) c) (get_or values.old place None) }
+    ensures reckoned { IsFalse result → (c : Constant) →
+        slice_get (map (λ c. c.now) constants.now) place ≡ Some c →
+        Under (own_value (value_at (map (λ c. c.now) constants.now) values.old) c)
+        (get_or values.old place None) }
 {
     if values[place].is_some() {
         return false;
@@ -64,7 +67,8 @@ fn sweep<'x>(constants: &'x [&'x Constant], places: &'x Scope, values: &mut [Opt
     requires sound { Sound (map (λ c. c.now) constants.now) values.old }
     ensures sound { Sound (map (λ c. c.now) constants.now) values.new }
     ensures more { IsTrue result → known values.old < known values.new }
-    ensures reckoned { IsFalse result → Reckoned (map (λ c. c.now) constants.now) values.new (length constants.now) }
+    ensures reckoned { IsFalse result →
+        Reckoned (map (λ c. c.now) constants.now) values.new (length constants.now) }
 {
     let mut changed = false;
     for place in 0..constants.len() {
@@ -121,7 +125,8 @@ pub fn values_of<'x>(
     places: &'x Scope,
 ) -> Result<Vec<Option<i64>>, AllocError>
     requires placed { IsPlaces (map (λ c. c.now.name) constants.now) places.now }
-    ensures { IfOk result (λ v. value_at (map (λ c. c.now) constants.now) v.items ≡ value_of_name (map (λ c. c.now) constants.now)) }
+    ensures { IfOk result (λ v. value_at (map (λ c. c.now) constants.now) v.items
+        ≡ value_of_name (map (λ c. c.now) constants.now)) }
 {
     let mut values = first_values(alloc, constants, places)?;
     'sweeps: loop {

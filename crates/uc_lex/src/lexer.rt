@@ -95,8 +95,10 @@ pub fn lex(alloc: Global, text: &[u8]) -> Result<Vec<Token>, LexFault>
     ensures few { IfOk result (λ v. length v.items ≤ length text.now) }
     ensures fault { IfErr result (λ f. IsFault (tokens.tokens text.now) f) }
     ensures inside { IfErr result (λ f. StandsIn f (length text.now)) }
-    ensures complete { (ts : List Token) → tokens.tokens text.now ≡ tokens.Read ts → IfErr result (λ f. f ≡ LexFault.NoMemory) }
-    ensures refused { (why : LexicalFault) (at : ℕ) → tokens.tokens text.now ≡ tokens.Refused why at → IsErr result }
+    ensures complete { (ts : List Token) → tokens.tokens text.now ≡ tokens.Read ts →
+        IfErr result (λ f. f ≡ LexFault.NoMemory) }
+    ensures refused { (why : LexicalFault) (at : ℕ) →
+        tokens.tokens text.now ≡ tokens.Refused why at → IsErr result }
 {
     let mut tokens = Vec::new(alloc);
     let mut place = START;

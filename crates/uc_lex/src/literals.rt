@@ -82,7 +82,8 @@ pub enum Piece {
 
 /// What stands next in a text literal.
 pub fn piece_at(rest: &[u8]) -> Piece
-    ensures goes_on { tokens.text_ending rest.now ≡ ending_of result (tokens.text_ending (drop (piece_length result) rest.now)) }
+    ensures goes_on { tokens.text_ending rest.now
+        ≡ ending_of result (tokens.text_ending (drop (piece_length result) rest.now)) }
     ensures moves { Moves result (length rest.now) }
 {
     piece_of(byte_at(rest, 0), byte_at(rest, 1))

@@ -106,9 +106,9 @@ pub(crate) fn leave(
     requires held { let i = index_of nodes.old place in
         (o : ℕ) × (xs : List ℕ) × (ys : List ℕ) × (st : List ℕ)
         × IsHeld nodes.old o (joined object.old row.old) (xs ++ i ∷ ys) st }
-    ensures held { let i = index_of nodes.old place in
-        (o : ℕ) (xs ys st : List ℕ) → IsHeld nodes.old o (joined object.old row.old) (xs ++ i ∷ ys) st
-        → IsHeld nodes.new o (joined object.new row.new) (xs ++ ys) st
+    ensures held { let i = index_of nodes.old place in (o : ℕ) (xs ys st : List ℕ) →
+        IsHeld nodes.old o (joined object.old row.old) (xs ++ i ∷ ys) st →
+        IsHeld nodes.new o (joined object.new row.new) (xs ++ ys) st
         × Changed i (xs ++ ys) nodes.old nodes.new }
     ensures row { object.new.row ≡ object.old.row }
 {
@@ -124,10 +124,9 @@ pub(crate) fn stack_on(
     place: NodePtr,
 )
     requires node { InBlock (vec_ptr nodes.old) × IsNode nodes.old place }
-    ensures held { let i = index_of nodes.old place in
-        (ms : List Ends) (es st : List ℕ) → IsHeld nodes.old number (with_members object.old ms) es st
-        → Avoids i es → Avoids i st
-        → IsHeld nodes.new number (with_members object.new ms) es (i ∷ st)
+    ensures held { let i = index_of nodes.old place in (ms : List Ends) (es st : List ℕ) →
+        IsHeld nodes.old number (with_members object.old ms) es st → Avoids i es → Avoids i st →
+        IsHeld nodes.new number (with_members object.new ms) es (i ∷ st)
         × Changed i (i ∷ []) nodes.old nodes.new }
     ensures same { (object.new.row ≡ object.old.row) × (object.new.entries ≡ object.old.entries) }
 {
@@ -143,7 +142,10 @@ pub(crate) fn stack_on(
 /// Takes the node off the top of the stack.
 pub(crate) fn unstack(nodes: &mut Vec<Node, Global>, object: &mut Object, place: NodePtr)
     requires { IsNode nodes.old place }
-    ensures top { object.new ≡ record object.old { top = (link 0 nodes.old (index_of nodes.old place)).next } }
+    ensures top { object.new ≡ record object.old {
+      top =
+          (link 0 nodes.old (index_of nodes.old place)).next;
+    } }
     ensures same { SameNodes nodes.old nodes.new }
 {
     let link = link_of(nodes, place, 0);

@@ -54,7 +54,8 @@ pub(crate) fn place<T, B: Allocator>(items: &mut Vec<T, B>, index: usize) -> Ele
 pub(crate) fn at<T, B: Allocator>(items: &mut Vec<T, B>, place: ElementPtr<T>) -> &mut T
     requires { IsPlace T.row (vec_ptr items.old) (vec_len items.old) place.ptr }
     ensures* writes_back { sem 𝓛 (vec_follows_item T.row B.row B.Allocator items.entry (index_at T.row (vec_ptr items.old) place.ptr) result) }
-    ensures value { result.now ≡ slice_index_or items.old.items (index_at T.row (vec_ptr items.old) place.ptr) result.now }
+    ensures value { result.now ≡ slice_index_or items.old.items
+        (index_at T.row (vec_ptr items.old) place.ptr) result.now }
 {
     unsafe { &mut *place.ptr }
 }

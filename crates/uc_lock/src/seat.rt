@@ -37,7 +37,14 @@ impl<V: Journaled> Seat<V> {
         requires number { number ≡ token.me.0.number }
         requires idle { (token.me.0.stage ≡ Idle) × (token.me.1 ≡ []) }
         requires open { (token.me.0.spent ≡ false) × (token.me.0.joined ≡ []) }
-        ensures { result ≡ record { lock = token.table_id; terms = token.me.0.terms; number = number; holds = false; seen = token.me.0.seen; own = token.me.0.own } }
+        ensures { result ≡ record {
+          lock = token.table_id;
+          terms = token.me.0.terms;
+          number = number;
+          holds = false;
+          seen = token.me.0.seen;
+          own = token.me.0.own;
+        } }
     {
         Seat {
             token,

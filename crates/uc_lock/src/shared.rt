@@ -41,9 +41,11 @@ impl<V: Journaled> Shared<V> {
         V: Drop,
         requires seats { (1 ≤ seats) × (seats ≤ most_seats) }
         requires makers { All (λ e. seats ≤ e.1) (V.journal_of v) }
-        ensures terms { IfOk result (λ r. r.0.terms ≡ record { key = V.key_of v; seats = seats; opening = V.journal_of v }) }
+        ensures terms { IfOk result (λ r. r.0.terms
+            ≡ record { key = V.key_of v; seats = seats; opening = V.journal_of v }) }
         ensures count { IfOk result (λ r. length r.1.items ≡ seats) }
-        ensures each { IfOk result (λ r. (i : ℕ) → i < seats → slice_get r.1.items i ≡ Some (fresh r.0 i)) }
+        ensures each { IfOk result (λ r. (i : ℕ) → i < seats →
+            slice_get r.1.items i ≡ Some (fresh r.0 i)) }
     {
         let setup = Setup {
             start: Snapshot::of(&v),
@@ -70,7 +72,8 @@ impl<V: Journaled> Shared<V> {
         requires first { (first.table_id ≡ self.now.id) × (first.me ≡ (opened self.now.terms, [])) }
         requires seats { (seats ≡ self.now.terms.seats) × (1 ≤ seats) × (seats ≤ most_seats) }
         ensures count { IfOk result (λ v. length v.items ≡ seats) }
-        ensures each { IfOk result (λ v. (i : ℕ) → i < seats → slice_get v.items i ≡ Some (fresh self.now i)) }
+        ensures each { IfOk result (λ v. (i : ℕ) → i < seats →
+            slice_get v.items i ≡ Some (fresh self.now i)) }
     {
         let mut dealt = Vec::with_capacity(alloc, seats as usize)?;
         let mut kept = first;
@@ -90,7 +93,8 @@ impl<V: Journaled> Shared<V> {
         requires free { seat.old.holds ≡ false }
         ensures seat { seat.new ≡ taken (V.journal_of result) seat.old }
         ensures key { V.key_of result ≡ self.now.terms.key }
-        ensures makers { GrownBelow self.now.terms.seats self.now.terms.opening (V.journal_of result) }
+        ensures makers { GrownBelow self.now.terms.seats self.now.terms.opening
+            (V.journal_of result) }
         ensures seen { Begins seat.old.seen (V.journal_of result) }
         ensures own { made_by seat.old.number (V.journal_of result) ≡ seat.old.own }
     {

@@ -77,7 +77,9 @@ pub fn builders_of(
     owners: &[u32],
 ) -> Result<Scope, AllocError>
     requires { length owners.now ≡ length routines.now }
-    ensures { IfOk result (λ builders. (ds : List Defined) → map (λ d. d.routine) ds ≡ map (λ r. r.now) routines.now → map (λ d. d.number) ds ≡ owners.now → AreBuilders ds builders) }
+    ensures { IfOk result (λ builders. (ds : List Defined) →
+        map (λ d. d.routine) ds ≡ map (λ r. r.now) routines.now →
+        map (λ d. d.number) ds ≡ owners.now → AreBuilders ds builders) }
 {
     let mut builders = no_places(alloc)?;
     for place in 0..routines.len() {

@@ -36,8 +36,11 @@ pub fn lower_expr(
     out: &mut Draft,
 ) -> Result<ExprMeaning, AllocError>
     requires { length out.old.ops + OPS_FOR_SIZE * expr_size e.now ≤ PROGRAM_OPS }
-    ensures code { OnOk result (Adds (OPS_FOR_SIZE * expr_size e.now - 2) (ExprCode line out.old.marks (meant (context_in names.now out.old) e.now).expr) out.old out.new) }
-    ensures tells { IfOk result (λ told. Tells names.now told (meant (context_in names.now out.old) e.now)) }
+    ensures code { OnOk result (Adds (OPS_FOR_SIZE * expr_size e.now - 2)
+        (ExprCode line out.old.marks (meant (context_in names.now out.old) e.now).expr) out.old
+        out.new) }
+    ensures tells { IfOk result (λ told. Tells names.now told
+        (meant (context_in names.now out.old) e.now)) }
 {
     match &e.form {
         ExprForm::Number { value } => {
@@ -87,8 +90,11 @@ pub fn lower_value(
     out: &mut Draft,
 ) -> Result<ExprMeaning, AllocError>
     requires { length out.old.ops + OPS_FOR_SIZE * expr_size e.now ≤ PROGRAM_OPS }
-    ensures code { OnOk result (Adds (OPS_FOR_SIZE * expr_size e.now) (ExprCode line out.old.marks (value_of (meant (context_in names.now out.old) e.now))) out.old out.new) }
-    ensures tells { IfOk result (λ told. Tells names.now told (meant (context_in names.now out.old) e.now)) }
+    ensures code { OnOk result (Adds (OPS_FOR_SIZE * expr_size e.now)
+        (ExprCode line out.old.marks (value_of (meant (context_in names.now out.old) e.now)))
+        out.old out.new) }
+    ensures tells { IfOk result (λ told. Tells names.now told
+        (meant (context_in names.now out.old) e.now)) }
 {
     let start = out.here();
     let told = lower_expr(e, line, names, out)?;
@@ -105,8 +111,11 @@ fn lower_unary(
     out: &mut Draft,
 ) -> Result<ExprMeaning, AllocError>
     requires { length out.old.ops + OPS_FOR_SIZE * (1 + expr_size operand.now) ≤ PROGRAM_OPS }
-    ensures code { OnOk result (Adds (OPS_FOR_SIZE * (1 + expr_size operand.now) - 2) (ExprCode line out.old.marks (unary_meant op (meant (context_in names.now out.old) operand.now)).expr) out.old out.new) }
-    ensures tells { IfOk result (λ told. Tells names.now told (unary_meant op (meant (context_in names.now out.old) operand.now))) }
+    ensures code { OnOk result (Adds (OPS_FOR_SIZE * (1 + expr_size operand.now) - 2)
+        (ExprCode line out.old.marks
+        (unary_meant op (meant (context_in names.now out.old) operand.now)).expr) out.old out.new) }
+    ensures tells { IfOk result (λ told. Tells names.now told
+        (unary_meant op (meant (context_in names.now out.old) operand.now))) }
 {
     match op {
         UnaryOp::Minus => {
@@ -145,9 +154,16 @@ fn lower_assign(
     names: &ProgramNames,
     out: &mut Draft,
 ) -> Result<ExprMeaning, AllocError>
-    requires { length out.old.ops + OPS_FOR_SIZE * (1 + expr_size place.now + expr_size value.now) ≤ PROGRAM_OPS }
-    ensures code { OnOk result (Adds (OPS_FOR_SIZE * (1 + expr_size place.now + expr_size value.now) - 2) (ExprCode line out.old.marks (assign_meant op (meant (context_in names.now out.old) place.now) (meant (context_in names.now out.old) value.now)).expr) out.old out.new) }
-    ensures tells { IfOk result (λ told. Tells names.now told (assign_meant op (meant (context_in names.now out.old) place.now) (meant (context_in names.now out.old) value.now))) }
+    requires { length out.old.ops + OPS_FOR_SIZE * (1 + expr_size place.now + expr_size value.now)
+        ≤ PROGRAM_OPS }
+    ensures code { OnOk result (Adds
+        (OPS_FOR_SIZE * (1 + expr_size place.now + expr_size value.now) - 2)
+        (ExprCode line out.old.marks
+        (assign_meant op (meant (context_in names.now out.old) place.now)
+        (meant (context_in names.now out.old) value.now)).expr) out.old out.new) }
+    ensures tells { IfOk result (λ told. Tells names.now told
+        (assign_meant op (meant (context_in names.now out.old) place.now)
+        (meant (context_in names.now out.old) value.now))) }
 {
     let start = out.here();
     let told = lower_expr(place, line, names, out)?;
@@ -168,7 +184,10 @@ fn lower_written(
     requires settled { out.old.settled ≤ start }
     requires inside { start ≤ length out.old.ops }
     requires room { length out.old.ops + OPS_FOR_SIZE * expr_size value.now + 5 ≤ PROGRAM_OPS }
-    ensures { IfOk result (λ after. Grows names.now (OPS_FOR_SIZE * expr_size value.now + 5) line out.old.marks start (λ m. assign_meant op m (meant (context_in names.now out.old) value.now)) told after out.old out.new) }
+    ensures { IfOk result (λ after. Grows names.now (OPS_FOR_SIZE * expr_size value.now
+        + 5) line out.old.marks start
+        (λ m. assign_meant op m (meant (context_in names.now out.old) value.now)) told after out.old
+        out.new) }
 {
     match told.standing.variable() {
         Some(cell) => {
@@ -194,7 +213,9 @@ fn lower_to_variable(
     out: &mut Draft,
 ) -> Result<(), AllocError>
     requires { length out.old.ops + OPS_FOR_SIZE * expr_size value.now + 5 ≤ PROGRAM_OPS }
-    ensures { OnOk result (Adds (OPS_FOR_SIZE * expr_size value.now + 5) (VariableCode line out.old.marks op cell (shape_as scalar) (value_of (meant (context_in names.now out.old) value.now))) out.old out.new) }
+    ensures { OnOk result (Adds (OPS_FOR_SIZE * expr_size value.now + 5)
+        (VariableCode line out.old.marks op cell (shape_as scalar)
+        (value_of (meant (context_in names.now out.old) value.now))) out.old out.new) }
 {
     match op {
         None => {
@@ -224,7 +245,9 @@ fn lower_to_place(
     out: &mut Draft,
 ) -> Result<(), AllocError>
     requires { length out.old.ops + OPS_FOR_SIZE * expr_size value.now + 5 ≤ PROGRAM_OPS }
-    ensures { OnOk result (Adds (OPS_FOR_SIZE * expr_size value.now + 5) (PlaceCode line out.old.marks op (shape_as scalar) (value_of (meant (context_in names.now out.old) value.now))) out.old out.new) }
+    ensures { OnOk result (Adds (OPS_FOR_SIZE * expr_size value.now + 5)
+        (PlaceCode line out.old.marks op (shape_as scalar)
+        (value_of (meant (context_in names.now out.old) value.now))) out.old out.new) }
 {
     match op {
         None => {
@@ -253,8 +276,12 @@ fn lower_links(
 ) -> Result<ExprMeaning, AllocError>
     requires settled { out.old.settled ≤ start }
     requires inside { start ≤ length out.old.ops }
-    requires room { length out.old.ops + OPS_FOR_SIZE * links_size (links_of links.now) ≤ PROGRAM_OPS }
-    ensures { IfOk result (λ told. Grows names.now (OPS_FOR_SIZE * links_size (links_of links.now)) line out.old.marks start (chain_meant (context_in names.now out.old) (links_of links.now)) first told out.old out.new) }
+    requires room { length out.old.ops + OPS_FOR_SIZE * links_size (links_of links.now)
+        ≤ PROGRAM_OPS }
+    ensures { IfOk result (λ told. Grows names.now
+        (OPS_FOR_SIZE * links_size (links_of links.now)) line out.old.marks start
+        (chain_meant (context_in names.now out.old) (links_of links.now)) first told out.old
+        out.new) }
 {
     let mut told = first;
     for link in links {
@@ -275,7 +302,9 @@ fn lower_link(
     requires settled { out.old.settled ≤ start }
     requires inside { start ≤ length out.old.ops }
     requires room { length out.old.ops + OPS_FOR_SIZE * link_size link.now ≤ PROGRAM_OPS }
-    ensures { IfOk result (λ told. Grows names.now (OPS_FOR_SIZE * link_size link.now) line out.old.marks start (link_meant (context_in names.now out.old) link.now) left told out.old out.new) }
+    ensures { IfOk result (λ told. Grows names.now
+        (OPS_FOR_SIZE * link_size link.now) line out.old.marks start
+        (link_meant (context_in names.now out.old) link.now) left told out.old out.new) }
 {
     let joining = joined_by(link.op);
     put_load(left, start, line, out)?;
@@ -292,7 +321,9 @@ fn lower_right(
     out: &mut Draft,
 ) -> Result<(), AllocError>
     requires { length out.old.ops + OPS_FOR_SIZE * expr_size right.now + 4 ≤ PROGRAM_OPS }
-    ensures { OnOk result (Adds (OPS_FOR_SIZE * expr_size right.now + 4) (RightCode line out.old.marks joining (value_of (meant (context_in names.now out.old) right.now))) out.old out.new) }
+    ensures { OnOk result (Adds (OPS_FOR_SIZE * expr_size right.now + 4)
+        (RightCode line out.old.marks joining
+        (value_of (meant (context_in names.now out.old) right.now))) out.old out.new) }
 {
     match joining {
         BinaryCode::Either => {
@@ -336,8 +367,11 @@ fn lower_parts(
 ) -> Result<ExprMeaning, AllocError>
     requires settled { out.old.settled ≤ start }
     requires inside { start ≤ length out.old.ops }
-    requires room { length out.old.ops + OPS_FOR_SIZE * parts_size (parts_of parts.now) ≤ PROGRAM_OPS }
-    ensures { IfOk result (λ told. Grows names.now (OPS_FOR_SIZE * parts_size (parts_of parts.now)) line out.old.marks start (parts_meant (context_in names.now out.old) (parts_of parts.now)) root told out.old out.new) }
+    requires room { length out.old.ops + OPS_FOR_SIZE * parts_size (parts_of parts.now)
+        ≤ PROGRAM_OPS }
+    ensures { IfOk result (λ told. Grows names.now
+        (OPS_FOR_SIZE * parts_size (parts_of parts.now)) line out.old.marks start
+        (parts_meant (context_in names.now out.old) (parts_of parts.now)) root told out.old out.new) }
 {
     let mut told = root;
     for part in parts {
@@ -358,7 +392,9 @@ fn lower_part(
     requires settled { out.old.settled ≤ start }
     requires inside { start ≤ length out.old.ops }
     requires room { length out.old.ops + OPS_FOR_SIZE * part_size part.now ≤ PROGRAM_OPS }
-    ensures { IfOk result (λ after. Grows names.now (OPS_FOR_SIZE * part_size part.now) line out.old.marks start (part_meant (context_in names.now out.old) part.now) told after out.old out.new) }
+    ensures { IfOk result (λ after. Grows names.now
+        (OPS_FOR_SIZE * part_size part.now) line out.old.marks start
+        (part_meant (context_in names.now out.old) part.now) told after out.old out.new) }
 {
     match &part.form {
         PartForm::Field { name } => lower_field(name, told, start, line, names, out),
@@ -380,7 +416,10 @@ fn lower_index(
     requires settled { out.old.settled ≤ start }
     requires inside { start ≤ length out.old.ops }
     requires room { length out.old.ops + OPS_FOR_SIZE * (1 + expr_size index.now) ≤ PROGRAM_OPS }
-    ensures { IfOk result (λ after. Grows names.now (OPS_FOR_SIZE * (1 + expr_size index.now)) line out.old.marks start (λ m. element_meant names.now m (meant (context_in names.now out.old) index.now)) told after out.old out.new) }
+    ensures { IfOk result (λ after. Grows names.now
+        (OPS_FOR_SIZE * (1 + expr_size index.now)) line out.old.marks start
+        (λ m. element_meant names.now m (meant (context_in names.now out.old) index.now)) told after
+        out.old out.new) }
 {
     match told.elements {
         None => {
@@ -460,8 +499,12 @@ fn lower_call(
 ) -> Result<ExprMeaning, AllocError>
     requires settled { out.old.settled ≤ start }
     requires inside { start ≤ length out.old.ops }
-    requires room { length out.old.ops + OPS_FOR_SIZE * (1 + exprs_size (exprs_of args.now)) ≤ PROGRAM_OPS }
-    ensures { IfOk result (λ after. Grows names.now (OPS_FOR_SIZE * (1 + exprs_size (exprs_of args.now))) line out.old.marks start (λ m. call_meant names.now m (args_meant (context_in names.now out.old) (exprs_of args.now))) told after out.old out.new) }
+    requires room { length out.old.ops + OPS_FOR_SIZE * (1 + exprs_size (exprs_of args.now))
+        ≤ PROGRAM_OPS }
+    ensures { IfOk result (λ after. Grows names.now
+        (OPS_FOR_SIZE * (1 + exprs_size (exprs_of args.now))) line out.old.marks start
+        (λ m. call_meant names.now m
+        (args_meant (context_in names.now out.old) (exprs_of args.now))) told after out.old out.new) }
 {
     match told.standing {
         Standing::Fail => {
@@ -512,9 +555,14 @@ fn lower_condition_call(
     names: &ProgramNames,
     out: &mut Draft,
 ) -> Result<ExprMeaning, AllocError>
-    requires { length out.old.ops + OPS_FOR_SIZE * (1 + exprs_size (exprs_of args.now)) ≤ PROGRAM_OPS }
-    ensures code { OnOk result (Adds (OPS_FOR_SIZE * (1 + exprs_size (exprs_of args.now))) (CalledCode line out.old.marks (call_of call) (stored_by (args_meant (context_in names.now out.old) (exprs_of args.now)))) out.old out.new) }
-    ensures tells { IfOk result (λ told. (e : Resolved) (values : List Meant) → Tells names.now told (condition_called (call_of call) e values)) }
+    requires { length out.old.ops + OPS_FOR_SIZE * (1 + exprs_size (exprs_of args.now))
+        ≤ PROGRAM_OPS }
+    ensures code { OnOk result (Adds (OPS_FOR_SIZE * (1 + exprs_size (exprs_of args.now)))
+        (CalledCode line out.old.marks (call_of call)
+        (stored_by (args_meant (context_in names.now out.old) (exprs_of args.now)))) out.old
+        out.new) }
+    ensures tells { IfOk result (λ told. (e : Resolved) (values : List Meant) →
+        Tells names.now told (condition_called (call_of call) e values)) }
 {
     match call {
         ConditionCall::Wait => {
@@ -549,8 +597,12 @@ fn lower_stored(
     names: &ProgramNames,
     out: &mut Draft,
 ) -> Result<(), AllocError>
-    requires { length out.old.ops + OPS_FOR_SIZE * exprs_size (exprs_of args.now) + 1 ≤ PROGRAM_OPS }
-    ensures { OnOk result (Adds (OPS_FOR_SIZE * exprs_size (exprs_of args.now) + 1) (ExprCode line out.old.marks (stored_by (args_meant (context_in names.now out.old) (exprs_of args.now)))) out.old out.new) }
+    requires { length out.old.ops + OPS_FOR_SIZE * exprs_size (exprs_of args.now) + 1
+        ≤ PROGRAM_OPS }
+    ensures { OnOk result (Adds (OPS_FOR_SIZE * exprs_size (exprs_of args.now) + 1)
+        (ExprCode line out.old.marks
+        (stored_by (args_meant (context_in names.now out.old) (exprs_of args.now)))) out.old
+        out.new) }
 {
     match args.first() {
         Some(arg) => {
@@ -571,7 +623,10 @@ pub fn lower_args(
     out: &mut Draft,
 ) -> Result<(), AllocError>
     requires { length out.old.ops + OPS_FOR_SIZE * exprs_size (exprs_of args.now) ≤ PROGRAM_OPS }
-    ensures { OnOk result (Adds (OPS_FOR_SIZE * exprs_size (exprs_of args.now)) (ArgumentsCode line out.old.marks (args_by params.now (args_meant (context_in names.now out.old) (exprs_of args.now)))) out.old out.new) }
+    ensures { OnOk result (Adds (OPS_FOR_SIZE * exprs_size (exprs_of args.now))
+        (ArgumentsCode line out.old.marks
+        (args_by params.now (args_meant (context_in names.now out.old) (exprs_of args.now))))
+        out.old out.new) }
 {
     for (place, arg) in args.iter().enumerate() {
         if place < params.len() {
@@ -591,7 +646,9 @@ fn lower_arg(
     out: &mut Draft,
 ) -> Result<(), AllocError>
     requires { length out.old.ops + OPS_FOR_SIZE * expr_size arg.now ≤ PROGRAM_OPS }
-    ensures { OnOk result (Adds (OPS_FOR_SIZE * expr_size arg.now) (ArgumentCode line out.old.marks param.now (meant (context_in names.now out.old) arg.now)) out.old out.new) }
+    ensures { OnOk result (Adds (OPS_FOR_SIZE * expr_size arg.now)
+        (ArgumentCode line out.old.marks param.now (meant (context_in names.now out.old) arg.now))
+        out.old out.new) }
 {
     let start = out.here();
     let told = lower_expr(arg, line, names, out)?;

@@ -156,7 +156,8 @@ fn note_field(
     declarator: &Declarator,
 ) -> Result<(), AllocError>
     requires { HasNames table.old }
-    ensures { OnOk result (Notes sizes.now held.now (record { base = base.now; declarator = declarator.now } ∷ []) table.old table.new) }
+    ensures { OnOk result (Notes sizes.now held.now
+        (record { base = base.now; declarator = declarator.now } ∷ []) table.old table.new) }
 {
     let place = table.fields.len();
     let what = held_at(held, place);
@@ -195,7 +196,8 @@ fn note_declarators(
     declarators: &[Declarator],
 ) -> Result<(), AllocError>
     requires { HasNames table.old }
-    ensures { OnOk result (Notes sizes.now held.now (declared_fields base.now declarators.now) table.old table.new) }
+    ensures { OnOk result (Notes sizes.now held.now
+        (declared_fields base.now declarators.now) table.old table.new) }
 {
     for declarator in declarators {
         note_field(table, sizes, held, base, declarator)?;
@@ -210,7 +212,8 @@ fn note_member(
     form: &MemberForm,
 ) -> Result<(), AllocError>
     requires { HasNames table.old }
-    ensures { OnOk result (Notes sizes.now held.now (form_fields (member_form_at form.now)) table.old table.new) }
+    ensures { OnOk result (Notes sizes.now held.now
+        (form_fields (member_form_at form.now)) table.old table.new) }
 {
     match form {
         MemberForm::Fields {
@@ -275,7 +278,9 @@ fn field_at(fields: &[Field], place: usize) -> Option<Field>
 
 // The field of a name, by the table of its class.
 fn field_in(table: &FieldTable, name: &Name) -> Option<Field>
-    ensures { (p : Program) (i : ℕ) (c : Whole) → class_at p i ≡ Some c → AreFields p i c table.now → MatchOption result (no_field p i name.now (Some c)) (λ v. IsField p i name.now v) }
+    ensures { (p : Program) (i : ℕ) (c : Whole) → class_at p i ≡ Some c →
+        AreFields p i c table.now →
+        MatchOption result (no_field p i name.now (Some c)) (λ v. IsField p i name.now v) }
 {
     match place_in(&table.names, name) {
         Some(place) => field_at(&table.fields, place),
@@ -285,7 +290,9 @@ fn field_in(table: &FieldTable, name: &Name) -> Option<Field>
 
 /// The field of a name in the class with this place, by the tables of all classes.
 pub fn field_of(tables: &[FieldTable], class: usize, name: &Name) -> Option<Field>
-    ensures { (p : Program) → AreTables p tables.now → MatchOption result (no_field p class name.now (class_at p class)) (λ v. IsField p class name.now v) }
+    ensures { (p : Program) → AreTables p tables.now →
+        MatchOption result (no_field p class name.now (class_at p class))
+        (λ v. IsField p class name.now v) }
 {
     match tables.get(class) {
         Some(table) => field_in(table, name),
@@ -295,7 +302,9 @@ pub fn field_of(tables: &[FieldTable], class: usize, name: &Name) -> Option<Fiel
 
 /// The field with this place in the class with this place.
 pub fn nth_field(tables: &[FieldTable], class: usize, place: usize) -> Option<Field>
-    ensures { (p : Program) → AreTables p tables.now → MatchOption result (no_field_at place (class_at p class)) (λ v. IsNthField p class place v) }
+    ensures { (p : Program) → AreTables p tables.now →
+        MatchOption result (no_field_at place (class_at p class))
+        (λ v. IsNthField p class place v) }
 {
     match tables.get(class) {
         Some(table) => field_at(&table.fields, place),

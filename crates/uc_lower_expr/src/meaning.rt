@@ -165,7 +165,14 @@ impl Scalar {
 impl ExprMeaning {
     /// A scalar value.
     pub fn value(scalar: Scalar) -> ExprMeaning
-        ensures { result ≡ record { scalar = scalar; class = None; numbered = false; event = None; elements = None; standing = Standing.Value } }
+        ensures { result ≡ record {
+          scalar = scalar;
+          class = None;
+          numbered = false;
+          event = None;
+          elements = None;
+          standing = Standing.Value;
+        } }
     {
         ExprMeaning {
             scalar,
@@ -179,7 +186,14 @@ impl ExprMeaning {
 
     /// What breaks a rule: the value 0, which stands for nothing.
     pub fn nothing() -> ExprMeaning
-        ensures { result ≡ record { scalar = Scalar.Number; class = None; numbered = false; event = None; elements = None; standing = Standing.Nothing } }
+        ensures { result ≡ record {
+          scalar = Scalar.Number;
+          class = None;
+          numbered = false;
+          event = None;
+          elements = None;
+          standing = Standing.Nothing;
+        } }
     {
         ExprMeaning {
             scalar: Scalar::Number,

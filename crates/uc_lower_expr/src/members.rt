@@ -28,8 +28,12 @@ pub(crate) fn lower_name(
     out: &mut Draft,
 ) -> Result<ExprMeaning, AllocError>
     requires { length out.old.ops < PROGRAM_OPS }
-    ensures code { OnOk result (Adds 1 (ExprCode line out.old.marks (name_meant names.now out.old.place.class name.now (known_named out.old.names name.now)).expr) out.old out.new) }
-    ensures tells { IfOk result (λ told. Tells names.now told (name_meant names.now out.old.place.class name.now (known_named out.old.names name.now))) }
+    ensures code { OnOk result (Adds 1
+        (ExprCode line out.old.marks
+        (name_meant names.now out.old.place.class name.now
+        (known_named out.old.names name.now)).expr) out.old out.new) }
+    ensures tells { IfOk result (λ told. Tells names.now told
+        (name_meant names.now out.old.place.class name.now (known_named out.old.names name.now))) }
 {
     match variable_named(out, names, name) {
         Some(variable) => {
@@ -52,8 +56,11 @@ fn lower_own_name(
     out: &mut Draft,
 ) -> Result<ExprMeaning, AllocError>
     requires { length out.old.ops < PROGRAM_OPS }
-    ensures code { OnOk result (Adds 1 (ExprCode line out.old.marks (own_meant names.now (Some class) name.now).expr) out.old out.new) }
-    ensures tells { IfOk result (λ told. Tells names.now told (own_meant names.now (Some class) name.now)) }
+    ensures code { OnOk result (Adds 1
+        (ExprCode line out.old.marks (own_meant names.now (Some class) name.now).expr) out.old
+        out.new) }
+    ensures tells { IfOk result (λ told. Tells names.now told
+        (own_meant names.now (Some class) name.now)) }
 {
     match names.field(class, name) {
         Some(field) => match field.condition {
@@ -105,8 +112,11 @@ fn lower_own_member(
 ) -> Result<ExprMeaning, AllocError>
     requires room { length out.old.ops < PROGRAM_OPS }
     requires no_field { no_field names.now class name.now (class_at names.now class) }
-    ensures code { OnOk result (Adds 1 (ExprCode line out.old.marks (own_meant names.now (Some class) name.now).expr) out.old out.new) }
-    ensures tells { IfOk result (λ told. Tells names.now told (own_meant names.now (Some class) name.now)) }
+    ensures code { OnOk result (Adds 1
+        (ExprCode line out.old.marks (own_meant names.now (Some class) name.now).expr) out.old
+        out.new) }
+    ensures tells { IfOk result (λ told. Tells names.now told
+        (own_meant names.now (Some class) name.now)) }
 {
     match names.member(class, name) {
         Some(routine) => {
@@ -132,7 +142,8 @@ fn lower_item_name(
     out: &mut Draft,
 ) -> Result<ExprMeaning, AllocError>
     requires { length out.old.ops < PROGRAM_OPS }
-    ensures code { OnOk result (Adds 1 (ExprCode line out.old.marks (item_meant names.now name.now).expr) out.old out.new) }
+    ensures code { OnOk result (Adds 1
+        (ExprCode line out.old.marks (item_meant names.now name.now).expr) out.old out.new) }
     ensures tells { IfOk result (λ told. Tells names.now told (item_meant names.now name.now)) }
 {
     match names.constant(name) {
@@ -148,7 +159,8 @@ fn lower_item_name(
 }
 
 fn routine_told(name: &Name, names: &ProgramNames) -> ExprMeaning
-    ensures { Tells names.now result (routine_meant_by names.now (routine_from (routines_of names.now) 0 name.now)) }
+    ensures { Tells names.now result
+        (routine_meant_by names.now (routine_from (routines_of names.now) 0 name.now)) }
 {
     match names.routine(name) {
         Some(routine) => names
@@ -170,7 +182,8 @@ pub(crate) fn lower_field(
     requires settled { out.old.settled ≤ start }
     requires inside { start ≤ length out.old.ops }
     requires room { length out.old.ops + OPS_FOR_SIZE ≤ PROGRAM_OPS }
-    ensures { IfOk result (λ after. Grows names.now OPS_FOR_SIZE line out.old.marks start (λ m. field_meant names.now m name.now) told after out.old out.new) }
+    ensures { IfOk result (λ after. Grows names.now OPS_FOR_SIZE line out.old.marks start
+        (λ m. field_meant names.now m name.now) told after out.old out.new) }
 {
     match told.standing {
         Standing::Input => lower_input_member(name, start, line, out),
@@ -202,7 +215,15 @@ pub(crate) fn put_nothing(start: u32, line: u32, out: &mut Draft) -> Result<Expr
     requires inside { start ≤ length out.old.ops }
     requires room { start < PROGRAM_OPS }
     ensures code { OnOk result (Restarts (Op.Push (pos 0)) line start out.old out.new) }
-    ensures tells { IfOk result (λ told. told ≡ record { scalar = Scalar.Number; class = None; numbered = false; event = None; elements = None; standing = Standing.Nothing }) }
+    ensures tells { IfOk result (λ told. told
+        ≡ record {
+          scalar = Scalar.Number;
+          class = None;
+          numbered = false;
+          event = None;
+          elements = None;
+          standing = Standing.Nothing;
+        }) }
 {
     restart(Op::Push(0), start, line, out)?;
     Ok(ExprMeaning::nothing())
@@ -246,7 +267,8 @@ fn lower_member(
     requires settled { out.old.settled ≤ start }
     requires inside { start ≤ length out.old.ops }
     requires room { length out.old.ops + OPS_FOR_SIZE ≤ PROGRAM_OPS }
-    ensures { IfOk result (λ after. Grows names.now OPS_FOR_SIZE line out.old.marks start (λ m. place_member names.now m.ty.len m name.now) told after out.old out.new) }
+    ensures { IfOk result (λ after. Grows names.now OPS_FOR_SIZE line out.old.marks start
+        (λ m. place_member names.now m.ty.len m name.now) told after out.old out.new) }
 {
     match told.elements {
         Some(_) => put_nothing(start, line, out),
@@ -286,7 +308,8 @@ fn lower_member_of(
     requires settled { out.old.settled ≤ start }
     requires inside { start ≤ length out.old.ops }
     requires room { length out.old.ops + OPS_FOR_SIZE ≤ PROGRAM_OPS }
-    ensures { IfOk result (λ after. Grows names.now OPS_FOR_SIZE line out.old.marks start (λ m. member_meant names.now class (Of m.expr) name.now) told after out.old out.new) }
+    ensures { IfOk result (λ after. Grows names.now OPS_FOR_SIZE line out.old.marks start
+        (λ m. member_meant names.now class (Of m.expr) name.now) told after out.old out.new) }
 {
     match names.field(class, name) {
         Some(field) => match field.condition {
@@ -313,7 +336,8 @@ fn lower_member_of(
 // Behind the place of an object that of a field, or what that holds.
 fn put_field(field: Field, line: u32, out: &mut Draft) -> Result<(), AllocError>
     requires { length out.old.ops + 2 ≤ PROGRAM_OPS }
-    ensures { OnOk result (Adds 2 (FieldCode line (field.number || field.by_ref) field.cell) out.old out.new) }
+    ensures { OnOk result (Adds 2
+        (FieldCode line (field.number || field.by_ref) field.cell) out.old out.new) }
 {
     put(Op::Field(field.cell), line, out)?;
     if field.is_held() {

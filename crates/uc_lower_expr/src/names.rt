@@ -40,7 +40,8 @@ fn is_held(number: bool, by_ref: bool) -> bool
 }
 
 pub(crate) fn variable_named(out: &Draft, names: &ProgramNames, name: &Name) -> Option<Variable>
-    ensures { MatchOption result (known_named out.now.names name.now ≡ None) (λ v. IsVariable names.now out.now.names name.now v) }
+    ensures { MatchOption result (known_named out.now.names name.now
+        ≡ None) (λ v. IsVariable names.now out.now.names name.now v) }
 {
     match out.find(name.bytes()) {
         Some(known) => {

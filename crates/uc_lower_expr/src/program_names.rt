@@ -124,7 +124,9 @@ fn note_alone(
 ) -> Result<(), AllocError>
     requires { length numbers.old ≡ 1 }
     ensures one { OnOk result (length numbers.new ≡ 1) }
-    ensures noted { OnOk result ((ds : List Defined) (d : Defined) → d.routine ≡ routine.now → d.number ≡ owner → length ds ≡ number → AreAmong ds numbers.old → AreAmong (ds ++ d ∷ []) numbers.new) }
+    ensures noted { OnOk result ((ds : List Defined) (d : Defined) → d.routine ≡ routine.now →
+        d.number ≡ owner → length ds ≡ number → AreAmong ds numbers.old →
+        AreAmong (ds ++ d ∷ []) numbers.new) }
 {
     let sig = sig_of(routine);
     if !is_called_alone(owner, sig) {
@@ -142,7 +144,9 @@ fn note_alone(
 // The numbers of those of these routines that are called by their names alone. `owners` are the numbers of their classes.
 fn numbers_of(alloc: Global, routines: &[&Routine], owners: &[u32]) -> Result<Scope, AllocError>
     requires { length owners.now ≡ length routines.now }
-    ensures { IfOk result (λ numbers. (ds : List Defined) → map (λ d. d.routine) ds ≡ map (λ r. r.now) routines.now → map (λ d. d.number) ds ≡ owners.now → AreAmong ds numbers) }
+    ensures { IfOk result (λ numbers. (ds : List Defined) →
+        map (λ d. d.routine) ds ≡ map (λ r. r.now) routines.now →
+        map (λ d. d.number) ds ≡ owners.now → AreAmong ds numbers) }
 {
     let mut numbers = no_places(alloc)?;
     for place in 0..routines.len() {
@@ -256,7 +260,8 @@ fn member_number(place: Option<usize>) -> Option<u8>
 
 // The number of a mutex member of the class with this place, by the places of the members of all classes.
 fn mutex_number_of(members: &[Scope], class: usize, name: &Name) -> Option<u8>
-    ensures { (p : Program) → AreExclusive p members.now → result ≡ mutex_number_in (class_at p class) name.now }
+    ensures { (p : Program) → AreExclusive p members.now →
+        result ≡ mutex_number_in (class_at p class) name.now }
 {
     match members.get(class) {
         Some(places) => {
@@ -278,8 +283,10 @@ fn note_class(
 ) -> Result<(), AllocError>
     requires there { class_at sizes.now place ≡ Some class.now }
     requires fit { FitClasses sizes.now }
-    ensures fields { OnOk result (NotesFields sizes.now place class.now fields.old.items fields.new.items) }
-    ensures objects { OnOk result (objects.new.items ≡ objects.old.items ++ object_places (class.now ∷ []) place) }
+    ensures fields { OnOk result (NotesFields sizes.now place class.now fields.old.items
+        fields.new.items) }
+    ensures objects { OnOk result (objects.new.items
+        ≡ objects.old.items ++ object_places (class.now ∷ []) place) }
 {
     fields.push(fields_of(alloc, sizes, place, class)?)?;
     if !is_event(class.kind) {
@@ -301,7 +308,8 @@ fn note_classes(
     requires fields { fields.old.items ≡ [] }
     requires objects { objects.old.items ≡ [] }
     ensures fields { OnOk result (AreTables sizes.now fields.new.items) }
-    ensures objects { OnOk result (objects.new.items ≡ object_places (classes_of sizes.now.items) 0) }
+    ensures objects { OnOk result (objects.new.items
+        ≡ object_places (classes_of sizes.now.items) 0) }
 {
     for place in 0..count {
         match sizes.class(place) {
@@ -400,7 +408,8 @@ impl<'a> ProgramNames<'a> {
 
     /// The constant of a name. One that has no value counts as 0.
     pub fn constant(&self, name: &Name) -> Option<ConstantMeaning>
-        ensures { MatchOption result (constant_named (constants_of self.now.items) name.now ≡ None) (λ v. IsFixed self.now name.now v) }
+        ensures { MatchOption result (constant_named (constants_of self.now.items) name.now
+            ≡ None) (λ v. IsFixed self.now name.now v) }
     {
         match self.sizes.constant(name) {
             Some(constant) => Some(ConstantMeaning {
@@ -431,7 +440,9 @@ impl<'a> ProgramNames<'a> {
 
     /// What is told of the value that a routine hands over.
     pub fn result(&self, number: u32) -> ExprMeaning
-        ensures { (e : Expr) → Tells self.now result (record { expr = e; ty = scalar (result_of self.now number); standing = AsValue }) }
+        ensures { (e : Expr) →
+            Tells self.now result
+            (record { expr = e; ty = scalar (result_of self.now number); standing = AsValue }) }
     {
         match routine_at(&self.numbering.routines, number) {
             Some(routine) => value_of_base(self.sizes, result_of(sig_of(routine))),
@@ -469,7 +480,8 @@ impl<'a> ProgramNames<'a> {
 
     /// The field of a name in the class with this place.
     pub fn field(&self, class: usize, name: &Name) -> Option<Field>
-        ensures { MatchOption result (no_field self.now class name.now (class_at self.now class)) (λ v. IsField self.now class name.now v) }
+        ensures { MatchOption result (no_field self.now class name.now (class_at self.now class))
+            (λ v. IsField self.now class name.now v) }
     {
         let field = field_of(&self.fields, class, name);
         field
@@ -477,7 +489,8 @@ impl<'a> ProgramNames<'a> {
 
     /// The field with this place among those of the class with this place.
     pub fn field_at(&self, class: usize, place: usize) -> Option<Field>
-        ensures { MatchOption result (no_field_at place (class_at self.now class)) (λ v. IsNthField self.now class place v) }
+        ensures { MatchOption result (no_field_at place (class_at self.now class))
+            (λ v. IsNthField self.now class place v) }
     {
         let field = nth_field(&self.fields, class, place);
         field
@@ -493,7 +506,8 @@ impl<'a> ProgramNames<'a> {
 
     // The routines of the class with this place.
     fn routines_of(&self, class: usize) -> Option<&RoutineTable>
-        ensures { MatchOption result (class_at self.now class ≡ None) (λ t. HasRoutines self.now class t.now) }
+        ensures { MatchOption result (class_at self.now class
+            ≡ None) (λ t. HasRoutines self.now class t.now) }
     {
         let table = table_of(&self.routines, &self.numbering.classes, class);
         table
@@ -586,7 +600,9 @@ impl<'a> ProgramNames<'a> {
 
     /// The cells of one element of a base that names this class of objects, or none, and what is known by its number or not.
     pub fn element_size(&self, class: Option<usize>, numbered: bool) -> u32
-        ensures { (b : Named) → class_made (making self.now b) ≡ class → is_numbered (making self.now b) ≡ numbered → result ≡ shape_cells (base_shape self.now b) }
+        ensures { (b : Named) → class_made (making self.now b) ≡ class →
+            is_numbered (making self.now b) ≡ numbered →
+            result ≡ shape_cells (base_shape self.now b) }
     {
         if numbered {
             return 1;

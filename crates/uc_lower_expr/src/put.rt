@@ -80,7 +80,8 @@ pub fn put_load(
     requires settled { out.old.settled ≤ start }
     requires inside { start ≤ length out.old.ops }
     requires room { length out.old.ops < PROGRAM_OPS }
-    ensures code { IfOk result (λ after. (p : Program) → Grows p 1 line out.old.marks start fetched told after out.old out.new) }
+    ensures code { IfOk result (λ after. (p : Program) →
+        Grows p 1 line out.old.marks start fetched told after out.old out.new) }
     ensures tells { IfOk result (λ after. after ≡ record told { standing = Standing.Value }) }
 {
     match told.standing {
@@ -157,7 +158,8 @@ pub(crate) fn update_by_one(
     out: &mut Draft,
 ) -> Result<(), AllocError>
     requires { length out.old.ops + 6 ≤ PROGRAM_OPS }
-    ensures { OnOk result (Adds 6 (UpdateCode line out.old.marks op (shape_as scalar) (Literal (pos 1))) out.old out.new) }
+    ensures { OnOk result (Adds 6
+        (UpdateCode line out.old.marks op (shape_as scalar) (Literal (pos 1))) out.old out.new) }
 {
     begin_update(line, out)?;
     put(Op::Push(1), line, out)?;
@@ -174,7 +176,8 @@ fn set_by_one(
     out: &mut Draft,
 ) -> Result<(), AllocError>
     requires { length out.old.ops + 5 ≤ PROGRAM_OPS }
-    ensures { OnOk result (Adds 5 (SetByCode line out.old.marks cell op (shape_as scalar) (Literal (pos 1))) out.old out.new) }
+    ensures { OnOk result (Adds 5
+        (SetByCode line out.old.marks cell op (shape_as scalar) (Literal (pos 1))) out.old out.new) }
 {
     put(Op::Via(cell), line, out)?;
     put(Op::Push(1), line, out)?;
@@ -195,7 +198,8 @@ pub(crate) fn put_bump(
     requires settled { out.old.settled ≤ start }
     requires inside { start ≤ length out.old.ops }
     requires room { length out.old.ops + 6 ≤ PROGRAM_OPS }
-    ensures { IfOk result (λ after. (p : Program) → Grows p 6 line out.old.marks start (bumped step) told after out.old out.new) }
+    ensures { IfOk result (λ after. (p : Program) →
+        Grows p 6 line out.old.marks start (bumped step) told after out.old out.new) }
 {
     match told.standing.variable() {
         Some(cell) => {
@@ -219,7 +223,8 @@ fn put_behind(
     out: &mut Draft,
 ) -> Result<(), AllocError>
     requires { length out.old.ops + 7 ≤ PROGRAM_OPS }
-    ensures { OnOk result (Adds 7 (BehindCode line out.old.marks cell op (shape_as scalar)) out.old out.new) }
+    ensures { OnOk result (Adds 7
+        (BehindCode line out.old.marks cell op (shape_as scalar)) out.old out.new) }
 {
     put(Op::Via(cell), line, out)?;
     set_by_one(op, cell, scalar, line, out)?;
@@ -255,7 +260,8 @@ pub(crate) fn put_stepped(
     requires settled { out.old.settled ≤ start }
     requires inside { start ≤ length out.old.ops }
     requires room { length out.old.ops + 9 ≤ PROGRAM_OPS }
-    ensures { IfOk result (λ after. (p : Program) → Grows p 9 line out.old.marks start (step_meant step) told after out.old out.new) }
+    ensures { IfOk result (λ after. (p : Program) →
+        Grows p 9 line out.old.marks start (step_meant step) told after out.old out.new) }
 {
     match told.standing.variable() {
         Some(cell) => {
@@ -275,7 +281,10 @@ pub(crate) fn put_stepped(
 pub fn close_fork(choose: u32, leave: u32, out: &mut Draft)
     requires order { choose < leave }
     requires inside { leave < length out.old.ops }
-    ensures { out.new ≡ record out.old { ops = patched (patched out.old.ops choose (Op.IfZero (leave + 1))) leave (Op.Jump (length out.old.ops)) } }
+    ensures { out.new ≡ record out.old {
+      ops = patched
+          (patched out.old.ops choose (Op.IfZero (leave + 1))) leave (Op.Jump (length out.old.ops));
+    } }
 {
     let end = out.here();
     out.patch(choose, Op::IfZero(leave + 1));

@@ -69,7 +69,8 @@ fn note_routine(table: &mut RoutineTable, routine: &Routine, number: u32) -> Res
 // So many tables without routines.
 fn empty_tables(alloc: Global, count: usize) -> Result<Vec<RoutineTable>, AllocError>
     ensures long { IfOk result (λ v. length v.items ≡ count) }
-    ensures each { IfOk result (λ v. (number : ℕ) (t : Table) → slice_get v.items number ≡ Some t → AreRoutines [] number t) }
+    ensures each { IfOk result (λ v. (number : ℕ) (t : Table) → slice_get v.items number ≡ Some t →
+        AreRoutines [] number t) }
 {
     let mut tables = Vec::new(alloc);
     for _number in 0..count {
@@ -88,7 +89,10 @@ pub fn tables_of(
 ) -> Result<Vec<RoutineTable>, AllocError>
     requires { length owners.now ≡ length routines.now }
     ensures long { IfOk result (λ v. length v.items ≡ count) }
-    ensures each { IfOk result (λ v. (ds : List Defined) (number : ℕ) (t : Table) → map (λ d. d.routine) ds ≡ map (λ r. r.now) routines.now → map (λ d. d.number) ds ≡ owners.now → slice_get v.items number ≡ Some t → AreRoutines ds number t) }
+    ensures each { IfOk result (λ v. (ds : List Defined) (number : ℕ) (t : Table) →
+        map (λ d. d.routine) ds ≡ map (λ r. r.now) routines.now →
+        map (λ d. d.number) ds ≡ owners.now → slice_get v.items number ≡ Some t →
+        AreRoutines ds number t) }
 {
     let mut tables = empty_tables(alloc, count)?;
     for place in 0..routines.len() {
@@ -121,7 +125,8 @@ fn note_at(
 
 /// The number of the member of a name, by the table of its class.
 pub fn member_in(table: &RoutineTable, name: &Name) -> Option<u32>
-    ensures { (ds : List Defined) (number : ℕ) → AreRoutines ds number table.now → result ≡ member_from ds 0 number name.now }
+    ensures { (ds : List Defined) (number : ℕ) → AreRoutines ds number table.now →
+        result ≡ member_from ds 0 number name.now }
 {
     let number = table.members.find(name.bytes());
     number
@@ -129,14 +134,16 @@ pub fn member_in(table: &RoutineTable, name: &Name) -> Option<u32>
 
 /// The number of the member that is called `main`, by the table of its class; 0 where there is none.
 pub fn main_number_in(table: &RoutineTable) -> u32
-    ensures { (ds : List Defined) (number : ℕ) → AreRoutines ds number table.now → result ≡ unwrap_or (member_from ds 0 number main_name) 0 }
+    ensures { (ds : List Defined) (number : ℕ) → AreRoutines ds number table.now →
+        result ≡ unwrap_or (member_from ds 0 number main_name) 0 }
 {
     let number = table.members.find(b"main");
     number.unwrap_or(0)
 }
 
 fn table_at(tables: &[RoutineTable], number: u32) -> Option<&RoutineTable>
-    ensures { MatchOption result (slice_get tables.now number ≡ None) (λ t. slice_get tables.now number ≡ Some t.now) }
+    ensures { MatchOption result (slice_get tables.now number
+        ≡ None) (λ t. slice_get tables.now number ≡ Some t.now) }
 {
     tables.get(number as usize)
 }
@@ -147,7 +154,9 @@ pub fn table_of<'a>(
     numbers: &[u32],
     class: usize,
 ) -> Option<&'a RoutineTable>
-    ensures { (p : Program) → numbers.now ≡ map (number_of_class p) (classes_of p.items) → AreByNumber p tables.now → MatchOption result (class_at p class ≡ None) (λ t. HasRoutines p class t.now) }
+    ensures { (p : Program) → numbers.now ≡ map (number_of_class p) (classes_of p.items) →
+        AreByNumber p tables.now →
+        MatchOption result (class_at p class ≡ None) (λ t. HasRoutines p class t.now) }
 {
     match numbers.get(class) {
         Some(number) => table_at(tables, *number),

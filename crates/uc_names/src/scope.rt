@@ -64,7 +64,8 @@ impl Scope {
     pub fn declare(&mut self, name: &[u8], id: u32) -> Result<bool, AllocError>
         requires { 0 < length self.old }
         ensures answer { IfOk result (λ new. new ≡ not (is_declared self.old name.now)) }
-        ensures declared { IfOk result (λ new. self.new ≡ (if new then declared self.old name.now id else self.old)) }
+        ensures declared { IfOk result (λ new. self.new
+            ≡ (if new then declared self.old name.now id else self.old)) }
         ensures err { OnErr result (self.new ≡ self.old) }
     {
         let start = innermost(&self.starts);
@@ -123,9 +124,13 @@ fn declare_from(
 ) -> Result<bool, AllocError>
     requires { Agrees names.old (reverse declared.old.items) }
     ensures agrees { Agrees names.new (reverse declared.new.items) }
-    ensures answer { IfOk result (λ new. new ≡ not (is_some (id_in (newer_than start (bindings names.old declared.old.items)) name.now))) }
-    ensures declared { IfOk result (λ new. bindings names.new declared.new.items ≡ (if new then (name.now, id) ∷ bindings names.old declared.old.items else bindings names.old declared.old.items)) }
-    ensures err { OnErr result (bindings names.new declared.new.items ≡ bindings names.old declared.old.items) }
+    ensures answer { IfOk result (λ new. new
+        ≡ not (is_some (id_in (newer_than start (bindings names.old declared.old.items)) name.now))) }
+    ensures declared { IfOk result (λ new. bindings names.new declared.new.items
+        ≡ (if new then (name.now, id) ∷ bindings names.old declared.old.items
+        else bindings names.old declared.old.items)) }
+    ensures err { OnErr result (bindings names.new declared.new.items
+        ≡ bindings names.old declared.old.items) }
 {
     let number = names.see(name)?;
     let hidden = names.place(number);
@@ -147,7 +152,8 @@ fn take_back(names: &mut Newest, declared: &mut Vec<Declaration>, start: usize)
     requires agrees { Agrees names.old (reverse declared.old.items) }
     requires within { start ≤ length declared.old.items }
     ensures agrees { Agrees names.new (reverse declared.new.items) }
-    ensures declared { bindings names.new declared.new.items ≡ drop (length declared.old.items - start) (bindings names.old declared.old.items) }
+    ensures declared { bindings names.new declared.new.items
+        ≡ drop (length declared.old.items - start) (bindings names.old declared.old.items) }
 {
     for _place in start..declared.len() {
         match declared.pop() {

@@ -95,7 +95,8 @@ pub fn samples_of_programs()
     ensures field_length { Nests program_form nesting (codes "class A { int a[2]; };") 2 }
     ensures initialiser { Nests program_form nesting (codes "class A { A() : a(-1) { } };") 3 }
     ensures outer_initialiser { Nests program_form nesting (codes "A::A() : a(1) { }") 1 }
-    ensures member_body { Nests program_form nesting (codes "class A { int a; void f() { ; } };") 3 }
+    ensures member_body { Nests program_form nesting
+        (codes "class A { int a; void f() { ; } };") 3 }
     ensures constant { Nests program_form nesting (codes "const int a = -1;") 1 }
     ensures forward { Nests program_form nesting (codes "class A;") 0 }
     ensures items { Nests program_form nesting (codes "class A { }; void f() { ; }") 2 }

@@ -36,7 +36,8 @@ fn class_at(number: usize) -> Option<u32>
 
 /// The number of the class of this name among these classes of a program, none for an event.
 pub fn class_number(classes: &[&Class], name: &Name) -> Option<u32>
-    ensures { result ≡ option_and_then (at_most LAST_CLASS) (place_from 1 (class_names (map (λ c. c.now) classes.now)) name.now) }
+    ensures { result ≡ option_and_then (at_most LAST_CLASS)
+        (place_from 1 (class_names (map (λ c. c.now) classes.now)) name.now) }
 {
     let mut number: usize = 1;
     for class in classes {
@@ -61,7 +62,8 @@ fn event_at(number: usize) -> Option<u8>
 }
 
 fn declared_event(classes: &[&Class], name: &Name) -> Option<u8>
-    ensures { result ≡ option_and_then (at_most LAST_EVENT) (place_from FIRST_EVENT (event_names (map (λ c. c.now) classes.now)) name.now) }
+    ensures { result ≡ option_and_then (at_most LAST_EVENT)
+        (place_from FIRST_EVENT (event_names (map (λ c. c.now) classes.now)) name.now) }
 {
     let mut number = FIRST_EVENT as usize;
     for class in classes {

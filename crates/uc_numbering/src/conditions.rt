@@ -20,7 +20,8 @@ fn push_declarators<'a>(
     found: &mut Vec<&'a Declarator>,
     declarators: &'a [Declarator],
 ) -> Result<(), AllocError>
-    ensures { OnOk result (map (λ d. d.now) found.new.items ≡ map (λ d. d.now) found.old.items ++ declarators.now) }
+    ensures { OnOk result (map (λ d. d.now) found.new.items
+        ≡ map (λ d. d.now) found.old.items ++ declarators.now) }
 {
     for declarator in declarators {
         found.push(declarator)?;
@@ -29,7 +30,8 @@ fn push_declarators<'a>(
 }
 
 fn push_form<'a>(found: &mut Vec<&'a Declarator>, form: &'a MemberForm) -> Result<(), AllocError>
-    ensures { OnOk result (map (λ d. d.now) found.new.items ≡ map (λ d. d.now) found.old.items ++ form_conditions (member_form_at form.now)) }
+    ensures { OnOk result (map (λ d. d.now) found.new.items
+        ≡ map (λ d. d.now) found.old.items ++ form_conditions (member_form_at form.now)) }
 {
     match form {
         MemberForm::Fields {
@@ -85,7 +87,9 @@ fn number_among(
     conditions: &[&Declarator],
     name: &Name,
 ) -> Option<u16>
-    ensures { result ≡ option_and_then (at_most LAST_CONDITION) (condition_number_in (seen_in (constants_of sizes.now.items) class.now) 0 (map (λ d. d.now) conditions.now) name.now) }
+    ensures { result ≡ option_and_then (at_most LAST_CONDITION)
+        (condition_number_in (seen_in (constants_of sizes.now.items) class.now) 0
+        (map (λ d. d.now) conditions.now) name.now) }
 {
     let mut number: u64 = 0;
     for declarator in conditions {
@@ -134,7 +138,9 @@ pub fn condition_count(
 }
 
 fn count_of(sizes: &Sizes, class: &Class, conditions: &[&Declarator]) -> u64
-    ensures { result ≡ capped (elements_of (seen_in (constants_of sizes.now.items) class.now) (map (λ d. d.now) conditions.now)) }
+    ensures { result ≡ capped
+        (elements_of (seen_in (constants_of sizes.now.items) class.now)
+        (map (λ d. d.now) conditions.now)) }
 {
     let mut count: u64 = 0;
     for declarator in conditions {

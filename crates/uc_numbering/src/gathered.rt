@@ -11,7 +11,8 @@ use uc_tree::stmt::{Clause, Handler, Stmt, StmtForm};
 
 /// The statements of a body in textual order: each before the statements in it.
 pub fn statements_of<'a>(alloc: Global, body: &'a [Stmt]) -> Result<Vec<&'a Stmt>, AllocError>
-    ensures { IfOk result (λ v. map (λ s. s.now) v.items ≡ gathered_all itself (stmts_of body.now)) }
+    ensures { IfOk result (λ v. map (λ s. s.now) v.items
+        ≡ gathered_all itself (stmts_of body.now)) }
 {
     let mut found = Vec::new(alloc);
     push_stmts(&mut found, body)?;
@@ -20,7 +21,8 @@ pub fn statements_of<'a>(alloc: Global, body: &'a [Stmt]) -> Result<Vec<&'a Stmt
 
 #[cycle(gathered)]
 fn push_stmt<'a>(found: &mut Vec<&'a Stmt>, s: &'a Stmt) -> Result<(), AllocError>
-    ensures { OnOk result (map (λ s. s.now) found.new.items ≡ map (λ s. s.now) found.old.items ++ gathered itself s.now) }
+    ensures { OnOk result (map (λ s. s.now) found.new.items
+        ≡ map (λ s. s.now) found.old.items ++ gathered itself s.now) }
 {
     found.push(s)?;
     match &s.form {
@@ -84,7 +86,8 @@ fn push_stmt<'a>(found: &mut Vec<&'a Stmt>, s: &'a Stmt) -> Result<(), AllocErro
 
 #[cycle(gathered)]
 fn push_stmts<'a>(found: &mut Vec<&'a Stmt>, stmts: &'a [Stmt]) -> Result<(), AllocError>
-    ensures { OnOk result (map (λ s. s.now) found.new.items ≡ map (λ s. s.now) found.old.items ++ gathered_all itself (stmts_of stmts.now)) }
+    ensures { OnOk result (map (λ s. s.now) found.new.items
+        ≡ map (λ s. s.now) found.old.items ++ gathered_all itself (stmts_of stmts.now)) }
 {
     for s in stmts {
         push_stmt(found, s)?;
@@ -94,7 +97,8 @@ fn push_stmts<'a>(found: &mut Vec<&'a Stmt>, stmts: &'a [Stmt]) -> Result<(), Al
 
 #[cycle(gathered)]
 fn push_handlers<'a>(found: &mut Vec<&'a Stmt>, handlers: &'a [Handler]) -> Result<(), AllocError>
-    ensures { OnOk result (map (λ s. s.now) found.new.items ≡ map (λ s. s.now) found.old.items ++ gathered_handlers itself (handlers_of handlers.now)) }
+    ensures { OnOk result (map (λ s. s.now) found.new.items
+        ≡ map (λ s. s.now) found.old.items ++ gathered_handlers itself (handlers_of handlers.now)) }
 {
     for handler in handlers {
         push_handler(found, handler)?;
@@ -104,7 +108,8 @@ fn push_handlers<'a>(found: &mut Vec<&'a Stmt>, handlers: &'a [Handler]) -> Resu
 
 #[cycle(gathered)]
 fn push_clauses<'a>(found: &mut Vec<&'a Stmt>, clauses: &'a [Clause]) -> Result<(), AllocError>
-    ensures { OnOk result (map (λ s. s.now) found.new.items ≡ map (λ s. s.now) found.old.items ++ gathered_clauses itself (clauses_of clauses.now)) }
+    ensures { OnOk result (map (λ s. s.now) found.new.items
+        ≡ map (λ s. s.now) found.old.items ++ gathered_clauses itself (clauses_of clauses.now)) }
 {
     for clause in clauses {
         push_clause(found, clause)?;
@@ -114,7 +119,8 @@ fn push_clauses<'a>(found: &mut Vec<&'a Stmt>, clauses: &'a [Clause]) -> Result<
 
 #[cycle(gathered)]
 fn push_maybe<'a>(found: &mut Vec<&'a Stmt>, s: &'a Option<Box<Stmt>>) -> Result<(), AllocError>
-    ensures { OnOk result (map (λ s. s.now) found.new.items ≡ map (λ s. s.now) found.old.items ++ gathered_maybe itself (maybe_at s.now)) }
+    ensures { OnOk result (map (λ s. s.now) found.new.items
+        ≡ map (λ s. s.now) found.old.items ++ gathered_maybe itself (maybe_at s.now)) }
 {
     match s {
         Some(s) => {
@@ -127,7 +133,8 @@ fn push_maybe<'a>(found: &mut Vec<&'a Stmt>, s: &'a Option<Box<Stmt>>) -> Result
 
 #[cycle(gathered)]
 fn push_handler<'a>(found: &mut Vec<&'a Stmt>, handler: &'a Handler) -> Result<(), AllocError>
-    ensures { OnOk result (map (λ s. s.now) found.new.items ≡ map (λ s. s.now) found.old.items ++ gathered_handler itself handler.now) }
+    ensures { OnOk result (map (λ s. s.now) found.new.items
+        ≡ map (λ s. s.now) found.old.items ++ gathered_handler itself handler.now) }
 {
     push_stmts(found, &handler.body)?;
     Ok(())
@@ -135,7 +142,8 @@ fn push_handler<'a>(found: &mut Vec<&'a Stmt>, handler: &'a Handler) -> Result<(
 
 #[cycle(gathered)]
 fn push_clause<'a>(found: &mut Vec<&'a Stmt>, clause: &'a Clause) -> Result<(), AllocError>
-    ensures { OnOk result (map (λ s. s.now) found.new.items ≡ map (λ s. s.now) found.old.items ++ gathered_clause itself clause.now) }
+    ensures { OnOk result (map (λ s. s.now) found.new.items
+        ≡ map (λ s. s.now) found.old.items ++ gathered_clause itself clause.now) }
 {
     push_stmt(found, &clause.body)?;
     Ok(())

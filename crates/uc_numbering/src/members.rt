@@ -109,7 +109,8 @@ fn is_listed(names: &[&Name], name: &Name) -> bool
 // A name that stands already does not stand again, and one past the last number is left out.
 fn push_name<'a>(names: &mut Vec<&'a Name>, member: &'a Member) -> Result<(), AllocError>
     requires few { length (map (λ n. n.now) names.old.items) ≤ MEMBERS }
-    ensures { OnOk result (map (λ n. n.now) names.new.items ≡ take MEMBERS (with_name (exclusive_name member.now) (map (λ n. n.now) names.old.items))) }
+    ensures { OnOk result (map (λ n. n.now) names.new.items
+        ≡ take MEMBERS (with_name (exclusive_name member.now) (map (λ n. n.now) names.old.items))) }
 {
     match exclusive_name(member) {
         Some(name) => {
@@ -142,7 +143,8 @@ fn names_in<'a>(alloc: Global, class: &'a Class) -> Result<Vec<&'a Name>, AllocE
 
 /// The names of the mutex members of a class besides its destructor, in textual order, as far as they have numbers.
 pub fn members_of<'a>(alloc: Global, class: &'a Class) -> Result<Vec<&'a Name>, AllocError>
-    ensures names { IfOk result (λ v. map (λ n. n.now) v.items ≡ take MEMBERS (mutex_members class.now)) }
+    ensures names { IfOk result (λ v. map (λ n. n.now) v.items
+        ≡ take MEMBERS (mutex_members class.now)) }
     ensures few { IfOk result (λ v. length v.items ≤ MEMBERS) }
 {
     let names = names_in(alloc, class)?;
@@ -167,7 +169,8 @@ fn number_in(names: &[&Name], name: &Name) -> Option<u8>
 pub fn member_number(names: &[&Name], name: &Name) -> Option<u8>
     requires few { length names.now ≤ MEMBERS }
     ensures number { result ≡ place_from 1 (map (λ n. n.now) names.now) name.now }
-    ensures of_class { (c : Class) → map (λ n. n.now) names.now ≡ take MEMBERS (mutex_members c) → result ≡ member_number c name.now }
+    ensures of_class { (c : Class) → map (λ n. n.now) names.now ≡ take MEMBERS (mutex_members c) →
+        result ≡ member_number c name.now }
 {
     let number = number_in(names, name);
     number

@@ -28,7 +28,8 @@ pub struct Defined<'a> {
 
 // The classes that are no events.
 fn objects_in<'a>(alloc: Global, classes: &[&'a Class]) -> Result<Vec<&'a Class>, AllocError>
-    ensures { IfOk result (λ v. map (λ c. c.now) v.items ≡ objects_of (map (λ c. c.now) classes.now)) }
+    ensures { IfOk result (λ v. map (λ c. c.now) v.items
+        ≡ objects_of (map (λ c. c.now) classes.now)) }
 {
     let mut objects = Vec::new(alloc);
     for class in classes {
@@ -92,7 +93,8 @@ fn outside<'a>(routine: &'a Routine) -> Defined<'a>
 fn defined_by<'a>(classes: &[&'a Class], places: &Scope, routine: &'a Routine) -> Defined<'a>
     requires placed { IsPlaces (map (λ c. c.now.name) classes.now) places.now }
     requires objects { AreObjects (map (λ c. c.now) classes.now) }
-    ensures { defined_at result ≡ owned (map (λ c. c.now) classes.now) routine.now.sig.owner routine.now }
+    ensures { defined_at result
+        ≡ owned (map (λ c. c.now) classes.now) routine.now.sig.owner routine.now }
 {
     match &routine.sig.owner {
         Owner::Here => outside(routine),
@@ -110,7 +112,9 @@ fn push_form<'a>(
 ) -> Result<(), AllocError>
     requires placed { IsPlaces (map (λ c. c.now.name) classes.now) places.now }
     requires objects { AreObjects (map (λ c. c.now) classes.now) }
-    ensures { OnOk result (map defined_at found.new.items ≡ map defined_at found.old.items ++ form_in (map (λ c. c.now) classes.now) name.now (member_form_at form.now)) }
+    ensures { OnOk result (map defined_at found.new.items
+        ≡ map defined_at found.old.items ++ form_in (map (λ c. c.now) classes.now) name.now
+        (member_form_at form.now)) }
 {
     match form {
         MemberForm::Fields { .. } => Ok(()),
@@ -131,7 +135,9 @@ fn push_members<'a>(
 ) -> Result<(), AllocError>
     requires placed { IsPlaces (map (λ c. c.now.name) classes.now) places.now }
     requires objects { AreObjects (map (λ c. c.now) classes.now) }
-    ensures { OnOk result (map defined_at found.new.items ≡ map defined_at found.old.items ++ members_in (map (λ c. c.now) classes.now) name.now members.now) }
+    ensures { OnOk result (map defined_at found.new.items
+        ≡ map defined_at found.old.items
+        ++ members_in (map (λ c. c.now) classes.now) name.now members.now) }
 {
     for member in members {
         push_form(found, classes, places, name, &member.form)?;
@@ -147,7 +153,8 @@ fn push_item<'a>(
 ) -> Result<(), AllocError>
     requires placed { IsPlaces (map (λ c. c.now.name) classes.now) places.now }
     requires objects { AreObjects (map (λ c. c.now) classes.now) }
-    ensures { OnOk result (map defined_at found.new.items ≡ map defined_at found.old.items ++ item_in (map (λ c. c.now) classes.now) item.now) }
+    ensures { OnOk result (map defined_at found.new.items
+        ≡ map defined_at found.old.items ++ item_in (map (λ c. c.now) classes.now) item.now) }
 {
     match &item.form {
         ItemForm::Class { class } => {
@@ -173,7 +180,8 @@ fn routines_in<'a>(
 ) -> Result<Vec<Defined<'a>>, AllocError>
     requires placed { IsPlaces (map (λ c. c.now.name) classes.now) places.now }
     requires objects { AreObjects (map (λ c. c.now) classes.now) }
-    ensures { IfOk result (λ v. map defined_at v.items ≡ items_in (map (λ c. c.now) classes.now) items.now) }
+    ensures { IfOk result (λ v. map defined_at v.items
+        ≡ items_in (map (λ c. c.now) classes.now) items.now) }
 {
     let mut found = Vec::new(alloc);
     for item in items {

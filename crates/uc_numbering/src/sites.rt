@@ -55,7 +55,13 @@ fn site_of(
     has_else: bool,
 ) -> Result<Site, AllocError>
     requires few { length names.now ≤ MEMBERS }
-    ensures { IfOk result (λ s. s ≡ record { class = class; clauses = map (clause_listed (map (λ n. n.now) names.now)) (clause_list (clauses_of clauses.now)); has_else = has_else }) }
+    ensures { IfOk result (λ s. s
+        ≡ record {
+          class = class;
+          clauses = map (clause_listed (map (λ n. n.now) names.now))
+              (clause_list (clauses_of clauses.now));
+          has_else = has_else;
+        }) }
 {
     let mut lists = Vec::new(alloc);
     for clause in clauses {
@@ -85,7 +91,8 @@ fn push_site(
     s: &Stmt,
 ) -> Result<(), AllocError>
     requires few { length names.now ≤ MEMBERS }
-    ensures { OnOk result (found.new.items ≡ found.old.items ++ own_listed (map (λ n. n.now) names.now) class s.now) }
+    ensures { OnOk result (found.new.items
+        ≡ found.old.items ++ own_listed (map (λ n. n.now) names.now) class s.now) }
 {
     match &s.form {
         StmtForm::Accept { clauses, other } => {
@@ -129,7 +136,9 @@ fn push_sites(
     statements: &[&Stmt],
 ) -> Result<(), AllocError>
     requires few { length names.now ≤ MEMBERS }
-    ensures { OnOk result (found.new.items ≡ found.old.items ++ flat (own_listed (map (λ n. n.now) names.now) class) (map (λ s. s.now) statements.now)) }
+    ensures { OnOk result (found.new.items
+        ≡ found.old.items ++ flat (own_listed (map (λ n. n.now) names.now) class)
+        (map (λ s. s.now) statements.now)) }
 {
     for s in statements {
         push_site(alloc, found, names, class, s)?;
@@ -139,7 +148,8 @@ fn push_sites(
 
 // The names of the mutex members of a class as far as they have numbers.
 fn names_of<'a>(alloc: Global, class: Option<&'a Class>) -> Result<Vec<&'a Name>, AllocError>
-    ensures names { IfOk result (λ v. map (λ n. n.now) v.items ≡ names_of (option_map (λ c. c.now) class.entry)) }
+    ensures names { IfOk result (λ v. map (λ n. n.now) v.items
+        ≡ names_of (option_map (λ c. c.now) class.entry)) }
     ensures few { IfOk result (λ v. length v.items ≤ MEMBERS) }
 {
     match class {
@@ -152,7 +162,10 @@ fn names_of<'a>(alloc: Global, class: Option<&'a Class>) -> Result<Vec<&'a Name>
 }
 
 fn push_routine(alloc: Global, found: &mut Vec<Site>, defined: &Defined) -> Result<(), AllocError>
-    ensures { OnOk result (found.new.items ≡ found.old.items ++ gathered_all (own_sites (defined_at defined.now).class (defined_at defined.now).number) (defined_at defined.now).routine.body) }
+    ensures { OnOk result (found.new.items
+        ≡ found.old.items
+        ++ gathered_all (own_sites (defined_at defined.now).class (defined_at defined.now).number)
+        (defined_at defined.now).routine.body) }
 {
     let routine = defined.routine;
     let statements = statements_of(alloc, &routine.body)?;

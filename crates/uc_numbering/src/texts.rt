@@ -76,7 +76,8 @@ fn push_texts(alloc: Global, found: &mut Vec<Text>, s: &Stmt) -> Result<(), Allo
 }
 
 fn push_all(alloc: Global, found: &mut Vec<Text>, statements: &[&Stmt]) -> Result<(), AllocError>
-    ensures { OnOk result (found.new.items ≡ found.old.items ++ flat own_texts (map (λ s. s.now) statements.now)) }
+    ensures { OnOk result (found.new.items
+        ≡ found.old.items ++ flat own_texts (map (λ s. s.now) statements.now)) }
 {
     for s in statements {
         push_texts(alloc, found, s)?;
@@ -86,7 +87,8 @@ fn push_all(alloc: Global, found: &mut Vec<Text>, statements: &[&Stmt]) -> Resul
 
 #[tactic(auto, using(crate::proofs::FlatLemmas::flat_all))]
 fn push_routine(alloc: Global, found: &mut Vec<Text>, defined: &Defined) -> Result<(), AllocError>
-    ensures { OnOk result (found.new.items ≡ found.old.items ++ gathered_all own_texts (defined_at defined.now).routine.body) }
+    ensures { OnOk result (found.new.items
+        ≡ found.old.items ++ gathered_all own_texts (defined_at defined.now).routine.body) }
 {
     let routine = defined.routine;
     let statements = statements_of(alloc, &routine.body)?;

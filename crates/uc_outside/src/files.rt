@@ -102,8 +102,8 @@ fn append_piece<R: Read>(
     bytes: &mut Vec<u8>,
 ) -> Result<bool, StoreFault>
     requires { 0 < length piece.old }
-    ensures takes { AppendsPiece (R.remaining reader.old) (R.remaining reader.new) (length piece.old)
-        bytes.old.items bytes.new.items (is_ok result) }
+    ensures takes { AppendsPiece (R.remaining reader.old) (R.remaining reader.new)
+        (length piece.old) bytes.old.items bytes.new.items (is_ok result) }
     ensures end { result ≡ Ok false → IsAtEnd (R.remaining reader.new) }
     ensures end_stays { result ≡ Ok false → bytes.new.items ≡ bytes.old.items }
     ensures not_long { IfErr result (λ e. e ≢ StoreFault.TooLong) }

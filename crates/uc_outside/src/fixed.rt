@@ -30,7 +30,8 @@ impl Model for FixedSink {
 impl FixedSink {
     /// Takes memory for `room` bytes.
     pub fn new(alloc: Global, room: usize) -> Result<FixedSink, AllocError>
-        ensures { IfOk result (λ s. s ≡ record { count = 0; told = Some []; room = Some room; failing = false }) }
+        ensures { IfOk result (λ s. s
+            ≡ record { count = 0; told = Some []; room = Some room; failing = false }) }
     {
         let bytes = Vec::with_capacity(alloc, room)?;
         Ok(FixedSink {

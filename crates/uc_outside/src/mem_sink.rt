@@ -85,7 +85,8 @@ impl Sink for MemSink {
     fn put(&mut self, piece: &[u8]) -> Result<usize, SinkFault>
         ensures bound { IfOk result (λ n. n ≤ length piece.now) }
         ensures progress { IfOk result (λ n. 0 < length piece.now → 0 < n) }
-        ensures ok { IfOk result (λ n. Took (sink_of self.old) (sink_of self.new) (take n piece.now)) }
+        ensures ok { IfOk result (λ n. Took (sink_of self.old) (sink_of self.new)
+            (take n piece.now)) }
         ensures well { OnOk result (IsFalse self.new.failing) }
         ensures counted { self.new.puts ≤ self.old.puts + 1 }
         ensures never_falls { self.old.count ≤ self.new.count }

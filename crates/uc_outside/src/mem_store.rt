@@ -34,7 +34,12 @@ impl MemStore {
     /// The store of these files, as name and bytes, that fails at the reads of the numbers in
     /// `fail`; of a name that comes twice the first counts.
     pub fn new(files: Vec<(String, Vec<u8>)>, fail: Vec<u64>) -> MemStore
-        ensures { result ≡ record { count = 0; files = files_of files.items; reads = 0; fails = fail.items } }
+        ensures { result ≡ record {
+          count = 0;
+          files = files_of files.items;
+          reads = 0;
+          fails = fail.items;
+        } }
     {
         MemStore {
             files: SteadyStore::new(files),
@@ -55,13 +60,16 @@ impl Store for MemStore {
 
     fn read(&mut self, alloc: Global, name: &str, limit: u32) -> Result<Vec<u8>, StoreFault>
         ensures keeps { KeepsFiles (store_of self.old) (store_of self.new) }
-        ensures ok { IfOk result (λ v. ReadBytes (store_of self.old) (store_of self.new) name.now limit v.items) }
-        ensures err { IfErr result (ReadFault (store_of self.old) (store_of self.new) name.now limit) }
+        ensures ok { IfOk result (λ v. ReadBytes (store_of self.old)
+            (store_of self.new) name.now limit v.items) }
+        ensures err { IfErr result
+            (ReadFault (store_of self.old) (store_of self.new) name.now limit) }
         ensures numbered { self.new.reads ≡ next_call self.old.reads }
         ensures same_list { self.new.fails ≡ self.old.fails }
 
         // It fails exactly where its number is listed or there is no such name.
-        ensures failed { IfErr result (λ e. (e ≡ StoreFault.Failed) ↔ ReadMustFail self.old name.now) }
+        ensures failed { IfErr result
+            (λ e. (e ≡ StoreFault.Failed) ↔ ReadMustFail self.old name.now) }
         ensures well { OnOk result (ReadMustFail self.old name.now → ⊥) }
     {
         self.reads = self.reads.saturating_add(1);

@@ -20,7 +20,8 @@ pub trait Store {
     /// Reads the bytes of a name, at most `limit` of them.
     fn read(&mut self, alloc: Global, name: &str, limit: u32) -> Result<Vec<u8>, StoreFault>
         ensures keeps { KeepsFiles (state self.old) (state self.new) }
-        ensures ok { IfOk result (λ v. ReadBytes (state self.old) (state self.new) name.now limit v.items) }
+        ensures ok { IfOk result (λ v. ReadBytes (state self.old)
+            (state self.new) name.now limit v.items) }
         ensures err { IfErr result (ReadFault (state self.old) (state self.new) name.now limit) };
 
     ghost steady_tells: { (store : Self) → SteadyTells (state store) };

@@ -57,13 +57,15 @@ struct ConstructorNames<'a> {
 
 // Whether a name stands for a field of the class in the constructor.
 fn is_own_field(built: &ConstructorNames, name: &Name) -> bool
-    ensures { result ≡ names_own_field built.now.tables.now built.now.class built.now.routine.now (Some name.now) }
+    ensures { result ≡ names_own_field built.now.tables.now built.now.class built.now.routine.now
+        (Some name.now) }
 {
     !has_name(built.params, name) && is_field_meant(built.tables.member_named(built.class, name))
 }
 
 fn begins_with_own(built: &ConstructorNames, e: &Expr) -> bool
-    ensures { result ≡ names_own_field built.now.tables.now built.now.class built.now.routine.now (root_name e.now) }
+    ensures { result ≡ names_own_field built.now.tables.now built.now.class built.now.routine.now
+        (root_name e.now) }
 {
     match root_name(e) {
         Some(name) => is_own_field(built, name),
@@ -72,7 +74,8 @@ fn begins_with_own(built: &ConstructorNames, e: &Expr) -> bool
 }
 
 fn binds_own(built: &ConstructorNames, args: &[Expr]) -> bool
-    ensures { result ≡ binds_own built.now.tables.now built.now.class built.now.routine.now (exprs_of args.now) }
+    ensures { result ≡ binds_own built.now.tables.now built.now.class built.now.routine.now
+        (exprs_of args.now) }
 {
     args.len() == 1 && begins_with_own(built, &args[0])
 }
@@ -80,7 +83,10 @@ fn binds_own(built: &ConstructorNames, args: &[Expr]) -> bool
 fn note_init(names: &mut Scope, built: &ConstructorNames, init: &Init) -> Result<(), AllocError>
     requires { 0 < length names.old }
     ensures open { OnOk result (0 < length names.new) }
-    ensures noted { OnOk result ((x : List ℕ) → is_some (found names.new x) ≡ (is_some (found names.old x) || init_binds built.now.tables.now built.now.class x built.now.routine.now init.now)) }
+    ensures noted { OnOk result ((x : List ℕ) →
+        is_some (found names.new x)
+        ≡ (is_some (found names.old x)
+        || init_binds built.now.tables.now built.now.class x built.now.routine.now init.now)) }
 {
     if binds_own(built, &init.args) {
         note_name(names, &init.name)?;
@@ -92,7 +98,11 @@ fn note_init(names: &mut Scope, built: &ConstructorNames, init: &Init) -> Result
 fn note_inits(names: &mut Scope, built: &ConstructorNames, inits: &[Init]) -> Result<(), AllocError>
     requires { 0 < length names.old }
     ensures open { OnOk result (0 < length names.new) }
-    ensures noted { OnOk result ((x : List ℕ) → is_some (found names.new x) ≡ (is_some (found names.old x) || list_any (init_binds built.now.tables.now built.now.class x built.now.routine.now) inits.now)) }
+    ensures noted { OnOk result ((x : List ℕ) →
+        is_some (found names.new x)
+        ≡ (is_some (found names.old x)
+        || list_any (init_binds built.now.tables.now built.now.class x built.now.routine.now)
+        inits.now)) }
 {
     for init in inits {
         note_init(names, built, init)?;
@@ -109,7 +119,10 @@ fn note_constructor(
 ) -> Result<(), AllocError>
     requires { 0 < length names.old }
     ensures open { OnOk result (0 < length names.new) }
-    ensures noted { OnOk result ((x : List ℕ) → is_some (found names.new x) ≡ (is_some (found names.old x) || list_any (init_binds tables.now class x routine.now) routine.now.inits)) }
+    ensures noted { OnOk result ((x : List ℕ) →
+        is_some (found names.new x)
+        ≡ (is_some (found names.old x)
+        || list_any (init_binds tables.now class x routine.now) routine.now.inits)) }
 {
     let params = names_of_params(alloc, &routine.sig.params)?;
     let built = ConstructorNames {
@@ -131,7 +144,9 @@ fn note_routine(
 ) -> Result<(), AllocError>
     requires { 0 < length names.old }
     ensures open { OnOk result (0 < length names.new) }
-    ensures noted { OnOk result ((x : List ℕ) → is_some (found names.new x) ≡ (is_some (found names.old x) || routine_binds tables.now class x routine.now)) }
+    ensures noted { OnOk result ((x : List ℕ) →
+        is_some (found names.new x)
+        ≡ (is_some (found names.old x) || routine_binds tables.now class x routine.now)) }
 {
     if is_constructor(routine.sig.role) {
         note_constructor(alloc, names, tables, class, routine)?;
@@ -149,7 +164,9 @@ fn note_form(
 ) -> Result<(), AllocError>
     requires { 0 < length names.old }
     ensures open { OnOk result (0 < length names.new) }
-    ensures noted { OnOk result ((x : List ℕ) → is_some (found names.new x) ≡ (is_some (found names.old x) || form_binds tables.now class x (member_form_at form.now))) }
+    ensures noted { OnOk result ((x : List ℕ) →
+        is_some (found names.new x)
+        ≡ (is_some (found names.old x) || form_binds tables.now class x (member_form_at form.now))) }
 {
     match form {
         MemberForm::Fields { .. } => Ok(()),
@@ -170,7 +187,10 @@ fn note_members(
 ) -> Result<(), AllocError>
     requires { 0 < length names.old }
     ensures open { OnOk result (0 < length names.new) }
-    ensures noted { OnOk result ((x : List ℕ) → is_some (found names.new x) ≡ (is_some (found names.old x) || list_any (λ m. form_binds tables.now class x m.form) members.now)) }
+    ensures noted { OnOk result ((x : List ℕ) →
+        is_some (found names.new x)
+        ≡ (is_some (found names.old x)
+        || list_any (λ m. form_binds tables.now class x m.form) members.now)) }
 {
     for member in members {
         note_form(alloc, names, tables, class, &member.form)?;
@@ -187,7 +207,10 @@ fn note_routines(
 ) -> Result<(), AllocError>
     requires { 0 < length names.old }
     ensures open { OnOk result (0 < length names.new) }
-    ensures noted { OnOk result ((x : List ℕ) → is_some (found names.new x) ≡ (is_some (found names.old x) || list_any (routine_binds tables.now class x) (map (λ r. r.now) routines.now))) }
+    ensures noted { OnOk result ((x : List ℕ) →
+        is_some (found names.new x)
+        ≡ (is_some (found names.old x)
+        || list_any (routine_binds tables.now class x) (map (λ r. r.now) routines.now))) }
 {
     for routine in routines {
         note_routine(alloc, names, tables, class, routine)?;
@@ -202,7 +225,8 @@ pub fn names_bound(
     class: &Class,
     place: usize,
 ) -> Result<Scope, AllocError>
-    ensures { IfOk result (λ names. (x : List ℕ) → is_some (found names x) ≡ is_bound_inside tables.now class.now place x) }
+    ensures { IfOk result (λ names. (x : List ℕ) →
+        is_some (found names x) ≡ is_bound_inside tables.now class.now place x) }
 {
     let mut names = no_names(alloc)?;
     note_members(alloc, &mut names, tables, place, &class.members)?;

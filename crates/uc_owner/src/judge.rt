@@ -72,7 +72,8 @@ fn note_shared(names: &Names, sort: Option<Sort>, param: &Param, found: &mut Fou
 
 /// What these rules ask of a parameter.
 pub fn note_param(names: &Names, param: &Param, found: &mut Found)
-    ensures { found.new ≡ after (after found.old (unshared_reference (AtParam names.now param.now))) (lone_condition (AtParam names.now param.now)) }
+    ensures { found.new ≡ after (after found.old (unshared_reference (AtParam names.now param.now)))
+        (lone_condition (AtParam names.now param.now)) }
 {
     let sort = names.tables().sort_of(&param.base);
     note_shared(names, sort, param, found);
@@ -94,7 +95,8 @@ fn may_refer(
     sort: Sort,
 ) -> Result<bool, AllocError>
     requires { AreBound names.now.program class.now place bound.known bound.names.now }
-    ensures { IfOk result (λ holds. holds ≡ may_refer names.now.program class.now place declarator.now.name sort) }
+    ensures { IfOk result (λ holds. holds
+        ≡ may_refer names.now.program class.now place declarator.now.name sort) }
 {
     if !is_unshared(sort) {
         return Ok(true);
@@ -121,7 +123,10 @@ fn note_referred(
     found: &mut Found,
 ) -> Result<(), AllocError>
     requires { AreBound names.now.program class.now place bound.known bound.names.now }
-    ensures { OnOk result (found.new ≡ after found.old (unless (may_refer names.now.program class.now place declarator.now.name sort) O5 declarator.now.pos)) }
+    ensures { OnOk result (found.new
+        ≡ after found.old
+        (unless (may_refer names.now.program class.now place declarator.now.name sort) O5
+        declarator.now.pos)) }
 {
     if !found.is_open(Rule::O5, declarator.pos) {
         return Ok(());
@@ -141,7 +146,10 @@ fn note_unshared(
     found: &mut Found,
 ) -> Result<(), AllocError>
     requires { AreBound names.now.program class.now place bound.known bound.names.now }
-    ensures { OnOk result (found.new ≡ after found.old (of_sort sort (may_refer names.now.program class.now place declarator.now.name) O5 declarator.now.pos)) }
+    ensures { OnOk result (found.new
+        ≡ after found.old
+        (of_sort sort
+        (may_refer names.now.program class.now place declarator.now.name) O5 declarator.now.pos)) }
 {
     match sort {
         Some(sort) => {
@@ -163,7 +171,9 @@ fn note_home(
     found: &mut Found,
 ) -> Result<(), AllocError>
     requires bound { AreBound names.now.program class.now home.class bound.known bound.names.now }
-    ensures { OnOk result ((b : base.Base) → sort ≡ sort_of names.now.program b → found.new ≡ after found.old (reference_breaks names.now class.now (Some home) b declarator.now)) }
+    ensures { OnOk result ((b : base.Base) → sort ≡ sort_of names.now.program b →
+        found.new ≡ after found.old
+        (reference_breaks names.now class.now (Some home) b declarator.now)) }
 {
     if declarator.by_ref && is_mutex(home.kind) {
         note_unshared(names, class, home.class, bound, sort, declarator, found)?;
@@ -180,8 +190,11 @@ fn note_reference(
     declarator: &Declarator,
     found: &mut Found,
 ) -> Result<(), AllocError>
-    requires bound { (home : rules.OwnClass) → names.now.around.home ≡ Some home → AreBound names.now.program class.now home.class bound.known bound.names.now }
-    ensures { OnOk result ((b : base.Base) → sort ≡ sort_of names.now.program b → found.new ≡ after found.old (reference_breaks names.now class.now names.now.around.home b declarator.now)) }
+    requires bound { (home : rules.OwnClass) → names.now.around.home ≡ Some home →
+        AreBound names.now.program class.now home.class bound.known bound.names.now }
+    ensures { OnOk result ((b : base.Base) → sort ≡ sort_of names.now.program b →
+        found.new ≡ after found.old
+        (reference_breaks names.now class.now names.now.around.home b declarator.now)) }
 {
     match names.around().home {
         Some(home) => {
@@ -201,8 +214,13 @@ pub fn note_field(
     declarator: &Declarator,
     found: &mut Found,
 ) -> Result<(), AllocError>
-    requires bound { (home : rules.OwnClass) → names.now.around.home ≡ Some home → AreBound names.now.program class.now home.class bound.known bound.names.now }
-    ensures { OnOk result ((access : Access) (field : FieldPlace) → found.new ≡ after (after found.old (lone_condition (AtField names.now class.now access base.now declarator.now field))) (unbound_reference (AtField names.now class.now access base.now declarator.now field))) }
+    requires bound { (home : rules.OwnClass) → names.now.around.home ≡ Some home →
+        AreBound names.now.program class.now home.class bound.known bound.names.now }
+    ensures { OnOk result ((access : Access) (field : FieldPlace) →
+        found.new ≡ after
+        (after found.old
+        (lone_condition (AtField names.now class.now access base.now declarator.now field)))
+        (unbound_reference (AtField names.now class.now access base.now declarator.now field))) }
 {
     let sort = names.tables().sort_of(base);
     note_field_condition(names, sort, declarator, found);
@@ -216,7 +234,8 @@ fn note_field_condition(
     declarator: &Declarator,
     found: &mut Found,
 )
-    ensures { (b : base.Base) → sort ≡ sort_of names.now.program b → found.new ≡ after found.old (condition_field_breaks names.now b declarator.now) }
+    ensures { (b : base.Base) → sort ≡ sort_of names.now.program b →
+        found.new ≡ after found.old (condition_field_breaks names.now b declarator.now) }
 {
     if !is_home_of_mutex(names.around().home) {
         note_condition(sort, declarator.pos, found);

@@ -43,8 +43,10 @@ fn read_marked(
 ) -> Result<(Part, u32), ParseFault>
     requires begins { from ≤ length tokens.now }
     requires few { length tokens.now < 2 ^ 32 }
-    ensures found { IfOk result (λ r. Spells (inner room) (marked_form pos) tokens.now from r.1 (part_of r.0)) }
-    ensures fails { IfErr result (λ f. Fails (inner room) (faults room) (marked_form pos) tokens.now from f) }
+    ensures found { IfOk result (λ r. Spells (inner room) (marked_form pos) tokens.now from r.1
+        (part_of r.0)) }
+    ensures fails { IfErr result
+        (λ f. Fails (inner room) (faults room) (marked_form pos) tokens.now from f) }
     ensures moved { IfOk result (λ r. (from < r.1) × (r.1 ≤ length tokens.now)) }
     ensures within { IfErr result (λ f. token_of f ≤ length tokens.now) }
 {
@@ -62,8 +64,10 @@ fn read_part(
 ) -> Result<(Part, u32), ParseFault>
     requires begins { from ≤ length tokens.now }
     requires few { length tokens.now < 2 ^ 32 }
-    ensures found { IfOk result (λ r. Spells (inner room) class_part_form tokens.now from r.1 (part_of r.0)) }
-    ensures fails { IfErr result (λ f. Fails (inner room) (faults room) class_part_form tokens.now from f) }
+    ensures found { IfOk result (λ r. Spells (inner room) class_part_form tokens.now from r.1
+        (part_of r.0)) }
+    ensures fails { IfErr result
+        (λ f. Fails (inner room) (faults room) class_part_form tokens.now from f) }
     ensures moved { IfOk result (λ r. (from < r.1) × (r.1 ≤ length tokens.now)) }
     ensures within { IfErr result (λ f. token_of f ≤ length tokens.now) }
 {
@@ -89,8 +93,10 @@ fn read_inner_part(
 ) -> Result<(Part, u32), ParseFault>
     requires begins { from ≤ length tokens.now }
     requires few { length tokens.now < 2 ^ 32 }
-    ensures found { IfOk result (λ r. Spells (inner room) (inside part_name) tokens.now from r.1 (part_of r.0)) }
-    ensures fails { IfErr result (λ f. Fails (inner room) (faults room) (inside part_name) tokens.now from f) }
+    ensures found { IfOk result (λ r. Spells (inner room) (inside part_name) tokens.now from r.1
+        (part_of r.0)) }
+    ensures fails { IfErr result
+        (λ f. Fails (inner room) (faults room) (inside part_name) tokens.now from f) }
     ensures moved { IfOk result (λ r. (from < r.1) × (r.1 ≤ length tokens.now)) }
     ensures within { IfErr result (λ f. token_of f ≤ length tokens.now) }
 {
@@ -103,7 +109,8 @@ fn read_inner_part(
 
 // Joins a part to the members before it, which `access` is that of, and answers the access of what follows.
 fn add_part(members: &mut Vec<Member>, access: Access, part: Part) -> Result<Access, ParseFault>
-    ensures joined { IfOk result (λ a. members.new.items ≡ members.old.items ++ members_of access (part_of part ∷ [])) }
+    ensures joined { IfOk result (λ a. members.new.items
+        ≡ members.old.items ++ members_of access (part_of part ∷ [])) }
     ensures last { IfOk result (λ a. a ≡ access_after access (part_of part ∷ [])) }
     ensures fails { IfErr result (λ f. f ≡ ParseFault.NoMemory) }
 {
@@ -130,8 +137,10 @@ fn read_members(
 ) -> Result<(Vec<Member>, u32), ParseFault>
     requires begins { from ≤ length tokens.now }
     requires few { length tokens.now < 2 ^ 32 }
-    ensures found { IfOk result (λ r. Spells (inner room) class_members_form tokens.now from r.1 r.0.items) }
-    ensures fails { IfErr result (λ f. Fails (inner room) (faults room) class_members_form tokens.now from f) }
+    ensures found { IfOk result (λ r. Spells
+        (inner room) class_members_form tokens.now from r.1 r.0.items) }
+    ensures fails { IfErr result
+        (λ f. Fails (inner room) (faults room) class_members_form tokens.now from f) }
     ensures moved { IfOk result (λ r. (from ≤ r.1) × (r.1 ≤ length tokens.now)) }
     ensures within { IfErr result (λ f. token_of f ≤ length tokens.now) }
 {
@@ -158,8 +167,10 @@ fn read_class_rest(
 ) -> Result<(Item, u32), ParseFault>
     requires begins { from ≤ length tokens.now }
     requires few { length tokens.now < 2 ^ 32 }
-    ensures found { IfOk result (λ r. Spells (inner room) (class_rest pos kind name) tokens.now from r.1 r.0) }
-    ensures fails { IfErr result (λ f. Fails (inner room) (faults room) (class_rest pos kind name) tokens.now from f) }
+    ensures found { IfOk result (λ r. Spells (inner room)
+        (class_rest pos kind name) tokens.now from r.1 r.0) }
+    ensures fails { IfErr result
+        (λ f. Fails (inner room) (faults room) (class_rest pos kind name) tokens.now from f) }
     ensures moved { IfOk result (λ r. (from < r.1) × (r.1 ≤ length tokens.now)) }
     ensures within { IfErr result (λ f. token_of f ≤ length tokens.now) }
 {
@@ -192,8 +203,10 @@ fn read_class_after(
 ) -> Result<(Item, u32), ParseFault>
     requires begins { from ≤ length tokens.now }
     requires few { length tokens.now < 2 ^ 32 }
-    ensures found { IfOk result (λ r. Spells (inner room) (class_after pos kind name) tokens.now from r.1 r.0) }
-    ensures fails { IfErr result (λ f. Fails (inner room) (faults room) (class_after pos kind name) tokens.now from f) }
+    ensures found { IfOk result (λ r. Spells (inner room)
+        (class_after pos kind name) tokens.now from r.1 r.0) }
+    ensures fails { IfErr result
+        (λ f. Fails (inner room) (faults room) (class_after pos kind name) tokens.now from f) }
     ensures moved { IfOk result (λ r. (from < r.1) × (r.1 ≤ length tokens.now)) }
     ensures within { IfErr result (λ f. token_of f ≤ length tokens.now) }
 {
@@ -222,7 +235,8 @@ pub fn read_class(
     requires begins { from ≤ length tokens.now }
     requires few { length tokens.now < 2 ^ 32 }
     ensures found { IfOk result (λ r. Spells (inner room) (class_form pos) tokens.now from r.1 r.0) }
-    ensures fails { IfErr result (λ f. Fails (inner room) (faults room) (class_form pos) tokens.now from f) }
+    ensures fails { IfErr result
+        (λ f. Fails (inner room) (faults room) (class_form pos) tokens.now from f) }
     ensures moved { IfOk result (λ r. (from < r.1) × (r.1 ≤ length tokens.now)) }
     ensures within { IfErr result (λ f. token_of f ≤ length tokens.now) }
 {

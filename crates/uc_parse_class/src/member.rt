@@ -41,8 +41,11 @@ fn read_field_rest(
 ) -> Result<(Declarator, u32), ParseFault>
     requires begins { from ≤ length tokens.now }
     requires few { length tokens.now < 2 ^ 32 }
-    ensures found { IfOk result (λ r. Spells (inner room) (field_rest start.pos start.by_ref start.name) tokens.now from r.1 r.0) }
-    ensures fails { IfErr result (λ f. Fails (inner room) (faults room) (field_rest start.pos start.by_ref start.name) tokens.now from f) }
+    ensures found { IfOk result (λ r. Spells (inner room)
+        (field_rest start.pos start.by_ref start.name) tokens.now from r.1 r.0) }
+    ensures fails { IfErr result
+        (λ f. Fails (inner room) (faults room)
+        (field_rest start.pos start.by_ref start.name) tokens.now from f) }
     ensures moved { IfOk result (λ r. (from ≤ r.1) × (r.1 ≤ length tokens.now)) }
     ensures within { IfErr result (λ f. token_of f ≤ length tokens.now) }
 {
@@ -71,7 +74,8 @@ fn read_field(
     requires begins { from ≤ length tokens.now }
     requires few { length tokens.now < 2 ^ 32 }
     ensures found { IfOk result (λ r. Spells (inner room) field_form tokens.now from r.1 r.0) }
-    ensures fails { IfErr result (λ f. Fails (inner room) (faults room) field_form tokens.now from f) }
+    ensures fails { IfErr result
+        (λ f. Fails (inner room) (faults room) field_form tokens.now from f) }
     ensures moved { IfOk result (λ r. (from < r.1) × (r.1 ≤ length tokens.now)) }
     ensures within { IfErr result (λ f. token_of f ≤ length tokens.now) }
 {
@@ -93,8 +97,11 @@ fn read_field_list(
 ) -> Result<(Vec<Declarator>, u32), ParseFault>
     requires begins { from ≤ length tokens.now }
     requires few { length tokens.now < 2 ^ 32 }
-    ensures found { IfOk result (λ r. Spells (inner room) (field_list_form start.pos start.by_ref start.name) tokens.now from r.1 r.0.items) }
-    ensures fails { IfErr result (λ f. Fails (inner room) (faults room) (field_list_form start.pos start.by_ref start.name) tokens.now from f) }
+    ensures found { IfOk result (λ r. Spells (inner room)
+        (field_list_form start.pos start.by_ref start.name) tokens.now from r.1 r.0.items) }
+    ensures fails { IfErr result
+        (λ f. Fails (inner room) (faults room)
+        (field_list_form start.pos start.by_ref start.name) tokens.now from f) }
     ensures moved { IfOk result (λ r. (from ≤ r.1) × (r.1 ≤ length tokens.now)) }
     ensures within { IfErr result (λ f. token_of f ≤ length tokens.now) }
 {
@@ -122,8 +129,12 @@ fn read_fields_rest(
 ) -> Result<(MemberForm, u32), ParseFault>
     requires begins { from ≤ length tokens.now }
     requires few { length tokens.now < 2 ^ 32 }
-    ensures found { IfOk result (λ r. Spells (inner room) (fields_rest place base start.pos start.by_ref start.name) tokens.now from r.1 (member_form_at r.0)) }
-    ensures fails { IfErr result (λ f. Fails (inner room) (faults room) (fields_rest place base start.pos start.by_ref start.name) tokens.now from f) }
+    ensures found { IfOk result (λ r. Spells (inner room)
+        (fields_rest place base start.pos start.by_ref start.name) tokens.now from r.1
+        (member_form_at r.0)) }
+    ensures fails { IfErr result
+        (λ f. Fails (inner room) (faults room)
+        (fields_rest place base start.pos start.by_ref start.name) tokens.now from f) }
     ensures moved { IfOk result (λ r. (from < r.1) × (r.1 ≤ length tokens.now)) }
     ensures within { IfErr result (λ f. token_of f ≤ length tokens.now) }
 {
@@ -149,8 +160,10 @@ fn read_member_end(
 ) -> Result<(MemberForm, u32), ParseFault>
     requires begins { from ≤ length tokens.now }
     requires few { length tokens.now < 2 ^ 32 }
-    ensures found { IfOk result (λ r. Spells (inner room) (member_end sig) tokens.now from r.1 (member_form_at r.0)) }
-    ensures fails { IfErr result (λ f. Fails (inner room) (faults room) (member_end sig) tokens.now from f) }
+    ensures found { IfOk result (λ r. Spells (inner room) (member_end sig) tokens.now from r.1
+        (member_form_at r.0)) }
+    ensures fails { IfErr result
+        (λ f. Fails (inner room) (faults room) (member_end sig) tokens.now from f) }
     ensures moved { IfOk result (λ r. (from < r.1) × (r.1 ≤ length tokens.now)) }
     ensures within { IfErr result (λ f. token_of f ≤ length tokens.now) }
 {
@@ -171,8 +184,10 @@ fn read_maker_end(
 ) -> Result<(MemberForm, u32), ParseFault>
     requires begins { from ≤ length tokens.now }
     requires few { length tokens.now < 2 ^ 32 }
-    ensures found { IfOk result (λ r. Spells (inner room) (maker_end sig) tokens.now from r.1 (member_form_at r.0)) }
-    ensures fails { IfErr result (λ f. Fails (inner room) (faults room) (maker_end sig) tokens.now from f) }
+    ensures found { IfOk result (λ r. Spells (inner room) (maker_end sig) tokens.now from r.1
+        (member_form_at r.0)) }
+    ensures fails { IfErr result
+        (λ f. Fails (inner room) (faults room) (maker_end sig) tokens.now from f) }
     ensures moved { IfOk result (λ r. (from < r.1) × (r.1 ≤ length tokens.now)) }
     ensures within { IfErr result (λ f. token_of f ≤ length tokens.now) }
 {
@@ -195,8 +210,10 @@ fn read_member_routine(
 ) -> Result<(MemberForm, u32), ParseFault>
     requires begins { from ≤ length tokens.now }
     requires few { length tokens.now < 2 ^ 32 }
-    ensures found { IfOk result (λ r. Spells (inner room) (member_routine place base name) tokens.now from r.1 (member_form_at r.0)) }
-    ensures fails { IfErr result (λ f. Fails (inner room) (faults room) (member_routine place base name) tokens.now from f) }
+    ensures found { IfOk result (λ r. Spells (inner room)
+        (member_routine place base name) tokens.now from r.1 (member_form_at r.0)) }
+    ensures fails { IfErr result
+        (λ f. Fails (inner room) (faults room) (member_routine place base name) tokens.now from f) }
     ensures moved { IfOk result (λ r. (from < r.1) × (r.1 ≤ length tokens.now)) }
     ensures within { IfErr result (λ f. token_of f ≤ length tokens.now) }
 {
@@ -225,8 +242,10 @@ fn read_member_maker(
 ) -> Result<(MemberForm, u32), ParseFault>
     requires begins { from ≤ length tokens.now }
     requires few { length tokens.now < 2 ^ 32 }
-    ensures found { IfOk result (λ r. Spells (inner room) (member_maker pos role name) tokens.now from r.1 (member_form_at r.0)) }
-    ensures fails { IfErr result (λ f. Fails (inner room) (faults room) (member_maker pos role name) tokens.now from f) }
+    ensures found { IfOk result (λ r. Spells (inner room)
+        (member_maker pos role name) tokens.now from r.1 (member_form_at r.0)) }
+    ensures fails { IfErr result
+        (λ f. Fails (inner room) (faults room) (member_maker pos role name) tokens.now from f) }
     ensures moved { IfOk result (λ r. (from < r.1) × (r.1 ≤ length tokens.now)) }
     ensures within { IfErr result (λ f. token_of f ≤ length tokens.now) }
 {
@@ -256,8 +275,11 @@ fn read_based_rest(
 ) -> Result<(MemberForm, u32), ParseFault>
     requires begins { from ≤ length tokens.now }
     requires few { length tokens.now < 2 ^ 32 }
-    ensures found { IfOk result (λ r. Spells (inner room) (based_rest place base pos name.now) tokens.now from r.1 (member_form_at r.0)) }
-    ensures fails { IfErr result (λ f. Fails (inner room) (faults room) (based_rest place base pos name.now) tokens.now from f) }
+    ensures found { IfOk result (λ r. Spells (inner room)
+        (based_rest place base pos name.now) tokens.now from r.1 (member_form_at r.0)) }
+    ensures fails { IfErr result
+        (λ f. Fails (inner room) (faults room)
+        (based_rest place base pos name.now) tokens.now from f) }
     ensures moved { IfOk result (λ r. (from < r.1) × (r.1 ≤ length tokens.now)) }
     ensures within { IfErr result (λ f. token_of f ≤ length tokens.now) }
 {
@@ -287,8 +309,10 @@ fn read_based_member(
 ) -> Result<(MemberForm, u32), ParseFault>
     requires begins { from ≤ length tokens.now }
     requires few { length tokens.now < 2 ^ 32 }
-    ensures found { IfOk result (λ r. Spells (inner room) (based_member place base) tokens.now from r.1 (member_form_at r.0)) }
-    ensures fails { IfErr result (λ f. Fails (inner room) (faults room) (based_member place base) tokens.now from f) }
+    ensures found { IfOk result (λ r. Spells (inner room)
+        (based_member place base) tokens.now from r.1 (member_form_at r.0)) }
+    ensures fails { IfErr result
+        (λ f. Fails (inner room) (faults room) (based_member place base) tokens.now from f) }
     ensures moved { IfOk result (λ r. (from < r.1) × (r.1 ≤ length tokens.now)) }
     ensures within { IfErr result (λ f. token_of f ≤ length tokens.now) }
 {
@@ -332,8 +356,10 @@ fn read_named_member(
 ) -> Result<(MemberForm, u32), ParseFault>
     requires begins { from ≤ length tokens.now }
     requires few { length tokens.now < 2 ^ 32 }
-    ensures found { IfOk result (λ r. Spells (inner room) (named_member pos name.now) tokens.now from r.1 (member_form_at r.0)) }
-    ensures fails { IfErr result (λ f. Fails (inner room) (faults room) (named_member pos name.now) tokens.now from f) }
+    ensures found { IfOk result (λ r. Spells (inner room)
+        (named_member pos name.now) tokens.now from r.1 (member_form_at r.0)) }
+    ensures fails { IfErr result
+        (λ f. Fails (inner room) (faults room) (named_member pos name.now) tokens.now from f) }
     ensures moved { IfOk result (λ r. (from < r.1) × (r.1 ≤ length tokens.now)) }
     ensures within { IfErr result (λ f. token_of f ≤ length tokens.now) }
 {
@@ -365,8 +391,12 @@ fn read_word_member(
 ) -> Result<(MemberForm, u32), ParseFault>
     requires begins { from ≤ length tokens.now }
     requires few { length tokens.now < 2 ^ 32 }
-    ensures found { IfOk result (λ r. Spells (inner room) (word_member pos (base_of (word_of (kind_at tokens.now from)))) tokens.now from r.1 (member_form_at r.0)) }
-    ensures fails { IfErr result (λ f. Fails (inner room) (faults room) (word_member pos (base_of (word_of (kind_at tokens.now from)))) tokens.now from f) }
+    ensures found { IfOk result (λ r. Spells (inner room)
+        (word_member pos (base_of (word_of (kind_at tokens.now from)))) tokens.now from r.1
+        (member_form_at r.0)) }
+    ensures fails { IfErr result
+        (λ f. Fails (inner room) (faults room)
+        (word_member pos (base_of (word_of (kind_at tokens.now from)))) tokens.now from f) }
     ensures moved { IfOk result (λ r. (from < r.1) × (r.1 ≤ length tokens.now)) }
     ensures within { IfErr result (λ f. token_of f ≤ length tokens.now) }
 {
@@ -389,8 +419,10 @@ fn read_destructor(
 ) -> Result<(MemberForm, u32), ParseFault>
     requires begins { from ≤ length tokens.now }
     requires few { length tokens.now < 2 ^ 32 }
-    ensures found { IfOk result (λ r. Spells (inner room) (destructor_form pos) tokens.now from r.1 (member_form_at r.0)) }
-    ensures fails { IfErr result (λ f. Fails (inner room) (faults room) (destructor_form pos) tokens.now from f) }
+    ensures found { IfOk result (λ r. Spells (inner room) (destructor_form pos) tokens.now from r.1
+        (member_form_at r.0)) }
+    ensures fails { IfErr result
+        (λ f. Fails (inner room) (faults room) (destructor_form pos) tokens.now from f) }
     ensures moved { IfOk result (λ r. (from < r.1) × (r.1 ≤ length tokens.now)) }
     ensures within { IfErr result (λ f. token_of f ≤ length tokens.now) }
 {
@@ -409,8 +441,10 @@ pub fn read_member(
 ) -> Result<(MemberForm, u32), ParseFault>
     requires begins { from ≤ length tokens.now }
     requires few { length tokens.now < 2 ^ 32 }
-    ensures found { IfOk result (λ r. Spells (inner room) member_form tokens.now from r.1 (member_form_at r.0)) }
-    ensures fails { IfErr result (λ f. Fails (inner room) (faults room) member_form tokens.now from f) }
+    ensures found { IfOk result (λ r. Spells (inner room) member_form tokens.now from r.1
+        (member_form_at r.0)) }
+    ensures fails { IfErr result
+        (λ f. Fails (inner room) (faults room) member_form tokens.now from f) }
     ensures moved { IfOk result (λ r. (from < r.1) × (r.1 ≤ length tokens.now)) }
     ensures within { IfErr result (λ f. token_of f ≤ length tokens.now) }
 {

@@ -26,10 +26,13 @@ pub fn parse(alloc: Global, tokens: &[Token]) -> Result<Program, ParseFault>
     ensures found { IfOk result (λ p. IsProgram NESTING tokens.now 0 (length tokens.now) p) }
     ensures only { IfOk result (λ p. OnlyProgram tokens.now p) }
     ensures fails { IfErr result (λ f. ProgramFails NESTING tokens.now 0 f) }
-    ensures none { IfErr result (λ f. (f ≡ ParseFault.NoMemory → ⊥) → NoProgram NESTING tokens.now) }
-    ensures syntax { IfErr result (λ f. (p : ℕ) → f ≡ ParseFault.Syntax p → NeverProgram tokens.now p) }
+    ensures none { IfErr result (λ f. (f ≡ ParseFault.NoMemory → ⊥) →
+        NoProgram NESTING tokens.now) }
+    ensures syntax { IfErr result (λ f. (p : ℕ) → f ≡ ParseFault.Syntax p →
+        NeverProgram tokens.now p) }
     ensures deep { IfErr result (λ f. (k : ℕ) → f ≡ ParseFault.TooDeep k → NESTING ≤ 2 * k + 1) }
-    ensures first { IfErr result (λ f. (k : ℕ) → f ≡ ParseFault.TooDeep k → FirstTooDeep NESTING tokens.now k) }
+    ensures first { IfErr result (λ f. (k : ℕ) → f ≡ ParseFault.TooDeep k →
+        FirstTooDeep NESTING tokens.now k) }
     ensures within { IfErr result (λ f. token_of f ≤ length tokens.now) }
 {
     let items = read_items(alloc, tokens, NESTING)?;
@@ -39,7 +42,8 @@ pub fn parse(alloc: Global, tokens: &[Token]) -> Result<Program, ParseFault>
 // All items.
 fn read_items(alloc: Global, tokens: &[Token], room: u16) -> Result<Vec<Item>, ParseFault>
     requires few { length tokens.now < 2 ^ 32 }
-    ensures found { IfOk result (λ r. Spells (inner room) items_form tokens.now 0 (length tokens.now) r.items) }
+    ensures found { IfOk result (λ r. Spells (inner room) items_form tokens.now 0
+        (length tokens.now) r.items) }
     ensures fails { IfErr result (λ f. Fails (inner room) (faults room) items_form tokens.now 0 f) }
     ensures within { IfErr result (λ f. token_of f ≤ length tokens.now) }
 {

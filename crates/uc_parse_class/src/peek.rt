@@ -61,8 +61,10 @@ pub fn skip_mark(tokens: &[Token], at: u32) -> (MutexMark, u32)
 pub fn read_scalar(tokens: &[Token], at: u32) -> Result<(Base, u32), ParseFault>
     requires begins { at ≤ length tokens.now }
     requires few { length tokens.now < 2 ^ 32 }
-    ensures found { IfOk result (λ r. (room : ℕ) → Spells (inner room) scalar_form tokens.now at r.1 r.0) }
-    ensures fails { IfErr result (λ f. (room : ℕ) → Fails (inner room) (faults room) scalar_form tokens.now at f) }
+    ensures found { IfOk result (λ r. (room : ℕ) →
+        Spells (inner room) scalar_form tokens.now at r.1 r.0) }
+    ensures fails { IfErr result (λ f. (room : ℕ) →
+        Fails (inner room) (faults room) scalar_form tokens.now at f) }
     ensures moved { IfOk result (λ r. (at < r.1) × (r.1 ≤ length tokens.now)) }
     ensures within { IfErr result (λ f. token_of f ≤ length tokens.now) }
     ensures takes_no_memory { IfErr result (λ f. f ≢ ParseFault.NoMemory) }
@@ -79,8 +81,10 @@ pub fn read_scalar(tokens: &[Token], at: u32) -> Result<(Base, u32), ParseFault>
 fn read_mutex_kind(tokens: &[Token], at: u32) -> Result<(Kind, u32), ParseFault>
     requires begins { at ≤ length tokens.now }
     requires few { length tokens.now < 2 ^ 32 }
-    ensures found { IfOk result (λ r. (room : ℕ) → Spells (inner room) mutex_kind_form tokens.now at r.1 r.0) }
-    ensures fails { IfErr result (λ f. (room : ℕ) → Fails (inner room) (faults room) mutex_kind_form tokens.now at f) }
+    ensures found { IfOk result (λ r. (room : ℕ) →
+        Spells (inner room) mutex_kind_form tokens.now at r.1 r.0) }
+    ensures fails { IfErr result (λ f. (room : ℕ) →
+        Fails (inner room) (faults room) mutex_kind_form tokens.now at f) }
     ensures moved { IfOk result (λ r. (at < r.1) × (r.1 ≤ length tokens.now)) }
     ensures within { IfErr result (λ f. token_of f ≤ length tokens.now) }
     ensures takes_no_memory { IfErr result (λ f. f ≢ ParseFault.NoMemory) }
@@ -96,8 +100,10 @@ fn read_mutex_kind(tokens: &[Token], at: u32) -> Result<(Kind, u32), ParseFault>
 pub fn read_kind(tokens: &[Token], at: u32) -> Result<(Kind, u32), ParseFault>
     requires begins { at ≤ length tokens.now }
     requires few { length tokens.now < 2 ^ 32 }
-    ensures found { IfOk result (λ r. (room : ℕ) → Spells (inner room) kind_form tokens.now at r.1 r.0) }
-    ensures fails { IfErr result (λ f. (room : ℕ) → Fails (inner room) (faults room) kind_form tokens.now at f) }
+    ensures found { IfOk result (λ r. (room : ℕ) →
+        Spells (inner room) kind_form tokens.now at r.1 r.0) }
+    ensures fails { IfErr result (λ f. (room : ℕ) →
+        Fails (inner room) (faults room) kind_form tokens.now at f) }
     ensures moved { IfOk result (λ r. (at < r.1) × (r.1 ≤ length tokens.now)) }
     ensures within { IfErr result (λ f. token_of f ≤ length tokens.now) }
     ensures takes_no_memory { IfErr result (λ f. f ≢ ParseFault.NoMemory) }

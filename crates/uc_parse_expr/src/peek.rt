@@ -15,7 +15,8 @@ use uc_tree::token::{Sign, Token, TokenKind, Word};
 
 /// What the token at a place is.
 pub fn kind_at(tokens: &[Token], at: u32) -> Option<&TokenKind>
-    ensures kind { MatchOption result (kind_at tokens.now at ≡ None) (λ k. kind_at tokens.now at ≡ Some k.now) }
+    ensures kind { MatchOption result (kind_at tokens.now at ≡ None) (λ k. kind_at tokens.now at
+        ≡ Some k.now) }
     ensures inside { IsSome result → at < length tokens.now }
 {
     match tokens.get(at as usize) {
@@ -106,8 +107,10 @@ pub fn is_word(tokens: &[Token], at: u32, word: Word) -> bool
 pub fn expect_sign(tokens: &[Token], at: u32, sign: Sign) -> Result<u32, ParseFault>
     requires begins { at ≤ length tokens.now }
     requires few { length tokens.now < 2 ^ 32 }
-    ensures found { IfOk result (λ to. (kind_at tokens.now at ≡ Some (TokenKind.Sign sign)) × (to ≡ at + 1)) }
-    ensures fails { IfErr result (λ f. (f ≡ ParseFault.Syntax at) × (kind_at tokens.now at ≡ Some (TokenKind.Sign sign) → ⊥)) }
+    ensures found { IfOk result (λ to. (kind_at tokens.now at ≡ Some (TokenKind.Sign sign))
+        × (to ≡ at + 1)) }
+    ensures fails { IfErr result (λ f. (f ≡ ParseFault.Syntax at)
+        × (kind_at tokens.now at ≡ Some (TokenKind.Sign sign) → ⊥)) }
     ensures moved { IfOk result (λ to. to ≤ length tokens.now) }
     ensures within { IfErr result (λ f. token_of f ≤ length tokens.now) }
 {
@@ -122,8 +125,10 @@ pub fn expect_sign(tokens: &[Token], at: u32, sign: Sign) -> Result<u32, ParseFa
 pub fn expect_word(tokens: &[Token], at: u32, word: Word) -> Result<u32, ParseFault>
     requires begins { at ≤ length tokens.now }
     requires few { length tokens.now < 2 ^ 32 }
-    ensures found { IfOk result (λ to. (kind_at tokens.now at ≡ Some (TokenKind.Word word)) × (to ≡ at + 1)) }
-    ensures fails { IfErr result (λ f. (f ≡ ParseFault.Syntax at) × (kind_at tokens.now at ≡ Some (TokenKind.Word word) → ⊥)) }
+    ensures found { IfOk result (λ to. (kind_at tokens.now at ≡ Some (TokenKind.Word word))
+        × (to ≡ at + 1)) }
+    ensures fails { IfErr result (λ f. (f ≡ ParseFault.Syntax at)
+        × (kind_at tokens.now at ≡ Some (TokenKind.Word word) → ⊥)) }
     ensures moved { IfOk result (λ to. to ≤ length tokens.now) }
     ensures within { IfErr result (λ f. token_of f ≤ length tokens.now) }
 {
@@ -138,8 +143,10 @@ pub fn expect_word(tokens: &[Token], at: u32, word: Word) -> Result<u32, ParseFa
 pub fn read_name(alloc: Global, tokens: &[Token], at: u32) -> Result<(Name, u32), ParseFault>
     requires begins { at ≤ length tokens.now }
     requires few { length tokens.now < 2 ^ 32 }
-    ensures found { IfOk result (λ r. (room : ℕ) → Spells (inner room) name_form tokens.now at r.1 r.0) }
-    ensures fails { IfErr result (λ f. (room : ℕ) → Fails (inner room) (faults room) name_form tokens.now at f) }
+    ensures found { IfOk result (λ r. (room : ℕ) →
+        Spells (inner room) name_form tokens.now at r.1 r.0) }
+    ensures fails { IfErr result (λ f. (room : ℕ) →
+        Fails (inner room) (faults room) name_form tokens.now at f) }
     ensures moved { IfOk result (λ r. (r.1 ≡ at + 1) × (r.1 ≤ length tokens.now)) }
     ensures within { IfErr result (λ f. token_of f ≤ length tokens.now) }
 {

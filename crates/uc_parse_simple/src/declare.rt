@@ -50,7 +50,8 @@ pub fn read_length(
     requires begins { from ≤ length tokens.now }
     requires few { length tokens.now < 2 ^ 32 }
     ensures found { IfOk result (λ r. Spells (inner room) length_form tokens.now from r.1 r.0) }
-    ensures fails { IfErr result (λ f. Fails (inner room) (faults room) length_form tokens.now from f) }
+    ensures fails { IfErr result
+        (λ f. Fails (inner room) (faults room) length_form tokens.now from f) }
     ensures moved { IfOk result (λ r. (from ≤ r.1) × (r.1 ≤ length tokens.now)) }
     ensures within { IfErr result (λ f. token_of f ≤ length tokens.now) }
 {
@@ -72,7 +73,8 @@ pub fn read_start(
     requires begins { from ≤ length tokens.now }
     requires few { length tokens.now < 2 ^ 32 }
     ensures found { IfOk result (λ r. Spells (inner room) start_form tokens.now from r.1 r.0) }
-    ensures fails { IfErr result (λ f. Fails (inner room) (faults room) start_form tokens.now from f) }
+    ensures fails { IfErr result
+        (λ f. Fails (inner room) (faults room) start_form tokens.now from f) }
     ensures moved { IfOk result (λ r. (from ≤ r.1) × (r.1 ≤ length tokens.now)) }
     ensures within { IfErr result (λ f. token_of f ≤ length tokens.now) }
 {
@@ -133,7 +135,8 @@ pub fn read_declarator(
     requires begins { from ≤ length tokens.now }
     requires few { length tokens.now < 2 ^ 32 }
     ensures found { IfOk result (λ r. Spells (inner room) declarator_form tokens.now from r.1 r.0) }
-    ensures fails { IfErr result (λ f. Fails (inner room) (faults room) declarator_form tokens.now from f) }
+    ensures fails { IfErr result
+        (λ f. Fails (inner room) (faults room) declarator_form tokens.now from f) }
     ensures moved { IfOk result (λ r. (from < r.1) × (r.1 ≤ length tokens.now)) }
     ensures within { IfErr result (λ f. token_of f ≤ length tokens.now) }
 {
@@ -163,8 +166,10 @@ pub fn read_declarators(
 ) -> Result<(Vec<Declarator>, u32), ParseFault>
     requires begins { from ≤ length tokens.now }
     requires few { length tokens.now < 2 ^ 32 }
-    ensures found { IfOk result (λ r. Spells (inner room) declarators_form tokens.now from r.1 r.0.items) }
-    ensures fails { IfErr result (λ f. Fails (inner room) (faults room) declarators_form tokens.now from f) }
+    ensures found { IfOk result (λ r. Spells
+        (inner room) declarators_form tokens.now from r.1 r.0.items) }
+    ensures fails { IfErr result
+        (λ f. Fails (inner room) (faults room) declarators_form tokens.now from f) }
     ensures moved { IfOk result (λ r. (from < r.1) × (r.1 ≤ length tokens.now)) }
     ensures within { IfErr result (λ f. token_of f ≤ length tokens.now) }
 {
@@ -189,8 +194,10 @@ pub fn read_simple(
 ) -> Result<(Simple, u32), ParseFault>
     requires begins { from ≤ length tokens.now }
     requires few { length tokens.now < 2 ^ 32 }
-    ensures found { IfOk result (λ r. Spells (inner room) simple_form tokens.now from r.1 (simple_of r.0)) }
-    ensures fails { IfErr result (λ f. Fails (inner room) (faults room) simple_form tokens.now from f) }
+    ensures found { IfOk result (λ r. Spells (inner room) simple_form tokens.now from r.1
+        (simple_of r.0)) }
+    ensures fails { IfErr result
+        (λ f. Fails (inner room) (faults room) simple_form tokens.now from f) }
     ensures moved { IfOk result (λ r. (from < r.1) × (r.1 ≤ length tokens.now)) }
     ensures within { IfErr result (λ f. token_of f ≤ length tokens.now) }
 {
@@ -219,8 +226,12 @@ fn read_based(
 ) -> Result<(Simple, u32), ParseFault>
     requires begins { from ≤ length tokens.now }
     requires few { length tokens.now < 2 ^ 32 }
-    ensures found { IfOk result (λ r. Spells (inner room) (based_or_expr pos (base_of (word_of (kind_at tokens.now from)))) tokens.now from r.1 (simple_of r.0)) }
-    ensures fails { IfErr result (λ f. Fails (inner room) (faults room) (based_or_expr pos (base_of (word_of (kind_at tokens.now from)))) tokens.now from f) }
+    ensures found { IfOk result (λ r. Spells (inner room)
+        (based_or_expr pos (base_of (word_of (kind_at tokens.now from)))) tokens.now from r.1
+        (simple_of r.0)) }
+    ensures fails { IfErr result
+        (λ f. Fails (inner room) (faults room)
+        (based_or_expr pos (base_of (word_of (kind_at tokens.now from)))) tokens.now from f) }
     ensures moved { IfOk result (λ r. (from < r.1) × (r.1 ≤ length tokens.now)) }
     ensures within { IfErr result (λ f. token_of f ≤ length tokens.now) }
 {
@@ -256,8 +267,10 @@ fn read_named(
 ) -> Result<(Simple, u32), ParseFault>
     requires begins { from ≤ length tokens.now }
     requires few { length tokens.now < 2 ^ 32 }
-    ensures found { IfOk result (λ r. Spells (inner room) (look (named_at pos name.now)) tokens.now from r.1 (simple_of r.0)) }
-    ensures fails { IfErr result (λ f. Fails (inner room) (faults room) (look (named_at pos name.now)) tokens.now from f) }
+    ensures found { IfOk result (λ r. Spells (inner room)
+        (look (named_at pos name.now)) tokens.now from r.1 (simple_of r.0)) }
+    ensures fails { IfErr result
+        (λ f. Fails (inner room) (faults room) (look (named_at pos name.now)) tokens.now from f) }
     ensures moved { IfOk result (λ r. (from ≤ r.1) × (r.1 ≤ length tokens.now)) }
     ensures within { IfErr result (λ f. token_of f ≤ length tokens.now) }
 {
@@ -280,8 +293,10 @@ fn read_named_decl(
 ) -> Result<(Simple, u32), ParseFault>
     requires begins { from ≤ length tokens.now }
     requires few { length tokens.now < 2 ^ 32 }
-    ensures found { IfOk result (λ r. Spells (inner room) (named_decl pos name.now) tokens.now from r.1 (simple_of r.0)) }
-    ensures fails { IfErr result (λ f. Fails (inner room) (faults room) (named_decl pos name.now) tokens.now from f) }
+    ensures found { IfOk result (λ r. Spells (inner room)
+        (named_decl pos name.now) tokens.now from r.1 (simple_of r.0)) }
+    ensures fails { IfErr result
+        (λ f. Fails (inner room) (faults room) (named_decl pos name.now) tokens.now from f) }
     ensures moved { IfOk result (λ r. (from < r.1) × (r.1 ≤ length tokens.now)) }
     ensures within { IfErr result (λ f. token_of f ≤ length tokens.now) }
 {
@@ -309,8 +324,10 @@ fn read_named_expr(
 ) -> Result<(Simple, u32), ParseFault>
     requires begins { from ≤ length tokens.now }
     requires few { length tokens.now < 2 ^ 32 }
-    ensures found { IfOk result (λ r. Spells (inner room) (named_expr pos name.now) tokens.now from r.1 (simple_of r.0)) }
-    ensures fails { IfErr result (λ f. Fails (inner room) (faults room) (named_expr pos name.now) tokens.now from f) }
+    ensures found { IfOk result (λ r. Spells (inner room)
+        (named_expr pos name.now) tokens.now from r.1 (simple_of r.0)) }
+    ensures fails { IfErr result
+        (λ f. Fails (inner room) (faults room) (named_expr pos name.now) tokens.now from f) }
     ensures moved { IfOk result (λ r. (from ≤ r.1) × (r.1 ≤ length tokens.now)) }
     ensures within { IfErr result (λ f. token_of f ≤ length tokens.now) }
 {
@@ -334,7 +351,8 @@ pub fn read_simple_stmt(
     requires begins { from ≤ length tokens.now }
     requires few { length tokens.now < 2 ^ 32 }
     ensures found { IfOk result (λ r. Spells (inner room) simple_stmt_form tokens.now from r.1 r.0) }
-    ensures fails { IfErr result (λ f. Fails (inner room) (faults room) simple_stmt_form tokens.now from f) }
+    ensures fails { IfErr result
+        (λ f. Fails (inner room) (faults room) simple_stmt_form tokens.now from f) }
     ensures moved { IfOk result (λ r. (from < r.1) × (r.1 ≤ length tokens.now)) }
     ensures within { IfErr result (λ f. token_of f ≤ length tokens.now) }
 {
@@ -373,7 +391,8 @@ pub fn read_for_start(
     requires begins { from ≤ length tokens.now }
     requires few { length tokens.now < 2 ^ 32 }
     ensures found { IfOk result (λ r. Spells (inner room) for_start_form tokens.now from r.1 r.0) }
-    ensures fails { IfErr result (λ f. Fails (inner room) (faults room) for_start_form tokens.now from f) }
+    ensures fails { IfErr result
+        (λ f. Fails (inner room) (faults room) for_start_form tokens.now from f) }
     ensures moved { IfOk result (λ r. (from < r.1) × (r.1 ≤ length tokens.now)) }
     ensures within { IfErr result (λ f. token_of f ≤ length tokens.now) }
 {
@@ -422,8 +441,10 @@ pub fn read_maybe_expr(
 ) -> Result<(Option<Expr>, u32), ParseFault>
     requires begins { from ≤ length tokens.now }
     requires few { length tokens.now < 2 ^ 32 }
-    ensures found { IfOk result (λ r. Spells (inner room) (maybe_expr close) tokens.now from r.1 r.0) }
-    ensures fails { IfErr result (λ f. Fails (inner room) (faults room) (maybe_expr close) tokens.now from f) }
+    ensures found { IfOk result (λ r. Spells (inner room)
+        (maybe_expr close) tokens.now from r.1 r.0) }
+    ensures fails { IfErr result
+        (λ f. Fails (inner room) (faults room) (maybe_expr close) tokens.now from f) }
     ensures moved { IfOk result (λ r. (from < r.1) × (r.1 ≤ length tokens.now)) }
     ensures within { IfErr result (λ f. token_of f ≤ length tokens.now) }
 {

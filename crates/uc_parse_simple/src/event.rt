@@ -36,7 +36,8 @@ fn read_param_name(
     requires begins { from ≤ length tokens.now }
     requires few { length tokens.now < 2 ^ 32 }
     ensures found { IfOk result (λ r. Spells (inner room) maybe_name_closed tokens.now from r.1 r.0) }
-    ensures fails { IfErr result (λ f. Fails (inner room) (faults room) maybe_name_closed tokens.now from f) }
+    ensures fails { IfErr result
+        (λ f. Fails (inner room) (faults room) maybe_name_closed tokens.now from f) }
     ensures moved { IfOk result (λ r. (from < r.1) × (r.1 ≤ length tokens.now)) }
     ensures within { IfErr result (λ f. token_of f ≤ length tokens.now) }
 {
@@ -57,8 +58,10 @@ pub fn read_caught(
 ) -> Result<(Caught, u32), ParseFault>
     requires begins { from ≤ length tokens.now }
     requires few { length tokens.now < 2 ^ 32 }
-    ensures found { IfOk result (λ r. Spells (inner room) caught_form tokens.now from r.1 (caught_of r.0)) }
-    ensures fails { IfErr result (λ f. Fails (inner room) (faults room) caught_form tokens.now from f) }
+    ensures found { IfOk result (λ r. Spells (inner room) caught_form tokens.now from r.1
+        (caught_of r.0)) }
+    ensures fails { IfErr result
+        (λ f. Fails (inner room) (faults room) caught_form tokens.now from f) }
     ensures moved { IfOk result (λ r. (from < r.1) × (r.1 ≤ length tokens.now)) }
     ensures within { IfErr result (λ f. token_of f ≤ length tokens.now) }
 {
@@ -85,8 +88,10 @@ fn read_one_event(
 ) -> Result<(Caught, u32), ParseFault>
     requires begins { from ≤ length tokens.now }
     requires few { length tokens.now < 2 ^ 32 }
-    ensures found { IfOk result (λ r. Spells (inner room) one_event_form tokens.now from r.1 (caught_of r.0)) }
-    ensures fails { IfErr result (λ f. Fails (inner room) (faults room) one_event_form tokens.now from f) }
+    ensures found { IfOk result (λ r. Spells (inner room) one_event_form tokens.now from r.1
+        (caught_of r.0)) }
+    ensures fails { IfErr result
+        (λ f. Fails (inner room) (faults room) one_event_form tokens.now from f) }
     ensures moved { IfOk result (λ r. (from < r.1) × (r.1 ≤ length tokens.now)) }
     ensures within { IfErr result (λ f. token_of f ≤ length tokens.now) }
 {
@@ -112,7 +117,8 @@ pub fn read_raised(
     requires begins { from ≤ length tokens.now }
     requires few { length tokens.now < 2 ^ 32 }
     ensures found { IfOk result (λ r. Spells (inner room) raised_form tokens.now from r.1 r.0) }
-    ensures fails { IfErr result (λ f. Fails (inner room) (faults room) raised_form tokens.now from f) }
+    ensures fails { IfErr result
+        (λ f. Fails (inner room) (faults room) raised_form tokens.now from f) }
     ensures moved { IfOk result (λ r. (from < r.1) × (r.1 ≤ length tokens.now)) }
     ensures within { IfErr result (λ f. token_of f ≤ length tokens.now) }
 {
@@ -134,7 +140,8 @@ fn read_event(
     requires few { length tokens.now < 2 ^ 32 }
     requires begun { from < length tokens.now }
     ensures found { IfOk result (λ r. Spells (inner room) event_form tokens.now from r.1 r.0) }
-    ensures fails { IfErr result (λ f. Fails (inner room) (faults room) event_form tokens.now from f) }
+    ensures fails { IfErr result
+        (λ f. Fails (inner room) (faults room) event_form tokens.now from f) }
     ensures moved { IfOk result (λ r. (from < r.1) × (r.1 ≤ length tokens.now)) }
     ensures within { IfErr result (λ f. token_of f ≤ length tokens.now) }
 {
@@ -154,7 +161,8 @@ pub fn read_events(
     requires begins { from ≤ length tokens.now }
     requires few { length tokens.now < 2 ^ 32 }
     ensures found { IfOk result (λ r. Spells (inner room) events_form tokens.now from r.1 r.0.items) }
-    ensures fails { IfErr result (λ f. Fails (inner room) (faults room) events_form tokens.now from f) }
+    ensures fails { IfErr result
+        (λ f. Fails (inner room) (faults room) events_form tokens.now from f) }
     ensures moved { IfOk result (λ r. (from ≤ r.1) × (r.1 ≤ length tokens.now)) }
     ensures within { IfErr result (λ f. token_of f ≤ length tokens.now) }
 {
@@ -178,7 +186,8 @@ fn read_member_name(
     requires begins { from ≤ length tokens.now }
     requires few { length tokens.now < 2 ^ 32 }
     ensures found { IfOk result (λ r. Spells (inner room) member_name_form tokens.now from r.1 r.0) }
-    ensures fails { IfErr result (λ f. Fails (inner room) (faults room) member_name_form tokens.now from f) }
+    ensures fails { IfErr result
+        (λ f. Fails (inner room) (faults room) member_name_form tokens.now from f) }
     ensures moved { IfOk result (λ r. (from < r.1) × (r.1 ≤ length tokens.now)) }
     ensures within { IfErr result (λ f. token_of f ≤ length tokens.now) }
 {
@@ -196,8 +205,10 @@ fn read_member_names(
 ) -> Result<(Vec<MemberName>, u32), ParseFault>
     requires begins { from ≤ length tokens.now }
     requires few { length tokens.now < 2 ^ 32 }
-    ensures found { IfOk result (λ r. Spells (inner room) member_names_form tokens.now from r.1 r.0.items) }
-    ensures fails { IfErr result (λ f. Fails (inner room) (faults room) member_names_form tokens.now from f) }
+    ensures found { IfOk result (λ r. Spells
+        (inner room) member_names_form tokens.now from r.1 r.0.items) }
+    ensures fails { IfErr result
+        (λ f. Fails (inner room) (faults room) member_names_form tokens.now from f) }
     ensures moved { IfOk result (λ r. (from < r.1) × (r.1 ≤ length tokens.now)) }
     ensures within { IfErr result (λ f. token_of f ≤ length tokens.now) }
 {
@@ -222,8 +233,10 @@ pub fn read_members(
 ) -> Result<(Vec<MemberName>, u32), ParseFault>
     requires begins { from ≤ length tokens.now }
     requires few { length tokens.now < 2 ^ 32 }
-    ensures found { IfOk result (λ r. Spells (inner room) members_form tokens.now from r.1 r.0.items) }
-    ensures fails { IfErr result (λ f. Fails (inner room) (faults room) members_form tokens.now from f) }
+    ensures found { IfOk result (λ r. Spells
+        (inner room) members_form tokens.now from r.1 r.0.items) }
+    ensures fails { IfErr result
+        (λ f. Fails (inner room) (faults room) members_form tokens.now from f) }
     ensures moved { IfOk result (λ r. (from < r.1) × (r.1 ≤ length tokens.now)) }
     ensures within { IfErr result (λ f. token_of f ≤ length tokens.now) }
 {
@@ -244,7 +257,8 @@ pub fn read_condition(
     requires begins { from ≤ length tokens.now }
     requires few { length tokens.now < 2 ^ 32 }
     ensures found { IfOk result (λ r. Spells (inner room) condition_form tokens.now from r.1 r.0) }
-    ensures fails { IfErr result (λ f. Fails (inner room) (faults room) condition_form tokens.now from f) }
+    ensures fails { IfErr result
+        (λ f. Fails (inner room) (faults room) condition_form tokens.now from f) }
     ensures moved { IfOk result (λ r. (from < r.1) × (r.1 ≤ length tokens.now)) }
     ensures within { IfErr result (λ f. token_of f ≤ length tokens.now) }
 {
@@ -264,7 +278,8 @@ pub fn read_guard(
     requires begins { from ≤ length tokens.now }
     requires few { length tokens.now < 2 ^ 32 }
     ensures found { IfOk result (λ r. Spells (inner room) guard_form tokens.now from r.1 r.0) }
-    ensures fails { IfErr result (λ f. Fails (inner room) (faults room) guard_form tokens.now from f) }
+    ensures fails { IfErr result
+        (λ f. Fails (inner room) (faults room) guard_form tokens.now from f) }
     ensures moved { IfOk result (λ r. (from ≤ r.1) × (r.1 ≤ length tokens.now)) }
     ensures within { IfErr result (λ f. token_of f ≤ length tokens.now) }
 {

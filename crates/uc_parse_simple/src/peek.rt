@@ -52,7 +52,9 @@ pub fn is_name_at(tokens: &[Token], at: u32) -> bool
 
 /// The text at a place.
 pub fn text_at(tokens: &[Token], at: u32) -> Option<&Text>
-    ensures text { MatchOption result ((t : List ℕ) → kind_at tokens.now at ≡ Some (TokenKind.Text t) → ⊥) (λ t. kind_at tokens.now at ≡ Some (TokenKind.Text t.now)) }
+    ensures text { MatchOption result ((t : List ℕ) →
+        kind_at tokens.now at ≡ Some (TokenKind.Text t) →
+        ⊥) (λ t. kind_at tokens.now at ≡ Some (TokenKind.Text t.now)) }
     ensures inside { IsSome result → at < length tokens.now }
 {
     match kind_at(tokens, at) {
@@ -103,7 +105,8 @@ pub fn is_less_at(tokens: &[Token], at: u32) -> bool
 pub fn skip_sign(tokens: &[Token], at: u32, sign: Sign) -> (bool, u32)
     requires begins { at ≤ length tokens.now }
     requires few { length tokens.now < 2 ^ 32 }
-    ensures found { (room : ℕ) → Spells (inner room) (maybe_sign sign) tokens.now at result.1 result.0 }
+    ensures found { (room : ℕ) →
+        Spells (inner room) (maybe_sign sign) tokens.now at result.1 result.0 }
     ensures moved { (at ≤ result.1) × (result.1 ≤ length tokens.now) }
 {
     if is_sign(tokens, at, sign) {

@@ -31,8 +31,11 @@ fn read_return(
 ) -> Result<(Stmt, u32), ParseFault>
     requires begins { from ≤ length tokens.now }
     requires few { length tokens.now < 2 ^ 32 }
-    ensures found { IfOk result (λ r. Spells (inner room) (apply (Return pos) (maybe_expr Sign.Semicolon)) tokens.now from r.1 r.0) }
-    ensures fails { IfErr result (λ f. Fails (inner room) (faults room) (apply (Return pos) (maybe_expr Sign.Semicolon)) tokens.now from f) }
+    ensures found { IfOk result (λ r. Spells (inner room)
+        (apply (Return pos) (maybe_expr Sign.Semicolon)) tokens.now from r.1 r.0) }
+    ensures fails { IfErr result
+        (λ f. Fails (inner room) (faults room)
+        (apply (Return pos) (maybe_expr Sign.Semicolon)) tokens.now from f) }
     ensures moved { IfOk result (λ r. (from < r.1) × (r.1 ≤ length tokens.now)) }
     ensures within { IfErr result (λ f. token_of f ≤ length tokens.now) }
 {
@@ -57,7 +60,8 @@ fn read_throw(
     requires begins { from ≤ length tokens.now }
     requires few { length tokens.now < 2 ^ 32 }
     ensures found { IfOk result (λ r. Spells (inner room) (throw_rest pos) tokens.now from r.1 r.0) }
-    ensures fails { IfErr result (λ f. Fails (inner room) (faults room) (throw_rest pos) tokens.now from f) }
+    ensures fails { IfErr result
+        (λ f. Fails (inner room) (faults room) (throw_rest pos) tokens.now from f) }
     ensures moved { IfOk result (λ r. (from < r.1) × (r.1 ≤ length tokens.now)) }
     ensures within { IfErr result (λ f. token_of f ≤ length tokens.now) }
 {
@@ -94,7 +98,8 @@ fn read_raise(
     requires begins { from ≤ length tokens.now }
     requires few { length tokens.now < 2 ^ 32 }
     ensures found { IfOk result (λ r. Spells (inner room) (raise_rest pos) tokens.now from r.1 r.0) }
-    ensures fails { IfErr result (λ f. Fails (inner room) (faults room) (raise_rest pos) tokens.now from f) }
+    ensures fails { IfErr result
+        (λ f. Fails (inner room) (faults room) (raise_rest pos) tokens.now from f) }
     ensures moved { IfOk result (λ r. (from < r.1) × (r.1 ≤ length tokens.now)) }
     ensures within { IfErr result (λ f. token_of f ≤ length tokens.now) }
 {
@@ -124,8 +129,10 @@ fn read_target(
 ) -> Result<(Stmt, u32), ParseFault>
     requires begins { from ≤ length tokens.now }
     requires few { length tokens.now < 2 ^ 32 }
-    ensures found { IfOk result (λ r. Spells (inner room) (at_form pos raised) tokens.now from r.1 r.0) }
-    ensures fails { IfErr result (λ f. Fails (inner room) (faults room) (at_form pos raised) tokens.now from f) }
+    ensures found { IfOk result (λ r. Spells (inner room)
+        (at_form pos raised) tokens.now from r.1 r.0) }
+    ensures fails { IfErr result
+        (λ f. Fails (inner room) (faults room) (at_form pos raised) tokens.now from f) }
     ensures moved { IfOk result (λ r. (from ≤ r.1) × (r.1 ≤ length tokens.now)) }
     ensures within { IfErr result (λ f. token_of f ≤ length tokens.now) }
 {
@@ -159,8 +166,11 @@ fn read_cluster(
 ) -> Result<(Expr, u32), ParseFault>
     requires begins { from ≤ length tokens.now }
     requires few { length tokens.now < 2 ^ 32 }
-    ensures found { IfOk result (λ r. Spells (inner room) (before postfix_form Sign.CloseParen) tokens.now from r.1 r.0) }
-    ensures fails { IfErr result (λ f. Fails (inner room) (faults room) (before postfix_form Sign.CloseParen) tokens.now from f) }
+    ensures found { IfOk result (λ r. Spells (inner room)
+        (before postfix_form Sign.CloseParen) tokens.now from r.1 r.0) }
+    ensures fails { IfErr result
+        (λ f. Fails (inner room) (faults room)
+        (before postfix_form Sign.CloseParen) tokens.now from f) }
     ensures moved { IfOk result (λ r. (from < r.1) × (r.1 ≤ length tokens.now)) }
     ensures within { IfErr result (λ f. token_of f ≤ length tokens.now) }
 {
@@ -179,8 +189,10 @@ fn read_migrate(
 ) -> Result<(Stmt, u32), ParseFault>
     requires begins { from ≤ length tokens.now }
     requires few { length tokens.now < 2 ^ 32 }
-    ensures found { IfOk result (λ r. Spells (inner room) (migrate_rest pos) tokens.now from r.1 r.0) }
-    ensures fails { IfErr result (λ f. Fails (inner room) (faults room) (migrate_rest pos) tokens.now from f) }
+    ensures found { IfOk result (λ r. Spells (inner room)
+        (migrate_rest pos) tokens.now from r.1 r.0) }
+    ensures fails { IfErr result
+        (λ f. Fails (inner room) (faults room) (migrate_rest pos) tokens.now from f) }
     ensures moved { IfOk result (λ r. (from < r.1) × (r.1 ≤ length tokens.now)) }
     ensures within { IfErr result (λ f. token_of f ≤ length tokens.now) }
 {
@@ -200,8 +212,10 @@ fn read_migrate(
 fn read_no_arguments(tokens: &[Token], from: u32) -> Result<u32, ParseFault>
     requires begins { from ≤ length tokens.now }
     requires few { length tokens.now < 2 ^ 32 }
-    ensures found { IfOk result (λ to. (room : ℕ) → (s : Stmt) → Spells (inner room) (no_arguments s) tokens.now from to s) }
-    ensures fails { IfErr result (λ f. (room : ℕ) → (s : Stmt) → Fails (inner room) (faults room) (no_arguments s) tokens.now from f) }
+    ensures found { IfOk result (λ to. (room : ℕ) → (s : Stmt) →
+        Spells (inner room) (no_arguments s) tokens.now from to s) }
+    ensures fails { IfErr result (λ f. (room : ℕ) → (s : Stmt) →
+        Fails (inner room) (faults room) (no_arguments s) tokens.now from f) }
     ensures moved { IfOk result (λ to. (from < to) × (to ≤ length tokens.now)) }
     ensures within { IfErr result (λ f. token_of f ≤ length tokens.now) }
 {
@@ -224,8 +238,10 @@ fn read_bare(
     requires few { length tokens.now < 2 ^ 32 }
     requires bare { IsTrue (is_bare start) }
     requires begun { start ≢ StmtStart.Simple → from < length tokens.now }
-    ensures found { IfOk result (λ r. Spells (inner room) (stmt_by pos start) tokens.now from r.1 r.0) }
-    ensures fails { IfErr result (λ f. Fails (inner room) (faults room) (stmt_by pos start) tokens.now from f) }
+    ensures found { IfOk result (λ r. Spells (inner room)
+        (stmt_by pos start) tokens.now from r.1 r.0) }
+    ensures fails { IfErr result
+        (λ f. Fails (inner room) (faults room) (stmt_by pos start) tokens.now from f) }
     ensures moved { IfOk result (λ r. (from < r.1) × (r.1 ≤ length tokens.now)) }
     ensures within { IfErr result (λ f. token_of f ≤ length tokens.now) }
 {
@@ -279,8 +295,10 @@ pub fn read_plain(
     requires few { length tokens.now < 2 ^ 32 }
     requires plain { IsTrue (is_plain start) }
     requires begun { start ≢ StmtStart.Simple → from < length tokens.now }
-    ensures found { IfOk result (λ r. Spells (inner room) (stmt_by pos start) tokens.now from r.1 r.0) }
-    ensures fails { IfErr result (λ f. Fails (inner room) (faults room) (stmt_by pos start) tokens.now from f) }
+    ensures found { IfOk result (λ r. Spells (inner room)
+        (stmt_by pos start) tokens.now from r.1 r.0) }
+    ensures fails { IfErr result
+        (λ f. Fails (inner room) (faults room) (stmt_by pos start) tokens.now from f) }
     ensures moved { IfOk result (λ r. (from < r.1) × (r.1 ≤ length tokens.now)) }
     ensures within { IfErr result (λ f. token_of f ≤ length tokens.now) }
 {

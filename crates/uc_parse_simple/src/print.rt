@@ -28,7 +28,8 @@ fn read_out(
     requires begins { from ≤ length tokens.now }
     requires few { length tokens.now < 2 ^ 32 }
     ensures found { IfOk result (λ r. Spells (inner room) out_form tokens.now from r.1 r.0) }
-    ensures fails { IfErr result (λ f. Fails (inner room) (faults room) out_form tokens.now from f) }
+    ensures fails { IfErr result
+        (λ f. Fails (inner room) (faults room) out_form tokens.now from f) }
     ensures moved { IfOk result (λ r. (from < r.1) × (r.1 ≤ length tokens.now)) }
     ensures within { IfErr result (λ f. token_of f ≤ length tokens.now) }
 {
@@ -48,8 +49,10 @@ fn read_item(
 ) -> Result<(OutItem, u32), ParseFault>
     requires begins { from ≤ length tokens.now }
     requires few { length tokens.now < 2 ^ 32 }
-    ensures found { IfOk result (λ r. Spells (inner room) (look (out_at sign)) tokens.now from r.1 r.0) }
-    ensures fails { IfErr result (λ f. Fails (inner room) (faults room) (look (out_at sign)) tokens.now from f) }
+    ensures found { IfOk result (λ r. Spells (inner room)
+        (look (out_at sign)) tokens.now from r.1 r.0) }
+    ensures fails { IfErr result
+        (λ f. Fails (inner room) (faults room) (look (out_at sign)) tokens.now from f) }
     ensures moved { IfOk result (λ r. (from < r.1) × (r.1 ≤ length tokens.now)) }
     ensures within { IfErr result (λ f. token_of f ≤ length tokens.now) }
 {
@@ -96,8 +99,10 @@ fn read_items(
 ) -> Result<(Vec<OutItem>, u32), ParseFault>
     requires begins { from ≤ length tokens.now }
     requires few { length tokens.now < 2 ^ 32 }
-    ensures found { IfOk result (λ r. Spells (inner room) out_items_form tokens.now from r.1 r.0.items) }
-    ensures fails { IfErr result (λ f. Fails (inner room) (faults room) out_items_form tokens.now from f) }
+    ensures found { IfOk result (λ r. Spells
+        (inner room) out_items_form tokens.now from r.1 r.0.items) }
+    ensures fails { IfErr result
+        (λ f. Fails (inner room) (faults room) out_items_form tokens.now from f) }
     ensures moved { IfOk result (λ r. (from < r.1) × (r.1 ≤ length tokens.now)) }
     ensures within { IfErr result (λ f. token_of f ≤ length tokens.now) }
 {
@@ -123,7 +128,8 @@ pub fn read_outs(
     requires begins { from ≤ length tokens.now }
     requires few { length tokens.now < 2 ^ 32 }
     ensures found { IfOk result (λ r. Spells (inner room) outs_form tokens.now from r.1 r.0.items) }
-    ensures fails { IfErr result (λ f. Fails (inner room) (faults room) outs_form tokens.now from f) }
+    ensures fails { IfErr result
+        (λ f. Fails (inner room) (faults room) outs_form tokens.now from f) }
     ensures moved { IfOk result (λ r. (from < r.1) × (r.1 ≤ length tokens.now)) }
     ensures within { IfErr result (λ f. token_of f ≤ length tokens.now) }
 {
@@ -142,8 +148,10 @@ pub fn read_together(
 ) -> Result<(Stmt, u32), ParseFault>
     requires begins { from ≤ length tokens.now }
     requires few { length tokens.now < 2 ^ 32 }
-    ensures found { IfOk result (λ r. Spells (inner room) (together_rest pos) tokens.now from r.1 r.0) }
-    ensures fails { IfErr result (λ f. Fails (inner room) (faults room) (together_rest pos) tokens.now from f) }
+    ensures found { IfOk result (λ r. Spells (inner room)
+        (together_rest pos) tokens.now from r.1 r.0) }
+    ensures fails { IfErr result
+        (λ f. Fails (inner room) (faults room) (together_rest pos) tokens.now from f) }
     ensures moved { IfOk result (λ r. (from < r.1) × (r.1 ≤ length tokens.now)) }
     ensures within { IfErr result (λ f. token_of f ≤ length tokens.now) }
 {
@@ -170,7 +178,8 @@ fn read_places(
     requires begins { from ≤ length tokens.now }
     requires few { length tokens.now < 2 ^ 32 }
     ensures found { IfOk result (λ r. Spells (inner room) places_form tokens.now from r.1 r.0.items) }
-    ensures fails { IfErr result (λ f. Fails (inner room) (faults room) places_form tokens.now from f) }
+    ensures fails { IfErr result
+        (λ f. Fails (inner room) (faults room) places_form tokens.now from f) }
     ensures moved { IfOk result (λ r. (from < r.1) × (r.1 ≤ length tokens.now)) }
     ensures within { IfErr result (λ f. token_of f ≤ length tokens.now) }
 {
@@ -197,7 +206,8 @@ pub fn read_cin(
     requires begins { from ≤ length tokens.now }
     requires few { length tokens.now < 2 ^ 32 }
     ensures found { IfOk result (λ r. Spells (inner room) (cin_rest pos) tokens.now from r.1 r.0) }
-    ensures fails { IfErr result (λ f. Fails (inner room) (faults room) (cin_rest pos) tokens.now from f) }
+    ensures fails { IfErr result
+        (λ f. Fails (inner room) (faults room) (cin_rest pos) tokens.now from f) }
     ensures moved { IfOk result (λ r. (from < r.1) × (r.1 ≤ length tokens.now)) }
     ensures within { IfErr result (λ f. token_of f ≤ length tokens.now) }
 {

@@ -106,8 +106,10 @@ fn read_if_head(
 ) -> Result<(Head, u32), ParseFault>
     requires begins { from ≤ length tokens.now }
     requires few { length tokens.now < 2 ^ 32 }
-    ensures leads { IfOk result (λ r. Leads room tokens.now (if_rest pos) from (head_form pos r.0) r.1) }
-    ensures fails { IfErr result (λ f. Fails (inner room) (faults room) (if_rest pos) tokens.now from f) }
+    ensures leads { IfOk result (λ r. Leads room tokens.now (if_rest pos) from
+        (head_form pos r.0) r.1) }
+    ensures fails { IfErr result
+        (λ f. Fails (inner room) (faults room) (if_rest pos) tokens.now from f) }
     ensures moved { IfOk result (λ r. (from < r.1) × (r.1 ≤ length tokens.now)) }
     ensures within { IfErr result (λ f. token_of f ≤ length tokens.now) }
 {
@@ -125,8 +127,10 @@ fn read_while_head(
 ) -> Result<(Head, u32), ParseFault>
     requires begins { from ≤ length tokens.now }
     requires few { length tokens.now < 2 ^ 32 }
-    ensures leads { IfOk result (λ r. Leads room tokens.now (while_rest pos) from (head_form pos r.0) r.1) }
-    ensures fails { IfErr result (λ f. Fails (inner room) (faults room) (while_rest pos) tokens.now from f) }
+    ensures leads { IfOk result (λ r. Leads room tokens.now (while_rest pos) from
+        (head_form pos r.0) r.1) }
+    ensures fails { IfErr result
+        (λ f. Fails (inner room) (faults room) (while_rest pos) tokens.now from f) }
     ensures moved { IfOk result (λ r. (from < r.1) × (r.1 ≤ length tokens.now)) }
     ensures within { IfErr result (λ f. token_of f ≤ length tokens.now) }
 {
@@ -144,8 +148,10 @@ fn read_for_head(
 ) -> Result<(Head, u32), ParseFault>
     requires begins { from ≤ length tokens.now }
     requires few { length tokens.now < 2 ^ 32 }
-    ensures leads { IfOk result (λ r. Leads room tokens.now (for_rest pos) from (head_form pos r.0) r.1) }
-    ensures fails { IfErr result (λ f. Fails (inner room) (faults room) (for_rest pos) tokens.now from f) }
+    ensures leads { IfOk result (λ r. Leads room tokens.now (for_rest pos) from
+        (head_form pos r.0) r.1) }
+    ensures fails { IfErr result
+        (λ f. Fails (inner room) (faults room) (for_rest pos) tokens.now from f) }
     ensures moved { IfOk result (λ r. (from < r.1) × (r.1 ≤ length tokens.now)) }
     ensures within { IfErr result (λ f. token_of f ≤ length tokens.now) }
 {
@@ -166,8 +172,10 @@ fn read_enable_head(
 ) -> Result<(Head, u32), ParseFault>
     requires begins { from ≤ length tokens.now }
     requires few { length tokens.now < 2 ^ 32 }
-    ensures leads { IfOk result (λ r. Leads room tokens.now (enable_rest pos) from (head_form pos r.0) r.1) }
-    ensures fails { IfErr result (λ f. Fails (inner room) (faults room) (enable_rest pos) tokens.now from f) }
+    ensures leads { IfOk result (λ r. Leads room tokens.now (enable_rest pos) from
+        (head_form pos r.0) r.1) }
+    ensures fails { IfErr result
+        (λ f. Fails (inner room) (faults room) (enable_rest pos) tokens.now from f) }
     ensures moved { IfOk result (λ r. (from ≤ r.1) × (r.1 ≤ length tokens.now)) }
     ensures within { IfErr result (λ f. token_of f ≤ length tokens.now) }
 {
@@ -185,8 +193,10 @@ fn read_disable_head(
 ) -> Result<(Head, u32), ParseFault>
     requires begins { from ≤ length tokens.now }
     requires few { length tokens.now < 2 ^ 32 }
-    ensures leads { IfOk result (λ r. Leads room tokens.now (disable_rest pos) from (head_form pos r.0) r.1) }
-    ensures fails { IfErr result (λ f. Fails (inner room) (faults room) (disable_rest pos) tokens.now from f) }
+    ensures leads { IfOk result (λ r. Leads room tokens.now (disable_rest pos) from
+        (head_form pos r.0) r.1) }
+    ensures fails { IfErr result
+        (λ f. Fails (inner room) (faults room) (disable_rest pos) tokens.now from f) }
     ensures moved { IfOk result (λ r. (from ≤ r.1) × (r.1 ≤ length tokens.now)) }
     ensures within { IfErr result (λ f. token_of f ≤ length tokens.now) }
 {
@@ -204,7 +214,8 @@ pub fn read_clause_head(
     requires begins { from ≤ length tokens.now }
     requires few { length tokens.now < 2 ^ 32 }
     ensures leads { IfOk result (λ r. Leads room tokens.now clause_form from (clause_rest r.0) r.1) }
-    ensures fails { IfErr result (λ f. Fails (inner room) (faults room) clause_form tokens.now from f) }
+    ensures fails { IfErr result
+        (λ f. Fails (inner room) (faults room) clause_form tokens.now from f) }
     ensures moved { IfOk result (λ r. (from < r.1) × (r.1 ≤ length tokens.now)) }
     ensures within { IfErr result (λ f. token_of f ≤ length tokens.now) }
 {
@@ -244,8 +255,10 @@ fn read_taken(
 ) -> Result<(HandlerHead, u32), ParseFault>
     requires begins { from ≤ length tokens.now }
     requires few { length tokens.now < 2 ^ 32 }
-    ensures leads { IfOk result (λ r. Leads room tokens.now (taken_form pos kind) from (handler_rest r.0) r.1) }
-    ensures fails { IfErr result (λ f. Fails (inner room) (faults room) (taken_form pos kind) tokens.now from f) }
+    ensures leads { IfOk result (λ r. Leads room tokens.now (taken_form pos kind) from
+        (handler_rest r.0) r.1) }
+    ensures fails { IfErr result
+        (λ f. Fails (inner room) (faults room) (taken_form pos kind) tokens.now from f) }
     ensures moved { IfOk result (λ r. (from < r.1) × (r.1 ≤ length tokens.now)) }
     ensures within { IfErr result (λ f. token_of f ≤ length tokens.now) }
 {
@@ -272,8 +285,10 @@ pub fn read_handler_head(
 ) -> Result<(HandlerHead, u32), ParseFault>
     requires begins { from ≤ length tokens.now }
     requires few { length tokens.now < 2 ^ 32 }
-    ensures leads { IfOk result (λ r. Leads room tokens.now handler_form from (handler_rest r.0) r.1) }
-    ensures fails { IfErr result (λ f. Fails (inner room) (faults room) handler_form tokens.now from f) }
+    ensures leads { IfOk result (λ r. Leads room tokens.now handler_form from
+        (handler_rest r.0) r.1) }
+    ensures fails { IfErr result
+        (λ f. Fails (inner room) (faults room) handler_form tokens.now from f) }
     ensures moved { IfOk result (λ r. (from < r.1) × (r.1 ≤ length tokens.now)) }
     ensures within { IfErr result (λ f. token_of f ≤ length tokens.now) }
 {
@@ -306,8 +321,10 @@ pub fn read_brace(tokens: &[Token], from: u32) -> Result<(Pos, u32), ParseFault>
     requires begins { from ≤ length tokens.now }
     requires few { length tokens.now < 2 ^ 32 }
     ensures place { IfOk result (λ r. r.0 ≡ pos_at tokens.now from) }
-    ensures found { IfOk result (λ r. (kind_at tokens.now from ≡ Some (TokenKind.Sign Sign.OpenBrace)) × (r.1 ≡ from + 1)) }
-    ensures fails { IfErr result (λ f. (f ≡ ParseFault.Syntax from) × (kind_at tokens.now from ≡ Some (TokenKind.Sign Sign.OpenBrace) → ⊥)) }
+    ensures found { IfOk result (λ r. (kind_at tokens.now from
+        ≡ Some (TokenKind.Sign Sign.OpenBrace)) × (r.1 ≡ from + 1)) }
+    ensures fails { IfErr result (λ f. (f ≡ ParseFault.Syntax from)
+        × (kind_at tokens.now from ≡ Some (TokenKind.Sign Sign.OpenBrace) → ⊥)) }
     ensures moved { IfOk result (λ r. r.1 ≤ length tokens.now) }
     ensures within { IfErr result (λ f. token_of f ≤ length tokens.now) }
 {
@@ -328,8 +345,10 @@ fn begin_as(
     requires begins { from ≤ length tokens.now }
     requires few { length tokens.now < 2 ^ 32 }
     requires begun { start ≢ StmtStart.Simple → from < length tokens.now }
-    ensures leads { IfOk result (λ r. LeadsOpen (is_open r.0) room tokens.now (stmt_by pos start) from (begun_form pos r.0) r.1) }
-    ensures fails { IfErr result (λ f. Fails (inner room) (faults room) (stmt_by pos start) tokens.now from f) }
+    ensures leads { IfOk result (λ r. LeadsOpen (is_open r.0) room tokens.now
+        (stmt_by pos start) from (begun_form pos r.0) r.1) }
+    ensures fails { IfErr result
+        (λ f. Fails (inner room) (faults room) (stmt_by pos start) tokens.now from f) }
     ensures moved { IfOk result (λ r. (from < r.1) × (r.1 ≤ length tokens.now)) }
     ensures within { IfErr result (λ f. token_of f ≤ length tokens.now) }
 {
@@ -380,8 +399,10 @@ pub fn begin(
 ) -> Result<(Pos, Begun, u32), ParseFault>
     requires begins { from ≤ length tokens.now }
     requires few { length tokens.now < 2 ^ 32 }
-    ensures leads { IfOk result (λ r. LeadsOpen (is_open r.1) room tokens.now stmt_form from (begun_form r.0 r.1) r.2) }
-    ensures fails { IfErr result (λ f. Fails (inner room) (faults room) stmt_form tokens.now from f) }
+    ensures leads { IfOk result (λ r. LeadsOpen (is_open r.1) room tokens.now stmt_form from
+        (begun_form r.0 r.1) r.2) }
+    ensures fails { IfErr result
+        (λ f. Fails (inner room) (faults room) stmt_form tokens.now from f) }
     ensures moved { IfOk result (λ r. (from < r.2) × (r.2 ≤ length tokens.now)) }
     ensures within { IfErr result (λ f. token_of f ≤ length tokens.now) }
 {
@@ -415,7 +436,8 @@ fn read_do_condition(
     requires begins { from ≤ length tokens.now }
     requires few { length tokens.now < 2 ^ 32 }
     ensures found { IfOk result (λ r. Spells (inner room) do_condition tokens.now from r.1 r.0) }
-    ensures fails { IfErr result (λ f. Fails (inner room) (faults room) do_condition tokens.now from f) }
+    ensures fails { IfErr result
+        (λ f. Fails (inner room) (faults room) do_condition tokens.now from f) }
     ensures moved { IfOk result (λ r. (from < r.1) × (r.1 ≤ length tokens.now)) }
     ensures within { IfErr result (λ f. token_of f ≤ length tokens.now) }
 {
@@ -436,8 +458,10 @@ fn read_do_test(
 ) -> Result<(Stmt, u32), ParseFault>
     requires begins { from ≤ length tokens.now }
     requires few { length tokens.now < 2 ^ 32 }
-    ensures found { IfOk result (λ r. Spells (inner room) (do_test pos body) tokens.now from r.1 r.0) }
-    ensures fails { IfErr result (λ f. Fails (inner room) (faults room) (do_test pos body) tokens.now from f) }
+    ensures found { IfOk result (λ r. Spells (inner room)
+        (do_test pos body) tokens.now from r.1 r.0) }
+    ensures fails { IfErr result
+        (λ f. Fails (inner room) (faults room) (do_test pos body) tokens.now from f) }
     ensures moved { IfOk result (λ r. (from ≤ r.1) × (r.1 ≤ length tokens.now)) }
     ensures within { IfErr result (λ f. token_of f ≤ length tokens.now) }
 {
@@ -458,8 +482,11 @@ pub fn read_close(
 ) -> Result<(Stmt, u32), ParseFault>
     requires begins { from ≤ length tokens.now }
     requires few { length tokens.now < 2 ^ 32 }
-    ensures found { IfOk result (λ r. Spells (inner room) (close_form pos head (bodies_of bodies).0 (bodies_of bodies).1) tokens.now from r.1 r.0) }
-    ensures fails { IfErr result (λ f. Fails (inner room) (faults room) (close_form pos head (bodies_of bodies).0 (bodies_of bodies).1) tokens.now from f) }
+    ensures found { IfOk result (λ r. Spells (inner room)
+        (close_form pos head (bodies_of bodies).0 (bodies_of bodies).1) tokens.now from r.1 r.0) }
+    ensures fails { IfErr result
+        (λ f. Fails (inner room) (faults room)
+        (close_form pos head (bodies_of bodies).0 (bodies_of bodies).1) tokens.now from f) }
     ensures moved { IfOk result (λ r. (from ≤ r.1) × (r.1 ≤ length tokens.now)) }
     ensures within { IfErr result (λ f. token_of f ≤ length tokens.now) }
 {

@@ -50,10 +50,14 @@ pub fn parse_stmt(
     ensures only { IfOk result (λ r. OnlyStmt tokens.now from r.1 r.0) }
     ensures moved { IfOk result (λ r. (from < r.1) × (r.1 ≤ length tokens.now)) }
     ensures fails { IfErr result (λ f. StmtFails (NESTING - depth) tokens.now from f) }
-    ensures none { IfErr result (λ f. (f ≡ ParseFault.NoMemory → ⊥) → NoneHere (NESTING - depth) tokens.now from) }
-    ensures syntax { IfErr result (λ f. (p : ℕ) → f ≡ ParseFault.Syntax p → NeverStmt tokens.now p from) }
-    ensures deep { IfErr result (λ f. (k : ℕ) → f ≡ ParseFault.TooDeep k → NESTING ≤ depth + 2 * (k - from) + 1) }
-    ensures first { IfErr result (λ f. (k : ℕ) → f ≡ ParseFault.TooDeep k → FirstTooDeep (NESTING - depth) tokens.now from k) }
+    ensures none { IfErr result (λ f. (f ≡ ParseFault.NoMemory → ⊥) →
+        NoneHere (NESTING - depth) tokens.now from) }
+    ensures syntax { IfErr result (λ f. (p : ℕ) → f ≡ ParseFault.Syntax p →
+        NeverStmt tokens.now p from) }
+    ensures deep { IfErr result (λ f. (k : ℕ) → f ≡ ParseFault.TooDeep k →
+        NESTING ≤ depth + 2 * (k - from) + 1) }
+    ensures first { IfErr result (λ f. (k : ℕ) → f ≡ ParseFault.TooDeep k →
+        FirstTooDeep (NESTING - depth) tokens.now from k) }
     ensures within { IfErr result (λ f. token_of f ≤ length tokens.now) }
 {
     let (s, to) = read_inner_stmt(alloc, tokens, from, NESTING - depth)?;
@@ -70,8 +74,10 @@ pub fn read_inner_stmt(
 ) -> Result<(Stmt, u32), ParseFault>
     requires begins { from ≤ length tokens.now }
     requires few { length tokens.now < 2 ^ 32 }
-    ensures found { IfOk result (λ r. Spells (inner room) (inside stmt_name) tokens.now from r.1 r.0) }
-    ensures fails { IfErr result (λ f. Fails (inner room) (faults room) (inside stmt_name) tokens.now from f) }
+    ensures found { IfOk result (λ r. Spells (inner room)
+        (inside stmt_name) tokens.now from r.1 r.0) }
+    ensures fails { IfErr result
+        (λ f. Fails (inner room) (faults room) (inside stmt_name) tokens.now from f) }
     ensures moved { IfOk result (λ r. (from < r.1) × (r.1 ≤ length tokens.now)) }
     ensures within { IfErr result (λ f. token_of f ≤ length tokens.now) }
 {
@@ -91,7 +97,8 @@ pub fn read_stmt(
     requires begins { from ≤ length tokens.now }
     requires few { length tokens.now < 2 ^ 32 }
     ensures found { IfOk result (λ r. Spells (inner room) stmt_form tokens.now from r.1 r.0) }
-    ensures fails { IfErr result (λ f. Fails (inner room) (faults room) stmt_form tokens.now from f) }
+    ensures fails { IfErr result
+        (λ f. Fails (inner room) (faults room) stmt_form tokens.now from f) }
     ensures moved { IfOk result (λ r. (from < r.1) × (r.1 ≤ length tokens.now)) }
     ensures within { IfErr result (λ f. token_of f ≤ length tokens.now) }
 {
@@ -112,8 +119,10 @@ fn read_begun(
 ) -> Result<(Stmt, u32), ParseFault>
     requires begins { from ≤ length tokens.now }
     requires few { length tokens.now < 2 ^ 32 }
-    ensures found { IfOk result (λ r. Spells (inner room) (begun_form pos begun) tokens.now from r.1 r.0) }
-    ensures fails { IfErr result (λ f. Fails (inner room) (faults room) (begun_form pos begun) tokens.now from f) }
+    ensures found { IfOk result (λ r. Spells (inner room)
+        (begun_form pos begun) tokens.now from r.1 r.0) }
+    ensures fails { IfErr result
+        (λ f. Fails (inner room) (faults room) (begun_form pos begun) tokens.now from f) }
     ensures moved { IfOk result (λ r. (from ≤ r.1) × (r.1 ≤ length tokens.now)) }
     ensures within { IfErr result (λ f. token_of f ≤ length tokens.now) }
     ensures open { IfErr result (λ f. IsTrue (is_open begun)) }
@@ -152,8 +161,10 @@ fn read_headed(
 ) -> Result<(Stmt, u32), ParseFault>
     requires begins { from ≤ length tokens.now }
     requires few { length tokens.now < 2 ^ 32 }
-    ensures found { IfOk result (λ r. Spells (inner room) (head_form pos head) tokens.now from r.1 r.0) }
-    ensures fails { IfErr result (λ f. Fails (inner room) (faults room) (head_form pos head) tokens.now from f) }
+    ensures found { IfOk result (λ r. Spells (inner room)
+        (head_form pos head) tokens.now from r.1 r.0) }
+    ensures fails { IfErr result
+        (λ f. Fails (inner room) (faults room) (head_form pos head) tokens.now from f) }
     ensures moved { IfOk result (λ r. (from ≤ r.1) × (r.1 ≤ length tokens.now)) }
     ensures within { IfErr result (λ f. token_of f ≤ length tokens.now) }
 {
@@ -173,8 +184,10 @@ fn read_bodies(
 ) -> Result<(Bodies, u32), ParseFault>
     requires begins { from ≤ length tokens.now }
     requires few { length tokens.now < 2 ^ 32 }
-    ensures found { IfOk result (λ r. Spells (inner room) (bodies_form word) tokens.now from r.1 (bodies_of r.0)) }
-    ensures fails { IfErr result (λ f. Fails (inner room) (faults room) (bodies_form word) tokens.now from f) }
+    ensures found { IfOk result (λ r. Spells (inner room) (bodies_form word) tokens.now from r.1
+        (bodies_of r.0)) }
+    ensures fails { IfErr result
+        (λ f. Fails (inner room) (faults room) (bodies_form word) tokens.now from f) }
     ensures moved { IfOk result (λ r. (from < r.1) × (r.1 ≤ length tokens.now)) }
     ensures within { IfErr result (λ f. token_of f ≤ length tokens.now) }
 {
@@ -194,8 +207,10 @@ fn read_maybe_stmt(
 ) -> Result<(Option<Stmt>, u32), ParseFault>
     requires begins { from ≤ length tokens.now }
     requires few { length tokens.now < 2 ^ 32 }
-    ensures found { IfOk result (λ r. Spells (inner room) (maybe_by word) tokens.now from r.1 (maybe_stmt_of r.0)) }
-    ensures fails { IfErr result (λ f. Fails (inner room) (faults room) (maybe_by word) tokens.now from f) }
+    ensures found { IfOk result (λ r. Spells (inner room) (maybe_by word) tokens.now from r.1
+        (maybe_stmt_of r.0)) }
+    ensures fails { IfErr result
+        (λ f. Fails (inner room) (faults room) (maybe_by word) tokens.now from f) }
     ensures moved { IfOk result (λ r. (from ≤ r.1) × (r.1 ≤ length tokens.now)) }
     ensures within { IfErr result (λ f. token_of f ≤ length tokens.now) }
 {
@@ -217,7 +232,8 @@ fn read_stmts(
     requires begins { from ≤ length tokens.now }
     requires few { length tokens.now < 2 ^ 32 }
     ensures found { IfOk result (λ r. Spells (inner room) stmts_form tokens.now from r.1 r.0.items) }
-    ensures fails { IfErr result (λ f. Fails (inner room) (faults room) stmts_form tokens.now from f) }
+    ensures fails { IfErr result
+        (λ f. Fails (inner room) (faults room) stmts_form tokens.now from f) }
     ensures moved { IfOk result (λ r. (from ≤ r.1) × (r.1 ≤ length tokens.now)) }
     ensures within { IfErr result (λ f. token_of f ≤ length tokens.now) }
 {
@@ -242,8 +258,10 @@ pub fn read_block_rest(
 ) -> Result<(Vec<Stmt>, u32), ParseFault>
     requires begins { from ≤ length tokens.now }
     requires few { length tokens.now < 2 ^ 32 }
-    ensures found { IfOk result (λ r. Spells (inner room) block_rest tokens.now from r.1 (stmts_of r.0.items)) }
-    ensures fails { IfErr result (λ f. Fails (inner room) (faults room) block_rest tokens.now from f) }
+    ensures found { IfOk result (λ r. Spells (inner room) block_rest tokens.now from r.1
+        (stmts_of r.0.items)) }
+    ensures fails { IfErr result
+        (λ f. Fails (inner room) (faults room) block_rest tokens.now from f) }
     ensures moved { IfOk result (λ r. (from < r.1) × (r.1 ≤ length tokens.now)) }
     ensures within { IfErr result (λ f. token_of f ≤ length tokens.now) }
 {
@@ -263,8 +281,10 @@ fn read_handlers(
 ) -> Result<(Vec<Handler>, u32), ParseFault>
     requires begins { from ≤ length tokens.now }
     requires few { length tokens.now < 2 ^ 32 }
-    ensures found { IfOk result (λ r. Spells (inner room) (handlers_rest first) tokens.now from r.1 r.0.items) }
-    ensures fails { IfErr result (λ f. Fails (inner room) (faults room) (handlers_rest first) tokens.now from f) }
+    ensures found { IfOk result (λ r. Spells (inner room)
+        (handlers_rest first) tokens.now from r.1 r.0.items) }
+    ensures fails { IfErr result
+        (λ f. Fails (inner room) (faults room) (handlers_rest first) tokens.now from f) }
     ensures moved { IfOk result (λ r. (from < r.1) × (r.1 ≤ length tokens.now)) }
     ensures within { IfErr result (λ f. token_of f ≤ length tokens.now) }
 {
@@ -293,8 +313,10 @@ fn read_try(
 ) -> Result<(Stmt, u32), ParseFault>
     requires begins { from ≤ length tokens.now }
     requires few { length tokens.now < 2 ^ 32 }
-    ensures found { IfOk result (λ r. Spells (inner room) (try_form pos brace) tokens.now from r.1 r.0) }
-    ensures fails { IfErr result (λ f. Fails (inner room) (faults room) (try_form pos brace) tokens.now from f) }
+    ensures found { IfOk result (λ r. Spells (inner room)
+        (try_form pos brace) tokens.now from r.1 r.0) }
+    ensures fails { IfErr result
+        (λ f. Fails (inner room) (faults room) (try_form pos brace) tokens.now from f) }
     ensures moved { IfOk result (λ r. (from < r.1) × (r.1 ≤ length tokens.now)) }
     ensures within { IfErr result (λ f. token_of f ≤ length tokens.now) }
 {
@@ -320,8 +342,10 @@ fn read_clauses(
 ) -> Result<(Vec<Clause>, u32), ParseFault>
     requires begins { from ≤ length tokens.now }
     requires few { length tokens.now < 2 ^ 32 }
-    ensures found { IfOk result (λ r. Spells (inner room) (clauses_rest first) tokens.now from r.1 r.0.items) }
-    ensures fails { IfErr result (λ f. Fails (inner room) (faults room) (clauses_rest first) tokens.now from f) }
+    ensures found { IfOk result (λ r. Spells (inner room)
+        (clauses_rest first) tokens.now from r.1 r.0.items) }
+    ensures fails { IfErr result
+        (λ f. Fails (inner room) (faults room) (clauses_rest first) tokens.now from f) }
     ensures moved { IfOk result (λ r. (from < r.1) × (r.1 ≤ length tokens.now)) }
     ensures within { IfErr result (λ f. token_of f ≤ length tokens.now) }
 {
@@ -350,8 +374,10 @@ fn read_accept(
 ) -> Result<(Stmt, u32), ParseFault>
     requires begins { from ≤ length tokens.now }
     requires few { length tokens.now < 2 ^ 32 }
-    ensures found { IfOk result (λ r. Spells (inner room) (accept_rest pos first) tokens.now from r.1 r.0) }
-    ensures fails { IfErr result (λ f. Fails (inner room) (faults room) (accept_rest pos first) tokens.now from f) }
+    ensures found { IfOk result (λ r. Spells (inner room)
+        (accept_rest pos first) tokens.now from r.1 r.0) }
+    ensures fails { IfErr result
+        (λ f. Fails (inner room) (faults room) (accept_rest pos first) tokens.now from f) }
     ensures moved { IfOk result (λ r. (from < r.1) × (r.1 ≤ length tokens.now)) }
     ensures within { IfErr result (λ f. token_of f ≤ length tokens.now) }
 {
@@ -370,8 +396,10 @@ pub fn read_block(
 ) -> Result<(Body, u32), ParseFault>
     requires begins { from ≤ length tokens.now }
     requires few { length tokens.now < 2 ^ 32 }
-    ensures found { IfOk result (λ r. Spells (inner room) block_form tokens.now from r.1 (body_of r.0)) }
-    ensures fails { IfErr result (λ f. Fails (inner room) (faults room) block_form tokens.now from f) }
+    ensures found { IfOk result (λ r. Spells (inner room) block_form tokens.now from r.1
+        (body_of r.0)) }
+    ensures fails { IfErr result
+        (λ f. Fails (inner room) (faults room) block_form tokens.now from f) }
     ensures moved { IfOk result (λ r. (from < r.1) × (r.1 ≤ length tokens.now)) }
     ensures within { IfErr result (λ f. token_of f ≤ length tokens.now) }
 {

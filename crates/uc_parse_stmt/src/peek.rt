@@ -118,7 +118,8 @@ pub fn in_braces_at(tokens: &[Token], at: u32) -> bool
 
 /// Whether this word, if it is one, stands at a place.
 pub fn is_maybe_word(tokens: &[Token], at: u32, word: Option<Word>) -> bool
-    ensures word { MatchOption word (result ≡ false) (λ w. IsTrue result ↔ (kind_at tokens.now at ≡ Some (TokenKind.Word w))) }
+    ensures word { MatchOption word (result
+        ≡ false) (λ w. IsTrue result ↔ (kind_at tokens.now at ≡ Some (TokenKind.Word w))) }
     ensures inside { IsTrue result → at < length tokens.now }
 {
     match word {

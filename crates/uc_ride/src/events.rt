@@ -84,8 +84,11 @@ pub(crate) fn settle(
 ) -> Result<OpEnd, AllocError>
     requires paced { IsPaced (laid_of code.now) code.now.routines }
     requires below { (w : ℕ) × FallsBelow code.now w how.now work.old }
-    ensures source { IfOk result (λ after. (source : Source) (s : State) → Lowered source code.now → Follow (laid_of code.now) source how.now work.old s → Follow (laid_of code.now) source (how_settled after asked.new) work.new s) }
-    ensures falls { IfOk result (λ after. (w : ℕ) → FallsBelow code.now w how.now work.old → FallsBelow code.now w (how_settled after asked.new) work.new) }
+    ensures source { IfOk result (λ after. (source : Source) (s : State) → Lowered source code.now →
+        Follow (laid_of code.now) source how.now work.old s →
+        Follow (laid_of code.now) source (how_settled after asked.new) work.new s) }
+    ensures falls { IfOk result (λ after. (w : ℕ) → FallsBelow code.now w how.now work.old →
+        FallsBelow code.now w (how_settled after asked.new) work.new) }
 {
     match *how {
         Stepped::Quiet => Ok(OpEnd::On),
@@ -132,8 +135,11 @@ pub(crate) fn settle(
 
 // Resumes the execution of the coroutine whose member runs; in a main, the one that runs, which is a fault.
 fn settle_resume(code: &Code, work: &mut Work, asked: &mut Asked) -> OpEnd
-    ensures source { (source : Source) (s : State) → Follow (laid_of code.now) source Stepped.Resume work.old s → Follow (laid_of code.now) source (how_settled result asked.new) work.new s }
-    ensures falls { (w : ℕ) → FallsBelow code.now w Stepped.Resume work.old → FallsBelow code.now w (how_settled result asked.new) work.new }
+    ensures source { (source : Source) (s : State) →
+        Follow (laid_of code.now) source Stepped.Resume work.old s →
+        Follow (laid_of code.now) source (how_settled result asked.new) work.new s }
+    ensures falls { (w : ℕ) → FallsBelow code.now w Stepped.Resume work.old →
+        FallsBelow code.now w (how_settled result asked.new) work.new }
 {
     let fault = resume(work);
     let end = switched(code, work, fault, asked);
@@ -142,8 +148,11 @@ fn settle_resume(code: &Code, work: &mut Work, asked: &mut Asked) -> OpEnd
 
 // The running execution is suspended.
 fn settle_suspend(code: &Code, work: &mut Work, asked: &mut Asked) -> OpEnd
-    ensures source { (source : Source) (s : State) → Follow (laid_of code.now) source Stepped.Suspend work.old s → Follow (laid_of code.now) source (how_settled result asked.new) work.new s }
-    ensures falls { (w : ℕ) → FallsBelow code.now w Stepped.Suspend work.old → FallsBelow code.now w (how_settled result asked.new) work.new }
+    ensures source { (source : Source) (s : State) →
+        Follow (laid_of code.now) source Stepped.Suspend work.old s →
+        Follow (laid_of code.now) source (how_settled result asked.new) work.new s }
+    ensures falls { (w : ℕ) → FallsBelow code.now w Stepped.Suspend work.old →
+        FallsBelow code.now w (how_settled result asked.new) work.new }
 {
     let fault = suspend(work);
     let end = switched(code, work, fault, asked);
@@ -152,8 +161,11 @@ fn settle_suspend(code: &Code, work: &mut Work, asked: &mut Asked) -> OpEnd
 
 // The main of a coroutine ends.
 fn settle_end(code: &Code, work: &mut Work, asked: &mut Asked) -> OpEnd
-    ensures source { (source : Source) (s : State) → Follow (laid_of code.now) source Stepped.EndMain work.old s → Follow (laid_of code.now) source (how_settled result asked.new) work.new s }
-    ensures falls { (w : ℕ) → FallsBelow code.now w Stepped.EndMain work.old → FallsBelow code.now w (how_settled result asked.new) work.new }
+    ensures source { (source : Source) (s : State) →
+        Follow (laid_of code.now) source Stepped.EndMain work.old s →
+        Follow (laid_of code.now) source (how_settled result asked.new) work.new s }
+    ensures falls { (w : ℕ) → FallsBelow code.now w Stepped.EndMain work.old →
+        FallsBelow code.now w (how_settled result asked.new) work.new }
 {
     let fault = finish(work);
     let end = switched(code, work, fault, asked);
@@ -163,7 +175,8 @@ fn settle_end(code: &Code, work: &mut Work, asked: &mut Asked) -> OpEnd
 // What is asked behind the op of a switch, where that is a fault, in the line of the op before the next one, or of the newest call around it
 // that has one.
 fn switched(code: &Code, work: &Work, fault: Option<RunFault>, asked: &mut Asked) -> OpEnd
-    ensures { how_settled result asked.new ≡ stop_by (behind_line (laid_of code.now) work.now) fault }
+    ensures { how_settled result asked.new
+        ≡ stop_by (behind_line (laid_of code.now) work.now) fault }
 {
     match fault {
         None => OpEnd::On,
@@ -182,8 +195,12 @@ fn switched(code: &Code, work: &Work, fault: Option<RunFault>, asked: &mut Asked
 fn raise(code: &Code, work: &mut Work, event: Event, asked: &mut Asked) -> Result<OpEnd, AllocError>
     requires paced { IsPaced (laid_of code.now) code.now.routines }
     requires below { (w : ℕ) × FallsBelow code.now w (Stepped.Raise event) work.old }
-    ensures source { IfOk result (λ end. (source : Source) (s : State) → Lowered source code.now → Follow (laid_of code.now) source (Stepped.Raise event) work.old s → Follow (laid_of code.now) source (how_settled end asked.new) work.new s) }
-    ensures falls { IfOk result (λ end. (w : ℕ) → FallsBelow code.now w (Stepped.Raise event) work.old → FallsBelow code.now w (how_settled end asked.new) work.new) }
+    ensures source { IfOk result (λ end. (source : Source) (s : State) → Lowered source code.now →
+        Follow (laid_of code.now) source (Stepped.Raise event) work.old s →
+        Follow (laid_of code.now) source (how_settled end asked.new) work.new s) }
+    ensures falls { IfOk result (λ end. (w : ℕ) →
+        FallsBelow code.now w (Stepped.Raise event) work.old →
+        FallsBelow code.now w (how_settled end asked.new) work.new) }
 {
     let found = propagate(code, work, event.number, true);
     match found {
@@ -203,8 +220,11 @@ fn raise(code: &Code, work: &mut Work, event: Event, asked: &mut Asked) -> Resul
 fn unwinds(code: &Code, work: &mut Work, asked: &mut Asked) -> Result<OpEnd, AllocError>
     requires paced { IsPaced (laid_of code.now) code.now.routines }
     requires below { (w : ℕ) × FallsBelow code.now w Stepped.Unwind work.old }
-    ensures source { IfOk result (λ end. (source : Source) (s : State) → Lowered source code.now → Unwinds (laid_of code.now) work.old s → Follow (laid_of code.now) source (how_settled end asked.new) work.new s) }
-    ensures falls { IfOk result (λ end. (w : ℕ) → FallsBelow code.now w Stepped.Unwind work.old → FallsBelow code.now w (how_settled end asked.new) work.new) }
+    ensures source { IfOk result (λ end. (source : Source) (s : State) → Lowered source code.now →
+        Unwinds (laid_of code.now) work.old s →
+        Follow (laid_of code.now) source (how_settled end asked.new) work.new s) }
+    ensures falls { IfOk result (λ end. (w : ℕ) → FallsBelow code.now w Stepped.Unwind work.old →
+        FallsBelow code.now w (how_settled end asked.new) work.new) }
 {
     'steps: loop {
         let how = unwind_once(code, work, asked)?;
@@ -220,8 +240,11 @@ fn unwinds(code: &Code, work: &mut Work, asked: &mut Asked) -> Result<OpEnd, All
 // the event begins; or the activation is left.
 fn unwind_once(code: &Code, work: &mut Work, asked: &mut Asked) -> Result<UnwindEnd, AllocError>
     requires paced { IsPaced (laid_of code.now) code.now.routines }
-    ensures source { IfOk result (λ after. (source : Source) (s : State) → Lowered source code.now → Unwinds (laid_of code.now) work.old s → Follow (laid_of code.now) source (how_unwound after asked.new) work.new s) }
-    ensures falls { IfOk result (λ after. (w : ℕ) → FallsBelow code.now w Stepped.Unwind work.old → StepFalls code.now w (left_in code.now work.old) after asked.new work.new) }
+    ensures source { IfOk result (λ after. (source : Source) (s : State) → Lowered source code.now →
+        Unwinds (laid_of code.now) work.old s →
+        Follow (laid_of code.now) source (how_unwound after asked.new) work.new s) }
+    ensures falls { IfOk result (λ after. (w : ℕ) → FallsBelow code.now w Stepped.Unwind work.old →
+        StepFalls code.now w (left_in code.now work.old) after asked.new work.new) }
 {
     // A number of elements that is a `u32` bounds what is left of the activation.
     let _ = work.elements();
@@ -249,8 +272,11 @@ fn unwind_once(code: &Code, work: &mut Work, asked: &mut Asked) -> Result<Unwind
 
 // The row of the running activation that catches the event by which it is unwound.
 fn catcher(code: &Code, work: &Work) -> Option<Caught>
-    ensures row { row_of result ≡ catcher_in (event_by work.now.run.raised) code.now.rows (chain code.now.rows work.now.run.control) }
-    ensures event { (c : Caught) → result ≡ Some c → work.now.run.raised ≡ Some (reason.Event c.event.number c.event.x c.event.y) }
+    ensures row { row_of result
+        ≡ catcher_in (event_by work.now.run.raised) code.now.rows
+        (chain code.now.rows work.now.run.control) }
+    ensures event { (c : Caught) → result ≡ Some c →
+        work.now.run.raised ≡ Some (reason.Event c.event.number c.event.x c.event.y) }
 {
     match work.raised() {
         Some(UnwindReason::Event { event, x, y }) => match catching_row(code, work, event) {
@@ -282,8 +308,11 @@ fn row_in(caught: Option<Caught>) -> Option<u32>
 // What begins: a test ends the unwinding, or lets it go on; a clean-up is executed.
 fn begin(code: &Code, work: &mut Work, asked: &mut Asked) -> Result<UnwindEnd, AllocError>
     requires paced { IsPaced (laid_of code.now) code.now.routines }
-    ensures source { IfOk result (λ after. (source : Source) (s : State) → Lowered source code.now → Begins source (laid_of code.now) work.old s → Follow (laid_of code.now) source (how_unwound after asked.new) work.new s) }
-    ensures falls { IfOk result (λ after. (w left : ℕ) → EnteredBelow code.now w left work.old → StepFalls code.now w left after asked.new work.new) }
+    ensures source { IfOk result (λ after. (source : Source) (s : State) → Lowered source code.now →
+        Begins source (laid_of code.now) work.old s →
+        Follow (laid_of code.now) source (how_unwound after asked.new) work.new s) }
+    ensures falls { IfOk result (λ after. (w left : ℕ) → EnteredBelow code.now w left work.old →
+        StepFalls code.now w left after asked.new work.new) }
 {
     let next = work.next();
     match op_at(code, next) {
@@ -341,9 +370,13 @@ fn end_on(
     line: u32,
     asked: &mut Asked,
 ) -> Result<UnwindEnd, AllocError>
-    requires { slice_get code.now.ops work.old.run.control ≡ Some (record { op = Op.Unhandled; line = line }) }
-    ensures source { IfOk result (λ after. (source : Source) (s : State) → Lowered source code.now → Begins source (laid_of code.now) work.old s → Follow (laid_of code.now) source (how_unwound after asked.new) work.new s) }
-    ensures falls { IfOk result (λ after. (w left : ℕ) → EnteredBelow code.now w left work.old → StepFalls code.now w left after asked.new work.new) }
+    requires { slice_get code.now.ops work.old.run.control
+        ≡ Some (record { op = Op.Unhandled; line = line }) }
+    ensures source { IfOk result (λ after. (source : Source) (s : State) → Lowered source code.now →
+        Begins source (laid_of code.now) work.old s →
+        Follow (laid_of code.now) source (how_unwound after asked.new) work.new s) }
+    ensures falls { IfOk result (λ after. (w left : ℕ) → EnteredBelow code.now w left work.old →
+        StepFalls code.now w left after asked.new work.new) }
 {
     let end = end_task_main(work)?;
     match end {
@@ -365,9 +398,13 @@ fn end_on(
 
 // The main of a coroutine that is unwound is left, by an op of this line: another execution goes on, or none can.
 fn leave_coroutine(code: &Code, work: &mut Work, line: u32, asked: &mut Asked) -> UnwindEnd
-    requires { slice_get code.now.ops work.old.run.control ≡ Some (record { op = Op.Escape; line = line }) }
-    ensures source { (source : Source) (s : State) → Lowered source code.now → Begins source (laid_of code.now) work.old s → Follow (laid_of code.now) source (how_unwound result asked.new) work.new s }
-    ensures falls { (w left : ℕ) → EnteredBelow code.now w left work.old → StepFalls code.now w left result asked.new work.new }
+    requires { slice_get code.now.ops work.old.run.control
+        ≡ Some (record { op = Op.Escape; line = line }) }
+    ensures source { (source : Source) (s : State) → Lowered source code.now →
+        Begins source (laid_of code.now) work.old s →
+        Follow (laid_of code.now) source (how_unwound result asked.new) work.new s }
+    ensures falls { (w left : ℕ) → EnteredBelow code.now w left work.old →
+        StepFalls code.now w left result asked.new work.new }
 {
     match leave_main(work) {
         None => UnwindEnd::On,
@@ -380,8 +417,11 @@ fn leave_coroutine(code: &Code, work: &mut Work, line: u32, asked: &mut Asked) -
 
 // The running activation, of which nothing is left, is left.
 fn leave_on(code: &Code, work: &mut Work, asked: &mut Asked) -> Result<UnwindEnd, AllocError>
-    ensures source { IfOk result (λ after. (source : Source) (s : State) → LeavesNow (laid_of code.now) work.old s → Follow (laid_of code.now) source (how_unwound after asked.new) work.new s) }
-    ensures falls { IfOk result (λ after. (w : ℕ) → FallsBelow code.now w Stepped.Unwind work.old → StepFalls code.now w (left_in code.now work.old) after asked.new work.new) }
+    ensures source { IfOk result (λ after. (source : Source) (s : State) →
+        LeavesNow (laid_of code.now) work.old s →
+        Follow (laid_of code.now) source (how_unwound after asked.new) work.new s) }
+    ensures falls { IfOk result (λ after. (w : ℕ) → FallsBelow code.now w Stepped.Unwind work.old →
+        StepFalls code.now w (left_in code.now work.old) after asked.new work.new) }
 {
     let left = leave(work)?;
     match left {
@@ -400,7 +440,10 @@ fn leave_on(code: &Code, work: &mut Work, asked: &mut Asked) -> Result<UnwindEnd
 
 // The task asks, by an op of this line, or of the newest call around it that has one.
 fn asks(code: &Code, line: u32, work: &Work, request: Request) -> Asked
-    ensures { result ≡ record { request = request; line = line_at code.now.ops line work.now.callers } }
+    ensures { result ≡ record {
+      request = request;
+      line = line_at code.now.ops line work.now.callers;
+    } }
 {
     let line = work.line(code, line);
     Asked { request, line }
@@ -408,7 +451,11 @@ fn asks(code: &Code, line: u32, work: &Work, request: Request) -> Asked
 
 // A run fault, by an op of this line.
 fn faults(code: &Code, line: u32, work: &Work, fault: RunFault) -> Asked
-    ensures { result ≡ record { request = ask.Fault (fault_number fault); line = line_at code.now.ops line work.now.callers } }
+    ensures { result ≡ record {
+      request = ask.Fault
+          (fault_number fault);
+      line = line_at code.now.ops line work.now.callers;
+    } }
 {
     let number = fault.number();
     asks(code, line, work, Request::Fault { number })

@@ -58,7 +58,10 @@ pub fn ride<G: Gate>(
     requires some { 1 ≤ quantum }
     requires paced { IsPaced (laid_of code.now) code.now.routines }
     requires kept { Keeps code.now work }
-    ensures rides { IfOk result (λ r. (source : Source) (s : State) → Lowered source code.now → Rests (laid_of code.now) work s → Rode source (laid_of code.now) (answering.answered source answer s) quantum r.ticks asked.new r.work r.child) }
+    ensures rides { IfOk result (λ r. (source : Source) (s : State) → Lowered source code.now →
+        Rests (laid_of code.now) work s →
+        Rode source (laid_of code.now)
+        (answering.answered source answer s) quantum r.ticks asked.new r.work r.child) }
     ensures few { IfOk result (λ r. r.ticks ≤ quantum) }
     ensures early { IfOk result (λ r. (asked.new.request ≡ ask.Slice → ⊥) → r.ticks < quantum) }
     ensures kept { IfOk result (λ r. KeepsAfter code.now asked.new.request r.work) }
@@ -76,7 +79,9 @@ pub fn ride<G: Gate>(
 
 // The task that is spawned, where one is: its main is that of the op before the next one.
 fn spawn(code: &Code, work: &Work, request: &Request) -> Result<Option<Task>, AllocError>
-    ensures born { IfOk result (λ child. (source : Source) (s : State) → Lowered source code.now → StandsAfter (laid_of code.now) request.now work.now s → BornAs source (laid_of code.now) request.now child s) }
+    ensures born { IfOk result (λ child. (source : Source) (s : State) → Lowered source code.now →
+        StandsAfter (laid_of code.now) request.now work.now s →
+        BornAs source (laid_of code.now) request.now child s) }
     ensures kept { IfOk result (λ child. ChildKeeps code.now child) }
 {
     match spawned(request) {
@@ -127,7 +132,8 @@ fn go_on(code: &Code, work: &mut Work, quantum: u32, asked: &mut Asked) -> Resul
     requires some { 1 ≤ quantum }
     requires paced { IsPaced (laid_of code.now) code.now.routines }
     requires kept { Keeps code.now work.old }
-    ensures rides { IfOk result (λ ticks. HasRidden code.now quantum work.old ticks asked.new work.new) }
+    ensures rides { IfOk result (λ ticks. HasRidden code.now quantum work.old ticks asked.new
+        work.new) }
     ensures few { IfOk result (λ ticks. ticks ≤ quantum) }
     ensures early { IfOk result (λ ticks. (asked.new.request ≡ ask.Slice → ⊥) → ticks < quantum) }
     ensures kept { IfOk result (λ ticks. KeepsAfter code.now asked.new.request work.new) }
@@ -160,7 +166,8 @@ fn burst(
 ) -> Result<BurstEnd, AllocError>
     requires paced { IsPaced (laid_of code.now) code.now.routines }
     requires kept { Keeps code.now work.old }
-    ensures burst { IfOk result (λ end. HasBurst code.now work.old (burst_of end asked.new) work.new) }
+    ensures burst { IfOk result (λ end. HasBurst code.now work.old
+        (burst_of end asked.new) work.new) }
     ensures kept { IfOk result (λ end. BurstKeeps code.now (burst_of end asked.new) work.new) }
 {
     'stops: loop {
@@ -179,7 +186,11 @@ fn burst(
 
 // A slice is asked, in the line of the tick.
 fn slice(code: &Code, work: &Work) -> Asked
-    ensures { result ≡ record { request = ask.Slice; line = behind_line (laid_of code.now) work.now } }
+    ensures { result ≡ record {
+      request = ask.Slice;
+      line = behind_line
+          (laid_of code.now) work.now;
+    } }
 {
     Asked {
         request: Request::Slice,

@@ -210,7 +210,8 @@ fn place_of<X>(list: &List<(u64, X)>, number: u64) -> Option<u32>
 
 // Takes the thing with a number out, the first one if there are several.
 fn take_out<X>(list: &mut List<(u64, X)>, number: u64) -> Option<X>
-    ensures { MatchOption result (list.new ≡ list.old) (λ x. IsTakenOut number x list.old.items list.new.items) }
+    ensures { MatchOption result (list.new
+        ≡ list.old) (λ x. IsTakenOut number x list.old.items list.new.items) }
 {
     match place_of(list, number) {
         None => None,
@@ -227,7 +228,10 @@ fn pass(
     to: &mut List<(u64, Members)>,
     object: Option<u32>,
 ) -> Result<(), AllocError>
-    ensures { (code : Code) → EachOf (IdlesAt (laid_of code) code.routines) from.old.items → EachOf (IdlesAt (laid_of code) code.routines) to.old.items → EachOf (IdlesAt (laid_of code) code.routines) from.new.items × EachOf (IdlesAt (laid_of code) code.routines) to.new.items }
+    ensures { (code : Code) → EachOf (IdlesAt (laid_of code) code.routines) from.old.items →
+        EachOf (IdlesAt (laid_of code) code.routines) to.old.items →
+        EachOf (IdlesAt (laid_of code) code.routines) from.new.items
+        × EachOf (IdlesAt (laid_of code) code.routines) to.new.items }
 {
     let Some(object) = object else {
         return Ok(());

@@ -27,7 +27,8 @@ pub(crate) fn accept(
     guards: u32,
     end: u32,
 ) -> Result<QuietResult, AllocError>
-    ensures ok { IfOk result (λ how. Does code.now line (Op.Accept site guards end) work.old (ended how stop.new) work.new) }
+    ensures ok { IfOk result (λ how. Does code.now line (Op.Accept site guards end) work.old
+        (ended how stop.new) work.new) }
     ensures err { OnErr result (work.new ≡ work.old) }
 {
     if guards > u32::from(CLAUSES) {
@@ -55,7 +56,8 @@ pub(crate) fn accept(
 
 // Where the call that was taken has failed, the event of that is pushed; else the task goes on elsewhere.
 pub(crate) fn failed(work: &mut Work, to: u32) -> Result<QuietResult, AllocError>
-    ensures ok { IfOk result (λ how. (stop : Stepped) → DoesAlone (Op.Failed to) work.old (ended how stop) work.new) }
+    ensures ok { IfOk result (λ how. (stop : Stepped) →
+        DoesAlone (Op.Failed to) work.old (ended how stop) work.new) }
     ensures err { OnErr result (work.new ≡ work.old) }
 {
     if number_in(work.top()) == 0 {
@@ -85,7 +87,8 @@ fn chosen(clauses: u32, to: u32, next: u32, number: i64) -> Result<u32, AllocErr
 
 // The branch of a clause by its number, or elsewhere.
 pub(crate) fn choose(work: &mut Work, clauses: u32, end: u32) -> Result<QuietResult, AllocError>
-    ensures ok { IfOk result (λ how. (stop : Stepped) → DoesAlone (Op.Choose clauses end) work.old (ended how stop) work.new) }
+    ensures ok { IfOk result (λ how. (stop : Stepped) →
+        DoesAlone (Op.Choose clauses end) work.old (ended how stop) work.new) }
     ensures err { OnErr result (work.new ≡ work.old) }
 {
     let at = chosen(clauses, end, work.next(), number_in(work.top()))?;

@@ -12,7 +12,9 @@ use uc_frames::work::Work;
 /// The task whose object is `own`, as its main begins: the routine of this number. There is none where the code has no
 /// such routine.
 pub fn begin(alloc: Global, code: &Code, main: u32, own: u32) -> Result<Option<Work>, AllocError>
-    ensures machine { IfOk result (λ task. MatchOption task (slice_get code.now.routines main ≡ None) (λ w. (c : RoutineCode) × (slice_get code.now.routines main ≡ Some c) × (w ≡ first_machine c own))) }
+    ensures machine { IfOk result (λ task. MatchOption task (slice_get code.now.routines main
+        ≡ None) (λ w. (c : RoutineCode) × (slice_get code.now.routines main ≡ Some c)
+        × (w ≡ first_machine c own))) }
     ensures source { IfOk result (λ task. Starts code.now main own task) }
 {
     match code.routine(main) {

@@ -26,7 +26,8 @@ pub(crate) fn cluster_end(
     work: &mut Work,
     stop: &mut Stepped,
 ) -> Result<QuietResult, AllocError>
-    ensures ok { IfOk result (λ how. Does code.now line Op.ClusterEnd work.old (ended how stop.new) work.new) }
+    ensures ok { IfOk result (λ how. Does code.now line Op.ClusterEnd work.old
+        (ended how stop.new) work.new) }
     ensures err { OnErr result (work.new ≡ work.old) }
 {
     let cluster = object_in(work.top());
@@ -40,7 +41,8 @@ pub(crate) fn processor_end(
     work: &mut Work,
     stop: &mut Stepped,
 ) -> Result<QuietResult, AllocError>
-    ensures ok { IfOk result (λ how. Does code.now line Op.ProcessorEnd work.old (ended how stop.new) work.new) }
+    ensures ok { IfOk result (λ how. Does code.now line Op.ProcessorEnd work.old
+        (ended how stop.new) work.new) }
     ensures err { OnErr result (work.new ≡ work.old) }
 {
     let processor = object_in(work.top());

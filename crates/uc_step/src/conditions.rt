@@ -38,7 +38,8 @@ pub(crate) fn condition(
     first: u32,
     count: u32,
 ) -> Result<QuietResult, AllocError>
-    ensures ok { IfOk result (λ how. Does code.now line (Op.Condition first count) work.old (ended how stop.new) work.new) }
+    ensures ok { IfOk result (λ how. Does code.now line (Op.Condition first count) work.old
+        (ended how stop.new) work.new) }
     ensures err { OnErr result (work.new ≡ work.old) }
 {
     match index_below(count, number_in(work.top())) {
@@ -60,7 +61,8 @@ pub(crate) fn wait(
     work: &mut Work,
     stop: &mut Stepped,
 ) -> Result<QuietResult, AllocError>
-    ensures ok { IfOk result (λ how. Does code.now line Op.Wait work.old (ended how stop.new) work.new) }
+    ensures ok { IfOk result (λ how. Does code.now line Op.Wait work.old
+        (ended how stop.new) work.new) }
     ensures err { OnErr result (work.new ≡ work.old) }
 {
     let object = this_object(work);
@@ -79,7 +81,8 @@ pub(crate) fn signal(
     work: &mut Work,
     stop: &mut Stepped,
 ) -> Result<QuietResult, AllocError>
-    ensures ok { IfOk result (λ how. Does code.now line Op.Signal work.old (ended how stop.new) work.new) }
+    ensures ok { IfOk result (λ how. Does code.now line Op.Signal work.old
+        (ended how stop.new) work.new) }
     ensures err { OnErr result (work.new ≡ work.old) }
 {
     let object = this_object(work);
@@ -95,7 +98,8 @@ pub(crate) fn signal_block(
     work: &mut Work,
     stop: &mut Stepped,
 ) -> Result<QuietResult, AllocError>
-    ensures ok { IfOk result (λ how. Does code.now line Op.SignalBlock work.old (ended how stop.new) work.new) }
+    ensures ok { IfOk result (λ how. Does code.now line Op.SignalBlock work.old
+        (ended how stop.new) work.new) }
     ensures err { OnErr result (work.new ≡ work.old) }
 {
     let object = this_object(work);
@@ -119,7 +123,8 @@ pub(crate) fn empty(
     work: &mut Work,
     stop: &mut Stepped,
 ) -> Result<QuietResult, AllocError>
-    ensures ok { IfOk result (λ how. Does code.now line Op.Empty work.old (ended how stop.new) work.new) }
+    ensures ok { IfOk result (λ how. Does code.now line Op.Empty work.old
+        (ended how stop.new) work.new) }
     ensures err { OnErr result (work.new ≡ work.old) }
 {
     let object = this_object(work);
@@ -134,7 +139,8 @@ pub(crate) fn front(
     work: &mut Work,
     stop: &mut Stepped,
 ) -> Result<QuietResult, AllocError>
-    ensures ok { IfOk result (λ how. Does code.now line Op.Front work.old (ended how stop.new) work.new) }
+    ensures ok { IfOk result (λ how. Does code.now line Op.Front work.old
+        (ended how stop.new) work.new) }
     ensures err { OnErr result (work.new ≡ work.old) }
 {
     let object = this_object(work);

@@ -13,7 +13,8 @@ use uc_frames::work::Work;
 
 // The object at hand gets an execution.
 pub(crate) fn set_up(code: &Code, work: &mut Work, number: u32) -> Result<QuietResult, AllocError>
-    ensures ok { IfOk result (λ how. (line : ℕ) (stop : Stepped) → Does code.now line (Op.Coroutine number) work.old (ended how stop) work.new) }
+    ensures ok { IfOk result (λ how. (line : ℕ) (stop : Stepped) →
+        Does code.now line (Op.Coroutine number) work.old (ended how stop) work.new) }
     ensures err { OnErr result (work.new ≡ work.old) }
 {
     if let Some(routine) = code.routine(number) {

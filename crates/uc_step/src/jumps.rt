@@ -23,7 +23,8 @@ pub(crate) fn end(
     work: &mut Work,
     stop: &mut Stepped,
 ) -> Result<QuietResult, AllocError>
-    ensures ok { IfOk result (λ how. Ends (act_end code.now line given work.old.run.handles work.old) (ended how stop.new) work.new) }
+    ensures ok { IfOk result (λ how. Ends
+        (act_end code.now line given work.old.run.handles work.old) (ended how stop.new) work.new) }
     ensures err { OnErr result (work.new ≡ work.old) }
 {
     match work.handles() {
@@ -46,7 +47,8 @@ pub(crate) fn give_back(
     stop: &mut Stepped,
     given: Cell,
 ) -> Result<QuietResult, AllocError>
-    ensures ok { IfOk result (λ how. Ends (act_return code.now line given work.old.callers work.old) (ended how stop.new) work.new) }
+    ensures ok { IfOk result (λ how. Ends (act_return code.now line given work.old.callers work.old)
+        (ended how stop.new) work.new) }
     ensures err { OnErr result (work.new ≡ work.old) }
 {
     if work.leave(given)? {
@@ -63,7 +65,8 @@ pub(crate) fn end_task(
     work: &mut Work,
     stop: &mut Stepped,
 ) -> Result<QuietResult, AllocError>
-    ensures ok { IfOk result (λ how. Does code.now line Op.EndTask work.old (ended how stop.new) work.new) }
+    ensures ok { IfOk result (λ how. Does code.now line Op.EndTask work.old
+        (ended how stop.new) work.new) }
     ensures err { OnErr result (work.new ≡ work.old) }
 {
     if work.is_held_up(work.own()) {
@@ -91,7 +94,8 @@ pub(crate) fn call(
     stop: &mut Stepped,
     number: u32,
 ) -> Result<QuietResult, AllocError>
-    ensures ok { IfOk result (λ how. Does code.now line (Op.Call number) work.old (ended how stop.new) work.new) }
+    ensures ok { IfOk result (λ how. Does code.now line (Op.Call number) work.old
+        (ended how stop.new) work.new) }
     ensures err { OnErr result (work.new ≡ work.old) }
 {
     match code.routine(number) {
@@ -117,7 +121,8 @@ fn enter(
     stop: &mut Stepped,
     call: Call,
 ) -> Result<QuietResult, AllocError>
-    ensures ok { IfOk result (λ how. Ends (act_enter code.now line call work.old) (ended how stop.new) work.new) }
+    ensures ok { IfOk result (λ how. Ends (act_enter code.now line call work.old)
+        (ended how stop.new) work.new) }
     ensures err { OnErr result (work.new ≡ work.old) }
 {
     if work.calls() < CALLS {
@@ -147,7 +152,8 @@ pub(crate) fn call_on(
     stop: &mut Stepped,
     number: u32,
 ) -> Result<QuietResult, AllocError>
-    ensures ok { IfOk result (λ how. Does code.now line (Op.CallOn number) work.old (ended how stop.new) work.new) }
+    ensures ok { IfOk result (λ how. Does code.now line (Op.CallOn number) work.old
+        (ended how stop.new) work.new) }
     ensures err { OnErr result (work.new ≡ work.old) }
 {
     match code.routine(number) {
@@ -168,7 +174,8 @@ pub(crate) fn call_unwritten(
     stop: &mut Stepped,
     number: u32,
 ) -> Result<QuietResult, AllocError>
-    ensures ok { IfOk result (λ how. Does code.now line (Op.CallUnwritten number) work.old (ended how stop.new) work.new) }
+    ensures ok { IfOk result (λ how. Does code.now line (Op.CallUnwritten number) work.old
+        (ended how stop.new) work.new) }
     ensures err { OnErr result (work.new ≡ work.old) }
 {
     match code.routine(number) {

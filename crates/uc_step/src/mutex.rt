@@ -49,7 +49,8 @@ pub(crate) fn enter(
     member: u8,
     number: u32,
 ) -> Result<QuietResult, AllocError>
-    ensures ok { IfOk result (λ how. Does code.now line (Op.Enter member number) work.old (ended how stop.new) work.new) }
+    ensures ok { IfOk result (λ how. Does code.now line (Op.Enter member number) work.old
+        (ended how stop.new) work.new) }
     ensures err { OnErr result (work.new ≡ work.old) }
 {
     let Some(routine) = code.routine(number) else {
@@ -124,7 +125,8 @@ pub(crate) fn make(
     class: u32,
     number: u32,
 ) -> Result<QuietResult, AllocError>
-    ensures ok { IfOk result (λ how. Does code.now line (Op.Make class number) work.old (ended how stop.new) work.new) }
+    ensures ok { IfOk result (λ how. Does code.now line (Op.Make class number) work.old
+        (ended how stop.new) work.new) }
     ensures err { OnErr result (work.new ≡ work.old) }
 {
     let Some(routine) = code.routine(number) else {
@@ -145,7 +147,8 @@ pub(crate) fn bind_made(
     stop: &mut Stepped,
     number: u32,
 ) -> QuietResult
-    ensures { (class : ℕ) → Does code.now line (Op.BindMade class number) work.old (ended result stop.new) work.new }
+    ensures { (class : ℕ) →
+        Does code.now line (Op.BindMade class number) work.old (ended result stop.new) work.new }
 {
     match code.routine(number) {
         None => { put_end(code, line, work, stop) }
@@ -165,7 +168,8 @@ fn built(
     object: u32,
     request: Request,
 ) -> QuietResult
-    ensures { Ends (act_built code.now line object request work.old) (ended result stop.new) work.new }
+    ensures { Ends (act_built code.now line object request work.old)
+        (ended result stop.new) work.new }
 {
     let is_blocked = work.is_held_up(object);
     if is_blocked {
@@ -186,7 +190,8 @@ pub(crate) fn made(code: &Code, line: u32, work: &mut Work, stop: &mut Stepped) 
 
 // It begins as a task.
 pub(crate) fn spawn(code: &Code, line: u32, work: &mut Work, stop: &mut Stepped) -> QuietResult
-    ensures { (main : ℕ) → Does code.now line (Op.Spawn main) work.old (ended result stop.new) work.new }
+    ensures { (main : ℕ) →
+        Does code.now line (Op.Spawn main) work.old (ended result stop.new) work.new }
 {
     let object = this_object(work);
     built(code, line, work, stop, object, Request::Spawn { object })

@@ -23,7 +23,8 @@ pub(crate) fn two(
     stop: &mut Stepped,
     operator: Operator,
 ) -> Result<QuietResult, AllocError>
-    ensures ok { IfOk result (λ how. Ends (act_operator code.now line (operator_of operator) work.old) (ended how stop.new) work.new) }
+    ensures ok { IfOk result (λ how. Ends
+        (act_operator code.now line (operator_of operator) work.old) (ended how stop.new) work.new) }
     ensures err { OnErr result (work.new ≡ work.old) }
 {
     match operator.given(number_in(work.second()), number_in(work.top())) {
@@ -46,7 +47,8 @@ pub(crate) fn negate(
     work: &mut Work,
     stop: &mut Stepped,
 ) -> Result<QuietResult, AllocError>
-    ensures ok { IfOk result (λ how. Does code.now line Op.Negate work.old (ended how stop.new) work.new) }
+    ensures ok { IfOk result (λ how. Does code.now line Op.Negate work.old
+        (ended how stop.new) work.new) }
     ensures err { OnErr result (work.new ≡ work.old) }
 {
     match in_range(negated(number_in(work.top()))) {

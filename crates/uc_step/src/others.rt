@@ -25,7 +25,8 @@ pub(crate) fn raise_at(
     work: &mut Work,
     stop: &mut Stepped,
 ) -> Result<QuietResult, AllocError>
-    ensures ok { IfOk result (λ how. Does code.now line Op.RaiseAt work.old (ended how stop.new) work.new) }
+    ensures ok { IfOk result (λ how. Does code.now line Op.RaiseAt work.old
+        (ended how stop.new) work.new) }
     ensures err { OnErr result (work.new ≡ work.old) }
 {
     let place = work.top();
@@ -60,7 +61,8 @@ pub(crate) fn raise_at(
 // The event, and where it is raised, are popped.
 fn pop_raised(work: &mut Work) -> Event
     ensures value { result ≡ event_at (below work.old.run.operands) }
-    ensures after { work.new ≡ without_event (with_operands (below work.old.run.operands) work.old) }
+    ensures after { work.new ≡ without_event
+        (with_operands (below work.old.run.operands) work.old) }
 {
     work.pop();
     let event = work.pop_event();
@@ -75,7 +77,10 @@ fn pend_at(
     stop: &mut Stepped,
     exec: Option<Exec>,
 ) -> Result<QuietResult, AllocError>
-    ensures ok { IfOk result (λ how. Ends (act_pend_at code.now line exec (event_at (below work.old.run.operands)) (without_event (with_operands (below work.old.run.operands) work.old))) (ended how stop.new) work.new) }
+    ensures ok { IfOk result (λ how. Ends
+        (act_pend_at code.now line exec (event_at (below work.old.run.operands))
+        (without_event (with_operands (below work.old.run.operands) work.old)))
+        (ended how stop.new) work.new) }
     ensures err { OnErr result (work.new ≡ work.old) }
 {
     let Some(exec) = exec else {
@@ -102,7 +107,8 @@ fn pend_at(
 
 // These events are enabled, and no others; a cell keeps which were.
 pub(crate) fn enable(events: u64, cell: u32, work: &mut Work) -> Result<QuietResult, AllocError>
-    ensures ok { IfOk result (λ how. (stop : Stepped) → Ends (leaves Stepped.Quiet (enabling events cell work.old)) (ended how stop) work.new) }
+    ensures ok { IfOk result (λ how. (stop : Stepped) →
+        Ends (leaves Stepped.Quiet (enabling events cell work.old)) (ended how stop) work.new) }
     ensures err { OnErr result (work.new ≡ work.old) }
 {
     work.enable(events, cell);

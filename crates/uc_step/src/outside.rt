@@ -21,7 +21,8 @@ pub(crate) fn print(
     stop: &mut Stepped,
     form: ValueForm,
 ) -> Result<QuietResult, AllocError>
-    ensures ok { IfOk result (λ how. Does code.now line (Op.Print form) work.old (ended how stop.new) work.new) }
+    ensures ok { IfOk result (λ how. Does code.now line (Op.Print form) work.old
+        (ended how stop.new) work.new) }
     ensures err { OnErr result (work.new ≡ work.old) }
 {
     let piece = Piece {
@@ -45,7 +46,8 @@ pub(crate) fn text(
     stop: &mut Stepped,
     number: u32,
 ) -> Result<QuietResult, AllocError>
-    ensures ok { IfOk result (λ how. Does code.now line (Op.Text number) work.old (ended how stop.new) work.new) }
+    ensures ok { IfOk result (λ how. Does code.now line (Op.Text number) work.old
+        (ended how stop.new) work.new) }
     ensures err { OnErr result (work.new ≡ work.old) }
 {
     let piece = Piece {
@@ -93,7 +95,9 @@ pub(crate) fn put_bare(
     stop: &mut Stepped,
     op: Op,
 ) -> QuietResult
-    ensures { ended result stop.new ≡ Stepped.Ask (record { request = bare_request op; line = line_at code.now.ops line work.now.callers }) }
+    ensures { ended result stop.new
+        ≡ Stepped.Ask
+        (record { request = bare_request op; line = line_at code.now.ops line work.now.callers }) }
 {
     match op {
         Op::Yield => put_request(code, line, work, stop, Request::Yield),

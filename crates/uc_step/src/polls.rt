@@ -21,7 +21,8 @@ pub(crate) fn poll(
     stop: &mut Stepped,
     to: u32,
 ) -> Result<QuietResult, AllocError>
-    ensures ok { IfOk result (λ how. Does code.now line (Op.Poll to) work.old (ended how stop.new) work.new) }
+    ensures ok { IfOk result (λ how. Does code.now line (Op.Poll to) work.old
+        (ended how stop.new) work.new) }
     ensures err { OnErr result (work.new ≡ work.old) }
 {
     let mask = work.enabled();

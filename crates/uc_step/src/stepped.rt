@@ -52,7 +52,9 @@ pub(crate) fn put_request(
     stop: &mut Stepped,
     request: Request,
 ) -> QuietResult
-    ensures { ended result stop.new ≡ Stepped.Ask (record { request = request; line = line_at code.now.ops line work.now.callers }) }
+    ensures { ended result stop.new
+        ≡ Stepped.Ask
+        (record { request = request; line = line_at code.now.ops line work.now.callers }) }
 {
     let line = work.line(code, line);
     *stop = Stepped::Ask(Asked { request, line });
@@ -62,7 +64,9 @@ pub(crate) fn put_request(
 // The end of the task is asked so.
 #[inline(never)]
 pub(crate) fn put_end(code: &Code, line: u32, work: &Work, stop: &mut Stepped) -> QuietResult
-    ensures { ended result stop.new ≡ Stepped.Ask (record { request = ask.End; line = line_at code.now.ops line work.now.callers }) }
+    ensures { ended result stop.new
+        ≡ Stepped.Ask
+        (record { request = ask.End; line = line_at code.now.ops line work.now.callers }) }
 {
     put_request(code, line, work, stop, Request::End)
 }
@@ -76,7 +80,13 @@ pub(crate) fn put_fault(
     stop: &mut Stepped,
     fault: RunFault,
 ) -> QuietResult
-    ensures { ended result stop.new ≡ Stepped.Ask (record { request = ask.Fault (fault_number fault); line = line_at code.now.ops line work.now.callers }) }
+    ensures { ended result stop.new
+        ≡ Stepped.Ask
+        (record {
+          request = ask.Fault
+              (fault_number fault);
+          line = line_at code.now.ops line work.now.callers;
+        }) }
 {
     let number = fault.number();
     put_request(code, line, work, stop, Request::Fault { number })

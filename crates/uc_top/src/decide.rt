@@ -46,9 +46,12 @@ pub(crate) fn decide<'a, R: Threads + Wait + Sync, G: Gate + Sync, S: Store>(
     words: &'a [String],
     store: &mut S,
 ) -> Result<Run, RefusedFor<'a>>
-    ensures done { IfOk result (λ run. HasDone (map string_bytes words.now) (S.state store.old) (S.state store.new) run.journal.items run.output.items run.ending) }
+    ensures done { IfOk result (λ run. HasDone (map string_bytes words.now) (S.state store.old)
+        (S.state store.new) run.journal.items run.output.items run.ending) }
     ensures store { KeepsFiles (S.state store.old) (S.state store.new) }
-    ensures refused { IfErr result (λ why. Refuses (map string_bytes words.now) (S.state store.old) (S.state store.new) why.refusal why.name.now) }
+    ensures refused { IfErr result
+        (λ why. Refuses (map string_bytes words.now) (S.state store.old)
+        (S.state store.new) why.refusal why.name.now) }
 {
     match read_words(words) {
         Ok(job) => match do_job(rt, gate, alloc, job, store) {
@@ -68,9 +71,12 @@ fn do_job<'a, R: Threads + Wait + Sync, G: Gate + Sync, S: Store>(
     store: &mut S,
 ) -> Result<Run, RefusedFor<'a>>
     requires range { IsInRange (command_of job) }
-    ensures did { IfOk result (λ run. CommandDid (command_of job.entry) (S.state store.old) (S.state store.new) run.journal.items run.output.items run.ending) }
+    ensures did { IfOk result (λ run. CommandDid (command_of job.entry) (S.state store.old)
+        (S.state store.new) run.journal.items run.output.items run.ending) }
     ensures store { KeepsFiles (S.state store.old) (S.state store.new) }
-    ensures refused { IfErr result (λ why. CommandRefused (command_of job.entry) (S.state store.old) (S.state store.new) why.refusal why.name.now) }
+    ensures refused { IfErr result
+        (λ why. CommandRefused (command_of job.entry) (S.state store.old)
+        (S.state store.new) why.refusal why.name.now) }
 {
     match job {
         Job::Run {
@@ -111,9 +117,12 @@ fn explain_file<'a, S: Store>(
     object: u32,
     store: &mut S,
 ) -> Result<Run, RefusedFor<'a>>
-    ensures did { IfOk result (λ run. JournalExplained (S.state store.old) (S.state store.new) file.now object run.journal.items run.output.items run.ending) }
+    ensures did { IfOk result (λ run. JournalExplained (S.state store.old)
+        (S.state store.new) file.now object run.journal.items run.output.items run.ending) }
     ensures store { KeepsFiles (S.state store.old) (S.state store.new) }
-    ensures refused { IfErr result (λ why. JournalRefused (S.state store.old) (S.state store.new) file.now why.refusal why.name.now) }
+    ensures refused { IfErr result
+        (λ why. JournalRefused (S.state store.old)
+        (S.state store.new) file.now why.refusal why.name.now) }
 {
     match read_named(alloc, file, JOURNAL_BYTES, store) {
         Ok(text) => match explain_text(alloc, &text, object) {
@@ -126,7 +135,8 @@ fn explain_file<'a, S: Store>(
 
 // Explains the journal of a text at an object.
 fn explain_text(alloc: Global, text: &[u8], object: u32) -> Result<Run, Refusal>
-    ensures did { IfOk result (λ run. TextExplained text.now object run.journal.items run.output.items run.ending) }
+    ensures did { IfOk result (λ run. TextExplained text.now object run.journal.items
+        run.output.items run.ending) }
     ensures refused { IfErr result (JournalTextRefused text.now) }
 {
     match read_journal(alloc, text) {
@@ -165,9 +175,12 @@ fn do_files<'a, R: Threads + Wait + Sync, G: Gate + Sync, S: Store>(
     store: &mut S,
 ) -> Result<Run, RefusedFor<'a>>
     requires purpose { HasEntries purpose }
-    ensures did { IfOk result (λ run. FilesDid (S.state store.old) (S.state store.new) file.now (option_copied named.entry) purpose run.journal.items run.output.items run.ending) }
+    ensures did { IfOk result (λ run. FilesDid (S.state store.old) (S.state store.new) file.now
+        (option_copied named.entry) purpose run.journal.items run.output.items run.ending) }
     ensures store { KeepsFiles (S.state store.old) (S.state store.new) }
-    ensures refused { IfErr result (λ why. FilesRefused (S.state store.old) (S.state store.new) file.now (option_copied named.entry) why.refusal why.name.now) }
+    ensures refused { IfErr result
+        (λ why. FilesRefused (S.state store.old) (S.state store.new) file.now
+        (option_copied named.entry) why.refusal why.name.now) }
 {
     match read_texts(alloc, file, named, store) {
         Ok(texts) => match do_text(rt, gate, alloc, &texts.program, &texts.input, purpose) {
@@ -193,9 +206,12 @@ fn read_texts<'a, S: Store>(
 ) -> Result<Texts, RefusedFor<'a>>
     ensures program { IfOk result (λ texts. length texts.program.items ≤ PROGRAM_BYTES) }
     ensures input { IfOk result (λ texts. length texts.input.items ≤ INPUT_BYTES) }
-    ensures read { IfOk result (λ texts. ReadsTexts (S.state store.old) (S.state store.new) file.now (option_copied named.entry) texts.program.items texts.input.items) }
+    ensures read { IfOk result (λ texts. ReadsTexts (S.state store.old) (S.state store.new) file.now
+        (option_copied named.entry) texts.program.items texts.input.items) }
     ensures store { KeepsFiles (S.state store.old) (S.state store.new) }
-    ensures refused { IfErr result (λ why. FilesRefused (S.state store.old) (S.state store.new) file.now (option_copied named.entry) why.refusal why.name.now) }
+    ensures refused { IfErr result
+        (λ why. FilesRefused (S.state store.old) (S.state store.new) file.now
+        (option_copied named.entry) why.refusal why.name.now) }
 {
     match read_named(alloc, file, PROGRAM_BYTES, store) {
         Ok(program) => match read_input(alloc, named, store) {
@@ -214,9 +230,12 @@ fn read_input<'a, S: Store>(
 ) -> Result<Vec<u8>, RefusedFor<'a>>
     ensures within { IfOk result (λ v. length v.items ≤ INPUT_BYTES) }
     ensures same { IfOk result (λ v. (S.state store.new).count ≡ (S.state store.old).count) }
-    ensures read { IfOk result (λ v. ReadsInput (S.state store.old) (S.state store.new) (option_copied named.entry) v.items) }
+    ensures read { IfOk result (λ v. ReadsInput (S.state store.old) (S.state store.new)
+        (option_copied named.entry) v.items) }
     ensures store { KeepsFiles (S.state store.old) (S.state store.new) }
-    ensures refused { IfErr result (λ why. InputNotRead (S.state store.old) (S.state store.new) (option_copied named.entry) why.refusal why.name.now) }
+    ensures refused { IfErr result
+        (λ why. InputNotRead (S.state store.old) (S.state store.new)
+        (option_copied named.entry) why.refusal why.name.now) }
 {
     match named {
         None => Ok(Vec::new(alloc)),
@@ -234,9 +253,11 @@ fn read_named<'a, S: Store>(
     store: &mut S,
 ) -> Result<Vec<u8>, RefusedFor<'a>>
     ensures store { KeepsFiles (S.state store.old) (S.state store.new) }
-    ensures read { IfOk result (λ v. ReadBytes (S.state store.old) (S.state store.new) name.now limit v.items) }
+    ensures read { IfOk result (λ v. ReadBytes (S.state store.old)
+        (S.state store.new) name.now limit v.items) }
     ensures named { IfErr result (λ why. why.name.now ≡ name.now) }
-    ensures refused { IfErr result (λ why. NotRead (S.state store.old) (S.state store.new) name.now limit why.refusal) }
+    ensures refused { IfErr result
+        (λ why. NotRead (S.state store.old) (S.state store.new) name.now limit why.refusal) }
 {
     match store.read(alloc, name, limit) {
         Ok(bytes) => Ok(bytes),
@@ -266,7 +287,8 @@ fn do_text<R: Threads + Wait + Sync, G: Gate + Sync>(
     requires text { length text.now ≤ PROGRAM_BYTES }
     requires input { length input.now ≤ INPUT_BYTES }
     requires purpose { HasEntries purpose }
-    ensures did { IfOk result (λ run. TextDid purpose text.now input.now run.journal.items run.output.items run.ending) }
+    ensures did { IfOk result (λ run. TextDid purpose text.now input.now run.journal.items
+        run.output.items run.ending) }
     ensures refused { IfErr result (TextRefused text.now) }
 {
     match lex(alloc, text) {
@@ -307,7 +329,8 @@ fn do_tokens<R: Threads + Wait + Sync, G: Gate + Sync>(
     requires few { length tokens.now < 2 ^ 32 }
     requires input { length input.now ≤ INPUT_BYTES }
     requires purpose { HasEntries purpose }
-    ensures did { IfOk result (λ run. TokensDid purpose tokens.now input.now run.journal.items run.output.items run.ending) }
+    ensures did { IfOk result (λ run. TokensDid purpose tokens.now input.now run.journal.items
+        run.output.items run.ending) }
     ensures refused { IfErr result (TokensRefused text.now tokens.now) }
 {
     match parse(alloc, tokens) {
@@ -346,7 +369,8 @@ fn do_program<R: Threads + Wait + Sync, G: Gate + Sync>(
     requires formed { IsFormed program.now }
     requires input { length input.now ≤ INPUT_BYTES }
     requires purpose { HasEntries purpose }
-    ensures did { IfOk result (λ run. ProgramDid purpose program.now input.now run.journal.items run.output.items run.ending) }
+    ensures did { IfOk result (λ run. ProgramDid purpose program.now input.now run.journal.items
+        run.output.items run.ending) }
     ensures refused { IfErr result (ProgramRefused program.now) }
 {
     match check(alloc, program) {

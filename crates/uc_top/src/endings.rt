@@ -68,8 +68,10 @@ fn told_by(last: Entry) -> Ending
 /// Puts the line of an ending; of one that is done nothing.
 pub(crate) fn put_ending<E: Sink>(err: &mut E, ending: Ending) -> Result<(), SinkFault>
     ensures ok { OnOk result (Took (E.state err.old) (E.state err.new) (ending_text ending)) }
-    ensures failed { OnErr result (FailedAt (E.state err.old) (E.state err.new) (ending_text ending)) }
-    ensures prefix { OnErr result (TookPrefix (E.state err.old) (E.state err.new) (ending_text ending)) }
+    ensures failed { OnErr result
+        (FailedAt (E.state err.old) (E.state err.new) (ending_text ending)) }
+    ensures prefix { OnErr result
+        (TookPrefix (E.state err.old) (E.state err.new) (ending_text ending)) }
 {
     match ending {
         Ending::Done => Ok(()),
@@ -94,9 +96,13 @@ pub(crate) fn put_ending<E: Sink>(err: &mut E, ending: Ending) -> Result<(), Sin
 
 // Puts the line of a run fault.
 fn put_fault<E: Sink>(err: &mut E, number: i64, line: i64, task: u32) -> Result<(), SinkFault>
-    ensures ok { OnOk result (Took (E.state err.old) (E.state err.new) (ending_text (Ending.Fault number line task))) }
-    ensures failed { OnErr result (FailedAt (E.state err.old) (E.state err.new) (ending_text (Ending.Fault number line task))) }
-    ensures prefix { OnErr result (TookPrefix (E.state err.old) (E.state err.new) (ending_text (Ending.Fault number line task))) }
+    ensures ok { OnOk result (Took (E.state err.old) (E.state err.new)
+        (ending_text (Ending.Fault number line task))) }
+    ensures failed { OnErr result
+        (FailedAt (E.state err.old) (E.state err.new) (ending_text (Ending.Fault number line task))) }
+    ensures prefix { OnErr result
+        (TookPrefix (E.state err.old) (E.state err.new)
+        (ending_text (Ending.Fault number line task))) }
 {
     let name = name_of_number(number);
     let mut line_buffer = Buffer::new();

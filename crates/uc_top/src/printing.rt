@@ -27,7 +27,8 @@ pub(crate) fn printed_bytes(
 
 // Appends what an entry prints.
 fn print_entry(bytes: &mut Vec<u8>, texts: &[Text], entry: &Entry) -> Result<(), AllocError>
-    ensures { OnOk result (bytes.new.items ≡ bytes.old.items ++ printed_by texts.now entry.now.kind entry.now) }
+    ensures { OnOk result (bytes.new.items
+        ≡ bytes.old.items ++ printed_by texts.now entry.now.kind entry.now) }
 {
     if entry.kind == EntryKind::Print {
         print_item(bytes, texts, entry.a, entry.b)?;

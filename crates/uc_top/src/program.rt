@@ -74,7 +74,8 @@ pub(crate) fn run_program<R: Threads + Wait + Sync, G: Gate + Sync>(
     requires formed { IsFormed checked.now }
     requires input { length input.now ≤ INPUT_BYTES }
     requires purpose { HasEntries purpose }
-    ensures ran { IfOk result (λ run. ProgramDid purpose checked.now input.now run.journal.items run.output.items run.ending) }
+    ensures ran { IfOk result (λ run. ProgramDid purpose checked.now input.now run.journal.items
+        run.output.items run.ending) }
     ensures refused { IfErr result (ProgramRefused checked.now) }
 {
     match lower(alloc, checked) {
@@ -106,7 +107,8 @@ fn do_code<R: Threads + Wait + Sync, G: Gate + Sync>(
     requires rows { HasRows code.now }
     requires input { length input.now ≤ INPUT_BYTES }
     requires purpose { HasEntries purpose }
-    ensures { IfOk result (λ run. ProgramDid purpose checked.now input.now run.journal.items run.output.items run.ending) }
+    ensures { IfOk result (λ run. ProgramDid purpose checked.now input.now run.journal.items
+        run.output.items run.ending) }
 {
     match purpose {
         Purpose::Run { opts, journal } => {
@@ -124,7 +126,8 @@ fn do_code<R: Threads + Wait + Sync, G: Gate + Sync>(
 // The listing of code. No line is known that is longer than it may be: one that were would be want of memory.
 fn list_code(alloc: Global, code: &Code) -> Result<Vec<u8>, AllocError>
     ensures text { IfOk result (λ output. output.items ≡ listing_of code.now) }
-    ensures short { IfOk result (λ output. length output.items ≤ LINE_BYTES * (length code.now.ops + length code.now.rows)) }
+    ensures short { IfOk result (λ output. length output.items
+        ≤ LINE_BYTES * (length code.now.ops + length code.now.rows)) }
 {
     let output = listing(alloc, code)?;
     let lines = code.ops().len() + code.rows().len();
@@ -174,7 +177,8 @@ fn run_code<R: Threads + Wait + Sync, G: Gate + Sync>(
     requires paced { IsPaced (laid_of code.now) code.now.routines }
     requires input { length input.now ≤ INPUT_BYTES }
     requires options { InRange opts }
-    ensures { IfOk result (λ run. ProgramRan checked.now input.now opts too run.journal.items run.output.items run.ending) }
+    ensures { IfOk result (λ run. ProgramRan checked.now input.now opts too run.journal.items
+        run.output.items run.ending) }
 {
     // There are fewer routines than bytes of a text.
     let program = checked.program();
@@ -205,7 +209,8 @@ fn run_main<R: Threads + Wait + Sync, G: Gate + Sync>(
     requires range { InRange opts }
     requires small { length input.now ≤ INPUT_BYTES }
     requires paced { IsPaced (laid_of code.now) code.now.routines }
-    ensures run { IfOk result (λ journal. (source : Source) → IsSource code.now main source → IsRunOf source input.now opts journal.items) }
+    ensures run { IfOk result (λ journal. (source : Source) → IsSource code.now main source →
+        IsRunOf source input.now opts journal.items) }
 {
     let mut bytes = Vec::with_capacity(alloc, input.len())?;
     bytes.extend_from_slice(input)?;
@@ -220,7 +225,8 @@ fn output_of(
     journal: &[Entry],
     too: bool,
 ) -> Result<Vec<u8>, AllocError>
-    ensures { IfOk result (λ output. output.items ≡ printed texts.now journal.now ++ told_text too journal.now) }
+    ensures { IfOk result (λ output. output.items
+        ≡ printed texts.now journal.now ++ told_text too journal.now) }
 {
     let mut output = printed_bytes(alloc, texts, journal)?;
     if too {

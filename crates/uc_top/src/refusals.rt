@@ -65,9 +65,12 @@ pub(crate) fn put_refusal<E: Sink>(
     refusal: Refusal,
     name: &str,
 ) -> Result<(), SinkFault>
-    ensures ok { OnOk result (Took (E.state err.old) (E.state err.new) (refusal_text refusal name.now)) }
-    ensures failed { OnErr result (FailedAt (E.state err.old) (E.state err.new) (refusal_text refusal name.now)) }
-    ensures prefix { OnErr result (TookPrefix (E.state err.old) (E.state err.new) (refusal_text refusal name.now)) }
+    ensures ok { OnOk result (Took (E.state err.old) (E.state err.new)
+        (refusal_text refusal name.now)) }
+    ensures failed { OnErr result
+        (FailedAt (E.state err.old) (E.state err.new) (refusal_text refusal name.now)) }
+    ensures prefix { OnErr result
+        (TookPrefix (E.state err.old) (E.state err.new) (refusal_text refusal name.now)) }
 {
     match refusal {
         Refusal::Word(number) => {
@@ -106,9 +109,12 @@ fn lexical_text(why: LexicalFault) -> &'static [u8]
 
 /// Puts `ucpp: `, the two parts of a reason, and a newline.
 pub(crate) fn put_line<E: Sink>(err: &mut E, reason: &[u8], detail: &[u8]) -> Result<(), SinkFault>
-    ensures ok { OnOk result (Took (E.state err.old) (E.state err.new) (err_line reason.now detail.now)) }
-    ensures failed { OnErr result (FailedAt (E.state err.old) (E.state err.new) (err_line reason.now detail.now)) }
-    ensures prefix { OnErr result (TookPrefix (E.state err.old) (E.state err.new) (err_line reason.now detail.now)) }
+    ensures ok { OnOk result (Took (E.state err.old) (E.state err.new)
+        (err_line reason.now detail.now)) }
+    ensures failed { OnErr result
+        (FailedAt (E.state err.old) (E.state err.new) (err_line reason.now detail.now)) }
+    ensures prefix { OnErr result
+        (TookPrefix (E.state err.old) (E.state err.new) (err_line reason.now detail.now)) }
 {
     put_pieces(err, &[b"ucpp: ", reason, detail, b"\n"])?;
     Ok(())
@@ -117,8 +123,10 @@ pub(crate) fn put_line<E: Sink>(err: &mut E, reason: &[u8], detail: &[u8]) -> Re
 // Puts `ucpp: `, the place of the text, the reason, and a newline.
 fn put_placed<E: Sink>(err: &mut E, pos: Pos, reason: &[u8]) -> Result<(), SinkFault>
     ensures ok { OnOk result (Took (E.state err.old) (E.state err.new) (placed_line pos reason.now)) }
-    ensures failed { OnErr result (FailedAt (E.state err.old) (E.state err.new) (placed_line pos reason.now)) }
-    ensures prefix { OnErr result (TookPrefix (E.state err.old) (E.state err.new) (placed_line pos reason.now)) }
+    ensures failed { OnErr result
+        (FailedAt (E.state err.old) (E.state err.new) (placed_line pos reason.now)) }
+    ensures prefix { OnErr result
+        (TookPrefix (E.state err.old) (E.state err.new) (placed_line pos reason.now)) }
 {
     let mut line_buffer = Buffer::new();
     let line = line_buffer.format(pos.line).as_bytes();
@@ -130,9 +138,12 @@ fn put_placed<E: Sink>(err: &mut E, pos: Pos, reason: &[u8]) -> Result<(), SinkF
 
 /// Puts pieces one after another.
 pub(crate) fn put_pieces<E: Sink>(err: &mut E, pieces: &[&[u8]]) -> Result<(), SinkFault>
-    ensures ok { OnOk result (Took (E.state err.old) (E.state err.new) (concat (map (λ p. p.now) pieces.now))) }
-    ensures failed { OnErr result (FailedAt (E.state err.old) (E.state err.new) (concat (map (λ p. p.now) pieces.now))) }
-    ensures prefix { OnErr result (TookPrefix (E.state err.old) (E.state err.new) (concat (map (λ p. p.now) pieces.now))) }
+    ensures ok { OnOk result (Took (E.state err.old) (E.state err.new)
+        (concat (map (λ p. p.now) pieces.now))) }
+    ensures failed { OnErr result
+        (FailedAt (E.state err.old) (E.state err.new) (concat (map (λ p. p.now) pieces.now))) }
+    ensures prefix { OnErr result
+        (TookPrefix (E.state err.old) (E.state err.new) (concat (map (λ p. p.now) pieces.now))) }
 {
     for piece in pieces {
         put_all(err, piece)?;

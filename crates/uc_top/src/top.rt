@@ -42,29 +42,45 @@ pub fn run_words<R: Threads + Wait + Sync, S: Store, O: Sink, E: Sink, G: Gate +
     err: &mut E,
     gate: &G,
 ) -> Outcome
-    ensures leaves { Leaves (scene_of (map string_bytes words.now) (S.state store.old) (S.state store.new) (O.state out.old) (O.state out.new) (E.state err.old) (E.state err.new)) result.status result.journal.items }
+    ensures leaves { Leaves (scene_of (map string_bytes words.now) (S.state store.old)
+        (S.state store.new) (O.state out.old) (O.state out.new) (E.state err.old) (E.state err.new))
+        result.status result.journal.items }
 
     // What each status says of the words, the store, the sinks and the journal.
-    ensures causes { Causes (scene_of (map string_bytes words.now) (S.state store.old) (S.state store.new) (O.state out.old) (O.state out.new) (E.state err.old) (E.state err.new)) result.status result.journal.items }
+    ensures causes { Causes (scene_of (map string_bytes words.now) (S.state store.old)
+        (S.state store.new) (O.state out.old) (O.state out.new) (E.state err.old) (E.state err.new))
+        result.status result.journal.items }
 
     // No put is made to a sink after one of this call that failed.
-    ensures stops { Stops (scene_of (map string_bytes words.now) (S.state store.old) (S.state store.new) (O.state out.old) (O.state out.new) (E.state err.old) (E.state err.new)) }
+    ensures stops { Stops (scene_of (map string_bytes words.now) (S.state store.old)
+        (S.state store.new) (O.state out.old) (O.state out.new) (E.state err.old) (E.state err.new)) }
 
     // The store keeps its files and its steadiness, and its count does not fall.
     ensures store { KeepsFiles (S.state store.old) (S.state store.new) }
 
     // What the words and the store make of a call.
-    ensures answers { Answers (scene_of (map string_bytes words.now) (S.state store.old) (S.state store.new) (O.state out.old) (O.state out.new) (E.state err.old) (E.state err.new)) result.status }
+    ensures answers { Answers (scene_of (map string_bytes words.now) (S.state store.old)
+        (S.state store.new) (O.state out.old) (O.state out.new) (E.state err.old) (E.state err.new))
+        result.status }
 
     // A text that is refused gets just its refusal, with its place.
-    ensures texts { TextAnswers (scene_of (map string_bytes words.now) (S.state store.old) (S.state store.new) (O.state out.old) (O.state out.new) (E.state err.old) (E.state err.new)) result.status result.journal.items }
+    ensures texts { TextAnswers (scene_of (map string_bytes words.now) (S.state store.old)
+        (S.state store.new) (O.state out.old) (O.state out.new) (E.state err.old) (E.state err.new))
+        result.status result.journal.items }
 
     // A journal is a run's, and what its last entry is and what the status is say of each other.
-    ensures journals { JournalAnswers (scene_of (map string_bytes words.now) (S.state store.old) (S.state store.new) (O.state out.old) (O.state out.new) (E.state err.old) (E.state err.new)) result.status result.journal.items }
+    ensures journals { JournalAnswers
+        (scene_of (map string_bytes words.now) (S.state store.old) (S.state store.new)
+        (O.state out.old) (O.state out.new) (E.state err.old) (E.state err.new)) result.status
+        result.journal.items }
 
     // Sinks with room do not fail, and an accepted program is run where nothing fails.
-    ensures rooms { HaveRooms (scene_of (map string_bytes words.now) (S.state store.old) (S.state store.new) (O.state out.old) (O.state out.new) (E.state err.old) (E.state err.new)) → result.status ≢ 4 }
-    ensures completes { Completes (scene_of (map string_bytes words.now) (S.state store.old) (S.state store.new) (O.state out.old) (O.state out.new) (E.state err.old) (E.state err.new)) result.status }
+    ensures rooms { HaveRooms (scene_of (map string_bytes words.now) (S.state store.old)
+        (S.state store.new) (O.state out.old) (O.state out.new) (E.state err.old)
+        (E.state err.new)) → result.status ≢ 4 }
+    ensures completes { Completes (scene_of (map string_bytes words.now) (S.state store.old)
+        (S.state store.new) (O.state out.old) (O.state out.new) (E.state err.old) (E.state err.new))
+        result.status }
 {
     let outcome = work(rt, alloc, words, store, out, err, gate);
     outcome
@@ -80,7 +96,9 @@ fn work<R: Threads + Wait + Sync, S: Store, O: Sink, E: Sink, G: Gate + Sync>(
     err: &mut E,
     gate: &G,
 ) -> Outcome
-    ensures leaves { Leaves (scene_of (map string_bytes words.now) (S.state store.old) (S.state store.new) (O.state out.old) (O.state out.new) (E.state err.old) (E.state err.new)) result.status result.journal.items }
+    ensures leaves { Leaves (scene_of (map string_bytes words.now) (S.state store.old)
+        (S.state store.new) (O.state out.old) (O.state out.new) (E.state err.old) (E.state err.new))
+        result.status result.journal.items }
     ensures store { KeepsFiles (S.state store.old) (S.state store.new) }
 {
     match decide(rt, gate, alloc, words, store) {
@@ -109,7 +127,8 @@ pub(crate) fn put_run<O: Sink, E: Sink>(
     output: &[u8],
     ending: Ending,
 ) -> u8
-    ensures { Finished (O.state out.old) (O.state out.new) (E.state err.old) (E.state err.new) output.now ending result }
+    ensures { Finished (O.state out.old) (O.state out.new) (E.state err.old)
+        (E.state err.new) output.now ending result }
 {
     match put_all(out, output) {
         Ok(()) => match put_ending(err, ending) {

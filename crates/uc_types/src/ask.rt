@@ -234,7 +234,8 @@ fn open_entity(home: Option<OwnClass>, meant: NameMeaning) -> Option<Entity>
 }
 
 fn other_member(called: bool, entity: Entity, built_in: Option<Entity>) -> Option<Entity>
-    ensures { result ≡ (if is_some built_in then built_in else (if is_object entity then None else of_missing called)) }
+    ensures { result ≡ (if is_some built_in then built_in
+        else (if is_object entity then None else of_missing called)) }
 {
     if built_in.is_some() {
         return built_in;
@@ -256,7 +257,8 @@ pub fn ask_member(
     found: &mut Found,
 ) -> Option<Entity>
     ensures entity { result ≡ of_field names.now called name.now entity }
-    ensures breaks { found.new ≡ first_break_after found.old (AtMember names.now sign called name.now entity) }
+    ensures breaks { found.new ≡ first_break_after found.old
+        (AtMember names.now sign called name.now entity) }
 {
     let entity = entity?;
     let member = path_member(names.tables(), entity, name);
@@ -368,7 +370,8 @@ fn may_use(tables: &Tables, bound: Bound, meant: Option<NameMeaning>) -> bool
 }
 
 fn note_bound(names: &Names, meant: Option<NameMeaning>, found: &mut Found)
-    ensures { (name : List ℕ) → meant ≡ named names.now name → found.new ≡ after found.old (use_breaks names.now names.now.around.bound name) }
+    ensures { (name : List ℕ) → meant ≡ named names.now name →
+        found.new ≡ after found.old (use_breaks names.now names.now.around.bound name) }
 {
     match names.around().bound {
         Some(bound) => {

@@ -141,7 +141,8 @@ impl<'a> Bases<'a> {
 
     /// The class with this place among the classes of the program, events included.
     pub fn class_at(&self, place: usize) -> Option<&'a Class>
-        ensures { MatchOption result (class_at self.now place ≡ None) (λ c. class_at self.now place ≡ Some c.now) }
+        ensures { MatchOption result (class_at self.now place ≡ None) (λ c. class_at self.now place
+            ≡ Some c.now) }
     {
         match self.classes.get(place) {
             Some(class) => Some(*class),

@@ -296,7 +296,8 @@ fn method_gives(tables: &Tables, class: usize, member: usize) -> Option<Entity>
 }
 
 fn routine_param(tables: &Tables, item: usize, place: usize) -> Expected
-    ensures { result ≡ param_expected tables.now (slice_get (params_in (routine_sig tables.now item)) place) }
+    ensures { result ≡ param_expected tables.now
+        (slice_get (params_in (routine_sig tables.now item)) place) }
 {
     match tables.routine_sig(item) {
         Some(sig) => param_expected(tables, &sig.params, place),
@@ -305,7 +306,8 @@ fn routine_param(tables: &Tables, item: usize, place: usize) -> Expected
 }
 
 fn method_param(tables: &Tables, class: usize, member: usize, place: usize) -> Expected
-    ensures { result ≡ param_expected tables.now (slice_get (params_in (method_sig tables.now class member)) place) }
+    ensures { result ≡ param_expected tables.now
+        (slice_get (params_in (method_sig tables.now class member)) place) }
 {
     match tables.method_sig(class, member) {
         Some(sig) => param_expected(tables, &sig.params, place),

@@ -104,7 +104,8 @@ pub fn check_expr(names: &Names, e: &Expr, found: &mut Found) -> Option<Entity>
 #[tactic(auto, using(crate::proofs::Noted::noting))]
 fn check_root(names: &Names, root: &Expr, parts: &[Part], found: &mut Found) -> Option<Entity>
     ensures entity { result ≡ root_entity names.now root.now (parts_of parts.now) }
-    ensures breaks { found.new ≡ with_visits found.old (if is_input root.now (parts_of parts.now) then [] else visits names.now root.now) }
+    ensures breaks { found.new ≡ with_visits found.old (if is_input root.now (parts_of parts.now)
+        then [] else visits names.now root.now) }
 {
     if is_input(root, parts) {
         Some(Entity::Input)
@@ -122,7 +123,8 @@ fn check_parts(
     found: &mut Found,
 ) -> Option<Entity>
     ensures entity { result ≡ parts_entity names.now (parts_of parts.now) root }
-    ensures breaks { found.new ≡ with_visits found.old (parts_visits names.now (parts_of parts.now) root) }
+    ensures breaks { found.new ≡ with_visits found.old
+        (parts_visits names.now (parts_of parts.now) root) }
 {
     let mut entity = root;
     for (place, part) in parts.iter().enumerate() {
@@ -142,7 +144,8 @@ fn check_part(
     found: &mut Found,
 ) -> Option<Entity>
     ensures entity { result ≡ part_entity names.now part.now called root }
-    ensures breaks { found.new ≡ with_visits found.old (part_visits names.now part.now called root) }
+    ensures breaks { found.new ≡ with_visits found.old
+        (part_visits names.now part.now called root) }
 {
     match &part.form {
         PartForm::Field { name } => ask_member(names, called, name, root, part.sign, found),
@@ -167,7 +170,8 @@ fn check_chain(
     found: &mut Found,
 ) -> Option<Entity>
     ensures entity { result ≡ chain_entity names.now (links_of rest.now) first }
-    ensures breaks { found.new ≡ with_visits found.old (chain_visits names.now (links_of rest.now) first) }
+    ensures breaks { found.new ≡ with_visits found.old
+        (chain_visits names.now (links_of rest.now) first) }
 {
     let mut left = first;
     for link in rest {
@@ -189,8 +193,10 @@ fn check_link(names: &Names, left: Option<Entity>, link: &Link, found: &mut Foun
 #[cycle(expr)]
 #[tactic(auto, using(crate::proofs::Noted::noting))]
 fn check_arg(names: &Names, arg: &Expr, target: Target, place: usize, found: &mut Found) -> bool
-    ensures sound { result ≡ has_fitting (expected names.now.program target place) (entity_of names.now arg.now) }
-    ensures breaks { found.new ≡ with_visits found.old (arg_visits names.now arg.now (expected names.now.program target place)) }
+    ensures sound { result ≡ has_fitting (expected names.now.program target place)
+        (entity_of names.now arg.now) }
+    ensures breaks { found.new ≡ with_visits found.old
+        (arg_visits names.now arg.now (expected names.now.program target place)) }
 {
     let entity = check_expr(names, arg, found);
     let expected = expected_of(names.tables(), target, place);
@@ -202,7 +208,8 @@ fn check_arg(names: &Names, arg: &Expr, target: Target, place: usize, found: &mu
 #[tactic(auto, using(crate::proofs::Noted::noting))]
 pub fn check_args(names: &Names, args: &[Expr], target: Target, found: &mut Found) -> bool
     ensures sound { result ≡ are_sound names.now (exprs_of args.now) target 0 }
-    ensures breaks { found.new ≡ with_visits found.old (args_visits names.now (exprs_of args.now) target 0) }
+    ensures breaks { found.new ≡ with_visits found.old
+        (args_visits names.now (exprs_of args.now) target 0) }
 {
     let mut sound = true;
     for (place, arg) in args.iter().enumerate() {

@@ -41,8 +41,10 @@ impl Found {
     /// Whether a break of this rule at this place would be the first. Where it would not, what it rests on need not be tested.
     #[tactic(auto, using(crate::proofs::Open::opening))]
     pub fn is_open(&self, rule: Rule, pos: Pos) -> bool
-        ensures open { result ≡ true → after self.now (unless false rule pos) ≡ Some (record { rule = rule; pos = pos }) }
-        ensures shut { result ≡ false → (holds : Bool) → after self.now (unless holds rule pos) ≡ self.now }
+        ensures open { result ≡ true →
+            after self.now (unless false rule pos) ≡ Some (record { rule = rule; pos = pos }) }
+        ensures shut { result ≡ false → (holds : Bool) →
+            after self.now (unless holds rule pos) ≡ self.now }
     {
         match self.first {
             None => true,

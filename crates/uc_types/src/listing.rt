@@ -69,7 +69,8 @@ fn push_name(
 }
 
 fn count_of(listed: &Listed, declarator: &Declarator) -> u32
-    ensures { result ≡ elements (seen_in (constants_of listed.now.bases.now.items) listed.now.class.now) declarator.now }
+    ensures { result ≡ elements
+        (seen_in (constants_of listed.now.bases.now.items) listed.now.class.now) declarator.now }
 {
     elements_of(&listed.lengths, declarator)
 }
@@ -81,7 +82,9 @@ fn field_meant(
     base: &Base,
     declarator: &Declarator,
 ) -> NameMeaning
-    ensures { result ≡ field_meant listed.now.bases.now (record { place = listed.now.place; class = listed.now.class.now }) access field base.now declarator.now }
+    ensures { result ≡ field_meant listed.now.bases.now
+        (record { place = listed.now.place; class = listed.now.class.now }) access field base.now
+        declarator.now }
 {
     let count = count_of(listed, declarator);
     let class = listed.class;
@@ -106,7 +109,11 @@ fn push_fields(
     base: &Base,
     declarators: &[Declarator],
 ) -> Result<(), AllocError>
-    ensures { OnOk result (list.new.items ≡ list.old.items ++ fields_seen listed.now.bases.now (record { place = listed.now.place; class = listed.now.class.now }) access member 0 base.now declarators.now) }
+    ensures { OnOk result (list.new.items
+        ≡ list.old.items
+        ++ fields_seen listed.now.bases.now
+        (record { place = listed.now.place; class = listed.now.class.now }) access member 0 base.now
+        declarators.now) }
 {
     for (index, declarator) in declarators.iter().enumerate() {
         let field = FieldPlace { member, index };
@@ -117,7 +124,8 @@ fn push_fields(
 }
 
 fn method_meant(listed: &Listed, mark: MutexMark, access: Access, member: usize) -> NameMeaning
-    ensures { result ≡ method_meant (record { place = listed.now.place; class = listed.now.class.now }) mark access member }
+    ensures { result ≡ method_meant
+        (record { place = listed.now.place; class = listed.now.class.now }) mark access member }
 {
     let class = listed.class;
     let entity = Entity::Method {
@@ -144,7 +152,11 @@ fn push_method(
     member: usize,
     sig: &Sig,
 ) -> Result<(), AllocError>
-    ensures { OnOk result (list.new.items ≡ list.old.items ++ method_seen (record { place = listed.now.place; class = listed.now.class.now }) mark access member sig.now) }
+    ensures { OnOk result (list.new.items
+        ≡ list.old.items
+        ++ method_seen
+        (record { place = listed.now.place; class = listed.now.class.now }) mark access member
+        sig.now) }
 {
     if is_plain(sig.role) {
         let meant = method_meant(listed, mark, access, member);
@@ -160,7 +172,11 @@ fn push_form(
     place: usize,
     member: &Member,
 ) -> Result<(), AllocError>
-    ensures { OnOk result (list.new.items ≡ list.old.items ++ form_seen listed.now.bases.now (record { place = listed.now.place; class = listed.now.class.now }) member.now.mark member.now.access place member.now.form) }
+    ensures { OnOk result (list.new.items
+        ≡ list.old.items
+        ++ form_seen listed.now.bases.now
+        (record { place = listed.now.place; class = listed.now.class.now }) member.now.mark
+        member.now.access place member.now.form) }
 {
     let access = member.access;
     let mark = member.mark;
@@ -189,7 +205,9 @@ fn members_in(
     listed: &Listed,
     members: &[Member],
 ) -> Result<Vec<LocalName>, AllocError>
-    ensures { IfOk result (λ v. v.items ≡ members_seen listed.now.bases.now (record { place = listed.now.place; class = listed.now.class.now }) 0 members.now) }
+    ensures { IfOk result (λ v. v.items
+        ≡ members_seen listed.now.bases.now
+        (record { place = listed.now.place; class = listed.now.class.now }) 0 members.now) }
 {
     let mut list = Vec::new(alloc);
     for (place, member) in members.iter().enumerate() {

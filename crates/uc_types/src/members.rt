@@ -23,7 +23,8 @@ pub fn params_in_each<'a>(
     alloc: Global,
     classes: &[&'a Class],
 ) -> Result<Vec<&'a [Param]>, AllocError>
-    ensures { IfOk result (λ v. map (λ x. x.now) v.items ≡ map built_with (map (λ c. c.now) classes.now)) }
+    ensures { IfOk result (λ v. map (λ x. x.now) v.items
+        ≡ map built_with (map (λ c. c.now) classes.now)) }
 {
     let mut all = Vec::new(alloc);
     for class in classes {
@@ -45,7 +46,8 @@ pub fn params_at<'a>(all: &[&'a [Param]], class: usize) -> &'a [Param]
 
 /// The names with this place, none beyond the last.
 pub fn names_at<'x>(all: &'x [Vec<&'x Name>], class: usize) -> &'x [&'x Name]
-    ensures { map (λ n. n.now) result.now ≡ unwrap_or (option_map (λ ns. map (λ n. n.now) ns.items) (slice_get all.now class)) [] }
+    ensures { map (λ n. n.now) result.now
+        ≡ unwrap_or (option_map (λ ns. map (λ n. n.now) ns.items) (slice_get all.now class)) [] }
 {
     if let Some(names) = all.get(class) {
         return names.as_slice();

@@ -108,7 +108,8 @@ impl<'a> Names<'a> {
     }
 
     fn own_named(&self, name: &Name) -> Option<NameMeaning>
-        ensures { result ≡ own_named self.now.program self.now.around.main self.now.around.home name.now }
+        ensures { result ≡ own_named self.now.program self.now.around.main self.now.around.home
+            name.now }
     {
         let around = self.around;
         match around.home {
@@ -163,7 +164,8 @@ impl<'a> Names<'a> {
     }
 
     fn push(&mut self, name: &Name, meant: NameMeaning) -> Result<(), AllocError>
-        ensures { OnOk result (self.new ≡ with_seen self.old (record { name = name.now; meant = meant })) }
+        ensures { OnOk result (self.new
+            ≡ with_seen self.old (record { name = name.now; meant = meant })) }
     {
         push_seen(self.alloc, &mut self.names, &mut self.places, name, meant)?;
         Ok(())
@@ -270,7 +272,13 @@ impl<'a> Names<'a> {
 
     /// The innermost scope ends, and the one of the mark is the innermost again.
     pub fn close(&mut self, mark: ScopeMark)
-        ensures { self.new ≡ record { program = self.old.program; around = mark.around; names = take mark.count self.old.names; outside = mark.outside } }
+        ensures { self.new ≡ record {
+          program = self.old.program;
+          around = mark.around;
+          names = take
+              mark.count self.old.names;
+          outside = mark.outside;
+        } }
     {
         close_to(&mut self.names, &mut self.places, mark.count);
         self.outside = mark.outside;
@@ -279,7 +287,8 @@ impl<'a> Names<'a> {
 }
 
 fn main_named(main: bool, name: &Name) -> Option<NameMeaning>
-    ensures { result ≡ (if main then (if same_name main_name name.now then Some main_meant else None) else None) }
+    ensures { result ≡ (if main
+        then (if same_name main_name name.now then Some main_meant else None) else None) }
 {
     if main && name.is(b"main") {
         Some(NameMeaning {
@@ -316,7 +325,8 @@ fn push_seen(
 ) -> Result<(), AllocError>
     requires { places.old ≡ stacked 0 names.old.items [] }
     ensures stacked { places.new ≡ stacked 0 names.new.items [] }
-    ensures pushed { OnOk result (names.new.items ≡ names.old.items ++ record { name = name.now; meant = meant } ∷ []) }
+    ensures pushed { OnOk result (names.new.items
+        ≡ names.old.items ++ record { name = name.now; meant = meant } ∷ []) }
 {
     let copy = name.copy(alloc)?;
     let id = place_id(names.len())?;

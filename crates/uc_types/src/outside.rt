@@ -35,7 +35,8 @@ impl<'a> Model for ClassConstructors<'a> {
 
 impl<'a> ClassConstructors<'a> {
     fn push(&mut self, routine: &'a Routine) -> Result<(), AllocError>
-        ensures { OnOk result (self.new ≡ record { owner = self.old.owner; routines = self.old.routines ++ routine.now ∷ [] }) }
+        ensures { OnOk result (self.new
+            ≡ record { owner = self.old.owner; routines = self.old.routines ++ routine.now ∷ [] }) }
     {
         self.routines.push(routine)?;
         Ok(())
@@ -90,7 +91,8 @@ fn begin<'a>(
     owner: &'a Name,
     routine: &'a Routine,
 ) -> Result<(), AllocError>
-    ensures { OnOk result (groups.new.items ≡ groups.old.items ++ record { owner = owner.now; routines = routine.now ∷ [] } ∷ []) }
+    ensures { OnOk result (groups.new.items
+        ≡ groups.old.items ++ record { owner = owner.now; routines = routine.now ∷ [] } ∷ []) }
 {
     let mut routines = Vec::new(alloc);
     routines.push(routine)?;
@@ -107,7 +109,9 @@ fn push<'a>(
 ) -> Result<(), AllocError>
     requires { ArePlaced groups.old.items places.old }
     ensures placed { OnOk result (ArePlaced groups.new.items places.new) }
-    ensures grown { OnOk result ((name : List ℕ) → group_named groups.new.items name ≡ group_named groups.old.items name ++ grown owner.now name routine.now) }
+    ensures grown { OnOk result ((name : List ℕ) →
+        group_named groups.new.items name
+        ≡ group_named groups.old.items name ++ grown owner.now name routine.now) }
 {
     match place_in(places, owner) {
         Some(place) => {
@@ -130,7 +134,9 @@ fn push_owned<'a>(
 ) -> Result<(), AllocError>
     requires { ArePlaced groups.old.items places.old }
     ensures placed { OnOk result (ArePlaced groups.new.items places.new) }
-    ensures grown { OnOk result ((name : List ℕ) → group_named groups.new.items name ≡ group_named groups.old.items name ++ routine_in name routine.now) }
+    ensures grown { OnOk result ((name : List ℕ) →
+        group_named groups.new.items name
+        ≡ group_named groups.old.items name ++ routine_in name routine.now) }
 {
     match &routine.sig.owner {
         Owner::Here => Ok(()),
@@ -153,7 +159,9 @@ fn push_item<'a>(
 ) -> Result<(), AllocError>
     requires { ArePlaced groups.old.items places.old }
     ensures placed { OnOk result (ArePlaced groups.new.items places.new) }
-    ensures grown { OnOk result ((name : List ℕ) → group_named groups.new.items name ≡ group_named groups.old.items name ++ constructor_in name item.now) }
+    ensures grown { OnOk result ((name : List ℕ) →
+        group_named groups.new.items name
+        ≡ group_named groups.old.items name ++ constructor_in name item.now) }
 {
     match &item.form {
         ItemForm::Class { .. } => Ok(()),
@@ -176,7 +184,9 @@ fn push_items<'a>(
 ) -> Result<(), AllocError>
     requires { ArePlaced groups.old.items places.old }
     ensures placed { OnOk result (ArePlaced groups.new.items places.new) }
-    ensures grown { OnOk result ((name : List ℕ) → group_named groups.new.items name ≡ group_named groups.old.items name ++ constructors_in name items.now) }
+    ensures grown { OnOk result ((name : List ℕ) →
+        group_named groups.new.items name
+        ≡ group_named groups.old.items name ++ constructors_in name items.now) }
 {
     for item in items {
         push_item(alloc, groups, places, item)?;
@@ -185,7 +195,8 @@ fn push_items<'a>(
 }
 
 fn routines_at<'x>(groups: &'x [ClassConstructors<'x>], place: usize) -> &'x [&'x Routine]
-    ensures { map (λ r. r.now) result.now ≡ unwrap_or (option_map (λ g. g.routines) (slice_get groups.now place)) [] }
+    ensures { map (λ r. r.now) result.now
+        ≡ unwrap_or (option_map (λ g. g.routines) (slice_get groups.now place)) [] }
 {
     if let Some(group) = groups.get(place) {
         return group.routines.as_slice();

@@ -25,7 +25,8 @@ pub fn no_names(alloc: Global) -> Result<Scope, AllocError>
 pub fn note_name(names: &mut Scope, name: &Name) -> Result<(), AllocError>
     requires { 0 < length names.old }
     ensures open { OnOk result (0 < length names.new) }
-    ensures noted { OnOk result ((x : List ℕ) → is_some (found names.new x) ≡ (is_some (found names.old x) || same_name name.now x)) }
+    ensures noted { OnOk result ((x : List ℕ) →
+        is_some (found names.new x) ≡ (is_some (found names.old x) || same_name name.now x)) }
 {
     names.declare(name.bytes(), 0)?;
     Ok(())
@@ -40,7 +41,8 @@ pub fn has_name(names: &Scope, name: &Name) -> bool
 
 /// The names of these parameters.
 pub fn names_of_params(alloc: Global, params: &[Param]) -> Result<Scope, AllocError>
-    ensures { IfOk result (λ names. (x : List ℕ) → is_some (found names x) ≡ list_any (λ p. same_name p.name x) params.now) }
+    ensures { IfOk result (λ names. (x : List ℕ) →
+        is_some (found names x) ≡ list_any (λ p. same_name p.name x) params.now) }
 {
     let mut names = no_names(alloc)?;
     for param in params {
@@ -51,7 +53,8 @@ pub fn names_of_params(alloc: Global, params: &[Param]) -> Result<Scope, AllocEr
 
 /// The names of these initialisers.
 pub fn names_of_inits(alloc: Global, inits: &[Init]) -> Result<Scope, AllocError>
-    ensures { IfOk result (λ names. (x : List ℕ) → is_some (found names x) ≡ list_any (λ i. same_name i.name x) inits.now) }
+    ensures { IfOk result (λ names. (x : List ℕ) →
+        is_some (found names x) ≡ list_any (λ i. same_name i.name x) inits.now) }
 {
     let mut names = no_names(alloc)?;
     for init in inits {

@@ -57,7 +57,8 @@ impl<'a> Model for Tables<'a> {
 }
 
 fn constructor_form(form: &MemberForm) -> Option<&Sig>
-    ensures { MatchOption result (constructor_form (member_form_at form.now) ≡ None) (λ s. constructor_form (member_form_at form.now) ≡ Some s.now) }
+    ensures { MatchOption result (constructor_form (member_form_at form.now)
+        ≡ None) (λ s. constructor_form (member_form_at form.now) ≡ Some s.now) }
 {
     match form {
         MemberForm::Fields { .. } => None,
@@ -80,7 +81,8 @@ fn constructor_form(form: &MemberForm) -> Option<&Sig>
 
 /// The first constructor among these members.
 pub fn constructor_among(members: &[Member]) -> Option<&Sig>
-    ensures { MatchOption result (constructor_among members.now ≡ None) (λ s. constructor_among members.now ≡ Some s.now) }
+    ensures { MatchOption result (constructor_among members.now
+        ≡ None) (λ s. constructor_among members.now ≡ Some s.now) }
 {
     for member in members {
         if let Some(sig) = constructor_form(&member.form) {
@@ -91,7 +93,8 @@ pub fn constructor_among(members: &[Member]) -> Option<&Sig>
 }
 
 fn form_sig(form: &MemberForm) -> Option<&Sig>
-    ensures { MatchOption result (form_sig (member_form_at form.now) ≡ None) (λ s. form_sig (member_form_at form.now) ≡ Some s.now) }
+    ensures { MatchOption result (form_sig (member_form_at form.now)
+        ≡ None) (λ s. form_sig (member_form_at form.now) ≡ Some s.now) }
 {
     match form {
         MemberForm::Fields { .. } => None,
@@ -111,7 +114,8 @@ fn item_sig(item: &Item) -> Option<&Sig>
 }
 
 fn named_in(directories: &[NameTable], class: usize, name: &Name) -> Option<NameMeaning>
-    ensures { result ≡ option_and_then (λ ss. first_named ss name.now) (slice_get directories.now class) }
+    ensures { result ≡ option_and_then (λ ss. first_named ss name.now)
+        (slice_get directories.now class) }
 {
     match directories.get(class) {
         Some(directory) => directory.find(name),
@@ -126,7 +130,8 @@ impl<'a> Tables<'a> {
         program: &'a Program,
         numbered: Vec<Vec<&'a Name>>,
     ) -> Result<Tables<'a>, AllocError>
-        requires { map (λ ns. map (λ n. n.now) ns.items) numbered.items ≡ map numbered_in (classes_of program.now.items) }
+        requires { map (λ ns. map (λ n. n.now) ns.items) numbered.items
+            ≡ map numbered_in (classes_of program.now.items) }
         ensures { IfOk result (λ t. t ≡ program.now) }
     {
         let bases = Bases::new(alloc, program)?;
@@ -160,7 +165,8 @@ impl<'a> Tables<'a> {
 
     /// The class with this place among the classes of the program, events included.
     pub fn class_at(&self, place: usize) -> Option<&'a Class>
-        ensures { MatchOption result (class_at self.now place ≡ None) (λ c. class_at self.now place ≡ Some c.now) }
+        ensures { MatchOption result (class_at self.now place ≡ None) (λ c. class_at self.now place
+            ≡ Some c.now) }
     {
         self.bases.class_at(place)
     }
@@ -231,7 +237,8 @@ impl<'a> Tables<'a> {
 
     /// The signature of the routine or prototype that the item with this place is.
     pub fn routine_sig(&self, item: usize) -> Option<&'a Sig>
-        ensures { MatchOption result (routine_sig self.now item ≡ None) (λ s. routine_sig self.now item ≡ Some s.now) }
+        ensures { MatchOption result (routine_sig self.now item
+            ≡ None) (λ s. routine_sig self.now item ≡ Some s.now) }
     {
         let program = self.program();
         match program.items.get(item) {
@@ -242,7 +249,8 @@ impl<'a> Tables<'a> {
 
     /// The signature of the routine or prototype that the member with this place of a class is.
     pub fn method_sig(&self, class: usize, member: usize) -> Option<&'a Sig>
-        ensures { MatchOption result (method_sig self.now class member ≡ None) (λ s. method_sig self.now class member ≡ Some s.now) }
+        ensures { MatchOption result (method_sig self.now class member
+            ≡ None) (λ s. method_sig self.now class member ≡ Some s.now) }
     {
         match self.class_at(class) {
             Some(found) => match found.members.get(member) {
@@ -262,7 +270,8 @@ impl<'a> Tables<'a> {
 
     /// The names of the mutex members of the class with this place besides its destructor, as far as they have numbers.
     pub fn mutex_members(&self, class: usize) -> &[&Name]
-        ensures names { (c : Class) → class_at self.now class ≡ Some c → map (λ n. n.now) result.now ≡ take MEMBERS (mutex_members c) }
+        ensures names { (c : Class) → class_at self.now class ≡ Some c →
+            map (λ n. n.now) result.now ≡ take MEMBERS (mutex_members c) }
         ensures few { length result.now ≤ MEMBERS }
     {
         names_at(&self.numbered, class)

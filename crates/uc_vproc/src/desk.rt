@@ -118,7 +118,8 @@ impl Desk {
         requires known { AreKnownSites shape.sites.items }
         requires sites { shape.sites.items ≡ code.now.sites }
         requires input { length input.items ≤ INPUT_BYTES }
-        requires first { (source : Source) → IsSource code.now main source → IsTask code.now first ((first_world source).tasks 0) }
+        requires first { (source : Source) → IsSource code.now main source →
+            IsTask code.now first ((first_world source).tasks 0) }
         requires kept { Keeps code.now (with_hand [] first) }
         requires own { own ≡ no_fields }
         ensures { IfOk result (λ d. IsOpened code.now main input.items opts d) }
@@ -151,7 +152,8 @@ impl Desk {
 
     /// The act of what a worker brings from a ride. Where what is asked does not fit, or memory is wanting, the run is abandoned.
     pub fn act(&mut self, maker: u32, back: Back<Option<Task>, Members>, asked: &Asked) -> Step
-        requires brings { (seen : Log) × Saw maker seen self.old.log × Brings self.old.code maker seen (with_asked back asked.now) }
+        requires brings { (seen : Log) × Saw maker seen self.old.log
+            × Brings self.old.code maker seen (with_asked back asked.now) }
         ensures key { key_from self.new ≡ key_from self.old }
         ensures log { Extends maker self.old.log self.new.log }
         ensures came { Came self.old.code maker self.new.log result }
@@ -172,7 +174,8 @@ impl Desk {
 
     /// The journal, where the run is over and was not abandoned.
     pub fn finish(self) -> Result<Vec<Entry>, AllocError>
-        ensures { IfOk result (λ j. EndsAs self.code self.main self.store.input self.store.opts j.items) }
+        ensures { IfOk result (λ j. EndsAs self.code self.main self.store.input self.store.opts
+            j.items) }
     {
         let Desk {
             kernel,
@@ -196,7 +199,8 @@ impl Desk {
 // Each entry that has no note yet is of this call.
 fn make_notes(notes: &mut Vec<Note>, count: usize, maker: u32, step: &Step)
     requires { count ≤ vec_capacity notes.old }
-    ensures items { notes.new.items ≡ notes.old.items ++ replicate (count - length notes.old.items) (maker, step.now) }
+    ensures items { notes.new.items
+        ≡ notes.old.items ++ replicate (count - length notes.old.items) (maker, step.now) }
     ensures capacity { vec_capacity notes.new ≡ vec_capacity notes.old }
 {
     for _ in notes.len()..count {

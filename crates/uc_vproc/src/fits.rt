@@ -48,9 +48,11 @@ pub fn fits(
     requires form { HasForm request.now }
     requires names { NamesKnown kernel.now.sites request.now }
     requires event { EventKnown request.now }
-    requires apart { (o m : ℕ) → request.now ≡ ask.Call o m → has (held task kernel.now.journal) o ≡ false }
+    requires apart { (o m : ℕ) → request.now ≡ ask.Call o m →
+        has (held task kernel.now.journal) o ≡ false }
     requires told { Tells kernel.now.opts kernel.now.journal registry.now }
-    ensures { result ≡ true → Fits kernel.now.opts kernel.now.sites kernel.now.journal task request.now }
+    ensures { result ≡ true →
+        Fits kernel.now.opts kernel.now.sites kernel.now.journal task request.now }
 {
     let own = kernel.own_object(task);
     match place_for(own, request) {

@@ -74,7 +74,8 @@ pub fn count_one(count: &mut u32)
 
 /// An object is there no more.
 pub fn take_out(there: &mut Vec<bool>, object: u32)
-    ensures { (o : ℕ) → slice_index_or there.new.items o false ≡ true → (slice_index_or there.old.items o false ≡ true) × (o ≡ object → ⊥) }
+    ensures { (o : ℕ) → slice_index_or there.new.items o false ≡ true →
+        (slice_index_or there.old.items o false ≡ true) × (o ≡ object → ⊥) }
 {
     if (object as usize) < there.len() {
         there[object as usize] = false;

@@ -41,7 +41,8 @@ pub fn run_processors<R: Threads + Wait + Sync, G: Gate + Sync>(
     requires range { InRange opts }
     requires small { length input.items ≤ INPUT_BYTES }
     requires paced { IsPaced (laid_of code.now) code.now.routines }
-    ensures run { IfOk result (λ journal. (source : Source) → IsSource code.now main source → IsRunOf source input.items opts journal.items) }
+    ensures run { IfOk result (λ journal. (source : Source) → IsSource code.now main source →
+        IsRunOf source input.items opts journal.items) }
 {
     let desk = open(alloc, code, main, input, opts)?;
     let journal = serve(rt, alloc, code, gate, desk, opts.processors)?;

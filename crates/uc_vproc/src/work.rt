@@ -58,7 +58,8 @@ fn bring<R: Wait>(
 ) -> Step
     requires ready { IsReady lock.now seat.old }
     requires own { seat.old.own ≡ made_by seat.old.number seat.old.seen }
-    requires brings { Brings lock.now.terms.key.code seat.old.number seat.old.seen (with_asked back asked.now) }
+    requires brings { Brings lock.now.terms.key.code seat.old.number seat.old.seen
+        (with_asked back asked.now) }
     ensures same { IsReady lock.now seat.new × IsSame seat.old seat.new }
     ensures came { HasCome lock.now seat.new result }
 {
@@ -280,7 +281,8 @@ pub fn work_all<R: Threads + Wait + Sync, G: Gate + Sync>(
         rt,
         seats,
         &|seat: Seat<Desk>| -> Seat<Desk>
-            requires { IsReady lock.now seat × (lock.now.terms.key.code ≡ code.now) × IsPaced (laid_of code.now) code.now.routines }
+            requires { IsReady lock.now seat × (lock.now.terms.key.code ≡ code.now)
+                × IsPaced (laid_of code.now) code.now.routines }
             ensures { IsReady lock.entry.now result }
         { work(rt, alloc, lock, code, gate, seat) },
     )

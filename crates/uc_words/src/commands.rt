@@ -15,7 +15,8 @@ use uc_tree::limits::{MAKE_MAX, OBJECTS};
 pub(crate) fn read_name(words: &[String]) -> Result<&str, WordsFault>
     ensures one { IfOk result (λ file. map string_bytes words.now ≡ file.now ∷ []) }
     ensures name { IfOk result (λ file. IsTrue (is_name file.now)) }
-    ensures fault { IfErr result (λ fault. (command : List ℕ) → IsFileCommand command → IsFirstBad (command ∷ map string_bytes words.now) (number_of fault)) }
+    ensures fault { IfErr result (λ fault. (command : List ℕ) → IsFileCommand command →
+        IsFirstBad (command ∷ map string_bytes words.now) (number_of fault)) }
 {
     let Some((word, more)) = words.split_first() else {
         return Err(WordsFault::Word { number: 2 });
@@ -33,7 +34,8 @@ pub(crate) fn read_name(words: &[String]) -> Result<&str, WordsFault>
 /// The number of tasks behind `make`.
 pub(crate) fn read_make(words: &[String]) -> Result<u32, WordsFault>
     ensures line { IfOk result (λ n. IsMakeLine (codes "make" ∷ map string_bytes words.now) n) }
-    ensures fault { IfErr result (λ fault. IsFirstBad (codes "make" ∷ map string_bytes words.now) (number_of fault)) }
+    ensures fault { IfErr result
+        (λ fault. IsFirstBad (codes "make" ∷ map string_bytes words.now) (number_of fault)) }
 {
     let Some((word, more)) = words.split_first() else {
         return Err(WordsFault::Word { number: 2 });
@@ -49,8 +51,10 @@ pub(crate) fn read_make(words: &[String]) -> Result<u32, WordsFault>
 
 /// The journal and the number of an object behind `explain`.
 pub(crate) fn read_explain(words: &[String]) -> Result<(&str, u32), WordsFault>
-    ensures line { IfOk result (λ asked. IsExplainLine (codes "explain" ∷ map string_bytes words.now) asked.0.now asked.1) }
-    ensures fault { IfErr result (λ fault. IsFirstBad (codes "explain" ∷ map string_bytes words.now) (number_of fault)) }
+    ensures line { IfOk result (λ asked. IsExplainLine
+        (codes "explain" ∷ map string_bytes words.now) asked.0.now asked.1) }
+    ensures fault { IfErr result
+        (λ fault. IsFirstBad (codes "explain" ∷ map string_bytes words.now) (number_of fault)) }
 {
     let Some((first, behind)) = words.split_first() else {
         return Err(WordsFault::Word { number: 2 });

@@ -23,7 +23,8 @@ impl NumberOption {
     /// The option that is spelled so.
     pub(crate) fn spelled(word: &str) -> Option<NumberOption>
         ensures option { IfSome result (λ option. word.now ≡ words.option_word option) }
-        ensures none { IfNone result ((option : NumberOption) → word.now ≡ words.option_word option → ⊥) }
+        ensures none { IfNone result ((option : NumberOption) →
+            word.now ≡ words.option_word option → ⊥) }
     {
         if word == "--processors" {
             return Some(NumberOption::Processors);

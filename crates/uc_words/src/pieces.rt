@@ -25,9 +25,13 @@ pub fn read_piece<'a>(
     behind: &'a [String],
     told: RunOptions<'a>,
 ) -> Result<Step<'a>, WordsFault>
-    ensures leads { IfOk result (λ step. Leads (parts_of told.entry) (word.now ∷ map string_bytes behind.now) (parts_of step.told) (map string_bytes step.rest.now)) }
+    ensures leads { IfOk result (λ step. Leads (parts_of told.entry)
+        (word.now ∷ map string_bytes behind.now) (parts_of step.told)
+        (map string_bytes step.rest.now)) }
     ensures shorter { IfOk result (λ step. length step.rest.now ≤ length behind.now) }
-    ensures fault { IfErr result (λ fault. BadRest (parts_of told.entry) (word.now ∷ map string_bytes behind.now) (number_of fault)) }
+    ensures fault { IfErr result
+        (λ fault. BadRest (parts_of told.entry) (word.now ∷ map string_bytes behind.now)
+        (number_of fault)) }
 {
     if let Some(option) = NumberOption::spelled(word) {
         let step = read_option(option, behind, told)?;
@@ -54,9 +58,13 @@ fn read_file<'a>(
     requires no_number { (option : NumberOption) → word.now ≡ option_word option → ⊥ }
     requires no_journal { word.now ≡ codes "--journal" → ⊥ }
     requires no_input { word.now ≡ codes "--input" → ⊥ }
-    ensures leads { IfOk result (λ step. Leads (parts_of told.entry) (word.now ∷ map string_bytes behind.now) (parts_of step.told) (map string_bytes step.rest.now)) }
+    ensures leads { IfOk result (λ step. Leads (parts_of told.entry)
+        (word.now ∷ map string_bytes behind.now) (parts_of step.told)
+        (map string_bytes step.rest.now)) }
     ensures shorter { IfOk result (λ step. length step.rest.now ≤ length behind.now) }
-    ensures fault { IfErr result (λ fault. BadRest (parts_of told.entry) (word.now ∷ map string_bytes behind.now) (number_of fault)) }
+    ensures fault { IfErr result
+        (λ fault. BadRest (parts_of told.entry) (word.now ∷ map string_bytes behind.now)
+        (number_of fault)) }
 {
     if told.file.is_some() {
         return Err(fault_at(told, 1));
@@ -80,9 +88,13 @@ fn read_option<'a>(
     behind: &'a [String],
     told: RunOptions<'a>,
 ) -> Result<Step<'a>, WordsFault>
-    ensures leads { IfOk result (λ step. Leads (parts_of told.entry) (option_word option ∷ map string_bytes behind.now) (parts_of step.told) (map string_bytes step.rest.now)) }
+    ensures leads { IfOk result (λ step. Leads (parts_of told.entry)
+        (option_word option ∷ map string_bytes behind.now) (parts_of step.told)
+        (map string_bytes step.rest.now)) }
     ensures shorter { IfOk result (λ step. length step.rest.now ≤ length behind.now) }
-    ensures fault { IfErr result (λ fault. BadRest (parts_of told.entry) (option_word option ∷ map string_bytes behind.now) (number_of fault)) }
+    ensures fault { IfErr result
+        (λ fault. BadRest (parts_of told.entry) (option_word option ∷ map string_bytes behind.now)
+        (number_of fault)) }
 {
     if has_number(told, option) {
         return Err(fault_at(told, 1));
@@ -99,9 +111,13 @@ fn read_option<'a>(
 
 // Reads `--journal`, which has no value.
 fn read_journal<'a>(behind: &'a [String], told: RunOptions<'a>) -> Result<Step<'a>, WordsFault>
-    ensures leads { IfOk result (λ step. Leads (parts_of told.entry) (codes "--journal" ∷ map string_bytes behind.now) (parts_of step.told) (map string_bytes step.rest.now)) }
+    ensures leads { IfOk result (λ step. Leads (parts_of told.entry)
+        (codes "--journal" ∷ map string_bytes behind.now) (parts_of step.told)
+        (map string_bytes step.rest.now)) }
     ensures shorter { IfOk result (λ step. length step.rest.now ≤ length behind.now) }
-    ensures fault { IfErr result (λ fault. BadRest (parts_of told.entry) (codes "--journal" ∷ map string_bytes behind.now) (number_of fault)) }
+    ensures fault { IfErr result
+        (λ fault. BadRest (parts_of told.entry) (codes "--journal" ∷ map string_bytes behind.now)
+        (number_of fault)) }
 {
     if told.journal {
         return Err(fault_at(told, 1));
@@ -118,9 +134,13 @@ fn read_journal<'a>(behind: &'a [String], told: RunOptions<'a>) -> Result<Step<'
 
 // Reads the name behind `--input`.
 fn read_input<'a>(behind: &'a [String], told: RunOptions<'a>) -> Result<Step<'a>, WordsFault>
-    ensures leads { IfOk result (λ step. Leads (parts_of told.entry) (codes "--input" ∷ map string_bytes behind.now) (parts_of step.told) (map string_bytes step.rest.now)) }
+    ensures leads { IfOk result (λ step. Leads (parts_of told.entry)
+        (codes "--input" ∷ map string_bytes behind.now) (parts_of step.told)
+        (map string_bytes step.rest.now)) }
     ensures shorter { IfOk result (λ step. length step.rest.now ≤ length behind.now) }
-    ensures fault { IfErr result (λ fault. BadRest (parts_of told.entry) (codes "--input" ∷ map string_bytes behind.now) (number_of fault)) }
+    ensures fault { IfErr result
+        (λ fault. BadRest (parts_of told.entry) (codes "--input" ∷ map string_bytes behind.now)
+        (number_of fault)) }
 {
     if told.input.is_some() {
         return Err(fault_at(told, 1));
@@ -142,7 +162,8 @@ fn read_input<'a>(behind: &'a [String], told: RunOptions<'a>) -> Result<Step<'a>
 /// The job, once all words are read.
 pub fn finish(told: RunOptions<'_>) -> Result<Job<'_>, WordsFault>
     ensures line { IfOk result (λ job. Goes (parts_of told.entry) [] (command_of job)) }
-    ensures only { IfOk result (λ job. (other : Command) → Goes (parts_of told.entry) [] other → other ≡ command_of job) }
+    ensures only { IfOk result (λ job. (other : Command) → Goes (parts_of told.entry) [] other →
+        other ≡ command_of job) }
     ensures fault { IfErr result (λ fault. BadRest (parts_of told.entry) [] (number_of fault)) }
 {
     match told.file {
@@ -156,7 +177,9 @@ pub fn finish(told: RunOptions<'_>) -> Result<Job<'_>, WordsFault>
 
 // The job of a file and what its options say.
 fn job_of<'a>(file: &'a str, told: RunOptions<'a>) -> Job<'a>
-    ensures { command_of result ≡ RunFile file.now (options_with (parts_of told.entry).numbers) (parts_of told.entry).journal (parts_of told.entry).input }
+    ensures { command_of result
+        ≡ RunFile file.now (options_with (parts_of told.entry).numbers)
+        (parts_of told.entry).journal (parts_of told.entry).input }
 {
     Job::Run {
         file,

@@ -12,8 +12,10 @@ use crate::told::RunOptions;
 /// The job of these words, which is the only one that they ask for, or the first word at fault.
 pub fn read_words(words: &[String]) -> Result<Job<'_>, WordsFault>
     ensures line { IfOk result (λ job. IsLine (map string_bytes words.now) (command_of job)) }
-    ensures only { IfOk result (λ job. (other : Command) → IsLine (map string_bytes words.now) other → other ≡ command_of job) }
-    ensures fault { IfErr result (λ fault. IsFirstBad (map string_bytes words.now) (number_of fault)) }
+    ensures only { IfOk result (λ job. (other : Command) →
+        IsLine (map string_bytes words.now) other → other ≡ command_of job) }
+    ensures fault { IfErr result
+        (λ fault. IsFirstBad (map string_bytes words.now) (number_of fault)) }
 {
     let Some((command, rest)) = words.split_first() else {
         return Err(WordsFault::Word { number: 1 });
@@ -55,8 +57,10 @@ pub fn read_words(words: &[String]) -> Result<Job<'_>, WordsFault>
 // What stands behind `run`.
 fn read_run(words: &[String]) -> Result<Job<'_>, WordsFault>
     ensures line { IfOk result (λ job. Goes nothing (map string_bytes words.now) (command_of job)) }
-    ensures only { IfOk result (λ job. (other : Command) → Goes nothing (map string_bytes words.now) other → other ≡ command_of job) }
-    ensures fault { IfErr result (λ fault. BadRest nothing (map string_bytes words.now) (number_of fault)) }
+    ensures only { IfOk result (λ job. (other : Command) →
+        Goes nothing (map string_bytes words.now) other → other ≡ command_of job) }
+    ensures fault { IfErr result
+        (λ fault. BadRest nothing (map string_bytes words.now) (number_of fault)) }
 {
     let mut told = RunOptions {
         file: None,
