@@ -306,9 +306,9 @@ from_as {x} {y} {r} {f} {n} {k} {c} {o} {m} {j} {b} {q} {S} {T} {s} {t} {old} {n
 pub from_count : {x q r f n k c o : ℕ} {S : Laid → ℕ → ℕ → Type 0} {s : Scope} {old new : Draft} → q ≡ r → LowersFrom x q f n k c o S s old new → LowersFrom x r f n k c o S s old new
 from_count e h = record { rest = h.rest; scope = h.scope; opened = h.opened; kept = h.kept; rows = fit_count e h.rows; room = h.room; texts = h.texts; cells = h.cells; code = h.code }
 
-first_rows : (loop out : ℕ) (resumes : Bool) (event : Option ℕ) (cell line : ℕ) (body : Stmts) (rest : Handlers) → handlers_rows loop out (MoreHandlers resumes event cell line body rest) ≡ handled_body_rows loop out resumes body + handlers_rows loop out rest
-first_rows loop out false event cell line body rest = refl
-first_rows loop out true event cell line body rest = refl
+first_rows : (loop out : ℕ) (resumes : Bool) (event : Option ℕ) (cell line : ℕ) (body : Stmts) (others : Handlers) → handlers_rows loop out (MoreHandlers resumes event cell line body others) ≡ handled_body_rows loop out resumes body + handlers_rows loop out others
+first_rows loop out false event cell line body others = refl
+first_rows loop out true event cell line body others = refl
 
 pub handlers_none : (p : Program) (first pad : ℕ) (old : Draft) → LowersHandlers p first pad tree.NoHandlers old old
 handlers_none p first pad old = from_as (from_lowers first (lowers_nothing old)) (omega arith) refl (λ code a z x. x) (omega arith) (omega arith) (omega arith) refl
