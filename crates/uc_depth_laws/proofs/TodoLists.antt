@@ -1,6 +1,6 @@
 -- What stands in to-do lists in which objects are entered by their calls, and how many marks they have, by what puts it there.
 use Rattle.std.proofs.Common.{◌≡◌, ℕ, zero, suc, ◌≤◌, Bool, true, false, ◌&&◌, List, [], ◌∷◌, length, Option, Some, None, ap, arith}
-use Rattle.std.specs.Prelude.{◌-◌, nat_eq}
+use Rattle.std.specs.Prelude.{nat_eq}
 use Rattle.uc_tree.specs.Source as src
 use Rattle.uc_tree.specs.Source.{Source, Shape, Expr, Stmt, Routine, Purpose, Order, Way, CleanUp, Handlers, Clauses, Raised, Item}
 use Rattle.uc_machine.specs.declared.exec.UnwindReason.{UnwindReason}

@@ -118,6 +118,10 @@ drop_two [] = refl
 drop_two (o ∷ []) = refl
 drop_two (o ∷ (p ∷ os)) = refl
 
+-- nothing is left below two of at most one
+pub below_few : (x : Extent) (cs : List Cell) → length cs - x.start ≤ 1 → below (below (operands_from x cs)) ≡ []
+below_few x cs l = sym (drop_two (operands_from x cs)) ∙ drop_all 2 (operands_from x cs) (omega (arith, l, length-reverse (drop x.start cs), length-drop x.start cs))
+
 drop_one : (os : List Cell) → drop 1 os ≡ below os
 drop_one [] = refl
 drop_one (o ∷ os) = refl

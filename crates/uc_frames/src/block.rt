@@ -137,6 +137,7 @@ impl Block {
     }
 
     // One operand in the place of all.
+    #[inline(always)]
     pub(crate) fn replace_all(&mut self, cell: Cell) -> Result<(), AllocError>
         ensures ok { OnOk result (self.new ≡ record self.old { operands = cell ∷ [] }) }
         ensures err { OnErr result (self.new ≡ self.old) }
@@ -197,7 +198,7 @@ impl Block {
             self.cells.truncate(length - 1);
             self.cells[length - 2] = cell;
         } else {
-            self.replace_many(2, cell)?;
+            self.replace_all(cell)?;
         }
         Ok(())
     }
@@ -246,18 +247,6 @@ impl Block {
     // A cell is written at a place of a frame; a binding stays.
     #[inline(always)]
     pub(crate) fn write(&mut self, depth: u32, at: u64, cell: Cell)
-        ensures { self.new ≡ record self.old { frames = frame_changed depth (cell_written at cell) self.old.frames } }
-    {
-        if depth as usize == self.older.len() {
-            put_in(&mut self.cells, self.newest, at, cell);
-        } else {
-            self.write_older(depth, at, cell);
-        }
-    }
-
-    // The same where the frame is not the newest one.
-    #[inline(never)]
-    fn write_older(&mut self, depth: u32, at: u64, cell: Cell)
         ensures { self.new ≡ record self.old { frames = frame_changed depth (cell_written at cell) self.old.frames } }
     {
         if let Some(extent) = extent_at(self.newest, &self.older, depth) {

@@ -20,7 +20,7 @@ use Rattle.uc_machine.specs.Pieces.{Value, Number, Place, Running, Object, Nothi
 use Rattle.uc_depth_laws.specs.Owing.{Ex}
 use Rattle.uc_depth_laws.proofs.Kept.{either}
 use Rattle.uc_inner_laws.specs.Inner.{Part}
-use Rattle.uc_inner_laws.specs.Standing.{Mark, Stands, Waits, StandsEx, StandsSlot, StandsParked, StandsHand, StandsMembers, StandsEnv, IsHere, StandsWith, StandsState}
+use Rattle.uc_inner_laws.specs.Standing.{Mark, Stands, Waits, StandsEx, StandsSlot, StandsParked, StandsHand, StandsMembers, StandsEnv, IsHere, StandsState}
 
 module _ (part : ℕ → Part) (source : Source) (mine : ℕ) where
   -- why an activation is unwound does not matter

@@ -9,8 +9,8 @@ use Rattle.uc_machine.specs.Pieces as piece
 use Rattle.uc_machine.specs.Pieces.{Value, Todo, Sort, Active, top, below, object_in}
 use Rattle.uc_depth_laws.specs.Entering.{lets_go}
 use Rattle.uc_depth_laws.specs.Owing.{marks, more, owes}
-use Rattle.uc_inner_laws.specs.Inner.{Part, Plain, Helper, Maker, Ground, ground_of, under, params}
-use Rattle.uc_inner_laws.specs.Standing.{Mark, Any, Own, Thing, IsThing, Meets, Holds, rest, rests, anys, bound, IsThere, IsOwn, IsObject, Known, within_sort, ground, Ready, after, Ok, Left, Backs, Stands, Waits}
+use Rattle.uc_inner_laws.specs.Inner.{Part, Plain, Helper, Maker, Ground, ground_of, under}
+use Rattle.uc_inner_laws.specs.Standing.{Mark, Any, Own, Thing, IsThing, Holds, rest, rests, anys, bound, IsThere, IsOwn, IsObject, Known, within_sort, ground, Ready, after, Ok, Left, Backs, Stands, Waits}
 
 -- operands
 

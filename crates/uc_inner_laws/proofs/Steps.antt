@@ -27,7 +27,7 @@ use Rattle.uc_machine.specs.Pieces as piece
 use Rattle.uc_machine.specs.Pieces.{Value, Number, Object, Nothing, Todo, Sort, Active, State, Env, Members, Step, Asks, Outcome, Gives, Faults, at, in_env, fault, top, below, number, written, object_in}
 use Rattle.uc_depth_laws.proofs.Kept.{either}
 use Rattle.uc_inner_laws.specs.Inner.{Part, Plain, Helper, Maker, Ground, ground_of, count, params_at, params, IsPlain, CalledOn, SetsUp, InnerExpr, InnerObject, InnerClean, InnerStmts, InnerStmt, InnerEvent, InnerTask, InnerHandlers, InnerRoutine}
-use Rattle.uc_inner_laws.specs.Standing.{Mark, Any, Own, Thing, IsThing, Holds, rest, rests, anys, bound, IsThere, IsObject, Known, ground, Ready, LeftBy, Ok, Left, IsHome, Backs, IsHere, Stands, Waits, StandsEnv, StandsWith, StandsState, brings, StandsAsk, StandsIn, StandsStep}
+use Rattle.uc_inner_laws.specs.Standing.{Mark, Any, Own, IsThing, Holds, rest, rests, anys, bound, IsThere, IsObject, Known, ground, Ready, LeftBy, Ok, Left, IsHome, Backs, IsHere, Stands, Waits, StandsEnv, StandsWith, StandsState, brings, StandsAsk, StandsIn, StandsStep}
 use Rattle.uc_inner_laws.proofs.Keeping as kept
 use Rattle.uc_inner_laws.proofs.Keeping.{Kept}
 use Rattle.uc_inner_laws.proofs.Marking as marks

@@ -1,5 +1,5 @@
 -- What stands in to-do lists that are in order, by what puts it there, and what handlers are found in them.
-use Rattle.std.proofs.Common.{◌≡◌, ℕ, zero, suc, ◌<◌, ◌⊎◌, inl, inr, Bool, true, false, ◌&&◌, List, [], ◌∷◌, length, Option, Some, None, refl, sym, ap, ◌∙◌, subst, arith}
+use Rattle.std.proofs.Common.{◌≡◌, ℕ, zero, suc, inl, inr, Bool, true, false, ◌&&◌, List, [], ◌∷◌, length, Option, Some, None, refl, sym, ◌∙◌, subst, arith}
 use Rattle.std.specs.Prelude.{nat_eq}
 use Rattle.uc_tree.specs.Source as src
 use Rattle.uc_tree.specs.Source.{Shape, Expr, Stmt, Stmts, Routine, Purpose, Order, Way, CleanUp, Handlers, Clauses, Raised, Item, Source}
@@ -12,7 +12,6 @@ use Rattle.uc_machine.specs.Monitors as monitors
 use Rattle.uc_machine.specs.Quiet as quiet
 use Rattle.uc_machine.specs.Pieces as piece
 use Rattle.uc_machine.specs.Pieces.{Todo, Sort, Active, object_in}
-use Rattle.uc_depth_laws.specs.Owing.{marks as marks_of}
 use Rattle.uc_depth_laws.proofs.Kept.{either}
 use Rattle.uc_inner_laws.specs.Inner.{Part, Ground, InnerExpr, InnerMaybe, InnerItem, InnerClean, InnerRaised, InnerStmts, InnerStmt, InnerHandlers, InnerClauses}
 use Rattle.uc_inner_laws.specs.Standing.{Mark, Any, IsThing, ground, LeftBy, Ok, Left, Backs}

@@ -1,5 +1,5 @@
 -- Every quiet step of a task in order, answers to it, and what follows for what is asked.
-use Rattle.std.proofs.Common.{◌≡◌, ℕ, ◌<◌, ◌⊎◌, inl, inr, Bool, true, false, List, [], ◌∷◌, ◌++◌, ◌||◌, suc, drop, length, Option, Some, None, refl, sym, subst, ap, ◌∙◌, arith}
+use Rattle.std.proofs.Common.{◌≡◌, ℕ, ◌<◌, ◌⊎◌, inl, inr, Bool, true, false, List, [], ◌∷◌, ◌++◌, ◌||◌, suc, drop, Option, Some, None, refl, sym, subst, ap, ◌∙◌, arith}
 use Rattle.std.specs.Prelude.{nat_lt, nat_eq, is_some, slice_get, if◌then◌else◌}
 use Rattle.std.proofs.lemmas.Bool.{eq-eqb}
 use Rattle.uc_tree.specs.Source as src
@@ -26,7 +26,7 @@ use Rattle.uc_depth_laws.proofs.Kept.{either}
 use Rattle.uc_depth_laws.proofs.Standing.{law_inside}
 use Rattle.uc_answer_laws.specs.Suiting.{AnObject, AClause, ANumber, AValue, AnEvent, JustGo, IsForm, form_of_request}
 use Rattle.uc_inner_laws.specs.Inner.{Part, Ground, ground_of, params_at, params, InnerMaybe, InnerItems, InnerExpr, InnerStmt, InnerRoutine, InnerSource}
-use Rattle.uc_inner_laws.specs.Standing.{Mark, Any, Thing, IsThing, Meets, Holds, rest, ground, Ok, brings, StandsParked, StandsHand, StandsMembers, StandsEnv, StandsWith, StandsState, IsHome, Backs, IsHere, StandsIn, StandsAsking, StandsStep}
+use Rattle.uc_inner_laws.specs.Standing.{Mark, Any, Thing, Meets, Holds, rest, ground, Ok, brings, StandsParked, StandsHand, StandsMembers, StandsWith, StandsState, IsHome, Backs, IsHere, StandsIn, StandsAsking, StandsStep}
 use Rattle.uc_inner_laws.specs.InnerLaws.{IsAt, LawSteps, LawInside, LawFair}
 use Rattle.uc_inner_laws.proofs.Keeping as kept
 use Rattle.uc_inner_laws.proofs.Marking.{holds_below, there_long}

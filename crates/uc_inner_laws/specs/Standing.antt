@@ -1,6 +1,6 @@
 -- Executions in which whoever waits, signals or accepts is inside the object of its activation: itself by a mark, or by that of an older
 -- activation of the same object, or at home there.
-use Rattle.std.specs.Prelude.{◌≡◌, ℕ, zero, suc, ◌<◌, ◌⊎◌, ◌++◌, List, [], ◌∷◌, Option, Some, None, Bool, true, false, is_some}
+use Rattle.std.specs.Prelude.{◌≡◌, ℕ, zero, suc, ◌<◌, ◌⊎◌, ◌++◌, List, [], ◌∷◌, Option, Some, None, true, false, is_some}
 use Rattle.uc_tree.specs.Source as src
 use Rattle.uc_tree.specs.Source.{Expr, Source}
 use Rattle.uc_entry.specs.Keyed.{find}
@@ -12,7 +12,7 @@ use Rattle.uc_machine.specs.Insides.{is_held_up}
 use Rattle.uc_machine.specs.Pieces as piece
 use Rattle.uc_machine.specs.Pieces.{Value, Object, Todo, Sort, sort, Active, State, Env, Members, Step, Goes, Ticks, Asks, object_in}
 use Rattle.uc_depth_laws.specs.Owing.{Ex, marks}
-use Rattle.uc_inner_laws.specs.Inner.{Part, Plain, Helper, Maker, Ground, under, count, params, IsPlain, SetsUp, InnerExpr, InnerExprs, InnerMaybe, InnerItems, InnerTargets, InnerDeclared, InnerClean, InnerStmt, InnerStmts, InnerHandlers, InnerClauses}
+use Rattle.uc_inner_laws.specs.Inner.{Part, Plain, Helper, Maker, Ground, under, count, params, SetsUp, InnerExpr, InnerExprs, InnerMaybe, InnerItems, InnerTargets, InnerDeclared, InnerClean, InnerStmt, InnerStmts, InnerHandlers, InnerClauses}
 
 -- operands
 

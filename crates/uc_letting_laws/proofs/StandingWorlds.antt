@@ -1,11 +1,10 @@
 -- In every run tasks stand so that who waits in an object is inside it, and each has the object of which it was told as its own.
-use Rattle.std.proofs.Common.{◌≡◌, ℕ, suc, ◌==◌, ◌<◌, ◌≤◌, ◌||◌, ◌⊎◌, inl, inr, Bool, true, false, List, [], ◌∷◌, ◌++◌, Option, Some, None, refl, sym, ap, ◌∙◌, subst, arith, ⊎_elim}
+use Rattle.std.proofs.Common.{◌≡◌, ℕ, ◌==◌, ◌<◌, ◌≤◌, ◌||◌, inl, Bool, true, false, List, [], ◌∷◌, ◌++◌, Option, Some, None, refl, sym, ap, ◌∙◌, subst, arith, ⊎_elim}
 use Rattle.std.specs.Prelude.{nat_eq, is_some, if◌then◌else◌}
 use Rattle.std.proofs.lemmas.Bool.{eqb-true, eq-eqb, ne_eqb, cases_lt}
 use Rattle.uc_tree.specs.Source.{Source, routine_of}
 use Rattle.uc_entry.specs.declared.entry.Entry.{Entry}
 use Rattle.uc_entry.specs.declared.entry.Options.{Options}
-use Rattle.uc_entry.specs.declared.request.Answer.{Answer}
 use Rattle.uc_entry.specs.declared.request.Asked.{Asked}
 use Rattle.uc_entry.specs.declared.request.Request.{Request}
 use Rattle.uc_entry.specs.declared.request.Request.TheVariants as ask
@@ -38,7 +37,7 @@ use Rattle.uc_answer_laws.proofs.Asking.{law_asking}
 use Rattle.uc_step_laws.specs.Hands.{keys}
 use Rattle.uc_step_laws.proofs.Kept.{either}
 use Rattle.uc_program_laws.proofs.Alive.{law_alive}
-use Rattle.uc_program_laws.proofs.Ticks.{no_both, not_true}
+use Rattle.uc_program_laws.proofs.Ticks.{no_both}
 use Rattle.uc_program_laws.proofs.Makes.{makes, run_after, law_ends}
 use Rattle.uc_program_laws.proofs.Others.{RunRests, may_ask, asking as asks_with}
 use Rattle.uc_depth_laws.specs.Owing.{Unheld}
