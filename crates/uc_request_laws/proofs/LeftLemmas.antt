@@ -1,6 +1,5 @@
 -- Where nothing else is owed to what tasks let go of, hands are no part of what is left to show.
 use Rattle.std.proofs.Common.{ℕ, List}
-use Rattle.uc_tree.specs.Programs.{Program}
 use Rattle.uc_entry.specs.declared.entry.Options.{Options}
 use Rattle.uc_entry.specs.declared.request.Request.{Request}
 use Rattle.uc_entry.specs.declared.request.Request.TheVariants as ask
