@@ -1,5 +1,5 @@
 -- What statements ask of their expressions: each rule is used at its own visit, once.
-use Rattle.std.proofs.Common.{◌≡◌, ℕ, ◌+◌, ◌++◌, List, [], ◌∷◌, Option, Some, Bool, true, false, refl, subst}
+use Rattle.std.proofs.Common.{◌≡◌, ℕ, ◌+◌, ◌++◌, List, [], ◌∷◌, Option, Some, Bool, true, false, refl, sym, ◌∙◌, subst}
 use Rattle.uc_tree.specs.declared.pos.Pos.{Pos}
 use Rattle.uc_tree.specs.declared.kinds.LocalVariable.{LocalVariable}
 use Rattle.uc_tree.specs.Expressions as expr
@@ -22,7 +22,12 @@ use Rattle.uc_rules.specs.Entities.{entity_of, is_scalar, is_readable, is_readab
 use Rattle.uc_rules.specs.Visits.{Visit, AtCondition, AtReturn, AtPrinted, AtRead, AtRaiseTarget, AtMigrate, visits, condition_visits, return_visits, outs_visits, read_visits, reads_visits}
 use Rattle.uc_rules.specs.Breaks.{breaks_at}
 use Rattle.uc_rules.specs.OwnerBreaks.{is_no_condition, is_raise_target, is_cluster_place}
-use Rattle.uc_typing.specs.Typing.{Num, Cell, Obj, Clu, Name, Sig, Table, Yields, FineItems, FineTargets}
+use Rattle.uc_tree.specs.declared.kinds.Kind.{Kind}
+use Rattle.uc_tree.specs.declared.kinds.Kind.TheVariants as kind
+use Rattle.uc_tree.specs.Numbering.{is_mutex}
+use Rattle.uc_tree.specs.Objects.{is_coroutine, is_task}
+use Rattle.std.specs.Prelude.{◌||◌}
+use Rattle.uc_typing.specs.Typing.{Num, Cell, Obj, Clu, Name, Sig, Table, IsTarget, Yields, FineItems, FineTargets}
 use Rattle.uc_agreement.specs.Agreement.{context, Agrees, Tied}
 use Rattle.uc_agreement.specs.Unbroken.{Unbroken, Stands, IsKnown}
 use Rattle.uc_agreement.specs.Parts.{LawParts}
@@ -88,11 +93,20 @@ module _ (t : Table) (g : Sig) (sc : List Name) (env : Env) (class : Option ℕ)
       let r = finds e _ here in
       (read_place r.0 (meant c e) (holds (is_readable r.0) _ (expr.expr_pos e) _ (visit e (AtRead (expr.expr_pos e)) here r.0 r.1)) (law_agrees t g sc env class routine known tied e (first (visits env e) _ here) r.0 r.1), read es (second (read_visits env e) (reads_visits env es) h))
 
-  target_object : (w : Entity) (m : tree.Meant) → is_raise_target w ≡ true → Agrees t g sc env.program w m → (n : ℕ) × Yields t g sc m.expr (Obj n)
-  target_object (entity.Place (sort.Object n k)) m h a = (n, a.0.0)
+  target_task : (k : Kind) → (is_task k || is_coroutine k) ≡ true → is_mutex k ≡ true → is_task k ≡ true
+  target_task kind.Class h q = false_true q
+  target_task kind.Coroutine h q = false_true q
+  target_task kind.Monitor h q = false_true h
+  target_task kind.Cormonitor h q = false_true h
+  target_task kind.Task h q = refl
+  target_task kind.Event h q = false_true h
+
+  target_object : (w : Entity) (m : tree.Meant) → is_raise_target w ≡ true → Agrees t g sc env.program w m → (n : ℕ) × Yields t g sc m.expr (Obj n) × IsTarget t n
+  target_object (entity.Place (sort.Object n k)) m h a =
+      (n, a.0.0, λ q. tied.tasks m.ty.base n k a.2.1 ∙ target_task k h (sym (tied.classes m.ty.base n k a.2.1) ∙ q))
   target_object _ m h a = false_true h
 
-  raised_at : (p : Pos) (e : expr.Expr) → Unbroken (visits env e) → Unbroken (AtRaiseTarget p (entity_of env e) ∷ []) → (n : ℕ) × Yields t g sc (meant c e).expr (Obj n)
+  raised_at : (p : Pos) (e : expr.Expr) → Unbroken (visits env e) → Unbroken (AtRaiseTarget p (entity_of env e) ∷ []) → (n : ℕ) × Yields t g sc (meant c e).expr (Obj n) × IsTarget t n
   raised_at p e h k =
       let r = stands env is_known e h in
       let b : breaks_at (AtRaiseTarget p (Some r.0)) ≡ [] = subst (λ o. breaks_at (AtRaiseTarget p o) ≡ []) r.1 (one (AtRaiseTarget p (entity_of env e)) k) in

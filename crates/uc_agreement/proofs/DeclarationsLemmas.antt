@@ -58,7 +58,7 @@ module _ (t : Table) (g : Sig) (x : Name) (sc : List Name) where
   agrees_wider p (entity.Value s) m u h = (h.0, u.value h.1)
   agrees_wider p (entity.Place s) m u h = ((u.found (found_ty s) h.0.0, λ d. u.value (h.0.1 d)), h.1, h.2)
   agrees_wider p (entity.Array s n) m u h = (u.found (row_ty (is_condition s) n s) h.0, h.1, h.2, h.3)
-  agrees_wider p (entity.Routine i) m u h = record { number = h.number; standing = h.standing; params = h.params; table = h.table; alone = h.alone; known = h.known; at = fine_wider m u h.at }
+  agrees_wider p (entity.Routine i) m u h = record { number = h.number; standing = h.standing; params = h.params; table = h.table; alone = h.alone; known = h.known; reached = h.reached; at = fine_wider m u h.at }
   agrees_wider p (entity.Method i j inner path) m u h = record {
     number = h.number;
     class = h.class;
@@ -69,6 +69,7 @@ module _ (t : Table) (g : Sig) (x : Name) (sc : List Name) where
     this = h.this;
     plain = h.plain;
     known = h.known;
+    reached = h.reached;
   }
   agrees_wider p (entity.Operation o) m u h = (h.0, u.found Num h.1, h.2)
   agrees_wider p entity.Fail m u h = (h.0, fine_wider m u h.1)

@@ -229,5 +229,5 @@ module _ (t : Table) (g : Sig) (sc : List Name) (p : Program) (i : ℕ) (c : Cla
 pub law_fields : (t : Table) (g : Sig) (sc : List Name) → LawFields t g sc
 law_fields t g sc p i c tells = record {
   path = λ e name x y m h r n. member t g sc p i c tells (tree.Of e) (path_holds t g sc p i c tells e y m) name x (λ q. false_true (sym n ∙ q)) (found p i c name x tells.at h r);
-  own = λ name x this inside h r. member t g sc p i c tells tree.Own (own_holds t g sc p i c tells this) name x (λ q. (i, this, inside q)) (found p i c name x tells.at h r);
+  own = λ name x this inside h r. member t g sc p i c tells tree.Own (own_holds t g sc p i c tells this) name x (λ q. let z = inside q in (i, this, z.0, z.1)) (found p i c name x tells.at h r);
 }

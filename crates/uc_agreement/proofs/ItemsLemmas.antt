@@ -153,6 +153,7 @@ module _ (p : Program) (name : List ℕ) where
       table = r.table;
       alone = r.alone;
       known = r.known;
+      reached = r.reached;
       at = (Num, refl);
     })
 

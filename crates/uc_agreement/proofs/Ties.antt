@@ -1,6 +1,6 @@
 -- What stands for something under the rules is resolved to what is in order.
 use Rattle.std.proofs.Common.{◌≡◌, ℕ, suc, ◌+◌, pos, inl, inr, List, [], ◌∷◌, length, Option, Some, None, Bool, true, false, refl, sym, ap, ◌∙◌, subst, arith, map}
-use Rattle.std.specs.Prelude.{if◌then◌else◌, ◌&&◌, nat_eq, slice_get, option_and_then, not}
+use Rattle.std.specs.Prelude.{if◌then◌else◌, ◌&&◌, nat_eq, slice_get, option_and_then, not, ◌||◌, is_some}
 use Rattle.std.proofs.lemmas.Bool.{eqb-true}
 use Rattle.uc_tree.specs.declared.kinds.Base.{Base}
 use Rattle.uc_tree.specs.declared.kinds.Base.TheVariants as base
@@ -41,20 +41,20 @@ use Rattle.uc_rules.specs.declared.rules.Target.TheVariants as target
 use Rattle.uc_rules.specs.Sorts.{is_scalar_sort, is_condition, class_sort, sort_of, same_sort}
 use Rattle.uc_rules.specs.Names.{routine_sig, method_sig, params_in, outer_named}
 use Rattle.uc_rules.specs.Scopes as scopes
-use Rattle.uc_rules.specs.Scopes.{Env, local_named}
+use Rattle.uc_rules.specs.Scopes.{Env, named, local_named}
 use Rattle.uc_rules.specs.Entities as rules
-use Rattle.uc_rules.specs.Entities.{meant_entity, of_field, entity_of, are_sound, given, is_scalar, both_scalars, unary_entity, binary_gives, of_both, of_scalar, of_place, of_index, of_assign, expected, param_expected, fits, has_fitting, count, chain_entity, link_entity, parts_entity, part_entity, front_name, empty_name}
+use Rattle.uc_rules.specs.Entities.{meant_entity, of_field, entity_of, are_sound, given, is_main_sig, is_scalar, both_scalars, unary_entity, binary_gives, of_both, of_scalar, of_place, of_index, of_assign, expected, param_expected, fits, has_fitting, count, chain_entity, link_entity, parts_entity, part_entity, front_name, empty_name}
 use Rattle.uc_tree.specs.declared.pos.Pos.{Pos}
-use Rattle.uc_rules.specs.declared.rule.Rule.TheVariants.{S1, S18, O2, O4}
+use Rattle.uc_rules.specs.declared.rule.Rule.TheVariants.{S1, S7, S10, S18, O2, O3, O4}
 use Rattle.uc_rules.specs.Asked.{unless}
-use Rattle.uc_rules.specs.ExpressionBreaks.{is_member, may_name}
-use Rattle.uc_rules.specs.OwnerBreaks.{is_mutex_field_of, names_condition}
-use Rattle.uc_rules.specs.Visits.{AtMember, visits, part_visits, parts_visits, link_visits, chain_visits, arg_visits, args_visits, root_entity}
+use Rattle.uc_rules.specs.ExpressionBreaks.{is_member, is_no_main, may_name}
+use Rattle.uc_rules.specs.OwnerBreaks.{is_mutex_field_of, names_condition, may_name_condition, may_be_called}
+use Rattle.uc_rules.specs.Visits.{AtUse, AtMember, AtCall, visits, part_visits, parts_visits, link_visits, chain_visits, arg_visits, args_visits, root_entity}
 use Rattle.uc_rules.specs.Breaks.{breaks_at}
 use Rattle.uc_agreement.specs.Unbroken.{Unbroken}
 use Rattle.uc_agreement.proofs.UnbrokenLemmas.{none_right, first, second, one, holds}
-use Rattle.uc_typing.specs.Typing.{Num, Cell, Obj, Row, Name, Sig, Table, object_ty, IsPlaced, InMutex, Yields, GiveAll}
-use Rattle.uc_agreement.specs.Agreement.{is_numbered, found_ty, place_by, sort_ty, param_ty, IsLike, AreLike, IsAtPlace, IsAsCondition, IsAsValue, StandsBy, RowPlaced, row_ty, call_of, context, ValuedBy, IsCalled, IsMethod, IsMember, Agrees, AgreesIf, Alike, Tied, LawAgrees}
+use Rattle.uc_typing.specs.Typing.{Num, Cell, Obj, Row, Name, Inward, Apart, Enters, Makes, Helps, Main, Sig, Table, object_ty, IsPlaced, IsInside, IsOpen, MayCall, InMutex, Yields, GiveAll}
+use Rattle.uc_agreement.specs.Agreement.{is_numbered, found_ty, place_by, sort_ty, param_ty, IsLike, AreLike, IsAtPlace, IsAsCondition, IsAsValue, StandsBy, RowPlaced, row_ty, call_of, context, ValuedBy, IsCalled, IsMethod, IsReached, IsMember, Agrees, AgreesIf, Alike, Tied, LawAgrees}
 
 -- options and tests
 
@@ -401,11 +401,36 @@ module _ (t : Table) (g : Sig) (sc : List Name) (p : Program) (refers : t.refers
 
   call_value : (i : ℕ) (m : tree.Meant) (args : List tree.Meant) (s : Sort) → (c : IsCalled t g sc p i m) → GiveAll t g sc (args_by (params_of p c.number) args) (map (param_ty p) (params_of p c.number)) → Agrees t g sc p (entity.Value s) (tree.call_meant p m args)
   call_value i m args s c f =
-      subst (λ st. Agrees t g sc p (entity.Value s) (tree.call_by p st m args)) (sym c.standing) (tt, (refl, subst (GiveAll t g sc (args_by (params_of p c.number) args)) c.table f, c.alone, c.known))
+      subst (λ st. Agrees t g sc p (entity.Value s) (tree.call_by p st m args)) (sym c.standing) (tt, (refl, subst (GiveAll t g sc (args_by (params_of p c.number) args)) c.table f, c.alone, c.known, c.reached))
 
-  member_value : (i j : ℕ) (m : tree.Meant) (args : List tree.Meant) (s : Sort) → (c : IsMember t g sc p i j m) → GiveAll t g sc (args_by (params_of p c.number) args) (map (param_ty p) (params_of p c.number)) → Agrees t g sc p (entity.Value s) (tree.call_meant p m args)
-  member_value i j m args s c f = by_standing c.standing
+  -- what is reached by all may be called anywhere
+  open_called : (w : Inward) (e : Expr) → IsOpen w → MayCall w g e
+  open_called Apart e o = tt
+  open_called Enters e o = tt
+  open_called Makes e o = absurd o
+  open_called Helps e o = absurd o
+  open_called Main e o = absurd o
+
+  -- of a member the rules ask that one which helps inside its object is called there, without a path
+  abbrev Callable : Bool → Bool → Bool → Type 0
+  Callable here inner path = (here ≡ true → IsInside g.inward) × (may_be_called here (entity.Method 0 0 inner path) ≡ true)
+
+  member_called : (here inner path : Bool) (number : ℕ) (m : tree.Meant) (w : Inward) → Callable here inner path → IsReached t g sc inner path number m w → MayCall w g m.expr
+  member_called here inner path number m w k (inl o) = open_called w m.expr o
+  member_called here inner path number m w k (inr h) =
+      let q : (here && not path) ≡ true = subst (λ (b : Bool). (not b || (here && not path)) ≡ true) h.1 k.1 in
+      subst (λ w. MayCall w g m.expr) (sym h.0) (h.3 (not_true path (both_right here (not path) q)), k.0 (both_left here (not path) q))
+
+  member_open : (inner path : Bool) (number : ℕ) (m : tree.Meant) (w : Inward) (st : Standing) → m.standing ≡ st → (st ≡ tree.AsMember number → ⊥) → IsReached t g sc inner path number m w → IsOpen w
+  member_open inner path number m w st e n (inl o) = o
+  member_open inner path number m w st e n (inr h) = absurd (n (sym e ∙ h.2))
+
+  member_value : (i j : ℕ) (here inner path : Bool) (m : tree.Meant) (args : List tree.Meant) (s : Sort) → (c : IsMember t g sc p i j inner path m) → Callable here inner path → is_main_sig (method_sig p i j) ≡ false → GiveAll t g sc (args_by (params_of p c.number) args) (map (param_ty p) (params_of p c.number)) → Agrees t g sc p (entity.Value s) (tree.call_meant p m args)
+  member_value i j here inner path m args s c k main f = by_standing c.standing
     where
+      reached : IsReached t g sc inner path c.number m (t.routine c.number).inward
+      reached = c.reached main
+
       at_object : (b : Bool) → b ≡ false → Yields t g sc m.expr (object_ty b c.class)
       at_object b e = subst (λ b. Yields t g sc m.expr (object_ty b c.class)) (sym e) c.at
 
@@ -414,11 +439,11 @@ module _ (t : Table) (g : Sig) (sc : List Name) (p : Program) (refers : t.refers
 
       by_standing : IsMethod t g sc c.number c.class m.standing → Agrees t g sc p (entity.Value s) (tree.call_meant p m args)
       by_standing (inl (inl e)) =
-          subst (λ st. Agrees t g sc p (entity.Value s) (tree.call_by p st m args)) (sym e) (tt, (refl, (c.class, at_object (t.routine c.number).whole c.plain, c.this, c.known), given_all))
+          subst (λ st. Agrees t g sc p (entity.Value s) (tree.call_by p st m args)) (sym e) (tt, (refl, (c.class, at_object (t.routine c.number).whole c.plain, c.this, c.known), given_all, member_called here inner path c.number m (t.routine c.number).inward k reached))
       by_standing (inl (inr e)) =
-          subst (λ st. Agrees t g sc p (entity.Value s) (tree.call_by p st m args)) (sym e) (tt, (refl, (c.class, at_object (t.routine c.number).whole c.plain, c.this, c.known), given_all))
+          subst (λ st. Agrees t g sc p (entity.Value s) (tree.call_by p st m args)) (sym e) (tt, (refl, (c.class, at_object (t.routine c.number).whole c.plain, c.this, c.known), given_all, member_open inner path c.number m (t.routine c.number).inward (tree.AsLiveMember c.number) e (λ q. absurd (cc)) reached))
       by_standing (inr e) =
-          subst (λ st. Agrees t g sc p (entity.Value s) (tree.call_by p st m args)) (sym e.1) (tt, (refl, (c.class, at_object (t.routine c.number).whole c.plain, c.this, c.known, e.2), given_all))
+          subst (λ st. Agrees t g sc p (entity.Value s) (tree.call_by p st m args)) (sym e.1) (tt, (refl, (c.class, at_object (t.routine c.number).whole c.plain, c.this, c.known, e.2), given_all, member_open inner path c.number m (t.routine c.number).inward (tree.AsMutexMember e.0 c.number) e.1 (λ q. absurd (cc)) reached))
 
   -- calls of conditions
   condition_value : (o : Operation) (m : tree.Meant) (args : List tree.Meant) (w : Entity) → given p (entity.Operation o) ≡ Some w → Yields t g sc m.expr Num → InMutex t g → Yields t g sc (tree.stored_by args) Num → Agrees t g sc p w (tree.condition_called (call_of o) m.expr args)
@@ -483,12 +508,28 @@ module _ (t : Table) (g : Sig) (sc : List Name) (env : Env) (class : Option ℕ)
   abbrev c : tree.Context
   c = context env class routine known
 
-  name_by : (o : Option NameMeaning) (k : Option LocalVariable) (name : List ℕ) → local_named env.names name ≡ o → known_named known name ≡ k → Found t g sc env.program tied.refers o k → AgreesIf t g sc env.program (meant_entity (scopes.named_behind o (scopes.named_behind (scopes.own_named env.program env.around.main env.around.home name) (outer_named env.program name)))) (name_meant env.program class name k)
-  name_by None None name e f h =
-      subst (λ o. AgreesIf t g sc env.program (meant_entity (scopes.named_behind o (scopes.named_behind (scopes.own_named env.program env.around.main env.around.home name) (outer_named env.program name)))) (tree.own_meant env.program class name)) e (tied.outer name e)
-  name_by None (Some k) name e f h = absurd h
-  name_by (Some m) None name e f h = absurd h
-  name_by (Some m) (Some k) name e f h = h
+  name_by : (o : Option NameMeaning) (k : Option LocalVariable) (name : List ℕ) → (names_condition (named env name) ≡ true → IsInside g.inward) → local_named env.names name ≡ o → known_named known name ≡ k → Found t g sc env.program tied.refers o k → AgreesIf t g sc env.program (meant_entity (scopes.named_behind o (scopes.named_behind (scopes.own_named env.program env.around.main env.around.home name) (outer_named env.program name)))) (name_meant env.program class name k)
+  name_by None None name n e f h =
+      subst (λ o. AgreesIf t g sc env.program (meant_entity (scopes.named_behind o (scopes.named_behind (scopes.own_named env.program env.around.main env.around.home name) (outer_named env.program name)))) (tree.own_meant env.program class name)) e (tied.outer name e n)
+  name_by None (Some k) name n e f h = absurd h
+  name_by (Some m) None name n e f h = absurd h
+  name_by (Some m) (Some k) name n e f h = h
+
+  -- a condition is named inside its object
+  name_inside : (q : Pos) (name : List ℕ) → breaks_at (AtUse env q name) ≡ [] → names_condition (named env name) ≡ true → IsInside g.inward
+  name_inside q name u h =
+      let u1 = none_right (unless (is_some (named env name)) S1 q) _ u in
+      let u2 = none_right (unless (env.around.inner || not (is_mutex_field_of (named env name))) O2 q) _ u1 in
+      let k : may_name_condition env.around.inner (named env name) ≡ true = holds (may_name_condition env.around.inner (named env name)) O4 q _ u2 in
+      let a : (env.around.inner && is_mutex_field_of (named env name)) ≡ true = subst (λ (b : Bool). (not b || (env.around.inner && is_mutex_field_of (named env name))) ≡ true) h k in
+      tied.inside (both_left env.around.inner (is_mutex_field_of (named env name)) a)
+
+  -- a call obeys the rules on mains and on what helps inside an object
+  call_rules : (sign : Pos) (n : ℕ) (v : Entity) → breaks_at (AtCall env sign n (Some v)) ≡ [] → may_be_called env.around.inner v ≡ true
+  call_rules sign n v u =
+      let u1 = none_right (unless (is_no_main env.program v) S7 sign) _ u in
+      let u2 = none_right (unless (rules.takes env.program n v) S10 sign) _ u1 in
+      holds (may_be_called env.around.inner v) O3 sign _ u2
 
   root_by : (root : expr.Expr) (parts : expr.Parts) → (Unbroken (visits env root) → AgreesIf t g sc env.program (entity_of env root) (meant c root)) → Unbroken (if rules.is_input root parts then [] else visits env root) → AgreesIf t g sc env.program (if rules.is_input root parts then Some entity.Input else entity_of env root) (meant c root)
   root_by (expr.Cin q) parts ih u w h = by_input (rules.field_follows parts) w h
@@ -506,19 +547,19 @@ module _ (t : Table) (g : Sig) (sc : List Name) (env : Env) (class : Option ℕ)
   abbrev FirstAgrees : expr.Exprs → Type 0
   FirstAgrees args = (o : Operation) → are_sound env args (target.Call (entity.Operation o)) 0 ≡ true → Unbroken (args_visits env args (target.Call (entity.Operation o)) 0) → Yields t g sc (tree.stored_by (args_meant c args)) Num
 
-  call_agrees : (v : Entity) (args : expr.Exprs) (m : tree.Meant) → ArgsAgree args → FirstAgrees args → Agrees t g sc env.program v m → are_sound env args (target.Call v) 0 ≡ true → Unbroken (args_visits env args (target.Call v) 0) → rules.takes env.program (count args) v ≡ true → AgreesIf t g sc env.program (given env.program v) (tree.call_meant env.program m (args_meant c args))
-  call_agrees (entity.Routine i) args m ih first a s u n w h =
+  call_agrees : (v : Entity) (args : expr.Exprs) (m : tree.Meant) → ArgsAgree args → FirstAgrees args → Agrees t g sc env.program v m → are_sound env args (target.Call v) 0 ≡ true → Unbroken (args_visits env args (target.Call v) 0) → rules.takes env.program (count args) v ≡ true → rules.is_main env.program v ≡ false → may_be_called env.around.inner v ≡ true → AgreesIf t g sc env.program (given env.program v) (tree.call_meant env.program m (args_meant c args))
+  call_agrees (entity.Routine i) args m ih first a s u n main k w h =
       let r = ih 0 (target.Call (entity.Routine i)) (params_in (routine_sig env.program i)) (params_of env.program a.number) (takes_length t g sc env.program tied.refers (routine_sig env.program i) (count args) n) (λ k. ap (λ j. param_expected env.program (slice_get (params_in (routine_sig env.program i)) j)) (let e : 0 + k ≡ k = omega arith in e)) a.params s u in
       let v = sig_value t g sc env.program tied.refers (routine_sig env.program i) w h in
       subst (λ w. Agrees t g sc env.program w (tree.call_meant env.program m (args_meant c args))) (sym v.1) (call_value t g sc env.program tied.refers i m (args_meant c args) v.0 a r)
-  call_agrees entity.Fail args m ih first a s u n w h =
+  call_agrees entity.Fail args m ih first a s u n main k w h =
       subst (λ w. Agrees t g sc env.program w (tree.call_meant env.program m (args_meant c args))) (some_same h) (subst (λ st. Agrees t g sc env.program rules.truth_value (tree.call_by env.program st m (args_meant c args))) (sym a.0) (tt, refl))
-  call_agrees (entity.Method i j inner path) args m ih first a s u n w h =
+  call_agrees (entity.Method i j inner path) args m ih first a s u n main k w h =
       let r = ih 0 (target.Call (entity.Method i j inner path)) (params_in (method_sig env.program i j)) (params_of env.program a.number) (takes_length t g sc env.program tied.refers (method_sig env.program i j) (count args) n) (λ k. ap (λ l. param_expected env.program (slice_get (params_in (method_sig env.program i j)) l)) (let e : 0 + k ≡ k = omega arith in e)) a.params s u in
       let v = sig_value t g sc env.program tied.refers (method_sig env.program i j) w h in
-      subst (λ w. Agrees t g sc env.program w (tree.call_meant env.program m (args_meant c args))) (sym v.1) (member_value t g sc env.program tied.refers i j m (args_meant c args) v.0 a r)
-  call_agrees (entity.Operation o) args m ih first a s u n w h = operation_value t g sc env.program tied.refers o m (args_meant c args) w h a (first o s u)
-  call_agrees _ args m ih first a s u n w h = none_some h
+      subst (λ w. Agrees t g sc env.program w (tree.call_meant env.program m (args_meant c args))) (sym v.1) (member_value t g sc env.program tied.refers i j env.around.inner inner path m (args_meant c args) v.0 a (tied.inside, k) main r)
+  call_agrees (entity.Operation o) args m ih first a s u n main k w h = operation_value t g sc env.program tied.refers o m (args_meant c args) w h a (first o s u)
+  call_agrees _ args m ih first a s u n main k w h = none_some h
 
   first_scalar : (o : Option Entity) (m : tree.Meant) → AgreesIf t g sc env.program o m → has_fitting expected_of.Scalar o ≡ true → ValuedBy t g sc m.standing m.expr
   first_scalar None m ih h = false_true h
@@ -558,7 +599,7 @@ module _ (t : Table) (g : Sig) (sc : List Name) (env : Env) (class : Option ℕ)
     agrees (expr.Character q n) u w h = subst (λ w. Agrees t g sc env.program w (meant c (expr.Character q n))) (some_same h) (tt, refl)
     agrees (expr.Truth q n) u w h = subst (λ w. Agrees t g sc env.program w (meant c (expr.Truth q n))) (some_same h) (tt, refl)
     agrees (expr.Name q name) u w h =
-        name_by (local_named env.names name) (known_named known name) name refl refl (found t g sc env.program tied.refers env.names known name tied.names) w h
+        name_by (local_named env.names name) (known_named known name) name (name_inside q name (one (AtUse env q name) u)) refl refl (found t g sc env.program tied.refers env.names known name tied.names) w h
     agrees (expr.Cin q) u w h = none_some h
     agrees (expr.Postfix q root parts) u w h =
         parts_agree parts (root_entity env root parts) (meant c root) (root_by root parts (agrees root) (first (if rules.is_input root parts then [] else visits env root) (parts_visits env parts (root_entity env root parts)) u)) (second (if rules.is_input root parts then [] else visits env root) (parts_visits env parts (root_entity env root parts)) u) w h
@@ -574,7 +615,7 @@ module _ (t : Table) (g : Sig) (sc : List Name) (env : Env) (class : Option ℕ)
     part_agrees (expr.Call sign args) called None m ih u w h = none_some h
     part_agrees (expr.Call sign args) called (Some v) m ih u w h =
         let i = if_some (are_sound env args (target.Call v) 0 && rules.may_call env.program (count args) v) (given env.program v) w h in
-        call_agrees v args m (args_agree args) (first_agrees args) (ih v refl) (both_left _ _ i.0) (first (args_visits env args (target.Call v) 0) _ u) (both_left _ _ (both_right _ _ i.0)) w i.1
+        call_agrees v args m (args_agree args) (first_agrees args) (ih v refl) (both_left _ _ i.0) (first (args_visits env args (target.Call v) 0) _ u) (both_left _ _ (both_right _ _ i.0)) (not_true (rules.is_main env.program v) (both_right _ _ (both_right _ _ i.0))) (call_rules sign (count args) v (one (AtCall env sign (count args) (Some v)) (second (args_visits env args (target.Call v) 0) _ u))) w i.1
     part_agrees (expr.Step sign op) called o m ih u w h = step_ok t g sc env.program tied.refers op o m ih w h
 
     parts_agree : (parts : expr.Parts) (o : Option Entity) (m : tree.Meant) → AgreesIf t g sc env.program o m → Unbroken (parts_visits env parts o) → AgreesIf t g sc env.program (parts_entity env parts o) (tree.parts_meant c parts m)

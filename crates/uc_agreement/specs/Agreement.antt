@@ -7,9 +7,10 @@ use Rattle.uc_tree.specs.declared.kinds.Param.{Param}
 use Rattle.uc_tree.specs.declared.kinds.LocalVariable.{LocalVariable}
 use Rattle.uc_tree.specs.declared.kinds.Ty.{Ty as Declared}
 use Rattle.uc_tree.specs.Numbering.{is_mutex}
+use Rattle.uc_tree.specs.Objects.{is_task}
 use Rattle.uc_tree.specs.Programs.{Program}
 use Rattle.uc_tree.specs.Expressions as expr
-use Rattle.uc_tree.specs.Source.{Expr}
+use Rattle.uc_tree.specs.Source.{Expr, OfObject, This}
 use Rattle.uc_resolve.specs.Standings as tree
 use Rattle.uc_resolve.specs.Standings.{Standing, AtVariable, AtField, AtPlace, AsNumber, AsValue, AsRoutine, AsCondition, AsCallOf, ConditionCall, Waits, Signals, SignalsBlocking, AsksEmpty, AsksFront, value_by, known_meant, meant, params_of}
 use Rattle.uc_rules.specs.declared.rules.Sort.{Sort}
@@ -23,11 +24,11 @@ use Rattle.uc_rules.specs.declared.rules.LocalName.{LocalName}
 use Rattle.uc_rules.specs.Sorts.{is_scalar_sort, is_condition, sort_of}
 use Rattle.uc_rules.specs.Names.{routine_sig, method_sig, params_in}
 use Rattle.uc_rules.specs.Scopes.{Env, named, local_named}
-use Rattle.uc_rules.specs.Entities.{meant_entity, object_member, open_entity, entity_of}
+use Rattle.uc_rules.specs.Entities.{meant_entity, object_member, open_entity, is_main_sig, entity_of}
 use Rattle.uc_rules.specs.OwnerBreaks.{is_mutex_field_of, names_condition}
 use Rattle.uc_rules.specs.Visits.{visits}
 use Rattle.uc_agreement.specs.Unbroken.{Unbroken}
-use Rattle.uc_typing.specs.Typing.{Ty, Num, Cell, Obj, Row, Clu, Pro, Name, Sig, Table, IsPlaced, IsRoutine, InMutex, Yields, Fine}
+use Rattle.uc_typing.specs.Typing.{Ty, Num, Cell, Obj, Row, Clu, Pro, Name, Inward, Helps, Sig, Table, IsPlaced, IsRoutine, IsInside, IsOpen, InMutex, Yields, Fine}
 
 -- whether what is of a sort is known by its number
 abbrev pub is_numbered : Sort → Bool
@@ -144,6 +145,7 @@ module _ (t : Table) (g : Sig) (sc : List Name) where
     pub table : map (param_ty p) (params_of p number) ≡ (t.routine number).params
     pub alone : (t.routine number).this ≡ None
     pub known : IsRoutine t number
+    pub reached : IsOpen (t.routine number).inward
     pub at : Fine t g sc m.expr
 
   -- how a member stands: a mutex member enters its object
@@ -152,8 +154,14 @@ module _ (t : Table) (g : Sig) (sc : List Name) where
       ((st ≡ tree.AsMember number) ⊎ (st ≡ tree.AsLiveMember number)) ⊎
       ((k : ℕ) × (st ≡ tree.AsMutexMember k number) × (t.mutex class ≡ true))
 
+  -- how a member is reached: by all; or it helps inside its object, and is named there
+  abbrev pub IsReached : Bool → Bool → ℕ → tree.Meant → Inward → Type 0
+  IsReached inner path number m w =
+      IsOpen w ⊎
+      ((w ≡ Helps) × (inner ≡ true) × (m.standing ≡ tree.AsMember number) × (path ≡ false → m.expr ≡ OfObject This))
+
   -- the routine of a member, by its number, and its object
-  pub record IsMember (p : Program) (i j : ℕ) (m : tree.Meant) : Type 0 where
+  pub record IsMember (p : Program) (i j : ℕ) (inner path : Bool) (m : tree.Meant) : Type 0 where
     pub number : ℕ
     pub class : ℕ
     pub standing : IsMethod number class m.standing
@@ -163,6 +171,8 @@ module _ (t : Table) (g : Sig) (sc : List Name) where
     pub this : (t.routine number).this ≡ Some class
     pub plain : (t.routine number).whole ≡ false
     pub known : IsRoutine t number
+    pub reached : is_main_sig (method_sig p i j) ≡ false →
+        IsReached inner path number m (t.routine number).inward
 
   abbrev pub Agrees : Program → Entity → tree.Meant → Type 0
   Agrees p (entity.Value s) m = IsAsValue m.standing × ValuedBy m.standing m.expr
@@ -174,7 +184,7 @@ module _ (t : Table) (g : Sig) (sc : List Name) where
       StandsBy t g (is_condition s) false m.standing × RowPlaced t (is_condition s) s ×
       IsOf p (Some n) s m.ty
   Agrees p (entity.Routine i) m = IsCalled p i m
-  Agrees p (entity.Method i j inner path) m = IsMember p i j m
+  Agrees p (entity.Method i j inner path) m = IsMember p i j inner path m
   Agrees p (entity.Operation o) m = (m.standing ≡ AsCallOf (call_of o)) × Yields t g sc m.expr Num ×
       InMutex t g
   Agrees p entity.Fail m = (m.standing ≡ tree.AsFail) × Fine t g sc m.expr
@@ -195,13 +205,18 @@ module _ (t : Table) (g : Sig) (sc : List Name) where
   Alike p (s ∷ ss) (k ∷ ks) = ((s.name ≡ k.name) × AgreesIf p s.meant.entity (known_meant p k)) ×
       Alike p ss ks
 
-  -- the table tells the classes of the program; both look-ups of names agree: of locals, of other names, and of members of objects
+  -- the table tells the classes of the program; both look-ups of names agree: of locals, of other names, of which conditions are named
+  -- inside their objects alone, and of members of objects
   pub record Tied (env : Env) (class : Option ℕ) (routine : ℕ) (known : List LocalVariable) : Type 0 where
     pub refers : t.refers ≡ true
     pub classes : (b : Base) (c : ℕ) (k : Kind) → sort_of env.program b ≡ Some (sort.Object c k) →
         t.mutex c ≡ is_mutex k
+    pub tasks : (b : Base) (c : ℕ) (k : Kind) → sort_of env.program b ≡ Some (sort.Object c k) →
+        t.tasks c ≡ is_task k
+    pub inside : env.around.inner ≡ true → IsInside g.inward
     pub names : Alike env.program env.names known
     pub outer : (name : List ℕ) → local_named env.names name ≡ None →
+        (names_condition (named env name) ≡ true → IsInside g.inward) →
         AgreesIf env.program (meant_entity (named env name)) (tree.own_meant env.program class name)
     pub member : (c : ℕ) (k : Kind) (name : List ℕ) (x : NameMeaning) (m : tree.Meant) →
         object_member env.program (sort.Object c k) name ≡ Some x →

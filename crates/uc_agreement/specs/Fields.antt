@@ -12,7 +12,7 @@ use Rattle.uc_rules.specs.declared.rules.NameMeaning.{NameMeaning}
 use Rattle.uc_rules.specs.Sorts.{is_condition, sort_of}
 use Rattle.uc_rules.specs.Names.{member_named}
 use Rattle.uc_rules.specs.OwnerBreaks.{is_field_origin, names_condition}
-use Rattle.uc_typing.specs.Typing.{Ty, Cell, Obj, Row, Name, Sig, Table, IsPlaced, Yields}
+use Rattle.uc_typing.specs.Typing.{Ty, Cell, Obj, Row, Name, Sig, Table, IsPlaced, IsInside, Yields}
 use Rattle.uc_agreement.specs.Agreement.{found_ty, place_ty, AgreesIf}
 
 -- what stands at a field: a reference has a cell for what it is bound to
@@ -35,7 +35,7 @@ module _ (t : Table) (g : Sig) (sc : List Name) where
   -- a field that both look-ups find, behind a path and in the class itself
   pub record FieldsAgree (p : Program) (i : ℕ) : Type 0 where
     pub path : (e : Expr) (name : List ℕ) (x : NameMeaning) → Yields t g sc e (Obj i) → t.mutex i ≡ false → member_named p i name ≡ Some x → is_field_origin x.origin ≡ true → names_condition (Some x) ≡ false → AgreesIf t g sc p x.entity (tree.member_meant p i (tree.Of e) name)
-    pub own : (name : List ℕ) (x : NameMeaning) → g.this ≡ Some i → (names_condition (Some x) ≡ true → t.mutex i ≡ true) → member_named p i name ≡ Some x → is_field_origin x.origin ≡ true → AgreesIf t g sc p x.entity (tree.member_meant p i tree.Own name)
+    pub own : (name : List ℕ) (x : NameMeaning) → g.this ≡ Some i → (names_condition (Some x) ≡ true → (t.mutex i ≡ true) × IsInside g.inward) → member_named p i name ≡ Some x → is_field_origin x.origin ≡ true → AgreesIf t g sc p x.entity (tree.member_meant p i tree.Own name)
 
   abbrev pub LawFields : Type 0
   LawFields = (p : Program) (i : ℕ) (c : Class) → TellsClass t p i c → FieldsAgree p i

@@ -9,7 +9,7 @@ use Rattle.uc_rules.specs.Names.{routine_sig, params_in, outer_named}
 use Rattle.uc_rules.specs.Scopes.{Env, named, local_named}
 use Rattle.uc_rules.specs.Entities.{meant_entity}
 use Rattle.uc_rules.specs.ProgramVisits.{program_visits}
-use Rattle.uc_typing.specs.Typing.{Name, Sig, Table, IsRoutine}
+use Rattle.uc_typing.specs.Typing.{Name, Sig, Table, IsRoutine, IsOpen}
 use Rattle.uc_agreement.specs.Agreement.{param_ty, AreLike, AgreesIf}
 use Rattle.uc_agreement.specs.Unbroken.{Unbroken}
 
@@ -21,6 +21,7 @@ pub record TellsRoutine (t : Table) (p : Program) (name : List ℕ) (i : ℕ) : 
   pub table : map (param_ty p) (params_of p number) ≡ (t.routine number).params
   pub alone : (t.routine number).this ≡ None
   pub known : IsRoutine t number
+  pub reached : IsOpen (t.routine number).inward
 
 abbrev pub TellsRoutines : Table → Program → Type 0
 TellsRoutines t p = (name : List ℕ) (i : ℕ) → meant_entity (outer_named p name) ≡ Some (entity.Routine i) → TellsRoutine t p name i

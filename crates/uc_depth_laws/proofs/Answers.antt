@@ -16,7 +16,7 @@ use Rattle.uc_depth_laws.specs.Entering.{holds_object, is_holding, EnteredSource
 use Rattle.uc_depth_laws.specs.Owing.{more, marks, counted, Any, Entered, EngagedHand, owed_hand, owed_first, owed_own, owed, depth_in, IsBinding, Deep, DeepBehind, DeepAlone, DeepAsk}
 use Rattle.uc_depth_laws.specs.DepthLaws.{Suits, LawSteps}
 use Rattle.uc_depth_laws.proofs.Depths.{counted_least, counted_none, none_first, calling_most}
-use Rattle.uc_depth_laws.proofs.Steps as steps
+use Rattle.uc_depth_laws.proofs.TodoLists as lists
 use Rattle.uc_depth_laws.proofs.Calls.{body_at}
 use Rattle.uc_depth_laws.proofs.Walk.{walk}
 
@@ -30,11 +30,11 @@ first_depth o q = by (nat_eq o q)
 pub begins : (source : Source) → EnteredSource source → (r o : ℕ) → is_holding source r ≡ false → Deep source (first_state (routine_of source r) o)
 begins source known r o e =
     let x = routine_of source r in
-    let few = steps.routine_marks source x in
+    let few = lists.routine_marks source x in
     let z : more (holds_object x.body) 0 ≡ 0 = ap (λ c. more c 0) e in
     record {
       first = Any;
-      run = (body_at source known r, (steps.behind source x.purpose x.line).list);
+      run = (body_at source known r, (lists.behind source x.purpose x.line).list);
       callers = tt;
       env = record { house = (tt, tt); hand = tt };
       engaged = omega (arith, few, z);

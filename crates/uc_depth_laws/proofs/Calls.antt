@@ -16,6 +16,7 @@ use Rattle.uc_depth_laws.specs.Owing.{owes, more, marks, counted, owed_first, ca
 use Rattle.uc_depth_laws.proofs.Depths.{own_one, inside_of, more_least, counted_least, counted_none, none_first, none_marked, called_first, called_marks, set_top}
 use Rattle.uc_depth_laws.proofs.Kept as kept
 use Rattle.uc_depth_laws.proofs.Kept.{either}
+use Rattle.uc_depth_laws.proofs.TodoLists as lists
 use Rattle.uc_depth_laws.proofs.Steps as steps
 
 module _ (source : Source) (known : EnteredSource source) where
@@ -35,7 +36,7 @@ module _ (source : Source) (known : EnteredSource source) where
         inside_of (find s.env.own s.env.depths) (omega (arith, a, c))
 
     ends : (todo : List Todo) (vs : List Value) → DeepStep source s.env (piece.asks ask.End todo vs s)
-    ends todo vs = record { state = tt; inside = is_own; unheld = tt }
+    ends todo vs = record { state = deep.env; inside = is_own; unheld = tt }
 
     stop : (todo : List Todo) (vs : List Value) → DeepStep source s.env (piece.fault Depth todo vs s)
     stop todo vs = record { state = tt; inside = tt; unheld = tt }
@@ -43,8 +44,8 @@ module _ (source : Source) (known : EnteredSource source) where
     -- a routine begins, of which the marks are owed already
     begun : (p : Todo) (todo : List Todo) (x : Routine) (this : Value) (counts : Bool) (vs : List Value) → s.run.control ≡ p ∷ todo → EnteredBody source x.body → Entered source Any todo → more (holds_object x.body) 0 ≤ first_marks source (p ∷ todo) → ((q : ℕ) → counted q this (more (holds_object x.body) 0) ≤ owed_first source q (p ∷ todo) s.run.operands) → Deep source (entered (quiet.routine_todo x) this Nothing (quiet.call_frame x s.run.operands) counts (record s.run { control = todo; operands = vs }) s.callers s.env)
     begun p todo x this counts vs c n h k w =
-        let list : Entered source Any (quiet.routine_todo x) = (n, (steps.behind source x.purpose x.line).list) in
-        let few = steps.routine_marks source x in
+        let list : Entered source Any (quiet.routine_todo x) = (n, (lists.behind source x.purpose x.line).list) in
+        let few = lists.routine_marks source x in
         record {
           first = Any;
           run = list;

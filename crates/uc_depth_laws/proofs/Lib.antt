@@ -1,6 +1,7 @@
 pub mod Kept
 pub mod Depths
 pub mod Standing
+pub mod TodoLists
 pub mod Steps
 pub mod Calls
 pub mod Walk

@@ -214,7 +214,7 @@ drawn_asked : (source : Source) (r : Request) (hand : List (ℕ × Members)) (s 
 drawn_asked source (ask.Call o m) hand s h k = drawn source hand s h k
 drawn_asked source (ask.Make c) hand s h k = (h.0, drawn_behind source hand s h.1 k)
 drawn_asked source ask.Slice hand s h k = drawn source hand s h k
-drawn_asked source ask.End hand s h k = tt
+drawn_asked source ask.End hand s h k = record { house = h.house; hand = redrawn_engaged source s.env.hand hand h.hand k }
 drawn_asked source (ask.Fault f) hand s h k = tt
 drawn_asked source r hand s h k = record { alone = h.alone; deep = drawn source hand s h.deep k }
 

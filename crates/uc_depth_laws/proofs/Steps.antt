@@ -1,10 +1,10 @@
 -- A quiet step of a task that is as deep as it is owed leads to such a one, or asks as one does.
-use Rattle.std.proofs.Common.{◌≡◌, ℕ, zero, suc, ◌+◌, ◌≤◌, ◌++◌, Bool, true, false, ◌&&◌, List, [], ◌∷◌, length, drop, Option, Some, None, refl, sym, subst, ap, arith}
+use Rattle.std.proofs.Common.{◌≡◌, ℕ, zero, suc, ◌+◌, ◌≤◌, ◌++◌, Bool, true, false, List, [], ◌∷◌, length, drop, Option, Some, None, refl, sym, subst, ap, arith}
 use Rattle.std.specs.Prelude.{◌-◌, nat_eq, nat_lt, slice_get, if◌then◌else◌}
 use Rattle.std.proofs.lemmas.Bool.{eqb-true}
 use Rattle.uc_tree.specs.declared.limits.TheConstants.{PENDING_EVENTS}
 use Rattle.uc_tree.specs.Source as src
-use Rattle.uc_tree.specs.Source.{Source, Shape, Expr, ObjectExpr, Stmt, Stmts, EventStmt, TaskStmt, Routine, Purpose, Order, Way, CleanUp, Handlers, Clauses, Raised, Item, routine_or_none, routine_of}
+use Rattle.uc_tree.specs.Source.{Source, Shape, Expr, ObjectExpr, Stmt, Stmts, EventStmt, TaskStmt, Routine, Way, CleanUp, Handlers, routine_or_none, routine_of}
 use Rattle.uc_entry.specs.declared.fault.RunFault.{RunFault}
 use Rattle.uc_entry.specs.declared.fault.RunFault.TheVariants.{Index, Depth, BlockedInside, TooManyPending, NotLive, Unhandled}
 use Rattle.uc_entry.specs.declared.request.Piece.{Piece}
@@ -21,19 +21,21 @@ use Rattle.uc_machine.specs.Executions.{Links, one_call_more, one_call_less, tak
 use Rattle.uc_machine.specs.Switches as sw
 use Rattle.uc_machine.specs.Switches.{Moved, To, Stops, without}
 use Rattle.uc_machine.specs.Insides as inside
-use Rattle.uc_machine.specs.Insides.{deeper, shallower}
+use Rattle.uc_machine.specs.Insides.{shallower}
 use Rattle.uc_machine.specs.Raising as raising
-use Rattle.uc_machine.specs.Raising.{Event, Handler, Found, Hit}
+use Rattle.uc_machine.specs.Raising.{Event, Handler, Found}
 use Rattle.uc_machine.specs.Monitors as monitors
 use Rattle.uc_machine.specs.Polls as polls
 use Rattle.uc_machine.specs.Quiet as quiet
 use Rattle.uc_machine.specs.Pieces as piece
-use Rattle.uc_machine.specs.Pieces.{Value, Number, Place, Running, Object, Nothing, Todo, Sort, Active, State, Env, Members, Step, Goes, Ticks, Asks, Outcome, Gives, Faults, at, in_env, goes, fault, asks, turns, top, below, number, is_zero, written, object_in}
-use Rattle.uc_depth_laws.specs.Entering.{lets_go, holds_object, is_holding, EnteredExpr, EnteredObject, EnteredMaybe, EnteredItem, EnteredClean, EnteredRaised, EnteredStmt, EnteredStmts, EnteredBody, EnteredEvent, EnteredTask, EnteredHandlers, EnteredClauses, EnteredRoutine}
-use Rattle.uc_depth_laws.specs.Owing.{owes, more, marks, counted, owed_by, marks_waiting, owed_waiting, Any, Skipped, CallOf, Bound, next, Allowed, Entered, AllEntered, entries, Engaged, EngagedParked, EngagedHand, EngagedEnv, owed_ex, owed_parked, owed_own, owed_hand, owed_env, owed_first, owed, first_marks, depth_in, depth_at, IsInside, LetsGo, Unheld, Deep, DeepAlone, DeepAsk, DeepStep}
-use Rattle.uc_depth_laws.proofs.Depths.{own_one, more_least, more_most, body_of, still, counted_least, counted_one_less, counted_none, counted_own, none_first, none_marked, entered_first, called_marks, any_skipped, call_skipped, without_other, deeper_most, shallower_least, inside_of}
+use Rattle.uc_machine.specs.Pieces.{Value, Number, Object, Nothing, Todo, Sort, Active, State, Env, Members, Step, Asks, Outcome, Gives, Faults, at, in_env, fault, asks, turns, top, number, written, object_in}
+use Rattle.uc_depth_laws.specs.Entering.{lets_go, holds_object, is_holding, EnteredExpr, EnteredObject, EnteredClean, EnteredStmt, EnteredBody, EnteredEvent, EnteredTask, EnteredHandlers, EnteredRoutine}
+use Rattle.uc_depth_laws.specs.Owing.{more, marks, counted, owed_by, marks_waiting, owed_waiting, Any, Skipped, CallOf, Bound, Entered, AllEntered, entries, EngagedParked, EngagedHand, EngagedEnv, owed_parked, owed_own, owed_hand, owed_env, owed_first, owed, first_marks, depth_in, depth_at, IsInside, LetsGo, Unheld, Deep, DeepAlone, DeepAsk, DeepStep}
+use Rattle.uc_depth_laws.proofs.Depths.{own_one, more_most, body_of, still, counted_least, counted_one_less, counted_none, counted_own, none_first, none_marked, entered_first, called_marks, any_skipped, without_other, deeper_most, shallower_least, inside_of}
 use Rattle.uc_depth_laws.proofs.Kept as kept
 use Rattle.uc_depth_laws.proofs.Kept.{either, Lighter}
+use Rattle.uc_depth_laws.proofs.TodoLists as lists
+use Rattle.uc_depth_laws.proofs.TodoLists.{Ok}
 
 same_entries_less : (b : Bool) (l : Links) → entries (one_call_less b l) ≡ entries l
 same_entries_less true l = refl
@@ -43,11 +45,6 @@ pub same_entries_more : (b : Bool) (l : Links) → entries (one_call_more b l) �
 same_entries_more true l = refl
 same_entries_more false l = refl
 
--- what stands first in a list with so many marks
-pub record Ok (source : Source) (n : ℕ) (todo : List Todo) : Type 0 where
-  pub list : Entered source Any todo
-  pub few : marks todo ≤ n
-
 -- a task but for what its running activation has to do, which may have so many marks
 pub record Budget (source : Source) (many : ℕ) (s : State) : Type 0 where
   pub callers : AllEntered source s.callers
@@ -56,237 +53,6 @@ pub record Budget (source : Source) (many : ℕ) (s : State) : Type 0 where
   pub depths : (q : ℕ) → counted q s.run.this many + owed_waiting q s.callers + owed_env source q s.env ≤ depth_at q s.env
 
 module _ (source : Source) where
-  -- what is to do in a routine
-
-  pub behind : (p : Purpose) (line : ℕ) → Ok source 0 (quiet.behind_body p line)
-  behind src.TaskMain line = record { list = (tt, (tt, tt)); few = omega arith }
-  behind src.CoroutineMain line = record { list = (tt, (tt, tt)); few = omega arith }
-  behind src.Procedure line = record { list = (tt, tt); few = omega arith }
-  behind src.Function line = record { list = (tt, (tt, tt)); few = omega arith }
-  behind src.Builder line = record { list = tt; few = omega arith }
-
-  -- what a piece is for one who leaves it
-
-  abbrev pub SortEntered : Sort → List Todo → Type 0
-  SortEntered piece.Simple todo = Entered source Skipped todo
-  SortEntered (piece.IsLoop o t e b) todo = (EnteredExpr source t × EnteredMaybe source e × EnteredStmt source b) × Entered source Any todo
-  SortEntered (piece.IsClean c) todo = EnteredClean source c × Entered source Any todo
-  SortEntered (piece.IsFill n b d) todo = (EnteredExpr source b × EnteredExpr source d) × Entered source Any todo
-  SortEntered (piece.IsSweep e) todo = EnteredExpr source e × Entered source Any todo
-  SortEntered (piece.IsPart c) todo = ((lets_go c ≡ false) × EnteredClean source c) × Entered source Any todo
-  SortEntered (piece.IsGuard hs) todo = EnteredHandlers source hs × Entered source Any todo
-  SortEntered k todo = Unit {0} × Entered source Any todo
-
-  sorted : (p : Todo) (todo : List Todo) → Allowed source Skipped p → Entered source (next p) todo → SortEntered (piece.sort p) todo
-  sorted (piece.InLoop o t e b) todo n h = (n, h)
-  sorted piece.InWhole todo n h = (tt, h)
-  sorted (piece.Clean c) todo n h = (n, h)
-  sorted (piece.FillNow k b d) todo n h = (n, h)
-  sorted (piece.Sweep e) todo n h = (n, h)
-  sorted (piece.Part c) todo n h = (n, h)
-  sorted (piece.Guard hs) todo n h = (n, h)
-  sorted piece.Finish todo n h = (tt, h)
-  sorted piece.FinishCoroutine todo n h = (tt, h)
-  sorted piece.Unwind todo n h = h
-  sorted (piece.Exit w) todo n h = h
-  sorted (piece.EnterNow m r) todo n h = call_skipped source r todo h
-  sorted (piece.MakeNow c r) todo n h = call_skipped source r todo h
-  sorted (piece.BindMadeNow c r) todo n h = call_skipped source r todo h
-  sorted p todo n h = any_skipped source todo h
-
-  -- whether one who leaves it still has its mark
-  abbrev pub sort_owes : Sort → Bool
-  sort_owes (piece.IsClean c) = lets_go c
-  sort_owes k = false
-
-  sort_most : (p : Todo) (n : ℕ) → more (sort_owes (piece.sort p)) n ≤ more (owes p) n
-  sort_most (piece.Clean c) n = omega arith
-  sort_most (piece.Rest ss) n = more_least (holds_object ss) n
-  sort_most piece.LeaveNow n = omega arith
-  sort_most piece.GoneNow n = omega arith
-  sort_most piece.MadeNow n = omega arith
-  sort_most (piece.SpawnNow r) n = omega arith
-  sort_most piece.GiveUpNow n = omega arith
-  sort_most p n = omega arith
-
-  sort_few : (p : Todo) (n m : ℕ) → more (owes p) n ≤ m → more (sort_owes (piece.sort p)) n ≤ m
-  sort_few p n m l = let a = sort_most p n in omega (arith, a, l)
-
-  -- handlers
-
-  abbrev HandlerEntered : Option Handler → Type 0
-  HandlerEntered None = Unit {0}
-  HandlerEntered (Some x) = EnteredStmts source x.body
-
-  abbrev HitEntered : Option Hit → Type 0
-  HitEntered None = Unit {0}
-  HitEntered (Some x) = EnteredStmts source x.handler.body
-
-  abbrev FoundEntered : Option Found → Type 0
-  FoundEntered None = Unit {0}
-  FoundEntered (Some x) = EnteredStmts source x.handler.body
-
-  handler_for : (kind : Bool) (e : Event) (hs : Handlers) → EnteredHandlers source hs → HandlerEntered (raising.handler_for kind e hs)
-  handler_for kind e src.NoHandlers h = tt
-  handler_for kind e (src.MoreHandlers resumes event cell line body rest) h =
-      either HandlerEntered (raising.same_kind kind resumes && raising.takes event e) (Some (record { cell = cell; line = line; body = body })) (raising.handler_for kind e rest) h.0 (handler_for kind e rest h.1)
-
-  hit_or : (x : Option Handler) (n : ℕ) (other : Option Hit) → HandlerEntered x → HitEntered other → HitEntered (raising.hit_or x n other)
-  hit_or None n other h k = k
-  hit_or (Some x) n other h k = h
-
-  hit_by : (k : Sort) (n : ℕ) (e : Event) (todo : List Todo) (other : Option Hit) → SortEntered k todo → HitEntered other → HitEntered (raising.hit_by k n e other)
-  hit_by (piece.IsGuard hs) n e todo other h k = hit_or (raising.handler_for true e hs) n other (handler_for true e hs h.0) k
-  hit_by s n e todo other h k = k
-
-  -- what is left behind a piece, as behind an exit
-  skipped_next : (p : Todo) (todo : List Todo) → Entered source (next p) todo → Entered source Skipped todo
-  skipped_next piece.Unwind todo h = h
-  skipped_next (piece.Exit w) todo h = h
-  skipped_next (piece.EnterNow m r) todo h = call_skipped source r todo h
-  skipped_next (piece.MakeNow c r) todo h = call_skipped source r todo h
-  skipped_next (piece.BindMadeNow c r) todo h = call_skipped source r todo h
-  skipped_next p todo h = any_skipped source todo h
-
-  hit_in : (e : Event) (todo : List Todo) → Entered source Skipped todo → HitEntered (raising.hit_in e todo)
-  hit_in e [] h = tt
-  hit_in e (p ∷ ps) h = hit_by (piece.sort p) (raising.count_round ps) e ps (raising.hit_in e ps) (sorted p ps h.0 h.1) (hit_in e ps (skipped_next p ps h.1))
-
-  within : (n : ℕ) (todo : List Todo) → Entered source Skipped todo → Entered source Skipped (raising.within n todo)
-  within n [] h = tt
-  within n (p ∷ ps) h = either (Entered source Skipped) (nat_eq (raising.count_round (p ∷ ps)) n) (p ∷ ps) (raising.within n ps) h (within n ps (skipped_next p ps h.1))
-
-  found_or : (x : Option Hit) (a : Active) (cs : List Active) (other : Option Found) → HitEntered x → FoundEntered other → FoundEntered (raising.found_or x a cs other)
-  found_or None a cs other h k = k
-  found_or (Some x) a cs other h k = h
-
-  seek : (v : Option Visited) (e : Event) (cs : List Active) → AllEntered source cs → FoundEntered (raising.seek v e cs)
-  seek None e [] h = tt
-  seek (Some v) e [] h = tt
-  seek None e (a ∷ cs) h =
-      found_or (raising.hit_in e a.control) a cs (raising.seek a.handles e cs) (hit_in e a.control (any_skipped source a.control h.0)) (seek a.handles e cs h.1)
-  seek (Some v) e (a ∷ cs) h =
-      either FoundEntered (nat_eq (length cs) v.level) (raising.found_or (raising.hit_in e (raising.within v.rest a.control)) a cs (raising.seek a.handles e cs)) (raising.seek (Some v) e cs) (found_or (raising.hit_in e (raising.within v.rest a.control)) a cs (raising.seek a.handles e cs) (hit_in e (raising.within v.rest a.control) (within v.rest a.control (any_skipped source a.control h.0))) (seek a.handles e cs h.1)) (seek (Some v) e cs h.1)
-
-  -- to-do lists
-
-  module _ (n : ℕ) where
-    pub starts : (cell : ℕ) (v : Option Expr) (todo : List Todo) → EnteredMaybe source v → Entered source Any todo → marks todo ≤ n → Ok source n (quiet.starting cell v todo)
-    starts cell None todo k h l = record { list = h; few = l }
-    starts cell (Some e) todo k h l = record { list = (tt, (k, (tt, h))); few = l }
-
-    pub converts : (k : Shape) (todo : List Todo) → Entered source Any todo → marks todo ≤ n → Ok source n (quiet.converting k todo)
-    converts src.Character todo h l = record { list = (tt, h); few = l }
-    converts src.Truth todo h l = record { list = (tt, h); few = l }
-    converts k todo h l = record { list = h; few = l }
-
-    pub stepped : (e : Option Expr) (todo : List Todo) → EnteredMaybe source e → Entered source Any todo → marks todo ≤ n → Ok source n (quiet.step_todo e todo)
-    stepped None todo k h l = record { list = h; few = l }
-    stepped (Some e) todo k h l = record { list = (k, (tt, h)); few = l }
-
-    pub tested : (o : Order) (t : Expr) (e : Option Expr) (b : Stmt) (todo : List Todo) → EnteredExpr source t → EnteredMaybe source e → EnteredStmt source b → Entered source Any todo → marks todo ≤ n → Ok source n (quiet.test_todo o t e b todo)
-    tested src.TestFirst t e b todo x y z h l = record { list = (x, ((x, y, z), h)); few = l }
-    tested src.BodyFirst t e b todo x y z h l = record { list = (x, ((x, y, z), h)); few = l }
-    tested src.NoTest t e b todo x y z h l = record { list = ((x, y, z), h); few = l }
-
-    pub looped : (o : Order) (t : Expr) (e : Option Expr) (b : Stmt) (todo : List Todo) → EnteredExpr source t → EnteredMaybe source e → EnteredStmt source b → Entered source Any todo → marks todo ≤ n → Ok source n (quiet.loop_todo o t e b todo)
-    looped src.TestFirst t e b todo x y z h l = record { list = (x, ((x, y, z), h)); few = l }
-    looped src.BodyFirst t e b todo x y z h l = record { list = ((x, y, z), h); few = l }
-    looped src.NoTest t e b todo x y z h l = record { list = ((x, y, z), h); few = l }
-
-    loop_left : (w : Way) (o : Order) (t : Expr) (e : Option Expr) (b : Stmt) (todo : List Todo) → EnteredExpr source t × EnteredMaybe source e × EnteredStmt source b → Entered source Any todo → marks todo ≤ n → Ok source n (quiet.loop_left w o t e b todo)
-    loop_left src.ToBreak o t e b todo k h l = record { list = h; few = l }
-    loop_left src.ToContinue o t e b todo k h l = record { list = (k, h); few = l }
-    loop_left src.ToReturn o t e b todo k h l = record { list = (tt, any_skipped source todo h); few = l }
-    loop_left src.ToEnd o t e b todo k h l = record { list = (tt, any_skipped source todo h); few = l }
-
-    pub left_behind : (w : Way) (k : Sort) (todo : List Todo) → SortEntered k todo → more (sort_owes k) (marks todo) ≤ n → Ok source n (quiet.left_behind w k todo)
-    left_behind w piece.Simple todo h l = record { list = (tt, h); few = l }
-    left_behind w (piece.IsLoop o t e b) todo h l = loop_left w o t e b todo h.0 h.1 l
-    left_behind w piece.IsWhole todo h l = record { list = h.1; few = l }
-    left_behind w (piece.IsClean c) todo h l = record { list = (h.0, (tt, any_skipped source todo h.1)); few = l }
-    left_behind w (piece.IsFill m b d) todo h l = record { list = (tt, any_skipped source todo h.1); few = l }
-    left_behind w (piece.IsSweep e) todo h l = record { list = (tt, any_skipped source todo h.1); few = l }
-    left_behind w (piece.IsPart c) todo h l = record { list = (tt, any_skipped source todo h.1); few = l }
-    left_behind w (piece.IsGuard hs) todo h l = record { list = (tt, any_skipped source todo h.1); few = l }
-    left_behind w piece.IsFinish todo h l = record { list = (tt, h.1); few = l }
-    left_behind w piece.IsFinishCoroutine todo h l = record { list = (tt, h.1); few = l }
-
-    pub filled : (b : Bool) (m : ℕ) (e d : Expr) (todo : List Todo) → EnteredExpr source e × EnteredExpr source d → Entered source Any todo → marks todo ≤ n → Ok source n (quiet.fill_todo b m e d todo)
-    filled false m e d todo k h l = record { list = h; few = l }
-    filled true m e d todo k h l = record { list = (k.0, (tt, (tt, (k, h)))); few = l }
-
-    pub raised : (r : Raised) (todo : List Todo) → EnteredRaised source r → Entered source Any todo → marks todo ≤ n → Ok source n (raising.raised_todo r todo)
-    raised (src.Plainly m) todo k h l = record { list = (tt, (tt, (tt, h))); few = l }
-    raised (src.BuiltAt m c e) todo k h l = record { list = (tt, (k, (tt, (tt, (tt, (tt, h)))))); few = l }
-    raised (src.AgainFrom c) todo k h l = record { list = (tt, (tt, (tt, h))); few = l }
-
-    handled : (x : Handler) (todo : List Todo) → EnteredStmts source x.body → Entered source Any todo → marks todo ≤ n → Ok source n (raising.handler_todo x todo)
-    handled x todo k h l = record { list = (tt, (tt, (tt, (tt, (tt, (tt, (body_of source x.body k, (tt, h)))))))); few = still source x.body (marks todo) n k l }
-
-    pub cleans : (c : CleanUp) (todo : List Todo) → EnteredClean source c → Entered source Any todo → more (lets_go c) (marks todo) ≤ n → Ok source n (piece.clean_todo c todo)
-    cleans (src.Destroys e) todo k h l = record { list = (k, (tt, h)); few = l }
-    cleans (src.DestroysAll m e) todo k h l = record { list = (tt, (k, h)); few = l }
-    cleans src.Unwinds todo k h l = record { list = (tt, h); few = l }
-    cleans src.Forgets todo k h l = record { list = (tt, h); few = l }
-    cleans src.Leaves todo k h l = record { list = (tt, h); few = l }
-    cleans src.Ends todo k h l = record { list = (tt, h); few = l }
-    cleans (src.Frees None) todo k h l = record { list = (tt, h); few = l }
-    cleans (src.Frees (Some r)) todo k h l = record { list = (k, h); few = l }
-    cleans (src.Restores c) todo k h l = record { list = (tt, h); few = l }
-
-    left_cleans : (c : CleanUp) (todo : List Todo) → EnteredClean source c → Entered source Any todo → more (lets_go c) (marks todo) ≤ n → Ok source n (raising.left_todo c todo)
-    left_cleans (src.Frees r) todo k h l = record { list = (tt, h); few = l }
-    left_cleans c todo k h l = cleans c todo k h l
-
-    pub branch : (k : ℕ) (cs : Clauses) (todo : List Todo) → EnteredClauses source cs → Entered source Any todo → marks todo ≤ n → Ok source n (monitors.branch_todo k cs todo)
-    branch k src.NoClauses todo x h l = record { list = h; few = l }
-    branch k (src.Otherwise b) todo x h l = either (Ok source n) (nat_eq k 0) (piece.Do b ∷ todo) todo (record { list = (x, h); few = l }) (record { list = h; few = l })
-    branch zero (src.MoreClauses guard b cs) todo x h l = branch zero cs todo x.2 h l
-    branch (suc zero) (src.MoreClauses guard b cs) todo x h l = record { list = (x.1, h); few = l }
-    branch (suc (suc k)) (src.MoreClauses guard b cs) todo x h l = branch (suc k) cs todo x.2 h l
-
-    pub item : (i : Item) (todo : List Todo) → EnteredItem source i → Entered source Any todo → marks todo ≤ n → Ok source n (quiet.item_todo i todo)
-    item (src.Show f e) todo k h l = record { list = (k, (tt, h)); few = l }
-    item (src.ShowText t) todo k h l = record { list = (tt, h); few = l }
-
-    pub item_value : (i : Item) (todo : List Todo) → EnteredItem source i → Entered source Any todo → marks todo ≤ n → Ok source n (quiet.item_value i todo)
-    item_value (src.Show f e) todo k h l = record { list = (k, h); few = l }
-    item_value (src.ShowText t) todo k h l = record { list = h; few = l }
-
-    pub item_piece : (i : Item) (todo : List Todo) → Entered source Any todo → marks todo ≤ n → Ok source n (quiet.item_piece i ∷ todo)
-    item_piece (src.Show f e) todo h l = record { list = (tt, h); few = l }
-    item_piece (src.ShowText t) todo h l = record { list = (tt, h); few = l }
-
-    polled : (o : Option UnwindReason) (todo : List Todo) → Entered source Any todo → marks todo ≤ n → Ok source n (monitors.leave_todo o todo)
-    polled None todo h l = record { list = (tt, h); few = l }
-    polled (Some why) todo h l = record { list = h; few = l }
-
-  -- what is to do in a routine has a mark where that holds its object
-  pub routine_marks : (r : Routine) → marks (quiet.routine_todo r) ≤ more (holds_object r.body) 0
-  routine_marks r =
-      let x = behind r.purpose r.line in
-      by (holds_object r.body) (marks (quiet.behind_body r.purpose r.line)) x.few
-    where
-      by : (c : Bool) (n : ℕ) → n ≤ 0 → more c n ≤ more c 0
-      by true n l = omega (arith, l)
-      by false n l = l
-
-  -- a main that begins
-  main_owes : (r : Routine) (this : Value) → holds_object r.body ≡ false → (q : ℕ) → owed_ex source q (quiet.fresh r this) ≡ 0
-  main_owes r this e q =
-      let l = routine_marks r in
-      let z : more (holds_object r.body) 0 ≡ 0 = ap (λ c. more c 0) e in
-      let a = counted_least q this (marks (quiet.routine_todo r)) 0 (omega (arith, l, z)) in
-      let c = counted_none q this in
-      omega (arith, a, c)
-
-  main_engaged : (r : Routine) (this : Value) → EnteredBody source r.body → holds_object r.body ≡ false → Engaged source (quiet.fresh r this)
-  main_engaged r this n e =
-      let l = routine_marks r in
-      let z : more (holds_object r.body) 0 ≡ 0 = ap (λ c. more c 0) e in
-      record { first = Any; run = (n, (behind r.purpose r.line).list); callers = tt; engaged = omega (arith, l, z) }
-
   module _ (s : State) (many : ℕ) (b : Budget source many s) where
     -- with other operands and something else to do, and with something lighter
     pub go_in : (todo : List Todo) (vs : List Value) (e : Env) → Entered source Any todo → marks todo ≤ many → Lighter source s.env e → Deep source (at todo vs (in_env e s))
@@ -402,10 +168,10 @@ module _ (source : Source) where
     eval (src.Assign p a) todo n h l = go _ _ (n.0, (n.1, (tt, h))) l
     eval (src.First a b) todo n h l = go _ _ (n.0, (n.1, (tt, h))) l
     eval (src.Update op k p a) todo n h l =
-        let x = converts many k _ (tt, h) l in
+        let x = lists.converts source many k _ (tt, h) l in
         go _ _ (n.0, (tt, (tt, (n.1, (tt, x.list))))) x.few
     eval (src.StepBehind op k p) todo n h l =
-        let x = converts many k _ (tt, (tt, h)) l in
+        let x = lists.converts source many k _ (tt, (tt, h)) l in
         go _ _ (n, (tt, (tt, (tt, (tt, (tt, (tt, x.list))))))) x.few
     eval src.Fail todo n h l = asked ask.Fail _ _ (λ x. x) tt tt h l
     eval (src.Call r args) todo n h l = go _ _ (n.1, (tt, (n.0, h))) l
@@ -454,7 +220,7 @@ module _ (source : Source) where
 
     -- the end of an activation
     pub returned : (given : Value) (cs : List Active) → s.callers ≡ cs → DeepStep source s.env (piece.return_step given cs s)
-    returned given [] e = record { state = tt; inside = is_own; unheld = tt }
+    returned given [] e = record { state = b.env; inside = is_own; unheld = tt }
     returned given (a ∷ cs) e =
         let c : AllEntered source (a ∷ cs) = subst (AllEntered source) e b.callers in
         left a cs a.control _ c.0 c.1 (let w = ap marks_waiting e in omega (arith, w)) (λ q. let w = ap (owed_waiting q) e in omega (arith, w)) (unframed s.run.counts _) _ refl c.0 (omega arith) refl refl refl
@@ -466,7 +232,7 @@ module _ (source : Source) where
         left a cs (piece.Unwind ∷ a.control) _ c.0 c.1 (let w = ap marks_waiting e in omega (arith, w)) (λ q. let w = ap (owed_waiting q) e in omega (arith, w)) (unframed s.run.counts _) _ refl (tt, any_skipped source a.control c.0) (omega arith) refl refl refl
 
     past : (v : Visited) (given : Value) (cs : List Active) → s.callers ≡ cs → DeepStep source s.env (raising.return_past v given cs s)
-    past v given [] e = record { state = tt; inside = is_own; unheld = tt }
+    past v given [] e = record { state = b.env; inside = is_own; unheld = tt }
     past v given (a ∷ cs) e = passed a cs _ given e
 
     end_by : (v : Option Visited) (given : Value) → DeepStep source s.env (raising.end_by v given s)
@@ -481,7 +247,7 @@ module _ (source : Source) where
 
     pub exits : (w : Way) (todo : List Todo) → Entered source Skipped todo → marks todo ≤ many → DeepStep source s.env (quiet.exit_step w todo s)
     exits w [] h l = end_step w
-    exits w (p ∷ ps) h l = go_ok _ _ (left_behind many w (piece.sort p) ps (sorted p ps h.0 h.1) (sort_few p (marks ps) many l))
+    exits w (p ∷ ps) h l = go_ok _ _ (lists.left_behind source many w (piece.sort p) ps (lists.sorted source p ps h.0 h.1) (lists.sort_few source p (marks ps) many l))
 
     -- statements
 
@@ -497,10 +263,10 @@ module _ (source : Source) where
     swept (suc m) e todo n h l = counts m (piece.Eval e ∷ (piece.DropNow ∷ (piece.Sweep e ∷ todo))) (n, (tt, (n, h))) l
 
     event_step : (a : EventStmt) (todo : List Todo) → EnteredEvent source a → Entered source Any todo → marks todo ≤ many → DeepStep source s.env (quiet.event_step a todo s)
-    event_step (src.Throw line r) todo n h l = go_ok _ _ (raised many r _ n (tt, (tt, h)) l)
-    event_step (src.Raise line r) todo n h l = go_ok _ _ (raised many r _ n (tt, (tt, h)) l)
+    event_step (src.Throw line r) todo n h l = go_ok _ _ (lists.raised source many r _ n (tt, (tt, h)) l)
+    event_step (src.Raise line r) todo n h l = go_ok _ _ (lists.raised source many r _ n (tt, (tt, h)) l)
     event_step (src.Try line body hs) todo n h l = go _ _ (body_of source body n.0, (n.1, (tt, h))) (still source body (marks todo) many n.0 l)
-    event_step (src.RaiseAt line r a) todo n h l = go_ok _ _ (raised many r _ n.0 (n.1, (tt, (tt, h))) l)
+    event_step (src.RaiseAt line r a) todo n h l = go_ok _ _ (lists.raised source many r _ n.0 (n.1, (tt, (tt, h))) l)
     event_step (src.Enable line events cell a) todo n h l = go _ _ (tt, (tt, (n, (tt, (tt, h))))) l
     event_step (src.Disable line events cell a) todo n h l = go _ _ (tt, (n, (tt, (tt, h)))) l
 
@@ -524,7 +290,7 @@ module _ (source : Source) where
     stmt (src.PrintTogether line items) todo n h l = go _ _ (n, (tt, (n, (tt, (tt, h))))) l
     stmt (src.Read line ts) todo n h l = go _ _ (n, (tt, h)) l
     stmt (src.If line t a b) todo n h l = go _ _ (n.0, ((n.1, n.2), (tt, h))) l
-    stmt (src.Loop line o t e b) todo n h l = go_ok _ _ (looped many o t e b _ n.0 n.1 n.2 (tt, h) l)
+    stmt (src.Loop line o t e b) todo n h l = go_ok _ _ (lists.looped source many o t e b _ n.0 n.1 n.2 (tt, h) l)
     stmt (src.Break line) todo n h l = go _ _ (tt, any_skipped source _ h) l
     stmt (src.Continue line) todo n h l = go _ _ (tt, any_skipped source _ h) l
     stmt (src.Return line None) todo n h l = go _ _ (tt, any_skipped source _ h) l
@@ -543,12 +309,12 @@ module _ (source : Source) where
     -- coroutines
 
     pub ends : (todo : List Todo) (vs : List Value) → DeepStep source s.env (Asks ask.End (at todo vs s))
-    ends todo vs = record { state = tt; inside = is_own; unheld = tt }
+    ends todo vs = record { state = b.env; inside = is_own; unheld = tt }
 
     pub set_up : (r : Option Routine) (todo : List Todo) → EnteredRoutine source r → holds_object (routine_or_none r).body ≡ false → Entered source Any todo → marks todo ≤ many → DeepStep source s.env (quiet.set_up_step r todo s)
     set_up None todo n e h l = go _ _ h l
     set_up (Some r) todo n e h l =
-        let x = kept.born_lighter source (quiet.home_at s.run.this s.env) (quiet.fresh r s.run.this) s.env (main_engaged r s.run.this n e) (main_owes r s.run.this e) b.env in
+        let x = kept.born_lighter source (quiet.home_at s.run.this s.env) (quiet.fresh r s.run.this) s.env (lists.main_engaged source r s.run.this n e) (lists.main_owes source r s.run.this e) b.env in
         go_in _ _ _ h l (kept.after source x (kept.written_lighter source s.run.this _ _ x.env))
 
     pub live : (r : Option Routine) (todo : List Todo) → Entered source Any todo → marks todo ≤ many → DeepStep source s.env (quiet.live_step r todo s)
@@ -637,7 +403,7 @@ module _ (source : Source) where
     pub leave : (c : Bool) (todo : List Todo) → Entered source Any todo → suc (marks todo) ≤ many → DeepStep source s.env (monitors.leave_at c (monitors.this_object s) todo s)
     leave false todo h l = ended_here (inside.call_ended (monitors.this_object s) s.env) todo h l refl refl refl refl (omega arith) _ refl refl refl refl
     leave true todo h l =
-        let x = polled many s.run.raised todo h (omega (arith, l)) in
+        let x = lists.polled source many s.run.raised todo h (omega (arith, l)) in
         let few : marks (monitors.leave_todo s.run.raised todo) ≡ marks todo = polled_marks s.run.raised in
         unless (monitors.this_object s) _ todo (λ u. record {
           state = record {
@@ -791,10 +557,10 @@ module _ (source : Source) where
     pub throws : (e : Event) (todo : List Todo) → Entered source Any todo → marks todo ≤ many → DeepStep source s.env (raising.throw_step e todo s)
     throws e todo h l = changed (piece.Unwind ∷ todo) _ (tt, any_skipped source todo h) l refl refl refl refl
 
-    handles : (f : Option Found) (e : Event) (todo : List Todo) → FoundEntered f → Entered source Any todo → marks todo ≤ many → DeepStep source s.env (raising.handle_step f e todo s)
+    handles : (f : Option Found) (e : Event) (todo : List Todo) → lists.FoundEntered source f → Entered source Any todo → marks todo ≤ many → DeepStep source s.env (raising.handle_step f e todo s)
     handles None e todo n h l = throws e todo h l
     handles (Some f) e todo n h l =
-        let x = handled 0 f.handler [] n tt (omega arith) in
+        let x = lists.handled source 0 f.handler [] n tt (omega arith) in
         record {
           first = Any;
           run = x.list;
@@ -817,17 +583,17 @@ module _ (source : Source) where
     pub raises : (e : Event) (todo : List Todo) → Entered source Any todo → marks todo ≤ many → DeepStep source s.env (raising.raise_step e todo s)
     raises e todo h l =
         let round : List Active = (record s.run { control = todo }) ∷ s.callers in
-        handles (raising.seek None e round) e todo (seek None e round (h, b.callers)) h l
+        handles (raising.seek None e round) e todo (lists.seek source None e round (h, b.callers)) h l
 
     -- unwinding
 
-    catches : (o : Option Handler) (e : Event) (todo : List Todo) → HandlerEntered o → Entered source Any todo → marks todo ≤ many → DeepStep source s.env (raising.catch_step o e todo s)
+    catches : (o : Option Handler) (e : Event) (todo : List Todo) → lists.HandlerEntered source o → Entered source Any todo → marks todo ≤ many → DeepStep source s.env (raising.catch_step o e todo s)
     catches None e todo n h l = go _ _ (tt, any_skipped source todo h) l
-    catches (Some x) e todo n h l = let y = handled many x todo n h l in changed (raising.handler_todo x todo) _ y.list y.few refl refl refl refl
+    catches (Some x) e todo n h l = let y = lists.handled source many x todo n h l in changed (raising.handler_todo x todo) _ y.list y.few refl refl refl refl
 
     guarded : (hs : Handlers) (o : Option UnwindReason) (todo : List Todo) → EnteredHandlers source hs → Entered source Any todo → marks todo ≤ many → DeepStep source s.env (raising.guard_left hs o todo s)
     guarded hs (Some (reason.Event n x y)) todo k h l =
-        catches _ _ todo (handler_for false (record { number = n; x = x; y = y }) hs k) h l
+        catches _ _ todo (lists.handler_for source false (record { number = n; x = x; y = y }) hs k) h l
     guarded hs o todo k h l = go _ _ (tt, any_skipped source todo h) l
 
     whole : (c : Bool) (todo : List Todo) → Entered source Any todo → marks todo ≤ many → DeepStep source s.env (raising.whole_left c todo s)
@@ -836,7 +602,7 @@ module _ (source : Source) where
 
     scope : (c : CleanUp) (d : Bool) (todo : List Todo) → EnteredClean source c → Entered source Any todo → more (lets_go c) (marks todo) ≤ many → DeepStep source s.env (raising.scope_left c d todo s)
     scope src.Leaves true todo n h l = changed (piece.LeaveNow ∷ (piece.Exit src.ToReturn ∷ todo)) _ (tt, (tt, any_skipped source todo h)) l refl refl refl refl
-    scope c d todo n h l = go_ok (raising.left_todo c (piece.Unwind ∷ todo)) [] (left_cleans many c (piece.Unwind ∷ todo) n (tt, any_skipped source todo h) l)
+    scope c d todo n h l = go_ok (raising.left_todo c (piece.Unwind ∷ todo)) [] (lists.left_cleans source many c (piece.Unwind ∷ todo) n (tt, any_skipped source todo h) l)
 
     main_left : (o : Option UnwindReason) (todo : List Todo) → Entered source Any todo → marks todo ≤ many → DeepStep source s.env (raising.main_left o todo s)
     main_left (Some (reason.ReturnTo n)) todo h l = changed (piece.Finish ∷ todo) _ (tt, h) l refl refl refl refl
@@ -847,7 +613,7 @@ module _ (source : Source) where
     coroutine_left (Some reason.Destroyed) todo h l = moved _ todo _ (kept.taken_down_deep source (at todo [] s) (go todo [] h l))
     coroutine_left o todo h l = moved _ todo _ (kept.escape_deep source (at todo [] s) (go todo [] h l))
 
-    unwind_past : (k : Sort) (todo : List Todo) → SortEntered k todo → more (sort_owes k) (marks todo) ≤ many → DeepStep source s.env (raising.unwind_past k todo s)
+    unwind_past : (k : Sort) (todo : List Todo) → lists.SortEntered source k todo → more (lists.sort_owes source k) (marks todo) ≤ many → DeepStep source s.env (raising.unwind_past k todo s)
     unwind_past piece.Simple todo n l = go _ _ (tt, n) l
     unwind_past (piece.IsLoop o t e d) todo n l = go _ _ (tt, any_skipped source todo n.1) l
     unwind_past piece.IsWhole todo n l = whole _ todo n.1 l
@@ -856,13 +622,13 @@ module _ (source : Source) where
     unwind_past (piece.IsSweep e) todo n l = go _ _ (n.0, (tt, any_skipped source todo n.1)) l
     unwind_past (piece.IsPart c) todo n l =
         let e : more (lets_go c) (marks todo) ≡ marks todo = ap (λ d. more d (marks todo)) n.0.0 in
-        go_ok _ _ (cleans many c (piece.Unwind ∷ todo) n.0.1 (tt, any_skipped source todo n.1) (omega (arith, e, l)))
+        go_ok _ _ (lists.cleans source many c (piece.Unwind ∷ todo) n.0.1 (tt, any_skipped source todo n.1) (omega (arith, e, l)))
     unwind_past (piece.IsGuard hs) todo n l = guarded hs s.run.raised todo n.0 n.1 l
     unwind_past piece.IsFinish todo n l = main_left s.run.raised todo n.1 l
     unwind_past piece.IsFinishCoroutine todo n l = coroutine_left s.run.raised todo n.1 l
 
     pass_on : (o : Option UnwindReason) (c : Active) (cs : List Active) → s.callers ≡ c ∷ cs → DeepStep source s.env (raising.pass_on o c cs s)
-    pass_on None c cs e = record { state = tt; inside = is_own; unheld = tt }
+    pass_on None c cs e = record { state = b.env; inside = is_own; unheld = tt }
     pass_on (Some why) c cs e = passed c cs _ _ e
 
     leave_for : (d : Bool) (c : Active) (cs : List Active) → s.callers ≡ c ∷ cs → DeepStep source s.env (raising.leave_for d c cs s)
@@ -870,13 +636,13 @@ module _ (source : Source) where
     leave_for false c cs e = pass_on s.run.raised c cs e
 
     leaves : (cs : List Active) → s.callers ≡ cs → DeepStep source s.env (raising.leave_step cs s)
-    leaves [] e = record { state = tt; inside = is_own; unheld = tt }
+    leaves [] e = record { state = b.env; inside = is_own; unheld = tt }
     leaves (c ∷ cs) e =
         either (DeepStep source s.env) (raising.arrives s.run.raised (length (c ∷ cs))) _ _ (returned s.run.result (c ∷ cs) e) (leave_for _ c cs e)
 
     pub unwinds : (todo : List Todo) → Entered source Skipped todo → marks todo ≤ many → DeepStep source s.env (raising.unwind_step todo s)
     unwinds [] h l = leaves s.callers refl
-    unwinds (p ∷ ps) h l = unwind_past (piece.sort p) ps (sorted p ps h.0 h.1) (sort_few p (marks ps) many l)
+    unwinds (p ∷ ps) h l = unwind_past (piece.sort p) ps (lists.sorted source p ps h.0 h.1) (lists.sort_few source p (marks ps) many l)
 
     -- printing
 

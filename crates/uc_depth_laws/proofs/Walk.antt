@@ -15,8 +15,10 @@ use Rattle.uc_depth_laws.specs.Entering.{EnteredSource}
 use Rattle.uc_depth_laws.specs.Owing.{marks, First, Any, Skipped, CallOf, Bound, next, EnteredPiece, Allowed, Entered, owed, Deep, DeepStep, FairAt, Fair}
 use Rattle.uc_depth_laws.proofs.Kept as kept
 use Rattle.uc_depth_laws.proofs.Kept.{either}
+use Rattle.uc_depth_laws.proofs.TodoLists as lists
+use Rattle.uc_depth_laws.proofs.TodoLists.{Ok}
 use Rattle.uc_depth_laws.proofs.Steps as steps
-use Rattle.uc_depth_laws.proofs.Steps.{Ok, Budget}
+use Rattle.uc_depth_laws.proofs.Steps.{Budget}
 use Rattle.uc_depth_laws.proofs.Calls as calls
 
 -- the piece that tells the main of a new task owes nothing
@@ -59,7 +61,7 @@ module _ (source : Source) (known : EnteredSource source) where
     acts (piece.CallUnwrittenNow r) todo c n h l f = calls.call_unwritten source known s deep r todo c h (slice_get source.routines r) refl
     acts (piece.CountNow m) todo c n h l f = steps.counts source s (marks s.run.control) b m todo h l
     acts piece.MoreNow todo c n h l f = steps.counts source s (marks s.run.control) b _ todo h l
-    acts (piece.FillNow m x d) todo c n h l f = go_ok _ _ (steps.filled source (marks s.run.control) (nat_lt s.run.elements m) m x d todo n h l)
+    acts (piece.FillNow m x d) todo c n h l f = go_ok _ _ (lists.filled source (marks s.run.control) (nat_lt s.run.elements m) m x d todo n h l)
     acts (piece.Again o t e d) todo c n h l f = go_ok _ _ (either (Ok source (marks s.run.control)) (piece.is_zero (number (top s.run.operands))) todo (piece.TurnNow o t e d ∷ todo) (record { list = h; few = l }) (record { list = (n, h); few = l }))
     acts (piece.PrintNow form) todo c n h l f = steps.prints source s (marks s.run.control) b s.env.gathered _ todo _ h l
     acts (piece.TextNow k) todo c n h l f = steps.prints source s (marks s.run.control) b s.env.gathered _ todo _ h l
@@ -68,23 +70,23 @@ module _ (source : Source) (known : EnteredSource source) where
     acts (piece.ReadNow form) todo c n h l f = steps.asked source s (marks s.run.control) b _ _ _ (λ x. x) tt tt h l
     acts (piece.ClearNow k m) todo c n h l f = steps.go_in source s (marks s.run.control) b _ _ _ h l (kept.owned_lighter source (piece.this_frame s) (values_cleared k m piece.nought) s.env deep.env)
     acts (piece.Items []) todo c n h l f = go _ _ h l
-    acts (piece.Items (i ∷ is)) todo c n h l f = go_ok _ _ (steps.item source (marks s.run.control) i _ n.0 (n.1, h) l)
+    acts (piece.Items (i ∷ is)) todo c n h l f = go_ok _ _ (lists.item source (marks s.run.control) i _ n.0 (n.1, h) l)
     acts (piece.Values []) todo c n h l f = go _ _ h l
-    acts (piece.Values (i ∷ is)) todo c n h l f = go_ok _ _ (steps.item_value source (marks s.run.control) i _ n.0 (n.1, h) l)
+    acts (piece.Values (i ∷ is)) todo c n h l f = go_ok _ _ (lists.item_value source (marks s.run.control) i _ n.0 (n.1, h) l)
     acts (piece.Pieces []) todo c n h l f = go _ _ h l
-    acts (piece.Pieces (i ∷ is)) todo c n h l f = let x = steps.item_piece source (marks s.run.control) i todo h l in go _ _ (n.1, x.list) x.few
+    acts (piece.Pieces (i ∷ is)) todo c n h l f = let x = lists.item_piece source (marks s.run.control) i todo h l in go _ _ (n.1, x.list) x.few
     acts (piece.Targets []) todo c n h l f = go _ _ h l
     acts (piece.Targets (t ∷ ts)) todo c n h l f = go _ _ (n.0, (tt, (tt, (n.1, h)))) l
     acts (piece.Variables []) todo c n h l f = go _ _ h l
-    acts (piece.Variables (d ∷ ds)) todo c n h l f = let x = steps.starts source (marks s.run.control) d.cell d.value (piece.Variables ds ∷ todo) n.0 (n.1, h) l in go _ _ (tt, x.list) x.few
+    acts (piece.Variables (d ∷ ds)) todo c n h l f = let x = lists.starts source (marks s.run.control) d.cell d.value (piece.Variables ds ∷ todo) n.0 (n.1, h) l in go _ _ (tt, x.list) x.few
     acts (piece.Do a) todo c n h l f = steps.stmt source s (marks s.run.control) b a todo n h l
     acts (piece.Rest ss) todo c n h l f = steps.rest source s (marks s.run.control) b ss todo n h l
     acts (piece.Exit w) todo c n h l f = steps.exits source s (marks s.run.control) b w todo h l
     acts piece.NoReturnNow todo c n h l f = steps.stop source s (marks s.run.control) b NoReturn todo _
     acts (piece.InLoop o t e d) todo c n h l f =
-        let x = steps.tested source (marks s.run.control) o t e d todo n.0 n.1 n.2 h l in
-        go_ok _ _ (steps.stepped source (marks s.run.control) e _ n.1 x.list x.few)
-    acts (piece.Clean x) todo c n h l f = go_ok _ _ (steps.cleans source (marks s.run.control) x todo n h l)
+        let x = lists.tested source (marks s.run.control) o t e d todo n.0 n.1 n.2 h l in
+        go_ok _ _ (lists.stepped source (marks s.run.control) e _ n.1 x.list x.few)
+    acts (piece.Clean x) todo c n h l f = go_ok _ _ (lists.cleans source (marks s.run.control) x todo n h l)
     acts (piece.Sweep e) todo c n h l f = steps.swept source s (marks s.run.control) b s.run.elements e todo n h l
     acts piece.Unwind todo c n h l f = steps.unwinds source s (marks s.run.control) b todo h l
     acts piece.ThrowNow todo c n h l f = steps.throws source s (marks s.run.control) b (raising.event_in s.run.operands) todo h l
@@ -122,7 +124,7 @@ module _ (source : Source) (known : EnteredSource source) where
     acts (piece.Guards (src.MoreClauses guard x cs)) todo c n h l f = go _ _ (n.0, (n.2, h)) l
     acts (piece.AcceptNow site m) todo c n h l f = steps.accept source s (marks s.run.control) b (monitors.this_object s) site m todo h l
     acts piece.FailedNow todo c n h l f = steps.failed source s (marks s.run.control) b _ todo _ h l
-    acts (piece.ChooseNow cs) todo c n h l f = go_ok _ _ (steps.branch source (marks s.run.control) _ cs todo n h l)
+    acts (piece.ChooseNow cs) todo c n h l f = go_ok _ _ (lists.branch source (marks s.run.control) _ cs todo n h l)
     acts piece.RaiseAtNow todo c n h l f = steps.raise_at source s (marks s.run.control) b _ _ todo _ h l
     acts (piece.EnableNow events cell) todo c n h l f = steps.enables source s (marks s.run.control) b _ cell todo h l
     acts (piece.DisableNow events cell) todo c n h l f = steps.enables source s (marks s.run.control) b _ cell todo h l

@@ -271,12 +271,13 @@ module _ (source : Source) where
     pub alone : Entered source Any s.run.control
     pub deep : Deep s
 
-  -- a task that has asked something, which the answer lets go on; behind an end and a fault nothing goes on
+  -- a task that has asked something, which the answer lets go on; behind an end and a fault nothing goes on, but what a task has in hand at
+  -- its end stays in order
   abbrev pub DeepAsk : Request → State → Type 0
   DeepAsk (ask.Call o m) s = Deep s
   DeepAsk (ask.Make c) s = IsBinding s.run.control × DeepBehind s
   DeepAsk ask.Slice s = Deep s
-  DeepAsk ask.End s = Unit {0}
+  DeepAsk ask.End s = EngagedEnv source s.env
   DeepAsk (ask.Fault f) s = Unit {0}
   DeepAsk r s = DeepAlone s
 
@@ -300,6 +301,14 @@ module _ (source : Source) where
   FairAt (piece.GoneNow ∷ todo) s = owed source (this_object s) (at todo s.run.operands s) ≡ 0
   FairAt (piece.GiveUpNow ∷ todo) s = owed source (this_object s) (at todo s.run.operands s) ≡ 0
   FairAt todo s = Unit {0}
+
+  -- the second of these alone
+  abbrev pub AloneAt : List Todo → State → Type 0
+  AloneAt (piece.BindMadeNow c r ∷ todo) s = Unit {0}
+  AloneAt todo s = FairAt todo s
+
+  abbrev pub Alone : State → Type 0
+  Alone s = AloneAt s.run.control s
 
   abbrev pub Fair : State → Type 0
   Fair s = FairAt s.run.control s

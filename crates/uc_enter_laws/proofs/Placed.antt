@@ -7,8 +7,8 @@ use Rattle.uc_typing.specs.Typing.{Table}
 use Rattle.uc_typing.specs.States.{Sound, Typed}
 use Rattle.uc_typing.specs.Finds.{IsPlace, Finds}
 use Rattle.uc_typing.proofs.Finding.{law_finds}
-use Rattle.uc_depth_laws.specs.Owing.{FairAt}
-use Rattle.uc_enter_laws.specs.EnterLaws.{AloneAt, LawFair}
+use Rattle.uc_depth_laws.specs.Owing.{AloneAt, FairAt}
+use Rattle.uc_enter_laws.specs.EnterLaws.{LawFair}
 
 placed : (n : ℕ) (vs : List Value) → IsPlace (top (drop n vs)) → n < length vs
 placed zero [] h = absurd h

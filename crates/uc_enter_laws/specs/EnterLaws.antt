@@ -1,28 +1,22 @@
 -- In programs that break no rule objects are entered by their calls, and a new object finds its place.
-use Rattle.std.specs.Prelude.{◌≡◌, List, [], ◌∷◌}
+use Rattle.std.specs.Prelude.{◌≡◌, []}
 use Rattle.uc_tree.specs.Programs.{Program}
 use Rattle.uc_tree.specs.Source.{Source}
-use Rattle.uc_machine.specs.Pieces as piece
-use Rattle.uc_machine.specs.Pieces.{Todo, State}
+use Rattle.uc_machine.specs.Pieces.{State}
 use Rattle.uc_resolve.specs.Resolve.{source_of}
 use Rattle.uc_rules.specs.Breaks.{breaks_of}
 use Rattle.uc_typing.specs.Typing.{Table}
 use Rattle.uc_typing.specs.States.{Sound, Typed}
 use Rattle.uc_sound.specs.Formed.{IsFormed}
 use Rattle.uc_depth_laws.specs.Entering.{EnteredSource}
-use Rattle.uc_depth_laws.specs.Owing.{FairAt, Fair}
+use Rattle.uc_depth_laws.specs.Owing.{Alone, Fair}
 
 -- what holds an object is called where that is entered, in the source of every program that breaks no rule
 abbrev pub LawEntered : Type 0
 LawEntered = (p : Program) → IsFormed p → breaks_of p ≡ [] → EnteredSource (source_of p)
 
--- an object that is let go of however deep the task is, is owed nothing else
-abbrev pub AloneAt : Source → List Todo → State → Type 0
-AloneAt source (piece.BindMadeNow c r ∷ todo) s = Unit {0}
-AloneAt source todo s = FairAt source todo s
-
 -- where types are in order, that is all that a step is to find for the laws of depths
 abbrev pub LawFair : Type 0
 LawFair =
     (t : Table) (source : Source) → Sound t source → (s : State) → Typed t [] s →
-    AloneAt source s.run.control s → Fair source s
+    Alone source s → Fair source s

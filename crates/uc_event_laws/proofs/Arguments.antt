@@ -151,7 +151,7 @@ module _ (sites : List Site) (source : Source) (t : Table) (sound : Sound t sour
       stmts sc src.Nil n h = tt
       stmts sc (src.Then a ss) n h = (stmt sc a n.0 h.0, stmts sc ss n.1 h.1)
       stmts sc (src.Scoped c ss) n h = (clean sc c h.3, stmts (h.0 ∷ sc) ss n.1 h.2)
-      stmts sc (src.Built c ss) n h = (clean sc c h.1, stmts sc ss n.1 h.0)
+      stmts sc (src.Built c ss) n h = (clean sc c h.1.0, stmts sc ss n.1 h.0)
 
       event : (sc : List Name) (a : EventStmt) → NamedEvent sites a → FineEvent t g sc a → CountedEvent source a
       event sc (src.Throw line r) n h = raised sc r h

@@ -68,7 +68,7 @@ and_swap true true h = cc
 and_swap true false h = refl
 and_swap false b h = refl
 
-abbrev is_begin : EntryKind → Bool
+abbrev pub is_begin : EntryKind → Bool
 is_begin kind.Begin = true
 is_begin k = false
 

@@ -1,6 +1,6 @@
 -- In every run tasks are as deep in objects as they owe them, as long as each step finds what it is to find.
 use Rattle.std.proofs.Common.{◌≡◌, ℕ, suc, ◌==◌, ◌<◌, ◌≤◌, ◌||◌, ◌⊎◌, inl, inr, Bool, true, false, List, [], ◌∷◌, ◌++◌, Option, Some, None, refl, sym, ap, ◌∙◌, subst, arith, ⊎_elim}
-use Rattle.std.specs.Prelude.{nat_eq, if◌then◌else◌}
+use Rattle.std.specs.Prelude.{nat_eq, is_some, if◌then◌else◌}
 use Rattle.std.proofs.lemmas.Bool.{eqb-true, eq-eqb, cases_lt}
 use Rattle.uc_tree.specs.Source.{Source, routine_of}
 use Rattle.uc_entry.specs.declared.entry.Entry.{Entry}
@@ -54,8 +54,13 @@ use Rattle.uc_depth_laws.specs.Owing.{EngagedParked, EngagedHand, EngagedMembers
 use Rattle.uc_depth_laws.specs.DepthLaws.{Suits, LawSteps, LawFree, LawDrawn}
 use Rattle.uc_depth_laws.proofs.Answers.{law_steps}
 use Rattle.uc_depth_laws.proofs.Standing.{law_free, law_drawn}
-use Rattle.uc_letting_laws.specs.Fair.{AskFair, RideFair, MayFair, RunFair}
-use Rattle.uc_letting_laws.specs.LettingLaws.{LetsGoInHand, LawLetsGo}
+use Rattle.uc_inner_laws.specs.Inner.{Part, InnerSource}
+use Rattle.uc_inner_laws.specs.Standing.{StandsState, StandsAsk, StandsStep, StandsAsking}
+use Rattle.uc_inner_laws.specs.InnerLaws.{IsAt}
+use Rattle.uc_inner_laws.proofs.Walk.{law_steps as inner_steps, law_is_inside, law_fair}
+use Rattle.uc_letting_laws.specs.AloneRuns.{AskAlone, RideAlone, MayAlone, RunAlone}
+use Rattle.uc_letting_laws.specs.LettingLaws.{AsksInHand, LawInHand}
+use Rattle.uc_letting_laws.proofs.StandingWorlds.{StandingWorld, found_has, standing_start, standing_act, standing_given, standing_begin}
 use Rattle.uc_hand_laws.specs.Deep as deep
 use Rattle.uc_hand_laws.specs.Deep.{deep_in}
 use Rattle.uc_hand_laws.proofs.Walk.{walk}
@@ -173,28 +178,62 @@ no_binding (p ∷ todo) h b = b
 
 -- rides
 
-module _ (source : Source) (entered : EnteredSource source) (steps : LawSteps) where
+-- what a task asks something of is one of those in which it was deep, or at least in its hand
+abbrev AsksAt : ℕ → List ℕ → State → Request → Type 0
+AsksAt own ks u (ask.Made o) = has ks o ≡ true
+AsksAt own ks u (ask.Spawn o) = has ks o ≡ true
+AsksAt own ks u (ask.Leave o failed) = has ks o ≡ true
+AsksAt own ks u (ask.Gone o) = has ks o ≡ true
+AsksAt own ks u (ask.Accept o site mask) = has ks o ≡ true
+AsksAt own ks u (ask.Wait o c n) = has ks o ≡ true
+AsksAt own ks u (ask.SignalBlock o c) = has ks o ≡ true
+AsksAt own ks u (ask.Signal o c) = (has ks o ≡ true) ⊎ (is_some (find o u.env.hand) ≡ true)
+AsksAt own ks u (ask.Empty o c) = (has ks o ≡ true) ⊎ (is_some (find o u.env.hand) ≡ true)
+AsksAt own ks u (ask.Front o c) = (has ks o ≡ true) ⊎ (is_some (find o u.env.hand) ≡ true)
+AsksAt own ks u ask.End = has ks own ≡ true
+AsksAt own ks u r = Unit {0}
+
+module _ (part : ℕ → Part) (source : Source) (entered : EnteredSource source) (inner : InnerSource part source) (steps : LawSteps) (own : ℕ) where
   pub record RideOwes (ks : List ℕ) (r : Request) (u : State) : Type 0 where
     pub state : DeepAsk source r u
-    pub lets : LetsGoInHand ks r
+    pub stands : StandsAsk part source own r u
+    pub asks : AsksAt own ks u r
     pub unheld : Unheld r u.env
 
-  lets_in : (ks : List ℕ) (e : quiet.Env) (r : Request) → LetsGo r e → keys e.depths ≡ ks → LetsGoInHand ks r
-  lets_in ks e (ask.Made o) h k = ap (λ l. has l o) (sym k) ∙ found_some o (suc h.0) e.depths h.1
-  lets_in ks e (ask.Spawn o) h k = ap (λ l. has l o) (sym k) ∙ found_some o (suc h.0) e.depths h.1
-  lets_in ks e (ask.Leave o failed) h k = ap (λ l. has l o) (sym k) ∙ found_some o (suc h.0) e.depths h.1
-  lets_in ks e (ask.Gone o) h k = ap (λ l. has l o) (sym k) ∙ found_some o (suc h.0) e.depths h.1
-  lets_in ks e r h k = tt
+  asks_at : (ks : List ℕ) (s : State) (r : Request) (u : State) → LetsGo r s.env → IsAt r s u → keys s.env.depths ≡ ks → s.env.own ≡ own → AsksAt own ks u r
+  asks_at ks s r u h i k e = by r h i
+    where
+      deep_at : (o : ℕ) → IsDeepInside o s.env → has ks o ≡ true
+      deep_at o h = ap (λ l. has l o) (sym k) ∙ found_some o (suc h.0) s.env.depths h.1
 
-  pub ride_owes : (ks : List ℕ) (s : State) (q : ℕ) (u : State) (k : ℕ) (a : Asked) (r : Rides source s q u k a) → RideFair source s q u k a r → Deep source s → deep_in s ≡ ks → RideOwes ks a.request u
-  ride_owes ks _ _ _ _ _ rides.slices f d e = record { state = d; lets = tt; unheld = tt }
-  ride_owes ks _ _ _ _ _ (rides.goes_on {s} {t} {u} {q} {k} {a} g r) f d e =
-      ride_owes ks t (suc q) u k a r f.1 (subst (owing.DeepStep source s.env) g (steps.steps source entered s d f.0)) (subst (deep.DeepStep ks) g (walk ks source s e))
-  ride_owes ks _ _ _ _ _ (rides.ticks {s} {t} {u} {q} {k} {a} g r) f d e =
-      ride_owes ks t q u k a r f.1 (subst (owing.DeepStep source s.env) g (steps.steps source entered s d f.0)) (subst (deep.DeepStep ks) g (walk ks source s e))
-  ride_owes ks _ _ _ _ _ (rides.asks {s} {t} {q} {r} g) f d e =
-      let x : owing.DeepAsking source s.env r t = subst (owing.DeepStep source s.env) g (steps.steps source entered s d f) in
-      record { state = x.state; lets = lets_in ks s.env r x.inside e; unheld = x.unheld }
+      or_at : (o : ℕ) → IsDeepInside o s.env ⊎ (is_some (find o u.env.hand) ≡ true) → (has ks o ≡ true) ⊎ (is_some (find o u.env.hand) ≡ true)
+      or_at o (inl h) = inl (deep_at o h)
+      or_at o (inr h) = inr h
+
+      by : (r : Request) → LetsGo r s.env → IsAt r s u → AsksAt own ks u r
+      by (ask.Made o) h i = deep_at o h
+      by (ask.Spawn o) h i = deep_at o h
+      by (ask.Leave o failed) h i = deep_at o h
+      by (ask.Gone o) h i = deep_at o h
+      by (ask.Accept o site mask) h i = deep_at o i
+      by (ask.Wait o c n) h i = deep_at o i
+      by (ask.SignalBlock o c) h i = deep_at o i
+      by (ask.Signal o c) h i = or_at o i
+      by (ask.Empty o c) h i = or_at o i
+      by (ask.Front o c) h i = or_at o i
+      by ask.End h i = subst (λ o. has ks o ≡ true) e (deep_at s.env.own h)
+      by r h i = tt
+
+  pub ride_owes : (ks : List ℕ) (s : State) (q : ℕ) (u : State) (k : ℕ) (a : Asked) (r : Rides source s q u k a) → RideAlone source s q u k a r → Deep source s → StandsState part source own s → deep_in s ≡ ks → RideOwes ks a.request u
+  ride_owes ks _ _ _ _ _ rides.slices f d v e = record { state = d; stands = v; asks = tt; unheld = tt }
+  ride_owes ks _ _ _ _ _ (rides.goes_on {s} {t} {u} {q} {k} {a} g r) f d v e =
+      ride_owes ks t (suc q) u k a r f.1 (subst (owing.DeepStep source s.env) g (steps.steps source entered s d (law_fair part source own s v f.0))) (subst (StandsStep part source own s) g (inner_steps.steps part source inner own s v)) (subst (deep.DeepStep ks) g (walk ks source s e))
+  ride_owes ks _ _ _ _ _ (rides.ticks {s} {t} {u} {q} {k} {a} g r) f d v e =
+      ride_owes ks t q u k a r f.1 (subst (owing.DeepStep source s.env) g (steps.steps source entered s d (law_fair part source own s v f.0))) (subst (StandsStep part source own s) g (inner_steps.steps part source inner own s v)) (subst (deep.DeepStep ks) g (walk ks source s e))
+  ride_owes ks _ _ _ _ _ (rides.asks {s} {t} {q} {r} g) f d v e =
+      let x : owing.DeepAsking source s.env r t = subst (owing.DeepStep source s.env) g (steps.steps source entered s d (law_fair part source own s v f)) in
+      let y : StandsAsking part source own s r t = subst (StandsStep part source own s) g (inner_steps.steps part source inner own s v) in
+      record { state = x.state; stands = y.state; asks = asks_at ks s r t x.inside (law_is_inside part source inner own s v d r t g) e v.own; unheld = x.unheld }
 
 -- tasks at rest, behind what they asked last
 
@@ -219,8 +258,8 @@ module _ (source : Source) (drawing : LawDrawn) where
   rests_drawn (ask.Fault n) hand s h d = absurd h
   rests_drawn r hand s h d = drawing.asked source r hand s h d
 
-module _ (source : Source) (entered : EnteredSource source) (steps : LawSteps) (freeing : LawFree) (drawing : LawDrawn) (input : List ℕ) (opts : Options) (range : InRange opts) where
-  module _ {j : Journal} {w : World} (r : RunRests source input opts j w) (going : is_over j ≡ false) (deeps : DeepWorld j w) (x : OwingWorld source j w) (p t n : ℕ) (s : State) (asked : Asked) (d : AsksIn source opts j w p t n s asked) where
+module _ (part : ℕ → Part) (source : Source) (entered : EnteredSource source) (inner : InnerSource part source) (steps : LawSteps) (freeing : LawFree) (drawing : LawDrawn) (input : List ℕ) (opts : Options) (range : InRange opts) where
+  module _ {j : Journal} {w : World} (r : RunRests source input opts j w) (going : is_over j ≡ false) (deeps : DeepWorld j w) (x : OwingWorld source j w) (z : StandingWorld part source j w) (p t n : ℕ) (s : State) (asked : Asked) (d : AsksIn source opts j w p t n s asked) where
     sound : Sound j
     sound = (good_whole opts source.sites input r.kernel).sound
 
@@ -255,21 +294,33 @@ module _ (source : Source) (entered : EnteredSource source) (steps : LawSteps) (
         let y = suits mine.request mine.form mine.rests in
         steps.told source mine.request d.given (drawn j w t) y.0 y.1
 
-    module _ (fair : RideFair source _ _ s n asked d.rides) where
-      owes : RideOwes source entered steps (deep_in (answered source d.given (drawn j w t))) asked.request s
-      owes = ride_owes source entered steps (deep_in (answered source d.given (drawn j w t))) _ _ s n asked d.rides fair start refl
+    module _ (fair : RideAlone source _ _ s n asked d.rides) where
+      owes : RideOwes part source entered inner steps (own_object t j) (deep_in (answered source d.given (drawn j w t))) asked.request s
+      owes =
+          ride_owes part source entered inner steps (own_object t j) (deep_in (answered source d.given (drawn j w t))) _ _ s n asked d.rides fair start (standing_start part source inner input opts range r going deeps z p t n s asked d) refl
 
-      lets_go : LetsGoInHand (keys s.env.hand) asked.request
-      lets_go = by asked.request owes.lets
+      asks_in_hand : AsksInHand (own_object t j) (keys s.env.hand) asked.request
+      asks_in_hand = by asked.request owes.asks
         where
           same : (o : ℕ) → has (deep_in (answered source d.given (drawn j w t))) o ≡ true → has (keys s.env.hand) o ≡ true
           same o h = sym (deep_in_hand source input opts range r going deeps p t n s asked d o) ∙ h
 
-          by : (q : Request) → LetsGoInHand (deep_in (answered source d.given (drawn j w t))) q → LetsGoInHand (keys s.env.hand) q
+          either_in : (o : ℕ) → (has (deep_in (answered source d.given (drawn j w t))) o ≡ true) ⊎ (is_some (find o s.env.hand) ≡ true) → has (keys s.env.hand) o ≡ true
+          either_in o (inl h) = same o h
+          either_in o (inr h) = found_has o s.env.hand h
+
+          by : (q : Request) → AsksAt (own_object t j) (deep_in (answered source d.given (drawn j w t))) s q → AsksInHand (own_object t j) (keys s.env.hand) q
           by (ask.Made o) h = same o h
           by (ask.Spawn o) h = same o h
           by (ask.Leave o failed) h = same o h
           by (ask.Gone o) h = same o h
+          by (ask.Accept o site mask) h = same o h
+          by (ask.Wait o c k) h = same o h
+          by (ask.SignalBlock o c) h = same o h
+          by (ask.Signal o c) h = either_in o h
+          by (ask.Empty o c) h = either_in o h
+          by (ask.Front o c) h = either_in o h
+          by ask.End h = same (own_object t j) h
           by q h = tt
 
       hand : keys s.env.hand ≡ held t j
@@ -278,7 +329,7 @@ module _ (source : Source) (entered : EnteredSource source) (steps : LawSteps) (
       in_hand : (o : ℕ) → has (keys s.env.hand) o ≡ has (inside o j) t
       in_hand o = ap (λ l. has l o) hand ∙ (law_held j).inside t o
 
-      module _ (extra : AskFair source (own_object t j) asked.request s) (f : Fits opts source.sites j t asked.request) (on : is_over (j ++ act opts source.sites input j p t n asked) ≡ false) where
+      module _ (extra : AskAlone (own_object t j) asked.request s) (f : Fits opts source.sites j t asked.request) (on : is_over (j ++ act opts source.sites input j p t n asked) ≡ false) where
         abbrev a : List Entry
         a = act opts source.sites input j p t n asked
 
@@ -301,16 +352,16 @@ module _ (source : Source) (entered : EnteredSource source) (steps : LawSteps) (
         insiders = subst (λ l. Insiders t (GoesOut t j asked.request) j (j ++ l)) (sym is) (row_insiders opts source.sites input j p t (cost n asked.line) asked.line asked.request)
 
         engaged_hand : EngagedHand source s.env.hand
-        engaged_hand = by asked.request refl owes.state extra
+        engaged_hand = by asked.request refl owes.state
           where
-            by : (q : Request) → asked.request ≡ q → DeepAsk source q s → AskFair source (own_object t j) q s → EngagedHand source s.env.hand
-            by (ask.Call o c) e h g = h.env.hand
-            by (ask.Make c) e h g = h.1.env.hand
-            by ask.Slice e h g = h.env.hand
-            by ask.End e h g = g.0
-            by (ask.Fault k) e h g =
+            by : (q : Request) → asked.request ≡ q → DeepAsk source q s → EngagedHand source s.env.hand
+            by (ask.Call o c) e h = h.env.hand
+            by (ask.Make c) e h = h.1.env.hand
+            by ask.Slice e h = h.env.hand
+            by ask.End e h = h.hand
+            by (ask.Fault k) e h =
                 no_both (is_over (j ++ a)) (ap (λ l. is_over (j ++ l)) (is ∙ ap (row opts source.sites input j p t (cost n asked.line) asked.line) e) ∙ over_by j _ refl) on
-            by q e h g = h.deep.env.hand
+            by q e h = h.deep.env.hand
 
         homes_by : (P : Option Members → Type 0) (o : ℕ) → (takes_out a o ≡ true → P None) → (takes_out a o ≡ false → P (or_else (find o s.env.hand) (w.homes o))) → P (after.homes o)
         homes_by P o h k = by (takes_out a o) refl
@@ -339,7 +390,7 @@ module _ (source : Source) (entered : EnteredSource source) (steps : LawSteps) (
         gone_out o (ask.Wait v c k) e g u h = out_free o h (ap (λ k. is_held_up k s.env) (sym g) ∙ u)
         gone_out o (ask.Accept v c k) e g u h = out_free o h (ap (λ k. is_held_up k s.env) (sym g) ∙ u)
         gone_out o (ask.SignalBlock v c) e g u h = out_free o h (ap (λ k. is_held_up k s.env) (sym g) ∙ u)
-        gone_out o ask.End e g u h = out_free o h (ap (λ k. is_held_up k s.env) (sym g) ∙ (subst (λ q. AskFair source (own_object t j) q s) e extra).1)
+        gone_out o ask.End e g u h = out_free o h (ap (λ k. is_held_up k s.env) (sym g) ∙ subst (λ q. AskAlone (own_object t j) q s) e extra)
         gone_out o (ask.Gone v) e g u h =
             let out : takes_out a o ≡ true = ap (λ l. takes_out l o) (is ∙ ap (row opts source.sites input j p t (cost n asked.line) asked.line) e) ∙ ap (λ b. b || false) (eq-eqb o v (sym g)) in
             homes_by (FreeMembers source) o (λ k. tt) (λ k. no_both (takes_out a o) out k)
@@ -486,6 +537,9 @@ module _ (source : Source) (entered : EnteredSource source) (steps : LawSteps) (
                 subst (λ v. OwingTask source (j ++ a) v (with_hand (hand_of (held v (j ++ a)) after.homes) s)) (sym (eqb-true u t h)) (own_after (ap (λ v. has_ended v (j ++ a)) (sym (eqb-true u t h)) ∙ alive))
             by false h = other h (spawns a u) refl
 
+        pub standing_behind : StandingWorld part source (j ++ act opts source.sites input j p t n asked) (world_after source (act opts source.sites input j p t n asked) w t s)
+        standing_behind = standing_act part source inner input opts range r going deeps z p t n s asked d owes.stands owes.unheld extra f on
+
         pub owing_act : OwingWorld source (j ++ act opts source.sites input j p t n asked) (world_after source (act opts source.sites input j p t n asked) w t s)
         owing_act = record { tasks = tasks_after; engaged = engaged_after; free = free_after }
 
@@ -506,10 +560,18 @@ module _ (source : Source) (entered : EnteredSource source) (steps : LawSteps) (
         free = λ o h. x.free o (sym (door_silent o j (dispatch p t) refl).inside ∙ h);
       }
 
-  owing_may : {j : Journal} {w : World} {a : List Entry} {v : World} → RunRests source input opts j w → is_over j ≡ false → DeepWorld j w → OwingWorld source j w → (m : May source opts input j w a v) → MayFit source opts input j w a v m → MayFair source opts input j w a v m → is_over (j ++ a) ≡ false → OwingWorld source (j ++ a) v
-  owing_may r o e x (gives p t s le) f g on = owing_given p t r s x
-  owing_may {j} r o e x (no_room p t s le) f g on = no_both (is_over (j ++ lone_limit ∷ [])) (over_limit j 0 0) on
-  owing_may r o e x (acts p t n s asked d) f g on = owing_act r o e x p t n s asked d g.0 g.1 f on
+  -- both go on to hold
+  record Both (j : Journal) (w : World) : Type 0 where
+    owing : OwingWorld source j w
+    standing : StandingWorld part source j w
+
+  both_may : {j : Journal} {w : World} {a : List Entry} {v : World} → RunRests source input opts j w → is_over j ≡ false → DeepWorld j w → Both j w → (m : May source opts input j w a v) → MayFit source opts input j w a v m → MayAlone source opts input j w a v m → is_over (j ++ a) ≡ false → Both (j ++ a) v
+  both_may r o e x (gives p t s le) f g on = record { owing = owing_given p t r s x.owing; standing = standing_given part source inner input opts range p t r s x.standing }
+  both_may {j} r o e x (no_room p t s le) f g on = no_both (is_over (j ++ lone_limit ∷ [])) (over_limit j 0 0) on
+  both_may r o e x (acts p t n s asked d) f g on = record {
+    owing = owing_act r o e x.owing x.standing p t n s asked d g.0 g.1 f on;
+    standing = standing_behind r o e x.owing x.standing p t n s asked d g.0 g.1 f on;
+  }
 
   -- a run begins with task 0 in object 0
 
@@ -531,15 +593,16 @@ module _ (source : Source) (entered : EnteredSource source) (steps : LawSteps) (
     free = λ o h. either (FreeMembers source) (o == 0) (Some (quiet.zeros 0)) None free_none tt;
   }
 
-  owing_run : {j : Journal} {w : World} → (r : Runs source input opts j w) → RunFits source input opts j w r → RunFair source input opts j w r → is_over j ≡ false → OwingWorld source j w
-  owing_run begun f g on = owing_begin
-  owing_run (more r o m) f g on =
-      owing_may (run_rests source input opts range r f.0 o) o (deep_run source input opts range r f.0 o) (owing_run r f.0 g.0 o) m f.1 g.1 on
+  both_run : {j : Journal} {w : World} → (r : Runs source input opts j w) → RunFits source input opts j w r → RunAlone source input opts j w r → is_over j ≡ false → Both j w
+  both_run begun f g on = record { owing = owing_begin; standing = standing_begin part source inner input opts range }
+  both_run (more r o m) f g on =
+      both_may (run_rests source input opts range r f.0 o) o (deep_run source input opts range r f.0 o) (both_run r f.0 g.0 o) m f.1 g.1 on
 
-  pub lets_go_in_run : {j : Journal} {w : World} → (r : Runs source input opts j w) → RunFits source input opts j w r → RunFair source input opts j w r → is_over j ≡ false → (p t n : ℕ) (s : State) (asked : Asked) (d : AsksIn source opts j w p t n s asked) → RideFair source _ _ s n asked d.rides → LetsGoInHand (keys s.env.hand) asked.request
-  lets_go_in_run r f g on p t n s asked d fair =
-      lets_go (run_rests source input opts range r f on) on (deep_run source input opts range r f on) (owing_run r f g on) p t n s asked d fair
+  pub in_hand_in_run : {j : Journal} {w : World} → (r : Runs source input opts j w) → RunFits source input opts j w r → RunAlone source input opts j w r → is_over j ≡ false → (p t n : ℕ) (s : State) (asked : Asked) (d : AsksIn source opts j w p t n s asked) → RideAlone source _ _ s n asked d.rides → AsksInHand (own_object t j) (keys s.env.hand) asked.request
+  in_hand_in_run r f g on p t n s asked d alone =
+      let x = both_run r f g on in
+      asks_in_hand (run_rests source input opts range r f on) on (deep_run source input opts range r f on) x.owing x.standing p t n s asked d alone
 
-pub law_lets_go : LawLetsGo
-law_lets_go source entered input opts j w r range f g on p t n s asked d fair =
-    lets_go_in_run source entered law_steps law_free law_drawn input opts range r f g on p t n s asked d fair
+pub law_in_hand : LawInHand
+law_in_hand part source entered inner input opts j w r range f g on p t n s asked d alone =
+    in_hand_in_run part source entered inner law_steps law_free law_drawn input opts range r f g on p t n s asked d alone

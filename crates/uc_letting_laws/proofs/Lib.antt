@@ -1,2 +1,4 @@
 pub mod Insiders
+pub mod Owners
+pub mod StandingWorlds
 pub mod LettingWorlds

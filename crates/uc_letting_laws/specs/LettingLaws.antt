@@ -1,11 +1,11 @@
--- That a task lets go of nothing but what it has in hand, as long as each step finds what it is to find.
+-- That a task has in hand what it lets go of, waits for, accepts and signals in, as long as nothing else is owed to what it lets go of.
 use Rattle.std.specs.Prelude.{◌≡◌, ℕ, true, false, List}
 use Rattle.uc_tree.specs.Source.{Source}
 use Rattle.uc_entry.specs.declared.entry.Options.{Options}
 use Rattle.uc_entry.specs.declared.request.Asked.{Asked}
 use Rattle.uc_entry.specs.declared.request.Request.{Request}
 use Rattle.uc_entry.specs.declared.request.Request.TheVariants as ask
-use Rattle.uc_acts.specs.Journal.{Journal, is_over}
+use Rattle.uc_acts.specs.Journal.{Journal, own_object, is_over}
 use Rattle.uc_acts.specs.Known.{has}
 use Rattle.uc_acts.specs.KernelRuns.{InRange}
 use Rattle.uc_machine.specs.Quiet.{State}
@@ -13,22 +13,32 @@ use Rattle.uc_meaning.specs.Runs.{World, Runs, AsksIn}
 use Rattle.uc_step_laws.specs.Hands.{keys}
 use Rattle.uc_program_laws.specs.Fitting.{RunFits}
 use Rattle.uc_depth_laws.specs.Entering.{EnteredSource}
-use Rattle.uc_letting_laws.specs.Fair.{RideFair, RunFair}
+use Rattle.uc_inner_laws.specs.Inner.{Part, InnerSource}
+use Rattle.uc_letting_laws.specs.AloneRuns.{RideAlone, RunAlone}
 
--- what a task lets go of is in its hand
-abbrev pub LetsGoInHand : List ℕ → Request → Type 0
-LetsGoInHand hand (ask.Made o) = has hand o ≡ true
-LetsGoInHand hand (ask.Spawn o) = has hand o ≡ true
-LetsGoInHand hand (ask.Leave o failed) = has hand o ≡ true
-LetsGoInHand hand (ask.Gone o) = has hand o ≡ true
-LetsGoInHand hand r = Unit {0}
+-- all objects of which a task with this own object asks something, but those that it calls and at which it raises an event, are in hand
+abbrev pub AsksInHand : ℕ → List ℕ → Request → Type 0
+AsksInHand own hand (ask.Made o) = has hand o ≡ true
+AsksInHand own hand (ask.Spawn o) = has hand o ≡ true
+AsksInHand own hand (ask.Leave o failed) = has hand o ≡ true
+AsksInHand own hand (ask.Gone o) = has hand o ≡ true
+AsksInHand own hand (ask.Accept o site mask) = has hand o ≡ true
+AsksInHand own hand (ask.Wait o c n) = has hand o ≡ true
+AsksInHand own hand (ask.Signal o c) = has hand o ≡ true
+AsksInHand own hand (ask.SignalBlock o c) = has hand o ≡ true
+AsksInHand own hand (ask.Empty o c) = has hand o ≡ true
+AsksInHand own hand (ask.Front o c) = has hand o ≡ true
+AsksInHand own hand ask.End = has hand own ≡ true
+AsksInHand own hand r = Unit {0}
 
--- so it is in a run in which all that was asked so far fits, where objects are entered by their calls, as long as each step finds what it is
--- to find
-abbrev pub LawLetsGo : Type 0
-LawLetsGo =
+-- so it is in a run in which all that was asked so far fits, where objects are entered by their calls and code waits, signals and accepts
+-- only where its task is inside, as long as nothing else is owed to what is let go of
+abbrev pub LawInHand : Type 0
+LawInHand =
+    (part : ℕ → Part)
     (source : Source)
     → EnteredSource source
+    → InnerSource part source
     → (input : List ℕ)
     (opts : Options)
     (j : Journal)
@@ -36,11 +46,11 @@ LawLetsGo =
     (r : Runs source input opts j w)
     → InRange opts
     → RunFits source input opts j w r
-    → RunFair source input opts j w r
+    → RunAlone source input opts j w r
     → is_over j ≡ false
     → (p t n : ℕ)
     (s : State)
     (asked : Asked)
     (d : AsksIn source opts j w p t n s asked)
-    → RideFair source _ _ s n asked d.rides
-    → LetsGoInHand (keys s.env.hand) asked.request
+    → RideAlone source _ _ s n asked d.rides
+    → AsksInHand (own_object t j) (keys s.env.hand) asked.request

@@ -1,2 +1,2 @@
-pub mod Fair
+pub mod AloneRuns
 pub mod LettingLaws

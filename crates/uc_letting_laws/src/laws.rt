@@ -1,10 +1,11 @@
 // The laws: each is a function whose contract is the law.
 
-ghost use Rattle.uc_letting_laws.specs.LettingLaws.{LawLetsGo};
+ghost use Rattle.uc_letting_laws.specs.LettingLaws.{LawInHand};
 
-/// In a run of a source in which objects are entered by their calls, as long as all that was asked
-/// before fits and each step finds what it is to find, a task has in hand what it lets go of: what it
-/// leaves at the end of a call, what it has built, what it spawns, and what it takes out.
-pub fn law_lets_go()
-    ensures { LawLetsGo }
+/// In a run of a source in which objects are entered by their calls and code waits, signals and
+/// accepts only where its task is inside, a task has in hand all objects of which it asks something,
+/// but those that it calls and at which it raises an event: as long as all that was asked before fits,
+/// and nothing else is owed to an object that is let go of however deep its task is.
+pub fn law_in_hand()
+    ensures { LawInHand }
 {}

@@ -39,6 +39,7 @@ use Rattle.uc_code.specs.declared.rows.HandlerRow.{HandlerRow}
 use Rattle.uc_code.specs.OpenRows.{AreEnded}
 use Rattle.uc_lower_stmt.specs.RowFit.{RoutineRows}
 use Rattle.uc_lower.specs.RowRanges.{HasRows}
+use Rattle.uc_lower_stmt.specs.SourceRows.{routine_rows, routines_rows, source_rows}
 
 -- a routine that was found is that of the program
 
@@ -147,12 +148,12 @@ stands_none p all d h = record { lays = h; texts = no_texts (routines_of p); few
     no_sites (x ∷ xs) = refl
 
 pub stands_next : (p : Program) (all i texts sites : ℕ) (x : Defined) (old new : Draft) → length (routines_of p) ≤ all → slice_get (routines_of p) i ≡ Some x → Stands p all i texts sites old
-    → Kept (laid_in old) (laid_in new) → RoutineRows old new → length new.ops ≤ length old.ops + routine_room p x
+    → Kept (laid_in old) (laid_in new) → length new.rows ≡ length old.rows + routine_rows (routine_meant p x.routine (routine_scope p x.routine (place_by p x) i texts sites)) → RoutineRows old new → length new.ops ≤ length old.ops + routine_room p x
     → RoutineAt (laid_in new) (last_of (routines_of p)) i (routine_meant p x.routine (routine_scope p x.routine (place_by p x) i texts sites)) (record { entry = length old.ops; cells = frame_cells p x.routine; params = length x.routine.sig.params; written = true }) (length old.ops) (length new.ops)
     → new.routines ≡ slice_set old.routines i (record { entry = length old.ops; cells = frame_cells p x.routine; params = length x.routine.sig.params; written = true }) → new.marks ≡ []
     → new.texts ≡ texts + length (gathered_all own_texts x.routine.body) → new.texts ≤ texts + stmts_size x.routine.body → new.sites ≡ sites + length (gathered_all (own_sites None 0) x.routine.body)
     → Stands p all (i + 1) new.texts new.sites new
-stands_next p all i texts sites x old new enough at h k rr r c w marks te tf se =
+stands_next p all i texts sites x old new enough at h k more rr r c w marks te tf se =
     let split : take (i + 1) (routines_of p) ≡ take i (routines_of p) ++ x ∷ [] = taken_more (routines_of p) i x at in
     let t : defined_texts (take (i + 1) (routines_of p)) ≡ defined_texts (take i (routines_of p)) + length (gathered_all own_texts x.routine.body) = ap defined_texts split ∙ texts_push (take i (routines_of p)) x in
     let s : owns (take (i + 1) (routines_of p)) ≡ owns (take i (routines_of p)) + (1 + own_size x.routine) = ap owns split ∙ owns_push (take i (routines_of p)) x in
@@ -163,7 +164,7 @@ stands_next p all i texts sites x old new enough at h k rr r c w marks te tf se 
     let hf = h.few in
     let hs = h.sites in
     record {
-      lays = lays_step p (routines_of p) all i texts sites x old new at (omega (arith, there, enough)) h.lays h.texts h.sites k rr r c w marks;
+      lays = lays_step p (routines_of p) all i texts sites x old new at (omega (arith, there, enough)) h.lays h.texts h.sites k more rr r c w marks;
       texts = te ∙ ap (λ (n : ℕ). n + length (gathered_all own_texts x.routine.body)) ht ∙ sym t;
       few = omega (arith, s, hf, tf);
       sites = omega (arith, se, hs, u, alike);
@@ -207,6 +208,12 @@ whole_few p all count new sites texts classes code none n h ce =
     let room = h.room in
     let fit = rooms_fit p none in
     omega (arith, co, us, room, fit)
+
+-- there are as many rows as the source tree says
+pub whole_count : (p : Program) (all count : ℕ) (new : Draft) (sites : List Site) (texts : List (List ℕ)) (classes : List ℕ) (code : Code) → count ≡ length (unwritten_of p) → LaysAll p (routines_of p) (unwritten_of p) all count new
+    → code ≡ record { ops = new.ops; rows = new.rows; sites = sites; texts = texts; routines = new.routines; classes = classes } → length code.rows ≡ source_rows (source_of p)
+whole_count p all count new sites texts classes code n h ce =
+    ap (λ (x : Code). length x.rows) ce ∙ h.rows ∙ ap (λ (us : List Unwritten). routines_rows (routines_meant p (routines_of p) 0 0 0 ++ all_unwritten p us)) (take_all count (unwritten_of p) (omega (arith, n)))
 
 -- each row lies among the ops
 

@@ -30,6 +30,7 @@ use Rattle.uc_lower.specs.RoutineLayout.{BeginBefore, Lays, LaysAll, defined_sit
 use Rattle.uc_code.specs.declared.rows.HandlerRow.{HandlerRow}
 use Rattle.uc_code.specs.RowGrowth.{BeginBy}
 use Rattle.uc_lower_stmt.specs.RowFit.{RoutineRows}
+use Rattle.uc_lower_stmt.specs.SourceRows.{routine_rows, routines_rows}
 
 -- the statements of a routine and its end
 body_stable : (q : source.Purpose) (n line : ℕ) (ss : source.Stmts) → Stable (λ code. BodyAt code q n line ss)
@@ -79,7 +80,14 @@ snoc code l n (q ∷ rs) (d ∷ cs) r c a m z h g =
 pub placed_at : (p : Program) (r : Routine) (last number texts sites : ℕ) (row : RoutineCode) (old new : Draft) (o q : Option ℕ) → o ≡ q → RoutineAt (laid_in new) last number (routine_meant p r (routine_scope p r o number texts sites)) row (length old.ops) (length new.ops) → RoutineAt (laid_in new) last number (routine_meant p r (routine_scope p r q number texts sites)) row (length old.ops) (length new.ops)
 placed_at p r last number texts sites row old new o q e h = subst (λ (x : Option ℕ). RoutineAt (laid_in new) last number (routine_meant p r (routine_scope p r x number texts sites)) row (length old.ops) (length new.ops)) e h
 
+pub counted_at : (p : Program) (r : Routine) (number texts sites : ℕ) (old new : Draft) (o q : Option ℕ) → o ≡ q → length new.rows ≡ length old.rows + routine_rows (routine_meant p r (routine_scope p r o number texts sites)) → length new.rows ≡ length old.rows + routine_rows (routine_meant p r (routine_scope p r q number texts sites))
+counted_at p r number texts sites old new o q e h = subst (λ (x : Option ℕ). length new.rows ≡ length old.rows + routine_rows (routine_meant p r (routine_scope p r x number texts sites))) e h
+
 -- all routines but the last, and the last
+
+rows_push : (rs : List source.Routine) (r : source.Routine) → routines_rows (rs ++ r ∷ []) ≡ routines_rows rs + routine_rows r
+rows_push [] r = omega arith
+rows_push (q ∷ rs) r = let h = rows_push rs r in omega (arith, h)
 
 meant_push : (p : Program) (xs : List Defined) (x : Defined) (n t s : ℕ) → routines_meant p (xs ++ x ∷ []) n t s ≡ routines_meant p xs n t s ++ routine_meant p x.routine (routine_scope p x.routine (place_by p x) (n + length xs) (t + defined_texts xs) (s + defined_sites xs)) ∷ []
 meant_push p [] x n t s =
@@ -181,13 +189,13 @@ begins old new up few b rr = by_ops (length new.ops) refl
     by_ops (suc k) e = begin_before (length new.ops) k new.rows (omega arith) (rr.begin k (omega arith) (begin_by (length old.ops) k old.rows (omega arith) b))
 
 pub lays_none : (p : Program) (ds : List Defined) (all : ℕ) (d : Draft) → d.ops ≡ [] → d.rows ≡ [] → d.marks ≡ [] → length d.routines ≡ all → Lays p ds all 0 d
-lays_none p ds all d e b f g = record { code = record { end = ap (λ l. length l) e }; few = (let n : length d.rows ≡ 0 = ap (λ l. length l) b in omega arith); begin = subst (BeginBefore (length d.ops)) (sym b) tt; room = let l : length d.ops ≡ 0 = ap (λ l. length l) e in omega arith; outside = f; table = g }
+lays_none p ds all d e b f g = record { code = record { end = ap (λ l. length l) e }; rows = ap (λ l. length l) b; few = (let n : length d.rows ≡ 0 = ap (λ l. length l) b in omega arith); begin = subst (BeginBefore (length d.ops)) (sym b) tt; room = let l : length d.ops ≡ 0 = ap (λ l. length l) e in omega arith; outside = f; table = g }
 
 pub lays_step : (p : Program) (ds : List Defined) (all i texts sites : ℕ) (x : Defined) (old new : Draft) → slice_get ds i ≡ Some x → i < all → Lays p ds all i old → texts ≡ defined_texts (take i ds) → sites ≡ defined_sites (take i ds)
-    → Kept (laid_in old) (laid_in new) → RoutineRows old new → length new.ops ≤ length old.ops + routine_room p x
+    → Kept (laid_in old) (laid_in new) → length new.rows ≡ length old.rows + routine_rows (routine_meant p x.routine (routine_scope p x.routine (place_by p x) i texts sites)) → RoutineRows old new → length new.ops ≤ length old.ops + routine_room p x
     → RoutineAt (laid_in new) (last_of ds) i (routine_meant p x.routine (routine_scope p x.routine (place_by p x) i texts sites)) (record { entry = length old.ops; cells = frame_cells p x.routine; params = length x.routine.sig.params; written = true }) (length old.ops) (length new.ops)
     → new.routines ≡ slice_set old.routines i (record { entry = length old.ops; cells = frame_cells p x.routine; params = length x.routine.sig.params; written = true }) → new.marks ≡ [] → Lays p ds all (i + 1) new
-lays_step p ds all i texts sites x old new at known h te se k rr r c w marks =
+lays_step p ds all i texts sites x old new at known h te se k more rr r c w marks =
     let row : RoutineCode = record { entry = length old.ops; cells = frame_cells p x.routine; params = length x.routine.sig.params; written = true } in
     let xs : List Defined = take i ds in
     let split : xs ++ x ∷ [] ≡ take (i + 1) ds = sym (taken_more ds i x at) in
@@ -214,6 +222,12 @@ lays_step p ds all i texts sites x old new at known h te se k rr r c w marks =
     let room = h.room in
     record {
       code = subst (λ (l : List RoutineCode). RoutinesAt (laid_in new) (last_of ds) 0 (routines_meant p (take (i + 1) ds) 0 0 0) l 0 (length new.ops)) codes (subst (λ (l : List source.Routine). RoutinesAt (laid_in new) (last_of ds) 0 l (take i old.routines ++ row ∷ []) 0 (length new.ops)) sources all_at);
+      rows =
+          let before = h.rows in
+          let own : routine_rows (routine_meant p x.routine (routine_scope p x.routine (place_by p x) i texts sites)) ≡ routine_rows meant = ap routine_rows same in
+          let last = rows_push (routines_meant p xs 0 0 0) meant in
+          let all_rows : routines_rows (routines_meant p xs 0 0 0 ++ meant ∷ []) ≡ routines_rows (routines_meant p (take (i + 1) ds) 0 0 0) = ap routines_rows sources in
+          omega (arith, before, more, own, last, all_rows);
       few = (let x = h.few in let y = rr.few in omega arith);
       begin = begins old new k.longer (let x = h.few in let y = rr.few in omega arith) h.begin rr;
       room = omega (arith, size, room, r);
@@ -255,6 +269,7 @@ all_none p ds us all count d c h =
     let more : count ≡ length ds + 0 = omega (arith, c) in
     record {
       code = subst (λ (rs : List source.Routine). RoutinesAt (laid_in d) (last_of ds) 0 rs (take (length ds + 0) d.routines) 0 (length d.ops)) (sym (append-nil (routines_meant p ds 0 0 0))) (subst (λ n. RoutinesAt (laid_in d) (last_of ds) 0 (routines_meant p ds 0 0 0) (take n d.routines) 0 (length d.ops)) more (subst (λ (xs : List Defined). RoutinesAt (laid_in d) (last_of ds) 0 (routines_meant p xs 0 0 0) (take count d.routines) 0 (length d.ops)) whole h.code));
+      rows = h.rows ∙ ap (λ (xs : List Defined). routines_rows (routines_meant p xs 0 0 0)) whole ∙ ap routines_rows (sym (append-nil (routines_meant p ds 0 0 0)));
       few = h.few;
       begin = h.begin;
       room = let r = h.room in let e = ap (written_room p) whole in omega (arith, r, e);
@@ -267,10 +282,10 @@ all_none p ds us all count d c h =
     whole_list (x ∷ xs) = ap (λ l. x ∷ l) (whole_list xs)
 
 pub all_step : (p : Program) (ds : List Defined) (us : List Unwritten) (all i : ℕ) (u : Unwritten) (old new : Draft) → slice_get us i ≡ Some u → length ds + i < all → LaysAll p ds us all i old
-    → Kept (laid_in old) (laid_in new) → RoutineRows old new → length new.ops ≤ length old.ops + own_room p u
+    → Kept (laid_in old) (laid_in new) → length new.rows ≡ length old.rows + routine_rows (unwritten_meant p u) → RoutineRows old new → length new.ops ≤ length old.ops + own_room p u
     → RoutineAt (laid_in new) (last_of ds) (length ds + i) (unwritten_meant p u) (record { entry = length old.ops; cells = 0; params = 0; written = false }) (length old.ops) (length new.ops)
     → new.routines ≡ slice_set old.routines (length ds + i) (record { entry = length old.ops; cells = 0; params = 0; written = false }) → new.marks ≡ [] → LaysAll p ds us all (i + 1) new
-all_step p ds us all i u old new at known h k rr r c w marks =
+all_step p ds us all i u old new at known h k more rr r c w marks =
     let row : RoutineCode = record { entry = length old.ops; cells = 0; params = 0; written = false } in
     let n : ℕ = length ds + i in
     let t = taken_next us i u at in
@@ -287,6 +302,11 @@ all_step p ds us all i u old new at known h k rr r c w marks =
     let room = h.room in
     record {
       code = subst (λ (l : List RoutineCode). RoutinesAt (laid_in new) (last_of ds) 0 (routines_meant p ds 0 0 0 ++ all_unwritten p (take (i + 1) us)) l 0 (length new.ops)) codes (subst (λ (l : List source.Routine). RoutinesAt (laid_in new) (last_of ds) 0 l (take n old.routines ++ row ∷ []) 0 (length new.ops)) sources all_at);
+      rows =
+          let before = h.rows in
+          let last = rows_push rs (unwritten_meant p u) in
+          let all_rows : routines_rows (rs ++ unwritten_meant p u ∷ []) ≡ routines_rows (routines_meant p ds 0 0 0 ++ all_unwritten p (take (i + 1) us)) = ap routines_rows sources in
+          omega (arith, before, more, last, all_rows);
       few = (let x = h.few in let y = rr.few in omega arith);
       begin = begins old new k.longer (let x = h.few in let y = rr.few in omega arith) h.begin rr;
       room = omega (arith, size, room, r);

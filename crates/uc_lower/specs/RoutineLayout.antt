@@ -14,6 +14,7 @@ use Rattle.uc_code.specs.Layout.{laid_in}
 use Rattle.uc_code.specs.Lowered.{RoutinesAt}
 use Rattle.uc_lower_stmt.specs.LowersStatement.{sizes_at}
 use Rattle.uc_lower_class.specs.Bodies.{builder_room, unwritten_room}
+use Rattle.uc_lower_stmt.specs.SourceRows.{routines_rows}
 
 -- how many ops a routine takes at most
 
@@ -59,6 +60,7 @@ BeginBefore ops (r ∷ rs) = (r.entry < ops) × BeginBefore ops rs
 -- a draft in which the first so many of the written routines stand, of so many routines in all
 pub record Lays (p : Program) (ds : List Defined) (all count : ℕ) (d : Draft) : Type 0 where
   pub code : RoutinesAt (laid_in d) (last_of ds) 0 (routines_meant p (take count ds) 0 0 0) (take count d.routines) 0 (length d.ops)
+  pub rows : length d.rows ≡ routines_rows (routines_meant p (take count ds) 0 0 0)
   pub few : length d.rows ≤ length d.ops
   pub begin : BeginBefore (length d.ops) d.rows
   pub room : length d.ops ≤ written_room p (take count ds)
@@ -68,6 +70,7 @@ pub record Lays (p : Program) (ds : List Defined) (all count : ℕ) (d : Draft) 
 -- one in which all written ones stand, and the first so many of those that nobody wrote
 pub record LaysAll (p : Program) (ds : List Defined) (us : List Unwritten) (all count : ℕ) (d : Draft) : Type 0 where
   pub code : RoutinesAt (laid_in d) (last_of ds) 0 (routines_meant p ds 0 0 0 ++ all_unwritten p (take count us)) (take (length ds + count) d.routines) 0 (length d.ops)
+  pub rows : length d.rows ≡ routines_rows (routines_meant p ds 0 0 0 ++ all_unwritten p (take count us))
   pub few : length d.rows ≤ length d.ops
   pub begin : BeginBefore (length d.ops) d.rows
   pub room : length d.ops ≤ written_room p ds + unwritten_rooms p (take count us)

@@ -13,6 +13,7 @@ ghost use Rattle.uc_code.specs.Pace.{IsPaced};
 ghost use Rattle.uc_code.specs.Lowered.{Lowered};
 ghost use Rattle.uc_numbering.specs.Routines.{defined_at};
 ghost use Rattle.uc_implicit.specs.Unwritten.{number_of_class, unwritten_as};
+ghost use Rattle.uc_lower_stmt.specs.SourceRows.{source_rows};
 ghost use Rattle.uc_lower.specs.Refusals.{Fits, FitsAll, IsFirstLarge, Refuses};
 ghost use Rattle.uc_lower.specs.RowRanges.{HasRows};
 
@@ -79,6 +80,7 @@ fn lower_named(
     ensures lowered { IfOk result (λ code. Lowered (source_of checked.now) code) }
     ensures paced { IfOk result (λ code. IsPaced (laid_of code) code.routines) }
     ensures few { IfOk result (λ code. length code.ops ≤ OPS_FOR_SIZE * program_size checked.now) }
+    ensures count { IfOk result (λ code. length code.rows ≡ source_rows (source_of checked.now)) }
     ensures rows { IfOk result (λ code. HasRows code) }
 {
     let mut out = Draft::new(alloc, no_code(alloc, defined.len() + unwritten.len())?);
@@ -117,6 +119,7 @@ fn lower_all(
     ensures lowered { IfOk result (λ code. Lowered (source_of checked.now) code) }
     ensures paced { IfOk result (λ code. IsPaced (laid_of code) code.routines) }
     ensures few { IfOk result (λ code. length code.ops ≤ OPS_FOR_SIZE * program_size checked.now) }
+    ensures count { IfOk result (λ code. length code.rows ≡ source_rows (source_of checked.now)) }
     ensures rows { IfOk result (λ code. HasRows code) }
 {
     let members = members_of_classes(alloc, checked, numbers.len())?;
@@ -150,6 +153,7 @@ fn lower_fit(
     ensures lowered { IfOk result (λ code. Lowered (source_of checked.now) code) }
     ensures paced { IfOk result (λ code. IsPaced (laid_of code) code.routines) }
     ensures few { IfOk result (λ code. length code.ops ≤ OPS_FOR_SIZE * program_size checked.now) }
+    ensures count { IfOk result (λ code. length code.rows ≡ source_rows (source_of checked.now)) }
     ensures rows { IfOk result (λ code. HasRows code) }
 {
     let numbers = numbers_of_classes(alloc, checked.program())?;
@@ -173,6 +177,7 @@ fn lower_defined(
     ensures lowered { IfOk result (λ code. Lowered (source_of checked.now) code) }
     ensures paced { IfOk result (λ code. IsPaced (laid_of code) code.routines) }
     ensures few { IfOk result (λ code. length code.ops ≤ OPS_FOR_SIZE * program_size checked.now) }
+    ensures count { IfOk result (λ code. length code.rows ≡ source_rows (source_of checked.now)) }
     ensures rows { IfOk result (λ code. HasRows code) }
     ensures fits { IfOk result (λ code. Fits checked.now) }
     ensures refused { IfErr result (λ fault. Refuses checked.now fault) }
@@ -191,11 +196,12 @@ fn lower_defined(
 }
 
 /// The code of a program that breaks no rule. Its frames are tested first, then its size. The code has at most `OPS_FOR_SIZE` ops for
-/// each unit of the program's size, and no more rows than ops; each row lies among them.
+/// each unit of the program's size, as many rows as the source tree says, and no more of them than ops; each row lies among them.
 pub fn lower(alloc: Global, checked: &Checked) -> Result<Code, LowerFault>
     ensures lowered { IfOk result (λ code. Lowered (source_of checked.now) code) }
     ensures paced { IfOk result (λ code. IsPaced (laid_of code) code.routines) }
     ensures few { IfOk result (λ code. length code.ops ≤ OPS_FOR_SIZE * program_size checked.now) }
+    ensures count { IfOk result (λ code. length code.rows ≡ source_rows (source_of checked.now)) }
     ensures rows { IfOk result (λ code. HasRows code) }
     ensures fits { IfOk result (λ code. Fits checked.now) }
     ensures refused { IfErr result (λ fault. Refuses checked.now fault) }

@@ -15,6 +15,7 @@ ghost use Rattle.uc_code.specs.Layout.{laid_in};
 ghost use Rattle.uc_code.specs.Lowered.{RoutineAt};
 ghost use Rattle.uc_code.specs.CodeShapes.{Kept};
 ghost use Rattle.uc_numbering.specs.Routines.{defined_at};
+ghost use Rattle.uc_lower_stmt.specs.SourceRows.{routine_rows};
 ghost use Rattle.uc_lower_stmt.specs.RowFit.{RoutineRows};
 ghost use Rattle.uc_lower_stmt.specs.Routines.{frame_cells, main_in};
 ghost use Rattle.uc_implicit.specs.Unwritten.{unwritten_as};
@@ -150,6 +151,12 @@ fn lower_written(
     requires cells { routine_cells names.now one.now.routine.now ≤ FRAME_CELLS }
     requires texts { texts + stmts_size one.now.routine.now.body ≤ PROGRAM_SIZE }
     ensures kept { OnOk result (Kept (laid_in out.old) (laid_in out.new)) }
+    ensures count { OnOk result (length out.new.rows
+        ≡ length out.old.rows
+        + routine_rows
+        (routine_meant names.now one.now.routine.now
+        (routine_scope names.now one.now.routine.now
+        (place_by names.now (defined_at one.now)) number texts sites))) }
     ensures rows { OnOk result (RoutineRows out.old out.new) }
     ensures room { OnOk result (length out.new.ops
         ≤ length out.old.ops + routine_room names.now (defined_at one.now)) }

@@ -1,14 +1,14 @@
 -- What constructors and destructors are made of, put together.
-use Rattle.std.proofs.Common.{◌≡◌, ℕ, ◌+◌, ◌*◌, ◌≤◌, List, [], ◌∷◌, ◌++◌, Bool, Option, Some, None, length, reverse, refl, ap, sym, subst, ◌∙◌, arith}
+use Rattle.std.proofs.Common.{◌≡◌, ℕ, ◌+◌, ◌*◌, ◌≤◌, List, [], ◌∷◌, ◌++◌, Bool, Option, Some, None, length, reverse, refl, ap, sym, subst, ◌∙◌, arith, true, false}
 use Rattle.uc_tree.specs.declared.kinds.Role.{Role}
 use Rattle.uc_tree.specs.declared.kinds.Role.TheVariants as role
 use Rattle.uc_tree.specs.Cells.{declared_cells, stmts_cells}
 use Rattle.uc_tree.specs.Scopes.{stmts_scopes}
 use Rattle.uc_tree.specs.StatementSizes.{stmts_size}
 use Rattle.uc_tree.specs.Programs.{Class, Init, Program, Routine}
-use Rattle.uc_tree.specs.Objects.{class_at}
+use Rattle.uc_tree.specs.Objects.{class_at, has_execution}
 use Rattle.uc_tree.specs.Source.{Expr, Stmt, Stmts, Nil, Then, Built, Whole}
-use Rattle.uc_resolve.specs.Resolve.{Meant, Scope, body_by, build, class_by, clean_up, construction, construction_ends, destruction, nowhere, place_or_zero, scope_behind, stmts_meant, unwritten_body}
+use Rattle.uc_resolve.specs.Resolve.{Meant, Scope, body_by, build, class_by, clean_up, construction, construction_ends, destruction, nowhere, place_or_zero, scope_behind, stmts_meant, unwritten_body, enlivened}
 use Rattle.uc_code.specs.declared.rows.Array.{Array}
 use Rattle.uc_code.specs.declared.rows.Manner.{Manner}
 use Rattle.uc_code.specs.declared.rows.CodeMark.{CodeMark}
@@ -31,12 +31,12 @@ use Rattle.uc_lower_expr.specs.Members.{made_routine}
 use Rattle.uc_lower_stmt.specs.Blocks.{AllStandBehind, EndsScopes}
 use Rattle.uc_lower_stmt.specs.Objects.{array_by, build_room, build_rows, call_by, destroyer_of, ended_by}
 use Rattle.uc_lower_stmt.specs.LowersStatement.{Lowers, scope_of}
-use Rattle.uc_lower_stmt.proofs.Joined.{lowers_adds, lowers_as, lowers_nothing, lowers_put}
-use Rattle.uc_lower_stmt.proofs.Laying.{lays_ended, lays_join, lays_nothing, lays_one}
+use Rattle.uc_lower_stmt.proofs.Joined.{lowers_adds, lowers_as, lowers_nothing, lowers_put, lowers_count}
+use Rattle.uc_lower_stmt.proofs.Laying.{lays_ended, lays_join, lays_nothing, lays_one, block_rows}
 use Rattle.uc_lower_stmt.proofs.Kept.{stmt_stable}
-use Rattle.uc_lower_stmt.proofs.BlocksLemmas.{pending_kept}
+use Rattle.uc_lower_stmt.proofs.BlocksLemmas.{pending_kept, pending_ways}
 use Rattle.uc_lower_stmt.specs.Marked.{closing}
-use Rattle.uc_lower_stmt.specs.OpenScopes.{Pending}
+use Rattle.uc_lower_stmt.specs.OpenScopes.{Pending, block_of, way_rows}
 use Rattle.uc_code.proofs.Stable.{kept_then}
 use Rattle.uc_lower_class.specs.Bodies.{LowersBare, LowersBody, LowersRaised, LowersUnwritten, LowersWhole, built_at, built_room, freed_at, freed_in, left_at, mutex_by, raise_room, raised_body, role_room, unwritten_room, whole_room}
 use Rattle.uc_lower_class.specs.Fields.{PartBehind, all_built, all_left, all_room, left_count, left_room, live_room, mutex_count, own_close, part_room}
@@ -46,8 +46,10 @@ use Rattle.uc_lower_class.proofs.Fielding.{part_fits}
 use Rattle.uc_lower_class.proofs.Living.{mutex_few}
 use Rattle.uc_lower_class.proofs.Parting.{constructs_as, constructs_does, constructs_part, constructs_then}
 use Rattle.uc_lower_class.proofs.Wholes.{arm_built}
-use Rattle.uc_lower_stmt.proofs.Openings.{build_long}
-use Rattle.uc_lower_stmt.proofs.RowFitting.{fit_then}
+use Rattle.uc_lower_stmt.proofs.Openings.{build_long, build_counts}
+use Rattle.uc_lower_stmt.proofs.RowFitting.{fit_then, fit_count}
+use Rattle.uc_lower_stmt.specs.SourceRows.{stmt_rows_under, stmts_rows, stmts_rows_under}
+use Rattle.uc_code.specs.RowCounts.{loop_rows, return_rows}
 
 -- an object that is built, and its part
 
@@ -61,7 +63,7 @@ pub part_built : (p : Program) (m : Made) (n : ℕ) (s : ObjectSpot) (l : Option
 part_built p m n s l place ms what ws us old mid new h f w g e k b =
     let marks : mid.marks ≡ old.marks = ap (λ (d : Draft). d.marks) h.rest in
     let fits : build_room l + (clean_length what + 2) ≤ part_room l = subst (λ (x : Cleaning). build_room l + (clean_length x + 2) ≤ part_room l) (sym w) (part_fits p m s l) in
-    constructs_as (constructs_then (constructs_does (build p 0 (making_of p m) l place ms) ws (build_long p 0 (making_of p m) l place ms (laid_in mid) old.marks (length old.ops) (length mid.ops) h.code) h) (constructs_part (clean_up p (making_of p m) l place) what ws us mid new e f k g (stands_by p m old.marks mid.marks role.Destructor (ended_by p m) s (array_by p m l) what b marks w))) (omega (arith, fits)) (λ ss. refl)
+    constructs_as (constructs_then (constructs_does (build p 0 (making_of p m) l place ms) ws (sym (build_counts p 0 (making_of p m) l place ms (loop_rows old.marks) (return_rows old.marks))) (build_long p 0 (making_of p m) l place ms (laid_in mid) old.marks (length old.ops) (length mid.ops) h.code) h) (constructs_part (clean_up p (making_of p m) l place) what ws us mid new e f k g (stands_by p m old.marks mid.marks role.Destructor (ended_by p m) s (array_by p m l) what b marks w))) (omega (arith, fits)) (λ ss. refl)
 
 -- the fields of a class that may be missing
 
@@ -96,27 +98,38 @@ destructor_body : (p : Program) (place : Option ℕ) (r : Routine) (s : Scope) �
 destructor_body p place r s e =
     left_destruction p place (Then (block_of_body p r s) Nil) ∙ ap (λ (o : Option ℕ). destruction p (class_by p o) (place_or_zero p o) (Then (block_of_body p r s) Nil)) e
 
+-- what makes an execution live has no row
+
+live_none : (p : Program) (b : Bool) (loop out : ℕ) → stmts_rows loop out (enlivened p b) ≡ 0
+live_none p true loop out = refl
+live_none p false loop out = refl
+
+ends_none : (p : Program) (o : Option Class) (i loop out : ℕ) → stmts_rows loop out (construction_ends p o i) ≡ 0
+ends_none p None i loop out = refl
+ends_none p (Some c) i loop out = live_none p (has_execution c.kind) loop out
+
 -- written ones
 
 abbrev low_body : Program → Routine → ℕ → Stmts → Draft → Draft → Type 0
-low_body p r n ss old new = Lowers n (stmts_size r.body) (stmts_cells r.body (declared_cells p)) (stmts_scopes r.body) (λ code. StmtsAt code old.marks 0 ss) (scope_behind p r.body (scope_of old)) old new
+low_body p r n ss old new = Lowers (stmts_rows_under old.marks ss) n (stmts_size r.body) (stmts_cells r.body (declared_cells p)) (stmts_scopes r.body) (λ code. StmtsAt code old.marks 0 ss) (scope_behind p r.body (scope_of old)) old new
 
 -- a block behind drafts of the same scope
-whole_on : (p : Program) (r : Routine) (s : Scope) (old new : Draft) → scope_of old ≡ s → LowersWhole p r old new → Lowers (whole_room r) (stmts_size r.body) (stmts_cells r.body (declared_cells p)) (stmts_scopes r.body) (λ code. StmtAt code old.marks (block_of_body p r s)) (scope_behind p r.body s) old new
+whole_on : (p : Program) (r : Routine) (s : Scope) (old new : Draft) → scope_of old ≡ s → LowersWhole p r old new → Lowers (stmt_rows_under old.marks (block_of_body p r s)) (whole_room r) (stmts_size r.body) (stmts_cells r.body (declared_cells p)) (stmts_scopes r.body) (λ code. StmtAt code old.marks (block_of_body p r s)) (scope_behind p r.body s) old new
 whole_on p r s old new e h =
-    subst (λ (t : Scope). Lowers (whole_room r) (stmts_size r.body) (stmts_cells r.body (declared_cells p)) (stmts_scopes r.body) (λ code. StmtAt code old.marks (block_of_body p r t)) (scope_behind p r.body t) old new) e h
+    subst (λ (t : Scope). Lowers (stmt_rows_under old.marks (block_of_body p r t)) (whole_room r) (stmts_size r.body) (stmts_cells r.body (declared_cells p)) (stmts_scopes r.body) (λ code. StmtAt code old.marks (block_of_body p r t)) (scope_behind p r.body t) old new) e h
 
 pub raised_laid : (p : Program) (place : Option ℕ) (r : Routine) (us : List Cleaning) (d0 d1 d2 d3 new : Draft) → Constructs (built_room p place r) (built_at p place r (scope_of d0)) [] d0 us d1 → LowersWhole p r d1 d2
     → ((ms : List CodeMark) → Adds (live_room (class_by p place)) (λ code. StmtsAt code ms 0 (construction_ends p (class_by p place) (place_or_zero p place))) d2 d3) → EndsParts (reverse us) d3 new → LowersRaised p place r d0 new
 raised_laid p place r us d0 d1 d2 d3 new h w l g =
     let scope : scope_of d1 ≡ scope_of d0 = ap scope_of h.rest in
-    let within : Lowers (whole_room r + live_room (class_by p place)) (stmts_size r.body) (stmts_cells r.body (declared_cells p)) (stmts_scopes r.body) (λ code. StmtsAt code d1.marks 0 (body_within p place r (scope_of d0))) (scope_behind p r.body (scope_of d0)) d1 d3 =
-    lowers_put (stmt_stable d1.marks (block_of_body p r (scope_of d0))) (whole_on p r (scope_of d0) d1 d2 scope w) (l d1.marks) in
+    let none = ends_none p (class_by p place) (place_or_zero p place) (loop_rows d1.marks) (return_rows d1.marks) in
+    let within : Lowers (stmts_rows_under d1.marks (body_within p place r (scope_of d0))) (whole_room r + live_room (class_by p place)) (stmts_size r.body) (stmts_cells r.body (declared_cells p)) (stmts_scopes r.body) (λ code. StmtsAt code d1.marks 0 (body_within p place r (scope_of d0))) (scope_behind p r.body (scope_of d0)) d1 d3 =
+    lowers_count (omega (arith, none)) (lowers_put (stmt_stable d1.marks (block_of_body p r (scope_of d0))) (whole_on p r (scope_of d0) d1 d2 scope w) (l d1.marks)) in
     let all = arm_built (built_room p place r) (whole_room r + live_room (class_by p place)) (stmts_size r.body) (stmts_cells r.body (declared_cells p)) (stmts_scopes r.body) (built_at p place r (scope_of d0)) us (body_within p place r (scope_of d0)) (scope_behind p r.body (scope_of d0)) d0 d1 d3 new h within g in
     lowers_as all refl (λ code x z q. q) (omega arith) (omega arith) (omega arith) refl
 
 -- statements in a scope, which has ended
-scope_around : {n m k c d o : ℕ} {F : Stmts → Stmts} {t : Scope} {d0 d1 d2 new : Draft} → (ss : Stmts) (depth : ℕ) → depth ≡ length d0.marks → LeavesAll n d F d0 d1 → Lowers m k c o (λ code. StmtsAt code d1.marks 0 ss) t d1 d2 → EndsScopes depth d2 new → Lowers (n + m) k c o (λ code. StmtsAt code d0.marks 0 (F ss)) t d0 new
+scope_around : {n m k c d o : ℕ} {F : Stmts → Stmts} {t : Scope} {d0 d1 d2 new : Draft} → (ss : Stmts) (depth : ℕ) → depth ≡ length d0.marks → LeavesAll n d F d0 d1 → Lowers (stmts_rows_under d1.marks ss) m k c o (λ code. StmtsAt code d1.marks 0 ss) t d1 d2 → EndsScopes depth d2 new → Lowers (stmts_rows_under d0.marks (F ss)) (n + m) k c o (λ code. StmtsAt code d0.marks 0 (F ss)) t d0 new
 scope_around {n} {m} {k} {c} {d} {o} {F} {t} {d0} {d1} {d2} {new} ss depth q h w e =
     let marks2 : d2.marks ≡ d1.marks = ap (λ (x : Draft). x.marks) w.rest in
     let before : Pending (laid_in d2) 0 d0.marks (length d0.ops) h.steps d2.marks (length d1.ops) =
@@ -133,7 +146,17 @@ scope_around {n} {m} {k} {c} {d} {o} {F} {t} {d0} {d1} {d2} {new} ss depth q h w
       scope = ap scope_of e.rest ∙ w.scope;
       opened = (let x = h.opened in let y = w.opened in omega arith);
       kept = kept_then (laid_in d0) (laid_in d1) (laid_in new) h.kept (kept_then (laid_in d1) (laid_in d2) (laid_in new) w.kept e.kept);
-      rows = fit_then e.kept.longer (fit_then w.kept.longer h.rows w.rows) e.rows;
+      rows =
+          let loop : ℕ = loop_rows d0.marks in
+          let out : ℕ = return_rows d0.marks in
+          let all = block_rows loop out h.steps ss in
+          let is : stmts_rows loop out (block_of h.steps ss) ≡ stmts_rows loop out (F ss) = ap (stmts_rows loop out) (h.block ss) in
+          let ways = pending_ways (laid_in d1) 0 d0.marks (length d0.ops) h.steps d1.marks (length d1.ops) h.code in
+          let inner : stmts_rows_under d1.marks ss ≡ stmts_rows (way_rows h.steps loop) (way_rows h.steps out) ss =
+          ap (λ (n : ℕ). stmts_rows n (return_rows d1.marks) ss) ways.0 ∙ ap (λ (n : ℕ). stmts_rows (way_rows h.steps loop) n ss) ways.1 in
+          let total = b.rows in
+          let grown = e.rows.more in
+          fit_count (omega (arith, all, is, inner, total, grown)) (fit_then e.kept.longer (fit_then w.kept.longer h.rows w.rows) e.rows);
       room = (let x = h.room in let y = w.room in let z = e.room in omega (arith, ends, same));
       texts = (let x = h.texts in let y = w.texts in omega arith);
       cells = (let x = h.cells in let y = w.cells in omega arith);
@@ -159,7 +182,7 @@ pub constructor_laid : (p : Program) (place : Option ℕ) (r : Routine) (depth :
 constructor_laid p place r depth d0 d1 d2 new e q h w g =
     let few = mutex_few (mutex_by p place) in
     let raised : low_body p r (raise_room p place r) (raised_body p place r (scope_of d0)) d1 d2 =
-    subst (λ (s : Scope). Lowers (raise_room p place r) (stmts_size r.body) (stmts_cells r.body (declared_cells p)) (stmts_scopes r.body) (λ code. StmtsAt code d1.marks 0 (raised_body p place r s)) (scope_behind p r.body (scope_of d1)) d1 d2) h.scope w in
+    subst (λ (s : Scope). Lowers (stmts_rows_under d1.marks (raised_body p place r s)) (raise_room p place r) (stmts_size r.body) (stmts_cells r.body (declared_cells p)) (stmts_scopes r.body) (λ code. StmtsAt code d1.marks 0 (raised_body p place r s)) (scope_behind p r.body (scope_of d1)) d1 d2) h.scope w in
     let all = scope_around (raised_body p place r (scope_of d0)) depth q h raised g in
     let placed : low_body p r (role_room p role.Constructor place r) (body_by p role.Constructor r (scope_of d0)) d0 new =
     subst (λ (ss : Stmts). low_body p r (role_room p role.Constructor place r) ss d0 new) (constructor_body p place r (scope_of d0) e) (lowers_as all (ap (scope_behind p r.body) h.scope) (λ code x z y. y) (omega (arith, few)) (omega arith) (omega arith) refl) in
@@ -176,16 +199,18 @@ destructor_laid p place r depth d0 d1 d2 new e q h w g =
 -- those that nobody wrote
 
 abbrev low_bare : ℕ → Stmts → Draft → Draft → Type 0
-low_bare n ss old new = Lowers n 0 0 0 (λ code. StmtsAt code old.marks 0 ss) (scope_of old) old new
+low_bare n ss old new = Lowers (stmts_rows_under old.marks ss) n 0 0 0 (λ code. StmtsAt code old.marks 0 ss) (scope_of old) old new
 
 pub bare_laid : (p : Program) (i : ℕ) (us : List Cleaning) (d0 d1 d2 new : Draft) → scope_of d0 ≡ nowhere p → Constructs (all_room [] (class_at p i)) (all_built p i [] (scope_of d0) (class_at p i)) [] d0 us d1
     → ((ms : List CodeMark) → Adds (live_room (class_at p i)) (λ code. StmtsAt code ms 0 (construction_ends p (class_at p i) i)) d1 d2) → EndsParts (reverse us) d2 new → LowersBare p i d0 new
 bare_laid p i us d0 d1 d2 new e h l g =
     let ends : Stmts = construction_ends p (class_at p i) i in
-    let within : Lowers (live_room (class_at p i)) 0 0 0 (λ code. StmtsAt code d1.marks 0 (construction_ends p (class_at p i) i)) (scope_of d1) d1 d2 = lowers_adds 0 0 (l d1.marks) in
+    let none = ends_none p (class_at p i) i (loop_rows d1.marks) (return_rows d1.marks) in
+    let within : Lowers (stmts_rows_under d1.marks (construction_ends p (class_at p i) i)) (live_room (class_at p i)) 0 0 0 (λ code. StmtsAt code d1.marks 0 (construction_ends p (class_at p i) i)) (scope_of d1) d1 d2 = lowers_count (sym none) (lowers_adds 0 0 (l d1.marks)) in
     let scope : scope_of d1 ≡ scope_of d0 = ap scope_of h.rest in
     let all = arm_built (all_room [] (class_at p i)) (live_room (class_at p i)) 0 0 0 (all_built p i [] (scope_of d0) (class_at p i)) us ends (scope_of d1) d0 d1 d2 new h within g in
-    lowers_as all scope (λ code x z y. subst (λ (s : Scope). StmtsAt code d0.marks 0 (all_built p i [] s (class_at p i) ends) x z) e y) (omega arith) (omega arith) (omega arith) (omega arith)
+    lowers_count (ap (λ (s : Scope). stmts_rows_under d0.marks (all_built p i [] s (class_at p i) ends)) e) (
+    lowers_as all scope (λ code x z y. subst (λ (s : Scope). StmtsAt code d0.marks 0 (all_built p i [] s (class_at p i) ends) x z) e y) (omega arith) (omega arith) (omega arith) (omega arith))
 
 pub unwritten_built : (p : Program) (i depth : ℕ) (d0 d1 d2 new : Draft) → depth ≡ length d0.marks → FreedAt p (Some i) d0 d1 → LowersBare p i d1 d2 → EndsScopes depth d2 new → LowersUnwritten p role.Constructor i d0 new
 unwritten_built p i depth d0 d1 d2 new q h w g =

@@ -37,9 +37,11 @@ use Rattle.uc_lower_stmt.proofs.Kept.{stmts_stable}
 use Rattle.uc_lower_class.specs.Bodies.{LowersBody, LowersUnwritten, builder_room, role_room, unwritten_room}
 use Rattle.uc_code.specs.RowGrowth.{BeginBy}
 use Rattle.uc_lower_stmt.specs.RowFit.{RoutineRows, open_rows}
+use Rattle.uc_lower_stmt.specs.SourceRows.{body_rows, routine_rows, stmts_rows, stmts_rows_under}
 
 -- a routine with this body is laid out, and written down under its number
 pub record Placed (home number n : ℕ) (body : source.Stmts) (begins : RoutineCode) (old new : Draft) : Type 0 where
+  pub count : length new.rows ≡ length old.rows + stmts_rows 0 0 body
   pub kept : Kept (laid_in old) (laid_in new)
   pub rows : RoutineRows old new
   pub room : length new.ops ≤ length old.ops + (n + 1)
@@ -49,7 +51,7 @@ pub record Placed (home number n : ℕ) (body : source.Stmts) (begins : RoutineC
 
 module _ (home number n k c o : ℕ) (body : source.Stmts) (after : Scope) (begins : RoutineCode) (d0 first d2 d3 d4 new : Draft)
     (fm : first.marks ≡ mark.Body home ∷ []) (fo : first.ops ≡ d0.ops) (fw : first.rows ≡ d0.rows) (fr : first.routines ≡ d0.routines)
-    (h : Lowers n k c o (λ code. StmtsAt code first.marks 0 body) after first d2) (lv : d3 ≡ record d2 { marks = left_marks d2.marks }) (g : Adds 1 (OpCode 0 op.Return) d3 d4)
+    (h : Lowers (stmts_rows_under first.marks body) n k c o (λ code. StmtsAt code first.marks 0 body) after first d2) (lv : d3 ≡ record d2 { marks = left_marks d2.marks }) (g : Adds 1 (OpCode 0 op.Return) d3 d4)
     (e : new ≡ record d4 { routines = slice_set d4.routines number begins }) where
   marks_three : d3.marks ≡ []
   marks_three = ap (λ (d : Draft). d.marks) lv ∙ ap left_marks (ap (λ (d : Draft). d.marks) h.rest ∙ fm)
@@ -90,6 +92,12 @@ module _ (home number n k c o : ℕ) (body : source.Stmts) (after : Scope) (begi
 
   pub arm_placed : Placed home number n body begins d0 new
   arm_placed = record {
+    count =
+        let more = h.rows.more in
+        let inner : stmts_rows_under first.marks body ≡ stmts_rows 0 0 body = ap (λ (ms : List CodeMark). stmts_rows_under ms body) fm in
+        let r1 : length first.rows ≡ length d0.rows = ap length fw in
+        let r2 : length new.rows ≡ length d2.rows = ap length rows_new in
+        omega (arith, more, inner, r1, r2);
     kept = kept_then (laid_in d0) (laid_in d2) (laid_in new) (subst (λ (code : Laid). Kept code (laid_in d2)) laid_first h.kept) kept_two;
     rows = record {
       few =
@@ -161,6 +169,7 @@ builder_purpose p r number c e m =
 
 -- what lowering one does to a draft
 pub record Written (p : Program) (r : Routine) (s : Scope) (class : Option ℕ) (last number : ℕ) (old new : Draft) : Type 0 where
+  pub count : length new.rows ≡ length old.rows + routine_rows (routine_meant p r s)
   pub kept : Kept (laid_in old) (laid_in new)
   pub rows : RoutineRows old new
   pub room : length new.ops ≤ length old.ops + builder_room p r class
@@ -190,9 +199,9 @@ module _ (p : Program) (r : Routine) (wanted : Role) (class : Option ℕ) (last 
   k : LowersBody p r.sig.role r first d2
   k = subst (λ (x : Role). LowersBody p x r first d2) we (subst (λ (d : Draft). LowersBody p wanted r d d2) e1 h)
 
-  low : Lowers (role_room p r.sig.role class r) (stmts_size r.body) (stmts_cells r.body (declared_cells p)) (stmts_scopes r.body) (λ code. StmtsAt code first.marks 0 (body_by p r.sig.role r s)) (scope_behind p r.body (scope_of first)) first d2
+  low : Lowers (stmts_rows_under first.marks (body_by p r.sig.role r s)) (role_room p r.sig.role class r) (stmts_size r.body) (stmts_cells r.body (declared_cells p)) (stmts_scopes r.body) (λ code. StmtsAt code first.marks 0 (body_by p r.sig.role r s)) (scope_behind p r.body (scope_of first)) first d2
   low =
-      subst (λ (t : Scope). Lowers (role_room p r.sig.role class r) (stmts_size r.body) (stmts_cells r.body (declared_cells p)) (stmts_scopes r.body) (λ code. StmtsAt code first.marks 0 (body_by p r.sig.role r t)) (scope_behind p r.body (scope_of first)) first d2) scope_first k
+      subst (λ (t : Scope). Lowers (stmts_rows_under first.marks (body_by p r.sig.role r t)) (role_room p r.sig.role class r) (stmts_size r.body) (stmts_cells r.body (declared_cells p)) (stmts_scopes r.body) (λ code. StmtsAt code first.marks 0 (body_by p r.sig.role r t)) (scope_behind p r.body (scope_of first)) first d2) scope_first k
 
   -- the frame ends behind the last hidden cell
   frame : cells ≡ frame_cells p r
@@ -217,7 +226,9 @@ module _ (p : Program) (r : Routine) (wanted : Role) (class : Option ℕ) (last 
   pub arm_builder : Written p r s class last number d0 new
   arm_builder =
       let purpose = builder_purpose p r number (class_by p class) builds main in
+      let same_rows : body_rows (purpose_of p number (class_by p class) r) (body_by p r.sig.role r s) ≡ stmts_rows 0 0 (body_by p r.sig.role r s) = ap (λ (q : source.Purpose). body_rows q (body_by p r.sig.role r s)) purpose in
       record {
+        count = (let x = placed.count in omega (arith, x, same_rows));
         kept = placed.kept;
         rows = placed.rows;
         room = placed.room;
@@ -254,6 +265,9 @@ module _ (p : Program) (u : Unwritten) (number entry : ℕ) (d0 d1 d2 d3 d4 new 
       arm_placed number number (unwritten_room u.role (class_at p u.class)) 0 0 0 (unwritten_body p u.role u.class) (scope_of bare) (record { entry = length d0.ops; cells = 0; params = 0; written = false }) d0 bare d2 d3 d4 new refl refl refl refl
       (subst (λ (d : Draft). LowersUnwritten p u.role u.class d d2) e1 h) lv g
       (e ∙ ap (λ (n : ℕ). let d : Draft = record d4 { routines = slice_set d4.routines number (record { entry = n; cells = 0; params = 0; written = false }) } in d) ee)
+
+  pub unwritten_count : length new.rows ≡ length d0.rows + routine_rows (unwritten_meant p u)
+  unwritten_count = arm_unwritten.count
 
   pub unwritten_rows : RoutineRows d0 new
   unwritten_rows = arm_unwritten.rows

@@ -144,7 +144,7 @@ module _ (p : Program) (c : Class) (i number : ℕ) (f : ClassField) (v : Field)
       let by_form = subst (λ (b : Bool). Adds n (StartedCode old.marks (field_cells (class_shape p i) number) b (held_by b (shape_as v.told.scalar) m)) old new) (sym h.by_ref) by_cell in
       let by_shape = subst (λ (s : Shape). Adds n (StartedCode old.marks (field_cells (class_shape p i) number) f.declarator.by_ref (held_by f.declarator.by_ref s m)) old new) (sym (told_shape p c i number f v h)) by_form in
       let put = puts_adds (adds_as by_shape (λ code a z w. start_code p f.declarator.by_ref (shape_of f.base) (class_shape p i) number m old.marks code a z w)) in
-      constructs_does (Evaluate 0 (field_start p f.declarator.by_ref (shape_of f.base) place m)) ws (let l = put.kept.longer in omega arith) put
+      constructs_does (Evaluate 0 (field_start p f.declarator.by_ref (shape_of f.base) place m)) ws refl (let l = put.kept.longer in omega arith) put
 
 pub started_none : (p : Program) (i number n : ℕ) (f : ClassField) (ws : List Cleaning) (old : Draft) → Constructs n (started_then p i number f []) ws old ws old
 started_none p i number n f ws old = constructs_as (constructs_nothing ws old) (omega arith) (λ ss. refl)

@@ -39,7 +39,7 @@ pub set_up_on : (p : Program) (b : Bool) (i r : ℕ) (ws us : List Cleaning) (d0
 set_up_on p b i r ws us d0 d1 new e m h g =
     let does : Puts 0 1 (λ code. StmtAt code d0.marks (OfTasks (SetUp (main_at p i)))) d0 d1 = puts_adds (subst (λ (k : ℕ). Adds 1 (OpCode 0 (op.Coroutine k)) d0 d1) m h) in
     subst (λ (x : Bool). Constructs (set_up_room x) (set_up p x i) ws d0 us new) (sym e) (
-    constructs_as (constructs_then (constructs_does (OfTasks (SetUp (main_at p i))) ws (let l = does.kept.longer in omega arith) does) (g Forgets IsForgotten)) (omega arith) (λ ss. refl))
+    constructs_as (constructs_then (constructs_does (OfTasks (SetUp (main_at p i))) ws refl (let l = does.kept.longer in omega arith) does) (g Forgets IsForgotten)) (omega arith) (λ ss. refl))
 
 pub set_up_none : (p : Program) (b : Bool) (i : ℕ) (ws : List Cleaning) (old : Draft) → b ≡ false → Constructs (set_up_room b) (set_up p b i) ws old ws old
 set_up_none p b i ws old e = subst (λ (x : Bool). Constructs (set_up_room x) (set_up p x i) ws old ws old) (sym e) (constructs_as (constructs_nothing ws old) (omega arith) (λ ss. refl))
@@ -94,7 +94,7 @@ ending_none p b old e = subst (λ (x : Bool). LeavesAll (own_close * mutex_count
 
 pub down_on : (p : Program) (b : Bool) (old new : Draft) → b ≡ true → Adds 1 (OpCode 0 op.UnwindCoroutine) old new → LeavesAll (take_down_room b) 0 (taken_down p b) old new
 down_on p b old new e h =
-    let does : Lowers 1 0 0 0 (λ code. StmtAt code old.marks (OfTasks TakeDown)) (scope_of old) old new = lowers_adds 0 0 h in
+    let does : Lowers 0 1 0 0 0 (λ code. StmtAt code old.marks (OfTasks TakeDown)) (scope_of old) old new = lowers_adds 0 0 h in
     subst (λ (x : Bool). LeavesAll (take_down_room x) 0 (taken_down p x) old new) (sym e) (lays_as (lays_one {s = OfTasks TakeDown} 0 does) refl (λ ss. refl) (omega arith) (omega arith) (omega arith) (omega arith) refl)
 
 pub down_none : (p : Program) (b : Bool) (old : Draft) → b ≡ false → LeavesAll (take_down_room b) 0 (taken_down p b) old old

@@ -17,11 +17,15 @@ use Rattle.uc_code.proofs.Growth.{rows_same}
 use Rattle.uc_code.proofs.Stable.{kept_refl, kept_then, kept_same}
 use Rattle.uc_lower_expr.specs.DraftGrowth.{Adds}
 use Rattle.uc_lower_stmt.specs.Objects.{ClosesPart, InPart}
-use Rattle.uc_lower_stmt.specs.OpenScopes.{Step, Does, Opens, Builds, block_of}
+use Rattle.uc_lower_stmt.specs.OpenScopes.{Step, Does, Opens, Builds, block_of, begun_rows, ended_rows, way_rows}
 use Rattle.uc_lower_stmt.proofs.Ending.{cleans_under}
 use Rattle.uc_lower_stmt.proofs.Kept.{stmt_stable, stmts_stable}
-use Rattle.uc_lower_class.specs.OpenParts.{Pended, Begins, Done, Parted, PartsIn, MoreParts, Constructs, EndsParts, end_room}
-use Rattle.uc_lower_stmt.proofs.RowFitting.{fit_opened, fit_puts, fit_refl, fit_then}
+use Rattle.uc_lower_class.specs.OpenParts.{Pended, Begins, Done, Parted, PartsIn, MoreParts, Constructs, EndsParts, end_room, parts_rows}
+use Rattle.uc_lower_stmt.proofs.RowFitting.{fit_opened, fit_puts, fit_refl, fit_then, fit_count}
+use Rattle.uc_lower_stmt.proofs.Laying.{begun_join, way_join}
+use Rattle.uc_lower_stmt.proofs.BlocksLemmas.{cleans_rows}
+use Rattle.uc_lower_stmt.specs.SourceRows.{stmt_rows_under}
+use Rattle.uc_code.specs.RowCounts.{cleaning_rows, loop_rows, return_rows}
 
 pub block_join : (ks ls : List Step) (ss : Stmts) → block_of (ls ++ ks) ss ≡ block_of ks (block_of ls ss)
 block_join ks [] ss = refl
@@ -160,17 +164,25 @@ end_reverse (w ∷ ws) =
     let e : reverse (w ∷ ws) ≡ reverse ws ++ w ∷ [] = reverse-append (w ∷ []) ws in
     ap end_room e ∙ end_push (reverse ws) w ∙ (let r = end_reverse ws in omega (arith, r))
 
+-- the ends of the parts among steps have as many rows
+pub pended_ends : (code : Laid) (ms : List CodeMark) (a out : ℕ) (ws : List Cleaning) (ks : List Step) (ns : List CodeMark) (z : ℕ) → Pended code ms a ws ks ns z → parts_rows ws ≡ ended_rows out ks
+pended_ends code ms a out ws ks ns z Begins = refl
+pended_ends code ms a out ws ks ns z (Done vs qs os y w s p at) = pended_ends code ms a out vs qs os y p
+pended_ends code ms a out ws ks ns z (Parted vs qs os w row c what p g) = let e = cleans_rows c what g in let r = pended_ends code ms a out vs qs os w p in omega (arith, e, r)
+
 -- what builds fields, one after another
 
 pub constructs_nothing : (ws : List Cleaning) (old : Draft) → Constructs 0 (λ ss. ss) ws old ws old
 constructs_nothing ws old = record {
   rest = refl;
   kept = kept_refl (laid_in old);
-  rows = fit_refl old;
   room = omega arith;
   parts = λ h. h;
   inside = refl;
   steps = [];
+  rows = fit_refl old;
+  loops = refl;
+  returns = refl;
   block = λ ss. refl;
   code = λ ms a ks h. h;
 }
@@ -179,11 +191,13 @@ pub constructs_as : {m n : ℕ} {F G : Stmts → Stmts} {ws us : List Cleaning} 
 constructs_as {m} {n} {F} {G} {ws} {us} {old} {new} h l e = record {
   rest = h.rest;
   kept = h.kept;
-  rows = h.rows;
   room = let x = h.room in omega arith;
   parts = h.parts;
   inside = h.inside;
   steps = h.steps;
+  rows = h.rows;
+  loops = h.loops;
+  returns = h.returns;
   block = λ ss. h.block ss ∙ e ss;
   code = h.code;
 }
@@ -192,28 +206,36 @@ pub constructs_then : {m n : ℕ} {F G : Stmts → Stmts} {ws us vs : List Clean
 constructs_then {m} {n} {F} {G} {ws} {us} {vs} {old} {mid} {new} h g = record {
   rest = g.rest ∙ ap (λ (d : Draft). let x : Draft = record d { ops = new.ops; rows = new.rows; settled = new.settled; marks = new.marks } in x) h.rest;
   kept = kept_then (laid_in old) (laid_in mid) (laid_in new) h.kept g.kept;
-  rows = fit_then g.kept.longer h.rows g.rows;
   room = let x = h.room in let y = g.room in omega arith;
   parts = λ p. g.parts (h.parts p);
   inside = g.inside ∙ h.inside;
   steps = g.steps ++ h.steps;
+  rows =
+      let a = ap (λ (n : ℕ). begun_rows n (return_rows mid.marks) g.steps) h.loops in
+      let b = ap (λ (n : ℕ). begun_rows (way_rows h.steps (loop_rows old.marks)) n g.steps) h.returns in
+      let c = begun_join (loop_rows old.marks) (return_rows old.marks) g.steps h.steps in
+      fit_count (omega (arith, a, b, c)) (fit_then g.kept.longer h.rows g.rows);
+  loops = g.loops ∙ ap (way_rows g.steps) h.loops ∙ sym (way_join g.steps h.steps (loop_rows old.marks));
+  returns = g.returns ∙ ap (way_rows g.steps) h.returns ∙ sym (way_join g.steps h.steps (return_rows old.marks));
   block = λ ss. block_join h.steps g.steps ss ∙ ap (block_of h.steps) (g.block ss) ∙ h.block (G ss);
   code = λ ms a ks p. subst (λ (qs : List Step). Pended (laid_in new) ms a (reverse vs) qs new.marks (length new.ops)) (sym (append_assoc g.steps h.steps ks)) (g.code ms a (h.steps ++ ks) (h.code ms a ks p));
 }
 
 -- a statement, and what follows a part
 
-pub constructs_does : {r n : ℕ} {old new : Draft} → (s : Stmt) (ws : List Cleaning) → r + length old.ops ≤ length new.ops → Puts r n (λ code. StmtAt code old.marks s) old new → Constructs n (λ ss. Then s ss) ws old ws new
-constructs_does {r} {n} {old} {new} s ws l h =
+pub constructs_does : {r n : ℕ} {old new : Draft} → (s : Stmt) (ws : List Cleaning) → r ≡ stmt_rows_under old.marks s → r + length old.ops ≤ length new.ops → Puts r n (λ code. StmtAt code old.marks s) old new → Constructs n (λ ss. Then s ss) ws old ws new
+constructs_does {r} {n} {old} {new} s ws count l h =
     let marks : new.marks ≡ old.marks = ap (λ (d : Draft). d.marks) h.rest in
     record {
       rest = subst (λ (d : Draft). d ≡ record old { ops = d.ops; rows = d.rows; settled = d.settled; marks = d.marks }) (sym h.rest) refl;
       kept = h.kept;
-      rows = fit_puts l h;
       room = let x = h.room in omega arith;
       parts = λ p. subst (λ (ns : List CodeMark). PartsIn (reverse ws) ns) (sym marks) p;
       inside = ap routine_in marks;
       steps = Does s ∷ [];
+      rows = fit_count (omega (arith, count)) (fit_puts l h);
+      loops = ap loop_rows marks;
+      returns = ap return_rows marks;
       block = λ ss. refl;
       code = λ ms a ks p. subst (λ (ns : List CodeMark). Pended (laid_in new) ms a (reverse ws) (Does s ∷ ks) ns (length new.ops)) (sym marks)
           (Done (reverse ws) ks old.marks (length old.ops) (length new.ops) s (pended_kept (laid_in old) (laid_in new) ms a (reverse ws) ks old.marks (length old.ops) h.kept (omega arith) p) h.code);
@@ -235,11 +257,13 @@ parts_push : (c : CleanUp) (what : Cleaning) (ws : List Cleaning) (old : Draft) 
 parts_push c what ws old k g b = record {
   rest = refl;
   kept = k;
-  rows = fit_opened opening.Part old (opened opening.Part old) refl;
   room = let e = end_push ws what in omega arith;
   parts = λ p. subst (λ (us : List Cleaning). PartsIn us (mark.Part (length old.rows) ∷ old.marks)) (sym (reverse_push ws what)) (MoreParts what (reverse ws) (length old.rows) old.marks b p);
   inside = refl;
   steps = Builds c ∷ [];
+  rows = fit_opened opening.Part old (opened opening.Part old) refl;
+  loops = refl;
+  returns = refl;
   block = λ ss. refl;
   code = λ ms a ks p. subst (λ (us : List Cleaning). Pended (laid_in (opened opening.Part old)) ms a us (Builds c ∷ ks) (mark.Part (length old.rows) ∷ old.marks) (length old.ops)) (sym (reverse_push ws what))
       (Parted (reverse ws) ks old.marks (length old.ops) (length old.rows) c what (pended_kept (laid_in old) (laid_in (opened opening.Part old)) ms a (reverse ws) ks old.marks (length old.ops) k (omega arith) p) g);

@@ -24,16 +24,20 @@ use Rattle.uc_code.proofs.Patches.{bare_stays, handler_stays, length-patched, pa
 use Rattle.uc_code.proofs.Stable.{kept_piece, kept_then, part, risk_stable}
 use Rattle.uc_code.proofs.Sweeping.{closed_marks, closed_ops, like_closed}
 use Rattle.uc_lower_expr.specs.DraftGrowth.{Adds, OpCode, RiskCode}
-use Rattle.uc_lower_stmt.specs.OpenScopes.{block_of}
+use Rattle.uc_lower_stmt.specs.OpenScopes.{block_of, Step, way_rows}
 use Rattle.uc_lower_stmt.specs.Marked.{objects_in}
 use Rattle.uc_lower_stmt.specs.LowersStatement.{Lowers, LowersStmts, scope_of, sizes_at}
 use Rattle.uc_lower_class.specs.Bodies.{LowersWhole, whole_room}
 use Rattle.uc_lower_stmt.proofs.Kept.{stmts_stable}
 use Rattle.uc_lower_class.specs.OpenParts.{Pended, Begins, Constructs, EndsParts}
-use Rattle.uc_lower_class.proofs.Parting.{block_join, end_reverse, marks_behind, pended_kept}
+use Rattle.uc_lower_class.proofs.Parting.{block_join, end_reverse, marks_behind, pended_kept, pended_ends}
 use Rattle.uc_code.proofs.Growth.{rows_closed}
 use Rattle.uc_lower_stmt.specs.RowFit.{RowsFit, open_rows}
-use Rattle.uc_lower_stmt.proofs.RowFitting.{fit_adds, fit_closed, fit_opened, fit_then}
+use Rattle.uc_lower_stmt.proofs.RowFitting.{fit_adds, fit_closed, fit_opened, fit_then, fit_count}
+use Rattle.uc_lower_stmt.proofs.Joined.{lowers_count}
+use Rattle.uc_lower_stmt.proofs.Laying.{begun_join, block_rows, way_join}
+use Rattle.uc_lower_stmt.specs.SourceRows.{stmt_rows_under, stmts_rows, stmts_rows_under}
+use Rattle.uc_code.specs.RowCounts.{loop_rows, return_rows}
 
 -- what was laid out before a place stays where the op at the place is another one
 kept_patch : (old now : Laid) (at : ℕ) (o : Op) → Kept old now → length old.ops ≤ at → Kept old (record { ops = patched now.ops at o; rows = now.rows })
@@ -47,7 +51,7 @@ kept_patch old now at o k l = record {
 
 module _ (line start end n k c o : ℕ) (ss : Stmts) (after : Scope) (d0 d1 d2 d3 d4 d5 d6 d7 new : Draft)
     (st : start ≡ length d0.ops) (g1 : Adds 1 (OpCode line (op.Jump (start + 2))) d0 d1) (g2 : Adds 1 (OpCode line (op.Jump 0)) d1 d2)
-    (o3 : d3 ≡ opened (opening.Whole (start + 1)) d2) (k3 : Kept (laid_in d2) (laid_in d3)) (h : Lowers n k c o (λ code. StmtsAt code d3.marks line ss) after d3 d4)
+    (o3 : d3 ≡ opened (opening.Whole (start + 1)) d2) (k3 : Kept (laid_in d2) (laid_in d3)) (h : Lowers (stmts_rows 0 0 ss) n k c o (λ code. StmtsAt code d3.marks line ss) after d3 d4)
     (c5 : d5 ≡ closed 1 d4) (k5 : Kept (laid_in d4) (laid_in d5)) (h5 : (row : ℕ) → handler_in d4.marks ≡ Some row → HandlerAt (laid_in d5) row (clean_up (length d4.ops + 1)))
     (ee : end ≡ length d5.ops + 2) (g6 : Adds 1 (OpCode line (op.Jump end)) d5 d6) (g7 : Adds 1 (RiskCode line d6.marks op.Handled) d6 d7)
     (pt : new ≡ record d7 { ops = patched d7.ops (start + 1) (op.Jump end) }) where
@@ -199,7 +203,7 @@ module _ (line start end n k c o : ℕ) (ss : Stmts) (after : Scope) (d0 d1 d2 d
   scope_three : scope_of d3 ≡ scope_of d0
   scope_three = ap scope_of entered ∙ ap scope_of g2.rest ∙ ap scope_of g1.rest
 
-  pub arm_whole : Lowers (4 + n) k c o (λ code. StmtAt code ms (Whole line ss)) after d0 new
+  pub arm_whole : Lowers (stmt_rows_under ms (Whole line ss)) (4 + n) k c o (λ code. StmtAt code ms (Whole line ss)) after d0 new
   arm_whole =
       let texts_three : d3.texts ≡ d0.texts = ap (λ (s : Scope). s.texts) scope_three in
       let cells_three : d3.cells ≡ d0.cells = ap (λ (s : Scope). s.cells) scope_three in
@@ -214,10 +218,10 @@ module _ (line start end n k c o : ℕ) (ss : Stmts) (after : Scope) (d0 d1 d2 d
         scope = ap scope_of is ∙ ap scope_of g7.rest ∙ ap scope_of g6.rest ∙ ap scope_of (like_closed 1 d4 d4 d5 refl c5) ∙ h.scope;
         opened = let x = h.opened in omega arith;
         rows =
-            let two : RowsFit 0 d0 d2 = fit_then g2.kept.longer (fit_adds g1) (fit_adds g2) in
-            let four : RowsFit 0 d0 d4 = fit_then h.kept.longer (fit_then k3.longer two (fit_opened (opening.Whole (start + 1)) d2 d3 o3)) h.rows in
+            let two : RowsFit 0 0 d0 d2 = fit_then g2.kept.longer (fit_adds g1) (fit_adds g2) in
+            let four = fit_then h.kept.longer (fit_then k3.longer two (fit_opened (opening.Whole (start + 1)) d2 d3 o3)) h.rows in
             let e7 = g7.code.end in
-            fit_closed four (rows_closed 1 d4 d5 c5) (ap (λ (d : Draft). d.rows) new_whole) (ap open_rows marks_four) (ap (λ (d : Draft). open_rows d.marks) new_whole) (omega (arith, long_new, long, long_six, e7)) (omega (arith, long_new, long, long_six, e7));
+            fit_count (omega arith) (fit_closed four (rows_closed 1 d4 d5 c5) (ap (λ (d : Draft). d.rows) new_whole) (ap open_rows marks_four) (ap (λ (d : Draft). open_rows d.marks) new_whole) (omega (arith, long_new, long, long_six, e7)) (omega (arith, long_new, long, long_six, e7)));
         kept = subst (λ (code : Laid). Kept (laid_in d0) code) (sym laid_new) (kept_patch (laid_in d0) was (a + 1) (op.Jump (length d7.ops)) kept_all (omega arith));
         room = let x = h.room in let y = long in let w = g7.code.end in let v = long_six in let u = long_three in omega arith;
         texts = let x = h.texts in omega arith;
@@ -226,7 +230,7 @@ module _ (line start end n k c o : ℕ) (ss : Stmts) (after : Scope) (d0 d1 d2 d
       }
 
 -- statements behind fields that are built, and the end of their parts
-module _ (n m k c o : ℕ) (F : Stmts → Stmts) (us : List Cleaning) (ss : Stmts) (after : Scope) (d0 d1 d2 new : Draft) (h : Constructs n F [] d0 us d1) (w : Lowers m k c o (λ code. StmtsAt code d1.marks 0 ss) after d1 d2) (e : EndsParts (reverse us) d2 new) where
+module _ (n m k c o : ℕ) (F : Stmts → Stmts) (us : List Cleaning) (ss : Stmts) (after : Scope) (d0 d1 d2 new : Draft) (h : Constructs n F [] d0 us d1) (w : Lowers (stmts_rows_under d1.marks ss) m k c o (λ code. StmtsAt code d1.marks 0 ss) after d1 d2) (e : EndsParts (reverse us) d2 new) where
   marks_two-built : d2.marks ≡ d1.marks
   marks_two-built = ap (λ (d : Draft). d.marks) w.rest
 
@@ -252,7 +256,7 @@ module _ (n m k c o : ℕ) (F : Stmts → Stmts) (us : List Cleaning) (ss : Stmt
       ∙ ap (λ (d : Draft). let x : Draft = record d { ops = new.ops; rows = new.rows; settled = new.settled; marks = new.marks; scopes = d2.scopes; names = d2.names; cells = d2.cells; hidden = d2.hidden; texts = d2.texts; sites = d2.sites } in x) h.rest
       ∙ ap (λ (ns : List CodeMark). let x : Draft = record d0 { ops = new.ops; rows = new.rows; settled = new.settled; marks = ns; scopes = d2.scopes; names = d2.names; cells = d2.cells; hidden = d2.hidden; texts = d2.texts; sites = d2.sites } in x) marks_back
 
-  pub arm_built : Lowers (n + m) k c o (λ code. StmtsAt code d0.marks 0 (F ss)) after d0 new
+  pub arm_built : Lowers (stmts_rows_under d0.marks (F ss)) (n + m) k c o (λ code. StmtsAt code d0.marks 0 (F ss)) after d0 new
   arm_built =
       let texts_one : d1.texts ≡ d0.texts = ap (λ (d : Draft). d.texts) h.rest in
       let cells_one : d1.cells ≡ d0.cells = ap (λ (d : Draft). d.cells) h.rest in
@@ -265,7 +269,17 @@ module _ (n m k c o : ℕ) (F : Stmts → Stmts) (us : List Cleaning) (ss : Stmt
         scope = ap scope_of e.rest ∙ w.scope;
         opened = let x = w.opened in omega arith;
         kept = kept_then (laid_in d0) (laid_in d1) (laid_in new) h.kept (kept_then (laid_in d1) (laid_in d2) (laid_in new) w.kept e.kept);
-        rows = fit_then e.kept.longer (fit_then w.kept.longer h.rows w.rows) e.rows;
+        rows =
+            let loop : ℕ = loop_rows d0.marks in
+            let out : ℕ = return_rows d0.marks in
+            let ks : List Step = h.steps ++ [] in
+            let all = block_rows loop out ks ss in
+            let is : stmts_rows loop out (block_of ks ss) ≡ stmts_rows loop out (F ss) = ap (stmts_rows loop out) block_is in
+            let begun = begun_join loop out h.steps [] in
+            let within : stmts_rows (way_rows ks loop) (way_rows ks out) ss ≡ stmts_rows_under d1.marks ss =
+            ap (λ (n : ℕ). stmts_rows n (way_rows ks out) ss) (way_join h.steps [] loop ∙ sym h.loops) ∙ ap (λ (n : ℕ). stmts_rows (loop_rows d1.marks) n ss) (way_join h.steps [] out ∙ sym h.returns) in
+            let ends = pended_ends (laid_in d1) d0.marks (length d0.ops) out (reverse us) ks d1.marks (length d1.ops) laid in
+            fit_count (omega (arith, all, is, begun, within, ends)) (fit_then e.kept.longer (fit_then w.kept.longer h.rows w.rows) e.rows);
         room = let x = h.room in let y = w.room in let z = e.room in let r = end_reverse us in omega arith;
         texts = let x = w.texts in omega arith;
         cells = let x = w.cells in omega arith;
@@ -280,9 +294,10 @@ pub whole_laid : (p : Program) (r : Routine) (line start end : ℕ) (body : tree
 whole_laid p r line start end _ d0 d1 d2 d3 d4 d5 d6 d7 new le be st g1 g2 en k3 h c5 k5 h5 ee g6 g7 pt =
     let scope : scope_of d3 ≡ scope_of d0 = ap scope_of en ∙ ap scope_of g2.rest ∙ ap scope_of g1.rest in
     let objects : objects_in d3.marks ≡ 0 = ap (λ (d : Draft). objects_in d.marks) en in
-    let one : Lowers (OPS_FOR_SIZE * sizes_at r.body 0) (stmts_size r.body) (stmts_cells r.body (declared_cells p)) (stmts_scopes r.body) (λ code. StmtsAt code d3.marks line (stmts_meant p r.body (scope_of d0))) (scope_behind p r.body (scope_of d0)) d3 d4 =
-    subst (λ (s : Scope). Lowers (OPS_FOR_SIZE * sizes_at r.body 0) (stmts_size r.body) (stmts_cells r.body (declared_cells p)) (stmts_scopes r.body) (λ code. StmtsAt code d3.marks line (stmts_meant p r.body s)) (scope_behind p r.body s) d3 d4) scope (
-    subst (λ (k : ℕ). Lowers (OPS_FOR_SIZE * sizes_at r.body k) (stmts_size r.body) (stmts_cells r.body (declared_cells p)) (stmts_scopes r.body) (λ code. StmtsAt code d3.marks line (stmts_meant p r.body (scope_of d3))) (scope_behind p r.body (scope_of d3)) d3 d4) objects (
-    subst (λ (b : tree.Stmts). LowersStmts p line b d3 d4) be h)) in
+    let under_rows : stmts_rows_under d3.marks (stmts_meant p r.body (scope_of d0)) ≡ stmts_rows 0 0 (stmts_meant p r.body (scope_of d0)) = ap (λ (d : Draft). stmts_rows_under d.marks (stmts_meant p r.body (scope_of d0))) en in
+    let one : Lowers (stmts_rows 0 0 (stmts_meant p r.body (scope_of d0))) (OPS_FOR_SIZE * sizes_at r.body 0) (stmts_size r.body) (stmts_cells r.body (declared_cells p)) (stmts_scopes r.body) (λ code. StmtsAt code d3.marks line (stmts_meant p r.body (scope_of d0))) (scope_behind p r.body (scope_of d0)) d3 d4 =
+    lowers_count under_rows (subst (λ (s : Scope). Lowers (stmts_rows_under d3.marks (stmts_meant p r.body s)) (OPS_FOR_SIZE * sizes_at r.body 0) (stmts_size r.body) (stmts_cells r.body (declared_cells p)) (stmts_scopes r.body) (λ code. StmtsAt code d3.marks line (stmts_meant p r.body s)) (scope_behind p r.body s) d3 d4) scope (
+    subst (λ (k : ℕ). Lowers (stmts_rows_under d3.marks (stmts_meant p r.body (scope_of d3))) (OPS_FOR_SIZE * sizes_at r.body k) (stmts_size r.body) (stmts_cells r.body (declared_cells p)) (stmts_scopes r.body) (λ code. StmtsAt code d3.marks line (stmts_meant p r.body (scope_of d3))) (scope_behind p r.body (scope_of d3)) d3 d4) objects (
+    subst (λ (b : tree.Stmts). LowersStmts p line b d3 d4) be h))) in
     let all = arm_whole line start end (OPS_FOR_SIZE * sizes_at r.body 0) (stmts_size r.body) (stmts_cells r.body (declared_cells p)) (stmts_scopes r.body) (stmts_meant p r.body (scope_of d0)) (scope_behind p r.body (scope_of d0)) d0 d1 d2 d3 d4 d5 d6 d7 new st g1 g2 en k3 one c5 k5 h5 ee g6 g7 pt in
-    subst (λ (l : ℕ). Lowers (whole_room r) (stmts_size r.body) (stmts_cells r.body (declared_cells p)) (stmts_scopes r.body) (λ code. StmtAt code d0.marks (Whole l (stmts_meant p r.body (scope_of d0)))) (scope_behind p r.body (scope_of d0)) d0 new) le all
+    subst (λ (l : ℕ). Lowers (stmt_rows_under d0.marks (Whole l (stmts_meant p r.body (scope_of d0)))) (whole_room r) (stmts_size r.body) (stmts_cells r.body (declared_cells p)) (stmts_scopes r.body) (λ code. StmtAt code d0.marks (Whole l (stmts_meant p r.body (scope_of d0)))) (scope_behind p r.body (scope_of d0)) d0 new) le all

@@ -17,6 +17,7 @@ use Rattle.uc_code.specs.OpenRows.{clean_room}
 use Rattle.uc_lower_expr.specs.Meanings.{is_mutex_at}
 use Rattle.uc_lower_stmt.specs.LowersStatement.{Lowers, scope_of, sizes_at}
 use Rattle.uc_lower_class.specs.Fields.{all_built, all_left, all_room, left_room, live_room}
+use Rattle.uc_lower_stmt.specs.SourceRows.{stmt_rows_under, stmts_rows_under}
 
 -- a body, and the block that it is
 
@@ -25,7 +26,7 @@ whole_room r = 4 + OPS_FOR_SIZE * sizes_at r.body 0
 
 abbrev pub LowersWhole : Program → Routine → Draft → Draft → Type 0
 LowersWhole p r old new =
-    Lowers (whole_room r) (stmts_size r.body) (stmts_cells r.body (declared_cells p)) (stmts_scopes r.body) (λ code. StmtAt code old.marks (Whole r.brace.line (stmts_meant p r.body (scope_of old)))) (scope_behind p r.body (scope_of old)) old new
+    Lowers (stmt_rows_under old.marks (Whole r.brace.line (stmts_meant p r.body (scope_of old)))) (whole_room r) (stmts_size r.body) (stmts_cells r.body (declared_cells p)) (stmts_scopes r.body) (λ code. StmtAt code old.marks (Whole r.brace.line (stmts_meant p r.body (scope_of old)))) (scope_behind p r.body (scope_of old)) old new
 
 -- the fields of the class with a place, where there is one
 
@@ -78,7 +79,7 @@ builder_room p r place = role_room p r.sig.role place r + 1
 
 abbrev pub LowersBody : Program → Role → Routine → Draft → Draft → Type 0
 LowersBody p wanted r old new =
-    Lowers (role_room p wanted old.place.class r) (stmts_size r.body) (stmts_cells r.body (declared_cells p)) (stmts_scopes r.body) (λ code. StmtsAt code old.marks 0 (body_by p wanted r (scope_of old))) (scope_behind p r.body (scope_of old)) old new
+    Lowers (stmts_rows_under old.marks (body_by p wanted r (scope_of old))) (role_room p wanted old.place.class r) (stmts_size r.body) (stmts_cells r.body (declared_cells p)) (stmts_scopes r.body) (λ code. StmtsAt code old.marks 0 (body_by p wanted r (scope_of old))) (scope_behind p r.body (scope_of old)) old new
 
 -- the same of a constructor, but for the scope of a mutex object
 
@@ -87,7 +88,7 @@ raised_body p place r s = built_at p place r s (Then (Whole r.brace.line (stmts_
 
 abbrev pub LowersRaised : Program → Option ℕ → Routine → Draft → Draft → Type 0
 LowersRaised p place r old new =
-    Lowers (raise_room p place r) (stmts_size r.body) (stmts_cells r.body (declared_cells p)) (stmts_scopes r.body) (λ code. StmtsAt code old.marks 0 (raised_body p place r (scope_of old))) (scope_behind p r.body (scope_of old)) old new
+    Lowers (stmts_rows_under old.marks (raised_body p place r (scope_of old))) (raise_room p place r) (stmts_size r.body) (stmts_cells r.body (declared_cells p)) (stmts_scopes r.body) (λ code. StmtsAt code old.marks 0 (raised_body p place r (scope_of old))) (scope_behind p r.body (scope_of old)) old new
 
 -- one that nobody wrote: its place among the routines, its code
 pub record IsUnwritten (p : Program) (u : Unwritten) (number : ℕ) : Type 0 where
@@ -107,7 +108,7 @@ unwritten_room role.Constructor c = unwritten_raise c + part_end
 unwritten_room role.Destructor c = left_room c
 
 abbrev pub LowersUnwritten : Program → Role → ℕ → Draft → Draft → Type 0
-LowersUnwritten p wanted i old new = Lowers (unwritten_room wanted (class_at p i)) 0 0 0 (λ code. StmtsAt code old.marks 0 (unwritten_body p wanted i)) (scope_of old) old new
+LowersUnwritten p wanted i old new = Lowers (stmts_rows_under old.marks (unwritten_body p wanted i)) (unwritten_room wanted (class_at p i)) 0 0 0 (λ code. StmtsAt code old.marks 0 (unwritten_body p wanted i)) (scope_of old) old new
 
 abbrev pub LowersBare : Program → ℕ → Draft → Draft → Type 0
-LowersBare p i old new = Lowers (unwritten_raise (class_at p i)) 0 0 0 (λ code. StmtsAt code old.marks 0 (all_built p i [] (nowhere p) (class_at p i) (construction_ends p (class_at p i) i))) (scope_of old) old new
+LowersBare p i old new = Lowers (stmts_rows_under old.marks (all_built p i [] (nowhere p) (class_at p i) (construction_ends p (class_at p i) i))) (unwritten_raise (class_at p i)) 0 0 0 (λ code. StmtsAt code old.marks 0 (all_built p i [] (nowhere p) (class_at p i) (construction_ends p (class_at p i) i))) (scope_of old) old new

@@ -11,10 +11,11 @@ use Rattle.uc_code.specs.CodeShapes.{Kept}
 use Rattle.uc_code.specs.Lowered.{StmtAt, StmtsAt}
 use Rattle.uc_code.specs.ObjectCalls.{Cleans}
 use Rattle.uc_code.specs.Emits.{clean_length}
-use Rattle.uc_lower_stmt.specs.OpenScopes.{Step, Does, Builds, Lays, block_of}
+use Rattle.uc_lower_stmt.specs.OpenScopes.{Step, Does, Builds, Lays, block_of, begun_under, way_rows}
 use Rattle.uc_lower_stmt.specs.LowersStatement.{scope_of}
 use Rattle.uc_lower_class.specs.Fields.{field_close}
 use Rattle.uc_lower_stmt.specs.RowFit.{RowsFit}
+use Rattle.uc_code.specs.RowCounts.{cleaning_rows, loop_rows, return_rows}
 
 -- steps that are laid out in no line, from these marks and this place to those marks and that place, with the clean-ups of the parts
 -- among them; the newest stands first
@@ -33,16 +34,23 @@ abbrev pub end_room : List Cleaning → ℕ
 end_room [] = 0
 end_room (w ∷ ws) = clean_length w + 2 + end_room ws
 
+-- the rows of their ends
+abbrev pub parts_rows : List Cleaning → ℕ
+parts_rows [] = 0
+parts_rows (w ∷ ws) = cleaning_rows w + parts_rows ws
+
 -- what builds some fields does to a draft, and to the parts of which the clean-ups are to come, the oldest of which stands first: at
 -- most n ops more, those that end what follows the new parts included, by which statements are made of what follows
 pub record Constructs (n : ℕ) (F : Stmts → Stmts) (ws : List Cleaning) (old : Draft) (us : List Cleaning) (new : Draft) : Type 0 where
   pub rest : new ≡ record old { ops = new.ops; rows = new.rows; settled = new.settled; marks = new.marks }
   pub kept : Kept (laid_in old) (laid_in new)
-  pub rows : RowsFit 0 old new
   pub room : length new.ops + end_room us ≤ length old.ops + end_room ws + n
   pub parts : PartsIn (reverse ws) old.marks → PartsIn (reverse us) new.marks
   pub inside : routine_in new.marks ≡ routine_in old.marks
   pub steps : List Step
+  pub rows : RowsFit 0 (begun_under old.marks steps) old new
+  pub loops : loop_rows new.marks ≡ way_rows steps (loop_rows old.marks)
+  pub returns : return_rows new.marks ≡ way_rows steps (return_rows old.marks)
   pub block : (ss : Stmts) → block_of steps ss ≡ F ss
   pub code : (ms : List CodeMark) (a : ℕ) (ks : List Step) → Pended (laid_in old) ms a (reverse ws) ks old.marks (length old.ops) → Pended (laid_in new) ms a (reverse us) (steps ++ ks) new.marks (length new.ops)
 
@@ -50,7 +58,7 @@ pub record Constructs (n : ℕ) (F : Stmts → Stmts) (ws : List Cleaning) (old 
 pub record EndsParts (ws : List Cleaning) (old new : Draft) : Type 0 where
   pub rest : new ≡ record old { ops = new.ops; rows = new.rows; settled = new.settled; marks = new.marks }
   pub kept : Kept (laid_in old) (laid_in new)
-  pub rows : RowsFit 0 old new
+  pub rows : RowsFit 0 (parts_rows ws) old new
   pub room : length new.ops ≤ length old.ops + end_room ws
   pub block : (ms : List CodeMark) (a y : ℕ) (ks : List Step) (ss : Stmts) → Pended (laid_in old) ms a ws ks old.marks y → StmtsAt (laid_in old) old.marks 0 ss y (length old.ops) → StmtsAt (laid_in new) ms 0 (block_of ks ss) a (length new.ops)
   pub marks : new.marks ≡ drop (length ws) old.marks

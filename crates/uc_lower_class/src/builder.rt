@@ -15,6 +15,7 @@ ghost use Rattle.uc_code.specs.Layout.{laid_in, routine_in};
 ghost use Rattle.uc_code.specs.Lowered.{RoutineAt};
 ghost use Rattle.uc_code.specs.CodeShapes.{Kept};
 ghost use Rattle.uc_lower_expr.specs.Members.{FitClasses};
+ghost use Rattle.uc_lower_stmt.specs.SourceRows.{routine_rows};
 ghost use Rattle.uc_lower_stmt.specs.RowFit.{RoutineRows};
 ghost use Rattle.uc_lower_stmt.specs.Marked.{closing};
 ghost use Rattle.uc_lower_stmt.specs.Routines.{frame_cells};
@@ -227,6 +228,11 @@ pub fn lower_builder(
     requires cells { routine_cells names.now routine.now ≤ FRAME_CELLS }
     requires texts { texts + stmts_size routine.now.body ≤ PROGRAM_SIZE }
     ensures kept { OnOk result (Kept (laid_in out.old) (laid_in out.new)) }
+    ensures count { OnOk result (length out.new.rows
+        ≡ length out.old.rows
+        + routine_rows
+        (routine_meant names.now routine.now
+        (routine_scope names.now routine.now class number texts sites))) }
     ensures rows { OnOk result (RoutineRows out.old out.new) }
     ensures room { OnOk result (length out.new.ops
         ≤ length out.old.ops + builder_room names.now routine.now class) }
@@ -380,6 +386,8 @@ pub fn lower_unwritten(
     requires room { length out.old.ops
         + (unwritten_room one.role (class_at names.now one.class) + 1) ≤ PROGRAM_OPS }
     ensures kept { OnOk result (Kept (laid_in out.old) (laid_in out.new)) }
+    ensures count { OnOk result (length out.new.rows
+        ≡ length out.old.rows + routine_rows (unwritten_meant names.now (unwritten_as one))) }
     ensures rows { OnOk result (RoutineRows out.old out.new) }
     ensures room { OnOk result (length out.new.ops
         ≤ length out.old.ops + (unwritten_room one.role (class_at names.now one.class) + 1)) }

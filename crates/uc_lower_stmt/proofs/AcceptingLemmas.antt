@@ -33,7 +33,7 @@ use Rattle.uc_lower_expr.specs.Contexts.{context_in}
 use Rattle.uc_lower_expr.specs.DraftGrowth.{Adds, ExprCode, OpCode}
 use Rattle.uc_lower_expr.proofs.Adding.{adds_as, adds_both, adds_more, adds_nothing}
 use Rattle.uc_lower_expr.proofs.Settled.{both, expr_stable}
-use Rattle.uc_lower_stmt.specs.Accepting.{choice_set, ChoiceCode, GuardsCode, HolesAt, HolesCode, LowersAccept, LowersBranches, LowersChoice, accept_room, branch_of, branches_room, choice_room, guard_meant, guard_of, guard_room, guards_room, past_branches}
+use Rattle.uc_lower_stmt.specs.Accepting.{choice_set, ChoiceCode, GuardsCode, HolesAt, HolesCode, LowersAccept, LowersBranches, LowersChoice, accept_room, branch_of, branches_room, choice_room, guard_meant, guard_of, guard_room, guards_room, past_branches, branches_meant}
 use Rattle.uc_lower_stmt.specs.Control.{maybe_at_size, maybe_past}
 use Rattle.uc_lower_stmt.specs.LowersStatement.{Lowers, LowersStmt, scope_of}
 use Rattle.uc_lower_stmt.specs.Marked.{objects_in, taken}
@@ -43,7 +43,8 @@ use Rattle.uc_lower_stmt.proofs.Jumping.{before_chosen, chosen, jumps_chosen, ju
 use Rattle.uc_lower_stmt.proofs.Kept.{branches_stable}
 use Rattle.uc_lower_stmt.proofs.Stating.{as_stmt}
 use Rattle.uc_lower_stmt.specs.RowFit.{RowsFit}
-use Rattle.uc_lower_stmt.proofs.RowFitting.{fit_like, fit_then}
+use Rattle.uc_lower_stmt.proofs.RowFitting.{fit_like, fit_then, fit_count}
+use Rattle.uc_lower_stmt.specs.SourceRows.{clauses_rows_under}
 
 -- guards
 
@@ -174,10 +175,10 @@ module _ (p : Program) (line site count choose : ℕ) (xs : List Clause) (d0 d1 
 
   pub choice_laid : LowersChoice p line xs d0 d5
   choice_laid =
-      let l : Lowers (choice_room xs) 0 0 0 (ChoiceCode line around in_context d0.sites xs) (scope_of d1) d1 d5 = lowers_puts 0 0 all in
-      let m : Lowers (choice_room xs) 0 0 0 (ChoiceCode line around in_context d0.sites xs) (scope_of (record d0 { sites = d0.sites + 1 })) (record d0 { sites = d0.sites + 1 }) d5 =
-      subst (λ (d : Draft). Lowers (choice_room xs) 0 0 0 (ChoiceCode line around in_context d0.sites xs) (scope_of d) d d5) ad l in
-      record { rest = m.rest; scope = m.scope; opened = m.opened; kept = m.kept; rows = record { few = m.rows.few; begin = m.rows.begin }; room = m.room; texts = m.texts; cells = m.cells; code = m.code }
+      let l : Lowers 0 (choice_room xs) 0 0 0 (ChoiceCode line around in_context d0.sites xs) (scope_of d1) d1 d5 = lowers_puts 0 0 all in
+      let m : Lowers 0 (choice_room xs) 0 0 0 (ChoiceCode line around in_context d0.sites xs) (scope_of (record d0 { sites = d0.sites + 1 })) (record d0 { sites = d0.sites + 1 }) d5 =
+      subst (λ (d : Draft). Lowers 0 (choice_room xs) 0 0 0 (ChoiceCode line around in_context d0.sites xs) (scope_of d) d d5) ad l in
+      record { rest = m.rest; scope = m.scope; opened = m.opened; kept = m.kept; rows = record { more = m.rows.more; few = m.rows.few; begin = m.rows.begin }; room = m.room; texts = m.texts; cells = m.cells; code = m.code }
 
   pub choice_place : choose + (many + 2) ≡ length d5.ops
   choice_place = let e = c.code.end in let f = h.code.end in omega (arith, ce, e, f)
@@ -344,8 +345,10 @@ module _ (p : Program) (line choose first count end : ℕ) (xs : List Clause) (o
         kept = kept_until (laid_in d0) l2 choose (op.Choose n (length d2.ops)) (kept_then (laid_in d0) jumping l2 kept_jumping b.branches.kept) (omega arith);
         rows =
             let set : Draft = choice_set (choose + 1) first o ps d1 in
-            let one : RowsFit 0 d0 set = fit_like d0 set refl refl refl refl long_jumping refl h.rows in
-            fit_like d0 last refl refl refl refl long refl (fit_then b.branches.kept.longer one b.branches.rows);
+            let one : RowsFit 0 0 d0 set = fit_like d0 set refl refl refl refl long_jumping refl h.rows in
+            let under_rows : clauses_rows_under d1.marks (branches_meant p xs other (scope_of d1)) ≡ clauses_rows_under ms (branches_meant p xs other t) =
+            ap (λ (ns : List CodeMark). clauses_rows_under ns (branches_meant p xs other (scope_of d1))) marks_one ∙ ap (λ (u : Scope). clauses_rows_under ms (branches_meant p xs other u)) h.scope in
+            fit_count (omega (arith, under_rows)) (fit_like d0 last refl refl refl refl long refl (fit_then b.branches.kept.longer one b.branches.rows));
         room = (let u = h.room in let v = b.branches.room in omega (arith, objects, long, long_jumping, u, v));
         texts = (let u = h.texts in let v = b.branches.texts in omega arith);
         cells = (let u = h.cells in let v = b.branches.cells in omega arith);

@@ -18,10 +18,35 @@ use Rattle.uc_lower_stmt.specs.declared.block.ObjectScope.{ObjectScope}
 use Rattle.uc_lower_stmt.specs.Blocks.{BlockStands, EndsScopes, EndingScopes, Unended, innermost_by, innermost_in, scope_at, scope_by}
 use Rattle.uc_lower_stmt.specs.Marked.{close_room, closing}
 use Rattle.uc_lower_stmt.specs.Objects.{ClosesScope, InScope, leaves}
-use Rattle.uc_lower_stmt.specs.OpenScopes.{Step, Does, Opens, Builds, NoCall, NoParts, block_of, Pending, Begins, Done, Opened, Parted}
+use Rattle.uc_lower_stmt.specs.OpenScopes.{Step, Does, Opens, Builds, NoCall, NoParts, block_of, Pending, Begins, Done, Opened, Parted, ended_rows, way_rows}
 use Rattle.uc_lower_stmt.proofs.Ending.{scope_ended}
 use Rattle.uc_lower_stmt.proofs.Kept.{stmt_stable, stmts_stable}
 use Rattle.uc_lower_stmt.proofs.RowFitting.{fit_refl, fit_then}
+use Rattle.uc_lower_stmt.specs.SourceRows.{clean_rows, pad_rows}
+use Rattle.uc_code.specs.RowCounts.{array_rows, cleaning_rows, loop_rows, return_rows}
+
+-- what cleans up has as many rows in the tree as in marks
+
+pub cleans_rows : (c : CleanUp) (what : Cleaning) → Cleans c what → cleaning_rows what ≡ clean_rows c
+cleans_rows c what (One e w k n) = ap array_rows n
+cleans_rows c what (All n size e w k m) = ap array_rows m
+cleans_rows c what TakesDown = refl
+cleans_rows c what IsForgotten = refl
+cleans_rows c what Left = refl
+cleans_rows c what Ended = refl
+cleans_rows c what (Freed main) = refl
+cleans_rows c what (Restored cell) = refl
+
+-- its scope has them twice, where it is no mutex call: at its end, and where it is unwound
+pub ends_rows : (c : CleanUp) (what : Cleaning) (out : ℕ) → Cleans c what → NoCall c → clean_rows c + pad_rows out c ≡ cleaning_rows what + cleaning_rows what
+ends_rows c what out (One e w k n) x = let r : array_rows w.array ≡ 0 = ap array_rows n in omega (arith, r)
+ends_rows c what out (All n size e w k m) x = let r : array_rows w.array ≡ 1 = ap array_rows m in omega (arith, r)
+ends_rows c what out TakesDown x = refl
+ends_rows c what out IsForgotten x = refl
+ends_rows c what out Left x = absurd x
+ends_rows c what out Ended x = refl
+ends_rows c what out (Freed main) x = refl
+ends_rows c what out (Restored cell) x = refl
 
 -- steps that are laid out
 
@@ -44,6 +69,18 @@ module _ (code : Laid) (line : ℕ) (ms : List CodeMark) (a : ℕ) where
   pending_routine ks ns z (Opened qs os y row c what p g) = pending_routine qs os y p
   pending_routine ks ns z (Parted qs os y row c what p g) = pending_routine qs os y p
 
+  -- what leaves these steps has as many rows as their marks say
+  pub pending_ways : (ks : List Step) (ns : List CodeMark) (z : ℕ) → Pending code line ms a ks ns z → (loop_rows ns ≡ way_rows ks (loop_rows ms)) × (return_rows ns ≡ way_rows ks (return_rows ms))
+  pending_ways ks ns z Begins = (refl, refl)
+  pending_ways ks ns z (Done qs os y w s p at) = pending_ways qs os y p
+  pending_ways ks ns z (Opened qs os y row c what p g) =
+      let r = pending_ways qs os y p in
+      let e = cleans_rows c what g in
+      let f : suc (cleaning_rows what + loop_rows os) ≡ suc (clean_rows c + way_rows qs (loop_rows ms)) = omega (arith, r.0, e) in
+      let h : suc (cleaning_rows what + return_rows os) ≡ suc (clean_rows c + way_rows qs (return_rows ms)) = omega (arith, r.1, e) in
+      (f, h)
+  pending_ways ks ns z (Parted qs os y row c what p g) = pending_ways qs os y p
+
   pub pending_kept : (new : Laid) (ks : List Step) (ns : List CodeMark) (z : ℕ) → z ≤ length code.ops → Kept code new → Pending code line ms a ks ns z → Pending new line ms a ks ns z
   pending_kept new ks ns z l k Begins = Begins
   pending_kept new ks ns z l k (Done qs os y w s p at) =
@@ -60,14 +97,15 @@ module _ (code : Laid) (line : ℕ) (ms : List CodeMark) (a : ℕ) where
 
   -- where statements at the end of a block have taken up those before them: the whole block stands, or the scope of an object is the
   -- innermost that is left
-  pub data Taken (ns : List CodeMark) (z : ℕ) (whole : Stmts) : Type 0 where
-    Whole : ns ≡ ms → StmtsAt code ns line whole a z → Taken ns z whole
-    Within : (ks : List Step) (os : List CodeMark) (y row : ℕ) (c : CleanUp) (what : Cleaning) (ss : Stmts) → NoCall c → NoParts ks → ns ≡ mark.Clean what line row ∷ os → Pending code line ms a ks os y → Cleans c what → StmtsAt code ns line ss y z → block_of ks (Scoped c ss) ≡ whole → Taken ns z whole
+  pub data Taken (ns : List CodeMark) (z : ℕ) (whole : Stmts) (due : ℕ) : Type 0 where
+    Whole : ns ≡ ms → due ≡ 0 → StmtsAt code ns line whole a z → Taken ns z whole due
+    Within : (ks : List Step) (os : List CodeMark) (y row : ℕ) (c : CleanUp) (what : Cleaning) (ss : Stmts) → NoCall c → NoParts ks → ns ≡ mark.Clean what line row ∷ os → due ≡ clean_rows c + pad_rows (way_rows ks (return_rows ms)) c + ended_rows (return_rows ms) ks → Pending code line ms a ks os y → Cleans c what → StmtsAt code ns line ss y z
+        → block_of ks (Scoped c ss) ≡ whole → Taken ns z whole due
 
-  pub taken_up : (ks : List Step) (ns : List CodeMark) (y z : ℕ) (ss : Stmts) → NoParts ks → Pending code line ms a ks ns y → StmtsAt code ns line ss y z → Taken ns z (block_of ks ss)
-  taken_up ks ns y z ss n Begins h = Whole refl h
+  pub taken_up : (ks : List Step) (ns : List CodeMark) (y z : ℕ) (ss : Stmts) → NoParts ks → Pending code line ms a ks ns y → StmtsAt code ns line ss y z → Taken ns z (block_of ks ss) (ended_rows (return_rows ms) ks)
+  taken_up ks ns y z ss n Begins h = Whole refl refl h
   taken_up ks ns y z ss n (Done qs os x w s p at) h = taken_up qs os x z (Then s ss) n p (record { middle = y; first = at; second = h })
-  taken_up ks ns y z ss n (Opened qs os x row c what p g) h = Within qs os y row c what ss n.0 n.1 refl p g h refl
+  taken_up ks ns y z ss n (Opened qs os x row c what p g) h = Within qs os y row c what ss n.0 n.1 refl refl p g h refl
   taken_up ks ns y z ss n (Parted qs os x row c what p g) h = absurd n
 
 pub block_join : (js ks : List Step) (ss : Stmts) → block_of (js ++ ks) ss ≡ block_of ks (block_of js ss)
@@ -160,21 +198,22 @@ pub ending_none : (count : ℕ) (d : Draft) → EndingScopes count d d
 ending_none count d = record {
   rest = refl;
   kept = kept_refl (laid_in d);
+  ends = 0;
   rows = fit_refl d;
   room = omega arith;
-  block = λ line a y ks ms ss l n p h. record { steps = ks; none = n; behind = ss; middle = y; before = p; code = h; same = refl };
+  block = λ line a y ks ms ss l n p h. record { steps = ks; none = n; rows = refl; behind = ss; middle = y; before = p; code = h; same = refl };
 }
 
 same_mark : (what : Cleaning) (line row : ℕ) (os : List CodeMark) (w : Cleaning) (k r : ℕ) (ps : List CodeMark) → mark.Clean what line row ∷ os ≡ mark.Clean w k r ∷ ps → (what ≡ w) × (line ≡ k)
 same_mark what line row os w k r ps e = (cc, cc)
 
 module _ (count : ℕ) (scope : ObjectScope) (now next : Draft) (at : innermost_in now.marks count ≡ Some scope) (all : AllBehind now.marks) (h : ClosesScope (close_room scope.what) scope.what scope.line now next) where
-  scope_next : (line : ℕ) (ms : List CodeMark) (whole : Stmts) (a : ℕ) → length ms ≡ count → Unended line ms whole a now → Unended line ms whole a next
-  scope_next line ms whole a l u = by_taken (taken_up (laid_in now) line ms a u.steps now.marks u.middle (length now.ops) u.behind u.none u.before u.code)
+  scope_next : (line : ℕ) (ms : List CodeMark) (whole : Stmts) (a total : ℕ) → length ms ≡ count → Unended line ms whole a total now → Unended line ms whole a total next
+  scope_next line ms whole a total l u = by_taken (taken_up (laid_in now) line ms a u.steps now.marks u.middle (length now.ops) u.behind u.none u.before u.code)
     where
-      by_taken : Taken (laid_in now) line ms a now.marks (length now.ops) (block_of u.steps u.behind) → Unended line ms whole a next
-      by_taken (Whole e s) = absurd (few_marks now.marks count scope (let f : length now.marks ≡ length ms = ap length e in omega arith) at)
-      by_taken (Within ks os y row c what ss x n e p g s q) =
+      by_taken : Taken (laid_in now) line ms a now.marks (length now.ops) (block_of u.steps u.behind) (ended_rows (return_rows ms) u.steps) → Unended line ms whole a total next
+      by_taken (Whole e due s) = absurd (few_marks now.marks count scope (let f : length now.marks ≡ length ms = ap length e in omega arith) at)
+      by_taken (Within ks os y row c what ss x n e due p g s q) =
           let i : InScope scope.what scope.line now.marks = in_scope now.marks count scope at all in
           let m = same_mark what line row os scope.what scope.line i.row i.outer (sym e ∙ i.is) in
           let f : now.marks ≡ mark.Clean scope.what scope.line row ∷ os = e ∙ (ap (λ (x : Cleaning). mark.Clean x line row ∷ os) m.0 ∙ ap (λ (x : ℕ). mark.Clean scope.what x row ∷ os) m.1) in
@@ -193,6 +232,12 @@ module _ (count : ℕ) (scope : ObjectScope) (now next : Draft) (at : innermost_
           record {
             steps = ks;
             none = n;
+            rows =
+                let k = ends_rows c what (way_rows ks (return_rows ms)) g x in
+                let w : cleaning_rows what ≡ cleaning_rows scope.what = ap cleaning_rows m.0 in
+                let grown = h.rows.more in
+                let there = u.rows in
+                omega (arith, k, w, grown, there, due);
             behind = Scoped c ss;
             middle = y;
             before = subst (λ (xs : List CodeMark). Pending (laid_in next) line ms a ks xs y) (sym marks) there;
@@ -209,9 +254,10 @@ module _ (count : ℕ) (scope : ObjectScope) (now next : Draft) (at : innermost_
       record {
         rest = h.rest ∙ ap (λ (d : Draft). let e : Draft = record d { ops = next.ops; rows = next.rows; settled = next.settled; marks = next.marks } in e) u.rest;
         kept = kept_then (laid_in old) (laid_in now) (laid_in next) u.kept h.kept;
+        ends = u.ends + (cleaning_rows scope.what + cleaning_rows scope.what);
         rows = fit_then h.kept.longer u.rows h.rows;
         room = (let r = h.room in let s = u.room in omega (arith, o, q));
-        block = λ line a y ks ms ss l n p k. scope_next line ms (block_of ks ss) a l (u.block line a y ks ms ss l n p k);
+        block = λ line a y ks ms ss l n p k. scope_next line ms (block_of ks ss) a (length old.rows + ended_rows (return_rows ms) ks) l (u.block line a y ks ms ss l n p k);
       }
 
   pub fewer_marks : length next.marks < length now.marks
@@ -225,16 +271,17 @@ pub scopes_ended : (count : ℕ) (old now : Draft) → innermost_in now.marks co
 scopes_ended count old now none u = record {
   rest = u.rest;
   kept = u.kept;
+  ends = u.ends;
   rows = u.rows;
   room = u.room;
-  block = λ line a y ks ms ss l n p h. stands line ms (block_of ks ss) a l (u.block line a y ks ms ss l n p h);
+  block = λ line a y ks ms ss l n p h. stands line ms (block_of ks ss) a (length old.rows + ended_rows (return_rows ms) ks) l (u.block line a y ks ms ss l n p h);
 }
   where
-    stands : (line : ℕ) (ms : List CodeMark) (whole : Stmts) (a : ℕ) → length ms ≡ count → Unended line ms whole a now → BlockStands line ms whole a now
-    stands line ms whole a l w = by_taken (taken_up (laid_in now) line ms a w.steps now.marks w.middle (length now.ops) w.behind w.none w.before w.code)
+    stands : (line : ℕ) (ms : List CodeMark) (whole : Stmts) (a total : ℕ) → length ms ≡ count → Unended line ms whole a total now → BlockStands line ms whole a total now
+    stands line ms whole a total l w = by_taken (taken_up (laid_in now) line ms a w.steps now.marks w.middle (length now.ops) w.behind w.none w.before w.code)
       where
-        by_taken : Taken (laid_in now) line ms a now.marks (length now.ops) (block_of w.steps w.behind) → BlockStands line ms whole a now
-        by_taken (Whole e s) = record { marks = e; code = subst (λ (ss : Stmts). StmtsAt (laid_in now) ms line ss a (length now.ops)) w.same (subst (λ (xs : List CodeMark). StmtsAt (laid_in now) xs line (block_of w.steps w.behind) a (length now.ops)) e s) }
-        by_taken (Within ks os y row c what ss x n e p g s q) =
+        by_taken : Taken (laid_in now) line ms a now.marks (length now.ops) (block_of w.steps w.behind) (ended_rows (return_rows ms) w.steps) → BlockStands line ms whole a total now
+        by_taken (Whole e due s) = record { marks = e; rows = (let r = w.rows in omega (arith, r, due)); code = subst (λ (ss : Stmts). StmtsAt (laid_in now) ms line ss a (length now.ops)) w.same (subst (λ (xs : List CodeMark). StmtsAt (laid_in now) xs line (block_of w.steps w.behind) a (length now.ops)) e s) }
+        by_taken (Within ks os y row c what ss x n e due p g s q) =
             let k = pending_marks (laid_in now) line ms a ks os y p in
             absurd (many_marks now.marks count row line c what os g x e (omega arith) none)

@@ -21,7 +21,7 @@ use Rattle.uc_code.specs.Lowered.{BranchesAt, StmtAt}
 use Rattle.uc_code.proofs.Patches.{length-patched, patched_at, same_after, same_before}
 use Rattle.uc_code.proofs.Stable.{kept_same, kept_then, one_stable}
 use Rattle.uc_lower_expr.specs.DraftGrowth.{Adds, OpCode}
-use Rattle.uc_lower_stmt.specs.Accepting.{BranchesCode, LowersBranches, branch_of, branches_room, choice_set, past_branches}
+use Rattle.uc_lower_stmt.specs.Accepting.{BranchesCode, LowersBranches, branch_of, branches_room, choice_set, past_branches, branches_meant}
 use Rattle.uc_lower_stmt.specs.Control.{LowersAlone, LowersMaybe, maybe_at_size, maybe_past}
 use Rattle.uc_lower_stmt.specs.LowersStatement.{Lowers, scope_of}
 use Rattle.uc_lower_stmt.specs.Marked.{objects_in}
@@ -30,7 +30,8 @@ use Rattle.uc_lower_stmt.proofs.Joined.{lowers_adds}
 use Rattle.uc_lower_stmt.proofs.BranchFitting.{no_clauses}
 use Rattle.uc_lower_stmt.proofs.Jumping.{kept_until, length_chosen, lowers_chosen, one_set}
 use Rattle.uc_lower_stmt.proofs.Kept.{branches_stable, stmt_stable}
-use Rattle.uc_lower_stmt.proofs.RowFitting.{fit_like, fit_then}
+use Rattle.uc_lower_stmt.proofs.RowFitting.{fit_count, fit_like, fit_then}
+use Rattle.uc_lower_stmt.specs.SourceRows.{clauses_rows_under, stmt_rows_under}
 
 -- without a clause
 
@@ -38,18 +39,23 @@ else_at_end : (p : Program) (line otherwise : ℕ) (other : MaybeStmt) (s : Scop
 else_at_end p line otherwise NoStmt s ms code a z e h = record { goes = e ∙ sym h.end; none = refl; nothing = h.end }
 else_at_end p line otherwise (OneStmt body) s ms code a z e h = record { here = e; none = refl; body = h }
 
+-- an `_Else` that is not there has no row
+else_rows : (p : Program) (other : MaybeStmt) (s : Scope) (ms : List CodeMark) → stmt_rows_under ms (maybe_meant p other s) ≡ clauses_rows_under ms (branches_meant p [] other s)
+else_rows p NoStmt s ms = refl
+else_rows p (OneStmt body) s ms = refl
+
 pub branch_last : (p : Program) (line else_at first here : ℕ) (xs : List Clause) (other : MaybeStmt) (d0 d1 new : Draft) → length xs ≡ 0 → here ≡ length d0.ops → d1 ≡ record d0 { ops = patched d0.ops else_at (op.Jump here) } → LowersMaybe p other d1 new
     → LowersBranches p line else_at first xs other d0 new
 branch_last p line else_at first here xs other d0 d1 new none he pt m =
     let long : length d1.ops ≡ length d0.ops = ap (λ (d : Draft). length d.ops) pt ∙ length-patched d0.ops else_at (op.Jump here) in
     let marks : d1.marks ≡ d0.marks = ap (λ (d : Draft). d.marks) pt in
     let k : MaybeIn p other d0.marks (scope_of d0) d1 new = maybe_as p other d0.marks (scope_of d0) d1 d1 new marks (ap scope_of pt) m in
-    let done : Lowers (0 + OPS_FOR_SIZE * maybe_at_size other (objects_in d0.marks)) (0 + maybe_stmt_size other) (0 + maybe_cells other (declared_cells p)) (0 + maybe_scopes other) (BranchesCode p line d0.marks [] other (scope_of d0) here []) (maybe_past p other (scope_of d0)) d1 new = record {
+    let done : Lowers (clauses_rows_under d0.marks (branches_meant p [] other (scope_of d0))) (0 + OPS_FOR_SIZE * maybe_at_size other (objects_in d0.marks)) (0 + maybe_stmt_size other) (0 + maybe_cells other (declared_cells p)) (0 + maybe_scopes other) (BranchesCode p line d0.marks [] other (scope_of d0) here []) (maybe_past p other (scope_of d0)) d1 new = record {
       rest = k.rest;
       scope = k.scope;
       opened = let w = k.opened in omega (arith, w);
       kept = k.kept;
-      rows = k.rows;
+      rows = fit_count (else_rows p other (scope_of d0) d0.marks) k.rows;
       room = let w = k.room in omega (arith, w);
       texts = let w = k.texts in omega (arith, w);
       cells = let w = k.cells in omega (arith, w);
@@ -59,7 +65,7 @@ branch_last p line else_at first here xs other d0 d1 new none he pt m =
       otherwise = here;
       places = [];
       count = refl;
-      branches = subst (λ (d : Draft). Lowers (0 + OPS_FOR_SIZE * maybe_at_size other (objects_in d0.marks)) (0 + maybe_stmt_size other) (0 + maybe_cells other (declared_cells p)) (0 + maybe_scopes other) (BranchesCode p line d0.marks [] other (scope_of d0) here []) (maybe_past p other (scope_of d0)) d new) pt done;
+      branches = subst (λ (d : Draft). Lowers (clauses_rows_under d0.marks (branches_meant p [] other (scope_of d0))) (0 + OPS_FOR_SIZE * maybe_at_size other (objects_in d0.marks)) (0 + maybe_stmt_size other) (0 + maybe_cells other (declared_cells p)) (0 + maybe_scopes other) (BranchesCode p line d0.marks [] other (scope_of d0) here []) (maybe_past p other (scope_of d0)) d new) pt done;
     })
 
 -- the first of clauses
@@ -133,7 +139,7 @@ module _ (p : Program) (line else_at first here leave end : ℕ) (place : Pos) (
       subst (λ (d : Draft). AloneIn p body ms s d (set d2)) start_is (lowers_chosen else_at (first + 1) o ps stable_body (omega arith) (omega arith) one)
 
   -- the op behind it
-  three : Lowers 1 0 0 0 (λ code. One code (op.Jump 0) line) (scope_of d2) (set d2) (set d3)
+  three : Lowers 0 1 0 0 0 (λ code. One code (op.Jump 0) line) (scope_of d2) (set d2) (set d3)
   three =
       let c = b.count in
       let l = long_one in
@@ -146,12 +152,12 @@ module _ (p : Program) (line else_at first here leave end : ℕ) (place : Pos) (
   abbrev size : ℕ → ℕ
   size k = branches_room xs k + OPS_FOR_SIZE * maybe_at_size other k
 
-  four : Lowers (size (objects_in ms)) (clauses_size (clauses_of xs) + maybe_stmt_size other) (clauses_cells (clauses_of xs) (declared_cells p) + maybe_cells other (declared_cells p)) (clauses_scopes (clauses_of xs) + maybe_scopes other)
+  four : Lowers (clauses_rows_under ms others) (size (objects_in ms)) (clauses_size (clauses_of xs) + maybe_stmt_size other) (clauses_cells (clauses_of xs) (declared_cells p) + maybe_cells other (declared_cells p)) (clauses_scopes (clauses_of xs) + maybe_scopes other)
       (λ code k z. BranchesAt code ms line others o ps z k z) (past_branches p xs other (scope_past p body s)) (set d3) d4
   four =
-      subst (λ (t : Scope). Lowers (size (objects_in ms)) (clauses_size (clauses_of xs) + maybe_stmt_size other) (clauses_cells (clauses_of xs) (declared_cells p) + maybe_cells other (declared_cells p)) (clauses_scopes (clauses_of xs) + maybe_scopes other)
+      subst (λ (t : Scope). Lowers (clauses_rows_under ms (branches_meant p xs other t)) (size (objects_in ms)) (clauses_size (clauses_of xs) + maybe_stmt_size other) (clauses_cells (clauses_of xs) (declared_cells p) + maybe_cells other (declared_cells p)) (clauses_scopes (clauses_of xs) + maybe_scopes other)
       (BranchesCode p line ms xs other t o ps) (past_branches p xs other t) (set d3) d4) scope_three (
-      subst (λ (ns : List CodeMark). Lowers (size (objects_in ns)) (clauses_size (clauses_of xs) + maybe_stmt_size other) (clauses_cells (clauses_of xs) (declared_cells p) + maybe_cells other (declared_cells p)) (clauses_scopes (clauses_of xs) + maybe_scopes other)
+      subst (λ (ns : List CodeMark). Lowers (clauses_rows_under ns (branches_meant p xs other (scope_of d3))) (size (objects_in ns)) (clauses_size (clauses_of xs) + maybe_stmt_size other) (clauses_cells (clauses_of xs) (declared_cells p) + maybe_cells other (declared_cells p)) (clauses_scopes (clauses_of xs) + maybe_scopes other)
       (BranchesCode p line ns xs other (scope_of d3) o ps) (past_branches p xs other (scope_of d3)) (set d3) d4) marks_three b.branches)
 
   abbrev was : Laid
@@ -207,7 +213,7 @@ module _ (p : Program) (line else_at first here leave end : ℕ) (place : Pos) (
       subst (λ (k : ℕ). BranchesCode p line ms (x ∷ xs) other s o (a ∷ ps) now k (length last.ops)) (sym long_start) (
       subst (λ (k : ℕ). BranchesCode p line ms (x ∷ xs) other s o (a ∷ ps) now a k) (sym long) (record { rest = ps; here = refl; middle = y; body = body_at; leave = leave_at; others = others_at }))
 
-  done : Lowers (1 + OPS_FOR_SIZE * size_at body (objects_in ms) + branches_room xs (objects_in ms) + OPS_FOR_SIZE * maybe_at_size other (objects_in ms)) (clauses_size (clauses_of (x ∷ xs)) + maybe_stmt_size other)
+  done : Lowers (clauses_rows_under ms (branches_meant p (x ∷ xs) other s)) (1 + OPS_FOR_SIZE * size_at body (objects_in ms) + branches_room xs (objects_in ms) + OPS_FOR_SIZE * maybe_at_size other (objects_in ms)) (clauses_size (clauses_of (x ∷ xs)) + maybe_stmt_size other)
       (clauses_cells (clauses_of (x ∷ xs)) (declared_cells p) + maybe_cells other (declared_cells p)) (clauses_scopes (clauses_of (x ∷ xs)) + maybe_scopes other)
       (BranchesCode p line ms (x ∷ xs) other s o (a ∷ ps)) (past_branches p (x ∷ xs) other s) start last
   done = record {
@@ -218,7 +224,7 @@ module _ (p : Program) (line else_at first here leave end : ℕ) (place : Pos) (
     scope = four.scope;
     opened = (let u = two.opened in let v = three.opened in let w = four.opened in omega arith);
     kept = kept_until (laid_in start) was y (op.Jump (length d4.ops)) kept_start (let l = long_start in let m = past in omega arith);
-    rows = fit_like start last refl refl refl refl long refl (fit_then four.kept.longer (fit_then three.kept.longer two.rows three.rows) four.rows);
+    rows = fit_count (omega arith) (fit_like start last refl refl refl refl long refl (fit_then four.kept.longer (fit_then three.kept.longer two.rows three.rows) four.rows));
     room = (let u = two.room in let v = three.room in let w = four.room in let l = long in omega arith);
     texts = (let u = two.texts in let v = three.texts in let w = four.texts in omega arith);
     cells = (let u = two.cells in let v = three.cells in let w = four.cells in omega arith);

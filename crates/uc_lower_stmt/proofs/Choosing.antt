@@ -25,21 +25,22 @@ use Rattle.uc_lower_expr.proofs.Settled.{both, expr_stable}
 use Rattle.uc_lower_stmt.specs.Marked.{objects_in}
 use Rattle.uc_lower_stmt.specs.LowersStatement.{Lowers, scope_of}
 use Rattle.uc_lower_stmt.specs.Control.{LowersAlone, LowersMaybe, LowersIf, maybe_past, maybe_at_size}
-use Rattle.uc_lower_stmt.proofs.Joined.{lowers_adds, lowers_as, lowers_join, lowers_put}
+use Rattle.uc_lower_stmt.specs.SourceRows.{stmt_rows_under}
+use Rattle.uc_lower_stmt.proofs.Joined.{lowers_adds, lowers_as, lowers_count, lowers_join, lowers_put}
 use Rattle.uc_lower_stmt.proofs.Kept.{stmt_stable}
 use Rattle.uc_lower_stmt.proofs.Shaping.{Longer, adds_longer, lowers_longer, longer_both, longer_fork, lowers_done}
 use Rattle.uc_code.proofs.Patches.{length-patched}
 
 -- a statement under these marks, in this scope
 abbrev pub AloneIn : Program → Stmt → List CodeMark → Scope → Draft → Draft → Type 0
-AloneIn p s ms t old new = Lowers (OPS_FOR_SIZE * size_at s (objects_in ms)) (stmt_size s) (stmt_cells s (declared_cells p)) (alone_scopes s + stmt_scopes s) (λ code. StmtAt code ms (stmt_meant p s t)) (scope_past p s t) old new
+AloneIn p s ms t old new = Lowers (stmt_rows_under ms (stmt_meant p s t)) (OPS_FOR_SIZE * size_at s (objects_in ms)) (stmt_size s) (stmt_cells s (declared_cells p)) (alone_scopes s + stmt_scopes s) (λ code. StmtAt code ms (stmt_meant p s t)) (scope_past p s t) old new
 
 -- the same code under other names of the same marks and scope
 pub alone_as : (p : Program) (s : Stmt) (ms : List CodeMark) (t : Scope) (d old new : Draft) → d.marks ≡ ms → scope_of d ≡ t → AloneIn p s d.marks (scope_of d) old new → AloneIn p s ms t old new
 alone_as p s ms t d old new e f h = subst (λ (u : Scope). AloneIn p s ms u old new) f (subst (λ (ns : List CodeMark). AloneIn p s ns (scope_of d) old new) e h)
 
 abbrev pub MaybeIn : Program → MaybeStmt → List CodeMark → Scope → Draft → Draft → Type 0
-MaybeIn p m ms t old new = Lowers (OPS_FOR_SIZE * maybe_at_size m (objects_in ms)) (maybe_stmt_size m) (maybe_cells m (declared_cells p)) (maybe_scopes m) (λ code. StmtAt code ms (maybe_meant p m t)) (maybe_past p m t) old new
+MaybeIn p m ms t old new = Lowers (stmt_rows_under ms (maybe_meant p m t)) (OPS_FOR_SIZE * maybe_at_size m (objects_in ms)) (maybe_stmt_size m) (maybe_cells m (declared_cells p)) (maybe_scopes m) (λ code. StmtAt code ms (maybe_meant p m t)) (maybe_past p m t) old new
 
 pub maybe_as : (p : Program) (m : MaybeStmt) (ms : List CodeMark) (t : Scope) (d old new : Draft) → d.marks ≡ ms → scope_of d ≡ t → MaybeIn p m d.marks (scope_of d) old new → MaybeIn p m ms t old new
 maybe_as p m ms t d old new e f h = subst (λ (u : Scope). MaybeIn p m ms u old new) f (subst (λ (ns : List CodeMark). MaybeIn p m ns (scope_of d) old new) e h)
@@ -113,4 +114,4 @@ module _ (p : Program) (line : ℕ) (test : tree.Expr) (chosen : Stmt) (other : 
       let three = both two (one_stable (op.Jump 0) line) in
       let all = lowers_join three (lowers_put two (lowers_join one (lowers_put (expr_stable line ms value) (lowers_adds 0 0 a) b) first) c) second in
       let ops_are : new ≡ record e5 { ops = new.ops } = f ∙ ap (λ (l : List Instruction). let d : Draft = record e5 { ops = l } in d) (sym (ap (λ (d : Draft). d.ops) f)) in
-      lowers_as (lowers_done all ops_are (ap length is ∙ length-patched (patched e5.ops (length e1.ops) (op.IfZero (length e3.ops + 1))) (length e3.ops) (op.Jump (length e5.ops)) ∙ length-patched e5.ops (length e1.ops) (op.IfZero (length e3.ops + 1))) whole) refl (λ code x z w. w) (omega arith) (omega arith) (omega arith) (omega arith)
+      lowers_count (omega arith) (lowers_as (lowers_done all ops_are (ap length is ∙ length-patched (patched e5.ops (length e1.ops) (op.IfZero (length e3.ops + 1))) (length e3.ops) (op.Jump (length e5.ops)) ∙ length-patched e5.ops (length e1.ops) (op.IfZero (length e3.ops + 1))) whole) refl (λ code x z w. w) (omega arith) (omega arith) (omega arith) (omega arith))

@@ -82,9 +82,9 @@ pub arm_declared : (p : Program) (b : Base) (d : Declarator) (line cell cells : 
     → cell ≡ d0.cells → cells ≡ declared_cells p b d → x ≡ shape_of b → st ≡ d.start → name ≡ d.name → ty ≡ declared_type p b d
     → Adds 1 (OpCode line (op.Clear cell cells)) d0 d1 → Adds (OPS_FOR_SIZE * start_size st + 3) (StartCode line d1.marks cell (start_meant (context_in p d1) x st)) d1 d2
     → new ≡ record d2 { names = d2.names ++ record { name = name; ty = ty; cell = d2.cells } ∷ []; cells = d2.cells + cells }
-    → Lowers (OPS_FOR_SIZE * declarator_size d) 0 (declared_cells p b d) 0 (VariablesCode line d0.marks (declared_meant p (scope_of d0) b d ∷ [])) (with_declared p (scope_of d0) b d) d0 new
+    → Lowers 0 (OPS_FOR_SIZE * declarator_size d) 0 (declared_cells p b d) 0 (VariablesCode line d0.marks (declared_meant p (scope_of d0) b d ∷ [])) (with_declared p (scope_of d0) b d) d0 new
 arm_declared p b d line cell cells name ty x st d0 d1 d2 new le ce xe se ne te h g e =
-    subst (λ (y : Draft). Lowers (OPS_FOR_SIZE * declarator_size d) 0 (declared_cells p b d) 0 (VariablesCode line d0.marks (declared_meant p (scope_of d0) b d ∷ [])) (with_declared p (scope_of d0) b d) d0 y) (sym (e ∙ f)) (record {
+    subst (λ (y : Draft). Lowers 0 (OPS_FOR_SIZE * declarator_size d) 0 (declared_cells p b d) 0 (VariablesCode line d0.marks (declared_meant p (scope_of d0) b d ∷ [])) (with_declared p (scope_of d0) b d) d0 y) (sym (e ∙ f)) (record {
       rest = refl;
       scope = refl;
       opened = omega arith;
@@ -156,17 +156,17 @@ declarators_fit f (y ∷ ys) zero x h e = let a : declarator_size x ≡ declarat
 declarators_fit f (y ∷ ys) (suc i) x h e = let r = declarators_fit f ys i x (omega arith) e in let q = r.0 in let w = r.1 in (omega arith, omega arith)
 
 pub declarators_step : (p : Program) (b : Base) (xs : List Declarator) (i : ℕ) (x : Declarator) (line : ℕ) (old mid new : Draft) → i < length xs → x ≡ get_or xs i x
-    → Lowers (OPS_FOR_SIZE * declarators_size (take i xs)) 0 (declarators_cells (declared_cells p b) (take i xs)) 0 (VariablesCode line old.marks (all_declared p (scope_of old) b (take i xs))) (with_all p (scope_of old) b (take i xs)) old mid
-    → Lowers (OPS_FOR_SIZE * declarator_size x) 0 (declared_cells p b x) 0 (VariablesCode line mid.marks (declared_meant p (scope_of mid) b x ∷ [])) (with_declared p (scope_of mid) b x) mid new
-    → Lowers (OPS_FOR_SIZE * declarators_size (take (i + 1) xs)) 0 (declarators_cells (declared_cells p b) (take (i + 1) xs)) 0 (VariablesCode line old.marks (all_declared p (scope_of old) b (take (i + 1) xs))) (with_all p (scope_of old) b (take (i + 1) xs)) old new
+    → Lowers 0 (OPS_FOR_SIZE * declarators_size (take i xs)) 0 (declarators_cells (declared_cells p b) (take i xs)) 0 (VariablesCode line old.marks (all_declared p (scope_of old) b (take i xs))) (with_all p (scope_of old) b (take i xs)) old mid
+    → Lowers 0 (OPS_FOR_SIZE * declarator_size x) 0 (declared_cells p b x) 0 (VariablesCode line mid.marks (declared_meant p (scope_of mid) b x ∷ [])) (with_declared p (scope_of mid) b x) mid new
+    → Lowers 0 (OPS_FOR_SIZE * declarators_size (take (i + 1) xs)) 0 (declarators_cells (declared_cells p b) (take (i + 1) xs)) 0 (VariablesCode line old.marks (all_declared p (scope_of old) b (take (i + 1) xs))) (with_all p (scope_of old) b (take (i + 1) xs)) old new
 declarators_step p b xs i x line old mid new h e g k =
     let ys : List Declarator = take i xs in
     let s : Scope = scope_of old in
     let split : ys ++ x ∷ [] ≡ take (i + 1) xs = ap (λ (y : Declarator). ys ++ y ∷ []) e ∙ sym (take_more xs i x h) in
-    let k0 : Lowers (OPS_FOR_SIZE * declarator_size x) 0 (declared_cells p b x) 0 (VariablesCode line old.marks (declared_meant p (scope_of mid) b x ∷ [])) (with_declared p (scope_of mid) b x) mid new =
-    subst (λ (l : List CodeMark). Lowers (OPS_FOR_SIZE * declarator_size x) 0 (declared_cells p b x) 0 (VariablesCode line l (declared_meant p (scope_of mid) b x ∷ [])) (with_declared p (scope_of mid) b x) mid new) (ap (λ (d : Draft). d.marks) g.rest) k in
-    let k1 : Lowers (OPS_FOR_SIZE * declarator_size x) 0 (declared_cells p b x) 0 (VariablesCode line old.marks (declared_meant p (with_all p s b ys) b x ∷ [])) (with_declared p (with_all p s b ys) b x) mid new =
-    subst (λ (t : Scope). Lowers (OPS_FOR_SIZE * declarator_size x) 0 (declared_cells p b x) 0 (VariablesCode line old.marks (declared_meant p t b x ∷ [])) (with_declared p t b x) mid new) g.scope k0 in
-    subst (λ (zs : List Declarator). Lowers (OPS_FOR_SIZE * declarators_size zs) 0 (declarators_cells (declared_cells p b) zs) 0 (VariablesCode line old.marks (all_declared p s b zs)) (with_all p s b zs) old new) split (
+    let k0 : Lowers 0 (OPS_FOR_SIZE * declarator_size x) 0 (declared_cells p b x) 0 (VariablesCode line old.marks (declared_meant p (scope_of mid) b x ∷ [])) (with_declared p (scope_of mid) b x) mid new =
+    subst (λ (l : List CodeMark). Lowers 0 (OPS_FOR_SIZE * declarator_size x) 0 (declared_cells p b x) 0 (VariablesCode line l (declared_meant p (scope_of mid) b x ∷ [])) (with_declared p (scope_of mid) b x) mid new) (ap (λ (d : Draft). d.marks) g.rest) k in
+    let k1 : Lowers 0 (OPS_FOR_SIZE * declarator_size x) 0 (declared_cells p b x) 0 (VariablesCode line old.marks (declared_meant p (with_all p s b ys) b x ∷ [])) (with_declared p (with_all p s b ys) b x) mid new =
+    subst (λ (t : Scope). Lowers 0 (OPS_FOR_SIZE * declarator_size x) 0 (declared_cells p b x) 0 (VariablesCode line old.marks (declared_meant p t b x ∷ [])) (with_declared p t b x) mid new) g.scope k0 in
+    subst (λ (zs : List Declarator). Lowers 0 (OPS_FOR_SIZE * declarators_size zs) 0 (declarators_cells (declared_cells p b) zs) 0 (VariablesCode line old.marks (all_declared p s b zs)) (with_all p s b zs) old new) split (
     lowers_as (lowers_join (variables_stable line old.marks (all_declared p s b ys)) g k1) (with_push p b ys x s) (λ code a z w. variables_push p b line old.marks code ys x s a w.middle z w.first w.second)
     (omega (arith, sizes_push ys x)) (omega arith) (omega (arith, cells_push (declared_cells p b) ys x)) (omega arith))

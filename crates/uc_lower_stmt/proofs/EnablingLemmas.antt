@@ -47,7 +47,8 @@ use Rattle.uc_lower_stmt.proofs.Joined.{lowers_as, lowers_join, lowers_puts, put
 use Rattle.uc_lower_stmt.proofs.Kept.{stmt_stable}
 use Rattle.uc_lower_stmt.proofs.Stating.{as_stmt}
 use Rattle.uc_lower_stmt.specs.RowFit.{RowsFit, open_rows}
-use Rattle.uc_lower_stmt.proofs.RowFitting.{fit_like, fit_none, fit_opened, fit_then}
+use Rattle.uc_lower_stmt.proofs.RowFitting.{fit_like, fit_none, fit_opened, fit_then, fit_count}
+use Rattle.uc_lower_stmt.specs.SourceRows.{event_rows_under, stmt_rows_under}
 
 -- the events of a list
 
@@ -106,6 +107,11 @@ event_at enabling.Enable events cell line s code ms a z h =
       };
     }
 event_at enabling.Disable events cell line s code ms a z h = h
+
+-- its rows: those of what is done in its scope, and that of the scope
+enabling_rows : (how : Enabling) (line events hidden cell row : ℕ) (s : source.Stmt) (ms : List CodeMark) → event_rows_under ms (enabling_as how line events hidden s) ≡ stmt_rows_under (mark.Clean (cleaning.Restore cell) line row ∷ ms) s + 1
+enabling_rows enabling.Enable line events hidden cell row s ms = omega arith
+enabling_rows enabling.Disable line events hidden cell row s ms = omega arith
 
 -- a scope is opened behind one hidden cell more, and events are enabled or disabled in it
 
@@ -238,9 +244,12 @@ module _ (p : Program) (how : Enabling) (line mask cell : ℕ) (es : List EventN
           opened = let x = h4.opened in omega (arith, x, scopes, scopes_new);
           kept = kept_new;
           rows =
-              let one : RowsFit 0 d1 d2 = fit_opened (opening.Object (cleaning.Restore cell) line) d1 d2 h2 in
-              let begun : RowsFit 0 d0 d2 = fit_like d0 d2 (sym (ap (λ (d : Draft). d.rows) h1)) (sym (ap (λ (d : Draft). length d.ops) h1)) (sym (ap (λ (d : Draft). open_rows d.marks) h1)) refl refl refl one in
-              fit_then h5.kept.longer (fit_then h4.kept.longer (fit_then h3.kept.longer begun (fit_none h3)) h4.rows) h5.rows;
+              let one : RowsFit 0 1 d1 d2 = fit_opened (opening.Object (cleaning.Restore cell) line) d1 d2 h2 in
+              let begun : RowsFit 0 1 d0 d2 = fit_like d0 d2 (sym (ap (λ (d : Draft). d.rows) h1)) (sym (ap (λ (d : Draft). length d.ops) h1)) (sym (ap (λ (d : Draft). open_rows d.marks) h1)) refl refl refl one in
+              let under : stmt_rows_under d3.marks (stmt_meant p body (scope_of d3)) ≡ stmt_rows_under (m ∷ d0.marks) done =
+              ap (λ (ns : List CodeMark). stmt_rows_under ns (stmt_meant p body (scope_of d3))) marks3 ∙ ap (λ (t : Scope). stmt_rows_under (m ∷ d0.marks) (stmt_meant p body t)) scope3 in
+              let whole = enabling_rows how line (events_meant p es) d0.hidden cell (length d1.rows) done d0.marks in
+              fit_count (omega (arith, under, whole)) (fit_then h5.kept.longer (fit_then h4.kept.longer (fit_then h3.kept.longer begun (fit_none h3)) h4.rows) h5.rows);
           room = let x = h5.room in let y = room_done in omega (arith, x, y);
           texts = let x = h4.texts in omega (arith, x, texts, texts_new);
           cells = let x = h4.cells in omega (arith, x, cells, cells_new);

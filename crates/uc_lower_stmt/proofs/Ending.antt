@@ -249,11 +249,17 @@ module _ (r n line end ahead : ℕ) (what : Cleaning) (d0 d1 d2 d3 d4 : Draft) (
       let e : length d0.ops + ahead ≡ length d2.ops + 1 = (let a = ops2 in let b = ae in omega arith) in
       keep1.handlers row (clean_up (length d2.ops + 1)) (subst (λ k. HandlerAt (laid_in d1) row (clean_up k)) e (h1 row h))
 
-  scope_with : (m : ℕ) → length d4.ops ≤ length d0.ops + m → cleaning_rows what + r + 1 + length d0.ops ≤ length d4.ops → ClosesScope m what line d0 d4
-  scope_with m l pays = record {
+  scope_with : (m : ℕ) → r ≡ cleaning_rows what → length d4.ops ≤ length d0.ops + m → cleaning_rows what + r + 1 + length d0.ops ≤ length d4.ops → ClosesScope m what line d0 d4
+  scope_with m re l pays = record {
     rest = like_puts d0 d3 d4 (like_puts d0 d2 d3 (like_puts d0 d1 d2 (like_closed ahead d0 d0 d1 refl c1) p2) p3) p4;
     kept = kept_then (laid_in d0) (laid_in d1) code k1 keep1;
     rows = record {
+      more =
+          let x1 = (rows_closed ahead d0 d1 c1).more in
+          let x2 = p2.rows.more in
+          let x3 = p3.rows.more in
+          let x4 = p4.rows.more in
+          omega (arith, re);
       few =
           let x1 = (rows_closed ahead d0 d1 c1).more in
           let x2 = p2.rows.more in
@@ -291,7 +297,7 @@ scope_closed line end ahead what d0 d1 d2 d3 d4 s l c1 k1 h1 p2 p3 p4 ae ee =
     let b = p3.code.end in
     let c = pad_is (laid_in d4) line what d3.marks (length d3.ops) (length d4.ops) l p4.code in
     let f = close_few what l in
-    scope_with (cleaning_rows what) (most_clean what + 1) line end ahead what d0 d1 d2 d3 d4 s c1 k1 h1 (puts_more (most_few what) p2) p3 p4 ae (omega (arith, ee)) (close_room what) (omega (arith, ee)) (let g = clean_long what in omega (arith, ee, g))
+    scope_with (cleaning_rows what) (most_clean what + 1) line end ahead what d0 d1 d2 d3 d4 s c1 k1 h1 (puts_more (most_few what) p2) p3 p4 ae (omega (arith, ee)) (close_room what) refl (omega (arith, ee)) (let g = clean_long what in omega (arith, ee, g))
 
 -- a mutex call: its pad, and its end
 
@@ -374,7 +380,7 @@ call_closed line end routine d0 d1 d2 d3 d4 s body c1 k1 h1 p2 p3 p4 ee =
     let past = marks_past_scope cleaning.Leave line 6 d0 d1 s c1 in
     let m3 : d3.marks ≡ mark.Body routine ∷ [] = marks_of p3 ∙ (marks_of p2 ∙ (past ∙ body)) in
     let c = arrival_is (laid_in d4) line routine (length d3.ops) (length d4.ops) d3.marks m3 p4.code in
-    scope_with 0 13 line end 6 cleaning.Leave d0 d1 d2 d3 d4 s c1 k1 h1 p2 p3 p4 refl (omega (arith, ee)) call_room (omega arith) (omega arith)
+    scope_with 0 13 line end 6 cleaning.Leave d0 d1 d2 d3 d4 s c1 k1 h1 p2 p3 p4 refl (omega (arith, ee)) call_room refl (omega arith) (omega arith)
 
 module _ (line end : ℕ) (what : Cleaning) (d0 d1 d2 d3 d4 : Draft) (in_part : InPart d0.marks)
     (c1 : d1 ≡ closed 1 d0) (k1 : Kept (laid_in d0) (laid_in d1)) (h1 : (row : ℕ) → handler_in d0.marks ≡ Some row → HandlerAt (laid_in d1) row (clean_up (length d0.ops + 1)))
@@ -432,6 +438,12 @@ module _ (line end : ℕ) (what : Cleaning) (d0 d1 d2 d3 d4 : Draft) (in_part : 
     rest = like_puts d0 d3 d4 (like_puts d0 d2 d3 (like_puts d0 d1 d2 (like_closed 1 d0 d0 d1 refl c1) p2) p3) p4;
     kept = kept_then (laid_in d0) (laid_in d1) all k1 stay1;
     rows = record {
+      more =
+          let x1 = (rows_closed 1 d0 d1 c1).more in
+          let x2 = p2.rows.more in
+          let x3 = p3.rows.more in
+          let x4 = p4.rows.more in
+          omega arith;
       few =
           let x1 = (rows_closed 1 d0 d1 c1).more in
           let x2 = p2.rows.more in

@@ -61,8 +61,8 @@ fits_like {p} {n} {c} {o} {k} d e h1 h2 h3 h4 h5 h6 f = record {
 
 -- behind a piece
 
-pub fits_from : {p : Program} {less f n m k j c b o q : ℕ} {S : Laid → ℕ → ℕ → Type 0} {t : Scope} {old new : Draft} → Fits p (n + m) (c + b) (o + q) (k + j) old → LowersFrom less f n k c o S t old new → Fits p m b q j new
-fits_from {p} {less} {f} {n} {m} {k} {j} {c} {b} {o} {q} {S} {t} {old} {new} h w =
+pub fits_from : {p : Program} {less r f n m k j c b o q : ℕ} {S : Laid → ℕ → ℕ → Type 0} {t : Scope} {old new : Draft} → Fits p (n + m) (c + b) (o + q) (k + j) old → LowersFrom less r f n k c o S t old new → Fits p m b q j new
+fits_from {p} {less} {r} {f} {n} {m} {k} {j} {c} {b} {o} {q} {S} {t} {old} {new} h w =
     let routine : routine_in new.marks ≡ routine_in old.marks = ap (λ (d : Draft). routine_in d.marks) w.rest in
     let objects : closing new.marks ≡ closing old.marks = ap (λ (d : Draft). closing d.marks) w.rest in
     record {
@@ -74,7 +74,7 @@ fits_from {p} {less} {f} {n} {m} {k} {j} {c} {b} {o} {q} {S} {t} {old} {new} h w
       texts = let x = h.texts in let y = w.texts in omega (arith, x, y);
     }
 
-pub fits_behind : {p : Program} {n m k j c b o q : ℕ} {S : Laid → ℕ → ℕ → Type 0} {t : Scope} {old new : Draft} → Fits p (n + m) (c + b) (o + q) (k + j) old → Lowers n k c o S t old new → Fits p m b q j new
+pub fits_behind : {p : Program} {r n m k j c b o q : ℕ} {S : Laid → ℕ → ℕ → Type 0} {t : Scope} {old new : Draft} → Fits p (n + m) (c + b) (o + q) (k + j) old → Lowers r n k c o S t old new → Fits p m b q j new
 fits_behind h w = fits_from h (from_lowers 0 w)
 
 pub fits_adds : {p : Program} {n m c o k : ℕ} {S : Laid → ℕ → ℕ → Type 0} {old new : Draft} → Fits p (n + m) c o k old → Adds n S old new → Fits p m c o k new

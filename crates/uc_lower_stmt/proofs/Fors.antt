@@ -34,6 +34,7 @@ use Rattle.uc_lower_stmt.proofs.Growth.{exits_grow}
 use Rattle.uc_lower_stmt.proofs.Joined.{lowers_adds, lowers_as, lowers_nothing}
 use Rattle.uc_lower_stmt.proofs.Laying.{lays_as, lays_ended, lays_join, lays_one}
 use Rattle.uc_lower_stmt.proofs.Scoping.{opened, lowers_scoped, for_added, taken}
+use Rattle.uc_lower_stmt.specs.SourceRows.{stmt_rows_under}
 
 -- what it begins with
 
@@ -42,7 +43,7 @@ start_as p line x y old new e h = subst (λ z. LaysStart p line z old new) e h
 
 pub arm_start_nothing : (p : Program) (line : ℕ) (y : ForStart) (old : Draft) → NoFor ≡ y → LaysStart p line y old old
 arm_start_nothing p line y old e =
-    let none : Lowers 0 0 0 0 (λ code. StmtAt code old.marks (source.Skip line)) (scope_of old) old old = lowers_nothing old in
+    let none : Lowers (stmt_rows_under old.marks (source.Skip line)) 0 0 0 0 (λ code. StmtAt code old.marks (source.Skip line)) (scope_of old) old old = lowers_nothing old in
     start_as p line NoFor y old old e (lays_one line none)
 
 pub arm_start_declare : (p : Program) (line : ℕ) (y : ForStart) (place : Pos) (b : Base) (xs ys : List Declarator) (old new : Draft) → ForDeclare place b ys ≡ y → xs ≡ ys → LaysDeclaration p line line b xs old new → LaysStart p line y old new
@@ -50,7 +51,7 @@ arm_start_declare p line y place b xs ys old new e i a = start_as p line (ForDec
 
 pub arm_start_evaluate : (p : Program) (line : ℕ) (y : ForStart) (e : tree.Expr) (old mid new : Draft) → ForEvaluate e ≡ y → 1 ≤ expr_size e → Adds (OPS_FOR_SIZE * expr_size e - 2) (ExprCode line old.marks (meant (context_in p old) e).expr) old mid → Adds 1 (OpCode line op.Discard) mid new → LaysStart p line y old new
 arm_start_evaluate p line y e old mid new is l a b =
-    let one : Lowers (OPS_FOR_SIZE * expr_size e - 2 + 1) 0 0 0 (λ code. StmtAt code old.marks (source.Evaluate line (meant (context_in p old) e).expr)) (scope_of old) old new =
+    let one : Lowers (stmt_rows_under old.marks (source.Evaluate line (meant (context_in p old) e).expr)) (OPS_FOR_SIZE * expr_size e - 2 + 1) 0 0 0 (λ code. StmtAt code old.marks (source.Evaluate line (meant (context_in p old) e).expr)) (scope_of old) old new =
     lowers_adds 0 0 (adds_both (expr_stable line old.marks (meant (context_in p old) e).expr) a b) in
     start_as p line (ForEvaluate e) y old new is (lays_as (lays_one line one) refl (λ ss. refl) (omega (arith, l)) (omega arith) (omega arith) (omega arith) (omega arith))
 
@@ -60,12 +61,12 @@ for_is f g s e h = ap for_at (sym e) ∙ h
 -- the whole
 
 loop_as : (p : Program) (line : ℕ) (t : Turning) (test step : Option tree.Expr) (body : Stmt) (s : Scope) (n : ℕ) (old new : Draft) → scope_of old ≡ s → turning_order t ≡ order_of p test → turning_test p s t ≡ test_of p s test
-    → Lowers n (stmt_size body) (stmt_cells body (declared_cells p)) (alone_scopes body + stmt_scopes body) (λ code. StmtAt code old.marks (loop_meant p line (turning_order t) (turning_test p (scope_of old) t) step body (scope_of old))) (scope_past p body (scope_of old)) old new
-    → Lowers n (stmt_size body) (stmt_cells body (declared_cells p)) (alone_scopes body + stmt_scopes body) (λ code. StmtAt code old.marks (loop_meant p line (order_of p test) (test_of p s test) step body s)) (scope_past p body s) old new
+    → Lowers (stmt_rows_under old.marks (loop_meant p line (turning_order t) (turning_test p (scope_of old) t) step body (scope_of old))) n (stmt_size body) (stmt_cells body (declared_cells p)) (alone_scopes body + stmt_scopes body) (λ code. StmtAt code old.marks (loop_meant p line (turning_order t) (turning_test p (scope_of old) t) step body (scope_of old))) (scope_past p body (scope_of old)) old new
+    → Lowers (stmt_rows_under old.marks (loop_meant p line (order_of p test) (test_of p s test) step body s)) n (stmt_size body) (stmt_cells body (declared_cells p)) (alone_scopes body + stmt_scopes body) (λ code. StmtAt code old.marks (loop_meant p line (order_of p test) (test_of p s test) step body s)) (scope_past p body s) old new
 loop_as p line t test step body s n old new f o q h =
-    subst (λ (x : Expr). Lowers n (stmt_size body) (stmt_cells body (declared_cells p)) (alone_scopes body + stmt_scopes body) (λ code. StmtAt code old.marks (loop_meant p line (order_of p test) x step body s)) (scope_past p body s) old new) q (
-    subst (λ (x : Order). Lowers n (stmt_size body) (stmt_cells body (declared_cells p)) (alone_scopes body + stmt_scopes body) (λ code. StmtAt code old.marks (loop_meant p line x (turning_test p s t) step body s)) (scope_past p body s) old new) o (
-    subst (λ (u : Scope). Lowers n (stmt_size body) (stmt_cells body (declared_cells p)) (alone_scopes body + stmt_scopes body) (λ code. StmtAt code old.marks (loop_meant p line (turning_order t) (turning_test p u t) step body u)) (scope_past p body u) old new) f h))
+    subst (λ (x : Expr). Lowers (stmt_rows_under old.marks (loop_meant p line (order_of p test) x step body s)) n (stmt_size body) (stmt_cells body (declared_cells p)) (alone_scopes body + stmt_scopes body) (λ code. StmtAt code old.marks (loop_meant p line (order_of p test) x step body s)) (scope_past p body s) old new) q (
+    subst (λ (x : Order). Lowers (stmt_rows_under old.marks (loop_meant p line x (turning_test p s t) step body s)) n (stmt_size body) (stmt_cells body (declared_cells p)) (alone_scopes body + stmt_scopes body) (λ code. StmtAt code old.marks (loop_meant p line x (turning_test p s t) step body s)) (scope_past p body s) old new) o (
+    subst (λ (u : Scope). Lowers (stmt_rows_under old.marks (loop_meant p line (turning_order t) (turning_test p u t) step body u)) n (stmt_size body) (stmt_cells body (declared_cells p)) (alone_scopes body + stmt_scopes body) (λ code. StmtAt code old.marks (loop_meant p line (turning_order t) (turning_test p u t) step body u)) (scope_past p body u) old new) f h))
 
 pub arm_for : (p : Program) (line count : ℕ) (start : ForStart) (test step : Option tree.Expr) (body : Stmt) (t : Turning) (out : OuterScope) (old d1 d2 d3 d4 new : Draft) → out ≡ record { names = length old.names; scope = old.place.scope } → d1 ≡ opened old
     → count ≡ length d1.marks → LaysStart p line start d1 d2 → turning_order t ≡ order_of p test → ((s : Scope) → turning_test p s t ≡ test_of p s test) → turning_size t ≡ maybe_expr_size test → LowersLoop p line t step body d2 d3 → EndsScopes count d3 d4

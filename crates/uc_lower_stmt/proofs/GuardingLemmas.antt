@@ -7,6 +7,7 @@ use Rattle.uc_code.specs.declared.rows.CodeMark.{CodeMark}
 use Rattle.uc_code.specs.Drafts.{Draft}
 use Rattle.uc_code.specs.Layout.{Laid, guards, laid_in, routine_in}
 use Rattle.uc_code.specs.CodeShapes.{Both, Kept, KeptBut, Same, Stable}
+use Rattle.uc_code.specs.RowCounts.{loop_rows, return_rows}
 use Rattle.uc_lower_stmt.specs.Guarding.{KeptUnder, LowersFrom}
 use Rattle.uc_lower_stmt.specs.Marked.{closing, objects_in}
 use Rattle.uc_lower_stmt.specs.LowersStatement.{Lowers}
@@ -25,6 +26,14 @@ guards_closing first (suc n) ms = guards_closing first n ms
 pub guards_routine : (first n : ℕ) (ms : List CodeMark) → routine_in (guards first n ms) ≡ routine_in ms
 guards_routine first zero ms = refl
 guards_routine first (suc n) ms = guards_routine first n ms
+
+pub guards_loop : (first n : ℕ) (ms : List CodeMark) → loop_rows (guards first n ms) ≡ loop_rows ms
+guards_loop first zero ms = refl
+guards_loop first (suc n) ms = guards_loop first n ms
+
+pub guards_return : (first n : ℕ) (ms : List CodeMark) → return_rows (guards first n ms) ≡ return_rows ms
+guards_return first zero ms = refl
+guards_return first (suc n) ms = guards_return first n ms
 
 -- rows get their handlers
 
@@ -72,8 +81,8 @@ under_same n old new a z b k = record { same = λ i op line l m o. k.same i op l
 
 -- pieces are joined
 
-pub from_join : {u v f g n k c o m j b q : ℕ} {S T : Laid → ℕ → ℕ → Type 0} {s t : Scope} {old mid new : Draft} → g ≤ f → Stable S → LowersFrom u f n k c o S s old mid → LowersFrom v g m j b q T t mid new → LowersFrom (u + v) g (n + m) (k + j) (c + b) (o + q) (λ code. Both (S code) (T code)) t old new
-from_join {u} {v} {f} {g} {n} {k} {c} {o} {m} {j} {b} {q} {S} {T} {s} {t} {old} {mid} {new} l st h w = record {
+pub from_join : {u v x y f g n k c o m j b q : ℕ} {S T : Laid → ℕ → ℕ → Type 0} {s t : Scope} {old mid new : Draft} → g ≤ f → Stable S → LowersFrom u x f n k c o S s old mid → LowersFrom v y g m j b q T t mid new → LowersFrom (u + v) (x + y) g (n + m) (k + j) (c + b) (o + q) (λ code. Both (S code) (T code)) t old new
+from_join {u} {v} {x} {y} {f} {g} {n} {k} {c} {o} {m} {j} {b} {q} {S} {T} {s} {t} {old} {mid} {new} l st h w = record {
   rest = w.rest ∙ ap (λ (x : Draft). let y : Draft = record x { ops = new.ops; rows = new.rows; settled = new.settled; scopes = new.scopes; names = new.names; cells = new.cells; hidden = new.hidden; texts = new.texts; sites = new.sites } in y) h.rest;
   scope = w.scope;
   opened = let a = h.opened in let e = w.opened in omega arith;
@@ -85,8 +94,8 @@ from_join {u} {v} {f} {g} {n} {k} {c} {o} {m} {j} {b} {q} {S} {T} {s} {t} {old} 
   code = record { middle = length mid.ops; first = st.moves (laid_in mid) (laid_in new) (length old.ops) (length mid.ops) (under_same g (laid_in mid) (laid_in new) (length old.ops) (length mid.ops) (omega arith) w.kept) h.code; second = w.code };
 }
 
-pub from_lowers : {n k c o : ℕ} {S : Laid → ℕ → ℕ → Type 0} {t : Scope} {old new : Draft} → (f : ℕ) → Lowers n k c o S t old new → LowersFrom 0 f n k c o S t old new
-from_lowers {n} {k} {c} {o} {S} {t} {old} {new} f h = record {
+pub from_lowers : {r n k c o : ℕ} {S : Laid → ℕ → ℕ → Type 0} {t : Scope} {old new : Draft} → (f : ℕ) → Lowers r n k c o S t old new → LowersFrom 0 r f n k c o S t old new
+from_lowers {r} {n} {k} {c} {o} {S} {t} {old} {new} f h = record {
   rest = h.rest;
   scope = h.scope;
   opened = h.opened;

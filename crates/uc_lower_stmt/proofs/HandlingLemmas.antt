@@ -34,18 +34,21 @@ use Rattle.uc_code.proofs.Sweeping.{closed_marks, closed_ops, like_closed}
 use Rattle.uc_lower_expr.proofs.Settled.{both}
 use Rattle.uc_lower_expr.specs.DraftGrowth.{Adds, OpCode}
 use Rattle.uc_lower_stmt.specs.Guarding.{LowersFrom}
-use Rattle.uc_lower_stmt.specs.Handling.{EntersHandler, HandlerCode, LowersBody, LowersHandler, LowersHandlers, past_handlers}
+use Rattle.uc_lower_stmt.specs.Handling.{EntersHandler, HandlerCode, LowersBody, LowersHandler, LowersHandlers, past_handlers, handler_body_rows}
 use Rattle.uc_lower_stmt.specs.Marked.{objects_in}
 use Rattle.uc_lower_stmt.specs.LowersStatement.{LowersStmts, scope_of, sizes_at}
 use Rattle.uc_lower_stmt.proofs.Counted.{behind_counted, counted}
 use Rattle.uc_lower_stmt.proofs.GuardingLemmas.{from_join, from_lowers, under_but, under_kept, under_then}
-use Rattle.uc_lower_stmt.proofs.Joined.{lowers_as, lowers_nothing, lowers_put}
+use Rattle.uc_lower_stmt.proofs.Joined.{lowers_as, lowers_nothing, lowers_put, lowers_count}
 use Rattle.uc_lower_stmt.proofs.Kept.{handler_stable, keeps_stable, named_stable, stmts_stable}
 use Rattle.uc_lower_stmt.proofs.Scoping.{back_out}
 use Rattle.uc_lower_stmt.specs.RowFit.{RowsFit, open_rows}
 use Rattle.uc_code.specs.RowGrowth.{AddsRows, BeginBy}
 use Rattle.uc_code.proofs.Growth.{rows_closed}
-use Rattle.uc_lower_stmt.proofs.RowFitting.{fit_closed, fit_less, fit_like, fit_opened, fit_then}
+use Rattle.uc_lower_stmt.proofs.RowFitting.{fit_closed, fit_less, fit_like, fit_opened, fit_then, fit_count}
+use Rattle.uc_lower_stmt.specs.SourceRows.{handled_body_rows, handled_rows_under, handlers_rows, handlers_rows_under, stmts_rows, stmts_rows_under}
+use Rattle.uc_code.specs.RowCounts.{loop_rows, return_rows}
+use Rattle.uc_tree.specs.Source.{Handlers, MoreHandlers, Stmts}
 
 -- a block has a row for each handler
 pub rows_are : (p : Program) (hs : tree.Handlers) (s : Scope) → handler_rows (handlers_meant p hs s) ≡ length (tree.handler_list hs)
@@ -61,8 +64,9 @@ listed (h ∷ hs) = ap suc (listed hs)
 pub arm_catches : (p : Program) (pad line : ℕ) (resumes : Bool) (body : tree.Stmts) (d0 d1 d2 : Draft) → resumes ≡ false → LowersStmts p line body d0 d1 → Adds 1 (OpCode line (op.Jump pad)) d1 d2 → LowersBody p pad resumes line body d0 d2
 arm_catches p pad line resumes body d0 d1 d2 r w a =
     let ss = stmts_meant p body (scope_of d0) in
+    lowers_count (ap (λ (b : Bool). handled_rows_under d0.marks b ss) (sym r)) (
     lowers_as (lowers_put (stmts_stable d0.marks line ss) w a) refl
-    (λ code x z y. subst (λ (b : Bool). HandlerBy code b d0.marks pad line (λ ns. StmtsAt code ns line ss) x z) (sym r) y) (omega arith) (omega arith) (omega arith) refl
+    (λ code x z y. subst (λ (b : Bool). HandlerBy code b d0.marks pad line (λ ns. StmtsAt code ns line ss) x z) (sym r) y) (omega arith) (omega arith) (omega arith) refl)
 
 -- one of resumptions stands apart, and ends with its activation
 
@@ -143,11 +147,13 @@ module _ (p : Program) (pad line : ℕ) (resumes : Bool) (body : tree.Stmts) (d0
         opened = (let x = w.opened in omega arith);
         kept = kept_then (laid_in d0) (laid_in d1) code k1 (kept_then (laid_in d1) (laid_in d2) code w.kept keep2);
         rows =
-            let one : RowsFit 0 d0 d2 = fit_then w.kept.longer (fit_opened (opening.Outward 0) d0 d1 oe) w.rows in
+            let one = fit_then w.kept.longer (fit_opened (opening.Outward 0) d0 d1 oe) w.rows in
             let end = g.code.end in
             let r3 = rows_closed 0 d2 d3 ce in
             let r4 : new.rows ≡ d3.rows = ap (λ (d : Draft). d.rows) g.rest in
-            fit_closed one r3 r4 (ap open_rows marks2) (ap open_rows marks_new) (omega (arith, ops3, end)) (omega (arith, ops3, end));
+            let body_rows : stmts_rows_under d1.marks (stmts_meant p body (scope_of d1)) ≡ stmts_rows 0 0 (stmts_meant p body (scope_of d0)) = ap (λ (d : Draft). stmts_rows_under d.marks (stmts_meant p body (scope_of d))) oe in
+            let all_rows : handled_rows_under d0.marks resumes (stmts_meant p body (scope_of d0)) ≡ suc (stmts_rows 0 0 (stmts_meant p body (scope_of d0))) = ap (λ (b : Bool). handled_rows_under d0.marks b (stmts_meant p body (scope_of d0))) r in
+            fit_count (omega (arith, body_rows, all_rows)) (fit_closed one r3 r4 (ap open_rows marks2) (ap open_rows marks_new) (omega (arith, ops3, end)) (omega (arith, ops3, end)));
         room = (let x = w.room in let y = g.room in omega (arith, size, ops1, ops3));
         texts = (let x = w.texts in omega arith);
         cells = (let x = w.cells in omega arith);
@@ -251,7 +257,10 @@ module _ (p : Program) (row pad : ℕ) (pos : Pos) (kind : HandlerKind) (event p
         scope = behind;
         opened = (let x = w.opened in let y = en.opened in omega arith);
         kept = under_then row row (laid_in d0) (laid_in d1) laid (omega arith) en.kept (under_kept row (laid_in d1) laid keeps_laid);
-        rows = fit_like d0 new refl refl refl (ap (λ (d : Draft). d.rows) rest_laid) ops2 (ap (λ (d : Draft). open_rows d.marks) rest_laid ∙ sym (ap open_rows (ap (λ (d : Draft). d.marks) w.rest ∙ marks1))) (fit_then w.kept.longer en.rows w.rows);
+        rows =
+            let body_rows : handled_rows_under d1.marks (takes_resumptions kind) (stmts_meant p body (scope_of d1)) ≡ handler_body_rows p d0.marks h s =
+            ap (λ (ns : List CodeMark). handled_rows_under ns (takes_resumptions kind) (stmts_meant p body (scope_of d1))) marks1 ∙ ap (λ (u : Scope). handled_rows_under d0.marks (takes_resumptions kind) (stmts_meant p body u)) en.scope in
+            fit_count (omega (arith, body_rows)) (fit_like d0 new refl refl refl (ap (λ (d : Draft). d.rows) rest_laid) ops2 (ap (λ (d : Draft). open_rows d.marks) rest_laid ∙ sym (ap open_rows (ap (λ (d : Draft). d.marks) w.rest ∙ marks1))) (fit_then w.kept.longer en.rows w.rows));
         room = (let x = w.room in let y = en.room in omega (arith, size));
         texts = (let x = w.texts in omega arith);
         cells = (let x = w.cells in omega arith);
@@ -280,8 +289,8 @@ handler_code_stable p row pad ms (tree.Handles pos kind event param brace body) 
 
 -- all handlers of a block
 
-pub from_as : {x y f n k c o m j b q : ℕ} {S T : Laid → ℕ → ℕ → Type 0} {s t : Scope} {old new : Draft} → LowersFrom x f n k c o S s old new → y ≤ x → s ≡ t → ((code : Laid) (a z : ℕ) → S code a z → T code a z) → n ≤ m → k ≤ j → c ≤ b → o ≡ q → LowersFrom y f m j b q T t old new
-from_as {x} {y} {f} {n} {k} {c} {o} {m} {j} {b} {q} {S} {T} {s} {t} {old} {new} h l0 e g l1 l2 l3 l4 = record {
+pub from_as : {x y r f n k c o m j b q : ℕ} {S T : Laid → ℕ → ℕ → Type 0} {s t : Scope} {old new : Draft} → LowersFrom x r f n k c o S s old new → y ≤ x → s ≡ t → ((code : Laid) (a z : ℕ) → S code a z → T code a z) → n ≤ m → k ≤ j → c ≤ b → o ≡ q → LowersFrom y r f m j b q T t old new
+from_as {x} {y} {r} {f} {n} {k} {c} {o} {m} {j} {b} {q} {S} {T} {s} {t} {old} {new} h l0 e g l1 l2 l3 l4 = record {
   rest = h.rest;
   scope = h.scope ∙ e;
   opened = let x = h.opened in omega arith;
@@ -292,6 +301,14 @@ from_as {x} {y} {f} {n} {k} {c} {o} {m} {j} {b} {q} {S} {T} {s} {t} {old} {new} 
   cells = let x = h.cells in omega arith;
   code = g (laid_in new) (length old.ops) (length new.ops) h.code;
 }
+
+-- the rows that come, by another count
+pub from_count : {x q r f n k c o : ℕ} {S : Laid → ℕ → ℕ → Type 0} {s : Scope} {old new : Draft} → q ≡ r → LowersFrom x q f n k c o S s old new → LowersFrom x r f n k c o S s old new
+from_count e h = record { rest = h.rest; scope = h.scope; opened = h.opened; kept = h.kept; rows = fit_count e h.rows; room = h.room; texts = h.texts; cells = h.cells; code = h.code }
+
+first_rows : (loop out : ℕ) (resumes : Bool) (event : Option ℕ) (cell line : ℕ) (body : Stmts) (others : Handlers) → handlers_rows loop out (MoreHandlers resumes event cell line body others) ≡ handled_body_rows loop out resumes body + handlers_rows loop out others
+first_rows loop out false event cell line body others = refl
+first_rows loop out true event cell line body others = refl
 
 pub handlers_none : (p : Program) (first pad : ℕ) (old : Draft) → LowersHandlers p first pad tree.NoHandlers old old
 handlers_none p first pad old = from_as (from_lowers first (lowers_nothing old)) (omega arith) refl (λ code a z x. x) (omega arith) (omega arith) (omega arith) refl
@@ -308,13 +325,17 @@ handlers_more p first pad (tree.Handles pos kind event param brace body) hs d0 d
     let objects1 : objects_in d1.marks ≡ objects_in ms = ap objects_in marks1 in
     let exits1 = ap (exits_handlers hs) objects1 in
     let last : past_handlers p hs (scope_of d1) ≡ past_handlers p hs more = ap (past_handlers p hs) w.scope in
+    let rest_rows : handlers_rows_under d1.marks (handlers_meant p hs (scope_of d1)) ≡ handlers_rows_under ms (handlers_meant p hs more) =
+    ap (λ (ns : List CodeMark). handlers_rows_under ns (handlers_meant p hs (scope_of d1))) marks1 ∙ ap (λ (t : Scope). handlers_rows_under ms (handlers_meant p hs t)) w.scope in
+    let all_rows = first_rows (loop_rows ms) (return_rows ms) (takes_resumptions kind) (event_of_handler p event) s.hidden brace.line (stmts_meant p body (in_handler p h s)) (handlers_meant p hs more) in
+    from_count (omega (arith, rest_rows, all_rows)) (
     from_as (from_join (omega arith) (handler_code_stable p row pad ms h s) w v) (omega arith) last
     (λ code a z x. record {
       middle = x.middle;
       first = subst (λ (n : ℕ). HandlerCode p (first + n) pad ms h s code a x.middle) rows x.first;
       second = subst (λ (t : Scope). HandlersAt code ms first pad (handlers_meant p hs t) x.middle z) w.scope (subst (λ (ns : List CodeMark). HandlersAt code ns first pad (handlers_meant p hs (scope_of d1)) x.middle z) marks1 x.second);
     })
-    (omega (arith, exits1)) (omega arith) (omega arith) refl
+    (omega (arith, exits1)) (omega arith) (omega arith) refl)
 
 -- of those in a slice
 
@@ -411,6 +432,11 @@ module _ (p : Program) (row number cell scope : ℕ) (taker : RowKind) (resumes 
     opened = refl;
     kept = under_then row row (laid_in d0) (laid_in d1) (laid_in d3) (omega arith) (under_but row (laid_in d0) (laid_in d1) k1) (under_kept row (laid_in d1) (laid_in d3) keep_begun);
     rows = record {
+      more =
+          let a = p3.rows.more in
+          let b : length d2.rows ≡ length d1.rows = ap (λ (d : Draft). length d.rows) e2 in
+          let g = grown.more in
+          omega arith;
       few =
           let a = p3.rows.more in
           let b : length d2.rows ≡ length d1.rows = ap (λ (d : Draft). length d.rows) e2 in

@@ -127,9 +127,9 @@ module _ (else_at first otherwise : ℕ) (places : List ℕ) where
       same_then code (all_set first places code) (chosen code) a z (jumps_before places code first a z m) (same_before (all_set first places code) else_at (op.Jump otherwise) a z l)
 
   -- what is lowered behind the jumps
-  pub lowers_chosen : {n k c o : ℕ} {S : Laid → ℕ → ℕ → Type 0} {s : Scope} {old new : Draft} → Stable S → else_at < length old.ops → first + length places ≤ length old.ops → Lowers n k c o S s old new
-      → Lowers n k c o S s (choice_set else_at first otherwise places old) (choice_set else_at first otherwise places new)
-  lowers_chosen {n} {k} {c} {o} {S} {s} {old} {new} st l m h =
+  pub lowers_chosen : {r n k c o : ℕ} {S : Laid → ℕ → ℕ → Type 0} {s : Scope} {old new : Draft} → Stable S → else_at < length old.ops → first + length places ≤ length old.ops → Lowers r n k c o S s old new
+      → Lowers r n k c o S s (choice_set else_at first otherwise places old) (choice_set else_at first otherwise places new)
+  lowers_chosen {r} {n} {k} {c} {o} {S} {s} {old} {new} st l m h =
       let a = length_chosen old.ops in
       let b = length_chosen new.ops in
       let moved : S (chosen (laid_in new)) (length old.ops) (length new.ops) = st.moves (laid_in new) (chosen (laid_in new)) (length old.ops) (length new.ops) (after_chosen (laid_in new) (length old.ops) (length new.ops) l m) h.code in

@@ -32,7 +32,8 @@ use Rattle.uc_lower_stmt.specs.Pieces.{VariablesCode}
 use Rattle.uc_lower_stmt.specs.LowersStatement.{Lowers, LowersStmt, LowersStmts, scope_of, sizes_at}
 use Rattle.uc_lower_stmt.proofs.Counted.{declared_counted}
 use Rattle.uc_lower_stmt.proofs.Growth.{exits_grow}
-use Rattle.uc_lower_stmt.proofs.Joined.{lowers_as}
+use Rattle.uc_lower_stmt.proofs.Joined.{lowers_as, lowers_count}
+use Rattle.uc_lower_stmt.specs.SourceRows.{stmt_rows_under, stmts_rows_under}
 use Rattle.uc_lower_stmt.proofs.Laying.{lays_as, lays_ended, lays_join, lays_nothing, lays_one}
 
 -- one statement
@@ -79,9 +80,9 @@ declared_objects p block line b ds m old new e h =
     lays_as h refl (λ ss. ap (λ (o : Option Making). declared_then p o line b ds (scope_of old) ss) (sym e)) (omega arith) (omega arith) (omega arith) (omega arith) (omega arith)
 
 pub declared_variables : (p : Program) (block line : ℕ) (b : Base) (ds : List Declarator) (old new : Draft) → making p b ≡ None
-    → Lowers (OPS_FOR_SIZE * declarators_size ds) 0 (declarators_cells (declared_cells p b) ds) 0 (VariablesCode line old.marks (all_declared p (scope_of old) b ds)) (with_all p (scope_of old) b ds) old new → LaysDeclaration p line block b ds old new
+    → Lowers 0 (OPS_FOR_SIZE * declarators_size ds) 0 (declarators_cells (declared_cells p b) ds) 0 (VariablesCode line old.marks (all_declared p (scope_of old) b ds)) (with_all p (scope_of old) b ds) old new → LaysDeclaration p line block b ds old new
 declared_variables p block line b ds old new e h =
-    let one : Lowers (OPS_FOR_SIZE * declarators_size ds) 0 (declarators_cells (declared_cells p b) ds) 0 (λ code. StmtAt code old.marks (source.Declare line (all_declared p (scope_of old) b ds))) (with_all p (scope_of old) b ds) old new = h in
+    let one : Lowers (stmt_rows_under old.marks (source.Declare line (all_declared p (scope_of old) b ds))) (OPS_FOR_SIZE * declarators_size ds) 0 (declarators_cells (declared_cells p b) ds) 0 (λ code. StmtAt code old.marks (source.Declare line (all_declared p (scope_of old) b ds))) (with_all p (scope_of old) b ds) old new = h in
     lays_as (lays_one block one) refl (λ ss. ap (λ (o : Option Making). declared_then p o line b ds (scope_of old) ss) (sym e)) (omega arith) (omega arith) (omega arith) (omega arith) (omega arith)
 
 next_objects : (p : Program) (block : ℕ) (t : Stmt) (place : Pos) (b : Base) (ds : List Declarator) (m : Making) (old new : Draft) → Declare place b ds ≡ t → making p b ≡ Some m
@@ -169,12 +170,14 @@ next_fits p pos f t o e d = subst (λ (u : Stmt). DeclaredFits p u o) e (declare
 pub alone_objects : (p : Program) (line : ℕ) (b : Base) (ds : List Declarator) (m : Making) (count : ℕ) (old mid new : Draft) → making p b ≡ Some m → count ≡ length old.marks
     → Lays (OPS_FOR_SIZE * declarators_size ds) 0 (declarators_cells (declared_cells p b) ds) (length ds) 0 line (objects_scoped p m line b ds (scope_of old)) (with_all p (scope_of old) b ds) old mid → EndsScopes count mid new → LowersDeclaration p line b ds old new
 alone_objects p line b ds m count old mid new e ce h w =
-    lowers_as (lays_ended count ce h w) refl (λ code a z x. subst (λ (o : Option Making). StmtAt code old.marks (declared_alone p o line b ds (scope_of old)) a z) (sym e) x) (omega arith) (omega arith) (omega arith) (omega arith)
+    lowers_count (ap (λ (o : Option Making). stmt_rows_under old.marks (declared_alone p o line b ds (scope_of old))) (sym e)) (
+    lowers_as (lays_ended count ce h w) refl (λ code a z x. subst (λ (o : Option Making). StmtAt code old.marks (declared_alone p o line b ds (scope_of old)) a z) (sym e) x) (omega arith) (omega arith) (omega arith) (omega arith))
 
 pub alone_variables : (p : Program) (line : ℕ) (b : Base) (ds : List Declarator) (old new : Draft) → making p b ≡ None
-    → Lowers (OPS_FOR_SIZE * declarators_size ds) 0 (declarators_cells (declared_cells p b) ds) 0 (VariablesCode line old.marks (all_declared p (scope_of old) b ds)) (with_all p (scope_of old) b ds) old new → LowersDeclaration p line b ds old new
+    → Lowers 0 (OPS_FOR_SIZE * declarators_size ds) 0 (declarators_cells (declared_cells p b) ds) 0 (VariablesCode line old.marks (all_declared p (scope_of old) b ds)) (with_all p (scope_of old) b ds) old new → LowersDeclaration p line b ds old new
 alone_variables p line b ds old new e h =
-    lowers_as h refl (λ code a z x. subst (λ (o : Option Making). StmtAt code old.marks (declared_alone p o line b ds (scope_of old)) a z) (sym e) x) (omega arith) (omega arith) (omega arith) (omega arith)
+    lowers_count (ap (λ (o : Option Making). stmt_rows_under old.marks (declared_alone p o line b ds (scope_of old))) (sym e)) (
+    lowers_as h refl (λ code a z x. subst (λ (o : Option Making). StmtAt code old.marks (declared_alone p o line b ds (scope_of old)) a z) (sym e) x) (omega arith) (omega arith) (omega arith) (omega arith))
 
 -- lists
 
@@ -310,4 +313,5 @@ marks_count xs ms n e r = e ∙ (sym (length-reverse xs) ∙ ap length r)
 pub list_ended : (p : Program) (line count n : ℕ) (xs : List Stmt) (old mid new : Draft) → count ≡ length old.marks → length xs ≤ n → LaysStmts p line (take n xs) old mid → EndsScopes count mid new → LowersStmts p line (stmts_of xs) old new
 list_ended p line count n xs old mid new ce l g w =
     let h : LaysStmts p line xs old mid = subst (λ (zs : List Stmt). LaysStmts p line zs old mid) (take_all n xs l) g in
-    lowers_as (lays_ended count ce h w) refl (λ code a z x. subst (λ (ss : source.Stmts). StmtsAt code old.marks line ss a z) (then_meant p xs (scope_of old)) x) (omega arith) (omega arith) (omega arith) (omega arith)
+    lowers_count (ap (λ (ss : source.Stmts). stmts_rows_under old.marks ss) (then_meant p xs (scope_of old))) (
+    lowers_as (lays_ended count ce h w) refl (λ code a z x. subst (λ (ss : source.Stmts). StmtsAt code old.marks line ss a z) (then_meant p xs (scope_of old)) x) (omega arith) (omega arith) (omega arith) (omega arith))

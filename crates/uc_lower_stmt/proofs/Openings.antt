@@ -51,7 +51,9 @@ use Rattle.uc_lower_stmt.proofs.Laying.{lays_as, lays_join, lays_nothing}
 use Rattle.uc_code.proofs.Putting.{done_stable}
 use Rattle.uc_lower_stmt.specs.RowFit.{RowsFit, open_rows}
 use Rattle.uc_lower_stmt.proofs.Filling.{built_stable}
-use Rattle.uc_lower_stmt.proofs.RowFitting.{fit_adds, fit_like, fit_opened, fit_puts, fit_then}
+use Rattle.uc_lower_stmt.proofs.RowFitting.{fit_adds, fit_like, fit_opened, fit_puts, fit_then, fit_count}
+use Rattle.uc_lower_stmt.specs.SourceRows.{stmt_rows}
+use Rattle.uc_code.specs.RowCounts.{loop_rows, return_rows}
 
 -- routines that nobody wrote stand behind all others
 
@@ -113,6 +115,11 @@ closes_few c what Left = omega arith
 closes_few c what Ended = omega arith
 closes_few c what (Freed main) = omega arith
 closes_few c what (Restored cell) = omega arith
+
+-- what builds it has a row where it is an array
+pub build_counts : (p : Program) (line : ℕ) (m : Making) (elements : Option ℕ) (place : Expr) (args : List Meant) (loop out : ℕ) → stmt_rows loop out (build p line m elements place args) ≡ build_rows elements
+build_counts p line m None place args loop out = refl
+build_counts p line m (Some n) place args loop out = refl
 
 -- what builds it has more ops than rows
 pub build_long : (p : Program) (line : ℕ) (m : Making) (elements : Option ℕ) (place : Expr) (args : List Meant) (code : Laid) (ms : List CodeMark) (a z : ℕ) → StmtAt code ms (build p line m elements place args) a z → build_rows elements + a ≤ z
@@ -217,9 +224,11 @@ module _ (p : Program) (m : Making) (b : Base) (d : Declarator) (line block cell
         opened = omega arith;
         kept = kept_then (laid_in d0) (laid_in d1) (laid_in last) c1.kept keep1;
         rows =
-            let one : RowsFit 0 d0 d2 = fit_then built.kept.longer (fit_adds c1) (fit_puts (build_long p line m elements (Variable cell) (args_meant (context_in p d1) (exprs_of args)) (laid_in d2) d1.marks (length d1.ops) (length d2.ops) built.code) built) in
-            let all : RowsFit 0 d0 d3 = fit_then k3.longer one (fit_opened (opening.Object what block) d2 d3 o3) in
-            fit_like d0 last refl refl refl refl (ap length (sym ops3)) (ap open_rows marks_last) all;
+            let one = fit_then built.kept.longer (fit_adds c1) (fit_puts (build_long p line m elements (Variable cell) (args_meant (context_in p d1) (exprs_of args)) (laid_in d2) d1.marks (length d1.ops) (length d2.ops) built.code) built) in
+            let all = fit_then k3.longer one (fit_opened (opening.Object what block) d2 d3 o3) in
+            let same : build_rows elements ≡ build_rows (length_of p d d.len) = ap build_rows ne in
+            let built_rows = build_counts p line m (length_of p d d.len) there (start_args p s d.start) (loop_rows d0.marks) (return_rows d0.marks) in
+            fit_count (omega (arith, same, built_rows)) (fit_like d0 last refl refl refl refl (ap length (sym ops3)) (ap open_rows marks_last) all);
         room = (let x = c1.room in let y = built.room in let z = length_counts p d d.len in let e : build_room elements ≡ build_room (length_of p d d.len) = ap build_room ne in let k = closes_few c what cleaned in omega (arith, few, e));
         texts = omega arith;
         cells = omega arith;

@@ -178,18 +178,18 @@ module _ (program : Program) where
   abbrev pub items_at : Scope → List OutItem → List Item
   items_at s items = items_meant (context_at program s) s.texts items
 
-  pub as_piece : (i j : OutItem) (line : ℕ) (old new : Draft) → j ≡ i → Lowers (OPS_FOR_SIZE * out_item_size j - 1) (out_item_size j) 0 0 (ValuesCode line old.marks (items_at (scope_of old) (j ∷ []))) (with_texts (scope_of old) (texts_among (j ∷ []))) old new → Lowers (OPS_FOR_SIZE * out_item_size i - 1) (out_item_size i) 0 0 (ValuesCode line old.marks (items_at (scope_of old) (i ∷ []))) (with_texts (scope_of old) (texts_among (i ∷ []))) old new
-  as_piece i j line old new e h = subst (λ (x : OutItem). Lowers (OPS_FOR_SIZE * out_item_size x - 1) (out_item_size x) 0 0 (ValuesCode line old.marks (items_at (scope_of old) (x ∷ []))) (with_texts (scope_of old) (texts_among (x ∷ []))) old new) e h
+  pub as_piece : (i j : OutItem) (line : ℕ) (old new : Draft) → j ≡ i → Lowers 0 (OPS_FOR_SIZE * out_item_size j - 1) (out_item_size j) 0 0 (ValuesCode line old.marks (items_at (scope_of old) (j ∷ []))) (with_texts (scope_of old) (texts_among (j ∷ []))) old new → Lowers 0 (OPS_FOR_SIZE * out_item_size i - 1) (out_item_size i) 0 0 (ValuesCode line old.marks (items_at (scope_of old) (i ∷ []))) (with_texts (scope_of old) (texts_among (i ∷ []))) old new
+  as_piece i j line old new e h = subst (λ (x : OutItem). Lowers 0 (OPS_FOR_SIZE * out_item_size x - 1) (out_item_size x) 0 0 (ValuesCode line old.marks (items_at (scope_of old) (x ∷ []))) (with_texts (scope_of old) (texts_among (x ∷ []))) old new) e h
 
-  pub piece_endl : (i : OutItem) (p : Pos) (line : ℕ) (old new : Draft) → Endl p ≡ i → Adds 1 (OpCode line (op.Push (pos 10))) old new → Lowers (OPS_FOR_SIZE * out_item_size i - 1) (out_item_size i) 0 0 (ValuesCode line old.marks (items_at (scope_of old) (i ∷ []))) (with_texts (scope_of old) (texts_among (i ∷ []))) old new
+  pub piece_endl : (i : OutItem) (p : Pos) (line : ℕ) (old new : Draft) → Endl p ≡ i → Adds 1 (OpCode line (op.Push (pos 10))) old new → Lowers 0 (OPS_FOR_SIZE * out_item_size i - 1) (out_item_size i) 0 0 (ValuesCode line old.marks (items_at (scope_of old) (i ∷ []))) (with_texts (scope_of old) (texts_among (i ∷ []))) old new
   piece_endl i p line old new e h = as_piece i (Endl p) line old new e (lowers_as (lowers_adds 0 0 h) (no_text (scope_of old)) (λ code a z w. and_none (One code (op.Push (pos 10)) line) a z w) (omega arith) (omega arith) (omega arith) (omega arith))
 
-  pub piece_value : (i : OutItem) (p : Pos) (v : tree.Expr) (line : ℕ) (old new : Draft) → Printed p v ≡ i → Adds (OPS_FOR_SIZE * expr_size v) (ExprCode line old.marks (value_of (meant (context_in program old) v))) old new → Lowers (OPS_FOR_SIZE * out_item_size i - 1) (out_item_size i) 0 0 (ValuesCode line old.marks (items_at (scope_of old) (i ∷ []))) (with_texts (scope_of old) (texts_among (i ∷ []))) old new
+  pub piece_value : (i : OutItem) (p : Pos) (v : tree.Expr) (line : ℕ) (old new : Draft) → Printed p v ≡ i → Adds (OPS_FOR_SIZE * expr_size v) (ExprCode line old.marks (value_of (meant (context_in program old) v))) old new → Lowers 0 (OPS_FOR_SIZE * out_item_size i - 1) (out_item_size i) 0 0 (ValuesCode line old.marks (items_at (scope_of old) (i ∷ []))) (with_texts (scope_of old) (texts_among (i ∷ []))) old new
   piece_value i p v line old new e h = as_piece i (Printed p v) line old new e (lowers_as (lowers_adds 0 0 h) (no_text (scope_of old)) (λ code a z w. and_none (ExprAt code line old.marks (value_of (meant (context_in program old) v))) a z w) (omega arith) (omega arith) (omega arith) (omega arith))
 
-  pub piece_text : (i : OutItem) (p : Pos) (t : List ℕ) (line : ℕ) (old new : Draft) → Literal p t ≡ i → new ≡ record old { texts = old.texts + 1 } → Lowers (OPS_FOR_SIZE * out_item_size i - 1) (out_item_size i) 0 0 (ValuesCode line old.marks (items_at (scope_of old) (i ∷ []))) (with_texts (scope_of old) (texts_among (i ∷ []))) old new
+  pub piece_text : (i : OutItem) (p : Pos) (t : List ℕ) (line : ℕ) (old new : Draft) → Literal p t ≡ i → new ≡ record old { texts = old.texts + 1 } → Lowers 0 (OPS_FOR_SIZE * out_item_size i - 1) (out_item_size i) 0 0 (ValuesCode line old.marks (items_at (scope_of old) (i ∷ []))) (with_texts (scope_of old) (texts_among (i ∷ []))) old new
   piece_text i p t line old new e h = as_piece i (Literal p t) line old new e (
-      subst (λ (d : Draft). Lowers (OPS_FOR_SIZE * 1 - 1) 1 0 0 (ValuesCode line old.marks (ShowText old.texts ∷ [])) (with_texts (scope_of old) 1) old d) (sym h) (record {
+      subst (λ (d : Draft). Lowers 0 (OPS_FOR_SIZE * 1 - 1) 1 0 0 (ValuesCode line old.marks (ShowText old.texts ∷ [])) (with_texts (scope_of old) 1) old d) (sym h) (record {
         rest = refl;
         scope = refl;
         opened = omega arith;
@@ -222,7 +222,7 @@ module _ (program : Program) where
       }
   one_item (i ∷ j ∷ is) o line ms code a b z e h g = cc
 
-  pub arm_item : (i : OutItem) (o : Op) (line : ℕ) (old mid new : Draft) → o ∷ [] ≡ map item_op (items_at (scope_of old) (i ∷ [])) → Lowers (OPS_FOR_SIZE * out_item_size i - 1) (out_item_size i) 0 0 (ValuesCode line old.marks (items_at (scope_of old) (i ∷ []))) (with_texts (scope_of old) (texts_among (i ∷ []))) old mid → Adds 1 (OpCode line o) mid new → Lowers (OPS_FOR_SIZE * out_item_size i) (out_item_size i) 0 0 (ItemsCode line old.marks (items_at (scope_of old) (i ∷ []))) (with_texts (scope_of old) (texts_among (i ∷ []))) old new
+  pub arm_item : (i : OutItem) (o : Op) (line : ℕ) (old mid new : Draft) → o ∷ [] ≡ map item_op (items_at (scope_of old) (i ∷ [])) → Lowers 0 (OPS_FOR_SIZE * out_item_size i - 1) (out_item_size i) 0 0 (ValuesCode line old.marks (items_at (scope_of old) (i ∷ []))) (with_texts (scope_of old) (texts_among (i ∷ []))) old mid → Adds 1 (OpCode line o) mid new → Lowers 0 (OPS_FOR_SIZE * out_item_size i) (out_item_size i) 0 0 (ItemsCode line old.marks (items_at (scope_of old) (i ∷ []))) (with_texts (scope_of old) (texts_among (i ∷ []))) old new
   arm_item i o line old mid new e h g =
       lowers_as (lowers_put (values_stable line old.marks (items_at (scope_of old) (i ∷ []))) h g) refl (λ code a z w. one_item (items_at (scope_of old) (i ∷ [])) o line old.marks code a w.middle z e w.first w.second) (let s = item_counts i in omega arith) (omega arith) (omega arith) (omega arith)
 
@@ -244,37 +244,37 @@ module _ (program : Program) where
   values_at_append line ms code (x ∷ xs) ys a b z h g = record { middle = h.middle; first = h.first; second = values_at_append line ms code xs ys h.middle b z h.second g }
 
   pub items_step : (xs : List OutItem) (i : ℕ) (x : OutItem) (line : ℕ) (old mid new : Draft) → i < length xs → x ≡ get_or xs i x
-      → Lowers (OPS_FOR_SIZE * out_items_size (take i xs)) (out_items_size (take i xs)) 0 0 (ItemsCode line old.marks (items_at (scope_of old) (take i xs))) (with_texts (scope_of old) (texts_among (take i xs))) old mid
-      → Lowers (OPS_FOR_SIZE * out_item_size x) (out_item_size x) 0 0 (ItemsCode line mid.marks (items_at (scope_of mid) (x ∷ []))) (with_texts (scope_of mid) (texts_among (x ∷ []))) mid new
-      → Lowers (OPS_FOR_SIZE * out_items_size (take (i + 1) xs)) (out_items_size (take (i + 1) xs)) 0 0 (ItemsCode line old.marks (items_at (scope_of old) (take (i + 1) xs))) (with_texts (scope_of old) (texts_among (take (i + 1) xs))) old new
+      → Lowers 0 (OPS_FOR_SIZE * out_items_size (take i xs)) (out_items_size (take i xs)) 0 0 (ItemsCode line old.marks (items_at (scope_of old) (take i xs))) (with_texts (scope_of old) (texts_among (take i xs))) old mid
+      → Lowers 0 (OPS_FOR_SIZE * out_item_size x) (out_item_size x) 0 0 (ItemsCode line mid.marks (items_at (scope_of mid) (x ∷ []))) (with_texts (scope_of mid) (texts_among (x ∷ []))) mid new
+      → Lowers 0 (OPS_FOR_SIZE * out_items_size (take (i + 1) xs)) (out_items_size (take (i + 1) xs)) 0 0 (ItemsCode line old.marks (items_at (scope_of old) (take (i + 1) xs))) (with_texts (scope_of old) (texts_among (take (i + 1) xs))) old new
   items_step xs i x line old mid new h e g k =
       let ys : List OutItem = take i xs in
       let s : Scope = scope_of old in
       let split : ys ++ x ∷ [] ≡ take (i + 1) xs = ap (λ (y : OutItem). ys ++ y ∷ []) e ∙ sym (take_more xs i x h) in
-      let k0 : Lowers (OPS_FOR_SIZE * out_item_size x) (out_item_size x) 0 0 (ItemsCode line old.marks (items_at (scope_of mid) (x ∷ []))) (with_texts (scope_of mid) (texts_among (x ∷ []))) mid new =
-      subst (λ (l : List CodeMark). Lowers (OPS_FOR_SIZE * out_item_size x) (out_item_size x) 0 0 (ItemsCode line l (items_at (scope_of mid) (x ∷ []))) (with_texts (scope_of mid) (texts_among (x ∷ []))) mid new) (ap (λ (d : Draft). d.marks) g.rest) k in
-      let k1 : Lowers (OPS_FOR_SIZE * out_item_size x) (out_item_size x) 0 0 (ItemsCode line old.marks (items_at (with_texts s (texts_among ys)) (x ∷ []))) (with_texts (with_texts s (texts_among ys)) (texts_among (x ∷ []))) mid new =
-      subst (λ (t : Scope). Lowers (OPS_FOR_SIZE * out_item_size x) (out_item_size x) 0 0 (ItemsCode line old.marks (items_at t (x ∷ []))) (with_texts t (texts_among (x ∷ []))) mid new) g.scope k0 in
-      subst (λ (zs : List OutItem). Lowers (OPS_FOR_SIZE * out_items_size zs) (out_items_size zs) 0 0 (ItemsCode line old.marks (items_at s zs)) (with_texts s (texts_among zs)) old new) split (
+      let k0 : Lowers 0 (OPS_FOR_SIZE * out_item_size x) (out_item_size x) 0 0 (ItemsCode line old.marks (items_at (scope_of mid) (x ∷ []))) (with_texts (scope_of mid) (texts_among (x ∷ []))) mid new =
+      subst (λ (l : List CodeMark). Lowers 0 (OPS_FOR_SIZE * out_item_size x) (out_item_size x) 0 0 (ItemsCode line l (items_at (scope_of mid) (x ∷ []))) (with_texts (scope_of mid) (texts_among (x ∷ []))) mid new) (ap (λ (d : Draft). d.marks) g.rest) k in
+      let k1 : Lowers 0 (OPS_FOR_SIZE * out_item_size x) (out_item_size x) 0 0 (ItemsCode line old.marks (items_at (with_texts s (texts_among ys)) (x ∷ []))) (with_texts (with_texts s (texts_among ys)) (texts_among (x ∷ []))) mid new =
+      subst (λ (t : Scope). Lowers 0 (OPS_FOR_SIZE * out_item_size x) (out_item_size x) 0 0 (ItemsCode line old.marks (items_at t (x ∷ []))) (with_texts t (texts_among (x ∷ []))) mid new) g.scope k0 in
+      subst (λ (zs : List OutItem). Lowers 0 (OPS_FOR_SIZE * out_items_size zs) (out_items_size zs) 0 0 (ItemsCode line old.marks (items_at s zs)) (with_texts s (texts_among zs)) old new) split (
       lowers_as (lowers_join (items_stable line old.marks (items_at s ys)) g k1) (scope_push s ys x)
       (λ code a z w. subst (λ (l : List Item). ItemsAt code line old.marks l a z) (items_push s ys x) (items_at_append line old.marks code (items_at s ys) (items_at (with_texts s (texts_among ys)) (x ∷ [])) a w.middle z w.first w.second))
       (omega (arith, sizes_push ys x)) (omega (arith, sizes_push ys x)) (omega arith) (omega arith))
 
   pub pieces_step : (xs : List OutItem) (i : ℕ) (x : OutItem) (line : ℕ) (old mid new : Draft) → i < length xs → x ≡ get_or xs i x
-      → Lowers (OPS_FOR_SIZE * out_items_size (take i xs) - i) (out_items_size (take i xs)) 0 0 (ValuesCode line old.marks (items_at (scope_of old) (take i xs))) (with_texts (scope_of old) (texts_among (take i xs))) old mid
-      → Lowers (OPS_FOR_SIZE * out_item_size x - 1) (out_item_size x) 0 0 (ValuesCode line mid.marks (items_at (scope_of mid) (x ∷ []))) (with_texts (scope_of mid) (texts_among (x ∷ []))) mid new
-      → Lowers (OPS_FOR_SIZE * out_items_size (take (i + 1) xs) - (i + 1)) (out_items_size (take (i + 1) xs)) 0 0 (ValuesCode line old.marks (items_at (scope_of old) (take (i + 1) xs))) (with_texts (scope_of old) (texts_among (take (i + 1) xs))) old new
+      → Lowers 0 (OPS_FOR_SIZE * out_items_size (take i xs) - i) (out_items_size (take i xs)) 0 0 (ValuesCode line old.marks (items_at (scope_of old) (take i xs))) (with_texts (scope_of old) (texts_among (take i xs))) old mid
+      → Lowers 0 (OPS_FOR_SIZE * out_item_size x - 1) (out_item_size x) 0 0 (ValuesCode line mid.marks (items_at (scope_of mid) (x ∷ []))) (with_texts (scope_of mid) (texts_among (x ∷ []))) mid new
+      → Lowers 0 (OPS_FOR_SIZE * out_items_size (take (i + 1) xs) - (i + 1)) (out_items_size (take (i + 1) xs)) 0 0 (ValuesCode line old.marks (items_at (scope_of old) (take (i + 1) xs))) (with_texts (scope_of old) (texts_among (take (i + 1) xs))) old new
   pieces_step xs i x line old mid new h e g k =
       let ys : List OutItem = take i xs in
       let s : Scope = scope_of old in
       let split : ys ++ x ∷ [] ≡ take (i + 1) xs = ap (λ (y : OutItem). ys ++ y ∷ []) e ∙ sym (take_more xs i x h) in
-      let k0 : Lowers (OPS_FOR_SIZE * out_item_size x - 1) (out_item_size x) 0 0 (ValuesCode line old.marks (items_at (scope_of mid) (x ∷ []))) (with_texts (scope_of mid) (texts_among (x ∷ []))) mid new =
-      subst (λ (l : List CodeMark). Lowers (OPS_FOR_SIZE * out_item_size x - 1) (out_item_size x) 0 0 (ValuesCode line l (items_at (scope_of mid) (x ∷ []))) (with_texts (scope_of mid) (texts_among (x ∷ []))) mid new) (ap (λ (d : Draft). d.marks) g.rest) k in
-      let k1 : Lowers (OPS_FOR_SIZE * out_item_size x - 1) (out_item_size x) 0 0 (ValuesCode line old.marks (items_at (with_texts s (texts_among ys)) (x ∷ []))) (with_texts (with_texts s (texts_among ys)) (texts_among (x ∷ []))) mid new =
-      subst (λ (t : Scope). Lowers (OPS_FOR_SIZE * out_item_size x - 1) (out_item_size x) 0 0 (ValuesCode line old.marks (items_at t (x ∷ []))) (with_texts t (texts_among (x ∷ []))) mid new) g.scope k0 in
+      let k0 : Lowers 0 (OPS_FOR_SIZE * out_item_size x - 1) (out_item_size x) 0 0 (ValuesCode line old.marks (items_at (scope_of mid) (x ∷ []))) (with_texts (scope_of mid) (texts_among (x ∷ []))) mid new =
+      subst (λ (l : List CodeMark). Lowers 0 (OPS_FOR_SIZE * out_item_size x - 1) (out_item_size x) 0 0 (ValuesCode line l (items_at (scope_of mid) (x ∷ []))) (with_texts (scope_of mid) (texts_among (x ∷ []))) mid new) (ap (λ (d : Draft). d.marks) g.rest) k in
+      let k1 : Lowers 0 (OPS_FOR_SIZE * out_item_size x - 1) (out_item_size x) 0 0 (ValuesCode line old.marks (items_at (with_texts s (texts_among ys)) (x ∷ []))) (with_texts (with_texts s (texts_among ys)) (texts_among (x ∷ []))) mid new =
+      subst (λ (t : Scope). Lowers 0 (OPS_FOR_SIZE * out_item_size x - 1) (out_item_size x) 0 0 (ValuesCode line old.marks (items_at t (x ∷ []))) (with_texts t (texts_among (x ∷ []))) mid new) g.scope k0 in
       let c = items_count xs i (omega arith) in
       let d = item_counts x in
-      subst (λ (zs : List OutItem). Lowers (OPS_FOR_SIZE * out_items_size zs - (i + 1)) (out_items_size zs) 0 0 (ValuesCode line old.marks (items_at s zs)) (with_texts s (texts_among zs)) old new) split (
+      subst (λ (zs : List OutItem). Lowers 0 (OPS_FOR_SIZE * out_items_size zs - (i + 1)) (out_items_size zs) 0 0 (ValuesCode line old.marks (items_at s zs)) (with_texts s (texts_among zs)) old new) split (
       lowers_as (lowers_join (values_stable line old.marks (items_at s ys)) g k1) (scope_push s ys x)
       (λ code a z w. subst (λ (l : List Item). ValuesAt code line old.marks l a z) (items_push s ys x) (values_at_append line old.marks code (items_at s ys) (items_at (with_texts s (texts_among ys)) (x ∷ [])) a w.middle z w.first w.second))
       (omega (arith, sizes_push ys x, c, d)) (omega (arith, sizes_push ys x)) (omega arith) (omega arith))
@@ -298,9 +298,9 @@ module _ (program : Program) where
   pieces_count s xs os e = ap length e ∙ length_items s xs
 
   pub arm_together : (xs : List OutItem) (os ps : List Op) (line : ℕ) (d0 d1 d2 d3 d4 : Draft) → os ≡ map item_op (items_at (scope_of d0) xs) → ps ≡ os
-      → Lowers (OPS_FOR_SIZE * out_items_size xs - length xs) (out_items_size xs) 0 0 (ValuesCode line d0.marks (items_at (scope_of d0) xs)) (with_texts (scope_of d0) (texts_among xs)) d0 d1
+      → Lowers 0 (OPS_FOR_SIZE * out_items_size xs - length xs) (out_items_size xs) 0 0 (ValuesCode line d0.marks (items_at (scope_of d0) xs)) (with_texts (scope_of d0) (texts_among xs)) d0 d1
       → Adds 1 (OpCode line op.Hold) d1 d2 → Adds (length ps) (PiecesCode line ps) d2 d3 → Adds 1 (OpCode line op.Flush) d3 d4
-      → Lowers (OPS_FOR_SIZE * (1 + out_items_size xs)) (out_items_size xs) 0 0 (TogetherCode line d0.marks (items_at (scope_of d0) xs)) (with_texts (scope_of d0) (texts_among xs)) d0 d4
+      → Lowers 0 (OPS_FOR_SIZE * (1 + out_items_size xs)) (out_items_size xs) 0 0 (TogetherCode line d0.marks (items_at (scope_of d0) xs)) (with_texts (scope_of d0) (texts_among xs)) d0 d4
   arm_together xs os ps line d0 d1 d2 d3 d4 e i h1 h2 h3 h4 =
       let is : List Item = items_at (scope_of d0) xs in
       let n = pieces_count (scope_of d0) xs ps (i ∙ e) in

@@ -56,7 +56,7 @@ built_raised p line event r cell n ps es d0 d1 d2 d3 d4 d5 d6 pe a1 a2 a3 a4 a5 
     (puts_more (omega arith) (puts_both (one_stable (op.Clear cell EVENT_FIELDS) line) (puts_adds a1) (puts_both (expr_stable line d0.marks (OfObject (CallOn r (Variable cell) args))) (puts_adds call) b)))
 
 -- behind so many hidden cells more
-raised_puts : {n : ℕ} {S : Laid → ℕ → ℕ → Type 0} {d0 d1 d2 : Draft} → (h : ℕ) → d1 ≡ record d0 { hidden = d0.hidden + h } → Puts 0 n S d1 d2 → Lowers n 0 0 0 S (hidden_past (scope_of d0) h) d0 d2
+raised_puts : {n : ℕ} {S : Laid → ℕ → ℕ → Type 0} {d0 d1 d2 : Draft} → (h : ℕ) → d1 ≡ record d0 { hidden = d0.hidden + h } → Puts 0 n S d1 d2 → Lowers 0 n 0 0 0 S (hidden_past (scope_of d0) h) d0 d2
 raised_puts {n} {S} {d0} {d1} {d2} h e w =
     let is : d2 ≡ record d0 { ops = d2.ops; rows = d2.rows; settled = d2.settled; hidden = d0.hidden + h } = w.rest ∙ ap (λ (x : Draft). let y : Draft = record x { ops = d2.ops; rows = d2.rows; settled = d2.settled } in y) e in
     let long : length d1.ops ≡ length d0.ops = ap (λ (d : Draft). length d.ops) e in

@@ -46,12 +46,13 @@ use Rattle.uc_lower_stmt.proofs.Ending.{scope_ended}
 use Rattle.uc_lower_stmt.proofs.Kept.{stmts_stable}
 use Rattle.uc_lower_stmt.proofs.Unnumbered.{main_unnumbered}
 use Rattle.uc_lower_stmt.proofs.Counted.{behind_counted}
-use Rattle.uc_lower_stmt.proofs.Joined.{lowers_as, lowers_put}
+use Rattle.uc_lower_stmt.proofs.Joined.{lowers_as, lowers_put, lowers_count}
 use Rattle.uc_lower_stmt.proofs.Shaping.{lowers_marked}
 use Rattle.uc_lower_stmt.specs.RowFit.{RoutineRows, RowsFit, open_rows}
 use Rattle.uc_code.specs.RowGrowth.{BeginBy}
 use Rattle.uc_code.proofs.Growth.{rows_closed}
-use Rattle.uc_lower_stmt.proofs.RowFitting.{fit_adds, fit_closed, fit_opened, fit_then}
+use Rattle.uc_lower_stmt.proofs.RowFitting.{fit_adds, fit_closed, fit_opened, fit_then, fit_count}
+use Rattle.uc_lower_stmt.specs.SourceRows.{body_rows, routine_rows, stmts_rows, stmts_rows_under}
 
 -- parameters one by one
 
@@ -115,6 +116,10 @@ plain_role role.Destructor e = cc
 main_code : (code : Laid) (main : MainOf) (number line : ℕ) (ss : source.Stmts) (a z : ℕ) → MainAt code main number line (λ ms. StmtsAt code ms line ss) a z → BodyAt code (purpose_by main) number line ss a z
 main_code code main_of.Task number line ss a z h = h
 main_code code main_of.Coroutine number line ss a z h = h
+
+main_rows_are : (main : MainOf) (ss : source.Stmts) → body_rows (purpose_by main) ss ≡ suc (stmts_rows 0 0 ss)
+main_rows_are main_of.Task ss = refl
+main_rows_are main_of.Coroutine ss = refl
 
 module _ (p : Program) (r : Routine) (main : MainOf) (number line : ℕ) (body : Stmts) (d0 d1 d2 d3 d4 new : Draft) (none : d0.marks ≡ []) (le : line ≡ r.brace.line) (be : body ≡ r.body)
     (oe : d1 ≡ opened (opening.Main main number line) d0) (k1 : Kept (laid_in d0) (laid_in d1)) (h : LowersStmts p line body d1 d2)
@@ -199,11 +204,13 @@ module _ (p : Program) (r : Routine) (main : MainOf) (number line : ℕ) (body :
         opened = (let x = h.opened in omega arith);
         kept = kept_then (laid_in d0) (laid_in d1) code k1 (kept_then (laid_in d1) (laid_in d2) code h.kept keep2);
         rows =
-            let one : RowsFit 0 d0 d2 = fit_then h.kept.longer (fit_opened (opening.Main main number line) d0 d1 oe) h.rows in
+            let one = fit_then h.kept.longer (fit_opened (opening.Main main number line) d0 d1 oe) h.rows in
+            let under_rows : stmts_rows_under d1.marks (stmts_meant p body (scope_of d1)) ≡ stmts_rows 0 0 (stmts_meant p body (scope_of d0)) = ap (λ (d : Draft). stmts_rows_under d.marks (stmts_meant p body (scope_of d))) oe in
+            let all_rows = main_rows_are main (stmts_meant p body (scope_of d0)) in
             let e4 = g4.code.end in
             let e5 = g5.code.end in
             let same : new.rows ≡ d3.rows = ap (λ (d : Draft). d.rows) g5.rest ∙ ap (λ (d : Draft). d.rows) g4.rest in
-            fit_closed one (rows_closed 1 d2 d3 ce) same (ap open_rows marks2 ∙ sym (ap (λ (ms : List CodeMark). suc (open_rows ms)) none)) (ap (λ (d : Draft). open_rows d.marks) rest) (omega (arith, ops3, e4, e5)) (omega (arith, ops3, e4, e5));
+            fit_count (omega (arith, under_rows, all_rows)) (fit_closed one (rows_closed 1 d2 d3 ce) same (ap open_rows marks2 ∙ sym (ap (λ (ms : List CodeMark). suc (open_rows ms)) none)) (ap (λ (d : Draft). open_rows d.marks) rest) (omega (arith, ops3, e4, e5)) (omega (arith, ops3, e4, e5)));
         room = (let x = h.room in let y = g4.room in let z = g5.room in omega (arith, size, ops1, ops3));
         texts = (let x = h.texts in omega arith);
         cells = (let x = h.cells in omega arith);
@@ -237,6 +244,10 @@ called_at : (all : Laid) (v : Bool) (number line : ℕ) (ss : source.Stmts) (a z
 called_at all true number line ss a z h = h
 called_at all false number line ss a z h = h
 
+called_rows_are : (v : Bool) (ss : source.Stmts) → body_rows (if v then source.Procedure else source.Function) ss ≡ stmts_rows 0 0 ss
+called_rows_are true ss = refl
+called_rows_are false ss = refl
+
 pub called_lowered : (p : Program) (r : Routine) (b : Base) (number line : ℕ) (body : Stmts) (d0 d1 d2 d3 new : Draft) → d0.marks ≡ [] → line ≡ r.brace.line → body ≡ r.body → b ≡ r.sig.ret
     → d1 ≡ record d0 { marks = mark.Body number ∷ d0.marks } → LowersStmts p line body d1 d2 → d3 ≡ record d2 { marks = left_marks d2.marks } → Adds 2 (EndCode (is_void b) line) d3 new → LowersRoutine p (value_purpose p r.sig.ret) number r d0 new
 called_lowered p r b number line body d0 d1 d2 d3 new none le be re e1 h e3 g =
@@ -245,17 +256,19 @@ called_lowered p r b number line body d0 d1 d2 d3 new none le be re e1 h e3 g =
     let none_in : objects_in d1.marks ≡ 0 = ap (λ (d : Draft). objects_in d.marks) is in
     let size : sizes_at body (objects_in d1.marks) ≡ sizes_at body 0 = ap (sizes_at body) none_in in
     let all = lowers_put (stmts_stable d1.marks line (stmts_meant p body (scope_of d1))) (lowers_marked (mark.Body number) d0 d3 refl e1 e3 h) g in
+    let under_rows : stmts_rows_under d1.marks (stmts_meant p body (scope_of d1)) ≡ stmts_rows 0 0 (stmts_meant p body (scope_of d0)) = ap (λ (d : Draft). stmts_rows_under d.marks (stmts_meant p body (scope_of d))) is in
     let whole : LowersRoutine p (value_purpose p b) number (record r { body = body; brace = record r.brace { line = line } }) d0 new =
+    lowers_count (under_rows ∙ sym (called_rows_are (is_void b) (stmts_meant p body (scope_of d0)))) (
     lowers_as all (ap (λ (d : Draft). scope_behind p body (scope_of d)) is)
     (λ code a z w. called_at code (is_void b) number line (stmts_meant p body (scope_of d0)) a z (subst (λ (d : Draft). Both (StmtsAt code d.marks line (stmts_meant p body (scope_of d))) (EndCode (is_void b) line code) a z) is w))
-    (omega (arith, size)) (omega arith) (omega arith) refl in
+    (omega (arith, size)) (omega arith) (omega arith) refl) in
     subst (λ (x : Base). LowersRoutine p (value_purpose p x) number r d0 new) re (
     subst (λ (ss : Stmts). LowersRoutine p (value_purpose p b) number (record r { body = ss }) d0 new) be (
     subst (λ (l : ℕ). LowersRoutine p (value_purpose p b) number (record r { body = body; brace = record r.brace { line = l } }) d0 new) le whole))
 
 -- a routine whose statements fit, and behind them an op at least
-routine_rows : (d0 d2 new : Draft) → RowsFit 0 d0 d2 → d2.marks ≡ d0.marks → new.rows ≡ d2.rows → length d2.ops + 1 ≤ length new.ops → RoutineRows d0 new
-routine_rows d0 d2 new h m e l = record {
+routine_fits : {r : ℕ} (d0 d2 new : Draft) → RowsFit 0 r d0 d2 → d2.marks ≡ d0.marks → new.rows ≡ d2.rows → length d2.ops + 1 ≤ length new.ops → RoutineRows d0 new
+routine_fits d0 d2 new h m e l = record {
   few = let x = h.few in let y : open_rows d2.marks ≡ open_rows d0.marks = ap open_rows m in let z : length new.rows ≡ length d2.rows = ap length e in omega arith;
   begin = λ k i w. subst (BeginBy k) (sym e) (h.begin k (omega arith) w);
 }
@@ -268,7 +281,7 @@ pub called_rows : (p : Program) (b : Base) (number line : ℕ) (body : Stmts) (d
 called_rows p b number line body d0 d1 d2 d3 new e1 h e3 g =
     let within = lowers_marked (mark.Body number) d0 d3 refl e1 e3 h in
     let l = end_some (is_void b) line (laid_in new) (length d3.ops) (length new.ops) g.code in
-    routine_rows d0 d3 new within.rows (ap (λ (d : Draft). d.marks) within.rest) (ap (λ (d : Draft). d.rows) g.rest) l
+    routine_fits d0 d3 new within.rows (ap (λ (d : Draft). d.marks) within.rest) (ap (λ (d : Draft). d.rows) g.rest) l
 
 -- the same draft, but for what is known of routines and of the place
 pub rows_routine : (d0 d1 d2 new : Draft) → d1.rows ≡ d0.rows → d1.ops ≡ d0.ops → new.rows ≡ d2.rows → new.ops ≡ d2.ops → RoutineRows d1 d2 → RoutineRows d0 new
@@ -288,6 +301,10 @@ rows_routine d0 d1 d2 new r1 o1 r2 o2 h = record {
 owed_at : (p : Program) (all : Laid) (v : Bool) (ms : List CodeMark) (line a z : ℕ) → OwedCode v line all a z → StmtsAt all ms 0 (owing p line (if v then source.Procedure else source.Function)) a z
 owed_at p all true ms line a z h = h
 owed_at p all false ms line a z h = record { middle = z; first = h; second = record { end = refl } }
+
+owed_rows : (p : Program) (v : Bool) (loop out line : ℕ) → stmts_rows loop out (owing p line (if v then source.Procedure else source.Function)) ≡ 0
+owed_rows p true loop out line = refl
+owed_rows p false loop out line = refl
 
 owed_stable : (v : Bool) (line : ℕ) → Stable (OwedCode v line)
 owed_stable true line = nothing_stable
@@ -353,7 +370,7 @@ module _ (p : Program) (v : Bool) (routine line : ℕ) (body : Stmts) (d1 d2 d3 
       ∙ ap (λ (d : Draft). let x : Draft = record d { ops = d5.ops; rows = d5.rows; settled = d5.settled; marks = d5.marks; scopes = d3.scopes; names = d3.names; cells = d3.cells; hidden = d3.hidden; texts = d3.texts; sites = d3.sites } in x) e2
       ∙ ap (λ (ms : List CodeMark). let x : Draft = record d1 { ops = d5.ops; rows = d5.rows; settled = d5.settled; marks = ms; scopes = d3.scopes; names = d3.names; cells = d3.cells; hidden = d3.hidden; texts = d3.texts; sites = d3.sites } in x) outside5
 
-  pub mutex_scoped : Lowers (OPS_FOR_SIZE * sizes_at body 0 + 20) (stmts_size body) (stmts_cells body (declared_cells p)) (stmts_scopes body) (λ code. StmtsAt code d1.marks 0 (source.Scoped source.Leaves mutex_meant)) (scope_behind p body (scope_of d1)) d1 d5
+  pub mutex_scoped : Lowers (stmts_rows 0 0 (source.Scoped source.Leaves mutex_meant)) (OPS_FOR_SIZE * sizes_at body 0 + 20) (stmts_size body) (stmts_cells body (declared_cells p)) (stmts_scopes body) (λ code. StmtsAt code d1.marks 0 (source.Scoped source.Leaves mutex_meant)) (scope_behind p body (scope_of d1)) d1 d5
   mutex_scoped =
       let none_in : objects_in d2.marks ≡ 0 = ap objects_in (within2 ∙ ap (λ (ms : List CodeMark). mark.Clean cleaning.Leave 0 scope_row ∷ ms) in_body) in
       let size : sizes_at body (objects_in d2.marks) ≡ sizes_at body 0 = ap (sizes_at body) none_in in
@@ -369,8 +386,11 @@ module _ (p : Program) (v : Bool) (routine line : ℕ) (body : Stmts) (d1 d2 d3 
         opened = (let x = h.opened in omega arith);
         kept = kept_then (laid_in d1) (laid_in d2) last k2 (kept_then (laid_in d2) (laid_in d3) last h.kept stays4);
         rows =
-            let one : RowsFit 0 d1 d3 = fit_then h.kept.longer (fit_opened (opening.Object cleaning.Leave 0) d1 d2 e2) h.rows in
-            fit_then c5.kept.longer (fit_then g4.kept.longer one (fit_adds g4)) c5.rows;
+            let one = fit_then h.kept.longer (fit_opened (opening.Object cleaning.Leave 0) d1 d2 e2) h.rows in
+            let under_rows : stmts_rows_under d2.marks (stmts_meant p body (scope_of d2)) ≡ stmts_rows 1 1 meant_at =
+            ap (λ (s : Scope). stmts_rows_under d2.marks (stmts_meant p body s)) scope2 ∙ ap (λ (ms : List CodeMark). stmts_rows_under ms meant_at) (within2 ∙ ap (λ (ms : List CodeMark). mark.Clean cleaning.Leave 0 scope_row ∷ ms) in_body) in
+            let none_owed = owed_rows p v 1 1 line in
+            fit_count (omega (arith, under_rows, none_owed)) (fit_then c5.kept.longer (fit_then g4.kept.longer one (fit_adds g4)) c5.rows);
         room = (let x = h.room in let y = g4.room in let z = c5.room in omega (arith, size, ops2));
         texts = (let x = h.texts in omega arith);
         cells = (let x = h.cells in omega arith);
@@ -380,7 +400,7 @@ module _ (p : Program) (v : Bool) (routine line : ℕ) (body : Stmts) (d1 d2 d3 
 -- the statements of a mutex member with a result of this base
 abbrev MutexOf : Program → Base → ℕ → ℕ → Stmts → Draft → Draft → Type 0
 MutexOf p b last line body old new =
-    Lowers (OPS_FOR_SIZE * (1 + sizes_at body 0)) (stmts_size body) (stmts_cells body (declared_cells p)) (stmts_scopes body)
+    Lowers (stmts_rows 0 0 (source.Scoped source.Leaves (source.Then (source.Block line (stmts_meant p body (scope_of old))) (owing p line (value_purpose p b))))) (OPS_FOR_SIZE * (1 + sizes_at body 0)) (stmts_size body) (stmts_cells body (declared_cells p)) (stmts_scopes body)
     (λ code. Both (StmtsAt code (mark.Body last ∷ []) 0 (source.Scoped source.Leaves (source.Then (source.Block line (stmts_meant p body (scope_of old))) (owing p line (value_purpose p b))))) (One code op.Return 0)) (scope_behind p body (scope_of old)) old new
 
 pub mutex_rows : (p : Program) (b : Base) (number line : ℕ) (body : Stmts) (d0 d1 d2 d3 d4 d5 d6 new : Draft) → d0.marks ≡ []
@@ -390,7 +410,7 @@ mutex_rows p b number line body d0 d1 d2 d3 d4 d5 d6 new none e1 e2 k2 h g4 c5 e
     let is : d1.marks ≡ mark.Body number ∷ [] = ap (λ (d : Draft). d.marks) e1 ∙ ap (λ (ms : List CodeMark). mark.Body number ∷ ms) none in
     let within = lowers_marked (mark.Body number) d0 d6 refl e1 e6 (mutex_scoped p (is_void b) number line body d1 d2 d3 d4 d5 is e2 k2 h g4 c5) in
     let l = g.code.end in
-    routine_rows d0 d6 new within.rows (ap (λ (d : Draft). d.marks) within.rest) (ap (λ (d : Draft). d.rows) g.rest) (omega arith)
+    routine_fits d0 d6 new within.rows (ap (λ (d : Draft). d.marks) within.rest) (ap (λ (d : Draft). d.rows) g.rest) (omega arith)
 
 pub mutex_lowered : (p : Program) (r : Routine) (b : Base) (number line : ℕ) (body : Stmts) (d0 d1 d2 d3 d4 d5 d6 new : Draft) → d0.marks ≡ [] → line ≡ r.brace.line → body ≡ r.body → b ≡ r.sig.ret
     → d1 ≡ record d0 { marks = mark.Body number ∷ d0.marks } → d2 ≡ opened (opening.Object cleaning.Leave 0) d1 → Kept (laid_in d1) (laid_in d2) → LowersStmts p line body d2 d3 → Adds 1 (OwedCode (is_void b) line) d3 d4
@@ -401,9 +421,10 @@ mutex_lowered p r b number line body d0 d1 d2 d3 d4 d5 d6 new none le be re e1 e
     let scoped = mutex_scoped p (is_void b) number line body d1 d2 d3 d4 d5 (ap (λ (d : Draft). d.marks) is) e2 k2 h g4 c5 in
     let all = lowers_put (stmts_stable d1.marks 0 (source.Scoped source.Leaves (source.Then (source.Block line (stmts_meant p body (scope_of d1))) (owing p line (value_purpose p b))))) (lowers_marked (mark.Body number) d0 d6 refl e1 e6 scoped) g in
     let whole : MutexOf p b number line body d0 new =
+    lowers_count (ap (λ (d : Draft). stmts_rows 0 0 (source.Scoped source.Leaves (source.Then (source.Block line (stmts_meant p body (scope_of d))) (owing p line (value_purpose p b))))) is) (
     lowers_as all (ap (λ (d : Draft). scope_behind p body (scope_of d)) is)
     (λ code a z w. subst (λ (d : Draft). Both (StmtsAt code d.marks 0 (source.Scoped source.Leaves (source.Then (source.Block line (stmts_meant p body (scope_of d))) (owing p line (value_purpose p b))))) (One code op.Return 0) a z) is w)
-    (omega arith) (omega arith) (omega arith) refl in
+    (omega arith) (omega arith) (omega arith) refl) in
     subst (λ (x : Base). MutexOf p x number r.brace.line r.body d0 new) re (
     subst (λ (ss : Stmts). MutexOf p b number r.brace.line ss d0 new) be (
     subst (λ (l : ℕ). MutexOf p b number l body d0 new) le whole))
@@ -478,7 +499,7 @@ module _ (p : Program) (r : Routine) (number : ℕ) (c : Option Class) where
 
 abbrev PlainOf : Program → source.Purpose → Bool → ℕ → Routine → Draft → Draft → Type 0
 PlainOf p q n last r old new =
-    Lowers (OPS_FOR_SIZE * (1 + sizes_at r.body 0)) (stmts_size r.body) (stmts_cells r.body (declared_cells p)) (stmts_scopes r.body) (λ code. BodyAt code q last r.brace.line (plain_body p n r (stmts_meant p r.body (scope_of old)))) (scope_behind p r.body (scope_of old)) old new
+    Lowers (body_rows q (plain_body p n r (stmts_meant p r.body (scope_of old)))) (OPS_FOR_SIZE * (1 + sizes_at r.body 0)) (stmts_size r.body) (stmts_cells r.body (declared_cells p)) (stmts_scopes r.body) (λ code. BodyAt code q last r.brace.line (plain_body p n r (stmts_meant p r.body (scope_of old)))) (scope_behind p r.body (scope_of old)) old new
 
 pub plain_lowered : (p : Program) (q o : source.Purpose) (n : Bool) (last : ℕ) (r : Routine) (old new : Draft) → q ≡ o → n ≡ false → LowersRoutine p q last r old new → PlainOf p o n last r old new
 plain_lowered p q o n last r old new e f h = subst (λ (x : Bool). PlainOf p o x last r old new) (sym f) (subst (λ (x : source.Purpose). PlainOf p x false last r old new) e h)
@@ -488,6 +509,7 @@ numbered_lowered p o n last r old new e f h = subst (λ (x : Bool). PlainOf p o 
 
 -- what lowering a routine, which begins in this scope, does to a draft
 pub record Written (p : Program) (r : Routine) (s : Scope) (last number : ℕ) (old new : Draft) : Type 0 where
+  pub count : length new.rows ≡ length old.rows + routine_rows (routine_meant p r s)
   pub kept : Kept (laid_in old) (laid_in new)
   pub room : length new.ops ≤ length old.ops + OPS_FOR_SIZE * (1 + sizes_at r.body 0)
   pub code : RoutineAt (laid_in new) last number (routine_meant p r s) (record { entry = length old.ops; cells = frame_cells p r; params = length r.sig.params; written = true }) (length old.ops) (length new.ops)
@@ -551,7 +573,11 @@ module _ (p : Program) (r : Routine) (plain : r.sig.role ≡ role.Plain) (class 
   pub arm_routine : Written p r s last number d0 new
   arm_routine =
       let routines : d2.routines ≡ d0.routines = ap (λ (d : Draft). d.routines) k.rest in
+      let q : source.Purpose = purpose_of p number (class_by p class) r in
+      let same_rows : body_rows q (plain_body p (has_number_in p (class_by p class) r.sig) r (stmts_meant p r.body (scope_of first))) ≡ routine_rows (routine_meant p r s) =
+      ap (λ (t : Scope). body_rows q (plain_body p (has_number_in p (class_by p class) r.sig) r (stmts_meant p r.body t))) scope_first ∙ ap (λ (x : Role). body_rows q (body_by p x r s)) (sym plain) in
       subst (λ (d : Draft). Written p r s last number d0 d) (sym is) (record {
+        count = (let more = k.rows.more in omega (arith, more, same_rows));
         kept = k.kept;
         room = k.room;
         code = record { entry = refl; cells = refl; params = refl; written = refl; body = ends };

@@ -18,15 +18,15 @@ use Rattle.uc_lower_stmt.proofs.Joined.{lowers_as}
 abbrev pub opened : Draft → Draft
 opened d = record d { place = record d.place { scope = d.scopes + 1 }; scopes = d.scopes + 1 }
 
-pub lowers_scoped : {n k c o : ℕ} {S : Laid → ℕ → ℕ → Type 0} {t : Scope} {old last : Draft} → (out : OuterScope) (new : Draft) → out ≡ record { names = length old.names; scope = old.place.scope } → take (length old.names) t.names ≡ old.names
-    → Lowers n k c o S t (opened old) last → new ≡ record last { place = record last.place { scope = out.scope }; names = take out.names last.names } → Lowers n k c (1 + o) S (record t { names = old.names }) old new
-lowers_scoped {n} {k} {c} {o} {S} {t} {old} {last} out new oe te h e =
-    subst (λ (d : Draft). Lowers n k c (1 + o) S (record t { names = old.names }) old d) (sym is) (record {
+pub lowers_scoped : {r n k c o : ℕ} {S : Laid → ℕ → ℕ → Type 0} {t : Scope} {old last : Draft} → (out : OuterScope) (new : Draft) → out ≡ record { names = length old.names; scope = old.place.scope } → take (length old.names) t.names ≡ old.names
+    → Lowers r n k c o S t (opened old) last → new ≡ record last { place = record last.place { scope = out.scope }; names = take out.names last.names } → Lowers r n k c (1 + o) S (record t { names = old.names }) old new
+lowers_scoped {r} {n} {k} {c} {o} {S} {t} {old} {last} out new oe te h e =
+    subst (λ (d : Draft). Lowers r n k c (1 + o) S (record t { names = old.names }) old d) (sym is) (record {
       rest = refl;
       scope = ap (λ (x : Scope). let y : Scope = record x { names = take (length old.names) x.names } in y) g.scope ∙ ap (λ (ns : List LocalVariable). let y : Scope = record t { names = ns } in y) te;
       opened = let x = g.opened in omega arith;
       kept = g.kept;
-      rows = record { few = g.rows.few; begin = g.rows.begin };
+      rows = record { more = g.rows.more; few = g.rows.few; begin = g.rows.begin };
       room = g.room;
       texts = g.texts;
       cells = g.cells;
@@ -36,8 +36,8 @@ lowers_scoped {n} {k} {c} {o} {S} {t} {old} {last} out new oe te h e =
     whole : Draft
     whole = record old { place = record old.place { scope = old.scopes + 1 }; ops = last.ops; rows = last.rows; settled = last.settled; scopes = last.scopes; names = last.names; cells = last.cells; hidden = last.hidden; texts = last.texts; sites = last.sites }
 
-    g : Lowers n k c o S t (opened old) (record old { place = record old.place { scope = old.scopes + 1 }; ops = last.ops; rows = last.rows; settled = last.settled; scopes = last.scopes; names = last.names; cells = last.cells; hidden = last.hidden; texts = last.texts; sites = last.sites })
-    g = subst (λ (d : Draft). Lowers n k c o S t (opened old) d) h.rest h
+    g : Lowers r n k c o S t (opened old) (record old { place = record old.place { scope = old.scopes + 1 }; ops = last.ops; rows = last.rows; settled = last.settled; scopes = last.scopes; names = last.names; cells = last.cells; hidden = last.hidden; texts = last.texts; sites = last.sites })
+    g = subst (λ (d : Draft). Lowers r n k c o S t (opened old) d) h.rest h
 
     is : new ≡ record old { ops = last.ops; rows = last.rows; settled = last.settled; scopes = last.scopes; names = take (length old.names) last.names; cells = last.cells; hidden = last.hidden; texts = last.texts; sites = last.sites }
     is = e ∙ ap (λ (x : OuterScope). let d : Draft = record last { place = record last.place { scope = x.scope }; names = take x.names last.names } in d) oe

@@ -26,7 +26,7 @@ pub record Longer (n : ℕ) (S : Laid → ℕ → ℕ → Type 0) (old new : Lai
 pub adds_longer : {n : ℕ} {S : Laid → ℕ → ℕ → Type 0} {old new : Draft} → Adds n S old new → Longer n S (laid_in old) (laid_in new)
 adds_longer h = record { kept = h.kept; room = h.room; code = h.code }
 
-pub lowers_longer : {n k c o : ℕ} {S : Laid → ℕ → ℕ → Type 0} {s : Scope} {old new : Draft} → Lowers n k c o S s old new → Longer n S (laid_in old) (laid_in new)
+pub lowers_longer : {r n k c o : ℕ} {S : Laid → ℕ → ℕ → Type 0} {s : Scope} {old new : Draft} → Lowers r n k c o S s old new → Longer n S (laid_in old) (laid_in new)
 lowers_longer h = record { kept = h.kept; room = h.room; code = h.code }
 
 pub longer_both : {m n : ℕ} {B C : Laid → ℕ → ℕ → Type 0} {old mid new : Laid} → Stable B → Longer m B old mid → Longer n C mid new → Longer (m + n) (λ code. Both (B code) (C code)) old new
@@ -41,9 +41,9 @@ longer_both {m} {n} {B} {C} {old} {mid} {new} b h g = record {
 }
 
 -- what came to a draft besides its ops stays where these are replaced
-pub lowers_done : {n k c o m : ℕ} {S T : Laid → ℕ → ℕ → Type 0} {s : Scope} {old mid new : Draft} → Lowers n k c o S s old mid → new ≡ record mid { ops = new.ops } → length new.ops ≡ length mid.ops → Longer m T (laid_in old) (record { ops = new.ops; rows = mid.rows }) → Lowers m k c o T s old new
-lowers_done {n} {k} {c} {o} {m} {S} {T} {s} {old} {mid} {new} h e l g =
-    subst (λ (d : Draft). Lowers m k c o T s old d) (sym e) (record {
+pub lowers_done : {r n k c o m : ℕ} {S T : Laid → ℕ → ℕ → Type 0} {s : Scope} {old mid new : Draft} → Lowers r n k c o S s old mid → new ≡ record mid { ops = new.ops } → length new.ops ≡ length mid.ops → Longer m T (laid_in old) (record { ops = new.ops; rows = mid.rows }) → Lowers r m k c o T s old new
+lowers_done {r} {n} {k} {c} {o} {m} {S} {T} {s} {old} {mid} {new} h e l g =
+    subst (λ (d : Draft). Lowers r m k c o T s old d) (sym e) (record {
       rest = ap (λ (d : Draft). let x : Draft = record d { ops = new.ops } in x) h.rest;
       scope = h.scope;
       opened = h.opened;
@@ -56,18 +56,19 @@ lowers_done {n} {k} {c} {o} {m} {S} {T} {s} {old} {mid} {new} h e l g =
     })
 
 -- what is lowered under one more mark, which is left behind it
-pub lowers_marked : {n k c o : ℕ} {S : Laid → ℕ → ℕ → Type 0} {s : Scope} {mid last : Draft} → (m : CodeMark) (old new : Draft) → left_marks (m ∷ old.marks) ≡ old.marks → mid ≡ record old { marks = m ∷ old.marks } → new ≡ record last { marks = left_marks last.marks } → Lowers n k c o S s mid last → Lowers n k c o S s old new
-lowers_marked {n} {k} {c} {o} {S} {s} {mid} {last} m old new l e f h =
-    let g : Lowers n k c o S s (record old { marks = m ∷ old.marks }) last = subst (λ (d : Draft). Lowers n k c o S s d last) e h in
+pub lowers_marked : {r n k c o : ℕ} {S : Laid → ℕ → ℕ → Type 0} {s : Scope} {mid last : Draft} → (m : CodeMark) (old new : Draft) → left_marks (m ∷ old.marks) ≡ old.marks → mid ≡ record old { marks = m ∷ old.marks } → new ≡ record last { marks = left_marks last.marks } → Lowers r n k c o S s mid last → Lowers r n k c o S s old new
+lowers_marked {r} {n} {k} {c} {o} {S} {s} {mid} {last} m old new l e f h =
+    let g : Lowers r n k c o S s (record old { marks = m ∷ old.marks }) last = subst (λ (d : Draft). Lowers r n k c o S s d last) e h in
     let i : record last { marks = left_marks last.marks } ≡ record old { ops = last.ops; rows = last.rows; settled = last.settled; scopes = last.scopes; names = last.names; cells = last.cells; hidden = last.hidden; texts = last.texts; sites = last.sites } =
     ap (λ (d : Draft). let x : Draft = record d { marks = left_marks d.marks } in x) g.rest
     ∙ ap (λ (ms : List CodeMark). let x : Draft = record old { ops = last.ops; rows = last.rows; settled = last.settled; marks = ms; scopes = last.scopes; names = last.names; cells = last.cells; hidden = last.hidden; texts = last.texts; sites = last.sites } in x) l in
-    subst (λ (d : Draft). Lowers n k c o S s old d) (sym f) (record {
+    subst (λ (d : Draft). Lowers r n k c o S s old d) (sym f) (record {
       rest = i;
       scope = g.scope;
       opened = g.opened;
       kept = g.kept;
       rows = record {
+        more = g.rows.more;
         few =
             let x = g.rows.few in
             let inner : open_rows last.marks ≡ open_rows (m ∷ old.marks) = ap (λ (d : Draft). open_rows d.marks) g.rest in

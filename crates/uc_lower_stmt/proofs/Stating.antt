@@ -74,11 +74,11 @@ pub arm_declare : (p : Program) (s : Stmt) (place : Pos) (b : Base) (xs ys : Lis
 arm_declare p s place b xs ys old new h i a =
     as_stmt p s (Declare place b xs) old new (ap (λ (l : List Declarator). Declare place b l) i ∙ h) (lowers_as a (declared_counted p place b xs (scope_of old)) (λ code x z w. w) (omega arith) (omega arith) (omega arith) (omega arith))
 
-pub arm_print : (p : Program) (s : Stmt) (place : Pos) (xs ys : List OutItem) (old new : Draft) → Print place ys ≡ s → xs ≡ ys → Lowers (OPS_FOR_SIZE * out_items_size xs) (out_items_size xs) 0 0 (ItemsCode place.line old.marks (items_at p (scope_of old) xs)) (with_texts (scope_of old) (texts_among xs)) old new → LowersStmt p s old new
+pub arm_print : (p : Program) (s : Stmt) (place : Pos) (xs ys : List OutItem) (old new : Draft) → Print place ys ≡ s → xs ≡ ys → Lowers 0 (OPS_FOR_SIZE * out_items_size xs) (out_items_size xs) 0 0 (ItemsCode place.line old.marks (items_at p (scope_of old) xs)) (with_texts (scope_of old) (texts_among xs)) old new → LowersStmt p s old new
 arm_print p s place xs ys old new h i a =
     as_stmt p s (Print place xs) old new (ap (λ (l : List OutItem). Print place l) i ∙ h) (lowers_as a (texts_counted (scope_of old) (texts_among xs)) (λ code x z w. w) (omega arith) (omega arith) (omega arith) (omega arith))
 
-pub arm_print_together : (p : Program) (s : Stmt) (place : Pos) (xs ys : List OutItem) (old new : Draft) → PrintTogether place ys ≡ s → xs ≡ ys → Lowers (OPS_FOR_SIZE * (1 + out_items_size xs)) (out_items_size xs) 0 0 (TogetherCode place.line old.marks (items_at p (scope_of old) xs)) (with_texts (scope_of old) (texts_among xs)) old new → LowersStmt p s old new
+pub arm_print_together : (p : Program) (s : Stmt) (place : Pos) (xs ys : List OutItem) (old new : Draft) → PrintTogether place ys ≡ s → xs ≡ ys → Lowers 0 (OPS_FOR_SIZE * (1 + out_items_size xs)) (out_items_size xs) 0 0 (TogetherCode place.line old.marks (items_at p (scope_of old) xs)) (with_texts (scope_of old) (texts_among xs)) old new → LowersStmt p s old new
 arm_print_together p s place xs ys old new h i a =
     as_stmt p s (PrintTogether place xs) old new (ap (λ (l : List OutItem). PrintTogether place l) i ∙ h) (lowers_as a (texts_counted (scope_of old) (texts_among xs)) (λ code x z w. w) (omega arith) (omega arith) (omega arith) (omega arith))
 

@@ -32,15 +32,17 @@ use Rattle.uc_lower_stmt.specs.Handling.{LowersHandlers, LowersTry, past_handler
 use Rattle.uc_lower_stmt.specs.Marked.{objects_in}
 use Rattle.uc_lower_stmt.specs.LowersStatement.{Lowers, LowersStmt, LowersStmts, scope_of, sizes_at}
 use Rattle.uc_lower_stmt.proofs.Counted.{behind_counted, counted, counted_as, nothing_counted}
-use Rattle.uc_lower_stmt.proofs.GuardingLemmas.{guards_objects, kept_under, under_same}
-use Rattle.uc_lower_stmt.proofs.HandlingLemmas.{from_as, rows_are}
-use Rattle.uc_lower_stmt.proofs.Joined.{lowers_as}
+use Rattle.uc_lower_stmt.proofs.GuardingLemmas.{guards_objects, kept_under, under_same, guards_loop, guards_return}
+use Rattle.uc_lower_stmt.proofs.HandlingLemmas.{from_as, rows_are, from_count}
+use Rattle.uc_lower_stmt.proofs.Joined.{lowers_as, lowers_count}
 use Rattle.uc_lower_stmt.proofs.Kept.{handlers_stable, stmts_stable}
 use Rattle.uc_lower_stmt.proofs.Scoping.{back_out, lowers_scoped, opened}
 use Rattle.uc_lower_stmt.proofs.Stating.{as_stmt}
 use Rattle.uc_lower_stmt.specs.RowFit.{RowsFit, open_rows}
 use Rattle.uc_code.specs.RowGrowth.{BeginBy}
 use Rattle.uc_lower_stmt.proofs.RowFitting.{fit_like, open_guards_rows}
+use Rattle.uc_lower_stmt.specs.SourceRows.{handlers_rows_under, stmts_rows, stmts_rows_under}
+use Rattle.uc_code.specs.RowCounts.{loop_rows, return_rows}
 
 -- what was laid out before a place stays where the op at the place is another one
 kept_patch : (old now : Laid) (at : ℕ) (o : Op) → Kept old now → length old.ops ≤ at → Kept old (record { ops = patched now.ops at o; rows = now.rows })
@@ -52,10 +54,10 @@ kept_patch old now at o k l = record {
   bare = λ number w. bare_stays now (record { ops = patched now.ops at o; rows = now.rows }) refl number (k.bare number w);
 }
 
-module _ (less line start first end n nn m k c o j b q : ℕ) (hs : source.Handlers) (ss : Stmts) (mid after : Scope) (d0 d1 d2 d3 d4 d5 d6 d7 new : Draft)
+module _ (less line start first end n nn m k c o j b q u v : ℕ) (hs : source.Handlers) (ss : Stmts) (mid after : Scope) (d0 d1 d2 d3 d4 d5 d6 d7 new : Draft)
     (st : start ≡ length d0.ops) (fe : first ≡ length d2.rows) (ne : n ≡ handler_rows hs) (paid : n ≤ less) (g1 : Adds 1 (OpCode line (op.Jump (start + 2))) d0 d1) (g2 : Adds 1 (OpCode line (op.Jump 0)) d1 d2)
-    (og : OpensGuards n d2 d3) (h : Lowers nn k c o (λ code. StmtsAt code d3.marks line ss) mid d3 d4) (cg : (f : ℕ) (ns : List CodeMark) → d4.marks ≡ guards f n ns → ClosesGuards f n ns d4 d5)
-    (g6 : Adds 1 (OpCode line (op.Jump (start + 1))) d5 d6) (w : LowersFrom less first m j b q (λ code. HandlersAt code d6.marks first (start + 1) hs) after d6 d7)
+    (og : OpensGuards n d2 d3) (h : Lowers u nn k c o (λ code. StmtsAt code d3.marks line ss) mid d3 d4) (cg : (f : ℕ) (ns : List CodeMark) → d4.marks ≡ guards f n ns → ClosesGuards f n ns d4 d5)
+    (g6 : Adds 1 (OpCode line (op.Jump (start + 1))) d5 d6) (w : LowersFrom less v first m j b q (λ code. HandlersAt code d6.marks first (start + 1) hs) after d6 d7)
     (ee : end ≡ length d7.ops) (pt : new ≡ record d7 { ops = patched d7.ops (start + 1) (op.Jump end) }) where
   abbrev a : ℕ
   a = length d0.ops
@@ -210,8 +212,15 @@ module _ (less line start first end n nn m k c o j b q : ℕ) (hs : source.Handl
       is ∙ ap (λ (d : Draft). let x : Draft = record d { ops = now.ops } in x) w.rest
       ∙ ap (λ (d : Draft). let x : Draft = record d { ops = now.ops; rows = d7.rows; settled = d7.settled; scopes = d7.scopes; names = d7.names; cells = d7.cells; hidden = d7.hidden; texts = d7.texts; sites = d7.sites } in x) six_is
 
-  grown : RowsFit 0 d0 d7
+  grown : RowsFit 0 (n + u + v) d0 d7
   grown = record {
+    more =
+        let a2 : length d3.rows ≡ length d2.rows + n = og.rows.more in
+        let a4 = h.rows.more in
+        let a5 = closes.rows.more in
+        let a6 : length d6.rows ≡ length d5.rows = ap (λ (d : Draft). length d.rows) g6.rest in
+        let a7 = w.rows.more in
+        omega (arith, rows_two);
     few =
         let a2 : length d3.rows ≡ length d2.rows + n = og.rows.more in
         let a4 = h.rows.few in
@@ -233,7 +242,7 @@ module _ (less line start first end n nn m k c o j b q : ℕ) (hs : source.Handl
         w.rows.begin x l (subst (BeginBy x) (sym (ap (λ (d : Draft). d.rows) g6.rest)) five);
   }
 
-  pub arm_guarded : Lowers (3 + nn + m) (k + j) (c + b) (o + q) (λ code. Guarded code line ms (handler_rows hs) (λ ns. StmtsAt code ns line ss) (λ f pad. HandlersAt code ms f pad hs)) after d0 new
+  pub arm_guarded : Lowers (n + u + v) (3 + nn + m) (k + j) (c + b) (o + q) (λ code. Guarded code line ms (handler_rows hs) (λ ns. StmtsAt code ns line ss) (λ f pad. HandlersAt code ms f pad hs)) after d0 new
   arm_guarded =
       let texts_three : d3.texts ≡ d0.texts = ap (λ (d : Draft). d.texts) three in
       let cells_three : d3.cells ≡ d0.cells = ap (λ (d : Draft). d.cells) three in
@@ -278,8 +287,12 @@ arm_try p line brace start first end n body hs out d0 d1 d2 d3 b1 b2 d4 d5 d6 d7
     let one = lowers_scoped out d4 oe (back_out p body (scope_of d3)) inner e4 in
     let left : record (scope_behind p body (scope_of d3)) { names = d3.names } ≡ past = ap (λ (x : Scope). let y : Scope = record x { names = d3.names } in y) (behind_counted p body (scope_of d3)) ∙ ap (scope_past_all p body) scope3 in
     let ss : Stmts = source.Then (source.Block brace (stmts_meant p body s)) source.Nil in
-    let block : Lowers (OPS_FOR_SIZE * sizes_at body (objects_in d3.marks)) (stmts_size body) (stmts_cells body (declared_cells p)) (1 + stmts_scopes body) (λ code. StmtsAt code d3.marks line ss) past d3 d4 =
-    lowers_as one left (λ code a z x. record { middle = z; first = subst (λ (t : Scope). StmtsAt code d3.marks brace (stmts_meant p body t) a z) scope3 x; second = record { end = refl } }) (omega arith) (omega arith) (omega arith) refl in
+    let under_rows : stmts_rows_under d3.marks (stmts_meant p body (scope_of d3)) ≡ stmts_rows_under d0.marks (stmts_meant p body s) =
+    ap (λ (t : Scope). stmts_rows_under d3.marks (stmts_meant p body t)) scope3
+    ∙ ap (λ (l : ℕ). stmts_rows l (return_rows d3.marks) (stmts_meant p body s)) (ap loop_rows marks3 ∙ guards_loop (length d2.rows) n d2.marks ∙ ap loop_rows marks2)
+    ∙ ap (λ (r : ℕ). stmts_rows (loop_rows d0.marks) r (stmts_meant p body s)) (ap return_rows marks3 ∙ guards_return (length d2.rows) n d2.marks ∙ ap return_rows marks2) in
+    let block : Lowers (stmts_rows_under d0.marks (stmts_meant p body s)) (OPS_FOR_SIZE * sizes_at body (objects_in d3.marks)) (stmts_size body) (stmts_cells body (declared_cells p)) (1 + stmts_scopes body) (λ code. StmtsAt code d3.marks line ss) past d3 d4 =
+    lowers_count under_rows (lowers_as one left (λ code a z x. record { middle = z; first = subst (λ (t : Scope). StmtsAt code d3.marks brace (stmts_meant p body t) a z) scope3 x; second = record { end = refl } }) (omega arith) (omega arith) (omega arith) refl) in
     let marks4 : d4.marks ≡ guards (length d2.rows) n d2.marks = ap (λ (d : Draft). d.marks) block.rest ∙ marks3 in
     let closes = cg (length d2.rows) d2.marks marks4 in
     let scope6 : scope_of d6 ≡ past = ap scope_of g6.rest ∙ ap scope_of closes.rest ∙ block.scope in
@@ -287,11 +300,15 @@ arm_try p line brace start first end n body hs out d0 d1 d2 d3 b1 b2 d4 d5 d6 d7
     let exits6 = ap (exits_handlers hs) objects6 in
     let sources : source.Handlers = handlers_meant p hs past in
     let m : ℕ = OPS_FOR_SIZE * (handlers_size hs + exits_handlers hs (objects_in d6.marks)) in
-    let laid : LowersFrom (length (tree.handler_list hs)) first m (handlers_size hs) (handlers_cells hs (declared_cells p)) (handlers_scopes hs) (λ code. HandlersAt code d6.marks first (start + 1) sources) (past_handlers p hs past) d6 d7 =
-    from_as w (omega arith) (ap (past_handlers p hs) scope6) (λ code a z x. subst (λ (t : Scope). HandlersAt code d6.marks first (start + 1) (handlers_meant p hs t) a z) scope6 x) (omega arith) (omega arith) (omega arith) refl in
-    let all = arm_guarded (length (tree.handler_list hs)) line start first end n (OPS_FOR_SIZE * sizes_at body (objects_in d3.marks)) m (stmts_size body) (stmts_cells body (declared_cells p)) (1 + stmts_scopes body) (handlers_size hs) (handlers_cells hs (declared_cells p)) (handlers_scopes hs)
+    let marks6 : d6.marks ≡ d0.marks = ap (λ (d : Draft). d.marks) g6.rest ∙ ap (λ (d : Draft). d.marks) closes.rest ∙ marks2 in
+    let handled_rows : handlers_rows_under d6.marks (handlers_meant p hs (scope_of d6)) ≡ handlers_rows_under d0.marks sources =
+    ap (λ (ns : List CodeMark). handlers_rows_under ns (handlers_meant p hs (scope_of d6))) marks6 ∙ ap (λ (t : Scope). handlers_rows_under d0.marks (handlers_meant p hs t)) scope6 in
+    let laid : LowersFrom (length (tree.handler_list hs)) (handlers_rows_under d0.marks sources) first m (handlers_size hs) (handlers_cells hs (declared_cells p)) (handlers_scopes hs) (λ code. HandlersAt code d6.marks first (start + 1) sources) (past_handlers p hs past) d6 d7 =
+    from_count handled_rows (from_as w (omega arith) (ap (past_handlers p hs) scope6) (λ code a z x. subst (λ (t : Scope). HandlersAt code d6.marks first (start + 1) (handlers_meant p hs t) a z) scope6 x) (omega arith) (omega arith) (omega arith) refl) in
+    let all = arm_guarded (length (tree.handler_list hs)) line start first end n (OPS_FOR_SIZE * sizes_at body (objects_in d3.marks)) m (stmts_size body) (stmts_cells body (declared_cells p)) (1 + stmts_scopes body) (handlers_size hs) (handlers_cells hs (declared_cells p)) (handlers_scopes hs) (stmts_rows_under d0.marks (stmts_meant p body s)) (handlers_rows_under d0.marks sources)
     sources ss past (past_handlers p hs past) d0 d1 d2 d3 d4 d5 d6 d7 new st fe (ne ∙ sym (rows_are p hs past)) (omega (arith, ne)) g1 g2 og block cg g6 laid ee pt in
-    lowers_as all refl (λ code a z x. x) (omega (arith, size3, exits6)) (omega arith) (omega arith) refl
+    let count : n ≡ handler_rows sources = ne ∙ sym (rows_are p hs past) in
+    lowers_count (omega (arith, count)) (lowers_as all refl (λ code a z x. x) (omega (arith, size3, exits6)) (omega arith) (omega arith) refl)
 
 -- behind one
 

@@ -25,7 +25,7 @@ use Rattle.uc_lower_stmt.specs.declared.turning.Turning.TheVariants as turning
 use Rattle.uc_lower_stmt.specs.Marked.{objects_in}
 use Rattle.uc_lower_stmt.specs.LowersStatement.{scope_of}
 use Rattle.uc_lower_stmt.specs.Control.{BeginCode, StepCode, BackCode, EndsLoop, LowersAlone, LowersLoop, turning_order, turning_test, turning_size}
-use Rattle.uc_lower_stmt.proofs.Joined.{lowers_adds, lowers_as, lowers_join, lowers_put}
+use Rattle.uc_lower_stmt.proofs.Joined.{lowers_adds, lowers_as, lowers_count, lowers_join, lowers_put}
 use Rattle.uc_lower_stmt.proofs.Kept.{stmt_stable, step_stable}
 use Rattle.uc_lower_stmt.proofs.Shaping.{Longer, adds_longer, lowers_longer, longer_turns, lowers_done, lowers_marked}
 use Rattle.uc_lower_stmt.proofs.Choosing.{AloneIn, alone_as}
@@ -126,4 +126,4 @@ module _ (p : Program) (line : ℕ) (t : Turning) (step : Option tree.Expr) (bod
       let two = both one (step_stable line ms (step_of p s step)) in
       let all = lowers_put two (lowers_put one (lowers_join (begin_stable line) (lowers_adds 0 0 g) turn) steps) tests in
       let ops_are : new ≡ record e4 { ops = new.ops } = f ∙ ap (λ (l : List Instruction). let d : Draft = record e4 { ops = l } in d) (sym (ap (λ (d : Draft). d.ops) f)) in
-      lowers_as (lowers_done all ops_are (ap length is ∙ length-looped (turning_order t) n (length e2.ops) (length e3.ops) e4.ops) whole) refl (λ code x z w. w) (omega arith) (omega arith) (omega arith) (omega arith)
+      lowers_count (omega arith) (lowers_as (lowers_done all ops_are (ap length is ∙ length-looped (turning_order t) n (length e2.ops) (length e3.ops) e4.ops) whole) refl (λ code x z w. w) (omega arith) (omega arith) (omega arith) (omega arith))

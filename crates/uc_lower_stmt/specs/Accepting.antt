@@ -7,7 +7,7 @@ use Rattle.uc_tree.specs.ExpressionSizes.{expr_size}
 use Rattle.uc_tree.specs.Programs.{Program}
 use Rattle.uc_tree.specs.Scopes.{clauses_scopes, maybe_scopes}
 use Rattle.uc_tree.specs.Sizes.{size_at}
-use Rattle.uc_tree.specs.Source.{Accept, Expr, Literal}
+use Rattle.uc_tree.specs.Source.{Accept, Clauses, Expr, Literal}
 use Rattle.uc_tree.specs.Statements.{Accepts, Clause, MaybeStmt, Stmt, clauses_of}
 use Rattle.uc_tree.specs.StatementSizes.{clauses_size, maybe_stmt_size}
 use Rattle.uc_resolve.specs.Resolve.{Context, Scope, clauses_meant, context_at, else_meant, scope_past_clauses, value_in_scope, within_accept}
@@ -21,6 +21,7 @@ use Rattle.uc_code.specs.Lowered.{BranchesAt, ExprAt, TaskAt}
 use Rattle.uc_lower_stmt.specs.Control.{maybe_at_size, maybe_past}
 use Rattle.uc_lower_stmt.specs.LowersStatement.{Lowers, scope_of}
 use Rattle.uc_lower_stmt.specs.Marked.{objects_in}
+use Rattle.uc_lower_stmt.specs.SourceRows.{clauses_rows_under}
 
 -- the guard and the statement of a clause
 
@@ -70,7 +71,7 @@ choice_room xs = guards_room xs + length xs + 10
 
 abbrev pub LowersChoice : Program → ℕ → List Clause → Draft → Draft → Type 0
 LowersChoice p line xs old new =
-    Lowers (choice_room xs) 0 0 0 (ChoiceCode line old.marks (context_at p (scope_of old)) old.sites xs) (within_accept p (scope_of old)) old new
+    Lowers 0 (choice_room xs) 0 0 0 (ChoiceCode line old.marks (context_at p (scope_of old)) old.sites xs) (within_accept p (scope_of old)) old new
 
 -- the branches
 
@@ -88,9 +89,12 @@ branches_room [] k = 0
 branches_room (x ∷ xs) k = 1 + OPS_FOR_SIZE * size_at (branch_of x) k + branches_room xs k
 
 -- behind each of them all goes on where the last one ends
+abbrev pub branches_meant : Program → List Clause → MaybeStmt → Scope → Clauses
+branches_meant p xs other s = clauses_meant p (clauses_of xs) s (else_meant p other (scope_past_clauses p (clauses_of xs) s))
+
 abbrev pub BranchesCode : Program → ℕ → List CodeMark → List Clause → MaybeStmt → Scope → ℕ → List ℕ → Laid → ℕ → ℕ → Type 0
 BranchesCode p line ms xs other s otherwise places code a z =
-    BranchesAt code ms line (clauses_meant p (clauses_of xs) s (else_meant p other (scope_past_clauses p (clauses_of xs) s))) otherwise places z a z
+    BranchesAt code ms line (branches_meant p xs other s) otherwise places z a z
 
 abbrev pub past_branches : Program → List Clause → MaybeStmt → Scope → Scope
 past_branches p xs other s = maybe_past p other (scope_past_clauses p (clauses_of xs) s)
@@ -100,7 +104,7 @@ pub record LowersBranches (p : Program) (line else_at first : ℕ) (xs : List Cl
   pub otherwise : ℕ
   pub places : List ℕ
   pub count : length places ≡ length xs
-  pub branches : Lowers (branches_room xs (objects_in old.marks) + OPS_FOR_SIZE * maybe_at_size other (objects_in old.marks)) (clauses_size (clauses_of xs) + maybe_stmt_size other)
+  pub branches : Lowers (clauses_rows_under old.marks (branches_meant p xs other (scope_of old))) (branches_room xs (objects_in old.marks) + OPS_FOR_SIZE * maybe_at_size other (objects_in old.marks)) (clauses_size (clauses_of xs) + maybe_stmt_size other)
       (clauses_cells (clauses_of xs) (declared_cells p) + maybe_cells other (declared_cells p)) (clauses_scopes (clauses_of xs) + maybe_scopes other)
       (BranchesCode p line old.marks xs other (scope_of old) otherwise places) (past_branches p xs other (scope_of old)) (choice_set else_at first otherwise places old) new
 
@@ -111,7 +115,7 @@ accept_room xs other k = choice_room xs + (branches_room xs k + OPS_FOR_SIZE * m
 
 abbrev pub LowersAccept : Program → ℕ → List Clause → MaybeStmt → Draft → Draft → Type 0
 LowersAccept p line xs other old new =
-    Lowers (accept_room xs other (objects_in old.marks)) (clauses_size (clauses_of xs) + maybe_stmt_size other)
+    Lowers (clauses_rows_under old.marks (branches_meant p xs other (within_accept p (scope_of old)))) (accept_room xs other (objects_in old.marks)) (clauses_size (clauses_of xs) + maybe_stmt_size other)
     (clauses_cells (clauses_of xs) (declared_cells p) + maybe_cells other (declared_cells p)) (clauses_scopes (clauses_of xs) + maybe_scopes other)
-    (λ code. TaskAt code old.marks (Accept line old.sites (clauses_meant p (clauses_of xs) (within_accept p (scope_of old)) (else_meant p other (scope_past_clauses p (clauses_of xs) (within_accept p (scope_of old)))))))
+    (λ code. TaskAt code old.marks (Accept line old.sites (branches_meant p xs other (within_accept p (scope_of old)))))
     (past_branches p xs other (within_accept p (scope_of old))) old new

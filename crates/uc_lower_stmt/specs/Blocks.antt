@@ -1,5 +1,5 @@
 -- The end of the scopes of objects in a block.
-use Rattle.std.specs.Prelude.{◌≡◌, ℕ, ◌≤◌, ◌<◌, List, [], ◌∷◌, Bool, true, false, Option, Some, None, length, nat_le}
+use Rattle.std.specs.Prelude.{◌≡◌, ℕ, ◌+◌, ◌≤◌, ◌<◌, List, [], ◌∷◌, Bool, true, false, Option, Some, None, length, nat_le}
 use Rattle.uc_tree.specs.declared.kinds.Role.{Role}
 use Rattle.uc_tree.specs.Programs.{Program}
 use Rattle.uc_tree.specs.Source.{Stmts}
@@ -13,35 +13,39 @@ use Rattle.uc_code.specs.Drafts.{Draft}
 use Rattle.uc_code.specs.Layout.{laid_in, routine_in}
 use Rattle.uc_code.specs.CodeShapes.{Kept}
 use Rattle.uc_code.specs.Lowered.{StmtsAt}
+use Rattle.uc_code.specs.RowCounts.{return_rows}
 use Rattle.uc_lower_expr.specs.declared.making.Made.{Made}
 use Rattle.uc_lower_expr.specs.Members.{made_routine}
 use Rattle.uc_lower_stmt.specs.declared.block.ObjectScope.{ObjectScope}
 use Rattle.uc_lower_stmt.specs.Marked.{taken}
 use Rattle.uc_lower_stmt.specs.RowFit.{RowsFit}
-use Rattle.uc_lower_stmt.specs.OpenScopes.{Step, NoParts, Pending, block_of}
+use Rattle.uc_lower_stmt.specs.OpenScopes.{Step, NoParts, Pending, block_of, ended_rows}
 
 -- what builds and destroys what is made, and nobody wrote, stands further on than the routine of these marks
 pub record AllStandBehind (p : Program) (m : Made) (ms : List CodeMark) : Type 0 where
   pub each : (wanted : Role) → (made_routine p wanted m).written ≡ false → routine_in ms < (made_routine p wanted m).number
 
--- these statements are a block of this line, under the marks of a draft, and nothing stands behind it
-pub record BlockStands (line : ℕ) (ms : List CodeMark) (ss : Stmts) (a : ℕ) (d : Draft) : Type 0 where
+-- these statements are a block of this line, under the marks of a draft, and nothing stands behind it; there are so many rows in all
+pub record BlockStands (line : ℕ) (ms : List CodeMark) (ss : Stmts) (a total : ℕ) (d : Draft) : Type 0 where
   pub marks : d.marks ≡ ms
+  pub rows : length d.rows ≡ total
   pub code : StmtsAt (laid_in d) ms line ss a (length d.ops)
 
--- a draft in which the scopes of the objects behind the first marks, so many, have ended: steps of a block that were laid out under
--- these marks, and statements behind them, are a block under the first ones
+-- a draft in which the scopes of the objects behind the first marks, so many, have ended, and so many rows came by it: steps of a
+-- block that were laid out under these marks, and statements behind them, are a block under the first ones
 pub record EndsScopes (count : ℕ) (old new : Draft) : Type 0 where
   pub rest : new ≡ record old { ops = new.ops; rows = new.rows; settled = new.settled; marks = new.marks }
   pub kept : Kept (laid_in old) (laid_in new)
-  pub rows : RowsFit 0 old new
+  pub ends : ℕ
+  pub rows : RowsFit 0 ends old new
   pub room : taken new ≤ taken old
-  pub block : (line a y : ℕ) (ks : List Step) (ms : List CodeMark) (ss : Stmts) → length ms ≡ count → NoParts ks → Pending (laid_in old) line ms a ks old.marks y → StmtsAt (laid_in old) old.marks line ss y (length old.ops) → BlockStands line ms (block_of ks ss) a new
+  pub block : (line a y : ℕ) (ks : List Step) (ms : List CodeMark) (ss : Stmts) → length ms ≡ count → NoParts ks → Pending (laid_in old) line ms a ks old.marks y → StmtsAt (laid_in old) old.marks line ss y (length old.ops) → BlockStands line ms (block_of ks ss) a (length old.rows + ended_rows (return_rows ms) ks) new
 
--- in between: steps and statements that make the same block
-pub record Unended (line : ℕ) (ms : List CodeMark) (whole : Stmts) (a : ℕ) (d : Draft) : Type 0 where
+-- in between: steps and statements that make the same block; there are so many rows in all once the scopes of these steps have ended
+pub record Unended (line : ℕ) (ms : List CodeMark) (whole : Stmts) (a total : ℕ) (d : Draft) : Type 0 where
   pub steps : List Step
   pub none : NoParts steps
+  pub rows : length d.rows + ended_rows (return_rows ms) steps ≡ total
   pub behind : Stmts
   pub middle : ℕ
   pub before : Pending (laid_in d) line ms a steps d.marks middle
@@ -51,9 +55,10 @@ pub record Unended (line : ℕ) (ms : List CodeMark) (whole : Stmts) (a : ℕ) (
 pub record EndingScopes (count : ℕ) (old now : Draft) : Type 0 where
   pub rest : now ≡ record old { ops = now.ops; rows = now.rows; settled = now.settled; marks = now.marks }
   pub kept : Kept (laid_in old) (laid_in now)
-  pub rows : RowsFit 0 old now
+  pub ends : ℕ
+  pub rows : RowsFit 0 ends old now
   pub room : taken now ≤ taken old
-  pub block : (line a y : ℕ) (ks : List Step) (ms : List CodeMark) (ss : Stmts) → length ms ≡ count → NoParts ks → Pending (laid_in old) line ms a ks old.marks y → StmtsAt (laid_in old) old.marks line ss y (length old.ops) → Unended line ms (block_of ks ss) a now
+  pub block : (line a y : ℕ) (ks : List Step) (ms : List CodeMark) (ss : Stmts) → length ms ≡ count → NoParts ks → Pending (laid_in old) line ms a ks old.marks y → StmtsAt (laid_in old) old.marks line ss y (length old.ops) → Unended line ms (block_of ks ss) a (length old.rows + ended_rows (return_rows ms) ks) now
 
 -- the arguments with which an object starts
 abbrev pub started_args : Context → Start → List Meant

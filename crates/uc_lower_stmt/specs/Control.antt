@@ -27,6 +27,7 @@ use Rattle.uc_lower_stmt.specs.declared.turning.Turning.{Turning}
 use Rattle.uc_lower_stmt.specs.declared.turning.Turning.TheVariants as turning
 use Rattle.uc_lower_stmt.specs.Marked.{objects_in}
 use Rattle.uc_lower_stmt.specs.OpenScopes.{Lays}
+use Rattle.uc_lower_stmt.specs.SourceRows.{stmt_rows_under}
 use Rattle.uc_lower_stmt.specs.LowersStatement.{Lowers, scope_of}
 
 -- how a loop turns, by what, and how large that is
@@ -71,7 +72,7 @@ is_declaration _ = false
 -- a statement that is itself that of another, of which no name is left; one that may be missing
 
 abbrev pub LowersAlone : Program → Stmt → Draft → Draft → Type 0
-LowersAlone p s old new = Lowers (OPS_FOR_SIZE * size_at s (objects_in old.marks)) (stmt_size s) (stmt_cells s (declared_cells p)) (alone_scopes s + stmt_scopes s) (λ code. StmtAt code old.marks (stmt_meant p s (scope_of old))) (scope_past p s (scope_of old)) old new
+LowersAlone p s old new = Lowers (stmt_rows_under old.marks (stmt_meant p s (scope_of old))) (OPS_FOR_SIZE * size_at s (objects_in old.marks)) (stmt_size s) (stmt_cells s (declared_cells p)) (alone_scopes s + stmt_scopes s) (λ code. StmtAt code old.marks (stmt_meant p s (scope_of old))) (scope_past p s (scope_of old)) old new
 
 abbrev pub maybe_past : Program → MaybeStmt → Scope → Scope
 maybe_past p NoStmt s = s
@@ -81,14 +82,17 @@ abbrev pub maybe_at_size : MaybeStmt → ℕ → ℕ
 maybe_at_size m k = maybe_stmt_size m + exits_maybe m k
 
 abbrev pub LowersMaybe : Program → MaybeStmt → Draft → Draft → Type 0
-LowersMaybe p m old new = Lowers (OPS_FOR_SIZE * maybe_at_size m (objects_in old.marks)) (maybe_stmt_size m) (maybe_cells m (declared_cells p)) (maybe_scopes m) (λ code. StmtAt code old.marks (maybe_meant p m (scope_of old))) (maybe_past p m (scope_of old)) old new
+LowersMaybe p m old new = Lowers (stmt_rows_under old.marks (maybe_meant p m (scope_of old))) (OPS_FOR_SIZE * maybe_at_size m (objects_in old.marks)) (maybe_stmt_size m) (maybe_cells m (declared_cells p)) (maybe_scopes m) (λ code. StmtAt code old.marks (maybe_meant p m (scope_of old))) (maybe_past p m (scope_of old)) old new
 
 -- a choice, a loop, a `for`
 
+abbrev pub if_meant : Program → ℕ → tree.Expr → Stmt → MaybeStmt → Scope → source.Stmt
+if_meant p line test chosen other s = source.If line (value_in_scope (context_at p s) test) (stmt_meant p chosen s) (maybe_meant p other (scope_past p chosen s))
+
 abbrev pub LowersIf : Program → ℕ → tree.Expr → Stmt → MaybeStmt → Draft → Draft → Type 0
 LowersIf p line test chosen other old new =
-    Lowers (OPS_FOR_SIZE * (1 + expr_size test + size_at chosen (objects_in old.marks) + maybe_at_size other (objects_in old.marks))) (stmt_size chosen + maybe_stmt_size other) (stmt_cells chosen (declared_cells p) + maybe_cells other (declared_cells p)) (alone_scopes chosen + stmt_scopes chosen + maybe_scopes other)
-    (λ code. StmtAt code old.marks (source.If line (value_in_scope (context_at p (scope_of old)) test) (stmt_meant p chosen (scope_of old)) (maybe_meant p other (scope_past p chosen (scope_of old)))))
+    Lowers (stmt_rows_under old.marks (if_meant p line test chosen other (scope_of old))) (OPS_FOR_SIZE * (1 + expr_size test + size_at chosen (objects_in old.marks) + maybe_at_size other (objects_in old.marks))) (stmt_size chosen + maybe_stmt_size other) (stmt_cells chosen (declared_cells p) + maybe_cells other (declared_cells p)) (alone_scopes chosen + stmt_scopes chosen + maybe_scopes other)
+    (λ code. StmtAt code old.marks (if_meant p line test chosen other (scope_of old)))
     (maybe_past p other (scope_past p chosen (scope_of old))) old new
 
 abbrev pub loop_meant : Program → ℕ → Order → Expr → Option tree.Expr → Stmt → Scope → source.Stmt
@@ -96,7 +100,7 @@ loop_meant p line order test step body s = source.Loop line order test (step_of 
 
 abbrev pub LowersLoop : Program → ℕ → Turning → Option tree.Expr → Stmt → Draft → Draft → Type 0
 LowersLoop p line t step body old new =
-    Lowers (OPS_FOR_SIZE * (1 + turning_size t + maybe_expr_size step + size_at body (objects_in old.marks))) (stmt_size body) (stmt_cells body (declared_cells p)) (alone_scopes body + stmt_scopes body)
+    Lowers (stmt_rows_under old.marks (loop_meant p line (turning_order t) (turning_test p (scope_of old) t) step body (scope_of old))) (OPS_FOR_SIZE * (1 + turning_size t + maybe_expr_size step + size_at body (objects_in old.marks))) (stmt_size body) (stmt_cells body (declared_cells p)) (alone_scopes body + stmt_scopes body)
     (λ code. StmtAt code old.marks (loop_meant p line (turning_order t) (turning_test p (scope_of old) t) step body (scope_of old)))
     (scope_past p body (scope_of old)) old new
 
@@ -111,7 +115,7 @@ DeclaresObjects p s (Some o) = ⊥
 -- a declaration that is a statement of its own
 abbrev pub LowersDeclaration : Program → ℕ → Base → List Declarator → Draft → Draft → Type 0
 LowersDeclaration p line b ds old new =
-    Lowers (OPS_FOR_SIZE * declarators_size ds) 0 (declarators_cells (declared_cells p b) ds) 0 (λ code. StmtAt code old.marks (declared_alone p (making p b) line b ds (scope_of old))) (with_all p (scope_of old) b ds) old new
+    Lowers (stmt_rows_under old.marks (declared_alone p (making p b) line b ds (scope_of old))) (OPS_FOR_SIZE * declarators_size ds) 0 (declarators_cells (declared_cells p b) ds) 0 (λ code. StmtAt code old.marks (declared_alone p (making p b) line b ds (scope_of old))) (with_all p (scope_of old) b ds) old new
 
 -- one in a block of a line, and any statement in it
 abbrev pub LaysDeclaration : Program → ℕ → ℕ → Base → List Declarator → Draft → Draft → Type 0
@@ -130,8 +134,11 @@ LaysStart p line start old new =
 abbrev pub for_past : Program → ForStart → Stmt → Scope → Scope
 for_past p start body s = record (scope_past p body (for_scope p start s)) { names = s.names }
 
+abbrev pub for_meant : Program → ℕ → ForStart → Option tree.Expr → Option tree.Expr → Stmt → Scope → source.Stmt
+for_meant p line start test step body s = source.Block line (start_then p line start s (source.Then (loop_meant p line (order_of p test) (test_of p (for_scope p start s) test) step body (for_scope p start s)) source.Nil))
+
 abbrev pub LowersFor : Program → ℕ → ForStart → Option tree.Expr → Option tree.Expr → Stmt → Draft → Draft → Type 0
 LowersFor p line start test step body old new =
-    Lowers (OPS_FOR_SIZE * (1 + for_start_size start + maybe_expr_size test + maybe_expr_size step + size_at body (objects_in old.marks + for_declares start))) (stmt_size body) (for_cells start (declared_cells p) + stmt_cells body (declared_cells p)) (1 + alone_scopes body + stmt_scopes body)
-    (λ code. StmtAt code old.marks (source.Block line (start_then p line start (scope_of old) (source.Then (loop_meant p line (order_of p test) (test_of p (for_scope p start (scope_of old)) test) step body (for_scope p start (scope_of old))) source.Nil))))
+    Lowers (stmt_rows_under old.marks (for_meant p line start test step body (scope_of old))) (OPS_FOR_SIZE * (1 + for_start_size start + maybe_expr_size test + maybe_expr_size step + size_at body (objects_in old.marks + for_declares start))) (stmt_size body) (for_cells start (declared_cells p) + stmt_cells body (declared_cells p)) (1 + alone_scopes body + stmt_scopes body)
+    (λ code. StmtAt code old.marks (for_meant p line start test step body (scope_of old)))
     (for_past p start body (scope_of old)) old new

@@ -19,6 +19,7 @@ use Rattle.uc_code.specs.Lowered.{EventAt}
 use Rattle.uc_lower_stmt.specs.declared.enabling.Enabling.{Enabling}
 use Rattle.uc_lower_stmt.specs.declared.enabling.Enabling.TheVariants as enabling
 use Rattle.uc_lower_stmt.specs.Marked.{objects_in}
+use Rattle.uc_lower_stmt.specs.SourceRows.{event_rows_under}
 use Rattle.uc_lower_stmt.specs.LowersStatement.{Lowers, scope_of}
 
 -- the op that enables or disables events, of which a cell keeps which were enabled before, and what is delivered then
@@ -37,5 +38,5 @@ enabling_meant p how line events body s = enabling_as how line (events_meant p e
 -- one in this line
 abbrev pub LowersEnabling : Program → Enabling → ℕ → List EventName → Stmt → Draft → Draft → Type 0
 LowersEnabling p how line events body old new =
-    Lowers (OPS_FOR_SIZE * (1 + size_at body (objects_in old.marks + 1))) (stmt_size body) (stmt_cells body (declared_cells p)) (alone_scopes body + stmt_scopes body)
+    Lowers (event_rows_under old.marks (enabling_meant p how line events body (scope_of old))) (OPS_FOR_SIZE * (1 + size_at body (objects_in old.marks + 1))) (stmt_size body) (stmt_cells body (declared_cells p)) (alone_scopes body + stmt_scopes body)
     (λ code. EventAt code old.marks (enabling_meant p how line events body (scope_of old))) (scope_past p body (within_events p (scope_of old))) old new

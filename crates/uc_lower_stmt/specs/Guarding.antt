@@ -17,13 +17,13 @@ pub record KeptUnder (first : ℕ) (old new : Laid) : Type 0 where
   pub handlers : (number : ℕ) (handler : Handler) → HandlerAt old number handler → HandlerAt new number handler
   pub bare : (number : ℕ) → number < first → IsBare old number → IsBare new number
 
--- as statements are laid out, but that rows from this number on may get handlers, by so many ops more than rows
-pub record LowersFrom (less first n k c o : ℕ) (S : Laid → ℕ → ℕ → Type 0) (after : Scope) (old new : Draft) : Type 0 where
+-- as statements are laid out, with r rows more, but that rows from this number on may get handlers, by so many ops more than rows
+pub record LowersFrom (less r first n k c o : ℕ) (S : Laid → ℕ → ℕ → Type 0) (after : Scope) (old new : Draft) : Type 0 where
   pub rest : new ≡ record old { ops = new.ops; rows = new.rows; settled = new.settled; scopes = new.scopes; names = new.names; cells = new.cells; hidden = new.hidden; texts = new.texts; sites = new.sites }
   pub scope : scope_of new ≡ after
   pub opened : new.scopes ≡ old.scopes + o
   pub kept : KeptUnder first (laid_in old) (laid_in new)
-  pub rows : RowsFit less old new
+  pub rows : RowsFit less r old new
   pub room : length new.ops ≤ length old.ops + n
   pub texts : new.texts ≤ old.texts + k
   pub cells : new.cells ≤ old.cells + c

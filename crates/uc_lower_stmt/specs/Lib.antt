@@ -12,4 +12,5 @@ pub mod Pieces
 pub mod Raising
 pub mod Routines
 pub mod RowFit
+pub mod SourceRows
 pub mod LowersStatement

@@ -20,6 +20,7 @@ use Rattle.uc_code.specs.Drafts.{Draft}
 use Rattle.uc_code.specs.Layout.{Laid, laid_in}
 use Rattle.uc_code.specs.OpenRows.{CleansBehind, clean_room}
 use Rattle.uc_code.specs.Emits.{clean_length}
+use Rattle.uc_code.specs.RowCounts.{cleaning_rows}
 use Rattle.uc_code.specs.CodeShapes.{OpAt, Nothing, One, Both, Risk, HandlerAt, clean_up, OverElements, Kept}
 use Rattle.uc_code.specs.Lowered.{CallBuilt, CallDone, CleanAt, PadAt}
 use Rattle.uc_lower_expr.specs.declared.making.Made.{Made}
@@ -120,7 +121,7 @@ pub record PartEnds (code : Laid) (line : ℕ) (ms : List CodeMark) (what : Clea
 pub record ClosesScope (n : ℕ) (what : Cleaning) (line : ℕ) (old new : Draft) : Type 0 where
   pub rest : new ≡ record old { ops = new.ops; rows = new.rows; settled = new.settled; marks = new.marks }
   pub kept : Kept (laid_in old) (laid_in new)
-  pub rows : RowsFit 0 old new
+  pub rows : RowsFit 0 (cleaning_rows what + cleaning_rows what) old new
   pub room : length new.ops ≤ length old.ops + n
   pub scope : (row : ℕ) (ms : List CodeMark) → old.marks ≡ mark.Clean what line row ∷ ms → ScopeEnds (laid_in new) line ms what row (length old.ops) (length new.ops)
   pub marks : (row : ℕ) (ms : List CodeMark) → old.marks ≡ mark.Clean what line row ∷ ms → new.marks ≡ ms
@@ -129,7 +130,7 @@ pub record ClosesScope (n : ℕ) (what : Cleaning) (line : ℕ) (old new : Draft
 pub record ClosesPart (what : Cleaning) (line : ℕ) (old new : Draft) : Type 0 where
   pub rest : new ≡ record old { ops = new.ops; rows = new.rows; settled = new.settled; marks = new.marks }
   pub kept : Kept (laid_in old) (laid_in new)
-  pub rows : RowsFit 0 old new
+  pub rows : RowsFit 0 (cleaning_rows what) old new
   pub room : length new.ops ≤ length old.ops + (clean_length what + 2)
   pub part : (row : ℕ) (ms : List CodeMark) → old.marks ≡ mark.Part row ∷ ms → PartEnds (laid_in new) line ms what row (length old.ops) (length new.ops)
   pub marks : (row : ℕ) (ms : List CodeMark) → old.marks ≡ mark.Part row ∷ ms → new.marks ≡ ms

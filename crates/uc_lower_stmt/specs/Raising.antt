@@ -20,13 +20,13 @@ hidden_past s n = record s { hidden = s.hidden + n }
 -- the event that a statement raises, as the newest operands
 abbrev pub LowersRaised : Program → ℕ → Option Raised → Draft → Draft → Type 0
 LowersRaised p line r old new =
-    Lowers (3 + OPS_FOR_SIZE * maybe_raised_size r) 0 0 0 (λ code. RaisedAt code line old.marks (raised_meant p (scope_of old) r)) (hidden_past (scope_of old) (raised_cells r)) old new
+    Lowers 0 (3 + OPS_FOR_SIZE * maybe_raised_size r) 0 0 0 (λ code. RaisedAt code line old.marks (raised_meant p (scope_of old) r)) (hidden_past (scope_of old) (raised_cells r)) old new
 
 -- a statement that raises one
 abbrev pub LowersRaise : Program → EventStmt → Option Raised → Draft → Draft → Type 0
-LowersRaise p s r old new = Lowers (OPS_FOR_SIZE * (1 + maybe_raised_size r)) 0 0 0 (λ code. EventAt code old.marks s) (hidden_past (scope_of old) (raised_cells r)) old new
+LowersRaise p s r old new = Lowers 0 (OPS_FOR_SIZE * (1 + maybe_raised_size r)) 0 0 0 (λ code. EventAt code old.marks s) (hidden_past (scope_of old) (raised_cells r)) old new
 
 -- one that raises one at a task or a coroutine
 abbrev pub LowersRaiseAt : Program → ℕ → Raised → Expr → Draft → Draft → Type 0
 LowersRaiseAt p line r target old new =
-    Lowers (OPS_FOR_SIZE * (1 + raised_size r + expr_size target)) 0 0 0 (λ code. EventAt code old.marks (RaiseAt line (raised_meant p (scope_of old) (Some r)) (meant (context_at p (scope_of old)) target).expr)) (hidden_past (scope_of old) EVENT_FIELDS) old new
+    Lowers 0 (OPS_FOR_SIZE * (1 + raised_size r + expr_size target)) 0 0 0 (λ code. EventAt code old.marks (RaiseAt line (raised_meant p (scope_of old) (Some r)) (meant (context_at p (scope_of old)) target).expr)) (hidden_past (scope_of old) EVENT_FIELDS) old new

@@ -17,6 +17,7 @@ use Rattle.uc_code.specs.Layout.{Laid}
 use Rattle.uc_code.specs.CodeShapes.{Both, Nothing, One}
 use Rattle.uc_code.specs.Lowered.{BodyAt}
 use Rattle.uc_lower_stmt.specs.LowersStatement.{Lowers, scope_of, sizes_at}
+use Rattle.uc_lower_stmt.specs.SourceRows.{body_rows}
 
 -- the cells of a routine's frame: of its variables, and those that are hidden
 abbrev pub frame_cells : Program → Routine → ℕ
@@ -45,15 +46,15 @@ OwedCode false line code = One code op.NoReturn line
 -- the statements of a written routine, and what is done behind them; the last one that is written has this number
 abbrev pub LowersRoutine : Program → Purpose → ℕ → Routine → Draft → Draft → Type 0
 LowersRoutine p purpose last r old new =
-    Lowers (OPS_FOR_SIZE * (1 + sizes_at r.body 0)) (stmts_size r.body) (stmts_cells r.body (declared_cells p)) (stmts_scopes r.body) (λ code. BodyAt code purpose last r.brace.line (stmts_meant p r.body (scope_of old))) (scope_behind p r.body (scope_of old)) old new
+    Lowers (body_rows purpose (stmts_meant p r.body (scope_of old))) (OPS_FOR_SIZE * (1 + sizes_at r.body 0)) (stmts_size r.body) (stmts_cells r.body (declared_cells p)) (stmts_scopes r.body) (λ code. BodyAt code purpose last r.brace.line (stmts_meant p r.body (scope_of old))) (scope_behind p r.body (scope_of old)) old new
 
 -- so it is of those of a mutex member, which stand in the scope that leaves its object
 abbrev pub LowersMutex : Program → ℕ → Routine → Draft → Draft → Type 0
 LowersMutex p last r old new =
-    Lowers (OPS_FOR_SIZE * (1 + sizes_at r.body 0)) (stmts_size r.body) (stmts_cells r.body (declared_cells p)) (stmts_scopes r.body) (λ code. BodyAt code Builder last r.brace.line (plain_body p true r (stmts_meant p r.body (scope_of old)))) (scope_behind p r.body (scope_of old)) old new
+    Lowers (body_rows Builder (plain_body p true r (stmts_meant p r.body (scope_of old)))) (OPS_FOR_SIZE * (1 + sizes_at r.body 0)) (stmts_size r.body) (stmts_cells r.body (declared_cells p)) (stmts_scopes r.body) (λ code. BodyAt code Builder last r.brace.line (plain_body p true r (stmts_meant p r.body (scope_of old)))) (scope_behind p r.body (scope_of old)) old new
 
 -- so it is of those of a routine of this number that is no constructor and no destructor
 abbrev pub LowersPlain : Program → ℕ → ℕ → Routine → Draft → Draft → Type 0
 LowersPlain p number last r old new =
-    Lowers (OPS_FOR_SIZE * (1 + sizes_at r.body 0)) (stmts_size r.body) (stmts_cells r.body (declared_cells p)) (stmts_scopes r.body)
+    Lowers (body_rows (purpose_of p number (class_by p old.place.class) r) (plain_body p (has_number_in p (class_by p old.place.class) r.sig) r (stmts_meant p r.body (scope_of old)))) (OPS_FOR_SIZE * (1 + sizes_at r.body 0)) (stmts_size r.body) (stmts_cells r.body (declared_cells p)) (stmts_scopes r.body)
     (λ code. BodyAt code (purpose_of p number (class_by p old.place.class) r) last r.brace.line (plain_body p (has_number_in p (class_by p old.place.class) r.sig) r (stmts_meant p r.body (scope_of old)))) (scope_behind p r.body (scope_of old)) old new

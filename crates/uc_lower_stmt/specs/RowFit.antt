@@ -1,5 +1,5 @@
--- Rows that come with ops: no more than these, and with handlers among them.
-use Rattle.std.specs.Prelude.{ℕ, suc, ◌+◌, ◌≤◌, List, [], ◌∷◌, length}
+-- Rows that come with ops: how many, no more than these, and with handlers among them.
+use Rattle.std.specs.Prelude.{◌≡◌, ℕ, suc, ◌+◌, ◌≤◌, List, [], ◌∷◌, length}
 use Rattle.uc_code.specs.declared.rows.CodeMark.{CodeMark}
 use Rattle.uc_code.specs.declared.rows.CodeMark.TheVariants as mark
 use Rattle.uc_code.specs.Drafts.{Draft}
@@ -18,9 +18,10 @@ open_rows (mark.Part row ∷ ms) = suc (open_rows ms)
 open_rows (mark.Elements row ∷ ms) = suc (open_rows ms)
 open_rows (mark.Outward below row ∷ ms) = suc (open_rows ms)
 
--- from one draft to another come no more rows than ops, by so many less, but for those that are still open; and the handlers that rows
--- get begin by the end of the ops
-pub record RowsFit (less : ℕ) (old new : Draft) : Type 0 where
+-- from one draft to another come so many rows: no more than ops, by so many less, but for those that are still open; and the handlers that
+-- rows get begin by the end of the ops
+pub record RowsFit (less count : ℕ) (old new : Draft) : Type 0 where
+  pub more : length new.rows ≡ length old.rows + count
   pub few : length new.rows + length old.ops + open_rows old.marks + less ≤ length old.rows + length new.ops + open_rows new.marks
   pub begin : (k : ℕ) → length new.ops ≤ k → BeginBy k old.rows → BeginBy k new.rows
 

@@ -147,7 +147,7 @@ fn lower_declarator(
         PROGRAM_OPS }
     requires cells { out.old.cells + declared_cells names.now base.now declarator.now ≤
         FRAME_CELLS }
-    ensures { OnOk result (Lowers (OPS_FOR_SIZE * declarator_size declarator.now) 0
+    ensures { OnOk result (Lowers 0 (OPS_FOR_SIZE * declarator_size declarator.now) 0
         (declared_cells names.now base.now declarator.now) 0
         (VariablesCode line out.old.marks
         (declared_meant names.now (scope_of out.old) base.now declarator.now ∷ []))
@@ -198,7 +198,7 @@ pub fn lower_declarators(
         PROGRAM_OPS }
     requires cells { out.old.cells + declarators_cells (declared_cells names.now base.now)
         declarators.now ≤ FRAME_CELLS }
-    ensures { OnOk result (Lowers (OPS_FOR_SIZE * declarators_size declarators.now) 0
+    ensures { OnOk result (Lowers 0 (OPS_FOR_SIZE * declarators_size declarators.now) 0
         (declarators_cells (declared_cells names.now base.now) declarators.now) 0
         (VariablesCode line out.old.marks
         (all_declared names.now (scope_of out.old) base.now declarators.now))

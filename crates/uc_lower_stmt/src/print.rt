@@ -45,7 +45,7 @@ fn lower_piece(
 ) -> Result<Op, AllocError>
     requires room { length out.old.ops + OPS_FOR_SIZE * out_item_size item.now ≤ PROGRAM_OPS }
     requires texts { out.old.texts < PROGRAM_SIZE }
-    ensures code { OnOk result (Lowers (OPS_FOR_SIZE * out_item_size item.now - 1)
+    ensures code { OnOk result (Lowers 0 (OPS_FOR_SIZE * out_item_size item.now - 1)
         (out_item_size item.now) 0 0 (ValuesCode line out.old.marks
         (items_meant (context_in names.now out.old) out.old.texts (item.now ∷ [])))
         (record (scope_of out.old) { texts = out.old.texts + length (item_texts (item.now ∷ [])) })
@@ -74,7 +74,7 @@ fn lower_item(
 ) -> Result<(), AllocError>
     requires room { length out.old.ops + OPS_FOR_SIZE * out_item_size item.now ≤ PROGRAM_OPS }
     requires texts { out.old.texts < PROGRAM_SIZE }
-    ensures { OnOk result (Lowers (OPS_FOR_SIZE * out_item_size item.now) (out_item_size item.now)
+    ensures { OnOk result (Lowers 0 (OPS_FOR_SIZE * out_item_size item.now) (out_item_size item.now)
         0 0 (ItemsCode line out.old.marks
         (items_meant (context_in names.now out.old) out.old.texts (item.now ∷ [])))
         (record (scope_of out.old) { texts = out.old.texts + length (item_texts (item.now ∷ [])) })
@@ -94,7 +94,7 @@ pub fn lower_items(
 ) -> Result<(), AllocError>
     requires room { length out.old.ops + OPS_FOR_SIZE * out_items_size items.now ≤ PROGRAM_OPS }
     requires texts { out.old.texts + out_items_size items.now ≤ PROGRAM_SIZE }
-    ensures { OnOk result (Lowers (OPS_FOR_SIZE * out_items_size items.now)
+    ensures { OnOk result (Lowers 0 (OPS_FOR_SIZE * out_items_size items.now)
         (out_items_size items.now) 0 0 (ItemsCode line out.old.marks
         (items_meant (context_in names.now out.old) out.old.texts items.now))
         (record (scope_of out.old) { texts = out.old.texts + length (item_texts items.now) })
@@ -116,8 +116,9 @@ fn lower_pieces(
 ) -> Result<Vec<Op>, AllocError>
     requires room { length out.old.ops + OPS_FOR_SIZE * out_items_size items.now ≤ PROGRAM_OPS }
     requires texts { out.old.texts + out_items_size items.now ≤ PROGRAM_SIZE }
-    ensures code { OnOk result (Lowers (OPS_FOR_SIZE * out_items_size items.now - length items.now)
-        (out_items_size items.now) 0 0 (ValuesCode line out.old.marks
+    ensures code { OnOk result (Lowers 0
+        (OPS_FOR_SIZE * out_items_size items.now - length items.now) (out_items_size items.now) 0 0
+        (ValuesCode line out.old.marks
         (items_meant (context_in names.now out.old) out.old.texts items.now))
         (record (scope_of out.old) { texts = out.old.texts + length (item_texts items.now) })
         out.old out.new) }
@@ -156,7 +157,7 @@ pub fn lower_together(
     requires room { length out.old.ops + OPS_FOR_SIZE * (1 + out_items_size items.now) ≤
         PROGRAM_OPS }
     requires texts { out.old.texts + out_items_size items.now ≤ PROGRAM_SIZE }
-    ensures { OnOk result (Lowers (OPS_FOR_SIZE * (1 + out_items_size items.now))
+    ensures { OnOk result (Lowers 0 (OPS_FOR_SIZE * (1 + out_items_size items.now))
         (out_items_size items.now) 0 0 (TogetherCode line out.old.marks
         (items_meant (context_in names.now out.old) out.old.texts items.now))
         (record (scope_of out.old) { texts = out.old.texts + length (item_texts items.now) })

@@ -14,6 +14,7 @@ ghost use Rattle.uc_code.specs.Layout.{laid_in};
 ghost use Rattle.uc_code.specs.CodeShapes.{Kept};
 ghost use Rattle.uc_code.specs.Lowered.{RoutineAt};
 ghost use Rattle.uc_lower_expr.specs.DraftGrowth.{Adds};
+ghost use Rattle.uc_lower_stmt.specs.SourceRows.{routine_rows};
 ghost use Rattle.uc_lower_stmt.specs.RowFit.{RoutineRows};
 ghost use Rattle.uc_lower_stmt.specs.LowersStatement.{sizes_at};
 ghost use Rattle.uc_lower_stmt.specs.Routines.{EndCode, OwedCode, LowersMutex, LowersPlain, LowersRoutine, frame_cells, main_in, purpose_by};
@@ -281,6 +282,9 @@ pub fn lower_routine(
     requires cells { routine_cells names.now routine.now ≤ FRAME_CELLS }
     requires texts { texts + stmts_size routine.now.body ≤ PROGRAM_SIZE }
     ensures kept { OnOk result (Kept (laid_in out.old) (laid_in out.new)) }
+    ensures count { OnOk result (length out.new.rows ≡ length out.old.rows + routine_rows
+        (routine_meant names.now routine.now
+        (routine_scope names.now routine.now class number texts sites))) }
     ensures rows { OnOk result (RoutineRows out.old out.new) }
     ensures room { OnOk result (length out.new.ops ≤ length out.old.ops + OPS_FOR_SIZE *
         (1 + sizes_at routine.now.body 0)) }

@@ -8,7 +8,7 @@ use Rattle.uc_entry.specs.declared.request.Request.{Request}
 use Rattle.uc_entry.specs.declared.request.Request.TheVariants as ask
 use Rattle.uc_acts.specs.Journal.{Journal, own_object, is_over}
 use Rattle.uc_acts.specs.Queues.{cluster_count, processor_count}
-use Rattle.uc_acts.specs.Known.{has, owner}
+use Rattle.uc_acts.specs.Known.{owner}
 use Rattle.uc_acts.specs.KernelRuns.{InRange, IsMade}
 use Rattle.uc_machine.specs.Quiet.{State}
 use Rattle.uc_resolve.specs.Resolve.{source_of}
@@ -22,11 +22,11 @@ use Rattle.uc_program_laws.specs.Fitting.{RunFits}
 use Rattle.uc_program_laws.specs.ByHand.{IsInHand}
 
 -- of a task t with these objects in hand: it has in hand of what it asks something, or else calls what is made, and the tasks, clusters
--- and processors that it names are there
+-- and processors that it names are there (what it calls is not in hand, in every run)
 abbrev pub HoldsByHand : Options → Journal → ℕ → List ℕ → Request → Type 0
 HoldsByHand opts j t hand (ask.Made o) = IsInHand hand o
 HoldsByHand opts j t hand (ask.Spawn o) = IsInHand hand o × (owner o j ≡ [])
-HoldsByHand opts j t hand (ask.Call o m) = (has hand o ≡ false) × IsMade o j
+HoldsByHand opts j t hand (ask.Call o m) = IsMade o j
 HoldsByHand opts j t hand (ask.Leave o failed) = IsInHand hand o
 HoldsByHand opts j t hand (ask.Accept o site mask) = IsInHand hand o
 HoldsByHand opts j t hand (ask.Wait o c n) = IsInHand hand o

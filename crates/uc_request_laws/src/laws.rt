@@ -2,6 +2,7 @@
 
 ghost use Rattle.uc_request_laws.specs.RequestLaws.{LawEvents, LawNames};
 ghost use Rattle.uc_request_laws.specs.Holds.{LawHolds, LawTexts};
+ghost use Rattle.uc_request_laws.specs.Left.{LawLeft};
 
 /// In every run of a program what a task asks names a mutex member by a number of at most 31, and
 /// an accept statement of the program, with a mask of its clauses.
@@ -25,4 +26,12 @@ pub fn law_holds()
 /// So does the program of every accepted text.
 pub fn law_texts()
     ensures { LawTexts }
+{}
+
+/// Where nothing else is owed to the objects that tasks let go of, each object of which something is
+/// asked is in hand: then what a program that breaks no rule asks fits where what it calls, and raises
+/// events at, is made, what it spawns has no owner yet, and the tasks, clusters and processors that it
+/// names are there.
+pub fn law_left()
+    ensures { LawLeft }
 {}

@@ -1,5 +1,5 @@
 -- In the source of every program each scope opens behind the statement that builds what it is of.
-use Rattle.std.proofs.Common.{◌≡◌, ℕ, zero, suc, ◌+◌, ◌⊎◌, inl, inr, ◌++◌, Bool, true, false, List, [], ◌∷◌, length, Option, Some, None, refl}
+use Rattle.std.proofs.Common.{◌≡◌, ℕ, zero, suc, ◌+◌, inl, inr, ◌++◌, Bool, true, false, List, [], ◌∷◌, length, Option, Some, None, refl, sym, ◌∙◌}
 use Rattle.std.specs.Prelude.{slice_get}
 use Rattle.uc_tree.specs.declared.kinds.Base.{Base}
 use Rattle.uc_tree.specs.declared.kinds.Kind.{Kind}
@@ -20,7 +20,7 @@ use Rattle.uc_resolve.specs.Standings as tree
 use Rattle.uc_resolve.specs.Standings.{Meant}
 use Rattle.uc_resolve.specs.Resolve as meaning
 use Rattle.uc_resolve.specs.Resolve.{Scope, source_of}
-use Rattle.uc_scope_laws.specs.Opening.{Builds, Destroying, IsEndOf, Opens, EndsField, EndsElement, ScopeOpens, PartOpens, OpenStmt, OpenStmts, OpenHandlers, OpenClauses, OpenRoutine, LawOpening}
+use Rattle.uc_scope_laws.specs.Opening.{Builds, Destroying, is_numbered, IsEndOf, Opens, ScopeOpens, PartOpens, OpenStmt, OpenStmts, OpenHandlers, OpenClauses, OpenRoutine, LawOpening}
 
 -- what builds and what destroys the object of a place
 
@@ -52,8 +52,28 @@ destroyed p (AMutex i) place = ended_ends p i place (written_at p i role.Destruc
 destroyed p ACluster place = refl
 destroyed p AProcessor place = refl
 
+-- a class is written or not
+
+called_plainly : (p : Program) (i : ℕ) (wanted : Role) (place : Expr) (args : List Meant) (r : Option ℕ) → is_numbered (meaning.called_by p i wanted place args r) ≡ false
+called_plainly p i wanted place args None = refl
+called_plainly p i wanted place args (Some r) = refl
+
+made_by_number : (p : Program) (i : ℕ) (place : Expr) (args : List Meant) (r : Option ℕ) → is_numbered (meaning.made_by p i place args r) ≡ true
+made_by_number p i place args None = refl
+made_by_number p i place args (Some r) = refl
+
+ended_by_number : (p : Program) (i : ℕ) (object : Expr) (r : Option ℕ) → is_numbered (meaning.ended_by p i object r) ≡ true
+ended_by_number p i object None = refl
+ended_by_number p i object (Some r) = refl
+
+alike : (p : Program) (m : Making) (place : Expr) (args : List Meant) → is_numbered (meaning.constructed p m place args) ≡ is_numbered (meaning.destroyed p m place)
+alike p (APlain i) place args = called_plainly p i role.Constructor place args (written_at p i role.Constructor) ∙ sym (called_plainly p i role.Destructor place [] (written_at p i role.Destructor))
+alike p (AMutex i) place args = made_by_number p i place args (written_at p i role.Constructor) ∙ sym (ended_by_number p i (src.Load place) (written_at p i role.Destructor))
+alike p ACluster place args = refl
+alike p AProcessor place args = refl
+
 is_end : (p : Program) (m : Making) (place : Expr) (args : List Meant) → IsEndOf (meaning.constructed p m place args) (meaning.destroyed p m place)
-is_end p m place args = record { place = place; built = constructed p m place args; ended = destroyed p m place }
+is_end p m place args = record { place = place; built = constructed p m place args; ended = destroyed p m place; alike = alike p m place args }
 
 opens : (p : Program) (line : ℕ) (m : Making) (len : Option ℕ) (place : Expr) (args : List Meant) → Opens (Some (meaning.build p line m len place args)) (meaning.clean_up p m len place)
 opens p line m None place args = is_end p m place args

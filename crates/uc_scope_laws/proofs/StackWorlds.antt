@@ -25,9 +25,9 @@ use Rattle.uc_scope_laws.proofs.StackWalk.{walk, first, answered_rests, cleared}
 use Rattle.uc_scope_laws.proofs.Unreferring.{law_accepted}
 
 -- tasks at rest, and what is at home in objects
-record StackWorld (Z : ℕ → ℕ → Type 0) (w : World) : Type 0 where
-  tasks : (t : ℕ) → StackState Z (w.tasks t)
-  homes : (o : ℕ) → StackMembers Z (w.homes o)
+pub record StackWorld (Z : ℕ → ℕ → Type 0) (w : World) : Type 0 where
+  pub tasks : (t : ℕ) → StackState Z (w.tasks t)
+  pub homes : (o : ℕ) → StackMembers Z (w.homes o)
 
 module _ (Z : ℕ → ℕ → Type 0) where
   home_rests : (o : ℕ) (x : Option Members) (hand : List (ℕ × Members)) → StackMembers Z x → StackHand Z hand → StackHand Z (with_home o x hand)
@@ -42,7 +42,7 @@ module _ (Z : ℕ → ℕ → Type 0) where
   or_rests None y h k = k
   or_rests (Some m) y h k = h
 
-  drawn_rests : (j : Journal) (w : World) (t : ℕ) → StackWorld Z w → StackState Z (drawn j w t)
+  pub drawn_rests : (j : Journal) (w : World) (t : ℕ) → StackWorld Z w → StackState Z (drawn j w t)
   drawn_rests j w t n =
       let x = n.tasks t in
       record { frames = x.frames; stack = x.stack; env = record { house = x.env.house; hand = hand_rests (held t j) w.homes n.homes } }
@@ -56,7 +56,7 @@ module _ (Z : ℕ → ℕ → Type 0) (source : Source) (known : SourceIn Z sour
   led (runs.goes {s} e l) h = led l (subst (StackStep Z) e (walk Z source known s h))
   led (runs.ticks {s} e l) h = led l (subst (StackStep Z) e (walk Z source known s h))
 
-  ridden : {s u : State} {q k : ℕ} {a : Asked} → Rides source s q u k a → StackState Z s → StackState Z u
+  pub ridden : {s u : State} {q k : ℕ} {a : Asked} → Rides source s q u k a → StackState Z s → StackState Z u
   ridden rides.slices h = h
   ridden (rides.goes_on {s} {t} e r) h = ridden r (subst (StackStep Z) e (walk Z source known s h))
   ridden (rides.ticks {s} {t} e r) h = ridden r (subst (StackStep Z) e (walk Z source known s h))
@@ -77,7 +77,7 @@ module _ (Z : ℕ → ℕ → Type 0) (source : Source) (known : SourceIn Z sour
           homes = λ o. either (StackMembers Z) (takes_out a o) None (or_else (find o s.env.hand) (w.homes o)) tt (or_rests Z (find o s.env.hand) (w.homes o) (found_hand Z o s.env.hand asks.env.hand) (n.homes o));
         }
 
-    world_rests : {j : Journal} {w : World} → Runs source input opts j w → StackWorld Z w
+    pub world_rests : {j : Journal} {w : World} → Runs source input opts j w → StackWorld Z w
     world_rests begun = record {
       tasks = λ t. first Z source known source.main 0;
       homes = λ o. either (StackMembers Z) (o == 0) (Some no_members) None tt tt;

@@ -1,14 +1,15 @@
 -- Where a scope opens: right behind the statement that builds what it is of.
-use Rattle.std.specs.Prelude.{◌≡◌, ℕ, ◌⊎◌, Option, Some, None, slice_get}
+use Rattle.std.specs.Prelude.{◌≡◌, ℕ, ◌⊎◌, Bool, true, false, Option, Some, None, slice_get}
 use Rattle.uc_tree.specs.Programs.{Program}
-use Rattle.uc_tree.specs.Source.{Shape, Expr, Element, Load, OfObject, OwnField, Counted, CallOn, CallUnwritten, EndOn, Bind, MakeOn, EndCluster, EndProcessor, CleanUp, Destroys, DestroysAll, Stmt, Stmts, Block, Whole, Evaluate, If, Loop, Fill, OfEvents, OfTasks, Nil, Then, Scoped, Built, EventStmt, Try, Enable, Disable, TaskStmt, Accept, Handlers, NoHandlers, MoreHandlers, Clauses, NoClauses, Otherwise, MoreClauses, Routine, Source}
+use Rattle.uc_tree.specs.Source.{Shape, Expr, Element, Load, OfObject, OwnField, Counted, CallOn, CallUnwritten, EndOn, Bind, MakeOn, NewCluster, NewProcessor, EndCluster, EndProcessor, CleanUp, Destroys, DestroysAll, Stmt, Stmts, Block, Whole, Evaluate, If, Loop, Fill, OfEvents, OfTasks, Nil, Then, Scoped, Built, EventStmt, Try, Enable, Disable, TaskStmt, Accept, Handlers, NoHandlers, MoreHandlers, Clauses, NoClauses, Otherwise, MoreClauses, Routine}
 use Rattle.uc_resolve.specs.Resolve.{source_of}
 
--- an expression builds the object at a place, or binds that to one; one destroys it
+-- an expression builds the object at a place, or binds that to the number of a new one; one destroys it
 abbrev pub Builds : Expr → Expr → Type 0
 Builds (OfObject (CallOn r p args)) q = p ≡ q
 Builds (OfObject (CallUnwritten r p)) q = p ≡ q
-Builds (OfObject (Bind p e)) q = p ≡ q
+Builds (OfObject (Bind p (OfObject NewCluster))) q = p ≡ q
+Builds (OfObject (Bind p (OfObject (NewProcessor e)))) q = p ≡ q
 Builds (OfObject (MakeOn c r written p args)) q = p ≡ q
 Builds e q = ⊥
 
@@ -20,11 +21,21 @@ Destroying (OfObject (EndCluster (Load p))) q = p ≡ q
 Destroying (OfObject (EndProcessor (Load p))) q = p ≡ q
 Destroying e q = ⊥
 
+-- whether that is of an object known by its number: one of a mutex class, a cluster, a processor
+abbrev pub is_numbered : Expr → Bool
+is_numbered (OfObject (Bind p e)) = true
+is_numbered (OfObject (MakeOn c r written p args)) = true
+is_numbered (OfObject (EndOn r written e)) = true
+is_numbered (OfObject (EndCluster e)) = true
+is_numbered (OfObject (EndProcessor e)) = true
+is_numbered e = false
+
 -- what the first builds the second destroys
 pub record IsEndOf (b d : Expr) : Type 0 where
   pub place : Expr
   pub built : Builds b place
   pub ended : Destroying d place
+  pub alike : is_numbered b ≡ is_numbered d
 
 -- a statement builds what is cleaned up: an object, or all elements of an array, those that stand being destroyed alike where an event
 -- comes before all do

@@ -156,14 +156,14 @@ params_one (x ∷ xs) env u =
 module _ (p : Program) where
   pub data InStep (ds : List Defined) (us : List Unwritten) (k n : ℕ) (r : Routine) (o : Option Sig) : Type 0 where
     is_written : (d : Defined) (texts sites : ℕ) → slice_get ds k ≡ Some d → r ≡ routine_meant p d.routine (routine_scope p d.routine (place_by p d) n texts sites) → o ≡ Some (routine_sig_in p d (routine_scope p d.routine (place_by p d) n texts sites)) → InStep ds us k n r o
-    nobody_wrote : (x : Unwritten) (m : ℕ) → k ≡ length ds + m → slice_get us m ≡ Some x → r ≡ unwritten_meant p x → o ≡ Some (unwritten_sig x) → InStep ds us k n r o
+    nobody_wrote : (x : Unwritten) (m : ℕ) → k ≡ length ds + m → slice_get us m ≡ Some x → r ≡ unwritten_meant p x → o ≡ Some (unwritten_sig p x) → InStep ds us k n r o
 
-  unwritten_step : (us : List Unwritten) (k : ℕ) (r : Routine) → slice_get (all_unwritten p us) k ≡ Some r → (x : Unwritten) × (slice_get us k ≡ Some x) × (r ≡ unwritten_meant p x) × (slice_get (unwritten_sigs us) k ≡ Some (unwritten_sig x))
+  unwritten_step : (us : List Unwritten) (k : ℕ) (r : Routine) → slice_get (all_unwritten p us) k ≡ Some r → (x : Unwritten) × (slice_get us k ≡ Some x) × (r ≡ unwritten_meant p x) × (slice_get (unwritten_sigs p us) k ≡ Some (unwritten_sig p x))
   unwritten_step [] k r e = none_some e
   unwritten_step (x ∷ us) zero r e = (x, refl, sym (some_same e), refl)
   unwritten_step (x ∷ us) (suc k) r e = unwritten_step us k r e
 
-  step : (us : List Unwritten) (ds : List Defined) (i t s k n : ℕ) (r : Routine) → i + k ≡ n → slice_get (routines_meant p ds i t s ++ all_unwritten p us) k ≡ Some r → InStep ds us k n r (slice_get (written_sigs p ds i t s ++ unwritten_sigs us) k)
+  step : (us : List Unwritten) (ds : List Defined) (i t s k n : ℕ) (r : Routine) → i + k ≡ n → slice_get (routines_meant p ds i t s ++ all_unwritten p us) k ≡ Some r → InStep ds us k n r (slice_get (written_sigs p ds i t s ++ unwritten_sigs p us) k)
   step us [] i t s k n r q e = let x = unwritten_step us k r e in nobody_wrote x.0 k (omega arith) x.1 x.2 x.3
   step us (d ∷ ds) i t s zero n r q e =
       let l : i ≡ n = omega (arith, q) in
@@ -180,11 +180,11 @@ module _ (p : Program) where
   pub in_step : (n : ℕ) (r : Routine) → slice_get (source_of p).routines n ≡ Some r → InStep (routines_of p) (unwritten_of p) n n r (slice_get (all_sigs p) n)
   in_step n r e = step (unwritten_of p) (routines_of p) 0 0 0 n n r (omega arith) e
 
-  unwritten_lengths : (us : List Unwritten) → length (all_unwritten p us) ≡ length (unwritten_sigs us)
+  unwritten_lengths : (us : List Unwritten) → length (all_unwritten p us) ≡ length (unwritten_sigs p us)
   unwritten_lengths [] = refl
   unwritten_lengths (x ∷ us) = ap suc (unwritten_lengths us)
 
-  lengths : (us : List Unwritten) (ds : List Defined) (i t s : ℕ) → length (routines_meant p ds i t s ++ all_unwritten p us) ≡ length (written_sigs p ds i t s ++ unwritten_sigs us)
+  lengths : (us : List Unwritten) (ds : List Defined) (i t s : ℕ) → length (routines_meant p ds i t s ++ all_unwritten p us) ≡ length (written_sigs p ds i t s ++ unwritten_sigs p us)
   lengths us [] i t s = unwritten_lengths us
   lengths us (d ∷ ds) i t s =
       ap suc (lengths us ds (i + 1) (t + length (gathered_all own_texts d.routine.body)) (s + length (gathered_all (own_sites d.class d.number) d.routine.body)))

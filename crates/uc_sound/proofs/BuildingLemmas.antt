@@ -41,7 +41,7 @@ use Rattle.uc_rules.specs.ExpressionBreaks.{are_single, is_scalar_of, length_bre
 use Rattle.uc_rules.specs.OwnerBreaks.{is_field_origin}
 use Rattle.uc_rules.specs.Visits.{single_target}
 use Rattle.uc_rules.specs.ProgramVisits.{program_visits, home_member, field_of, bound_target, maybe_bound_target, origin_target, meant_target, init_target, init_arg_visits, init_args_visits, inits_visits}
-use Rattle.uc_typing.specs.Typing.{Ty, Num, Cell, Clu, Name, Sig, Table, IsPlaced, Yields, GiveAll, Fine, FineStmts, IsCluster}
+use Rattle.uc_typing.specs.Typing.{Ty, Num, Cell, Clu, Name, Own, Sig, Table, IsPlaced, Yields, GiveAll, Fine, FineStmts, IsCluster}
 use Rattle.uc_agreement.specs.Agreement.{found_ty, sort_ty, IsLike, context}
 use Rattle.uc_agreement.specs.Fields.{field_ty, TellsClass}
 use Rattle.uc_agreement.specs.Unbroken.{Unbroken}
@@ -59,7 +59,7 @@ use Rattle.uc_sound.proofs.ClassNames.{same_is}
 use Rattle.uc_sound.proofs.ClassLemmas.{mutex_is, law_told}
 use Rattle.uc_sound.proofs.DeclaringLemmas.{made, made_kind, making_is, raw_scalar, scalar_place}
 use Rattle.uc_sound.proofs.ObjectLemmas.{Given, Making_is, made_told, build_fine, clean_fine, element_by, cluster_found}
-use Rattle.uc_sound.proofs.DestructionLemmas.{FieldFine, all_fine}
+use Rattle.uc_sound.proofs.DestructionLemmas.{FieldFine, all_fine, own_cleaned}
 use Rattle.uc_sound.proofs.ConstructionLemmas.{argument, init_args as given_args, InitFound, init_found, AreOne, one_field}
 
 -- a field that a name finds has the name
@@ -162,7 +162,7 @@ module _ (p : Program) (formed : IsFormed p) (u : Unbroken (program_visits p)) (
     one_built args s a rest sc h (Some m) q =
         let x = a m q in
         let b = by_making f.declarator.by_ref refl q in
-        (build_fine t g refl sc p 0 m (length_in_class p c i f) (field_place (class_shape p i) n tree.Own) args x.0 (x.1 sc) (λ l. s.object m b.0 b.1 (no_length f.declarator.len l) sc) (λ l. element_by t g refl sc p r.sort m b.1 x.0 ((asked_of k f at).element b.0 (has_length f.declarator.len l))), (h, clean_fine t g refl sc p m (length_in_class p c i f) (field_place (class_shape p i) n tree.Own) x.0 (x.1 sc)))
+        (build_fine t g refl sc p 0 m (length_in_class p c i f) (field_place (class_shape p i) n tree.Own) args x.0 (x.2 sc) (λ l. s.object m b.0 b.1 (no_length f.declarator.len l) sc) (λ l. element_by t g refl sc p r.sort m b.1 x.0 ((asked_of k f at).element b.0 (has_length f.declarator.len l))), (h, (clean_fine t g refl sc p m (length_in_class p c i f) (field_place (class_shape p i) n tree.Own) x.0 (x.2 sc), (Own n, own_cleaned p formed u i c e g this f n m a q))))
       where
         by_making : (z : Bool) → f.declarator.by_ref ≡ z → (if z then None else making p f.base) ≡ Some m → (f.declarator.by_ref ≡ false) × (made r.sort ≡ Some m)
         by_making true w q = none_some q

@@ -8,7 +8,7 @@ use Rattle.uc_tree.specs.declared.kinds.Kind.{Kind}
 use Rattle.uc_tree.specs.Expressions as expr
 use Rattle.uc_tree.specs.Cells.{classes_of, leading_cells}
 use Rattle.uc_tree.specs.Numbering.{is_mutex}
-use Rattle.uc_tree.specs.Objects.{ClassField, fields_of, class_at}
+use Rattle.uc_tree.specs.Objects.{ClassField, fields_of, class_at, is_task}
 use Rattle.uc_tree.specs.Programs.{Class, Program}
 use Rattle.uc_rules.specs.declared.rule.Rule.TheVariants.{S2, S4, S14, S16}
 use Rattle.uc_rules.specs.declared.rule.Break.{Break}
@@ -32,7 +32,7 @@ use Rattle.uc_sound.proofs.Lists.{left_is}
 use Rattle.uc_sound.proofs.Visited.{sort_holds, home, field_rules}
 use Rattle.uc_sound.proofs.ClassNames.{Sorted, sorted}
 use Rattle.uc_sound.proofs.RoutineLemmas.{tells_routines}
-use Rattle.uc_sound.proofs.MemberLemmas.{tells_member, tells_maker, tells_event, tells_raised, event_whole}
+use Rattle.uc_sound.proofs.MemberLemmas.{tells_member, tells_maker, tells_event, tells_raised, event_whole, event_apart}
 
 -- the class that a base names
 pub class_of_base : (p : Program) (b : Base) (i : ℕ) (k : Kind) → sort_of p b ≡ Some (sort.Object i k) → (c : Class) × (class_at p i ≡ Some c) × (c.kind ≡ k)
@@ -50,6 +50,9 @@ class_of_base p base.Processor i k h = absurd (cc)
 
 pub mutex_is : (p : Program) (b : Base) (i : ℕ) (k : Kind) → sort_of p b ≡ Some (sort.Object i k) → (table_of p).mutex i ≡ is_mutex k
 mutex_is p b i k h = let c = class_of_base p b i k h in ap (of_kind is_mutex) c.1 ∙ ap is_mutex c.2
+
+pub task_is : (p : Program) (b : Base) (i : ℕ) (k : Kind) → sort_of p b ≡ Some (sort.Object i k) → (table_of p).tasks i ≡ is_task k
+task_is p b i k h = let c = class_of_base p b i k h in ap (of_kind is_task) c.1 ∙ ap is_task c.2
 
 -- what is declared is at a place, but for `void` and conditions
 pub placed : (p : Program) (b : Base) (s : Sort) → sort_of p b ≡ Some s → is_void s ≡ false → is_condition s ≡ false → IsPlaced (table_of p) (place_ty s)
@@ -122,4 +125,5 @@ law_told p formed u = record {
   events = λ i r name h g. tells_event p formed u i r name h g;
   raised = λ r name g. tells_raised p formed u r name g;
   events_whole = λ i r name h g. event_whole p formed u i r name h g;
+  events_apart = λ i r name h g. event_apart p formed u i r name h g;
 }

@@ -82,7 +82,7 @@ module _ (env : Env) (b : Bound) where
         ap (λ o. has_fitting (expected env.program to i) o && are_sound bound es to (i + 1)) (entity_same e) ∙ ap (λ z. has_fitting (expected env.program to i) (entity_of env e) && z) (args_same es to (i + 1))
 
 bound_rooted : (t : Table) (g : Sig) (b : Bound) (p : Program) (a : Surroundings) (class : Option ℕ) → Rooted t g p a class → Rooted t g p (in_argument b a) class
-bound_rooted t g b p a class h = record { told = h.told; refers = h.refers; classes = h.classes; names = h.names; stood = h.stood; member = h.member; members = h.members; results = h.results; returning = h.returning; switching = h.switching; accepting = h.accepting }
+bound_rooted t g b p a class h = record { told = h.told; refers = h.refers; classes = h.classes; tasks = h.tasks; inside = h.inside; names = h.names; stood = h.stood; member = h.member; members = h.members; results = h.results; returning = h.returning; switching = h.switching; accepting = h.accepting }
 
 -- arguments of an initialiser
 

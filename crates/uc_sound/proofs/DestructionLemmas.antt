@@ -28,19 +28,19 @@ use Rattle.uc_rules.specs.declared.rules.Sort.TheVariants as sort
 use Rattle.uc_rules.specs.Sorts.{class_named}
 use Rattle.uc_rules.specs.Names as rules
 use Rattle.uc_rules.specs.Names.{is_here, form_sig, method_sig, item_sig}
-use Rattle.uc_rules.specs.Scopes.{Env, plain_env, class_around, sig_around, with_param, with_params}
+use Rattle.uc_rules.specs.Scopes.{Env, plain_env, class_around, sig_around, is_inner, with_param, with_params}
 use Rattle.uc_rules.specs.ClassBreaks.{is_event_member, is_empty_body}
 use Rattle.uc_rules.specs.ItemBreaks.{is_member_definition, has_class_name, class_declares, form_declares_sig}
 use Rattle.uc_rules.specs.Visits.{AtSig, AtInits, AtRoutine, stmts_visits}
-use Rattle.uc_rules.specs.ProgramVisits.{program_visits, form_visits, routine_visits, body_visits, sig_visits, base_visits, params_visits, inits_visits, sig_env, owner_home, is_of_main, outer_mark, home_of}
-use Rattle.uc_typing.specs.Typing.{Ty, Row, IsParam, Name, Own, Kept, Sig, Table, raw, IsPlaced, InMutex, Executing, Yields, Cleans, FineStmts}
+use Rattle.uc_rules.specs.ProgramVisits.{program_visits, form_visits, routine_visits, body_visits, sig_visits, base_visits, params_visits, inits_visits, sig_env, owner_home, is_of_main, outer_mark, mark_in, home_of}
+use Rattle.uc_typing.specs.Typing.{Ty, Row, IsParam, Name, Own, Kept, Sig, Table, raw, IsPlaced, IsInside, InMutex, Executing, Yields, CleansAt, Cleans, FineStmts}
 use Rattle.uc_agreement.specs.Agreement.{place_ty, param_ty}
 use Rattle.uc_agreement.specs.Fields.{field_ty, TellsClass}
 use Rattle.uc_agreement.specs.Unbroken.{Unbroken}
 use Rattle.uc_agreement.proofs.Ties.{some_same, none_some, false_true}
 use Rattle.uc_agreement.proofs.UnbrokenLemmas.{first, second}
 use Rattle.uc_sound.specs.Formed.{IsFormed}
-use Rattle.uc_sound.specs.Tables.{of_kind, declared_ty, stmts_locals, routine_sig_in, table_of}
+use Rattle.uc_sound.specs.Tables.{of_kind, inward_in, inward_at, declared_ty, stmts_locals, routine_sig_in, table_of}
 use Rattle.uc_sound.specs.Told.{Told}
 use Rattle.uc_sound.specs.Rooted.{Within}
 use Rattle.uc_sound.specs.Statements.{Holds, IsBehind}
@@ -53,8 +53,9 @@ use Rattle.uc_sound.proofs.RoutineLemmas.{event_member, plain_place, no_place}
 use Rattle.uc_sound.proofs.MemberLemmas.{Declares, sig_rules, definition, numbered_place}
 use Rattle.uc_sound.proofs.ClassLemmas.{mutex_is, law_told}
 use Rattle.uc_sound.proofs.RootedLemmas.{HomeIs, rooted}
+use Rattle.uc_sound.proofs.InwardLemmas.{Marked, marked_outside, inner_inside}
 use Rattle.uc_sound.proofs.DeclaringLemmas.{made, making_is}
-use Rattle.uc_sound.proofs.ObjectLemmas.{Making_is, making_ty, made_told, whole_placed, clean_fine}
+use Rattle.uc_sound.proofs.ObjectLemmas.{Making_is, making_ty, made_told, whole_placed, cleans_at, clean_fine}
 use Rattle.uc_sound.proofs.StatementLemmas.{law_statements}
 use Rattle.uc_sound.proofs.BodyLemmas.{params_within, params_one, is_param}
 
@@ -78,6 +79,7 @@ module _ (p : Program) (formed : IsFormed p) (u : Unbroken (program_visits p)) w
     pub at : HomeIs p formed u d home
     pub visits : Unbroken (routine_visits (plain_env p (sig_around p home main mark d.routine.sig)) d.routine)
     pub void : is_plain d.routine.sig.role ≡ false → d.routine.sig.ret ≡ base.Void
+    pub inside : (h : OwnClass) → home ≡ Some h → is_inner h mark d.routine.sig ≡ true → IsInside (inward_at p (place_by p d) d.routine.sig.role d.routine.sig.name)
 
   -- the place of the class of a routine
   class_place : (i : ℕ) (c : Class) (x : Defined) → class_at p i ≡ Some c → x.number ≡ unwrap_or (class_number p c.name) 0 → (is_event c.kind ≡ true → (objects.is_constructor x.routine.sig.role ≡ true) × (x.routine.sig.name ≡ c.name)) → place_by p x ≡ Some i
@@ -156,13 +158,19 @@ module _ (p : Program) (formed : IsFormed p) (u : Unbroken (program_visits p)) w
       by (RoutineMember r) g k = false_true g
       by (ProtoMember s) g k = let same : AreSame s sig = sig_is s sig g in ap rules.is_constructor (sym same.role) ∙ left_is (rules.is_constructor s.role) _ k
 
+  -- the routines of a class that the rules call inner run inside its objects
+  inner_at : (x : Defined) (o : Option OwnClass) (mark : MutexMark) (c : Class) (h : OwnClass) → o ≡ Some h → class_at p h.class ≡ Some c → h.kind ≡ c.kind → place_by p x ≡ Some h.class → (is_plain x.routine.sig.role ≡ true → Marked c x.routine.sig mark) → (k : OwnClass) → o ≡ Some k → is_inner k mark x.routine.sig ≡ true → IsInside (inward_at p (place_by p x) x.routine.sig.role x.routine.sig.name)
+  inner_at x o mark c h n e q place marked k m w =
+      let same : h ≡ k = some_same (sym n ∙ m) in
+      subst (λ z. IsInside (inward_at p z x.routine.sig.role x.routine.sig.name)) (sym place) (subst (λ o. IsInside (inward_in p h.class o x.routine.sig.role x.routine.sig.name)) (sym e) (inner_inside p formed u h.class c e k x.routine.sig mark (ap (λ (z : OwnClass). z.kind) (sym same) ∙ q) marked w))
+
   by_owner : (i : ℕ) (r : Body) (o : Owner) → r.sig.owner ≡ o → slice_get p.items i ≡ Some (RoutineItem r) → Unbroken (routine_visits (plain_env p (sig_around p (owner_home p o) (is_of_main o) (outer_mark p (owner_home p o) r.sig) r.sig)) r) → Standing (defined_by p o r)
   by_owner i r owner.Here w e v =
       let k = formed.plain i r.sig (ap (option_and_then item_sig) e) (ap is_here w) in
-      record { home = None; main = false; mark = outer_mark p None r.sig; at = none_place (defined_by p owner.Here r) refl k; visits = v; void = formed.makers i r.sig (ap (option_and_then item_sig) e) }
+      record { home = None; main = false; mark = outer_mark p None r.sig; at = none_place (defined_by p owner.Here r) refl k; visits = v; void = formed.makers i r.sig (ap (option_and_then item_sig) e); inside = λ h q. none_some q }
   by_owner i r owner.Main w e v =
       let k = left_is (is_plain r.sig.role) _ (definition p formed u i r owner.Main w e) in
-      record { home = None; main = true; mark = outer_mark p None r.sig; at = none_place (defined_by p owner.Main r) refl k; visits = v; void = formed.makers i r.sig (ap (option_and_then item_sig) e) }
+      record { home = None; main = true; mark = outer_mark p None r.sig; at = none_place (defined_by p owner.Main r) refl k; visits = v; void = formed.makers i r.sig (ap (option_and_then item_sig) e); inside = λ h q. none_some q }
   by_owner i r (owner.Class name) w e v =
       let o = owner_is i name r.sig (owner_home p (owner.Class name)) refl (definition p formed u i r (owner.Class name) w e) in
       let x = in_class p name r in
@@ -175,6 +183,7 @@ module _ (p : Program) (formed : IsFormed p) (u : Unbroken (program_visits p)) w
         at = (o.class, o.at, o.kind_is, place);
         visits = subst (λ h. Unbroken (routine_visits (plain_env p (sig_around p h false (outer_mark p h r.sig) r.sig)) r)) o.found v;
         void = formed.makers i r.sig (ap (option_and_then item_sig) e);
+        inside = inner_at x (Some o.home) (outer_mark p (Some o.home) r.sig) o.class o.home refl o.at o.kind_is place (λ w. subst (Marked o.class r.sig) (sym (ap (mark_in r.sig) o.at)) (marked_outside o.class r.sig (subst (λ z. class_declares r.sig z ≡ true) o.at o.declares)));
       }
 
   pub standing : (d : Defined) → Origin p d → Standing d
@@ -183,13 +192,17 @@ module _ (p : Program) (formed : IsFormed p) (u : Unbroken (program_visits p)) w
     home = Some (home p u i c);
     main = false;
     mark = m.mark;
-    at = (c, e, refl, class_place i c (in_class p c.name r) e refl (λ v. let k = left_is (rules.is_constructor r.sig.role) (is_empty_body r.body) (ap (is_event_member p c) (sym g) ∙ event_member p formed u i j c m e f v) in (rule_role r.sig.role k, class_name_is c.name r.sig (sig_rules p formed u i c j r.sig e declared).class_name (rule_plain r.sig.role k))));
+    at = (c, e, refl, place);
     visits = second (AtRoutine (plain_env p (class_around (home p u i c))) c false r.sig j ∷ []) (routine_visits (sig_env p (home p u i c) m.mark r.sig) r) (subst (λ z. Unbroken (form_visits p (home p u i c) c j m.mark m.access z)) g (member_rules p u i c e j m f).inner);
     void = formed.own_makers i j r.sig (ap (option_and_then (λ (c : Class). option_and_then (λ (m : Member). form_sig m.form) (slice_get c.members j))) e ∙ (ap (option_and_then (λ (m : Member). form_sig m.form)) f ∙ ap form_sig g));
+    inside = inner_at (in_class p c.name r) (Some (home p u i c)) m.mark c (home p u i c) refl e refl place (λ w. record { j = j; own = r.sig; declared = declared; role_is = refl; name_is = refl; mark_is = refl });
   })
     where
       declared : Declares c j r.sig
       declared = record { m = m; at = f; form = ap form_sig g }
+
+      place : place_by p (in_class p c.name r) ≡ Some i
+      place = class_place i c (in_class p c.name r) e refl (λ v. let k = left_is (rules.is_constructor r.sig.role) (is_empty_body r.body) (ap (is_event_member p c) (sym g) ∙ event_member p formed u i j c m e f v) in (rule_role r.sig.role k, class_name_is c.name r.sig (sig_rules p formed u i c j r.sig e declared).class_name (rule_plain r.sig.role k)))
 
   -- the statements of its body
 
@@ -218,7 +231,7 @@ module _ (p : Program) (formed : IsFormed p) (u : Unbroken (program_visits p)) w
         record { cells = omega (arith, a, b); hidden = omega (arith, a, b) }
 
     pub routine_within : (sc : List Name) → Within t g sc inner (place_by p d) (params_known p 0 d.routine.sig.params)
-    routine_within sc = params_within t g refl sc d.routine.sig.params 0 start (place_by p d) [] are sig_unbroken (record { rooted = rooted p formed u g d s.home s.main s.mark refl refl s.void s.at; alike = tt; stood = tt })
+    routine_within sc = params_within t g refl sc d.routine.sig.params 0 start (place_by p d) [] are sig_unbroken (record { rooted = rooted p formed u g d s.home s.main s.mark refl refl s.void s.at s.inside; alike = tt; stood = tt })
       where
         are : (k : ℕ) (x : Param) (c : ℕ) → 0 + k ≡ c → slice_get d.routine.sig.params k ≡ Some x → IsParam g.params c (param_ty p x) × (c ≤ LAST_ADDRESS)
         are k x c q f =
@@ -242,7 +255,7 @@ module _ (p : Program) (formed : IsFormed p) (u : Unbroken (program_visits p)) w
 
     -- a field of a class is built and destroyed at its place
     abbrev pub FieldFine : ℕ → ClassField → Type 0
-    FieldFine number f = (m : Making) → field_making p f ≡ Some m → Making_is t g refl p m × ((sc : List Name) → Yields t g sc (field_place (class_shape p i) number tree.Own) (declared_ty (length_in_class p c i f) (raw (making_ty t g refl m))))
+    FieldFine number f = (m : Making) → field_making p f ≡ Some m → Making_is t g refl p m × (t.fields i number ≡ declared_ty (length_in_class p c i f) (making_ty t g refl m)) × ((sc : List Name) → Yields t g sc (field_place (class_shape p i) number tree.Own) (declared_ty (length_in_class p c i f) (raw (making_ty t g refl m))))
 
     abbrev pub AllFine : ℕ → List ClassField → Type 0
     AllFine number fs = (k n : ℕ) (f : ClassField) → number + k ≡ n → slice_get fs k ≡ Some f → FieldFine n f
@@ -265,6 +278,13 @@ module _ (p : Program) (formed : IsFormed p) (u : Unbroken (program_visits p)) w
         made_is : making p f.base ≡ Some m → Making_is t g refl p m × (making_ty t g refl m ≡ place_ty r.sort)
         made_is q = made_told t g refl p f.base r.sort m told (mutex_is p) r.base (is_made q)
 
+        holds : f.declarator.by_ref ≡ false → (l : Option expr.Expr) → f.declarator.len ≡ l → (a : Ty) → a ≡ place_ty r.sort → t.fields i n ≡ declared_ty (tree.field_length (seen_in (constants_of p.items) c) f.declarator l) a
+        holds w l q a s = by_length l (tells.fields k f r.sort at r.base ∙ (ap (λ b. field_ty b f.declarator.len (elements (seen_in (constants_of p.items) c) f.declarator) r.sort) w ∙ ap (λ l. field_ty false l (elements (seen_in (constants_of p.items) c) f.declarator) r.sort) q))
+          where
+            by_length : (l : Option expr.Expr) → t.fields i n ≡ field_ty false l (elements (seen_in (constants_of p.items) c) f.declarator) r.sort → t.fields i n ≡ declared_ty (tree.field_length (seen_in (constants_of p.items) c) f.declarator l) a
+            by_length None z = z ∙ sym s
+            by_length (Some x) z = z ∙ ap (Row (elements (seen_in (constants_of p.items) c) f.declarator)) (sym s)
+
         held : f.declarator.by_ref ≡ false → (l : Option expr.Expr) → f.declarator.len ≡ l → (a : Ty) → a ≡ place_ty r.sort → IsPlaced t a → (sc : List Name) → Yields t g sc (field_place (class_shape p i) n tree.Own) (declared_ty (tree.field_length (seen_in (constants_of p.items) c) f.declarator l) (raw a))
         held w l q a s placed sc = by_length l (tells.fields k f r.sort at r.base ∙ (ap (λ b. field_ty b f.declarator.len (elements (seen_in (constants_of p.items) c) f.declarator) r.sort) w ∙ ap (λ l. field_ty false l (elements (seen_in (constants_of p.items) c) f.declarator) r.sort) q))
           where
@@ -272,24 +292,26 @@ module _ (p : Program) (formed : IsFormed p) (u : Unbroken (program_visits p)) w
             by_length None z = (i, this, refl, subst (IsPlaced t) (s ∙ sym z) placed, inr (ap raw (s ∙ sym z)))
             by_length (Some x) z = (i, this, refl, subst (IsPlaced t) (sym z) tt, inr (ap (λ a. Row (elements (seen_in (constants_of p.items) c) f.declarator) (raw a)) s ∙ ap raw (sym z)))
 
-        by_ref : (b : Bool) → f.declarator.by_ref ≡ b → (if b then None else making p f.base) ≡ Some m → Making_is t g refl p m × ((sc : List Name) → Yields t g sc (field_place (class_shape p i) n tree.Own) (declared_ty (length_in_class p c i f) (raw (making_ty t g refl m))))
+        by_ref : (b : Bool) → f.declarator.by_ref ≡ b → (if b then None else making p f.base) ≡ Some m → Making_is t g refl p m × (t.fields i n ≡ declared_ty (length_in_class p c i f) (making_ty t g refl m)) × ((sc : List Name) → Yields t g sc (field_place (class_shape p i) n tree.Own) (declared_ty (length_in_class p c i f) (raw (making_ty t g refl m))))
         by_ref true w q = none_some q
         by_ref false w q =
             let x = made_is q in
-            (x.0, held w f.declarator.len refl (making_ty t g refl m) x.1 (whole_placed t g refl p m x.0))
+            (x.0, holds w f.declarator.len refl (making_ty t g refl m) x.1, held w f.declarator.len refl (making_ty t g refl m) x.1 (whole_placed t g refl p m x.0))
 
     pub all_fine : AllFine (leading_cells c.kind) (fields_of c.members)
     all_fine k n f q at = subst (λ n. FieldFine n f) q (field_fine k f at)
+
+    pub own_cleaned : (f : ClassField) (number : ℕ) (m : Making) → FieldFine number f → field_making p f ≡ Some m → Cleans t g (Own number) (clean_up p m (length_in_class p c i f) (field_place (class_shape p i) number tree.Own))
+    own_cleaned f number m a q =
+        let x = a m q in
+        let place = field_place (class_shape p i) number tree.Own in
+        (i, this, subst (λ z. CleansAt t z place (clean_up p m (length_in_class p c i f) place)) (sym x.1) (cleans_at t g refl p m (length_in_class p c i f) place x.0))
 
     one_left : (f : ClassField) (number : ℕ) (rest : Stmts) (o : Option Making) → field_making p f ≡ o → FieldFine number f → ((sc : List Name) → FineStmts t g sc rest) → (sc : List Name) → FineStmts t g sc (field_left p o (length_in_class p c i f) (field_place (class_shape p i) number tree.Own) rest)
     one_left f number rest None q a r sc = r sc
     one_left f number rest (Some m) q a r sc =
         let x = a m q in
-        (Own number, cleans (length_in_class p c i f) m, r (Own number ∷ sc), clean_fine t g refl sc p m (length_in_class p c i f) (field_place (class_shape p i) number tree.Own) x.0 (x.1 sc))
-      where
-        cleans : (l : Option ℕ) (m : Making) → Cleans t (Own number) (clean_up p m l (field_place (class_shape p i) number tree.Own))
-        cleans None m = tt
-        cleans (Some n) m = tt
+        (Own number, own_cleaned f number m a q, r (Own number ∷ sc), clean_fine t g refl sc p m (length_in_class p c i f) (field_place (class_shape p i) number tree.Own) x.0 (x.2 sc))
 
     left_fine : (fs : List ClassField) (number : ℕ) (rest : Stmts) → AllFine number fs → ((sc : List Name) → FineStmts t g sc rest) → (sc : List Name) → FineStmts t g sc (fields_left p c i fs number rest)
     left_fine [] number rest a r sc = r sc
@@ -299,8 +321,8 @@ module _ (p : Program) (formed : IsFormed p) (u : Unbroken (program_visits p)) w
     pub executing : has_execution c.kind ≡ true → Executing t g
     executing h = (i, this, ap (of_kind has_execution) e ∙ h)
 
-    pub in_mutex : is_mutex c.kind ≡ true → InMutex t g
-    in_mutex h = (i, this, ap (of_kind is_mutex) e ∙ h)
+    pub in_mutex : IsInside g.inward → is_mutex c.kind ≡ true → InMutex t g
+    in_mutex n h = (i, this, ap (of_kind is_mutex) e ∙ h, n)
 
     taken_fine : (b : Bool) → has_execution c.kind ≡ b → (rest : Stmts) → ((sc : List Name) → FineStmts t g sc rest) → (sc : List Name) → FineStmts t g sc (taken_down p b rest)
     taken_fine true q rest r sc = (executing q, r sc)
@@ -310,12 +332,12 @@ module _ (p : Program) (formed : IsFormed p) (u : Unbroken (program_visits p)) w
     forgotten_fine true q rest r sc = (Kept, tt, r (Kept ∷ sc), executing q)
     forgotten_fine false q rest r sc = r sc
 
-    ending_fine : (b : Bool) → is_mutex c.kind ≡ b → (rest : Stmts) → ((sc : List Name) → FineStmts t g sc rest) → (sc : List Name) → FineStmts t g sc (ending p b rest)
-    ending_fine true q rest r sc = (Kept, tt, r (Kept ∷ sc), in_mutex q)
-    ending_fine false q rest r sc = r sc
+    ending_fine : (is_mutex c.kind ≡ true → IsInside g.inward) → (b : Bool) → is_mutex c.kind ≡ b → (rest : Stmts) → ((sc : List Name) → FineStmts t g sc rest) → (sc : List Name) → FineStmts t g sc (ending p b rest)
+    ending_fine n true q rest r sc = (Kept, tt, r (Kept ∷ sc), in_mutex (n q) q)
+    ending_fine n false q rest r sc = r sc
 
-    pub destruction_fine : (body : Stmts) → ((sc : List Name) → FineStmts t g sc body) → (sc : List Name) → FineStmts t g sc (destruction p (Some c) i body)
-    destruction_fine body r sc =
+    pub destruction_fine : (is_mutex c.kind ≡ true → IsInside g.inward) → (body : Stmts) → ((sc : List Name) → FineStmts t g sc body) → (sc : List Name) → FineStmts t g sc (destruction p (Some c) i body)
+    destruction_fine n body r sc =
         let taken = taken_down p (has_execution c.kind) body in
         let left = fields_left p c i (fields_of c.members) (leading_cells c.kind) taken in
-        ending_fine (is_mutex c.kind) refl (forgotten p (has_execution c.kind) left) (forgotten_fine (has_execution c.kind) refl left (left_fine (fields_of c.members) (leading_cells c.kind) taken all_fine (taken_fine (has_execution c.kind) refl body r))) sc
+        ending_fine n (is_mutex c.kind) refl (forgotten p (has_execution c.kind) left) (forgotten_fine (has_execution c.kind) refl left (left_fine (fields_of c.members) (leading_cells c.kind) taken all_fine (taken_fine (has_execution c.kind) refl body r))) sc

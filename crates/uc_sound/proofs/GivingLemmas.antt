@@ -27,7 +27,8 @@ use Rattle.uc_rules.specs.Scopes.{Env, named, named_behind, local_named}
 use Rattle.uc_rules.specs.Entities as rules
 use Rattle.uc_rules.specs.Entities.{entity_of, parts_entity, part_entity, chain_entity, link_entity, meant_entity, is_scalar, of_scalar, of_both, both_scalars, of_place, of_index, of_assign, value_of, assigned, element, call_follows, path_member, built_in, condition_member, operation_named, operation_entity, open_entity, entity_by_path, is_open, member_entity, other_member, of_field, of_call, given, sig_gives, value_of_sort, call_target, count, may_call, are_sound}
 use Rattle.uc_rules.specs.Visits.{visits}
-use Rattle.uc_typing.specs.Typing.{Num, Obj, Name, Sig, Table, Yields, Fine}
+use Rattle.uc_rules.specs.OwnerBreaks.{names_condition}
+use Rattle.uc_typing.specs.Typing.{Num, Obj, Name, Sig, Table, IsInside, Yields, Fine}
 use Rattle.uc_agreement.specs.Agreement.{found_ty, row_ty, IsAsValue, ValuedBy, Agrees, AgreesIf, Tied, context}
 use Rattle.uc_agreement.specs.Unbroken.{Unbroken, Stands, IsKnown}
 use Rattle.uc_agreement.proofs.Ties.{some_same, none_some, false_true, law_agrees}
@@ -248,8 +249,10 @@ module _ (t : Table) (g : Sig) (sc : List Name) (env : Env) (class : Option ℕ)
   tied = record {
     refers = h.rooted.refers;
     classes = h.rooted.classes;
+    tasks = h.rooted.tasks;
+    inside = h.rooted.inside;
     names = h.alike;
-    outer = λ name local. subst (λ o. AgreesIf t g sc env.program (meant_entity (named_behind o (root_named env.program env.around name))) (tree.own_meant env.program class name)) (sym local) (h.rooted.names sc name);
+    outer = λ name local inside. subst (λ o. AgreesIf t g sc env.program (meant_entity (named_behind o (root_named env.program env.around name))) (tree.own_meant env.program class name)) (sym local) (h.rooted.names sc name (subst (λ o. names_condition (named_behind o (root_named env.program env.around name)) ≡ true → IsInside g.inward) local inside));
     member = h.rooted.member sc;
   }
 

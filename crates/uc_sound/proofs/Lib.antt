@@ -9,6 +9,7 @@ pub mod MemberLemmas
 pub mod ClassLemmas
 pub mod RootLemmas
 pub mod RootedLemmas
+pub mod InwardLemmas
 pub mod GivingLemmas
 pub mod DeclaringLemmas
 pub mod ObjectLemmas

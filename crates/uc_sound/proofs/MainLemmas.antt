@@ -9,7 +9,7 @@ use Rattle.uc_tree.specs.declared.kinds.Owner.TheVariants as owner
 use Rattle.uc_tree.specs.declared.kinds.Param.{Param}
 use Rattle.uc_tree.specs.Names.{same_name}
 use Rattle.uc_tree.specs.Cells.{classes_of}
-use Rattle.uc_tree.specs.Numbering.{main_name, is_mutex, is_plain, Defined, defined_by, item_defined, items_defined}
+use Rattle.uc_tree.specs.Numbering.{main_name, is_mutex, is_plain, Defined, defined_by, item_defined, items_defined, routines_of}
 use Rattle.uc_tree.specs.Objects.{class_at, place_of}
 use Rattle.uc_tree.specs.ProgramMain.{main_among, main_number, is_main_sig, returns_as_main, no_params}
 use Rattle.uc_tree.specs.Programs.{Routine as Body, Class, Item, ClassItem, RoutineItem, ConstItem, ProtoItem, ForwardItem, UsingItem, Program}
@@ -18,7 +18,7 @@ use Rattle.uc_rules.specs.declared.rule.Rule.TheVariants.{S3}
 use Rattle.uc_rules.specs.Sorts.{has_main, is_task}
 use Rattle.uc_rules.specs.ItemBreaks.{is_program_main, mains_in, main_breaks}
 use Rattle.uc_rules.specs.ProgramVisits.{program_visits}
-use Rattle.uc_typing.specs.Typing.{Sig, IsMain}
+use Rattle.uc_typing.specs.Typing.{Apart, Sig, IsMain}
 use Rattle.uc_typing.specs.States.{IsOfTask, IsTask}
 use Rattle.uc_agreement.specs.Agreement.{param_ty}
 use Rattle.uc_agreement.specs.Unbroken.{Unbroken}
@@ -26,7 +26,7 @@ use Rattle.uc_agreement.proofs.Ties.{false_true}
 use Rattle.uc_agreement.proofs.UnbrokenLemmas.{none_left, holds}
 use Rattle.uc_sound.specs.Formed.{IsFormed}
 use Rattle.uc_sound.specs.Sounds.{of_program, of_class, LawMains}
-use Rattle.uc_sound.specs.Tables.{of_kind, table_of}
+use Rattle.uc_sound.specs.Tables.{of_kind, inward_at, table_of}
 use Rattle.uc_sound.proofs.Lists.{left_is, right_is, get_right}
 use Rattle.uc_sound.proofs.Signatures.{has_sig}
 use Rattle.uc_sound.proofs.RoutineLemmas.{defined_routine, plain_place, no_place}
@@ -45,7 +45,8 @@ mutex _ h = false_true h
 
 class_main : (p : Program) → IsFormed p → Unbroken (program_visits p) → (i : ℕ) (c : Class) → class_at p i ≡ Some c → is_task c.kind ≡ true → IsTask (table_of p) (main_at p i)
 class_main p formed u i c e h =
-    let m : IsMain (table_of p) (record { this = Some i; params = []; locals = []; whole = false }) (main_at p i) = main_is p formed u i c e (record { this = Some i; params = []; locals = []; whole = false }) refl (mained c.kind h) in
+    let g : Sig = record { this = Some i; params = []; locals = []; whole = false; inward = Apart } in
+    let m : IsMain (table_of p) g (main_at p i) = (main_is p formed u i c e g refl (mained c.kind h)).0 in
     let k : (table_of p).mutex i ≡ true = ap (of_kind is_mutex) e ∙ mutex c.kind h in
     (subst (IsOfTask (table_of p)) (sym m.0) k, m.1, m.2)
 
@@ -94,8 +95,8 @@ module _ (p : Program) where
   none_given [] h = refl
   none_given (x ∷ xs) h = false_true h
 
-  program_main : IsFormed p → Unbroken (program_visits p) → IsTask (table_of p) (main_number p)
-  program_main formed u =
+  main_there : IsFormed p → Unbroken (program_visits p) → (d : Defined) × (slice_get (routines_of p) (main_number p) ≡ Some d) × (place_by p d ≡ None) × (map (param_ty p) d.routine.sig.params ≡ [])
+  main_there formed u =
       let one = eqb-true (mains_in p.items) 1 (holds (nat_eq (mains_in p.items) 1) S3 _ _ (none_left (main_breaks p ++ []) _ u)) in
       let m = main_found p.items (omega (arith, one)) in
       let d : Defined = defined_by p m.routine.sig.owner m.routine in
@@ -104,10 +105,20 @@ module _ (p : Program) where
       let rest = right_is (same_name m.routine.sig.name main_name) (is_plain m.routine.sig.role && no_params m.routine.sig.params) (right_is (returns_as_main m.routine.sig.owner m.routine.sig.ret) (same_name m.routine.sig.name main_name && (is_plain m.routine.sig.role && no_params m.routine.sig.params)) m.main) in
       let plain : is_plain d.routine.sig.role ≡ true = ap (λ (z : Body). is_plain z.sig.role) same ∙ left_is (is_plain m.routine.sig.role) (no_params m.routine.sig.params) rest in
       let place : place_by p d ≡ None = plain_place p formed u d plain ∙ (ap (place_of p) (number_is m.routine.sig.owner m.routine returns) ∙ no_place p formed u (classes_of p.items)) in
-      let s = has_sig p (main_number p) d m.at in
-      let this : ((table_of p).routine (main_number p)).this ≡ None = ap (λ (g : Sig). g.this) s.sig ∙ place in
-      let params : ((table_of p).routine (main_number p)).params ≡ [] = ap (λ (g : Sig). g.params) s.sig ∙ (ap (λ (z : Body). map (param_ty p) z.sig.params) same ∙ none_given m.routine.sig.params (right_is (is_plain m.routine.sig.role) (no_params m.routine.sig.params) rest)) in
-      (subst (IsOfTask (table_of p)) (sym this) tt, params, s.known)
+      (d, m.at, place, ap (λ (z : Body). map (param_ty p) z.sig.params) same ∙ none_given m.routine.sig.params (right_is (is_plain m.routine.sig.role) (no_params m.routine.sig.params) rest))
+
+  program_main : IsFormed p → Unbroken (program_visits p) → IsTask (table_of p) (main_number p)
+  program_main formed u =
+      let m = main_there formed u in
+      let s = has_sig p (main_number p) m.0 m.1 in
+      let this : ((table_of p).routine (main_number p)).this ≡ None = ap (λ (g : Sig). g.this) s.sig ∙ m.2 in
+      (subst (IsOfTask (table_of p)) (sym this) tt, ap (λ (g : Sig). g.params) s.sig ∙ m.3, s.known)
+
+  -- so it runs inside no object
+  pub main_apart : IsFormed p → Unbroken (program_visits p) → ((table_of p).routine (main_number p)).inward ≡ Apart
+  main_apart formed u =
+      let m = main_there formed u in
+      ap (λ (g : Sig). g.inward) (has_sig p (main_number p) m.0 m.1).sig ∙ ap (λ o. inward_at p o m.0.routine.sig.role m.0.routine.sig.name) m.2
 
 pub law_mains : LawMains
 law_mains p formed u r (of_program q) = subst (IsTask (table_of p)) (sym q) (program_main p formed u)

@@ -1,6 +1,6 @@
 -- The routines of a class: each is declared by one of its members, and the names of members and the roles of routines find them.
 use Rattle.std.proofs.Common.{◌≡◌, ℕ, zero, suc, ◌+◌, ◌<◌, ◌⊎◌, inl, inr, List, [], ◌∷◌, length, Option, Some, None, Bool, true, false, refl, sym, ap, ◌∙◌, subst, arith, map}
-use Rattle.std.specs.Prelude.{◌&&◌, ◌||◌, not, slice_get, take, if◌then◌else◌, nat_eq, option_and_then, unwrap_or}
+use Rattle.std.specs.Prelude.{◌&&◌, ◌||◌, not, slice_get, take, if◌then◌else◌, nat_eq, is_some, option_and_then, unwrap_or}
 use Rattle.std.specs.List.{list_any}
 use Rattle.std.proofs.lemmas.Bool.{eqb-true, eq-eqb}
 use Rattle.uc_tree.specs.declared.kinds.Base.TheVariants as base
@@ -13,7 +13,7 @@ use Rattle.uc_tree.specs.declared.kinds.Kind.{Kind}
 use Rattle.uc_tree.specs.declared.kinds.Kind.TheVariants as kind
 use Rattle.uc_tree.specs.Names.{same_name}
 use Rattle.uc_tree.specs.Cells.{classes_of}
-use Rattle.uc_tree.specs.Numbering.{is_event, is_given, is_plain, class_number, Defined, defined_by, in_class, routines_of}
+use Rattle.uc_tree.specs.Numbering.{is_event, is_given, is_mutex, is_plain, main_name, member_number, class_number, Defined, defined_by, in_class, routines_of}
 use Rattle.uc_tree.specs.Objects as objects
 use Rattle.uc_tree.specs.Objects.{class_at, number_at, number_in, place_of, event_place, is_member, member_from, has_role, role_from, written_at}
 use Rattle.uc_tree.specs.Programs.{Sig, Routine, MemberForm, FieldsMember, RoutineMember, ProtoMember, Member, Class, Item, RoutineItem, Program}
@@ -27,7 +27,7 @@ use Rattle.uc_rules.specs.declared.rules.Sort.TheVariants as sort
 use Rattle.uc_rules.specs.Asked.{unless}
 use Rattle.uc_rules.specs.Sorts.{class_named, sort_of}
 use Rattle.uc_rules.specs.Names as rules
-use Rattle.uc_rules.specs.Names.{first_of, is_here, form_sig, method_sig, params_in, constructor_form, constructor_among, constructor_params}
+use Rattle.uc_rules.specs.Names.{first_of, is_here, form_sig, method_sig, params_in, constructor_form, constructor_among, constructor_params, member_named}
 use Rattle.uc_rules.specs.Scopes.{Env, plain_env, class_around, with_params}
 use Rattle.uc_rules.specs.ClassBreaks.{sig_declares, form_declares_names, members_declare, is_kept, is_new_member, is_new_routine_by, is_new_routine, is_owner}
 use Rattle.uc_rules.specs.ItemBreaks as items
@@ -35,13 +35,13 @@ use Rattle.uc_rules.specs.ItemBreaks.{is_sound_item, is_definition, is_sound_mem
 use Rattle.uc_rules.specs.Visits.{AtRoutine}
 use Rattle.uc_rules.specs.ProgramVisits.{program_visits, form_visits, routine_visits, sig_visits, sig_env, body_visits, same_role, owner_home, home_of}
 use Rattle.uc_rules.specs.Breaks.{breaks_at}
-use Rattle.uc_typing.specs.Typing.{Sig as Typed}
+use Rattle.uc_typing.specs.Typing.{Apart, Sig as Typed}
 use Rattle.uc_agreement.specs.Agreement.{param_ty, AreLike}
 use Rattle.uc_agreement.specs.Unbroken.{Unbroken}
 use Rattle.uc_agreement.proofs.Ties.{some_same, none_some, false_true}
 use Rattle.uc_agreement.proofs.UnbrokenLemmas.{none_left, none_right, first, second, holds}
 use Rattle.uc_sound.specs.Formed.{IsFormed}
-use Rattle.uc_sound.specs.Tables.{table_of}
+use Rattle.uc_sound.specs.Tables.{of_kind, helps_in, inward_by, role_inward, inward_in, inward_at, table_of}
 use Rattle.uc_sound.specs.Told.{IsOfClass, TellsMember, TellsMaker, role_params}
 use Rattle.uc_sound.proofs.Lists.{left_is, right_is, both_are, not_is, not_either, next_is_not, case_of, any_at, any_from, in_left, in_right, get_take, Order, before, same, behind, order}
 use Rattle.uc_sound.proofs.Visited.{MemberRules, item_rules, home, member_rules, sig_known, sig_ret}
@@ -270,6 +270,22 @@ module _ (p : Program) (formed : IsFormed p) (u : Unbroken (program_visits p)) w
   whole_is : (n : ℕ) (x : Defined) → slice_get (routines_of p) n ≡ Some x → ((table_of p).routine n).whole ≡ not (is_plain x.routine.sig.role)
   whole_is n x e = ap (λ (g : Typed). g.whole) (has_sig p n x e).sig
 
+  inward_is : (n : ℕ) (x : Defined) (o : Option ℕ) → slice_get (routines_of p) n ≡ Some x → place_by p x ≡ o → ((table_of p).routine n).inward ≡ inward_at p o x.routine.sig.role x.routine.sig.name
+  inward_is n x o e l =
+      ap (λ (g : Typed). g.inward) (has_sig p n x e).sig ∙ ap (λ o. inward_at p o x.routine.sig.role x.routine.sig.name) l
+
+  -- what builds or destroys an object of a class
+  pub made_inward : (i : ℕ) (c : Class) (wanted : Role) (name : List ℕ) → class_at p i ≡ Some c → is_plain wanted ≡ false → inward_at p (Some i) wanted name ≡ role_inward wanted (of_kind is_mutex (class_at p i))
+  made_inward i c wanted name e w =
+      ap (λ o. inward_in p i o wanted name) e ∙ (by wanted (is_mutex c.kind) w ∙ ap (λ o. role_inward wanted (of_kind is_mutex o)) (sym e))
+    where
+      by : (r : Role) (b : Bool) → is_plain r ≡ false → (if b then inward_by r (same_name name main_name) (is_some (member_number c name)) (helps_in (member_named p i name)) else Apart) ≡ role_inward r b
+      by role.Plain b w = false_true (sym w)
+      by role.Constructor true w = refl
+      by role.Constructor false w = refl
+      by role.Destructor true w = refl
+      by role.Destructor false w = refl
+
 module _ (p : Program) (formed : IsFormed p) (u : Unbroken (program_visits p)) where
   -- members
 
@@ -373,6 +389,7 @@ module _ (p : Program) (formed : IsFormed p) (u : Unbroken (program_visits p)) w
         found = member_looked (routines_of p) 0 n sig.name ∙ (k.found ∙ ap Some (let q : 0 + k.n ≡ k.n = omega arith in q));
         routine = of_class p formed u i k.n x sig.params k.at (numbered_place p formed u i x number kn) (subst (λ (z : Sig). AreLike p z.params x.routine.sig.params) s b.params);
         plain = whole_is p formed u k.n x k.at ∙ ap not kw;
+        inward = inward_is p formed u k.n x (Some i) k.at (numbered_place p formed u i x number kn) ∙ (ap (λ (r : Role). inward_at p (Some i) r x.routine.sig.name) (sym b.role ∙ ap (λ (z : Sig). z.role) s) ∙ ap (inward_at p (Some i) sig.role) ks);
       }
 
   -- what builds and destroys
@@ -431,6 +448,8 @@ module _ (p : Program) (formed : IsFormed p) (u : Unbroken (program_visits p)) w
     unwritten_params = λ h. let k = is_unwritten p i c wanted e v w h in sym (ap (λ (g : Typed). g.params) k.sig);
     unwritten_known = λ h. (is_unwritten p i c wanted e v w h).known;
     unwritten_whole = λ h. let k = is_unwritten p i c wanted e v w h in ap (λ (g : Typed). g.whole) k.sig;
+    written_inward = λ r h. let k = written i r wanted h in inward_is p formed u r k.x (Some i) k.at (numbered_place p formed u i k.x number k.number) ∙ (ap (λ (z : Role). inward_at p (Some i) z k.x.routine.sig.name) (sym k.role) ∙ made_inward p formed u i c wanted k.x.routine.sig.name e w);
+    unwritten_inward = λ h. let k = is_unwritten p i c wanted e v w h in ap (λ (g : Typed). g.inward) k.sig ∙ (ap (λ z. role_inward k.unwritten.role (of_kind is_mutex (class_at p z))) k.class ∙ ap (λ (z : Role). role_inward z (of_kind is_mutex (class_at p i))) k.role_is);
   }
     where
       number : HasNumber p u i
@@ -498,6 +517,23 @@ module _ (p : Program) (formed : IsFormed p) (u : Unbroken (program_visits p)) w
   event_whole i r name h g =
       let k = raised i r name g in
       whole_is p formed u r k.x k.at ∙ ap not (sym (ap is_plain (constructor_role k.x.routine.sig.role k.role)))
+
+  event_mutex : (k : Kind) → is_event k ≡ true → is_mutex k ≡ false
+  event_mutex kind.Event v = refl
+  event_mutex kind.Class v = refl
+  event_mutex kind.Coroutine v = refl
+  event_mutex kind.Monitor v = false_true v
+  event_mutex kind.Cormonitor v = false_true v
+  event_mutex kind.Task v = false_true v
+
+  pub event_apart : (i r : ℕ) (name : List ℕ) → event_place p (base.Named name) ≡ Some i → event_constructor p name ≡ Some r → ((table_of p).routine r).inward ≡ Apart
+  event_apart i r name h g =
+      let k = raised i r name g in
+      let a = event_class i name h in
+      let q : a.n ≡ i = let z = a.place in omega (arith, z) in
+      let e : class_at p i ≡ Some a.class = ap (class_at p) (sym q) ∙ a.at in
+      let place : place_by p k.x ≡ Some i = ap (λ (z : Bool). if z then event_place p (base.Named k.x.routine.sig.name) else place_of p k.x.number) (both_are (nat_eq k.x.number 0) (objects.is_constructor k.x.routine.sig.role) (eq-eqb k.x.number 0 k.number) k.role) ∙ (ap (λ z. event_place p (base.Named z)) k.name_is ∙ h) in
+      inward_is p formed u r k.x (Some i) k.at place ∙ (ap (λ o. inward_in p i o k.x.routine.sig.role k.x.routine.sig.name) e ∙ ap (λ (b : Bool). if b then inward_by k.x.routine.sig.role (same_name k.x.routine.sig.name main_name) (is_some (member_number a.class k.x.routine.sig.name)) (helps_in (member_named p i k.x.routine.sig.name)) else Apart) (event_mutex a.class.kind a.event))
 
   event_kind : (k : Kind) → is_event k ≡ true → k ≡ kind.Event
   event_kind kind.Event v = refl

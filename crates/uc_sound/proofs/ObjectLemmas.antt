@@ -11,12 +11,12 @@ use Rattle.uc_tree.specs.Expressions as expr
 use Rattle.uc_tree.specs.Statements as stmt
 use Rattle.uc_tree.specs.Statements.{Declarator, Start}
 use Rattle.uc_tree.specs.Numbering.{is_event, is_mutex}
-use Rattle.uc_tree.specs.Objects.{number_at, written_at, Making, APlain, AMutex, ACluster, AProcessor}
+use Rattle.uc_tree.specs.Objects.{number_at, class_shape, written_at, Making, APlain, AMutex, ACluster, AProcessor}
 use Rattle.uc_tree.specs.Programs.{Program}
-use Rattle.uc_tree.specs.Source.{Expr, Variable, Load, NoExprs, Stmts, Destroys}
+use Rattle.uc_tree.specs.Source.{Expr, Variable, Element, Load, OfObject, Counted, NoExprs, Stmts}
 use Rattle.uc_resolve.specs.Standings as tree
 use Rattle.uc_resolve.specs.Standings.{params_of, args_by, args_meant, known_meant, value_in_scope}
-use Rattle.uc_resolve.specs.Resolve.{Scope, declared_known, with_declared, with_all, length_of, start_args, all_declared, constructed, destroyed, called_by, made_by, ended_by, cluster_in, counted_element, build, clean_up, objects_scoped}
+use Rattle.uc_resolve.specs.Resolve.{Scope, declared_known, with_declared, with_all, length_of, start_args, all_declared, constructed, destroyed, called_by, made_by, ended_by, cluster_in, made_shape, counted_element, build, clean_up, objects_scoped}
 use Rattle.uc_rules.specs.declared.rule.Rule.TheVariants.{S11, S16}
 use Rattle.uc_rules.specs.declared.rules.Entity.{Entity}
 use Rattle.uc_rules.specs.declared.rules.Entity.TheVariants as entity
@@ -31,13 +31,13 @@ use Rattle.uc_rules.specs.Entities.{entity_of, count, param_expected, fits}
 use Rattle.uc_rules.specs.ExpressionBreaks.{is_value_start, are_single, started_breaks, starts_well, array_starts_well, is_element}
 use Rattle.uc_rules.specs.Visits.{AtVariable, AtArgument, visits, maybe_visits, args_visits, arg_visits, start_values, single_target, variable_target, variable_visits, variables_visits}
 use Rattle.uc_rules.specs.Breaks.{breaks_at}
-use Rattle.uc_typing.specs.Typing.{Ty, Num, Cell, Obj, Raw, Row, Clu, Pro, Name, Var, Sig, Table, raw, IsPlaced, Among, InScope, IsVariable, Yields, Fine, GiveAll, FineDeclared, FineClean, Cleans, FineStmt, FineStmts, IsCluster, object_ty}
+use Rattle.uc_typing.specs.Typing.{Ty, Num, Cell, Obj, Raw, Row, Clu, Pro, Name, Var, Inward, Apart, Enters, Sig, Table, IsOpen, MayCall, raw, IsPlaced, Among, InScope, IsVariable, Yields, Fine, GiveAll, FineDeclared, FineClean, element_shape, DestroysAt, CleansAt, FineStmt, FineStmts, IsCluster, object_ty}
 use Rattle.uc_agreement.specs.Agreement.{is_numbered, place_by, place_ty, param_ty, AreLike, Agrees, context}
 use Rattle.uc_agreement.specs.Unbroken.{Unbroken}
 use Rattle.uc_agreement.proofs.Ties.{some_same, none_some, false_true, scalar_unnumbered, law_agrees}
 use Rattle.uc_agreement.proofs.UnbrokenLemmas.{first, second, one, holds, stands}
 use Rattle.uc_agreement.proofs.Asking.{only, law_parts}
-use Rattle.uc_sound.specs.Tables.{based_ty, declared_ty, declared_locals}
+use Rattle.uc_sound.specs.Tables.{based_ty, declared_ty, declared_locals, role_inward}
 use Rattle.uc_sound.specs.Told.{TellsMaker, Told}
 use Rattle.uc_sound.specs.Rooted.{Within}
 use Rattle.uc_sound.specs.Statements.{Holds}
@@ -58,7 +58,7 @@ module _ (t : Table) (g : Sig) (refers : t.refers ≡ true) where
 
   -- and the table tells what builds and destroys it
   abbrev pub Making_is : Program → Making → Type 0
-  Making_is p (APlain i) = TellsMaker t p i role.Constructor × TellsMaker t p i role.Destructor × (t.mutex i ≡ false)
+  Making_is p (APlain i) = TellsMaker t p i role.Constructor × TellsMaker t p i role.Destructor × (t.mutex i ≡ false) × (t.shape i ≡ class_shape p i)
   Making_is p (AMutex i) = TellsMaker t p i role.Constructor × TellsMaker t p i role.Destructor × (t.mutex i ≡ true) × (t.number i ≡ number_at p i)
   Making_is p ACluster = Unit {0}
   Making_is p AProcessor = Unit {0}
@@ -81,17 +81,26 @@ module _ (t : Table) (g : Sig) (refers : t.refers ≡ true) where
   whole_ty : (w : Bool) (i : ℕ) (sc : List Name) (e : Expr) → w ≡ true → Yields t g sc e (Raw i) → Yields t g sc e (object_ty w i)
   whole_ty w i sc e q y = subst (λ w. Yields t g sc e (object_ty w i)) (sym q) y
 
+  apart_open : {w : Inward} → w ≡ Apart → IsOpen w
+  apart_open e = subst IsOpen (sym e) tt
+
+  enters_open : {w : Inward} → w ≡ Enters → IsOpen w
+  enters_open e = subst IsOpen (sym e) tt
+
+  apart_called : {w : Inward} (e : Expr) → w ≡ Apart → MayCall w g e
+  apart_called e q = subst (λ w. MayCall w g e) (sym q) tt
+
   pub constructed_fine : (sc : List Name) (p : Program) (m : Making) (place : Expr) (args : List tree.Meant) → Making_is p m → Yields t g sc place (raw (making_ty m)) → Given sc p m args → Fine t g sc (constructed p m place args)
   constructed_fine sc p (APlain i) place args k y a = by (written_at p i role.Constructor) refl
     where
       by : (o : Option ℕ) → written_at p i role.Constructor ≡ o → Fine t g sc (called_by p i role.Constructor place args o)
-      by None e = (Num, (refl, (i, whole_ty _ i sc place (k.0.unwritten_whole e) y, k.0.unwritten_this e, k.0.unwritten_known e), k.0.unwritten_params e))
-      by (Some r) e = (Num, (refl, (i, whole_ty _ i sc place (k.0.written_whole r e) y, (k.0.written r e).this, (k.0.written r e).known), a r e))
+      by None e = (Num, (refl, (i, whole_ty _ i sc place (k.0.unwritten_whole e) y, k.0.unwritten_this e, k.0.unwritten_known e), k.0.unwritten_params e, apart_open (k.0.unwritten_inward e ∙ ap (role_inward role.Constructor) k.2)))
+      by (Some r) e = (Num, (refl, (i, whole_ty _ i sc place (k.0.written_whole r e) y, (k.0.written r e).this, (k.0.written r e).known), a r e, apart_called place (k.0.written_inward r e ∙ ap (role_inward role.Constructor) k.2)))
   constructed_fine sc p (AMutex i) place args k y a = by (written_at p i role.Constructor) refl
     where
       by : (o : Option ℕ) → written_at p i role.Constructor ≡ o → Fine t g sc (made_by p i place args o)
-      by None e = (Num, (refl, (i, y, k.0.unwritten_this e, k.0.unwritten_known e, k.0.unwritten_whole e, k.3, k.2), subst (GiveAll t g sc NoExprs) (k.0.unwritten_params e) tt))
-      by (Some r) e = (Num, (refl, (i, y, (k.0.written r e).this, (k.0.written r e).known, k.0.written_whole r e, k.3, k.2), a r e))
+      by None e = (Num, (refl, (i, y, k.0.unwritten_this e, k.0.unwritten_known e, k.0.unwritten_whole e, k.3, k.2), subst (GiveAll t g sc NoExprs) (k.0.unwritten_params e) tt, k.0.unwritten_inward e ∙ ap (role_inward role.Constructor) k.2))
+      by (Some r) e = (Num, (refl, (i, y, (k.0.written r e).this, (k.0.written r e).known, k.0.written_whole r e, k.3, k.2), a r e, k.0.written_inward r e ∙ ap (role_inward role.Constructor) k.2))
   constructed_fine sc p ACluster place args k y a = (Clu, (y, refl))
   constructed_fine sc p AProcessor place args k y a = (Pro, (y, (refl, a)))
 
@@ -99,34 +108,41 @@ module _ (t : Table) (g : Sig) (refers : t.refers ≡ true) where
   destroyed_fine sc p (APlain i) place k y = by (written_at p i role.Destructor) refl
     where
       by : (o : Option ℕ) → written_at p i role.Destructor ≡ o → Fine t g sc (called_by p i role.Destructor place [] o)
-      by None e = (Num, (refl, (i, whole_ty _ i sc place (k.1.unwritten_whole e) y, k.1.unwritten_this e, k.1.unwritten_known e), k.1.unwritten_params e))
-      by (Some r) e = (Num, (refl, (i, whole_ty _ i sc place (k.1.written_whole r e) y, (k.1.written r e).this, (k.1.written r e).known), no_arguments (params_of p r) (t.routine r).params p (k.1.written r e).params (k.1.written r e).table [] sc))
+      by None e = (Num, (refl, (i, whole_ty _ i sc place (k.1.unwritten_whole e) y, k.1.unwritten_this e, k.1.unwritten_known e), k.1.unwritten_params e, apart_open (k.1.unwritten_inward e ∙ ap (role_inward role.Destructor) k.2)))
+      by (Some r) e = (Num, (refl, (i, whole_ty _ i sc place (k.1.written_whole r e) y, (k.1.written r e).this, (k.1.written r e).known), no_arguments (params_of p r) (t.routine r).params p (k.1.written r e).params (k.1.written r e).table [] sc, apart_called place (k.1.written_inward r e ∙ ap (role_inward role.Destructor) k.2)))
   destroyed_fine sc p (AMutex i) place k y = by (written_at p i role.Destructor) refl
     where
       by : (o : Option ℕ) → written_at p i role.Destructor ≡ o → Fine t g sc (ended_by p i (Load place) o)
-      by None e = (Num, (refl, (i, whole_ty _ i sc (Load place) (k.1.unwritten_whole e) (inr refers, y), k.1.unwritten_this e, k.1.unwritten_known e, k.2), k.1.unwritten_params e))
-      by (Some r) e = (Num, (refl, (i, whole_ty _ i sc (Load place) (k.1.written_whole r e) (inr refers, y), (k.1.written r e).this, (k.1.written r e).known, k.2), like_none (params_of p r) (t.routine r).params p (k.1.written r e).params (k.1.written r e).table))
+      by None e = (Num, (refl, (i, whole_ty _ i sc (Load place) (k.1.unwritten_whole e) (inr refers, y), k.1.unwritten_this e, k.1.unwritten_known e, k.2), k.1.unwritten_params e, enters_open (k.1.unwritten_inward e ∙ ap (role_inward role.Destructor) k.2)))
+      by (Some r) e = (Num, (refl, (i, whole_ty _ i sc (Load place) (k.1.written_whole r e) (inr refers, y), (k.1.written r e).this, (k.1.written r e).known, k.2), like_none (params_of p r) (t.routine r).params p (k.1.written r e).params (k.1.written r e).table, enters_open (k.1.written_inward r e ∙ ap (role_inward role.Destructor) k.2)))
   destroyed_fine sc p ACluster place k y = (Num, (refl, (inr refers, y)))
   destroyed_fine sc p AProcessor place k y = (Num, (refl, (inr refers, y)))
 
-  -- of an object that is declared the scope knows the place
-  cleans_one : (p : Program) (m : Making) (k : ℕ) → Making_is p m → Cleans t (Var k (making_ty m)) (Destroys (destroyed p m (Variable k)))
-  cleans_one p (APlain i) k w = by (written_at p i role.Destructor) refl
+  -- a clean-up destroys what stands at its place
+  destroyed_at : (p : Program) (m : Making) (place : Expr) → Making_is p m → DestroysAt t (making_ty m) place (destroyed p m place)
+  destroyed_at p (APlain i) place w = by (written_at p i role.Destructor) refl
     where
-      by : (o : Option ℕ) → written_at p i role.Destructor ≡ o → Cleans t (Var k (Obj i)) (Destroys (called_by p i role.Destructor (Variable k) [] o))
+      by : (o : Option ℕ) → written_at p i role.Destructor ≡ o → DestroysAt t (Obj i) place (called_by p i role.Destructor place [] o)
       by None e = (refl, w.1.unwritten_this e)
       by (Some r) e = (refl, (w.1.written r e).this)
-  cleans_one p (AMutex i) k w = by (written_at p i role.Destructor) refl
+  destroyed_at p (AMutex i) place w = by (written_at p i role.Destructor) refl
     where
-      by : (o : Option ℕ) → written_at p i role.Destructor ≡ o → Cleans t (Var k (Cell (Obj i))) (Destroys (ended_by p i (Load (Variable k)) o))
+      by : (o : Option ℕ) → written_at p i role.Destructor ≡ o → DestroysAt t (Cell (Obj i)) place (ended_by p i (Load place) o)
       by None e = (refl, w.1.unwritten_this e)
       by (Some r) e = (refl, (w.1.written r e).this)
-  cleans_one p ACluster k w = refl
-  cleans_one p AProcessor k w = refl
+  destroyed_at p ACluster place w = refl
+  destroyed_at p AProcessor place w = refl
 
-  cleans_all : (p : Program) (m : Making) (k : ℕ) (l : Option ℕ) → Making_is p m → Cleans t (Var k (declared_ty l (making_ty m))) (clean_up p m l (Variable k))
-  cleans_all p m k None w = cleans_one p m k w
-  cleans_all p m k (Some n) w = refl
+  element_kept : (p : Program) (m : Making) → Making_is p m → made_shape p m ≡ element_shape t (making_ty m)
+  element_kept p (APlain i) w = sym w.3
+  element_kept p (AMutex i) w = refl
+  element_kept p ACluster w = refl
+  element_kept p AProcessor w = refl
+
+  pub cleans_at : (p : Program) (m : Making) (l : Option ℕ) (place : Expr) → Making_is p m → CleansAt t (declared_ty l (making_ty m)) place (clean_up p m l place)
+  cleans_at p m None place w = destroyed_at p m place w
+  cleans_at p m (Some n) place w =
+      (refl, subst (λ s. DestroysAt t (making_ty m) (Element n s place (OfObject Counted)) (destroyed p m (counted_element p m n place))) (element_kept p m w) (destroyed_at p m (counted_element p m n place) w))
 
   raw_placed : (p : Program) (m : Making) → Making_is p m → IsPlaced t (raw (making_ty m))
   raw_placed p (APlain i) w = w.2
@@ -161,7 +177,7 @@ module _ (t : Table) (g : Sig) (refers : t.refers ≡ true) where
       plain i k h v w =
           let c = class_of_base p b i k h in
           let e : is_event c.0.kind ≡ false = ap is_event c.2 ∙ v in
-          ((told.makers i c.0 role.Constructor c.1 e refl, told.makers i c.0 role.Destructor c.1 e refl, classes b i k h ∙ w), ap (λ z. place_by z (Obj i)) (sym w))
+          ((told.makers i c.0 role.Constructor c.1 e refl, told.makers i c.0 role.Destructor c.1 e refl, classes b i k h ∙ w, (told.classes i c.0 c.1).shape), ap (λ z. place_by z (Obj i)) (sym w))
 
       mutex : (i : ℕ) (k : Kind) → sort_of p b ≡ Some (sort.Object i k) → is_event k ≡ false → is_mutex k ≡ true → Making_is p (AMutex i) × (Cell (Obj i) ≡ place_by (is_mutex k) (Obj i))
       mutex i k h v w =
@@ -378,7 +394,7 @@ module _ (t : Table) (g : Sig) (refers : t.refers ≡ true) where
       let st = name_stood t g refers (x ∷ sc) env s b d so r placed in
       let w = within_more t g refers (x ∷ sc) env s.class s.names (seen_as env b d) (declared_known p s b d) refl a st wide in
       let more = objects b so m line rest ds (x ∷ sc) (declared env b d) (with_declared p s b d) w (omega (arith, l)) (further p b d ds s held) k q (second (variable_visits env b d) (variables_visits (declared env b d) b ds) u) f in
-      ((l, tt, tt), (build_fine sc p line m len (Variable s.cells) (start_args p s d.start) told.0 y (λ e. declarator_single sc env s h b d so m r q told.0 given (no_length p d d.len e)) (λ e. arrays sc env s h b d so m r q told.0 d.len refl e), (x, cleans_all p m s.cells len told.0, more, clean_fine sc p m len (Variable s.cells) told.0 y)))
+      ((l, tt, tt), (build_fine sc p line m len (Variable s.cells) (start_args p s d.start) told.0 y (λ e. declarator_single sc env s h b d so m r q told.0 given (no_length p d d.len e)) (λ e. arrays sc env s h b d so m r q told.0 d.len refl e), (x, cleans_at p m len (Variable s.cells) told.0, more, clean_fine sc p m len (Variable s.cells) told.0 y)))
     where
       no_length : (p : Program) (d : Declarator) (l : Option expr.Expr) → length_of p d l ≡ None → l ≡ None
       no_length p d None e = refl

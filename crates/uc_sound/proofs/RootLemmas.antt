@@ -1,17 +1,20 @@
 -- Names of members: both look-ups find the same one, or neither does.
 use Rattle.std.proofs.Common.{◌≡◌, ℕ, zero, suc, ◌+◌, inl, inr, List, [], ◌∷◌, Option, Some, None, Bool, true, false, refl, sym, ap, ◌∙◌, subst, arith}
-use Rattle.std.specs.Prelude.{◌&&◌, slice_get, take, if◌then◌else◌, nat_eq, option_and_then}
+use Rattle.std.specs.Prelude.{◌&&◌, slice_get, take, if◌then◌else◌, nat_eq, is_some, option_and_then}
 use Rattle.std.specs.List.{list_any}
 use Rattle.uc_tree.specs.declared.kinds.Access.{Access}
 use Rattle.uc_tree.specs.declared.kinds.Base.{Base}
+use Rattle.uc_tree.specs.declared.kinds.Kind.{Kind}
+use Rattle.uc_tree.specs.declared.kinds.Kind.TheVariants as kind
 use Rattle.uc_tree.specs.declared.pos.Pos.{Pos}
 use Rattle.uc_tree.specs.Names.{same_name}
 use Rattle.uc_tree.specs.Cells.{leading_cells}
-use Rattle.uc_tree.specs.Numbering.{is_event, is_mutex, is_plain, member_number, exclusive_names, at_most, place_from, routines_of}
+use Rattle.uc_tree.specs.Numbering.{is_event, is_mutex, is_plain, main_name, member_number, exclusive_names, at_most, place_from, routines_of}
 use Rattle.uc_tree.specs.declared.limits.TheConstants.{MEMBERS}
 use Rattle.uc_tree.specs.Objects.{ClassField, fields_of, class_at, number_at, member_from, is_member, is_coroutine}
 use Rattle.uc_tree.specs.Statements.{Declarator}
 use Rattle.uc_tree.specs.Programs.{Sig as Declared, Class, Member, MemberForm, FieldsMember, RoutineMember, ProtoMember, Program}
+use Rattle.uc_tree.specs.Source.{OfObject, This}
 use Rattle.uc_resolve.specs.Standings as tree
 use Rattle.uc_resolve.specs.Standings.{Standing, AsMember, AsLiveMember, AsMutexMember}
 use Rattle.uc_rules.specs.declared.rule.Rule.TheVariants.{S2}
@@ -21,19 +24,22 @@ use Rattle.uc_rules.specs.declared.rules.Origin.TheVariants as origin
 use Rattle.uc_rules.specs.Names as rules
 use Rattle.uc_rules.specs.Names.{Owned, first_of, is_inner_only, form_sig, method_sig, member_named, members_named, declared_entity, variable}
 use Rattle.uc_rules.specs.ClassBreaks.{form_declares_names, members_declare, is_kept, is_new_member, is_new_field, is_new_routine_by, fields_at}
+use Rattle.uc_rules.specs.Entities.{is_main_sig}
 use Rattle.uc_rules.specs.ProgramVisits.{program_visits}
-use Rattle.uc_typing.specs.Typing.{Obj, Name, Sig, Table, Yields}
-use Rattle.uc_agreement.specs.Agreement.{AreLike, Agrees, IsMethod}
+use Rattle.uc_typing.specs.Typing.{Obj, Name, Apart, Sig, Table, Yields}
+use Rattle.uc_agreement.specs.Agreement.{AreLike, Agrees, IsMethod, IsReached}
 use Rattle.uc_agreement.specs.Unbroken.{Unbroken}
 use Rattle.uc_agreement.proofs.Ties.{some_same, none_some, false_true}
 use Rattle.uc_agreement.proofs.UnbrokenLemmas.{holds}
+use Rattle.uc_agreement.proofs.FieldsLemmas.{found}
 use Rattle.uc_sound.specs.Formed.{IsFormed}
+use Rattle.uc_sound.specs.Tables.{entity_helps, helps_in, inward_by, inward_in}
 use Rattle.uc_sound.specs.Told.{Told}
 use Rattle.uc_sound.proofs.Lists.{left_is, right_is, both_are, not_either, any_from, in_left, in_right, map_at, get_take, Order, before, same, behind, order}
 use Rattle.uc_sound.proofs.Visited.{FieldRules, home, field_rules}
 use Rattle.uc_sound.proofs.ClassNames.{same_is, is_same, number_of}
 use Rattle.uc_sound.proofs.Origins.{origin, looked, member_looked}
-use Rattle.uc_sound.proofs.MemberLemmas.{Declares, sig_rules, home_is, belongs, declares, not_event}
+use Rattle.uc_sound.proofs.MemberLemmas.{Declares, sig_rules, not_earlier, home_is, belongs, declares, not_event}
 use Rattle.uc_rules.specs.OwnerBreaks.{is_field_origin, is_mutex_field_of}
 use Rattle.uc_tree.specs.declared.kinds.Role.{Role}
 use Rattle.uc_tree.specs.declared.kinds.Role.TheVariants as role
@@ -42,7 +48,7 @@ use Rattle.std.proofs.lemmas.Bool.{eqb-true}
 -- what a member of a class stands for: a field, or a routine that one declares
 pub data Meaning (i : ℕ) (c : Class) (name : List ℕ) (x : NameMeaning) : Type 0 where
   a_field : is_field_origin x.origin ≡ true → is_mutex_field_of (Some x) ≡ is_mutex c.kind → Meaning i c name x
-  a_method : (j : ℕ) (inner : Bool) (sig : Declared) → Declares c j sig → is_plain sig.role ≡ true → sig.name ≡ name → x.entity ≡ Some (entity.Method i j inner false) → Meaning i c name x
+  a_method : (j : ℕ) (inner : Bool) (sig : Declared) (d : Declares c j sig) → is_plain sig.role ≡ true → sig.name ≡ name → x.entity ≡ Some (entity.Method i j inner false) → inner ≡ is_inner_only c.kind d.m.mark d.m.access → Meaning i c name x
 
 first_none : {A : Type 0} (a b : Option A) → first_of a b ≡ None → (a ≡ None) × (b ≡ None)
 first_none None b h = (refl, h)
@@ -72,17 +78,17 @@ module _ (p : Program) (i : ℕ) (c : Class) (name : List ℕ) where
           a_field (ap (λ (m : NameMeaning). is_field_origin m.origin) (sym (some_same h))) (ap (λ (m : NameMeaning). is_mutex_field_of (Some m)) (sym (some_same h)))
       by false h g = g h
 
-  method : (m : Member) (j : ℕ) (sig : Declared) (inner : Bool) (a : Access) (x : NameMeaning) (other : Option NameMeaning) (z : Bool) → (is_plain sig.role && same_name sig.name name) ≡ z → slice_get c.members j ≡ Some m → form_sig m.form ≡ Some sig → first_of (if z then Some (record { entity = Some (entity.Method i j inner false); origin = origin.Method i a }) else None) other ≡ Some x → (other ≡ Some x → Meaning i c name x) → Meaning i c name x
-  method m j sig inner a x other true w e q h f =
-      a_method j inner sig (record { m = m; at = e; form = q }) (left_is (is_plain sig.role) (same_name sig.name name) w) (same_is sig.name name (right_is (is_plain sig.role) (same_name sig.name name) w)) (ap (λ (m : NameMeaning). m.entity) (sym (some_same h)))
-  method m j sig inner a x other false w e q h f = f h
+  method : (m : Member) (j : ℕ) (sig : Declared) (inner : Bool) (a : Access) (x : NameMeaning) (other : Option NameMeaning) (z : Bool) → (is_plain sig.role && same_name sig.name name) ≡ z → slice_get c.members j ≡ Some m → form_sig m.form ≡ Some sig → inner ≡ is_inner_only c.kind m.mark m.access → first_of (if z then Some (record { entity = Some (entity.Method i j inner false); origin = origin.Method i a }) else None) other ≡ Some x → (other ≡ Some x → Meaning i c name x) → Meaning i c name x
+  method m j sig inner a x other true w e q n h f =
+      a_method j inner sig (record { m = m; at = e; form = q }) (left_is (is_plain sig.role) (same_name sig.name name) w) (same_is sig.name name (right_is (is_plain sig.role) (same_name sig.name name) w)) (ap (λ (m : NameMeaning). m.entity) (sym (some_same h))) n
+  method m j sig inner a x other false w e q n h f = f h
 
   by_form : (m : Member) (j : ℕ) (form : MemberForm) (x : NameMeaning) (other : Option NameMeaning) → slice_get c.members j ≡ Some m → m.form ≡ form → first_of (rules.form_named p o m.mark m.access j form name) other ≡ Some x → (other ≡ Some x → Meaning i c name x) → Meaning i c name x
   by_form m j (FieldsMember at b ds) x other e q h f = among j 0 m.access b ds x other h f
   by_form m j (RoutineMember r) x other e q h f =
-      method m j r.sig (is_inner_only c.kind m.mark m.access) m.access x other (is_plain r.sig.role && same_name r.sig.name name) refl e (ap form_sig q) h f
+      method m j r.sig (is_inner_only c.kind m.mark m.access) m.access x other (is_plain r.sig.role && same_name r.sig.name name) refl e (ap form_sig q) refl h f
   by_form m j (ProtoMember s) x other e q h f =
-      method m j s (is_inner_only c.kind m.mark m.access) m.access x other (is_plain s.role && same_name s.name name) refl e (ap form_sig q) h f
+      method m j s (is_inner_only c.kind m.mark m.access) m.access x other (is_plain s.role && same_name s.name name) refl e (ap form_sig q) refl h f
 
   means : (ms : List Member) (j : ℕ) (x : NameMeaning) → Behind j ms → members_named p o j ms name ≡ Some x → Meaning i c name x
   means [] j x b h = none_some h
@@ -216,6 +222,24 @@ module _ (p : Program) (i : ℕ) (c : Class) (name : List ℕ) where
         by_event true v = refl
         by_event false v = ap (tree.method_by p c w name) (unfound v (member_from (routines_of p) 0 (number_at p i) name) refl)
 
+    -- a member helps inside by its mark and its access
+    pub helps_is : (j : ℕ) (sig : Declared) (d : Declares c j sig) → is_plain sig.role ≡ true → sig.name ≡ name → helps_in (member_named p i name) ≡ is_inner_only c.kind d.m.mark d.m.access
+    helps_is j sig d w s = by (member_named p i name) refl
+      where
+        one : (l : ℕ) (b : Declared) (z : Declares c l b) → is_plain b.role ≡ true → b.name ≡ name → Order j l → is_inner_only c.kind z.m.mark z.m.access ≡ is_inner_only c.kind d.m.mark d.m.access
+        one l b z v q (before x) = not_earlier p formed u i c j l sig b e d z w v (s ∙ sym q) x
+        one l b z v q (same x) = let m : z.m ≡ d.m = some_same (sym z.at ∙ (ap (slice_get c.members) (sym x) ∙ d.at)) in ap (λ (m : Member). is_inner_only c.kind m.mark m.access) m
+        one l b z v q (behind x) = not_earlier p formed u i c l j b sig e z d v w (q ∙ sym s) x
+
+        by_meaning : (x : NameMeaning) → member_named p i name ≡ Some x → Meaning i c name x → entity_helps x.entity ≡ is_inner_only c.kind d.m.mark d.m.access
+        by_meaning x h (a_field r k) =
+            none_some (sym (field_none (fields_of c.members) (leading_cells c.kind) (method_field j sig d w s)) ∙ (found p i c name x e h r).named)
+        by_meaning x h (a_method l inner b z v q n k) = ap entity_helps n ∙ (k ∙ one l b z v q (order j l))
+
+        by : (o : Option NameMeaning) → member_named p i name ≡ o → helps_in o ≡ is_inner_only c.kind d.m.mark d.m.access
+        by None h = absurd (none_declares e h j sig d w s)
+        by (Some x) h = by_meaning x h (meaning x e h)
+
     numbers_mutex : (m : ℕ) → member_number c name ≡ Some m → is_mutex c.kind ≡ true
     numbers_mutex m h = by (is_mutex c.kind) h
       where
@@ -223,8 +247,8 @@ module _ (p : Program) (i : ℕ) (c : Class) (name : List ℕ) where
         by true h = refl
         by false h = none_some h
 
-    pub method_agrees : (t : Table) (g : Sig) (sc : List Name) → Told t p → t.mutex i ≡ is_mutex c.kind → (w : tree.Whose) → Yields t g sc (tree.object_of_whose w) (Obj i) → (j : ℕ) (inner path : Bool) (sig : Declared) → Declares c j sig → is_plain sig.role ≡ true → sig.name ≡ name → Agrees t g sc p (entity.Method i j inner path) (tree.member_meant p i w name)
-    method_agrees t g sc told mutex w y j inner path sig d k s =
+    pub method_agrees : (t : Table) (g : Sig) (sc : List Name) → Told t p → t.mutex i ≡ is_mutex c.kind → (w : tree.Whose) → Yields t g sc (tree.object_of_whose w) (Obj i) → (j : ℕ) (inner path : Bool) (sig : Declared) → Declares c j sig → is_plain sig.role ≡ true → sig.name ≡ name → helps_in (member_named p i name) ≡ inner → (path ≡ false → tree.object_of_whose w ≡ OfObject This) → Agrees t g sc p (entity.Method i j inner path) (tree.member_meant p i w name)
+    method_agrees t g sc told mutex w y j inner path sig d k s helps own =
         let ms : method_sig p i j ≡ Some sig = ap (option_and_then (λ (c : Class). option_and_then (λ (m : Member). form_sig m.form) (slice_get c.members j))) e ∙ (ap (option_and_then (λ (m : Member). form_sig m.form)) d.at ∙ d.form) in
         let tells = told.members i j c sig e ms k in
         let r = tells.number in
@@ -238,8 +262,33 @@ module _ (p : Program) (i : ℕ) (c : Class) (name : List ℕ) where
           this = tells.routine.this;
           plain = tells.plain;
           known = tells.routine.known;
+          reached = λ main.
+              let n : same_name name main_name ≡ false = ap (λ z. same_name z main_name) (sym s) ∙ (ap is_main_sig (sym ms) ∙ main) in
+              subst (IsReached t g sc inner path r (found_as w r)) (sym (tells.inward ∙ (ap (λ o. inward_in p i o sig.role sig.name) e ∙ (ap (λ (o : Role). inward_in p i (Some c) o sig.name) (plain_role sig.role k) ∙ (ap (inward_in p i (Some c) role.Plain) s ∙ ap (λ (b : Bool). if is_mutex c.kind then inward_by role.Plain b (is_some (member_number c name)) (helps_in (member_named p i name)) else Apart) n)))))
+              (reached r (is_mutex c.kind) refl (member_number c name) refl (helps_in (member_named p i name)) refl);
         })
       where
+        plain_role : (o : Role) → is_plain o ≡ true → o ≡ role.Plain
+        plain_role role.Plain h = refl
+        plain_role role.Constructor h = false_true h
+        plain_role role.Destructor h = false_true h
+
+        no_coroutine : (k : Kind) → is_mutex k ≡ true → is_coroutine k ≡ false
+        no_coroutine kind.Class h = refl
+        no_coroutine kind.Coroutine h = false_true h
+        no_coroutine kind.Monitor h = refl
+        no_coroutine kind.Cormonitor h = refl
+        no_coroutine kind.Task h = refl
+        no_coroutine kind.Event h = refl
+
+        -- what neither a mutex member nor a main is helps inside where the rules say so
+        reached : (r : ℕ) (b : Bool) → is_mutex c.kind ≡ b → (o : Option ℕ) → member_number c name ≡ o → (h : Bool) → helps_in (member_named p i name) ≡ h → IsReached t g sc inner path r (found_as w r) (if b then inward_by role.Plain false (is_some o) h else Apart)
+        reached r false b o n h q = inl tt
+        reached r true b (Some m) n h q = inl tt
+        reached r true b None n false q = inl tt
+        reached r true b None n true q =
+            inr (refl, sym helps ∙ q, ap (λ o. tree.method_standing c.kind w o r) n ∙ ap (λ (z : Bool). if z && tree.is_path w then AsLiveMember r else AsMember r) (no_coroutine c.kind b), own)
+
         stands : (r : ℕ) (o : Option ℕ) → member_number c name ≡ o → IsMethod t g sc r i (tree.method_standing c.kind w o r)
         stands r (Some m) q = inr (m, refl, mutex ∙ numbers_mutex m q)
         stands r None q = by (is_coroutine c.kind && tree.is_path w)

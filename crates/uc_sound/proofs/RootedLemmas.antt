@@ -36,7 +36,7 @@ use Rattle.uc_rules.specs.OwnerBreaks.{is_mutex_field_of, names_condition, is_co
 use Rattle.uc_rules.specs.ClassBreaks.{is_new_field, fields_at, home_leads_back, is_field_sort}
 use Rattle.uc_rules.specs.ExpressionBreaks.{length_breaks, length_value_breaks, is_no_event}
 use Rattle.uc_rules.specs.ProgramVisits.{program_visits, sig_visits, outer_env}
-use Rattle.uc_typing.specs.Typing.{Obj, Name, Sig, Table, Executing, InMutex, Yields}
+use Rattle.uc_typing.specs.Typing.{Obj, Name, Sig, Table, Executing, InMutex, Yields, IsInside}
 use Rattle.uc_agreement.specs.Agreement.{StandsBy, Agrees, AgreesIf, IsMethod}
 use Rattle.uc_agreement.specs.Unbroken.{Unbroken, Stands}
 use Rattle.uc_agreement.proofs.Ties.{some_same, none_some, false_true}
@@ -44,13 +44,13 @@ use Rattle.uc_agreement.proofs.UnbrokenLemmas.{none_right, first}
 use Rattle.uc_agreement.proofs.FieldsLemmas.{Found, found, law_fields}
 use Rattle.uc_agreement.proofs.ItemsLemmas.{law_items}
 use Rattle.uc_sound.specs.Formed.{IsFormed}
-use Rattle.uc_sound.specs.Tables.{of_kind, table_of}
+use Rattle.uc_sound.specs.Tables.{of_kind, entity_helps, helps_in, table_of}
 use Rattle.uc_sound.specs.Told.{Told}
 use Rattle.uc_sound.specs.Rooted.{IsStood, Rooted}
 use Rattle.uc_sound.proofs.Lists.{left_is}
 use Rattle.uc_sound.proofs.Visited.{sort_holds, home, field_rules, item_rules, sig_ret}
 use Rattle.uc_sound.proofs.MemberLemmas.{sig_rules, method_at}
-use Rattle.uc_sound.proofs.ClassLemmas.{mutex_is, law_told}
+use Rattle.uc_sound.proofs.ClassLemmas.{mutex_is, task_is, law_told}
 use Rattle.uc_sound.proofs.RootLemmas.{Meaning, a_field, a_method, meaning, nothing_is, method_agrees}
 
 variable_stood : (r : Bool) (l : Option expr.Expr) (n : ℕ) (s : Sort) → IsStood (Some (variable r l n s))
@@ -170,28 +170,28 @@ module _ (p : Program) (formed : IsFormed p) (u : Unbroken (program_visits p)) w
 
     by_meaning : Meaning i c name x → IsStood x.entity
     by_meaning (a_field r k) = let v = field_variable r in subst IsStood (sym v.is) (variable_stood v.by_ref v.len v.count v.sort)
-    by_meaning (a_method j inner sig d w n q) = subst IsStood (sym q) tt
+    by_meaning (a_method j inner sig d w n q k) = subst IsStood (sym q) tt
 
     member_stood : IsStood x.entity
     member_stood = by_meaning (meaning p i c name x e h)
 
     -- in a routine of the class
-    own_by : (g : Sig) (sc : List Name) → g.this ≡ Some i → Meaning i c name x → (w : Entity) → x.entity ≡ Some w → Agrees t g sc p w (tree.own_meant p (Some i) name)
-    own_by g sc this (a_field r k) w q =
+    own_by : (g : Sig) (sc : List Name) → g.this ≡ Some i → (names_condition (Some x) ≡ true → IsInside g.inward) → Meaning i c name x → (w : Entity) → x.entity ≡ Some w → Agrees t g sc p w (tree.own_meant p (Some i) name)
+    own_by g sc this within (a_field r k) w q =
         let v = field_variable r in
-        let inside : names_condition (Some x) ≡ true → t.mutex i ≡ true = λ z. ap (of_kind is_mutex) e ∙ v.condition (of_conditions v.by_ref v.len v.count v.sort (sym (ap is_condition_of v.is) ∙ z)) in
+        let inside : names_condition (Some x) ≡ true → (t.mutex i ≡ true) × IsInside g.inward = λ z. (ap (of_kind is_mutex) e ∙ v.condition (of_conditions v.by_ref v.len v.count v.sort (sym (ap is_condition_of v.is) ∙ z)), within z) in
         let same : variable v.by_ref v.len v.count v.sort ≡ w = some_same (sym v.is ∙ q) in
         let m = tree.member_meant p i tree.Own name in
         let a : Agrees t g sc p (variable v.by_ref v.len v.count v.sort) m = (law_fields t g sc p i c (told.classes i c e)).own name x this inside h r (variable v.by_ref v.len v.count v.sort) v.is in
         subst (λ w. Agrees t g sc p w (tree.own_meant p (Some i) name)) same (subst (Agrees t g sc p (variable v.by_ref v.len v.count v.sort)) (sym (picks t g sc p v.by_ref v.len v.count v.sort m (tree.item_meant p name) a)) a)
-    own_by g sc this (a_method j inner sig d k n z) w q =
+    own_by g sc this within (a_method j inner sig d k n z y) w q =
         let m = tree.member_meant p i tree.Own name in
-        let a = method_agrees p i c name formed u e t g sc told (ap (of_kind is_mutex) e) tree.Own (i, this, refl) j inner false sig d k n in
+        let a = method_agrees p i c name formed u e t g sc told (ap (of_kind is_mutex) e) tree.Own (i, this, refl) j inner false sig d k n (ap helps_in h ∙ ap entity_helps z) (λ f. refl) in
         let same : entity.Method i j inner false ≡ w = some_same (sym z ∙ q) in
         subst (λ w. Agrees t g sc p w (tree.own_meant p (Some i) name)) same (subst (Agrees t g sc p (entity.Method i j inner false)) (sym (method_picks t g sc a.number a.class m.standing m (tree.item_meant p name) a.standing)) a)
 
-    own_agrees : (g : Sig) (sc : List Name) → g.this ≡ Some i → AgreesIf t g sc p x.entity (tree.own_meant p (Some i) name)
-    own_agrees g sc this w q = own_by g sc this (meaning p i c name x e h) w q
+    own_agrees : (g : Sig) (sc : List Name) → g.this ≡ Some i → (names_condition (Some x) ≡ true → IsInside g.inward) → AgreesIf t g sc p x.entity (tree.own_meant p (Some i) name)
+    own_agrees g sc this within w q = own_by g sc this within (meaning p i c name x e h) w q
 
     -- behind a path
     open_some : (b : Bool) (o : Option Entity) (w : Entity) → (if b then entity_by_path o else None) ≡ Some w → entity_by_path o ≡ Some w
@@ -204,9 +204,9 @@ module _ (p : Program) (formed : IsFormed p) (u : Unbroken (program_visits p)) w
         let same : variable v.by_ref v.len v.count v.sort ≡ w = sym (variable_path v.by_ref v.len v.count v.sort) ∙ some_same (sym (ap entity_by_path v.is) ∙ q) in
         let a = (law_fields t g sc p i c (told.classes i c e)).path m name x y (ap (of_kind is_mutex) e ∙ (sym k ∙ no_mutex)) h r no_condition (variable v.by_ref v.len v.count v.sort) v.is in
         subst (λ w. Agrees t g sc p w (tree.member_meant p i (tree.Of m) name)) same a
-    path_by g sc m y no_mutex no_condition (a_method j inner sig d k n z) w q =
+    path_by g sc m y no_mutex no_condition (a_method j inner sig d k n z y1) w q =
         let same : entity.Method i j inner true ≡ w = some_same (sym (ap entity_by_path z) ∙ q) in
-        subst (λ w. Agrees t g sc p w (tree.member_meant p i (tree.Of m) name)) same (method_agrees p i c name formed u e t g sc told (ap (of_kind is_mutex) e) (tree.Of m) y j inner true sig d k n)
+        subst (λ w. Agrees t g sc p w (tree.member_meant p i (tree.Of m) name)) same (method_agrees p i c name formed u e t g sc told (ap (of_kind is_mutex) e) (tree.Of m) y j inner true sig d k n (ap helps_in h ∙ ap entity_helps z) (λ f. false_true (sym f)))
 
   member_known : (i : ℕ) (name : List ℕ) (x : NameMeaning) → member_named p i name ≡ Some x → (c : Class) × (class_at p i ≡ Some c)
   member_known i name x h = by (class_at p i) h
@@ -281,20 +281,20 @@ module _ (p : Program) (formed : IsFormed p) (u : Unbroken (program_visits p)) w
   HomeIs d (Some h) = (c : Class) × (class_at p h.class ≡ Some c) × (h.kind ≡ c.kind) × (place_by p d ≡ Some h.class)
 
   abbrev Names : Sig → Option OwnClass → Bool → Option ℕ → Type 0
-  Names g o main class = (sc : List Name) (name : List ℕ) → AgreesIf t g sc p (meant_entity (named_behind (own_named p main o name) (outer_named p name))) (tree.own_meant p class name)
+  Names g o main class = (sc : List Name) (name : List ℕ) → (names_condition (named_behind (own_named p main o name) (outer_named p name)) ≡ true → IsInside g.inward) → AgreesIf t g sc p (meant_entity (named_behind (own_named p main o name) (outer_named p name))) (tree.own_meant p class name)
 
   in_class_agree : (g : Sig) (main : Bool) (h : OwnClass) (c : Class) → class_at p h.class ≡ Some c → g.this ≡ Some h.class → Names g (Some h) main (Some h.class)
-  in_class_agree g main h c e this sc name = by (member_named p h.class name) refl
+  in_class_agree g main h c e this sc name inside = by (member_named p h.class name) refl inside
     where
-      by : (o : Option NameMeaning) → member_named p h.class name ≡ o → AgreesIf t g sc p (meant_entity (named_behind o (outer_named p name))) (tree.own_meant p (Some h.class) name)
-      by (Some x) q = own_agrees h.class c e name x q g sc this
-      by None q =
+      by : (o : Option NameMeaning) → member_named p h.class name ≡ o → (names_condition (named_behind o (outer_named p name)) ≡ true → IsInside g.inward) → AgreesIf t g sc p (meant_entity (named_behind o (outer_named p name))) (tree.own_meant p (Some h.class) name)
+      by (Some x) q inside = own_agrees h.class c e name x q g sc this inside
+      by None q inside =
           let n = nothing_is p h.class c name formed u e tree.Own q in
           let same : tree.own_meant p (Some h.class) name ≡ tree.item_meant p name = ap (λ (m : tree.Meant). tree.meant_or m.standing m (tree.item_meant p name)) n in
           subst (AgreesIf t g sc p (meant_entity (outer_named p name))) (sym same) (outer_agrees g sc name)
 
   main_agree : (g : Sig) (main : Bool) → Names g None main None
-  main_agree g main sc name =
+  main_agree g main sc name inside =
       law_items t g sc (plain_env p (record { home = None; main = main; role = role.Plain; inner = false; returns = false; in_loop = false; in_handler = false; joins = false; bound = None })) u told.routines refl name refl
 
   abbrev AllStood : Option OwnClass → Bool → Type 0
@@ -338,15 +338,17 @@ module _ (p : Program) (formed : IsFormed p) (u : Unbroken (program_visits p)) w
       by kind.Task w = false_true w
       by kind.Event w = false_true w
 
-  accepts : (g : Sig) (h : OwnClass) (c : Class) (mark : MutexMark) (sig : Declared) → class_at p h.class ≡ Some c → h.kind ≡ c.kind → g.this ≡ Some h.class → is_inner h mark sig ≡ true → InMutex t g
-  accepts g h c mark sig e k this w =
-      (h.class, this, ap (of_kind is_mutex) e ∙ subst (λ z. is_mutex z ≡ true) k (left_is (is_mutex h.kind) _ w))
+  accepts : (g : Sig) (h : OwnClass) (c : Class) (mark : MutexMark) (sig : Declared) → class_at p h.class ≡ Some c → h.kind ≡ c.kind → g.this ≡ Some h.class → IsInside g.inward → is_inner h mark sig ≡ true → InMutex t g
+  accepts g h c mark sig e k this inside w =
+      (h.class, this, ap (of_kind is_mutex) e ∙ subst (λ z. is_mutex z ≡ true) k (left_is (is_mutex h.kind) _ w), inside)
 
-  pub rooted : (g : Sig) (d : Defined) (o : Option OwnClass) (main : Bool) (mark : MutexMark) → g.this ≡ place_by p d → g.whole ≡ not (is_plain d.routine.sig.role) → (is_plain d.routine.sig.role ≡ false → d.routine.sig.ret ≡ base.Void) → HomeIs d o → Rooted t g p (sig_around p o main mark d.routine.sig) (place_by p d)
-  rooted g d None main mark this whole void at = record {
+  pub rooted : (g : Sig) (d : Defined) (o : Option OwnClass) (main : Bool) (mark : MutexMark) → g.this ≡ place_by p d → g.whole ≡ not (is_plain d.routine.sig.role) → (is_plain d.routine.sig.role ≡ false → d.routine.sig.ret ≡ base.Void) → HomeIs d o → ((h : OwnClass) → o ≡ Some h → is_inner h mark d.routine.sig ≡ true → IsInside g.inward) → Rooted t g p (sig_around p o main mark d.routine.sig) (place_by p d)
+  rooted g d None main mark this whole void at inside = record {
     told = told;
     refers = refl;
     classes = mutex_is p;
+    tasks = task_is p;
+    inside = λ h. false_true h;
     names = subst (Names g None main) (sym at) (main_agree g main);
     stood = all_stood None main;
     member = path_agrees g None;
@@ -356,10 +358,12 @@ module _ (p : Program) (formed : IsFormed p) (u : Unbroken (program_visits p)) w
     switching = λ h q w. none_some q;
     accepting = λ h. false_true h;
   }
-  rooted g d (Some h) main mark this whole void at = record {
+  rooted g d (Some h) main mark this whole void at inside = record {
     told = told;
     refers = refl;
     classes = mutex_is p;
+    tasks = task_is p;
+    inside = inside h refl;
     names = subst (Names g (Some h) main) (sym at.3) (in_class_agree g main h at.0 at.1 (this ∙ at.3));
     stood = all_stood (Some h) main;
     member = path_agrees g (Some h);
@@ -367,5 +371,5 @@ module _ (p : Program) (formed : IsFormed p) (u : Unbroken (program_visits p)) w
     results = results;
     returning = λ q. whole ∙ returns_plain d.routine.sig void q;
     switching = λ x q w. switches g h at.0 (is_inner h mark d.routine.sig) at.1 at.2 (this ∙ at.3) (subst (λ (z : OwnClass). may_switch_in (is_inner h mark d.routine.sig) z ≡ true) (sym (some_same q)) w);
-    accepting = λ q. accepts g h at.0 mark d.routine.sig at.1 at.2 (this ∙ at.3) (left_is (is_inner h mark d.routine.sig) _ q);
+    accepting = λ q. let w = left_is (is_inner h mark d.routine.sig) _ q in accepts g h at.0 mark d.routine.sig at.1 at.2 (this ∙ at.3) (inside h refl w) w;
   }

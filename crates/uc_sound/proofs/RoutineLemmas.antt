@@ -30,14 +30,14 @@ use Rattle.uc_rules.specs.ClassBreaks.{is_sound_event, is_event_member, is_empty
 use Rattle.uc_rules.specs.Asked.{unless}
 use Rattle.uc_tree.specs.declared.limits.TheConstants.{EVENT_FIELDS, PROGRAM_EVENTS}
 use Rattle.uc_rules.specs.ProgramVisits.{program_visits, sig_visits, outer_env}
-use Rattle.uc_typing.specs.Typing.{Sig as Typed}
+use Rattle.uc_typing.specs.Typing.{IsOpen, Sig as Typed}
 use Rattle.uc_agreement.specs.Agreement.{param_ty, AreLike}
 use Rattle.uc_agreement.specs.Unbroken.{Unbroken}
 use Rattle.uc_agreement.specs.ItemNames.{TellsRoutine, TellsRoutines}
 use Rattle.uc_agreement.proofs.Ties.{some_same, none_some, false_true}
 use Rattle.uc_agreement.proofs.UnbrokenLemmas.{none_right, first, holds}
 use Rattle.uc_sound.specs.Formed.{IsFormed}
-use Rattle.uc_sound.specs.Tables.{table_of}
+use Rattle.uc_sound.specs.Tables.{inward_at, table_of}
 use Rattle.uc_sound.proofs.Lists.{implied, left_is, right_is, both_are, not_both, case_of, any_at, any_from, all_from, get_take, Order, before, same, behind, order}
 use Rattle.uc_sound.proofs.Visited.{item_rules, class_own, sig_known}
 use Rattle.uc_sound.proofs.ClassNames.{same_is, is_same, no_clash_at, number_of}
@@ -318,6 +318,7 @@ module _ (p : Program) (formed : IsFormed p) (u : Unbroken (program_visits p)) w
         table = ap (map (param_ty p)) q ∙ sym (ap (λ (g : Typed). g.params) s.sig);
         alone = ap (λ (g : Typed). g.this) s.sig ∙ (plain_place k.defined w ∙ (ap (place_of p) z ∙ no_place (classes_of p.items)));
         known = s.known;
+        reached = subst IsOpen (sym (ap (λ (g : Typed). g.inward) s.sig ∙ ap (λ o. inward_at p o k.defined.routine.sig.role k.defined.routine.sig.name) (plain_place k.defined w ∙ (ap (place_of p) z ∙ no_place (classes_of p.items))))) tt;
       }
 
   pub tells_routines : TellsRoutines (table_of p) p

@@ -17,7 +17,7 @@ use Rattle.uc_resolve.specs.Resolve.{routine_scope, place_by}
 use Rattle.uc_typing.specs.Typing.{Sig, IsRoutine}
 use Rattle.uc_agreement.proofs.Ties.{some_same, none_some, false_true}
 use Rattle.uc_sound.specs.Tables.{routine_sig_in, written_sigs, unwritten_sig, unwritten_sigs, all_sigs, sig_or_none, table_of}
-use Rattle.uc_sound.proofs.Lists.{both_are, left_is, in_left, in_right, get_right, within, Order, before, same, behind, order}
+use Rattle.uc_sound.proofs.Lists.{both_are, left_is, right_is, in_left, in_right, get_right, within, Order, before, same, behind, order}
 
 written_length : (p : Program) (ds : List Defined) (n t s : ℕ) → length (written_sigs p ds n t s) ≡ length ds
 written_length p [] n t s = refl
@@ -49,7 +49,7 @@ module _ (p : Program) where
   pub has_sig : (n : ℕ) (d : Defined) → slice_get (routines_of p) n ≡ Some d → HasSig n d
   has_sig n d e =
       let r = listed (routines_of p) 0 0 0 n n d (omega arith) e in
-      let a = in_left (written_sigs p (routines_of p) 0 0 0) (unwritten_sigs (unwritten_of p)) n (routine_sig_in p d (routine_scope p d.routine (place_by p d) n r.texts r.sites)) r.at in
+      let a = in_left (written_sigs p (routines_of p) 0 0 0) (unwritten_sigs p (unwritten_of p)) n (routine_sig_in p d (routine_scope p d.routine (place_by p d) n r.texts r.sites)) r.at in
       record { texts = r.texts; sites = r.sites; sig = ap sig_or_none a; known = within (all_sigs p) n (routine_sig_in p d (routine_scope p d.routine (place_by p d) n r.texts r.sites)) a }
 
   -- what nobody wrote
@@ -111,8 +111,14 @@ module _ (p : Program) where
   self_role role.Constructor = refl
   self_role role.Destructor = refl
 
+  same_roles : (a b : Role) → same_role a b ≡ true → b ≡ a
+  same_roles role.Plain role.Plain h = refl
+  same_roles role.Constructor role.Constructor h = refl
+  same_roles role.Destructor role.Destructor h = refl
+  same_roles _ _ h = false_true h
+
   -- what is found among them is of the class and of the role
-  among : (us : List Unwritten) (i : ℕ) (wanted : Role) (k : ℕ) → slice_get us k ≡ Some (record { class = i; role = wanted }) → (u : Unwritten) × (slice_get us (place_among us i wanted) ≡ Some u) × (u.class ≡ i)
+  among : (us : List Unwritten) (i : ℕ) (wanted : Role) (k : ℕ) → slice_get us k ≡ Some (record { class = i; role = wanted }) → (u : Unwritten) × (slice_get us (place_among us i wanted) ≡ Some u) × (u.class ≡ i) × (u.role ≡ wanted)
   among [] i wanted k e = none_some e
   among (x ∷ us) i wanted k e = by (nat_eq x.class i && same_role wanted x.role) refl (λ m q. among us i wanted m q)
     where
@@ -121,13 +127,13 @@ module _ (p : Program) where
           false_true (sym w ∙ subst (λ (z : Unwritten). (nat_eq z.class i && same_role wanted z.role) ≡ true) (sym (some_same e)) (both_are (nat_eq i i) (same_role wanted wanted) (eq-eqb i i refl) (self_role wanted)))
       further (suc k) e w = (k, e)
 
-      by : (b : Bool) → (nat_eq x.class i && same_role wanted x.role) ≡ b → ((m : ℕ) → slice_get us m ≡ Some (record { class = i; role = wanted }) → (u : Unwritten) × (slice_get us (place_among us i wanted) ≡ Some u) × (u.class ≡ i)) → (u : Unwritten) × (slice_get (x ∷ us) (if b then 0 else suc (place_among us i wanted)) ≡ Some u) × (u.class ≡ i)
-      by true w ih = (x, refl, eqb-true x.class i (left_is (nat_eq x.class i) (same_role wanted x.role) w))
+      by : (b : Bool) → (nat_eq x.class i && same_role wanted x.role) ≡ b → ((m : ℕ) → slice_get us m ≡ Some (record { class = i; role = wanted }) → (u : Unwritten) × (slice_get us (place_among us i wanted) ≡ Some u) × (u.class ≡ i) × (u.role ≡ wanted)) → (u : Unwritten) × (slice_get (x ∷ us) (if b then 0 else suc (place_among us i wanted)) ≡ Some u) × (u.class ≡ i) × (u.role ≡ wanted)
+      by true w ih = (x, refl, eqb-true x.class i (left_is (nat_eq x.class i) (same_role wanted x.role) w), same_roles wanted x.role (right_is (nat_eq x.class i) (same_role wanted x.role) w))
       by false w ih = let m = further k e w in ih m.0 m.1
 
-  sigs_at : (us : List Unwritten) (k : ℕ) (u : Unwritten) → slice_get us k ≡ Some u → slice_get (unwritten_sigs us) k ≡ Some (unwritten_sig u)
+  sigs_at : (us : List Unwritten) (k : ℕ) (u : Unwritten) → slice_get us k ≡ Some u → slice_get (unwritten_sigs p us) k ≡ Some (unwritten_sig p u)
   sigs_at [] k u e = none_some e
-  sigs_at (x ∷ us) zero u e = ap (λ z. Some (unwritten_sig z)) (some_same e)
+  sigs_at (x ∷ us) zero u e = ap (λ z. Some (unwritten_sig p z)) (some_same e)
   sigs_at (x ∷ us) (suc k) u e = sigs_at us k u e
 
   own_unwritten : (i : ℕ) (wanted : Role) → is_plain wanted ≡ false → written_at p i wanted ≡ None → (m : ℕ) × (slice_get (unwritten_at p i) m ≡ Some (record { class = i; role = wanted }))
@@ -140,7 +146,8 @@ module _ (p : Program) where
   pub record IsUnwritten (i : ℕ) (wanted : Role) : Type 0 where
     pub unwritten : Unwritten
     pub class : unwritten.class ≡ i
-    pub sig : (table_of p).routine (unwritten_number p i wanted) ≡ unwritten_sig unwritten
+    pub role_is : unwritten.role ≡ wanted
+    pub sig : (table_of p).routine (unwritten_number p i wanted) ≡ unwritten_sig p unwritten
     pub known : IsRoutine (table_of p) (unwritten_number p i wanted)
 
   pub is_unwritten : (i : ℕ) (c : Class) (wanted : Role) → class_at p i ≡ Some c → is_event c.kind ≡ false → is_plain wanted ≡ false → written_at p i wanted ≡ None → IsUnwritten i wanted
@@ -151,5 +158,5 @@ module _ (p : Program) where
       let n = unwritten_number p i wanted in
       let l = written_length p (routines_of p) 0 0 0 in
       let q : n ≡ length (written_sigs p (routines_of p) 0 0 0) + place_among (unwritten_of p) i wanted = ap (λ z. z + place_among (unwritten_of p) i wanted) (sym l) in
-      let s : slice_get (all_sigs p) n ≡ Some (unwritten_sig a.0) = get_right (written_sigs p (routines_of p) 0 0 0) (unwritten_sigs (unwritten_of p)) (place_among (unwritten_of p) i wanted) n q ∙ sigs_at (unwritten_of p) (place_among (unwritten_of p) i wanted) a.0 a.1 in
-      record { unwritten = a.0; class = a.2; sig = ap sig_or_none s; known = within (all_sigs p) n (unwritten_sig a.0) s }
+      let s : slice_get (all_sigs p) n ≡ Some (unwritten_sig p a.0) = get_right (written_sigs p (routines_of p) 0 0 0) (unwritten_sigs p (unwritten_of p)) (place_among (unwritten_of p) i wanted) n q ∙ sigs_at (unwritten_of p) (place_among (unwritten_of p) i wanted) a.0 a.1 in
+      record { unwritten = a.0; class = a.2; role_is = a.3; sig = ap sig_or_none s; known = within (all_sigs p) n (unwritten_sig p a.0) s }

@@ -39,7 +39,7 @@ use Rattle.uc_rules.specs.ExpressionBreaks.{return_breaks, bad_clause, handlers_
 use Rattle.uc_rules.specs.OwnerBreaks.{may_switch, may_switch_in, may_accept}
 use Rattle.uc_rules.specs.Visits.{Visit, AtBase, AtReturn, AtSwitch, AtAccept, AtHandlers, AtCaught, AtEvent, AtRaise, AtRaiseTarget, visits, args_visits, condition_visits, maybe_condition_visits, statement_visits, maybe_statement_visits, return_visits, outs_visits, variables_visits, declaration_visits, event_target, event_class_target, raised_visits, events_visits, stmt_visits, stmts_visits, maybe_stmt_visits, handlers_visits, clauses_visits, looped, joined, handling}
 use Rattle.uc_rules.specs.Breaks.{breaks_at}
-use Rattle.uc_typing.specs.Typing.{Ty, Num, Obj, Raw, Name, Kept, Sig, Table, Executing, IsPlaced, Among, Yields, GiveAll, Fine, FineStep, FineLoop, FineGuards, FineRaised, FineClauses, FineHandlers, FineStmt, FineStmts, object_ty}
+use Rattle.uc_typing.specs.Typing.{Ty, Num, Obj, Raw, Name, Kept, Sig, Table, MayCall, Executing, IsPlaced, Among, Yields, GiveAll, Fine, FineStep, FineLoop, FineGuards, FineRaised, FineClauses, FineHandlers, FineStmt, FineStmts, object_ty}
 use Rattle.uc_agreement.specs.Agreement.{Agrees, AgreesIf, context}
 use Rattle.uc_agreement.specs.Declarations.{StoodBy}
 use Rattle.uc_agreement.specs.Parts.{Parts}
@@ -104,13 +104,13 @@ module _ (t : Table) (g : Sig) where
   -- what stands round a statement within another one
 
   joins_rooted : (z : Bool) (p : Program) (a : Surroundings) (class : Option ℕ) → Rooted t g p a class → Rooted t g p (with_joins z a) class
-  joins_rooted z p a class h = record { told = h.told; refers = h.refers; classes = h.classes; names = h.names; stood = h.stood; member = h.member; members = h.members; results = h.results; returning = h.returning; switching = h.switching; accepting = h.accepting }
+  joins_rooted z p a class h = record { told = h.told; refers = h.refers; classes = h.classes; tasks = h.tasks; inside = h.inside; names = h.names; stood = h.stood; member = h.member; members = h.members; results = h.results; returning = h.returning; switching = h.switching; accepting = h.accepting }
 
   loop_rooted : (p : Program) (a : Surroundings) (class : Option ℕ) → Rooted t g p a class → Rooted t g p (in_loop a) class
-  loop_rooted p a class h = record { told = h.told; refers = h.refers; classes = h.classes; names = h.names; stood = h.stood; member = h.member; members = h.members; results = h.results; returning = h.returning; switching = h.switching; accepting = h.accepting }
+  loop_rooted p a class h = record { told = h.told; refers = h.refers; classes = h.classes; tasks = h.tasks; inside = h.inside; names = h.names; stood = h.stood; member = h.member; members = h.members; results = h.results; returning = h.returning; switching = h.switching; accepting = h.accepting }
 
   handler_rooted : (p : Program) (a : Surroundings) (class : Option ℕ) → Rooted t g p a class → Rooted t g p (around_handler a) class
-  handler_rooted p a class h = record { told = h.told; refers = h.refers; classes = h.classes; names = h.names; stood = h.stood; member = h.member; members = h.members; results = h.results; returning = h.returning; switching = h.switching; accepting = h.accepting }
+  handler_rooted p a class h = record { told = h.told; refers = h.refers; classes = h.classes; tasks = h.tasks; inside = h.inside; names = h.names; stood = h.stood; member = h.member; members = h.members; results = h.results; returning = h.returning; switching = h.switching; accepting = h.accepting }
 
   module _ (sc : List Name) (env : Env) (class : Option ℕ) (names : List LocalVariable) (h : Within t g sc env class names) where
     in_opened : Within t g sc (opened env) class names
@@ -200,7 +200,7 @@ module _ (t : Table) (g : Sig) where
           let w : unless (nat_eq (count r.args) (length (constructor_params p i))) S22 q ≡ [] = subst (λ o. of_sort o (event_takes p (count r.args)) S22 q ≡ []) sorts (subst (λ (z : Bool). (if z then unless (nat_eq (count r.args) 0) S22 q else of_sort (event_sort p r.name) (event_takes p (count r.args)) S22 q) ≡ []) n m) in
           let number = eqb-true (count r.args) (length (constructor_params p i)) (only (nat_eq (count r.args) (length (constructor_params p i))) S22 q w) in
           let all = (parts sc env s h).arguments r.args (target.Constructor i) (constructor_params p i) (params_of p c) number (λ z. ap (λ z. param_expected p (slice_get (constructor_params p i) z)) (let q : 0 + z ≡ z = omega arith in q)) tells.params a in
-          (b.hidden, (Num, (refl, (i, subst (λ w. Yields t g sc (Variable s.hidden) (object_ty w i)) (sym whole) y, tells.this, tells.known), subst (GiveAll t g sc (args_by (params_of p c) (args_meant (context env s.class s.routine s.names) r.args))) tells.table all)))
+          (b.hidden, (Num, (refl, (i, subst (λ w. Yields t g sc (Variable s.hidden) (object_ty w i)) (sym whole) y, tells.this, tells.known), subst (GiveAll t g sc (args_by (params_of p c) (args_meant (context env s.class s.routine s.names) r.args))) tells.table all, subst (λ w. MayCall w g (Variable s.hidden)) (sym (h.rooted.told.events_apart i c r.name place f)) tt)))
 
       by : (o : Option ℕ) → event_constructor p r.name ≡ o → FineRaised t g sc (built_event p s (number_of_event p r.name) o (args_meant (context env s.class s.routine s.names) r.args))
       by None f = tt

@@ -4,6 +4,7 @@ use Rattle.uc_tree.specs.declared.kinds.Base.{Base}
 use Rattle.uc_tree.specs.declared.kinds.Kind.{Kind}
 use Rattle.uc_tree.specs.declared.kinds.LocalVariable.{LocalVariable}
 use Rattle.uc_tree.specs.Numbering.{is_mutex}
+use Rattle.uc_tree.specs.Objects.{is_task}
 use Rattle.uc_tree.specs.Programs.{Program}
 use Rattle.uc_resolve.specs.Standings as tree
 use Rattle.uc_rules.specs.declared.rules.Surroundings.{Surroundings}
@@ -18,7 +19,7 @@ use Rattle.uc_rules.specs.Names.{outer_named}
 use Rattle.uc_rules.specs.Scopes.{Env, named_behind, own_named}
 use Rattle.uc_rules.specs.Entities.{meant_entity, object_member, open_entity, path_member, takes, is_main, given}
 use Rattle.uc_rules.specs.OwnerBreaks.{is_mutex_field_of, names_condition, may_switch_in, may_accept}
-use Rattle.uc_typing.specs.Typing.{Name, Sig, Table, Executing, InMutex}
+use Rattle.uc_typing.specs.Typing.{Name, Sig, Table, IsInside, Executing, InMutex}
 use Rattle.uc_agreement.specs.Agreement.{Agrees, AgreesIf, Alike}
 use Rattle.uc_agreement.specs.Unbroken.{Stands}
 use Rattle.uc_sound.specs.Told.{Told}
@@ -42,7 +43,11 @@ pub record Rooted (t : Table) (g : Sig) (p : Program) (a : Surroundings) (class 
   pub told : Told t p
   pub refers : t.refers ≡ true
   pub classes : (b : Base) (c : ℕ) (k : Kind) → sort_of p b ≡ Some (sort.Object c k) → t.mutex c ≡ is_mutex k
+  pub tasks : (b : Base) (c : ℕ) (k : Kind) → sort_of p b ≡ Some (sort.Object c k) →
+      t.tasks c ≡ is_task k
+  pub inside : a.inner ≡ true → IsInside g.inward
   pub names : (sc : List Name) (name : List ℕ) →
+      (names_condition (root_named p a name) ≡ true → IsInside g.inward) →
       AgreesIf t g sc p (meant_entity (root_named p a name)) (tree.own_meant p class name)
   pub stood : (name : List ℕ) (m : NameMeaning) → root_named p a name ≡ Some m → IsStood m.entity
   pub member : (sc : List Name) (c : ℕ) (k : Kind) (name : List ℕ) (x : NameMeaning) (m : tree.Meant) →

@@ -1,20 +1,27 @@
 -- The table of a program: the signatures of its routines, by their numbers, and what stands at the fields of its classes.
-use Rattle.std.specs.Prelude.{ℕ, ◌+◌, ◌-◌, List, [], ◌∷◌, ◌++◌, length, map, slice_get, Bool, true, false, not, Option, Some, None}
+use Rattle.std.specs.Prelude.{ℕ, ◌+◌, ◌-◌, List, [], ◌∷◌, ◌++◌, length, map, slice_get, Bool, true, false, not, if◌then◌else◌, is_some, Option, Some, None}
 use Rattle.uc_tree.specs.declared.kinds.Base.{Base}
 use Rattle.uc_tree.specs.declared.kinds.Base.TheVariants as base
 use Rattle.uc_tree.specs.declared.kinds.Kind.{Kind}
+use Rattle.uc_tree.specs.declared.kinds.Role.{Role}
+use Rattle.uc_tree.specs.declared.kinds.Role.TheVariants as role
+use Rattle.uc_tree.specs.Names.{same_name}
 use Rattle.uc_tree.specs.Statements as stmt
 use Rattle.uc_tree.specs.Statements.{Declarator, Stmt, Stmts, MaybeStmt, Handler, Handlers, Clause, Clauses, ForStart}
 use Rattle.uc_tree.specs.Constants.{constants_of, elements}
 use Rattle.uc_tree.specs.Cells.{leading_cells, seen_in}
 use Rattle.uc_tree.specs.Gathered.{gathered_all}
-use Rattle.uc_tree.specs.Numbering.{is_plain, is_mutex, own_texts, own_sites, Defined, routines_of}
-use Rattle.uc_tree.specs.Objects.{ClassField, fields_of, class_at, number_at, class_shape, has_execution, event_place, Unwritten, unwritten_of}
+use Rattle.uc_tree.specs.Numbering.{is_plain, is_mutex, main_name, member_number, own_texts, own_sites, Defined, routines_of}
+use Rattle.uc_tree.specs.Objects.{ClassField, fields_of, class_at, number_at, class_shape, has_execution, is_task, event_place, Unwritten, unwritten_of}
 use Rattle.uc_tree.specs.Programs.{Class, Program}
 use Rattle.uc_resolve.specs.Resolve.{Scope, length_of, with_declared, for_scope, scope_after, scope_past, scope_past_all, within_accept, scope_past_clause, scope_past_clauses, within_events, in_handler, scope_past_handler, routine_scope, place_by}
 use Rattle.uc_rules.specs.declared.rules.Sort.{Sort}
+use Rattle.uc_rules.specs.declared.rules.Entity.{Entity}
+use Rattle.uc_rules.specs.declared.rules.Entity.TheVariants.{Method}
+use Rattle.uc_rules.specs.declared.rules.NameMeaning.{NameMeaning}
+use Rattle.uc_rules.specs.Names.{member_named}
 use Rattle.uc_rules.specs.Sorts.{sort_of}
-use Rattle.uc_typing.specs.Typing.{Ty, Num, Cell, Obj, Raw, Row, Sig, Table, raw}
+use Rattle.uc_typing.specs.Typing.{Ty, Num, Cell, Obj, Raw, Row, Inward, Apart, Enters, Makes, Helps, Main, Sig, Table, raw}
 use Rattle.uc_agreement.specs.Agreement.{place_ty, param_ty}
 use Rattle.uc_agreement.specs.Fields.{field_ty}
 
@@ -37,15 +44,32 @@ abbrev pub caught_ty : Option ℕ → Ty
 caught_ty None = Cell Num
 caught_ty (Some i) = Obj i
 
-abbrev pub unwritten_sig : Unwritten → Sig
-unwritten_sig u = record { this = Some u.class; params = []; locals = []; whole = true }
+-- whether the rules say that what a name of a class means is called inside its objects alone
+abbrev pub entity_helps : Option Entity → Bool
+entity_helps (Some (Method i j inner path)) = inner
+entity_helps _ = false
 
-abbrev pub unwritten_sigs : List Unwritten → List Sig
-unwritten_sigs [] = []
-unwritten_sigs (u ∷ us) = unwritten_sig u ∷ unwritten_sigs us
+abbrev pub helps_in : Option NameMeaning → Bool
+helps_in None = false
+helps_in (Some m) = entity_helps m.entity
+
+-- how a routine of a mutex class comes to run inside its object: whether it has the name of a main, is a mutex member, helps inside
+abbrev pub inward_by : Role → Bool → Bool → Bool → Inward
+inward_by role.Constructor main numbered helps = Makes
+inward_by role.Destructor main numbered helps = Enters
+inward_by role.Plain true numbered helps = Main
+inward_by role.Plain false true helps = Enters
+inward_by role.Plain false false true = Helps
+inward_by role.Plain false false false = Apart
+
+-- so does what builds or destroys an object
+abbrev pub role_inward : Role → Bool → Inward
+role_inward role.Constructor true = Makes
+role_inward role.Destructor true = Enters
+role_inward _ _ = Apart
 
 abbrev pub sig_or_none : Option Sig → Sig
-sig_or_none None = record { this = None; params = []; locals = []; whole = false }
+sig_or_none None = record { this = None; params = []; locals = []; whole = false; inward = Apart }
 sig_or_none (Some g) = g
 
 abbrev pub of_kind : (Kind → Bool) → Option Class → Bool
@@ -118,12 +142,29 @@ module _ (p : Program) where
 
   -- signatures
 
+  abbrev pub inward_in : ℕ → Option Class → Role → List ℕ → Inward
+  inward_in i None r name = Apart
+  inward_in i (Some c) r name =
+      if is_mutex c.kind then inward_by r (same_name name main_name) (is_some (member_number c name)) (helps_in (member_named p i name)) else Apart
+
+  abbrev pub inward_at : Option ℕ → Role → List ℕ → Inward
+  inward_at None r name = Apart
+  inward_at (Some i) r name = inward_in i (class_at p i) r name
+
+  abbrev pub unwritten_sig : Unwritten → Sig
+  unwritten_sig u = record { this = Some u.class; params = []; locals = []; whole = true; inward = role_inward u.role (of_kind is_mutex (class_at p u.class)) }
+
+  abbrev pub unwritten_sigs : List Unwritten → List Sig
+  unwritten_sigs [] = []
+  unwritten_sigs (u ∷ us) = unwritten_sig u ∷ unwritten_sigs us
+
   abbrev pub routine_sig_in : Defined → Scope → Sig
   routine_sig_in d s = record {
     this = place_by p d;
     params = map (param_ty p) d.routine.sig.params;
     locals = stmts_locals d.routine.body s;
     whole = not (is_plain d.routine.sig.role);
+    inward = inward_at (place_by p d) d.routine.sig.role d.routine.sig.name;
   }
 
   -- of routines from this number on
@@ -157,6 +198,7 @@ module _ (p : Program) where
     shape = class_shape p;
     mutex = λ i. of_kind is_mutex (class_at p i);
     executes = λ i. of_kind has_execution (class_at p i);
+    tasks = λ i. of_kind is_task (class_at p i);
     number = number_at p;
     refers = true;
   }

@@ -14,13 +14,13 @@ use Rattle.uc_resolve.specs.Standings.{params_of}
 use Rattle.uc_resolve.specs.Resolve.{event_constructor}
 use Rattle.uc_rules.specs.Names.{method_sig, constructor_params}
 use Rattle.uc_rules.specs.ProgramVisits.{program_visits}
-use Rattle.uc_typing.specs.Typing.{Table, IsRoutine}
+use Rattle.uc_typing.specs.Typing.{Apart, Table, IsRoutine}
 use Rattle.uc_agreement.specs.Agreement.{param_ty, AreLike}
 use Rattle.uc_agreement.specs.Fields.{TellsClass}
 use Rattle.uc_agreement.specs.ItemNames.{TellsRoutines}
 use Rattle.uc_agreement.specs.Unbroken.{Unbroken}
 use Rattle.uc_sound.specs.Formed.{IsFormed}
-use Rattle.uc_sound.specs.Tables.{table_of}
+use Rattle.uc_sound.specs.Tables.{role_inward, inward_at, table_of}
 
 -- the routine with this number is at an object of the class i, whole or not, and has parameters like these
 pub record IsOfClass (t : Table) (p : Program) (i : ℕ) (xs : List Param) (r : ℕ) : Type 0 where
@@ -35,6 +35,7 @@ pub record TellsMember (t : Table) (p : Program) (i j : ℕ) (sig : Declared) : 
   pub found : member_from (routines_of p) 0 (number_at p i) sig.name ≡ Some number
   pub routine : IsOfClass t p i sig.params number
   pub plain : (t.routine number).whole ≡ false
+  pub inward : (t.routine number).inward ≡ inward_at p (Some i) sig.role sig.name
 
 -- what a constructor or destructor takes, and nothing else does
 abbrev pub role_params : Program → ℕ → Role → List Param
@@ -50,6 +51,10 @@ pub record TellsMaker (t : Table) (p : Program) (i : ℕ) (wanted : Role) : Type
   pub unwritten_params : written_at p i wanted ≡ None → [] ≡ (t.routine (unwritten_number p i wanted)).params
   pub unwritten_known : written_at p i wanted ≡ None → IsRoutine t (unwritten_number p i wanted)
   pub unwritten_whole : written_at p i wanted ≡ None → (t.routine (unwritten_number p i wanted)).whole ≡ true
+  pub written_inward : (r : ℕ) → written_at p i wanted ≡ Some r →
+      (t.routine r).inward ≡ role_inward wanted (t.mutex i)
+  pub unwritten_inward : written_at p i wanted ≡ None →
+      (t.routine (unwritten_number p i wanted)).inward ≡ role_inward wanted (t.mutex i)
 
 pub record Told (t : Table) (p : Program) : Type 0 where
   pub numbers : (i : ℕ) → t.number i ≡ number_at p i
@@ -66,6 +71,8 @@ pub record Told (t : Table) (p : Program) : Type 0 where
       (i : ℕ) × (class_named p name ≡ Some (sort.Object i kind.Event)) × (is_given name ≡ false)
   pub events_whole : (i r : ℕ) (name : List ℕ) → event_place p (base.Named name) ≡ Some i →
       event_constructor p name ≡ Some r → (t.routine r).whole ≡ true
+  pub events_apart : (i r : ℕ) (name : List ℕ) → event_place p (base.Named name) ≡ Some i →
+      event_constructor p name ≡ Some r → (t.routine r).inward ≡ Apart
 
 abbrev pub LawTold : Type 0
 LawTold = (p : Program) → IsFormed p → Unbroken (program_visits p) → Told (table_of p) p

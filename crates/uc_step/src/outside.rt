@@ -14,6 +14,7 @@ use uc_frames::pieces::print_request;
 use uc_frames::work::Work;
 use uc_tree::kinds::ValueForm;
 
+#[inline(never)]
 pub(crate) fn print(
     code: &Code,
     line: u32,
@@ -39,6 +40,7 @@ pub(crate) fn print(
     }
 }
 
+#[inline(never)]
 pub(crate) fn text(
     code: &Code,
     line: u32,

@@ -14,6 +14,7 @@ use uc_frames::work::Work;
 
 // A task asks for an enabled event, and a coroutine is delivered the oldest of those that are pending. Where none is enabled, or none
 // pending at a coroutine, it goes on elsewhere.
+#[inline(never)]
 pub(crate) fn poll(
     code: &Code,
     line: u32,

@@ -42,9 +42,8 @@ pub enum Stepped {
     Astray,
 }
 
-// It asks, by an op of this line. This and the two below stand apart from the ops, none of which makes room for a request that it does
-// not ask.
-#[inline(never)]
+// It asks, by an op of this line. A part of the op that asks, so that the request is written to the stop as it is made, and is not copied.
+#[inline(always)]
 pub(crate) fn put_request(
     code: &Code,
     line: u32,
@@ -61,7 +60,7 @@ pub(crate) fn put_request(
     QuietResult::Stops
 }
 
-// The end of the task is asked so.
+// The end of the task is asked so. This and the fault below stand apart from the ops, which seldom need them.
 #[inline(never)]
 pub(crate) fn put_end(code: &Code, line: u32, work: &Work, stop: &mut Stepped) -> QuietResult
     ensures { ended result stop.new

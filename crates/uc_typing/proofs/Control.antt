@@ -92,7 +92,7 @@ module _ (t : Table) (g : Sig) where
   stepped sc (pc.AcceptNow site n) own K X f h = f _ h.3
   stepped sc pc.FailedNow (Num ∷ more) K X f h = f _ h
   stepped sc (pc.ChooseNow cs) (Num ∷ more) K X f h = f _ h.2
-  stepped sc pc.RaiseAtNow (Obj c ∷ (a ∷ (b ∷ (d ∷ more)))) K X f h = f _ h
+  stepped sc pc.RaiseAtNow (Obj c ∷ (a ∷ (b ∷ (d ∷ more)))) K X f h = f _ h.1
   stepped sc (pc.EnableNow events cell) own K X f h = f _ h
   stepped sc (pc.DisableNow events cell) own K X f h = f _ h
   stepped sc (pc.RestoreNow cell) own K X f h = f _ h

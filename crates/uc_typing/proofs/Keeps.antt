@@ -376,7 +376,7 @@ module _ (t : Table) (source : Source) (sound : Sound t source) (s : State) (sig
       run sc own _ _ (chosen_ok (as_number (number (top s.run.operands))) cs todo own o.0 o.1 o.2) (rest_of t Num own s.run.operands h)
   acts (pc.ChooseNow cs) todo _ l o h = absurd o
   acts pc.RaiseAtNow todo (Obj c ∷ (a ∷ (b ∷ (d ∷ own)))) l o h =
-      raises (top s.run.operands) (event_in (below s.run.operands)) todo own (drop 4 s.run.operands) o (values_drop t 4 (Obj c ∷ (a ∷ (b ∷ (d ∷ own)))) s.run.operands h)
+      raises (top s.run.operands) (event_in (below s.run.operands)) todo own (drop 4 s.run.operands) o.1 (values_drop t 4 (Obj c ∷ (a ∷ (b ∷ (d ∷ own)))) s.run.operands h)
   acts pc.RaiseAtNow todo _ l o h = absurd o
   acts (pc.EnableNow events cell) todo own l o h = enables (inside.enabled_more s.env.links.enabled events) cell todo own o h
   acts (pc.DisableNow events cell) todo own l o h = enables (inside.enabled_less s.env.links.enabled events) cell todo own o h

@@ -170,7 +170,7 @@ module _ (t : Table) (source : Source) where
     event (Raise line x) todo f o h = go sc [] _ _ (raised_ok t g sc x (pc.RaiseNow ∷ (pc.Within line ∷ todo)) f (tt, o)) h
     event (Try line body hs) todo f o h = go sc [] _ _ (tt, f.0, (tt, f.1, (tt, o))) h
     event (RaiseAt line x a) todo f o h =
-        go sc [] _ _ (raised_ok t g sc x (pc.Eval a ∷ (pc.RaiseAtNow ∷ (pc.Within line ∷ todo))) f.0 (Obj f.1.0, f.1.1, (tt, o))) h
+        go sc [] _ _ (raised_ok t g sc x (pc.Eval a ∷ (pc.RaiseAtNow ∷ (pc.Within line ∷ todo))) f.0 (Obj f.1.0, f.1.1, (f.1.2, (tt, o)))) h
     event (Enable line events cell a) todo f o h = go (Kept ∷ sc) [] _ _ (tt, f, (tt, tt, (tt, o))) h
     event (Disable line events cell a) todo f o h = go (Kept ∷ sc) [] _ _ (tt, f, (tt, tt, (tt, o))) h
 

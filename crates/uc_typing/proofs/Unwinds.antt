@@ -9,7 +9,7 @@ use Rattle.uc_machine.specs.declared.exec.Visited.{Visited}
 use Rattle.uc_machine.specs.Raising as r
 use Rattle.uc_machine.specs.Quiet.{Value, Active, State, Todo, at, below}
 use Rattle.uc_machine.specs.Pieces as pc
-use Rattle.uc_typing.specs.Typing.{Ty, Num, Name, Sig, Table, FineHandlers, FineClean}
+use Rattle.uc_typing.specs.Typing.{Ty, Num, Name, Apart, Sig, Table, FineHandlers, FineClean}
 use Rattle.uc_typing.specs.Pieces.{Popped, Met, Ok, Left}
 use Rattle.uc_typing.specs.States.{Values, Framed, IsThis, Waits, Typed, After, Idle}
 use Rattle.uc_typing.proofs.Operands.{either}
@@ -137,7 +137,7 @@ module _ (t : Table) where
       (usable_lifted gs _ (seeks (Some v) e (others gs) rest h.1))
 
   abbrev no_sig : Sig
-  no_sig = record { this = None; params = []; locals = []; whole = false }
+  no_sig = record { this = None; params = []; locals = []; whole = false; inward = Apart }
 
   module _ (source : Source) (s : State) (sigs : List Sig) (g : Sig) (sc : List Name) (frames : Framed t sigs s.env.frames) (frame : at_depth sigs s.run.frame ≡ Some g) (this : IsThis t g.this s.run.this) (callers : Waits t (others sigs) s.callers) (idle : Idle t s.env) where
     -- the running activation goes on with this to do, whatever else it keeps
@@ -203,7 +203,7 @@ module _ (t : Table) where
         popped (y ∷ sc) m = scope sc c (r.arrives s.run.raised (length s.callers)) todo m.1 m.2
     past (pc.IsFill n b d) todo m = calm sc [] _ [] s.run.raised (m.0, m.1) tt
     past (pc.IsSweep e) todo m = calm sc [] _ [] s.run.raised (m.0, m.1) tt
-    past (pc.IsPart c) todo m = calm sc [] _ [] s.run.raised (clean_ok t g sc c (pc.Unwind ∷ todo) [] m.0 m.1) tt
+    past (pc.IsPart c) todo m = calm sc [] _ [] s.run.raised (clean_ok t g sc c (pc.Unwind ∷ todo) [] m.0.0 m.1) tt
     past (pc.IsGuard hs) todo m = guard hs s.run.raised todo m.0 m.1 m.2
     past pc.IsFinish todo m = main s.run.raised todo m
     past pc.IsFinishCoroutine todo m = coroutine s.run.raised todo m

@@ -3,7 +3,7 @@
 use Rattle.std.specs.Prelude.{◌≡◌, ℕ, zero, suc, ◌≤◌, List, [], ◌∷◌, length, Some, None, true, false}
 use Rattle.uc_tree.specs.Source.{CleanUp, Item, Show, ShowText, Way, ToBreak, ToContinue, ToReturn, ToEnd, Clauses, NoClauses, Otherwise, MoreClauses}
 use Rattle.uc_machine.specs.Pieces.{Todo, Sort, sort, Eval, LoadNow, ElementNow, FieldNow, NegateNow, NotNow, CharacterNow, TruthNow, OperateNow, CopyNow, CopyBelowNow, DropNow, DropBelowNow, StoreNow, KeepNow, SetNow, BindNow, Choose, Branch, Arguments, TickNow, CallNow, CallOnNow, CallUnwrittenNow, CountNow, MoreNow, TurnNow, Again, PrintNow, TextNow, GatherNow, FlushNow, ReadNow, ClearNow, Items, Values, Pieces, Targets, Variables, Do, Rest, Within, Exit, NoReturnNow, Unwind, ThrowNow, RaiseNow, SetUpNow, EnlivenNow, TakeDownNow, ForgetNow, LiveNow, EnterNow, LeaveNow, MakeNow, BindMadeNow, MadeNow, SpawnNow, ChildNow, GoneNow, GiveUpNow, ClusterNow, ProcessorNow, ClusterEndNow, ProcessorEndNow, ConditionNow, WaitNow, SignalNow, SignalBlockNow, EmptyNow, FrontNow, YieldNow, MigrateNow, Guards, AcceptNow, FailedNow, ChooseNow, RaiseAtNow, EnableNow, DisableNow, RestoreNow, PollNow, DeliverNow, ResumeNow, SuspendNow, Land, Simple, IsLoop, IsWhole, IsClean, IsFill, IsSweep, IsPart, IsGuard, IsFinish, IsFinishCoroutine}
-use Rattle.uc_typing.specs.Typing.{Ty, Num, Cell, Obj, Raw, Row, Clu, Pro, Name, Sig, Table, object_ty, Cleans, IsRead, IsPlaced, IsCluster, IsRoutine, InMutex, Executing, Yields, GiveAll, Fine, FineItems, FineTargets, FineDeclared, FineClean, FineGuards, FineStmt, FineStmts, FineLoop, FineHandlers, FineClauses, IsMain}
+use Rattle.uc_typing.specs.Typing.{Ty, Num, Cell, Obj, Raw, Row, Clu, Pro, Name, Sig, Table, object_ty, Cleans, IsRead, IsPlaced, IsCluster, IsTarget, IsRoutine, InMutex, Executing, Yields, GiveAll, Fine, FineItems, FineTargets, FineDeclared, FineClean, FinePart, FineGuards, FineStmt, FineStmts, FineLoop, FineHandlers, FineClauses, IsMain}
 
 abbrev pub IsNone : List Ty → Type 0
 IsNone [] = Unit {0}
@@ -128,7 +128,7 @@ module _ (t : Table) (g : Sig) (sc : List Name) where
   Step FailedNow (Num ∷ more) next = next more
   Step (ChooseNow cs) (Num ∷ more) next = IsNone more × FineClauses t g sc cs × next more
   -- events
-  Step RaiseAtNow (Obj c ∷ (a ∷ (b ∷ (d ∷ more)))) next = next more
+  Step RaiseAtNow (Obj c ∷ (a ∷ (b ∷ (d ∷ more)))) next = IsTarget t c × next more
   Step (EnableNow events cell) tys next = next tys
   Step (DisableNow events cell) tys next = next tys
   Step (RestoreNow cell) tys next = next tys
@@ -148,7 +148,7 @@ module _ (t : Table) (g : Sig) where
   -- outwards of the scope of an object it is not whole any more
   abbrev pub Popped : CleanUp → List Name → (List Name → Type 0) → Type 0
   Popped c [] next = ⊥
-  Popped c (x ∷ sc) next = Cleans t x c × FineClean t g sc c × next sc
+  Popped c (x ∷ sc) next = Cleans t g x c × FineClean t g sc c × next sc
 
   -- at a mark that is reached, with what is asked outwards of it
   abbrev pub Reached : List Name → Sort → List Ty → Type 0 → (List Name → List Ty → Type 0) → Type 0
@@ -158,7 +158,7 @@ module _ (t : Table) (g : Sig) where
   Reached sc (IsClean c) tys simple rest = Popped c sc (λ sc. rest sc tys)
   Reached sc (IsFill n b d) tys simple rest = Fine t g sc b × Fine t g sc d × rest sc tys
   Reached sc (IsSweep e) tys simple rest = Fine t g sc e × rest sc tys
-  Reached sc (IsPart c) tys simple rest = FineClean t g sc c × rest sc tys
+  Reached sc (IsPart c) tys simple rest = FinePart t g sc c × rest sc tys
   Reached sc (IsGuard hs) tys simple rest = IsNone tys × FineHandlers t g sc hs × rest sc []
   Reached sc IsFinish tys simple rest = rest sc []
   Reached sc IsFinishCoroutine tys simple rest = rest sc []
@@ -171,7 +171,7 @@ module _ (t : Table) (g : Sig) where
   Met sc (IsClean c) left rest = Popped c sc left
   Met sc (IsFill n b d) left rest = Fine t g sc d × left sc
   Met sc (IsSweep e) left rest = Fine t g sc e × left sc
-  Met sc (IsPart c) left rest = FineClean t g sc c × left sc
+  Met sc (IsPart c) left rest = FinePart t g sc c × left sc
   Met sc (IsGuard hs) left rest = FineHandlers t g sc hs × rest sc [] × left sc
   Met sc IsFinish left rest = rest sc []
   Met sc IsFinishCoroutine left rest = rest sc []

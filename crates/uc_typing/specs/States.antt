@@ -1,6 +1,6 @@
 -- States whose operands, frames and activations are of the types that their to-do lists ask for, and what an answer brings to one.
-use Rattle.std.specs.Prelude.{◌≡◌, ℕ, ◌<◌, List, [], ◌∷◌, length, slice_get, Option, Some, None, Bool, true, false}
-use Rattle.uc_tree.specs.Source.{OfObject, Get, GetOwn, Source, Routine, Purpose, TaskMain, CoroutineMain, Procedure, Function, Builder}
+use Rattle.std.specs.Prelude.{◌≡◌, ℕ, ◌<◌, ◌⊎◌, List, [], ◌∷◌, length, slice_get, Option, Some, None, Bool, true, false}
+use Rattle.uc_tree.specs.Source.{OfObject, Get, GetOwn, Stmts, Scoped, Leaves, Ends, Frees, Source, Routine, Purpose, TaskMain, CoroutineMain, Procedure, Function, Builder}
 use Rattle.uc_entry.specs.declared.request.Request.{Request}
 use Rattle.uc_entry.specs.declared.request.Request.TheVariants as ask
 use Rattle.uc_entry.specs.declared.request.Answer.{Answer}
@@ -10,7 +10,7 @@ use Rattle.uc_machine.specs.declared.exec.Stage.TheVariants.{Fresh, Started, End
 use Rattle.uc_machine.specs.Executions.{Execution, at_depth, others}
 use Rattle.uc_machine.specs.Pieces.{Link, Slot, FieldAt, At, Value, Number, Place, Running, Object, Nothing, Todo, Active, State, Env, Members, Step, Goes, Ticks, Asks, loaded, further, top, variable_at, Eval, LoadNow}
 use Rattle.uc_machine.specs.Answering.{child_main}
-use Rattle.uc_typing.specs.Typing.{Ty, Num, Cell, Obj, Raw, Row, Clu, Pro, Name, Sig, Table, IsRoutine, InScope, FineStmts}
+use Rattle.uc_typing.specs.Typing.{Ty, Num, Cell, Obj, Raw, Row, Clu, Pro, Name, Enters, Makes, Sig, Table, IsRoutine, InScope, FineStmts}
 use Rattle.uc_typing.specs.Pieces.{Ok, onto}
 
 -- what a place that is not whole yet is a place of
@@ -218,11 +218,19 @@ IsSorted Procedure w = w ≡ false
 IsSorted Function w = w ≡ false
 IsSorted Builder w = Unit {0}
 
--- the body of a routine is in order, and its end
+-- statements that let go of the object at hand when they are left
+abbrev pub LetsGo : Stmts → Type 0
+LetsGo (Scoped Leaves rest) = Unit {0}
+LetsGo (Scoped Ends rest) = Unit {0}
+LetsGo (Scoped (Frees r) rest) = Unit {0}
+LetsGo _ = ⊥
+
+-- the body of a routine is in order, and its end; what enters its object lets go of it
 pub record Routine_is (t : Table) (g : Sig) (r : Routine) : Type 0 where
   pub body : FineStmts t g [] r.body
   pub params : r.params ≡ length g.params
   pub purpose : IsSorted r.purpose g.whole
+  pub enters : (g.inward ≡ Enters) ⊎ (g.inward ≡ Makes) → LetsGo r.body
 
 pub record Sound (t : Table) (source : Source) : Type 0 where
   pub count : length source.routines ≡ t.count

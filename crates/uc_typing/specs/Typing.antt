@@ -2,7 +2,7 @@
 -- the tree has one clause, which says of which types its parts are and what it gives.
 use Rattle.std.specs.Prelude.{◌≡◌, ℕ, zero, suc, ◌≤◌, ◌<◌, ◌⊎◌, List, [], ◌∷◌, length, Option, Some, None, Bool, true, false}
 use Rattle.uc_machine.specs.Pieces.{LAST_ADDRESS}
-use Rattle.uc_tree.specs.Source.{Shape, Expr, Exprs, ObjectExpr, Literal, Variable, Element, Get, Load, Negated, Not, AsCharacter, AsTruth, Operate, And, Or, Set, Assign, First, Update, StepBehind, Fail, Call, OfObject, NoExprs, MoreExprs, This, OwnField, GetOwn, FieldOf, Counted, CallOn, CallLive, CallUnwritten, EnterOn, EndOn, Bind, MakeOn, NewCluster, NewProcessor, EndCluster, EndProcessor, ConditionAt, Wait, Signal, SignalBlock, IsEmpty, FrontOf, Item, Show, ShowText, Target, Declared, CleanUp, Destroys, DestroysAll, Unwinds, Forgets, Leaves, Ends, Frees, Restores, Stmt, Stmts, Skip, Block, Whole, Evaluate, Declare, Print, PrintTogether, Read, If, Loop, Break, Continue, Return, Owes, Fill, OfEvents, OfTasks, Nil, Then, Scoped, Built, Raised, Plainly, BuiltAt, AgainFrom, EventStmt, Throw, Raise, Try, RaiseAt, Enable, Disable, TaskStmt, Resume, Suspend, SetUp, Enliven, TakeDown, Yield, Migrate, Accept, Handlers, NoHandlers, MoreHandlers, Clauses, NoClauses, Otherwise, MoreClauses}
+use Rattle.uc_tree.specs.Source.{Shape, Binding, Expr, Exprs, ObjectExpr, Literal, Variable, Element, Get, Load, Negated, Not, AsCharacter, AsTruth, Operate, And, Or, Set, Assign, First, Update, StepBehind, Fail, Call, OfObject, NoExprs, MoreExprs, This, OwnField, GetOwn, FieldOf, Counted, CallOn, CallLive, CallUnwritten, EnterOn, EndOn, Bind, MakeOn, NewCluster, NewProcessor, EndCluster, EndProcessor, ConditionAt, Wait, Signal, SignalBlock, IsEmpty, FrontOf, Item, Show, ShowText, Target, Declared, CleanUp, Destroys, DestroysAll, Unwinds, Forgets, Leaves, Ends, Frees, Restores, Stmt, Stmts, Skip, Block, Whole, Evaluate, Declare, Print, PrintTogether, Read, If, Loop, Break, Continue, Return, Owes, Fill, OfEvents, OfTasks, Nil, Then, Scoped, Built, Raised, Plainly, BuiltAt, AgainFrom, EventStmt, Throw, Raise, Try, RaiseAt, Enable, Disable, TaskStmt, Resume, Suspend, SetUp, Enliven, TakeDown, Yield, Migrate, Accept, Handlers, NoHandlers, MoreHandlers, Clauses, NoClauses, Otherwise, MoreClauses}
 
 -- what an operand is: a number; the place of a scalar, of a reference, or of what is known by its number; an object of a class, which is
 -- its place, of a mutex class its number; one that is not whole, since it is being built or destroyed; the place of an array; a cluster,
@@ -23,16 +23,26 @@ pub data Name : Type 0 where
   Own : ℕ → Name
   Kept : Name
 
+-- how a routine comes to run inside the mutex object at hand: it does not; it enters that object, or destroys it; it builds it; it is
+-- called at that object by what is inside; it is the main, which nobody calls
+pub data Inward : Type 0 where
+  Apart : Inward
+  Enters : Inward
+  Makes : Inward
+  Helps : Inward
+  Main : Inward
+
 -- a routine: the class of its object, its parameters, each in a cell of its own, what stands at its other variables, by their first
--- cells, and whether it is a constructor or a destructor, whose body is left as a whole
+-- cells, whether it is a constructor or a destructor, whose body is left as a whole, and how it comes to run inside its object
 pub record Sig : Type 0 where
   pub this : Option ℕ
   pub params : List Ty
   pub locals : List (ℕ × Ty)
   pub whole : Bool
+  pub inward : Inward
 
 -- the routines by their numbers, and how many there are; of the classes what stands at each field, their shapes, whether they are mutex classes, whether their
--- objects have executions, and their numbers
+-- objects have executions, whether those are tasks, and their numbers
 pub record Table : Type 0 where
   pub routine : ℕ → Sig
   pub count : ℕ
@@ -40,6 +50,7 @@ pub record Table : Type 0 where
   pub shape : ℕ → Shape
   pub mutex : ℕ → Bool
   pub executes : ℕ → Bool
+  pub tasks : ℕ → Bool
   pub number : ℕ → ℕ
   -- whether bindings other than parameters are read: references in fields, and what is known by its number
   pub refers : Bool
@@ -104,12 +115,39 @@ IsCluster Num = Unit {0}
 IsCluster Clu = Unit {0}
 IsCluster _ = ⊥
 
--- the object at hand: it is one of a mutex class, it has an execution
+abbrev pub IsInside : Inward → Type 0
+IsInside Apart = ⊥
+IsInside Enters = Unit {0}
+IsInside Makes = Unit {0}
+IsInside Helps = Unit {0}
+IsInside Main = Unit {0}
+
+-- what is called from anywhere, by other than the making of an object
+abbrev pub IsOpen : Inward → Type 0
+IsOpen Apart = Unit {0}
+IsOpen Enters = Unit {0}
+IsOpen Makes = ⊥
+IsOpen Helps = ⊥
+IsOpen Main = ⊥
+
+-- what is called at the object of an expression: what only helps inside, at the object at hand alone, inside it
+abbrev pub MayCall : Inward → Sig → Expr → Type 0
+MayCall Apart g e = Unit {0}
+MayCall Enters g e = Unit {0}
+MayCall Makes g e = ⊥
+MayCall Helps g e = (e ≡ OfObject This) × IsInside g.inward
+MayCall Main g e = ⊥
+
+-- the object at hand: it is one of a mutex class, and this runs inside it; it has an execution
 abbrev pub InMutex : Table → Sig → Type 0
-InMutex t g = (c : ℕ) × (g.this ≡ Some c) × (t.mutex c ≡ true)
+InMutex t g = (c : ℕ) × (g.this ≡ Some c) × (t.mutex c ≡ true) × IsInside g.inward
 
 abbrev pub Executing : Table → Sig → Type 0
 Executing t g = (c : ℕ) × (g.this ≡ Some c) × (t.executes c ≡ true)
+
+-- an event is raised at a mutex object that is a task
+abbrev pub IsTarget : Table → ℕ → Type 0
+IsTarget t c = t.mutex c ≡ true → t.tasks c ≡ true
 
 -- a routine that is there
 abbrev pub IsRoutine : Table → ℕ → Type 0
@@ -118,6 +156,12 @@ IsRoutine t r = r < t.count
 -- a main is at the object at hand, without parameters
 abbrev pub IsMain : Table → Sig → ℕ → Type 0
 IsMain t g r = ((t.routine r).this ≡ g.this) × ((t.routine r).params ≡ []) × IsRoutine t r
+
+-- what is set up is a main: that of a mutex object where that is built
+abbrev pub SetsUp : Inward → Inward → Type 0
+SetsUp Main w = w ≡ Makes
+SetsUp Apart w = Unit {0}
+SetsUp _ w = ⊥
 
 -- what is called is at an object of its class, which is whole unless it is built or destroyed by that; what gives the object is of
 -- these types
@@ -156,7 +200,7 @@ module _ (t : Table) (g : Sig) (sc : List Name) where
     Yields (Update op s p e) a = (a ≡ Num) × Yields p (Cell Num) × Yields e Num
     Yields (StepBehind op s p) a = (a ≡ Num) × Yields p (Cell Num)
     Yields Fail a = a ≡ Num
-    Yields (Call r args) a = (a ≡ Num) × GiveAll args (t.routine r).params × ((t.routine r).this ≡ None) × IsRoutine t r
+    Yields (Call r args) a = (a ≡ Num) × GiveAll args (t.routine r).params × ((t.routine r).this ≡ None) × IsRoutine t r × IsOpen (t.routine r).inward
     Yields (OfObject o) a = ObjectGives o a
 
     pub GiveAll : Exprs → List Ty → Type 0
@@ -173,14 +217,14 @@ module _ (t : Table) (g : Sig) (sc : List Name) where
     -- no path leads into a mutex object
     ObjectGives (FieldOf s i e) a = (c : ℕ) × Yields e (Obj c) × (s ≡ t.shape c) × (a ≡ t.fields c i) × IsPlaced t (t.fields c i) × (t.mutex c ≡ false)
     ObjectGives Counted a = a ≡ Num
-    ObjectGives (CallOn r e args) a = (a ≡ Num) × CalledAt t r (Yields e) × GiveAll args (t.routine r).params
-    ObjectGives (CallUnwritten r e) a = (a ≡ Num) × CalledAt t r (Yields e) × ([] ≡ (t.routine r).params)
-    ObjectGives (CallLive r e args) a = (a ≡ Num) × CalledAt t r (Yields e) × GiveAll args (t.routine r).params
-    ObjectGives (EnterOn m r e args) a = (a ≡ Num) × EnteredAt t r (Yields e) × GiveAll args (t.routine r).params
-    ObjectGives (EndOn r written e) a = (a ≡ Num) × EnteredAt t r (Yields e) × ([] ≡ (t.routine r).params)
+    ObjectGives (CallOn r e args) a = (a ≡ Num) × CalledAt t r (Yields e) × GiveAll args (t.routine r).params × MayCall (t.routine r).inward g e
+    ObjectGives (CallUnwritten r e) a = (a ≡ Num) × CalledAt t r (Yields e) × ([] ≡ (t.routine r).params) × IsOpen (t.routine r).inward
+    ObjectGives (CallLive r e args) a = (a ≡ Num) × CalledAt t r (Yields e) × GiveAll args (t.routine r).params × IsOpen (t.routine r).inward
+    ObjectGives (EnterOn m r e args) a = (a ≡ Num) × EnteredAt t r (Yields e) × GiveAll args (t.routine r).params × IsOpen (t.routine r).inward
+    ObjectGives (EndOn r written e) a = (a ≡ Num) × EnteredAt t r (Yields e) × ([] ≡ (t.routine r).params) × IsOpen (t.routine r).inward
     ObjectGives (Bind p e) a = Yields p (Cell a) × Yields e a
     -- its place is bound to the new object, which the constructor builds
-    ObjectGives (MakeOn n r written p args) a = (a ≡ Num) × MadeAt t n r (Yields p) × GiveAll args (t.routine r).params
+    ObjectGives (MakeOn n r written p args) a = (a ≡ Num) × MadeAt t n r (Yields p) × GiveAll args (t.routine r).params × ((t.routine r).inward ≡ Makes)
     ObjectGives NewCluster a = a ≡ Clu
     ObjectGives (NewProcessor e) a = (a ≡ Pro) × ((b : Ty) × Yields e b × IsCluster b)
     ObjectGives (EndCluster e) a = (a ≡ Num) × Yields e Clu
@@ -248,23 +292,45 @@ module _ (t : Table) (g : Sig) (sc : List Name) where
   FineGuards (Otherwise b) = Unit {0}
   FineGuards (MoreClauses guard b cs) = Yields guard Num × FineGuards cs
 
--- what a clean-up destroys: of an array of so many, of an object, of what is known by its number
-abbrev pub Cleans : Table → Name → CleanUp → Type 0
-Cleans t (Var k (Row n a)) (DestroysAll m e) = n ≡ m
-Cleans t (Var k (Obj c)) (Destroys (OfObject (CallOn r (Variable l) args))) = (k ≡ l) × ((t.routine r).this ≡ Some c)
-Cleans t (Var k (Obj c)) (Destroys (OfObject (CallUnwritten r (Variable l)))) = (k ≡ l) × ((t.routine r).this ≡ Some c)
-Cleans t (Var k (Cell (Obj c))) (Destroys (OfObject (EndOn r written (Load (Variable l))))) = (k ≡ l) × ((t.routine r).this ≡ Some c)
-Cleans t (Var k (Cell Clu)) (Destroys (OfObject (EndCluster (Load (Variable l))))) = k ≡ l
-Cleans t (Var k (Cell Pro)) (Destroys (OfObject (EndProcessor (Load (Variable l))))) = k ≡ l
-Cleans t (Own i) (Destroys e) = Unit {0}
-Cleans t (Own i) (DestroysAll n e) = Unit {0}
-Cleans t Kept Unwinds = Unit {0}
-Cleans t Kept Forgets = Unit {0}
-Cleans t Kept Leaves = Unit {0}
-Cleans t Kept Ends = Unit {0}
-Cleans t Kept (Frees r) = Unit {0}
-Cleans t Kept (Restores k) = Unit {0}
-Cleans t _ _ = ⊥
+-- what an element of an array is kept as
+abbrev pub element_shape : Table → Ty → Shape
+element_shape t (Obj c) = t.shape c
+element_shape t _ = Binding
+
+-- an expression destroys what stands at this place
+abbrev pub DestroysAt : Table → Ty → Expr → Expr → Type 0
+DestroysAt t (Obj c) place (OfObject (CallOn r e args)) = (place ≡ e) × ((t.routine r).this ≡ Some c)
+DestroysAt t (Obj c) place (OfObject (CallUnwritten r e)) = (place ≡ e) × ((t.routine r).this ≡ Some c)
+DestroysAt t (Cell (Obj c)) place (OfObject (EndOn r written (Load e))) = (place ≡ e) × ((t.routine r).this ≡ Some c)
+DestroysAt t (Cell Clu) place (OfObject (EndCluster (Load e))) = place ≡ e
+DestroysAt t (Cell Pro) place (OfObject (EndProcessor (Load e))) = place ≡ e
+DestroysAt t _ place _ = ⊥
+
+-- it destroys the counted element of the array of so many there
+abbrev pub DestroysEach : Table → Ty → ℕ → Expr → Expr → Type 0
+DestroysEach t (Row n a) m place e = (n ≡ m) × DestroysAt t a (Element n (element_shape t a) place (OfObject Counted)) e
+DestroysEach t _ m place e = ⊥
+
+abbrev pub CleansAt : Table → Ty → Expr → CleanUp → Type 0
+CleansAt t a place (Destroys e) = DestroysAt t a place e
+CleansAt t a place (DestroysAll m e) = DestroysEach t a m place e
+CleansAt t a place _ = ⊥
+
+-- what a clean-up takes out of scope: a variable, or a field of the object at hand, by what it destroys at its place
+abbrev pub Cleans : Table → Sig → Name → CleanUp → Type 0
+Cleans t g (Var k a) c = CleansAt t a (Variable k) c
+Cleans t g (Own i) c = (d : ℕ) × (g.this ≡ Some d) × CleansAt t (t.fields d i) (OfObject (OwnField (t.shape d) i)) c
+Cleans t g Kept Unwinds = Unit {0}
+Cleans t g Kept Forgets = Unit {0}
+Cleans t g Kept Leaves = Unit {0}
+Cleans t g Kept Ends = Unit {0}
+Cleans t g Kept (Frees r) = Unit {0}
+Cleans t g Kept (Restores k) = Unit {0}
+Cleans t g Kept _ = ⊥
+
+-- what cleans up a part of the object that is under construction is fine, and takes something out of scope
+abbrev pub FinePart : Table → Sig → List Name → CleanUp → Type 0
+FinePart t g sc c = FineClean t g sc c × ((x : Name) × Cleans t g x c)
 
 module _ (t : Table) (g : Sig) where
   abbrev mutual
@@ -292,15 +358,15 @@ module _ (t : Table) (g : Sig) where
     FineStmts sc Nil = Unit {0}
     FineStmts sc (Then a rest) = FineStmt sc a × FineStmts sc rest
     -- the object is whole in these statements
-    FineStmts sc (Scoped c rest) = (x : Name) × Cleans t x c × FineStmts (x ∷ sc) rest × FineClean t g sc c
-    FineStmts sc (Built c rest) = FineStmts sc rest × FineClean t g sc c
+    FineStmts sc (Scoped c rest) = (x : Name) × Cleans t g x c × FineStmts (x ∷ sc) rest × FineClean t g sc c
+    FineStmts sc (Built c rest) = FineStmts sc rest × FinePart t g sc c
 
     pub FineEvent : List Name → EventStmt → Type 0
     FineEvent sc (Throw line r) = FineRaised t g sc r
     FineEvent sc (Raise line r) = FineRaised t g sc r
     FineEvent sc (Try line body hs) = FineStmts sc body × FineHandlers sc hs
     -- at a task, or at a coroutine
-    FineEvent sc (RaiseAt line r e) = FineRaised t g sc r × ((c : ℕ) × Yields t g sc e (Obj c))
+    FineEvent sc (RaiseAt line r e) = FineRaised t g sc r × ((c : ℕ) × Yields t g sc e (Obj c) × IsTarget t c)
     FineEvent sc (Enable line events cell a) = FineStmt (Kept ∷ sc) a
     FineEvent sc (Disable line events cell a) = FineStmt (Kept ∷ sc) a
 
@@ -311,7 +377,7 @@ module _ (t : Table) (g : Sig) where
     pub FineTask : List Name → TaskStmt → Type 0
     FineTask sc (Resume line) = Executing t g
     FineTask sc (Suspend line) = Unit {0}
-    FineTask sc (SetUp r) = IsMain t g r × Executing t g
+    FineTask sc (SetUp r) = IsMain t g r × Executing t g × SetsUp (t.routine r).inward g.inward
     FineTask sc Enliven = Executing t g
     FineTask sc TakeDown = Executing t g
     FineTask sc (Yield line) = Unit {0}

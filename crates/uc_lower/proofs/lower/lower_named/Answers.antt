@@ -9,7 +9,7 @@ use Rattle.uc_resolve.specs.Resolve.{all_classes, source_of}
 use Rattle.uc_code.proofs.Paces.{lowered_paced}
 use Rattle.uc_lower.specs.RoutineLayout.{LaysAll}
 use Rattle.uc_lower.specs.Refusals.{Fits}
-use Rattle.uc_lower.proofs.Ending.{as_many, whole, whole_few, whole_rows}
+use Rattle.uc_lower.proofs.Ending.{as_many, whole, whole_few, whole_rows, whole_count}
 use Rattle.uc_lower.proofs.lower.lower_named.Goals as goal
 
 pub lower_routines-requires-clause-unbroken : goal.lower_routines-requires-clause-unbroken
@@ -52,6 +52,16 @@ returns-clause-few c =
     let lays : LaysAll p (routines_of p) (unwritten_of p) (c.args.count + more) more out = subst (λ (q : Program). LaysAll q (routines_of q) (unwritten_of q) (c.args.count + more) more out) e c.in_ok-lower_all_unwritten.ensures in
     let us : more ≡ length (unwritten_of p) = sym (length-map c.args.unwritten.now unwritten_as) ∙ ap length c.requires.unwritten in
     whole_few p (c.args.count + more) more out _ _ _ c.tabulate.new.self c.requires.unbroken us lays (c.tabulate.ensures ∙ c.finish-code.ensures.code)
+
+pub returns-clause-count : goal.returns-clause-count
+returns-clause-count c =
+    let p = c.args.checked.now in
+    let e : c.args.names.now ≡ c.args.checked.now = c.requires.names in
+    let out = c.lower_all_unwritten.new.out in
+    let more : ℕ = length c.args.unwritten.now in
+    let lays : LaysAll p (routines_of p) (unwritten_of p) (c.args.count + more) more out = subst (λ (q : Program). LaysAll q (routines_of q) (unwritten_of q) (c.args.count + more) more out) e c.in_ok-lower_all_unwritten.ensures in
+    let us : more ≡ length (unwritten_of p) = sym (length-map c.args.unwritten.now unwritten_as) ∙ ap length c.requires.unwritten in
+    whole_count p (c.args.count + more) more out _ _ _ c.tabulate.new.self us lays (c.tabulate.ensures ∙ c.finish-code.ensures.code)
 
 pub returns-clause-rows : goal.returns-clause-rows
 returns-clause-rows c =

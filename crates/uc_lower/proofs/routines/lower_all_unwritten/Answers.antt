@@ -74,7 +74,7 @@ loop-place-preserved c =
     let row : RoutineCode = record { entry = length old.ops; cells = 0; params = 0; written = false } in
     let known : length (routines_of p) + i < c.args.count + length c.args.unwritten.now = omega (arith, count, inside) in (
       omega (arith, number),
-      all_step p (routines_of p) (unwritten_of p) (c.args.count + length c.args.unwritten.now) i (unwritten_as u) old new at known lays c.in_ok-lower_unwritten.ensures.kept c.in_ok-lower_unwritten.ensures.rows c.in_ok-lower_unwritten.ensures.room
+      all_step p (routines_of p) (unwritten_of p) (c.args.count + length c.args.unwritten.now) i (unwritten_as u) old new at known lays c.in_ok-lower_unwritten.ensures.kept c.in_ok-lower_unwritten.ensures.count c.in_ok-lower_unwritten.ensures.rows c.in_ok-lower_unwritten.ensures.room
           (subst (λ (n : ℕ). RoutineAt (laid_in new) (last_of (routines_of p)) n (unwritten_meant p (unwritten_as u)) row (length old.ops) (length new.ops)) (sym place) (c.in_ok-lower_unwritten.ensures.code (last_of (routines_of p)) (let few = last_few (routines_of p) in omega (arith, few, number, count))))
           (c.in_ok-lower_unwritten.ensures.written ∙ ap (λ (n : ℕ). slice_set old.routines n row) (sym place))
           c.in_ok-lower_unwritten.ensures.outside,

@@ -101,6 +101,6 @@ loop-number-preserved c =
     subst (λ (s : ℕ). Stands c.args.names.now all (i + 1) c.texts-texts.result s out) (sym c.sites-sites.ensures) (
     subst (λ (t : ℕ). Stands c.args.names.now all (i + 1) t out.sites out) (sym c.texts-texts.ensures) (
     stands_next c.args.names.now all i c.loop-number.texts c.loop-number.sites (defined_at x) c.loop-number.out out (omega (arith, n, k, t)) at c.loop-number.invariant
-    c.in_ok-lower_written.ensures.kept c.in_ok-lower_written.ensures.rows c.in_ok-lower_written.ensures.room
+    c.in_ok-lower_written.ensures.kept c.in_ok-lower_written.ensures.count c.in_ok-lower_written.ensures.rows c.in_ok-lower_written.ensures.room
     (subst (λ (m : ℕ). RoutineAt (laid_in out) m i (routine_meant p (defined_at x).routine (routine_scope p (defined_at x).routine (place_by p (defined_at x)) i c.loop-number.texts c.loop-number.sites)) (record { entry = length c.loop-number.out.ops; cells = frame_cells p (defined_at x).routine; params = length (defined_at x).routine.sig.params; written = true }) (length c.loop-number.out.ops) (length out.ops)) (last_is (routines_of p) c.args.count (omega (arith, n, k))) c.in_ok-lower_written.ensures.code)
     c.in_ok-lower_written.ensures.written c.in_ok-lower_written.ensures.outside c.in_ok-lower_written.ensures.texts c.in_ok-lower_written.ensures.few_texts c.in_ok-lower_written.ensures.sites))

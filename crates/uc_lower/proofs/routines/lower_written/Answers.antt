@@ -6,7 +6,7 @@ use Rattle.uc_numbering.specs.Routines.{defined_at}
 use Rattle.uc_lower_stmt.specs.Routines.{main_in}
 use Rattle.uc_lower_class.specs.Bodies.{builder_room}
 use Rattle.uc_lower.proofs.Ending.{not_main}
-use Rattle.uc_lower.proofs.RoutineLayoutLemmas.{placed_at, plain_room, builder_room_is}
+use Rattle.uc_lower.proofs.RoutineLayoutLemmas.{counted_at, placed_at, plain_room, builder_room_is}
 use Rattle.uc_lower.proofs.routines.lower_written.Goals as goal
 
 pub lower_routine-requires-clause-plain : goal.lower_routine-requires-clause-plain
@@ -61,3 +61,9 @@ returns-then-is_plain-clause-code c = placed_at c.args.names.now c.args.one.now.
 
 pub returns-clause-code : goal.returns-clause-code
 returns-clause-code c = placed_at c.args.names.now c.args.one.now.routine.now c.args.last c.args.number c.args.texts c.args.sites _ c.args.out.now c.lower_builder.new.out _ _ c.class_of-class.ensures c.in_ok-lower_builder.ensures.code
+
+pub returns-then-is_plain-clause-count : goal.returns-then-is_plain-clause-count
+returns-then-is_plain-clause-count c = counted_at c.args.names.now c.args.one.now.routine.now c.args.number c.args.texts c.args.sites c.args.out.now c.lower_routine.new.out _ _ c.class_of-class.ensures c.in_ok-lower_routine.ensures.count
+
+pub returns-clause-count : goal.returns-clause-count
+returns-clause-count c = counted_at c.args.names.now c.args.one.now.routine.now c.args.number c.args.texts c.args.sites c.args.out.now c.lower_builder.new.out _ _ c.class_of-class.ensures c.in_ok-lower_builder.ensures.count

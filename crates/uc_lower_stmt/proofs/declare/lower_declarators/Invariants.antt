@@ -8,4 +8,4 @@ use Rattle.uc_lower_stmt.specs.Pieces.{VariablesCode}
 use Rattle.uc_lower_stmt.proofs.declare.lower_declarators.Given as goal
 
 abbrev pub invariant-loop-declarator : goal.invariant-loop-declarator
-invariant-loop-declarator l = Lowers (OPS_FOR_SIZE * declarators_size (take l.declarator-index l.declarators)) 0 (declarators_cells (declared_cells l.names l.base) (take l.declarator-index l.declarators)) 0 (VariablesCode l.line l.initial.out.marks (all_declared l.names (scope_of l.initial.out) l.base (take l.declarator-index l.declarators))) (with_all l.names (scope_of l.initial.out) l.base (take l.declarator-index l.declarators)) l.initial.out l.out
+invariant-loop-declarator l = Lowers 0 (OPS_FOR_SIZE * declarators_size (take l.declarator-index l.declarators)) 0 (declarators_cells (declared_cells l.names l.base) (take l.declarator-index l.declarators)) 0 (VariablesCode l.line l.initial.out.marks (all_declared l.names (scope_of l.initial.out) l.base (take l.declarator-index l.declarators))) (with_all l.names (scope_of l.initial.out) l.base (take l.declarator-index l.declarators)) l.initial.out l.out

@@ -9,6 +9,6 @@ use Rattle.uc_lower_stmt.proofs.print.lower_pieces.Given as goal
 
 abbrev pub invariant-loop-item : goal.invariant-loop-item
 invariant-loop-item l = record {
-  code : Lowers (OPS_FOR_SIZE * out_items_size (take l.item-index l.items) - l.item-index) (out_items_size (take l.item-index l.items)) 0 0 (ValuesCode l.line l.initial.out.marks (items_at l.names (scope_of l.initial.out) (take l.item-index l.items))) (with_texts (scope_of l.initial.out) (texts_among (take l.item-index l.items))) l.initial.out l.out;
+  code : Lowers 0 (OPS_FOR_SIZE * out_items_size (take l.item-index l.items) - l.item-index) (out_items_size (take l.item-index l.items)) 0 0 (ValuesCode l.line l.initial.out.marks (items_at l.names (scope_of l.initial.out) (take l.item-index l.items))) (with_texts (scope_of l.initial.out) (texts_among (take l.item-index l.items))) l.initial.out l.out;
   ops : l.pieces.items ≡ map item_op (items_at l.names (scope_of l.initial.out) (take l.item-index l.items));
 }

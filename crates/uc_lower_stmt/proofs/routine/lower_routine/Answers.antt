@@ -46,6 +46,16 @@ returns-clause-kept c =
     (arm_routine p r (plain_role r.sig.role c.requires.plain) c.args.class c.args.last c.args.number c.args.texts c.args.sites c.here-entry.result c.hidden-cells.result (length c.params_of-params.result.now) c.args.out.now c.declare_params.new.out c.lower_statements.new.out c.set_routine.new.self
     c.requires.behind c.here-entry.ensures.count c.hidden-cells.ensures (ap length xs) begins c.in_ok-lower_statements.ensures.code c.set_routine.ensures).kept
 
+pub returns-clause-count : goal.returns-clause-count
+returns-clause-count c =
+    let p = c.args.names.now in
+    let r = c.args.routine.now in
+    let xs : c.params_of-params.result.now ≡ r.sig.params = c.params_of-params.ensures ∙ ap (λ (s : Sig). s.params) c.sig_of-sig.ensures in
+    let cells = uncapped (routine_cells p r) c.cells_of_routine-variables.result (c.cells_of_routine-variables.ensures ∙ ap (λ (q : Program). capped (routine_cells q r)) c.sizes.ensures) c.requires.cells in
+    let begins = begun_is p r c.args.class c.args.number c.cells_of_routine-variables.result c.args.texts c.args.sites c.params_of-params.result.now c.args.out.now c.begin_routine.new.self c.declare_params.new.out xs cells c.begin_routine.ensures c.in_ok-declare_params.ensures in
+    (arm_routine p r (plain_role r.sig.role c.requires.plain) c.args.class c.args.last c.args.number c.args.texts c.args.sites c.here-entry.result c.hidden-cells.result (length c.params_of-params.result.now) c.args.out.now c.declare_params.new.out c.lower_statements.new.out c.set_routine.new.self
+    c.requires.behind c.here-entry.ensures.count c.hidden-cells.ensures (ap length xs) begins c.in_ok-lower_statements.ensures.code c.set_routine.ensures).count
+
 pub returns-clause-room : goal.returns-clause-room
 returns-clause-room c =
     let p = c.args.names.now in

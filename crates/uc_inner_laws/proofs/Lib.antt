@@ -1,0 +1,5 @@
+pub mod Keeping
+pub mod Marking
+pub mod TodoLists
+pub mod Steps
+pub mod Walk

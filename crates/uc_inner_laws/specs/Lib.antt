@@ -1,0 +1,4 @@
+pub mod Walks
+pub mod Inner
+pub mod Standing
+pub mod InnerLaws

@@ -1,0 +1,20 @@
+// The laws: each is a function whose contract is the law.
+
+ghost use Rattle.uc_inner_laws.specs.InnerLaws.{LawFair, LawInside, LawSteps};
+
+/// Where code waits, signals and accepts only in routines that hold their object, or that are called
+/// on it by such ones, who does so has a mark of that object, in its own activation or in an older
+/// one, or is at home there: from the start of a task on, through each quiet step and each answer.
+pub fn law_steps()
+    ensures { LawSteps }
+{}
+
+/// So just before a task waits, signals or accepts in an object it is inside that.
+pub fn law_inside()
+    ensures { LawInside }
+{}
+
+/// A new object finds its place below the arguments of its constructor.
+pub fn law_fair()
+    ensures { LawFair }
+{}

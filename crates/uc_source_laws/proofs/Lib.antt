@@ -1,0 +1,5 @@
+pub mod InnerSources
+pub mod SharedParams
+pub mod EarlierLemmas
+pub mod FieldOrder
+pub mod InitialisingLemmas

@@ -1,0 +1,4 @@
+// Laws of the resolved trees of programs that break no rule.
+#![tactic(auto)]
+
+pub mod laws;

@@ -1,0 +1,5 @@
+pub mod There
+pub mod ThereStates
+pub mod ValueLaws
+pub mod Reading
+pub mod Opens
