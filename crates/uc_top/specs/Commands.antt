@@ -14,6 +14,7 @@ use Rattle.uc_words.specs.Words.{Words, Command, RunFile, CheckFile, LowerFile, 
 use Rattle.uc_code.specs.Codes.{Code}
 use Rattle.uc_code.specs.Lowered.{Lowered}
 use Rattle.uc_code.specs.Listing.{listing_of}
+use Rattle.uc_lower_stmt.specs.SourceRows.{source_rows}
 use Rattle.uc_lower.specs.RowRanges.{HasRows}
 use Rattle.uc_make.specs.Generated.{generated}
 use Rattle.uc_journal.specs.Lines as journals
@@ -42,12 +43,14 @@ pub record ProgramRan (program : Program) (input : List ℕ) (opts : Options) (t
 abbrev pub listing_room : Program → ℕ
 listing_room program = LINE_BYTES * (2 * (OPS_FOR_SIZE * program_size program))
 
--- the program is accepted, and these bytes are the listing of code of it, which has so few ops and rows as its `Size` allows
+-- the program is accepted, and these bytes are the listing of code of it, which has so few ops as its `Size` allows, and as
+-- many rows as its tree says
 pub record IsListingOf (program : Program) (output : List ℕ) : Type 0 where
   pub accepted : IsAccepted program
   pub code : Code
   pub lowered : Lowered (source_of program) code
   pub few : length code.ops ≤ OPS_FOR_SIZE * program_size program
+  pub count : length code.rows ≡ source_rows (source_of program)
   pub rows : HasRows code
   pub is : output ≡ listing_of code
   pub short : length output ≤ listing_room program

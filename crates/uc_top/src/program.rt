@@ -12,6 +12,7 @@ ghost use Rattle.uc_code.specs.Layout.{laid_of};
 ghost use Rattle.uc_code.specs.Pace.{IsPaced};
 ghost use Rattle.uc_code.specs.Listing.{listing_of};
 ghost use Rattle.uc_code.specs.Lowered.{Lowered};
+ghost use Rattle.uc_lower_stmt.specs.SourceRows.{source_rows};
 ghost use Rattle.uc_lower.specs.RowRanges.{HasRows};
 ghost use Rattle.uc_acts.specs.Texts.{printed};
 ghost use Rattle.uc_make.specs.Generated.{generated};
@@ -104,6 +105,7 @@ fn do_code<R: Threads + Wait + Sync, G: Gate + Sync>(
     requires lowered { Lowered (source_of checked.now) code.now }
     requires paced { IsPaced (laid_of code.now) code.now.routines }
     requires few { length code.now.ops ≤ OPS_FOR_SIZE * program_size checked.now }
+    requires count { length code.now.rows ≡ source_rows (source_of checked.now) }
     requires rows { HasRows code.now }
     requires input { length input.now ≤ INPUT_BYTES }
     requires purpose { HasEntries purpose }

@@ -1,17 +1,18 @@
 -- A variable in scope that holds what is known by its number holds that.
-use Rattle.std.proofs.Common.{◌≡◌, ℕ, ◌<◌, inl, inr, Bool, true, List, [], ◌∷◌, take, Some, sym, ap, ◌∙◌, subst}
-use Rattle.std.specs.Prelude.{if◌then◌else◌, slice_index_or}
+use Rattle.std.proofs.Common.{◌≡◌, ℕ, ◌<◌, inl, inr, Bool, true, List, [], ◌∷◌, take, Some, sym, ap, ◌∙◌, subst, zero, suc, ◌≤◌, length, arith, refl}
+use Rattle.std.specs.Prelude.{if◌then◌else◌, slice_index_or, slice_get}
 use Rattle.uc_tree.specs.Source as src
 use Rattle.uc_tree.specs.Source.{Expr, CleanUp}
 use Rattle.uc_machine.specs.Executions.{at_depth, list_in, frames_in, parked_at}
 use Rattle.uc_machine.specs.Pieces as piece
-use Rattle.uc_machine.specs.Pieces.{Link, Slot, At, Value, Todo, Sort, State, nought, address, loaded, further, variable_at}
+use Rattle.uc_machine.specs.Pieces.{Link, Slot, At, Value, Todo, Sort, State, nought, address, loaded, variable_at, Active}
 use Rattle.uc_typing.specs.Typing as typing
-use Rattle.uc_typing.specs.Typing.{Ty, Num, Cell, Obj, Raw, Row, Clu, Pro, Name, Sig, Table, InScope, DestroysAt, CleansAt, Cleans, Fine, FineClean, FineHandlers}
-use Rattle.uc_typing.specs.Pieces.{Ok, Left, Met}
-use Rattle.uc_typing.specs.States.{IsNumbered, IsObjectBy, Is}
+use Rattle.uc_typing.specs.Typing.{Ty, Cell, Obj, Row, Clu, Pro, Name, Sig, Table, InScope, DestroysAt, Cleans, Fine, FineClean}
+use Rattle.uc_typing.specs.Pieces.{Ok, Left, Met, onto}
+use Rattle.uc_typing.specs.States.{IsNumbered, IsObjectBy, Is, Active_is, Reads}
 use Rattle.uc_typing.proofs.Control as control
-use Rattle.uc_value_laws.specs.There.{OfVariable, OfElements, EndsAt, HoldsObject, IsThere, ThereBy, AllThere}
+use Rattle.uc_value_laws.specs.There.{OfVariable, OfElements, EndsAt, HoldsObject, IsThere, ThereBy, AllThere, frame_at}
+use Rattle.uc_value_laws.specs.ThereStates.{ThereStack, ThereState}
 use Rattle.uc_value_laws.specs.Reading.{cleans, clean_by, own_names, LawReading}
 use Rattle.uc_value_laws.proofs.Steps.{exec_same, here}
 
@@ -71,8 +72,32 @@ running : (P : Value → Type 0) (s : State) (p : List Link) → P (slice_index_
 running P s p h =
     subst (λ (b : Bool). P (slice_index_or (list_in (at_depth (if b then s.env.frames else frames_in (parked_at s.env.exec s.env)) s.run.frame)) (address p) nought)) (sym (exec_same s.env.exec)) h
 
+-- all is there in the frame of an activation
+there_at : (fs : List (List Value)) (cs : List Active) (n : ℕ) (c : Active) → slice_get cs n ≡ Some c → ThereStack fs cs → AllThere (frame_at c.frame fs) c.control
+there_at fs [] n c e h = absurd (cc)
+there_at fs (a ∷ cs) zero c e h =
+    let same : a ≡ c = cc in
+    subst (λ (c : Active). AllThere (frame_at c.frame fs) c.control) same h.1
+there_at fs (a ∷ cs) (suc n) c e h = there_at fs cs n c e h.2
+
+-- so in the running one, of those that use its frame
+there_here : (s : State) → ThereState s → (n : ℕ) (c : Active) → slice_get (s.run ∷ s.callers) n ≡ Some c → c.frame ≡ s.run.frame → AllThere (here s) c.control
+there_here s h n c e f =
+    subst (λ d. AllThere (frame_at d s.env.frames) c.control) f (there_at s.env.frames (s.run ∷ s.callers) n c e h.stack)
+
+variable : (t : Table) (s : State) → ThereState s → (n : ℕ) (c : Active) → slice_get (s.run ∷ s.callers) n ≡ Some c → c.frame ≡ s.run.frame → (gs : List Sig) (given : List Ty) (x : Active_is t gs given c) → (k : ℕ) (a : Ty) → InScope (own_names x.scope c.control) k (Cell a) → Is t a (loaded (variable_at k s) s.env)
+variable t s h n c e f gs given x k a i =
+    running (Is t a) s (Slot k ∷ []) (in_scope t x.sig (here s) k (Cell a) (Is t a (slice_index_or (here s) (address (Slot k ∷ [])) nought)) (λ sc c. single t x.sig sc (here s) k a c) c.control x.scope (control.left t x.sig x.scope c.control (onto given x.own) x.ok) (there_here s h n c e f) i)
+
+all_taken : (names : List Name) (n : ℕ) → length names ≤ n → take n names ≡ names
+all_taken [] zero h = refl
+all_taken [] (suc n) h = refl
+all_taken (x ∷ names) zero h = let f : ⊥ = omega (arith, h) in absurd f
+all_taken (x ∷ names) (suc n) h = ap (λ xs. x ∷ xs) (all_taken names n (omega (arith, h)))
+
 pub law_reading : LawReading
 law_reading = record {
-  variables = λ t s x h k a e. running (Is t a) s (Slot k ∷ []) (in_scope t x.run.sig (here s) k (Cell a) (Is t a (slice_index_or (here s) (address (Slot k ∷ [])) nought)) (λ sc c. single t x.run.sig sc (here s) k a c) s.run.control x.run.scope (control.left t x.run.sig x.run.scope s.run.control x.run.own x.run.ok) h.stack.1 e);
-  elements = λ t s x h k n a e i l. running (Is t a) s (At src.Binding i ∷ (Slot k ∷ [])) (in_scope t x.run.sig (here s) k (Row n (Cell a)) (Is t a (slice_index_or (here s) (address (At src.Binding i ∷ (Slot k ∷ []))) nought)) (λ sc c. element t x.run.sig sc (here s) k n a i l c) s.run.control x.run.scope (control.left t x.run.sig x.run.scope s.run.control x.run.own x.run.ok) h.stack.1 e);
+  variables = variable;
+  elements = λ t s h n c e f gs given x k m a j i l. running (Is t a) s (At src.Binding i ∷ (Slot k ∷ [])) (in_scope t x.sig (here s) k (Row m (Cell a)) (Is t a (slice_index_or (here s) (address (At src.Binding i ∷ (Slot k ∷ []))) nought)) (λ sc c. element t x.sig sc (here s) k m a i l c) c.control x.scope (control.left t x.sig x.scope c.control (onto given x.own) x.ok) (there_here s h n c e f) j);
+  reads = λ t s x h l k todo e. subst (λ todo. Reads t x.run.sig x.run.scope s todo x.run.own) (sym e) (λ q a i. variable t s h 0 s.run refl refl x.sigs [] x.run k a (subst (λ names. InScope names k (Cell a)) (sym (all_taken x.run.scope (cleans s.run.control) l)) i));
 }

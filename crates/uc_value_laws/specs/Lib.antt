@@ -3,3 +3,4 @@ pub mod ThereStates
 pub mod ValueLaws
 pub mod Reading
 pub mod Opens
+pub mod Makers

@@ -1,5 +1,6 @@
 // The laws: each is a function whose contract is the law.
 
+ghost use Rattle.uc_value_laws.specs.Makers.{LawMakers};
 ghost use Rattle.uc_value_laws.specs.Opens.{LawFair, LawRuns};
 ghost use Rattle.uc_value_laws.specs.Reading.{LawReading};
 ghost use Rattle.uc_value_laws.specs.ValueLaws.{LawSteps};
@@ -10,9 +11,9 @@ pub fn law_steps()
     ensures { LawSteps }
 {}
 
-/// In a task whose to-do lists are typed and in which all is there, a variable that its activation's own
-/// clean-ups take out of scope and that is known by its number holds an object of its class, a cluster
-/// or a processor; so does each element of an array.
+/// In a task whose to-do lists are typed and in which all is there, a variable that is known by its number
+/// holds an object of its class, a cluster or a processor, as long as an activation that uses the running
+/// frame has still to clean it up; so does each element of an array. So what is read of it is of its type.
 pub fn law_reading()
     ensures { LawReading }
 {}
@@ -28,4 +29,11 @@ pub fn law_fair()
 /// scope opens where its variable holds an object.
 pub fn law_runs()
     ensures { LawRuns }
+{}
+
+/// In the source of every program constructors alone bind fields of the object at hand, build parts of it
+/// and give it an execution, and they do so behind each other and not within the statements that they
+/// are written with.
+pub fn law_makers()
+    ensures { LawMakers }
 {}
