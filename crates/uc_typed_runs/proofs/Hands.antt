@@ -15,9 +15,10 @@ use Rattle.uc_machine.specs.Rides.{Rides, slices, goes_on, ticks, asks}
 use Rattle.uc_meaning.specs.Runs.{with_home, hand_of, or_else}
 use Rattle.uc_typing.specs.Typing.{Num, Raw, Clu, Pro, Table}
 use Rattle.uc_typing.specs.States.{Sound, Typed, Asked as AskedIn, After, Inhand, Suits}
+use Rattle.uc_typing.specs.Laws.{ReadsIn}
 use Rattle.uc_typing.proofs.Answers.{handed}
 use Rattle.uc_typing.proofs.Keeps.{keeps}
-use Rattle.uc_typed_runs.specs.TypedRuns.{ReadsWell, RideReads, AtHome}
+use Rattle.uc_typed_runs.specs.TypedRuns.{RideReads, AtHome}
 
 -- an answer of the form that a request asks for suits it
 pub suits : (q : Request) (a : Answer) → IsForm (form_of_request q) a → (q ≡ ask.End → ⊥) → ((n : ℕ) → q ≡ ask.Fault n → ⊥) → Suits q a
@@ -111,7 +112,7 @@ module _ (t : Table) (source : Source) where
 
   -- a ride
   module _ (sound : Sound t source) where
-    behind : (s : State) (step : Step) → quiet source s ≡ step → Typed t [] s → ReadsWell t s → After t source step
+    behind : (s : State) (step : Step) → quiet source s ≡ step → Typed t [] s → ReadsIn t s → After t source step
     behind s step e x r = subst (After t source) e (keeps t source sound s (r x).0 (r x).1)
 
     pub rides_typed : (s : State) (q : ℕ) (u : State) (k : ℕ) (a : Asked) (d : Rides source s q u k a) → RideReads t source s q u k a d → Typed t [] s → AskedIn t source a.request u

@@ -22,23 +22,20 @@ use Rattle.uc_meaning.specs.Runs.{World, May, Runs, drawn, gives, no_room, acts,
 use Rattle.uc_program_laws.specs.Fitting.{RunFits}
 use Rattle.uc_resolve.specs.Resolve.{source_of}
 use Rattle.uc_typing.specs.Typing.{Table}
-use Rattle.uc_typing.specs.States.{Sound, Typed, Reads, IsTask, Asked as AskedIn, Parked}
+use Rattle.uc_typing.specs.States.{Sound, Typed, IsTask, Asked as AskedIn, Parked}
+use Rattle.uc_typing.specs.Laws.{ReadsIn}
 use Rattle.uc_sound.specs.Tables.{table_of}
 use Rattle.uc_formed.specs.WellTyped.{IsTextOf}
-
--- A state that is in order is so by a typing in which what its next step reads of bindings is of its type.
-abbrev pub ReadsWell : Table → State → Type 0
-ReadsWell t s = Typed t [] s → (y : Typed t [] s) × Reads t y.run.sig y.run.scope s s.run.control y.run.own
 
 -- What is read of bindings at the states of a ride, of an act, and of each act of a run, is of its type.
 abbrev pub RideReads : (table : Table) (source : Source) (s : State) (q : ℕ) (u : State) (k : ℕ) (a : Asked) →
     Rides source s q u k a → Type 0
 RideReads table source _ _ _ _ _ slices = Unit {0}
-RideReads table source _ _ _ _ _ (goes_on {s} {t = v} {u} {q} {k} {a} e rest) = ReadsWell table s ×
+RideReads table source _ _ _ _ _ (goes_on {s} {t = v} {u} {q} {k} {a} e rest) = ReadsIn table s ×
     RideReads table source v (suc q) u k a rest
-RideReads table source _ _ _ _ _ (ticks {s} {t = v} {u} {q} {k} {a} e rest) = ReadsWell table s ×
+RideReads table source _ _ _ _ _ (ticks {s} {t = v} {u} {q} {k} {a} e rest) = ReadsIn table s ×
     RideReads table source v q u k a rest
-RideReads table source _ _ _ _ _ (asks {s} e) = ReadsWell table s
+RideReads table source _ _ _ _ _ (asks {s} e) = ReadsIn table s
 
 abbrev pub MayRead : (table : Table) (source : Source) (opts : Options) (input : List ℕ) (j : Journal) (w : World) (a : List Entry) (x : World) →
     May source opts input j w a x → Type 0

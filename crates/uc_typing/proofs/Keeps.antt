@@ -413,4 +413,4 @@ module _ (t : Table) (none : t.refers ≡ false) where
   nothing_read g sc s (_ ∷ todo) own = tt
 
 pub no_binding : LawNoBinding
-no_binding t none s x = nothing_read t none x.run.sig x.run.scope s s.run.control x.run.own
+no_binding t none s x = (x, nothing_read t none x.run.sig x.run.scope s s.run.control x.run.own)
