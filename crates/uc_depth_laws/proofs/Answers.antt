@@ -35,6 +35,7 @@ begins source known r o e =
     record {
       first = Any;
       run = (body_at source known r, (lists.behind source x.purpose x.line).list);
+      one = omega (arith, few, z);
       callers = tt;
       env = record { house = (tt, tt); hand = tt };
       engaged = omega (arith, few, z);
@@ -53,6 +54,7 @@ operand source v s h = record {
   deep = record {
     first = Any;
     run = h.alone;
+    one = h.deep.one;
     callers = h.deep.callers;
     env = h.deep.env;
     engaged = h.deep.engaged;
@@ -98,6 +100,7 @@ brought : (source : Source) (n o : ℕ) (s : State) → IsBinding s.run.control 
 brought source n o s k h e = record {
   first = h.first;
   run = h.run;
+  one = h.one;
   callers = h.callers;
   env = record { house = h.env.house; hand = more_hand source s.env.hand o n h.env.hand };
   engaged = h.engaged;

@@ -13,7 +13,7 @@ use Rattle.uc_machine.specs.Pieces as piece
 use Rattle.uc_machine.specs.Pieces.{Value, Nothing, Todo, State, Env, at, in_env, top, below, written}
 use Rattle.uc_depth_laws.specs.Entering.{holds_object, is_holding, EnteredBody, EnteredRoutine, EnteredSource}
 use Rattle.uc_depth_laws.specs.Owing.{owes, more, marks, counted, owed_first, calling, first_marks, Any, CallOf, Entered, depth_in, IsInside, Deep, DeepStep}
-use Rattle.uc_depth_laws.proofs.Depths.{own_one, inside_of, more_least, counted_least, counted_none, none_first, none_marked, called_first, called_marks, set_top}
+use Rattle.uc_depth_laws.proofs.Depths.{own_one, inside_of, more_most, more_least, counted_least, counted_none, none_first, none_marked, called_first, called_marks, set_top}
 use Rattle.uc_depth_laws.proofs.Kept as kept
 use Rattle.uc_depth_laws.proofs.Kept.{either}
 use Rattle.uc_depth_laws.proofs.TodoLists as lists
@@ -49,7 +49,14 @@ module _ (source : Source) (known : EnteredSource source) where
         record {
           first = Any;
           run = list;
-          callers = (h, deep.callers);
+          one =
+              let a1 = more_most (holds_object x.body) 0 in
+              omega (arith, a1, few);
+          callers =
+              let a1 = ap marks c in
+              let a2 = more_least (owes p) (marks todo) in
+              let a3 = deep.one in
+              (h, omega (arith, a1, a2, a3), deep.callers);
           env = record { house = deep.env.house; hand = deep.env.hand };
           engaged =
               let a1 = none_marked source (quiet.routine_todo x) list in
@@ -108,6 +115,10 @@ module _ (source : Source) (known : EnteredSource source) where
         record {
           first = CallOf r;
           run = h;
+          one =
+              let a1 = ap marks c in
+              let a2 = deep.one in
+              omega (arith, a1, a2);
           callers = deep.callers;
           env = x.env;
           engaged =

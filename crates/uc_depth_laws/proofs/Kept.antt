@@ -174,7 +174,7 @@ module _ (source : Source) where
   frames_parked : (n : ℕ) (f : List (List Value) → List (List Value)) (o : Option Ex) (m : Members) → EngagedSlot source o → EngagedParked source m.parked → EngagedParked source (frames_by n f o m).parked
   frames_parked n f None m r h = h
   frames_parked n f (Some x) m r h =
-      update_parked n (Some (record x { frames = f x.frames })) m.parked (record { first = r.first; run = r.run; callers = r.callers; engaged = r.engaged }) h
+      update_parked n (Some (record x { frames = f x.frames })) m.parked (record { first = r.first; run = r.run; one = r.one; callers = r.callers; engaged = r.engaged }) h
 
   frames_owed : (n : ℕ) (f : List (List Value) → List (List Value)) (o : Option Ex) (m : Members) → joined (find n m.parked) ≡ o → (q : ℕ) → owed_parked source q (frames_by n f o m).parked ≤ owed_parked source q m.parked
   frames_owed n f None m e q = omega arith
@@ -240,7 +240,7 @@ module _ (source : Source) where
   links_parked : (g : Links → Links) → Spares g → (n : ℕ) (o : Option Ex) (m : Members) → EngagedSlot source o → EngagedParked source m.parked → EngagedParked source (sw.links_by g n o m).parked
   links_parked g k n None m r h = h
   links_parked g k n (Some x) m r h =
-      update_parked n (Some (record x { links = g x.links })) m.parked (record { first = r.first; run = r.run; callers = r.callers; engaged = let a = r.engaged in let b = k x.links in omega (arith, a, b) }) h
+      update_parked n (Some (record x { links = g x.links })) m.parked (record { first = r.first; run = r.run; one = r.one; callers = r.callers; engaged = let a = r.engaged in let b = k x.links in omega (arith, a, b) }) h
 
   links_owed : (g : Links → Links) (n : ℕ) (o : Option Ex) (m : Members) → joined (find n m.parked) ≡ o → (q : ℕ) → owed_parked source q (sw.links_by g n o m).parked ≤ owed_parked source q m.parked
   links_owed g n None m e q = omega arith
@@ -304,10 +304,11 @@ module _ (source : Source) where
   switched_deep n x s r h =
       let free : Env = sw.set_slot n None s.env in
       let stopped : Ex = sw.stopped s in
-      let is : Engaged source stopped = record { first = h.first; run = h.run; callers = h.callers; engaged = h.engaged } in
+      let is : Engaged source stopped = record { first = h.first; run = h.run; one = h.one; callers = h.callers; engaged = h.engaged } in
       record {
         first = r.engaged.first;
         run = r.engaged.run;
+        one = r.engaged.one;
         callers = r.engaged.callers;
         env =
             let f = set_slot_engaged s.env.exec (Some stopped) free is (set_slot_engaged n None s.env tt h.env) in
@@ -361,7 +362,7 @@ module _ (source : Source) where
   -- other links of one that waits, and a reason to unwind it
   relinked : (e : Env) (n : Exec) (x : Ex) (l : Links) → entries x.links ≤ entries l → Waiting e n x → Waiting e n (record x { links = l })
   relinked e n x l k w = record {
-    engaged = record { first = w.engaged.first; run = w.engaged.run; callers = w.engaged.callers; engaged = let a = w.engaged.engaged in omega (arith, a, k) };
+    engaged = record { first = w.engaged.first; run = w.engaged.run; one = w.engaged.one; callers = w.engaged.callers; engaged = let a = w.engaged.engaged in omega (arith, a, k) };
     was = w.was;
     parked = w.parked;
     owes = w.owes;
@@ -369,7 +370,7 @@ module _ (source : Source) where
 
   reasoned : (e : Env) (n : Exec) (x : Ex) (why : UnwindReason) → Waiting e n x → Waiting e n (sw.unwound_there why x)
   reasoned e n x why w = record {
-    engaged = record { first = w.engaged.first; run = w.engaged.run; callers = w.engaged.callers; engaged = w.engaged.engaged };
+    engaged = record { first = w.engaged.first; run = w.engaged.run; one = w.engaged.one; callers = w.engaged.callers; engaged = w.engaged.engaged };
     was = w.was;
     parked = w.parked;
     owes = w.owes;
@@ -402,6 +403,7 @@ module _ (source : Source) where
   linked s l k h = record {
     first = h.first;
     run = h.run;
+    one = h.one;
     callers = h.callers;
     env = record { house = h.env.house; hand = h.env.hand };
     engaged = let a = h.engaged in omega (arith, a, k);
@@ -438,6 +440,7 @@ module _ (source : Source) where
   eased s e l h = record {
     first = h.first;
     run = h.run;
+    one = h.one;
     callers = h.callers;
     env = l.env;
     engaged = let a = h.engaged in let b = l.entries in omega (arith, a, b);

@@ -6,3 +6,4 @@ pub mod Steps
 pub mod Calls
 pub mod Walk
 pub mod Answers
+pub mod Alone

@@ -194,6 +194,7 @@ drawn : (source : Source) (hand : List (ℕ × Members)) (s : State) → Deep so
 drawn source hand s h k = record {
   first = h.first;
   run = h.run;
+  one = h.one;
   callers = h.callers;
   env = record { house = h.env.house; hand = redrawn_engaged source s.env.hand hand h.env.hand k };
   engaged = h.engaged;
@@ -204,6 +205,7 @@ drawn_behind : (source : Source) (hand : List (ℕ × Members)) (s : State) → 
 drawn_behind source hand s h k = record {
   first = h.first;
   run = h.run;
+  one = h.one;
   callers = h.callers;
   env = record { house = h.env.house; hand = redrawn_engaged source s.env.hand hand h.env.hand k };
   engaged = h.engaged;

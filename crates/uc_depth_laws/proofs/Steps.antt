@@ -47,6 +47,7 @@ same_entries_more false l = refl
 
 -- a task but for what its running activation has to do, which may have so many marks
 pub record Budget (source : Source) (many : ℕ) (s : State) : Type 0 where
+  pub one : many ≤ 1
   pub callers : AllEntered source s.callers
   pub env : EngagedEnv source s.env
   pub engaged : many + marks_waiting s.callers ≤ entries s.env.links
@@ -59,6 +60,7 @@ module _ (source : Source) where
     go_in todo vs e h l x = record {
       first = Any;
       run = h;
+      one = let c = b.one in omega (arith, c, l);
       callers = b.callers;
       env = x.env;
       engaged =
@@ -180,12 +182,13 @@ module _ (source : Source) where
     -- exits
 
     -- the activation is left for one that waits, which may have a little more to do
-    left : (a : Active) (cs : List Active) (todo : List Todo) (e : Env) → Entered source Any a.control → AllEntered source cs → marks a.control + marks_waiting cs ≤ marks_waiting s.callers → ((q : ℕ) → owed_by q a + owed_waiting q cs ≤ owed_waiting q s.callers) → Lighter source s.env e → (t : State) → t.run.control ≡ todo → Entered source Any todo → marks todo ≤ marks a.control → t.run.this ≡ a.this → t.callers ≡ cs → t.env ≡ e → Deep source t
-    left a cs todo e h c l m x t rc th tl rt tc te =
+    left : (a : Active) (cs : List Active) (todo : List Todo) (e : Env) → Entered source Any a.control → marks a.control ≤ 1 → AllEntered source cs → marks a.control + marks_waiting cs ≤ marks_waiting s.callers → ((q : ℕ) → owed_by q a + owed_waiting q cs ≤ owed_waiting q s.callers) → Lighter source s.env e → (t : State) → t.run.control ≡ todo → Entered source Any todo → marks todo ≤ marks a.control → t.run.this ≡ a.this → t.callers ≡ cs → t.env ≡ e → Deep source t
+    left a cs todo e h one c l m x t rc th tl rt tc te =
         let con : t.run.control ≡ todo = rc in
         record {
           first = Any;
           run = subst (Entered source Any) (sym rc) th;
+          one = let d = ap marks rc in omega (arith, d, one, tl);
           callers = subst (AllEntered source) (sym tc) c;
           env = subst (EngagedEnv source) (sym te) x.env;
           engaged =
@@ -223,13 +226,13 @@ module _ (source : Source) where
     returned given [] e = record { state = b.env; inside = is_own; unheld = tt }
     returned given (a ∷ cs) e =
         let c : AllEntered source (a ∷ cs) = subst (AllEntered source) e b.callers in
-        left a cs a.control _ c.0 c.1 (let w = ap marks_waiting e in omega (arith, w)) (λ q. let w = ap (owed_waiting q) e in omega (arith, w)) (unframed s.run.counts _) _ refl c.0 (omega arith) refl refl refl
+        left a cs a.control _ c.0 c.1 c.2 (let w = ap marks_waiting e in omega (arith, w)) (λ q. let w = ap (owed_waiting q) e in omega (arith, w)) (unframed s.run.counts _) _ refl c.0 (omega arith) refl refl refl
 
     -- it is left to be unwound
     passed : (a : Active) (cs : List Active) (why : UnwindReason) (given : Value) → s.callers ≡ a ∷ cs → Deep source (exec.left_for s.run.counts (exec.unwound (piece.Unwind ∷ a.control) why given a) cs s.env)
     passed a cs why given e =
         let c : AllEntered source (a ∷ cs) = subst (AllEntered source) e b.callers in
-        left a cs (piece.Unwind ∷ a.control) _ c.0 c.1 (let w = ap marks_waiting e in omega (arith, w)) (λ q. let w = ap (owed_waiting q) e in omega (arith, w)) (unframed s.run.counts _) _ refl (tt, any_skipped source a.control c.0) (omega arith) refl refl refl
+        left a cs (piece.Unwind ∷ a.control) _ c.0 c.1 c.2 (let w = ap marks_waiting e in omega (arith, w)) (λ q. let w = ap (owed_waiting q) e in omega (arith, w)) (unframed s.run.counts _) _ refl (tt, any_skipped source a.control c.0) (omega arith) refl refl refl
 
     past : (v : Visited) (given : Value) (cs : List Active) → s.callers ≡ cs → DeepStep source s.env (raising.return_past v given cs s)
     past v given [] e = record { state = b.env; inside = is_own; unheld = tt }
@@ -253,7 +256,7 @@ module _ (source : Source) where
 
     -- with another number of elements that stand
     elements : (n : ℕ) (t : State) → Deep source t → Deep source (quiet.with_elements n t)
-    elements n t h = record { first = h.first; run = h.run; callers = h.callers; env = h.env; engaged = h.engaged; depths = h.depths }
+    elements n t h = record { first = h.first; run = h.run; one = h.one; callers = h.callers; env = h.env; engaged = h.engaged; depths = h.depths }
 
     pub counts : (n : ℕ) (todo : List Todo) → Entered source Any todo → marks todo ≤ many → DeepStep source s.env (turns todo (quiet.with_elements n s))
     counts n todo h l = elements n (at todo s.run.operands s) (go todo s.run.operands h l)
@@ -273,7 +276,7 @@ module _ (source : Source) where
     task_step : (a : TaskStmt) (todo : List Todo) → EnteredTask source a → Entered source Any todo → marks todo ≤ many → DeepStep source s.env (quiet.task_step a todo s)
     task_step (src.Resume line) todo n h l = go _ _ (tt, (tt, (tt, h))) l
     task_step (src.Suspend line) todo n h l = go _ _ (tt, (tt, (tt, h))) l
-    task_step (src.SetUp r) todo n h l = go _ _ (n, h) l
+    task_step (src.SetUp r) todo n h l = go _ _ (n.0, h) l
     task_step src.Enliven todo n h l = go _ _ (tt, h) l
     task_step src.TakeDown todo n h l = go _ _ (tt, h) l
     task_step (src.Yield line) todo n h l = go _ _ (tt, (tt, (tt, h))) l
@@ -341,6 +344,7 @@ module _ (source : Source) where
         record {
           first = CallOf r;
           run = h;
+          one = let c = b.one in omega (arith, c, l);
           callers = b.callers;
           env = record { house = b.env.house; hand = b.env.hand };
           engaged =
@@ -372,6 +376,7 @@ module _ (source : Source) where
     ended_here e todo h l eo eh ei ed el t rc rt tc te = record {
       first = Any;
       run = subst (Entered source Any) (sym rc) h;
+      one = let c = ap marks rc in let d = b.one in omega (arith, c, d, l);
       callers = subst (AllEntered source) (sym tc) b.callers;
       env = subst (EngagedEnv source) (sym te) (record { house = subst (λ (m : Members). EngagedParked source m.parked) (sym eh) b.env.house; hand = subst (EngagedHand source) (sym ei) b.env.hand });
       engaged =
@@ -427,6 +432,7 @@ module _ (source : Source) where
             record {
               first = Bound;
               run = (tt, h);
+              one = let c = b.one in omega (arith, c, l);
               callers = b.callers;
               env = record { house = b.env.house; hand = b.env.hand };
               engaged =
@@ -448,6 +454,7 @@ module _ (source : Source) where
     gone_here e todo h l f eo eh ei ed el = record {
       first = Any;
       run = h;
+      one = let c = b.one in omega (arith, c, l);
       callers = b.callers;
       env = record { house = subst (λ (m : Members). EngagedParked source m.parked) (sym eh) b.env.house; hand = subst (EngagedHand source) (sym ei) b.env.hand };
       engaged =
@@ -529,6 +536,7 @@ module _ (source : Source) where
     like t u h rc rt tc te alone = record {
       first = Any;
       run = subst (Entered source Any) (sym rc) alone;
+      one = let c = ap marks rc in let d = h.one in omega (arith, c, d);
       callers = subst (AllEntered source) (sym tc) h.callers;
       env = subst (EngagedEnv source) (sym te) h.env;
       engaged =
@@ -564,7 +572,8 @@ module _ (source : Source) where
         record {
           first = Any;
           run = x.list;
-          callers = ((tt, h), b.callers);
+          one = let c = x.few in omega (arith, c);
+          callers = let c = b.one in ((tt, h), omega (arith, c, l), b.callers);
           env = record { house = b.env.house; hand = b.env.hand };
           engaged =
               let a = none_marked source (raising.handler_todo f.handler []) x.list in
@@ -583,7 +592,7 @@ module _ (source : Source) where
     pub raises : (e : Event) (todo : List Todo) → Entered source Any todo → marks todo ≤ many → DeepStep source s.env (raising.raise_step e todo s)
     raises e todo h l =
         let round : List Active = (record s.run { control = todo }) ∷ s.callers in
-        handles (raising.seek None e round) e todo (lists.seek source None e round (h, b.callers)) h l
+        handles (raising.seek None e round) e todo (lists.seek source None e round (let c = b.one in (h, omega (arith, c, l), b.callers))) h l
 
     -- unwinding
 

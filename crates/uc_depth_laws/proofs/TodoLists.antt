@@ -130,9 +130,9 @@ module _ (source : Source) where
   seek None e [] h = tt
   seek (Some v) e [] h = tt
   seek None e (a ∷ cs) h =
-      found_or (raising.hit_in e a.control) a cs (raising.seek a.handles e cs) (hit_in e a.control (any_skipped source a.control h.0)) (seek a.handles e cs h.1)
+      found_or (raising.hit_in e a.control) a cs (raising.seek a.handles e cs) (hit_in e a.control (any_skipped source a.control h.0)) (seek a.handles e cs h.2)
   seek (Some v) e (a ∷ cs) h =
-      either FoundEntered (nat_eq (length cs) v.level) (raising.found_or (raising.hit_in e (raising.within v.rest a.control)) a cs (raising.seek a.handles e cs)) (raising.seek (Some v) e cs) (found_or (raising.hit_in e (raising.within v.rest a.control)) a cs (raising.seek a.handles e cs) (hit_in e (raising.within v.rest a.control) (within v.rest a.control (any_skipped source a.control h.0))) (seek a.handles e cs h.1)) (seek (Some v) e cs h.1)
+      either FoundEntered (nat_eq (length cs) v.level) (raising.found_or (raising.hit_in e (raising.within v.rest a.control)) a cs (raising.seek a.handles e cs)) (raising.seek (Some v) e cs) (found_or (raising.hit_in e (raising.within v.rest a.control)) a cs (raising.seek a.handles e cs) (hit_in e (raising.within v.rest a.control) (within v.rest a.control (any_skipped source a.control h.0))) (seek a.handles e cs h.2)) (seek (Some v) e cs h.2)
 
   -- to-do lists
 
@@ -198,7 +198,7 @@ module _ (source : Source) where
     cleans src.Leaves todo k h l = record { list = (tt, h); few = l }
     cleans src.Ends todo k h l = record { list = (tt, h); few = l }
     cleans (src.Frees None) todo k h l = record { list = (tt, h); few = l }
-    cleans (src.Frees (Some r)) todo k h l = record { list = (k, h); few = l }
+    cleans (src.Frees (Some r)) todo k h l = record { list = (k.0, h); few = l }
     cleans (src.Restores c) todo k h l = record { list = (tt, h); few = l }
 
     pub left_cleans : (c : CleanUp) (todo : List Todo) → EnteredClean source c → Entered source Any todo → more (lets_go c) (marks todo) ≤ n → Ok source n (raising.left_todo c todo)
@@ -251,4 +251,4 @@ module _ (source : Source) where
   main_engaged r this n e =
       let l = routine_marks r in
       let z : more (holds_object r.body) 0 ≡ 0 = ap (λ c. more c 0) e in
-      record { first = Any; run = (n, (behind r.purpose r.line).list); callers = tt; engaged = omega (arith, l, z) }
+      record { first = Any; run = (n, (behind r.purpose r.line).list); one = omega (arith, l, z); callers = tt; engaged = omega (arith, l, z) }

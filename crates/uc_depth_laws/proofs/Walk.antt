@@ -29,6 +29,7 @@ module _ (source : Source) (known : EnteredSource source) where
   module _ (s : State) (deep : Deep source s) where
     b : Budget source (marks s.run.control) s
     b = record {
+      one = deep.one;
       callers = deep.callers;
       env = deep.env;
       engaged = let a = deep.engaged in omega (arith, a);

@@ -11,7 +11,7 @@ use Rattle.uc_machine.specs.Pieces.{Active, object_in}
 use Rattle.uc_machine.specs.Quiet.{State, Members, quiet, first_state}
 use Rattle.uc_machine.specs.Answering.{answered, child_of, with_hand}
 use Rattle.uc_depth_laws.specs.Entering.{is_holding, EnteredSource}
-use Rattle.uc_depth_laws.specs.Owing.{marks, EngagedParked, Free, Redrawn, IsInside, Deep, DeepAsk, DeepStep, Fair}
+use Rattle.uc_depth_laws.specs.Owing.{marks, EngagedParked, Free, Redrawn, IsInside, Deep, DeepAsk, DeepStep, Fair, Sole, Alone}
 
 -- an answer to a request: an object that is made is none of those in which the task is
 abbrev pub Suits : Request → Answer → State → Type 0
@@ -57,3 +57,8 @@ pub record LawDrawn : Type 0 where
       Redrawn source s.env.hand hand → Deep source (with_hand hand s)
   pub asked : (source : Source) (r : Request) (hand : List (ℕ × Members)) (s : State) → DeepAsk source r s →
       Redrawn source s.env.hand hand → DeepAsk source r (with_hand hand s)
+
+-- who lets go of an object has no other mark of it in the running activation: so nothing else is owed to the object as soon as neither older
+-- activations owe it anything, nor what does not run
+abbrev pub LawAlone : Type 0
+LawAlone = (source : Source) (s : State) → Deep source s → Alone source s → Sole source s

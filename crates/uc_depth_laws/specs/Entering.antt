@@ -1,8 +1,8 @@
 -- Code in which what holds an object is called where that is entered: a routine whose statements are, as a whole, in a scope that lets
 -- go of the object of its activation is called by a mutex call, by the making of an object or by its end, and by nothing else; and no
--- other statements stand in such a scope.
+-- other statements stand in such a scope. Tasks and coroutines begin with mains.
 use Rattle.std.specs.Prelude.{◌≡◌, ℕ, List, [], ◌∷◌, Option, Some, None, Bool, true, false, slice_get}
-use Rattle.uc_tree.specs.Source.{Expr, Exprs, ObjectExpr, Literal, Variable, Element, Get, Load, Negated, Not, AsCharacter, AsTruth, Operate, And, Or, Set, Assign, First, Update, StepBehind, Fail, Call, OfObject, NoExprs, MoreExprs, This, OwnField, GetOwn, FieldOf, Counted, CallOn, CallLive, CallUnwritten, EnterOn, EndOn, Bind, MakeOn, NewCluster, NewProcessor, EndCluster, EndProcessor, ConditionAt, Wait, Signal, SignalBlock, IsEmpty, FrontOf, Item, Show, ShowText, Target, Declared, CleanUp, Destroys, DestroysAll, Leaves, Ends, Frees, Stmt, Stmts, Skip, Block, Whole, Evaluate, Declare, Print, PrintTogether, Read, If, Loop, Break, Continue, Return, Owes, Fill, OfEvents, OfTasks, Nil, Then, Scoped, Built, Raised, Plainly, BuiltAt, AgainFrom, EventStmt, Throw, Raise, Try, RaiseAt, Enable, Disable, TaskStmt, SetUp, Migrate, Accept, Handlers, NoHandlers, MoreHandlers, Clauses, NoClauses, Otherwise, MoreClauses, Routine, Source, routine_of}
+use Rattle.uc_tree.specs.Source.{Expr, Exprs, ObjectExpr, Literal, Variable, Element, Get, Load, Negated, Not, AsCharacter, AsTruth, Operate, And, Or, Set, Assign, First, Update, StepBehind, Fail, Call, OfObject, NoExprs, MoreExprs, This, OwnField, GetOwn, FieldOf, Counted, CallOn, CallLive, CallUnwritten, EnterOn, EndOn, Bind, MakeOn, NewCluster, NewProcessor, EndCluster, EndProcessor, ConditionAt, Wait, Signal, SignalBlock, IsEmpty, FrontOf, Item, Show, ShowText, Target, Declared, CleanUp, Destroys, DestroysAll, Leaves, Ends, Frees, Stmt, Stmts, Skip, Block, Whole, Evaluate, Declare, Print, PrintTogether, Read, If, Loop, Break, Continue, Return, Owes, Fill, OfEvents, OfTasks, Nil, Then, Scoped, Built, Raised, Plainly, BuiltAt, AgainFrom, EventStmt, Throw, Raise, Try, RaiseAt, Enable, Disable, TaskStmt, SetUp, Migrate, Accept, Handlers, NoHandlers, MoreHandlers, Clauses, NoClauses, Otherwise, MoreClauses, Purpose, TaskMain, CoroutineMain, Routine, Source, routine_of}
 
 -- whether a clean-up lets go of the object of its activation: by the end of a call, of its destruction or of its building
 abbrev pub lets_go : CleanUp → Bool
@@ -19,6 +19,20 @@ holds_object body = false
 -- whether those of the routine of this number are
 abbrev pub is_holding : Source → ℕ → Bool
 is_holding source r = holds_object (routine_of source r).body
+
+-- a main ends in its own way: by what asks for the end of its task, or by what ends the coroutine
+abbrev pub EndsMain : Purpose → Type 0
+EndsMain TaskMain = Unit {0}
+EndsMain CoroutineMain = Unit {0}
+EndsMain p = ⊥
+
+abbrev pub IsMainRoutine : Option Routine → Type 0
+IsMainRoutine None = ⊥
+IsMainRoutine (Some r) = EndsMain r.purpose
+
+-- the routine of this number is the main of a task or of a coroutine
+abbrev pub IsMain : Source → ℕ → Type 0
+IsMain source r = IsMainRoutine (slice_get source.routines r)
 
 module _ (source : Source) where
   abbrev mutual
@@ -95,8 +109,8 @@ module _ (source : Source) where
   abbrev pub EnteredClean : CleanUp → Type 0
   EnteredClean (Destroys e) = EnteredExpr e
   EnteredClean (DestroysAll n e) = EnteredExpr e
-  -- nor is the main of a task
-  EnteredClean (Frees (Some r)) = is_holding source r ≡ false
+  -- a task that begins where its object is free has a main, which holds no object
+  EnteredClean (Frees (Some r)) = (is_holding source r ≡ false) × IsMain source r
   EnteredClean c = Unit {0}
 
   abbrev pub EnteredRaised : Raised → Type 0
@@ -142,11 +156,11 @@ module _ (source : Source) where
     EnteredHandlers NoHandlers = Unit {0}
     EnteredHandlers (MoreHandlers resumes event cell line body rest) = EnteredStmts body × EnteredHandlers rest
 
-    -- the main of a coroutine holds no object
+    -- so has a coroutine
     pub EnteredTask : TaskStmt → Type 0
     EnteredTask (Migrate line e) = EnteredExpr e
     EnteredTask (Accept line site cs) = EnteredClauses cs
-    EnteredTask (SetUp r) = is_holding source r ≡ false
+    EnteredTask (SetUp r) = (is_holding source r ≡ false) × IsMain source r
     EnteredTask a = Unit {0}
 
     pub EnteredClauses : Clauses → Type 0
@@ -166,3 +180,4 @@ module _ (source : Source) where
   pub record EnteredSource : Type 0 where
     pub routines : (n : ℕ) → EnteredRoutine (slice_get source.routines n)
     pub main : is_holding source source.main ≡ false
+    pub ends : IsMain source source.main

@@ -141,15 +141,16 @@ module _ (source : Source) where
   first_marks (piece.BindMadeNow c r ∷ todo) = more (is_holding source r) 0
   first_marks todo = 0
 
-  -- activations that wait
+  -- activations that wait, each with one mark at most
   abbrev pub AllEntered : List Active → Type 0
   AllEntered [] = Unit {0}
-  AllEntered (a ∷ rest) = Entered Any a.control × AllEntered rest
+  AllEntered (a ∷ rest) = Entered Any a.control × (marks a.control ≤ 1) × AllEntered rest
 
   -- an execution that does not run has as many mutex calls and buildings as marks, or more
   pub record Engaged (x : Ex) : Type 0 where
     pub first : First
     pub run : Entered first x.run.control
+    pub one : marks x.run.control ≤ 1
     pub callers : AllEntered x.callers
     pub engaged : first_marks x.run.control + marks x.run.control + marks_waiting x.callers ≤ entries x.links
 
@@ -255,6 +256,7 @@ module _ (source : Source) where
   pub record Engages (owing : ℕ → ℕ) (s : State) : Type 0 where
     pub first : First
     pub run : Entered source first s.run.control
+    pub one : marks s.run.control ≤ 1
     pub callers : AllEntered source s.callers
     pub env : EngagedEnv source s.env
     pub engaged : first_marks source s.run.control + marks s.run.control + marks_waiting s.callers ≤ entries s.env.links
@@ -303,9 +305,23 @@ module _ (source : Source) where
   FairAt todo s = Unit {0}
 
   -- the second of these alone
+  abbrev pub SoleAt : List Todo → State → Type 0
+  SoleAt (piece.BindMadeNow c r ∷ todo) s = Unit {0}
+  SoleAt todo s = FairAt todo s
+
+  abbrev pub Sole : State → Type 0
+  Sole s = SoleAt s.run.control s
+
+  -- of that, what is owed by older activations of the running execution and by those that do not run, and as the own object
+  abbrev pub owed_else : ℕ → State → ℕ
+  owed_else q s = owed_waiting q s.callers + owed_env source q s.env
+
   abbrev pub AloneAt : List Todo → State → Type 0
-  AloneAt (piece.BindMadeNow c r ∷ todo) s = Unit {0}
-  AloneAt todo s = FairAt todo s
+  AloneAt (piece.MadeNow ∷ todo) s = owed_else (this_object s) s ≡ 0
+  AloneAt (piece.SpawnNow r ∷ todo) s = owed_else (this_object s) s ≡ 0
+  AloneAt (piece.GoneNow ∷ todo) s = owed_else (this_object s) s ≡ 0
+  AloneAt (piece.GiveUpNow ∷ todo) s = owed_else (this_object s) s ≡ 0
+  AloneAt todo s = Unit {0}
 
   abbrev pub Alone : State → Type 0
   Alone s = AloneAt s.run.control s

@@ -1,6 +1,6 @@
 // The laws: each is a function whose contract is the law.
 
-ghost use Rattle.uc_depth_laws.specs.DepthLaws.{LawDrawn, LawFree, LawInside, LawSteps};
+ghost use Rattle.uc_depth_laws.specs.DepthLaws.{LawAlone, LawDrawn, LawFree, LawInside, LawSteps};
 
 /// Where objects are entered by their calls, a task is as deep in each object as it is owed, or
 /// deeper, and each execution has as many mutex calls and buildings as marks, or more: from its start
@@ -23,4 +23,11 @@ pub fn law_free()
 /// A hand that is drawn again and owes no more keeps that.
 pub fn law_drawn()
     ensures { LawDrawn }
+{}
+
+/// Who lets go of an object, however deep the task is, has no other mark of it in the running
+/// activation: nothing else is owed to it as soon as neither older activations owe it anything, nor
+/// what does not run.
+pub fn law_alone()
+    ensures { LawAlone }
 {}

@@ -66,23 +66,23 @@ module _ (p : Program) where
   left_held (Some m) len place rest h = clean_held m len place
 
   module _ (c : whole.Class) (i : ℕ) where
-    fields_built_held : (inits : List whole.Init) (s : Scope) (fs : List ClassField) (n : ℕ) (rest : Stmts) → holds_object rest ≡ false → holds_object (meaning.fields_built p c i inits s fs n rest) ≡ false
+    pub fields_built_held : (inits : List whole.Init) (s : Scope) (fs : List ClassField) (n : ℕ) (rest : Stmts) → holds_object rest ≡ false → holds_object (meaning.fields_built p c i inits s fs n rest) ≡ false
     fields_built_held inits s [] n rest h = h
     fields_built_held inits s (f ∷ fs) n rest h =
         built_held (meaning.field_making p f) f (meaning.length_in_class p c i f) (tree.field_place (class_shape p i) n tree.Own) (meaning.init_args p s (meaning.init_named p inits f.declarator.name)) (meaning.fields_built p c i inits s fs (suc n) rest) (fields_built_held inits s fs (suc n) rest h)
 
-    fields_left_held : (fs : List ClassField) (n : ℕ) (rest : Stmts) → holds_object rest ≡ false → holds_object (meaning.fields_left p c i fs n rest) ≡ false
+    pub fields_left_held : (fs : List ClassField) (n : ℕ) (rest : Stmts) → holds_object rest ≡ false → holds_object (meaning.fields_left p c i fs n rest) ≡ false
     fields_left_held [] n rest h = h
     fields_left_held (f ∷ fs) n rest h =
         left_held (meaning.field_making p f) (meaning.length_in_class p c i f) (tree.field_place (class_shape p i) n tree.Own) (meaning.fields_left p c i fs (suc n) rest) (fields_left_held fs (suc n) rest h)
 
   -- what builds and destroys the objects of classes that are no mutex classes
 
-  set_up_held : (b : Bool) (i : ℕ) (rest : Stmts) → holds_object rest ≡ false → holds_object (meaning.set_up p b i rest) ≡ false
+  pub set_up_held : (b : Bool) (i : ℕ) (rest : Stmts) → holds_object rest ≡ false → holds_object (meaning.set_up p b i rest) ≡ false
   set_up_held false i rest h = h
   set_up_held true i rest h = refl
 
-  started_in_held : (b : Bool) (body : Stmts) → holds_object body ≡ false → holds_object (meaning.started_in p b body) ≡ false
+  pub started_in_held : (b : Bool) (body : Stmts) → holds_object body ≡ false → holds_object (meaning.started_in p b body) ≡ false
   started_in_held false body h = h
   started_in_held true body h = refl
 
@@ -90,11 +90,11 @@ module _ (p : Program) where
   enlivened_held false = refl
   enlivened_held true = refl
 
-  taken_down_held : (b : Bool) (body : Stmts) → holds_object body ≡ false → holds_object (meaning.taken_down p b body) ≡ false
+  pub taken_down_held : (b : Bool) (body : Stmts) → holds_object body ≡ false → holds_object (meaning.taken_down p b body) ≡ false
   taken_down_held false body h = h
   taken_down_held true body h = refl
 
-  forgotten_held : (b : Bool) (rest : Stmts) → holds_object rest ≡ false → holds_object (meaning.forgotten p b rest) ≡ false
+  pub forgotten_held : (b : Bool) (rest : Stmts) → holds_object rest ≡ false → holds_object (meaning.forgotten p b rest) ≡ false
   forgotten_held false rest h = h
   forgotten_held true rest h = refl
 
@@ -146,7 +146,7 @@ module _ (p : Program) where
   free_destruction None i body f h = h
   free_destruction (Some c) i body f h = destruction_held c i body f h
 
-  ends_held : (o : Option whole.Class) (i : ℕ) → holds_object (meaning.construction_ends p o i) ≡ false
+  pub ends_held : (o : Option whole.Class) (i : ℕ) → holds_object (meaning.construction_ends p o i) ≡ false
   ends_held None i = refl
   ends_held (Some c) i = enlivened_held (has_execution c.kind)
 

@@ -1,4 +1,5 @@
 pub mod Holding
+pub mod Mains
 pub mod Lookups
 pub mod Expressions
 pub mod Statements

@@ -1,8 +1,8 @@
 -- What expressions and statements of programs call holds no object, but where they enter that.
-use Rattle.std.proofs.Common.{◌≡◌, ℕ, suc, ◌+◌, ◌≤◌, ◌++◌, List, [], ◌∷◌, length, Option, Some, None, Bool, true, false, refl, sym, ap, ◌∙◌, subst, arith}
-use Rattle.std.specs.Prelude.{◌&&◌, not, is_some, slice_get, if◌then◌else◌, nat_eq, option_and_then, unwrap_or}
+use Rattle.std.proofs.Common.{◌≡◌, ℕ, suc, ◌+◌, ◌≤◌, ◌++◌, ◌⊎◌, inl, inr, List, [], ◌∷◌, length, Option, Some, None, Bool, true, false, refl, sym, ap, ◌∙◌, subst, arith}
+use Rattle.std.specs.Prelude.{◌&&◌, ◌||◌, not, is_some, slice_get, if◌then◌else◌, nat_eq, option_and_then, unwrap_or}
 use Rattle.std.specs.List.{list_any}
-use Rattle.std.proofs.lemmas.Bool.{eqb-true}
+use Rattle.std.proofs.lemmas.Bool.{eqb-true, eq-eqb}
 use Rattle.uc_tree.specs.declared.limits.TheConstants.{MEMBERS}
 use Rattle.uc_tree.specs.declared.kinds.Base.{Base}
 use Rattle.uc_tree.specs.declared.kinds.Base.TheVariants as base
@@ -13,12 +13,12 @@ use Rattle.uc_tree.specs.declared.rows.FieldClass.{FieldClass}
 use Rattle.uc_tree.specs.Cells.{classes_of, object_of_kind, object_named}
 use Rattle.uc_tree.specs.Names.{same_name}
 use Rattle.uc_tree.specs.Numbering.{at_most, exclusive_name, exclusive_names, with_name, member_form_name, sig_name, place_from, is_exclusive, defined_by, item_defined, items_defined, main_name, is_event, is_mutex, is_plain, member_number, mutex_members, Defined, routines_of}
-use Rattle.uc_tree.specs.Objects.{class_at, number_at, place_of, Making, APlain, AMutex, making_by, making, event_place, member_from, is_member, is_constructor, written_at, unwritten_number}
+use Rattle.uc_tree.specs.Objects.{class_at, number_at, place_of, Making, APlain, AMutex, making_by, making, event_place, member_from, is_member, is_constructor, written_at, unwritten_number, has_execution, is_task}
 use Rattle.uc_tree.specs.Programs as whole
 use Rattle.uc_tree.specs.Programs.{Program}
 use Rattle.uc_tree.specs.ProgramMain.{main_among, main_number, is_main_sig, returns_as_main, no_params}
 use Rattle.uc_resolve.specs.Standings as tree
-use Rattle.uc_resolve.specs.Resolve.{source_of, place_by, class_by, has_number_in, main_at, event_constructor}
+use Rattle.uc_resolve.specs.Resolve.{source_of, place_by, class_by, has_number_in, has_tasks, has_coroutines, is_main, main_at, event_constructor}
 use Rattle.uc_rules.specs.declared.rule.Rule.TheVariants.{S3, S6}
 use Rattle.uc_rules.specs.Sorts.{has_main}
 use Rattle.uc_rules.specs.Names.{form_sig, method_sig}
@@ -40,8 +40,9 @@ use Rattle.uc_sound.proofs.BodyLemmas.{main_sig}
 use Rattle.uc_sound.proofs.ClassLemmas.{law_told}
 use Rattle.uc_sound.proofs.RoutineLemmas.{defined_routine, no_place, plain_place}
 use Rattle.uc_sound.proofs.MemberLemmas.{numbered_place, tells_maker}
-use Rattle.uc_depth_laws.specs.Entering.{is_holding}
+use Rattle.uc_depth_laws.specs.Entering.{is_holding, IsMain}
 use Rattle.uc_enter_laws.proofs.Holding.{IsFree, free_routine, plain_routine}
+use Rattle.uc_enter_laws.proofs.Mains.{main_meant}
 
 -- whether a declaration makes a plain object of a class that is there
 
@@ -187,6 +188,14 @@ unnumbered_in p (Some c) s e = by (is_plain s.role) (ap (λ n. is_some (member_n
     by true e = e
     by false e = refl
 
+or_second : (a b : Bool) → b ≡ true → (a || b) ≡ true
+or_second true b h = refl
+or_second false b h = h
+
+or_first : (a b : Bool) → a ≡ true → (a || b) ≡ true
+or_first true b h = refl
+or_first false b h = false_true h
+
 module _ (p : Program) (formed : IsFormed p) (u : Unbroken (program_visits p)) where
   at_place : (r n : ℕ) → Some r ≡ Some (0 + n) → n ≡ r
   at_place r n e = let q : r ≡ 0 + n = some_same e in omega (arith, q)
@@ -259,28 +268,68 @@ module _ (p : Program) (formed : IsFormed p) (u : Unbroken (program_visits p)) w
 
   -- the main of a class
 
+  record MainOf (i : ℕ) : Type 0 where
+    n : ℕ
+    defined : Defined
+    at : slice_get (routines_of p) n ≡ Some defined
+    place : place_by p defined ≡ Some i
+    main : is_main p defined.routine.sig ≡ true
+    number : main_at p i ≡ n
+
   module _ (i : ℕ) (c : whole.Class) (e : class_at p i ≡ Some c) (v : is_event c.kind ≡ false) where
-    main_sig_free : (j : ℕ) (sig : whole.Sig) → method_sig p i j ≡ Some sig → is_main_of_class sig ≡ true → is_holding (source_of p) (main_at p i) ≡ false
-    main_sig_free j sig m h =
+    main_member : (r : ℕ) → member_from (routines_of p) 0 (number_at p i) main_name ≡ Some r → MainOf i
+    main_member r f =
+        let class = number_at p i in
+        let k : Looked (is_member class main_name) (routines_of p) 0 (Some r) = looked (is_member class main_name) (routines_of p) 0 r (sym (member_looked (routines_of p) 0 class main_name) ∙ f) in
+        let d = k.defined in
+        let z : d.number ≡ class = eqb-true d.number class (left_is (nat_eq d.number class) (is_plain d.routine.sig.role && same_name d.routine.sig.name main_name) k.passes) in
+        record {
+          n = k.n;
+          defined = d;
+          at = k.at;
+          place = numbered_place p formed u i d (number_of p u i c formed.classes e v) z;
+          main = right_is (nat_eq d.number class) (is_plain d.routine.sig.role && same_name d.routine.sig.name main_name) k.passes;
+          number = ap (λ o. unwrap_or o 0) f ∙ sym (at_place r k.n k.found);
+        }
+
+    main_of_sig : (j : ℕ) (sig : whole.Sig) → method_sig p i j ≡ Some sig → is_main_of_class sig ≡ true → MainOf i
+    main_of_sig j sig m h =
         let plain = left_is (is_plain sig.role) (same_name sig.name main_name && (is_void_base sig.ret && nat_eq (length sig.params) 0)) h in
         let h1 = right_is (is_plain sig.role) (same_name sig.name main_name && (is_void_base sig.ret && nat_eq (length sig.params) 0)) h in
         let named = same_is sig.name main_name (left_is (same_name sig.name main_name) (is_void_base sig.ret && nat_eq (length sig.params) 0) h1) in
         let k = (law_told p formed u).members i j c sig e m plain in
-        let found : member_from (routines_of p) 0 (number_at p i) main_name ≡ Some k.number = ap (member_from (routines_of p) 0 (number_at p i)) (sym named) ∙ k.found in
-        let at : main_at p i ≡ k.number = ap (λ o. unwrap_or o 0) found in
-        subst (λ n. is_holding (source_of p) n ≡ false) (sym at) (member_free i c main_name k.number e v (main_unnumbered c) found)
+        main_member k.number (ap (member_from (routines_of p) 0 (number_at p i)) (sym named) ∙ k.found)
 
-    by_form : (j : ℕ) (m : whole.Member) (form : whole.MemberForm) → slice_get c.members j ≡ Some m → m.form ≡ form → form_is_main form ≡ true → is_holding (source_of p) (main_at p i) ≡ false
+    by_form : (j : ℕ) (m : whole.Member) (form : whole.MemberForm) → slice_get c.members j ≡ Some m → m.form ≡ form → form_is_main form ≡ true → MainOf i
     by_form j m (whole.FieldsMember at b ds) a f h = false_true h
-    by_form j m (whole.RoutineMember r) a f h = main_sig_free j r.sig (ap (option_and_then (λ (c : whole.Class). option_and_then (λ (m : whole.Member). form_sig m.form) (slice_get c.members j))) e ∙ (ap (option_and_then (λ (m : whole.Member). form_sig m.form)) a ∙ ap form_sig f)) h
-    by_form j m (whole.ProtoMember s) a f h = main_sig_free j s (ap (option_and_then (λ (c : whole.Class). option_and_then (λ (m : whole.Member). form_sig m.form) (slice_get c.members j))) e ∙ (ap (option_and_then (λ (m : whole.Member). form_sig m.form)) a ∙ ap form_sig f)) h
+    by_form j m (whole.RoutineMember r) a f h = main_of_sig j r.sig (ap (option_and_then (λ (c : whole.Class). option_and_then (λ (m : whole.Member). form_sig m.form) (slice_get c.members j))) e ∙ (ap (option_and_then (λ (m : whole.Member). form_sig m.form)) a ∙ ap form_sig f)) h
+    by_form j m (whole.ProtoMember s) a f h = main_of_sig j s (ap (option_and_then (λ (c : whole.Class). option_and_then (λ (m : whole.Member). form_sig m.form) (slice_get c.members j))) e ∙ (ap (option_and_then (λ (m : whole.Member). form_sig m.form)) a ∙ ap form_sig f)) h
 
-    pub main_free : has_main c.kind ≡ true → is_holding (source_of p) (main_at p i) ≡ false
-    main_free h =
+    main_of : has_main c.kind ≡ true → MainOf i
+    main_of h =
         let well : is_well_mained c ≡ true = holds (is_well_mained c) S6 c.pos _ (class_own p u i c e) in
         let k = subst (λ (b : Bool). (if b then list_any (λ (m : whole.Member). form_is_main m.form) c.members else not (list_any (λ n. same_name n main_name) (members_declare c.members))) ≡ true) h well in
         let f = any_at (λ (m : whole.Member). form_is_main m.form) c.members k in
         by_form f.0 f.1 f.1.form f.2 refl f.3
+
+    -- it holds no object, and ends as a main
+
+    pub main_free : has_main c.kind ≡ true → is_holding (source_of p) (main_at p i) ≡ false
+    main_free h =
+        let m : MainOf i = main_of h in
+        let s : whole.Sig = m.defined.routine.sig in
+        let named : s.name ≡ main_name = same_is s.name main_name (right_is (is_plain s.role) (same_name s.name main_name) m.main) in
+        subst (λ n. is_holding (source_of p) n ≡ false) (sym m.number) (plain_routine p m.n m.defined m.at (left_is (is_plain s.role) (same_name s.name main_name) m.main) (unnumbered_in p (class_by p (place_by p m.defined)) s named))
+
+    pub main_ends : has_main c.kind ≡ true → (is_task c.kind ≡ true) ⊎ (has_execution c.kind ≡ true) → IsMain (source_of p) (main_at p i)
+    main_ends h k =
+        let m : MainOf i = main_of h in
+        let at : class_by p (place_by p m.defined) ≡ Some c = ap (class_by p) m.place ∙ e in
+        subst (IsMain (source_of p)) (sym m.number) (main_meant p m.n m.defined m.at (by m at k))
+      where
+        by : (m : MainOf i) → class_by p (place_by p m.defined) ≡ Some c → (is_task c.kind ≡ true) ⊎ (has_execution c.kind ≡ true) → ((nat_eq m.n (main_number p) || (has_tasks p (class_by p (place_by p m.defined)) && is_main p m.defined.routine.sig)) ≡ true) ⊎ ((has_coroutines p (class_by p (place_by p m.defined)) && is_main p m.defined.routine.sig) ≡ true)
+        by m at (inl t) = inl (or_second (nat_eq m.n (main_number p)) _ (both_are (has_tasks p (class_by p (place_by p m.defined))) (is_main p m.defined.routine.sig) (ap (has_tasks p) at ∙ t) m.main))
+        by m at (inr x) = inr (both_are (has_coroutines p (class_by p (place_by p m.defined))) (is_main p m.defined.routine.sig) (ap (has_coroutines p) at ∙ x) m.main)
 
 -- the main of the program
 
@@ -317,10 +366,14 @@ module _ (p : Program) where
   main_found (whole.ForwardItem f ∷ xs) l = behind (whole.ForwardItem f) xs (main_found xs (omega (arith, l)))
   main_found (whole.UsingItem q ∷ xs) l = behind (whole.UsingItem q) xs (main_found xs (omega (arith, l)))
 
+  found_in : Unbroken (program_visits p) → MainAt p (items_defined p p.items) (main_among p p.items)
+  found_in u =
+      let one = eqb-true (mains_in p.items) 1 (holds (nat_eq (mains_in p.items) 1) S3 _ _ (none_left (main_breaks p ++ []) _ u)) in
+      main_found p.items (omega (arith, one))
+
   pub program_main_free : IsFormed p → Unbroken (program_visits p) → is_holding (source_of p) (main_number p) ≡ false
   program_main_free formed u =
-      let one = eqb-true (mains_in p.items) 1 (holds (nat_eq (mains_in p.items) 1) S3 _ _ (none_left (main_breaks p ++ []) _ u)) in
-      let m = main_found p.items (omega (arith, one)) in
+      let m = found_in u in
       let d : Defined = defined_by p m.routine.sig.owner m.routine in
       let same : d.routine ≡ m.routine = defined_routine p formed u m.routine.sig.owner m.routine in
       let rest = right_is (returns_as_main m.routine.sig.owner m.routine.sig.ret) (same_name m.routine.sig.name main_name && (is_plain m.routine.sig.role && no_params m.routine.sig.params)) m.main in
@@ -328,3 +381,8 @@ module _ (p : Program) where
       let plain : is_plain d.routine.sig.role ≡ true = ap (λ (z : whole.Routine). is_plain z.sig.role) same ∙ left_is (is_plain m.routine.sig.role) (no_params m.routine.sig.params) (right_is (same_name m.routine.sig.name main_name) (is_plain m.routine.sig.role && no_params m.routine.sig.params) rest) in
       let own : d.routine.sig.name ≡ main_name = ap (λ (z : whole.Routine). z.sig.name) same ∙ named in
       plain_routine p (main_number p) d m.at plain (unnumbered_in p (class_by p (place_by p d)) d.routine.sig own)
+
+  pub program_main_ends : Unbroken (program_visits p) → IsMain (source_of p) (main_number p)
+  program_main_ends u =
+      let m = found_in u in
+      main_meant p (main_number p) (defined_by p m.routine.sig.owner m.routine) m.at (inl (or_first _ _ (eq-eqb (main_number p) (main_number p) refl)))

@@ -7,7 +7,7 @@ use Rattle.uc_typing.specs.Typing.{Table}
 use Rattle.uc_typing.specs.States.{Sound, Typed}
 use Rattle.uc_typing.specs.Finds.{IsPlace, Finds}
 use Rattle.uc_typing.proofs.Finding.{law_finds}
-use Rattle.uc_depth_laws.specs.Owing.{AloneAt, FairAt}
+use Rattle.uc_depth_laws.specs.Owing.{SoleAt, FairAt}
 use Rattle.uc_enter_laws.specs.EnterLaws.{LawFair}
 
 placed : (n : ℕ) (vs : List Value) → IsPlace (top (drop n vs)) → n < length vs
@@ -17,7 +17,7 @@ placed (suc n) [] h = absurd h
 placed (suc n) (v ∷ vs) h = let l = placed n vs h in omega (arith, l)
 
 module _ (t : Table) (source : Source) (sound : Sound t source) (s : State) (x : Typed t [] s) where
-  fair : (l : List Todo) → s.run.control ≡ l → AloneAt source l s → FairAt source l s
+  fair : (l : List Todo) → s.run.control ≡ l → SoleAt source l s → FairAt source l s
   fair [] e a = a
   fair (piece.BindMadeNow c r ∷ todo) e a =
       let f : Finds source (piece.BindMadeNow c r) s = law_finds t source sound s x (piece.BindMadeNow c r) todo e in

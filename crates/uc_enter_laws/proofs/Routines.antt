@@ -1,5 +1,5 @@
 -- Each routine of a program that breaks no rule calls nothing that holds its object, but where it enters that.
-use Rattle.std.proofs.Common.{◌≡◌, ℕ, zero, suc, ◌+◌, ◌++◌, Bool, true, false, List, [], ◌∷◌, length, Option, Some, None, refl, ap}
+use Rattle.std.proofs.Common.{◌≡◌, ℕ, zero, suc, ◌+◌, ◌++◌, inl, inr, Bool, true, false, List, [], ◌∷◌, length, Option, Some, None, refl, ap}
 use Rattle.std.specs.Prelude.{slice_get, if◌then◌else◌}
 use Rattle.uc_tree.specs.declared.kinds.Kind.{Kind}
 use Rattle.uc_tree.specs.declared.kinds.Kind.TheVariants as kind
@@ -10,13 +10,13 @@ use Rattle.uc_tree.specs.Programs as whole
 use Rattle.uc_tree.specs.Programs.{Program}
 use Rattle.uc_tree.specs.Gathered.{gathered_all}
 use Rattle.uc_tree.specs.Numbering.{Defined, is_event, is_mutex, own_sites, own_texts, routines_of}
-use Rattle.uc_tree.specs.Objects.{Making, ClassField, fields_of, has_execution, class_at, class_shape, shape_of, making, Unwritten, unwritten_of}
+use Rattle.uc_tree.specs.Objects.{Making, ClassField, fields_of, has_execution, class_at, class_shape, shape_of, making, Unwritten, unwritten_of, is_task}
 use Rattle.uc_tree.specs.Source as src
 use Rattle.uc_tree.specs.Source.{Shape, Expr, Stmts, Purpose, Routine}
 use Rattle.uc_resolve.specs.Standings as tree
 use Rattle.uc_resolve.specs.Standings.{Meant}
 use Rattle.uc_resolve.specs.Resolve as meaning
-use Rattle.uc_resolve.specs.Resolve.{Scope, source_of, main_at}
+use Rattle.uc_resolve.specs.Resolve.{Scope, source_of}
 use Rattle.uc_rules.specs.Sorts.{has_main}
 use Rattle.uc_rules.specs.ProgramVisits.{program_visits}
 use Rattle.uc_agreement.specs.Unbroken.{Unbroken}
@@ -25,7 +25,7 @@ use Rattle.uc_sound.specs.Formed.{IsFormed}
 use Rattle.uc_depth_laws.specs.Entering.{EnteredExpr, EnteredStmts, EnteredBody, EnteredRoutine}
 use Rattle.uc_depth_laws.proofs.Depths.{body_of}
 use Rattle.uc_enter_laws.specs.EnterLaws.{LawEntered}
-use Rattle.uc_enter_laws.proofs.Lookups.{MakesPlain, making_plain, main_free, program_main_free}
+use Rattle.uc_enter_laws.proofs.Lookups.{MakesPlain, making_plain, main_free, main_ends, program_main_free, program_main_ends}
 use Rattle.uc_enter_laws.proofs.Expressions as expressions
 use Rattle.uc_enter_laws.proofs.Expressions.{MeantEntered, AllMeant}
 use Rattle.uc_enter_laws.proofs.Statements as statements
@@ -94,7 +94,7 @@ module _ (p : Program) (formed : IsFormed p) (u : Unbroken (program_visits p)) w
   set_up c i rest at h = by (has_execution c.kind) refl
     where
       by : (b : Bool) → has_execution c.kind ≡ b → Fine (meaning.set_up p b i rest)
-      by true e = (main_free p formed u i c at (executes_object c.kind e) (executes_main c.kind e), (refl, tt, h))
+      by true e = ((main_free p formed u i c at (executes_object c.kind e) (executes_main c.kind e), main_ends p formed u i c at (executes_object c.kind e) (executes_main c.kind e) (inr e)), (refl, tt, h))
       by false e = h
 
   started_in : (b : Bool) (body : Stmts) → Fine body → Fine (meaning.started_in p b body)
@@ -119,7 +119,7 @@ module _ (p : Program) (formed : IsFormed p) (u : Unbroken (program_visits p)) w
       by : (k : Kind) → c.kind ≡ k → Body (meaning.freed p k i rest)
       by kind.Monitor e = (tt, h)
       by kind.Cormonitor e = (tt, h)
-      by kind.Task e = (main_free p formed u i c at (ap is_event e) (ap has_main e), h)
+      by kind.Task e = ((main_free p formed u i c at (ap is_event e) (ap has_main e), main_ends p formed u i c at (ap is_event e) (ap has_main e) (inl (ap is_task e))), h)
       by kind.Class e = body_of (source_of p) rest h
       by kind.Coroutine e = body_of (source_of p) rest h
       by kind.Event e = body_of (source_of p) rest h
@@ -208,4 +208,4 @@ module _ (p : Program) (formed : IsFormed p) (u : Unbroken (program_visits p)) w
       by_number (source_of p).routines (both_lists (meaning.routines_meant p (routines_of p) 0 0 0) (meaning.all_unwritten p (unwritten_of p)) (written (routines_of p) 0 0 0) (unwritten (unwritten_of p))) n
 
 pub law_entered : LawEntered
-law_entered p formed u = record { routines = all_routines p formed u; main = program_main_free p formed u }
+law_entered p formed u = record { routines = all_routines p formed u; main = program_main_free p formed u; ends = program_main_ends p u }

@@ -9,7 +9,7 @@ use Rattle.uc_typing.specs.Typing.{Table}
 use Rattle.uc_typing.specs.States.{Sound, Typed}
 use Rattle.uc_sound.specs.Formed.{IsFormed}
 use Rattle.uc_depth_laws.specs.Entering.{EnteredSource}
-use Rattle.uc_depth_laws.specs.Owing.{Alone, Fair}
+use Rattle.uc_depth_laws.specs.Owing.{Sole, Fair}
 
 -- what holds an object is called where that is entered, in the source of every program that breaks no rule
 abbrev pub LawEntered : Type 0
@@ -19,4 +19,4 @@ LawEntered = (p : Program) → IsFormed p → breaks_of p ≡ [] → EnteredSour
 abbrev pub LawFair : Type 0
 LawFair =
     (t : Table) (source : Source) → Sound t source → (s : State) → Typed t [] s →
-    Alone source s → Fair source s
+    Sole source s → Fair source s

@@ -5,7 +5,7 @@ ghost use Rattle.uc_enter_laws.specs.EnterLaws.{LawEntered, LawFair};
 /// In the source of every program that breaks no rule, a routine whose statements are, as a whole, in
 /// a scope that lets go of its object is called by what enters that object alone: a mutex member, a
 /// constructor and a destructor of a mutex class. No other statements stand in such a scope, and no
-/// main is such a routine.
+/// main is such a routine. Tasks and coroutines begin with routines that end as mains do.
 pub fn law_entered()
     ensures { LawEntered }
 {}

@@ -14,7 +14,7 @@ use Rattle.uc_sound.specs.Tables.{table_of}
 use Rattle.uc_formed.specs.WellTyped.{IsTaskState, ReadsTo, begun, spawned, steps, ticks, told, drawn}
 
 behind : (t : Table) (source : Source) → Sound t source → (s : State) (step : Step) → quiet source s ≡ step → Typed t [] s → ReadsIn t s → After t source step
-behind t source sound s step e x r = subst (After t source) e (keeps t source sound s x (r x))
+behind t source sound s step e x r = subst (After t source) e (keeps t source sound s (r x).0 (r x).1)
 
 module _ (p : Program) (sound : Sound (table_of p) (source_of p)) (main : IsTask (table_of p) (source_of p).main) where
   pub typed : (u : State) (i : IsTaskState p u) → ReadsTo p u i → Typed (table_of p) [] u

@@ -20,12 +20,18 @@ use Rattle.uc_machine.specs.Pieces.{Value, Number, Place, Running, Object, Nothi
 use Rattle.uc_depth_laws.specs.Owing.{Ex}
 use Rattle.uc_depth_laws.proofs.Kept.{either}
 use Rattle.uc_inner_laws.specs.Inner.{Part}
-use Rattle.uc_inner_laws.specs.Standing.{Mark, Stands, Waits, StandsEx, StandsSlot, StandsParked, StandsHand, StandsMembers, StandsEnv, IsHere, StandsState}
+use Rattle.uc_inner_laws.specs.Standing.{Mark, Stands, Waits, StandsBy, StandsEx, StandsSlot, StandsParked, StandsHand, StandsMembers, StandsEnv, IsHere, StandsState}
 
 module _ (part : ℕ → Part) (source : Source) (mine : ℕ) where
-  -- why an activation is unwound does not matter
-  pub calm : (h : Home) (ns : List Mark) (a : Active) (older : List Active) (w : Option UnwindReason) → Stands part source h ns a older → Stands part source h ns (record a { raised = w }) older
-  calm h ns a older w s = record { ground = s.ground; marks = s.marks; holds = s.holds; ok = s.ok; backed = s.backed; thing = s.thing }
+  -- for which reason an activation is unwound does not matter
+  unwound : (h : Home) (ns : List Mark) (a : Active) (older : List Active) (w : UnwindReason) → Stands part source h ns a older → Stands part source h ns (record a { raised = Some w }) older
+  unwound h ns a older w s = record { base = s.base; marks = s.marks; holds = s.holds; ok = s.ok; backed = s.backed; thing = s.thing; waited = s.waited; reason = λ i. refl }
+
+  -- an execution that stops
+  stands_by : (g : Stage) (h : Home) (a : Active) (older : List Active) → Stands part source h [] a older × Waits part source h older → StandsBy part source g h a older
+  stands_by Fresh h a older s = s
+  stands_by Started h a older s = s
+  stands_by Ended h a older s = tt
 
   -- nothing else of a task changes where members do
   pub record Kept (e f : Env) : Type 0 where
@@ -151,7 +157,7 @@ module _ (part : ℕ → Part) (source : Source) (mine : ℕ) where
 
   frames_kept : (h : Home) (n : ℕ) (f : List (List Value) → List (List Value)) (o : Option Ex) (m : Members) → StandsSlot part source h o → StandsParked part source h m.parked → StandsParked part source h (frames_by n f o m).parked
   frames_kept h n f None m r s = s
-  frames_kept h n f (Some x) m r s = update_parked h n (Some (record x { frames = f x.frames })) m.parked (record { run = r.run; callers = r.callers }) s
+  frames_kept h n f (Some x) m r s = update_parked h n (Some (record x { frames = f x.frames })) m.parked r s
 
   with_frames_stand : (n : Exec) (f : List (List Value) → List (List Value)) (e : Env) → StandsEnv part source e → Kept e (with_frames n f e)
   with_frames_stand n f e s =
@@ -177,17 +183,22 @@ module _ (part : ℕ → Part) (source : Source) (mine : ℕ) where
   forgotten_stands None e s = record { env = s; exec = refl; own = refl; hand = λ q i. i }
   forgotten_stands (Some n) e s = change_stands n.home (sw.slot_gone n.serial) e (λ m h. without_parked n.home n.serial m.parked h) s
 
-  links_kept : (h : Home) (g : Links → Links) (n : ℕ) (o : Option Ex) (m : Members) → StandsSlot part source h o → StandsParked part source h m.parked → StandsParked part source h (sw.links_by g n o m).parked
-  links_kept h g n None m r s = s
-  links_kept h g n (Some x) m r s = update_parked h n (Some (record x { links = g x.links })) m.parked (record { run = r.run; callers = r.callers }) s
+  -- an execution ends by it, or goes on as it is
+  abbrev pub KeepsLinks : (Links → Links) → Type 0
+  KeepsLinks g = (l : Links) (h : Home) (a : Active) (older : List Active) → StandsBy part source l.stage h a older → StandsBy part source (g l).stage h a older
 
-  pub with_links_stand : (g : Links → Links) (n : Exec) (e : Env) → StandsEnv part source e → Kept e (sw.with_links g n e)
-  with_links_stand g n e s =
-      either (Kept e) (exec_eq n e.exec) (record e { links = g e.links }) (change n.home (sw.links_changed g n.serial) e) (record { env = same s refl refl refl; exec = refl; own = refl; hand = λ q i. i }) (change_stands n.home (sw.links_changed g n.serial) e (λ m h. links_kept n.home g n.serial (joined (find n.serial m.parked)) m (found_parked n.home n.serial m.parked h) h) s)
+  links_kept : (h : Home) (g : Links → Links) → KeepsLinks g → (n : ℕ) (o : Option Ex) (m : Members) → StandsSlot part source h o → StandsParked part source h m.parked → StandsParked part source h (sw.links_by g n o m).parked
+  links_kept h g k n None m r s = s
+  links_kept h g k n (Some x) m r s =
+      update_parked h n (Some (record x { links = g x.links })) m.parked (k x.links h x.run x.callers r) s
+
+  pub with_links_stand : (g : Links → Links) → KeepsLinks g → (n : Exec) (e : Env) → StandsEnv part source e → Kept e (sw.with_links g n e)
+  with_links_stand g k n e s =
+      either (Kept e) (exec_eq n e.exec) (record e { links = g e.links }) (change n.home (sw.links_changed g n.serial) e) (record { env = same s refl refl refl; exec = refl; own = refl; hand = λ q i. i }) (change_stands n.home (sw.links_changed g n.serial) e (λ m h. links_kept n.home g k n.serial (joined (find n.serial m.parked)) m (found_parked n.home n.serial m.parked h) h) s)
 
   pub enlivened_stands : (o : Option Exec) (e : Env) → StandsEnv part source e → Kept e (sw.enlivened o e)
   enlivened_stands None e s = record { env = s; exec = refl; own = refl; hand = λ q i. i }
-  enlivened_stands (Some n) e s = with_links_stand (λ l. record l { live = true }) n e s
+  enlivened_stands (Some n) e s = with_links_stand (λ l. record l { live = true }) (λ l h a older k. k) n e s
 
   slot_stands : (n : Exec) (o : Option Ex) (e : Env) → StandsSlot part source n.home o → StandsEnv part source e → Kept e (sw.set_slot n o e)
   slot_stands n o e r s = change_stands n.home (sw.slot_set n.serial o) e (λ m h. update_parked n.home n.serial o m.parked r h) s
@@ -208,14 +219,31 @@ module _ (part : ℕ → Part) (source : Source) (mine : ℕ) where
   StandsMoved (To s) = StandsState part source mine s
   StandsMoved (Stops f) = Unit {0}
 
+  -- an execution that is parked in this task, or in its hand, and has not ended
+  abbrev Next : ℕ → List (ℕ × Members) → Exec → Ex → Type 0
+  Next own hand n x = Stands part source n.home [] x.run x.callers × Waits part source n.home x.callers × IsHere own hand n.home
+
+  -- one that may have
+  abbrev NextBy : Stage → ℕ → List (ℕ × Members) → Exec → Ex → Type 0
+  NextBy g own hand n x = StandsBy part source g n.home x.run x.callers × IsHere own hand n.home
+
   -- who may be activated
   abbrev pub StandsNext : ℕ → List (ℕ × Members) → Option (Exec × Ex) → Type 0
   StandsNext own hand None = Unit {0}
-  StandsNext own hand (Some p) = StandsEx part source p.0.home p.1 × IsHere own hand p.0.home
+  StandsNext own hand (Some p) = Next own hand p.0 p.1
 
-  -- an execution that is parked in this task, or in its hand
-  abbrev Next : ℕ → List (ℕ × Members) → Exec → Ex → Type 0
-  Next own hand n x = StandsEx part source n.home x × IsHere own hand n.home
+  -- the running execution as one that does not run
+  pub record Parks (s : State) : Type 0 where
+    pub own : s.env.own ≡ mine
+    pub slot : StandsBy part source s.env.links.stage s.env.exec.home s.run s.callers
+    pub env : StandsEnv part source s.env
+
+  pub parks : (s : State) → StandsState part source mine s → Parks s
+  parks s h = record { own = h.own; slot = stands_by s.env.links.stage s.env.exec.home s.run s.callers (h.run, h.callers); env = h.env }
+
+  -- one that has ended
+  pub parks_ended : (s : State) → s.env.own ≡ mine → StandsEnv part source s.env → Parks (sw.ended s)
+  parks_ended s o e = record { own = o; slot = tt; env = same e refl refl refl }
 
   abbrev Slot : ℕ → List (ℕ × Members) → Exec → Option Ex → Type 0
   Slot own hand n o = StandsSlot part source n.home o × HereSlot own hand n.home o
@@ -223,18 +251,18 @@ module _ (part : ℕ → Part) (source : Source) (mine : ℕ) where
   slot_at : (n : Exec) (e : Env) → StandsEnv part source e → Slot e.own e.hand n (parked_at n e)
   slot_at n e s = (parked_stand n e s, slot_here n.home n.serial e)
 
-  next_at : (own : ℕ) (hand : List (ℕ × Members)) (n : Exec) (x : Ex) → Slot own hand n (Some x) → Next own hand n x
+  next_at : (own : ℕ) (hand : List (ℕ × Members)) (n : Exec) (x : Ex) → Slot own hand n (Some x) → NextBy x.links.stage own hand n x
   next_at own hand n x s = (s.0, s.1)
 
-  pub switched_stands : (n : Exec) (x : Ex) (s : State) → Next s.env.own s.env.hand n x → StandsState part source mine s → StandsState part source mine (sw.switched n x s)
+  pub switched_stands : (n : Exec) (x : Ex) (s : State) → Next s.env.own s.env.hand n x → Parks s → StandsState part source mine (sw.switched n x s)
   switched_stands n x s r h =
       let out : Kept s.env (sw.set_slot n None s.env) = slot_stands n None s.env tt h.env in
-      let back : Kept (sw.set_slot n None s.env) (sw.set_slot s.env.exec (Some (sw.stopped s)) (sw.set_slot n None s.env)) = slot_stands s.env.exec (Some (sw.stopped s)) (sw.set_slot n None s.env) (record { run = h.run; callers = h.callers }) out.env in
-      record { own = back.own ∙ (out.own ∙ h.own); run = r.0.run; callers = r.0.callers; env = same back.env refl refl refl; here = here_kept back n.home (here_kept out n.home r.1) }
+      let back : Kept (sw.set_slot n None s.env) (sw.set_slot s.env.exec (Some (sw.stopped s)) (sw.set_slot n None s.env)) = slot_stands s.env.exec (Some (sw.stopped s)) (sw.set_slot n None s.env) h.slot out.env in
+      record { own = back.own ∙ (out.own ∙ h.own); run = r.0; callers = r.1; env = same back.env refl refl refl; here = here_kept back n.home (here_kept out n.home r.2) }
 
-  able_stage : (own : ℕ) (hand : List (ℕ × Members)) (g : Stage) (n : Exec) (x : Ex) → Next own hand n x → StandsNext own hand (sw.able_at g n x)
+  able_stage : (own : ℕ) (hand : List (ℕ × Members)) (g : Stage) (n : Exec) (x : Ex) → NextBy g own hand n x → StandsNext own hand (sw.able_at g n x)
   able_stage own hand Fresh n x r = tt
-  able_stage own hand Started n x r = r
+  able_stage own hand Started n x r = (r.0.0, r.0.1, r.1)
   able_stage own hand Ended n x r = tt
 
   able_slot : (own : ℕ) (hand : List (ℕ × Members)) (n : Exec) (o : Option Ex) → Slot own hand n o → StandsNext own hand (sw.able_by n o)
@@ -249,18 +277,18 @@ module _ (part : ℕ → Part) (source : Source) (mine : ℕ) where
   or_stands own hand None b h k = k
   or_stands own hand (Some p) b h k = h
 
-  go_on_stands : (o : Option (Exec × Ex)) (s : State) → StandsNext s.env.own s.env.hand o → StandsState part source mine s → StandsMoved (sw.go_on o s)
+  go_on_stands : (o : Option (Exec × Ex)) (s : State) → StandsNext s.env.own s.env.hand o → Parks s → StandsMoved (sw.go_on o s)
   go_on_stands None s r h = tt
   go_on_stands (Some p) s r h = switched_stands p.0 p.1 s r h
 
-  wake_stage : (g : Stage) (n : Exec) (x : Ex) (s : State) → Next s.env.own s.env.hand n x → StandsState part source mine s → StandsMoved (sw.wake_at g n x s)
-  wake_stage Fresh n x s r h = switched_stands n _ s (record { run = r.0.run; callers = r.0.callers }, r.1) h
-  wake_stage Started n x s r h = switched_stands n _ s (record { run = r.0.run; callers = r.0.callers }, r.1) h
+  wake_stage : (g : Stage) (n : Exec) (x : Ex) (s : State) → NextBy g s.env.own s.env.hand n x → Parks s → StandsMoved (sw.wake_at g n x s)
+  wake_stage Fresh n x s r h = switched_stands n _ s (r.0.0, r.0.1, r.1) h
+  wake_stage Started n x s r h = switched_stands n _ s (r.0.0, r.0.1, r.1) h
   wake_stage Ended n x s r h = tt
 
   wake_slot : (n : Exec) (o : Option Ex) (s : State) → Slot s.env.own s.env.hand n o → StandsState part source mine s → StandsMoved (sw.wake_by n o s)
   wake_slot n None s r h = tt
-  wake_slot n (Some x) s r h = wake_stage x.links.stage n x s (next_at s.env.own s.env.hand n x r) h
+  wake_slot n (Some x) s r h = wake_stage x.links.stage n x s (next_at s.env.own s.env.hand n x r) (parks s h)
 
   wake_one_stands : (o : Option Exec) (s : State) → StandsState part source mine s → StandsMoved (sw.wake_one o s)
   wake_one_stands None s h = tt
@@ -270,31 +298,30 @@ module _ (part : ℕ → Part) (source : Source) (mine : ℕ) where
   wake_stands o s h = either StandsMoved (sw.in_destruction s.env) (Stops SwitchInUnwind) (sw.wake_one o s) tt (wake_one_stands o s h)
 
   pub suspend_stands : (s : State) → StandsState part source mine s → StandsMoved (sw.suspend s)
-  suspend_stands s h = either StandsMoved (sw.in_destruction s.env) (Stops SwitchInUnwind) (sw.go_on (sw.able s.env.links.resumer s.env) s) tt (go_on_stands (sw.able s.env.links.resumer s.env) s (able_stands s.env.links.resumer s.env h.env) h)
+  suspend_stands s h = either StandsMoved (sw.in_destruction s.env) (Stops SwitchInUnwind) (sw.go_on (sw.able s.env.links.resumer s.env) s) tt (go_on_stands (sw.able s.env.links.resumer s.env) s (able_stands s.env.links.resumer s.env h.env) (parks s h))
 
-  ended_stands : (s : State) → StandsState part source mine s → StandsState part source mine (sw.ended s)
-  ended_stands s h = record { own = h.own; run = h.run; callers = h.callers; env = same h.env refl refl refl; here = h.here }
+  -- whoever ends is looked at no more
 
-  pub finish_stands : (s : State) → StandsState part source mine s → StandsMoved (sw.finish s)
-  finish_stands s h =
-      go_on_stands (sw.or_else (sw.able s.env.links.starter s.env) (sw.able s.env.links.resumer s.env)) (sw.ended s) (or_stands s.env.own s.env.hand (sw.able s.env.links.starter s.env) (sw.able s.env.links.resumer s.env) (able_stands s.env.links.starter s.env h.env) (able_stands s.env.links.resumer s.env h.env)) (ended_stands s h)
+  pub finish_stands : (s : State) → s.env.own ≡ mine → StandsEnv part source s.env → StandsMoved (sw.finish s)
+  finish_stands s o e =
+      go_on_stands (sw.or_else (sw.able s.env.links.starter s.env) (sw.able s.env.links.resumer s.env)) (sw.ended s) (or_stands s.env.own s.env.hand (sw.able s.env.links.starter s.env) (sw.able s.env.links.resumer s.env) (able_stands s.env.links.starter s.env e) (able_stands s.env.links.resumer s.env e)) (parks_ended s o e)
 
-  throw_stands : (o : Option (Exec × Ex)) (s : State) → StandsNext s.env.own s.env.hand o → StandsState part source mine s → StandsMoved (sw.throw_at o s)
+  throw_stands : (o : Option (Exec × Ex)) (s : State) → StandsNext s.env.own s.env.hand o → Parks s → StandsMoved (sw.throw_at o s)
   throw_stands None s r h = tt
-  throw_stands (Some p) s r h = switched_stands p.0 _ s (record { run = calm p.0.home [] p.1.run p.1.callers _ r.0.run; callers = r.0.callers }, r.1) h
+  throw_stands (Some p) s r h = switched_stands p.0 _ s (unwound p.0.home [] p.1.run p.1.callers _ r.0, r.1, r.2) h
 
-  pub escape_stands : (s : State) → StandsState part source mine s → StandsMoved (sw.escape s)
-  escape_stands s h = throw_stands (sw.able s.env.links.resumer s.env) (sw.ended s) (able_stands s.env.links.resumer s.env h.env) (ended_stands s h)
+  pub escape_stands : (s : State) → s.env.own ≡ mine → StandsEnv part source s.env → StandsMoved (sw.escape s)
+  escape_stands s o e = throw_stands (sw.able s.env.links.resumer s.env) (sw.ended s) (able_stands s.env.links.resumer s.env e) (parks_ended s o e)
 
-  pub taken_down_stands : (s : State) → StandsState part source mine s → StandsMoved (sw.taken_down s)
-  taken_down_stands s h = go_on_stands (sw.able s.env.links.destroyer s.env) (sw.ended s) (able_stands s.env.links.destroyer s.env h.env) (ended_stands s h)
+  pub taken_down_stands : (s : State) → s.env.own ≡ mine → StandsEnv part source s.env → StandsMoved (sw.taken_down s)
+  taken_down_stands s o e = go_on_stands (sw.able s.env.links.destroyer s.env) (sw.ended s) (able_stands s.env.links.destroyer s.env e) (parks_ended s o e)
 
   over_stands : (n : Exec) (s : State) → StandsState part source mine s → StandsState part source mine (sw.over n s)
-  over_stands n s h = in_kept s _ (with_links_stand (λ l. record l { live = false; stage = Ended }) n s.env h.env) h
+  over_stands n s h = in_kept s _ (with_links_stand (λ l. record l { live = false; stage = Ended }) (λ l k a older i. tt) n s.env h.env) h
 
-  take_down_stage : (g : Stage) (n : Exec) (x : Ex) (s : State) → Next s.env.own s.env.hand n x → StandsState part source mine s → StandsMoved (sw.take_down_at g n x s)
+  take_down_stage : (g : Stage) (n : Exec) (x : Ex) (s : State) → NextBy g s.env.own s.env.hand n x → StandsState part source mine s → StandsMoved (sw.take_down_at g n x s)
   take_down_stage Fresh n x s r h = over_stands n s h
-  take_down_stage Started n x s r h = switched_stands n _ s (record { run = calm n.home [] x.run x.callers _ r.0.run; callers = r.0.callers }, r.1) h
+  take_down_stage Started n x s r h = switched_stands n _ s (unwound n.home [] x.run x.callers _ r.0.0, r.0.1, r.1) (parks s h)
   take_down_stage Ended n x s r h = over_stands n s h
 
   take_down_slot : (n : Exec) (o : Option Ex) (s : State) → Slot s.env.own s.env.hand n o → StandsState part source mine s → StandsMoved (sw.take_down_by n o s)

@@ -10,6 +10,7 @@ use Rattle.uc_entry.specs.declared.request.Answer.TheVariants as answer
 use Rattle.uc_entry.specs.declared.request.Request.{Request}
 use Rattle.uc_entry.specs.declared.request.Request.TheVariants as ask
 use Rattle.uc_entry.specs.Keyed.{find}
+use Rattle.uc_machine.specs.declared.exec.Exec.{Exec}
 use Rattle.uc_machine.specs.declared.exec.Home.{Home}
 use Rattle.uc_machine.specs.declared.exec.Home.TheVariants as home
 use Rattle.uc_machine.specs.Executions.{values_cleared, home_eq}
@@ -17,36 +18,40 @@ use Rattle.uc_machine.specs.Insides.{is_held_up, has_engaged}
 use Rattle.uc_machine.specs.Raising as raising
 use Rattle.uc_machine.specs.Monitors as monitors
 use Rattle.uc_machine.specs.Quiet as quiet
-use Rattle.uc_machine.specs.Quiet.{first_state, zeros}
+use Rattle.uc_machine.specs.Quiet.{first_state}
 use Rattle.uc_machine.specs.Pieces as piece
-use Rattle.uc_machine.specs.Pieces.{Value, Todo, State, Env, Members, Active, Step, Asks, at, top, below, number, object_in}
+use Rattle.uc_machine.specs.Pieces.{Value, Todo, State, Members, Active, at, top, below, number, object_in}
 use Rattle.uc_machine.specs.Answering.{answered, entered, new_members, with_operand}
-use Rattle.uc_depth_laws.specs.Owing.{marks, AloneAt, FairAt, IsInside, Deep}
+use Rattle.uc_depth_laws.specs.Owing.{marks, SoleAt, FairAt, IsInside, Deep}
 use Rattle.uc_depth_laws.proofs.Kept.{either}
 use Rattle.uc_depth_laws.proofs.Standing.{law_inside}
 use Rattle.uc_answer_laws.specs.Suiting.{AnObject, AClause, ANumber, AValue, AnEvent, JustGo, IsForm, form_of_request}
-use Rattle.uc_inner_laws.specs.Inner.{Part, Ground, ground_of, params_at, params, InnerMaybe, InnerItems, InnerExpr, InnerStmt, InnerRoutine, InnerSource}
-use Rattle.uc_inner_laws.specs.Standing.{Mark, Any, Thing, Meets, Holds, rest, ground, Ok, brings, StandsParked, StandsHand, StandsMembers, StandsWith, StandsState, IsHome, Backs, IsHere, StandsIn, StandsAsking, StandsStep}
-use Rattle.uc_inner_laws.specs.InnerLaws.{IsAt, LawSteps, LawInside, LawFair}
+use Rattle.uc_inner_laws.specs.Inner.{Part, ground_of, params_at, params, InnerMaybe, InnerItems, InnerExpr, InnerStmt, InnerRoutine, InnerSource}
+use Rattle.uc_inner_laws.specs.Standing.{Mark, Any, Thing, Meets, Holds, rest, ground, Base, calm, Ok, brings, StandsParked, StandsHand, StandsMembers, StandsWith, StandsState, IsHome, Backs, IsHere, StandsAsk, StandsIn, StandsAsking, StandsStep}
+use Rattle.uc_inner_laws.specs.InnerLaws.{IsElsewhere, IsAt, LawSteps, LawInside, LawFair}
 use Rattle.uc_inner_laws.proofs.Keeping as kept
-use Rattle.uc_inner_laws.proofs.Marking.{holds_below, there_long}
+use Rattle.uc_inner_laws.proofs.Marking.{holds_below, there_long, alone}
 use Rattle.uc_inner_laws.proofs.TodoLists as lists
 use Rattle.uc_inner_laws.proofs.Steps as steps
 use Rattle.uc_inner_laws.proofs.Steps.{Round}
+use Rattle.uc_depth_laws.specs.Entering.{IsMain, IsMainRoutine}
 
 module _ (part : ℕ → Part) (source : Source) (mine : ℕ) (known : InnerSource part source) where
-  module _ (s : State) (base : Ground) (x : Round part source mine base s) (ms : List Mark) (holds : Holds s.run.this ms s.run.operands) where
-    go : (ns : List Mark) (todo : List Todo) (vs : List Value) → Holds s.run.this ns vs → Ok part source base ns todo → StandsState part source mine (at todo vs s)
+  module _ (s : State) (base : Base) (x : Round part source mine base s) (ms : List Mark) (holds : Holds s.env.exec.home s.run.this ms s.run.operands) where
+    go : (ns : List Mark) (todo : List Todo) (vs : List Value) → Holds s.env.exec.home s.run.this ns vs → Ok part source base ns todo → StandsState part source mine (at todo vs s)
     go = steps.go part source mine s base x
 
     anew : (todo : List Todo) (vs : List Value) → Ok part source base [] todo → StandsState part source mine (at todo vs s)
     anew = steps.anew part source mine s base x
 
-    one : Holds s.run.this (rest ms) (below s.run.operands)
-    one = holds_below s.run.this ms s.run.operands holds
+    lift : (todo : List Todo) → Ok part source (calm base) [] todo → Ok part source base [] todo
+    lift = steps.lift part source mine s base x
 
-    two : Holds s.run.this (rest (rest ms)) (below (below s.run.operands))
-    two = holds_below s.run.this (rest ms) (below s.run.operands) one
+    one : Holds s.env.exec.home s.run.this (rest ms) (below s.run.operands)
+    one = holds_below s.env.exec.home s.run.this ms s.run.operands holds
+
+    two : Holds s.env.exec.home s.run.this (rest (rest ms)) (below (below s.run.operands))
+    two = holds_below s.env.exec.home s.run.this (rest ms) (below s.run.operands) one
 
     -- one piece, with what is to do behind it
     acts : (p : Todo) (todo : List Todo) → s.run.control ≡ p ∷ todo → Ok part source base ms (p ∷ todo) → StandsStep part source mine s (quiet.act source p todo s)
@@ -67,19 +72,19 @@ module _ (part : ℕ → Part) (source : Source) (mine : ℕ) (known : InnerSour
     acts piece.KeepNow todo c h = steps.go_in part source mine s base x (Any ∷ rest (rest ms)) _ _ _ (tt, two) h.1 (steps.write part source mine s base x (top (below s.run.operands)) (piece.Number (number (top s.run.operands))))
     acts (piece.SetNow k) todo c h = steps.go_in part source mine s base x ms _ _ _ holds h.1 (steps.write part source mine s base x (piece.variable_at k s) (piece.Number (number (top s.run.operands))))
     acts piece.BindNow todo c h = steps.go_in part source mine s base x (Any ∷ rest (rest ms)) _ _ _ (tt, two) h.1 (steps.write part source mine s base x (top (below s.run.operands)) (top s.run.operands))
-    acts (piece.Choose e f) todo c h = go (rest ms) _ _ one (either (InnerExpr part source (ground base todo)) (piece.is_zero (number (top s.run.operands))) f e h.0.1 h.0.0, inl h.1)
-    acts (piece.Branch a b) todo c h = anew _ _ (either (InnerStmt part source (ground base todo)) (piece.is_zero (number (top s.run.operands))) b a h.0.1 h.0.0, h.1)
+    acts (piece.Choose e f) todo c h = go (rest ms) _ _ one (either (InnerExpr part source (ground base.ground todo)) (piece.is_zero (number (top s.run.operands))) f e h.0.1 h.0.0, inl h.1)
+    acts (piece.Branch a b) todo c h = anew _ _ (either (InnerStmt part source (ground base.ground todo)) (piece.is_zero (number (top s.run.operands))) b a h.0.1 h.0.0, h.1)
     acts piece.TickNow todo c h = go ms _ _ holds h.1
     acts (piece.TurnNow o t e b) todo c h = anew _ _ (h.0.2, (h.0, h.1))
     acts (piece.Arguments src.NoExprs) todo c h = go ms _ _ holds h.1
     acts (piece.Arguments (src.MoreExprs e es)) todo c h = go ms _ _ holds (h.0.0, inl (h.0.1, h.1))
-    acts (piece.CallNow r) todo c h = steps.call part source mine s base x ms holds (part r) (slice_get source.routines r) todo h.0 (known r) h.1
-    acts (piece.CallOnNow r) todo c h = steps.call_on part source mine s base x ms holds (part r) (slice_get source.routines r) todo (known r) h.0 h.1
-    acts (piece.CallUnwrittenNow r) todo c h = steps.call_unwritten part source mine s base x ms holds (part r) (slice_get source.routines r) todo (known r) h.0 h.1
-    acts (piece.CountNow m) todo c h = steps.changed part source mine s base x _ refl h.1
-    acts piece.MoreNow todo c h = steps.changed part source mine s base x _ refl h.1
+    acts (piece.CallNow r) todo c h = steps.call part source mine s base x ms holds (part r) (slice_get source.routines r) todo h.0.0 h.0.1 (known r) h.1
+    acts (piece.CallOnNow r) todo c h = steps.call_on part source mine s base x ms holds (part r) (slice_get source.routines r) todo h.0.1 (known r) h.0.0 h.1
+    acts (piece.CallUnwrittenNow r) todo c h = steps.call_unwritten part source mine s base x ms holds (part r) (slice_get source.routines r) todo h.0.1 (known r) h.0.0 h.1
+    acts (piece.CountNow m) todo c h = steps.changed part source mine s base x _ refl refl h.1
+    acts piece.MoreNow todo c h = steps.changed part source mine s base x _ refl refl h.1
     acts (piece.FillNow m b d) todo c h = anew _ _ (lists.filled part source base (nat_lt s.run.elements m) m b d todo h.0 h.1)
-    acts (piece.Again o t e b) todo c h = anew _ _ (either (Ok part source base []) (piece.is_zero (number (top s.run.operands))) todo (piece.TurnNow o t e b ∷ todo) h.1 (h.0, h.1))
+    acts (piece.Again o t e b) todo c h = anew _ _ (either (Ok part source base []) (piece.is_zero (number (top s.run.operands))) todo (piece.TurnNow o t e b ∷ todo) (lift todo h.1) (h.0, h.1))
     acts (piece.PrintNow f) todo c h = steps.prints part source mine s base x s.env.gathered _ todo _ h.1
     acts (piece.TextNow k) todo c h = steps.prints part source mine s base x s.env.gathered _ todo _ h.1
     acts piece.GatherNow todo c h = steps.go_in part source mine s base x [] _ _ _ tt h.1 (steps.likes part source mine s base x refl refl refl refl)
@@ -98,35 +103,35 @@ module _ (part : ℕ → Part) (source : Source) (mine : ℕ) (known : InnerSour
     acts (piece.Variables (d ∷ ds)) todo c h = anew _ _ (tt, lists.starts part source base d.cell d.value (piece.Variables ds ∷ todo) h.0.0 (h.0.1, h.1))
     acts (piece.Do a) todo c h = steps.stmt part source mine s base x a todo h.0 h.1
     acts (piece.Rest ss) todo c h = steps.rest_of part source mine s base x ss todo h.0 h.1
-    acts (piece.Within line) todo c h = anew _ _ h.1
+    acts (piece.Within line) todo c h = anew _ _ (lift todo h.1)
     acts (piece.Exit w) todo c h = steps.exits part source mine s base x w todo h
     acts piece.NoReturnNow todo c h = steps.stop part source mine s base x NoReturn todo _
     acts (piece.InLoop o t e b) todo c h = anew _ _ (lists.stepped part source base e _ (subst (λ g. InnerMaybe part source g e) (sym (lists.tested_ground part source base o t e b todo)) h.0.1) (lists.tested part source base o t e b todo h.0.0 h.0.1 h.0.2 h.1))
-    acts piece.InWhole todo c h = anew _ _ h.1
-    acts (piece.Clean x) todo c h = anew _ _ (lists.cleans part source base x todo h.0 h.1)
+    acts piece.InWhole todo c h = anew _ _ (lift todo h.1)
+    acts (piece.Clean y) todo c h = anew _ _ (lists.cleans part source base y todo h.0 (lift todo h.1))
     acts (piece.Sweep e) todo c h = steps.swept part source mine s base x s.run.elements e todo h.0 h.1
-    acts (piece.Part x) todo c h = anew _ _ h.1
-    acts (piece.Guard hs) todo c h = anew _ _ h.1
-    acts piece.Unwind todo c h = steps.unwinds part source mine s base x todo h
+    acts (piece.Part x) todo c h = anew _ _ (lift todo h.1)
+    acts (piece.Guard hs) todo c h = anew _ _ (lift todo h.1)
+    acts piece.Unwind todo c h = steps.unwinds part source mine s base x todo h.0 h.1
     acts piece.ThrowNow todo c h = steps.thrown part source mine s base x (raising.event_in s.run.operands) todo h.1
     acts piece.RaiseNow todo c h = steps.raises part source mine s base x ms (raising.event_in s.run.operands) todo holds h.1
-    acts (piece.SetUpNow r) todo c h = steps.set_up part source mine s base x ms holds (part r) (slice_get source.routines r) todo h.0 (known r) h.1
+    acts (piece.SetUpNow r) todo c h = steps.set_up part source mine s base x ms holds (part r) (slice_get source.routines r) todo h.0.0 h.0.1 (known r) h.1
     acts piece.EnlivenNow todo c h = steps.go_in part source mine s base x [] _ _ _ tt h.1 (kept.enlivened_stands part source mine (piece.own_exec s) s.env x.env)
     acts piece.TakeDownNow todo c h = steps.moved part source mine s base x _ todo _ (kept.take_down_stands part source mine (piece.own_exec s) (at todo s.run.operands s) (anew _ _ h.1))
     acts piece.ForgetNow todo c h = steps.go_in part source mine s base x [] _ _ _ tt h.1 (kept.forgotten_stands part source mine (piece.own_exec s) s.env x.env)
-    acts (piece.LiveNow r) todo c h = steps.live part source mine s base x ms holds (slice_get source.routines r) todo h.1
+    acts (piece.LiveNow r) todo c h = steps.live part source mine s base x ms holds (slice_get source.routines r) todo h.0 h.1
     acts piece.ResumeNow todo c h = steps.moved part source mine s base x _ (piece.Land ∷ todo) _ (kept.wake_stands part source mine (quiet.resumed s) (at (piece.Land ∷ todo) s.run.operands s) (anew _ _ (tt, h.1)))
     acts piece.SuspendNow todo c h = steps.moved part source mine s base x _ (piece.Land ∷ todo) _ (kept.suspend_stands part source mine (at (piece.Land ∷ todo) s.run.operands s) (anew _ _ (tt, h.1)))
-    acts piece.Land todo c h = steps.land part source mine s base x s.run.raised ms todo holds h.1
-    acts (piece.EnterNow m r) todo c h = steps.enter part source mine s base x ms holds m (slice_get source.routines r) todo h.1
+    acts piece.Land todo c h = steps.land part source mine s base x s.run.raised refl ms todo holds h.1
+    acts (piece.EnterNow m r) todo c h = steps.enter part source mine s base x ms holds m (slice_get source.routines r) todo h.0 h.1
     acts piece.LeaveNow todo c h = steps.leave part source mine s base x ms holds _ todo h.1
-    acts (piece.MakeNow k r) todo c h = steps.make part source mine s base x ms holds k r (slice_get source.routines r) todo h.0 h.1
-    acts (piece.BindMadeNow k r) todo c h = steps.bind part source mine s base x ms holds (slice_get source.routines r) todo h.0.0 h.1
+    acts (piece.MakeNow k r) todo c h = steps.make part source mine s base x ms holds k r (slice_get source.routines r) todo h.0.1 h.0.1 h.0.0 h.1
+    acts (piece.BindMadeNow k r) todo c h = steps.bind part source mine s base x ms holds (slice_get source.routines r) todo h.0.2 h.0.0 h.1
     acts piece.MadeNow todo c h = steps.unless part source mine s base x ms holds (monitors.this_object s) _ todo (λ u. steps.asked_in part source mine s base x _ [] todo _ _ (λ z. z) tt tt h.1 (steps.likes part source mine s base x refl refl refl refl))
-    acts (piece.SpawnNow r) todo c h = steps.unless part source mine s base x ms holds (monitors.this_object s) _ (piece.ChildNow r ∷ todo) (λ u. steps.asked_in part source mine s base x _ [] _ _ _ (λ z. z) tt tt (tt, h.1) (steps.likes part source mine s base x refl refl refl refl))
+    acts (piece.SpawnNow r) todo c h = steps.unless part source mine s base x ms holds (monitors.this_object s) _ (piece.ChildNow r ∷ todo) (λ u. steps.asked_in part source mine s base x _ [] _ _ _ (λ z. z) tt tt (h.0, h.1) (steps.likes part source mine s base x refl refl refl refl))
     acts (piece.ChildNow r) todo c h = anew _ _ h.1
-    acts piece.GoneNow todo c h = steps.asked_in part source mine s base x _ [] todo _ _ (λ z. z) tt tt h.1 (steps.likes part source mine s base x refl refl refl refl)
-    acts piece.GiveUpNow todo c h = steps.asked_in part source mine s base x _ [] todo _ _ (λ z. z) tt tt h.1 (steps.likes part source mine s base x refl refl refl refl)
+    acts piece.GoneNow todo c h = steps.asked_in part source mine s base x _ [] todo _ _ (λ z. z) (λ g e. steps.takes_out part source mine s base x todo _ c g e) tt h.1 (steps.likes part source mine s base x refl refl refl refl)
+    acts piece.GiveUpNow todo c h = steps.asked_in part source mine s base x _ [] todo _ _ (λ z. z) (λ g e. steps.gives_up part source mine s base x todo h.0 g e) tt h.1 (steps.likes part source mine s base x refl refl refl refl)
     acts piece.ClusterNow todo c h = steps.asked part source mine s base x _ (ms) todo _ (λ z. z) tt holds h.1
     acts piece.ProcessorNow todo c h = steps.asked part source mine s base x _ (rest ms) todo _ (λ z. z) tt one h.1
     acts piece.ClusterEndNow todo c h = steps.asked part source mine s base x _ (Any ∷ rest ms) todo _ (λ z. z) tt (tt, one) h.1
@@ -151,39 +156,33 @@ module _ (part : ℕ → Part) (source : Source) (mine : ℕ) (known : InnerSour
     acts (piece.RestoreNow cell) todo c h = steps.go_in part source mine s base x [] _ _ _ tt h.1 (steps.likes part source mine s base x refl refl refl refl)
     acts piece.PollNow todo c h = steps.poll part source mine s base x ms holds todo h.1
     acts piece.DeliverNow todo c h = steps.deliver part source mine s base x ms holds _ todo h.1
-    acts piece.Finish todo c h = steps.unless part source mine s base x ms holds s.env.own _ todo (λ u. steps.returned part source mine s base x _ s.callers x.callers)
-    acts piece.FinishCoroutine todo c h = steps.moved part source mine s base x _ todo _ (kept.finish_stands part source mine (at todo s.run.operands s) (anew _ _ h.1))
+    acts piece.Finish todo c h = steps.unless part source mine s base x ms holds s.env.own _ todo (λ u. steps.finished part source mine s base x _ s.callers u x.callers)
+    acts piece.FinishCoroutine todo c h = steps.moved part source mine s base x _ todo _ (kept.finish_stands part source mine (at todo s.run.operands s) x.own x.env)
 
   pub walk : (s : State) → StandsState part source mine s → StandsStep part source mine s (quiet.quiet source s)
   walk s h = by s.run.control refl
     where
-      x : Round part source mine h.run.ground s
-      x = record { own = h.own; callers = h.callers; env = h.env; here = h.here; backed = h.run.backed; thing = h.run.thing }
+      x : Round part source mine h.run.base s
+      x = record { own = h.own; callers = h.callers; env = h.env; here = h.here; backed = h.run.backed; thing = h.run.thing; waited = h.run.waited; reason = h.run.reason }
 
       by : (l : List Todo) → s.run.control ≡ l → StandsStep part source mine s (quiet.act_todo source l s)
-      by [] e = steps.returned part source mine s h.run.ground x _ s.callers h.callers
-      by (p ∷ todo) e = acts s h.run.ground x h.run.marks h.run.holds p todo e (subst (Ok part source h.run.ground h.run.marks) e h.run.ok)
+      by [] e = steps.returned part source mine s h.run.base x _ s.callers (h.run.waited (subst (Ok part source h.run.base h.run.marks) e h.run.ok)) h.callers
+      by (p ∷ todo) e = acts s h.run.base x h.run.marks h.run.holds p todo e (subst (Ok part source h.run.base h.run.marks) e h.run.ok)
 
 module _ (part : ℕ → Part) (source : Source) (known : InnerSource part source) where
   -- a task begins at home in its own object
-  begins : (o : ℕ) (p : Part) (r : Option Routine) → InnerRoutine part source p r → StandsState part source o (first_state (routine_or_none r) o)
-  begins o p None h = record {
+  begins : (o : ℕ) (p : Part) (r : Option Routine) → IsMainRoutine r → InnerRoutine part source p r → StandsState part source o (first_state (routine_or_none r) o)
+  begins o p None m h = absurd m
+  begins o p (Some r) m h = record {
     own = refl;
-    run = record { ground = ground_of p; marks = []; holds = tt; ok = (tt, (tt, tt)); backed = λ i. refl; thing = λ i. refl };
-    callers = tt;
-    env = record { house = (tt, tt); hand = tt };
-    here = refl;
-  }
-  begins o p (Some r) h = record {
-    own = refl;
-    run = record { ground = ground_of p; marks = []; holds = tt; ok = lists.routine part source (ground_of p) r h; backed = λ i. refl; thing = λ i. refl };
+    run = record { base = alone (ground_of p); marks = []; holds = tt; ok = lists.routine part source (alone (ground_of p)) r (inr m) h; backed = λ i. refl; thing = λ i. (refl, λ e. absurd (cc)); waited = λ i. absurd (cc); reason = λ i. absurd (cc) };
     callers = tt;
     env = record { house = (tt, tt); hand = tt };
     here = refl;
   }
 
-  pub first : (r o : ℕ) → StandsState part source o (first_state (routine_of source r) o)
-  first r o = begins o (part r) (slice_get source.routines r) (known r)
+  pub first : (r o : ℕ) → IsMain source r → StandsState part source o (first_state (routine_of source r) o)
+  first r o m = begins o (part r) (slice_get source.routines r) m (known r)
 
 -- answers bring operands, and at most an object in which nothing is at home
 
@@ -198,9 +197,9 @@ module _ (part : ℕ → Part) (source : Source) (mine : ℕ) where
   new_stands (p ∷ todo) o = tt
 
   -- the operand that is brought meets its mark
-  brought : (m : Mark) (v : Value) (s : State) → StandsWith part source mine (m ∷ []) s → ((this : Value) → Meets this m v) → StandsState part source mine (with_operand v s)
+  brought : (m : Mark) (v : Value) (s : State) → StandsWith part source mine (m ∷ []) s → ((this : Value) → Meets s.env.exec.home this m v) → StandsState part source mine (with_operand v s)
   brought m v s w k = record {
-    run = record { ground = w.run.ground; marks = m ∷ w.run.marks; holds = (k s.run.this, w.run.holds); ok = w.run.ok; backed = w.run.backed; thing = w.run.thing };
+    run = record { base = w.run.base; marks = m ∷ w.run.marks; holds = (k s.run.this, w.run.holds); ok = w.run.ok; backed = w.run.backed; thing = w.run.thing; waited = w.run.waited; reason = w.run.reason };
     callers = w.callers;
     env = w.env;
     own = w.own;
@@ -223,14 +222,26 @@ module _ (part : ℕ → Part) (source : Source) (mine : ℕ) where
       still (home.Task t) i = i
       still (home.Object q) i = more q s.env.hand i
 
-  an_object : (m : Mark) (given : Answer) (s : State) → ((this : Value) (o : ℕ) → Meets this m (piece.Object o)) → StandsWith part source mine (m ∷ []) s → IsForm AnObject given → StandsState part source mine (answered source given s)
-  an_object m (answer.Object o) s k w f =
-      brought m (piece.Object o) (entered (new_members source s.run.control) o s) (found m o (new_members source s.run.control) s (new_stands s.run.control o) w) (λ this. k this o)
-  an_object m given s k w f = absurd f
+  -- an object that is there is new, or nothing is known of it
+  at_same : (m : Mark) (o : ℕ) (x : Option Members) (s : State) → ((this : Value) → Meets s.env.exec.home this m (piece.Object o)) → (this : Value) → Meets (entered x o s).env.exec.home this m (piece.Object o)
+  at_same m o None s k this = k this
+  at_same m o (Some x) s k this = k this
+
+  an_object : (m : Mark) (o : ℕ) (s : State) → ((this : Value) → Meets s.env.exec.home this m (piece.Object o)) → StandsWith part source mine (m ∷ []) s → StandsState part source mine (answered source (answer.Object o) s)
+  an_object m o s k w =
+      brought m (piece.Object o) (entered (new_members source s.run.control) o s) (found m o (new_members source s.run.control) s (new_stands s.run.control o) w) (at_same m o (new_members source s.run.control) s k)
+
+  any_object : (given : Answer) (s : State) → StandsWith part source mine (Any ∷ []) s → IsForm AnObject given → StandsState part source mine (answered source given s)
+  any_object (answer.Object o) s w f = an_object Any o s (λ this. tt) w
+  any_object given s w f = absurd f
+
+  new_object : (c : ℕ) (given : Answer) (s : State) → IsElsewhere (ask.Make c) given s → StandsWith part source mine (Thing ∷ []) s → IsForm AnObject given → StandsState part source mine (answered source given s)
+  new_object c (answer.Object o) s e w f = an_object Thing o s (λ this. (refl, e)) w
+  new_object c given s e w f = absurd f
 
   a_clause : (given : Answer) (s : State) → StandsWith part source mine (Any ∷ (Any ∷ [])) s → IsForm AClause given → StandsState part source mine (answered source given s)
   a_clause (answer.Clause n failed) s w f = record {
-    run = record { ground = w.run.ground; marks = Any ∷ (Any ∷ w.run.marks); holds = (tt, (tt, w.run.holds)); ok = w.run.ok; backed = w.run.backed; thing = w.run.thing };
+    run = record { base = w.run.base; marks = Any ∷ (Any ∷ w.run.marks); holds = (tt, (tt, w.run.holds)); ok = w.run.ok; backed = w.run.backed; thing = w.run.thing; waited = w.run.waited; reason = w.run.reason };
     callers = w.callers;
     env = w.env;
     own = w.own;
@@ -248,7 +259,7 @@ module _ (part : ℕ → Part) (source : Source) (mine : ℕ) where
 
   three : (u v y : Value) (s : State) → StandsWith part source mine (Any ∷ (Any ∷ (Any ∷ []))) s → StandsState part source mine (with_operand u (with_operand v (with_operand y s)))
   three u v y s w = record {
-    run = record { ground = w.run.ground; marks = Any ∷ (Any ∷ (Any ∷ w.run.marks)); holds = (tt, (tt, (tt, w.run.holds))); ok = w.run.ok; backed = w.run.backed; thing = w.run.thing };
+    run = record { base = w.run.base; marks = Any ∷ (Any ∷ (Any ∷ w.run.marks)); holds = (tt, (tt, (tt, w.run.holds))); ok = w.run.ok; backed = w.run.backed; thing = w.run.thing; waited = w.run.waited; reason = w.run.reason };
     callers = w.callers;
     env = w.env;
     own = w.own;
@@ -264,17 +275,17 @@ module _ (part : ℕ → Part) (source : Source) (mine : ℕ) where
   goes_on answer.Go s w f = w
   goes_on given s w f = absurd f
 
-  pub told : (r : Request) (given : Answer) (s : State) → StandsWith part source mine (brings r) s → IsForm (form_of_request r) given → StandsState part source mine (answered source given s)
-  told (ask.Make c) given s w f = an_object Thing given s (λ this o. refl) w f
-  told ask.Cluster given s w f = an_object Any given s (λ this o. tt) w f
-  told (ask.Processor c) given s w f = an_object Any given s (λ this o. tt) w f
-  told (ask.Accept o site mask) given s w f = a_clause given s w f
-  told (ask.Empty o c) given s w f = a_number given s w f
-  told (ask.Front o c) given s w f = a_number given s w f
-  told ask.Fail given s w f = a_number given s w f
-  told (ask.Read form) given s w f = a_value given s w f
-  told (ask.Poll events) given s w f = an_event given s w f
-  told r given s w f = goes_on given s w f
+  pub told : (r : Request) (given : Answer) (s : State) → StandsWith part source mine (brings r) s → IsForm (form_of_request r) given → IsElsewhere r given s → StandsState part source mine (answered source given s)
+  told (ask.Make c) given s w f e = new_object c given s e w f
+  told ask.Cluster given s w f e = any_object given s w f
+  told (ask.Processor c) given s w f e = any_object given s w f
+  told (ask.Accept o site mask) given s w f e = a_clause given s w f
+  told (ask.Empty o c) given s w f e = a_number given s w f
+  told (ask.Front o c) given s w f e = a_number given s w f
+  told ask.Fail given s w f e = a_number given s w f
+  told (ask.Read form) given s w f e = a_value given s w f
+  told (ask.Poll events) given s w f e = an_event given s w f
+  told r given s w f e = goes_on given s w f
 
 pub law_steps : LawSteps
 law_steps = record { begins = first; steps = λ part source known mine s h. walk part source mine known s h; told = told }
@@ -289,10 +300,10 @@ module _ (part : ℕ → Part) (source : Source) (mine : ℕ) (s : State) (h : S
       by None = refl
       by (Some r) = refl
 
-  fair : (l : List Todo) → s.run.control ≡ l → AloneAt source l s → FairAt source l s
+  fair : (l : List Todo) → s.run.control ≡ l → SoleAt source l s → FairAt source l s
   fair (piece.BindMadeNow c r ∷ todo) e a =
-      let ok : Ok part source h.run.ground h.run.marks (piece.BindMadeNow c r ∷ todo) = subst (Ok part source h.run.ground h.run.marks) e h.run.ok in
-      let l = there_long s.run.this (params part source r) (rest h.run.marks) (below s.run.operands) ok.0.1 (holds_below s.run.this h.run.marks s.run.operands h.run.holds) in
+      let ok : Ok part source h.run.base h.run.marks (piece.BindMadeNow c r ∷ todo) = subst (Ok part source h.run.base h.run.marks) e h.run.ok in
+      let l = there_long s.env.exec.home s.run.this (params part source r) (rest h.run.marks) (below s.run.operands) ok.0.1 (holds_below s.env.exec.home s.run.this h.run.marks s.run.operands h.run.holds) in
       let n = params_same r in
       omega (arith, l, n)
   fair [] e a = a
@@ -352,19 +363,21 @@ module _ (part : ℕ → Part) (source : Source) (mine : ℕ) (s : State) (h : S
       by (inl i) = i
       by (inr e) = elsewhere e.0
 
-  asked : (t : State) → ((q : ℕ) → is_some (find q s.env.hand) ≡ true → is_some (find q t.env.hand) ≡ true) → (r : Request) → StandsIn r s → IsAt r s t
-  asked t k (ask.Wait o c n) i = is_let o i.0 i.1
-  asked t k (ask.SignalBlock o c) i = is_let o i.0 i.1
-  asked t k (ask.Accept o site mask) i = is_let o i.0 i.1
-  asked t k (ask.Signal o c) i = in_hand t k o i
-  asked t k (ask.Empty o c) i = in_hand t k o i
-  asked t k (ask.Front o c) i = in_hand t k o i
-  asked t k r i = tt
+  asked : (t : State) → t.env.exec ≡ s.env.exec → ((q : ℕ) → is_some (find q s.env.hand) ≡ true → is_some (find q t.env.hand) ≡ true) → (r : Request) → StandsIn r s → StandsAsk part source mine r t → IsAt r s t
+  asked t x k (ask.Wait o c n) i v = is_let o i.0 i.1
+  asked t x k (ask.SignalBlock o c) i v = is_let o i.0 i.1
+  asked t x k (ask.Accept o site mask) i v = is_let o i.0 i.1
+  asked t x k (ask.Signal o c) i v = in_hand t k o i
+  asked t x k (ask.Empty o c) i v = in_hand t k o i
+  asked t x k (ask.Front o c) i v = in_hand t k o i
+  asked t x k (ask.Gone o) i v = λ g q. i g (sym (ap (λ (n : Exec). n.home) x) ∙ q)
+  asked t x k ask.End i v = subst (λ o. is_held_up o t.env ≡ false) (sym h.own) v.1
+  asked t x k r i v = tt
 
 pub law_is_inside : LawInside
 law_is_inside part source known mine s h deep r t e =
     let a : StandsAsking part source mine s r t = subst (StandsStep part source mine s) e (walk part source mine known s h) in
-    asked part source mine s h deep t a.hand r a.inside
+    asked part source mine s h deep t a.exec a.hand r a.inside a.state
 
 pub law_fair : LawFair
 law_fair part source mine s h a = fair part source mine s h s.run.control refl a

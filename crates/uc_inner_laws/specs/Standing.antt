@@ -1,6 +1,6 @@
 -- Executions in which whoever waits, signals or accepts is inside the object of its activation: itself by a mark, or by that of an older
--- activation of the same object, or at home there.
-use Rattle.std.specs.Prelude.{◌≡◌, ℕ, zero, suc, ◌<◌, ◌⊎◌, ◌++◌, List, [], ◌∷◌, Option, Some, None, true, false, is_some}
+-- activation of the same object, or at home there; and in which the oldest activation ends as a main does.
+use Rattle.std.specs.Prelude.{◌≡◌, ℕ, zero, suc, ◌<◌, ◌⊎◌, ◌++◌, List, [], ◌∷◌, Option, Some, None, Bool, true, false, is_some}
 use Rattle.uc_tree.specs.Source as src
 use Rattle.uc_tree.specs.Source.{Expr, Source}
 use Rattle.uc_entry.specs.Keyed.{find}
@@ -8,15 +8,18 @@ use Rattle.uc_entry.specs.declared.request.Request.{Request}
 use Rattle.uc_entry.specs.declared.request.Request.TheVariants as ask
 use Rattle.uc_machine.specs.declared.exec.Home.{Home}
 use Rattle.uc_machine.specs.declared.exec.Home.TheVariants as home
+use Rattle.uc_machine.specs.declared.exec.Stage.{Stage}
+use Rattle.uc_machine.specs.declared.exec.Stage.TheVariants.{Ended}
 use Rattle.uc_machine.specs.Insides.{is_held_up}
 use Rattle.uc_machine.specs.Pieces as piece
 use Rattle.uc_machine.specs.Pieces.{Value, Object, Todo, Sort, sort, Active, State, Env, Members, Step, Goes, Ticks, Asks, object_in}
 use Rattle.uc_depth_laws.specs.Owing.{Ex, marks}
-use Rattle.uc_inner_laws.specs.Inner.{Part, Plain, Helper, Maker, Ground, under, count, params, SetsUp, InnerExpr, InnerExprs, InnerMaybe, InnerItems, InnerTargets, InnerDeclared, InnerClean, InnerStmt, InnerStmts, InnerHandlers, InnerClauses}
+use Rattle.uc_inner_laws.specs.Inner.{Part, Plain, Helper, Maker, Ground, under, count, params, Exists, SetsUp, InnerExpr, InnerExprs, InnerMaybe, InnerItems, InnerTargets, InnerDeclared, InnerClean, InnerStmt, InnerStmts, InnerHandlers, InnerClauses}
+use Rattle.uc_depth_laws.specs.Entering.{IsMain}
 
 -- operands
 
--- what is known of an operand: nothing, that it is the object of the activation, or that it is a mutex object
+-- what is known of an operand: nothing, that it is the object of the activation, or that it is a new mutex object
 pub data Mark : Type 0 where
   Any : Mark
   Own : Mark
@@ -25,16 +28,20 @@ pub data Mark : Type 0 where
 abbrev pub IsThing : Value → Type 0
 IsThing v = v ≡ Object (object_in v)
 
-abbrev pub Meets : Value → Mark → Value → Type 0
-Meets this Any v = Unit {0}
-Meets this Own v = v ≡ this
-Meets this Thing v = IsThing v
+-- a mutex object that was made for an execution which is at home here: elsewhere, since that was there before
+abbrev pub IsNew : Home → Value → Type 0
+IsNew h v = IsThing v × (h ≡ home.Object (object_in v) → ⊥)
+
+abbrev pub Meets : Home → Value → Mark → Value → Type 0
+Meets h this Any v = Unit {0}
+Meets h this Own v = v ≡ this
+Meets h this Thing v = IsNew h v
 
 -- of the newest operands, which are there, the first mark for the newest; of what lies below nothing is known
-abbrev pub Holds : Value → List Mark → List Value → Type 0
-Holds this [] vs = Unit {0}
-Holds this (m ∷ ms) [] = ⊥
-Holds this (m ∷ ms) (v ∷ vs) = Meets this m v × Holds this ms vs
+abbrev pub Holds : Home → Value → List Mark → List Value → Type 0
+Holds h this [] vs = Unit {0}
+Holds h this (m ∷ ms) [] = ⊥
+Holds h this (m ∷ ms) (v ∷ vs) = Meets h this m v × Holds h this ms vs
 
 abbrev pub rest : List Mark → List Mark
 rest [] = []
@@ -84,6 +91,39 @@ within_sort k g = g
 abbrev pub ground : Ground → List Todo → Ground
 ground g [] = g
 ground g (p ∷ todo) = within_sort (sort p) (ground g todo)
+
+-- what is known behind an activation: its ground; whether others wait for it, so that it may end; and whether it may be unwound
+pub record Base : Type 0 where
+  pub ground : Ground
+  pub waited : Bool
+  pub unwound : Bool
+
+-- where statements stand nothing is being unwound
+abbrev pub calm : Base → Base
+calm b = record { ground = b.ground; waited = b.waited; unwound = false }
+
+-- behind the end of a main nothing is done
+abbrev pub over : Base → Base
+over b = record { ground = b.ground; waited = true; unwound = false }
+
+-- behind a piece: statements, and the marks that they leave, never stand before what is left to unwind
+abbrev pub behind : Todo → Base → Base
+behind (piece.Branch d e) b = calm b
+behind (piece.TurnNow o t e d) b = calm b
+behind (piece.Again o t e d) b = calm b
+behind (piece.Do d) b = calm b
+behind (piece.Rest ss) b = calm b
+behind (piece.Within line) b = calm b
+behind (piece.ChooseNow cs) b = calm b
+behind (piece.InLoop o t e d) b = calm b
+behind piece.InWhole b = calm b
+behind (piece.Clean c) b = calm b
+behind (piece.FillNow n e d) b = calm b
+behind (piece.Part c) b = calm b
+behind (piece.Guard hs) b = calm b
+behind piece.Finish b = over b
+behind piece.FinishCoroutine b = over b
+behind p b = b
 
 -- before a routine of this part is called, what is known of the operand below its arguments
 abbrev pub Ready : Ground → Part → List Mark → Type 0
@@ -144,12 +184,17 @@ module _ (part : ℕ → Part) (source : Source) where
   Allowed g ms (piece.Choose e f) = InnerExpr part source g e × InnerExpr part source g f
   Allowed g ms (piece.Branch a b) = InnerStmt part source g a × InnerStmt part source g b
   Allowed g ms (piece.Arguments es) = InnerExprs part source g es
-  Allowed g ms (piece.CallNow r) = part r ≡ Plain
-  Allowed g ms (piece.CallOnNow r) = Ready g (part r) (rests (params part source r) ms)
-  Allowed g ms (piece.CallUnwrittenNow r) = Ready g (part r) (rests (params part source r) ms)
-  Allowed g ms (piece.MakeNow c r) = IsThere (rests (params part source r) ms)
-  Allowed g ms (piece.BindMadeNow c r) = IsObject ms × IsThere (rests (params part source r) (rest ms))
-  Allowed g ms (piece.SetUpNow r) = SetsUp part source g (part r)
+  Allowed g ms (piece.CallNow r) = (part r ≡ Plain) × Exists part source r
+  Allowed g ms (piece.CallOnNow r) = Ready g (part r) (rests (params part source r) ms) × Exists part source r
+  Allowed g ms (piece.CallUnwrittenNow r) = Ready g (part r) (rests (params part source r) ms) × Exists part source r
+  Allowed g ms (piece.LiveNow r) = Exists part source r
+  Allowed g ms (piece.EnterNow m r) = Exists part source r
+  Allowed g ms (piece.MakeNow c r) = IsThere (rests (params part source r) ms) × Exists part source r
+  Allowed g ms (piece.BindMadeNow c r) = IsObject ms × IsThere (rests (params part source r) (rest ms)) × Exists part source r
+  Allowed g ms (piece.SetUpNow r) = SetsUp part source g (part r) × IsMain source r
+  Allowed g ms (piece.SpawnNow r) = IsMain source r
+  Allowed g ms (piece.ChildNow r) = IsMain source r
+  Allowed g ms piece.GiveUpNow = g.made ≡ true
   Allowed g ms (piece.FillNow n b d) = InnerExpr part source g b × InnerExpr part source g d
   Allowed g ms (piece.TurnNow o t e b) = InnerExpr part source g t × InnerMaybe part source g e × InnerStmt part source g b
   Allowed g ms (piece.Again o t e b) = InnerExpr part source g t × InnerMaybe part source g e × InnerStmt part source g b
@@ -176,31 +221,36 @@ module _ (part : ℕ → Part) (source : Source) where
   Allowed g ms p = Unit {0}
 
   -- one who leaves a simple piece comes to what stands behind it; at a mark that may be done
-  abbrev pub LeftBy : Ground → Sort → Type 0 → Type 0 → Type 0
-  LeftBy g piece.Simple left ok = left
-  LeftBy g (piece.IsLoop o t e b) left ok = (InnerExpr part source g t × InnerMaybe part source g e × InnerStmt part source g b) × ok
-  LeftBy g piece.IsWhole left ok = ok
-  LeftBy g (piece.IsClean c) left ok = InnerClean part source g c × ok
-  LeftBy g (piece.IsFill n b d) left ok = (InnerExpr part source g b × InnerExpr part source g d) × ok
-  LeftBy g (piece.IsSweep e) left ok = InnerExpr part source g e × ok
-  LeftBy g (piece.IsPart c) left ok = InnerClean part source g c × ok
-  LeftBy g (piece.IsGuard hs) left ok = InnerHandlers part source g hs × ok
-  LeftBy g piece.IsFinish left ok = ok
-  LeftBy g piece.IsFinishCoroutine left ok = ok
+  abbrev pub LeftBy : Ground → Sort → Type 0 → Type 0 → Type 0 → Type 0 → Type 0
+  LeftBy g piece.Simple left ok still done = left
+  LeftBy g (piece.IsLoop o t e b) left ok still done = (InnerExpr part source g t × InnerMaybe part source g e × InnerStmt part source g b) × still
+  LeftBy g piece.IsWhole left ok still done = still
+  LeftBy g (piece.IsClean c) left ok still done = InnerClean part source g c × still
+  LeftBy g (piece.IsFill n b d) left ok still done = (InnerExpr part source g b × InnerExpr part source g d) × still
+  LeftBy g (piece.IsSweep e) left ok still done = InnerExpr part source g e × ok
+  LeftBy g (piece.IsPart c) left ok still done = InnerClean part source g c × still
+  LeftBy g (piece.IsGuard hs) left ok still done = InnerHandlers part source g hs × still
+  LeftBy g piece.IsFinish left ok still done = done
+  LeftBy g piece.IsFinishCoroutine left ok still done = done
 
   abbrev mutual
-    -- a to-do list is in order before operands of which this is known; what the object of the activation gives may be known or not
-    pub Ok : Ground → List Mark → List Todo → Type 0
-    Ok b ms [] = Unit {0}
-    Ok b ms (piece.Eval e ∷ todo) = InnerExpr part source (ground b todo) e × (Ok b (Any ∷ ms) todo ⊎ Known e (Ok b (Own ∷ ms) todo))
+    -- a to-do list is in order before operands of which this is known; what the object of the activation gives may be known or not. Nothing
+    -- is behind an activation but one that waits, and nothing is unwound but for a reason
+    pub Ok : Base → List Mark → List Todo → Type 0
+    Ok b ms [] = b.waited ≡ true
+    Ok b ms (piece.Eval e ∷ todo) = InnerExpr part source (ground b.ground todo) e × (Ok b (Any ∷ ms) todo ⊎ Known e (Ok b (Own ∷ ms) todo))
     Ok b ms (piece.Exit w ∷ todo) = Left b todo
-    Ok b ms (piece.Unwind ∷ todo) = Left b todo
-    Ok b ms (p ∷ todo) = Allowed (ground b todo) ms p × Ok b (after p ms) todo
+    Ok b ms (piece.Unwind ∷ todo) = (b.unwound ≡ true) × Left b todo
+    Ok b ms (p ∷ todo) = Allowed (ground b.ground todo) ms p × Ok (behind p b) (after p ms) todo
 
     -- it is for one who leaves it
-    pub Left : Ground → List Todo → Type 0
-    Left b [] = Unit {0}
-    Left b (p ∷ todo) = LeftBy (ground b todo) (sort p) (Left b todo) (Ok b [] todo)
+    pub Left : Base → List Todo → Type 0
+    Left b [] = b.waited ≡ true
+    Left b (p ∷ todo) = LeftBy (ground b.ground todo) (sort p) (Left b todo) (Ok b [] todo) (Ok (calm b) [] todo) (Ok (over b) [] todo)
+
+  -- one who leaves a piece of this sort comes to these
+  abbrev pub LeftAt : Base → Sort → List Todo → Type 0
+  LeftAt b k todo = LeftBy (ground b.ground todo) k (Left b todo) (Ok b [] todo) (Ok (calm b) [] todo) (Ok (over b) [] todo)
 
 -- executions
 
@@ -213,6 +263,11 @@ IsHome (home.Object q) o = q ≡ o
 abbrev pub Backs : Home → ℕ → List Active → Type 0
 Backs h o [] = IsHome h o
 Backs h o (a ∷ older) = ((object_in a.this ≡ o) × (0 < marks a.control)) ⊎ Backs h o older
+
+-- one of these waits
+abbrev pub IsOlder : List Active → Type 0
+IsOlder [] = ⊥
+IsOlder (a ∷ older) = Unit {0}
 
 -- an execution is at home in the task with this own object, or in an object that it has in hand
 abbrev pub IsHere : ℕ → List (ℕ × Members) → Home → Type 0
@@ -232,8 +287,13 @@ brings (ask.Read form) = Any ∷ []
 brings (ask.Poll events) = Any ∷ (Any ∷ (Any ∷ []))
 brings r = []
 
+-- the building of an object is given up
+abbrev pub GivesUp : List Todo → Type 0
+GivesUp (piece.GiveUpNow ∷ todo) = Unit {0}
+GivesUp todo = ⊥
+
 -- what a task waits for, signals or accepts in, it has entered by a call that has not ended, or the running execution is at home there;
--- where it lets others in, nothing holds it up
+-- where it lets others in, nothing holds it up; and it is not at home in an object whose building it gives up
 abbrev pub StandsIn : Request → State → Type 0
 StandsIn (ask.Wait o c n) s = Backs s.env.exec.home o (s.run ∷ s.callers) × (is_held_up o s.env ≡ false)
 StandsIn (ask.Signal o c) s = Backs s.env.exec.home o (s.run ∷ s.callers)
@@ -241,27 +301,33 @@ StandsIn (ask.SignalBlock o c) s = Backs s.env.exec.home o (s.run ∷ s.callers)
 StandsIn (ask.Empty o c) s = Backs s.env.exec.home o (s.run ∷ s.callers)
 StandsIn (ask.Front o c) s = Backs s.env.exec.home o (s.run ∷ s.callers)
 StandsIn (ask.Accept o site mask) s = Backs s.env.exec.home o (s.run ∷ s.callers) × (is_held_up o s.env ≡ false)
+StandsIn (ask.Gone o) s = GivesUp s.run.control → s.env.exec.home ≡ home.Object o → ⊥
 StandsIn r s = Unit {0}
 
 module _ (part : ℕ → Part) (source : Source) where
   -- an activation before older ones, which is to find operands with these marks in front of its own
   pub record Stands (h : Home) (ns : List Mark) (a : Active) (older : List Active) : Type 0 where
-    pub ground : Ground
+    pub base : Base
     pub marks : List Mark
-    pub holds : Holds a.this marks a.operands
-    pub ok : Ok part source ground (ns ++ marks) a.control
-    pub backed : ground.inside ≡ true → Backs h (object_in a.this) older
-    pub thing : ground.made ≡ true → IsThing a.this
+    pub holds : Holds h a.this marks a.operands
+    pub ok : Ok part source base (ns ++ marks) a.control
+    pub backed : base.ground.inside ≡ true → Backs h (object_in a.this) older
+    pub thing : base.ground.made ≡ true → IsNew h a.this
+    pub waited : base.waited ≡ true → IsOlder older
+    pub reason : base.unwound ≡ true → is_some a.raised ≡ true
 
   -- those that wait for one, the newest first
   abbrev pub Waits : Home → List Active → Type 0
   Waits h [] = Unit {0}
   Waits h (a ∷ older) = Stands h (Any ∷ []) a older × Waits h older
 
-  -- an execution that does not run
-  pub record StandsEx (h : Home) (x : Ex) : Type 0 where
-    pub run : Stands h [] x.run x.callers
-    pub callers : Waits h x.callers
+  -- an execution that does not run, unless it has ended
+  abbrev pub StandsBy : Stage → Home → Active → List Active → Type 0
+  StandsBy Ended h a older = Unit {0}
+  StandsBy g h a older = Stands h [] a older × Waits h older
+
+  abbrev pub StandsEx : Home → Ex → Type 0
+  StandsEx h x = StandsBy x.links.stage h x.run x.callers
 
   abbrev pub StandsSlot : Home → Option Ex → Type 0
   StandsSlot h None = Unit {0}
@@ -296,15 +362,16 @@ module _ (part : ℕ → Part) (source : Source) where
   abbrev pub StandsState : ℕ → State → Type 0
   StandsState mine s = StandsWith mine [] s
 
-  -- a task that has asked something; behind an end and a fault nothing is done
+  -- a task that has asked something; behind an end and a fault nothing is done, and at its end nothing holds it up in its own object
   abbrev pub StandsAsk : ℕ → Request → State → Type 0
-  StandsAsk mine ask.End s = StandsEnv s.env
+  StandsAsk mine ask.End s = StandsEnv s.env × (is_held_up mine s.env ≡ false)
   StandsAsk mine (ask.Fault f) s = StandsEnv s.env
   StandsAsk mine r s = StandsWith mine (brings r) s
 
   pub record StandsAsking (mine : ℕ) (before : State) (r : Request) (s : State) : Type 0 where
     pub state : StandsAsk mine r s
     pub inside : StandsIn r before
+    pub exec : s.env.exec ≡ before.env.exec
     -- what was in hand is
     pub hand : (q : ℕ) → is_some (find q before.env.hand) ≡ true → is_some (find q s.env.hand) ≡ true
 

@@ -1,9 +1,9 @@
--- A walk over the resolved tree, by what is asked of calls, of what asks for an object, and of statements of tasks. Something is known of a
+-- A walk over the resolved tree, by what is asked of calls, of what asks for an object, of statements of tasks and of scopes. Something is known of a
 -- place, which scopes of objects may change.
 use Rattle.std.specs.Prelude.{ℕ, List, [], ◌∷◌, Option, Some, None}
 use Rattle.uc_tree.specs.Source.{Expr, Exprs, ObjectExpr, Literal, Variable, Element, Get, Load, Negated, Not, AsCharacter, AsTruth, Operate, And, Or, Set, Assign, First, Update, StepBehind, Fail, Call, OfObject, NoExprs, MoreExprs, This, OwnField, GetOwn, FieldOf, Counted, CallOn, CallLive, CallUnwritten, EnterOn, EndOn, Bind, MakeOn, NewCluster, NewProcessor, EndCluster, EndProcessor, ConditionAt, Wait, Signal, SignalBlock, IsEmpty, FrontOf, Item, Show, ShowText, Target, Declared, CleanUp, Destroys, DestroysAll, Stmt, Stmts, Skip, Block, Whole, Evaluate, Declare, Print, PrintTogether, Read, If, Loop, Break, Continue, Return, Owes, Fill, OfEvents, OfTasks, Nil, Then, Scoped, Built, Raised, Plainly, BuiltAt, AgainFrom, EventStmt, Throw, Raise, Try, RaiseAt, Enable, Disable, TaskStmt, Migrate, Accept, Handlers, NoHandlers, MoreHandlers, Clauses, NoClauses, Otherwise, MoreClauses}
 
-module _ (G : Type 0) (under : CleanUp → G → G) (AtCall : ℕ → Exprs → Type 0) (AtObject : G → ObjectExpr → Type 0) (AtTask : G → TaskStmt → Type 0) where
+module _ (G : Type 0) (under : CleanUp → G → G) (AtCall : ℕ → Exprs → Type 0) (AtObject : G → ObjectExpr → Type 0) (AtTask : G → TaskStmt → Type 0) (AtClean : G → CleanUp → Type 0) where
   abbrev mutual
     pub InExpr : G → Expr → Type 0
     InExpr g (Literal n) = Unit {0}
@@ -79,7 +79,7 @@ module _ (G : Type 0) (under : CleanUp → G → G) (AtCall : ℕ → Exprs → 
   abbrev pub InClean : G → CleanUp → Type 0
   InClean g (Destroys e) = InExpr g e
   InClean g (DestroysAll n e) = InExpr g e
-  InClean g c = Unit {0}
+  InClean g c = AtClean g c
 
   abbrev pub InRaised : G → Raised → Type 0
   InRaised g (Plainly n) = Unit {0}

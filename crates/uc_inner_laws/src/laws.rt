@@ -5,11 +5,14 @@ ghost use Rattle.uc_inner_laws.specs.InnerLaws.{LawFair, LawInside, LawSteps};
 /// Where code waits, signals and accepts only in routines that hold their object, or that are called
 /// on it by such ones, who does so has a mark of that object, in its own activation or in an older
 /// one, or is at home there: from the start of a task on, through each quiet step and each answer.
+/// And where a task asks to end, nothing holds it up in its own object.
 pub fn law_steps()
     ensures { LawSteps }
 {}
 
-/// So just before a task waits, signals or accepts in an object it is inside that.
+/// So just before a task waits, signals or accepts in an object it is inside that, and at its end
+/// nothing holds it up in its own object. And it is not at home in an object whose building it gives
+/// up.
 pub fn law_inside()
     ensures { LawInside }
 {}

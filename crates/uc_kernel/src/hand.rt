@@ -20,6 +20,7 @@ fn position<M>(hand: &List<(u64, M)>, object: u32) -> Option<u32>
 }
 
 /// Takes the members of an object out, if they are there. The others keep their order.
+#[inline(always)]
 pub fn take_from<M>(hand: &mut List<(u64, M)>, object: u32) -> Option<M>
     requires apart { AreApart hand.old.items }
     ensures value { result ≡ find object hand.old.items }

@@ -68,6 +68,7 @@ fn lay<M: Drop>(loose: &mut Vec<Option<M>>, object: u32, members: Option<M>)
 
 /// What the first entry of an act does to the hand of its task: the members of an object that it goes out of become loose,
 /// those of an object that it destroys are dropped.
+#[inline(always)]
 pub fn follow_first<M: Drop>(e: &Entry, hand: &mut List<(u64, M)>, loose: &mut Vec<Option<M>>)
     requires apart { AreApart hand.old.items }
     requires known { e.now.object < length loose.old.items }

@@ -15,6 +15,7 @@ use uc_entry::entry::EntryKind;
 
 impl KernelCore {
     /// Ends the act whose entries stand behind the first `before`.
+    #[inline(always)]
     pub(crate) fn finish(&mut self, who: Actor, before: usize)
         requires task { who.task < TASKS }
         requires begun { (1 ≤ before) × (before ≤ length self.old.journal) }

@@ -186,6 +186,7 @@ impl KernelCore {
     }
 
     /// Lets in whoever is next at an object that nobody is inside, or ends the run where that would destroy what is in use.
+    #[inline(always)]
     pub(crate) fn admit_next(&mut self, who: Actor, object: u32)
         requires going { is_over self.old.journal ≡ false }
         requires known { object < object_count self.old.journal }

@@ -96,6 +96,7 @@ impl KernelJournal {
     }
 
     /// Appends an entry.
+    #[inline(always)]
     pub fn push(&mut self, e: Entry)
         requires going { is_over self.old.journal ≡ false }
         requires room { length self.old.journal < self.old.room }

@@ -27,6 +27,7 @@ use Rattle.uc_acts.proofs.Law.{good_whole, lawful_act}
 use Rattle.uc_acts.proofs.Living.{going_row}
 use Rattle.uc_acts.proofs.Held.{law_held}
 use Rattle.uc_acts.proofs.Moves.{one_inside}
+use Rattle.uc_machine.specs.declared.exec.Home.TheVariants as home
 use Rattle.uc_machine.specs.Quiet.{State, Members}
 use Rattle.uc_machine.specs.Quiet as quiet
 use Rattle.uc_machine.specs.Insides.{has_engaged, is_held_up}
@@ -49,18 +50,19 @@ use Rattle.uc_program_laws.proofs.Makes.{makes, run_after, same_holder, law_ends
 use Rattle.uc_program_laws.proofs.Worlds.{IsThere, none_found}
 use Rattle.uc_program_laws.proofs.Others.{RunRests, run_rests, may_ask, asking as asks_with}
 use Rattle.uc_depth_laws.specs.Entering.{EnteredSource}
+use Rattle.uc_depth_laws.proofs.Alone.{law_alone}
 use Rattle.uc_depth_laws.specs.Owing as owing
-use Rattle.uc_depth_laws.specs.Owing.{EngagedParked, EngagedHand, EngagedMembers, Free, Redrawn, IsInside as IsDeepInside, Deep, DeepAsk, LetsGo, Unheld, IsBinding}
+use Rattle.uc_depth_laws.specs.Owing.{EngagedParked, EngagedHand, EngagedMembers, Free, Redrawn, IsInside as IsDeepInside, Deep, DeepAsk, LetsGo, Unheld}
 use Rattle.uc_depth_laws.specs.DepthLaws.{Suits, LawSteps, LawFree, LawDrawn}
 use Rattle.uc_depth_laws.proofs.Answers.{law_steps}
 use Rattle.uc_depth_laws.proofs.Standing.{law_free, law_drawn}
 use Rattle.uc_inner_laws.specs.Inner.{Part, InnerSource}
-use Rattle.uc_inner_laws.specs.Standing.{StandsState, StandsAsk, StandsStep, StandsAsking}
+use Rattle.uc_inner_laws.specs.Standing.{StandsState, StandsAsk, StandsStep, StandsAsking, GivesUp}
 use Rattle.uc_inner_laws.specs.InnerLaws.{IsAt}
 use Rattle.uc_inner_laws.proofs.Walk.{law_steps as inner_steps, law_is_inside, law_fair}
 use Rattle.uc_letting_laws.specs.AloneRuns.{AskAlone, RideAlone, MayAlone, RunAlone}
 use Rattle.uc_letting_laws.specs.LettingLaws.{AsksInHand, LawInHand}
-use Rattle.uc_letting_laws.proofs.StandingWorlds.{StandingWorld, found_has, standing_start, standing_act, standing_given, standing_begin}
+use Rattle.uc_letting_laws.proofs.StandingWorlds.{Binds, no_binding, IsApart, StandingWorld, found_has, standing_start, standing_act, standing_given, standing_begin}
 use Rattle.uc_hand_laws.specs.Deep as deep
 use Rattle.uc_hand_laws.specs.Deep.{deep_in}
 use Rattle.uc_hand_laws.proofs.Walk.{walk}
@@ -171,11 +173,6 @@ found_engaged source o (p ∷ ps) m h e = by (nat_eq p.0 o) e (found_engaged sou
     by true g ih = let same : p.1 ≡ m = cc in subst (λ n. EngagedParked source n.parked) same h.0
     by false g ih = ih g
 
-no_binding : (todo : List piece.Todo) → plain todo ≡ true → IsBinding todo → ⊥
-no_binding [] h b = b
-no_binding (piece.BindMadeNow c r ∷ todo) h b = cc
-no_binding (p ∷ todo) h b = b
-
 -- rides
 
 -- what a task asks something of is one of those in which it was deep, or at least in its hand
@@ -199,6 +196,7 @@ module _ (part : ℕ → Part) (source : Source) (entered : EnteredSource source
     pub stands : StandsAsk part source own r u
     pub asks : AsksAt own ks u r
     pub unheld : Unheld r u.env
+    pub apart : IsApart r u
 
   asks_at : (ks : List ℕ) (s : State) (r : Request) (u : State) → LetsGo r s.env → IsAt r s u → keys s.env.depths ≡ ks → s.env.own ≡ own → AsksAt own ks u r
   asks_at ks s r u h i k e = by r h i
@@ -224,16 +222,26 @@ module _ (part : ℕ → Part) (source : Source) (entered : EnteredSource source
       by ask.End h i = subst (λ o. has ks o ≡ true) e (deep_at s.env.own h)
       by r h i = tt
 
+  -- whoever gives up the building of an object is not at home there; whoever has destroyed one is not by the premise
+  apart_at : (s : State) (r : Request) (t : State) → AskAlone s r t → IsAt r s t → IsApart r t
+  apart_at s (ask.Gone o) t k i = by s.run.control refl
+    where
+      by : (l : List piece.Todo) → s.run.control ≡ l → t.env.exec.home ≡ home.Object o → ⊥
+      by (piece.GiveUpNow ∷ l) e h = i (subst GivesUp (sym e) tt) h
+      by [] e h = k (λ g. subst GivesUp e g) h
+      by (p ∷ l) e h = k (λ g. subst GivesUp e g) h
+  apart_at s r t k i = tt
+
   pub ride_owes : (ks : List ℕ) (s : State) (q : ℕ) (u : State) (k : ℕ) (a : Asked) (r : Rides source s q u k a) → RideAlone source s q u k a r → Deep source s → StandsState part source own s → deep_in s ≡ ks → RideOwes ks a.request u
-  ride_owes ks _ _ _ _ _ rides.slices f d v e = record { state = d; stands = v; asks = tt; unheld = tt }
+  ride_owes ks _ _ _ _ _ rides.slices f d v e = record { state = d; stands = v; asks = tt; unheld = tt; apart = tt }
   ride_owes ks _ _ _ _ _ (rides.goes_on {s} {t} {u} {q} {k} {a} g r) f d v e =
-      ride_owes ks t (suc q) u k a r f.1 (subst (owing.DeepStep source s.env) g (steps.steps source entered s d (law_fair part source own s v f.0))) (subst (StandsStep part source own s) g (inner_steps.steps part source inner own s v)) (subst (deep.DeepStep ks) g (walk ks source s e))
+      ride_owes ks t (suc q) u k a r f.1 (subst (owing.DeepStep source s.env) g (steps.steps source entered s d (law_fair part source own s v (law_alone source s d f.0)))) (subst (StandsStep part source own s) g (inner_steps.steps part source inner own s v)) (subst (deep.DeepStep ks) g (walk ks source s e))
   ride_owes ks _ _ _ _ _ (rides.ticks {s} {t} {u} {q} {k} {a} g r) f d v e =
-      ride_owes ks t q u k a r f.1 (subst (owing.DeepStep source s.env) g (steps.steps source entered s d (law_fair part source own s v f.0))) (subst (StandsStep part source own s) g (inner_steps.steps part source inner own s v)) (subst (deep.DeepStep ks) g (walk ks source s e))
+      ride_owes ks t q u k a r f.1 (subst (owing.DeepStep source s.env) g (steps.steps source entered s d (law_fair part source own s v (law_alone source s d f.0)))) (subst (StandsStep part source own s) g (inner_steps.steps part source inner own s v)) (subst (deep.DeepStep ks) g (walk ks source s e))
   ride_owes ks _ _ _ _ _ (rides.asks {s} {t} {q} {r} g) f d v e =
-      let x : owing.DeepAsking source s.env r t = subst (owing.DeepStep source s.env) g (steps.steps source entered s d (law_fair part source own s v f)) in
+      let x : owing.DeepAsking source s.env r t = subst (owing.DeepStep source s.env) g (steps.steps source entered s d (law_fair part source own s v (law_alone source s d f.0))) in
       let y : StandsAsking part source own s r t = subst (StandsStep part source own s) g (inner_steps.steps part source inner own s v) in
-      record { state = x.state; stands = y.state; asks = asks_at ks s r t x.inside (law_is_inside part source inner own s v d r t g) e v.own; unheld = x.unheld }
+      record { state = x.state; stands = y.state; asks = asks_at ks s r t x.inside (law_is_inside part source inner own s v d r t g) e v.own; unheld = x.unheld; apart = apart_at s r t f.1 (law_is_inside part source inner own s v d r t g) }
 
 -- tasks at rest, behind what they asked last
 
@@ -297,7 +305,7 @@ module _ (part : ℕ → Part) (source : Source) (entered : EnteredSource source
     module _ (fair : RideAlone source _ _ s n asked d.rides) where
       owes : RideOwes part source entered inner steps (own_object t j) (deep_in (answered source d.given (drawn j w t))) asked.request s
       owes =
-          ride_owes part source entered inner steps (own_object t j) (deep_in (answered source d.given (drawn j w t))) _ _ s n asked d.rides fair start (standing_start part source inner input opts range r going deeps z p t n s asked d) refl
+          ride_owes part source entered inner steps (own_object t j) (deep_in (answered source d.given (drawn j w t))) _ _ s n asked d.rides fair start (standing_start part source inner entered.ends input opts range r going deeps z p t n s asked d) refl
 
       asks_in_hand : AsksInHand (own_object t j) (keys s.env.hand) asked.request
       asks_in_hand = by asked.request owes.asks
@@ -329,7 +337,7 @@ module _ (part : ℕ → Part) (source : Source) (entered : EnteredSource source
       in_hand : (o : ℕ) → has (keys s.env.hand) o ≡ has (inside o j) t
       in_hand o = ap (λ l. has l o) hand ∙ (law_held j).inside t o
 
-      module _ (extra : AskAlone (own_object t j) asked.request s) (f : Fits opts source.sites j t asked.request) (on : is_over (j ++ act opts source.sites input j p t n asked) ≡ false) where
+      module _ (f : Fits opts source.sites j t asked.request) (on : is_over (j ++ act opts source.sites input j p t n asked) ≡ false) where
         abbrev a : List Entry
         a = act opts source.sites input j p t n asked
 
@@ -383,6 +391,9 @@ module _ (part : ℕ → Part) (source : Source) (entered : EnteredSource source
             by (Some k) e g =
                 freeing source k (found_engaged source o s.env.hand k engaged_hand e) (ap has_engaged (sym e) ∙ or_second _ (has_engaged (find o s.env.hand)) u)
 
+        at_end : (q : Request) → q ≡ ask.End → StandsAsk part source (own_object t j) q s → is_held_up (own_object t j) s.env ≡ false
+        at_end q e h = (subst (λ y. StandsAsk part source (own_object t j) y s) e h).1
+
         gone_out : (o : ℕ) → (q : Request) → asked.request ≡ q → GoesOut t j q o → Unheld q s.env → has (keys s.env.hand) o ≡ true → FreeMembers source (after.homes o)
         gone_out o (ask.Made v) e g u h = out_free o h (ap (λ k. is_held_up k s.env) (sym g) ∙ u)
         gone_out o (ask.Spawn v) e g u h = out_free o h (ap (λ k. is_held_up k s.env) (sym g) ∙ u)
@@ -390,7 +401,7 @@ module _ (part : ℕ → Part) (source : Source) (entered : EnteredSource source
         gone_out o (ask.Wait v c k) e g u h = out_free o h (ap (λ k. is_held_up k s.env) (sym g) ∙ u)
         gone_out o (ask.Accept v c k) e g u h = out_free o h (ap (λ k. is_held_up k s.env) (sym g) ∙ u)
         gone_out o (ask.SignalBlock v c) e g u h = out_free o h (ap (λ k. is_held_up k s.env) (sym g) ∙ u)
-        gone_out o ask.End e g u h = out_free o h (ap (λ k. is_held_up k s.env) (sym g) ∙ subst (λ q. AskAlone (own_object t j) q s) e extra)
+        gone_out o ask.End e g u h = out_free o h (ap (λ k. is_held_up k s.env) (sym g) ∙ at_end asked.request e owes.stands)
         gone_out o (ask.Gone v) e g u h =
             let out : takes_out a o ≡ true = ap (λ l. takes_out l o) (is ∙ ap (row opts source.sites input j p t (cost n asked.line) asked.line) e) ∙ ap (λ b. b || false) (eq-eqb o v (sym g)) in
             homes_by (FreeMembers source) o (λ k. tt) (λ k. no_both (takes_out a o) out k)
@@ -537,8 +548,12 @@ module _ (part : ℕ → Part) (source : Source) (entered : EnteredSource source
                 subst (λ v. OwingTask source (j ++ a) v (with_hand (hand_of (held v (j ++ a)) after.homes) s)) (sym (eqb-true u t h)) (own_after (ap (λ v. has_ended v (j ++ a)) (sym (eqb-true u t h)) ∙ alive))
             by false h = other h (spawns a u) refl
 
+        binds_by : (q : Request) → DeepAsk source q s → Binds q s.run.control
+        binds_by (ask.Make c) h = h.0
+        binds_by q h = tt
+
         pub standing_behind : StandingWorld part source (j ++ act opts source.sites input j p t n asked) (world_after source (act opts source.sites input j p t n asked) w t s)
-        standing_behind = standing_act part source inner input opts range r going deeps z p t n s asked d owes.stands owes.unheld extra f on
+        standing_behind = standing_act part source inner entered.ends input opts range r going deeps z p t n s asked d owes.stands (binds_by asked.request owes.state) owes.unheld owes.apart f on
 
         pub owing_act : OwingWorld source (j ++ act opts source.sites input j p t n asked) (world_after source (act opts source.sites input j p t n asked) w t s)
         owing_act = record { tasks = tasks_after; engaged = engaged_after; free = free_after }
@@ -566,11 +581,11 @@ module _ (part : ℕ → Part) (source : Source) (entered : EnteredSource source
     standing : StandingWorld part source j w
 
   both_may : {j : Journal} {w : World} {a : List Entry} {v : World} → RunRests source input opts j w → is_over j ≡ false → DeepWorld j w → Both j w → (m : May source opts input j w a v) → MayFit source opts input j w a v m → MayAlone source opts input j w a v m → is_over (j ++ a) ≡ false → Both (j ++ a) v
-  both_may r o e x (gives p t s le) f g on = record { owing = owing_given p t r s x.owing; standing = standing_given part source inner input opts range p t r s x.standing }
+  both_may r o e x (gives p t s le) f g on = record { owing = owing_given p t r s x.owing; standing = standing_given part source inner entered.ends input opts range p t r s x.standing }
   both_may {j} r o e x (no_room p t s le) f g on = no_both (is_over (j ++ lone_limit ∷ [])) (over_limit j 0 0) on
   both_may r o e x (acts p t n s asked d) f g on = record {
-    owing = owing_act r o e x.owing x.standing p t n s asked d g.0 g.1 f on;
-    standing = standing_behind r o e x.owing x.standing p t n s asked d g.0 g.1 f on;
+    owing = owing_act r o e x.owing x.standing p t n s asked d g f on;
+    standing = standing_behind r o e x.owing x.standing p t n s asked d g f on;
   }
 
   -- a run begins with task 0 in object 0
@@ -594,7 +609,7 @@ module _ (part : ℕ → Part) (source : Source) (entered : EnteredSource source
   }
 
   both_run : {j : Journal} {w : World} → (r : Runs source input opts j w) → RunFits source input opts j w r → RunAlone source input opts j w r → is_over j ≡ false → Both j w
-  both_run begun f g on = record { owing = owing_begin; standing = standing_begin part source inner input opts range }
+  both_run begun f g on = record { owing = owing_begin; standing = standing_begin part source inner entered.ends input opts range }
   both_run (more r o m) f g on =
       both_may (run_rests source input opts range r f.0 o) o (deep_run source input opts range r f.0 o) (both_run r f.0 g.0 o) m f.1 g.1 on
 

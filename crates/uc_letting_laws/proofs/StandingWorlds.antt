@@ -1,5 +1,5 @@
 -- In every run tasks stand so that who waits in an object is inside it, and each has the object of which it was told as its own.
-use Rattle.std.proofs.Common.{◌≡◌, ℕ, ◌==◌, ◌<◌, ◌≤◌, ◌||◌, inl, Bool, true, false, List, [], ◌∷◌, ◌++◌, Option, Some, None, refl, sym, ap, ◌∙◌, subst, arith, ⊎_elim}
+use Rattle.std.proofs.Common.{◌≡◌, ℕ, ◌==◌, ◌<◌, ◌≤◌, ◌||◌, inl, Bool, true, false, List, [], ◌∷◌, ◌++◌, Option, Some, None, refl, sym, ap, ◌∙◌, subst, arith, ⊎_elim, ◌⊎◌, inr}
 use Rattle.std.specs.Prelude.{nat_eq, is_some, if◌then◌else◌}
 use Rattle.std.proofs.lemmas.Bool.{eqb-true, eq-eqb, ne_eqb, cases_lt}
 use Rattle.uc_tree.specs.Source.{Source, routine_of}
@@ -27,6 +27,7 @@ use Rattle.uc_machine.specs.declared.exec.Home.TheVariants as home
 use Rattle.uc_machine.specs.Executions.{home_eq}
 use Rattle.uc_machine.specs.Quiet.{State, Members}
 use Rattle.uc_machine.specs.Quiet as quiet
+use Rattle.uc_machine.specs.Pieces as piece
 use Rattle.uc_machine.specs.Insides.{has_engaged, is_held_up}
 use Rattle.uc_machine.specs.Answering.{answered, child_of, child_main, with_hand}
 use Rattle.uc_meaning.specs.Runs.{World, AsksIn, first_world, first_home, drawn, bare, with_home, hand_of, or_else, world_after}
@@ -40,22 +41,45 @@ use Rattle.uc_program_laws.proofs.Alive.{law_alive}
 use Rattle.uc_program_laws.proofs.Ticks.{no_both}
 use Rattle.uc_program_laws.proofs.Makes.{makes, run_after, law_ends}
 use Rattle.uc_program_laws.proofs.Others.{RunRests, may_ask, asking as asks_with}
-use Rattle.uc_depth_laws.specs.Owing.{Unheld}
+use Rattle.uc_depth_laws.specs.Owing.{Unheld, IsBinding}
 use Rattle.uc_hand_laws.proofs.DeepWorlds.{DeepWorld, known, ended_before, spawns_none, spawned_by, spawned_true}
 use Rattle.uc_hand_laws.proofs.Places.{still}
 use Rattle.uc_inner_laws.specs.Inner.{Part, InnerSource}
-use Rattle.uc_inner_laws.specs.Standing.{brings, IsHere, StandsHand, StandsMembers, StandsEnv, StandsWith, StandsState, StandsAsk}
+use Rattle.uc_inner_laws.specs.Standing.{Ok, brings, IsHere, StandsHand, StandsMembers, StandsEnv, StandsWith, StandsState, StandsAsk}
 use Rattle.uc_inner_laws.proofs.Keeping as kept
 use Rattle.uc_inner_laws.proofs.Walk.{law_steps}
-use Rattle.uc_letting_laws.specs.AloneRuns.{AskAlone}
 use Rattle.uc_letting_laws.proofs.Insiders.{GoesOut, Insiders, row_insiders, Kicks, row_kicks}
 use Rattle.uc_letting_laws.proofs.Owners.{told_own, told_same, unowned, own_same, own_given, own_new, own_begin}
+use Rattle.uc_depth_laws.specs.Entering.{IsMain}
+use Rattle.uc_machine.specs.Pieces.{Todo}
+use Rattle.uc_acts.proofs.Making.{law_new}
+use Rattle.uc_acts.specs.Answers.{just_made}
+use Rattle.uc_step_laws.specs.Holding.{plain}
+use Rattle.uc_inner_laws.specs.InnerLaws.{IsElsewhere}
+use Rattle.uc_entry.specs.declared.request.Answer.{Answer}
+use Rattle.uc_entry.specs.declared.request.Answer.TheVariants as answer
+
+-- a task that has asked for a new object binds it
+abbrev pub Binds : Request → List Todo → Type 0
+Binds (ask.Make c) todo = IsBinding todo
+Binds r todo = Unit {0}
+
+pub no_binding : (todo : List Todo) → plain todo ≡ true → IsBinding todo → ⊥
+no_binding [] h b = b
+no_binding (piece.BindMadeNow c r ∷ todo) h b = cc
+no_binding (p ∷ todo) h b = b
+
+-- who takes an object out is not at home there
+abbrev pub IsApart : Request → State → Type 0
+IsApart (ask.Gone o) s = s.env.exec.home ≡ home.Object o → ⊥
+IsApart r s = Unit {0}
 
 -- tasks at rest, behind what they asked last
 pub record StandingTask (part : ℕ → Part) (source : Source) (j : Journal) (u : ℕ) (s : State) : Type 0 where
   pub request : Request
   pub form : asked_form u j ≡ form_of_request request
   pub stands : StandsWith part source (own_object u j) (brings request) s
+  pub binds : Binds request s.run.control
 
 pub record StandingWorld (part : ℕ → Part) (source : Source) (j : Journal) (w : World) : Type 0 where
   pub tasks : (u : ℕ) → u < task_count j → has_ended u j ≡ false → StandingTask part source j u (drawn j w u)
@@ -123,7 +147,7 @@ module _ (part : ℕ → Part) (source : Source) where
 
   -- what is parked with a task that has asked something
   asked_env : (mine : ℕ) (r : Request) (s : State) → StandsAsk part source mine r s → StandsEnv part source s.env
-  asked_env mine ask.End s h = h
+  asked_env mine ask.End s h = h.0
   asked_env mine (ask.Fault f) s h = h
   asked_env mine r s h = h.env
 
@@ -136,16 +160,32 @@ module _ (part : ℕ → Part) (source : Source) where
   here_drawn own old hand (home.Task t) i k = i
   here_drawn own old hand (home.Object q) i k = k q refl i
 
-module _ (part : ℕ → Part) (source : Source) (inner : InnerSource part source) (input : List ℕ) (opts : Options) (range : InRange opts) where
+module _ (part : ℕ → Part) (source : Source) (inner : InnerSource part source) (main : IsMain source source.main) (input : List ℕ) (opts : Options) (range : InRange opts) where
   module _ {j : Journal} {w : World} (r : RunRests source input opts j w) (going : is_over j ≡ false) (deeps : DeepWorld j w) (x : StandingWorld part source j w) (p t n : ℕ) (s : State) (asked : Asked) (d : AsksIn source opts j w p t n s asked) where
     mine : StandingTask part source j t (drawn j w t)
     mine = x.tasks t (known source input opts range r going deeps p t n s asked d) (law_alive opts source.sites input j r.kernel going p t d.runs)
 
+    -- a new object is not where the running execution is at home
+    elsewhere : (q : Request) (g : Answer) → Binds q (w.tasks t).run.control → StandsWith part source (own_object t j) (brings q) (drawn j w t) → d.given ≡ g → IsElsewhere q g (drawn j w t)
+    elsewhere (ask.Make c) (answer.Object o) b y e = λ h. by h (r.rests.tasks t).control
+      where
+        by : (drawn j w t).env.exec.home ≡ home.Object o → (plain (w.tasks t).run.control ≡ true) ⊎ ((v : ℕ) × (just_made t j ≡ v ∷ [])) → ⊥
+        by h (inl g) = no_binding (w.tasks t).run.control g b
+        by h (inr v) =
+            let new = law_new opts source.sites input j r.kernel going t v.0 v.1 in
+            let told : Some (answer.Object o) ≡ Some (answer.Object v.0) = ap (λ (a : Answer). Some a) (sym e) ∙ (sym d.told ∙ new.answer) in
+            let same : o ≡ v.0 = cc told in
+            let here : is_some (find o (drawn j w t).env.hand) ≡ true = subst (λ (k : Home). IsHere (drawn j w t).env.own (drawn j w t).env.hand k) h y.here in
+            let home_there : is_some (w.homes o) ≡ true = (there_home (held t j) w.homes o here).1 in
+            let none : w.homes o ≡ None = subst (λ k. w.homes k ≡ None) (sym same) (r.rests.new t v.0 v.1) in
+            no_both (is_some (w.homes o)) home_there (ap (λ (k : Option Members). is_some k) none)
+    elsewhere q g b y e = tt
+
     pub standing_start : StandsState part source (own_object t j) (answered source d.given (drawn j w t))
     standing_start =
-        law_steps.told part source (own_object t j) mine.request d.given (drawn j w t) mine.stands (subst (λ (y : Form). IsForm y d.given) mine.form (law_suiting opts source.sites input j r.kernel going t d.given d.told))
+        law_steps.told part source (own_object t j) mine.request d.given (drawn j w t) mine.stands (subst (λ (y : Form). IsForm y d.given) mine.form (law_suiting opts source.sites input j r.kernel going t d.given d.told)) (elsewhere mine.request d.given mine.binds mine.stands refl)
 
-    module _ (stands : StandsAsk part source (own_object t j) asked.request s) (unheld : Unheld asked.request s.env) (extra : AskAlone (own_object t j) asked.request s) (f : Fits opts source.sites j t asked.request) (on : is_over (j ++ act opts source.sites input j p t n asked) ≡ false) where
+    module _ (stands : StandsAsk part source (own_object t j) asked.request s) (binds : Binds asked.request s.run.control) (unheld : Unheld asked.request s.env) (extra : IsApart asked.request s) (f : Fits opts source.sites j t asked.request) (on : is_over (j ++ act opts source.sites input j p t n asked) ≡ false) where
       abbrev a : List Entry
       a = act opts source.sites input j p t n asked
 
@@ -200,16 +240,16 @@ module _ (part : ℕ → Part) (source : Source) (inner : InnerSource part sourc
           let held : is_held_up q s.env ≡ true = ap (λ b. b || has_engaged (find q s.env.hand)) here in
           no_both (is_held_up q s.env) held u
 
-      stays_in : (q : ℕ) (y : Request) → asked.request ≡ y → s.env.exec.home ≡ home.Object q → GoesOut t j y q → Unheld y s.env → AskAlone (own_object t j) y s → ⊥
-      stays_in q (ask.Made o) b e g u k = not_home q e (ap (λ o. is_held_up o s.env) (sym g) ∙ u)
-      stays_in q (ask.Spawn o) b e g u k = not_home q e (ap (λ o. is_held_up o s.env) (sym g) ∙ u)
-      stays_in q (ask.Leave o failed) b e g u k = not_home q e (ap (λ o. is_held_up o s.env) (sym g) ∙ u)
-      stays_in q (ask.Wait o c z) b e g u k = not_home q e (ap (λ o. is_held_up o s.env) (sym g) ∙ u)
-      stays_in q (ask.Accept o c z) b e g u k = not_home q e (ap (λ o. is_held_up o s.env) (sym g) ∙ u)
-      stays_in q (ask.SignalBlock o c) b e g u k = not_home q e (ap (λ o. is_held_up o s.env) (sym g) ∙ u)
-      stays_in q (ask.Gone o) b e g u k = k (e ∙ ap home.Object (sym g))
-      stays_in q ask.End b e g u k = not_home q e (ap (λ o. is_held_up o s.env) (sym g) ∙ k)
-      stays_in q y b e g u k = g
+      stays_in : (q : ℕ) (y : Request) → asked.request ≡ y → s.env.exec.home ≡ home.Object q → GoesOut t j y q → Unheld y s.env → IsApart y s → StandsAsk part source (own_object t j) y s → ⊥
+      stays_in q (ask.Made o) b e g u k v = not_home q e (ap (λ o. is_held_up o s.env) (sym g) ∙ u)
+      stays_in q (ask.Spawn o) b e g u k v = not_home q e (ap (λ o. is_held_up o s.env) (sym g) ∙ u)
+      stays_in q (ask.Leave o failed) b e g u k v = not_home q e (ap (λ o. is_held_up o s.env) (sym g) ∙ u)
+      stays_in q (ask.Wait o c z) b e g u k v = not_home q e (ap (λ o. is_held_up o s.env) (sym g) ∙ u)
+      stays_in q (ask.Accept o c z) b e g u k v = not_home q e (ap (λ o. is_held_up o s.env) (sym g) ∙ u)
+      stays_in q (ask.SignalBlock o c) b e g u k v = not_home q e (ap (λ o. is_held_up o s.env) (sym g) ∙ u)
+      stays_in q (ask.Gone o) b e g u k v = k (e ∙ ap home.Object (sym g))
+      stays_in q ask.End b e g u k v = not_home q e (ap (λ o. is_held_up o s.env) (sym g) ∙ v.1)
+      stays_in q y b e g u k v = g
 
       own_here : (q : ℕ) → s.env.exec.home ≡ home.Object q → is_some (find q s.env.hand) ≡ true → is_some (find q (hand_of (held t (j ++ act opts source.sites input j p t n asked)) after.homes)) ≡ true
       own_here q e i =
@@ -220,7 +260,7 @@ module _ (part : ℕ → Part) (source : Source) (inner : InnerSource part sourc
           by true h before =
               let now : has (held t (j ++ a)) q ≡ true = (law_held (j ++ a)).inside t q ∙ h in
               hand_there (held t (j ++ a)) after.homes q now (stays_home t q now (or_some (find q s.env.hand) (w.homes q) i))
-          by false h before = absurd (stays_in q asked.request refl e (insiders.own q before h) unheld extra)
+          by false h before = absurd (stays_in q asked.request refl e (insiders.own q before h) unheld extra stands)
 
       other_here : (u : ℕ) → (u == t) ≡ false → (q : ℕ) → is_some (find q (hand_of (held u j) w.homes)) ≡ true → is_some (find q (hand_of (held u (j ++ act opts source.sites input j p t n asked)) after.homes)) ≡ true
       other_here u apart q i =
@@ -244,6 +284,7 @@ module _ (part : ℕ → Part) (source : Source) (inner : InnerSource part sourc
             request = asked.request;
             form = asking.own;
             stands = drawn_stands part source (own_object t j) (own_object t (j ++ a)) asked.request (hand_of (held t (j ++ a)) after.homes) s (own_same t (GoesOut t j asked.request) t j a kicks born) y (hand_stands part source (held t (j ++ a)) after.homes homes_after) (here_drawn part source s.env.own s.env.hand (hand_of (held t (j ++ a)) after.homes) s.env.exec.home y.here own_here);
+            binds = binds;
           }
 
       other_after : (u : ℕ) → (u == t) ≡ false → spawns (act opts source.sites input j p t n asked) u ≡ false → StandingTask part source j u (drawn j w u) → StandingTask part source (j ++ act opts source.sites input j p t n asked) u (with_hand (hand_of (held u (j ++ act opts source.sites input j p t n asked)) after.homes) (w.tasks u))
@@ -251,18 +292,28 @@ module _ (part : ℕ → Part) (source : Source) (inner : InnerSource part sourc
         request = y.request;
         form = asking.others u h ∙ y.form;
         stands = drawn_stands part source (own_object u j) (own_object u (j ++ a)) y.request (hand_of (held u (j ++ a)) after.homes) (drawn j w u) (own_same t (GoesOut t j asked.request) u j a kicks born) y.stands (hand_stands part source (held u (j ++ a)) after.homes homes_after) (here_drawn part source (drawn j w u).env.own (drawn j w u).env.hand (hand_of (held u (j ++ a)) after.homes) (drawn j w u).env.exec.home y.stands.here (λ q e i. other_here u h q i));
+        binds = y.binds;
       }
+
+      -- what is spawned has a main
+      child_is_main : StandsWith part source (own_object t j) [] s → IsMain source (child_main source s.run.control)
+      child_is_main h = by s.run.control h.run.ok
+        where
+          by : (l : List Todo) → Ok part source h.run.base h.run.marks l → IsMain source (child_main source l)
+          by (piece.ChildNow k ∷ l) g = g.0
+          by l g = main
 
       child_after : (u : ℕ) → (u == t) ≡ false → task_count j ≤ u → u < task_count (j ++ act opts source.sites input j p t n asked) → StandingTask part source (j ++ act opts source.sites input j p t n asked) u (with_hand (hand_of (held u (j ++ act opts source.sites input j p t n asked)) after.homes) (child_of source (own_object u (act opts source.sites input j p t n asked)) s))
       child_after u h le lt =
           let b = spawned_by source input opts range r going deeps p t n s asked d f on u le lt in
-          let first : StandsState part source (own_object u a) (child_of source (own_object u a) s) = law_steps.begins part source inner (child_main source s.run.control) (own_object u a) in
+          let first : StandsState part source (own_object u a) (child_of source (own_object u a) s) = law_steps.begins part source inner (child_main source s.run.control) (own_object u a) (child_is_main (subst (λ q. StandsAsk part source (own_object t j) q s) b.request stands)) in
           let told : own_object u a ≡ b.object = ap (own_object u) b.entries ∙ own_new u b.object [] _ refl (ap (λ c. where_true c b.object) b.test) in
           let now : own_object u (j ++ a) ≡ b.object = ap (λ l. own_object u (j ++ l)) b.entries ∙ own_new u b.object j _ (x.unowned u le) (ap (λ c. where_true c b.object) b.test) in
           record {
             request = ask.Slice;
             form = asking.others u h ∙ subst (λ (P : Spot). SpotSuits P (asked_form u j)) (sound.few u le) ((kept_run opts source.sites input r.kernel going).suits.spots u);
             stands = drawn_stands part source (own_object u a) (own_object u (j ++ a)) ask.Slice (hand_of (held u (j ++ a)) after.homes) (child_of source (own_object u a) s) (now ∙ sym told) first (hand_stands part source (held u (j ++ a)) after.homes homes_after) refl;
+            binds = tt;
           }
 
       tasks_after : (u : ℕ) → u < task_count (j ++ act opts source.sites input j p t n asked) → has_ended u (j ++ act opts source.sites input j p t n asked) ≡ false → StandingTask part source (j ++ act opts source.sites input j p t n asked) u (drawn (j ++ act opts source.sites input j p t n asked) (world_after source (act opts source.sites input j p t n asked) w t s) u)
@@ -309,6 +360,7 @@ module _ (part : ℕ → Part) (source : Source) (inner : InnerSource part sourc
               request = y.request;
               form = form_push u j (dispatch p t) ∙ y.form;
               stands = subst (λ o. StandsWith part source o (brings y.request) (drawn (j ++ dispatch p t ∷ []) w u)) (sym (own_given u j (dispatch p t) refl)) (subst (λ l. StandsWith part source (own_object u j) (brings y.request) (with_hand (hand_of l w.homes) (w.tasks u))) (sym (d.objects u)) y.stands);
+              binds = y.binds;
             };
         homes = x.homes;
         unowned = λ u le. told_dispatch u ∙ x.unowned u (omega (arith, le, count));
@@ -342,5 +394,6 @@ module _ (part : ℕ → Part) (source : Source) (inner : InnerSource part sourc
       first u e = record {
         request = ask.Slice;
         form = begin_form u;
-        stands = drawn_stands part source 0 (own_object u (begin opts ∷ [])) ask.Slice (hand_of (held u (begin opts ∷ [])) first_home) (quiet.first_state (routine_of source source.main) 0) (ap (λ v. own_object v (begin opts ∷ [])) e ∙ own_begin (begin opts) refl) (law_steps.begins part source inner source.main 0) (hand_stands part source (held u (begin opts ∷ [])) first_home (λ o. either (StandsMembers part source (home.Object o)) (o == 0) (Some (quiet.zeros 0)) None tt tt)) refl;
+        stands = drawn_stands part source 0 (own_object u (begin opts ∷ [])) ask.Slice (hand_of (held u (begin opts ∷ [])) first_home) (quiet.first_state (routine_of source source.main) 0) (ap (λ v. own_object v (begin opts ∷ [])) e ∙ own_begin (begin opts) refl) (law_steps.begins part source inner source.main 0 main) (hand_stands part source (held u (begin opts ∷ [])) first_home (λ o. either (StandsMembers part source (home.Object o)) (o == 0) (Some (quiet.zeros 0)) None tt tt)) refl;
+        binds = tt;
       }

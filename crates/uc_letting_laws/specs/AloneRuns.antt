@@ -1,38 +1,37 @@
--- Runs in whose rides nothing else is owed to an object that is let go of however deep its task is, and nothing runs in it as it is taken
--- out, and in which tasks end outside of what holds them up.
-use Rattle.std.specs.Prelude.{◌≡◌, ℕ, suc, false, List}
+-- Runs in whose rides nothing else is owed to an object that is let go of however deep its task is, and whoever has destroyed an object is not
+-- at home there.
+use Rattle.std.specs.Prelude.{◌≡◌, ℕ, suc, List}
 use Rattle.uc_tree.specs.Source.{Source}
 use Rattle.uc_entry.specs.declared.entry.Entry.{Entry}
 use Rattle.uc_entry.specs.declared.entry.Options.{Options}
 use Rattle.uc_entry.specs.declared.request.Asked.{Asked}
 use Rattle.uc_entry.specs.declared.request.Request.{Request}
 use Rattle.uc_entry.specs.declared.request.Request.TheVariants as ask
-use Rattle.uc_acts.specs.Journal.{Journal, own_object}
+use Rattle.uc_acts.specs.Journal.{Journal}
 use Rattle.uc_machine.specs.declared.exec.Home.TheVariants as home
 use Rattle.uc_machine.specs.Quiet.{State}
-use Rattle.uc_machine.specs.Insides.{is_held_up}
 use Rattle.uc_machine.specs.Rides.{Rides, slices, goes_on, ticks, asks}
 use Rattle.uc_meaning.specs.Runs.{World, May, Runs, gives, no_room, acts, begun, more}
 use Rattle.uc_depth_laws.specs.Owing.{Alone}
+use Rattle.uc_inner_laws.specs.Standing.{GivesUp}
 
--- at its end nothing holds a task up in its own object; and who takes an object out is not at home there
-abbrev pub AskAlone : ℕ → Request → State → Type 0
-AskAlone own ask.End s = is_held_up own s.env ≡ false
-AskAlone own (ask.Gone o) s = s.env.exec.home ≡ home.Object o → ⊥
-AskAlone own r s = Unit {0}
+-- whoever takes out an object that it has destroyed, and not one whose building it gives up, is not at home there
+abbrev pub AskAlone : State → Request → State → Type 0
+AskAlone s (ask.Gone o) t = (GivesUp s.run.control → ⊥) → t.env.exec.home ≡ home.Object o → ⊥
+AskAlone s r t = Unit {0}
 
 -- so is each step of a ride
 abbrev pub RideAlone : (source : Source) (s : State) (q : ℕ) (u : State) (k : ℕ) (a : Asked) → Rides source s q u k a → Type 0
 RideAlone source _ _ _ _ _ slices = Unit {0}
 RideAlone source _ _ _ _ _ (goes_on {s} {t} {u} {q} {k} {a} e r) = Alone source s × RideAlone source t (suc q) u k a r
 RideAlone source _ _ _ _ _ (ticks {s} {t} {u} {q} {k} {a} e r) = Alone source s × RideAlone source t q u k a r
-RideAlone source _ _ _ _ _ (asks {s} e) = Alone source s
+RideAlone source _ _ _ _ _ (asks {s} {t} {q} {r} e) = Alone source s × AskAlone s r t
 
 -- so is each ride of a run
 abbrev pub MayAlone : (source : Source) (opts : Options) (input : List ℕ) (j : Journal) (w : World) (a : List Entry) (x : World) → May source opts input j w a x → Type 0
 MayAlone source opts input j w _ _ (gives p t s h) = Unit {0}
 MayAlone source opts input j w _ _ (no_room p t s h) = Unit {0}
-MayAlone source opts input j w _ _ (acts p t n s asked d) = RideAlone source _ _ s n asked d.rides × AskAlone (own_object t j) asked.request s
+MayAlone source opts input j w _ _ (acts p t n s asked d) = RideAlone source _ _ s n asked d.rides
 
 abbrev pub RunAlone : (source : Source) (input : List ℕ) (opts : Options) (j : Journal) (w : World) → Runs source input opts j w → Type 0
 RunAlone source input opts _ _ begun = Unit {0}

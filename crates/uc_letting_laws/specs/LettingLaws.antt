@@ -31,8 +31,8 @@ AsksInHand own hand (ask.Front o c) = has hand o ≡ true
 AsksInHand own hand ask.End = has hand own ≡ true
 AsksInHand own hand r = Unit {0}
 
--- so it is in a run in which all that was asked so far fits, where objects are entered by their calls and code waits, signals and accepts
--- only where its task is inside, as long as nothing else is owed to what is let go of
+-- so it is in a run in which all that was asked so far fits, where objects are entered by their calls, code waits, signals and accepts only
+-- where its task is inside, and tasks have mains, as long as nothing else is owed to what is let go of
 abbrev pub LawInHand : Type 0
 LawInHand =
     (part : ℕ → Part)

@@ -1,6 +1,6 @@
 -- What holds of all executions goes on to hold where members, executions and who runs change.
-use Rattle.std.proofs.Common.{◌≡◌, ℕ, suc, length, ap, ◌∙◌, true, false, List, [], ◌∷◌, ◌++◌, Option, Some, None, refl, sym, subst}
-use Rattle.std.specs.Prelude.{nat_eq}
+use Rattle.std.proofs.Common.{◌≡◌, ℕ, zero, suc, length, ap, ◌∙◌, Bool, true, false, List, [], ◌∷◌, ◌++◌, Option, Some, None, refl, sym, subst}
+use Rattle.std.specs.Prelude.{nat_eq, map, take, drop, replicate, slice_set, if◌then◌else◌}
 use Rattle.uc_entry.specs.declared.fault.RunFault.TheVariants.{ResumeInUse, SwitchInUnwind}
 use Rattle.uc_entry.specs.Keyed.{find}
 use Rattle.uc_machine.specs.declared.exec.Exec.{Exec}
@@ -11,30 +11,57 @@ use Rattle.uc_machine.specs.declared.exec.Owner.TheVariants.{Frame, Fields}
 use Rattle.uc_machine.specs.declared.exec.UnwindReason.{UnwindReason}
 use Rattle.uc_machine.specs.declared.exec.Stage.{Stage}
 use Rattle.uc_machine.specs.declared.exec.Stage.TheVariants.{Fresh, Started, Ended}
-use Rattle.uc_machine.specs.Executions.{Execution, Links, update, exec_eq, joined, members_at, set_members, change, change_in, slot_in, parked_at, frames_by, frames_changed, frame_changed, with_owned, with_frames, set_depth, at_depth, list_in}
+use Rattle.uc_machine.specs.Executions.{Execution, Links, update, exec_eq, joined, value_changed, values_cleared, members_at, set_members, change, change_in, slot_in, parked_at, frames_by, frames_changed, frame_changed, with_owned, with_frames, set_depth, at_depth, list_in}
 use Rattle.uc_machine.specs.Switches as sw
 use Rattle.uc_machine.specs.Switches.{Moved, To, Stops}
-use Rattle.uc_machine.specs.Pieces.{Value, Number, Place, Running, Object, Nothing, Todo, Active, State, Env, Members, written}
+use Rattle.uc_machine.specs.Pieces.{Value, Number, Place, Running, Object, Nothing, Todo, Active, State, Env, Members, nought, stored, written}
 use Rattle.uc_site_laws.proofs.Kept.{either}
-use Rattle.uc_scope_laws.specs.RoomStacks.{Stacked, Stack, StackEx, StackSlot, StackParked, StackHand, StackMembers, StackEnv, StackState}
+use Rattle.uc_scope_laws.specs.RoomStacks.{frame_cells, Stacked, Stack, StackEx, StackSlot, StackParked, StackHand, StackMembers, StackEnv, StackState}
+use Rattle.uc_scope_laws.proofs.Stacks.{as_many, stack_same}
 
--- a frame is changed and stays one
+-- a frame is changed and keeps its cells
 
-set_frames : {X : Type 0} (xs : List X) (d : ℕ) (y : X) → length (set_depth xs d y) ≡ length xs
-set_frames [] d y = refl
-set_frames (x ∷ xs) d y =
-    let h = set_frames xs d y in
-    either (λ l. length l ≡ suc (length xs)) (nat_eq d (length xs)) (y ∷ xs) (x ∷ set_depth xs d y) refl (ap suc h)
+set_frames : (xs : List (List Value)) (d : ℕ) (y : List Value) → length y ≡ frame_cells xs d → map length (set_depth xs d y) ≡ map length xs
+set_frames [] d y e = refl
+set_frames (x ∷ xs) d y e = by (nat_eq d (length xs)) e (λ k. set_frames xs d y k)
+  where
+    by : (b : Bool) → length y ≡ length (list_in (if b then Some x else at_depth xs d)) → (length y ≡ frame_cells xs d → map length (set_depth xs d y) ≡ map length xs) → map length (if b then y ∷ xs else x ∷ set_depth xs d y) ≡ map length (x ∷ xs)
+    by true e k = ap (λ n. n ∷ map length xs) e
+    by false e k = ap (λ ns. length x ∷ ns) (k e)
+
+-- so many values stay so many
+abbrev pub KeepsCells : (List Value → List Value) → Type 0
+KeepsCells f = (vs : List Value) → length (f vs) ≡ length vs
+
+set_cells : (vs : List Value) (k : ℕ) (v : Value) → length (slice_set vs k v) ≡ length vs
+set_cells [] k v = refl
+set_cells (x ∷ vs) zero v = refl
+set_cells (x ∷ vs) (suc k) v = ap suc (set_cells vs k v)
+
+changed_cells : (k : ℕ) (g : Value → Value) → KeepsCells (value_changed k g nought)
+changed_cells k g vs = set_cells vs k _
+
+some_cleared : (n : ℕ) (vs : List Value) → length (replicate (length (take n vs)) nought ++ drop n vs) ≡ length vs
+some_cleared zero [] = refl
+some_cleared zero (x ∷ vs) = refl
+some_cleared (suc n) [] = refl
+some_cleared (suc n) (x ∷ vs) = ap suc (some_cleared n vs)
+
+pub cleared_cells : (k n : ℕ) → KeepsCells (values_cleared k n nought)
+cleared_cells zero n [] = some_cleared n []
+cleared_cells zero n (x ∷ vs) = some_cleared n (x ∷ vs)
+cleared_cells (suc k) n [] = some_cleared n []
+cleared_cells (suc k) n (x ∷ vs) = ap suc (cleared_cells k n vs)
 
 abbrev pub Ex : Type 0
 Ex = Execution (List Todo) Value
 
 module _ (Sized : ℕ → ℕ → Type 0) where
   -- why an activation is unwound tells nothing of its rooms
-  pub calmed : (a : Active) (cs : List Active) (w : Option UnwindReason) → Stack Sized (a ∷ cs) → Stack Sized (record a { raised = w } ∷ cs)
-  calmed a cs w h =
-      let k : Stacked Sized a cs = h.0 in
-      (record { top = k.top; fits = k.fits; frame = k.frame; beyond = k.beyond; over = k.over }, h.1)
+  pub calmed : (fs : List (List Value)) (a : Active) (cs : List Active) (w : Option UnwindReason) → Stack Sized fs (a ∷ cs) → Stack Sized fs (record a { raised = w } ∷ cs)
+  calmed fs a cs w h =
+      let k : Stacked Sized fs a cs = h.0 in
+      (record { top = k.top; fits = k.fits; cells = k.cells; frame = k.frame; beyond = k.beyond; over = k.over }, h.1)
 
   -- the same, of what has the same hand and house
   pub like : {e f : Env} → StackEnv Sized e → f.hand ≡ e.hand → f.house ≡ e.house → StackEnv Sized f
@@ -99,26 +126,33 @@ module _ (Sized : ℕ → ℕ → Type 0) where
   pub change_rests : (h : Home) (f : Members → Members) (e : Env) → KeepsParked f → StackEnv Sized e → StackEnv Sized (change h f e)
   change_rests h f e k s = change_by h f (members_at h e) e k (members_rests h e s) s
 
-  frames_kept : (n : ℕ) (f : List (List Value) → List (List Value)) (o : Option Ex) (m : Members) → ((fs : List (List Value)) → length (f fs) ≡ length fs) → StackSlot Sized o → StackParked Sized m.parked → StackParked Sized (frames_by n f o m).parked
-  frames_kept n f None m same r h = h
-  frames_kept n f (Some x) m same r h = update_parked n (Some (record x { frames = f x.frames })) m.parked (record { frames = same x.frames ∙ r.frames; stack = r.stack }) h
+  -- frames that keep their cells
+  abbrev KeepsFrames : (List (List Value) → List (List Value)) → Type 0
+  KeepsFrames f = (fs : List (List Value)) → map length (f fs) ≡ map length fs
 
-  with_frames_rests : (n : Exec) (f : List (List Value) → List (List Value)) (e : Env) → ((fs : List (List Value)) → length (f fs) ≡ length fs) → StackEnv Sized e → StackEnv Sized (with_frames n f e)
+  frames_kept : (n : ℕ) (f : List (List Value) → List (List Value)) (o : Option Ex) (m : Members) → KeepsFrames f → StackSlot Sized o → StackParked Sized m.parked → StackParked Sized (frames_by n f o m).parked
+  frames_kept n f None m same r h = h
+  frames_kept n f (Some x) m same r h = update_parked n (Some (record x { frames = f x.frames })) m.parked (record { frames = as_many (f x.frames) x.frames (same x.frames) ∙ r.frames; stack = stack_same Sized x.frames (f x.frames) (x.run ∷ x.callers) (same x.frames) r.stack }) h
+
+  with_frames_rests : (n : Exec) (f : List (List Value) → List (List Value)) (e : Env) → KeepsFrames f → StackEnv Sized e → StackEnv Sized (with_frames n f e)
   with_frames_rests n f e same s =
       either (StackEnv Sized) (exec_eq n e.exec) (record e { frames = f e.frames }) (change n.home (frames_changed n.serial f) e) (like s refl refl) (change_rests n.home (frames_changed n.serial f) e (λ m h. frames_kept n.serial f (joined (find n.serial m.parked)) m same (found_parked n.serial m.parked h) h) s)
 
-  pub owned_rests : (o : Owner) (f : List Value → List Value) (e : Env) → StackEnv Sized e → StackEnv Sized (with_owned o f e)
-  owned_rests (Frame n d) f e s = with_frames_rests n (frame_changed d f) e (λ fs. set_frames fs d (f (list_in (at_depth fs d)))) s
-  owned_rests (Fields o) f e s = change_rests (home.Object o) _ e (λ m h. h) s
+  frame_kept : (d : ℕ) (f : List Value → List Value) → KeepsCells f → KeepsFrames (frame_changed d f)
+  frame_kept d f k fs = set_frames fs d (f (list_in (at_depth fs d))) (k (list_in (at_depth fs d)))
+
+  pub owned_rests : (o : Owner) (f : List Value → List Value) (e : Env) → KeepsCells f → StackEnv Sized e → StackEnv Sized (with_owned o f e)
+  owned_rests (Frame n d) f e k s = with_frames_rests n (frame_changed d f) e (frame_kept d f k) s
+  owned_rests (Fields o) f e k s = change_rests (home.Object o) _ e (λ m h. h) s
 
   pub written_rests : (v w : Value) (e : Env) → StackEnv Sized e → StackEnv Sized (written v w e)
   written_rests (Number n) w e s = s
-  written_rests (Place o p) w e s = owned_rests o _ e s
+  written_rests (Place o p) w e s = owned_rests o _ e (changed_cells _ (stored w)) s
   written_rests (Running x) w e s = s
-  written_rests (Object o) w e s = owned_rests (Fields o) _ e s
+  written_rests (Object o) w e s = owned_rests (Fields o) _ e (changed_cells 0 (stored w)) s
   written_rests Nothing w e s = s
 
-  -- the frames of what runs stay as many
+  -- the frames of what runs keep their cells
 
   set_members_frames : (h : Home) (m : Members) (e : Env) → (set_members h m e).frames ≡ e.frames
   set_members_frames (home.Task t) m e = either (λ (d : Env). d.frames ≡ e.frames) (nat_eq t e.own) (record e { house = m }) e refl refl
@@ -131,29 +165,29 @@ module _ (Sized : ℕ → ℕ → Type 0) where
   pub change_frames : (h : Home) (f : Members → Members) (e : Env) → (change h f e).frames ≡ e.frames
   change_frames h f e = change_in_frames h f (members_at h e) e
 
-  pub owned_frames : (o : Owner) (f : List Value → List Value) (e : Env) → length (with_owned o f e).frames ≡ length e.frames
-  owned_frames (Frame n d) f e =
-      either (λ (g : Env). length g.frames ≡ length e.frames) (exec_eq n e.exec) (record e { frames = frame_changed d f e.frames }) (change n.home (frames_changed n.serial (frame_changed d f)) e) (set_frames e.frames d (f (list_in (at_depth e.frames d)))) (ap length (change_frames n.home (frames_changed n.serial (frame_changed d f)) e))
-  owned_frames (Fields o) f e = ap length (change_frames (home.Object o) _ e)
+  pub owned_frames : (o : Owner) (f : List Value → List Value) (e : Env) → KeepsCells f → map length (with_owned o f e).frames ≡ map length e.frames
+  owned_frames (Frame n d) f e k =
+      either (λ (g : Env). map length g.frames ≡ map length e.frames) (exec_eq n e.exec) (record e { frames = frame_changed d f e.frames }) (change n.home (frames_changed n.serial (frame_changed d f)) e) (frame_kept d f k e.frames) (ap (map length) (change_frames n.home (frames_changed n.serial (frame_changed d f)) e))
+  owned_frames (Fields o) f e k = ap (map length) (change_frames (home.Object o) _ e)
 
-  pub written_frames : (v w : Value) (e : Env) → length (written v w e).frames ≡ length e.frames
+  pub written_frames : (v w : Value) (e : Env) → map length (written v w e).frames ≡ map length e.frames
   written_frames (Number n) w e = refl
-  written_frames (Place o p) w e = owned_frames o _ e
+  written_frames (Place o p) w e = owned_frames o _ e (changed_cells _ (stored w))
   written_frames (Running x) w e = refl
-  written_frames (Object o) w e = owned_frames (Fields o) _ e
+  written_frames (Object o) w e = owned_frames (Fields o) _ e (changed_cells 0 (stored w))
   written_frames Nothing w e = refl
 
-  pub with_links_frames : (g : Links → Links) (n : Exec) (e : Env) → length (sw.with_links g n e).frames ≡ length e.frames
+  pub with_links_frames : (g : Links → Links) (n : Exec) (e : Env) → (sw.with_links g n e).frames ≡ e.frames
   with_links_frames g n e =
-      either (λ (d : Env). length d.frames ≡ length e.frames) (exec_eq n e.exec) (record e { links = g e.links }) (change n.home (sw.links_changed g n.serial) e) refl (ap length (change_frames n.home (sw.links_changed g n.serial) e))
+      either (λ (d : Env). d.frames ≡ e.frames) (exec_eq n e.exec) (record e { links = g e.links }) (change n.home (sw.links_changed g n.serial) e) refl (change_frames n.home (sw.links_changed g n.serial) e)
 
-  pub enlivened_frames : (o : Option Exec) (e : Env) → length (sw.enlivened o e).frames ≡ length e.frames
+  pub enlivened_frames : (o : Option Exec) (e : Env) → (sw.enlivened o e).frames ≡ e.frames
   enlivened_frames None e = refl
   enlivened_frames (Some n) e = with_links_frames (λ l. record l { live = true }) n e
 
-  pub forgotten_frames : (o : Option Exec) (e : Env) → length (sw.forgotten o e).frames ≡ length e.frames
+  pub forgotten_frames : (o : Option Exec) (e : Env) → (sw.forgotten o e).frames ≡ e.frames
   forgotten_frames None e = refl
-  forgotten_frames (Some n) e = ap length (change_frames n.home (sw.slot_gone n.serial) e)
+  forgotten_frames (Some n) e = change_frames n.home (sw.slot_gone n.serial) e
 
   -- executions are made and go, and their links change
 
@@ -246,7 +280,7 @@ module _ (Sized : ℕ → ℕ → Type 0) where
 
   throw_rests : (o : Option (Exec × Ex)) (s : State) → StackNext o → StackState Sized s → StackMoved (sw.throw_at o s)
   throw_rests None s r h = tt
-  throw_rests (Some p) s r h = switched_rests p.0 _ s (record { frames = r.frames; stack = calmed p.1.run p.1.callers _ r.stack }) h
+  throw_rests (Some p) s r h = switched_rests p.0 _ s (record { frames = r.frames; stack = calmed p.1.frames p.1.run p.1.callers _ r.stack }) h
 
   pub escape_rests : (s : State) → StackState Sized s → StackMoved (sw.escape s)
   escape_rests s h = throw_rests (sw.able s.env.links.resumer s.env) (sw.ended s) (able_rests s.env.links.resumer s.env h.env) (ended_rests s h)
@@ -255,11 +289,11 @@ module _ (Sized : ℕ → ℕ → Type 0) where
   taken_down_rests s h = go_on_rests (sw.able s.env.links.destroyer s.env) (sw.ended s) (able_rests s.env.links.destroyer s.env h.env) (ended_rests s h)
 
   over_rests : (n : Exec) (s : State) → StackState Sized s → StackState Sized (sw.over n s)
-  over_rests n s h = record { frames = with_links_frames (λ l. record l { live = false; stage = Ended }) n s.env ∙ h.frames; stack = h.stack; env = with_links_rests (λ l. record l { live = false; stage = Ended }) n s.env h.env }
+  over_rests n s h = record { frames = ap length (with_links_frames (λ l. record l { live = false; stage = Ended }) n s.env) ∙ h.frames; stack = subst (λ fs. Stack Sized fs (s.run ∷ s.callers)) (sym (with_links_frames (λ l. record l { live = false; stage = Ended }) n s.env)) h.stack; env = with_links_rests (λ l. record l { live = false; stage = Ended }) n s.env h.env }
 
   take_down_stage : (g : Stage) (n : Exec) (x : Ex) (s : State) → StackEx Sized x → StackState Sized s → StackMoved (sw.take_down_at g n x s)
   take_down_stage Fresh n x s r h = over_rests n s h
-  take_down_stage Started n x s r h = switched_rests n _ s (record { frames = r.frames; stack = calmed x.run x.callers _ r.stack }) h
+  take_down_stage Started n x s r h = switched_rests n _ s (record { frames = r.frames; stack = calmed x.frames x.run x.callers _ r.stack }) h
   take_down_stage Ended n x s r h = over_rests n s h
 
   take_down_slot : (n : Exec) (o : Option Ex) (s : State) → StackSlot Sized o → StackState Sized s → StackMoved (sw.take_down_by n o s)

@@ -2,6 +2,7 @@ pub mod Expressions
 pub mod RoomLemmas
 pub mod Steps
 pub mod Walk
+pub mod Clustering
 pub mod Statements
 pub mod Routines
 pub mod Unreferring

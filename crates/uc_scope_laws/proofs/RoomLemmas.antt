@@ -2,6 +2,7 @@
 use Rattle.std.proofs.Common.{ℕ, ◌≤◌, List, [], ◌∷◌, arith}
 use Rattle.uc_tree.specs.Source as src
 use Rattle.uc_tree.specs.Source.{Expr, Exprs, ObjectExpr, Stmt, Stmts, EventStmt, TaskStmt, Handlers, Clauses, CleanUp, Declared, Raised}
+use Rattle.uc_scope_laws.specs.Clusters.{Joined}
 use Rattle.uc_scope_laws.specs.Ordinary.{Ordinary, IsNew, IsGiven, Evaluated}
 use Rattle.uc_scope_laws.specs.Rooms.{Room, IsRoom, IsWithin, LiesAt, LiesIn, Destroyed, Lies, Keeps, Holds, OwnAt, OwnIn, DeclaredIn, RaisedIn, StmtIn, StmtsIn, EventIn, TaskIn, ClausesIn}
 
@@ -166,11 +167,18 @@ module _ (Sized : ℕ → ℕ → Type 0) where
       (omega (arith, low, a), omega (arith, high, b), h.2)
   raised_wider w o (src.AgainFrom k) i h = tt
 
+  -- what stands behind each other in a block
+  pub joined : (o : Room) (ss : Stmts) → StmtsIn Sized o ss → Joined ss
+  joined o src.Nil h = tt
+  joined o (src.Then a rest) h = (h.2, joined o rest h.1)
+  joined o (src.Scoped c rest) h = (h.4, joined h.0 rest h.3)
+  joined o (src.Built c rest) h = (h.2, joined o rest h.1)
+
   mutual
     pub stmt_wider : (w o : Room) (a : Stmt) → IsWithin w o → StmtIn Sized o a → StmtIn Sized w a
     stmt_wider w o (src.Skip line) i h = tt
-    stmt_wider w o (src.Block line body) i h = stmts_wider w o body i h
-    stmt_wider w o (src.Whole line body) i h = stmts_wider w o body i h
+    stmt_wider w o (src.Block line body) i h = (stmts_wider w o body i h.0, h.1)
+    stmt_wider w o (src.Whole line body) i h = (stmts_wider w o body i h.0, h.1)
     stmt_wider w o (src.Evaluate line e) i h = evaluated_wider o.low w.low e i.low h
     stmt_wider w o (src.Declare line ds) i h = declared_wider w o ds i h
     stmt_wider w o (src.Print line items) i h = h
@@ -188,14 +196,14 @@ module _ (Sized : ℕ → ℕ → Type 0) where
 
     pub stmts_wider : (w o : Room) (ss : Stmts) → IsWithin w o → StmtsIn Sized o ss → StmtsIn Sized w ss
     stmts_wider w o src.Nil i h = tt
-    stmts_wider w o (src.Then a rest) i h = (stmt_wider w o a i h.0, stmts_wider w o rest i h.1)
-    stmts_wider w o (src.Scoped c rest) i h = (h.0, within_both w o h.0 i h.1, holds_wider w o h.0 c i h.2, h.3)
-    stmts_wider w o (src.Built c rest) i h = (h.0, stmts_wider w o rest i h.1)
+    stmts_wider w o (src.Then a rest) i h = (stmt_wider w o a i h.0, stmts_wider w o rest i h.1, h.2)
+    stmts_wider w o (src.Scoped c rest) i h = (h.0, within_both w o h.0 i h.1, holds_wider w o h.0 c i h.2, h.3, h.4)
+    stmts_wider w o (src.Built c rest) i h = (h.0, stmts_wider w o rest i h.1, h.2)
 
     event_wider : (w o : Room) (a : EventStmt) → IsWithin w o → EventIn Sized o a → EventIn Sized w a
     event_wider w o (src.Throw line r) i h = raised_wider w o r i h
     event_wider w o (src.Raise line r) i h = raised_wider w o r i h
-    event_wider w o (src.Try line body hs) i h = (h.0, h.1, within_both w o h.0 i h.2, within_both w o h.1 i h.3, h.4, h.5, h.6)
+    event_wider w o (src.Try line body hs) i h = (h.0, h.1, within_both w o h.0 i h.2, within_both w o h.1 i h.3, h.4, h.5, h.6, h.7, h.8)
     event_wider w o (src.RaiseAt line r e) i h = (raised_wider w o r i h.0, h.1)
     event_wider w o (src.Enable line events cell a) i h =
         (h.0, within_both w o h.0 i h.1, keeps_wider o.hidden h.0.hidden w.hidden (src.Restores cell) i.hidden h.2, h.3)

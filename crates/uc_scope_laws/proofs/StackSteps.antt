@@ -1,6 +1,6 @@
 -- A quiet step of a task of which all executions stay behind one another in their frames leads to one.
-use Rattle.std.proofs.Common.{◌≡◌, ℕ, zero, suc, inr, ◌++◌, Bool, true, false, ◌&&◌, List, [], ◌∷◌, length, drop, Option, Some, None, refl, arith, ap, ◌∙◌, subst, sym}
-use Rattle.std.specs.Prelude.{nat_eq, nat_lt}
+use Rattle.std.proofs.Common.{◌≡◌, ◌≤◌, ◌+◌, ◌-◌, ℕ, zero, suc, inr, ◌++◌, Bool, true, false, ◌&&◌, List, [], ◌∷◌, length, drop, Option, Some, None, refl, arith, ap, ◌∙◌, subst, sym}
+use Rattle.std.specs.Prelude.{nat_eq, nat_lt, map, replicate}
 use Rattle.uc_tree.specs.declared.limits.TheConstants.{CALLS, PENDING_EVENTS}
 use Rattle.uc_tree.specs.Source as src
 use Rattle.uc_tree.specs.Source.{Shape, Expr, ObjectExpr, Stmt, Stmts, EventStmt, TaskStmt, Routine, Purpose, Order, Way, CleanUp, Handlers, Clauses, Raised, Item, Declared}
@@ -11,7 +11,7 @@ use Rattle.uc_machine.specs.declared.exec.Pending.{Pending}
 use Rattle.uc_machine.specs.declared.exec.UnwindReason.{UnwindReason}
 use Rattle.uc_machine.specs.declared.exec.UnwindReason.TheVariants as reason
 use Rattle.uc_machine.specs.declared.exec.Visited.{Visited}
-use Rattle.uc_machine.specs.Executions.{others}
+use Rattle.uc_machine.specs.Executions.{others, take_operands, first_or}
 use Rattle.uc_machine.specs.Switches as sw
 use Rattle.uc_machine.specs.Switches.{Moved, To, Stops}
 use Rattle.uc_machine.specs.Insides as inside
@@ -21,20 +21,38 @@ use Rattle.uc_machine.specs.Monitors as monitors
 use Rattle.uc_machine.specs.Polls as polls
 use Rattle.uc_machine.specs.Quiet as quiet
 use Rattle.uc_machine.specs.Pieces as piece
-use Rattle.uc_machine.specs.Pieces.{Value, Number, Place, Running, Object, Nothing, Todo, Sort, Active, State, Env, Members, Step, Goes, Ticks, Asks, Outcome, Gives, Faults, at, in_env, goes, fault, asks, turns, top, below, number, is_zero, written}
+use Rattle.uc_machine.specs.Pieces.{Value, Number, Place, Running, Object, Nothing, Todo, Sort, Active, State, Env, Members, Step, Goes, Ticks, Asks, Outcome, Gives, Faults, at, in_env, goes, fault, asks, turns, top, below, number, nought, is_zero, written}
 use Rattle.uc_site_laws.proofs.Kept.{either}
 use Rattle.uc_scope_laws.specs.Ordinary.{Ordinary, OrdinaryMaybe, OrdinaryItem, Evaluated}
 use Rattle.uc_scope_laws.specs.Rooms.{Room, IsRoom, IsWithin, Holds, OwnPart, RaisedIn, StmtIn, StmtsIn, HandlersIn, ClausesIn, RoutineIn, MaybeRoutineIn}
 use Rattle.uc_scope_laws.specs.RoomStates.{PieceIn, Reached}
 use Rattle.uc_scope_laws.specs.RoomStacks.{TodoTo, SomeTo, UpTo, Stack, StackEx, StackEnv, StackState, StackStep}
 use Rattle.uc_scope_laws.proofs.RoomLemmas.{new_ordinary, ordinary_evaluated, given_evaluated, within_both, single_evaluated, counted_evaluated, own_evaluated, all_own_evaluated, stmts_wider}
-use Rattle.uc_scope_laws.proofs.Stacks.{stacked_by, stack_call, stack_handler, next_by}
+use Rattle.uc_scope_laws.proofs.Stacks.{as_many, stacked_by, stack_older, stack_same, stack_call, stack_handler, next_by}
 use Rattle.uc_scope_laws.proofs.Keeping as kept
 
 -- a frame less
 others_length : {X : Type 0} (xs : List X) (n : ℕ) → length xs ≡ suc (suc n) → length (others xs) ≡ suc n
 others_length [] n h = absurd (cc)
 others_length (x ∷ xs) n h = omega (arith, h)
+
+-- a frame has at least the cells of its routine
+
+operands_taken : (n : ℕ) (xs ys : List Value) → length (take_operands Nothing n xs ys) ≡ n + length ys
+operands_taken zero xs ys = let h : length ys ≡ 0 + length ys = omega arith in h
+operands_taken (suc n) xs ys =
+    let h = operands_taken n (others xs) (first_or Nothing xs ∷ ys) in
+    omega (arith, h)
+
+pub replicated : (n : ℕ) (v : Value) → length (replicate n v) ≡ n
+replicated zero v = refl
+replicated (suc n) v = ap suc (replicated n v)
+
+call_cells : (r : Routine) (vs : List Value) → r.cells ≤ length (quiet.call_frame r vs)
+call_cells r vs =
+    let h = operands_taken r.params vs (replicate (r.cells - r.params) nought) in
+    let k = replicated (r.cells - r.params) nought in
+    omega (arith, h, k)
 
 -- where the newest activation is told in another way, the search is the same
 found_same : (o : Option Hit) (a b : Active) (cs : List Active) (other : Option Found) → a.handles ≡ b.handles → a.this ≡ b.this → a.frame ≡ b.frame → raising.found_or o a cs other ≡ raising.found_or o b cs other
@@ -188,15 +206,17 @@ module _ (Sized : ℕ → ℕ → Type 0) where
     Keeps todo = (End : Room → Type 0) → SomeTo Sized End s.run.control → SomeTo Sized End todo
 
     -- the running activation, with something else to do
-    pub put : (b : Active) → b.frame ≡ s.run.frame → b.handles ≡ s.run.handles → Keeps b.control → Stack Sized (b ∷ s.callers)
-    put b e f k = (stacked_by Sized s.run b s.callers e f k st.stack.0, st.stack.1)
+    pub put : (b : Active) → b.frame ≡ s.run.frame → b.handles ≡ s.run.handles → Keeps b.control → Stack Sized s.env.frames (b ∷ s.callers)
+    put b e f k = (stacked_by Sized s.env.frames s.run b s.callers e f k st.stack.0, st.stack.1)
 
     pub go : (todo : List Todo) (vs : List Value) → Keeps todo → StackState Sized (at todo vs s)
     go todo vs k = record { frames = st.frames; stack = put (record s.run { control = todo; operands = vs }) refl refl k; env = st.env }
 
     -- and with something written
-    pub go_in : (todo : List Todo) (vs : List Value) (e : Env) → length e.frames ≡ length s.env.frames → Keeps todo → StackEnv Sized e → StackState Sized (at todo vs (in_env e s))
-    go_in todo vs e l k i = record { frames = l ∙ st.frames; stack = put (record s.run { control = todo; operands = vs }) refl refl k; env = i }
+    pub go_in : (todo : List Todo) (vs : List Value) (e : Env) → map length e.frames ≡ map length s.env.frames → Keeps todo → StackEnv Sized e → StackState Sized (at todo vs (in_env e s))
+    go_in todo vs e l k i =
+        let b : Active = record s.run { control = todo; operands = vs } in
+        record { frames = as_many e.frames s.env.frames l ∙ st.frames; stack = stack_same Sized s.env.frames e.frames (b ∷ s.callers) l (put b refl refl k); env = i }
 
     -- nothing else that is kept changes
     pub likes : {e f : Env} → StackEnv Sized e → f.hand ≡ e.hand → f.house ≡ e.house → StackEnv Sized f
@@ -211,20 +231,28 @@ module _ (Sized : ℕ → ℕ → Type 0) where
 
     -- the end of an activation
 
-    pub returned : (given : Value) (cs : List Active) → length s.env.frames ≡ suc (length cs) → Stack Sized cs → StackStep Sized (piece.return_step given cs s)
+    -- those that wait, with a frame less
+    less : (a : Active) (cs : List Active) → length s.env.frames ≡ suc (length (a ∷ cs)) → Stack Sized s.env.frames (a ∷ cs) → Stack Sized (others s.env.frames) (a ∷ cs)
+    less a cs l h =
+        let n : length (others s.env.frames) ≡ suc (length cs) = others_length s.env.frames (length cs) l in
+        stack_older Sized s.env.frames (a ∷ cs) (omega (arith, n)) h
+
+    pub returned : (given : Value) (cs : List Active) → length s.env.frames ≡ suc (length cs) → Stack Sized s.env.frames cs → StackStep Sized (piece.return_step given cs s)
     returned given [] l h = st
     returned given (a ∷ cs) l h =
-        record { frames = others_length s.env.frames (length cs) l; stack = (stacked_by Sized a (record a { operands = given ∷ a.operands }) cs refl refl (λ end t. t) h.0, h.1); env = likes st.env refl refl }
+        let k = less a cs l h in
+        record { frames = others_length s.env.frames (length cs) l; stack = (stacked_by Sized (others s.env.frames) a (record a { operands = given ∷ a.operands }) cs refl refl (λ end t. t) k.0, k.1); env = likes st.env refl refl }
 
     -- unwinding begins in one that waits
-    waits : (a b : Active) (cs : List Active) → b.control ≡ piece.Unwind ∷ a.control → b.frame ≡ a.frame → b.handles ≡ a.handles → Stack Sized (a ∷ cs) → Stack Sized (b ∷ cs)
-    waits a b cs e f g h =
-        (stacked_by Sized a b cs f g (λ end t. subst (SomeTo Sized end) (sym e) (t.0, (tt, t.1))) h.0, h.1)
+    waits : (a b : Active) (cs : List Active) → b.control ≡ piece.Unwind ∷ a.control → b.frame ≡ a.frame → b.handles ≡ a.handles → length s.env.frames ≡ suc (length (a ∷ cs)) → Stack Sized s.env.frames (a ∷ cs) → Stack Sized (others s.env.frames) (b ∷ cs)
+    waits a b cs e f g l h =
+        let k = less a cs l h in
+        (stacked_by Sized (others s.env.frames) a b cs f g (λ end t. subst (SomeTo Sized end) (sym e) (t.0, (tt, t.1))) k.0, k.1)
 
-    past : (v : Visited) (given : Value) (cs : List Active) → length s.env.frames ≡ suc (length cs) → Stack Sized cs → StackStep Sized (raising.return_past v given cs s)
+    past : (v : Visited) (given : Value) (cs : List Active) → length s.env.frames ≡ suc (length cs) → Stack Sized s.env.frames cs → StackStep Sized (raising.return_past v given cs s)
     past v given [] l h = st
     past v given (a ∷ cs) l h =
-        record { frames = others_length s.env.frames (length cs) l; stack = waits a _ cs refl refl refl h; env = likes st.env refl refl }
+        record { frames = others_length s.env.frames (length cs) l; stack = waits a _ cs refl refl refl l h; env = likes st.env refl refl }
 
     end_by : (v : Option Visited) (given : Value) → StackStep Sized (raising.end_by v given s)
     end_by None given = returned given s.callers st.frames st.stack.1
@@ -236,16 +264,16 @@ module _ (Sized : ℕ → ℕ → Type 0) where
     end_step src.ToBreak = returned _ s.callers st.frames st.stack.1
     end_step src.ToContinue = returned _ s.callers st.frames st.stack.1
 
-    pass_on : (w : Option UnwindReason) (c : Active) (cs : List Active) → length s.env.frames ≡ suc (length (c ∷ cs)) → Stack Sized (c ∷ cs) → StackStep Sized (raising.pass_on w c cs s)
+    pass_on : (w : Option UnwindReason) (c : Active) (cs : List Active) → length s.env.frames ≡ suc (length (c ∷ cs)) → Stack Sized s.env.frames (c ∷ cs) → StackStep Sized (raising.pass_on w c cs s)
     pass_on None c cs l h = st
     pass_on (Some why) c cs l h =
-        record { frames = others_length s.env.frames (length cs) l; stack = waits c _ cs refl refl refl h; env = likes st.env refl refl }
+        record { frames = others_length s.env.frames (length cs) l; stack = waits c _ cs refl refl refl l h; env = likes st.env refl refl }
 
-    leave_for : (b : Bool) (c : Active) (cs : List Active) → length s.env.frames ≡ suc (length (c ∷ cs)) → Stack Sized (c ∷ cs) → StackStep Sized (raising.leave_for b c cs s)
+    leave_for : (b : Bool) (c : Active) (cs : List Active) → length s.env.frames ≡ suc (length (c ∷ cs)) → Stack Sized s.env.frames (c ∷ cs) → StackStep Sized (raising.leave_for b c cs s)
     leave_for true c cs l h = st
     leave_for false c cs l h = pass_on s.run.raised c cs l h
 
-    leaves : (cs : List Active) → length s.env.frames ≡ suc (length cs) → Stack Sized cs → StackStep Sized (raising.leave_step cs s)
+    leaves : (cs : List Active) → length s.env.frames ≡ suc (length cs) → Stack Sized s.env.frames cs → StackStep Sized (raising.leave_step cs s)
     leaves [] l h = st
     leaves (c ∷ cs) l h =
         either (StackStep Sized) (raising.arrives s.run.raised (length (c ∷ cs))) _ _ (returned s.run.result (c ∷ cs) l h) (leave_for _ c cs l h)
@@ -339,8 +367,8 @@ module _ (Sized : ℕ → ℕ → Type 0) where
 
     pub stmt : (a : Stmt) (todo : List Todo) → Keeps (piece.Do a ∷ todo) → StackStep Sized (quiet.stmt_step a todo s)
     stmt (src.Skip line) todo keeps = go _ _ (λ end c. let now = keeps end c in (now.0, now.1.1))
-    stmt (src.Block line body) todo keeps = go _ _ (λ end c. let now = keeps end c in (now.0, (now.1.0, (tt, now.1.1))))
-    stmt (src.Whole line body) todo keeps = go _ _ (λ end c. let now = keeps end c in (now.0, (now.1.0, (tt, now.1.1))))
+    stmt (src.Block line body) todo keeps = go _ _ (λ end c. let now = keeps end c in (now.0, (now.1.0.0, (tt, now.1.1))))
+    stmt (src.Whole line body) todo keeps = go _ _ (λ end c. let now = keeps end c in (now.0, (now.1.0.0, (tt, now.1.1))))
     stmt (src.Evaluate line a) todo keeps = go _ _ (λ end c. let now = keeps end c in (now.0, (now.1.0, (tt, (tt, now.1.1)))))
     stmt (src.Declare line ds) todo keeps = go _ _ (λ end c. let now = keeps end c in (now.0, (now.1.0, (tt, now.1.1))))
     stmt (src.Print line items) todo keeps = go _ _ (λ end c. let now = keeps end c in (now.0, (now.1.0, (tt, now.1.1))))
@@ -368,9 +396,11 @@ module _ (Sized : ℕ → ℕ → Type 0) where
     begun : (r : Routine) (this : Value) (counts : Bool) (todo : List Todo) (vs : List Value) → RoutineIn Sized r → Keeps todo → StackStep Sized (quiet.begun_step r this counts todo vs s)
     begun r this counts todo vs n k =
         let a : Active = record s.run { control = todo; operands = vs } in
+        let high = n.variables in
+        let cells = call_cells r s.run.operands in
         record {
           frames = ap suc st.frames;
-          stack = stack_call Sized _ a s.callers n.room.high refl st.frames (routine (UpTo n.room.high) r n (omega arith)) (put a refl refl k);
+          stack = stack_call Sized (quiet.call_frame r s.run.operands) s.env.frames _ a s.callers n.room.high refl st.frames st.frames (omega (arith, high, cells)) (routine (UpTo n.room.high) r n (omega arith)) (put a refl refl k);
           env = likes st.env refl refl;
         }
 
@@ -390,14 +420,16 @@ module _ (Sized : ℕ → ℕ → Type 0) where
 
     fresh : (r : Routine) (this : Value) → RoutineIn Sized r → StackEx Sized (quiet.fresh r this)
     fresh r this n =
-        record { frames = refl; stack = (record { top = n.room.high; fits = routine (UpTo n.room.high) r n (omega arith); frame = omega arith; beyond = tt; over = tt }, tt) }
+        let high = n.variables in
+        let cells = replicated r.cells nought in
+        record { frames = refl; stack = (record { top = n.room.high; fits = routine (UpTo n.room.high) r n (omega arith); cells = omega (arith, high, cells); frame = omega arith; beyond = tt; over = tt }, tt) }
 
     pub set_up : (r : Option Routine) (todo : List Todo) → MaybeRoutineIn Sized r → Keeps todo → StackStep Sized (quiet.set_up_step r todo s)
     set_up None todo n k = go _ _ k
     set_up (Some r) todo n k =
         let h = quiet.home_at s.run.this s.env in
         let x = quiet.fresh r s.run.this in
-        go_in _ _ _ (kept.written_frames Sized s.run.this _ (sw.born h x s.env) ∙ ap length (kept.change_frames Sized h (sw.one_more x) s.env)) k (kept.written_rests Sized s.run.this _ _ (kept.born_rests Sized h x s.env (fresh r s.run.this n) st.env))
+        go_in _ _ _ (kept.written_frames Sized s.run.this _ (sw.born h x s.env) ∙ ap (map length) (kept.change_frames Sized h (sw.one_more x) s.env)) k (kept.written_rests Sized s.run.this _ _ (kept.born_rests Sized h x s.env (fresh r s.run.this n) st.env))
 
     pub live : (r : Option Routine) (todo : List Todo) → Keeps todo → StackStep Sized (quiet.live_step r todo s)
     live None todo k = go _ _ k
@@ -457,7 +489,7 @@ module _ (Sized : ℕ → ℕ → Type 0) where
 
     pend : (n : Exec) (e : Event) (todo : List Todo) (vs : List Value) → Keeps todo → StackStep Sized (polls.pend_step n e todo vs s)
     pend n e todo vs k =
-        either (StackStep Sized) (nat_lt (length (inside.pending_at n s.env)) PENDING_EVENTS) _ _ (go_in _ _ _ (kept.with_links_frames Sized (λ l. record l { pending = l.pending ++ (record { event = e.number; x = e.x; y = e.y }) ∷ [] }) n s.env) k (kept.with_links_rests Sized (λ l. record l { pending = l.pending ++ (record { event = e.number; x = e.x; y = e.y }) ∷ [] }) n s.env st.env)) (go todo vs k)
+        either (StackStep Sized) (nat_lt (length (inside.pending_at n s.env)) PENDING_EVENTS) _ _ (go_in _ _ _ (ap (map length) (kept.with_links_frames Sized (λ l. record l { pending = l.pending ++ (record { event = e.number; x = e.x; y = e.y }) ∷ [] }) n s.env)) k (kept.with_links_rests Sized (λ l. record l { pending = l.pending ++ (record { event = e.number; x = e.x; y = e.y }) ∷ [] }) n s.env st.env)) (go todo vs k)
 
     pend_at : (x : Option Exec) (e : Event) (todo : List Todo) (vs : List Value) → Keeps todo → StackStep Sized (polls.pend_at x e todo vs s)
     pend_at None e todo vs k = go todo vs k
@@ -506,7 +538,7 @@ module _ (Sized : ℕ → ℕ → Type 0) where
             let same : raising.seek None e (c ∷ s.callers) ≡ Some f = found_same (raising.hit_in e todo) c (record s.run { control = todo }) s.callers (raising.seek s.run.handles e s.callers) refl refl refl ∙ q in
             record {
               frames = ap suc st.frames;
-              stack = stack_handler Sized _ c s.callers e f same refl refl refl (put c refl refl (before piece.DropNow todo (λ end o h. (tt, h)) k));
+              stack = stack_handler Sized [] s.env.frames _ c s.callers e f st.frames same refl refl refl (put c refl refl (before piece.DropNow todo (λ end o h. (tt, h)) k));
               env = likes st.env refl refl;
             }
 

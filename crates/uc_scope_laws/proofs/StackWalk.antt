@@ -1,6 +1,6 @@
 -- Every quiet step of a task of which all executions stay behind one another in their frames, and answers to it.
-use Rattle.std.proofs.Common.{◌≡◌, ℕ, inl, List, [], ◌∷◌, ◌++◌, length, Option, Some, None, refl, ap, ◌∙◌, subst, arith}
-use Rattle.std.specs.Prelude.{nat_lt, slice_get, drop}
+use Rattle.std.proofs.Common.{◌≡◌, ℕ, zero, suc, inl, List, [], ◌∷◌, ◌++◌, length, Option, Some, None, refl, sym, ap, ◌∙◌, subst, arith}
+use Rattle.std.specs.Prelude.{nat_lt, slice_get, drop, map}
 use Rattle.uc_tree.specs.Source as src
 use Rattle.uc_tree.specs.Source.{Source, Routine, routine_or_none, routine_of}
 use Rattle.uc_entry.specs.declared.request.Answer.{Answer}
@@ -11,14 +11,14 @@ use Rattle.uc_machine.specs.Monitors as monitors
 use Rattle.uc_machine.specs.Quiet as quiet
 use Rattle.uc_machine.specs.Quiet.{first_state, zeros}
 use Rattle.uc_machine.specs.Pieces as piece
-use Rattle.uc_machine.specs.Pieces.{Value, Nothing, Todo, State, Env, Members, Step, Goes, Ticks, Asks, at, top, below, number}
+use Rattle.uc_machine.specs.Pieces.{Value, Nothing, Todo, Active, State, Env, Members, Step, Goes, Ticks, Asks, at, top, below, number}
 use Rattle.uc_machine.specs.Answering.{answered, entered, new_members, with_operand}
 use Rattle.uc_site_laws.proofs.Kept.{either}
 use Rattle.uc_scope_laws.proofs.Keeping as kept
 use Rattle.uc_scope_laws.specs.Rooms.{MaybeRoutineIn, SourceIn}
 use Rattle.uc_scope_laws.specs.RoomStates.{PieceIn}
-use Rattle.uc_scope_laws.specs.RoomStacks.{TodoTo, SomeTo, UpTo, StackParked, StackHand, StackMembers, StackEnv, StackState, StackStep, FrameBefore}
-use Rattle.uc_scope_laws.proofs.Stacks.{stack_before, stacked_by}
+use Rattle.uc_scope_laws.specs.RoomStacks.{UpTo, frame_cells, TodoTo, SomeTo, Stack, StackParked, StackHand, StackMembers, StackEnv, StackState, StackStep, FrameBefore}
+use Rattle.uc_scope_laws.proofs.Stacks.{some_up, stack_before, stacked_by}
 use Rattle.uc_scope_laws.proofs.StackSteps as steps
 
 module _ (Z : ℕ → ℕ → Type 0) (source : Source) (known : SourceIn Z source) where
@@ -63,7 +63,7 @@ module _ (Z : ℕ → ℕ → Type 0) (source : Source) (known : SourceIn Z sour
     acts piece.GatherNow todo keeps = steps.go_in Z s st _ _ _ refl (rest piece.GatherNow todo keeps) (kept.like Z st.env refl refl)
     acts piece.FlushNow todo keeps = steps.flushes Z s st s.env.gathered todo _ (rest piece.FlushNow todo keeps)
     acts (piece.ReadNow f) todo keeps = go _ _ (rest (piece.ReadNow f) todo keeps)
-    acts (piece.ClearNow k m) todo keeps = steps.go_in Z s st _ _ _ (kept.owned_frames Z (piece.this_frame s) (values_cleared k m piece.nought) s.env) (rest (piece.ClearNow k m) todo keeps) (kept.owned_rests Z (piece.this_frame s) (values_cleared k m piece.nought) s.env st.env)
+    acts (piece.ClearNow k m) todo keeps = steps.go_in Z s st _ _ _ (kept.owned_frames Z (piece.this_frame s) (values_cleared k m piece.nought) s.env (kept.cleared_cells k m)) (rest (piece.ClearNow k m) todo keeps) (kept.owned_rests Z (piece.this_frame s) (values_cleared k m piece.nought) s.env (kept.cleared_cells k m) st.env)
     acts (piece.Items []) todo keeps = go _ _ (rest (piece.Items []) todo keeps)
     acts (piece.Items (i ∷ is)) todo keeps = go _ _ (λ end c. let now = keeps end c in (now.0, (steps.item Z end now.0 i _ now.1.0.0 (now.1.0.1, now.1.1))))
     acts (piece.Values []) todo keeps = go _ _ (rest (piece.Values []) todo keeps)
@@ -88,9 +88,9 @@ module _ (Z : ℕ → ℕ → Type 0) (source : Source) (known : SourceIn Z sour
     acts piece.ThrowNow todo keeps = steps.throws Z s st (raising.event_in s.run.operands) todo (rest piece.ThrowNow todo keeps)
     acts piece.RaiseNow todo keeps = steps.raises Z s st (raising.event_in s.run.operands) todo (rest piece.RaiseNow todo keeps)
     acts (piece.SetUpNow r) todo keeps = steps.set_up Z s st (slice_get source.routines r) todo (known r) (rest (piece.SetUpNow r) todo keeps)
-    acts piece.EnlivenNow todo keeps = steps.go_in Z s st _ _ _ (kept.enlivened_frames Z (piece.own_exec s) s.env) (rest piece.EnlivenNow todo keeps) (kept.enlivened_rests Z (piece.own_exec s) s.env st.env)
+    acts piece.EnlivenNow todo keeps = steps.go_in Z s st _ _ _ (ap (map length) (kept.enlivened_frames Z (piece.own_exec s) s.env)) (rest piece.EnlivenNow todo keeps) (kept.enlivened_rests Z (piece.own_exec s) s.env st.env)
     acts piece.TakeDownNow todo keeps = steps.moved Z s st _ todo _ (rest piece.TakeDownNow todo keeps) (kept.take_down_rests Z (piece.own_exec s) (at todo s.run.operands s) (go _ _ (rest piece.TakeDownNow todo keeps)))
-    acts piece.ForgetNow todo keeps = steps.go_in Z s st _ _ _ (kept.forgotten_frames Z (piece.own_exec s) s.env) (rest piece.ForgetNow todo keeps) (kept.forgotten_rests Z (piece.own_exec s) s.env st.env)
+    acts piece.ForgetNow todo keeps = steps.go_in Z s st _ _ _ (ap (map length) (kept.forgotten_frames Z (piece.own_exec s) s.env)) (rest piece.ForgetNow todo keeps) (kept.forgotten_rests Z (piece.own_exec s) s.env st.env)
     acts (piece.LiveNow r) todo keeps = steps.live Z s st (slice_get source.routines r) todo (rest (piece.LiveNow r) todo keeps)
     acts piece.ResumeNow todo keeps = steps.moved Z s st _ (piece.Land ∷ todo) _ (landing todo (rest piece.ResumeNow todo keeps)) (kept.wake_rests Z (quiet.resumed s) (at (piece.Land ∷ todo) s.run.operands s) (go _ _ (landing todo (rest piece.ResumeNow todo keeps))))
     acts piece.SuspendNow todo keeps = steps.moved Z s st _ (piece.Land ∷ todo) _ (landing todo (rest piece.SuspendNow todo keeps)) (kept.suspend_rests Z (at (piece.Land ∷ todo) s.run.operands s) (go _ _ (landing todo (rest piece.SuspendNow todo keeps))))
@@ -141,14 +141,17 @@ module _ (Z : ℕ → ℕ → Type 0) (source : Source) (known : SourceIn Z sour
   begins : (o : ℕ) (r : Option Routine) → MaybeRoutineIn Z r → StackState Z (first_state (routine_or_none r) o)
   begins o None h = record {
     frames = refl;
-    stack = (record { top = 0; fits = (record { low = 0; high = 0; hidden = 0; last = 0 }, (tt, (tt, (record { cells = omega arith; apart = omega arith }, omega arith)))); frame = omega arith; beyond = tt; over = tt }, tt);
+    stack = (record { top = 0; fits = (record { low = 0; high = 0; hidden = 0; last = 0 }, (tt, (tt, (record { cells = omega arith; apart = omega arith }, omega arith)))); cells = omega arith; frame = omega arith; beyond = tt; over = tt }, tt);
     env = record { house = (tt, tt); hand = tt };
   }
-  begins o (Some r) h = record {
-    frames = refl;
-    stack = (record { top = h.room.high; fits = steps.routine Z (UpTo h.room.high) r h (omega arith); frame = omega arith; beyond = tt; over = tt }, tt);
-    env = record { house = (tt, tt); hand = tt };
-  }
+  begins o (Some r) h =
+      let high = h.variables in
+      let cells = steps.replicated r.cells piece.nought in
+      record {
+        frames = refl;
+        stack = (record { top = h.room.high; fits = steps.routine Z (UpTo h.room.high) r h (omega arith); cells = omega (arith, high, cells); frame = omega arith; beyond = tt; over = tt }, tt);
+        env = record { house = (tt, tt); hand = tt };
+      }
 
   -- a task begins so
   pub first : (r o : ℕ) → StackState Z (first_state (routine_of source r) o)
@@ -170,7 +173,7 @@ module _ (Z : ℕ → ℕ → Type 0) where
   told : (s : State) (vs : List Value) (e : Env) → e.frames ≡ s.env.frames → StackEnv Z e → StackState Z s → StackState Z (record s { run = record s.run { operands = vs }; env = e })
   told s vs e l i h = record {
     frames = ap length l ∙ h.frames;
-    stack = (stacked_by Z s.run (record s.run { operands = vs }) s.callers refl refl (λ end c. c) h.stack.0, h.stack.1);
+    stack = subst (λ fs. Stack Z fs (record s.run { operands = vs } ∷ s.callers)) (sym l) (stacked_by Z s.env.frames s.run (record s.run { operands = vs }) s.callers refl refl (λ end c. c) h.stack.0, h.stack.1);
     env = i;
   }
 
@@ -187,5 +190,16 @@ module _ (Z : ℕ → ℕ → Type 0) where
   answered_rests source answer.Nothing s h = told s _ s.env refl h.env h
   answered_rests source answer.Go s h = h
 
+  in_frame : (fs : List (List Value)) (cs : List Active) → Stack Z fs cs → (n : ℕ) (a : Active) → slice_get cs n ≡ Some a → SomeTo Z (UpTo (frame_cells fs a.frame)) a.control
+  in_frame fs [] h n a e = absurd (cc)
+  in_frame fs (c ∷ cs) h zero a e =
+      let same : c ≡ a = cc in
+      subst (λ (a : Active). SomeTo Z (UpTo (frame_cells fs a.frame)) a.control) same (some_up Z h.0.top (frame_cells fs c.frame) c.control h.0.cells h.0.fits)
+  in_frame fs (c ∷ cs) h (suc n) a e = in_frame fs cs h.1 n a e
+
+  -- rooms end within frames
+  pub rooms : (s : State) → StackState Z s → (n : ℕ) (a : Active) → slice_get (s.run ∷ s.callers) n ≡ Some a → SomeTo Z (UpTo (frame_cells s.env.frames a.frame)) a.control
+  rooms s h n a e = in_frame s.env.frames (s.run ∷ s.callers) h.stack n a e
+
   pub cleared : (s : State) → StackState Z s → (k n : ℕ) (todo : List Todo) → s.run.control ≡ piece.ClearNow k n ∷ todo → FrameBefore Z k s.run.frame (s.run ∷ s.callers)
-  cleared s h k n todo e = stack_before Z s.run s.callers k n todo e h.stack.0
+  cleared s h k n todo e = stack_before Z s.env.frames s.run s.callers k n todo e h.stack.0

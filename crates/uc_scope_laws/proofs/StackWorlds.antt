@@ -8,7 +8,7 @@ use Rattle.uc_entry.specs.Keyed.{find}
 use Rattle.uc_acts.specs.Journal.{Journal, held, own_object}
 use Rattle.uc_acts.specs.Known.{spawns, takes_out}
 use Rattle.uc_machine.specs.Quiet.{State, Members, no_members}
-use Rattle.uc_machine.specs.Answering.{answered, child_main}
+use Rattle.uc_machine.specs.Answering.{child_main}
 use Rattle.uc_machine.specs.Rides as rides
 use Rattle.uc_machine.specs.Rides.{Rides}
 use Rattle.uc_meaning.specs.Runs.{World, AsksIn, May, Runs, gives, no_room, acts, begun, more, bare, with_home, hand_of, drawn, or_else}
@@ -21,7 +21,7 @@ use Rattle.uc_scope_laws.specs.Layout.{Sized}
 use Rattle.uc_scope_laws.specs.RoomRuns as runs
 use Rattle.uc_scope_laws.specs.RoomRuns.{Leads, Comes}
 use Rattle.uc_scope_laws.specs.FrameRuns.{LawFrames, LawFrameRuns}
-use Rattle.uc_scope_laws.proofs.StackWalk.{walk, first, answered_rests, cleared}
+use Rattle.uc_scope_laws.proofs.StackWalk.{walk, first, answered_rests, rooms, cleared}
 use Rattle.uc_scope_laws.proofs.Unreferring.{law_accepted}
 
 -- tasks at rest, and what is at home in objects
@@ -89,11 +89,22 @@ law_frames = record {
   begins = λ source p known r o. first (Sized p) source known r o;
   steps = λ source p known s h. walk (Sized p) source known s h;
   told = λ source p given s h. answered_rests (Sized p) source given s h;
+  rooms = λ p s h n a e. rooms (Sized p) s h n a e;
   clears = λ p s h k n todo e. cleared (Sized p) s h k n todo e;
 }
 
 pub law_frame_runs : LawFrameRuns
-law_frame_runs p h input opts j w r t s c k n todo e =
-    let there : StackWorld (Sized p) w = world_rests (Sized p) (source_of p) (law_accepted p h) input opts r in
-    let begun : StackState (Sized p) (answered (source_of p) c.given (drawn j w t)) = answered_rests (Sized p) (source_of p) c.given (drawn j w t) (drawn_rests (Sized p) j w t there) in
-    cleared (Sized p) s (led (Sized p) (source_of p) (law_accepted p h) c.leads begun) k n todo e
+law_frame_runs p h input opts j w r = record {
+  tasks = λ t. there.tasks t;
+  homes = λ o. there.homes o;
+  comes = λ t s c. state t s c;
+  rooms = λ t s c n a e. rooms (Sized p) s (state t s c) n a e;
+  clears = λ t s c k n todo e. cleared (Sized p) s (state t s c) k n todo e;
+}
+  where
+    there : StackWorld (Sized p) w
+    there = world_rests (Sized p) (source_of p) (law_accepted p h) input opts r
+
+    state : (t : ℕ) (s : State) → Comes (source_of p) j w t s → StackState (Sized p) s
+    state t s c =
+        led (Sized p) (source_of p) (law_accepted p h) c.leads (answered_rests (Sized p) (source_of p) c.given (drawn j w t) (drawn_rests (Sized p) j w t there))

@@ -1,10 +1,12 @@
 -- Activations that use one frame: a call and a handler keep what is known of them, and what a search finds lies behind all their objects.
 use Rattle.std.proofs.Common.{◌≡◌, ℕ, suc, ◌+◌, ◌<◌, ◌≤◌, ◌⊎◌, inl, inr, Bool, true, false, ◌&&◌, List, [], ◌∷◌, length, Option, Some, None, refl, sym, ap, ◌∙◌, subst, arith}
-use Rattle.std.specs.Prelude.{nat_eq, if◌then◌else◌}
+use Rattle.std.specs.Prelude.{nat_eq, if◌then◌else◌, map}
 use Rattle.std.proofs.lemmas.Bool.{eqb-true, eq-eqb}
 use Rattle.uc_tree.specs.Source as src
 use Rattle.uc_tree.specs.Source.{Stmts, Handlers, CleanUp}
 use Rattle.uc_machine.specs.declared.exec.Visited.{Visited}
+use Rattle.uc_machine.specs.Executions as exec
+use Rattle.uc_machine.specs.Executions.{at_depth, list_in}
 use Rattle.uc_machine.specs.Pieces as piece
 use Rattle.uc_machine.specs.Pieces.{Value, Todo, Sort, Active}
 use Rattle.uc_machine.specs.Raising as raising
@@ -12,9 +14,47 @@ use Rattle.uc_machine.specs.Raising.{Event, Handler, Found, Hit, count_by, count
 use Rattle.uc_site_laws.proofs.Kept.{either}
 use Rattle.uc_scope_laws.specs.Rooms.{Room, IsRoom, IsWithin, IsBehind, Clears, StmtsIn, HandlersIn}
 use Rattle.uc_scope_laws.specs.RoomStates.{PieceIn, Reached, TodoIn, IsBefore, AllBefore}
-use Rattle.uc_scope_laws.specs.RoomStacks.{TodoTo, SomeTo, From, UpTo, GuardFrom, GuardsFrom, AboveAt, Above, Over, OverAll, Stacked, Stack, FrameBefore}
+use Rattle.uc_scope_laws.specs.RoomStacks.{frame_cells, TodoTo, SomeTo, From, UpTo, GuardFrom, GuardsFrom, AboveAt, Above, Over, OverAll, Stacked, Stack, FrameBefore}
 use Rattle.uc_scope_laws.proofs.RoomLemmas.{within_room, lies_wider}
 use Rattle.uc_scope_laws.proofs.Steps as steps
+
+-- how many cells frames have
+
+newest_cells : (f : List Value) (fs : List (List Value)) (d : ℕ) → d ≡ length fs → frame_cells (f ∷ fs) d ≡ length f
+newest_cells f fs d e = let q : nat_eq d (length fs) ≡ true = eq-eqb d (length fs) e in rw q
+
+newer_cells : (f : List Value) (fs : List (List Value)) (d : ℕ) → d < length fs → frame_cells (f ∷ fs) d ≡ frame_cells fs d
+newer_cells f fs d l = by (nat_eq d (length fs)) refl
+  where
+    by : (b : Bool) → nat_eq d (length fs) ≡ b → length (list_in (if b then Some f else at_depth fs d)) ≡ frame_cells fs d
+    by true e = let q : d ≡ length fs = eqb-true d (length fs) e in let n : ⊥ = omega (arith, q, l) in absurd n
+    by false e = refl
+
+older_cells : (fs : List (List Value)) (d : ℕ) → d < length (exec.others fs) → frame_cells (exec.others fs) d ≡ frame_cells fs d
+older_cells [] d l = refl
+older_cells (f ∷ fs) d l = sym (newer_cells f fs d l)
+
+-- frames that have as many cells as others
+pub as_many : (fs gs : List (List Value)) → map length fs ≡ map length gs → length fs ≡ length gs
+as_many [] [] e = refl
+as_many [] (g ∷ gs) e = absurd (cc)
+as_many (f ∷ fs) [] e = absurd (cc)
+as_many (f ∷ fs) (g ∷ gs) e =
+    let rest : map length fs ≡ map length gs = cc in
+    ap suc (as_many fs gs rest)
+
+same_cells : (fs gs : List (List Value)) (d : ℕ) → map length fs ≡ map length gs → frame_cells fs d ≡ frame_cells gs d
+same_cells [] [] d e = refl
+same_cells [] (g ∷ gs) d e = absurd (cc)
+same_cells (f ∷ fs) [] d e = absurd (cc)
+same_cells (f ∷ fs) (g ∷ gs) d e =
+    let rest : map length fs ≡ map length gs = cc in
+    let newest : length f ≡ length g = cc in
+    subst (λ n. frame_cells (f ∷ fs) d ≡ length (list_in (if nat_eq d n then Some g else at_depth gs d))) (as_many fs gs rest) (by (nat_eq d (length fs)) newest (same_cells fs gs d rest))
+  where
+    by : (b : Bool) → length f ≡ length g → frame_cells fs d ≡ frame_cells gs d → length (list_in (if b then Some f else at_depth fs d)) ≡ length (list_in (if b then Some g else at_depth gs d))
+    by true n h = n
+    by false n h = h
 
 -- numbers of what stands round
 
@@ -164,6 +204,16 @@ module _ (Sized : ℕ → ℕ → Type 0) where
     before_to : (o : Room) (todo : List Todo) → TodoTo Sized End o todo → AllBefore Sized o.low todo
     before_to o todo h = steps.all_before Sized o todo o.low (omega arith) (forget o todo h)
 
+  -- rooms that end before a cell end before one behind it
+  to_up : (x y : ℕ) (o : Room) (todo : List Todo) → x ≤ y → TodoTo Sized (UpTo x) o todo → TodoTo Sized (UpTo y) o todo
+  to_up x y o [] le h =
+      let high = h.1 in
+      (h.0, omega (arith, le, high))
+  to_up x y o (p ∷ ps) le h = outwards (piece.sort p) (PieceIn Sized o p) o (λ m. TodoTo Sized (UpTo x) m ps) (λ m. TodoTo Sized (UpTo y) m ps) (λ m k. to_up x y m ps le k) h
+
+  pub some_up : (x y : ℕ) (todo : List Todo) → x ≤ y → SomeTo Sized (UpTo x) todo → SomeTo Sized (UpTo y) todo
+  some_up x y todo le h = (h.0, to_up x y h.0 todo le h.1)
+
   from_within : (x : ℕ) (m n : Room) → IsWithin m n → From x m → From x n
   from_within x m n w h =
       let low = w.low in
@@ -173,6 +223,10 @@ module _ (Sized : ℕ → ℕ → Type 0) where
   up_within x m n w h =
       let high = w.high in
       omega (arith, high, h)
+
+  -- the first room ends where all do
+  pub up_to : (x : ℕ) (o : Room) (todo : List Todo) → TodoTo Sized (UpTo x) o todo → o.high ≤ x
+  up_to x o todo h = end_at (UpTo x) (up_within x) o todo h
 
   -- code from a cell on has its handlers from there on
   low_by : (k : Sort) (y : Type 0) (o : Room) (ps : List Todo) (x : ℕ) → ((m : Room) → TodoTo Sized (From x) m ps → GuardsFrom Sized x ps) → Reached Sized o k y (λ m. TodoTo Sized (From x) m ps) → GuardFrom Sized x k × GuardsFrom Sized x ps
@@ -230,11 +284,11 @@ module _ (Sized : ℕ → ℕ → Type 0) where
   FramesBelow f [] = Unit {0}
   FramesBelow f (c ∷ cs) = (c.frame < f) × FramesBelow f cs
 
-  frames_below : (f : ℕ) (cs : List Active) → length cs ≤ f → Stack Sized cs → FramesBelow f cs
-  frames_below f [] le h = tt
-  frames_below f (c ∷ cs) le h =
+  frames_below : (fs : List (List Value)) (f : ℕ) (cs : List Active) → length cs ≤ f → Stack Sized fs cs → FramesBelow f cs
+  frames_below fs f [] le h = tt
+  frames_below fs f (c ∷ cs) le h =
       let k = h.0.frame in
-      (omega (arith, le, k), frames_below f cs (omega (arith, le)) h.1)
+      (omega (arith, le, k), frames_below fs f cs (omega (arith, le)) h.1)
 
   above_fresh : (x : ℕ) (v : Option Visited) (f : ℕ) (cs : List Active) → FramesBelow f cs → Above Sized x v f cs
   above_fresh x None f [] h = tt
@@ -259,8 +313,8 @@ module _ (Sized : ℕ → ℕ → Type 0) where
   Seen stack [] = Unit {0}
   Seen stack (c ∷ cs) = SeenOne stack c × Seen stack cs
 
-  seen_own : (a : Active) (older : List Active) → Stacked Sized a older → SeenOne (a ∷ older) a
-  seen_own a older h =
+  seen_own : (fs : List (List Value)) (a : Active) (older : List Active) → Stacked Sized fs a older → SeenOne (a ∷ older) a
+  seen_own fs a older h =
       let o : Room = h.fits.0 in
       let t : TodoTo Sized (UpTo h.top) o a.control = h.fits.1 in
       let r : IsRoom o = room_to (UpTo h.top) o a.control t in
@@ -274,8 +328,8 @@ module _ (Sized : ℕ → ℕ → Type 0) where
       let k : Over Sized a.control a.frame a.handles older c = h.0 in
       ((k.0, k.1, (λ e. guards_low k.0 (k.2 e).0 a.control (k.2 e).1, k.3)), seen_older a older cs h.1)
 
-  seen : (a : Active) (older : List Active) → Stacked Sized a older → Seen (a ∷ older) (a ∷ older)
-  seen a older h = (seen_own a older h, seen_older a older older h.over)
+  seen : (fs : List (List Value)) (a : Active) (older : List Active) → Stacked Sized fs a older → Seen (a ∷ older) (a ∷ older)
+  seen fs a older h = (seen_own fs a older h, seen_older a older older h.over)
 
   -- a call has a frame of its own
 
@@ -285,17 +339,41 @@ module _ (Sized : ℕ → ℕ → Type 0) where
       let l = f.0 in
       ((h.0.0, h.0.1, (λ q. let z : ⊥ = omega (arith, l, q) in absurd z), subst (λ v. Above Sized h.0.0 v c.frame stack) (sym e) h.0.2), over_call b stack cs e f.1 h.1)
 
-  pub stack_call : (b a : Active) (older : List Active) (top : ℕ) → b.handles ≡ None → b.frame ≡ length (a ∷ older) → SomeTo Sized (UpTo top) b.control → Stack Sized (a ∷ older) → Stack Sized (b ∷ (a ∷ older))
-  stack_call b a older top e f k h =
-      let below : FramesBelow b.frame (a ∷ older) = frames_below b.frame (a ∷ older) (omega (arith, f)) h in (
+  -- with a frame more
+  pub stack_newer : (f : List Value) (fs : List (List Value)) (cs : List Active) → length cs ≤ length fs → Stack Sized fs cs → Stack Sized (f ∷ fs) cs
+  stack_newer f fs [] l h = tt
+  stack_newer f fs (a ∷ older) l h =
+      let k : Stacked Sized fs a older = h.0 in
+      let le = k.frame in
+      (record { top = k.top; fits = k.fits; cells = subst (λ n. k.top ≤ n) (sym (newer_cells f fs a.frame (omega (arith, le, l)))) k.cells; frame = k.frame; beyond = k.beyond; over = k.over }, stack_newer f fs older (omega (arith, l)) h.1)
+
+  -- with a frame less
+  pub stack_older : (fs : List (List Value)) (cs : List Active) → length cs ≤ length (exec.others fs) → Stack Sized fs cs → Stack Sized (exec.others fs) cs
+  stack_older fs [] l h = tt
+  stack_older fs (a ∷ older) l h =
+      let k : Stacked Sized fs a older = h.0 in
+      let le = k.frame in
+      (record { top = k.top; fits = k.fits; cells = subst (λ n. k.top ≤ n) (sym (older_cells fs a.frame (omega (arith, le, l)))) k.cells; frame = k.frame; beyond = k.beyond; over = k.over }, stack_older fs older (omega (arith, l)) h.1)
+
+  -- with other values in the frames
+  pub stack_same : (fs gs : List (List Value)) (cs : List Active) → map length gs ≡ map length fs → Stack Sized fs cs → Stack Sized gs cs
+  stack_same fs gs [] e h = tt
+  stack_same fs gs (a ∷ older) e h =
+      let k : Stacked Sized fs a older = h.0 in
+      (record { top = k.top; fits = k.fits; cells = subst (λ n. k.top ≤ n) (same_cells fs gs a.frame (sym e)) k.cells; frame = k.frame; beyond = k.beyond; over = k.over }, stack_same fs gs older e h.1)
+
+  pub stack_call : (f : List Value) (fs : List (List Value)) (b a : Active) (older : List Active) (top : ℕ) → b.handles ≡ None → b.frame ≡ length (a ∷ older) → length fs ≡ length (a ∷ older) → top ≤ length f → SomeTo Sized (UpTo top) b.control → Stack Sized fs (a ∷ older) → Stack Sized (f ∷ fs) (b ∷ (a ∷ older))
+  stack_call f fs b a older top e q l n k h =
+      let below : FramesBelow b.frame (a ∷ older) = frames_below fs b.frame (a ∷ older) (omega (arith, q)) h in (
         record {
           top = top;
           fits = k;
-          frame = omega (arith, f);
+          cells = subst (λ m. top ≤ m) (sym (newest_cells f fs b.frame (q ∙ sym l))) n;
+          frame = omega (arith, q);
           beyond = above_fresh top b.handles b.frame (a ∷ older) below;
-          over = over_call b (a ∷ older) (a ∷ older) e below (seen a older h.0);
+          over = over_call b (a ∷ older) (a ∷ older) e below (seen fs a older h.0);
         },
-        h,
+        stack_newer f fs (a ∷ older) (omega (arith, l)) h,
       )
 
   -- a handler that is found
@@ -465,37 +543,40 @@ module _ (Sized : ℕ → ℕ → Type 0) where
       let t : SomeTo Sized (UpTo top) ps = next_by (piece.sort p) (PieceIn Sized o p) o (λ m. TodoTo Sized (UpTo top) m ps) h in
       hit_top_by top p ps e (piece.sort p) o (PieceIn Sized o p) (hit_in e ps) refl h (hit_behind top p ps (hit_in e ps) (rest_less e ps) (hit_top top e t.0 ps t.1))
 
-  abbrev BeyondOf : List Active → Option Found → Type 0
-  BeyondOf cs None = Unit {0}
-  BeyondOf cs (Some y) =
-      (m : Room) × IsRoom m × StmtsIn Sized m y.handler.body × (y.frame ≤ length cs) × Above Sized m.high (Some y.visited) y.frame cs
+  abbrev BeyondOf : List (List Value) → List Active → Option Found → Type 0
+  BeyondOf fs cs None = Unit {0}
+  BeyondOf fs cs (Some y) =
+      (m : Room) × IsRoom m × StmtsIn Sized m y.handler.body × (y.frame < length cs) × (m.high ≤ frame_cells fs y.frame) ×
+      Above Sized m.high (Some y.visited) y.frame cs
 
-  skip_beyond : (a : Active) (others : List Active) (o : Option Found) → FoundBelow (length others) o → BeyondOf others o → BeyondOf (a ∷ others) o
-  skip_beyond a others None l h = tt
-  skip_beyond a others (Some y) l h =
+  skip_beyond : (fs : List (List Value)) (a : Active) (others : List Active) (o : Option Found) → FoundBelow (length others) o → BeyondOf fs others o → BeyondOf fs (a ∷ others) o
+  skip_beyond fs a others None l h = tt
+  skip_beyond fs a others (Some y) l h =
       let le = h.3 in
-      (h.0, h.1, h.2, omega (arith, le), skip h.0.high y.frame 0 y.visited a others l h.4)
+      (h.0, h.1, h.2, omega (arith, le), h.4, skip h.0.high y.frame 0 y.visited a others l h.5)
 
   top_in : (top m : ℕ) (todo : List Todo) (o : Option Hit) → RestLess (count_round (within m todo)) o → HitTop top (within m todo) o → HitTop top todo o
   top_in top m todo None l h = tt
   top_in top m todo (Some y) l h = (h.0, h.1, h.2, h.3, subst (GuardsFrom Sized h.0.high) (within_within y.rest m todo l) h.4)
 
-  found_or_beyond : (o : Option Hit) (a : Active) (cs : List Active) (other : Option Found) → (k : Stacked Sized a cs) → HitTop k.top a.control o → FoundBelow (length cs) other → BeyondOf cs other → BeyondOf (a ∷ cs) (found_or o a cs other)
-  found_or_beyond None a cs other k h l b = skip_beyond a cs other l b
-  found_or_beyond (Some y) a cs other k h l b =
+  found_or_beyond : (fs : List (List Value)) (o : Option Hit) (a : Active) (cs : List Active) (other : Option Found) → (k : Stacked Sized fs a cs) → HitTop k.top a.control o → FoundBelow (length cs) other → BeyondOf fs cs other → BeyondOf fs (a ∷ cs) (found_or o a cs other)
+  found_or_beyond fs None a cs other k h l b = skip_beyond fs a cs other l b
+  found_or_beyond fs (Some y) a cs other k h l b =
       let le = k.frame in
-      (h.0, h.1, h.3, omega (arith, le), meets h.0.high a.frame (record { level = length cs; rest = y.rest; home = raising.home_of a.handles (length cs) }) a cs refl (λ q. h.4) (above_less h.0.high k.top a.handles a.frame cs h.2 k.beyond))
+      let high = h.2 in
+      let cells = k.cells in
+      (h.0, h.1, h.3, omega (arith, le), omega (arith, high, cells), meets h.0.high a.frame (record { level = length cs; rest = y.rest; home = raising.home_of a.handles (length cs) }) a cs refl (λ q. h.4) (above_less h.0.high k.top a.handles a.frame cs h.2 k.beyond))
 
-  found_beyond : (v : Option Visited) (e : Event) (cs : List Active) → Stack Sized cs → BeyondOf cs (seek v e cs)
-  found_beyond None e [] h = tt
-  found_beyond (Some v) e [] h = tt
-  found_beyond None e (a ∷ others) h =
-      let k : Stacked Sized a others = h.0 in
-      found_or_beyond (hit_in e a.control) a others (seek a.handles e others) k (hit_top k.top e k.fits.0 a.control k.fits.1) (found_below a.handles e others) (found_beyond a.handles e others h.1)
-  found_beyond (Some v) e (a ∷ others) h =
-      let k : Stacked Sized a others = h.0 in
+  found_beyond : (fs : List (List Value)) (v : Option Visited) (e : Event) (cs : List Active) → Stack Sized fs cs → BeyondOf fs cs (seek v e cs)
+  found_beyond fs None e [] h = tt
+  found_beyond fs (Some v) e [] h = tt
+  found_beyond fs None e (a ∷ others) h =
+      let k : Stacked Sized fs a others = h.0 in
+      found_or_beyond fs (hit_in e a.control) a others (seek a.handles e others) k (hit_top k.top e k.fits.0 a.control k.fits.1) (found_below a.handles e others) (found_beyond fs a.handles e others h.1)
+  found_beyond fs (Some v) e (a ∷ others) h =
+      let k : Stacked Sized fs a others = h.0 in
       let t : SomeTo Sized (UpTo k.top) (within v.rest a.control) = some_within_to (UpTo k.top) v.rest k.fits.0 a.control k.fits.1 in
-      either (BeyondOf (a ∷ others)) (nat_eq (length others) v.level) (found_or (hit_in e (within v.rest a.control)) a others (seek a.handles e others)) (seek (Some v) e others) (found_or_beyond (hit_in e (within v.rest a.control)) a others (seek a.handles e others) k (top_in k.top v.rest a.control (hit_in e (within v.rest a.control)) (rest_less e (within v.rest a.control)) (hit_top k.top e t.0 (within v.rest a.control) t.1)) (found_below a.handles e others) (found_beyond a.handles e others h.1)) (skip_beyond a others (seek (Some v) e others) (found_below (Some v) e others) (found_beyond (Some v) e others h.1))
+      either (BeyondOf fs (a ∷ others)) (nat_eq (length others) v.level) (found_or (hit_in e (within v.rest a.control)) a others (seek a.handles e others)) (seek (Some v) e others) (found_or_beyond fs (hit_in e (within v.rest a.control)) a others (seek a.handles e others) k (top_in k.top v.rest a.control (hit_in e (within v.rest a.control)) (rest_less e (within v.rest a.control)) (hit_top k.top e t.0 (within v.rest a.control) t.1)) (found_below a.handles e others) (found_beyond fs a.handles e others h.1)) (skip_beyond fs a others (seek (Some v) e others) (found_below (Some v) e others) (found_beyond fs (Some v) e others h.1))
 
   -- a handler begins
 
@@ -512,20 +593,21 @@ module _ (Sized : ℕ → ℕ → Type 0) where
       from : (x : ℕ) → (m : Room) × IsRoom m × (x ≤ m.low) × StmtsIn Sized m y.handler.body → SomeTo Sized (From x) b.control
       from x k = subst (SomeTo Sized (From x)) (sym hc) (k.0, handled_to (From x) k.0 y.handler k.1 k.2 k.3)
 
-  pub stack_handler : (b a : Active) (older : List Active) (e : Event) (y : Found) → seek None e (a ∷ older) ≡ Some y → b.handles ≡ Some y.visited → b.frame ≡ y.frame → b.control ≡ raising.handler_todo y.handler [] → Stack Sized (a ∷ older) → Stack Sized (b ∷ (a ∷ older))
-  stack_handler b a older e y q hv hf hc h =
+  pub stack_handler : (f : List Value) (fs : List (List Value)) (b a : Active) (older : List Active) (e : Event) (y : Found) → length fs ≡ length (a ∷ older) → seek None e (a ∷ older) ≡ Some y → b.handles ≡ Some y.visited → b.frame ≡ y.frame → b.control ≡ raising.handler_todo y.handler [] → Stack Sized fs (a ∷ older) → Stack Sized (f ∷ fs) (b ∷ (a ∷ older))
+  stack_handler f fs b a older e y l q hv hf hc h =
       let stack : List Active = a ∷ older in
-      let z : BeyondOf stack (Some y) = subst (BeyondOf stack) q (found_beyond None e stack h) in
+      let z : BeyondOf fs stack (Some y) = subst (BeyondOf fs stack) q (found_beyond fs None e stack h) in
       let le = z.3 in
       let m : Room = z.0 in (
         record {
           top = m.high;
           fits = subst (SomeTo Sized (UpTo m.high)) (sym hc) (m, handled_to (UpTo m.high) m y.handler z.1 (omega arith) z.2);
+          cells = subst (λ d. m.high ≤ frame_cells (f ∷ fs) d) (sym hf) (subst (λ n. m.high ≤ n) (sym (newer_cells f fs y.frame (omega (arith, le, l)))) z.4);
           frame = omega (arith, le, hf);
-          beyond = subst (λ f. Above Sized m.high b.handles f stack) (sym hf) (subst (λ v. Above Sized m.high v y.frame stack) (sym hv) z.4);
-          over = over_handler b y stack stack hv hf hc (λ x f k. subst (FoundFrom x f) q (found_from x f None e stack k)) (λ x f k. subst (PathOf x f stack) q (path x f None e stack k)) (seen a older h.0);
+          beyond = subst (λ g. Above Sized m.high b.handles g stack) (sym hf) (subst (λ v. Above Sized m.high v y.frame stack) (sym hv) z.5);
+          over = over_handler b y stack stack hv hf hc (λ x f k. subst (FoundFrom x f) q (found_from x f None e stack k)) (λ x f k. subst (PathOf x f stack) q (path x f None e stack k)) (seen fs a older h.0);
         },
-        h,
+        stack_newer f fs stack (omega (arith, l)) h,
       )
 
   -- steps that keep the activations
@@ -535,10 +617,11 @@ module _ (Sized : ℕ → ℕ → Type 0) where
   over_to C D f v older (c ∷ cs) k h = ((h.0.0, h.0.1, (λ q. k h.0.0 (h.0.2 q)), h.0.3), over_to C D f v older cs k h.1)
 
   -- something else to do, in what is the same activation
-  pub stacked_by : (a b : Active) (older : List Active) → b.frame ≡ a.frame → b.handles ≡ a.handles → ((End : Room → Type 0) → SomeTo Sized End a.control → SomeTo Sized End b.control) → Stacked Sized a older → Stacked Sized b older
-  stacked_by a b older e f k h = record {
+  pub stacked_by : (fs : List (List Value)) (a b : Active) (older : List Active) → b.frame ≡ a.frame → b.handles ≡ a.handles → ((End : Room → Type 0) → SomeTo Sized End a.control → SomeTo Sized End b.control) → Stacked Sized fs a older → Stacked Sized fs b older
+  stacked_by fs a b older e f k h = record {
     top = h.top;
     fits = k (UpTo h.top) h.fits;
+    cells = subst (λ d. h.top ≤ frame_cells fs d) (sym e) h.cells;
     frame = subst (λ g. g ≤ length older) (sym e) h.frame;
     beyond = subst (λ v. Above Sized h.top v b.frame older) (sym f) (subst (λ g. Above Sized h.top a.handles g older) (sym e) h.beyond);
     over = subst (λ v. OverAll Sized b.control b.frame v older older) (sym f) (subst (λ g. OverAll Sized b.control g a.handles older older) (sym e) (over_to a.control b.control a.frame a.handles older older (λ x t. k (From x) t) h.over));
@@ -574,7 +657,7 @@ module _ (Sized : ℕ → ℕ → Type 0) where
   over_before k n f v todo older (c ∷ cs) h =
       ((λ q. all_before_more h.0.0 k c.control (cleared_from h.0.0 k n todo (h.0.2 (sym q))) h.0.1), over_before k n f v todo older cs h.1)
 
-  pub stack_before : (a : Active) (older : List Active) (k n : ℕ) (todo : List Todo) → a.control ≡ piece.ClearNow k n ∷ todo → Stacked Sized a older → FrameBefore Sized k a.frame (a ∷ older)
-  stack_before a older k n todo e h =
+  pub stack_before : (fs : List (List Value)) (a : Active) (older : List Active) (k n : ℕ) (todo : List Todo) → a.control ≡ piece.ClearNow k n ∷ todo → Stacked Sized fs a older → FrameBefore Sized k a.frame (a ∷ older)
+  stack_before fs a older k n todo e h =
       let t : SomeTo Sized (UpTo h.top) (piece.ClearNow k n ∷ todo) = subst (SomeTo Sized (UpTo h.top)) e h.fits in
       ((λ q. subst (AllBefore Sized k) (sym e) (tt, steps.cleared Sized t.0 k n todo (forget (UpTo h.top) t.0 (piece.ClearNow k n ∷ todo) t.1))), over_before k n a.frame a.handles todo older older (subst (λ C. OverAll Sized C a.frame a.handles older older) e h.over))

@@ -25,6 +25,8 @@ use Rattle.uc_resolve.specs.Resolve.{Scope}
 use Rattle.uc_scope_laws.specs.Ordinary.{Ordinary, OrdinaryMaybe, OrdinaryItems, OrdinaryTargets, IsNew, Evaluated}
 use Rattle.uc_scope_laws.specs.Rooms.{Room, IsWithin, LiesAt, LiesIn, Destroyed, Lies, Keeps, DeclaredIn, RaisedIn, StmtIn, StmtsIn, HandlersIn, ClausesIn}
 use Rattle.uc_scope_laws.specs.Layout.{destructor_by, Sized, references, started_references, own_references}
+use Rattle.uc_scope_laws.specs.Clusters.{IsUnbound, Begins, HandlersBegin}
+use Rattle.uc_scope_laws.proofs.Clustering.{follows, unbound_ordinary, declared, opened}
 use Rattle.uc_scope_laws.proofs.RoomLemmas.{new_ordinary, ordinary_evaluated}
 use Rattle.uc_scope_laws.proofs.Expressions as expressions
 use Rattle.uc_scope_laws.proofs.Expressions.{AllOrdinary}
@@ -293,34 +295,82 @@ module _ (p : Program) where
   scalars o s b (d ∷ ds) low high =
       (low, omega (arith, high), start (meaning.context_at p s) (shape_of b) d.start, scalars o (meaning.with_declared p s b d) b ds (omega (arith, low)) (omega (arith, high)))
 
-  one_object : (o : Room) (m : Making) (line : ℕ) (b : Base) (d : Declarator) (s : Scope) (rest : Stmts) → making p b ≡ Some m → d.by_ref ≡ false → o.low ≤ s.cells → s.cells + declared_cells p b d ≤ o.high → StmtsIn (Sized p) (record o { low = s.cells + declared_cells p b d }) rest → StmtsIn (Sized p) o (meaning.object_scoped p m line b d s rest)
-  one_object o m line b d s rest e f low high h =
+  -- a cluster that is no array has a cell
+  one_cell : (b : Base) (m : Making) (d : Declarator) → making p b ≡ Some m → d.by_ref ≡ false → meaning.length_of p d d.len ≡ None → m ≡ ACluster → 1 ≤ declared_cells p b d
+  one_cell b m d e f l q = by d.len refl l
+    where
+      by : (len : Option expr.Expr) → d.len ≡ len → meaning.length_of p d len ≡ None → 1 ≤ declared_cells p b d
+      by None n k =
+          let size : declared_cells p b d ≡ 1 * 1 = declared_size p b m d e f ∙ (ap (λ (x : ℕ). x * making_cells p m) (single_size p d n f) ∙ ap (λ (x : Making). 1 * making_cells p x) q) in
+          omega (arith, size)
+      by (Some x) n k = absurd (cc)
+
+  one_object : (o : Room) (m : Making) (line : ℕ) (b : Base) (d : Declarator) (s : Scope) (rest : Stmts) → making p b ≡ Some m → d.by_ref ≡ false → o.low ≤ s.cells → s.cells + declared_cells p b d ≤ o.high → Begins rest → StmtsIn (Sized p) (record o { low = s.cells + declared_cells p b d }) rest → StmtsIn (Sized p) o (meaning.object_scoped p m line b d s rest)
+  one_object o m line b d s rest e f low high g h =
       let inner : Room = record o { low = s.cells + declared_cells p b d } in
       let within : IsWithin o inner = record { low = omega (arith, low); cells = high; high = omega arith; hidden = omega arith; last = omega arith } in
-      ((low, high, tt, tt), (build p o line m (meaning.length_of p d d.len) (src.Variable s.cells) (meaning.start_args p s d.start) low (start_args s d.start), (inner, within, (clean_declared p b m d o.low (s.cells + declared_cells p b d) s.cells e f low (omega arith), clean_keeps p m (meaning.length_of p d d.len) (src.Variable s.cells) o.hidden o.hidden), h)))
+      ((low, high, tt, tt), (build p o line m (meaning.length_of p d d.len) (src.Variable s.cells) (meaning.start_args p s d.start) low (start_args s d.start), (inner, within, (clean_declared p b m d o.low (s.cells + declared_cells p b d) s.cells e f low (omega arith), clean_keeps p m (meaning.length_of p d d.len) (src.Variable s.cells) o.hidden o.hidden), h, g), opened p line m (meaning.length_of p d d.len) s.cells (meaning.start_args p s d.start)), declared p line m (meaning.length_of p d d.len) s.cells (declared_cells p b d) (meaning.start_args p s d.start) (one_cell b m d e f))
 
-  objects : (o : Room) (m : Making) (line : ℕ) (b : Base) (ds : List Declarator) (s : Scope) (rest : Stmts) → making p b ≡ Some m → references ds ≡ [] → o.low ≤ s.cells → s.cells + declarators_cells (declared_cells p b) ds ≤ o.high → Behind o (s.cells + declarators_cells (declared_cells p b) ds) rest → StmtsIn (Sized p) o (meaning.objects_scoped p m line b ds s rest)
-  objects o m line b [] s rest e f low high h = h o.low (omega arith) (omega (arith, low))
-  objects o m line b (d ∷ ds) s rest e f low high h =
+  -- what stands behind declarations
+
+  begins_objects : (m : Making) (line : ℕ) (b : Base) (ds : List Declarator) (s : Scope) (rest : Stmts) → Begins rest → Begins (meaning.objects_scoped p m line b ds s rest)
+  begins_objects m line b [] s rest h = h
+  begins_objects m line b (d ∷ ds) s rest h = tt
+
+  begins_declared : (m : Option Making) (line : ℕ) (b : Base) (ds : List Declarator) (s : Scope) (rest : Stmts) → Begins rest → Begins (meaning.declared_then p m line b ds s rest)
+  begins_declared None line b ds s rest h = tt
+  begins_declared (Some m) line b ds s rest h = begins_objects m line b ds s rest h
+
+  begins_start : (line : ℕ) (x : stmt.ForStart) (s : Scope) (rest : Stmts) → Begins rest → Begins (meaning.start_then p line x s rest)
+  begins_start line stmt.NoFor s rest h = tt
+  begins_start line (stmt.ForDeclare place b ds) s rest h = begins_declared (making p b) line b ds s rest h
+  begins_start line (stmt.ForEvaluate e) s rest h = unbound_ordinary line (tree.meant (meaning.context_at p s) e).expr (expressions.meant (meaning.context_at p s) e).expr
+
+  begins_stmt : (t : stmt.Stmt) (s : Scope) (a : Stmt) (rest : Stmts) → IsUnbound a → Begins rest → Begins (meaning.stmt_then p t s a rest)
+  begins_stmt (stmt.Declare place b ds) s a rest n h = begins_declared (making p b) place.line b ds s rest h
+  begins_stmt t s a rest n h = n
+
+  unbound_alone : (m : Option Making) (line : ℕ) (b : Base) (ds : List Declarator) (s : Scope) → IsUnbound (meaning.declared_alone p m line b ds s)
+  unbound_alone None line b ds s = tt
+  unbound_alone (Some m) line b ds s = tt
+
+  unbound_one : (t : stmt.Stmt) (s : Scope) → IsUnbound (meaning.stmt_meant p t s)
+  unbound_one (stmt.Evaluate place e) s = unbound_ordinary place.line (tree.meant (meaning.context_at p s) e).expr (expressions.meant (meaning.context_at p s) e).expr
+  unbound_one (stmt.Declare place b ds) s = unbound_alone (making p b) place.line b ds s
+  unbound_one t s = tt
+
+  pub begins_all : (ts : stmt.Stmts) (s : Scope) → Begins (meaning.stmts_meant p ts s)
+  begins_all stmt.NoStmts s = tt
+  begins_all (stmt.MoreStmts t ts) s = begins_stmt t s (meaning.stmt_meant p t s) (meaning.stmts_meant p ts (meaning.scope_after p t s)) (unbound_one t s) (begins_all ts (meaning.scope_after p t s))
+
+  begins_handlers : (hs : stmt.Handlers) (s : Scope) → HandlersBegin (meaning.handlers_meant p hs s)
+  begins_handlers stmt.NoHandlers s = tt
+  begins_handlers (stmt.MoreHandlers (stmt.Handles place kind event param brace body) rest) s =
+      let x : stmt.Handler = stmt.Handles place kind event param brace body in
+      (begins_all body (meaning.in_handler p x s), begins_handlers rest (meaning.scope_past_handler p x s))
+
+  objects : (o : Room) (m : Making) (line : ℕ) (b : Base) (ds : List Declarator) (s : Scope) (rest : Stmts) → making p b ≡ Some m → references ds ≡ [] → o.low ≤ s.cells → s.cells + declarators_cells (declared_cells p b) ds ≤ o.high → Begins rest → Behind o (s.cells + declarators_cells (declared_cells p b) ds) rest → StmtsIn (Sized p) o (meaning.objects_scoped p m line b ds s rest)
+  objects o m line b [] s rest e f low high g h = h o.low (omega arith) (omega (arith, low))
+  objects o m line b (d ∷ ds) s rest e f low high g h =
       let inner : Room = record o { low = s.cells + declared_cells p b d } in
-      one_object o m line b d s _ e (first_no_reference d ds f) low (omega (arith, high)) (objects inner m line b ds (meaning.with_declared p s b d) rest e (others_no_reference d ds f) (omega arith) (omega (arith, high)) (λ k a c. h k (omega (arith, low, a)) (omega (arith, c))))
+      one_object o m line b d s _ e (first_no_reference d ds f) low (omega (arith, high)) (begins_objects m line b ds (meaning.with_declared p s b d) rest g) (objects inner m line b ds (meaning.with_declared p s b d) rest e (others_no_reference d ds f) (omega arith) (omega (arith, high)) g (λ k a c. h k (omega (arith, low, a)) (omega (arith, c))))
 
-  declared_then : (o : Room) (b : Base) (m : Option Making) (line : ℕ) (ds : List Declarator) (s : Scope) (rest : Stmts) → making p b ≡ m → references ds ≡ [] → o.low ≤ s.cells → s.cells + declarators_cells (declared_cells p b) ds ≤ o.high → Behind o (s.cells + declarators_cells (declared_cells p b) ds) rest → StmtsIn (Sized p) o (meaning.declared_then p m line b ds s rest)
-  declared_then o b None line ds s rest e f low high h = (scalars o s b ds low high, h o.low (omega arith) (omega (arith, low)))
-  declared_then o b (Some m) line ds s rest e f low high h = objects o m line b ds s rest e f low high h
+  declared_then : (o : Room) (b : Base) (m : Option Making) (line : ℕ) (ds : List Declarator) (s : Scope) (rest : Stmts) → making p b ≡ m → references ds ≡ [] → o.low ≤ s.cells → s.cells + declarators_cells (declared_cells p b) ds ≤ o.high → Begins rest → Behind o (s.cells + declarators_cells (declared_cells p b) ds) rest → StmtsIn (Sized p) o (meaning.declared_then p m line b ds s rest)
+  declared_then o b None line ds s rest e f low high g h = (scalars o s b ds low high, h o.low (omega arith) (omega (arith, low)), follows (src.Declare line (meaning.all_declared p s b ds)) rest g)
+  declared_then o b (Some m) line ds s rest e f low high g h = objects o m line b ds s rest e f low high g h
 
   declared_alone : (o : Room) (b : Base) (m : Option Making) (line : ℕ) (ds : List Declarator) (s : Scope) → making p b ≡ m → references ds ≡ [] → o.low ≤ s.cells → s.cells + declarators_cells (declared_cells p b) ds ≤ o.high → StmtIn (Sized p) o (meaning.declared_alone p m line b ds s)
   declared_alone o b None line ds s e f low high = scalars o s b ds low high
-  declared_alone o b (Some m) line ds s e f low high = objects o m line b ds s src.Nil e f low high (λ k a c. tt)
+  declared_alone o b (Some m) line ds s e f low high = (objects o m line b ds s src.Nil e f low high tt (λ k a c. tt), begins_objects m line b ds s src.Nil tt)
 
-  start_then : (o : Room) (line : ℕ) (x : stmt.ForStart) (s : Scope) (rest : Stmts) → started_references x ≡ [] → o.low ≤ s.cells → s.cells + for_cells x (declared_cells p) ≤ o.high → Behind o (s.cells + for_cells x (declared_cells p)) rest → StmtsIn (Sized p) o (meaning.start_then p line x s rest)
-  start_then o line stmt.NoFor s rest f low high h = (tt, h o.low (omega arith) (omega (arith, low)))
-  start_then o line (stmt.ForDeclare place b ds) s rest f low high h = declared_then o b (making p b) line ds s rest refl f low high h
-  start_then o line (stmt.ForEvaluate e) s rest f low high h = (evaluated o s e, h o.low (omega arith) (omega (arith, low)))
+  start_then : (o : Room) (line : ℕ) (x : stmt.ForStart) (s : Scope) (rest : Stmts) → started_references x ≡ [] → o.low ≤ s.cells → s.cells + for_cells x (declared_cells p) ≤ o.high → Begins rest → Behind o (s.cells + for_cells x (declared_cells p)) rest → StmtsIn (Sized p) o (meaning.start_then p line x s rest)
+  start_then o line stmt.NoFor s rest f low high g h = (tt, h o.low (omega arith) (omega (arith, low)), follows (src.Skip line) rest g)
+  start_then o line (stmt.ForDeclare place b ds) s rest f low high g h = declared_then o b (making p b) line ds s rest refl f low high g h
+  start_then o line (stmt.ForEvaluate e) s rest f low high g h = (evaluated o s e, h o.low (omega arith) (omega (arith, low)), follows (src.Evaluate line (tree.meant (meaning.context_at p s) e).expr) rest g)
 
-  stmt_then : (o : Room) (t : stmt.Stmt) (s : Scope) (a : Stmt) (rest : Stmts) → gathered own_references t ≡ [] → o.low ≤ s.cells → s.cells + stmt_cells t (declared_cells p) ≤ o.high → StmtIn (Sized p) o a → Behind o (s.cells + stmt_cells t (declared_cells p)) rest → StmtsIn (Sized p) o (meaning.stmt_then p t s a rest)
-  stmt_then o (stmt.Declare place b ds) s a rest f low high n h = declared_then o b (making p b) place.line ds s rest refl f low high h
-  stmt_then o t s a rest f low high n h = (n, h o.low (omega arith) (omega (arith, low)))
+  stmt_then : (o : Room) (t : stmt.Stmt) (s : Scope) (a : Stmt) (rest : Stmts) → gathered own_references t ≡ [] → o.low ≤ s.cells → s.cells + stmt_cells t (declared_cells p) ≤ o.high → StmtIn (Sized p) o a → Begins rest → Behind o (s.cells + stmt_cells t (declared_cells p)) rest → StmtsIn (Sized p) o (meaning.stmt_then p t s a rest)
+  stmt_then o (stmt.Declare place b ds) s a rest f low high n g h = declared_then o b (making p b) place.line ds s rest refl f low high g h
+  stmt_then o t s a rest f low high n g h = (n, h o.low (omega arith) (omega (arith, low)), follows a rest g)
 
   -- events
 
@@ -349,7 +399,7 @@ module _ (p : Program) where
 
   mutual
     pub one : (t : stmt.Stmt) (s : Scope) (o : Room) → Takes o s (stmt_cells t (declared_cells p)) (hidden_in t) → gathered own_references t ≡ [] → StmtIn (Sized p) o (meaning.stmt_meant p t s)
-    one (stmt.Block place body) s o h g = all body s o h g
+    one (stmt.Block place body) s o h g = (all body s o h g, begins_all body s)
     one (stmt.Empty place) s o h g = tt
     one (stmt.Evaluate place e) s o h g = evaluated o s e
     one (stmt.Declare place b ds) s o h g = declared_alone o b (making p b) place.line ds s refl g h.low h.high
@@ -370,8 +420,8 @@ module _ (p : Program) where
         let last = h.last in
         let c = for_scope_cells x s in
         let d = for_scope_hidden x s in
-        let behind : Behind o (s.cells + n) (src.Then loop src.Nil) = λ low a b. ((test inner e, step inner f, one body inner (record o { low = low }) (record { low = omega (arith, b, c); high = omega (arith, high, c); hidden = omega (arith, hidden, d); last = omega (arith, last, d) }) (none_right (started_references x) (gathered own_references body) g)), tt) in
-        start_then o place.line x s (src.Then loop src.Nil) (none_left (started_references x) (gathered own_references body) g) h.low (omega (arith, high)) behind
+        let behind : Behind o (s.cells + n) (src.Then loop src.Nil) = λ low a b. ((test inner e, step inner f, one body inner (record o { low = low }) (record { low = omega (arith, b, c); high = omega (arith, high, c); hidden = omega (arith, hidden, d); last = omega (arith, last, d) }) (none_right (started_references x) (gathered own_references body) g)), tt, tt) in
+        (start_then o place.line x s (src.Then loop src.Nil) (none_left (started_references x) (gathered own_references body) g) h.low (omega (arith, high)) tt behind, begins_start place.line x s (src.Then loop src.Nil) tt)
     one (stmt.Break place) s o h g = tt
     one (stmt.Continue place) s o h g = tt
     one (stmt.Return place e) s o h g = returned s e
@@ -386,7 +436,7 @@ module _ (p : Program) where
         let high = h.high in
         let hidden = h.hidden in
         let last = h.last in
-        (inner, outer, record { low = omega arith; cells = omega (arith, low); high = omega (arith, high); hidden = omega arith; last = omega (arith, last) }, record { low = omega (arith, low); cells = omega (arith, high); high = omega arith; hidden = omega (arith, hidden); last = omega arith }, record { cells = omega arith; hidden = omega arith }, (all body s inner (record { low = low; high = omega arith; hidden = hidden; last = omega arith }) (none_left (gathered_all own_references body) (gathered_handlers own_references hs) g), tt), handlers hs (meaning.scope_past_all p body s) outer (record { low = omega arith; high = omega (arith, high); hidden = omega arith; last = omega (arith, last) }) (none_right (gathered_all own_references body) (gathered_handlers own_references hs) g))
+        (inner, outer, record { low = omega arith; cells = omega (arith, low); high = omega (arith, high); hidden = omega arith; last = omega (arith, last) }, record { low = omega (arith, low); cells = omega (arith, high); high = omega arith; hidden = omega (arith, hidden); last = omega arith }, record { cells = omega arith; hidden = omega arith }, ((all body s inner (record { low = low; high = omega arith; hidden = hidden; last = omega arith }) (none_left (gathered_all own_references body) (gathered_handlers own_references hs) g), begins_all body s), tt, tt), handlers hs (meaning.scope_past_all p body s) outer (record { low = omega arith; high = omega (arith, high); hidden = omega arith; last = omega (arith, last) }) (none_right (gathered_all own_references body) (gathered_handlers own_references hs) g), tt, begins_handlers hs (meaning.scope_past_all p body s))
     one (stmt.Resume place) s o h g = tt
     one (stmt.Suspend place) s o h g = tt
     one (stmt.RaiseAt place r target) s o h g = (raised o s (Some r) h.hidden h.last, (expressions.meant (meaning.context_at p s) target).expr)
@@ -450,4 +500,4 @@ module _ (p : Program) where
         let hidden = h.hidden in
         let last = h.last in
         let behind : Behind o (s.cells + a) (meaning.stmts_meant p ts u) = λ k c d. all ts u (record o { low = k }) (record { low = d; high = omega (arith, high); hidden = omega (arith, hidden); last = omega (arith, last) }) m in
-        stmt_then o t s (meaning.stmt_meant p t s) (meaning.stmts_meant p ts u) n low (omega (arith, high)) (one t s o (takes_first o s a b (hidden_in t) (hidden_in_all ts) h) n) behind
+        stmt_then o t s (meaning.stmt_meant p t s) (meaning.stmts_meant p ts u) n low (omega (arith, high)) (one t s o (takes_first o s a b (hidden_in t) (hidden_in_all ts) h) n) (begins_all ts u) behind

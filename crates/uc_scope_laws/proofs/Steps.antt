@@ -453,8 +453,8 @@ module _ (Sized : ℕ → ℕ → Type 0) where
 
       pub stmt : (a : Stmt) (todo : List Todo) → StmtIn Sized o a → TodoIn Sized o todo → RoomStep Sized (quiet.stmt_step a todo s)
       stmt (src.Skip line) todo n h = go _ _ h
-      stmt (src.Block line body) todo n h = go _ _ (n, (tt, h))
-      stmt (src.Whole line body) todo n h = go _ _ (n, (tt, h))
+      stmt (src.Block line body) todo n h = go _ _ (n.0, (tt, h))
+      stmt (src.Whole line body) todo n h = go _ _ (n.0, (tt, h))
       stmt (src.Evaluate line a) todo n h = go _ _ (n, (tt, (tt, h)))
       stmt (src.Declare line ds) todo n h = go _ _ (n, (tt, h))
       stmt (src.Print line items) todo n h = go _ _ (n, (tt, h))

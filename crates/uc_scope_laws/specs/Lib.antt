@@ -1,4 +1,5 @@
 pub mod Ordinary
+pub mod Clusters
 pub mod Rooms
 pub mod RoomStates
 pub mod Layout

@@ -2,7 +2,7 @@
 -- stands, while objects of that routine are in scope. What each of them declares lies behind all objects of the others.
 use Rattle.std.specs.Prelude.{◌≡◌, ℕ, suc, ◌≤◌, List, [], ◌∷◌, length, Option, Some, None, Bool, true, false, nat_eq}
 use Rattle.uc_machine.specs.declared.exec.Visited.{Visited}
-use Rattle.uc_machine.specs.Executions.{Execution}
+use Rattle.uc_machine.specs.Executions.{Execution, at_depth, list_in}
 use Rattle.uc_machine.specs.Pieces.{Value, Todo, Sort, sort, IsGuard, Active, State, Env, Members, Step, Goes, Ticks, Asks}
 use Rattle.uc_machine.specs.Raising.{within}
 use Rattle.uc_scope_laws.specs.Rooms.{Room, IsRoom, HandlersIn}
@@ -14,6 +14,10 @@ From x o = x ≤ o.low
 
 abbrev pub UpTo : ℕ → Room → Type 0
 UpTo x o = o.high ≤ x
+
+-- how many cells the frame of a depth has
+abbrev pub frame_cells : List (List Value) → ℕ → ℕ
+frame_cells fs d = length (list_in (at_depth fs d))
 
 module _ (Sized : ℕ → ℕ → Type 0) where
   -- all that is to do keeps to its rooms, of which the outermost one is so
@@ -55,17 +59,19 @@ module _ (Sized : ℕ → ℕ → Type 0) where
   OverAll todo frame v older [] = Unit {0}
   OverAll todo frame v older (c ∷ cs) = Over todo frame v older c × OverAll todo frame v older cs
 
-  -- a search that comes beyond an activation finds in its frame only what lies behind it
-  pub record Stacked (a : Active) (older : List Active) : Type 0 where
+  -- with these frames: the rooms of an activation end within its frame, and a search that comes beyond it finds in that frame only what
+  -- lies behind it
+  pub record Stacked (fs : List (List Value)) (a : Active) (older : List Active) : Type 0 where
     pub top : ℕ
     pub fits : SomeTo (UpTo top) a.control
+    pub cells : top ≤ frame_cells fs a.frame
     pub frame : a.frame ≤ length older
     pub beyond : Above top a.handles a.frame older
     pub over : OverAll a.control a.frame a.handles older older
 
-  abbrev pub Stack : List Active → Type 0
-  Stack [] = Unit {0}
-  Stack (a ∷ older) = Stacked a older × Stack older
+  abbrev pub Stack : List (List Value) → List Active → Type 0
+  Stack fs [] = Unit {0}
+  Stack fs (a ∷ older) = Stacked fs a older × Stack fs older
 
   -- of those that use a frame, all objects lie before a cell
   abbrev pub FrameBefore : ℕ → ℕ → List Active → Type 0
@@ -75,7 +81,7 @@ module _ (Sized : ℕ → ℕ → Type 0) where
   -- an execution that does not run, with a frame for each activation
   pub record StackEx (x : Execution (List Todo) Value) : Type 0 where
     pub frames : length x.frames ≡ suc (length x.callers)
-    pub stack : Stack (x.run ∷ x.callers)
+    pub stack : Stack x.frames (x.run ∷ x.callers)
 
   abbrev pub StackSlot : Option (Execution (List Todo) Value) → Type 0
   StackSlot None = Unit {0}
@@ -100,7 +106,7 @@ module _ (Sized : ℕ → ℕ → Type 0) where
 
   pub record StackState (s : State) : Type 0 where
     pub frames : length s.env.frames ≡ suc (length s.callers)
-    pub stack : Stack (s.run ∷ s.callers)
+    pub stack : Stack s.env.frames (s.run ∷ s.callers)
     pub env : StackEnv s.env
 
   abbrev pub StackStep : Step → Type 0

@@ -4,6 +4,7 @@
 use Rattle.std.specs.Prelude.{◌≡◌, ℕ, ◌+◌, ◌*◌, ◌≤◌, ◌<◌, ◌⊎◌, List, [], ◌∷◌, Option, Some, None, slice_get}
 use Rattle.uc_tree.specs.Hidden.{EVENT_FIELDS, KEPT_CELLS}
 use Rattle.uc_tree.specs.Source.{Expr, Variable, Element, Load, OfObject, OwnField, Counted, CallOn, CallUnwritten, EndOn, EndCluster, EndProcessor, Declared, CleanUp, Destroys, DestroysAll, Restores, Stmt, Stmts, Skip, Block, Whole, Evaluate, Declare, Print, PrintTogether, Read, If, Loop, Break, Continue, Return, Owes, Fill, OfEvents, OfTasks, Nil, Then, Scoped, Built, Raised, Plainly, BuiltAt, AgainFrom, EventStmt, Throw, Raise, Try, RaiseAt, Enable, Disable, TaskStmt, Migrate, Accept, Handlers, NoHandlers, MoreHandlers, Clauses, NoClauses, Otherwise, MoreClauses, Routine, Source}
+use Rattle.uc_scope_laws.specs.Clusters.{Follows, Begins, HandlersBegin}
 use Rattle.uc_scope_laws.specs.Ordinary.{Ordinary, OrdinaryAll, OrdinaryMaybe, OrdinaryItems, OrdinaryTargets, Evaluated}
 
 -- the cells of variables from `low` to before `high`, and the hidden ones from `hidden` to before `last`
@@ -101,8 +102,8 @@ module _ (Sized : ℕ → ℕ → Type 0) where
   abbrev mutual
     pub StmtIn : Room → Stmt → Type 0
     StmtIn o (Skip line) = Unit {0}
-    StmtIn o (Block line body) = StmtsIn o body
-    StmtIn o (Whole line body) = StmtsIn o body
+    StmtIn o (Block line body) = StmtsIn o body × Begins body
+    StmtIn o (Whole line body) = StmtsIn o body × Begins body
     StmtIn o (Evaluate line e) = Evaluated o.low e
     StmtIn o (Declare line ds) = DeclaredIn o ds
     StmtIn o (Print line items) = OrdinaryItems items
@@ -120,15 +121,15 @@ module _ (Sized : ℕ → ℕ → Type 0) where
 
     pub StmtsIn : Room → Stmts → Type 0
     StmtsIn o Nil = Unit {0}
-    StmtsIn o (Then a rest) = StmtIn o a × StmtsIn o rest
-    StmtsIn o (Scoped c rest) = (m : Room) × IsWithin o m × Holds o m c × StmtsIn m rest
-    StmtsIn o (Built c rest) = OwnPart c × StmtsIn o rest
+    StmtsIn o (Then a rest) = StmtIn o a × StmtsIn o rest × Follows a rest
+    StmtsIn o (Scoped c rest) = (m : Room) × IsWithin o m × Holds o m c × StmtsIn m rest × Begins rest
+    StmtsIn o (Built c rest) = OwnPart c × StmtsIn o rest × Begins rest
 
     pub EventIn : Room → EventStmt → Type 0
     EventIn o (Throw line r) = RaisedIn o r
     EventIn o (Raise line r) = RaisedIn o r
     EventIn o (Try line body hs) = (m h : Room) × IsWithin o m × IsWithin o h × IsBehind m h ×
-        StmtsIn m body × HandlersIn h hs
+        StmtsIn m body × HandlersIn h hs × Begins body × HandlersBegin hs
     EventIn o (RaiseAt line r e) = RaisedIn o r × Ordinary e
     EventIn o (Enable line events cell a) = (m : Room) × IsWithin o m ×
         Keeps o.hidden m.hidden (Restores cell) × StmtIn m a
@@ -156,8 +157,10 @@ module _ (Sized : ℕ → ℕ → Type 0) where
   pub record RoutineIn (r : Routine) : Type 0 where
     pub room : Room
     pub sound : IsRoom room
+    pub variables : room.high ≤ r.cells
     pub frame : room.last ≤ r.cells
     pub body : StmtsIn room r.body
+    pub begins : Begins r.body
 
   abbrev pub MaybeRoutineIn : Option Routine → Type 0
   MaybeRoutineIn None = Unit {0}

@@ -8,7 +8,8 @@ ghost use Rattle.uc_scope_laws.specs.ScopeLaws.{LawAccepted, LawClears, LawSourc
 /// In the source of every program whose locals are no references, all code keeps to its rooms: each
 /// declaration takes cells behind those of all objects in scope, the handlers of a guarded block take
 /// theirs behind those of the block, and all lie in the frame of the routine. What is bound or made is
-/// a place that is being built there, so none that is in scope.
+/// a place that is being built there, so none that is in scope. A cluster is declared, bound and in
+/// scope by what stands right behind each other.
 pub fn law_source()
     ensures { LawSource }
 {}
@@ -39,13 +40,13 @@ pub fn law_runs()
 /// Where all code of a source keeps to its rooms, each step and each answer keeps of all executions of
 /// a task that activations which use one frame stay behind one another: a handler of resumptions uses
 /// that of the routine in which it stands. So what a step clears lies behind the objects of all
-/// activations of the execution that use the frame.
+/// activations of the execution that use the frame; and the rooms of each activation end within it.
 pub fn law_frames()
     ensures { LawFrames }
 {}
 
-/// So it is in each run of a program that breaks no rule, in each state to which whoever runs comes
-/// before it asks.
+/// So it is in each run of a program that breaks no rule, of tasks at rest and in each state to which
+/// whoever runs comes before it asks.
 pub fn law_frame_runs()
     ensures { LawFrameRuns }
 {}

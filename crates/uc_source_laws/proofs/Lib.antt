@@ -1,3 +1,4 @@
+pub mod Freeing
 pub mod InnerSources
 pub mod SharedParams
 pub mod EarlierLemmas

@@ -25,11 +25,14 @@ AnyCall r args = Unit {0}
 abbrev pub AnyTask : ℕ → TaskStmt → Type 0
 AnyTask n a = Unit {0}
 
+abbrev pub AnyClean : ℕ → CleanUp → Type 0
+AnyClean n c = Unit {0}
+
 abbrev pub Earlier : ℕ → Expr → Type 0
-Earlier n e = walk.InExpr ℕ same AnyCall AtOwn AnyTask n e
+Earlier n e = walk.InExpr ℕ same AnyCall AtOwn AnyTask AnyClean n e
 
 abbrev pub AllEarlier : ℕ → Exprs → Type 0
-AllEarlier n es = walk.InExprs ℕ same AnyCall AtOwn AnyTask n es
+AllEarlier n es = walk.InExprs ℕ same AnyCall AtOwn AnyTask AnyClean n es
 
 -- a field of the object at hand alone, or what it holds: a reference may be bound to a later one
 abbrev pub IsAlone : Expr → Type 0

@@ -7,7 +7,9 @@ ghost use Rattle.uc_source_laws.specs.SourceLaws.{LawInner, LawShared};
 /// task is inside the object at hand: in a scope that lets go of that, in a helper of the object, or
 /// in the main of a cormonitor or a task. A helper is called on the object at hand alone, where the
 /// task is inside it; what builds a mutex object is called by its making alone; and no main is called.
-/// The main of the program is none of these.
+/// The main of the program is none of these. Each call is of a routine that is there, with as many
+/// arguments as that has parameters; tasks and coroutines begin with routines that end as mains do;
+/// and only what builds a mutex object frees it.
 pub fn law_inner()
     ensures { LawInner }
 {}

@@ -16,6 +16,7 @@ pub mod Simulate
 pub mod Rode
 pub mod WeightFallsLemmas
 pub mod RunsLemmas
+pub mod Carrying
 pub mod Apart
 pub mod Idles
 pub mod SimulateSwitches

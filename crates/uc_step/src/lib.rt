@@ -3,9 +3,11 @@
 
 mod accepting;
 pub mod begin;
+mod carried;
 mod clusters;
 mod conditions;
 mod coroutines;
+mod elements;
 mod jumps;
 mod memory;
 mod mutex;

@@ -12,12 +12,14 @@ use Rattle.uc_answer_laws.specs.Suiting.{IsForm, form_of_request}
 use Rattle.uc_machine.specs.Quiet.{State, Members, Step, Goes, Ticks, Asks, quiet}
 use Rattle.uc_machine.specs.Answering.{with_hand}
 use Rattle.uc_machine.specs.Rides.{Rides, slices, goes_on, ticks, asks}
+use Rattle.uc_scope_laws.specs.RoomRuns.{Leads, stays, goes, ticks as by_tick}
 use Rattle.uc_meaning.specs.Runs.{with_home, hand_of, or_else}
 use Rattle.uc_typing.specs.Typing.{Num, Raw, Clu, Pro, Table}
 use Rattle.uc_typing.specs.States.{Sound, Typed, Asked as AskedIn, After, Inhand, Suits}
+use Rattle.uc_typing.specs.Laws.{ReadsIn}
 use Rattle.uc_typing.proofs.Answers.{handed}
 use Rattle.uc_typing.proofs.Keeps.{keeps}
-use Rattle.uc_typed_runs.specs.TypedRuns.{ReadsWell, RideReads, AtHome}
+use Rattle.uc_typed_runs.specs.TypedRuns.{still_reading, RideHolds, LeadsHold, Reading, AtHome}
 
 -- an answer of the form that a request asks for suits it
 pub suits : (q : Request) (a : Answer) → IsForm (form_of_request q) a → (q ≡ ask.End → ⊥) → ((n : ℕ) → q ≡ ask.Fault n → ⊥) → Suits q a
@@ -111,14 +113,21 @@ module _ (t : Table) (source : Source) where
 
   -- a ride
   module _ (sound : Sound t source) where
-    behind : (s : State) (step : Step) → quiet source s ≡ step → Typed t [] s → ReadsWell t s → After t source step
+    pub behind : (s : State) (step : Step) → quiet source s ≡ step → Typed t [] s → ReadsIn t s → After t source step
     behind s step e x r = subst (After t source) e (keeps t source sound s (r x).0 (r x).1)
 
-    pub rides_typed : (s : State) (q : ℕ) (u : State) (k : ℕ) (a : Asked) (d : Rides source s q u k a) → RideReads t source s q u k a d → Typed t [] s → AskedIn t source a.request u
-    rides_typed _ _ _ _ _ slices r x = x
-    rides_typed _ _ _ _ _ (goes_on {s} {t = v} {u} {q} {k} {a} e rest) r x = rides_typed v (suc q) u k a rest r.1 (behind s (Goes v) e x r.0)
-    rides_typed _ _ _ _ _ (ticks {s} {t = v} {u} {q} {k} {a} e rest) r x = rides_typed v q u k a rest r.1 (behind s (Ticks v) e x r.0)
-    rides_typed _ _ _ _ _ (asks {s} {t = v} {r = m} e) r x = behind s (Asks m v) e x r
+    pub rides_typed : (n : ℕ) (s : State) (q : ℕ) (u : State) (k : ℕ) (a : Asked) (d : Rides source s q u k a) → RideHolds (Reading t) source n s q u k a d → Typed t [] s → AskedIn t source a.request u
+    rides_typed n _ _ _ _ _ slices r x = x
+    rides_typed n _ _ _ _ _ (goes_on {s} {t = v} {u} {q} {k} {a} e rest) r x =
+        rides_typed (still_reading n s.run.control) v (suc q) u k a rest r.1 (behind s (Goes v) e x r.0)
+    rides_typed n _ _ _ _ _ (ticks {s} {t = v} {u} {q} {k} {a} e rest) r x =
+        rides_typed (still_reading n s.run.control) v q u k a rest r.1 (behind s (Ticks v) e x r.0)
+    rides_typed n _ _ _ _ _ (asks {s} {t = v} {r = m} e) r x = behind s (Asks m v) e x r
+
+    pub leads_typed : (n : ℕ) {s u : State} (l : Leads source s u) → LeadsHold (Reading t) source n s u l → Typed t [] s → Typed t [] u
+    leads_typed n stays h x = x
+    leads_typed n (goes {s} {u} e l) h x = leads_typed (still_reading n s.run.control) l h.1 (behind s (Goes u) e x h.0)
+    leads_typed n (by_tick {s} {u} e l) h x = leads_typed (still_reading n s.run.control) l h.1 (behind s (Ticks u) e x h.0)
 
 pub found_home : (t : Table) (o : ℕ) (hand : List (ℕ × Members)) → Inhand t hand → AtHome t (find o hand)
 found_home t o [] h = tt

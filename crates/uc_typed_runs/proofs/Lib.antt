@@ -1,3 +1,6 @@
 pub mod Spawning
 pub mod Hands
 pub mod Worlds
+pub mod Openings
+pub mod Endings
+pub mod Readings

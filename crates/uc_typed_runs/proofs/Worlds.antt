@@ -3,7 +3,6 @@ use Rattle.std.proofs.Common.{◌≡◌, ℕ, ◌==◌, ◌≤◌, Bool, true, f
 use Rattle.std.specs.Prelude.{if◌then◌else◌}
 use Rattle.std.proofs.lemmas.Bool.{eqb-true}
 use Rattle.uc_tree.specs.Source.{Source, routine_of}
-use Rattle.uc_tree.specs.ProgramMain.{main_number}
 use Rattle.uc_entry.specs.declared.entry.Entry.{Entry}
 use Rattle.uc_entry.specs.declared.entry.Options.{Options}
 use Rattle.uc_entry.specs.declared.request.Answer.{Answer}
@@ -30,20 +29,18 @@ use Rattle.uc_answer_laws.proofs.Asking.{law_asking}
 use Rattle.uc_machine.specs.Quiet.{State, no_members, first_state}
 use Rattle.uc_machine.specs.Answering.{answered, child_of, child_main}
 use Rattle.uc_meaning.specs.Runs.{World, May, Runs, AsksIn, first_world, hand_of, drawn, or_else, world_after, bare, gives, no_room, acts, begun, more}
+use Rattle.uc_scope_laws.specs.RoomRuns.{Comes}
 use Rattle.uc_program_laws.specs.Fitting.{MayFit, RunFits}
 use Rattle.uc_program_laws.proofs.Makes.{law_ends}
 use Rattle.uc_program_laws.proofs.Alive.{law_alive}
 use Rattle.uc_program_laws.proofs.Others.{run_rests, may_ask}
-use Rattle.uc_resolve.specs.Resolve.{source_of}
 use Rattle.uc_typing.specs.Typing.{Table}
 use Rattle.uc_typing.specs.States.{Sound, Typed, IsTask, Asked as AskedIn, Inhand}
 use Rattle.uc_typing.proofs.Answers.{begins, law_answered}
-use Rattle.uc_sound.specs.Sounds.{of_program}
-use Rattle.uc_sound.specs.Tables.{table_of}
-use Rattle.uc_formed.proofs.Texts.{law_well_typed}
-use Rattle.uc_typed_runs.specs.TypedRuns.{RideReads, MayRead, RunReads, Awaits, AtHome, LawTypedRuns, LawTypedTexts}
+use Rattle.uc_typing.proofs.Finding.{law_finds}
+use Rattle.uc_typed_runs.specs.TypedRuns.{RideHolds, MayHold, RunHolds, LeadsHold, Reading, Awaits, AtHome, LawTypedRuns}
 use Rattle.uc_typed_runs.proofs.Spawning.{Spawned, spawner, ended_before}
-use Rattle.uc_typed_runs.proofs.Hands.{suits, asked_handed, asked_hand, rides_typed, found_home, drawn_hand, either_home}
+use Rattle.uc_typed_runs.proofs.Hands.{suits, asked_handed, asked_hand, rides_typed, leads_typed, found_home, drawn_hand, either_home}
 
 -- the tasks and what is at home, of which whoever runs is in order too
 record AreTyped (table : Table) (source : Source) (j : Journal) (w : World) : Type 0 where
@@ -63,7 +60,7 @@ module _ (table : Table) (source : Source) (sound : Sound table source) (main : 
         let fits = suits x.request a (subst (λ f. IsForm f a) (sym x.asks_for) form) x.no_end x.no_fault in
         law_answered table source x.request a (drawn j w t) (asked_handed table source x.request (hand_of (held t j) w.homes) (w.tasks t) x.asked (drawn_hand table (held t j) w.homes h.homes)) fits
 
-    module _ (p t n : ℕ) (s : State) (asked : Asked) (d : AsksIn source opts j w p t n s asked) (reads : RideReads table source (answered source d.given (drawn j w t)) (left opts j t) s n asked d.rides) (m : MayAsk opts source.sites j p t n asked.request) (still : is_over (j ++ act opts source.sites input j p t n asked) ≡ false) where
+    module _ (p t n : ℕ) (s : State) (asked : Asked) (d : AsksIn source opts j w p t n s asked) (reads : RideHolds (Reading table) source 0 (answered source d.given (drawn j w t)) (left opts j t) s n asked d.rides) (m : MayAsk opts source.sites j p t n asked.request) (still : is_over (j ++ act opts source.sites input j p t n asked) ≡ false) where
       abbrev a : List Entry
       a = act opts source.sites input j p t n asked
 
@@ -79,7 +76,7 @@ module _ (table : Table) (source : Source) (sound : Sound table source) (main : 
       no_fault k e = false_true (sym calm ∙ ap (λ r. is_faulty (row opts source.sites input j p t (cost n asked.line) asked.line r)) e)
 
       own : AskedIn table source asked.request s
-      own = rides_typed table source sound (answered source d.given (drawn j w t)) (left opts j t) s n asked d.rides reads (runs_typed p t d.given d.runs d.told)
+      own = rides_typed table source sound 0 (answered source d.given (drawn j w t)) (left opts j t) s n asked d.rides reads (runs_typed p t d.given d.runs d.told)
 
       hand : Inhand table s.env.hand
       hand = asked_hand table source asked.request s no_fault own
@@ -154,22 +151,26 @@ module _ (table : Table) (source : Source) (sound : Sound table source) (main : 
       by false = tt
 
   module _ (input : List ℕ) (opts : Options) (range : InRange opts) where
-    may_typed : {j : Journal} {w : World} {a : List Entry} {x : World} → KernelRuns opts source.sites input j → is_over j ≡ false → AreTyped table source j w → (m : May source opts input j w a x) → MayFit source opts input j w a x m → MayRead table source opts input j w a x m → is_over (j ++ a) ≡ false → AreTyped table source (j ++ a) x
+    may_typed : {j : Journal} {w : World} {a : List Entry} {x : World} → KernelRuns opts source.sites input j → is_over j ≡ false → AreTyped table source j w → (m : May source opts input j w a x) → MayFit source opts input j w a x m → MayHold (Reading table) source opts input j w a x m → is_over (j ++ a) ≡ false → AreTyped table source (j ++ a) x
     may_typed {j} {w} kernel on h (gives p t s le) f r still = given_typed opts input j w kernel on h p t
     may_typed {j} {w} kernel on h (no_room p t s le) f r still = no_both (is_over (j ++ lone_limit ∷ [])) (over_limit j 0 0) still
     may_typed {j} {w} kernel on h (acts p t n s asked d) f r still = act_typed opts input j w kernel on h p t n s asked d r (may_ask source input opts range d f) still
 
-    run_typed : {j : Journal} {w : World} (r : Runs source input opts j w) → RunFits source input opts j w r → RunReads table source input opts j w r → is_over j ≡ false → AreTyped table source j w
+    run_typed : {j : Journal} {w : World} (r : Runs source input opts j w) → RunFits source input opts j w r → RunHolds (Reading table) source input opts j w r → is_over j ≡ false → AreTyped table source j w
     run_typed begun f g still = begin_typed opts
     run_typed (more r on m) f g still = may_typed (run_rests source input opts range r f.0 on).kernel on (run_typed r f.0 g.0 on) m f.1 g.1 still
 
 pub law_typed_runs : LawTypedRuns
-law_typed_runs table source input opts j w r sound main range fits reads on =
-    let h = run_typed table source sound main input opts range r fits reads on in
-    let kernel = (run_rests source input opts range r fits on).kernel in
-    record { tasks = h.tasks; homes = h.homes; runs = λ p t a running told. runs_typed table source sound main opts input j w kernel on h p t a running told }
+law_typed_runs table source input opts j w r sound main range fits reads on = record {
+  tasks = h.tasks;
+  homes = h.homes;
+  comes = λ t s c l. comes t s c l;
+  finds = λ t s c l p todo e. law_finds table source sound s (comes t s c l) p todo e;
+}
+  where
+    h : AreTyped table source j w
+    h = run_typed table source sound main input opts range r fits reads on
 
-pub law_typed_texts : LawTypedTexts
-law_typed_texts text p is input opts j w r range fits reads on =
-    let x = law_well_typed text p is in
-    law_typed_runs (table_of p) (source_of p) input opts j w r x.sound (x.mains (main_number p) (of_program refl)) range fits reads on
+    comes : (t : ℕ) (s : State) (c : Comes source j w t s) → LeadsHold (Reading table) source 0 (answered source c.given (drawn j w t)) s c.leads → Typed table [] s
+    comes t s c l =
+        leads_typed table source sound 0 c.leads l (runs_typed table source sound main opts input j w (run_rests source input opts range r fits on).kernel on h c.processor t c.given c.runs c.told)

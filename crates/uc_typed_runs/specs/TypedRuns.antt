@@ -1,56 +1,104 @@
 -- Runs of a program whose worlds are in order: each task that has not ended, and all that is at home somewhere.
-use Rattle.std.specs.Prelude.{◌≡◌, ℕ, suc, false, List, [], ◌∷◌, Option, Some, None}
+use Rattle.std.specs.Prelude.{◌≡◌, ◌⊎◌, ℕ, zero, suc, Bool, true, false, List, [], ◌∷◌, Option, Some, None}
 use Rattle.uc_tree.specs.Programs.{Program}
-use Rattle.uc_tree.specs.Source.{Source}
+use Rattle.uc_tree.specs.Source.{Variable, Load, OfObject, EndOn, EndCluster, EndProcessor, CleanUp, Destroys, Source}
 use Rattle.uc_entry.specs.declared.entry.Entry.{Entry}
 use Rattle.uc_entry.specs.declared.entry.Options.{Options}
-use Rattle.uc_entry.specs.declared.request.Answer.{Answer}
 use Rattle.uc_entry.specs.declared.request.Asked.{Asked}
 use Rattle.uc_entry.specs.declared.request.Request.{Request}
 use Rattle.uc_entry.specs.declared.request.Request.TheVariants as ask
 use Rattle.uc_acts.specs.Journal.{Journal, is_over}
 use Rattle.uc_acts.specs.Known.{has_ended}
-use Rattle.uc_acts.specs.Queues.{running}
-use Rattle.uc_acts.specs.Answers.{answer_to}
 use Rattle.uc_acts.specs.Serves.{left}
 use Rattle.uc_acts.specs.KernelRuns.{InRange}
 use Rattle.uc_answer_laws.specs.Suiting.{Form, form_of_request, asked_form}
-use Rattle.uc_machine.specs.Quiet.{State, Members}
+use Rattle.uc_machine.specs.Pieces.{Clean, Unwind}
+use Rattle.uc_machine.specs.Quiet.{State, Members, Todo}
 use Rattle.uc_machine.specs.Answering.{answered}
 use Rattle.uc_machine.specs.Rides.{Rides, slices, goes_on, ticks, asks}
 use Rattle.uc_meaning.specs.Runs.{World, May, Runs, drawn, gives, no_room, acts, begun, more}
 use Rattle.uc_program_laws.specs.Fitting.{RunFits}
+use Rattle.uc_scope_laws.specs.RoomRuns.{Leads, Comes, stays, goes, ticks as by_tick}
 use Rattle.uc_resolve.specs.Resolve.{source_of}
 use Rattle.uc_typing.specs.Typing.{Table}
-use Rattle.uc_typing.specs.States.{Sound, Typed, Reads, IsTask, Asked as AskedIn, Parked}
+use Rattle.uc_typing.specs.States.{Sound, Typed, ReadsPlace, IsTask, Asked as AskedIn, Parked}
+use Rattle.uc_typing.specs.Laws.{ReadsIn}
+use Rattle.uc_typing.specs.Finds.{Finds}
 use Rattle.uc_sound.specs.Tables.{table_of}
 use Rattle.uc_formed.specs.WellTyped.{IsTextOf}
+use Rattle.uc_value_laws.specs.Opens.{LeadsOpen, RunOpens}
+use Rattle.uc_value_laws.specs.Reading.{ReadsElement}
 
--- A state that is in order is so by a typing in which what its next step reads of bindings is of its type.
-abbrev pub ReadsWell : Table → State → Type 0
-ReadsWell t s = Typed t [] s → (y : Typed t [] s) × Reads t y.run.sig y.run.scope s s.run.control y.run.own
+-- a clean-up ends what is known by its number and stands in a variable
+abbrev pub ends_variable : CleanUp → Bool
+ends_variable (Destroys (OfObject (EndOn r written (Load (Variable k))))) = true
+ends_variable (Destroys (OfObject (EndCluster (Load (Variable k))))) = true
+ends_variable (Destroys (OfObject (EndProcessor (Load (Variable k))))) = true
+ends_variable c = false
 
--- What is read of bindings at the states of a ride, of an act, and of each act of a run, is of its type.
-abbrev pub RideReads : (table : Table) (source : Source) (s : State) (q : ℕ) (u : State) (k : ℕ) (a : Asked) →
-    Rides source s q u k a → Type 0
-RideReads table source _ _ _ _ _ slices = Unit {0}
-RideReads table source _ _ _ _ _ (goes_on {s} {t = v} {u} {q} {k} {a} e rest) = ReadsWell table s ×
-    RideReads table source v (suc q) u k a rest
-RideReads table source _ _ _ _ _ (ticks {s} {t = v} {u} {q} {k} {a} e rest) = ReadsWell table s ×
-    RideReads table source v q u k a rest
-RideReads table source _ _ _ _ _ (asks {s} e) = ReadsWell table s
+-- Behind the mark of such a clean-up, which is come to or unwound, the steps from four states find that variable and read it.
+abbrev pub reading_by : Bool → ℕ
+reading_by true = 4
+reading_by false = 0
 
-abbrev pub MayRead : (table : Table) (source : Source) (opts : Options) (input : List ℕ) (j : Journal) (w : World) (a : List Entry) (x : World) →
-    May source opts input j w a x → Type 0
-MayRead table source opts input j w _ _ (gives p t s h) = Unit {0}
-MayRead table source opts input j w _ _ (no_room p t s h) = Unit {0}
-MayRead table source opts input j w _ _ (acts p t n s asked d) = RideReads table source (answered source d.given (drawn j w t)) (left opts j t) s n asked d.rides
+abbrev pub reading : List Todo → ℕ
+reading (Clean c ∷ todo) = reading_by (ends_variable c)
+reading (Unwind ∷ (Clean c ∷ todo)) = reading_by (ends_variable c)
+reading todo = 0
 
-abbrev pub RunReads : (table : Table) (source : Source) (input : List ℕ) (opts : Options) (j : Journal) (w : World) →
-    Runs source input opts j w → Type 0
-RunReads table source input opts _ _ begun = Unit {0}
-RunReads table source input opts _ _ (more {j} {w} {a} {w' = x} r o m) = RunReads table source input opts j w r ×
-    MayRead table source opts input j w a x m
+-- behind a state, by how many of them are left with it
+abbrev pub still_reading : ℕ → List Todo → ℕ
+still_reading zero todo = reading todo
+still_reading (suc n) todo = n
+
+-- What holds of the states of a ride, each with how many of those are left with it; of an act, and of each act of a run.
+abbrev pub RideHolds : (P : ℕ → State → Type 0) (source : Source) (n : ℕ) (s : State) (q : ℕ)
+    (u : State) (k : ℕ) (a : Asked) → Rides source s q u k a → Type 0
+RideHolds P source n _ _ _ _ _ slices = Unit {0}
+RideHolds P source n _ _ _ _ _ (goes_on {s} {t = v} {u} {q} {k} {a} e rest) = P n s ×
+    RideHolds P source (still_reading n s.run.control) v (suc q) u k a rest
+RideHolds P source n _ _ _ _ _ (ticks {s} {t = v} {u} {q} {k} {a} e rest) = P n s ×
+    RideHolds P source (still_reading n s.run.control) v q u k a rest
+RideHolds P source n _ _ _ _ _ (asks {s} e) = P n s
+
+abbrev pub MayHold : (P : ℕ → State → Type 0) (source : Source) (opts : Options) (input : List ℕ)
+    (j : Journal) (w : World) (a : List Entry) (x : World) → May source opts input j w a x → Type 0
+MayHold P source opts input j w _ _ (gives p t s h) = Unit {0}
+MayHold P source opts input j w _ _ (no_room p t s h) = Unit {0}
+MayHold P source opts input j w _ _ (acts p t k s asked d) =
+    RideHolds P source 0 (answered source d.given (drawn j w t)) (left opts j t) s k asked d.rides
+
+abbrev pub RunHolds : (P : ℕ → State → Type 0) (source : Source) (input : List ℕ) (opts : Options)
+    (j : Journal) (w : World) → Runs source input opts j w → Type 0
+RunHolds P source input opts _ _ begun = Unit {0}
+RunHolds P source input opts _ _ (more {j} {w} {a} {w' = x} r o m) = RunHolds P source input opts j w r ×
+    MayHold P source opts input j w a x m
+
+-- so it holds of the states on the way to one
+abbrev pub LeadsHold : (P : ℕ → State → Type 0) (source : Source) (n : ℕ) (s u : State) →
+    Leads source s u → Type 0
+LeadsHold P source n _ _ stays = Unit {0}
+LeadsHold P source n _ _ (goes {s} {u} {v} e l) = P n s ×
+    LeadsHold P source (still_reading n s.run.control) u v l
+LeadsHold P source n _ _ (by_tick {s} {u} {v} e l) = P n s ×
+    LeadsHold P source (still_reading n s.run.control) u v l
+
+-- What is read of bindings is of its type.
+abbrev pub Reading : Table → ℕ → State → Type 0
+Reading table n s = ReadsIn table s
+
+-- A state that is in order is so by a typing by which what its next step reads at a place, or of a field of the object at hand, is of
+-- its type, or by which the place is that of an element of an array in scope. Of variables that are read by their names it says nothing,
+-- and of such elements not what they hold.
+abbrev pub PlacesIn : Table → State → Type 0
+PlacesIn table s = Typed table [] s → (x : Typed table [] s) ×
+    (ReadsPlace table x.run.sig s s.run.control x.run.own ⊎
+    ReadsElement x.run.scope s s.run.control x.run.own)
+
+-- So it is, but for the states in which a clean-up finds and reads the variable that it ends.
+abbrev pub Following : Table → ℕ → State → Type 0
+Following table zero s = PlacesIn table s
+Following table (suc n) s = Unit {0}
 
 -- A task that has asked for an answer of this form is in order with the operands that its answer brings.
 pub record Awaits (table : Table) (source : Source) (form : Form) (s : State) : Type 0 where
@@ -65,24 +113,38 @@ abbrev pub AtHome : Table → Option Members → Type 0
 AtHome table None = Unit {0}
 AtHome table (Some m) = Parked table m.parked
 
--- the world that a journal leaves
-pub record IsTyped (table : Table) (source : Source) (j : Journal) (w : World) : Type 0 where
+-- the world that a journal leaves, and whoever runs, as far as Led holds of its way
+pub record IsTyped (table : Table) (source : Source) (Led : (s u : State) → Leads source s u → Type 0)
+    (j : Journal) (w : World) : Type 0 where
   pub tasks : (t : ℕ) → has_ended t j ≡ false → Awaits table source (asked_form t j) (w.tasks t)
   pub homes : (o : ℕ) → AtHome table (w.homes o)
-  -- whoever runs, told its answer and with its hand
-  pub runs : (p t : ℕ) (a : Answer) → running p j ≡ t ∷ [] → answer_to source.sites t j ≡ Some a →
-      Typed table [] (answered source a (drawn j w t))
+  -- whoever runs, told its answer and with its hand, in each state to which it comes before it asks
+  pub comes : (t : ℕ) (s : State) (c : Comes source j w t s) →
+      Led (answered source c.given (drawn j w t)) s c.leads → Typed table [] s
+  -- there each piece finds what it takes: as many operands, a place, an object, its routine
+  pub finds : (t : ℕ) (s : State) (c : Comes source j w t s) →
+      Led (answered source c.given (drawn j w t)) s c.leads →
+      (p : Todo) (todo : List Todo) → s.run.control ≡ p ∷ todo → Finds source p s
 
+-- Of each sound source, where all was of its type that was read of bindings.
 abbrev pub LawTypedRuns : Type 0
 LawTypedRuns =
     (table : Table) (source : Source) (input : List ℕ) (opts : Options) (j : Journal) (w : World) (r : Runs source input opts j w) →
     Sound table source → IsTask table source.main → InRange opts → RunFits source input opts j w r →
-    RunReads table source input opts j w r → is_over j ≡ false → IsTyped table source j w
+    RunHolds (Reading table) source input opts j w r → is_over j ≡ false →
+    IsTyped table source (LeadsHold (Reading table) source 0) j w
 
+-- scopes open on the way as they are to, and what is read at places is of its type
+abbrev pub LeadsFollowing : (p : Program) (s u : State) → Leads (source_of p) s u → Type 0
+LeadsFollowing p s u l = LeadsOpen (source_of p) s u l ×
+    LeadsHold (Following (table_of p)) (source_of p) 0 s u l
+
+-- Of each program whose text is accepted, where each scope of what is known by its number opened where its variable holds an object, and
+-- all was of its type that was read at places and of fields of the object at hand, but by the clean-ups of such variables.
 abbrev pub LawTypedTexts : Type 0
 LawTypedTexts =
     (text : List ℕ) (p : Program) → IsTextOf text p →
     (input : List ℕ) (opts : Options) (j : Journal) (w : World) (r : Runs (source_of p) input opts j w) →
-    InRange opts → RunFits (source_of p) input opts j w r →
-    RunReads (table_of p) (source_of p) input opts j w r → is_over j ≡ false →
-    IsTyped (table_of p) (source_of p) j w
+    InRange opts → RunFits (source_of p) input opts j w r → RunOpens (source_of p) input opts j w r →
+    RunHolds (Following (table_of p)) (source_of p) input opts j w r → is_over j ≡ false →
+    IsTyped (table_of p) (source_of p) (LeadsFollowing p) j w

@@ -3,13 +3,16 @@
 ghost use Rattle.uc_typed_runs.specs.TypedRuns.{LawTypedRuns, LawTypedTexts};
 
 /// In a run of a sound source, in which all that was asked fits and all that was read of bindings is
-/// of its type, the world is in order while the run goes on, and so is whoever runs, with its answer
-/// and its hand.
+/// of its type, the world is in order while the run goes on. So is whoever runs, with its answer and
+/// its hand, in each state to which it comes before it asks, as long as it reads so, and each piece
+/// finds there what it takes.
 pub fn law_typed_runs()
     ensures { LawTypedRuns }
 {}
 
-/// So it is in each such run of a program whose text is accepted.
+/// So it is in each run of a program whose text is accepted in which all that was asked fits, scopes
+/// opened where their variables hold objects, and all is of its type that was read at places and of
+/// fields of the object at hand, but by clean-ups of variables.
 pub fn law_typed_texts()
     ensures { LawTypedTexts }
 {}

@@ -21,7 +21,7 @@ module _ (t : Table) where
   brought a given v s x i = record {
     sigs = x.sigs;
     frames = x.frames;
-    run = record { sig = x.run.sig; own = a ∷ x.run.own; scope = x.run.scope; frame = x.run.frame; values = (i, x.run.values); this = x.run.this; ok = x.run.ok };
+    run = record { sig = x.run.sig; own = a ∷ x.run.own; scope = x.run.scope; base = x.run.base; frame = x.run.frame; values = (i, x.run.values); this = x.run.this; ok = x.run.ok; ends = x.run.ends };
     callers = x.callers;
     idle = x.idle;
   }
@@ -117,7 +117,7 @@ module _ (t : Table) (source : Source) (sound : Sound t source) where
   begins r n h = begins_by (slice_get source.routines r) r n refl h
 
   after : (s : State) (step : Step) → quiet source s ≡ step → Typed t [] s → ReadsIn t s → After t source step
-  after s step e x r = subst (After t source) e (keeps t source sound s x (r x))
+  after s step e x r = subst (After t source) e (keeps t source sound s (r x).0 (r x).1)
 
   reached : (s u : State) → GoesOn t source s u → ((v : State) → GoesOn t source s v → ReadsIn t v) → Typed t [] s → Typed t [] u
   reached s _ stays r x = x

@@ -11,7 +11,7 @@ use Rattle.uc_typing.specs.Pieces as on
 use Rattle.uc_typing.specs.Pieces.{IsNone, onto, item_tys, Exits, nums, guard_tys, Popped, Reached, Met, Ok, Left}
 use Rattle.uc_typing.proofs.Operands.{either}
 
-module _ (t : Table) (g : Sig) where
+module _ (t : Table) (g : Sig) (base : List Name) where
   -- behind a simple piece something is in order for some operands
   stepped : (sc : List Name) (p : Todo) (own : List Ty) (K : List Ty → Type 0) (X : Type 0) → ((own : List Ty) → K own → X) → on.Step t g sc p own K → X
   stepped sc (pc.Eval e) own K X f h = f _ h.2
@@ -101,7 +101,7 @@ module _ (t : Table) (g : Sig) where
   stepped sc _ own K X f h = absurd h
 
   -- what is in order is so for an exit
-  met : (sc : List Name) (q : pc.Sort) (own : List Ty) (X : Type 0) (todo : List Todo) → (X → Left t g sc todo) → ((sc : List Name) (own : List Ty) → Ok t g sc todo own → Left t g sc todo) → Reached t g sc q own X (λ sc. Ok t g sc todo) → Met t g sc q (λ sc. Left t g sc todo) (λ sc. Ok t g sc todo)
+  met : (sc : List Name) (q : pc.Sort) (own : List Ty) (X : Type 0) (todo : List Todo) → (X → Left t g base sc todo) → ((sc : List Name) (own : List Ty) → Ok t g base sc todo own → Left t g base sc todo) → Reached t g sc q own X (λ sc. Ok t g base sc todo) → Met t g sc q (λ sc. Left t g base sc todo) (λ sc. Ok t g base sc todo)
   met sc pc.Simple own X todo f k h = f h
   met sc (pc.IsLoop o x e b) own X todo f k h = (h.1, h.2, k sc [] h.2)
   met sc pc.IsWhole own X todo f k h = (h.1, h.2)
@@ -114,18 +114,18 @@ module _ (t : Table) (g : Sig) where
   met sc pc.IsFinish own X todo f k h = h
   met sc pc.IsFinishCoroutine own X todo f k h = h
 
-  pub left : (sc : List Name) (todo : List Todo) (own : List Ty) → Ok t g sc todo own → Left t g sc todo
-  left sc [] own h = tt
+  pub left : (sc : List Name) (todo : List Todo) (own : List Ty) → Ok t g base sc todo own → Left t g base sc todo
+  left sc [] own h = h
   left sc (pc.Exit w ∷ todo) own h = h.1
   left sc (pc.Unwind ∷ todo) own h = h
-  left sc (p ∷ todo) own h = met sc (pc.sort p) own (on.Step t g sc p own (Ok t g sc todo)) todo (stepped sc p own (Ok t g sc todo) (Left t g sc todo) (left sc todo)) (λ sc. left sc todo) h
+  left sc (p ∷ todo) own h = met sc (pc.sort p) own (on.Step t g sc p own (Ok t g base sc todo)) todo (stepped sc p own (Ok t g base sc todo) (Left t g base sc todo) (left sc todo)) (λ sc. left sc todo) h
 
-  from_none : (sc : List Name) (todo : List Todo) (own : List Ty) → IsNone own → Ok t g sc todo [] → Ok t g sc todo own
+  from_none : (sc : List Name) (todo : List Todo) (own : List Ty) → IsNone own → Ok t g base sc todo [] → Ok t g base sc todo own
   from_none sc todo [] n h = h
   from_none sc todo (a ∷ more) n h = absurd n
 
   -- an exit leaves a piece
-  pub exit_left : (sc : List Name) (w : Way) (s : pc.Sort) (todo : List Todo) (own : List Ty) → Exits t g w own → Met t g sc s (λ sc. Left t g sc todo) (λ sc. Ok t g sc todo) → Ok t g sc (q.left_behind w s todo) own
+  pub exit_left : (sc : List Name) (w : Way) (s : pc.Sort) (todo : List Todo) (own : List Ty) → Exits t g w own → Met t g sc s (λ sc. Left t g base sc todo) (λ sc. Ok t g base sc todo) → Ok t g base sc (q.left_behind w s todo) own
   exit_left sc w pc.Simple todo own x h = (x, h)
   exit_left sc ToBreak (pc.IsLoop o e step b) todo own x h = from_none sc todo own x h.1
   exit_left sc ToContinue (pc.IsLoop o e step b) todo own x h = (x, h.0, h.1)
@@ -145,22 +145,22 @@ module _ (t : Table) (g : Sig) where
   exit_left sc w pc.IsFinishCoroutine todo own x h = h
 
   -- loops
-  test_ok : (sc : List Name) (o : Order) (e : Expr) (step : Option Expr) (b : Stmt) (todo : List Todo) → FineLoop t g sc e step b → Ok t g sc todo [] → Ok t g sc (q.test_todo o e step b todo) []
+  test_ok : (sc : List Name) (o : Order) (e : Expr) (step : Option Expr) (b : Stmt) (todo : List Todo) → FineLoop t g sc e step b → Ok t g base sc todo [] → Ok t g base sc (q.test_todo o e step b todo) []
   test_ok sc TestFirst e step b todo f h = (Num, f.0, (tt, f, h))
   test_ok sc BodyFirst e step b todo f h = (Num, f.0, (tt, f, h))
   test_ok sc NoTest e step b todo f h = (tt, f, h)
 
-  pub loop_ok : (sc : List Name) (o : Order) (e : Expr) (step : Option Expr) (b : Stmt) (todo : List Todo) → FineLoop t g sc e step b → Ok t g sc todo [] → Ok t g sc (q.loop_todo o e step b todo) []
+  pub loop_ok : (sc : List Name) (o : Order) (e : Expr) (step : Option Expr) (b : Stmt) (todo : List Todo) → FineLoop t g sc e step b → Ok t g base sc todo [] → Ok t g base sc (q.loop_todo o e step b todo) []
   loop_ok sc TestFirst e step b todo f h = test_ok sc TestFirst e step b todo f h
   loop_ok sc BodyFirst e step b todo f h = (tt, f, h)
   loop_ok sc NoTest e step b todo f h = (tt, f, h)
 
-  pub turn_ok : (sc : List Name) (o : Order) (e : Expr) (step : Option Expr) (b : Stmt) (todo : List Todo) → FineLoop t g sc e step b → Ok t g sc todo [] → Ok t g sc (q.step_todo step (q.test_todo o e step b todo)) []
+  pub turn_ok : (sc : List Name) (o : Order) (e : Expr) (step : Option Expr) (b : Stmt) (todo : List Todo) → FineLoop t g sc e step b → Ok t g base sc todo [] → Ok t g base sc (q.step_todo step (q.test_todo o e step b todo)) []
   turn_ok sc o e None b todo f h = test_ok sc o e None b todo f h
   turn_ok sc o e (Some a) b todo f h = (f.1.0, f.1.1, test_ok sc o e (Some a) b todo f h)
 
   -- clean-ups
-  pub clean_ok : (sc : List Name) (c : CleanUp) (todo : List Todo) (own : List Ty) → FineClean t g sc c → Ok t g sc todo own → Ok t g sc (pc.clean_todo c todo) own
+  pub clean_ok : (sc : List Name) (c : CleanUp) (todo : List Todo) (own : List Ty) → FineClean t g sc c → Ok t g base sc todo own → Ok t g base sc (pc.clean_todo c todo) own
   clean_ok sc (Destroys e) todo own f h = (f.0, f.1, h)
   clean_ok sc (DestroysAll n e) todo own f h = (f, h)
   clean_ok sc Unwinds todo own f h = (f, h)
@@ -172,7 +172,7 @@ module _ (t : Table) (g : Sig) where
   clean_ok sc (Restores k) todo own f h = h
 
   -- behind a scope that an event leaves
-  pub left_clean_ok : (sc : List Name) (c : CleanUp) (todo : List Todo) (own : List Ty) → FineClean t g sc c → Ok t g sc todo own → Ok t g sc (r.left_todo c todo) own
+  pub left_clean_ok : (sc : List Name) (c : CleanUp) (todo : List Todo) (own : List Ty) → FineClean t g sc c → Ok t g base sc todo own → Ok t g base sc (r.left_todo c todo) own
   left_clean_ok sc (Frees o) todo own f h = (f.0, h)
   left_clean_ok sc (Destroys e) todo own f h = (f.0, f.1, h)
   left_clean_ok sc (DestroysAll n e) todo own f h = (f, h)
@@ -182,12 +182,12 @@ module _ (t : Table) (g : Sig) where
   left_clean_ok sc Ends todo own f h = (f, h)
   left_clean_ok sc (Restores k) todo own f h = h
 
-  pub fill_ok : (sc : List Name) (b : Bool) (n : ℕ) (e d : Expr) (todo : List Todo) (own : List Ty) → Fine t g sc e → Fine t g sc d → Ok t g sc todo own → Ok t g sc (q.fill_todo b n e d todo) own
+  pub fill_ok : (sc : List Name) (b : Bool) (n : ℕ) (e d : Expr) (todo : List Todo) (own : List Ty) → Fine t g sc e → Fine t g sc d → Ok t g base sc todo own → Ok t g base sc (q.fill_todo b n e d todo) own
   fill_ok sc false n e d todo own f k h = h
   fill_ok sc true n e d todo own f k h = (f.0, f.1, (f, k, h))
 
   -- a value as it is kept
-  pub converted_ok : (sc : List Name) (s : Shape) (todo : List Todo) (own : List Ty) → Ok t g sc todo (Num ∷ own) → Ok t g sc (converting s todo) (Num ∷ own)
+  pub converted_ok : (sc : List Name) (s : Shape) (todo : List Todo) (own : List Ty) → Ok t g base sc todo (Num ∷ own) → Ok t g base sc (converting s todo) (Num ∷ own)
   converted_ok sc Integer todo own h = h
   converted_ok sc Character todo own h = h
   converted_ok sc Truth todo own h = h
@@ -197,14 +197,15 @@ module _ (t : Table) (g : Sig) where
   converted_ok sc (Array n a) todo own h = h
 
   -- events
-  pub raised_ok : (sc : List Name) (x : Raised) (todo : List Todo) → FineRaised t g sc x → Ok t g sc todo (Num ∷ (Num ∷ (Num ∷ []))) → Ok t g sc (r.raised_todo x todo) []
+  pub raised_ok : (sc : List Name) (x : Raised) (todo : List Todo) → FineRaised t g sc x → Ok t g base sc todo (Num ∷ (Num ∷ (Num ∷ []))) → Ok t g base sc (r.raised_todo x todo) []
   raised_ok sc (Plainly n) todo f o = (Num, refl, (Num, refl, (Num, refl, o)))
   raised_ok sc (BuiltAt n k e) todo f o = (f.0, (f.1.0, f.1.1, (Num, refl, (Num, inr (inl refl), (Num, inr (inl refl), o)))))
   raised_ok sc (AgainFrom k) todo f o = (Num, inr (inl refl), (Num, inr (inl refl), (Num, inr (inl refl), o)))
 
-  pub handler_ok : (sc : List Name) (h : r.Handler) (todo : List Todo) → FineStmts t g sc h.body → Ok t g sc todo [] → Ok t g sc (r.handler_todo h todo) (Num ∷ (Num ∷ (Num ∷ [])))
+  pub handler_ok : (sc : List Name) (h : r.Handler) (todo : List Todo) → FineStmts t g sc h.body → Ok t g base sc todo [] → Ok t g base sc (r.handler_todo h todo) (Num ∷ (Num ∷ (Num ∷ [])))
   handler_ok sc h todo f o = (tt, f, (tt, o))
 
+module _ (t : Table) (g : Sig) where
   abbrev pub FineHandler : List Name → r.Handler → Type 0
   FineHandler sc h = FineStmts t g sc h.body
 

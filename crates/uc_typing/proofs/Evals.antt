@@ -7,7 +7,7 @@ use Rattle.uc_machine.specs.Quiet.{Value, Slot, FieldAt, Env, State, Todo, at, i
 use Rattle.uc_machine.specs.Pieces as pc
 use Rattle.uc_typing.specs.Typing.{Ty, Num, Cell, Obj, Raw, Row, Clu, Pro, Name, Sig, Table, object_ty, raw, IsPlaced, InScope, IsRead, IsHeld, Yields, ObjectGives}
 use Rattle.uc_typing.specs.Pieces.{onto, Ok}
-use Rattle.uc_typing.specs.States.{IsObjectBy, IsObject, Is, Values, Bound, Framed, IsThis, Waits, Typed, After, Reads, Idle, Sound}
+use Rattle.uc_typing.specs.States.{IsObjectBy, IsObject, Is, Values, Bound, Framed, IsThis, IsBase, Waits, Typed, After, Reads, Idle, Sound}
 use Rattle.uc_typing.proofs.Frames.{held, framed_at, exec_same}
 use Rattle.uc_typing.proofs.Operands.{further_field, is_raw}
 use Rattle.uc_typing.proofs.Control.{converted_ok}
@@ -15,21 +15,21 @@ use Rattle.uc_typing.proofs.Control.{converted_ok}
 cell_min : (k : ℕ) → k ≤ LAST_ADDRESS → address (Slot k ∷ []) ≡ k
 cell_min k l = omega (arith, l)
 
-module _ (t : Table) (source : Source) (sound : Sound t source) (s : State) (sigs : List Sig) (g : Sig) (sc : List Name) (frames : Framed t sigs s.env.frames) (frame : at_depth sigs s.run.frame ≡ Some g) (this : IsThis t g.this s.run.this) (callers : Waits t (others sigs) s.callers) (idle : Idle t s.env) where
+module _ (t : Table) (source : Source) (sound : Sound t source) (s : State) (sigs : List Sig) (g : Sig) (base sc : List Name) (frames : Framed t sigs s.env.frames) (frame : at_depth sigs s.run.frame ≡ Some g) (this : IsThis t g.this s.run.this) (callers : Waits t (others sigs) s.callers) (idle : Idle t s.env) (ends : IsBase t g s.run.handles base s.run.frame s.callers) where
   -- the running activation goes on with this to do
-  pub put_in : (inner : List Name) (given own : List Ty) (todo : List Todo) (vs : List Value) (e : Env) (n : ℕ) → Idle t e → Framed t sigs e.frames → Ok t g inner todo (onto given own) → Values t own vs → Typed t given (at todo vs (in_env e (with_elements n s)))
+  pub put_in : (inner : List Name) (given own : List Ty) (todo : List Todo) (vs : List Value) (e : Env) (n : ℕ) → Idle t e → Framed t sigs e.frames → Ok t g base inner todo (onto given own) → Values t own vs → Typed t given (at todo vs (in_env e (with_elements n s)))
   put_in inner given own todo vs e n i f o h = record {
     sigs = sigs;
     frames = f;
-    run = record { sig = g; own = own; scope = inner; frame = frame; values = h; this = this; ok = o };
+    run = record { sig = g; own = own; scope = inner; base = base; frame = frame; values = h; this = this; ok = o; ends = ends };
     callers = callers;
     idle = i;
   }
 
-  pub goes : (inner : List Name) (own : List Ty) (todo : List Todo) (vs : List Value) → Ok t g inner todo own → Values t own vs → Typed t [] (at todo vs s)
+  pub goes : (inner : List Name) (own : List Ty) (todo : List Todo) (vs : List Value) → Ok t g base inner todo own → Values t own vs → Typed t [] (at todo vs s)
   goes inner own todo vs o h = put_in inner [] own todo vs s.env s.run.elements idle frames o h
 
-  pub asks : (inner : List Name) (own : List Ty) (todo : List Todo) (vs : List Value) → Ok t g inner todo (Num ∷ own) → Values t own vs → Typed t (Num ∷ []) (at todo vs s)
+  pub asks : (inner : List Name) (own : List Ty) (todo : List Todo) (vs : List Value) → Ok t g base inner todo (Num ∷ own) → Values t own vs → Typed t (Num ∷ []) (at todo vs s)
   asks inner own todo vs o h = put_in inner (Num ∷ []) own todo vs s.env s.run.elements idle frames o h
 
   -- the object at hand
@@ -59,8 +59,8 @@ module _ (t : Table) (source : Source) (sound : Sound t source) (s : State) (sig
   held_is k a l (inr (inr h)) = l h.1 a h.0
 
   -- the same to do for a number
-  num : (todo : List Todo) (own : List Ty) (a : Ty) → a ≡ Num → Ok t g sc todo (a ∷ own) → Ok t g sc todo (Num ∷ own)
-  num todo own a e o = subst (λ a. Ok t g sc todo (a ∷ own)) e o
+  num : (todo : List Todo) (own : List Ty) (a : Ty) → a ≡ Num → Ok t g base sc todo (a ∷ own) → Ok t g base sc todo (Num ∷ own)
+  num todo own a e o = subst (λ a. Ok t g base sc todo (a ∷ own)) e o
 
   -- arguments with the object below them, of a constructor that builds it
   raw_below : (ps own : List Ty) (b : Bool) (c : ℕ) → b ≡ true → onto ps (Raw c ∷ own) ≡ onto ps (object_ty b c ∷ own)
@@ -69,7 +69,7 @@ module _ (t : Table) (source : Source) (sound : Sound t source) (s : State) (sig
   none_onto : (ps own : List Ty) → [] ≡ ps → own ≡ onto ps own
   none_onto ps own e = ap (λ l. onto l own) e
 
-  object : (o : ObjectExpr) (a : Ty) (todo : List Todo) (own : List Ty) → Reads t g sc s (pc.Eval (OfObject o) ∷ todo) own → ObjectGives t g sc o a → Ok t g sc todo (a ∷ own) → Values t own s.run.operands → After t source (object_step o todo s)
+  object : (o : ObjectExpr) (a : Ty) (todo : List Todo) (own : List Ty) → Reads t g sc s (pc.Eval (OfObject o) ∷ todo) own → ObjectGives t g sc o a → Ok t g base sc todo (a ∷ own) → Values t own s.run.operands → After t source (object_step o todo s)
   object This a todo own l f o h = goes sc (a ∷ own) todo _ o (subst (λ a. Is t a s.run.this) (sym f.2) (this_is f.0 f.1), h)
   object (OwnField k i) a todo own l f o h = goes sc (a ∷ own) todo _ o (field f.4, h)
     where
@@ -81,10 +81,10 @@ module _ (t : Table) (source : Source) (sound : Sound t source) (s : State) (sig
     where
       read : IsRead t a → Is t a (loaded (further (FieldAt k i) s.run.this) s.env)
       read (inl e) = subst (λ a. Is t a (loaded (further (FieldAt k i) s.run.this) s.env)) (sym e) tt
-      read (inr r) = l r f.0 a f.1 f.3
+      read (inr r) = l.1 r f.0 a f.1 f.3
   object Counted a todo own l f o h = goes sc (Num ∷ own) todo _ (num todo own a f o) (tt, h)
   object (FieldOf k i e) a todo own l f o h =
-      goes sc own _ _ (Obj f.0, f.1, (f.2, f.4, subst (λ a. Ok t g sc todo (a ∷ own)) f.3 o)) h
+      goes sc own _ _ (Obj f.0, f.1, (f.2, f.4, subst (λ a. Ok t g base sc todo (a ∷ own)) f.3 o)) h
   object (CallOn r e args) a todo own l f o h =
       goes sc own _ _ (object_ty (t.routine r).whole f.1.0, f.1.1, ((t.routine r).params, f.2, (own, f.1.0, (refl, f.1.2, f.1.3), num todo own a f.0 o))) h
   object (CallUnwritten r e) a todo own l f o h =
@@ -104,8 +104,8 @@ module _ (t : Table) (source : Source) (sound : Sound t source) (s : State) (sig
       goes sc own _ _ (Cell (Raw f.1.0), f.1.1, ((t.routine r).params, f.2, (own, f.1.0, (refl, f.1.3, f.1.5, f.1.6), (own, f.1.0, (raw_below (t.routine r).params own (t.routine r).whole f.1.0 f.1.4, f.1.2, f.1.3), num todo own a f.0 o)))) h
   object (MakeOn n r true e args) a todo own l f o h =
       goes sc own _ _ (Cell (Raw f.1.0), f.1.1, ((t.routine r).params, f.2, (own, f.1.0, (refl, f.1.3, f.1.5, f.1.6), (own, f.1.0, (raw_below (t.routine r).params own (t.routine r).whole f.1.0 f.1.4, f.1.2, f.1.3), num todo own a f.0 o)))) h
-  object NewCluster a todo own l f o h = goes sc own _ _ (subst (λ a. Ok t g sc todo (a ∷ own)) f o) h
-  object (NewProcessor e) a todo own l f o h = goes sc own _ _ (f.1.0, f.1.1, (f.1.2, subst (λ a. Ok t g sc todo (a ∷ own)) f.0 o)) h
+  object NewCluster a todo own l f o h = goes sc own _ _ (subst (λ a. Ok t g base sc todo (a ∷ own)) f o) h
+  object (NewProcessor e) a todo own l f o h = goes sc own _ _ (f.1.0, f.1.1, (f.1.2, subst (λ a. Ok t g base sc todo (a ∷ own)) f.0 o)) h
   object (EndCluster e) a todo own l f o h = goes sc own _ _ (Clu, f.1, num todo own a f.0 o) h
   object (EndProcessor e) a todo own l f o h = goes sc own _ _ (Pro, f.1, num todo own a f.0 o) h
   object (ConditionAt k n e) a todo own l f o h = goes sc own _ _ (Num, f.1, num todo own a f.0 o) h
@@ -115,11 +115,11 @@ module _ (t : Table) (source : Source) (sound : Sound t source) (s : State) (sig
   object (IsEmpty e) a todo own l f o h = goes sc own _ _ (Num, f.2, (f.1, num todo own a f.0 o)) h
   object (FrontOf e) a todo own l f o h = goes sc own _ _ (Num, f.2, (f.1, num todo own a f.0 o)) h
 
-  pub eval : (e : Expr) (a : Ty) (todo : List Todo) (own : List Ty) → Reads t g sc s (pc.Eval e ∷ todo) own → Yields t g sc e a → Ok t g sc todo (a ∷ own) → Values t own s.run.operands → After t source (eval_step e todo s)
+  pub eval : (e : Expr) (a : Ty) (todo : List Todo) (own : List Ty) → Reads t g sc s (pc.Eval e ∷ todo) own → Yields t g sc e a → Ok t g base sc todo (a ∷ own) → Values t own s.run.operands → After t source (eval_step e todo s)
   eval (Literal n) a todo own l f o h = goes sc (Num ∷ own) todo _ (num todo own a f o) (tt, h)
   eval (Variable k) a todo own l f o h = goes sc (a ∷ own) todo _ o (slot_is a k f.1, h)
   eval (Element n k e i) a todo own l f o h = goes sc own _ _ (Row n a, f.1, (Num, f.2, (refl, f.0, o))) h
-  eval (Get k) a todo own l f o h = goes sc (a ∷ own) todo _ o (held_is k a l f, h)
+  eval (Get k) a todo own l f o h = goes sc (a ∷ own) todo _ o (held_is k a l.0 f, h)
   eval (Load e) a todo own l f o h = goes sc own _ _ (Cell a, f.1, (f.0, o)) h
   eval (Negated e) a todo own l f o h = goes sc own _ _ (Num, f.1, num todo own a f.0 o) h
   eval (Not e) a todo own l f o h = goes sc own _ _ (Num, f.1, num todo own a f.0 o) h
@@ -130,9 +130,9 @@ module _ (t : Table) (source : Source) (sound : Sound t source) (s : State) (sig
   eval (Or e i) a todo own l f o h = goes sc own _ _ (Num, f.1, (refl, (refl, f.2), num todo own a f.0 o)) h
   eval (Assign p e) a todo own l f o h = goes sc own _ _ (Cell Num, f.1, (Num, f.2, num todo own a f.0 o)) h
   eval (Update op k p e) a todo own l f o h =
-      goes sc own _ _ (Cell Num, f.1, (inl refl, (Num, f.2, converted_ok t g sc k (pc.KeepNow ∷ todo) (Cell Num ∷ own) (num todo own a f.0 o)))) h
+      goes sc own _ _ (Cell Num, f.1, (inl refl, (Num, f.2, converted_ok t g base sc k (pc.KeepNow ∷ todo) (Cell Num ∷ own) (num todo own a f.0 o)))) h
   eval (StepBehind op k p) a todo own l f o h =
-      goes sc own _ _ (Cell Num, f.1, (inl refl, (Num, refl, converted_ok t g sc k (pc.StoreNow ∷ (pc.DropBelowNow ∷ todo)) (Cell Num ∷ (Num ∷ (Cell Num ∷ own))) (num todo own a f.0 o)))) h
+      goes sc own _ _ (Cell Num, f.1, (inl refl, (Num, refl, converted_ok t g base sc k (pc.StoreNow ∷ (pc.DropBelowNow ∷ todo)) (Cell Num ∷ (Num ∷ (Cell Num ∷ own))) (num todo own a f.0 o)))) h
   eval Fail a todo own l f o h = asks sc own todo _ (num todo own a f o) h
   eval (Set k e) a todo own l f o h = goes sc own _ _ (Num, f.1, num todo own a f.0 o) h
   eval (First e i) a todo own l f o h = goes sc own _ _ (a, f.0, (f.1.0, f.1.1, o)) h

@@ -114,14 +114,14 @@ module _ (t : Table) (source : Source) (sound : Sound t source) where
   makes n r own more c vs m h =
       below_args r (Cell (Raw c)) more vs IsPlace m.1 (subst (λ l. Values t l vs) m.0 h) (λ v i. place t (Cell (Obj c)) v i)
 
-  module _ (s : State) (g : Sig) (sc : List Name) (this : IsThis t g.this s.run.this) where
+  module _ (s : State) (g : Sig) (base sc : List Name) (this : IsThis t g.this s.run.this) where
     this_fields : Executing t g → HasFields s.run.this
     this_fields e = fields t e.0 s.run.this (subst (λ o. IsThis t o s.run.this) e.1 this)
 
     this_number : InMutex t g → IsNumbered s.run.this
     this_number e = numbered t e.0 s.run.this e.2 (subst (λ o. IsThis t o s.run.this) e.1 this)
 
-    finds : (p : Todo) (todo : List Todo) (own : List Ty) → Ok t g sc (p ∷ todo) own → Values t own s.run.operands → Finds source p s
+    finds : (p : Todo) (todo : List Todo) (own : List Ty) → Ok t g base sc (p ∷ todo) own → Values t own s.run.operands → Finds source p s
     finds pc.LoadNow todo (Cell a ∷ own) o h = place t (Cell (whole a)) (top s.run.operands) (newest t (Cell a) own s.run.operands h)
     finds pc.LoadNow todo _ o h = absurd o
     finds (pc.ElementNow n k) todo (Num ∷ (Row m a ∷ own)) o h = (two t Num (Row m a) own s.run.operands h, place t (Row m (whole a)) (top (below s.run.operands)) (next t Num (Row m a) own s.run.operands h))
@@ -224,4 +224,4 @@ module _ (t : Table) (source : Source) (sound : Sound t source) where
 
 pub law_finds : LawFinds
 law_finds t source sound s x p todo e =
-    finds t source sound s x.run.sig x.run.scope x.run.this p todo x.run.own (subst (λ l. Ok t x.run.sig x.run.scope l x.run.own) e x.run.ok) x.run.values
+    finds t source sound s x.run.sig x.run.base x.run.scope x.run.this p todo x.run.own (subst (λ l. Ok t x.run.sig x.run.base x.run.scope l x.run.own) e x.run.ok) x.run.values

@@ -131,12 +131,17 @@ module _ (t : Table) where
   pub born_ok : (h : Home) (x : Ex) (e : Env) → MaybeRests t (Some x) → Idle t e → Idle t (sw.born h x e)
   born_ok h x e r i = change_ok h (sw.one_more x) e (λ m p. more_parked m.serial x m.parked r p) i
 
+  same_rests : (x y : Ex) → x.run ≡ y.run → x.callers ≡ y.callers → x.frames ≡ y.frames → Rests t x → Rests t y
+  same_rests x y a b c r = record {
+    sigs = r.sigs;
+    frames = subst (Framed t r.sigs) c r.frames;
+    run = subst (λ (e : Active). Active_is t r.sigs [] y.callers e) a (subst (λ (cs : List Active). Active_is t r.sigs [] cs x.run) b r.run);
+    callers = subst (Waits t (others r.sigs)) b r.callers;
+  }
+
   linked : (g : Stage) (x y : Ex) → x.run ≡ y.run → x.callers ≡ y.callers → x.frames ≡ y.frames → RestsBy t g x → RestsBy t g y
-  linked Fresh x y a b c r = again x y a b c r
-    where
-      again : (x y : Ex) → x.run ≡ y.run → x.callers ≡ y.callers → x.frames ≡ y.frames → Rests t x → Rests t y
-      again x y a b c r = record { sigs = r.sigs; frames = subst (Framed t r.sigs) c r.frames; run = subst (Active_is t r.sigs []) a r.run; callers = subst (Waits t (others r.sigs)) b r.callers }
-  linked Started x y a b c r = record { sigs = r.sigs; frames = subst (Framed t r.sigs) c r.frames; run = subst (Active_is t r.sigs []) a r.run; callers = subst (Waits t (others r.sigs)) b r.callers }
+  linked Fresh x y a b c r = same_rests x y a b c r
+  linked Started x y a b c r = same_rests x y a b c r
   linked Ended x y a b c r = tt
 
   -- a change of links that leaves an execution at its stage, or ends it
@@ -221,7 +226,7 @@ module _ (t : Table) where
   there_ok why x r = record {
     sigs = r.sigs;
     frames = r.frames;
-    run = record { sig = r.run.sig; own = r.run.own; scope = r.run.scope; frame = r.run.frame; values = r.run.values; this = r.run.this; ok = r.run.ok };
+    run = record { sig = r.run.sig; own = r.run.own; scope = r.run.scope; base = r.run.base; frame = r.run.frame; values = r.run.values; this = r.run.this; ok = r.run.ok; ends = r.run.ends };
     callers = r.callers;
   }
 
@@ -321,17 +326,17 @@ module _ (t : Table) where
   take_down_ok (Some n) s x = take_down_by_ok n (parked_at n s.env) s (parked_ok n s.env x.idle) x
 
   -- a new execution
-  main_ok : (g : Sig) (p : Purpose) (line : ℕ) (body : Stmts) → IsSorted p g.whole → FineStmts t g [] body → Ok t g [] (pc.Rest body ∷ q.behind_body p line) []
-  main_ok g TaskMain line body e f = (tt, f, (tt, tt))
-  main_ok g CoroutineMain line body e f = (tt, f, (tt, tt))
-  main_ok g Procedure line body e f = (tt, f, (tt, tt))
-  main_ok g Function line body e f = (tt, f, (tt, tt))
-  main_ok g Builder line body e f = (tt, f, tt)
+  main_ok : (g : Sig) (p : Purpose) (line : ℕ) (body : Stmts) → IsSorted p g.whole → FineStmts t g [] body → Ok t g [] [] (pc.Rest body ∷ q.behind_body p line) []
+  main_ok g TaskMain line body e f = (tt, f, (tt, refl))
+  main_ok g CoroutineMain line body e f = (tt, f, (tt, refl))
+  main_ok g Procedure line body e f = (tt, f, (tt, refl))
+  main_ok g Function line body e f = (tt, f, (tt, refl))
+  main_ok g Builder line body e f = (tt, f, refl)
 
   pub fresh_ok : (g : Sig) (x : Routine) (this : Value) → Routine_is t g x → g.params ≡ [] → IsThis t g.this this → Rests t (q.fresh x this)
   fresh_ok g x this r e i = record {
     sigs = g ∷ [];
     frames = (subst (λ ps. Bound t ps (replicate x.cells nought)) (sym e) tt, tt);
-    run = record { sig = g; own = []; scope = []; frame = refl; values = tt; this = i; ok = main_ok g x.purpose x.line x.body r.purpose r.body };
+    run = record { sig = g; own = []; scope = []; base = []; frame = refl; values = tt; this = i; ok = main_ok g x.purpose x.line x.body r.purpose r.body; ends = refl };
     callers = tt;
   }

@@ -30,9 +30,9 @@ abbrev pub LawSpawned : Type 0
 LawSpawned = (t : Table) (source : Source) → Sound t source → (o n : ℕ) (s : State) →
     Asked t source (ask.Spawn o) s → Typed t [] (child_of source n s)
 
--- what a step reads of bindings is of its type
+-- a state that is in order is so by a typing in which what its next step reads of bindings is of its type
 abbrev pub ReadsIn : Table → State → Type 0
-ReadsIn t s = (x : Typed t [] s) → Reads t x.run.sig x.run.scope s s.run.control x.run.own
+ReadsIn t s = Typed t [] s → (x : Typed t [] s) × Reads t x.run.sig x.run.scope s s.run.control x.run.own
 
 -- a task goes on: by steps and ticks; with an answer that suits what it has asked; and with a hand that is laid back and drawn again
 pub data GoesOn (t : Table) (source : Source) : State → State → Type 0 where

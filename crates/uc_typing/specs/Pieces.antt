@@ -176,16 +176,18 @@ module _ (t : Table) (g : Sig) where
   Met sc IsFinish left rest = rest sc []
   Met sc IsFinishCoroutine left rest = rest sc []
 
+-- over the scope that is left when all of it is done
+module _ (t : Table) (g : Sig) (base : List Name) where
   abbrev mutual
     -- a to-do list is in order for these operands
     pub Ok : List Name → List Todo → List Ty → Type 0
-    Ok sc [] tys = Unit {0}
-    Ok sc (Exit w ∷ todo) tys = Exits w tys × Left sc todo
+    Ok sc [] tys = sc ≡ base
+    Ok sc (Exit w ∷ todo) tys = Exits t g w tys × Left sc todo
     -- what stands before the next mark is not done any more
     Ok sc (Unwind ∷ todo) tys = Left sc todo
-    Ok sc (p ∷ todo) tys = Reached sc (sort p) tys (Step t g sc p tys (Ok sc todo)) (λ sc. Ok sc todo)
+    Ok sc (p ∷ todo) tys = Reached t g sc (sort p) tys (Step t g sc p tys (Ok sc todo)) (λ sc. Ok sc todo)
 
     -- it is in order for an exit that leaves it
     pub Left : List Name → List Todo → Type 0
-    Left sc [] = Unit {0}
-    Left sc (p ∷ todo) = Met sc (sort p) (λ sc. Left sc todo) (λ sc. Ok sc todo)
+    Left sc [] = sc ≡ base
+    Left sc (p ∷ todo) = Met t g sc (sort p) (λ sc. Left sc todo) (λ sc. Ok sc todo)

@@ -1,5 +1,5 @@
 -- States whose operands, frames and activations are of the types that their to-do lists ask for, and what an answer brings to one.
-use Rattle.std.specs.Prelude.{◌≡◌, ℕ, ◌<◌, ◌⊎◌, List, [], ◌∷◌, length, slice_get, Option, Some, None, Bool, true, false}
+use Rattle.std.specs.Prelude.{◌≡◌, ℕ, ◌<◌, ◌⊎◌, List, [], ◌∷◌, length, nat_eq, slice_get, Option, Some, None, Bool, true, false}
 use Rattle.uc_tree.specs.Source.{OfObject, Get, GetOwn, Stmts, Scoped, Leaves, Ends, Frees, Source, Routine, Purpose, TaskMain, CoroutineMain, Procedure, Function, Builder}
 use Rattle.uc_entry.specs.declared.request.Request.{Request}
 use Rattle.uc_entry.specs.declared.request.Request.TheVariants as ask
@@ -7,11 +7,13 @@ use Rattle.uc_entry.specs.declared.request.Answer.{Answer}
 use Rattle.uc_entry.specs.declared.request.Answer.TheVariants as answer
 use Rattle.uc_machine.specs.declared.exec.Stage.{Stage}
 use Rattle.uc_machine.specs.declared.exec.Stage.TheVariants.{Fresh, Started, Ended}
+use Rattle.uc_machine.specs.declared.exec.Visited.{Visited}
 use Rattle.uc_machine.specs.Executions.{Execution, at_depth, others}
+use Rattle.uc_machine.specs.Raising.{within}
 use Rattle.uc_machine.specs.Pieces.{Link, Slot, FieldAt, At, Value, Number, Place, Running, Object, Nothing, Todo, Active, State, Env, Members, Step, Goes, Ticks, Asks, loaded, further, top, variable_at, Eval, LoadNow}
 use Rattle.uc_machine.specs.Answering.{child_main}
 use Rattle.uc_typing.specs.Typing.{Ty, Num, Cell, Obj, Raw, Row, Clu, Pro, Name, Enters, Makes, Sig, Table, IsRoutine, InScope, FineStmts}
-use Rattle.uc_typing.specs.Pieces.{Ok, onto}
+use Rattle.uc_typing.specs.Pieces.{Ok, Left, onto}
 
 -- what a place that is not whole yet is a place of
 abbrev pub whole : Ty → Ty
@@ -92,26 +94,44 @@ abbrev pub IsThis : Table → Option ℕ → Value → Type 0
 IsThis t None v = Unit {0}
 IsThis t (Some c) v = IsObject t c v
 
--- an activation is in order that is to find these operands behind its own
-pub record Active_is (t : Table) (gs : List Sig) (given : List Ty) (a : Active) : Type 0 where
+-- one of two
+abbrev pub Either : Bool → Type 0 → Type 0 → Type 0
+Either true A B = A
+Either false A B = B
+
+-- what is in scope when all of an activation is done, among these older ones: nothing; of a handler of resumptions what is in scope
+-- behind its guarded block, in the activation of its routine, which waits and has the same frame
+abbrev pub IsBase : Table → Sig → Option Visited → List Name → ℕ → List Active → Type 0
+IsBase t g None base frame older = base ≡ []
+IsBase t g (Some v) base frame [] = ⊥
+IsBase t g (Some v) base frame (c ∷ older) =
+    Either (nat_eq (length older) v.level)
+    ((outer : List Name) × (c.frame ≡ frame) × Left t g outer base (within v.rest c.control) ×
+    IsBase t g c.handles outer frame older)
+    (IsBase t g (Some v) base frame older)
+
+-- an activation is in order, before these older ones, that is to find these operands behind its own
+pub record Active_is (t : Table) (gs : List Sig) (given : List Ty) (older : List Active) (a : Active) : Type 0 where
   pub sig : Sig
   pub own : List Ty
   pub scope : List Name
+  pub base : List Name
   pub frame : at_depth gs a.frame ≡ Some sig
   pub values : Values t own a.operands
   pub this : IsThis t sig.this a.this
-  pub ok : Ok t sig scope a.control (onto given own)
+  pub ok : Ok t sig base scope a.control (onto given own)
+  pub ends : IsBase t sig a.handles base a.frame older
 
 -- those that wait, each for a number
 abbrev pub Waits : Table → List Sig → List Active → Type 0
 Waits t gs [] = Unit {0}
-Waits t gs (c ∷ cs) = Active_is t gs (Num ∷ []) c × Waits t (others gs) cs
+Waits t gs (c ∷ cs) = Active_is t gs (Num ∷ []) cs c × Waits t (others gs) cs
 
 -- the executions that do not run, where they may be activated
 pub record Rests (t : Table) (x : Execution (List Todo) Value) : Type 0 where
   pub sigs : List Sig
   pub frames : Framed t sigs x.frames
-  pub run : Active_is t sigs [] x.run
+  pub run : Active_is t sigs [] x.callers x.run
   pub callers : Waits t (others sigs) x.callers
 
 abbrev pub RestsBy : Table → Stage → Execution (List Todo) Value → Type 0
@@ -138,7 +158,7 @@ Idle t e = Parked t e.house.parked × Inhand t e.hand
 pub record Typed (t : Table) (given : List Ty) (s : State) : Type 0 where
   pub sigs : List Sig
   pub frames : Framed t sigs s.env.frames
-  pub run : Active_is t sigs given s.run
+  pub run : Active_is t sigs given s.callers s.run
   pub callers : Waits t (others sigs) s.callers
   pub idle : Idle t s.env
 
@@ -201,14 +221,23 @@ After t source (Goes s) = Typed t [] s
 After t source (Ticks s) = Typed t [] s
 After t source (Asks q s) = Asked t source q s
 
--- what this step reads is of its type: of a number that says nothing; of what a variable, a place or a field is bound to it is what
--- lifetimes show
+-- what this step reads of a variable, by its name, is of its type: of a number that says nothing
+abbrev pub ReadsVariable : Table → List Name → State → List Todo → Type 0
+ReadsVariable t sc s (Eval (Get k) ∷ todo) =
+    t.refers ≡ true → (a : Ty) → InScope sc k (Cell a) → Is t a (loaded (variable_at k s) s.env)
+ReadsVariable t sc s _ = Unit {0}
+
+-- so is what it reads at a place, and of a field of the object at hand
+abbrev pub ReadsPlace : Table → Sig → State → List Todo → List Ty → Type 0
+ReadsPlace t g s (LoadNow ∷ todo) (Cell a ∷ more) = t.refers ≡ true → Is t a (loaded (top s.run.operands) s.env)
+ReadsPlace t g s (Eval (OfObject (GetOwn k i)) ∷ todo) own =
+    t.refers ≡ true → (c : ℕ) (a : Ty) → g.this ≡ Some c → Cell a ≡ t.fields c i →
+    Is t a (loaded (further (FieldAt k i) s.run.this) s.env)
+ReadsPlace t g s _ own = Unit {0}
+
+-- that is what lifetimes show of what variables, places and fields are bound to
 abbrev pub Reads : Table → Sig → List Name → State → List Todo → List Ty → Type 0
-Reads t g sc s (LoadNow ∷ todo) (Cell a ∷ more) = t.refers ≡ true → Is t a (loaded (top s.run.operands) s.env)
-Reads t g sc s (Eval (Get k) ∷ todo) own = t.refers ≡ true → (a : Ty) → InScope sc k (Cell a) → Is t a (loaded (variable_at k s) s.env)
-Reads t g sc s (Eval (OfObject (GetOwn k i)) ∷ todo) own =
-    t.refers ≡ true → (c : ℕ) (a : Ty) → g.this ≡ Some c → Cell a ≡ t.fields c i → Is t a (loaded (further (FieldAt k i) s.run.this) s.env)
-Reads t g sc s _ own = Unit {0}
+Reads t g sc s todo own = ReadsVariable t sc s todo × ReadsPlace t g s todo own
 
 -- a constructor and a destructor are left as a whole, and so is nothing else
 abbrev pub IsSorted : Purpose → Bool → Type 0

@@ -8,8 +8,8 @@ use Rattle.uc_machine.specs.Executions.{at_depth, set_depth, frame_changed, list
 use Rattle.uc_machine.specs.Pieces as piece
 use Rattle.uc_machine.specs.Pieces.{Link, Value, Number, Place, Running, Object, Nothing, Todo, Sort, Active, stored, nought, address}
 use Rattle.uc_typing.specs.States.{IsNumbered}
-use Rattle.uc_value_laws.specs.There.{EndsAt, OfVariable, OfElements, OfEach, HoldsObject, IsBefore, IsThere, ThereBy, AllThere, BeforeBy, AllBefore, FrameBefore, frame_at}
-use Rattle.uc_value_laws.specs.ThereStates.{ThereStack}
+use Rattle.uc_value_laws.specs.There.{EndsAt, OfVariable, OfElements, OfEach, HoldsObject, IsBefore, IsThere, IsFew, IsCounted, ThereBy, MarkCounted, PieceThere, PieceCounted, AllCounted, BeforeBy, AllBefore, FrameBefore, frame_at}
+use Rattle.uc_value_laws.specs.ThereStates.{CountedStack}
 
 -- the first of two by a test
 pub either : {A : Type 0} (P : A → Type 0) (b : Bool) (x y : A) → P x → P y → P (if b then x else y)
@@ -53,44 +53,27 @@ numbered_stored v (Running e) h = absurd h
 numbered_stored v (Object o) h = h
 numbered_stored v Nothing h = absurd h
 
-cell_stored : (vs : List Value) (j k : ℕ) (v : Value) → IsNumbered (slice_index_or vs j nought) → IsNumbered (slice_index_or (value_changed k (stored v) nought vs) j nought)
-cell_stored [] j k v h = h
-cell_stored (x ∷ vs) zero zero v h = numbered_stored v x h
-cell_stored (x ∷ vs) zero (suc k) v h = h
-cell_stored (x ∷ vs) (suc j) zero v h = h
-cell_stored (x ∷ vs) (suc j) (suc k) v h = cell_stored vs j k v h
+-- of any property that a binding keeps
+cell_stored : (P : Value → Type 0) (v : Value) → ((x : Value) → P x → P (stored v x)) → (vs : List Value) (j k : ℕ) → P (slice_index_or vs j nought) → P (slice_index_or (value_changed k (stored v) nought vs) j nought)
+cell_stored P v f [] j k h = h
+cell_stored P v f (x ∷ vs) zero zero h = f x h
+cell_stored P v f (x ∷ vs) zero (suc k) h = h
+cell_stored P v f (x ∷ vs) (suc j) zero h = h
+cell_stored P v f (x ∷ vs) (suc j) (suc k) h = cell_stored P v f vs j k h
 
-cell_taken : (vs ws : List Value) (j k : ℕ) → j < k → IsNumbered (slice_index_or vs j nought) → IsNumbered (slice_index_or (take k vs ++ ws) j nought)
-cell_taken [] ws j k l h = absurd h
-cell_taken (x ∷ vs) ws j zero l h = let f : ⊥ = omega arith in absurd f
-cell_taken (x ∷ vs) ws zero (suc k) l h = h
-cell_taken (x ∷ vs) ws (suc j) (suc k) l h = cell_taken vs ws j k (omega arith) h
+cell_taken : (P : Value → Type 0) → (P nought → ⊥) → (vs ws : List Value) (j k : ℕ) → j < k → P (slice_index_or vs j nought) → P (slice_index_or (take k vs ++ ws) j nought)
+cell_taken P f [] ws j k l h = absurd (f h)
+cell_taken P f (x ∷ vs) ws j zero l h = let n : ⊥ = omega arith in absurd n
+cell_taken P f (x ∷ vs) ws zero (suc k) l h = h
+cell_taken P f (x ∷ vs) ws (suc j) (suc k) l h = cell_taken P f vs ws j k (omega arith) h
 
 there_stored : (vs : List Value) (k : ℕ) (v : Value) (c : CleanUp) → IsThere vs c → IsThere (value_changed k (stored v) nought vs) c
 there_stored vs k v c h =
-    each (HoldsObject vs) (HoldsObject vs) (HoldsObject (value_changed k (stored v) nought vs)) (λ p x y. cell_stored vs (address p) k v x) c h h
+    each (HoldsObject vs) (HoldsObject vs) (HoldsObject (value_changed k (stored v) nought vs)) (λ p x y. cell_stored IsNumbered v (numbered_stored v) vs (address p) k x) c h h
 
 there_cleared : (vs : List Value) (k n : ℕ) (c : CleanUp) → OfEach (IsBefore k) c → IsThere vs c → IsThere (values_cleared k n nought vs) c
 there_cleared vs k n c b h =
-    each (HoldsObject vs) (IsBefore k) (HoldsObject (values_cleared k n nought vs)) (λ p x l. cell_taken vs _ (address p) k l x) c h b
-
--- lists
-
-stored_by : (vs : List Value) (k : ℕ) (v : Value) (s : Sort) → ThereBy vs s → ThereBy (value_changed k (stored v) nought vs) s
-stored_by vs k v (piece.IsClean c) h = there_stored vs k v c h
-stored_by vs k v s h = tt
-
-pub all_stored : (k : ℕ) (v : Value) (todo : List Todo) (vs : List Value) → AllThere vs todo → AllThere (value_changed k (stored v) nought vs) todo
-all_stored k v [] vs h = tt
-all_stored k v (p ∷ todo) vs h = (stored_by vs k v (piece.sort p) h.0, all_stored k v todo vs h.1)
-
-cleared_by : (vs : List Value) (k n : ℕ) (s : Sort) → BeforeBy k s → ThereBy vs s → ThereBy (values_cleared k n nought vs) s
-cleared_by vs k n (piece.IsClean c) b h = there_cleared vs k n c b h
-cleared_by vs k n s b h = tt
-
-pub all_cleared : (k n : ℕ) (todo : List Todo) (vs : List Value) → AllBefore k todo → AllThere vs todo → AllThere (values_cleared k n nought vs) todo
-all_cleared k n [] vs b h = tt
-all_cleared k n (p ∷ todo) vs b h = (cleared_by vs k n (piece.sort p) b.0 h.0, all_cleared k n todo vs b.1 h.1)
+    each (HoldsObject vs) (IsBefore k) (HoldsObject (values_cleared k n nought vs)) (λ p x l. cell_taken IsNumbered (λ n. n) vs _ (address p) k l x) c h b
 
 -- frames
 
@@ -117,27 +100,9 @@ set_at P (x ∷ xs) d f y h k = by (set_at P xs d f y h) (nat_eq d (length xs)) 
         let l : nat_eq f (length (set_depth xs d y)) ≡ false = ap (nat_eq f) (set_length xs d y) ∙ g in
         subst (λ (c : Bool). P (list_in (if c then Some x else at_depth (set_depth xs d y) f))) (sym l) (more k)
 
-pub stack_stored : (d k : ℕ) (v : Value) (fs : List (List Value)) (cs : List Active) → ThereStack fs cs → ThereStack (frame_changed d (value_changed k (stored v) nought) fs) cs
-stack_stored d k v fs [] h = tt
-stack_stored d k v fs (a ∷ older) h =
-    let there : AllThere (frame_at a.frame fs) a.control = h.1 in
-    (h.0, set_at (λ vs. AllThere vs a.control) fs d a.frame _ (λ e. all_stored k v a.control (frame_at d fs) (subst (λ f. AllThere (frame_at f fs) a.control) e there)) there, stack_stored d k v fs older h.2)
-
-pub stack_cleared : (d k n : ℕ) (fs : List (List Value)) (cs : List Active) → FrameBefore k d cs → ThereStack fs cs → ThereStack (frame_changed d (values_cleared k n nought) fs) cs
-stack_cleared d k n fs [] b h = tt
-stack_cleared d k n fs (a ∷ older) b h =
-    let there : AllThere (frame_at a.frame fs) a.control = h.1 in
-    (h.0, set_at (λ vs. AllThere vs a.control) fs d a.frame _ (λ e. all_cleared k n a.control (frame_at d fs) (b.0 e) (subst (λ f. AllThere (frame_at f fs) a.control) e there)) there, stack_cleared d k n fs older b.1 h.2)
-
 -- a frame more, for those that have theirs already
 newer_at : (P : List Value → Type 0) (x : List Value) (xs : List (List Value)) (f : ℕ) → f < length xs → P (frame_at f xs) → P (frame_at f (x ∷ xs))
 newer_at P x xs f l h = tested (λ o. P (list_in o)) (nat_eq f (length xs)) (Some x) (at_depth xs f) (λ e. let q : f ≡ length xs = eqb-true f (length xs) e in let n : ⊥ = omega (arith, q, l) in absurd n) (λ e. h)
-
-pub stack_newer : (x : List Value) (fs : List (List Value)) (cs : List Active) → length cs ≤ length fs → ThereStack fs cs → ThereStack (x ∷ fs) cs
-stack_newer x fs [] l h = tt
-stack_newer x fs (a ∷ older) l h =
-    let le = h.0 in
-    (h.0, newer_at (λ vs. AllThere vs a.control) x fs a.frame (omega (arith, le, l)) h.1, stack_newer x fs older (omega (arith, l)) h.2)
 
 -- a frame less, for those that do not use it
 older_at : (P : List Value → Type 0) (fs : List (List Value)) (f : ℕ) → f < length (others fs) → P (frame_at f fs) → P (frame_at f (others fs))
@@ -148,12 +113,82 @@ older_at P (x ∷ xs) f l h = by (nat_eq f (length xs)) refl h
     by true e h = let q : f ≡ length xs = eqb-true f (length xs) e in let n : ⊥ = omega (arith, q, l) in absurd n
     by false e h = h
 
-pub stack_older : (fs : List (List Value)) (cs : List Active) → length cs ≤ length (others fs) → ThereStack fs cs → ThereStack (others fs) cs
-stack_older fs [] l h = tt
-stack_older fs (a ∷ older) l h =
-    let le = h.0 in
-    (h.0, older_at (λ vs. AllThere vs a.control) fs a.frame (omega (arith, le, l)) h.1, stack_older fs older (omega (arith, l)) h.2)
-
 pub others_length : {X : Type 0} (xs : List X) (n : ℕ) → length xs ≡ suc (suc n) → length (others xs) ≡ suc n
 others_length [] n h = absurd (cc)
 others_length (x ∷ xs) n h = omega (arith, h)
+
+-- what a piece tells by its sort, of clusters of any number
+pub by_sort : (vs : List Value) (p : Todo) → PieceThere vs p → ThereBy vs (piece.sort p)
+by_sort vs (piece.Clean c) h = h.0
+by_sort vs (piece.Guard hs) h = h
+by_sort vs p h = tt
+
+-- to-do lists and activations
+
+module _ (Few : ℕ → Bool) where
+  few_stored : (v x : Value) → IsFew Few x → IsFew Few (stored v x)
+  few_stored v (Number n) h = absurd h
+  few_stored v (Place o p) h = absurd h
+  few_stored v (Running e) h = absurd h
+  few_stored v (Object o) h = h
+  few_stored v Nothing h = absurd h
+
+  counted_stored : (vs : List Value) (k : ℕ) (v : Value) (c : CleanUp) → IsCounted Few vs c → IsCounted Few (value_changed k (stored v) nought vs) c
+  counted_stored vs k v (src.Destroys (src.OfObject (src.EndCluster (src.Load (src.Variable m))))) h =
+      λ l. cell_stored (IsFew Few) v (few_stored v) vs (address (piece.Slot m ∷ [])) k (h l)
+  counted_stored vs k v c h = tt
+
+  counted_cleared : (vs : List Value) (k n : ℕ) (c : CleanUp) → OfEach (IsBefore k) c → IsCounted Few vs c → IsCounted Few (values_cleared k n nought vs) c
+  counted_cleared vs k n (src.Destroys (src.OfObject (src.EndCluster (src.Load (src.Variable m))))) b h =
+      λ l. cell_taken (IsFew Few) (λ x. x) vs _ (address (piece.Slot m ∷ [])) k b (h l)
+  counted_cleared vs k n c b h = tt
+
+  -- what a piece tells by its sort
+  pub by_mark : (vs : List Value) (p : Todo) → PieceCounted Few vs p → MarkCounted Few vs (piece.sort p)
+  by_mark vs (piece.Clean c) h = h
+  by_mark vs (piece.Guard hs) h = h
+  by_mark vs p h = tt
+
+  stored_by : (vs : List Value) (k : ℕ) (v : Value) (p : Todo) → PieceCounted Few vs p → PieceCounted Few (value_changed k (stored v) nought vs) p
+  stored_by vs k v (piece.Clean c) h = (there_stored vs k v c h.0, counted_stored vs k v c h.1)
+  stored_by vs k v (piece.Guard hs) h = h
+  stored_by vs k v (piece.Rest ss) h = h
+  stored_by vs k v p h = tt
+
+  pub all_stored : (k : ℕ) (v : Value) (todo : List Todo) (vs : List Value) → AllCounted Few vs todo → AllCounted Few (value_changed k (stored v) nought vs) todo
+  all_stored k v [] vs h = tt
+  all_stored k v (p ∷ todo) vs h = (stored_by vs k v p h.0, all_stored k v todo vs h.1)
+
+  cleared_by : (vs : List Value) (k n : ℕ) (p : Todo) → BeforeBy k (piece.sort p) → PieceCounted Few vs p → PieceCounted Few (values_cleared k n nought vs) p
+  cleared_by vs k n (piece.Clean c) b h = (there_cleared vs k n c b h.0, counted_cleared vs k n c b h.1)
+  cleared_by vs k n (piece.Guard hs) b h = h
+  cleared_by vs k n (piece.Rest ss) b h = h
+  cleared_by vs k n p b h = tt
+
+  pub all_cleared : (k n : ℕ) (todo : List Todo) (vs : List Value) → AllBefore k todo → AllCounted Few vs todo → AllCounted Few (values_cleared k n nought vs) todo
+  all_cleared k n [] vs b h = tt
+  all_cleared k n (p ∷ todo) vs b h = (cleared_by vs k n p b.0 h.0, all_cleared k n todo vs b.1 h.1)
+
+  pub stack_stored : (d k : ℕ) (v : Value) (fs : List (List Value)) (cs : List Active) → CountedStack Few fs cs → CountedStack Few (frame_changed d (value_changed k (stored v) nought) fs) cs
+  stack_stored d k v fs [] h = tt
+  stack_stored d k v fs (a ∷ older) h =
+      let there : AllCounted Few (frame_at a.frame fs) a.control = h.1 in
+      (h.0, set_at (λ vs. AllCounted Few vs a.control) fs d a.frame _ (λ e. all_stored k v a.control (frame_at d fs) (subst (λ f. AllCounted Few (frame_at f fs) a.control) e there)) there, stack_stored d k v fs older h.2)
+
+  pub stack_cleared : (d k n : ℕ) (fs : List (List Value)) (cs : List Active) → FrameBefore k d cs → CountedStack Few fs cs → CountedStack Few (frame_changed d (values_cleared k n nought) fs) cs
+  stack_cleared d k n fs [] b h = tt
+  stack_cleared d k n fs (a ∷ older) b h =
+      let there : AllCounted Few (frame_at a.frame fs) a.control = h.1 in
+      (h.0, set_at (λ vs. AllCounted Few vs a.control) fs d a.frame _ (λ e. all_cleared k n a.control (frame_at d fs) (b.0 e) (subst (λ f. AllCounted Few (frame_at f fs) a.control) e there)) there, stack_cleared d k n fs older b.1 h.2)
+
+  pub stack_newer : (x : List Value) (fs : List (List Value)) (cs : List Active) → length cs ≤ length fs → CountedStack Few fs cs → CountedStack Few (x ∷ fs) cs
+  stack_newer x fs [] l h = tt
+  stack_newer x fs (a ∷ older) l h =
+      let le = h.0 in
+      (h.0, newer_at (λ vs. AllCounted Few vs a.control) x fs a.frame (omega (arith, le, l)) h.1, stack_newer x fs older (omega (arith, l)) h.2)
+
+  pub stack_older : (fs : List (List Value)) (cs : List Active) → length cs ≤ length (others fs) → CountedStack Few fs cs → CountedStack Few (others fs) cs
+  stack_older fs [] l h = tt
+  stack_older fs (a ∷ older) l h =
+      let le = h.0 in
+      (h.0, older_at (λ vs. AllCounted Few vs a.control) fs a.frame (omega (arith, le, l)) h.1, stack_older fs older (omega (arith, l)) h.2)

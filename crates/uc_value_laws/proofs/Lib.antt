@@ -1,7 +1,9 @@
 pub mod Cells
 pub mod Keeping
 pub mod Steps
+pub mod NewClusters
 pub mod Walk
 pub mod Readings
+pub mod Counts
 pub mod Worlds
 pub mod Makings

@@ -1,8 +1,8 @@
 -- Every quiet step of a task in which all is there that is in scope and known by its number, and answers to it.
-use Rattle.std.proofs.Common.{◌≡◌, ℕ, List, [], ◌∷◌, ◌++◌, Option, Some, None, refl, subst, arith}
+use Rattle.std.proofs.Common.{◌≡◌, ℕ, List, [], ◌∷◌, ◌++◌, Option, Some, None, inl, inr, refl, sym, ap, ◌∙◌, subst, arith, Bool, true}
 use Rattle.std.specs.Prelude.{nat_lt, slice_get, drop}
 use Rattle.uc_tree.specs.Source as src
-use Rattle.uc_tree.specs.Source.{Source, Routine, routine_or_none, routine_of}
+use Rattle.uc_tree.specs.Source.{Source, CleanUp, Stmt, Stmts, Routine, routine_or_none, routine_of}
 use Rattle.uc_entry.specs.declared.request.Answer.{Answer}
 use Rattle.uc_entry.specs.declared.request.Answer.TheVariants as answer
 use Rattle.uc_machine.specs.Executions.{take_operands}
@@ -13,152 +13,206 @@ use Rattle.uc_machine.specs.Quiet.{first_state, zeros}
 use Rattle.uc_machine.specs.Pieces as piece
 use Rattle.uc_machine.specs.Pieces.{Value, Nothing, Todo, State, Env, Members, Step, Goes, Ticks, Asks, at, top, below, number}
 use Rattle.uc_machine.specs.Answering.{answered, entered, new_members, with_operand}
-use Rattle.uc_value_laws.specs.There.{AllThere}
-use Rattle.uc_value_laws.specs.ThereStates.{ThereParked, ThereHand, ThereMembers, ThereState, ThereStep, FairAt, Fair}
+use Rattle.uc_scope_laws.specs.Clusters.{Follows, IsUnbound, Joined}
+use Rattle.uc_value_laws.specs.There.{AllCounted}
+use Rattle.uc_value_laws.specs.ThereStates.{CountedParked, CountedHand, CountedMembers, CountedState, CountedStep, RoutineBegins, SourceBegins, FairAt, Fair}
+use Rattle.uc_value_laws.specs.NewClusters as way
+use Rattle.uc_value_laws.specs.NewClusters.{Stage, stage_todo, OpeningBy, WaitingBy, GoodBy, GoodStepBy}
 use Rattle.uc_value_laws.specs.ValueLaws.{LawSteps}
 use Rattle.uc_value_laws.proofs.Cells.{either}
 use Rattle.uc_value_laws.proofs.Keeping as kept
 use Rattle.uc_value_laws.proofs.Steps as steps
 use Rattle.uc_value_laws.proofs.Steps.{here}
+use Rattle.uc_value_laws.proofs.NewClusters.{lift, begun, opening, no_bind, far, uncounted}
 
-module _ (source : Source) where
-  module _ (s : State) (st : ThereState s) where
-    go : (todo : List Todo) (vs : List Value) → AllThere (here s) todo → ThereState (at todo vs s)
-    go = steps.go s st
+-- a piece that tells of no statements that are left of a block
+abbrev IsOther : Todo → Type 0
+IsOther (piece.Rest ss) = ⊥
+IsOther p = Unit {0}
 
-    like : {e : Env} → e.frames ≡ s.env.frames → e.hand ≡ s.env.hand → e.house ≡ s.env.house → kept.Keeps s.env e
-    like q h g = steps.like s st q h g
+none_new : (source : Source) (g : Stage) (k l : ℕ) (ss : Stmts) (todo : List Todo) → new_members source (stage_todo g k l ss todo) ≡ None
+none_new source (way.Declares m d) k l ss todo = refl
+none_new source (way.Lists m d) k l ss todo = refl
+none_new source (way.Clears m d) k l ss todo = refl
+none_new source (way.Cleared m) k l ss todo = refl
+none_new source (way.Passes m) k l ss todo = refl
+none_new source way.Reaches k l ss todo = refl
+none_new source way.Does k l ss todo = refl
+none_new source way.Binds k l ss todo = refl
+none_new source way.Places k l ss todo = refl
+none_new source way.Makes k l ss todo = refl
+none_new source way.Orders k l ss todo = refl
+none_new source way.Told k l ss todo = refl
+none_new source way.Bound k l ss todo = refl
+none_new source way.Leaves k l ss todo = refl
+none_new source way.Opens k l ss todo = refl
 
-    -- one piece, with what is to do behind it
-    acts : (p : Todo) (todo : List Todo) → s.run.control ≡ p ∷ todo → FairAt (p ∷ todo) s → AllThere (here s) todo → ThereStep (quiet.act source p todo s)
-    acts (piece.Eval a) todo e f h = steps.eval s st a todo h
-    acts (piece.ElementNow m k) todo e f h = steps.element s st k _ todo _ _ h
-    acts piece.NegateNow todo e f h = steps.outcome s st _ todo _ h
-    acts (piece.OperateNow op) todo e f h = steps.outcome s st _ todo _ h
-    acts piece.StoreNow todo e f h = steps.go_in s st _ _ _ (kept.written_keeps _ _ s.env st.env) h
-    acts piece.KeepNow todo e f h = steps.go_in s st _ _ _ (kept.written_keeps _ _ s.env st.env) h
-    acts (piece.SetNow k) todo e f h = steps.go_in s st _ _ _ (kept.written_keeps (piece.variable_at k s) (piece.Number (number (top s.run.operands))) s.env st.env) h
-    acts piece.BindNow todo e f h = steps.go_in s st _ _ _ (kept.written_keeps _ _ s.env st.env) h
-    acts (piece.Choose a b) todo e f h = go _ _ (tt, h)
-    acts (piece.Branch a b) todo e f h = go _ _ (tt, h)
-    acts (piece.TurnNow o t step b) todo e f h = go _ _ (tt, (tt, h))
-    acts (piece.Arguments src.NoExprs) todo e f h = go _ _ h
-    acts (piece.Arguments (src.MoreExprs a es)) todo e f h = go _ _ (tt, (tt, h))
-    acts (piece.CallNow r) todo e f h = steps.call s st (slice_get source.routines r) todo h
-    acts (piece.CallOnNow r) todo e f h = steps.call_on s st (slice_get source.routines r) todo h
-    acts (piece.CallUnwrittenNow r) todo e f h = steps.call_unwritten s st (slice_get source.routines r) todo h
-    acts (piece.CountNow m) todo e f h = record { frames = st.frames; stack = (st.stack.0, h, st.stack.2); env = st.env }
-    acts piece.MoreNow todo e f h = record { frames = st.frames; stack = (st.stack.0, h, st.stack.2); env = st.env }
-    acts (piece.FillNow m b d) todo e f h = go _ _ (steps.filled (here s) (nat_lt s.run.elements m) m b d todo h)
-    acts (piece.Again o t step b) todo e f h = go _ _ (either (AllThere (here s)) (piece.is_zero (number (top s.run.operands))) todo (piece.TurnNow o t step b ∷ todo) h (tt, h))
-    acts (piece.PrintNow form) todo e f h = steps.prints s st s.env.gathered _ todo _ h
-    acts (piece.TextNow k) todo e f h = steps.prints s st s.env.gathered _ todo _ h
-    acts piece.GatherNow todo e f h = steps.go_in s st _ _ _ (like refl refl refl) h
-    acts piece.FlushNow todo e f h = steps.flushes s st s.env.gathered todo _ h
-    acts (piece.ReadNow form) todo e f h = go _ _ h
-    acts (piece.ClearNow k m) todo e f h = steps.clears s st k m todo e f h
-    acts (piece.Items []) todo e f h = go _ _ h
-    acts (piece.Items (i ∷ is)) todo e f h = go _ _ (steps.item (here s) i _ (tt, h))
-    acts (piece.Values []) todo e f h = go _ _ h
-    acts (piece.Values (i ∷ is)) todo e f h = go _ _ (steps.item_value (here s) i _ (tt, h))
-    acts (piece.Pieces []) todo e f h = go _ _ h
-    acts (piece.Pieces (i ∷ is)) todo e f h = go _ _ (tt, steps.item_piece (here s) i todo h)
-    acts (piece.Targets []) todo e f h = go _ _ h
-    acts (piece.Targets (t ∷ ts)) todo e f h = go _ _ (tt, (tt, (tt, (tt, h))))
-    acts (piece.Variables []) todo e f h = go _ _ h
-    acts (piece.Variables (d ∷ ds)) todo e f h = go _ _ (tt, steps.starts (here s) d.cell d.value (piece.Variables ds ∷ todo) (tt, h))
-    acts (piece.Do a) todo e f h = steps.stmt s st a todo h
-    acts (piece.Rest ss) todo e f h = steps.rest s st ss todo f h
-    acts (piece.Exit w) todo e f h = steps.exits s st w todo h
-    acts (piece.InLoop o t step b) todo e f h = go _ _ (steps.stepped (here s) step _ (steps.tested (here s) o t step b todo h))
-    acts (piece.Clean x) todo e f h = go _ _ (steps.cleans (here s) x todo h)
-    acts (piece.Sweep a) todo e f h = steps.swept s st s.run.elements a todo h
-    acts piece.Unwind todo e f h = steps.unwinds s st todo h
-    acts piece.ThrowNow todo e f h = steps.throws s st (raising.event_in s.run.operands) todo h
-    acts piece.RaiseNow todo e f h = steps.raises s st (raising.event_in s.run.operands) todo h
-    acts (piece.SetUpNow r) todo e f h = steps.set_up s st (slice_get source.routines r) todo h
-    acts piece.EnlivenNow todo e f h = steps.go_in s st _ _ _ (kept.enlivened_keeps (piece.own_exec s) s.env st.env) h
-    acts piece.TakeDownNow todo e f h = steps.moved s st _ todo _ h (kept.take_down_rests (piece.own_exec s) (at todo s.run.operands s) (go _ _ h))
-    acts piece.ForgetNow todo e f h = steps.go_in s st _ _ _ (kept.forgotten_keeps (piece.own_exec s) s.env st.env) h
-    acts (piece.LiveNow r) todo e f h = steps.live s st (slice_get source.routines r) todo h
-    acts piece.ResumeNow todo e f h = steps.moved s st _ (piece.Land ∷ todo) _ (tt, h) (kept.wake_rests (quiet.resumed s) (at (piece.Land ∷ todo) s.run.operands s) (go _ _ (tt, h)))
-    acts piece.SuspendNow todo e f h = steps.moved s st _ (piece.Land ∷ todo) _ (tt, h) (kept.suspend_rests (at (piece.Land ∷ todo) s.run.operands s) (go _ _ (tt, h)))
-    acts piece.Land todo e f h = steps.land s st s.run.raised todo h
-    acts (piece.EnterNow m r) todo e f h = steps.enter s st m (slice_get source.routines r) todo h
-    acts piece.LeaveNow todo e f h = steps.leave s st _ (monitors.this_object s) todo h
-    acts (piece.MakeNow k r) todo e f h = steps.make s st k r (slice_get source.routines r) todo h
-    acts (piece.BindMadeNow k r) todo e f h = steps.bind s st (slice_get source.routines r) todo h
-    acts piece.MadeNow todo e f h = steps.unless s st (monitors.this_object s) _ todo h (steps.go_in s st _ _ _ (like refl refl refl) h)
-    acts (piece.SpawnNow r) todo e f h = steps.unless s st (monitors.this_object s) _ (piece.ChildNow r ∷ todo) (tt, h) (steps.go_in s st _ _ _ (like refl refl refl) (tt, h))
-    acts piece.GoneNow todo e f h = steps.go_in s st _ _ _ (like refl refl refl) h
-    acts piece.GiveUpNow todo e f h = steps.go_in s st _ _ _ (like refl refl refl) h
-    acts (piece.ConditionNow k m) todo e f h = steps.condition s st k _ todo h
-    acts piece.WaitNow todo e f h = steps.unless s st (monitors.this_object s) _ todo h (go _ _ h)
-    acts piece.SignalBlockNow todo e f h = steps.unless s st (monitors.this_object s) _ todo h (go _ _ h)
-    acts (piece.Guards src.NoClauses) todo e f h = go _ _ h
-    acts (piece.Guards (src.Otherwise b)) todo e f h = go _ _ h
-    acts (piece.Guards (src.MoreClauses guard b cs)) todo e f h = go _ _ (tt, (tt, h))
-    acts (piece.AcceptNow site m) todo e f h = steps.accept_by s st (monitors.mask_of (take_operands Nothing m s.run.operands [])) (monitors.this_object s) site todo (drop m s.run.operands) h
-    acts piece.FailedNow todo e f h = steps.failed s st _ todo _ h
-    acts (piece.ChooseNow cs) todo e f h = go _ _ (steps.branch (here s) _ cs todo h)
-    acts piece.RaiseAtNow todo e f h = steps.raise_at s st _ _ todo _ h
-    acts (piece.EnableNow events cell) todo e f h = steps.enables s st _ cell todo h
-    acts (piece.DisableNow events cell) todo e f h = steps.enables s st _ cell todo h
-    acts (piece.RestoreNow cell) todo e f h = steps.go_in s st _ _ _ (like refl refl refl) h
-    acts piece.PollNow todo e f h = steps.poll s st todo h
-    acts piece.DeliverNow todo e f h = steps.deliver s st _ todo h
-    acts piece.Finish todo e f h = steps.unless s st s.env.own _ todo h (steps.returned s st _ s.callers st.frames st.stack.2)
-    acts piece.FinishCoroutine todo e f h = steps.moved s st _ todo _ h (kept.finish_rests (at todo s.run.operands s) (go _ _ h))
-    acts p todo e f h = go _ _ h
+module _ (Few : ℕ → Bool) where
+  module _ (source : Source) (known : SourceBegins source) where
+    module _ (s : State) (st : CountedState Few s) where
+      go : (todo : List Todo) (vs : List Value) → AllCounted Few (here s) todo → CountedState Few (at todo vs s)
+      go = steps.go Few s st
 
-  pub walk : (s : State) → ThereState s → Fair s → ThereStep (quiet.quiet source s)
-  walk s h f = by s.run.control refl
-    where
-      by : (l : List Todo) → s.run.control ≡ l → ThereStep (quiet.act_todo source l s)
-      by [] e = steps.returned s h _ s.callers h.frames h.stack.2
-      by (p ∷ todo) e =
-          let there : AllThere (here s) (p ∷ todo) = subst (AllThere (here s)) e h.stack.1 in
-          acts s h p todo e (subst (λ l. FairAt l s) e f) there.1
+      like : {e : Env} → e.frames ≡ s.env.frames → e.hand ≡ s.env.hand → e.house ≡ s.env.house → kept.Keeps Few s.env e
+      like q h g = steps.like Few s st q h g
 
-begins : (o : ℕ) (r : Option Routine) → ThereState (first_state (routine_or_none r) o)
-begins o None = record { frames = refl; stack = (omega arith, (tt, (tt, tt)), tt); env = record { house = (tt, tt); hand = tt } }
-begins o (Some r) = record { frames = refl; stack = (omega arith, steps.routine _ r, tt); env = record { house = (tt, tt); hand = tt } }
+      -- one piece, with what is to do behind it
+      acts : (p : Todo) (todo : List Todo) → s.run.control ≡ p ∷ todo → IsOther p → FairAt (p ∷ todo) s → AllCounted Few (here s) (p ∷ todo) → CountedStep Few (quiet.act source p todo s)
+      acts (piece.Eval a) todo e n f h = steps.eval Few s st a todo h.1
+      acts (piece.ElementNow m k) todo e n f h = steps.element Few s st k _ todo _ _ h.1
+      acts piece.NegateNow todo e n f h = steps.outcome Few s st _ todo _ h.1
+      acts (piece.OperateNow op) todo e n f h = steps.outcome Few s st _ todo _ h.1
+      acts piece.StoreNow todo e n f h = steps.go_in Few s st _ _ _ (kept.written_keeps Few _ _ s.env st.env) h.1
+      acts piece.KeepNow todo e n f h = steps.go_in Few s st _ _ _ (kept.written_keeps Few _ _ s.env st.env) h.1
+      acts (piece.SetNow k) todo e n f h = steps.go_in Few s st _ _ _ (kept.written_keeps Few (piece.variable_at k s) (piece.Number (number (top s.run.operands))) s.env st.env) h.1
+      acts piece.BindNow todo e n f h = steps.go_in Few s st _ _ _ (kept.written_keeps Few _ _ s.env st.env) h.1
+      acts (piece.Choose a b) todo e n f h = go _ _ (tt, h.1)
+      acts (piece.Branch a b) todo e n f h = go _ _ (tt, h.1)
+      acts (piece.TurnNow o t step b) todo e n f h = go _ _ (tt, (tt, h.1))
+      acts (piece.Arguments src.NoExprs) todo e n f h = go _ _ h.1
+      acts (piece.Arguments (src.MoreExprs a es)) todo e n f h = go _ _ (tt, (tt, h.1))
+      acts (piece.CallNow r) todo e n f h = steps.call Few s st (slice_get source.routines r) todo (known r) h.1
+      acts (piece.CallOnNow r) todo e n f h = steps.call_on Few s st (slice_get source.routines r) todo (known r) h.1
+      acts (piece.CallUnwrittenNow r) todo e n f h = steps.call_unwritten Few s st (slice_get source.routines r) todo (known r) h.1
+      acts (piece.CountNow m) todo e n f h = record { frames = st.frames; stack = (st.stack.0, h.1, st.stack.2); env = st.env }
+      acts piece.MoreNow todo e n f h = record { frames = st.frames; stack = (st.stack.0, h.1, st.stack.2); env = st.env }
+      acts (piece.FillNow m b d) todo e n f h = go _ _ (steps.filled Few (here s) (nat_lt s.run.elements m) m b d todo h.1)
+      acts (piece.Again o t step b) todo e n f h = go _ _ (either (AllCounted Few (here s)) (piece.is_zero (number (top s.run.operands))) todo (piece.TurnNow o t step b ∷ todo) h.1 (tt, h.1))
+      acts (piece.PrintNow form) todo e n f h = steps.prints Few s st s.env.gathered _ todo _ h.1
+      acts (piece.TextNow k) todo e n f h = steps.prints Few s st s.env.gathered _ todo _ h.1
+      acts piece.GatherNow todo e n f h = steps.go_in Few s st _ _ _ (like refl refl refl) h.1
+      acts piece.FlushNow todo e n f h = steps.flushes Few s st s.env.gathered todo _ h.1
+      acts (piece.ReadNow form) todo e n f h = go _ _ h.1
+      acts (piece.ClearNow k m) todo e n f h = steps.clears Few s st k m todo e f h.1
+      acts (piece.Items []) todo e n f h = go _ _ h.1
+      acts (piece.Items (i ∷ is)) todo e n f h = go _ _ (steps.item Few (here s) i _ (tt, h.1))
+      acts (piece.Values []) todo e n f h = go _ _ h.1
+      acts (piece.Values (i ∷ is)) todo e n f h = go _ _ (steps.item_value Few (here s) i _ (tt, h.1))
+      acts (piece.Pieces []) todo e n f h = go _ _ h.1
+      acts (piece.Pieces (i ∷ is)) todo e n f h = go _ _ (tt, steps.item_piece Few (here s) i todo h.1)
+      acts (piece.Targets []) todo e n f h = go _ _ h.1
+      acts (piece.Targets (t ∷ ts)) todo e n f h = go _ _ (tt, (tt, (tt, (tt, h.1))))
+      acts (piece.Variables []) todo e n f h = go _ _ h.1
+      acts (piece.Variables (d ∷ ds)) todo e n f h = go _ _ (tt, steps.starts Few (here s) d.cell d.value (piece.Variables ds ∷ todo) (tt, h.1))
+      acts (piece.Do a) todo e n f h = steps.stmt Few s st a todo f h.1
+      acts (piece.Rest ss) todo e n f h = absurd n
+      acts (piece.Exit w) todo e n f h = steps.exits Few s st w todo h.1
+      acts (piece.InLoop o t step b) todo e n f h = go _ _ (steps.stepped Few (here s) step _ (steps.tested Few (here s) o t step b todo h.1))
+      acts (piece.Clean x) todo e n f h = go _ _ (steps.cleans Few (here s) x todo h.1)
+      acts (piece.Sweep a) todo e n f h = steps.swept Few s st s.run.elements a todo h.1
+      acts piece.Unwind todo e n f h = steps.unwinds Few s st todo h.1
+      acts piece.ThrowNow todo e n f h = steps.throws Few s st (raising.event_in s.run.operands) todo h.1
+      acts piece.RaiseNow todo e n f h = steps.raises Few s st (raising.event_in s.run.operands) todo h.1
+      acts (piece.SetUpNow r) todo e n f h = steps.set_up Few s st (slice_get source.routines r) todo (known r) h.1
+      acts piece.EnlivenNow todo e n f h = steps.go_in Few s st _ _ _ (kept.enlivened_keeps Few (piece.own_exec s) s.env st.env) h.1
+      acts piece.TakeDownNow todo e n f h = steps.moved Few s st _ todo _ h.1 (kept.take_down_rests Few (piece.own_exec s) (at todo s.run.operands s) (go _ _ h.1))
+      acts piece.ForgetNow todo e n f h = steps.go_in Few s st _ _ _ (kept.forgotten_keeps Few (piece.own_exec s) s.env st.env) h.1
+      acts (piece.LiveNow r) todo e n f h = steps.live Few s st (slice_get source.routines r) todo h.1
+      acts piece.ResumeNow todo e n f h = steps.moved Few s st _ (piece.Land ∷ todo) _ (tt, h.1) (kept.wake_rests Few (quiet.resumed s) (at (piece.Land ∷ todo) s.run.operands s) (go _ _ (tt, h.1)))
+      acts piece.SuspendNow todo e n f h = steps.moved Few s st _ (piece.Land ∷ todo) _ (tt, h.1) (kept.suspend_rests Few (at (piece.Land ∷ todo) s.run.operands s) (go _ _ (tt, h.1)))
+      acts piece.Land todo e n f h = steps.land Few s st s.run.raised todo h.1
+      acts (piece.EnterNow m r) todo e n f h = steps.enter Few s st m (slice_get source.routines r) todo h.1
+      acts piece.LeaveNow todo e n f h = steps.leave Few s st _ (monitors.this_object s) todo h.1
+      acts (piece.MakeNow k r) todo e n f h = steps.make Few s st k r (slice_get source.routines r) todo h.1
+      acts (piece.BindMadeNow k r) todo e n f h = steps.bind Few s st (slice_get source.routines r) todo h.1
+      acts piece.MadeNow todo e n f h = steps.unless Few s st (monitors.this_object s) _ todo h.1 (steps.go_in Few s st _ _ _ (like refl refl refl) h.1)
+      acts (piece.SpawnNow r) todo e n f h = steps.unless Few s st (monitors.this_object s) _ (piece.ChildNow r ∷ todo) (tt, h.1) (steps.go_in Few s st _ _ _ (like refl refl refl) (tt, h.1))
+      acts piece.GoneNow todo e n f h = steps.go_in Few s st _ _ _ (like refl refl refl) h.1
+      acts piece.GiveUpNow todo e n f h = steps.go_in Few s st _ _ _ (like refl refl refl) h.1
+      acts (piece.ConditionNow k m) todo e n f h = steps.condition Few s st k _ todo h.1
+      acts piece.WaitNow todo e n f h = steps.unless Few s st (monitors.this_object s) _ todo h.1 (go _ _ h.1)
+      acts piece.SignalBlockNow todo e n f h = steps.unless Few s st (monitors.this_object s) _ todo h.1 (go _ _ h.1)
+      acts (piece.Guards src.NoClauses) todo e n f h = go _ _ h.1
+      acts (piece.Guards (src.Otherwise b)) todo e n f h = go _ _ h.1
+      acts (piece.Guards (src.MoreClauses guard b cs)) todo e n f h = go _ _ (tt, (tt, h.1))
+      acts (piece.AcceptNow site m) todo e n f h = steps.accept_by Few s st (monitors.mask_of (take_operands Nothing m s.run.operands [])) (monitors.this_object s) site todo (drop m s.run.operands) h.1
+      acts piece.FailedNow todo e n f h = steps.failed Few s st _ todo _ h.1
+      acts (piece.ChooseNow cs) todo e n f h = go _ _ (steps.branch Few (here s) _ cs todo h.1)
+      acts piece.RaiseAtNow todo e n f h = steps.raise_at Few s st _ _ todo _ h.1
+      acts (piece.EnableNow events cell) todo e n f h = steps.enables Few s st _ cell todo h.1
+      acts (piece.DisableNow events cell) todo e n f h = steps.enables Few s st _ cell todo h.1
+      acts (piece.RestoreNow cell) todo e n f h = steps.go_in Few s st _ _ _ (like refl refl refl) h.1
+      acts piece.PollNow todo e n f h = steps.poll Few s st todo h.1
+      acts piece.DeliverNow todo e n f h = steps.deliver Few s st _ todo h.1
+      acts piece.Finish todo e n f h = steps.unless Few s st s.env.own _ todo h.1 (steps.returned Few s st _ s.callers st.frames st.stack.2)
+      acts piece.FinishCoroutine todo e n f h = steps.moved Few s st _ todo _ h.1 (kept.finish_rests Few (at todo s.run.operands s) (go _ _ h.1))
+      acts p todo e n f h = go _ _ h.1
 
--- a task begins so
-pub first : (source : Source) (r o : ℕ) → ThereState (first_state (routine_of source r) o)
-first source r o = begins o (slice_get source.routines r)
+      -- the statements that are left of a block
 
--- answers bring operands, and at most an object in which nothing is to do
+      thens : (a : Stmt) (ss : Stmts) (todo : List Todo) → IsUnbound a → Follows a ss → Joined ss → AllCounted Few (here s) todo → GoodStepBy Few (quiet.rest_step (src.Then a ss) todo s)
+      thens a src.Nil todo b f j h = inl (steps.rest_with Few s st a src.Nil todo tt h)
+      thens a (src.Then (src.Evaluate l (src.OfObject (src.Bind (src.Variable k) (src.OfObject src.NewCluster)))) rest) todo b f j h = begun Few s st k l a rest todo f j h
+      thens a (src.Then c rest) todo b f j h = inl (steps.rest_with Few s st a (src.Then c rest) todo tt h)
+      thens a (src.Scoped (src.Destroys (src.OfObject (src.EndCluster (src.Load (src.Variable k))))) rest) todo b f j h = absurd (no_bind k a f b)
+      thens a (src.Scoped c rest) todo b f j h = inl (steps.rest_with Few s st a (src.Scoped c rest) todo tt h)
+      thens a (src.Built c rest) todo b f j h = inl (steps.rest_with Few s st a (src.Built c rest) todo tt h)
 
-more_hand : (hand : List (ℕ × Members)) (o : ℕ) (m : Members) → ThereParked m.parked → ThereHand hand → ThereHand (hand ++ (o, m) ∷ [])
-more_hand [] o m h k = (h, tt)
-more_hand (p ∷ hand) o m h k = (k.0, more_hand hand o m h k.1)
+      rests : (ss : Stmts) (todo : List Todo) → FairAt (piece.Rest ss ∷ todo) s → AllCounted Few (here s) (piece.Rest ss ∷ todo) → GoodStepBy Few (quiet.rest_step ss todo s)
+      rests src.Nil todo f h = inl (go _ _ h.1)
+      rests (src.Then a ss) todo f h = thens a ss todo h.0 f.0.0 f.0.1 h.1
+      rests (src.Scoped c ss) todo f h = inl (go _ _ (f.0.0, ((f.1 (far c h.0), uncounted Few (here s) c h.0), h.1)))
+      rests (src.Built c ss) todo f h = inl (go _ _ (f.0.0, (tt, h.1)))
 
-new_there : (source : Source) (todo : List Todo) → ThereMembers (new_members source todo)
-new_there source [] = tt
-new_there source (piece.BindMadeNow c r ∷ todo) = tt
-new_there source (p ∷ todo) = tt
+      there : Fair s → GoodStepBy Few (quiet.quiet source s)
+      there f = by s.run.control refl
+        where
+          by : (l : List Todo) → s.run.control ≡ l → GoodStepBy Few (quiet.act_todo source l s)
+          by [] e = lift Few (quiet.act_todo source [] s) (steps.returned Few s st _ s.callers st.frames st.stack.2)
+          by (piece.Rest ss ∷ todo) e = rests ss todo (subst (λ l. FairAt l s) e f) (subst (AllCounted Few (here s)) e st.stack.1)
+          by (p ∷ todo) e = lift Few (quiet.act source p todo s) (acts p todo e tt (subst (λ l. FairAt l s) e f) (subst (AllCounted Few (here s)) e st.stack.1))
 
--- with other operands
-with_operands : (s : State) (vs : List Value) → ThereState s → ThereState (record s { run = record s.run { operands = vs } })
-with_operands s vs h = record { frames = h.frames; stack = (h.stack.0, h.stack.1, h.stack.2); env = h.env }
+    pub walk : (s : State) → GoodBy Few s → Fair s → GoodStepBy Few (quiet.quiet source s)
+    walk s (inl st) f = there s st f
+    walk s (inr o) f = opening Few source s o f
 
-entered_there : (m : Option Members) (o : ℕ) (s : State) → ThereMembers m → ThereState s → ThereState (with_operand (piece.Object o) (entered m o s))
-entered_there None o s k h = with_operands s _ h
-entered_there (Some m) o s k h = record { frames = h.frames; stack = (h.stack.0, h.stack.1, h.stack.2); env = record { house = h.env.house; hand = more_hand s.env.hand o m k h.env.hand } }
+    begins : (o : ℕ) (r : Option Routine) → RoutineBegins r → CountedState Few (first_state (routine_or_none r) o)
+    begins o None b = record { frames = refl; stack = (omega arith, (tt, (tt, tt)), tt); env = record { house = (tt, tt); hand = tt } }
+    begins o (Some r) b = record { frames = refl; stack = (omega arith, steps.routine Few _ r b, tt); env = record { house = (tt, tt); hand = tt } }
 
-pub answered_there : (source : Source) (given : Answer) (s : State) → ThereState s → ThereState (answered source given s)
-answered_there source (answer.Object o) s h = entered_there (new_members source s.run.control) o s (new_there source s.run.control) h
-answered_there source (answer.Number n) s h = with_operands s _ h
-answered_there source (answer.Value n failed) s h = with_operands s _ h
-answered_there source (answer.Clause k failed) s h = with_operands s _ h
-answered_there source (answer.Event n x y) s h = with_operands s _ h
-answered_there source answer.Nothing s h = with_operands s _ h
-answered_there source answer.Go s h = h
+    -- a task begins so
+    pub first : (r o : ℕ) → CountedState Few (first_state (routine_of source r) o)
+    first r o = begins o (slice_get source.routines r) (known r)
+
+  -- answers bring operands, and at most an object in which nothing is to do
+
+  more_hand : (hand : List (ℕ × Members)) (o : ℕ) (m : Members) → CountedParked Few m.parked → CountedHand Few hand → CountedHand Few (hand ++ (o, m) ∷ [])
+  more_hand [] o m h k = (h, tt)
+  more_hand (p ∷ hand) o m h k = (k.0, more_hand hand o m h k.1)
+
+  new_there : (source : Source) (todo : List Todo) → CountedMembers Few (new_members source todo)
+  new_there source [] = tt
+  new_there source (piece.BindMadeNow c r ∷ todo) = tt
+  new_there source (p ∷ todo) = tt
+
+  -- with other operands
+  with_operands : (s : State) (vs : List Value) → CountedState Few s → CountedState Few (record s { run = record s.run { operands = vs } })
+  with_operands s vs h = record { frames = h.frames; stack = (h.stack.0, h.stack.1, h.stack.2); env = h.env }
+
+  entered_there : (m : Option Members) (o : ℕ) (s : State) → CountedMembers Few m → CountedState Few s → CountedState Few (with_operand (piece.Object o) (entered m o s))
+  entered_there None o s k h = with_operands s _ h
+  entered_there (Some m) o s k h = record { frames = h.frames; stack = (h.stack.0, h.stack.1, h.stack.2); env = record { house = h.env.house; hand = more_hand s.env.hand o m k h.env.hand } }
+
+  pub answered_there : (source : Source) (given : Answer) (s : State) → CountedState Few s → CountedState Few (answered source given s)
+  answered_there source (answer.Object o) s h = entered_there (new_members source s.run.control) o s (new_there source s.run.control) h
+  answered_there source (answer.Number n) s h = with_operands s _ h
+  answered_there source (answer.Value n failed) s h = with_operands s _ h
+  answered_there source (answer.Clause k failed) s h = with_operands s _ h
+  answered_there source (answer.Event n x y) s h = with_operands s _ h
+  answered_there source answer.Nothing s h = with_operands s _ h
+  answered_there source answer.Go s h = h
+
+  -- one that waits for a new cluster is told of it
+  pub waited : (source : Source) (o : ℕ) (s : State) → Few o ≡ true → WaitingBy Few s → OpeningBy Few (answered source (answer.Object o) s)
+  waited source o s w h =
+      let t : OpeningBy Few (with_operand (piece.Object o) s) = h o w in
+      let none : new_members source s.run.control ≡ None = ap (new_members source) t.control ∙ none_new source t.stage t.cell t.line t.next t.todo in
+      subst (λ m. OpeningBy Few (with_operand (piece.Object o) (entered m o s))) (sym none) t
 
 pub law_steps : LawSteps
 law_steps = record {
-  begins = λ source r o. first source r o;
-  steps = λ source s h f. walk source s h f;
-  told = λ source given s h. answered_there source given s h;
+  begins = λ few source known r o. first few source known r o;
+  steps = λ few source known s h f. walk few source known s h f;
+  told = λ few source given s h. answered_there few source given s h;
+  waited = λ few source o s w h. waited few source o s w h;
 }

@@ -1,41 +1,70 @@
 -- In every run in which scopes open where their variables hold objects, all is there that is in scope and known by its number.
-use Rattle.std.proofs.Common.{◌≡◌, ℕ, ◌+◌, ◌*◌, ◌≤◌, ◌<◌, ◌==◌, List, [], ◌∷◌, Option, Some, None, refl, subst, arith}
-use Rattle.std.specs.Prelude.{min}
+use Rattle.std.proofs.Common.{◌≡◌, ℕ, ◌+◌, ◌*◌, ◌≤◌, ◌<◌, ◌⊎◌, inl, inr, ◌==◌, Bool, true, false, List, [], ◌∷◌, ◌++◌, length, Option, Some, None, refl, sym, ap, ◌∙◌, subst, arith}
+use Rattle.std.specs.Prelude.{min, nat_lt, if◌then◌else◌, slice_get, slice_index_or}
 use Rattle.std.proofs.Math.Nat.{min-le_left}
+use Rattle.std.proofs.lemmas.Bool.{eqb-true, lt-ltb, ltb-true}
+use Rattle.uc_tree.specs.Programs.{Program}
 use Rattle.uc_tree.specs.Source as src
-use Rattle.uc_tree.specs.Source.{Source, Expr, Stmts, CleanUp}
+use Rattle.uc_tree.specs.Source.{Source, Expr, Stmt, Stmts, CleanUp, Routine, routine_of}
 use Rattle.uc_entry.specs.declared.entry.Entry.{Entry}
 use Rattle.uc_entry.specs.declared.entry.Options.{Options}
 use Rattle.uc_entry.specs.declared.request.Answer.{Answer}
+use Rattle.uc_entry.specs.declared.request.Answer.TheVariants as answer
 use Rattle.uc_entry.specs.declared.request.Asked.{Asked}
+use Rattle.uc_entry.specs.declared.request.Request.{Request}
+use Rattle.uc_entry.specs.declared.request.Request.TheVariants as ask
 use Rattle.uc_entry.specs.Keyed.{find}
-use Rattle.uc_acts.specs.Journal.{Journal, held, own_object}
+use Rattle.uc_acts.specs.Journal.{Journal, held, own_object, is_over}
 use Rattle.uc_acts.specs.Known.{spawns, takes_out}
+use Rattle.uc_acts.specs.Serves.{left}
+use Rattle.uc_acts.specs.Acts.{act, dispatch, lone_limit}
+use Rattle.uc_acts.specs.KernelRuns.{InRange, MayAsk}
+use Rattle.uc_acts.specs.Answers.{answer_to}
+use Rattle.uc_acts.specs.Queues.{cluster_count}
+use Rattle.uc_acts.proofs.Bounds.{over_limit}
 use Rattle.uc_machine.specs.Pieces as piece
-use Rattle.uc_machine.specs.Pieces.{Link, Slot, At, Todo, Sort, Active, LAST_ADDRESS, address}
-use Rattle.uc_machine.specs.Quiet.{State, Members, no_members, quiet}
-use Rattle.uc_machine.specs.Answering.{answered, child_main}
+use Rattle.uc_machine.specs.Pieces.{Link, Slot, At, Value, Todo, Sort, Active, LAST_ADDRESS, address, at, loaded, nought, object_in}
+use Rattle.uc_machine.specs.Executions.{at_depth, list_in, frames_in, parked_at}
+use Rattle.uc_machine.specs.Quiet as quiet
+use Rattle.uc_machine.specs.Quiet.{State, Members, no_members, first_state}
+use Rattle.uc_machine.specs.Answering.{answered, child_main, with_operand}
 use Rattle.uc_machine.specs.Rides as rides
 use Rattle.uc_machine.specs.Rides.{Rides}
-use Rattle.uc_meaning.specs.Runs.{World, May, Runs, gives, no_room, acts, begun, more, bare, with_home, hand_of, drawn, or_else}
+use Rattle.uc_meaning.specs.Runs.{World, AsksIn, May, Runs, gives, no_room, acts, begun, more, bare, with_home, hand_of, drawn, or_else, world_after}
 use Rattle.uc_resolve.specs.Resolve.{source_of}
-use Rattle.uc_scope_laws.specs.Rooms.{SourceIn, LiesAt, LiesIn, Destroyed, Lies}
+use Rattle.uc_rules.specs.Breaks.{breaks_of}
+use Rattle.uc_program_laws.specs.Fitting.{MayFit, RunFits}
+use Rattle.uc_program_laws.proofs.Others.{RunRests, may_ask, run_rests}
+use Rattle.uc_answer_laws.specs.Suiting.{Form, AnObject, JustGo, IsForm, asked_form, form_of_request, AsksFor}
+use Rattle.uc_answer_laws.proofs.Told.{form_push}
+use Rattle.uc_answer_laws.proofs.Runs.{law_suiting}
+use Rattle.uc_answer_laws.proofs.Asking.{law_asking}
+use Rattle.uc_scope_laws.specs.Rooms.{Room, IsWithin, SourceIn, LiesAt, LiesIn, Destroyed, Lies, StmtIn, StmtsIn, MaybeRoutineIn}
 use Rattle.uc_scope_laws.specs.RoomStates as rooms
 use Rattle.uc_scope_laws.specs.RoomStacks as stacks
-use Rattle.uc_scope_laws.specs.RoomStacks.{StackState, StackStep}
+use Rattle.uc_scope_laws.specs.RoomStacks.{UpTo, SomeTo, StackState, StackStep}
 use Rattle.uc_scope_laws.specs.Layout.{Sized}
 use Rattle.uc_scope_laws.specs.RoomRuns as runs
 use Rattle.uc_scope_laws.specs.RoomRuns.{Leads, Comes}
+use Rattle.uc_scope_laws.proofs.RoomLemmas.{joined}
+use Rattle.uc_scope_laws.proofs.Stacks.{up_to}
 use Rattle.uc_scope_laws.proofs.StackWalk as stacking
 use Rattle.uc_scope_laws.proofs.StackWorlds as stacked
 use Rattle.uc_scope_laws.proofs.StackWorlds.{StackWorld}
 use Rattle.uc_scope_laws.proofs.Unreferring.{law_accepted}
-use Rattle.uc_value_laws.specs.There.{EndsAt, OfVariable, OfElements, OfEach, IsBefore, BeforeBy, AllBefore, FrameBefore}
-use Rattle.uc_value_laws.specs.ThereStates.{ThereHand, ThereMembers, ThereState, ThereStep, FairAt, Fair}
-use Rattle.uc_value_laws.specs.Opens.{OpensAt, Opens, LawFair, RideOpens, MayOpen, RunOpens, LeadsOpen, LawRuns}
+use Rattle.uc_value_laws.specs.There.{EndsAt, OfVariable, OfElements, OfEach, IsFew, AllCounted, Any, IsBefore, BeforeBy, AllBefore, FrameBefore, frame_at}
+use Rattle.uc_value_laws.specs.ThereStates.{CountedHand, CountedMembers, CountedEnv, CountedState, RoutineBegins, SourceBegins, BodiesBegin, ScopeFits, BoundFits, FairAt, Fair}
+use Rattle.uc_value_laws.specs.NewClusters as way
+use Rattle.uc_value_laws.specs.NewClusters.{Stage, stage_todo, StageHoldsBy, OpeningBy, WaitingBy, GoodBy, AskedBy, GoodStepBy}
+use Rattle.uc_value_laws.specs.Opens.{OpensAt, Opens, LawFair, RideOpens, MayOpen, RunOpens, LeadsOpen, TellsFew, RestsBy, AllIsCounted, LawRuns, LawCounts, LeavesCluster, EndsCluster, LawEnds}
 use Rattle.uc_value_laws.proofs.Cells.{either}
 use Rattle.uc_value_laws.proofs.Keeping.{found_hand}
-use Rattle.uc_value_laws.proofs.Walk.{walk, first, answered_there}
+use Rattle.uc_value_laws.proofs.Counts.{some_cluster, grows, told_own, told_others, one_kept}
+use Rattle.uc_value_laws.proofs.Steps.{exec_same, here}
+use Rattle.uc_value_laws.proofs.Walk.{walk, first, answered_there, waited}
+
+no_both : {A : Type 0} (b : Bool) → b ≡ true → b ≡ false → A
+no_both b t f = absurd (cc)
 
 -- what lies before a cell
 
@@ -81,95 +110,356 @@ module _ (Z : ℕ → ℕ → Type 0) where
   frame_before cell f [] h = tt
   frame_before cell f (c ∷ cs) h = ((λ e. all_before cell c.control (h.0 e)), frame_before cell f cs h.1)
 
+  -- a cluster lies in the frame
+
+  scope_fits : (n : ℕ) (o : Room) (ss : Stmts) → o.high ≤ n → StmtsIn Z o ss → ScopeFits n ss
+  scope_fits n o (src.Scoped (src.Destroys (src.OfObject (src.EndCluster (src.Load (src.Variable k))))) rest) l h =
+      let m : Room = h.0 in
+      let w : IsWithin o m = h.1 in
+      let a = w.cells in
+      let b = w.high in
+      let c = h.2.0.1 in
+      omega (arith, l, a, b, c)
+  scope_fits n o ss l h = tt
+
+  bound_fits : (n : ℕ) (todo : List Todo) → SomeTo Z (UpTo n) todo → BoundFits n todo
+  bound_fits n (piece.DropNow ∷ (piece.Within line ∷ (piece.Rest ss ∷ todo))) h =
+      scope_fits n h.0 ss (up_to Z n h.0 todo h.1.1.1.1) h.1.1.1.0
+  bound_fits n todo h = tt
+
+  -- what stands within a statement
+  bodies : (o : Room) (a : Stmt) → StmtIn Z o a → BodiesBegin a
+  bodies o (src.Block line body) h = h.1
+  bodies o (src.Whole line body) h = h.1
+  bodies o (src.OfEvents (src.Try line body hs)) h = (h.7, h.8)
+  bodies o a h = tt
+
   fair : (s : State) → StackState Z s → Opens s → Fair s
   fair s st o = by s.run.control refl o
     where
-      by_rest : (ss : Stmts) (todo : List Todo) → OpensAt (piece.Rest ss ∷ todo) s → FairAt (piece.Rest ss ∷ todo) s
-      by_rest (src.Scoped c rest) todo o = o
-      by_rest ss todo o = tt
+      to : (l : List Todo) → s.run.control ≡ l → SomeTo Z (UpTo (length (frame_at s.run.frame s.env.frames))) l
+      to l e = subst (SomeTo Z (UpTo (length (frame_at s.run.frame s.env.frames)))) e (stacking.rooms Z s st 0 s.run refl)
 
       by : (l : List Todo) → s.run.control ≡ l → OpensAt l s → FairAt l s
       by (piece.ClearNow k n ∷ todo) e o = frame_before k s.run.frame (s.run ∷ s.callers) (stacking.cleared Z s st k n todo e)
-      by (piece.Rest ss ∷ todo) e o = by_rest ss todo o
+      by (piece.Rest ss ∷ todo) e o = let t = to (piece.Rest ss ∷ todo) e in (joined Z t.0 ss t.1.0, o)
+      by (piece.Do a ∷ todo) e o = let t = to (piece.Do a ∷ todo) e in bodies t.0 a t.1.0
+      by (piece.BindNow ∷ todo) e o = let t = to (piece.BindNow ∷ todo) e in bound_fits (length (frame_at s.run.frame s.env.frames)) todo (t.0, t.1.1)
       by l e o = tt
 
+  begins_by : (r : Option Routine) → MaybeRoutineIn Z r → RoutineBegins r
+  begins_by None h = tt
+  begins_by (Some r) h = h.begins
+
 pub law_fair : LawFair
-law_fair p s st o = fair (Sized p) s st o
+law_fair = record {
+  begins = λ p source h n. begins_by (Sized p) (slice_get source.routines n) (h n);
+  fair = λ p s st o. fair (Sized p) s st o;
+}
 
--- tasks at rest, and what is at home in objects
-record ThereWorld (w : World) : Type 0 where
-  tasks : (t : ℕ) → ThereState (w.tasks t)
-  homes : (o : ℕ) → ThereMembers (w.homes o)
+module _ (Few : ℕ → Bool) where
+  -- what is at home in objects
 
-home_there : (o : ℕ) (x : Option Members) (hand : List (ℕ × Members)) → ThereMembers x → ThereHand hand → ThereHand (with_home o x hand)
-home_there o None hand h k = k
-home_there o (Some m) hand h k = (h, k)
+  home_there : (o : ℕ) (x : Option Members) (hand : List (ℕ × Members)) → CountedMembers Few x → CountedHand Few hand → CountedHand Few (with_home o x hand)
+  home_there o None hand h k = k
+  home_there o (Some m) hand h k = (h, k)
 
-hand_there : (os : List ℕ) (homes : ℕ → Option Members) → ((o : ℕ) → ThereMembers (homes o)) → ThereHand (hand_of os homes)
-hand_there [] homes h = tt
-hand_there (o ∷ os) homes h = home_there o (homes o) (hand_of os homes) (h o) (hand_there os homes h)
+  hand_there : (os : List ℕ) (homes : ℕ → Option Members) → ((o : ℕ) → CountedMembers Few (homes o)) → CountedHand Few (hand_of os homes)
+  hand_there [] homes h = tt
+  hand_there (o ∷ os) homes h = home_there o (homes o) (hand_of os homes) (h o) (hand_there os homes h)
 
-or_there : (x y : Option Members) → ThereMembers x → ThereMembers y → ThereMembers (or_else x y)
-or_there None y h k = k
-or_there (Some m) y h k = h
+  or_there : (x y : Option Members) → CountedMembers Few x → CountedMembers Few y → CountedMembers Few (or_else x y)
+  or_there None y h k = k
+  or_there (Some m) y h k = h
 
-drawn_there : (j : Journal) (w : World) (t : ℕ) → ThereWorld w → ThereState (drawn j w t)
-drawn_there j w t n =
-    let x = n.tasks t in
-    record { frames = x.frames; stack = x.stack; env = record { house = x.env.house; hand = hand_there (held t j) w.homes n.homes } }
+  -- a task with other things in hand
 
-bare_there : (s : State) → ThereState s → ThereState (bare s)
-bare_there s h = record { frames = h.frames; stack = h.stack; env = record { house = h.env.house; hand = tt } }
+  abbrev with_hand : (hand : List (ℕ × Members)) → State → State
+  with_hand hand s = record s { env = record s.env { hand = hand } }
 
-module _ (Z : ℕ → ℕ → Type 0) (source : Source) (known : SourceIn Z source) where
-  -- one step
-  steps_to : (s : State) → StackState Z s → Opens s → ThereState s → ThereStep (quiet source s)
-  steps_to s st o h = walk source s h (fair Z s st o)
+  hand_state : (hand : List (ℕ × Members)) (s : State) → CountedHand Few hand → CountedState Few s → CountedState Few (with_hand hand s)
+  hand_state hand s k h = record { frames = h.frames; stack = h.stack; env = record { house = h.env.house; hand = k } }
 
-  stack_to : (s : State) → StackState Z s → StackStep Z (quiet source s)
-  stack_to s st = stacking.walk Z source known s st
+  hand_holds : (hand : List (ℕ × Members)) (g : Stage) (k : ℕ) (ss : Stmts) (s : State) → StageHoldsBy Few g k ss s → StageHoldsBy Few g k ss (with_hand hand s)
+  hand_holds hand (way.Declares m d) k ss s h = h
+  hand_holds hand (way.Lists m d) k ss s h = h
+  hand_holds hand (way.Clears m d) k ss s h = h
+  hand_holds hand (way.Cleared m) k ss s h = h
+  hand_holds hand (way.Passes m) k ss s h = h
+  hand_holds hand way.Reaches k ss s h = h
+  hand_holds hand way.Does k ss s h = h
+  hand_holds hand way.Binds k ss s h = h
+  hand_holds hand way.Places k ss s h = h
+  hand_holds hand way.Makes k ss s h = h
+  hand_holds hand way.Orders k ss s h = h
+  hand_holds hand way.Told k ss s h = h
+  hand_holds hand way.Bound k ss s h = h
+  hand_holds hand way.Leaves k ss s h = h
+  hand_holds hand way.Opens k ss s h = h
 
-  led : {s u : State} (l : Leads source s u) → LeadsOpen source s u l → StackState Z s → ThereState s → ThereState u
-  led runs.stays o st h = h
-  led (runs.goes {s} e l) o st h = led l o.1 (subst (StackStep Z) e (stack_to s st)) (subst ThereStep e (steps_to s st o.0 h))
-  led (runs.ticks {s} e l) o st h = led l o.1 (subst (StackStep Z) e (stack_to s st)) (subst ThereStep e (steps_to s st o.0 h))
+  hand_opening : (hand : List (ℕ × Members)) (s : State) → CountedHand Few hand → OpeningBy Few s → OpeningBy Few (with_hand hand s)
+  hand_opening hand s k h = record {
+    cell = h.cell;
+    line = h.line;
+    next = h.next;
+    todo = h.todo;
+    stage = h.stage;
+    control = h.control;
+    follows = h.follows;
+    holds = hand_holds hand h.stage h.cell h.next s h.holds;
+    frames = h.frames;
+    frame = h.frame;
+    behind = h.behind;
+    callers = h.callers;
+    env = record { house = h.env.house; hand = k };
+  }
 
-  ridden : {s u : State} {q k : ℕ} {a : Asked} (r : Rides source s q u k a) → RideOpens source s q u k a r → StackState Z s → ThereState s → ThereState u
-  ridden rides.slices o st h = h
-  ridden (rides.goes_on {s} {t} e r) o st h = ridden r o.1 (subst (StackStep Z) e (stack_to s st)) (subst ThereStep e (steps_to s st o.0 h))
-  ridden (rides.ticks {s} {t} e r) o st h = ridden r o.1 (subst (StackStep Z) e (stack_to s st)) (subst ThereStep e (steps_to s st o.0 h))
-  ridden (rides.asks {s} {t} e) o st h = subst ThereStep e (steps_to s st o h)
+  hand_waiting : (hand : List (ℕ × Members)) (s : State) → CountedHand Few hand → WaitingBy Few s → WaitingBy Few (with_hand hand s)
+  hand_waiting hand s k h o w = hand_opening hand (with_operand (piece.Object o) s) k (h o w)
 
-  begun_stack : (given : Answer) (j : Journal) (w : World) (t : ℕ) → StackWorld Z w → StackState Z (answered source given (drawn j w t))
-  begun_stack given j w t x = stacking.answered_rests Z source given (drawn j w t) (stacked.drawn_rests Z j w t x)
+  hand_rests : (source : Source) (j : Journal) (t : ℕ) (hand : List (ℕ × Members)) (s : State) → CountedHand Few hand → RestsBy Few source j t s → RestsBy Few source j t (with_hand hand s)
+  hand_rests source j t hand s k (inl h) = inl (hand_state hand s k h)
+  hand_rests source j t hand s k (inr (inl h)) = inr (inl (h.0, hand_waiting hand s k h.1, h.2))
+  hand_rests source j t hand s k (inr (inr h)) = inr (inr (h.0, hand_opening hand s k h.1))
 
-  begun_there : (given : Answer) (j : Journal) (w : World) (t : ℕ) → ThereWorld w → ThereState (answered source given (drawn j w t))
-  begun_there given j w t x = answered_there source given (drawn j w t) (drawn_there j w t x)
+  -- what a task has asked of the form
 
-  module _ (input : List ℕ) (opts : Options) where
-    may_there : {j : Journal} {w : World} {a : List Entry} {x : World} → StackWorld Z w → ThereWorld w → (m : May source opts input j w a x) → MayOpen source opts input j w a x m → ThereWorld x
-    may_there st n (gives p t s le) o = n
-    may_there st n (no_room p t s le) o = n
-    may_there {j} {w} {a} st n (acts p t k s asked d) o =
-        let there : ThereState s = ridden d.rides o (begun_stack d.given j w t st) (begun_there d.given j w t n) in
-        record {
-          tasks = λ u. either ThereState (u == t) _ _ (bare_there s there) (either ThereState (spawns a u) _ _ (first source (child_main source s.run.control) (own_object u a)) (n.tasks u));
-          homes = λ q. either ThereMembers (takes_out a q) None (or_else (find q s.env.hand) (w.homes q)) tt (or_there (find q s.env.hand) (w.homes q) (found_hand q s.env.hand there.env.hand) (n.homes q));
-        }
+  same_form : (source : Source) (j i : Journal) (t : ℕ) (s : State) → asked_form t i ≡ asked_form t j → ((o : ℕ) → answer_to source.sites t i ≡ Some (answer.Object o) → answer_to source.sites t j ≡ Some (answer.Object o)) → RestsBy Few source j t s → RestsBy Few source i t s
+  same_form source j i t s e f (inl h) = inl h
+  same_form source j i t s e f (inr (inl h)) = inr (inl (e ∙ h.0, h.1, λ o q. h.2 o (f o q)))
+  same_form source j i t s e f (inr (inr h)) = inr (inr (e ∙ h.0, h.1))
 
-    world_there : {j : Journal} {w : World} (r : Runs source input opts j w) → RunOpens source input opts j w r → ThereWorld w
-    world_there begun o = record {
-      tasks = λ t. first source source.main 0;
-      homes = λ q. either ThereMembers (q == 0) (Some no_members) None tt tt;
-    }
-    world_there (more r o m) h = may_there (stacked.world_rests Z source known input opts r) (world_there r h.0) m h.1
+  -- where a ride ends
+  abbrev RiddenState : Request → State → Type 0
+  RiddenState r s = CountedState Few s ⊎ (((r ≡ ask.Cluster) × WaitingBy Few s) ⊎ ((r ≡ ask.Slice) × OpeningBy Few s))
 
-pub law_runs : LawRuns
-law_runs p h input opts j w r o = record {
+  asked_ridden : (r : Request) (s : State) → AskedBy Few r s → RiddenState r s
+  asked_ridden r s (inl h) = inl h
+  asked_ridden r s (inr h) = inr (inl h)
+
+  sliced : (s : State) → GoodBy Few s → RiddenState ask.Slice s
+  sliced s (inl h) = inl h
+  sliced s (inr h) = inr (inr (refl, h))
+
+  -- some number is one of these
+  abbrev SomeFew : Type 0
+  SomeFew = (n : ℕ) × (Few n ≡ true)
+
+  ridden_env : SomeFew → (r : Request) (s : State) → RiddenState r s → CountedEnv Few s.env
+  ridden_env f r s (inl h) = h.env
+  ridden_env f r s (inr (inl h)) = (h.1 f.0 f.1).env
+  ridden_env f r s (inr (inr h)) = h.1.env
+
+  ridden_rests : (source : Source) (j : Journal) (t : ℕ) (r : Request) (s : State) → asked_form t j ≡ form_of_request r → (r ≡ ask.Cluster → TellsFew Few source t j) → RiddenState r s → RestsBy Few source j t s
+  ridden_rests source j t r s e f (inl h) = inl h
+  ridden_rests source j t r s e f (inr (inl h)) = inr (inl (e ∙ ap form_of_request h.0, h.1, f h.0))
+  ridden_rests source j t r s e f (inr (inr h)) = inr (inr (e ∙ ap form_of_request h.0, h.1))
+
+  -- a task goes on with an answer
+
+  told_waiting : (source : Source) (given : Answer) (s : State) → IsForm AnObject given → ((o : ℕ) → given ≡ answer.Object o → Few o ≡ true) → WaitingBy Few s → GoodBy Few (answered source given s)
+  told_waiting source (answer.Object o) s f w h = inr (waited Few source o s (w o refl) h)
+  told_waiting source given s f w h = absurd f
+
+  told_opening : (source : Source) (given : Answer) (s : State) → IsForm JustGo given → OpeningBy Few s → GoodBy Few (answered source given s)
+  told_opening source answer.Go s f h = inr h
+  told_opening source given s f h = absurd f
+
+  told_rests : (source : Source) (given : Answer) (j : Journal) (t : ℕ) (s : State) → IsForm (asked_form t j) given → answer_to source.sites t j ≡ Some given → RestsBy Few source j t s → GoodBy Few (answered source given s)
+  told_rests source given j t s f a (inl h) = inl (answered_there Few source given s h)
+  told_rests source given j t s f a (inr (inl h)) = told_waiting source given s (subst (λ (x : Form). IsForm x given) h.0 f) (λ o q. h.2 o (a ∙ ap (λ (x : Answer). Some x) q)) h.1
+  told_rests source given j t s f a (inr (inr h)) = told_opening source given s (subst (λ (x : Form). IsForm x given) h.0 f) h.1
+
+  -- all clusters that there are have such numbers
+  abbrev Below : Journal → Type 0
+  Below j = (n : ℕ) → n < cluster_count j → Few n ≡ true
+
+  some_few : (j : Journal) → Below j → SomeFew
+  some_few j low = let l = some_cluster j in (0, low 0 (omega (arith, l)))
+
+  object_same : (n o : ℕ) → Some (answer.Object n) ≡ Some (answer.Object o) → n ≡ o
+  object_same n o e = cc
+
+  -- tasks at rest
+  record CountedWorld (source : Source) (j : Journal) (w : World) : Type 0 where
+    tasks : (t : ℕ) → RestsBy Few source j t (w.tasks t)
+    homes : (o : ℕ) → CountedMembers Few (w.homes o)
+
+  module _ (Z : ℕ → ℕ → Type 0) (source : Source) (known : SourceIn Z source) where
+    begin : SourceBegins source
+    begin n = begins_by Z (slice_get source.routines n) (known n)
+
+    -- one step
+    steps_to : (s : State) → StackState Z s → Opens s → GoodBy Few s → GoodStepBy Few (quiet.quiet source s)
+    steps_to s st o h = walk Few source begin s h (fair Z s st o)
+
+    stack_to : (s : State) → StackState Z s → StackStep Z (quiet.quiet source s)
+    stack_to s st = stacking.walk Z source known s st
+
+    led : {s u : State} (l : Leads source s u) → LeadsOpen source s u l → StackState Z s → GoodBy Few s → GoodBy Few u
+    led runs.stays o st h = h
+    led (runs.goes {s} e l) o st h = led l o.1 (subst (StackStep Z) e (stack_to s st)) (subst (GoodStepBy Few) e (steps_to s st o.0 h))
+    led (runs.ticks {s} e l) o st h = led l o.1 (subst (StackStep Z) e (stack_to s st)) (subst (GoodStepBy Few) e (steps_to s st o.0 h))
+
+    ridden : {s u : State} {q k : ℕ} {a : Asked} (r : Rides source s q u k a) → RideOpens source s q u k a r → StackState Z s → GoodBy Few s → RiddenState a.request u
+    ridden (rides.slices {s}) o st h = sliced s h
+    ridden (rides.goes_on {s} {t} e r) o st h = ridden r o.1 (subst (StackStep Z) e (stack_to s st)) (subst (GoodStepBy Few) e (steps_to s st o.0 h))
+    ridden (rides.ticks {s} {t} e r) o st h = ridden r o.1 (subst (StackStep Z) e (stack_to s st)) (subst (GoodStepBy Few) e (steps_to s st o.0 h))
+    ridden (rides.asks {s} {t} {q} {r} e) o st h = asked_ridden r t (subst (GoodStepBy Few) e (steps_to s st o h))
+
+    begun_stack : (given : Answer) (j : Journal) (w : World) (t : ℕ) → StackWorld Z w → StackState Z (answered source given (drawn j w t))
+    begun_stack given j w t x = stacking.answered_rests Z source given (drawn j w t) (stacked.drawn_rests Z j w t x)
+
+    begun_there : (given : Answer) (j : Journal) (w : World) (t : ℕ) → IsForm (asked_form t j) given → answer_to source.sites t j ≡ Some given → CountedWorld source j w → GoodBy Few (answered source given (drawn j w t))
+    begun_there given j w t f a n =
+        told_rests source given j t (drawn j w t) f a (hand_rests source j t (hand_of (held t j) w.homes) (w.tasks t) (hand_there (held t j) w.homes n.homes) (n.tasks t))
+
+    module _ (input : List ℕ) (opts : Options) (range : InRange opts) where
+      acts_there : {j : Journal} {w : World} → RunRests source input opts j w → is_over j ≡ false → StackWorld Z w → CountedWorld source j w → (p t n : ℕ) (s : State) (asked : Asked) (d : AsksIn source opts j w p t n s asked) → RideOpens source (answered source d.given (drawn j w t)) (left opts j t) s n asked d.rides → MayAsk opts source.sites j p t n asked.request → is_over (j ++ act opts source.sites input j p t n asked) ≡ false → Below (j ++ act opts source.sites input j p t n asked) → CountedWorld source (j ++ act opts source.sites input j p t n asked) (world_after source (act opts source.sites input j p t n asked) w t s)
+      acts_there {j} {w} r going st x p t n s asked d o m on low =
+          let a : List Entry = act opts source.sites input j p t n asked in
+          let asks = law_asking opts source.sites input j p t n asked r.kernel m on in
+          let there : RiddenState asked.request s = ridden d.rides o (begun_stack d.given j w t st) (begun_there d.given j w t (law_suiting opts source.sites input j r.kernel going t d.given d.told) d.told x) in
+          record {
+            tasks = λ u. by_task u asks there;
+            homes = λ q. either (CountedMembers Few) (takes_out a q) None (or_else (find q s.env.hand) (w.homes q)) tt (or_there (find q s.env.hand) (w.homes q) (found_hand Few q s.env.hand (ridden_env (some_few (j ++ a) low) asked.request s there).hand) (x.homes q));
+          }
+        where
+          after : List Entry
+          after = act opts source.sites input j p t n asked
+
+          told : asked.request ≡ ask.Cluster → TellsFew Few source t (j ++ after)
+          told q o e =
+              let new = told_own opts source.sites input j p t n asked q on in
+              let same : cluster_count j ≡ o = object_same (cluster_count j) o (sym new.answer ∙ e) in
+              low o (subst (λ (x : ℕ). x < cluster_count (j ++ after)) same new.count)
+
+          by_task : (u : ℕ) → AsksFor j after t asked.request → RiddenState asked.request s → RestsBy Few source (j ++ after) u (if u == t then bare s else if spawns after u then first_state (routine_of source (child_main source s.run.control)) (own_object u after) else w.tasks u)
+          by_task u asks there = by (u == t) refl
+            where
+              own : u ≡ t → RestsBy Few source (j ++ after) u (bare s)
+              own e = subst (λ v. RestsBy Few source (j ++ after) v (bare s)) (sym e) (hand_rests source (j ++ after) t [] s tt (ridden_rests source (j ++ after) t asked.request s asks.own told there))
+
+              by : (b : Bool) → (u == t) ≡ b → RestsBy Few source (j ++ after) u (if b then bare s else if spawns after u then first_state (routine_of source (child_main source s.run.control)) (own_object u after) else w.tasks u)
+              by true e = own (eqb-true u t e)
+              by false e =
+                  either (RestsBy Few source (j ++ after) u) (spawns after u) (first_state (routine_of source (child_main source s.run.control)) (own_object u after)) (w.tasks u) (inl (first Few source begin (child_main source s.run.control) (own_object u after))) (same_form source j (j ++ after) u (w.tasks u) (asks.others u e) (λ o f. told_others opts source.sites input j p t n asked u o e f) (x.tasks u))
+
+      may_there : {j : Journal} {w : World} {a : List Entry} {v : World} → RunRests source input opts j w → is_over j ≡ false → StackWorld Z w → CountedWorld source j w → (m : May source opts input j w a v) → MayFit source opts input j w a v m → MayOpen source opts input j w a v m → is_over (j ++ a) ≡ false → Below (j ++ a) → CountedWorld source (j ++ a) v
+      may_there {j} {w} r going st n (gives p t s le) f o on low = record {
+        tasks = λ u. same_form source j (j ++ dispatch p t ∷ []) u (w.tasks u) (form_push u j (dispatch p t)) (λ o f. one_kept source.sites j (dispatch p t) u o refl f) (n.tasks u);
+        homes = n.homes;
+      }
+      may_there {j} r going st n (no_room p t s le) f o on low = no_both (is_over (j ++ lone_limit ∷ [])) (over_limit j 0 0) on
+      may_there {j} {w} r going st n (acts p t k s asked d) f o on low = acts_there r going st n p t k s asked d o (may_ask source input opts range d f) on low
+
+      world_there : {j : Journal} {w : World} (r : Runs source input opts j w) → RunFits source input opts j w r → is_over j ≡ false → RunOpens source input opts j w r → Below j → CountedWorld source j w
+      world_there begun f on o low = record {
+        tasks = λ t. inl (first Few source begin source.main 0);
+        homes = λ q. either (CountedMembers Few) (q == 0) (Some no_members) None tt tt;
+      }
+      world_there (more {j} {w} {a} r g m) f on o low =
+          may_there (run_rests source input opts range r f.0 g) g (stacked.world_rests Z source known input opts r) (world_there r f.0 g o.0 (λ n l. let more = grows j a in low n (omega (arith, l, more)))) m f.1 o.1 on low
+
+-- in a run of a program
+runs_by : (few : ℕ → Bool) (p : Program) → breaks_of p ≡ [] → (input : List ℕ) (opts : Options) → InRange opts → (j : Journal) (w : World) (r : Runs (source_of p) input opts j w) → RunFits (source_of p) input opts j w r → is_over j ≡ false → RunOpens (source_of p) input opts j w r → ((n : ℕ) → n < cluster_count j → few n ≡ true) → AllIsCounted few (source_of p) j w
+runs_by few p h input opts range j w r f on o low = record {
   tasks = λ t. there.tasks t;
   homes = λ q. there.homes q;
-  comes = λ t s c l. led (Sized p) (source_of p) (law_accepted p h) c.leads l (begun_stack (Sized p) (source_of p) (law_accepted p h) c.given j w t (stacked.world_rests (Sized p) (source_of p) (law_accepted p h) input opts r)) (begun_there (Sized p) (source_of p) (law_accepted p h) c.given j w t there);
+  comes = λ t s c l. led few (Sized p) (source_of p) known c.leads l (begun_stack few (Sized p) (source_of p) known c.given j w t (stacked.world_rests (Sized p) (source_of p) known input opts r)) (begun_there few (Sized p) (source_of p) known c.given j w t (law_suiting opts (source_of p).sites input j rests.kernel on t c.given c.told) c.told there);
 }
   where
-    there : ThereWorld w
-    there = world_there (Sized p) (source_of p) (law_accepted p h) input opts r o
+    known : SourceIn (Sized p) (source_of p)
+    known = law_accepted p h
+
+    rests : RunRests (source_of p) input opts j w
+    rests = run_rests (source_of p) input opts range r f on
+
+    there : CountedWorld few (source_of p) j w
+    there = world_there few (Sized p) (source_of p) known input opts range r f on o low
+
+pub law_runs : LawRuns
+law_runs p h input opts range j w r f on o = runs_by Any p h input opts range j w r f on o (λ n l. refl)
+
+pub law_counts : LawCounts
+law_counts p h input opts range j w r f on o = runs_by (λ n. nat_lt n (cluster_count j)) p h input opts range j w r f on o (λ n l. lt-ltb n (cluster_count j) l)
+
+-- the end of a cluster
+
+running : (P : Value → Type 0) (s : State) (p : List Link) → P (slice_index_or (here s) (address p) nought) → P (loaded (piece.Place (piece.this_frame s) p) s.env)
+running P s p h =
+    subst (λ (b : Bool). P (slice_index_or (list_in (at_depth (if b then s.env.frames else frames_in (parked_at s.env.exec s.env)) s.run.frame)) (address p) nought)) (sym (exec_same s.env.exec)) h
+
+few_below : (n : ℕ) (v : Value) → IsFew (λ x. nat_lt x n) v → object_in v < n
+few_below n (piece.Number z) h = absurd h
+few_below n (piece.Place o p) h = absurd h
+few_below n (piece.Running e) h = absurd h
+few_below n (piece.Object o) h = ltb-true o n h
+few_below n piece.Nothing h = absurd h
+
+module _ (source : Source) (j : Journal) (s : State) (k : ℕ) (todo : List Todo) (l : object_in (loaded (piece.variable_at k s) s.env) < cluster_count j) where
+  abbrev ended : Expr
+  ended = src.OfObject (src.EndCluster (src.Load (src.Variable k)))
+
+  -- the end of the cluster is asked for before this, with these operands below it
+  ends : (rest : List Todo) (vs : List Value) → quiet.quiet source s ≡ piece.Goes (at (piece.Eval ended ∷ (piece.DropNow ∷ rest)) vs s) → EndsCluster source j s
+  ends rest vs e = record {
+    cluster = object_in (loaded (piece.variable_at k s) s.env);
+    there = l;
+    asking = at (piece.ClusterEndNow ∷ (piece.DropNow ∷ rest)) (loaded (piece.variable_at k s) s.env ∷ vs) s;
+    after = at (piece.DropNow ∷ rest) (nought ∷ vs) s;
+    leads = quiet.more e (quiet.more refl (quiet.more refl (quiet.more refl (quiet.more refl quiet.stay))));
+    asks = refl;
+  }
+
+  leaves : LeavesCluster k todo s.run.control → EndsCluster source j s
+  leaves (inl e) = ends todo s.run.operands (ap (λ (x : List Todo). quiet.act_todo source x s) e)
+  leaves (inr e) = ends (piece.Unwind ∷ todo) [] (ap (λ (x : List Todo). quiet.act_todo source x s) e)
+
+-- no list on the way to a scope begins so
+none_leaves : (g : Stage) (n l : ℕ) (ss : Stmts) (rest : List Todo) (k : ℕ) (todo : List Todo) → LeavesCluster k todo (stage_todo g n l ss rest) → ⊥
+none_leaves (way.Declares m d) n l ss rest k todo (inl e) = cc
+none_leaves (way.Declares m d) n l ss rest k todo (inr e) = cc
+none_leaves (way.Lists m d) n l ss rest k todo (inl e) = cc
+none_leaves (way.Lists m d) n l ss rest k todo (inr e) = cc
+none_leaves (way.Clears m d) n l ss rest k todo (inl e) = cc
+none_leaves (way.Clears m d) n l ss rest k todo (inr e) = cc
+none_leaves (way.Cleared m) n l ss rest k todo (inl e) = cc
+none_leaves (way.Cleared m) n l ss rest k todo (inr e) = cc
+none_leaves (way.Passes m) n l ss rest k todo (inl e) = cc
+none_leaves (way.Passes m) n l ss rest k todo (inr e) = cc
+none_leaves way.Reaches n l ss rest k todo (inl e) = cc
+none_leaves way.Reaches n l ss rest k todo (inr e) = cc
+none_leaves way.Does n l ss rest k todo (inl e) = cc
+none_leaves way.Does n l ss rest k todo (inr e) = cc
+none_leaves way.Binds n l ss rest k todo (inl e) = cc
+none_leaves way.Binds n l ss rest k todo (inr e) = cc
+none_leaves way.Places n l ss rest k todo (inl e) = cc
+none_leaves way.Places n l ss rest k todo (inr e) = cc
+none_leaves way.Makes n l ss rest k todo (inl e) = cc
+none_leaves way.Makes n l ss rest k todo (inr e) = cc
+none_leaves way.Orders n l ss rest k todo (inl e) = cc
+none_leaves way.Orders n l ss rest k todo (inr e) = cc
+none_leaves way.Told n l ss rest k todo (inl e) = cc
+none_leaves way.Told n l ss rest k todo (inr e) = cc
+none_leaves way.Bound n l ss rest k todo (inl e) = cc
+none_leaves way.Bound n l ss rest k todo (inr e) = cc
+none_leaves way.Leaves n l ss rest k todo (inl e) = cc
+none_leaves way.Leaves n l ss rest k todo (inr e) = cc
+none_leaves way.Opens n l ss rest k todo (inl e) = cc
+none_leaves way.Opens n l ss rest k todo (inr e) = cc
+
+counted_here : (few : ℕ → Bool) (s : State) (k : ℕ) (todo : List Todo) → LeavesCluster k todo s.run.control → k ≤ LAST_ADDRESS → GoodBy few s → IsFew few (slice_index_or (here s) (address (Slot k ∷ [])) nought)
+counted_here few s k todo (inl e) l (inl h) =
+    let all : AllCounted few (here s) (piece.Clean (src.Destroys (src.OfObject (src.EndCluster (src.Load (src.Variable k))))) ∷ todo) = subst (AllCounted few (here s)) e h.stack.1 in
+    all.0.1 l
+counted_here few s k todo (inr e) l (inl h) =
+    let all : AllCounted few (here s) (piece.Unwind ∷ (piece.Clean (src.Destroys (src.OfObject (src.EndCluster (src.Load (src.Variable k))))) ∷ todo)) = subst (AllCounted few (here s)) e h.stack.1 in
+    all.1.0.1 l
+counted_here few s k todo e l (inr h) = absurd (none_leaves h.stage h.cell h.line h.next h.todo k todo (subst (LeavesCluster k todo) h.control e))
+
+pub law_ends : LawEnds
+law_ends p h input opts range j w r f on o t s c l k todo near e =
+    let good : GoodBy (λ n. nat_lt n (cluster_count j)) s = (law_counts p h input opts range j w r f on o).comes t s c l in
+    let few : IsFew (λ n. nat_lt n (cluster_count j)) (loaded (piece.variable_at k s) s.env) = running (IsFew (λ n. nat_lt n (cluster_count j))) s (Slot k ∷ []) (counted_here (λ n. nat_lt n (cluster_count j)) s k todo e near good) in
+    leaves (source_of p) j s k todo (few_below (cluster_count j) (loaded (piece.variable_at k s) s.env) few) e

@@ -1,36 +1,47 @@
--- Runs in which each scope of what is known by its number opens where its variable holds an object.
-use Rattle.std.specs.Prelude.{◌≡◌, ℕ, suc, List, [], ◌∷◌}
+-- Runs in which each scope of what is known by its number, but for clusters, opens where its variable holds an object.
+use Rattle.std.specs.Prelude.{◌≡◌, ℕ, suc, ◌<◌, ◌≤◌, ◌⊎◌, Bool, true, false, List, [], ◌∷◌, Some, nat_lt}
 use Rattle.uc_tree.specs.Programs.{Program}
-use Rattle.uc_tree.specs.Source.{Source, Scoped}
+use Rattle.uc_tree.specs.Source.{Source, Variable, Load, OfObject, EndCluster, Destroys}
 use Rattle.uc_entry.specs.declared.entry.Entry.{Entry}
 use Rattle.uc_entry.specs.declared.entry.Options.{Options}
+use Rattle.uc_entry.specs.declared.request.Answer.TheVariants as answer
 use Rattle.uc_entry.specs.declared.request.Asked.{Asked}
-use Rattle.uc_acts.specs.Journal.{Journal}
+use Rattle.uc_entry.specs.declared.request.Request.TheVariants as ask
+use Rattle.uc_acts.specs.Journal.{Journal, is_over}
+use Rattle.uc_acts.specs.KernelRuns.{InRange}
+use Rattle.uc_acts.specs.Answers.{answer_to}
+use Rattle.uc_acts.specs.Queues.{cluster_count}
 use Rattle.uc_acts.specs.Serves.{left}
-use Rattle.uc_machine.specs.Pieces.{Todo, Rest}
-use Rattle.uc_machine.specs.Quiet.{State}
+use Rattle.uc_machine.specs.Pieces.{Todo, Rest, Clean, Unwind, LAST_ADDRESS, Asks}
+use Rattle.uc_machine.specs.Quiet.{State, quiet, Quietly}
 use Rattle.uc_machine.specs.Answering.{answered}
 use Rattle.uc_machine.specs.Rides.{Rides, slices, goes_on, ticks, asks}
 use Rattle.uc_meaning.specs.Runs.{World, May, Runs, drawn, gives, no_room, acts, begun, more}
 use Rattle.uc_resolve.specs.Resolve.{source_of}
 use Rattle.uc_rules.specs.Breaks.{breaks_of}
+use Rattle.uc_program_laws.specs.Fitting.{RunFits}
+use Rattle.uc_answer_laws.specs.Suiting.{AnObject, JustGo, asked_form}
 use Rattle.uc_scope_laws.specs.Layout.{Sized}
+use Rattle.uc_scope_laws.specs.Rooms.{SourceIn}
 use Rattle.uc_scope_laws.specs.RoomStacks.{StackState}
 use Rattle.uc_scope_laws.specs.RoomRuns.{Leads, stays, goes, ticks as leads_by_tick, Comes}
-use Rattle.uc_value_laws.specs.There.{IsThere, frame_at}
-use Rattle.uc_value_laws.specs.ThereStates.{ThereMembers, ThereState, Fair}
+use Rattle.uc_value_laws.specs.There.{Any, frame_at}
+use Rattle.uc_value_laws.specs.ThereStates.{CountedMembers, CountedState, SourceBegins, OpensThere, Fair}
+use Rattle.uc_value_laws.specs.NewClusters.{OpeningBy, WaitingBy, GoodBy}
 
--- where a scope opens, what it is of is there
+-- where a scope opens, what it is of is there, but for a variable that is a cluster, at a cell that has an address
 abbrev pub OpensAt : List Todo → State → Type 0
-OpensAt (Rest (Scoped c rest) ∷ todo) s = IsThere (frame_at s.run.frame s.env.frames) c
+OpensAt (Rest ss ∷ todo) s = OpensThere (frame_at s.run.frame s.env.frames) ss
 OpensAt todo s = Unit {0}
 
 abbrev pub Opens : State → Type 0
 Opens s = OpensAt s.run.control s
 
--- that is all that a step is still to find, where activations which use one frame stay behind one another
-abbrev pub LawFair : Type 0
-LawFair = (p : Program) (s : State) → StackState (Sized p) s → Opens s → Fair s
+-- that is all that a step is still to find, where activations which use one frame stay behind one another, and no routine of a source that
+-- keeps to its rooms begins with what belongs behind the declaration of a cluster
+pub record LawFair : Type 0 where
+  pub begins : (p : Program) (source : Source) → SourceIn (Sized p) source → SourceBegins source
+  pub fair : (p : Program) (s : State) → StackState (Sized p) s → Opens s → Fair s
 
 -- at the states of a ride, of an act, and of each act of a run
 abbrev pub RideOpens : (source : Source) (s : State) (q : ℕ) (u : State) (k : ℕ) (a : Asked) →
@@ -61,17 +72,65 @@ LeadsOpen source _ _ stays = Unit {0}
 LeadsOpen source _ _ (goes {s} {u} {v} e l) = Opens s × LeadsOpen source u v l
 LeadsOpen source _ _ (leads_by_tick {s} {u} {v} e l) = Opens s × LeadsOpen source u v l
 
--- then all is there that is in scope and known by its number: of each task at rest, of what is at home in each object, and of whoever runs
--- in each state to which it comes before it asks
-pub record AllIsThere (source : Source) (j : Journal) (w : World) : Type 0 where
-  pub tasks : (t : ℕ) → ThereState (w.tasks t)
-  pub homes : (o : ℕ) → ThereMembers (w.homes o)
-  pub comes : (t : ℕ) (s : State) (c : Comes source j w t s) →
-      LeadsOpen source (answered source c.given (drawn j w t)) s c.leads → ThereState s
+-- what a task is told, if it is an object, is one of these
+abbrev pub TellsFew : (ℕ → Bool) → Source → ℕ → Journal → Type 0
+TellsFew few source t j = (o : ℕ) → answer_to source.sites t j ≡ Some (answer.Object o) → few o ≡ true
 
--- so it is in each run of a program that breaks no rule
+-- a task at rest: all is there, but for what it is on the way to, where it waits for a new cluster or has only to go on
+abbrev pub RestsBy : (ℕ → Bool) → Source → Journal → ℕ → State → Type 0
+RestsBy few source j t s =
+    CountedState few s ⊎
+    (((asked_form t j ≡ AnObject) × WaitingBy few s × TellsFew few source t j) ⊎ ((asked_form t j ≡ JustGo) × OpeningBy few s))
+
+-- then all is there that is in scope and known by its number: of each task at rest, of what is at home in each object, and of whoever runs
+-- in each state to which it comes before it asks; clusters that are variables have such numbers
+pub record AllIsCounted (few : ℕ → Bool) (source : Source) (j : Journal) (w : World) : Type 0 where
+  pub tasks : (t : ℕ) → RestsBy few source j t (w.tasks t)
+  pub homes : (o : ℕ) → CountedMembers few (w.homes o)
+  pub comes : (t : ℕ) (s : State) (c : Comes source j w t s) →
+      LeadsOpen source (answered source c.given (drawn j w t)) s c.leads → GoodBy few s
+
+abbrev pub AllIsThere : Source → Journal → World → Type 0
+AllIsThere source j w = AllIsCounted Any source j w
+
+-- so it is in each run of a program that breaks no rule, as long as all that was asked so far fits
 abbrev pub LawRuns : Type 0
 LawRuns =
-    (p : Program) → breaks_of p ≡ [] → (input : List ℕ) (opts : Options) (j : Journal) (w : World) →
-    (r : Runs (source_of p) input opts j w) → RunOpens (source_of p) input opts j w r →
-    AllIsThere (source_of p) j w
+    (p : Program) → breaks_of p ≡ [] → (input : List ℕ) (opts : Options) → InRange opts →
+    (j : Journal) (w : World) (r : Runs (source_of p) input opts j w) →
+    RunFits (source_of p) input opts j w r → is_over j ≡ false →
+    RunOpens (source_of p) input opts j w r → AllIsThere (source_of p) j w
+
+-- there each variable that is a cluster has a number below the count of clusters
+abbrev pub LawCounts : Type 0
+LawCounts =
+    (p : Program) → breaks_of p ≡ [] → (input : List ℕ) (opts : Options) → InRange opts →
+    (j : Journal) (w : World) (r : Runs (source_of p) input opts j w) →
+    RunFits (source_of p) input opts j w r → is_over j ≡ false →
+    RunOpens (source_of p) input opts j w r →
+    AllIsCounted (λ n. nat_lt n (cluster_count j)) (source_of p) j w
+
+-- the scope of a cluster that is a variable is left next, by its end or by an unwinding
+abbrev pub LeavesCluster : ℕ → List Todo → List Todo → Type 0
+LeavesCluster k todo control =
+    (control ≡ Clean (Destroys (OfObject (EndCluster (Load (Variable k))))) ∷ todo) ⊎
+    (control ≡ Unwind ∷ (Clean (Destroys (OfObject (EndCluster (Load (Variable k))))) ∷ todo))
+
+-- so who leaves that of one at a cell that has an address asks for the end of a cluster that there is, by quiet steps alone
+pub record EndsCluster (source : Source) (j : Journal) (s : State) : Type 0 where
+  pub cluster : ℕ
+  pub there : cluster < cluster_count j
+  pub asking : State
+  pub after : State
+  pub leads : Quietly source s asking
+  pub asks : quiet source asking ≡ Asks (ask.ClusterEnd cluster) after
+
+abbrev pub LawEnds : Type 0
+LawEnds =
+    (p : Program) → breaks_of p ≡ [] → (input : List ℕ) (opts : Options) → InRange opts →
+    (j : Journal) (w : World) (r : Runs (source_of p) input opts j w) →
+    RunFits (source_of p) input opts j w r → is_over j ≡ false →
+    RunOpens (source_of p) input opts j w r → (t : ℕ) (s : State) (c : Comes (source_of p) j w t s) →
+    LeadsOpen (source_of p) (answered (source_of p) c.given (drawn j w t)) s c.leads →
+    (k : ℕ) (todo : List Todo) → k ≤ LAST_ADDRESS →
+    LeavesCluster k todo s.run.control → EndsCluster (source_of p) j s

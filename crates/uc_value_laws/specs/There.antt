@@ -1,8 +1,9 @@
 -- What is known by its number and in scope: the variable that its clean-up ends holds an object.
-use Rattle.std.specs.Prelude.{◌≡◌, ℕ, ◌<◌, List, [], ◌∷◌, slice_index_or}
+use Rattle.std.specs.Prelude.{◌≡◌, ℕ, ◌<◌, ◌≤◌, List, [], ◌∷◌, slice_index_or, Bool, true}
 use Rattle.uc_tree.specs.Source.{Binding, Expr, Variable, Element, Load, OfObject, EndOn, EndCluster, EndProcessor, CleanUp, Destroys, DestroysAll}
 use Rattle.uc_machine.specs.Executions.{at_depth, list_in}
-use Rattle.uc_machine.specs.Pieces.{Link, Slot, At, Value, nought, address, Todo, Sort, sort, IsClean, Active}
+use Rattle.uc_machine.specs.Pieces.{Link, Slot, At, Value, Object, LAST_ADDRESS, nought, address, Todo, Rest, Clean, Guard, Sort, sort, IsClean, IsGuard, Active}
+use Rattle.uc_scope_laws.specs.Clusters.{Begins, HandlersBegin}
 use Rattle.uc_typing.specs.States.{IsNumbered}
 
 -- a mutex object, a cluster or a processor ends, whose number such a place holds
@@ -41,11 +42,51 @@ IsThere vs c = OfEach (HoldsObject vs) c
 
 abbrev pub ThereBy : List Value → Sort → Type 0
 ThereBy vs (IsClean c) = IsThere vs c
+ThereBy vs (IsGuard hs) = HandlersBegin hs
 ThereBy vs k = Unit {0}
 
+-- a variable that is a cluster, at a cell that has an address
+abbrev pub IsNear : CleanUp → Type 0
+IsNear (Destroys (OfObject (EndCluster (Load (Variable k))))) = k ≤ LAST_ADDRESS
+IsNear c = ⊥
+
+-- `Few n`: a cluster may have the number n
+module _ (Few : ℕ → Bool) where
+  abbrev pub IsFew : Value → Type 0
+  IsFew (Object o) = Few o ≡ true
+  IsFew v = ⊥
+
+  -- such a variable holds the number of such a cluster
+  abbrev pub IsCounted : List Value → CleanUp → Type 0
+  IsCounted vs (Destroys (OfObject (EndCluster (Load (Variable k))))) = k ≤ LAST_ADDRESS →
+      IsFew (slice_index_or vs (address (Slot k ∷ [])) nought)
+  IsCounted vs c = Unit {0}
+
+  abbrev pub MarkCounted : List Value → Sort → Type 0
+  MarkCounted vs (IsClean c) = IsThere vs c × IsCounted vs c
+  MarkCounted vs (IsGuard hs) = HandlersBegin hs
+  MarkCounted vs k = Unit {0}
+
+  -- and the statements that are left of a block begin neither by binding a variable to a new cluster nor by the scope of one
+  abbrev pub PieceCounted : List Value → Todo → Type 0
+  PieceCounted vs (Clean c) = IsThere vs c × IsCounted vs c
+  PieceCounted vs (Guard hs) = HandlersBegin hs
+  PieceCounted vs (Rest ss) = Begins ss
+  PieceCounted vs p = Unit {0}
+
+  abbrev pub AllCounted : List Value → List Todo → Type 0
+  AllCounted vs [] = Unit {0}
+  AllCounted vs (p ∷ todo) = PieceCounted vs p × AllCounted vs todo
+
+-- of any numbers
+abbrev pub Any : ℕ → Bool
+Any n = true
+
+abbrev pub PieceThere : List Value → Todo → Type 0
+PieceThere vs p = PieceCounted Any vs p
+
 abbrev pub AllThere : List Value → List Todo → Type 0
-AllThere vs [] = Unit {0}
-AllThere vs (p ∷ todo) = ThereBy vs (sort p) × AllThere vs todo
+AllThere vs todo = AllCounted Any vs todo
 
 -- it lies before a cell
 abbrev pub BeforeBy : ℕ → Sort → Type 0

@@ -1,55 +1,100 @@
 -- Executions and tasks in which all that is known by its number and in scope is there, the newest activation first.
-use Rattle.std.specs.Prelude.{◌≡◌, ℕ, suc, ◌≤◌, List, [], ◌∷◌, length, Option, Some, None}
-use Rattle.uc_tree.specs.Source.{Scoped}
+use Rattle.std.specs.Prelude.{◌≡◌, ℕ, suc, ◌≤◌, ◌<◌, List, [], ◌∷◌, length, Option, Some, None, slice_get, Bool}
+use Rattle.uc_tree.specs.Source.{Variable, Load, OfObject, EndCluster, Destroys, Stmt, Stmts, Block, Whole, OfEvents, Scoped, Try, Routine, Source}
 use Rattle.uc_machine.specs.Executions.{Execution}
-use Rattle.uc_machine.specs.Pieces.{Value, Todo, Rest, ClearNow, Active, State, Env, Members, Step, Goes, Ticks, Asks}
-use Rattle.uc_value_laws.specs.There.{IsThere, AllThere, FrameBefore, frame_at}
+use Rattle.uc_machine.specs.Pieces.{Value, Todo, BindNow, DropNow, Within, Do, Rest, ClearNow, Active, State, Env, Members, Step, Goes, Ticks, Asks}
+use Rattle.uc_scope_laws.specs.Clusters.{Begins, HandlersBegin, Joined}
+use Rattle.uc_value_laws.specs.There.{IsThere, IsNear, AllCounted, Any, FrameBefore, frame_at}
 
--- activations with these frames: each uses its own frame or that of an older one, in which all is there that it has still to clean up
+module _ (Few : ℕ → Bool) where
+  -- activations with these frames: each uses its own frame or that of an older one, in which all is there that it has still to clean up
+  abbrev pub CountedStack : List (List Value) → List Active → Type 0
+  CountedStack fs [] = Unit {0}
+  CountedStack fs (a ∷ older) = (a.frame ≤ length older) ×
+      AllCounted Few (frame_at a.frame fs) a.control × CountedStack fs older
+
+  -- an execution that does not run, with a frame for each activation
+  pub record CountedEx (x : Execution (List Todo) Value) : Type 0 where
+    pub frames : length x.frames ≡ suc (length x.callers)
+    pub stack : CountedStack x.frames (x.run ∷ x.callers)
+
+  abbrev pub CountedSlot : Option (Execution (List Todo) Value) → Type 0
+  CountedSlot None = Unit {0}
+  CountedSlot (Some x) = CountedEx x
+
+  abbrev pub CountedParked : List (ℕ × Option (Execution (List Todo) Value)) → Type 0
+  CountedParked [] = Unit {0}
+  CountedParked (p ∷ ps) = CountedSlot p.1 × CountedParked ps
+
+  abbrev pub CountedHand : List (ℕ × Members) → Type 0
+  CountedHand [] = Unit {0}
+  CountedHand (p ∷ ps) = CountedParked p.1.parked × CountedHand ps
+
+  abbrev pub CountedMembers : Option Members → Type 0
+  CountedMembers None = Unit {0}
+  CountedMembers (Some m) = CountedParked m.parked
+
+  -- a task, but for its running execution, and with it
+  pub record CountedEnv (e : Env) : Type 0 where
+    pub house : CountedParked e.house.parked
+    pub hand : CountedHand e.hand
+
+  pub record CountedState (s : State) : Type 0 where
+    pub frames : length s.env.frames ≡ suc (length s.callers)
+    pub stack : CountedStack s.env.frames (s.run ∷ s.callers)
+    pub env : CountedEnv s.env
+
+  abbrev pub CountedStep : Step → Type 0
+  CountedStep (Goes s) = CountedState s
+  CountedStep (Ticks s) = CountedState s
+  CountedStep (Asks r s) = CountedState s
+
+-- of any numbers
 abbrev pub ThereStack : List (List Value) → List Active → Type 0
-ThereStack fs [] = Unit {0}
-ThereStack fs (a ∷ older) = (a.frame ≤ length older) × AllThere (frame_at a.frame fs) a.control × ThereStack fs older
-
--- an execution that does not run, with a frame for each activation
-pub record ThereEx (x : Execution (List Todo) Value) : Type 0 where
-  pub frames : length x.frames ≡ suc (length x.callers)
-  pub stack : ThereStack x.frames (x.run ∷ x.callers)
-
-abbrev pub ThereSlot : Option (Execution (List Todo) Value) → Type 0
-ThereSlot None = Unit {0}
-ThereSlot (Some x) = ThereEx x
-
-abbrev pub ThereParked : List (ℕ × Option (Execution (List Todo) Value)) → Type 0
-ThereParked [] = Unit {0}
-ThereParked (p ∷ ps) = ThereSlot p.1 × ThereParked ps
-
-abbrev pub ThereHand : List (ℕ × Members) → Type 0
-ThereHand [] = Unit {0}
-ThereHand (p ∷ ps) = ThereParked p.1.parked × ThereHand ps
+ThereStack fs cs = CountedStack Any fs cs
 
 abbrev pub ThereMembers : Option Members → Type 0
-ThereMembers None = Unit {0}
-ThereMembers (Some m) = ThereParked m.parked
+ThereMembers m = CountedMembers Any m
 
--- a task, but for its running execution, and with it
-pub record ThereEnv (e : Env) : Type 0 where
-  pub house : ThereParked e.house.parked
-  pub hand : ThereHand e.hand
+abbrev pub ThereState : State → Type 0
+ThereState s = CountedState Any s
 
-pub record ThereState (s : State) : Type 0 where
-  pub frames : length s.env.frames ≡ suc (length s.callers)
-  pub stack : ThereStack s.env.frames (s.run ∷ s.callers)
-  pub env : ThereEnv s.env
+-- the statements of a routine may stand behind any other; so it is of each routine of a source
+abbrev pub RoutineBegins : Option Routine → Type 0
+RoutineBegins None = Unit {0}
+RoutineBegins (Some r) = Begins r.body
 
-abbrev pub ThereStep : Step → Type 0
-ThereStep (Goes s) = ThereState s
-ThereStep (Ticks s) = ThereState s
-ThereStep (Asks r s) = ThereState s
+abbrev pub SourceBegins : Source → Type 0
+SourceBegins source = (n : ℕ) → RoutineBegins (slice_get source.routines n)
 
--- what a step is to find: where a scope opens, what it is of is there; and cells that start anew lie behind all that is there
+-- so may those within a statement
+abbrev pub BodiesBegin : Stmt → Type 0
+BodiesBegin (Block line body) = Begins body
+BodiesBegin (Whole line body) = Begins body
+BodiesBegin (OfEvents (Try line body hs)) = Begins body × HandlersBegin hs
+BodiesBegin a = Unit {0}
+
+-- where a scope opens, what it is of is there, but for such a cluster
+abbrev pub OpensThere : List Value → Stmts → Type 0
+OpensThere vs (Scoped c rest) = (IsNear c → ⊥) → IsThere vs c
+OpensThere vs ss = Unit {0}
+
+-- the cluster whose scope is opened behind a statement lies in a frame of so many cells
+abbrev pub ScopeFits : ℕ → Stmts → Type 0
+ScopeFits n (Scoped (Destroys (OfObject (EndCluster (Load (Variable k))))) rest) = k < n
+ScopeFits n ss = Unit {0}
+
+abbrev pub BoundFits : ℕ → List Todo → Type 0
+BoundFits n (DropNow ∷ (Within line ∷ (Rest ss ∷ todo))) = ScopeFits n ss
+BoundFits n todo = Unit {0}
+
+-- what a step is to find: where a scope opens, what it is of is there; what begins and what stands behind each other is as in the source;
+-- cells that start anew lie behind all that is there; and a cluster lies in the frame
 abbrev pub FairAt : List Todo → State → Type 0
-FairAt (Rest (Scoped c rest) ∷ todo) s = IsThere (frame_at s.run.frame s.env.frames) c
+FairAt (Rest ss ∷ todo) s = Joined ss × OpensThere (frame_at s.run.frame s.env.frames) ss
+FairAt (Do a ∷ todo) s = BodiesBegin a
 FairAt (ClearNow k n ∷ todo) s = FrameBefore k s.run.frame (s.run ∷ s.callers)
+FairAt (BindNow ∷ todo) s = BoundFits (length (frame_at s.run.frame s.env.frames)) todo
 FairAt todo s = Unit {0}
 
 abbrev pub Fair : State → Type 0

@@ -1,34 +1,47 @@
 // The laws: each is a function whose contract is the law.
 
 ghost use Rattle.uc_value_laws.specs.Makers.{LawMakers};
-ghost use Rattle.uc_value_laws.specs.Opens.{LawFair, LawRuns};
+ghost use Rattle.uc_value_laws.specs.Opens.{LawCounts, LawEnds, LawFair, LawRuns};
 ghost use Rattle.uc_value_laws.specs.Reading.{LawReading};
 ghost use Rattle.uc_value_laws.specs.ValueLaws.{LawSteps};
 
 /// What is in scope and known by its number is there: the variable that its clean-up ends holds an
-/// object, from the opening of the scope on, whatever is written meanwhile and whoever runs.
+/// object, from the opening of the scope on, whatever is written meanwhile and whoever runs. That a
+/// cluster's variable does so where its scope opens is found on the way from its declaration.
 pub fn law_steps()
     ensures { LawSteps }
 {}
 
-/// In a task whose to-do lists are typed and in which all is there, a variable that is known by its number
-/// holds an object of its class, a cluster or a processor, as long as an activation that uses the running
-/// frame has still to clean it up; so does each element of an array. So what is read of it is of its type.
+/// In a task whose to-do lists are typed and in which all is there, a variable in scope that is known by
+/// its number holds an object of its class, a cluster or a processor; so does each element of an array. In
+/// scope of a handler of resumptions is also what its routine has. So what is read of it is of its type.
 pub fn law_reading()
     ensures { LawReading }
 {}
 
 /// Where activations that use one frame stay behind one another, a step finds what it is to find as soon
-/// as a scope opens where its variable holds an object.
+/// as a scope opens where its variable holds an object; of clusters nothing is asked there.
 pub fn law_fair()
     ensures { LawFair }
 {}
 
-/// So in each run of a program that breaks no rule all is there that is in scope and known by its number,
-/// of all tasks, at rest and in each state to which whoever runs comes before it asks, as long as each
-/// scope opens where its variable holds an object.
+/// So in each run of a program that breaks no rule, as long as all that was asked so far fits, all is
+/// there that is in scope and known by its number, of all tasks, at rest and in each state to which
+/// whoever runs comes before it asks, as long as each scope opens where its variable holds an object,
+/// but for clusters, of which nothing is asked.
 pub fn law_runs()
     ensures { LawRuns }
+{}
+
+/// There each cluster that is a variable has a number below the count of clusters.
+pub fn law_counts()
+    ensures { LawCounts }
+{}
+
+/// So who comes to the end of such a variable asks for the end of a cluster that there is, by quiet
+/// steps alone.
+pub fn law_ends()
+    ensures { LawEnds }
 {}
 
 /// In the source of every program constructors alone bind fields of the object at hand, build parts of it

@@ -34,9 +34,11 @@ use Rattle.uc_lock.proofs.shared.Shared.TheSendSync as shared
 use Rattle.uc_lock.specs.contracts.seat.Seat as Seat
 use Rattle.uc_lock.specs.contracts.shared.Shared as Shared
 use Rattle.uc_vproc.proofs.registry.Registry.TheSendSync as registry
-use Rattle.uc_vproc.specs.contracts.desk.Desk.{the_row}
-use Rattle.uc_vproc.specs.contracts.desk.Desk.TheInside as inside
-use Rattle.uc_vproc.specs.contracts.desk.DeskJournaled.TheImpl as DeskJournaled
+use Rattle.uc_vproc.specs.contracts.desk.Desk as Desk
+use Rattle.uc_vproc.specs.contracts.desk.Desk.TheInside as desk_inside
+use Rattle.uc_vproc.specs.contracts.desk.Locked.{the_row}
+use Rattle.uc_vproc.specs.contracts.desk.Locked.TheInside as inside
+use Rattle.uc_vproc.specs.contracts.desk.LockedJournaled.TheImpl as LockedJournaled
 use Rattle.uc_vproc.specs.contracts.desk.Note as Note
 use Rattle.uc_vproc.specs.contracts.desk.Note.TheInside as note_inside
 use Rattle.uc_vproc.specs.contracts.desk.RunKey as RunKey
@@ -44,9 +46,6 @@ use Rattle.uc_vproc.specs.contracts.step.Step as Step
 
 kernel_sent : IsSend (Kernel.the_row (Option.the_row Task.the_row) Members.the_row)
 kernel_sent = kernel.the_send (Option.the_row Task.the_row) Members.the_row (option.the_send Task.the_row task.the_send) members.the_send
-
-boxed_sent : IsSend (owning.row (Box.the_type (Kernel.the_row (Option.the_row Task.the_row) Members.the_row) Global.the_row GlobalAllocator.ghosts))
-boxed_sent = box.the_send (Kernel.the_row (Option.the_row Task.the_row) Members.the_row) Global.the_row GlobalAllocator.ghosts kernel_sent global.the_send frees.the_frees
 
 snapshot_sent : (R : RattleType) → IsSend (owning.row (Snapshot.the_type R))
 snapshot_sent R = search rules
@@ -57,22 +56,29 @@ note_sent = view_send note_inside.the_row _ _ _ _ (recorded_send note_inside.the
 notes_sent : IsSend (owning.row (Vec.the_type Note.the_row Global.the_row GlobalAllocator.ghosts))
 notes_sent = vec.the_send Note.the_row Global.the_row GlobalAllocator.ghosts note_sent global.the_send frees.the_frees
 
-pub desk_sent : IsSend the_row
+desk_sent : IsSend Desk.the_row
 desk_sent =
-    view_send inside.the_row _ _ _ _ (recorded_send inside.the_field.row _ _ inside.the_type.to_one (struct_send (shape inside.the_type) (boxed_sent, (notes_sent, (registry.the_field_send, (snapshot_sent Code.the_row, (plain_send _ _ _ _ _, tt)))))))
+    view_send desk_inside.the_row _ _ _ _ (recorded_send desk_inside.the_field.row _ _ desk_inside.the_type.to_one (struct_send (shape desk_inside.the_type) (kernel_sent, (notes_sent, (registry.the_field_send, (snapshot_sent Code.the_row, (plain_send _ _ _ _ _, tt)))))))
+
+boxed_sent : IsSend (owning.row (Box.the_type Desk.the_row Global.the_row GlobalAllocator.ghosts))
+boxed_sent = box.the_send Desk.the_row Global.the_row GlobalAllocator.ghosts desk_sent global.the_send frees.the_frees
+
+pub locked_sent : IsSend the_row
+locked_sent =
+    view_send inside.the_row _ _ _ _ (recorded_send inside.the_field.row _ _ inside.the_type.to_one (struct_send (shape inside.the_type) (boxed_sent, tt)))
 
 -- what the lock tells of an entry
 abbrev item_row : RattleType
 item_row = TupleAt (40 ∷ 44 ∷ 41 ∷ []) (Entry.the_row ∷ Step.the_row ∷ [])
 
-pub seat_sent : IsSend (Seat.the_row the_row RunKey.the_row item_row DeskJournaled.ghosts)
-seat_sent = seat.the_send the_row RunKey.the_row item_row DeskJournaled.ghosts desk_sent
+pub seat_sent : IsSend (Seat.the_row the_row RunKey.the_row item_row LockedJournaled.ghosts)
+seat_sent = seat.the_send the_row RunKey.the_row item_row LockedJournaled.ghosts locked_sent
 
-pub lock_shared : IsSync (Shared.the_row the_row RunKey.the_row item_row DeskJournaled.ghosts)
-lock_shared = shared.the_sync the_row RunKey.the_row item_row DeskJournaled.ghosts desk_sent
+pub lock_shared : IsSync (Shared.the_row the_row RunKey.the_row item_row LockedJournaled.ghosts)
+lock_shared = shared.the_sync the_row RunKey.the_row item_row LockedJournaled.ghosts locked_sent
 
--- a closure that captures five references
-pub five_shared : (n : Sym) (l m o r s : Lifetime) (k p q x y : Lft) (A B C D E : RattleType) → IsSync A → IsSync B → IsSync C → IsSync D → IsSync E → IsSync (TupleAt n (ShrRef l k A ∷ ShrRef m p B ∷ ShrRef o q C ∷ ShrRef r x D ∷ ShrRef s y E ∷ []))
-five_shared n l m o r s k p q x y A B C D E a b c d e =
-    let Ts = ShrRef l k A ∷ ShrRef m p B ∷ ShrRef o q C ∷ ShrRef r x D ∷ ShrRef s y E ∷ [] in
-    recorded_sync (Struct (shape (type_at n Ts))) _ _ (type_at n Ts).to_one (struct_sync (shape (type_at n Ts)) (shr_sync l k A a, (shr_sync m p B b, (shr_sync o q C c, (shr_sync r x D d, (shr_sync s y E e, tt))))))
+-- a closure that captures six references
+pub six_shared : (n : Sym) (l m o r s u : Lifetime) (k p q x y z : Lft) (A B C D E F : RattleType) → IsSync A → IsSync B → IsSync C → IsSync D → IsSync E → IsSync F → IsSync (TupleAt n (ShrRef l k A ∷ ShrRef m p B ∷ ShrRef o q C ∷ ShrRef r x D ∷ ShrRef s y E ∷ ShrRef u z F ∷ []))
+six_shared n l m o r s u k p q x y z A B C D E F a b c d e f =
+    let Ts = ShrRef l k A ∷ ShrRef m p B ∷ ShrRef o q C ∷ ShrRef r x D ∷ ShrRef s y E ∷ ShrRef u z F ∷ [] in
+    recorded_sync (Struct (shape (type_at n Ts))) _ _ (type_at n Ts).to_one (struct_sync (shape (type_at n Ts)) (shr_sync l k A a, (shr_sync m p B b, (shr_sync o q C c, (shr_sync r x D d, (shr_sync s y E e, (shr_sync u z F f, tt)))))))

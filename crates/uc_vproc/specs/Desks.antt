@@ -157,6 +157,12 @@ pub data Comes : Next (Option Machine) Members → Step → Type 0 where
   idles : Comes Blocked Idle
   ends : Comes Ended Over
 
+-- what was brought is put to rest by an act of the kernel, and this comes of it
+pub record WasActed (old : Kept (Option Machine) Members) (b : Brought (Option Machine) Members) (new : Kept (Option Machine) Members) (step : Step) : Type 0 where
+  pub next : Next (Option Machine) Members
+  pub acted : Acted old b next new
+  pub comes : Comes next step
+
 -- a task goes on that is told of object o
 pub record IsTold (o : ℕ) (step : Step) : Type 0 where
   pub handed : Handed

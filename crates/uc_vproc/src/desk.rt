@@ -67,11 +67,10 @@ impl Note {
     }
 }
 
-/// A kernel with the maker of each entry. The kernel lies in a place of its own, since the value under a lock is moved out and in
-/// again each time that it is taken.
+/// A kernel with the maker of each entry.
 #[derive(Drop)]
 pub struct Desk {
-    kernel: Box<Kernel<Option<Task>, Members>>,
+    kernel: Kernel<Option<Task>, Members>,
     notes: Vec<Note>,
     registry: Registry,
     code: Snapshot<Code>,
@@ -86,12 +85,26 @@ impl Model for Desk {
 
     ghost Value = { Table };
 
-    ghost view = { λ d. record { code = d.code.value; main = d.main; store = d.kernel.value; log = paired d.kernel.value.journal d.notes.items } };
+    ghost view = { λ d. record { code = d.code.value; main = d.main; store = d.kernel; log = paired d.kernel.journal d.notes.items } };
 
-    ghost invariant = { λ d. Keeping d.code.value d.main (kept d.kernel.value) d.notes.items (vec_capacity d.notes) d.registry };
+    ghost invariant = { λ d. Keeping d.code.value d.main (kept d.kernel) d.notes.items (vec_capacity d.notes) d.registry };
 }
 
-impl Journaled for Desk {
+/// The locked value: a desk in a place of its own, since what is under a lock is moved out and in again each time that it is taken.
+#[derive(Drop)]
+pub struct Locked {
+    pub desk: Box<Desk>,
+}
+
+impl Model for Locked {
+    ghost use Rattle.uc_vproc.specs.Desks.{Table};
+
+    ghost Value = { Table };
+
+    ghost view = { λ l. l.desk.value };
+}
+
+impl Journaled for Locked {
     type Key = RunKey;
 
     type Item = (Entry, Step);
@@ -126,8 +139,7 @@ impl Desk {
     {
         let mut notes = Vec::with_capacity(alloc, opts.entries as usize)?;
         let registry = opening(alloc, opts.processors)?;
-        let opened = Kernel::open(alloc, shape, opts, input, Some(first), own)?;
-        let kernel = Box::new(alloc, opened)?;
+        let kernel = Kernel::open(alloc, shape, opts, input, Some(first), own)?;
         make_notes(&mut notes, 1, NOBODY, &Step::Idle);
         Ok(Desk {
             kernel,
@@ -144,7 +156,7 @@ impl Desk {
         ensures log { Extends maker self.old.log self.new.log }
         ensures came { Came self.old.code maker self.new.log result }
     {
-        let step = hand_out(&mut *self.kernel);
+        let step = hand_out(&mut self.kernel);
         let count = self.kernel.journal().len();
         make_notes(&mut self.notes, count, maker, &step);
         step
@@ -158,7 +170,7 @@ impl Desk {
         ensures log { Extends maker self.old.log self.new.log }
         ensures came { Came self.old.code maker self.new.log result }
     {
-        let step = put(&mut *self.kernel, &mut self.registry, back, asked);
+        let step = put(&mut self.kernel, &mut self.registry, back, asked);
         let count = self.kernel.journal().len();
         make_notes(&mut self.notes, count, maker, &step);
         step
@@ -188,7 +200,6 @@ impl Desk {
             return Err(AllocError);
         }
         if kernel.ending().is_some() {
-            let kernel = Box::into_inner(kernel);
             Ok(kernel.into_journal())
         } else {
             Err(AllocError)
@@ -211,7 +222,7 @@ fn make_notes(notes: &mut Vec<Note>, count: usize, maker: u32, step: &Step)
 fn is_send<T: Send>() {}
 
 /// The locked value may go to another thread.
-#[tactic(auto, using(crate::proofs::Sent::desk_sent))]
+#[tactic(auto, using(crate::proofs::Sent::locked_sent))]
 pub fn desk_crosses() {
-    is_send::<Desk>();
+    is_send::<Locked>();
 }

@@ -1,6 +1,7 @@
 //! Runs of programs on several processors: the kernel under a lock, and a worker for each processor.
 #![tactic(auto)]
 
+mod bell;
 mod desk;
 mod fits;
 mod put;

@@ -10,7 +10,7 @@ ghost use Rattle.uc_vproc.specs.Rest.{HasSource, IsSource};
 ghost use Rattle.uc_vproc.specs.Runs.{IsRunOf};
 ghost use Rattle.uc_vproc.specs.Desks.{EndsAs, IsOpened};
 
-use crate::desk::Desk;
+use crate::desk::{Desk, Locked};
 use crate::sites::known_sites;
 use crate::work::work_all;
 use std::alloc::{AllocError, Global};
@@ -98,8 +98,10 @@ fn serve<R: Threads + Wait + Sync, G: Gate + Sync>(
     requires log { All (λ e. processors ≤ e.1) desk.log }
     ensures { IfOk result (λ j. EndsAs desk.code desk.main desk.store.input desk.store.opts j.items) }
 {
-    let (lock, seats) = Shared::new(alloc, desk, processors)?;
+    let desk = Box::new(alloc, desk)?;
+    let (lock, seats) = Shared::new(alloc, Locked { desk }, processors)?;
     let seats = work_all(rt, alloc, &lock, code, gate, seats)?;
-    let journal = lock.close(seats).finish()?;
+    let Locked { desk } = lock.close(seats);
+    let journal = Box::into_inner(desk).finish()?;
     Ok(journal)
 }

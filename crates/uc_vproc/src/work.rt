@@ -13,12 +13,13 @@ ghost use Rattle.uc_vproc.specs.Desks.{Brings, IsRide, value_after};
 ghost use Rattle.uc_vproc.specs.Rest as rest;
 ghost use Rattle.uc_vproc.specs.Workers.{IsReady, IsSame, HasCome};
 
-use crate::desk::Desk;
+use crate::bell::Bell;
+use crate::desk::Locked;
 use crate::step::Step;
 use std::alloc::{AllocError, Global};
 use std::sync::Wait;
 use std::thread;
-use std::thread::{Threads, yield_now};
+use std::thread::Threads;
 use uc_code::code::Code;
 use uc_entry::request::{Asked, Request};
 use uc_frames::members::Members;
@@ -29,30 +30,25 @@ use uc_lock::{Seat, Shared};
 use uc_outside::Gate;
 use uc_ride::ride::{Ridden, ride};
 
-// How often a worker that finds nothing gives its time slice up before it takes the kernel again: so often at first, then twice as
-// often each time, up to the most.
-const IDLE_YIELDS: u32 = 8;
-
-const IDLE_MOST: u32 = 1024;
-
 // Takes the kernel for a task to go on with.
-fn begin<R: Wait>(rt: &R, lock: &Shared<Desk>, seat: &mut Seat<Desk>) -> Step
+fn begin<R: Wait>(rt: &R, lock: &Shared<Locked>, seat: &mut Seat<Locked>) -> Step
     requires { IsReady lock.now seat.old }
     ensures same { IsReady lock.now seat.new × IsSame seat.old seat.new }
     ensures came { HasCome lock.now seat.new result }
 {
     let number = seat.number();
     let mut held = lock.take(rt, seat);
-    let step = held.value().begin(number);
+    let step = held.value().desk.begin(number);
     lock.give(rt, seat, held);
     step
 }
 
-// Takes the kernel for the act of what a ride brings.
+// Takes the kernel for the act of what a ride brings. Where it makes work for another worker, that is told.
 fn bring<R: Wait>(
     rt: &R,
-    lock: &Shared<Desk>,
-    seat: &mut Seat<Desk>,
+    lock: &Shared<Locked>,
+    bell: &Bell,
+    seat: &mut Seat<Locked>,
     back: Back<Option<Task>, Members>,
     asked: &Asked,
 ) -> Step
@@ -65,19 +61,31 @@ fn bring<R: Wait>(
 {
     let number = seat.number();
     let mut held = lock.take(rt, seat);
-    let step = held.value().act(number, back, asked);
+    let step = held.value().desk.act(number, back, asked);
     lock.give(rt, seat, held);
+    if makes_work(&asked.request) {
+        bell.ring();
+    }
     step
 }
 
+// Whether a task or a processor is made, so that one more worker may find something to do.
+fn makes_work(request: &Request) -> bool {
+    match *request {
+        Request::Spawn { .. } => true,
+        Request::Processor { .. } => true,
+        _ => false,
+    }
+}
+
 // Takes the kernel to say that memory is wanting.
-fn give_up<R: Wait>(rt: &R, lock: &Shared<Desk>, seat: &mut Seat<Desk>)
+fn give_up<R: Wait>(rt: &R, lock: &Shared<Locked>, seat: &mut Seat<Locked>)
     requires { IsReady lock.now seat.old }
     ensures same { IsReady lock.now seat.new × IsSame seat.old seat.new }
     ensures own { seat.new.own ≡ made_by seat.new.number seat.new.seen }
 {
     let mut held = lock.take(rt, seat);
-    held.value().abandon();
+    held.value().desk.abandon();
     lock.give(rt, seat, held);
 }
 
@@ -150,16 +158,19 @@ fn stops(request: &Request) -> bool
     }
 }
 
-// A ride and its act.
+// A ride and its act. What is asked is written where it is lent.
+#[inline(always)]
 fn turn<R: Wait, G: Gate>(
     rt: &R,
     alloc: Global,
-    lock: &Shared<Desk>,
+    lock: &Shared<Locked>,
+    bell: &Bell,
     code: &Code,
     gate: &G,
     dispatches: u64,
-    seat: &mut Seat<Desk>,
+    seat: &mut Seat<Locked>,
     given: Given<Task, Members>,
+    asked: &mut Asked,
 ) -> Step
     requires ready { IsReady lock.now seat.old }
     requires code { lock.now.terms.key.code ≡ code.now }
@@ -168,12 +179,8 @@ fn turn<R: Wait, G: Gate>(
     ensures same { IsReady lock.now seat.new × IsSame seat.old seat.new }
     ensures came { HasCome lock.now seat.new result }
 {
-    let mut asked = Asked {
-        request: Request::Slice,
-        line: 0,
-    };
-    match go(alloc, code, gate, dispatches, given, &mut asked) {
-        Ok(back) => bring(rt, lock, seat, back, &asked),
+    match go(alloc, code, gate, dispatches, given, asked) {
+        Ok(back) => bring(rt, lock, bell, seat, back, asked),
         Err(_) => {
             give_up(rt, lock, seat);
             Step::Over
@@ -181,60 +188,56 @@ fn turn<R: Wait, G: Gate>(
     }
 }
 
-// Lets other threads go on for a while.
-fn pause(yields: u32) {
-    for _ in 0..yields {
-        yield_now();
-    }
-}
-
-// How long a worker that found nothing pauses the next time.
-fn longer(yields: u32) -> u32 {
-    if yields < IDLE_MOST {
-        return yields * 2;
-    }
-    yields
-}
-
 /// Serves the kernel under a lock until its run is over, or was abandoned.
 pub fn work<R: Wait, G: Gate>(
     rt: &R,
     alloc: Global,
-    lock: &Shared<Desk>,
+    lock: &Shared<Locked>,
+    bell: &Bell,
     code: &Code,
     gate: &G,
-    seat: Seat<Desk>,
-) -> Seat<Desk>
+    seat: Seat<Locked>,
+) -> Seat<Locked>
     requires ready { IsReady lock.now seat }
     requires code { lock.now.terms.key.code ≡ code.now }
     requires paced { IsPaced (laid_of code.now) code.now.routines }
     ensures { IsReady lock.now result × IsSame seat result }
 {
     let mut seat = seat;
+    let mut asked = Asked {
+        request: Request::Slice,
+        line: 0,
+    };
     let mut step = Step::Idle;
     let mut dispatches: u64 = 0;
     let mut told: u64 = 0;
-    let mut yields = IDLE_YIELDS;
+    let mut vain: u32 = 0;
     for _ in rt.forever() {
         step = match step {
             Step::Going(given) => {
                 let first = told;
                 told = 0;
-                turn(rt, alloc, lock, code, gate, first, &mut seat, given)
+                turn(
+                    rt, alloc, lock, bell, code, gate, first, &mut seat, given, &mut asked,
+                )
             }
             Step::Idle => {
+                let heard = bell.heard();
                 let next = begin(rt, lock, &mut seat);
                 if is_going(&next) {
                     dispatches = dispatches.wrapping_add(1);
                     told = dispatches;
-                    yields = IDLE_YIELDS;
-                } else {
-                    pause(yields);
-                    yields = longer(yields);
+                    vain = 0;
+                } else if is_idle(&next) {
+                    bell.wait(rt, heard, vain);
+                    vain = vain.saturating_add(1);
                 }
                 next
             }
-            Step::Over => return seat,
+            Step::Over => {
+                bell.ring_all();
+                return seat;
+            }
         };
     }
     unreachable!()
@@ -250,40 +253,49 @@ fn is_going(step: &Step) -> bool
     }
 }
 
+fn is_idle(step: &Step) -> bool {
+    match step {
+        Step::Going(_) => false,
+        Step::Idle => true,
+        Step::Over => false,
+    }
+}
+
 fn is_send<T: Send>() {}
 
 fn is_sync<T: Sync>() {}
 
 fn seat_crosses() {
-    is_send::<Seat<Desk>>();
+    is_send::<Seat<Locked>>();
 }
 
 fn lock_crosses() {
-    is_sync::<Shared<Desk>>();
+    is_sync::<Shared<Locked>>();
 }
 
 /// Each seat's worker on a thread of its own, where threads can be made. A worker alone stays on this thread.
 pub fn work_all<R: Threads + Wait + Sync, G: Gate + Sync>(
     rt: &R,
     alloc: Global,
-    lock: &Shared<Desk>,
+    lock: &Shared<Locked>,
     code: &Code,
     gate: &G,
-    seats: Vec<Seat<Desk>>,
-) -> Result<Vec<Seat<Desk>>, AllocError>
+    seats: Vec<Seat<Locked>>,
+) -> Result<Vec<Seat<Locked>>, AllocError>
     requires ready { All (λ s. IsReady lock.now s) seats.items }
     requires code { lock.now.terms.key.code ≡ code.now }
     requires paced { IsPaced (laid_of code.now) code.now.routines }
     ensures len { IfOk result (λ v. length v.items ≡ length seats.items) }
     ensures each { IfOk result (λ v. All (λ s. IsReady lock.now s) v.items) }
 {
+    let bell = Bell::new();
     thread::map_vec(
         rt,
         seats,
-        &|seat: Seat<Desk>| -> Seat<Desk>
+        &|seat: Seat<Locked>| -> Seat<Locked>
             requires { IsReady lock.now seat × (lock.now.terms.key.code ≡ code.now)
                 × IsPaced (laid_of code.now) code.now.routines }
             ensures { IsReady lock.entry.now result }
-        { work(rt, alloc, lock, code, gate, seat) },
+        { work(rt, alloc, lock, &bell, code, gate, seat) },
     )
 }

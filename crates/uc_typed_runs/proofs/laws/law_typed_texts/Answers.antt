@@ -1,4 +1,4 @@
-use Rattle.uc_typed_runs.proofs.Worlds.{law_typed_texts}
+use Rattle.uc_typed_runs.proofs.Readings.{law_typed_texts}
 use Rattle.uc_typed_runs.proofs.laws.law_typed_texts.Goals as goal
 
 pub returns : goal.returns

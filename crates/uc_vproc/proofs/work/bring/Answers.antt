@@ -1,4 +1,4 @@
-use Rattle.std.proofs.Common.{sym, ap, ◌∙◌, subst}
+use Rattle.std.proofs.Common.{◌≡◌, sym, ap, ◌∙◌, subst}
 use Rattle.uc_kernel.specs.KernelState.{with_asked}
 use Rattle.uc_lock.specs.Journals.{Extends}
 use Rattle.uc_vproc.specs.Makers.{Log}
@@ -11,13 +11,15 @@ act-step-requires g c =
     let n = c.args.seat.now.number in
     let seen = c.args.seat.now.seen in
     let t = c.take-held.ensures in
+    let is : c.deref_mut.result.now ≡ c.take-held.result = c.deref_mut.ensures.value ∙ c.behind-held.view_is ∙ c.value.ensures.value in
     let saw : Saw n seen c.take-held.result.log = record { begins = t.seen; mine = t.own ∙ c.requires.own } in
     let br : Brings c.take-held.result.code n seen (with_asked c.args.back c.args.asked.now) = subst (λ (k : RunKey). Brings k.code n seen (with_asked c.args.back c.args.asked.now)) (sym t.key) c.requires.brings in
     record {
-      brings = subst (λ m. (x : Log) × Saw m x c.value.result.now.log × Brings c.value.result.now.code m x (with_asked c.args.back c.args.asked.now)) (sym c.number-number.ensures) (subst (λ (y : Table). (x : Log) × Saw n x y.log × Brings y.code n x (with_asked c.args.back c.args.asked.now)) (sym c.value.ensures.value) (seen, saw, br));
+      brings = subst (λ m. (x : Log) × Saw m x c.deref_mut.result.now.log × Brings c.deref_mut.result.now.code m x (with_asked c.args.back c.args.asked.now)) (sym c.number-number.ensures) (subst (λ (y : Table). (x : Log) × Saw n x y.log × Brings y.code n x (with_asked c.args.back c.args.asked.now)) (sym is) (seen, saw, br));
     }
 
 pub give-requires-clause-journal : goal.give-requires-clause-journal
 give-requires-clause-journal g c =
     let seat = c.take-held.ensures.seat in
-    subst (λ l. Extends c.take-held.new.seat.number l c.act-step.new.self.log) (ap (λ (x : Table). x.log) c.value.ensures.value ∙ sym (ap (λ s. s.seen) seat)) (subst (λ m. Extends m c.value.result.now.log c.act-step.new.self.log) (c.number-number.ensures ∙ sym (ap (λ s. s.number) seat)) c.act-step.ensures.log)
+    let is : c.deref_mut.result.now ≡ c.take-held.result = c.deref_mut.ensures.value ∙ c.behind-held.view_is ∙ c.value.ensures.value in
+    subst (λ l. Extends c.take-held.new.seat.number l c.act-step.new.self.log) (ap (λ (x : Table). x.log) is ∙ sym (ap (λ s. s.seen) seat)) (subst (λ m. Extends m c.deref_mut.result.now.log c.act-step.new.self.log) (c.number-number.ensures ∙ sym (ap (λ s. s.number) seat)) c.act-step.ensures.log)

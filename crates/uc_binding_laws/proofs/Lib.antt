@@ -1,0 +1,6 @@
+pub mod Keeping
+pub mod Marks
+pub mod Steps
+pub mod Walk
+pub mod Worlds
+pub mod Taking

@@ -1,0 +1,5 @@
+pub mod NamedResting
+pub mod Placed
+pub mod BindingLaws
+pub mod BindingRuns
+pub mod Taking

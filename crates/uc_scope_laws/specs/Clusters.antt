@@ -1,0 +1,55 @@
+-- A variable that is a cluster is declared, bound to a new cluster and in scope by what stands right behind each other.
+use Rattle.std.specs.Prelude.{◌≡◌, ℕ, ◌≤◌, [], ◌∷◌, None}
+use Rattle.uc_tree.specs.Source.{Variable, Load, OfObject, Bind, NewCluster, EndCluster, CleanUp, Destroys, Stmt, Stmts, Evaluate, Declare, Nil, Then, Scoped, Built, Handlers, NoHandlers, MoreHandlers}
+
+-- a statement declares nothing but the variable at a cell, without a value
+abbrev pub DeclaresAlone : ℕ → Stmt → Type 0
+DeclaresAlone k (Declare line (d ∷ [])) = (d.cell ≡ k) × (d.value ≡ None) × (1 ≤ d.cells)
+DeclaresAlone k a = ⊥
+
+-- it binds that to a new cluster
+abbrev pub BindsCluster : ℕ → Stmt → Type 0
+BindsCluster k (Evaluate line (OfObject (Bind (Variable m) (OfObject NewCluster)))) = m ≡ k
+BindsCluster k a = ⊥
+
+-- what may stand before a statement, and before a scope
+abbrev pub Precedes : Stmt → Stmt → Type 0
+Precedes a (Evaluate line (OfObject (Bind (Variable k) (OfObject NewCluster)))) = DeclaresAlone k a
+Precedes a b = Unit {0}
+
+abbrev pub OpensCluster : Stmt → CleanUp → Type 0
+OpensCluster a (Destroys (OfObject (EndCluster (Load (Variable k))))) = BindsCluster k a
+OpensCluster a c = Unit {0}
+
+abbrev pub Follows : Stmt → Stmts → Type 0
+Follows a Nil = Unit {0}
+Follows a (Then b rest) = Precedes a b
+Follows a (Scoped c rest) = OpensCluster a c
+Follows a (Built c rest) = Unit {0}
+
+-- statements that may stand behind any other: they do not begin by binding a variable to a new cluster, nor by the scope of one
+abbrev pub IsUnbound : Stmt → Type 0
+IsUnbound (Evaluate line (OfObject (Bind (Variable k) (OfObject NewCluster)))) = ⊥
+IsUnbound a = Unit {0}
+
+abbrev pub IsUnscoped : CleanUp → Type 0
+IsUnscoped (Destroys (OfObject (EndCluster (Load (Variable k))))) = ⊥
+IsUnscoped c = Unit {0}
+
+abbrev pub Begins : Stmts → Type 0
+Begins Nil = Unit {0}
+Begins (Then a rest) = IsUnbound a
+Begins (Scoped c rest) = IsUnscoped c
+Begins (Built c rest) = Unit {0}
+
+-- so do the bodies of all handlers
+abbrev pub HandlersBegin : Handlers → Type 0
+HandlersBegin NoHandlers = Unit {0}
+HandlersBegin (MoreHandlers resumes event cell line body rest) = Begins body × HandlersBegin rest
+
+-- so it is of all that stand behind each other in a block
+abbrev pub Joined : Stmts → Type 0
+Joined Nil = Unit {0}
+Joined (Then a rest) = Follows a rest × Joined rest
+Joined (Scoped c rest) = Begins rest × Joined rest
+Joined (Built c rest) = Begins rest × Joined rest

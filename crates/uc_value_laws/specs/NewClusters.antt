@@ -1,0 +1,132 @@
+-- A task on its way from the declaration of a variable that is a cluster to the scope of that: no call lies between, so what the variable
+-- holds is known at each step.
+use Rattle.std.specs.Prelude.{◌≡◌, ℕ, suc, ◌≤◌, ◌⊎◌, List, [], ◌∷◌, length, None, slice_index_or, Bool, true}
+use Rattle.uc_tree.specs.Source.{Variable, Load, OfObject, Bind, NewCluster, EndCluster, Declared, Destroys, Stmts, Evaluate, Declare, Then, Scoped}
+use Rattle.uc_entry.specs.declared.request.Request.{Request}
+use Rattle.uc_entry.specs.declared.request.Request.TheVariants as ask
+use Rattle.uc_machine.specs.Pieces.{Value, Number, Object, nought, LAST_ADDRESS, Todo, Eval, DropNow, BindNow, ClearNow, Variables, Do, Rest, Within, ClusterNow, State, Step, Goes, Ticks, Asks, top, below, variable_at}
+use Rattle.uc_scope_laws.specs.Clusters.{Begins}
+use Rattle.uc_value_laws.specs.There.{IsFew, AllCounted, Any, frame_at}
+use Rattle.uc_value_laws.specs.ThereStates.{CountedStack, CountedEnv, CountedState}
+
+-- how far it is: the declaration of its line is to be done, its cells are to be cleared, the statement that binds it is to be done, a new
+-- cluster is to be asked for, its number is told, and the variable is bound
+pub data Stage : Type 0 where
+  Declares : ℕ → Declared → Stage
+  Lists : ℕ → Declared → Stage
+  Clears : ℕ → Declared → Stage
+  Cleared : ℕ → Stage
+  Passes : ℕ → Stage
+  Reaches : Stage
+  Does : Stage
+  Binds : Stage
+  Places : Stage
+  Makes : Stage
+  Orders : Stage
+  Told : Stage
+  Bound : Stage
+  Leaves : Stage
+  Opens : Stage
+
+-- what is to do then: for the variable at a cell, bound in a statement of this line, before these statements and what is behind them
+abbrev pub stage_todo : Stage → ℕ → ℕ → Stmts → List Todo → List Todo
+stage_todo (Declares m d) k l ss todo =
+    Do (Declare m (d ∷ [])) ∷ (Rest (Then (Evaluate l (OfObject (Bind (Variable k) (OfObject NewCluster)))) ss) ∷ todo)
+stage_todo (Lists m d) k l ss todo =
+    Variables (d ∷ []) ∷ (Within m ∷ (Rest (Then (Evaluate l (OfObject (Bind (Variable k) (OfObject NewCluster)))) ss) ∷ todo))
+stage_todo (Clears m d) k l ss todo =
+    ClearNow d.cell d.cells ∷ (Variables [] ∷ (Within m ∷ (Rest (Then (Evaluate l (OfObject (Bind (Variable k) (OfObject NewCluster)))) ss) ∷ todo)))
+stage_todo (Cleared m) k l ss todo =
+    Variables [] ∷ (Within m ∷ (Rest (Then (Evaluate l (OfObject (Bind (Variable k) (OfObject NewCluster)))) ss) ∷ todo))
+stage_todo (Passes m) k l ss todo =
+    Within m ∷ (Rest (Then (Evaluate l (OfObject (Bind (Variable k) (OfObject NewCluster)))) ss) ∷ todo)
+stage_todo Reaches k l ss todo =
+    Rest (Then (Evaluate l (OfObject (Bind (Variable k) (OfObject NewCluster)))) ss) ∷ todo
+stage_todo Does k l ss todo = Do (Evaluate l (OfObject (Bind (Variable k) (OfObject NewCluster)))) ∷ (Rest ss ∷ todo)
+stage_todo Binds k l ss todo =
+    Eval (OfObject (Bind (Variable k) (OfObject NewCluster))) ∷ (DropNow ∷ (Within l ∷ (Rest ss ∷ todo)))
+stage_todo Places k l ss todo =
+    Eval (Variable k) ∷ (Eval (OfObject NewCluster) ∷ (BindNow ∷ (DropNow ∷ (Within l ∷ (Rest ss ∷ todo)))))
+stage_todo Makes k l ss todo = Eval (OfObject NewCluster) ∷ (BindNow ∷ (DropNow ∷ (Within l ∷ (Rest ss ∷ todo))))
+stage_todo Orders k l ss todo = ClusterNow ∷ (BindNow ∷ (DropNow ∷ (Within l ∷ (Rest ss ∷ todo))))
+stage_todo Told k l ss todo = BindNow ∷ (DropNow ∷ (Within l ∷ (Rest ss ∷ todo)))
+stage_todo Bound k l ss todo = DropNow ∷ (Within l ∷ (Rest ss ∷ todo))
+stage_todo Leaves k l ss todo = Within l ∷ (Rest ss ∷ todo)
+stage_todo Opens k l ss todo = Rest ss ∷ todo
+
+-- a declaration of that variable, without a value
+abbrev pub IsOwn : ℕ → Declared → Type 0
+IsOwn k d = (d.cell ≡ k) × (d.value ≡ None) × (1 ≤ d.cells)
+
+-- a cell holds a number, so it may be bound
+abbrev pub IsCount : Value → Type 0
+IsCount (Number n) = Unit {0}
+IsCount v = ⊥
+
+abbrev pub IsUnset : ℕ → State → Type 0
+IsUnset k s = IsCount (slice_index_or (frame_at s.run.frame s.env.frames) k nought)
+
+-- statements that begin with the scope of that cluster
+abbrev pub IsScopeOf : ℕ → Stmts → Type 0
+IsScopeOf k (Scoped (Destroys (OfObject (EndCluster (Load (Variable m))))) rest) = (m ≡ k) × Begins rest
+IsScopeOf k ss = ⊥
+
+module _ (Few : ℕ → Bool) where
+  -- it holds the number of a cluster; a variable behind the last address stands for another cell
+  abbrev pub IsSetBy : ℕ → State → Type 0
+  IsSetBy k s = k ≤ LAST_ADDRESS → IsFew Few (slice_index_or (frame_at s.run.frame s.env.frames) k nought)
+
+  -- what holds then
+  abbrev pub StageHoldsBy : Stage → ℕ → Stmts → State → Type 0
+  StageHoldsBy (Declares m d) k ss s = IsOwn k d
+  StageHoldsBy (Lists m d) k ss s = IsOwn k d
+  StageHoldsBy (Clears m d) k ss s = IsOwn k d
+  StageHoldsBy Makes k ss s = IsUnset k s × (top s.run.operands ≡ variable_at k s)
+  StageHoldsBy Orders k ss s = IsUnset k s × (top s.run.operands ≡ variable_at k s)
+  StageHoldsBy Told k ss s = IsUnset k s × (top (below s.run.operands) ≡ variable_at k s) ×
+      ((o : ℕ) × (top s.run.operands ≡ Object o) × (Few o ≡ true))
+  StageHoldsBy Bound k ss s = IsScopeOf k ss × IsSetBy k s
+  StageHoldsBy Leaves k ss s = IsScopeOf k ss × IsSetBy k s
+  StageHoldsBy Opens k ss s = IsScopeOf k ss × IsSetBy k s
+  StageHoldsBy g k ss s = IsUnset k s
+
+  -- a task on that way; all else is there as it is to be
+  pub record OpeningBy (s : State) : Type 0 where
+    pub cell : ℕ
+    pub line : ℕ
+    pub next : Stmts
+    pub todo : List Todo
+    pub stage : Stage
+    pub control : s.run.control ≡ stage_todo stage cell line next todo
+    pub follows : Begins next ⊎ IsScopeOf cell next
+    pub holds : StageHoldsBy stage cell next s
+    pub frames : length s.env.frames ≡ suc (length s.callers)
+    pub frame : s.run.frame ≤ length s.callers
+    pub behind : AllCounted Few (frame_at s.run.frame s.env.frames) todo
+    pub callers : CountedStack Few s.env.frames s.callers
+    pub env : CountedEnv Few s.env
+
+  -- one that has asked for a new cluster: it goes on so with the number of such a one
+  abbrev pub WaitingBy : State → Type 0
+  WaitingBy s =
+      (o : ℕ) → Few o ≡ true →
+      OpeningBy (record s { run = record s.run { operands = Object o ∷ s.run.operands } })
+
+  -- a task that runs, and one that has asked something
+  abbrev pub GoodBy : State → Type 0
+  GoodBy s = CountedState Few s ⊎ OpeningBy s
+
+  abbrev pub AskedBy : Request → State → Type 0
+  AskedBy r s = CountedState Few s ⊎ ((r ≡ ask.Cluster) × WaitingBy s)
+
+  abbrev pub GoodStepBy : Step → Type 0
+  GoodStepBy (Goes s) = GoodBy s
+  GoodStepBy (Ticks s) = GoodBy s
+  GoodStepBy (Asks r s) = AskedBy r s
+
+-- of any numbers
+abbrev pub OpeningState : State → Type 0
+OpeningState s = OpeningBy Any s
+
+abbrev pub GoodState : State → Type 0
+GoodState s = GoodBy Any s

@@ -1,0 +1,1 @@
+void uMain::main() { cout << "a"; uCluster c; migrate(c); cout << "b"; }
