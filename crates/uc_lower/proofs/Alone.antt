@@ -20,10 +20,10 @@ use Rattle.uc_rules.specs.declared.rules.Sort.{Sort}
 use Rattle.uc_rules.specs.declared.rules.Sort.TheVariants as sort
 use Rattle.uc_rules.specs.declared.rules.Sort.TheVariants.{Object}
 use Rattle.uc_rules.specs.Breaks.{breaks_at, breaks_among, breaks_of}
-use Rattle.uc_rules.specs.ItemBreaks.{are_one, class_declares, clashes, defines_member, form_declares_sig, has_class_name, is_defined, is_definition, is_forward_item, is_main_base, is_member_definition, is_named, is_named_proto, is_new_item, is_only_one, is_program_main, is_sound_item, is_sound_member, item_name, outer_name, same_base, same_params, same_sig}
+use Rattle.uc_rules.specs.ItemBreaks.{class_declares, clashes, defines_member, form_declares_sig, has_class_name, is_defined, is_definition, is_main_base, is_member_definition, is_named, is_named_proto, is_new_item, is_only_one, is_program_main, is_sound_item, is_sound_member, outer_name, same_base, same_params}
 use Rattle.uc_rules.specs.ItemBreaks as rules
 use Rattle.uc_rules.specs.ProgramVisits as visits
-use Rattle.uc_rules.specs.ProgramVisits.{class_visits, classes_in, form_visits, home_of, item_visits, items_visits, members_visits, owner_home, program_visits, routine_visits, sig_env, sig_visits}
+use Rattle.uc_rules.specs.ProgramVisits.{classes_in, form_visits, home_of, item_visits, items_visits, members_visits, owner_home, routine_visits, sig_env, sig_visits}
 use Rattle.uc_rules.specs.Names.{is_destructor, is_here}
 use Rattle.uc_rules.specs.Scopes.{class_around, plain_env}
 use Rattle.uc_rules.specs.Sorts.{class_at, class_named}

@@ -14,7 +14,7 @@ use Rattle.uc_tree.specs.Programs.{MemberForm, FieldsMember, RoutineMember, Prot
 use Rattle.uc_tree.specs.Objects.{ClassField, declared_fields, fields_of, form_fields}
 use Rattle.uc_rules.specs.declared.rules.OwnClass.{OwnClass}
 use Rattle.uc_rules.specs.Breaks.{breaks_at, breaks_among}
-use Rattle.uc_rules.specs.ClassBreaks.{declared_names, fields_at, form_declares_names, is_new_field, is_new_member, member_fields, members_declare, sig_declares}
+use Rattle.uc_rules.specs.ClassBreaks.{fields_at, form_declares_names, is_new_field, is_new_member, member_fields, members_declare}
 use Rattle.uc_rules.specs.ClassBreaks as rules
 use Rattle.uc_rules.specs.ProgramVisits.{fields_visits, form_visits, members_visits}
 use Rattle.uc_rules.specs.Scopes.{class_around, plain_env}

@@ -8,7 +8,7 @@ use Rattle.uc_tree.specs.ExpressionSizes.{expr_size, exprs_size}
 use Rattle.uc_lower_expr.specs.Contexts.{context_in}
 use Rattle.uc_tree.specs.declared.limits.TheConstants.{OPS_FOR_SIZE}
 use Rattle.uc_tree.specs.Programs.{Class, Program}
-use Rattle.uc_tree.specs.Objects.{Making, ClassField, class_shape, making, shape_of}
+use Rattle.uc_tree.specs.Objects.{Making, ClassField, class_shape, shape_of}
 use Rattle.uc_tree.specs.Source.{field_cells, Expr, Literal, OfObject, OwnField, Shape, Stmts, Evaluate, Then, Built, Scoped}
 use Rattle.uc_resolve.specs.Resolve.{Meant, args_meant, meant, build, clean_up, value_of, field_built, field_making, field_left, field_start, field_type, length_in_class}
 use Rattle.uc_code.specs.declared.op.Op.{Op}

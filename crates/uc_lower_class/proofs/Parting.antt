@@ -25,7 +25,7 @@ use Rattle.uc_lower_stmt.proofs.RowFitting.{fit_opened, fit_puts, fit_refl, fit_
 use Rattle.uc_lower_stmt.proofs.Laying.{begun_join, way_join}
 use Rattle.uc_lower_stmt.proofs.BlocksLemmas.{cleans_rows}
 use Rattle.uc_lower_stmt.specs.SourceRows.{stmt_rows_under}
-use Rattle.uc_code.specs.RowCounts.{cleaning_rows, loop_rows, return_rows}
+use Rattle.uc_code.specs.RowCounts.{loop_rows, return_rows}
 
 pub block_join : (ks ls : List Step) (ss : Stmts) → block_of (ls ++ ks) ss ≡ block_of ks (block_of ls ss)
 block_join ks [] ss = refl

@@ -1,5 +1,5 @@
 -- Statements that enable or disable events, as they are added to a draft.
-use Rattle.std.proofs.Common.{◌≡◌, ℕ, ◌+◌, ◌-◌, ◌*◌, ◌^◌, ◌%◌, ◌<◌, ◌≤◌, List, ◌∷◌, length, drop, get_or, refl, ap, sym, subst, ◌∙◌, arith, bit_or, None}
+use Rattle.std.proofs.Common.{◌≡◌, ℕ, ◌+◌, ◌*◌, ◌^◌, ◌%◌, ◌<◌, ◌≤◌, List, ◌∷◌, length, drop, get_or, refl, ap, sym, subst, ◌∙◌, arith, bit_or, None}
 use Rattle.std.proofs.lemmas.List.{drop_more}
 use Rattle.std.proofs.lemmas.Nat.{one_shl, or_comm}
 use Rattle.uc_tree.specs.declared.kinds.EventName.{EventName}

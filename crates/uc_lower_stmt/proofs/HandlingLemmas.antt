@@ -42,7 +42,7 @@ use Rattle.uc_lower_stmt.proofs.GuardingLemmas.{from_join, from_lowers, under_bu
 use Rattle.uc_lower_stmt.proofs.Joined.{lowers_as, lowers_nothing, lowers_put, lowers_count}
 use Rattle.uc_lower_stmt.proofs.Kept.{handler_stable, keeps_stable, named_stable, stmts_stable}
 use Rattle.uc_lower_stmt.proofs.Scoping.{back_out}
-use Rattle.uc_lower_stmt.specs.RowFit.{RowsFit, open_rows}
+use Rattle.uc_lower_stmt.specs.RowFit.{open_rows}
 use Rattle.uc_code.specs.RowGrowth.{AddsRows, BeginBy}
 use Rattle.uc_code.proofs.Growth.{rows_closed}
 use Rattle.uc_lower_stmt.proofs.RowFitting.{fit_closed, fit_less, fit_like, fit_opened, fit_then, fit_count}

@@ -49,7 +49,7 @@ use Rattle.uc_lower_stmt.specs.LowersStatement.{scope_of}
 use Rattle.uc_lower_stmt.proofs.Kept.{stmt_stable}
 use Rattle.uc_lower_stmt.proofs.Laying.{lays_as, lays_join, lays_nothing}
 use Rattle.uc_code.proofs.Putting.{done_stable}
-use Rattle.uc_lower_stmt.specs.RowFit.{RowsFit, open_rows}
+use Rattle.uc_lower_stmt.specs.RowFit.{open_rows}
 use Rattle.uc_lower_stmt.proofs.Filling.{built_stable}
 use Rattle.uc_lower_stmt.proofs.RowFitting.{fit_adds, fit_like, fit_opened, fit_puts, fit_then, fit_count}
 use Rattle.uc_lower_stmt.specs.SourceRows.{stmt_rows}

@@ -22,8 +22,8 @@ use Rattle.uc_lower_stmt.specs.SourceRows.{stmt_rows_under, stmts_rows_under}
 abbrev pub scope_of : Draft → Scope
 scope_of d = record { class = d.place.class; routine = d.place.routine; names = d.names; handled = d.handled; cells = d.cells; hidden = d.hidden; texts = d.texts; sites = d.sites }
 
--- a draft with r rows more and at most n ops more, for which S holds, in this scope, and with o scopes more. No more than k text literals and c
--- cells came to it; its marks, routines and place are as they were.
+-- a draft with r rows more and at most n ops more, for which S holds, in this scope, and with o scopes more. No more than k text
+-- literals and c cells came to it; its marks, routines and place are as they were.
 pub record Lowers (r n k c o : ℕ) (S : Laid → ℕ → ℕ → Type 0) (after : Scope) (old new : Draft) : Type 0 where
   pub rest : new ≡ record old { ops = new.ops; rows = new.rows; settled = new.settled; scopes = new.scopes; names = new.names; cells = new.cells; hidden = new.hidden; texts = new.texts; sites = new.sites }
   pub scope : scope_of new ≡ after

@@ -18,8 +18,8 @@ open_rows (mark.Part row ∷ ms) = suc (open_rows ms)
 open_rows (mark.Elements row ∷ ms) = suc (open_rows ms)
 open_rows (mark.Outward below row ∷ ms) = suc (open_rows ms)
 
--- from one draft to another come so many rows: no more than ops, by so many less, but for those that are still open; and the handlers that
--- rows get begin by the end of the ops
+-- from one draft to another come so many rows: no more than ops, by so many less, but for those that are still open; and the
+-- handlers that rows get begin by the end of the ops
 pub record RowsFit (less count : ℕ) (old new : Draft) : Type 0 where
   pub more : length new.rows ≡ length old.rows + count
   pub few : length new.rows + length old.ops + open_rows old.marks + less ≤ length old.rows + length new.ops + open_rows new.marks
