@@ -25,42 +25,42 @@ impl Work {
     pub fn next(&self) -> u32
         ensures { result ≡ self.now.run.control }
     {
-        self.task.parts.running.run.next
+        self.task.running.run.next
     }
 
     /// Another op is next.
     pub fn set_next(&mut self, to: u32)
         ensures { self.new ≡ record self.old { run = record self.old.run { control = to } } }
     {
-        self.task.parts.running.run.next = to;
+        self.task.running.run.next = to;
     }
 
     /// The object of the running activation.
     pub fn this(&self) -> Cell
         ensures { result ≡ self.now.run.this }
     {
-        self.task.parts.running.run.this
+        self.task.running.run.this
     }
 
     /// How many elements stand of the array that the running activation builds or destroys.
     pub fn elements(&self) -> u32
         ensures { result ≡ self.now.run.elements }
     {
-        self.task.parts.running.run.elements
+        self.task.running.run.elements
     }
 
     /// So many elements stand.
     pub fn set_elements(&mut self, count: u32)
         ensures { self.new ≡ record self.old { run = record self.old.run { elements = count } } }
     {
-        self.task.parts.running.run.elements = count;
+        self.task.running.run.elements = count;
     }
 
     /// How many calls are active in the running execution.
     pub fn calls(&self) -> u32
         ensures { result ≡ self.now.env.links.calls }
     {
-        self.task.parts.running.links.calls
+        self.task.running.links.calls
     }
 
     /// Makes a call: the newest operands are the routine's parameters.
@@ -69,7 +69,7 @@ impl Work {
         ensures ok { OnOk result (self.new ≡ called call self.old) }
         ensures err { OnErr result (self.new ≡ self.old) }
     {
-        self.task.parts.running.enter(call)?;
+        self.task.running.enter(call)?;
         Ok(())
     }
 
@@ -80,7 +80,7 @@ impl Work {
         ensures after { OnOk result (self.new ≡ left given self.old.callers self.old) }
         ensures err { OnErr result (self.new ≡ self.old) }
     {
-        let called = self.task.parts.running.leave(given)?;
+        let called = self.task.running.leave(given)?;
         Ok(called)
     }
 
@@ -88,7 +88,7 @@ impl Work {
     pub fn level(&self) -> u32
         ensures { result ≡ length self.now.callers }
     {
-        self.task.parts.running.level()
+        self.task.running.level()
     }
 
     /// The activation that has so many below it, but for its operands.
@@ -96,14 +96,14 @@ impl Work {
         ensures { MatchOption result (at_depth (self.now.run ∷ self.now.callers) level ≡ None)
             (λ a. (os : List Cell) × (at_depth (self.now.run ∷ self.now.callers) level ≡ Some (completed a.now os))) }
     {
-        self.task.parts.running.activation(level)
+        self.task.running.activation(level)
     }
 
     /// The line of an op; for one of no line that of the newest call around it that has one.
     pub fn line(&self, code: &Code, line: u32) -> u32
         ensures { result ≡ line_at code.now.ops line self.now.callers }
     {
-        line_from(code, &self.task.parts.running.callers, line)
+        line_from(code, &self.task.running.callers, line)
     }
 
     /// The line of the op before the next one; of one of no line that of the newest call around it that has one.
@@ -117,35 +117,35 @@ impl Work {
     pub fn handles(&self) -> Option<Visited>
         ensures { result ≡ self.now.run.handles }
     {
-        self.task.parts.running.run.handles
+        self.task.running.run.handles
     }
 
     /// Why the running activation is unwound, if it is.
     pub fn raised(&self) -> Option<UnwindReason>
         ensures { result ≡ self.now.run.raised }
     {
-        self.task.parts.running.run.raised
+        self.task.running.run.raised
     }
 
     /// What a return that unwinds the running activation hands over.
     pub fn result(&self) -> Cell
         ensures { result ≡ self.now.run.result }
     {
-        self.task.parts.running.run.result
+        self.task.running.run.result
     }
 
     /// Whether an activation waits, and why it is unwound, if it is.
     pub fn caller(&self) -> Option<Option<UnwindReason>>
         ensures { MatchOption result (self.now.callers ≡ []) (λ why. IsCaller why self.now.callers) }
     {
-        self.task.parts.running.caller()
+        self.task.running.caller()
     }
 
     /// The running activation is unwound for this reason, from its place on; a return that arrives hands this over.
     pub fn unwind(&mut self, why: UnwindReason, given: Cell)
         ensures { self.new ≡ record self.old { run = unwound_by why given self.old.run } }
     {
-        let running = &mut self.task.parts.running;
+        let running = &mut *self.task.running;
         running.block.drop_all();
         running.run.raised = Some(why);
         running.run.result = given;
@@ -155,7 +155,7 @@ impl Work {
     pub fn end_unwinding(&mut self, to: u32)
         ensures { self.new ≡ record self.old { run = calmed to self.old.run } }
     {
-        let running = &mut self.task.parts.running;
+        let running = &mut *self.task.running;
         running.block.drop_all();
         running.run.next = to;
         running.run.raised = None;
@@ -165,7 +165,7 @@ impl Work {
     pub fn begin_clean_up(&mut self, entry: u32)
         ensures { self.new ≡ record self.old { run = cleaning entry self.old.run } }
     {
-        let running = &mut self.task.parts.running;
+        let running = &mut *self.task.running;
         running.block.drop_all();
         running.run.next = entry;
     }
@@ -175,7 +175,7 @@ impl Work {
         ensures ok { OnOk result (self.new ≡ record self.old { run = catching entry event self.old.run }) }
         ensures err { OnErr result (self.new ≡ self.old) }
     {
-        let running = &mut self.task.parts.running;
+        let running = &mut *self.task.running;
         running.block.put_event(event)?;
         running.run.next = entry;
         running.run.raised = None;
@@ -188,7 +188,7 @@ impl Work {
         ensures called { result ≡ nat_lt 0 (length self.old.callers) }
         ensures after { self.new ≡ passed why given self.old.callers self.old }
     {
-        let called = self.task.parts.running.leave_unwinding(why, given);
+        let called = self.task.running.leave_unwinding(why, given);
         called
     }
 
@@ -197,7 +197,7 @@ impl Work {
         ensures ok { OnOk result (self.new ≡ handled handling self.old) }
         ensures err { OnErr result (self.new ≡ self.old) }
     {
-        self.task.parts.running.enter_handler(handling)?;
+        self.task.running.enter_handler(handling)?;
         Ok(())
     }
 
@@ -205,9 +205,9 @@ impl Work {
     pub fn count_no_more(&mut self)
         ensures { self.new ≡ counted_no_more self.old }
     {
-        let counts = self.task.parts.running.run.counts;
-        self.task.parts.running.links.leave(counts);
-        self.task.parts.running.run.counts = false;
+        let counts = self.task.running.run.counts;
+        self.task.running.links.leave(counts);
+        self.task.running.run.counts = false;
     }
 
     /// A return of a handler has arrived at the running mutex call, which goes on at this op with what that hands over.
@@ -215,7 +215,7 @@ impl Work {
         ensures ok { OnOk result (self.new ≡ record self.old { run = arrived_at to self.old.run }) }
         ensures err { OnErr result (self.new ≡ self.old) }
     {
-        let running = &mut self.task.parts.running;
+        let running = &mut *self.task.running;
         running.block.replace_all(running.run.result)?;
         running.run.next = to;
         running.run.raised = None;

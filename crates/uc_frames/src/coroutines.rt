@@ -63,7 +63,7 @@ impl Work {
         ensures { result ≡ live_at exec self.now.env }
     {
         if self.runs(exec) {
-            return self.task.parts.running.links.live;
+            return self.task.running.links.live;
         }
         match self.parked(exec) {
             None => false,
@@ -146,7 +146,7 @@ impl Work {
         ensures { self.new ≡ record self.old { env = with_links (lively live) exec self.old.env } }
     {
         if self.runs(exec) {
-            self.task.parts.running.links.set_live(live);
+            self.task.running.links.set_live(live);
         } else {
             self.set_parked_live(exec, live);
         }
@@ -205,7 +205,7 @@ impl Work {
     pub fn enabled(&self) -> u64
         ensures { result ≡ self.now.env.links.enabled }
     {
-        self.task.parts.running.links.enabled
+        self.task.running.links.enabled
     }
 
     /// The oldest event that is pending and enabled at the running execution, if there is one, is delivered: it goes, and its number and its
@@ -215,7 +215,7 @@ impl Work {
         ensures after { OnOk result (self.new ≡ delivered (oldest_enabled self.old.env.links) self.old) }
         ensures err { OnErr result (self.new ≡ self.old) }
     {
-        let running = &mut self.task.parts.running;
+        let running = &mut *self.task.running;
         match running.links.oldest_enabled() {
             None => Ok(false),
             Some(pending) => {

@@ -38,12 +38,11 @@ impl Work {
         ensures ok { OnOk result (self.new ≡ record self.old { env = call_begun object self.old.env }) }
         ensures err { OnErr result (self.new ≡ self.old) }
     {
-        let parts = &mut *self.task.parts;
-        if parts.running.links.mutex_calls == u32::MAX {
+        if self.task.running.links.mutex_calls == u32::MAX {
             return Err(AllocError);
         }
-        parts.depths.deepen(object)?;
-        parts.running.links.mutex_calls += 1;
+        self.task.parts.depths.deepen(object)?;
+        self.task.running.links.mutex_calls += 1;
         Ok(())
     }
 
@@ -51,9 +50,9 @@ impl Work {
     pub fn end_call(&mut self, object: u32)
         ensures { self.new ≡ record self.old { env = call_ended object self.old.env } }
     {
-        let parts = &mut *self.task.parts;
-        parts.depths.lessen(object);
-        parts.running.links.mutex_calls = parts.running.links.mutex_calls.saturating_sub(1);
+        self.task.parts.depths.lessen(object);
+        let links = &mut self.task.running.links;
+        links.mutex_calls = links.mutex_calls.saturating_sub(1);
     }
 
     /// The mutex call in which an object is destroyed ends.
@@ -61,7 +60,7 @@ impl Work {
         ensures { self.new ≡ record self.old { env = call_gone object self.old.env } }
     {
         self.task.parts.depths.leave(object);
-        let links = &mut self.task.parts.running.links;
+        let links = &mut self.task.running.links;
         links.mutex_calls = links.mutex_calls.saturating_sub(1);
     }
 
@@ -70,7 +69,7 @@ impl Work {
         ensures ok { OnOk result (self.new ≡ record self.old { env = build_begun self.old.env }) }
         ensures err { OnErr result (self.new ≡ self.old) }
     {
-        let links = &mut self.task.parts.running.links;
+        let links = &mut self.task.running.links;
         if links.builds == u32::MAX {
             return Err(AllocError);
         }
@@ -82,9 +81,9 @@ impl Work {
     pub fn end_build(&mut self, object: u32)
         ensures { self.new ≡ record self.old { env = build_ended object self.old.env } }
     {
-        let parts = &mut *self.task.parts;
-        parts.depths.leave(object);
-        parts.running.links.builds = parts.running.links.builds.saturating_sub(1);
+        self.task.parts.depths.leave(object);
+        let links = &mut self.task.running.links;
+        links.builds = links.builds.saturating_sub(1);
     }
 
     /// The place below the arguments of a routine is bound to the newest operand, which goes and stands there.
@@ -93,11 +92,7 @@ impl Work {
     {
         let made = self.pop();
         let place = self.below(routine.params);
-        self.task
-            .parts
-            .running
-            .block
-            .put_below(routine.params, made);
+        self.task.running.block.put_below(routine.params, made);
         self.write(place, made);
     }
 
@@ -133,7 +128,7 @@ impl Work {
     {
         self.push_all(&[Cell::Number(0), Cell::Number(0)])?;
         let failure = Cell::Number(i64::from(FAILURE));
-        self.task.parts.running.block.put_below(2, failure);
+        self.task.running.block.put_below(2, failure);
         Ok(())
     }
 }

@@ -16,7 +16,7 @@ impl Work {
         ensures ok { OnOk result (self.new ≡ record self.old { run = record self.old.run { operands = cell ∷ self.old.run.operands } }) }
         ensures err { OnErr result (self.new ≡ self.old) }
     {
-        self.task.parts.running.block.push(cell)?;
+        self.task.running.block.push(cell)?;
         Ok(())
     }
 
@@ -25,7 +25,7 @@ impl Work {
         ensures ok { OnOk result (self.new ≡ record self.old { run = record self.old.run { operands = reverse cells.now ++ self.old.run.operands } }) }
         ensures err { OnErr result (self.new ≡ self.old) }
     {
-        self.task.parts.running.block.push_all(cells)?;
+        self.task.running.block.push_all(cells)?;
         Ok(())
     }
 
@@ -35,7 +35,7 @@ impl Work {
         ensures value { result ≡ top self.old.run.operands }
         ensures after { self.new ≡ record self.old { run = record self.old.run { operands = below self.old.run.operands } } }
     {
-        let cell = self.task.parts.running.block.pop();
+        let cell = self.task.running.block.pop();
         cell
     }
 
@@ -71,7 +71,7 @@ impl Work {
     pub fn below(&self, count: u32) -> Cell
         ensures { result ≡ top (drop count self.now.run.operands) }
     {
-        self.task.parts.running.block.below(count)
+        self.task.running.block.below(count)
     }
 
     /// Another operand in the place of the newest one, if there is one.
@@ -80,7 +80,7 @@ impl Work {
         ensures ok { OnOk result (self.new ≡ record self.old { run = record self.old.run { operands = cell ∷ below self.old.run.operands } }) }
         ensures err { OnErr result (self.new ≡ self.old) }
     {
-        self.task.parts.running.block.replace(cell)?;
+        self.task.running.block.replace(cell)?;
         Ok(())
     }
 
@@ -90,7 +90,7 @@ impl Work {
         ensures ok { OnOk result (self.new ≡ record self.old { run = record self.old.run { operands = cell ∷ below (below self.old.run.operands) } }) }
         ensures err { OnErr result (self.new ≡ self.old) }
     {
-        self.task.parts.running.block.replace_two(cell)?;
+        self.task.running.block.replace_two(cell)?;
         Ok(())
     }
 
@@ -99,7 +99,7 @@ impl Work {
         ensures ok { OnOk result (self.new ≡ record self.old { run = record self.old.run { operands = cell ∷ drop count self.old.run.operands } }) }
         ensures err { OnErr result (self.new ≡ self.old) }
     {
-        self.task.parts.running.block.replace_many(count, cell)?;
+        self.task.running.block.replace_many(count, cell)?;
         Ok(())
     }
 }

@@ -8,7 +8,6 @@ use crate::cell::Cell;
 use crate::stack::Stack;
 use std::alloc::{AllocError, Global};
 use std::marker::Model;
-use std::mem;
 use uc_code::rows::RoutineCode;
 use uc_machine::exec::{Pending, Stage};
 
@@ -41,15 +40,6 @@ impl ParkedStack {
         stack.links.stage = Stage::Fresh;
         let stack = Box::new(alloc, stack)?;
         Ok(ParkedStack { stack })
-    }
-
-    // This one runs from now on, and the one that ran is left here.
-    pub(crate) fn swap(&mut self, running: &mut Stack)
-        ensures left { self.new ≡ running.old }
-        ensures runs { running.new ≡ self.old }
-    {
-        let stack = &mut *self.stack;
-        mem::swap(stack, running);
     }
 
     // The cell at a place of a frame, 0 where there is none. The oldest frame has depth 0.

@@ -22,7 +22,7 @@ impl Work {
     {
         let before = signed(self.enabled());
         self.set(cell, Cell::Number(before));
-        self.task.parts.running.links.enabled = events;
+        self.task.running.links.enabled = events;
     }
 
     /// Only those events are enabled there that such a cell keeps.
@@ -30,7 +30,7 @@ impl Work {
         ensures { self.new ≡ record self.old { env = with_enabled (events_in (cell_number (loaded (shifted cell (Cell.Place (this_frame self.old) 0)) self.old.env))) self.old.env } }
     {
         let kept = number_in(self.get(cell));
-        self.task.parts.running.links.enabled = unsigned(kept);
+        self.task.running.links.enabled = unsigned(kept);
     }
 
     /// The event that stands below the newest operand.
@@ -49,7 +49,7 @@ impl Work {
         ensures { result ≡ length (pending_at exec self.now.env) }
     {
         if self.runs(exec) {
-            return self.task.parts.running.links.pending.len();
+            return self.task.running.links.pending.len();
         }
         match self.parked(exec) {
             None => 0,
@@ -63,7 +63,7 @@ impl Work {
         ensures err { OnErr result (self.new ≡ self.old) }
     {
         if self.runs(exec) {
-            self.task.parts.running.links.pending.push(event)?;
+            self.task.running.links.pending.push(event)?;
         } else {
             self.add_pending(exec, event)?;
         }

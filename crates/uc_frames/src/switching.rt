@@ -9,6 +9,7 @@ ghost use Rattle.uc_tree.specs.declared.limits.TheConstants.{UNHANDLED};
 use crate::numbered::{is_same, position};
 use crate::parked::ParkedStack;
 use crate::work::Work;
+use std::mem;
 use uc_machine::exec::{Exec, Home, Stage, UnwindReason};
 use uc_tree::limits::UNHANDLED;
 
@@ -17,21 +18,21 @@ impl Work {
     pub fn starter(&self) -> Option<Exec>
         ensures { result ≡ self.now.env.links.starter }
     {
-        self.task.parts.running.links.starter
+        self.task.running.links.starter
     }
 
     /// Who resumed the running execution last, if any did.
     pub fn resumer(&self) -> Option<Exec>
         ensures { result ≡ self.now.env.links.resumer }
     {
-        self.task.parts.running.links.resumer
+        self.task.running.links.resumer
     }
 
     /// Who destroys the coroutine of the running execution, while that is unwound for it.
     pub fn destroyer(&self) -> Option<Exec>
         ensures { result ≡ self.now.env.links.destroyer }
     {
-        self.task.parts.running.links.destroyer
+        self.task.running.links.destroyer
     }
 
     /// Whether this is the execution that runs.
@@ -55,8 +56,8 @@ impl Work {
     pub fn end(&mut self)
         ensures { self.new ≡ ended self.old }
     {
-        self.task.parts.running.links.stage = Stage::Ended;
-        self.task.parts.running.links.destroyer = None;
+        self.task.running.links.stage = Stage::Ended;
+        self.task.running.links.destroyer = None;
     }
 
     /// The running execution stops, and one in hand goes on. Nothing is claimed of one that has no `stage`.
@@ -115,9 +116,9 @@ impl Work {
     {
         let stops = self.task.parts.exec;
         self.task.parts.exec = exec;
-        let mut ran = stack;
-        ran.swap(&mut self.task.parts.running);
-        let _ = self.exchange(stops, Some(ran));
+        let ParkedStack { stack } = stack;
+        let stack = mem::replace(&mut self.task.running, stack);
+        let _ = self.exchange(stops, Some(ParkedStack { stack }));
     }
 
     // An execution in hand is left as this, or runs where it is nothing; what was left of it is handed over.

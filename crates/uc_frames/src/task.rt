@@ -13,20 +13,21 @@ use std::marker::Model;
 use uc_code::rows::RoutineCode;
 use uc_machine::exec::{Exec, Home};
 
-/// A task in a place of its own, so that it is handed on without being moved. Contracts see a machine with an empty hand.
+/// A task: the execution that runs and all else, each in a place of its own, so that a task is handed on without being moved, and a
+/// switch exchanges places. Contracts see a machine with an empty hand.
 #[derive(Drop)]
 pub struct Task {
+    pub(crate) running: Box<Stack>,
     pub(crate) parts: Box<TaskParts>,
 }
 
-/// What a task is: the execution that runs, its own object, what is at home in it, its depth in each object, and the
-/// items that it gathers.
+/// What a task is besides its stacks: the name of the execution that runs, its own object, what is at home in it, its depth in each
+/// object, and the items that it gathers.
 #[derive(Drop)]
 pub struct TaskParts {
     pub(crate) alloc: Global,
     pub(crate) exec: Exec,
     pub(crate) own: u32,
-    pub(crate) running: Stack,
     pub(crate) house: House,
     pub(crate) depths: Depths,
     pub(crate) gathered: Option<Pieces>,
@@ -38,7 +39,7 @@ impl Model for Task {
 
     ghost Value = { Machine };
 
-    ghost view = { λ t. record { run = t.parts.value.running.run; callers = t.parts.value.running.callers; env = record { frames = t.parts.value.running.frames; links = t.parts.value.running.links; exec = t.parts.value.exec; own = t.parts.value.own; house = t.parts.value.house; depths = t.parts.value.depths; hand = []; gathered = t.parts.value.gathered } } };
+    ghost view = { λ t. record { run = t.running.value.run; callers = t.running.value.callers; env = record { frames = t.running.value.frames; links = t.running.value.links; exec = t.parts.value.exec; own = t.parts.value.own; house = t.parts.value.house; depths = t.parts.value.depths; hand = []; gathered = t.parts.value.gathered } } };
 }
 
 impl Task {
@@ -56,12 +57,12 @@ impl Task {
                 serial: 0,
             },
             own,
-            running,
             house,
             depths,
             gathered: None,
         };
+        let running = Box::new(alloc, running)?;
         let parts = Box::new(alloc, parts)?;
-        Ok(Task { parts })
+        Ok(Task { running, parts })
     }
 }

@@ -70,7 +70,7 @@ impl Work {
     {
         let frame = Owner::Frame {
             exec: self.task.parts.exec,
-            depth: self.task.parts.running.run.frame,
+            depth: self.task.running.run.frame,
         };
         Cell::Place(frame, u64::from(cell))
     }
@@ -79,7 +79,7 @@ impl Work {
     pub fn get(&self, cell: u32) -> Cell
         ensures { result ≡ loaded (shifted cell (Cell.Place (this_frame self.now) 0)) self.now.env }
     {
-        let running = &self.task.parts.running;
+        let running = &*self.task.running;
         running.block.read(running.run.frame, u64::from(cell))
     }
 
@@ -87,12 +87,8 @@ impl Work {
     pub fn set(&mut self, cell: u32, value: Cell)
         ensures { self.new ≡ record self.old { env = written (shifted cell (Cell.Place (this_frame self.old) 0)) value self.old.env } }
     {
-        let frame = self.task.parts.running.run.frame;
-        self.task
-            .parts
-            .running
-            .block
-            .write(frame, u64::from(cell), value);
+        let frame = self.task.running.run.frame;
+        self.task.running.block.write(frame, u64::from(cell), value);
     }
 
     /// What the place in a cell holds, a mutex object its first field; 0 where the cell is no place, or nothing in hand is there.
@@ -114,7 +110,7 @@ impl Work {
         match owner {
             Owner::Frame { exec, depth } => {
                 if self.runs(exec) {
-                    return self.task.parts.running.block.read(depth, at);
+                    return self.task.running.block.read(depth, at);
                 }
                 match self.parked(exec) {
                     None => Cell::Number(0),
@@ -177,7 +173,7 @@ impl Work {
         match owner {
             Owner::Frame { exec, depth } => {
                 if self.runs(exec) {
-                    self.task.parts.running.block.write(depth, at, cell);
+                    self.task.running.block.write(depth, at, cell);
                 } else {
                     self.write_parked(exec, depth, at, cell);
                 }
@@ -217,8 +213,8 @@ impl Work {
     pub fn clear(&mut self, cell: u32, cells: u32)
         ensures { self.new ≡ record self.old { env = cleared cell cells self.old } }
     {
-        let frame = self.task.parts.running.run.frame;
-        self.task.parts.running.block.clear(frame, cell, cells);
+        let frame = self.task.running.run.frame;
+        self.task.running.block.clear(frame, cell, cells);
     }
 
     /// Whether items are gathered to be printed at once.
