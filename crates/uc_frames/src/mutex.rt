@@ -38,11 +38,12 @@ impl Work {
         ensures ok { OnOk result (self.new ≡ record self.old { env = call_begun object self.old.env }) }
         ensures err { OnErr result (self.new ≡ self.old) }
     {
-        if self.task.running.links.mutex_calls == u32::MAX {
+        let task = &mut self.task;
+        if task.running.links.mutex_calls == u32::MAX {
             return Err(AllocError);
         }
-        self.task.parts.depths.deepen(object)?;
-        self.task.running.links.mutex_calls += 1;
+        task.parts.depths.deepen(object)?;
+        task.running.links.mutex_calls += 1;
         Ok(())
     }
 
@@ -50,9 +51,9 @@ impl Work {
     pub fn end_call(&mut self, object: u32)
         ensures { self.new ≡ record self.old { env = call_ended object self.old.env } }
     {
-        self.task.parts.depths.lessen(object);
-        let links = &mut self.task.running.links;
-        links.mutex_calls = links.mutex_calls.saturating_sub(1);
+        let task = &mut self.task;
+        task.parts.depths.lessen(object);
+        task.running.links.mutex_calls = task.running.links.mutex_calls.saturating_sub(1);
     }
 
     /// The mutex call in which an object is destroyed ends.
@@ -81,9 +82,9 @@ impl Work {
     pub fn end_build(&mut self, object: u32)
         ensures { self.new ≡ record self.old { env = build_ended object self.old.env } }
     {
-        self.task.parts.depths.leave(object);
-        let links = &mut self.task.running.links;
-        links.builds = links.builds.saturating_sub(1);
+        let task = &mut self.task;
+        task.parts.depths.leave(object);
+        task.running.links.builds = task.running.links.builds.saturating_sub(1);
     }
 
     /// The place below the arguments of a routine is bound to the newest operand, which goes and stands there.
