@@ -20,8 +20,29 @@ pub(crate) fn position<X>(list: &List<(u64, X)>, key: u64) -> Option<u32>
     None
 }
 
-// The same in a list in the order of its numbers: a search by halves.
+// The same in a list in the order of its numbers. Where none is missing, a thing stands at its number, so it is sought there first.
+#[inline(always)]
 pub(crate) fn position_in_order<X>(list: &List<(u64, X)>, key: u64) -> Option<u32>
+    requires { (high : ℕ) × Ascends 0 list.now.items high }
+    ensures { MatchOption result (find key list.now.items ≡ None) (λ i. IsAt key list.now.items i) }
+{
+    if key < u64::from(list.len()) {
+        let at = key as u32;
+        if list.get(at).0 == key {
+            if at == 0 {
+                return Some(at);
+            }
+            if list.get(at - 1).0 < key {
+                return Some(at);
+            }
+        }
+    }
+    position_by_halves(list, key)
+}
+
+// The same by halves.
+#[inline(never)]
+fn position_by_halves<X>(list: &List<(u64, X)>, key: u64) -> Option<u32>
     requires { (high : ℕ) × Ascends 0 list.now.items high }
     ensures { MatchOption result (find key list.now.items ≡ None) (λ i. IsAt key list.now.items i) }
 {

@@ -1,18 +1,20 @@
-use Rattle.std.proofs.Common.{arith}
-use Rattle.uc_frames.proofs.Ascending.{bound_found, bound_none, none_past}
-use Rattle.uc_frames.proofs.Positions.{read_key, read_other}
+use Rattle.std.proofs.Common.{arith, length, refl, ◌-◌}
+use Rattle.std.proofs.lemmas.Option.{slice_get_read}
+use Rattle.uc_frames.proofs.Ascending.{all_before}
+use Rattle.uc_frames.proofs.Positions.{found_at, read_key}
 use Rattle.uc_frames.proofs.numbered.position_in_order.Goals as goal
 
-pub returns-then-get-key : goal.returns-then-get-key
-returns-then-get-key g c =
-    bound_found c.args.key c.args.list.now.items c.count_below-first.result c.get.result.now.1 c.count_below-first.ensures (read_key c.args.list.now.items c.count_below-first.result c.args.key c.get.result.now (omega arith) c.get.ensures c.if-get-key.true)
+pub returns-then-at-eq0 : goal.returns-then-at-eq0
+returns-then-at-eq0 g c =
+    let ps = c.args.list.now.items in
+    let k = c.args.key in
+    found_at k ps k c.get.result.now.1 (read_key ps k k c.get.result.now (omega arith) c.get.ensures c.if-get-key.true) (λ j l q s h. omega (arith, l, c.if-at-eq0.true))
 
-pub returns-else-get-key : goal.returns-else-get-key
-returns-else-get-key g c =
-    bound_none c.args.key 0 c.args.list.now.items c.requires.0 c.count_below-first.result c.requires.1 c.count_below-first.ensures
-    (λ q s h. read_other c.args.list.now.items c.count_below-first.result c.args.key c.get.result.now q (omega arith) c.get.ensures c.if-get-key.false s h)
-
-pub returns-else-first-len : goal.returns-else-first-len
-returns-else-first-len g c =
-    bound_none c.args.key 0 c.args.list.now.items c.requires.0 c.count_below-first.result c.requires.1 c.count_below-first.ensures
-    (λ q s h. none_past c.args.list.now.items c.count_below-first.result q (omega arith) s)
+pub returns-then-get-key-2 : goal.returns-then-get-key-2
+returns-then-get-key-2 g c =
+    let ps = c.args.list.now.items in
+    let k = c.args.key in
+    let r = c.get-then-get-key.result.now in
+    let is = slice_get_read ps (length ps) (k - 1) r refl (omega arith) c.get-then-get-key.ensures in
+    found_at k ps k c.get.result.now.1 (read_key ps k k c.get.result.now (omega arith) c.get.ensures c.if-get-key.true)
+    (λ j l q s h. let m = all_before k 0 ps c.requires.0 (k - 1) r c.requires.1 is c.if-get-key-2.true j q (omega (arith, l)) s in omega (arith, h))
