@@ -135,7 +135,7 @@ fn handling_at(work: &Work, row: HandlerRow, frame: u32, event: Event) -> Option
             visited: Visited {
                 level: frame,
                 rest: row.rest,
-                home: home_at(active.handles, frame),
+                home: home_at(active.handles(), frame),
             },
             event,
         }),

@@ -123,6 +123,6 @@ fn handles_at(work: &Work, level: u32) -> Option<Visited>
 {
     match work.activation(level) {
         None => None,
-        Some(active) => active.handles,
+        Some(active) => active.handles(),
     }
 }

@@ -103,7 +103,8 @@ impl Work {
     pub fn line(&self, code: &Code, line: u32) -> u32
         ensures { result ≡ line_at code.now.ops line self.now.callers }
     {
-        line_from(code, &self.task.running.callers, line)
+        let running = &*self.task.running;
+        line_from(code, &running.callers[..running.waiting], line)
     }
 
     /// The line of the op before the next one; of one of no line that of the newest call around it that has one.
@@ -117,21 +118,21 @@ impl Work {
     pub fn handles(&self) -> Option<Visited>
         ensures { result ≡ self.now.run.handles }
     {
-        self.task.running.run.handles
+        self.task.running.run.handles()
     }
 
     /// Why the running activation is unwound, if it is.
     pub fn raised(&self) -> Option<UnwindReason>
         ensures { result ≡ self.now.run.raised }
     {
-        self.task.running.run.raised
+        self.task.running.run.raised()
     }
 
     /// What a return that unwinds the running activation hands over.
     pub fn result(&self) -> Cell
         ensures { result ≡ self.now.run.result }
     {
-        self.task.running.run.result
+        self.task.running.run.result()
     }
 
     /// Whether an activation waits, and why it is unwound, if it is.
@@ -147,6 +148,7 @@ impl Work {
     {
         let running = &mut *self.task.running;
         running.block.drop_all();
+        running.run.tell_rare();
         running.run.raised = Some(why);
         running.run.result = given;
     }
@@ -216,7 +218,7 @@ impl Work {
         ensures err { OnErr result (self.new ≡ self.old) }
     {
         let running = &mut *self.task.running;
-        running.block.replace_all(running.run.result)?;
+        running.block.replace_all(running.run.result())?;
         running.run.next = to;
         running.run.raised = None;
         Ok(())

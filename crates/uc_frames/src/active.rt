@@ -18,10 +18,11 @@ pub struct Activation {
     pub this: Cell,
     pub frame: u32,
     pub counts: bool,
+    pub(crate) is_rare: bool,
     pub elements: u32,
-    pub handles: Option<Visited>,
-    pub raised: Option<UnwindReason>,
-    pub result: Cell,
+    pub(crate) handles: Option<Visited>,
+    pub(crate) raised: Option<UnwindReason>,
+    pub(crate) result: Cell,
 }
 
 impl Activation {
@@ -35,11 +36,75 @@ impl Activation {
             this,
             frame,
             counts,
+            is_rare: false,
             elements: 0,
             handles: None,
             raised: None,
             result: Cell::Nothing,
         }
+    }
+
+    // It is an activation as it begins, at this op.
+    #[inline(always)]
+    pub(crate) fn begin(&mut self, entry: u32, this: Cell, frame: u32, counts: bool)
+        ensures { completed self.new [] ≡ begun entry this frame Cell.Nothing counts }
+    {
+        self.next = entry;
+        self.this = this;
+        self.frame = frame;
+        self.counts = counts;
+        self.is_rare = false;
+        self.elements = 0;
+    }
+
+    // It is the same as another, of which nothing is copied that says nothing.
+    #[inline(always)]
+    pub(crate) fn take_from(&mut self, other: &Activation)
+        ensures { (os : List Cell) → completed self.new os ≡ completed other.now os }
+    {
+        self.next = other.next;
+        self.this = other.this;
+        self.frame = other.frame;
+        self.counts = other.counts;
+        self.is_rare = other.is_rare;
+        self.elements = other.elements;
+        if other.is_rare {
+            self.take_rare(other);
+        }
+    }
+
+    #[cold]
+    #[inline(never)]
+    fn take_rare(&mut self, other: &Activation) {
+        self.handles = other.handles;
+        self.raised = other.raised;
+        self.result = other.result;
+    }
+
+    // The fields that say nothing say so.
+    #[inline(never)]
+    pub(crate) fn tell_rare(&mut self) {
+        if !self.is_rare {
+            self.handles = None;
+            self.raised = None;
+            self.result = Cell::Nothing;
+            self.is_rare = true;
+        }
+    }
+
+    /// How far the search came, where it handles a resumption.
+    pub fn handles(&self) -> Option<Visited> {
+        if self.is_rare { self.handles } else { None }
+    }
+
+    /// Why it is unwound, if it is.
+    pub fn raised(&self) -> Option<UnwindReason> {
+        if self.is_rare { self.raised } else { None }
+    }
+
+    /// What a return that unwinds it hands over.
+    pub fn result(&self) -> Cell {
+        if self.is_rare { self.result } else { Cell::Nothing }
     }
 
     // An activation as a handler of a resumption begins.
@@ -51,6 +116,7 @@ impl Activation {
             this: handling.this,
             frame: handling.frame,
             counts: false,
+            is_rare: true,
             elements: 0,
             handles: Some(handling.visited),
             raised: None,

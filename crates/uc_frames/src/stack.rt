@@ -25,6 +25,7 @@ use uc_machine::exec::UnwindReason;
 pub struct Stack {
     pub(crate) run: Activation,
     pub(crate) callers: Vec<Activation>,
+    pub(crate) waiting: usize,
     pub(crate) block: Block,
     pub(crate) links: Links,
 }
@@ -55,6 +56,7 @@ impl Stack {
         Ok(Stack {
             run: Activation::new(routine.entry, this, 0, false),
             callers: Vec::new(alloc),
+            waiting: 0,
             block,
             links: Links::new(alloc),
         })
@@ -65,7 +67,7 @@ impl Stack {
         ensures { MatchOption result (at_depth (self.now.run ∷ self.now.callers) level ≡ None)
             (λ a. (os : List Cell) × (at_depth (self.now.run ∷ self.now.callers) level ≡ Some (completed a.now os))) }
     {
-        let waiting = self.callers.len();
+        let waiting = self.waiting;
         let level = level as usize;
         if level < waiting {
             return Some(&self.callers[level]);
@@ -80,11 +82,11 @@ impl Stack {
     pub(crate) fn caller(&self) -> Option<Option<UnwindReason>>
         ensures { MatchOption result (self.now.callers ≡ []) (λ why. IsCaller why self.now.callers) }
     {
-        let waiting = self.callers.len();
+        let waiting = self.waiting;
         if waiting == 0 {
             return None;
         }
-        Some(self.callers[waiting - 1].raised)
+        Some(self.callers[waiting - 1].raised())
     }
 
     // How many activations wait.
@@ -92,7 +94,7 @@ impl Stack {
     pub(crate) fn level(&self) -> u32
         ensures { result ≡ length self.now.callers }
     {
-        self.callers.len() as u32
+        self.waiting as u32
     }
 
     // Makes a call. Executions of `u32::MAX` frames, or activations that wait, make no more.
@@ -105,13 +107,17 @@ impl Stack {
         if depth >= u32::MAX as usize {
             return Err(AllocError);
         }
-        if self.callers.len() as u32 == u32::MAX {
+        let waiting = self.waiting;
+        if waiting as u32 == u32::MAX {
             return Err(AllocError);
         }
-        self.callers.reserve(1)?;
+        if waiting >= self.callers.len() {
+            self.add_place()?;
+        }
         self.block.enter(call.routine, call.taken)?;
-        self.callers.push_reserved(self.run);
-        self.run = Activation::new(call.routine.entry, call.this, depth as u32, call.counts);
+        self.callers[waiting].take_from(&self.run);
+        self.waiting = waiting + 1;
+        self.run.begin(call.routine.entry, call.this, depth as u32, call.counts);
         self.links.enter(call.counts);
         Ok(())
     }
@@ -124,12 +130,16 @@ impl Stack {
         if self.block.depth() >= u32::MAX as usize {
             return Err(AllocError);
         }
-        if self.callers.len() as u32 == u32::MAX {
+        let waiting = self.waiting;
+        if waiting as u32 == u32::MAX {
             return Err(AllocError);
         }
-        self.callers.reserve(1)?;
+        if waiting >= self.callers.len() {
+            self.add_place()?;
+        }
         self.block.enter_handler(handling.event)?;
-        self.callers.push_reserved(self.run);
+        self.callers[waiting].take_from(&self.run);
+        self.waiting = waiting + 1;
         self.run = Activation::handler(handling);
         Ok(())
     }
@@ -141,14 +151,14 @@ impl Stack {
         ensures after { OnOk result (self.new ≡ call_left given self.old.callers self.old) }
         ensures err { OnErr result (self.new ≡ self.old) }
     {
-        let waiting = self.callers.len();
+        let waiting = self.waiting;
         if waiting == 0 {
             return Ok(false);
         }
         self.block.leave(given)?;
         self.links.leave(self.run.counts);
-        self.run = self.callers[waiting - 1];
-        self.callers.truncate(waiting - 1);
+        self.run.take_from(&self.callers[waiting - 1]);
+        self.waiting = waiting - 1;
         Ok(true)
     }
 
@@ -158,16 +168,25 @@ impl Stack {
         ensures called { result ≡ nat_lt 0 (length self.old.callers) }
         ensures after { self.new ≡ unwound_back why given self.old.callers self.old }
     {
-        let waiting = self.callers.len();
+        let waiting = self.waiting;
         if waiting == 0 {
             return false;
         }
         self.block.leave_unwinding();
         self.links.leave(self.run.counts);
-        self.run = self.callers[waiting - 1];
+        self.run.take_from(&self.callers[waiting - 1]);
+        self.run.tell_rare();
         self.run.raised = Some(why);
         self.run.result = given;
-        self.callers.truncate(waiting - 1);
+        self.waiting = waiting - 1;
         true
+    }
+
+    // A place for one more activation that waits.
+    #[cold]
+    #[inline(never)]
+    fn add_place(&mut self) -> Result<(), AllocError> {
+        self.callers.push(self.run)?;
+        Ok(())
     }
 }
