@@ -491,9 +491,9 @@ module _ (Sized : ℕ → ℕ → Type 0) (source : Source) where
       object (src.EnterOn m r a args) todo o v q t n h = go ms _ _ holds (n.0, tt, inl (n.1, (tt, (tt, (tt, called_on (count args) r ms todo n.2 h)))))
       object (src.EndOn r false a) todo o v q t n h = go ms _ _ holds (n.0, tt, inl (tt, (tt, called_on 0 r ms todo n.1 h)))
       object (src.EndOn r true a) todo o v q t n h = go ms _ _ holds (n.0, tt, inl (tt, (tt, (tt, called_on 0 r ms todo n.1 h))))
-      object (src.Bind a (src.OfObject src.NewCluster)) todo o v q t n h = go ms _ _ holds (n.0, tt, inr (inl (new_place o.low a v.0, (n.1, tt, inr (inr (tt, ((new_behind Sized o a todo v.0 t, bound_scope a (src.OfObject src.NewCluster) todo q), h)))))))
-      object (src.Bind a (src.OfObject (src.NewProcessor e))) todo o v q t n h = go ms _ _ holds (n.0, tt, inr (inl (new_place o.low a v.0, (n.1, tt, inr (inr (tt, ((new_behind Sized o a todo v.0 t, bound_scope a (src.OfObject (src.NewProcessor e)) todo q), h)))))))
-      object (src.Bind a b) todo o v q t n h = go ms _ _ holds (n.0, tt, inr (inl (new_place o.low a v.0, (n.1, tt, inl (((new_behind Sized o a todo v.0 t, bound_scope a b todo q), h))))))
+      object (src.Bind a (src.OfObject src.NewCluster)) todo o v q t n h = go ms _ _ holds (n.0, tt, inr (inl (new_place o.low a v.0, (n.1, tt, inr (inr (tt, ((new_behind Sized o a todo v.0 t, bound_scope a (src.OfObject src.NewCluster) todo q), h, inr tt)))))))
+      object (src.Bind a (src.OfObject (src.NewProcessor e))) todo o v q t n h = go ms _ _ holds (n.0, tt, inr (inl (new_place o.low a v.0, (n.1, tt, inr (inr (tt, ((new_behind Sized o a todo v.0 t, bound_scope a (src.OfObject (src.NewProcessor e)) todo q), h, inr tt)))))))
+      object (src.Bind a b) todo o v q t n h = go ms _ _ holds (n.0, tt, inr (inl (new_place o.low a v.0, (n.1, tt, inl (((new_behind Sized o a todo v.0 t, bound_scope a b todo q), h, inl v.1.0))))))
       object (src.MakeOn c r false a args) todo o v q t n h = go ms _ _ holds (n.0, tt, inr (inl (new_place o.low a v.0, (n.1, made (piece.CallUnwrittenNow r) (count args) c r a todo o v.0 t (λ k. tt) (made_scope c r false a args todo q) n.2 (tt, made_on (count args) r (Named a) ms todo n.2 h)))))
       object (src.MakeOn c r true a args) todo o v q t n h = go ms _ _ holds (n.0, tt, inr (inl (new_place o.low a v.0, (n.1, (tt, made (piece.CallOnNow r) (count args) c r a todo o v.0 t (λ k. tt) (made_scope c r true a args todo q) n.2 (tt, made_on (count args) r (Named a) ms todo n.2 h))))))
       object src.NewCluster todo o v q t n h = go ms _ _ holds (Any, tt, h)
@@ -603,7 +603,7 @@ module _ (Sized : ℕ → ℕ → Type 0) (source : Source) where
       pub make : (c k : ℕ) (r : Option Routine) (todo : List Todo) → OfNamed (rests (params source k) ms) (IsFor Sized (Unit {0}) todo (others todo)) → Ok Sized source (anys (suc (params source k)) (rests (suc (params source k)) ms)) todo → PlacedStep Sized source (monitors.make_step c k r todo s)
       make c k None todo b h = ends _ _
       make c k (Some r) todo b h =
-          either (PlacedStep Sized source) (monitors.may_call r.written s) _ _ (record { run = record { first = Thing; told = tt; marks = ms; holds = holds; ok = (b, h) }; callers = callers; env = likes env refl refl refl }) (stop Depth todo _)
+          either (PlacedStep Sized source) (monitors.may_call r.written s) _ _ (record { run = record { first = Thing; told = tt; marks = ms; holds = holds; ok = (b, h, tt) }; callers = callers; env = likes env refl refl refl }) (stop Depth todo _)
 
       pub bind : (r : Option Routine) (todo : List Todo) → Ok Sized source (anys (suc (params_at r)) (rests (suc (params_at r)) (rest ms))) todo → PlacedStep Sized source (monitors.bind_step r todo s)
       bind None todo h = ends _ _

@@ -1,5 +1,5 @@
 -- Every quiet step of a state in order, and answers to it.
-use Rattle.std.proofs.Common.{◌≡◌, ℕ, List, [], ◌∷◌, ◌++◌, inl, drop, Option, Some, None, refl, subst}
+use Rattle.std.proofs.Common.{◌≡◌, ℕ, ◌⊎◌, List, [], ◌∷◌, ◌++◌, inl, inr, drop, Option, Some, None, refl, subst}
 use Rattle.std.specs.Prelude.{nat_lt, slice_get}
 use Rattle.uc_tree.specs.Source as src
 use Rattle.uc_tree.specs.Programs.{Program}
@@ -18,13 +18,14 @@ use Rattle.uc_machine.specs.Pieces as piece
 use Rattle.uc_machine.specs.Pieces.{Value, Todo, State, Env, Members, Active, Step, Goes, Ticks, Asks, at, top, below, number, this_frame}
 use Rattle.uc_machine.specs.Answering.{answered, entered, new_members, with_operand}
 use Rattle.uc_answer_laws.specs.Suiting.{Form, AnObject, AClause, ANumber, AValue, AnEvent, JustGo, IsForm}
+use Rattle.uc_scope_laws.specs.Ordinary.{IsOwn}
 use Rattle.uc_scope_laws.specs.RoomStates.{SomeRoom}
 use Rattle.uc_scope_laws.specs.Opening.{OpenRoutine}
 use Rattle.uc_scope_laws.specs.Layout.{Sized as SizedOf}
 use Rattle.uc_event_laws.specs.Counted.{params, CountedExpr, CountedRoutine, CountedSource}
 use Rattle.uc_binding_laws.specs.NamedResting.{AllWait, NamedParked, NamedHand, NamedEnv}
 use Rattle.uc_binding_laws.specs.Placed.{IsObject, Mark, Any, Named, Thing, Holds, OfNamed, IsThing, rest, rests, Opening, IsFor, CodeStmt, CodeRoutine, Ok, FindsObject, FindsFor, Runs, Waits, PlacedMembers, PlacedState, PlacedStep}
-use Rattle.uc_binding_laws.specs.BindingLaws.{OpenSource, IsNamedPlace, LawSteps, LawBound}
+use Rattle.uc_binding_laws.specs.BindingLaws.{OpenSource, IsNamedPlace, IsOwnPlace, LawSteps, LawBound}
 use Rattle.uc_binding_laws.proofs.Keeping as kept
 use Rattle.uc_binding_laws.proofs.Keeping.{either}
 use Rattle.uc_binding_laws.proofs.Marks.{holds_below, holds_spread, holds_drop, holds_told, holds_thing, scope_more, behind_place, none_next, ordinary_opening, lies_closed}
@@ -222,6 +223,16 @@ module _ (p : Program) (s : State) (todo next : List Todo) where
     denotes = h.0;
   }
 
+own_in : (s : State) (ms : List Mark) (vs : List Value) → Holds (this_frame s) s.run.this ms vs → OfNamed ms IsOwn → IsOwnPlace s (top vs)
+own_in s [] vs h o = absurd o
+own_in s (Any ∷ ms) vs h o = absurd o
+own_in s (Named e ∷ ms) vs h o = (e, o, h.0)
+own_in s (Thing ∷ ms) vs h o = absurd o
+
+given_in : (s : State) (ms : List Mark) → Holds (this_frame s) s.run.this ms s.run.operands → Holds (this_frame s) s.run.this (rest ms) (below s.run.operands) → OfNamed (rest ms) IsOwn ⊎ IsThing ms → IsOwnPlace s (top (below s.run.operands)) ⊎ IsObject (top s.run.operands)
+given_in s ms h u (inl o) = inl (own_in s (rest ms) (below s.run.operands) u o)
+given_in s ms h u (inr t) = inr (holds_thing (this_frame s) s.run.this ms s.run.operands h t)
+
 pub law_bound : LawBound
 law_bound = record {
   bound = λ source p s h todo e.
@@ -235,6 +246,15 @@ law_bound = record {
       let ok = subst (Ok (SizedOf p) source ms) e h.run.ok in
       let under = holds_below (this_frame s) s.run.this ms s.run.operands h.run.holds in
       named_in p s todo (others todo) (IsThing ms) (holds_thing (this_frame s) s.run.this ms s.run.operands h.run.holds) (rests n (rest ms)) (drop n (below s.run.operands)) (holds_drop (this_frame s) s.run.this n (rest ms) (below s.run.operands) under) ok.0;
+  object = λ source p s h c r todo e.
+      let ms = h.run.marks in
+      let ok = subst (Ok (SizedOf p) source ms) e h.run.ok in
+      holds_thing (this_frame s) s.run.this ms s.run.operands h.run.holds ok.2;
+  given = λ source p s h todo e.
+      let ms = h.run.marks in
+      let ok = subst (Ok (SizedOf p) source ms) e h.run.ok in
+      let under = holds_below (this_frame s) s.run.this ms s.run.operands h.run.holds in
+      given_in s ms h.run.holds under ok.2;
 }
 
 pub law_steps : LawSteps

@@ -1,6 +1,6 @@
 -- What is bound: a place that the statement has named, behind all that is in scope. So it is in any source in which arguments are counted, as
 -- long as its tasks keep to their rooms.
-use Rattle.std.specs.Prelude.{◌≡◌, ℕ, List, ◌∷◌, drop, slice_get}
+use Rattle.std.specs.Prelude.{◌≡◌, ℕ, ◌⊎◌, List, ◌∷◌, drop, slice_get}
 use Rattle.uc_tree.specs.Programs.{Program}
 use Rattle.uc_tree.specs.Source.{Expr, Source, routine_of}
 use Rattle.uc_entry.specs.declared.request.Answer.{Answer}
@@ -9,6 +9,7 @@ use Rattle.uc_machine.specs.Pieces.{Value, Todo, BindNow, BindMadeNow, this_fram
 use Rattle.uc_machine.specs.Quiet.{State, quiet, first_state}
 use Rattle.uc_machine.specs.Answering.{answered}
 use Rattle.uc_answer_laws.specs.Suiting.{Form, IsForm}
+use Rattle.uc_scope_laws.specs.Ordinary.{IsOwn}
 use Rattle.uc_scope_laws.specs.RoomStates.{SomeRoom}
 use Rattle.uc_scope_laws.specs.Opening.{OpenRoutine}
 use Rattle.uc_scope_laws.specs.Layout.{Sized}
@@ -42,7 +43,11 @@ pub record IsNamedPlace (p : Program) (s : State) (todo next : List Todo) (v : V
   pub scope : ScopeFor (IsObject (top s.run.operands)) name next
   pub denotes : Denotes (this_frame s) s.run.this name v
 
--- what is bound is such a place
+-- it is that of a field of the object at hand, or of an element of one
+abbrev pub IsOwnPlace : State → Value → Type 0
+IsOwnPlace s v = (e : Expr) × IsOwn e × Denotes (this_frame s) s.run.this e v
+
+-- what is bound is such a place, and what a variable is bound to is an object
 pub record LawBound : Type 0 where
   pub bound : (source : Source) (p : Program) (s : State) → PlacedState (Sized p) source s →
       (todo : List Todo) → s.run.control ≡ BindNow ∷ todo →
@@ -50,3 +55,9 @@ pub record LawBound : Type 0 where
   pub made : (source : Source) (p : Program) (s : State) → PlacedState (Sized p) source s →
       (c r : ℕ) (todo : List Todo) → s.run.control ≡ BindMadeNow c r ∷ todo →
       IsNamedPlace p s todo (others todo) (top (drop (params source r) (below s.run.operands)))
+  pub object : (source : Source) (p : Program) (s : State) → PlacedState (Sized p) source s →
+      (c r : ℕ) (todo : List Todo) → s.run.control ≡ BindMadeNow c r ∷ todo →
+      IsObject (top s.run.operands)
+  pub given : (source : Source) (p : Program) (s : State) → PlacedState (Sized p) source s →
+      (todo : List Todo) → s.run.control ≡ BindNow ∷ todo →
+      IsOwnPlace s (top (below s.run.operands)) ⊎ IsObject (top s.run.operands)

@@ -12,6 +12,7 @@ use Rattle.uc_machine.specs.Executions.{others}
 use Rattle.uc_machine.specs.Pieces as piece
 use Rattle.uc_machine.specs.Pieces.{Value, Place, Object, object_in, Slot, FieldAt, At, further, Todo, Sort, sort, Active, State, Members, Step, Goes, Ticks, Asks, top, below}
 use Rattle.uc_answer_laws.specs.Suiting.{Form, AnObject, form_of_request}
+use Rattle.uc_scope_laws.specs.Ordinary.{IsOwn}
 use Rattle.uc_scope_laws.specs.RoomStates.{AllBefore}
 use Rattle.uc_scope_laws.specs.Opening.{Destroying, is_numbered, EndsField, EndsElement, OpenStmt, OpenStmts, OpenHandlers, OpenClauses}
 use Rattle.uc_event_laws.specs.Counted.{params, count, CountedExpr, CountedExprs, CountedMaybe, CountedItems, CountedTargets, CountedDeclared, CountedClean, CountedStmt, CountedStmts, CountedHandlers, CountedClauses}
@@ -261,11 +262,11 @@ module _ (Sized : ℕ → ℕ → Type 0) (source : Source) where
     Ok ms (piece.Eval e ∷ todo) = CountedExpr source e × Opening e todo × (Ok (Any ∷ ms) todo ⊎ ((IsPlace e × Ok (Named e ∷ ms) todo) ⊎ (IsMaking e × Ok (Thing ∷ ms) todo)))
     Ok ms (piece.ElementNow n s ∷ todo) =
         Ok (Any ∷ rest (rest ms)) todo ⊎ OfNamed (rest ms) (λ e. (i : Expr) × IsPlace e × Ok (Named (Element n s e i) ∷ rest (rest ms)) todo)
-    Ok ms (piece.BindNow ∷ todo) = OfNamed (rest ms) (IsFor Sized (IsThing ms) todo todo) × Ok (Any ∷ rest (rest ms)) todo
+    Ok ms (piece.BindNow ∷ todo) = OfNamed (rest ms) (IsFor Sized (IsThing ms) todo todo) × Ok (Any ∷ rest (rest ms)) todo × (OfNamed (rest ms) IsOwn ⊎ IsThing ms)
     Ok ms (piece.MakeNow c r ∷ todo) =
         OfNamed (rests (params source r) ms) (IsFor Sized (Unit {0}) todo (others todo)) × Ok (anys (suc (params source r)) (rests (suc (params source r)) ms)) todo
     Ok ms (piece.BindMadeNow c r ∷ todo) =
-        OfNamed (rests (params source r) (rest ms)) (IsFor Sized (IsThing ms) todo (others todo)) × Ok (anys (suc (params source r)) (rests (suc (params source r)) (rest ms))) todo
+        OfNamed (rests (params source r) (rest ms)) (IsFor Sized (IsThing ms) todo (others todo)) × Ok (anys (suc (params source r)) (rests (suc (params source r)) (rest ms))) todo × IsThing ms
     Ok ms (piece.ClusterNow ∷ todo) = (m : Mark) × IsTold m × Ok (m ∷ ms) todo
     Ok ms (piece.ProcessorNow ∷ todo) = (m : Mark) × IsTold m × Ok (m ∷ rest ms) todo
     Ok ms (piece.FillNow n b d ∷ todo) =

@@ -1,5 +1,6 @@
 // The laws: each is a function whose contract is the law.
 
+ghost use Rattle.uc_binding_laws.specs.Aside.{LawOpens};
 ghost use Rattle.uc_binding_laws.specs.BindingLaws.{LawBound, LawSteps};
 ghost use Rattle.uc_binding_laws.specs.BindingRuns.{LawRuns};
 ghost use Rattle.uc_binding_laws.specs.Taking.{LawTaken, LawTakenRuns};
@@ -14,7 +15,8 @@ pub fn law_steps()
 
 /// So what is bound is a place that the statement has named in its own frame or in the object at hand,
 /// and all that is in scope lies before it. A scope that opens right behind the statement is of that
-/// place, and what is bound there is an object.
+/// place, and what is bound there is an object; so is what is bound anywhere but at a field of the
+/// object at hand, and what is made.
 pub fn law_bound()
     ensures { LawBound }
 {}
@@ -36,4 +38,11 @@ pub fn law_taken()
 /// whoever runs comes before it asks, as long as all that was asked before fits.
 pub fn law_taken_runs()
     ensures { LawTakenRuns }
+{}
+
+/// So where fields of the object at hand and executions of coroutines are bound aside of the variables
+/// that are declared and still to be bound, a variable of a mutex object or a processor holds an object
+/// behind the step that binds it: in such runs, and on the way to such a state.
+pub fn law_opens()
+    ensures { LawOpens }
 {}

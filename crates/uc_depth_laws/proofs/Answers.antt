@@ -1,7 +1,7 @@
 -- Answers, and the start of a task: an answer brings operands, and at most an object in which nothing is to do, where the task is once.
 use Rattle.std.proofs.Common.{◌≡◌, ℕ, ◌+◌, ◌≤◌, List, [], ◌∷◌, ◌++◌, Bool, true, false, Option, Some, None, refl, sym, subst, ap, arith}
 use Rattle.std.specs.Prelude.{nat_eq, if◌then◌else◌}
-use Rattle.std.proofs.lemmas.Bool.{eqb-true}
+use Rattle.std.proofs.lemmas.Bool.{eqb-true, eq-eqb}
 use Rattle.uc_tree.specs.Source.{Source, routine_of}
 use Rattle.uc_entry.specs.Keyed.{find}
 use Rattle.uc_entry.specs.declared.request.Answer.{Answer}
@@ -13,9 +13,9 @@ use Rattle.uc_machine.specs.Pieces as piece
 use Rattle.uc_machine.specs.Pieces.{Value, Object, Todo, State, Members}
 use Rattle.uc_machine.specs.Answering.{answered, child_main, child_of, entered, new_members, with_operand}
 use Rattle.uc_depth_laws.specs.Entering.{holds_object, is_holding, EnteredSource}
-use Rattle.uc_depth_laws.specs.Owing.{more, marks, counted, Any, Entered, EngagedHand, owed_hand, owed_first, owed_own, owed, depth_in, IsBinding, Deep, DeepBehind, DeepAlone, DeepAsk}
+use Rattle.uc_depth_laws.specs.Owing.{more, marks, counted, Any, is_new, IsNewFirst, Entered, EngagedHand, owed_waiting, owed_hand, owed_first, owed_own, owed, depth_in, IsBinding, Deep, DeepBehind, DeepAlone, DeepAsk}
 use Rattle.uc_depth_laws.specs.DepthLaws.{Suits, LawSteps}
-use Rattle.uc_depth_laws.proofs.Depths.{counted_least, counted_none, none_first, calling_most}
+use Rattle.uc_depth_laws.proofs.Depths.{building_none, both_are, counted_least, counted_none, none_first, none_new, calling_most}
 use Rattle.uc_depth_laws.proofs.TodoLists as lists
 use Rattle.uc_depth_laws.proofs.Calls.{body_at}
 use Rattle.uc_depth_laws.proofs.Walk.{walk}
@@ -27,14 +27,15 @@ first_depth o q = by (nat_eq o q)
     by true = omega arith
     by false = omega arith
 
-pub begins : (source : Source) → EnteredSource source → (r o : ℕ) → is_holding source r ≡ false → Deep source (first_state (routine_of source r) o)
-begins source known r o e =
+pub begins : (source : Source) → EnteredSource source → (news : ℕ → Bool) (r o : ℕ) → is_holding source r ≡ false → Deep source news (first_state (routine_of source r) o)
+begins source known news r o e =
     let x = routine_of source r in
-    let few = lists.routine_marks source x in
+    let few = lists.routine_marks source false x in
     let z : more (holds_object x.body) 0 ≡ 0 = ap (λ c. more c 0) e in
     record {
       first = Any;
-      run = (body_at source known r, (lists.behind source x.purpose x.line).list);
+      run = ((body_at source news known r, λ f. building_none x.body e f), (lists.behind source (is_new news (Object o) []) x.purpose x.line).list);
+      new = tt;
       one = omega (arith, few, z);
       callers = tt;
       env = record { house = (tt, tt); hand = tt };
@@ -48,45 +49,46 @@ begins source known r o e =
 
 -- operands where no call is about to begin
 
-operand : (source : Source) (v : Value) (s : State) → DeepAlone source s → DeepAlone source (with_operand v s)
-operand source v s h = record {
+operand : (source : Source) (news : ℕ → Bool) (v : Value) (s : State) → DeepAlone source news s → DeepAlone source news (with_operand v s)
+operand source news v s h = record {
   alone = h.alone;
   deep = record {
     first = Any;
     run = h.alone;
+    new = none_new source (is_new news s.run.this s.callers) news s.run.this s.callers s.run.control (v ∷ s.run.operands) h.alone;
     one = h.deep.one;
     callers = h.deep.callers;
     env = h.deep.env;
     engaged = h.deep.engaged;
     depths = λ q.
-        let a = none_first source q s.run.control (v ∷ s.run.operands) h.alone in
+        let a = none_first source (is_new news s.run.this s.callers) q s.run.control (v ∷ s.run.operands) h.alone in
         let b = h.deep.depths q in
         omega (arith, a, b);
   };
 }
 
-no_members : (source : Source) (todo : List Todo) → Entered source Any todo → new_members source todo ≡ None
-no_members source [] h = refl
-no_members source (piece.BindMadeNow c r ∷ todo) h = absurd h.0
-no_members source (p ∷ todo) h = refl
+no_members : (source : Source) (new : Bool) (todo : List Todo) → Entered source new Any todo → new_members source todo ≡ None
+no_members source new [] h = refl
+no_members source new (piece.BindMadeNow c r ∷ todo) h = absurd h.0
+no_members source new (p ∷ todo) h = refl
 
-alone : (source : Source) (given : Answer) (s : State) → DeepAlone source s → Deep source (answered source given s)
-alone source (answer.Number n) s h = (operand source (piece.Number n) s h).deep
-alone source (answer.Value n failed) s h = (operand source (piece.Number n) s h).deep
-alone source (answer.Object o) s h =
-    subst (λ (m : Option Members). Deep source (with_operand (Object o) (entered m o s))) (sym (no_members source s.run.control h.alone)) (operand source (Object o) s h).deep
-alone source (answer.Clause k failed) s h = (operand source _ _ (operand source _ s h)).deep
-alone source (answer.Event n x y) s h = (operand source _ _ (operand source _ _ (operand source _ s h))).deep
-alone source answer.Nothing s h = (operand source _ _ (operand source _ _ (operand source _ s h))).deep
-alone source answer.Go s h = h.deep
+alone : (source : Source) (news : ℕ → Bool) (given : Answer) (s : State) → DeepAlone source news s → Deep source news (answered source given s)
+alone source news (answer.Number n) s h = (operand source news (piece.Number n) s h).deep
+alone source news (answer.Value n failed) s h = (operand source news (piece.Number n) s h).deep
+alone source news (answer.Object o) s h =
+    subst (λ (m : Option Members). Deep source news (with_operand (Object o) (entered m o s))) (sym (no_members source (is_new news s.run.this s.callers) s.run.control h.alone)) (operand source news (Object o) s h).deep
+alone source news (answer.Clause k failed) s h = (operand source news _ _ (operand source news _ s h)).deep
+alone source news (answer.Event n x y) s h = (operand source news _ _ (operand source news _ _ (operand source news _ s h))).deep
+alone source news answer.Nothing s h = (operand source news _ _ (operand source news _ _ (operand source news _ s h))).deep
+alone source news answer.Go s h = h.deep
 
 -- a new object
 
-more_hand : (source : Source) (hand : List (ℕ × Members)) (o n : ℕ) → EngagedHand source hand → EngagedHand source (hand ++ (o, zeros n) ∷ [])
-more_hand source [] o n h = (tt, tt)
-more_hand source (p ∷ hand) o n h = (h.0, more_hand source hand o n h.1)
+more_hand : (source : Source) (news : ℕ → Bool) (hand : List (ℕ × Members)) (o n : ℕ) → EngagedHand source news hand → EngagedHand source news (hand ++ (o, zeros n) ∷ [])
+more_hand source news [] o n h = (tt, tt)
+more_hand source news (p ∷ hand) o n h = (h.0, more_hand source news hand o n h.1)
 
-same_hand : (source : Source) (q : ℕ) (hand : List (ℕ × Members)) (o n : ℕ) → owed_hand source q (hand ++ (o, zeros n) ∷ []) ≤ owed_hand source q hand
+same_hand : (source : Source) (q : ℕ) (hand : List (ℕ × Members)) (o n : ℕ) → owed_hand q (hand ++ (o, zeros n) ∷ []) ≤ owed_hand q hand
 same_hand source q [] o n = omega arith
 same_hand source q (p ∷ hand) o n = let h = same_hand source q hand o n in omega (arith, h)
 
@@ -96,13 +98,24 @@ binding source q [] v vs h = absurd h
 binding source q (piece.BindMadeNow c r ∷ todo) v vs h = calling_most source q r v
 binding source q (p ∷ todo) v vs h = absurd h
 
-brought : (source : Source) (n o : ℕ) (s : State) → IsBinding s.run.control → DeepBehind source s → find o s.env.depths ≡ None → Deep source (with_operand (Object o) (entered (Some (zeros n)) o s))
-brought source n o s k h e = record {
+-- what owes nothing to it leaves it new
+brought_new : (source : Source) (news : ℕ → Bool) (o : ℕ) (s : State) (todo : List Todo) (vs : List Value) → s.run.control ≡ todo → IsBinding todo → DeepBehind source news s → find o s.env.depths ≡ None → news o ≡ true → IsNewFirst source news s.run.this s.callers todo (Object o ∷ vs)
+brought_new source news o s [] vs c k h e n = tt
+brought_new source news o s (piece.BindMadeNow c r ∷ todo) vs g k h e n = λ f.
+    let a = h.depths o in
+    let b = ap depth_in e in
+    let d = ap (λ (y : List Todo). counted o s.run.this (marks y)) g in
+    both_are (news o) _ n (eq-eqb (counted o s.run.this (marks todo) + owed_waiting o s.callers) 0 (omega (arith, a, b, d)))
+brought_new source news o s (p ∷ todo) vs c k h e n = absurd k
+
+brought : (source : Source) (news : ℕ → Bool) (n o : ℕ) (s : State) → IsBinding s.run.control → DeepBehind source news s → find o s.env.depths ≡ None → news o ≡ true → Deep source news (with_operand (Object o) (entered (Some (zeros n)) o s))
+brought source news n o s k h e x = record {
   first = h.first;
   run = h.run;
+  new = brought_new source news o s s.run.control s.run.operands refl k h e x;
   one = h.one;
   callers = h.callers;
-  env = record { house = h.env.house; hand = more_hand source s.env.hand o n h.env.hand };
+  env = record { house = h.env.house; hand = more_hand source news s.env.hand o n h.env.hand };
   engaged = h.engaged;
   depths = λ q. by q (nat_eq o q) refl;
 }
@@ -126,27 +139,29 @@ brought source n o s k h e = record {
             let y = ap (λ b. depth_in (if b then Some 1 else find q s.env.depths)) g in
             omega (arith, x, y)
 
-made : (source : Source) (o : ℕ) (s : State) (todo : List Todo) → IsBinding todo → IsBinding s.run.control → DeepBehind source s → find o s.env.depths ≡ None → Deep source (with_operand (Object o) (entered (new_members source todo) o s))
-made source o s [] h k d e = absurd h
-made source o s (piece.BindMadeNow c r ∷ todo) h k d e = brought source _ o s k d e
-made source o s (p ∷ todo) h k d e = absurd h
+made : (source : Source) (news : ℕ → Bool) (o : ℕ) (s : State) (todo : List Todo) → IsBinding todo → IsBinding s.run.control → DeepBehind source news s → find o s.env.depths ≡ None → news o ≡ true → Deep source news (with_operand (Object o) (entered (new_members source todo) o s))
+made source news o s [] h k d e x = absurd h
+made source news o s (piece.BindMadeNow c r ∷ todo) h k d e x = brought source news _ o s k d e x
+made source news o s (p ∷ todo) h k d e x = absurd h
 
-pub told : (source : Source) (r : Request) (given : Answer) (s : State) → DeepAsk source r s → Suits r given s → Deep source (answered source given s)
-told source (ask.Call o m) given s d e = subst (λ g. Deep source (answered source g s)) (sym e) d
-told source ask.Slice given s d e = subst (λ g. Deep source (answered source g s)) (sym e) d
-told source (ask.Make c) given s d e = subst (λ g. Deep source (answered source g s)) (sym e.1) (made source e.0 s s.run.control d.0 d.0 d.1 e.2)
-told source ask.End given s d e = absurd e
-told source (ask.Fault f) given s d e = absurd e
-told source r given s d e = alone source given s d
+pub told : (source : Source) (news : ℕ → Bool) (r : Request) (given : Answer) (s : State) → DeepAsk source news r s → Suits news r given s → Deep source news (answered source given s)
+told source news (ask.Call o m) given s d e = subst (λ g. Deep source news (answered source g s)) (sym e) d
+told source news ask.Slice given s d e = subst (λ g. Deep source news (answered source g s)) (sym e) d
+told source news (ask.Make c) given s d e = subst (λ g. Deep source news (answered source g s)) (sym e.1) (made source news e.0 s s.run.control d.0 d.0 d.1 e.2 e.3)
+told source news (ask.Spawn o) given s d e = alone source news given s d.0
+told source news ask.End given s d e = absurd e
+told source news (ask.Fault f) given s d e = absurd e
+told source news r given s d e = alone source news given s d
 
 -- a main with which a task may begin
-main_at : (source : Source) → EnteredSource source → (todo : List Todo) → Entered source Any todo → is_holding source (child_main source todo) ≡ false
-main_at source known [] h = known.main
-main_at source known (piece.ChildNow r ∷ todo) h = h.0
-main_at source known (p ∷ todo) h = known.main
+main_at : (source : Source) (new : Bool) → EnteredSource source → (todo : List Todo) → Entered source new Any todo → is_holding source (child_main source todo) ≡ false
+main_at source new known [] h = known.main
+main_at source new known (piece.ChildNow r ∷ todo) h = h.0
+main_at source new known (p ∷ todo) h = known.main
 
-born : (source : Source) → EnteredSource source → (o n : ℕ) (s : State) → DeepAsk source (ask.Spawn o) s → Deep source (child_of source n s)
-born source known o n s d = begins source known (child_main source s.run.control) n (main_at source known s.run.control d.alone)
+born : (source : Source) → EnteredSource source → (news now : ℕ → Bool) (o n : ℕ) (s : State) → DeepAsk source news (ask.Spawn o) s → Deep source now (child_of source n s)
+born source known news now o n s d =
+    begins source known now (child_main source s.run.control) n (main_at source (is_new news s.run.this s.callers) known s.run.control d.0.alone)
 
 pub law_steps : LawSteps
-law_steps = record { begins = begins; born = born; steps = walk; told = told }
+law_steps = record { begins = begins; born = born; steps = λ source known news s d f. walk source news known s d f; told = told }

@@ -1,5 +1,5 @@
 -- Marks, what they are owed, and depths.
-use Rattle.std.proofs.Common.{◌≡◌, ℕ, zero, suc, ◌+◌, ◌≤◌, ◌<◌, Bool, true, false, List, [], ◌∷◌, length, drop, Option, Some, None, inl, inr, refl, sym, subst, ap, arith}
+use Rattle.std.proofs.Common.{◌≡◌, ℕ, zero, suc, ◌+◌, ◌≤◌, ◌<◌, Bool, true, false, ◌&&◌, List, [], ◌∷◌, length, drop, Option, Some, None, inl, inr, refl, sym, subst, ap, arith}
 use Rattle.std.specs.Prelude.{nat_eq, slice_set, if◌then◌else◌}
 use Rattle.std.proofs.lemmas.Bool.{eqb-true}
 use Rattle.std.proofs.lemmas.Bool.Decides.{eqb_tells}
@@ -10,9 +10,9 @@ use Rattle.uc_machine.specs.Executions.{update}
 use Rattle.uc_machine.specs.Switches.{without}
 use Rattle.uc_machine.specs.Insides.{deeper, shallower}
 use Rattle.uc_machine.specs.Pieces as piece
-use Rattle.uc_machine.specs.Pieces.{Value, Todo, Sort, top, object_in}
-use Rattle.uc_depth_laws.specs.Entering.{holds_object, is_holding, EnteredStmts, EnteredBody}
-use Rattle.uc_depth_laws.specs.Owing.{more, counted, Any, Skipped, CallOf, Entered, calling, owed_first, first_marks, owed_own, depth_in}
+use Rattle.uc_machine.specs.Pieces.{Value, Todo, Sort, Active, top, object_in}
+use Rattle.uc_depth_laws.specs.Entering.{lets_go, frees, holds_object, frees_object, is_holding, is_building, EnteredStmts, EnteredBody}
+use Rattle.uc_depth_laws.specs.Owing.{more, counted, Any, Skipped, CallOf, EnteredWhole, Entered, is_new_for, IsNewFirst, calling, owed_first, first_marks, owed_own, depth_in}
 
 -- marks
 
@@ -36,6 +36,35 @@ body_of source src.Nil h = h
 body_of source (src.Then a ss) h = h
 body_of source (src.Scoped c ss) h = (h.1, h.2)
 body_of source (src.Built c ss) h = h
+
+-- nor is anything built in them
+pub holds_scope : (c : CleanUp) → frees c ≡ true → lets_go c ≡ true
+holds_scope (src.Frees r) f = refl
+holds_scope c f = cc
+
+pub holds_building : (ss : Stmts) → frees_object ss ≡ true → holds_object ss ≡ true
+holds_building (src.Scoped c ss) f = holds_scope c f
+holds_building ss f = cc
+
+pub true_false : {A : Type 0} {b : Bool} → b ≡ true → b ≡ false → A
+true_false t f = cc
+
+pub both_hold : (a b : Bool) → (a && b) ≡ true → (a ≡ true) × (b ≡ true)
+both_hold true b h = (refl, h)
+both_hold false b h = cc
+
+pub both_are : (a b : Bool) → a ≡ true → b ≡ true → (a && b) ≡ true
+both_are true b h k = k
+both_are false b h k = cc
+
+pub scope_none : {A : Type 0} (c : CleanUp) → lets_go c ≡ false → frees c ≡ true → A
+scope_none c l f = true_false (holds_scope c f) l
+
+pub building_none : {A : Type 0} (ss : Stmts) → holds_object ss ≡ false → frees_object ss ≡ true → A
+building_none ss h f = true_false (holds_building ss f) h
+
+pub whole_of : (source : Source) (new : Bool) (ss : Stmts) → EnteredStmts source ss → EnteredWhole source new ss
+whole_of source new ss h = (body_of source ss h, λ f. building_none ss (holds_none source ss h) f)
 
 pub still : (source : Source) (ss : Stmts) (n m : ℕ) → EnteredStmts source ss → n ≤ m → more (holds_object ss) n ≤ m
 still source ss n m h l =
@@ -79,21 +108,36 @@ own_one o = ap {B = ℕ} (λ b. if b then 1 else 0) (same_true o)
 
 -- in a list in which no call comes first that has entered an object
 
-pub none_first : (source : Source) (q : ℕ) (todo : List Todo) (vs : List Value) → Entered source Any todo → owed_first source q todo vs ≡ 0
-none_first source q [] vs h = refl
-none_first source q (piece.CallOnNow r ∷ todo) vs h = ap (λ b. if b then counted q (top (drop (routine_of source r).params vs)) 1 else 0) h.0
-none_first source q (piece.CallUnwrittenNow r ∷ todo) vs h = ap (λ b. if b then counted q (top (drop (routine_of source r).params vs)) 1 else 0) h.0
-none_first source q (piece.BindMadeNow c r ∷ todo) vs h = absurd h.0
-none_first source q (p ∷ todo) vs h = refl
+pub none_first : (source : Source) (new : Bool) (q : ℕ) (todo : List Todo) (vs : List Value) → Entered source new Any todo → owed_first source q todo vs ≡ 0
+none_first source new q [] vs h = refl
+none_first source new q (piece.CallOnNow r ∷ todo) vs h = ap (λ b. if b then counted q (top (drop (routine_of source r).params vs)) 1 else 0) h.0
+none_first source new q (piece.CallUnwrittenNow r ∷ todo) vs h = ap (λ b. if b then counted q (top (drop (routine_of source r).params vs)) 1 else 0) h.0
+none_first source new q (piece.BindMadeNow c r ∷ todo) vs h = absurd h.0
+none_first source new q (p ∷ todo) vs h = refl
 
-pub none_marked : (source : Source) (todo : List Todo) → Entered source Any todo → first_marks source todo ≡ 0
-none_marked source [] h = refl
-none_marked source (piece.CallOnNow r ∷ todo) h = ap (λ b. more b 0) h.0
-none_marked source (piece.CallUnwrittenNow r ∷ todo) h = ap (λ b. more b 0) h.0
-none_marked source (piece.BindMadeNow c r ∷ todo) h = absurd h.0
-none_marked source (p ∷ todo) h = refl
+pub none_marked : (source : Source) (new : Bool) (todo : List Todo) → Entered source new Any todo → first_marks source todo ≡ 0
+none_marked source new [] h = refl
+none_marked source new (piece.CallOnNow r ∷ todo) h = ap (λ b. more b 0) h.0
+none_marked source new (piece.CallUnwrittenNow r ∷ todo) h = ap (λ b. more b 0) h.0
+none_marked source new (piece.BindMadeNow c r ∷ todo) h = absurd h.0
+none_marked source new (p ∷ todo) h = refl
+
+-- nor is anything built then
+pub none_new : (source : Source) (new : Bool) (news : ℕ → Bool) (this : Value) (older : List Active) (todo : List Todo) (vs : List Value) → Entered source new Any todo → IsNewFirst source news this older todo vs
+none_new source new news this older [] vs h = tt
+none_new source new news this older (piece.CallOnNow r ∷ todo) vs h = λ f. building_none (routine_of source r).body h.0 f
+none_new source new news this older (piece.CallUnwrittenNow r ∷ todo) vs h = λ f. building_none (routine_of source r).body h.0 f
+none_new source new news this older (piece.BindMadeNow c r ∷ todo) vs h = absurd h.0
+none_new source new news this older (p ∷ todo) vs h = tt
 
 -- behind what enters an object for a routine
+
+-- what that builds is new
+pub called_new : (source : Source) (new : Bool) (news : ℕ → Bool) (this : Value) (older : List Active) (r : ℕ) (todo : List Todo) (vs : List Value) → Entered source new (CallOf r) todo → (is_building source r ≡ true → is_new_for news (top (drop (routine_of source r).params vs)) this todo older ≡ true) → IsNewFirst source news this older todo vs
+called_new source new news this older r [] vs h k = tt
+called_new source new news this older r (piece.CallOnNow n ∷ todo) vs h k = λ f. subst (λ m. is_new_for news (top (drop (routine_of source m).params vs)) this todo older ≡ true) (sym h.0) (k (subst (λ m. is_building source m ≡ true) h.0 f))
+called_new source new news this older r (piece.CallUnwrittenNow n ∷ todo) vs h k = λ f. subst (λ m. is_new_for news (top (drop (routine_of source m).params vs)) this todo older ≡ true) (sym h.0) (k (subst (λ m. is_building source m ≡ true) h.0 f))
+called_new source new news this older r (p ∷ todo) vs h k = absurd h.0
 
 pub calling_most : (source : Source) (q r : ℕ) (v : Value) → calling source q r v ≤ counted q v 1
 calling_most source q r v = by (is_holding source r)
@@ -103,37 +147,37 @@ calling_most source q r v = by (is_holding source r)
     by false = omega arith
 
 -- just what the call of the routine owes
-pub called_first : (source : Source) (q r : ℕ) (todo : List Todo) (vs : List Value) → Entered source (CallOf r) todo → owed_first source q todo vs ≤ calling source q r (top (drop (routine_of source r).params vs))
-called_first source q r [] vs h = omega arith
-called_first source q r (piece.CallOnNow k ∷ todo) vs h = subst (λ n. calling source q k (top (drop (routine_of source k).params vs)) ≤ calling source q n (top (drop (routine_of source n).params vs))) h.0 (omega arith)
-called_first source q r (piece.CallUnwrittenNow k ∷ todo) vs h = subst (λ n. calling source q k (top (drop (routine_of source k).params vs)) ≤ calling source q n (top (drop (routine_of source n).params vs))) h.0 (omega arith)
-called_first source q r (p ∷ todo) vs h = absurd h.0
+pub called_first : (source : Source) (new : Bool) (q r : ℕ) (todo : List Todo) (vs : List Value) → Entered source new (CallOf r) todo → owed_first source q todo vs ≤ calling source q r (top (drop (routine_of source r).params vs))
+called_first source new q r [] vs h = omega arith
+called_first source new q r (piece.CallOnNow k ∷ todo) vs h = subst (λ n. calling source q k (top (drop (routine_of source k).params vs)) ≤ calling source q n (top (drop (routine_of source n).params vs))) h.0 (omega arith)
+called_first source new q r (piece.CallUnwrittenNow k ∷ todo) vs h = subst (λ n. calling source q k (top (drop (routine_of source k).params vs)) ≤ calling source q n (top (drop (routine_of source n).params vs))) h.0 (omega arith)
+called_first source new q r (p ∷ todo) vs h = absurd h.0
 
-pub entered_first : (source : Source) (q r : ℕ) (todo : List Todo) (vs : List Value) → Entered source (CallOf r) todo → owed_first source q todo vs ≤ counted q (top (drop (routine_of source r).params vs)) 1
-entered_first source q r todo vs h =
-    let a = called_first source q r todo vs h in
+pub entered_first : (source : Source) (new : Bool) (q r : ℕ) (todo : List Todo) (vs : List Value) → Entered source new (CallOf r) todo → owed_first source q todo vs ≤ counted q (top (drop (routine_of source r).params vs)) 1
+entered_first source new q r todo vs h =
+    let a = called_first source new q r todo vs h in
     let b = calling_most source q r (top (drop (routine_of source r).params vs)) in
     omega (arith, a, b)
 
-pub called_marks : (source : Source) (r : ℕ) (todo : List Todo) → Entered source (CallOf r) todo → first_marks source todo ≤ more (is_holding source r) 0
-called_marks source r [] h = omega arith
-called_marks source r (piece.CallOnNow k ∷ todo) h = subst (λ n. more (is_holding source k) 0 ≤ more (is_holding source n) 0) h.0 (omega arith)
-called_marks source r (piece.CallUnwrittenNow k ∷ todo) h = subst (λ n. more (is_holding source k) 0 ≤ more (is_holding source n) 0) h.0 (omega arith)
-called_marks source r (p ∷ todo) h = absurd h.0
+pub called_marks : (source : Source) (new : Bool) (r : ℕ) (todo : List Todo) → Entered source new (CallOf r) todo → first_marks source todo ≤ more (is_holding source r) 0
+called_marks source new r [] h = omega arith
+called_marks source new r (piece.CallOnNow k ∷ todo) h = subst (λ n. more (is_holding source k) 0 ≤ more (is_holding source n) 0) h.0 (omega arith)
+called_marks source new r (piece.CallUnwrittenNow k ∷ todo) h = subst (λ n. more (is_holding source k) 0 ≤ more (is_holding source n) 0) h.0 (omega arith)
+called_marks source new r (p ∷ todo) h = absurd h.0
 
 -- what may stand behind an exit
 
-pub any_skipped : (source : Source) (todo : List Todo) → Entered source Any todo → Entered source Skipped todo
-any_skipped source [] h = tt
-any_skipped source (piece.CallOnNow r ∷ todo) h = (tt, h.1)
-any_skipped source (piece.CallUnwrittenNow r ∷ todo) h = (tt, h.1)
-any_skipped source (p ∷ todo) h = h
+pub any_skipped : (source : Source) (new : Bool) (todo : List Todo) → Entered source new Any todo → Entered source new Skipped todo
+any_skipped source new [] h = tt
+any_skipped source new (piece.CallOnNow r ∷ todo) h = (tt, h.1)
+any_skipped source new (piece.CallUnwrittenNow r ∷ todo) h = (tt, h.1)
+any_skipped source new (p ∷ todo) h = h
 
-pub call_skipped : (source : Source) (r : ℕ) (todo : List Todo) → Entered source (CallOf r) todo → Entered source Skipped todo
-call_skipped source r [] h = tt
-call_skipped source r (piece.CallOnNow k ∷ todo) h = (tt, h.1)
-call_skipped source r (piece.CallUnwrittenNow k ∷ todo) h = (tt, h.1)
-call_skipped source r (p ∷ todo) h = absurd h.0
+pub call_skipped : (source : Source) (new : Bool) (r : ℕ) (todo : List Todo) → Entered source new (CallOf r) todo → Entered source new Skipped todo
+call_skipped source new r [] h = tt
+call_skipped source new r (piece.CallOnNow k ∷ todo) h = (tt, h.1)
+call_skipped source new r (piece.CallUnwrittenNow k ∷ todo) h = (tt, h.1)
+call_skipped source new r (p ∷ todo) h = absurd h.0
 
 -- depths
 

@@ -16,7 +16,8 @@ use Rattle.uc_machine.specs.Executions.{Links, update, exec_eq, joined, members_
 use Rattle.uc_machine.specs.Switches as sw
 use Rattle.uc_machine.specs.Switches.{Moved, To, Stops}
 use Rattle.uc_machine.specs.Pieces.{Value, Number, Place, Running, Object, Nothing, Todo, State, Env, Members, written}
-use Rattle.uc_depth_laws.specs.Owing.{Ex, entries, Engaged, EngagedSlot, EngagedParked, EngagedHand, EngagedMembers, EngagedEnv, owed_ex, owed_slot, owed_parked, owed_hand, owed_own, owed_env, owed, depth_in, Deep}
+use Rattle.uc_depth_laws.specs.Owing.{Ex, Any, is_new, DeepAlone, entries, Engaged, EngagedSlot, EngagedParked, EngagedHand, EngagedMembers, EngagedEnv, owed_ex, owed_slot, owed_parked, owed_hand, owed_own, owed_env, owed, depth_in, Deep}
+use Rattle.uc_depth_laws.proofs.Depths.{none_first, none_marked, none_new}
 
 -- the first of two by a test, and of two pairs
 pub either : {A : Type 0} (P : A → Type 0) (b : Bool) (x y : A) → P x → P y → P (if b then x else y)
@@ -27,82 +28,82 @@ pub both : {A B : Type 0} (P : A → B → Type 0) (b : Bool) (x y : A) (u v : B
 both P true x y u v h k = h
 both P false x y u v h k = k
 
-module _ (source : Source) where
+module _ (source : Source) (news : ℕ → Bool) where
   -- lists of executions
 
   abbrev pub owed_members : ℕ → Option Members → ℕ
   owed_members q None = 0
-  owed_members q (Some m) = owed_parked source q m.parked
+  owed_members q (Some m) = owed_parked q m.parked
 
-  found_parked : (k : ℕ) (ps : List (ℕ × Option Ex)) → EngagedParked source ps → EngagedSlot source (joined (find k ps))
+  found_parked : (k : ℕ) (ps : List (ℕ × Option Ex)) → EngagedParked source news ps → EngagedSlot source news (joined (find k ps))
   found_parked k [] h = tt
-  found_parked k (p ∷ ps) h = either (λ o. EngagedSlot source (joined o)) (nat_eq p.0 k) (Some p.1) (find k ps) h.0 (found_parked k ps h.1)
+  found_parked k (p ∷ ps) h = either (λ o. EngagedSlot source news (joined o)) (nat_eq p.0 k) (Some p.1) (find k ps) h.0 (found_parked k ps h.1)
 
-  pub found_hand : (k : ℕ) (ps : List (ℕ × Members)) → EngagedHand source ps → EngagedMembers source (find k ps)
+  pub found_hand : (k : ℕ) (ps : List (ℕ × Members)) → EngagedHand source news ps → EngagedMembers source news (find k ps)
   found_hand k [] h = tt
-  found_hand k (p ∷ ps) h = either (EngagedMembers source) (nat_eq p.0 k) (Some p.1) (find k ps) h.0 (found_hand k ps h.1)
+  found_hand k (p ∷ ps) h = either (EngagedMembers source news) (nat_eq p.0 k) (Some p.1) (find k ps) h.0 (found_hand k ps h.1)
 
-  slot_engaged : (k : ℕ) (o : Option Members) → EngagedMembers source o → EngagedSlot source (joined (slot_in k o))
+  slot_engaged : (k : ℕ) (o : Option Members) → EngagedMembers source news o → EngagedSlot source news (joined (slot_in k o))
   slot_engaged k None h = tt
   slot_engaged k (Some m) h = found_parked k m.parked h
 
-  update_parked : (k : ℕ) (o : Option Ex) (ps : List (ℕ × Option Ex)) → EngagedSlot source o → EngagedParked source ps → EngagedParked source (update k o ps)
+  update_parked : (k : ℕ) (o : Option Ex) (ps : List (ℕ × Option Ex)) → EngagedSlot source news o → EngagedParked source news ps → EngagedParked source news (update k o ps)
   update_parked k o [] r h = tt
-  update_parked k o (p ∷ ps) r h = either (EngagedParked source) (nat_eq p.0 k) ((k, o) ∷ ps) (p ∷ update k o ps) (r, h.1) (h.0, update_parked k o ps r h.1)
+  update_parked k o (p ∷ ps) r h = either (EngagedParked source news) (nat_eq p.0 k) ((k, o) ∷ ps) (p ∷ update k o ps) (r, h.1) (h.0, update_parked k o ps r h.1)
 
-  update_owed : (q k : ℕ) (o : Option Ex) (ps : List (ℕ × Option Ex)) → owed_parked source q (update k o ps) + owed_slot source q (joined (find k ps)) ≤ owed_parked source q ps + owed_slot source q o
+  update_owed : (q k : ℕ) (o : Option Ex) (ps : List (ℕ × Option Ex)) → owed_parked q (update k o ps) + owed_slot q (joined (find k ps)) ≤ owed_parked q ps + owed_slot q o
   update_owed q k o [] = omega arith
   update_owed q k o (p ∷ ps) =
       let h = update_owed q k o ps in
-      both (λ (xs : List (ℕ × Option Ex)) (x : Option (Option Ex)). owed_parked source q xs + owed_slot source q (joined x) ≤ (owed_slot source q p.1 + owed_parked source q ps) + owed_slot source q o) (nat_eq p.0 k) ((k, o) ∷ ps) (p ∷ update k o ps) (Some p.1) (find k ps) (omega arith) (omega (arith, h))
+      both (λ (xs : List (ℕ × Option Ex)) (x : Option (Option Ex)). owed_parked q xs + owed_slot q (joined x) ≤ (owed_slot q p.1 + owed_parked q ps) + owed_slot q o) (nat_eq p.0 k) ((k, o) ∷ ps) (p ∷ update k o ps) (Some p.1) (find k ps) (omega arith) (omega (arith, h))
 
-  without_parked : (k : ℕ) (ps : List (ℕ × Option Ex)) → EngagedParked source ps → EngagedParked source (sw.without k ps)
+  without_parked : (k : ℕ) (ps : List (ℕ × Option Ex)) → EngagedParked source news ps → EngagedParked source news (sw.without k ps)
   without_parked k [] h = tt
-  without_parked k (p ∷ ps) h = either (EngagedParked source) (nat_eq p.0 k) ps (p ∷ sw.without k ps) h.1 (h.0, without_parked k ps h.1)
+  without_parked k (p ∷ ps) h = either (EngagedParked source news) (nat_eq p.0 k) ps (p ∷ sw.without k ps) h.1 (h.0, without_parked k ps h.1)
 
-  without_owed : (q k : ℕ) (ps : List (ℕ × Option Ex)) → owed_parked source q (sw.without k ps) ≤ owed_parked source q ps
+  without_owed : (q k : ℕ) (ps : List (ℕ × Option Ex)) → owed_parked q (sw.without k ps) ≤ owed_parked q ps
   without_owed q k [] = omega arith
   without_owed q k (p ∷ ps) =
       let h = without_owed q k ps in
-      either (λ (xs : List (ℕ × Option Ex)). owed_parked source q xs ≤ owed_slot source q p.1 + owed_parked source q ps) (nat_eq p.0 k) ps (p ∷ sw.without k ps) (omega arith) (omega (arith, h))
+      either (λ (xs : List (ℕ × Option Ex)). owed_parked q xs ≤ owed_slot q p.1 + owed_parked q ps) (nat_eq p.0 k) ps (p ∷ sw.without k ps) (omega arith) (omega (arith, h))
 
-  more_parked : (k : ℕ) (x : Ex) (ps : List (ℕ × Option Ex)) → Engaged source x → EngagedParked source ps → EngagedParked source (ps ++ (k, Some x) ∷ [])
+  more_parked : (k : ℕ) (x : Ex) (ps : List (ℕ × Option Ex)) → Engaged source news x → EngagedParked source news ps → EngagedParked source news (ps ++ (k, Some x) ∷ [])
   more_parked k x [] r h = (r, tt)
   more_parked k x (p ∷ ps) r h = (h.0, more_parked k x ps r h.1)
 
-  more_owed : (q k : ℕ) (x : Ex) (ps : List (ℕ × Option Ex)) → owed_parked source q (ps ++ (k, Some x) ∷ []) ≤ owed_parked source q ps + owed_ex source q x
+  more_owed : (q k : ℕ) (x : Ex) (ps : List (ℕ × Option Ex)) → owed_parked q (ps ++ (k, Some x) ∷ []) ≤ owed_parked q ps + owed_ex q x
   more_owed q k x [] = omega arith
   more_owed q k x (p ∷ ps) = let h = more_owed q k x ps in omega (arith, h)
 
-  update_hand : (k : ℕ) (m : Members) (ps : List (ℕ × Members)) → EngagedParked source m.parked → EngagedHand source ps → EngagedHand source (update k m ps)
+  update_hand : (k : ℕ) (m : Members) (ps : List (ℕ × Members)) → EngagedParked source news m.parked → EngagedHand source news ps → EngagedHand source news (update k m ps)
   update_hand k m [] r h = tt
-  update_hand k m (p ∷ ps) r h = either (EngagedHand source) (nat_eq p.0 k) ((k, m) ∷ ps) (p ∷ update k m ps) (r, h.1) (h.0, update_hand k m ps r h.1)
+  update_hand k m (p ∷ ps) r h = either (EngagedHand source news) (nat_eq p.0 k) ((k, m) ∷ ps) (p ∷ update k m ps) (r, h.1) (h.0, update_hand k m ps r h.1)
 
-  update_hand_owed : (q k : ℕ) (m : Members) (ps : List (ℕ × Members)) → owed_hand source q (update k m ps) + owed_members q (find k ps) ≤ owed_hand source q ps + owed_parked source q m.parked
+  update_hand_owed : (q k : ℕ) (m : Members) (ps : List (ℕ × Members)) → owed_hand q (update k m ps) + owed_members q (find k ps) ≤ owed_hand q ps + owed_parked q m.parked
   update_hand_owed q k m [] = omega arith
   update_hand_owed q k m (p ∷ ps) =
       let h = update_hand_owed q k m ps in
-      both (λ (xs : List (ℕ × Members)) (x : Option Members). owed_hand source q xs + owed_members q x ≤ (owed_parked source q p.1.parked + owed_hand source q ps) + owed_parked source q m.parked) (nat_eq p.0 k) ((k, m) ∷ ps) (p ∷ update k m ps) (Some p.1) (find k ps) (omega arith) (omega (arith, h))
+      both (λ (xs : List (ℕ × Members)) (x : Option Members). owed_hand q xs + owed_members q x ≤ (owed_parked q p.1.parked + owed_hand q ps) + owed_parked q m.parked) (nat_eq p.0 k) ((k, m) ∷ ps) (p ∷ update k m ps) (Some p.1) (find k ps) (omega arith) (omega (arith, h))
 
   -- members of a home
 
-  members_engaged : (h : Home) (e : Env) → EngagedEnv source e → EngagedMembers source (members_at h e)
-  members_engaged (home.Task t) e s = either (EngagedMembers source) (nat_eq t e.own) (Some e.house) None s.house tt
+  members_engaged : (h : Home) (e : Env) → EngagedEnv source news e → EngagedMembers source news (members_at h e)
+  members_engaged (home.Task t) e s = either (EngagedMembers source news) (nat_eq t e.own) (Some e.house) None s.house tt
   members_engaged (home.Object o) e s = found_hand o e.hand s.hand
 
-  pub parked_engaged : (n : Exec) (e : Env) → EngagedEnv source e → EngagedSlot source (parked_at n e)
+  pub parked_engaged : (n : Exec) (e : Env) → EngagedEnv source news e → EngagedSlot source news (parked_at n e)
   parked_engaged n e s = slot_engaged n.serial (members_at n.home e) (members_engaged n.home e s)
 
-  housed : (m : Members) (e : Env) → EngagedParked source m.parked → EngagedEnv source e → EngagedEnv source (record e { house = m })
+  housed : (m : Members) (e : Env) → EngagedParked source news m.parked → EngagedEnv source news e → EngagedEnv source news (record e { house = m })
   housed m e h s = record { house = h; hand = s.hand }
 
-  set_engaged : (h : Home) (m : Members) (e : Env) → EngagedParked source m.parked → EngagedEnv source e → EngagedEnv source (set_members h m e)
-  set_engaged (home.Task t) m e r s = either (EngagedEnv source) (nat_eq t e.own) (record e { house = m }) e (housed m e r s) s
+  set_engaged : (h : Home) (m : Members) (e : Env) → EngagedParked source news m.parked → EngagedEnv source news e → EngagedEnv source news (set_members h m e)
+  set_engaged (home.Task t) m e r s = either (EngagedEnv source news) (nat_eq t e.own) (record e { house = m }) e (housed m e r s) s
   set_engaged (home.Object o) m e r s = record { house = s.house; hand = update_hand o m e.hand r s.hand }
 
-  set_owed : (q : ℕ) (h : Home) (m : Members) (e : Env) → owed_env source q (set_members h m e) + owed_members q (members_at h e) ≤ owed_env source q e + owed_parked source q m.parked
+  set_owed : (q : ℕ) (h : Home) (m : Members) (e : Env) → owed_env q (set_members h m e) + owed_members q (members_at h e) ≤ owed_env q e + owed_parked q m.parked
   set_owed q (home.Task t) m e =
-      both (λ (f : Env) (x : Option Members). owed_env source q f + owed_members q x ≤ owed_env source q e + owed_parked source q m.parked) (nat_eq t e.own) (record e { house = m }) e (Some e.house) None (omega arith) (omega arith)
+      both (λ (f : Env) (x : Option Members). owed_env q f + owed_members q x ≤ owed_env q e + owed_parked q m.parked) (nat_eq t e.own) (record e { house = m }) e (Some e.house) None (omega arith) (omega arith)
   set_owed q (home.Object o) m e = let h = update_hand_owed q o m e.hand in omega (arith, h)
 
   -- nothing else of a task changes where members do
@@ -124,28 +125,28 @@ module _ (source : Source) where
   -- changes after which as much is engaged, and no more is owed
 
   pub record Lighter (e f : Env) : Type 0 where
-    pub env : EngagedEnv source f
-    pub owed : (q : ℕ) → owed_env source q f ≤ owed_env source q e
+    pub env : EngagedEnv source news f
+    pub owed : (q : ℕ) → owed_env q f ≤ owed_env q e
     pub depths : f.depths ≡ e.depths
     pub entries : entries e.links ≤ entries f.links
 
-  pub same : (e f : Env) → EngagedEnv source e → f.own ≡ e.own → f.hand ≡ e.hand → f.house ≡ e.house → f.depths ≡ e.depths → entries e.links ≤ entries f.links → Lighter e f
+  pub same : (e f : Env) → EngagedEnv source news e → f.own ≡ e.own → f.hand ≡ e.hand → f.house ≡ e.house → f.depths ≡ e.depths → entries e.links ≤ entries f.links → Lighter e f
   same e f s o h g d l =
       record {
         env = record {
-          house = subst (λ m. EngagedParked source m.parked) (sym g) s.house;
-          hand = subst (EngagedHand source) (sym h) s.hand;
+          house = subst (λ m. EngagedParked source news m.parked) (sym g) s.house;
+          hand = subst (EngagedHand source news) (sym h) s.hand;
         };
-        owed = λ q. let a = ap (λ (m : Members). owed_parked source q m.parked) g in let b = ap (owed_hand source q) h in let c = ap (owed_own q) o in omega (arith, a, b, c);
+        owed = λ q. let a = ap (λ (m : Members). owed_parked q m.parked) g in let b = ap (owed_hand q) h in let c = ap (owed_own q) o in omega (arith, a, b, c);
         depths = d;
         entries = l;
       }
 
   record Spared (f : Members → Members) : Type 0 where
-    parked : (m : Members) → EngagedParked source m.parked → EngagedParked source (f m).parked
-    owed : (m : Members) (q : ℕ) → owed_parked source q (f m).parked ≤ owed_parked source q m.parked
+    parked : (m : Members) → EngagedParked source news m.parked → EngagedParked source news (f m).parked
+    owed : (m : Members) (q : ℕ) → owed_parked q (f m).parked ≤ owed_parked q m.parked
 
-  change_by : (h : Home) (f : Members → Members) (o : Option Members) (e : Env) → members_at h e ≡ o → Spared f → EngagedMembers source o → EngagedEnv source e → Lighter e (change_in h f o e)
+  change_by : (h : Home) (f : Members → Members) (o : Option Members) (e : Env) → members_at h e ≡ o → Spared f → EngagedMembers source news o → EngagedEnv source news e → Lighter e (change_in h f o e)
   change_by h f None e r k m s = record { env = s; owed = λ q. omega arith; depths = refl; entries = omega arith }
   change_by h f (Some x) e r k m s =
       let b = set_beside h (f x) e in
@@ -154,29 +155,29 @@ module _ (source : Source) where
         owed = λ q.
             let a = set_owed q h (f x) e in
             let c = k.owed x q in
-            let d : owed_members q (members_at h e) ≡ owed_parked source q x.parked = ap (owed_members q) r in
+            let d : owed_members q (members_at h e) ≡ owed_parked q x.parked = ap (owed_members q) r in
             omega (arith, a, c, d);
         depths = b.depths;
         entries = let l = ap entries b.links in omega (arith, l);
       }
 
-  change_lighter : (h : Home) (f : Members → Members) (e : Env) → Spared f → EngagedEnv source e → Lighter e (change h f e)
+  change_lighter : (h : Home) (f : Members → Members) (e : Env) → Spared f → EngagedEnv source news e → Lighter e (change h f e)
   change_lighter h f e k s = change_by h f (members_at h e) e refl k (members_engaged h e s) s
 
   -- an execution in another's place, which owes as much
-  swapped : (k : ℕ) (x y : Ex) (m : Members) → joined (find k m.parked) ≡ Some x → ((q : ℕ) → owed_ex source q y ≤ owed_ex source q x) → (q : ℕ) → owed_parked source q (update k (Some y) m.parked) ≤ owed_parked source q m.parked
+  swapped : (k : ℕ) (x y : Ex) (m : Members) → joined (find k m.parked) ≡ Some x → ((q : ℕ) → owed_ex q y ≤ owed_ex q x) → (q : ℕ) → owed_parked q (update k (Some y) m.parked) ≤ owed_parked q m.parked
   swapped k x y m e w q =
       let a = update_owed q k (Some y) m.parked in
       let b = w q in
-      let c : owed_slot source q (joined (find k m.parked)) ≡ owed_ex source q x = ap (owed_slot source q) e in
+      let c : owed_slot q (joined (find k m.parked)) ≡ owed_ex q x = ap (owed_slot q) e in
       omega (arith, a, b, c)
 
-  frames_parked : (n : ℕ) (f : List (List Value) → List (List Value)) (o : Option Ex) (m : Members) → EngagedSlot source o → EngagedParked source m.parked → EngagedParked source (frames_by n f o m).parked
+  frames_parked : (n : ℕ) (f : List (List Value) → List (List Value)) (o : Option Ex) (m : Members) → EngagedSlot source news o → EngagedParked source news m.parked → EngagedParked source news (frames_by n f o m).parked
   frames_parked n f None m r h = h
   frames_parked n f (Some x) m r h =
-      update_parked n (Some (record x { frames = f x.frames })) m.parked (record { first = r.first; run = r.run; one = r.one; callers = r.callers; engaged = r.engaged }) h
+      update_parked n (Some (record x { frames = f x.frames })) m.parked (record { run = r.run; one = r.one; callers = r.callers; engaged = r.engaged }) h
 
-  frames_owed : (n : ℕ) (f : List (List Value) → List (List Value)) (o : Option Ex) (m : Members) → joined (find n m.parked) ≡ o → (q : ℕ) → owed_parked source q (frames_by n f o m).parked ≤ owed_parked source q m.parked
+  frames_owed : (n : ℕ) (f : List (List Value) → List (List Value)) (o : Option Ex) (m : Members) → joined (find n m.parked) ≡ o → (q : ℕ) → owed_parked q (frames_by n f o m).parked ≤ owed_parked q m.parked
   frames_owed n f None m e q = omega arith
   frames_owed n f (Some x) m e q = swapped n x (record x { frames = f x.frames }) m e (λ q. omega arith) q
 
@@ -186,18 +187,18 @@ module _ (source : Source) where
     owed = λ m q. frames_owed n f (joined (find n m.parked)) m refl q;
   }
 
-  with_frames_lighter : (n : Exec) (f : List (List Value) → List (List Value)) (e : Env) → EngagedEnv source e → Lighter e (with_frames n f e)
+  with_frames_lighter : (n : Exec) (f : List (List Value) → List (List Value)) (e : Env) → EngagedEnv source news e → Lighter e (with_frames n f e)
   with_frames_lighter n f e s =
       either (Lighter e) (exec_eq n e.exec) (record e { frames = f e.frames }) (change n.home (frames_changed n.serial f) e) (same e (record e { frames = f e.frames }) s refl refl refl refl (omega arith)) (change_lighter n.home (frames_changed n.serial f) e (frames_spared n.serial f) s)
 
   values_spared : (f : List Value → List Value) → Spared (λ m. record m { values = f m.values })
   values_spared f = record { parked = λ m h. h; owed = λ m q. omega arith }
 
-  pub owned_lighter : (o : Owner) (f : List Value → List Value) (e : Env) → EngagedEnv source e → Lighter e (with_owned o f e)
+  pub owned_lighter : (o : Owner) (f : List Value → List Value) (e : Env) → EngagedEnv source news e → Lighter e (with_owned o f e)
   owned_lighter (Frame n d) f e s = with_frames_lighter n (frame_changed d f) e s
   owned_lighter (Fields o) f e s = change_lighter (home.Object o) (λ m. record m { values = f m.values }) e (values_spared f) s
 
-  pub written_lighter : (v w : Value) (e : Env) → EngagedEnv source e → Lighter e (written v w e)
+  pub written_lighter : (v w : Value) (e : Env) → EngagedEnv source news e → Lighter e (written v w e)
   written_lighter (Number n) w e s = same e e s refl refl refl refl (omega arith)
   written_lighter (Place o p) w e s = owned_lighter o _ e s
   written_lighter (Running x) w e s = same e e s refl refl refl refl (omega arith)
@@ -215,13 +216,13 @@ module _ (source : Source) where
 
   -- executions are made and go, and their links change
 
-  born_spared : (x : Ex) → Engaged source x → ((q : ℕ) → owed_ex source q x ≡ 0) → Spared (sw.one_more x)
+  born_spared : (x : Ex) → Engaged source news x → ((q : ℕ) → owed_ex q x ≡ 0) → Spared (sw.one_more x)
   born_spared x r w = record {
     parked = λ m h. more_parked m.serial x m.parked r h;
     owed = λ m q. let a = more_owed q m.serial x m.parked in let b = w q in omega (arith, a, b);
   }
 
-  pub born_lighter : (h : Home) (x : Ex) (e : Env) → Engaged source x → ((q : ℕ) → owed_ex source q x ≡ 0) → EngagedEnv source e → Lighter e (sw.born h x e)
+  pub born_lighter : (h : Home) (x : Ex) (e : Env) → Engaged source news x → ((q : ℕ) → owed_ex q x ≡ 0) → EngagedEnv source news e → Lighter e (sw.born h x e)
   born_lighter h x e r w s = change_lighter h (sw.one_more x) e (born_spared x r w) s
 
   gone_spared : (k : ℕ) → Spared (sw.slot_gone k)
@@ -230,19 +231,19 @@ module _ (source : Source) where
     owed = λ m q. without_owed q k m.parked;
   }
 
-  pub forgotten_lighter : (o : Option Exec) (e : Env) → EngagedEnv source e → Lighter e (sw.forgotten o e)
+  pub forgotten_lighter : (o : Option Exec) (e : Env) → EngagedEnv source news e → Lighter e (sw.forgotten o e)
   forgotten_lighter None e s = same e e s refl refl refl refl (omega arith)
   forgotten_lighter (Some n) e s = change_lighter n.home (sw.slot_gone n.serial) e (gone_spared n.serial) s
 
   abbrev pub Spares : (Links → Links) → Type 0
   Spares g = (l : Links) → entries l ≤ entries (g l)
 
-  links_parked : (g : Links → Links) → Spares g → (n : ℕ) (o : Option Ex) (m : Members) → EngagedSlot source o → EngagedParked source m.parked → EngagedParked source (sw.links_by g n o m).parked
+  links_parked : (g : Links → Links) → Spares g → (n : ℕ) (o : Option Ex) (m : Members) → EngagedSlot source news o → EngagedParked source news m.parked → EngagedParked source news (sw.links_by g n o m).parked
   links_parked g k n None m r h = h
   links_parked g k n (Some x) m r h =
-      update_parked n (Some (record x { links = g x.links })) m.parked (record { first = r.first; run = r.run; one = r.one; callers = r.callers; engaged = let a = r.engaged in let b = k x.links in omega (arith, a, b) }) h
+      update_parked n (Some (record x { links = g x.links })) m.parked (record { run = r.run; one = r.one; callers = r.callers; engaged = let a = r.engaged in let b = k x.links in omega (arith, a, b) }) h
 
-  links_owed : (g : Links → Links) (n : ℕ) (o : Option Ex) (m : Members) → joined (find n m.parked) ≡ o → (q : ℕ) → owed_parked source q (sw.links_by g n o m).parked ≤ owed_parked source q m.parked
+  links_owed : (g : Links → Links) (n : ℕ) (o : Option Ex) (m : Members) → joined (find n m.parked) ≡ o → (q : ℕ) → owed_parked q (sw.links_by g n o m).parked ≤ owed_parked q m.parked
   links_owed g n None m e q = omega arith
   links_owed g n (Some x) m e q = swapped n x (record x { links = g x.links }) m e (λ q. omega arith) q
 
@@ -252,32 +253,32 @@ module _ (source : Source) where
     owed = λ m q. links_owed g n (joined (find n m.parked)) m refl q;
   }
 
-  pub with_links_lighter : (g : Links → Links) → Spares g → (n : Exec) (e : Env) → EngagedEnv source e → Lighter e (sw.with_links g n e)
+  pub with_links_lighter : (g : Links → Links) → Spares g → (n : Exec) (e : Env) → EngagedEnv source news e → Lighter e (sw.with_links g n e)
   with_links_lighter g k n e s =
       either (Lighter e) (exec_eq n e.exec) (record e { links = g e.links }) (change n.home (sw.links_changed g n.serial) e) (same e (record e { links = g e.links }) s refl refl refl refl (k e.links)) (change_lighter n.home (sw.links_changed g n.serial) e (links_spared g k n.serial) s)
 
-  pub enlivened_lighter : (o : Option Exec) (e : Env) → EngagedEnv source e → Lighter e (sw.enlivened o e)
+  pub enlivened_lighter : (o : Option Exec) (e : Env) → EngagedEnv source news e → Lighter e (sw.enlivened o e)
   enlivened_lighter None e s = same e e s refl refl refl refl (omega arith)
   enlivened_lighter (Some n) e s = with_links_lighter (λ l. record l { live = true }) (λ l. omega arith) n e s
 
   -- slots
 
-  slot_by : (n : Exec) (x : Option Ex) (o : Option Members) (e : Env) → EngagedSlot source x → EngagedMembers source o → EngagedEnv source e → EngagedEnv source (change_in n.home (sw.slot_set n.serial x) o e)
+  slot_by : (n : Exec) (x : Option Ex) (o : Option Members) (e : Env) → EngagedSlot source news x → EngagedMembers source news o → EngagedEnv source news e → EngagedEnv source news (change_in n.home (sw.slot_set n.serial x) o e)
   slot_by n x None e r m s = s
   slot_by n x (Some y) e r m s = set_engaged n.home (sw.slot_set n.serial x y) e (update_parked n.serial x y.parked r m) s
 
-  set_slot_engaged : (n : Exec) (x : Option Ex) (e : Env) → EngagedSlot source x → EngagedEnv source e → EngagedEnv source (sw.set_slot n x e)
+  set_slot_engaged : (n : Exec) (x : Option Ex) (e : Env) → EngagedSlot source news x → EngagedEnv source news e → EngagedEnv source news (sw.set_slot n x e)
   set_slot_engaged n x e r s = slot_by n x (members_at n.home e) e r (members_engaged n.home e s) s
 
-  slot_owed_by : (q : ℕ) (n : Exec) (x : Option Ex) (o : Option Members) (e : Env) → members_at n.home e ≡ o → owed_env source q (change_in n.home (sw.slot_set n.serial x) o e) + owed_slot source q (joined (slot_in n.serial o)) ≤ owed_env source q e + owed_slot source q x
+  slot_owed_by : (q : ℕ) (n : Exec) (x : Option Ex) (o : Option Members) (e : Env) → members_at n.home e ≡ o → owed_env q (change_in n.home (sw.slot_set n.serial x) o e) + owed_slot q (joined (slot_in n.serial o)) ≤ owed_env q e + owed_slot q x
   slot_owed_by q n x None e r = omega arith
   slot_owed_by q n x (Some m) e r =
       let a = set_owed q n.home (sw.slot_set n.serial x m) e in
       let b = update_owed q n.serial x m.parked in
-      let d : owed_members q (members_at n.home e) ≡ owed_parked source q m.parked = ap (owed_members q) r in
+      let d : owed_members q (members_at n.home e) ≡ owed_parked q m.parked = ap (owed_members q) r in
       omega (arith, a, b, d)
 
-  set_slot_owed : (q : ℕ) (n : Exec) (x : Option Ex) (e : Env) → owed_env source q (sw.set_slot n x e) + owed_slot source q (parked_at n e) ≤ owed_env source q e + owed_slot source q x
+  set_slot_owed : (q : ℕ) (n : Exec) (x : Option Ex) (e : Env) → owed_env q (sw.set_slot n x e) + owed_slot q (parked_at n e) ≤ owed_env q e + owed_slot q x
   set_slot_owed q n x e = slot_owed_by q n x (members_at n.home e) e refl
 
   set_slot_beside : (n : Exec) (x : Option Ex) (e : Env) → Beside e (sw.set_slot n x e)
@@ -286,48 +287,50 @@ module _ (source : Source) where
   -- switches
 
   abbrev pub DeepMoved : Moved (List Todo) Value → Type 0
-  DeepMoved (To s) = Deep source s
+  DeepMoved (To s) = Deep source news s
   DeepMoved (Stops f) = Unit {0}
 
   -- who may be activated: one that does not run, or that one somewhat changed
   pub record Waiting (e : Env) (n : Exec) (x : Ex) : Type 0 where
-    pub engaged : Engaged source x
+    pub engaged : Engaged source news x
     pub was : Ex
     pub parked : parked_at n e ≡ Some was
-    pub owes : (q : ℕ) → owed_ex source q x ≤ owed_ex source q was
+    pub owes : (q : ℕ) → owed_ex q x ≤ owed_ex q was
 
   abbrev pub WaitingNext : Env → Option (Exec × Ex) → Type 0
   WaitingNext e None = Unit {0}
   WaitingNext e (Some p) = Waiting e p.0 p.1
 
-  pub switched_deep : (n : Exec) (x : Ex) (s : State) → Waiting s.env n x → Deep source s → Deep source (sw.switched n x s)
+  pub switched_deep : (n : Exec) (x : Ex) (s : State) → Waiting s.env n x → DeepAlone source news s → Deep source news (sw.switched n x s)
   switched_deep n x s r h =
       let free : Env = sw.set_slot n None s.env in
       let stopped : Ex = sw.stopped s in
-      let is : Engaged source stopped = record { first = h.first; run = h.run; one = h.one; callers = h.callers; engaged = h.engaged } in
+      let is : Engaged source news stopped = record { run = h.alone; one = h.deep.one; callers = h.deep.callers; engaged = let a = h.deep.engaged in omega (arith, a) } in
       record {
-        first = r.engaged.first;
+        first = Any;
         run = r.engaged.run;
+        new = none_new source (is_new news x.run.this x.callers) news x.run.this x.callers x.run.control x.run.operands r.engaged.run;
         one = r.engaged.one;
         callers = r.engaged.callers;
         env =
-            let f = set_slot_engaged s.env.exec (Some stopped) free is (set_slot_engaged n None s.env tt h.env) in
+            let f = set_slot_engaged s.env.exec (Some stopped) free is (set_slot_engaged n None s.env tt h.deep.env) in
             record { house = f.house; hand = f.hand };
-        engaged = r.engaged.engaged;
+        engaged = let a = r.engaged.engaged in let b = none_marked source (is_new news x.run.this x.callers) x.run.control r.engaged.run in omega (arith, a, b);
         depths = λ q.
             let a = set_slot_owed q n None s.env in
             let b = set_slot_owed q s.env.exec (Some stopped) free in
-            let c : owed_slot source q (parked_at n s.env) ≡ owed_ex source q r.was = ap (owed_slot source q) r.parked in
-            let d = h.depths q in
+            let c : owed_slot q (parked_at n s.env) ≡ owed_ex q r.was = ap (owed_slot q) r.parked in
+            let d = h.deep.depths q in
+            let f = none_first source (is_new news x.run.this x.callers) q x.run.control x.run.operands r.engaged.run in
             let w = r.owes q in
             let e1 = set_slot_beside n None s.env in
             let e2 = set_slot_beside s.env.exec (Some stopped) free in
             let g = subst (λ ds. owed source q s ≤ depth_in (find q ds)) (sym e1.depths) d in
             let i = subst (λ ds. owed source q s ≤ depth_in (find q ds)) (sym e2.depths) g in
-            omega (arith, a, b, c, w, i);
+            omega (arith, a, b, c, w, i, f);
       }
 
-  parked_slot : (n : Exec) (o : Option Ex) (e : Env) → parked_at n e ≡ o → EngagedSlot source o → WaitingNext e (sw.able_by n o)
+  parked_slot : (n : Exec) (o : Option Ex) (e : Env) → parked_at n e ≡ o → EngagedSlot source news o → WaitingNext e (sw.able_by n o)
   parked_slot n None e p r = tt
   parked_slot n (Some x) e p r = stage x.links.stage
     where
@@ -336,7 +339,7 @@ module _ (source : Source) where
       stage Started = record { engaged = r; was = x; parked = p; owes = λ q. omega arith }
       stage Ended = tt
 
-  pub able_waiting : (o : Option Exec) (e : Env) → EngagedEnv source e → WaitingNext e (sw.able o e)
+  pub able_waiting : (o : Option Exec) (e : Env) → EngagedEnv source news e → WaitingNext e (sw.able o e)
   able_waiting None e s = tt
   able_waiting (Some n) e s = parked_slot n (parked_at n e) e refl (parked_engaged n e s)
 
@@ -344,7 +347,7 @@ module _ (source : Source) where
   or_waiting e None b h k = k
   or_waiting e (Some p) b h k = h
 
-  pub go_on_deep : (o : Option (Exec × Ex)) (s : State) → WaitingNext s.env o → Deep source s → DeepMoved (sw.go_on o s)
+  pub go_on_deep : (o : Option (Exec × Ex)) (s : State) → WaitingNext s.env o → DeepAlone source news s → DeepMoved (sw.go_on o s)
   go_on_deep None s r h = tt
   go_on_deep (Some p) s r h = switched_deep p.0 p.1 s r h
 
@@ -362,7 +365,7 @@ module _ (source : Source) where
   -- other links of one that waits, and a reason to unwind it
   relinked : (e : Env) (n : Exec) (x : Ex) (l : Links) → entries x.links ≤ entries l → Waiting e n x → Waiting e n (record x { links = l })
   relinked e n x l k w = record {
-    engaged = record { first = w.engaged.first; run = w.engaged.run; one = w.engaged.one; callers = w.engaged.callers; engaged = let a = w.engaged.engaged in omega (arith, a, k) };
+    engaged = record { run = w.engaged.run; one = w.engaged.one; callers = w.engaged.callers; engaged = let a = w.engaged.engaged in omega (arith, a, k) };
     was = w.was;
     parked = w.parked;
     owes = w.owes;
@@ -370,39 +373,40 @@ module _ (source : Source) where
 
   reasoned : (e : Env) (n : Exec) (x : Ex) (why : UnwindReason) → Waiting e n x → Waiting e n (sw.unwound_there why x)
   reasoned e n x why w = record {
-    engaged = record { first = w.engaged.first; run = w.engaged.run; one = w.engaged.one; callers = w.engaged.callers; engaged = w.engaged.engaged };
+    engaged = record { run = w.engaged.run; one = w.engaged.one; callers = w.engaged.callers; engaged = w.engaged.engaged };
     was = w.was;
     parked = w.parked;
     owes = w.owes;
   }
 
-  waits_there : (n : Exec) (x : Ex) (e : Env) → parked_at n e ≡ Some x → Engaged source x → Waiting e n x
+  waits_there : (n : Exec) (x : Ex) (e : Env) → parked_at n e ≡ Some x → Engaged source news x → Waiting e n x
   waits_there n x e p r = record { engaged = r; was = x; parked = p; owes = λ q. omega arith }
 
-  wake_stage : (g : Stage) (n : Exec) (x : Ex) (s : State) → Waiting s.env n x → Deep source s → DeepMoved (sw.wake_at g n x s)
+  wake_stage : (g : Stage) (n : Exec) (x : Ex) (s : State) → Waiting s.env n x → DeepAlone source news s → DeepMoved (sw.wake_at g n x s)
   wake_stage Fresh n x s r h = switched_deep n _ s (relinked s.env n x (sw.woken s.env.exec x.links) (omega arith) r) h
   wake_stage Started n x s r h = switched_deep n _ s (relinked s.env n x (sw.woken s.env.exec x.links) (omega arith) r) h
   wake_stage Ended n x s r h = tt
 
-  wake_slot : (n : Exec) (o : Option Ex) (s : State) → parked_at n s.env ≡ o → EngagedSlot source o → Deep source s → DeepMoved (sw.wake_by n o s)
+  wake_slot : (n : Exec) (o : Option Ex) (s : State) → parked_at n s.env ≡ o → EngagedSlot source news o → DeepAlone source news s → DeepMoved (sw.wake_by n o s)
   wake_slot n None s p r h = tt
   wake_slot n (Some x) s p r h = wake_stage x.links.stage n x s (waits_there n x s.env p r) h
 
-  wake_one_deep : (o : Option Exec) (s : State) → Deep source s → DeepMoved (sw.wake_one o s)
+  wake_one_deep : (o : Option Exec) (s : State) → DeepAlone source news s → DeepMoved (sw.wake_one o s)
   wake_one_deep None s h = tt
-  wake_one_deep (Some n) s h = either DeepMoved (exec_eq n s.env.exec) (Stops ResumeInUse) (sw.wake_by n (parked_at n s.env) s) tt (wake_slot n (parked_at n s.env) s refl (parked_engaged n s.env h.env) h)
+  wake_one_deep (Some n) s h = either DeepMoved (exec_eq n s.env.exec) (Stops ResumeInUse) (sw.wake_by n (parked_at n s.env) s) tt (wake_slot n (parked_at n s.env) s refl (parked_engaged n s.env h.deep.env) h)
 
-  pub wake_deep : (o : Option Exec) (s : State) → Deep source s → DeepMoved (sw.wake o s)
+  pub wake_deep : (o : Option Exec) (s : State) → DeepAlone source news s → DeepMoved (sw.wake o s)
   wake_deep o s h = either DeepMoved (sw.in_destruction s.env) (Stops SwitchInUnwind) (sw.wake_one o s) tt (wake_one_deep o s h)
 
-  pub suspend_deep : (s : State) → Deep source s → DeepMoved (sw.suspend s)
-  suspend_deep s h = either DeepMoved (sw.in_destruction s.env) (Stops SwitchInUnwind) (sw.go_on (sw.able s.env.links.resumer s.env) s) tt (go_on_deep (sw.able s.env.links.resumer s.env) s (able_waiting s.env.links.resumer s.env h.env) h)
+  pub suspend_deep : (s : State) → DeepAlone source news s → DeepMoved (sw.suspend s)
+  suspend_deep s h = either DeepMoved (sw.in_destruction s.env) (Stops SwitchInUnwind) (sw.go_on (sw.able s.env.links.resumer s.env) s) tt (go_on_deep (sw.able s.env.links.resumer s.env) s (able_waiting s.env.links.resumer s.env h.deep.env) h)
 
   -- other links of the one that runs
-  linked : (s : State) (l : Links) → entries s.env.links ≤ entries l → Deep source s → Deep source (record s { env = record s.env { links = l } })
+  linked : (s : State) (l : Links) → entries s.env.links ≤ entries l → Deep source news s → Deep source news (record s { env = record s.env { links = l } })
   linked s l k h = record {
     first = h.first;
     run = h.run;
+    new = h.new;
     one = h.one;
     callers = h.callers;
     env = record { house = h.env.house; hand = h.env.hand };
@@ -410,36 +414,37 @@ module _ (source : Source) where
     depths = h.depths;
   }
 
-  ended_deep : (s : State) → Deep source s → Deep source (sw.ended s)
-  ended_deep s h = linked s (record s.env.links { stage = Ended; destroyer = None }) (omega arith) h
+  ended_deep : (s : State) → DeepAlone source news s → DeepAlone source news (sw.ended s)
+  ended_deep s h = record { alone = h.alone; deep = linked s (record s.env.links { stage = Ended; destroyer = None }) (omega arith) h.deep }
 
   ended_waiting : (s : State) (o : Option (Exec × Ex)) → WaitingNext s.env o → WaitingNext (sw.ended s).env o
   ended_waiting s o w = kept_links s.env (record s.env.links { stage = Ended; destroyer = None }) o w
 
-  pub finish_deep : (s : State) → Deep source s → DeepMoved (sw.finish s)
+  pub finish_deep : (s : State) → DeepAlone source news s → DeepMoved (sw.finish s)
   finish_deep s h =
       let o : Option (Exec × Ex) = sw.or_else (sw.able s.env.links.starter s.env) (sw.able s.env.links.resumer s.env) in
-      go_on_deep o (sw.ended s) (ended_waiting s o (or_waiting s.env (sw.able s.env.links.starter s.env) (sw.able s.env.links.resumer s.env) (able_waiting s.env.links.starter s.env h.env) (able_waiting s.env.links.resumer s.env h.env))) (ended_deep s h)
+      go_on_deep o (sw.ended s) (ended_waiting s o (or_waiting s.env (sw.able s.env.links.starter s.env) (sw.able s.env.links.resumer s.env) (able_waiting s.env.links.starter s.env h.deep.env) (able_waiting s.env.links.resumer s.env h.deep.env))) (ended_deep s h)
 
-  throw_deep : (o : Option (Exec × Ex)) (s : State) → WaitingNext s.env o → Deep source s → DeepMoved (sw.throw_at o s)
+  throw_deep : (o : Option (Exec × Ex)) (s : State) → WaitingNext s.env o → DeepAlone source news s → DeepMoved (sw.throw_at o s)
   throw_deep None s r h = tt
   throw_deep (Some p) s r h = switched_deep p.0 _ s (reasoned s.env p.0 p.1 _ r) h
 
-  pub escape_deep : (s : State) → Deep source s → DeepMoved (sw.escape s)
+  pub escape_deep : (s : State) → DeepAlone source news s → DeepMoved (sw.escape s)
   escape_deep s h =
       let o : Option (Exec × Ex) = sw.able s.env.links.resumer s.env in
-      throw_deep o (sw.ended s) (ended_waiting s o (able_waiting s.env.links.resumer s.env h.env)) (ended_deep s h)
+      throw_deep o (sw.ended s) (ended_waiting s o (able_waiting s.env.links.resumer s.env h.deep.env)) (ended_deep s h)
 
-  pub taken_down_deep : (s : State) → Deep source s → DeepMoved (sw.taken_down s)
+  pub taken_down_deep : (s : State) → DeepAlone source news s → DeepMoved (sw.taken_down s)
   taken_down_deep s h =
       let o : Option (Exec × Ex) = sw.able s.env.links.destroyer s.env in
-      go_on_deep o (sw.ended s) (ended_waiting s o (able_waiting s.env.links.destroyer s.env h.env)) (ended_deep s h)
+      go_on_deep o (sw.ended s) (ended_waiting s o (able_waiting s.env.links.destroyer s.env h.deep.env)) (ended_deep s h)
 
   -- the same task with what is lighter
-  pub eased : (s : State) (e : Env) → Lighter s.env e → Deep source s → Deep source (record s { env = e })
+  pub eased : (s : State) (e : Env) → Lighter s.env e → Deep source news s → Deep source news (record s { env = e })
   eased s e l h = record {
     first = h.first;
     run = h.run;
+    new = h.new;
     one = h.one;
     callers = h.callers;
     env = l.env;
@@ -451,19 +456,19 @@ module _ (source : Source) where
         omega (arith, b, c);
   }
 
-  over_deep : (n : Exec) (s : State) → Deep source s → Deep source (sw.over n s)
+  over_deep : (n : Exec) (s : State) → Deep source news s → Deep source news (sw.over n s)
   over_deep n s h = eased s _ (with_links_lighter (λ l. record l { live = false; stage = Ended }) (λ l. omega arith) n s.env h.env) h
 
-  take_down_stage : (g : Stage) (n : Exec) (x : Ex) (s : State) → Waiting s.env n x → Deep source s → DeepMoved (sw.take_down_at g n x s)
-  take_down_stage Fresh n x s r h = over_deep n s h
+  take_down_stage : (g : Stage) (n : Exec) (x : Ex) (s : State) → Waiting s.env n x → DeepAlone source news s → DeepMoved (sw.take_down_at g n x s)
+  take_down_stage Fresh n x s r h = over_deep n s h.deep
   take_down_stage Started n x s r h =
       switched_deep n _ s (reasoned s.env n _ _ (relinked s.env n x (record x.links { live = false; destroyer = Some s.env.exec }) (omega arith) r)) h
-  take_down_stage Ended n x s r h = over_deep n s h
+  take_down_stage Ended n x s r h = over_deep n s h.deep
 
-  take_down_slot : (n : Exec) (o : Option Ex) (s : State) → parked_at n s.env ≡ o → EngagedSlot source o → Deep source s → DeepMoved (sw.take_down_by n o s)
-  take_down_slot n None s p r h = h
+  take_down_slot : (n : Exec) (o : Option Ex) (s : State) → parked_at n s.env ≡ o → EngagedSlot source news o → DeepAlone source news s → DeepMoved (sw.take_down_by n o s)
+  take_down_slot n None s p r h = h.deep
   take_down_slot n (Some x) s p r h = take_down_stage x.links.stage n x s (waits_there n x s.env p r) h
 
-  pub take_down_deep : (o : Option Exec) (s : State) → Deep source s → DeepMoved (sw.take_down o s)
-  take_down_deep None s h = h
-  take_down_deep (Some n) s h = take_down_slot n (parked_at n s.env) s refl (parked_engaged n s.env h.env) h
+  pub take_down_deep : (o : Option Exec) (s : State) → DeepAlone source news s → DeepMoved (sw.take_down o s)
+  take_down_deep None s h = h.deep
+  take_down_deep (Some n) s h = take_down_slot n (parked_at n s.env) s refl (parked_engaged n s.env h.deep.env) h

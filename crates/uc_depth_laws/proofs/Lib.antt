@@ -1,5 +1,6 @@
 pub mod Kept
 pub mod Depths
+pub mod Renewed
 pub mod Standing
 pub mod TodoLists
 pub mod Steps

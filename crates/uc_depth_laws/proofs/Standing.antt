@@ -1,23 +1,25 @@
 -- Laws over one state: who is inside, what is free, and what a hand owes that is drawn again.
 use Rattle.std.proofs.Common.{◌≡◌, ℕ, suc, ◌+◌, ◌≤◌, ◌<◌, Bool, true, false, ◌||◌, List, [], ◌∷◌, Option, Some, None, inl, inr, zero, refl, sym, subst, ap, arith}
-use Rattle.std.specs.Prelude.{nat_eq, drop, slice_get, ◌⊎◌, if◌then◌else◌}
+use Rattle.std.specs.Prelude.{nat_eq, slice_get, ◌⊎◌, if◌then◌else◌}
 use Rattle.std.specs.List.{list_any}
 use Rattle.std.proofs.lemmas.Bool.{eqb-true, eq-eqb, ltb-false}
 use Rattle.std.proofs.lemmas.Bool.Decides.{eqb_tells}
-use Rattle.uc_tree.specs.Source.{Source, routine_of}
+use Rattle.uc_tree.specs.Source.{Source}
 use Rattle.uc_entry.specs.Keyed.{find}
 use Rattle.uc_entry.specs.declared.request.Request.{Request}
 use Rattle.uc_entry.specs.declared.request.Request.TheVariants as ask
 use Rattle.uc_machine.specs.Switches.{without}
-use Rattle.uc_machine.specs.Insides.{is_engaged}
-use Rattle.uc_machine.specs.Pieces as piece
-use Rattle.uc_machine.specs.Pieces.{Value, Todo, top, Active, State, Members, object_in}
+use Rattle.uc_machine.specs.Executions.{home_eq}
+use Rattle.uc_machine.specs.declared.exec.Home.TheVariants as home
+use Rattle.uc_machine.specs.Insides.{is_engaged, has_engaged, is_held_up}
+use Rattle.uc_machine.specs.Monitors.{this_object}
+use Rattle.uc_machine.specs.Pieces.{Todo, Active, State, Members, at, object_in}
 use Rattle.uc_machine.specs.Answering.{with_hand}
-use Rattle.uc_depth_laws.specs.Entering.{is_holding}
-use Rattle.uc_depth_laws.specs.Owing.{more, Ex, entries, marks, counted, marks_waiting, owed_waiting, EngagedSlot, EngagedParked, EngagedHand, EngagedMembers, Free, Redrawn, owed_slot, owed_parked, owed_hand, owed_first, first_marks, owed_by, IsInside, Deep, DeepBehind, DeepAsk}
+use Rattle.uc_depth_laws.specs.Owing.{Ex, entries, marks, marks_waiting, owed_waiting, EngagedSlot, EngagedParked, EngagedHand, EngagedMembers, Free, Redrawn, owed_slot, owed_parked, owed_hand, owed, owed_outside, owed_by, IsInside, Deep, DeepBehind, DeepAsk}
 use Rattle.uc_depth_laws.specs.DepthLaws.{LawFree, LawDrawn, LawInside}
-use Rattle.uc_depth_laws.proofs.Kept.{either, both, found_hand}
+use Rattle.uc_depth_laws.proofs.Kept.{both, found_hand}
 use Rattle.uc_depth_laws.proofs.Depths.{own_one, counted_own, counted_least, counted_none, inside_of}
+use Rattle.uc_depth_laws.proofs.Renewed.{parked_again}
 
 abbrev owed_option : ℕ → Option Active → ℕ
 owed_option q None = 0
@@ -29,16 +31,16 @@ one_owes q [] n a e = absurd cc
 one_owes q (x ∷ cs) zero a e = let f = ap (λ (o : Option Active). owed_option q o) e in omega (arith, f)
 one_owes q (x ∷ cs) (suc n) a e = let h = one_owes q cs n a e in omega (arith, h)
 
-marked : (source : Source) (s : State) → Deep source s → (n : ℕ) (a : Active) → slice_get (s.run ∷ s.callers) n ≡ Some a → 0 < marks a.control → IsInside (object_in a.this) s.env
-marked source s h n a e l =
+marked : (source : Source) (news : ℕ → Bool) (s : State) → Deep source news s → (n : ℕ) (a : Active) → slice_get (s.run ∷ s.callers) n ≡ Some a → 0 < marks a.control → IsInside (object_in a.this) s.env
+marked source news s h n a e l =
     let o = object_in a.this in
     let d = h.depths o in
     let b = counted_own a.this (marks a.control) in
     let c = one_owes o (s.run ∷ s.callers) n a e in
     inside_of (find o s.env.depths) (omega (arith, d, b, c, l))
 
-own : (source : Source) (s : State) → Deep source s → IsInside s.env.own s.env
-own source s h =
+own : (source : Source) (news : ℕ → Bool) (s : State) → Deep source news s → IsInside s.env.own s.env
+own source news s h =
     let d = h.depths s.env.own in
     let b = own_one s.env.own in
     inside_of (find s.env.own s.env.depths) (omega (arith, d, b))
@@ -56,38 +58,17 @@ waiting_none q (a ∷ cs) l =
     let d = waiting_none q cs (omega (arith, l)) in
     omega (arith, b, c, d)
 
--- a call that comes first and owes something is a mark
-first_none : (source : Source) (q : ℕ) (todo : List Todo) (vs : List Value) → first_marks source todo ≤ 0 → owed_first source q todo vs ≡ 0
-first_none source q [] vs l = refl
-first_none source q (piece.CallOnNow r ∷ todo) vs l = call (is_holding source r) (top (drop (routine_of source r).params vs)) l
-  where
-    call : (b : Bool) (v : Value) → more b 0 ≤ 0 → (if b then counted q v 1 else 0) ≡ 0
-    call true v l = absurd (omega (arith, l))
-    call false v l = refl
-first_none source q (piece.CallUnwrittenNow r ∷ todo) vs l = call (is_holding source r) (top (drop (routine_of source r).params vs)) l
-  where
-    call : (b : Bool) (v : Value) → more b 0 ≤ 0 → (if b then counted q v 1 else 0) ≡ 0
-    call true v l = absurd (omega (arith, l))
-    call false v l = refl
-first_none source q (piece.BindMadeNow c r ∷ todo) vs l = call (is_holding source r) (top vs) l
-  where
-    call : (b : Bool) (v : Value) → more b 0 ≤ 0 → (if b then counted q v 1 else 0) ≡ 0
-    call true v l = absurd (omega (arith, l))
-    call false v l = refl
-first_none source q (p ∷ todo) vs l = refl
-
 -- what is not engaged owes nothing
 
-slot_none : (source : Source) (q : ℕ) (o : Option Ex) → EngagedSlot source o → is_engaged o ≡ false → owed_slot source q o ≡ 0
-slot_none source q None h e = refl
-slot_none source q (Some x) h e =
+slot_none : (source : Source) (news : ℕ → Bool) (q : ℕ) (o : Option Ex) → EngagedSlot source news o → is_engaged o ≡ false → owed_slot q o ≡ 0
+slot_none source news q None h e = refl
+slot_none source news q (Some x) h e =
     let none : entries x.links ≤ 0 = ltb-false 0 (entries x.links) e in
     let l = h.engaged in
-    let a = first_none source q x.run.control x.run.operands (omega (arith, l, none)) in
     let b = counted_least q x.run.this (marks x.run.control) 0 (omega (arith, l, none)) in
     let c = counted_none q x.run.this in
     let d = waiting_none q x.callers (omega (arith, l, none)) in
-    omega (arith, a, b, c, d)
+    omega (arith, b, c, d)
 
 found_without : {X : Type 0} (q o : ℕ) (ds : List (ℕ × X)) → nat_eq o q ≡ false → find q (without o ds) ≡ find q ds
 found_without q o [] n = refl
@@ -121,36 +102,50 @@ neither : (a b : Bool) → (a || b) ≡ false → (a ≡ false) × (b ≡ false)
 neither true b e = absurd cc
 neither false b e = (refl, e)
 
-free : (source : Source) (q : ℕ) (ps : List (ℕ × Option Ex)) → EngagedParked source ps → list_any (λ (p : ℕ × Option Ex). is_engaged p.1) ps ≡ false → owed_parked source q ps ≡ 0
-free source q [] h e = refl
-free source q (p ∷ ps) h e =
+free : (source : Source) (news : ℕ → Bool) (q : ℕ) (ps : List (ℕ × Option Ex)) → EngagedParked source news ps → list_any (λ (p : ℕ × Option Ex). is_engaged p.1) ps ≡ false → owed_parked q ps ≡ 0
+free source news q [] h e = refl
+free source news q (p ∷ ps) h e =
     let two = neither (is_engaged p.1) (list_any (λ (p : ℕ × Option Ex). is_engaged p.1) ps) e in
-    let a = slot_none source q p.1 h.0 two.0 in
-    let b = free source q ps h.1 two.1 in
+    let a = slot_none source news q p.1 h.0 two.0 in
+    let b = free source news q ps h.1 two.1 in
     omega (arith, a, b)
 
 pub law_free : LawFree
-law_free = λ source m h e. record { parked = h; nothing = λ q. free source q m.parked h e }
+law_free = λ source news m h e. record { parked = parked_again source news (λ o. false) m.parked h (λ q n. inr (free source news q m.parked h e)); nothing = λ q. free source news q m.parked h e }
 
 -- a hand that is drawn anew
 
-abbrev owed_found : Source → ℕ → Option Members → ℕ
-owed_found source q None = 0
-owed_found source q (Some m) = owed_parked source q m.parked
+abbrev owed_found : ℕ → Option Members → ℕ
+owed_found q None = 0
+owed_found q (Some m) = owed_parked q m.parked
 
 -- what is found is all that is owed beside the others
-taken : (source : Source) (q k : ℕ) (hand : List (ℕ × Members)) → owed_hand source q (without k hand) + owed_found source q (find k hand) ≤ owed_hand source q hand
-taken source q k [] = omega arith
-taken source q k (p ∷ hand) =
-    let h = taken source q k hand in
-    both (λ (xs : List (ℕ × Members)) (x : Option Members). owed_hand source q xs + owed_found source q x ≤ owed_parked source q p.1.parked + owed_hand source q hand) (nat_eq p.0 k) hand (p ∷ without k hand) (Some p.1) (find k hand) (omega arith) (omega (arith, h))
+taken : (q k : ℕ) (hand : List (ℕ × Members)) → owed_hand q (without k hand) + owed_found q (find k hand) ≤ owed_hand q hand
+taken q k [] = omega arith
+taken q k (p ∷ hand) =
+    let h = taken q k hand in
+    both (λ (xs : List (ℕ × Members)) (x : Option Members). owed_hand q xs + owed_found q x ≤ owed_parked q p.1.parked + owed_hand q hand) (nat_eq p.0 k) hand (p ∷ without k hand) (Some p.1) (find k hand) (omega arith) (omega (arith, h))
 
-engaged_found : (source : Source) (k : ℕ) (hand : List (ℕ × Members)) (m : Members) → EngagedHand source hand → find k hand ≡ Some m → EngagedParked source m.parked
-engaged_found source k hand m h e = subst (EngagedMembers source) e (found_hand source k hand h)
+-- where nothing holds a task up, what is at home in the object owes it nothing
+left : (q k : ℕ) (hand : List (ℕ × Members)) → owed_hand q hand ≤ owed_hand q (without k hand) + owed_found q (find k hand)
+left q k [] = omega arith
+left q k (p ∷ hand) =
+    let h = left q k hand in
+    both (λ (xs : List (ℕ × Members)) (x : Option Members). owed_parked q p.1.parked + owed_hand q hand ≤ owed_hand q xs + owed_found q x) (nat_eq p.0 k) hand (p ∷ without k hand) (Some p.1) (find k hand) (omega arith) (omega (arith, h))
 
-without_engaged : (source : Source) (k : ℕ) (hand : List (ℕ × Members)) → EngagedHand source hand → EngagedHand source (without k hand)
-without_engaged source k [] h = tt
-without_engaged source k (p ∷ hand) h = either (EngagedHand source) (nat_eq p.0 k) hand (p ∷ without k hand) h.1 (h.0, without_engaged source k hand h.1)
+pub all_owed : (source : Source) (news : ℕ → Bool) (s : State) → Deep source news s → (todo : List Todo) → is_held_up (this_object s) s.env ≡ false → owed_outside source (this_object s) (at todo s.run.operands s) ≡ 0 → owed source (this_object s) (at todo s.run.operands s) ≡ 0
+all_owed source news s h todo u e =
+    let o = this_object s in
+    let a = left o o s.env.hand in
+    let b = by (find o s.env.hand) (found_hand source news o s.env.hand h.env.hand) (neither (home_eq s.env.exec.home (home.Object o)) (has_engaged (find o s.env.hand)) u).1 in
+    omega (arith, a, b, e)
+  where
+    by : (x : Option Members) → EngagedMembers source news x → has_engaged x ≡ false → owed_found (this_object s) x ≡ 0
+    by None k g = refl
+    by (Some m) k g = free source news (this_object s) m.parked k g
+
+engaged_found : (source : Source) (news : ℕ → Bool) (k : ℕ) (hand : List (ℕ × Members)) (m : Members) → EngagedHand source news hand → find k hand ≡ Some m → EngagedParked source news m.parked
+engaged_found source news k hand m h e = subst (EngagedMembers source news) e (found_hand source news k hand h)
 
 -- without an object the others are found as they were
 redrawn_without : (source : Source) (k : ℕ) (old hand : List (ℕ × Members)) → find k hand ≡ None → Redrawn source old hand → Redrawn source (without k old) hand
@@ -170,55 +165,59 @@ redrawn_without source k old (p ∷ hand) n h = by (nat_eq p.0 k) refl (redrawn_
         kept_side (inl x) = inl x
         kept_side (inr x) = inr (subst (λ y. y ≡ Some p.1) (sym (found_without p.0 k old (other p.0 k e))) x)
 
-redrawn_owed : (source : Source) (q : ℕ) (old hand : List (ℕ × Members)) → Redrawn source old hand → owed_hand source q hand ≤ owed_hand source q old
+redrawn_owed : (source : Source) (q : ℕ) (old hand : List (ℕ × Members)) → Redrawn source old hand → owed_hand q hand ≤ owed_hand q old
 redrawn_owed source q old [] h = omega arith
 redrawn_owed source q old (p ∷ hand) h = by h.0 (λ xs k. redrawn_owed source q xs hand k)
   where
-    by : Free source p.1 ⊎ (find p.0 old ≡ Some p.1) → ((xs : List (ℕ × Members)) → Redrawn source xs hand → owed_hand source q hand ≤ owed_hand source q xs) → owed_parked source q p.1.parked + owed_hand source q hand ≤ owed_hand source q old
+    by : Free source p.1 ⊎ (find p.0 old ≡ Some p.1) → ((xs : List (ℕ × Members)) → Redrawn source xs hand → owed_hand q hand ≤ owed_hand q xs) → owed_parked q p.1.parked + owed_hand q hand ≤ owed_hand q old
     by (inl x) rest = let a = x.nothing q in let b = rest old h.2 in omega (arith, a, b)
     by (inr x) rest =
-        let a = taken source q p.0 old in
+        let a = taken q p.0 old in
         let b = rest (without p.0 old) (redrawn_without source p.0 old hand h.1 h.2) in
-        let c = ap (owed_found source q) x in
+        let c = ap (owed_found q) x in
         omega (arith, a, b, c)
 
-redrawn_engaged : (source : Source) (old hand : List (ℕ × Members)) → EngagedHand source old → Redrawn source old hand → EngagedHand source hand
-redrawn_engaged source old [] k h = tt
-redrawn_engaged source old (p ∷ hand) k h = (by h.0, redrawn_engaged source old hand k h.2)
+redrawn_engaged : (source : Source) (news : ℕ → Bool) (old hand : List (ℕ × Members)) → EngagedHand source news old → Redrawn source old hand → EngagedHand source news hand
+redrawn_engaged source news old [] k h = tt
+redrawn_engaged source news old (p ∷ hand) k h = (by h.0, redrawn_engaged source news old hand k h.2)
   where
-    by : Free source p.1 ⊎ (find p.0 old ≡ Some p.1) → EngagedParked source p.1.parked
-    by (inl x) = x.parked
-    by (inr x) = engaged_found source p.0 old p.1 k x
+    by : Free source p.1 ⊎ (find p.0 old ≡ Some p.1) → EngagedParked source news p.1.parked
+    by (inl x) = parked_again source (λ o. false) news p.1.parked x.parked (λ q n. cc)
+    by (inr x) = engaged_found source news p.0 old p.1 k x
 
-drawn : (source : Source) (hand : List (ℕ × Members)) (s : State) → Deep source s → Redrawn source s.env.hand hand → Deep source (with_hand hand s)
-drawn source hand s h k = record {
-  first = h.first;
-  run = h.run;
-  one = h.one;
-  callers = h.callers;
-  env = record { house = h.env.house; hand = redrawn_engaged source s.env.hand hand h.env.hand k };
-  engaged = h.engaged;
-  depths = λ q. let a = h.depths q in let b = redrawn_owed source q s.env.hand hand k in omega (arith, a, b);
-}
+module _ (source : Source) (news : ℕ → Bool) where
+  drawn : (hand : List (ℕ × Members)) (s : State) → Deep source news s → Redrawn source s.env.hand hand → Deep source news (with_hand hand s)
+  drawn hand s h k = record {
+    first = h.first;
+    run = h.run;
+    new = h.new;
+    one = h.one;
+    callers = h.callers;
+    env = record { house = h.env.house; hand = redrawn_engaged source news s.env.hand hand h.env.hand k };
+    engaged = h.engaged;
+    depths = λ q. let a = h.depths q in let b = redrawn_owed source q s.env.hand hand k in omega (arith, a, b);
+  }
 
-drawn_behind : (source : Source) (hand : List (ℕ × Members)) (s : State) → DeepBehind source s → Redrawn source s.env.hand hand → DeepBehind source (with_hand hand s)
-drawn_behind source hand s h k = record {
-  first = h.first;
-  run = h.run;
-  one = h.one;
-  callers = h.callers;
-  env = record { house = h.env.house; hand = redrawn_engaged source s.env.hand hand h.env.hand k };
-  engaged = h.engaged;
-  depths = λ q. let a = h.depths q in let b = redrawn_owed source q s.env.hand hand k in omega (arith, a, b);
-}
+  drawn_behind : (hand : List (ℕ × Members)) (s : State) → DeepBehind source news s → Redrawn source s.env.hand hand → DeepBehind source news (with_hand hand s)
+  drawn_behind hand s h k = record {
+    first = h.first;
+    run = h.run;
+    new = tt;
+    one = h.one;
+    callers = h.callers;
+    env = record { house = h.env.house; hand = redrawn_engaged source news s.env.hand hand h.env.hand k };
+    engaged = h.engaged;
+    depths = λ q. let a = h.depths q in let b = redrawn_owed source q s.env.hand hand k in omega (arith, a, b);
+  }
 
-drawn_asked : (source : Source) (r : Request) (hand : List (ℕ × Members)) (s : State) → DeepAsk source r s → Redrawn source s.env.hand hand → DeepAsk source r (with_hand hand s)
-drawn_asked source (ask.Call o m) hand s h k = drawn source hand s h k
-drawn_asked source (ask.Make c) hand s h k = (h.0, drawn_behind source hand s h.1 k)
-drawn_asked source ask.Slice hand s h k = drawn source hand s h k
-drawn_asked source ask.End hand s h k = record { house = h.house; hand = redrawn_engaged source s.env.hand hand h.hand k }
-drawn_asked source (ask.Fault f) hand s h k = tt
-drawn_asked source r hand s h k = record { alone = h.alone; deep = drawn source hand s h.deep k }
+  drawn_asked : (r : Request) (hand : List (ℕ × Members)) (s : State) → DeepAsk source news r s → Redrawn source s.env.hand hand → DeepAsk source news r (with_hand hand s)
+  drawn_asked (ask.Call o m) hand s h k = drawn hand s h k
+  drawn_asked (ask.Make c) hand s h k = (h.0, drawn_behind hand s h.1 k)
+  drawn_asked ask.Slice hand s h k = drawn hand s h k
+  drawn_asked (ask.Spawn o) hand s h k = (record { alone = h.0.alone; deep = drawn hand s h.0.deep k }, h.1, let a = redrawn_owed source o s.env.hand hand k in let b = h.2 in omega (arith, a, b))
+  drawn_asked ask.End hand s h k = record { house = h.house; hand = redrawn_engaged source news s.env.hand hand h.hand k }
+  drawn_asked (ask.Fault f) hand s h k = tt
+  drawn_asked r hand s h k = record { alone = h.alone; deep = drawn hand s h.deep k }
 
 pub law_drawn : LawDrawn
-law_drawn = record { goes = drawn; asked = drawn_asked }
+law_drawn = record { goes = λ source news hand s h k. drawn source news hand s h k; asked = λ source news r hand s h k. drawn_asked source news r hand s h k }

@@ -1,5 +1,5 @@
 -- A task is as deep in each object as it is owed, or deeper.
-use Rattle.std.specs.Prelude.{◌≡◌, ℕ, ◌<◌, slice_get, List, ◌∷◌, Some, None, false}
+use Rattle.std.specs.Prelude.{◌≡◌, ℕ, ◌<◌, ◌⊎◌, slice_get, List, ◌∷◌, Some, None, Bool, true, false}
 use Rattle.uc_tree.specs.Source.{Source, routine_of}
 use Rattle.uc_entry.specs.Keyed.{find}
 use Rattle.uc_entry.specs.declared.request.Answer.{Answer}
@@ -13,52 +13,64 @@ use Rattle.uc_machine.specs.Answering.{answered, child_of, with_hand}
 use Rattle.uc_depth_laws.specs.Entering.{is_holding, EnteredSource}
 use Rattle.uc_depth_laws.specs.Owing.{marks, EngagedParked, Free, Redrawn, IsInside, Deep, DeepAsk, DeepStep, Fair, Sole, Alone}
 
--- an answer to a request: an object that is made is none of those in which the task is
-abbrev pub Suits : Request → Answer → State → Type 0
-Suits (ask.Call o m) a s = a ≡ answer.Go
-Suits ask.Slice a s = a ≡ answer.Go
-Suits (ask.Make c) a s = (o : ℕ) × (a ≡ answer.Object o) × (find o s.env.depths ≡ None)
-Suits ask.End a s = ⊥
-Suits (ask.Fault f) a s = ⊥
-Suits r a s = Unit {0}
+-- an answer to a request: an object that is made is none of those in which the task is, and new
+abbrev pub Suits : (ℕ → Bool) → Request → Answer → State → Type 0
+Suits news (ask.Call o m) a s = a ≡ answer.Go
+Suits news ask.Slice a s = a ≡ answer.Go
+Suits news (ask.Make c) a s = (o : ℕ) × (a ≡ answer.Object o) × (find o s.env.depths ≡ None) × (news o ≡ true)
+Suits news ask.End a s = ⊥
+Suits news (ask.Fault f) a s = ⊥
+Suits news r a s = Unit {0}
 
--- of any source in which objects are entered
+-- of any source in which objects are entered, and whichever objects are new
 pub record LawSteps : Type 0 where
   -- a task begins so, inside its own object
-  pub begins : (source : Source) → EnteredSource source → (r o : ℕ) → is_holding source r ≡ false →
-      Deep source (first_state (routine_of source r) o)
+  pub begins : (source : Source) → EnteredSource source → (news : ℕ → Bool) (r o : ℕ) →
+      is_holding source r ≡ false → Deep source news (first_state (routine_of source r) o)
   -- so does one that is spawned
-  pub born : (source : Source) → EnteredSource source → (o n : ℕ) (s : State) →
-      DeepAsk source (ask.Spawn o) s →
-      Deep source (child_of source n s)
+  pub born : (source : Source) → EnteredSource source → (news now : ℕ → Bool) (o n : ℕ) (s : State) →
+      DeepAsk source news (ask.Spawn o) s → Deep source now (child_of source n s)
   -- each quiet step keeps it
-  pub steps : (source : Source) → EnteredSource source → (s : State) → Deep source s → Fair source s →
-      DeepStep source s.env (quiet source s)
+  pub steps : (source : Source) → EnteredSource source → (news : ℕ → Bool) (s : State) →
+      Deep source news s → Fair source s → DeepStep source news s.env (quiet source s)
   -- and each answer
-  pub told : (source : Source) (r : Request) (given : Answer) (s : State) → DeepAsk source r s →
-      Suits r given s →
-      Deep source (answered source given s)
+  pub told : (source : Source) (news : ℕ → Bool) (r : Request) (given : Answer) (s : State) →
+      DeepAsk source news r s → Suits news r given s → Deep source news (answered source given s)
 
 -- whoever has a mark in the running activation, or in one that waits for it, is inside the object of that, and inside its own object
 pub record LawInside : Type 0 where
-  pub marked : (source : Source) (s : State) → Deep source s → (n : ℕ) (a : Active) →
-      slice_get (s.run ∷ s.callers) n ≡ Some a → 0 < marks a.control → IsInside (object_in a.this) s.env
-  pub own : (source : Source) (s : State) → Deep source s → IsInside s.env.own s.env
+  pub marked : (source : Source) (news : ℕ → Bool) (s : State) → Deep source news s → (n : ℕ)
+      (a : Active) → slice_get (s.run ∷ s.callers) n ≡ Some a → 0 < marks a.control →
+      IsInside (object_in a.this) s.env
+  pub own : (source : Source) (news : ℕ → Bool) (s : State) → Deep source news s →
+      IsInside s.env.own s.env
 
 -- what does not run in an object where nothing is engaged owes nothing
 abbrev pub LawFree : Type 0
 LawFree =
-    (source : Source) (m : Members) → EngagedParked source m.parked → has_engaged (Some m) ≡ false →
-    Free source m
+    (source : Source) (news : ℕ → Bool) (m : Members) → EngagedParked source news m.parked →
+    has_engaged (Some m) ≡ false → Free source m
 
 -- a hand that is drawn anew keeps it, for a task that goes on and for one that has asked something
 pub record LawDrawn : Type 0 where
-  pub goes : (source : Source) (hand : List (ℕ × Members)) (s : State) → Deep source s →
-      Redrawn source s.env.hand hand → Deep source (with_hand hand s)
-  pub asked : (source : Source) (r : Request) (hand : List (ℕ × Members)) (s : State) → DeepAsk source r s →
-      Redrawn source s.env.hand hand → DeepAsk source r (with_hand hand s)
+  pub goes : (source : Source) (news : ℕ → Bool) (hand : List (ℕ × Members)) (s : State) →
+      Deep source news s → Redrawn source s.env.hand hand → Deep source news (with_hand hand s)
+  pub asked : (source : Source) (news : ℕ → Bool) (r : Request) (hand : List (ℕ × Members)) (s : State) →
+      DeepAsk source news r s → Redrawn source s.env.hand hand →
+      DeepAsk source news r (with_hand hand s)
 
--- who lets go of an object has no other mark of it in the running activation: so nothing else is owed to the object as soon as neither older
--- activations owe it anything, nor what does not run
+-- so does another test of what is new, which tells at least as much to be so; and behind what spawns an object one may be left out that it
+-- spawns
+pub record LawRenewed : Type 0 where
+  pub asked : (source : Source) (news now : ℕ → Bool) → ((q : ℕ) → news q ≡ true → now q ≡ true) →
+      (r : Request) (s : State) → DeepAsk source news r s → DeepAsk source now r s
+  pub spawned : (source : Source) (news now : ℕ → Bool) (o : ℕ) →
+      ((q : ℕ) → news q ≡ true → (o ≡ q) ⊎ (now q ≡ true)) → (s : State) →
+      DeepAsk source news (ask.Spawn o) s → Deep source now s
+
+-- who lets go of an object has no other mark of it in the running activation: so nothing else is owed to the object as soon as what does not
+-- run owes it nothing and, where that is gone, older activations and the task itself do not. What is built is new, and so is not the own one
 abbrev pub LawAlone : Type 0
-LawAlone = (source : Source) (s : State) → Deep source s → Alone source s → Sole source s
+LawAlone =
+    (source : Source) (news : ℕ → Bool) (s : State) → Deep source news s → news s.env.own ≡ false →
+    Alone source s → Sole source s

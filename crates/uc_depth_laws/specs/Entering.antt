@@ -1,6 +1,7 @@
 -- Code in which what holds an object is called where that is entered: a routine whose statements are, as a whole, in a scope that lets
--- go of the object of its activation is called by a mutex call, by the making of an object or by its end, and by nothing else; and no
--- other statements stand in such a scope. Tasks and coroutines begin with mains.
+-- go of the object of its activation is called by a mutex call, by the making of an object or by its end, and by nothing else; one at whose
+-- end the object has been built, by the making of an object alone; and no other statements stand in such a scope. Tasks and coroutines
+-- begin with mains.
 use Rattle.std.specs.Prelude.{◌≡◌, ℕ, List, [], ◌∷◌, Option, Some, None, Bool, true, false, slice_get}
 use Rattle.uc_tree.specs.Source.{Expr, Exprs, ObjectExpr, Literal, Variable, Element, Get, Load, Negated, Not, AsCharacter, AsTruth, Operate, And, Or, Set, Assign, First, Update, StepBehind, Fail, Call, OfObject, NoExprs, MoreExprs, This, OwnField, GetOwn, FieldOf, Counted, CallOn, CallLive, CallUnwritten, EnterOn, EndOn, Bind, MakeOn, NewCluster, NewProcessor, EndCluster, EndProcessor, ConditionAt, Wait, Signal, SignalBlock, IsEmpty, FrontOf, Item, Show, ShowText, Target, Declared, CleanUp, Destroys, DestroysAll, Leaves, Ends, Frees, Stmt, Stmts, Skip, Block, Whole, Evaluate, Declare, Print, PrintTogether, Read, If, Loop, Break, Continue, Return, Owes, Fill, OfEvents, OfTasks, Nil, Then, Scoped, Built, Raised, Plainly, BuiltAt, AgainFrom, EventStmt, Throw, Raise, Try, RaiseAt, Enable, Disable, TaskStmt, SetUp, Migrate, Accept, Handlers, NoHandlers, MoreHandlers, Clauses, NoClauses, Otherwise, MoreClauses, Purpose, TaskMain, CoroutineMain, Routine, Source, routine_of}
 
@@ -11,14 +12,27 @@ lets_go Ends = true
 lets_go (Frees r) = true
 lets_go c = false
 
+-- the last of these
+abbrev pub frees : CleanUp → Bool
+frees (Frees r) = true
+frees c = false
+
 -- whether statements are, as a whole, in a scope that does
 abbrev pub holds_object : Stmts → Bool
 holds_object (Scoped c rest) = lets_go c
 holds_object body = false
 
+-- whether they are in one at whose end the object has been built
+abbrev pub frees_object : Stmts → Bool
+frees_object (Scoped c rest) = frees c
+frees_object body = false
+
 -- whether those of the routine of this number are
 abbrev pub is_holding : Source → ℕ → Bool
 is_holding source r = holds_object (routine_of source r).body
+
+abbrev pub is_building : Source → ℕ → Bool
+is_building source r = frees_object (routine_of source r).body
 
 -- a main ends in its own way: by what asks for the end of its task, or by what ends the coroutine
 abbrev pub EndsMain : Purpose → Type 0
@@ -71,8 +85,9 @@ module _ (source : Source) where
     EnteredObject (CallOn r e args) = (is_holding source r ≡ false) × EnteredExpr e × EnteredExprs args
     EnteredObject (CallLive r e args) = (is_holding source r ≡ false) × EnteredExpr e × EnteredExprs args
     EnteredObject (CallUnwritten r e) = (is_holding source r ≡ false) × EnteredExpr e
-    EnteredObject (EnterOn m r e args) = EnteredExpr e × EnteredExprs args
-    EnteredObject (EndOn r written e) = EnteredExpr e
+    -- what builds an object is called by what makes it alone
+    EnteredObject (EnterOn m r e args) = (is_building source r ≡ false) × EnteredExpr e × EnteredExprs args
+    EnteredObject (EndOn r written e) = (is_building source r ≡ false) × EnteredExpr e
     EnteredObject (Bind p e) = EnteredExpr p × EnteredExpr e
     EnteredObject (MakeOn c r written e args) = EnteredExpr e × EnteredExprs args
     EnteredObject NewCluster = Unit {0}

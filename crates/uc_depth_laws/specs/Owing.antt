@@ -1,16 +1,17 @@
 -- What a task owes the objects in which it is: each piece that lets go of the object of its activation is one mark, of which the activation
 -- still has to leave that object once.
-use Rattle.std.specs.Prelude.{◌≡◌, ℕ, suc, ◌+◌, ◌≤◌, ◌<◌, ◌⊎◌, List, [], ◌∷◌, length, drop, Option, Some, None, Bool, true, false, nat_eq, if◌then◌else◌}
-use Rattle.uc_tree.specs.Source.{Source, routine_of}
+use Rattle.std.specs.Prelude.{◌≡◌, ℕ, suc, ◌+◌, ◌≤◌, ◌<◌, ◌⊎◌, ◌&&◌, List, [], ◌∷◌, length, drop, Option, Some, None, Bool, true, false, nat_eq, if◌then◌else◌}
+use Rattle.uc_tree.specs.Source.{CleanUp, Stmts, Source, routine_of}
 use Rattle.uc_entry.specs.Keyed.{find}
 use Rattle.uc_entry.specs.declared.request.Request.{Request}
 use Rattle.uc_entry.specs.declared.request.Request.TheVariants as ask
 use Rattle.uc_machine.specs.Executions.{Links, Execution}
 use Rattle.uc_machine.specs.Insides.{is_held_up}
+use Rattle.uc_machine.specs.Switches.{without}
 use Rattle.uc_machine.specs.Monitors.{this_object}
 use Rattle.uc_machine.specs.Pieces as piece
 use Rattle.uc_machine.specs.Pieces.{Value, Todo, Active, State, Env, Members, Step, Goes, Ticks, Asks, at, top, below, object_in}
-use Rattle.uc_depth_laws.specs.Entering.{lets_go, holds_object, is_holding, EnteredExpr, EnteredExprs, EnteredMaybe, EnteredItems, EnteredTargets, EnteredDeclared, EnteredClean, EnteredStmt, EnteredBody, EnteredHandlers, EnteredClauses}
+use Rattle.uc_depth_laws.specs.Entering.{lets_go, frees, holds_object, frees_object, is_holding, is_building, EnteredExpr, EnteredExprs, EnteredMaybe, EnteredItems, EnteredTargets, EnteredDeclared, EnteredClean, EnteredStmt, EnteredBody, EnteredHandlers, EnteredClauses}
 
 abbrev pub Ex : Type 0
 Ex = Execution (List Todo) Value
@@ -69,6 +70,15 @@ next piece.Unwind = Skipped
 next (piece.Exit w) = Skipped
 next p = Any
 
+-- which objects are new is told by a test; to one that is, the activations which wait for what builds it owe nothing
+abbrev pub is_new : (ℕ → Bool) → Value → List Active → Bool
+is_new news v older = news (object_in v) && nat_eq (owed_waiting (object_in v) older) 0
+
+-- so it is for what an activation calls, which has this to do behind the call
+abbrev pub is_new_for : (ℕ → Bool) → Value → Value → List Todo → List Active → Bool
+is_new_for news v this todo older =
+    news (object_in v) && nat_eq (counted (object_in v) this (marks todo) + owed_waiting (object_in v) older) 0
+
 -- one is owed to the own object
 abbrev pub owed_own : ℕ → ℕ → ℕ
 owed_own q own = if nat_eq own q then 1 else 0
@@ -77,7 +87,15 @@ owed_own q own = if nat_eq own q then 1 else 0
 abbrev pub entries : Links → ℕ
 entries l = l.mutex_calls + l.builds
 
-module _ (source : Source) where
+-- what stands in to-do lists of an activation whose object is new, or is not
+module _ (source : Source) (new : Bool) where
+  -- only what has a new object builds it: in a scope, and as a whole
+  abbrev pub EnteredScope : CleanUp → Type 0
+  EnteredScope c = EnteredClean source c × (frees c ≡ true → new ≡ true)
+
+  abbrev pub EnteredWhole : Stmts → Type 0
+  EnteredWhole ss = EnteredBody source ss × (frees_object ss ≡ true → new ≡ true)
+
   abbrev pub EnteredPiece : Todo → Type 0
   EnteredPiece (piece.Eval e) = EnteredExpr source e
   EnteredPiece (piece.Choose e f) = EnteredExpr source e × EnteredExpr source f
@@ -95,14 +113,17 @@ module _ (source : Source) where
   EnteredPiece (piece.Targets xs) = EnteredTargets source xs
   EnteredPiece (piece.Variables ds) = EnteredDeclared source ds
   EnteredPiece (piece.Do a) = EnteredStmt source a
-  EnteredPiece (piece.Rest ss) = EnteredBody source ss
+  EnteredPiece (piece.Rest ss) = EnteredWhole ss
   EnteredPiece (piece.InLoop o t e b) = EnteredExpr source t × EnteredMaybe source e × EnteredStmt source b
-  EnteredPiece (piece.Clean c) = EnteredClean source c
+  EnteredPiece (piece.Clean c) = EnteredScope c
   EnteredPiece (piece.Sweep e) = EnteredExpr source e
   EnteredPiece (piece.Part c) = (lets_go c ≡ false) × EnteredClean source c
   EnteredPiece (piece.Guard hs) = EnteredHandlers source hs
   EnteredPiece (piece.SetUpNow r) = is_holding source r ≡ false
-  EnteredPiece (piece.SpawnNow r) = is_holding source r ≡ false
+  EnteredPiece (piece.EnterNow m r) = is_building source r ≡ false
+  EnteredPiece piece.MadeNow = new ≡ true
+  EnteredPiece (piece.SpawnNow r) = (new ≡ true) × (is_holding source r ≡ false)
+  EnteredPiece piece.GiveUpNow = new ≡ true
   EnteredPiece (piece.ChildNow r) = is_holding source r ≡ false
   EnteredPiece (piece.BindMadeNow c r) = ⊥
   EnteredPiece (piece.Guards cs) = EnteredClauses source cs
@@ -125,6 +146,7 @@ module _ (source : Source) where
   Entered f [] = Unit {0}
   Entered f (p ∷ todo) = Allowed f p × Entered (next p) todo
 
+module _ (source : Source) where
   -- an object that has been entered, or made, for the call that comes first is owed that already
   abbrev pub calling : ℕ → ℕ → Value → ℕ
   calling q r v = if is_holding source r then counted q v 1 else 0
@@ -135,24 +157,31 @@ module _ (source : Source) where
   owed_first q (piece.BindMadeNow c r ∷ todo) vs = calling q r (top vs)
   owed_first q todo vs = 0
 
+  -- where what is called first builds its object, that is new
+  abbrev pub IsNewFirst : (ℕ → Bool) → Value → List Active → List Todo → List Value → Type 0
+  IsNewFirst news this older (piece.CallOnNow r ∷ todo) vs = is_building source r ≡ true → is_new_for news (top (drop (routine_of source r).params vs)) this todo older ≡ true
+  IsNewFirst news this older (piece.CallUnwrittenNow r ∷ todo) vs = is_building source r ≡ true → is_new_for news (top (drop (routine_of source r).params vs)) this todo older ≡ true
+  IsNewFirst news this older (piece.BindMadeNow c r ∷ todo) vs = is_building source r ≡ true → is_new_for news (top vs) this todo older ≡ true
+  IsNewFirst news this older todo vs = Unit {0}
+
   abbrev pub first_marks : List Todo → ℕ
   first_marks (piece.CallOnNow r ∷ todo) = more (is_holding source r) 0
   first_marks (piece.CallUnwrittenNow r ∷ todo) = more (is_holding source r) 0
   first_marks (piece.BindMadeNow c r ∷ todo) = more (is_holding source r) 0
   first_marks todo = 0
 
+module _ (source : Source) (news : ℕ → Bool) where
   -- activations that wait, each with one mark at most
   abbrev pub AllEntered : List Active → Type 0
   AllEntered [] = Unit {0}
-  AllEntered (a ∷ rest) = Entered Any a.control × (marks a.control ≤ 1) × AllEntered rest
+  AllEntered (a ∷ rest) = Entered source (is_new news a.this rest) Any a.control × (marks a.control ≤ 1) × AllEntered rest
 
   -- an execution that does not run has as many mutex calls and buildings as marks, or more
   pub record Engaged (x : Ex) : Type 0 where
-    pub first : First
-    pub run : Entered first x.run.control
+    pub run : Entered source (is_new news x.run.this x.callers) Any x.run.control
     pub one : marks x.run.control ≤ 1
     pub callers : AllEntered x.callers
-    pub engaged : first_marks x.run.control + marks x.run.control + marks_waiting x.callers ≤ entries x.links
+    pub engaged : marks x.run.control + marks_waiting x.callers ≤ entries x.links
 
   abbrev pub EngagedSlot : Option Ex → Type 0
   EngagedSlot None = Unit {0}
@@ -175,39 +204,51 @@ module _ (source : Source) where
     pub house : EngagedParked e.house.parked
     pub hand : EngagedHand e.hand
 
-  -- what is owed to q by an execution that does not run, by all in a list, in hand, and of a task
+-- what is owed to q by an execution that does not run, by all in a list, in hand, and of a task
 
-  abbrev pub owed_ex : ℕ → Ex → ℕ
-  owed_ex q x = owed_first q x.run.control x.run.operands + owed_by q x.run + owed_waiting q x.callers
+abbrev pub owed_ex : ℕ → Ex → ℕ
+owed_ex q x = owed_by q x.run + owed_waiting q x.callers
 
-  abbrev pub owed_slot : ℕ → Option Ex → ℕ
-  owed_slot q None = 0
-  owed_slot q (Some x) = owed_ex q x
+abbrev pub owed_slot : ℕ → Option Ex → ℕ
+owed_slot q None = 0
+owed_slot q (Some x) = owed_ex q x
 
-  abbrev pub owed_parked : ℕ → List (ℕ × Option Ex) → ℕ
-  owed_parked q [] = 0
-  owed_parked q (p ∷ ps) = owed_slot q p.1 + owed_parked q ps
+abbrev pub owed_parked : ℕ → List (ℕ × Option Ex) → ℕ
+owed_parked q [] = 0
+owed_parked q (p ∷ ps) = owed_slot q p.1 + owed_parked q ps
 
-  abbrev pub owed_hand : ℕ → List (ℕ × Members) → ℕ
-  owed_hand q [] = 0
-  owed_hand q (p ∷ ps) = owed_parked q p.1.parked + owed_hand q ps
+abbrev pub owed_hand : ℕ → List (ℕ × Members) → ℕ
+owed_hand q [] = 0
+owed_hand q (p ∷ ps) = owed_parked q p.1.parked + owed_hand q ps
 
-  -- a task has to leave its own object once more, at its end
-  abbrev pub owed_env : ℕ → Env → ℕ
-  owed_env q e = owed_own q e.own + (owed_parked q e.house.parked + owed_hand q e.hand)
+-- a task has to leave its own object once more, at its end
+abbrev pub owed_env : ℕ → Env → ℕ
+owed_env q e = owed_own q e.own + (owed_parked q e.house.parked + owed_hand q e.hand)
 
-  -- but for what has been entered for the call that comes first
-  abbrev pub owed_behind : ℕ → State → ℕ
-  owed_behind q s = owed_by q s.run + owed_waiting q s.callers + owed_env q s.env
+-- of that, what executions owe that do not run: all, and those at home elsewhere than in the object
+abbrev pub owed_resting : ℕ → Env → ℕ
+owed_resting q e = owed_parked q e.house.parked + owed_hand q e.hand
 
+abbrev pub owed_elsewhere : ℕ → Env → ℕ
+owed_elsewhere q e = owed_parked q e.house.parked + owed_hand q (without q e.hand)
+
+-- all but what the running activation owes
+abbrev pub owed_else : ℕ → State → ℕ
+owed_else q s = owed_waiting q s.callers + owed_env q s.env
+
+-- all but what has been entered for the call that comes first
+abbrev pub owed_behind : ℕ → State → ℕ
+owed_behind q s = owed_by q s.run + owed_waiting q s.callers + owed_env q s.env
+
+module _ (source : Source) where
   abbrev pub owed : ℕ → State → ℕ
-  owed q s = owed_first q s.run.control s.run.operands + owed_behind q s
+  owed q s = owed_first source q s.run.control s.run.operands + owed_behind q s
 
 module _ (source : Source) where
   -- what is at home in an object and owes nothing
   pub record Free (m : Members) : Type 0 where
-    pub parked : EngagedParked source m.parked
-    pub nothing : (q : ℕ) → owed_parked source q m.parked ≡ 0
+    pub parked : EngagedParked source (λ o. false) m.parked
+    pub nothing : (q : ℕ) → owed_parked q m.parked ≡ 0
 
   -- a hand that is drawn anew: what is in it is what was, or owes nothing
   abbrev pub Redrawn : List (ℕ × Members) → List (ℕ × Members) → Type 0
@@ -250,36 +291,38 @@ Unheld (ask.Wait o c n) e = is_held_up o e ≡ false
 Unheld (ask.SignalBlock o c) e = is_held_up o e ≡ false
 Unheld r e = Unit {0}
 
-module _ (source : Source) where
+module _ (source : Source) (news : ℕ → Bool) where
   -- a task that goes on, or has asked for a new object and waits: each execution has as many mutex calls and buildings as marks, and the task
   -- is as deep in each object as it is owed, or deeper
-  pub record Engages (owing : ℕ → ℕ) (s : State) : Type 0 where
+  pub record Engages (owing : ℕ → ℕ) (New : Type 0) (s : State) : Type 0 where
     pub first : First
-    pub run : Entered source first s.run.control
+    pub run : Entered source (is_new news s.run.this s.callers) first s.run.control
+    pub new : New
     pub one : marks s.run.control ≤ 1
-    pub callers : AllEntered source s.callers
-    pub env : EngagedEnv source s.env
+    pub callers : AllEntered source news s.callers
+    pub env : EngagedEnv source news s.env
     pub engaged : first_marks source s.run.control + marks s.run.control + marks_waiting s.callers ≤ entries s.env.links
     pub depths : (q : ℕ) → owing q ≤ depth_at q s.env
 
   abbrev pub Deep : State → Type 0
-  Deep s = Engages (λ q. owed source q s) s
+  Deep s = Engages (λ q. owed source q s) (IsNewFirst source news s.run.this s.callers s.run.control s.run.operands) s
 
   abbrev pub DeepBehind : State → Type 0
-  DeepBehind s = Engages (λ q. owed_behind source q s) s
+  DeepBehind s = Engages (λ q. owed_behind q s) (Unit {0}) s
 
   -- no call is about to begin
   pub record DeepAlone (s : State) : Type 0 where
-    pub alone : Entered source Any s.run.control
+    pub alone : Entered source (is_new news s.run.this s.callers) Any s.run.control
     pub deep : Deep s
 
-  -- a task that has asked something, which the answer lets go on; behind an end and a fault nothing goes on, but what a task has in hand at
-  -- its end stays in order
+  -- a task that has asked something, which the answer lets go on; what it spawns is new until then, and nothing is owed to it any more;
+  -- behind an end and a fault nothing goes on, but what a task has in hand at its end stays in order
   abbrev pub DeepAsk : Request → State → Type 0
   DeepAsk (ask.Call o m) s = Deep s
   DeepAsk (ask.Make c) s = IsBinding s.run.control × DeepBehind s
   DeepAsk ask.Slice s = Deep s
-  DeepAsk ask.End s = EngagedEnv source s.env
+  DeepAsk (ask.Spawn o) s = DeepAlone s × (news o ≡ true) × (owed source o s ≡ 0)
+  DeepAsk ask.End s = EngagedEnv source news s.env
   DeepAsk (ask.Fault f) s = Unit {0}
   DeepAsk r s = DeepAlone s
 
@@ -294,12 +337,17 @@ module _ (source : Source) where
   DeepStep e (Ticks s) = Deep s
   DeepStep e (Asks r s) = DeepAsking e r s
 
+module _ (source : Source) where
+  -- what is owed but by what is at home in the object
+  abbrev pub owed_outside : ℕ → State → ℕ
+  owed_outside q s = owed_first source q s.run.control s.run.operands + owed_by q s.run + owed_waiting q s.callers + owed_own q s.env.own + owed_elsewhere q s.env
+
   -- what a step is to find: where an object has been made, the place that is bound to it; where one is let go of however deep the task
-  -- is, nothing else that is owed to it
+  -- is, nothing else that is owed to it, but by what is at home there where that is asked to let others in
   abbrev pub FairAt : List Todo → State → Type 0
   FairAt (piece.BindMadeNow c r ∷ todo) s = (routine_of source r).params < length (below s.run.operands)
-  FairAt (piece.MadeNow ∷ todo) s = owed source (this_object s) (at todo s.run.operands s) ≡ 0
-  FairAt (piece.SpawnNow r ∷ todo) s = owed source (this_object s) (at todo s.run.operands s) ≡ 0
+  FairAt (piece.MadeNow ∷ todo) s = owed_outside (this_object s) (at todo s.run.operands s) ≡ 0
+  FairAt (piece.SpawnNow r ∷ todo) s = owed_outside (this_object s) (at todo s.run.operands s) ≡ 0
   FairAt (piece.GoneNow ∷ todo) s = owed source (this_object s) (at todo s.run.operands s) ≡ 0
   FairAt (piece.GiveUpNow ∷ todo) s = owed source (this_object s) (at todo s.run.operands s) ≡ 0
   FairAt todo s = Unit {0}
@@ -312,15 +360,13 @@ module _ (source : Source) where
   abbrev pub Sole : State → Type 0
   Sole s = SoleAt s.run.control s
 
-  -- of that, what is owed by older activations of the running execution and by those that do not run, and as the own object
-  abbrev pub owed_else : ℕ → State → ℕ
-  owed_else q s = owed_waiting q s.callers + owed_env source q s.env
-
+  -- of that, what executions owe that do not run; and where an object is gone, what older activations of the running execution owe too, and as
+  -- the own object
   abbrev pub AloneAt : List Todo → State → Type 0
-  AloneAt (piece.MadeNow ∷ todo) s = owed_else (this_object s) s ≡ 0
-  AloneAt (piece.SpawnNow r ∷ todo) s = owed_else (this_object s) s ≡ 0
+  AloneAt (piece.MadeNow ∷ todo) s = owed_elsewhere (this_object s) s.env ≡ 0
+  AloneAt (piece.SpawnNow r ∷ todo) s = owed_elsewhere (this_object s) s.env ≡ 0
   AloneAt (piece.GoneNow ∷ todo) s = owed_else (this_object s) s ≡ 0
-  AloneAt (piece.GiveUpNow ∷ todo) s = owed_else (this_object s) s ≡ 0
+  AloneAt (piece.GiveUpNow ∷ todo) s = owed_resting (this_object s) s.env ≡ 0
   AloneAt todo s = Unit {0}
 
   abbrev pub Alone : State → Type 0

@@ -32,13 +32,14 @@ use Rattle.uc_rules.specs.ProgramVisits.{program_visits}
 use Rattle.uc_agreement.specs.Unbroken.{Unbroken}
 use Rattle.uc_sound.specs.Formed.{IsFormed}
 use Rattle.uc_depth_laws.proofs.Kept.{either}
-use Rattle.uc_depth_laws.specs.Entering.{is_holding, EnteredExpr, EnteredExprs}
-use Rattle.uc_enter_laws.proofs.Lookups.{routine_free, member_free}
+use Rattle.uc_depth_laws.specs.Entering.{is_holding, is_building, EnteredExpr, EnteredExprs}
+use Rattle.uc_enter_laws.proofs.Lookups.{routine_free, member_free, member_building}
 
 abbrev pub StandingEntered : Program → Standing → Type 0
 StandingEntered p (tree.AsRoutine r) = is_holding (source_of p) r ≡ false
 StandingEntered p (tree.AsMember r) = is_holding (source_of p) r ≡ false
 StandingEntered p (tree.AsLiveMember r) = is_holding (source_of p) r ≡ false
+StandingEntered p (tree.AsMutexMember m r) = is_building (source_of p) r ≡ false
 StandingEntered p x = Unit {0}
 
 -- what an expression stands for
@@ -116,9 +117,9 @@ module _ (p : Program) (formed : IsFormed p) (u : Unbroken (program_visits p)) w
   field_found c i w f base.Condition h = record { expr = tt; standing = tt }
   field_found c i w f b h = field_by (tree.has_number p (tree.field_type p c f.field)) f.field.declarator.by_ref (class_shape p i) f.number w (tree.field_type p c f.field) h
 
-  method_standing : (k : Kind) (w : Whose) (m : Option ℕ) (r : ℕ) → (m ≡ None → is_holding (source_of p) r ≡ false) → StandingEntered p (tree.method_standing k w m r)
-  method_standing k w (Some m) r h = tt
-  method_standing k w None r h = either (StandingEntered p) (is_coroutine k && tree.is_path w) (tree.AsLiveMember r) (tree.AsMember r) (h refl) (h refl)
+  method_standing : (k : Kind) (w : Whose) (m : Option ℕ) (r : ℕ) → (m ≡ None → is_holding (source_of p) r ≡ false) → is_building (source_of p) r ≡ false → StandingEntered p (tree.method_standing k w m r)
+  method_standing k w (Some m) r h b = b
+  method_standing k w None r h b = either (StandingEntered p) (is_coroutine k && tree.is_path w) (tree.AsLiveMember r) (tree.AsMember r) (h refl) (h refl)
 
   object_of : (w : Whose) → WhoseEntered w → EnteredExpr (source_of p) (tree.object_of_whose w)
   object_of Own h = tt
@@ -127,7 +128,7 @@ module _ (p : Program) (formed : IsFormed p) (u : Unbroken (program_visits p)) w
   method_by : (i : ℕ) (c : whole.Class) (w : Whose) (name : List ℕ) (r : Option ℕ) → class_at p i ≡ Some c → is_event c.kind ≡ false → member_from (routines_of p) 0 (number_at p i) name ≡ r → WhoseEntered w → MeantEntered p (tree.method_by p c w name r)
   method_by i c w name None at v e h = nothing
   method_by i c w name (Some r) at v e h =
-      record { expr = object_of w h; standing = method_standing c.kind w (member_number c name) r (λ m. member_free p formed u i c name r at v m e) }
+      record { expr = object_of w h; standing = method_standing c.kind w (member_number c name) r (λ m. member_free p formed u i c name r at v m e) (member_building p formed u i name r e) }
 
   member_by : (c : whole.Class) (i : ℕ) (w : Whose) (name : List ℕ) (f : Option NumberedField) → class_at p i ≡ Some c → WhoseEntered w → MeantEntered p (tree.member_by p c i w name f)
   member_by c i w name None at h = by (is_event c.kind) refl
@@ -249,7 +250,7 @@ module _ (p : Program) (formed : IsFormed p) (u : Unbroken (program_visits p)) w
   call_by (tree.AsRoutine r) root args n h k = record { expr = (n, args_by (tree.params_of p r) args k); standing = tt }
   call_by (tree.AsMember r) root args n h k = record { expr = (n, h.expr, args_by (tree.params_of p r) args k); standing = tt }
   call_by (tree.AsLiveMember r) root args n h k = record { expr = (n, h.expr, args_by (tree.params_of p r) args k); standing = tt }
-  call_by (tree.AsMutexMember m r) root args n h k = record { expr = (h.expr, args_by (tree.params_of p r) args k); standing = tt }
+  call_by (tree.AsMutexMember m r) root args n h k = record { expr = (n, h.expr, args_by (tree.params_of p r) args k); standing = tt }
   call_by (tree.AsCallOf c) root args n h k = condition_called c root.expr args h.expr k
   call_by x root args n h k = nothing
 

@@ -1,5 +1,6 @@
 pub mod Holding
 pub mod Mains
+pub mod Freeing
 pub mod Lookups
 pub mod Expressions
 pub mod Statements

@@ -9,6 +9,7 @@ use Rattle.uc_tree.specs.declared.kinds.Base.TheVariants as base
 use Rattle.uc_tree.specs.declared.kinds.Kind.{Kind}
 use Rattle.uc_tree.specs.declared.kinds.Kind.TheVariants as kind
 use Rattle.uc_tree.specs.declared.kinds.Role.{Role}
+use Rattle.uc_tree.specs.declared.kinds.Role.TheVariants as role
 use Rattle.uc_tree.specs.declared.rows.FieldClass.{FieldClass}
 use Rattle.uc_tree.specs.Cells.{classes_of, object_of_kind, object_named}
 use Rattle.uc_tree.specs.Names.{same_name}
@@ -25,12 +26,12 @@ use Rattle.uc_rules.specs.Names.{form_sig, method_sig}
 use Rattle.uc_rules.specs.ClassBreaks.{is_void_base, is_main_of_class, form_is_main, is_well_mained, members_declare}
 use Rattle.uc_rules.specs.ItemBreaks.{is_program_main, mains_in, main_breaks}
 use Rattle.uc_rules.specs.ProgramVisits.{program_visits}
-use Rattle.uc_typing.specs.Typing.{Sig}
+use Rattle.uc_typing.specs.Typing.{Sig, Makes}
 use Rattle.uc_agreement.specs.Unbroken.{Unbroken}
 use Rattle.uc_agreement.proofs.Ties.{some_same, none_some, false_true}
 use Rattle.uc_agreement.proofs.UnbrokenLemmas.{none_left, holds}
 use Rattle.uc_sound.specs.Formed.{IsFormed}
-use Rattle.uc_sound.specs.Tables.{table_of}
+use Rattle.uc_sound.specs.Tables.{role_inward, table_of}
 use Rattle.uc_sound.proofs.Lists.{left_is, right_is, both_are, any_at, get_right}
 use Rattle.uc_sound.proofs.ClassNames.{same_is, number_of, event_at}
 use Rattle.uc_sound.proofs.Origins.{Looked, looked, routine_looked, member_looked, event_looked}
@@ -40,11 +41,18 @@ use Rattle.uc_sound.proofs.BodyLemmas.{main_sig}
 use Rattle.uc_sound.proofs.ClassLemmas.{law_told}
 use Rattle.uc_sound.proofs.RoutineLemmas.{defined_routine, no_place, plain_place}
 use Rattle.uc_sound.proofs.MemberLemmas.{numbered_place, tells_maker}
-use Rattle.uc_depth_laws.specs.Entering.{is_holding, IsMain}
+use Rattle.uc_depth_laws.specs.Entering.{is_holding, is_building, IsMain}
 use Rattle.uc_enter_laws.proofs.Holding.{IsFree, free_routine, plain_routine}
 use Rattle.uc_enter_laws.proofs.Mains.{main_meant}
+use Rattle.uc_enter_laws.proofs.Freeing.{no_building, plain_building}
 
 -- whether a declaration makes a plain object of a class that is there
+
+-- a class with objects of its own
+pub record IsObjectClass (p : Program) (i : ℕ) : Type 0 where
+  pub class : whole.Class
+  pub at : class_at p i ≡ Some class
+  pub object : is_event class.kind ≡ false
 
 pub record IsPlainClass (p : Program) (i : ℕ) : Type 0 where
   pub class : whole.Class
@@ -55,6 +63,7 @@ pub record IsPlainClass (p : Program) (i : ℕ) : Type 0 where
 abbrev pub MakesPlain : Program → Option Making → Type 0
 MakesPlain p None = Unit {0}
 MakesPlain p (Some (APlain i)) = IsPlainClass p i
+MakesPlain p (Some (AMutex i)) = IsObjectClass p i
 MakesPlain p (Some m) = Unit {0}
 
 record NamedObject (cs : List whole.Class) (i : ℕ) (o : FieldClass) : Type 0 where
@@ -103,12 +112,17 @@ named_making : (p : Program) (name : List ℕ) (o : Option FieldClass) → objec
 named_making p name None e = tt
 named_making p name (Some o) e = by o.plain refl
   where
+    named : NamedObject (classes_of p.items) 0 o
+    named = named_object (classes_of p.items) 0 name o e
+
+    at : class_at p o.class ≡ Some named.class
+    at =
+        let same : named.n ≡ o.class = let z = named.place in omega (arith, z) in
+        subst (λ n. slice_get (classes_of p.items) n ≡ Some named.class) same named.at
+
     by : (b : Bool) → o.plain ≡ b → MakesPlain p (Some (if b then APlain o.class else AMutex o.class))
-    by true q =
-        let r = named_object (classes_of p.items) 0 name o e in
-        let same : r.n ≡ o.class = let z = r.place in omega (arith, z) in
-        record { class = r.class; at = subst (λ n. slice_get (classes_of p.items) n ≡ Some r.class) same r.at; plain = r.plain q; object = r.object }
-    by false q = tt
+    by true q = record { class = named.class; at = at; plain = named.plain q; object = named.object }
+    by false q = record { class = named.class; at = at; object = named.object }
 
 pub making_plain : (p : Program) (b : Base) → MakesPlain p (making p b)
 making_plain p base.Void = tt
@@ -230,6 +244,28 @@ module _ (p : Program) (formed : IsFormed p) (u : Unbroken (program_visits p)) w
       and_false : (b : Bool) → (b && false) ≡ false
       and_false true = refl
       and_false false = refl
+
+  -- a member builds no object
+  pub member_building : (i : ℕ) (name : List ℕ) (r : ℕ) → member_from (routines_of p) 0 (number_at p i) name ≡ Some r → is_building (source_of p) r ≡ false
+  member_building i name r e =
+      let class = number_at p i in
+      let k : Looked (is_member class name) (routines_of p) 0 (Some r) = looked (is_member class name) (routines_of p) 0 r (sym (member_looked (routines_of p) 0 class name) ∙ e) in
+      let d = k.defined in
+      let rest : (is_plain d.routine.sig.role && same_name d.routine.sig.name name) ≡ true = right_is (nat_eq d.number class) (is_plain d.routine.sig.role && same_name d.routine.sig.name name) k.passes in
+      subst (λ n. is_building (source_of p) n ≡ false) (at_place r k.n k.found) (plain_building p k.n d k.at (left_is (is_plain d.routine.sig.role) (same_name d.routine.sig.name name) rest))
+
+  -- nor does what destroys one
+  destroying : (b : Bool) → role_inward role.Destructor b ≡ Makes → ⊥
+  destroying true e = cc
+  destroying false e = cc
+
+  pub written_building : (i r : ℕ) → IsObjectClass p i → written_at p i role.Destructor ≡ Some r → is_building (source_of p) r ≡ false
+  written_building i r c e =
+      no_building p r (λ m. destroying ((table_of p).mutex i) (sym ((tells_maker p formed u i c.class role.Destructor c.at c.object refl).written_inward r e) ∙ m))
+
+  pub unwritten_building : (i : ℕ) → IsObjectClass p i → written_at p i role.Destructor ≡ None → is_building (source_of p) (unwritten_number p i role.Destructor) ≡ false
+  unwritten_building i c e =
+      no_building p (unwritten_number p i role.Destructor) (λ m. destroying ((table_of p).mutex i) (sym ((tells_maker p formed u i c.class role.Destructor c.at c.object refl).unwritten_inward e) ∙ m))
 
   -- what builds an event
   event_kind : (k : Kind) → is_event k ≡ true → is_mutex k ≡ false

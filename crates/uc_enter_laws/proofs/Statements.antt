@@ -19,7 +19,7 @@ use Rattle.uc_rules.specs.ProgramVisits.{program_visits}
 use Rattle.uc_agreement.specs.Unbroken.{Unbroken}
 use Rattle.uc_sound.specs.Formed.{IsFormed}
 use Rattle.uc_depth_laws.specs.Entering.{lets_go, EnteredExpr, EnteredMaybe, EnteredItems, EnteredTargets, EnteredDeclared, EnteredClean, EnteredRaised, EnteredStmt, EnteredStmts, EnteredHandlers, EnteredClauses}
-use Rattle.uc_enter_laws.proofs.Lookups.{IsPlainClass, MakesPlain, making_plain, event_free, written_free, unwritten_free}
+use Rattle.uc_enter_laws.proofs.Lookups.{IsObjectClass, IsPlainClass, MakesPlain, making_plain, event_free, written_free, unwritten_free, written_building, unwritten_building}
 use Rattle.uc_enter_laws.proofs.Expressions as expressions
 use Rattle.uc_enter_laws.proofs.Expressions.{MeantEntered, AllMeant}
 
@@ -34,9 +34,9 @@ module _ (p : Program) (formed : IsFormed p) (u : Unbroken (program_visits p)) w
   made_by i place args None h k = (h, tt)
   made_by i place args (Some r) h k = (h, expressions.args_by p formed u (tree.params_of p r) args k)
 
-  ended_by : (i : ℕ) (object : Expr) (r : Option ℕ) → EnteredExpr (source_of p) object → EnteredExpr (source_of p) (meaning.ended_by p i object r)
-  ended_by i object None h = h
-  ended_by i object (Some r) h = h
+  ended_by : (i : ℕ) (object : Expr) (r : Option ℕ) → IsObjectClass p i → written_at p i role.Destructor ≡ r → EnteredExpr (source_of p) object → EnteredExpr (source_of p) (meaning.ended_by p i object r)
+  ended_by i object None c e h = (unwritten_building p formed u i c e, h)
+  ended_by i object (Some r) c e h = (written_building p formed u i r c e, h)
 
   cluster_in : (args : List Meant) → AllMeant p args → EnteredExpr (source_of p) (meaning.cluster_in args)
   cluster_in [] h = tt
@@ -50,7 +50,7 @@ module _ (p : Program) (formed : IsFormed p) (u : Unbroken (program_visits p)) w
 
   destroyed : (m : Making) (place : Expr) → MakesPlain p (Some m) → EnteredExpr (source_of p) place → EnteredExpr (source_of p) (meaning.destroyed p m place)
   destroyed (APlain i) place c h = called_by i role.Destructor place [] (written_at p i role.Destructor) c refl refl h tt
-  destroyed (AMutex i) place c h = ended_by i (src.Load place) (written_at p i role.Destructor) h
+  destroyed (AMutex i) place c h = ended_by i (src.Load place) (written_at p i role.Destructor) c refl h
   destroyed ACluster place c h = h
   destroyed AProcessor place c h = h
 

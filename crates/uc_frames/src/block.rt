@@ -7,7 +7,7 @@ ghost use Rattle.uc_frames.specs.Calls.{call_frame};
 ghost use Rattle.uc_frames.specs.Machine.{below, cell_written, nought, top};
 ghost use Rattle.uc_frames.specs.Unwinding.{operands_of};
 
-use crate::cell::{Cell, written_over};
+use crate::cell::{Cell, is_writable};
 use crate::event::Event;
 use crate::frames::{clear, zeros};
 use std::alloc::{AllocError, Global};
@@ -120,15 +120,6 @@ impl Block {
         }
     }
 
-    // The newest operands go, so many of them.
-    #[inline(always)]
-    pub(crate) fn drop_newest(&mut self, count: u32)
-        ensures { self.new ≡ record self.old { operands = drop count self.old.operands } }
-    {
-        let left = left_of(self.cells.len(), self.newest.start, count);
-        self.cells.truncate(left);
-    }
-
     // All operands go.
     pub(crate) fn drop_all(&mut self)
         ensures { self.new ≡ record self.old { operands = [] } }
@@ -233,9 +224,17 @@ impl Block {
         self.read_older(depth, at)
     }
 
-    // The same where the frame is not the newest one.
+    // The same where the frame is not the newest one. It stands apart, so that what reads the newest one stays small.
     #[inline(never)]
     fn read_older(&self, depth: u32, at: u64) -> Cell
+        ensures { result ≡ slice_index_or (list_in (at_depth self.now.frames depth)) at nought }
+    {
+        self.read_at(depth, at)
+    }
+
+    // The same, where the frame is as likely an older one.
+    #[inline(always)]
+    pub(crate) fn read_at(&self, depth: u32, at: u64) -> Cell
         ensures { result ≡ slice_index_or (list_in (at_depth self.now.frames depth)) at nought }
     {
         match extent_at(self.newest, &self.older, depth) {
@@ -398,7 +397,9 @@ fn put_in(cells: &mut Vec<Cell>, extent: Extent, at: u64, cell: Cell)
     let at = at as usize;
     if at < extent.start - extent.base {
         let at = extent.base + at;
-        cells[at] = written_over(cells[at], cell);
+        if is_writable(&cells[at]) {
+            cells[at] = cell;
+        }
     }
 }
 

@@ -1,6 +1,7 @@
 // What a cell holds.
 
-ghost use Rattle.std.specs.Prelude.{◌≡◌};
+ghost use Rattle.std.specs.Prelude.{◌≡◌, if◌then◌else◌};
+ghost use Rattle.uc_frames.specs.declared.cell.Cell.{Cell};
 ghost use Rattle.uc_frames.specs.Machine.{cell_number, exec_in as exec_named, shifted, stored};
 
 use uc_machine::exec::{Exec, Owner};
@@ -54,15 +55,16 @@ pub fn further_on(by: u64, cell: Cell) -> Cell
     }
 }
 
-// What is in a cell once another is written to it: a binding stays.
-pub(crate) fn written_over(old: Cell, cell: Cell) -> Cell
-    ensures { result ≡ stored cell old }
+// Whether another cell may be written over this one: a binding stays.
+#[inline(always)]
+pub(crate) fn is_writable(old: &Cell) -> bool
+    ensures { (cell : Cell) → stored cell old.now ≡ (if result then cell else old.now) }
 {
     match old {
-        Cell::Number(_) => cell,
-        Cell::Place(_, _) => old,
-        Cell::Running(_) => old,
-        Cell::Object(_) => old,
-        Cell::Nothing => cell,
+        Cell::Number(_) => true,
+        Cell::Place(_, _) => false,
+        Cell::Running(_) => false,
+        Cell::Object(_) => false,
+        Cell::Nothing => true,
     }
 }

@@ -41,10 +41,5 @@ pub(crate) fn event_of(pending: Pending) -> Event
 pub(crate) fn event_number(cell: Cell) -> u8
     ensures { result ≡ byte_of (cell_number cell) }
 {
-    let number = number_in(cell);
-    if 0 <= number && number < 256 {
-        number as u8
-    } else {
-        0
-    }
+    u8::try_from(number_in(cell)).unwrap_or(0)
 }

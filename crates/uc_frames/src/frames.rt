@@ -4,7 +4,7 @@ ghost use Rattle.std.specs.Prelude.{◌≡◌, length, replicate, IfOk, slice_in
 ghost use Rattle.uc_machine.specs.Executions.{values_cleared};
 ghost use Rattle.uc_frames.specs.Machine.{nought, cell_written};
 
-use crate::cell::{Cell, written_over};
+use crate::cell::{Cell, is_writable};
 use std::alloc::{AllocError, Global};
 
 // So many cells that are 0.
@@ -32,7 +32,9 @@ pub(crate) fn put(cells: &mut [Cell], at: u64, cell: Cell)
 {
     let at = at as usize;
     if at < cells.len() {
-        cells[at] = written_over(cells[at], cell);
+        if is_writable(&cells[at]) {
+            cells[at] = cell;
+        }
     }
 }
 

@@ -46,7 +46,7 @@ impl ParkedStack {
     pub(crate) fn read(&self, depth: u32, at: u64) -> Cell
         ensures { result ≡ slice_index_or (list_in (at_depth self.now.frames depth)) at nought }
     {
-        self.stack.block.read(depth, at)
+        self.stack.block.read_at(depth, at)
     }
 
     // A cell is written at a place of a frame; a binding stays.

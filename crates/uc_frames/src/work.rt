@@ -76,6 +76,7 @@ impl Work {
     }
 
     /// What a cell of the frame of the running activation holds.
+    #[inline(always)]
     pub fn get(&self, cell: u32) -> Cell
         ensures { result ≡ loaded (shifted cell (Cell.Place (this_frame self.now) 0)) self.now.env }
     {
@@ -84,6 +85,7 @@ impl Work {
     }
 
     /// A cell of the frame of the running activation is written; a binding stays.
+    #[inline(always)]
     pub fn set(&mut self, cell: u32, value: Cell)
         ensures { self.new ≡ record self.old { env = written (shifted cell (Cell.Place (this_frame self.old) 0)) value self.old.env } }
     {
@@ -110,7 +112,7 @@ impl Work {
         match owner {
             Owner::Frame { exec, depth } => {
                 if self.runs(exec) {
-                    return self.task.running.block.read(depth, at);
+                    return self.task.running.block.read_at(depth, at);
                 }
                 match self.parked(exec) {
                     None => Cell::Number(0),
@@ -155,6 +157,7 @@ impl Work {
 
     /// Writes a cell to a place, of a mutex object to its first field. Where the place holds a binding, or the cell is no place, or nothing in
     /// hand is there, all stays as it is.
+    #[inline(always)]
     pub fn write(&mut self, place: Cell, cell: Cell)
         ensures { self.new ≡ record self.old { env = written place cell self.old.env } }
     {
@@ -167,6 +170,7 @@ impl Work {
         }
     }
 
+    #[inline(always)]
     fn write_at(&mut self, owner: Owner, at: u64, cell: Cell)
         ensures { self.new ≡ record self.old { env = with_owned owner (cell_written at cell) self.old.env } }
     {
@@ -182,6 +186,7 @@ impl Work {
         }
     }
 
+    #[inline(never)]
     fn write_parked(&mut self, exec: Exec, depth: u32, at: u64, cell: Cell)
         ensures { self.new ≡ record self.old { env = change exec.home (frames_changed exec.serial (frame_changed depth (cell_written at cell))) self.old.env } }
     {
@@ -200,6 +205,7 @@ impl Work {
         }
     }
 
+    #[inline(never)]
     fn write_field(&mut self, object: u32, at: u64, cell: Cell)
         ensures { self.new ≡ record self.old { env = with_owned (Owner.Fields object) (cell_written at cell) self.old.env } }
     {

@@ -329,18 +329,18 @@ module _ (h : Home) (o : ℕ) where
       further (inl i) = inl i
       further (inr m) = inr (record { at = suc m.at; active = m.active; there = m.there; this = m.this; marked = m.marked })
 
-module _ (part : ℕ → Part) (source : Source) (mine : ℕ) (s : State) (h : StandsState part source mine s) (deep : Deep source s) where
+module _ (part : ℕ → Part) (source : Source) (mine : ℕ) (s : State) (h : StandsState part source mine s) (news : ℕ → Bool) (deep : Deep source news s) where
   -- by a mark, or at home in it
   is_inside : (o : ℕ) → Backs s.env.exec.home o (s.run ∷ s.callers) → IsInside o s.env ⊎ ((s.env.exec.home ≡ home.Object o) × (is_some (find o s.env.hand) ≡ true))
   is_inside o b = by (backing s.env.exec.home o (s.run ∷ s.callers) b)
     where
       in_home : (k : Home) → IsHere s.env.own s.env.hand k → IsHome k o → IsInside o s.env ⊎ ((k ≡ home.Object o) × (is_some (find o s.env.hand) ≡ true))
-      in_home (home.Task t) e i = inl (subst (λ q. IsInside q s.env) (sym e ∙ i) (law_inside.own source s deep))
+      in_home (home.Task t) e i = inl (subst (λ q. IsInside q s.env) (sym e ∙ i) (law_inside.own source news s deep))
       in_home (home.Object q) e i = inr (ap home.Object i, subst (λ k. is_some (find k s.env.hand) ≡ true) i e)
 
       by : IsHome s.env.exec.home o ⊎ Marked s.env.exec.home o (s.run ∷ s.callers) → IsInside o s.env ⊎ ((s.env.exec.home ≡ home.Object o) × (is_some (find o s.env.hand) ≡ true))
       by (inl i) = in_home s.env.exec.home h.here i
-      by (inr m) = inl (subst (λ q. IsInside q s.env) m.this (law_inside.marked source s deep m.at m.active m.there m.marked))
+      by (inr m) = inl (subst (λ q. IsInside q s.env) m.this (law_inside.marked source news s deep m.at m.active m.there m.marked))
 
   in_hand : (t : State) → ((q : ℕ) → is_some (find q s.env.hand) ≡ true → is_some (find q t.env.hand) ≡ true) → (o : ℕ) → Backs s.env.exec.home o (s.run ∷ s.callers) → IsInside o s.env ⊎ (is_some (find o t.env.hand) ≡ true)
   in_hand t k o b = by (is_inside o b)
@@ -375,9 +375,9 @@ module _ (part : ℕ → Part) (source : Source) (mine : ℕ) (s : State) (h : S
   asked t x k r i v = tt
 
 pub law_is_inside : LawInside
-law_is_inside part source known mine s h deep r t e =
+law_is_inside part source known mine news s h deep r t e =
     let a : StandsAsking part source mine s r t = subst (StandsStep part source mine s) e (walk part source mine known s h) in
-    asked part source mine s h deep t a.exec a.hand r a.inside a.state
+    asked part source mine s h news deep t a.exec a.hand r a.inside a.state
 
 pub law_fair : LawFair
 law_fair part source mine s h a = fair part source mine s h s.run.control refl a

@@ -5,12 +5,13 @@ use Rattle.uc_tree.specs.Source.{Expr, Exprs, ObjectExpr, OfObject, NoExprs, Mor
 use Rattle.uc_depth_laws.specs.Entering.{lets_go, IsMain}
 use Rattle.uc_inner_laws.specs.Walks as walk
 
--- what a routine is for its callers: any one; a helper of an object, or the main of a cormonitor, which waits, signals or accepts without
--- holding its object; or one that builds a mutex object
+-- what a routine is for its callers: any one; a helper of an object, which waits, signals or accepts without holding its object; one that
+-- builds a mutex object; or the main of a task or of a cormonitor, which does what a helper does, and which nobody calls
 pub data Part : Type 0 where
   Plain : Part
   Helper : Part
   Maker : Part
+  Uncalled : Part
 
 -- what is known of a place: whether the task is inside the object of the activation, and whether that is a mutex object that it builds
 pub record Ground : Type 0 where
@@ -22,6 +23,7 @@ abbrev pub ground_of : Part → Ground
 ground_of Plain = record { inside = false; made = false }
 ground_of Helper = record { inside = true; made = false }
 ground_of Maker = record { inside = false; made = true }
+ground_of Uncalled = record { inside = true; made = false }
 
 -- in a scope that lets go of the object of the activation, the task is inside that
 abbrev pub under : CleanUp → Ground → Ground
@@ -53,6 +55,7 @@ module _ (part : ℕ → Part) (source : Source) where
   CalledOn g Plain e = Unit {0}
   CalledOn g Helper e = (g.inside ≡ true) × (e ≡ OfObject This)
   CalledOn g Maker e = ⊥
+  CalledOn g Uncalled e = ⊥
 
   abbrev pub AtCall : ℕ → Exprs → Type 0
   AtCall r args = IsPlain r (count args)
@@ -74,8 +77,9 @@ module _ (part : ℕ → Part) (source : Source) where
   -- the main of a coroutine waits for nothing, but for that of a cormonitor, which is set up as that is built
   abbrev pub SetsUp : Ground → Part → Type 0
   SetsUp g Plain = Unit {0}
-  SetsUp g Helper = g.made ≡ true
+  SetsUp g Helper = ⊥
   SetsUp g Maker = ⊥
+  SetsUp g Uncalled = g.made ≡ true
 
   abbrev pub AtTask : Ground → TaskStmt → Type 0
   AtTask g (Accept line site cs) = g.inside ≡ true

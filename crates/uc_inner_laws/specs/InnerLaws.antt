@@ -1,5 +1,5 @@
 -- Whoever waits, signals or accepts in an object is inside it, and a new object finds its place.
-use Rattle.std.specs.Prelude.{◌≡◌, ℕ, ◌⊎◌, true, false, is_some}
+use Rattle.std.specs.Prelude.{◌≡◌, ℕ, ◌⊎◌, Bool, true, false, is_some}
 use Rattle.uc_tree.specs.Source.{Source, routine_of}
 use Rattle.uc_entry.specs.Keyed.{find}
 use Rattle.uc_entry.specs.declared.request.Answer.{Answer}
@@ -48,8 +48,8 @@ IsAt r s t = Unit {0}
 
 abbrev pub LawInside : Type 0
 LawInside =
-    (part : ℕ → Part) (source : Source) → InnerSource part source → (mine : ℕ) (s : State) →
-    StandsState part source mine s → Deep source s → (r : Request) (t : State) →
+    (part : ℕ → Part) (source : Source) → InnerSource part source → (mine : ℕ) (news : ℕ → Bool)
+    (s : State) → StandsState part source mine s → Deep source news s → (r : Request) (t : State) →
     quiet source s ≡ Asks r t → IsAt r s t
 
 -- and each step finds what the laws of depths ask, as soon as nothing else is owed to an object that is let go of however deep the task is

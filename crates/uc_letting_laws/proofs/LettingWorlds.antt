@@ -1,7 +1,7 @@
 -- In every run tasks are as deep in objects as they owe them, as long as each step finds what it is to find.
-use Rattle.std.proofs.Common.{◌≡◌, ℕ, suc, ◌==◌, ◌<◌, ◌≤◌, ◌||◌, ◌⊎◌, inl, inr, Bool, true, false, List, [], ◌∷◌, ◌++◌, Option, Some, None, refl, sym, ap, ◌∙◌, subst, arith, ⊎_elim}
-use Rattle.std.specs.Prelude.{nat_eq, is_some, if◌then◌else◌}
-use Rattle.std.proofs.lemmas.Bool.{eqb-true, eq-eqb, cases_lt}
+use Rattle.std.proofs.Common.{◌≡◌, ℕ, suc, ◌==◌, ◌<◌, ◌≤◌, ◌||◌, ◌⊎◌, inl, inr, Bool, true, false, not, List, [], ◌∷◌, ◌++◌, Option, Some, None, length, ◌+◌, refl, sym, ap, ◌∙◌, subst, arith, ⊎_elim}
+use Rattle.std.specs.Prelude.{pos, nat_eq, nat_lt, is_some, if◌then◌else◌}
+use Rattle.std.proofs.lemmas.Bool.{eqb-true, eq-eqb, ne_eqb, cases_lt}
 use Rattle.uc_tree.specs.Source.{Source, routine_of}
 use Rattle.uc_entry.specs.declared.entry.Entry.{Entry}
 use Rattle.uc_entry.specs.declared.entry.Options.{Options}
@@ -11,13 +11,16 @@ use Rattle.uc_entry.specs.declared.request.Asked.{Asked}
 use Rattle.uc_entry.specs.declared.request.Request.{Request}
 use Rattle.uc_entry.specs.declared.request.Request.TheVariants as ask
 use Rattle.uc_entry.specs.Keyed.{find}
-use Rattle.uc_acts.specs.Journal.{Journal, begin, cost, inside, held, is_over, own_object}
-use Rattle.uc_acts.specs.Known.{has, task_count, has_ended, spawns, takes_out}
+use Rattle.uc_acts.specs.Journal.{Journal, begin, cost, asking as asking_entry, inside, held, is_over, own_object}
+use Rattle.uc_acts.specs.Known.{has, owner, object_count, task_count, has_ended, spawns, takes_out}
 use Rattle.uc_acts.specs.Answers.{just_made}
 use Rattle.uc_acts.specs.Serves.{Serves}
 use Rattle.uc_acts.specs.Sound.{Sound, Spot}
 use Rattle.uc_acts.specs.Laws.{Makes}
-use Rattle.uc_acts.specs.Acts.{act, row, dispatch, lone_limit}
+use Rattle.uc_acts.specs.Acts.{act, row, dispatch, lone_limit, or_fault, fault}
+use Rattle.uc_acts.proofs.Rows.{Lawful}
+use Rattle.uc_tree.specs.declared.limits.TheConstants.{OBJECTS}
+use Rattle.uc_entry.specs.declared.entry.EntryKind.TheVariants as kind
 use Rattle.uc_acts.specs.KernelRuns.{InRange, Fits, MayAsk}
 use Rattle.uc_acts.proofs.Bounds.{over_limit}
 use Rattle.uc_acts.proofs.Given.{law_dispatch}
@@ -46,28 +49,32 @@ use Rattle.uc_step_laws.proofs.Kept.{either}
 use Rattle.uc_program_laws.specs.Fitting.{MayFit, RunFits}
 use Rattle.uc_program_laws.proofs.Alive.{law_alive}
 use Rattle.uc_program_laws.proofs.Ticks.{no_both, not_true}
-use Rattle.uc_program_laws.proofs.Makes.{makes, run_after, same_holder, law_ends}
+use Rattle.uc_program_laws.proofs.Makes.{makes, one_new, just_made_given, run_after, same_holder, law_ends}
 use Rattle.uc_program_laws.proofs.Worlds.{IsThere, none_found}
 use Rattle.uc_program_laws.proofs.Others.{RunRests, run_rests, may_ask, asking as asks_with}
 use Rattle.uc_depth_laws.specs.Entering.{EnteredSource}
 use Rattle.uc_depth_laws.proofs.Alone.{law_alone}
 use Rattle.uc_depth_laws.specs.Owing as owing
-use Rattle.uc_depth_laws.specs.Owing.{EngagedParked, EngagedHand, EngagedMembers, Free, Redrawn, IsInside as IsDeepInside, Deep, DeepAsk, LetsGo, Unheld}
+use Rattle.uc_depth_laws.specs.Owing.{EngagedParked, EngagedHand, Free, depth_in, Alone, Sole, Redrawn, IsInside as IsDeepInside, Deep, DeepAsk, LetsGo, Unheld}
 use Rattle.uc_depth_laws.specs.DepthLaws.{Suits, LawSteps, LawFree, LawDrawn}
 use Rattle.uc_depth_laws.proofs.Answers.{law_steps}
+use Rattle.uc_depth_laws.proofs.Depths.{own_one}
+use Rattle.uc_depth_laws.proofs.Renewed.{law_renewed}
 use Rattle.uc_depth_laws.proofs.Standing.{law_free, law_drawn}
 use Rattle.uc_inner_laws.specs.Inner.{Part, InnerSource}
 use Rattle.uc_inner_laws.specs.Standing.{StandsState, StandsAsk, StandsStep, StandsAsking, GivesUp}
 use Rattle.uc_inner_laws.specs.InnerLaws.{IsAt}
 use Rattle.uc_inner_laws.proofs.Walk.{law_steps as inner_steps, law_is_inside, law_fair}
 use Rattle.uc_letting_laws.specs.AloneRuns.{AskAlone, RideAlone, MayAlone, RunAlone}
-use Rattle.uc_letting_laws.specs.LettingLaws.{AsksInHand, LawInHand}
+use Rattle.uc_letting_laws.specs.LettingLaws.{AsksInHand, OwnersFit, LawInHand, LawOwners}
 use Rattle.uc_letting_laws.proofs.StandingWorlds.{Binds, no_binding, IsApart, StandingWorld, found_has, standing_start, standing_act, standing_given, standing_begin}
 use Rattle.uc_hand_laws.specs.Deep as deep
 use Rattle.uc_hand_laws.specs.Deep.{deep_in}
 use Rattle.uc_hand_laws.proofs.Walk.{walk}
 use Rattle.uc_hand_laws.proofs.Lists.{Once, first_once, once_rest}
-use Rattle.uc_letting_laws.proofs.Insiders.{GoesOut, Insiders, row_insiders}
+use Rattle.uc_letting_laws.proofs.Insiders.{GoesOut, Kicks, Insiders, row_kicks, row_insiders}
+use Rattle.uc_letting_laws.proofs.NewObjects.{made_for, gives_away, is_fresh, new_for, both_hold, both_are, own_not_new, nobody, owner_more, owner_stays, new_unowned, new_made, fresh_stays, new_stays, gives_more, Makers, makers_stay, fresh_made, makers_given, makers_begin}
+use Rattle.uc_letting_laws.proofs.Owners.{own_same, own_given}
 use Rattle.uc_hand_laws.proofs.Places.{flipped, still}
 use Rattle.uc_hand_laws.proofs.Rows.{over_by}
 use Rattle.uc_hand_laws.proofs.DeepWorlds.{DeepWorld, known, deep_in_hand, deep_run, ended_before, spawns_none, spawned_by, spawned_true}
@@ -165,12 +172,12 @@ some_found o (p ∷ ps) h = by (nat_eq p.0 o) (some_found o ps) h
     by true ih h = tt
     by false ih h = ih h
 
-found_engaged : (source : Source) (o : ℕ) (ps : List (ℕ × Members)) (m : Members) → EngagedHand source ps → find o ps ≡ Some m → EngagedParked source m.parked
-found_engaged source o [] m h e = cc
-found_engaged source o (p ∷ ps) m h e = by (nat_eq p.0 o) e (found_engaged source o ps m h.1)
+found_engaged : (source : Source) (news : ℕ → Bool) (o : ℕ) (ps : List (ℕ × Members)) (m : Members) → EngagedHand source news ps → find o ps ≡ Some m → EngagedParked source news m.parked
+found_engaged source news o [] m h e = cc
+found_engaged source news o (p ∷ ps) m h e = by (nat_eq p.0 o) e (found_engaged source news o ps m h.1)
   where
-    by : (b : Bool) → (if b then Some p.1 else find o ps) ≡ Some m → (find o ps ≡ Some m → EngagedParked source m.parked) → EngagedParked source m.parked
-    by true g ih = let same : p.1 ≡ m = cc in subst (λ n. EngagedParked source n.parked) same h.0
+    by : (b : Bool) → (if b then Some p.1 else find o ps) ≡ Some m → (find o ps ≡ Some m → EngagedParked source news m.parked) → EngagedParked source news m.parked
+    by true g ih = let same : p.1 ≡ m = cc in subst (λ n. EngagedParked source news n.parked) same h.0
     by false g ih = ih g
 
 -- rides
@@ -191,8 +198,8 @@ AsksAt own ks u ask.End = has ks own ≡ true
 AsksAt own ks u r = Unit {0}
 
 module _ (part : ℕ → Part) (source : Source) (entered : EnteredSource source) (inner : InnerSource part source) (steps : LawSteps) (own : ℕ) where
-  pub record RideOwes (ks : List ℕ) (r : Request) (u : State) : Type 0 where
-    pub state : DeepAsk source r u
+  pub record RideOwes (news : ℕ → Bool) (ks : List ℕ) (r : Request) (u : State) : Type 0 where
+    pub state : DeepAsk source news r u
     pub stands : StandsAsk part source own r u
     pub asks : AsksAt own ks u r
     pub unheld : Unheld r u.env
@@ -232,39 +239,65 @@ module _ (part : ℕ → Part) (source : Source) (entered : EnteredSource source
       by (p ∷ l) e h = k (λ g. subst GivesUp e g) h
   apart_at s r t k i = tt
 
-  pub ride_owes : (ks : List ℕ) (s : State) (q : ℕ) (u : State) (k : ℕ) (a : Asked) (r : Rides source s q u k a) → RideAlone source s q u k a r → Deep source s → StandsState part source own s → deep_in s ≡ ks → RideOwes ks a.request u
-  ride_owes ks _ _ _ _ _ rides.slices f d v e = record { state = d; stands = v; asks = tt; unheld = tt; apart = tt }
-  ride_owes ks _ _ _ _ _ (rides.goes_on {s} {t} {u} {q} {k} {a} g r) f d v e =
-      ride_owes ks t (suc q) u k a r f.1 (subst (owing.DeepStep source s.env) g (steps.steps source entered s d (law_fair part source own s v (law_alone source s d f.0)))) (subst (StandsStep part source own s) g (inner_steps.steps part source inner own s v)) (subst (deep.DeepStep ks) g (walk ks source s e))
-  ride_owes ks _ _ _ _ _ (rides.ticks {s} {t} {u} {q} {k} {a} g r) f d v e =
-      ride_owes ks t q u k a r f.1 (subst (owing.DeepStep source s.env) g (steps.steps source entered s d (law_fair part source own s v (law_alone source s d f.0)))) (subst (StandsStep part source own s) g (inner_steps.steps part source inner own s v)) (subst (deep.DeepStep ks) g (walk ks source s e))
-  ride_owes ks _ _ _ _ _ (rides.asks {s} {t} {q} {r} g) f d v e =
-      let x : owing.DeepAsking source s.env r t = subst (owing.DeepStep source s.env) g (steps.steps source entered s d (law_fair part source own s v (law_alone source s d f.0))) in
-      let y : StandsAsking part source own s r t = subst (StandsStep part source own s) g (inner_steps.steps part source inner own s v) in
-      record { state = x.state; stands = y.state; asks = asks_at ks s r t x.inside (law_is_inside part source inner own s v d r t g) e v.own; unheld = x.unheld; apart = apart_at s r t f.1 (law_is_inside part source inner own s v d r t g) }
+  module _ (news : ℕ → Bool) (mine : news own ≡ false) where
+    -- nothing else is owed to what is let go of
+    sole : (s : State) → Alone source s → Deep source news s → StandsState part source own s → Sole source s
+    sole s f d v = law_alone source news s d (ap news v.own ∙ mine) f
+
+    pub ride_owes : (ks : List ℕ) (s : State) (q : ℕ) (u : State) (k : ℕ) (a : Asked) (r : Rides source s q u k a) → RideAlone source s q u k a r → Deep source news s → StandsState part source own s → deep_in s ≡ ks → RideOwes news ks a.request u
+    ride_owes ks _ _ _ _ _ rides.slices f d v e = record { state = d; stands = v; asks = tt; unheld = tt; apart = tt }
+    ride_owes ks _ _ _ _ _ (rides.goes_on {s} {t} {u} {q} {k} {a} g r) f d v e =
+        ride_owes ks t (suc q) u k a r f.1 (subst (owing.DeepStep source news s.env) g (steps.steps source entered news s d (law_fair part source own s v (sole s f.0 d v)))) (subst (StandsStep part source own s) g (inner_steps.steps part source inner own s v)) (subst (deep.DeepStep ks) g (walk ks source s e))
+    ride_owes ks _ _ _ _ _ (rides.ticks {s} {t} {u} {q} {k} {a} g r) f d v e =
+        ride_owes ks t q u k a r f.1 (subst (owing.DeepStep source news s.env) g (steps.steps source entered news s d (law_fair part source own s v (sole s f.0 d v)))) (subst (StandsStep part source own s) g (inner_steps.steps part source inner own s v)) (subst (deep.DeepStep ks) g (walk ks source s e))
+    ride_owes ks _ _ _ _ _ (rides.asks {s} {t} {q} {r} g) f d v e =
+        let x : owing.DeepAsking source news s.env r t = subst (owing.DeepStep source news s.env) g (steps.steps source entered news s d (law_fair part source own s v (sole s f.0 d v))) in
+        let y : StandsAsking part source own s r t = subst (StandsStep part source own s) g (inner_steps.steps part source inner own s v) in
+        record { state = x.state; stands = y.state; asks = asks_at ks s r t x.inside (law_is_inside part source inner own news s v d r t g) e v.own; unheld = x.unheld; apart = apart_at s r t f.1 (law_is_inside part source inner own news s v d r t g) }
 
 -- tasks at rest, behind what they asked last
 
-abbrev Rests : (source : Source) → Request → State → Type 0
-Rests source ask.End s = ⊥
-Rests source (ask.Fault n) s = ⊥
-Rests source r s = DeepAsk source r s
+abbrev Rests : (source : Source) (news : ℕ → Bool) → Request → State → Type 0
+Rests source news ask.End s = ⊥
+Rests source news (ask.Fault n) s = ⊥
+Rests source news r s = DeepAsk source news r s
+
+-- an object that was asked for is of no task yet
+abbrev Brings : ℕ → Journal → Request → Type 0
+Brings u j (ask.Make c) = (o : ℕ) → just_made u j ≡ o ∷ [] → is_fresh u j o ≡ true
+Brings u j r = Unit {0}
 
 pub record OwingTask (source : Source) (j : Journal) (u : ℕ) (s : State) : Type 0 where
   pub request : Request
   pub form : asked_form u j ≡ form_of_request request
-  pub rests : Rests source request s
+  pub rests : Rests source (new_for u j) request s
+  pub brings : Brings u j request
 
 pub record OwingWorld (source : Source) (j : Journal) (w : World) : Type 0 where
   pub tasks : (u : ℕ) → u < task_count j → has_ended u j ≡ false → OwingTask source j u (drawn j w u)
-  pub engaged : (o : ℕ) → EngagedMembers source (w.homes o)
+  pub makers : Makers j
+  pub single : (o : ℕ) → length (owner o j) ≤ 1
   pub free : (o : ℕ) → inside o j ≡ [] → FreeMembers source (w.homes o)
 
 module _ (source : Source) (drawing : LawDrawn) where
-  rests_drawn : (r : Request) (hand : List (ℕ × Members)) (s : State) → Rests source r s → Redrawn source s.env.hand hand → Rests source r (with_hand hand s)
-  rests_drawn ask.End hand s h d = absurd h
-  rests_drawn (ask.Fault n) hand s h d = absurd h
-  rests_drawn r hand s h d = drawing.asked source r hand s h d
+  rests_drawn : (news : ℕ → Bool) (r : Request) (hand : List (ℕ × Members)) (s : State) → Rests source news r s → Redrawn source s.env.hand hand → Rests source news r (with_hand hand s)
+  rests_drawn news ask.End hand s h d = absurd h
+  rests_drawn news (ask.Fault n) hand s h d = absurd h
+  rests_drawn news r hand s h d = drawing.asked source news r hand s h d
+
+  rests_again : (news now : ℕ → Bool) → ((q : ℕ) → news q ≡ true → now q ≡ true) → (r : Request) (s : State) → Rests source news r s → Rests source now r s
+  rests_again news now f ask.End s h = absurd h
+  rests_again news now f (ask.Fault n) s h = absurd h
+  rests_again news now f r s h = law_renewed.asked source news now f r s h
+
+-- what asks to spawn goes on as one that yields its processor
+abbrev settled : Request → Request
+settled (ask.Spawn o) = ask.Slice
+settled r = r
+
+settled_form : (r : Request) → form_of_request (settled r) ≡ form_of_request r
+settled_form (ask.Spawn o) = refl
+settled_form r = refl
 
 module _ (part : ℕ → Part) (source : Source) (entered : EnteredSource source) (inner : InnerSource part source) (steps : LawSteps) (freeing : LawFree) (drawing : LawDrawn) (input : List ℕ) (opts : Options) (range : InRange opts) where
   module _ {j : Journal} {w : World} (r : RunRests source input opts j w) (going : is_over j ≡ false) (deeps : DeepWorld j w) (x : OwingWorld source j w) (z : StandingWorld part source j w) (p t n : ℕ) (s : State) (asked : Asked) (d : AsksIn source opts j w p t n s asked) where
@@ -275,37 +308,49 @@ module _ (part : ℕ → Part) (source : Source) (entered : EnteredSource source
     mine = x.tasks t (known source input opts range r going deeps p t n s asked d) (law_alive opts source.sites input j r.kernel going p t d.runs)
 
     -- its answer is one to what it asked
-    suits : (q : Request) → asked_form t j ≡ form_of_request q → Rests source q (drawn j w t) → DeepAsk source q (drawn j w t) × Suits q d.given (drawn j w t)
-    suits (ask.Call o m) f h = (h, goes f)
+    suits : (q : Request) → asked_form t j ≡ form_of_request q → Rests source (new_for t j) q (drawn j w t) → Brings t j q → DeepAsk source (new_for t j) q (drawn j w t) × Suits (new_for t j) q d.given (drawn j w t)
+    suits (ask.Call o m) f h n = (h, goes f)
       where
         goes : asked_form t j ≡ JustGo → d.given ≡ answer.Go
         goes f = just_go d.given (subst (λ (y : Form). IsForm y d.given) f (law_suiting opts source.sites input j r.kernel going t d.given d.told))
-    suits ask.Slice f h = (h, goes f)
+    suits ask.Slice f h n = (h, goes f)
       where
         goes : asked_form t j ≡ JustGo → d.given ≡ answer.Go
         goes f = just_go d.given (subst (λ (y : Form). IsForm y d.given) f (law_suiting opts source.sites input j r.kernel going t d.given d.told))
-    suits (ask.Make c) f h = (h, makes_known (r.rests.tasks t).control)
+    suits (ask.Make c) f h g = (h, makes_known (r.rests.tasks t).control)
       where
-        makes_known : (plain (w.tasks t).run.control ≡ true) ⊎ ((o : ℕ) × (just_made t j ≡ o ∷ [])) → (o : ℕ) × (d.given ≡ answer.Object o) × (find o (w.tasks t).env.depths ≡ None)
+        makes_known : (plain (w.tasks t).run.control ≡ true) ⊎ ((o : ℕ) × (just_made t j ≡ o ∷ [])) → (o : ℕ) × (d.given ≡ answer.Object o) × (find o (w.tasks t).env.depths ≡ None) × (new_for t j o ≡ true)
         makes_known (inl g) = absurd (no_binding (w.tasks t).run.control g h.0)
         makes_known (inr y) =
             let new = law_new opts source.sites input j r.kernel going t y.0 y.1 in
             let told : Some d.given ≡ Some (answer.Object y.0) = sym d.told ∙ new.answer in
             let here = deeps.tasks t (known source input opts range r going deeps p t n s asked d) (law_alive opts source.sites input j r.kernel going p t d.runs) in
-            (y.0, cc told, found_none y.0 (w.tasks t).env.depths (here.new y.0 y.1))
-    suits ask.End f h = absurd h
-    suits (ask.Fault k) f h = absurd h
-    suits q f h = (h, tt)
+            let none : find y.0 (w.tasks t).env.depths ≡ None = found_none y.0 (w.tasks t).env.depths (here.new y.0 y.1) in
+            (y.0, cc told, none, both_are (is_fresh t j y.0) (not (own_object t j == y.0)) (g y.0 y.1) (ap not (apart y.0 none)))
+          where
+            -- the own object is one in which the task is
+            own : own_object t j ≡ (w.tasks t).env.own
+            own = sym (z.tasks t (known source input opts range r going deeps p t n s asked d) (law_alive opts source.sites input j r.kernel going p t d.runs)).stands.own
 
-    start : Deep source (answered source d.given (drawn j w t))
+            apart : (o : ℕ) → find o (w.tasks t).env.depths ≡ None → (own_object t j == o) ≡ false
+            apart o none = ne_eqb (own_object t j) o (λ e.
+                let a = h.1.depths (w.tasks t).env.own in
+                let b = own_one (w.tasks t).env.own in
+                let c : depth_in (find (w.tasks t).env.own (w.tasks t).env.depths) ≡ 0 = ap depth_in (subst (λ q. find q (w.tasks t).env.depths ≡ None) (sym e ∙ own) none) in
+                omega (arith, a, b, c))
+    suits ask.End f h n = absurd h
+    suits (ask.Fault k) f h n = absurd h
+    suits q f h n = (h, tt)
+
+    start : Deep source (new_for t j) (answered source d.given (drawn j w t))
     start =
-        let y = suits mine.request mine.form mine.rests in
-        steps.told source mine.request d.given (drawn j w t) y.0 y.1
+        let y = suits mine.request mine.form mine.rests mine.brings in
+        steps.told source (new_for t j) mine.request d.given (drawn j w t) y.0 y.1
 
     module _ (fair : RideAlone source _ _ s n asked d.rides) where
-      owes : RideOwes part source entered inner steps (own_object t j) (deep_in (answered source d.given (drawn j w t))) asked.request s
+      owes : RideOwes part source entered inner steps (own_object t j) (new_for t j) (deep_in (answered source d.given (drawn j w t))) asked.request s
       owes =
-          ride_owes part source entered inner steps (own_object t j) (deep_in (answered source d.given (drawn j w t))) _ _ s n asked d.rides fair start (standing_start part source inner entered.ends input opts range r going deeps z p t n s asked d) refl
+          ride_owes part source entered inner steps (own_object t j) (new_for t j) (own_not_new t j) (deep_in (answered source d.given (drawn j w t))) _ _ s n asked d.rides fair start (standing_start part source inner entered.ends input opts range r going deeps z p t n s asked d) refl
 
       asks_in_hand : AsksInHand (own_object t j) (keys s.env.hand) asked.request
       asks_in_hand = by asked.request owes.asks
@@ -329,6 +374,14 @@ module _ (part : ℕ → Part) (source : Source) (entered : EnteredSource source
           by (ask.Empty o c) h = either_in o h
           by (ask.Front o c) h = either_in o h
           by ask.End h = same (own_object t j) h
+          by q h = tt
+
+      owners_fit : OwnersFit j asked.request
+      owners_fit = by asked.request owes.state
+        where
+          by : (q : Request) → DeepAsk source (new_for t j) q s → OwnersFit j q
+          by (ask.Spawn o) h = new_unowned t j o h.1
+          by (ask.Raise o event a b) h = x.single o
           by q h = tt
 
       hand : keys s.env.hand ≡ held t j
@@ -359,13 +412,56 @@ module _ (part : ℕ → Part) (source : Source) (entered : EnteredSource source
         insiders : Insiders t (GoesOut t j asked.request) j (j ++ act opts source.sites input j p t n asked)
         insiders = subst (λ l. Insiders t (GoesOut t j asked.request) j (j ++ l)) (sym is) (row_insiders opts source.sites input j p t (cost n asked.line) asked.line asked.request)
 
-        engaged_hand : EngagedHand source s.env.hand
+        kicks : Kicks t (GoesOut t j asked.request) (act opts source.sites input j p t n asked)
+        kicks = subst (Kicks t (GoesOut t j asked.request)) (sym is) (row_kicks opts source.sites input j p t (cost n asked.line) asked.line asked.request)
+
+        lawful : Lawful j (act opts source.sites input j p t n asked)
+        lawful = lawful_act opts source.sites input j p t n asked sound m
+
+        -- what is given away is spawned
+        given_away : (o : ℕ) → gives_away o (act opts source.sites input j p t n asked) ≡ true → asked.request ≡ ask.Spawn o
+        given_away o g =
+            let b = spawned_by source input opts range r going deeps p t n s asked d f on (task_count j) (omega arith) (gives_more o t (GoesOut t j asked.request) j a kicks g) in
+            let same : b.object ≡ o = eqb-true b.object o (or_false_is (b.object == o) (sym (ap (gives_away o) b.entries) ∙ g)) in
+            b.request ∙ ap ask.Spawn same
+          where
+            or_false_is : (c : Bool) → (c || false) ≡ true → c ≡ true
+            or_false_is true h = refl
+            or_false_is false h = h
+
+        spawned_new : (o : ℕ) → asked.request ≡ ask.Spawn o → new_for t j o ≡ true
+        spawned_new o e = (subst (λ q. DeepAsk source (new_for t j) q s) e owes.state).1
+
+        -- not what another task has made
+        kept_of : (u : ℕ) → (u == t) ≡ false → (o : ℕ) → made_for u o j ≡ true → gives_away o (act opts source.sites input j p t n asked) ≡ false
+        kept_of u h o g =
+            not_true (gives_away o a) (λ e. no_both (u == t) (eq-eqb u t (x.makers.one u t o g (new_made t j o (spawned_new o (given_away o e))))) h)
+
+        single_after : (o : ℕ) → length (owner o (j ++ act opts source.sites input j p t n asked)) ≤ 1
+        single_after o = by (gives_away o a) refl
+          where
+            by : (b : Bool) → gives_away o (act opts source.sites input j p t n asked) ≡ b → length (owner o (j ++ act opts source.sites input j p t n asked)) ≤ 1
+            by false g = let same = ap length (owner_stays o j a g) in let l = x.single o in omega (arith, same, l)
+            by true g =
+                let b = spawned_by source input opts range r going deeps p t n s asked d f on (task_count j) (omega arith) (gives_more o t (GoesOut t j asked.request) j a kicks g) in
+                let none = ap length (new_unowned t j o (spawned_new o (given_away o g))) in
+                let l = subst (λ l. length (owner o (j ++ l)) ≤ length (owner o j) + 1) (sym b.entries) (owner_more o j (asking_entry kind.Spawn p t (cost n asked.line) b.object (pos (task_count j)) (pos 0))) in
+                omega (arith, none, l)
+
+        new_other : (u : ℕ) → (u == t) ≡ false → spawns (act opts source.sites input j p t n asked) u ≡ false → (o : ℕ) → new_for u j o ≡ true → new_for u (j ++ act opts source.sites input j p t n asked) o ≡ true
+        new_other u h born o g = new_stays u o j a (kept_of u h o (new_made u j o g)) (own_same t (GoesOut t j asked.request) u j a kicks born) g
+
+        born_not : spawns (act opts source.sites input j p t n asked) t ≡ false
+        born_not = spawns_none j a t lawful (known source input opts range r going deeps p t n s asked d)
+
+        engaged_hand : EngagedHand source (new_for t j) s.env.hand
         engaged_hand = by asked.request refl owes.state
           where
-            by : (q : Request) → asked.request ≡ q → DeepAsk source q s → EngagedHand source s.env.hand
+            by : (q : Request) → asked.request ≡ q → DeepAsk source (new_for t j) q s → EngagedHand source (new_for t j) s.env.hand
             by (ask.Call o c) e h = h.env.hand
             by (ask.Make c) e h = h.1.env.hand
             by ask.Slice e h = h.env.hand
+            by (ask.Spawn o) e h = h.0.deep.env.hand
             by ask.End e h = h.hand
             by (ask.Fault k) e h =
                 no_both (is_over (j ++ a)) (ap (λ l. is_over (j ++ l)) (is ∙ ap (row opts source.sites input j p t (cost n asked.line) asked.line) e) ∙ over_by j _ refl) on
@@ -389,7 +485,7 @@ module _ (part : ℕ → Part) (source : Source) (entered : EnteredSource source
             by : (y : Option Members) → find o s.env.hand ≡ y → IsThere y → FreeMembers source (or_else y (w.homes o))
             by None e g = absurd g
             by (Some k) e g =
-                freeing source k (found_engaged source o s.env.hand k engaged_hand e) (ap has_engaged (sym e) ∙ or_second _ (has_engaged (find o s.env.hand)) u)
+                freeing source (new_for t j) k (found_engaged source (new_for t j) o s.env.hand k engaged_hand e) (ap has_engaged (sym e) ∙ or_second _ (has_engaged (find o s.env.hand)) u)
 
         at_end : (q : Request) → q ≡ ask.End → StandsAsk part source (own_object t j) q s → is_held_up (own_object t j) s.env ≡ false
         at_end q e h = (subst (λ y. StandsAsk part source (own_object t j) y s) e h).1
@@ -438,14 +534,6 @@ module _ (part : ℕ → Part) (source : Source) (entered : EnteredSource source
         free_after o h =
             let_out o (λ e. ap (λ l. has l t) h) (λ v e k. no_both (has (inside o (j ++ a)) v) (insiders.others v o k e) (ap (λ l. has l v) h))
 
-        engaged_after : (o : ℕ) → EngagedMembers source (after.homes o)
-        engaged_after o =
-            homes_by (EngagedMembers source) o (λ e. tt) (λ e. by (find o s.env.hand) refl)
-          where
-            by : (y : Option Members) → find o s.env.hand ≡ y → EngagedMembers source (or_else y (w.homes o))
-            by None e = x.engaged o
-            by (Some k) e = found_engaged source o s.env.hand k engaged_hand e
-
         -- hands that are drawn anew
 
         redrawn_to : (u : ℕ) (old : List (ℕ × Members)) → ((o : ℕ) → has (held u j) o ≡ true → (k : Members) → after.homes o ≡ Some k → find o old ≡ Some k) → Redrawn source old (hand_of (held u (j ++ act opts source.sites input j p t n asked)) (world_after source (act opts source.sites input j p t n asked) w t s).homes)
@@ -481,10 +569,42 @@ module _ (part : ℕ → Part) (source : Source) (entered : EnteredSource source
             by None e g = g
             by (Some v) e g = cc
 
-        to_rests : (q : Request) → (q ≡ ask.End → ⊥) → ((k : ℕ) → q ≡ ask.Fault k → ⊥) → DeepAsk source q s → Rests source q s
-        to_rests ask.End e g h = absurd (e refl)
-        to_rests (ask.Fault k) e g h = absurd (g k refl)
-        to_rests q e g h = h
+        -- with what is new behind the act
+        to_rests : (q : Request) → asked.request ≡ q → (q ≡ ask.End → ⊥) → ((k : ℕ) → q ≡ ask.Fault k → ⊥) → DeepAsk source (new_for t j) q s → Rests source (new_for t (j ++ act opts source.sites input j p t n asked)) (settled q) s
+        to_rests q k e g h = by q k e g h
+          where
+            still : (v : ℕ) → gives_away v (act opts source.sites input j p t n asked) ≡ false → new_for t j v ≡ true → new_for t (j ++ act opts source.sites input j p t n asked) v ≡ true
+            still v w n = new_stays t v j a w (own_same t (GoesOut t j asked.request) t j a kicks born_not) n
+
+            -- unless it spawns something
+            unspawned : ((v : ℕ) → asked.request ≡ ask.Spawn v → ⊥) → (v : ℕ) → new_for t j v ≡ true → new_for t (j ++ act opts source.sites input j p t n asked) v ≡ true
+            unspawned k v n = still v (not_true (gives_away v a) (λ w. k v (given_away v w))) n
+
+            or_spawned : (o : ℕ) → asked.request ≡ ask.Spawn o → (v : ℕ) (b : Bool) → gives_away v (act opts source.sites input j p t n asked) ≡ b → new_for t j v ≡ true → (o ≡ v) ⊎ (new_for t (j ++ act opts source.sites input j p t n asked) v ≡ true)
+            or_spawned o k v true w n = let same = sym k ∙ given_away v w in inl (cc same)
+            or_spawned o k v false w n = inr (still v w n)
+
+            other : (q : Request) → asked.request ≡ q → ((v : ℕ) → q ≡ ask.Spawn v → ⊥) → (v : ℕ) → asked.request ≡ ask.Spawn v → ⊥
+            other q k n v e = n v (sym k ∙ e)
+
+            by : (q : Request) → asked.request ≡ q → (q ≡ ask.End → ⊥) → ((k : ℕ) → q ≡ ask.Fault k → ⊥) → DeepAsk source (new_for t j) q s → Rests source (new_for t (j ++ act opts source.sites input j p t n asked)) (settled q) s
+            by ask.End k e g h = absurd (e refl)
+            by (ask.Fault v) k e g h = absurd (g v refl)
+            by (ask.Spawn o) k e g h = law_renewed.spawned source (new_for t j) (new_for t (j ++ a)) o (λ v n. or_spawned o k v (gives_away v a) refl n) s h
+            by q k e g h = law_renewed.asked source (new_for t j) (new_for t (j ++ a)) (unspawned (other q k (λ v w. cc w))) q s h
+
+        -- an object that is asked for
+        to_brings : (q : Request) → asked.request ≡ q → Brings t (j ++ act opts source.sites input j p t n asked) (settled q)
+        to_brings (ask.Make c) k = λ o h. by o h (nat_lt (object_count j) OBJECTS) (is ∙ ap (row opts source.sites input j p t (cost n asked.line) asked.line) k)
+          where
+            here : (o : ℕ) → just_made t (j ++ act opts source.sites input j p t n asked) ≡ o ∷ [] → object_count j ≡ o
+            here o h = let same = sym (one_new opts source.sites input j p t n asked r.kernel m on c k) ∙ h in cc same
+
+            by : (o : ℕ) → just_made t (j ++ act opts source.sites input j p t n asked) ≡ o ∷ [] → (b : Bool) → act opts source.sites input j p t n asked ≡ or_fault b (asking_entry kind.Make p t (cost n asked.line) (object_count j) (pos c) (pos 0)) (fault p t (cost n asked.line) 16 asked.line) → is_fresh t (j ++ act opts source.sites input j p t n asked) o ≡ true
+            by o h true g = subst (λ l. is_fresh t (j ++ l) o ≡ true) (sym g) (subst (λ v. is_fresh t (j ++ asking_entry kind.Make p t (cost n asked.line) (object_count j) (pos c) (pos 0) ∷ []) v ≡ true) (here o h) (fresh_made t j (asking_entry kind.Make p t (cost n asked.line) (object_count j) (pos c) (pos 0)) x.makers refl refl refl))
+            by o h false g = no_both (is_over (j ++ a)) (ap (λ l. is_over (j ++ l)) g ∙ over_by j _ refl) on
+        to_brings (ask.Spawn o) k = tt
+        to_brings q k = tt
 
         asking : AsksFor j (act opts source.sites input j p t n asked) t asked.request
         asking = law_asking opts source.sites input j p t n asked r.kernel m on
@@ -493,23 +613,32 @@ module _ (part : ℕ → Part) (source : Source) (entered : EnteredSource source
         own_after h =
             let k = law_ends opts source.sites input j p t n asked on h in
             record {
-              request = asked.request;
-              form = asking.own;
-              rests = rests_drawn source drawing asked.request (hand_of (held t (j ++ a)) after.homes) s (to_rests asked.request k.no_end k.no_fault owes.state) (redrawn_to t s.env.hand own_agrees);
+              request = settled asked.request;
+              form = asking.own ∙ sym (settled_form asked.request);
+              rests = rests_drawn source drawing (new_for t (j ++ a)) (settled asked.request) (hand_of (held t (j ++ a)) after.homes) s (to_rests asked.request refl k.no_end k.no_fault owes.state) (redrawn_to t s.env.hand own_agrees);
+              brings = to_brings asked.request refl;
             }
 
-        other_after : (u : ℕ) → (u == t) ≡ false → OwingTask source j u (drawn j w u) → OwingTask source (j ++ act opts source.sites input j p t n asked) u (with_hand (hand_of (held u (j ++ act opts source.sites input j p t n asked)) (world_after source (act opts source.sites input j p t n asked) w t s).homes) (w.tasks u))
-        other_after u h y = record {
+        brings_other : (u : ℕ) → (u == t) ≡ false → (q : Request) → Brings u j q → Brings u (j ++ act opts source.sites input j p t n asked) q
+        brings_other u h (ask.Make c) n = λ o e.
+            let g = n o (sym (made.others u h) ∙ e) in
+            fresh_stays u o j a (kept_of u h o (both_hold (made_for u o j) _ g).0) g
+        brings_other u h q n = tt
+
+        other_after : (u : ℕ) → (u == t) ≡ false → spawns (act opts source.sites input j p t n asked) u ≡ false → OwingTask source j u (drawn j w u) → OwingTask source (j ++ act opts source.sites input j p t n asked) u (with_hand (hand_of (held u (j ++ act opts source.sites input j p t n asked)) (world_after source (act opts source.sites input j p t n asked) w t s).homes) (w.tasks u))
+        other_after u h born y = record {
           request = y.request;
           form = asking.others u h ∙ y.form;
-          rests = rests_drawn source drawing y.request (hand_of (held u (j ++ a)) after.homes) (drawn j w u) y.rests (redrawn_to u (hand_of (held u j) w.homes) (other_agrees u h));
+          rests = rests_drawn source drawing (new_for u (j ++ a)) y.request (hand_of (held u (j ++ a)) after.homes) (drawn j w u) (rests_again source drawing (new_for u j) (new_for u (j ++ a)) (new_other u h born) y.request (drawn j w u) y.rests) (redrawn_to u (hand_of (held u j) w.homes) (other_agrees u h));
+          brings = brings_other u h y.request y.brings;
         }
 
-        child_after : (u : ℕ) → (u == t) ≡ false → task_count j ≤ u → Deep source (child_of source (own_object u (act opts source.sites input j p t n asked)) s) → OwingTask source (j ++ act opts source.sites input j p t n asked) u (with_hand (hand_of (held u (j ++ act opts source.sites input j p t n asked)) (world_after source (act opts source.sites input j p t n asked) w t s).homes) (child_of source (own_object u (act opts source.sites input j p t n asked)) s))
+        child_after : (u : ℕ) → (u == t) ≡ false → task_count j ≤ u → Deep source (new_for u (j ++ act opts source.sites input j p t n asked)) (child_of source (own_object u (act opts source.sites input j p t n asked)) s) → OwingTask source (j ++ act opts source.sites input j p t n asked) u (with_hand (hand_of (held u (j ++ act opts source.sites input j p t n asked)) (world_after source (act opts source.sites input j p t n asked) w t s).homes) (child_of source (own_object u (act opts source.sites input j p t n asked)) s))
         child_after u h le c = record {
           request = ask.Slice;
           form = asking.others u h ∙ late_form;
-          rests = drawing.asked source ask.Slice (hand_of (held u (j ++ a)) after.homes) (child_of source (own_object u a) s) c (redrawn_to u [] (λ o e k g. no_both (has (held u j) o) e (nowhere o)));
+          rests = drawing.asked source (new_for u (j ++ a)) ask.Slice (hand_of (held u (j ++ a)) after.homes) (child_of source (own_object u a) s) c (redrawn_to u [] (λ o e k g. no_both (has (held u j) o) e (nowhere o)));
+          brings = tt;
         }
           where
             or_first : (b c : Bool) → (b || c) ≡ false → b ≡ false
@@ -532,23 +661,23 @@ module _ (part : ℕ → Part) (source : Source) (entered : EnteredSource source
             not_late e =
                 ⊎_elim (λ k. k) (λ le. no_both (spawns a u) (spawned_true source input opts range r going deeps p t n s asked d f on u le lt) e) (cases_lt u (task_count j))
 
-            child_plain : task_count j ≤ u → Deep source (child_of source (own_object u a) s)
+            child_plain : task_count j ≤ u → Deep source (new_for u (j ++ act opts source.sites input j p t n asked)) (child_of source (own_object u a) s)
             child_plain le =
                 let b = spawned_by source input opts range r going deeps p t n s asked d f on u le lt in
-                steps.born source entered b.object (own_object u a) s (subst (λ q. DeepAsk source q s) b.request owes.state)
+                steps.born source entered (new_for t j) (new_for u (j ++ a)) b.object (own_object u a) s (subst (λ q. DeepAsk source (new_for t j) q s) b.request owes.state)
 
             other : (u == t) ≡ false → (b : Bool) → spawns a u ≡ b → at_rest (if b then child_of source (own_object u a) s else w.tasks u)
             other h true e =
                 let le : task_count j ≤ u = ⊎_elim (λ lt. no_both (spawns a u) e (spawns_none j a u (lawful_act opts source.sites input j p t n asked sound m) lt)) (λ le. le) (cases_lt u (task_count j)) in
                 child_after u h le (child_plain le)
-            other h false e = other_after u h (x.tasks u (not_late e) (ended_before j a u alive))
+            other h false e = other_after u h e (x.tasks u (not_late e) (ended_before j a u alive))
 
             by : (b : Bool) → (u == t) ≡ b → at_rest (if b then bare s else if spawns a u then child_of source (own_object u a) s else w.tasks u)
             by true h =
                 subst (λ v. OwingTask source (j ++ a) v (with_hand (hand_of (held v (j ++ a)) after.homes) s)) (sym (eqb-true u t h)) (own_after (ap (λ v. has_ended v (j ++ a)) (sym (eqb-true u t h)) ∙ alive))
             by false h = other h (spawns a u) refl
 
-        binds_by : (q : Request) → DeepAsk source q s → Binds q s.run.control
+        binds_by : (q : Request) → DeepAsk source (new_for t j) q s → Binds q s.run.control
         binds_by (ask.Make c) h = h.0
         binds_by q h = tt
 
@@ -556,7 +685,7 @@ module _ (part : ℕ → Part) (source : Source) (entered : EnteredSource source
         standing_behind = standing_act part source inner entered.ends input opts range r going deeps z p t n s asked d owes.stands (binds_by asked.request owes.state) owes.unheld owes.apart f on
 
         pub owing_act : OwingWorld source (j ++ act opts source.sites input j p t n asked) (world_after source (act opts source.sites input j p t n asked) w t s)
-        owing_act = record { tasks = tasks_after; engaged = engaged_after; free = free_after }
+        owing_act = record { tasks = tasks_after; makers = makers_stay j a x.makers lawful; single = single_after; free = free_after }
 
   -- a dispatch leaves all as it is
   owing_given : {j : Journal} {w : World} (p t : ℕ) → RunRests source input opts j w → Serves opts j p t → OwingWorld source j w → OwingWorld source (j ++ dispatch p t ∷ []) w
@@ -569,11 +698,17 @@ module _ (part : ℕ → Part) (source : Source) (entered : EnteredSource source
             record {
               request = y.request;
               form = form_push u j (dispatch p t) ∙ y.form;
-              rests = subst (λ l. Rests source y.request (with_hand (hand_of l w.homes) (w.tasks u))) (sym (d.objects u)) y.rests;
+              rests = rests_again source drawing (new_for u j) (new_for u (j ++ dispatch p t ∷ [])) (λ q. new_stays u q j (dispatch p t ∷ []) refl (own_given u j (dispatch p t) refl)) y.request _ (subst (λ l. Rests source (new_for u j) y.request (with_hand (hand_of l w.homes) (w.tasks u))) (sym (d.objects u)) y.rests);
+              brings = given_brings u y.request y.brings;
             };
-        engaged = x.engaged;
+        makers = makers_given j p t x.makers;
+        single = λ o. let same = ap length (owner_stays o j (dispatch p t ∷ []) refl) in let l = x.single o in omega (arith, same, l);
         free = λ o h. x.free o (sym (door_silent o j (dispatch p t) refl).inside ∙ h);
       }
+    where
+      given_brings : (u : ℕ) (q : Request) → Brings u j q → Brings u (j ++ dispatch p t ∷ []) q
+      given_brings u (ask.Make c) n = λ o e. fresh_stays u o j (dispatch p t ∷ []) refl (n o (sym (just_made_given u p t j) ∙ e))
+      given_brings u q n = tt
 
   -- both go on to hold
   record Both (j : Journal) (w : World) : Type 0 where
@@ -602,9 +737,11 @@ module _ (part : ℕ → Part) (source : Source) (entered : EnteredSource source
     tasks = λ u lt alive. record {
       request = ask.Slice;
       form = begin_form u;
-      rests = drawing.asked source ask.Slice (hand_of (held u (begin opts ∷ [])) first_home) (quiet.first_state (routine_of source source.main) 0) (steps.begins source entered source.main 0 entered.main) (redrawn source [] (held u (begin opts ∷ [])) first_home ((law_held (begin opts ∷ [])).once u) (λ o h. either (Found source [] o) (o == 0) (Some (quiet.zeros 0)) None (inl free_none) tt));
+      brings = tt;
+      rests = drawing.asked source (new_for u (begin opts ∷ [])) ask.Slice (hand_of (held u (begin opts ∷ [])) first_home) (quiet.first_state (routine_of source source.main) 0) (steps.begins source entered (new_for u (begin opts ∷ [])) source.main 0 entered.main) (redrawn source [] (held u (begin opts ∷ [])) first_home ((law_held (begin opts ∷ [])).once u) (λ o h. either (Found source [] o) (o == 0) (Some (quiet.zeros 0)) None (inl free_none) tt));
     };
-    engaged = λ o. either (EngagedMembers source) (o == 0) (Some (quiet.zeros 0)) None tt tt;
+    makers = makers_begin opts;
+    single = λ o. let l = owner_more o [] (begin opts) in let none = ap length (nobody o) in omega (arith, none, l);
     free = λ o h. either (FreeMembers source) (o == 0) (Some (quiet.zeros 0)) None free_none tt;
   }
 
@@ -613,11 +750,21 @@ module _ (part : ℕ → Part) (source : Source) (entered : EnteredSource source
   both_run (more r o m) f g on =
       both_may (run_rests source input opts range r f.0 o) o (deep_run source input opts range r f.0 o) (both_run r f.0 g.0 o) m f.1 g.1 on
 
-  pub in_hand_in_run : {j : Journal} {w : World} → (r : Runs source input opts j w) → RunFits source input opts j w r → RunAlone source input opts j w r → is_over j ≡ false → (p t n : ℕ) (s : State) (asked : Asked) (d : AsksIn source opts j w p t n s asked) → RideAlone source _ _ s n asked d.rides → AsksInHand (own_object t j) (keys s.env.hand) asked.request
-  in_hand_in_run r f g on p t n s asked d alone =
-      let x = both_run r f g on in
-      asks_in_hand (run_rests source input opts range r f on) on (deep_run source input opts range r f on) x.owing x.standing p t n s asked d alone
+  module _ {j : Journal} {w : World} (r : Runs source input opts j w) (f : RunFits source input opts j w r) (g : RunAlone source input opts j w r) (on : is_over j ≡ false) (p t n : ℕ) (s : State) (asked : Asked) (d : AsksIn source opts j w p t n s asked) (alone : RideAlone source _ _ s n asked d.rides) where
+    pub in_hand_in_run : AsksInHand (own_object t j) (keys s.env.hand) asked.request
+    in_hand_in_run =
+        let x = both_run r f g on in
+        asks_in_hand (run_rests source input opts range r f on) on (deep_run source input opts range r f on) x.owing x.standing p t n s asked d alone
+
+    pub owners_in_run : OwnersFit j asked.request
+    owners_in_run =
+        let x = both_run r f g on in
+        owners_fit (run_rests source input opts range r f on) on (deep_run source input opts range r f on) x.owing x.standing p t n s asked d alone
 
 pub law_in_hand : LawInHand
 law_in_hand part source entered inner input opts j w r range f g on p t n s asked d alone =
     in_hand_in_run part source entered inner law_steps law_free law_drawn input opts range r f g on p t n s asked d alone
+
+pub law_owners : LawOwners
+law_owners part source entered inner input opts j w r range f g on p t n s asked d alone =
+    owners_in_run part source entered inner law_steps law_free law_drawn input opts range r f g on p t n s asked d alone

@@ -1,4 +1,5 @@
 pub mod Insiders
+pub mod NewObjects
 pub mod Owners
 pub mod StandingWorlds
 pub mod LettingWorlds

@@ -1,12 +1,13 @@
--- That a task has in hand what it lets go of, waits for, accepts and signals in, as long as nothing else is owed to what it lets go of.
-use Rattle.std.specs.Prelude.{◌≡◌, ℕ, true, false, List}
+-- That a task has in hand what it lets go of, waits for, accepts and signals in, and how many tasks an object has that it spawns or raises
+-- an event at, as long as nothing else is owed to what it lets go of.
+use Rattle.std.specs.Prelude.{◌≡◌, ℕ, ◌≤◌, true, false, List, [], length}
 use Rattle.uc_tree.specs.Source.{Source}
 use Rattle.uc_entry.specs.declared.entry.Options.{Options}
 use Rattle.uc_entry.specs.declared.request.Asked.{Asked}
 use Rattle.uc_entry.specs.declared.request.Request.{Request}
 use Rattle.uc_entry.specs.declared.request.Request.TheVariants as ask
 use Rattle.uc_acts.specs.Journal.{Journal, own_object, is_over}
-use Rattle.uc_acts.specs.Known.{has}
+use Rattle.uc_acts.specs.Known.{has, owner}
 use Rattle.uc_acts.specs.KernelRuns.{InRange}
 use Rattle.uc_machine.specs.Quiet.{State}
 use Rattle.uc_meaning.specs.Runs.{World, Runs, AsksIn}
@@ -31,10 +32,16 @@ AsksInHand own hand (ask.Front o c) = has hand o ≡ true
 AsksInHand own hand ask.End = has hand own ≡ true
 AsksInHand own hand r = Unit {0}
 
--- so it is in a run in which all that was asked so far fits, where objects are entered by their calls, code waits, signals and accepts only
--- where its task is inside, and tasks have mains, as long as nothing else is owed to what is let go of
-abbrev pub LawInHand : Type 0
-LawInHand =
+-- what is spawned is of no task yet, and where an event is raised is one task at most
+abbrev pub OwnersFit : Journal → Request → Type 0
+OwnersFit j (ask.Spawn o) = owner o j ≡ []
+OwnersFit j (ask.Raise o event x y) = length (owner o j) ≤ 1
+OwnersFit j r = Unit {0}
+
+-- of what a task asks in a run in which all that was asked so far fits, where objects are entered by their calls, code waits, signals and
+-- accepts only where its task is inside, and tasks have mains, as long as nothing else is owed to what is let go of
+abbrev pub OfAsked : (Journal → ℕ → List ℕ → Request → Type 0) → Type 0
+OfAsked Claim =
     (part : ℕ → Part)
     (source : Source)
     → EnteredSource source
@@ -53,4 +60,12 @@ LawInHand =
     (asked : Asked)
     (d : AsksIn source opts j w p t n s asked)
     → RideAlone source _ _ s n asked d.rides
-    → AsksInHand (own_object t j) (keys s.env.hand) asked.request
+    → Claim j t (keys s.env.hand) asked.request
+
+-- what it asks something of is in its hand
+abbrev pub LawInHand : Type 0
+LawInHand = OfAsked (λ j t hand r. AsksInHand (own_object t j) hand r)
+
+-- and what it spawns is of no task yet, what it raises an event at of one at most
+abbrev pub LawOwners : Type 0
+LawOwners = OfAsked (λ j t hand r. OwnersFit j r)

@@ -1,6 +1,6 @@
 // The laws: each is a function whose contract is the law.
 
-ghost use Rattle.uc_letting_laws.specs.LettingLaws.{LawInHand};
+ghost use Rattle.uc_letting_laws.specs.LettingLaws.{LawInHand, LawOwners};
 
 /// In a run of a source in which objects are entered by their calls and code waits, signals and
 /// accepts only where its task is inside, a task has in hand all objects of which it asks something,
@@ -8,4 +8,10 @@ ghost use Rattle.uc_letting_laws.specs.LettingLaws.{LawInHand};
 /// and nothing else is owed to an object that is let go of however deep its task is.
 pub fn law_in_hand()
     ensures { LawInHand }
+{}
+
+/// There what a task spawns is of no task yet, and an object at which it raises an event is of one at
+/// most.
+pub fn law_owners()
+    ensures { LawOwners }
 {}

@@ -1,3 +1,5 @@
 pub mod RequestLaws
 pub mod Holds
+pub mod Leaving
 pub mod Remaining
+pub mod Lasting

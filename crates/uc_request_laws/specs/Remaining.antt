@@ -1,6 +1,6 @@
 -- What is left to show of what a program asks where nothing else is owed to what its tasks let go of: it is of what is called and raised
--- at, of owners, of clusters and of processors.
-use Rattle.std.specs.Prelude.{◌≡◌, ℕ, ◌<◌, false, List, [], length}
+-- at, of the tasks of that, of clusters and of processors.
+use Rattle.std.specs.Prelude.{◌≡◌, ℕ, ◌<◌, ◌⊎◌, false, List, []}
 use Rattle.uc_tree.specs.Programs.{Program}
 use Rattle.uc_tree.specs.Source.{Source}
 use Rattle.uc_entry.specs.declared.entry.Options.{Options}
@@ -19,26 +19,27 @@ use Rattle.uc_meaning.specs.Runs.{World, Runs, AsksIn}
 use Rattle.uc_meaning.specs.Cuts.{Reentry}
 use Rattle.uc_program_laws.specs.Fitting.{RunFits}
 use Rattle.uc_letting_laws.specs.AloneRuns.{RideAlone, RunAlone}
+use Rattle.uc_request_laws.specs.Leaving.{LeavesScope}
 
--- what a task spawns has no owner yet; what it calls, and raises events at, is made; the tasks, clusters and processors that it names are
+-- what a task calls is made; so is the object at whose task it raises an event, and that has one; clusters and processors that it names are
 -- there
 abbrev pub IsRemaining : Options → Journal → Request → Type 0
-IsRemaining opts j (ask.Spawn o) = owner o j ≡ []
 IsRemaining opts j (ask.Call o m) = IsMade o j
-IsRemaining opts j (ask.Raise o event x y) = IsMade o j × (length (owner o j) ≡ 1)
+IsRemaining opts j (ask.Raise o event x y) = IsMade o j × (owner o j ≡ [] → ⊥)
 IsRemaining opts j (ask.ClusterEnd c) = c < cluster_count j
 IsRemaining opts j (ask.Processor c) = c < cluster_count j
 IsRemaining opts j (ask.ProcessorEnd q) = q < processor_count opts j
 IsRemaining opts j (ask.Migrate c) = c < cluster_count j
 IsRemaining opts j r = Unit {0}
 
--- so it is of what a task of the program asks, and nothing else is owed to what is let go of, as long as all that was asked before fits
+-- so it is of what a task of the program asks, unless that is the end of a cluster that is a variable; and nothing else is owed to what is let
+-- go of, as long as all that was asked before fits
 abbrev pub AsksRemaining : Source → List ℕ → Options → Type 0
 AsksRemaining source input opts =
     (j : Journal) (w : World) (r : Runs source input opts j w) → RunFits source input opts j w r →
     is_over j ≡ false → (p t n : ℕ) (s : State) (asked : Asked) →
     (d : AsksIn source opts j w p t n s asked) →
-    IsRemaining opts j asked.request × RunAlone source input opts j w r × RideAlone source _ _ s n asked d.rides
+    (IsRemaining opts j asked.request ⊎ LeavesScope source input opts j w r t asked.request) × RunAlone source input opts j w r × RideAlone source _ _ s n asked d.rides
 
 -- then all that a program which breaks no rule asks fits
 abbrev pub LawRemaining : Type 0

@@ -2,6 +2,7 @@
 
 ghost use Rattle.uc_request_laws.specs.RequestLaws.{LawEvents, LawNames};
 ghost use Rattle.uc_request_laws.specs.Holds.{LawHolds, LawTexts};
+ghost use Rattle.uc_request_laws.specs.Lasting.{LawLasting};
 ghost use Rattle.uc_request_laws.specs.Remaining.{LawRemaining};
 
 /// In every run of a program what a task asks names a mutex member by a number of at most 31, and
@@ -29,9 +30,16 @@ pub fn law_texts()
 {}
 
 /// Where nothing else is owed to the objects that tasks let go of, each object of which something is
-/// asked is in hand: then what a program that breaks no rule asks fits where what it calls, and raises
-/// events at, is made, what it spawns has no owner yet, and the tasks, clusters and processors that it
-/// names are there.
+/// asked is in hand, and what is spawned has no owner yet: then what a program that breaks no rule asks
+/// fits where what it calls, and raises events at, is made, and the tasks, clusters and processors that
+/// it names are there.
 pub fn law_remaining()
     ensures { LawRemaining }
+{}
+
+/// Where besides each step finds what it is to find, so that all is known that an execution can come by, what
+/// a task names was made: then what a program that breaks no rule asks fits where what it calls, and raises
+/// events at, is not gone, and what events are raised at has a task.
+pub fn law_lasting()
+    ensures { LawLasting }
 {}

@@ -3,7 +3,7 @@ use Rattle.std.proofs.Common.{ℕ, ◌≤◌, List, [], ◌∷◌, arith}
 use Rattle.uc_tree.specs.Source as src
 use Rattle.uc_tree.specs.Source.{Expr, Exprs, ObjectExpr, Stmt, Stmts, EventStmt, TaskStmt, Handlers, Clauses, CleanUp, Declared, Raised}
 use Rattle.uc_scope_laws.specs.Clusters.{Joined}
-use Rattle.uc_scope_laws.specs.Ordinary.{Ordinary, IsNew, IsGiven, Evaluated}
+use Rattle.uc_scope_laws.specs.Ordinary.{Ordinary, IsNew, IsOwn, IsGiven, Evaluated}
 use Rattle.uc_scope_laws.specs.Rooms.{Room, IsRoom, IsWithin, LiesAt, LiesIn, Destroyed, Lies, Keeps, Holds, OwnAt, OwnIn, DeclaredIn, RaisedIn, StmtIn, StmtsIn, EventIn, TaskIn, ClausesIn}
 
 -- expressions
@@ -24,15 +24,15 @@ ordinary_evaluated low (src.OfObject (src.EndCluster e)) h = absurd h
 ordinary_evaluated low (src.OfObject (src.EndProcessor e)) h = absurd h
 ordinary_evaluated low e h = h
 
-pub ordinary_given : (e : Expr) → Ordinary e → IsGiven e
-ordinary_given (src.OfObject src.NewCluster) h = absurd h
-ordinary_given (src.OfObject (src.NewProcessor e)) h = absurd h
-ordinary_given e h = h
+pub ordinary_given : (p e : Expr) → IsOwn p → Ordinary e → IsGiven p e
+ordinary_given p (src.OfObject src.NewCluster) o h = absurd h
+ordinary_given p (src.OfObject (src.NewProcessor e)) o h = absurd h
+ordinary_given p e o h = (o, h)
 
-pub given_evaluated : (low : ℕ) (e : Expr) → IsGiven e → Evaluated low e
-given_evaluated low (src.OfObject src.NewCluster) h = tt
-given_evaluated low (src.OfObject (src.NewProcessor e)) h = h
-given_evaluated low e h = ordinary_evaluated low e h
+pub given_evaluated : (low : ℕ) (p e : Expr) → IsGiven p e → Evaluated low e
+given_evaluated low p (src.OfObject src.NewCluster) h = tt
+given_evaluated low p (src.OfObject (src.NewProcessor e)) h = h
+given_evaluated low p e h = ordinary_evaluated low e h.1
 
 new_wider : (low wide : ℕ) (e : Expr) → wide ≤ low → IsNew low e → IsNew wide e
 new_wider low wide (src.Variable k) le h = omega (arith, le, h)

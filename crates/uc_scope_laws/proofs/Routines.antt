@@ -60,7 +60,7 @@ module _ (p : Program) where
     built_good c rest n h = ((n, h.0, h.1), tt)
 
     field_start : (b : Bool) (k : Shape) (s : Shape) (i : ℕ) (m : Meant) → OrdinaryMeant m → Evaluated o.low (meaning.field_start p b k (own s i) m)
-    field_start true k s i m h = (tt, ordinary_given m.expr h.expr)
+    field_start true k s i m h = (tt, ordinary_given (own s i) m.expr tt h.expr)
     field_start false k s i m h = (tt, expressions.converted k (tree.value_of m) (expressions.value_of m h))
 
     field_unbound : (b : Bool) (k : Shape) (s : Shape) (i : ℕ) (m : Meant) → IsUnbound (src.Evaluate 0 (meaning.field_start p b k (own s i) m))

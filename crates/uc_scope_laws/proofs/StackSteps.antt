@@ -304,7 +304,7 @@ module _ (Sized : ℕ → ℕ → Type 0) where
     object (src.EnterOn m r a args) todo keeps = go _ _ (λ end c. let now = keeps end c in (now.0, (eva end now.0 a now.1.0.0, (now.1.0.1, (tt, (tt, (tt, now.1.1)))))))
     object (src.EndOn r false a) todo keeps = go _ _ (λ end c. let now = keeps end c in (now.0, (eva end now.0 a now.1.0, (tt, (tt, now.1.1)))))
     object (src.EndOn r true a) todo keeps = go _ _ (λ end c. let now = keeps end c in (now.0, (eva end now.0 a now.1.0, (tt, (tt, (tt, now.1.1))))))
-    object (src.Bind a b) todo keeps = go _ _ (λ end c. let now = keeps end c in (now.0, (eva end now.0 a (new_ordinary now.0.low a now.1.0.0), (given_evaluated now.0.low b now.1.0.1, (tt, now.1.1)))))
+    object (src.Bind a b) todo keeps = go _ _ (λ end c. let now = keeps end c in (now.0, (eva end now.0 a (new_ordinary now.0.low a now.1.0.0), (given_evaluated now.0.low a b now.1.0.1, (tt, now.1.1)))))
     object (src.MakeOn c r false a args) todo keeps = go _ _ (λ end c. let now = keeps end c in (now.0, (eva end now.0 a (new_ordinary now.0.low a now.1.0.0), (now.1.0.1, (tt, (tt, now.1.1))))))
     object (src.MakeOn c r true a args) todo keeps = go _ _ (λ end c. let now = keeps end c in (now.0, (eva end now.0 a (new_ordinary now.0.low a now.1.0.0), (now.1.0.1, (tt, (tt, (tt, now.1.1)))))))
     object src.NewCluster todo keeps = go _ _ (λ end c. let now = keeps end c in (now.0, (tt, now.1.1)))

@@ -388,7 +388,7 @@ module _ (Sized : ℕ → ℕ → Type 0) where
       object (src.EnterOn m r a args) todo n h = go _ _ (eva o a n.0, (n.1, (tt, (tt, (tt, h)))))
       object (src.EndOn r false a) todo n h = go _ _ (eva o a n, (tt, (tt, h)))
       object (src.EndOn r true a) todo n h = go _ _ (eva o a n, (tt, (tt, (tt, h))))
-      object (src.Bind a b) todo n h = go _ _ (eva o a (new_ordinary o.low a n.0), (given_evaluated o.low b n.1, (tt, h)))
+      object (src.Bind a b) todo n h = go _ _ (eva o a (new_ordinary o.low a n.0), (given_evaluated o.low a b n.1, (tt, h)))
       object (src.MakeOn c r false a args) todo n h = go _ _ (eva o a (new_ordinary o.low a n.0), (n.1, (tt, (tt, h))))
       object (src.MakeOn c r true a args) todo n h = go _ _ (eva o a (new_ordinary o.low a n.0), (n.1, (tt, (tt, (tt, h)))))
       object src.NewCluster todo n h = go _ _ (tt, h)

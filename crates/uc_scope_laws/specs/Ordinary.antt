@@ -78,15 +78,21 @@ IsNew low (Element n s e i) = IsNew low e × Ordinary i
 IsNew low (OfObject (OwnField s i)) = Unit {0}
 IsNew low e = ⊥
 
--- what a place is bound to
-abbrev pub IsGiven : Expr → Type 0
-IsGiven (OfObject NewCluster) = Unit {0}
-IsGiven (OfObject (NewProcessor e)) = Ordinary e
-IsGiven e = Ordinary e
+-- a field of the object at hand, an element of one
+abbrev pub IsOwn : Expr → Type 0
+IsOwn (OfObject (OwnField s i)) = Unit {0}
+IsOwn (Element n s e i) = IsOwn e
+IsOwn e = ⊥
+
+-- what a place is bound to: a new cluster, a new processor, and of fields also what is there
+abbrev pub IsGiven : Expr → Expr → Type 0
+IsGiven p (OfObject NewCluster) = Unit {0}
+IsGiven p (OfObject (NewProcessor e)) = Ordinary e
+IsGiven p e = IsOwn p × Ordinary e
 
 -- what is evaluated there by itself
 abbrev pub Evaluated : ℕ → Expr → Type 0
-Evaluated low (OfObject (Bind p e)) = IsNew low p × IsGiven e
+Evaluated low (OfObject (Bind p e)) = IsNew low p × IsGiven p e
 Evaluated low (OfObject (MakeOn c r written p args)) = IsNew low p × OrdinaryAll args
 Evaluated low (OfObject NewCluster) = Unit {0}
 Evaluated low (OfObject (NewProcessor e)) = Ordinary e

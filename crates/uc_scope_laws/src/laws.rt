@@ -40,7 +40,8 @@ pub fn law_runs()
 /// Where all code of a source keeps to its rooms, each step and each answer keeps of all executions of
 /// a task that activations which use one frame stay behind one another: a handler of resumptions uses
 /// that of the routine in which it stands. So what a step clears lies behind the objects of all
-/// activations of the execution that use the frame; and the rooms of each activation end within it.
+/// activations of the execution that use the frame, and of what those that wait are about to build
+/// there; and the rooms of each activation end within it.
 pub fn law_frames()
     ensures { LawFrames }
 {}

@@ -23,7 +23,7 @@ use Rattle.uc_tree.specs.Source as src
 use Rattle.uc_tree.specs.Source.{Expr, Shape, Stmts, Routine}
 use Rattle.uc_resolve.specs.Standings as tree
 use Rattle.uc_resolve.specs.Standings.{Meant, Own, params_of}
-use Rattle.uc_resolve.specs.Resolve.{Scope, context_at, init_named, init_args, cluster_in, constructed, called_by, made_by, field_start, field_started, field_making, field_built, length_in_class, fields_built, set_up, started_in, enlivened, freed, construction, construction_ends, class_by, place_or_zero, routine_scope, place_by, body_by, stmts_meant, nowhere, unwritten_body, source_of}
+use Rattle.uc_resolve.specs.Resolve.{Scope, context_at, init_named, init_args, cluster_in, counted_element, constructed, called_by, made_by, field_start, field_started, field_making, field_built, length_in_class, fields_built, set_up, started_in, enlivened, freed, construction, construction_ends, class_by, place_or_zero, routine_scope, place_by, body_by, stmts_meant, nowhere, unwritten_body, source_of}
 use Rattle.uc_rules.specs.declared.rule.Rule.TheVariants.{S1, S17, O2, O4, O6}
 use Rattle.uc_rules.specs.declared.rules.Bound.{Bound}
 use Rattle.uc_rules.specs.declared.rules.Expected.{Expected}
@@ -63,7 +63,7 @@ use Rattle.uc_sound.proofs.Origins.{origin}
 use Rattle.uc_sound.proofs.RootedLemmas.{HomeIs}
 use Rattle.uc_sound.proofs.BodyLemmas.{InStep, is_written, nobody_wrote, in_step}
 use Rattle.uc_sound.proofs.DestructionLemmas.{Standing, standing, routine_within, params_program}
-use Rattle.uc_source_laws.specs.Initialising.{IsAlone, Given, AllGiven, Starts, Initialises, LawInitialises}
+use Rattle.uc_source_laws.specs.Initialising.{IsAlone, Given, AllGiven, Starts, Fills, Initialises, LawInitialises}
 use Rattle.uc_source_laws.proofs.EarlierLemmas as earlier
 use Rattle.uc_source_laws.proofs.EarlierLemmas.{MeantEarlier}
 use Rattle.uc_source_laws.proofs.FieldOrder.{FieldAt, field_at, is_method, origin_is, in_order, first_named}
@@ -316,6 +316,25 @@ module _ (p : Program) (n : ℕ) where
     builds_at ACluster rest r = (few, inl (tt, tt), r)
     builds_at AProcessor rest r = (few, processor args given, r)
 
+    -- elements take no arguments
+    no_args : (xs : List Param) → tree.args_by xs [] ≡ src.NoExprs
+    no_args [] = refl
+    no_args (x ∷ xs) = refl
+
+    fills_at : (m : Making) (len : ℕ) (rest : ℕ → Type 0) → rest (suc n) → Fills k (constructed p m (counted_element p m len (tree.field_place shape n Own)) []) rest
+    fills_at (APlain j) len rest r = by (written_at p j role.Constructor)
+      where
+        by : (o : Option ℕ) → Fills k (called_by p j role.Constructor (counted_element p (APlain j) len (tree.field_place shape n Own)) [] o) rest
+        by None = (few, r)
+        by (Some x) = (few, no_args (params_of p x), r)
+    fills_at (AMutex j) len rest r = by (written_at p j role.Constructor)
+      where
+        by : (o : Option ℕ) → Fills k (made_by p j (counted_element p (AMutex j) len (tree.field_place shape n Own)) [] o) rest
+        by None = (few, refl, r)
+        by (Some x) = (few, no_args (params_of p x), r)
+    fills_at ACluster len rest r = (few, (tt, tt), r)
+    fills_at AProcessor len rest r = (few, (tt, tt), r)
+
     started : (f : ClassField) (rest : Stmts) → ((k : ℕ) → k ≤ suc n → Initialises k rest) → (ms : List Meant) → AllGivenMeant n ms → Initialises k (field_started p f (tree.field_place shape n Own) ms rest)
     started f rest r [] h = r k (omega (arith, few))
     started f rest r (m ∷ ms) h = by f.declarator.by_ref
@@ -327,7 +346,7 @@ module _ (p : Program) (n : ℕ) where
     one_built : (f : ClassField) (len : Option ℕ) (rest : Stmts) → ((k : ℕ) → k ≤ suc n → Initialises k rest) → (o : Option Making) → Initialises k (field_built p o f len (tree.field_place shape n Own) args rest)
     one_built f len rest r None = started f rest r args given
     one_built f None rest r (Some m) = builds_at m (λ n. Initialises n rest) (r (suc n) (omega arith))
-    one_built f (Some l) rest r (Some m) = r k (omega (arith, few))
+    one_built f (Some l) rest r (Some m) = fills_at m l (λ n. Initialises n rest) (r (suc n) (omega arith))
 
 module _ (p : Program) (c : Class) (i : ℕ) (inits : List Init) (s : Scope) where
   abbrev AllFields : Type 0

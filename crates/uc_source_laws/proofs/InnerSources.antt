@@ -11,10 +11,10 @@ use Rattle.uc_typing.specs.States.{LetsGo, Sound}
 use Rattle.uc_sound.proofs.SoundLemmas.{law_sound}
 use Rattle.uc_sound.proofs.MainLemmas.{main_apart}
 use Rattle.uc_depth_laws.specs.Entering.{lets_go, EnteredClean, EnteredStmt, EnteredStmts, EnteredEvent, EnteredHandlers, EnteredTask, EnteredClauses, EnteredBody, EnteredRoutine, EnteredSource}
-use Rattle.uc_source_laws.proofs.Freeing.{FreesObject, routine_frees}
+use Rattle.uc_enter_laws.proofs.Freeing.{FreesObject, routine_frees}
 use Rattle.uc_enter_laws.proofs.Routines.{law_entered}
 use Rattle.uc_inner_laws.specs.Inner as inner
-use Rattle.uc_inner_laws.specs.Inner.{Part, Plain, Helper, Ground, ground_of, under, count, params_at, params, Exists, CalledOn, InnerExpr, InnerExprs, InnerMaybe, InnerItems, InnerTargets, InnerDeclared, InnerClean, InnerRaised, InnerStmt, InnerStmts, InnerEvent, InnerHandlers, InnerClauses, InnerRoutine, InnerSource}
+use Rattle.uc_inner_laws.specs.Inner.{Part, Plain, Helper, Uncalled, Ground, ground_of, under, count, params_at, params, Exists, CalledOn, InnerExpr, InnerExprs, InnerMaybe, InnerItems, InnerTargets, InnerDeclared, InnerClean, InnerRaised, InnerStmt, InnerStmts, InnerEvent, InnerHandlers, InnerClauses, InnerRoutine, InnerSource}
 use Rattle.uc_source_laws.specs.SourceLaws.{part_by, LawInner}
 
 -- what stands at a place of a list
@@ -264,7 +264,7 @@ module _ (source : Source) (t : Table) (sound : Sound t source) (entered : Enter
         helps : Helps ≡ Makes → ⊥
         helps e = absurd (cc)
     body ss Main q l m f k h =
-        whole (ground_of Helper) (record { inside = λ i. refl; made = λ e. absurd (main (sym q ∙ e)) }) ss f k h
+        whole (ground_of Uncalled) (record { inside = λ i. refl; made = λ e. absurd (main (sym q ∙ e)) }) ss f k h
       where
         main : Main ≡ Makes → ⊥
         main e = absurd (cc)

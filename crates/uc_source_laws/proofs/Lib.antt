@@ -1,4 +1,3 @@
-pub mod Freeing
 pub mod InnerSources
 pub mod SharedParams
 pub mod EarlierLemmas

@@ -2,7 +2,7 @@
 -- which a reference may be bound to.
 use Rattle.std.specs.Prelude.{◌≡◌, ℕ, suc, ◌≤◌, ◌<◌, ◌⊎◌, [], true, Some, slice_get}
 use Rattle.uc_tree.specs.Programs.{Program}
-use Rattle.uc_tree.specs.Source.{Expr, Exprs, ObjectExpr, Load, AsCharacter, AsTruth, Assign, OfObject, NoExprs, MoreExprs, This, OwnField, GetOwn, CallOn, CallUnwritten, Bind, MakeOn, NewProcessor, CleanUp, Stmts, Whole, Evaluate, Fill, OfTasks, TaskStmt, Nil, Then, Scoped, Built, Routine}
+use Rattle.uc_tree.specs.Source.{Expr, Exprs, ObjectExpr, Element, Load, AsCharacter, AsTruth, Assign, OfObject, NoExprs, MoreExprs, This, OwnField, GetOwn, Counted, CallOn, CallUnwritten, Bind, MakeOn, NewProcessor, CleanUp, Stmts, Whole, Evaluate, Fill, OfTasks, TaskStmt, Nil, Then, Scoped, Built, Routine}
 use Rattle.uc_resolve.specs.Resolve.{source_of}
 use Rattle.uc_rules.specs.Breaks.{breaks_of}
 use Rattle.uc_sound.specs.Formed.{IsFormed}
@@ -60,11 +60,19 @@ Starts k (OfObject (CallUnwritten r (OfObject (OwnField s n)))) rest = (k ≤ n)
 Starts k (OfObject (MakeOn c r written (OfObject (OwnField s n)) args)) rest = (k ≤ n) × AllGiven n args × rest (suc n)
 Starts k e rest = ⊥
 
--- the statements of a constructor up to its body; elements of an array are built without arguments
+-- so are the elements of one that is an array, without arguments
+abbrev pub Fills : ℕ → Expr → (ℕ → Type 0) → Type 0
+Fills k (OfObject (Bind (Element m t (OfObject (OwnField s n)) (OfObject Counted)) e)) rest = (k ≤ n) × Earlier n e × rest (suc n)
+Fills k (OfObject (CallOn r (Element m t (OfObject (OwnField s n)) (OfObject Counted)) args)) rest = (k ≤ n) × (args ≡ NoExprs) × rest (suc n)
+Fills k (OfObject (CallUnwritten r (Element m t (OfObject (OwnField s n)) (OfObject Counted)))) rest = (k ≤ n) × rest (suc n)
+Fills k (OfObject (MakeOn c r written (Element m t (OfObject (OwnField s n)) (OfObject Counted)) args)) rest = (k ≤ n) × (args ≡ NoExprs) × rest (suc n)
+Fills k e rest = ⊥
+
+-- the statements of a constructor up to its body
 abbrev pub Initialises : ℕ → Stmts → Type 0
 Initialises k Nil = Unit {0}
 Initialises k (Then (Evaluate line e) rest) = Starts k e (λ n. Initialises n rest)
-Initialises k (Then (Fill line n b d) rest) = Initialises k rest
+Initialises k (Then (Fill line m b d) rest) = Fills k b (λ n. Initialises n rest)
 Initialises k (Then (OfTasks a) rest) = Initialises k rest
 Initialises k (Then (Whole line body) rest) = Unit {0}
 Initialises k (Then a rest) = ⊥

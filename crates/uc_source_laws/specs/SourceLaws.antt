@@ -7,7 +7,7 @@ use Rattle.uc_rules.specs.Breaks.{breaks_of}
 use Rattle.uc_typing.specs.Typing.{Ty, Num, Obj, Clu, Inward, Apart, Enters, Makes, Helps, Main, Table}
 use Rattle.uc_sound.specs.Formed.{IsFormed}
 use Rattle.uc_sound.specs.Tables.{table_of}
-use Rattle.uc_inner_laws.specs.Inner.{Part, Plain, Helper, Maker, InnerSource}
+use Rattle.uc_inner_laws.specs.Inner.{Part, Plain, Helper, Maker, Uncalled, InnerSource}
 
 -- what a routine is for its callers, by how it comes to run inside its object
 abbrev pub part_by : Inward → Part
@@ -15,7 +15,7 @@ part_by Apart = Plain
 part_by Enters = Plain
 part_by Makes = Maker
 part_by Helps = Helper
-part_by Main = Helper
+part_by Main = Uncalled
 
 -- the routine of this number of a program
 abbrev pub part_of : Program → ℕ → Part

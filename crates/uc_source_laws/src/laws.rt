@@ -23,7 +23,7 @@ pub fn law_shared()
 /// In every constructor of a program that breaks no rule fields are initialised in their order, before
 /// its body, and an initialiser names no fields of the object that is built but those before its own
 /// field, or one field alone, which a reference may be bound to. It names neither the object as a
-/// whole nor a member of it.
+/// whole nor a member of it. The elements of an array are built without arguments.
 pub fn law_initialises()
     ensures { LawInitialises }
 {}

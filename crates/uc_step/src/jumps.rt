@@ -99,7 +99,7 @@ pub(crate) fn call(
     ensures err { OnErr result (work.new ≡ work.old) }
 {
     match code.routine(number) {
-        None => { Ok(put_end(code, line, work, stop)) }
+        None => Ok(put_end(code, line, work, stop)),
         Some(routine) => {
             let call = Call {
                 routine,
@@ -157,7 +157,7 @@ pub(crate) fn call_on(
     ensures err { OnErr result (work.new ≡ work.old) }
 {
     match code.routine(number) {
-        None => { Ok(put_end(code, line, work, stop)) }
+        None => Ok(put_end(code, line, work, stop)),
         Some(routine) => {
             let call = object_call(routine, true, work);
             let how = enter(code, line, work, stop, call)?;
@@ -179,7 +179,7 @@ pub(crate) fn call_unwritten(
     ensures err { OnErr result (work.new ≡ work.old) }
 {
     match code.routine(number) {
-        None => { Ok(put_end(code, line, work, stop)) }
+        None => Ok(put_end(code, line, work, stop)),
         Some(routine) => {
             let call = object_call(routine, false, work);
             work.enter(call)?;

@@ -171,8 +171,7 @@ fn built(
     ensures { Ends (act_built code.now line object request work.old)
         (ended result stop.new) work.new }
 {
-    let is_blocked = work.is_held_up(object);
-    if is_blocked {
+    if work.is_held_up(object) {
         return put_fault(code, line, work, stop, RunFault::BlockedInside);
     }
     let how = put_request(code, line, work, stop, request);

@@ -6,8 +6,8 @@ ghost use Rattle.uc_value_laws.specs.Reading.{LawReading};
 ghost use Rattle.uc_value_laws.specs.ValueLaws.{LawSteps};
 
 /// What is in scope and known by its number is there: the variable that its clean-up ends holds an
-/// object, from the opening of the scope on, whatever is written meanwhile and whoever runs. That a
-/// cluster's variable does so where its scope opens is found on the way from its declaration.
+/// object, whatever is written meanwhile and whoever runs. So does a variable from the step that binds
+/// it on, before its scope opens; from its declaration to that step it holds no place and no execution.
 pub fn law_steps()
     ensures { LawSteps }
 {}
@@ -20,15 +20,16 @@ pub fn law_reading()
 {}
 
 /// Where activations that use one frame stay behind one another, a step finds what it is to find as soon
-/// as a scope opens where its variable holds an object; of clusters nothing is asked there.
+/// as what binds a variable takes, what is no object is bound aside of variables that are still to be
+/// bound, and the scope of an array, or of a variable at a cell that has no address, opens where these hold
+/// objects; of clusters nothing is asked.
 pub fn law_fair()
     ensures { LawFair }
 {}
 
 /// So in each run of a program that breaks no rule, as long as all that was asked so far fits, all is
-/// there that is in scope and known by its number, of all tasks, at rest and in each state to which
-/// whoever runs comes before it asks, as long as each scope opens where its variable holds an object,
-/// but for clusters, of which nothing is asked.
+/// there that is in scope and known by its number, of all tasks that have not ended, at rest and in each
+/// state to which whoever runs comes before it asks, as long as that is so at each step.
 pub fn law_runs()
     ensures { LawRuns }
 {}

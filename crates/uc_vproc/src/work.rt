@@ -71,11 +71,7 @@ fn bring<R: Wait>(
 
 // Whether a task or a processor is made, so that one more worker may find something to do.
 fn makes_work(request: &Request) -> bool {
-    match *request {
-        Request::Spawn { .. } => true,
-        Request::Processor { .. } => true,
-        _ => false,
-    }
+    matches!(request, Request::Spawn { .. } | Request::Processor { .. })
 }
 
 // Takes the kernel to say that memory is wanting.
@@ -151,11 +147,7 @@ fn boxed(child: Option<Task>) -> Option<Option<Task>>
 fn stops(request: &Request) -> bool
     ensures { result ≡ rest.stops request.now }
 {
-    match *request {
-        Request::End => true,
-        Request::Fault { .. } => true,
-        _ => false,
-    }
+    matches!(request, Request::End | Request::Fault { .. })
 }
 
 // A ride and its act. What is asked is written where it is lent.
@@ -224,13 +216,17 @@ pub fn work<R: Wait, G: Gate>(
             Step::Idle => {
                 let heard = bell.heard();
                 let next = begin(rt, lock, &mut seat);
-                if is_going(&next) {
-                    dispatches = dispatches.wrapping_add(1);
-                    told = dispatches;
-                    vain = 0;
-                } else if is_idle(&next) {
-                    bell.wait(rt, heard, vain);
-                    vain = vain.saturating_add(1);
+                match &next {
+                    Step::Going(_) => {
+                        dispatches = dispatches.wrapping_add(1);
+                        told = dispatches;
+                        vain = 0;
+                    }
+                    Step::Idle => {
+                        bell.wait(rt, heard, vain);
+                        vain = vain.saturating_add(1);
+                    }
+                    Step::Over => {}
                 }
                 next
             }
@@ -241,24 +237,6 @@ pub fn work<R: Wait, G: Gate>(
         };
     }
     unreachable!()
-}
-
-fn is_going(step: &Step) -> bool
-    ensures { result ≡ is_some (given_in step.now) }
-{
-    match step {
-        Step::Going(_) => true,
-        Step::Idle => false,
-        Step::Over => false,
-    }
-}
-
-fn is_idle(step: &Step) -> bool {
-    match step {
-        Step::Going(_) => false,
-        Step::Idle => true,
-        Step::Over => false,
-    }
 }
 
 fn is_send<T: Send>() {}

@@ -1,0 +1,194 @@
+-- Where what is bound is there behind the step that binds it, scopes of what is known by its number open as they are to.
+use Rattle.std.proofs.Common.{◌≡◌, ℕ, inl, inr, false, List, [], ◌∷◌, refl, sym, subst}
+use Rattle.uc_tree.specs.Programs.{Program}
+use Rattle.uc_tree.specs.Source as src
+use Rattle.uc_tree.specs.Source.{Source, Expr, CleanUp, Stmts}
+use Rattle.uc_entry.specs.declared.entry.Options.{Options}
+use Rattle.uc_entry.specs.declared.request.Answer.{Answer}
+use Rattle.uc_entry.specs.declared.request.Asked.{Asked}
+use Rattle.uc_acts.specs.Journal.{Journal, is_over}
+use Rattle.uc_acts.specs.KernelRuns.{InRange}
+use Rattle.uc_machine.specs.Pieces as piece
+use Rattle.uc_machine.specs.Pieces.{Value, Todo, at}
+use Rattle.uc_machine.specs.Quiet as quiet
+use Rattle.uc_machine.specs.Quiet.{State}
+use Rattle.uc_machine.specs.Answering.{answered}
+use Rattle.uc_machine.specs.Rides as rides
+use Rattle.uc_machine.specs.Rides.{Rides}
+use Rattle.uc_meaning.specs.Runs.{World, Runs, drawn, gives, no_room, acts, begun, more}
+use Rattle.uc_program_laws.specs.Fitting.{RunFits}
+use Rattle.uc_resolve.specs.Resolve.{source_of}
+use Rattle.uc_rules.specs.Breaks.{breaks_of}
+use Rattle.uc_scope_laws.specs.Layout.{Sized}
+use Rattle.uc_scope_laws.specs.Rooms.{SourceIn}
+use Rattle.uc_scope_laws.specs.RoomStacks.{StackState, StackStep}
+use Rattle.uc_scope_laws.specs.RoomRuns as runs
+use Rattle.uc_scope_laws.specs.RoomRuns.{Leads, Comes}
+use Rattle.uc_scope_laws.proofs.StackWalk as stacking
+use Rattle.uc_scope_laws.proofs.StackWorlds as stacked
+use Rattle.uc_scope_laws.proofs.Unreferring.{law_accepted}
+use Rattle.uc_value_laws.specs.There.{IsThere, AllCounted, Any, frame_at}
+use Rattle.uc_value_laws.specs.Declaring as declaring
+use Rattle.uc_value_laws.specs.Declaring.{Point, point_todo}
+use Rattle.uc_value_laws.specs.NewClusters as way
+use Rattle.uc_value_laws.specs.NewClusters.{Stage, stage_todo, GoodBy, GoodStepBy}
+use Rattle.uc_value_laws.specs.Opens as there
+use Rattle.uc_value_laws.specs.Opens.{RideMeets, RunMeets, LeadsMeet}
+use Rattle.uc_value_laws.proofs.Cells.{held_there}
+use Rattle.uc_value_laws.proofs.Walk as values
+use Rattle.uc_value_laws.proofs.Worlds as value_runs
+use Rattle.uc_typing.specs.Typing.{Table}
+use Rattle.uc_sound.specs.Tables.{table_of}
+use Rattle.uc_sound.proofs.SoundLemmas.{law_sound}
+use Rattle.uc_life_laws.specs.LifeStates.{OpensAt}
+use Rattle.uc_life_laws.specs.Opened.{any}
+use Rattle.uc_life_laws.specs.KnownRuns.{PassesBelow, Meets, AllIsKnown}
+use Rattle.uc_life_laws.specs.OpenedRuns.{MeetsObjects, LawOpenedRuns}
+use Rattle.uc_life_laws.proofs.Opened.{law_opens}
+use Rattle.uc_life_laws.proofs.Following.{law_following}
+use Rattle.uc_life_laws.proofs.KnownWorlds.{law_known_runs}
+
+-- what holds of less is met where more is
+module _ (P Q : State → Type 0) (f : (s : State) → P s → Q s) (source : Source) where
+  ride_more : {s u : State} {q k : ℕ} {a : Asked} (r : Rides source s q u k a) → RideMeets P source s q u k a r → RideMeets Q source s q u k a r
+  ride_more rides.slices h = tt
+  ride_more (rides.goes_on {s} e r) h = (f s h.0, ride_more r h.1)
+  ride_more (rides.ticks {s} e r) h = (f s h.0, ride_more r h.1)
+  ride_more (rides.asks {s} e) h = f s h
+
+  run_more : (input : List ℕ) (opts : Options) {j : Journal} {w : World} (r : Runs source input opts j w) → RunMeets P source input opts j w r → RunMeets Q source input opts j w r
+  run_more input opts begun h = tt
+  run_more input opts (more r o (gives p t s le)) h = (run_more input opts r h.0, tt)
+  run_more input opts (more r o (no_room p t s le)) h = (run_more input opts r h.0, tt)
+  run_more input opts (more r o (acts p t k s asked d)) h = (run_more input opts r h.0, ride_more d.rides h.1)
+
+  lead_more : {s u : State} (l : Leads source s u) → LeadsMeet P source s u l → LeadsMeet Q source s u l
+  lead_more runs.stays h = tt
+  lead_more (runs.goes {s} e l) h = (f s h.0, lead_more l h.1)
+  lead_more (runs.ticks {s} e l) h = (f s h.0, lead_more l h.1)
+
+-- behind the step that opens a scope, what that is of is there
+
+module _ (rest : Stmts) (c : CleanUp) (todo : List Todo) where
+  abbrev opened : List Todo
+  opened = piece.Rest rest ∷ (piece.Clean c ∷ todo)
+
+  by_point : (g : Point) (l : ℕ) (e : Expr) (ss : Stmts) (behind : List Todo) → opened ≡ point_todo g l e ss behind → piece.Clean c ∷ todo ≡ behind
+  by_point (declaring.Declares m d) l e ss behind q = absurd (cc)
+  by_point (declaring.Lists m d) l e ss behind q = absurd (cc)
+  by_point (declaring.Clears m d) l e ss behind q = absurd (cc)
+  by_point (declaring.Cleared m) l e ss behind q = absurd (cc)
+  by_point (declaring.Passes m) l e ss behind q = absurd (cc)
+  by_point declaring.Reaches l e ss behind q = cc
+
+  by_stage : (g : Stage) (k l : ℕ) (ss : Stmts) (behind : List Todo) → opened ≡ stage_todo g k l ss behind → piece.Clean c ∷ todo ≡ behind
+  by_stage way.Does k l ss behind q = absurd (cc)
+  by_stage way.Binds k l ss behind q = absurd (cc)
+  by_stage way.Places k l ss behind q = absurd (cc)
+  by_stage way.Makes k l ss behind q = absurd (cc)
+  by_stage way.Orders k l ss behind q = absurd (cc)
+  by_stage way.Told k l ss behind q = absurd (cc)
+  by_stage way.Bound k l ss behind q = absurd (cc)
+  by_stage way.Leaves k l ss behind q = absurd (cc)
+  by_stage way.Opens k l ss behind q = cc
+
+  behind_there : (vs : List Value) (behind : List Todo) → piece.Clean c ∷ todo ≡ behind → AllCounted Any vs behind → IsThere vs c
+  behind_there vs behind q h = (subst (AllCounted Any vs) (sym q) h).0.0
+
+  good_there : (vs : List Value) (s : State) → GoodBy Any (at opened vs s) → IsThere (frame_at s.run.frame s.env.frames) c
+  good_there vs s (inl h) = (held_there Any (frame_at s.run.frame s.env.frames) opened h.stack.1).1.0
+  good_there vs s (inr (inl d)) = behind_there (frame_at s.run.frame s.env.frames) d.todo (by_point d.point d.line d.binder d.next d.todo d.control) d.behind
+  good_there vs s (inr (inr o)) = behind_there (frame_at s.run.frame s.env.frames) o.todo (by_stage o.stage o.cell o.line o.next o.todo o.control) o.behind
+
+module _ (p : Program) (accepted : breaks_of p ≡ []) where
+  abbrev source : Source
+  source = source_of p
+
+  abbrev t : Table
+  t = table_of p
+
+  abbrev Z : ℕ → ℕ → Type 0
+  Z = Sized p
+
+  known : SourceIn Z source
+  known = law_accepted p accepted
+
+  steps_to : (s : State) → StackState Z s → there.Opens source s → GoodBy Any s → GoodStepBy Any (quiet.quiet source s)
+  steps_to s st o h = values.law_steps.steps Any source (value_runs.law_fair.begins p source known) s h (value_runs.law_fair.fair p source s st o)
+
+  stack_to : (s : State) → StackState Z s → StackStep Z (quiet.quiet source s)
+  stack_to s st = stacking.walk Z source known s st
+
+  scope_there : (s : State) → StackState Z s → there.Opens source s → GoodBy Any s → (c : CleanUp) (rest : Stmts) (todo : List Todo) → s.run.control ≡ piece.Rest (src.Scoped c rest) ∷ todo → IsThere (frame_at s.run.frame s.env.frames) c
+  scope_there s st o h c rest todo e =
+      good_there rest c todo s.run.operands s (subst (λ (l : List Todo). GoodStepBy Any (quiet.act_todo source l s)) e (steps_to s st o h))
+
+  -- so a scope opens as it is to
+  meets_at : (s : State) → StackState Z s → GoodBy Any s → MeetsObjects t source s → Meets t any s
+  meets_at s st h m life x = (by s.run.control refl, m.finds x)
+    where
+      by : (l : List Todo) → s.run.control ≡ l → OpensAt t any l s
+      by (piece.Rest (src.Scoped c rest) ∷ todo) e =
+          subst (λ l. OpensAt t any l s) e (law_opens.opens t s (law_following.typed t any [] s x) c rest todo e (scope_there s st m.opens h c rest todo e) (m.objects c rest todo e))
+      by l e = tt
+
+  ride_meets : {s u : State} {q k : ℕ} {a : Asked} (r : Rides source s q u k a) → RideMeets (MeetsObjects t source) source s q u k a r → StackState Z s → GoodBy Any s → RideMeets (Meets t any) source s q u k a r
+  ride_meets rides.slices m st h = tt
+  ride_meets (rides.goes_on {s} e r) m st h =
+      (meets_at s st h m.0, ride_meets r m.1 (subst (StackStep Z) e (stack_to s st)) (subst (GoodStepBy Any) e (steps_to s st m.0.opens h)))
+  ride_meets (rides.ticks {s} e r) m st h =
+      (meets_at s st h m.0, ride_meets r m.1 (subst (StackStep Z) e (stack_to s st)) (subst (GoodStepBy Any) e (steps_to s st m.0.opens h)))
+  ride_meets (rides.asks {s} e) m st h = meets_at s st h m
+
+  lead_meets : {s u : State} (l : Leads source s u) → LeadsMeet (MeetsObjects t source) source s u l → StackState Z s → GoodBy Any s → LeadsMeet (Meets t any) source s u l
+  lead_meets runs.stays m st h = tt
+  lead_meets (runs.goes {s} e l) m st h =
+      (meets_at s st h m.0, lead_meets l m.1 (subst (StackStep Z) e (stack_to s st)) (subst (GoodStepBy Any) e (steps_to s st m.0.opens h)))
+  lead_meets (runs.ticks {s} e l) m st h =
+      (meets_at s st h m.0, lead_meets l m.1 (subst (StackStep Z) e (stack_to s st)) (subst (GoodStepBy Any) e (steps_to s st m.0.opens h)))
+
+  module _ (input : List ℕ) (opts : Options) (range : InRange opts) where
+    begun_stack : {j : Journal} {w : World} → Runs source input opts j w → (n : ℕ) (a : Answer) → StackState Z (answered source a (drawn j w n))
+    begun_stack {j} {w} r n a = stacking.answered_rests Z source a (drawn j w n) (stacked.drawn_rests Z j w n (stacked.world_rests Z source known input opts r))
+
+    all_there : {j : Journal} {w : World} (r : Runs source input opts j w) → RunFits source input opts j w r → is_over j ≡ false → RunMeets (MeetsObjects t source) source input opts j w r → there.AllIsThere source j w
+    all_there {j} {w} r f on m =
+        value_runs.law_runs p accepted input opts range j w r f on (run_more (MeetsObjects t source) (there.Opens source) (λ s x. x.opens) source input opts r m)
+
+    run_meets : {j : Journal} {w : World} (r : Runs source input opts j w) → RunFits source input opts j w r → RunMeets (MeetsObjects t source) source input opts j w r → RunMeets (Meets t any) source input opts j w r
+    run_meets begun f m = tt
+    run_meets (more r on (gives q n s le)) f m = (run_meets r f.0 m.0, tt)
+    run_meets (more r on (no_room q n s le)) f m = (run_meets r f.0 m.0, tt)
+    run_meets (more {j} {w} r on (acts q n k s asked d)) f m =
+        (run_meets r f.0 m.0, ride_meets d.rides m.1 (begun_stack r n d.given) ((all_there r f.0 on m.0).comes n (answered source d.given (drawn j w n)) (record { given = d.given; processor = q; runs = d.runs; told = d.told; leads = runs.stays }) tt))
+
+pub law_opened_runs : LawOpenedRuns
+law_opened_runs p formed accepted input opts range j w r fits on meets = record {
+  comes = λ n s c l. all.comes n s c (leads n s c l);
+  reads = λ n s c l m.
+      let h = good n s c l in
+      let st : StackState (Sized p) s = stack n s c in
+      let x = (meets_at p accepted s st h m (all.scopes n s c (leads n s c l)) (all.comes n s c (leads n s c l))).1 in
+      law_following.reads (table_of p) any (source_of p) (law_sound p formed accepted) s (all.scopes n s c (leads n s c l)) x.0 x.1;
+}
+  where
+    below : PassesBelow any opts j
+    below = record { objects = λ c n l. refl; clusters = λ n l. refl; processors = λ n l. refl }
+
+    all : AllIsKnown (table_of p) any (source_of p) j w
+    all = law_known_runs p formed accepted any input opts range j w r fits on below (run_meets p accepted input opts range r fits meets)
+
+    there_all : there.AllIsThere (source_of p) j w
+    there_all = all_there p accepted input opts range r fits on meets
+
+    start : (n : ℕ) (s : State) (c : Comes (source_of p) j w n s) → GoodBy Any (answered (source_of p) c.given (drawn j w n))
+    start n s c = there_all.comes n (answered (source_of p) c.given (drawn j w n)) (record { given = c.given; processor = c.processor; runs = c.runs; told = c.told; leads = runs.stays }) tt
+
+    good : (n : ℕ) (s : State) (c : Comes (source_of p) j w n s) → LeadsMeet (MeetsObjects (table_of p) (source_of p)) (source_of p) (answered (source_of p) c.given (drawn j w n)) s c.leads → GoodBy Any s
+    good n s c l = there_all.comes n s c (lead_more (MeetsObjects (table_of p) (source_of p)) (there.Opens (source_of p)) (λ s x. x.opens) (source_of p) c.leads l)
+
+    leads : (n : ℕ) (s : State) (c : Comes (source_of p) j w n s) → LeadsMeet (MeetsObjects (table_of p) (source_of p)) (source_of p) (answered (source_of p) c.given (drawn j w n)) s c.leads → LeadsMeet (Meets (table_of p) any) (source_of p) (answered (source_of p) c.given (drawn j w n)) s c.leads
+    leads n s c l = lead_meets p accepted c.leads l (begun_stack p accepted input opts range r n c.given) (start n s c)
+
+    stack : (n : ℕ) (s : State) (c : Comes (source_of p) j w n s) → StackState (Sized p) s
+    stack n s c = (stacked.law_frame_runs p accepted input opts j w r).comes n s c

@@ -1,0 +1,12 @@
+pub mod Things
+pub mod LifeStates
+pub mod LifeLaws
+pub mod Knowing
+pub mod KnownAnswers
+pub mod Following
+pub mod Opened
+pub mod LifeRuns
+pub mod LifeReading
+pub mod KnownRuns
+pub mod NamedAsks
+pub mod OpenedRuns

@@ -1,0 +1,157 @@
+-- What an execution knows: the things that are still to be cleaned up, each by its place and its type, and all that lies within them.
+use Rattle.std.specs.Prelude.{◌≡◌, ℕ, ◌≤◌, ◌<◌, ◌⊎◌, Bool, true, List, [], ◌∷◌, slice_index_or}
+use Rattle.uc_tree.specs.Source.{Shape, Variable, OfObject, OwnField, CleanUp}
+use Rattle.uc_machine.specs.declared.exec.Exec.{Exec}
+use Rattle.uc_machine.specs.declared.exec.Owner.{Owner}
+use Rattle.uc_machine.specs.declared.exec.Owner.TheVariants.{Frame, Fields}
+use Rattle.uc_machine.specs.Pieces.{Link, Slot, FieldAt, At, Value, Number, Place, Running, Object, Nothing, further, nought, address, Todo, Sort, sort, IsClean, IsPart, Active}
+use Rattle.uc_typing.specs.Typing.{Ty, Num, Cell, Obj, Raw, Row, Clu, Pro, Table, element_shape, CleansAt}
+use Rattle.uc_typing.specs.States.{Is}
+
+-- a field that somebody declared: the first cell of a coroutine names its execution
+abbrev pub IsField : Table → ℕ → ℕ → Type 0
+IsField t c i = t.executes c ≡ true → 1 ≤ i
+
+-- what lies within a thing of a type at a place: it itself, the fields of an object whose fields have places, the elements of an array
+pub data Within (t : Table) (w : Value) (a : Ty) : Value → Ty → Type 0 where
+  itself : Within t w a w a
+  field : {v : Value} {c : ℕ} → Within t w a v (Obj c) → (i : ℕ) → IsField t c i →
+      Within t w a (further (FieldAt (t.shape c) i) v) (t.fields c i)
+  element : {v : Value} {m : ℕ} {b : Ty} → Within t w a v (Row m b) → (j : ℕ) → j < m →
+      Within t w a (further (At (element_shape t b) j) v) b
+
+-- what a binding is to: a scalar's place, an object, a cluster or a processor
+abbrev pub IsScalar : Ty → Type 0
+IsScalar Num = Unit {0}
+IsScalar a = ⊥
+
+abbrev pub IsBinding : Ty → Type 0
+IsBinding Num = ⊥
+IsBinding (Cell a) = IsScalar a
+IsBinding (Obj c) = Unit {0}
+IsBinding (Raw c) = ⊥
+IsBinding (Row n a) = ⊥
+IsBinding Clu = Unit {0}
+IsBinding Pro = Unit {0}
+
+-- the things of activations
+
+-- in an activation with this frame and this object: what a clean-up is for, which stands at a variable of the frame, or at a field of the object
+abbrev pub AtVariable : Table → Owner → Value → CleanUp → Value → Ty → Type 0
+AtVariable t o this c w a = (k : ℕ) × CleansAt t a (Variable k) c × (w ≡ Place o (Slot k ∷ []))
+
+abbrev pub AtField : Table → Owner → Value → CleanUp → Value → Ty → Type 0
+AtField t o this c w a = (s : Shape) × (i : ℕ) × CleansAt t a (OfObject (OwnField s i)) c ×
+    (w ≡ further (FieldAt s i) this)
+
+abbrev pub IsFor : Table → Owner → Value → CleanUp → Value → Ty → Type 0
+IsFor t o this c w a = AtVariable t o this c w a ⊎ AtField t o this c w a
+
+abbrev pub Nowhere : Owner → Value → CleanUp → Value → Ty → Type 0
+Nowhere o this c w a = ⊥
+
+-- `P c w a`: the clean-up c of a scope is for what is of the type a at the place w; `Q c w a`: so is that of a part of the object under construction
+module _ (P Q : CleanUp → Value → Ty → Type 0) where
+  -- a mark, before what lies outwards of it
+  abbrev pub Marks : Sort → Value → Ty → Type 0 → Type 0
+  Marks (IsClean c) w a rest = P c w a ⊎ rest
+  Marks (IsPart c) w a rest = Q c w a ⊎ rest
+  Marks k w a rest = rest
+
+  abbrev pub InTodo : List Todo → Value → Ty → Type 0
+  InTodo [] w a = ⊥
+  InTodo (p ∷ todo) w a = Marks (sort p) w a (InTodo todo w a)
+
+-- of an execution of this name, the newest activation first
+module _ (P Q : Owner → Value → CleanUp → Value → Ty → Type 0) (n : Exec) where
+  abbrev pub InStack : List Active → Value → Ty → Type 0
+  InStack [] w a = ⊥
+  InStack (c ∷ older) w a = InTodo (P (Frame n c.frame) c.this) (Q (Frame n c.frame) c.this) c.control w a ⊎
+      InStack older w a
+
+-- all things of an execution; those that are variables, and those that are fields of objects at hand
+abbrev pub Things : Table → Exec → List Active → Value → Ty → Type 0
+Things t n cs w a = InStack (IsFor t) (AtField t) n cs w a
+
+abbrev pub Variables : Table → Exec → List Active → Value → Ty → Type 0
+Variables t n cs w a = InStack (AtVariable t) Nowhere n cs w a
+
+abbrev pub OwnFields : Table → Exec → List Active → Value → Ty → Type 0
+OwnFields t n cs w a = InStack (AtField t) (AtField t) n cs w a
+
+-- a binding to a place or to an object
+abbrev pub IsReference : Ty → Type 0
+IsReference Num = ⊥
+IsReference (Cell a) = IsScalar a
+IsReference (Obj c) = Unit {0}
+IsReference (Raw c) = ⊥
+IsReference (Row n a) = ⊥
+IsReference Clu = ⊥
+IsReference Pro = ⊥
+
+-- nothing is bound in what is of this type
+abbrev pub IsUnbound : Table → Ty → Type 0
+IsUnbound t a = (w v : Value) (b : Ty) → Within t w a v (Cell b) → IsBinding b → ⊥
+
+-- a place of this type is told by the thing in which it lies: that of an object in which something is bound, of an array of such, and of a
+-- reference. It is not told of scalars, of what is being built, of clusters and processors
+abbrev pub IsTracked : Table → Ty → Type 0
+IsTracked t Num = ⊥
+IsTracked t (Cell a) = IsReference a
+IsTracked t (Obj c) = IsUnbound t (Obj c) → ⊥
+IsTracked t (Raw c) = ⊥
+IsTracked t (Row n a) = IsTracked t a × (0 < n)
+IsTracked t Clu = ⊥
+IsTracked t Pro = ⊥
+
+-- what is known
+
+-- `few a o`: what is of the type a may have the number o
+module _ (t : Table) (few : Ty → ℕ → Bool) (n : Exec) where
+  abbrev pub IsFew : Ty → Value → Type 0
+  IsFew a (Number z) = Unit {0}
+  IsFew a (Place o p) = Unit {0}
+  IsFew a (Running x) = Unit {0}
+  IsFew a (Object o) = few a o ≡ true
+  IsFew a Nothing = Unit {0}
+
+  -- a place in the execution's own frames lies within a thing that is known
+  abbrev pub LiesIn : (Value → Ty → Type 0) → Ty → Value → Type 0
+  LiesIn K b (Number z) = Unit {0}
+  LiesIn K b (Place (Frame x d) p) = x ≡ n →
+      (w : Value) × (a : Ty) × K w a × Within t w a (Place (Frame x d) p) b
+  LiesIn K b (Place (Fields o) p) = Unit {0}
+  LiesIn K b (Running x) = Unit {0}
+  LiesIn K b (Object o) = Unit {0}
+  LiesIn K b Nothing = Unit {0}
+
+  -- it is of its type, a number is such, and a place lies in what is known. Of what is in the frames of other executions or in mutex
+  -- objects nothing more is told, and nothing of the places of scalars
+  pub record IsKnown (K : Value → Ty → Type 0) (a : Ty) (v : Value) : Type 0 where
+    pub is : Is t a v
+    pub passes : IsFew a v
+    pub rooted : IsTracked t a → LiesIn K a v
+
+  -- one that is being built or destroyed has such a number
+  pub record IsMade (c : ℕ) (v : Value) : Type 0 where
+    pub is : Is t (Raw c) v
+    pub passes : IsFew (Obj c) v
+
+  -- a value of a type is known: of numbers nothing is claimed
+  abbrev pub Known : (Value → Ty → Type 0) → Ty → Value → Type 0
+  Known K Num v = Unit {0}
+  Known K (Cell a) v = IsKnown K (Cell a) v
+  Known K (Obj c) v = IsKnown K (Obj c) v
+  Known K (Raw c) v = IsMade c v
+  Known K (Row m a) v = IsKnown K (Row m a) v
+  Known K Clu v = IsKnown K Clu v
+  Known K Pro v = IsKnown K Pro v
+
+  -- each binding within a thing at a place of an owner with these values is to what is known
+  abbrev pub Holds : (Value → Ty → Type 0) → Owner → List Value → Value → Ty → Type 0
+  Holds K o vs w a = (p : List Link) (b : Ty) → Within t w a (Place o p) (Cell b) → IsBinding b →
+      Known K b (slice_index_or vs (address p) nought)
+
+-- a thing lies before a cell of its owner: all its bindings do
+abbrev pub LiesBefore : Table → ℕ → Owner → Value → Ty → Type 0
+LiesBefore t cell o w a = (p : List Link) (b : Ty) → Within t w a (Place o p) (Cell b) → address p < cell
