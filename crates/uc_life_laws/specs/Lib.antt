@@ -1,0 +1,3 @@
+pub mod Things
+pub mod LifeStates
+pub mod LifeLaws

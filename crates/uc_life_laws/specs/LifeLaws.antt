@@ -1,0 +1,18 @@
+-- What is in scope keeps what it holds.
+use Rattle.std.specs.Prelude.{◌≡◌, ℕ, Bool}
+use Rattle.uc_tree.specs.Source.{Source, routine_of}
+use Rattle.uc_entry.specs.declared.request.Answer.{Answer}
+use Rattle.uc_machine.specs.Quiet.{State, quiet, first_state}
+use Rattle.uc_machine.specs.Answering.{answered}
+use Rattle.uc_typing.specs.Typing.{Ty, Table}
+use Rattle.uc_life_laws.specs.LifeStates.{LifeState, LifeStep, Opens, Clears}
+
+-- of any table and any source: a task begins so, and each step keeps it that finds what it is to find where a scope opens and where cells start
+-- anew; so does each answer
+pub record LawSteps : Type 0 where
+  pub begins : (t : Table) (few : Ty → ℕ → Bool) (source : Source) (r o : ℕ) →
+      LifeState t few (first_state (routine_of source r) o)
+  pub steps : (t : Table) (few : Ty → ℕ → Bool) (source : Source) (s : State) → LifeState t few s →
+      Opens t few s → Clears t s → LifeStep t few (quiet source s)
+  pub told : (t : Table) (few : Ty → ℕ → Bool) (source : Source) (given : Answer) (s : State) →
+      LifeState t few s → LifeState t few (answered source given s)
