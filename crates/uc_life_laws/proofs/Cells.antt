@@ -10,7 +10,7 @@ use Rattle.uc_machine.specs.Pieces as piece
 use Rattle.uc_machine.specs.Pieces.{Value, Number, Place, Running, Object, Nothing, Todo, Sort, Active, stored, nought, address}
 use Rattle.uc_typing.specs.Typing.{Ty, Num, Cell, Obj, Raw, Row, Clu, Pro, Table}
 use Rattle.uc_typing.specs.States.{whole, IsAt, IsNumbered, IsObjectBy, Is}
-use Rattle.uc_life_laws.specs.Things.{IsBinding, Known, Holds, LiesBefore}
+use Rattle.uc_life_laws.specs.Things.{IsBinding, IsKnown, Known, Holds, LiesBefore}
 use Rattle.uc_life_laws.specs.LifeStates.{frame_at, CleanHolds, MarkHolds, AllHold, LifeStack, MarkBefore, AllBefore, FrameBefore}
 
 -- the first of two by a test
@@ -58,29 +58,30 @@ module _ (t : Table) where
   object_stored true c v x h = numbered_stored v x h
   object_stored false c v x h = placed_stored (Obj c) v x h
 
-  -- what is bound stays so
-  bound_stored : (b : Ty) (v x : Value) → IsBinding b → Is t b x → stored v x ≡ x
-  bound_stored Num v x i h = absurd i
-  bound_stored (Cell a) v x i h = placed_stored (Cell (whole a)) v x h
-  bound_stored (Obj c) v x i h = object_stored (t.mutex c) c v x h
-  bound_stored (Raw c) v x i h = absurd i
-  bound_stored (Row n a) v x i h = placed_stored (Row n (whole a)) v x h
-  bound_stored Clu v x i h = numbered_stored v x h
-  bound_stored Pro v x i h = numbered_stored v x h
-
   object_nought : (b : Bool) (c : ℕ) → IsObjectBy t b c nought → ⊥
   object_nought true c h = h
   object_nought false c h = h
 
+module _ (t : Table) (few : Ty → ℕ → Bool) (n : Exec) (K : Value → Ty → Type 0) where
+  -- what is bound stays so
+  known_stored : (b : Ty) (v x : Value) → IsBinding b → Known t few n K b x → Known t few n K b (stored v x)
+  known_stored Num v x i h = absurd i
+  known_stored (Cell a) v x i h = subst (IsKnown t few n K (Cell a)) (sym (placed_stored t (Cell (whole a)) v x h.is)) h
+  known_stored (Obj c) v x i h = subst (IsKnown t few n K (Obj c)) (sym (object_stored t (t.mutex c) c v x h.is)) h
+  known_stored (Raw c) v x i h = absurd i
+  known_stored (Row m a) v x i h = subst (IsKnown t few n K (Row m a)) (sym (placed_stored t (Row m (whole a)) v x h.is)) h
+  known_stored Clu v x i h = subst (IsKnown t few n K Clu) (sym (numbered_stored t v x h.is)) h
+  known_stored Pro v x i h = subst (IsKnown t few n K Pro) (sym (numbered_stored t v x h.is)) h
+
   -- a number is no binding
-  bound_nought : (b : Ty) → IsBinding b → Is t b nought → ⊥
-  bound_nought Num i h = i
-  bound_nought (Cell a) i h = h
-  bound_nought (Obj c) i h = object_nought (t.mutex c) c h
-  bound_nought (Raw c) i h = i
-  bound_nought (Row n a) i h = h
-  bound_nought Clu i h = h
-  bound_nought Pro i h = h
+  known_nought : (b : Ty) → IsBinding b → Known t few n K b nought → ⊥
+  known_nought Num i h = i
+  known_nought (Cell a) i h = h.is
+  known_nought (Obj c) i h = object_nought t (t.mutex c) c h.is
+  known_nought (Raw c) i h = i
+  known_nought (Row m a) i h = h.is
+  known_nought Clu i h = h.is
+  known_nought Pro i h = h.is
 
 -- frames
 
@@ -129,11 +130,11 @@ others_length (x ∷ xs) n h = omega (arith, h)
 module _ (t : Table) (few : Ty → ℕ → Bool) (n : Exec) where
   holds_stored : (K : Value → Ty → Type 0) (o : Owner) (vs : List Value) (k : ℕ) (v w : Value) (a : Ty) → Holds t few n K o vs w a → Holds t few n K o (value_changed k (stored v) nought vs) w a
   holds_stored K o vs k v w a h p b i binds =
-      cell_stored (Known t few n K b) v (λ x y. subst (Known t few n K b) (sym (bound_stored t b v x binds y.is)) y) vs (address p) k (h p b i binds)
+      cell_stored (Known t few n K b) v (λ x y. known_stored t few n K b v x binds y) vs (address p) k (h p b i binds)
 
   holds_cleared : (K : Value → Ty → Type 0) (o : Owner) (vs : List Value) (k m : ℕ) (w : Value) (a : Ty) → LiesBefore t k o w a → Holds t few n K o vs w a → Holds t few n K o (values_cleared k m nought vs) w a
   holds_cleared K o vs k m w a l h p b i binds =
-      cell_taken (Known t few n K b) (λ y. bound_nought t b binds y.is) vs _ (address p) k (l p b i) (h p b i binds)
+      cell_taken (Known t few n K b) (λ y. known_nought t few n K b binds y) vs _ (address p) k (l p b i) (h p b i binds)
 
   module _ (f : ℕ) (this : Value) (older : List Active) where
     mark_stored : (vs : List Value) (k : ℕ) (v : Value) (s : Sort) (todo : List Todo) (R Q : Type 0) → (R → Q) → MarkHolds t few n vs f this older s todo R → MarkHolds t few n (value_changed k (stored v) nought vs) f this older s todo Q

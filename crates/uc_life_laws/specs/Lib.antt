@@ -1,3 +1,4 @@
 pub mod Things
 pub mod LifeStates
 pub mod LifeLaws
+pub mod Knowing

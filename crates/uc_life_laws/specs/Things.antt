@@ -32,18 +32,22 @@ IsBinding Pro = Unit {0}
 
 -- the things of activations
 
--- in an activation with this frame and this object
-module _ (t : Table) (o : Owner) (this : Value) where
-  -- what a clean-up is for: what stands at a variable of the frame, or at a field of the object
-  abbrev pub IsFor : CleanUp → Value → Ty → Type 0
-  IsFor c w a =
-      ((k : ℕ) × CleansAt t a (Variable k) c × (w ≡ Place o (Slot k ∷ []))) ⊎
-      ((s : Shape) × (i : ℕ) × CleansAt t a (OfObject (OwnField s i)) c × (w ≡ further (FieldAt s i) this))
+-- in an activation with this frame and this object: what a clean-up is for, which stands at a variable of the frame, or at a field of the object
+abbrev pub AtVariable : Table → Owner → Value → CleanUp → Value → Ty → Type 0
+AtVariable t o this c w a = (k : ℕ) × CleansAt t a (Variable k) c × (w ≡ Place o (Slot k ∷ []))
 
+abbrev pub AtField : Table → Owner → Value → CleanUp → Value → Ty → Type 0
+AtField t o this c w a = (s : Shape) × (i : ℕ) × CleansAt t a (OfObject (OwnField s i)) c × (w ≡ further (FieldAt s i) this)
+
+abbrev pub IsFor : Table → Owner → Value → CleanUp → Value → Ty → Type 0
+IsFor t o this c w a = AtVariable t o this c w a ⊎ AtField t o this c w a
+
+-- `P c w a`: the clean-up c is for what is of the type a at the place w
+module _ (P : CleanUp → Value → Ty → Type 0) where
   -- a mark, before what lies outwards of it: of an object in scope, or of a part of the object under construction
   abbrev pub Marks : Sort → Value → Ty → Type 0 → Type 0
-  Marks (IsClean c) w a rest = IsFor c w a ⊎ rest
-  Marks (IsPart c) w a rest = IsFor c w a ⊎ rest
+  Marks (IsClean c) w a rest = P c w a ⊎ rest
+  Marks (IsPart c) w a rest = P c w a ⊎ rest
   Marks k w a rest = rest
 
   abbrev pub InTodo : List Todo → Value → Ty → Type 0
@@ -51,47 +55,62 @@ module _ (t : Table) (o : Owner) (this : Value) where
   InTodo (p ∷ todo) w a = Marks (sort p) w a (InTodo todo w a)
 
 -- of an execution of this name, the newest activation first
-abbrev pub InStack : Table → Exec → List Active → Value → Ty → Type 0
-InStack t n [] w a = ⊥
-InStack t n (c ∷ older) w a = InTodo t (Frame n c.frame) c.this c.control w a ⊎ InStack t n older w a
+module _ (P : Owner → Value → CleanUp → Value → Ty → Type 0) (n : Exec) where
+  abbrev pub InStack : List Active → Value → Ty → Type 0
+  InStack [] w a = ⊥
+  InStack (c ∷ older) w a = InTodo (P (Frame n c.frame) c.this) c.control w a ⊎ InStack older w a
+
+-- all things of an execution
+abbrev pub Things : Table → Exec → List Active → Value → Ty → Type 0
+Things t n cs w a = InStack (IsFor t) n cs w a
+
+-- a place of this type is one of a thing, of a part of one, or of a binding in one, if it is in scope: not one of scalars, nor of what is being built
+abbrev pub IsTracked : Ty → Type 0
+IsTracked Num = ⊥
+IsTracked (Cell a) = IsBinding a
+IsTracked (Obj c) = Unit {0}
+IsTracked (Raw c) = ⊥
+IsTracked (Row n a) = IsTracked a
+IsTracked Clu = ⊥
+IsTracked Pro = ⊥
 
 -- what is known
 
 -- `few a o`: what is of the type a may have the number o
 module _ (t : Table) (few : Ty → ℕ → Bool) (n : Exec) where
-  -- numbers are such
-  abbrev pub Passes : Ty → Value → Type 0
-  Passes a (Number z) = Unit {0}
-  Passes a (Place o p) = Unit {0}
-  Passes a (Running x) = Unit {0}
-  Passes a (Object o) = few a o ≡ true
-  Passes a Nothing = Unit {0}
+  abbrev pub IsFew : Ty → Value → Type 0
+  IsFew a (Number z) = Unit {0}
+  IsFew a (Place o p) = Unit {0}
+  IsFew a (Running x) = Unit {0}
+  IsFew a (Object o) = few a o ≡ true
+  IsFew a Nothing = Unit {0}
 
-  -- an object at a place in the execution's own frames lies within a thing that it knows
-  abbrev pub LiesIn : (Value → Ty → Type 0) → ℕ → Value → Type 0
-  LiesIn K c (Number z) = Unit {0}
-  LiesIn K c (Place (Frame x d) p) = x ≡ n →
-      (w : Value) × (a : Ty) × K w a × Within t w a (Place (Frame x d) p) (Obj c)
-  LiesIn K c (Place (Fields o) p) = Unit {0}
-  LiesIn K c (Running x) = Unit {0}
-  LiesIn K c (Object o) = Unit {0}
-  LiesIn K c Nothing = Unit {0}
+  -- a place in the execution's own frames lies within a thing that is known
+  abbrev pub LiesIn : (Value → Ty → Type 0) → Ty → Value → Type 0
+  LiesIn K b (Number z) = Unit {0}
+  LiesIn K b (Place (Frame x d) p) = x ≡ n →
+      (w : Value) × (a : Ty) × K w a × Within t w a (Place (Frame x d) p) b
+  LiesIn K b (Place (Fields o) p) = Unit {0}
+  LiesIn K b (Running x) = Unit {0}
+  LiesIn K b (Object o) = Unit {0}
+  LiesIn K b Nothing = Unit {0}
 
-  abbrev pub Rooted : (Value → Ty → Type 0) → Ty → Value → Type 0
-  Rooted K Num v = Unit {0}
-  Rooted K (Cell a) v = Unit {0}
-  Rooted K (Obj c) v = LiesIn K c v
-  Rooted K (Raw c) v = Unit {0}
-  Rooted K (Row m a) v = Unit {0}
-  Rooted K Clu v = Unit {0}
-  Rooted K Pro v = Unit {0}
-
-  -- a value of a type is known: it is of it, a number is such, and an object is one that is known. Of what is in the frames of other
-  -- executions or in mutex objects nothing more is told, and nothing of the places of scalars
-  pub record Known (K : Value → Ty → Type 0) (a : Ty) (v : Value) : Type 0 where
+  -- it is of its type, a number is such, and a place lies in what is known. Of what is in the frames of other executions or in mutex
+  -- objects nothing more is told, and nothing of the places of scalars
+  pub record IsKnown (K : Value → Ty → Type 0) (a : Ty) (v : Value) : Type 0 where
     pub is : Is t a v
-    pub passes : Passes a v
-    pub rooted : Rooted K a v
+    pub passes : IsFew a v
+    pub rooted : IsTracked a → LiesIn K a v
+
+  -- a value of a type is known: of numbers nothing is claimed
+  abbrev pub Known : (Value → Ty → Type 0) → Ty → Value → Type 0
+  Known K Num v = Unit {0}
+  Known K (Cell a) v = IsKnown K (Cell a) v
+  Known K (Obj c) v = IsKnown K (Obj c) v
+  Known K (Raw c) v = Is t (Raw c) v
+  Known K (Row m a) v = IsKnown K (Row m a) v
+  Known K Clu v = IsKnown K Clu v
+  Known K Pro v = IsKnown K Pro v
 
   -- each binding within a thing at a place of an owner with these values is to what is known
   abbrev pub Holds : (Value → Ty → Type 0) → Owner → List Value → Value → Ty → Type 0

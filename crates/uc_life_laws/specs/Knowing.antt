@@ -1,0 +1,177 @@
+-- States in which all that an execution can come by is known: its operands, the parameters in its frames, and the objects of its activations.
+use Rattle.std.specs.Prelude.{◌≡◌, ℕ, ◌⊎◌, Bool, true, false, List, [], ◌∷◌, Option, Some, None}
+use Rattle.uc_tree.specs.Source.{Shape, Expr, ObjectExpr, Variable, Get, OfObject, This, OwnField, GetOwn, Source}
+use Rattle.uc_entry.specs.declared.request.Request.{Request}
+use Rattle.uc_entry.specs.declared.request.Request.TheVariants as ask
+use Rattle.uc_machine.specs.declared.exec.Exec.{Exec}
+use Rattle.uc_machine.specs.declared.exec.Owner.TheVariants.{Frame}
+use Rattle.uc_machine.specs.declared.exec.Stage.{Stage}
+use Rattle.uc_machine.specs.declared.exec.Stage.TheVariants.{Fresh, Started, Ended}
+use Rattle.uc_machine.specs.Executions.{Execution, at_depth, others}
+use Rattle.uc_machine.specs.Pieces.{FieldAt, Value, Number, Place, Running, Object, Nothing, Todo, Eval, LoadNow, ElementNow, FieldNow, EnterNow, Clean, Part, Active, State, Env, Step, Goes, Ticks, Asks, further, loaded, top, variable_at}
+use Rattle.uc_machine.specs.Answering.{child_main}
+use Rattle.uc_typing.specs.Typing.{Ty, Num, Cell, Obj, Raw, Row, Clu, Pro, Name, Sig, Table, IsParam, Among, IsTarget, object_ty, element_shape, Yields}
+use Rattle.uc_typing.specs.Pieces.{Ok, onto}
+use Rattle.uc_typing.specs.States.{IsBase, IsTask}
+use Rattle.uc_life_laws.specs.Things.{IsField, IsBinding, IsTracked, Within, AtField, InStack, Things, LiesIn, Known}
+use Rattle.uc_life_laws.specs.LifeStates.{EnvBy}
+
+module _ (t : Table) (few : Ty → ℕ → Bool) (n : Exec) where
+  -- operands
+  abbrev pub KnownAll : (Value → Ty → Type 0) → List Ty → List Value → Type 0
+  KnownAll K [] [] = Unit {0}
+  KnownAll K [] (v ∷ vs) = ⊥
+  KnownAll K (a ∷ more) [] = ⊥
+  KnownAll K (a ∷ more) (v ∷ vs) = Known t few n K a v × KnownAll K more vs
+
+  -- the first cells of a frame hold the parameters
+  abbrev pub KnownParams : (Value → Ty → Type 0) → List Ty → List Value → Type 0
+  KnownParams K [] vs = Unit {0}
+  KnownParams K (a ∷ more) [] = ⊥
+  KnownParams K (a ∷ more) (v ∷ vs) = Known t few n K a v × KnownParams K more vs
+
+  -- each frame is one of a routine of this kind; its parameters are known to those that waited as it was called
+  abbrev pub KnownFrames : List Sig → List (List Value) → List Active → Type 0
+  KnownFrames [] [] [] = Unit {0}
+  KnownFrames (g ∷ gs) (f ∷ fs) (c ∷ cs) = KnownParams (Things t n cs) g.params f × KnownFrames gs fs cs
+  KnownFrames _ _ _ = ⊥
+
+  -- so is the object of an activation; that of a constructor or a destructor is not whole
+  abbrev pub KnownThis : (Value → Ty → Type 0) → Sig → Option ℕ → Value → Type 0
+  KnownThis K g None v = Unit {0}
+  KnownThis K g (Some c) v = Known t few n K (object_ty g.whole c) v
+
+  -- an activation is in order, before these older ones, that is to find these operands in front of its own
+  pub record Knows (gs : List Sig) (given : List Ty) (older : List Active) (a : Active) : Type 0 where
+    pub sig : Sig
+    pub own : List Ty
+    pub scope : List Name
+    pub base : List Name
+    pub frame : at_depth gs a.frame ≡ Some sig
+    pub values : KnownAll (Things t n (a ∷ older)) own a.operands
+    pub this : KnownThis (Things t n older) sig sig.this a.this
+    pub ok : Ok t sig base scope a.control (onto given own)
+    pub ends : IsBase t sig a.handles base a.frame older
+
+  -- those that wait, each for a number
+  abbrev pub KnowsWaits : List Sig → List Active → Type 0
+  KnowsWaits gs [] = Unit {0}
+  KnowsWaits gs (c ∷ cs) = Knows gs (Num ∷ []) cs c × KnowsWaits (others gs) cs
+
+  -- an execution that does not run, where it may be activated
+  pub record KnowsEx (x : Execution (List Todo) Value) : Type 0 where
+    pub sigs : List Sig
+    pub frames : KnownFrames sigs x.frames (x.run ∷ x.callers)
+    pub run : Knows sigs [] x.callers x.run
+    pub callers : KnowsWaits (others sigs) x.callers
+
+  abbrev pub KnowsBy : Stage → Execution (List Todo) Value → Type 0
+  KnowsBy Fresh x = KnowsEx x
+  KnowsBy Started x = KnowsEx x
+  KnowsBy Ended x = Unit {0}
+
+module _ (t : Table) (few : Ty → ℕ → Bool) where
+  abbrev pub KnowsSlot : Exec → Execution (List Todo) Value → Type 0
+  KnowsSlot n x = KnowsBy t few n x.links.stage x
+
+  abbrev pub KnowsEnv : Env → Type 0
+  KnowsEnv e = EnvBy KnowsSlot e
+
+  -- a state that is to be given these operands
+  pub record KnowsState (given : List Ty) (s : State) : Type 0 where
+    pub sigs : List Sig
+    pub frames : KnownFrames t few s.env.exec sigs s.env.frames (s.run ∷ s.callers)
+    pub run : Knows t few s.env.exec sigs given s.callers s.run
+    pub callers : KnowsWaits t few s.env.exec (others sigs) s.callers
+    pub env : KnowsEnv s.env
+
+  -- one that has asked is to be given what the answer tells; what is behind an end others go on with, and behind a fault nobody
+  abbrev pub KnowsAsked : Source → Request → State → Type 0
+  KnowsAsked source (ask.Make m) s = (c : ℕ) × (t.number c ≡ m) × (t.mutex c ≡ true) × KnowsState (Raw c ∷ []) s
+  KnowsAsked source (ask.Spawn o) s = IsTask t (child_main source s.run.control) × KnowsState [] s
+  KnowsAsked source (ask.Accept o site mask) s = KnowsState (Num ∷ (Num ∷ [])) s
+  KnowsAsked source (ask.Empty o m) s = KnowsState (Num ∷ []) s
+  KnowsAsked source (ask.Front o m) s = KnowsState (Num ∷ []) s
+  KnowsAsked source (ask.Poll mask) s = KnowsState (Num ∷ (Num ∷ (Num ∷ []))) s
+  KnowsAsked source (ask.Read form) s = KnowsState (Num ∷ []) s
+  KnowsAsked source ask.Fail s = KnowsState (Num ∷ []) s
+  KnowsAsked source ask.Cluster s = KnowsState (Clu ∷ []) s
+  KnowsAsked source (ask.Processor c) s = KnowsState (Pro ∷ []) s
+  KnowsAsked source ask.End s = KnowsEnv s.env
+  KnowsAsked source (ask.Fault m) s = Unit {0}
+  KnowsAsked source r s = KnowsState [] s
+
+  -- what is named by a request of this to-do list has such a number: the object of a call, but for a destructor's, that at which an event is
+  -- raised, a cluster and a processor
+  abbrev pub Names : List Todo → Request → Type 0
+  Names (EnterNow m r ∷ todo) (ask.Call o k) = (t.routine r).whole ≡ false → (c : ℕ) × (few (Obj c) o ≡ true)
+  Names todo (ask.Raise o k x y) = (c : ℕ) × (few (Obj c) o ≡ true) × IsTarget t c
+  Names todo (ask.ClusterEnd c) = few Clu c ≡ true
+  Names todo (ask.Processor c) = (c ≡ 0) ⊎ (few Clu c ≡ true)
+  Names todo (ask.ProcessorEnd q) = few Pro q ≡ true
+  Names todo (ask.Migrate c) = few Clu c ≡ true
+  Names todo r = Unit {0}
+
+  abbrev pub KnowsStep : Source → List Todo → Step → Type 0
+  KnowsStep source todo (Goes s) = KnowsState [] s
+  KnowsStep source todo (Ticks s) = KnowsState [] s
+  KnowsStep source todo (Asks r s) = Names todo r × KnowsAsked source r s
+
+-- What a step is still to find, of a state in order.
+
+-- a place is tracked where it is found, though nothing in scope tells so
+abbrev pub IsRooted : Table → (Ty → ℕ → Bool) → Exec → (Value → Ty → Type 0) → Ty → Value → Type 0
+IsRooted t few n K a v = IsTracked a → LiesIn t few n K a v
+
+-- places in frames of other executions and in mutex objects
+abbrev pub IsOwn : Exec → Value → Type 0
+IsOwn n (Place (Frame x d) p) = x ≡ n
+IsOwn n v = ⊥
+
+module _ (t : Table) (few : Ty → ℕ → Bool) (g : Sig) (sc : List Name) (s : State) where
+  abbrev pub Here : Value → Ty → Type 0
+  Here w a = Things t s.env.exec (s.run ∷ s.callers) w a
+
+  -- what is read at a place is known, where that is no binding of what is whole, where it belongs to another execution or a mutex object,
+  -- and where it lies in a field of an object that is being built or destroyed
+  pub record ReadsKnown (a : Ty) (v : Value) : Type 0 where
+    pub raw : (IsBinding a → ⊥) → Known t few s.env.exec Here a (loaded v s.env)
+    pub foreign : (IsOwn s.env.exec v → ⊥) → Known t few s.env.exec Here a (loaded v s.env)
+    pub field : (w : Value) (b : Ty) → InStack (AtField t) s.env.exec (s.run ∷ s.callers) w b → Within t w b v (Cell a) →
+        Known t few s.env.exec Here a (loaded v s.env)
+
+  -- in a constructor or a destructor a field of the object at hand is there; each field is one that somebody declared
+  pub record FieldKnown (i : ℕ) (a : Ty) (v : Value) : Type 0 where
+    pub there : g.whole ≡ true → IsRooted t few s.env.exec Here a v
+    pub declared : (c : ℕ) → g.this ≡ Some c → IsTracked (t.fields c i) → IsField t c i
+
+  -- so is the object itself, where it is taken for a whole one
+  abbrev pub FindsObject : ObjectExpr → Ty → Type 0
+  FindsObject This a = g.whole ≡ true → Known t few s.env.exec Here a s.run.this
+  FindsObject (OwnField k i) a = FieldKnown i a (further (FieldAt k i) s.run.this)
+  FindsObject (GetOwn k i) a = FieldKnown i (Cell a) (further (FieldAt k i) s.run.this) × ReadsKnown a (further (FieldAt k i) s.run.this)
+  FindsObject o a = Unit {0}
+
+  -- a variable that is no object in scope is no object
+  abbrev pub FindsExpr : Expr → Ty → Type 0
+  FindsExpr (Variable k) a =
+      ((b : Ty) → IsParam g.params k b → IsRooted t few s.env.exec Here (Cell b) (variable_at k s)) ×
+      (Among g.locals k a → IsRooted t few s.env.exec Here a (variable_at k s))
+  FindsExpr (OfObject o) a = FindsObject o a
+  FindsExpr e a = Unit {0}
+
+  abbrev pub AreNumbers : List Ty → Type 0
+  AreNumbers [] = Unit {0}
+  AreNumbers (Num ∷ more) = AreNumbers more
+  AreNumbers (a ∷ more) = ⊥
+
+  abbrev pub Finds : List Todo → List Ty → Type 0
+  Finds (Eval e ∷ todo) own = (a : Ty) → Yields t g sc e a → FindsExpr e a
+  Finds (LoadNow ∷ todo) (Cell a ∷ more) = ReadsKnown a (top s.run.operands)
+  -- the shape of an element is that of what stands there
+  Finds (ElementNow m k ∷ todo) (Num ∷ (Row j a ∷ more)) = IsTracked a → k ≡ element_shape t a
+  Finds (FieldNow k i ∷ todo) (Obj c ∷ more) = IsTracked (t.fields c i) → IsField t c i
+  -- whoever comes to a mark hands over numbers alone
+  Finds (Clean c ∷ todo) own = AreNumbers own
+  Finds (Part c ∷ todo) own = AreNumbers own
+  Finds todo own = Unit {0}
