@@ -1,1 +1,5 @@
 pub mod Cells
+pub mod Parked
+pub mod Keeping
+pub mod Steps
+pub mod Walk
