@@ -4,3 +4,4 @@ pub mod Keeping
 pub mod Steps
 pub mod Walk
 pub mod Knowns
+pub mod Reading

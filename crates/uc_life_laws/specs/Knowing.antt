@@ -8,12 +8,14 @@ use Rattle.uc_machine.specs.declared.exec.Owner.TheVariants.{Frame}
 use Rattle.uc_machine.specs.declared.exec.Stage.{Stage}
 use Rattle.uc_machine.specs.declared.exec.Stage.TheVariants.{Fresh, Started, Ended}
 use Rattle.uc_machine.specs.Executions.{Execution, at_depth, others}
-use Rattle.uc_machine.specs.Pieces.{FieldAt, Value, Number, Place, Running, Object, Nothing, Todo, Eval, LoadNow, ElementNow, FieldNow, Clean, Part, Active, State, Env, Step, Goes, Ticks, Asks, further, loaded, top, variable_at}
+use Rattle.uc_machine.specs.Pieces.{FieldAt, Value, Number, Place, Running, Object, Nothing, Todo, Eval, LoadNow, ElementNow, FieldNow, Clean, Part, SetUpNow, Active, State, Env, Step, Goes, Ticks, Asks, further, loaded, top, variable_at}
+use Rattle.uc_machine.specs.Switches.{new_exec}
+use Rattle.uc_machine.specs.Quiet.{home_at}
 use Rattle.uc_machine.specs.Answering.{child_main}
 use Rattle.uc_typing.specs.Typing.{Ty, Num, Cell, Obj, Raw, Row, Clu, Pro, Name, Sig, Table, IsParam, Among, IsTarget, object_ty, element_shape, Yields}
 use Rattle.uc_typing.specs.Pieces.{Ok, onto}
 use Rattle.uc_typing.specs.States.{IsBase, IsTask}
-use Rattle.uc_life_laws.specs.Things.{IsField, IsBinding, IsTracked, Within, AtField, InStack, Things, LiesIn, Known}
+use Rattle.uc_life_laws.specs.Things.{IsField, IsBinding, IsTracked, Within, OwnFields, Things, LiesIn, Known}
 use Rattle.uc_life_laws.specs.LifeStates.{EnvBy}
 
 -- the object at hand, in a constructor or a destructor: it is there, but not whole
@@ -149,7 +151,7 @@ module _ (t : Table) (few : Ty → ℕ → Bool) (gs : List Sig) (g : Sig) (sc :
   pub record ReadsKnown (a : Ty) (v : Value) : Type 0 where
     pub raw : (IsBinding a → ⊥) → Known t few s.env.exec Here a (loaded v s.env)
     pub foreign : (IsOwn s.env.exec v → ⊥) → Known t few s.env.exec Here a (loaded v s.env)
-    pub field : (w : Value) (b : Ty) → InStack (AtField t) s.env.exec (s.run ∷ s.callers) w b → Within t w b v (Cell a) →
+    pub field : (w : Value) (b : Ty) → OwnFields t s.env.exec (s.run ∷ s.callers) w b → Within t w b v (Cell a) →
         Known t few s.env.exec Here a (loaded v s.env)
     pub making : (w : Value) (b : Ty) → InMaking gs (s.run ∷ s.callers) w b → Within t w b v (Cell a) →
         Known t few s.env.exec Here a (loaded v s.env)
@@ -185,4 +187,6 @@ module _ (t : Table) (few : Ty → ℕ → Bool) (gs : List Sig) (g : Sig) (sc :
   -- whoever comes to a mark hands over numbers alone
   Finds (Clean c ∷ todo) own = AreNumbers own
   Finds (Part c ∷ todo) own = AreNumbers own
+  -- the name of a new execution is not that of the one in whose frame its coroutine is
+  Finds (SetUpNow r ∷ todo) own = IsOwn (new_exec (home_at s.run.this s.env) s.env) s.run.this → ⊥
   Finds todo own = Unit {0}
