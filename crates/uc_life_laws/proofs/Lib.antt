@@ -3,3 +3,6 @@ pub mod Parked
 pub mod Keeping
 pub mod Steps
 pub mod Walk
+pub mod Knowns
+pub mod Parking
+pub mod KnownAnswers

@@ -20,13 +20,17 @@ pub data Within (t : Table) (w : Value) (a : Ty) : Value → Ty → Type 0 where
   element : {v : Value} {m : ℕ} {b : Ty} → Within t w a v (Row m b) → (j : ℕ) → j < m →
       Within t w a (further (At (element_shape t b) j) v) b
 
--- a cell of this type is bound, where it is one of what is whole: to an object, a place, a cluster or a processor
+-- what a binding is to: a scalar's place, an object, a cluster or a processor
+abbrev pub IsScalar : Ty → Type 0
+IsScalar Num = Unit {0}
+IsScalar a = ⊥
+
 abbrev pub IsBinding : Ty → Type 0
 IsBinding Num = ⊥
-IsBinding (Cell a) = Unit {0}
+IsBinding (Cell a) = IsScalar a
 IsBinding (Obj c) = Unit {0}
 IsBinding (Raw c) = ⊥
-IsBinding (Row n a) = Unit {0}
+IsBinding (Row n a) = ⊥
 IsBinding Clu = Unit {0}
 IsBinding Pro = Unit {0}
 
@@ -42,12 +46,15 @@ AtField t o this c w a = (s : Shape) × (i : ℕ) × CleansAt t a (OfObject (Own
 abbrev pub IsFor : Table → Owner → Value → CleanUp → Value → Ty → Type 0
 IsFor t o this c w a = AtVariable t o this c w a ⊎ AtField t o this c w a
 
--- `P c w a`: the clean-up c is for what is of the type a at the place w
-module _ (P : CleanUp → Value → Ty → Type 0) where
-  -- a mark, before what lies outwards of it: of an object in scope, or of a part of the object under construction
+abbrev pub Nowhere : Owner → Value → CleanUp → Value → Ty → Type 0
+Nowhere o this c w a = ⊥
+
+-- `P c w a`: the clean-up c of a scope is for what is of the type a at the place w; `Q c w a`: so is that of a part of the object under construction
+module _ (P Q : CleanUp → Value → Ty → Type 0) where
+  -- a mark, before what lies outwards of it
   abbrev pub Marks : Sort → Value → Ty → Type 0 → Type 0
   Marks (IsClean c) w a rest = P c w a ⊎ rest
-  Marks (IsPart c) w a rest = P c w a ⊎ rest
+  Marks (IsPart c) w a rest = Q c w a ⊎ rest
   Marks k w a rest = rest
 
   abbrev pub InTodo : List Todo → Value → Ty → Type 0
@@ -55,14 +62,20 @@ module _ (P : CleanUp → Value → Ty → Type 0) where
   InTodo (p ∷ todo) w a = Marks (sort p) w a (InTodo todo w a)
 
 -- of an execution of this name, the newest activation first
-module _ (P : Owner → Value → CleanUp → Value → Ty → Type 0) (n : Exec) where
+module _ (P Q : Owner → Value → CleanUp → Value → Ty → Type 0) (n : Exec) where
   abbrev pub InStack : List Active → Value → Ty → Type 0
   InStack [] w a = ⊥
-  InStack (c ∷ older) w a = InTodo (P (Frame n c.frame) c.this) c.control w a ⊎ InStack older w a
+  InStack (c ∷ older) w a = InTodo (P (Frame n c.frame) c.this) (Q (Frame n c.frame) c.this) c.control w a ⊎ InStack older w a
 
--- all things of an execution
+-- all things of an execution; those that are variables, and those that are fields of objects at hand
 abbrev pub Things : Table → Exec → List Active → Value → Ty → Type 0
-Things t n cs w a = InStack (IsFor t) n cs w a
+Things t n cs w a = InStack (IsFor t) (AtField t) n cs w a
+
+abbrev pub Variables : Table → Exec → List Active → Value → Ty → Type 0
+Variables t n cs w a = InStack (AtVariable t) Nowhere n cs w a
+
+abbrev pub OwnFields : Table → Exec → List Active → Value → Ty → Type 0
+OwnFields t n cs w a = InStack (AtField t) (AtField t) n cs w a
 
 -- a place of this type is one of a thing, of a part of one, or of a binding in one, if it is in scope: not one of scalars, nor of what is being built
 abbrev pub IsTracked : Ty → Type 0
@@ -102,12 +115,17 @@ module _ (t : Table) (few : Ty → ℕ → Bool) (n : Exec) where
     pub passes : IsFew a v
     pub rooted : IsTracked a → LiesIn K a v
 
+  -- one that is being built or destroyed has such a number
+  pub record IsMade (c : ℕ) (v : Value) : Type 0 where
+    pub is : Is t (Raw c) v
+    pub passes : IsFew (Obj c) v
+
   -- a value of a type is known: of numbers nothing is claimed
   abbrev pub Known : (Value → Ty → Type 0) → Ty → Value → Type 0
   Known K Num v = Unit {0}
   Known K (Cell a) v = IsKnown K (Cell a) v
   Known K (Obj c) v = IsKnown K (Obj c) v
-  Known K (Raw c) v = Is t (Raw c) v
+  Known K (Raw c) v = IsMade c v
   Known K (Row m a) v = IsKnown K (Row m a) v
   Known K Clu v = IsKnown K Clu v
   Known K Pro v = IsKnown K Pro v
