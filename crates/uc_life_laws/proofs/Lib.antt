@@ -6,3 +6,4 @@ pub mod Walk
 pub mod Knowns
 pub mod Parking
 pub mod KnownAnswers
+pub mod Reading
