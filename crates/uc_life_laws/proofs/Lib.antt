@@ -7,3 +7,5 @@ pub mod Knowns
 pub mod Parking
 pub mod KnownAnswers
 pub mod Reading
+pub mod Returning
+pub mod Unwinding
