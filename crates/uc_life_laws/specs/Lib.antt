@@ -2,3 +2,4 @@ pub mod Things
 pub mod LifeStates
 pub mod LifeLaws
 pub mod Knowing
+pub mod KnownAnswers

@@ -1,5 +1,6 @@
 // The laws: each is a function whose contract is the law.
 
+ghost use Rattle.uc_life_laws.specs.KnownAnswers.{LawAnswers};
 ghost use Rattle.uc_life_laws.specs.LifeLaws.{LawKnown, LawSteps};
 
 /// What is in scope keeps what it holds.
@@ -10,4 +11,9 @@ pub fn law_steps()
 /// In a state in which all is known that its execution can come by, a step leads to one.
 pub fn law_known()
     ensures { LawKnown }
+{}
+
+/// All stays known with an answer that suits what was asked, and is known in a task that begins.
+pub fn law_answers()
+    ensures { LawAnswers }
 {}
