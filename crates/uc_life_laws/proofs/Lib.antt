@@ -11,3 +11,4 @@ pub mod Returning
 pub mod Unwinding
 pub mod Going
 pub mod Evaluating
+pub mod Following

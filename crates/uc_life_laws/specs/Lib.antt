@@ -3,3 +3,4 @@ pub mod LifeStates
 pub mod LifeLaws
 pub mod Knowing
 pub mod KnownAnswers
+pub mod Following
