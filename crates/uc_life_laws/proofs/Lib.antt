@@ -9,3 +9,5 @@ pub mod KnownAnswers
 pub mod Reading
 pub mod Returning
 pub mod Unwinding
+pub mod Going
+pub mod Calls
