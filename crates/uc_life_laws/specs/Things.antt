@@ -77,10 +77,21 @@ Variables t n cs w a = InStack (AtVariable t) Nowhere n cs w a
 abbrev pub OwnFields : Table → Exec → List Active → Value → Ty → Type 0
 OwnFields t n cs w a = InStack (AtField t) (AtField t) n cs w a
 
--- a place of this type is one of a thing, of a part of one, or of a binding in one, if it is in scope: not one of scalars, nor of what is being built
+-- a binding to a place or to an object
+abbrev pub IsReference : Ty → Type 0
+IsReference Num = ⊥
+IsReference (Cell a) = IsScalar a
+IsReference (Obj c) = Unit {0}
+IsReference (Raw c) = ⊥
+IsReference (Row n a) = ⊥
+IsReference Clu = ⊥
+IsReference Pro = ⊥
+
+-- a place of this type is one of a thing, of a part of one, or of a reference in one: not one of scalars, nor of what is being built, and of
+-- clusters and processors it is not told
 abbrev pub IsTracked : Ty → Type 0
 IsTracked Num = ⊥
-IsTracked (Cell a) = IsBinding a
+IsTracked (Cell a) = IsReference a
 IsTracked (Obj c) = Unit {0}
 IsTracked (Raw c) = ⊥
 IsTracked (Row n a) = IsTracked a

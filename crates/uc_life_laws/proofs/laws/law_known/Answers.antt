@@ -1,4 +1,4 @@
-use Rattle.uc_life_laws.proofs.Reading.{at_thing}
+use Rattle.uc_life_laws.proofs.Reading.{load_known}
 use Rattle.uc_life_laws.proofs.laws.law_known.Goals as goal
 
 pub returns : goal.returns
