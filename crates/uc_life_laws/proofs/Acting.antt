@@ -318,7 +318,7 @@ module _ (t : Table) (few : Ty → ℕ → Bool) (source : Source) (sound : Soun
   acts : (p : Todo) (todo : List Todo) (own : List Ty) → s.run.control ≡ p ∷ todo → Finds t few sigs g sc s (p ∷ todo) own → Ok t g base sc (p ∷ todo) own → All (p ∷ todo) own s.run.operands → After (q.act source p todo s)
   acts (pc.Eval x) todo own e l o h = evaluating.eval t few source sound s st sigs g base sc frames frame this callers env ends x o.0 todo own e (l o.0 o.1) o.1 o.2 h
   acts pc.LoadNow todo (Cell a ∷ own) e l o h =
-      run sc (a ∷ own) todo _ o.1 (evaluating.load t few source sound s st sigs g base sc frames frame this callers env ends a todo e l (newest t few s.env.exec (With t s sigs todo) (Cell a) own s.run.operands h), rest_of t few s.env.exec (With t s sigs todo) (Cell a) own s.run.operands h)
+      run sc (a ∷ own) todo _ o.1 (evaluating.read_at t few source sound s st sigs g base sc frames frame this callers env ends todo (evaluating.to t few source sound s st sigs g base sc frames frame this callers env ends (pc.LoadNow ∷ todo) e) (evaluating.from t few source sound s st sigs g base sc frames frame this callers env ends (pc.LoadNow ∷ todo) e) a (top s.run.operands) (newest t few s.env.exec (With t s sigs todo) (Cell a) own s.run.operands h) l, rest_of t few s.env.exec (With t s sigs todo) (Cell a) own s.run.operands h)
   acts pc.LoadNow todo _ e l o h = absurd o
   acts (pc.ElementNow n k) todo (Num ∷ (Row m a ∷ own)) e l o h =
       calls.element t few source sound s sigs g base sc frames frame this callers env ends n (index_in n (number (top s.run.operands))) k a todo (top (below s.run.operands)) own (below (below s.run.operands)) (in_range n (number (top s.run.operands))) o.1 l (subst (λ m. Known t few s.env.exec (With t s sigs todo) (Row m a) (top (below s.run.operands))) o.0 (next t few s.env.exec (With t s sigs todo) Num (Row m a) own s.run.operands h)) o.2 (rest_behind t few s.env.exec (With t s sigs todo) Num (Row m a) own s.run.operands h)

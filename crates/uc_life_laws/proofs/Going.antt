@@ -13,12 +13,6 @@ use Rattle.uc_life_laws.proofs.Parking.{Keeps, frames_run, keeps_like}
 abbrev pub With : Table → State → List Sig → List Todo → Value → Ty → Type 0
 With t s sigs todo w a = AtHand t s.env.exec sigs (record s.run { control = todo } ∷ s.callers) w a
 
--- of numbers nothing is claimed
-abbrev pub AllNum : List Ty → Type 0
-AllNum [] = Unit {0}
-AllNum (Num ∷ more) = AllNum more
-AllNum (a ∷ more) = ⊥
-
 -- an execution of this name that is to be given these operands
 record Goes (t : Table) (few : Ty → ℕ → Bool) (n : Exec) (given : List Ty) (fs : List (List Value)) (a : Active) (cs : List Active) : Type 0 where
   sigs : List Sig

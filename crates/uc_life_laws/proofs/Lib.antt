@@ -11,3 +11,5 @@ pub mod Returning
 pub mod Unwinding
 pub mod Going
 pub mod Calls
+pub mod Evaluating
+pub mod Acting

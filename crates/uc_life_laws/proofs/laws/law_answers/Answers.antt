@@ -1,4 +1,3 @@
-use Rattle.uc_life_laws.proofs.Calls.{element}
 use Rattle.uc_life_laws.proofs.KnownAnswers.{law_answers}
 use Rattle.uc_life_laws.proofs.laws.law_answers.Goals as goal
 
