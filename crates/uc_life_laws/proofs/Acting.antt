@@ -375,7 +375,7 @@ module _ (t : Table) (few : Ty → ℕ → Bool) (source : Source) (sound : Soun
   acts (pc.FillNow n b d) todo own e l o h = run sc own _ _ (fill_ok t g base sc (nat_lt s.run.elements n) n b d todo own o.0 o.1 o.2) (fill_all (nat_lt s.run.elements n) n b d todo own s.run.operands h)
   acts (pc.TurnNow d x step b) todo own e l o h = run sc own _ _ (o.0, o.1.2, (o.0, o.1, turned t g base sc own todo o.0 o.2)) h
   acts (pc.Again d x step b) todo (Num ∷ own) e l o h =
-      run sc own _ _ (again_ok t g base sc (is_zero (number (top s.run.operands))) d x step b todo own o.0 o.1 o.2) (numbers own (below s.run.operands) todo _ (none_numbers own o.0) (rest_of t few s.env.exec (With t s sigs todo) Num own s.run.operands h))
+      run sc own _ _ (again_ok t g base sc (is_zero (number (top s.run.operands))) d x step b todo own o.0 o.1 o.2) (numbers own (below s.run.operands) todo (if is_zero (number (top s.run.operands)) then todo else pc.TurnNow d x step b ∷ todo) (none_numbers own o.0) (rest_of t few s.env.exec (With t s sigs todo) Num own s.run.operands h))
   acts (pc.Again d x step b) todo _ e l o h = absurd o
   acts (pc.PrintNow form) todo (Num ∷ own) e l o h = calls.print t few source sound s sigs g base sc frames frame this callers env ends s.env.gathered _ todo own (below s.run.operands) o (rest_of t few s.env.exec (With t s sigs todo) Num own s.run.operands h)
   acts (pc.PrintNow form) todo _ e l o h = absurd o
@@ -399,7 +399,7 @@ module _ (t : Table) (few : Ty → ℕ → Bool) (source : Source) (sound : Soun
   acts (pc.Within line) todo own e l o h = run sc own todo _ o.1 h
   acts (pc.Exit w) todo own e l o h = calls.exits t few source sound s sigs g base sc frames frame this callers env ends w todo own o.0 o.1 h
   acts pc.NoReturnNow todo own e l o h = (tt, tt)
-  acts (pc.InLoop d x step b) todo [] e l o h = run sc [] _ _ (turn_ok t g base sc d x step b todo o.1 o.2) (numbers [] s.run.operands todo _ tt h)
+  acts (pc.InLoop d x step b) todo [] e l o h = run sc [] _ _ (turn_ok t g base sc d x step b todo o.1 o.2) (numbers [] s.run.operands todo (q.step_todo step (q.test_todo d x step b todo)) tt h)
   acts (pc.InLoop d x step b) todo (a ∷ own) e l o h = absurd o.0
   acts pc.InWhole todo [] e l o h = run sc [] todo _ o.2 h
   acts pc.InWhole todo (a ∷ own) e l o h = absurd o.0
@@ -476,7 +476,7 @@ module _ (t : Table) (few : Ty → ℕ → Bool) (source : Source) (sound : Soun
   acts pc.FailedNow todo (Num ∷ own) e l o h = failed (is_zero (number (top s.run.operands))) todo own o (rest_of t few s.env.exec (With t s sigs todo) Num own s.run.operands h)
   acts pc.FailedNow todo _ e l o h = absurd o
   acts (pc.ChooseNow cs) todo (Num ∷ own) e l o h =
-      run sc own (q.branch_todo (as_number (number (top s.run.operands))) cs todo) _ (chosen_ok t g base sc (as_number (number (top s.run.operands))) cs todo own o.0 o.1 o.2) (numbers own (below s.run.operands) todo _ (none_numbers own o.0) (rest_of t few s.env.exec (With t s sigs todo) Num own s.run.operands h))
+      run sc own (q.branch_todo (as_number (number (top s.run.operands))) cs todo) _ (chosen_ok t g base sc (as_number (number (top s.run.operands))) cs todo own o.0 o.1 o.2) (numbers own (below s.run.operands) todo (q.branch_todo (as_number (number (top s.run.operands))) cs todo) (none_numbers own o.0) (rest_of t few s.env.exec (With t s sigs todo) Num own s.run.operands h))
   acts (pc.ChooseNow cs) todo _ e l o h = absurd o
   acts pc.RaiseAtNow todo (Obj c ∷ (a ∷ (b ∷ (d ∷ own)))) e l o h =
       raises c (top s.run.operands) (event_in (below s.run.operands)) todo own (drop 4 s.run.operands) o.0 (newest t few s.env.exec (With t s sigs todo) (Obj c) (a ∷ (b ∷ (d ∷ own))) s.run.operands h) o.1 (values_drop t few s.env.exec (With t s sigs todo) 4 (Obj c ∷ (a ∷ (b ∷ (d ∷ own)))) s.run.operands h)
