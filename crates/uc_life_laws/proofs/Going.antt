@@ -2,8 +2,7 @@
 use Rattle.std.proofs.Common.{◌≡◌, ℕ, Bool, List, [], ◌∷◌, Option, Some, None, refl, sym, subst}
 use Rattle.uc_machine.specs.declared.exec.Exec.{Exec}
 use Rattle.uc_machine.specs.Executions.{at_depth, others}
-use Rattle.uc_machine.specs.Pieces.{Value, Todo, Active, State, Env, at, in_env}
-use Rattle.uc_machine.specs.Quiet.{with_elements}
+use Rattle.uc_machine.specs.Quiet.{Value, Todo, Active, State, Env, at, in_env, with_elements}
 use Rattle.uc_typing.specs.Typing.{Ty, Num, Name, Sig, Table}
 use Rattle.uc_typing.specs.Pieces.{onto, Ok}
 use Rattle.uc_typing.specs.States.{IsBase}
@@ -13,12 +12,6 @@ use Rattle.uc_life_laws.proofs.Parking.{Keeps, frames_run, keeps_like}
 -- what is at hand of a state with this to do
 abbrev pub With : Table → State → List Sig → List Todo → Value → Ty → Type 0
 With t s sigs todo w a = AtHand t s.env.exec sigs (record s.run { control = todo } ∷ s.callers) w a
-
--- of numbers nothing is claimed
-abbrev pub AllNum : List Ty → Type 0
-AllNum [] = Unit {0}
-AllNum (Num ∷ more) = AllNum more
-AllNum (a ∷ more) = ⊥
 
 -- an execution of this name that is to be given these operands
 record Goes (t : Table) (few : Ty → ℕ → Bool) (n : Exec) (given : List Ty) (fs : List (List Value)) (a : Active) (cs : List Active) : Type 0 where

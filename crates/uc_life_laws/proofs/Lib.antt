@@ -10,5 +10,7 @@ pub mod Reading
 pub mod Returning
 pub mod Unwinding
 pub mod Going
+pub mod Calls
 pub mod Evaluating
 pub mod Following
+pub mod Acting
