@@ -14,3 +14,4 @@ pub mod Calls
 pub mod Evaluating
 pub mod Following
 pub mod Acting
+pub mod Opened

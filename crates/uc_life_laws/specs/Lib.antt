@@ -4,3 +4,4 @@ pub mod LifeLaws
 pub mod Knowing
 pub mod KnownAnswers
 pub mod Following
+pub mod Opened

@@ -3,6 +3,7 @@
 ghost use Rattle.uc_life_laws.specs.Following.{LawFollowing};
 ghost use Rattle.uc_life_laws.specs.KnownAnswers.{LawAnswers};
 ghost use Rattle.uc_life_laws.specs.LifeLaws.{LawKnown, LawSteps};
+ghost use Rattle.uc_life_laws.specs.Opened.{LawOpens};
 
 /// What is in scope keeps what it holds.
 pub fn law_steps()
@@ -23,4 +24,10 @@ pub fn law_answers()
 /// is to find.
 pub fn law_following()
     ensures { LawFollowing }
+{}
+
+/// Where a scope opens of what is known by its number, its variable holds what is known as soon as it holds
+/// an object; and so does an object in which nothing is bound.
+pub fn law_opens()
+    ensures { LawOpens }
 {}
