@@ -116,8 +116,14 @@ module _ (Few : ℕ → Bool) where
   abbrev pub GoodBy : State → Type 0
   GoodBy s = CountedState Few s ⊎ OpeningBy s
 
+  -- behind an end and a fault nothing is done
+  abbrev pub IsLast : Request → Type 0
+  IsLast ask.End = Unit {0}
+  IsLast (ask.Fault f) = Unit {0}
+  IsLast r = ⊥
+
   abbrev pub AskedBy : Request → State → Type 0
-  AskedBy r s = CountedState Few s ⊎ ((r ≡ ask.Cluster) × WaitingBy s)
+  AskedBy r s = CountedState Few s ⊎ (((r ≡ ask.Cluster) × WaitingBy s) ⊎ (IsLast r × CountedEnv Few s.env))
 
   abbrev pub GoodStepBy : Step → Type 0
   GoodStepBy (Goes s) = GoodBy s
