@@ -1,7 +1,7 @@
 -- A variable that is a cluster is declared, bound to a new cluster and in scope by what stands right behind each other. So is one that is a
 -- processor or a mutex object bound right before its scope.
 use Rattle.std.specs.Prelude.{◌≡◌, ℕ, ◌≤◌, [], ◌∷◌, None}
-use Rattle.uc_tree.specs.Source.{Variable, Load, OfObject, EndOn, Bind, MakeOn, NewCluster, EndCluster, EndProcessor, CleanUp, Destroys, Stmt, Stmts, Evaluate, Declare, Nil, Then, Scoped, Built, Handlers, NoHandlers, MoreHandlers}
+use Rattle.uc_tree.specs.Source.{Variable, Load, OfObject, EndOn, Bind, MakeOn, NewCluster, NewProcessor, EndCluster, EndProcessor, CleanUp, Destroys, Stmt, Stmts, Evaluate, Declare, Nil, Then, Scoped, Built, Handlers, NoHandlers, MoreHandlers}
 
 -- a statement declares nothing but the variable at a cell, without a value
 abbrev pub DeclaresAlone : ℕ → Stmt → Type 0
@@ -13,11 +13,14 @@ abbrev pub BindsCluster : ℕ → Stmt → Type 0
 BindsCluster k (Evaluate line (OfObject (Bind (Variable m) (OfObject NewCluster)))) = m ≡ k
 BindsCluster k a = ⊥
 
--- it binds that to the number of something new
-abbrev pub BindsVariable : ℕ → Stmt → Type 0
-BindsVariable k (Evaluate line (OfObject (Bind (Variable m) e))) = m ≡ k
-BindsVariable k (Evaluate line (OfObject (MakeOn c r written (Variable m) args))) = m ≡ k
-BindsVariable k a = ⊥
+-- to a new processor; to a new mutex object
+abbrev pub BindsProcessor : ℕ → Stmt → Type 0
+BindsProcessor k (Evaluate line (OfObject (Bind (Variable m) (OfObject (NewProcessor e))))) = m ≡ k
+BindsProcessor k a = ⊥
+
+abbrev pub BindsObject : ℕ → Stmt → Type 0
+BindsObject k (Evaluate line (OfObject (MakeOn c r written (Variable m) args))) = m ≡ k
+BindsObject k a = ⊥
 
 -- what may stand before a statement, and before a scope
 abbrev pub Precedes : Stmt → Stmt → Type 0
@@ -26,8 +29,8 @@ Precedes a b = Unit {0}
 
 abbrev pub OpensBound : Stmt → CleanUp → Type 0
 OpensBound a (Destroys (OfObject (EndCluster (Load (Variable k))))) = BindsCluster k a
-OpensBound a (Destroys (OfObject (EndProcessor (Load (Variable k))))) = BindsVariable k a
-OpensBound a (Destroys (OfObject (EndOn r written (Load (Variable k))))) = BindsVariable k a
+OpensBound a (Destroys (OfObject (EndProcessor (Load (Variable k))))) = BindsProcessor k a
+OpensBound a (Destroys (OfObject (EndOn r written (Load (Variable k))))) = BindsObject k a
 OpensBound a c = Unit {0}
 
 abbrev pub Follows : Stmt → Stmts → Type 0
