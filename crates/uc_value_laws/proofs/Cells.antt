@@ -8,7 +8,7 @@ use Rattle.uc_machine.specs.Executions.{at_depth, set_depth, frame_changed, list
 use Rattle.uc_machine.specs.Pieces as piece
 use Rattle.uc_machine.specs.Pieces.{Link, Value, Number, Place, Running, Object, Nothing, Todo, Sort, Active, stored, nought, address}
 use Rattle.uc_typing.specs.States.{IsNumbered}
-use Rattle.uc_value_laws.specs.There.{EndsAt, OfVariable, OfElements, OfEach, HoldsObject, IsBefore, IsThere, CleanBy, AllCleans, AllThere, OfBound, OpensBound, NextBound, IsFew, IsCounted, MarkCounted, PieceCounted, LeftBy, AllCounted, AtRest, AtDrop, AtCall, AllLeft, AtBound, Held, AllBefore, FrameBefore, frame_at}
+use Rattle.uc_value_laws.specs.There.{EndsAt, OfVariable, OfElements, OfEach, HoldsObject, IsBefore, IsThere, CleanBy, AllCleans, AllThere, OfBound, OpensBound, NextBound, NextDrop, NextCall, IsFew, IsCounted, MarkCounted, PieceCounted, LeftBy, AllCounted, AtRest, AtDrop, AtCall, AllLeft, AtBound, Held, AllBefore, FrameBefore, frame_at}
 use Rattle.uc_value_laws.specs.ThereStates.{CountedStack}
 
 -- the first of two by a test
@@ -279,6 +279,16 @@ module _ (Few : ℕ → Bool) where
     call_kept (piece.CallOnNow r ∷ todo) h = drop_kept todo h
     call_kept (piece.CallUnwrittenNow r ∷ todo) h = drop_kept todo h
     call_kept todo h = absurd h
+
+  -- and what holds of that
+  pub drop_next : (P : List Link → Type 0) (vs : List Value) (todo : List Todo) → AtDrop Few vs todo → NextDrop P todo → NextBound P todo
+  drop_next P vs (piece.DropNow ∷ (piece.Within line ∷ (piece.Rest ss ∷ todo))) h b = b
+  drop_next P vs todo h b = absurd h
+
+  pub call_next : (P : List Link → Type 0) (vs : List Value) (todo : List Todo) → AtCall Few vs todo → NextCall P todo → NextBound P todo
+  call_next P vs (piece.CallOnNow r ∷ (piece.DropNow ∷ (piece.Within line ∷ (piece.Rest ss ∷ todo)))) h b = b
+  call_next P vs (piece.CallUnwrittenNow r ∷ (piece.DropNow ∷ (piece.Within line ∷ (piece.Rest ss ∷ todo)))) h b = b
+  call_next P vs todo h b = absurd h
 
   -- a frame has other values, and each clean-up keeps what is told of it
 

@@ -26,10 +26,10 @@ use Rattle.uc_machine.specs.Quiet as quiet
 use Rattle.uc_machine.specs.Pieces as piece
 use Rattle.uc_machine.specs.Pieces.{Value, Number, Place, Running, Object, Nothing, Todo, Sort, Active, State, Env, Members, Step, Goes, Ticks, Asks, Outcome, Gives, Faults, at, in_env, goes, fault, asks, turns, top, below, number, nought, is_zero, written}
 use Rattle.uc_scope_laws.specs.Clusters.{Begins, HandlersBegin}
-use Rattle.uc_value_laws.specs.There.{HoldsObject, NextBound, MayBegin, IsBinder, BindsBy, MarkCounted, LeftBy, AllCounted, AtRest, AtDrop, AtCall, AllLeft, AtBound, Held, AllBefore, FrameBefore, frame_at}
+use Rattle.uc_value_laws.specs.There.{HoldsObject, NextBound, NextDrop, NextCall, MayBegin, IsBinder, BindsBy, MarkCounted, LeftBy, AllCounted, AtRest, AtDrop, AtCall, AllLeft, AtBound, Held, AllBefore, FrameBefore, frame_at}
 use Rattle.uc_value_laws.specs.ThereStates.{CountedStack, CountedEx, CountedState, CountedStep, RoutineBegins, BodiesBegin, BoundBehind}
 use Rattle.uc_value_laws.specs.NewClusters.{GoodStepBy}
-use Rattle.uc_value_laws.proofs.Cells.{either, set_length, all_left, held_left, left_on, drop_bound, call_bound, drop_kept, call_kept, list_cleared, stack_cleared, stack_newer, stack_older, others_length}
+use Rattle.uc_value_laws.proofs.Cells.{either, set_length, all_left, held_left, left_on, drop_bound, call_bound, drop_kept, call_kept, drop_next, call_next, list_cleared, stack_cleared, stack_newer, stack_older, others_length}
 use Rattle.uc_value_laws.proofs.Keeping as kept
 use Rattle.uc_value_laws.proofs.Keeping.{Keeps}
 
@@ -491,18 +491,18 @@ module _ (Few : ℕ → Bool) where
     makes c n (Some r) todo h =
         either (GoodStepBy Few) (monitors.may_call r.written s) _ _ (inl (go_in _ _ _ (like refl refl refl) (inr h))) (inr (inr (tt, st.env)))
 
-    pub made : (r : Option Routine) (todo : List Todo) → BoundBehind (monitors.bind_step r todo s) todo → AtCall Few (here s) todo → GoodStepBy Few (monitors.bind_step r todo s)
+    pub made : (r : Option Routine) (todo : List Todo) → BoundBehind (λ P. NextCall P todo) (monitors.bind_step r todo s) → AtCall Few (here s) todo → GoodStepBy Few (monitors.bind_step r todo s)
     made None todo f h = inr (inr (tt, st.env))
     made (Some r) todo f h =
         let e : Env = written (top (drop r.params (below s.run.operands))) (top s.run.operands) s.env in
         let k : Keeps Few s.env e = kept.written_keeps Few (top (drop r.params (below s.run.operands))) (top s.run.operands) s.env st.env in
-        inl (bound_in todo _ e k (call_bound Few (frame_at s.run.frame e.frames) todo (call_kept Few (here s) (frame_at s.run.frame e.frames) (k.lists s.run.frame) todo h)) f)
+        inl (bound_in todo _ e k (call_bound Few (frame_at s.run.frame e.frames) todo (call_kept Few (here s) (frame_at s.run.frame e.frames) (k.lists s.run.frame) todo h)) (call_next Few (HoldsObject (frame_at s.run.frame e.frames)) (here s) todo h f))
 
-    pub bound : (todo : List Todo) → BoundBehind (piece.goes todo (top s.run.operands ∷ below (below s.run.operands)) (in_env (written (top (below s.run.operands)) (top s.run.operands) s.env) s)) todo → AtDrop Few (here s) todo → CountedStep Few (piece.goes todo (top s.run.operands ∷ below (below s.run.operands)) (in_env (written (top (below s.run.operands)) (top s.run.operands) s.env) s))
+    pub bound : (todo : List Todo) → NextDrop (HoldsObject (frame_at s.run.frame (written (top (below s.run.operands)) (top s.run.operands) s.env).frames)) todo → AtDrop Few (here s) todo → CountedStep Few (piece.goes todo (top s.run.operands ∷ below (below s.run.operands)) (in_env (written (top (below s.run.operands)) (top s.run.operands) s.env) s))
     bound todo f h =
         let e : Env = written (top (below s.run.operands)) (top s.run.operands) s.env in
         let k : Keeps Few s.env e = kept.written_keeps Few (top (below s.run.operands)) (top s.run.operands) s.env st.env in
-        bound_in todo _ e k (drop_bound Few (frame_at s.run.frame e.frames) todo (drop_kept Few (here s) (frame_at s.run.frame e.frames) (k.lists s.run.frame) todo h)) f
+        bound_in todo _ e k (drop_bound Few (frame_at s.run.frame e.frames) todo (drop_kept Few (here s) (frame_at s.run.frame e.frames) (k.lists s.run.frame) todo h)) (drop_next Few (HoldsObject (frame_at s.run.frame e.frames)) (here s) todo h f)
 
     pub condition : (n : ℕ) (i : Option ℕ) (todo : List Todo) → There todo → CountedStep Few (monitors.condition_step n i todo s)
     condition n None todo h = go todo _ h

@@ -27,7 +27,7 @@ use Rattle.uc_scope_laws.specs.Layout.{Sized}
 use Rattle.uc_scope_laws.specs.Rooms.{SourceIn}
 use Rattle.uc_scope_laws.specs.RoomStacks.{StackState}
 use Rattle.uc_scope_laws.specs.RoomRuns.{Leads, stays, goes, ticks as leads_by_tick, Comes}
-use Rattle.uc_value_laws.specs.There.{Any, frame_at}
+use Rattle.uc_value_laws.specs.There.{NextDrop, NextCall, Any, frame_at}
 use Rattle.uc_value_laws.specs.ThereStates.{CountedMembers, CountedState, SourceBegins, OpensThere, BoundBehind, Fair}
 use Rattle.uc_value_laws.specs.NewClusters.{OpeningBy, WaitingBy, GoodBy}
 
@@ -36,8 +36,8 @@ use Rattle.uc_value_laws.specs.NewClusters.{OpeningBy, WaitingBy, GoodBy}
 module _ (source : Source) where
   abbrev pub OpensAt : List Todo → State → Type 0
   OpensAt (Rest ss ∷ todo) s = OpensThere (frame_at s.run.frame s.env.frames) ss
-  OpensAt (BindNow ∷ todo) s = BoundBehind (act source BindNow todo s) todo
-  OpensAt (BindMadeNow c r ∷ todo) s = BoundBehind (act source (BindMadeNow c r) todo s) todo
+  OpensAt (BindNow ∷ todo) s = BoundBehind (λ P. NextDrop P todo) (act source BindNow todo s)
+  OpensAt (BindMadeNow c r ∷ todo) s = BoundBehind (λ P. NextCall P todo) (act source (BindMadeNow c r) todo s)
   OpensAt todo s = Unit {0}
 
   abbrev pub Opens : State → Type 0
@@ -50,34 +50,50 @@ pub record LawFair : Type 0 where
   pub fair : (p : Program) (source : Source) (s : State) → StackState (Sized p) s → Opens source s →
       Fair source s
 
--- at the states of a ride, of an act, and of each act of a run
+-- what holds at the states of a ride, of an act, and of each act of a run
+module _ (P : State → Type 0) where
+  abbrev pub RideMeets : (source : Source) (s : State) (q : ℕ) (u : State) (k : ℕ) (a : Asked) →
+      Rides source s q u k a → Type 0
+  RideMeets source _ _ _ _ _ slices = Unit {0}
+  RideMeets source _ _ _ _ _ (goes_on {s} {t = v} {u} {q} {k} {a} e rest) = P s ×
+      RideMeets source v (suc q) u k a rest
+  RideMeets source _ _ _ _ _ (ticks {s} {t = v} {u} {q} {k} {a} e rest) = P s ×
+      RideMeets source v q u k a rest
+  RideMeets source _ _ _ _ _ (asks {s} e) = P s
+
+  abbrev pub MayMeet : (source : Source) (opts : Options) (input : List ℕ) (j : Journal) (w : World) (a : List Entry) (x : World) →
+      May source opts input j w a x → Type 0
+  MayMeet source opts input j w _ _ (gives p t s h) = Unit {0}
+  MayMeet source opts input j w _ _ (no_room p t s h) = Unit {0}
+  MayMeet source opts input j w _ _ (acts p t n s asked d) =
+      RideMeets source (answered source d.given (drawn j w t)) (left opts j t) s n asked d.rides
+
+  abbrev pub RunMeets : (source : Source) (input : List ℕ) (opts : Options) (j : Journal) (w : World) →
+      Runs source input opts j w → Type 0
+  RunMeets source input opts _ _ begun = Unit {0}
+  RunMeets source input opts _ _ (more {j} {w} {a} {w' = x} r o m) = RunMeets source input opts j w r ×
+      MayMeet source opts input j w a x m
+
+  -- at the states on the way to one
+  abbrev pub LeadsMeet : (source : Source) (s u : State) → Leads source s u → Type 0
+  LeadsMeet source _ _ stays = Unit {0}
+  LeadsMeet source _ _ (goes {s} {u} {v} e l) = P s × LeadsMeet source u v l
+  LeadsMeet source _ _ (leads_by_tick {s} {u} {v} e l) = P s × LeadsMeet source u v l
+
 abbrev pub RideOpens : (source : Source) (s : State) (q : ℕ) (u : State) (k : ℕ) (a : Asked) →
     Rides source s q u k a → Type 0
-RideOpens source _ _ _ _ _ slices = Unit {0}
-RideOpens source _ _ _ _ _ (goes_on {s} {t = v} {u} {q} {k} {a} e rest) = Opens source s ×
-    RideOpens source v (suc q) u k a rest
-RideOpens source _ _ _ _ _ (ticks {s} {t = v} {u} {q} {k} {a} e rest) = Opens source s ×
-    RideOpens source v q u k a rest
-RideOpens source _ _ _ _ _ (asks {s} e) = Opens source s
+RideOpens source s q u k a r = RideMeets (Opens source) source s q u k a r
 
 abbrev pub MayOpen : (source : Source) (opts : Options) (input : List ℕ) (j : Journal) (w : World) (a : List Entry) (x : World) →
     May source opts input j w a x → Type 0
-MayOpen source opts input j w _ _ (gives p t s h) = Unit {0}
-MayOpen source opts input j w _ _ (no_room p t s h) = Unit {0}
-MayOpen source opts input j w _ _ (acts p t n s asked d) =
-    RideOpens source (answered source d.given (drawn j w t)) (left opts j t) s n asked d.rides
+MayOpen source opts input j w a x m = MayMeet (Opens source) source opts input j w a x m
 
 abbrev pub RunOpens : (source : Source) (input : List ℕ) (opts : Options) (j : Journal) (w : World) →
     Runs source input opts j w → Type 0
-RunOpens source input opts _ _ begun = Unit {0}
-RunOpens source input opts _ _ (more {j} {w} {a} {w' = x} r o m) = RunOpens source input opts j w r ×
-    MayOpen source opts input j w a x m
+RunOpens source input opts j w r = RunMeets (Opens source) source input opts j w r
 
--- at the states on the way to one
 abbrev pub LeadsOpen : (source : Source) (s u : State) → Leads source s u → Type 0
-LeadsOpen source _ _ stays = Unit {0}
-LeadsOpen source _ _ (goes {s} {u} {v} e l) = Opens source s × LeadsOpen source u v l
-LeadsOpen source _ _ (leads_by_tick {s} {u} {v} e l) = Opens source s × LeadsOpen source u v l
+LeadsOpen source s u l = LeadsMeet (Opens source) source s u l
 
 -- what a task is told, if it is an object, is one of these
 abbrev pub TellsFew : (ℕ → Bool) → Source → ℕ → Journal → Type 0

@@ -83,6 +83,16 @@ NextBound P (CallOnNow r ∷ (DropNow ∷ (Within line ∷ (Rest ss ∷ todo))))
 NextBound P (CallUnwrittenNow r ∷ (DropNow ∷ (Within line ∷ (Rest ss ∷ todo)))) = OpensBound P ss
 NextBound P todo = Unit {0}
 
+-- so it is behind a step that binds: of a statement, and of a mutex object, before the call of its constructor
+abbrev pub NextDrop : (List Link → Type 0) → List Todo → Type 0
+NextDrop P (DropNow ∷ (Within line ∷ (Rest ss ∷ todo))) = OpensBound P ss
+NextDrop P todo = Unit {0}
+
+abbrev pub NextCall : (List Link → Type 0) → List Todo → Type 0
+NextCall P (CallOnNow r ∷ todo) = NextDrop P todo
+NextCall P (CallUnwrittenNow r ∷ todo) = NextDrop P todo
+NextCall P todo = Unit {0}
+
 -- what may be left of a block behind a statement that binds
 abbrev pub MayBegin : Stmts → Type 0
 MayBegin (Scoped c rest) = IsNoCluster c

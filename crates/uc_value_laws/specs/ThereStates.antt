@@ -3,9 +3,9 @@ use Rattle.std.specs.Prelude.{◌≡◌, ℕ, suc, ◌≤◌, ◌<◌, List, [],
 use Rattle.uc_tree.specs.Source.{Variable, Load, OfObject, EndCluster, Destroys, Stmt, Stmts, Block, Whole, OfEvents, Scoped, Try, Routine, Source}
 use Rattle.uc_machine.specs.Quiet.{act}
 use Rattle.uc_machine.specs.Executions.{Execution}
-use Rattle.uc_machine.specs.Pieces.{Value, Todo, BindNow, BindMadeNow, DropNow, Within, Do, Rest, ClearNow, Active, State, Env, Members, Step, Goes, Ticks, Asks}
+use Rattle.uc_machine.specs.Pieces.{Link, Value, Todo, BindNow, BindMadeNow, DropNow, Within, Do, Rest, ClearNow, Active, State, Env, Members, Step, Goes, Ticks, Asks}
 use Rattle.uc_scope_laws.specs.Clusters.{Begins, HandlersBegin, Joined}
-use Rattle.uc_value_laws.specs.There.{HoldsObject, IsThere, IsGiven, NextBound, Held, Any, AllBefore, FrameBefore, frame_at}
+use Rattle.uc_value_laws.specs.There.{HoldsObject, IsThere, IsGiven, NextDrop, NextCall, Held, Any, AllBefore, FrameBefore, frame_at}
 
 module _ (Few : ℕ → Bool) where
   -- activations with these frames: each uses its own frame or that of an older one, in which all is there that it has still to clean up
@@ -90,10 +90,10 @@ BoundFits n (DropNow ∷ (Within line ∷ (Rest ss ∷ todo))) = ScopeFits n ss
 BoundFits n todo = Unit {0}
 
 -- behind a step that binds, the variable holds an object whose scope opens next
-abbrev pub BoundBehind : Step → List Todo → Type 0
-BoundBehind (Goes s) todo = NextBound (HoldsObject (frame_at s.run.frame s.env.frames)) todo
-BoundBehind (Ticks s) todo = Unit {0}
-BoundBehind (Asks r s) todo = Unit {0}
+abbrev pub BoundBehind : ((List Link → Type 0) → Type 0) → Step → Type 0
+BoundBehind next (Goes s) = next (HoldsObject (frame_at s.run.frame s.env.frames))
+BoundBehind next (Ticks s) = Unit {0}
+BoundBehind next (Asks r s) = Unit {0}
 
 -- what a step is to find: where a scope opens, what it is of is there, if it is not given; what is bound is there behind the step; what begins
 -- and what stands behind each other is as in the source; cells that start anew lie behind all that is there; and a cluster lies in the frame
@@ -103,8 +103,8 @@ module _ (source : Source) where
   FairAt (Do a ∷ todo) s = BodiesBegin a
   FairAt (ClearNow k n ∷ todo) s = AllBefore k todo × FrameBefore k s.run.frame s.callers
   FairAt (BindNow ∷ todo) s = BoundFits (length (frame_at s.run.frame s.env.frames)) todo ×
-      BoundBehind (act source BindNow todo s) todo
-  FairAt (BindMadeNow c r ∷ todo) s = BoundBehind (act source (BindMadeNow c r) todo s) todo
+      BoundBehind (λ P. NextDrop P todo) (act source BindNow todo s)
+  FairAt (BindMadeNow c r ∷ todo) s = BoundBehind (λ P. NextCall P todo) (act source (BindMadeNow c r) todo s)
   FairAt todo s = Unit {0}
 
   abbrev pub Fair : State → Type 0
