@@ -10,7 +10,7 @@ use Rattle.uc_machine.specs.Pieces as piece
 use Rattle.uc_machine.specs.Pieces.{Value, Number, Place, Running, Object, Nothing, Todo, Sort, Active, stored, nought, address}
 use Rattle.uc_typing.specs.Typing.{Ty, Num, Cell, Obj, Raw, Row, Clu, Pro, Table}
 use Rattle.uc_typing.specs.States.{whole, IsAt, IsNumbered, IsObjectBy, Is}
-use Rattle.uc_life_laws.specs.Things.{IsBinding, IsKnown, Known, Holds, LiesBefore}
+use Rattle.uc_life_laws.specs.Things.{IsBinding, IsKnown, IsMade, Known, Holds, LiesBefore}
 use Rattle.uc_life_laws.specs.LifeStates.{frame_at, CleanHolds, MarkHolds, AllHold, LifeStack, MarkBefore, AllBefore, FrameBefore}
 
 -- the first of two by a test
@@ -64,14 +64,14 @@ module _ (t : Table) where
 
 module _ (t : Table) (few : Ty → ℕ → Bool) (n : Exec) (K : Value → Ty → Type 0) where
   -- what is bound stays so
-  known_stored : (b : Ty) (v x : Value) → IsBinding b → Known t few n K b x → Known t few n K b (stored v x)
-  known_stored Num v x i h = absurd i
-  known_stored (Cell a) v x i h = subst (IsKnown t few n K (Cell a)) (sym (placed_stored t (Cell (whole a)) v x h.is)) h
-  known_stored (Obj c) v x i h = subst (IsKnown t few n K (Obj c)) (sym (object_stored t (t.mutex c) c v x h.is)) h
-  known_stored (Raw c) v x i h = absurd i
-  known_stored (Row m a) v x i h = subst (IsKnown t few n K (Row m a)) (sym (placed_stored t (Row m (whole a)) v x h.is)) h
-  known_stored Clu v x i h = subst (IsKnown t few n K Clu) (sym (numbered_stored t v x h.is)) h
-  known_stored Pro v x i h = subst (IsKnown t few n K Pro) (sym (numbered_stored t v x h.is)) h
+  pub known_stored : (b : Ty) (v x : Value) → Known t few n K b x → Known t few n K b (stored v x)
+  known_stored Num v x h = tt
+  known_stored (Cell a) v x h = subst (IsKnown t few n K (Cell a)) (sym (placed_stored t (Cell (whole a)) v x h.is)) h
+  known_stored (Obj c) v x h = subst (IsKnown t few n K (Obj c)) (sym (object_stored t (t.mutex c) c v x h.is)) h
+  known_stored (Raw c) v x h = subst (IsMade t few n c) (sym (object_stored t (t.mutex c) c v x h.is)) h
+  known_stored (Row m a) v x h = subst (IsKnown t few n K (Row m a)) (sym (placed_stored t (Row m (whole a)) v x h.is)) h
+  known_stored Clu v x h = subst (IsKnown t few n K Clu) (sym (numbered_stored t v x h.is)) h
+  known_stored Pro v x h = subst (IsKnown t few n K Pro) (sym (numbered_stored t v x h.is)) h
 
   -- a number is no binding
   known_nought : (b : Ty) → IsBinding b → Known t few n K b nought → ⊥
@@ -79,7 +79,7 @@ module _ (t : Table) (few : Ty → ℕ → Bool) (n : Exec) (K : Value → Ty �
   known_nought (Cell a) i h = h.is
   known_nought (Obj c) i h = object_nought t (t.mutex c) c h.is
   known_nought (Raw c) i h = i
-  known_nought (Row m a) i h = h.is
+  known_nought (Row m a) i h = i
   known_nought Clu i h = h.is
   known_nought Pro i h = h.is
 
@@ -130,7 +130,7 @@ others_length (x ∷ xs) n h = omega (arith, h)
 module _ (t : Table) (few : Ty → ℕ → Bool) (n : Exec) where
   holds_stored : (K : Value → Ty → Type 0) (o : Owner) (vs : List Value) (k : ℕ) (v w : Value) (a : Ty) → Holds t few n K o vs w a → Holds t few n K o (value_changed k (stored v) nought vs) w a
   holds_stored K o vs k v w a h p b i binds =
-      cell_stored (Known t few n K b) v (λ x y. known_stored t few n K b v x binds y) vs (address p) k (h p b i binds)
+      cell_stored (Known t few n K b) v (λ x y. known_stored t few n K b v x y) vs (address p) k (h p b i binds)
 
   holds_cleared : (K : Value → Ty → Type 0) (o : Owner) (vs : List Value) (k m : ℕ) (w : Value) (a : Ty) → LiesBefore t k o w a → Holds t few n K o vs w a → Holds t few n K o (values_cleared k m nought vs) w a
   holds_cleared K o vs k m w a l h p b i binds =

@@ -3,3 +3,4 @@ pub mod Parked
 pub mod Keeping
 pub mod Steps
 pub mod Walk
+pub mod Knowns

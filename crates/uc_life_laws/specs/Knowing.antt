@@ -8,13 +8,26 @@ use Rattle.uc_machine.specs.declared.exec.Owner.TheVariants.{Frame}
 use Rattle.uc_machine.specs.declared.exec.Stage.{Stage}
 use Rattle.uc_machine.specs.declared.exec.Stage.TheVariants.{Fresh, Started, Ended}
 use Rattle.uc_machine.specs.Executions.{Execution, at_depth, others}
-use Rattle.uc_machine.specs.Pieces.{FieldAt, Value, Number, Place, Running, Object, Nothing, Todo, Eval, LoadNow, ElementNow, FieldNow, EnterNow, Clean, Part, Active, State, Env, Step, Goes, Ticks, Asks, further, loaded, top, variable_at}
+use Rattle.uc_machine.specs.Pieces.{FieldAt, Value, Number, Place, Running, Object, Nothing, Todo, Eval, LoadNow, ElementNow, FieldNow, Clean, Part, Active, State, Env, Step, Goes, Ticks, Asks, further, loaded, top, variable_at}
 use Rattle.uc_machine.specs.Answering.{child_main}
 use Rattle.uc_typing.specs.Typing.{Ty, Num, Cell, Obj, Raw, Row, Clu, Pro, Name, Sig, Table, IsParam, Among, IsTarget, object_ty, element_shape, Yields}
 use Rattle.uc_typing.specs.Pieces.{Ok, onto}
 use Rattle.uc_typing.specs.States.{IsBase, IsTask}
 use Rattle.uc_life_laws.specs.Things.{IsField, IsBinding, IsTracked, Within, AtField, InStack, Things, LiesIn, Known}
 use Rattle.uc_life_laws.specs.LifeStates.{EnvBy}
+
+-- the object at hand, in a constructor or a destructor: it is there, but not whole
+abbrev pub Making : Sig → Value → Value → Ty → Type 0
+Making g this w a = (g.whole ≡ true) × ((c : ℕ) × (g.this ≡ Some c) × (w ≡ this) × (a ≡ Obj c))
+
+-- so it is of these activations, with the kinds of their frames
+abbrev pub InMaking : List Sig → List Active → Value → Ty → Type 0
+InMaking gs [] w a = ⊥
+InMaking gs (c ∷ older) w a = ((g : Sig) × (at_depth gs c.frame ≡ Some g) × Making g c.this w a) ⊎ InMaking (others gs) older w a
+
+-- what an execution has at hand: all its things, and what it is building and destroying
+abbrev pub AtHand : Table → Exec → List Sig → List Active → Value → Ty → Type 0
+AtHand t n gs cs w a = Things t n cs w a ⊎ InMaking gs cs w a
 
 module _ (t : Table) (few : Ty → ℕ → Bool) (n : Exec) where
   -- operands
@@ -33,7 +46,7 @@ module _ (t : Table) (few : Ty → ℕ → Bool) (n : Exec) where
   -- each frame is one of a routine of this kind; its parameters are known to those that waited as it was called
   abbrev pub KnownFrames : List Sig → List (List Value) → List Active → Type 0
   KnownFrames [] [] [] = Unit {0}
-  KnownFrames (g ∷ gs) (f ∷ fs) (c ∷ cs) = KnownParams (Things t n cs) g.params f × KnownFrames gs fs cs
+  KnownFrames (g ∷ gs) (f ∷ fs) (c ∷ cs) = KnownParams (AtHand t n gs cs) g.params f × KnownFrames gs fs cs
   KnownFrames _ _ _ = ⊥
 
   -- so is the object of an activation; that of a constructor or a destructor is not whole
@@ -48,8 +61,8 @@ module _ (t : Table) (few : Ty → ℕ → Bool) (n : Exec) where
     pub scope : List Name
     pub base : List Name
     pub frame : at_depth gs a.frame ≡ Some sig
-    pub values : KnownAll (Things t n (a ∷ older)) own a.operands
-    pub this : KnownThis (Things t n older) sig sig.this a.this
+    pub values : KnownAll (AtHand t n gs (a ∷ older)) own a.operands
+    pub this : KnownThis (AtHand t n (others gs) older) sig sig.this a.this
     pub ok : Ok t sig base scope a.control (onto given own)
     pub ends : IsBase t sig a.handles base a.frame older
 
@@ -101,21 +114,20 @@ module _ (t : Table) (few : Ty → ℕ → Bool) where
   KnowsAsked source (ask.Fault m) s = Unit {0}
   KnowsAsked source r s = KnowsState [] s
 
-  -- what is named by a request of this to-do list has such a number: the object of a call, but for a destructor's, that at which an event is
-  -- raised, a cluster and a processor
-  abbrev pub Names : List Todo → Request → Type 0
-  Names (EnterNow m r ∷ todo) (ask.Call o k) = (t.routine r).whole ≡ false → (c : ℕ) × (few (Obj c) o ≡ true)
-  Names todo (ask.Raise o k x y) = (c : ℕ) × (few (Obj c) o ≡ true) × IsTarget t c
-  Names todo (ask.ClusterEnd c) = few Clu c ≡ true
-  Names todo (ask.Processor c) = (c ≡ 0) ⊎ (few Clu c ≡ true)
-  Names todo (ask.ProcessorEnd q) = few Pro q ≡ true
-  Names todo (ask.Migrate c) = few Clu c ≡ true
-  Names todo r = Unit {0}
+  -- what a request names has such a number: the object of a call, that at which an event is raised, a cluster and a processor
+  abbrev pub Names : Request → Type 0
+  Names (ask.Call o m) = (c : ℕ) × (few (Obj c) o ≡ true)
+  Names (ask.Raise o m x y) = (c : ℕ) × (few (Obj c) o ≡ true) × IsTarget t c
+  Names (ask.ClusterEnd c) = few Clu c ≡ true
+  Names (ask.Processor c) = (c ≡ 0) ⊎ (few Clu c ≡ true)
+  Names (ask.ProcessorEnd q) = few Pro q ≡ true
+  Names (ask.Migrate c) = few Clu c ≡ true
+  Names r = Unit {0}
 
-  abbrev pub KnowsStep : Source → List Todo → Step → Type 0
-  KnowsStep source todo (Goes s) = KnowsState [] s
-  KnowsStep source todo (Ticks s) = KnowsState [] s
-  KnowsStep source todo (Asks r s) = Names todo r × KnowsAsked source r s
+  abbrev pub KnowsStep : Source → Step → Type 0
+  KnowsStep source (Goes s) = KnowsState [] s
+  KnowsStep source (Ticks s) = KnowsState [] s
+  KnowsStep source (Asks r s) = Names r × KnowsAsked source r s
 
 -- What a step is still to find, of a state in order.
 
@@ -128,28 +140,27 @@ abbrev pub IsOwn : Exec → Value → Type 0
 IsOwn n (Place (Frame x d) p) = x ≡ n
 IsOwn n v = ⊥
 
-module _ (t : Table) (few : Ty → ℕ → Bool) (g : Sig) (sc : List Name) (s : State) where
+module _ (t : Table) (few : Ty → ℕ → Bool) (gs : List Sig) (g : Sig) (sc : List Name) (s : State) where
   abbrev pub Here : Value → Ty → Type 0
-  Here w a = Things t s.env.exec (s.run ∷ s.callers) w a
+  Here w a = AtHand t s.env.exec gs (s.run ∷ s.callers) w a
 
   -- what is read at a place is known, where that is no binding of what is whole, where it belongs to another execution or a mutex object,
-  -- and where it lies in a field of an object that is being built or destroyed
+  -- and where it lies in an object that is being built or destroyed
   pub record ReadsKnown (a : Ty) (v : Value) : Type 0 where
     pub raw : (IsBinding a → ⊥) → Known t few s.env.exec Here a (loaded v s.env)
     pub foreign : (IsOwn s.env.exec v → ⊥) → Known t few s.env.exec Here a (loaded v s.env)
     pub field : (w : Value) (b : Ty) → InStack (AtField t) s.env.exec (s.run ∷ s.callers) w b → Within t w b v (Cell a) →
         Known t few s.env.exec Here a (loaded v s.env)
+    pub making : (w : Value) (b : Ty) → InMaking gs (s.run ∷ s.callers) w b → Within t w b v (Cell a) →
+        Known t few s.env.exec Here a (loaded v s.env)
 
-  -- in a constructor or a destructor a field of the object at hand is there; each field is one that somebody declared
-  pub record FieldKnown (i : ℕ) (a : Ty) (v : Value) : Type 0 where
-    pub there : g.whole ≡ true → IsRooted t few s.env.exec Here a v
-    pub declared : (c : ℕ) → g.this ≡ Some c → IsTracked (t.fields c i) → IsField t c i
+  -- each field is one that somebody declared
+  abbrev pub Declared : ℕ → Type 0
+  Declared i = (c : ℕ) → g.this ≡ Some c → IsTracked (t.fields c i) → IsField t c i
 
-  -- so is the object itself, where it is taken for a whole one
   abbrev pub FindsObject : ObjectExpr → Ty → Type 0
-  FindsObject This a = g.whole ≡ true → Known t few s.env.exec Here a s.run.this
-  FindsObject (OwnField k i) a = FieldKnown i a (further (FieldAt k i) s.run.this)
-  FindsObject (GetOwn k i) a = FieldKnown i (Cell a) (further (FieldAt k i) s.run.this) × ReadsKnown a (further (FieldAt k i) s.run.this)
+  FindsObject (OwnField k i) a = Declared i
+  FindsObject (GetOwn k i) a = Declared i × ReadsKnown a (further (FieldAt k i) s.run.this)
   FindsObject o a = Unit {0}
 
   -- a variable that is no object in scope is no object

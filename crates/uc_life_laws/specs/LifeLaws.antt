@@ -23,5 +23,5 @@ pub record LawSteps : Type 0 where
 -- one, as far as it finds what it is to find; and what it names in a request has such a number
 abbrev pub LawKnown : Type 0
 LawKnown = (t : Table) (few : Ty → ℕ → Bool) (source : Source) → Sound t source → (s : State) →
-    LifeState t few s → (x : KnowsState t few [] s) → Finds t few x.run.sig x.run.scope s s.run.control x.run.own →
-    KnowsStep t few source s.run.control (quiet source s)
+    LifeState t few s → (x : KnowsState t few [] s) → Finds t few x.sigs x.run.sig x.run.scope s s.run.control x.run.own →
+    KnowsStep t few source (quiet source s)

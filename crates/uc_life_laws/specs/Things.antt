@@ -20,13 +20,17 @@ pub data Within (t : Table) (w : Value) (a : Ty) : Value → Ty → Type 0 where
   element : {v : Value} {m : ℕ} {b : Ty} → Within t w a v (Row m b) → (j : ℕ) → j < m →
       Within t w a (further (At (element_shape t b) j) v) b
 
--- a cell of this type is bound, where it is one of what is whole: to an object, a place, a cluster or a processor
+-- what a binding is to: a scalar's place, an object, a cluster or a processor
+abbrev pub IsScalar : Ty → Type 0
+IsScalar Num = Unit {0}
+IsScalar a = ⊥
+
 abbrev pub IsBinding : Ty → Type 0
 IsBinding Num = ⊥
-IsBinding (Cell a) = Unit {0}
+IsBinding (Cell a) = IsScalar a
 IsBinding (Obj c) = Unit {0}
 IsBinding (Raw c) = ⊥
-IsBinding (Row n a) = Unit {0}
+IsBinding (Row n a) = ⊥
 IsBinding Clu = Unit {0}
 IsBinding Pro = Unit {0}
 
@@ -102,12 +106,17 @@ module _ (t : Table) (few : Ty → ℕ → Bool) (n : Exec) where
     pub passes : IsFew a v
     pub rooted : IsTracked a → LiesIn K a v
 
+  -- one that is being built or destroyed has such a number
+  pub record IsMade (c : ℕ) (v : Value) : Type 0 where
+    pub is : Is t (Raw c) v
+    pub passes : IsFew (Obj c) v
+
   -- a value of a type is known: of numbers nothing is claimed
   abbrev pub Known : (Value → Ty → Type 0) → Ty → Value → Type 0
   Known K Num v = Unit {0}
   Known K (Cell a) v = IsKnown K (Cell a) v
   Known K (Obj c) v = IsKnown K (Obj c) v
-  Known K (Raw c) v = Is t (Raw c) v
+  Known K (Raw c) v = IsMade c v
   Known K (Row m a) v = IsKnown K (Row m a) v
   Known K Clu v = IsKnown K Clu v
   Known K Pro v = IsKnown K Pro v

@@ -1,0 +1,303 @@
+-- What is known stays so, to whoever knows more; and what is known of places further on.
+use Rattle.std.proofs.Common.{◌≡◌, ℕ, zero, suc, ◌<◌, ◌≤◌, ◌⊎◌, inl, inr, List, [], ◌∷◌, ◌++◌, length, take, drop, Option, Some, None, Bool, true, false, refl, sym, ap, ◌∙◌, subst, arith}
+use Rattle.std.specs.Prelude.{nat_eq, if◌then◌else◌, slice_index_or, slice_set}
+use Rattle.uc_tree.specs.Source.{Shape}
+use Rattle.uc_machine.specs.declared.exec.Exec.{Exec}
+use Rattle.uc_machine.specs.declared.exec.Owner.TheVariants.{Frame, Fields}
+use Rattle.uc_machine.specs.Executions.{at_depth, first_or, others, take_operands, list_in, set_depth, frame_changed, value_changed, values_cleared}
+use Rattle.uc_machine.specs.Pieces.{Link, FieldAt, At, Value, Number, Place, Running, Object, Nothing, Active, further, nought, stored, top, below}
+use Rattle.uc_typing.specs.Typing.{Ty, Num, Cell, Obj, Raw, Row, Clu, Pro, Sig, Table, IsPlaced, IsParam, raw, element_shape, object_ty}
+use Rattle.uc_typing.specs.Pieces.{onto}
+use Rattle.uc_typing.specs.States.{whole, IsAt, Is}
+use Rattle.uc_typing.proofs.Operands as operands
+use Rattle.uc_typing.proofs.Frames.{drop_onto}
+use Rattle.uc_life_laws.proofs.Cells.{known_stored}
+use Rattle.uc_life_laws.specs.Things.{IsField, IsScalar, IsBinding, IsTracked, Within, itself, field, element, IsFew, LiesIn, IsKnown, IsMade, Known}
+use Rattle.uc_life_laws.specs.Knowing.{InMaking, AtHand, KnownAll, KnownParams, KnownFrames, KnownThis}
+
+-- lists, as uc_typing has them
+
+drop_others : {X : Type 0} (n : ℕ) (xs : List X) → drop n (others xs) ≡ drop (suc n) xs
+drop_others zero [] = refl
+drop_others (suc n) [] = refl
+drop_others n (x ∷ xs) = refl
+
+taken_more : {X : Type 0} (d : X) (n : ℕ) (xs ys : List X) → take_operands d (suc n) xs ys ≡ first_or d (drop n xs) ∷ take_operands d n xs ys
+taken_more d zero xs ys = refl
+taken_more d (suc n) xs ys =
+    taken_more d n (others xs) (first_or d xs ∷ ys) ∙ ap (λ zs. first_or d zs ∷ take_operands d (suc n) xs ys) (drop_others n xs)
+
+module _ (t : Table) (few : Ty → ℕ → Bool) (n : Exec) where
+  -- what one knows, one who knows more does
+  abbrev pub Less : (Value → Ty → Type 0) → (Value → Ty → Type 0) → Type 0
+  Less K L = (w : Value) (a : Ty) → K w a → L w a
+
+  module _ (K L : Value → Ty → Type 0) (more : Less K L) where
+    lies_more : (b : Ty) (v : Value) → LiesIn t few n K b v → LiesIn t few n L b v
+    lies_more b (Number z) h = tt
+    lies_more b (Place (Frame x d) p) h = λ e. let k = h e in (k.0, k.1, more k.0 k.1 k.2, k.3)
+    lies_more b (Place (Fields o) p) h = tt
+    lies_more b (Running x) h = tt
+    lies_more b (Object o) h = tt
+    lies_more b Nothing h = tt
+
+    is_more : (a : Ty) (v : Value) → IsKnown t few n K a v → IsKnown t few n L a v
+    is_more a v h = record { is = h.is; passes = h.passes; rooted = λ i. lies_more a v (h.rooted i) }
+
+    pub known_more : (a : Ty) (v : Value) → Known t few n K a v → Known t few n L a v
+    known_more Num v h = tt
+    known_more (Cell a) v h = is_more (Cell a) v h
+    known_more (Obj c) v h = is_more (Obj c) v h
+    known_more (Raw c) v h = record { is = h.is; passes = h.passes }
+    known_more (Row m a) v h = is_more (Row m a) v h
+    known_more Clu v h = is_more Clu v h
+    known_more Pro v h = is_more Pro v h
+
+    pub all_more : (tys : List Ty) (vs : List Value) → KnownAll t few n K tys vs → KnownAll t few n L tys vs
+    all_more [] [] h = tt
+    all_more [] (v ∷ vs) h = absurd h
+    all_more (a ∷ tys) [] h = absurd h
+    all_more (a ∷ tys) (v ∷ vs) h = (known_more a v h.0, all_more tys vs h.1)
+
+    pub params_more : (tys : List Ty) (vs : List Value) → KnownParams t few n K tys vs → KnownParams t few n L tys vs
+    params_more [] vs h = tt
+    params_more (a ∷ tys) [] h = absurd h
+    params_more (a ∷ tys) (v ∷ vs) h = (known_more a v h.0, params_more tys vs h.1)
+
+    pub this_more : (g : Sig) (o : Option ℕ) (v : Value) → KnownThis t few n K g o v → KnownThis t few n L g o v
+    this_more g None v h = tt
+    this_more g (Some c) v h = known_more (object_ty g.whole c) v h
+
+  -- those of older activations are at hand
+  pub older_hand : (gs : List Sig) (c : Active) (cs : List Active) → Less (AtHand t n (others gs) cs) (AtHand t n gs (c ∷ cs))
+  older_hand gs c cs w a (inl h) = inl (inr h)
+  older_hand gs c cs w a (inr h) = inr (inr h)
+
+  module _ (K : Value → Ty → Type 0) where
+    pub known_is : (a : Ty) (v : Value) → Known t few n K a v → Is t a v
+    known_is Num v h = tt
+    known_is (Cell a) v h = h.is
+    known_is (Obj c) v h = h.is
+    known_is (Raw c) v h = h.is
+    known_is (Row m a) v h = h.is
+    known_is Clu v h = h.is
+    known_is Pro v h = h.is
+
+    -- what is no cluster and no processor is told by its place
+    few_further : (a : Ty) (l : Link) (v : Value) → IsFew t few n a (further l v)
+    few_further a l (Number z) = tt
+    few_further a l (Place o p) = tt
+    few_further a l (Running x) = tt
+    few_further a l (Object o) = tt
+    few_further a l Nothing = tt
+
+    lies_field : (c i : ℕ) (v : Value) → IsField t c i → LiesIn t few n K (Obj c) v → LiesIn t few n K (t.fields c i) (further (FieldAt (t.shape c) i) v)
+    lies_field c i (Number z) f h = tt
+    lies_field c i (Place (Frame x d) p) f h = λ e. let k = h e in (k.0, k.1, k.2, field k.3 i f)
+    lies_field c i (Place (Fields o) p) f h = tt
+    lies_field c i (Running x) f h = tt
+    lies_field c i (Object o) f h = tt
+    lies_field c i Nothing f h = tt
+
+    lies_element : (m j : ℕ) (a : Ty) (v : Value) → j < m → LiesIn t few n K (Row m a) v → LiesIn t few n K a (further (At (element_shape t a) j) v)
+    lies_element m j a (Number z) l h = tt
+    lies_element m j a (Place (Frame x d) p) l h = λ e. let k = h e in (k.0, k.1, k.2, element k.3 j l)
+    lies_element m j a (Place (Fields o) p) l h = tt
+    lies_element m j a (Running x) l h = tt
+    lies_element m j a (Object o) l h = tt
+    lies_element m j a Nothing l h = tt
+
+    -- a place is known that lies in what is known
+    pub known_place : (a : Ty) (v : Value) → IsPlaced t a → Is t a v → ((b : Ty) → IsFew t few n b v) → (IsTracked a → LiesIn t few n K a v) → Known t few n K a v
+    known_place Num v p i f h = absurd p
+    known_place (Cell a) v p i f h = record { is = i; passes = f (Cell a); rooted = h }
+    known_place (Obj c) v p i f h = record { is = i; passes = f (Obj c); rooted = h }
+    known_place (Raw c) v p i f h = record { is = i; passes = f (Obj c) }
+    known_place (Row m a) v p i f h = record { is = i; passes = f (Row m a); rooted = h }
+    known_place Clu v p i f h = absurd p
+    known_place Pro v p i f h = absurd p
+
+    pub further_field : (c i : ℕ) (s : Shape) (v : Value) → s ≡ t.shape c → IsPlaced t (t.fields c i) → (IsTracked (t.fields c i) → IsField t c i) → Known t few n K (Obj c) v → Known t few n K (t.fields c i) (further (FieldAt s i) v)
+    further_field c i s v e w f h =
+        known_place (t.fields c i) (further (FieldAt s i) v) w (operands.further_field t c i s v e w h.is) (λ b. few_further b (FieldAt s i) v) (λ k. subst (λ s. LiesIn t few n K (t.fields c i) (further (FieldAt s i) v)) (sym e) (lies_field c i v (f k) (h.rooted tt)))
+
+    pub further_element : (m j : ℕ) (a : Ty) (s : Shape) (v : Value) → j < m → IsPlaced t a → (IsTracked a → s ≡ element_shape t a) → Known t few n K (Row m a) v → Known t few n K a (further (At s j) v)
+    further_element m j a s v l w f h =
+        known_place a (further (At s j) v) w (operands.further_element t m j a s v l w h.is) (λ b. few_further b (At s j) v) (λ k. subst (λ s. LiesIn t few n K a (further (At s j) v)) (sym (f k)) (lies_element m j a v l (h.rooted k)))
+
+    -- what is whole may be taken for what is not
+    raw_scalar : (a : Ty) → IsScalar (raw a) → raw a ≡ a
+    raw_scalar Num i = refl
+    raw_scalar (Cell a) i = absurd i
+    raw_scalar (Obj c) i = absurd i
+    raw_scalar (Raw c) i = absurd i
+    raw_scalar (Row m a) i = absurd i
+    raw_scalar Clu i = absurd i
+    raw_scalar Pro i = absurd i
+
+    raw_binding : (a : Ty) → IsBinding (raw a) → raw a ≡ a
+    raw_binding Num i = absurd i
+    raw_binding (Cell a) i = ap Cell (raw_scalar a i)
+    raw_binding (Obj c) i = absurd i
+    raw_binding (Raw c) i = absurd i
+    raw_binding (Row m a) i = absurd i
+    raw_binding Clu i = refl
+    raw_binding Pro i = refl
+
+    raw_tracked : (a : Ty) → IsTracked (raw a) → raw a ≡ a
+    raw_tracked Num i = absurd i
+    raw_tracked (Cell a) i = ap Cell (raw_binding a i)
+    raw_tracked (Obj c) i = absurd i
+    raw_tracked (Raw c) i = absurd i
+    raw_tracked (Row m a) i = ap (Row m) (raw_tracked a i)
+    raw_tracked Clu i = absurd i
+    raw_tracked Pro i = absurd i
+
+    raw_placed : (a : Ty) → IsPlaced t a → IsPlaced t (raw a)
+    raw_placed Num p = absurd p
+    raw_placed (Cell a) p = tt
+    raw_placed (Obj c) p = p
+    raw_placed (Raw c) p = p
+    raw_placed (Row m a) p = tt
+    raw_placed Clu p = absurd p
+    raw_placed Pro p = absurd p
+
+    -- the place of a field of an object at hand
+    pub own_field : (c i : ℕ) (g : Sig) (s : Shape) (v : Value) → s ≡ t.shape c → IsPlaced t (t.fields c i) → (IsTracked (t.fields c i) → IsField t c i) → Is t (object_ty g.whole c) v → LiesIn t few n K (Obj c) v → Known t few n K (t.fields c i) (further (FieldAt s i) v)
+    own_field c i g s v e w f h l =
+        known_place (t.fields c i) (further (FieldAt s i) v) w (operands.further_field t c i s v e w (at g.whole h)) (λ b. few_further b (FieldAt s i) v) (λ k. subst (λ s. LiesIn t few n K (t.fields c i) (further (FieldAt s i) v)) (sym e) (lies_field c i v (f k) l))
+      where
+        at : (b : Bool) → Is t (object_ty b c) v → Is t (Obj c) v
+        at true h = h
+        at false h = h
+
+    pub known_raw : (a : Ty) (v : Value) → IsPlaced t a → ((b : Ty) → IsFew t few n b v) → Known t few n K a v → Known t few n K (raw a) v
+    known_raw a v w f h =
+        known_place (raw a) v (raw_placed a w) (operands.is_raw t a v (known_is a v h)) f (λ i. let e : raw a ≡ a = raw_tracked a i in subst (λ b. LiesIn t few n K b v) (sym e) (rooted a h (subst IsTracked e i)))
+      where
+        rooted : (a : Ty) → Known t few n K a v → IsTracked a → LiesIn t few n K a v
+        rooted Num h i = absurd i
+        rooted (Cell a) h i = h.rooted i
+        rooted (Obj c) h i = h.rooted i
+        rooted (Raw c) h i = absurd i
+        rooted (Row m a) h i = h.rooted i
+        rooted Clu h i = absurd i
+        rooted Pro h i = absurd i
+
+    -- operands
+
+    pub values_drop : (m : ℕ) (tys : List Ty) (vs : List Value) → KnownAll t few n K tys vs → KnownAll t few n K (drop m tys) (drop m vs)
+    values_drop zero tys vs h = h
+    values_drop (suc m) [] [] h = tt
+    values_drop (suc m) [] (v ∷ vs) h = absurd h
+    values_drop (suc m) (a ∷ more) [] h = absurd h
+    values_drop (suc m) (a ∷ more) (v ∷ vs) h = values_drop m more vs h.1
+
+    pub values_set : (m : ℕ) (tys : List Ty) (vs : List Value) (a : Ty) (v : Value) → KnownAll t few n K tys vs → Known t few n K a v → KnownAll t few n K (slice_set tys m a) (slice_set vs m v)
+    values_set m [] [] a v h i = tt
+    values_set m [] (w ∷ vs) a v h i = absurd h
+    values_set m (b ∷ more) [] a v h i = absurd h
+    values_set zero (b ∷ more) (w ∷ vs) a v h i = (i, h.1)
+    values_set (suc m) (b ∷ more) (w ∷ vs) a v h i = (h.0, values_set m more vs a v h.1 i)
+
+    pub newest : (a : Ty) (own : List Ty) (vs : List Value) → KnownAll t few n K (a ∷ own) vs → Known t few n K a (top vs)
+    newest a own [] h = absurd h
+    newest a own (v ∷ vs) h = h.0
+
+    pub rest_of : (a : Ty) (own : List Ty) (vs : List Value) → KnownAll t few n K (a ∷ own) vs → KnownAll t few n K own (below vs)
+    rest_of a own [] h = absurd h
+    rest_of a own (v ∷ vs) h = h.1
+
+    pub next : (a b : Ty) (own : List Ty) (vs : List Value) → KnownAll t few n K (a ∷ (b ∷ own)) vs → Known t few n K b (top (below vs))
+    next a b own vs h = newest b own (below vs) (rest_of a (b ∷ own) vs h)
+
+    pub rest_behind : (a b : Ty) (own : List Ty) (vs : List Value) → KnownAll t few n K (a ∷ (b ∷ own)) vs → KnownAll t few n K own (below (below vs))
+    rest_behind a b own vs h = rest_of b own (below vs) (rest_of a (b ∷ own) vs h)
+
+    -- a frame
+
+    values_top : (a : Ty) (more : List Ty) (vs : List Value) → KnownAll t few n K (a ∷ more) vs → Known t few n K a (first_or Nothing vs)
+    values_top a more [] h = absurd h
+    values_top a more (v ∷ vs) h = h.0
+
+    pub params_call : (ps more : List Ty) (vs ys : List Value) → KnownAll t few n K (onto ps more) vs → KnownParams t few n K ps (take_operands Nothing (length ps) vs ys)
+    params_call [] more vs ys h = tt
+    params_call (a ∷ rest) more vs ys h =
+        let d : KnownAll t few n K (a ∷ more) (drop (length rest) vs) = subst (λ l. KnownAll t few n K l (drop (length rest) vs)) (drop_onto rest (a ∷ more)) (values_drop (length rest) (onto rest (a ∷ more)) vs h) in
+        subst (KnownParams t few n K (a ∷ rest)) (sym (taken_more Nothing (length rest) vs ys)) (values_top a more (drop (length rest) vs) d, params_call rest (a ∷ more) vs ys h)
+
+    pub held : (ps : List Ty) (vs : List Value) (k : ℕ) (a : Ty) → KnownParams t few n K ps vs → IsParam ps k a → Known t few n K a (slice_index_or vs k nought)
+    held [] vs k a b h = absurd h
+    held (p ∷ more) [] k a b h = absurd b
+    held (p ∷ more) (v ∷ vs) zero a b h = subst (λ a. Known t few n K a v) (sym h) b.0
+    held (p ∷ more) (v ∷ vs) (suc k) a b h = held more vs k a b.1 h
+
+    params_stored : (ps : List Ty) (vs : List Value) (k : ℕ) (v : Value) → KnownParams t few n K ps vs → KnownParams t few n K ps (value_changed k (stored v) nought vs)
+    params_stored [] vs k v h = tt
+    params_stored (a ∷ more) [] k v h = absurd h
+    params_stored (a ∷ more) (x ∷ vs) zero v h = (known_stored t few n K a v x h.0, h.1)
+    params_stored (a ∷ more) (x ∷ vs) (suc k) v h = (h.0, params_stored more vs k v h.1)
+
+    params_take : (ps : List Ty) (vs ws : List Value) (k : ℕ) → length ps ≤ k → KnownParams t few n K ps vs → KnownParams t few n K ps (take k vs ++ ws)
+    params_take [] vs ws k l h = tt
+    params_take (a ∷ more) [] ws k l h = absurd h
+    params_take (a ∷ more) (x ∷ vs) ws zero l h = let f : ⊥ = omega arith in absurd f
+    params_take (a ∷ more) (x ∷ vs) ws (suc k) l h = (h.0, params_take more vs ws k (omega arith) h.1)
+
+    params_cleared : (ps : List Ty) (vs : List Value) (k m : ℕ) → length ps ≤ k → KnownParams t few n K ps vs → KnownParams t few n K ps (values_cleared k m nought vs)
+    params_cleared ps vs k m l h = params_take ps vs _ k l h
+
+  -- frames
+
+  pub frames_length : (gs : List Sig) (fs : List (List Value)) (cs : List Active) → KnownFrames t few n gs fs cs → length fs ≡ length gs
+  frames_length [] [] [] h = refl
+  frames_length (g ∷ gs) (f ∷ fs) (c ∷ cs) h = ap suc (frames_length gs fs cs h.1)
+  frames_length [] [] (c ∷ cs) h = absurd h
+  frames_length [] (f ∷ fs) cs h = absurd h
+  frames_length (g ∷ gs) [] cs h = absurd h
+  frames_length (g ∷ gs) (f ∷ fs) [] h = absurd h
+
+  frames_set : (d : ℕ) (g : Sig) (gs : List Sig) (f : List Value) (fs : List (List Value)) (c : Active) (cs : List Active) (change : List Value → List Value) (b : Bool) → KnownFrames t few n (g ∷ gs) (f ∷ fs) (c ∷ cs) → (b ≡ true → KnownParams t few n (AtHand t n gs cs) g.params (change f)) → (b ≡ false → KnownFrames t few n gs (set_depth fs d (change (list_in (at_depth fs d)))) cs) → KnownFrames t few n (g ∷ gs) (if b then change (list_in (if b then Some f else at_depth fs d)) ∷ fs else f ∷ set_depth fs d (change (list_in (if b then Some f else at_depth fs d)))) (c ∷ cs)
+  frames_set d g gs f fs c cs change true h k r = (k refl, h.1)
+  frames_set d g gs f fs c cs change false h k r = (h.0, r refl)
+
+  pub frames_stored : (d k : ℕ) (v : Value) (gs : List Sig) (fs : List (List Value)) (cs : List Active) → KnownFrames t few n gs fs cs → KnownFrames t few n gs (frame_changed d (value_changed k (stored v) nought) fs) cs
+  frames_stored d k v [] [] [] h = tt
+  frames_stored d k v (g ∷ gs) (f ∷ fs) (c ∷ cs) h =
+      frames_set d g gs f fs c cs (value_changed k (stored v) nought) (nat_eq d (length fs)) h (λ e. params_stored (AtHand t n gs cs) g.params f k v h.0) (λ e. frames_stored d k v gs fs cs h.1)
+  frames_stored d k v [] [] (c ∷ cs) h = absurd h
+  frames_stored d k v [] (f ∷ fs) cs h = absurd h
+  frames_stored d k v (g ∷ gs) [] cs h = absurd h
+  frames_stored d k v (g ∷ gs) (f ∷ fs) [] h = absurd h
+
+  -- behind the parameters of a frame its cells start anew
+  pub frames_cleared : (d k m : ℕ) (i : Sig) → length i.params ≤ k → (gs : List Sig) (fs : List (List Value)) (cs : List Active) → at_depth gs d ≡ Some i → KnownFrames t few n gs fs cs → KnownFrames t few n gs (frame_changed d (values_cleared k m nought) fs) cs
+  frames_cleared d k m i l [] [] [] e h = tt
+  frames_cleared d k m i l (g ∷ gs) (f ∷ fs) (c ∷ cs) e h =
+      let q : nat_eq d (length gs) ≡ nat_eq d (length fs) = ap (nat_eq d) (sym (frames_length gs fs cs h.1)) in
+      by (nat_eq d (length fs)) (subst (λ b. (if b then Some g else at_depth gs d) ≡ Some i) q e) (λ e. frames_cleared d k m i l gs fs cs e h.1)
+    where
+      by : (b : Bool) → (if b then Some g else at_depth gs d) ≡ Some i → (at_depth gs d ≡ Some i → KnownFrames t few n gs (set_depth fs d (values_cleared k m nought (list_in (at_depth fs d)))) cs) → KnownFrames t few n (g ∷ gs) (if b then values_cleared k m nought (list_in (if b then Some f else at_depth fs d)) ∷ fs else f ∷ set_depth fs d (values_cleared k m nought (list_in (if b then Some f else at_depth fs d)))) (c ∷ cs)
+      by true e r = let s : g ≡ i = cc in (params_cleared (AtHand t n gs cs) g.params f k m (subst (λ (i : Sig). length i.params ≤ k) (sym s) l) h.0, h.1)
+      by false e r = (h.0, r e)
+  frames_cleared d k m i l [] [] (c ∷ cs) e h = absurd h
+  frames_cleared d k m i l [] (f ∷ fs) cs e h = absurd h
+  frames_cleared d k m i l (g ∷ gs) [] cs e h = absurd h
+  frames_cleared d k m i l (g ∷ gs) (f ∷ fs) [] e h = absurd h
+
+  -- the parameters of the frame of a depth
+  pub frames_at : (d : ℕ) (i : Sig) (gs : List Sig) (fs : List (List Value)) (cs : List Active) → KnownFrames t few n gs fs cs → at_depth gs d ≡ Some i → KnownParams t few n (AtHand t n gs cs) i.params (list_in (at_depth fs d))
+  frames_at d i [] [] [] h e = absurd (cc)
+  frames_at d i (g ∷ gs) (f ∷ fs) (c ∷ cs) h e =
+      let q : nat_eq d (length gs) ≡ nat_eq d (length fs) = ap (nat_eq d) (sym (frames_length gs fs cs h.1)) in
+      by (nat_eq d (length fs)) (subst (λ b. (if b then Some g else at_depth gs d) ≡ Some i) q e) (λ e. frames_at d i gs fs cs h.1 e)
+    where
+      older : (j : Sig) (vs : List Value) → KnownParams t few n (AtHand t n gs cs) j.params vs → KnownParams t few n (AtHand t n (g ∷ gs) (c ∷ cs)) j.params vs
+      older j vs p = params_more (AtHand t n gs cs) (AtHand t n (g ∷ gs) (c ∷ cs)) (older_hand (g ∷ gs) c cs) j.params vs p
+      by : (b : Bool) → (if b then Some g else at_depth gs d) ≡ Some i → (at_depth gs d ≡ Some i → KnownParams t few n (AtHand t n gs cs) i.params (list_in (at_depth fs d))) → KnownParams t few n (AtHand t n (g ∷ gs) (c ∷ cs)) i.params (list_in (if b then Some f else at_depth fs d))
+      by true e r = let s : g ≡ i = cc in older i f (subst (λ (j : Sig). KnownParams t few n (AtHand t n gs cs) j.params f) s h.0)
+      by false e r = older i (list_in (at_depth fs d)) (r e)
+  frames_at d i [] [] (c ∷ cs) h e = absurd h
+  frames_at d i [] (f ∷ fs) cs h e = absurd h
+  frames_at d i (g ∷ gs) [] cs h e = absurd h
+  frames_at d i (g ∷ gs) (f ∷ fs) [] h e = absurd h

@@ -1,0 +1,5 @@
+use Rattle.uc_life_laws.proofs.Knowns.{further_element}
+use Rattle.uc_life_laws.proofs.laws.law_known.Goals as goal
+
+pub returns : goal.returns
+returns c = ?
