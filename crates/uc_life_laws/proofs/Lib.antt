@@ -4,3 +4,7 @@ pub mod Keeping
 pub mod Steps
 pub mod Walk
 pub mod Knowns
+pub mod Reading
+pub mod Clearing
+pub mod Laying
+pub mod LifeWorlds

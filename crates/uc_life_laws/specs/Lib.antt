@@ -2,3 +2,5 @@ pub mod Things
 pub mod LifeStates
 pub mod LifeLaws
 pub mod Knowing
+pub mod LifeRuns
+pub mod LifeReading

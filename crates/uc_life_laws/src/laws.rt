@@ -1,13 +1,29 @@
 // The laws: each is a function whose contract is the law.
 
-ghost use Rattle.uc_life_laws.specs.LifeLaws.{LawKnown, LawSteps};
+ghost use Rattle.uc_life_laws.specs.LifeLaws.{LawSteps};
+ghost use Rattle.uc_life_laws.specs.LifeReading.{LawReading};
+ghost use Rattle.uc_life_laws.specs.LifeRuns.{LawClears, LawRuns};
 
 /// What is in scope keeps what it holds.
 pub fn law_steps()
     ensures { LawSteps }
 {}
 
-/// In a state in which all is known that its execution can come by, a step leads to one.
-pub fn law_known()
-    ensures { LawKnown }
+/// So what is read at a binding within what is in scope is known, and what a typed task reads of a variable
+/// by its name is of its type.
+pub fn law_reading()
+    ensures { LawReading }
+{}
+
+/// Where fields lie within the cells of their classes and activations that use one frame stay behind one
+/// another, cells that start anew lie behind all that is in scope in their frame; so fields lie in each
+/// program that breaks no rule.
+pub fn law_clears()
+    ensures { LawClears }
+{}
+
+/// So in each run of a program that breaks no rule all that is in scope holds what is known, of all tasks, at
+/// rest and in each state to which whoever runs comes before it asks, as long as each scope opens so.
+pub fn law_runs()
+    ensures { LawRuns }
 {}
