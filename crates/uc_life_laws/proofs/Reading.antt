@@ -53,7 +53,7 @@ module _ (t : Table) (few : Ty → ℕ → Bool) (n : Exec) (L : Value → Ty �
       depth = f;
       cell = x.0;
       at = x.2;
-      holds = λ p b i binds. known_more t few n (Outwards t n f this older c todo) L more b (slice_index_or (frame_at f fs) (address p) nought) (h.0 x.0 a x.1 p b i binds);
+      holds = λ p b i binds. known_more t few n (Outwards t few n f this older c todo) L more b (slice_index_or (frame_at f fs) (address p) nought) (h.0 x.0 a x.1 p b i binds);
     }
     at_mark (piece.IsClean c) todo R A more h k (inr x) = k (λ y b. behind _ _ _ _ (more y b)) h.1 x
     at_mark piece.Simple todo R A more h k x = k more h x
@@ -99,8 +99,8 @@ module _ (t : Table) (few : Ty → ℕ → Bool) (s : State) (st : LifeState t f
 -- names in scope
 
 module _ (t : Table) (g : Sig) (o : Owner) (k : ℕ) (a : Ty) (R : Type 0) where
-  abbrev At : List Todo → Type 0
-  At todo = AtMarks t o todo (Place o (Slot k ∷ [])) a
+  abbrev Here : List Todo → Type 0
+  Here todo = AtMarks t o todo (Place o (Slot k ∷ [])) a
 
   -- of each name that a mark takes out of scope, or that is in scope outwards of them all
   named : (x : Name) (more : List Name) (c : CleanUp) → Cleans t g x c → (CleansAt t a (src.Variable k) c → R) → InScope (x ∷ more) k a → (InScope more k a → R) → R
@@ -111,7 +111,7 @@ module _ (t : Table) (g : Sig) (o : Owner) (k : ℕ) (a : Ty) (R : Type 0) where
   named typing.Kept more c h f e next = next e
 
   module _ (base : List Name) where
-    marked : (s : Sort) (sc : List Name) (todo : List Todo) → Met t g sc s (λ sc. Left t g base sc todo) (λ sc. Ok t g base sc todo) → (AtMark t o s (Place o (Slot k ∷ [])) a (At todo) → R) → ((sc : List Name) → Left t g base sc todo → (At todo → R) → InScope sc k a → R) → InScope sc k a → R
+    marked : (s : Sort) (sc : List Name) (todo : List Todo) → Met t g sc s (λ sc. Left t g base sc todo) (λ sc. Ok t g base sc todo) → (AtMark t o s (Place o (Slot k ∷ [])) a (Here todo) → R) → ((sc : List Name) → Left t g base sc todo → (Here todo → R) → InScope sc k a → R) → InScope sc k a → R
     marked piece.Simple sc todo h f next e = next sc h f e
     marked (piece.IsLoop q x y b) sc todo h f next e = next sc h.2 f e
     marked piece.IsWhole sc todo h f next e = next sc (control.left t g base sc todo [] h.1) f e
@@ -124,7 +124,7 @@ module _ (t : Table) (g : Sig) (o : Owner) (k : ℕ) (a : Ty) (R : Type 0) where
     marked piece.IsFinish sc todo h f next e = next sc (control.left t g base sc todo [] h) f e
     marked piece.IsFinishCoroutine sc todo h f next e = next sc (control.left t g base sc todo [] h) f e
 
-    in_scope : (todo : List Todo) (sc : List Name) → Left t g base sc todo → (At todo → R) → (InScope base k a → R) → InScope sc k a → R
+    in_scope : (todo : List Todo) (sc : List Name) → Left t g base sc todo → (Here todo → R) → (InScope base k a → R) → InScope sc k a → R
     in_scope [] sc h f out e = out (subst (λ names. InScope names k a) h e)
     in_scope (x ∷ todo) sc h f out e = marked (piece.sort x) sc todo h f (λ sc l f i. in_scope todo sc l f out i) e
 

@@ -45,8 +45,8 @@ pub record IsLaidOut (Cells : ℕ → ℕ → Type 0) (t : Table) : Type 0 where
 -- where things lie so and activations which use one frame stay behind one another, cells that start anew lie behind all that is in scope in
 -- their frame; and things lie so in each program that breaks no rule
 pub record LawClears : Type 0 where
-  pub clears : (Cells : ℕ → ℕ → Type 0) (t : Table) → IsLaidOut Cells t → (s : State) →
-      StackState Cells s → Clears t s
+  pub clears : (p : Program) (t : Table) → IsLaidOut (Sized p) t → (s : State) →
+      StackState (Sized p) s → Clears t s
   pub laid_out : (p : Program) → IsFormed p → breaks_of p ≡ [] → IsLaidOut (Sized p) (table_of p)
 
 -- what is in scope holds what is known: of each task at rest, of what is at home in each object, and of whoever runs in each state to which it

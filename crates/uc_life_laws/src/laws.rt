@@ -1,12 +1,17 @@
 // The laws: each is a function whose contract is the law.
 
-ghost use Rattle.uc_life_laws.specs.LifeLaws.{LawSteps};
+ghost use Rattle.uc_life_laws.specs.LifeLaws.{LawKnown, LawSteps};
 ghost use Rattle.uc_life_laws.specs.LifeReading.{LawReading};
 ghost use Rattle.uc_life_laws.specs.LifeRuns.{LawClears, LawRuns};
 
 /// What is in scope keeps what it holds.
 pub fn law_steps()
     ensures { LawSteps }
+{}
+
+/// In a state in which all is known that its execution can come by, a step leads to one.
+pub fn law_known()
+    ensures { LawKnown }
 {}
 
 /// So what is read at a binding within what is in scope is known, and what a typed task reads of a variable
