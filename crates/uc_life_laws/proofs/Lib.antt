@@ -4,7 +4,7 @@ pub mod Keeping
 pub mod Steps
 pub mod Walk
 pub mod Knowns
-pub mod Reading
+pub mod Scopes
 pub mod Clearing
 pub mod Laying
 pub mod LifeWorlds

@@ -1,4 +1,4 @@
-use Rattle.uc_life_laws.proofs.Reading.{law_reading}
+use Rattle.uc_life_laws.proofs.Scopes.{law_reading}
 use Rattle.uc_life_laws.proofs.laws.law_reading.Goals as goal
 
 pub returns : goal.returns
