@@ -12,7 +12,7 @@ use Rattle.uc_typing.specs.States.{whole, IsAt, Is}
 use Rattle.uc_typing.proofs.Operands as operands
 use Rattle.uc_typing.proofs.Frames.{drop_onto}
 use Rattle.uc_life_laws.proofs.Cells.{known_stored}
-use Rattle.uc_life_laws.specs.Things.{IsField, IsScalar, IsBinding, IsTracked, Within, itself, field, element, IsFew, LiesIn, IsKnown, IsMade, Known}
+use Rattle.uc_life_laws.specs.Things.{IsField, IsScalar, IsReference, IsTracked, Within, itself, field, element, IsFew, LiesIn, IsKnown, IsMade, Known}
 use Rattle.uc_life_laws.specs.Knowing.{InMaking, AtHand, KnownAll, KnownParams, KnownFrames, KnownThis}
 
 -- lists, as uc_typing has them
@@ -135,18 +135,18 @@ module _ (t : Table) (few : Ty → ℕ → Bool) (n : Exec) where
     raw_scalar Clu i = absurd i
     raw_scalar Pro i = absurd i
 
-    raw_binding : (a : Ty) → IsBinding (raw a) → raw a ≡ a
-    raw_binding Num i = absurd i
-    raw_binding (Cell a) i = ap Cell (raw_scalar a i)
-    raw_binding (Obj c) i = absurd i
-    raw_binding (Raw c) i = absurd i
-    raw_binding (Row m a) i = absurd i
-    raw_binding Clu i = refl
-    raw_binding Pro i = refl
+    raw_reference : (a : Ty) → IsReference (raw a) → raw a ≡ a
+    raw_reference Num i = absurd i
+    raw_reference (Cell a) i = ap Cell (raw_scalar a i)
+    raw_reference (Obj c) i = absurd i
+    raw_reference (Raw c) i = absurd i
+    raw_reference (Row m a) i = absurd i
+    raw_reference Clu i = absurd i
+    raw_reference Pro i = absurd i
 
     raw_tracked : (a : Ty) → IsTracked (raw a) → raw a ≡ a
     raw_tracked Num i = absurd i
-    raw_tracked (Cell a) i = ap Cell (raw_binding a i)
+    raw_tracked (Cell a) i = ap Cell (raw_reference a i)
     raw_tracked (Obj c) i = absurd i
     raw_tracked (Raw c) i = absurd i
     raw_tracked (Row m a) i = ap (Row m) (raw_tracked a i)

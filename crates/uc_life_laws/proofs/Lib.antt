@@ -4,6 +4,11 @@ pub mod Keeping
 pub mod Steps
 pub mod Walk
 pub mod Knowns
+pub mod Parking
+pub mod KnownAnswers
+pub mod Reading
+pub mod Returning
+pub mod Unwinding
 pub mod Scopes
 pub mod Clearing
 pub mod Laying

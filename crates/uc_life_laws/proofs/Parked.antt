@@ -87,7 +87,7 @@ module _ (P : Exec → Ex → Type 0) where
   more_hand [] o m h k = (h, tt)
   more_hand (p ∷ hand) o m h k = (k.0, more_hand hand o m h k.1)
 
-  members_rests : (h : Home) (e : Env) → EnvBy P e → MembersBy P h (members_at h e)
+  pub members_rests : (h : Home) (e : Env) → EnvBy P e → MembersBy P h (members_at h e)
   members_rests (home.Task t) e s =
       tested (MembersBy P (home.Task t)) (nat_eq t e.own) (Some e.house) None (λ q. subst (λ j. ParkedBy P (home.Task j) e.house.parked) (sym (eqb-true t e.own q)) s.house) (λ q. tt)
   members_rests (home.Object o) e s = found_hand o e.hand s.hand
@@ -100,7 +100,7 @@ module _ (P : Exec → Ex → Type 0) where
   abbrev pub KeepsParked : Home → (Members → Members) → Type 0
   KeepsParked h f = (m : Members) → ParkedBy P h m.parked → ParkedBy P h (f m).parked
 
-  set_rests : (h : Home) (m : Members) (e : Env) → ParkedBy P h m.parked → EnvBy P e → EnvBy P (set_members h m e)
+  pub set_rests : (h : Home) (m : Members) (e : Env) → ParkedBy P h m.parked → EnvBy P e → EnvBy P (set_members h m e)
   set_rests (home.Task t) m e r s =
       tested (EnvBy P) (nat_eq t e.own) (record e { house = m }) e (λ q. record { house = subst (λ j. ParkedBy P (home.Task j) m.parked) (eqb-true t e.own q) r; hand = s.hand }) (λ q. s)
   set_rests (home.Object o) m e r s = record { house = s.house; hand = update_hand o m e.hand r s.hand }

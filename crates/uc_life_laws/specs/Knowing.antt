@@ -8,12 +8,14 @@ use Rattle.uc_machine.specs.declared.exec.Owner.TheVariants.{Frame}
 use Rattle.uc_machine.specs.declared.exec.Stage.{Stage}
 use Rattle.uc_machine.specs.declared.exec.Stage.TheVariants.{Fresh, Started, Ended}
 use Rattle.uc_machine.specs.Executions.{Execution, at_depth, others}
-use Rattle.uc_machine.specs.Pieces.{FieldAt, Value, Number, Place, Running, Object, Nothing, Todo, Eval, LoadNow, ElementNow, FieldNow, Clean, Part, Active, State, Env, Step, Goes, Ticks, Asks, further, loaded, top, variable_at}
+use Rattle.uc_machine.specs.Pieces.{FieldAt, Value, Number, Place, Running, Object, Nothing, Todo, Eval, LoadNow, ElementNow, FieldNow, Clean, Part, SetUpNow, Active, State, Env, Step, Goes, Ticks, Asks, further, loaded, top, variable_at}
+use Rattle.uc_machine.specs.Switches.{new_exec}
+use Rattle.uc_machine.specs.Quiet.{home_at}
 use Rattle.uc_machine.specs.Answering.{child_main}
 use Rattle.uc_typing.specs.Typing.{Ty, Num, Cell, Obj, Raw, Row, Clu, Pro, Name, Sig, Table, IsParam, Among, IsTarget, object_ty, element_shape, Yields}
 use Rattle.uc_typing.specs.Pieces.{Ok, onto}
 use Rattle.uc_typing.specs.States.{IsBase, IsTask}
-use Rattle.uc_life_laws.specs.Things.{IsField, IsBinding, IsTracked, Within, AtField, InStack, Things, LiesIn, Known}
+use Rattle.uc_life_laws.specs.Things.{IsField, IsReference, IsTracked, Within, OwnFields, Things, LiesIn, Known}
 use Rattle.uc_life_laws.specs.LifeStates.{EnvBy}
 
 -- the object at hand, in a constructor or a destructor: it is there, but not whole
@@ -140,49 +142,53 @@ abbrev pub IsOwn : Exec → Value → Type 0
 IsOwn n (Place (Frame x d) p) = x ≡ n
 IsOwn n v = ⊥
 
-module _ (t : Table) (few : Ty → ℕ → Bool) (gs : List Sig) (g : Sig) (sc : List Name) (s : State) where
-  abbrev pub Here : Value → Ty → Type 0
-  Here w a = AtHand t s.env.exec gs (s.run ∷ s.callers) w a
+abbrev pub AreNumbers : List Ty → Type 0
+AreNumbers [] = Unit {0}
+AreNumbers (Num ∷ more) = AreNumbers more
+AreNumbers (a ∷ more) = ⊥
 
-  -- what is read at a place is known, where that is no binding of what is whole, where it belongs to another execution or a mutex object,
+-- what the running execution has at hand
+abbrev pub Here : Table → List Sig → State → Value → Ty → Type 0
+Here t gs s w a = AtHand t s.env.exec gs (s.run ∷ s.callers) w a
+
+module _ (t : Table) (few : Ty → ℕ → Bool) (gs : List Sig) (s : State) where
+  -- what is read at a place is known, where that is no reference in what is whole, where it belongs to another execution or a mutex object,
   -- and where it lies in an object that is being built or destroyed
   pub record ReadsKnown (a : Ty) (v : Value) : Type 0 where
-    pub raw : (IsBinding a → ⊥) → Known t few s.env.exec Here a (loaded v s.env)
-    pub foreign : (IsOwn s.env.exec v → ⊥) → Known t few s.env.exec Here a (loaded v s.env)
-    pub field : (w : Value) (b : Ty) → InStack (AtField t) s.env.exec (s.run ∷ s.callers) w b → Within t w b v (Cell a) →
-        Known t few s.env.exec Here a (loaded v s.env)
+    pub untracked : (IsReference a → ⊥) → Known t few s.env.exec (Here t gs s) a (loaded v s.env)
+    pub foreign : (IsOwn s.env.exec v → ⊥) → Known t few s.env.exec (Here t gs s) a (loaded v s.env)
+    pub field : (w : Value) (b : Ty) → OwnFields t s.env.exec (s.run ∷ s.callers) w b → Within t w b v (Cell a) →
+        Known t few s.env.exec (Here t gs s) a (loaded v s.env)
     pub making : (w : Value) (b : Ty) → InMaking gs (s.run ∷ s.callers) w b → Within t w b v (Cell a) →
-        Known t few s.env.exec Here a (loaded v s.env)
+        Known t few s.env.exec (Here t gs s) a (loaded v s.env)
 
+module _ (t : Table) (few : Ty → ℕ → Bool) (gs : List Sig) (g : Sig) (sc : List Name) (s : State) where
   -- each field is one that somebody declared
   abbrev pub Declared : ℕ → Type 0
   Declared i = (c : ℕ) → g.this ≡ Some c → IsTracked (t.fields c i) → IsField t c i
 
   abbrev pub FindsObject : ObjectExpr → Ty → Type 0
   FindsObject (OwnField k i) a = Declared i
-  FindsObject (GetOwn k i) a = Declared i × ReadsKnown a (further (FieldAt k i) s.run.this)
+  FindsObject (GetOwn k i) a = Declared i × ReadsKnown t few gs s a (further (FieldAt k i) s.run.this)
   FindsObject o a = Unit {0}
 
   -- a variable that is no object in scope is no object
   abbrev pub FindsExpr : Expr → Ty → Type 0
   FindsExpr (Variable k) a =
-      ((b : Ty) → IsParam g.params k b → IsRooted t few s.env.exec Here (Cell b) (variable_at k s)) ×
-      (Among g.locals k a → IsRooted t few s.env.exec Here a (variable_at k s))
+      ((b : Ty) → IsParam g.params k b → IsRooted t few s.env.exec (Here t gs s) (Cell b) (variable_at k s)) ×
+      (Among g.locals k a → IsRooted t few s.env.exec (Here t gs s) a (variable_at k s))
   FindsExpr (OfObject o) a = FindsObject o a
   FindsExpr e a = Unit {0}
 
-  abbrev pub AreNumbers : List Ty → Type 0
-  AreNumbers [] = Unit {0}
-  AreNumbers (Num ∷ more) = AreNumbers more
-  AreNumbers (a ∷ more) = ⊥
-
   abbrev pub Finds : List Todo → List Ty → Type 0
   Finds (Eval e ∷ todo) own = (a : Ty) → Yields t g sc e a → FindsExpr e a
-  Finds (LoadNow ∷ todo) (Cell a ∷ more) = ReadsKnown a (top s.run.operands)
+  Finds (LoadNow ∷ todo) (Cell a ∷ more) = ReadsKnown t few gs s a (top s.run.operands)
   -- the shape of an element is that of what stands there
   Finds (ElementNow m k ∷ todo) (Num ∷ (Row j a ∷ more)) = IsTracked a → k ≡ element_shape t a
   Finds (FieldNow k i ∷ todo) (Obj c ∷ more) = IsTracked (t.fields c i) → IsField t c i
   -- whoever comes to a mark hands over numbers alone
   Finds (Clean c ∷ todo) own = AreNumbers own
   Finds (Part c ∷ todo) own = AreNumbers own
+  -- the name of a new execution is not that of the one in whose frame its coroutine is
+  Finds (SetUpNow r ∷ todo) own = IsOwn (new_exec (home_at s.run.this s.env) s.env) s.run.this → ⊥
   Finds todo own = Unit {0}

@@ -2,5 +2,6 @@ pub mod Things
 pub mod LifeStates
 pub mod LifeLaws
 pub mod Knowing
+pub mod KnownAnswers
 pub mod LifeRuns
 pub mod LifeReading

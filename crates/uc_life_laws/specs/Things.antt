@@ -46,12 +46,15 @@ AtField t o this c w a = (s : Shape) × (i : ℕ) × CleansAt t a (OfObject (Own
 abbrev pub IsFor : Table → Owner → Value → CleanUp → Value → Ty → Type 0
 IsFor t o this c w a = AtVariable t o this c w a ⊎ AtField t o this c w a
 
--- `P c w a`: the clean-up c is for what is of the type a at the place w
-module _ (P : CleanUp → Value → Ty → Type 0) where
-  -- a mark, before what lies outwards of it: of an object in scope, or of a part of the object under construction
+abbrev pub Nowhere : Owner → Value → CleanUp → Value → Ty → Type 0
+Nowhere o this c w a = ⊥
+
+-- `P c w a`: the clean-up c of a scope is for what is of the type a at the place w; `Q c w a`: so is that of a part of the object under construction
+module _ (P Q : CleanUp → Value → Ty → Type 0) where
+  -- a mark, before what lies outwards of it
   abbrev pub Marks : Sort → Value → Ty → Type 0 → Type 0
   Marks (IsClean c) w a rest = P c w a ⊎ rest
-  Marks (IsPart c) w a rest = P c w a ⊎ rest
+  Marks (IsPart c) w a rest = Q c w a ⊎ rest
   Marks k w a rest = rest
 
   abbrev pub InTodo : List Todo → Value → Ty → Type 0
@@ -59,19 +62,36 @@ module _ (P : CleanUp → Value → Ty → Type 0) where
   InTodo (p ∷ todo) w a = Marks (sort p) w a (InTodo todo w a)
 
 -- of an execution of this name, the newest activation first
-module _ (P : Owner → Value → CleanUp → Value → Ty → Type 0) (n : Exec) where
+module _ (P Q : Owner → Value → CleanUp → Value → Ty → Type 0) (n : Exec) where
   abbrev pub InStack : List Active → Value → Ty → Type 0
   InStack [] w a = ⊥
-  InStack (c ∷ older) w a = InTodo (P (Frame n c.frame) c.this) c.control w a ⊎ InStack older w a
+  InStack (c ∷ older) w a = InTodo (P (Frame n c.frame) c.this) (Q (Frame n c.frame) c.this) c.control w a ⊎ InStack older w a
 
--- all things of an execution
+-- all things of an execution; those that are variables, and those that are fields of objects at hand
 abbrev pub Things : Table → Exec → List Active → Value → Ty → Type 0
-Things t n cs w a = InStack (IsFor t) n cs w a
+Things t n cs w a = InStack (IsFor t) (AtField t) n cs w a
 
--- a place of this type is one of a thing, of a part of one, or of a binding in one, if it is in scope: not one of scalars, nor of what is being built
+abbrev pub Variables : Table → Exec → List Active → Value → Ty → Type 0
+Variables t n cs w a = InStack (AtVariable t) Nowhere n cs w a
+
+abbrev pub OwnFields : Table → Exec → List Active → Value → Ty → Type 0
+OwnFields t n cs w a = InStack (AtField t) (AtField t) n cs w a
+
+-- a binding to a place or to an object
+abbrev pub IsReference : Ty → Type 0
+IsReference Num = ⊥
+IsReference (Cell a) = IsScalar a
+IsReference (Obj c) = Unit {0}
+IsReference (Raw c) = ⊥
+IsReference (Row n a) = ⊥
+IsReference Clu = ⊥
+IsReference Pro = ⊥
+
+-- a place of this type is one of a thing, of a part of one, or of a reference in one: not one of scalars, nor of what is being built, and of
+-- clusters and processors it is not told
 abbrev pub IsTracked : Ty → Type 0
 IsTracked Num = ⊥
-IsTracked (Cell a) = IsBinding a
+IsTracked (Cell a) = IsReference a
 IsTracked (Obj c) = Unit {0}
 IsTracked (Raw c) = ⊥
 IsTracked (Row n a) = IsTracked a

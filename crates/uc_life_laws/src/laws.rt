@@ -1,5 +1,6 @@
 // The laws: each is a function whose contract is the law.
 
+ghost use Rattle.uc_life_laws.specs.KnownAnswers.{LawAnswers};
 ghost use Rattle.uc_life_laws.specs.LifeLaws.{LawKnown, LawSteps};
 ghost use Rattle.uc_life_laws.specs.LifeReading.{LawReading};
 ghost use Rattle.uc_life_laws.specs.LifeRuns.{LawClears, LawRuns};
@@ -12,6 +13,11 @@ pub fn law_steps()
 /// In a state in which all is known that its execution can come by, a step leads to one.
 pub fn law_known()
     ensures { LawKnown }
+{}
+
+/// All stays known with an answer that suits what was asked, and is known in a task that begins.
+pub fn law_answers()
+    ensures { LawAnswers }
 {}
 
 /// So what is read at a binding within what is in scope is known, and what a typed task reads of a variable
