@@ -33,7 +33,7 @@ module _ (t : Table) (few : Ty → ℕ → Bool) (n : Exec) where
   Less K L = (w : Value) (a : Ty) → K w a → L w a
 
   module _ (K L : Value → Ty → Type 0) (more : Less K L) where
-    lies_more : (b : Ty) (v : Value) → LiesIn t few n K b v → LiesIn t few n L b v
+    pub lies_more : (b : Ty) (v : Value) → LiesIn t few n K b v → LiesIn t few n L b v
     lies_more b (Number z) h = tt
     lies_more b (Place (Frame x d) p) h = λ e. let k = h e in (k.0, k.1, more k.0 k.1 k.2, k.3)
     lies_more b (Place (Fields o) p) h = tt
@@ -84,7 +84,7 @@ module _ (t : Table) (few : Ty → ℕ → Bool) (n : Exec) where
     known_is Pro v h = h.is
 
     -- what is no cluster and no processor is told by its place
-    few_further : (a : Ty) (l : Link) (v : Value) → IsFew t few n a (further l v)
+    pub few_further : (a : Ty) (l : Link) (v : Value) → IsFew t few n a (further l v)
     few_further a l (Number z) = tt
     few_further a l (Place o p) = tt
     few_further a l (Running x) = tt

@@ -9,6 +9,10 @@ pub mod KnownAnswers
 pub mod Reading
 pub mod Returning
 pub mod Unwinding
+pub mod Going
+pub mod Calls
+pub mod Evaluating
+pub mod Acting
 pub mod Scopes
 pub mod Clearing
 pub mod Laying

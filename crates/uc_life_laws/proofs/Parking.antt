@@ -297,7 +297,7 @@ module _ (t : Table) (few : Ty → ℕ → Bool) where
       by None h = tt
       by (Some c) h = object_apart n m K L g.whole i.whole c v h k
 
-  main_ok : (g : Sig) (p : Purpose) (line : ℕ) (body : Stmts) → IsSorted p g.whole → FineStmts t g [] body → Ok t g [] [] (Rest body ∷ behind_body p line) []
+  pub main_ok : (g : Sig) (p : Purpose) (line : ℕ) (body : Stmts) → IsSorted p g.whole → FineStmts t g [] body → Ok t g [] [] (Rest body ∷ behind_body p line) []
   main_ok g TaskMain line body e f = (tt, f, (tt, refl))
   main_ok g CoroutineMain line body e f = (tt, f, (tt, refl))
   main_ok g Procedure line body e f = (tt, f, (tt, refl))

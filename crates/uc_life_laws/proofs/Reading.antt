@@ -2,7 +2,7 @@
 use Rattle.std.proofs.Common.{◌≡◌, ℕ, ◌<◌, ◌≤◌, ◌⊎◌, inl, inr, List, [], ◌∷◌, length, Option, Some, None, Bool, true, false, refl, sym, ap, ◌∙◌, subst, arith, ⊎_elim}
 use Rattle.std.specs.Prelude.{nat_eq, if◌then◌else◌, slice_index_or, ◌&&◌}
 use Rattle.std.proofs.lemmas.Bool.{eqb-true, eq-eqb}
-use Rattle.uc_tree.specs.Source.{Variable, CleanUp}
+use Rattle.uc_tree.specs.Source.{Expr, Variable, CleanUp, Destroys, DestroysAll, Unwinds, Forgets, Leaves, Ends, Frees, Restores}
 use Rattle.uc_machine.specs.declared.exec.Exec.{Exec}
 use Rattle.uc_machine.specs.declared.exec.Home.{Home}
 use Rattle.uc_machine.specs.declared.exec.Home.TheVariants as home
@@ -14,7 +14,7 @@ use Rattle.uc_machine.specs.Raising.{within, count_round}
 use Rattle.uc_machine.specs.Pieces as piece
 use Rattle.uc_machine.specs.Pieces.{Link, Slot, Value, Number, Place, Running, Object, Nothing, Todo, Sort, Active, State, Env, address, nought, loaded}
 use Rattle.uc_typing.specs.Typing as typing
-use Rattle.uc_typing.specs.Typing.{Ty, Num, Cell, Obj, Raw, Row, Clu, Pro, Name, Sig, Table, InScope, CleansAt, Cleans}
+use Rattle.uc_typing.specs.Typing.{Ty, Num, Cell, Obj, Raw, Row, Clu, Pro, Name, Sig, Table, InScope, DestroysAt, CleansAt, Cleans}
 use Rattle.uc_typing.specs.Pieces.{Ok, Left, Met, onto}
 use Rattle.uc_typing.specs.States.{Either, IsBase}
 use Rattle.uc_typing.proofs.Control as control
@@ -156,6 +156,50 @@ module _ (t : Table) (n : Exec) where
   variable_thing [] w a m = absurd m
   variable_thing (c ∷ older) w a (inl m) = inl (whole_todo (Frame n c.frame) c.this w a c.control m)
   variable_thing (c ∷ older) w a (inr m) = inr (variable_thing older w a m)
+
+-- a variable with one cell is bound to an object, a cluster or a processor
+module _ (t : Table) (n : Exec) (w : Value) where
+  ended_binding : (a : Ty) (place e : Expr) → DestroysAt t (Cell a) place e → IsBinding a
+  ended_binding Num place e h = absurd h
+  ended_binding (Cell a) place e h = absurd h
+  ended_binding (Obj c) place e h = tt
+  ended_binding (Raw c) place e h = absurd h
+  ended_binding (Row m a) place e h = absurd h
+  ended_binding Clu place e h = tt
+  ended_binding Pro place e h = tt
+
+  clean_binding : (a : Ty) (k : ℕ) (c : CleanUp) → CleansAt t (Cell a) (Variable k) c → IsBinding a
+  clean_binding a k (Destroys e) h = ended_binding a (Variable k) e h
+  clean_binding a k (DestroysAll m e) h = absurd h
+  clean_binding a k Unwinds h = absurd h
+  clean_binding a k Forgets h = absurd h
+  clean_binding a k Leaves h = absurd h
+  clean_binding a k Ends h = absurd h
+  clean_binding a k (Frees r) h = absurd h
+  clean_binding a k (Restores m) h = absurd h
+
+  mark_binding : (a : Ty) (o : Owner) (this : Value) (s : Sort) (R : Type 0) → (R → IsBinding a) → Marks (AtVariable t o this) (Nowhere o this) s w (Cell a) R → IsBinding a
+  mark_binding a o this (piece.IsClean c) R more (inl m) = clean_binding a m.0 c m.1
+  mark_binding a o this (piece.IsClean c) R more (inr r) = more r
+  mark_binding a o this (piece.IsPart c) R more (inl m) = absurd m
+  mark_binding a o this (piece.IsPart c) R more (inr r) = more r
+  mark_binding a o this piece.Simple R more r = more r
+  mark_binding a o this (piece.IsLoop x y z q) R more r = more r
+  mark_binding a o this piece.IsWhole R more r = more r
+  mark_binding a o this (piece.IsFill x y z) R more r = more r
+  mark_binding a o this (piece.IsSweep x) R more r = more r
+  mark_binding a o this (piece.IsGuard x) R more r = more r
+  mark_binding a o this piece.IsFinish R more r = more r
+  mark_binding a o this piece.IsFinishCoroutine R more r = more r
+
+  todo_binding : (a : Ty) (o : Owner) (this : Value) (todo : List Todo) → InTodo (AtVariable t o this) (Nowhere o this) todo w (Cell a) → IsBinding a
+  todo_binding a o this [] m = absurd m
+  todo_binding a o this (x ∷ todo) m = mark_binding a o this (piece.sort x) _ (todo_binding a o this todo) m
+
+  pub is_binding : (a : Ty) (cs : List Active) → Variables t n cs w (Cell a) → IsBinding a
+  is_binding a [] m = absurd m
+  is_binding a (c ∷ older) (inl m) = todo_binding a (Frame n c.frame) c.this c.control m
+  is_binding a (c ∷ older) (inr m) = is_binding a older m
 
 -- names in scope are variables that are to be cleaned up
 

@@ -8,7 +8,7 @@ use Rattle.uc_machine.specs.declared.exec.Owner.TheVariants.{Frame}
 use Rattle.uc_machine.specs.declared.exec.Stage.{Stage}
 use Rattle.uc_machine.specs.declared.exec.Stage.TheVariants.{Fresh, Started, Ended}
 use Rattle.uc_machine.specs.Executions.{Execution, at_depth, others}
-use Rattle.uc_machine.specs.Pieces.{FieldAt, Value, Number, Place, Running, Object, Nothing, Todo, Eval, LoadNow, ElementNow, FieldNow, Clean, Part, SetUpNow, Active, State, Env, Step, Goes, Ticks, Asks, further, loaded, top, variable_at}
+use Rattle.uc_machine.specs.Pieces.{FieldAt, Value, Number, Place, Running, Object, Nothing, Todo, Eval, LoadNow, ElementNow, FieldNow, Clean, Part, SetUpNow, ProcessorNow, Active, State, Env, Step, Goes, Ticks, Asks, further, loaded, top, object_in, variable_at}
 use Rattle.uc_machine.specs.Switches.{new_exec}
 use Rattle.uc_machine.specs.Quiet.{home_at}
 use Rattle.uc_machine.specs.Answering.{child_main}
@@ -191,4 +191,6 @@ module _ (t : Table) (few : Ty → ℕ → Bool) (gs : List Sig) (g : Sig) (sc :
   Finds (Part c ∷ todo) own = AreNumbers own
   -- the name of a new execution is not that of the one in whose frame its coroutine is
   Finds (SetUpNow r ∷ todo) own = IsOwn (new_exec (home_at s.run.this s.env) s.env) s.run.this → ⊥
+  -- a number that tells a cluster tells cluster 0
+  Finds (ProcessorNow ∷ todo) (Num ∷ own) = object_in (top s.run.operands) ≡ 0
   Finds todo own = Unit {0}
