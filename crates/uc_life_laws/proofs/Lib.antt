@@ -12,6 +12,7 @@ pub mod Unwinding
 pub mod Going
 pub mod Calls
 pub mod Evaluating
+pub mod Following
 pub mod Acting
 pub mod Scopes
 pub mod Clearing

@@ -1,5 +1,6 @@
 // The laws: each is a function whose contract is the law.
 
+ghost use Rattle.uc_life_laws.specs.Following.{LawFollowing};
 ghost use Rattle.uc_life_laws.specs.KnownAnswers.{LawAnswers};
 ghost use Rattle.uc_life_laws.specs.LifeLaws.{LawKnown, LawSteps};
 ghost use Rattle.uc_life_laws.specs.LifeReading.{LawReading};
@@ -18,6 +19,12 @@ pub fn law_known()
 /// All stays known with an answer that suits what was asked, and is known in a task that begins.
 pub fn law_answers()
     ensures { LawAnswers }
+{}
+
+/// A state that knows is in order, and what its next step reads is of its type, as far as it finds what it
+/// is to find.
+pub fn law_following()
+    ensures { LawFollowing }
 {}
 
 /// So what is read at a binding within what is in scope is known, and what a typed task reads of a variable
