@@ -15,3 +15,7 @@ pub mod Evaluating
 pub mod Following
 pub mod Acting
 pub mod Opened
+pub mod Scopes
+pub mod Clearing
+pub mod Laying
+pub mod LifeWorlds

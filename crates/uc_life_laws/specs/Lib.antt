@@ -5,3 +5,5 @@ pub mod Knowing
 pub mod KnownAnswers
 pub mod Following
 pub mod Opened
+pub mod LifeRuns
+pub mod LifeReading
