@@ -68,7 +68,7 @@ module _ (t : Table) (few : Ty → ℕ → Bool) (source : Source) (sound : Soun
         by false w h =
             known_more t few s.env.exec (AtHand t s.env.exec (others sigs) s.callers) (With t s sigs todo) (older_hand t few s.env.exec sigs (record s.run { control = todo }) s.callers) (Obj c) s.run.this h
 
-    pub own_field : (c : ℕ) (k : Shape) (i : ℕ) → g.this ≡ Some c → k ≡ t.shape c → IsPlaced t (t.fields c i) → (IsTracked (t.fields c i) → IsField t c i) → Known t few s.env.exec (With t s sigs todo) (t.fields c i) (further (FieldAt k i) s.run.this)
+    pub own_field : (c : ℕ) (k : Shape) (i : ℕ) → g.this ≡ Some c → k ≡ t.shape c → IsPlaced t (t.fields c i) → (t.mutex c ≡ false → IsTracked (t.fields c i) → IsField t c i) → Known t few s.env.exec (With t s sigs todo) (t.fields c i) (further (FieldAt k i) s.run.this)
     own_field c k i n e w f = known.further_field t few s.env.exec (With t s sigs todo) c i k s.run.this e w f (this_known c n)
 
     pub read_at : known.Less t few s.env.exec (Here t sigs s) (With t s sigs todo) → known.Less t few s.env.exec (With t s sigs todo) (Here t sigs s) → (a : Ty) (v : Value) → Known t few s.env.exec (With t s sigs todo) (Cell a) v → ReadsKnown t few sigs s a v → Known t few s.env.exec (With t s sigs todo) a (loaded v s.env)

@@ -8,7 +8,7 @@ use Rattle.uc_machine.specs.Executions.{at_depth, first_or, others, take_operand
 use Rattle.uc_machine.specs.Pieces.{Link, FieldAt, At, Value, Number, Place, Running, Object, Nothing, Active, further, nought, stored, top, below}
 use Rattle.uc_typing.specs.Typing.{Ty, Num, Cell, Obj, Raw, Row, Clu, Pro, Sig, Table, IsPlaced, IsParam, raw, element_shape, object_ty}
 use Rattle.uc_typing.specs.Pieces.{onto}
-use Rattle.uc_typing.specs.States.{whole, IsAt, Is}
+use Rattle.uc_typing.specs.States.{whole, IsAt, IsObjectBy, Is}
 use Rattle.uc_typing.proofs.Operands as operands
 use Rattle.uc_typing.proofs.Frames.{drop_onto}
 use Rattle.uc_life_laws.proofs.Cells.{known_stored}
@@ -117,9 +117,18 @@ module _ (t : Table) (few : Ty → ℕ → Bool) (n : Exec) where
     known_place Clu v p i f h = absurd p
     known_place Pro v p i f h = absurd p
 
-    pub further_field : (c i : ℕ) (s : Shape) (v : Value) → s ≡ t.shape c → IsPlaced t (t.fields c i) → (IsTracked (t.fields c i) → IsField t c i) → Known t few n K (Obj c) v → Known t few n K (t.fields c i) (further (FieldAt s i) v)
+    -- the fields of a mutex object lie in no frame
+    lies_at : (b : Bool) (c i : ℕ) (v : Value) → t.mutex c ≡ b → IsObjectBy t b c v → (t.mutex c ≡ false → IsField t c i) → LiesIn t few n K (Obj c) v → LiesIn t few n K (t.fields c i) (further (FieldAt (t.shape c) i) v)
+    lies_at true c i (Number z) m h f l = absurd h
+    lies_at true c i (Place o p) m h f l = absurd h
+    lies_at true c i (Running x) m h f l = absurd h
+    lies_at true c i (Object o) m h f l = tt
+    lies_at true c i Nothing m h f l = absurd h
+    lies_at false c i v m h f l = lies_field c i v (f m) l
+
+    pub further_field : (c i : ℕ) (s : Shape) (v : Value) → s ≡ t.shape c → IsPlaced t (t.fields c i) → (t.mutex c ≡ false → IsTracked (t.fields c i) → IsField t c i) → Known t few n K (Obj c) v → Known t few n K (t.fields c i) (further (FieldAt s i) v)
     further_field c i s v e w f h =
-        known_place (t.fields c i) (further (FieldAt s i) v) w (operands.further_field t c i s v e w h.is) (λ b. few_further b (FieldAt s i) v) (λ k. subst (λ s. LiesIn t few n K (t.fields c i) (further (FieldAt s i) v)) (sym e) (lies_field c i v (f k) (h.rooted tt)))
+        known_place (t.fields c i) (further (FieldAt s i) v) w (operands.further_field t c i s v e w h.is) (λ b. few_further b (FieldAt s i) v) (λ k. subst (λ s. LiesIn t few n K (t.fields c i) (further (FieldAt s i) v)) (sym e) (lies_at (t.mutex c) c i v refl h.is (λ m. f m k) (h.rooted tt)))
 
     pub further_element : (m j : ℕ) (a : Ty) (s : Shape) (v : Value) → j < m → IsPlaced t a → (IsTracked a → s ≡ element_shape t a) → Known t few n K (Row m a) v → Known t few n K a (further (At s j) v)
     further_element m j a s v l w f h =
@@ -161,15 +170,6 @@ module _ (t : Table) (few : Ty → ℕ → Bool) (n : Exec) where
     raw_placed (Row m a) p = tt
     raw_placed Clu p = absurd p
     raw_placed Pro p = absurd p
-
-    -- the place of a field of an object at hand
-    pub own_field : (c i : ℕ) (g : Sig) (s : Shape) (v : Value) → s ≡ t.shape c → IsPlaced t (t.fields c i) → (IsTracked (t.fields c i) → IsField t c i) → Is t (object_ty g.whole c) v → LiesIn t few n K (Obj c) v → Known t few n K (t.fields c i) (further (FieldAt s i) v)
-    own_field c i g s v e w f h l =
-        known_place (t.fields c i) (further (FieldAt s i) v) w (operands.further_field t c i s v e w (at g.whole h)) (λ b. few_further b (FieldAt s i) v) (λ k. subst (λ s. LiesIn t few n K (t.fields c i) (further (FieldAt s i) v)) (sym e) (lies_field c i v (f k) l))
-      where
-        at : (b : Bool) → Is t (object_ty b c) v → Is t (Obj c) v
-        at true h = h
-        at false h = h
 
     pub known_raw : (a : Ty) (v : Value) → IsPlaced t a → ((b : Ty) → IsFew t few n b v) → Known t few n K a v → Known t few n K (raw a) v
     known_raw a v w f h =

@@ -163,9 +163,9 @@ module _ (t : Table) (few : Ty → ℕ → Bool) (gs : List Sig) (s : State) whe
         Known t few s.env.exec (Here t gs s) a (loaded v s.env)
 
 module _ (t : Table) (few : Ty → ℕ → Bool) (gs : List Sig) (g : Sig) (sc : List Name) (s : State) where
-  -- each field is one that somebody declared
+  -- each field of an object that has a place is one that somebody declared
   abbrev pub Declared : ℕ → Type 0
-  Declared i = (c : ℕ) → g.this ≡ Some c → IsTracked (t.fields c i) → IsField t c i
+  Declared i = (c : ℕ) → g.this ≡ Some c → t.mutex c ≡ false → IsTracked (t.fields c i) → IsField t c i
 
   abbrev pub FindsObject : ObjectExpr → Ty → Type 0
   FindsObject (OwnField k i) a = Declared i
@@ -185,7 +185,7 @@ module _ (t : Table) (few : Ty → ℕ → Bool) (gs : List Sig) (g : Sig) (sc :
   Finds (LoadNow ∷ todo) (Cell a ∷ more) = ReadsKnown t few gs s a (top s.run.operands)
   -- the shape of an element is that of what stands there
   Finds (ElementNow m k ∷ todo) (Num ∷ (Row j a ∷ more)) = IsTracked a → k ≡ element_shape t a
-  Finds (FieldNow k i ∷ todo) (Obj c ∷ more) = IsTracked (t.fields c i) → IsField t c i
+  Finds (FieldNow k i ∷ todo) (Obj c ∷ more) = t.mutex c ≡ false → IsTracked (t.fields c i) → IsField t c i
   -- whoever comes to a mark hands over numbers alone
   Finds (Clean c ∷ todo) own = AreNumbers own
   Finds (Part c ∷ todo) own = AreNumbers own
