@@ -200,7 +200,7 @@ module _ (t : Table) (few : Ty → ℕ → Bool) (source : Source) (sound : Soun
   flush (Some []) todo own vs o h = same_in own todo vs (record s.env { gathered = None }) refl refl refl refl refl o h
   flush (Some (p ∷ ps)) todo own vs o h = (tt, same_in own todo vs (record s.env { gathered = None }) refl refl refl refl refl o h)
 
-  pub element : (n : ℕ) (i : Option ℕ) (k : Shape) (a : Ty) (todo : List Todo) (v : Value) (own : List Ty) (vs : List Value) → ((j : ℕ) → i ≡ Some j → j < n) → IsPlaced t a → (IsTracked a → k ≡ element_shape t a) → Known t few s.env.exec (With t s sigs todo) (Row n a) v → Ok t g base sc todo (a ∷ own) → All todo own vs → After (pc.element_step k i todo v vs s)
+  pub element : (n : ℕ) (i : Option ℕ) (k : Shape) (a : Ty) (todo : List Todo) (v : Value) (own : List Ty) (vs : List Value) → ((j : ℕ) → i ≡ Some j → j < n) → IsPlaced t a → (IsTracked t a → k ≡ element_shape t a) → Known t few s.env.exec (With t s sigs todo) (Row n a) v → Ok t g base sc todo (a ∷ own) → All todo own vs → After (pc.element_step k i todo v vs s)
   element n None k a todo v own vs l d f w o h = (tt, tt)
   element n (Some i) k a todo v own vs l d f w o h =
       go sc (a ∷ own) todo _ o (further_element t few s.env.exec (With t s sigs todo) n i a k v (l i refl) d f w, h)

@@ -68,7 +68,7 @@ module _ (t : Table) (few : Ty → ℕ → Bool) (source : Source) (sound : Soun
         by false w h =
             known_more t few s.env.exec (AtHand t s.env.exec (others sigs) s.callers) (With t s sigs todo) (older_hand t few s.env.exec sigs (record s.run { control = todo }) s.callers) (Obj c) s.run.this h
 
-    pub own_field : (c : ℕ) (k : Shape) (i : ℕ) → g.this ≡ Some c → k ≡ t.shape c → IsPlaced t (t.fields c i) → (t.mutex c ≡ false → IsTracked (t.fields c i) → IsField t c i) → Known t few s.env.exec (With t s sigs todo) (t.fields c i) (further (FieldAt k i) s.run.this)
+    pub own_field : (c : ℕ) (k : Shape) (i : ℕ) → g.this ≡ Some c → k ≡ t.shape c → IsPlaced t (t.fields c i) → (t.mutex c ≡ false → IsTracked t (t.fields c i) → IsField t c i) → Known t few s.env.exec (With t s sigs todo) (t.fields c i) (further (FieldAt k i) s.run.this)
     own_field c k i n e w f = known.further_field t few s.env.exec (With t s sigs todo) c i k s.run.this e w f (this_known c n)
 
     pub read_at : known.Less t few s.env.exec (Here t sigs s) (With t s sigs todo) → known.Less t few s.env.exec (With t s sigs todo) (Here t sigs s) → (a : Ty) (v : Value) → Known t few s.env.exec (With t s sigs todo) (Cell a) v → ReadsKnown t few sigs s a v → Known t few s.env.exec (With t s sigs todo) a (loaded v s.env)
@@ -90,13 +90,13 @@ module _ (t : Table) (few : Ty → ℕ → Bool) (source : Source) (sound : Soun
     scoped : (k : ℕ) (a : Ty) (tys : List Ty) → Ok t g base sc todo tys → InScope sc k a → Variables t s.env.exec (record s.run { control = todo } ∷ s.callers) (variable_at k s) a
     scoped k a tys o i = reading.scope_at t s.env.exec g k a (record s.run { control = todo }) s.callers base sc tys o ends i
 
-    pub slot_known : (a : Ty) (k : ℕ) (tys : List Ty) → Ok t g base sc todo tys → IsPlaced t a → IsVariable g sc k a → (((b : Ty) → IsParam g.params k b → IsTracked (Cell b) → LiesIn t few s.env.exec (With t s sigs todo) (Cell b) (variable_at k s)) × (Among g.locals k a → IsTracked a → LiesIn t few s.env.exec (With t s sigs todo) a (variable_at k s))) → Known t few s.env.exec (With t s sigs todo) a (variable_at k s)
+    pub slot_known : (a : Ty) (k : ℕ) (tys : List Ty) → Ok t g base sc todo tys → IsPlaced t a → IsVariable g sc k a → (((b : Ty) → IsParam g.params k b → IsTracked t (Cell b) → LiesIn t few s.env.exec (With t s sigs todo) (Cell b) (variable_at k s)) × (Among g.locals k a → IsTracked t a → LiesIn t few s.env.exec (With t s sigs todo) a (variable_at k s))) → Known t few s.env.exec (With t s sigs todo) a (variable_at k s)
     slot_known a k tys o w v f =
         known.known_place t few s.env.exec (With t s sigs todo) a (variable_at k s) w (slot_is a k w) (λ b. tt) (λ i. by v i)
       where
-        by : IsVariable g sc k a → IsTracked a → LiesIn t few s.env.exec (With t s sigs todo) a (variable_at k s)
+        by : IsVariable g sc k a → IsTracked t a → LiesIn t few s.env.exec (With t s sigs todo) a (variable_at k s)
         by (inl h) i = lies_itself (With t s sigs todo) a (variable_at k s) (inl (reading.variable_thing t s.env.exec (record s.run { control = todo } ∷ s.callers) (variable_at k s) a (scoped k a tys o h)))
-        by (inr (inl h)) i = subst (λ b. LiesIn t few s.env.exec (With t s sigs todo) b (variable_at k s)) (sym h.2) (f.0 h.0 h.1 (subst IsTracked h.2 i))
+        by (inr (inl h)) i = subst (λ b. LiesIn t few s.env.exec (With t s sigs todo) b (variable_at k s)) (sym h.2) (f.0 h.0 h.1 (subst (IsTracked t) h.2 i))
         by (inr (inr h)) i = f.1 h i
 
     -- what one holds

@@ -12,7 +12,7 @@ use Rattle.uc_typing.specs.States.{whole, IsAt, IsObjectBy, Is}
 use Rattle.uc_typing.proofs.Operands as operands
 use Rattle.uc_typing.proofs.Frames.{drop_onto}
 use Rattle.uc_life_laws.proofs.Cells.{known_stored}
-use Rattle.uc_life_laws.specs.Things.{IsField, IsScalar, IsReference, IsTracked, Within, itself, field, element, IsFew, LiesIn, IsKnown, IsMade, Known}
+use Rattle.uc_life_laws.specs.Things.{IsField, IsScalar, IsBinding, IsReference, IsUnbound, IsTracked, Within, itself, field, element, IsFew, LiesIn, IsKnown, IsMade, Known}
 use Rattle.uc_life_laws.specs.Knowing.{InMaking, AtHand, KnownAll, KnownParams, KnownFrames, KnownThis}
 
 -- lists, as uc_typing has them
@@ -26,6 +26,39 @@ taken_more : {X : Type 0} (d : X) (n : ℕ) (xs ys : List X) → take_operands d
 taken_more d zero xs ys = refl
 taken_more d (suc n) xs ys =
     taken_more d n (others xs) (first_or d xs ∷ ys) ∙ ap (λ zs. first_or d zs ∷ take_operands d (suc n) xs ys) (drop_others n xs)
+
+module _ (t : Table) where
+  -- a part of a part
+  within_both : (w : Value) (a : Ty) (v : Value) (b : Ty) (u : Value) (d : Ty) → Within t w a v b → Within t v b u d → Within t w a u d
+  within_both w a v b u d h itself = h
+  within_both w a v b u d h (field {v = x} {c} k i f) = field (within_both w a v b x (Obj c) h k) i f
+  within_both w a v b u d h (element {v = x} {m} {b = e} k j l) = element (within_both w a v b x (Row m e) h k) j l
+
+  -- the same part of another thing of the type
+  moved : (w : Value) (a : Ty) (v : Value) (b : Ty) (x : Value) → Within t w a v b → (u : Value) × Within t x a u b
+  moved w a v b x itself = (x, itself)
+  moved w a v b x (field {v = y} {c} k i f) = let h = moved w a y (Obj c) x k in (further (FieldAt (t.shape c) i) h.0, field h.1 i f)
+  moved w a v b x (element {v = y} {m} {b = e} k j l) = let h = moved w a y (Row m e) x k in (further (At (element_shape t e) j) h.0, element h.1 j l)
+
+  referred : (a : Ty) → IsReference a → IsBinding a
+  referred Num i = absurd i
+  referred (Cell a) i = i
+  referred (Obj c) i = tt
+  referred (Raw c) i = absurd i
+  referred (Row m a) i = absurd i
+  referred Clu i = absurd i
+  referred Pro i = absurd i
+
+  -- what is tracked lies in no object in which nothing is bound
+  untracked : (c : ℕ) → IsUnbound t (Obj c) → (a : Ty) (w v : Value) → Within t w (Obj c) v a → IsTracked t a → ⊥
+  untracked c u Num w v h i = i
+  untracked c u (Cell a) w v h i = u w v a h (referred a i)
+  untracked c u (Obj d) w v h i =
+      i (λ x y b k bound. let m = moved x (Obj d) y (Cell b) v k in u w m.0 b (within_both w (Obj c) v (Obj d) m.0 (Cell b) h m.1) bound)
+  untracked c u (Raw d) w v h i = i
+  untracked c u (Row m a) w v h i = untracked c u a w (further (At (element_shape t a) 0) v) (element h 0 i.1) i.0
+  untracked c u Clu w v h i = i
+  untracked c u Pro w v h i = i
 
 module _ (t : Table) (few : Ty → ℕ → Bool) (n : Exec) where
   -- what one knows, one who knows more does
@@ -108,7 +141,7 @@ module _ (t : Table) (few : Ty → ℕ → Bool) (n : Exec) where
     lies_element m j a Nothing l h = tt
 
     -- a place is known that lies in what is known
-    pub known_place : (a : Ty) (v : Value) → IsPlaced t a → Is t a v → ((b : Ty) → IsFew t few n b v) → (IsTracked a → LiesIn t few n K a v) → Known t few n K a v
+    pub known_place : (a : Ty) (v : Value) → IsPlaced t a → Is t a v → ((b : Ty) → IsFew t few n b v) → (IsTracked t a → LiesIn t few n K a v) → Known t few n K a v
     known_place Num v p i f h = absurd p
     known_place (Cell a) v p i f h = record { is = i; passes = f (Cell a); rooted = h }
     known_place (Obj c) v p i f h = record { is = i; passes = f (Obj c); rooted = h }
@@ -118,21 +151,21 @@ module _ (t : Table) (few : Ty → ℕ → Bool) (n : Exec) where
     known_place Pro v p i f h = absurd p
 
     -- the fields of a mutex object lie in no frame
-    lies_at : (b : Bool) (c i : ℕ) (v : Value) → t.mutex c ≡ b → IsObjectBy t b c v → (t.mutex c ≡ false → IsField t c i) → LiesIn t few n K (Obj c) v → LiesIn t few n K (t.fields c i) (further (FieldAt (t.shape c) i) v)
+    lies_at : (b : Bool) (c i : ℕ) (v : Value) → t.mutex c ≡ b → IsObjectBy t b c v → (t.mutex c ≡ false → IsField t c i) → (IsField t c i → LiesIn t few n K (Obj c) v) → LiesIn t few n K (t.fields c i) (further (FieldAt (t.shape c) i) v)
     lies_at true c i (Number z) m h f l = absurd h
     lies_at true c i (Place o p) m h f l = absurd h
     lies_at true c i (Running x) m h f l = absurd h
     lies_at true c i (Object o) m h f l = tt
     lies_at true c i Nothing m h f l = absurd h
-    lies_at false c i v m h f l = lies_field c i v (f m) l
+    lies_at false c i v m h f l = let g = f m in lies_field c i v g (l g)
 
-    pub further_field : (c i : ℕ) (s : Shape) (v : Value) → s ≡ t.shape c → IsPlaced t (t.fields c i) → (t.mutex c ≡ false → IsTracked (t.fields c i) → IsField t c i) → Known t few n K (Obj c) v → Known t few n K (t.fields c i) (further (FieldAt s i) v)
+    pub further_field : (c i : ℕ) (s : Shape) (v : Value) → s ≡ t.shape c → IsPlaced t (t.fields c i) → (t.mutex c ≡ false → IsTracked t (t.fields c i) → IsField t c i) → Known t few n K (Obj c) v → Known t few n K (t.fields c i) (further (FieldAt s i) v)
     further_field c i s v e w f h =
-        known_place (t.fields c i) (further (FieldAt s i) v) w (operands.further_field t c i s v e w h.is) (λ b. few_further b (FieldAt s i) v) (λ k. subst (λ s. LiesIn t few n K (t.fields c i) (further (FieldAt s i) v)) (sym e) (lies_at (t.mutex c) c i v refl h.is (λ m. f m k) (h.rooted tt)))
+        known_place (t.fields c i) (further (FieldAt s i) v) w (operands.further_field t c i s v e w h.is) (λ b. few_further b (FieldAt s i) v) (λ k. subst (λ s. LiesIn t few n K (t.fields c i) (further (FieldAt s i) v)) (sym e) (lies_at (t.mutex c) c i v refl h.is (λ m. f m k) (λ g. h.rooted (λ u. untracked t c u (t.fields c i) v (further (FieldAt (t.shape c) i) v) (field itself i g) k))))
 
-    pub further_element : (m j : ℕ) (a : Ty) (s : Shape) (v : Value) → j < m → IsPlaced t a → (IsTracked a → s ≡ element_shape t a) → Known t few n K (Row m a) v → Known t few n K a (further (At s j) v)
+    pub further_element : (m j : ℕ) (a : Ty) (s : Shape) (v : Value) → j < m → IsPlaced t a → (IsTracked t a → s ≡ element_shape t a) → Known t few n K (Row m a) v → Known t few n K a (further (At s j) v)
     further_element m j a s v l w f h =
-        known_place a (further (At s j) v) w (operands.further_element t m j a s v l w h.is) (λ b. few_further b (At s j) v) (λ k. subst (λ s. LiesIn t few n K a (further (At s j) v)) (sym (f k)) (lies_element m j a v l (h.rooted k)))
+        known_place a (further (At s j) v) w (operands.further_element t m j a s v l w h.is) (λ b. few_further b (At s j) v) (λ k. subst (λ s. LiesIn t few n K a (further (At s j) v)) (sym (f k)) (lies_element m j a v l (h.rooted (k, omega (arith, l)))))
 
     -- what is whole may be taken for what is not
     raw_scalar : (a : Ty) → IsScalar (raw a) → raw a ≡ a
@@ -153,12 +186,12 @@ module _ (t : Table) (few : Ty → ℕ → Bool) (n : Exec) where
     raw_reference Clu i = absurd i
     raw_reference Pro i = absurd i
 
-    raw_tracked : (a : Ty) → IsTracked (raw a) → raw a ≡ a
+    raw_tracked : (a : Ty) → IsTracked t (raw a) → raw a ≡ a
     raw_tracked Num i = absurd i
     raw_tracked (Cell a) i = ap Cell (raw_reference a i)
     raw_tracked (Obj c) i = absurd i
     raw_tracked (Raw c) i = absurd i
-    raw_tracked (Row m a) i = ap (Row m) (raw_tracked a i)
+    raw_tracked (Row m a) i = ap (Row m) (raw_tracked a i.0)
     raw_tracked Clu i = absurd i
     raw_tracked Pro i = absurd i
 
@@ -173,9 +206,9 @@ module _ (t : Table) (few : Ty → ℕ → Bool) (n : Exec) where
 
     pub known_raw : (a : Ty) (v : Value) → IsPlaced t a → ((b : Ty) → IsFew t few n b v) → Known t few n K a v → Known t few n K (raw a) v
     known_raw a v w f h =
-        known_place (raw a) v (raw_placed a w) (operands.is_raw t a v (known_is a v h)) f (λ i. let e : raw a ≡ a = raw_tracked a i in subst (λ b. LiesIn t few n K b v) (sym e) (rooted a h (subst IsTracked e i)))
+        known_place (raw a) v (raw_placed a w) (operands.is_raw t a v (known_is a v h)) f (λ i. let e : raw a ≡ a = raw_tracked a i in subst (λ b. LiesIn t few n K b v) (sym e) (rooted a h (subst (IsTracked t) e i)))
       where
-        rooted : (a : Ty) → Known t few n K a v → IsTracked a → LiesIn t few n K a v
+        rooted : (a : Ty) → Known t few n K a v → IsTracked t a → LiesIn t few n K a v
         rooted Num h i = absurd i
         rooted (Cell a) h i = h.rooted i
         rooted (Obj c) h i = h.rooted i

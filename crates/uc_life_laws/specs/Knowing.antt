@@ -135,7 +135,7 @@ module _ (t : Table) (few : Ty → ℕ → Bool) where
 
 -- a place is tracked where it is found, though nothing in scope tells so
 abbrev pub IsRooted : Table → (Ty → ℕ → Bool) → Exec → (Value → Ty → Type 0) → Ty → Value → Type 0
-IsRooted t few n K a v = IsTracked a → LiesIn t few n K a v
+IsRooted t few n K a v = IsTracked t a → LiesIn t few n K a v
 
 -- places in frames of other executions and in mutex objects
 abbrev pub IsOwn : Exec → Value → Type 0
@@ -165,7 +165,7 @@ module _ (t : Table) (few : Ty → ℕ → Bool) (gs : List Sig) (s : State) whe
 module _ (t : Table) (few : Ty → ℕ → Bool) (gs : List Sig) (g : Sig) (sc : List Name) (s : State) where
   -- each field of an object that has a place is one that somebody declared
   abbrev pub Declared : ℕ → Type 0
-  Declared i = (c : ℕ) → g.this ≡ Some c → t.mutex c ≡ false → IsTracked (t.fields c i) → IsField t c i
+  Declared i = (c : ℕ) → g.this ≡ Some c → t.mutex c ≡ false → IsTracked t (t.fields c i) → IsField t c i
 
   abbrev pub FindsObject : ObjectExpr → Ty → Type 0
   FindsObject (OwnField k i) a = Declared i
@@ -184,8 +184,8 @@ module _ (t : Table) (few : Ty → ℕ → Bool) (gs : List Sig) (g : Sig) (sc :
   Finds (Eval e ∷ todo) own = (a : Ty) → Yields t g sc e a → FindsExpr e a
   Finds (LoadNow ∷ todo) (Cell a ∷ more) = ReadsKnown t few gs s a (top s.run.operands)
   -- the shape of an element is that of what stands there
-  Finds (ElementNow m k ∷ todo) (Num ∷ (Row j a ∷ more)) = IsTracked a → k ≡ element_shape t a
-  Finds (FieldNow k i ∷ todo) (Obj c ∷ more) = t.mutex c ≡ false → IsTracked (t.fields c i) → IsField t c i
+  Finds (ElementNow m k ∷ todo) (Num ∷ (Row j a ∷ more)) = IsTracked t a → k ≡ element_shape t a
+  Finds (FieldNow k i ∷ todo) (Obj c ∷ more) = t.mutex c ≡ false → IsTracked t (t.fields c i) → IsField t c i
   -- whoever comes to a mark hands over numbers alone
   Finds (Clean c ∷ todo) own = AreNumbers own
   Finds (Part c ∷ todo) own = AreNumbers own

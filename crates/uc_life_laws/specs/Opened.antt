@@ -7,16 +7,12 @@ use Rattle.uc_machine.specs.Pieces.{Slot, Value, Place, Todo, Rest, State}
 use Rattle.uc_typing.specs.Typing.{Ty, Cell, Obj, Row, Table, CleansAt}
 use Rattle.uc_typing.specs.States.{Typed}
 use Rattle.uc_value_laws.specs.There.{IsThere}
-use Rattle.uc_life_laws.specs.Things.{IsBinding, Within, Holds}
+use Rattle.uc_life_laws.specs.Things.{IsUnbound, Holds}
 use Rattle.uc_life_laws.specs.LifeStates.{frame_at, Outwards, Opens}
 
 -- any number
 abbrev pub any : Ty → ℕ → Bool
 any a o = true
-
--- nothing is bound in what is of this type
-abbrev pub IsUnbound : Table → Ty → Type 0
-IsUnbound t a = (w v : Value) (b : Ty) → Within t w a v (Cell b) → IsBinding b → ⊥
 
 -- an object that is a variable, and those of an array that is one, hold what is known
 pub record ObjectsHold (t : Table) (c : CleanUp) (todo : List Todo) (s : State) : Type 0 where

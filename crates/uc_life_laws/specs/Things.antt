@@ -87,16 +87,20 @@ IsReference (Row n a) = ⊥
 IsReference Clu = ⊥
 IsReference Pro = ⊥
 
--- a place of this type is one of a thing, of a part of one, or of a reference in one: not one of scalars, nor of what is being built, and of
--- clusters and processors it is not told
-abbrev pub IsTracked : Ty → Type 0
-IsTracked Num = ⊥
-IsTracked (Cell a) = IsReference a
-IsTracked (Obj c) = Unit {0}
-IsTracked (Raw c) = ⊥
-IsTracked (Row n a) = IsTracked a
-IsTracked Clu = ⊥
-IsTracked Pro = ⊥
+-- nothing is bound in what is of this type
+abbrev pub IsUnbound : Table → Ty → Type 0
+IsUnbound t a = (w v : Value) (b : Ty) → Within t w a v (Cell b) → IsBinding b → ⊥
+
+-- a place of this type is told by the thing in which it lies: that of an object in which something is bound, of an array of such, and of a
+-- reference. It is not told of scalars, of what is being built, of clusters and processors
+abbrev pub IsTracked : Table → Ty → Type 0
+IsTracked t Num = ⊥
+IsTracked t (Cell a) = IsReference a
+IsTracked t (Obj c) = IsUnbound t (Obj c) → ⊥
+IsTracked t (Raw c) = ⊥
+IsTracked t (Row n a) = IsTracked t a × (0 < n)
+IsTracked t Clu = ⊥
+IsTracked t Pro = ⊥
 
 -- what is known
 
@@ -124,7 +128,7 @@ module _ (t : Table) (few : Ty → ℕ → Bool) (n : Exec) where
   pub record IsKnown (K : Value → Ty → Type 0) (a : Ty) (v : Value) : Type 0 where
     pub is : Is t a v
     pub passes : IsFew a v
-    pub rooted : IsTracked a → LiesIn K a v
+    pub rooted : IsTracked t a → LiesIn K a v
 
   -- one that is being built or destroyed has such a number
   pub record IsMade (c : ℕ) (v : Value) : Type 0 where
