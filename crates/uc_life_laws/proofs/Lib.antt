@@ -18,3 +18,5 @@ pub mod Scopes
 pub mod Clearing
 pub mod Laying
 pub mod LifeWorlds
+pub mod NewNumbers
+pub mod KnownWorlds

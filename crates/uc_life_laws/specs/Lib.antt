@@ -6,3 +6,4 @@ pub mod KnownAnswers
 pub mod Following
 pub mod LifeRuns
 pub mod LifeReading
+pub mod KnownRuns
