@@ -1,5 +1,5 @@
 -- Where what is bound is loose, it is there behind the step that binds it: in runs.
-use Rattle.std.proofs.Common.{◌≡◌, ℕ, Bool, false, true, Some, List, [], ◌∷◌, refl, sym, ap, subst}
+use Rattle.std.proofs.Common.{◌≡◌, ℕ, Bool, false, true, Some, List, [], ◌∷◌, refl, ap, subst}
 use Rattle.std.specs.Prelude.{slice_get}
 use Rattle.uc_tree.specs.Programs.{Program}
 use Rattle.uc_tree.specs.Source as src
@@ -34,7 +34,7 @@ use Rattle.uc_scope_laws.proofs.StackWalk.{walk as walk_stack}
 use Rattle.uc_scope_laws.proofs.StackWorlds.{law_frame_runs}
 use Rattle.uc_scope_laws.proofs.Unreferring.{law_accepted}
 use Rattle.uc_scope_laws.proofs.Walk.{walk as walk_rooms}
-use Rattle.uc_value_laws.specs.There.{HoldsObject, OfBound, OpensBound, NextDrop, NextCall}
+use Rattle.uc_value_laws.specs.There.{HoldsObject, OfBound, NextDrop, NextCall}
 use Rattle.uc_value_laws.specs.ThereStates.{BoundBehind}
 use Rattle.uc_value_laws.specs.Opens.{OpensAt, Opens, RunOpens, RideMeets, MayMeet, LeadsMeet}
 use Rattle.uc_binding_laws.specs.Placed.{CodeRoutine, PlacedState, PlacedStep}
@@ -143,7 +143,7 @@ module _ (p : Program) (formed : IsFormed p) (accepted : breaks_of p ≡ []) (in
       ridden p (source_of p) (law_accepted p accepted) (code_of p formed accepted) d.rides (begins r f on q t d.given d.runs d.told) o
 
 pub law_opens : LawOpens
-law_opens = record { runs = runs; leads = λ p formed accepted input opts range j w r f on t s c o. led p (source_of p) (law_accepted p accepted) (code_of p formed accepted) c.leads (begins p formed accepted input opts range r f on c.processor t c.given c.runs c.told) o; }
+law_opens = record { runs = runs; leads = λ p formed accepted input opts range j w r f on t s c o. led p (source_of p) (law_accepted p accepted) (code_of p formed accepted) c.leads (begins p formed accepted input opts range r f on c.processor t c.given c.runs c.told) o }
   where
     runs : (p : Program) → IsFormed p → breaks_of p ≡ [] → (input : List ℕ) (opts : Options) → InRange opts → (j : Journal) (w : World) (r : Runs (source_of p) input opts j w) → RunFits (source_of p) input opts j w r → RunLoose (source_of p) input opts j w r → RunOpens (source_of p) input opts j w r
     runs p formed accepted input opts range j w begun f o = tt

@@ -25,16 +25,14 @@ use Rattle.uc_typing.specs.Laws.{ReadsIn}
 use Rattle.uc_sound.specs.Sounds.{of_program}
 use Rattle.uc_sound.specs.Tables.{table_of}
 use Rattle.uc_formed.specs.WellTyped.{IsTextOf, IsWellTyped}
-use Rattle.uc_sound.specs.Formed.{IsFormed}
 use Rattle.uc_formed.proofs.Texts.{text_formed, law_well_typed}
 use Rattle.uc_value_laws.specs.NewClusters.{GoodState}
 use Rattle.uc_value_laws.specs.Reading.{ReadsElement}
 use Rattle.uc_value_laws.specs.Opens.{Opens, LeadsOpen, RideOpens, MayOpen, RunOpens}
 use Rattle.uc_value_laws.proofs.Readings.{law_reading}
 use Rattle.uc_value_laws.proofs.Worlds.{law_runs}
-use Rattle.uc_binding_laws.specs.Loose.{RunLoose, LeadsLoose}
 use Rattle.uc_binding_laws.proofs.Loosening.{law_opens}
-use Rattle.uc_typed_runs.specs.TypedRuns.{still_reading, RideHolds, MayHold, RunHolds, LeadsHold, Reading, PlacesIn, Following, LeadsFollowing, IsTyped, LawTypedTexts}
+use Rattle.uc_typed_runs.specs.TypedRuns.{still_reading, RideHolds, MayHold, RunHolds, LeadsHold, Reading, Following, LeadsFollowing, IsTyped, LawTypedTexts}
 use Rattle.uc_typed_runs.proofs.Endings.{Ending, EndingStep, at_goes, at_ticks, ending, reads as reads_ending}
 use Rattle.uc_typed_runs.proofs.Hands.{behind}
 use Rattle.uc_typed_runs.proofs.Openings.{no_variable, no_place}

@@ -12,7 +12,7 @@ use Rattle.uc_machine.specs.Pieces.{Slot, Value, Number, Place, Running, Object,
 use Rattle.uc_typing.specs.States.{IsNumbered}
 use Rattle.uc_scope_laws.specs.Clusters.{DeclaresAlone, BindsCluster, Precedes, OpensBound, IsUnbound, IsUnscoped, Begins, Joined}
 use Rattle.uc_value_laws.specs.There.{IsGiven, IsNoCluster, OfBound, HoldsObject, IsThere, IsFew, IsCounted, AllCounted, AllBefore, FrameBefore, frame_at}
-use Rattle.uc_value_laws.specs.ThereStates.{CountedStack, CountedState, CountedStep, ScopeFits, FairAt, Fair}
+use Rattle.uc_value_laws.specs.ThereStates.{CountedState, CountedStep, ScopeFits, FairAt, Fair}
 use Rattle.uc_value_laws.specs.NewClusters as way
 use Rattle.uc_value_laws.specs.NewClusters.{Stage, stage_todo, IsOwn, IsCount, IsUnset, IsSetBy, IsScopeOf, StageHoldsBy, OpeningBy, WaitingBy, GoodBy, AskedBy, GoodStepBy}
 use Rattle.uc_value_laws.proofs.Cells.{set_length, list_cleared, stack_cleared}

@@ -1,5 +1,5 @@
 -- A quiet step of a task in which all is there that is in scope and known by its number leads to one.
-use Rattle.std.proofs.Common.{◌≡◌, ℕ, zero, suc, ◌≤◌, ◌⊎◌, inl, inr, ◌++◌, ◌&&◌, Bool, true, false, List, [], ◌∷◌, length, drop, Option, Some, None, refl, arith, ap, ◌∙◌, subst, sym}
+use Rattle.std.proofs.Common.{◌≡◌, ℕ, zero, suc, ◌≤◌, inl, inr, ◌++◌, ◌&&◌, Bool, true, false, List, [], ◌∷◌, length, drop, Option, Some, None, refl, arith, ap, ◌∙◌, subst, sym}
 use Rattle.std.specs.Prelude.{nat_eq, nat_lt, if◌then◌else◌}
 use Rattle.std.proofs.lemmas.Bool.{eq-eqb}
 use Rattle.uc_tree.specs.declared.limits.TheConstants.{CALLS, PENDING_EVENTS}
@@ -26,7 +26,7 @@ use Rattle.uc_machine.specs.Quiet as quiet
 use Rattle.uc_machine.specs.Pieces as piece
 use Rattle.uc_machine.specs.Pieces.{Value, Number, Place, Running, Object, Nothing, Todo, Sort, Active, State, Env, Members, Step, Goes, Ticks, Asks, Outcome, Gives, Faults, at, in_env, goes, fault, asks, turns, top, below, number, nought, is_zero, written}
 use Rattle.uc_scope_laws.specs.Clusters.{Begins, HandlersBegin}
-use Rattle.uc_value_laws.specs.There.{HoldsObject, NextBound, NextDrop, NextCall, MayBegin, IsBinder, BindsBy, MarkCounted, LeftBy, AllCounted, AtRest, AtDrop, AtCall, AllLeft, AtBound, Held, AllBefore, FrameBefore, frame_at}
+use Rattle.uc_value_laws.specs.There.{HoldsObject, NextBound, NextDrop, NextCall, MayBegin, IsBinder, BindsBy, LeftBy, AllCounted, AtRest, AtDrop, AtCall, AllLeft, AtBound, Held, AllBefore, FrameBefore, frame_at}
 use Rattle.uc_value_laws.specs.ThereStates.{CountedStack, CountedEx, CountedState, CountedStep, RoutineBegins, BodiesBegin, BoundBehind}
 use Rattle.uc_value_laws.specs.NewClusters.{GoodStepBy}
 use Rattle.uc_value_laws.proofs.Cells.{either, set_length, all_left, held_left, left_on, drop_bound, call_bound, drop_kept, call_kept, drop_next, call_next, list_cleared, stack_cleared, stack_newer, stack_older, others_length}

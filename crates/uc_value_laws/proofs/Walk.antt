@@ -1,5 +1,5 @@
 -- Every quiet step of a task in which all is there that is in scope and known by its number, and answers to it.
-use Rattle.std.proofs.Common.{◌≡◌, ℕ, ◌⊎◌, List, [], ◌∷◌, ◌++◌, Option, Some, None, inl, inr, refl, sym, ap, ◌∙◌, subst, arith, Bool, true}
+use Rattle.std.proofs.Common.{◌≡◌, ℕ, List, [], ◌∷◌, ◌++◌, Option, Some, None, inl, inr, refl, sym, ap, ◌∙◌, subst, arith, Bool, true}
 use Rattle.std.specs.Prelude.{nat_lt, slice_get, drop}
 use Rattle.uc_tree.specs.Source as src
 use Rattle.uc_tree.specs.Source.{Source, CleanUp, Stmt, Stmts, Routine, routine_or_none, routine_of}
@@ -14,7 +14,7 @@ use Rattle.uc_machine.specs.Pieces as piece
 use Rattle.uc_machine.specs.Pieces.{Value, Nothing, Todo, State, Env, Members, Step, Goes, Ticks, Asks, at, top, below, number}
 use Rattle.uc_machine.specs.Answering.{answered, entered, new_members, with_operand}
 use Rattle.uc_scope_laws.specs.Clusters.{BindsProcessor, BindsObject, Follows, IsUnbound, IsUnscoped, Joined}
-use Rattle.uc_value_laws.specs.There.{HoldsObject, NextBound, MayBegin, IsNoCluster, BindsBy, AllCounted, AtBound, Held}
+use Rattle.uc_value_laws.specs.There.{HoldsObject, NextBound, IsNoCluster, BindsBy, AllCounted, AtBound, Held}
 use Rattle.uc_value_laws.specs.ThereStates.{CountedParked, CountedHand, CountedMembers, CountedState, CountedStep, RoutineBegins, SourceBegins, FairAt, Fair}
 use Rattle.uc_value_laws.specs.NewClusters as way
 use Rattle.uc_value_laws.specs.NewClusters.{Stage, stage_todo, OpeningBy, WaitingBy, GoodBy, GoodStepBy}

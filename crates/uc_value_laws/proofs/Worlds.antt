@@ -55,7 +55,7 @@ use Rattle.uc_scope_laws.proofs.StackWalk as stacking
 use Rattle.uc_scope_laws.proofs.StackWorlds as stacked
 use Rattle.uc_scope_laws.proofs.StackWorlds.{StackWorld}
 use Rattle.uc_scope_laws.proofs.Unreferring.{law_accepted}
-use Rattle.uc_value_laws.specs.There.{EndsAt, OfVariable, OfElements, OfEach, CleanBy, OfBound, OpensBound, NextBound, IsFew, AllCounted, AllLeft, Any, IsBefore, AllBefore, FrameBefore, frame_at}
+use Rattle.uc_value_laws.specs.There.{EndsAt, OfVariable, OfElements, OfEach, CleanBy, OfBound, OpensBound, NextBound, IsFew, AllLeft, Any, IsBefore, AllBefore, FrameBefore, frame_at}
 use Rattle.uc_value_laws.specs.ThereStates.{CountedHand, CountedMembers, CountedEnv, CountedState, RoutineBegins, SourceBegins, BodiesBegin, ScopeFits, BoundFits, FairAt, Fair}
 use Rattle.uc_value_laws.specs.NewClusters as way
 use Rattle.uc_value_laws.specs.NewClusters.{Stage, stage_todo, StageHoldsBy, OpeningBy, WaitingBy, GoodBy, IsLast, AskedBy, GoodStepBy}
