@@ -14,7 +14,7 @@ use Rattle.uc_value_laws.specs.NewClusters.{GoodState}
 use Rattle.uc_value_laws.proofs.Cells.{held_there}
 use Rattle.uc_value_laws.proofs.Readings.{running}
 use Rattle.uc_typed_runs.specs.TypedRuns.{reading, still_reading}
-use Rattle.uc_typed_runs.proofs.Openings.{no_end}
+use Rattle.uc_typed_runs.proofs.Openings.{no_end, point_end}
 
 -- what ends: a mutex object by a destructor, which is written or not, a cluster, a processor
 pub data End : Type 0 where
@@ -107,7 +107,8 @@ module _ (t : Table) where
 
     pub ending : (n : ℕ) (s : State) → GoodState s → Typed t [] s → Ending n s → EndingStep (still_reading n s.run.control) (quiet source s)
     ending zero s (inl there) x h = starts s there
-    ending zero s (inr o) x h = subst (λ n. EndingStep n (quiet source s)) (sym (ap reading o.control ∙ no_end o.cell o.line o.next o.todo o.stage)) tt
+    ending zero s (inr (inl d)) x h = subst (λ n. EndingStep n (quiet source s)) (sym (ap reading d.control ∙ point_end d.line d.binder d.next d.todo d.point)) tt
+    ending zero s (inr (inr o)) x h = subst (λ n. EndingStep n (quiet source s)) (sym (ap reading o.control ∙ no_end o.cell o.line o.next o.todo o.stage)) tt
     ending (suc n) s good x h = onward n s x h
 
   -- what is read is of the type that the end of it asks for

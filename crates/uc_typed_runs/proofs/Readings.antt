@@ -31,16 +31,23 @@ use Rattle.uc_value_laws.specs.Reading.{ReadsElement}
 use Rattle.uc_value_laws.specs.Opens.{Opens, LeadsOpen, RideOpens, MayOpen, RunOpens}
 use Rattle.uc_value_laws.proofs.Readings.{law_reading}
 use Rattle.uc_value_laws.proofs.Worlds.{law_runs}
-use Rattle.uc_binding_laws.proofs.Loosening.{law_opens}
+use Rattle.uc_binding_laws.proofs.Asides.{law_opens}
 use Rattle.uc_typed_runs.specs.TypedRuns.{still_reading, RideHolds, MayHold, RunHolds, LeadsHold, Reading, Following, LeadsFollowing, IsTyped, LawTypedTexts}
 use Rattle.uc_typed_runs.proofs.Endings.{Ending, EndingStep, at_goes, at_ticks, ending, reads as reads_ending}
 use Rattle.uc_typed_runs.proofs.Hands.{behind}
-use Rattle.uc_typed_runs.proofs.Openings.{no_variable, no_place}
+use Rattle.uc_typed_runs.proofs.Openings.{no_variable, no_place, point_variable, point_place}
 use Rattle.uc_typed_runs.proofs.Worlds.{law_typed_runs}
 
 module _ (table : Table) (source : Source) (sound : Sound table source) where
   reads : (n : ℕ) (s : State) → GoodState s → Ending table n s → Following table n s → ReadsIn table s
-  reads zero s (inr o) e h x = (
+  reads zero s (inr (inl d)) e h x = (
+    x,
+    (
+      subst (ReadsVariable table x.run.scope s) (sym d.control) (point_variable d.line d.binder d.next d.todo table x.run.sig x.run.scope s d.point),
+      subst (λ l. ReadsPlace table x.run.sig s l x.run.own) (sym d.control) (point_place d.line d.binder d.next d.todo table x.run.sig x.run.scope s x.run.own d.point),
+    ),
+  )
+  reads zero s (inr (inr o)) e h x = (
     x,
     (
       subst (ReadsVariable table x.run.scope s) (sym o.control) (no_variable o.cell o.line o.next o.todo table x.run.sig x.run.scope s o.stage),
