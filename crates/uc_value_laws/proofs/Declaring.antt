@@ -1,5 +1,5 @@
 -- Steps on the way from the declaration of a variable that is known by its number to the statement that binds it.
-use Rattle.std.proofs.Common.{◌≡◌, ℕ, zero, suc, ◌≤◌, ◌<◌, ◌⊎◌, inl, inr, Bool, true, List, [], ◌∷◌, refl, sym, ap, ◌∙◌, subst, arith}
+use Rattle.std.proofs.Common.{◌≡◌, ℕ, zero, suc, ◌≤◌, inl, inr, Bool, List, [], ◌∷◌, refl, sym, ◌∙◌, subst, arith}
 use Rattle.std.specs.Prelude.{if◌then◌else◌, slice_index_or}
 use Rattle.uc_tree.specs.Source as src
 use Rattle.uc_tree.specs.Source.{Source, Expr, Exprs, Declared, Stmt, Stmts}
@@ -7,7 +7,7 @@ use Rattle.uc_machine.specs.Executions.{frame_changed, frames_changed, change, v
 use Rattle.uc_machine.specs.Quiet as quiet
 use Rattle.uc_machine.specs.Pieces as piece
 use Rattle.uc_machine.specs.Pieces.{Slot, Value, Number, Place, Running, Object, Nothing, Todo, State, Env, Goes, LAST_ADDRESS, at, in_env, nought, address}
-use Rattle.uc_scope_laws.specs.Clusters.{DeclaresAlone, Begins, Joined}
+use Rattle.uc_scope_laws.specs.Clusters.{DeclaresAlone, Joined}
 use Rattle.uc_value_laws.specs.There.{IsLoose, HoldsLoose, AllCounted, Held, AllBefore, FrameBefore, frame_at}
 use Rattle.uc_value_laws.specs.ThereStates.{CountedState, FairAt, Fair}
 use Rattle.uc_value_laws.specs.Declaring as point

@@ -5,18 +5,18 @@ use Rattle.std.proofs.lemmas.Bool.{eq-eqb, cases_lt}
 use Rattle.std.proofs.Math.Nat.{min-eq_left}
 use Rattle.uc_tree.specs.Source as src
 use Rattle.uc_tree.specs.Source.{Source, Expr, CleanUp, Stmt, Stmts}
-use Rattle.uc_machine.specs.Executions.{at_depth, set_depth, frame_changed, frames_changed, change, list_in, value_changed, values_cleared}
+use Rattle.uc_machine.specs.Executions.{at_depth, set_depth, frame_changed, frames_changed, change, list_in, value_changed}
 use Rattle.uc_machine.specs.Quiet as quiet
 use Rattle.uc_machine.specs.Pieces as piece
 use Rattle.uc_machine.specs.Pieces.{Slot, Value, Number, Place, Running, Object, Nothing, Todo, Active, State, Env, Step, Goes, Ticks, Asks, LAST_ADDRESS, at, in_env, top, below, nought, address, stored, written, variable_at}
 use Rattle.uc_typing.specs.States.{IsNumbered}
 use Rattle.uc_scope_laws.specs.Clusters.{BindsCluster, BindsProcessor, BindsObject, Precedes, OpensBound, IsUnbound, IsUnscoped, Begins, Joined}
 use Rattle.uc_value_laws.specs.There.{IsGiven, IsNoCluster, OfBound, HoldsObject, IsLoose, IsThere, IsFew, IsCounted, AllCounted, frame_at}
-use Rattle.uc_value_laws.specs.ThereStates.{CountedState, CountedStep, ScopeFits, FairAt, Fair}
+use Rattle.uc_value_laws.specs.ThereStates.{CountedStep, ScopeFits, FairAt, Fair}
 use Rattle.uc_value_laws.specs.Declaring.{IsCount, IsUnset}
 use Rattle.uc_value_laws.specs.NewClusters as way
 use Rattle.uc_value_laws.specs.NewClusters.{Stage, stage_todo, IsSetBy, IsScopeOf, StageHoldsBy, OpeningBy, WaitingBy, GoodBy, AskedBy, GoodStepBy}
-use Rattle.uc_value_laws.proofs.Cells.{set_length, list_cleared, stack_cleared}
+use Rattle.uc_value_laws.proofs.Cells.{set_length}
 use Rattle.uc_value_laws.proofs.Keeping as kept
 use Rattle.uc_value_laws.proofs.Keeping.{Keeps}
 use Rattle.uc_value_laws.proofs.Steps.{exec_same, here}

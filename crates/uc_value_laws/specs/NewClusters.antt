@@ -1,10 +1,10 @@
 -- A task on its way from the statement that binds a variable to a new cluster to the scope of that: no call lies between, so what the variable
 -- holds is known at each step.
-use Rattle.std.specs.Prelude.{◌≡◌, ℕ, suc, ◌≤◌, ◌⊎◌, List, [], ◌∷◌, length, slice_index_or, Bool, true}
+use Rattle.std.specs.Prelude.{◌≡◌, ℕ, suc, ◌≤◌, ◌⊎◌, List, ◌∷◌, length, slice_index_or, Bool, true}
 use Rattle.uc_tree.specs.Source.{Variable, Load, OfObject, Bind, NewCluster, EndCluster, Destroys, Stmts, Evaluate, Scoped}
 use Rattle.uc_entry.specs.declared.request.Request.{Request}
 use Rattle.uc_entry.specs.declared.request.Request.TheVariants as ask
-use Rattle.uc_machine.specs.Pieces.{Value, Object, nought, LAST_ADDRESS, Todo, Eval, DropNow, BindNow, Do, Rest, Within, ClusterNow, State, Step, Goes, Ticks, Asks, top, below, variable_at}
+use Rattle.uc_machine.specs.Pieces.{Object, nought, LAST_ADDRESS, Todo, Eval, DropNow, BindNow, Do, Rest, Within, ClusterNow, State, Step, Goes, Ticks, Asks, top, below, variable_at}
 use Rattle.uc_scope_laws.specs.Clusters.{Begins}
 use Rattle.uc_value_laws.specs.There.{IsFew, AllCounted, Any, frame_at}
 use Rattle.uc_value_laws.specs.ThereStates.{CountedStack, CountedEnv, CountedState}
