@@ -53,8 +53,7 @@ use Rattle.uc_value_laws.specs.Opens.{RideMeets, MayMeet, RunMeets, LeadsMeet}
 use Rattle.uc_value_laws.proofs.Counts.{one_kept, told_others}
 use Rattle.uc_typing.specs.Typing.{Ty, Num, Obj, Raw, Clu, Pro, Table}
 use Rattle.uc_typing.specs.States.{Sound, IsTask, Suits}
-use Rattle.uc_typed_runs.proofs.Spawning.{Spawned, spawner, ended_before}
-use Rattle.uc_typed_runs.proofs.Hands.{suits}
+use Rattle.uc_life_laws.proofs.Spawning.{Spawned, spawner, ended_before, suits}
 use Rattle.uc_sound.specs.Formed.{IsFormed}
 use Rattle.uc_sound.specs.Sounds.{of_program}
 use Rattle.uc_sound.specs.Tables.{table_of}

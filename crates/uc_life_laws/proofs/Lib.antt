@@ -18,5 +18,6 @@ pub mod Scopes
 pub mod Clearing
 pub mod Laying
 pub mod LifeWorlds
+pub mod Spawning
 pub mod NewNumbers
 pub mod KnownWorlds

@@ -132,7 +132,7 @@ module _ (opts : Options) (sites : List Site) (input : List ℕ) (j : Journal) (
   unfolding own_object
   own_by u n o m c h z = by (u == n)
     where
-      by : (b : Bool) → first_or_0 (filter (λ a. not (list_any (λ x. false) [])) (option_to_list (where_true b o)) ++ []) < m
+      by : (b : Bool) → first_or_0 (filter (λ a. not (list_any (λ (x : Entry). false) [])) (option_to_list (where_true b o)) ++ []) < m
       by true = h
       by false = z
 
