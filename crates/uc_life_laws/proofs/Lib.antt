@@ -14,6 +14,7 @@ pub mod Calls
 pub mod Evaluating
 pub mod Following
 pub mod Acting
+pub mod Opened
 pub mod Scopes
 pub mod Clearing
 pub mod Laying

@@ -4,6 +4,7 @@ pub mod LifeLaws
 pub mod Knowing
 pub mod KnownAnswers
 pub mod Following
+pub mod Opened
 pub mod LifeRuns
 pub mod LifeReading
 pub mod KnownRuns

@@ -6,6 +6,7 @@ ghost use Rattle.uc_life_laws.specs.KnownRuns.{LawKnownRuns, LawNamed};
 ghost use Rattle.uc_life_laws.specs.LifeLaws.{LawKnown, LawSteps};
 ghost use Rattle.uc_life_laws.specs.LifeReading.{LawReading};
 ghost use Rattle.uc_life_laws.specs.LifeRuns.{LawClears, LawRuns};
+ghost use Rattle.uc_life_laws.specs.Opened.{LawOpens};
 
 /// What is in scope keeps what it holds.
 pub fn law_steps()
@@ -26,6 +27,12 @@ pub fn law_answers()
 /// is to find.
 pub fn law_following()
     ensures { LawFollowing }
+{}
+
+/// Where a scope opens of what is known by its number, its variable holds what is known as soon as it holds
+/// an object; and so does an object in which nothing is bound.
+pub fn law_opens()
+    ensures { LawOpens }
 {}
 
 /// So what is read at a binding within what is in scope is known, and what a typed task reads of a variable
