@@ -141,11 +141,11 @@ law_taken source p s t h st = record {
       let f = frames e in
       let l = scope_in (Sized p) (length (here s)) line d rest todo (f.0, f.1.1) in
       subst (ThenThere d) g (subst (λ (k : List Todo). ThenThere d (quiet.act_todo source k s)) (sym e) (scope_there s x.name _ x.denotes d x.scope l loose));
-  made = λ c r written line d rest todo e loose g.
-      let x = law_bound.made source p s h c r (call_now written r ∷ before_scope line d rest todo) e in
+  made = λ c r q written line d rest todo e loose g.
+      let x = law_bound.made source p s h c r (call_now written q ∷ before_scope line d rest todo) e in
       let f = frames e in
-      let l = scope_in (Sized p) (length (here s)) line d rest todo (behind_call source p s line d rest todo loose written r (f.0, f.1.1)) in
-      subst (ThenThere d) g (subst (λ (k : List Todo). ThenThere d (quiet.act_todo source k s)) (sym e) (made_by source p s line d rest todo loose (slice_get source.routines r) (call_now written r) l x));
+      let l = scope_in (Sized p) (length (here s)) line d rest todo (behind_call source p s line d rest todo loose written q (f.0, f.1.1)) in
+      subst (ThenThere d) g (subst (λ (k : List Todo). ThenThere d (quiet.act_todo source k s)) (sym e) (made_by source p s line d rest todo loose (slice_get source.routines r) (call_now written q) l x));
 }
   where
     frames : {k : List Todo} → s.run.control ≡ k → SomeTo (Sized p) (UpTo (length (here s))) k

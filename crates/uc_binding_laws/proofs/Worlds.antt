@@ -251,9 +251,14 @@ module _ (p : Program) (accepted : breaks_of p ≡ []) (known : (n : ℕ) → Co
   placed_run (more {j} {w} r o m) f on =
       placed_may (run_rests source input opts range r f.0 o) o (placed_run r f.0 o) (rooms_in p accepted input opts j w r) m f.1 on
 
+-- the code of such a program
+pub code_of : (p : Program) → IsFormed p → breaks_of p ≡ [] → (n : ℕ) → CodeRoutine (source_of p) (slice_get (source_of p).routines n)
+code_of p formed accepted =
+    code (source_of p) (counted_source (sites_of p) (source_of p) (table_of p) (law_sound p formed accepted) (source_named p)) (law_opening p)
+
 pub placed_in : (p : Program) → IsFormed p → breaks_of p ≡ [] → (input : List ℕ) (opts : Options) → InRange opts → (j : Journal) (w : World) (r : RunsIn (source_of p) input opts j w) → RunFits (source_of p) input opts j w r → is_over j ≡ false → (t : ℕ) (s : State) → Comes (source_of p) j w t s → PlacedState (Sized p) (source_of p) s
 placed_in p formed accepted input opts range j w r f on t s c =
-    let known : (n : ℕ) → CodeRoutine (source_of p) (slice_get (source_of p).routines n) = code (source_of p) (counted_source (sites_of p) (source_of p) (table_of p) (law_sound p formed accepted) (source_named p)) (law_opening p) in
+    let known : (n : ℕ) → CodeRoutine (source_of p) (slice_get (source_of p).routines n) = code_of p formed accepted in
     state p accepted known input opts range (run_rests (source_of p) input opts range r f on) on (placed_run p accepted known input opts range r f on) (rooms_in p accepted input opts j w r) t s c
 
 pub law_runs : LawRuns

@@ -48,8 +48,8 @@ pub record Takes (source : Source) (s t : State) : Type 0 where
       s.run.control ≡ BindNow ∷ before_scope line d rest todo →
       OfEach (HoldsLoose (here s)) (Destroys d) → quiet source s ≡ Goes t →
       IsThere (here t) (Destroys d)
-  pub made : (c r : ℕ) (written : Bool) (line : ℕ) (d : Expr) (rest : Stmts) (todo : List Todo) →
-      s.run.control ≡ BindMadeNow c r ∷ (call_now written r ∷ before_scope line d rest todo) →
+  pub made : (c r q : ℕ) (written : Bool) (line : ℕ) (d : Expr) (rest : Stmts) (todo : List Todo) →
+      s.run.control ≡ BindMadeNow c r ∷ (call_now written q ∷ before_scope line d rest todo) →
       OfEach (HoldsLoose (here s)) (Destroys d) → quiet source s ≡ Goes t →
       IsThere (here t) (Destroys d)
 

@@ -2,6 +2,7 @@
 
 ghost use Rattle.uc_binding_laws.specs.BindingLaws.{LawBound, LawSteps};
 ghost use Rattle.uc_binding_laws.specs.BindingRuns.{LawRuns};
+ghost use Rattle.uc_binding_laws.specs.Loose.{LawOpens};
 ghost use Rattle.uc_binding_laws.specs.Taking.{LawTaken, LawTakenRuns};
 
 /// In any source in which arguments are counted and scopes open behind what builds their objects, the
@@ -36,4 +37,10 @@ pub fn law_taken()
 /// whoever runs comes before it asks, as long as all that was asked before fits.
 pub fn law_taken_runs()
     ensures { LawTakenRuns }
+{}
+
+/// So where the cell of a variable that is bound before its scope holds no place and no execution, the
+/// variable holds an object behind the step that binds it: in such runs, and on the way to such a state.
+pub fn law_opens()
+    ensures { LawOpens }
 {}

@@ -4,3 +4,5 @@ pub mod LifeLaws
 pub mod Knowing
 pub mod KnownAnswers
 pub mod Following
+pub mod LifeRuns
+pub mod LifeReading

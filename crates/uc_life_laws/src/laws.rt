@@ -3,6 +3,8 @@
 ghost use Rattle.uc_life_laws.specs.Following.{LawFollowing};
 ghost use Rattle.uc_life_laws.specs.KnownAnswers.{LawAnswers};
 ghost use Rattle.uc_life_laws.specs.LifeLaws.{LawKnown, LawSteps};
+ghost use Rattle.uc_life_laws.specs.LifeReading.{LawReading};
+ghost use Rattle.uc_life_laws.specs.LifeRuns.{LawClears, LawRuns};
 
 /// What is in scope keeps what it holds.
 pub fn law_steps()
@@ -23,4 +25,23 @@ pub fn law_answers()
 /// is to find.
 pub fn law_following()
     ensures { LawFollowing }
+{}
+
+/// So what is read at a binding within what is in scope is known, and what a typed task reads of a variable
+/// by its name is of its type.
+pub fn law_reading()
+    ensures { LawReading }
+{}
+
+/// Where fields lie within the cells of their classes and activations that use one frame stay behind one
+/// another, cells that start anew lie behind all that is in scope in their frame; so fields lie in each
+/// program that breaks no rule.
+pub fn law_clears()
+    ensures { LawClears }
+{}
+
+/// So in each run of a program that breaks no rule all that is in scope holds what is known, of all tasks, at
+/// rest and in each state to which whoever runs comes before it asks, as long as each scope opens so.
+pub fn law_runs()
+    ensures { LawRuns }
 {}

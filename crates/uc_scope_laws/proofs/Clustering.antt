@@ -7,15 +7,17 @@ use Rattle.uc_tree.specs.Source as src
 use Rattle.uc_tree.specs.Source.{Expr, ObjectExpr, CleanUp, Stmt, Stmts}
 use Rattle.uc_resolve.specs.Standings.{Meant}
 use Rattle.uc_resolve.specs.Resolve as meaning
-use Rattle.uc_scope_laws.specs.Clusters.{Precedes, OpensCluster, Follows, IsUnbound, IsUnscoped, Begins}
+use Rattle.uc_scope_laws.specs.Clusters.{Precedes, OpensBound, Follows, IsUnbound, IsUnscoped, Begins}
 use Rattle.uc_scope_laws.specs.Ordinary.{Ordinary}
 
 precedes : (a b : Stmt) → IsUnbound b → Precedes a b
 precedes a (src.Evaluate line (src.OfObject (src.Bind (src.Variable k) (src.OfObject src.NewCluster)))) h = absurd h
 precedes a b h = tt
 
-opens : (a : Stmt) (c : CleanUp) → IsUnscoped c → OpensCluster a c
+opens : (a : Stmt) (c : CleanUp) → IsUnscoped c → OpensBound a c
 opens a (src.Destroys (src.OfObject (src.EndCluster (src.Load (src.Variable k))))) h = absurd h
+opens a (src.Destroys (src.OfObject (src.EndProcessor (src.Load (src.Variable k))))) h = absurd h
+opens a (src.Destroys (src.OfObject (src.EndOn r written (src.Load (src.Variable k))))) h = absurd h
 opens a c h = tt
 
 pub follows : (a : Stmt) (rest : Stmts) → Begins rest → Follows a rest
@@ -47,20 +49,22 @@ declared p line ACluster None k n args h = (refl, refl, h refl refl)
 declared p line AProcessor None k n args h = tt
 declared p line m (Some l) k n args h = tt
 
-opened_called : (p : Program) (i : ℕ) (place : Expr) (r : Option ℕ) (a : Stmt) → OpensCluster a (src.Destroys (meaning.called_by p i role.Destructor place [] r))
+opened_called : (p : Program) (i : ℕ) (place : Expr) (r : Option ℕ) (a : Stmt) → OpensBound a (src.Destroys (meaning.called_by p i role.Destructor place [] r))
 opened_called p i place None a = tt
 opened_called p i place (Some r) a = tt
 
-opened_ended : (p : Program) (i : ℕ) (object : Expr) (r : Option ℕ) (a : Stmt) → OpensCluster a (src.Destroys (meaning.ended_by p i object r))
-opened_ended p i object None a = tt
-opened_ended p i object (Some r) a = tt
+opened_ended : (p : Program) (i line k : ℕ) (args : List Meant) (r q : Option ℕ) → OpensBound (src.Evaluate line (meaning.made_by p i (src.Variable k) args q)) (src.Destroys (meaning.ended_by p i (src.Load (src.Variable k)) r))
+opened_ended p i line k args None None = refl
+opened_ended p i line k args None (Some q) = refl
+opened_ended p i line k args (Some r) None = refl
+opened_ended p i line k args (Some r) (Some q) = refl
 
 -- and its scope opens right behind that
-pub opened : (p : Program) (line : ℕ) (m : Making) (len : Option ℕ) (k : ℕ) (args : List Meant) → OpensCluster (meaning.build p line m len (src.Variable k) args) (meaning.clean_up p m len (src.Variable k))
+pub opened : (p : Program) (line : ℕ) (m : Making) (len : Option ℕ) (k : ℕ) (args : List Meant) → OpensBound (meaning.build p line m len (src.Variable k) args) (meaning.clean_up p m len (src.Variable k))
 opened p line (APlain i) None k args = opened_called p i (src.Variable k) (written_at p i role.Destructor) (meaning.build p line (APlain i) None (src.Variable k) args)
-opened p line (AMutex i) None k args = opened_ended p i (src.Load (src.Variable k)) (written_at p i role.Destructor) (meaning.build p line (AMutex i) None (src.Variable k) args)
+opened p line (AMutex i) None k args = opened_ended p i line k args (written_at p i role.Destructor) (written_at p i role.Constructor)
 opened p line ACluster None k args = refl
-opened p line AProcessor None k args = tt
+opened p line AProcessor None k args = refl
 opened p line m (Some n) k args = tt
 
 -- a field is none

@@ -17,8 +17,8 @@ use Rattle.uc_site_laws.proofs.Kept.{either}
 use Rattle.uc_scope_laws.proofs.Keeping as kept
 use Rattle.uc_scope_laws.specs.Rooms.{MaybeRoutineIn, SourceIn}
 use Rattle.uc_scope_laws.specs.RoomStates.{PieceIn}
-use Rattle.uc_scope_laws.specs.RoomStacks.{UpTo, frame_cells, TodoTo, SomeTo, Stack, StackParked, StackHand, StackMembers, StackEnv, StackState, StackStep, FrameBefore}
-use Rattle.uc_scope_laws.proofs.Stacks.{some_up, stack_before, stacked_by}
+use Rattle.uc_scope_laws.specs.RoomStacks.{UpTo, frame_cells, TodoTo, SomeTo, Stack, StackParked, StackHand, StackMembers, StackEnv, StackState, StackStep, FrameBefore, FrameBeneath}
+use Rattle.uc_scope_laws.proofs.Stacks.{some_up, stack_before, stack_beneath, stacked_by}
 use Rattle.uc_scope_laws.proofs.StackSteps as steps
 
 module _ (Z : ℕ → ℕ → Type 0) (source : Source) (known : SourceIn Z source) where
@@ -203,3 +203,6 @@ module _ (Z : ℕ → ℕ → Type 0) where
 
   pub cleared : (s : State) → StackState Z s → (k n : ℕ) (todo : List Todo) → s.run.control ≡ piece.ClearNow k n ∷ todo → FrameBefore Z k s.run.frame (s.run ∷ s.callers)
   cleared s h k n todo e = stack_before Z s.env.frames s.run s.callers k n todo e h.stack.0
+
+  pub beneath : (s : State) → StackState Z s → (k n : ℕ) (todo : List Todo) → s.run.control ≡ piece.ClearNow k n ∷ todo → FrameBeneath Z k s.run.frame s.callers
+  beneath s h k n todo e = stack_beneath Z s.env.frames s.run s.callers k n todo e h.stack.0

@@ -21,7 +21,7 @@ use Rattle.uc_scope_laws.specs.Layout.{Sized}
 use Rattle.uc_scope_laws.specs.RoomRuns as runs
 use Rattle.uc_scope_laws.specs.RoomRuns.{Leads, Comes}
 use Rattle.uc_scope_laws.specs.FrameRuns.{LawFrames, LawFrameRuns}
-use Rattle.uc_scope_laws.proofs.StackWalk.{walk, first, answered_rests, rooms, cleared}
+use Rattle.uc_scope_laws.proofs.StackWalk.{walk, first, answered_rests, rooms, cleared, beneath}
 use Rattle.uc_scope_laws.proofs.Unreferring.{law_accepted}
 
 -- tasks at rest, and what is at home in objects
@@ -91,6 +91,7 @@ law_frames = record {
   told = λ source p given s h. answered_rests (Sized p) source given s h;
   rooms = λ p s h n a e. rooms (Sized p) s h n a e;
   clears = λ p s h k n todo e. cleared (Sized p) s h k n todo e;
+  beneath = λ p s h k n todo e. beneath (Sized p) s h k n todo e;
 }
 
 pub law_frame_runs : LawFrameRuns
@@ -100,6 +101,7 @@ law_frame_runs p h input opts j w r = record {
   comes = λ t s c. state t s c;
   rooms = λ t s c n a e. rooms (Sized p) s (state t s c) n a e;
   clears = λ t s c k n todo e. cleared (Sized p) s (state t s c) k n todo e;
+  beneath = λ t s c k n todo e. beneath (Sized p) s (state t s c) k n todo e;
 }
   where
     there : StackWorld (Sized p) w

@@ -14,7 +14,7 @@ use Rattle.uc_machine.specs.Raising.{Event, Handler, Found, Hit, count_by, count
 use Rattle.uc_site_laws.proofs.Kept.{either}
 use Rattle.uc_scope_laws.specs.Rooms.{Room, IsRoom, IsWithin, IsBehind, Clears, StmtsIn, HandlersIn}
 use Rattle.uc_scope_laws.specs.RoomStates.{PieceIn, Reached, TodoIn, IsBefore, AllBefore}
-use Rattle.uc_scope_laws.specs.RoomStacks.{frame_cells, TodoTo, SomeTo, From, UpTo, GuardFrom, GuardsFrom, AboveAt, Above, Over, OverAll, Stacked, Stack, FrameBefore}
+use Rattle.uc_scope_laws.specs.RoomStacks.{frame_cells, TodoTo, SomeTo, From, UpTo, GuardFrom, GuardsFrom, AboveAt, Above, Beneath, Over, OverAll, Stacked, Stack, FrameBefore, FrameBeneath}
 use Rattle.uc_scope_laws.proofs.RoomLemmas.{within_room, lies_wider}
 use Rattle.uc_scope_laws.proofs.Steps as steps
 
@@ -201,9 +201,6 @@ module _ (Sized : ℕ → ℕ → Type 0) where
     guards_high y o [] le h = tt
     guards_high y o (p ∷ ps) le h = high_by (piece.sort p) (PieceIn Sized o p) o ps y le (λ m l k. guards_high y m ps l k) h
 
-    before_to : (o : Room) (todo : List Todo) → TodoTo Sized End o todo → AllBefore Sized o.low todo
-    before_to o todo h = steps.all_before Sized o todo o.low (omega arith) (forget o todo h)
-
   -- rooms that end before a cell end before one behind it
   to_up : (x y : ℕ) (o : Room) (todo : List Todo) → x ≤ y → TodoTo Sized (UpTo x) o todo → TodoTo Sized (UpTo y) o todo
   to_up x y o [] le h =
@@ -307,7 +304,7 @@ module _ (Sized : ℕ → ℕ → Type 0) where
   -- what a search from the newest activation on sees
 
   abbrev SeenOne : List Active → Active → Type 0
-  SeenOne stack c = (x : ℕ) × AllBefore Sized x c.control × Above Sized x None c.frame stack
+  SeenOne stack c = (x : ℕ) × Beneath Sized x c.control × Above Sized x None c.frame stack
 
   abbrev Seen : List Active → List Active → Type 0
   Seen stack [] = Unit {0}
@@ -317,10 +314,8 @@ module _ (Sized : ℕ → ℕ → Type 0) where
   seen_own fs a older h =
       let o : Room = h.fits.0 in
       let t : TodoTo Sized (UpTo h.top) o a.control = h.fits.1 in
-      let r : IsRoom o = room_to (UpTo h.top) o a.control t in
-      let cells = r.cells in
       let high : o.high ≤ h.top = end_at (UpTo h.top) (up_within h.top) o a.control t in
-      (o.low, before_to (UpTo h.top) o a.control t, (λ e. guards_high (UpTo h.top) o.low o a.control cells t, above_less o.low h.top a.handles a.frame older (omega (arith, cells, high)) h.beyond))
+      (o.high, (o, omega arith, forget (UpTo h.top) o a.control t), (λ e. guards_high (UpTo h.top) o.high o a.control (omega arith) t, above_less o.high h.top a.handles a.frame older high h.beyond))
 
   seen_older : (a : Active) (older cs : List Active) → OverAll Sized a.control a.frame a.handles older cs → Seen (a ∷ older) cs
   seen_older a older [] h = tt
@@ -629,14 +624,6 @@ module _ (Sized : ℕ → ℕ → Type 0) where
 
   -- what is cleared lies behind the objects of all activations that use the frame
 
-  before_more : (x y : ℕ) (k : Sort) → x ≤ y → IsBefore Sized x k → IsBefore Sized y k
-  before_more x y (piece.IsClean c) le h = lies_wider Sized 0 x 0 y c (omega arith) le h
-  before_more x y k le h = tt
-
-  all_before_more : (x y : ℕ) (todo : List Todo) → x ≤ y → AllBefore Sized x todo → AllBefore Sized y todo
-  all_before_more x y [] le h = tt
-  all_before_more x y (p ∷ ps) le h = (before_more x y (piece.sort p) le h.0, all_before_more x y ps le h.1)
-
   cleared_low : (o : Room) (k n : ℕ) → IsRoom o → Clears o k n → o.low ≤ k
   cleared_low o k n r (inl c) = c.0
   cleared_low o k n r (inr c) =
@@ -652,12 +639,29 @@ module _ (Sized : ℕ → ℕ → Type 0) where
       let le : o.low ≤ k = cleared_low o k n (room_to (From x) o todo h.1.1) h.1.0 in
       omega (arith, low, le)
 
-  over_before : (k n f : ℕ) (v : Option Visited) (todo : List Todo) (older cs : List Active) → OverAll Sized (piece.ClearNow k n ∷ todo) f v older cs → FrameBefore Sized k f cs
-  over_before k n f v todo older [] h = tt
-  over_before k n f v todo older (c ∷ cs) h =
-      ((λ q. all_before_more h.0.0 k c.control (cleared_from h.0.0 k n todo (h.0.2 (sym q))) h.0.1), over_before k n f v todo older cs h.1)
+  over_beneath : (k n f : ℕ) (v : Option Visited) (todo : List Todo) (older cs : List Active) → OverAll Sized (piece.ClearNow k n ∷ todo) f v older cs → FrameBeneath Sized k f cs
+  over_beneath k n f v todo older [] h = tt
+  over_beneath k n f v todo older (c ∷ cs) h =
+      let b : Beneath Sized h.0.0 c.control = h.0.1 in
+      let high = b.1 in
+      ((λ q. let le = cleared_from h.0.0 k n todo (h.0.2 (sym q)) in (b.0, omega (arith, high, le), b.2)), over_beneath k n f v todo older cs h.1)
+
+  pub stack_beneath : (fs : List (List Value)) (a : Active) (older : List Active) (k n : ℕ) (todo : List Todo) → a.control ≡ piece.ClearNow k n ∷ todo → Stacked Sized fs a older → FrameBeneath Sized k a.frame older
+  stack_beneath fs a older k n todo e h =
+      over_beneath k n a.frame a.handles todo older older (subst (λ C. OverAll Sized C a.frame a.handles older older) e h.over)
+
+  beneath_before : (k : ℕ) (todo : List Todo) → Beneath Sized k todo → AllBefore Sized k todo
+  beneath_before k todo h =
+      let o : Room = h.0 in
+      let high = h.1 in
+      let cells = (steps.is_room Sized o todo h.2).cells in
+      steps.all_before Sized o todo k (omega (arith, high, cells)) h.2
+
+  frame_beneath : (k f : ℕ) (cs : List Active) → FrameBeneath Sized k f cs → FrameBefore Sized k f cs
+  frame_beneath k f [] h = tt
+  frame_beneath k f (c ∷ cs) h = ((λ q. beneath_before k c.control (h.0 q)), frame_beneath k f cs h.1)
 
   pub stack_before : (fs : List (List Value)) (a : Active) (older : List Active) (k n : ℕ) (todo : List Todo) → a.control ≡ piece.ClearNow k n ∷ todo → Stacked Sized fs a older → FrameBefore Sized k a.frame (a ∷ older)
   stack_before fs a older k n todo e h =
       let t : SomeTo Sized (UpTo h.top) (piece.ClearNow k n ∷ todo) = subst (SomeTo Sized (UpTo h.top)) e h.fits in
-      ((λ q. subst (AllBefore Sized k) (sym e) (tt, steps.cleared Sized t.0 k n todo (forget (UpTo h.top) t.0 (piece.ClearNow k n ∷ todo) t.1))), over_before k n a.frame a.handles todo older older (subst (λ C. OverAll Sized C a.frame a.handles older older) e h.over))
+      ((λ q. subst (AllBefore Sized k) (sym e) (tt, steps.cleared Sized t.0 k n todo (forget (UpTo h.top) t.0 (piece.ClearNow k n ∷ todo) t.1))), frame_beneath k a.frame older (stack_beneath fs a older k n todo e h))

@@ -1,6 +1,7 @@
--- A variable that is a cluster is declared, bound to a new cluster and in scope by what stands right behind each other.
+-- A variable that is a cluster is declared, bound to a new cluster and in scope by what stands right behind each other. So is one that is a
+-- processor or a mutex object bound right before its scope.
 use Rattle.std.specs.Prelude.{◌≡◌, ℕ, ◌≤◌, [], ◌∷◌, None}
-use Rattle.uc_tree.specs.Source.{Variable, Load, OfObject, Bind, NewCluster, EndCluster, CleanUp, Destroys, Stmt, Stmts, Evaluate, Declare, Nil, Then, Scoped, Built, Handlers, NoHandlers, MoreHandlers}
+use Rattle.uc_tree.specs.Source.{Variable, Load, OfObject, EndOn, Bind, MakeOn, NewCluster, NewProcessor, EndCluster, EndProcessor, CleanUp, Destroys, Stmt, Stmts, Evaluate, Declare, Nil, Then, Scoped, Built, Handlers, NoHandlers, MoreHandlers}
 
 -- a statement declares nothing but the variable at a cell, without a value
 abbrev pub DeclaresAlone : ℕ → Stmt → Type 0
@@ -12,28 +13,42 @@ abbrev pub BindsCluster : ℕ → Stmt → Type 0
 BindsCluster k (Evaluate line (OfObject (Bind (Variable m) (OfObject NewCluster)))) = m ≡ k
 BindsCluster k a = ⊥
 
+-- to a new processor; to a new mutex object
+abbrev pub BindsProcessor : ℕ → Stmt → Type 0
+BindsProcessor k (Evaluate line (OfObject (Bind (Variable m) (OfObject (NewProcessor e))))) = m ≡ k
+BindsProcessor k a = ⊥
+
+abbrev pub BindsObject : ℕ → Stmt → Type 0
+BindsObject k (Evaluate line (OfObject (MakeOn c r written (Variable m) args))) = m ≡ k
+BindsObject k a = ⊥
+
 -- what may stand before a statement, and before a scope
 abbrev pub Precedes : Stmt → Stmt → Type 0
 Precedes a (Evaluate line (OfObject (Bind (Variable k) (OfObject NewCluster)))) = DeclaresAlone k a
 Precedes a b = Unit {0}
 
-abbrev pub OpensCluster : Stmt → CleanUp → Type 0
-OpensCluster a (Destroys (OfObject (EndCluster (Load (Variable k))))) = BindsCluster k a
-OpensCluster a c = Unit {0}
+abbrev pub OpensBound : Stmt → CleanUp → Type 0
+OpensBound a (Destroys (OfObject (EndCluster (Load (Variable k))))) = BindsCluster k a
+OpensBound a (Destroys (OfObject (EndProcessor (Load (Variable k))))) = BindsProcessor k a
+OpensBound a (Destroys (OfObject (EndOn r written (Load (Variable k))))) = BindsObject k a
+OpensBound a c = Unit {0}
 
 abbrev pub Follows : Stmt → Stmts → Type 0
 Follows a Nil = Unit {0}
 Follows a (Then b rest) = Precedes a b
-Follows a (Scoped c rest) = OpensCluster a c
+Follows a (Scoped c rest) = OpensBound a c
 Follows a (Built c rest) = Unit {0}
 
--- statements that may stand behind any other: they do not begin by binding a variable to a new cluster, nor by the scope of one
+-- statements that may stand behind any other: they do not begin by binding a variable to a new cluster, nor by the scope of a variable that is
+-- a cluster, a processor or a mutex object
 abbrev pub IsUnbound : Stmt → Type 0
 IsUnbound (Evaluate line (OfObject (Bind (Variable k) (OfObject NewCluster)))) = ⊥
 IsUnbound a = Unit {0}
 
 abbrev pub IsUnscoped : CleanUp → Type 0
 IsUnscoped (Destroys (OfObject (EndCluster (Load (Variable k))))) = ⊥
+IsUnscoped (Destroys (OfObject (EndProcessor (Load (Variable k))))) = ⊥
+IsUnscoped (Destroys (OfObject (EndOn r written (Load (Variable k))))) = ⊥
 IsUnscoped c = Unit {0}
 
 abbrev pub Begins : Stmts → Type 0

@@ -11,7 +11,7 @@ use Rattle.uc_meaning.specs.Runs.{World, Runs}
 use Rattle.uc_resolve.specs.Resolve.{source_of}
 use Rattle.uc_rules.specs.Breaks.{breaks_of}
 use Rattle.uc_scope_laws.specs.Rooms.{SourceIn}
-use Rattle.uc_scope_laws.specs.RoomStacks.{UpTo, frame_cells, SomeTo, StackMembers, StackState, StackStep, FrameBefore}
+use Rattle.uc_scope_laws.specs.RoomStacks.{UpTo, frame_cells, SomeTo, StackMembers, StackState, StackStep, FrameBefore, FrameBeneath}
 use Rattle.uc_scope_laws.specs.RoomRuns.{Comes}
 use Rattle.uc_scope_laws.specs.Layout.{Sized}
 
@@ -27,6 +27,12 @@ ClearsBehind p s =
     (k n : ℕ) (todo : List Todo) → s.run.control ≡ ClearNow k n ∷ todo →
     FrameBefore (Sized p) k s.run.frame (s.run ∷ s.callers)
 
+-- and behind the room to which each activation that waits keeps next, if it uses the frame, so also behind what that builds there
+abbrev pub ClearsBeyond : Program → State → Type 0
+ClearsBeyond p s =
+    (k n : ℕ) (todo : List Todo) → s.run.control ≡ ClearNow k n ∷ todo →
+    FrameBeneath (Sized p) k s.run.frame s.callers
+
 -- of any source that keeps to its rooms: all executions of a task begin in order, and each step and each answer keep that; then all rooms end
 -- within their frames, and what a step clears lies behind the objects of all activations that use the frame
 pub record LawFrames : Type 0 where
@@ -38,6 +44,7 @@ pub record LawFrames : Type 0 where
       StackState (Sized p) (answered source given s)
   pub rooms : (p : Program) (s : State) → StackState (Sized p) s → InFrames p s
   pub clears : (p : Program) (s : State) → StackState (Sized p) s → ClearsBehind p s
+  pub beneath : (p : Program) (s : State) → StackState (Sized p) s → ClearsBeyond p s
 
 -- so it is in each run of a program that breaks no rule: of each task at rest, of what is at home in each object, and in all states to which
 -- whoever runs comes
@@ -47,6 +54,7 @@ pub record KeepsFrames (p : Program) (j : Journal) (w : World) : Type 0 where
   pub comes : (t : ℕ) (s : State) → Comes (source_of p) j w t s → StackState (Sized p) s
   pub rooms : (t : ℕ) (s : State) → Comes (source_of p) j w t s → InFrames p s
   pub clears : (t : ℕ) (s : State) → Comes (source_of p) j w t s → ClearsBehind p s
+  pub beneath : (t : ℕ) (s : State) → Comes (source_of p) j w t s → ClearsBeyond p s
 
 abbrev pub LawFrameRuns : Type 0
 LawFrameRuns = (p : Program) → breaks_of p ≡ [] →

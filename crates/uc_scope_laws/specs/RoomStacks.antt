@@ -6,7 +6,7 @@ use Rattle.uc_machine.specs.Executions.{Execution, at_depth, list_in}
 use Rattle.uc_machine.specs.Pieces.{Value, Todo, Sort, sort, IsGuard, Active, State, Env, Members, Step, Goes, Ticks, Asks}
 use Rattle.uc_machine.specs.Raising.{within}
 use Rattle.uc_scope_laws.specs.Rooms.{Room, IsRoom, HandlersIn}
-use Rattle.uc_scope_laws.specs.RoomStates.{PieceIn, Reached, AllBefore}
+use Rattle.uc_scope_laws.specs.RoomStates.{PieceIn, Reached, TodoIn, AllBefore}
 
 -- rooms that begin at a cell or behind it, and that end there or before it
 abbrev pub From : ℕ → Room → Type 0
@@ -48,11 +48,15 @@ module _ (Sized : ℕ → ℕ → Type 0) where
   Above x (Some v) f (a ∷ others) =
       AboveAt (nat_eq (length others) v.level) ((a.frame ≡ f → GuardsFrom x (within v.rest a.control)) × Above x a.handles f others) (Above x (Some v) f others)
 
-  -- an activation before older ones, one of which has all its objects before a cell: where both use one frame, what the first one does
+  -- what is to do next keeps to a room that ends at a cell or before it, so all objects in scope lie before that
+  abbrev pub Beneath : ℕ → List Todo → Type 0
+  Beneath x todo = (o : Room) × UpTo x o × TodoIn Sized o todo
+
+  -- an activation before older ones, one of which keeps to a room before a cell: where both use one frame, what the first one does
   -- stays behind that, and so does what a search finds beyond it
   abbrev pub Over : List Todo → ℕ → Option Visited → List Active → Active → Type 0
   Over todo frame v older c =
-      (x : ℕ) × AllBefore Sized x c.control × (frame ≡ c.frame → SomeTo (From x) todo) ×
+      (x : ℕ) × Beneath x c.control × (frame ≡ c.frame → SomeTo (From x) todo) ×
       Above x v c.frame older
 
   abbrev pub OverAll : List Todo → ℕ → Option Visited → List Active → List Active → Type 0
@@ -77,6 +81,11 @@ module _ (Sized : ℕ → ℕ → Type 0) where
   abbrev pub FrameBefore : ℕ → ℕ → List Active → Type 0
   FrameBefore cell f [] = Unit {0}
   FrameBefore cell f (c ∷ cs) = (c.frame ≡ f → AllBefore Sized cell c.control) × FrameBefore cell f cs
+
+  -- they keep to rooms before it
+  abbrev pub FrameBeneath : ℕ → ℕ → List Active → Type 0
+  FrameBeneath cell f [] = Unit {0}
+  FrameBeneath cell f (c ∷ cs) = (c.frame ≡ f → Beneath cell c.control) × FrameBeneath cell f cs
 
   -- an execution that does not run, with a frame for each activation
   pub record StackEx (x : Execution (List Todo) Value) : Type 0 where

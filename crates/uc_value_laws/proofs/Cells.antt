@@ -1,14 +1,14 @@
 -- What is there stays there, whatever is written, and where cells behind it start anew.
-use Rattle.std.proofs.Common.{◌≡◌, ℕ, zero, suc, ◌≤◌, ◌<◌, Bool, true, false, List, [], ◌∷◌, ◌++◌, length, take, Some, refl, sym, ap, ◌∙◌, subst, arith}
+use Rattle.std.proofs.Common.{◌≡◌, ℕ, zero, suc, ◌≤◌, ◌<◌, inl, inr, Bool, true, false, List, [], ◌∷◌, ◌++◌, length, take, Some, refl, sym, ap, ◌∙◌, subst, arith}
 use Rattle.std.specs.Prelude.{nat_eq, if◌then◌else◌, slice_index_or}
 use Rattle.std.proofs.lemmas.Bool.{eqb-true}
 use Rattle.uc_tree.specs.Source as src
-use Rattle.uc_tree.specs.Source.{Expr, CleanUp}
+use Rattle.uc_tree.specs.Source.{Expr, CleanUp, Stmts}
 use Rattle.uc_machine.specs.Executions.{at_depth, set_depth, frame_changed, list_in, others, value_changed, values_cleared}
 use Rattle.uc_machine.specs.Pieces as piece
 use Rattle.uc_machine.specs.Pieces.{Link, Value, Number, Place, Running, Object, Nothing, Todo, Sort, Active, stored, nought, address}
 use Rattle.uc_typing.specs.States.{IsNumbered}
-use Rattle.uc_value_laws.specs.There.{EndsAt, OfVariable, OfElements, OfEach, HoldsObject, IsBefore, IsThere, IsFew, IsCounted, ThereBy, MarkCounted, PieceThere, PieceCounted, AllCounted, BeforeBy, AllBefore, FrameBefore, frame_at}
+use Rattle.uc_value_laws.specs.There.{EndsAt, OfVariable, OfElements, OfEach, HoldsObject, IsBefore, IsThere, CleanBy, AllCleans, AllThere, OfBound, OpensBound, NextBound, NextDrop, NextCall, IsFew, IsCounted, MarkCounted, PieceCounted, LeftBy, AllCounted, AtRest, AtDrop, AtCall, AllLeft, AtBound, Held, AllBefore, FrameBefore, frame_at}
 use Rattle.uc_value_laws.specs.ThereStates.{CountedStack}
 
 -- the first of two by a test
@@ -43,6 +43,24 @@ module _ (P Q R : List Link → Type 0) (f : (p : List Link) → P p → Q p →
   each (src.Destroys e) h g = ends (OfVariable P) (OfVariable Q) (OfVariable R) e single h g
   each (src.DestroysAll n e) h g = ends (OfElements n P) (OfElements n Q) (OfElements n R) e (element n) h g
   each c h g = tt
+
+  bound : (c : CleanUp) → OfBound P c → OfBound Q c → OfBound R c
+  bound (src.Destroys (src.OfObject (src.EndProcessor (src.Load (src.Variable k))))) h g = f (piece.Slot k ∷ []) h g
+  bound (src.Destroys (src.OfObject (src.EndOn n written (src.Load (src.Variable k))))) h g = f (piece.Slot k ∷ []) h g
+  bound c h g = tt
+
+  opens : (ss : Stmts) → OpensBound P ss → OpensBound Q ss → OpensBound R ss
+  opens (src.Scoped c rest) h g = bound c h g
+  opens ss h g = tt
+
+  -- of the one whose scope opens next
+  pub next : (todo : List Todo) → NextBound P todo → NextBound Q todo → NextBound R todo
+  next (piece.Rest ss ∷ todo) h g = opens ss h g
+  next (piece.Within line ∷ (piece.Rest ss ∷ todo)) h g = opens ss h g
+  next (piece.DropNow ∷ (piece.Within line ∷ (piece.Rest ss ∷ todo))) h g = opens ss h g
+  next (piece.CallOnNow r ∷ (piece.DropNow ∷ (piece.Within line ∷ (piece.Rest ss ∷ todo)))) h g = opens ss h g
+  next (piece.CallUnwrittenNow r ∷ (piece.DropNow ∷ (piece.Within line ∷ (piece.Rest ss ∷ todo)))) h g = opens ss h g
+  next todo h g = tt
 
 -- cells
 
@@ -117,13 +135,15 @@ pub others_length : {X : Type 0} (xs : List X) (n : ℕ) → length xs ≡ suc (
 others_length [] n h = absurd (cc)
 others_length (x ∷ xs) n h = omega (arith, h)
 
--- what a piece tells by its sort, of clusters of any number
-pub by_sort : (vs : List Value) (p : Todo) → PieceThere vs p → ThereBy vs (piece.sort p)
-by_sort vs (piece.Clean c) h = h.0
-by_sort vs (piece.Guard hs) h = h
-by_sort vs p h = tt
-
 -- to-do lists and activations
+
+any_cleans : (todo : List Todo) → AllCleans (λ c. Unit {0}) todo
+any_cleans [] = tt
+any_cleans (p ∷ todo) = (by (piece.sort p), any_cleans todo)
+  where
+    by : (k : Sort) → CleanBy (λ c. Unit {0}) k
+    by (piece.IsClean c) = tt
+    by k = tt
 
 module _ (Few : ℕ → Bool) where
   few_stored : (v x : Value) → IsFew Few x → IsFew Few (stored v x)
@@ -143,52 +163,250 @@ module _ (Few : ℕ → Bool) where
       λ l. cell_taken (IsFew Few) (λ x. x) vs _ (address (piece.Slot m ∷ [])) k b (h l)
   counted_cleared vs k n c b h = tt
 
-  -- what a piece tells by its sort
-  pub by_mark : (vs : List Value) (p : Todo) → PieceCounted Few vs p → MarkCounted Few vs (piece.sort p)
-  by_mark vs (piece.Clean c) h = h
-  by_mark vs (piece.Guard hs) h = h
-  by_mark vs p h = tt
+  -- who leaves what is to do comes to what it has to clean up
 
-  stored_by : (vs : List Value) (k : ℕ) (v : Value) (p : Todo) → PieceCounted Few vs p → PieceCounted Few (value_changed k (stored v) nought vs) p
-  stored_by vs k v (piece.Clean c) h = (there_stored vs k v c h.0, counted_stored vs k v c h.1)
-  stored_by vs k v (piece.Guard hs) h = h
-  stored_by vs k v (piece.Rest ss) h = h
-  stored_by vs k v p h = tt
+  left_by : (vs : List Value) (k : Sort) (left all : Type 0) → (all → left) → LeftBy Few vs k left all → left
+  left_by vs piece.Simple left all f h = h
+  left_by vs (piece.IsLoop order t e b) left all f h = f h.1
+  left_by vs piece.IsWhole left all f h = f h.1
+  left_by vs (piece.IsClean c) left all f h = f h.1
+  left_by vs (piece.IsFill m b d) left all f h = f h.1
+  left_by vs (piece.IsSweep e) left all f h = f h.1
+  left_by vs (piece.IsPart c) left all f h = f h.1
+  left_by vs (piece.IsGuard hs) left all f h = f h.1
+  left_by vs piece.IsFinish left all f h = f h.1
+  left_by vs piece.IsFinishCoroutine left all f h = f h.1
+
+  mark_there : (vs : List Value) (k : Sort) (left all rest : Type 0) → (left → rest) → (all → rest) → LeftBy Few vs k left all → CleanBy (IsThere vs) k × rest
+  mark_there vs piece.Simple left all rest f g h = (tt, f h)
+  mark_there vs (piece.IsLoop order t e b) left all rest f g h = (tt, g h.1)
+  mark_there vs piece.IsWhole left all rest f g h = (tt, g h.1)
+  mark_there vs (piece.IsClean c) left all rest f g h = (h.0.0, g h.1)
+  mark_there vs (piece.IsFill m b d) left all rest f g h = (tt, g h.1)
+  mark_there vs (piece.IsSweep e) left all rest f g h = (tt, g h.1)
+  mark_there vs (piece.IsPart c) left all rest f g h = (tt, g h.1)
+  mark_there vs (piece.IsGuard hs) left all rest f g h = (tt, g h.1)
+  mark_there vs piece.IsFinish left all rest f g h = (tt, g h.1)
+  mark_there vs piece.IsFinishCoroutine left all rest f g h = (tt, g h.1)
+
+  -- what a piece and what is behind it tell one who leaves it
+  left_piece : (vs : List Value) (p : Todo) (left all : Type 0) → (all → left) → PieceCounted Few vs p → all → LeftBy Few vs (piece.sort p) left all
+  left_piece vs (piece.Clean c) left all f h k = (h, k)
+  left_piece vs (piece.Guard hs) left all f h k = (h, k)
+  left_piece vs (piece.InLoop order t e b) left all f h k = (tt, k)
+  left_piece vs piece.InWhole left all f h k = (tt, k)
+  left_piece vs (piece.FillNow m b d) left all f h k = (tt, k)
+  left_piece vs (piece.Sweep e) left all f h k = (tt, k)
+  left_piece vs (piece.Part c) left all f h k = (tt, k)
+  left_piece vs piece.Finish left all f h k = (tt, k)
+  left_piece vs piece.FinishCoroutine left all f h k = (tt, k)
+  left_piece vs p left all f h k = f k
+
+  mutual
+    pub all_left : (vs : List Value) (todo : List Todo) → AllCounted Few vs todo → AllLeft Few vs todo
+    all_left vs [] h = tt
+    all_left vs (piece.Eval e ∷ todo) (inl h) = all_left vs todo h
+    all_left vs (piece.Eval e ∷ todo) (inr h) = drop_left vs todo h.1
+    all_left vs (piece.Do a ∷ todo) (inl h) = all_left vs todo h
+    all_left vs (piece.Do a ∷ todo) (inr h) = rest_left vs todo h.1
+    all_left vs (piece.BindNow ∷ todo) (inl h) = all_left vs todo h
+    all_left vs (piece.BindNow ∷ todo) (inr h) = drop_left vs todo h
+    all_left vs (piece.MakeNow c r ∷ todo) (inl h) = all_left vs todo h
+    all_left vs (piece.MakeNow c r ∷ todo) (inr h) = call_left vs todo h
+    all_left vs (piece.BindMadeNow c r ∷ todo) (inl h) = all_left vs todo h
+    all_left vs (piece.BindMadeNow c r ∷ todo) (inr h) = call_left vs todo h
+    all_left vs (piece.Exit w ∷ todo) h = h
+    all_left vs (piece.Unwind ∷ todo) h = h
+    all_left vs (p ∷ todo) h = left_piece vs p (AllLeft Few vs todo) (AllCounted Few vs todo) (all_left vs todo) h.0 h.1
+
+    rest_left : (vs : List Value) (todo : List Todo) → AtRest Few vs todo → AllLeft Few vs todo
+    rest_left vs (piece.Rest ss ∷ todo) h = all_left vs todo h.1
+    rest_left vs todo h = absurd h
+
+    drop_left : (vs : List Value) (todo : List Todo) → AtDrop Few vs todo → AllLeft Few vs todo
+    drop_left vs (piece.DropNow ∷ (piece.Within line ∷ todo)) h = rest_left vs todo h
+    drop_left vs todo h = absurd h
+
+    call_left : (vs : List Value) (todo : List Todo) → AtCall Few vs todo → AllLeft Few vs todo
+    call_left vs (piece.CallOnNow r ∷ todo) h = drop_left vs todo h
+    call_left vs (piece.CallUnwrittenNow r ∷ todo) h = drop_left vs todo h
+    call_left vs todo h = absurd h
+
+  bound_left : (vs : List Value) (todo : List Todo) → AtBound Few vs todo → AllLeft Few vs todo
+  bound_left vs (piece.Rest ss ∷ todo) h = all_left vs todo h.1
+  bound_left vs (piece.Within line ∷ todo) h = rest_left vs todo h
+  bound_left vs (piece.DropNow ∷ (piece.Within line ∷ todo)) h = rest_left vs todo h
+  bound_left vs (piece.CallOnNow r ∷ todo) h = drop_left vs todo h
+  bound_left vs (piece.CallUnwrittenNow r ∷ todo) h = drop_left vs todo h
+  bound_left vs todo h = absurd h
+
+  pub held_left : (vs : List Value) (todo : List Todo) → Held Few vs todo → AllLeft Few vs todo
+  held_left vs todo (inl h) = all_left vs todo h
+  held_left vs todo (inr h) = bound_left vs todo h.0
+
+  pub left_on : (vs : List Value) (k : Sort) (todo : List Todo) → LeftBy Few vs k (AllLeft Few vs todo) (AllCounted Few vs todo) → AllLeft Few vs todo
+  left_on vs k todo h = left_by vs k (AllLeft Few vs todo) (AllCounted Few vs todo) (all_left vs todo) h
+
+  -- of all that is left the variables are there
+  pub left_there : (vs : List Value) (todo : List Todo) → AllLeft Few vs todo → AllThere vs todo
+  left_there vs [] h = tt
+  left_there vs (p ∷ todo) h =
+      mark_there vs (piece.sort p) (AllLeft Few vs todo) (AllCounted Few vs todo) (AllThere vs todo) (left_there vs todo) (λ x. left_there vs todo (all_left vs todo x)) h
+
+  pub held_there : (vs : List Value) (todo : List Todo) → Held Few vs todo → AllThere vs todo
+  held_there vs todo h = left_there vs todo (held_left vs todo h)
+
+  -- once it is bound, the scope behind opens next
+  pub drop_bound : (vs : List Value) (todo : List Todo) → AtDrop Few vs todo → AtBound Few vs todo
+  drop_bound vs (piece.DropNow ∷ (piece.Within line ∷ todo)) h = h
+  drop_bound vs todo h = absurd h
+
+  pub call_bound : (vs : List Value) (todo : List Todo) → AtCall Few vs todo → AtBound Few vs todo
+  call_bound vs (piece.CallOnNow r ∷ todo) h = h
+  call_bound vs (piece.CallUnwrittenNow r ∷ todo) h = h
+  call_bound vs todo h = absurd h
+
+  module _ (vs ws : List Value) (f : (todo : List Todo) → AllCounted Few vs todo → AllCounted Few ws todo) where
+    rest_kept : (todo : List Todo) → AtRest Few vs todo → AtRest Few ws todo
+    rest_kept (piece.Rest ss ∷ todo) h = (h.0, f todo h.1)
+    rest_kept todo h = absurd h
+
+    pub drop_kept : (todo : List Todo) → AtDrop Few vs todo → AtDrop Few ws todo
+    drop_kept (piece.DropNow ∷ (piece.Within line ∷ todo)) h = rest_kept todo h
+    drop_kept todo h = absurd h
+
+    pub call_kept : (todo : List Todo) → AtCall Few vs todo → AtCall Few ws todo
+    call_kept (piece.CallOnNow r ∷ todo) h = drop_kept todo h
+    call_kept (piece.CallUnwrittenNow r ∷ todo) h = drop_kept todo h
+    call_kept todo h = absurd h
+
+  -- and what holds of that
+  pub drop_next : (P : List Link → Type 0) (vs : List Value) (todo : List Todo) → AtDrop Few vs todo → NextDrop P todo → NextBound P todo
+  drop_next P vs (piece.DropNow ∷ (piece.Within line ∷ (piece.Rest ss ∷ todo))) h b = b
+  drop_next P vs todo h b = absurd h
+
+  pub call_next : (P : List Link → Type 0) (vs : List Value) (todo : List Todo) → AtCall Few vs todo → NextCall P todo → NextBound P todo
+  call_next P vs (piece.CallOnNow r ∷ (piece.DropNow ∷ (piece.Within line ∷ (piece.Rest ss ∷ todo)))) h b = b
+  call_next P vs (piece.CallUnwrittenNow r ∷ (piece.DropNow ∷ (piece.Within line ∷ (piece.Rest ss ∷ todo)))) h b = b
+  call_next P vs todo h b = absurd h
+
+  -- a frame has other values, and each clean-up keeps what is told of it
+
+  module _ (vs ws : List Value) (B : CleanUp → Type 0) (f : (c : CleanUp) → B c → IsThere vs c × IsCounted Few vs c → IsThere ws c × IsCounted Few ws c) where
+    mark_changed : (k : Sort) → CleanBy B k → MarkCounted Few vs k → MarkCounted Few ws k
+    mark_changed (piece.IsClean c) b h = f c b h
+    mark_changed (piece.IsGuard hs) b h = h
+    mark_changed k b h = tt
+
+    piece_changed : (p : Todo) → CleanBy B (piece.sort p) → PieceCounted Few vs p → PieceCounted Few ws p
+    piece_changed (piece.Clean c) b h = f c b h
+    piece_changed (piece.Guard hs) b h = h
+    piece_changed (piece.Rest ss) b h = h
+    piece_changed p b h = tt
+
+    left_changed_by : (k : Sort) (left all more every : Type 0) → CleanBy B k → (left → more) → (all → every) → LeftBy Few vs k left all → LeftBy Few ws k more every
+    left_changed_by piece.Simple left all more every b g i h = g h
+    left_changed_by (piece.IsLoop order t e x) left all more every b g i h = (tt, i h.1)
+    left_changed_by piece.IsWhole left all more every b g i h = (tt, i h.1)
+    left_changed_by (piece.IsClean c) left all more every b g i h = (f c b h.0, i h.1)
+    left_changed_by (piece.IsFill m x d) left all more every b g i h = (tt, i h.1)
+    left_changed_by (piece.IsSweep e) left all more every b g i h = (tt, i h.1)
+    left_changed_by (piece.IsPart c) left all more every b g i h = (tt, i h.1)
+    left_changed_by (piece.IsGuard hs) left all more every b g i h = (h.0, i h.1)
+    left_changed_by piece.IsFinish left all more every b g i h = (tt, i h.1)
+    left_changed_by piece.IsFinishCoroutine left all more every b g i h = (tt, i h.1)
+
+    mutual
+      pub all_changed : (todo : List Todo) → AllCleans B todo → AllCounted Few vs todo → AllCounted Few ws todo
+      all_changed [] b h = tt
+      all_changed (piece.Eval e ∷ todo) b (inl h) = inl (all_changed todo b.1 h)
+      all_changed (piece.Eval e ∷ todo) b (inr h) = inr (h.0, drop_changed todo b.1 h.1)
+      all_changed (piece.Do a ∷ todo) b (inl h) = inl (all_changed todo b.1 h)
+      all_changed (piece.Do a ∷ todo) b (inr h) = inr (h.0, rest_changed todo b.1 h.1)
+      all_changed (piece.BindNow ∷ todo) b (inl h) = inl (all_changed todo b.1 h)
+      all_changed (piece.BindNow ∷ todo) b (inr h) = inr (drop_changed todo b.1 h)
+      all_changed (piece.MakeNow c r ∷ todo) b (inl h) = inl (all_changed todo b.1 h)
+      all_changed (piece.MakeNow c r ∷ todo) b (inr h) = inr (call_changed todo b.1 h)
+      all_changed (piece.BindMadeNow c r ∷ todo) b (inl h) = inl (all_changed todo b.1 h)
+      all_changed (piece.BindMadeNow c r ∷ todo) b (inr h) = inr (call_changed todo b.1 h)
+      all_changed (piece.Exit w ∷ todo) b h = left_changed todo b.1 h
+      all_changed (piece.Unwind ∷ todo) b h = left_changed todo b.1 h
+      all_changed (p ∷ todo) b h = (piece_changed p b.0 h.0, all_changed todo b.1 h.1)
+
+      rest_changed : (todo : List Todo) → AllCleans B todo → AtRest Few vs todo → AtRest Few ws todo
+      rest_changed (piece.Rest ss ∷ todo) b h = (h.0, all_changed todo b.1 h.1)
+      rest_changed todo b h = absurd h
+
+      drop_changed : (todo : List Todo) → AllCleans B todo → AtDrop Few vs todo → AtDrop Few ws todo
+      drop_changed (piece.DropNow ∷ (piece.Within line ∷ todo)) b h = rest_changed todo b.1.1 h
+      drop_changed todo b h = absurd h
+
+      call_changed : (todo : List Todo) → AllCleans B todo → AtCall Few vs todo → AtCall Few ws todo
+      call_changed (piece.CallOnNow r ∷ todo) b h = drop_changed todo b.1 h
+      call_changed (piece.CallUnwrittenNow r ∷ todo) b h = drop_changed todo b.1 h
+      call_changed todo b h = absurd h
+
+      left_changed : (todo : List Todo) → AllCleans B todo → AllLeft Few vs todo → AllLeft Few ws todo
+      left_changed [] b h = tt
+      left_changed (p ∷ todo) b h =
+          left_changed_by (piece.sort p) (AllLeft Few vs todo) (AllCounted Few vs todo) (AllLeft Few ws todo) (AllCounted Few ws todo) b.0 (left_changed todo b.1) (all_changed todo b.1) h
+
+    bound_changed : (todo : List Todo) → AllCleans B todo → AtBound Few vs todo → AtBound Few ws todo
+    bound_changed (piece.Rest ss ∷ todo) b h = (h.0, all_changed todo b.1 h.1)
+    bound_changed (piece.Within line ∷ todo) b h = rest_changed todo b.1 h
+    bound_changed (piece.DropNow ∷ (piece.Within line ∷ todo)) b h = rest_changed todo b.1.1 h
+    bound_changed (piece.CallOnNow r ∷ todo) b h = drop_changed todo b.1 h
+    bound_changed (piece.CallUnwrittenNow r ∷ todo) b h = drop_changed todo b.1 h
+    bound_changed todo b h = absurd h
+
+    held_changed : (todo : List Todo) → AllCleans B todo → (NextBound (HoldsObject vs) todo → NextBound (HoldsObject ws) todo) → Held Few vs todo → Held Few ws todo
+    held_changed todo b g (inl h) = inl (all_changed todo b h)
+    held_changed todo b g (inr h) = inr (bound_changed todo b h.0, g h.1)
 
   pub all_stored : (k : ℕ) (v : Value) (todo : List Todo) (vs : List Value) → AllCounted Few vs todo → AllCounted Few (value_changed k (stored v) nought vs) todo
-  all_stored k v [] vs h = tt
-  all_stored k v (p ∷ todo) vs h = (stored_by vs k v p h.0, all_stored k v todo vs h.1)
+  all_stored k v todo vs h =
+      all_changed vs (value_changed k (stored v) nought vs) (λ c. Unit {0}) (λ c b x. (there_stored vs k v c x.0, counted_stored vs k v c x.1)) todo (any_cleans todo) h
 
-  cleared_by : (vs : List Value) (k n : ℕ) (p : Todo) → BeforeBy k (piece.sort p) → PieceCounted Few vs p → PieceCounted Few (values_cleared k n nought vs) p
-  cleared_by vs k n (piece.Clean c) b h = (there_cleared vs k n c b h.0, counted_cleared vs k n c b h.1)
-  cleared_by vs k n (piece.Guard hs) b h = h
-  cleared_by vs k n (piece.Rest ss) b h = h
-  cleared_by vs k n p b h = tt
+  held_stored : (k : ℕ) (v : Value) (todo : List Todo) (vs : List Value) → Held Few vs todo → Held Few (value_changed k (stored v) nought vs) todo
+  held_stored k v todo vs h =
+      held_changed vs (value_changed k (stored v) nought vs) (λ c. Unit {0}) (λ c b x. (there_stored vs k v c x.0, counted_stored vs k v c x.1)) todo (any_cleans todo) (λ x. next (HoldsObject vs) (HoldsObject vs) (HoldsObject (value_changed k (stored v) nought vs)) (λ p x y. cell_stored IsNumbered v (numbered_stored v) vs (address p) k x) todo x x) h
 
-  pub all_cleared : (k n : ℕ) (todo : List Todo) (vs : List Value) → AllBefore k todo → AllCounted Few vs todo → AllCounted Few (values_cleared k n nought vs) todo
-  all_cleared k n [] vs b h = tt
-  all_cleared k n (p ∷ todo) vs b h = (cleared_by vs k n p b.0 h.0, all_cleared k n todo vs b.1 h.1)
+  all_cleared : (k n : ℕ) (todo : List Todo) (vs : List Value) → AllBefore k todo → AllCounted Few vs todo → AllCounted Few (values_cleared k n nought vs) todo
+  all_cleared k n todo vs b h =
+      all_changed vs (values_cleared k n nought vs) (OfEach (IsBefore k)) (λ c b x. (there_cleared vs k n c b x.0, counted_cleared vs k n c b x.1)) todo b h
+
+  held_cleared : (k n : ℕ) (todo : List Todo) (vs : List Value) → AllBefore k todo → NextBound (IsBefore k) todo → Held Few vs todo → Held Few (values_cleared k n nought vs) todo
+  held_cleared k n todo vs b l h =
+      held_changed vs (values_cleared k n nought vs) (OfEach (IsBefore k)) (λ c b x. (there_cleared vs k n c b x.0, counted_cleared vs k n c b x.1)) todo b (λ x. next (HoldsObject vs) (IsBefore k) (HoldsObject (values_cleared k n nought vs)) (λ p x l. cell_taken IsNumbered (λ n. n) vs _ (address p) k l x) todo x l) h
+
+  -- in a frame of an execution, of which one is written
+  pub list_stored : (d k : ℕ) (v : Value) (fs : List (List Value)) (f : ℕ) (todo : List Todo) → AllCounted Few (frame_at f fs) todo → AllCounted Few (frame_at f (frame_changed d (value_changed k (stored v) nought) fs)) todo
+  list_stored d k v fs f todo h =
+      set_at (λ vs. AllCounted Few vs todo) fs d f _ (λ e. all_stored k v todo (frame_at d fs) (subst (λ n. AllCounted Few (frame_at n fs) todo) e h)) h
+
+  pub list_cleared : (d k n : ℕ) (fs : List (List Value)) (todo : List Todo) → AllBefore k todo → AllCounted Few (frame_at d fs) todo → AllCounted Few (frame_at d (frame_changed d (values_cleared k n nought) fs)) todo
+  list_cleared d k n fs todo b h = set_at (λ vs. AllCounted Few vs todo) fs d d _ (λ e. all_cleared k n todo (frame_at d fs) b h) h
 
   pub stack_stored : (d k : ℕ) (v : Value) (fs : List (List Value)) (cs : List Active) → CountedStack Few fs cs → CountedStack Few (frame_changed d (value_changed k (stored v) nought) fs) cs
   stack_stored d k v fs [] h = tt
   stack_stored d k v fs (a ∷ older) h =
-      let there : AllCounted Few (frame_at a.frame fs) a.control = h.1 in
-      (h.0, set_at (λ vs. AllCounted Few vs a.control) fs d a.frame _ (λ e. all_stored k v a.control (frame_at d fs) (subst (λ f. AllCounted Few (frame_at f fs) a.control) e there)) there, stack_stored d k v fs older h.2)
+      let there : Held Few (frame_at a.frame fs) a.control = h.1 in
+      (h.0, set_at (λ vs. Held Few vs a.control) fs d a.frame _ (λ e. held_stored k v a.control (frame_at d fs) (subst (λ f. Held Few (frame_at f fs) a.control) e there)) there, stack_stored d k v fs older h.2)
 
   pub stack_cleared : (d k n : ℕ) (fs : List (List Value)) (cs : List Active) → FrameBefore k d cs → CountedStack Few fs cs → CountedStack Few (frame_changed d (values_cleared k n nought) fs) cs
   stack_cleared d k n fs [] b h = tt
   stack_cleared d k n fs (a ∷ older) b h =
-      let there : AllCounted Few (frame_at a.frame fs) a.control = h.1 in
-      (h.0, set_at (λ vs. AllCounted Few vs a.control) fs d a.frame _ (λ e. all_cleared k n a.control (frame_at d fs) (b.0 e) (subst (λ f. AllCounted Few (frame_at f fs) a.control) e there)) there, stack_cleared d k n fs older b.1 h.2)
+      let there : Held Few (frame_at a.frame fs) a.control = h.1 in
+      (h.0, set_at (λ vs. Held Few vs a.control) fs d a.frame _ (λ e. held_cleared k n a.control (frame_at d fs) (b.0 e).0 (b.0 e).1 (subst (λ f. Held Few (frame_at f fs) a.control) e there)) there, stack_cleared d k n fs older b.1 h.2)
 
   pub stack_newer : (x : List Value) (fs : List (List Value)) (cs : List Active) → length cs ≤ length fs → CountedStack Few fs cs → CountedStack Few (x ∷ fs) cs
   stack_newer x fs [] l h = tt
   stack_newer x fs (a ∷ older) l h =
       let le = h.0 in
-      (h.0, newer_at (λ vs. AllCounted Few vs a.control) x fs a.frame (omega (arith, le, l)) h.1, stack_newer x fs older (omega (arith, l)) h.2)
+      (h.0, newer_at (λ vs. Held Few vs a.control) x fs a.frame (omega (arith, le, l)) h.1, stack_newer x fs older (omega (arith, l)) h.2)
 
   pub stack_older : (fs : List (List Value)) (cs : List Active) → length cs ≤ length (others fs) → CountedStack Few fs cs → CountedStack Few (others fs) cs
   stack_older fs [] l h = tt
   stack_older fs (a ∷ older) l h =
       let le = h.0 in
-      (h.0, older_at (λ vs. AllCounted Few vs a.control) fs a.frame (omega (arith, le, l)) h.1, stack_older fs older (omega (arith, l)) h.2)
+      (h.0, older_at (λ vs. Held Few vs a.control) fs a.frame (omega (arith, le, l)) h.1, stack_older fs older (omega (arith, l)) h.2)

@@ -14,8 +14,9 @@ use Rattle.uc_machine.specs.Executions.{Execution, Links, update, exec_eq, joine
 use Rattle.uc_machine.specs.Switches as sw
 use Rattle.uc_machine.specs.Switches.{Moved, To, Stops}
 use Rattle.uc_machine.specs.Pieces.{Value, Number, Place, Running, Object, Nothing, Todo, Active, State, Env, Members, address, stored, nought, written}
+use Rattle.uc_value_laws.specs.There.{AllCounted, frame_at}
 use Rattle.uc_value_laws.specs.ThereStates.{CountedStack, CountedEx, CountedSlot, CountedParked, CountedHand, CountedMembers, CountedEnv, CountedState}
-use Rattle.uc_value_laws.proofs.Cells.{either, set_length, stack_stored}
+use Rattle.uc_value_laws.proofs.Cells.{either, set_length, list_stored, stack_stored}
 
 abbrev pub Ex : Type 0
 Ex = Execution (List Todo) Value
@@ -101,14 +102,15 @@ module _ (Few : ℕ → Bool) where
   pub record Keeps (e f : Env) : Type 0 where
     pub frames : length f.frames ≡ length e.frames
     pub stack : (cs : List Active) → CountedStack Few e.frames cs → CountedStack Few f.frames cs
+    pub lists : (d : ℕ) (todo : List Todo) → AllCounted Few (frame_at d e.frames) todo → AllCounted Few (frame_at d f.frames) todo
     pub env : CountedEnv Few f
 
   pub keeps_both : {e f g : Env} → Keeps e f → Keeps f g → Keeps e g
-  keeps_both h k = record { frames = k.frames ∙ h.frames; stack = λ cs x. k.stack cs (h.stack cs x); env = k.env }
+  keeps_both h k = record { frames = k.frames ∙ h.frames; stack = λ cs x. k.stack cs (h.stack cs x); lists = λ d todo x. k.lists d todo (h.lists d todo x); env = k.env }
 
   -- with the same frames
   pub keeps_frames : {e f : Env} → f.frames ≡ e.frames → CountedEnv Few f → Keeps e f
-  keeps_frames q h = record { frames = ap length q; stack = λ cs x. subst (λ fs. CountedStack Few fs cs) (sym q) x; env = h }
+  keeps_frames q h = record { frames = ap length q; stack = λ cs x. subst (λ fs. CountedStack Few fs cs) (sym q) x; lists = λ d todo x. subst (λ fs. AllCounted Few (frame_at d fs) todo) (sym q) x; env = h }
 
   pub keeps_like : {e f : Env} → CountedEnv Few e → f.frames ≡ e.frames → f.hand ≡ e.hand → f.house ≡ e.house → Keeps e f
   keeps_like s q h g = keeps_frames q (like s h g)
@@ -119,7 +121,7 @@ module _ (Few : ℕ → Bool) where
   -- writes
 
   abbrev KeepsFrames : (List (List Value) → List (List Value)) → Type 0
-  KeepsFrames f = (fs : List (List Value)) → (length (f fs) ≡ length fs) × ((cs : List Active) → CountedStack Few fs cs → CountedStack Few (f fs) cs)
+  KeepsFrames f = (fs : List (List Value)) → (length (f fs) ≡ length fs) × ((cs : List Active) → CountedStack Few fs cs → CountedStack Few (f fs) cs) × ((d : ℕ) (todo : List Todo) → AllCounted Few (frame_at d fs) todo → AllCounted Few (frame_at d (f fs)) todo)
 
   frames_kept : (n : ℕ) (f : List (List Value) → List (List Value)) (o : Option Ex) (m : Members) → KeepsFrames f → CountedSlot Few o → CountedParked Few m.parked → CountedParked Few (frames_by n f o m).parked
   frames_kept n f None m same r h = h
@@ -128,11 +130,11 @@ module _ (Few : ℕ → Bool) where
 
   with_frames_keeps : (n : Exec) (f : List (List Value) → List (List Value)) (e : Env) → KeepsFrames f → CountedEnv Few e → Keeps e (with_frames n f e)
   with_frames_keeps n f e same s =
-      either (Keeps e) (exec_eq n e.exec) (record e { frames = f e.frames }) (change n.home (frames_changed n.serial f) e) (record { frames = (same e.frames).0; stack = (same e.frames).1; env = like s refl refl }) (keeps_change n.home (frames_changed n.serial f) e (λ m h. frames_kept n.serial f (joined (find n.serial m.parked)) m same (found_parked n.serial m.parked h) h) s)
+      either (Keeps e) (exec_eq n e.exec) (record e { frames = f e.frames }) (change n.home (frames_changed n.serial f) e) (record { frames = (same e.frames).0; stack = (same e.frames).1; lists = (same e.frames).2; env = like s refl refl }) (keeps_change n.home (frames_changed n.serial f) e (λ m h. frames_kept n.serial f (joined (find n.serial m.parked)) m same (found_parked n.serial m.parked h) h) s)
 
   owned_keeps : (o : Owner) (k : ℕ) (v : Value) (e : Env) → CountedEnv Few e → Keeps e (with_owned o (value_changed k (stored v) nought) e)
   owned_keeps (Frame n d) k v e s =
-      with_frames_keeps n (frame_changed d (value_changed k (stored v) nought)) e (λ fs. (set_length fs d (value_changed k (stored v) nought (list_in (at_depth fs d))), λ cs h. stack_stored Few d k v fs cs h)) s
+      with_frames_keeps n (frame_changed d (value_changed k (stored v) nought)) e (λ fs. (set_length fs d (value_changed k (stored v) nought (list_in (at_depth fs d))), λ cs h. stack_stored Few d k v fs cs h, λ f todo h. list_stored Few d k v fs f todo h)) s
   owned_keeps (Fields o) k v e s = keeps_change (home.Object o) _ e (λ m h. h) s
 
   pub written_keeps : (v w : Value) (e : Env) → CountedEnv Few e → Keeps e (written v w e)

@@ -10,12 +10,12 @@ use Rattle.uc_machine.specs.Quiet as quiet
 use Rattle.uc_machine.specs.Pieces as piece
 use Rattle.uc_machine.specs.Pieces.{Slot, Value, Number, Place, Running, Object, Nothing, Todo, Active, State, Env, Step, Goes, Ticks, Asks, LAST_ADDRESS, at, in_env, top, below, nought, address, stored, written, variable_at}
 use Rattle.uc_typing.specs.States.{IsNumbered}
-use Rattle.uc_scope_laws.specs.Clusters.{DeclaresAlone, BindsCluster, Precedes, OpensCluster, IsUnbound, IsUnscoped, Begins, Joined}
-use Rattle.uc_value_laws.specs.There.{IsNear, IsFew, IsCounted, AllCounted, AllBefore, FrameBefore, frame_at}
+use Rattle.uc_scope_laws.specs.Clusters.{DeclaresAlone, BindsCluster, Precedes, OpensBound, IsUnbound, IsUnscoped, Begins, Joined}
+use Rattle.uc_value_laws.specs.There.{IsGiven, IsNoCluster, OfBound, HoldsObject, IsThere, IsFew, IsCounted, AllCounted, AllBefore, FrameBefore, frame_at}
 use Rattle.uc_value_laws.specs.ThereStates.{CountedStack, CountedState, CountedStep, ScopeFits, FairAt, Fair}
 use Rattle.uc_value_laws.specs.NewClusters as way
 use Rattle.uc_value_laws.specs.NewClusters.{Stage, stage_todo, IsOwn, IsCount, IsUnset, IsSetBy, IsScopeOf, StageHoldsBy, OpeningBy, WaitingBy, GoodBy, AskedBy, GoodStepBy}
-use Rattle.uc_value_laws.proofs.Cells.{set_length, stack_cleared}
+use Rattle.uc_value_laws.proofs.Cells.{set_length, list_cleared, stack_cleared}
 use Rattle.uc_value_laws.proofs.Keeping as kept
 use Rattle.uc_value_laws.proofs.Keeping.{Keeps}
 use Rattle.uc_value_laws.proofs.Steps.{exec_same, here}
@@ -73,8 +73,10 @@ pub no_bind : (k : ℕ) (a : Stmt) → BindsCluster k a → IsUnbound a → ⊥
 no_bind k (src.Evaluate line (src.OfObject (src.Bind (src.Variable m) (src.OfObject src.NewCluster)))) h u = u
 no_bind k a h u = h
 
-behind_scope : (k l : ℕ) (c : CleanUp) (rest : Stmts) → OpensCluster (src.Evaluate l (src.OfObject (src.Bind (src.Variable k) (src.OfObject src.NewCluster)))) c → Begins rest → IsUnscoped c ⊎ IsScopeOf k (src.Scoped c rest)
+behind_scope : (k l : ℕ) (c : CleanUp) (rest : Stmts) → OpensBound (src.Evaluate l (src.OfObject (src.Bind (src.Variable k) (src.OfObject src.NewCluster)))) c → Begins rest → IsUnscoped c ⊎ IsScopeOf k (src.Scoped c rest)
 behind_scope k l (src.Destroys (src.OfObject (src.EndCluster (src.Load (src.Variable m))))) rest h b = inr (sym h, b)
+behind_scope k l (src.Destroys (src.OfObject (src.EndProcessor (src.Load (src.Variable m))))) rest h b = absurd h
+behind_scope k l (src.Destroys (src.OfObject (src.EndOn r written (src.Load (src.Variable m))))) rest h b = absurd h
 behind_scope k l c rest h b = inl tt
 
 behind_stmt : (k l : ℕ) (b : Stmt) → Precedes (src.Evaluate l (src.OfObject (src.Bind (src.Variable k) (src.OfObject src.NewCluster)))) b → IsUnbound b
@@ -87,10 +89,19 @@ behind_bound k l (src.Then b rest) h = inl (behind_stmt k l b h.0)
 behind_bound k l (src.Scoped c rest) h = behind_scope k l c rest h.0 h.1.0
 behind_bound k l (src.Built c rest) h = inl tt
 
--- a scope that is not of a cluster is not of a near one
-pub far : (c : CleanUp) → IsUnscoped c → IsNear c → ⊥
+-- a scope that is not of what is known by its number is not given
+pub far : (c : CleanUp) → IsUnscoped c → IsGiven c → ⊥
 far (src.Destroys (src.OfObject (src.EndCluster (src.Load (src.Variable k))))) h n = h
+far (src.Destroys (src.OfObject (src.EndProcessor (src.Load (src.Variable k))))) h n = h
+far (src.Destroys (src.OfObject (src.EndOn r written (src.Load (src.Variable k))))) h n = h
 far c h n = n
+
+-- one whose variable is bound is there
+pub opened : (vs : List Value) (c : CleanUp) → IsNoCluster c → OfBound (HoldsObject vs) c → ((IsGiven c → ⊥) → IsThere vs c) → IsThere vs c
+opened vs (src.Destroys (src.OfObject (src.EndCluster (src.Load (src.Variable k))))) n h f = absurd n
+opened vs (src.Destroys (src.OfObject (src.EndProcessor (src.Load (src.Variable k))))) n h f = h
+opened vs (src.Destroys (src.OfObject (src.EndOn r written (src.Load (src.Variable k))))) n h f = h
+opened vs c n h f = f (λ g. g)
 
 module _ (Few : ℕ → Bool) where
   number_bound : (o : ℕ) (v : Value) → IsCount v → Few o ≡ true → IsFew Few (stored (Object o) v)
@@ -113,7 +124,7 @@ module _ (Few : ℕ → Bool) where
   few_numbered Nothing h = h
 
   -- a scope that is not of a cluster asks nothing of one
-  pub uncounted : (vs : List Value) (c : CleanUp) → IsUnscoped c → IsCounted Few vs c
+  pub uncounted : (vs : List Value) (c : CleanUp) → IsNoCluster c → IsCounted Few vs c
   uncounted vs (src.Destroys (src.OfObject (src.EndCluster (src.Load (src.Variable k))))) h = absurd h
   uncounted vs c h = tt
 
@@ -138,14 +149,8 @@ module _ (Few : ℕ → Bool) where
     next : (g : Stage) (vs : List Value) → StageHoldsBy Few g st.cell st.next (at (Then g) vs s) → OpeningBy Few (at (Then g) vs s)
     next g vs h = record { cell = st.cell; line = st.line; next = st.next; todo = st.todo; stage = g; control = refl; follows = st.follows; holds = h; frames = st.frames; frame = st.frame; behind = st.behind; callers = st.callers; env = st.env }
 
-    -- an activation with what is to do behind
-    beyond : CountedStack Few s.env.frames (record s.run { control = st.todo } ∷ s.callers)
-    beyond = (st.frame, st.behind, st.callers)
-
-    clears : (m : ℕ) (d : Declared) → s.run.control ≡ Then (way.Clears m d) → IsOwn st.cell d → FrameBefore d.cell s.run.frame (s.run ∷ s.callers) → OpeningBy Few (at (Then (way.Cleared m)) s.run.operands (in_env (piece.cleared d.cell d.cells s) s))
-    clears m d e h f =
-        let lies : AllBefore d.cell (Then (way.Clears m d)) = subst (AllBefore d.cell) e (f.0 refl) in
-        let stack : CountedStack Few (frame_changed s.run.frame (values_cleared d.cell d.cells nought) s.env.frames) (record s.run { control = st.todo } ∷ s.callers) = stack_cleared Few s.run.frame d.cell d.cells s.env.frames (record s.run { control = st.todo } ∷ s.callers) ((λ q. lies.1.1.1.1), f.1) beyond in
+    clears : (m : ℕ) (d : Declared) → s.run.control ≡ Then (way.Clears m d) → IsOwn st.cell d → FrameBefore d.cell s.run.frame s.callers → AllBefore d.cell (Then (way.Cleared m)) → OpeningBy Few (at (Then (way.Cleared m)) s.run.operands (in_env (piece.cleared d.cell d.cells s) s))
+    clears m d e h f lies =
         subst (λ (b : Bool). OpeningBy Few (at (Then (way.Cleared m)) s.run.operands (in_env (if b then record s.env { frames = frame_changed s.run.frame (values_cleared d.cell d.cells nought) s.env.frames } else change s.env.exec.home (frames_changed s.env.exec.serial (frame_changed s.run.frame (values_cleared d.cell d.cells nought))) s.env) s))) (sym (exec_same s.env.exec)) (record {
           cell = st.cell;
           line = st.line;
@@ -157,8 +162,8 @@ module _ (Few : ℕ → Bool) where
           holds = subst (λ (k : ℕ). IsCount (slice_index_or (frame_at s.run.frame (frame_changed s.run.frame (values_cleared d.cell d.cells nought) s.env.frames)) k nought)) h.0 (frame_unset s.env.frames s.run.frame d.cell d.cells h.2);
           frames = set_length s.env.frames s.run.frame (values_cleared d.cell d.cells nought (here s)) ∙ st.frames;
           frame = st.frame;
-          behind = stack.1;
-          callers = stack.2;
+          behind = list_cleared Few s.run.frame d.cell d.cells s.env.frames st.todo lies.1.1.1 st.behind;
+          callers = stack_cleared Few s.run.frame d.cell d.cells s.env.frames s.callers f st.callers;
           env = kept.like Few st.env refl refl;
         })
 
@@ -187,16 +192,16 @@ module _ (Few : ℕ → Bool) where
         k : Keeps Few s.env e
         k = kept.written_keeps Few (top (below s.run.operands)) (top s.run.operands) s.env st.env
 
-        stack : CountedStack Few e.frames (record s.run { control = st.todo } ∷ s.callers)
-        stack = k.stack (record s.run { control = st.todo } ∷ s.callers) beyond
+        behind : AllCounted Few (frame_at s.run.frame e.frames) st.todo
+        behind = k.lists s.run.frame st.todo st.behind
 
         set : IsScopeOf st.cell st.next → st.cell ≤ LAST_ADDRESS → IsFew Few (slice_index_or (frame_at s.run.frame e.frames) st.cell nought)
         set i n =
             subst (λ (v : Value). IsFew Few (slice_index_or (frame_at s.run.frame (written v (top s.run.operands) s.env).frames) st.cell nought)) (sym h.1) (subst (λ (v : Value). IsFew Few (slice_index_or (frame_at s.run.frame (written (variable_at st.cell s) v s.env).frames) st.cell nought)) (sym h.2.1) (bound_cell h.2.0 (scope_cell st.cell (length (here s)) st.next i f) h.0 h.2.2 n))
 
         by : Begins st.next ⊎ IsScopeOf st.cell st.next → GoodBy Few (at (Then way.Bound) (top s.run.operands ∷ below (below s.run.operands)) (in_env e s))
-        by (inl b) = inl (record { frames = k.frames ∙ st.frames; stack = (st.frame, (tt, (tt, (b, stack.1))), stack.2); env = k.env })
-        by (inr i) = inr (record { cell = st.cell; line = st.line; next = st.next; todo = st.todo; stage = way.Bound; control = refl; follows = st.follows; holds = (i, set i); frames = k.frames ∙ st.frames; frame = st.frame; behind = stack.1; callers = stack.2; env = k.env })
+        by (inl b) = inl (record { frames = k.frames ∙ st.frames; stack = (st.frame, inl (tt, (tt, (b, behind))), k.stack s.callers st.callers); env = k.env })
+        by (inr i) = inr (record { cell = st.cell; line = st.line; next = st.next; todo = st.todo; stage = way.Bound; control = refl; follows = st.follows; holds = (i, set i); frames = k.frames ∙ st.frames; frame = st.frame; behind = behind; callers = k.stack s.callers st.callers; env = k.env })
 
     -- its scope opens
 
@@ -204,20 +209,20 @@ module _ (Few : ℕ → Bool) where
     near_few m k q h l =
         subst (λ (a : ℕ). IsFew Few (slice_index_or (here s) a nought)) (sym (near_address m l)) (subst (λ (a : ℕ). IsFew Few (slice_index_or (here s) a nought)) (sym q) (h (subst (λ (a : ℕ). a ≤ LAST_ADDRESS) q l)))
 
-    opens : (ss : Stmts) → IsScopeOf st.cell ss → IsSetBy Few st.cell s → FairAt (piece.Rest ss ∷ st.todo) s → GoodStepBy Few (quiet.rest_step ss st.todo s)
+    opens : (ss : Stmts) → IsScopeOf st.cell ss → IsSetBy Few st.cell s → FairAt source (piece.Rest ss ∷ st.todo) s → GoodStepBy Few (quiet.rest_step ss st.todo s)
     opens (src.Scoped (src.Destroys (src.OfObject (src.EndCluster (src.Load (src.Variable m))))) rest) i h f =
-        inl (record { frames = st.frames; stack = (st.frame, (i.1, ((there (cases_lt LAST_ADDRESS m), near_few m st.cell i.0 h), st.behind)), st.callers); env = st.env })
+        inl (record { frames = st.frames; stack = (st.frame, inl (i.1, ((there (cases_lt LAST_ADDRESS m), near_few m st.cell i.0 h), st.behind)), st.callers); env = st.env })
       where
         there : (LAST_ADDRESS < m) ⊎ (m ≤ LAST_ADDRESS) → IsNumbered (slice_index_or (here s) (address (Slot m ∷ [])) nought)
         there (inl l) = f.1 (λ n. omega (arith, l, n))
         there (inr l) = few_numbered (slice_index_or (here s) (address (Slot m ∷ [])) nought) (near_few m st.cell i.0 h l)
     opens ss i h f = absurd i
 
-    step : (g : Stage) → s.run.control ≡ Then g → StageHoldsBy Few g st.cell st.next s → FairAt (Then g) s → GoodStepBy Few (quiet.act_todo source (Then g) s)
+    step : (g : Stage) → s.run.control ≡ Then g → StageHoldsBy Few g st.cell st.next s → FairAt source (Then g) s → GoodStepBy Few (quiet.act_todo source (Then g) s)
     step (way.Declares m d) e h f = inr (next (way.Lists m d) s.run.operands h)
     step (way.Lists m d) e h f =
         subst (λ v. GoodStepBy Few (piece.turns (piece.ClearNow d.cell d.cells ∷ quiet.starting d.cell v (piece.Variables [] ∷ (piece.Within m ∷ Then way.Reaches))) s)) (sym h.1) (inr (next (way.Clears m d) s.run.operands h))
-    step (way.Clears m d) e h f = inr (clears m d e h f)
+    step (way.Clears m d) e h f = inr (clears m d e h f.1 f.0)
     step (way.Cleared m) e h f = inr (next (way.Passes m) s.run.operands h)
     step (way.Passes m) e h f = inr (next way.Reaches s.run.operands h)
     step way.Reaches e h f = inr (next way.Does s.run.operands h)
@@ -225,12 +230,12 @@ module _ (Few : ℕ → Bool) where
     step way.Binds e h f = inr (next way.Places s.run.operands h)
     step way.Places e h f = inr (next way.Makes (variable_at st.cell s ∷ s.run.operands) (h, refl))
     step way.Makes e h f = inr (next way.Orders s.run.operands h)
-    step way.Orders e h f = inr (refl, λ o w. next way.Told (Object o ∷ s.run.operands) (h.0, h.1, (o, refl, w)))
-    step way.Told e h f = binds h f
+    step way.Orders e h f = inr (inl (refl, λ o w. next way.Told (Object o ∷ s.run.operands) (h.0, h.1, (o, refl, w))))
+    step way.Told e h f = binds h f.0
     step way.Bound e h f = inr (next way.Leaves (below s.run.operands) h)
     step way.Leaves e h f = inr (next way.Opens s.run.operands h)
     step way.Opens e h f = opens st.next h.0 h.1 f
 
-    pub opening : Fair s → GoodStepBy Few (quiet.quiet source s)
+    pub opening : Fair source s → GoodStepBy Few (quiet.quiet source s)
     opening f =
-        subst (λ (l : List Todo). GoodStepBy Few (quiet.act_todo source l s)) (sym st.control) (step st.stage st.control st.holds (subst (λ (l : List Todo). FairAt l s) st.control f))
+        subst (λ (l : List Todo). GoodStepBy Few (quiet.act_todo source l s)) (sym st.control) (step st.stage st.control st.holds (subst (λ (l : List Todo). FairAt source l s) st.control f))

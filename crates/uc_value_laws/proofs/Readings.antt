@@ -13,10 +13,10 @@ use Rattle.uc_typing.specs.Typing.{Ty, Cell, Obj, Row, Clu, Pro, Name, Sig, Tabl
 use Rattle.uc_typing.specs.Pieces.{Ok, Left, Met, onto}
 use Rattle.uc_typing.specs.States.{IsNumbered, IsObjectBy, Is, Either, IsBase, Typed, ReadsVariable, ReadsPlace}
 use Rattle.uc_typing.proofs.Control as control
-use Rattle.uc_value_laws.specs.There.{OfVariable, OfElements, EndsAt, HoldsObject, IsThere, ThereBy, AllThere, frame_at}
+use Rattle.uc_value_laws.specs.There.{OfVariable, OfElements, EndsAt, HoldsObject, IsThere, CleanBy, AllThere, Any, frame_at}
 use Rattle.uc_value_laws.specs.ThereStates.{ThereStack, ThereState}
 use Rattle.uc_value_laws.specs.Reading.{ReadsElement, LawReading}
-use Rattle.uc_value_laws.proofs.Cells.{by_sort}
+use Rattle.uc_value_laws.proofs.Cells.{held_there}
 use Rattle.uc_value_laws.proofs.Steps.{exec_same, here}
 
 module _ (t : Table) (g : Sig) where
@@ -53,7 +53,7 @@ module _ (t : Table) (g : Sig) where
     named (typing.Own j) more sc c h i p e k = k e
     named typing.Kept more sc c h i p e k = k e
 
-    marked : (s : Sort) (sc : List Name) (todo : List Todo) → Met t g sc s (λ sc. Left t g base sc todo) (λ sc. Ok t g base sc todo) → ThereBy vs s → ((sc : List Name) → Left t g base sc todo → InScope sc k a → R) → InScope sc k a → R
+    marked : (s : Sort) (sc : List Name) (todo : List Todo) → Met t g sc s (λ sc. Left t g base sc todo) (λ sc. Ok t g base sc todo) → CleanBy (IsThere vs) s → ((sc : List Name) → Left t g base sc todo → InScope sc k a → R) → InScope sc k a → R
     marked piece.Simple sc todo h p next e = next sc h e
     marked (piece.IsLoop o x y b) sc todo h p next e = next sc h.2 e
     marked piece.IsWhole sc todo h p next e = next sc (control.left t g base sc todo [] h.1) e
@@ -68,7 +68,7 @@ module _ (t : Table) (g : Sig) where
 
     in_scope : (todo : List Todo) (sc : List Name) → Left t g base sc todo → AllThere vs todo → (InScope base k a → R) → InScope sc k a → R
     in_scope [] sc h p out e = out (subst (λ names. InScope names k a) h e)
-    in_scope (x ∷ todo) sc h p out e = marked (piece.sort x) sc todo h (by_sort vs x p.0) (λ sc l i. in_scope todo sc l p.1 out i) e
+    in_scope (x ∷ todo) sc h p out e = marked (piece.sort x) sc todo h p.0 (λ sc l i. in_scope todo sc l p.1 out i) e
 
 -- what stands within so many is there too
 within_by : (vs : List Value) (b : Bool) (xs ys : List Todo) → AllThere vs xs → AllThere vs ys → AllThere vs (if b then xs else ys)
@@ -90,7 +90,7 @@ module _ (t : Table) (g : Sig) (fs : List (List Value)) (d k : ℕ) (a : Ty) (R 
   in_base (Some v) base [] h e i = absurd e
   in_base (Some v) base (c ∷ older) h e i =
       one_of (nat_eq (length older) v.level) _ (IsBase t g (Some v) base d older) R e
-      (λ x. in_scope t g x.0 (frame_at d fs) k a R f (within v.rest c.control) base x.2 (all_within (frame_at d fs) v.rest c.control (subst (λ n. AllThere (frame_at n fs) c.control) x.1 h.1)) (λ j. in_base c.handles x.0 older h.2 x.3 j) i)
+      (λ x. in_scope t g x.0 (frame_at d fs) k a R f (within v.rest c.control) base x.2 (all_within (frame_at d fs) v.rest c.control (subst (λ n. AllThere (frame_at n fs) c.control) x.1 (held_there Any (frame_at c.frame fs) c.control h.1))) (λ j. in_base c.handles x.0 older h.2 x.3 j) i)
       (λ y. in_base (Some v) base older h.2 y i)
 
 -- what a place of the running frame holds
@@ -101,7 +101,7 @@ running P s p h =
 module _ (t : Table) (given : List Ty) (s : State) (x : Typed t given s) (h : ThereState s) where
   scope : (k : ℕ) (a : Ty) (R : Type 0) → ((sc : List Name) (c : CleanUp) → Cleans t x.run.sig (typing.Var k a) c → FineClean t x.run.sig sc c → IsThere (here s) c → R) → InScope x.run.scope k a → R
   scope k a R f i =
-      in_scope t x.run.sig x.run.base (here s) k a R f s.run.control x.run.scope (control.left t x.run.sig x.run.base x.run.scope s.run.control (onto given x.run.own) x.run.ok) h.stack.1 (λ j. in_base t x.run.sig s.env.frames s.run.frame k a R f s.run.handles x.run.base s.callers h.stack.2 x.run.ends j) i
+      in_scope t x.run.sig x.run.base (here s) k a R f s.run.control x.run.scope (control.left t x.run.sig x.run.base x.run.scope s.run.control (onto given x.run.own) x.run.ok) (held_there Any (here s) s.run.control h.stack.1) (λ j. in_base t x.run.sig s.env.frames s.run.frame k a R f s.run.handles x.run.base s.callers h.stack.2 x.run.ends j) i
 
   variable : (k : ℕ) (a : Ty) → InScope x.run.scope k (Cell a) → Is t a (loaded (variable_at k s) s.env)
   variable k a i =

@@ -1,5 +1,5 @@
 -- A quiet step of a task in which all is there that is in scope and known by its number leads to one.
-use Rattle.std.proofs.Common.{◌≡◌, ℕ, zero, suc, ◌≤◌, ◌++◌, ◌&&◌, Bool, true, false, List, [], ◌∷◌, length, drop, Option, Some, None, refl, arith, ap, ◌∙◌, subst, sym}
+use Rattle.std.proofs.Common.{◌≡◌, ℕ, zero, suc, ◌≤◌, ◌⊎◌, inl, inr, ◌++◌, ◌&&◌, Bool, true, false, List, [], ◌∷◌, length, drop, Option, Some, None, refl, arith, ap, ◌∙◌, subst, sym}
 use Rattle.std.specs.Prelude.{nat_eq, nat_lt, if◌then◌else◌}
 use Rattle.std.proofs.lemmas.Bool.{eq-eqb}
 use Rattle.uc_tree.specs.declared.limits.TheConstants.{CALLS, PENDING_EVENTS}
@@ -26,9 +26,10 @@ use Rattle.uc_machine.specs.Quiet as quiet
 use Rattle.uc_machine.specs.Pieces as piece
 use Rattle.uc_machine.specs.Pieces.{Value, Number, Place, Running, Object, Nothing, Todo, Sort, Active, State, Env, Members, Step, Goes, Ticks, Asks, Outcome, Gives, Faults, at, in_env, goes, fault, asks, turns, top, below, number, nought, is_zero, written}
 use Rattle.uc_scope_laws.specs.Clusters.{Begins, HandlersBegin}
-use Rattle.uc_value_laws.specs.There.{MarkCounted, AllCounted, AllBefore, FrameBefore, frame_at}
-use Rattle.uc_value_laws.specs.ThereStates.{CountedStack, CountedEx, CountedState, CountedStep, RoutineBegins, BodiesBegin}
-use Rattle.uc_value_laws.proofs.Cells.{either, by_mark, set_length, stack_cleared, stack_newer, stack_older, others_length}
+use Rattle.uc_value_laws.specs.There.{HoldsObject, NextBound, NextDrop, NextCall, MayBegin, IsBinder, BindsBy, MarkCounted, LeftBy, AllCounted, AtRest, AtDrop, AtCall, AllLeft, AtBound, Held, AllBefore, FrameBefore, frame_at}
+use Rattle.uc_value_laws.specs.ThereStates.{CountedStack, CountedEx, CountedState, CountedStep, RoutineBegins, BodiesBegin, BoundBehind}
+use Rattle.uc_value_laws.specs.NewClusters.{GoodStepBy}
+use Rattle.uc_value_laws.proofs.Cells.{either, set_length, all_left, held_left, left_on, drop_bound, call_bound, drop_kept, call_kept, drop_next, call_next, list_cleared, stack_cleared, stack_newer, stack_older, others_length}
 use Rattle.uc_value_laws.proofs.Keeping as kept
 use Rattle.uc_value_laws.proofs.Keeping.{Keeps}
 
@@ -66,17 +67,17 @@ module _ (Few : ℕ → Bool) where
   hit_or None n other h k = k
   hit_or (Some y) n other h k = h
 
-  hit_by : (vs : List Value) (k : Sort) (n : ℕ) (e : Event) (other : Option Hit) → MarkCounted Few vs k → HitBegins other → HitBegins (raising.hit_by k n e other)
-  hit_by vs (piece.IsGuard hs) n e other h k = hit_or (raising.handler_for true e hs) n other (handler_begins true e hs h) k
-  hit_by vs s n e other h k = k
+  hit_left : (vs : List Value) (k : Sort) (n : ℕ) (e : Event) (ps : List Todo) → LeftBy Few vs k (AllLeft Few vs ps) (AllCounted Few vs ps) → HitBegins (raising.hit_in e ps) → HitBegins (raising.hit_by k n e (raising.hit_in e ps))
+  hit_left vs (piece.IsGuard hs) n e ps h k = hit_or (raising.handler_for true e hs) n (raising.hit_in e ps) (handler_begins true e hs h.0) k
+  hit_left vs s n e ps h k = k
 
-  hit_in : (vs : List Value) (e : Event) (todo : List Todo) → AllCounted Few vs todo → HitBegins (raising.hit_in e todo)
+  hit_in : (vs : List Value) (e : Event) (todo : List Todo) → AllLeft Few vs todo → HitBegins (raising.hit_in e todo)
   hit_in vs e [] h = tt
-  hit_in vs e (p ∷ ps) h = hit_by vs (piece.sort p) (raising.count_round ps) e (raising.hit_in e ps) (by_mark Few vs p h.0) (hit_in vs e ps h.1)
+  hit_in vs e (p ∷ ps) h = hit_left vs (piece.sort p) (raising.count_round ps) e ps h (hit_in vs e ps (left_on Few vs (piece.sort p) ps h))
 
-  all_within : (vs : List Value) (n : ℕ) (todo : List Todo) → AllCounted Few vs todo → AllCounted Few vs (raising.within n todo)
+  all_within : (vs : List Value) (n : ℕ) (todo : List Todo) → AllLeft Few vs todo → AllLeft Few vs (raising.within n todo)
   all_within vs n [] h = tt
-  all_within vs n (p ∷ ps) h = either (AllCounted Few vs) (nat_eq (raising.count_round (p ∷ ps)) n) (p ∷ ps) (raising.within n ps) h (all_within vs n ps h.1)
+  all_within vs n (p ∷ ps) h = either (AllLeft Few vs) (nat_eq (raising.count_round (p ∷ ps)) n) (p ∷ ps) (raising.within n ps) h (all_within vs n ps (left_on Few vs (piece.sort p) ps h))
 
   abbrev pub FoundTo : ℕ → Option Found → Type 0
   FoundTo n None = Unit {0}
@@ -91,10 +92,10 @@ module _ (Few : ℕ → Bool) where
   seek_to fs n (Some v) e [] l h = tt
   seek_to fs n None e (a ∷ cs) l h =
       let d = h.0 in
-      found_or n (raising.hit_in e a.control) a cs (raising.seek a.handles e cs) (omega (arith, d, l)) (hit_in (frame_at a.frame fs) e a.control h.1) (seek_to fs n a.handles e cs (omega (arith, l)) h.2)
+      found_or n (raising.hit_in e a.control) a cs (raising.seek a.handles e cs) (omega (arith, d, l)) (hit_in (frame_at a.frame fs) e a.control (held_left Few (frame_at a.frame fs) a.control h.1)) (seek_to fs n a.handles e cs (omega (arith, l)) h.2)
   seek_to fs n (Some v) e (a ∷ cs) l h =
       let d = h.0 in
-      either (FoundTo n) (nat_eq (length cs) v.level) (raising.found_or (raising.hit_in e (raising.within v.rest a.control)) a cs (raising.seek a.handles e cs)) (raising.seek (Some v) e cs) (found_or n (raising.hit_in e (raising.within v.rest a.control)) a cs (raising.seek a.handles e cs) (omega (arith, d, l)) (hit_in (frame_at a.frame fs) e (raising.within v.rest a.control) (all_within (frame_at a.frame fs) v.rest a.control h.1)) (seek_to fs n a.handles e cs (omega (arith, l)) h.2)) (seek_to fs n (Some v) e cs (omega (arith, l)) h.2)
+      either (FoundTo n) (nat_eq (length cs) v.level) (raising.found_or (raising.hit_in e (raising.within v.rest a.control)) a cs (raising.seek a.handles e cs)) (raising.seek (Some v) e cs) (found_or n (raising.hit_in e (raising.within v.rest a.control)) a cs (raising.seek a.handles e cs) (omega (arith, d, l)) (hit_in (frame_at a.frame fs) e (raising.within v.rest a.control) (all_within (frame_at a.frame fs) v.rest a.control (held_left Few (frame_at a.frame fs) a.control h.1))) (seek_to fs n a.handles e cs (omega (arith, l)) h.2)) (seek_to fs n (Some v) e cs (omega (arith, l)) h.2)
 
   -- to-do lists, in a frame of these values
 
@@ -111,7 +112,7 @@ module _ (Few : ℕ → Bool) where
 
     pub starts : (cell : ℕ) (v : Option Expr) (todo : List Todo) → AllCounted Few vs todo → AllCounted Few vs (quiet.starting cell v todo)
     starts cell None todo h = h
-    starts cell (Some e) todo h = (tt, (tt, (tt, h)))
+    starts cell (Some e) todo h = inl (inl (tt, h))
 
     converts : (k : Shape) (todo : List Todo) → AllCounted Few vs todo → AllCounted Few vs (quiet.converting k todo)
     converts src.Character todo h = (tt, h)
@@ -120,50 +121,50 @@ module _ (Few : ℕ → Bool) where
 
     pub stepped : (e : Option Expr) (todo : List Todo) → AllCounted Few vs todo → AllCounted Few vs (quiet.step_todo e todo)
     stepped None todo h = h
-    stepped (Some e) todo h = (tt, (tt, h))
+    stepped (Some e) todo h = inl (tt, h)
 
     pub tested : (order : Order) (t : Expr) (e : Option Expr) (b : Stmt) (todo : List Todo) → AllCounted Few vs todo → AllCounted Few vs (quiet.test_todo order t e b todo)
-    tested src.TestFirst t e b todo h = (tt, (tt, h))
-    tested src.BodyFirst t e b todo h = (tt, (tt, h))
+    tested src.TestFirst t e b todo h = inl (tt, h)
+    tested src.BodyFirst t e b todo h = inl (tt, h)
     tested src.NoTest t e b todo h = (tt, h)
 
     looped : (order : Order) (t : Expr) (e : Option Expr) (b : Stmt) (todo : List Todo) → AllCounted Few vs todo → AllCounted Few vs (quiet.loop_todo order t e b todo)
-    looped src.TestFirst t e b todo h = (tt, (tt, h))
+    looped src.TestFirst t e b todo h = inl (tt, h)
     looped src.BodyFirst t e b todo h = (tt, h)
     looped src.NoTest t e b todo h = (tt, h)
 
     loop_left : (w : Way) (order : Order) (t : Expr) (e : Option Expr) (b : Stmt) (todo : List Todo) → AllCounted Few vs todo → AllCounted Few vs (quiet.loop_left w order t e b todo)
     loop_left src.ToBreak order t e b todo h = h
     loop_left src.ToContinue order t e b todo h = (tt, h)
-    loop_left src.ToReturn order t e b todo h = (tt, h)
-    loop_left src.ToEnd order t e b todo h = (tt, h)
+    loop_left src.ToReturn order t e b todo h = all_left Few vs todo h
+    loop_left src.ToEnd order t e b todo h = all_left Few vs todo h
 
-    left_behind : (w : Way) (k : Sort) (todo : List Todo) → MarkCounted Few vs k → AllCounted Few vs todo → AllCounted Few vs (quiet.left_behind w k todo)
-    left_behind w piece.Simple todo c h = (tt, h)
-    left_behind w (piece.IsLoop order t e b) todo c h = loop_left w order t e b todo h
-    left_behind w piece.IsWhole todo c h = h
-    left_behind w (piece.IsClean x) todo c h = (c, (tt, h))
-    left_behind w (piece.IsFill m b d) todo c h = (tt, h)
-    left_behind w (piece.IsSweep e) todo c h = (tt, h)
-    left_behind w (piece.IsPart x) todo c h = (tt, h)
-    left_behind w (piece.IsGuard hs) todo c h = (tt, h)
-    left_behind w piece.IsFinish todo c h = (tt, h)
-    left_behind w piece.IsFinishCoroutine todo c h = (tt, h)
+    left_behind : (w : Way) (k : Sort) (todo : List Todo) → LeftBy Few vs k (AllLeft Few vs todo) (AllCounted Few vs todo) → AllCounted Few vs (quiet.left_behind w k todo)
+    left_behind w piece.Simple todo h = h
+    left_behind w (piece.IsLoop order t e b) todo h = loop_left w order t e b todo h.1
+    left_behind w piece.IsWhole todo h = h.1
+    left_behind w (piece.IsClean x) todo h = (h.0, all_left Few vs todo h.1)
+    left_behind w (piece.IsFill m b d) todo h = all_left Few vs todo h.1
+    left_behind w (piece.IsSweep e) todo h = all_left Few vs todo h.1
+    left_behind w (piece.IsPart x) todo h = all_left Few vs todo h.1
+    left_behind w (piece.IsGuard hs) todo h = all_left Few vs todo h.1
+    left_behind w piece.IsFinish todo h = (tt, h.1)
+    left_behind w piece.IsFinishCoroutine todo h = (tt, h.1)
 
     pub filled : (b : Bool) (n : ℕ) (e d : Expr) (todo : List Todo) → AllCounted Few vs todo → AllCounted Few vs (quiet.fill_todo b n e d todo)
     filled false n e d todo h = h
-    filled true n e d todo h = (tt, (tt, (tt, (tt, h))))
+    filled true n e d todo h = inl (tt, (tt, (tt, h)))
 
     raised : (r : Raised) (todo : List Todo) → AllCounted Few vs todo → AllCounted Few vs (raising.raised_todo r todo)
-    raised (src.Plainly n) todo h = (tt, (tt, (tt, h)))
-    raised (src.BuiltAt n c e) todo h = (tt, (tt, (tt, (tt, (tt, (tt, h))))))
-    raised (src.AgainFrom c) todo h = (tt, (tt, (tt, h)))
+    raised (src.Plainly n) todo h = inl (inl (inl h))
+    raised (src.BuiltAt n c e) todo h = (tt, inl (tt, inl (inl (inl h))))
+    raised (src.AgainFrom c) todo h = inl (inl (inl h))
 
     handled : (x : Handler) (todo : List Todo) → Begins x.body → AllCounted Few vs todo → AllCounted Few vs (raising.handler_todo x todo)
     handled x todo b h = (tt, (tt, (tt, (tt, (tt, (tt, (b, (tt, h))))))))
 
     pub cleans : (c : CleanUp) (todo : List Todo) → AllCounted Few vs todo → AllCounted Few vs (piece.clean_todo c todo)
-    cleans (src.Destroys e) todo h = (tt, (tt, h))
+    cleans (src.Destroys e) todo h = inl (tt, h)
     cleans (src.DestroysAll k e) todo h = (tt, (tt, h))
     cleans src.Unwinds todo h = (tt, h)
     cleans src.Forgets todo h = (tt, h)
@@ -179,17 +180,17 @@ module _ (Few : ℕ → Bool) where
 
     pub branch : (k : ℕ) (cs : Clauses) (todo : List Todo) → AllCounted Few vs todo → AllCounted Few vs (monitors.branch_todo k cs todo)
     branch k src.NoClauses todo h = h
-    branch k (src.Otherwise b) todo h = either (AllCounted Few vs) (nat_eq k 0) (piece.Do b ∷ todo) todo (tt, h) h
+    branch k (src.Otherwise b) todo h = either (AllCounted Few vs) (nat_eq k 0) (piece.Do b ∷ todo) todo (inl h) h
     branch zero (src.MoreClauses guard b cs) todo h = branch zero cs todo h
-    branch (suc zero) (src.MoreClauses guard b cs) todo h = (tt, h)
+    branch (suc zero) (src.MoreClauses guard b cs) todo h = inl h
     branch (suc (suc k)) (src.MoreClauses guard b cs) todo h = branch (suc k) cs todo h
 
     pub item : (i : Item) (todo : List Todo) → AllCounted Few vs todo → AllCounted Few vs (quiet.item_todo i todo)
-    item (src.Show f e) todo h = (tt, (tt, h))
+    item (src.Show f e) todo h = inl (tt, h)
     item (src.ShowText k) todo h = (tt, h)
 
     pub item_value : (i : Item) (todo : List Todo) → AllCounted Few vs todo → AllCounted Few vs (quiet.item_value i todo)
-    item_value (src.Show f e) todo h = (tt, h)
+    item_value (src.Show f e) todo h = inl h
     item_value (src.ShowText k) todo h = h
 
     pub item_piece : (i : Item) (todo : List Todo) → AllCounted Few vs todo → AllCounted Few vs (quiet.item_piece i ∷ todo)
@@ -206,12 +207,20 @@ module _ (Few : ℕ → Bool) where
 
     -- with something else to do, and other operands
     pub go : (todo : List Todo) (vs : List Value) → There todo → CountedState Few (at todo vs s)
-    go todo vs h = record { frames = st.frames; stack = (st.stack.0, h, st.stack.2); env = st.env }
+    go todo vs h = record { frames = st.frames; stack = (st.stack.0, inl h, st.stack.2); env = st.env }
+
+    pub go_held : (todo : List Todo) (vs : List Value) → Held Few (here s) todo → CountedState Few (at todo vs s)
+    go_held todo vs h = record { frames = st.frames; stack = (st.stack.0, h, st.stack.2); env = st.env }
 
     -- and with another rest of the task
     pub go_in : (todo : List Todo) (vs : List Value) (e : Env) → Keeps Few s.env e → There todo → CountedState Few (at todo vs (in_env e s))
     go_in todo vs e k h =
-        record { frames = k.frames ∙ st.frames; stack = k.stack (record s.run { control = todo; operands = vs } ∷ s.callers) (st.stack.0, h, st.stack.2); env = k.env }
+        record { frames = k.frames ∙ st.frames; stack = (st.stack.0, inl (k.lists s.run.frame todo h), k.stack s.callers st.stack.2); env = k.env }
+
+    -- what opens next is bound
+    pub bound_in : (todo : List Todo) (vs : List Value) (e : Env) → Keeps Few s.env e → AtBound Few (frame_at s.run.frame e.frames) todo → NextBound (HoldsObject (frame_at s.run.frame e.frames)) todo → CountedState Few (at todo vs (in_env e s))
+    bound_in todo vs e k h b =
+        record { frames = k.frames ∙ st.frames; stack = (st.stack.0, inr (h, b), k.stack s.callers st.stack.2); env = k.env }
 
     -- nothing that is told of changes
     pub like : {e : Env} → e.frames ≡ s.env.frames → e.hand ≡ s.env.hand → e.house ≡ s.env.house → Keeps Few s.env e
@@ -235,7 +244,7 @@ module _ (Few : ℕ → Bool) where
     past v given [] l h = st
     past v given (a ∷ cs) l h =
         let k = less a cs l h in
-        record { frames = others_length s.env.frames (length cs) l; stack = (k.0, (tt, k.1), k.2); env = kept.like Few st.env refl refl }
+        record { frames = others_length s.env.frames (length cs) l; stack = (k.0, inl (held_left Few _ _ k.1), k.2); env = kept.like Few st.env refl refl }
 
     end_by : (v : Option Visited) (given : Value) → CountedStep Few (raising.end_by v given s)
     end_by None given = returned given s.callers st.frames st.stack.2
@@ -251,7 +260,7 @@ module _ (Few : ℕ → Bool) where
     pass_on None c cs l h = st
     pass_on (Some why) c cs l h =
         let k = less c cs l h in
-        record { frames = others_length s.env.frames (length cs) l; stack = (k.0, (tt, k.1), k.2); env = kept.like Few st.env refl refl }
+        record { frames = others_length s.env.frames (length cs) l; stack = (k.0, inl (held_left Few _ _ k.1), k.2); env = kept.like Few st.env refl refl }
 
     leave_for : (b : Bool) (c : Active) (cs : List Active) → length s.env.frames ≡ suc (length (c ∷ cs)) → CountedStack Few s.env.frames (c ∷ cs) → CountedStep Few (raising.leave_for b c cs s)
     leave_for true c cs l h = st
@@ -280,63 +289,73 @@ module _ (Few : ℕ → Bool) where
     object src.This todo h = go _ _ h
     object (src.OwnField k i) todo h = go _ _ h
     object (src.GetOwn k i) todo h = go _ _ h
-    object (src.FieldOf k i a) todo h = go _ _ (tt, (tt, h))
+    object (src.FieldOf k i a) todo h = go _ _ (inl (tt, h))
     object src.Counted todo h = go _ _ h
-    object (src.CallOn r a args) todo h = go _ _ (tt, (tt, (tt, (tt, h))))
-    object (src.CallLive r a args) todo h = go _ _ (tt, (tt, (tt, (tt, (tt, h)))))
-    object (src.CallUnwritten r a) todo h = go _ _ (tt, (tt, h))
-    object (src.EnterOn m r a args) todo h = go _ _ (tt, (tt, (tt, (tt, (tt, h)))))
-    object (src.EndOn r false a) todo h = go _ _ (tt, (tt, (tt, h)))
-    object (src.EndOn r true a) todo h = go _ _ (tt, (tt, (tt, (tt, h))))
-    object (src.Bind a b) todo h = go _ _ (tt, (tt, (tt, h)))
-    object (src.MakeOn c r false a args) todo h = go _ _ (tt, (tt, (tt, (tt, h))))
-    object (src.MakeOn c r true a args) todo h = go _ _ (tt, (tt, (tt, (tt, (tt, h)))))
+    object (src.CallOn r a args) todo h = go _ _ (inl (tt, (tt, (tt, h))))
+    object (src.CallLive r a args) todo h = go _ _ (inl (tt, (tt, (tt, (tt, h)))))
+    object (src.CallUnwritten r a) todo h = go _ _ (inl (tt, h))
+    object (src.EnterOn m r a args) todo h = go _ _ (inl (tt, (tt, (tt, (tt, h)))))
+    object (src.EndOn r false a) todo h = go _ _ (inl (tt, (tt, h)))
+    object (src.EndOn r true a) todo h = go _ _ (inl (tt, (tt, (tt, h))))
+    object (src.Bind a b) todo h = go _ _ (inl (inl (inl h)))
+    object (src.MakeOn c r false a args) todo h = go _ _ (inl (tt, inl (tt, h)))
+    object (src.MakeOn c r true a args) todo h = go _ _ (inl (tt, (tt, inl (tt, h))))
     object src.NewCluster todo h = go _ _ (tt, h)
-    object (src.NewProcessor a) todo h = go _ _ (tt, (tt, h))
-    object (src.EndCluster a) todo h = go _ _ (tt, (tt, h))
-    object (src.EndProcessor a) todo h = go _ _ (tt, (tt, h))
-    object (src.ConditionAt k m a) todo h = go _ _ (tt, (tt, h))
-    object (src.Wait a b) todo h = go _ _ (tt, (tt, (tt, (tt, h))))
-    object (src.Signal a) todo h = go _ _ (tt, (tt, h))
-    object (src.SignalBlock a) todo h = go _ _ (tt, (tt, h))
-    object (src.IsEmpty a) todo h = go _ _ (tt, (tt, h))
-    object (src.FrontOf a) todo h = go _ _ (tt, (tt, h))
+    object (src.NewProcessor a) todo h = go _ _ (inl (tt, h))
+    object (src.EndCluster a) todo h = go _ _ (inl (tt, h))
+    object (src.EndProcessor a) todo h = go _ _ (inl (tt, h))
+    object (src.ConditionAt k m a) todo h = go _ _ (inl (tt, h))
+    object (src.Wait a b) todo h = go _ _ (inl (inl (tt, (tt, h))))
+    object (src.Signal a) todo h = go _ _ (inl (tt, h))
+    object (src.SignalBlock a) todo h = go _ _ (inl (tt, h))
+    object (src.IsEmpty a) todo h = go _ _ (inl (tt, h))
+    object (src.FrontOf a) todo h = go _ _ (inl (tt, h))
 
     pub eval : (a : Expr) (todo : List Todo) → There todo → CountedStep Few (quiet.eval_step a todo s)
     eval (src.Literal k) todo h = go _ _ h
     eval (src.Variable k) todo h = go _ _ h
-    eval (src.Element m k a i) todo h = go _ _ (tt, (tt, (tt, h)))
+    eval (src.Element m k a i) todo h = go _ _ (inl (inl (tt, h)))
     eval (src.Get k) todo h = go _ _ h
-    eval (src.Load a) todo h = go _ _ (tt, (tt, h))
-    eval (src.Negated a) todo h = go _ _ (tt, (tt, h))
-    eval (src.Not a) todo h = go _ _ (tt, (tt, h))
-    eval (src.AsCharacter a) todo h = go _ _ (tt, (tt, h))
-    eval (src.AsTruth a) todo h = go _ _ (tt, (tt, h))
-    eval (src.Operate op a b) todo h = go _ _ (tt, (tt, (tt, h)))
-    eval (src.And a b) todo h = go _ _ (tt, (tt, h))
-    eval (src.Or a b) todo h = go _ _ (tt, (tt, h))
-    eval (src.Set k a) todo h = go _ _ (tt, (tt, h))
-    eval (src.Assign p a) todo h = go _ _ (tt, (tt, (tt, h)))
-    eval (src.First a b) todo h = go _ _ (tt, (tt, (tt, h)))
-    eval (src.Update op k p a) todo h = go _ _ (tt, (tt, (tt, (tt, (tt, converts (here s) k _ (tt, h))))))
-    eval (src.StepBehind op k p) todo h = go _ _ (tt, (tt, (tt, (tt, (tt, (tt, (tt, converts (here s) k _ (tt, (tt, h)))))))))
+    eval (src.Load a) todo h = go _ _ (inl (tt, h))
+    eval (src.Negated a) todo h = go _ _ (inl (tt, h))
+    eval (src.Not a) todo h = go _ _ (inl (tt, h))
+    eval (src.AsCharacter a) todo h = go _ _ (inl (tt, h))
+    eval (src.AsTruth a) todo h = go _ _ (inl (tt, h))
+    eval (src.Operate op a b) todo h = go _ _ (inl (inl (tt, h)))
+    eval (src.And a b) todo h = go _ _ (inl (tt, h))
+    eval (src.Or a b) todo h = go _ _ (inl (tt, h))
+    eval (src.Set k a) todo h = go _ _ (inl (tt, h))
+    eval (src.Assign p a) todo h = go _ _ (inl (inl (tt, h)))
+    eval (src.First a b) todo h = go _ _ (inl (inl (tt, h)))
+    eval (src.Update op k p a) todo h = go _ _ (inl (tt, (tt, inl (tt, converts (here s) k _ (tt, h)))))
+    eval (src.StepBehind op k p) todo h = go _ _ (inl (tt, (tt, (tt, (tt, inl (tt, converts (here s) k _ (tt, (tt, h))))))))
     eval src.Fail todo h = go _ _ h
     eval (src.Call r args) todo h = go _ _ (tt, (tt, (tt, h)))
     eval (src.OfObject x) todo h = object x todo h
+
+    binds : (a : Expr) (todo : List Todo) → IsBinder a → AtDrop Few (here s) todo → CountedStep Few (quiet.eval_step a todo s)
+    binds (src.OfObject (src.Bind a b)) todo i h = go _ _ (inl (inl (inr h)))
+    binds (src.OfObject (src.MakeOn c r false a args)) todo i h = go _ _ (inl (tt, inr h))
+    binds (src.OfObject (src.MakeOn c r true a args)) todo i h = go _ _ (inl (tt, (tt, inr h)))
+    binds a todo i h = absurd i
+
+    pub evals : (a : Expr) (todo : List Todo) → There (piece.Eval a ∷ todo) → CountedStep Few (quiet.eval_step a todo s)
+    evals a todo (inl h) = eval a todo h
+    evals a todo (inr h) = binds a todo h.0 h.1
 
     -- statements
 
     pub swept : (n : ℕ) (e : Expr) (todo : List Todo) → There todo → CountedStep Few (quiet.sweep_step n e todo s)
     swept zero e todo h = go _ _ h
-    swept (suc m) e todo h = record { frames = st.frames; stack = (st.stack.0, (tt, (tt, (tt, h))), st.stack.2); env = st.env }
+    swept (suc m) e todo h = record { frames = st.frames; stack = (st.stack.0, inl (inl (tt, (tt, h))), st.stack.2); env = st.env }
 
     event_step : (a : EventStmt) (todo : List Todo) → BodiesBegin (src.OfEvents a) → There todo → CountedStep Few (quiet.event_step a todo s)
     event_step (src.Throw line r) todo b h = go _ _ (raised (here s) r _ (tt, (tt, h)))
     event_step (src.Raise line r) todo b h = go _ _ (raised (here s) r _ (tt, (tt, h)))
     event_step (src.Try line body hs) todo b h = go _ _ (b.0, (b.1, (tt, h)))
-    event_step (src.RaiseAt line r a) todo b h = go _ _ (raised (here s) r _ (tt, (tt, (tt, h))))
-    event_step (src.Enable line events cell a) todo b h = go _ _ (tt, (tt, (tt, ((tt, tt), (tt, h)))))
-    event_step (src.Disable line events cell a) todo b h = go _ _ (tt, (tt, ((tt, tt), (tt, h))))
+    event_step (src.RaiseAt line r a) todo b h = go _ _ (raised (here s) r _ (inl (tt, (tt, h))))
+    event_step (src.Enable line events cell a) todo b h = go _ _ (tt, (tt, inl ((tt, tt), (tt, h))))
+    event_step (src.Disable line events cell a) todo b h = go _ _ (tt, inl ((tt, tt), (tt, h)))
 
     task_step : (a : TaskStmt) (todo : List Todo) → There todo → CountedStep Few (quiet.task_step a todo s)
     task_step (src.Resume line) todo h = go _ _ (tt, (tt, (tt, h)))
@@ -345,71 +364,81 @@ module _ (Few : ℕ → Bool) where
     task_step src.Enliven todo h = go _ _ (tt, h)
     task_step src.TakeDown todo h = go _ _ (tt, h)
     task_step (src.Yield line) todo h = go _ _ (tt, (tt, (tt, h)))
-    task_step (src.Migrate line a) todo h = go _ _ (tt, (tt, (tt, h)))
+    task_step (src.Migrate line a) todo h = go _ _ (inl (tt, (tt, h)))
     task_step (src.Accept line site cs) todo h = go _ _ (tt, (tt, (tt, (tt, h))))
 
-    pub stmt : (a : Stmt) (todo : List Todo) → BodiesBegin a → There todo → CountedStep Few (quiet.stmt_step a todo s)
+    stmt : (a : Stmt) (todo : List Todo) → BodiesBegin a → There todo → CountedStep Few (quiet.stmt_step a todo s)
     stmt (src.Skip line) todo f h = go _ _ h
     stmt (src.Block line body) todo f h = go _ _ (f, (tt, h))
     stmt (src.Whole line body) todo f h = go _ _ (f, (tt, (tt, h)))
-    stmt (src.Evaluate line a) todo f h = go _ _ (tt, (tt, (tt, h)))
+    stmt (src.Evaluate line a) todo f h = go _ _ (inl (tt, (tt, h)))
     stmt (src.Declare line ds) todo f h = go _ _ (tt, (tt, h))
     stmt (src.Print line items) todo f h = go _ _ (tt, (tt, h))
     stmt (src.PrintTogether line items) todo f h = go _ _ (tt, (tt, (tt, (tt, (tt, h)))))
     stmt (src.Read line ts) todo f h = go _ _ (tt, (tt, h))
-    stmt (src.If line t a b) todo f h = go _ _ (tt, (tt, (tt, h)))
+    stmt (src.If line t a b) todo f h = go _ _ (inl (tt, (tt, h)))
     stmt (src.Loop line order t e b) todo f h = go _ _ (looped (here s) order t e b _ (tt, h))
-    stmt (src.Break line) todo f h = go _ _ (tt, h)
-    stmt (src.Continue line) todo f h = go _ _ (tt, h)
-    stmt (src.Return line None) todo f h = go _ _ (tt, h)
-    stmt (src.Return line (Some e)) todo f h = go _ _ (tt, (tt, (tt, h)))
+    stmt (src.Break line) todo f h = go _ _ (all_left Few (here s) todo h)
+    stmt (src.Continue line) todo f h = go _ _ (all_left Few (here s) todo h)
+    stmt (src.Return line None) todo f h = go _ _ (all_left Few (here s) todo h)
+    stmt (src.Return line (Some e)) todo f h = go _ _ (inl (all_left Few (here s) (piece.Within line ∷ todo) (tt, h)))
     stmt (src.Owes line) todo f h = go _ _ (tt, (tt, h))
     stmt (src.Fill line m b d) todo f h = go _ _ (tt, (tt, (tt, h)))
     stmt (src.OfEvents a) todo f h = event_step a todo f h
     stmt (src.OfTasks a) todo f h = task_step a todo h
 
+    stmt_binds : (a : Stmt) (todo : List Todo) → BindsBy a → AtRest Few (here s) todo → CountedStep Few (quiet.stmt_step a todo s)
+    stmt_binds (src.Evaluate line a) todo i h = go _ _ (inr (i, h))
+    stmt_binds a todo i h = absurd i
+
+    pub stmts : (a : Stmt) (todo : List Todo) → BodiesBegin a → There (piece.Do a ∷ todo) → CountedStep Few (quiet.stmt_step a todo s)
+    stmts a todo f (inl h) = stmt a todo f h
+    stmts a todo f (inr h) = stmt_binds a todo h.0 h.1
+
     -- statements that are left of a block, of which the first one is taken
     pub rest_with : (a : Stmt) (ss : Stmts) (todo : List Todo) → Begins ss → There todo → CountedStep Few (quiet.rest_step (src.Then a ss) todo s)
-    rest_with a ss todo b h = go _ _ (tt, (b, h))
+    rest_with a ss todo b h = go _ _ (inl (b, h))
+
+    -- it binds what is in scope behind it
+    pub rest_binds : (a : Stmt) (ss : Stmts) (todo : List Todo) → BindsBy a → MayBegin ss → There todo → CountedStep Few (quiet.rest_step (src.Then a ss) todo s)
+    rest_binds a ss todo i b h = go _ _ (inr (i, (b, h)))
 
     -- cells start anew
-    pub clears : (k m : ℕ) (todo : List Todo) → s.run.control ≡ piece.ClearNow k m ∷ todo → FrameBefore k s.run.frame (s.run ∷ s.callers) → There todo → CountedStep Few (quiet.turns todo (in_env (piece.cleared k m s) s))
-    clears k m todo e f h =
-        let lies : AllBefore k (piece.ClearNow k m ∷ todo) = subst (AllBefore k) e (f.0 refl) in
-        let there : CountedStack Few s.env.frames (record s.run { control = todo } ∷ s.callers) = (st.stack.0, h, st.stack.2) in
+    pub clears : (k m : ℕ) (todo : List Todo) → AllBefore k todo × FrameBefore k s.run.frame s.callers → There todo → CountedStep Few (quiet.turns todo (in_env (piece.cleared k m s) s))
+    clears k m todo f h =
         subst (λ (b : Bool). CountedState Few (at todo s.run.operands (in_env (if b then record s.env { frames = frame_changed s.run.frame (values_cleared k m nought) s.env.frames } else change s.env.exec.home (frames_changed s.env.exec.serial (frame_changed s.run.frame (values_cleared k m nought))) s.env) s))) (sym (exec_same s.env.exec)) (record {
           frames = set_length s.env.frames s.run.frame (values_cleared k m nought (here s)) ∙ st.frames;
-          stack = stack_cleared Few s.run.frame k m s.env.frames (record s.run { control = todo } ∷ s.callers) ((λ q. lies.1), f.1) there;
+          stack = (st.stack.0, inl (list_cleared Few s.run.frame k m s.env.frames todo f.0 h), stack_cleared Few s.run.frame k m s.env.frames s.callers f.1 st.stack.2);
           env = kept.like Few st.env refl refl;
         })
 
     -- calls
 
-    begun : (r : Routine) (this : Value) (counts : Bool) (todo : List Todo) (vs : List Value) → Begins r.body → There todo → CountedStep Few (quiet.begun_step r this counts todo vs s)
+    begun : (r : Routine) (this : Value) (counts : Bool) (todo : List Todo) (vs : List Value) → Begins r.body → Held Few (here s) todo → CountedStep Few (quiet.begun_step r this counts todo vs s)
     begun r this counts todo vs b h =
         let n = st.frames in
         record {
           frames = ap suc st.frames;
-          stack = (omega (arith, n), routine _ r b, stack_newer Few _ s.env.frames (record s.run { control = todo; operands = vs } ∷ s.callers) (omega (arith, n)) (st.stack.0, h, st.stack.2));
+          stack = (omega (arith, n), inl (routine _ r b), stack_newer Few _ s.env.frames (record s.run { control = todo; operands = vs } ∷ s.callers) (omega (arith, n)) (st.stack.0, h, st.stack.2));
           env = kept.like Few st.env refl refl;
         }
 
     pub call : (r : Option Routine) (todo : List Todo) → RoutineBegins r → There todo → CountedStep Few (quiet.call_step r todo s)
     call None todo b h = go _ _ h
-    call (Some r) todo b h = either (CountedStep Few) (nat_lt s.env.links.calls CALLS) _ _ (begun r _ true todo _ b h) (go todo _ h)
+    call (Some r) todo b h = either (CountedStep Few) (nat_lt s.env.links.calls CALLS) _ _ (begun r _ true todo _ b (inl h)) (go todo _ h)
 
-    pub call_on : (r : Option Routine) (todo : List Todo) → RoutineBegins r → There todo → CountedStep Few (quiet.call_on_step r todo s)
-    call_on None todo b h = go _ _ h
-    call_on (Some r) todo b h = either (CountedStep Few) (nat_lt s.env.links.calls CALLS) _ _ (begun r _ true todo _ b h) (go todo _ h)
+    pub call_on : (r : Option Routine) (todo : List Todo) → RoutineBegins r → Held Few (here s) todo → CountedStep Few (quiet.call_on_step r todo s)
+    call_on None todo b h = go_held _ _ h
+    call_on (Some r) todo b h = either (CountedStep Few) (nat_lt s.env.links.calls CALLS) _ _ (begun r _ true todo _ b h) (go_held todo _ h)
 
-    pub call_unwritten : (r : Option Routine) (todo : List Todo) → RoutineBegins r → There todo → CountedStep Few (quiet.call_unwritten_step r todo s)
-    call_unwritten None todo b h = go _ _ h
+    pub call_unwritten : (r : Option Routine) (todo : List Todo) → RoutineBegins r → Held Few (here s) todo → CountedStep Few (quiet.call_unwritten_step r todo s)
+    call_unwritten None todo b h = go_held _ _ h
     call_unwritten (Some r) todo b h = begun r _ false todo _ b h
 
     -- coroutines
 
     fresh : (r : Routine) (this : Value) → Begins r.body → CountedEx Few (quiet.fresh r this)
-    fresh r this b = record { frames = refl; stack = (omega arith, routine _ r b, tt) }
+    fresh r this b = record { frames = refl; stack = (omega arith, inl (routine _ r b), tt) }
 
     pub set_up : (r : Option Routine) (todo : List Todo) → RoutineBegins r → There todo → CountedStep Few (quiet.set_up_step r todo s)
     set_up None todo b h = go _ _ h
@@ -425,7 +454,7 @@ module _ (Few : ℕ → Bool) where
 
     pub land : (w : Option UnwindReason) (todo : List Todo) → There todo → CountedStep Few (quiet.land_step w todo s)
     land None todo h = go _ _ h
-    land (Some why) todo h = go _ _ (tt, h)
+    land (Some why) todo h = go _ _ (all_left Few (here s) todo h)
 
     -- mutex objects
 
@@ -445,16 +474,35 @@ module _ (Few : ℕ → Bool) where
     pub leave : (b : Bool) (q : ℕ) (todo : List Todo) → There todo → CountedStep Few (monitors.leave_at b q todo s)
     leave false q todo h = go_in _ _ _ (like refl refl refl) h
     leave true q todo h =
-        unless q _ todo h (record { frames = st.frames; stack = (st.stack.0, polled (here s) s.run.raised todo h, st.stack.2); env = kept.like Few st.env refl refl })
+        unless q _ todo h (record { frames = st.frames; stack = (st.stack.0, inl (polled (here s) s.run.raised todo h), st.stack.2); env = kept.like Few st.env refl refl })
 
     pub make : (c n : ℕ) (r : Option Routine) (todo : List Todo) → There todo → CountedStep Few (monitors.make_step c n r todo s)
     make c n None todo h = go _ _ h
     make c n (Some r) todo h =
-        either (CountedStep Few) (monitors.may_call r.written s) _ _ (go_in _ _ _ (like refl refl refl) (tt, h)) (go todo _ h)
+        either (CountedStep Few) (monitors.may_call r.written s) _ _ (go_in _ _ _ (like refl refl refl) (inl h)) (go todo _ h)
 
     pub bind : (r : Option Routine) (todo : List Todo) → There todo → CountedStep Few (monitors.bind_step r todo s)
     bind None todo h = go _ _ h
     bind (Some r) todo h = go_in _ _ _ (kept.written_keeps Few _ _ s.env st.env) h
+
+    -- for a variable whose scope opens behind the call
+    pub makes : (c n : ℕ) (r : Option Routine) (todo : List Todo) → AtCall Few (here s) todo → GoodStepBy Few (monitors.make_step c n r todo s)
+    makes c n None todo h = inr (inr (tt, st.env))
+    makes c n (Some r) todo h =
+        either (GoodStepBy Few) (monitors.may_call r.written s) _ _ (inl (go_in _ _ _ (like refl refl refl) (inr h))) (inr (inr (tt, st.env)))
+
+    pub made : (r : Option Routine) (todo : List Todo) → BoundBehind (λ P. NextCall P todo) (monitors.bind_step r todo s) → AtCall Few (here s) todo → GoodStepBy Few (monitors.bind_step r todo s)
+    made None todo f h = inr (inr (tt, st.env))
+    made (Some r) todo f h =
+        let e : Env = written (top (drop r.params (below s.run.operands))) (top s.run.operands) s.env in
+        let k : Keeps Few s.env e = kept.written_keeps Few (top (drop r.params (below s.run.operands))) (top s.run.operands) s.env st.env in
+        inl (bound_in todo _ e k (call_bound Few (frame_at s.run.frame e.frames) todo (call_kept Few (here s) (frame_at s.run.frame e.frames) (k.lists s.run.frame) todo h)) (call_next Few (HoldsObject (frame_at s.run.frame e.frames)) (here s) todo h f))
+
+    pub bound : (todo : List Todo) → NextDrop (HoldsObject (frame_at s.run.frame (written (top (below s.run.operands)) (top s.run.operands) s.env).frames)) todo → AtDrop Few (here s) todo → CountedStep Few (piece.goes todo (top s.run.operands ∷ below (below s.run.operands)) (in_env (written (top (below s.run.operands)) (top s.run.operands) s.env) s))
+    bound todo f h =
+        let e : Env = written (top (below s.run.operands)) (top s.run.operands) s.env in
+        let k : Keeps Few s.env e = kept.written_keeps Few (top (below s.run.operands)) (top s.run.operands) s.env st.env in
+        bound_in todo _ e k (drop_bound Few (frame_at s.run.frame e.frames) todo (drop_kept Few (here s) (frame_at s.run.frame e.frames) (k.lists s.run.frame) todo h)) (drop_next Few (HoldsObject (frame_at s.run.frame e.frames)) (here s) todo h f)
 
     pub condition : (n : ℕ) (i : Option ℕ) (todo : List Todo) → There todo → CountedStep Few (monitors.condition_step n i todo s)
     condition n None todo h = go todo _ h
@@ -506,12 +554,12 @@ module _ (Few : ℕ → Bool) where
     told : (b : Active) → b.frame ≡ s.run.frame → There b.control → CountedState Few (record s { run = b })
     told b e h = record {
       frames = st.frames;
-      stack = (subst (λ f. f ≤ length s.callers) (sym e) st.stack.0, subst (λ f. AllCounted Few (frame_at f s.env.frames) b.control) (sym e) h, st.stack.2);
+      stack = (subst (λ f. f ≤ length s.callers) (sym e) st.stack.0, inl (subst (λ f. AllCounted Few (frame_at f s.env.frames) b.control) (sym e) h), st.stack.2);
       env = st.env;
     }
 
     pub throws : (e : Event) (todo : List Todo) → There todo → CountedStep Few (raising.throw_step e todo s)
-    throws e todo h = told _ refl (tt, h)
+    throws e todo h = told _ refl (all_left Few (here s) todo h)
 
     -- the handler of a resumption begins
     handles : (o : Option Found) (e : Event) (todo : List Todo) → FoundTo (suc (length s.callers)) o → There todo → CountedStep Few (raising.handle_step o e todo s)
@@ -520,31 +568,31 @@ module _ (Few : ℕ → Bool) where
         let n = st.frames in
         record {
           frames = ap suc st.frames;
-          stack = (f.0, handled (frame_at x.frame ([] ∷ s.env.frames)) x.handler [] f.1 tt, stack_newer Few [] s.env.frames (record s.run { control = piece.DropNow ∷ todo; operands = below (below (below s.run.operands)) } ∷ s.callers) (omega (arith, n)) (st.stack.0, (tt, h), st.stack.2));
+          stack = (f.0, inl (handled (frame_at x.frame ([] ∷ s.env.frames)) x.handler [] f.1 tt), stack_newer Few [] s.env.frames (record s.run { control = piece.DropNow ∷ todo; operands = below (below (below s.run.operands)) } ∷ s.callers) (omega (arith, n)) (st.stack.0, inl (tt, h), st.stack.2));
           env = kept.like Few st.env refl refl;
         }
 
     pub raises : (e : Event) (todo : List Todo) → There todo → CountedStep Few (raising.raise_step e todo s)
     raises e todo h =
-        handles (raising.seek None e (record s.run { control = todo } ∷ s.callers)) e todo (seek_to s.env.frames (suc (length s.callers)) None e (record s.run { control = todo } ∷ s.callers) (omega arith) (st.stack.0, h, st.stack.2)) h
+        handles (raising.seek None e (record s.run { control = todo } ∷ s.callers)) e todo (seek_to s.env.frames (suc (length s.callers)) None e (record s.run { control = todo } ∷ s.callers) (omega arith) (st.stack.0, inl h, st.stack.2)) h
 
     -- unwinding
 
     catches : (x : Option Handler) (e : Event) (todo : List Todo) → HandlerBegins x → There todo → CountedStep Few (raising.catch_step x e todo s)
-    catches None e todo b h = go _ _ (tt, h)
+    catches None e todo b h = go _ _ (all_left Few (here s) todo h)
     catches (Some x) e todo b h = told _ refl (handled (here s) x todo b h)
 
     guarded : (hs : Handlers) (w : Option UnwindReason) (todo : List Todo) → HandlersBegin hs → There todo → CountedStep Few (raising.guard_left hs w todo s)
     guarded hs (Some (reason.Event n y z)) todo b h = catches (raising.handler_for false (record { number = n; x = y; y = z }) hs) (record { number = n; x = y; y = z }) todo (handler_begins false (record { number = n; x = y; y = z }) hs b) h
-    guarded hs w todo b h = go _ _ (tt, h)
+    guarded hs w todo b h = go _ _ (all_left Few (here s) todo h)
 
     whole : (b : Bool) (todo : List Todo) → There todo → CountedStep Few (raising.whole_left b todo s)
     whole true todo h = told _ refl h
-    whole false todo h = go _ _ (tt, h)
+    whole false todo h = go _ _ (all_left Few (here s) todo h)
 
     scope : (c : CleanUp) (b : Bool) (todo : List Todo) → There todo → CountedStep Few (raising.scope_left c b todo s)
-    scope src.Leaves true todo h = told _ refl (tt, (tt, h))
-    scope c b todo h = go (raising.left_todo c (piece.Unwind ∷ todo)) [] (left_cleans (here s) c (piece.Unwind ∷ todo) (tt, h))
+    scope src.Leaves true todo h = told _ refl (tt, all_left Few (here s) todo h)
+    scope c b todo h = go (raising.left_todo c (piece.Unwind ∷ todo)) [] (left_cleans (here s) c (piece.Unwind ∷ todo) (all_left Few (here s) todo h))
 
     main_left : (w : Option UnwindReason) (todo : List Todo) → There todo → CountedStep Few (raising.main_left w todo s)
     main_left (Some (reason.ReturnTo n)) todo h = told _ refl (tt, h)
@@ -555,25 +603,25 @@ module _ (Few : ℕ → Bool) where
     coroutine_left (Some reason.Destroyed) todo h = moved _ todo _ h (kept.taken_down_rests Few (at todo [] s) (go todo [] h))
     coroutine_left w todo h = moved _ todo _ h (kept.escape_rests Few (at todo [] s) (go todo [] h))
 
-    unwind_past : (k : Sort) (todo : List Todo) → MarkCounted Few (here s) k → There todo → CountedStep Few (raising.unwind_past k todo s)
-    unwind_past piece.Simple todo c h = go _ _ (tt, h)
-    unwind_past (piece.IsLoop order t e b) todo c h = go _ _ (tt, h)
-    unwind_past piece.IsWhole todo c h = whole _ todo h
-    unwind_past (piece.IsClean x) todo c h = scope x _ todo h
-    unwind_past (piece.IsFill m b d) todo c h = go _ _ (tt, (tt, h))
-    unwind_past (piece.IsSweep e) todo c h = go _ _ (tt, (tt, h))
-    unwind_past (piece.IsPart x) todo c h = go _ _ (cleans (here s) x _ (tt, h))
-    unwind_past (piece.IsGuard hs) todo c h = guarded hs s.run.raised todo c h
-    unwind_past piece.IsFinish todo c h = main_left s.run.raised todo h
-    unwind_past piece.IsFinishCoroutine todo c h = coroutine_left s.run.raised todo h
+    unwind_past : (k : Sort) (todo : List Todo) → LeftBy Few (here s) k (AllLeft Few (here s) todo) (There todo) → CountedStep Few (raising.unwind_past k todo s)
+    unwind_past piece.Simple todo h = go _ _ h
+    unwind_past (piece.IsLoop order t e b) todo h = go _ _ (all_left Few (here s) todo h.1)
+    unwind_past piece.IsWhole todo h = whole _ todo h.1
+    unwind_past (piece.IsClean x) todo h = scope x _ todo h.1
+    unwind_past (piece.IsFill m b d) todo h = go _ _ (tt, all_left Few (here s) todo h.1)
+    unwind_past (piece.IsSweep e) todo h = go _ _ (tt, all_left Few (here s) todo h.1)
+    unwind_past (piece.IsPart x) todo h = go _ _ (cleans (here s) x _ (all_left Few (here s) todo h.1))
+    unwind_past (piece.IsGuard hs) todo h = guarded hs s.run.raised todo h.0 h.1
+    unwind_past piece.IsFinish todo h = main_left s.run.raised todo h.1
+    unwind_past piece.IsFinishCoroutine todo h = coroutine_left s.run.raised todo h.1
 
-    pub unwinds : (todo : List Todo) → There todo → CountedStep Few (raising.unwind_step todo s)
+    pub unwinds : (todo : List Todo) → AllLeft Few (here s) todo → CountedStep Few (raising.unwind_step todo s)
     unwinds [] h = leaves s.callers st.frames st.stack.2
-    unwinds (p ∷ ps) h = unwind_past (piece.sort p) ps (by_mark Few (here s) p h.0) h.1
+    unwinds (p ∷ ps) h = unwind_past (piece.sort p) ps h
 
-    pub exits : (w : Way) (todo : List Todo) → There todo → CountedStep Few (quiet.exit_step w todo s)
+    pub exits : (w : Way) (todo : List Todo) → AllLeft Few (here s) todo → CountedStep Few (quiet.exit_step w todo s)
     exits w [] h = end_step w
-    exits w (p ∷ ps) h = go _ _ (left_behind (here s) w (piece.sort p) ps (by_mark Few (here s) p h.0) h.1)
+    exits w (p ∷ ps) h = go _ _ (left_behind (here s) w (piece.sort p) ps h)
 
     -- printing
 

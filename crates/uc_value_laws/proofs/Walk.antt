@@ -1,5 +1,5 @@
 -- Every quiet step of a task in which all is there that is in scope and known by its number, and answers to it.
-use Rattle.std.proofs.Common.{◌≡◌, ℕ, List, [], ◌∷◌, ◌++◌, Option, Some, None, inl, inr, refl, sym, ap, ◌∙◌, subst, arith, Bool, true}
+use Rattle.std.proofs.Common.{◌≡◌, ℕ, ◌⊎◌, List, [], ◌∷◌, ◌++◌, Option, Some, None, inl, inr, refl, sym, ap, ◌∙◌, subst, arith, Bool, true}
 use Rattle.std.specs.Prelude.{nat_lt, slice_get, drop}
 use Rattle.uc_tree.specs.Source as src
 use Rattle.uc_tree.specs.Source.{Source, CleanUp, Stmt, Stmts, Routine, routine_or_none, routine_of}
@@ -13,8 +13,8 @@ use Rattle.uc_machine.specs.Quiet.{first_state, zeros}
 use Rattle.uc_machine.specs.Pieces as piece
 use Rattle.uc_machine.specs.Pieces.{Value, Nothing, Todo, State, Env, Members, Step, Goes, Ticks, Asks, at, top, below, number}
 use Rattle.uc_machine.specs.Answering.{answered, entered, new_members, with_operand}
-use Rattle.uc_scope_laws.specs.Clusters.{Follows, IsUnbound, Joined}
-use Rattle.uc_value_laws.specs.There.{AllCounted}
+use Rattle.uc_scope_laws.specs.Clusters.{BindsProcessor, BindsObject, Follows, IsUnbound, IsUnscoped, Joined}
+use Rattle.uc_value_laws.specs.There.{HoldsObject, NextBound, MayBegin, IsNoCluster, BindsBy, AllCounted, AtBound, Held}
 use Rattle.uc_value_laws.specs.ThereStates.{CountedParked, CountedHand, CountedMembers, CountedState, CountedStep, RoutineBegins, SourceBegins, FairAt, Fair}
 use Rattle.uc_value_laws.specs.NewClusters as way
 use Rattle.uc_value_laws.specs.NewClusters.{Stage, stage_todo, OpeningBy, WaitingBy, GoodBy, GoodStepBy}
@@ -23,12 +23,28 @@ use Rattle.uc_value_laws.proofs.Cells.{either}
 use Rattle.uc_value_laws.proofs.Keeping as kept
 use Rattle.uc_value_laws.proofs.Steps as steps
 use Rattle.uc_value_laws.proofs.Steps.{here}
-use Rattle.uc_value_laws.proofs.NewClusters.{lift, begun, opening, no_bind, far, uncounted}
+use Rattle.uc_value_laws.proofs.NewClusters.{lift, begun, opening, no_bind, far, opened, uncounted}
 
--- a piece that tells of no statements that are left of a block
+-- a piece that tells of no statements that are left of a block, and that binds nothing
 abbrev IsOther : Todo → Type 0
 IsOther (piece.Rest ss) = ⊥
+IsOther piece.BindNow = ⊥
+IsOther (piece.MakeNow c r) = ⊥
+IsOther (piece.BindMadeNow c r) = ⊥
 IsOther p = Unit {0}
+
+-- who binds what is in scope behind it
+binds_processor : (k : ℕ) (a : Stmt) → BindsProcessor k a → BindsBy a
+binds_processor k (src.Evaluate line (src.OfObject (src.Bind (src.Variable m) (src.OfObject (src.NewProcessor e))))) h = tt
+binds_processor k a h = absurd h
+
+binds_object : (k : ℕ) (a : Stmt) → BindsObject k a → BindsBy a
+binds_object k (src.Evaluate line (src.OfObject (src.MakeOn c r written (src.Variable m) args))) h = tt
+binds_object k a h = absurd h
+
+no_cluster : (c : CleanUp) → IsUnscoped c → IsNoCluster c
+no_cluster (src.Destroys (src.OfObject (src.EndCluster (src.Load (src.Variable k))))) h = h
+no_cluster c h = tt
 
 none_new : (source : Source) (g : Stage) (k l : ℕ) (ss : Stmts) (todo : List Todo) → new_members source (stage_todo g k l ss todo) ≡ None
 none_new source (way.Declares m d) k l ss todo = refl
@@ -57,25 +73,25 @@ module _ (Few : ℕ → Bool) where
       like q h g = steps.like Few s st q h g
 
       -- one piece, with what is to do behind it
-      acts : (p : Todo) (todo : List Todo) → s.run.control ≡ p ∷ todo → IsOther p → FairAt (p ∷ todo) s → AllCounted Few (here s) (p ∷ todo) → CountedStep Few (quiet.act source p todo s)
-      acts (piece.Eval a) todo e n f h = steps.eval Few s st a todo h.1
+      acts : (p : Todo) (todo : List Todo) → s.run.control ≡ p ∷ todo → IsOther p → FairAt source (p ∷ todo) s → AllCounted Few (here s) (p ∷ todo) → CountedStep Few (quiet.act source p todo s)
+      acts (piece.Eval a) todo e n f h = steps.evals Few s st a todo h
       acts (piece.ElementNow m k) todo e n f h = steps.element Few s st k _ todo _ _ h.1
       acts piece.NegateNow todo e n f h = steps.outcome Few s st _ todo _ h.1
       acts (piece.OperateNow op) todo e n f h = steps.outcome Few s st _ todo _ h.1
-      acts piece.StoreNow todo e n f h = steps.go_in Few s st _ _ _ (kept.written_keeps Few _ _ s.env st.env) h.1
-      acts piece.KeepNow todo e n f h = steps.go_in Few s st _ _ _ (kept.written_keeps Few _ _ s.env st.env) h.1
+      acts piece.StoreNow todo e n f h = steps.go_in Few s st _ _ _ (kept.written_keeps Few (top (below s.run.operands)) (piece.Number (number (top s.run.operands))) s.env st.env) h.1
+      acts piece.KeepNow todo e n f h = steps.go_in Few s st _ _ _ (kept.written_keeps Few (top (below s.run.operands)) (piece.Number (number (top s.run.operands))) s.env st.env) h.1
       acts (piece.SetNow k) todo e n f h = steps.go_in Few s st _ _ _ (kept.written_keeps Few (piece.variable_at k s) (piece.Number (number (top s.run.operands))) s.env st.env) h.1
-      acts piece.BindNow todo e n f h = steps.go_in Few s st _ _ _ (kept.written_keeps Few _ _ s.env st.env) h.1
-      acts (piece.Choose a b) todo e n f h = go _ _ (tt, h.1)
-      acts (piece.Branch a b) todo e n f h = go _ _ (tt, h.1)
-      acts (piece.TurnNow o t step b) todo e n f h = go _ _ (tt, (tt, h.1))
+      acts piece.BindNow todo e n f h = absurd n
+      acts (piece.Choose a b) todo e n f h = go _ _ (inl h.1)
+      acts (piece.Branch a b) todo e n f h = go _ _ (inl h.1)
+      acts (piece.TurnNow o t step b) todo e n f h = go _ _ (inl (tt, h.1))
       acts (piece.Arguments src.NoExprs) todo e n f h = go _ _ h.1
-      acts (piece.Arguments (src.MoreExprs a es)) todo e n f h = go _ _ (tt, (tt, h.1))
+      acts (piece.Arguments (src.MoreExprs a es)) todo e n f h = go _ _ (inl (tt, h.1))
       acts (piece.CallNow r) todo e n f h = steps.call Few s st (slice_get source.routines r) todo (known r) h.1
-      acts (piece.CallOnNow r) todo e n f h = steps.call_on Few s st (slice_get source.routines r) todo (known r) h.1
-      acts (piece.CallUnwrittenNow r) todo e n f h = steps.call_unwritten Few s st (slice_get source.routines r) todo (known r) h.1
-      acts (piece.CountNow m) todo e n f h = record { frames = st.frames; stack = (st.stack.0, h.1, st.stack.2); env = st.env }
-      acts piece.MoreNow todo e n f h = record { frames = st.frames; stack = (st.stack.0, h.1, st.stack.2); env = st.env }
+      acts (piece.CallOnNow r) todo e n f h = steps.call_on Few s st (slice_get source.routines r) todo (known r) (inl h.1)
+      acts (piece.CallUnwrittenNow r) todo e n f h = steps.call_unwritten Few s st (slice_get source.routines r) todo (known r) (inl h.1)
+      acts (piece.CountNow m) todo e n f h = record { frames = st.frames; stack = (st.stack.0, inl h.1, st.stack.2); env = st.env }
+      acts piece.MoreNow todo e n f h = record { frames = st.frames; stack = (st.stack.0, inl h.1, st.stack.2); env = st.env }
       acts (piece.FillNow m b d) todo e n f h = go _ _ (steps.filled Few (here s) (nat_lt s.run.elements m) m b d todo h.1)
       acts (piece.Again o t step b) todo e n f h = go _ _ (either (AllCounted Few (here s)) (piece.is_zero (number (top s.run.operands))) todo (piece.TurnNow o t step b ∷ todo) h.1 (tt, h.1))
       acts (piece.PrintNow form) todo e n f h = steps.prints Few s st s.env.gathered _ todo _ h.1
@@ -83,7 +99,7 @@ module _ (Few : ℕ → Bool) where
       acts piece.GatherNow todo e n f h = steps.go_in Few s st _ _ _ (like refl refl refl) h.1
       acts piece.FlushNow todo e n f h = steps.flushes Few s st s.env.gathered todo _ h.1
       acts (piece.ReadNow form) todo e n f h = go _ _ h.1
-      acts (piece.ClearNow k m) todo e n f h = steps.clears Few s st k m todo e f h.1
+      acts (piece.ClearNow k m) todo e n f h = steps.clears Few s st k m todo f h.1
       acts (piece.Items []) todo e n f h = go _ _ h.1
       acts (piece.Items (i ∷ is)) todo e n f h = go _ _ (steps.item Few (here s) i _ (tt, h.1))
       acts (piece.Values []) todo e n f h = go _ _ h.1
@@ -91,16 +107,16 @@ module _ (Few : ℕ → Bool) where
       acts (piece.Pieces []) todo e n f h = go _ _ h.1
       acts (piece.Pieces (i ∷ is)) todo e n f h = go _ _ (tt, steps.item_piece Few (here s) i todo h.1)
       acts (piece.Targets []) todo e n f h = go _ _ h.1
-      acts (piece.Targets (t ∷ ts)) todo e n f h = go _ _ (tt, (tt, (tt, (tt, h.1))))
+      acts (piece.Targets (t ∷ ts)) todo e n f h = go _ _ (inl (tt, (tt, (tt, h.1))))
       acts (piece.Variables []) todo e n f h = go _ _ h.1
       acts (piece.Variables (d ∷ ds)) todo e n f h = go _ _ (tt, steps.starts Few (here s) d.cell d.value (piece.Variables ds ∷ todo) (tt, h.1))
-      acts (piece.Do a) todo e n f h = steps.stmt Few s st a todo f h.1
+      acts (piece.Do a) todo e n f h = steps.stmts Few s st a todo f h
       acts (piece.Rest ss) todo e n f h = absurd n
-      acts (piece.Exit w) todo e n f h = steps.exits Few s st w todo h.1
+      acts (piece.Exit w) todo e n f h = steps.exits Few s st w todo h
       acts (piece.InLoop o t step b) todo e n f h = go _ _ (steps.stepped Few (here s) step _ (steps.tested Few (here s) o t step b todo h.1))
       acts (piece.Clean x) todo e n f h = go _ _ (steps.cleans Few (here s) x todo h.1)
       acts (piece.Sweep a) todo e n f h = steps.swept Few s st s.run.elements a todo h.1
-      acts piece.Unwind todo e n f h = steps.unwinds Few s st todo h.1
+      acts piece.Unwind todo e n f h = steps.unwinds Few s st todo h
       acts piece.ThrowNow todo e n f h = steps.throws Few s st (raising.event_in s.run.operands) todo h.1
       acts piece.RaiseNow todo e n f h = steps.raises Few s st (raising.event_in s.run.operands) todo h.1
       acts (piece.SetUpNow r) todo e n f h = steps.set_up Few s st (slice_get source.routines r) todo (known r) h.1
@@ -113,8 +129,8 @@ module _ (Few : ℕ → Bool) where
       acts piece.Land todo e n f h = steps.land Few s st s.run.raised todo h.1
       acts (piece.EnterNow m r) todo e n f h = steps.enter Few s st m (slice_get source.routines r) todo h.1
       acts piece.LeaveNow todo e n f h = steps.leave Few s st _ (monitors.this_object s) todo h.1
-      acts (piece.MakeNow k r) todo e n f h = steps.make Few s st k r (slice_get source.routines r) todo h.1
-      acts (piece.BindMadeNow k r) todo e n f h = steps.bind Few s st (slice_get source.routines r) todo h.1
+      acts (piece.MakeNow k r) todo e n f h = absurd n
+      acts (piece.BindMadeNow k r) todo e n f h = absurd n
       acts piece.MadeNow todo e n f h = steps.unless Few s st (monitors.this_object s) _ todo h.1 (steps.go_in Few s st _ _ _ (like refl refl refl) h.1)
       acts (piece.SpawnNow r) todo e n f h = steps.unless Few s st (monitors.this_object s) _ (piece.ChildNow r ∷ todo) (tt, h.1) (steps.go_in Few s st _ _ _ (like refl refl refl) (tt, h.1))
       acts piece.GoneNow todo e n f h = steps.go_in Few s st _ _ _ (like refl refl refl) h.1
@@ -124,11 +140,11 @@ module _ (Few : ℕ → Bool) where
       acts piece.SignalBlockNow todo e n f h = steps.unless Few s st (monitors.this_object s) _ todo h.1 (go _ _ h.1)
       acts (piece.Guards src.NoClauses) todo e n f h = go _ _ h.1
       acts (piece.Guards (src.Otherwise b)) todo e n f h = go _ _ h.1
-      acts (piece.Guards (src.MoreClauses guard b cs)) todo e n f h = go _ _ (tt, (tt, h.1))
+      acts (piece.Guards (src.MoreClauses guard b cs)) todo e n f h = go _ _ (inl (tt, h.1))
       acts (piece.AcceptNow site m) todo e n f h = steps.accept_by Few s st (monitors.mask_of (take_operands Nothing m s.run.operands [])) (monitors.this_object s) site todo (drop m s.run.operands) h.1
       acts piece.FailedNow todo e n f h = steps.failed Few s st _ todo _ h.1
       acts (piece.ChooseNow cs) todo e n f h = go _ _ (steps.branch Few (here s) _ cs todo h.1)
-      acts piece.RaiseAtNow todo e n f h = steps.raise_at Few s st _ _ todo _ h.1
+      acts piece.RaiseAtNow todo e n f h = steps.raise_at Few s st (top s.run.operands) (raising.event_in (below s.run.operands)) todo (drop 4 s.run.operands) h.1
       acts (piece.EnableNow events cell) todo e n f h = steps.enables Few s st _ cell todo h.1
       acts (piece.DisableNow events cell) todo e n f h = steps.enables Few s st _ cell todo h.1
       acts (piece.RestoreNow cell) todo e n f h = steps.go_in Few s st _ _ _ (like refl refl refl) h.1
@@ -138,6 +154,20 @@ module _ (Few : ℕ → Bool) where
       acts piece.FinishCoroutine todo e n f h = steps.moved Few s st _ todo _ h.1 (kept.finish_rests Few (at todo s.run.operands s) (go _ _ h.1))
       acts p todo e n f h = go _ _ h.1
 
+      -- the pieces that bind
+
+      binds : (todo : List Todo) → FairAt source (piece.BindNow ∷ todo) s → AllCounted Few (here s) (piece.BindNow ∷ todo) → GoodStepBy Few (quiet.act source piece.BindNow todo s)
+      binds todo f (inl h) = inl (steps.go_in Few s st _ _ _ (kept.written_keeps Few (top (below s.run.operands)) (top s.run.operands) s.env st.env) h)
+      binds todo f (inr h) = inl (steps.bound Few s st todo f.1 h)
+
+      makes : (k r : ℕ) (todo : List Todo) → AllCounted Few (here s) (piece.MakeNow k r ∷ todo) → GoodStepBy Few (quiet.act source (piece.MakeNow k r) todo s)
+      makes k r todo (inl h) = lift Few (quiet.act source (piece.MakeNow k r) todo s) (steps.make Few s st k r (slice_get source.routines r) todo h)
+      makes k r todo (inr h) = steps.makes Few s st k r (slice_get source.routines r) todo h
+
+      made : (k r : ℕ) (todo : List Todo) → FairAt source (piece.BindMadeNow k r ∷ todo) s → AllCounted Few (here s) (piece.BindMadeNow k r ∷ todo) → GoodStepBy Few (quiet.act source (piece.BindMadeNow k r) todo s)
+      made k r todo f (inl h) = lift Few (quiet.act source (piece.BindMadeNow k r) todo s) (steps.bind Few s st (slice_get source.routines r) todo h)
+      made k r todo f (inr h) = steps.made Few s st (slice_get source.routines r) todo f h
+
       -- the statements that are left of a block
 
       thens : (a : Stmt) (ss : Stmts) (todo : List Todo) → IsUnbound a → Follows a ss → Joined ss → AllCounted Few (here s) todo → GoodStepBy Few (quiet.rest_step (src.Then a ss) todo s)
@@ -145,30 +175,58 @@ module _ (Few : ℕ → Bool) where
       thens a (src.Then (src.Evaluate l (src.OfObject (src.Bind (src.Variable k) (src.OfObject src.NewCluster)))) rest) todo b f j h = begun Few s st k l a rest todo f j h
       thens a (src.Then c rest) todo b f j h = inl (steps.rest_with Few s st a (src.Then c rest) todo tt h)
       thens a (src.Scoped (src.Destroys (src.OfObject (src.EndCluster (src.Load (src.Variable k))))) rest) todo b f j h = absurd (no_bind k a f b)
+      thens a (src.Scoped (src.Destroys (src.OfObject (src.EndProcessor (src.Load (src.Variable k))))) rest) todo b f j h =
+          inl (steps.rest_binds Few s st a (src.Scoped (src.Destroys (src.OfObject (src.EndProcessor (src.Load (src.Variable k))))) rest) todo (binds_processor k a f) tt h)
+      thens a (src.Scoped (src.Destroys (src.OfObject (src.EndOn r written (src.Load (src.Variable k))))) rest) todo b f j h =
+          inl (steps.rest_binds Few s st a (src.Scoped (src.Destroys (src.OfObject (src.EndOn r written (src.Load (src.Variable k))))) rest) todo (binds_object k a f) tt h)
       thens a (src.Scoped c rest) todo b f j h = inl (steps.rest_with Few s st a (src.Scoped c rest) todo tt h)
       thens a (src.Built c rest) todo b f j h = inl (steps.rest_with Few s st a (src.Built c rest) todo tt h)
 
-      rests : (ss : Stmts) (todo : List Todo) → FairAt (piece.Rest ss ∷ todo) s → AllCounted Few (here s) (piece.Rest ss ∷ todo) → GoodStepBy Few (quiet.rest_step ss todo s)
+      rests : (ss : Stmts) (todo : List Todo) → FairAt source (piece.Rest ss ∷ todo) s → AllCounted Few (here s) (piece.Rest ss ∷ todo) → GoodStepBy Few (quiet.rest_step ss todo s)
       rests src.Nil todo f h = inl (go _ _ h.1)
       rests (src.Then a ss) todo f h = thens a ss todo h.0 f.0.0 f.0.1 h.1
-      rests (src.Scoped c ss) todo f h = inl (go _ _ (f.0.0, ((f.1 (far c h.0), uncounted Few (here s) c h.0), h.1)))
+      rests (src.Scoped c ss) todo f h = inl (go _ _ (f.0.0, ((f.1 (far c h.0), uncounted Few (here s) c (no_cluster c h.0)), h.1)))
       rests (src.Built c ss) todo f h = inl (go _ _ (f.0.0, (tt, h.1)))
 
-      there : Fair s → GoodStepBy Few (quiet.quiet source s)
-      there f = by s.run.control refl
-        where
-          by : (l : List Todo) → s.run.control ≡ l → GoodStepBy Few (quiet.act_todo source l s)
-          by [] e = lift Few (quiet.act_todo source [] s) (steps.returned Few s st _ s.callers st.frames st.stack.2)
-          by (piece.Rest ss ∷ todo) e = rests ss todo (subst (λ l. FairAt l s) e f) (subst (AllCounted Few (here s)) e st.stack.1)
-          by (p ∷ todo) e = lift Few (quiet.act source p todo s) (acts p todo e tt (subst (λ l. FairAt l s) e f) (subst (AllCounted Few (here s)) e st.stack.1))
+      -- the scope opens of what is bound
+      scopes : (ss : Stmts) (todo : List Todo) → FairAt source (piece.Rest ss ∷ todo) s → AtBound Few (here s) (piece.Rest ss ∷ todo) → NextBound (HoldsObject (here s)) (piece.Rest ss ∷ todo) → GoodStepBy Few (quiet.rest_step ss todo s)
+      scopes (src.Scoped c ss) todo f h b = inl (go _ _ (f.0.0, ((opened (here s) c h.0 b f.1, uncounted Few (here s) c h.0), h.1)))
+      scopes src.Nil todo f h b = rests src.Nil todo f h
+      scopes (src.Then a ss) todo f h b = rests (src.Then a ss) todo f h
+      scopes (src.Built c ss) todo f h b = rests (src.Built c ss) todo f h
 
-    pub walk : (s : State) → GoodBy Few s → Fair s → GoodStepBy Few (quiet.quiet source s)
+      bounds : (l : List Todo) → FairAt source l s → AtBound Few (here s) l → NextBound (HoldsObject (here s)) l → GoodStepBy Few (quiet.act_todo source l s)
+      bounds (piece.Rest ss ∷ todo) f h b = scopes ss todo f h b
+      bounds (piece.Within line ∷ (piece.Rest ss ∷ todo)) f h b = inl (steps.go_held Few s st _ _ (inr (h, b)))
+      bounds (piece.DropNow ∷ (piece.Within line ∷ (piece.Rest ss ∷ todo))) f h b = inl (steps.go_held Few s st _ _ (inr (h, b)))
+      bounds (piece.CallOnNow r ∷ (piece.DropNow ∷ (piece.Within line ∷ (piece.Rest ss ∷ todo)))) f h b =
+          lift Few _ (steps.call_on Few s st (slice_get source.routines r) (piece.DropNow ∷ (piece.Within line ∷ (piece.Rest ss ∷ todo))) (known r) (inr (h, b)))
+      bounds (piece.CallUnwrittenNow r ∷ (piece.DropNow ∷ (piece.Within line ∷ (piece.Rest ss ∷ todo)))) f h b =
+          lift Few _ (steps.call_unwritten Few s st (slice_get source.routines r) (piece.DropNow ∷ (piece.Within line ∷ (piece.Rest ss ∷ todo))) (known r) (inr (h, b)))
+      bounds l f h b = absurd h
+
+      counts : (l : List Todo) → s.run.control ≡ l → FairAt source l s → AllCounted Few (here s) l → GoodStepBy Few (quiet.act_todo source l s)
+      counts [] e f h = lift Few (quiet.act_todo source [] s) (steps.returned Few s st _ s.callers st.frames st.stack.2)
+      counts (piece.Rest ss ∷ todo) e f h = rests ss todo f h
+      counts (piece.BindNow ∷ todo) e f h = binds todo f h
+      counts (piece.MakeNow k r ∷ todo) e f h = makes k r todo h
+      counts (piece.BindMadeNow k r ∷ todo) e f h = made k r todo f h
+      counts (p ∷ todo) e f h = lift Few (quiet.act source p todo s) (acts p todo e tt f h)
+
+      there : Fair source s → GoodStepBy Few (quiet.quiet source s)
+      there f = by s.run.control refl st.stack.1
+        where
+          by : (l : List Todo) → s.run.control ≡ l → Held Few (here s) s.run.control → GoodStepBy Few (quiet.act_todo source l s)
+          by l e (inl h) = counts l e (subst (λ l. FairAt source l s) e f) (subst (AllCounted Few (here s)) e h)
+          by l e (inr h) = bounds l (subst (λ l. FairAt source l s) e f) (subst (AtBound Few (here s)) e h.0) (subst (NextBound (HoldsObject (here s))) e h.1)
+
+    pub walk : (s : State) → GoodBy Few s → Fair source s → GoodStepBy Few (quiet.quiet source s)
     walk s (inl st) f = there s st f
     walk s (inr o) f = opening Few source s o f
 
     begins : (o : ℕ) (r : Option Routine) → RoutineBegins r → CountedState Few (first_state (routine_or_none r) o)
-    begins o None b = record { frames = refl; stack = (omega arith, (tt, (tt, tt)), tt); env = record { house = (tt, tt); hand = tt } }
-    begins o (Some r) b = record { frames = refl; stack = (omega arith, steps.routine Few _ r b, tt); env = record { house = (tt, tt); hand = tt } }
+    begins o None b = record { frames = refl; stack = (omega arith, inl (tt, (tt, tt)), tt); env = record { house = (tt, tt); hand = tt } }
+    begins o (Some r) b = record { frames = refl; stack = (omega arith, inl (steps.routine Few _ r b), tt); env = record { house = (tt, tt); hand = tt } }
 
     -- a task begins so
     pub first : (r o : ℕ) → CountedState Few (first_state (routine_of source r) o)

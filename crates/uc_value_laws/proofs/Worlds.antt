@@ -1,5 +1,5 @@
--- In every run in which scopes open where their variables hold objects, all is there that is in scope and known by its number.
-use Rattle.std.proofs.Common.{◌≡◌, ℕ, ◌+◌, ◌*◌, ◌≤◌, ◌<◌, ◌⊎◌, inl, inr, ◌==◌, Bool, true, false, List, [], ◌∷◌, ◌++◌, length, Option, Some, None, refl, sym, ap, ◌∙◌, subst, arith}
+-- In every run in which variables hold objects once they are bound, all is there that is in scope and known by its number.
+use Rattle.std.proofs.Common.{◌≡◌, ℕ, ◌+◌, ◌*◌, ◌≤◌, ◌<◌, ◌⊎◌, inl, inr, ◌==◌, ◌||◌, Bool, true, false, List, [], ◌∷◌, ◌++◌, length, Option, Some, None, refl, sym, ap, ◌∙◌, subst, arith, append-nil, append_assoc}
 use Rattle.std.specs.Prelude.{min, nat_lt, if◌then◌else◌, slice_get, slice_index_or}
 use Rattle.std.proofs.Math.Nat.{min-le_left}
 use Rattle.std.proofs.lemmas.Bool.{eqb-true, lt-ltb, ltb-true}
@@ -15,13 +15,14 @@ use Rattle.uc_entry.specs.declared.request.Request.{Request}
 use Rattle.uc_entry.specs.declared.request.Request.TheVariants as ask
 use Rattle.uc_entry.specs.Keyed.{find}
 use Rattle.uc_acts.specs.Journal.{Journal, held, own_object, is_over}
-use Rattle.uc_acts.specs.Known.{spawns, takes_out}
+use Rattle.uc_acts.specs.Known.{ends as ends_task, has_ended, spawns, takes_out}
 use Rattle.uc_acts.specs.Serves.{left}
 use Rattle.uc_acts.specs.Acts.{act, dispatch, lone_limit}
 use Rattle.uc_acts.specs.KernelRuns.{InRange, MayAsk}
 use Rattle.uc_acts.specs.Answers.{answer_to}
 use Rattle.uc_acts.specs.Queues.{cluster_count}
 use Rattle.uc_acts.proofs.Bounds.{over_limit}
+use Rattle.uc_acts.proofs.SoundLemmas.{ended_push}
 use Rattle.uc_machine.specs.Pieces as piece
 use Rattle.uc_machine.specs.Pieces.{Link, Slot, At, Value, Todo, Sort, Active, LAST_ADDRESS, address, at, loaded, nought, object_in}
 use Rattle.uc_machine.specs.Executions.{at_depth, list_in, frames_in, parked_at}
@@ -34,6 +35,8 @@ use Rattle.uc_meaning.specs.Runs.{World, AsksIn, May, Runs, gives, no_room, acts
 use Rattle.uc_resolve.specs.Resolve.{source_of}
 use Rattle.uc_rules.specs.Breaks.{breaks_of}
 use Rattle.uc_program_laws.specs.Fitting.{MayFit, RunFits}
+use Rattle.uc_program_laws.proofs.Alive.{law_alive}
+use Rattle.uc_program_laws.proofs.Makes.{law_ends as law_last}
 use Rattle.uc_program_laws.proofs.Others.{RunRests, may_ask, run_rests}
 use Rattle.uc_answer_laws.specs.Suiting.{Form, AnObject, JustGo, IsForm, asked_form, form_of_request, AsksFor}
 use Rattle.uc_answer_laws.proofs.Told.{form_push}
@@ -42,7 +45,7 @@ use Rattle.uc_answer_laws.proofs.Asking.{law_asking}
 use Rattle.uc_scope_laws.specs.Rooms.{Room, IsWithin, SourceIn, LiesAt, LiesIn, Destroyed, Lies, StmtIn, StmtsIn, MaybeRoutineIn}
 use Rattle.uc_scope_laws.specs.RoomStates as rooms
 use Rattle.uc_scope_laws.specs.RoomStacks as stacks
-use Rattle.uc_scope_laws.specs.RoomStacks.{UpTo, SomeTo, StackState, StackStep}
+use Rattle.uc_scope_laws.specs.RoomStacks.{UpTo, SomeTo, Beneath, StackState, StackStep}
 use Rattle.uc_scope_laws.specs.Layout.{Sized}
 use Rattle.uc_scope_laws.specs.RoomRuns as runs
 use Rattle.uc_scope_laws.specs.RoomRuns.{Leads, Comes}
@@ -52,12 +55,12 @@ use Rattle.uc_scope_laws.proofs.StackWalk as stacking
 use Rattle.uc_scope_laws.proofs.StackWorlds as stacked
 use Rattle.uc_scope_laws.proofs.StackWorlds.{StackWorld}
 use Rattle.uc_scope_laws.proofs.Unreferring.{law_accepted}
-use Rattle.uc_value_laws.specs.There.{EndsAt, OfVariable, OfElements, OfEach, IsFew, AllCounted, Any, IsBefore, BeforeBy, AllBefore, FrameBefore, frame_at}
+use Rattle.uc_value_laws.specs.There.{EndsAt, OfVariable, OfElements, OfEach, CleanBy, OfBound, OpensBound, NextBound, IsFew, AllCounted, AllLeft, Any, IsBefore, AllBefore, FrameBefore, frame_at}
 use Rattle.uc_value_laws.specs.ThereStates.{CountedHand, CountedMembers, CountedEnv, CountedState, RoutineBegins, SourceBegins, BodiesBegin, ScopeFits, BoundFits, FairAt, Fair}
 use Rattle.uc_value_laws.specs.NewClusters as way
-use Rattle.uc_value_laws.specs.NewClusters.{Stage, stage_todo, StageHoldsBy, OpeningBy, WaitingBy, GoodBy, AskedBy, GoodStepBy}
+use Rattle.uc_value_laws.specs.NewClusters.{Stage, stage_todo, StageHoldsBy, OpeningBy, WaitingBy, GoodBy, IsLast, AskedBy, GoodStepBy}
 use Rattle.uc_value_laws.specs.Opens.{OpensAt, Opens, LawFair, RideOpens, MayOpen, RunOpens, LeadsOpen, TellsFew, RestsBy, AllIsCounted, LawRuns, LawCounts, LeavesCluster, EndsCluster, LawEnds}
-use Rattle.uc_value_laws.proofs.Cells.{either}
+use Rattle.uc_value_laws.proofs.Cells.{either, held_left}
 use Rattle.uc_value_laws.proofs.Keeping.{found_hand}
 use Rattle.uc_value_laws.proofs.Counts.{some_cluster, grows, told_own, told_others, one_kept}
 use Rattle.uc_value_laws.proofs.Steps.{exec_same, here}
@@ -65,6 +68,16 @@ use Rattle.uc_value_laws.proofs.Walk.{walk, first, answered_there, waited}
 
 no_both : {A : Type 0} (b : Bool) → b ≡ true → b ≡ false → A
 no_both b t f = absurd (cc)
+
+-- who has not ended had not ended before
+ended_before : (j : Journal) (a : List Entry) (t : ℕ) → has_ended t (j ++ a) ≡ false → has_ended t j ≡ false
+ended_before j [] t h = ap (has_ended t) (sym (append-nil j)) ∙ h
+ended_before j (e ∷ a) t h =
+    first (has_ended t j) (ends_task t e.kind e) (sym (ended_push t j e) ∙ ended_before (j ++ e ∷ []) a t (ap (has_ended t) (append_assoc j (e ∷ []) a) ∙ h))
+  where
+    first : (b c : Bool) → (b || c) ≡ false → b ≡ false
+    first true c g = cc
+    first false c g = refl
 
 -- what lies before a cell
 
@@ -98,7 +111,7 @@ module _ (Z : ℕ → ℕ → Type 0) where
   clean_before cell (src.DestroysAll n e) h = ends_before (LiesIn Z 0 cell n) (OfElements n (IsBefore cell)) e (in_before cell n) h
   clean_before cell c h = tt
 
-  before_by : (cell : ℕ) (s : Sort) → rooms.IsBefore Z cell s → BeforeBy cell s
+  before_by : (cell : ℕ) (s : Sort) → rooms.IsBefore Z cell s → CleanBy (OfEach (IsBefore cell)) s
   before_by cell (piece.IsClean c) h = clean_before cell c h
   before_by cell s h = tt
 
@@ -106,9 +119,33 @@ module _ (Z : ℕ → ℕ → Type 0) where
   all_before cell [] h = tt
   all_before cell (p ∷ todo) h = (before_by cell (piece.sort p) h.0, all_before cell todo h.1)
 
-  frame_before : (cell f : ℕ) (cs : List Active) → stacks.FrameBefore Z cell f cs → FrameBefore cell f cs
-  frame_before cell f [] h = tt
-  frame_before cell f (c ∷ cs) h = ((λ e. all_before cell c.control (h.0 e)), frame_before cell f cs h.1)
+  -- what opens next lies in the room of what is to do next
+
+  bound_before : (cell low high : ℕ) (c : CleanUp) → high ≤ cell → Lies Z low high c → OfBound (IsBefore cell) c
+  bound_before cell low high (src.Destroys (src.OfObject (src.EndProcessor (src.Load (src.Variable k))))) le h = single_before cell k (let l = h.1 in omega (arith, l, le))
+  bound_before cell low high (src.Destroys (src.OfObject (src.EndOn r written (src.Load (src.Variable k))))) le h = single_before cell k (let l = h.1 in omega (arith, l, le))
+  bound_before cell low high c le h = tt
+
+  opens_before : (cell : ℕ) (o : Room) (ss : Stmts) → o.high ≤ cell → StmtsIn Z o ss → OpensBound (IsBefore cell) ss
+  opens_before cell o (src.Scoped c rest) le h =
+      let m : Room = h.0 in
+      let w : IsWithin o m = h.1 in
+      let a = w.cells in
+      let b = w.high in
+      bound_before cell o.low m.low c (omega (arith, le, a, b)) h.2.0
+  opens_before cell o ss le h = tt
+
+  next_before : (cell : ℕ) (todo : List Todo) → Beneath Z cell todo → NextBound (IsBefore cell) todo
+  next_before cell (piece.Rest ss ∷ todo) h = opens_before cell h.0 ss h.1 h.2.0
+  next_before cell (piece.Within line ∷ (piece.Rest ss ∷ todo)) h = opens_before cell h.0 ss h.1 h.2.1.0
+  next_before cell (piece.DropNow ∷ (piece.Within line ∷ (piece.Rest ss ∷ todo))) h = opens_before cell h.0 ss h.1 h.2.1.1.0
+  next_before cell (piece.CallOnNow r ∷ (piece.DropNow ∷ (piece.Within line ∷ (piece.Rest ss ∷ todo)))) h = opens_before cell h.0 ss h.1 h.2.1.1.1.0
+  next_before cell (piece.CallUnwrittenNow r ∷ (piece.DropNow ∷ (piece.Within line ∷ (piece.Rest ss ∷ todo)))) h = opens_before cell h.0 ss h.1 h.2.1.1.1.0
+  next_before cell todo h = tt
+
+  frame_before : (cell f : ℕ) (cs : List Active) → stacks.FrameBefore Z cell f cs → stacks.FrameBeneath Z cell f cs → FrameBefore cell f cs
+  frame_before cell f [] h b = tt
+  frame_before cell f (c ∷ cs) h b = ((λ e. (all_before cell c.control (h.0 e), next_before cell c.control (b.0 e))), frame_before cell f cs h.1 b.1)
 
   -- a cluster lies in the frame
 
@@ -134,17 +171,21 @@ module _ (Z : ℕ → ℕ → Type 0) where
   bodies o (src.OfEvents (src.Try line body hs)) h = (h.7, h.8)
   bodies o a h = tt
 
-  fair : (s : State) → StackState Z s → Opens s → Fair s
-  fair s st o = by s.run.control refl o
+  fair : (source : Source) (s : State) → StackState Z s → Opens source s → Fair source s
+  fair source s st o = by s.run.control refl o
     where
       to : (l : List Todo) → s.run.control ≡ l → SomeTo Z (UpTo (length (frame_at s.run.frame s.env.frames))) l
       to l e = subst (SomeTo Z (UpTo (length (frame_at s.run.frame s.env.frames)))) e (stacking.rooms Z s st 0 s.run refl)
 
-      by : (l : List Todo) → s.run.control ≡ l → OpensAt l s → FairAt l s
-      by (piece.ClearNow k n ∷ todo) e o = frame_before k s.run.frame (s.run ∷ s.callers) (stacking.cleared Z s st k n todo e)
+      by : (l : List Todo) → s.run.control ≡ l → OpensAt source l s → FairAt source l s
+      by (piece.ClearNow k n ∷ todo) e o =
+          let before = stacking.cleared Z s st k n todo e in
+          let own : rooms.AllBefore Z k (piece.ClearNow k n ∷ todo) = subst (rooms.AllBefore Z k) e (before.0 refl) in
+          (all_before k todo own.1, frame_before k s.run.frame s.callers before.1 (stacking.beneath Z s st k n todo e))
       by (piece.Rest ss ∷ todo) e o = let t = to (piece.Rest ss ∷ todo) e in (joined Z t.0 ss t.1.0, o)
       by (piece.Do a ∷ todo) e o = let t = to (piece.Do a ∷ todo) e in bodies t.0 a t.1.0
-      by (piece.BindNow ∷ todo) e o = let t = to (piece.BindNow ∷ todo) e in bound_fits (length (frame_at s.run.frame s.env.frames)) todo (t.0, t.1.1)
+      by (piece.BindNow ∷ todo) e o = let t = to (piece.BindNow ∷ todo) e in (bound_fits (length (frame_at s.run.frame s.env.frames)) todo (t.0, t.1.1), o)
+      by (piece.BindMadeNow c r ∷ todo) e o = o
       by l e o = tt
 
   begins_by : (r : Option Routine) → MaybeRoutineIn Z r → RoutineBegins r
@@ -154,7 +195,7 @@ module _ (Z : ℕ → ℕ → Type 0) where
 pub law_fair : LawFair
 law_fair = record {
   begins = λ p source h n. begins_by (Sized p) (slice_get source.routines n) (h n);
-  fair = λ p s st o. fair (Sized p) s st o;
+  fair = λ p source s st o. fair (Sized p) source s st o;
 }
 
 module _ (Few : ℕ → Bool) where
@@ -231,15 +272,16 @@ module _ (Few : ℕ → Bool) where
 
   -- where a ride ends
   abbrev RiddenState : Request → State → Type 0
-  RiddenState r s = CountedState Few s ⊎ (((r ≡ ask.Cluster) × WaitingBy Few s) ⊎ ((r ≡ ask.Slice) × OpeningBy Few s))
+  RiddenState r s = CountedState Few s ⊎ (((r ≡ ask.Cluster) × WaitingBy Few s) ⊎ (((r ≡ ask.Slice) × OpeningBy Few s) ⊎ (IsLast r × CountedEnv Few s.env)))
 
   asked_ridden : (r : Request) (s : State) → AskedBy Few r s → RiddenState r s
   asked_ridden r s (inl h) = inl h
-  asked_ridden r s (inr h) = inr (inl h)
+  asked_ridden r s (inr (inl h)) = inr (inl h)
+  asked_ridden r s (inr (inr h)) = inr (inr (inr h))
 
   sliced : (s : State) → GoodBy Few s → RiddenState ask.Slice s
   sliced s (inl h) = inl h
-  sliced s (inr h) = inr (inr (refl, h))
+  sliced s (inr h) = inr (inr (inl (refl, h)))
 
   -- some number is one of these
   abbrev SomeFew : Type 0
@@ -248,12 +290,19 @@ module _ (Few : ℕ → Bool) where
   ridden_env : SomeFew → (r : Request) (s : State) → RiddenState r s → CountedEnv Few s.env
   ridden_env f r s (inl h) = h.env
   ridden_env f r s (inr (inl h)) = (h.1 f.0 f.1).env
-  ridden_env f r s (inr (inr h)) = h.1.env
+  ridden_env f r s (inr (inr (inl h))) = h.1.env
+  ridden_env f r s (inr (inr (inr h))) = h.1
 
-  ridden_rests : (source : Source) (j : Journal) (t : ℕ) (r : Request) (s : State) → asked_form t j ≡ form_of_request r → (r ≡ ask.Cluster → TellsFew Few source t j) → RiddenState r s → RestsBy Few source j t s
-  ridden_rests source j t r s e f (inl h) = inl h
-  ridden_rests source j t r s e f (inr (inl h)) = inr (inl (e ∙ ap form_of_request h.0, h.1, f h.0))
-  ridden_rests source j t r s e f (inr (inr h)) = inr (inr (e ∙ ap form_of_request h.0, h.1))
+  no_last : (r : Request) → IsLast r → (r ≡ ask.End → ⊥) → ((n : ℕ) → r ≡ ask.Fault n → ⊥) → ⊥
+  no_last ask.End h e f = e refl
+  no_last (ask.Fault n) h e f = f n refl
+  no_last r h e f = h
+
+  ridden_rests : (source : Source) (j : Journal) (t : ℕ) (r : Request) (s : State) → asked_form t j ≡ form_of_request r → (r ≡ ask.Cluster → TellsFew Few source t j) → (r ≡ ask.End → ⊥) → ((n : ℕ) → r ≡ ask.Fault n → ⊥) → RiddenState r s → RestsBy Few source j t s
+  ridden_rests source j t r s e f n m (inl h) = inl h
+  ridden_rests source j t r s e f n m (inr (inl h)) = inr (inl (e ∙ ap form_of_request h.0, h.1, f h.0))
+  ridden_rests source j t r s e f n m (inr (inr (inl h))) = inr (inr (e ∙ ap form_of_request h.0, h.1))
+  ridden_rests source j t r s e f n m (inr (inr (inr h))) = absurd (no_last r h.0 n m)
 
   -- a task goes on with an answer
 
@@ -282,7 +331,7 @@ module _ (Few : ℕ → Bool) where
 
   -- tasks at rest
   record CountedWorld (source : Source) (j : Journal) (w : World) : Type 0 where
-    tasks : (t : ℕ) → RestsBy Few source j t (w.tasks t)
+    tasks : (t : ℕ) → has_ended t j ≡ false → RestsBy Few source j t (w.tasks t)
     homes : (o : ℕ) → CountedMembers Few (w.homes o)
 
   module _ (Z : ℕ → ℕ → Type 0) (source : Source) (known : SourceIn Z source) where
@@ -290,8 +339,8 @@ module _ (Few : ℕ → Bool) where
     begin n = begins_by Z (slice_get source.routines n) (known n)
 
     -- one step
-    steps_to : (s : State) → StackState Z s → Opens s → GoodBy Few s → GoodStepBy Few (quiet.quiet source s)
-    steps_to s st o h = walk Few source begin s h (fair Z s st o)
+    steps_to : (s : State) → StackState Z s → Opens source s → GoodBy Few s → GoodStepBy Few (quiet.quiet source s)
+    steps_to s st o h = walk Few source begin s h (fair Z source s st o)
 
     stack_to : (s : State) → StackState Z s → StackStep Z (quiet.quiet source s)
     stack_to s st = stacking.walk Z source known s st
@@ -310,18 +359,18 @@ module _ (Few : ℕ → Bool) where
     begun_stack : (given : Answer) (j : Journal) (w : World) (t : ℕ) → StackWorld Z w → StackState Z (answered source given (drawn j w t))
     begun_stack given j w t x = stacking.answered_rests Z source given (drawn j w t) (stacked.drawn_rests Z j w t x)
 
-    begun_there : (given : Answer) (j : Journal) (w : World) (t : ℕ) → IsForm (asked_form t j) given → answer_to source.sites t j ≡ Some given → CountedWorld source j w → GoodBy Few (answered source given (drawn j w t))
-    begun_there given j w t f a n =
-        told_rests source given j t (drawn j w t) f a (hand_rests source j t (hand_of (held t j) w.homes) (w.tasks t) (hand_there (held t j) w.homes n.homes) (n.tasks t))
+    begun_there : (given : Answer) (j : Journal) (w : World) (t : ℕ) → has_ended t j ≡ false → IsForm (asked_form t j) given → answer_to source.sites t j ≡ Some given → CountedWorld source j w → GoodBy Few (answered source given (drawn j w t))
+    begun_there given j w t alive f a n =
+        told_rests source given j t (drawn j w t) f a (hand_rests source j t (hand_of (held t j) w.homes) (w.tasks t) (hand_there (held t j) w.homes n.homes) (n.tasks t alive))
 
     module _ (input : List ℕ) (opts : Options) (range : InRange opts) where
       acts_there : {j : Journal} {w : World} → RunRests source input opts j w → is_over j ≡ false → StackWorld Z w → CountedWorld source j w → (p t n : ℕ) (s : State) (asked : Asked) (d : AsksIn source opts j w p t n s asked) → RideOpens source (answered source d.given (drawn j w t)) (left opts j t) s n asked d.rides → MayAsk opts source.sites j p t n asked.request → is_over (j ++ act opts source.sites input j p t n asked) ≡ false → Below (j ++ act opts source.sites input j p t n asked) → CountedWorld source (j ++ act opts source.sites input j p t n asked) (world_after source (act opts source.sites input j p t n asked) w t s)
       acts_there {j} {w} r going st x p t n s asked d o m on low =
           let a : List Entry = act opts source.sites input j p t n asked in
           let asks = law_asking opts source.sites input j p t n asked r.kernel m on in
-          let there : RiddenState asked.request s = ridden d.rides o (begun_stack d.given j w t st) (begun_there d.given j w t (law_suiting opts source.sites input j r.kernel going t d.given d.told) d.told x) in
+          let there : RiddenState asked.request s = ridden d.rides o (begun_stack d.given j w t st) (begun_there d.given j w t (law_alive opts source.sites input j r.kernel going p t d.runs) (law_suiting opts source.sites input j r.kernel going t d.given d.told) d.told x) in
           record {
-            tasks = λ u. by_task u asks there;
+            tasks = λ u h. by_task u asks there h;
             homes = λ q. either (CountedMembers Few) (takes_out a q) None (or_else (find q s.env.hand) (w.homes q)) tt (or_there (find q s.env.hand) (w.homes q) (found_hand Few q s.env.hand (ridden_env (some_few (j ++ a) low) asked.request s there).hand) (x.homes q));
           }
         where
@@ -334,20 +383,22 @@ module _ (Few : ℕ → Bool) where
               let same : cluster_count j ≡ o = object_same (cluster_count j) o (sym new.answer ∙ e) in
               low o (subst (λ (x : ℕ). x < cluster_count (j ++ after)) same new.count)
 
-          by_task : (u : ℕ) → AsksFor j after t asked.request → RiddenState asked.request s → RestsBy Few source (j ++ after) u (if u == t then bare s else if spawns after u then first_state (routine_of source (child_main source s.run.control)) (own_object u after) else w.tasks u)
-          by_task u asks there = by (u == t) refl
+          by_task : (u : ℕ) → AsksFor j after t asked.request → RiddenState asked.request s → has_ended u (j ++ after) ≡ false → RestsBy Few source (j ++ after) u (if u == t then bare s else if spawns after u then first_state (routine_of source (child_main source s.run.control)) (own_object u after) else w.tasks u)
+          by_task u asks there alive = by (u == t) refl
             where
               own : u ≡ t → RestsBy Few source (j ++ after) u (bare s)
-              own e = subst (λ v. RestsBy Few source (j ++ after) v (bare s)) (sym e) (hand_rests source (j ++ after) t [] s tt (ridden_rests source (j ++ after) t asked.request s asks.own told there))
+              own e =
+                  let last = law_last opts source.sites input j p t n asked on (subst (λ v. has_ended v (j ++ after) ≡ false) e alive) in
+                  subst (λ v. RestsBy Few source (j ++ after) v (bare s)) (sym e) (hand_rests source (j ++ after) t [] s tt (ridden_rests source (j ++ after) t asked.request s asks.own told last.no_end last.no_fault there))
 
               by : (b : Bool) → (u == t) ≡ b → RestsBy Few source (j ++ after) u (if b then bare s else if spawns after u then first_state (routine_of source (child_main source s.run.control)) (own_object u after) else w.tasks u)
               by true e = own (eqb-true u t e)
               by false e =
-                  either (RestsBy Few source (j ++ after) u) (spawns after u) (first_state (routine_of source (child_main source s.run.control)) (own_object u after)) (w.tasks u) (inl (first Few source begin (child_main source s.run.control) (own_object u after))) (same_form source j (j ++ after) u (w.tasks u) (asks.others u e) (λ o f. told_others opts source.sites input j p t n asked u o e f) (x.tasks u))
+                  either (RestsBy Few source (j ++ after) u) (spawns after u) (first_state (routine_of source (child_main source s.run.control)) (own_object u after)) (w.tasks u) (inl (first Few source begin (child_main source s.run.control) (own_object u after))) (same_form source j (j ++ after) u (w.tasks u) (asks.others u e) (λ o f. told_others opts source.sites input j p t n asked u o e f) (x.tasks u (ended_before j after u alive)))
 
       may_there : {j : Journal} {w : World} {a : List Entry} {v : World} → RunRests source input opts j w → is_over j ≡ false → StackWorld Z w → CountedWorld source j w → (m : May source opts input j w a v) → MayFit source opts input j w a v m → MayOpen source opts input j w a v m → is_over (j ++ a) ≡ false → Below (j ++ a) → CountedWorld source (j ++ a) v
       may_there {j} {w} r going st n (gives p t s le) f o on low = record {
-        tasks = λ u. same_form source j (j ++ dispatch p t ∷ []) u (w.tasks u) (form_push u j (dispatch p t)) (λ o f. one_kept source.sites j (dispatch p t) u o refl f) (n.tasks u);
+        tasks = λ u h. same_form source j (j ++ dispatch p t ∷ []) u (w.tasks u) (form_push u j (dispatch p t)) (λ o f. one_kept source.sites j (dispatch p t) u o refl f) (n.tasks u (ended_before j (dispatch p t ∷ []) u h));
         homes = n.homes;
       }
       may_there {j} r going st n (no_room p t s le) f o on low = no_both (is_over (j ++ lone_limit ∷ [])) (over_limit j 0 0) on
@@ -355,7 +406,7 @@ module _ (Few : ℕ → Bool) where
 
       world_there : {j : Journal} {w : World} (r : Runs source input opts j w) → RunFits source input opts j w r → is_over j ≡ false → RunOpens source input opts j w r → Below j → CountedWorld source j w
       world_there begun f on o low = record {
-        tasks = λ t. inl (first Few source begin source.main 0);
+        tasks = λ t h. inl (first Few source begin source.main 0);
         homes = λ q. either (CountedMembers Few) (q == 0) (Some no_members) None tt tt;
       }
       world_there (more {j} {w} {a} r g m) f on o low =
@@ -364,9 +415,9 @@ module _ (Few : ℕ → Bool) where
 -- in a run of a program
 runs_by : (few : ℕ → Bool) (p : Program) → breaks_of p ≡ [] → (input : List ℕ) (opts : Options) → InRange opts → (j : Journal) (w : World) (r : Runs (source_of p) input opts j w) → RunFits (source_of p) input opts j w r → is_over j ≡ false → RunOpens (source_of p) input opts j w r → ((n : ℕ) → n < cluster_count j → few n ≡ true) → AllIsCounted few (source_of p) j w
 runs_by few p h input opts range j w r f on o low = record {
-  tasks = λ t. there.tasks t;
+  tasks = λ t h. there.tasks t h;
   homes = λ q. there.homes q;
-  comes = λ t s c l. led few (Sized p) (source_of p) known c.leads l (begun_stack few (Sized p) (source_of p) known c.given j w t (stacked.world_rests (Sized p) (source_of p) known input opts r)) (begun_there few (Sized p) (source_of p) known c.given j w t (law_suiting opts (source_of p).sites input j rests.kernel on t c.given c.told) c.told there);
+  comes = λ t s c l. led few (Sized p) (source_of p) known c.leads l (begun_stack few (Sized p) (source_of p) known c.given j w t (stacked.world_rests (Sized p) (source_of p) known input opts r)) (begun_there few (Sized p) (source_of p) known c.given j w t (law_alive opts (source_of p).sites input j rests.kernel on c.processor t c.runs) (law_suiting opts (source_of p).sites input j rests.kernel on t c.given c.told) c.told there);
 }
   where
     known : SourceIn (Sized p) (source_of p)
@@ -451,11 +502,11 @@ none_leaves way.Opens n l ss rest k todo (inr e) = cc
 
 counted_here : (few : ℕ → Bool) (s : State) (k : ℕ) (todo : List Todo) → LeavesCluster k todo s.run.control → k ≤ LAST_ADDRESS → GoodBy few s → IsFew few (slice_index_or (here s) (address (Slot k ∷ [])) nought)
 counted_here few s k todo (inl e) l (inl h) =
-    let all : AllCounted few (here s) (piece.Clean (src.Destroys (src.OfObject (src.EndCluster (src.Load (src.Variable k))))) ∷ todo) = subst (AllCounted few (here s)) e h.stack.1 in
-    all.0.1 l
+    let left : AllLeft few (here s) (piece.Clean (src.Destroys (src.OfObject (src.EndCluster (src.Load (src.Variable k))))) ∷ todo) = subst (AllLeft few (here s)) e (held_left few (here s) s.run.control h.stack.1) in
+    left.0.1 l
 counted_here few s k todo (inr e) l (inl h) =
-    let all : AllCounted few (here s) (piece.Unwind ∷ (piece.Clean (src.Destroys (src.OfObject (src.EndCluster (src.Load (src.Variable k))))) ∷ todo)) = subst (AllCounted few (here s)) e h.stack.1 in
-    all.1.0.1 l
+    let left : AllLeft few (here s) (piece.Unwind ∷ (piece.Clean (src.Destroys (src.OfObject (src.EndCluster (src.Load (src.Variable k))))) ∷ todo)) = subst (AllLeft few (here s)) e (held_left few (here s) s.run.control h.stack.1) in
+    left.0.1 l
 counted_here few s k todo e l (inr h) = absurd (none_leaves h.stage h.cell h.line h.next h.todo k todo (subst (LeavesCluster k todo) h.control e))
 
 pub law_ends : LawEnds

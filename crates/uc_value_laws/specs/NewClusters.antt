@@ -71,6 +71,12 @@ abbrev pub IsScopeOf : ℕ → Stmts → Type 0
 IsScopeOf k (Scoped (Destroys (OfObject (EndCluster (Load (Variable m))))) rest) = (m ≡ k) × Begins rest
 IsScopeOf k ss = ⊥
 
+-- behind an end and a fault nothing is done
+abbrev pub IsLast : Request → Type 0
+IsLast ask.End = Unit {0}
+IsLast (ask.Fault f) = Unit {0}
+IsLast r = ⊥
+
 module _ (Few : ℕ → Bool) where
   -- it holds the number of a cluster; a variable behind the last address stands for another cell
   abbrev pub IsSetBy : ℕ → State → Type 0
@@ -117,7 +123,7 @@ module _ (Few : ℕ → Bool) where
   GoodBy s = CountedState Few s ⊎ OpeningBy s
 
   abbrev pub AskedBy : Request → State → Type 0
-  AskedBy r s = CountedState Few s ⊎ ((r ≡ ask.Cluster) × WaitingBy s)
+  AskedBy r s = CountedState Few s ⊎ (((r ≡ ask.Cluster) × WaitingBy s) ⊎ (IsLast r × CountedEnv Few s.env))
 
   abbrev pub GoodStepBy : Step → Type 0
   GoodStepBy (Goes s) = GoodBy s

@@ -1,4 +1,5 @@
--- Runs in which each scope of what is known by its number, but for clusters, opens where its variable holds an object.
+-- Runs in which each variable that is a mutex object or a processor holds an object once it is bound, and each scope of an array opens where its
+-- elements hold some.
 use Rattle.std.specs.Prelude.{◌≡◌, ℕ, suc, ◌<◌, ◌≤◌, ◌⊎◌, Bool, true, false, List, [], ◌∷◌, Some, nat_lt}
 use Rattle.uc_tree.specs.Programs.{Program}
 use Rattle.uc_tree.specs.Source.{Source, Variable, Load, OfObject, EndCluster, Destroys}
@@ -8,12 +9,13 @@ use Rattle.uc_entry.specs.declared.request.Answer.TheVariants as answer
 use Rattle.uc_entry.specs.declared.request.Asked.{Asked}
 use Rattle.uc_entry.specs.declared.request.Request.TheVariants as ask
 use Rattle.uc_acts.specs.Journal.{Journal, is_over}
+use Rattle.uc_acts.specs.Known.{has_ended}
 use Rattle.uc_acts.specs.KernelRuns.{InRange}
 use Rattle.uc_acts.specs.Answers.{answer_to}
 use Rattle.uc_acts.specs.Queues.{cluster_count}
 use Rattle.uc_acts.specs.Serves.{left}
-use Rattle.uc_machine.specs.Pieces.{Todo, Rest, Clean, Unwind, LAST_ADDRESS, Asks}
-use Rattle.uc_machine.specs.Quiet.{State, quiet, Quietly}
+use Rattle.uc_machine.specs.Pieces.{Todo, BindNow, BindMadeNow, Rest, Clean, Unwind, LAST_ADDRESS, Asks}
+use Rattle.uc_machine.specs.Quiet.{State, act, quiet, Quietly}
 use Rattle.uc_machine.specs.Answering.{answered}
 use Rattle.uc_machine.specs.Rides.{Rides, slices, goes_on, ticks, asks}
 use Rattle.uc_meaning.specs.Runs.{World, May, Runs, drawn, gives, no_room, acts, begun, more}
@@ -25,52 +27,73 @@ use Rattle.uc_scope_laws.specs.Layout.{Sized}
 use Rattle.uc_scope_laws.specs.Rooms.{SourceIn}
 use Rattle.uc_scope_laws.specs.RoomStacks.{StackState}
 use Rattle.uc_scope_laws.specs.RoomRuns.{Leads, stays, goes, ticks as leads_by_tick, Comes}
-use Rattle.uc_value_laws.specs.There.{Any, frame_at}
-use Rattle.uc_value_laws.specs.ThereStates.{CountedMembers, CountedState, SourceBegins, OpensThere, Fair}
+use Rattle.uc_value_laws.specs.There.{NextDrop, NextCall, Any, frame_at}
+use Rattle.uc_value_laws.specs.ThereStates.{CountedMembers, CountedState, SourceBegins, OpensThere, BoundBehind, Fair}
 use Rattle.uc_value_laws.specs.NewClusters.{OpeningBy, WaitingBy, GoodBy}
 
--- where a scope opens, what it is of is there, but for a variable that is a cluster, at a cell that has an address
-abbrev pub OpensAt : List Todo → State → Type 0
-OpensAt (Rest ss ∷ todo) s = OpensThere (frame_at s.run.frame s.env.frames) ss
-OpensAt todo s = Unit {0}
+-- behind the step that binds the variable of the scope that opens next, that holds an object; where a scope opens that is not given so, what it
+-- is of is there: the elements of an array, and a cluster at a cell that has no address
+module _ (source : Source) where
+  abbrev pub OpensAt : List Todo → State → Type 0
+  OpensAt (Rest ss ∷ todo) s = OpensThere (frame_at s.run.frame s.env.frames) ss
+  OpensAt (BindNow ∷ todo) s = BoundBehind (λ P. NextDrop P todo) (act source BindNow todo s)
+  OpensAt (BindMadeNow c r ∷ todo) s = BoundBehind (λ P. NextCall P todo) (act source (BindMadeNow c r) todo s)
+  OpensAt todo s = Unit {0}
 
-abbrev pub Opens : State → Type 0
-Opens s = OpensAt s.run.control s
+  abbrev pub Opens : State → Type 0
+  Opens s = OpensAt s.run.control s
 
 -- that is all that a step is still to find, where activations which use one frame stay behind one another, and no routine of a source that
 -- keeps to its rooms begins with what belongs behind the declaration of a cluster
 pub record LawFair : Type 0 where
   pub begins : (p : Program) (source : Source) → SourceIn (Sized p) source → SourceBegins source
-  pub fair : (p : Program) (s : State) → StackState (Sized p) s → Opens s → Fair s
+  pub fair : (p : Program) (source : Source) (s : State) → StackState (Sized p) s → Opens source s →
+      Fair source s
 
--- at the states of a ride, of an act, and of each act of a run
+-- what holds at the states of a ride, of an act, and of each act of a run
+module _ (P : State → Type 0) where
+  abbrev pub RideMeets : (source : Source) (s : State) (q : ℕ) (u : State) (k : ℕ) (a : Asked) →
+      Rides source s q u k a → Type 0
+  RideMeets source _ _ _ _ _ slices = Unit {0}
+  RideMeets source _ _ _ _ _ (goes_on {s} {t = v} {u} {q} {k} {a} e rest) = P s ×
+      RideMeets source v (suc q) u k a rest
+  RideMeets source _ _ _ _ _ (ticks {s} {t = v} {u} {q} {k} {a} e rest) = P s ×
+      RideMeets source v q u k a rest
+  RideMeets source _ _ _ _ _ (asks {s} e) = P s
+
+  abbrev pub MayMeet : (source : Source) (opts : Options) (input : List ℕ) (j : Journal) (w : World) (a : List Entry) (x : World) →
+      May source opts input j w a x → Type 0
+  MayMeet source opts input j w _ _ (gives p t s h) = Unit {0}
+  MayMeet source opts input j w _ _ (no_room p t s h) = Unit {0}
+  MayMeet source opts input j w _ _ (acts p t n s asked d) =
+      RideMeets source (answered source d.given (drawn j w t)) (left opts j t) s n asked d.rides
+
+  abbrev pub RunMeets : (source : Source) (input : List ℕ) (opts : Options) (j : Journal) (w : World) →
+      Runs source input opts j w → Type 0
+  RunMeets source input opts _ _ begun = Unit {0}
+  RunMeets source input opts _ _ (more {j} {w} {a} {w' = x} r o m) = RunMeets source input opts j w r ×
+      MayMeet source opts input j w a x m
+
+  -- at the states on the way to one
+  abbrev pub LeadsMeet : (source : Source) (s u : State) → Leads source s u → Type 0
+  LeadsMeet source _ _ stays = Unit {0}
+  LeadsMeet source _ _ (goes {s} {u} {v} e l) = P s × LeadsMeet source u v l
+  LeadsMeet source _ _ (leads_by_tick {s} {u} {v} e l) = P s × LeadsMeet source u v l
+
 abbrev pub RideOpens : (source : Source) (s : State) (q : ℕ) (u : State) (k : ℕ) (a : Asked) →
     Rides source s q u k a → Type 0
-RideOpens source _ _ _ _ _ slices = Unit {0}
-RideOpens source _ _ _ _ _ (goes_on {s} {t = v} {u} {q} {k} {a} e rest) = Opens s ×
-    RideOpens source v (suc q) u k a rest
-RideOpens source _ _ _ _ _ (ticks {s} {t = v} {u} {q} {k} {a} e rest) = Opens s ×
-    RideOpens source v q u k a rest
-RideOpens source _ _ _ _ _ (asks {s} e) = Opens s
+RideOpens source s q u k a r = RideMeets (Opens source) source s q u k a r
 
 abbrev pub MayOpen : (source : Source) (opts : Options) (input : List ℕ) (j : Journal) (w : World) (a : List Entry) (x : World) →
     May source opts input j w a x → Type 0
-MayOpen source opts input j w _ _ (gives p t s h) = Unit {0}
-MayOpen source opts input j w _ _ (no_room p t s h) = Unit {0}
-MayOpen source opts input j w _ _ (acts p t n s asked d) =
-    RideOpens source (answered source d.given (drawn j w t)) (left opts j t) s n asked d.rides
+MayOpen source opts input j w a x m = MayMeet (Opens source) source opts input j w a x m
 
 abbrev pub RunOpens : (source : Source) (input : List ℕ) (opts : Options) (j : Journal) (w : World) →
     Runs source input opts j w → Type 0
-RunOpens source input opts _ _ begun = Unit {0}
-RunOpens source input opts _ _ (more {j} {w} {a} {w' = x} r o m) = RunOpens source input opts j w r ×
-    MayOpen source opts input j w a x m
+RunOpens source input opts j w r = RunMeets (Opens source) source input opts j w r
 
--- at the states on the way to one
 abbrev pub LeadsOpen : (source : Source) (s u : State) → Leads source s u → Type 0
-LeadsOpen source _ _ stays = Unit {0}
-LeadsOpen source _ _ (goes {s} {u} {v} e l) = Opens s × LeadsOpen source u v l
-LeadsOpen source _ _ (leads_by_tick {s} {u} {v} e l) = Opens s × LeadsOpen source u v l
+LeadsOpen source s u l = LeadsMeet (Opens source) source s u l
 
 -- what a task is told, if it is an object, is one of these
 abbrev pub TellsFew : (ℕ → Bool) → Source → ℕ → Journal → Type 0
@@ -82,10 +105,10 @@ RestsBy few source j t s =
     CountedState few s ⊎
     (((asked_form t j ≡ AnObject) × WaitingBy few s × TellsFew few source t j) ⊎ ((asked_form t j ≡ JustGo) × OpeningBy few s))
 
--- then all is there that is in scope and known by its number: of each task at rest, of what is at home in each object, and of whoever runs
+-- then all is there that is in scope and known by its number: of each task at rest that has not ended, of what is at home in each object, and of whoever runs
 -- in each state to which it comes before it asks; clusters that are variables have such numbers
 pub record AllIsCounted (few : ℕ → Bool) (source : Source) (j : Journal) (w : World) : Type 0 where
-  pub tasks : (t : ℕ) → RestsBy few source j t (w.tasks t)
+  pub tasks : (t : ℕ) → has_ended t j ≡ false → RestsBy few source j t (w.tasks t)
   pub homes : (o : ℕ) → CountedMembers few (w.homes o)
   pub comes : (t : ℕ) (s : State) (c : Comes source j w t s) →
       LeadsOpen source (answered source c.given (drawn j w t)) s c.leads → GoodBy few s

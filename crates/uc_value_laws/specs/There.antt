@@ -1,8 +1,8 @@
 -- What is known by its number and in scope: the variable that its clean-up ends holds an object.
-use Rattle.std.specs.Prelude.{◌≡◌, ℕ, ◌<◌, ◌≤◌, List, [], ◌∷◌, slice_index_or, Bool, true}
-use Rattle.uc_tree.specs.Source.{Binding, Expr, Variable, Element, Load, OfObject, EndOn, EndCluster, EndProcessor, CleanUp, Destroys, DestroysAll}
+use Rattle.std.specs.Prelude.{◌≡◌, ℕ, ◌<◌, ◌≤◌, ◌⊎◌, List, [], ◌∷◌, slice_index_or, Bool, true}
+use Rattle.uc_tree.specs.Source.{Binding, Expr, Variable, Element, Load, OfObject, EndOn, Bind, MakeOn, EndCluster, EndProcessor, CleanUp, Destroys, DestroysAll, Stmt, Stmts, Evaluate, Scoped}
 use Rattle.uc_machine.specs.Executions.{at_depth, list_in}
-use Rattle.uc_machine.specs.Pieces.{Link, Slot, At, Value, Object, LAST_ADDRESS, nought, address, Todo, Rest, Clean, Guard, Sort, sort, IsClean, IsGuard, Active}
+use Rattle.uc_machine.specs.Pieces.{Link, Slot, At, Value, Object, LAST_ADDRESS, nought, address, Todo, Eval, DropNow, BindNow, MakeNow, BindMadeNow, CallOnNow, CallUnwrittenNow, Do, Rest, Within, Exit, Unwind, Clean, Guard, Sort, sort, Simple, IsClean, IsGuard, Active}
 use Rattle.uc_scope_laws.specs.Clusters.{Begins, HandlersBegin}
 use Rattle.uc_typing.specs.States.{IsNumbered}
 
@@ -36,19 +36,77 @@ HoldsObject vs p = IsNumbered (slice_index_or vs (address p) nought)
 abbrev pub IsBefore : ℕ → List Link → Type 0
 IsBefore cell p = address p < cell
 
--- what is cleaned up is there, in a frame of these values; so is all that is cleaned up by what is to do
+-- what is cleaned up is there, in a frame of these values
 abbrev pub IsThere : List Value → CleanUp → Type 0
 IsThere vs c = OfEach (HoldsObject vs) c
 
-abbrev pub ThereBy : List Value → Sort → Type 0
-ThereBy vs (IsClean c) = IsThere vs c
-ThereBy vs (IsGuard hs) = HandlersBegin hs
-ThereBy vs k = Unit {0}
+-- so is what each mark among what is to do stands for
+abbrev pub CleanBy : (CleanUp → Type 0) → Sort → Type 0
+CleanBy B (IsClean c) = B c
+CleanBy B k = Unit {0}
 
--- a variable that is a cluster, at a cell that has an address
-abbrev pub IsNear : CleanUp → Type 0
-IsNear (Destroys (OfObject (EndCluster (Load (Variable k))))) = k ≤ LAST_ADDRESS
-IsNear c = ⊥
+abbrev pub AllCleans : (CleanUp → Type 0) → List Todo → Type 0
+AllCleans B [] = Unit {0}
+AllCleans B (p ∷ todo) = CleanBy B (sort p) × AllCleans B todo
+
+abbrev pub AllThere : List Value → List Todo → Type 0
+AllThere vs todo = AllCleans (IsThere vs) todo
+
+-- what is there as its scope opens without anything to find then: a variable that is a cluster, at a cell that has an address, and one that is
+-- a processor or a mutex object
+abbrev pub IsGiven : CleanUp → Type 0
+IsGiven (Destroys (OfObject (EndCluster (Load (Variable k))))) = k ≤ LAST_ADDRESS
+IsGiven (Destroys (OfObject (EndProcessor (Load (Variable k))))) = Unit {0}
+IsGiven (Destroys (OfObject (EndOn r written (Load (Variable k))))) = Unit {0}
+IsGiven c = ⊥
+
+abbrev pub IsNoCluster : CleanUp → Type 0
+IsNoCluster (Destroys (OfObject (EndCluster (Load (Variable k))))) = ⊥
+IsNoCluster c = Unit {0}
+
+-- the place of a variable that is a processor or a mutex object, whose scope opens next in what is left of a block
+abbrev pub OfBound : (List Link → Type 0) → CleanUp → Type 0
+OfBound P (Destroys (OfObject (EndProcessor (Load (Variable k))))) = P (Slot k ∷ [])
+OfBound P (Destroys (OfObject (EndOn r written (Load (Variable k))))) = P (Slot k ∷ [])
+OfBound P c = Unit {0}
+
+abbrev pub OpensBound : (List Link → Type 0) → Stmts → Type 0
+OpensBound P (Scoped c rest) = OfBound P c
+OpensBound P ss = Unit {0}
+
+-- that is next behind what has bound it: behind the call of a constructor, or where the value of the statement is dropped
+abbrev pub NextBound : (List Link → Type 0) → List Todo → Type 0
+NextBound P (Rest ss ∷ todo) = OpensBound P ss
+NextBound P (Within line ∷ (Rest ss ∷ todo)) = OpensBound P ss
+NextBound P (DropNow ∷ (Within line ∷ (Rest ss ∷ todo))) = OpensBound P ss
+NextBound P (CallOnNow r ∷ (DropNow ∷ (Within line ∷ (Rest ss ∷ todo)))) = OpensBound P ss
+NextBound P (CallUnwrittenNow r ∷ (DropNow ∷ (Within line ∷ (Rest ss ∷ todo)))) = OpensBound P ss
+NextBound P todo = Unit {0}
+
+-- so it is behind a step that binds: of a statement, and of a mutex object, before the call of its constructor
+abbrev pub NextDrop : (List Link → Type 0) → List Todo → Type 0
+NextDrop P (DropNow ∷ (Within line ∷ (Rest ss ∷ todo))) = OpensBound P ss
+NextDrop P todo = Unit {0}
+
+abbrev pub NextCall : (List Link → Type 0) → List Todo → Type 0
+NextCall P (CallOnNow r ∷ todo) = NextDrop P todo
+NextCall P (CallUnwrittenNow r ∷ todo) = NextDrop P todo
+NextCall P todo = Unit {0}
+
+-- what may be left of a block behind a statement that binds
+abbrev pub MayBegin : Stmts → Type 0
+MayBegin (Scoped c rest) = IsNoCluster c
+MayBegin ss = Begins ss
+
+-- an expression, and a statement, that bind a place to something
+abbrev pub IsBinder : Expr → Type 0
+IsBinder (OfObject (Bind p e)) = Unit {0}
+IsBinder (OfObject (MakeOn c r written p args)) = Unit {0}
+IsBinder e = ⊥
+
+abbrev pub BindsBy : Stmt → Type 0
+BindsBy (Evaluate line e) = IsBinder e
+BindsBy a = ⊥
 
 -- `Few n`: a cluster may have the number n
 module _ (Few : ℕ → Bool) where
@@ -67,40 +125,75 @@ module _ (Few : ℕ → Bool) where
   MarkCounted vs (IsGuard hs) = HandlersBegin hs
   MarkCounted vs k = Unit {0}
 
-  -- and the statements that are left of a block begin neither by binding a variable to a new cluster nor by the scope of one
+  -- and the statements that are left of a block begin neither by binding a variable to a new cluster nor by the scope of what is known by its
+  -- number
   abbrev pub PieceCounted : List Value → Todo → Type 0
   PieceCounted vs (Clean c) = IsThere vs c × IsCounted vs c
   PieceCounted vs (Guard hs) = HandlersBegin hs
   PieceCounted vs (Rest ss) = Begins ss
   PieceCounted vs p = Unit {0}
 
-  abbrev pub AllCounted : List Value → List Todo → Type 0
-  AllCounted vs [] = Unit {0}
-  AllCounted vs (p ∷ todo) = PieceCounted vs p × AllCounted vs todo
+  -- who leaves a simple piece comes to what stands behind it; at a mark that may be done
+  abbrev pub LeftBy : List Value → Sort → Type 0 → Type 0 → Type 0
+  LeftBy vs Simple left all = left
+  LeftBy vs k left all = MarkCounted vs k × all
+
+  abbrev mutual
+    -- a scope of what is known by its number stands behind what is still to bind it
+    pub AllCounted : List Value → List Todo → Type 0
+    AllCounted vs [] = Unit {0}
+    AllCounted vs (Eval e ∷ todo) = AllCounted vs todo ⊎ (IsBinder e × AtDrop vs todo)
+    AllCounted vs (Do a ∷ todo) = AllCounted vs todo ⊎ (BindsBy a × AtRest vs todo)
+    AllCounted vs (BindNow ∷ todo) = AllCounted vs todo ⊎ AtDrop vs todo
+    AllCounted vs (MakeNow c r ∷ todo) = AllCounted vs todo ⊎ AtCall vs todo
+    AllCounted vs (BindMadeNow c r ∷ todo) = AllCounted vs todo ⊎ AtCall vs todo
+    AllCounted vs (Exit w ∷ todo) = AllLeft vs todo
+    AllCounted vs (Unwind ∷ todo) = AllLeft vs todo
+    AllCounted vs (p ∷ todo) = PieceCounted vs p × AllCounted vs todo
+
+    -- it may open next
+    pub AtRest : List Value → List Todo → Type 0
+    AtRest vs (Rest ss ∷ todo) = MayBegin ss × AllCounted vs todo
+    AtRest vs todo = ⊥
+
+    pub AtDrop : List Value → List Todo → Type 0
+    AtDrop vs (DropNow ∷ (Within line ∷ todo)) = AtRest vs todo
+    AtDrop vs todo = ⊥
+
+    pub AtCall : List Value → List Todo → Type 0
+    AtCall vs (CallOnNow r ∷ todo) = AtDrop vs todo
+    AtCall vs (CallUnwrittenNow r ∷ todo) = AtDrop vs todo
+    AtCall vs todo = ⊥
+
+    pub AllLeft : List Value → List Todo → Type 0
+    AllLeft vs [] = Unit {0}
+    AllLeft vs (p ∷ todo) = LeftBy vs (sort p) (AllLeft vs todo) (AllCounted vs todo)
+
+  -- what is behind a piece that has bound it
+  abbrev pub AtBound : List Value → List Todo → Type 0
+  AtBound vs (Rest ss ∷ todo) = MayBegin ss × AllCounted vs todo
+  AtBound vs (Within line ∷ todo) = AtRest vs todo
+  AtBound vs (DropNow ∷ (Within line ∷ todo)) = AtRest vs todo
+  AtBound vs (CallOnNow r ∷ todo) = AtDrop vs todo
+  AtBound vs (CallUnwrittenNow r ∷ todo) = AtDrop vs todo
+  AtBound vs todo = ⊥
+
+  -- what an activation has to do: all is there, also of the scope that opens next, from where its variable is bound on
+  abbrev pub Held : List Value → List Todo → Type 0
+  Held vs todo = AllCounted vs todo ⊎ (AtBound vs todo × NextBound (HoldsObject vs) todo)
 
 -- of any numbers
 abbrev pub Any : ℕ → Bool
 Any n = true
 
-abbrev pub PieceThere : List Value → Todo → Type 0
-PieceThere vs p = PieceCounted Any vs p
-
-abbrev pub AllThere : List Value → List Todo → Type 0
-AllThere vs todo = AllCounted Any vs todo
-
--- it lies before a cell
-abbrev pub BeforeBy : ℕ → Sort → Type 0
-BeforeBy cell (IsClean c) = OfEach (IsBefore cell) c
-BeforeBy cell k = Unit {0}
-
+-- all that is cleaned up by what is to do lies before a cell
 abbrev pub AllBefore : ℕ → List Todo → Type 0
-AllBefore cell [] = Unit {0}
-AllBefore cell (p ∷ todo) = BeforeBy cell (sort p) × AllBefore cell todo
+AllBefore cell todo = AllCleans (OfEach (IsBefore cell)) todo
 
--- so it does in all of these activations that use the frame of a depth
+-- so it does in all of these activations that use the frame of a depth, and so does what was bound of a scope that opens next
 abbrev pub FrameBefore : ℕ → ℕ → List Active → Type 0
 FrameBefore cell d [] = Unit {0}
-FrameBefore cell d (a ∷ older) = (a.frame ≡ d → AllBefore cell a.control) × FrameBefore cell d older
+FrameBefore cell d (a ∷ older) = (a.frame ≡ d → AllBefore cell a.control × NextBound (IsBefore cell) a.control) × FrameBefore cell d older
 
 -- the values of the frame of a depth
 abbrev pub frame_at : ℕ → List (List Value) → List Value

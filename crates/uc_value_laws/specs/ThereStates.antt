@@ -1,17 +1,18 @@
 -- Executions and tasks in which all that is known by its number and in scope is there, the newest activation first.
 use Rattle.std.specs.Prelude.{◌≡◌, ℕ, suc, ◌≤◌, ◌<◌, List, [], ◌∷◌, length, Option, Some, None, slice_get, Bool}
 use Rattle.uc_tree.specs.Source.{Variable, Load, OfObject, EndCluster, Destroys, Stmt, Stmts, Block, Whole, OfEvents, Scoped, Try, Routine, Source}
+use Rattle.uc_machine.specs.Quiet.{act}
 use Rattle.uc_machine.specs.Executions.{Execution}
-use Rattle.uc_machine.specs.Pieces.{Value, Todo, BindNow, DropNow, Within, Do, Rest, ClearNow, Active, State, Env, Members, Step, Goes, Ticks, Asks}
+use Rattle.uc_machine.specs.Pieces.{Link, Value, Todo, BindNow, BindMadeNow, DropNow, Within, Do, Rest, ClearNow, Active, State, Env, Members, Step, Goes, Ticks, Asks}
 use Rattle.uc_scope_laws.specs.Clusters.{Begins, HandlersBegin, Joined}
-use Rattle.uc_value_laws.specs.There.{IsThere, IsNear, AllCounted, Any, FrameBefore, frame_at}
+use Rattle.uc_value_laws.specs.There.{HoldsObject, IsThere, IsGiven, NextDrop, NextCall, Held, Any, AllBefore, FrameBefore, frame_at}
 
 module _ (Few : ℕ → Bool) where
   -- activations with these frames: each uses its own frame or that of an older one, in which all is there that it has still to clean up
   abbrev pub CountedStack : List (List Value) → List Active → Type 0
   CountedStack fs [] = Unit {0}
   CountedStack fs (a ∷ older) = (a.frame ≤ length older) ×
-      AllCounted Few (frame_at a.frame fs) a.control × CountedStack fs older
+      Held Few (frame_at a.frame fs) a.control × CountedStack fs older
 
   -- an execution that does not run, with a frame for each activation
   pub record CountedEx (x : Execution (List Todo) Value) : Type 0 where
@@ -74,9 +75,9 @@ BodiesBegin (Whole line body) = Begins body
 BodiesBegin (OfEvents (Try line body hs)) = Begins body × HandlersBegin hs
 BodiesBegin a = Unit {0}
 
--- where a scope opens, what it is of is there, but for such a cluster
+-- where a scope opens, what it is of is there, if that is not given: an array is
 abbrev pub OpensThere : List Value → Stmts → Type 0
-OpensThere vs (Scoped c rest) = (IsNear c → ⊥) → IsThere vs c
+OpensThere vs (Scoped c rest) = (IsGiven c → ⊥) → IsThere vs c
 OpensThere vs ss = Unit {0}
 
 -- the cluster whose scope is opened behind a statement lies in a frame of so many cells
@@ -88,14 +89,23 @@ abbrev pub BoundFits : ℕ → List Todo → Type 0
 BoundFits n (DropNow ∷ (Within line ∷ (Rest ss ∷ todo))) = ScopeFits n ss
 BoundFits n todo = Unit {0}
 
--- what a step is to find: where a scope opens, what it is of is there; what begins and what stands behind each other is as in the source;
--- cells that start anew lie behind all that is there; and a cluster lies in the frame
-abbrev pub FairAt : List Todo → State → Type 0
-FairAt (Rest ss ∷ todo) s = Joined ss × OpensThere (frame_at s.run.frame s.env.frames) ss
-FairAt (Do a ∷ todo) s = BodiesBegin a
-FairAt (ClearNow k n ∷ todo) s = FrameBefore k s.run.frame (s.run ∷ s.callers)
-FairAt (BindNow ∷ todo) s = BoundFits (length (frame_at s.run.frame s.env.frames)) todo
-FairAt todo s = Unit {0}
+-- behind a step that binds, the variable holds an object whose scope opens next
+abbrev pub BoundBehind : ((List Link → Type 0) → Type 0) → Step → Type 0
+BoundBehind next (Goes s) = next (HoldsObject (frame_at s.run.frame s.env.frames))
+BoundBehind next (Ticks s) = Unit {0}
+BoundBehind next (Asks r s) = Unit {0}
 
-abbrev pub Fair : State → Type 0
-Fair s = FairAt s.run.control s
+-- what a step is to find: where a scope opens, what it is of is there, if it is not given; what is bound is there behind the step; what begins
+-- and what stands behind each other is as in the source; cells that start anew lie behind all that is there; and a cluster lies in the frame
+module _ (source : Source) where
+  abbrev pub FairAt : List Todo → State → Type 0
+  FairAt (Rest ss ∷ todo) s = Joined ss × OpensThere (frame_at s.run.frame s.env.frames) ss
+  FairAt (Do a ∷ todo) s = BodiesBegin a
+  FairAt (ClearNow k n ∷ todo) s = AllBefore k todo × FrameBefore k s.run.frame s.callers
+  FairAt (BindNow ∷ todo) s = BoundFits (length (frame_at s.run.frame s.env.frames)) todo ×
+      BoundBehind (λ P. NextDrop P todo) (act source BindNow todo s)
+  FairAt (BindMadeNow c r ∷ todo) s = BoundBehind (λ P. NextCall P todo) (act source (BindMadeNow c r) todo s)
+  FairAt todo s = Unit {0}
+
+  abbrev pub Fair : State → Type 0
+  Fair s = FairAt s.run.control s

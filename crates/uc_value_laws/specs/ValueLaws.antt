@@ -16,7 +16,7 @@ pub record LawSteps : Type 0 where
   pub begins : (few : ℕ → Bool) (source : Source) → SourceBegins source → (r o : ℕ) →
       CountedState few (first_state (routine_of source r) o)
   pub steps : (few : ℕ → Bool) (source : Source) → SourceBegins source → (s : State) →
-      GoodBy few s → Fair s → GoodStepBy few (quiet source s)
+      GoodBy few s → Fair source s → GoodStepBy few (quiet source s)
   pub told : (few : ℕ → Bool) (source : Source) (given : Answer) (s : State) → CountedState few s →
       CountedState few (answered source given s)
   pub waited : (few : ℕ → Bool) (source : Source) (o : ℕ) (s : State) → few o ≡ true →

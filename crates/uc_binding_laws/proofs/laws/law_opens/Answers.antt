@@ -1,0 +1,5 @@
+use Rattle.uc_binding_laws.proofs.Loosening.{law_opens}
+use Rattle.uc_binding_laws.proofs.laws.law_opens.Goals as goal
+
+pub returns : goal.returns
+returns c = law_opens
