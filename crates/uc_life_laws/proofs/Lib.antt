@@ -14,10 +14,8 @@ pub mod Calls
 pub mod Evaluating
 pub mod Following
 pub mod Acting
-<<<<<<< HEAD
-=======
 pub mod Scopes
 pub mod Clearing
 pub mod Laying
 pub mod LifeWorlds
->>>>>>> 09fb5b8385c115bea43b7132e88644cdac89afe0
+pub mod NamedAsks

@@ -6,3 +6,5 @@ pub mod KnownAnswers
 pub mod Following
 pub mod LifeRuns
 pub mod LifeReading
+pub mod KnownRuns
+pub mod NamedAsks

@@ -1,6 +1,8 @@
 // The laws: each is a function whose contract is the law.
 
 ghost use Rattle.uc_life_laws.specs.Following.{LawFollowing};
+ghost use Rattle.uc_life_laws.specs.KnownRuns.{LawNamed};
+ghost use Rattle.uc_life_laws.specs.NamedAsks.{LawAsked};
 ghost use Rattle.uc_life_laws.specs.KnownAnswers.{LawAnswers};
 ghost use Rattle.uc_life_laws.specs.LifeLaws.{LawKnown, LawSteps};
 ghost use Rattle.uc_life_laws.specs.LifeReading.{LawReading};
@@ -44,4 +46,8 @@ pub fn law_clears()
 /// rest and in each state to which whoever runs comes before it asks, as long as each scope opens so.
 pub fn law_runs()
     ensures { LawRuns }
+{}
+
+pub fn law_asked()
+    ensures { LawNamed → LawAsked }
 {}
