@@ -22,3 +22,4 @@ pub mod LifeWorlds
 pub mod Spawning
 pub mod NewNumbers
 pub mod KnownWorlds
+pub mod NamedAsks

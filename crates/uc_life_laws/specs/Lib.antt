@@ -8,3 +8,4 @@ pub mod Opened
 pub mod LifeRuns
 pub mod LifeReading
 pub mod KnownRuns
+pub mod NamedAsks

@@ -1,6 +1,7 @@
 // The laws: each is a function whose contract is the law.
 
 ghost use Rattle.uc_life_laws.specs.Following.{LawFollowing};
+ghost use Rattle.uc_life_laws.specs.NamedAsks.{LawAsked};
 ghost use Rattle.uc_life_laws.specs.KnownAnswers.{LawAnswers};
 ghost use Rattle.uc_life_laws.specs.KnownRuns.{LawKnownRuns, LawNamed};
 ghost use Rattle.uc_life_laws.specs.LifeLaws.{LawKnown, LawSteps};
@@ -65,4 +66,9 @@ pub fn law_known_runs()
 /// that it names was made.
 pub fn law_named()
     ensures { LawNamed }
+{}
+
+/// So it is of each request that the ride of whoever runs comes to.
+pub fn law_asked()
+    ensures { LawAsked }
 {}
