@@ -603,7 +603,7 @@ module _ (Sized : ℕ → ℕ → Type 0) (source : Source) where
       pub make : (c k : ℕ) (r : Option Routine) (todo : List Todo) → OfNamed (rests (params source k) ms) (IsFor Sized (Unit {0}) todo (others todo)) → Ok Sized source (anys (suc (params source k)) (rests (suc (params source k)) ms)) todo → PlacedStep Sized source (monitors.make_step c k r todo s)
       make c k None todo b h = ends _ _
       make c k (Some r) todo b h =
-          either (PlacedStep Sized source) (monitors.may_call r.written s) _ _ (record { run = record { first = Thing; told = tt; marks = ms; holds = holds; ok = (b, h) }; callers = callers; env = likes env refl refl refl }) (stop Depth todo _)
+          either (PlacedStep Sized source) (monitors.may_call r.written s) _ _ (record { run = record { first = Thing; told = tt; marks = ms; holds = holds; ok = (b, h, tt) }; callers = callers; env = likes env refl refl refl }) (stop Depth todo _)
 
       pub bind : (r : Option Routine) (todo : List Todo) → Ok Sized source (anys (suc (params_at r)) (rests (suc (params_at r)) (rest ms))) todo → PlacedStep Sized source (monitors.bind_step r todo s)
       bind None todo h = ends _ _

@@ -17,13 +17,13 @@ use Rattle.uc_scope_laws.specs.RoomStacks.{UpTo, SomeTo}
 use Rattle.uc_scope_laws.proofs.Stacks.{up_to}
 use Rattle.uc_scope_laws.proofs.StackWorlds.{law_frames, law_frame_runs}
 use Rattle.uc_scope_laws.specs.Opening.{Destroying}
-use Rattle.uc_value_laws.specs.There.{OfVariable, OfEach, HoldsObject, IsThere, frame_at}
+use Rattle.uc_value_laws.specs.There.{IsLoose, HoldsLoose, OfVariable, OfEach, HoldsObject, IsThere, frame_at}
 use Rattle.uc_value_laws.proofs.Cells.{set_length}
 use Rattle.uc_value_laws.proofs.Steps.{exec_same}
 use Rattle.uc_event_laws.specs.Counted.{params_at}
 use Rattle.uc_binding_laws.specs.Placed.{IsObject, Denotes, EndsIt}
 use Rattle.uc_binding_laws.specs.BindingLaws.{IsNamedPlace}
-use Rattle.uc_binding_laws.specs.Taking.{IsLoose, HoldsLoose, here, before_scope, call_now, LawTaken, LawTakenRuns}
+use Rattle.uc_binding_laws.specs.Taking.{here, before_scope, call_now, LawTaken, LawTakenRuns}
 use Rattle.uc_binding_laws.proofs.Walk.{law_bound}
 use Rattle.uc_binding_laws.proofs.Worlds.{placed_in}
 

@@ -235,6 +235,10 @@ law_bound = record {
       let ok = subst (Ok (SizedOf p) source ms) e h.run.ok in
       let under = holds_below (this_frame s) s.run.this ms s.run.operands h.run.holds in
       named_in p s todo (others todo) (IsThing ms) (holds_thing (this_frame s) s.run.this ms s.run.operands h.run.holds) (rests n (rest ms)) (drop n (below s.run.operands)) (holds_drop (this_frame s) s.run.this n (rest ms) (below s.run.operands) under) ok.0;
+  object = λ source p s h c r todo e.
+      let ms = h.run.marks in
+      let ok = subst (Ok (SizedOf p) source ms) e h.run.ok in
+      holds_thing (this_frame s) s.run.this ms s.run.operands h.run.holds ok.2;
 }
 
 pub law_steps : LawSteps

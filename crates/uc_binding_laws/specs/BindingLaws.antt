@@ -50,3 +50,6 @@ pub record LawBound : Type 0 where
   pub made : (source : Source) (p : Program) (s : State) → PlacedState (Sized p) source s →
       (c r : ℕ) (todo : List Todo) → s.run.control ≡ BindMadeNow c r ∷ todo →
       IsNamedPlace p s todo (others todo) (top (drop (params source r) (below s.run.operands)))
+  pub object : (source : Source) (p : Program) (s : State) → PlacedState (Sized p) source s →
+      (c r : ℕ) (todo : List Todo) → s.run.control ≡ BindMadeNow c r ∷ todo →
+      IsObject (top s.run.operands)

@@ -265,7 +265,7 @@ module _ (Sized : ℕ → ℕ → Type 0) (source : Source) where
     Ok ms (piece.MakeNow c r ∷ todo) =
         OfNamed (rests (params source r) ms) (IsFor Sized (Unit {0}) todo (others todo)) × Ok (anys (suc (params source r)) (rests (suc (params source r)) ms)) todo
     Ok ms (piece.BindMadeNow c r ∷ todo) =
-        OfNamed (rests (params source r) (rest ms)) (IsFor Sized (IsThing ms) todo (others todo)) × Ok (anys (suc (params source r)) (rests (suc (params source r)) (rest ms))) todo
+        OfNamed (rests (params source r) (rest ms)) (IsFor Sized (IsThing ms) todo (others todo)) × Ok (anys (suc (params source r)) (rests (suc (params source r)) (rest ms))) todo × IsThing ms
     Ok ms (piece.ClusterNow ∷ todo) = (m : Mark) × IsTold m × Ok (m ∷ ms) todo
     Ok ms (piece.ProcessorNow ∷ todo) = (m : Mark) × IsTold m × Ok (m ∷ rest ms) todo
     Ok ms (piece.FillNow n b d ∷ todo) =

@@ -1,12 +1,12 @@
 -- A binding takes: where the variable of the scope behind the statement holds no place and no execution before, it holds an object once that is
 -- bound.
-use Rattle.std.specs.Prelude.{◌≡◌, ℕ, Bool, true, false, List, [], ◌∷◌, slice_index_or}
+use Rattle.std.specs.Prelude.{◌≡◌, ℕ, Bool, true, false, List, [], ◌∷◌}
 use Rattle.uc_tree.specs.Programs.{Program}
 use Rattle.uc_tree.specs.Source.{Expr, Destroys, Stmts, Scoped, Source}
 use Rattle.uc_entry.specs.declared.entry.Options.{Options}
 use Rattle.uc_acts.specs.Journal.{Journal, is_over}
 use Rattle.uc_acts.specs.KernelRuns.{InRange}
-use Rattle.uc_machine.specs.Pieces.{Link, Value, Place, Running, nought, address, Todo, BindNow, BindMadeNow, CallOnNow, CallUnwrittenNow, DropNow, Within, Rest, State, Goes}
+use Rattle.uc_machine.specs.Pieces.{Value, Todo, BindNow, BindMadeNow, CallOnNow, CallUnwrittenNow, DropNow, Within, Rest, State, Goes}
 use Rattle.uc_machine.specs.Quiet.{quiet}
 use Rattle.uc_meaning.specs.Runs.{World, Runs}
 use Rattle.uc_program_laws.specs.Fitting.{RunFits}
@@ -16,17 +16,8 @@ use Rattle.uc_sound.specs.Formed.{IsFormed}
 use Rattle.uc_scope_laws.specs.Layout.{Sized}
 use Rattle.uc_scope_laws.specs.RoomStacks.{StackState}
 use Rattle.uc_scope_laws.specs.RoomRuns.{Comes}
-use Rattle.uc_value_laws.specs.There.{OfEach, IsThere, frame_at}
+use Rattle.uc_value_laws.specs.There.{HoldsLoose, OfEach, IsThere, frame_at}
 use Rattle.uc_binding_laws.specs.Placed.{PlacedState}
-
--- what an object replaces, or another object
-abbrev pub IsLoose : Value → Type 0
-IsLoose (Place o p) = ⊥
-IsLoose (Running n) = ⊥
-IsLoose v = Unit {0}
-
-abbrev pub HoldsLoose : List Value → List Link → Type 0
-HoldsLoose vs p = IsLoose (slice_index_or vs (address p) nought)
 
 -- the values of the frame of the running activation
 abbrev pub here : State → List Value

@@ -1,8 +1,8 @@
 // The laws: each is a function whose contract is the law.
 
+ghost use Rattle.uc_binding_laws.specs.Aside.{LawOpens};
 ghost use Rattle.uc_binding_laws.specs.BindingLaws.{LawBound, LawSteps};
 ghost use Rattle.uc_binding_laws.specs.BindingRuns.{LawRuns};
-ghost use Rattle.uc_binding_laws.specs.Loose.{LawOpens};
 ghost use Rattle.uc_binding_laws.specs.Taking.{LawTaken, LawTakenRuns};
 
 /// In any source in which arguments are counted and scopes open behind what builds their objects, the
@@ -39,8 +39,9 @@ pub fn law_taken_runs()
     ensures { LawTakenRuns }
 {}
 
-/// So where the cell of a variable that is bound before its scope holds no place and no execution, the
-/// variable holds an object behind the step that binds it: in such runs, and on the way to such a state.
+/// So where places and executions are bound aside of the variables that are declared and still to be
+/// bound, a variable of a mutex object or a processor holds an object behind the step that binds it,
+/// and a made object is one: in such runs, and on the way to such a state.
 pub fn law_opens()
     ensures { LawOpens }
 {}

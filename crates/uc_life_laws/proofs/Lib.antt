@@ -19,3 +19,7 @@ pub mod Scopes
 pub mod Clearing
 pub mod Laying
 pub mod LifeWorlds
+pub mod Spawning
+pub mod NewNumbers
+pub mod KnownWorlds
+pub mod NamedAsks

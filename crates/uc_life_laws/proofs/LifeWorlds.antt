@@ -39,7 +39,7 @@ use Rattle.uc_life_laws.proofs.Laying.{laid_out}
 
 module _ (t : Table) (few : Ty → ℕ → Bool) where
   -- tasks at rest, and what is at home in objects
-  record LifeWorld (w : World) : Type 0 where
+  pub record LifeWorld (w : World) : Type 0 where
     pub tasks : (n : ℕ) → LifeState t few (w.tasks n)
     pub homes : (o : ℕ) → LifeMembers t few (home.Object o) (w.homes o)
 
@@ -64,7 +64,7 @@ module _ (t : Table) (few : Ty → ℕ → Bool) where
   bare_rests s h = record { frames = h.frames; stack = h.stack; env = record { house = h.env.house; hand = tt } }
 
   module _ (Z : ℕ → ℕ → Type 0) (laid : IsLaidOut Z t) (source : Source) (known : SourceIn Z source) where
-    steps_to : (s : State) → StackState Z s → Opens t few s → LifeState t few s → LifeStep t few (quiet source s)
+    pub steps_to : (s : State) → StackState Z s → Opens t few s → LifeState t few s → LifeStep t few (quiet source s)
     steps_to s st o h = law_steps.steps t few source s h o (clears Z t laid s st)
 
     led : {s u : State} (l : Leads source s u) → LeadsMeet (Opens t few) source s u l → StackState Z s → LifeState t few s → LifeState t few u
@@ -78,10 +78,10 @@ module _ (t : Table) (few : Ty → ℕ → Bool) where
     ridden (rides.ticks {s} {t} e r) o st h = ridden r o.1 (subst (StackStep Z) e (stacking.walk Z source known s st)) (subst (LifeStep _ few) e (steps_to s st o.0 h))
     ridden (rides.asks {s} {t} e) o st h = subst (LifeStep _ few) e (steps_to s st o h)
 
-    stack_told : (given : Answer) (j : Journal) (w : World) (n : ℕ) → StackWorld Z w → StackState Z (answered source given (drawn j w n))
+    pub stack_told : (given : Answer) (j : Journal) (w : World) (n : ℕ) → StackWorld Z w → StackState Z (answered source given (drawn j w n))
     stack_told given j w n x = stacking.answered_rests Z source given (drawn j w n) (stacked.drawn_rests Z j w n x)
 
-    life_told : (given : Answer) (j : Journal) (w : World) (n : ℕ) → LifeWorld w → LifeState t few (answered source given (drawn j w n))
+    pub life_told : (given : Answer) (j : Journal) (w : World) (n : ℕ) → LifeWorld w → LifeState t few (answered source given (drawn j w n))
     life_told given j w n x = law_steps.told t few source given (drawn j w n) (drawn_rests j w n x)
 
     module _ (input : List ℕ) (opts : Options) where
@@ -95,7 +95,7 @@ module _ (t : Table) (few : Ty → ℕ → Bool) where
             homes = λ o. either (LifeMembers t few (home.Object o)) (takes_out a o) None (or_else (find o s.env.hand) (w.homes o)) tt (or_rests o (find o s.env.hand) (w.homes o) (found_hand (LifeEx t few) o s.env.hand asks.env.hand) (h.homes o));
           }
 
-      world_rests : {j : Journal} {w : World} (r : Runs source input opts j w) → RunMeets (Opens t few) source input opts j w r → LifeWorld w
+      pub world_rests : {j : Journal} {w : World} (r : Runs source input opts j w) → RunMeets (Opens t few) source input opts j w r → LifeWorld w
       world_rests begun o = record {
         tasks = λ n. law_steps.begins t few source source.main 0;
         homes = λ o. either (LifeMembers t few (home.Object o)) (o == 0) (Some no_members) None tt tt;

@@ -7,3 +7,5 @@ pub mod Following
 pub mod Opened
 pub mod LifeRuns
 pub mod LifeReading
+pub mod KnownRuns
+pub mod NamedAsks

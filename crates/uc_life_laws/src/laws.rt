@@ -1,7 +1,9 @@
 // The laws: each is a function whose contract is the law.
 
 ghost use Rattle.uc_life_laws.specs.Following.{LawFollowing};
+ghost use Rattle.uc_life_laws.specs.NamedAsks.{LawAsked};
 ghost use Rattle.uc_life_laws.specs.KnownAnswers.{LawAnswers};
+ghost use Rattle.uc_life_laws.specs.KnownRuns.{LawKnownRuns, LawNamed};
 ghost use Rattle.uc_life_laws.specs.LifeLaws.{LawKnown, LawSteps};
 ghost use Rattle.uc_life_laws.specs.LifeReading.{LawReading};
 ghost use Rattle.uc_life_laws.specs.LifeRuns.{LawClears, LawRuns};
@@ -51,4 +53,22 @@ pub fn law_clears()
 /// rest and in each state to which whoever runs comes before it asks, as long as each scope opens so.
 pub fn law_runs()
     ensures { LawRuns }
+{}
+
+/// So in each run of a program that breaks no rule, as long as all that was asked so far fits, all is known
+/// that each execution can come by, of tasks at rest, of what is at home in objects and in each state to
+/// which whoever runs comes before it asks, as far as each step found what it was to find.
+pub fn law_known_runs()
+    ensures { LawKnownRuns }
+{}
+
+/// So each object that whoever runs calls, each at which it raises an event, each cluster and each processor
+/// that it names was made.
+pub fn law_named()
+    ensures { LawNamed }
+{}
+
+/// So it is of each request that the ride of whoever runs comes to.
+pub fn law_asked()
+    ensures { LawAsked }
 {}

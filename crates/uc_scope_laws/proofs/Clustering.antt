@@ -12,6 +12,8 @@ use Rattle.uc_scope_laws.specs.Ordinary.{Ordinary}
 
 precedes : (a b : Stmt) → IsUnbound b → Precedes a b
 precedes a (src.Evaluate line (src.OfObject (src.Bind (src.Variable k) (src.OfObject src.NewCluster)))) h = absurd h
+precedes a (src.Evaluate line (src.OfObject (src.Bind (src.Variable k) (src.OfObject (src.NewProcessor e))))) h = absurd h
+precedes a (src.Evaluate line (src.OfObject (src.MakeOn c r written (src.Variable k) args))) h = absurd h
 precedes a b h = tt
 
 opens : (a : Stmt) (c : CleanUp) → IsUnscoped c → OpensBound a c
@@ -29,6 +31,7 @@ follows a (src.Built c rest) h = tt
 -- what programs write binds nothing
 pub unbound_ordinary : (line : ℕ) (e : Expr) → Ordinary e → IsUnbound (src.Evaluate line e)
 unbound_ordinary line (src.OfObject (src.Bind p e)) h = absurd h
+unbound_ordinary line (src.OfObject (src.MakeOn c r written p args)) h = absurd h
 unbound_ordinary line e h = tt
 
 -- objects
@@ -37,16 +40,21 @@ unbound_called : (p : Program) (i line : ℕ) (place : Expr) (args : List Meant)
 unbound_called p i line place args None a = tt
 unbound_called p i line place args (Some r) a = tt
 
-unbound_made : (p : Program) (i line : ℕ) (place : Expr) (args : List Meant) (r : Option ℕ) (a : Stmt) → Precedes a (src.Evaluate line (meaning.made_by p i place args r))
-unbound_made p i line place args None a = tt
-unbound_made p i line place args (Some r) a = tt
+declared_made : (p : Program) (i line m k n : ℕ) (args : List Meant) (r : Option ℕ) → 1 ≤ n → Precedes (src.Declare line (record { cell = k; cells = n; value = None } ∷ [])) (src.Evaluate m (meaning.made_by p i (src.Variable k) args r))
+declared_made p i line m k n args None h = (refl, refl, h)
+declared_made p i line m k n args (Some r) h = (refl, refl, h)
+
+-- what is known by its number
+abbrev pub IsByNumber : Making → Type 0
+IsByNumber (APlain i) = ⊥
+IsByNumber m = Unit {0}
 
 -- a variable is declared right before it is built
-pub declared : (p : Program) (line : ℕ) (m : Making) (len : Option ℕ) (k n : ℕ) (args : List Meant) → (len ≡ None → m ≡ ACluster → 1 ≤ n) → Precedes (src.Declare line (record { cell = k; cells = n; value = None } ∷ [])) (meaning.build p line m len (src.Variable k) args)
+pub declared : (p : Program) (line : ℕ) (m : Making) (len : Option ℕ) (k n : ℕ) (args : List Meant) → (len ≡ None → IsByNumber m → 1 ≤ n) → Precedes (src.Declare line (record { cell = k; cells = n; value = None } ∷ [])) (meaning.build p line m len (src.Variable k) args)
 declared p line (APlain i) None k n args h = unbound_called p i line (src.Variable k) args (written_at p i role.Constructor) (src.Declare line (record { cell = k; cells = n; value = None } ∷ []))
-declared p line (AMutex i) None k n args h = unbound_made p i line (src.Variable k) args (written_at p i role.Constructor) (src.Declare line (record { cell = k; cells = n; value = None } ∷ []))
-declared p line ACluster None k n args h = (refl, refl, h refl refl)
-declared p line AProcessor None k n args h = tt
+declared p line (AMutex i) None k n args h = declared_made p i line line k n args (written_at p i role.Constructor) (h refl tt)
+declared p line ACluster None k n args h = (refl, refl, h refl tt)
+declared p line AProcessor None k n args h = (refl, refl, h refl tt)
 declared p line m (Some l) k n args h = tt
 
 opened_called : (p : Program) (i : ℕ) (place : Expr) (r : Option ℕ) (a : Stmt) → OpensBound a (src.Destroys (meaning.called_by p i role.Destructor place [] r))

@@ -13,9 +13,9 @@ use Rattle.uc_machine.specs.Raising as raising
 use Rattle.uc_machine.specs.Raising.{Event, Handler, Found, Hit, count_by, count_round, handler_count, hit_in, hit_by, hit_or, within, seek, found_or, handler_for}
 use Rattle.uc_site_laws.proofs.Kept.{either}
 use Rattle.uc_scope_laws.specs.Rooms.{Room, IsRoom, IsWithin, IsBehind, Clears, StmtsIn, HandlersIn}
-use Rattle.uc_scope_laws.specs.RoomStates.{PieceIn, Reached, TodoIn, IsBefore, AllBefore}
+use Rattle.uc_scope_laws.specs.RoomStates.{PieceIn, Reached, TodoIn, AllBefore}
 use Rattle.uc_scope_laws.specs.RoomStacks.{frame_cells, TodoTo, SomeTo, From, UpTo, GuardFrom, GuardsFrom, AboveAt, Above, Beneath, Over, OverAll, Stacked, Stack, FrameBefore, FrameBeneath}
-use Rattle.uc_scope_laws.proofs.RoomLemmas.{within_room, lies_wider}
+use Rattle.uc_scope_laws.proofs.RoomLemmas.{within_room}
 use Rattle.uc_scope_laws.proofs.Steps as steps
 
 -- how many cells frames have

@@ -26,7 +26,7 @@ use Rattle.uc_scope_laws.specs.Ordinary.{Ordinary, OrdinaryMaybe, OrdinaryItems,
 use Rattle.uc_scope_laws.specs.Rooms.{Room, IsWithin, LiesAt, LiesIn, Destroyed, Lies, Keeps, DeclaredIn, RaisedIn, StmtIn, StmtsIn, HandlersIn, ClausesIn}
 use Rattle.uc_scope_laws.specs.Layout.{destructor_by, Sized, references, started_references, own_references}
 use Rattle.uc_scope_laws.specs.Clusters.{IsUnbound, Begins, HandlersBegin}
-use Rattle.uc_scope_laws.proofs.Clustering.{follows, unbound_ordinary, declared, opened}
+use Rattle.uc_scope_laws.proofs.Clustering.{IsByNumber, follows, unbound_ordinary, declared, opened}
 use Rattle.uc_scope_laws.proofs.RoomLemmas.{new_ordinary, ordinary_evaluated}
 use Rattle.uc_scope_laws.proofs.Expressions as expressions
 use Rattle.uc_scope_laws.proofs.Expressions.{AllOrdinary}
@@ -295,13 +295,19 @@ module _ (p : Program) where
   scalars o s b (d ∷ ds) low high =
       (low, omega (arith, high), start (meaning.context_at p s) (shape_of b) d.start, scalars o (meaning.with_declared p s b d) b ds (omega (arith, low)) (omega (arith, high)))
 
-  -- a cluster that is no array has a cell
-  one_cell : (b : Base) (m : Making) (d : Declarator) → making p b ≡ Some m → d.by_ref ≡ false → meaning.length_of p d d.len ≡ None → m ≡ ACluster → 1 ≤ declared_cells p b d
+  -- what is known by its number and is no array has a cell
+  one_cell : (b : Base) (m : Making) (d : Declarator) → making p b ≡ Some m → d.by_ref ≡ false → meaning.length_of p d d.len ≡ None → IsByNumber m → 1 ≤ declared_cells p b d
   one_cell b m d e f l q = by d.len refl l
     where
+      cell_of : (m : Making) → IsByNumber m → making_cells p m ≡ 1
+      cell_of (APlain i) q = absurd q
+      cell_of (AMutex i) q = refl
+      cell_of ACluster q = refl
+      cell_of AProcessor q = refl
+
       by : (len : Option expr.Expr) → d.len ≡ len → meaning.length_of p d len ≡ None → 1 ≤ declared_cells p b d
       by None n k =
-          let size : declared_cells p b d ≡ 1 * 1 = declared_size p b m d e f ∙ (ap (λ (x : ℕ). x * making_cells p m) (single_size p d n f) ∙ ap (λ (x : Making). 1 * making_cells p x) q) in
+          let size : declared_cells p b d ≡ 1 * 1 = declared_size p b m d e f ∙ (ap (λ (x : ℕ). x * making_cells p m) (single_size p d n f) ∙ ap (λ (x : ℕ). 1 * x) (cell_of m q)) in
           omega (arith, size)
       by (Some x) n k = absurd (cc)
 

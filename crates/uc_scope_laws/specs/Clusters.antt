@@ -1,5 +1,5 @@
--- A variable that is a cluster is declared, bound to a new cluster and in scope by what stands right behind each other. So is one that is a
--- processor or a mutex object bound right before its scope.
+-- A variable that is a cluster, a processor or a mutex object is declared, bound to a new one and in scope by what stands right behind each
+-- other.
 use Rattle.std.specs.Prelude.{◌≡◌, ℕ, ◌≤◌, [], ◌∷◌, None}
 use Rattle.uc_tree.specs.Source.{Variable, Load, OfObject, EndOn, Bind, MakeOn, NewCluster, NewProcessor, EndCluster, EndProcessor, CleanUp, Destroys, Stmt, Stmts, Evaluate, Declare, Nil, Then, Scoped, Built, Handlers, NoHandlers, MoreHandlers}
 
@@ -25,6 +25,8 @@ BindsObject k a = ⊥
 -- what may stand before a statement, and before a scope
 abbrev pub Precedes : Stmt → Stmt → Type 0
 Precedes a (Evaluate line (OfObject (Bind (Variable k) (OfObject NewCluster)))) = DeclaresAlone k a
+Precedes a (Evaluate line (OfObject (Bind (Variable k) (OfObject (NewProcessor e))))) = DeclaresAlone k a
+Precedes a (Evaluate line (OfObject (MakeOn c r written (Variable k) args))) = DeclaresAlone k a
 Precedes a b = Unit {0}
 
 abbrev pub OpensBound : Stmt → CleanUp → Type 0
@@ -39,10 +41,11 @@ Follows a (Then b rest) = Precedes a b
 Follows a (Scoped c rest) = OpensBound a c
 Follows a (Built c rest) = Unit {0}
 
--- statements that may stand behind any other: they do not begin by binding a variable to a new cluster, nor by the scope of a variable that is
--- a cluster, a processor or a mutex object
+-- statements that may stand behind any other: they begin neither by binding such a variable nor by the scope of one
 abbrev pub IsUnbound : Stmt → Type 0
 IsUnbound (Evaluate line (OfObject (Bind (Variable k) (OfObject NewCluster)))) = ⊥
+IsUnbound (Evaluate line (OfObject (Bind (Variable k) (OfObject (NewProcessor e))))) = ⊥
+IsUnbound (Evaluate line (OfObject (MakeOn c r written (Variable k) args))) = ⊥
 IsUnbound a = Unit {0}
 
 abbrev pub IsUnscoped : CleanUp → Type 0

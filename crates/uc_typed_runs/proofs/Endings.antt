@@ -8,12 +8,13 @@ use Rattle.uc_typing.specs.Typing.{Ty, Cell, Clu, Pro, Name, Sig, Table, object_
 use Rattle.uc_typing.specs.Pieces.{onto, CallsOn, Ok}
 use Rattle.uc_typing.specs.States.{IsNumbered, IsObjectBy, Is, Typed, ReadsVariable, ReadsPlace}
 use Rattle.uc_typing.specs.Laws.{ReadsIn}
-use Rattle.uc_value_laws.specs.There.{HoldsObject, AllThere, frame_at}
+use Rattle.uc_value_laws.specs.There.{HoldsObject, AllThere, Any, frame_at}
 use Rattle.uc_value_laws.specs.ThereStates.{ThereState}
 use Rattle.uc_value_laws.specs.NewClusters.{GoodState}
+use Rattle.uc_value_laws.proofs.Cells.{held_there}
 use Rattle.uc_value_laws.proofs.Readings.{running}
 use Rattle.uc_typed_runs.specs.TypedRuns.{reading, still_reading}
-use Rattle.uc_typed_runs.proofs.Openings.{no_end}
+use Rattle.uc_typed_runs.proofs.Openings.{no_end, point_end}
 
 -- what ends: a mutex object by a destructor, which is written or not, a cluster, a processor
 pub data End : Type 0 where
@@ -79,15 +80,15 @@ module _ (t : Table) where
         held k i = running IsNumbered s (Slot k ∷ []) i
 
         there : (l : List Todo) → s.run.control ≡ l → AllThere (frame_at s.run.frame s.env.frames) l
-        there l c = subst (AllThere (frame_at s.run.frame s.env.frames)) c h.stack.1
+        there l c = subst (AllThere (frame_at s.run.frame s.env.frames)) c (held_there Any (frame_at s.run.frame s.env.frames) s.run.control h.stack.1)
 
         by : (l : List Todo) → s.run.control ≡ l → EndingStep (reading l) (act_todo source l s)
-        by (Clean (Destroys (OfObject (EndOn r written (Load (Variable k))))) ∷ todo) c = (OnObject r written, k, DropNow ∷ todo, refl, held k (there _ c).0.0)
-        by (Clean (Destroys (OfObject (EndCluster (Load (Variable k))))) ∷ todo) c = (OfCluster, k, DropNow ∷ todo, refl, held k (there _ c).0.0)
-        by (Clean (Destroys (OfObject (EndProcessor (Load (Variable k))))) ∷ todo) c = (OfProcessor, k, DropNow ∷ todo, refl, held k (there _ c).0.0)
-        by (Unwind ∷ (Clean (Destroys (OfObject (EndOn r written (Load (Variable k))))) ∷ todo)) c = (OnObject r written, k, DropNow ∷ (Unwind ∷ todo), refl, held k (there _ c).1.0.0)
-        by (Unwind ∷ (Clean (Destroys (OfObject (EndCluster (Load (Variable k))))) ∷ todo)) c = (OfCluster, k, DropNow ∷ (Unwind ∷ todo), refl, held k (there _ c).1.0.0)
-        by (Unwind ∷ (Clean (Destroys (OfObject (EndProcessor (Load (Variable k))))) ∷ todo)) c = (OfProcessor, k, DropNow ∷ (Unwind ∷ todo), refl, held k (there _ c).1.0.0)
+        by (Clean (Destroys (OfObject (EndOn r written (Load (Variable k))))) ∷ todo) c = (OnObject r written, k, DropNow ∷ todo, refl, held k (there _ c).0)
+        by (Clean (Destroys (OfObject (EndCluster (Load (Variable k))))) ∷ todo) c = (OfCluster, k, DropNow ∷ todo, refl, held k (there _ c).0)
+        by (Clean (Destroys (OfObject (EndProcessor (Load (Variable k))))) ∷ todo) c = (OfProcessor, k, DropNow ∷ todo, refl, held k (there _ c).0)
+        by (Unwind ∷ (Clean (Destroys (OfObject (EndOn r written (Load (Variable k))))) ∷ todo)) c = (OnObject r written, k, DropNow ∷ (Unwind ∷ todo), refl, held k (there _ c).1.0)
+        by (Unwind ∷ (Clean (Destroys (OfObject (EndCluster (Load (Variable k))))) ∷ todo)) c = (OfCluster, k, DropNow ∷ (Unwind ∷ todo), refl, held k (there _ c).1.0)
+        by (Unwind ∷ (Clean (Destroys (OfObject (EndProcessor (Load (Variable k))))) ∷ todo)) c = (OfProcessor, k, DropNow ∷ (Unwind ∷ todo), refl, held k (there _ c).1.0)
         by l c = tt
 
     found : (s : State) (e : End) (k : ℕ) (todo : List Todo) (x : Typed t [] s) → Ok t x.run.sig x.run.base x.run.scope (Eval (end_expr e k) ∷ todo) x.run.own → IsHeld k s → EndingStep 3 (act_todo source (Eval (end_expr e k) ∷ todo) s)
@@ -106,7 +107,8 @@ module _ (t : Table) where
 
     pub ending : (n : ℕ) (s : State) → GoodState s → Typed t [] s → Ending n s → EndingStep (still_reading n s.run.control) (quiet source s)
     ending zero s (inl there) x h = starts s there
-    ending zero s (inr o) x h = subst (λ n. EndingStep n (quiet source s)) (sym (ap reading o.control ∙ no_end o.cell o.line o.next o.todo o.stage)) tt
+    ending zero s (inr (inl d)) x h = subst (λ n. EndingStep n (quiet source s)) (sym (ap reading d.control ∙ point_end d.line d.binder d.next d.todo d.point)) tt
+    ending zero s (inr (inr o)) x h = subst (λ n. EndingStep n (quiet source s)) (sym (ap reading o.control ∙ no_end o.cell o.line o.next o.todo o.stage)) tt
     ending (suc n) s good x h = onward n s x h
 
   -- what is read is of the type that the end of it asks for

@@ -1,20 +1,15 @@
--- On the way from the declaration of a cluster to its scope nothing is read.
+-- On the way from the declaration of a variable to the statement that binds it, and from there to the scope of a cluster, nothing is read.
 use Rattle.std.proofs.Common.{◌≡◌, ℕ, List, refl}
-use Rattle.uc_tree.specs.Source.{Stmts}
+use Rattle.uc_tree.specs.Source.{Expr, Stmts}
 use Rattle.uc_machine.specs.Pieces.{Todo, State}
 use Rattle.uc_typing.specs.Typing.{Ty, Name, Sig, Table}
 use Rattle.uc_typing.specs.States.{ReadsVariable, ReadsPlace}
-use Rattle.uc_value_laws.specs.NewClusters.{Stage, Declares, Lists, Clears, Cleared, Passes, Reaches, Does, Binds, Places, Makes, Orders, Told, Bound, Leaves, Opens, stage_todo}
+use Rattle.uc_value_laws.specs.Declaring.{Point, Declares, Lists, Clears, Cleared, Passes, Reaches, point_todo}
+use Rattle.uc_value_laws.specs.NewClusters.{Stage, Does, Binds, Places, Makes, Orders, Told, Bound, Leaves, Opens, stage_todo}
 use Rattle.uc_typed_runs.specs.TypedRuns.{reading}
 
 module _ (k l : ℕ) (ss : Stmts) (todo : List Todo) where
   pub no_end : (g : Stage) → reading (stage_todo g k l ss todo) ≡ 0
-  no_end (Declares m d) = refl
-  no_end (Lists m d) = refl
-  no_end (Clears m d) = refl
-  no_end (Cleared m) = refl
-  no_end (Passes m) = refl
-  no_end Reaches = refl
   no_end Does = refl
   no_end Binds = refl
   no_end Places = refl
@@ -27,12 +22,6 @@ module _ (k l : ℕ) (ss : Stmts) (todo : List Todo) where
 
   module _ (t : Table) (i : Sig) (sc : List Name) (s : State) where
     pub no_variable : (g : Stage) → ReadsVariable t sc s (stage_todo g k l ss todo)
-    no_variable (Declares m d) = tt
-    no_variable (Lists m d) = tt
-    no_variable (Clears m d) = tt
-    no_variable (Cleared m) = tt
-    no_variable (Passes m) = tt
-    no_variable Reaches = tt
     no_variable Does = tt
     no_variable Binds = tt
     no_variable Places = tt
@@ -44,12 +33,6 @@ module _ (k l : ℕ) (ss : Stmts) (todo : List Todo) where
     no_variable Opens = tt
 
     pub no_place : (own : List Ty) (g : Stage) → ReadsPlace t i s (stage_todo g k l ss todo) own
-    no_place own (Declares m d) = tt
-    no_place own (Lists m d) = tt
-    no_place own (Clears m d) = tt
-    no_place own (Cleared m) = tt
-    no_place own (Passes m) = tt
-    no_place own Reaches = tt
     no_place own Does = tt
     no_place own Binds = tt
     no_place own Places = tt
@@ -59,3 +42,29 @@ module _ (k l : ℕ) (ss : Stmts) (todo : List Todo) where
     no_place own Bound = tt
     no_place own Leaves = tt
     no_place own Opens = tt
+
+module _ (l : ℕ) (e : Expr) (ss : Stmts) (todo : List Todo) where
+  pub point_end : (g : Point) → reading (point_todo g l e ss todo) ≡ 0
+  point_end (Declares m d) = refl
+  point_end (Lists m d) = refl
+  point_end (Clears m d) = refl
+  point_end (Cleared m) = refl
+  point_end (Passes m) = refl
+  point_end Reaches = refl
+
+  module _ (t : Table) (i : Sig) (sc : List Name) (s : State) where
+    pub point_variable : (g : Point) → ReadsVariable t sc s (point_todo g l e ss todo)
+    point_variable (Declares m d) = tt
+    point_variable (Lists m d) = tt
+    point_variable (Clears m d) = tt
+    point_variable (Cleared m) = tt
+    point_variable (Passes m) = tt
+    point_variable Reaches = tt
+
+    pub point_place : (own : List Ty) (g : Point) → ReadsPlace t i s (point_todo g l e ss todo) own
+    point_place own (Declares m d) = tt
+    point_place own (Lists m d) = tt
+    point_place own (Clears m d) = tt
+    point_place own (Cleared m) = tt
+    point_place own (Passes m) = tt
+    point_place own Reaches = tt

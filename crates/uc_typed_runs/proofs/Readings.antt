@@ -25,21 +25,29 @@ use Rattle.uc_typing.specs.Laws.{ReadsIn}
 use Rattle.uc_sound.specs.Sounds.{of_program}
 use Rattle.uc_sound.specs.Tables.{table_of}
 use Rattle.uc_formed.specs.WellTyped.{IsTextOf, IsWellTyped}
-use Rattle.uc_formed.proofs.Texts.{law_well_typed}
+use Rattle.uc_formed.proofs.Texts.{text_formed, law_well_typed}
 use Rattle.uc_value_laws.specs.NewClusters.{GoodState}
 use Rattle.uc_value_laws.specs.Reading.{ReadsElement}
 use Rattle.uc_value_laws.specs.Opens.{Opens, LeadsOpen, RideOpens, MayOpen, RunOpens}
 use Rattle.uc_value_laws.proofs.Readings.{law_reading}
 use Rattle.uc_value_laws.proofs.Worlds.{law_runs}
-use Rattle.uc_typed_runs.specs.TypedRuns.{still_reading, RideHolds, MayHold, RunHolds, LeadsHold, Reading, PlacesIn, Following, LeadsFollowing, IsTyped, LawTypedTexts}
+use Rattle.uc_binding_laws.proofs.Asides.{law_opens}
+use Rattle.uc_typed_runs.specs.TypedRuns.{still_reading, RideHolds, MayHold, RunHolds, LeadsHold, Reading, Following, LeadsFollowing, IsTyped, LawTypedTexts}
 use Rattle.uc_typed_runs.proofs.Endings.{Ending, EndingStep, at_goes, at_ticks, ending, reads as reads_ending}
 use Rattle.uc_typed_runs.proofs.Hands.{behind}
-use Rattle.uc_typed_runs.proofs.Openings.{no_variable, no_place}
+use Rattle.uc_typed_runs.proofs.Openings.{no_variable, no_place, point_variable, point_place}
 use Rattle.uc_typed_runs.proofs.Worlds.{law_typed_runs}
 
 module _ (table : Table) (source : Source) (sound : Sound table source) where
   reads : (n : ℕ) (s : State) → GoodState s → Ending table n s → Following table n s → ReadsIn table s
-  reads zero s (inr o) e h x = (
+  reads zero s (inr (inl d)) e h x = (
+    x,
+    (
+      subst (ReadsVariable table x.run.scope s) (sym d.control) (point_variable d.line d.binder d.next d.todo table x.run.sig x.run.scope s d.point),
+      subst (λ l. ReadsPlace table x.run.sig s l x.run.own) (sym d.control) (point_place d.line d.binder d.next d.todo table x.run.sig x.run.scope s x.run.own d.point),
+    ),
+  )
+  reads zero s (inr (inr o)) e h x = (
     x,
     (
       subst (ReadsVariable table x.run.scope s) (sym o.control) (no_variable o.cell o.line o.next o.todo table x.run.sig x.run.scope s o.stage),
@@ -57,12 +65,12 @@ module _ (table : Table) (source : Source) (sound : Sound table source) where
   abbrev LedTo : State → State → Type 0
   LedTo s v = (l : Leads source s v) × LeadsOpen source s v l
 
-  led_goes : {s u v : State} (l : Leads source s u) → LeadsOpen source s u l → Opens u → quiet source u ≡ Goes v → LedTo s v
+  led_goes : {s u v : State} (l : Leads source s u) → LeadsOpen source s u l → Opens source u → quiet source u ≡ Goes v → LedTo s v
   led_goes stays o h e = (goes e stays, (h, tt))
   led_goes (goes f l) o h e = let n = led_goes l o.1 h e in (goes f n.0, (o.0, n.1))
   led_goes (ticks f l) o h e = let n = led_goes l o.1 h e in (ticks f n.0, (o.0, n.1))
 
-  led_ticks : {s u v : State} (l : Leads source s u) → LeadsOpen source s u l → Opens u → quiet source u ≡ Ticks v → LedTo s v
+  led_ticks : {s u v : State} (l : Leads source s u) → LeadsOpen source s u l → Opens source u → quiet source u ≡ Ticks v → LedTo s v
   led_ticks stays o h e = (ticks e stays, (h, tt))
   led_ticks (goes f l) o h e = let n = led_ticks l o.1 h e in (goes f n.0, (o.0, n.1))
   led_ticks (ticks f l) o h e = let n = led_ticks l o.1 h e in (ticks f n.0, (o.0, n.1))
@@ -125,7 +133,7 @@ module _ (text : List ℕ) (p : Program) (is : IsTextOf text p) (input : List �
 
     comes_reads : (t : ℕ) (s : State) (c : Comes (source_of p) j w t s) → LeadsFollowing p (answered (source_of p) c.given (drawn j w t)) s c.leads → LeadsHold (Reading (table_of p)) (source_of p) 0 (answered (source_of p) c.given (drawn j w t)) s c.leads
     comes_reads t s c l =
-        leads_reads (table_of p) (source_of p) well.sound (answered (source_of p) c.given (drawn j w t)) (comes_there t c.given c.processor c.runs c.told) 0 c.leads stays tt l.0 l.1 tt (begins t c.given c.processor c.runs c.told)
+        leads_reads (table_of p) (source_of p) well.sound (answered (source_of p) c.given (drawn j w t)) (comes_there t c.given c.processor c.runs c.told) 0 c.leads stays tt (law_opens.leads p (text_formed text p is) is.no_break input opts range j w r fits on t s c l.0) l.1 tt (begins t c.given c.processor c.runs c.told)
 
   run_reads : {j : Journal} {w : World} (r : Runs (source_of p) input opts j w) → RunFits (source_of p) input opts j w r → RunOpens (source_of p) input opts j w r → RunHolds (Following (table_of p)) (source_of p) input opts j w r → RunHolds (Reading (table_of p)) (source_of p) input opts j w r
   run_reads begun fits opens places = tt
@@ -134,12 +142,15 @@ module _ (text : List ℕ) (p : Program) (is : IsTextOf text p) (input : List �
       (before, may_reads r fits.0 on opens.0 (typeds r fits.0 before on) m opens.1 places.1)
 
 pub law_typed_texts : LawTypedTexts
-law_typed_texts text p is input opts j w r range fits opens places on = record {
+law_typed_texts text p is input opts j w r range fits loose places on = record {
   tasks = h.tasks;
   homes = h.homes;
   comes = λ t s c l. h.comes t s c (comes_reads text p is input opts range r fits on opens h t s c l);
   finds = λ t s c l q todo e. h.finds t s c (comes_reads text p is input opts range r fits on opens h t s c l) q todo e;
 }
   where
+    opens : RunOpens (source_of p) input opts j w r
+    opens = law_opens.runs p (text_formed text p is) is.no_break input opts range j w r fits loose
+
     h : Typeds text p is input opts range j w
     h = typeds text p is input opts range r fits (run_reads text p is input opts range r fits opens places) on

@@ -26,8 +26,8 @@ use Rattle.uc_typing.specs.Laws.{ReadsIn}
 use Rattle.uc_typing.specs.Finds.{Finds}
 use Rattle.uc_sound.specs.Tables.{table_of}
 use Rattle.uc_formed.specs.WellTyped.{IsTextOf}
-use Rattle.uc_value_laws.specs.Opens.{LeadsOpen, RunOpens}
 use Rattle.uc_value_laws.specs.Reading.{ReadsElement}
+use Rattle.uc_binding_laws.specs.Aside.{RunAside, LeadsAside}
 
 -- a clean-up ends what is known by its number and stands in a variable
 abbrev pub ends_variable : CleanUp → Bool
@@ -134,17 +134,17 @@ LawTypedRuns =
     RunHolds (Reading table) source input opts j w r → is_over j ≡ false →
     IsTyped table source (LeadsHold (Reading table) source 0) j w
 
--- scopes open on the way as they are to, and what is read at places is of its type
+-- on the way what is no object is bound aside, arrays are there where their scopes open, and what is read at places is of its type
 abbrev pub LeadsFollowing : (p : Program) (s u : State) → Leads (source_of p) s u → Type 0
-LeadsFollowing p s u l = LeadsOpen (source_of p) s u l ×
+LeadsFollowing p s u l = LeadsAside (source_of p) s u l ×
     LeadsHold (Following (table_of p)) (source_of p) 0 s u l
 
--- Of each program whose text is accepted, where each scope of what is known by its number opened where its variable holds an object, and
--- all was of its type that was read at places and of fields of the object at hand, but by the clean-ups of such variables.
+-- Of each program whose text is accepted, where what is no object was bound aside of variables that were still to be bound, each scope of an
+-- array of what is known by its number opened where its elements hold objects, and all was of its type that was read at places and of fields of the object at hand, but by the clean-ups of such variables.
 abbrev pub LawTypedTexts : Type 0
 LawTypedTexts =
     (text : List ℕ) (p : Program) → IsTextOf text p →
     (input : List ℕ) (opts : Options) (j : Journal) (w : World) (r : Runs (source_of p) input opts j w) →
-    InRange opts → RunFits (source_of p) input opts j w r → RunOpens (source_of p) input opts j w r →
+    InRange opts → RunFits (source_of p) input opts j w r → RunAside (source_of p) input opts j w r →
     RunHolds (Following (table_of p)) (source_of p) input opts j w r → is_over j ≡ false →
     IsTyped (table_of p) (source_of p) (LeadsFollowing p) j w

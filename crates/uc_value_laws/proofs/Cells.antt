@@ -8,8 +8,8 @@ use Rattle.uc_machine.specs.Executions.{at_depth, set_depth, frame_changed, list
 use Rattle.uc_machine.specs.Pieces as piece
 use Rattle.uc_machine.specs.Pieces.{Link, Value, Number, Place, Running, Object, Nothing, Todo, Sort, Active, stored, nought, address}
 use Rattle.uc_typing.specs.States.{IsNumbered}
-use Rattle.uc_value_laws.specs.There.{EndsAt, OfVariable, OfElements, OfEach, HoldsObject, IsBefore, IsThere, CleanBy, AllCleans, AllThere, OfBound, OpensBound, NextBound, NextDrop, NextCall, IsFew, IsCounted, MarkCounted, PieceCounted, LeftBy, AllCounted, AtRest, AtDrop, AtCall, AllLeft, AtBound, Held, AllBefore, FrameBefore, frame_at}
-use Rattle.uc_value_laws.specs.ThereStates.{CountedStack}
+use Rattle.uc_value_laws.specs.There.{EndsAt, OfVariable, OfElements, OfEach, HoldsObject, IsBefore, IsThere, CleanBy, AllCleans, AllThere, OfBound, IsLoose, HoldsLoose, OpensBound, NextBound, NextRest, NextDrop, NextCall, Pends, IsFew, IsCounted, MarkCounted, PieceCounted, LeftBy, AllCounted, AtRest, AtDrop, AtCall, AllLeft, AtBound, Held, AllBefore, FrameBefore, frame_at}
+use Rattle.uc_value_laws.specs.ThereStates.{CountedStack, StackAside}
 
 -- the first of two by a test
 pub either : {A : Type 0} (P : A → Type 0) (b : Bool) (x y : A) → P x → P y → P (if b then x else y)
@@ -45,8 +45,8 @@ module _ (P Q R : List Link → Type 0) (f : (p : List Link) → P p → Q p →
   each c h g = tt
 
   bound : (c : CleanUp) → OfBound P c → OfBound Q c → OfBound R c
-  bound (src.Destroys (src.OfObject (src.EndProcessor (src.Load (src.Variable k))))) h g = f (piece.Slot k ∷ []) h g
-  bound (src.Destroys (src.OfObject (src.EndOn n written (src.Load (src.Variable k))))) h g = f (piece.Slot k ∷ []) h g
+  bound (src.Destroys (src.OfObject (src.EndProcessor (src.Load (src.Variable k))))) h g = λ l. f (piece.Slot k ∷ []) (h l) (g l)
+  bound (src.Destroys (src.OfObject (src.EndOn n written (src.Load (src.Variable k))))) h g = λ l. f (piece.Slot k ∷ []) (h l) (g l)
   bound c h g = tt
 
   opens : (ss : Stmts) → OpensBound P ss → OpensBound Q ss → OpensBound R ss
@@ -62,7 +62,91 @@ module _ (P Q R : List Link → Type 0) (f : (p : List Link) → P p → Q p →
   next (piece.CallUnwrittenNow r ∷ (piece.DropNow ∷ (piece.Within line ∷ (piece.Rest ss ∷ todo)))) h g = opens ss h g
   next todo h g = tt
 
+  pub next_rest : (todo : List Todo) → NextRest P todo → NextRest Q todo → NextRest R todo
+  next_rest (piece.Rest ss ∷ todo) h g = opens ss h g
+  next_rest todo h g = tt
+
+  pub next_drop : (todo : List Todo) → NextDrop P todo → NextDrop Q todo → NextDrop R todo
+  next_drop (piece.DropNow ∷ (piece.Within line ∷ (piece.Rest ss ∷ todo))) h g = opens ss h g
+  next_drop todo h g = tt
+
+  pub next_call : (todo : List Todo) → NextCall P todo → NextCall Q todo → NextCall R todo
+  next_call (piece.CallOnNow r ∷ todo) h g = next_drop todo h g
+  next_call (piece.CallUnwrittenNow r ∷ todo) h g = next_drop todo h g
+  next_call todo h g = tt
+
+-- of each variable that is still to be bound, by what holds of any
+module _ (P : List Link → Type 0) (f : (p : List Link) → P p) where
+  any_bound : (c : CleanUp) → OfBound P c
+  any_bound (src.Destroys (src.OfObject (src.EndProcessor (src.Load (src.Variable k))))) = λ l. f (piece.Slot k ∷ [])
+  any_bound (src.Destroys (src.OfObject (src.EndOn n written (src.Load (src.Variable k))))) = λ l. f (piece.Slot k ∷ [])
+  any_bound c = tt
+
+  any_opens : (ss : Stmts) → OpensBound P ss
+  any_opens (src.Scoped c rest) = any_bound c
+  any_opens ss = tt
+
+  any_rest : (todo : List Todo) → NextRest P todo
+  any_rest (piece.Rest ss ∷ todo) = any_opens ss
+  any_rest todo = tt
+
+  any_drop : (todo : List Todo) → NextDrop P todo
+  any_drop (piece.DropNow ∷ (piece.Within line ∷ (piece.Rest ss ∷ todo))) = any_opens ss
+  any_drop todo = tt
+
+  any_call : (todo : List Todo) → NextCall P todo
+  any_call (piece.CallOnNow r ∷ todo) = any_drop todo
+  any_call (piece.CallUnwrittenNow r ∷ todo) = any_drop todo
+  any_call todo = tt
+
+  any_pends : (todo : List Todo) → Pends P todo
+  any_pends [] = tt
+  any_pends (piece.Eval e ∷ todo) = (any_drop todo, any_pends todo)
+  any_pends (piece.Do a ∷ todo) = (any_rest todo, any_pends todo)
+  any_pends (piece.BindNow ∷ todo) = (any_drop todo, any_pends todo)
+  any_pends (piece.MakeNow c r ∷ todo) = (any_call todo, any_pends todo)
+  any_pends (piece.BindMadeNow c r ∷ todo) = (any_call todo, any_pends todo)
+  any_pends (p ∷ todo) = any_pends todo
+
+pends_tail : (P : List Link → Type 0) (p : Todo) (todo : List Todo) → Pends P (p ∷ todo) → Pends P todo
+pends_tail P (piece.Eval e) todo h = h.1
+pends_tail P (piece.Do a) todo h = h.1
+pends_tail P piece.BindNow todo h = h.1
+pends_tail P (piece.MakeNow c r) todo h = h.1
+pends_tail P (piece.BindMadeNow c r) todo h = h.1
+pends_tail P p todo h = h
+
 -- cells
+
+loose_stored : (v x : Value) → IsLoose v → IsLoose x → IsLoose (stored v x)
+loose_stored v (Number n) l h = l
+loose_stored v (Place o p) l h = absurd h
+loose_stored v (Running e) l h = absurd h
+loose_stored v (Object o) l h = h
+loose_stored v Nothing l h = l
+
+-- another cell is not written
+cell_other : (P : Value → Type 0) (f : Value → Value) (vs : List Value) (j k : ℕ) → (j ≡ k → ⊥) → P (slice_index_or vs j nought) → P (slice_index_or (value_changed k f nought vs) j nought)
+cell_other P f [] j k n h = h
+cell_other P f (x ∷ vs) zero zero n h = absurd (n refl)
+cell_other P f (x ∷ vs) zero (suc k) n h = h
+cell_other P f (x ∷ vs) (suc j) zero n h = h
+cell_other P f (x ∷ vs) (suc j) (suc k) n h = cell_other P f vs j k (λ e. n (ap suc e)) h
+
+-- what is cleared is loose
+front_cleared : (vs : List Value) (j n : ℕ) → IsLoose (slice_index_or vs j nought) → IsLoose (slice_index_or (values_cleared 0 n nought vs) j nought)
+front_cleared [] j zero h = h
+front_cleared [] j (suc n) h = h
+front_cleared (x ∷ vs) j zero h = h
+front_cleared (x ∷ vs) zero (suc n) h = tt
+front_cleared (x ∷ vs) (suc j) (suc n) h = front_cleared vs j n h
+
+loose_cleared : (vs : List Value) (j k n : ℕ) → IsLoose (slice_index_or vs j nought) → IsLoose (slice_index_or (values_cleared k n nought vs) j nought)
+loose_cleared vs j zero n h = front_cleared vs j n h
+loose_cleared [] j (suc k) zero h = h
+loose_cleared [] j (suc k) (suc n) h = h
+loose_cleared (x ∷ vs) zero (suc k) n h = h
+loose_cleared (x ∷ vs) (suc j) (suc k) n h = loose_cleared vs j k n h
 
 numbered_stored : (v x : Value) → IsNumbered x → IsNumbered (stored v x)
 numbered_stored v (Number n) h = absurd h
@@ -210,11 +294,11 @@ module _ (Few : ℕ → Bool) where
     all_left vs (piece.Do a ∷ todo) (inl h) = all_left vs todo h
     all_left vs (piece.Do a ∷ todo) (inr h) = rest_left vs todo h.1
     all_left vs (piece.BindNow ∷ todo) (inl h) = all_left vs todo h
-    all_left vs (piece.BindNow ∷ todo) (inr h) = drop_left vs todo h
+    all_left vs (piece.BindNow ∷ todo) (inr h) = drop_left vs todo h.0
     all_left vs (piece.MakeNow c r ∷ todo) (inl h) = all_left vs todo h
-    all_left vs (piece.MakeNow c r ∷ todo) (inr h) = call_left vs todo h
+    all_left vs (piece.MakeNow c r ∷ todo) (inr h) = call_left vs todo h.0
     all_left vs (piece.BindMadeNow c r ∷ todo) (inl h) = all_left vs todo h
-    all_left vs (piece.BindMadeNow c r ∷ todo) (inr h) = call_left vs todo h
+    all_left vs (piece.BindMadeNow c r ∷ todo) (inr h) = call_left vs todo h.0
     all_left vs (piece.Exit w ∷ todo) h = h
     all_left vs (piece.Unwind ∷ todo) h = h
     all_left vs (p ∷ todo) h = left_piece vs p (AllLeft Few vs todo) (AllCounted Few vs todo) (all_left vs todo) h.0 h.1
@@ -292,7 +376,7 @@ module _ (Few : ℕ → Bool) where
 
   -- a frame has other values, and each clean-up keeps what is told of it
 
-  module _ (vs ws : List Value) (B : CleanUp → Type 0) (f : (c : CleanUp) → B c → IsThere vs c × IsCounted Few vs c → IsThere ws c × IsCounted Few ws c) where
+  module _ (vs ws : List Value) (B : CleanUp → Type 0) (Q : List Link → Type 0) (f : (c : CleanUp) → B c → IsThere vs c × IsCounted Few vs c → IsThere ws c × IsCounted Few ws c) (g : (p : List Link) → HoldsLoose vs p → Q p → HoldsLoose ws p) where
     mark_changed : (k : Sort) → CleanBy B k → MarkCounted Few vs k → MarkCounted Few ws k
     mark_changed (piece.IsClean c) b h = f c b h
     mark_changed (piece.IsGuard hs) b h = h
@@ -317,81 +401,122 @@ module _ (Few : ℕ → Bool) where
     left_changed_by piece.IsFinishCoroutine left all more every b g i h = (tt, i h.1)
 
     mutual
-      pub all_changed : (todo : List Todo) → AllCleans B todo → AllCounted Few vs todo → AllCounted Few ws todo
-      all_changed [] b h = tt
-      all_changed (piece.Eval e ∷ todo) b (inl h) = inl (all_changed todo b.1 h)
-      all_changed (piece.Eval e ∷ todo) b (inr h) = inr (h.0, drop_changed todo b.1 h.1)
-      all_changed (piece.Do a ∷ todo) b (inl h) = inl (all_changed todo b.1 h)
-      all_changed (piece.Do a ∷ todo) b (inr h) = inr (h.0, rest_changed todo b.1 h.1)
-      all_changed (piece.BindNow ∷ todo) b (inl h) = inl (all_changed todo b.1 h)
-      all_changed (piece.BindNow ∷ todo) b (inr h) = inr (drop_changed todo b.1 h)
-      all_changed (piece.MakeNow c r ∷ todo) b (inl h) = inl (all_changed todo b.1 h)
-      all_changed (piece.MakeNow c r ∷ todo) b (inr h) = inr (call_changed todo b.1 h)
-      all_changed (piece.BindMadeNow c r ∷ todo) b (inl h) = inl (all_changed todo b.1 h)
-      all_changed (piece.BindMadeNow c r ∷ todo) b (inr h) = inr (call_changed todo b.1 h)
-      all_changed (piece.Exit w ∷ todo) b h = left_changed todo b.1 h
-      all_changed (piece.Unwind ∷ todo) b h = left_changed todo b.1 h
-      all_changed (p ∷ todo) b h = (piece_changed p b.0 h.0, all_changed todo b.1 h.1)
+      pub all_changed : (todo : List Todo) → AllCleans B todo → Pends Q todo → AllCounted Few vs todo → AllCounted Few ws todo
+      all_changed [] b q h = tt
+      all_changed (piece.Eval e ∷ todo) b q (inl h) = inl (all_changed todo b.1 q.1 h)
+      all_changed (piece.Eval e ∷ todo) b q (inr h) = inr (h.0, drop_changed todo b.1 q.1 h.1, next_drop (HoldsLoose vs) Q (HoldsLoose ws) g todo h.2 q.0)
+      all_changed (piece.Do a ∷ todo) b q (inl h) = inl (all_changed todo b.1 q.1 h)
+      all_changed (piece.Do a ∷ todo) b q (inr h) = inr (h.0, rest_changed todo b.1 q.1 h.1, next_rest (HoldsLoose vs) Q (HoldsLoose ws) g todo h.2 q.0)
+      all_changed (piece.BindNow ∷ todo) b q (inl h) = inl (all_changed todo b.1 q.1 h)
+      all_changed (piece.BindNow ∷ todo) b q (inr h) = inr (drop_changed todo b.1 q.1 h.0, next_drop (HoldsLoose vs) Q (HoldsLoose ws) g todo h.1 q.0)
+      all_changed (piece.MakeNow c r ∷ todo) b q (inl h) = inl (all_changed todo b.1 q.1 h)
+      all_changed (piece.MakeNow c r ∷ todo) b q (inr h) = inr (call_changed todo b.1 q.1 h.0, next_call (HoldsLoose vs) Q (HoldsLoose ws) g todo h.1 q.0)
+      all_changed (piece.BindMadeNow c r ∷ todo) b q (inl h) = inl (all_changed todo b.1 q.1 h)
+      all_changed (piece.BindMadeNow c r ∷ todo) b q (inr h) = inr (call_changed todo b.1 q.1 h.0, next_call (HoldsLoose vs) Q (HoldsLoose ws) g todo h.1 q.0)
+      all_changed (piece.Exit w ∷ todo) b q h = left_changed todo b.1 q h
+      all_changed (piece.Unwind ∷ todo) b q h = left_changed todo b.1 q h
+      all_changed (p ∷ todo) b q h = (piece_changed p b.0 h.0, all_changed todo b.1 (pends_tail Q p todo q) h.1)
 
-      rest_changed : (todo : List Todo) → AllCleans B todo → AtRest Few vs todo → AtRest Few ws todo
-      rest_changed (piece.Rest ss ∷ todo) b h = (h.0, all_changed todo b.1 h.1)
-      rest_changed todo b h = absurd h
+      rest_changed : (todo : List Todo) → AllCleans B todo → Pends Q todo → AtRest Few vs todo → AtRest Few ws todo
+      rest_changed (piece.Rest ss ∷ todo) b q h = (h.0, all_changed todo b.1 q h.1)
+      rest_changed todo b q h = absurd h
 
-      drop_changed : (todo : List Todo) → AllCleans B todo → AtDrop Few vs todo → AtDrop Few ws todo
-      drop_changed (piece.DropNow ∷ (piece.Within line ∷ todo)) b h = rest_changed todo b.1.1 h
-      drop_changed todo b h = absurd h
+      drop_changed : (todo : List Todo) → AllCleans B todo → Pends Q todo → AtDrop Few vs todo → AtDrop Few ws todo
+      drop_changed (piece.DropNow ∷ (piece.Within line ∷ todo)) b q h = rest_changed todo b.1.1 q h
+      drop_changed todo b q h = absurd h
 
-      call_changed : (todo : List Todo) → AllCleans B todo → AtCall Few vs todo → AtCall Few ws todo
-      call_changed (piece.CallOnNow r ∷ todo) b h = drop_changed todo b.1 h
-      call_changed (piece.CallUnwrittenNow r ∷ todo) b h = drop_changed todo b.1 h
-      call_changed todo b h = absurd h
+      call_changed : (todo : List Todo) → AllCleans B todo → Pends Q todo → AtCall Few vs todo → AtCall Few ws todo
+      call_changed (piece.CallOnNow r ∷ todo) b q h = drop_changed todo b.1 q h
+      call_changed (piece.CallUnwrittenNow r ∷ todo) b q h = drop_changed todo b.1 q h
+      call_changed todo b q h = absurd h
 
-      left_changed : (todo : List Todo) → AllCleans B todo → AllLeft Few vs todo → AllLeft Few ws todo
-      left_changed [] b h = tt
-      left_changed (p ∷ todo) b h =
-          left_changed_by (piece.sort p) (AllLeft Few vs todo) (AllCounted Few vs todo) (AllLeft Few ws todo) (AllCounted Few ws todo) b.0 (left_changed todo b.1) (all_changed todo b.1) h
+      left_changed : (todo : List Todo) → AllCleans B todo → Pends Q todo → AllLeft Few vs todo → AllLeft Few ws todo
+      left_changed [] b q h = tt
+      left_changed (p ∷ todo) b q h =
+          left_changed_by (piece.sort p) (AllLeft Few vs todo) (AllCounted Few vs todo) (AllLeft Few ws todo) (AllCounted Few ws todo) b.0 (left_changed todo b.1 (pends_tail Q p todo q)) (all_changed todo b.1 (pends_tail Q p todo q)) h
 
-    bound_changed : (todo : List Todo) → AllCleans B todo → AtBound Few vs todo → AtBound Few ws todo
-    bound_changed (piece.Rest ss ∷ todo) b h = (h.0, all_changed todo b.1 h.1)
-    bound_changed (piece.Within line ∷ todo) b h = rest_changed todo b.1 h
-    bound_changed (piece.DropNow ∷ (piece.Within line ∷ todo)) b h = rest_changed todo b.1.1 h
-    bound_changed (piece.CallOnNow r ∷ todo) b h = drop_changed todo b.1 h
-    bound_changed (piece.CallUnwrittenNow r ∷ todo) b h = drop_changed todo b.1 h
-    bound_changed todo b h = absurd h
+    bound_changed : (todo : List Todo) → AllCleans B todo → Pends Q todo → AtBound Few vs todo → AtBound Few ws todo
+    bound_changed (piece.Rest ss ∷ todo) b q h = (h.0, all_changed todo b.1 q h.1)
+    bound_changed (piece.Within line ∷ todo) b q h = rest_changed todo b.1 q h
+    bound_changed (piece.DropNow ∷ (piece.Within line ∷ todo)) b q h = rest_changed todo b.1.1 q h
+    bound_changed (piece.CallOnNow r ∷ todo) b q h = drop_changed todo b.1 q h
+    bound_changed (piece.CallUnwrittenNow r ∷ todo) b q h = drop_changed todo b.1 q h
+    bound_changed todo b q h = absurd h
 
-    held_changed : (todo : List Todo) → AllCleans B todo → (NextBound (HoldsObject vs) todo → NextBound (HoldsObject ws) todo) → Held Few vs todo → Held Few ws todo
-    held_changed todo b g (inl h) = inl (all_changed todo b h)
-    held_changed todo b g (inr h) = inr (bound_changed todo b h.0, g h.1)
+    held_changed : (todo : List Todo) → AllCleans B todo → Pends Q todo → (NextBound (HoldsObject vs) todo → NextBound (HoldsObject ws) todo) → Held Few vs todo → Held Few ws todo
+    held_changed todo b q i (inl h) = inl (all_changed todo b q h)
+    held_changed todo b q i (inr h) = inr (bound_changed todo b q h.0, i h.1)
 
-  pub all_stored : (k : ℕ) (v : Value) (todo : List Todo) (vs : List Value) → AllCounted Few vs todo → AllCounted Few (value_changed k (stored v) nought vs) todo
-  all_stored k v todo vs h =
-      all_changed vs (value_changed k (stored v) nought vs) (λ c. Unit {0}) (λ c b x. (there_stored vs k v c x.0, counted_stored vs k v c x.1)) todo (any_cleans todo) h
+  -- a value is written to a cell: an object or a number to any, a place or an execution to none that is still to be bound
 
-  held_stored : (k : ℕ) (v : Value) (todo : List Todo) (vs : List Value) → Held Few vs todo → Held Few (value_changed k (stored v) nought vs) todo
-  held_stored k v todo vs h =
-      held_changed vs (value_changed k (stored v) nought vs) (λ c. Unit {0}) (λ c b x. (there_stored vs k v c x.0, counted_stored vs k v c x.1)) todo (any_cleans todo) (λ x. next (HoldsObject vs) (HoldsObject vs) (HoldsObject (value_changed k (stored v) nought vs)) (λ p x y. cell_stored IsNumbered v (numbered_stored v) vs (address p) k x) todo x x) h
+  marks_stored : (vs : List Value) (k : ℕ) (v : Value) (c : CleanUp) → Unit {0} → IsThere vs c × IsCounted Few vs c → IsThere (value_changed k (stored v) nought vs) c × IsCounted Few (value_changed k (stored v) nought vs) c
+  marks_stored vs k v c b x = (there_stored vs k v c x.0, counted_stored vs k v c x.1)
+
+  next_stored : (vs : List Value) (k : ℕ) (v : Value) (todo : List Todo) → NextBound (HoldsObject vs) todo → NextBound (HoldsObject (value_changed k (stored v) nought vs)) todo
+  next_stored vs k v todo x = next (HoldsObject vs) (HoldsObject vs) (HoldsObject (value_changed k (stored v) nought vs)) (λ p x y. cell_stored IsNumbered v (numbered_stored v) vs (address p) k x) todo x x
+
+  loose_kept : (vs : List Value) (k : ℕ) (v : Value) → IsLoose v → (p : List Link) → HoldsLoose vs p → Unit {0} → HoldsLoose (value_changed k (stored v) nought vs) p
+  loose_kept vs k v l p h u = cell_stored IsLoose v (λ x. loose_stored v x l) vs (address p) k h
+
+  loose_aside : (vs : List Value) (k : ℕ) (v : Value) (p : List Link) → HoldsLoose vs p → (address p ≡ k → ⊥) → HoldsLoose (value_changed k (stored v) nought vs) p
+  loose_aside vs k v p h n = cell_other IsLoose (stored v) vs (address p) k n h
+
+  all_stored : (k : ℕ) (v : Value) → IsLoose v → (todo : List Todo) (vs : List Value) → AllCounted Few vs todo → AllCounted Few (value_changed k (stored v) nought vs) todo
+  all_stored k v l todo vs h =
+      all_changed vs (value_changed k (stored v) nought vs) (λ c. Unit {0}) (λ p. Unit {0}) (marks_stored vs k v) (loose_kept vs k v l) todo (any_cleans todo) (any_pends (λ p. Unit {0}) (λ p. tt) todo) h
+
+  held_stored : (k : ℕ) (v : Value) → IsLoose v → (todo : List Todo) (vs : List Value) → Held Few vs todo → Held Few (value_changed k (stored v) nought vs) todo
+  held_stored k v l todo vs h =
+      held_changed vs (value_changed k (stored v) nought vs) (λ c. Unit {0}) (λ p. Unit {0}) (marks_stored vs k v) (loose_kept vs k v l) todo (any_cleans todo) (any_pends (λ p. Unit {0}) (λ p. tt) todo) (next_stored vs k v todo) h
+
+  all_aside : (k : ℕ) (v : Value) (todo : List Todo) (vs : List Value) → Pends (λ p. address p ≡ k → ⊥) todo → AllCounted Few vs todo → AllCounted Few (value_changed k (stored v) nought vs) todo
+  all_aside k v todo vs q h =
+      all_changed vs (value_changed k (stored v) nought vs) (λ c. Unit {0}) (λ p. address p ≡ k → ⊥) (marks_stored vs k v) (loose_aside vs k v) todo (any_cleans todo) q h
+
+  held_aside : (k : ℕ) (v : Value) (todo : List Todo) (vs : List Value) → Pends (λ p. address p ≡ k → ⊥) todo → Held Few vs todo → Held Few (value_changed k (stored v) nought vs) todo
+  held_aside k v todo vs q h =
+      held_changed vs (value_changed k (stored v) nought vs) (λ c. Unit {0}) (λ p. address p ≡ k → ⊥) (marks_stored vs k v) (loose_aside vs k v) todo (any_cleans todo) q (next_stored vs k v todo) h
+
+  -- cells start anew
+
+  marks_cleared : (vs : List Value) (k n : ℕ) (c : CleanUp) → OfEach (IsBefore k) c → IsThere vs c × IsCounted Few vs c → IsThere (values_cleared k n nought vs) c × IsCounted Few (values_cleared k n nought vs) c
+  marks_cleared vs k n c b x = (there_cleared vs k n c b x.0, counted_cleared vs k n c b x.1)
 
   all_cleared : (k n : ℕ) (todo : List Todo) (vs : List Value) → AllBefore k todo → AllCounted Few vs todo → AllCounted Few (values_cleared k n nought vs) todo
   all_cleared k n todo vs b h =
-      all_changed vs (values_cleared k n nought vs) (OfEach (IsBefore k)) (λ c b x. (there_cleared vs k n c b x.0, counted_cleared vs k n c b x.1)) todo b h
+      all_changed vs (values_cleared k n nought vs) (OfEach (IsBefore k)) (λ p. Unit {0}) (marks_cleared vs k n) (λ p x u. loose_cleared vs (address p) k n x) todo b (any_pends (λ p. Unit {0}) (λ p. tt) todo) h
 
   held_cleared : (k n : ℕ) (todo : List Todo) (vs : List Value) → AllBefore k todo → NextBound (IsBefore k) todo → Held Few vs todo → Held Few (values_cleared k n nought vs) todo
   held_cleared k n todo vs b l h =
-      held_changed vs (values_cleared k n nought vs) (OfEach (IsBefore k)) (λ c b x. (there_cleared vs k n c b x.0, counted_cleared vs k n c b x.1)) todo b (λ x. next (HoldsObject vs) (IsBefore k) (HoldsObject (values_cleared k n nought vs)) (λ p x l. cell_taken IsNumbered (λ n. n) vs _ (address p) k l x) todo x l) h
+      held_changed vs (values_cleared k n nought vs) (OfEach (IsBefore k)) (λ p. Unit {0}) (marks_cleared vs k n) (λ p x u. loose_cleared vs (address p) k n x) todo b (any_pends (λ p. Unit {0}) (λ p. tt) todo) (λ x. next (HoldsObject vs) (IsBefore k) (HoldsObject (values_cleared k n nought vs)) (λ p x l. cell_taken IsNumbered (λ n. n) vs _ (address p) k l x) todo x l) h
 
   -- in a frame of an execution, of which one is written
-  pub list_stored : (d k : ℕ) (v : Value) (fs : List (List Value)) (f : ℕ) (todo : List Todo) → AllCounted Few (frame_at f fs) todo → AllCounted Few (frame_at f (frame_changed d (value_changed k (stored v) nought) fs)) todo
-  list_stored d k v fs f todo h =
-      set_at (λ vs. AllCounted Few vs todo) fs d f _ (λ e. all_stored k v todo (frame_at d fs) (subst (λ n. AllCounted Few (frame_at n fs) todo) e h)) h
+  pub list_stored : (d k : ℕ) (v : Value) → IsLoose v → (fs : List (List Value)) (f : ℕ) (todo : List Todo) → AllCounted Few (frame_at f fs) todo → AllCounted Few (frame_at f (frame_changed d (value_changed k (stored v) nought) fs)) todo
+  list_stored d k v l fs f todo h =
+      set_at (λ vs. AllCounted Few vs todo) fs d f _ (λ e. all_stored k v l todo (frame_at d fs) (subst (λ n. AllCounted Few (frame_at n fs) todo) e h)) h
+
+  pub list_aside : (d k : ℕ) (v : Value) (fs : List (List Value)) (f : ℕ) (todo : List Todo) → (f ≡ d → Pends (λ p. address p ≡ k → ⊥) todo) → AllCounted Few (frame_at f fs) todo → AllCounted Few (frame_at f (frame_changed d (value_changed k (stored v) nought) fs)) todo
+  list_aside d k v fs f todo q h =
+      set_at (λ vs. AllCounted Few vs todo) fs d f _ (λ e. all_aside k v todo (frame_at d fs) (q e) (subst (λ n. AllCounted Few (frame_at n fs) todo) e h)) h
+
+  pub drop_aside : (d k : ℕ) (v : Value) (fs : List (List Value)) (f : ℕ) (todo : List Todo) → (f ≡ d → Pends (λ p. address p ≡ k → ⊥) todo) → AtDrop Few (frame_at f fs) todo → AtDrop Few (frame_at f (frame_changed d (value_changed k (stored v) nought) fs)) todo
+  drop_aside d k v fs f todo q h =
+      set_at (λ vs. AtDrop Few vs todo) fs d f _ (λ e. drop_changed (frame_at d fs) (value_changed k (stored v) nought (frame_at d fs)) (λ c. Unit {0}) (λ p. address p ≡ k → ⊥) (marks_stored (frame_at d fs) k v) (loose_aside (frame_at d fs) k v) todo (any_cleans todo) (q e) (subst (λ n. AtDrop Few (frame_at n fs) todo) e h)) h
 
   pub list_cleared : (d k n : ℕ) (fs : List (List Value)) (todo : List Todo) → AllBefore k todo → AllCounted Few (frame_at d fs) todo → AllCounted Few (frame_at d (frame_changed d (values_cleared k n nought) fs)) todo
   list_cleared d k n fs todo b h = set_at (λ vs. AllCounted Few vs todo) fs d d _ (λ e. all_cleared k n todo (frame_at d fs) b h) h
 
-  pub stack_stored : (d k : ℕ) (v : Value) (fs : List (List Value)) (cs : List Active) → CountedStack Few fs cs → CountedStack Few (frame_changed d (value_changed k (stored v) nought) fs) cs
-  stack_stored d k v fs [] h = tt
-  stack_stored d k v fs (a ∷ older) h =
+  pub stack_stored : (d k : ℕ) (v : Value) → IsLoose v → (fs : List (List Value)) (cs : List Active) → CountedStack Few fs cs → CountedStack Few (frame_changed d (value_changed k (stored v) nought) fs) cs
+  stack_stored d k v l fs [] h = tt
+  stack_stored d k v l fs (a ∷ older) h =
       let there : Held Few (frame_at a.frame fs) a.control = h.1 in
-      (h.0, set_at (λ vs. Held Few vs a.control) fs d a.frame _ (λ e. held_stored k v a.control (frame_at d fs) (subst (λ f. Held Few (frame_at f fs) a.control) e there)) there, stack_stored d k v fs older h.2)
+      (h.0, set_at (λ vs. Held Few vs a.control) fs d a.frame _ (λ e. held_stored k v l a.control (frame_at d fs) (subst (λ f. Held Few (frame_at f fs) a.control) e there)) there, stack_stored d k v l fs older h.2)
+
+  pub stack_aside : (d k : ℕ) (v : Value) (fs : List (List Value)) (cs : List Active) → StackAside k d cs → CountedStack Few fs cs → CountedStack Few (frame_changed d (value_changed k (stored v) nought) fs) cs
+  stack_aside d k v fs [] q h = tt
+  stack_aside d k v fs (a ∷ older) q h =
+      let there : Held Few (frame_at a.frame fs) a.control = h.1 in
+      (h.0, set_at (λ vs. Held Few vs a.control) fs d a.frame _ (λ e. held_aside k v a.control (frame_at d fs) (q.0 e) (subst (λ f. Held Few (frame_at f fs) a.control) e there)) there, stack_aside d k v fs older q.1 h.2)
 
   pub stack_cleared : (d k n : ℕ) (fs : List (List Value)) (cs : List Active) → FrameBefore k d cs → CountedStack Few fs cs → CountedStack Few (frame_changed d (values_cleared k n nought) fs) cs
   stack_cleared d k n fs [] b h = tt

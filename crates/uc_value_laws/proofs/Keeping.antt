@@ -1,6 +1,6 @@
 -- What holds of all executions goes on to hold where members, executions and who runs change.
 use Rattle.std.proofs.Common.{◌≡◌, ℕ, length, ap, ◌∙◌, true, false, List, [], ◌∷◌, ◌++◌, Option, Some, None, refl, sym, subst, Bool}
-use Rattle.std.specs.Prelude.{nat_eq}
+use Rattle.std.specs.Prelude.{nat_eq, if◌then◌else◌}
 use Rattle.uc_entry.specs.declared.fault.RunFault.TheVariants.{ResumeInUse, SwitchInUnwind}
 use Rattle.uc_entry.specs.Keyed.{find}
 use Rattle.uc_machine.specs.declared.exec.Exec.{Exec}
@@ -14,9 +14,9 @@ use Rattle.uc_machine.specs.Executions.{Execution, Links, update, exec_eq, joine
 use Rattle.uc_machine.specs.Switches as sw
 use Rattle.uc_machine.specs.Switches.{Moved, To, Stops}
 use Rattle.uc_machine.specs.Pieces.{Value, Number, Place, Running, Object, Nothing, Todo, Active, State, Env, Members, address, stored, nought, written}
-use Rattle.uc_value_laws.specs.There.{AllCounted, frame_at}
-use Rattle.uc_value_laws.specs.ThereStates.{CountedStack, CountedEx, CountedSlot, CountedParked, CountedHand, CountedMembers, CountedEnv, CountedState}
-use Rattle.uc_value_laws.proofs.Cells.{either, set_length, list_stored, stack_stored}
+use Rattle.uc_value_laws.specs.There.{IsLoose, Pends, AllCounted, AtDrop, frame_at}
+use Rattle.uc_value_laws.specs.ThereStates.{StackAside, InFrame, Aside, CountedStack, CountedEx, CountedSlot, CountedParked, CountedHand, CountedMembers, CountedEnv, CountedState}
+use Rattle.uc_value_laws.proofs.Cells.{either, set_length, drop_kept, list_stored, list_aside, drop_aside, stack_stored, stack_aside}
 
 abbrev pub Ex : Type 0
 Ex = Execution (List Todo) Value
@@ -98,6 +98,19 @@ module _ (Few : ℕ → Bool) where
   change_frames : (h : Home) (f : Members → Members) (e : Env) → (change h f e).frames ≡ e.frames
   change_frames h f e = change_in_frames h f (members_at h e) e
 
+  -- who runs stays the same
+
+  set_members_exec : (h : Home) (m : Members) (e : Env) → (set_members h m e).exec ≡ e.exec
+  set_members_exec (home.Task t) m e = either (λ (d : Env). d.exec ≡ e.exec) (nat_eq t e.own) (record e { house = m }) e refl refl
+  set_members_exec (home.Object o) m e = refl
+
+  change_in_exec : (h : Home) (f : Members → Members) (o : Option Members) (e : Env) → (change_in h f o e).exec ≡ e.exec
+  change_in_exec h f None e = refl
+  change_in_exec h f (Some x) e = set_members_exec h (f x) e
+
+  pub change_exec : (h : Home) (f : Members → Members) (e : Env) → (change h f e).exec ≡ e.exec
+  change_exec h f e = change_in_exec h f (members_at h e) e
+
   -- a task changes, but all that is there in the running execution stays so, and all executions that do not run are in order
   pub record Keeps (e f : Env) : Type 0 where
     pub frames : length f.frames ≡ length e.frames
@@ -132,17 +145,60 @@ module _ (Few : ℕ → Bool) where
   with_frames_keeps n f e same s =
       either (Keeps e) (exec_eq n e.exec) (record e { frames = f e.frames }) (change n.home (frames_changed n.serial f) e) (record { frames = (same e.frames).0; stack = (same e.frames).1; lists = (same e.frames).2; env = like s refl refl }) (keeps_change n.home (frames_changed n.serial f) e (λ m h. frames_kept n.serial f (joined (find n.serial m.parked)) m same (found_parked n.serial m.parked h) h) s)
 
-  owned_keeps : (o : Owner) (k : ℕ) (v : Value) (e : Env) → CountedEnv Few e → Keeps e (with_owned o (value_changed k (stored v) nought) e)
-  owned_keeps (Frame n d) k v e s =
-      with_frames_keeps n (frame_changed d (value_changed k (stored v) nought)) e (λ fs. (set_length fs d (value_changed k (stored v) nought (list_in (at_depth fs d))), λ cs h. stack_stored Few d k v fs cs h, λ f todo h. list_stored Few d k v fs f todo h)) s
-  owned_keeps (Fields o) k v e s = keeps_change (home.Object o) _ e (λ m h. h) s
+  -- of a mutex object anything may be written
+  fields_keeps : (o k : ℕ) (v : Value) (e : Env) → CountedEnv Few e → Keeps e (with_owned (Fields o) (value_changed k (stored v) nought) e)
+  fields_keeps o k v e s = keeps_change (home.Object o) _ e (λ m h. h) s
 
-  pub written_keeps : (v w : Value) (e : Env) → CountedEnv Few e → Keeps e (written v w e)
-  written_keeps (Number n) w e s = keeps_like s refl refl refl
-  written_keeps (Place o p) w e s = owned_keeps o (address p) w e s
-  written_keeps (Running x) w e s = keeps_like s refl refl refl
-  written_keeps (Object o) w e s = owned_keeps (Fields o) 0 w e s
-  written_keeps Nothing w e s = keeps_like s refl refl refl
+  owned_keeps : (o : Owner) (k : ℕ) (v : Value) → IsLoose v → (e : Env) → CountedEnv Few e → Keeps e (with_owned o (value_changed k (stored v) nought) e)
+  owned_keeps (Frame n d) k v l e s =
+      with_frames_keeps n (frame_changed d (value_changed k (stored v) nought)) e (λ fs. (set_length fs d (value_changed k (stored v) nought (list_in (at_depth fs d))), λ cs h. stack_stored Few d k v l fs cs h, λ f todo h. list_stored Few d k v l fs f todo h)) s
+  owned_keeps (Fields o) k v l e s = fields_keeps o k v e s
+
+  pub written_keeps : (v w : Value) → IsLoose w → (e : Env) → CountedEnv Few e → Keeps e (written v w e)
+  written_keeps (Number n) w l e s = keeps_like s refl refl refl
+  written_keeps (Place o p) w l e s = owned_keeps o (address p) w l e s
+  written_keeps (Running x) w l e s = keeps_like s refl refl refl
+  written_keeps (Object o) w l e s = fields_keeps o 0 w e s
+  written_keeps Nothing w l e s = keeps_like s refl refl refl
+
+  -- the frames of the running execution, for an activation that runs with this to do and those that wait
+  pub record KeepsAt (d : ℕ) (todo : List Todo) (cs : List Active) (e f : Env) : Type 0 where
+    pub frames : length f.frames ≡ length e.frames
+    pub stack : CountedStack Few e.frames cs → CountedStack Few f.frames cs
+    pub list : AllCounted Few (frame_at d e.frames) todo → AllCounted Few (frame_at d f.frames) todo
+    pub drop : AtDrop Few (frame_at d e.frames) todo → AtDrop Few (frame_at d f.frames) todo
+    pub env : CountedEnv Few f
+
+  pub keeps_at : {e f : Env} (d : ℕ) (todo : List Todo) (cs : List Active) → Keeps e f → KeepsAt d todo cs e f
+  keeps_at {e} {f} d todo cs k =
+      record { frames = k.frames; stack = k.stack cs; list = k.lists d todo; drop = drop_kept Few (frame_at d e.frames) (frame_at d f.frames) (k.lists d) todo; env = k.env }
+
+  pub keeps_then : {e f g : Env} (d : ℕ) (todo : List Todo) (cs : List Active) → Keeps e f → KeepsAt d todo cs f g → KeepsAt d todo cs e g
+  keeps_then {e} {f} {g} d todo cs h k =
+      record { frames = k.frames ∙ h.frames; stack = λ x. k.stack (h.stack cs x); list = λ x. k.list (h.lists d todo x); drop = λ x. k.drop (drop_kept Few (frame_at d e.frames) (frame_at d f.frames) (h.lists d) todo x); env = k.env }
+
+  -- what is no object is bound aside
+
+  frame_aside : (n : Exec) (x k : ℕ) (v : Value) (d : ℕ) (todo : List Todo) (cs : List Active) (e : Env) → exec_eq n e.exec ≡ true → (d ≡ x → Pends (λ p. address p ≡ k → ⊥) todo) → StackAside k x cs → CountedEnv Few e → KeepsAt d todo cs e (with_owned (Frame n x) (value_changed k (stored v) nought) e)
+  frame_aside n x k v d todo cs e own q a s =
+      subst (λ (b : Bool). KeepsAt d todo cs e (if b then record e { frames = frame_changed x (value_changed k (stored v) nought) e.frames } else change n.home (frames_changed n.serial (frame_changed x (value_changed k (stored v) nought))) e)) (sym own) (record {
+        frames = set_length e.frames x (value_changed k (stored v) nought (list_in (at_depth e.frames x)));
+        stack = λ h. stack_aside Few x k v e.frames cs a h;
+        list = λ h. list_aside Few x k v e.frames d todo q h;
+        drop = λ h. drop_aside Few x k v e.frames d todo q h;
+        env = like s refl refl;
+      })
+
+  owned_aside : (o : Owner) (k : ℕ) (v : Value) (d : ℕ) (todo : List Todo) (cs : List Active) (e : Env) → InFrame o k d todo cs e → CountedEnv Few e → KeepsAt d todo cs e (with_owned o (value_changed k (stored v) nought) e)
+  owned_aside (Frame n x) k v d todo cs e a s = frame_aside n x k v d todo cs e a.0 a.1 a.2 s
+  owned_aside (Fields o) k v d todo cs e a s = keeps_at d todo cs (fields_keeps o k v e s)
+
+  pub written_aside : (v w : Value) (d : ℕ) (todo : List Todo) (cs : List Active) (e : Env) → Aside v d todo cs e → CountedEnv Few e → KeepsAt d todo cs e (written v w e)
+  written_aside (Number n) w d todo cs e a s = keeps_at d todo cs (keeps_like s refl refl refl)
+  written_aside (Place o p) w d todo cs e a s = owned_aside o (address p) w d todo cs e a s
+  written_aside (Running x) w d todo cs e a s = keeps_at d todo cs (keeps_like s refl refl refl)
+  written_aside (Object o) w d todo cs e a s = keeps_at d todo cs (fields_keeps o 0 w e s)
+  written_aside Nothing w d todo cs e a s = keeps_at d todo cs (keeps_like s refl refl refl)
 
   -- executions are made and go, and their links change
 

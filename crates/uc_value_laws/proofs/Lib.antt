@@ -2,6 +2,7 @@ pub mod Cells
 pub mod Keeping
 pub mod Steps
 pub mod NewClusters
+pub mod Declaring
 pub mod Walk
 pub mod Readings
 pub mod Counts

@@ -1,28 +1,29 @@
--- Steps on the way from the declaration of a cluster to its scope.
+-- Steps on the way from the statement that binds a variable to a new cluster to its scope.
 use Rattle.std.proofs.Common.{◌≡◌, ℕ, zero, suc, ◌+◌, ◌≤◌, ◌<◌, ◌⊎◌, inl, inr, Bool, true, false, List, [], ◌∷◌, length, Some, refl, sym, ap, ◌∙◌, subst, arith}
 use Rattle.std.specs.Prelude.{nat_eq, min, if◌then◌else◌, slice_index_or}
 use Rattle.std.proofs.lemmas.Bool.{eq-eqb, cases_lt}
 use Rattle.std.proofs.Math.Nat.{min-eq_left}
 use Rattle.uc_tree.specs.Source as src
-use Rattle.uc_tree.specs.Source.{Source, Declared, CleanUp, Stmt, Stmts}
-use Rattle.uc_machine.specs.Executions.{at_depth, set_depth, frame_changed, frames_changed, change, list_in, value_changed, values_cleared}
+use Rattle.uc_tree.specs.Source.{Source, Expr, CleanUp, Stmt, Stmts}
+use Rattle.uc_machine.specs.Executions.{at_depth, set_depth, frame_changed, frames_changed, change, list_in, value_changed}
 use Rattle.uc_machine.specs.Quiet as quiet
 use Rattle.uc_machine.specs.Pieces as piece
 use Rattle.uc_machine.specs.Pieces.{Slot, Value, Number, Place, Running, Object, Nothing, Todo, Active, State, Env, Step, Goes, Ticks, Asks, LAST_ADDRESS, at, in_env, top, below, nought, address, stored, written, variable_at}
 use Rattle.uc_typing.specs.States.{IsNumbered}
-use Rattle.uc_scope_laws.specs.Clusters.{DeclaresAlone, BindsCluster, Precedes, OpensBound, IsUnbound, IsUnscoped, Begins, Joined}
-use Rattle.uc_value_laws.specs.There.{IsGiven, IsNoCluster, OfBound, HoldsObject, IsThere, IsFew, IsCounted, AllCounted, AllBefore, FrameBefore, frame_at}
-use Rattle.uc_value_laws.specs.ThereStates.{CountedStack, CountedState, CountedStep, ScopeFits, FairAt, Fair}
+use Rattle.uc_scope_laws.specs.Clusters.{BindsCluster, BindsProcessor, BindsObject, Precedes, OpensBound, IsUnbound, IsUnscoped, Begins, Joined}
+use Rattle.uc_value_laws.specs.There.{IsGiven, IsNoCluster, OfBound, HoldsObject, IsLoose, IsThere, IsFew, IsCounted, AllCounted, frame_at}
+use Rattle.uc_value_laws.specs.ThereStates.{CountedStep, ScopeFits, FairAt, Fair}
+use Rattle.uc_value_laws.specs.Declaring.{IsCount, IsUnset}
 use Rattle.uc_value_laws.specs.NewClusters as way
-use Rattle.uc_value_laws.specs.NewClusters.{Stage, stage_todo, IsOwn, IsCount, IsUnset, IsSetBy, IsScopeOf, StageHoldsBy, OpeningBy, WaitingBy, GoodBy, AskedBy, GoodStepBy}
-use Rattle.uc_value_laws.proofs.Cells.{set_length, list_cleared, stack_cleared}
+use Rattle.uc_value_laws.specs.NewClusters.{Stage, stage_todo, IsSetBy, IsScopeOf, StageHoldsBy, OpeningBy, WaitingBy, GoodBy, AskedBy, GoodStepBy}
+use Rattle.uc_value_laws.proofs.Cells.{set_length}
 use Rattle.uc_value_laws.proofs.Keeping as kept
 use Rattle.uc_value_laws.proofs.Keeping.{Keeps}
 use Rattle.uc_value_laws.proofs.Steps.{exec_same, here}
 
 -- cells
 
-set_same : (P : List Value → Type 0) (fs : List (List Value)) (d : ℕ) (y : List Value) → P y → P [] → P (frame_at d (set_depth fs d y))
+pub set_same : (P : List Value → Type 0) (fs : List (List Value)) (d : ℕ) (y : List Value) → P y → P [] → P (frame_at d (set_depth fs d y))
 set_same P [] d y h k = k
 set_same P (x ∷ xs) d y h k = by (nat_eq d (length xs)) refl (set_same P xs d y h k)
   where
@@ -51,23 +52,20 @@ set_in P (x ∷ xs) d y l h = by (nat_eq d (length xs)) refl (λ m. set_in P xs 
         let k : nat_eq d (length (set_depth xs d y)) ≡ false = ap (nat_eq d) (set_length xs d y) ∙ e in
         subst (λ (c : Bool). P (list_in (if c then Some x else at_depth (set_depth xs d y) d))) (sym k) (m (other e (cases_lt d (length xs))))
 
-cell_unset : (vs : List Value) (k n : ℕ) → IsCount (slice_index_or (values_cleared k (suc n) nought vs) k nought)
-cell_unset [] zero n = tt
-cell_unset (x ∷ vs) zero n = tt
-cell_unset [] (suc k) n = tt
-cell_unset (x ∷ vs) (suc k) n = cell_unset vs k n
-
-frame_unset : (fs : List (List Value)) (d k n : ℕ) → 1 ≤ n → IsCount (slice_index_or (frame_at d (frame_changed d (values_cleared k n nought) fs)) k nought)
-frame_unset fs d k zero l = let f : ⊥ = omega (arith, l) in absurd f
-frame_unset fs d k (suc n) l =
-    set_same (λ vs. IsCount (slice_index_or vs k nought)) fs d (values_cleared k (suc n) nought (frame_at d fs)) (cell_unset (frame_at d fs) k n) tt
-
-near_address : (k : ℕ) → k ≤ LAST_ADDRESS → address (Slot k ∷ []) ≡ k
+pub near_address : (k : ℕ) → k ≤ LAST_ADDRESS → address (Slot k ∷ []) ≡ k
 near_address k l =
     let e : 0 + k ≡ k = omega arith in
     subst (λ (m : ℕ). min m LAST_ADDRESS ≡ k) (sym e) (min-eq_left l)
 
 -- what stands behind a statement
+
+pub no_processor : (k : ℕ) (a : Stmt) → BindsProcessor k a → IsUnbound a → ⊥
+no_processor k (src.Evaluate line (src.OfObject (src.Bind (src.Variable m) (src.OfObject (src.NewProcessor e))))) h u = u
+no_processor k a h u = h
+
+pub no_object : (k : ℕ) (a : Stmt) → BindsObject k a → IsUnbound a → ⊥
+no_object k (src.Evaluate line (src.OfObject (src.MakeOn c r written (src.Variable m) args))) h u = u
+no_object k a h u = h
 
 pub no_bind : (k : ℕ) (a : Stmt) → BindsCluster k a → IsUnbound a → ⊥
 no_bind k (src.Evaluate line (src.OfObject (src.Bind (src.Variable m) (src.OfObject src.NewCluster)))) h u = u
@@ -79,13 +77,15 @@ behind_scope k l (src.Destroys (src.OfObject (src.EndProcessor (src.Load (src.Va
 behind_scope k l (src.Destroys (src.OfObject (src.EndOn r written (src.Load (src.Variable m))))) rest h b = absurd h
 behind_scope k l c rest h b = inl tt
 
-behind_stmt : (k l : ℕ) (b : Stmt) → Precedes (src.Evaluate l (src.OfObject (src.Bind (src.Variable k) (src.OfObject src.NewCluster)))) b → IsUnbound b
-behind_stmt k l (src.Evaluate line (src.OfObject (src.Bind (src.Variable m) (src.OfObject src.NewCluster)))) h = h
-behind_stmt k l b h = tt
+pub behind_stmt : (l : ℕ) (e : Expr) (b : Stmt) → Precedes (src.Evaluate l e) b → IsUnbound b
+behind_stmt l e (src.Evaluate line (src.OfObject (src.Bind (src.Variable m) (src.OfObject src.NewCluster)))) h = h
+behind_stmt l e (src.Evaluate line (src.OfObject (src.Bind (src.Variable m) (src.OfObject (src.NewProcessor x))))) h = h
+behind_stmt l e (src.Evaluate line (src.OfObject (src.MakeOn c r written (src.Variable m) args))) h = h
+behind_stmt l e b h = tt
 
 pub behind_bound : (k l : ℕ) (rest : Stmts) → Joined (src.Then (src.Evaluate l (src.OfObject (src.Bind (src.Variable k) (src.OfObject src.NewCluster)))) rest) → Begins rest ⊎ IsScopeOf k rest
 behind_bound k l src.Nil h = inl tt
-behind_bound k l (src.Then b rest) h = inl (behind_stmt k l b h.0)
+behind_bound k l (src.Then b rest) h = inl (behind_stmt l (src.OfObject (src.Bind (src.Variable k) (src.OfObject src.NewCluster))) b h.0)
 behind_bound k l (src.Scoped c rest) h = behind_scope k l c rest h.0 h.1.0
 behind_bound k l (src.Built c rest) h = inl tt
 
@@ -97,10 +97,17 @@ far (src.Destroys (src.OfObject (src.EndOn r written (src.Load (src.Variable k))
 far c h n = n
 
 -- one whose variable is bound is there
+given_near : (k : ℕ) (R : Type 0) → (k ≤ LAST_ADDRESS → R) → ((k ≤ LAST_ADDRESS → ⊥) → R) → R
+given_near k R h f = by (cases_lt LAST_ADDRESS k)
+  where
+    by : (LAST_ADDRESS < k) ⊎ (k ≤ LAST_ADDRESS) → R
+    by (inl l) = f (λ n. omega (arith, l, n))
+    by (inr l) = h l
+
 pub opened : (vs : List Value) (c : CleanUp) → IsNoCluster c → OfBound (HoldsObject vs) c → ((IsGiven c → ⊥) → IsThere vs c) → IsThere vs c
 opened vs (src.Destroys (src.OfObject (src.EndCluster (src.Load (src.Variable k))))) n h f = absurd n
-opened vs (src.Destroys (src.OfObject (src.EndProcessor (src.Load (src.Variable k))))) n h f = h
-opened vs (src.Destroys (src.OfObject (src.EndOn r written (src.Load (src.Variable k))))) n h f = h
+opened vs (src.Destroys (src.OfObject (src.EndProcessor (src.Load (src.Variable k))))) n h f = given_near k (HoldsObject vs (Slot k ∷ [])) h f
+opened vs (src.Destroys (src.OfObject (src.EndOn r written (src.Load (src.Variable k))))) n h f = given_near k (HoldsObject vs (Slot k ∷ [])) h f
 opened vs c n h f = f (λ g. g)
 
 module _ (Few : ℕ → Bool) where
@@ -133,14 +140,6 @@ module _ (Few : ℕ → Bool) where
   lift (Ticks s) h = inl h
   lift (Asks r s) h = inl h
 
-  -- the declaration of a cluster begins
-
-  module _ (s : State) (st : CountedState Few s) where
-    pub begun : (k l : ℕ) (a : Stmt) (rest : Stmts) (todo : List Todo) → DeclaresAlone k a → Joined (src.Then (src.Evaluate l (src.OfObject (src.Bind (src.Variable k) (src.OfObject src.NewCluster)))) rest) → AllCounted Few (here s) todo → GoodBy Few (at (piece.Do a ∷ (piece.Rest (src.Then (src.Evaluate l (src.OfObject (src.Bind (src.Variable k) (src.OfObject src.NewCluster)))) rest) ∷ todo)) s.run.operands s)
-    begun k l (src.Declare m (d ∷ [])) rest todo h j t =
-        inr (record { cell = k; line = l; next = rest; todo = todo; stage = way.Declares m d; control = refl; follows = behind_bound k l rest j; holds = h; frames = st.frames; frame = st.stack.0; behind = t; callers = st.stack.2; env = st.env })
-    begun k l a rest todo h j t = absurd h
-
   module _ (source : Source) (s : State) (st : OpeningBy Few s) where
     abbrev Then : Stage → List Todo
     Then g = stage_todo g st.cell st.line st.next st.todo
@@ -148,24 +147,6 @@ module _ (Few : ℕ → Bool) where
     -- with nothing written
     next : (g : Stage) (vs : List Value) → StageHoldsBy Few g st.cell st.next (at (Then g) vs s) → OpeningBy Few (at (Then g) vs s)
     next g vs h = record { cell = st.cell; line = st.line; next = st.next; todo = st.todo; stage = g; control = refl; follows = st.follows; holds = h; frames = st.frames; frame = st.frame; behind = st.behind; callers = st.callers; env = st.env }
-
-    clears : (m : ℕ) (d : Declared) → s.run.control ≡ Then (way.Clears m d) → IsOwn st.cell d → FrameBefore d.cell s.run.frame s.callers → AllBefore d.cell (Then (way.Cleared m)) → OpeningBy Few (at (Then (way.Cleared m)) s.run.operands (in_env (piece.cleared d.cell d.cells s) s))
-    clears m d e h f lies =
-        subst (λ (b : Bool). OpeningBy Few (at (Then (way.Cleared m)) s.run.operands (in_env (if b then record s.env { frames = frame_changed s.run.frame (values_cleared d.cell d.cells nought) s.env.frames } else change s.env.exec.home (frames_changed s.env.exec.serial (frame_changed s.run.frame (values_cleared d.cell d.cells nought))) s.env) s))) (sym (exec_same s.env.exec)) (record {
-          cell = st.cell;
-          line = st.line;
-          next = st.next;
-          todo = st.todo;
-          stage = way.Cleared m;
-          control = refl;
-          follows = st.follows;
-          holds = subst (λ (k : ℕ). IsCount (slice_index_or (frame_at s.run.frame (frame_changed s.run.frame (values_cleared d.cell d.cells nought) s.env.frames)) k nought)) h.0 (frame_unset s.env.frames s.run.frame d.cell d.cells h.2);
-          frames = set_length s.env.frames s.run.frame (values_cleared d.cell d.cells nought (here s)) ∙ st.frames;
-          frame = st.frame;
-          behind = list_cleared Few s.run.frame d.cell d.cells s.env.frames st.todo lies.1.1.1 st.behind;
-          callers = stack_cleared Few s.run.frame d.cell d.cells s.env.frames s.callers f st.callers;
-          env = kept.like Few st.env refl refl;
-        })
 
     -- the variable is bound
 
@@ -190,7 +171,7 @@ module _ (Few : ℕ → Bool) where
         e = written (top (below s.run.operands)) (top s.run.operands) s.env
 
         k : Keeps Few s.env e
-        k = kept.written_keeps Few (top (below s.run.operands)) (top s.run.operands) s.env st.env
+        k = kept.written_keeps Few (top (below s.run.operands)) (top s.run.operands) (subst IsLoose (sym h.2.1) tt) s.env st.env
 
         behind : AllCounted Few (frame_at s.run.frame e.frames) st.todo
         behind = k.lists s.run.frame st.todo st.behind
@@ -201,7 +182,7 @@ module _ (Few : ℕ → Bool) where
 
         by : Begins st.next ⊎ IsScopeOf st.cell st.next → GoodBy Few (at (Then way.Bound) (top s.run.operands ∷ below (below s.run.operands)) (in_env e s))
         by (inl b) = inl (record { frames = k.frames ∙ st.frames; stack = (st.frame, inl (tt, (tt, (b, behind))), k.stack s.callers st.callers); env = k.env })
-        by (inr i) = inr (record { cell = st.cell; line = st.line; next = st.next; todo = st.todo; stage = way.Bound; control = refl; follows = st.follows; holds = (i, set i); frames = k.frames ∙ st.frames; frame = st.frame; behind = behind; callers = k.stack s.callers st.callers; env = k.env })
+        by (inr i) = inr (inr (record { cell = st.cell; line = st.line; next = st.next; todo = st.todo; stage = way.Bound; control = refl; follows = st.follows; holds = (i, set i); frames = k.frames ∙ st.frames; frame = st.frame; behind = behind; callers = k.stack s.callers st.callers; env = k.env }))
 
     -- its scope opens
 
@@ -219,21 +200,14 @@ module _ (Few : ℕ → Bool) where
     opens ss i h f = absurd i
 
     step : (g : Stage) → s.run.control ≡ Then g → StageHoldsBy Few g st.cell st.next s → FairAt source (Then g) s → GoodStepBy Few (quiet.act_todo source (Then g) s)
-    step (way.Declares m d) e h f = inr (next (way.Lists m d) s.run.operands h)
-    step (way.Lists m d) e h f =
-        subst (λ v. GoodStepBy Few (piece.turns (piece.ClearNow d.cell d.cells ∷ quiet.starting d.cell v (piece.Variables [] ∷ (piece.Within m ∷ Then way.Reaches))) s)) (sym h.1) (inr (next (way.Clears m d) s.run.operands h))
-    step (way.Clears m d) e h f = inr (clears m d e h f.1 f.0)
-    step (way.Cleared m) e h f = inr (next (way.Passes m) s.run.operands h)
-    step (way.Passes m) e h f = inr (next way.Reaches s.run.operands h)
-    step way.Reaches e h f = inr (next way.Does s.run.operands h)
-    step way.Does e h f = inr (next way.Binds s.run.operands h)
-    step way.Binds e h f = inr (next way.Places s.run.operands h)
-    step way.Places e h f = inr (next way.Makes (variable_at st.cell s ∷ s.run.operands) (h, refl))
-    step way.Makes e h f = inr (next way.Orders s.run.operands h)
+    step way.Does e h f = inr (inr (next way.Binds s.run.operands h))
+    step way.Binds e h f = inr (inr (next way.Places s.run.operands h))
+    step way.Places e h f = inr (inr (next way.Makes (variable_at st.cell s ∷ s.run.operands) (h, refl)))
+    step way.Makes e h f = inr (inr (next way.Orders s.run.operands h))
     step way.Orders e h f = inr (inl (refl, λ o w. next way.Told (Object o ∷ s.run.operands) (h.0, h.1, (o, refl, w))))
     step way.Told e h f = binds h f.0
-    step way.Bound e h f = inr (next way.Leaves (below s.run.operands) h)
-    step way.Leaves e h f = inr (next way.Opens s.run.operands h)
+    step way.Bound e h f = inr (inr (next way.Leaves (below s.run.operands) h))
+    step way.Leaves e h f = inr (inr (next way.Opens s.run.operands h))
     step way.Opens e h f = opens st.next h.0 h.1 f
 
     pub opening : Fair source s → GoodStepBy Few (quiet.quiet source s)

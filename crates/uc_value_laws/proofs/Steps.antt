@@ -10,6 +10,7 @@ use Rattle.uc_entry.specs.Keyed.{find, signed_64}
 use Rattle.uc_machine.specs.declared.exec.Exec.{Exec}
 use Rattle.uc_machine.specs.declared.exec.Home.{Home}
 use Rattle.uc_machine.specs.declared.exec.Home.TheVariants as home
+use Rattle.uc_machine.specs.declared.exec.Owner.TheVariants.{Frame, Fields}
 use Rattle.uc_machine.specs.declared.exec.Pending.{Pending}
 use Rattle.uc_machine.specs.declared.exec.UnwindReason.{UnwindReason}
 use Rattle.uc_machine.specs.declared.exec.UnwindReason.TheVariants as reason
@@ -26,12 +27,12 @@ use Rattle.uc_machine.specs.Quiet as quiet
 use Rattle.uc_machine.specs.Pieces as piece
 use Rattle.uc_machine.specs.Pieces.{Value, Number, Place, Running, Object, Nothing, Todo, Sort, Active, State, Env, Members, Step, Goes, Ticks, Asks, Outcome, Gives, Faults, at, in_env, goes, fault, asks, turns, top, below, number, nought, is_zero, written}
 use Rattle.uc_scope_laws.specs.Clusters.{Begins, HandlersBegin}
-use Rattle.uc_value_laws.specs.There.{HoldsObject, NextBound, NextDrop, NextCall, MayBegin, IsBinder, BindsBy, MarkCounted, LeftBy, AllCounted, AtRest, AtDrop, AtCall, AllLeft, AtBound, Held, AllBefore, FrameBefore, frame_at}
-use Rattle.uc_value_laws.specs.ThereStates.{CountedStack, CountedEx, CountedState, CountedStep, RoutineBegins, BodiesBegin, BoundBehind}
+use Rattle.uc_value_laws.specs.There.{IsLoose, HoldsLoose, HoldsObject, NextBound, NextRest, NextDrop, NextCall, IsBinder, BindsBy, LeftBy, AllCounted, AtRest, AtDrop, AtCall, AllLeft, AtBound, Held, AllBefore, FrameBefore, frame_at}
+use Rattle.uc_value_laws.specs.ThereStates.{CountedStack, CountedEx, CountedState, CountedStep, RoutineBegins, BodiesBegin, Aside, IsAside, BoundBehind}
 use Rattle.uc_value_laws.specs.NewClusters.{GoodStepBy}
-use Rattle.uc_value_laws.proofs.Cells.{either, set_length, all_left, held_left, left_on, drop_bound, call_bound, drop_kept, call_kept, drop_next, call_next, list_cleared, stack_cleared, stack_newer, stack_older, others_length}
+use Rattle.uc_value_laws.proofs.Cells.{either, set_length, all_left, held_left, left_on, next_drop, next_call, drop_bound, call_bound, call_kept, drop_next, call_next, list_cleared, stack_cleared, stack_newer, stack_older, others_length}
 use Rattle.uc_value_laws.proofs.Keeping as kept
-use Rattle.uc_value_laws.proofs.Keeping.{Keeps}
+use Rattle.uc_value_laws.proofs.Keeping.{Keeps, KeepsAt}
 
 home_same : (h : Home) → home_eq h h ≡ true
 home_same (home.Task n) = eq-eqb n n refl
@@ -217,10 +218,13 @@ module _ (Few : ℕ → Bool) where
     go_in todo vs e k h =
         record { frames = k.frames ∙ st.frames; stack = (st.stack.0, inl (k.lists s.run.frame todo h), k.stack s.callers st.stack.2); env = k.env }
 
+    pub go_at : (todo : List Todo) (vs : List Value) (e : Env) → KeepsAt Few s.run.frame todo s.callers s.env e → There todo → CountedState Few (at todo vs (in_env e s))
+    go_at todo vs e k h = record { frames = k.frames ∙ st.frames; stack = (st.stack.0, inl (k.list h), k.stack st.stack.2); env = k.env }
+
     -- what opens next is bound
-    pub bound_in : (todo : List Todo) (vs : List Value) (e : Env) → Keeps Few s.env e → AtBound Few (frame_at s.run.frame e.frames) todo → NextBound (HoldsObject (frame_at s.run.frame e.frames)) todo → CountedState Few (at todo vs (in_env e s))
+    pub bound_in : (todo : List Todo) (vs : List Value) (e : Env) → KeepsAt Few s.run.frame todo s.callers s.env e → AtBound Few (frame_at s.run.frame e.frames) todo → NextBound (HoldsObject (frame_at s.run.frame e.frames)) todo → CountedState Few (at todo vs (in_env e s))
     bound_in todo vs e k h b =
-        record { frames = k.frames ∙ st.frames; stack = (st.stack.0, inr (h, b), k.stack s.callers st.stack.2); env = k.env }
+        record { frames = k.frames ∙ st.frames; stack = (st.stack.0, inr (h, b), k.stack st.stack.2); env = k.env }
 
     -- nothing that is told of changes
     pub like : {e : Env} → e.frames ≡ s.env.frames → e.hand ≡ s.env.hand → e.house ≡ s.env.house → Keeps Few s.env e
@@ -333,15 +337,15 @@ module _ (Few : ℕ → Bool) where
     eval (src.Call r args) todo h = go _ _ (tt, (tt, (tt, h)))
     eval (src.OfObject x) todo h = object x todo h
 
-    binds : (a : Expr) (todo : List Todo) → IsBinder a → AtDrop Few (here s) todo → CountedStep Few (quiet.eval_step a todo s)
-    binds (src.OfObject (src.Bind a b)) todo i h = go _ _ (inl (inl (inr h)))
-    binds (src.OfObject (src.MakeOn c r false a args)) todo i h = go _ _ (inl (tt, inr h))
-    binds (src.OfObject (src.MakeOn c r true a args)) todo i h = go _ _ (inl (tt, (tt, inr h)))
-    binds a todo i h = absurd i
+    binds : (a : Expr) (todo : List Todo) → IsBinder a → AtDrop Few (here s) todo → NextDrop (HoldsLoose (here s)) todo → CountedStep Few (quiet.eval_step a todo s)
+    binds (src.OfObject (src.Bind a b)) todo i h l = go _ _ (inl (inl (inr (h, l))))
+    binds (src.OfObject (src.MakeOn c r false a args)) todo i h l = go _ _ (inl (tt, inr (h, l)))
+    binds (src.OfObject (src.MakeOn c r true a args)) todo i h l = go _ _ (inl (tt, (tt, inr (h, l))))
+    binds a todo i h l = absurd i
 
     pub evals : (a : Expr) (todo : List Todo) → There (piece.Eval a ∷ todo) → CountedStep Few (quiet.eval_step a todo s)
     evals a todo (inl h) = eval a todo h
-    evals a todo (inr h) = binds a todo h.0 h.1
+    evals a todo (inr h) = binds a todo h.0 h.1 h.2
 
     -- statements
 
@@ -387,21 +391,18 @@ module _ (Few : ℕ → Bool) where
     stmt (src.OfEvents a) todo f h = event_step a todo f h
     stmt (src.OfTasks a) todo f h = task_step a todo h
 
-    stmt_binds : (a : Stmt) (todo : List Todo) → BindsBy a → AtRest Few (here s) todo → CountedStep Few (quiet.stmt_step a todo s)
-    stmt_binds (src.Evaluate line a) todo i h = go _ _ (inr (i, h))
-    stmt_binds a todo i h = absurd i
+    stmt_binds : (a : Stmt) (todo : List Todo) → BindsBy a → AtRest Few (here s) todo → NextRest (HoldsLoose (here s)) todo → CountedStep Few (quiet.stmt_step a todo s)
+    stmt_binds (src.Evaluate line a) (piece.Rest ss ∷ todo) i h l = go _ _ (inr (i, h, l))
+    stmt_binds (src.Evaluate line a) todo i h l = absurd h
+    stmt_binds a todo i h l = absurd i
 
     pub stmts : (a : Stmt) (todo : List Todo) → BodiesBegin a → There (piece.Do a ∷ todo) → CountedStep Few (quiet.stmt_step a todo s)
     stmts a todo f (inl h) = stmt a todo f h
-    stmts a todo f (inr h) = stmt_binds a todo h.0 h.1
+    stmts a todo f (inr h) = stmt_binds a todo h.0 h.1 h.2
 
     -- statements that are left of a block, of which the first one is taken
     pub rest_with : (a : Stmt) (ss : Stmts) (todo : List Todo) → Begins ss → There todo → CountedStep Few (quiet.rest_step (src.Then a ss) todo s)
     rest_with a ss todo b h = go _ _ (inl (b, h))
-
-    -- it binds what is in scope behind it
-    pub rest_binds : (a : Stmt) (ss : Stmts) (todo : List Todo) → BindsBy a → MayBegin ss → There todo → CountedStep Few (quiet.rest_step (src.Then a ss) todo s)
-    rest_binds a ss todo i b h = go _ _ (inr (i, (b, h)))
 
     -- cells start anew
     pub clears : (k m : ℕ) (todo : List Todo) → AllBefore k todo × FrameBefore k s.run.frame s.callers → There todo → CountedStep Few (quiet.turns todo (in_env (piece.cleared k m s) s))
@@ -440,13 +441,21 @@ module _ (Few : ℕ → Bool) where
     fresh : (r : Routine) (this : Value) → Begins r.body → CountedEx Few (quiet.fresh r this)
     fresh r this b = record { frames = refl; stack = (omega arith, inl (routine _ r b), tt) }
 
-    pub set_up : (r : Option Routine) (todo : List Todo) → RoutineBegins r → There todo → CountedStep Few (quiet.set_up_step r todo s)
-    set_up None todo b h = go _ _ h
-    set_up (Some r) todo b h =
+    aside_by : (v : Value) (todo : List Todo) (e : Env) → e.exec ≡ s.env.exec → IsAside v todo s → Aside v s.run.frame todo s.callers e
+    aside_by (Number n) todo e q a = tt
+    aside_by (Place (Frame n d) p) todo e q a = (subst (λ x. exec_eq n x ≡ true) (sym q) a.0, a.1, a.2)
+    aside_by (Place (Fields o) p) todo e q a = tt
+    aside_by (Running n) todo e q a = tt
+    aside_by (Object o) todo e q a = tt
+    aside_by Nothing todo e q a = tt
+
+    pub set_up : (r : Option Routine) (todo : List Todo) → RoutineBegins r → IsAside s.run.this todo s → There todo → CountedStep Few (quiet.set_up_step r todo s)
+    set_up None todo b a h = go _ _ h
+    set_up (Some r) todo b a h =
         let q = quiet.home_at s.run.this s.env in
         let x = quiet.fresh r s.run.this in
         let k : Keeps Few s.env (sw.born q x s.env) = kept.born_keeps Few q x s.env (fresh r s.run.this b) st.env in
-        go_in _ _ _ (kept.keeps_both Few k (kept.written_keeps Few s.run.this _ (sw.born q x s.env) k.env)) h
+        go_at _ _ _ (kept.keeps_then Few s.run.frame todo s.callers k (kept.written_aside Few s.run.this _ s.run.frame todo s.callers (sw.born q x s.env) (aside_by s.run.this todo (sw.born q x s.env) (kept.change_exec Few q (sw.one_more x) s.env) a) k.env)) h
 
     pub live : (r : Option Routine) (todo : List Todo) → There todo → CountedStep Few (quiet.live_step r todo s)
     live None todo h = go _ _ h
@@ -481,28 +490,34 @@ module _ (Few : ℕ → Bool) where
     make c n (Some r) todo h =
         either (CountedStep Few) (monitors.may_call r.written s) _ _ (go_in _ _ _ (like refl refl refl) (inl h)) (go todo _ h)
 
-    pub bind : (r : Option Routine) (todo : List Todo) → There todo → CountedStep Few (monitors.bind_step r todo s)
-    bind None todo h = go _ _ h
-    bind (Some r) todo h = go_in _ _ _ (kept.written_keeps Few _ _ s.env st.env) h
+    pub bind : (r : Option Routine) (todo : List Todo) → IsLoose (top s.run.operands) → There todo → CountedStep Few (monitors.bind_step r todo s)
+    bind None todo l h = go _ _ h
+    bind (Some r) todo l h = go_in _ _ _ (kept.written_keeps Few _ _ l s.env st.env) h
 
     -- for a variable whose scope opens behind the call
-    pub makes : (c n : ℕ) (r : Option Routine) (todo : List Todo) → AtCall Few (here s) todo → GoodStepBy Few (monitors.make_step c n r todo s)
-    makes c n None todo h = inr (inr (tt, st.env))
-    makes c n (Some r) todo h =
-        either (GoodStepBy Few) (monitors.may_call r.written s) _ _ (inl (go_in _ _ _ (like refl refl refl) (inr h))) (inr (inr (tt, st.env)))
+    pub makes : (c n : ℕ) (r : Option Routine) (todo : List Todo) → AtCall Few (here s) todo → NextCall (HoldsLoose (here s)) todo → GoodStepBy Few (monitors.make_step c n r todo s)
+    makes c n None todo h l = inr (inr (tt, st.env))
+    makes c n (Some r) todo h l =
+        either (GoodStepBy Few) (monitors.may_call r.written s) _ _ (inl (go_in _ _ _ (like refl refl refl) (inr (h, l)))) (inr (inr (tt, st.env)))
 
-    pub made : (r : Option Routine) (todo : List Todo) → BoundBehind (λ P. NextCall P todo) (monitors.bind_step r todo s) → AtCall Few (here s) todo → GoodStepBy Few (monitors.bind_step r todo s)
-    made None todo f h = inr (inr (tt, st.env))
-    made (Some r) todo f h =
+    pub made : (r : Option Routine) (todo : List Todo) → BoundBehind (λ P. NextCall (λ p. HoldsLoose (here s) p → P p) todo) (monitors.bind_step r todo s) → IsLoose (top s.run.operands) → AtCall Few (here s) todo → NextCall (HoldsLoose (here s)) todo → GoodStepBy Few (monitors.bind_step r todo s)
+    made None todo f o h l = inr (inr (tt, st.env))
+    made (Some r) todo f o h l =
         let e : Env = written (top (drop r.params (below s.run.operands))) (top s.run.operands) s.env in
-        let k : Keeps Few s.env e = kept.written_keeps Few (top (drop r.params (below s.run.operands))) (top s.run.operands) s.env st.env in
-        inl (bound_in todo _ e k (call_bound Few (frame_at s.run.frame e.frames) todo (call_kept Few (here s) (frame_at s.run.frame e.frames) (k.lists s.run.frame) todo h)) (call_next Few (HoldsObject (frame_at s.run.frame e.frames)) (here s) todo h f))
+        let k : Keeps Few s.env e = kept.written_keeps Few (top (drop r.params (below s.run.operands))) (top s.run.operands) o s.env st.env in
+        let b : NextCall (HoldsObject (frame_at s.run.frame e.frames)) todo = next_call (HoldsLoose (here s)) (λ p. HoldsLoose (here s) p → HoldsObject (frame_at s.run.frame e.frames) p) (HoldsObject (frame_at s.run.frame e.frames)) (λ p x y. y x) todo l f in
+        inl (bound_in todo _ e (kept.keeps_at Few s.run.frame todo s.callers k) (call_bound Few (frame_at s.run.frame e.frames) todo (call_kept Few (here s) (frame_at s.run.frame e.frames) (k.lists s.run.frame) todo h)) (call_next Few (HoldsObject (frame_at s.run.frame e.frames)) (here s) todo h b))
 
-    pub bound : (todo : List Todo) → NextDrop (HoldsObject (frame_at s.run.frame (written (top (below s.run.operands)) (top s.run.operands) s.env).frames)) todo → AtDrop Few (here s) todo → CountedStep Few (piece.goes todo (top s.run.operands ∷ below (below s.run.operands)) (in_env (written (top (below s.run.operands)) (top s.run.operands) s.env) s))
-    bound todo f h =
+    -- a place is bound, by an object or aside
+    pub binding : (todo : List Todo) → IsLoose (top s.run.operands) ⊎ IsAside (top (below s.run.operands)) todo s → KeepsAt Few s.run.frame todo s.callers s.env (written (top (below s.run.operands)) (top s.run.operands) s.env)
+    binding todo (inl l) = kept.keeps_at Few s.run.frame todo s.callers (kept.written_keeps Few (top (below s.run.operands)) (top s.run.operands) l s.env st.env)
+    binding todo (inr a) = kept.written_aside Few (top (below s.run.operands)) (top s.run.operands) s.run.frame todo s.callers s.env a st.env
+
+    pub bound : (todo : List Todo) → NextDrop (λ p. HoldsLoose (here s) p → HoldsObject (frame_at s.run.frame (written (top (below s.run.operands)) (top s.run.operands) s.env).frames) p) todo → KeepsAt Few s.run.frame todo s.callers s.env (written (top (below s.run.operands)) (top s.run.operands) s.env) → AtDrop Few (here s) todo → NextDrop (HoldsLoose (here s)) todo → CountedStep Few (piece.goes todo (top s.run.operands ∷ below (below s.run.operands)) (in_env (written (top (below s.run.operands)) (top s.run.operands) s.env) s))
+    bound todo f k h l =
         let e : Env = written (top (below s.run.operands)) (top s.run.operands) s.env in
-        let k : Keeps Few s.env e = kept.written_keeps Few (top (below s.run.operands)) (top s.run.operands) s.env st.env in
-        bound_in todo _ e k (drop_bound Few (frame_at s.run.frame e.frames) todo (drop_kept Few (here s) (frame_at s.run.frame e.frames) (k.lists s.run.frame) todo h)) (drop_next Few (HoldsObject (frame_at s.run.frame e.frames)) (here s) todo h f)
+        let b : NextDrop (HoldsObject (frame_at s.run.frame e.frames)) todo = next_drop (HoldsLoose (here s)) (λ p. HoldsLoose (here s) p → HoldsObject (frame_at s.run.frame e.frames) p) (HoldsObject (frame_at s.run.frame e.frames)) (λ p x y. y x) todo l f in
+        bound_in todo _ e k (drop_bound Few (frame_at s.run.frame e.frames) todo (k.drop h)) (drop_next Few (HoldsObject (frame_at s.run.frame e.frames)) (here s) todo h b)
 
     pub condition : (n : ℕ) (i : Option ℕ) (todo : List Todo) → There todo → CountedStep Few (monitors.condition_step n i todo s)
     condition n None todo h = go todo _ h
@@ -532,7 +547,7 @@ module _ (Few : ℕ → Bool) where
 
     pub enables : (events cell : ℕ) (todo : List Todo) → There todo → CountedStep Few (polls.enable_step events cell todo s)
     enables events cell todo h =
-        let k : Keeps Few s.env (written (piece.variable_at cell s) (Number (signed_64 s.env.links.enabled)) s.env) = kept.written_keeps Few (piece.variable_at cell s) (Number (signed_64 s.env.links.enabled)) s.env st.env in
+        let k : Keeps Few s.env (written (piece.variable_at cell s) (Number (signed_64 s.env.links.enabled)) s.env) = kept.written_keeps Few (piece.variable_at cell s) (Number (signed_64 s.env.links.enabled)) tt s.env st.env in
         go_in _ _ _ (kept.keeps_both Few k (kept.keeps_like Few k.env refl refl refl)) h
 
     quiet_poll : (x : Option Pending) (todo : List Todo) → There todo → CountedStep Few (polls.quiet_poll x todo s)

@@ -1,5 +1,5 @@
 -- Every quiet step of a task in which all is there that is in scope and known by its number, and answers to it.
-use Rattle.std.proofs.Common.{◌≡◌, ℕ, ◌⊎◌, List, [], ◌∷◌, ◌++◌, Option, Some, None, inl, inr, refl, sym, ap, ◌∙◌, subst, arith, Bool, true}
+use Rattle.std.proofs.Common.{◌≡◌, ℕ, List, [], ◌∷◌, ◌++◌, Option, Some, None, inl, inr, refl, sym, ap, ◌∙◌, subst, arith, Bool, true}
 use Rattle.std.specs.Prelude.{nat_lt, slice_get, drop}
 use Rattle.uc_tree.specs.Source as src
 use Rattle.uc_tree.specs.Source.{Source, CleanUp, Stmt, Stmts, Routine, routine_or_none, routine_of}
@@ -13,8 +13,8 @@ use Rattle.uc_machine.specs.Quiet.{first_state, zeros}
 use Rattle.uc_machine.specs.Pieces as piece
 use Rattle.uc_machine.specs.Pieces.{Value, Nothing, Todo, State, Env, Members, Step, Goes, Ticks, Asks, at, top, below, number}
 use Rattle.uc_machine.specs.Answering.{answered, entered, new_members, with_operand}
-use Rattle.uc_scope_laws.specs.Clusters.{BindsProcessor, BindsObject, Follows, IsUnbound, IsUnscoped, Joined}
-use Rattle.uc_value_laws.specs.There.{HoldsObject, NextBound, MayBegin, IsNoCluster, BindsBy, AllCounted, AtBound, Held}
+use Rattle.uc_scope_laws.specs.Clusters.{Follows, IsUnbound, IsUnscoped, Joined}
+use Rattle.uc_value_laws.specs.There.{HoldsObject, NextBound, IsNoCluster, AllCounted, AtBound, Held}
 use Rattle.uc_value_laws.specs.ThereStates.{CountedParked, CountedHand, CountedMembers, CountedState, CountedStep, RoutineBegins, SourceBegins, FairAt, Fair}
 use Rattle.uc_value_laws.specs.NewClusters as way
 use Rattle.uc_value_laws.specs.NewClusters.{Stage, stage_todo, OpeningBy, WaitingBy, GoodBy, GoodStepBy}
@@ -23,7 +23,8 @@ use Rattle.uc_value_laws.proofs.Cells.{either}
 use Rattle.uc_value_laws.proofs.Keeping as kept
 use Rattle.uc_value_laws.proofs.Steps as steps
 use Rattle.uc_value_laws.proofs.Steps.{here}
-use Rattle.uc_value_laws.proofs.NewClusters.{lift, begun, opening, no_bind, far, opened, uncounted}
+use Rattle.uc_value_laws.proofs.NewClusters.{lift, opening, no_bind, no_processor, no_object, far, opened, uncounted}
+use Rattle.uc_value_laws.proofs.Declaring.{begun, declaring}
 
 -- a piece that tells of no statements that are left of a block, and that binds nothing
 abbrev IsOther : Todo → Type 0
@@ -33,26 +34,11 @@ IsOther (piece.MakeNow c r) = ⊥
 IsOther (piece.BindMadeNow c r) = ⊥
 IsOther p = Unit {0}
 
--- who binds what is in scope behind it
-binds_processor : (k : ℕ) (a : Stmt) → BindsProcessor k a → BindsBy a
-binds_processor k (src.Evaluate line (src.OfObject (src.Bind (src.Variable m) (src.OfObject (src.NewProcessor e))))) h = tt
-binds_processor k a h = absurd h
-
-binds_object : (k : ℕ) (a : Stmt) → BindsObject k a → BindsBy a
-binds_object k (src.Evaluate line (src.OfObject (src.MakeOn c r written (src.Variable m) args))) h = tt
-binds_object k a h = absurd h
-
 no_cluster : (c : CleanUp) → IsUnscoped c → IsNoCluster c
 no_cluster (src.Destroys (src.OfObject (src.EndCluster (src.Load (src.Variable k))))) h = h
 no_cluster c h = tt
 
 none_new : (source : Source) (g : Stage) (k l : ℕ) (ss : Stmts) (todo : List Todo) → new_members source (stage_todo g k l ss todo) ≡ None
-none_new source (way.Declares m d) k l ss todo = refl
-none_new source (way.Lists m d) k l ss todo = refl
-none_new source (way.Clears m d) k l ss todo = refl
-none_new source (way.Cleared m) k l ss todo = refl
-none_new source (way.Passes m) k l ss todo = refl
-none_new source way.Reaches k l ss todo = refl
 none_new source way.Does k l ss todo = refl
 none_new source way.Binds k l ss todo = refl
 none_new source way.Places k l ss todo = refl
@@ -78,9 +64,9 @@ module _ (Few : ℕ → Bool) where
       acts (piece.ElementNow m k) todo e n f h = steps.element Few s st k _ todo _ _ h.1
       acts piece.NegateNow todo e n f h = steps.outcome Few s st _ todo _ h.1
       acts (piece.OperateNow op) todo e n f h = steps.outcome Few s st _ todo _ h.1
-      acts piece.StoreNow todo e n f h = steps.go_in Few s st _ _ _ (kept.written_keeps Few (top (below s.run.operands)) (piece.Number (number (top s.run.operands))) s.env st.env) h.1
-      acts piece.KeepNow todo e n f h = steps.go_in Few s st _ _ _ (kept.written_keeps Few (top (below s.run.operands)) (piece.Number (number (top s.run.operands))) s.env st.env) h.1
-      acts (piece.SetNow k) todo e n f h = steps.go_in Few s st _ _ _ (kept.written_keeps Few (piece.variable_at k s) (piece.Number (number (top s.run.operands))) s.env st.env) h.1
+      acts piece.StoreNow todo e n f h = steps.go_in Few s st _ _ _ (kept.written_keeps Few (top (below s.run.operands)) (piece.Number (number (top s.run.operands))) tt s.env st.env) h.1
+      acts piece.KeepNow todo e n f h = steps.go_in Few s st _ _ _ (kept.written_keeps Few (top (below s.run.operands)) (piece.Number (number (top s.run.operands))) tt s.env st.env) h.1
+      acts (piece.SetNow k) todo e n f h = steps.go_in Few s st _ _ _ (kept.written_keeps Few (piece.variable_at k s) (piece.Number (number (top s.run.operands))) tt s.env st.env) h.1
       acts piece.BindNow todo e n f h = absurd n
       acts (piece.Choose a b) todo e n f h = go _ _ (inl h.1)
       acts (piece.Branch a b) todo e n f h = go _ _ (inl h.1)
@@ -119,7 +105,7 @@ module _ (Few : ℕ → Bool) where
       acts piece.Unwind todo e n f h = steps.unwinds Few s st todo h
       acts piece.ThrowNow todo e n f h = steps.throws Few s st (raising.event_in s.run.operands) todo h.1
       acts piece.RaiseNow todo e n f h = steps.raises Few s st (raising.event_in s.run.operands) todo h.1
-      acts (piece.SetUpNow r) todo e n f h = steps.set_up Few s st (slice_get source.routines r) todo (known r) h.1
+      acts (piece.SetUpNow r) todo e n f h = steps.set_up Few s st (slice_get source.routines r) todo (known r) f h.1
       acts piece.EnlivenNow todo e n f h = steps.go_in Few s st _ _ _ (kept.enlivened_keeps Few (piece.own_exec s) s.env st.env) h.1
       acts piece.TakeDownNow todo e n f h = steps.moved Few s st _ todo _ h.1 (kept.take_down_rests Few (piece.own_exec s) (at todo s.run.operands s) (go _ _ h.1))
       acts piece.ForgetNow todo e n f h = steps.go_in Few s st _ _ _ (kept.forgotten_keeps Few (piece.own_exec s) s.env st.env) h.1
@@ -157,28 +143,28 @@ module _ (Few : ℕ → Bool) where
       -- the pieces that bind
 
       binds : (todo : List Todo) → FairAt source (piece.BindNow ∷ todo) s → AllCounted Few (here s) (piece.BindNow ∷ todo) → GoodStepBy Few (quiet.act source piece.BindNow todo s)
-      binds todo f (inl h) = inl (steps.go_in Few s st _ _ _ (kept.written_keeps Few (top (below s.run.operands)) (top s.run.operands) s.env st.env) h)
-      binds todo f (inr h) = inl (steps.bound Few s st todo f.1 h)
+      binds todo f (inl h) = inl (steps.go_at Few s st _ _ _ (steps.binding Few s st todo f.2) h)
+      binds todo f (inr h) = inl (steps.bound Few s st todo f.1 (steps.binding Few s st todo f.2) h.0 h.1)
 
       makes : (k r : ℕ) (todo : List Todo) → AllCounted Few (here s) (piece.MakeNow k r ∷ todo) → GoodStepBy Few (quiet.act source (piece.MakeNow k r) todo s)
       makes k r todo (inl h) = lift Few (quiet.act source (piece.MakeNow k r) todo s) (steps.make Few s st k r (slice_get source.routines r) todo h)
-      makes k r todo (inr h) = steps.makes Few s st k r (slice_get source.routines r) todo h
+      makes k r todo (inr h) = steps.makes Few s st k r (slice_get source.routines r) todo h.0 h.1
 
       made : (k r : ℕ) (todo : List Todo) → FairAt source (piece.BindMadeNow k r ∷ todo) s → AllCounted Few (here s) (piece.BindMadeNow k r ∷ todo) → GoodStepBy Few (quiet.act source (piece.BindMadeNow k r) todo s)
-      made k r todo f (inl h) = lift Few (quiet.act source (piece.BindMadeNow k r) todo s) (steps.bind Few s st (slice_get source.routines r) todo h)
-      made k r todo f (inr h) = steps.made Few s st (slice_get source.routines r) todo f h
+      made k r todo f (inl h) = lift Few (quiet.act source (piece.BindMadeNow k r) todo s) (steps.bind Few s st (slice_get source.routines r) todo f.1 h)
+      made k r todo f (inr h) = steps.made Few s st (slice_get source.routines r) todo f.0 f.1 h.0 h.1
 
       -- the statements that are left of a block
 
       thens : (a : Stmt) (ss : Stmts) (todo : List Todo) → IsUnbound a → Follows a ss → Joined ss → AllCounted Few (here s) todo → GoodStepBy Few (quiet.rest_step (src.Then a ss) todo s)
       thens a src.Nil todo b f j h = inl (steps.rest_with Few s st a src.Nil todo tt h)
-      thens a (src.Then (src.Evaluate l (src.OfObject (src.Bind (src.Variable k) (src.OfObject src.NewCluster)))) rest) todo b f j h = begun Few s st k l a rest todo f j h
+      thens a (src.Then (src.Evaluate l (src.OfObject (src.Bind (src.Variable k) (src.OfObject src.NewCluster)))) rest) todo b f j h = begun Few s st k l (src.OfObject (src.Bind (src.Variable k) (src.OfObject src.NewCluster))) refl a rest todo f h
+      thens a (src.Then (src.Evaluate l (src.OfObject (src.Bind (src.Variable k) (src.OfObject (src.NewProcessor e))))) rest) todo b f j h = begun Few s st k l (src.OfObject (src.Bind (src.Variable k) (src.OfObject (src.NewProcessor e)))) refl a rest todo f h
+      thens a (src.Then (src.Evaluate l (src.OfObject (src.MakeOn c r written (src.Variable k) args))) rest) todo b f j h = begun Few s st k l (src.OfObject (src.MakeOn c r written (src.Variable k) args)) refl a rest todo f h
       thens a (src.Then c rest) todo b f j h = inl (steps.rest_with Few s st a (src.Then c rest) todo tt h)
       thens a (src.Scoped (src.Destroys (src.OfObject (src.EndCluster (src.Load (src.Variable k))))) rest) todo b f j h = absurd (no_bind k a f b)
-      thens a (src.Scoped (src.Destroys (src.OfObject (src.EndProcessor (src.Load (src.Variable k))))) rest) todo b f j h =
-          inl (steps.rest_binds Few s st a (src.Scoped (src.Destroys (src.OfObject (src.EndProcessor (src.Load (src.Variable k))))) rest) todo (binds_processor k a f) tt h)
-      thens a (src.Scoped (src.Destroys (src.OfObject (src.EndOn r written (src.Load (src.Variable k))))) rest) todo b f j h =
-          inl (steps.rest_binds Few s st a (src.Scoped (src.Destroys (src.OfObject (src.EndOn r written (src.Load (src.Variable k))))) rest) todo (binds_object k a f) tt h)
+      thens a (src.Scoped (src.Destroys (src.OfObject (src.EndProcessor (src.Load (src.Variable k))))) rest) todo b f j h = absurd (no_processor k a f b)
+      thens a (src.Scoped (src.Destroys (src.OfObject (src.EndOn r written (src.Load (src.Variable k))))) rest) todo b f j h = absurd (no_object k a f b)
       thens a (src.Scoped c rest) todo b f j h = inl (steps.rest_with Few s st a (src.Scoped c rest) todo tt h)
       thens a (src.Built c rest) todo b f j h = inl (steps.rest_with Few s st a (src.Built c rest) todo tt h)
 
@@ -222,7 +208,8 @@ module _ (Few : ℕ → Bool) where
 
     pub walk : (s : State) → GoodBy Few s → Fair source s → GoodStepBy Few (quiet.quiet source s)
     walk s (inl st) f = there s st f
-    walk s (inr o) f = opening Few source s o f
+    walk s (inr (inl d)) f = declaring Few source s d f
+    walk s (inr (inr o)) f = opening Few source s o f
 
     begins : (o : ℕ) (r : Option Routine) → RoutineBegins r → CountedState Few (first_state (routine_or_none r) o)
     begins o None b = record { frames = refl; stack = (omega arith, inl (tt, (tt, tt)), tt); env = record { house = (tt, tt); hand = tt } }

@@ -55,10 +55,12 @@ use Rattle.uc_scope_laws.proofs.StackWalk as stacking
 use Rattle.uc_scope_laws.proofs.StackWorlds as stacked
 use Rattle.uc_scope_laws.proofs.StackWorlds.{StackWorld}
 use Rattle.uc_scope_laws.proofs.Unreferring.{law_accepted}
-use Rattle.uc_value_laws.specs.There.{EndsAt, OfVariable, OfElements, OfEach, CleanBy, OfBound, OpensBound, NextBound, IsFew, AllCounted, AllLeft, Any, IsBefore, AllBefore, FrameBefore, frame_at}
+use Rattle.uc_value_laws.specs.There.{EndsAt, OfVariable, OfElements, OfEach, CleanBy, OfBound, OpensBound, NextBound, IsFew, AllLeft, Any, IsBefore, AllBefore, FrameBefore, frame_at}
 use Rattle.uc_value_laws.specs.ThereStates.{CountedHand, CountedMembers, CountedEnv, CountedState, RoutineBegins, SourceBegins, BodiesBegin, ScopeFits, BoundFits, FairAt, Fair}
+use Rattle.uc_value_laws.specs.Declaring as point
+use Rattle.uc_value_laws.specs.Declaring.{Point, point_todo, PointHolds}
 use Rattle.uc_value_laws.specs.NewClusters as way
-use Rattle.uc_value_laws.specs.NewClusters.{Stage, stage_todo, StageHoldsBy, OpeningBy, WaitingBy, GoodBy, IsLast, AskedBy, GoodStepBy}
+use Rattle.uc_value_laws.specs.NewClusters.{Stage, stage_todo, StageHoldsBy, OpeningBy, WaitingBy, OnWayBy, GoodBy, IsLast, AskedBy, GoodStepBy}
 use Rattle.uc_value_laws.specs.Opens.{OpensAt, Opens, LawFair, RideOpens, MayOpen, RunOpens, LeadsOpen, TellsFew, RestsBy, AllIsCounted, LawRuns, LawCounts, LeavesCluster, EndsCluster, LawEnds}
 use Rattle.uc_value_laws.proofs.Cells.{either, held_left}
 use Rattle.uc_value_laws.proofs.Keeping.{found_hand}
@@ -122,8 +124,8 @@ module _ (Z : ℕ → ℕ → Type 0) where
   -- what opens next lies in the room of what is to do next
 
   bound_before : (cell low high : ℕ) (c : CleanUp) → high ≤ cell → Lies Z low high c → OfBound (IsBefore cell) c
-  bound_before cell low high (src.Destroys (src.OfObject (src.EndProcessor (src.Load (src.Variable k))))) le h = single_before cell k (let l = h.1 in omega (arith, l, le))
-  bound_before cell low high (src.Destroys (src.OfObject (src.EndOn r written (src.Load (src.Variable k))))) le h = single_before cell k (let l = h.1 in omega (arith, l, le))
+  bound_before cell low high (src.Destroys (src.OfObject (src.EndProcessor (src.Load (src.Variable k))))) le h = λ near. single_before cell k (let l = h.1 in omega (arith, l, le))
+  bound_before cell low high (src.Destroys (src.OfObject (src.EndOn r written (src.Load (src.Variable k))))) le h = λ near. single_before cell k (let l = h.1 in omega (arith, l, le))
   bound_before cell low high c le h = tt
 
   opens_before : (cell : ℕ) (o : Room) (ss : Stmts) → o.high ≤ cell → StmtsIn Z o ss → OpensBound (IsBefore cell) ss
@@ -184,8 +186,9 @@ module _ (Z : ℕ → ℕ → Type 0) where
           (all_before k todo own.1, frame_before k s.run.frame s.callers before.1 (stacking.beneath Z s st k n todo e))
       by (piece.Rest ss ∷ todo) e o = let t = to (piece.Rest ss ∷ todo) e in (joined Z t.0 ss t.1.0, o)
       by (piece.Do a ∷ todo) e o = let t = to (piece.Do a ∷ todo) e in bodies t.0 a t.1.0
-      by (piece.BindNow ∷ todo) e o = let t = to (piece.BindNow ∷ todo) e in (bound_fits (length (frame_at s.run.frame s.env.frames)) todo (t.0, t.1.1), o)
+      by (piece.BindNow ∷ todo) e o = let t = to (piece.BindNow ∷ todo) e in (bound_fits (length (frame_at s.run.frame s.env.frames)) todo (t.0, t.1.1), o.0, o.1)
       by (piece.BindMadeNow c r ∷ todo) e o = o
+      by (piece.SetUpNow r ∷ todo) e o = o
       by l e o = tt
 
   begins_by : (r : Option Routine) → MaybeRoutineIn Z r → RoutineBegins r
@@ -222,12 +225,6 @@ module _ (Few : ℕ → Bool) where
   hand_state hand s k h = record { frames = h.frames; stack = h.stack; env = record { house = h.env.house; hand = k } }
 
   hand_holds : (hand : List (ℕ × Members)) (g : Stage) (k : ℕ) (ss : Stmts) (s : State) → StageHoldsBy Few g k ss s → StageHoldsBy Few g k ss (with_hand hand s)
-  hand_holds hand (way.Declares m d) k ss s h = h
-  hand_holds hand (way.Lists m d) k ss s h = h
-  hand_holds hand (way.Clears m d) k ss s h = h
-  hand_holds hand (way.Cleared m) k ss s h = h
-  hand_holds hand (way.Passes m) k ss s h = h
-  hand_holds hand way.Reaches k ss s h = h
   hand_holds hand way.Does k ss s h = h
   hand_holds hand way.Binds k ss s h = h
   hand_holds hand way.Places k ss s h = h
@@ -255,13 +252,41 @@ module _ (Few : ℕ → Bool) where
     env = record { house = h.env.house; hand = k };
   }
 
+  hand_point : (hand : List (ℕ × Members)) (g : Point) (k : ℕ) (s : State) → PointHolds g k s → PointHolds g k (with_hand hand s)
+  hand_point hand (point.Declares m d) k s h = h
+  hand_point hand (point.Lists m d) k s h = h
+  hand_point hand (point.Clears m d) k s h = h
+  hand_point hand (point.Cleared m) k s h = h
+  hand_point hand (point.Passes m) k s h = h
+  hand_point hand point.Reaches k s h = h
+
+  hand_way : (hand : List (ℕ × Members)) (s : State) → CountedHand Few hand → OnWayBy Few s → OnWayBy Few (with_hand hand s)
+  hand_way hand s k (inl h) =
+      inl (record {
+        cell = h.cell;
+        line = h.line;
+        binder = h.binder;
+        next = h.next;
+        todo = h.todo;
+        point = h.point;
+        control = h.control;
+        binds = h.binds;
+        holds = hand_point hand h.point h.cell s h.holds;
+        frames = h.frames;
+        frame = h.frame;
+        behind = h.behind;
+        callers = h.callers;
+        env = record { house = h.env.house; hand = k };
+      })
+  hand_way hand s k (inr h) = inr (hand_opening hand s k h)
+
   hand_waiting : (hand : List (ℕ × Members)) (s : State) → CountedHand Few hand → WaitingBy Few s → WaitingBy Few (with_hand hand s)
   hand_waiting hand s k h o w = hand_opening hand (with_operand (piece.Object o) s) k (h o w)
 
   hand_rests : (source : Source) (j : Journal) (t : ℕ) (hand : List (ℕ × Members)) (s : State) → CountedHand Few hand → RestsBy Few source j t s → RestsBy Few source j t (with_hand hand s)
   hand_rests source j t hand s k (inl h) = inl (hand_state hand s k h)
   hand_rests source j t hand s k (inr (inl h)) = inr (inl (h.0, hand_waiting hand s k h.1, h.2))
-  hand_rests source j t hand s k (inr (inr h)) = inr (inr (h.0, hand_opening hand s k h.1))
+  hand_rests source j t hand s k (inr (inr h)) = inr (inr (h.0, hand_way hand s k h.1))
 
   -- what a task has asked of the form
 
@@ -272,7 +297,7 @@ module _ (Few : ℕ → Bool) where
 
   -- where a ride ends
   abbrev RiddenState : Request → State → Type 0
-  RiddenState r s = CountedState Few s ⊎ (((r ≡ ask.Cluster) × WaitingBy Few s) ⊎ (((r ≡ ask.Slice) × OpeningBy Few s) ⊎ (IsLast r × CountedEnv Few s.env)))
+  RiddenState r s = CountedState Few s ⊎ (((r ≡ ask.Cluster) × WaitingBy Few s) ⊎ (((r ≡ ask.Slice) × OnWayBy Few s) ⊎ (IsLast r × CountedEnv Few s.env)))
 
   asked_ridden : (r : Request) (s : State) → AskedBy Few r s → RiddenState r s
   asked_ridden r s (inl h) = inl h
@@ -287,10 +312,14 @@ module _ (Few : ℕ → Bool) where
   abbrev SomeFew : Type 0
   SomeFew = (n : ℕ) × (Few n ≡ true)
 
+  way_env : (s : State) → OnWayBy Few s → CountedEnv Few s.env
+  way_env s (inl h) = h.env
+  way_env s (inr h) = h.env
+
   ridden_env : SomeFew → (r : Request) (s : State) → RiddenState r s → CountedEnv Few s.env
   ridden_env f r s (inl h) = h.env
   ridden_env f r s (inr (inl h)) = (h.1 f.0 f.1).env
-  ridden_env f r s (inr (inr (inl h))) = h.1.env
+  ridden_env f r s (inr (inr (inl h))) = way_env s h.1
   ridden_env f r s (inr (inr (inr h))) = h.1
 
   no_last : (r : Request) → IsLast r → (r ≡ ask.End → ⊥) → ((n : ℕ) → r ≡ ask.Fault n → ⊥) → ⊥
@@ -307,10 +336,10 @@ module _ (Few : ℕ → Bool) where
   -- a task goes on with an answer
 
   told_waiting : (source : Source) (given : Answer) (s : State) → IsForm AnObject given → ((o : ℕ) → given ≡ answer.Object o → Few o ≡ true) → WaitingBy Few s → GoodBy Few (answered source given s)
-  told_waiting source (answer.Object o) s f w h = inr (waited Few source o s (w o refl) h)
+  told_waiting source (answer.Object o) s f w h = inr (inr (waited Few source o s (w o refl) h))
   told_waiting source given s f w h = absurd f
 
-  told_opening : (source : Source) (given : Answer) (s : State) → IsForm JustGo given → OpeningBy Few s → GoodBy Few (answered source given s)
+  told_opening : (source : Source) (given : Answer) (s : State) → IsForm JustGo given → OnWayBy Few s → GoodBy Few (answered source given s)
   told_opening source answer.Go s f h = inr h
   told_opening source given s f h = absurd f
 
@@ -469,18 +498,6 @@ module _ (source : Source) (j : Journal) (s : State) (k : ℕ) (todo : List Todo
 
 -- no list on the way to a scope begins so
 none_leaves : (g : Stage) (n l : ℕ) (ss : Stmts) (rest : List Todo) (k : ℕ) (todo : List Todo) → LeavesCluster k todo (stage_todo g n l ss rest) → ⊥
-none_leaves (way.Declares m d) n l ss rest k todo (inl e) = cc
-none_leaves (way.Declares m d) n l ss rest k todo (inr e) = cc
-none_leaves (way.Lists m d) n l ss rest k todo (inl e) = cc
-none_leaves (way.Lists m d) n l ss rest k todo (inr e) = cc
-none_leaves (way.Clears m d) n l ss rest k todo (inl e) = cc
-none_leaves (way.Clears m d) n l ss rest k todo (inr e) = cc
-none_leaves (way.Cleared m) n l ss rest k todo (inl e) = cc
-none_leaves (way.Cleared m) n l ss rest k todo (inr e) = cc
-none_leaves (way.Passes m) n l ss rest k todo (inl e) = cc
-none_leaves (way.Passes m) n l ss rest k todo (inr e) = cc
-none_leaves way.Reaches n l ss rest k todo (inl e) = cc
-none_leaves way.Reaches n l ss rest k todo (inr e) = cc
 none_leaves way.Does n l ss rest k todo (inl e) = cc
 none_leaves way.Does n l ss rest k todo (inr e) = cc
 none_leaves way.Binds n l ss rest k todo (inl e) = cc
@@ -500,6 +517,20 @@ none_leaves way.Leaves n l ss rest k todo (inr e) = cc
 none_leaves way.Opens n l ss rest k todo (inl e) = cc
 none_leaves way.Opens n l ss rest k todo (inr e) = cc
 
+none_points : (g : Point) (l : ℕ) (b : Expr) (ss : Stmts) (rest : List Todo) (k : ℕ) (todo : List Todo) → LeavesCluster k todo (point_todo g l b ss rest) → ⊥
+none_points (point.Declares m d) l b ss rest k todo (inl e) = cc
+none_points (point.Declares m d) l b ss rest k todo (inr e) = cc
+none_points (point.Lists m d) l b ss rest k todo (inl e) = cc
+none_points (point.Lists m d) l b ss rest k todo (inr e) = cc
+none_points (point.Clears m d) l b ss rest k todo (inl e) = cc
+none_points (point.Clears m d) l b ss rest k todo (inr e) = cc
+none_points (point.Cleared m) l b ss rest k todo (inl e) = cc
+none_points (point.Cleared m) l b ss rest k todo (inr e) = cc
+none_points (point.Passes m) l b ss rest k todo (inl e) = cc
+none_points (point.Passes m) l b ss rest k todo (inr e) = cc
+none_points point.Reaches l b ss rest k todo (inl e) = cc
+none_points point.Reaches l b ss rest k todo (inr e) = cc
+
 counted_here : (few : ℕ → Bool) (s : State) (k : ℕ) (todo : List Todo) → LeavesCluster k todo s.run.control → k ≤ LAST_ADDRESS → GoodBy few s → IsFew few (slice_index_or (here s) (address (Slot k ∷ [])) nought)
 counted_here few s k todo (inl e) l (inl h) =
     let left : AllLeft few (here s) (piece.Clean (src.Destroys (src.OfObject (src.EndCluster (src.Load (src.Variable k))))) ∷ todo) = subst (AllLeft few (here s)) e (held_left few (here s) s.run.control h.stack.1) in
@@ -507,7 +538,8 @@ counted_here few s k todo (inl e) l (inl h) =
 counted_here few s k todo (inr e) l (inl h) =
     let left : AllLeft few (here s) (piece.Unwind ∷ (piece.Clean (src.Destroys (src.OfObject (src.EndCluster (src.Load (src.Variable k))))) ∷ todo)) = subst (AllLeft few (here s)) e (held_left few (here s) s.run.control h.stack.1) in
     left.0.1 l
-counted_here few s k todo e l (inr h) = absurd (none_leaves h.stage h.cell h.line h.next h.todo k todo (subst (LeavesCluster k todo) h.control e))
+counted_here few s k todo e l (inr (inl h)) = absurd (none_points h.point h.line h.binder h.next h.todo k todo (subst (LeavesCluster k todo) h.control e))
+counted_here few s k todo e l (inr (inr h)) = absurd (none_leaves h.stage h.cell h.line h.next h.todo k todo (subst (LeavesCluster k todo) h.control e))
 
 pub law_ends : LawEnds
 law_ends p h input opts range j w r f on o t s c l k todo near e =

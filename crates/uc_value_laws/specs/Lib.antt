@@ -1,5 +1,6 @@
 pub mod There
 pub mod ThereStates
+pub mod Declaring
 pub mod NewClusters
 pub mod ValueLaws
 pub mod Reading

@@ -1,23 +1,17 @@
--- A task on its way from the declaration of a variable that is a cluster to the scope of that: no call lies between, so what the variable
+-- A task on its way from the statement that binds a variable to a new cluster to the scope of that: no call lies between, so what the variable
 -- holds is known at each step.
-use Rattle.std.specs.Prelude.{◌≡◌, ℕ, suc, ◌≤◌, ◌⊎◌, List, [], ◌∷◌, length, None, slice_index_or, Bool, true}
-use Rattle.uc_tree.specs.Source.{Variable, Load, OfObject, Bind, NewCluster, EndCluster, Declared, Destroys, Stmts, Evaluate, Declare, Then, Scoped}
+use Rattle.std.specs.Prelude.{◌≡◌, ℕ, suc, ◌≤◌, ◌⊎◌, List, ◌∷◌, length, slice_index_or, Bool, true}
+use Rattle.uc_tree.specs.Source.{Variable, Load, OfObject, Bind, NewCluster, EndCluster, Destroys, Stmts, Evaluate, Scoped}
 use Rattle.uc_entry.specs.declared.request.Request.{Request}
 use Rattle.uc_entry.specs.declared.request.Request.TheVariants as ask
-use Rattle.uc_machine.specs.Pieces.{Value, Number, Object, nought, LAST_ADDRESS, Todo, Eval, DropNow, BindNow, ClearNow, Variables, Do, Rest, Within, ClusterNow, State, Step, Goes, Ticks, Asks, top, below, variable_at}
+use Rattle.uc_machine.specs.Pieces.{Object, nought, LAST_ADDRESS, Todo, Eval, DropNow, BindNow, Do, Rest, Within, ClusterNow, State, Step, Goes, Ticks, Asks, top, below, variable_at}
 use Rattle.uc_scope_laws.specs.Clusters.{Begins}
 use Rattle.uc_value_laws.specs.There.{IsFew, AllCounted, Any, frame_at}
 use Rattle.uc_value_laws.specs.ThereStates.{CountedStack, CountedEnv, CountedState}
+use Rattle.uc_value_laws.specs.Declaring.{IsUnset, DeclaringBy}
 
--- how far it is: the declaration of its line is to be done, its cells are to be cleared, the statement that binds it is to be done, a new
--- cluster is to be asked for, its number is told, and the variable is bound
+-- how far it is: the statement that binds it is to be done, a new cluster is to be asked for, its number is told, and the variable is bound
 pub data Stage : Type 0 where
-  Declares : ℕ → Declared → Stage
-  Lists : ℕ → Declared → Stage
-  Clears : ℕ → Declared → Stage
-  Cleared : ℕ → Stage
-  Passes : ℕ → Stage
-  Reaches : Stage
   Does : Stage
   Binds : Stage
   Places : Stage
@@ -30,18 +24,6 @@ pub data Stage : Type 0 where
 
 -- what is to do then: for the variable at a cell, bound in a statement of this line, before these statements and what is behind them
 abbrev pub stage_todo : Stage → ℕ → ℕ → Stmts → List Todo → List Todo
-stage_todo (Declares m d) k l ss todo =
-    Do (Declare m (d ∷ [])) ∷ (Rest (Then (Evaluate l (OfObject (Bind (Variable k) (OfObject NewCluster)))) ss) ∷ todo)
-stage_todo (Lists m d) k l ss todo =
-    Variables (d ∷ []) ∷ (Within m ∷ (Rest (Then (Evaluate l (OfObject (Bind (Variable k) (OfObject NewCluster)))) ss) ∷ todo))
-stage_todo (Clears m d) k l ss todo =
-    ClearNow d.cell d.cells ∷ (Variables [] ∷ (Within m ∷ (Rest (Then (Evaluate l (OfObject (Bind (Variable k) (OfObject NewCluster)))) ss) ∷ todo)))
-stage_todo (Cleared m) k l ss todo =
-    Variables [] ∷ (Within m ∷ (Rest (Then (Evaluate l (OfObject (Bind (Variable k) (OfObject NewCluster)))) ss) ∷ todo))
-stage_todo (Passes m) k l ss todo =
-    Within m ∷ (Rest (Then (Evaluate l (OfObject (Bind (Variable k) (OfObject NewCluster)))) ss) ∷ todo)
-stage_todo Reaches k l ss todo =
-    Rest (Then (Evaluate l (OfObject (Bind (Variable k) (OfObject NewCluster)))) ss) ∷ todo
 stage_todo Does k l ss todo = Do (Evaluate l (OfObject (Bind (Variable k) (OfObject NewCluster)))) ∷ (Rest ss ∷ todo)
 stage_todo Binds k l ss todo =
     Eval (OfObject (Bind (Variable k) (OfObject NewCluster))) ∷ (DropNow ∷ (Within l ∷ (Rest ss ∷ todo)))
@@ -53,18 +35,6 @@ stage_todo Told k l ss todo = BindNow ∷ (DropNow ∷ (Within l ∷ (Rest ss �
 stage_todo Bound k l ss todo = DropNow ∷ (Within l ∷ (Rest ss ∷ todo))
 stage_todo Leaves k l ss todo = Within l ∷ (Rest ss ∷ todo)
 stage_todo Opens k l ss todo = Rest ss ∷ todo
-
--- a declaration of that variable, without a value
-abbrev pub IsOwn : ℕ → Declared → Type 0
-IsOwn k d = (d.cell ≡ k) × (d.value ≡ None) × (1 ≤ d.cells)
-
--- a cell holds a number, so it may be bound
-abbrev pub IsCount : Value → Type 0
-IsCount (Number n) = Unit {0}
-IsCount v = ⊥
-
-abbrev pub IsUnset : ℕ → State → Type 0
-IsUnset k s = IsCount (slice_index_or (frame_at s.run.frame s.env.frames) k nought)
 
 -- statements that begin with the scope of that cluster
 abbrev pub IsScopeOf : ℕ → Stmts → Type 0
@@ -84,9 +54,6 @@ module _ (Few : ℕ → Bool) where
 
   -- what holds then
   abbrev pub StageHoldsBy : Stage → ℕ → Stmts → State → Type 0
-  StageHoldsBy (Declares m d) k ss s = IsOwn k d
-  StageHoldsBy (Lists m d) k ss s = IsOwn k d
-  StageHoldsBy (Clears m d) k ss s = IsOwn k d
   StageHoldsBy Makes k ss s = IsUnset k s × (top s.run.operands ≡ variable_at k s)
   StageHoldsBy Orders k ss s = IsUnset k s × (top s.run.operands ≡ variable_at k s)
   StageHoldsBy Told k ss s = IsUnset k s × (top (below s.run.operands) ≡ variable_at k s) ×
@@ -118,9 +85,13 @@ module _ (Few : ℕ → Bool) where
       (o : ℕ) → Few o ≡ true →
       OpeningBy (record s { run = record s.run { operands = Object o ∷ s.run.operands } })
 
+  -- one on the way from a declaration, or from the statement behind that
+  abbrev pub OnWayBy : State → Type 0
+  OnWayBy s = DeclaringBy Few s ⊎ OpeningBy s
+
   -- a task that runs, and one that has asked something
   abbrev pub GoodBy : State → Type 0
-  GoodBy s = CountedState Few s ⊎ OpeningBy s
+  GoodBy s = CountedState Few s ⊎ OnWayBy s
 
   abbrev pub AskedBy : Request → State → Type 0
   AskedBy r s = CountedState Few s ⊎ (((r ≡ ask.Cluster) × WaitingBy s) ⊎ (IsLast r × CountedEnv Few s.env))
@@ -131,8 +102,5 @@ module _ (Few : ℕ → Bool) where
   GoodStepBy (Asks r s) = AskedBy r s
 
 -- of any numbers
-abbrev pub OpeningState : State → Type 0
-OpeningState s = OpeningBy Any s
-
 abbrev pub GoodState : State → Type 0
 GoodState s = GoodBy Any s

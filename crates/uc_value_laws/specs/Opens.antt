@@ -14,7 +14,7 @@ use Rattle.uc_acts.specs.KernelRuns.{InRange}
 use Rattle.uc_acts.specs.Answers.{answer_to}
 use Rattle.uc_acts.specs.Queues.{cluster_count}
 use Rattle.uc_acts.specs.Serves.{left}
-use Rattle.uc_machine.specs.Pieces.{Todo, BindNow, BindMadeNow, Rest, Clean, Unwind, LAST_ADDRESS, Asks}
+use Rattle.uc_machine.specs.Pieces.{Todo, BindNow, BindMadeNow, SetUpNow, top, below, Rest, Clean, Unwind, LAST_ADDRESS, Asks}
 use Rattle.uc_machine.specs.Quiet.{State, act, quiet, Quietly}
 use Rattle.uc_machine.specs.Answering.{answered}
 use Rattle.uc_machine.specs.Rides.{Rides, slices, goes_on, ticks, asks}
@@ -27,17 +27,23 @@ use Rattle.uc_scope_laws.specs.Layout.{Sized}
 use Rattle.uc_scope_laws.specs.Rooms.{SourceIn}
 use Rattle.uc_scope_laws.specs.RoomStacks.{StackState}
 use Rattle.uc_scope_laws.specs.RoomRuns.{Leads, stays, goes, ticks as leads_by_tick, Comes}
-use Rattle.uc_value_laws.specs.There.{NextDrop, NextCall, Any, frame_at}
-use Rattle.uc_value_laws.specs.ThereStates.{CountedMembers, CountedState, SourceBegins, OpensThere, BoundBehind, Fair}
-use Rattle.uc_value_laws.specs.NewClusters.{OpeningBy, WaitingBy, GoodBy}
+use Rattle.uc_value_laws.specs.There.{IsLoose, HoldsLoose, NextDrop, NextCall, Any, frame_at}
+use Rattle.uc_value_laws.specs.ThereStates.{CountedMembers, CountedState, SourceBegins, OpensThere, IsAside, BoundBehind, Fair}
+use Rattle.uc_value_laws.specs.NewClusters.{WaitingBy, OnWayBy, GoodBy}
 
--- behind the step that binds the variable of the scope that opens next, that holds an object; where a scope opens that is not given so, what it
--- is of is there: the elements of an array, and a cluster at a cell that has no address
+-- behind the step that binds the variable of the scope that opens next, that holds an object, if it was loose; what is no object is bound
+-- aside; where a scope opens that is not given so, what it is of is there: the elements of an array, and a variable at a cell that has no
+-- address
 module _ (source : Source) where
   abbrev pub OpensAt : List Todo → State → Type 0
   OpensAt (Rest ss ∷ todo) s = OpensThere (frame_at s.run.frame s.env.frames) ss
-  OpensAt (BindNow ∷ todo) s = BoundBehind (λ P. NextDrop P todo) (act source BindNow todo s)
-  OpensAt (BindMadeNow c r ∷ todo) s = BoundBehind (λ P. NextCall P todo) (act source (BindMadeNow c r) todo s)
+  OpensAt (BindNow ∷ todo) s =
+      BoundBehind (λ P. NextDrop (λ p. HoldsLoose (frame_at s.run.frame s.env.frames) p → P p) todo) (act source BindNow todo s) ×
+      (IsLoose (top s.run.operands) ⊎ IsAside (top (below s.run.operands)) todo s)
+  OpensAt (BindMadeNow c r ∷ todo) s =
+      BoundBehind (λ P. NextCall (λ p. HoldsLoose (frame_at s.run.frame s.env.frames) p → P p) todo) (act source (BindMadeNow c r) todo s) ×
+      IsLoose (top s.run.operands)
+  OpensAt (SetUpNow r ∷ todo) s = IsAside s.run.this todo s
   OpensAt todo s = Unit {0}
 
   abbrev pub Opens : State → Type 0
@@ -103,7 +109,7 @@ TellsFew few source t j = (o : ℕ) → answer_to source.sites t j ≡ Some (ans
 abbrev pub RestsBy : (ℕ → Bool) → Source → Journal → ℕ → State → Type 0
 RestsBy few source j t s =
     CountedState few s ⊎
-    (((asked_form t j ≡ AnObject) × WaitingBy few s × TellsFew few source t j) ⊎ ((asked_form t j ≡ JustGo) × OpeningBy few s))
+    (((asked_form t j ≡ AnObject) × WaitingBy few s × TellsFew few source t j) ⊎ ((asked_form t j ≡ JustGo) × OnWayBy few s))
 
 -- then all is there that is in scope and known by its number: of each task at rest that has not ended, of what is at home in each object, and of whoever runs
 -- in each state to which it comes before it asks; clusters that are variables have such numbers

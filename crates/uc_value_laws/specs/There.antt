@@ -2,7 +2,7 @@
 use Rattle.std.specs.Prelude.{◌≡◌, ℕ, ◌<◌, ◌≤◌, ◌⊎◌, List, [], ◌∷◌, slice_index_or, Bool, true}
 use Rattle.uc_tree.specs.Source.{Binding, Expr, Variable, Element, Load, OfObject, EndOn, Bind, MakeOn, EndCluster, EndProcessor, CleanUp, Destroys, DestroysAll, Stmt, Stmts, Evaluate, Scoped}
 use Rattle.uc_machine.specs.Executions.{at_depth, list_in}
-use Rattle.uc_machine.specs.Pieces.{Link, Slot, At, Value, Object, LAST_ADDRESS, nought, address, Todo, Eval, DropNow, BindNow, MakeNow, BindMadeNow, CallOnNow, CallUnwrittenNow, Do, Rest, Within, Exit, Unwind, Clean, Guard, Sort, sort, Simple, IsClean, IsGuard, Active}
+use Rattle.uc_machine.specs.Pieces.{Link, Slot, At, Value, Place, Running, Object, LAST_ADDRESS, nought, address, Todo, Eval, DropNow, BindNow, MakeNow, BindMadeNow, CallOnNow, CallUnwrittenNow, Do, Rest, Within, Exit, Unwind, Clean, Guard, Sort, sort, Simple, IsClean, IsGuard, Active}
 use Rattle.uc_scope_laws.specs.Clusters.{Begins, HandlersBegin}
 use Rattle.uc_typing.specs.States.{IsNumbered}
 
@@ -32,6 +32,15 @@ OfEach P c = Unit {0}
 abbrev pub HoldsObject : List Value → List Link → Type 0
 HoldsObject vs p = IsNumbered (slice_index_or vs (address p) nought)
 
+-- it holds no place and no execution, so it is bound once it is given an object
+abbrev pub IsLoose : Value → Type 0
+IsLoose (Place o p) = ⊥
+IsLoose (Running n) = ⊥
+IsLoose v = Unit {0}
+
+abbrev pub HoldsLoose : List Value → List Link → Type 0
+HoldsLoose vs p = IsLoose (slice_index_or vs (address p) nought)
+
 -- the place lies before a cell of the frame
 abbrev pub IsBefore : ℕ → List Link → Type 0
 IsBefore cell p = address p < cell
@@ -52,22 +61,22 @@ AllCleans B (p ∷ todo) = CleanBy B (sort p) × AllCleans B todo
 abbrev pub AllThere : List Value → List Todo → Type 0
 AllThere vs todo = AllCleans (IsThere vs) todo
 
--- what is there as its scope opens without anything to find then: a variable that is a cluster, at a cell that has an address, and one that is
--- a processor or a mutex object
+-- what is there as its scope opens without anything to find then: a variable that is a cluster, a processor or a mutex object, at a cell that
+-- has an address
 abbrev pub IsGiven : CleanUp → Type 0
 IsGiven (Destroys (OfObject (EndCluster (Load (Variable k))))) = k ≤ LAST_ADDRESS
-IsGiven (Destroys (OfObject (EndProcessor (Load (Variable k))))) = Unit {0}
-IsGiven (Destroys (OfObject (EndOn r written (Load (Variable k))))) = Unit {0}
+IsGiven (Destroys (OfObject (EndProcessor (Load (Variable k))))) = k ≤ LAST_ADDRESS
+IsGiven (Destroys (OfObject (EndOn r written (Load (Variable k))))) = k ≤ LAST_ADDRESS
 IsGiven c = ⊥
 
 abbrev pub IsNoCluster : CleanUp → Type 0
 IsNoCluster (Destroys (OfObject (EndCluster (Load (Variable k))))) = ⊥
 IsNoCluster c = Unit {0}
 
--- the place of a variable that is a processor or a mutex object, whose scope opens next in what is left of a block
+-- the place of such a variable that is a processor or a mutex object, whose scope opens next in what is left of a block
 abbrev pub OfBound : (List Link → Type 0) → CleanUp → Type 0
-OfBound P (Destroys (OfObject (EndProcessor (Load (Variable k))))) = P (Slot k ∷ [])
-OfBound P (Destroys (OfObject (EndOn r written (Load (Variable k))))) = P (Slot k ∷ [])
+OfBound P (Destroys (OfObject (EndProcessor (Load (Variable k))))) = k ≤ LAST_ADDRESS → P (Slot k ∷ [])
+OfBound P (Destroys (OfObject (EndOn r written (Load (Variable k))))) = k ≤ LAST_ADDRESS → P (Slot k ∷ [])
 OfBound P c = Unit {0}
 
 abbrev pub OpensBound : (List Link → Type 0) → Stmts → Type 0
@@ -83,7 +92,11 @@ NextBound P (CallOnNow r ∷ (DropNow ∷ (Within line ∷ (Rest ss ∷ todo))))
 NextBound P (CallUnwrittenNow r ∷ (DropNow ∷ (Within line ∷ (Rest ss ∷ todo)))) = OpensBound P ss
 NextBound P todo = Unit {0}
 
--- so it is behind a step that binds: of a statement, and of a mutex object, before the call of its constructor
+-- so it is behind a statement, behind the step that binds the variable in it, and before the call of a constructor
+abbrev pub NextRest : (List Link → Type 0) → List Todo → Type 0
+NextRest P (Rest ss ∷ todo) = OpensBound P ss
+NextRest P todo = Unit {0}
+
 abbrev pub NextDrop : (List Link → Type 0) → List Todo → Type 0
 NextDrop P (DropNow ∷ (Within line ∷ (Rest ss ∷ todo))) = OpensBound P ss
 NextDrop P todo = Unit {0}
@@ -92,6 +105,16 @@ abbrev pub NextCall : (List Link → Type 0) → List Todo → Type 0
 NextCall P (CallOnNow r ∷ todo) = NextDrop P todo
 NextCall P (CallUnwrittenNow r ∷ todo) = NextDrop P todo
 NextCall P todo = Unit {0}
+
+-- and behind each piece from which on such a variable is still to be bound
+abbrev pub Pends : (List Link → Type 0) → List Todo → Type 0
+Pends P [] = Unit {0}
+Pends P (Eval e ∷ todo) = NextDrop P todo × Pends P todo
+Pends P (Do a ∷ todo) = NextRest P todo × Pends P todo
+Pends P (BindNow ∷ todo) = NextDrop P todo × Pends P todo
+Pends P (MakeNow c r ∷ todo) = NextCall P todo × Pends P todo
+Pends P (BindMadeNow c r ∷ todo) = NextCall P todo × Pends P todo
+Pends P (p ∷ todo) = Pends P todo
 
 -- what may be left of a block behind a statement that binds
 abbrev pub MayBegin : Stmts → Type 0
@@ -139,14 +162,14 @@ module _ (Few : ℕ → Bool) where
   LeftBy vs k left all = MarkCounted vs k × all
 
   abbrev mutual
-    -- a scope of what is known by its number stands behind what is still to bind it
+    -- a scope of what is known by its number stands behind what is still to bind it, and the cell for that is loose
     pub AllCounted : List Value → List Todo → Type 0
     AllCounted vs [] = Unit {0}
-    AllCounted vs (Eval e ∷ todo) = AllCounted vs todo ⊎ (IsBinder e × AtDrop vs todo)
-    AllCounted vs (Do a ∷ todo) = AllCounted vs todo ⊎ (BindsBy a × AtRest vs todo)
-    AllCounted vs (BindNow ∷ todo) = AllCounted vs todo ⊎ AtDrop vs todo
-    AllCounted vs (MakeNow c r ∷ todo) = AllCounted vs todo ⊎ AtCall vs todo
-    AllCounted vs (BindMadeNow c r ∷ todo) = AllCounted vs todo ⊎ AtCall vs todo
+    AllCounted vs (Eval e ∷ todo) = AllCounted vs todo ⊎ (IsBinder e × AtDrop vs todo × NextDrop (HoldsLoose vs) todo)
+    AllCounted vs (Do a ∷ todo) = AllCounted vs todo ⊎ (BindsBy a × AtRest vs todo × NextRest (HoldsLoose vs) todo)
+    AllCounted vs (BindNow ∷ todo) = AllCounted vs todo ⊎ (AtDrop vs todo × NextDrop (HoldsLoose vs) todo)
+    AllCounted vs (MakeNow c r ∷ todo) = AllCounted vs todo ⊎ (AtCall vs todo × NextCall (HoldsLoose vs) todo)
+    AllCounted vs (BindMadeNow c r ∷ todo) = AllCounted vs todo ⊎ (AtCall vs todo × NextCall (HoldsLoose vs) todo)
     AllCounted vs (Exit w ∷ todo) = AllLeft vs todo
     AllCounted vs (Unwind ∷ todo) = AllLeft vs todo
     AllCounted vs (p ∷ todo) = PieceCounted vs p × AllCounted vs todo

@@ -1,11 +1,13 @@
 -- Executions and tasks in which all that is known by its number and in scope is there, the newest activation first.
-use Rattle.std.specs.Prelude.{◌≡◌, ℕ, suc, ◌≤◌, ◌<◌, List, [], ◌∷◌, length, Option, Some, None, slice_get, Bool}
+use Rattle.std.specs.Prelude.{◌≡◌, ℕ, suc, ◌≤◌, ◌<◌, ◌⊎◌, true, List, [], ◌∷◌, length, Option, Some, None, slice_get, Bool}
 use Rattle.uc_tree.specs.Source.{Variable, Load, OfObject, EndCluster, Destroys, Stmt, Stmts, Block, Whole, OfEvents, Scoped, Try, Routine, Source}
 use Rattle.uc_machine.specs.Quiet.{act}
-use Rattle.uc_machine.specs.Executions.{Execution}
-use Rattle.uc_machine.specs.Pieces.{Link, Value, Todo, BindNow, BindMadeNow, DropNow, Within, Do, Rest, ClearNow, Active, State, Env, Members, Step, Goes, Ticks, Asks}
+use Rattle.uc_machine.specs.declared.exec.Owner.{Owner}
+use Rattle.uc_machine.specs.declared.exec.Owner.TheVariants.{Frame, Fields}
+use Rattle.uc_machine.specs.Executions.{Execution, exec_eq}
+use Rattle.uc_machine.specs.Pieces.{Link, Value, Place, address, top, below, Todo, BindNow, BindMadeNow, SetUpNow, DropNow, Within, Do, Rest, ClearNow, Active, State, Env, Members, Step, Goes, Ticks, Asks}
 use Rattle.uc_scope_laws.specs.Clusters.{Begins, HandlersBegin, Joined}
-use Rattle.uc_value_laws.specs.There.{HoldsObject, IsThere, IsGiven, NextDrop, NextCall, Held, Any, AllBefore, FrameBefore, frame_at}
+use Rattle.uc_value_laws.specs.There.{IsLoose, HoldsLoose, HoldsObject, IsThere, IsGiven, NextDrop, NextCall, Pends, Held, Any, AllBefore, FrameBefore, frame_at}
 
 module _ (Few : ℕ → Bool) where
   -- activations with these frames: each uses its own frame or that of an older one, in which all is there that it has still to clean up
@@ -89,22 +91,46 @@ abbrev pub BoundFits : ℕ → List Todo → Type 0
 BoundFits n (DropNow ∷ (Within line ∷ (Rest ss ∷ todo))) = ScopeFits n ss
 BoundFits n todo = Unit {0}
 
+-- so of the frame of a depth it is no cell that is still to be bound there
+abbrev pub StackAside : ℕ → ℕ → List Active → Type 0
+StackAside cell d [] = Unit {0}
+StackAside cell d (a ∷ older) = (a.frame ≡ d → Pends (λ p. address p ≡ cell → ⊥) a.control) × StackAside cell d older
+
+-- a place where something else than an object may be bound, by an activation with this frame and this to do behind that, before these older
+-- ones: one of a mutex object, or of a frame of the running execution, but no variable that is still to be bound
+abbrev pub InFrame : Owner → (cell frame : ℕ) → List Todo → List Active → Env → Type 0
+InFrame (Frame n d) cell frame todo cs e = (exec_eq n e.exec ≡ true) ×
+    (frame ≡ d → Pends (λ p. address p ≡ cell → ⊥) todo) × StackAside cell d cs
+InFrame (Fields o) cell frame todo cs e = Unit {0}
+
+abbrev pub Aside : Value → ℕ → List Todo → List Active → Env → Type 0
+Aside (Place o p) frame todo cs e = InFrame o (address p) frame todo cs e
+Aside v frame todo cs e = Unit {0}
+
+abbrev pub IsAside : Value → List Todo → State → Type 0
+IsAside v todo s = Aside v s.run.frame todo s.callers s.env
+
 -- behind a step that binds, the variable holds an object whose scope opens next
 abbrev pub BoundBehind : ((List Link → Type 0) → Type 0) → Step → Type 0
 BoundBehind next (Goes s) = next (HoldsObject (frame_at s.run.frame s.env.frames))
 BoundBehind next (Ticks s) = Unit {0}
 BoundBehind next (Asks r s) = Unit {0}
 
--- what a step is to find: where a scope opens, what it is of is there, if it is not given; what is bound is there behind the step; what begins
--- and what stands behind each other is as in the source; cells that start anew lie behind all that is there; and a cluster lies in the frame
+-- what a step is to find: where a scope opens, what it is of is there, if it is not given; what is bound is there behind the step, if it was
+-- loose; what is no object is bound aside; what begins and what stands behind each other is as in the source; cells that start anew lie behind
+-- all that is there; and a cluster lies in the frame
 module _ (source : Source) where
   abbrev pub FairAt : List Todo → State → Type 0
   FairAt (Rest ss ∷ todo) s = Joined ss × OpensThere (frame_at s.run.frame s.env.frames) ss
   FairAt (Do a ∷ todo) s = BodiesBegin a
   FairAt (ClearNow k n ∷ todo) s = AllBefore k todo × FrameBefore k s.run.frame s.callers
   FairAt (BindNow ∷ todo) s = BoundFits (length (frame_at s.run.frame s.env.frames)) todo ×
-      BoundBehind (λ P. NextDrop P todo) (act source BindNow todo s)
-  FairAt (BindMadeNow c r ∷ todo) s = BoundBehind (λ P. NextCall P todo) (act source (BindMadeNow c r) todo s)
+      BoundBehind (λ P. NextDrop (λ p. HoldsLoose (frame_at s.run.frame s.env.frames) p → P p) todo) (act source BindNow todo s) ×
+      (IsLoose (top s.run.operands) ⊎ IsAside (top (below s.run.operands)) todo s)
+  FairAt (BindMadeNow c r ∷ todo) s =
+      BoundBehind (λ P. NextCall (λ p. HoldsLoose (frame_at s.run.frame s.env.frames) p → P p) todo) (act source (BindMadeNow c r) todo s) ×
+      IsLoose (top s.run.operands)
+  FairAt (SetUpNow r ∷ todo) s = IsAside s.run.this todo s
   FairAt todo s = Unit {0}
 
   abbrev pub Fair : State → Type 0

@@ -1,4 +1,4 @@
--- Where what is bound is loose, it is there behind the step that binds it: in runs.
+-- Where what is no object is bound aside, what is bound is there behind the step that binds it: in runs.
 use Rattle.std.proofs.Common.{◌≡◌, ℕ, Bool, false, true, Some, List, [], ◌∷◌, refl, sym, ap, subst}
 use Rattle.std.specs.Prelude.{slice_get}
 use Rattle.uc_tree.specs.Programs.{Program}
@@ -14,7 +14,7 @@ use Rattle.uc_acts.specs.KernelRuns.{InRange}
 use Rattle.uc_acts.specs.Queues.{running}
 use Rattle.uc_machine.specs.Quiet as quiet
 use Rattle.uc_machine.specs.Pieces as piece
-use Rattle.uc_machine.specs.Pieces.{Todo, State, Step, Goes, Ticks, Asks}
+use Rattle.uc_machine.specs.Pieces.{Value, top, Todo, State, Step, Goes, Ticks, Asks}
 use Rattle.uc_machine.specs.Answering.{answered}
 use Rattle.uc_machine.specs.Rides as rides
 use Rattle.uc_machine.specs.Rides.{Rides}
@@ -34,13 +34,13 @@ use Rattle.uc_scope_laws.proofs.StackWalk.{walk as walk_stack}
 use Rattle.uc_scope_laws.proofs.StackWorlds.{law_frame_runs}
 use Rattle.uc_scope_laws.proofs.Unreferring.{law_accepted}
 use Rattle.uc_scope_laws.proofs.Walk.{walk as walk_rooms}
-use Rattle.uc_value_laws.specs.There.{HoldsObject, OfBound, OpensBound, NextDrop, NextCall}
+use Rattle.uc_value_laws.specs.There.{IsLoose, HoldsLoose, HoldsObject, OfBound, NextDrop, NextCall}
 use Rattle.uc_value_laws.specs.ThereStates.{BoundBehind}
 use Rattle.uc_value_laws.specs.Opens.{OpensAt, Opens, RunOpens, RideMeets, MayMeet, LeadsMeet}
-use Rattle.uc_binding_laws.specs.Placed.{CodeRoutine, PlacedState, PlacedStep}
-use Rattle.uc_binding_laws.specs.Taking.{HoldsLoose, here, call_now, Takes}
-use Rattle.uc_binding_laws.specs.Loose.{LooseAt, Loose, RunLoose, LawOpens}
-use Rattle.uc_binding_laws.proofs.Walk.{walk}
+use Rattle.uc_binding_laws.specs.Placed.{IsObject, CodeRoutine, PlacedState, PlacedStep}
+use Rattle.uc_binding_laws.specs.Taking.{here, call_now, Takes}
+use Rattle.uc_binding_laws.specs.Aside.{AsideAt, BindsAside, RunAside, LawOpens}
+use Rattle.uc_binding_laws.proofs.Walk.{walk, law_bound}
 use Rattle.uc_binding_laws.proofs.Worlds.{code_of, placed_in}
 use Rattle.uc_binding_laws.proofs.Taking.{law_taken}
 
@@ -50,42 +50,47 @@ module _ (source : Source) (p : Program) (s : State) (h : PlacedState (Sized p) 
   takes : (t : State) → Takes source s t
   takes t = law_taken source p s t h st
 
-  bound : (t : State) (line : ℕ) (c : CleanUp) (rest : Stmts) (todo : List Todo) → s.run.control ≡ piece.BindNow ∷ (piece.DropNow ∷ (piece.Within line ∷ (piece.Rest (src.Scoped c rest) ∷ todo))) → quiet.quiet source s ≡ Goes t → OfBound (HoldsLoose (here s)) c → OfBound (HoldsObject (here t)) c
-  bound t line (src.Destroys (src.OfObject (src.EndProcessor (src.Load (src.Variable k))))) rest todo e g l = (takes t).bound line _ rest todo e l g
-  bound t line (src.Destroys (src.OfObject (src.EndOn r written (src.Load (src.Variable k))))) rest todo e g l = (takes t).bound line _ rest todo e l g
-  bound t line c rest todo e g l = tt
+  bound : (t : State) (line : ℕ) (c : CleanUp) (rest : Stmts) (todo : List Todo) → s.run.control ≡ piece.BindNow ∷ (piece.DropNow ∷ (piece.Within line ∷ (piece.Rest (src.Scoped c rest) ∷ todo))) → quiet.quiet source s ≡ Goes t → OfBound (λ q. HoldsLoose (here s) q → HoldsObject (here t) q) c
+  bound t line (src.Destroys (src.OfObject (src.EndProcessor (src.Load (src.Variable k))))) rest todo e g = λ near l. (takes t).bound line _ rest todo e l g
+  bound t line (src.Destroys (src.OfObject (src.EndOn r written (src.Load (src.Variable k))))) rest todo e g = λ near l. (takes t).bound line _ rest todo e l g
+  bound t line c rest todo e g = tt
 
-  bound_drop : (t : State) (todo : List Todo) → s.run.control ≡ piece.BindNow ∷ todo → quiet.quiet source s ≡ Goes t → NextDrop (HoldsLoose (here s)) todo → NextDrop (HoldsObject (here t)) todo
-  bound_drop t (piece.DropNow ∷ (piece.Within line ∷ (piece.Rest (src.Scoped c rest) ∷ todo))) e g l = bound t line c rest todo e g l
-  bound_drop t todo e g l = tt
+  bound_drop : (t : State) (todo : List Todo) → s.run.control ≡ piece.BindNow ∷ todo → quiet.quiet source s ≡ Goes t → NextDrop (λ q. HoldsLoose (here s) q → HoldsObject (here t) q) todo
+  bound_drop t (piece.DropNow ∷ (piece.Within line ∷ (piece.Rest (src.Scoped c rest) ∷ todo))) e g = bound t line c rest todo e g
+  bound_drop t todo e g = tt
 
-  made : (t : State) (k r line : ℕ) (c : CleanUp) (rest : Stmts) (todo : List Todo) (q : ℕ) (written : Bool) → s.run.control ≡ piece.BindMadeNow k r ∷ (call_now written q ∷ (piece.DropNow ∷ (piece.Within line ∷ (piece.Rest (src.Scoped c rest) ∷ todo)))) → quiet.quiet source s ≡ Goes t → OfBound (HoldsLoose (here s)) c → OfBound (HoldsObject (here t)) c
-  made t k r line (src.Destroys (src.OfObject (src.EndProcessor (src.Load (src.Variable m))))) rest todo q written e g l = (takes t).made k r q written line _ rest todo e l g
-  made t k r line (src.Destroys (src.OfObject (src.EndOn d w (src.Load (src.Variable m))))) rest todo q written e g l = (takes t).made k r q written line _ rest todo e l g
-  made t k r line c rest todo q written e g l = tt
+  made : (t : State) (k r line : ℕ) (c : CleanUp) (rest : Stmts) (todo : List Todo) (q : ℕ) (written : Bool) → s.run.control ≡ piece.BindMadeNow k r ∷ (call_now written q ∷ (piece.DropNow ∷ (piece.Within line ∷ (piece.Rest (src.Scoped c rest) ∷ todo)))) → quiet.quiet source s ≡ Goes t → OfBound (λ q. HoldsLoose (here s) q → HoldsObject (here t) q) c
+  made t k r line (src.Destroys (src.OfObject (src.EndProcessor (src.Load (src.Variable m))))) rest todo q written e g = λ near l. (takes t).made k r q written line _ rest todo e l g
+  made t k r line (src.Destroys (src.OfObject (src.EndOn d w (src.Load (src.Variable m))))) rest todo q written e g = λ near l. (takes t).made k r q written line _ rest todo e l g
+  made t k r line c rest todo q written e g = tt
 
-  made_call : (t : State) (k r : ℕ) (todo : List Todo) → s.run.control ≡ piece.BindMadeNow k r ∷ todo → quiet.quiet source s ≡ Goes t → NextCall (HoldsLoose (here s)) todo → NextCall (HoldsObject (here t)) todo
-  made_call t k r (piece.CallOnNow q ∷ (piece.DropNow ∷ (piece.Within line ∷ (piece.Rest (src.Scoped c rest) ∷ todo)))) e g l = made t k r line c rest todo q true e g l
-  made_call t k r (piece.CallUnwrittenNow q ∷ (piece.DropNow ∷ (piece.Within line ∷ (piece.Rest (src.Scoped c rest) ∷ todo)))) e g l = made t k r line c rest todo q false e g l
-  made_call t k r todo e g l = tt
+  made_call : (t : State) (k r : ℕ) (todo : List Todo) → s.run.control ≡ piece.BindMadeNow k r ∷ todo → quiet.quiet source s ≡ Goes t → NextCall (λ q. HoldsLoose (here s) q → HoldsObject (here t) q) todo
+  made_call t k r (piece.CallOnNow q ∷ (piece.DropNow ∷ (piece.Within line ∷ (piece.Rest (src.Scoped c rest) ∷ todo)))) e g = made t k r line c rest todo q true e g
+  made_call t k r (piece.CallUnwrittenNow q ∷ (piece.DropNow ∷ (piece.Within line ∷ (piece.Rest (src.Scoped c rest) ∷ todo)))) e g = made t k r line c rest todo q false e g
+  made_call t k r todo e g = tt
 
-  behind_bind : (x : Step) (todo : List Todo) → s.run.control ≡ piece.BindNow ∷ todo → quiet.quiet source s ≡ x → NextDrop (HoldsLoose (here s)) todo → BoundBehind (λ P. NextDrop P todo) x
-  behind_bind (Goes t) todo e g l = bound_drop t todo e g l
-  behind_bind (Ticks t) todo e g l = tt
-  behind_bind (Asks r t) todo e g l = tt
+  behind_bind : (x : Step) (todo : List Todo) → s.run.control ≡ piece.BindNow ∷ todo → quiet.quiet source s ≡ x → BoundBehind (λ P. NextDrop (λ q. HoldsLoose (here s) q → P q) todo) x
+  behind_bind (Goes t) todo e g = bound_drop t todo e g
+  behind_bind (Ticks t) todo e g = tt
+  behind_bind (Asks r t) todo e g = tt
 
-  behind_made : (x : Step) (k r : ℕ) (todo : List Todo) → s.run.control ≡ piece.BindMadeNow k r ∷ todo → quiet.quiet source s ≡ x → NextCall (HoldsLoose (here s)) todo → BoundBehind (λ P. NextCall P todo) x
-  behind_made (Goes t) k r todo e g l = made_call t k r todo e g l
-  behind_made (Ticks t) k r todo e g l = tt
-  behind_made (Asks q t) k r todo e g l = tt
+  behind_made : (x : Step) (k r : ℕ) (todo : List Todo) → s.run.control ≡ piece.BindMadeNow k r ∷ todo → quiet.quiet source s ≡ x → BoundBehind (λ P. NextCall (λ q. HoldsLoose (here s) q → P q) todo) x
+  behind_made (Goes t) k r todo e g = made_call t k r todo e g
+  behind_made (Ticks t) k r todo e g = tt
+  behind_made (Asks q t) k r todo e g = tt
 
   step : (l : List Todo) → s.run.control ≡ l → quiet.quiet source s ≡ quiet.act_todo source l s
   step l e = ap (λ (x : List Todo). quiet.act_todo source x s) e
 
-  opens_at : (l : List Todo) → s.run.control ≡ l → LooseAt l s → OpensAt source l s
+  object_loose : (v : Value) → IsObject v → IsLoose v
+  object_loose v q = subst IsLoose (sym q) tt
+
+  opens_at : (l : List Todo) → s.run.control ≡ l → AsideAt l s → OpensAt source l s
   opens_at (piece.Rest ss ∷ todo) e o = o
-  opens_at (piece.BindNow ∷ todo) e o = behind_bind (quiet.act source piece.BindNow todo s) todo e (step _ e) o
-  opens_at (piece.BindMadeNow k r ∷ todo) e o = behind_made (quiet.act source (piece.BindMadeNow k r) todo s) k r todo e (step _ e) o
+  opens_at (piece.BindNow ∷ todo) e o = (behind_bind (quiet.act source piece.BindNow todo s) todo e (step _ e), o)
+  opens_at (piece.BindMadeNow k r ∷ todo) e o =
+      (behind_made (quiet.act source (piece.BindMadeNow k r) todo s) k r todo e (step _ e), object_loose (top s.run.operands) (law_bound.object source p s h k r todo e))
+  opens_at (piece.SetUpNow r ∷ todo) e o = o
   opens_at l e o = tt
 
 -- what holds along rides
@@ -96,7 +101,7 @@ record Stands (p : Program) (source : Source) (s : State) : Type 0 where
   stack : StackState (Sized p) s
 
 module _ (p : Program) (source : Source) (in_rooms : SourceIn (Sized p) source) (known : (n : ℕ) → CodeRoutine source (slice_get source.routines n)) where
-  opens : (s : State) → Stands p source s → Loose s → Opens source s
+  opens : (s : State) → Stands p source s → BindsAside s → Opens source s
   opens s n o = opens_at source p s n.placed n.stack s.run.control refl o
 
   goes : (s t : State) → quiet.quiet source s ≡ Goes t → Stands p source s → Stands p source t
@@ -113,13 +118,13 @@ module _ (p : Program) (source : Source) (in_rooms : SourceIn (Sized p) source) 
     stack = subst (StackStep (Sized p)) e (walk_stack (Sized p) source in_rooms s n.stack);
   }
 
-  ridden : {s u : State} {q k : ℕ} {a : Asked} (d : Rides source s q u k a) → Stands p source s → RideMeets Loose source s q u k a d → RideMeets (Opens source) source s q u k a d
+  ridden : {s u : State} {q k : ℕ} {a : Asked} (d : Rides source s q u k a) → Stands p source s → RideMeets BindsAside source s q u k a d → RideMeets (Opens source) source s q u k a d
   ridden rides.slices n o = tt
   ridden (rides.goes_on {s} {t} e r) n o = (opens s n o.0, ridden r (goes s t e n) o.1)
   ridden (rides.ticks {s} {t} e r) n o = (opens s n o.0, ridden r (ticks s t e n) o.1)
   ridden (rides.asks {s} e) n o = opens s n o
 
-  led : {s u : State} (l : Leads source s u) → Stands p source s → LeadsMeet Loose source s u l → LeadsMeet (Opens source) source s u l
+  led : {s u : State} (l : Leads source s u) → Stands p source s → LeadsMeet BindsAside source s u l → LeadsMeet (Opens source) source s u l
   led rooms.stays n o = tt
   led (rooms.goes {s} {u} e l) n o = (opens s n o.0, led l (goes s u e n) o.1)
   led (rooms.ticks {s} {u} e l) n o = (opens s n o.0, led l (ticks s u e n) o.1)
@@ -136,16 +141,16 @@ module _ (p : Program) (formed : IsFormed p) (accepted : breaks_of p ≡ []) (in
         stack = (law_frame_runs p accepted input opts j w r).comes t _ c;
       }
 
-  may_open : {j : Journal} {w : World} {a : List Entry} {x : World} (r : Runs (source_of p) input opts j w) → RunFits (source_of p) input opts j w r → is_over j ≡ false → (m : May (source_of p) opts input j w a x) → MayMeet Loose (source_of p) opts input j w a x m → MayMeet (Opens (source_of p)) (source_of p) opts input j w a x m
+  may_open : {j : Journal} {w : World} {a : List Entry} {x : World} (r : Runs (source_of p) input opts j w) → RunFits (source_of p) input opts j w r → is_over j ≡ false → (m : May (source_of p) opts input j w a x) → MayMeet BindsAside (source_of p) opts input j w a x m → MayMeet (Opens (source_of p)) (source_of p) opts input j w a x m
   may_open r f on (gives q t s le) o = tt
   may_open r f on (no_room q t s le) o = tt
   may_open r f on (acts q t n s asked d) o =
       ridden p (source_of p) (law_accepted p accepted) (code_of p formed accepted) d.rides (begins r f on q t d.given d.runs d.told) o
 
 pub law_opens : LawOpens
-law_opens = record { runs = runs; leads = λ p formed accepted input opts range j w r f on t s c o. led p (source_of p) (law_accepted p accepted) (code_of p formed accepted) c.leads (begins p formed accepted input opts range r f on c.processor t c.given c.runs c.told) o; }
+law_opens = record { runs = runs; leads = λ p formed accepted input opts range j w r f on t s c o. led p (source_of p) (law_accepted p accepted) (code_of p formed accepted) c.leads (begins p formed accepted input opts range r f on c.processor t c.given c.runs c.told) o }
   where
-    runs : (p : Program) → IsFormed p → breaks_of p ≡ [] → (input : List ℕ) (opts : Options) → InRange opts → (j : Journal) (w : World) (r : Runs (source_of p) input opts j w) → RunFits (source_of p) input opts j w r → RunLoose (source_of p) input opts j w r → RunOpens (source_of p) input opts j w r
+    runs : (p : Program) → IsFormed p → breaks_of p ≡ [] → (input : List ℕ) (opts : Options) → InRange opts → (j : Journal) (w : World) (r : Runs (source_of p) input opts j w) → RunFits (source_of p) input opts j w r → RunAside (source_of p) input opts j w r → RunOpens (source_of p) input opts j w r
     runs p formed accepted input opts range j w begun f o = tt
     runs p formed accepted input opts range j w (more r on m) f o =
         (runs p formed accepted input opts range _ _ r f.0 o.0, may_open p formed accepted input opts range r f.0 on m o.1)
