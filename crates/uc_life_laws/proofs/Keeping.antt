@@ -19,8 +19,9 @@ use Rattle.uc_life_laws.specs.LifeStates.{SlotBy, ParkedBy, EnvBy, LifeStack, Li
 use Rattle.uc_life_laws.proofs.Cells.{either, set_length, stack_stored}
 use Rattle.uc_life_laws.proofs.Parked as parked
 use Rattle.uc_life_laws.proofs.Parked.{Ex, at_home}
+use Rattle.uc_life_laws.specs.Things.{Told}
 
-module _ (t : Table) (few : Ty → ℕ → Bool) where
+module _ (t : Table) (few : Told) where
   pub like : {e f : Env} → LifeEnv t few e → f.hand ≡ e.hand → f.house ≡ e.house → f.own ≡ e.own → LifeEnv t few f
   like s h g o = parked.like (LifeEx t few) s h g o
 

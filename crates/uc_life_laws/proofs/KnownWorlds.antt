@@ -71,6 +71,7 @@ use Rattle.uc_life_laws.proofs.Acting.{law_known}
 use Rattle.uc_life_laws.proofs.Laying.{laid_out}
 use Rattle.uc_life_laws.proofs.LifeWorlds.{LifeWorld, steps_to, stack_told, life_told, world_rests}
 use Rattle.uc_life_laws.proofs.NewNumbers.{objects_grow, clusters_grow, processors_grow, some_object, some_cluster, told_object, told_cluster, told_processor, spawned_object}
+use Rattle.uc_life_laws.specs.Things.{Told}
 
 -- what holds of less is met where more is
 
@@ -89,7 +90,7 @@ module _ (P Q : State → Type 0) (f : (s : State) → P s → Q s) (source : So
 
 -- another hand
 
-module _ (t : Table) (few : Ty → ℕ → Bool) where
+module _ (t : Table) (few : Told) where
   handed : (given : List Ty) (hand : List (ℕ × Members)) (s : State) → KnowsState t few given s → HandBy (KnowsSlot t few) hand → KnowsState t few given (with_hand hand s)
   handed given hand s x h = record { sigs = x.sigs; frames = x.frames; run = x.run; callers = x.callers; env = record { house = x.env.house; hand = h } }
 
@@ -144,19 +145,19 @@ module _ (t : Table) (few : Ty → ℕ → Bool) where
   passes_by (ask.Processor c) (answer.Object o) f = f o refl
   passes_by q a f = tt
 
-  main_passes : (c : Option ℕ) (n m : ℕ) → ((c : ℕ) → n < m → few (Obj c) n ≡ true) → n < m → MainPasses t few c n
+  main_passes : (c : Option ℕ) (n m : ℕ) → ((c : ℕ) → n < m → few.few (Obj c) n ≡ true) → n < m → MainPasses t few c n
   main_passes None n m f l = tt
   main_passes (Some c) n m f l = f c l
 
 -- fewer numbers pass before
-earlier : (few : Ty → ℕ → Bool) (opts : Options) (j : Journal) (a : List Entry) → PassesBelow few opts (j ++ a) → PassesBelow few opts j
+earlier : (few : Told) (opts : Options) (j : Journal) (a : List Entry) → PassesBelow few opts (j ++ a) → PassesBelow few opts j
 earlier few opts j a b = record {
   objects = λ c n l. let m = objects_grow j a in b.objects c n (omega (arith, l, m));
   clusters = λ n l. let m = clusters_grow j a in b.clusters n (omega (arith, l, m));
   processors = λ n l. let m = processors_grow opts j a in b.processors n (omega (arith, l, m));
 }
 
-module _ (t : Table) (few : Ty → ℕ → Bool) (source : Source) (sound : Sound t source) (main : IsTask t source.main) (Z : ℕ → ℕ → Type 0) (laid : IsLaidOut Z t) (in_rooms : SourceIn Z source) where
+module _ (t : Table) (few : Told) (source : Source) (sound : Sound t source) (main : IsTask t source.main) (Z : ℕ → ℕ → Type 0) (laid : IsLaidOut Z t) (in_rooms : SourceIn Z source) where
   -- steps and rides
 
   knows_to : (s : State) → Meets t few s → LifeState t few s → KnowsState t few [] s → KnowsStep t few source (quiet source s)

@@ -12,7 +12,7 @@ use Rattle.uc_typing.specs.States.{whole, IsAt, IsObjectBy, Is}
 use Rattle.uc_typing.proofs.Operands as operands
 use Rattle.uc_typing.proofs.Frames.{drop_onto}
 use Rattle.uc_life_laws.proofs.Cells.{known_stored}
-use Rattle.uc_life_laws.specs.Things.{IsField, IsScalar, IsBinding, IsReference, IsUnbound, IsTracked, Within, itself, field, element, IsFew, LiesIn, IsKnown, IsMade, Known}
+use Rattle.uc_life_laws.specs.Things.{Told, HeldBy, IsField, IsScalar, IsBinding, IsReference, IsUnbound, IsTracked, Within, itself, field, element, IsFew, LiesIn, IsKnown, IsMade, Known}
 use Rattle.uc_life_laws.specs.Knowing.{InMaking, AtHand, KnownAll, KnownParams, KnownFrames, KnownThis}
 
 -- lists, as uc_typing has them
@@ -60,18 +60,23 @@ module _ (t : Table) where
   untracked c u Clu w v h i = i
   untracked c u Pro w v h i = i
 
-module _ (t : Table) (few : Ty → ℕ → Bool) (n : Exec) where
+module _ (t : Table) (few : Told) (n : Exec) where
   -- what one knows, one who knows more does
   abbrev pub Less : (Value → Ty → Type 0) → (Value → Ty → Type 0) → Type 0
   Less K L = (w : Value) (a : Ty) → K w a → L w a
 
   module _ (K L : Value → Ty → Type 0) (more : Less K L) where
+    held_more : (m : Option (Value → Value)) (b : Ty) (o : ℕ) → HeldBy t m K b o → HeldBy t m L b o
+    held_more None b o h = tt
+    held_more (Some M) b o (inl h) = inl (more (Object o) b h)
+    held_more (Some M) b o (inr h) = inr (h.0, h.1, h.2, more h.0 h.1 h.3, h.4, h.5)
+
     pub lies_more : (b : Ty) (v : Value) → LiesIn t few n K b v → LiesIn t few n L b v
     lies_more b (Number z) h = tt
     lies_more b (Place (Frame x d) p) h = λ e. let k = h e in (k.0, k.1, more k.0 k.1 k.2, k.3)
     lies_more b (Place (Fields o) p) h = tt
     lies_more b (Running x) h = tt
-    lies_more b (Object o) h = tt
+    lies_more b (Object o) h = held_more few.memory b o h
     lies_more b Nothing h = tt
 
     is_more : (a : Ty) (v : Value) → IsKnown t few n K a v → IsKnown t few n L a v
@@ -102,7 +107,7 @@ module _ (t : Table) (few : Ty → ℕ → Bool) (n : Exec) where
     this_more g (Some c) v h = known_more (object_ty g.whole c) v h
 
   -- those of older activations are at hand
-  pub older_hand : (gs : List Sig) (c : Active) (cs : List Active) → Less (AtHand t n (others gs) cs) (AtHand t n gs (c ∷ cs))
+  pub older_hand : (gs : List Sig) (c : Active) (cs : List Active) → Less (AtHand t few n (others gs) cs) (AtHand t few n gs (c ∷ cs))
   older_hand gs c cs w a (inl h) = inl (inr h)
   older_hand gs c cs w a (inr h) = inr (inr h)
 
@@ -290,14 +295,14 @@ module _ (t : Table) (few : Ty → ℕ → Bool) (n : Exec) where
   frames_length (g ∷ gs) [] cs h = absurd h
   frames_length (g ∷ gs) (f ∷ fs) [] h = absurd h
 
-  frames_set : (d : ℕ) (g : Sig) (gs : List Sig) (f : List Value) (fs : List (List Value)) (c : Active) (cs : List Active) (change : List Value → List Value) (b : Bool) → KnownFrames t few n (g ∷ gs) (f ∷ fs) (c ∷ cs) → (b ≡ true → KnownParams t few n (AtHand t n gs cs) g.params (change f)) → (b ≡ false → KnownFrames t few n gs (set_depth fs d (change (list_in (at_depth fs d)))) cs) → KnownFrames t few n (g ∷ gs) (if b then change (list_in (if b then Some f else at_depth fs d)) ∷ fs else f ∷ set_depth fs d (change (list_in (if b then Some f else at_depth fs d)))) (c ∷ cs)
+  frames_set : (d : ℕ) (g : Sig) (gs : List Sig) (f : List Value) (fs : List (List Value)) (c : Active) (cs : List Active) (change : List Value → List Value) (b : Bool) → KnownFrames t few n (g ∷ gs) (f ∷ fs) (c ∷ cs) → (b ≡ true → KnownParams t few n (AtHand t few n gs cs) g.params (change f)) → (b ≡ false → KnownFrames t few n gs (set_depth fs d (change (list_in (at_depth fs d)))) cs) → KnownFrames t few n (g ∷ gs) (if b then change (list_in (if b then Some f else at_depth fs d)) ∷ fs else f ∷ set_depth fs d (change (list_in (if b then Some f else at_depth fs d)))) (c ∷ cs)
   frames_set d g gs f fs c cs change true h k r = (k refl, h.1)
   frames_set d g gs f fs c cs change false h k r = (h.0, r refl)
 
   pub frames_stored : (d k : ℕ) (v : Value) (gs : List Sig) (fs : List (List Value)) (cs : List Active) → KnownFrames t few n gs fs cs → KnownFrames t few n gs (frame_changed d (value_changed k (stored v) nought) fs) cs
   frames_stored d k v [] [] [] h = tt
   frames_stored d k v (g ∷ gs) (f ∷ fs) (c ∷ cs) h =
-      frames_set d g gs f fs c cs (value_changed k (stored v) nought) (nat_eq d (length fs)) h (λ e. params_stored (AtHand t n gs cs) g.params f k v h.0) (λ e. frames_stored d k v gs fs cs h.1)
+      frames_set d g gs f fs c cs (value_changed k (stored v) nought) (nat_eq d (length fs)) h (λ e. params_stored (AtHand t few n gs cs) g.params f k v h.0) (λ e. frames_stored d k v gs fs cs h.1)
   frames_stored d k v [] [] (c ∷ cs) h = absurd h
   frames_stored d k v [] (f ∷ fs) cs h = absurd h
   frames_stored d k v (g ∷ gs) [] cs h = absurd h
@@ -311,7 +316,7 @@ module _ (t : Table) (few : Ty → ℕ → Bool) (n : Exec) where
       by (nat_eq d (length fs)) (subst (λ b. (if b then Some g else at_depth gs d) ≡ Some i) q e) (λ e. frames_cleared d k m i l gs fs cs e h.1)
     where
       by : (b : Bool) → (if b then Some g else at_depth gs d) ≡ Some i → (at_depth gs d ≡ Some i → KnownFrames t few n gs (set_depth fs d (values_cleared k m nought (list_in (at_depth fs d)))) cs) → KnownFrames t few n (g ∷ gs) (if b then values_cleared k m nought (list_in (if b then Some f else at_depth fs d)) ∷ fs else f ∷ set_depth fs d (values_cleared k m nought (list_in (if b then Some f else at_depth fs d)))) (c ∷ cs)
-      by true e r = let s : g ≡ i = cc in (params_cleared (AtHand t n gs cs) g.params f k m (subst (λ (i : Sig). length i.params ≤ k) (sym s) l) h.0, h.1)
+      by true e r = let s : g ≡ i = cc in (params_cleared (AtHand t few n gs cs) g.params f k m (subst (λ (i : Sig). length i.params ≤ k) (sym s) l) h.0, h.1)
       by false e r = (h.0, r e)
   frames_cleared d k m i l [] [] (c ∷ cs) e h = absurd h
   frames_cleared d k m i l [] (f ∷ fs) cs e h = absurd h
@@ -319,16 +324,16 @@ module _ (t : Table) (few : Ty → ℕ → Bool) (n : Exec) where
   frames_cleared d k m i l (g ∷ gs) (f ∷ fs) [] e h = absurd h
 
   -- the parameters of the frame of a depth
-  pub frames_at : (d : ℕ) (i : Sig) (gs : List Sig) (fs : List (List Value)) (cs : List Active) → KnownFrames t few n gs fs cs → at_depth gs d ≡ Some i → KnownParams t few n (AtHand t n gs cs) i.params (list_in (at_depth fs d))
+  pub frames_at : (d : ℕ) (i : Sig) (gs : List Sig) (fs : List (List Value)) (cs : List Active) → KnownFrames t few n gs fs cs → at_depth gs d ≡ Some i → KnownParams t few n (AtHand t few n gs cs) i.params (list_in (at_depth fs d))
   frames_at d i [] [] [] h e = absurd (cc)
   frames_at d i (g ∷ gs) (f ∷ fs) (c ∷ cs) h e =
       let q : nat_eq d (length gs) ≡ nat_eq d (length fs) = ap (nat_eq d) (sym (frames_length gs fs cs h.1)) in
       by (nat_eq d (length fs)) (subst (λ b. (if b then Some g else at_depth gs d) ≡ Some i) q e) (λ e. frames_at d i gs fs cs h.1 e)
     where
-      older : (j : Sig) (vs : List Value) → KnownParams t few n (AtHand t n gs cs) j.params vs → KnownParams t few n (AtHand t n (g ∷ gs) (c ∷ cs)) j.params vs
-      older j vs p = params_more (AtHand t n gs cs) (AtHand t n (g ∷ gs) (c ∷ cs)) (older_hand (g ∷ gs) c cs) j.params vs p
-      by : (b : Bool) → (if b then Some g else at_depth gs d) ≡ Some i → (at_depth gs d ≡ Some i → KnownParams t few n (AtHand t n gs cs) i.params (list_in (at_depth fs d))) → KnownParams t few n (AtHand t n (g ∷ gs) (c ∷ cs)) i.params (list_in (if b then Some f else at_depth fs d))
-      by true e r = let s : g ≡ i = cc in older i f (subst (λ (j : Sig). KnownParams t few n (AtHand t n gs cs) j.params f) s h.0)
+      older : (j : Sig) (vs : List Value) → KnownParams t few n (AtHand t few n gs cs) j.params vs → KnownParams t few n (AtHand t few n (g ∷ gs) (c ∷ cs)) j.params vs
+      older j vs p = params_more (AtHand t few n gs cs) (AtHand t few n (g ∷ gs) (c ∷ cs)) (older_hand (g ∷ gs) c cs) j.params vs p
+      by : (b : Bool) → (if b then Some g else at_depth gs d) ≡ Some i → (at_depth gs d ≡ Some i → KnownParams t few n (AtHand t few n gs cs) i.params (list_in (at_depth fs d))) → KnownParams t few n (AtHand t few n (g ∷ gs) (c ∷ cs)) i.params (list_in (if b then Some f else at_depth fs d))
+      by true e r = let s : g ≡ i = cc in older i f (subst (λ (j : Sig). KnownParams t few n (AtHand t few n gs cs) j.params f) s h.0)
       by false e r = older i (list_in (at_depth fs d)) (r e)
   frames_at d i [] [] (c ∷ cs) h e = absurd h
   frames_at d i [] (f ∷ fs) cs h e = absurd h

@@ -36,8 +36,9 @@ use Rattle.uc_life_laws.proofs.Parked.{found_hand}
 use Rattle.uc_life_laws.proofs.Walk.{law_steps}
 use Rattle.uc_life_laws.proofs.Clearing.{clears}
 use Rattle.uc_life_laws.proofs.Laying.{laid_out}
+use Rattle.uc_life_laws.specs.Things.{Told}
 
-module _ (t : Table) (few : Ty → ℕ → Bool) where
+module _ (t : Table) (few : Told) where
   -- tasks at rest, and what is at home in objects
   pub record LifeWorld (w : World) : Type 0 where
     pub tasks : (n : ℕ) → LifeState t few (w.tasks n)

@@ -13,8 +13,9 @@ use Rattle.uc_typing.specs.Typing.{Ty, Num, Sig, Table}
 use Rattle.uc_typing.proofs.Control.{left}
 use Rattle.uc_life_laws.specs.Knowing.{KnownFrames, KnowsWaits, KnowsEnv, KnowsState, KnowsStep}
 use Rattle.uc_life_laws.proofs.Parking.{frames_run, frames_others, like}
+use Rattle.uc_life_laws.specs.Things.{Told}
 
-module _ (t : Table) (few : Ty → ℕ → Bool) (source : Source) (s : State) (sigs : List Sig) (frames : KnownFrames t few s.env.exec sigs s.env.frames (s.run ∷ s.callers)) (env : KnowsEnv t few s.env) where
+module _ (t : Table) (few : Told) (source : Source) (s : State) (sigs : List Sig) (frames : KnownFrames t few s.env.exec sigs s.env.frames (s.run ∷ s.callers)) (env : KnowsEnv t few s.env) where
   -- the frames of those that wait
   behind : (c d : Active) (cs : List Active) → s.callers ≡ c ∷ cs → KnownFrames t few s.env.exec (others sigs) (others s.env.frames) (d ∷ cs)
   behind c d cs e =

@@ -22,8 +22,9 @@ use Rattle.uc_life_laws.proofs.Keeping as kept
 use Rattle.uc_life_laws.proofs.Parked as parked
 use Rattle.uc_life_laws.proofs.Steps as steps
 use Rattle.uc_life_laws.proofs.Steps.{Holding}
+use Rattle.uc_life_laws.specs.Things.{Told}
 
-module _ (t : Table) (few : Ty → ℕ → Bool) where
+module _ (t : Table) (few : Told) where
   module _ (source : Source) (s : State) (st : LifeState t few s) where
     go : (todo : List Todo) (vs : List Value) → Holding t few s st todo → LifeState t few (at todo vs s)
     go = steps.go t few s st

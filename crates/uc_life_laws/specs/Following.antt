@@ -7,10 +7,11 @@ use Rattle.uc_typing.specs.States.{Sound, Typed}
 use Rattle.uc_typing.specs.Laws.{ReadsIn}
 use Rattle.uc_life_laws.specs.LifeStates.{LifeState}
 use Rattle.uc_life_laws.specs.Knowing.{KnowsState, Finds}
+use Rattle.uc_life_laws.specs.Things.{Told}
 
 -- as far as it finds what it is to find
 pub record LawFollowing : Type 0 where
-  pub typed : (t : Table) (few : Ty → ℕ → Bool) (given : List Ty) (s : State) →
+  pub typed : (t : Table) (few : Told) (given : List Ty) (s : State) →
       KnowsState t few given s → Typed t given s
-  pub reads : (t : Table) (few : Ty → ℕ → Bool) (source : Source) → Sound t source → (s : State) → LifeState t few s → (x : KnowsState t few [] s) →
+  pub reads : (t : Table) (few : Told) (source : Source) → Sound t source → (s : State) → LifeState t few s → (x : KnowsState t few [] s) →
       Finds t few x.sigs x.run.sig x.run.scope s s.run.control x.run.own → ReadsIn t s

@@ -15,7 +15,7 @@ use Rattle.uc_machine.specs.Answering.{child_main}
 use Rattle.uc_typing.specs.Typing.{Ty, Num, Cell, Obj, Raw, Row, Clu, Pro, Name, Sig, Table, IsParam, Among, IsTarget, object_ty, element_shape, Yields}
 use Rattle.uc_typing.specs.Pieces.{Ok, onto}
 use Rattle.uc_typing.specs.States.{IsBase, IsTask}
-use Rattle.uc_life_laws.specs.Things.{IsField, IsReference, IsTracked, Within, OwnFields, Things, LiesIn, Known}
+use Rattle.uc_life_laws.specs.Things.{Told, IsField, IsReference, IsTracked, Within, OwnFields, Things, LiesIn, Known}
 use Rattle.uc_life_laws.specs.LifeStates.{EnvBy}
 
 -- the object at hand, in a constructor or a destructor: it is there, but not whole
@@ -28,10 +28,10 @@ InMaking gs [] w a = ⊥
 InMaking gs (c ∷ older) w a = ((g : Sig) × (at_depth gs c.frame ≡ Some g) × Making g c.this w a) ⊎ InMaking (others gs) older w a
 
 -- what an execution has at hand: all its things, and what it is building and destroying
-abbrev pub AtHand : Table → Exec → List Sig → List Active → Value → Ty → Type 0
-AtHand t n gs cs w a = Things t n cs w a ⊎ InMaking gs cs w a
+abbrev pub AtHand : Table → Told → Exec → List Sig → List Active → Value → Ty → Type 0
+AtHand t few n gs cs w a = Things t few n cs w a ⊎ InMaking gs cs w a
 
-module _ (t : Table) (few : Ty → ℕ → Bool) (n : Exec) where
+module _ (t : Table) (few : Told) (n : Exec) where
   -- operands
   abbrev pub KnownAll : (Value → Ty → Type 0) → List Ty → List Value → Type 0
   KnownAll K [] [] = Unit {0}
@@ -48,7 +48,7 @@ module _ (t : Table) (few : Ty → ℕ → Bool) (n : Exec) where
   -- each frame is one of a routine of this kind; its parameters are known to those that waited as it was called
   abbrev pub KnownFrames : List Sig → List (List Value) → List Active → Type 0
   KnownFrames [] [] [] = Unit {0}
-  KnownFrames (g ∷ gs) (f ∷ fs) (c ∷ cs) = KnownParams (AtHand t n gs cs) g.params f × KnownFrames gs fs cs
+  KnownFrames (g ∷ gs) (f ∷ fs) (c ∷ cs) = KnownParams (AtHand t few n gs cs) g.params f × KnownFrames gs fs cs
   KnownFrames _ _ _ = ⊥
 
   -- so is the object of an activation; that of a constructor or a destructor is not whole
@@ -63,8 +63,8 @@ module _ (t : Table) (few : Ty → ℕ → Bool) (n : Exec) where
     pub scope : List Name
     pub base : List Name
     pub frame : at_depth gs a.frame ≡ Some sig
-    pub values : KnownAll (AtHand t n gs (a ∷ older)) own a.operands
-    pub this : KnownThis (AtHand t n (others gs) older) sig sig.this a.this
+    pub values : KnownAll (AtHand t few n gs (a ∷ older)) own a.operands
+    pub this : KnownThis (AtHand t few n (others gs) older) sig sig.this a.this
     pub ok : Ok t sig base scope a.control (onto given own)
     pub ends : IsBase t sig a.handles base a.frame older
 
@@ -85,7 +85,7 @@ module _ (t : Table) (few : Ty → ℕ → Bool) (n : Exec) where
   KnowsBy Started x = KnowsEx x
   KnowsBy Ended x = Unit {0}
 
-module _ (t : Table) (few : Ty → ℕ → Bool) where
+module _ (t : Table) (few : Told) where
   abbrev pub KnowsSlot : Exec → Execution (List Todo) Value → Type 0
   KnowsSlot n x = KnowsBy t few n x.links.stage x
 
@@ -118,12 +118,12 @@ module _ (t : Table) (few : Ty → ℕ → Bool) where
 
   -- what a request names has such a number: the object of a call, that at which an event is raised, a cluster and a processor
   abbrev pub Names : Request → Type 0
-  Names (ask.Call o m) = (c : ℕ) × (few (Obj c) o ≡ true)
-  Names (ask.Raise o m x y) = (c : ℕ) × (few (Obj c) o ≡ true) × IsTarget t c
-  Names (ask.ClusterEnd c) = few Clu c ≡ true
-  Names (ask.Processor c) = (c ≡ 0) ⊎ (few Clu c ≡ true)
-  Names (ask.ProcessorEnd q) = few Pro q ≡ true
-  Names (ask.Migrate c) = few Clu c ≡ true
+  Names (ask.Call o m) = (c : ℕ) × (few.few (Obj c) o ≡ true)
+  Names (ask.Raise o m x y) = (c : ℕ) × (few.few (Obj c) o ≡ true) × IsTarget t c
+  Names (ask.ClusterEnd c) = few.few Clu c ≡ true
+  Names (ask.Processor c) = (c ≡ 0) ⊎ (few.few Clu c ≡ true)
+  Names (ask.ProcessorEnd q) = few.few Pro q ≡ true
+  Names (ask.Migrate c) = few.few Clu c ≡ true
   Names r = Unit {0}
 
   abbrev pub KnowsStep : Source → Step → Type 0
@@ -134,7 +134,7 @@ module _ (t : Table) (few : Ty → ℕ → Bool) where
 -- What a step is still to find, of a state in order.
 
 -- a place is tracked where it is found, though nothing in scope tells so
-abbrev pub IsRooted : Table → (Ty → ℕ → Bool) → Exec → (Value → Ty → Type 0) → Ty → Value → Type 0
+abbrev pub IsRooted : Table → Told → Exec → (Value → Ty → Type 0) → Ty → Value → Type 0
 IsRooted t few n K a v = IsTracked t a → LiesIn t few n K a v
 
 -- places in frames of other executions and in mutex objects
@@ -148,21 +148,21 @@ AreNumbers (Num ∷ more) = AreNumbers more
 AreNumbers (a ∷ more) = ⊥
 
 -- what the running execution has at hand
-abbrev pub Here : Table → List Sig → State → Value → Ty → Type 0
-Here t gs s w a = AtHand t s.env.exec gs (s.run ∷ s.callers) w a
+abbrev pub Here : Table → Told → List Sig → State → Value → Ty → Type 0
+Here t few gs s w a = AtHand t few s.env.exec gs (s.run ∷ s.callers) w a
 
-module _ (t : Table) (few : Ty → ℕ → Bool) (gs : List Sig) (s : State) where
+module _ (t : Table) (few : Told) (gs : List Sig) (s : State) where
   -- what is read at a place is known, where that is no reference in what is whole, where it belongs to another execution or a mutex object,
   -- and where it lies in an object that is being built or destroyed
   pub record ReadsKnown (a : Ty) (v : Value) : Type 0 where
-    pub untracked : (IsReference a → ⊥) → Known t few s.env.exec (Here t gs s) a (loaded v s.env)
-    pub foreign : (IsOwn s.env.exec v → ⊥) → Known t few s.env.exec (Here t gs s) a (loaded v s.env)
-    pub field : (w : Value) (b : Ty) → OwnFields t s.env.exec (s.run ∷ s.callers) w b → Within t w b v (Cell a) →
-        Known t few s.env.exec (Here t gs s) a (loaded v s.env)
+    pub untracked : (IsReference a → ⊥) → Known t few s.env.exec (Here t few gs s) a (loaded v s.env)
+    pub foreign : (IsOwn s.env.exec v → ⊥) → Known t few s.env.exec (Here t few gs s) a (loaded v s.env)
+    pub field : (w : Value) (b : Ty) → OwnFields t few s.env.exec (s.run ∷ s.callers) w b → Within t w b v (Cell a) →
+        Known t few s.env.exec (Here t few gs s) a (loaded v s.env)
     pub making : (w : Value) (b : Ty) → InMaking gs (s.run ∷ s.callers) w b → Within t w b v (Cell a) →
-        Known t few s.env.exec (Here t gs s) a (loaded v s.env)
+        Known t few s.env.exec (Here t few gs s) a (loaded v s.env)
 
-module _ (t : Table) (few : Ty → ℕ → Bool) (gs : List Sig) (g : Sig) (sc : List Name) (s : State) where
+module _ (t : Table) (few : Told) (gs : List Sig) (g : Sig) (sc : List Name) (s : State) where
   -- each field of an object that has a place is one that somebody declared
   abbrev pub Declared : ℕ → Type 0
   Declared i = (c : ℕ) → g.this ≡ Some c → t.mutex c ≡ false → IsTracked t (t.fields c i) → IsField t c i
@@ -175,8 +175,8 @@ module _ (t : Table) (few : Ty → ℕ → Bool) (gs : List Sig) (g : Sig) (sc :
   -- a variable that is no object in scope is no object
   abbrev pub FindsExpr : Expr → Ty → Type 0
   FindsExpr (Variable k) a =
-      ((b : Ty) → IsParam g.params k b → IsRooted t few s.env.exec (Here t gs s) (Cell b) (variable_at k s)) ×
-      (Among g.locals k a → IsRooted t few s.env.exec (Here t gs s) a (variable_at k s))
+      ((b : Ty) → IsParam g.params k b → IsRooted t few s.env.exec (Here t few gs s) (Cell b) (variable_at k s)) ×
+      (Among g.locals k a → IsRooted t few s.env.exec (Here t few gs s) a (variable_at k s))
   FindsExpr (OfObject o) a = FindsObject o a
   FindsExpr e a = Unit {0}
 
@@ -190,7 +190,8 @@ module _ (t : Table) (few : Ty → ℕ → Bool) (gs : List Sig) (g : Sig) (sc :
   Finds (Clean c ∷ todo) own = AreNumbers own
   Finds (Part c ∷ todo) own = AreNumbers own
   -- the name of a new execution is not that of the one in whose frame its coroutine is
-  Finds (SetUpNow r ∷ todo) own = IsOwn (new_exec (home_at s.run.this s.env) s.env) s.run.this → ⊥
+  Finds (SetUpNow r ∷ todo) own = (c : ℕ) → g.this ≡ Some c →
+      LiesIn t few (new_exec (home_at s.run.this s.env) s.env) (AtHand t few (new_exec (home_at s.run.this s.env) s.env) [] []) (Obj c) s.run.this
   -- a number that tells a cluster tells cluster 0
   Finds (ProcessorNow ∷ todo) (Num ∷ own) = object_in (top s.run.operands) ≡ 0
   Finds todo own = Unit {0}

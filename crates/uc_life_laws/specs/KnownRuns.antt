@@ -27,12 +27,13 @@ use Rattle.uc_sound.specs.Tables.{table_of}
 use Rattle.uc_life_laws.specs.LifeStates.{MembersBy, Opens}
 use Rattle.uc_life_laws.specs.Knowing.{KnowsSlot, KnowsState, KnowsAsked, Names, Finds}
 use Rattle.uc_life_laws.specs.KnownAnswers.{Passes}
+use Rattle.uc_life_laws.specs.Things.{Told}
 
 -- all numbers of mutex objects, of clusters and of processors pass that a journal has made
-pub record PassesBelow (few : Ty → ℕ → Bool) (opts : Options) (j : Journal) : Type 0 where
-  pub objects : (c n : ℕ) → n < object_count j → few (Obj c) n ≡ true
-  pub clusters : (n : ℕ) → n < cluster_count j → few Clu n ≡ true
-  pub processors : (n : ℕ) → n < processor_count opts j → few Pro n ≡ true
+pub record PassesBelow (few : Told) (opts : Options) (j : Journal) : Type 0 where
+  pub objects : (c n : ℕ) → n < object_count j → few.few (Obj c) n ≡ true
+  pub clusters : (n : ℕ) → n < cluster_count j → few.few Clu n ≡ true
+  pub processors : (n : ℕ) → n < processor_count opts j → few.few Pro n ≡ true
 
 -- a step finds what it is to find: where a scope opens, what that is of holds what is known; and where all is known, it is so by a typing
 -- by which the step finds the rest
@@ -41,7 +42,7 @@ Meets t few s = Opens t few s ×
     (KnowsState t few [] s → (x : KnowsState t few [] s) × Finds t few x.sigs x.run.sig x.run.scope s s.run.control x.run.own)
 
 -- a task at rest: it has asked something, all is known but for what the answer brings, and what it is told passes
-pub record KnowsRest (t : Table) (few : Ty → ℕ → Bool) (source : Source) (j : Journal) (n : ℕ) (s : State) : Type 0 where
+pub record KnowsRest (t : Table) (few : Told) (source : Source) (j : Journal) (n : ℕ) (s : State) : Type 0 where
   pub request : Request
   pub asked : KnowsAsked t few source request s
   pub asks_for : form_of_request request ≡ asked_form n j
@@ -51,7 +52,7 @@ pub record KnowsRest (t : Table) (few : Ty → ℕ → Bool) (source : Source) (
 
 -- all is known: of each task at rest that has not ended, of what is at home in each object, and of whoever runs in each state to which it comes
 -- before it asks, as far as each step found what it was to find; and what it names then passes
-pub record AllIsKnown (t : Table) (few : Ty → ℕ → Bool) (source : Source) (j : Journal) (w : World) : Type 0 where
+pub record AllIsKnown (t : Table) (few : Told) (source : Source) (j : Journal) (w : World) : Type 0 where
   pub tasks : (n : ℕ) → has_ended n j ≡ false → KnowsRest t few source j n (w.tasks n)
   pub homes : (o : ℕ) → MembersBy (KnowsSlot t few) (Object o) (w.homes o)
   pub comes : (n : ℕ) (s : State) (c : Comes source j w n s) →
@@ -63,7 +64,7 @@ pub record AllIsKnown (t : Table) (few : Ty → ℕ → Bool) (source : Source) 
 -- so it is in each run of a program that breaks no rule, as long as all that was asked so far fits
 abbrev pub LawKnownRuns : Type 0
 LawKnownRuns =
-    (p : Program) → IsFormed p → breaks_of p ≡ [] → (few : Ty → ℕ → Bool) →
+    (p : Program) → IsFormed p → breaks_of p ≡ [] → (few : Told) →
     (input : List ℕ) (opts : Options) → InRange opts → (j : Journal) (w : World) (r : Runs (source_of p) input opts j w) →
     RunFits (source_of p) input opts j w r → is_over j ≡ false → PassesBelow few opts j →
     RunMeets (Meets (table_of p) few) (source_of p) input opts j w r →

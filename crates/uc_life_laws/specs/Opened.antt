@@ -7,7 +7,7 @@ use Rattle.uc_machine.specs.Pieces.{Slot, Value, Place, Todo, Rest, State}
 use Rattle.uc_typing.specs.Typing.{Ty, Cell, Obj, Row, Table, CleansAt}
 use Rattle.uc_typing.specs.States.{Typed}
 use Rattle.uc_value_laws.specs.There.{IsThere}
-use Rattle.uc_life_laws.specs.Things.{IsUnbound, Holds}
+use Rattle.uc_life_laws.specs.Things.{Told, IsUnbound, Holds}
 use Rattle.uc_life_laws.specs.LifeStates.{frame_at, Outwards, Opens}
 
 -- any number
@@ -26,6 +26,6 @@ pub record LawOpens : Type 0 where
   pub opens : (t : Table) (s : State) → Typed t [] s → (c : CleanUp) (rest : Stmts) (todo : List Todo) →
       s.run.control ≡ Rest (Scoped c rest) ∷ todo → IsThere (frame_at s.run.frame s.env.frames) c →
       ObjectsHold t c todo s → Opens t any s
-  pub unbound : (t : Table) (few : Ty → ℕ → Bool) (s : State) (c : CleanUp) (todo : List Todo) (w : Value) (a : Ty) →
+  pub unbound : (t : Table) (few : Told) (s : State) (c : CleanUp) (todo : List Todo) (w : Value) (a : Ty) →
       IsUnbound t a →
       Holds t few s.env.exec (Outwards t few s.env.exec s.run.frame s.run.this s.callers c todo) (Frame s.env.exec s.run.frame) (frame_at s.run.frame s.env.frames) w a

@@ -1,5 +1,5 @@
 -- What an execution knows: the things that are still to be cleaned up, each by its place and its type, and all that lies within them.
-use Rattle.std.specs.Prelude.{◌≡◌, ℕ, ◌≤◌, ◌<◌, ◌⊎◌, Bool, true, List, [], ◌∷◌, slice_index_or}
+use Rattle.std.specs.Prelude.{Option, Some, None, ◌≡◌, ℕ, ◌≤◌, ◌<◌, ◌⊎◌, Bool, true, List, [], ◌∷◌, slice_index_or}
 use Rattle.uc_tree.specs.Source.{Shape, Binding, Variable, OfObject, OwnField, CleanUp}
 use Rattle.uc_machine.specs.declared.exec.Exec.{Exec}
 use Rattle.uc_machine.specs.declared.exec.Owner.{Owner}
@@ -61,21 +61,34 @@ module _ (P Q : CleanUp → Value → Ty → Type 0) where
   InTodo [] w a = ⊥
   InTodo (p ∷ todo) w a = Marks (sort p) w a (InTodo todo w a)
 
--- of an execution of this name, the newest activation first
-module _ (P Q : Owner → Value → CleanUp → Value → Ty → Type 0) (n : Exec) where
+-- what is told of a run: which numbers what is of a type may have; what each place holds, if that is told; and what an execution has at hand of
+-- what lies outside it
+pub record Told : Type 0 where
+  pub few : Ty → ℕ → Bool
+  pub memory : Option (Value → Value)
+  pub base : Exec → Value → Ty → Bool
+
+-- of an execution of this name, the newest activation first, and behind all of them what it has of others
+module _ (P Q : Owner → Value → CleanUp → Value → Ty → Type 0) (B : Value → Ty → Type 0) (n : Exec) where
   abbrev pub InStack : List Active → Value → Ty → Type 0
-  InStack [] w a = ⊥
+  InStack [] w a = B w a
   InStack (c ∷ older) w a = InTodo (P (Frame n c.frame) c.this) (Q (Frame n c.frame) c.this) c.control w a ⊎ InStack older w a
 
--- all things of an execution; those that are variables, and those that are fields of objects at hand
-abbrev pub Things : Table → Exec → List Active → Value → Ty → Type 0
-Things t n cs w a = InStack (IsFor t) (AtField t) n cs w a
+abbrev pub Base : Told → Exec → Value → Ty → Type 0
+Base told n w a = told.base n w a ≡ true
+
+abbrev pub NoBase : Value → Ty → Type 0
+NoBase w a = ⊥
+
+-- all things of an execution; those that are variables; and those that are fields of objects at hand, or others'
+abbrev pub Things : Table → Told → Exec → List Active → Value → Ty → Type 0
+Things t told n cs w a = InStack (IsFor t) (AtField t) (Base told n) n cs w a
 
 abbrev pub Variables : Table → Exec → List Active → Value → Ty → Type 0
-Variables t n cs w a = InStack (AtVariable t) Nowhere n cs w a
+Variables t n cs w a = InStack (AtVariable t) Nowhere NoBase n cs w a
 
-abbrev pub OwnFields : Table → Exec → List Active → Value → Ty → Type 0
-OwnFields t n cs w a = InStack (AtField t) (AtField t) n cs w a
+abbrev pub OwnFields : Table → Told → Exec → List Active → Value → Ty → Type 0
+OwnFields t told n cs w a = InStack (AtField t) (AtField t) (Base told n) n cs w a
 
 -- a binding to a place or to an object
 abbrev pub IsReference : Ty → Type 0
@@ -104,13 +117,17 @@ IsTracked t Pro = ⊥
 
 -- what is known
 
--- `few a o`: what is of the type a may have the number o
-module _ (t : Table) (few : Ty → ℕ → Bool) (n : Exec) where
+-- what has this number is at hand, or a binding within what is at hand holds it, where it is told what places hold
+abbrev pub HeldBy : Table → Option (Value → Value) → (Value → Ty → Type 0) → Ty → ℕ → Type 0
+HeldBy t None K b o = Unit {0}
+HeldBy t (Some M) K b o = K (Object o) b ⊎ ((w : Value) × (a : Ty) × (v : Value) × K w a × Within t w a v (Cell b) × (M v ≡ Object o))
+
+module _ (t : Table) (few : Told) (n : Exec) where
   abbrev pub IsFew : Ty → Value → Type 0
   IsFew a (Number z) = Unit {0}
   IsFew a (Place o p) = Unit {0}
   IsFew a (Running x) = Unit {0}
-  IsFew a (Object o) = few a o ≡ true
+  IsFew a (Object o) = few.few a o ≡ true
   IsFew a Nothing = Unit {0}
 
   -- a place in the execution's own frames lies within a thing that is known
@@ -120,7 +137,7 @@ module _ (t : Table) (few : Ty → ℕ → Bool) (n : Exec) where
       (w : Value) × (a : Ty) × K w a × Within t w a (Place (Frame x d) p) b
   LiesIn K b (Place (Fields o) p) = Unit {0}
   LiesIn K b (Running x) = Unit {0}
-  LiesIn K b (Object o) = Unit {0}
+  LiesIn K b (Object o) = HeldBy t few.memory K b o
   LiesIn K b Nothing = Unit {0}
 
   -- it is of its type, a number is such, and a place lies in what is known. Of what is in the frames of other executions or in mutex
