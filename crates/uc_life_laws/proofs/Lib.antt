@@ -23,3 +23,4 @@ pub mod Spawning
 pub mod NewNumbers
 pub mod KnownWorlds
 pub mod NamedAsks
+pub mod Under
