@@ -1,15 +1,16 @@
 -- All stays known where places hold other things than before, but for the objects that bindings at hand hold.
-use Rattle.std.proofs.Common.{◌≡◌, ℕ, inl, inr, Bool, List, [], ◌∷◌, Option, Some, None}
+use Rattle.std.proofs.Common.{◌≡◌, ℕ, inl, inr, Bool, List, [], ◌∷◌, ⊎_elim, ◌⊎◌, length, Option, Some, None}
 use Rattle.uc_machine.specs.declared.exec.Exec.{Exec}
 use Rattle.uc_machine.specs.declared.exec.Home.{Home}
 use Rattle.uc_machine.specs.declared.exec.Owner.TheVariants.{Frame, Fields}
 use Rattle.uc_machine.specs.declared.exec.Stage.{Stage}
 use Rattle.uc_machine.specs.declared.exec.Stage.TheVariants.{Fresh, Started, Ended}
 use Rattle.uc_machine.specs.Executions.{others}
-use Rattle.uc_machine.specs.Pieces.{Value, Number, Place, Running, Object, Nothing, Todo, Active, State, Env, Members}
+use Rattle.uc_machine.specs.Pieces as piece
+use Rattle.uc_machine.specs.Pieces.{Sort, Value, Number, Place, Running, Object, Nothing, Todo, Active, State, Env, Members}
 use Rattle.uc_typing.specs.Typing.{Ty, Num, Cell, Obj, Raw, Row, Clu, Pro, Sig, Table, object_ty}
-use Rattle.uc_life_laws.specs.Things.{Told, HeldBy, Within, IsFew, LiesIn, IsKnown, Known}
-use Rattle.uc_life_laws.specs.LifeStates.{SlotBy, ParkedBy, HandBy, EnvBy}
+use Rattle.uc_life_laws.specs.Things.{Told, HeldBy, Within, IsFew, LiesIn, IsKnown, Known, AtField, IsFor, Marks, InTodo, Things}
+use Rattle.uc_life_laws.specs.LifeStates.{SlotBy, ParkedBy, HandBy, EnvBy, frame_at, Outwards, MarkHolds, AllHold, LifeStack, LifeEx, LifeEnv, LifeState}
 use Rattle.uc_life_laws.specs.Knowing.{AtHand, KnownAll, KnownParams, KnownFrames, KnownThis, Knows, KnowsWaits, KnowsEx, KnowsBy, KnowsSlot, KnowsEnv, KnowsState}
 use Rattle.uc_life_laws.proofs.Knowns.{Less, older_hand}
 use Rattle.uc_life_laws.proofs.Parked.{Ex}
@@ -140,4 +141,52 @@ module _ (t : Table) (few : Ty → ℕ → Bool) (base : Exec → Value → Ty �
     run = knows_under s.env.exec h.sigs given s.callers s.run (k h.sigs) h.run;
     callers = waits_under s.env.exec (others h.sigs) s.callers (kept_older s.env.exec h.sigs s.run s.callers (k h.sigs)) h.callers;
     env = record { house = parked_under _ s.env.house.parked e.house; hand = hand_under s.env.hand e.hand };
+  }
+
+  -- what is in scope holds what is known, as before
+  module _ (n : Exec) where
+    module _ (f : ℕ) (this : Value) (older : List Active) (vs : List Value) where
+      -- a mark, before what lies outwards of it
+      mark_under : (s : Sort) (todo : List Todo) → Kept (λ w a. Marks (IsFor t (Frame n f) this) (AtField t (Frame n f) this) s w a (InTodo (IsFor t (Frame n f) this) (AtField t (Frame n f) this) todo w a) ⊎ Things t before n older w a) → (Kept (λ w a. InTodo (IsFor t (Frame n f) this) (AtField t (Frame n f) this) todo w a ⊎ Things t before n older w a) → AllHold t before n vs f this older todo → AllHold t behind n vs f this older todo) → MarkHolds t before n vs f this older s todo (AllHold t before n vs f this older todo) → MarkHolds t behind n vs f this older s todo (AllHold t behind n vs f this older todo)
+      mark_under (piece.IsClean c) todo k next h =
+          ((λ j a x p b y i. known_under n (Outwards t before n f this older c todo) k b _ (h.0 j a x p b y i)), next (λ w a m. k w a (⊎_elim (λ x. inl (inr x)) (λ x. inr x) m)) h.1)
+      mark_under (piece.IsPart c) todo k next h = next (λ w a m. k w a (⊎_elim (λ x. inl (inr x)) (λ x. inr x) m)) h
+      mark_under piece.Simple todo k next h = next k h
+      mark_under (piece.IsLoop o e s b) todo k next h = next k h
+      mark_under piece.IsWhole todo k next h = next k h
+      mark_under (piece.IsFill m b d) todo k next h = next k h
+      mark_under (piece.IsSweep e) todo k next h = next k h
+      mark_under (piece.IsGuard hs) todo k next h = next k h
+      mark_under piece.IsFinish todo k next h = next k h
+      mark_under piece.IsFinishCoroutine todo k next h = next k h
+
+      holds_under : (todo : List Todo) → Kept (λ w a. InTodo (IsFor t (Frame n f) this) (AtField t (Frame n f) this) todo w a ⊎ Things t before n older w a) → AllHold t before n vs f this older todo → AllHold t behind n vs f this older todo
+      holds_under [] k h = tt
+      holds_under (p ∷ todo) k h = mark_under (piece.sort p) todo k (holds_under todo) h
+
+    stack_under : (fs : List (List Value)) (cs : List Active) → Kept (Things t before n cs) → LifeStack t before n fs cs → LifeStack t behind n fs cs
+    stack_under fs [] k h = tt
+    stack_under fs (c ∷ older) k h =
+        (h.0, holds_under c.frame c.this older (frame_at c.frame fs) c.control k h.1, stack_under fs older (λ w a x. k w a (inr x)) h.2)
+
+  abbrev pub HoldsSlot : Exec → Ex → Type 0
+  HoldsSlot n x = LifeEx t before n x × Kept (Things t before n (x.run ∷ x.callers))
+
+  life_slot : (n : Exec) (o : Option Ex) → SlotBy HoldsSlot n o → SlotBy (LifeEx t behind) n o
+  life_slot n None h = tt
+  life_slot n (Some x) h = record { frames = h.0.frames; stack = stack_under n x.frames (x.run ∷ x.callers) h.1 h.0.stack }
+
+  life_parked : (h : Home) (ps : List (ℕ × Option Ex)) → ParkedBy HoldsSlot h ps → ParkedBy (LifeEx t behind) h ps
+  life_parked h [] k = tt
+  life_parked h (p ∷ ps) k = (life_slot (record { home = h; serial = p.0 }) p.1 k.0, life_parked h ps k.1)
+
+  life_hand : (ps : List (ℕ × Members)) → HandBy HoldsSlot ps → HandBy (LifeEx t behind) ps
+  life_hand [] k = tt
+  life_hand (p ∷ ps) k = (life_parked _ p.1.parked k.0, life_hand ps k.1)
+
+  pub life_under : (s : State) → Kept (Things t before s.env.exec (s.run ∷ s.callers)) → EnvBy HoldsSlot s.env → LifeState t before s → LifeState t behind s
+  life_under s k e h = record {
+    frames = h.frames;
+    stack = stack_under s.env.exec s.env.frames (s.run ∷ s.callers) k h.stack;
+    env = record { house = life_parked _ s.env.house.parked e.house; hand = life_hand s.env.hand e.hand };
   }
