@@ -13,7 +13,7 @@ use uc_tree::limits::DESTRUCTOR;
 use uc_tree::site::{Members, Site};
 
 /// What becomes of an accept.
-#[derive(Clone, Copy, PartialEq, Eq, Debug)]
+#[derive(Clone, Copy)]
 pub enum Accepted {
     /// Nobody calls a listed member: the acceptor is on the stack, and its accept is open.
     Opened,

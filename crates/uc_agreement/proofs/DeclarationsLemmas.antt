@@ -29,7 +29,7 @@ module _ (t : Table) (g : Sig) (x : Name) (sc : List Name) where
       by_name (Own i) h = h
       by_name Kept h = h
 
-  variable_wider : (k : ℕ) (a : Ty) → IsVariable g sc k a → IsVariable g (x ∷ sc) k a
+  variable_wider : (k : ℕ) (a : Ty) → IsVariable t g sc k a → IsVariable t g (x ∷ sc) k a
   variable_wider k a (inl h) = inl (scope_wider k a h)
   variable_wider k a (inr h) = inr h
 
@@ -110,7 +110,7 @@ module _ (t : Table) (g : Sig) (sc : List Name) (refers : t.refers ≡ true) (p 
   variable k s e c r l h =
       subst (λ b. Agrees t g sc p (entity.Place s) (tree.known_by b k)) (sym (has_number k s e l)) (variable_by (is_numbered s) k s e c r l refl h)
 
-  array : (k : LocalVariable) (s : Sort) (n : ℕ) → sort_of p k.ty.base ≡ Some s → is_condition s ≡ false → k.ty.by_ref ≡ false → k.ty.len ≡ Some n → IsVariable g sc k.cell (Row n (place_ty s)) → IsPlaced t (place_ty s) → Agrees t g sc p (entity.Array s n) (known_meant p k)
+  array : (k : LocalVariable) (s : Sort) (n : ℕ) → sort_of p k.ty.base ≡ Some s → is_condition s ≡ false → k.ty.by_ref ≡ false → k.ty.len ≡ Some n → IsVariable t g sc k.cell (Row n (place_ty s)) → IsPlaced t (place_ty s) → Agrees t g sc p (entity.Array s n) (known_meant p k)
   array k s n e c r l h w =
       let b : tree.has_number p k.ty ≡ false = ap (λ (l : Option ℕ). not (is_some l) && is_made_numbered (making p k.ty.base)) l in
       subst (λ b. Agrees t g sc p (entity.Array s n) (tree.known_by b k)) (sym b) (subst (λ (r : Bool). Agrees t g sc p (entity.Array s n) (if r then record { expr = Get k.cell; ty = k.ty; standing = AtPlace } else record { expr = Variable k.cell; ty = k.ty; standing = AtVariable k.cell })) (sym r) (subst (λ c. Yields t g sc (Variable k.cell) (row_ty c n s)) (sym c) (h, tt), subst (λ c. StandsBy t g c false (AtVariable k.cell)) (sym c) tt, subst (λ c. RowPlaced t c s) (sym c) w, (l, e)))

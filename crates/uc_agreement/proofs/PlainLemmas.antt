@@ -35,7 +35,7 @@ module _ (t : Table) (g : Sig) (sc : List Name) where
 
   opened_stood : (env : Env) (class : Option ℕ) (routine : ℕ) (known : List LocalVariable) → Stood t g sc env class routine known → Stood t g sc (opened env) class routine known
   opened_stood env class routine known h = record {
-    tied = record { refers = h.tied.refers; classes = h.tied.classes; tasks = h.tied.tasks; inside = h.tied.inside; names = h.tied.names; outer = h.tied.outer; member = h.tied.member };
+    tied = record { refers = h.tied.refers; classes = h.tied.classes; tasks = h.tied.tasks; shapes = h.tied.shapes; inside = h.tied.inside; names = h.tied.names; outer = h.tied.outer; member = h.tied.member };
     known = record { names = h.known.names; members = h.known.members; results = h.known.results };
     returning = h.returning;
     switching = h.switching;
@@ -44,7 +44,7 @@ module _ (t : Table) (g : Sig) (sc : List Name) where
 
   joined_stood : (b : Bool) (env : Env) (class : Option ℕ) (routine : ℕ) (known : List LocalVariable) → Stood t g sc env class routine known → Stood t g sc (with_around env (with_joins b env.around)) class routine known
   joined_stood b env class routine known h = record {
-    tied = record { refers = h.tied.refers; classes = h.tied.classes; tasks = h.tied.tasks; inside = h.tied.inside; names = h.tied.names; outer = h.tied.outer; member = h.tied.member };
+    tied = record { refers = h.tied.refers; classes = h.tied.classes; tasks = h.tied.tasks; shapes = h.tied.shapes; inside = h.tied.inside; names = h.tied.names; outer = h.tied.outer; member = h.tied.member };
     known = record { names = h.known.names; members = h.known.members; results = h.known.results };
     returning = h.returning;
     switching = h.switching;
@@ -53,7 +53,7 @@ module _ (t : Table) (g : Sig) (sc : List Name) where
 
   looped_stood : (env : Env) (class : Option ℕ) (routine : ℕ) (known : List LocalVariable) → Stood t g sc env class routine known → Stood t g sc (looped env) class routine known
   looped_stood env class routine known h = record {
-    tied = record { refers = h.tied.refers; classes = h.tied.classes; tasks = h.tied.tasks; inside = h.tied.inside; names = h.tied.names; outer = h.tied.outer; member = h.tied.member };
+    tied = record { refers = h.tied.refers; classes = h.tied.classes; tasks = h.tied.tasks; shapes = h.tied.shapes; inside = h.tied.inside; names = h.tied.names; outer = h.tied.outer; member = h.tied.member };
     known = record { names = h.known.names; members = h.known.members; results = h.known.results };
     returning = h.returning;
     switching = h.switching;
@@ -62,7 +62,7 @@ module _ (t : Table) (g : Sig) (sc : List Name) where
 
   handled_stood : (env : Env) (class : Option ℕ) (routine : ℕ) (known : List LocalVariable) → Stood t g sc env class routine known → Stood t g sc (handling env) class routine known
   handled_stood env class routine known h = record {
-    tied = record { refers = h.tied.refers; classes = h.tied.classes; tasks = h.tied.tasks; inside = h.tied.inside; names = h.tied.names; outer = h.tied.outer; member = h.tied.member };
+    tied = record { refers = h.tied.refers; classes = h.tied.classes; tasks = h.tied.tasks; shapes = h.tied.shapes; inside = h.tied.inside; names = h.tied.names; outer = h.tied.outer; member = h.tied.member };
     known = record { names = h.known.names; members = h.known.members; results = h.known.results };
     returning = h.returning;
     switching = h.switching;

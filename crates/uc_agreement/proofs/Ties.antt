@@ -53,8 +53,8 @@ use Rattle.uc_rules.specs.Visits.{AtUse, AtMember, AtCall, visits, part_visits, 
 use Rattle.uc_rules.specs.Breaks.{breaks_at}
 use Rattle.uc_agreement.specs.Unbroken.{Unbroken}
 use Rattle.uc_agreement.proofs.UnbrokenLemmas.{none_right, first, second, one, holds}
-use Rattle.uc_typing.specs.Typing.{Num, Cell, Obj, Row, Name, Inward, Apart, Enters, Makes, Helps, Main, Sig, Table, object_ty, IsPlaced, IsInside, IsOpen, MayCall, InMutex, Yields, GiveAll}
-use Rattle.uc_agreement.specs.Agreement.{is_numbered, found_ty, place_by, sort_ty, param_ty, IsLike, AreLike, IsAtPlace, IsAsCondition, IsAsValue, StandsBy, RowPlaced, row_ty, call_of, context, ValuedBy, IsCalled, IsMethod, IsReached, IsMember, Agrees, AgreesIf, Alike, Tied, LawAgrees}
+use Rattle.uc_typing.specs.Typing.{Num, Cell, Obj, Row, Name, Inward, Apart, Enters, Makes, Helps, Main, Sig, Table, object_ty, IsPlaced, IsKept, IsInside, IsOpen, MayCall, InMutex, Yields, GiveAll}
+use Rattle.uc_agreement.specs.Agreement.{is_numbered, found_ty, place_by, place_ty, sort_ty, param_ty, IsLike, AreLike, IsAtPlace, IsAsCondition, IsAsValue, StandsBy, RowPlaced, row_ty, call_of, context, ValuedBy, IsCalled, IsMethod, IsReached, IsMember, Agrees, AgreesIf, Alike, Tied, LawAgrees}
 
 -- options and tests
 
@@ -338,11 +338,11 @@ module _ (t : Table) (g : Sig) (sc : List Name) (p : Program) (refers : t.refers
   element_condition (AsCondition k) n m i h e v = (((refl, v), λ c. false_true c), h, (refl, e))
   element_condition _ n m i h e v = absurd h
 
-  element_by : (b : Bool) (s : Sort) (n : ℕ) (a : tree.Meant) (i : Expr) → is_condition s ≡ false → is_numbered s ≡ b → IsPlaced t (place_by b (found_ty s)) → Yields t g sc a.expr (Row n (place_by b (found_ty s))) → sort_of p a.ty.base ≡ Some s → Yields t g sc i Num → Agrees t g sc p (entity.Place s) (tree.place_or_number b (Element n (base_shape p a.ty.base) a.expr i) (tree.one_of a.ty))
-  element_by true s n a i c b w y e v =
-      (((inr refers, ((tt, y, v))), λ d. false_true (sym (scalar_unnumbered s d) ∙ b)), subst (λ n. StandsBy t g (is_condition s) n AsNumber) (sym b) (subst (λ c. StandsBy t g c true AsNumber) (sym c) tt), (refl, e))
-  element_by false s n a i c b w y e v =
-      ((((w, y, v)), λ d. (inl refl, subst (Yields t g sc (Element n (base_shape p a.ty.base) a.expr i)) (scalar_cell s d) (w, y, v))), subst (λ n. StandsBy t g (is_condition s) n AtPlace) (sym b) (subst (λ c. StandsBy t g c false AtPlace) (sym c) tt), (refl, e))
+  element_by : (b : Bool) (s : Sort) (n : ℕ) (a : tree.Meant) (i : Expr) → is_condition s ≡ false → is_numbered s ≡ b → IsPlaced t (place_by b (found_ty s)) → Yields t g sc a.expr (Row n (place_by b (found_ty s))) → sort_of p a.ty.base ≡ Some s → Yields t g sc i Num → IsKept t (base_shape p a.ty.base) (place_by b (found_ty s)) → Agrees t g sc p (entity.Place s) (tree.place_or_number b (Element n (base_shape p a.ty.base) a.expr i) (tree.one_of a.ty))
+  element_by true s n a i c b w y e v z =
+      (((inr refers, ((tt, y, v, z))), λ d. false_true (sym (scalar_unnumbered s d) ∙ b)), subst (λ n. StandsBy t g (is_condition s) n AsNumber) (sym b) (subst (λ c. StandsBy t g c true AsNumber) (sym c) tt), (refl, e))
+  element_by false s n a i c b w y e v z =
+      ((((w, y, v, z)), λ d. (inl refl, subst (Yields t g sc (Element n (base_shape p a.ty.base) a.expr i)) (scalar_cell s d) (w, y, v, z))), subst (λ n. StandsBy t g (is_condition s) n AtPlace) (sym b) (subst (λ c. StandsBy t g c false AtPlace) (sym c) tt), (refl, e))
 
   element_place : (st : Standing) (s : Sort) (n : ℕ) (m : tree.Meant) (i : Expr) → IsAtPlace st → Agrees t g sc p (entity.Place s) (tree.place_or_number (is_made_numbered (making p m.ty.base)) (Element n (base_shape p m.ty.base) m.expr i) (tree.one_of m.ty)) → Agrees t g sc p (entity.Place s) (tree.element_in p st n m i)
   element_place (AtVariable k) s n m i h a = a
@@ -350,27 +350,30 @@ module _ (t : Table) (g : Sig) (sc : List Name) (p : Program) (refers : t.refers
   element_place AtPlace s n m i h a = a
   element_place _ s n m i h a = absurd h
 
-  element_fine : (c : Bool) (s : Sort) (n : ℕ) (m : tree.Meant) (i : Expr) → is_condition s ≡ c → (c ≡ true → s ≡ sort.Condition) → StandsBy t g c false m.standing → RowPlaced t c s → Yields t g sc m.expr (row_ty c n s) → sort_of p m.ty.base ≡ Some s → Yields t g sc i Num → Agrees t g sc p (entity.Place s) (tree.element_in p m.standing n m i)
-  element_fine true s n m i c f st w y e v =
+  abbrev AreKept : Type 0
+  AreKept = (b : Base) (s : Sort) → sort_of p b ≡ Some s → IsKept t (base_shape p b) (place_ty s)
+
+  element_fine : AreKept → (c : Bool) (s : Sort) (n : ℕ) (m : tree.Meant) (i : Expr) → is_condition s ≡ c → (c ≡ true → s ≡ sort.Condition) → StandsBy t g c false m.standing → RowPlaced t c s → Yields t g sc m.expr (row_ty c n s) → sort_of p m.ty.base ≡ Some s → Yields t g sc i Num → Agrees t g sc p (entity.Place s) (tree.element_in p m.standing n m i)
+  element_fine kept true s n m i c f st w y e v =
       subst (λ s. Agrees t g sc p (entity.Place s) (tree.element_in p m.standing n m i)) (sym (f refl)) (element_condition m.standing n m i st (e ∙ ap (λ s. Some s) (f refl)) v)
-  element_fine false s n m i c f st w y e v =
-      element_place m.standing s n m i st (subst (λ b. Agrees t g sc p (entity.Place s) (tree.place_or_number b (Element n (base_shape p m.ty.base) m.expr i) (tree.one_of m.ty))) (sym (numbered_is p m.ty.base s e)) (element_by (is_numbered s) s n m i c refl w y e v))
+  element_fine kept false s n m i c f st w y e v =
+      element_place m.standing s n m i st (subst (λ b. Agrees t g sc p (entity.Place s) (tree.place_or_number b (Element n (base_shape p m.ty.base) m.expr i) (tree.one_of m.ty))) (sym (numbered_is p m.ty.base s e)) (element_by (is_numbered s) s n m i c refl w y e v (kept m.ty.base s e)))
 
   only_condition : (s : Sort) → is_condition s ≡ true → s ≡ sort.Condition
   only_condition sort.Condition h = refl
   only_condition _ h = false_true h
 
-  element_ok : (v w : Entity) (m i : tree.Meant) → rules.element v ≡ Some w → Agrees t g sc p v m → ValuedBy t g sc i.standing i.expr → Agrees t g sc p w (tree.element_meant p m i)
-  element_ok (entity.Array s n) w m i h a v =
-      subst (λ l. Agrees t g sc p w (tree.element_by p l m (tree.value_of i))) (sym a.3.0) (subst (λ w. Agrees t g sc p w (tree.element_by p (Some n) m (tree.value_of i))) (some_same h) (element_fine (is_condition s) s n m (tree.value_of i) refl (only_condition s) a.1 a.2 a.0 a.3.1 v))
-  element_ok _ w m i h a v = none_some h
+  element_ok : AreKept → (v w : Entity) (m i : tree.Meant) → rules.element v ≡ Some w → Agrees t g sc p v m → ValuedBy t g sc i.standing i.expr → Agrees t g sc p w (tree.element_meant p m i)
+  element_ok kept (entity.Array s n) w m i h a v =
+      subst (λ l. Agrees t g sc p w (tree.element_by p l m (tree.value_of i))) (sym a.3.0) (subst (λ w. Agrees t g sc p w (tree.element_by p (Some n) m (tree.value_of i))) (some_same h) (element_fine kept (is_condition s) s n m (tree.value_of i) refl (only_condition s) a.1 a.2 a.0 a.3.1 v))
+  element_ok kept _ w m i h a v = none_some h
 
-  index_ok : (o u : Option Entity) (m i : tree.Meant) → AgreesIf t g sc p o m → AgreesIf t g sc p u i → AgreesIf t g sc p (of_index o u) (tree.element_meant p m i)
-  index_ok None u m i f k w h = none_some h
-  index_ok (Some v) None m i f k w h = none_some h
-  index_ok (Some v) (Some x) m i f k w h =
+  index_ok : AreKept → (o u : Option Entity) (m i : tree.Meant) → AgreesIf t g sc p o m → AgreesIf t g sc p u i → AgreesIf t g sc p (of_index o u) (tree.element_meant p m i)
+  index_ok kept None u m i f k w h = none_some h
+  index_ok kept (Some v) None m i f k w h = none_some h
+  index_ok kept (Some v) (Some x) m i f k w h =
       let j = if_some (is_scalar x) (rules.element v) w h in
-      element_ok v w m i j.1 (f v refl) (scalar x i j.0 (k x refl))
+      element_ok kept v w m i j.1 (f v refl) (scalar x i j.0 (k x refl))
 
   -- arguments
 
@@ -611,7 +614,7 @@ module _ (t : Table) (g : Sig) (sc : List Name) (env : Env) (class : Option ℕ)
     part_agrees : (part : expr.Part) (called : Bool) (o : Option Entity) (m : tree.Meant) → AgreesIf t g sc env.program o m → Unbroken (part_visits env part called o) → AgreesIf t g sc env.program (part_entity env part called o) (tree.part_meant c part m)
     part_agrees (expr.Field sign name) called None m ih u w h = none_some h
     part_agrees (expr.Field sign name) called (Some v) m ih u w h = part_field sign called name v m (one (AtMember env sign called name (Some v)) u) (ih v refl) w h
-    part_agrees (expr.Index sign index) called o m ih u w h = index_ok t g sc env.program tied.refers o (entity_of env index) m (meant c index) ih (agrees index (first (visits env index) _ u)) w h
+    part_agrees (expr.Index sign index) called o m ih u w h = index_ok t g sc env.program tied.refers tied.shapes o (entity_of env index) m (meant c index) ih (agrees index (first (visits env index) _ u)) w h
     part_agrees (expr.Call sign args) called None m ih u w h = none_some h
     part_agrees (expr.Call sign args) called (Some v) m ih u w h =
         let i = if_some (are_sound env args (target.Call v) 0 && rules.may_call env.program (count args) v) (given env.program v) w h in

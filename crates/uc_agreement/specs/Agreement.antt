@@ -7,7 +7,7 @@ use Rattle.uc_tree.specs.declared.kinds.Param.{Param}
 use Rattle.uc_tree.specs.declared.kinds.LocalVariable.{LocalVariable}
 use Rattle.uc_tree.specs.declared.kinds.Ty.{Ty as Declared}
 use Rattle.uc_tree.specs.Numbering.{is_mutex}
-use Rattle.uc_tree.specs.Objects.{is_task}
+use Rattle.uc_tree.specs.Objects.{is_task, base_shape}
 use Rattle.uc_tree.specs.Programs.{Program}
 use Rattle.uc_tree.specs.Expressions as expr
 use Rattle.uc_tree.specs.Source.{Expr, OfObject, This}
@@ -28,7 +28,7 @@ use Rattle.uc_rules.specs.Entities.{meant_entity, object_member, open_entity, is
 use Rattle.uc_rules.specs.OwnerBreaks.{is_mutex_field_of, names_condition}
 use Rattle.uc_rules.specs.Visits.{visits}
 use Rattle.uc_agreement.specs.Unbroken.{Unbroken}
-use Rattle.uc_typing.specs.Typing.{Ty, Num, Cell, Obj, Row, Clu, Pro, Name, Inward, Helps, Sig, Table, IsPlaced, IsRoutine, IsInside, IsOpen, InMutex, Yields, Fine}
+use Rattle.uc_typing.specs.Typing.{Ty, Num, Cell, Obj, Row, Clu, Pro, Name, Inward, Helps, Sig, Table, IsPlaced, IsKept, IsRoutine, IsInside, IsOpen, InMutex, Yields, Fine}
 
 -- whether what is of a sort is known by its number
 abbrev pub is_numbered : Sort → Bool
@@ -213,6 +213,9 @@ module _ (t : Table) (g : Sig) (sc : List Name) where
         t.mutex c ≡ is_mutex k
     pub tasks : (b : Base) (c : ℕ) (k : Kind) → sort_of env.program b ≡ Some (sort.Object c k) →
         t.tasks c ≡ is_task k
+    -- an element of an array is kept as the class of the base is
+    pub shapes : (b : Base) (s : Sort) → sort_of env.program b ≡ Some s →
+        IsKept t (base_shape env.program b) (place_ty s)
     pub inside : env.around.inner ≡ true → IsInside g.inward
     pub names : Alike env.program env.names known
     pub outer : (name : List ℕ) → local_named env.names name ≡ None →

@@ -14,13 +14,13 @@ use Rattle.uc_agreement.specs.Agreement.{is_numbered, found_ty, place_ty, Agrees
 -- a variable of a sort stands at a cell: what is known by its number is in scope there
 abbrev pub StoodBy : Table → Sig → List Name → Bool → ℕ → Ty → Type 0
 StoodBy t g sc true cell a = InScope sc cell (Cell a)
-StoodBy t g sc false cell a = IsVariable g sc cell a × IsPlaced t a
+StoodBy t g sc false cell a = IsVariable t g sc cell a × IsPlaced t a
 
 module _ (t : Table) (g : Sig) (sc : List Name) where
   pub record DeclaredAgree (p : Program) : Type 0 where
     -- a variable, an array, and a parameter that is a reference
     pub variable : (k : LocalVariable) (s : Sort) → sort_of p k.ty.base ≡ Some s → is_condition s ≡ false → k.ty.by_ref ≡ false → k.ty.len ≡ None → StoodBy t g sc (is_numbered s) k.cell (found_ty s) → Agrees t g sc p (entity.Place s) (known_meant p k)
-    pub array : (k : LocalVariable) (s : Sort) (n : ℕ) → sort_of p k.ty.base ≡ Some s → is_condition s ≡ false → k.ty.by_ref ≡ false → k.ty.len ≡ Some n → IsVariable g sc k.cell (Row n (place_ty s)) → IsPlaced t (place_ty s) → Agrees t g sc p (entity.Array s n) (known_meant p k)
+    pub array : (k : LocalVariable) (s : Sort) (n : ℕ) → sort_of p k.ty.base ≡ Some s → is_condition s ≡ false → k.ty.by_ref ≡ false → k.ty.len ≡ Some n → IsVariable t g sc k.cell (Row n (place_ty s)) → IsPlaced t (place_ty s) → Agrees t g sc p (entity.Array s n) (known_meant p k)
     pub reference : (k : LocalVariable) (s : Sort) → sort_of p k.ty.base ≡ Some s → is_condition s ≡ false → k.ty.by_ref ≡ true → k.ty.len ≡ None → IsParam g.params k.cell (found_ty s) → k.cell ≤ LAST_ADDRESS → Agrees t g sc p (entity.Place s) (known_meant p k)
     -- one name more
     pub more : (ss : List LocalName) (ks : List LocalVariable) (s : LocalName) (k : LocalVariable) → s.name ≡ k.name → AgreesIf t g sc p s.meant.entity (known_meant p k) → Alike t g sc p ss ks → Alike t g sc p (ss ++ s ∷ []) (ks ++ k ∷ [])

@@ -1,6 +1,6 @@
 // The laws: each is a function whose contract is the law.
 
-ghost use Rattle.uc_binding_laws.specs.Aside.{LawOpens};
+ghost use Rattle.uc_binding_laws.specs.Addressed.{LawOpens};
 ghost use Rattle.uc_binding_laws.specs.BindingLaws.{LawBound, LawSteps};
 ghost use Rattle.uc_binding_laws.specs.BindingRuns.{LawRuns};
 ghost use Rattle.uc_binding_laws.specs.Taking.{LawTaken, LawTakenRuns};
@@ -40,9 +40,9 @@ pub fn law_taken_runs()
     ensures { LawTakenRuns }
 {}
 
-/// So where fields of the object at hand and executions of coroutines are bound aside of the variables
-/// that are declared and still to be bound, a variable of a mutex object or a processor holds an object
-/// behind the step that binds it: in such runs, and on the way to such a state.
+/// So where scopes open in frames whose cells all have addresses, a variable of a mutex object or a
+/// processor holds an object behind the step that binds it, and what is bound otherwise lies aside: in
+/// such runs, and on the way to such a state.
 pub fn law_opens()
     ensures { LawOpens }
 {}

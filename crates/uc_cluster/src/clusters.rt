@@ -13,7 +13,7 @@ use uc_table::Table;
 use uc_tree::limits::{CLUSTERS, PROCESSORS, TASKS};
 
 /// Why no task can go on.
-#[derive(Clone, Copy, PartialEq, Eq, Debug)]
+#[derive(Clone, Copy)]
 pub enum Stalled {
     /// A task runs, or is ready on a cluster with an open processor.
     No,

@@ -19,7 +19,7 @@ use uc_machine::exec::UnwindReason;
 
 /// What becomes of an activation that is unwound to its end: it was the last one; a return arrives that ends it; an event has escaped
 /// from a clean-up; or the one that waits is unwound in its turn.
-#[derive(Clone, Copy, PartialEq, Eq, Debug)]
+#[derive(Clone, Copy)]
 pub enum Left {
     Ended,
     Returned,

@@ -1,11 +1,12 @@
-// Switches between executions: each answers the fault, if it is one; then all stays as it is. Each public call is a private one with the
-// same two clauses, from which what it is in the source follows.
+// Switches between executions. Each but `switch_to` answers the fault, if it is one; then all stays as it is. Each of these public calls is a
+// private one with the same two clauses, from which what it is in the source follows.
 
 ghost use Rattle.std.specs.Prelude.{◌≡◌, Some, None, MatchOption};
+ghost use Rattle.uc_machine.specs.declared.exec.Stage.TheVariants.{Started};
 ghost use Rattle.uc_tree.specs.Source.{Source};
 ghost use Rattle.uc_machine.specs.Executions.{parked_at};
 ghost use Rattle.uc_machine.specs.Quiet.{State};
-ghost use Rattle.uc_machine.specs.Switches.{able as able_in, escape as escape_of, finish as finish_of, suspend as suspend_of, take_down as take_down_of, taken_down as taken_down_of, wake as wake_of, wake_one as wake_one_of};
+ghost use Rattle.uc_machine.specs.Switches.{able as able_in, escape as escape_of, finish as finish_of, suspend as suspend_of, switched, take_down as take_down_of, taken_down as taken_down_of, wake as wake_of, wake_one as wake_one_of};
 ghost use Rattle.uc_code.specs.Layout.{Laid};
 ghost use Rattle.uc_code.specs.declared.rows.MainOf.TheVariants as main_of;
 ghost use Rattle.uc_frames.specs.Machine.{own_exec, resumed};
@@ -16,6 +17,17 @@ ghost use Rattle.uc_coroutine.specs.Switching.{fault_in, state_in, left_by, Swit
 use uc_entry::fault::RunFault;
 use uc_frames::work::Work;
 use uc_machine::exec::{Exec, Stage, UnwindReason};
+
+/// The running execution stops where it is, and this one goes on, which may be activated: it is in hand, and its main has begun and not
+/// ended. Nothing else changes.
+pub fn switch_to(work: &mut Work, to: Exec)
+    requires able { (x : _) × (parked_at to work.old.env ≡ Some x) × (x.links.stage ≡ Started) }
+    ensures state { (x : _) → parked_at to work.old.env ≡ Some x →
+        work.new ≡ switched to x work.old }
+    ensures runs { work.new.env.exec ≡ to }
+{
+    work.activate(to);
+}
 
 /// The running execution resumes the one of the coroutine whose member runs. Answers the fault, if it is one; then all stays as it is.
 pub fn resume(work: &mut Work) -> Option<RunFault>
@@ -116,7 +128,8 @@ fn wake_one(work: &mut Work, to: Exec) -> Option<RunFault>
 // Who may be activated, if it may: one in hand that has begun and not ended.
 fn able(work: &Work, exec: Option<Exec>) -> Option<Exec>
     ensures { MatchOption result (able_in exec work.now.env ≡ None) (λ n. (x : _)
-        × (able_in exec work.now.env ≡ Some (n, x)) × (parked_at n work.now.env ≡ Some x)) }
+        × (able_in exec work.now.env ≡ Some (n, x)) × (parked_at n work.now.env ≡ Some x)
+        × (x.links.stage ≡ Started)) }
 {
     match exec {
         None => None,
@@ -140,7 +153,7 @@ fn yield_to_resumer(work: &mut Work) -> Option<RunFault>
     match able(work, work.resumer()) {
         None => Some(RunFault::SuspendWithoutResumer),
         Some(exec) => {
-            work.activate(exec);
+            switch_to(work, exec);
             None
         }
     }
@@ -158,7 +171,7 @@ fn end(work: &mut Work) -> Option<RunFault>
         None => Some(RunFault::SuspendWithoutResumer),
         Some(exec) => {
             work.end();
-            work.activate(exec);
+            switch_to(work, exec);
             None
         }
     }
@@ -228,7 +241,7 @@ fn go_back(work: &mut Work) -> Option<RunFault>
         None => Some(RunFault::SuspendWithoutResumer),
         Some(exec) => {
             work.end();
-            work.activate(exec);
+            switch_to(work, exec);
             None
         }
     }

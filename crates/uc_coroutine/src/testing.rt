@@ -22,7 +22,7 @@ use uc_machine::exec::UnwindReason;
 
 /// What becomes of a task's main that is unwound: it ends, as the last activation or for one that waits; nothing handles the event by which
 /// it is unwound; or it is held up in the task's own object.
-#[derive(Clone, Copy, PartialEq, Eq, Debug)]
+#[derive(Clone, Copy)]
 pub enum TaskMainEnd {
     Ended,
     Returned,

@@ -80,7 +80,7 @@ module _ (sites : List Site) (source : Source) (t : Table) (sound : Sound t sour
         object (src.Bind p e) a h = (expr p (typed.Cell a) h.0, expr e a h.1)
         object (src.MakeOn n r written p args) a h = (expr p _ h.1.1, exprs args (t.routine r).params h.2, takes sc args r h.2 h.1.3)
         object src.NewCluster a h = tt
-        object (src.NewProcessor e) a h = expr e h.1.0 h.1.1
+        object (src.NewProcessor e) a h = expr e typed.Clu h.1
         object (src.EndCluster e) a h = expr e typed.Clu h.1
         object (src.EndProcessor e) a h = expr e typed.Pro h.1
         object (src.ConditionAt k n e) a h = expr e typed.Num h.1

@@ -1,7 +1,7 @@
 // What a search for a handler finds.
 
 /// A handler: the activation in which it stands, by how many wait below it, and its row; or none.
-#[derive(Clone, Copy, PartialEq, Eq, Debug)]
+#[derive(Clone, Copy)]
 pub enum Found {
     Handler { frame: u32, row: u32 },
     None,

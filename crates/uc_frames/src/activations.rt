@@ -103,7 +103,8 @@ impl Work {
     pub fn line(&self, code: &Code, line: u32) -> u32
         ensures { result ≡ line_at code.now.ops line self.now.callers }
     {
-        line_from(code, &self.task.running.callers, line)
+        let running = &*self.task.running;
+        line_from(code, &running.callers[..running.waiting], line)
     }
 
     /// The line of the op before the next one; of one of no line that of the newest call around it that has one.
@@ -147,6 +148,7 @@ impl Work {
     {
         let running = &mut *self.task.running;
         running.block.drop_all();
+        running.run.is_exceptional = true;
         running.run.raised = Some(why);
         running.run.result = given;
     }

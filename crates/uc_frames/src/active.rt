@@ -1,8 +1,8 @@
 // An activation of a routine or a handler.
 
-ghost use Rattle.std.specs.Prelude.{◌≡◌, [], ◌∷◌};
+ghost use Rattle.std.specs.Prelude.{◌≡◌, [], ◌∷◌, None, false};
 ghost use Rattle.uc_machine.specs.Executions.{begun};
-ghost use Rattle.uc_frames.specs.Block.{completed};
+ghost use Rattle.uc_frames.specs.Block.{completed, Told};
 ghost use Rattle.uc_frames.specs.Unwinding.{operands_of, handler_of};
 
 use crate::cell::Cell;
@@ -11,7 +11,8 @@ use uc_machine::exec::{UnwindReason, Visited};
 
 /// What is next in an activation, the object of a member's call, the depth of the frame whose variables it uses, whether it counts as
 /// an active call, how many elements stand of the array that it builds or destroys, how far the search came where it handles a
-/// resumption, why it is unwound, and what a return that unwinds it hands over. Its operands lie in the block of its execution.
+/// resumption, why it is unwound, and what a return that unwinds it hands over. Its operands lie in the block of its execution. Of an
+/// activation that is not exceptional the last three say nothing, and they are not copied from one such activation to another.
 #[derive(Clone, Copy)]
 pub struct Activation {
     pub next: u32,
@@ -19,6 +20,7 @@ pub struct Activation {
     pub frame: u32,
     pub counts: bool,
     pub elements: u32,
+    pub(crate) is_exceptional: bool,
     pub handles: Option<Visited>,
     pub raised: Option<UnwindReason>,
     pub result: Cell,
@@ -26,9 +28,9 @@ pub struct Activation {
 
 impl Activation {
     // An activation as it begins, at this op.
-    #[inline(always)]
     pub(crate) fn new(entry: u32, this: Cell, frame: u32, counts: bool) -> Activation
-        ensures { completed result [] ≡ begun entry this frame Cell.Nothing counts }
+        ensures begins { completed result [] ≡ begun entry this frame Cell.Nothing counts }
+        ensures told { Told result }
     {
         Activation {
             next: entry,
@@ -36,15 +38,74 @@ impl Activation {
             frame,
             counts,
             elements: 0,
+            is_exceptional: false,
             handles: None,
             raised: None,
             result: Cell::Nothing,
         }
     }
 
+    // It is an activation as it begins, at this op, in the place of one that has ended.
+    #[inline(always)]
+    pub(crate) fn begin(&mut self, entry: u32, this: Cell, frame: u32, counts: bool)
+        requires { Told self.old }
+        ensures begins { completed self.new [] ≡ begun entry this frame Cell.Nothing counts }
+        ensures told { Told self.new }
+    {
+        self.next = entry;
+        self.this = this;
+        self.frame = frame;
+        self.counts = counts;
+        self.elements = 0;
+        if self.is_exceptional {
+            self.forget();
+        }
+    }
+
+    // Nothing exceptional is said any more.
+    #[cold]
+    #[inline(never)]
+    fn forget(&mut self)
+        ensures { self.new ≡ record self.old { is_exceptional = false; handles = None; raised = None; result = Cell.Nothing } }
+    {
+        self.is_exceptional = false;
+        self.handles = None;
+        self.raised = None;
+        self.result = Cell::Nothing;
+    }
+
+    // It is the same as another.
+    #[inline(always)]
+    pub(crate) fn copy_from(&mut self, other: &Activation)
+        requires told { Told self.old }
+        requires other { Told other.now }
+        ensures { self.new ≡ other.now }
+    {
+        self.next = other.next;
+        self.this = other.this;
+        self.frame = other.frame;
+        self.counts = other.counts;
+        self.elements = other.elements;
+        if self.is_exceptional || other.is_exceptional {
+            self.copy_exceptional(other);
+        }
+    }
+
+    #[cold]
+    #[inline(never)]
+    fn copy_exceptional(&mut self, other: &Activation)
+        ensures { self.new ≡ record self.old { is_exceptional = other.now.is_exceptional; handles = other.now.handles; raised = other.now.raised; result = other.now.result } }
+    {
+        self.is_exceptional = other.is_exceptional;
+        self.handles = other.handles;
+        self.raised = other.raised;
+        self.result = other.result;
+    }
+
     // An activation as a handler of a resumption begins.
     pub(crate) fn handler(handling: HandlerStart) -> Activation
-        ensures { completed result (operands_of handling.event) ≡ handler_of handling }
+        ensures begins { completed result (operands_of handling.event) ≡ handler_of handling }
+        ensures told { Told result }
     {
         Activation {
             next: handling.entry,
@@ -52,6 +113,7 @@ impl Activation {
             frame: handling.frame,
             counts: false,
             elements: 0,
+            is_exceptional: true,
             handles: Some(handling.visited),
             raised: None,
             result: Cell::Nothing,

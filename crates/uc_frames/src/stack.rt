@@ -1,9 +1,10 @@
 // The stack of one execution.
 
-ghost use Rattle.std.specs.Prelude.{◌≡◌, ◌<◌, ◌∷◌, [], List, length, nat_lt, None, Some, IfOk, OnOk, OnErr, MatchOption, true};
+ghost use Rattle.std.specs.Prelude.{◌≡◌, ◌<◌, ◌≤◌, ◌+◌, ◌∷◌, ◌++◌, [], All, List, length, take, nat_lt, None, Some, IfOk, OnOk, OnErr, MatchOption, true};
 ghost use Rattle.uc_machine.specs.Executions.{at_depth};
+ghost use Rattle.uc_machine.specs.Switches.{unwound_there};
 ghost use Rattle.uc_frames.specs.declared.cell.Cell.{Cell};
-ghost use Rattle.uc_frames.specs.Block.{completed, call_made, call_left, handler_made, unwound_back};
+ghost use Rattle.uc_frames.specs.Block.{completed, Told, call_made, call_left, handler_made, unwound_back};
 ghost use Rattle.uc_frames.specs.Machine.{first_execution};
 ghost use Rattle.uc_frames.specs.Unwinding.{IsCaller};
 ghost use Rattle.uc_tree.specs.declared.limits.TheConstants.{CALLS};
@@ -19,27 +20,29 @@ use std::marker::Model;
 use uc_code::rows::RoutineCode;
 use uc_machine::exec::UnwindReason;
 
-/// An execution: its newest activation, those that wait for it, its frames and operands in one block, and its links. What a call
-/// leaves behind is used by the next, so that a call takes memory only where no call before it left enough.
+/// An execution: its newest activation, those that wait for it, the oldest first, its frames and operands in one block, and its
+/// links. What a call leaves behind is used by the next, so that a call takes memory only where no call before it left enough: behind
+/// as many callers as wait stand activations that have ended.
 #[derive(Drop)]
 pub struct Stack {
     pub(crate) run: Activation,
     pub(crate) callers: Vec<Activation>,
+    pub(crate) waiting: usize,
     pub(crate) block: Block,
     pub(crate) links: Links,
 }
 
 impl Model for Stack {
-    ghost use Rattle.std.specs.Prelude.{ℕ, ◌≡◌, ◌<◌, ◌^◌, length, reverse, vec_len};
+    ghost use Rattle.std.specs.Prelude.{ℕ, ◌≡◌, ◌<◌, ◌≤◌, ◌^◌, All, length, reverse, take};
     ghost use Rattle.uc_machine.specs.Executions.{Execution};
     ghost use Rattle.uc_frames.specs.declared.cell.Cell.{Cell};
-    ghost use Rattle.uc_frames.specs.Block.{completed, all_completed};
+    ghost use Rattle.uc_frames.specs.Block.{completed, all_completed, Told};
 
     ghost Value = { Execution ℕ Cell };
 
-    ghost view = { λ s. record { run = completed s.run s.block.operands; callers = all_completed (reverse s.callers.items) s.block.waiting; frames = s.block.frames; links = s.links } };
+    ghost view = { λ s. record { run = completed s.run s.block.operands; callers = all_completed (reverse (take s.waiting s.callers.items)) s.block.waiting; frames = s.block.frames; links = s.links } };
 
-    ghost invariant = { λ s. (vec_len s.callers < 2 ^ 32) × (length s.callers.items ≡ length s.block.waiting) };
+    ghost invariant = { λ s. (s.waiting < 2 ^ 32) × (s.waiting ≡ length s.block.waiting) × (s.waiting ≤ length s.callers.items) × Told s.run × All Told s.callers.items };
 }
 
 impl Stack {
@@ -55,6 +58,7 @@ impl Stack {
         Ok(Stack {
             run: Activation::new(routine.entry, this, 0, false),
             callers: Vec::new(alloc),
+            waiting: 0,
             block,
             links: Links::new(alloc),
         })
@@ -65,7 +69,7 @@ impl Stack {
         ensures { MatchOption result (at_depth (self.now.run ∷ self.now.callers) level ≡ None)
             (λ a. (os : List Cell) × (at_depth (self.now.run ∷ self.now.callers) level ≡ Some (completed a.now os))) }
     {
-        let waiting = self.callers.len();
+        let waiting = self.waiting;
         let level = level as usize;
         if level < waiting {
             return Some(&self.callers[level]);
@@ -80,7 +84,7 @@ impl Stack {
     pub(crate) fn caller(&self) -> Option<Option<UnwindReason>>
         ensures { MatchOption result (self.now.callers ≡ []) (λ why. IsCaller why self.now.callers) }
     {
-        let waiting = self.callers.len();
+        let waiting = self.waiting;
         if waiting == 0 {
             return None;
         }
@@ -92,7 +96,7 @@ impl Stack {
     pub(crate) fn level(&self) -> u32
         ensures { result ≡ length self.now.callers }
     {
-        self.callers.len() as u32
+        self.waiting as u32
     }
 
     // Makes a call. Executions of `u32::MAX` frames, or activations that wait, make no more.
@@ -105,13 +109,15 @@ impl Stack {
         if depth >= u32::MAX as usize {
             return Err(AllocError);
         }
-        if self.callers.len() as u32 == u32::MAX {
+        let waiting = self.waiting;
+        if waiting as u32 == u32::MAX {
             return Err(AllocError);
         }
-        self.callers.reserve(1)?;
+        put_at(&mut self.callers, waiting, &self.run)?;
         self.block.enter(call.routine, call.taken)?;
-        self.callers.push_reserved(self.run);
-        self.run = Activation::new(call.routine.entry, call.this, depth as u32, call.counts);
+        self.waiting = waiting + 1;
+        self.run
+            .begin(call.routine.entry, call.this, depth as u32, call.counts);
         self.links.enter(call.counts);
         Ok(())
     }
@@ -124,12 +130,13 @@ impl Stack {
         if self.block.depth() >= u32::MAX as usize {
             return Err(AllocError);
         }
-        if self.callers.len() as u32 == u32::MAX {
+        let waiting = self.waiting;
+        if waiting as u32 == u32::MAX {
             return Err(AllocError);
         }
-        self.callers.reserve(1)?;
+        put_at(&mut self.callers, waiting, &self.run)?;
         self.block.enter_handler(handling.event)?;
-        self.callers.push_reserved(self.run);
+        self.waiting = waiting + 1;
         self.run = Activation::handler(handling);
         Ok(())
     }
@@ -141,14 +148,14 @@ impl Stack {
         ensures after { OnOk result (self.new ≡ call_left given self.old.callers self.old) }
         ensures err { OnErr result (self.new ≡ self.old) }
     {
-        let waiting = self.callers.len();
+        let waiting = self.waiting;
         if waiting == 0 {
             return Ok(false);
         }
         self.block.leave(given)?;
         self.links.leave(self.run.counts);
-        self.run = self.callers[waiting - 1];
-        self.callers.truncate(waiting - 1);
+        self.run.copy_from(&self.callers[waiting - 1]);
+        self.waiting = waiting - 1;
         Ok(true)
     }
 
@@ -158,16 +165,45 @@ impl Stack {
         ensures called { result ≡ nat_lt 0 (length self.old.callers) }
         ensures after { self.new ≡ unwound_back why given self.old.callers self.old }
     {
-        let waiting = self.callers.len();
+        let waiting = self.waiting;
         if waiting == 0 {
             return false;
         }
         self.block.leave_unwinding();
         self.links.leave(self.run.counts);
         self.run = self.callers[waiting - 1];
+        self.run.is_exceptional = true;
         self.run.raised = Some(why);
         self.run.result = given;
-        self.callers.truncate(waiting - 1);
+        self.waiting = waiting - 1;
         true
     }
+
+    // Its newest activation is unwound for this reason, from where it stands.
+    pub(crate) fn unwind(&mut self, why: UnwindReason)
+        ensures { self.new ≡ unwound_there why self.old }
+    {
+        self.run.is_exceptional = true;
+        self.run.raised = Some(why);
+    }
+}
+
+// An activation waits at this place, behind those that wait there.
+#[inline(always)]
+fn put_at(callers: &mut Vec<Activation>, at: usize, waiting: &Activation) -> Result<(), AllocError>
+    requires place { at ≤ length callers.old.items }
+    requires told { All Told callers.old.items }
+    requires waits { Told waiting.now }
+    ensures ok { OnOk result (take (at + 1) callers.new.items ≡ take at callers.old.items ++ waiting.now ∷ []) }
+    ensures below { take at callers.new.items ≡ take at callers.old.items }
+    ensures room { OnOk result (at < length callers.new.items) }
+    ensures told { All Told callers.new.items }
+    ensures err { OnErr result (callers.new.items ≡ callers.old.items) }
+{
+    if at < callers.len() {
+        callers[at].copy_from(waiting);
+    } else {
+        callers.push(*waiting)?;
+    }
+    Ok(())
 }

@@ -86,7 +86,7 @@ impl Work {
         ensures { (x : _) → parked_at exec self.old.env ≡ Some x → self.new ≡ switched exec (unwound_there (reason.Event UNHANDLED (pos 0) (pos 0)) x) self.old }
     {
         if let Some(mut left) = self.exchange(exec, None) {
-            left.stack.run.raised = Some(UnwindReason::Event {
+            left.stack.unwind(UnwindReason::Event {
                 event: UNHANDLED,
                 x: 0,
                 y: 0,
@@ -105,7 +105,7 @@ impl Work {
         if let Some(mut left) = self.exchange(exec, None) {
             left.stack.links.live = false;
             left.stack.links.destroyer = Some(by);
-            left.stack.run.raised = Some(UnwindReason::Destroyed);
+            left.stack.unwind(UnwindReason::Destroyed);
             self.run(exec, left);
         }
     }

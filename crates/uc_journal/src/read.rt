@@ -10,7 +10,7 @@ use std::alloc::Global;
 use uc_entry::entry::Entry;
 
 /// Why a text is not read as a journal.
-#[derive(Clone, Copy, PartialEq, Eq, Debug)]
+#[derive(Clone, Copy)]
 pub enum JournalFault {
     /// The first line, from 1, that is neither the heading, where it stands first, nor the text of a fit entry.
     BadLine { n: u32 },

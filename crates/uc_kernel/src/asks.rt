@@ -9,7 +9,7 @@ ghost use Rattle.uc_kernel.specs.Asks.{IsRunner};
 use crate::kernel::Kernel;
 
 /// A task that runs, and the ticks that it has left.
-#[derive(Clone, Copy, PartialEq, Eq, Debug)]
+#[derive(Clone, Copy)]
 pub struct RunningTask {
     pub task: u32,
     pub left: u32,

@@ -6,7 +6,7 @@ ghost use Rattle.uc_lex.specs.declared.fault.LexFault.TheVariants.{NoMemory};
 use std::alloc::{AllocError, AllocFailed};
 
 /// Why a text has no tokens. `at` is the offset, from 0, at which no token can stand.
-#[derive(Clone, Copy, PartialEq, Eq, Debug)]
+#[derive(Clone, Copy, Debug)]
 pub enum LexFault {
     /// A byte that cannot stand there.
     BadByte { at: u32 },

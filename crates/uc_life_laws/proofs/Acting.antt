@@ -1,5 +1,5 @@
 -- A quiet step of a state in which all is known leads to one.
-use Rattle.std.proofs.Common.{◌≡◌, ℕ, zero, suc, ◌<◌, ◌≤◌, List, [], ◌∷◌, length, drop, ℤ, pos, negsuc, inl, inr, Option, Some, None, Bool, true, false, refl, sym, ap, ◌∙◌, subst, arith}
+use Rattle.std.proofs.Common.{◌≡◌, ℕ, zero, suc, ◌<◌, ◌≤◌, List, [], ◌∷◌, length, drop, ℤ, pos, negsuc, inl, Option, Some, None, Bool, true, false, refl, sym, ap, ◌∙◌, subst, arith}
 use Rattle.std.specs.Prelude.{nat_eq, nat_lt, if◌then◌else◌, slice_get, slice_set}
 use Rattle.uc_tree.specs.declared.limits.TheConstants.{PENDING_EVENTS}
 use Rattle.uc_tree.specs.Source.{Expr, NoExprs, MoreExprs, Clauses, NoClauses, Otherwise, MoreClauses, Item, Show, ShowText, Order, Stmt, Source, Routine}
@@ -15,17 +15,17 @@ use Rattle.uc_machine.specs.Switches as sw
 use Rattle.uc_machine.specs.Quiet as q
 use Rattle.uc_machine.specs.Quiet.{Value, Number, Place, Running, Object, Nothing, Env, State, Step, Todo, at, in_env, top, below, number, is_zero, loaded, written, variable_at, nought, index_in, with_elements, object_in, as_number, this_object, mask_of}
 use Rattle.uc_machine.specs.Pieces as pc
-use Rattle.uc_typing.specs.Typing.{Ty, Num, Cell, Obj, Raw, Row, Clu, Pro, Name, Sig, Table, object_ty, IsMain, IsTarget, IsCluster, Yields, GiveAll, Fine, FineItem, FineItems, FineStart, FineStmt, FineLoop, FineClauses}
-use Rattle.uc_typing.specs.Pieces.{IsNone, onto, item_tys, nums, CallsOn, Makes, Popped, Ok}
+use Rattle.uc_typing.specs.Typing.{Ty, Num, Cell, Obj, Raw, Row, Clu, Pro, Name, Sig, Table, object_ty, IsMain, IsTarget, Yields, GiveAll, Fine, FineItem, FineItems, FineStart, FineStmt, FineLoop, FineClauses}
+use Rattle.uc_typing.specs.Pieces.{AreNumbers, IsNone, onto, item_tys, nums, CallsOn, Makes, Popped, Ok}
 use Rattle.uc_typing.specs.States.{IsNumbered, IsObjectBy, IsBase, IsOfTask, Sound}
 use Rattle.uc_typing.proofs.Frames.{replaced_onto}
 use Rattle.uc_typing.proofs.Control.{left, turn_ok, clean_ok, fill_ok}
-use Rattle.uc_life_laws.specs.Things.{IsFew, Known}
+use Rattle.uc_life_laws.specs.Things.{Few, IsFew, Known, LiesIn, Base}
 use Rattle.uc_life_laws.specs.LifeStates.{LifeState}
 use Rattle.uc_life_laws.specs.LifeLaws.{LawKnown}
-use Rattle.uc_life_laws.specs.Knowing.{AtHand, KnownAll, KnownFrames, KnownThis, KnowsWaits, KnowsEx, KnowsEnv, KnowsState, KnowsStep, AreNumbers, Finds, IsOwn}
+use Rattle.uc_life_laws.specs.Knowing.{AtHand, KnownAll, KnownFrames, KnownThis, KnowsWaits, KnowsEx, KnowsEnv, KnowsState, KnowsStep, Finds, IsStill}
 use Rattle.uc_life_laws.proofs.Cells.{either}
-use Rattle.uc_life_laws.proofs.Knowns.{newest, rest_of, next, rest_behind, values_drop, values_set, further_field, frames_cleared}
+use Rattle.uc_life_laws.proofs.Knowns.{kept_tracked, tracked_declared, newest, rest_of, next, rest_behind, values_drop, values_set, further_field, frames_cleared, lies_more}
 use Rattle.uc_life_laws.proofs.Steps.{exec_same}
 use Rattle.uc_life_laws.proofs.Parking as parking
 use Rattle.uc_life_laws.proofs.Parking.{Keeps, frames_run, like, keeps_like}
@@ -54,17 +54,17 @@ none_numbers : (own : List Ty) → IsNone own → AreNumbers own
 none_numbers [] n = tt
 none_numbers (a ∷ own) n = absurd n
 
-module _ (t : Table) (few : Ty → ℕ → Bool) (n : Exec) (K : Value → Ty → Type 0) where
+module _ (t : Table) (few : Few) (n : Exec) (K : Value → Ty → Type 0) where
   -- what is known by its number passes the test
-  number_few : (a : Ty) (v : Value) → IsNumbered v → IsFew t few n a v → few a (object_in v) ≡ true
+  number_few : (a : Ty) (v : Value) → IsNumbered v → IsFew t few n a v → few.numbers a (object_in v) ≡ true
   number_few a (Number z) i f = absurd i
   number_few a (Place o l) i f = absurd i
   number_few a (Running x) i f = absurd i
   number_few a (Object o) i f = f
   number_few a Nothing i f = absurd i
 
-  object_few : (b : Bool) (c : ℕ) (v : Value) → t.mutex c ≡ true → Known t few n K (object_ty b c) v → few (Obj c) (object_in v) ≡ true
-  object_few true c v m h = number_few (Obj c) v (subst (λ b. IsObjectBy t b c v) m h.is) h.passes
+  object_few : (b : Bool) (c : ℕ) (v : Value) → t.mutex c ≡ true → Known t few n K (object_ty b c) v → few.numbers (object_ty b c) (object_in v) ≡ true
+  object_few true c v m h = number_few (Raw c) v (subst (λ b. IsObjectBy t b c v) m h.is) h.passes
   object_few false c v m h = number_few (Obj c) v (subst (λ b. IsObjectBy t b c v) m h.is) h.passes
 
 -- to-do lists stay in order as pieces are taken apart, as in the law of typing
@@ -117,13 +117,13 @@ module _ (t : Table) (g : Sig) (base sc : List Name) where
   turned [] todo n o = o
   turned (a ∷ own) todo n o = absurd n
 
-module _ (t : Table) (few : Ty → ℕ → Bool) (source : Source) (sound : Sound t source) (s : State) (st : LifeState t few s) (sigs : List Sig) (g : Sig) (base sc : List Name) (frames : KnownFrames t few s.env.exec sigs s.env.frames (s.run ∷ s.callers)) (frame : at_depth sigs s.run.frame ≡ Some g) (this : KnownThis t few s.env.exec (AtHand t s.env.exec (others sigs) s.callers) g g.this s.run.this) (callers : KnowsWaits t few s.env.exec (others sigs) s.callers) (env : KnowsEnv t few s.env) (ends : IsBase t g s.run.handles base s.run.frame s.callers) where
+module _ (t : Table) (few : Few) (source : Source) (sound : Sound t source) (s : State) (st : LifeState t few s) (sigs : List Sig) (g : Sig) (base sc : List Name) (frames : KnownFrames t few s.env.exec sigs s.env.frames (s.run ∷ s.callers)) (frame : at_depth sigs s.run.frame ≡ Some g) (this : KnownThis t few s.env.exec (AtHand t few s.env.exec (others sigs) s.callers) g g.this s.run.this) (callers : KnowsWaits t few s.env.exec (others sigs) s.callers) (env : KnowsEnv t few s.env) (ends : IsBase t g s.run.handles base s.run.frame s.callers) where
   abbrev After : Step → Type 0
   After x = KnowsStep t few source x
 
   -- of operands, what is known to a state with this to do
   abbrev All : List Todo → List Ty → List Value → Type 0
-  All todo own vs = KnownAll t few s.env.exec (With t s sigs todo) own vs
+  All todo own vs = KnownAll t few s.env.exec (With t few s sigs todo) own vs
 
   numbers : (own : List Ty) (vs : List Value) (l m : List Todo) → AreNumbers own → All l own vs → All m own vs
   numbers [] [] l m n h = tt
@@ -196,11 +196,11 @@ module _ (t : Table) (few : Ty → ℕ → Bool) (source : Source) (sound : Soun
       run_like [] own (pc.Eval e ∷ (pc.DropNow ∷ (pc.Sweep e ∷ todo))) _ s.env n refl refl refl refl refl (f.0, f.1, (f, o)) h
 
   -- coroutines
-  set_up : (c : Option Routine) (r : ℕ) (todo : List Todo) (own : List Ty) → slice_get source.routines r ≡ c → (IsOwn (sw.new_exec (q.home_at s.run.this s.env) s.env) s.run.this → ⊥) → IsMain t g r → Ok t g base sc todo own → All todo own s.run.operands → After (q.set_up_step c todo s)
+  set_up : (c : Option Routine) (r : ℕ) (todo : List Todo) (own : List Ty) → slice_get source.routines r ≡ c → IsStill t few sigs g sc s × ((c : ℕ) → g.this ≡ Some c → LiesIn t few (sw.new_exec (q.home_at s.run.this s.env) s.env) (Base few (sw.new_exec (q.home_at s.run.this s.env) s.env)) (Obj c) s.run.this) → IsMain t g r → Ok t g base sc todo own → All todo own s.run.operands → After (q.set_up_step c todo s)
   set_up None r todo own e l m o h = run sc own todo _ o h
   set_up (Some x) r todo own e l m o h =
       let n = sw.new_exec (q.home_at s.run.this s.env) s.env in
-      let known : KnowsEx t few n (q.fresh x s.run.this) = parking.fresh_knows t few n (t.routine r) x s.run.this (sound.routines r x e) m.1 (parking.this_apart t few s.env.exec n (AtHand t s.env.exec (others sigs) s.callers) (AtHand t n [] []) g (t.routine r) s.run.this m.0 this l) in
+      let known : KnowsEx t few n (q.fresh x s.run.this) = parking.fresh_knows t few n (t.routine r) x s.run.this (sound.routines r x e) m.1 (parking.this_apart t few s.env.exec n (AtHand t few s.env.exec (others sigs) s.callers) (AtHand t few n [] []) g (t.routine r) s.run.this m.0 this l.0 (λ c q. lies_more t few n (Base few n) (AtHand t few n [] []) (λ w a b. inl b) (Obj c) s.run.this (l.1 c q))) in
       let born : Keeps t few s.env (sw.born (q.home_at s.run.this s.env) (q.fresh x s.run.this) s.env) = parking.born_keeps t few (q.home_at s.run.this s.env) (q.fresh x s.run.this) s.env known env in
       run_in sc [] own todo _ _ s.run.elements (parking.keeps_both t few born (parking.written_keeps t few s.run.this (Running n) _ born.env)) o h
 
@@ -216,7 +216,7 @@ module _ (t : Table) (few : Ty → ℕ → Bool) (source : Source) (sound : Soun
   held_up : (o : ℕ) (todo : List Todo) (step : Step) → After step → After (q.unless_held_up o step todo s)
   held_up o todo step h = either After (inside.is_held_up o s.env) (pc.fault BlockedInside todo s.run.operands s) step (tt, tt) h
 
-  enter_by : (d : Option ℕ) (i m : ℕ) (todo : List Todo) (own : List Ty) → ((c : ℕ) × (few (Obj c) i ≡ true)) → Ok t g base sc todo own → All todo own s.run.operands → After (q.enter_at d i m todo s)
+  enter_by : (d : Option ℕ) (i m : ℕ) (todo : List Todo) (own : List Ty) → ((c : ℕ) × (b : Bool) × (few.numbers (object_ty b c) i ≡ true)) → Ok t g base sc todo own → All todo own s.run.operands → After (q.enter_at d i m todo s)
   enter_by (Some d) i m todo own f o h = run_like [] own todo _ (inside.call_begun i s.env) s.run.elements refl refl refl refl refl o h
   enter_by None i m todo own f o h = (f, run_like [] own todo _ (inside.call_begun i s.env) s.run.elements refl refl refl refl refl o h)
 
@@ -225,8 +225,8 @@ module _ (t : Table) (few : Ty → ℕ → Bool) (source : Source) (sound : Soun
   enters m r (Some x) todo own more c e u w o h =
       let v : All todo (onto (t.routine r).params (object_ty (t.routine r).whole c ∷ more)) s.run.operands = subst (λ l. All todo l s.run.operands) u.0 h in
       let d : All todo (object_ty (t.routine r).whole c ∷ more) (drop x.params s.run.operands) = calls.behind t few source sound s sigs g base sc frames frame this callers env ends todo (t.routine r).params (object_ty (t.routine r).whole c ∷ more) x.params (sound.routines r x e).params v in
-      let f : few (Obj c) (object_in (top (drop x.params s.run.operands))) ≡ true = object_few t few s.env.exec (With t s sigs todo) (t.routine r).whole c (top (drop x.params s.run.operands)) w (newest t few s.env.exec (With t s sigs todo) (object_ty (t.routine r).whole c) more (drop x.params s.run.operands) d) in
-      either After (q.may_call x.written s) _ _ (enter_by (find (object_in (top (drop x.params s.run.operands))) s.env.depths) (object_in (top (drop x.params s.run.operands))) m todo own (c, f) o h) (tt, tt)
+      let f : few.numbers (object_ty (t.routine r).whole c) (object_in (top (drop x.params s.run.operands))) ≡ true = object_few t few s.env.exec (With t few s sigs todo) (t.routine r).whole c (top (drop x.params s.run.operands)) w (newest t few s.env.exec (With t few s sigs todo) (object_ty (t.routine r).whole c) more (drop x.params s.run.operands) d) in
+      either After (q.may_call x.written s) _ _ (enter_by (find (object_in (top (drop x.params s.run.operands))) s.env.depths) (object_in (top (drop x.params s.run.operands))) m todo own (c, (t.routine r).whole, f) o h) (tt, tt)
 
   uncounted : (given : List Ty) (u : State) → KnowsState t few given u → KnowsState t few given (inside.counted_no_more u)
   uncounted given u x = record {
@@ -251,7 +251,7 @@ module _ (t : Table) (few : Ty → ℕ → Bool) (source : Source) (sound : Soun
   binds n r None todo d own more c u e m o h = (tt, env)
   binds n r (Some x) todo d own more c u e m o h =
       let i : slice_set own x.params (Raw c) ≡ onto (t.routine r).params (Raw c ∷ more) = ap (λ n. slice_set own n (Raw c)) (sound.routines r x e).params ∙ (ap (λ l. slice_set l (length (t.routine r).params) (Raw c)) m.0 ∙ replaced_onto (t.routine r).params more (Cell (Raw c)) (Raw c)) in
-      let v : All todo (slice_set own x.params (Raw c)) (slice_set (below s.run.operands) x.params (top s.run.operands)) = values_set t few s.env.exec (With t s sigs todo) x.params own (below s.run.operands) (Raw c) (top s.run.operands) (rest_of t few s.env.exec (With t s sigs todo) (Raw d) own s.run.operands h) (subst (λ d. Known t few s.env.exec (With t s sigs todo) (Raw d) (top s.run.operands)) u (newest t few s.env.exec (With t s sigs todo) (Raw d) own s.run.operands h)) in
+      let v : All todo (slice_set own x.params (Raw c)) (slice_set (below s.run.operands) x.params (top s.run.operands)) = values_set t few s.env.exec (With t few s sigs todo) x.params own (below s.run.operands) (Raw c) (top s.run.operands) (rest_of t few s.env.exec (With t few s sigs todo) (Raw d) own s.run.operands h) (subst (λ d. Known t few s.env.exec (With t few s sigs todo) (Raw d) (top s.run.operands)) u (newest t few s.env.exec (With t few s sigs todo) (Raw d) own s.run.operands h)) in
       wrote (top (drop x.params (below s.run.operands))) (top s.run.operands) (onto (t.routine r).params (Raw c ∷ more)) todo _ o (subst (λ l. All todo l (slice_set (below s.run.operands) x.params (top s.run.operands))) i v)
 
   condition : (k : ℕ) (i : Option ℕ) (todo : List Todo) (own : List Ty) → Ok t g base sc todo (Num ∷ own) → All todo own (below s.run.operands) → After (q.condition_step k i todo s)
@@ -267,25 +267,13 @@ module _ (t : Table) (few : Ty → ℕ → Bool) (source : Source) (sound : Soun
   failed true todo own o h = run sc own todo _ o h
   failed false todo own o h = run sc (Num ∷ (Num ∷ (Num ∷ own))) (pc.RaiseNow ∷ todo) _ o (tt, (tt, (tt, h)))
 
-  -- a cluster is told by a number, or is known
-  processor : (a : Ty) (own : List Ty) (todo : List Todo) → IsCluster a → Finds t few sigs g sc s (pc.ProcessorNow ∷ todo) (a ∷ own) → Ok t g base sc todo (Pro ∷ own) → All todo (a ∷ own) s.run.operands → After (q.act source pc.ProcessorNow todo s)
-  processor Num own todo i l o h = (inl l, asks (Pro ∷ []) own todo _ o (rest_of t few s.env.exec (With t s sigs todo) Num own s.run.operands h))
-  processor Clu own todo i l o h =
-      let k = newest t few s.env.exec (With t s sigs todo) Clu own s.run.operands h in
-      (inr (number_few t few s.env.exec (With t s sigs todo) Clu (top s.run.operands) k.is k.passes), asks (Pro ∷ []) own todo _ o (rest_of t few s.env.exec (With t s sigs todo) Clu own s.run.operands h))
-  processor (Cell a) own todo i l o h = absurd i
-  processor (Obj c) own todo i l o h = absurd i
-  processor (Raw c) own todo i l o h = absurd i
-  processor (Row k a) own todo i l o h = absurd i
-  processor Pro own todo i l o h = absurd i
-
   -- events at others
   pends : (e : Option Exec) (x : Event) (todo : List Todo) (own : List Ty) (vs : List Value) → Ok t g base sc todo own → All todo own vs → After (q.pend_at e x todo vs s)
   pends None x todo own vs o h = (tt, tt)
   pends (Some n) x todo own vs o h =
       either After (sw.is_live (Some n) s.env) _ _ (either After (nat_lt (length (inside.pending_at n s.env)) PENDING_EVENTS) _ _ (run_in sc [] own todo vs _ s.run.elements (parking.raised_keeps t few n _ s.env env) o h) (tt, tt)) (tt, tt)
 
-  raises : (c : ℕ) (v : Value) (x : Event) (todo : List Todo) (own : List Ty) (vs : List Value) → IsTarget t c → Known t few s.env.exec (With t s sigs todo) (Obj c) v → Ok t g base sc todo own → All todo own vs → After (q.raise_at_step v x todo vs s)
+  raises : (c : ℕ) (v : Value) (x : Event) (todo : List Todo) (own : List Ty) (vs : List Value) → IsTarget t c → Known t few s.env.exec (With t few s sigs todo) (Obj c) v → Ok t g base sc todo own → All todo own vs → After (q.raise_at_step v x todo vs s)
   raises c (Object i) x todo own vs r k o h = ((c, k.passes, r), run sc own todo vs o h)
   raises c (Number n) x todo own vs r k o h = pends (pc.exec_at (Number n) s.env) x todo own vs o h
   raises c (Place i p) x todo own vs r k o h = pends (pc.exec_at (Place i p) s.env) x todo own vs o h
@@ -318,43 +306,43 @@ module _ (t : Table) (few : Ty → ℕ → Bool) (source : Source) (sound : Soun
   acts : (p : Todo) (todo : List Todo) (own : List Ty) → s.run.control ≡ p ∷ todo → Finds t few sigs g sc s (p ∷ todo) own → Ok t g base sc (p ∷ todo) own → All (p ∷ todo) own s.run.operands → After (q.act source p todo s)
   acts (pc.Eval x) todo own e l o h = evaluating.eval t few source sound s st sigs g base sc frames frame this callers env ends x o.0 todo own e (l o.0 o.1) o.1 o.2 h
   acts pc.LoadNow todo (Cell a ∷ own) e l o h =
-      run sc (a ∷ own) todo _ o.1 (evaluating.read_at t few source sound s st sigs g base sc frames frame this callers env ends todo (evaluating.to t few source sound s st sigs g base sc frames frame this callers env ends (pc.LoadNow ∷ todo) e) (evaluating.from t few source sound s st sigs g base sc frames frame this callers env ends (pc.LoadNow ∷ todo) e) a (top s.run.operands) (newest t few s.env.exec (With t s sigs todo) (Cell a) own s.run.operands h) l, rest_of t few s.env.exec (With t s sigs todo) (Cell a) own s.run.operands h)
+      run sc (a ∷ own) todo _ o.1 (evaluating.read_at t few source sound s st sigs g base sc frames frame this callers env ends todo (evaluating.to t few source sound s st sigs g base sc frames frame this callers env ends (pc.LoadNow ∷ todo) e) (evaluating.from t few source sound s st sigs g base sc frames frame this callers env ends (pc.LoadNow ∷ todo) e) a (top s.run.operands) (newest t few s.env.exec (With t few s sigs todo) (Cell a) own s.run.operands h) l, rest_of t few s.env.exec (With t few s sigs todo) (Cell a) own s.run.operands h)
   acts pc.LoadNow todo _ e l o h = absurd o
   acts (pc.ElementNow n k) todo (Num ∷ (Row m a ∷ own)) e l o h =
-      calls.element t few source sound s sigs g base sc frames frame this callers env ends n (index_in n (number (top s.run.operands))) k a todo (top (below s.run.operands)) own (below (below s.run.operands)) (in_range n (number (top s.run.operands))) o.1 l (subst (λ m. Known t few s.env.exec (With t s sigs todo) (Row m a) (top (below s.run.operands))) o.0 (next t few s.env.exec (With t s sigs todo) Num (Row m a) own s.run.operands h)) o.2 (rest_behind t few s.env.exec (With t s sigs todo) Num (Row m a) own s.run.operands h)
+      calls.element t few source sound s sigs g base sc frames frame this callers env ends n (index_in n (number (top s.run.operands))) k a todo (top (below s.run.operands)) own (below (below s.run.operands)) (in_range n (number (top s.run.operands))) o.1 (kept_tracked t k a o.3) (subst (λ m. Known t few s.env.exec (With t few s sigs todo) (Row m a) (top (below s.run.operands))) o.0 (next t few s.env.exec (With t few s sigs todo) Num (Row m a) own s.run.operands h)) o.2 (rest_behind t few s.env.exec (With t few s sigs todo) Num (Row m a) own s.run.operands h)
   acts (pc.ElementNow n k) todo _ e l o h = absurd o
   acts (pc.FieldNow k i) todo (Obj c ∷ own) e l o h =
-      run sc (t.fields c i ∷ own) todo _ o.2 (further_field t few s.env.exec (With t s sigs todo) c i k (top s.run.operands) o.0 o.1 l (newest t few s.env.exec (With t s sigs todo) (Obj c) own s.run.operands h), rest_of t few s.env.exec (With t s sigs todo) (Obj c) own s.run.operands h)
+      run sc (t.fields c i ∷ own) todo _ o.2 (further_field t few s.env.exec (With t few s sigs todo) c i k (top s.run.operands) o.0 o.1 (tracked_declared t sound.leads c i) (newest t few s.env.exec (With t few s sigs todo) (Obj c) own s.run.operands h), rest_of t few s.env.exec (With t few s sigs todo) (Obj c) own s.run.operands h)
   acts (pc.FieldNow k i) todo _ e l o h = absurd o
-  acts pc.NegateNow todo (Num ∷ own) e l o h = calls.outcome t few source sound s sigs g base sc frames frame this callers env ends _ todo own (below s.run.operands) o (rest_of t few s.env.exec (With t s sigs todo) Num own s.run.operands h)
+  acts pc.NegateNow todo (Num ∷ own) e l o h = calls.outcome t few source sound s sigs g base sc frames frame this callers env ends _ todo own (below s.run.operands) o (rest_of t few s.env.exec (With t few s sigs todo) Num own s.run.operands h)
   acts pc.NegateNow todo _ e l o h = absurd o
-  acts pc.NotNow todo (Num ∷ own) e l o h = run sc (Num ∷ own) todo _ o (tt, rest_of t few s.env.exec (With t s sigs todo) Num own s.run.operands h)
+  acts pc.NotNow todo (Num ∷ own) e l o h = run sc (Num ∷ own) todo _ o (tt, rest_of t few s.env.exec (With t few s sigs todo) Num own s.run.operands h)
   acts pc.NotNow todo _ e l o h = absurd o
-  acts pc.CharacterNow todo (Num ∷ own) e l o h = run sc (Num ∷ own) todo _ o (tt, rest_of t few s.env.exec (With t s sigs todo) Num own s.run.operands h)
+  acts pc.CharacterNow todo (Num ∷ own) e l o h = run sc (Num ∷ own) todo _ o (tt, rest_of t few s.env.exec (With t few s sigs todo) Num own s.run.operands h)
   acts pc.CharacterNow todo _ e l o h = absurd o
-  acts pc.TruthNow todo (Num ∷ own) e l o h = run sc (Num ∷ own) todo _ o (tt, rest_of t few s.env.exec (With t s sigs todo) Num own s.run.operands h)
+  acts pc.TruthNow todo (Num ∷ own) e l o h = run sc (Num ∷ own) todo _ o (tt, rest_of t few s.env.exec (With t few s sigs todo) Num own s.run.operands h)
   acts pc.TruthNow todo _ e l o h = absurd o
-  acts (pc.OperateNow op) todo (Num ∷ (Num ∷ own)) e l o h = calls.outcome t few source sound s sigs g base sc frames frame this callers env ends _ todo own (below (below s.run.operands)) o (rest_behind t few s.env.exec (With t s sigs todo) Num Num own s.run.operands h)
+  acts (pc.OperateNow op) todo (Num ∷ (Num ∷ own)) e l o h = calls.outcome t few source sound s sigs g base sc frames frame this callers env ends _ todo own (below (below s.run.operands)) o (rest_behind t few s.env.exec (With t few s sigs todo) Num Num own s.run.operands h)
   acts (pc.OperateNow op) todo _ e l o h = absurd o
-  acts pc.CopyNow todo (a ∷ own) e l o h = run sc (a ∷ (a ∷ own)) todo _ o (newest t few s.env.exec (With t s sigs todo) a own s.run.operands h, h)
+  acts pc.CopyNow todo (a ∷ own) e l o h = run sc (a ∷ (a ∷ own)) todo _ o (newest t few s.env.exec (With t few s sigs todo) a own s.run.operands h, h)
   acts pc.CopyNow todo _ e l o h = absurd o
-  acts pc.CopyBelowNow todo (a ∷ (b ∷ own)) e l o h = run sc (b ∷ (a ∷ (b ∷ own))) todo _ o (next t few s.env.exec (With t s sigs todo) a b own s.run.operands h, h)
+  acts pc.CopyBelowNow todo (a ∷ (b ∷ own)) e l o h = run sc (b ∷ (a ∷ (b ∷ own))) todo _ o (next t few s.env.exec (With t few s sigs todo) a b own s.run.operands h, h)
   acts pc.CopyBelowNow todo _ e l o h = absurd o
-  acts pc.DropNow todo (a ∷ own) e l o h = run sc own todo _ o (rest_of t few s.env.exec (With t s sigs todo) a own s.run.operands h)
+  acts pc.DropNow todo (a ∷ own) e l o h = run sc own todo _ o (rest_of t few s.env.exec (With t few s sigs todo) a own s.run.operands h)
   acts pc.DropNow todo _ e l o h = absurd o
-  acts pc.DropBelowNow todo (a ∷ (b ∷ own)) e l o h = run sc (a ∷ own) todo _ o (newest t few s.env.exec (With t s sigs todo) a (b ∷ own) s.run.operands h, rest_behind t few s.env.exec (With t s sigs todo) a b own s.run.operands h)
+  acts pc.DropBelowNow todo (a ∷ (b ∷ own)) e l o h = run sc (a ∷ own) todo _ o (newest t few s.env.exec (With t few s sigs todo) a (b ∷ own) s.run.operands h, rest_behind t few s.env.exec (With t few s sigs todo) a b own s.run.operands h)
   acts pc.DropBelowNow todo _ e l o h = absurd o
-  acts pc.StoreNow todo (Num ∷ (Cell Num ∷ own)) e l o h = wrote (top (below s.run.operands)) (Number (number (top s.run.operands))) own todo _ o (rest_behind t few s.env.exec (With t s sigs todo) Num (Cell Num) own s.run.operands h)
+  acts pc.StoreNow todo (Num ∷ (Cell Num ∷ own)) e l o h = wrote (top (below s.run.operands)) (Number (number (top s.run.operands))) own todo _ o (rest_behind t few s.env.exec (With t few s sigs todo) Num (Cell Num) own s.run.operands h)
   acts pc.StoreNow todo _ e l o h = absurd o
-  acts pc.KeepNow todo (Num ∷ (Cell Num ∷ own)) e l o h = wrote (top (below s.run.operands)) (Number (number (top s.run.operands))) (Num ∷ own) todo _ o (tt, rest_behind t few s.env.exec (With t s sigs todo) Num (Cell Num) own s.run.operands h)
+  acts pc.KeepNow todo (Num ∷ (Cell Num ∷ own)) e l o h = wrote (top (below s.run.operands)) (Number (number (top s.run.operands))) (Num ∷ own) todo _ o (tt, rest_behind t few s.env.exec (With t few s sigs todo) Num (Cell Num) own s.run.operands h)
   acts pc.KeepNow todo _ e l o h = absurd o
   acts (pc.SetNow k) todo (Num ∷ own) e l o h = wrote (variable_at k s) (Number (number (top s.run.operands))) (Num ∷ own) todo _ o h
   acts (pc.SetNow k) todo _ e l o h = absurd o
-  acts pc.BindNow todo (a ∷ (Cell b ∷ own)) e l o h = wrote (top (below s.run.operands)) (top s.run.operands) (a ∷ own) todo _ o.1 (newest t few s.env.exec (With t s sigs todo) a (Cell b ∷ own) s.run.operands h, rest_behind t few s.env.exec (With t s sigs todo) a (Cell b) own s.run.operands h)
+  acts pc.BindNow todo (a ∷ (Cell b ∷ own)) e l o h = wrote (top (below s.run.operands)) (top s.run.operands) (a ∷ own) todo _ o.1 (newest t few s.env.exec (With t few s sigs todo) a (Cell b ∷ own) s.run.operands h, rest_behind t few s.env.exec (With t few s sigs todo) a (Cell b) own s.run.operands h)
   acts pc.BindNow todo _ e l o h = absurd o
-  acts (pc.Choose a b) todo (Num ∷ own) e l o h = run sc own _ _ (choose t g base sc (is_zero (number (top s.run.operands))) b a todo own o.1 o.0 o.2) (rest_of t few s.env.exec (With t s sigs todo) Num own s.run.operands h)
+  acts (pc.Choose a b) todo (Num ∷ own) e l o h = run sc own _ _ (choose t g base sc (is_zero (number (top s.run.operands))) b a todo own o.1 o.0 o.2) (rest_of t few s.env.exec (With t few s sigs todo) Num own s.run.operands h)
   acts (pc.Choose a b) todo _ e l o h = absurd o
-  acts (pc.Branch a b) todo (Num ∷ own) e l o h = run sc own _ _ (branch_ok t g base sc (is_zero (number (top s.run.operands))) a b todo own o.0 o.1 o.2 o.3) (rest_of t few s.env.exec (With t s sigs todo) Num own s.run.operands h)
+  acts (pc.Branch a b) todo (Num ∷ own) e l o h = run sc own _ _ (branch_ok t g base sc (is_zero (number (top s.run.operands))) a b todo own o.0 o.1 o.2 o.3) (rest_of t few s.env.exec (With t few s sigs todo) Num own s.run.operands h)
   acts (pc.Branch a b) todo _ e l o h = absurd o
   acts (pc.Arguments NoExprs) todo own e l o h = none o.0 o.1 o.2
     where
@@ -375,9 +363,9 @@ module _ (t : Table) (few : Ty → ℕ → Bool) (source : Source) (sound : Soun
   acts (pc.FillNow n b d) todo own e l o h = run sc own _ _ (fill_ok t g base sc (nat_lt s.run.elements n) n b d todo own o.0 o.1 o.2) (fill_all (nat_lt s.run.elements n) n b d todo own s.run.operands h)
   acts (pc.TurnNow d x step b) todo own e l o h = run sc own _ _ (o.0, o.1.2, (o.0, o.1, turned t g base sc own todo o.0 o.2)) h
   acts (pc.Again d x step b) todo (Num ∷ own) e l o h =
-      run sc own _ _ (again_ok t g base sc (is_zero (number (top s.run.operands))) d x step b todo own o.0 o.1 o.2) (numbers own (below s.run.operands) todo (if is_zero (number (top s.run.operands)) then todo else pc.TurnNow d x step b ∷ todo) (none_numbers own o.0) (rest_of t few s.env.exec (With t s sigs todo) Num own s.run.operands h))
+      run sc own _ _ (again_ok t g base sc (is_zero (number (top s.run.operands))) d x step b todo own o.0 o.1 o.2) (numbers own (below s.run.operands) todo (if is_zero (number (top s.run.operands)) then todo else pc.TurnNow d x step b ∷ todo) (none_numbers own o.0) (rest_of t few s.env.exec (With t few s sigs todo) Num own s.run.operands h))
   acts (pc.Again d x step b) todo _ e l o h = absurd o
-  acts (pc.PrintNow form) todo (Num ∷ own) e l o h = calls.print t few source sound s sigs g base sc frames frame this callers env ends s.env.gathered _ todo own (below s.run.operands) o (rest_of t few s.env.exec (With t s sigs todo) Num own s.run.operands h)
+  acts (pc.PrintNow form) todo (Num ∷ own) e l o h = calls.print t few source sound s sigs g base sc frames frame this callers env ends s.env.gathered _ todo own (below s.run.operands) o (rest_of t few s.env.exec (With t few s sigs todo) Num own s.run.operands h)
   acts (pc.PrintNow form) todo _ e l o h = absurd o
   acts (pc.TextNow k) todo own e l o h = calls.print t few source sound s sigs g base sc frames frame this callers env ends s.env.gathered _ todo own s.run.operands o h
   acts pc.GatherNow todo own e l o h = run_like [] own todo _ (record s.env { gathered = Some [] }) s.run.elements refl refl refl refl refl o h
@@ -403,20 +391,23 @@ module _ (t : Table) (few : Ty → ℕ → Bool) (source : Source) (sound : Soun
   acts (pc.InLoop d x step b) todo (a ∷ own) e l o h = absurd o.0
   acts pc.InWhole todo [] e l o h = run sc [] todo _ o.2 h
   acts pc.InWhole todo (a ∷ own) e l o h = absurd o.0
-  acts (pc.Clean c) todo own e l o h = popped sc o
+  acts (pc.Clean c) todo own e l o h = popped sc o.0
     where
+      n : AreNumbers own
+      n = o.1
+
       popped : (sc : List Name) → Popped t g c sc (λ sc. Ok t g base sc todo own) → KnowsState t few [] (at (pc.clean_todo c todo) s.run.operands s)
       popped [] o = absurd o
-      popped (y ∷ sc) o = run sc own (pc.clean_todo c todo) _ (clean_ok t g base sc c todo own o.1 o.2) (numbers own s.run.operands (pc.Clean c ∷ todo) (pc.clean_todo c todo) l h)
+      popped (y ∷ sc) o = run sc own (pc.clean_todo c todo) _ (clean_ok t g base sc c todo own o.1 o.2) (numbers own s.run.operands (pc.Clean c ∷ todo) (pc.clean_todo c todo) n h)
   acts (pc.Sweep x) todo own e l o h = sweep s.run.elements x todo own o.0 o.1 h
-  acts (pc.Part c) todo own e l o h = run sc own todo _ o.1 (numbers own s.run.operands (pc.Part c ∷ todo) todo l h)
+  acts (pc.Part c) todo own e l o h = run sc own todo _ o.1 (numbers own s.run.operands (pc.Part c ∷ todo) todo o.2 h)
   acts (pc.Guard hs) todo [] e l o h = run sc [] todo _ o.2 h
   acts (pc.Guard hs) todo (a ∷ own) e l o h = absurd o.0
   acts pc.Unwind todo own e l o h = unwinding.unwind_knows t few source s sigs g base sc frames frame this callers env ends todo o
   acts pc.ThrowNow todo (a ∷ (b ∷ (c ∷ own))) e l o h = unwinding.throw_knows t few source s sigs g base sc frames frame this callers env ends _ todo (left t g base sc todo own o)
   acts pc.ThrowNow todo _ e l o h = absurd o
   acts pc.RaiseNow todo (a ∷ (b ∷ (c ∷ own))) e l o h =
-      unwinding.raise_knows t few source s sigs g base sc frames frame this callers env ends _ todo own o (rest_of t few s.env.exec (With t s sigs todo) c own (below (below s.run.operands)) (rest_behind t few s.env.exec (With t s sigs todo) a b (c ∷ own) s.run.operands h))
+      unwinding.raise_knows t few source s sigs g base sc frames frame this callers env ends _ todo own o (rest_of t few s.env.exec (With t few s sigs todo) c own (below (below s.run.operands)) (rest_behind t few s.env.exec (With t few s sigs todo) a b (c ∷ own) s.run.operands h))
   acts pc.RaiseNow todo _ e l o h = absurd o
   acts pc.Finish todo own e l o h = held_up s.env.own todo (pc.return_step nought s.callers s) (returned_knows t few source s sigs frames env nought s.callers refl callers)
   acts (pc.SetUpNow r) todo own e l o h = set_up (slice_get source.routines r) r todo own refl l o.0 o.2 h
@@ -435,51 +426,53 @@ module _ (t : Table) (few : Ty → ℕ → Bool) (source : Source) (sound : Soun
   acts (pc.BindMadeNow n r) todo _ e l o h = absurd o
   acts pc.MadeNow todo own e l o h = held_up (this_object s) todo _ (tt, run_like [] own todo _ (inside.build_ended (this_object s) s.env) s.run.elements refl refl refl refl refl o.1 h)
   acts (pc.SpawnNow r) todo own e l o h =
-      held_up (this_object s) (pc.ChildNow r ∷ todo) _ (tt, ((subst (IsOfTask t) (sym (o.0.0 ∙ o.1.1)) o.1.2, o.0.1, o.0.2), run_like [] own (pc.ChildNow r ∷ todo) _ (inside.build_ended (this_object s) s.env) s.run.elements refl refl refl refl refl o h))
+      held_up (this_object s) (pc.ChildNow r ∷ todo) _ (tt, ((subst (IsOfTask t) (sym (o.0.0 ∙ o.1.1)) o.1.2, o.0.1, o.0.2), l, run_like [] own (pc.ChildNow r ∷ todo) _ (inside.build_ended (this_object s) s.env) s.run.elements refl refl refl refl refl o h))
   acts (pc.ChildNow r) todo own e l o h = run sc own todo _ o.2 h
   acts pc.GoneNow todo own e l o h = (tt, run_like [] own todo _ (inside.call_gone (this_object s) s.env) s.run.elements refl refl refl refl refl o.1 h)
   acts pc.GiveUpNow todo own e l o h = (tt, run_like [] own todo _ (inside.build_ended (this_object s) s.env) s.run.elements refl refl refl refl refl o.1 h)
   acts pc.ClusterNow todo own e l o h = (tt, asks (Clu ∷ []) own todo _ o h)
-  acts pc.ProcessorNow todo (a ∷ own) e l o h = processor a own todo o.0 l o.1 h
-  acts pc.ProcessorNow todo [] e l o h = absurd o
+  acts pc.ProcessorNow todo (Clu ∷ own) e l o h =
+      let k = newest t few s.env.exec (With t few s sigs todo) Clu own s.run.operands h in
+      (number_few t few s.env.exec (With t few s sigs todo) Clu (top s.run.operands) k.is k.passes, asks (Pro ∷ []) own todo _ o (rest_of t few s.env.exec (With t few s sigs todo) Clu own s.run.operands h))
+  acts pc.ProcessorNow todo _ e l o h = absurd o
   acts pc.ClusterEndNow todo (Clu ∷ own) e l o h =
-      let k = newest t few s.env.exec (With t s sigs todo) Clu own s.run.operands h in
-      (number_few t few s.env.exec (With t s sigs todo) Clu (top s.run.operands) k.is k.passes, asks [] (Num ∷ own) todo _ o (tt, rest_of t few s.env.exec (With t s sigs todo) Clu own s.run.operands h))
+      let k = newest t few s.env.exec (With t few s sigs todo) Clu own s.run.operands h in
+      (number_few t few s.env.exec (With t few s sigs todo) Clu (top s.run.operands) k.is k.passes, asks [] (Num ∷ own) todo _ o (tt, rest_of t few s.env.exec (With t few s sigs todo) Clu own s.run.operands h))
   acts pc.ClusterEndNow todo _ e l o h = absurd o
   acts pc.ProcessorEndNow todo (Pro ∷ own) e l o h =
-      let k = newest t few s.env.exec (With t s sigs todo) Pro own s.run.operands h in
-      (number_few t few s.env.exec (With t s sigs todo) Pro (top s.run.operands) k.is k.passes, asks [] (Num ∷ own) todo _ o (tt, rest_of t few s.env.exec (With t s sigs todo) Pro own s.run.operands h))
+      let k = newest t few s.env.exec (With t few s sigs todo) Pro own s.run.operands h in
+      (number_few t few s.env.exec (With t few s sigs todo) Pro (top s.run.operands) k.is k.passes, asks [] (Num ∷ own) todo _ o (tt, rest_of t few s.env.exec (With t few s sigs todo) Pro own s.run.operands h))
   acts pc.ProcessorEndNow todo _ e l o h = absurd o
-  acts (pc.ConditionNow k n) todo (Num ∷ own) e l o h = condition k (index_in n (number (top s.run.operands))) todo own o (rest_of t few s.env.exec (With t s sigs todo) Num own s.run.operands h)
+  acts (pc.ConditionNow k n) todo (Num ∷ own) e l o h = condition k (index_in n (number (top s.run.operands))) todo own o (rest_of t few s.env.exec (With t few s sigs todo) Num own s.run.operands h)
   acts (pc.ConditionNow k n) todo _ e l o h = absurd o
   acts pc.WaitNow todo (Num ∷ (Num ∷ own)) e l o h =
-      held_up (this_object s) todo _ (tt, asks [] (Num ∷ own) todo _ o.1 (tt, rest_behind t few s.env.exec (With t s sigs todo) Num Num own s.run.operands h))
+      held_up (this_object s) todo _ (tt, asks [] (Num ∷ own) todo _ o.1 (tt, rest_behind t few s.env.exec (With t few s sigs todo) Num Num own s.run.operands h))
   acts pc.WaitNow todo _ e l o h = absurd o
-  acts pc.SignalNow todo (Num ∷ own) e l o h = (tt, asks [] (Num ∷ own) todo _ o.1 (tt, rest_of t few s.env.exec (With t s sigs todo) Num own s.run.operands h))
+  acts pc.SignalNow todo (Num ∷ own) e l o h = (tt, asks [] (Num ∷ own) todo _ o.1 (tt, rest_of t few s.env.exec (With t few s sigs todo) Num own s.run.operands h))
   acts pc.SignalNow todo _ e l o h = absurd o
-  acts pc.SignalBlockNow todo (Num ∷ own) e l o h = held_up (this_object s) todo _ (tt, asks [] (Num ∷ own) todo _ o.1 (tt, rest_of t few s.env.exec (With t s sigs todo) Num own s.run.operands h))
+  acts pc.SignalBlockNow todo (Num ∷ own) e l o h = held_up (this_object s) todo _ (tt, asks [] (Num ∷ own) todo _ o.1 (tt, rest_of t few s.env.exec (With t few s sigs todo) Num own s.run.operands h))
   acts pc.SignalBlockNow todo _ e l o h = absurd o
-  acts pc.EmptyNow todo (Num ∷ own) e l o h = (tt, asks (Num ∷ []) own todo _ o.1 (rest_of t few s.env.exec (With t s sigs todo) Num own s.run.operands h))
+  acts pc.EmptyNow todo (Num ∷ own) e l o h = (tt, asks (Num ∷ []) own todo _ o.1 (rest_of t few s.env.exec (With t few s sigs todo) Num own s.run.operands h))
   acts pc.EmptyNow todo _ e l o h = absurd o
-  acts pc.FrontNow todo (Num ∷ own) e l o h = (tt, asks (Num ∷ []) own todo _ o.1 (rest_of t few s.env.exec (With t s sigs todo) Num own s.run.operands h))
+  acts pc.FrontNow todo (Num ∷ own) e l o h = (tt, asks (Num ∷ []) own todo _ o.1 (rest_of t few s.env.exec (With t few s sigs todo) Num own s.run.operands h))
   acts pc.FrontNow todo _ e l o h = absurd o
   acts pc.YieldNow todo own e l o h = (tt, asks [] own todo _ o h)
   acts pc.MigrateNow todo (Clu ∷ own) e l o h =
-      let k = newest t few s.env.exec (With t s sigs todo) Clu own s.run.operands h in
-      (number_few t few s.env.exec (With t s sigs todo) Clu (top s.run.operands) k.is k.passes, asks [] own todo _ o (rest_of t few s.env.exec (With t s sigs todo) Clu own s.run.operands h))
+      let k = newest t few s.env.exec (With t few s sigs todo) Clu own s.run.operands h in
+      (number_few t few s.env.exec (With t few s sigs todo) Clu (top s.run.operands) k.is k.passes, asks [] own todo _ o (rest_of t few s.env.exec (With t few s sigs todo) Clu own s.run.operands h))
   acts pc.MigrateNow todo _ e l o h = absurd o
   acts (pc.Guards NoClauses) todo own e l o h = run sc own todo _ o.1 h
   acts (pc.Guards (Otherwise b)) todo own e l o h = run sc own todo _ o.1 h
   acts (pc.Guards (MoreClauses guard b cs)) todo own e l o h = run sc own _ _ (Num, o.0.0, (o.0.1, o.1)) h
   acts (pc.AcceptNow site n) todo own e l o h =
       accepts (mask_of (take_operands Nothing n s.run.operands [])) site n todo o.0 o.3 (calls.behind t few source sound s sigs g base sc frames frame this callers env ends todo (nums n) o.0 n (sym (nums_length n)) (subst (λ l. All todo l s.run.operands) o.1 h))
-  acts pc.FailedNow todo (Num ∷ own) e l o h = failed (is_zero (number (top s.run.operands))) todo own o (rest_of t few s.env.exec (With t s sigs todo) Num own s.run.operands h)
+  acts pc.FailedNow todo (Num ∷ own) e l o h = failed (is_zero (number (top s.run.operands))) todo own o (rest_of t few s.env.exec (With t few s sigs todo) Num own s.run.operands h)
   acts pc.FailedNow todo _ e l o h = absurd o
   acts (pc.ChooseNow cs) todo (Num ∷ own) e l o h =
-      run sc own (q.branch_todo (as_number (number (top s.run.operands))) cs todo) _ (chosen_ok t g base sc (as_number (number (top s.run.operands))) cs todo own o.0 o.1 o.2) (numbers own (below s.run.operands) todo (q.branch_todo (as_number (number (top s.run.operands))) cs todo) (none_numbers own o.0) (rest_of t few s.env.exec (With t s sigs todo) Num own s.run.operands h))
+      run sc own (q.branch_todo (as_number (number (top s.run.operands))) cs todo) _ (chosen_ok t g base sc (as_number (number (top s.run.operands))) cs todo own o.0 o.1 o.2) (numbers own (below s.run.operands) todo (q.branch_todo (as_number (number (top s.run.operands))) cs todo) (none_numbers own o.0) (rest_of t few s.env.exec (With t few s sigs todo) Num own s.run.operands h))
   acts (pc.ChooseNow cs) todo _ e l o h = absurd o
   acts pc.RaiseAtNow todo (Obj c ∷ (a ∷ (b ∷ (d ∷ own)))) e l o h =
-      raises c (top s.run.operands) (event_in (below s.run.operands)) todo own (drop 4 s.run.operands) o.0 (newest t few s.env.exec (With t s sigs todo) (Obj c) (a ∷ (b ∷ (d ∷ own))) s.run.operands h) o.1 (values_drop t few s.env.exec (With t s sigs todo) 4 (Obj c ∷ (a ∷ (b ∷ (d ∷ own)))) s.run.operands h)
+      raises c (top s.run.operands) (event_in (below s.run.operands)) todo own (drop 4 s.run.operands) o.0 (newest t few s.env.exec (With t few s sigs todo) (Obj c) (a ∷ (b ∷ (d ∷ own))) s.run.operands h) o.1 (values_drop t few s.env.exec (With t few s sigs todo) 4 (Obj c ∷ (a ∷ (b ∷ (d ∷ own)))) s.run.operands h)
   acts pc.RaiseAtNow todo _ e l o h = absurd o
   acts (pc.EnableNow events cell) todo own e l o h = enables (inside.enabled_more s.env.links.enabled events) cell todo own o h
   acts (pc.DisableNow events cell) todo own e l o h = enables (inside.enabled_less s.env.links.enabled events) cell todo own o h
@@ -487,7 +480,7 @@ module _ (t : Table) (few : Ty → ℕ → Bool) (source : Source) (sound : Soun
       run_like [] own todo _ (inside.with_enabled (inside.events_in (number (loaded (variable_at cell s) s.env))) s.env) s.run.elements refl refl refl refl refl o h
   acts pc.PollNow todo own e l o h = polls todo own o h
   acts pc.DeliverNow todo (Num ∷ (Num ∷ (Num ∷ own))) e l o h =
-      delivers (top (drop 2 s.run.operands)) todo own o (values_drop t few s.env.exec (With t s sigs todo) 3 (Num ∷ (Num ∷ (Num ∷ own))) s.run.operands h) h
+      delivers (top (drop 2 s.run.operands)) todo own o (values_drop t few s.env.exec (With t few s sigs todo) 3 (Num ∷ (Num ∷ (Num ∷ own))) s.run.operands h) h
   acts pc.DeliverNow todo _ e l o h = absurd o
 
   todos : (todo : List Todo) (own : List Ty) → s.run.control ≡ todo → Finds t few sigs g sc s todo own → Ok t g base sc todo own → All todo own s.run.operands → After (q.act_todo source todo s)

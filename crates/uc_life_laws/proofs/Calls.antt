@@ -14,7 +14,7 @@ use Rattle.uc_typing.specs.Pieces.{IsNone, onto, Exits, Ok, Left}
 use Rattle.uc_typing.specs.States.{IsBase, Sound}
 use Rattle.uc_typing.proofs.Frames.{drop_onto}
 use Rattle.uc_typing.proofs.Control.{left, exit_left, loop_ok, raised_ok, guard_nums}
-use Rattle.uc_life_laws.specs.Things.{IsTracked, Known}
+use Rattle.uc_life_laws.specs.Things.{Few, IsTracked, Known}
 use Rattle.uc_life_laws.specs.Knowing.{AtHand, KnownAll, KnownParams, KnownFrames, KnownThis, KnowsWaits, KnowsEnv, KnowsState, KnowsStep}
 use Rattle.uc_life_laws.proofs.Cells.{either}
 use Rattle.uc_life_laws.proofs.Knowns.{values_drop, newest, rest_of, params_call, frames_length, further_element}
@@ -23,13 +23,13 @@ use Rattle.uc_life_laws.proofs.Going as going
 use Rattle.uc_life_laws.proofs.Going.{With}
 use Rattle.uc_life_laws.proofs.Returning.{returned_knows, end_knows}
 
-module _ (t : Table) (few : Ty → ℕ → Bool) (source : Source) (sound : Sound t source) (s : State) (sigs : List Sig) (g : Sig) (base sc : List Name) (frames : KnownFrames t few s.env.exec sigs s.env.frames (s.run ∷ s.callers)) (frame : at_depth sigs s.run.frame ≡ Some g) (this : KnownThis t few s.env.exec (AtHand t s.env.exec (others sigs) s.callers) g g.this s.run.this) (callers : KnowsWaits t few s.env.exec (others sigs) s.callers) (env : KnowsEnv t few s.env) (ends : IsBase t g s.run.handles base s.run.frame s.callers) where
+module _ (t : Table) (few : Few) (source : Source) (sound : Sound t source) (s : State) (sigs : List Sig) (g : Sig) (base sc : List Name) (frames : KnownFrames t few s.env.exec sigs s.env.frames (s.run ∷ s.callers)) (frame : at_depth sigs s.run.frame ≡ Some g) (this : KnownThis t few s.env.exec (AtHand t few s.env.exec (others sigs) s.callers) g g.this s.run.this) (callers : KnowsWaits t few s.env.exec (others sigs) s.callers) (env : KnowsEnv t few s.env) (ends : IsBase t g s.run.handles base s.run.frame s.callers) where
   abbrev After : pc.Step → Type 0
   After x = KnowsStep t few source x
 
   -- of operands, what is known to a state with this to do
   abbrev All : List Todo → List Ty → List Value → Type 0
-  All todo own vs = KnownAll t few s.env.exec (With t s sigs todo) own vs
+  All todo own vs = KnownAll t few s.env.exec (With t few s sigs todo) own vs
 
   go : (inner : List Name) (own : List Ty) (todo : List Todo) (vs : List Value) → Ok t g base inner todo own → All todo own vs → KnowsState t few [] (at todo vs s)
   go = going.go t few s sigs g base frames frame this callers env ends
@@ -37,16 +37,16 @@ module _ (t : Table) (few : Ty → ℕ → Bool) (source : Source) (sound : Soun
   -- the operands behind the arguments
   pub behind : (todo : List Todo) (ps more : List Ty) (n : ℕ) → n ≡ length ps → All todo (onto ps more) s.run.operands → All todo more (drop n s.run.operands)
   behind todo ps more n e v =
-      subst (λ n. All todo more (drop n s.run.operands)) (sym e) (subst (λ l. All todo l (drop (length ps) s.run.operands)) (drop_onto ps more) (values_drop t few s.env.exec (With t s sigs todo) (length ps) (onto ps more) s.run.operands v))
+      subst (λ n. All todo more (drop n s.run.operands)) (sym e) (subst (λ l. All todo l (drop (length ps) s.run.operands)) (drop_onto ps more) (values_drop t few s.env.exec (With t few s sigs todo) (length ps) (onto ps more) s.run.operands v))
 
   -- a call
-  begun : (n : ℕ) (r : Routine) (here : Value) (counts : Bool) (own more : List Ty) (todo : List Todo) (vs : List Value) → slice_get source.routines n ≡ Some r → All todo (onto (t.routine n).params more) s.run.operands → KnownThis t few s.env.exec (With t s sigs todo) (t.routine n) (t.routine n).this here → Ok t g base sc todo (Num ∷ own) → All todo own vs → After (q.begun_step r here counts todo vs s)
+  begun : (n : ℕ) (r : Routine) (here : Value) (counts : Bool) (own more : List Ty) (todo : List Todo) (vs : List Value) → slice_get source.routines n ≡ Some r → All todo (onto (t.routine n).params more) s.run.operands → KnownThis t few s.env.exec (With t few s sigs todo) (t.routine n) (t.routine n).this here → Ok t g base sc todo (Num ∷ own) → All todo own vs → After (q.begun_step r here counts todo vs s)
   begun n r here counts own more todo vs e h i o k =
       let x = sound.routines n r e in
       let l : nat_eq (length s.env.frames) (length sigs) ≡ true = eq-eqb (length s.env.frames) (length sigs) (frames_length t few s.env.exec sigs s.env.frames (s.run ∷ s.callers) frames) in
       record {
         sigs = t.routine n ∷ sigs;
-        frames = (subst (λ c. KnownParams t few s.env.exec (With t s sigs todo) (t.routine n).params (take_operands Nothing c s.run.operands (replicate (r.cells - r.params) nought))) (sym x.params) (params_call t few s.env.exec (With t s sigs todo) (t.routine n).params more s.run.operands _ h), frames_run t few s.env.exec sigs s.env.frames s.run _ s.callers frames);
+        frames = (subst (λ c. KnownParams t few s.env.exec (With t few s sigs todo) (t.routine n).params (take_operands Nothing c s.run.operands (replicate (r.cells - r.params) nought))) (sym x.params) (params_call t few s.env.exec (With t few s sigs todo) (t.routine n).params more s.run.operands _ h), frames_run t few s.env.exec sigs s.env.frames s.run _ s.callers frames);
         run = record {
           sig = t.routine n;
           own = [];
@@ -67,14 +67,14 @@ module _ (t : Table) (few : Ty → ℕ → Bool) (source : Source) (sound : Soun
   call n (Some r) own more todo e u i o h =
       let x = sound.routines n r e in
       let v : All todo (onto (t.routine n).params more) s.run.operands = subst (λ l. All todo l s.run.operands) u h in
-      either After (nat_lt s.env.links.calls CALLS) _ _ (begun n r Nothing true more more todo (drop r.params s.run.operands) e v (subst (λ o. KnownThis t few s.env.exec (With t s sigs todo) (t.routine n) o Nothing) (sym i) tt) o (behind todo (t.routine n).params more r.params x.params v)) (tt, tt)
+      either After (nat_lt s.env.links.calls CALLS) _ _ (begun n r Nothing true more more todo (drop r.params s.run.operands) e v (subst (λ o. KnownThis t few s.env.exec (With t few s sigs todo) (t.routine n) o Nothing) (sym i) tt) o (behind todo (t.routine n).params more r.params x.params v)) (tt, tt)
 
   on_begun : (n : ℕ) (r : Routine) (counts : Bool) (own more : List Ty) (c : ℕ) (todo : List Todo) → slice_get source.routines n ≡ Some r → own ≡ onto (t.routine n).params (object_ty (t.routine n).whole c ∷ more) → (t.routine n).this ≡ Some c → Ok t g base sc todo (Num ∷ more) → All todo own s.run.operands → After (q.begun_step r (top (drop r.params s.run.operands)) counts todo (below (drop r.params s.run.operands)) s)
   on_begun n r counts own more c todo e u i o h =
       let x = sound.routines n r e in
       let v : All todo (onto (t.routine n).params (object_ty (t.routine n).whole c ∷ more)) s.run.operands = subst (λ l. All todo l s.run.operands) u h in
       let d : All todo (object_ty (t.routine n).whole c ∷ more) (drop r.params s.run.operands) = behind todo (t.routine n).params (object_ty (t.routine n).whole c ∷ more) r.params x.params v in
-      begun n r (top (drop r.params s.run.operands)) counts more (object_ty (t.routine n).whole c ∷ more) todo (below (drop r.params s.run.operands)) e v (subst (λ o. KnownThis t few s.env.exec (With t s sigs todo) (t.routine n) o (top (drop r.params s.run.operands))) (sym i) (newest t few s.env.exec (With t s sigs todo) (object_ty (t.routine n).whole c) more (drop r.params s.run.operands) d)) o (rest_of t few s.env.exec (With t s sigs todo) (object_ty (t.routine n).whole c) more (drop r.params s.run.operands) d)
+      begun n r (top (drop r.params s.run.operands)) counts more (object_ty (t.routine n).whole c ∷ more) todo (below (drop r.params s.run.operands)) e v (subst (λ o. KnownThis t few s.env.exec (With t few s sigs todo) (t.routine n) o (top (drop r.params s.run.operands))) (sym i) (newest t few s.env.exec (With t few s sigs todo) (object_ty (t.routine n).whole c) more (drop r.params s.run.operands) d)) o (rest_of t few s.env.exec (With t few s sigs todo) (object_ty (t.routine n).whole c) more (drop r.params s.run.operands) d)
 
   pub call_on : (n : ℕ) (c : Option Routine) (own more : List Ty) (k : ℕ) (todo : List Todo) → slice_get source.routines n ≡ c → own ≡ onto (t.routine n).params (object_ty (t.routine n).whole k ∷ more) → (t.routine n).this ≡ Some k → Ok t g base sc todo (Num ∷ more) → All todo own s.run.operands → After (q.call_on_step c todo s)
   call_on n None own more k todo e u i o h = (tt, env)
@@ -139,8 +139,8 @@ module _ (t : Table) (few : Ty → ℕ → Bool) (source : Source) (sound : Soun
   event (Try line body hs) todo f o h = on sc _ h (tt, f.0, (tt, f.1, (tt, o)))
   event (RaiseAt line x a) todo f o h =
       on sc _ h (raised_ok t g base sc x (pc.Eval a ∷ (pc.RaiseAtNow ∷ (pc.Within line ∷ todo))) f.0 (Obj f.1.0, f.1.1, (f.1.2, (tt, o))))
-  event (Enable line events cell a) todo f o h = on (Kept ∷ sc) _ h (tt, f, (tt, tt, (tt, o)))
-  event (Disable line events cell a) todo f o h = on (Kept ∷ sc) _ h (tt, f, (tt, tt, (tt, o)))
+  event (Enable line events cell a) todo f o h = on (Kept ∷ sc) _ h (tt, f, ((tt, tt, (tt, o)), tt))
+  event (Disable line events cell a) todo f o h = on (Kept ∷ sc) _ h (tt, f, ((tt, tt, (tt, o)), tt))
 
   -- a statement
   plain : (a : Stmt) (todo : List Todo) → FineStmt t g sc a → Ok t g base sc todo [] → s.run.operands ≡ [] → After (q.stmt_step a todo s)
@@ -174,8 +174,8 @@ module _ (t : Table) (few : Ty → ℕ → Bool) (source : Source) (sound : Soun
   stmts : (a : Stmts) (todo : List Todo) → FineStmts t g sc a → Ok t g base sc todo [] → s.run.operands ≡ [] → After (q.rest_step a todo s)
   stmts Nil todo f o h = on sc _ h o
   stmts (Then a more) todo f o h = on sc _ h (tt, f.0, (tt, f.1, o))
-  stmts (Scoped c more) todo f o h = on (f.0 ∷ sc) _ h (tt, f.2, (f.1, f.3, o))
-  stmts (Built c more) todo f o h = on sc _ h (tt, f.0, (f.1, o))
+  stmts (Scoped c more) todo f o h = on (f.0 ∷ sc) _ h (tt, f.2, ((f.1, f.3, o), tt))
+  stmts (Built c more) todo f o h = on sc _ h (tt, f.0, (f.1, o, tt))
 
   pub rest : (a : Stmts) (todo : List Todo) (own : List Ty) → IsNone own → FineStmts t g sc a → Ok t g base sc todo own → All todo own s.run.operands → After (q.rest_step a todo s)
   rest a todo (x ∷ own) n f o h = absurd n
@@ -200,7 +200,7 @@ module _ (t : Table) (few : Ty → ℕ → Bool) (source : Source) (sound : Soun
   flush (Some []) todo own vs o h = same_in own todo vs (record s.env { gathered = None }) refl refl refl refl refl o h
   flush (Some (p ∷ ps)) todo own vs o h = (tt, same_in own todo vs (record s.env { gathered = None }) refl refl refl refl refl o h)
 
-  pub element : (n : ℕ) (i : Option ℕ) (k : Shape) (a : Ty) (todo : List Todo) (v : Value) (own : List Ty) (vs : List Value) → ((j : ℕ) → i ≡ Some j → j < n) → IsPlaced t a → (IsTracked t a → k ≡ element_shape t a) → Known t few s.env.exec (With t s sigs todo) (Row n a) v → Ok t g base sc todo (a ∷ own) → All todo own vs → After (pc.element_step k i todo v vs s)
+  pub element : (n : ℕ) (i : Option ℕ) (k : Shape) (a : Ty) (todo : List Todo) (v : Value) (own : List Ty) (vs : List Value) → ((j : ℕ) → i ≡ Some j → j < n) → IsPlaced t a → (IsTracked t a → k ≡ element_shape t a) → Known t few s.env.exec (With t few s sigs todo) (Row n a) v → Ok t g base sc todo (a ∷ own) → All todo own vs → After (pc.element_step k i todo v vs s)
   element n None k a todo v own vs l d f w o h = (tt, tt)
   element n (Some i) k a todo v own vs l d f w o h =
-      go sc (a ∷ own) todo _ o (further_element t few s.env.exec (With t s sigs todo) n i a k v (l i refl) d f w, h)
+      go sc (a ∷ own) todo _ o (further_element t few s.env.exec (With t few s sigs todo) n i a k v (l i refl) d f w, h)

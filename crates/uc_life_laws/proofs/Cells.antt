@@ -9,7 +9,7 @@ use Rattle.uc_machine.specs.Pieces as piece
 use Rattle.uc_machine.specs.Pieces.{Value, Number, Place, Running, Object, Nothing, Todo, Sort, Active, stored, nought, address}
 use Rattle.uc_typing.specs.Typing.{Ty, Num, Cell, Obj, Raw, Row, Clu, Pro, Table}
 use Rattle.uc_typing.specs.States.{whole, IsAt, IsNumbered, IsObjectBy}
-use Rattle.uc_life_laws.specs.Things.{IsBinding, IsKnown, IsMade, Known, Holds, LiesBefore}
+use Rattle.uc_life_laws.specs.Things.{Few, IsBinding, IsKnown, IsMade, Known, Holds, LiesBefore}
 use Rattle.uc_life_laws.specs.LifeStates.{frame_at, MarkHolds, AllHold, LifeStack, MarkBefore, AllBefore, FrameBefore}
 
 -- the first of two by a test
@@ -61,7 +61,7 @@ module _ (t : Table) where
   object_nought true c h = h
   object_nought false c h = h
 
-module _ (t : Table) (few : Ty → ℕ → Bool) (n : Exec) (K : Value → Ty → Type 0) where
+module _ (t : Table) (few : Few) (n : Exec) (K : Value → Ty → Type 0) where
   -- what is bound stays so
   pub known_stored : (b : Ty) (v x : Value) → Known t few n K b x → Known t few n K b (stored v x)
   known_stored Num v x h = tt
@@ -126,7 +126,7 @@ others_length (x ∷ xs) n h = omega (arith, h)
 
 -- to-do lists and activations
 
-module _ (t : Table) (few : Ty → ℕ → Bool) (n : Exec) where
+module _ (t : Table) (few : Few) (n : Exec) where
   holds_stored : (K : Value → Ty → Type 0) (o : Owner) (vs : List Value) (k : ℕ) (v w : Value) (a : Ty) → Holds t few n K o vs w a → Holds t few n K o (value_changed k (stored v) nought vs) w a
   holds_stored K o vs k v w a h p b i binds =
       cell_stored (Known t few n K b) v (λ x y. known_stored t few n K b v x y) vs (address p) k (h p b i binds)

@@ -12,7 +12,7 @@ use Rattle.uc_machine.specs.Pieces.{FieldAt, Slot, Value, Todo, Active, State, E
 use Rattle.uc_typing.specs.Typing.{Ty, Num, Cell, Sig, Table, object_ty, InScope, IsPlaced, Yields}
 use Rattle.uc_typing.specs.Pieces.{Ok}
 use Rattle.uc_typing.specs.States.{Is, IsObject, IsThis, Values, Bound, Framed, Active_is, Waits, Rests, RestsBy, MaybeRests, Parked, Inhand, Typed, ReadsVariable, ReadsPlace, Sound}
-use Rattle.uc_life_laws.specs.Things.{itself, Variables, Known}
+use Rattle.uc_life_laws.specs.Things.{Few, itself, Variables, Known}
 use Rattle.uc_life_laws.specs.LifeStates.{SlotBy, ParkedBy, HandBy, LifeState}
 use Rattle.uc_life_laws.specs.Knowing.{AtHand, KnownAll, KnownParams, KnownFrames, KnownThis, Knows, KnowsWaits, KnowsEx, KnowsBy, KnowsSlot, KnowsState, Here, FindsExpr, Finds}
 use Rattle.uc_life_laws.specs.Following.{LawFollowing}
@@ -22,7 +22,7 @@ use Rattle.uc_life_laws.proofs.Reading as reading
 use Rattle.uc_life_laws.proofs.Going.{With}
 use Rattle.uc_life_laws.proofs.Evaluating as evaluating
 
-module _ (t : Table) (few : Ty → ℕ → Bool) where
+module _ (t : Table) (few : Few) where
   module _ (n : Exec) where
     all_typed : (K : Value → Ty → Type 0) (own : List Ty) (vs : List Value) → KnownAll t few n K own vs → Values t own vs
     all_typed K [] [] h = tt
@@ -37,7 +37,7 @@ module _ (t : Table) (few : Ty → ℕ → Bool) where
 
     frames_typed : (gs : List Sig) (fs : List (List Value)) (cs : List Active) → KnownFrames t few n gs fs cs → Framed t gs fs
     frames_typed [] [] [] h = tt
-    frames_typed (g ∷ gs) (f ∷ fs) (c ∷ cs) h = (params_typed (AtHand t n gs cs) g.params f h.0, frames_typed gs fs cs h.1)
+    frames_typed (g ∷ gs) (f ∷ fs) (c ∷ cs) h = (params_typed (AtHand t few n gs cs) g.params f h.0, frames_typed gs fs cs h.1)
     frames_typed [] [] (c ∷ cs) h = absurd h
     frames_typed [] (f ∷ fs) cs h = absurd h
     frames_typed (g ∷ gs) [] cs h = absurd h
@@ -58,8 +58,8 @@ module _ (t : Table) (few : Ty → ℕ → Bool) where
       scope = h.scope;
       base = h.base;
       frame = h.frame;
-      values = all_typed (AtHand t n gs (a ∷ older)) h.own a.operands h.values;
-      this = this_typed (AtHand t n (others gs) older) h.sig h.sig.this a.this h.this;
+      values = all_typed (AtHand t few n gs (a ∷ older)) h.own a.operands h.values;
+      this = this_typed (AtHand t few n (others gs) older) h.sig h.sig.this a.this h.this;
       ok = h.ok;
       ends = h.ends;
     }
@@ -106,12 +106,12 @@ module _ (t : Table) (few : Ty → ℕ → Bool) where
 
   module _ (source : Source) (sound : Sound t source) (s : State) (st : LifeState t few s) (x : KnowsState t few [] s) where
     K : Value → Ty → Type 0
-    K = Here t x.sigs s
+    K = Here t few x.sigs s
 
     of_variable : (k : ℕ) (a : Ty) → InScope x.run.scope k (Cell a) → Is t a (loaded (variable_at k s) s.env)
     of_variable k a i =
         let m : Variables t s.env.exec (s.run ∷ s.callers) (variable_at k s) (Cell a) = reading.scope_at t s.env.exec x.run.sig k (Cell a) s.run s.callers x.run.base x.run.scope x.run.own x.run.ok x.run.ends i in
-        known_is t few s.env.exec (Here t x.sigs s) a (loaded (variable_at k s) s.env) (reading.variable_read t few s st x.sigs (variable_at k s) (Cell a) s.run.frame (Slot k ∷ []) a (reading.is_binding t s.env.exec (variable_at k s) a (s.run ∷ s.callers) m) m itself)
+        known_is t few s.env.exec (Here t few x.sigs s) a (loaded (variable_at k s) s.env) (reading.variable_read t few s st x.sigs (variable_at k s) (Cell a) s.run.frame (Slot k ∷ []) a (reading.is_binding t s.env.exec (variable_at k s) a (s.run ∷ s.callers) m) m itself)
 
     by_name : (todo : List Todo) → ReadsVariable t x.run.scope s todo
     by_name [] = tt
@@ -125,24 +125,23 @@ module _ (t : Table) (few : Ty → ℕ → Bool) where
     -- of a field of the object at hand
     of_field : (k : Shape) (i : ℕ) (todo : List Todo) → s.run.control ≡ pc.Eval (OfObject (GetOwn k i)) ∷ todo → ((a : Ty) → Yields t x.run.sig x.run.scope (OfObject (GetOwn k i)) a → FindsExpr t few x.sigs x.run.sig x.run.scope s (OfObject (GetOwn k i)) a) → (b : Ty) → Yields t x.run.sig x.run.scope (OfObject (GetOwn k i)) b → (c : ℕ) (a : Ty) → x.run.sig.this ≡ Some c → Cell a ≡ t.fields c i → Is t a (loaded (further (FieldAt k i) s.run.this) s.env)
     of_field k i todo q f b y c a n e =
-        let l = f b y in
         let same : y.0 ≡ c = cc in
         let same_ty : b ≡ a = cell_same b a (y.3 ∙ (ap (λ d. t.fields d i) same ∙ sym e)) in
         let placed : IsPlaced t (t.fields y.0 i) = subst (IsPlaced t) y.3 tt in
         let to = evaluating.to t few source sound s st x.sigs x.run.sig x.run.base x.run.scope x.frames x.run.frame x.run.this x.callers x.env x.run.ends (pc.Eval (OfObject (GetOwn k i)) ∷ todo) q in
         let from = evaluating.from t few source sound s st x.sigs x.run.sig x.run.base x.run.scope x.frames x.run.frame x.run.this x.callers x.env x.run.ends (pc.Eval (OfObject (GetOwn k i)) ∷ todo) q in
-        let place = subst (λ d. Known t few s.env.exec (With t s x.sigs todo) d (further (FieldAt k i) s.run.this)) (sym y.3) (evaluating.own_field t few source sound s st x.sigs x.run.sig x.run.base x.run.scope x.frames x.run.frame x.run.this x.callers x.env x.run.ends todo y.0 k i y.1 y.2 placed (l.0 y.0 y.1)) in
-        subst (λ d. Is t d (loaded (further (FieldAt k i) s.run.this) s.env)) same_ty (known_is t few s.env.exec (With t s x.sigs todo) b (loaded (further (FieldAt k i) s.run.this) s.env) (evaluating.read_at t few source sound s st x.sigs x.run.sig x.run.base x.run.scope x.frames x.run.frame x.run.this x.callers x.env x.run.ends todo to from b (further (FieldAt k i) s.run.this) place l.1))
+        let place = subst (λ d. Known t few s.env.exec (With t few s x.sigs todo) d (further (FieldAt k i) s.run.this)) (sym y.3) (evaluating.own_field t few source sound s st x.sigs x.run.sig x.run.base x.run.scope x.frames x.run.frame x.run.this x.callers x.env x.run.ends todo y.0 k i y.1 y.2 placed) in
+        subst (λ d. Is t d (loaded (further (FieldAt k i) s.run.this) s.env)) same_ty (known_is t few s.env.exec (With t few s x.sigs todo) b (loaded (further (FieldAt k i) s.run.this) s.env) (evaluating.read_at t few source sound s st x.sigs x.run.sig x.run.base x.run.scope x.frames x.run.frame x.run.this x.callers x.env x.run.ends todo to from b (further (FieldAt k i) s.run.this) place (f b y)))
 
     of_own : (e : Expr) (todo : List Todo) (own : List Ty) → s.run.control ≡ pc.Eval e ∷ todo → ((a : Ty) → Yields t x.run.sig x.run.scope e a → FindsExpr t few x.sigs x.run.sig x.run.scope s e a) → (b : Ty) → Yields t x.run.sig x.run.scope e b → ReadsPlace t x.run.sig s (pc.Eval e ∷ todo) own
     of_own (OfObject (GetOwn k i)) todo own q f b y = λ r c a n e. of_field k i todo q f b y c a n e
     of_own (OfObject o) todo own q f b y = tt
     of_own e todo own q f b y = tt
 
-    at_place : (todo : List Todo) (own : List Ty) → s.run.control ≡ todo → Finds t few x.sigs x.run.sig x.run.scope s todo own → Ok t x.run.sig x.run.base x.run.scope todo own → KnownAll t few s.env.exec (Here t x.sigs s) own s.run.operands → ReadsPlace t x.run.sig s todo own
+    at_place : (todo : List Todo) (own : List Ty) → s.run.control ≡ todo → Finds t few x.sigs x.run.sig x.run.scope s todo own → Ok t x.run.sig x.run.base x.run.scope todo own → KnownAll t few s.env.exec (Here t few x.sigs s) own s.run.operands → ReadsPlace t x.run.sig s todo own
     at_place [] own q f o h = tt
     at_place (pc.LoadNow ∷ todo) (Cell a ∷ own) q f o h =
-        λ r. known_is t few s.env.exec (Here t x.sigs s) a (loaded (top s.run.operands) s.env) (reading.load_known t few s st x.sigs a (top s.run.operands) (newest t few s.env.exec (Here t x.sigs s) (Cell a) own s.run.operands h) f)
+        λ r. known_is t few s.env.exec (Here t few x.sigs s) a (loaded (top s.run.operands) s.env) (reading.load_known t few s st x.sigs a (top s.run.operands) (newest t few s.env.exec (Here t few x.sigs s) (Cell a) own s.run.operands h) f)
     at_place (pc.LoadNow ∷ todo) own q f o h = tt
     at_place (pc.Eval e ∷ todo) own q f o h = of_own e todo own q f o.0 o.1
     at_place (p ∷ todo) own q f o h = tt

@@ -1,5 +1,5 @@
 -- What is in scope keeps what it holds where members, executions and who runs change.
-use Rattle.std.proofs.Common.{◌≡◌, ℕ, length, ap, ◌∙◌, Bool, true, false, List, ◌∷◌, Option, Some, None, refl, sym, subst}
+use Rattle.std.proofs.Common.{◌≡◌, ℕ, length, ap, ◌∙◌, true, false, List, ◌∷◌, Option, Some, None, refl, sym, subst}
 use Rattle.uc_entry.specs.declared.fault.RunFault.TheVariants.{ResumeInUse, SwitchInUnwind}
 use Rattle.uc_entry.specs.Keyed.{find}
 use Rattle.uc_machine.specs.declared.exec.Exec.{Exec}
@@ -13,13 +13,14 @@ use Rattle.uc_machine.specs.Executions.{Links, exec_eq, joined, change, parked_a
 use Rattle.uc_machine.specs.Switches as sw
 use Rattle.uc_machine.specs.Switches.{Moved, To, Stops}
 use Rattle.uc_machine.specs.Pieces.{Value, Number, Place, Running, Object, Nothing, Todo, Active, State, Env, Members, address, stored, nought, written}
-use Rattle.uc_typing.specs.Typing.{Ty, Table}
+use Rattle.uc_typing.specs.Typing.{Table}
 use Rattle.uc_life_laws.specs.LifeStates.{SlotBy, ParkedBy, LifeStack, LifeEx, LifeEnv, LifeState}
 use Rattle.uc_life_laws.proofs.Cells.{either, set_length, stack_stored}
 use Rattle.uc_life_laws.proofs.Parked as parked
 use Rattle.uc_life_laws.proofs.Parked.{Ex, at_home}
+use Rattle.uc_life_laws.specs.Things.{Few}
 
-module _ (t : Table) (few : Ty → ℕ → Bool) where
+module _ (t : Table) (few : Few) where
   pub like : {e f : Env} → LifeEnv t few e → f.hand ≡ e.hand → f.house ≡ e.house → f.own ≡ e.own → LifeEnv t few f
   like s h g o = parked.like (LifeEx t few) s h g o
 

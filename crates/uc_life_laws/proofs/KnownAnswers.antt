@@ -1,5 +1,5 @@
 -- Answers, and tasks that begin: all is known there.
-use Rattle.std.proofs.Common.{◌≡◌, ℕ, ◌<◌, Bool, true, false, List, [], ◌∷◌, pos, Option, Some, None, refl, sym, subst}
+use Rattle.std.proofs.Common.{◌≡◌, ℕ, ◌<◌, Bool, true, false, List, [], ◌∷◌, pos, Option, Some, None, refl, sym, subst, inl}
 use Rattle.std.specs.Prelude.{slice_get}
 use Rattle.uc_tree.specs.Source.{Source, Routine, routine_or_none, routine_of}
 use Rattle.uc_entry.specs.declared.request.Request.{Request}
@@ -14,16 +14,17 @@ use Rattle.uc_machine.specs.Answering as on
 use Rattle.uc_typing.specs.Typing.{Ty, Num, Obj, Raw, Clu, Pro, Sig, Table, object_ty}
 use Rattle.uc_typing.specs.States.{IsObjectBy, IsOfTask, IsTask, Suits, Sound}
 use Rattle.uc_typing.proofs.Answers.{there}
-use Rattle.uc_life_laws.specs.Things.{Known}
+use Rattle.uc_life_laws.specs.Things.{Few, Known, Base, Held}
 use Rattle.uc_life_laws.specs.LifeStates.{MembersBy}
-use Rattle.uc_life_laws.specs.Knowing.{AtHand, KnownThis, KnowsEx, KnowsSlot, KnowsState, KnowsAsked}
+use Rattle.uc_life_laws.specs.Knowing.{AtHand, KnownThis, KnowsEx, KnowsSlot, KnowsState, KnowsAsked, main_of}
 use Rattle.uc_life_laws.specs.KnownAnswers.{Passes, MainPasses, LawAnswers}
 use Rattle.uc_life_laws.proofs.Parked as parked
 use Rattle.uc_life_laws.proofs.Parking.{frames_run, fresh_knows}
+use Rattle.uc_life_laws.proofs.Knowns.{held_more}
 
-module _ (t : Table) (few : Ty → ℕ → Bool) where
+module _ (t : Table) (few : Few) where
   -- one more operand of those that are to be given
-  brought : (a : Ty) (given : List Ty) (v : Value) (s : State) → KnowsState t few (a ∷ given) s → ((gs : List Sig) → Known t few s.env.exec (AtHand t s.env.exec gs (s.run ∷ s.callers)) a v) → KnowsState t few given (on.with_operand v s)
+  brought : (a : Ty) (given : List Ty) (v : Value) (s : State) → KnowsState t few (a ∷ given) s → ((gs : List Sig) → Known t few s.env.exec (AtHand t few s.env.exec gs (s.run ∷ s.callers)) a v) → KnowsState t few given (on.with_operand v s)
   brought a given v s x i = record {
     sigs = x.sigs;
     frames = frames_run t few s.env.exec x.sigs s.env.frames s.run _ s.callers x.frames;
@@ -52,11 +53,11 @@ module _ (t : Table) (few : Ty → ℕ → Bool) where
   }
 
   -- a mutex object, a cluster or a processor
-  made_by : (a : Ty) (o : ℕ) (s : State) (m : Option Members) → MembersBy (KnowsSlot t few) (home.Object o) m → KnowsState t few (a ∷ []) s → ((gs : List Sig) → Known t few s.env.exec (AtHand t s.env.exec gs (s.run ∷ s.callers)) a (Object o)) → KnowsState t few [] (on.with_operand (Object o) (on.entered m o s))
+  made_by : (a : Ty) (o : ℕ) (s : State) (m : Option Members) → MembersBy (KnowsSlot t few) (home.Object o) m → KnowsState t few (a ∷ []) s → ((gs : List Sig) → Known t few s.env.exec (AtHand t few s.env.exec gs (s.run ∷ s.callers)) a (Object o)) → KnowsState t few [] (on.with_operand (Object o) (on.entered m o s))
   made_by a o s None k x i = brought a [] (Object o) s x i
   made_by a o s (Some m) k x i = brought a [] (Object o) (on.entered (Some m) o s) (entered_knows (a ∷ []) (Some m) o s k x) i
 
-  made : (source : Source) (a : Ty) (o : ℕ) (s : State) → KnowsState t few (a ∷ []) s → ((gs : List Sig) → Known t few s.env.exec (AtHand t s.env.exec gs (s.run ∷ s.callers)) a (Object o)) → KnowsState t few [] (on.answered source (answer.Object o) s)
+  made : (source : Source) (a : Ty) (o : ℕ) (s : State) → KnowsState t few (a ∷ []) s → ((gs : List Sig) → Known t few s.env.exec (AtHand t few s.env.exec gs (s.run ∷ s.callers)) a (Object o)) → KnowsState t few [] (on.answered source (answer.Object o) s)
   made source a o s x i = made_by a o s (on.new_members source s.run.control) (new_there source o s.run.control) x i
 
   three : (u v w : Value) (s : State) → KnowsState t few (Num ∷ (Num ∷ (Num ∷ []))) s → KnowsState t few [] (on.with_operand w (on.with_operand v (on.with_operand u s)))
@@ -74,10 +75,10 @@ module _ (t : Table) (few : Ty → ℕ → Bool) where
   told source (ask.Poll mask) answer.Nothing s x h p = three Nothing Nothing Nothing s x
   told source (ask.Read form) (answer.Value z failed) s x h p = number_brought [] (Number z) s x
   told source ask.Fail (answer.Number z) s x h p = number_brought [] (Number z) s x
-  told source ask.Cluster (answer.Object o) s x h p = made source Clu o s x (λ gs. record { is = tt; passes = p; rooted = λ i. absurd i })
-  told source (ask.Processor c) (answer.Object o) s x h p = made source Pro o s x (λ gs. record { is = tt; passes = p; rooted = λ i. absurd i })
+  told source ask.Cluster (answer.Object o) s x h p = made source Clu o s x (λ gs. record { is = tt; passes = p; rooted = λ i. absurd i; held = λ m. absurd m })
+  told source (ask.Processor c) (answer.Object o) s x h p = made source Pro o s x (λ gs. record { is = tt; passes = p; rooted = λ i. absurd i; held = λ m. absurd m })
   told source (ask.Made o) answer.Go s x h p = x
-  told source (ask.Spawn o) answer.Go s x h p = x.1
+  told source (ask.Spawn o) answer.Go s x h p = x.2
   told source (ask.Call o m) answer.Go s x h p = x
   told source (ask.Leave o failed) answer.Go s x h p = x
   told source (ask.Wait o m z) answer.Go s x h p = x
@@ -96,22 +97,19 @@ module _ (t : Table) (few : Ty → ℕ → Bool) where
   -- a task begins
 
   module _ (source : Source) (sound : Sound t source) where
-    main_at : (n : Exec) (K : Value → Ty → Type 0) (b : Bool) (c o : ℕ) → t.mutex c ≡ true → few (Obj c) o ≡ true → Known t few n K (object_ty b c) (Object o)
-    main_at n K true c o m p = record { is = subst (λ b. IsObjectBy t b c (Object o)) (sym m) tt; passes = p }
-    main_at n K false c o m p = record { is = subst (λ b. IsObjectBy t b c (Object o)) (sym m) tt; passes = p; rooted = λ i. tt }
+    main_at : (n : Exec) (K : Value → Ty → Type 0) (b : Bool) (c o : ℕ) → t.mutex c ≡ true → few.numbers (Raw c) o ≡ true → few.numbers (Obj c) o ≡ true → Held t few K (Obj c) (Object o) → Known t few n K (object_ty b c) (Object o)
+    main_at n K true c o m q p h = record { is = subst (λ b. IsObjectBy t b c (Object o)) (sym m) tt; passes = q }
+    main_at n K false c o m q p h = record { is = subst (λ b. IsObjectBy t b c (Object o)) (sym m) tt; passes = p; rooted = λ i. h; held = λ i. h }
 
-    main_this : (n : Exec) (K : Value → Ty → Type 0) (g : Sig) (o : Option ℕ) (k : ℕ) → IsOfTask t o → MainPasses t few o k → KnownThis t few n K g o (Object k)
-    main_this n K g None k h p = tt
-    main_this n K g (Some c) k h p = main_at n K g.whole c k h p
+    main_this : (g : Sig) (o : Option ℕ) (k : ℕ) → IsOfTask t o → MainPasses t few o k → KnownThis t few (main_of k) (AtHand t few (main_of k) [] []) g o (Object k)
+    main_this g None k h p = tt
+    main_this g (Some c) k h p = main_at (main_of k) (AtHand t few (main_of k) [] []) g.whole c k h p.0 p.1 (held_more t few (main_of k) (Base few (main_of k)) (AtHand t few (main_of k) [] []) (λ w a b. inl b) (Obj c) (Object k) p.2)
 
     begins_by : (c : Option Routine) (r n : ℕ) → slice_get source.routines r ≡ c → IsTask t r → MainPasses t few (t.routine r).this n → KnowsState t few [] (first_state (routine_or_none c) n)
     begins_by None r n e h p = absurd (there source.routines r (subst (λ k. r < k) (sym sound.count) h.2) e)
-    begins_by (Some x) r n e h p = by (fresh_knows t few name (t.routine r) x (Object n) (sound.routines r x e) h.1 (main_this name (AtHand t name [] []) (t.routine r) (t.routine r).this n h.0 p))
+    begins_by (Some x) r n e h p = by (fresh_knows t few (main_of n) (t.routine r) x (Object n) (sound.routines r x e) h.1 (main_this (t.routine r) (t.routine r).this n h.0 p))
       where
-        name : Exec
-        name = record { home = home.Task n; serial = 0 }
-
-        by : KnowsEx t few name (fresh x (Object n)) → KnowsState t few [] (first_state x n)
+        by : KnowsEx t few (main_of n) (fresh x (Object n)) → KnowsState t few [] (first_state x n)
         by y = record { sigs = y.sigs; frames = y.frames; run = y.run; callers = y.callers; env = record { house = (tt, tt); hand = tt } }
 
     begins : (r n : ℕ) → IsTask t r → MainPasses t few (t.routine r).this n → KnowsState t few [] (first_state (routine_of source r) n)

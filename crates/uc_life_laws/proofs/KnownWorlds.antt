@@ -1,5 +1,5 @@
 -- In every run in which each step finds what it is to find, all is known that each execution can come by.
-use Rattle.std.proofs.Common.{◌≡◌, ℕ, ◌<◌, ◌≤◌, ◌==◌, ◌⊎◌, inl, inr, Bool, true, false, List, [], ◌∷◌, ◌++◌, Option, Some, None, refl, sym, ap, ◌∙◌, subst, arith}
+use Rattle.std.proofs.Common.{◌≡◌, ℕ, ◌<◌, ◌≤◌, ◌==◌, inl, Bool, true, false, List, [], ◌∷◌, ◌++◌, Option, Some, None, refl, sym, ap, ◌∙◌, subst, arith}
 use Rattle.std.specs.Prelude.{if◌then◌else◌}
 use Rattle.std.proofs.lemmas.Bool.{eqb-true, lt-ltb, ltb-true}
 use Rattle.uc_tree.specs.Source.{Source, routine_of}
@@ -12,7 +12,7 @@ use Rattle.uc_entry.specs.declared.request.Request.{Request}
 use Rattle.uc_entry.specs.declared.request.Request.TheVariants as ask
 use Rattle.uc_entry.specs.Keyed.{find}
 use Rattle.uc_acts.specs.Journal.{Journal, begin, held, is_over, own_object, cost, no_cost}
-use Rattle.uc_acts.specs.Known.{object_count, task_count, spawns, takes_out, has_ended}
+use Rattle.uc_acts.specs.Known.{object_count, task_count, spawns, takes_out, has_ended, is_gone}
 use Rattle.uc_acts.specs.Queues.{running, cluster_count, processor_count}
 use Rattle.uc_acts.specs.Answers.{answer_to}
 use Rattle.uc_acts.specs.Sound.{Unborn, spot}
@@ -27,7 +27,7 @@ use Rattle.uc_answer_laws.proofs.Runs.{kept_run, law_suiting, form_none}
 use Rattle.uc_answer_laws.proofs.Asking.{law_asking}
 use Rattle.uc_machine.specs.declared.exec.Home.TheVariants as home
 use Rattle.uc_machine.specs.Quiet.{State, Members, no_members, first_state, quiet}
-use Rattle.uc_machine.specs.Answering.{answered, child_of, with_hand}
+use Rattle.uc_machine.specs.Answering.{answered, child_of, with_hand, child_main}
 use Rattle.uc_machine.specs.Rides as rides
 use Rattle.uc_machine.specs.Rides.{Rides}
 use Rattle.uc_meaning.specs.Runs.{World, May, Runs, AsksIn, first_world, with_home, hand_of, drawn, or_else, world_after, bare, gives, no_room, acts, begun, more}
@@ -48,7 +48,7 @@ use Rattle.uc_scope_laws.proofs.StackWorlds.{StackWorld}
 use Rattle.uc_scope_laws.proofs.Unreferring.{law_accepted}
 use Rattle.uc_value_laws.specs.Opens.{RideMeets, MayMeet, RunMeets, LeadsMeet}
 use Rattle.uc_value_laws.proofs.Counts.{one_kept, told_others}
-use Rattle.uc_typing.specs.Typing.{Ty, Num, Obj, Raw, Clu, Pro, Table}
+use Rattle.uc_typing.specs.Typing.{Ty, Num, Obj, Raw, Clu, Pro, Table, object_ty}
 use Rattle.uc_typing.specs.States.{Sound, IsTask}
 use Rattle.uc_life_laws.proofs.Spawning.{Spawned, spawner, ended_before, suits}
 use Rattle.uc_sound.specs.Sounds.{of_program}
@@ -57,27 +57,28 @@ use Rattle.uc_sound.proofs.MainLemmas.{law_mains}
 use Rattle.uc_sound.proofs.SoundLemmas.{law_sound}
 use Rattle.uc_life_laws.specs.LifeStates.{HandBy, MembersBy, LifeState, LifeStep}
 use Rattle.uc_life_laws.specs.LifeRuns.{IsLaidOut}
-use Rattle.uc_life_laws.specs.Knowing.{KnowsSlot, KnowsState, KnowsAsked, KnowsStep, Names}
+use Rattle.uc_life_laws.specs.Knowing.{KnowsSlot, KnowsState, KnowsAsked, KnowsStep, Names, HasObject}
 use Rattle.uc_life_laws.specs.KnownAnswers.{Passes, MainPasses}
-use Rattle.uc_life_laws.specs.KnownRuns.{PassesBelow, Meets, KnowsRest, LawKnownRuns, is_made, NamesMade, LawNamed}
+use Rattle.uc_life_laws.specs.KnownRuns.{PassesBelow, Meets, KnowsRest, LawKnownRuns, is_made, NamesMade, LawNamed, made_by}
 use Rattle.uc_life_laws.proofs.Cells.{either}
 use Rattle.uc_life_laws.proofs.Parked.{found_hand}
 use Rattle.uc_life_laws.proofs.KnownAnswers.{law_answers}
 use Rattle.uc_life_laws.proofs.Acting.{law_known}
 use Rattle.uc_life_laws.proofs.Laying.{laid_out}
 use Rattle.uc_life_laws.proofs.LifeWorlds.{LifeWorld, acted, life_begun, steps_to, stack_told, life_told}
-use Rattle.uc_life_laws.proofs.NewNumbers.{objects_grow, clusters_grow, processors_grow, some_object, some_cluster, told_object, told_cluster, told_processor, spawned_object}
+use Rattle.uc_life_laws.proofs.NewNumbers.{objects_grow, clusters_grow, processors_grow, some_object, told_object, told_cluster, told_processor, spawned_object}
+use Rattle.uc_life_laws.specs.Things.{Few, numbered, lies, itself}
 
 -- another hand
 
-module _ (t : Table) (few : Ty → ℕ → Bool) where
+module _ (t : Table) (few : Few) where
   handed : (given : List Ty) (hand : List (ℕ × Members)) (s : State) → KnowsState t few given s → HandBy (KnowsSlot t few) hand → KnowsState t few given (with_hand hand s)
   handed given hand s x h = record { sigs = x.sigs; frames = x.frames; run = x.run; callers = x.callers; env = record { house = x.env.house; hand = h } }
 
   module _ (source : Source) where
     asked_handed : (q : Request) (hand : List (ℕ × Members)) (s : State) → KnowsAsked t few source q s → HandBy (KnowsSlot t few) hand → KnowsAsked t few source q (with_hand hand s)
     asked_handed (ask.Make m) hand s x h = (x.0, x.1, x.2, handed (Raw x.0 ∷ []) hand s x.3 h)
-    asked_handed (ask.Spawn o) hand s x h = (x.0, handed [] hand s x.1 h)
+    asked_handed (ask.Spawn o) hand s x h = (x.0, x.1, handed [] hand s x.2 h)
     asked_handed (ask.Accept o site mask) hand s x h = handed (Num ∷ (Num ∷ [])) hand s x h
     asked_handed (ask.Empty o m) hand s x h = handed (Num ∷ []) hand s x h
     asked_handed (ask.Front o m) hand s x h = handed (Num ∷ []) hand s x h
@@ -93,7 +94,7 @@ module _ (t : Table) (few : Ty → ℕ → Bool) where
     -- what is in hand where something is asked that is no fault
     asked_hand : (q : Request) (s : State) → ((m : ℕ) → q ≡ ask.Fault m → ⊥) → KnowsAsked t few source q s → HandBy (KnowsSlot t few) s.env.hand
     asked_hand (ask.Make m) s f x = x.3.env.hand
-    asked_hand (ask.Spawn o) s f x = x.1.env.hand
+    asked_hand (ask.Spawn o) s f x = x.2.env.hand
     asked_hand ask.End s f x = x.hand
     asked_hand (ask.Fault m) s f x = absurd (f m refl)
     asked_hand (ask.Accept o site mask) s f x = x.env.hand
@@ -125,27 +126,43 @@ module _ (t : Table) (few : Ty → ℕ → Bool) where
   passes_by (ask.Processor c) (answer.Object o) f = f o refl
   passes_by q a f = tt
 
-  main_passes : (c : Option ℕ) (n m : ℕ) → ((c : ℕ) → n < m → few (Obj c) n ≡ true) → n < m → MainPasses t few c n
-  main_passes None n m f l = tt
-  main_passes (Some c) n m f l = f c l
+  main_passes : (c : Option ℕ) (n : ℕ) → ((c : ℕ) → (few.numbers (Raw c) n ≡ true) × (few.numbers (Obj c) n ≡ true)) → HasObject t few c n → MainPasses t few c n
+  main_passes None n f h = tt
+  main_passes (Some c) n f h = let l = f c in (l.0, l.1, h)
 
 -- fewer numbers pass before
-earlier : (few : Ty → ℕ → Bool) (opts : Options) (j : Journal) (a : List Entry) → PassesBelow few opts (j ++ a) → PassesBelow few opts j
+pub earlier : (few : Few) (opts : Options) (j : Journal) (a : List Entry) → PassesBelow few opts (j ++ a) → PassesBelow few opts j
 earlier few opts j a b = record {
   objects = λ c n l. let m = objects_grow j a in b.objects c n (omega (arith, l, m));
+  raws = λ c n l. let m = objects_grow j a in b.raws c n (omega (arith, l, m));
   clusters = λ n l. let m = clusters_grow j a in b.clusters n (omega (arith, l, m));
   processors = λ n l. let m = processors_grow opts j a in b.processors n (omega (arith, l, m));
 }
 
-module _ (t : Table) (few : Ty → ℕ → Bool) (source : Source) (sound : Sound t source) (main : IsTask t source.main) (Z : ℕ → ℕ → Type 0) (laid : IsLaidOut Z t) (in_rooms : SourceIn Z source) where
+-- at an act all numbers pass of what was there and is not gone, and of what is new
+pub record PassesNow (few : Few) (opts : Options) (j : Journal) (a : List Entry) : Type 0 where
+  pub objects : (c n : ℕ) → n < object_count j → is_gone n j ≡ false → few.numbers (Obj c) n ≡ true
+  pub raws : (c n : ℕ) → n < object_count (j ++ a) → few.numbers (Raw c) n ≡ true
+  pub clusters : (n : ℕ) → n < cluster_count (j ++ a) → few.numbers Clu n ≡ true
+  pub processors : (n : ℕ) → n < processor_count opts (j ++ a) → few.numbers Pro n ≡ true
+
+now : (few : Few) (opts : Options) (j : Journal) (a : List Entry) → PassesBelow few opts (j ++ a) → PassesNow few opts j a
+now few opts j a b = record {
+  objects = λ c n l g. (earlier few opts j a b).objects c n l;
+  raws = b.raws;
+  clusters = b.clusters;
+  processors = b.processors;
+}
+
+module _ (t : Table) (few : Few) (source : Source) (sound : Sound t source) (main : IsTask t source.main) (Z : ℕ → ℕ → Type 0) (laid : IsLaidOut Z t) (in_rooms : SourceIn Z source) where
   -- steps and rides
 
   -- in a state what is in scope holds what is known, and all is known
-  record There (s : State) : Type 0 where
-    life : LifeState t few s
-    known : KnowsState t few [] s
+  pub record There (s : State) : Type 0 where
+    pub life : LifeState t few s
+    pub known : KnowsState t few [] s
 
-  knows_to : (s : State) → Meets t few s → There s → KnowsStep t few source (quiet source s)
+  pub knows_to : (s : State) → Meets t few s → There s → KnowsStep t few source (quiet source s)
   knows_to s m x = let y = (m x.life x.known).1 in law_known t few source sound s x.life y.0 y.1
 
   stack_to : (s : State) → StackState Z s → StackStep Z (quiet source s)
@@ -155,11 +172,11 @@ module _ (t : Table) (few : Ty → ℕ → Bool) (source : Source) (sound : Soun
   life_to s st m x = steps_to t few Z laid source in_rooms s st (m x.life x.known).0 x.life
 
   -- where a ride ends
-  record Ends (r : Request) (s : State) : Type 0 where
-    life : LifeState t few s
-    asked : KnowsAsked t few source r s
+  pub record Ends (r : Request) (s : State) : Type 0 where
+    pub life : LifeState t few s
+    pub asked : KnowsAsked t few source r s
 
-  ridden : {s u : State} {q k : ℕ} {a : Asked} (r : Rides source s q u k a) → RideMeets (Meets t few) source s q u k a r → StackState Z s → There s → Ends a.request u
+  pub ridden : {s u : State} {q k : ℕ} {a : Asked} (r : Rides source s q u k a) → RideMeets (Meets t few) source s q u k a r → StackState Z s → There s → Ends a.request u
   ridden rides.slices m st x = record { life = x.life; asked = x.known }
   ridden (rides.goes_on {s} e r) m st x =
       ridden r m.1 (subst (StackStep Z) e (stack_to s st)) (record { life = subst (LifeStep t few) e (life_to s st m.0 x); known = subst (KnowsStep t few source) e (knows_to s m.0 x) })
@@ -167,7 +184,7 @@ module _ (t : Table) (few : Ty → ℕ → Bool) (source : Source) (sound : Soun
       ridden r m.1 (subst (StackStep Z) e (stack_to s st)) (record { life = subst (LifeStep t few) e (life_to s st m.0 x); known = subst (KnowsStep t few source) e (knows_to s m.0 x) })
   ridden (rides.asks {s} e) m st x = record { life = subst (LifeStep t few) e (life_to s st m x); asked = (subst (KnowsStep t few source) e (knows_to s m x)).1 }
 
-  led : {s u : State} (l : Leads source s u) → LeadsMeet (Meets t few) source s u l → StackState Z s → There s → There u
+  pub led : {s u : State} (l : Leads source s u) → LeadsMeet (Meets t few) source s u l → StackState Z s → There s → There u
   led runs.stays m st x = x
   led (runs.goes {s} e l) m st x =
       led l m.1 (subst (StackStep Z) e (stack_to s st)) (record { life = subst (LifeStep t few) e (life_to s st m.0 x); known = subst (KnowsStep t few source) e (knows_to s m.0 x) })
@@ -175,10 +192,10 @@ module _ (t : Table) (few : Ty → ℕ → Bool) (source : Source) (sound : Soun
       led l m.1 (subst (StackStep Z) e (stack_to s st)) (record { life = subst (LifeStep t few) e (life_to s st m.0 x); known = subst (KnowsStep t few source) e (knows_to s m.0 x) })
 
   -- the tasks and what is at home
-  record KnownWorld (j : Journal) (w : World) : Type 0 where
-    tasks : (n : ℕ) → has_ended n j ≡ false → KnowsRest t few source j n (w.tasks n)
-    homes : (o : ℕ) → MembersBy (KnowsSlot t few) (home.Object o) (w.homes o)
-    life : LifeWorld t few w
+  pub record KnownWorld (j : Journal) (w : World) : Type 0 where
+    pub tasks : (n : ℕ) → has_ended n j ≡ false → KnowsRest t few source j n (w.tasks n)
+    pub homes : (o : ℕ) → MembersBy (KnowsSlot t few) (home.Object o) (w.homes o)
+    pub life : LifeWorld t few w
 
   -- a task that just goes on
   going_on : (j : Journal) (n : ℕ) (s : State) → JustGo ≡ asked_form n j → KnowsState t few [] s → KnowsRest t few source j n s
@@ -193,7 +210,7 @@ module _ (t : Table) (few : Ty → ℕ → Bool) (source : Source) (sound : Soun
         let passes = passes_by t few x.request a (λ o q. x.told o (told ∙ ap (λ (y : Answer). Some y) q)) in
         law_answers.told t few source x.request a (drawn j w n) (asked_handed t few source x.request (hand_of (held n j) w.homes) (w.tasks n) x.asked (hand_known t few (held n j) w.homes h.homes)) fits passes
 
-    module _ (p n k : ℕ) (s : State) (asked : Asked) (d : AsksIn source opts j w p n k s asked) (ends : Ends asked.request s) (m : MayAsk opts source.sites j p n k asked.request) (still : is_over (j ++ act opts source.sites input j p n k asked) ≡ false) (below : PassesBelow few opts (j ++ act opts source.sites input j p n k asked)) where
+    module _ (p n k : ℕ) (s : State) (asked : Asked) (d : AsksIn source opts j w p n k s asked) (ends : Ends asked.request s) (m : MayAsk opts source.sites j p n k asked.request) (still : is_over (j ++ act opts source.sites input j p n k asked) ≡ false) (below : PassesNow few opts j (act opts source.sites input j p n k asked)) where
       abbrev a : List Entry
       a = act opts source.sites input j p n k asked
 
@@ -219,7 +236,7 @@ module _ (t : Table) (few : Ty → ℕ → Bool) (source : Source) (sound : Soun
 
       -- what is new has a number below the counts
       told_passes : (r : Request) → asked.request ≡ r → (o : ℕ) → answer_to source.sites n (j ++ a) ≡ Some (answer.Object o) → Passes t few r (answer.Object o)
-      told_passes (ask.Make x) q o e = λ c i. below.objects c o (told_object opts source.sites input j p n k asked still x o q e)
+      told_passes (ask.Make x) q o e = λ c i. below.raws c o (told_object opts source.sites input j p n k asked still x o q e)
       told_passes ask.Cluster q o e = below.clusters o (told_cluster opts source.sites input j p n k asked still o q e)
       told_passes (ask.Processor c) q o e = below.processors o (told_processor opts source.sites input j p n k asked still c o q e)
       told_passes r q o e = tt
@@ -252,7 +269,11 @@ module _ (t : Table) (few : Ty → ℕ → Bool) (source : Source) (sound : Soun
       -- whoever is spawned begins with the main of a task
       child : (u : ℕ) (r : Request) → asked.request ≡ r → Fits opts source.sites j n r → Spawned j u r → KnowsAsked t few source r s → (u ≡ task_count j) × KnowsState t few [] (child_of source (own_object u a) s)
       child u (ask.Spawn o) q f h x =
-          (h, law_answers.spawned t few source sound o (own_object u a) s x (main_passes t few _ (own_object u a) (object_count (j ++ a)) (λ c l. below.objects c (own_object u a) l) (spawned_object opts source.sites input j p n k asked still u o q f.0.known.made)))
+          let made = f.0.known.made in
+          let grows = objects_grow j a in
+          let l : o < object_count (j ++ a) = omega (arith, made, grows) in
+          let passes : (c : ℕ) → (few.numbers (Raw c) o ≡ true) × (few.numbers (Obj c) o ≡ true) = λ c. (below.raws c o l, below.objects c o made f.0.known.not_gone) in
+          (h, subst (λ n. KnowsState t few [] (child_of source n s)) (sym (spawned_object opts source.sites input j p n k asked still u o q h)) (law_answers.spawned t few source sound o o s x (main_passes t few (t.routine (child_main source s.run.control)).this o passes x.1)))
       child u r q f h x = absurd h
 
       new_form : (u : ℕ) → u ≡ task_count j → asked_form u j ≡ JustGo
@@ -276,14 +297,14 @@ module _ (t : Table) (few : Ty → ℕ → Bool) (source : Source) (sound : Soun
               subst (λ v. KnowsRest t few source (j ++ a) v (bare s)) (sym q) (own_after (ap (λ v. has_ended v (j ++ a)) (sym q) ∙ ended))
           by false e = born (spawns a u) e refl
 
-      act_known : KnownWorld (j ++ a) after
+      pub act_known : KnownWorld (j ++ a) after
       act_known = record {
         tasks = tasks_after;
         homes = λ o. either (MembersBy (KnowsSlot t few) (home.Object o)) (takes_out a o) None (or_else (find o s.env.hand) (w.homes o)) tt (or_known t few o (find o s.env.hand) (w.homes o) (found_hand (KnowsSlot t few) o s.env.hand hand) (h.homes o));
         life = acted t few Z laid source in_rooms w a n s h.life ends.life;
       }
 
-    given_known : (p n : ℕ) → KnownWorld (j ++ dispatch p n ∷ []) w
+    pub given_known : (p n : ℕ) → KnownWorld (j ++ dispatch p n ∷ []) w
     given_known p n = record {
       tasks = λ u ended.
           let x = h.tasks u (ended_before u j (dispatch p n ∷ []) ended) in
@@ -299,35 +320,35 @@ module _ (t : Table) (few : Ty → ℕ → Bool) (source : Source) (sound : Soun
       life = h.life;
     }
 
-  begin_known : (opts : Options) → PassesBelow few opts (begin opts ∷ []) → KnownWorld (begin opts ∷ []) (first_world source)
-  begin_known opts below = record {
-    tasks = λ u ended. going_on (begin opts ∷ []) u (first_state (routine_of source source.main) 0) (sym (form_push u [] (begin opts) ∙ form_none u)) (law_answers.begins t few source sound source.main 0 main (main_passes t few (t.routine source.main).this 0 (object_count (begin opts ∷ [])) (λ c l. below.objects c 0 l) (some_object (begin opts ∷ []))));
+  pub begin_known : (opts : Options) → MainPasses t few (t.routine source.main).this 0 → KnownWorld (begin opts ∷ []) (first_world source)
+  begin_known opts first = record {
+    tasks = λ u ended. going_on (begin opts ∷ []) u (first_state (routine_of source source.main) 0) (sym (form_push u [] (begin opts) ∙ form_none u)) (law_answers.begins t few source sound source.main 0 main first);
     homes = λ o. either (MembersBy (KnowsSlot t few) (home.Object o)) (o == 0) (Some no_members) None tt tt;
     life = life_begun t few Z laid source in_rooms;
   }
 
   module _ (input : List ℕ) (opts : Options) (range : InRange opts) where
     -- whoever runs, told its answer
-    starts : {j : Journal} {w : World} → KernelRuns opts source.sites input j → is_over j ≡ false → KnownWorld j w → (p n : ℕ) (a : Answer) → running p j ≡ n ∷ [] → answer_to source.sites n j ≡ Some a → There (answered source a (drawn j w n))
+    pub starts : {j : Journal} {w : World} → KernelRuns opts source.sites input j → is_over j ≡ false → KnownWorld j w → (p n : ℕ) (a : Answer) → running p j ≡ n ∷ [] → answer_to source.sites n j ≡ Some a → There (answered source a (drawn j w n))
     starts {j} {w} kernel on h p n a r told = record {
       life = life_told t few Z laid source in_rooms a j w n h.life;
       known = runs_known opts input j w kernel on h p n a r told;
     }
 
-    may_known : {j : Journal} {w : World} {a : List Entry} {x : World} → KernelRuns opts source.sites input j → is_over j ≡ false → StackWorld Z w → KnownWorld j w → (m : May source opts input j w a x) → MayFit source opts input j w a x m → MayMeet (Meets t few) source opts input j w a x m → is_over (j ++ a) ≡ false → PassesBelow few opts (j ++ a) → KnownWorld (j ++ a) x
+    pub may_known : {j : Journal} {w : World} {a : List Entry} {x : World} → KernelRuns opts source.sites input j → is_over j ≡ false → StackWorld Z w → KnownWorld j w → (m : May source opts input j w a x) → MayFit source opts input j w a x m → MayMeet (Meets t few) source opts input j w a x m → is_over (j ++ a) ≡ false → PassesNow few opts j a → KnownWorld (j ++ a) x
     may_known {j} {w} kernel on st h (gives p n s le) f r still below = given_known opts input j w kernel on h p n
     may_known {j} {w} kernel on st h (no_room p n s le) f r still below = no_both (is_over (j ++ lone_limit ∷ [])) (over_limit j 0 0) still
     may_known {j} {w} kernel on st h (acts p n k s asked d) f r still below =
         let ends : Ends asked.request s = ridden d.rides r (stack_told t few Z laid source in_rooms d.given j w n st) (starts kernel on h p n d.given d.runs d.told) in
         act_known opts input j w kernel on h p n k s asked d ends (may_ask source input opts range d f) still below
 
-    run_known : {j : Journal} {w : World} (r : Runs source input opts j w) → RunFits source input opts j w r → RunMeets (Meets t few) source input opts j w r → is_over j ≡ false → PassesBelow few opts j → KnownWorld j w
-    run_known begun f g still below = begin_known opts below
-    run_known (more {j} {w} {a} r on m) f g still below =
-        may_known (run_rests source input opts range r f.0 on).kernel on (stacked.world_rests Z source in_rooms input opts r) (run_known r f.0 g.0 on (earlier few opts j a below)) m f.1 g.1 still below
+    run_known : {j : Journal} {w : World} (r : Runs source input opts j w) → RunFits source input opts j w r → RunMeets (Meets t few) source input opts j w r → is_over j ≡ false → PassesBelow few opts j → MainPasses t few (t.routine source.main).this 0 → KnownWorld j w
+    run_known begun f g still below first = begin_known opts first
+    run_known (more {j} {w} {a} r on m) f g still below first =
+        may_known (run_rests source input opts range r f.0 on).kernel on (stacked.world_rests Z source in_rooms input opts r) (run_known r f.0 g.0 on (earlier few opts j a below) first) m f.1 g.1 still (now few opts j a below)
 
 pub law_known_runs : LawKnownRuns
-law_known_runs p formed accepted few input opts range j w r fits on below meets = record {
+law_known_runs p formed accepted few input opts range j w r fits on below first meets = record {
   tasks = h.tasks;
   homes = h.homes;
   comes = λ n s c l. (there n s c l).known;
@@ -357,35 +378,41 @@ law_known_runs p formed accepted few input opts range j w r fits on below meets 
     known = law_accepted p accepted
 
     h : KnownWorld t few source sound main Z laid known j w
-    h = run_known t few source sound main Z laid known input opts range r fits meets on below
+    h = run_known t few source sound main Z laid known input opts range r fits meets on below first
 
     there : (n : ℕ) (s : State) (c : Comes source j w n s) → LeadsMeet (Meets t few) source (answered source c.given (drawn j w n)) s c.leads → There t few source sound main Z laid known s
     there n s c l =
         led t few source sound main Z laid known c.leads l (stack_told t few Z laid source known c.given j w n (stacked.world_rests Z source known input opts r)) (starts t few source sound main Z laid known input opts range (run_rests source input opts range r fits on).kernel on h c.processor n c.given c.runs c.told)
 
+-- where numbers alone are told, each task has its object at hand
+pub main_numbered : (t : Table) (numbers : Ty → ℕ → Bool) (c : Option ℕ) (o : ℕ) → ((c : ℕ) → numbers (Obj c) o ≡ true) → MainPasses t (numbered numbers) c o
+main_numbered t numbers None o f = tt
+main_numbered t numbers (Some c) o f = (f c, f c, inl (lies refl itself))
+
 -- numbers that were made
 
-all_made : (opts : Options) (j : Journal) → PassesBelow (is_made opts j) opts j
+pub all_made : (opts : Options) (j : Journal) → PassesBelow (is_made opts j) opts j
 all_made opts j = record {
   objects = λ c n l. lt-ltb n (object_count j) l;
+  raws = λ c n l. lt-ltb n (object_count j) l;
   clusters = λ n l. lt-ltb n (cluster_count j) l;
   processors = λ n l. lt-ltb n (processor_count opts j) l;
 }
 
 module _ (t : Table) (opts : Options) (j : Journal) where
-  first_cluster : (c : ℕ) → (c ≡ 0) ⊎ (is_made opts j Clu c ≡ true) → c < cluster_count j
-  first_cluster c (inl e) = let l = some_cluster j in omega (arith, e, l)
-  first_cluster c (inr e) = ltb-true c (cluster_count j) e
+  called : (c : ℕ) (b : Bool) (o : ℕ) → (is_made opts j).numbers (object_ty b c) o ≡ true → o < object_count j
+  called c true o h = ltb-true o (object_count j) h
+  called c false o h = ltb-true o (object_count j) h
 
   names_made : (r : Request) → Names t (is_made opts j) r → NamesMade opts j r
-  names_made (ask.Call o m) h = ltb-true o (object_count j) h.1
+  names_made (ask.Call o m) h = called h.0 h.1 o h.2
   names_made (ask.Raise o m x y) h = ltb-true o (object_count j) h.1
   names_made (ask.ClusterEnd c) h = ltb-true c (cluster_count j) h
-  names_made (ask.Processor c) h = first_cluster c h
+  names_made (ask.Processor c) h = ltb-true c (cluster_count j) h
   names_made (ask.ProcessorEnd q) h = ltb-true q (processor_count opts j) h
   names_made (ask.Migrate c) h = ltb-true c (cluster_count j) h
   names_made r h = tt
 
 pub law_named : LawNamed
 law_named p formed accepted input opts range j w r fits on meets n s c l m q u e =
-    names_made (table_of p) opts j q ((law_known_runs p formed accepted (is_made opts j) input opts range j w r fits on (all_made opts j) meets).names n s c l m q u e)
+    names_made (table_of p) opts j q ((law_known_runs p formed accepted (is_made opts j) input opts range j w r fits on (all_made opts j) (main_numbered (table_of p) (made_by opts j) ((table_of p).routine (source_of p).main).this 0 (λ c. lt-ltb 0 (object_count j) (some_object j))) meets).names n s c l m q u e)

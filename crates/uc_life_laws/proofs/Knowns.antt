@@ -1,18 +1,17 @@
 -- What is known stays so, to whoever knows more; and what is known of places further on.
-use Rattle.std.proofs.Common.{◌≡◌, ℕ, zero, suc, ◌<◌, ◌≤◌, inl, inr, List, [], ◌∷◌, ◌++◌, length, take, drop, Option, Some, None, Bool, true, false, refl, sym, ap, ◌∙◌, subst, arith}
+use Rattle.std.proofs.Common.{◌≡◌, ℕ, zero, suc, ◌<◌, ◌≤◌, ◌⊎◌, inl, inr, List, [], ◌∷◌, ◌++◌, length, take, drop, Option, Some, None, Bool, true, false, refl, sym, ap, ◌∙◌, subst, arith}
 use Rattle.std.specs.Prelude.{nat_eq, if◌then◌else◌, slice_index_or, slice_set}
 use Rattle.uc_tree.specs.Source.{Shape}
 use Rattle.uc_machine.specs.declared.exec.Exec.{Exec}
-use Rattle.uc_machine.specs.declared.exec.Owner.TheVariants.{Frame, Fields}
 use Rattle.uc_machine.specs.Executions.{at_depth, first_or, others, take_operands, list_in, set_depth, frame_changed, value_changed, values_cleared}
 use Rattle.uc_machine.specs.Pieces.{Link, FieldAt, At, Value, Number, Place, Running, Object, Nothing, Active, further, nought, stored, top, below}
-use Rattle.uc_typing.specs.Typing.{Ty, Num, Cell, Obj, Raw, Row, Clu, Pro, Sig, Table, IsPlaced, IsParam, raw, element_shape, object_ty}
+use Rattle.uc_typing.specs.Typing.{Ty, Num, Cell, Obj, Raw, Row, Clu, Pro, Sig, Table, IsPlaced, IsScalarPlace, IsBare, IsKept, IsParam, raw, element_shape, object_ty}
 use Rattle.uc_typing.specs.Pieces.{onto}
-use Rattle.uc_typing.specs.States.{IsObjectBy, Is}
+use Rattle.uc_typing.specs.States.{Is}
 use Rattle.uc_typing.proofs.Operands as operands
 use Rattle.uc_typing.proofs.Frames.{drop_onto}
 use Rattle.uc_life_laws.proofs.Cells.{known_stored}
-use Rattle.uc_life_laws.specs.Things.{IsField, IsScalar, IsBinding, IsReference, IsUnbound, IsTracked, Within, itself, field, element, IsFew, LiesIn, IsKnown, Known}
+use Rattle.uc_life_laws.specs.Things.{Few, IsField, IsScalar, IsBinding, IsReference, IsUnbound, IsTracked, Within, itself, field, element, IsFew, LiesIn, IsKnown, Known, Held, lies, inside, Stands}
 use Rattle.uc_life_laws.specs.Knowing.{AtHand, KnownAll, KnownParams, KnownFrames, KnownThis}
 
 -- lists, as uc_typing has them
@@ -26,6 +25,10 @@ taken_more : {X : Type 0} (d : X) (n : ℕ) (xs ys : List X) → take_operands d
 taken_more d zero xs ys = refl
 taken_more d (suc n) xs ys =
     taken_more d n (others xs) (first_or d xs ∷ ys) ∙ ap (λ zs. first_or d zs ∷ take_operands d (suc n) xs ys) (drop_others n xs)
+
+either_way : (b : Bool) → b ≡ true → b ≡ false → ⊥
+either_way true e f = absurd (cc)
+either_way false e f = absurd (cc)
 
 module _ (t : Table) where
   -- a part of a part
@@ -60,22 +63,81 @@ module _ (t : Table) where
   untracked c u Clu w v h i = i
   untracked c u Pro w v h i = i
 
-module _ (t : Table) (few : Ty → ℕ → Bool) (n : Exec) where
+-- nothing is bound in an object that has scalars alone
+within_bare : (t : Table) (c : ℕ) → ((i : ℕ) → IsScalarPlace (t.fields c i)) → {w v : Value} {a : Ty} → Within t w (Obj c) v a → (a ≡ Obj c) ⊎ IsScalarPlace a
+within_bare t c f itself = inl refl
+within_bare t c f (field h i l) = by (within_bare t c f h)
+  where
+    by : {d : ℕ} → (Obj d ≡ Obj c) ⊎ IsScalarPlace (Obj d) → (t.fields d i ≡ Obj c) ⊎ IsScalarPlace (t.fields d i)
+    by {d} (inl e) = let q : d ≡ c = cc in inr (subst (λ d. IsScalarPlace (t.fields d i)) (sym q) (f i))
+    by (inr s) = absurd s
+within_bare t c f (element h j l) = by (within_bare t c f h)
+  where
+    by : {m : ℕ} {b : Ty} → (Row m b ≡ Obj c) ⊎ IsScalarPlace (Row m b) → (b ≡ Obj c) ⊎ IsScalarPlace b
+    by (inl e) = absurd (cc)
+    by (inr s) = absurd s
+
+unbound_bare : (t : Table) (c : ℕ) → ((i : ℕ) → IsScalarPlace (t.fields c i)) → IsUnbound t (Obj c)
+unbound_bare t c f w v b h k = by b (within_bare t c f h) k
+  where
+    by : (b : Ty) → (Cell b ≡ Obj c) ⊎ IsScalarPlace (Cell b) → IsBinding b → ⊥
+    by b (inl e) k = absurd (cc)
+    by Num (inr s) k = k
+    by (Cell a) (inr s) k = s
+    by (Obj d) (inr s) k = s
+    by (Raw d) (inr s) k = s
+    by (Row m a) (inr s) k = s
+    by Clu (inr s) k = s
+    by Pro (inr s) k = s
+
+pub bare_untracked : (t : Table) (a : Ty) → IsBare t a → IsTracked t a → ⊥
+bare_untracked t Num b i = i
+bare_untracked t (Cell Num) b i = i
+bare_untracked t (Cell (Raw c)) b i = i
+bare_untracked t (Cell Clu) b i = i
+bare_untracked t (Cell Pro) b i = i
+bare_untracked t (Cell (Cell a)) b i = b
+bare_untracked t (Cell (Obj c)) b i = b
+bare_untracked t (Cell (Row n a)) b i = b
+bare_untracked t (Obj c) b i = i (unbound_bare t c b)
+bare_untracked t (Raw c) b i = i
+bare_untracked t (Row n a) b i = bare_untracked t a b i.0
+bare_untracked t Clu b i = i
+bare_untracked t Pro b i = i
+
+-- an element that is tracked is kept as its type is
+pub kept_tracked : (t : Table) (s : Shape) (a : Ty) → IsKept t s a → IsTracked t a → s ≡ element_shape t a
+kept_tracked t s a (inl e) i = e
+kept_tracked t s a (inr b) i = absurd (bare_untracked t a b i)
+
+-- a field that is tracked is one that somebody declared
+pub tracked_declared : (t : Table) → ((c : ℕ) → t.executes c ≡ true → t.fields c 0 ≡ Num) → (c i : ℕ) → IsTracked t (t.fields c i) → IsField t c i
+tracked_declared t l c zero i e = absurd (subst (IsTracked t) (l c e) i)
+tracked_declared t l c (suc n) i e = omega arith
+
+module _ (t : Table) (few : Few) (n : Exec) where
   -- what one knows, one who knows more does
   abbrev pub Less : (Value → Ty → Type 0) → (Value → Ty → Type 0) → Type 0
   Less K L = (w : Value) (a : Ty) → K w a → L w a
 
   module _ (K L : Value → Ty → Type 0) (more : Less K L) where
+    stands_more : (b : Ty) (v : Value) → Stands t few K b v → Stands t few L b v
+    stands_more b v (lies {w = w} {a} k h) = lies (more w a k) h
+    stands_more b v (inside {o = o} {c} m k h) = inside m (stands_more (Cell (Obj c)) (few.home o) k) h
+
+    pub held_more : (b : Ty) (v : Value) → Held t few K b v → Held t few L b v
+    held_more b v (inl h) = inl (stands_more b v h)
+    held_more b v (inr h) = inr (h.0, h.1, more h.0 (Raw h.1) h.2, h.3)
+
     pub lies_more : (b : Ty) (v : Value) → LiesIn t few n K b v → LiesIn t few n L b v
     lies_more b (Number z) h = tt
-    lies_more b (Place (Frame x d) p) h = λ e. let k = h e in (k.0, k.1, more k.0 k.1 k.2, k.3)
-    lies_more b (Place (Fields o) p) h = tt
+    lies_more b (Place o p) h = held_more b (Place o p) h
     lies_more b (Running x) h = tt
-    lies_more b (Object o) h = tt
+    lies_more b (Object o) h = held_more b (Object o) h
     lies_more b Nothing h = tt
 
     is_more : (a : Ty) (v : Value) → IsKnown t few n K a v → IsKnown t few n L a v
-    is_more a v h = record { is = h.is; passes = h.passes; rooted = λ i. lies_more a v (h.rooted i) }
+    is_more a v h = record { is = h.is; passes = h.passes; rooted = λ i. lies_more a v (h.rooted i); held = λ m. lies_more a v (h.held m) }
 
     pub known_more : (a : Ty) (v : Value) → Known t few n K a v → Known t few n L a v
     known_more Num v h = tt
@@ -102,7 +164,7 @@ module _ (t : Table) (few : Ty → ℕ → Bool) (n : Exec) where
     this_more g (Some c) v h = known_more (object_ty g.whole c) v h
 
   -- those of older activations are at hand
-  pub older_hand : (gs : List Sig) (c : Active) (cs : List Active) → Less (AtHand t n (others gs) cs) (AtHand t n gs (c ∷ cs))
+  pub older_hand : (gs : List Sig) (c : Active) (cs : List Active) → Less (AtHand t few n (others gs) cs) (AtHand t few n gs (c ∷ cs))
   older_hand gs c cs w a (inl h) = inl (inr h)
   older_hand gs c cs w a (inr h) = inr (inr h)
 
@@ -124,44 +186,57 @@ module _ (t : Table) (few : Ty → ℕ → Bool) (n : Exec) where
     few_further a l (Object o) = tt
     few_further a l Nothing = tt
 
+    stands_field : (c i : ℕ) (v : Value) → IsField t c i → Stands t few K (Obj c) v → Stands t few K (t.fields c i) (further (FieldAt (t.shape c) i) v)
+    stands_field c i v f (lies k h) = lies k (field h i f)
+    stands_field c i v f (inside m k h) = inside m k (field h i f)
+
+    held_field : (c i : ℕ) (v : Value) → IsField t c i → Held t few K (Obj c) v → Held t few K (t.fields c i) (further (FieldAt (t.shape c) i) v)
+    held_field c i v f (inl h) = inl (stands_field c i v f h)
+    held_field c i v f (inr h) = inr (h.0, h.1, h.2, field h.3 i f)
+
     lies_field : (c i : ℕ) (v : Value) → IsField t c i → LiesIn t few n K (Obj c) v → LiesIn t few n K (t.fields c i) (further (FieldAt (t.shape c) i) v)
     lies_field c i (Number z) f h = tt
-    lies_field c i (Place (Frame x d) p) f h = λ e. let k = h e in (k.0, k.1, k.2, field k.3 i f)
-    lies_field c i (Place (Fields o) p) f h = tt
+    lies_field c i (Place o p) f h = held_field c i (Place o p) f h
     lies_field c i (Running x) f h = tt
-    lies_field c i (Object o) f h = tt
+    lies_field c i (Object o) f h = held_field c i (Object o) f h
     lies_field c i Nothing f h = tt
+
+    stands_element : (m j : ℕ) (a : Ty) (v : Value) → j < m → Stands t few K (Row m a) v → Stands t few K a (further (At (element_shape t a) j) v)
+    stands_element m j a v l (lies k h) = lies k (element h j l)
+    stands_element m j a v l (inside e k h) = inside e k (element h j l)
+
+    held_element : (m j : ℕ) (a : Ty) (v : Value) → j < m → Held t few K (Row m a) v → Held t few K a (further (At (element_shape t a) j) v)
+    held_element m j a v l (inl h) = inl (stands_element m j a v l h)
+    held_element m j a v l (inr h) = inr (h.0, h.1, h.2, element h.3 j l)
 
     lies_element : (m j : ℕ) (a : Ty) (v : Value) → j < m → LiesIn t few n K (Row m a) v → LiesIn t few n K a (further (At (element_shape t a) j) v)
     lies_element m j a (Number z) l h = tt
-    lies_element m j a (Place (Frame x d) p) l h = λ e. let k = h e in (k.0, k.1, k.2, element k.3 j l)
-    lies_element m j a (Place (Fields o) p) l h = tt
+    lies_element m j a (Place o p) l h = held_element m j a (Place o p) l h
     lies_element m j a (Running x) l h = tt
-    lies_element m j a (Object o) l h = tt
+    lies_element m j a (Object o) l h = held_element m j a (Object o) l h
     lies_element m j a Nothing l h = tt
 
     -- a place is known that lies in what is known
     pub known_place : (a : Ty) (v : Value) → IsPlaced t a → Is t a v → ((b : Ty) → IsFew t few n b v) → (IsTracked t a → LiesIn t few n K a v) → Known t few n K a v
     known_place Num v p i f h = absurd p
-    known_place (Cell a) v p i f h = record { is = i; passes = f (Cell a); rooted = h }
-    known_place (Obj c) v p i f h = record { is = i; passes = f (Obj c); rooted = h }
-    known_place (Raw c) v p i f h = record { is = i; passes = f (Obj c) }
-    known_place (Row m a) v p i f h = record { is = i; passes = f (Row m a); rooted = h }
+    known_place (Cell a) v p i f h = record { is = i; passes = f (Cell a); rooted = h; held = λ m. absurd m }
+    known_place (Obj c) v p i f h = record { is = i; passes = f (Obj c); rooted = h; held = λ m. absurd (either_way (t.mutex c) m p) }
+    known_place (Raw c) v p i f h = record { is = i; passes = f (Raw c) }
+    known_place (Row m a) v p i f h = record { is = i; passes = f (Row m a); rooted = h; held = λ m. absurd m }
     known_place Clu v p i f h = absurd p
     known_place Pro v p i f h = absurd p
 
-    -- the fields of a mutex object lie in no frame
-    lies_at : (b : Bool) (c i : ℕ) (v : Value) → t.mutex c ≡ b → IsObjectBy t b c v → (t.mutex c ≡ false → IsField t c i) → (IsField t c i → LiesIn t few n K (Obj c) v) → LiesIn t few n K (t.fields c i) (further (FieldAt (t.shape c) i) v)
-    lies_at true c i (Number z) m h f l = absurd h
-    lies_at true c i (Place o p) m h f l = absurd h
-    lies_at true c i (Running x) m h f l = absurd h
-    lies_at true c i (Object o) m h f l = tt
-    lies_at true c i Nothing m h f l = absurd h
-    lies_at false c i v m h f l = let g = f m in lies_field c i v g (l g)
+    -- an object of which a field is tracked lies in what is at hand
+    object_lies : (b : Bool) (c i : ℕ) (v : Value) → t.mutex c ≡ b → IsField t c i → IsTracked t (t.fields c i) → IsKnown t few n K (Obj c) v → LiesIn t few n K (Obj c) v
+    object_lies true c i v m f k h = h.held m
+    object_lies false c i v m f k h = h.rooted (λ u. untracked t c u (t.fields c i) v (further (FieldAt (t.shape c) i) v) (field itself i f) k)
 
-    pub further_field : (c i : ℕ) (s : Shape) (v : Value) → s ≡ t.shape c → IsPlaced t (t.fields c i) → (t.mutex c ≡ false → IsTracked t (t.fields c i) → IsField t c i) → Known t few n K (Obj c) v → Known t few n K (t.fields c i) (further (FieldAt s i) v)
-    further_field c i s v e w f h =
-        known_place (t.fields c i) (further (FieldAt s i) v) w (operands.further_field t c i s v e w h.is) (λ b. few_further b (FieldAt s i) v) (λ k. subst (λ s. LiesIn t few n K (t.fields c i) (further (FieldAt s i) v)) (sym e) (lies_at (t.mutex c) c i v refl h.is (λ m. f m k) (λ g. h.rooted (λ u. untracked t c u (t.fields c i) v (further (FieldAt (t.shape c) i) v) (field itself i g) k))))
+    pub further_placed : (c i : ℕ) (s : Shape) (v : Value) → s ≡ t.shape c → IsPlaced t (t.fields c i) → (IsTracked t (t.fields c i) → IsField t c i) → Is t (Obj c) v → (IsTracked t (t.fields c i) → LiesIn t few n K (Obj c) v) → Known t few n K (t.fields c i) (further (FieldAt s i) v)
+    further_placed c i s v e w f h l =
+        known_place (t.fields c i) (further (FieldAt s i) v) w (operands.further_field t c i s v e w h) (λ b. few_further b (FieldAt s i) v) (λ k. subst (λ s. LiesIn t few n K (t.fields c i) (further (FieldAt s i) v)) (sym e) (lies_field c i v (f k) (l k)))
+
+    pub further_field : (c i : ℕ) (s : Shape) (v : Value) → s ≡ t.shape c → IsPlaced t (t.fields c i) → (IsTracked t (t.fields c i) → IsField t c i) → Known t few n K (Obj c) v → Known t few n K (t.fields c i) (further (FieldAt s i) v)
+    further_field c i s v e w f h = further_placed c i s v e w f h.is (λ k. object_lies (t.mutex c) c i v refl (f k) k h)
 
     pub further_element : (m j : ℕ) (a : Ty) (s : Shape) (v : Value) → j < m → IsPlaced t a → (IsTracked t a → s ≡ element_shape t a) → Known t few n K (Row m a) v → Known t few n K a (further (At s j) v)
     further_element m j a s v l w f h =
@@ -290,14 +365,14 @@ module _ (t : Table) (few : Ty → ℕ → Bool) (n : Exec) where
   frames_length (g ∷ gs) [] cs h = absurd h
   frames_length (g ∷ gs) (f ∷ fs) [] h = absurd h
 
-  frames_set : (d : ℕ) (g : Sig) (gs : List Sig) (f : List Value) (fs : List (List Value)) (c : Active) (cs : List Active) (change : List Value → List Value) (b : Bool) → KnownFrames t few n (g ∷ gs) (f ∷ fs) (c ∷ cs) → (b ≡ true → KnownParams t few n (AtHand t n gs cs) g.params (change f)) → (b ≡ false → KnownFrames t few n gs (set_depth fs d (change (list_in (at_depth fs d)))) cs) → KnownFrames t few n (g ∷ gs) (if b then change (list_in (if b then Some f else at_depth fs d)) ∷ fs else f ∷ set_depth fs d (change (list_in (if b then Some f else at_depth fs d)))) (c ∷ cs)
+  frames_set : (d : ℕ) (g : Sig) (gs : List Sig) (f : List Value) (fs : List (List Value)) (c : Active) (cs : List Active) (change : List Value → List Value) (b : Bool) → KnownFrames t few n (g ∷ gs) (f ∷ fs) (c ∷ cs) → (b ≡ true → KnownParams t few n (AtHand t few n gs cs) g.params (change f)) → (b ≡ false → KnownFrames t few n gs (set_depth fs d (change (list_in (at_depth fs d)))) cs) → KnownFrames t few n (g ∷ gs) (if b then change (list_in (if b then Some f else at_depth fs d)) ∷ fs else f ∷ set_depth fs d (change (list_in (if b then Some f else at_depth fs d)))) (c ∷ cs)
   frames_set d g gs f fs c cs change true h k r = (k refl, h.1)
   frames_set d g gs f fs c cs change false h k r = (h.0, r refl)
 
   pub frames_stored : (d k : ℕ) (v : Value) (gs : List Sig) (fs : List (List Value)) (cs : List Active) → KnownFrames t few n gs fs cs → KnownFrames t few n gs (frame_changed d (value_changed k (stored v) nought) fs) cs
   frames_stored d k v [] [] [] h = tt
   frames_stored d k v (g ∷ gs) (f ∷ fs) (c ∷ cs) h =
-      frames_set d g gs f fs c cs (value_changed k (stored v) nought) (nat_eq d (length fs)) h (λ e. params_stored (AtHand t n gs cs) g.params f k v h.0) (λ e. frames_stored d k v gs fs cs h.1)
+      frames_set d g gs f fs c cs (value_changed k (stored v) nought) (nat_eq d (length fs)) h (λ e. params_stored (AtHand t few n gs cs) g.params f k v h.0) (λ e. frames_stored d k v gs fs cs h.1)
   frames_stored d k v [] [] (c ∷ cs) h = absurd h
   frames_stored d k v [] (f ∷ fs) cs h = absurd h
   frames_stored d k v (g ∷ gs) [] cs h = absurd h
@@ -311,7 +386,7 @@ module _ (t : Table) (few : Ty → ℕ → Bool) (n : Exec) where
       by (nat_eq d (length fs)) (subst (λ b. (if b then Some g else at_depth gs d) ≡ Some i) q e) (λ e. frames_cleared d k m i l gs fs cs e h.1)
     where
       by : (b : Bool) → (if b then Some g else at_depth gs d) ≡ Some i → (at_depth gs d ≡ Some i → KnownFrames t few n gs (set_depth fs d (values_cleared k m nought (list_in (at_depth fs d)))) cs) → KnownFrames t few n (g ∷ gs) (if b then values_cleared k m nought (list_in (if b then Some f else at_depth fs d)) ∷ fs else f ∷ set_depth fs d (values_cleared k m nought (list_in (if b then Some f else at_depth fs d)))) (c ∷ cs)
-      by true e r = let s : g ≡ i = cc in (params_cleared (AtHand t n gs cs) g.params f k m (subst (λ (i : Sig). length i.params ≤ k) (sym s) l) h.0, h.1)
+      by true e r = let s : g ≡ i = cc in (params_cleared (AtHand t few n gs cs) g.params f k m (subst (λ (i : Sig). length i.params ≤ k) (sym s) l) h.0, h.1)
       by false e r = (h.0, r e)
   frames_cleared d k m i l [] [] (c ∷ cs) e h = absurd h
   frames_cleared d k m i l [] (f ∷ fs) cs e h = absurd h
@@ -319,17 +394,17 @@ module _ (t : Table) (few : Ty → ℕ → Bool) (n : Exec) where
   frames_cleared d k m i l (g ∷ gs) (f ∷ fs) [] e h = absurd h
 
   -- the parameters of the frame of a depth
-  pub frames_at : (d : ℕ) (i : Sig) (gs : List Sig) (fs : List (List Value)) (cs : List Active) → KnownFrames t few n gs fs cs → at_depth gs d ≡ Some i → KnownParams t few n (AtHand t n gs cs) i.params (list_in (at_depth fs d))
+  pub frames_at : (d : ℕ) (i : Sig) (gs : List Sig) (fs : List (List Value)) (cs : List Active) → KnownFrames t few n gs fs cs → at_depth gs d ≡ Some i → KnownParams t few n (AtHand t few n gs cs) i.params (list_in (at_depth fs d))
   frames_at d i [] [] [] h e = absurd (cc)
   frames_at d i (g ∷ gs) (f ∷ fs) (c ∷ cs) h e =
       let q : nat_eq d (length gs) ≡ nat_eq d (length fs) = ap (nat_eq d) (sym (frames_length gs fs cs h.1)) in
       by (nat_eq d (length fs)) (subst (λ b. (if b then Some g else at_depth gs d) ≡ Some i) q e) (λ e. frames_at d i gs fs cs h.1 e)
     where
-      older : (j : Sig) (vs : List Value) → KnownParams t few n (AtHand t n gs cs) j.params vs → KnownParams t few n (AtHand t n (g ∷ gs) (c ∷ cs)) j.params vs
-      older j vs p = params_more (AtHand t n gs cs) (AtHand t n (g ∷ gs) (c ∷ cs)) (older_hand (g ∷ gs) c cs) j.params vs p
+      older : (j : Sig) (vs : List Value) → KnownParams t few n (AtHand t few n gs cs) j.params vs → KnownParams t few n (AtHand t few n (g ∷ gs) (c ∷ cs)) j.params vs
+      older j vs p = params_more (AtHand t few n gs cs) (AtHand t few n (g ∷ gs) (c ∷ cs)) (older_hand (g ∷ gs) c cs) j.params vs p
 
-      by : (b : Bool) → (if b then Some g else at_depth gs d) ≡ Some i → (at_depth gs d ≡ Some i → KnownParams t few n (AtHand t n gs cs) i.params (list_in (at_depth fs d))) → KnownParams t few n (AtHand t n (g ∷ gs) (c ∷ cs)) i.params (list_in (if b then Some f else at_depth fs d))
-      by true e r = let s : g ≡ i = cc in older i f (subst (λ (j : Sig). KnownParams t few n (AtHand t n gs cs) j.params f) s h.0)
+      by : (b : Bool) → (if b then Some g else at_depth gs d) ≡ Some i → (at_depth gs d ≡ Some i → KnownParams t few n (AtHand t few n gs cs) i.params (list_in (at_depth fs d))) → KnownParams t few n (AtHand t few n (g ∷ gs) (c ∷ cs)) i.params (list_in (if b then Some f else at_depth fs d))
+      by true e r = let s : g ≡ i = cc in older i f (subst (λ (j : Sig). KnownParams t few n (AtHand t few n gs cs) j.params f) s h.0)
       by false e r = older i (list_in (at_depth fs d)) (r e)
   frames_at d i [] [] (c ∷ cs) h e = absurd h
   frames_at d i [] (f ∷ fs) cs h e = absurd h

@@ -1,6 +1,6 @@
 -- In a program that breaks no rule fields lie within the cells of their classes, and what destroys an object is counted with its cells.
 use Rattle.std.proofs.Common.{◌≡◌, ℕ, zero, suc, ◌+◌, ◌-◌, ◌*◌, ◌≤◌, ◌<◌, ◌⊎◌, inl, inr, ℤ, Bool, true, false, List, [], ◌∷◌, ◌++◌, Option, Some, None, length, map, refl, sym, ap, ◌∙◌, subst, arith}
-use Rattle.std.specs.Prelude.{◌&&◌, ◌||◌, not, slice_get, nat_eq, if◌then◌else◌}
+use Rattle.std.specs.Prelude.{◌&&◌, ◌||◌, not, slice_get, nat_eq, nat_lt, if◌then◌else◌}
 use Rattle.std.specs.List.{list_any}
 use Rattle.std.proofs.lemmas.Bool.{eqb-true}
 use Rattle.std.proofs.lemmas.Nat.{mul-le}
@@ -12,7 +12,6 @@ use Rattle.uc_tree.specs.declared.kinds.Role.{Role}
 use Rattle.uc_tree.specs.declared.kinds.Role.TheVariants as role
 use Rattle.uc_tree.specs.declared.rows.FieldClass.{FieldClass}
 use Rattle.uc_tree.specs.declared.rows.FieldLayout.{FieldLayout}
-use Rattle.uc_tree.specs.Names.{same_name}
 use Rattle.uc_tree.specs.Constants.{constants_of, elements, length_in}
 use Rattle.uc_tree.specs.Expressions.{Expr}
 use Rattle.uc_tree.specs.Statements.{Declarator}
@@ -31,7 +30,7 @@ use Rattle.uc_rules.specs.Asked.{unless, of_sort}
 use Rattle.uc_rules.specs.Breaks.{breaks_of}
 use Rattle.uc_rules.specs.ClassBreaks.{is_new_field, fields_at, home_leads_back, is_field_sort, leads_back}
 use Rattle.uc_rules.specs.ExpressionBreaks.{is_no_event, length_breaks, length_value_breaks}
-use Rattle.uc_rules.specs.Sorts.{is_coroutine, class_sort, sort_of}
+use Rattle.uc_rules.specs.Sorts.{is_coroutine, sort_of}
 use Rattle.uc_tree.specs.Numbering.{is_event, is_public, own_texts, own_sites, Defined, routines_of}
 use Rattle.uc_tree.specs.Gathered.{gathered_all}
 use Rattle.uc_resolve.specs.Resolve.{place_by as resolved_place}
@@ -42,7 +41,7 @@ use Rattle.uc_sound.proofs.Origins.{looked, role_looked}
 use Rattle.uc_sound.proofs.Signatures.{has_sig}
 use Rattle.uc_rules.specs.Scopes.{plain_env, class_around}
 use Rattle.uc_rules.specs.ProgramVisits.{program_visits}
-use Rattle.uc_typing.specs.Typing.{Obj, Row, Sig, Table, element_shape}
+use Rattle.uc_typing.specs.Typing.{Num, Obj, Row, Sig, Table, element_shape}
 use Rattle.uc_agreement.specs.Agreement.{is_numbered, place_by, place_ty}
 use Rattle.uc_agreement.specs.Fields.{field_ty}
 use Rattle.uc_agreement.specs.Unbroken.{Unbroken}
@@ -51,6 +50,7 @@ use Rattle.uc_agreement.proofs.UnbrokenLemmas.{none_right, holds}
 use Rattle.uc_scope_laws.specs.Layout.{destructor_by, destructor_of, Sized}
 use Rattle.uc_sound.specs.Formed.{IsFormed}
 use Rattle.uc_sound.specs.Tables.{of_kind, sig_or_none, unwritten_sig, unwritten_sigs, written_sigs, all_sigs, known_field, listed_field, class_field, table_of}
+use Rattle.uc_sound.proofs.KeptLemmas.{named_object}
 use Rattle.uc_sound.proofs.Visited.{sort_holds, home, field_rules}
 use Rattle.uc_life_laws.specs.LifeRuns.{span, IsFlat, IsLaidOut, LawClears}
 use Rattle.uc_life_laws.proofs.Clearing.{clears}
@@ -169,15 +169,6 @@ some_more n i h = omega (arith, h)
 is_false : (b : Bool) → not b ≡ true → b ≡ false
 is_false true h = sym h
 is_false false h = refl
-
--- a class of a name is an object of its kind
-named_object : (cs : List Class) (i : ℕ) (name : List ℕ) (s : Sort) → class_sort cs i name ≡ Some s → (j : ℕ) × (k : Kind) × (s ≡ sort.Object j k) × (object_named cs i name ≡ object_of_kind j k)
-named_object [] i name s h = none_some h
-named_object (c ∷ cs) i name s h = by (same_name c.name name) (named_object cs (i + 1) name s) h
-  where
-    by : (b : Bool) → (class_sort cs (i + 1) name ≡ Some s → (j : ℕ) × (k : Kind) × (s ≡ sort.Object j k) × (object_named cs (i + 1) name ≡ object_of_kind j k)) → (if b then Some (sort.Object i c.kind) else class_sort cs (i + 1) name) ≡ Some s → (j : ℕ) × (k : Kind) × (s ≡ sort.Object j k) × ((if b then object_of_kind i c.kind else object_named cs (i + 1) name) ≡ object_of_kind j k)
-    by true f q = (i, c.kind, sym (some_same q), refl)
-    by false f q = f q
 
 module _ (p : Program) (u : Unbroken (program_visits p)) where
   abbrev cs : List Class
@@ -350,9 +341,14 @@ module _ (p : Program) (u : Unbroken (program_visits p)) where
 
   fields_fit : (j i : ℕ) (o : Option Class) → class_at p j ≡ o → (of_kind has_execution o ≡ true → 1 ≤ i) → field_cells (class_shape p j) i + span t (class_field p o i) ≤ shape_cells (class_shape p j)
   fields_fit j i None e h = let f = before_few (class_shape p j) i in omega (arith, f)
-  fields_fit j i (Some c) e h =
-      let k = i - leading_cells c.kind in
-      subst (λ n. field_cells (class_shape p j) n + span t (listed_field p c (slice_get (fields_of c.members) k)) ≤ shape_cells (class_shape p j)) (index c.kind i h) (listed_fits j k c (slice_get (fields_of c.members) k) e refl)
+  fields_fit j i (Some c) e h = by (nat_lt i (leading_cells c.kind))
+    where
+      k : ℕ
+      k = i - leading_cells c.kind
+
+      by : (b : Bool) → field_cells (class_shape p j) i + span t (if b then Num else listed_field p c (slice_get (fields_of c.members) k)) ≤ shape_cells (class_shape p j)
+      by true = let f = before_few (class_shape p j) i in omega (arith, f)
+      by false = subst (λ n. field_cells (class_shape p j) n + span t (listed_field p c (slice_get (fields_of c.members) k)) ≤ shape_cells (class_shape p j)) (index c.kind i h) (listed_fits j k c (slice_get (fields_of c.members) k) e refl)
 
   -- no array of arrays
 
@@ -385,7 +381,11 @@ module _ (p : Program) (u : Unbroken (program_visits p)) where
 
   fields_flat : (o : Option Class) (i : ℕ) → IsFlat (class_field p o i)
   fields_flat None i = tt
-  fields_flat (Some c) i = listed_flat c (slice_get (fields_of c.members) (i - leading_cells c.kind))
+  fields_flat (Some c) i = by (nat_lt i (leading_cells c.kind))
+    where
+      by : (b : Bool) → IsFlat (if b then Num else listed_field p c (slice_get (fields_of c.members) (i - leading_cells c.kind)))
+      by true = tt
+      by false = listed_flat c (slice_get (fields_of c.members) (i - leading_cells c.kind))
 
 -- what destroys the objects of a class is a routine of that, whether somebody wrote it or not
 

@@ -24,3 +24,4 @@ pub mod NewNumbers
 pub mod KnownWorlds
 pub mod NamedAsks
 pub mod OpenedRuns
+pub mod Endings

@@ -1,5 +1,5 @@
 -- In every run in which scopes open where what they are of holds what is known, all that is in scope does.
-use Rattle.std.proofs.Common.{ℕ, ◌==◌, List, [], ◌∷◌, Bool, Option, Some, None, subst}
+use Rattle.std.proofs.Common.{ℕ, ◌==◌, List, [], ◌∷◌, Option, Some, None, subst}
 use Rattle.uc_tree.specs.Source.{Source}
 use Rattle.uc_entry.specs.declared.entry.Entry.{Entry}
 use Rattle.uc_entry.specs.declared.entry.Options.{Options}
@@ -25,7 +25,7 @@ use Rattle.uc_scope_laws.proofs.StackWorlds as stacked
 use Rattle.uc_scope_laws.proofs.StackWorlds.{StackWorld}
 use Rattle.uc_scope_laws.proofs.Unreferring.{law_accepted}
 use Rattle.uc_value_laws.specs.Opens.{RideMeets, MayMeet, RunMeets, LeadsMeet}
-use Rattle.uc_typing.specs.Typing.{Ty, Table}
+use Rattle.uc_typing.specs.Typing.{Table}
 use Rattle.uc_sound.specs.Tables.{table_of}
 use Rattle.uc_life_laws.specs.LifeStates.{HandBy, LifeEx, LifeMembers, LifeState, LifeStep, Opens}
 use Rattle.uc_life_laws.specs.LifeRuns.{IsLaidOut, LawRuns}
@@ -34,8 +34,9 @@ use Rattle.uc_life_laws.proofs.Parked.{found_hand}
 use Rattle.uc_life_laws.proofs.Walk.{law_steps}
 use Rattle.uc_life_laws.proofs.Clearing.{clears}
 use Rattle.uc_life_laws.proofs.Laying.{laid_out}
+use Rattle.uc_life_laws.specs.Things.{Few}
 
-module _ (t : Table) (few : Ty → ℕ → Bool) where
+module _ (t : Table) (few : Few) where
   -- tasks at rest, and what is at home in objects
   pub record LifeWorld (w : World) : Type 0 where
     pub tasks : (n : ℕ) → LifeState t few (w.tasks n)

@@ -64,10 +64,6 @@ pub some_object : (j : Journal) → 0 < object_count j
 unfolding object_count
 some_object j = omega arith
 
-pub some_cluster : (j : Journal) → 0 < cluster_count j
-unfolding cluster_count
-some_cluster j = omega arith
-
 -- what an act brings that is no fault
 
 without_fault : (b : Bool) (e f : Entry) → is_fault f.kind ≡ true → is_faulty (or_fault b e f) ≡ false → or_fault b e f ≡ e ∷ []
@@ -128,17 +124,16 @@ module _ (opts : Options) (sites : List Site) (input : List ℕ) (j : Journal) (
       subst (λ (x : List Entry). o < processor_count opts (j ++ x)) (sym s) (omega (arith, n, same))
 
   -- the object of a task that is spawned
-  own_by : (u n o m : ℕ) (c : Cost) → o < m → 0 < m → own_object u (asking kind.Spawn p t c o (pos n) (pos 0) ∷ []) < m
+  own_by : (u n o : ℕ) (c : Cost) → u ≡ n → own_object u (asking kind.Spawn p t c o (pos n) (pos 0) ∷ []) ≡ o
   unfolding own_object
-  own_by u n o m c h z = by (u == n)
+  own_by u n o c e = by (u == n) (subst (λ k. (u == k) ≡ true) e (self_test u))
     where
-      by : (b : Bool) → first_or_0 (filter (λ a. not (list_any (λ (x : Entry). false) [])) (option_to_list (where_true b o)) ++ []) < m
-      by true = h
-      by false = z
+      by : (b : Bool) → b ≡ true → first_or_0 (filter (λ a. not (list_any (λ (x : Entry). false) [])) (option_to_list (where_true b o)) ++ []) ≡ o
+      by true f = refl
+      by false f = absurd (cc)
 
-  pub spawned_object : (u o : ℕ) → asked.request ≡ ask.Spawn o → o < object_count j → own_object u a < object_count (j ++ a)
+  pub spawned_object : (u o : ℕ) → asked.request ≡ ask.Spawn o → u ≡ task_count j → own_object u a ≡ o
   spawned_object u o q h =
       let e : Entry = asking kind.Spawn p t (cost k asked.line) o (pos (task_count j)) (pos 0) in
       let s : a ≡ e ∷ [] = is_row (ask.Spawn o) e q (without_fault (nat_lt (task_count j) TASKS) _ _ refl (calm (ask.Spawn o) q)) in
-      let n = objects_grow j a in
-      subst (λ (x : List Entry). own_object u x < object_count (j ++ a)) (sym s) (own_by u (task_count j) o (object_count (j ++ a)) (cost k asked.line) (omega (arith, h, n)) (some_object (j ++ a)))
+      subst (λ (x : List Entry). own_object u x ≡ o) (sym s) (own_by u (task_count j) o (cost k asked.line) h)

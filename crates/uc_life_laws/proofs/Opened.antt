@@ -6,12 +6,12 @@ use Rattle.uc_tree.specs.Source.{Expr, CleanUp, Stmts}
 use Rattle.uc_machine.specs.declared.exec.Exec.{Exec}
 use Rattle.uc_machine.specs.declared.exec.Owner.TheVariants.{Frame}
 use Rattle.uc_machine.specs.Pieces as piece
-use Rattle.uc_machine.specs.Pieces.{Link, Slot, At, Value, Number, Place, Running, Object, Nothing, Todo, State, further, address, nought}
+use Rattle.uc_machine.specs.Pieces.{Link, Slot, At, Value, Number, Place, Running, Object, Nothing, Todo, State, further, address, nought, Active}
 use Rattle.uc_typing.specs.Typing.{Ty, Num, Cell, Obj, Raw, Row, Clu, Pro, Name, Sig, Table, element_shape, CleansAt, DestroysAt, Fine, FineClean}
 use Rattle.uc_typing.specs.Pieces.{Ok}
 use Rattle.uc_typing.specs.States.{IsNumbered, IsObjectBy, Typed}
 use Rattle.uc_value_laws.specs.There.{IsThere, EndsAt, OfVariable, OfElements, HoldsObject}
-use Rattle.uc_life_laws.specs.Things.{Within, itself, field, element, Known, Holds}
+use Rattle.uc_life_laws.specs.Things.{Within, itself, field, element, Known, Holds, Few, Base, Things, lies}
 use Rattle.uc_life_laws.specs.LifeStates.{frame_at, Outwards, CleanHolds, OpensAt}
 use Rattle.uc_life_laws.specs.Opened.{any, ObjectsHold, LawOpens}
 
@@ -42,26 +42,31 @@ within_row t w m b v d (element {v = u} {m = i} {b = x} h j l) = by (within_row 
         inr (j, subst (λ (k : ℕ). j < k) k l, ap (λ y. further (At (element_shape t y) j) u) c ∙ ap (further (At src.Binding j)) e.0, c)
     by (inr e) = let q = e.3 in absurd (cc)
 
-module _ (t : Table) (n : Exec) (K : Value → Ty → Type 0) where
+-- what lies outside is at hand
+outside : (t : Table) (few : Few) (n : Exec) (cs : List Active) (w : Value) (a : Ty) → Base few n w a → Things t few n cs w a
+outside t few n [] w a b = b
+outside t few n (c ∷ older) w a b = inr (outside t few n older w a b)
+
+module _ (t : Table) (n : Exec) (K : Value → Ty → Type 0) (objects : (c o : ℕ) → K (Object o) (Obj c)) where
   cluster : (v : Value) → IsNumbered v → Known t any n K Clu v
   cluster (Number z) h = absurd h
   cluster (Place o p) h = absurd h
   cluster (Running x) h = absurd h
-  cluster (Object o) h = record { is = tt; passes = refl; rooted = λ i. absurd i }
+  cluster (Object o) h = record { is = tt; passes = refl; rooted = λ i. absurd i; held = λ m. absurd m }
   cluster Nothing h = absurd h
 
   processor : (v : Value) → IsNumbered v → Known t any n K Pro v
   processor (Number z) h = absurd h
   processor (Place o p) h = absurd h
   processor (Running x) h = absurd h
-  processor (Object o) h = record { is = tt; passes = refl; rooted = λ i. absurd i }
+  processor (Object o) h = record { is = tt; passes = refl; rooted = λ i. absurd i; held = λ m. absurd m }
   processor Nothing h = absurd h
 
   object : (c : ℕ) (v : Value) → t.mutex c ≡ true → IsNumbered v → Known t any n K (Obj c) v
   object c (Number z) m h = absurd h
   object c (Place o p) m h = absurd h
   object c (Running x) m h = absurd h
-  object c (Object o) m h = record { is = subst (λ (b : Bool). IsObjectBy t b c (Object o)) (sym m) tt; passes = refl; rooted = λ i. tt }
+  object c (Object o) m h = record { is = subst (λ (b : Bool). IsObjectBy t b c (Object o)) (sym m) tt; passes = refl; rooted = λ i. inl (lies (objects c o) itself); held = λ i. inl (lies (objects c o) itself) }
   object c Nothing m h = absurd h
 
   -- what ends at a place, of the numbers that it holds
@@ -79,6 +84,9 @@ module _ (t : Table) (s : State) (g : Sig) (sc : List Name) (c : CleanUp) (todo 
   abbrev K : Value → Ty → Type 0
   K w a = Outwards t any s.env.exec s.run.frame s.run.this s.callers c todo w a
 
+  objects : (i o : ℕ) → K (Object o) (Obj i)
+  objects i o = inr (outside t any s.env.exec s.callers (Object o) (Obj i) refl)
+
   abbrev vs : List Value
   vs = frame_at s.run.frame s.env.frames
 
@@ -86,7 +94,7 @@ module _ (t : Table) (s : State) (g : Sig) (sc : List Name) (c : CleanUp) (todo 
   here k = Place (Frame s.env.exec s.run.frame) (Slot k ∷ [])
 
   single : (k : ℕ) (b : Ty) (e : Expr) → DestroysAt t (Cell b) (src.Variable k) e → Fine t g sc e → EndsAt (OfVariable (HoldsObject vs)) e → Known t any s.env.exec K b (slice_index_or vs (address (Slot k ∷ [])) nought)
-  single k b e h f p = ended t s.env.exec K g sc (src.Variable k) (OfVariable (HoldsObject vs)) (slice_index_or vs (address (Slot k ∷ [])) nought) b e h f p (λ x. x)
+  single k b e h f p = ended t s.env.exec K objects g sc (src.Variable k) (OfVariable (HoldsObject vs)) (slice_index_or vs (address (Slot k ∷ [])) nought) b e h f p (λ x. x)
 
   one : (k : ℕ) (b : Ty) (e : Expr) → DestroysAt t (Cell b) (src.Variable k) e → Fine t g sc e → EndsAt (OfVariable (HoldsObject vs)) e → Holds t any s.env.exec K (Frame s.env.exec s.run.frame) vs (here k) (Cell b)
   one k b e h f p q d w i =
@@ -99,7 +107,7 @@ module _ (t : Table) (s : State) (g : Sig) (sc : List Name) (c : CleanUp) (todo 
 
   element_of : (k m : ℕ) (b : Ty) (e : Expr) (j : ℕ) → j < m → DestroysAt t (Cell b) (src.Element m src.Binding (src.Variable k) (src.OfObject src.Counted)) e → Fine t g sc e → EndsAt (OfElements m (HoldsObject vs)) e → Known t any s.env.exec K b (slice_index_or vs (address (At src.Binding j ∷ (Slot k ∷ []))) nought)
   element_of k m b e j l h f p =
-      ended t s.env.exec K g sc (src.Element m src.Binding (src.Variable k) (src.OfObject src.Counted)) (OfElements m (HoldsObject vs)) (slice_index_or vs (address (At src.Binding j ∷ (Slot k ∷ []))) nought) b e h f p (λ x. x j l)
+      ended t s.env.exec K objects g sc (src.Element m src.Binding (src.Variable k) (src.OfObject src.Counted)) (OfElements m (HoldsObject vs)) (slice_index_or vs (address (At src.Binding j ∷ (Slot k ∷ []))) nought) b e h f p (λ x. x j l)
 
   many : (k m : ℕ) (b : Ty) (e : Expr) → DestroysAt t (Cell b) (src.Element m src.Binding (src.Variable k) (src.OfObject src.Counted)) e → Fine t g sc e → EndsAt (OfElements m (HoldsObject vs)) e → Holds t any s.env.exec K (Frame s.env.exec s.run.frame) vs (here k) (Row m (Cell b))
   many k m b e h f p q d w i = by (within_row t (here k) m b (Place (Frame s.env.exec s.run.frame) q) (Cell d) w)

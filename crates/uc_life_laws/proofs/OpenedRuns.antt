@@ -1,8 +1,8 @@
 -- Where what is bound is there behind the step that binds it, scopes of what is known by its number open as they are to.
-use Rattle.std.proofs.Common.{◌≡◌, ℕ, inl, inr, false, List, [], ◌∷◌, refl, sym, subst}
+use Rattle.std.proofs.Common.{◌≡◌, ℕ, inl, inr, true, false, List, [], ◌∷◌, refl, sym, subst}
 use Rattle.uc_tree.specs.Programs.{Program}
 use Rattle.uc_tree.specs.Source as src
-use Rattle.uc_tree.specs.Source.{Source, Expr, CleanUp, Stmts}
+use Rattle.uc_tree.specs.Source.{Source, CleanUp, Stmt, Stmts}
 use Rattle.uc_entry.specs.declared.entry.Options.{Options}
 use Rattle.uc_entry.specs.declared.request.Answer.{Answer}
 use Rattle.uc_entry.specs.declared.request.Asked.{Asked}
@@ -30,6 +30,7 @@ use Rattle.uc_scope_laws.proofs.Unreferring.{law_accepted}
 use Rattle.uc_value_laws.specs.There.{IsThere, AllCounted, Any, frame_at}
 use Rattle.uc_value_laws.specs.Declaring as declaring
 use Rattle.uc_value_laws.specs.Declaring.{Point, point_todo}
+use Rattle.uc_value_laws.specs.Filling as fill
 use Rattle.uc_value_laws.specs.NewClusters as way
 use Rattle.uc_value_laws.specs.NewClusters.{Stage, stage_todo, GoodBy, GoodStepBy}
 use Rattle.uc_value_laws.specs.Opens as there
@@ -46,7 +47,7 @@ use Rattle.uc_life_laws.specs.KnownRuns.{PassesBelow, Meets, AllIsKnown}
 use Rattle.uc_life_laws.specs.OpenedRuns.{MeetsObjects, LawOpenedRuns}
 use Rattle.uc_life_laws.proofs.Opened.{law_opens}
 use Rattle.uc_life_laws.proofs.Following.{law_following}
-use Rattle.uc_life_laws.proofs.KnownWorlds.{law_known_runs}
+use Rattle.uc_life_laws.proofs.KnownWorlds.{law_known_runs, main_numbered}
 
 -- what holds of less is met where more is
 module _ (P Q : State → Type 0) (f : (s : State) → P s → Q s) (source : Source) where
@@ -73,13 +74,13 @@ module _ (rest : Stmts) (c : CleanUp) (todo : List Todo) where
   abbrev opened : List Todo
   opened = piece.Rest rest ∷ (piece.Clean c ∷ todo)
 
-  by_point : (g : Point) (l : ℕ) (e : Expr) (ss : Stmts) (behind : List Todo) → opened ≡ point_todo g l e ss behind → piece.Clean c ∷ todo ≡ behind
-  by_point (declaring.Declares m d) l e ss behind q = absurd (cc)
-  by_point (declaring.Lists m d) l e ss behind q = absurd (cc)
-  by_point (declaring.Clears m d) l e ss behind q = absurd (cc)
-  by_point (declaring.Cleared m) l e ss behind q = absurd (cc)
-  by_point (declaring.Passes m) l e ss behind q = absurd (cc)
-  by_point declaring.Reaches l e ss behind q = cc
+  by_point : (g : Point) (b : Stmt) (ss : Stmts) (behind : List Todo) → opened ≡ point_todo g b ss behind → piece.Clean c ∷ todo ≡ behind
+  by_point (declaring.Declares m d) b ss behind q = absurd (cc)
+  by_point (declaring.Lists m d) b ss behind q = absurd (cc)
+  by_point (declaring.Clears m d) b ss behind q = absurd (cc)
+  by_point (declaring.Cleared m) b ss behind q = absurd (cc)
+  by_point (declaring.Passes m) b ss behind q = absurd (cc)
+  by_point declaring.Reaches b ss behind q = cc
 
   by_stage : (g : Stage) (k l : ℕ) (ss : Stmts) (behind : List Todo) → opened ≡ stage_todo g k l ss behind → piece.Clean c ∷ todo ≡ behind
   by_stage way.Does k l ss behind q = absurd (cc)
@@ -92,13 +93,44 @@ module _ (rest : Stmts) (c : CleanUp) (todo : List Todo) where
   by_stage way.Leaves k l ss behind q = absurd (cc)
   by_stage way.Opens k l ss behind q = cc
 
+  by_kind : (k : fill.Kind) (turn behind : List Todo) → (opened ≡ fill.found_todo k turn → piece.Clean c ∷ todo ≡ behind) × (opened ≡ fill.going_todo k turn → piece.Clean c ∷ todo ≡ behind) × (opened ≡ fill.asking_todo k turn → piece.Clean c ∷ todo ≡ behind) × (opened ≡ fill.told_todo k turn → piece.Clean c ∷ todo ≡ behind)
+  by_kind fill.Cluster turn behind = ((λ q. absurd (cc)), (λ q. absurd (cc)), (λ q. absurd (cc)), (λ q. absurd (cc)))
+  by_kind (fill.Processor i) turn behind = ((λ q. absurd (cc)), (λ q. absurd (cc)), (λ q. absurd (cc)), (λ q. absurd (cc)))
+  by_kind (fill.Object n r true) turn behind = ((λ q. absurd (cc)), (λ q. absurd (cc)), (λ q. absurd (cc)), (λ q. absurd (cc)))
+  by_kind (fill.Object n r false) turn behind = ((λ q. absurd (cc)), (λ q. absurd (cc)), (λ q. absurd (cc)), (λ q. absurd (cc)))
+
+  by_bound : (x : fill.Array) (k : fill.Kind) (behind : List Todo) → opened ≡ fill.bound_todo k (fill.turn_todo x) → piece.Clean c ∷ todo ≡ behind
+  by_bound x fill.Cluster behind q = absurd (cc)
+  by_bound x (fill.Processor i) behind q = absurd (cc)
+  by_bound x (fill.Object n r true) behind q = absurd (cc)
+  by_bound x (fill.Object n r false) behind q = absurd (cc)
+
+  by_fill : (g : fill.Stage) (x : fill.Array) → opened ≡ fill.fill_todo g x → piece.Clean c ∷ todo ≡ x.todo
+  by_fill fill.Does x q = absurd (cc)
+  by_fill fill.Counts x q = absurd (cc)
+  by_fill fill.Turns x q = absurd (cc)
+  by_fill fill.Evals x q = absurd (cc)
+  by_fill fill.Finds x q = absurd (cc)
+  by_fill fill.Names x q = absurd (cc)
+  by_fill fill.Indexes x q = absurd (cc)
+  by_fill fill.Elements x q = absurd (cc)
+  by_fill fill.Found x q = (by_kind x.kind (fill.turn_todo x) x.todo).0 q
+  by_fill fill.Nears x q = (by_kind x.kind (fill.turn_todo x) x.todo).1 q
+  by_fill fill.Asks x q = (by_kind x.kind (fill.turn_todo x) x.todo).2 q
+  by_fill fill.Told x q = (by_kind x.kind (fill.turn_todo x) x.todo).3 q
+  by_fill fill.Bound x q = by_bound x x.kind x.todo q
+  by_fill fill.More x q = absurd (cc)
+  by_fill fill.Passes x q = absurd (cc)
+  by_fill fill.Opens x q = cc
+
   behind_there : (vs : List Value) (behind : List Todo) → piece.Clean c ∷ todo ≡ behind → AllCounted Any vs behind → IsThere vs c
   behind_there vs behind q h = (subst (AllCounted Any vs) (sym q) h).0.0
 
   good_there : (vs : List Value) (s : State) → GoodBy Any (at opened vs s) → IsThere (frame_at s.run.frame s.env.frames) c
-  good_there vs s (inl h) = (held_there Any (frame_at s.run.frame s.env.frames) opened h.stack.1).1.0
-  good_there vs s (inr (inl d)) = behind_there (frame_at s.run.frame s.env.frames) d.todo (by_point d.point d.line d.binder d.next d.todo d.control) d.behind
-  good_there vs s (inr (inr o)) = behind_there (frame_at s.run.frame s.env.frames) o.todo (by_stage o.stage o.cell o.line o.next o.todo o.control) o.behind
+  good_there vs s (inl h) = (held_there Any (frame_at s.run.frame s.env.frames) s.run.elements opened h.stack.1).1.0
+  good_there vs s (inr (inl d)) = behind_there (frame_at s.run.frame s.env.frames) d.todo (by_point d.point d.binder d.next d.todo d.control) d.behind
+  good_there vs s (inr (inr (inr f))) = behind_there (frame_at s.run.frame s.env.frames) f.array.todo (by_fill f.stage f.array f.control) f.behind
+  good_there vs s (inr (inr (inl o))) = behind_there (frame_at s.run.frame s.env.frames) o.todo (by_stage o.stage o.cell o.line o.next o.todo o.control) o.behind
 
 module _ (p : Program) (accepted : breaks_of p ≡ []) where
   abbrev source : Source
@@ -165,6 +197,7 @@ module _ (p : Program) (accepted : breaks_of p ≡ []) where
 pub law_opened_runs : LawOpenedRuns
 law_opened_runs p formed accepted input opts range j w r fits on meets = record {
   comes = λ n s c l. all.comes n s c (leads n s c l);
+  scopes = λ n s c l. all.scopes n s c (leads n s c l);
   reads = λ n s c l m.
       let h = good n s c l in
       let st : StackState (Sized p) s = stack n s c in
@@ -173,10 +206,10 @@ law_opened_runs p formed accepted input opts range j w r fits on meets = record 
 }
   where
     below : PassesBelow any opts j
-    below = record { objects = λ c n l. refl; clusters = λ n l. refl; processors = λ n l. refl }
+    below = record { objects = λ c n l. refl; raws = λ c n l. refl; clusters = λ n l. refl; processors = λ n l. refl }
 
     all : AllIsKnown (table_of p) any (source_of p) j w
-    all = law_known_runs p formed accepted any input opts range j w r fits on below (run_meets p accepted input opts range r fits meets)
+    all = law_known_runs p formed accepted any input opts range j w r fits on below (main_numbered (table_of p) (λ a o. true) ((table_of p).routine (source_of p).main).this 0 (λ c. refl)) (run_meets p accepted input opts range r fits meets)
 
     there_all : there.AllIsThere (source_of p) j w
     there_all = all_there p accepted input opts range r fits on meets

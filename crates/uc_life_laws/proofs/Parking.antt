@@ -18,31 +18,31 @@ use Rattle.uc_machine.specs.Switches as sw
 use Rattle.uc_machine.specs.Switches.{Moved, To, Stops}
 use Rattle.uc_machine.specs.Quiet.{fresh, behind_body}
 use Rattle.uc_machine.specs.Pieces.{Value, Number, Place, Running, Object, Nothing, Todo, Rest, Active, State, Env, Members, address, stored, nought, written}
-use Rattle.uc_typing.specs.Typing.{Ty, Obj, Sig, Table, object_ty, FineStmts}
+use Rattle.uc_typing.specs.Typing.{Ty, Obj, Sig, Table, object_ty, FineStmts, Raw}
 use Rattle.uc_typing.specs.Pieces.{Ok}
 use Rattle.uc_typing.specs.States.{IsObject, IsSorted, Routine_is}
-use Rattle.uc_life_laws.specs.Things.{IsFew, LiesIn, Known}
+use Rattle.uc_life_laws.specs.Things.{Few, IsFew, LiesIn, Known}
 use Rattle.uc_life_laws.specs.LifeStates.{SlotBy, ParkedBy, MembersBy}
-use Rattle.uc_life_laws.specs.Knowing.{KnownParams, KnownFrames, KnownThis, KnowsEx, KnowsBy, KnowsSlot, KnowsEnv, KnowsState, IsOwn, AtHand}
+use Rattle.uc_life_laws.specs.Knowing.{KnownParams, KnownFrames, KnownThis, KnowsEx, KnowsBy, KnowsSlot, KnowsEnv, KnowsState, AtHand}
 use Rattle.uc_life_laws.proofs.Cells.{either}
 use Rattle.uc_life_laws.proofs.Parked as parked
 use Rattle.uc_life_laws.proofs.Parked.{Ex, at_home}
 use Rattle.uc_life_laws.proofs.Knowns.{frames_stored}
 
 -- what a frame holds does not depend on what its activation has to do
-pub frames_run : (t : Table) (few : Ty → ℕ → Bool) (n : Exec) (gs : List Sig) (fs : List (List Value)) (c d : Active) (cs : List Active) → KnownFrames t few n gs fs (c ∷ cs) → KnownFrames t few n gs fs (d ∷ cs)
+pub frames_run : (t : Table) (few : Few) (n : Exec) (gs : List Sig) (fs : List (List Value)) (c d : Active) (cs : List Active) → KnownFrames t few n gs fs (c ∷ cs) → KnownFrames t few n gs fs (d ∷ cs)
 frames_run t few n [] [] c d cs h = absurd h
 frames_run t few n [] (f ∷ fs) c d cs h = absurd h
 frames_run t few n (g ∷ gs) [] c d cs h = absurd h
 frames_run t few n (g ∷ gs) (f ∷ fs) c d cs h = h
 
-pub frames_others : (t : Table) (few : Ty → ℕ → Bool) (n : Exec) (gs : List Sig) (fs : List (List Value)) (c : Active) (cs : List Active) → KnownFrames t few n gs fs (c ∷ cs) → KnownFrames t few n (others gs) (others fs) cs
+pub frames_others : (t : Table) (few : Few) (n : Exec) (gs : List Sig) (fs : List (List Value)) (c : Active) (cs : List Active) → KnownFrames t few n gs fs (c ∷ cs) → KnownFrames t few n (others gs) (others fs) cs
 frames_others t few n [] [] c cs h = absurd h
 frames_others t few n [] (f ∷ fs) c cs h = absurd h
 frames_others t few n (g ∷ gs) [] c cs h = absurd h
 frames_others t few n (g ∷ gs) (f ∷ fs) c cs h = h.1
 
-module _ (t : Table) (few : Ty → ℕ → Bool) where
+module _ (t : Table) (few : Few) where
   pub like : {e f : Env} → KnowsEnv t few e → f.hand ≡ e.hand → f.house ≡ e.house → f.own ≡ e.own → KnowsEnv t few f
   like s h g o = parked.like (KnowsSlot t few) s h g o
 
@@ -271,30 +271,22 @@ module _ (t : Table) (few : Ty → ℕ → Bool) where
   few_other n m a (Object o) h = h
   few_other n m a Nothing h = tt
 
-  lies_apart : (n : Exec) (K : Value → Ty → Type 0) (a : Ty) (v : Value) → (IsOwn n v → ⊥) → LiesIn t few n K a v
-  lies_apart n K a (Number z) h = tt
-  lies_apart n K a (Place (Frame x d) p) h = λ e. absurd (h e)
-  lies_apart n K a (Place (Fields o) p) h = tt
-  lies_apart n K a (Running x) h = tt
-  lies_apart n K a (Object o) h = tt
-  lies_apart n K a Nothing h = tt
+  -- what is an object, whole or not, is one to an execution that has it at hand
+  object_to : (n : Exec) (K : Value → Ty → Type 0) (b : Bool) (c : ℕ) (v : Value) → IsObject t c v → IsFew t few n (Raw c) v → IsFew t few n (Obj c) v → LiesIn t few n K (Obj c) v → Known t few n K (object_ty b c) v
+  object_to n K true c v i r f h = record { is = i; passes = r }
+  object_to n K false c v i r f h = record { is = i; passes = f; rooted = λ k. h; held = λ m. h }
 
-  -- what is an object, whole or not, is one to an execution in whose frames it does not lie
-  object_to : (n : Exec) (K : Value → Ty → Type 0) (b : Bool) (c : ℕ) (v : Value) → IsObject t c v → IsFew t few n (Obj c) v → (IsOwn n v → ⊥) → Known t few n K (object_ty b c) v
-  object_to n K true c v i f h = record { is = i; passes = f }
-  object_to n K false c v i f h = record { is = i; passes = f; rooted = λ k. lies_apart n K (Obj c) v h }
-
-  object_apart : (n m : Exec) (K L : Value → Ty → Type 0) (b d : Bool) (c : ℕ) (v : Value) → Known t few n K (object_ty b c) v → (IsOwn m v → ⊥) → Known t few m L (object_ty d c) v
-  object_apart n m K L true d c v h k = object_to m L d c v h.is (few_other n m (Obj c) v h.passes) k
-  object_apart n m K L false d c v h k = object_to m L d c v h.is (few_other n m (Obj c) v h.passes) k
+  object_apart : (n m : Exec) (K L : Value → Ty → Type 0) (b d : Bool) (c : ℕ) (v : Value) → Known t few n K (object_ty b c) v → (IsFew t few n (Raw c) v → IsFew t few n (Obj c) v) × (IsFew t few n (Obj c) v → IsFew t few n (Raw c) v) → LiesIn t few m L (Obj c) v → Known t few m L (object_ty d c) v
+  object_apart n m K L true d c v h f k = object_to m L d c v h.is (few_other n m (Raw c) v h.passes) (few_other n m (Obj c) v (f.0 h.passes)) k
+  object_apart n m K L false d c v h f k = object_to m L d c v h.is (few_other n m (Raw c) v (f.1 h.passes)) (few_other n m (Obj c) v h.passes) k
 
   -- the object at hand is known to such a one
-  pub this_apart : (n m : Exec) (K L : Value → Ty → Type 0) (g i : Sig) (v : Value) → i.this ≡ g.this → KnownThis t few n K g g.this v → (IsOwn m v → ⊥) → KnownThis t few m L i i.this v
-  this_apart n m K L g i v e h k = subst (λ o. KnownThis t few m L i o v) (sym e) (by g.this h)
+  pub this_apart : (n m : Exec) (K L : Value → Ty → Type 0) (g i : Sig) (v : Value) → i.this ≡ g.this → KnownThis t few n K g g.this v → ((c : ℕ) → g.this ≡ Some c → (IsFew t few n (Raw c) v → IsFew t few n (Obj c) v) × (IsFew t few n (Obj c) v → IsFew t few n (Raw c) v)) → ((c : ℕ) → g.this ≡ Some c → LiesIn t few m L (Obj c) v) → KnownThis t few m L i i.this v
+  this_apart n m K L g i v e h f k = subst (λ o. KnownThis t few m L i o v) (sym e) (by g.this h f k)
     where
-      by : (o : Option ℕ) → KnownThis t few n K g o v → KnownThis t few m L i o v
-      by None h = tt
-      by (Some c) h = object_apart n m K L g.whole i.whole c v h k
+      by : (o : Option ℕ) → KnownThis t few n K g o v → ((c : ℕ) → o ≡ Some c → (IsFew t few n (Raw c) v → IsFew t few n (Obj c) v) × (IsFew t few n (Obj c) v → IsFew t few n (Raw c) v)) → ((c : ℕ) → o ≡ Some c → LiesIn t few m L (Obj c) v) → KnownThis t few m L i o v
+      by None h f k = tt
+      by (Some c) h f k = object_apart n m K L g.whole i.whole c v h (f c refl) (k c refl)
 
   pub main_ok : (g : Sig) (p : Purpose) (line : ℕ) (body : Stmts) → IsSorted p g.whole → FineStmts t g [] body → Ok t g [] [] (Rest body ∷ behind_body p line) []
   main_ok g TaskMain line body e f = (tt, f, (tt, refl))
@@ -304,10 +296,10 @@ module _ (t : Table) (few : Ty → ℕ → Bool) where
   main_ok g Builder line body e f = (tt, f, refl)
 
   -- its main begins
-  pub fresh_knows : (n : Exec) (g : Sig) (x : Routine) (this : Value) → Routine_is t g x → g.params ≡ [] → KnownThis t few n (AtHand t n [] []) g g.this this → KnowsEx t few n (fresh x this)
+  pub fresh_knows : (n : Exec) (g : Sig) (x : Routine) (this : Value) → Routine_is t g x → g.params ≡ [] → KnownThis t few n (AtHand t few n [] []) g g.this this → KnowsEx t few n (fresh x this)
   fresh_knows n g x this r e i = record {
     sigs = g ∷ [];
-    frames = (subst (λ ps. KnownParams t few n (AtHand t n [] []) ps (replicate x.cells nought)) (sym e) tt, tt);
+    frames = (subst (λ ps. KnownParams t few n (AtHand t few n [] []) ps (replicate x.cells nought)) (sym e) tt, tt);
     run = record { sig = g; own = []; scope = []; base = []; frame = refl; values = tt; this = i; ok = main_ok g x.purpose x.line x.body r.purpose r.body; ends = refl };
     callers = tt;
   }

@@ -9,7 +9,7 @@ use Rattle.uc_machine.specs.declared.exec.Home.TheVariants as home
 use Rattle.uc_machine.specs.declared.exec.Owner.{Owner}
 use Rattle.uc_machine.specs.declared.exec.Owner.TheVariants.{Frame, Fields}
 use Rattle.uc_machine.specs.declared.exec.Visited.{Visited}
-use Rattle.uc_machine.specs.Executions.{home_eq, exec_eq, at_depth, list_in, frames_in, parked_at}
+use Rattle.uc_machine.specs.Executions.{home_eq, exec_eq, at_depth, list_in, frames_in, parked_at, others}
 use Rattle.uc_machine.specs.Raising.{within, count_round}
 use Rattle.uc_machine.specs.Pieces as piece
 use Rattle.uc_machine.specs.Pieces.{Link, Slot, Value, Number, Place, Running, Object, Nothing, Todo, Sort, Active, State, Env, address, nought, loaded}
@@ -18,9 +18,9 @@ use Rattle.uc_typing.specs.Typing.{Ty, Num, Cell, Obj, Raw, Row, Clu, Pro, Name,
 use Rattle.uc_typing.specs.Pieces.{Ok, Left, Met}
 use Rattle.uc_typing.specs.States.{Either, IsBase}
 use Rattle.uc_typing.proofs.Control as control
-use Rattle.uc_life_laws.specs.Things.{IsBinding, IsReference, Within, itself, field, element, AtVariable, AtField, IsFor, Nowhere, Marks, InTodo, Things, Variables, OwnFields, LiesIn, Known, Holds}
+use Rattle.uc_life_laws.specs.Things.{Few, IsBinding, IsReference, Within, itself, field, element, AtVariable, AtField, IsFor, Nowhere, Marks, InTodo, Things, Variables, OwnFields, LiesIn, Known, Holds, Held, lies, inside}
 use Rattle.uc_life_laws.specs.LifeStates.{frame_at, Outwards, MarkHolds, AllHold, LifeStack, LifeState}
-use Rattle.uc_life_laws.specs.Knowing.{Here, ReadsKnown}
+use Rattle.uc_life_laws.specs.Knowing.{Here, ReadsKnown, InMaking}
 use Rattle.uc_life_laws.proofs.Steps.{exec_same}
 use Rattle.uc_life_laws.proofs.Knowns.{Less, known_more}
 
@@ -67,7 +67,7 @@ module _ (t : Table) (n : Exec) where
   same_frame x y d e h = cc
 
   -- a part of a thing that is a variable of a frame
-  module _ (few : Ty → ℕ → Bool) (K : Value → Ty → Type 0) (fs : List (List Value)) (f : ℕ) where
+  module _ (few : Few) (K : Value → Ty → Type 0) (fs : List (List Value)) (f : ℕ) where
     at_thing : (k : ℕ) (a : Ty) (d : ℕ) (p : List Link) (b : Ty) → Holds t few n K (Frame n f) (frame_at f fs) (Place (Frame n f) (Slot k ∷ [])) a → Within t (Place (Frame n f) (Slot k ∷ [])) a (Place (Frame n d) p) (Cell b) → IsBinding b → Known t few n K b (slice_index_or (frame_at d fs) (address p) nought)
     at_thing k a d p b h w i =
         let o : Frame n d ≡ Frame n f = owner_of (Frame n f) (Place (Frame n f) (Slot k ∷ [])) a (Place (Frame n d) p) (Cell b) refl w in
@@ -75,14 +75,14 @@ module _ (t : Table) (n : Exec) where
         subst (λ d. Known t few n K b (slice_index_or (frame_at d fs) (address p) nought)) (sym e) (h p b (subst (λ d. Within t (Place (Frame n f) (Slot k ∷ [])) a (Place (Frame n d) p) (Cell b)) e w) i)
 
   -- in a to-do list: what is known behind a mark is known before the list
-  module _ (few : Ty → ℕ → Bool) (fs : List (List Value)) (f : ℕ) (this : Value) (older : List Active) (w : Value) (a : Ty) (d : ℕ) (p : List Link) (b : Ty) (i : IsBinding b) (L : Value → Ty → Type 0) where
+  module _ (few : Few) (fs : List (List Value)) (f : ℕ) (this : Value) (older : List Active) (w : Value) (a : Ty) (d : ℕ) (p : List Link) (b : Ty) (i : IsBinding b) (L : Value → Ty → Type 0) where
     abbrev Before : List Todo → Value → Ty → Type 0
-    Before todo v c = InTodo (IsFor t (Frame n f) this) (AtField t (Frame n f) this) todo v c ⊎ Things t n older v c
+    Before todo v c = InTodo (IsFor t (Frame n f) this) (AtField t (Frame n f) this) todo v c ⊎ Things t few n older v c
 
     abbrev Reads : Type 0
     Reads = Known t few n L b (slice_index_or (frame_at d fs) (address p) nought)
 
-    from_mark : (s : Sort) (todo : List Todo) → MarkHolds t few n (frame_at f fs) f this older s todo (AllHold t few n (frame_at f fs) f this older todo) → ((v : Value) (e : Ty) → (Marks (IsFor t (Frame n f) this) (AtField t (Frame n f) this) s v e (InTodo (IsFor t (Frame n f) this) (AtField t (Frame n f) this) todo v e) ⊎ Things t n older v e) → L v e) → Marks (AtVariable t (Frame n f) this) (Nowhere (Frame n f) this) s w a (InTodo (AtVariable t (Frame n f) this) (Nowhere (Frame n f) this) todo w a) → (AllHold t few n (frame_at f fs) f this older todo → Less t few n (Before todo) L → InTodo (AtVariable t (Frame n f) this) (Nowhere (Frame n f) this) todo w a → Reads) → Within t w a (Place (Frame n d) p) (Cell b) → Reads
+    from_mark : (s : Sort) (todo : List Todo) → MarkHolds t few n (frame_at f fs) f this older s todo (AllHold t few n (frame_at f fs) f this older todo) → ((v : Value) (e : Ty) → (Marks (IsFor t (Frame n f) this) (AtField t (Frame n f) this) s v e (InTodo (IsFor t (Frame n f) this) (AtField t (Frame n f) this) todo v e) ⊎ Things t few n older v e) → L v e) → Marks (AtVariable t (Frame n f) this) (Nowhere (Frame n f) this) s w a (InTodo (AtVariable t (Frame n f) this) (Nowhere (Frame n f) this) todo w a) → (AllHold t few n (frame_at f fs) f this older todo → Less t few n (Before todo) L → InTodo (AtVariable t (Frame n f) this) (Nowhere (Frame n f) this) todo w a → Reads) → Within t w a (Place (Frame n d) p) (Cell b) → Reads
     from_mark (piece.IsClean c) todo h more (inl m) next y =
         known_more t few n (Outwards t few n f this older c todo) L (λ v e x. more v e x) b _ (at_thing few (Outwards t few n f this older c todo) fs f m.0 a d p b (h.0 m.0 a m.1) (subst (λ w. Within t w a (Place (Frame n d) p) (Cell b)) m.2 y) i)
     from_mark (piece.IsClean c) todo h more (inr m) next y = next h.1 (λ v e x. ⊎_elim (λ x. more v e (inl (inr x))) (λ x. more v e (inr x)) x) m
@@ -102,7 +102,7 @@ module _ (t : Table) (n : Exec) where
     from_todo (x ∷ todo) h more m y = from_mark (piece.sort x) todo h more m (λ h more m. from_todo todo h more m y) y
 
   -- what a binding within a variable holds is known
-  pub from_variables : (few : Ty → ℕ → Bool) (fs : List (List Value)) (w : Value) (a : Ty) (d : ℕ) (p : List Link) (b : Ty) (i : IsBinding b) (L : Value → Ty → Type 0) (cs : List Active) → LifeStack t few n fs cs → Less t few n (Things t n cs) L → Variables t n cs w a → Within t w a (Place (Frame n d) p) (Cell b) → Known t few n L b (slice_index_or (frame_at d fs) (address p) nought)
+  pub from_variables : (few : Few) (fs : List (List Value)) (w : Value) (a : Ty) (d : ℕ) (p : List Link) (b : Ty) (i : IsBinding b) (L : Value → Ty → Type 0) (cs : List Active) → LifeStack t few n fs cs → Less t few n (Things t few n cs) L → Variables t n cs w a → Within t w a (Place (Frame n d) p) (Cell b) → Known t few n L b (slice_index_or (frame_at d fs) (address p) nought)
   from_variables few fs w a d p b i L [] h more m y = absurd m
   from_variables few fs w a d p b i L (c ∷ older) h more (inl m) y = from_todo few fs c.frame c.this older w a d p b i L c.control h.1 more m y
   from_variables few fs w a d p b i L (c ∷ older) h more (inr m) y = from_variables few fs w a d p b i L older h.2 (λ v e x. more v e (inr x)) m y
@@ -128,10 +128,10 @@ module _ (t : Table) (n : Exec) where
   split_todo o this w a [] m = absurd m
   split_todo o this w a (x ∷ todo) m = split_mark o this w a (piece.sort x) _ _ _ (split_todo o this w a todo) m
 
-  pub split : (cs : List Active) (w : Value) (a : Ty) → Things t n cs w a → OwnFields t n cs w a ⊎ Variables t n cs w a
-  split [] w a m = absurd m
-  split (c ∷ older) w a (inl m) = ⊎_elim (λ x. inl (inl x)) (λ x. inr (inl x)) (split_todo (Frame n c.frame) c.this w a c.control m)
-  split (c ∷ older) w a (inr m) = ⊎_elim (λ x. inl (inr x)) (λ x. inr (inr x)) (split older w a m)
+  pub split : (few : Few) (cs : List Active) (w : Value) (a : Ty) → Things t few n cs w a → OwnFields t few n cs w a ⊎ Variables t n cs w a
+  split few [] w a m = inl m
+  split few (c ∷ older) w a (inl m) = ⊎_elim (λ x. inl (inl x)) (λ x. inr (inl x)) (split_todo (Frame n c.frame) c.this w a c.control m)
+  split few (c ∷ older) w a (inr m) = ⊎_elim (λ x. inl (inr x)) (λ x. inr (inr x)) (split few older w a m)
 
   whole_mark : (o : Owner) (this w : Value) (a : Ty) (s : Sort) (V R : Type 0) → (V → R) → Marks (AtVariable t o this) (Nowhere o this) s w a V → Marks (IsFor t o this) (AtField t o this) s w a R
   whole_mark o this w a (piece.IsClean c) V R more (inl m) = inl (inl m)
@@ -152,10 +152,43 @@ module _ (t : Table) (n : Exec) where
   whole_todo o this w a (x ∷ todo) m = whole_mark o this w a (piece.sort x) _ _ (whole_todo o this w a todo) m
 
   -- a variable is a thing
-  pub variable_thing : (cs : List Active) (w : Value) (a : Ty) → Variables t n cs w a → Things t n cs w a
-  variable_thing [] w a m = absurd m
-  variable_thing (c ∷ older) w a (inl m) = inl (whole_todo (Frame n c.frame) c.this w a c.control m)
-  variable_thing (c ∷ older) w a (inr m) = inr (variable_thing older w a m)
+  pub variable_thing : (few : Few) (cs : List Active) (w : Value) (a : Ty) → Variables t n cs w a → Things t few n cs w a
+  variable_thing few [] w a m = absurd m
+  variable_thing few (c ∷ older) w a (inl m) = inl (whole_todo (Frame n c.frame) c.this w a c.control m)
+  variable_thing few (c ∷ older) w a (inr m) = inr (variable_thing few older w a m)
+
+-- what is in no frame: all within it is in none
+abbrev InNoFrame : Value → Type 0
+InNoFrame (Number z) = Unit {0}
+InNoFrame (Place (Frame x d) p) = ⊥
+InNoFrame (Place (Fields o) p) = Unit {0}
+InNoFrame (Running x) = Unit {0}
+InNoFrame (Object o) = Unit {0}
+InNoFrame Nothing = Unit {0}
+
+further_no_frame : (l : Link) (v : Value) → InNoFrame v → InNoFrame (piece.further l v)
+further_no_frame l (Number z) h = tt
+further_no_frame l (Place (Frame x d) p) h = absurd h
+further_no_frame l (Place (Fields o) p) h = tt
+further_no_frame l (Running x) h = tt
+further_no_frame l (Object o) h = tt
+further_no_frame l Nothing h = tt
+
+in_no_frame : (t : Table) (w : Value) (a : Ty) (v : Value) (b : Ty) → InNoFrame w → Within t w a v b → InNoFrame v
+in_no_frame t w a v b h itself = h
+in_no_frame t w a v b h (field {v = u} {c} k i f) = further_no_frame _ u (in_no_frame t w a u (Obj c) h k)
+in_no_frame t w a v b h (element {v = u} {m} {b = d} k j l) = further_no_frame _ u (in_no_frame t w a u (Row m d) h k)
+
+-- what is not whole has no parts
+pub within_raw : (t : Table) (w : Value) (c : ℕ) (v : Value) (b : Ty) → Within t w (Raw c) v b → b ≡ Raw c
+within_raw t w c v b itself = refl
+within_raw t w c v b (field {v = u} {c = d} k i f) = let e = within_raw t w c u (Obj d) k in absurd (cc)
+within_raw t w c v b (element {v = u} {m} {b = d} k j l) = let e = within_raw t w c u (Row m d) k in absurd (cc)
+
+pub in_raw : (gs : List Sig) (cs : List Active) (w : Value) (a : Ty) → InMaking gs cs w a → (c : ℕ) × (a ≡ Raw c)
+in_raw gs [] w a m = absurd m
+in_raw gs (c ∷ older) w a (inl m) = let h = m.2.1 in (h.0, h.3)
+in_raw gs (c ∷ older) w a (inr m) = in_raw (others gs) older w a m
 
 -- a variable with one cell is bound to an object, a cluster or a processor
 module _ (t : Table) (n : Exec) (w : Value) where
@@ -300,33 +333,34 @@ bound (Row m a) i = absurd i
 bound Clu i = absurd i
 bound Pro i = absurd i
 
-module _ (t : Table) (few : Ty → ℕ → Bool) (s : State) (st : LifeState t few s) (gs : List Sig) where
+module _ (t : Table) (few : Few) (s : State) (st : LifeState t few s) (gs : List Sig) where
   -- in a frame of the running execution
   own : (P : Value → Type 0) (d : ℕ) (p : List Link) → P (slice_index_or (frame_at d s.env.frames) (address p) nought) → P (loaded (Place (Frame s.env.exec d) p) s.env)
   own P d p h =
       subst (λ (b : Bool). P (slice_index_or (list_in (at_depth (if b then s.env.frames else frames_in (parked_at s.env.exec s.env)) d)) (address p) nought)) (sym (exec_same s.env.exec)) h
 
   -- at a part of a variable that is to be cleaned up
-  pub variable_read : (w : Value) (a : Ty) (d : ℕ) (p : List Link) (b : Ty) → IsBinding b → Variables t s.env.exec (s.run ∷ s.callers) w a → Within t w a (Place (Frame s.env.exec d) p) (Cell b) → Known t few s.env.exec (Here t gs s) b (loaded (Place (Frame s.env.exec d) p) s.env)
+  pub variable_read : (w : Value) (a : Ty) (d : ℕ) (p : List Link) (b : Ty) → IsBinding b → Variables t s.env.exec (s.run ∷ s.callers) w a → Within t w a (Place (Frame s.env.exec d) p) (Cell b) → Known t few s.env.exec (Here t few gs s) b (loaded (Place (Frame s.env.exec d) p) s.env)
   variable_read w a d p b i m y =
-      own (Known t few s.env.exec (Here t gs s) b) d p (from_variables t s.env.exec few s.env.frames w a d p b i (Here t gs s) (s.run ∷ s.callers) st.stack (λ v e x. inl x) m y)
+      own (Known t few s.env.exec (Here t few gs s) b) d p (from_variables t s.env.exec few s.env.frames w a d p b i (Here t few gs s) (s.run ∷ s.callers) st.stack (λ v e x. inl x) m y)
 
-  in_own : (a : Ty) (x : Exec) (d : ℕ) (p : List Link) → IsBinding a → (x ≡ s.env.exec → (w : Value) × (b : Ty) × Here t gs s w b × Within t w b (Place (Frame x d) p) (Cell a)) → ReadsKnown t few gs s a (Place (Frame x d) p) → x ≡ s.env.exec → Known t few s.env.exec (Here t gs s) a (loaded (Place (Frame x d) p) s.env)
-  in_own a x d p i h r e =
-      let k = h e in
+  in_own : (a : Ty) (x : Exec) (d : ℕ) (p : List Link) → IsBinding a → Held t few (Here t few gs s) (Cell a) (Place (Frame x d) p) → ReadsKnown t few gs s a (Place (Frame x d) p) → x ≡ s.env.exec → Known t few s.env.exec (Here t few gs s) a (loaded (Place (Frame x d) p) s.env)
+  in_own a x d p i (inl (lies {w = w} {a = b} k y)) r e =
       ⊎_elim
       (λ m. ⊎_elim
-      (λ f. r.field k.0 k.1 f k.3)
-      (λ v. subst (λ (n : Exec). Known t few s.env.exec (Here t gs s) a (loaded (Place (Frame n d) p) s.env)) (sym e) (variable_read k.0 k.1 d p a i v (subst (λ (n : Exec). Within t k.0 k.1 (Place (Frame n d) p) (Cell a)) e k.3)))
-      (split t s.env.exec (s.run ∷ s.callers) k.0 k.1 m))
-      (λ m. r.making k.0 k.1 m k.3)
-      k.2
+      (λ f. r.field w b f y)
+      (λ v. subst (λ (n : Exec). Known t few s.env.exec (Here t few gs s) a (loaded (Place (Frame n d) p) s.env)) (sym e) (variable_read w b d p a i v (subst (λ (n : Exec). Within t w b (Place (Frame n d) p) (Cell a)) e y)))
+      (split t s.env.exec few (s.run ∷ s.callers) w b m))
+      (λ m. let y2 = in_raw gs (s.run ∷ s.callers) w b m in let e2 : Cell a ≡ Raw y2.0 = within_raw t w y2.0 (Place (Frame x d) p) (Cell a) (subst (λ b. Within t w b (Place (Frame x d) p) (Cell a)) y2.1 y) in absurd (cc))
+      k
+  in_own a x d p i (inl (inside {o = o} {c} m k y)) r e = absurd (in_no_frame t (Object o) (Obj c) (Place (Frame x d) p) (Cell a) tt y)
+  in_own a x d p i (inr h) r e = r.making h.0 h.1 h.2 h.3
 
-  bound_read : (a : Ty) (v : Value) → IsBinding a → LiesIn t few s.env.exec (Here t gs s) (Cell a) v → ReadsKnown t few gs s a v → Known t few s.env.exec (Here t gs s) a (loaded v s.env)
+  bound_read : (a : Ty) (v : Value) → IsBinding a → LiesIn t few s.env.exec (Here t few gs s) (Cell a) v → ReadsKnown t few gs s a v → Known t few s.env.exec (Here t few gs s) a (loaded v s.env)
   bound_read a (Number z) i h r = r.foreign (λ f. f)
   bound_read a (Place (Frame x d) p) i h r = by (exec_eq x s.env.exec) refl
     where
-      by : (b : Bool) → exec_eq x s.env.exec ≡ b → Known t few s.env.exec (Here t gs s) a (loaded (Place (Frame x d) p) s.env)
+      by : (b : Bool) → exec_eq x s.env.exec ≡ b → Known t few s.env.exec (Here t few gs s) a (loaded (Place (Frame x d) p) s.env)
       by true e = in_own a x d p i h r (exec_is x s.env.exec e)
       by false e = r.foreign (λ q. let f : false ≡ true = sym e ∙ (ap (λ (n : Exec). exec_eq n s.env.exec) q ∙ exec_same s.env.exec) in absurd (cc))
   bound_read a (Place (Fields o) p) i h r = r.foreign (λ f. f)
@@ -335,5 +369,5 @@ module _ (t : Table) (few : Ty → ℕ → Bool) (s : State) (st : LifeState t f
   bound_read a Nothing i h r = r.foreign (λ f. f)
 
   -- at a place that is known
-  pub load_known : (a : Ty) (v : Value) → Known t few s.env.exec (Here t gs s) (Cell a) v → ReadsKnown t few gs s a v → Known t few s.env.exec (Here t gs s) a (loaded v s.env)
+  pub load_known : (a : Ty) (v : Value) → Known t few s.env.exec (Here t few gs s) (Cell a) v → ReadsKnown t few gs s a v → Known t few s.env.exec (Here t few gs s) a (loaded v s.env)
   load_known a v h r = ⊎_elim (λ i. bound_read a v (bound a i) (h.rooted i) r) (λ no. r.untracked no) (reference a)

@@ -1,5 +1,5 @@
 -- The end of an activation: the one that waits goes on, or is unwound, and all stays known.
-use Rattle.std.proofs.Common.{◌≡◌, ℕ, List, [], ◌∷◌, Option, Some, None, Bool, refl, subst}
+use Rattle.std.proofs.Common.{◌≡◌, List, [], ◌∷◌, Option, Some, None, Bool, refl, subst}
 use Rattle.uc_tree.specs.Source.{Source}
 use Rattle.uc_machine.specs.declared.exec.UnwindReason.{UnwindReason}
 use Rattle.uc_machine.specs.declared.exec.UnwindReason.TheVariants as reason
@@ -8,12 +8,13 @@ use Rattle.uc_machine.specs.Executions.{others, left_for, unwound}
 use Rattle.uc_machine.specs.Raising as r
 use Rattle.uc_machine.specs.Pieces as pc
 use Rattle.uc_machine.specs.Pieces.{Value, Todo, Active, State, Env}
-use Rattle.uc_typing.specs.Typing.{Ty, Num, Sig, Table}
+use Rattle.uc_typing.specs.Typing.{Num, Sig, Table}
 use Rattle.uc_typing.proofs.Control.{left}
 use Rattle.uc_life_laws.specs.Knowing.{KnownFrames, KnowsWaits, KnowsEnv, KnowsState, KnowsStep}
 use Rattle.uc_life_laws.proofs.Parking.{frames_run, frames_others, like}
+use Rattle.uc_life_laws.specs.Things.{Few}
 
-module _ (t : Table) (few : Ty → ℕ → Bool) (source : Source) (s : State) (sigs : List Sig) (frames : KnownFrames t few s.env.exec sigs s.env.frames (s.run ∷ s.callers)) (env : KnowsEnv t few s.env) where
+module _ (t : Table) (few : Few) (source : Source) (s : State) (sigs : List Sig) (frames : KnownFrames t few s.env.exec sigs s.env.frames (s.run ∷ s.callers)) (env : KnowsEnv t few s.env) where
   -- the frames of those that wait
   behind : (c d : Active) (cs : List Active) → s.callers ≡ c ∷ cs → KnownFrames t few s.env.exec (others sigs) (others s.env.frames) (d ∷ cs)
   behind c d cs e =

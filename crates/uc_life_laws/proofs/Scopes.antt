@@ -12,7 +12,7 @@ use Rattle.uc_machine.specs.Pieces.{Link, Slot, Value, Place, Todo, Sort, Active
 use Rattle.uc_typing.specs.Typing.{Ty, Cell, Obj, Clu, Pro, Table, InScope, DestroysAt, CleansAt}
 use Rattle.uc_typing.specs.Pieces.{onto}
 use Rattle.uc_typing.specs.States.{Is, Typed, ReadsVariable}
-use Rattle.uc_life_laws.specs.Things.{IsBinding, Within, itself, AtVariable, Nowhere, Marks, InTodo, Things, Variables, Known}
+use Rattle.uc_life_laws.specs.Things.{Few, IsBinding, Within, itself, AtVariable, Nowhere, Marks, InTodo, Things, Variables, Known}
 use Rattle.uc_life_laws.specs.LifeStates.{frame_at, LifeState}
 use Rattle.uc_life_laws.specs.LifeReading.{LawReading}
 use Rattle.uc_life_laws.proofs.Steps.{exec_same}
@@ -24,9 +24,9 @@ own_frame : (P : Value → Type 0) (s : State) (d : ℕ) (p : List Link) → P (
 own_frame P s d p h =
     subst (λ (b : Bool). P (slice_index_or (list_in (at_depth (if b then s.env.frames else frames_in (parked_at s.env.exec s.env)) d)) (address p) nought)) (sym (exec_same s.env.exec)) h
 
-module _ (t : Table) (few : Ty → ℕ → Bool) (s : State) (st : LifeState t few s) where
+module _ (t : Table) (few : Few) (s : State) (st : LifeState t few s) where
   abbrev K : Value → Ty → Type 0
-  K w a = Things t s.env.exec (s.run ∷ s.callers) w a
+  K w a = Things t few s.env.exec (s.run ∷ s.callers) w a
 
   places : (w : Value) (a : Ty) → Variables t s.env.exec (s.run ∷ s.callers) w a → (d : ℕ) (p : List Link) (b : Ty) → Within t w a (Place (Frame s.env.exec d) p) (Cell b) → IsBinding b → Known t few s.env.exec K b (loaded (Place (Frame s.env.exec d) p) s.env)
   places w a x d p b i binds =
@@ -72,7 +72,7 @@ module _ (t : Table) (w : Value) (a : Ty) where
   variable_binding n (c ∷ older) (inl x) = todo_binding (Frame n c.frame) c.this c.control x
   variable_binding n (c ∷ older) (inr x) = variable_binding n older x
 
-module _ (t : Table) (few : Ty → ℕ → Bool) (s : State) (x : Typed t [] s) (st : LifeState t few s) where
+module _ (t : Table) (few : Few) (s : State) (x : Typed t [] s) (st : LifeState t few s) where
   variable : (k : ℕ) (a : Ty) → InScope x.run.scope k (Cell a) → Is t a (loaded (variable_at k s) s.env)
   variable k a i =
       let here = names t [] s x k (Cell a) i in

@@ -25,11 +25,12 @@ use Rattle.uc_machine.specs.Polls as polls
 use Rattle.uc_machine.specs.Quiet as quiet
 use Rattle.uc_machine.specs.Pieces as piece
 use Rattle.uc_machine.specs.Pieces.{Value, Number, Place, Running, Object, Nothing, Todo, Sort, Active, State, Env, Members, Step, Goes, Ticks, Asks, Outcome, Gives, Faults, at, in_env, top, below, number, nought, written}
-use Rattle.uc_typing.specs.Typing.{Ty, Table}
+use Rattle.uc_typing.specs.Typing.{Table}
 use Rattle.uc_life_laws.specs.LifeStates.{frame_at, MarkHolds, AllHold, LifeStack, LifeEx, LifeState, LifeStep, AllBefore, FrameBefore}
 use Rattle.uc_life_laws.proofs.Cells.{either, set_length, stack_cleared, stack_newer, stack_older, others_length}
 use Rattle.uc_life_laws.proofs.Keeping as kept
 use Rattle.uc_life_laws.proofs.Keeping.{Keeps}
+use Rattle.uc_life_laws.specs.Things.{Few}
 
 home_same : (h : Home) → home_eq h h ≡ true
 home_same (home.Task n) = eq-eqb n n refl
@@ -51,7 +52,7 @@ found_or : (n : ℕ) (h : Option Hit) (a : Active) (cs : List Active) (other : O
 found_or n None a cs other l k = k
 found_or n (Some h) a cs other l k = l
 
-module _ (t : Table) (few : Ty → ℕ → Bool) where
+module _ (t : Table) (few : Few) where
   seek_to : (m : Exec) (fs : List (List Value)) (n : ℕ) (v : Option Visited) (e : Event) (cs : List Active) → length cs ≤ n → LifeStack t few m fs cs → FoundTo n (raising.seek v e cs)
   seek_to m fs n None e [] l h = tt
   seek_to m fs n (Some v) e [] l h = tt

@@ -22,6 +22,7 @@ use Rattle.uc_life_laws.proofs.Cells.{either}
 use Rattle.uc_life_laws.proofs.Knowns.{this_more, older_hand, known_is}
 use Rattle.uc_life_laws.proofs.Parking.{KnowsMoved, frames_run, like, taken_down_in, escape_in}
 use Rattle.uc_life_laws.proofs.Returning.{returned_knows, left_knows}
+use Rattle.uc_life_laws.specs.Things.{Few}
 
 -- the one that raises an event drops what the handler hands over
 
@@ -47,10 +48,10 @@ raising t false i v sc frame a older B h = h
 abbrev no_sig : Sig
 no_sig = record { this = None; params = []; locals = []; whole = false; inward = Apart }
 
-module _ (t : Table) (few : Ty → ℕ → Bool) (n : Exec) where
+module _ (t : Table) (few : Few) (n : Exec) where
   -- the object of an activation before these older ones, by the kind of its frame
   abbrev HasThis : List Sig → List Active → ℕ → Value → Type 0
-  HasThis gs older d v = (i : Sig) × (at_depth gs d ≡ Some i) × KnownThis t few n (AtHand t n (others gs) older) i i.this v
+  HasThis gs older d v = (i : Sig) × (at_depth gs d ≡ Some i) × KnownThis t few n (AtHand t few n (others gs) older) i i.this v
 
   abbrev Haves : List Sig → List Active → Type 0
   Haves gs [] = Unit {0}
@@ -63,7 +64,7 @@ module _ (t : Table) (few : Ty → ℕ → Bool) (n : Exec) where
   -- the object that is found is known to all of these
   abbrev MaybeHas : List Sig → List Active → Option r.Found → Type 0
   MaybeHas gs acts None = Unit {0}
-  MaybeHas gs acts (Some f) = (i : Sig) × (at_depth gs f.frame ≡ Some i) × KnownThis t few n (AtHand t n gs acts) i i.this f.this
+  MaybeHas gs acts (Some f) = (i : Sig) × (at_depth gs f.frame ≡ Some i) × KnownThis t few n (AtHand t few n gs acts) i i.this f.this
 
   lifted : (gs : List Sig) (d : ℕ) (i : Sig) → at_depth (others gs) d ≡ Some i → at_depth gs d ≡ Some i
   lifted [] d i e = absurd (cc)
@@ -72,12 +73,12 @@ module _ (t : Table) (few : Ty → ℕ → Bool) (n : Exec) where
   has_lifted : (gs : List Sig) (a : Active) (acts : List Active) (o : Option r.Found) → MaybeHas (others gs) acts o → MaybeHas gs (a ∷ acts) o
   has_lifted gs a acts None h = tt
   has_lifted gs a acts (Some f) h =
-      (h.0, lifted gs f.frame h.0 h.1, this_more t few n (AtHand t n (others gs) acts) (AtHand t n gs (a ∷ acts)) (older_hand t few n gs a acts) h.0 h.0.this f.this h.2)
+      (h.0, lifted gs f.frame h.0 h.1, this_more t few n (AtHand t few n (others gs) acts) (AtHand t few n gs (a ∷ acts)) (older_hand t few n gs a acts) h.0 h.0.this f.this h.2)
 
   has_or : (gs : List Sig) (o : Option r.Hit) (a : Active) (acts : List Active) (other : Option r.Found) → HasThis gs acts a.frame a.this → MaybeHas gs (a ∷ acts) other → MaybeHas gs (a ∷ acts) (r.found_or o a acts other)
   has_or gs None a acts other h k = k
   has_or gs (Some x) a acts other h k =
-      (h.0, h.1, this_more t few n (AtHand t n (others gs) acts) (AtHand t n gs (a ∷ acts)) (older_hand t few n gs a acts) h.0 h.0.this a.this h.2)
+      (h.0, h.1, this_more t few n (AtHand t few n (others gs) acts) (AtHand t few n gs (a ∷ acts)) (older_hand t few n gs a acts) h.0 h.0.this a.this h.2)
 
   has_found : (v : Option Visited) (e : r.Event) (gs : List Sig) (acts : List Active) → Haves gs acts → MaybeHas gs acts (r.seek v e acts)
   has_found None e gs [] h = tt
@@ -102,7 +103,7 @@ module _ (t : Table) (few : Ty → ℕ → Bool) (n : Exec) where
     record {
       sig = w.0.sig;
       frame = w.0.frame;
-      this = this_is (AtHand t n (others gs) cs) w.0.sig w.0.sig.this c.this w.0.this;
+      this = this_is (AtHand t few n (others gs) cs) w.0.sig w.0.sig.this c.this w.0.this;
       scope = w.0.scope;
       base = w.0.base;
       left = left t w.0.sig w.0.base w.0.scope c.control (Num ∷ w.0.own) w.0.ok;
@@ -111,15 +112,15 @@ module _ (t : Table) (few : Ty → ℕ → Bool) (n : Exec) where
     standing (others gs) cs w.1,
   )
 
-module _ (t : Table) (few : Ty → ℕ → Bool) (source : Source) where
+module _ (t : Table) (few : Few) (source : Source) where
   -- a state, or a fault
   pub moved : (s : State) (m : Moved (List Todo) Value) → KnowsMoved t few m → KnowsStep t few source (pc.moves m s)
   moved s (To u) h = h
   moved s (Stops f) h = (tt, tt)
 
-  module _ (s : State) (sigs : List Sig) (g : Sig) (base sc : List Name) (frames : KnownFrames t few s.env.exec sigs s.env.frames (s.run ∷ s.callers)) (frame : at_depth sigs s.run.frame ≡ Some g) (this : KnownThis t few s.env.exec (AtHand t s.env.exec (others sigs) s.callers) g g.this s.run.this) (callers : KnowsWaits t few s.env.exec (others sigs) s.callers) (env : KnowsEnv t few s.env) (ends : IsBase t g s.run.handles base s.run.frame s.callers) where
+  module _ (s : State) (sigs : List Sig) (g : Sig) (base sc : List Name) (frames : KnownFrames t few s.env.exec sigs s.env.frames (s.run ∷ s.callers)) (frame : at_depth sigs s.run.frame ≡ Some g) (this : KnownThis t few s.env.exec (AtHand t few s.env.exec (others sigs) s.callers) g g.this s.run.this) (callers : KnowsWaits t few s.env.exec (others sigs) s.callers) (env : KnowsEnv t few s.env) (ends : IsBase t g s.run.handles base s.run.frame s.callers) where
     -- the running activation goes on with this to do and these numbers, whatever else it keeps
-    calm : (inner : List Name) (own : List Ty) (todo : List Todo) (vs : List Value) (why : Option UnwindReason) → Ok t g base inner todo own → KnownAll t few s.env.exec (AtHand t s.env.exec sigs (record s.run { control = todo; operands = vs; raised = why } ∷ s.callers)) own vs → KnowsState t few [] (record s { run = record s.run { control = todo; operands = vs; raised = why } })
+    calm : (inner : List Name) (own : List Ty) (todo : List Todo) (vs : List Value) (why : Option UnwindReason) → Ok t g base inner todo own → KnownAll t few s.env.exec (AtHand t few s.env.exec sigs (record s.run { control = todo; operands = vs; raised = why } ∷ s.callers)) own vs → KnowsState t few [] (record s { run = record s.run { control = todo; operands = vs; raised = why } })
     calm inner own todo vs why o h = record {
       sigs = sigs;
       frames = frames_run t few s.env.exec sigs s.env.frames s.run _ s.callers frames;
@@ -209,7 +210,7 @@ module _ (t : Table) (few : Ty → ℕ → Bool) (source : Source) where
     throw_knows e todo l = calm sc [] (pc.Unwind ∷ todo) [] _ l tt
 
     -- a resumption
-    handle : (o : Option r.Found) (e : r.Event) (todo : List Todo) (own : List Ty) → un.MaybeUsable t sigs (record s.run { control = todo } ∷ s.callers) o → MaybeHas t few s.env.exec sigs (record s.run { control = todo } ∷ s.callers) o → Ok t g base sc todo own → KnownAll t few s.env.exec (AtHand t s.env.exec sigs (record s.run { control = todo } ∷ s.callers)) own (below (below (below s.run.operands))) → KnowsStep t few source (r.handle_step o e todo s)
+    handle : (o : Option r.Found) (e : r.Event) (todo : List Todo) (own : List Ty) → un.MaybeUsable t sigs (record s.run { control = todo } ∷ s.callers) o → MaybeHas t few s.env.exec sigs (record s.run { control = todo } ∷ s.callers) o → Ok t g base sc todo own → KnownAll t few s.env.exec (AtHand t few s.env.exec sigs (record s.run { control = todo } ∷ s.callers)) own (below (below (below s.run.operands))) → KnowsStep t few source (r.handle_step o e todo s)
     handle None e todo own u k o h = throw_knows e todo (left t g base sc todo own o)
     handle (Some f) e todo own u k o h = record {
       sigs = no_sig ∷ sigs;
@@ -221,7 +222,7 @@ module _ (t : Table) (few : Ty → ℕ → Bool) (source : Source) where
         base = u.scope;
         frame = un.deeper t no_sig sigs f.frame u.sig u.frame;
         values = (tt, (tt, (tt, tt)));
-        this = same (AtHand t s.env.exec sigs (record s.run { control = todo } ∷ s.callers)) k.0 u.sig k.1 u.frame k.2;
+        this = same (AtHand t few s.env.exec sigs (record s.run { control = todo } ∷ s.callers)) k.0 u.sig k.1 u.frame k.2;
         ok = handler_ok t u.sig u.scope u.scope f.handler [] u.handler refl;
         ends = raising t (nat_eq (length s.callers) f.visited.level) u.sig f.visited u.scope f.frame (record s.run { control = todo }) s.callers _ u.ends;
       };
@@ -238,6 +239,6 @@ module _ (t : Table) (few : Ty → ℕ → Bool) (source : Source) where
             let x : i ≡ j = cc in
             subst (λ (i : Sig). KnownThis t few s.env.exec K i i.this f.this) x h
 
-    pub raise_knows : (e : r.Event) (todo : List Todo) (own : List Ty) → Ok t g base sc todo own → KnownAll t few s.env.exec (AtHand t s.env.exec sigs (record s.run { control = todo } ∷ s.callers)) own (below (below (below s.run.operands))) → KnowsStep t few source (r.raise_step e todo s)
+    pub raise_knows : (e : r.Event) (todo : List Todo) (own : List Ty) → Ok t g base sc todo own → KnownAll t few s.env.exec (AtHand t few s.env.exec sigs (record s.run { control = todo } ∷ s.callers)) own (below (below (below s.run.operands))) → KnowsStep t few source (r.raise_step e todo s)
     raise_knows e todo own o h =
-        handle (r.seek None e (record s.run { control = todo } ∷ s.callers)) e todo own (un.seeks t None e sigs (record s.run { control = todo } ∷ s.callers) (record { sig = g; frame = frame; this = this_is t few s.env.exec (AtHand t s.env.exec (others sigs) s.callers) g g.this s.run.this this; scope = sc; base = base; left = left t g base sc todo own o; ends = ends }, standing t few s.env.exec (others sigs) s.callers callers)) (has_found t few s.env.exec None e sigs (record s.run { control = todo } ∷ s.callers) ((g, frame, this), haves t few s.env.exec (others sigs) s.callers callers)) o h
+        handle (r.seek None e (record s.run { control = todo } ∷ s.callers)) e todo own (un.seeks t None e sigs (record s.run { control = todo } ∷ s.callers) (record { sig = g; frame = frame; this = this_is t few s.env.exec (AtHand t few s.env.exec (others sigs) s.callers) g g.this s.run.this this; scope = sc; base = base; left = left t g base sc todo own o; ends = ends }, standing t few s.env.exec (others sigs) s.callers callers)) (has_found t few s.env.exec None e sigs (record s.run { control = todo } ∷ s.callers) ((g, frame, this), haves t few s.env.exec (others sigs) s.callers callers)) o h

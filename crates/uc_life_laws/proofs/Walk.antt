@@ -1,5 +1,5 @@
 -- Every quiet step of a task in which what is in scope holds what is known, and answers to it.
-use Rattle.std.proofs.Common.{◌≡◌, ℕ, Bool, List, [], ◌∷◌, Option, Some, None, refl, subst, arith}
+use Rattle.std.proofs.Common.{◌≡◌, ℕ, List, [], ◌∷◌, Option, Some, None, refl, subst, arith}
 use Rattle.std.specs.Prelude.{nat_lt, slice_get, drop}
 use Rattle.uc_tree.specs.Source as src
 use Rattle.uc_tree.specs.Source.{Source, Stmts, Routine, routine_of}
@@ -14,7 +14,7 @@ use Rattle.uc_machine.specs.Quiet.{first_state}
 use Rattle.uc_machine.specs.Pieces as piece
 use Rattle.uc_machine.specs.Pieces.{Value, Todo, State, Members, at, top, number}
 use Rattle.uc_machine.specs.Answering.{answered, entered, new_members, with_operand}
-use Rattle.uc_typing.specs.Typing.{Ty, Table}
+use Rattle.uc_typing.specs.Typing.{Table}
 use Rattle.uc_life_laws.specs.LifeStates.{LifeMembers, LifeEx, LifeState, LifeStep, OpensAt, ClearsAt, Opens, Clears}
 use Rattle.uc_life_laws.specs.LifeLaws.{LawSteps}
 use Rattle.uc_life_laws.proofs.Cells.{either}
@@ -22,8 +22,9 @@ use Rattle.uc_life_laws.proofs.Keeping as kept
 use Rattle.uc_life_laws.proofs.Parked as parked
 use Rattle.uc_life_laws.proofs.Steps as steps
 use Rattle.uc_life_laws.proofs.Steps.{Holding}
+use Rattle.uc_life_laws.specs.Things.{Few}
 
-module _ (t : Table) (few : Ty → ℕ → Bool) where
+module _ (t : Table) (few : Few) where
   module _ (source : Source) (s : State) (st : LifeState t few s) where
     go : (todo : List Todo) (vs : List Value) → Holding t few s st todo → LifeState t few (at todo vs s)
     go = steps.go t few s st

@@ -1,26 +1,27 @@
 -- States in which all that an execution can come by is known: its operands, the parameters in its frames, and the objects of its activations.
-use Rattle.std.specs.Prelude.{◌≡◌, ℕ, ◌⊎◌, Bool, true, false, List, [], ◌∷◌, Option, Some, None}
-use Rattle.uc_tree.specs.Source.{Expr, ObjectExpr, Variable, OfObject, OwnField, GetOwn, Source}
+use Rattle.std.specs.Prelude.{◌≡◌, ℕ, ◌⊎◌, Bool, true, List, [], ◌∷◌, Option, Some, None}
+use Rattle.uc_tree.specs.Source.{Expr, ObjectExpr, OfObject, GetOwn, Source, This}
 use Rattle.uc_entry.specs.declared.request.Request.{Request}
 use Rattle.uc_entry.specs.declared.request.Request.TheVariants as ask
 use Rattle.uc_machine.specs.declared.exec.Exec.{Exec}
+use Rattle.uc_machine.specs.declared.exec.Home.TheVariants.{Task}
 use Rattle.uc_machine.specs.declared.exec.Owner.TheVariants.{Frame}
 use Rattle.uc_machine.specs.declared.exec.Stage.{Stage}
 use Rattle.uc_machine.specs.declared.exec.Stage.TheVariants.{Fresh, Started, Ended}
 use Rattle.uc_machine.specs.Executions.{Execution, at_depth, others}
-use Rattle.uc_machine.specs.Pieces.{FieldAt, Value, Place, Todo, Eval, LoadNow, ElementNow, FieldNow, Clean, Part, SetUpNow, ProcessorNow, Active, State, Env, Step, Goes, Ticks, Asks, further, loaded, top, object_in, variable_at}
+use Rattle.uc_machine.specs.Pieces.{FieldAt, Value, Place, Todo, Eval, LoadNow, Object, SetUpNow, SpawnNow, Active, State, Env, Step, Goes, Ticks, Asks, further, loaded, top, object_in}
 use Rattle.uc_machine.specs.Switches.{new_exec}
 use Rattle.uc_machine.specs.Quiet.{home_at}
 use Rattle.uc_machine.specs.Answering.{child_main}
-use Rattle.uc_typing.specs.Typing.{Ty, Num, Cell, Obj, Raw, Row, Clu, Pro, Name, Sig, Table, IsParam, Among, IsTarget, object_ty, element_shape, Yields}
+use Rattle.uc_typing.specs.Typing.{Ty, Num, Cell, Obj, Raw, Clu, Pro, Name, Sig, Table, IsTarget, object_ty, Yields}
 use Rattle.uc_typing.specs.Pieces.{Ok, onto}
 use Rattle.uc_typing.specs.States.{IsBase, IsTask}
-use Rattle.uc_life_laws.specs.Things.{IsField, IsReference, IsTracked, Within, OwnFields, Things, LiesIn, Known}
+use Rattle.uc_life_laws.specs.Things.{Few, IsReference, Within, OwnFields, Base, Things, LiesIn, Known, Held, IsFew}
 use Rattle.uc_life_laws.specs.LifeStates.{EnvBy}
 
 -- the object at hand, in a constructor or a destructor: it is there, but not whole
 abbrev pub Making : Sig → Value → Value → Ty → Type 0
-Making g this w a = (g.whole ≡ true) × ((c : ℕ) × (g.this ≡ Some c) × (w ≡ this) × (a ≡ Obj c))
+Making g this w a = (g.whole ≡ true) × ((c : ℕ) × (g.this ≡ Some c) × (w ≡ this) × (a ≡ Raw c))
 
 -- so it is of these activations, with the kinds of their frames
 abbrev pub InMaking : List Sig → List Active → Value → Ty → Type 0
@@ -29,10 +30,10 @@ InMaking gs (c ∷ older) w a = ((g : Sig) × (at_depth gs c.frame ≡ Some g) �
     InMaking (others gs) older w a
 
 -- what an execution has at hand: all its things, and what it is building and destroying
-abbrev pub AtHand : Table → Exec → List Sig → List Active → Value → Ty → Type 0
-AtHand t n gs cs w a = Things t n cs w a ⊎ InMaking gs cs w a
+abbrev pub AtHand : Table → Few → Exec → List Sig → List Active → Value → Ty → Type 0
+AtHand t few n gs cs w a = Things t few n cs w a ⊎ InMaking gs cs w a
 
-module _ (t : Table) (few : Ty → ℕ → Bool) (n : Exec) where
+module _ (t : Table) (few : Few) (n : Exec) where
   -- operands
   abbrev pub KnownAll : (Value → Ty → Type 0) → List Ty → List Value → Type 0
   KnownAll K [] [] = Unit {0}
@@ -49,7 +50,7 @@ module _ (t : Table) (few : Ty → ℕ → Bool) (n : Exec) where
   -- each frame is one of a routine of this kind; its parameters are known to those that waited as it was called
   abbrev pub KnownFrames : List Sig → List (List Value) → List Active → Type 0
   KnownFrames [] [] [] = Unit {0}
-  KnownFrames (g ∷ gs) (f ∷ fs) (c ∷ cs) = KnownParams (AtHand t n gs cs) g.params f × KnownFrames gs fs cs
+  KnownFrames (g ∷ gs) (f ∷ fs) (c ∷ cs) = KnownParams (AtHand t few n gs cs) g.params f × KnownFrames gs fs cs
   KnownFrames _ _ _ = ⊥
 
   -- so is the object of an activation; that of a constructor or a destructor is not whole
@@ -64,8 +65,8 @@ module _ (t : Table) (few : Ty → ℕ → Bool) (n : Exec) where
     pub scope : List Name
     pub base : List Name
     pub frame : at_depth gs a.frame ≡ Some sig
-    pub values : KnownAll (AtHand t n gs (a ∷ older)) own a.operands
-    pub this : KnownThis (AtHand t n (others gs) older) sig sig.this a.this
+    pub values : KnownAll (AtHand t few n gs (a ∷ older)) own a.operands
+    pub this : KnownThis (AtHand t few n (others gs) older) sig sig.this a.this
     pub ok : Ok t sig base scope a.control (onto given own)
     pub ends : IsBase t sig a.handles base a.frame older
 
@@ -86,7 +87,16 @@ module _ (t : Table) (few : Ty → ℕ → Bool) (n : Exec) where
   KnowsBy Started x = KnowsEx x
   KnowsBy Ended x = Unit {0}
 
-module _ (t : Table) (few : Ty → ℕ → Bool) where
+-- the execution with which a task begins
+abbrev pub main_of : ℕ → Exec
+main_of o = record { home = Task o; serial = 0 }
+
+-- a task has its object, of this class, at hand as it begins
+abbrev pub HasObject : Table → Few → Option ℕ → ℕ → Type 0
+HasObject t few None o = Unit {0}
+HasObject t few (Some c) o = Held t few (Base few (main_of o)) (Obj c) (Object o)
+
+module _ (t : Table) (few : Few) where
   abbrev pub KnowsSlot : Exec → Execution (List Todo) Value → Type 0
   KnowsSlot n x = KnowsBy t few n x.links.stage x
 
@@ -105,7 +115,8 @@ module _ (t : Table) (few : Ty → ℕ → Bool) where
   abbrev pub KnowsAsked : Source → Request → State → Type 0
   KnowsAsked source (ask.Make m) s = (c : ℕ) × (t.number c ≡ m) × (t.mutex c ≡ true) ×
       KnowsState (Raw c ∷ []) s
-  KnowsAsked source (ask.Spawn o) s = IsTask t (child_main source s.run.control) × KnowsState [] s
+  KnowsAsked source (ask.Spawn o) s = IsTask t (child_main source s.run.control) ×
+      HasObject t few (t.routine (child_main source s.run.control)).this o × KnowsState [] s
   KnowsAsked source (ask.Accept o site mask) s = KnowsState (Num ∷ (Num ∷ [])) s
   KnowsAsked source (ask.Empty o m) s = KnowsState (Num ∷ []) s
   KnowsAsked source (ask.Front o m) s = KnowsState (Num ∷ []) s
@@ -118,14 +129,15 @@ module _ (t : Table) (few : Ty → ℕ → Bool) where
   KnowsAsked source (ask.Fault m) s = Unit {0}
   KnowsAsked source r s = KnowsState [] s
 
-  -- what a request names has such a number: the object of a call, that at which an event is raised, a cluster and a processor
+  -- what a request names has such a number: the object of a call, which may be one to destroy it, that at which an event is raised, a cluster and
+  -- a processor
   abbrev pub Names : Request → Type 0
-  Names (ask.Call o m) = (c : ℕ) × (few (Obj c) o ≡ true)
-  Names (ask.Raise o m x y) = (c : ℕ) × (few (Obj c) o ≡ true) × IsTarget t c
-  Names (ask.ClusterEnd c) = few Clu c ≡ true
-  Names (ask.Processor c) = (c ≡ 0) ⊎ (few Clu c ≡ true)
-  Names (ask.ProcessorEnd q) = few Pro q ≡ true
-  Names (ask.Migrate c) = few Clu c ≡ true
+  Names (ask.Call o m) = (c : ℕ) × (b : Bool) × (few.numbers (object_ty b c) o ≡ true)
+  Names (ask.Raise o m x y) = (c : ℕ) × (few.numbers (Obj c) o ≡ true) × IsTarget t c
+  Names (ask.ClusterEnd c) = few.numbers Clu c ≡ true
+  Names (ask.Processor c) = few.numbers Clu c ≡ true
+  Names (ask.ProcessorEnd q) = few.numbers Pro q ≡ true
+  Names (ask.Migrate c) = few.numbers Clu c ≡ true
   Names r = Unit {0}
 
   abbrev pub KnowsStep : Source → Step → Type 0
@@ -135,65 +147,49 @@ module _ (t : Table) (few : Ty → ℕ → Bool) where
 
 -- What a step is still to find, of a state in order.
 
--- a place is tracked where it is found, though nothing in scope tells so
-abbrev pub IsRooted : Table → (Ty → ℕ → Bool) → Exec → (Value → Ty → Type 0) → Ty → Value → Type 0
-IsRooted t few n K a v = IsTracked t a → LiesIn t few n K a v
-
 -- places in frames of other executions and in mutex objects
 abbrev pub IsOwn : Exec → Value → Type 0
 IsOwn n (Place (Frame x d) p) = x ≡ n
 IsOwn n v = ⊥
 
-abbrev pub AreNumbers : List Ty → Type 0
-AreNumbers [] = Unit {0}
-AreNumbers (Num ∷ more) = AreNumbers more
-AreNumbers (a ∷ more) = ⊥
-
 -- what the running execution has at hand
-abbrev pub Here : Table → List Sig → State → Value → Ty → Type 0
-Here t gs s w a = AtHand t s.env.exec gs (s.run ∷ s.callers) w a
+abbrev pub Here : Table → Few → List Sig → State → Value → Ty → Type 0
+Here t few gs s w a = AtHand t few s.env.exec gs (s.run ∷ s.callers) w a
 
-module _ (t : Table) (few : Ty → ℕ → Bool) (gs : List Sig) (s : State) where
+module _ (t : Table) (few : Few) (gs : List Sig) (s : State) where
   -- what is read at a place is known, where that is no reference in what is whole, where it belongs to another execution or a mutex object,
   -- and where it lies in an object that is being built or destroyed
   pub record ReadsKnown (a : Ty) (v : Value) : Type 0 where
-    pub untracked : (IsReference a → ⊥) → Known t few s.env.exec (Here t gs s) a (loaded v s.env)
-    pub foreign : (IsOwn s.env.exec v → ⊥) → Known t few s.env.exec (Here t gs s) a (loaded v s.env)
-    pub field : (w : Value) (b : Ty) → OwnFields t s.env.exec (s.run ∷ s.callers) w b →
+    pub untracked : (IsReference a → ⊥) → Known t few s.env.exec (Here t few gs s) a (loaded v s.env)
+    pub foreign : (IsOwn s.env.exec v → ⊥) → Known t few s.env.exec (Here t few gs s) a (loaded v s.env)
+    pub field : (w : Value) (b : Ty) → OwnFields t few s.env.exec (s.run ∷ s.callers) w b →
         Within t w b v (Cell a) →
-        Known t few s.env.exec (Here t gs s) a (loaded v s.env)
-    pub making : (w : Value) (b : Ty) → InMaking gs (s.run ∷ s.callers) w b → Within t w b v (Cell a) →
-        Known t few s.env.exec (Here t gs s) a (loaded v s.env)
+        Known t few s.env.exec (Here t few gs s) a (loaded v s.env)
+    pub making : (w : Value) (c : ℕ) → Here t few gs s w (Raw c) → Within t w (Obj c) v (Cell a) →
+        Known t few s.env.exec (Here t few gs s) a (loaded v s.env)
 
-module _ (t : Table) (few : Ty → ℕ → Bool) (gs : List Sig) (g : Sig) (sc : List Name) (s : State) where
-  -- each field of an object that has a place is one that somebody declared
-  abbrev pub Declared : ℕ → Type 0
-  Declared i = (c : ℕ) → g.this ≡ Some c → t.mutex c ≡ false → IsTracked t (t.fields c i) → IsField t c i
+module _ (t : Table) (few : Few) (gs : List Sig) (g : Sig) (sc : List Name) (s : State) where
+  -- the object at hand has a number that one has which is whole, where one has it that is not
+  abbrev pub IsStill : Type 0
+  IsStill = (c : ℕ) → g.this ≡ Some c →
+      (IsFew t few s.env.exec (Raw c) s.run.this → IsFew t few s.env.exec (Obj c) s.run.this) ×
+      (IsFew t few s.env.exec (Obj c) s.run.this → IsFew t few s.env.exec (Raw c) s.run.this)
 
   abbrev pub FindsObject : ObjectExpr → Ty → Type 0
-  FindsObject (OwnField k i) a = Declared i
-  FindsObject (GetOwn k i) a = Declared i × ReadsKnown t few gs s a (further (FieldAt k i) s.run.this)
+  FindsObject This a = IsStill
+  FindsObject (GetOwn k i) a = ReadsKnown t few gs s a (further (FieldAt k i) s.run.this)
   FindsObject o a = Unit {0}
 
-  -- a variable that is no object in scope is no object in which something is bound
   abbrev pub FindsExpr : Expr → Ty → Type 0
-  FindsExpr (Variable k) a =
-      ((b : Ty) → IsParam g.params k b → IsRooted t few s.env.exec (Here t gs s) (Cell b) (variable_at k s)) ×
-      (Among g.locals k a → IsRooted t few s.env.exec (Here t gs s) a (variable_at k s))
   FindsExpr (OfObject o) a = FindsObject o a
   FindsExpr e a = Unit {0}
 
   abbrev pub Finds : List Todo → List Ty → Type 0
   Finds (Eval e ∷ todo) own = (a : Ty) → Yields t g sc e a → FindsExpr e a
   Finds (LoadNow ∷ todo) (Cell a ∷ more) = ReadsKnown t few gs s a (top s.run.operands)
-  -- the shape of an element is that of what stands there
-  Finds (ElementNow m k ∷ todo) (Num ∷ (Row j a ∷ more)) = IsTracked t a → k ≡ element_shape t a
-  Finds (FieldNow k i ∷ todo) (Obj c ∷ more) = t.mutex c ≡ false → IsTracked t (t.fields c i) → IsField t c i
-  -- whoever comes to a mark hands over numbers alone
-  Finds (Clean c ∷ todo) own = AreNumbers own
-  Finds (Part c ∷ todo) own = AreNumbers own
-  -- the name of a new execution is not that of the one in whose frame its coroutine is
-  Finds (SetUpNow r ∷ todo) own = IsOwn (new_exec (home_at s.run.this s.env) s.env) s.run.this → ⊥
-  -- a number that tells a cluster tells cluster 0
-  Finds (ProcessorNow ∷ todo) (Num ∷ own) = object_in (top s.run.operands) ≡ 0
+  -- a new execution has its coroutine at hand
+  Finds (SetUpNow r ∷ todo) own = IsStill × ((c : ℕ) → g.this ≡ Some c →
+      LiesIn t few (new_exec (home_at s.run.this s.env) s.env) (Base few (new_exec (home_at s.run.this s.env) s.env)) (Obj c) s.run.this)
+  -- so has a new task
+  Finds (SpawnNow r ∷ todo) own = HasObject t few (t.routine r).this (object_in s.run.this)
   Finds todo own = Unit {0}

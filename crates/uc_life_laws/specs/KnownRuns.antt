@@ -21,28 +21,30 @@ use Rattle.uc_resolve.specs.Resolve.{source_of}
 use Rattle.uc_rules.specs.Breaks.{breaks_of}
 use Rattle.uc_scope_laws.specs.RoomRuns.{Comes}
 use Rattle.uc_value_laws.specs.Opens.{RunMeets, LeadsMeet}
-use Rattle.uc_typing.specs.Typing.{Ty, Obj, Clu, Pro, Table}
+use Rattle.uc_typing.specs.Typing.{Ty, Obj, Clu, Pro, Table, Raw}
 use Rattle.uc_sound.specs.Formed.{IsFormed}
 use Rattle.uc_sound.specs.Tables.{table_of}
 use Rattle.uc_life_laws.specs.LifeStates.{MembersBy, LifeState, Opens}
 use Rattle.uc_life_laws.specs.Knowing.{KnowsSlot, KnowsState, KnowsAsked, Names, Finds}
-use Rattle.uc_life_laws.specs.KnownAnswers.{Passes}
+use Rattle.uc_life_laws.specs.KnownAnswers.{Passes, MainPasses}
+use Rattle.uc_life_laws.specs.Things.{Few, numbered}
 
 -- all numbers of mutex objects, of clusters and of processors pass that a journal has made
-pub record PassesBelow (few : Ty → ℕ → Bool) (opts : Options) (j : Journal) : Type 0 where
-  pub objects : (c n : ℕ) → n < object_count j → few (Obj c) n ≡ true
-  pub clusters : (n : ℕ) → n < cluster_count j → few Clu n ≡ true
-  pub processors : (n : ℕ) → n < processor_count opts j → few Pro n ≡ true
+pub record PassesBelow (few : Few) (opts : Options) (j : Journal) : Type 0 where
+  pub objects : (c n : ℕ) → n < object_count j → few.numbers (Obj c) n ≡ true
+  pub raws : (c n : ℕ) → n < object_count j → few.numbers (Raw c) n ≡ true
+  pub clusters : (n : ℕ) → n < cluster_count j → few.numbers Clu n ≡ true
+  pub processors : (n : ℕ) → n < processor_count opts j → few.numbers Pro n ≡ true
 
 -- a step finds what it is to find, in a state in which what is in scope holds what is known and all is known: where a scope opens, what that is
 -- of holds what is known; and by some typing the step finds the rest
-abbrev pub Meets : Table → (Ty → ℕ → Bool) → State → Type 0
+abbrev pub Meets : Table → Few → State → Type 0
 Meets t few s = LifeState t few s → KnowsState t few [] s →
     Opens t few s ×
     ((x : KnowsState t few [] s) × Finds t few x.sigs x.run.sig x.run.scope s s.run.control x.run.own)
 
 -- a task at rest: it has asked something, all is known but for what the answer brings, and what it is told passes
-pub record KnowsRest (t : Table) (few : Ty → ℕ → Bool) (source : Source) (j : Journal) (n : ℕ) (s : State) : Type 0 where
+pub record KnowsRest (t : Table) (few : Few) (source : Source) (j : Journal) (n : ℕ) (s : State) : Type 0 where
   pub request : Request
   pub asked : KnowsAsked t few source request s
   pub asks_for : form_of_request request ≡ asked_form n j
@@ -53,7 +55,7 @@ pub record KnowsRest (t : Table) (few : Ty → ℕ → Bool) (source : Source) (
 
 -- all is known, and what is in scope holds what is: of each task at rest that has not ended, of what is at home in each object, and of whoever
 -- runs in each state to which it comes before it asks, as far as each step found what it was to find; and what it names then passes
-pub record AllIsKnown (t : Table) (few : Ty → ℕ → Bool) (source : Source) (j : Journal) (w : World) : Type 0 where
+pub record AllIsKnown (t : Table) (few : Few) (source : Source) (j : Journal) (w : World) : Type 0 where
   pub tasks : (n : ℕ) → has_ended n j ≡ false → KnowsRest t few source j n (w.tasks n)
   pub homes : (o : ℕ) → MembersBy (KnowsSlot t few) (Object o) (w.homes o)
   pub comes : (n : ℕ) (s : State) (c : Comes source j w n s) →
@@ -67,19 +69,23 @@ pub record AllIsKnown (t : Table) (few : Ty → ℕ → Bool) (source : Source) 
 -- so it is in each run of a program that breaks no rule, as long as all that was asked so far fits
 abbrev pub LawKnownRuns : Type 0
 LawKnownRuns =
-    (p : Program) → IsFormed p → breaks_of p ≡ [] → (few : Ty → ℕ → Bool) →
+    (p : Program) → IsFormed p → breaks_of p ≡ [] → (few : Few) →
     (input : List ℕ) (opts : Options) → InRange opts →
     (j : Journal) (w : World) (r : Runs (source_of p) input opts j w) →
     RunFits (source_of p) input opts j w r → is_over j ≡ false → PassesBelow few opts j →
+    MainPasses (table_of p) few ((table_of p).routine (source_of p).main).this 0 →
     RunMeets (Meets (table_of p) few) (source_of p) input opts j w r →
     AllIsKnown (table_of p) few (source_of p) j w
 
 -- that a number was made
-abbrev pub is_made : Options → Journal → Ty → ℕ → Bool
-is_made opts j (Obj c) n = nat_lt n (object_count j)
-is_made opts j Clu n = nat_lt n (cluster_count j)
-is_made opts j Pro n = nat_lt n (processor_count opts j)
-is_made opts j a n = false
+abbrev pub made_by : Options → Journal → Ty → ℕ → Bool
+made_by opts j (Obj c) n = nat_lt n (object_count j)
+made_by opts j Clu n = nat_lt n (cluster_count j)
+made_by opts j Pro n = nat_lt n (processor_count opts j)
+made_by opts j a n = false
+
+abbrev pub is_made : Options → Journal → Few
+is_made opts j = numbered (made_by opts j)
 
 -- the object of a call and that at which an event is raised was made; a cluster that is to end, that is to have a processor or to which a task
 -- migrates, and a processor that is to end

@@ -10,3 +10,4 @@ pub mod LifeReading
 pub mod KnownRuns
 pub mod NamedAsks
 pub mod OpenedRuns
+pub mod Endings

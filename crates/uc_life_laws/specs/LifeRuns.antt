@@ -1,5 +1,5 @@
 -- Runs of programs in which what is in scope holds what is known, and the cells that things lie in.
-use Rattle.std.specs.Prelude.{◌≡◌, ℕ, ◌+◌, ◌*◌, ◌≤◌, Bool, List, [], Some}
+use Rattle.std.specs.Prelude.{◌≡◌, ℕ, ◌+◌, ◌*◌, ◌≤◌, List, [], Some}
 use Rattle.uc_tree.specs.Programs.{Program}
 use Rattle.uc_tree.specs.Source.{Source, shape_cells, field_cells}
 use Rattle.uc_entry.specs.declared.entry.Options.{Options}
@@ -17,7 +17,7 @@ use Rattle.uc_value_laws.specs.Opens.{RunMeets, LeadsMeet}
 use Rattle.uc_typing.specs.Typing.{Ty, Num, Cell, Obj, Raw, Row, Clu, Pro, Table, element_shape}
 use Rattle.uc_sound.specs.Formed.{IsFormed}
 use Rattle.uc_sound.specs.Tables.{table_of}
-use Rattle.uc_life_laws.specs.Things.{IsField}
+use Rattle.uc_life_laws.specs.Things.{Few, IsField}
 use Rattle.uc_life_laws.specs.LifeStates.{LifeMembers, LifeState, Opens, Clears}
 
 -- the cells that bindings within a thing of this type lie in
@@ -51,7 +51,7 @@ pub record LawClears : Type 0 where
 
 -- what is in scope holds what is known: of each task at rest, of what is at home in each object, and of whoever runs in each state to which it
 -- comes before it asks, as long as each scope opened so on the way
-pub record KeepsHolding (t : Table) (few : Ty → ℕ → Bool) (source : Source) (j : Journal) (w : World) : Type 0 where
+pub record KeepsHolding (t : Table) (few : Few) (source : Source) (j : Journal) (w : World) : Type 0 where
   pub tasks : (n : ℕ) → LifeState t few (w.tasks n)
   pub homes : (o : ℕ) → LifeMembers t few (Object o) (w.homes o)
   pub comes : (n : ℕ) (s : State) (c : Comes source j w n s) →
@@ -60,7 +60,7 @@ pub record KeepsHolding (t : Table) (few : Ty → ℕ → Bool) (source : Source
 -- so it is in each run of a program that breaks no rule in which each scope opens where what it is of holds what is known
 abbrev pub LawRuns : Type 0
 LawRuns =
-    (p : Program) → IsFormed p → breaks_of p ≡ [] → (few : Ty → ℕ → Bool) →
+    (p : Program) → IsFormed p → breaks_of p ≡ [] → (few : Few) →
     (input : List ℕ) (opts : Options) (j : Journal) (w : World) (r : Runs (source_of p) input opts j w) →
     RunMeets (Opens (table_of p) few) (source_of p) input opts j w r →
     KeepsHolding (table_of p) few (source_of p) j w

@@ -1,5 +1,5 @@
 -- Executions and tasks in which all that stands in variables and is to be cleaned up holds what is known outwards of it: what was there before.
-use Rattle.std.specs.Prelude.{◌≡◌, ℕ, suc, ◌≤◌, ◌⊎◌, Bool, List, [], ◌∷◌, length, Option, Some, None}
+use Rattle.std.specs.Prelude.{◌≡◌, ℕ, suc, ◌≤◌, ◌⊎◌, List, [], ◌∷◌, length, Option, Some, None}
 use Rattle.uc_tree.specs.Source.{Variable, CleanUp, Scoped}
 use Rattle.uc_machine.specs.declared.exec.Exec.{Exec}
 use Rattle.uc_machine.specs.declared.exec.Home.{Home}
@@ -8,7 +8,7 @@ use Rattle.uc_machine.specs.declared.exec.Owner.TheVariants.{Frame}
 use Rattle.uc_machine.specs.Executions.{Execution, at_depth, list_in}
 use Rattle.uc_machine.specs.Pieces.{Slot, Value, Place, Todo, Rest, ClearNow, Sort, sort, IsClean, Active, State, Env, Members, Step, Goes, Ticks, Asks}
 use Rattle.uc_typing.specs.Typing.{Ty, Table, CleansAt}
-use Rattle.uc_life_laws.specs.Things.{AtField, IsFor, InTodo, Things, Holds, LiesBefore}
+use Rattle.uc_life_laws.specs.Things.{Few, AtField, IsFor, InTodo, Things, Holds, LiesBefore}
 
 -- the values of the frame of a depth
 abbrev pub frame_at : ℕ → List (List Value) → List Value
@@ -37,11 +37,11 @@ module _ (P : Exec → Execution (List Todo) Value → Type 0) where
     pub house : ParkedBy (Task e.own) e.house.parked
     pub hand : HandBy e.hand
 
-module _ (t : Table) (few : Ty → ℕ → Bool) (n : Exec) where
+module _ (t : Table) (few : Few) (n : Exec) where
   -- what is known behind a mark, in an activation before older ones: what the mark is for, and what lies outwards of it
   abbrev pub Outwards : ℕ → Value → List Active → CleanUp → List Todo → Value → Ty → Type 0
   Outwards f this older c todo w a = (IsFor t (Frame n f) this c w a ⊎ InTodo (IsFor t (Frame n f) this) (AtField t (Frame n f) this) todo w a) ⊎
-      Things t n older w a
+      Things t few n older w a
 
   -- in a frame with these values, what a clean-up is for, at a variable, holds what is known so
   abbrev pub CleanHolds : List Value → ℕ → Value → List Active → CleanUp → List Todo → Type 0
@@ -63,7 +63,7 @@ module _ (t : Table) (few : Ty → ℕ → Bool) (n : Exec) where
   LifeStack fs (a ∷ older) = (a.frame ≤ length older) ×
       AllHold (frame_at a.frame fs) a.frame a.this older a.control × LifeStack fs older
 
-module _ (t : Table) (few : Ty → ℕ → Bool) where
+module _ (t : Table) (few : Few) where
   -- an execution of this name that does not run, with a frame for each activation
   pub record LifeEx (n : Exec) (x : Execution (List Todo) Value) : Type 0 where
     pub frames : length x.frames ≡ suc (length x.callers)
@@ -104,7 +104,7 @@ FrameBefore t n cell f (a ∷ older) = (a.frame ≡ f → AllBefore t n cell f a
     FrameBefore t n cell f older
 
 -- where a scope opens, what it is of holds what is known
-abbrev pub OpensAt : Table → (Ty → ℕ → Bool) → List Todo → State → Type 0
+abbrev pub OpensAt : Table → Few → List Todo → State → Type 0
 OpensAt t few (Rest (Scoped c rest) ∷ todo) s = CleanHolds t few s.env.exec (frame_at s.run.frame s.env.frames) s.run.frame s.run.this s.callers c todo
 OpensAt t few todo s = Unit {0}
 
@@ -113,7 +113,7 @@ abbrev pub ClearsAt : Table → List Todo → State → Type 0
 ClearsAt t (ClearNow k n ∷ todo) s = FrameBefore t s.env.exec k s.run.frame (s.run ∷ s.callers)
 ClearsAt t todo s = Unit {0}
 
-abbrev pub Opens : Table → (Ty → ℕ → Bool) → State → Type 0
+abbrev pub Opens : Table → Few → State → Type 0
 Opens t few s = OpensAt t few s.run.control s
 
 abbrev pub Clears : Table → State → Type 0

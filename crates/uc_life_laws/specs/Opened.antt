@@ -1,18 +1,18 @@
 -- Where a scope opens what it is of holds what is known: what is known by its number, where its variable holds an object; and an object in which
 -- nothing is bound.
-use Rattle.std.specs.Prelude.{◌≡◌, ℕ, Bool, true, List, [], ◌∷◌}
+use Rattle.std.specs.Prelude.{◌≡◌, ℕ, true, List, [], ◌∷◌}
 use Rattle.uc_tree.specs.Source.{Variable, CleanUp, Stmts, Scoped}
 use Rattle.uc_machine.specs.declared.exec.Owner.TheVariants.{Frame}
 use Rattle.uc_machine.specs.Pieces.{Slot, Value, Place, Todo, Rest, State}
 use Rattle.uc_typing.specs.Typing.{Ty, Obj, Row, Table, CleansAt}
 use Rattle.uc_typing.specs.States.{Typed}
 use Rattle.uc_value_laws.specs.There.{IsThere}
-use Rattle.uc_life_laws.specs.Things.{IsUnbound, Holds}
+use Rattle.uc_life_laws.specs.Things.{Few, IsUnbound, Holds, numbered}
 use Rattle.uc_life_laws.specs.LifeStates.{frame_at, Outwards, Opens}
 
 -- any number
-abbrev pub any : Ty → ℕ → Bool
-any a o = true
+abbrev pub any : Few
+any = numbered (λ a o. true)
 
 -- an object that is a variable, and those of an array that is one, hold what is known
 pub record ObjectsHold (t : Table) (c : CleanUp) (todo : List Todo) (s : State) : Type 0 where
@@ -26,6 +26,6 @@ pub record LawOpens : Type 0 where
   pub opens : (t : Table) (s : State) → Typed t [] s → (c : CleanUp) (rest : Stmts) (todo : List Todo) →
       s.run.control ≡ Rest (Scoped c rest) ∷ todo → IsThere (frame_at s.run.frame s.env.frames) c →
       ObjectsHold t c todo s → Opens t any s
-  pub unbound : (t : Table) (few : Ty → ℕ → Bool) (s : State) (c : CleanUp) (todo : List Todo) (w : Value) (a : Ty) →
+  pub unbound : (t : Table) (few : Few) (s : State) (c : CleanUp) (todo : List Todo) (w : Value) (a : Ty) →
       IsUnbound t a →
       Holds t few s.env.exec (Outwards t few s.env.exec s.run.frame s.run.this s.callers c todo) (Frame s.env.exec s.run.frame) (frame_at s.run.frame s.env.frames) w a

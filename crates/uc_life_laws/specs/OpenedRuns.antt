@@ -19,11 +19,12 @@ use Rattle.uc_typing.specs.Typing.{Table}
 use Rattle.uc_typing.specs.Laws.{ReadsIn}
 use Rattle.uc_sound.specs.Formed.{IsFormed}
 use Rattle.uc_sound.specs.Tables.{table_of}
+use Rattle.uc_life_laws.specs.LifeStates.{LifeState}
 use Rattle.uc_life_laws.specs.Knowing.{KnowsState, Finds}
 use Rattle.uc_life_laws.specs.Opened.{any, ObjectsHold}
 
--- a step finds what it is to find: what is bound is there behind the step, and so is an array whose scope opens; where a scope of plain objects
--- opens, they hold what is known; and by some typing the step finds the rest
+-- a step finds what it is to find: what is bound is there behind the step, and scopes open in frames of which all cells have addresses; where a
+-- scope of plain objects opens, they hold what is known; and by some typing the step finds the rest
 pub record MeetsObjects (t : Table) (source : Source) (s : State) : Type 0 where
   pub opens : there.Opens source s
   pub objects : (c : CleanUp) (rest : Stmts) (todo : List Todo) →
@@ -32,11 +33,15 @@ pub record MeetsObjects (t : Table) (source : Source) (s : State) : Type 0 where
   pub finds : KnowsState t any [] s →
       (x : KnowsState t any [] s) × Finds t any x.sigs x.run.sig x.run.scope s s.run.control x.run.own
 
--- all is known then of whoever runs in each state to which it comes before it asks, and what its next step reads is of its type
+-- all is known then of whoever runs in each state to which it comes before it asks, what is in scope holds what is, and what its next step reads
+-- is of its type
 pub record IsFollowed (t : Table) (source : Source) (j : Journal) (w : World) : Type 0 where
   pub comes : (n : ℕ) (s : State) (c : Comes source j w n s) →
       LeadsMeet (MeetsObjects t source) source (answered source c.given (drawn j w n)) s c.leads →
       KnowsState t any [] s
+  pub scopes : (n : ℕ) (s : State) (c : Comes source j w n s) →
+      LeadsMeet (MeetsObjects t source) source (answered source c.given (drawn j w n)) s c.leads →
+      LifeState t any s
   pub reads : (n : ℕ) (s : State) (c : Comes source j w n s) →
       LeadsMeet (MeetsObjects t source) source (answered source c.given (drawn j w n)) s c.leads →
       MeetsObjects t source s → ReadsIn t s

@@ -1,9 +1,10 @@
 -- What an execution knows: the things that are still to be cleaned up, each by its place and its type, and all that lies within them.
-use Rattle.std.specs.Prelude.{◌≡◌, ℕ, ◌≤◌, ◌<◌, ◌⊎◌, Bool, true, List, [], ◌∷◌, slice_index_or}
+use Rattle.std.specs.Prelude.{◌≡◌, ℕ, ◌≤◌, ◌<◌, ◌⊎◌, Bool, true, List, [], ◌∷◌, slice_index_or, false, if◌then◌else◌}
 use Rattle.uc_tree.specs.Source.{Shape, Variable, OfObject, OwnField, CleanUp}
 use Rattle.uc_machine.specs.declared.exec.Exec.{Exec}
 use Rattle.uc_machine.specs.declared.exec.Owner.{Owner}
 use Rattle.uc_machine.specs.declared.exec.Owner.TheVariants.{Frame, Fields}
+use Rattle.uc_machine.specs.Executions.{exec_eq}
 use Rattle.uc_machine.specs.Pieces.{Link, Slot, FieldAt, At, Value, Number, Place, Running, Object, Nothing, further, nought, address, Todo, Sort, sort, IsClean, IsPart, Active}
 use Rattle.uc_typing.specs.Typing.{Ty, Num, Cell, Obj, Raw, Row, Clu, Pro, Table, element_shape, CleansAt}
 use Rattle.uc_typing.specs.States.{Is}
@@ -62,22 +63,57 @@ module _ (P Q : CleanUp → Value → Ty → Type 0) where
   InTodo [] w a = ⊥
   InTodo (p ∷ todo) w a = Marks (sort p) w a (InTodo todo w a)
 
--- of an execution of this name, the newest activation first
-module _ (P Q : Owner → Value → CleanUp → Value → Ty → Type 0) (n : Exec) where
+-- of an execution of this name, the newest activation first, and behind all of them what it has of others
+module _ (P Q : Owner → Value → CleanUp → Value → Ty → Type 0) (B : Value → Ty → Type 0) (n : Exec) where
   abbrev pub InStack : List Active → Value → Ty → Type 0
-  InStack [] w a = ⊥
+  InStack [] w a = B w a
   InStack (c ∷ older) w a = InTodo (P (Frame n c.frame) c.this) (Q (Frame n c.frame) c.this) c.control w a ⊎
       InStack older w a
 
--- all things of an execution; those that are variables, and those that are fields of objects at hand
-abbrev pub Things : Table → Exec → List Active → Value → Ty → Type 0
-Things t n cs w a = InStack (IsFor t) (AtField t) n cs w a
+-- what there is: the numbers that what is of a type may have (`numbers a o`), the place at which what has a number is at home, which was bound to
+-- that number, and what each execution has at hand of what lies outside it
+pub record Few : Type 0 where
+  pub numbers : Ty → ℕ → Bool
+  pub home : ℕ → Value
+  pub base : Exec → Value → Ty → Bool
+
+-- where numbers alone are told, each execution has at hand all that is not in a frame of its own
+abbrev pub is_outside : Exec → Value → Bool
+is_outside n (Number z) = true
+is_outside n (Place (Frame x d) p) = if exec_eq x n then false else true
+is_outside n (Place (Fields o) p) = true
+is_outside n (Running x) = true
+is_outside n (Object o) = true
+is_outside n Nothing = true
+
+-- what is being built or destroyed has the numbers of what is whole
+abbrev pub or_raw : (Ty → ℕ → Bool) → Ty → ℕ → Bool
+or_raw numbers Num o = numbers Num o
+or_raw numbers (Cell a) o = numbers (Cell a) o
+or_raw numbers (Obj c) o = numbers (Obj c) o
+or_raw numbers (Raw c) o = numbers (Obj c) o
+or_raw numbers (Row n a) o = numbers (Row n a) o
+or_raw numbers Clu o = numbers Clu o
+or_raw numbers Pro o = numbers Pro o
+
+abbrev pub numbered : (Ty → ℕ → Bool) → Few
+numbered numbers = record { numbers = or_raw numbers; home = λ o. Nothing; base = λ n w a. is_outside n w }
+
+abbrev pub Base : Few → Exec → Value → Ty → Type 0
+Base few n w a = few.base n w a ≡ true
+
+abbrev pub NoBase : Value → Ty → Type 0
+NoBase w a = ⊥
+
+-- all things of an execution; those that are variables; and those that are fields of objects at hand, or others'
+abbrev pub Things : Table → Few → Exec → List Active → Value → Ty → Type 0
+Things t few n cs w a = InStack (IsFor t) (AtField t) (Base few n) n cs w a
 
 abbrev pub Variables : Table → Exec → List Active → Value → Ty → Type 0
-Variables t n cs w a = InStack (AtVariable t) Nowhere n cs w a
+Variables t n cs w a = InStack (AtVariable t) Nowhere NoBase n cs w a
 
-abbrev pub OwnFields : Table → Exec → List Active → Value → Ty → Type 0
-OwnFields t n cs w a = InStack (AtField t) (AtField t) n cs w a
+abbrev pub OwnFields : Table → Few → Exec → List Active → Value → Ty → Type 0
+OwnFields t few n cs w a = InStack (AtField t) (AtField t) (Base few n) n cs w a
 
 -- a binding to a place or to an object
 abbrev pub IsReference : Ty → Type 0
@@ -106,36 +142,57 @@ IsTracked t Pro = ⊥
 
 -- what is known
 
--- `few a o`: what is of the type a may have the number o
-module _ (t : Table) (few : Ty → ℕ → Bool) (n : Exec) where
+-- a mutex object
+abbrev pub IsMutex : Table → Ty → Type 0
+IsMutex t Num = ⊥
+IsMutex t (Cell a) = ⊥
+IsMutex t (Obj c) = t.mutex c ≡ true
+IsMutex t (Raw c) = ⊥
+IsMutex t (Row n a) = ⊥
+IsMutex t Clu = ⊥
+IsMutex t Pro = ⊥
+
+-- what stands in what is at hand: in a thing, or in a mutex object whose home stands there
+pub data Stands (t : Table) (few : Few) (K : Value → Ty → Type 0) : Ty → Value → Type 0 where
+  lies : {w : Value} {a b : Ty} {v : Value} → K w a → Within t w a v b → Stands t few K b v
+  inside : {o c : ℕ} {b : Ty} {v : Value} → t.mutex c ≡ true → Stands t few K (Cell (Obj c)) (few.home o) →
+      Within t (Object o) (Obj c) v b → Stands t few K b v
+
+-- what lies in an object at hand that is being built or destroyed
+abbrev pub InMade : Table → (Value → Ty → Type 0) → Ty → Value → Type 0
+InMade t K b v = (w : Value) × (c : ℕ) × K w (Raw c) × Within t w (Obj c) v b
+
+abbrev pub Held : Table → Few → (Value → Ty → Type 0) → Ty → Value → Type 0
+Held t few K b v = Stands t few K b v ⊎ InMade t K b v
+
+module _ (t : Table) (few : Few) (n : Exec) where
   abbrev pub IsFew : Ty → Value → Type 0
   IsFew a (Number z) = Unit {0}
   IsFew a (Place o p) = Unit {0}
   IsFew a (Running x) = Unit {0}
-  IsFew a (Object o) = few a o ≡ true
+  IsFew a (Object o) = few.numbers a o ≡ true
   IsFew a Nothing = Unit {0}
 
-  -- a place in the execution's own frames lies within a thing that is known
+  -- a place lies in what is at hand, and so does an object that is known by its number
   abbrev pub LiesIn : (Value → Ty → Type 0) → Ty → Value → Type 0
   LiesIn K b (Number z) = Unit {0}
-  LiesIn K b (Place (Frame x d) p) = x ≡ n →
-      (w : Value) × (a : Ty) × K w a × Within t w a (Place (Frame x d) p) b
-  LiesIn K b (Place (Fields o) p) = Unit {0}
+  LiesIn K b (Place o p) = Held t few K b (Place o p)
   LiesIn K b (Running x) = Unit {0}
-  LiesIn K b (Object o) = Unit {0}
+  LiesIn K b (Object o) = Held t few K b (Object o)
   LiesIn K b Nothing = Unit {0}
 
-  -- it is of its type, a number is such, and a place lies in what is known. Of what is in the frames of other executions or in mutex
-  -- objects nothing more is told, and nothing of the places of scalars
+  -- it is of its type, a number is such, and a place lies in what is at hand, and so does a mutex object. Of the places of scalars nothing
+  -- more is told
   pub record IsKnown (K : Value → Ty → Type 0) (a : Ty) (v : Value) : Type 0 where
     pub is : Is t a v
     pub passes : IsFew a v
     pub rooted : IsTracked t a → LiesIn K a v
+    pub held : IsMutex t a → LiesIn K a v
 
   -- one that is being built or destroyed has such a number
   pub record IsMade (c : ℕ) (v : Value) : Type 0 where
     pub is : Is t (Raw c) v
-    pub passes : IsFew (Obj c) v
+    pub passes : IsFew (Raw c) v
 
   -- a value of a type is known: of numbers nothing is claimed
   abbrev pub Known : (Value → Ty → Type 0) → Ty → Value → Type 0

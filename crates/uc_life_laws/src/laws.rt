@@ -1,5 +1,6 @@
 // The laws: each is a function whose contract is the law.
 
+ghost use Rattle.uc_life_laws.specs.Endings.{LawEndings};
 ghost use Rattle.uc_life_laws.specs.Following.{LawFollowing};
 ghost use Rattle.uc_life_laws.specs.NamedAsks.{LawAsked};
 ghost use Rattle.uc_life_laws.specs.KnownAnswers.{LawAnswers};
@@ -61,6 +62,12 @@ pub fn law_runs()
 /// which whoever runs comes before it asks, as far as each step found what it was to find.
 pub fn law_known_runs()
     ensures { LawKnownRuns }
+{}
+
+/// So it is where nothing is asked of the steps in which a clean-up finds and reads the variable that it ends:
+/// those find what is known.
+pub fn law_endings()
+    ensures { LawEndings }
 {}
 
 /// So each object that whoever runs calls, each at which it raises an event, each cluster and each processor

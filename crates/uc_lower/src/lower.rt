@@ -36,7 +36,7 @@ use uc_tree::limits::{FRAME_CELLS, PROGRAM_SIZE};
 
 /// Why a program is not lowered: the frame of this routine, the first such, has too many cells; the program counts too much; or
 /// memory is wanting. The greatest number stands for all that are greater.
-#[derive(Clone, Copy, PartialEq, Eq, Debug)]
+#[derive(Clone, Copy)]
 pub enum LowerFault {
     FrameTooLarge { routine: u32, cells: u64 },
     CodeTooLarge { size: u64 },

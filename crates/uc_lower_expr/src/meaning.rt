@@ -9,7 +9,7 @@ use uc_tree::kinds::Base;
 use uc_tree::name::Name;
 
 /// How a place of a base keeps a number; a cluster or a processor is known by one, to which its place is bound.
-#[derive(Clone, Copy, PartialEq, Eq, Debug)]
+#[derive(Clone, Copy)]
 pub enum Scalar {
     Number,
     Character,
@@ -18,7 +18,7 @@ pub enum Scalar {
 }
 
 /// A call of a condition.
-#[derive(Clone, Copy, PartialEq, Eq, Debug)]
+#[derive(Clone, Copy)]
 pub enum ConditionCall {
     Wait,
     Signal,
@@ -57,7 +57,7 @@ impl ConditionCall {
 /// there, which must be live, a mutex member of the object with the number, by its number in its class and that of its routine, a
 /// condition, by its number or that of the first of its array, a call of the condition with the number, or nothing, where a rule is
 /// broken.
-#[derive(Clone, Copy, PartialEq, Eq, Debug)]
+#[derive(Clone, Copy)]
 pub enum Standing {
     Variable(u32),
     Field(u32),
@@ -134,7 +134,7 @@ impl Standing {
 
 /// How the base of an expression's type keeps a number, the class of objects or the event that the base names, by its place among the
 /// classes of the program, whether what it names is known by its number, the length of an array, and what the expression is.
-#[derive(Clone, Copy, PartialEq, Eq, Debug)]
+#[derive(Clone, Copy)]
 pub struct ExprMeaning {
     pub scalar: Scalar,
     pub class: Option<usize>,

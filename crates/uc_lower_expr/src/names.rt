@@ -13,7 +13,7 @@ use uc_tree::name::Name;
 
 /// A variable in scope: the first of its cells, whether that holds a place or a number, as that of a reference, a mutex object, a
 /// cluster or a processor does, and what is told of it.
-#[derive(Clone, Copy, PartialEq, Eq, Debug)]
+#[derive(Clone, Copy)]
 pub struct Variable {
     pub cell: u32,
     pub held: bool,

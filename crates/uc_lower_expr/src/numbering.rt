@@ -5,14 +5,14 @@ use uc_names::scope::Scope;
 use uc_tree::class::Routine;
 
 /// A constant: what is told of it as a value, and the value.
-#[derive(Clone, Copy, PartialEq, Eq, Debug)]
+#[derive(Clone, Copy)]
 pub struct ConstantMeaning {
     pub told: ExprMeaning,
     pub value: i64,
 }
 
 /// A constructor or a destructor: its number among all routines, and whether it is written.
-#[derive(Clone, Copy, PartialEq, Eq, Debug)]
+#[derive(Clone, Copy)]
 pub struct ClassRoutine {
     pub number: u32,
     pub written: bool,

@@ -12,7 +12,7 @@ use uc_tree::ops::{AssignOp, BinaryOp, StepOp, UnaryOp};
 use uc_tree::token::{Sign, Token};
 
 /// What the sign of a part behind a root says of it.
-#[derive(Clone, Copy, PartialEq, Eq, Debug)]
+#[derive(Clone, Copy)]
 pub enum PartStart {
     Field,
     Index,

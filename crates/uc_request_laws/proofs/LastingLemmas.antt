@@ -7,6 +7,7 @@ use Rattle.uc_acts.specs.Journal.{Journal}
 use Rattle.uc_life_laws.specs.KnownRuns.{NamesMade}
 use Rattle.uc_life_laws.proofs.KnownWorlds.{law_named}
 use Rattle.uc_life_laws.proofs.NamedAsks.{asked_by}
+use Rattle.uc_life_laws.proofs.Endings.{made_endings}
 use Rattle.uc_request_laws.specs.Lasting.{IsLasting, LawLasting}
 use Rattle.uc_request_laws.specs.Remaining.{IsRemaining}
 use Rattle.uc_request_laws.proofs.RemainingLemmas.{law_remaining}
@@ -24,5 +25,6 @@ pub law_lasting : LawLasting
 law_lasting p formed ok input opts range lasts =
     law_remaining p formed ok input opts range (λ j w r f on q t n s asked d.
     let l = lasts j w r f on q t n s asked d in
-    let made : NamesMade opts j asked.request = asked_by law_named p formed ok input opts range j w r f on l.1 q t n s asked d l.2 in
+    let met = made_endings p formed ok input opts range j w r f on l.1 in
+    let made : NamesMade opts j asked.request = asked_by law_named p formed ok input opts range j w r f on met.runs q t n s asked d (met.rides q t n s asked d l.2) in
     (inl (remains opts j asked.request made l.0), l.3, l.4))

@@ -18,9 +18,10 @@ use Rattle.uc_sound.specs.Tables.{table_of}
 use Rattle.uc_meaning.specs.Runs.{World, Runs, AsksIn, drawn}
 use Rattle.uc_meaning.specs.Cuts.{Reentry}
 use Rattle.uc_program_laws.specs.Fitting.{RunFits}
-use Rattle.uc_value_laws.specs.Opens.{RideMeets, RunMeets}
+use Rattle.uc_value_laws.specs.Endings.{RideHolds, RunHolds}
 use Rattle.uc_letting_laws.specs.AloneRuns.{RideAlone, RunAlone}
-use Rattle.uc_life_laws.specs.KnownRuns.{Meets, is_made}
+use Rattle.uc_life_laws.specs.KnownRuns.{is_made}
+use Rattle.uc_life_laws.specs.Endings.{MeetsOutside}
 
 -- what a task calls is not gone; nor is the object at whose task it raises an event, and that has one
 abbrev pub IsLasting : Journal → Request → Type 0
@@ -28,15 +29,15 @@ IsLasting j (ask.Call o m) = is_gone o j ≡ false
 IsLasting j (ask.Raise o event x y) = (is_gone o j ≡ false) × (owner o j ≡ [] → ⊥)
 IsLasting j r = Unit {0}
 
--- so it is of what a task of the program asks; each step so far, and each on the way to what is asked, found what it was to find; and nothing
--- else is owed to what is let go of, as long as all that was asked before fits
+-- so it is of what a task of the program asks; each step so far, and each on the way to what is asked, found what it was to find, but where a
+-- clean-up finds and reads the variable that it ends; and nothing else is owed to what is let go of, as long as all that was asked before fits
 abbrev pub AsksLasting : Program → List ℕ → Options → Type 0
 AsksLasting p input opts =
     (j : Journal) (w : World) (r : Runs (source_of p) input opts j w) → RunFits (source_of p) input opts j w r →
     is_over j ≡ false → (q t n : ℕ) (s : State) (asked : Asked) →
     (d : AsksIn (source_of p) opts j w q t n s asked) →
-    IsLasting j asked.request × RunMeets (Meets (table_of p) (is_made opts j)) (source_of p) input opts j w r ×
-    RideMeets (Meets (table_of p) (is_made opts j)) (source_of p) (answered (source_of p) d.given (drawn j w t)) (left opts j t) s n asked d.rides ×
+    IsLasting j asked.request × RunHolds (MeetsOutside (table_of p) (is_made opts j)) (source_of p) input opts j w r ×
+    RideHolds (MeetsOutside (table_of p) (is_made opts j)) (source_of p) 0 (answered (source_of p) d.given (drawn j w t)) (left opts j t) s n asked d.rides ×
     RunAlone (source_of p) input opts j w r × RideAlone (source_of p) _ _ s n asked d.rides
 
 -- then all that a program which breaks no rule asks fits

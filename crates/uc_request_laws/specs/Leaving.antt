@@ -1,5 +1,5 @@
 -- Requests that come from the end of a cluster that is a variable.
-use Rattle.std.specs.Prelude.{◌≡◌, ℕ, ◌≤◌, List}
+use Rattle.std.specs.Prelude.{◌≡◌, ℕ, ◌<◌, List}
 use Rattle.uc_tree.specs.Source.{Source}
 use Rattle.uc_entry.specs.declared.entry.Options.{Options}
 use Rattle.uc_entry.specs.declared.request.Request.{Request}
@@ -19,7 +19,7 @@ pub record LeavesScope (source : Source) (input : List ℕ) (opts : Options) (j 
   pub comes : Comes source j w t state
   pub opened : LeadsOpen source (answered source comes.given (drawn j w t)) state comes.leads
   pub cell : ℕ
-  pub near : cell ≤ LAST_ADDRESS
+  pub near : cell < LAST_ADDRESS
   pub todo : List Todo
   pub leaves : LeavesCluster cell todo state.run.control
   pub asking : State

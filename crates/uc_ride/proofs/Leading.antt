@@ -38,8 +38,8 @@ use Rattle.uc_coroutine.specs.UnwindingSteps.{ReturnsPast, Leads, Begins, LeftAs
 use Rattle.uc_coroutine.specs.Switching.{SwitchedAs}
 use Rattle.uc_coroutine.specs.Unwinding.{Made, past_of, left_as}
 use Rattle.uc_except.specs.Handling.{GoesOn, UnwindsNow}
-use Rattle.uc_step.specs.declared.stepped.Stepped.{Stepped}
-use Rattle.uc_step.specs.declared.stepped.Stepped.TheVariants.{Quiet, Tick, Ask, Throw, Raise, Unwind, Past, Resume, Suspend, TakeDown, EndMain, Astray}
+use Rattle.uc_step.specs.declared.effect.Effect.{Effect}
+use Rattle.uc_step.specs.declared.effect.Effect.TheVariants.{Quiet, Tick, Ask, Throw, Raise, Unwind, Past, Resume, Suspend, TakeDown, EndMain, Astray}
 use Rattle.uc_step.specs.Simulation.{behind_line, HandStands, Follow}
 use Rattle.uc_step.proofs.Apart.{no_test, no_arrival, no_end, no_coroutine_end}
 use Rattle.uc_step.proofs.Simulates.{lines}
@@ -55,7 +55,7 @@ then_quietly (more e p) q = more e (then_quietly p q)
 
 module _ (source : Source) (code : Laid) where
   -- what follows from a state to which quiet steps lead
-  pub follow_before : (how : Stepped) (m : Machine) (s t : State) → Quietly source s t → Follow code source how m t → Follow code source how m s
+  pub follow_before : (how : Effect) (m : Machine) (s t : State) → Quietly source s t → Follow code source how m t → Follow code source how m s
   follow_before Quiet m s t q (u, p, h) = (u, then_quietly q p, h)
   follow_before Tick m s t q (u, v, p, e, l, h) = (u, v, then_quietly q p, e, l, h)
   follow_before (Ask a) m s t q (u, v, r, p, e, f, h) = (u, v, r, then_quietly q p, e, f, h)
@@ -112,17 +112,17 @@ stays (Some x) m n made e (i, b) = absurd (true_false (sym i ∙ e))
 -- unwinding, step after step
 
 module _ (code : Code) where
-  abbrev pub Unwinding : Machine → Stepped → Machine → Type 0
+  abbrev pub Unwinding : Machine → Effect → Machine → Type 0
   Unwinding m how n = (source : Source) (s : State) → Lowered source code → Unwinds (laid_of code) m s → Follow (laid_of code) source how n s
 
   pub unwinding_first : (m : Machine) → Unwinding m Unwind m
   unwinding_first m source s low h = (s, stay, h)
 
   -- from where an op leads to it
-  pub leads_on : (m n : Machine) (how : Stepped) → Unwinding m how n → (source : Source) (s : State) → Lowered source code → Follow (laid_of code) source Unwind m s → Follow (laid_of code) source how n s
+  pub leads_on : (m n : Machine) (how : Effect) → Unwinding m how n → (source : Source) (s : State) → Lowered source code → Follow (laid_of code) source Unwind m s → Follow (laid_of code) source how n s
   leads_on m n how g source s low f = follow_before source (laid_of code) how n s f.0 f.1 (g source f.0 low f.2)
 
-  pub unwinding_on : (m n o : Machine) (how : Stepped) → Unwinding m Unwind n → Unwinding n how o → Unwinding m how o
+  pub unwinding_on : (m n o : Machine) (how : Effect) → Unwinding m Unwind n → Unwinding n how o → Unwinding m how o
   unwinding_on m n o how f g source s low h = leads_on n o how g source s low (f source s low h)
 
 -- what begins
@@ -231,7 +231,7 @@ module _ (source : Source) (code : Code) (low : Lowered source code) (m n : Mach
 
   -- the test at the end of a block
   module _ (line : ℕ) (is : slice_get code.ops m.run.control ≡ Some (record { op = op.Handled; line = line })) where
-    abbrev tested : Bool → Stepped
+    abbrev tested : Bool → Effect
     tested true = Quiet
     tested false = Unwind
 
@@ -283,7 +283,7 @@ module _ (source : Source) (code : Code) (low : Lowered source code) (m n : Mach
 
   -- the end of the main of a task
   module _ (line : ℕ) (is : slice_get code.ops m.run.control ≡ Some (record { op = op.Unhandled; line = line })) where
-    abbrev ended : TaskMainEnd → Stepped
+    abbrev ended : TaskMainEnd → Effect
     ended end.Ended = Ask (asks_by main_of.Task line is ask.End)
     ended end.Returned = Quiet
     ended end.Unhandled = Ask (asks_by main_of.Task line is (ask.Fault (fault_number Unhandled)))
@@ -304,7 +304,7 @@ module _ (source : Source) (code : Code) (low : Lowered source code) (m n : Mach
 
   -- the main of a coroutine is left
   module _ (line : ℕ) (is : slice_get code.ops m.run.control ≡ Some (record { op = op.Escape; line = line })) where
-    abbrev left_by : Option RunFault → Stepped
+    abbrev left_by : Option RunFault → Effect
     left_by None = Quiet
     left_by (Some f) = Ask (asks_by main_of.Coroutine line is (ask.Fault (fault_number f)))
 
@@ -331,7 +331,7 @@ module _ (source : Source) (code : Code) (m n : Machine) (s t : State) (p : Quie
       (x.before, x.after, ask.Fault (fault_number f), then_quietly p x.by, x.asks, ap (λ (y : ℕ). let b : Asked = record { request = ask.Fault (fault_number f); line = y } in b) k, x.hand)
 
   -- whether or not it is a fault
-  pub switch_settles : (o : Option RunFault) (how : Stepped) → ((f : RunFault) → Some f ≡ o → n ≡ m) → behind_line (laid_of code) m ≡ line_of t → how ≡ stop_by (behind_line (laid_of code) n) o → SwitchedAs source (laid_of code) o n t → Follow (laid_of code) source how n s
+  pub switch_settles : (o : Option RunFault) (how : Effect) → ((f : RunFault) → Some f ≡ o → n ≡ m) → behind_line (laid_of code) m ≡ line_of t → how ≡ stop_by (behind_line (laid_of code) n) o → SwitchedAs source (laid_of code) o n t → Follow (laid_of code) source how n s
   switch_settles None how g l i x = subst (λ h. Follow (laid_of code) source h n s) (sym i) (switch_leads x)
   switch_settles (Some f) how g l i x = subst (λ h. Follow (laid_of code) source h n s) (sym i) (switch_stops f (g f refl) l x)
 
@@ -341,7 +341,7 @@ module _ (source : Source) (code : Code) (m n : Machine) (s : State) where
   abbrev asks_now : Request → Asked
   asks_now r = record { request = r; line = line_at code.ops 0 m.callers }
 
-  abbrev left_how : Left → Stepped
+  abbrev left_how : Left → Effect
   left_how left.Ended = Ask (asks_now ask.End)
   left_how left.Returned = Quiet
   left_how left.Escaped = Ask (asks_now (ask.Fault (fault_number EscapeInUnwind)))

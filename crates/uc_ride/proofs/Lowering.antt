@@ -31,8 +31,8 @@ use Rattle.uc_coroutine.specs.declared.testing.TaskMainEnd.TheVariants as end
 use Rattle.uc_coroutine.specs.MainEnds.{block_over, call_over, main_by, main_over}
 use Rattle.uc_coroutine.specs.Switching.{fault_in, state_in, left_by}
 use Rattle.uc_coroutine.specs.Unwinding.{step_of, Made, ending_by, passed_for, passed_as, left_as, past_of}
-use Rattle.uc_step.specs.declared.stepped.Stepped.{Stepped}
-use Rattle.uc_step.specs.declared.stepped.Stepped.TheVariants.{Quiet, Ask, Throw, Raise, Unwind, Past, Resume, Suspend, TakeDown, EndMain}
+use Rattle.uc_step.specs.declared.effect.Effect.{Effect}
+use Rattle.uc_step.specs.declared.effect.Effect.TheVariants.{Quiet, Ask, Throw, Raise, Unwind, Past, Resume, Suspend, TakeDown, EndMain}
 use Rattle.uc_step.specs.WeightFalls.{AskFalls, RunFalls, FallsBelow}
 use Rattle.uc_ride.specs.UnwindingFalls.{left_in, stop_by, Entered, EnteredBelow}
 use Rattle.uc_ride.proofs.Falling.{found_goes, found_env, catch_goes, catch_env, entered, entered_env, entered_goes, entered_leaves, over_goes, on_falls, call_goes, main_goes, leave_returns, leave_passes, thrown_goes, past_goes}
@@ -52,7 +52,7 @@ moved_same (To m) old n f e q = absurd (cc)
 moved_same (Stops g) old n f e q = q
 
 module _ (code : Code) (w : ℕ) where
-  abbrev Falls : Stepped → Machine → Type 0
+  abbrev Falls : Effect → Machine → Type 0
   Falls how m = FallsBelow code w how m
 
   idly_as : (m n : Machine) (e : Cells) → n.env ≡ e → Idly (laid_of code) code.routines m.env e → Idly (laid_of code) code.routines m.env n.env
@@ -80,7 +80,7 @@ module _ (code : Code) (w : ℕ) where
       (λ v p. subst (λ (b : Asked). AskFalls code v b.request n) (sym q) tt) h
 
   -- a switch, whether or not it is a fault
-  pub switch_falls : (P : ℕ → Machine → Type 0) (m n : Machine) (line : ℕ) (o : Option RunFault) (how : Stepped) → (None ≡ o → Falls Quiet n) → ((f : RunFault) → Some f ≡ o → n ≡ m) → how ≡ stop_by line o → Within (laid_of code) code.routines P w m → Falls how n
+  pub switch_falls : (P : ℕ → Machine → Type 0) (m n : Machine) (line : ℕ) (o : Option RunFault) (how : Effect) → (None ≡ o → Falls Quiet n) → ((f : RunFault) → Some f ≡ o → n ≡ m) → how ≡ stop_by line o → Within (laid_of code) code.routines P w m → Falls how n
   switch_falls P m n line None how q e i h = subst (λ x. Falls x n) (sym i) (q refl)
   switch_falls P m n line (Some f) how q e i h =
       let b : Asked = record { request = ask.Fault (fault_number f); line = line } in

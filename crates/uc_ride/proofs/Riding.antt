@@ -12,8 +12,8 @@ use Rattle.uc_code.specs.Lowered.{Lowered}
 use Rattle.uc_frames.specs.Machine.{Machine}
 use Rattle.uc_frames.specs.Stands.{Rests, Standing}
 use Rattle.uc_frames.specs.PaceInvariant.{has_begun, AllIdle}
-use Rattle.uc_step.specs.declared.stepped.Stepped.{Stepped}
-use Rattle.uc_step.specs.declared.stepped.Stepped.TheVariants.{Quiet, Tick, Ask}
+use Rattle.uc_step.specs.declared.effect.Effect.{Effect}
+use Rattle.uc_step.specs.declared.effect.Effect.TheVariants.{Quiet, Tick, Ask}
 use Rattle.uc_step.specs.Simulation.{behind_line, StandsAfter, Follow}
 use Rattle.uc_step.specs.WeightFalls.{AskFalls, FallsBelow}
 use Rattle.uc_step.proofs.Rode.{quiet_rides, tick_rides, ask_rides}
@@ -25,14 +25,14 @@ module _ (code : Code) where
   come_first m source s l h = record { now = s; rests = h; rides = λ q k u a r. r }
 
   -- what ops say of each source
-  abbrev pub Stepping : Machine → Stepped → Machine → Type 0
+  abbrev pub Stepping : Machine → Effect → Machine → Type 0
   Stepping m how n = (source : Source) (s : State) → Lowered source code → Rests (laid_of code) m s → Follow (laid_of code) source how n s
 
   -- and settling of what it leaves
-  abbrev pub Settling : Stepped → Machine → Stepped → Machine → Type 0
+  abbrev pub Settling : Effect → Machine → Effect → Machine → Type 0
   Settling how m after n = (source : Source) (s : State) → Lowered source code → Follow (laid_of code) source how m s → Follow (laid_of code) source after n s
 
-  pub settled_on : (m n o : Machine) (how after : Stepped) → Stepping m how n → Settling how n after o → Stepping m after o
+  pub settled_on : (m n o : Machine) (how after : Effect) → Stepping m how n → Settling how n after o → Stepping m after o
   settled_on m n o how after f g source s l st = g source s l (f source s l st)
 
   pub come_on : (old m n : Machine) → HasCome code old m → Stepping m Quiet n → HasCome code old n

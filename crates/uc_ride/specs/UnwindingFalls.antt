@@ -12,8 +12,8 @@ use Rattle.uc_code.specs.Layout.{laid_of, chain}
 use Rattle.uc_frames.specs.PaceInvariant.{UnwoundBelow, Entry, EachOf, IdlesAt, Within}
 use Rattle.uc_frames.specs.Machine.{Machine}
 use Rattle.uc_frames.specs.Weight.{waits}
-use Rattle.uc_step.specs.declared.stepped.Stepped.{Stepped}
-use Rattle.uc_step.specs.declared.stepped.Stepped.TheVariants.{Quiet, Tick, Ask, Unwind}
+use Rattle.uc_step.specs.declared.effect.Effect.{Effect}
+use Rattle.uc_step.specs.declared.effect.Effect.TheVariants.{Quiet, Tick, Ask, Unwind}
 use Rattle.uc_step.specs.WeightFalls.{Keeps, FallsBelow}
 use Rattle.uc_ride.specs.declared.events.Caught.{Caught}
 use Rattle.uc_ride.specs.declared.events.OpEnd.{OpEnd}
@@ -37,18 +37,18 @@ test_by (op.Arrive arrived) = Call arrived
 test_by _ = Nothing
 
 -- how a switch ends, in this line where it is a fault
-abbrev pub stop_by : ℕ → Option RunFault → Stepped
+abbrev pub stop_by : ℕ → Option RunFault → Effect
 stop_by line None = Quiet
 stop_by line (Some f) = Ask (record { request = ask.Fault (fault_number f); line = line })
 
 -- these ends as those of an op; this is asked, if anything is
 
-abbrev pub how_settled : OpEnd → Asked → Stepped
+abbrev pub how_settled : OpEnd → Asked → Effect
 how_settled settled.On a = Quiet
 how_settled settled.Tick a = Tick
 how_settled settled.Asks a = Ask a
 
-abbrev pub how_unwound : UnwindEnd → Asked → Stepped
+abbrev pub how_unwound : UnwindEnd → Asked → Effect
 how_unwound unwound.On a = Quiet
 how_unwound unwound.Still a = Unwind
 how_unwound unwound.Asks a = Ask a

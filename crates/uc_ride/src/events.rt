@@ -37,7 +37,7 @@ use uc_except::seeking::{catching_row, propagate};
 use uc_frames::event::Event;
 use uc_frames::work::Work;
 use uc_machine::exec::UnwindReason;
-use uc_step::stepped::Stepped;
+use uc_step::effect::Effect;
 
 /// How an op ends with what an event or a switch leads to by it: the task goes on, after a tick or without one, or it asks what is then
 /// written where a request was lent.
@@ -79,7 +79,7 @@ pub(crate) struct Caught {
 pub(crate) fn settle(
     code: &Code,
     work: &mut Work,
-    how: &Stepped,
+    how: &Effect,
     asked: &mut Asked,
 ) -> Result<OpEnd, AllocError>
     requires paced { IsPaced (laid_of code.now) code.now.routines }
@@ -91,26 +91,26 @@ pub(crate) fn settle(
         FallsBelow code.now w (how_settled after asked.new) work.new) }
 {
     match *how {
-        Stepped::Quiet => Ok(OpEnd::On),
-        Stepped::Tick => Ok(OpEnd::Tick),
-        Stepped::Ask(request) => {
+        Effect::Quiet => Ok(OpEnd::On),
+        Effect::Tick => Ok(OpEnd::Tick),
+        Effect::Ask(request) => {
             *asked = request;
             Ok(OpEnd::Asks)
         }
-        Stepped::Throw(event) => {
+        Effect::Throw(event) => {
             throw(work, event.number, event.x, event.y);
             let end = unwinds(code, work, asked)?;
             Ok(end)
         }
-        Stepped::Raise(event) => {
+        Effect::Raise(event) => {
             let end = raise(code, work, event, asked)?;
             Ok(end)
         }
-        Stepped::Unwind => {
+        Effect::Unwind => {
             let end = unwinds(code, work, asked)?;
             Ok(end)
         }
-        Stepped::Past(given) => {
+        Effect::Past(given) => {
             if return_past(work, given) {
                 let end = unwinds(code, work, asked)?;
                 Ok(end)
@@ -119,14 +119,14 @@ pub(crate) fn settle(
                 Ok(OpEnd::Asks)
             }
         }
-        Stepped::Resume => Ok(settle_resume(code, work, asked)),
-        Stepped::Suspend => Ok(settle_suspend(code, work, asked)),
-        Stepped::TakeDown => {
+        Effect::Resume => Ok(settle_resume(code, work, asked)),
+        Effect::Suspend => Ok(settle_suspend(code, work, asked)),
+        Effect::TakeDown => {
             take_down(work);
             Ok(OpEnd::On)
         }
-        Stepped::EndMain => Ok(settle_end(code, work, asked)),
-        Stepped::Astray => {
+        Effect::EndMain => Ok(settle_end(code, work, asked)),
+        Effect::Astray => {
             *asked = asks(code, 0, work, Request::End);
             Ok(OpEnd::Asks)
         }
@@ -136,9 +136,9 @@ pub(crate) fn settle(
 // Resumes the execution of the coroutine whose member runs; in a main, the one that runs, which is a fault.
 fn settle_resume(code: &Code, work: &mut Work, asked: &mut Asked) -> OpEnd
     ensures source { (source : Source) (s : State) →
-        Follow (laid_of code.now) source Stepped.Resume work.old s →
+        Follow (laid_of code.now) source Effect.Resume work.old s →
         Follow (laid_of code.now) source (how_settled result asked.new) work.new s }
-    ensures falls { (w : ℕ) → FallsBelow code.now w Stepped.Resume work.old →
+    ensures falls { (w : ℕ) → FallsBelow code.now w Effect.Resume work.old →
         FallsBelow code.now w (how_settled result asked.new) work.new }
 {
     let fault = resume(work);
@@ -149,9 +149,9 @@ fn settle_resume(code: &Code, work: &mut Work, asked: &mut Asked) -> OpEnd
 // The running execution is suspended.
 fn settle_suspend(code: &Code, work: &mut Work, asked: &mut Asked) -> OpEnd
     ensures source { (source : Source) (s : State) →
-        Follow (laid_of code.now) source Stepped.Suspend work.old s →
+        Follow (laid_of code.now) source Effect.Suspend work.old s →
         Follow (laid_of code.now) source (how_settled result asked.new) work.new s }
-    ensures falls { (w : ℕ) → FallsBelow code.now w Stepped.Suspend work.old →
+    ensures falls { (w : ℕ) → FallsBelow code.now w Effect.Suspend work.old →
         FallsBelow code.now w (how_settled result asked.new) work.new }
 {
     let fault = suspend(work);
@@ -162,9 +162,9 @@ fn settle_suspend(code: &Code, work: &mut Work, asked: &mut Asked) -> OpEnd
 // The main of a coroutine ends.
 fn settle_end(code: &Code, work: &mut Work, asked: &mut Asked) -> OpEnd
     ensures source { (source : Source) (s : State) →
-        Follow (laid_of code.now) source Stepped.EndMain work.old s →
+        Follow (laid_of code.now) source Effect.EndMain work.old s →
         Follow (laid_of code.now) source (how_settled result asked.new) work.new s }
-    ensures falls { (w : ℕ) → FallsBelow code.now w Stepped.EndMain work.old →
+    ensures falls { (w : ℕ) → FallsBelow code.now w Effect.EndMain work.old →
         FallsBelow code.now w (how_settled result asked.new) work.new }
 {
     let fault = finish(work);
@@ -194,12 +194,12 @@ fn switched(code: &Code, work: &Work, fault: Option<RunFault>, asked: &mut Asked
 // The handler begins that the event finds; where it finds none, it is thrown.
 fn raise(code: &Code, work: &mut Work, event: Event, asked: &mut Asked) -> Result<OpEnd, AllocError>
     requires paced { IsPaced (laid_of code.now) code.now.routines }
-    requires below { (w : ℕ) × FallsBelow code.now w (Stepped.Raise event) work.old }
+    requires below { (w : ℕ) × FallsBelow code.now w (Effect.Raise event) work.old }
     ensures source { IfOk result (λ end. (source : Source) (s : State) → Lowered source code.now →
-        Follow (laid_of code.now) source (Stepped.Raise event) work.old s →
+        Follow (laid_of code.now) source (Effect.Raise event) work.old s →
         Follow (laid_of code.now) source (how_settled end asked.new) work.new s) }
     ensures falls { IfOk result (λ end. (w : ℕ) →
-        FallsBelow code.now w (Stepped.Raise event) work.old →
+        FallsBelow code.now w (Effect.Raise event) work.old →
         FallsBelow code.now w (how_settled end asked.new) work.new) }
 {
     let found = propagate(code, work, event.number, true);
@@ -219,11 +219,11 @@ fn raise(code: &Code, work: &mut Work, event: Event, asked: &mut Asked) -> Resul
 // Step after step, as long as it unwinds.
 fn unwinds(code: &Code, work: &mut Work, asked: &mut Asked) -> Result<OpEnd, AllocError>
     requires paced { IsPaced (laid_of code.now) code.now.routines }
-    requires below { (w : ℕ) × FallsBelow code.now w Stepped.Unwind work.old }
+    requires below { (w : ℕ) × FallsBelow code.now w Effect.Unwind work.old }
     ensures source { IfOk result (λ end. (source : Source) (s : State) → Lowered source code.now →
         Unwinds (laid_of code.now) work.old s →
         Follow (laid_of code.now) source (how_settled end asked.new) work.new s) }
-    ensures falls { IfOk result (λ end. (w : ℕ) → FallsBelow code.now w Stepped.Unwind work.old →
+    ensures falls { IfOk result (λ end. (w : ℕ) → FallsBelow code.now w Effect.Unwind work.old →
         FallsBelow code.now w (how_settled end asked.new) work.new) }
 {
     'steps: loop {
@@ -243,7 +243,7 @@ fn unwind_once(code: &Code, work: &mut Work, asked: &mut Asked) -> Result<Unwind
     ensures source { IfOk result (λ after. (source : Source) (s : State) → Lowered source code.now →
         Unwinds (laid_of code.now) work.old s →
         Follow (laid_of code.now) source (how_unwound after asked.new) work.new s) }
-    ensures falls { IfOk result (λ after. (w : ℕ) → FallsBelow code.now w Stepped.Unwind work.old →
+    ensures falls { IfOk result (λ after. (w : ℕ) → FallsBelow code.now w Effect.Unwind work.old →
         StepFalls code.now w (left_in code.now work.old) after asked.new work.new) }
 {
     // A number of elements that is a `u32` bounds what is left of the activation.
@@ -420,7 +420,7 @@ fn leave_on(code: &Code, work: &mut Work, asked: &mut Asked) -> Result<UnwindEnd
     ensures source { IfOk result (λ after. (source : Source) (s : State) →
         LeavesNow (laid_of code.now) work.old s →
         Follow (laid_of code.now) source (how_unwound after asked.new) work.new s) }
-    ensures falls { IfOk result (λ after. (w : ℕ) → FallsBelow code.now w Stepped.Unwind work.old →
+    ensures falls { IfOk result (λ after. (w : ℕ) → FallsBelow code.now w Effect.Unwind work.old →
         StepFalls code.now w (left_in code.now work.old) after asked.new work.new) }
 {
     let left = leave(work)?;

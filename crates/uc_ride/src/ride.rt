@@ -23,8 +23,8 @@ use uc_entry::request::{Answer, Asked, Request};
 use uc_frames::task::Task;
 use uc_frames::work::Work;
 use uc_outside::Gate;
+use uc_step::effect::Effect;
 use uc_step::step::{answer as give, run};
-use uc_step::stepped::Stepped;
 
 /// How a ride ended: the task with its hand, the new task where one is spawned, and the ticks.
 #[derive(Drop)]
@@ -139,7 +139,7 @@ fn go_on(code: &Code, work: &mut Work, quantum: u32, asked: &mut Asked) -> Resul
     ensures kept { IfOk result (λ ticks. KeepsAfter code.now asked.new.request work.new) }
 {
     let mut ticks = 0;
-    let mut stop = Stepped::Quiet;
+    let mut stop = Effect::Quiet;
     'ticks: loop {
         let end = burst(code, work, &mut stop, asked)?;
         match end {
@@ -161,7 +161,7 @@ fn go_on(code: &Code, work: &mut Work, quantum: u32, asked: &mut Asked) -> Resul
 fn burst(
     code: &Code,
     work: &mut Work,
-    stop: &mut Stepped,
+    stop: &mut Effect,
     asked: &mut Asked,
 ) -> Result<BurstEnd, AllocError>
     requires paced { IsPaced (laid_of code.now) code.now.routines }

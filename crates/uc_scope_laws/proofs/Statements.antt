@@ -295,16 +295,26 @@ module _ (p : Program) where
   scalars o s b (d ∷ ds) low high =
       (low, omega (arith, high), start (meaning.context_at p s) (shape_of b) d.start, scalars o (meaning.with_declared p s b d) b ds (omega (arith, low)) (omega (arith, high)))
 
-  -- what is known by its number and is no array has a cell
+  -- what is known by its number has a cell, an array of such one for each element
+  cell_of : (m : Making) → IsByNumber m → making_cells p m ≡ 1
+  cell_of (APlain i) q = absurd q
+  cell_of (AMutex i) q = refl
+  cell_of ACluster q = refl
+  cell_of AProcessor q = refl
+
+  array_cells : (b : Base) (m : Making) (d : Declarator) → making p b ≡ Some m → d.by_ref ≡ false → (l : ℕ) → meaning.length_of p d d.len ≡ Some l → IsByNumber m → l ≤ declared_cells p b d
+  array_cells b m d e f l g q = by d.len g
+    where
+      by : (len : Option expr.Expr) → meaning.length_of p d len ≡ Some l → l ≤ declared_cells p b d
+      by None k = absurd (cc)
+      by (Some x) k =
+          let same : count_of p d ≡ l = cc k in
+          let size : declared_cells p b d ≡ count_of p d * 1 = declared_size p b m d e f ∙ ap (λ (x : ℕ). count_of p d * x) (cell_of m q) in
+          omega (arith, size, same)
+
   one_cell : (b : Base) (m : Making) (d : Declarator) → making p b ≡ Some m → d.by_ref ≡ false → meaning.length_of p d d.len ≡ None → IsByNumber m → 1 ≤ declared_cells p b d
   one_cell b m d e f l q = by d.len refl l
     where
-      cell_of : (m : Making) → IsByNumber m → making_cells p m ≡ 1
-      cell_of (APlain i) q = absurd q
-      cell_of (AMutex i) q = refl
-      cell_of ACluster q = refl
-      cell_of AProcessor q = refl
-
       by : (len : Option expr.Expr) → d.len ≡ len → meaning.length_of p d len ≡ None → 1 ≤ declared_cells p b d
       by None n k =
           let size : declared_cells p b d ≡ 1 * 1 = declared_size p b m d e f ∙ (ap (λ (x : ℕ). x * making_cells p m) (single_size p d n f) ∙ ap (λ (x : ℕ). 1 * x) (cell_of m q)) in
@@ -315,7 +325,7 @@ module _ (p : Program) where
   one_object o m line b d s rest e f low high g h =
       let inner : Room = record o { low = s.cells + declared_cells p b d } in
       let within : IsWithin o inner = record { low = omega (arith, low); cells = high; high = omega arith; hidden = omega arith; last = omega arith } in
-      ((low, high, tt, tt), (build p o line m (meaning.length_of p d d.len) (src.Variable s.cells) (meaning.start_args p s d.start) low (start_args s d.start), (inner, within, (clean_declared p b m d o.low (s.cells + declared_cells p b d) s.cells e f low (omega arith), clean_keeps p m (meaning.length_of p d d.len) (src.Variable s.cells) o.hidden o.hidden), h, g), opened p line m (meaning.length_of p d d.len) s.cells (meaning.start_args p s d.start)), declared p line m (meaning.length_of p d d.len) s.cells (declared_cells p b d) (meaning.start_args p s d.start) (one_cell b m d e f))
+      ((low, high, tt, tt), (build p o line m (meaning.length_of p d d.len) (src.Variable s.cells) (meaning.start_args p s d.start) low (start_args s d.start), (inner, within, (clean_declared p b m d o.low (s.cells + declared_cells p b d) s.cells e f low (omega arith), clean_keeps p m (meaning.length_of p d d.len) (src.Variable s.cells) o.hidden o.hidden), h, g), opened p line m (meaning.length_of p d d.len) s.cells (meaning.start_args p s d.start)), declared p line m (meaning.length_of p d d.len) s.cells (declared_cells p b d) (meaning.start_args p s d.start) (one_cell b m d e f) (array_cells b m d e f))
 
   -- what stands behind declarations
 

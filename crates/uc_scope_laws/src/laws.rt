@@ -8,8 +8,8 @@ ghost use Rattle.uc_scope_laws.specs.ScopeLaws.{LawAccepted, LawClears, LawSourc
 /// In the source of every program whose locals are no references, all code keeps to its rooms: each
 /// declaration takes cells behind those of all objects in scope, the handlers of a guarded block take
 /// theirs behind those of the block, and all lie in the frame of the routine. What is bound or made is
-/// a place that is being built there, so none that is in scope. A cluster is declared, bound and in
-/// scope by what stands right behind each other.
+/// a place that is being built there, so none that is in scope. What is known by its number is declared,
+/// bound and in scope by what stands right behind each other, and so is an array of such.
 pub fn law_source()
     ensures { LawSource }
 {}

@@ -122,7 +122,7 @@ module _ (t : Table) (g : Sig) (refers : t.refers ≡ true) (sc : List Name) whe
           let n : is_numbered r.sort ≡ false = scalar_unnumbered r.sort f in
           let c : found_ty r.sort ≡ Cell Num = scalar_cell r.sort f in
           let h1 : IsParam g.params cell Num = subst (λ (b : Bool). IsParam g.params cell (if b then found_ty r.sort else Num)) e h in
-          (law_declared t g sc refers p).variable (param_known p cell x) r.sort r.base r.plain e refl (subst (λ n. StoodBy t g sc n cell (found_ty r.sort)) (sym n) (inr (inl (Num, h1, c)), subst (λ a. IsPlaced t a) (sym c) tt))
+          (law_declared t g sc refers p).variable (param_known p cell x) r.sort r.base r.plain e refl (subst (λ n. StoodBy t g sc n cell (found_ty r.sort)) (sym n) (inr (inl (h1, c)), subst (λ a. IsPlaced t a) (sym c) tt))
 
   param_stood : (p : Program) (x : Param) → ParamRules p x → IsStood (option_map place_of (sort_of p x.base))
   param_stood p x r = subst (λ o. IsStood (option_map place_of o)) (sym r.base) tt

@@ -41,7 +41,7 @@ use Rattle.uc_rules.specs.ExpressionBreaks.{are_single, is_scalar_of, length_bre
 use Rattle.uc_rules.specs.OwnerBreaks.{is_field_origin}
 use Rattle.uc_rules.specs.Visits.{single_target}
 use Rattle.uc_rules.specs.ProgramVisits.{program_visits, home_member, field_of, bound_target, maybe_bound_target, origin_target, meant_target, init_target, init_arg_visits, init_args_visits, inits_visits}
-use Rattle.uc_typing.specs.Typing.{Ty, Num, Cell, Clu, Name, Own, Sig, Table, IsPlaced, Yields, GiveAll, Fine, FineStmts, IsCluster}
+use Rattle.uc_typing.specs.Typing.{Ty, Num, Cell, Clu, Name, Own, Sig, Table, IsPlaced, Yields, GiveAll, Fine, FineStmts}
 use Rattle.uc_agreement.specs.Agreement.{found_ty, sort_ty, IsLike, context}
 use Rattle.uc_agreement.specs.Fields.{field_ty, TellsClass}
 use Rattle.uc_agreement.specs.Unbroken.{Unbroken}
@@ -344,11 +344,11 @@ module _ (env : Env) (formed : IsFormed env.program) (u : Unbroken (program_visi
 
     -- an object
 
-    first_cluster : (es : expr.Exprs) (sc : List Name) → count es ≡ 1 → Unbroken (init_args_visits env field1 es (target.Reference sort.Cluster) 0) → (a : Ty) × Yields t1 g sc (cluster_in (args_meant context1 es)) a × IsCluster a
+    first_cluster : (es : expr.Exprs) (sc : List Name) → count es ≡ 1 → Unbroken (init_args_visits env field1 es (target.Reference sort.Cluster) 0) → Yields t1 g sc (cluster_in (args_meant context1 es)) Clu
     first_cluster expr.NoExprs sc n v = let z : ⊥ = omega (arith, n) in absurd z
     first_cluster (expr.MoreExprs y ys) sc n v =
         let a = argument t1 g sc env s.class s.routine s.names (w sc) field1 y (expected_of.Reference sort.Cluster) (first (init_arg_visits env field1 y (expected_of.Reference sort.Cluster)) _ v) in
-        (Clu, cluster_found t1 g refl sc env s (w sc) a.w (meant context1 y) a.fits_it a.agrees, tt)
+        cluster_found t1 g refl sc env s (w sc) a.w (meant context1 y) a.fits_it a.agrees
 
     built_with : (j : ℕ) (es : expr.Exprs) (sc : List Name) → TellsMaker t1 p1 j role.Constructor → count es ≡ length (constructor_params p1 j) → Unbroken (init_args_visits env field1 es (target.Constructor j) 0) → (r : ℕ) → written_at p1 j role.Constructor ≡ Some r → GiveAll t1 g sc (args_by (params_of p1 r) (args_meant context1 es)) (t1.routine r).params
     built_with j es sc m n v r z =

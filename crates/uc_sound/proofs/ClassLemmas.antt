@@ -1,6 +1,7 @@
 -- The table of a program tells each of its classes.
 use Rattle.std.proofs.Common.{◌≡◌, ℕ, ◌+◌, ◌-◌, ◌++◌, List, [], ◌∷◌, Option, Some, None, Bool, true, false, refl, sym, ap, ◌∙◌, subst, arith}
-use Rattle.std.specs.Prelude.{◌&&◌, not, slice_get}
+use Rattle.std.specs.Prelude.{◌&&◌, not, slice_get, nat_lt, if◌then◌else◌}
+use Rattle.std.proofs.lemmas.Bool.{ltb-true}
 use Rattle.uc_tree.specs.declared.pos.Pos.{Pos}
 use Rattle.uc_tree.specs.declared.kinds.Base.{Base}
 use Rattle.uc_tree.specs.declared.kinds.Base.TheVariants as base
@@ -20,7 +21,7 @@ use Rattle.uc_rules.specs.Scopes.{Env, plain_env, class_around}
 use Rattle.uc_rules.specs.ClassBreaks.{is_new_field, fields_at, home_leads_back, is_field_sort}
 use Rattle.uc_rules.specs.ExpressionBreaks.{is_length, length_value, length_breaks, length_value_breaks}
 use Rattle.uc_rules.specs.ProgramVisits.{program_visits}
-use Rattle.uc_typing.specs.Typing.{IsPlaced}
+use Rattle.uc_typing.specs.Typing.{Num, IsPlaced}
 use Rattle.uc_agreement.specs.Agreement.{found_ty, place_by, place_ty}
 use Rattle.uc_agreement.specs.Fields.{TellsClass}
 use Rattle.uc_agreement.specs.Unbroken.{Unbroken}
@@ -30,23 +31,10 @@ use Rattle.uc_sound.specs.Tables.{of_kind, class_field, listed_field, known_fiel
 use Rattle.uc_sound.specs.Told.{LawTold}
 use Rattle.uc_sound.proofs.Lists.{left_is}
 use Rattle.uc_sound.proofs.Visited.{sort_holds, home, field_rules}
-use Rattle.uc_sound.proofs.ClassNames.{Sorted, sorted}
+use Rattle.uc_sound.proofs.ClassNames.{class_of_base}
 use Rattle.uc_sound.proofs.RoutineLemmas.{tells_routines}
+use Rattle.uc_sound.proofs.KeptLemmas.{shapes, bare}
 use Rattle.uc_sound.proofs.MemberLemmas.{tells_member, tells_maker, tells_event, tells_raised, event_whole, event_apart}
-
--- the class that a base names
-pub class_of_base : (p : Program) (b : Base) (i : ℕ) (k : Kind) → sort_of p b ≡ Some (sort.Object i k) → (c : Class) × (class_at p i ≡ Some c) × (c.kind ≡ k)
-class_of_base p (base.Named name) i k h =
-    let s : Sorted (classes_of p.items) 0 name i k = sorted (classes_of p.items) 0 name i k h in
-    let q : s.n ≡ i = let z = s.place in omega (arith, z) in
-    (s.class, ap (class_at p) (sym q) ∙ s.at, s.kind)
-class_of_base p base.Void i k h = absurd (cc)
-class_of_base p base.Int i k h = absurd (cc)
-class_of_base p base.Char i k h = absurd (cc)
-class_of_base p base.Bool i k h = absurd (cc)
-class_of_base p base.Condition i k h = absurd (cc)
-class_of_base p base.Cluster i k h = absurd (cc)
-class_of_base p base.Processor i k h = absurd (cc)
 
 pub mutex_is : (p : Program) (b : Base) (i : ℕ) (k : Kind) → sort_of p b ≡ Some (sort.Object i k) → (table_of p).mutex i ≡ is_mutex k
 mutex_is p b i k h = let c = class_of_base p b i k h in ap (of_kind is_mutex) c.1 ∙ ap is_mutex c.2
@@ -98,12 +86,19 @@ module _ (p : Program) (u : Unbroken (program_visits p)) where
         sorted = sort_holds (sort_of p f.base) s (is_field_sort p d) S16 d.pos _ k h4;
       }
 
+  behind : (a n : ℕ) → nat_lt (a + n) a ≡ false
+  behind a n = by (nat_lt (a + n) a) refl
+    where
+      by : (b : Bool) → nat_lt (a + n) a ≡ b → b ≡ false
+      by true e = let l = ltb-true (a + n) a e in absurd (omega (arith, l))
+      by false e = refl
+
   tells_class : (i : ℕ) (c : Class) → class_at p i ≡ Some c → TellsClass (table_of p) p i c
   tells_class i c e = record {
     at = e;
     refers = refl;
     shape = refl;
-    fields = λ n f s q k. ap (λ o. class_field p o (leading_cells c.kind + n)) e ∙ (ap (λ m. listed_field p c (slice_get (fields_of c.members) m)) (let z : leading_cells c.kind + n - leading_cells c.kind ≡ n = omega arith in z) ∙ (ap (listed_field p c) q ∙ ap (known_field p c f) k));
+    fields = λ n f s q k. ap (λ o. class_field p o (leading_cells c.kind + n)) e ∙ (ap (λ (b : Bool). if b then Num else listed_field p c (slice_get (fields_of c.members) (leading_cells c.kind + n - leading_cells c.kind))) (behind (leading_cells c.kind) n) ∙ ap (λ m. listed_field p c (slice_get (fields_of c.members) m)) (let z : leading_cells c.kind + n - leading_cells c.kind ≡ n = omega arith in z) ∙ (ap (listed_field p c) q ∙ ap (known_field p c f) k));
     placed = λ n f s q k z. placed p f.base s k (no_void f s (field_is i c e n f s q k).sorted) z;
     single = λ n f q r. let x = field_rules p u i c e n f q in (field_is i c e n f x.sort q x.base).single r;
   }
@@ -118,6 +113,8 @@ module _ (p : Program) (u : Unbroken (program_visits p)) where
 pub law_told : LawTold
 law_told p formed u = record {
   numbers = λ i. refl;
+  shapes = shapes p formed u;
+  bare = bare p formed u;
   routines = tells_routines p formed u;
   classes = tells_class p u;
   members = λ i j c sig e h w. tells_member p formed u i j c sig e h w;

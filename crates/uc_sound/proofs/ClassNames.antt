@@ -4,6 +4,8 @@ use Rattle.std.specs.Prelude.{◌||◌, not, slice_get, take, if◌then◌else�
 use Rattle.std.specs.List.{list_any}
 use Rattle.std.specs.Cmp.Lexicographic.{bytes_decides}
 use Rattle.uc_tree.specs.declared.limits.TheConstants.{LAST_CLASS}
+use Rattle.uc_tree.specs.declared.kinds.Base.{Base}
+use Rattle.uc_tree.specs.declared.kinds.Base.TheVariants as base
 use Rattle.uc_tree.specs.declared.kinds.Kind.{Kind}
 use Rattle.uc_tree.specs.Names.{same_name}
 use Rattle.uc_tree.specs.Cells.{classes_of}
@@ -14,7 +16,7 @@ use Rattle.uc_tree.specs.Objects.{class_at, number_at, number_in, place_of}
 use Rattle.uc_tree.specs.Programs.{Class, Item, ClassItem, RoutineItem, ConstItem, ProtoItem, ForwardItem, UsingItem, Program}
 use Rattle.uc_rules.specs.declared.rule.Rule.TheVariants.{S2}
 use Rattle.uc_rules.specs.declared.rules.Sort.TheVariants as sort
-use Rattle.uc_rules.specs.Sorts.{class_sort}
+use Rattle.uc_rules.specs.Sorts.{class_sort, sort_of}
 use Rattle.uc_rules.specs.ItemBreaks.{item_name, is_named_proto, clashes, is_new_item}
 use Rattle.uc_rules.specs.ProgramVisits.{program_visits}
 use Rattle.uc_agreement.specs.Unbroken.{Unbroken}
@@ -277,3 +279,17 @@ module _ (p : Program) (u : Unbroken (program_visits p)) where
 
   pub sort_here : (i : ℕ) (c : Class) → class_at p i ≡ Some c → class_sort (classes_of p.items) 0 c.name ≡ Some (sort.Object i c.kind)
   sort_here i c e = sorts (classes_of p.items) (apart p u) 0 i c e ∙ ap (λ z. Some (sort.Object z c.kind)) (let q : 0 + i ≡ i = omega arith in q)
+
+-- the class that a base names
+pub class_of_base : (p : Program) (b : Base) (i : ℕ) (k : Kind) → sort_of p b ≡ Some (sort.Object i k) → (c : Class) × (class_at p i ≡ Some c) × (c.kind ≡ k)
+class_of_base p (base.Named name) i k h =
+    let s : Sorted (classes_of p.items) 0 name i k = sorted (classes_of p.items) 0 name i k h in
+    let q : s.n ≡ i = let z = s.place in omega (arith, z) in
+    (s.class, ap (class_at p) (sym q) ∙ s.at, s.kind)
+class_of_base p base.Void i k h = absurd (cc)
+class_of_base p base.Int i k h = absurd (cc)
+class_of_base p base.Char i k h = absurd (cc)
+class_of_base p base.Bool i k h = absurd (cc)
+class_of_base p base.Condition i k h = absurd (cc)
+class_of_base p base.Cluster i k h = absurd (cc)
+class_of_base p base.Processor i k h = absurd (cc)

@@ -191,19 +191,19 @@ module _ (t : Table) (g : Sig) (refers : t.refers ≡ true) where
     abbrev new : LocalVariable
     new = declared_known p s b d
 
-    named_as : (l : Option expr.Expr) → d.len ≡ l → IsVariable g sc s.cells (declared_ty (length_of p d l) (place_ty so)) → (is_numbered so ≡ true → l ≡ None → InScope sc s.cells (place_ty so)) → Agrees t g sc p (variable false l (length_in (value_named env) l) so) (known_meant p new)
+    named_as : (l : Option expr.Expr) → d.len ≡ l → IsVariable t g sc s.cells (declared_ty (length_of p d l) (place_ty so)) → (is_numbered so ≡ true → l ≡ None → InScope sc s.cells (place_ty so)) → Agrees t g sc p (variable false l (length_in (value_named env) l) so) (known_meant p new)
     named_as None q v h = (law_declared t g sc refers p).variable new so r.base r.plain r.by_ref (ap (length_of p d) q) (by (is_numbered so) refl)
       where
         by : (n : Bool) → is_numbered so ≡ n → StoodBy t g sc (is_numbered so) s.cells (found_ty so)
         by true e = subst (λ n. StoodBy t g sc n s.cells (found_ty so)) (sym e) (subst (λ n. InScope sc s.cells (place_by n (found_ty so))) e (h e refl))
-        by false e = subst (λ n. StoodBy t g sc n s.cells (found_ty so)) (sym e) (subst (λ n. IsVariable g sc s.cells (place_by n (found_ty so))) e v, subst (λ n. IsPlaced t (place_by n (found_ty so))) e placed)
+        by false e = subst (λ n. StoodBy t g sc n s.cells (found_ty so)) (sym e) (subst (λ n. IsVariable t g sc s.cells (place_by n (found_ty so))) e v, subst (λ n. IsPlaced t (place_by n (found_ty so))) e placed)
     named_as (Some x) q v h =
         let named = value_of_name (constants_of p.items) in
         let n = length_in (value_named env) (Some x) in
         let e : elements named d ≡ n = ap (λ (z : Bool). if z then 1 else length_in named d.len) r.by_ref ∙ (ap (length_in named) q ∙ sym (r.length_is x q)) in
-        (law_declared t g sc refers p).array new so n r.base r.plain r.by_ref (ap (length_of p d) q ∙ ap Some e) (subst (λ z. IsVariable g sc s.cells (Row z (place_ty so))) e v) placed
+        (law_declared t g sc refers p).array new so n r.base r.plain r.by_ref (ap (length_of p d) q ∙ ap Some e) (subst (λ z. IsVariable t g sc s.cells (Row z (place_ty so))) e v) placed
 
-    pub name_agrees : IsVariable g sc s.cells (declared_ty (length_of p d d.len) (place_ty so)) → (is_numbered so ≡ true → d.len ≡ None → InScope sc s.cells (place_ty so)) → AgreesIf t g sc p (seen_as env b d).meant.entity (known_meant p new)
+    pub name_agrees : IsVariable t g sc s.cells (declared_ty (length_of p d d.len) (place_ty so)) → (is_numbered so ≡ true → d.len ≡ None → InScope sc s.cells (place_ty so)) → AgreesIf t g sc p (seen_as env b d).meant.entity (known_meant p new)
     name_agrees v h w q =
         let same : option_map (variable d.by_ref d.len (length_in (value_named env) d.len)) (sort_of p b) ≡ Some (variable false d.len (length_in (value_named env) d.len) so) = ap (option_map (variable d.by_ref d.len (length_in (value_named env) d.len))) r.base ∙ ap (λ z. Some (variable z d.len (length_in (value_named env) d.len) so)) r.by_ref in
         subst (λ w. Agrees t g sc p w (known_meant p new)) (some_same (sym same ∙ q)) (named_as d.len refl v h)
@@ -289,7 +289,7 @@ module _ (t : Table) (g : Sig) (refers : t.refers ≡ true) where
         appended [] q = refl
         appended (x ∷ xs) q = absurd (cc)
 
-    start_fine : (x : Start) (d : Declarator) (b : Base) (cell : ℕ) (to : Target) → IsVariable g sc cell (Cell Num) → (are_single env (start_values x) ≡ true) ⊎ (count (start_values x) ≡ 0) → Unbroken (args_visits env (start_values x) to 0) → FineStart t g sc cell (started x d b)
+    start_fine : (x : Start) (d : Declarator) (b : Base) (cell : ℕ) (to : Target) → IsVariable t g sc cell (Cell Num) → (are_single env (start_values x) ≡ true) ⊎ (count (start_values x) ≡ 0) → Unbroken (args_visits env (start_values x) to 0) → FineStart t g sc cell (started x d b)
     start_fine stmt.NoStart d b cell to v k u = tt
     start_fine (stmt.StartValue e) d b cell to v (inl k) u = (v, number b e (first (visits env e) _ (first (arg_visits env e (expected env.program to 0)) [] u)) k)
     start_fine (stmt.StartValue e) d b cell to v (inr k) u = let z : ⊥ = omega (arith, k) in absurd z
@@ -298,7 +298,7 @@ module _ (t : Table) (g : Sig) (refers : t.refers ≡ true) where
     start_fine (stmt.StartArgs (expr.MoreExprs e (expr.MoreExprs f es))) d b cell to v (inl k) u = false_true k
     start_fine (stmt.StartArgs (expr.MoreExprs e es)) d b cell to v (inr k) u = let z : ⊥ = omega (arith, k) in absurd z
 
-    pub scalar_fine : (b : Base) (d : Declarator) (so : Sort) → Rules env b d so → is_scalar_sort so ≡ true → IsVariable g sc s.cells (declared_ty (length_of env.program d d.len) (Cell Num)) → Unbroken (args_visits env (start_values d.start) (variable_target d.len (sort_of env.program b)) 0) → FineStart t g sc s.cells (started d.start d b)
+    pub scalar_fine : (b : Base) (d : Declarator) (so : Sort) → Rules env b d so → is_scalar_sort so ≡ true → IsVariable t g sc s.cells (declared_ty (length_of env.program d d.len) (Cell Num)) → Unbroken (args_visits env (start_values d.start) (variable_target d.len (sort_of env.program b)) 0) → FineStart t g sc s.cells (started d.start d b)
     scalar_fine b d so r k v u = by d.len refl r.starts v
       where
         none_of : (x : Start) (to : Target) → count (start_values x) ≡ 0 → FineStart t g sc s.cells (started x d b)
@@ -307,6 +307,6 @@ module _ (t : Table) (g : Sig) (refers : t.refers ≡ true) where
         none_of (stmt.StartArgs expr.NoExprs) to z = tt
         none_of (stmt.StartArgs (expr.MoreExprs e es)) to z = let y : ⊥ = omega (arith, z) in absurd y
 
-        by : (l : Option expr.Expr) → d.len ≡ l → started_breaks env.program l (is_value_start d.start) (count (start_values d.start)) (are_single env (start_values d.start)) d.pos (Some so) ≡ [] → IsVariable g sc s.cells (declared_ty (length_of env.program d l) (Cell Num)) → FineStart t g sc s.cells (started d.start d b)
+        by : (l : Option expr.Expr) → d.len ≡ l → started_breaks env.program l (is_value_start d.start) (count (start_values d.start)) (are_single env (start_values d.start)) d.pos (Some so) ≡ [] → IsVariable t g sc s.cells (declared_ty (length_of env.program d l) (Cell Num)) → FineStart t g sc s.cells (started d.start d b)
         by None q h v = start_fine d.start d b s.cells (variable_target d.len (sort_of env.program b)) v (inl (scalar_starts env.program (is_value_start d.start) (count (start_values d.start)) (are_single env (start_values d.start)) d.pos so k h)) u
         by (Some e) q h v = none_of d.start target.Unknown (no_values env.program e (is_value_start d.start) (count (start_values d.start)) (are_single env (start_values d.start)) d.pos so h)

@@ -250,6 +250,7 @@ module _ (t : Table) (g : Sig) (sc : List Name) (env : Env) (class : Option ℕ)
     refers = h.rooted.refers;
     classes = h.rooted.classes;
     tasks = h.rooted.tasks;
+    shapes = h.rooted.told.shapes;
     inside = h.rooted.inside;
     names = h.alike;
     outer = λ name local inside. subst (λ o. AgreesIf t g sc env.program (meant_entity (named_behind o (root_named env.program env.around name))) (tree.own_meant env.program class name)) (sym local) (h.rooted.names sc name (subst (λ o. names_condition (named_behind o (root_named env.program env.around name)) ≡ true → IsInside g.inward) local inside));

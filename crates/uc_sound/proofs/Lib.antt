@@ -6,6 +6,7 @@ pub mod Signatures
 pub mod Likes
 pub mod RoutineLemmas
 pub mod MemberLemmas
+pub mod KeptLemmas
 pub mod ClassLemmas
 pub mod RootLemmas
 pub mod RootedLemmas

@@ -31,7 +31,7 @@ use Rattle.uc_rules.specs.Entities.{entity_of, count, param_expected, fits}
 use Rattle.uc_rules.specs.ExpressionBreaks.{is_value_start, are_single, started_breaks, starts_well, array_starts_well, is_element}
 use Rattle.uc_rules.specs.Visits.{AtVariable, AtArgument, visits, maybe_visits, args_visits, arg_visits, start_values, single_target, variable_target, variable_visits, variables_visits}
 use Rattle.uc_rules.specs.Breaks.{breaks_at}
-use Rattle.uc_typing.specs.Typing.{Ty, Num, Cell, Obj, Raw, Row, Clu, Pro, Name, Var, Inward, Apart, Enters, Sig, Table, IsOpen, MayCall, raw, IsPlaced, Among, InScope, IsVariable, Yields, Fine, GiveAll, FineDeclared, FineClean, element_shape, DestroysAt, CleansAt, FineStmt, FineStmts, IsCluster, object_ty}
+use Rattle.uc_typing.specs.Typing.{Ty, Num, Cell, Obj, Raw, Row, Clu, Pro, Name, Var, Inward, Apart, Enters, Sig, Table, IsOpen, MayCall, raw, IsPlaced, Among, InScope, IsVariable, Yields, Fine, GiveAll, FineDeclared, FineClean, element_shape, DestroysAt, CleansAt, FineStmt, FineStmts, object_ty, IsBare}
 use Rattle.uc_agreement.specs.Agreement.{is_numbered, place_by, place_ty, param_ty, AreLike, Agrees, context}
 use Rattle.uc_agreement.specs.Unbroken.{Unbroken}
 use Rattle.uc_agreement.proofs.Ties.{some_same, none_some, false_true, scalar_unnumbered, law_agrees}
@@ -42,7 +42,7 @@ use Rattle.uc_sound.specs.Told.{TellsMaker, Told}
 use Rattle.uc_sound.specs.Rooted.{Within}
 use Rattle.uc_sound.specs.Statements.{Holds}
 use Rattle.uc_sound.proofs.Lists.{left_is, right_is, not_is}
-use Rattle.uc_sound.proofs.ClassLemmas.{class_of_base}
+use Rattle.uc_sound.proofs.ClassNames.{class_of_base}
 use Rattle.uc_sound.proofs.DeclaringLemmas.{made_kind, made, Rules, variable_rules, no_void, name_agrees, name_stood, within_more, within_wider, raw_scalar, scalar_place, scalar_fine}
 use Rattle.uc_sound.proofs.GivingLemmas.{tied, known}
 
@@ -54,7 +54,7 @@ module _ (t : Table) (g : Sig) (refers : t.refers ≡ true) where
   Given sc p (APlain i) args = (r : ℕ) → written_at p i role.Constructor ≡ Some r → GiveAll t g sc (args_by (params_of p r) args) (t.routine r).params
   Given sc p (AMutex i) args = (r : ℕ) → written_at p i role.Constructor ≡ Some r → GiveAll t g sc (args_by (params_of p r) args) (t.routine r).params
   Given sc p ACluster args = Unit {0}
-  Given sc p AProcessor args = (a : Ty) × Yields t g sc (cluster_in args) a × IsCluster a
+  Given sc p AProcessor args = Yields t g sc (cluster_in args) Clu
 
   -- and the table tells what builds and destroys it
   abbrev pub Making_is : Program → Making → Type 0
@@ -123,13 +123,13 @@ module _ (t : Table) (g : Sig) (refers : t.refers ≡ true) where
   destroyed_at p (APlain i) place w = by (written_at p i role.Destructor) refl
     where
       by : (o : Option ℕ) → written_at p i role.Destructor ≡ o → DestroysAt t (Obj i) place (called_by p i role.Destructor place [] o)
-      by None e = (refl, w.1.unwritten_this e)
-      by (Some r) e = (refl, (w.1.written r e).this)
+      by None e = (refl, w.1.unwritten_this e, w.1.unwritten_whole e)
+      by (Some r) e = (refl, (w.1.written r e).this, w.1.written_whole r e)
   destroyed_at p (AMutex i) place w = by (written_at p i role.Destructor) refl
     where
       by : (o : Option ℕ) → written_at p i role.Destructor ≡ o → DestroysAt t (Cell (Obj i)) place (ended_by p i (Load place) o)
-      by None e = (refl, w.1.unwritten_this e)
-      by (Some r) e = (refl, (w.1.written r e).this)
+      by None e = (refl, w.1.unwritten_this e, w.1.unwritten_whole e)
+      by (Some r) e = (refl, (w.1.written r e).this, w.1.written_whole r e)
   destroyed_at p ACluster place w = refl
   destroyed_at p AProcessor place w = refl
 
@@ -150,13 +150,42 @@ module _ (t : Table) (g : Sig) (refers : t.refers ≡ true) where
   raw_placed p ACluster w = tt
   raw_placed p AProcessor w = tt
 
+  -- nothing is bound in what is not whole
+  making_raw : (m : Making) → IsBare t (raw (making_ty m))
+  making_raw (APlain i) = tt
+  making_raw (AMutex i) = tt
+  making_raw ACluster = tt
+  making_raw AProcessor = tt
+
+  making_bare : (l : Option ℕ) (m : Making) → IsBare t (declared_ty l (raw (making_ty m)))
+  making_bare None m = making_raw m
+  making_bare (Some n) m = making_raw m
+
+  sort_raw : (s : Sort) → IsBare t (raw (place_ty s))
+  sort_raw sort.Void = tt
+  sort_raw sort.Int = tt
+  sort_raw sort.Char = tt
+  sort_raw sort.Bool = tt
+  sort_raw sort.Condition = tt
+  sort_raw sort.Cluster = tt
+  sort_raw sort.Processor = tt
+  sort_raw (sort.Object i k) = by (is_mutex k)
+    where
+      by : (b : Bool) → IsBare t (raw (place_by b (Obj i)))
+      by true = tt
+      by false = tt
+
+  sort_bare : (l : Option ℕ) (s : Sort) → IsBare t (declared_ty l (raw (place_ty s)))
+  sort_bare None s = sort_raw s
+  sort_bare (Some n) s = sort_raw s
+
   declared_placed : (p : Program) (m : Making) (l : Option ℕ) → Making_is p m → IsPlaced t (declared_ty l (raw (making_ty m)))
   declared_placed p m None w = raw_placed p m w
   declared_placed p m (Some n) w = tt
 
   -- an element that is counted
   element_is : (sc : List Name) (p : Program) (m : Making) (n : ℕ) (place : Expr) → Making_is p m → Yields t g sc place (Row n (raw (making_ty m))) → Yields t g sc (counted_element p m n place) (raw (making_ty m))
-  element_is sc p m n place w y = (raw_placed p m w, y, refl)
+  element_is sc p m n place w y = (raw_placed p m w, y, refl, inr (making_raw m))
 
   pub build_fine : (sc : List Name) (p : Program) (line : ℕ) (m : Making) (l : Option ℕ) (place : Expr) (args : List tree.Meant) → Making_is p m → Yields t g sc place (declared_ty l (raw (making_ty m))) → (l ≡ None → Given sc p m args) → (is_some l ≡ true → Given sc p m []) → FineStmt t g sc (build p line m l place args)
   build_fine sc p line m None place args w y a b = constructed_fine sc p m place args w y (a refl)
@@ -279,11 +308,11 @@ module _ (t : Table) (g : Sig) (refers : t.refers ≡ true) where
         let b : breaks_at (AtArgument (expr.expr_pos e) (expected_of.Reference sort.Cluster) (Some r.0)) ≡ [] = subst (λ o. breaks_at (AtArgument (expr.expr_pos e) (expected_of.Reference sort.Cluster) o) ≡ []) r.1 (one (AtArgument (expr.expr_pos e) (expected_of.Reference sort.Cluster) (entity_of env e)) (second (visits env e) _ here)) in
         cluster_found r.0 (tree.meant (context env s.class s.routine s.names) e) (holds (fits (expected_of.Reference sort.Cluster) r.0) S11 (expr.expr_pos e) _ b) (law_agrees t g sc env s.class s.routine s.names w e v r.0 r.1)
 
-    processor_args : (x : Start) → is_value_start x ≡ false → count (start_values x) ≡ 1 → Unbroken (args_visits env (start_values x) (target.Reference sort.Cluster) 0) → (a : Ty) × Yields t g sc (cluster_in (args_at x)) a × IsCluster a
+    processor_args : (x : Start) → is_value_start x ≡ false → count (start_values x) ≡ 1 → Unbroken (args_visits env (start_values x) (target.Reference sort.Cluster) 0) → Yields t g sc (cluster_in (args_at x)) Clu
     processor_args stmt.NoStart v n u = let z : ⊥ = omega (arith, n) in absurd z
     processor_args (stmt.StartValue e) v n u = false_true (sym v)
     processor_args (stmt.StartArgs expr.NoExprs) v n u = let z : ⊥ = omega (arith, n) in absurd z
-    processor_args (stmt.StartArgs (expr.MoreExprs e es)) v n u = (Clu, cluster_arg e es u, tt)
+    processor_args (stmt.StartArgs (expr.MoreExprs e es)) v n u = cluster_arg e es u
 
     -- by the sort
 
@@ -363,9 +392,9 @@ module _ (t : Table) (g : Sig) (refers : t.refers ≡ true) where
       let args : Unbroken (args_visits env (start_values d.start) (variable_target d.len (sort_of p b)) 0 ++ AtVariable env b d ∷ []) = second (maybe_visits env d.len) (args_visits env (start_values d.start) (variable_target d.len (sort_of p b)) 0 ++ AtVariable env b d ∷ []) here in
       let r = variable_rules env b d so k (one (AtVariable env b d) (second (args_visits env (start_values d.start) (variable_target d.len (sort_of p b)) 0) (AtVariable env b d ∷ []) args)) in
       let scalar = raw_scalar t g refers so m (no_void env b d so r) r.plain r.no_event in
-      let v : IsVariable g sc s.cells (declared_ty (length_of p d d.len) (raw (place_ty so))) = inr (inr (local_here p b d ds s so k held)) in
-      let vc : IsVariable g sc s.cells (declared_ty (length_of p d d.len) (Cell Num)) = subst (λ a. IsVariable g sc s.cells (declared_ty (length_of p d d.len) a)) (raw_same so scalar) v in
-      let vp : IsVariable g sc s.cells (declared_ty (length_of p d d.len) (place_ty so)) = subst (λ a. IsVariable g sc s.cells (declared_ty (length_of p d d.len) a)) (sym (scalar_place t g refers so scalar)) vc in
+      let v : IsVariable t g sc s.cells (declared_ty (length_of p d d.len) (raw (place_ty so))) = inr (inr (local_here p b d ds s so k held, sort_bare (length_of p d d.len) so)) in
+      let vc : IsVariable t g sc s.cells (declared_ty (length_of p d d.len) (Cell Num)) = subst (λ a. IsVariable t g sc s.cells (declared_ty (length_of p d d.len) a)) (raw_same so scalar) v in
+      let vp : IsVariable t g sc s.cells (declared_ty (length_of p d d.len) (place_ty so)) = subst (λ a. IsVariable t g sc s.cells (declared_ty (length_of p d d.len) a)) (sym (scalar_place t g refers so scalar)) vc in
       let placed : IsPlaced t (place_ty so) = subst (IsPlaced t) (sym (scalar_place t g refers so scalar)) tt in
       let a = name_agrees t g refers sc env s b d so r placed vp (λ n. not_scalar_number so scalar n) in
       let st = name_stood t g refers sc env s b d so r placed in
@@ -385,7 +414,7 @@ module _ (t : Table) (g : Sig) (refers : t.refers ≡ true) where
       let told = made_told p b so m h.rooted.told h.rooted.classes k q in
       let len = length_of p d d.len in
       let x = Var s.cells (declared_ty len (making_ty m)) in
-      let v : IsVariable g sc s.cells (declared_ty len (raw (making_ty m))) = inr (inr (subst (λ a. Among g.locals s.cells (declared_ty len (raw a))) (sym told.1) (local_here p b d ds s so k held))) in
+      let v : IsVariable t g sc s.cells (declared_ty len (raw (making_ty m))) = inr (inr (subst (λ a. Among g.locals s.cells (declared_ty len (raw a))) (sym told.1) (local_here p b d ds s so k held), making_bare len m)) in
       let y : Yields t g sc (Variable s.cells) (declared_ty len (raw (making_ty m))) = (v, declared_placed p m len told.0) in
       let wide = within_wider t g refers x sc env s.class s.names h in
       let scope : InScope (x ∷ sc) s.cells (declared_ty len (place_ty so)) = inl (refl, ap (declared_ty len) told.1) in

@@ -245,17 +245,18 @@ module _ (p : Program) (formed : IsFormed p) (u : Unbroken (program_visits p)) w
   makes c (ProtoMember s) sig e w h =
       plain_maker s.role (ap (λ (z : Sig). is_plain z.role) (some_same e) ∙ w) (left_is (rules.is_constructor s.role) (not (list_any (builds_more c.name) p.items)) h)
 
-  -- an event has no routines but constructors
-  pub event_member : (i j : ℕ) (c : Class) (m : Member) → class_at p i ≡ Some c → slice_get c.members j ≡ Some m → is_event c.kind ≡ true → is_event_member p c m.form ≡ true
-  event_member i j c m e f v =
+  -- an event has constructors and scalar fields alone
+  pub event_sound : (i : ℕ) (c : Class) → class_at p i ≡ Some c → is_event c.kind ≡ true → (list_all (λ (m : Member). is_event_member p c m.form) c.members && (list_all (λ (m : Member). has_event_fields p m.form) c.members && (nat_le (fields_in c.members) EVENT_FIELDS && nat_lt (events_before p i) PROGRAM_EVENTS))) ≡ true
+  event_sound i c e v =
       let own = class_own p u i c e in
       let own1 = none_right (unless (is_well_mained c) S6 c.pos) _ own in
       let own2 = none_right (unless (has_room p c i) S14 c.pos) _ own1 in
       let own3 = none_right (unless (is_well_built p c) S17 c.pos) _ own2 in
-      let s : is_sound_event p c i ≡ true = holds (is_sound_event p c i) S22 c.pos _ own3 in
-      let more = list_all (λ (m : Member). has_event_fields p m.form) c.members && (nat_le (fields_in c.members) EVENT_FIELDS && nat_lt (events_before p i) PROGRAM_EVENTS) in
-      let a = implied (is_event c.kind) (list_all (λ (m : Member). is_event_member p c m.form) c.members && more) v s in
-      let all = left_is (list_all (λ (m : Member). is_event_member p c m.form) c.members) more a in
+      implied (is_event c.kind) _ v (holds (is_sound_event p c i) S22 c.pos _ own3)
+
+  pub event_member : (i j : ℕ) (c : Class) (m : Member) → class_at p i ≡ Some c → slice_get c.members j ≡ Some m → is_event c.kind ≡ true → is_event_member p c m.form ≡ true
+  event_member i j c m e f v =
+      let all = left_is (list_all (λ (m : Member). is_event_member p c m.form) c.members) _ (event_sound i c e v) in
       all_from (λ (m : Member). is_event_member p c m.form) c.members j m all f
 
   pub event_declares : {B : Type 0} (i j : ℕ) (c : Class) (m : Member) (sig : Sig) → class_at p i ≡ Some c → slice_get c.members j ≡ Some m → form_sig m.form ≡ Some sig → is_event c.kind ≡ true → is_plain sig.role ≡ true → B

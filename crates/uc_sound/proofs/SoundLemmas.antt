@@ -43,6 +43,7 @@ use Rattle.uc_sound.specs.Rooted.{Within}
 use Rattle.uc_sound.specs.Routines.{builds, builds_by, unwritten_builds}
 use Rattle.uc_typing.proofs.Answers.{law_reached}
 use Rattle.uc_sound.specs.Sounds.{LawSound, LawRuns}
+use Rattle.uc_sound.proofs.KeptLemmas.{leads}
 use Rattle.uc_sound.proofs.Lists.{left_is, right_is, both_are, not_is, any_at}
 use Rattle.uc_sound.proofs.Visited.{class_own}
 use Rattle.uc_sound.proofs.ClassNames.{same_is}
@@ -330,7 +331,7 @@ module _ (p : Program) (formed : IsFormed p) (u : Unbroken (program_visits p)) w
           subst (λ g. Routine_is table g r) (sym (ap sig_or_none s)) (subst (Routine_is table (unwritten_sig p x)) (sym q) (unwritten_constructor x (of_heights p formed u (length (classes_of p.items)) m x f) (constructor_role x.role k)))
 
 pub law_sound : LawSound
-law_sound p formed u = record { count = count_is p; routines = λ n r e. by_builds p formed u n r e (builds p n) refl }
+law_sound p formed u = record { count = count_is p; leads = λ c e. leads p (class_at p c) e; routines = λ n r e. by_builds p formed u n r e (builds p n) refl }
 
 pub law_runs : LawRuns
 law_runs p formed u r o task reads v goes = law_reached (table_of p) (source_of p) (law_sound p formed u) r o task reads v goes

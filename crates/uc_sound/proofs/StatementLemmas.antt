@@ -39,7 +39,7 @@ use Rattle.uc_rules.specs.ExpressionBreaks.{return_breaks, bad_clause, handlers_
 use Rattle.uc_rules.specs.OwnerBreaks.{may_switch, may_switch_in, may_accept}
 use Rattle.uc_rules.specs.Visits.{Visit, AtBase, AtReturn, AtSwitch, AtAccept, AtHandlers, AtCaught, AtEvent, AtRaise, AtRaiseTarget, visits, args_visits, condition_visits, maybe_condition_visits, statement_visits, maybe_statement_visits, return_visits, outs_visits, variables_visits, declaration_visits, event_target, event_class_target, raised_visits, events_visits, stmt_visits, stmts_visits, maybe_stmt_visits, handlers_visits, clauses_visits, looped, joined, handling}
 use Rattle.uc_rules.specs.Breaks.{breaks_at}
-use Rattle.uc_typing.specs.Typing.{Ty, Num, Obj, Raw, Name, Kept, Sig, Table, MayCall, Executing, IsPlaced, Among, Yields, GiveAll, Fine, FineStep, FineLoop, FineGuards, FineRaised, FineClauses, FineHandlers, FineStmt, FineStmts, object_ty}
+use Rattle.uc_typing.specs.Typing.{Ty, Num, Obj, Raw, Name, Kept, Sig, Table, MayCall, Executing, IsPlaced, Among, Yields, GiveAll, Fine, FineStep, FineLoop, FineGuards, FineRaised, FineClauses, FineHandlers, FineStmt, FineStmts, object_ty, IsBare}
 use Rattle.uc_agreement.specs.Agreement.{Agrees, AgreesIf, context}
 use Rattle.uc_agreement.specs.Declarations.{StoodBy}
 use Rattle.uc_agreement.specs.Parts.{Parts}
@@ -54,7 +54,7 @@ use Rattle.uc_sound.specs.Rooted.{IsStood, Rooted, Within}
 use Rattle.uc_sound.specs.Statements.{Holds, IsBehind, LawStatements}
 use Rattle.uc_sound.proofs.Lists.{left_is}
 use Rattle.uc_sound.proofs.Visited.{base_known}
-use Rattle.uc_sound.proofs.ClassNames.{event_sorted, sorted_event}
+use Rattle.uc_sound.proofs.ClassNames.{event_sorted, sorted_event, class_of_base}
 use Rattle.uc_sound.proofs.GivingLemmas.{tied, known, gives}
 use Rattle.uc_sound.proofs.DeclaringLemmas.{made, making_is, within_more, within_wider}
 use Rattle.uc_sound.proofs.ObjectLemmas.{scalars, objects}
@@ -191,7 +191,7 @@ module _ (t : Table) (g : Sig) where
           let tells = h.rooted.told.events i c r.name place f in
           let whole = h.rooted.told.events_whole i c r.name place f in
           let local : Among g.locals s.hidden (Raw i) = subst (λ o. Holds g (event_locals s.hidden o)) place held s.hidden (Raw i) (inl (refl, refl)) in
-          let y : Yields t g sc (Variable s.hidden) (Raw i) = (inr (inr local), event_plain p env.around s.class h.rooted r.name i kind.Event e refl) in
+          let y : Yields t g sc (Variable s.hidden) (Raw i) = (inr (inr (local, tt)), event_plain p env.around s.class h.rooted r.name i kind.Event e refl) in
           let sorts : event_sort p r.name ≡ Some (sort.Object i kind.Event) = ap event_among e in
           let to : event_target env r.name ≡ target.Constructor i = ap event_class_target sorts in
           let a : Unbroken (args_visits env r.args (target.Constructor i) 0) = subst (λ z. Unbroken (args_visits env r.args z 0)) to (first (args_visits env r.args (event_target env r.name) 0) (AtRaise env q r.name (count r.args) ∷ []) args) in
@@ -215,10 +215,17 @@ module _ (t : Table) (g : Sig) where
   caught_placed p a class h event None e = tt
   caught_placed p a class h event (Some i) e = let r = event_sorted (classes_of p.items) 0 event i e in event_plain p a class h event i r.0 r.1 r.2
 
+  event_bare : (p : Program) (a : Surroundings) (class : Option ℕ) → Rooted t g p a class → (event : List ℕ) (i : ℕ) (k : Kind) → class_named p event ≡ Some (sort.Object i k) → is_event k ≡ true → IsBare t (Obj i)
+  event_bare p a class h event i k e v = let c = class_of_base p (base.Named event) i k e in h.told.bare i c.0 c.1 (ap is_event c.2 ∙ v)
+
+  caught_bare : (p : Program) (a : Surroundings) (class : Option ℕ) → Rooted t g p a class → (event : List ℕ) (o : Option ℕ) → event_place p (base.Named event) ≡ o → IsBare t (caught_ty o)
+  caught_bare p a class h event None e = tt
+  caught_bare p a class h event (Some i) e = let r = event_sorted (classes_of p.items) 0 event i e in event_bare p a class h event i r.0 r.1 r.2
+
   caught_fine : (sc : List Name) (p : Program) (a : Surroundings) (class : Option ℕ) → Rooted t g p a class → (name event : List ℕ) (cell : ℕ) → Among g.locals cell (caught_ty (event_place p (base.Named event))) → (z : Bool) → Fine t g sc (known_by z (param_of name event cell)).expr
   caught_fine sc p a class h name event cell m true = (Num, inr (inl refl))
   caught_fine sc p a class h name event cell m false =
-      (caught_ty (event_place p (base.Named event)), (inr (inr m), caught_placed p a class h event (event_place p (base.Named event)) refl))
+      (caught_ty (event_place p (base.Named event)), (inr (inr (m, caught_bare p a class h event (event_place p (base.Named event)) refl)), caught_placed p a class h event (event_place p (base.Named event)) refl))
 
   caught_agrees : (sc : List Name) (p : Program) (a : Surroundings) (class : Option ℕ) → Rooted t g p a class → (name event : List ℕ) (cell : ℕ) → Among g.locals cell (caught_ty (event_place p (base.Named event))) → (z : Bool) → AgreesIf t g sc p (if z then Some entity.ClassName else option_map place_of (event_sort p event)) (known_meant p (param_of name event cell))
   caught_agrees sc p a class h name event cell m true w q =
@@ -232,7 +239,7 @@ module _ (t : Table) (g : Sig) where
           let local : Among g.locals cell (Obj i) = subst (λ o. Among g.locals cell (caught_ty o)) place m in
           let plain = event_plain p a class h event i k e v in
           let numbered : is_mutex k ≡ false = sym (h.classes (base.Named event) i k e) ∙ plain in
-          subst (λ w. Agrees t g sc p w (known_meant p (param_of name event cell))) (some_same q) ((law_declared t g sc h.refers p).variable (param_of name event cell) (sort.Object i k) e refl refl refl (subst (λ n. StoodBy t g sc n cell (Obj i)) (sym numbered) (inr (inr local), plain)))
+          subst (λ w. Agrees t g sc p w (known_meant p (param_of name event cell))) (some_same q) ((law_declared t g sc h.refers p).variable (param_of name event cell) (sort.Object i k) e refl refl refl (subst (λ n. StoodBy t g sc n cell (Obj i)) (sym numbered) (inr (inr (local, event_bare p a class h event i k e v)), plain)))
 
       by_sort : (s : Sort) → class_named p event ≡ Some s → option_map place_of (event_among (Some s)) ≡ Some w → Agrees t g sc p w (known_meant p (param_of name event cell))
       by_sort (sort.Object i k) e q = event_agrees i k e (is_event k) refl q

@@ -1,5 +1,5 @@
 -- The table of a program: the signatures of its routines, by their numbers, and what stands at the fields of its classes.
-use Rattle.std.specs.Prelude.{ℕ, ◌+◌, ◌-◌, List, [], ◌∷◌, ◌++◌, length, map, slice_get, Bool, true, false, not, if◌then◌else◌, is_some, Option, Some, None}
+use Rattle.std.specs.Prelude.{ℕ, ◌+◌, ◌-◌, List, [], ◌∷◌, ◌++◌, length, map, slice_get, nat_lt, Bool, true, false, not, if◌then◌else◌, is_some, Option, Some, None}
 use Rattle.uc_tree.specs.declared.kinds.Base.{Base}
 use Rattle.uc_tree.specs.declared.kinds.Base.TheVariants as base
 use Rattle.uc_tree.specs.declared.kinds.Kind.{Kind}
@@ -186,9 +186,11 @@ module _ (p : Program) where
   listed_field c None = Num
   listed_field c (Some f) = known_field c f (sort_of p f.base)
 
+  -- a cell before them is no field
   abbrev pub class_field : Option Class → ℕ → Ty
   class_field None n = Num
-  class_field (Some c) n = listed_field c (slice_get (fields_of c.members) (n - leading_cells c.kind))
+  class_field (Some c) n =
+      if nat_lt n (leading_cells c.kind) then Num else listed_field c (slice_get (fields_of c.members) (n - leading_cells c.kind))
 
   abbrev pub table_of : Table
   table_of = record {

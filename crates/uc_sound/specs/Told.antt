@@ -1,21 +1,23 @@
 -- The table of a program tells its routines, its classes and their members, and what builds and destroys their objects.
 use Rattle.std.specs.Prelude.{◌≡◌, ℕ, List, [], true, false, map, Some, None}
+use Rattle.uc_tree.specs.declared.kinds.Base.{Base}
 use Rattle.uc_tree.specs.declared.kinds.Base.TheVariants as base
 use Rattle.uc_tree.specs.declared.kinds.Param.{Param}
 use Rattle.uc_tree.specs.declared.kinds.Role.{Role}
 use Rattle.uc_tree.specs.declared.kinds.Role.TheVariants as role
 use Rattle.uc_tree.specs.declared.kinds.Kind.TheVariants as kind
 use Rattle.uc_tree.specs.Numbering.{is_event, is_given, is_plain, routines_of}
+use Rattle.uc_rules.specs.declared.rules.Sort.{Sort}
 use Rattle.uc_rules.specs.declared.rules.Sort.TheVariants as sort
-use Rattle.uc_rules.specs.Sorts.{class_named}
-use Rattle.uc_tree.specs.Objects.{class_at, number_at, member_from, written_at, unwritten_number, event_place}
+use Rattle.uc_rules.specs.Sorts.{class_named, sort_of}
+use Rattle.uc_tree.specs.Objects.{class_at, number_at, member_from, written_at, unwritten_number, event_place, base_shape}
 use Rattle.uc_tree.specs.Programs.{Sig as Declared, Class, Program}
 use Rattle.uc_resolve.specs.Standings.{params_of}
 use Rattle.uc_resolve.specs.Resolve.{event_constructor}
 use Rattle.uc_rules.specs.Names.{method_sig, constructor_params}
 use Rattle.uc_rules.specs.ProgramVisits.{program_visits}
-use Rattle.uc_typing.specs.Typing.{Apart, Table, IsRoutine}
-use Rattle.uc_agreement.specs.Agreement.{param_ty, AreLike}
+use Rattle.uc_typing.specs.Typing.{Obj, Apart, Table, IsBare, IsKept, IsRoutine}
+use Rattle.uc_agreement.specs.Agreement.{place_ty, param_ty, AreLike}
 use Rattle.uc_agreement.specs.Fields.{TellsClass}
 use Rattle.uc_agreement.specs.ItemNames.{TellsRoutines}
 use Rattle.uc_agreement.specs.Unbroken.{Unbroken}
@@ -58,6 +60,9 @@ pub record TellsMaker (t : Table) (p : Program) (i : ℕ) (wanted : Role) : Type
 
 pub record Told (t : Table) (p : Program) : Type 0 where
   pub numbers : (i : ℕ) → t.number i ≡ number_at p i
+  -- an element is kept as its class is; an event has scalars alone
+  pub shapes : (b : Base) (s : Sort) → sort_of p b ≡ Some s → IsKept t (base_shape p b) (place_ty s)
+  pub bare : (i : ℕ) (c : Class) → class_at p i ≡ Some c → is_event c.kind ≡ true → IsBare t (Obj i)
   pub routines : TellsRoutines t p
   pub classes : (i : ℕ) (c : Class) → class_at p i ≡ Some c → TellsClass t p i c
   pub members : (i j : ℕ) (c : Class) (sig : Declared) → class_at p i ≡ Some c →

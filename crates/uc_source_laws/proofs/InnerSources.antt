@@ -135,7 +135,7 @@ module _ (source : Source) (t : Table) (sound : Sound t source) (entered : Enter
           object (src.Bind p e) a h = (tt, (expr p (typed.Cell a) h.0, expr e a h.1))
           object (src.MakeOn n r written p args) a h = ((ap part_by h.3, takes sc args r h.2 h.1.3, exists r h.1.3), (expr p _ h.1.1, exprs args (t.routine r).params h.2))
           object src.NewCluster a h = (tt, tt)
-          object (src.NewProcessor e) a h = (tt, expr e h.1.0 h.1.1)
+          object (src.NewProcessor e) a h = (tt, expr e typed.Clu h.1)
           object (src.EndCluster e) a h = (tt, expr e typed.Clu h.1)
           object (src.EndProcessor e) a h = (tt, expr e typed.Pro h.1)
           object (src.ConditionAt k n e) a h = (tt, expr e typed.Num h.1)

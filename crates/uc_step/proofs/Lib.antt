@@ -27,3 +27,4 @@ pub mod SimulateEvents
 pub mod SimulateAccepting
 pub mod Unbound
 pub mod Answered
+pub mod OpsAloneLemmas

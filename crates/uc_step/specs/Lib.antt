@@ -4,3 +4,4 @@ pub mod WeightFalls
 pub mod Simulation
 pub mod OperatorResults
 pub mod Starts
+pub mod OpsAlone

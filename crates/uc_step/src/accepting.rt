@@ -3,10 +3,10 @@
 ghost use Rattle.std.specs.Prelude.{◌≡◌, IfOk, OnErr};
 ghost use Rattle.uc_machine.specs.Pieces.{as_number};
 ghost use Rattle.uc_step.specs.OpEffects.{chosen, ended, Does, DoesAlone};
-ghost use Rattle.uc_step.specs.declared.stepped.Stepped.{Stepped};
+ghost use Rattle.uc_step.specs.declared.effect.Effect.{Effect};
 
+use crate::effect::{Effect, QuietResult, put_fault, put_request};
 use crate::mutex::this_object;
-use crate::stepped::{QuietResult, Stepped, put_fault, put_request};
 use std::alloc::AllocError;
 use uc_code::code::Code;
 use uc_code::op::Op;
@@ -22,7 +22,7 @@ pub(crate) fn accept(
     code: &Code,
     line: u32,
     work: &mut Work,
-    stop: &mut Stepped,
+    stop: &mut Effect,
     site: u32,
     guards: u32,
     end: u32,
@@ -56,7 +56,7 @@ pub(crate) fn accept(
 
 // Where the call that was taken has failed, the event of that is pushed; else the task goes on elsewhere.
 pub(crate) fn failed(work: &mut Work, to: u32) -> Result<QuietResult, AllocError>
-    ensures ok { IfOk result (λ how. (stop : Stepped) →
+    ensures ok { IfOk result (λ how. (stop : Effect) →
         DoesAlone (Op.Failed to) work.old (ended how stop) work.new) }
     ensures err { OnErr result (work.new ≡ work.old) }
 {
@@ -87,7 +87,7 @@ fn chosen(clauses: u32, to: u32, next: u32, number: i64) -> Result<u32, AllocErr
 
 // The branch of a clause by its number, or elsewhere.
 pub(crate) fn choose(work: &mut Work, clauses: u32, end: u32) -> Result<QuietResult, AllocError>
-    ensures ok { IfOk result (λ how. (stop : Stepped) →
+    ensures ok { IfOk result (λ how. (stop : Effect) →
         DoesAlone (Op.Choose clauses end) work.old (ended how stop) work.new) }
     ensures err { OnErr result (work.new ≡ work.old) }
 {

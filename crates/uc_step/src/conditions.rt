@@ -3,9 +3,9 @@
 ghost use Rattle.std.specs.Prelude.{◌≡◌, IfOk, OnErr};
 ghost use Rattle.uc_step.specs.OpEffects.{condition_in, ended, Does};
 
+use crate::effect::{Effect, QuietResult, put_fault, put_request};
 use crate::memory::index_below;
 use crate::mutex::this_object;
-use crate::stepped::{QuietResult, Stepped, put_fault, put_request};
 use std::alloc::AllocError;
 use uc_code::code::Code;
 use uc_code::op::Op;
@@ -34,7 +34,7 @@ pub(crate) fn condition(
     code: &Code,
     line: u32,
     work: &mut Work,
-    stop: &mut Stepped,
+    stop: &mut Effect,
     first: u32,
     count: u32,
 ) -> Result<QuietResult, AllocError>
@@ -59,7 +59,7 @@ pub(crate) fn wait(
     code: &Code,
     line: u32,
     work: &mut Work,
-    stop: &mut Stepped,
+    stop: &mut Effect,
 ) -> Result<QuietResult, AllocError>
     ensures ok { IfOk result (λ how. Does code.now line Op.Wait work.old
         (ended how stop.new) work.new) }
@@ -79,7 +79,7 @@ pub(crate) fn signal(
     code: &Code,
     line: u32,
     work: &mut Work,
-    stop: &mut Stepped,
+    stop: &mut Effect,
 ) -> Result<QuietResult, AllocError>
     ensures ok { IfOk result (λ how. Does code.now line Op.Signal work.old
         (ended how stop.new) work.new) }
@@ -96,7 +96,7 @@ pub(crate) fn signal_block(
     code: &Code,
     line: u32,
     work: &mut Work,
-    stop: &mut Stepped,
+    stop: &mut Effect,
 ) -> Result<QuietResult, AllocError>
     ensures ok { IfOk result (λ how. Does code.now line Op.SignalBlock work.old
         (ended how stop.new) work.new) }
@@ -121,7 +121,7 @@ pub(crate) fn empty(
     code: &Code,
     line: u32,
     work: &mut Work,
-    stop: &mut Stepped,
+    stop: &mut Effect,
 ) -> Result<QuietResult, AllocError>
     ensures ok { IfOk result (λ how. Does code.now line Op.Empty work.old
         (ended how stop.new) work.new) }
@@ -137,7 +137,7 @@ pub(crate) fn front(
     code: &Code,
     line: u32,
     work: &mut Work,
-    stop: &mut Stepped,
+    stop: &mut Effect,
 ) -> Result<QuietResult, AllocError>
     ensures ok { IfOk result (λ how. Does code.now line Op.Front work.old
         (ended how stop.new) work.new) }

@@ -4,7 +4,7 @@ ghost use Rattle.std.specs.Prelude.{◌≡◌, IfOk, OnErr};
 ghost use Rattle.uc_step.specs.OpEffects.{act_enter, act_return, act_end, ended, Does, DoesAlone, Ends};
 ghost use Rattle.uc_frames.specs.Calls.{object_call};
 
-use crate::stepped::{QuietResult, Stepped, put_end, put_fault};
+use crate::effect::{Effect, QuietResult, put_end, put_fault};
 use std::alloc::AllocError;
 use uc_code::code::Code;
 use uc_code::op::Op;
@@ -21,7 +21,7 @@ pub(crate) fn end(
     line: u32,
     given: Cell,
     work: &mut Work,
-    stop: &mut Stepped,
+    stop: &mut Effect,
 ) -> Result<QuietResult, AllocError>
     ensures ok { IfOk result (λ how. Ends
         (act_end code.now line given work.old.run.handles work.old) (ended how stop.new) work.new) }
@@ -33,7 +33,7 @@ pub(crate) fn end(
             Ok(how)
         }
         Some(_) => {
-            *stop = Stepped::Past(given);
+            *stop = Effect::Past(given);
             Ok(QuietResult::Stops)
         }
     }
@@ -44,7 +44,7 @@ pub(crate) fn give_back(
     code: &Code,
     line: u32,
     work: &mut Work,
-    stop: &mut Stepped,
+    stop: &mut Effect,
     given: Cell,
 ) -> Result<QuietResult, AllocError>
     ensures ok { IfOk result (λ how. Ends (act_return code.now line given work.old.callers work.old)
@@ -63,7 +63,7 @@ pub(crate) fn end_task(
     code: &Code,
     line: u32,
     work: &mut Work,
-    stop: &mut Stepped,
+    stop: &mut Effect,
 ) -> Result<QuietResult, AllocError>
     ensures ok { IfOk result (λ how. Does code.now line Op.EndTask work.old
         (ended how stop.new) work.new) }
@@ -78,12 +78,12 @@ pub(crate) fn end_task(
 }
 
 // Unwinding goes on behind a clean-up, without operands.
-pub(crate) fn unwind(work: &mut Work, stop: &mut Stepped) -> QuietResult
+pub(crate) fn unwind(work: &mut Work, stop: &mut Effect) -> QuietResult
     ensures { DoesAlone Op.Unwind work.old (ended result stop.new) work.new }
 {
     let next = work.next();
     work.begin_clean_up(next);
-    *stop = Stepped::Unwind;
+    *stop = Effect::Unwind;
     QuietResult::Stops
 }
 
@@ -91,7 +91,7 @@ pub(crate) fn call(
     code: &Code,
     line: u32,
     work: &mut Work,
-    stop: &mut Stepped,
+    stop: &mut Effect,
     number: u32,
 ) -> Result<QuietResult, AllocError>
     ensures ok { IfOk result (λ how. Does code.now line (Op.Call number) work.old
@@ -118,7 +118,7 @@ fn enter(
     code: &Code,
     line: u32,
     work: &mut Work,
-    stop: &mut Stepped,
+    stop: &mut Effect,
     call: Call,
 ) -> Result<QuietResult, AllocError>
     ensures ok { IfOk result (λ how. Ends (act_enter code.now line call work.old)
@@ -149,7 +149,7 @@ pub(crate) fn call_on(
     code: &Code,
     line: u32,
     work: &mut Work,
-    stop: &mut Stepped,
+    stop: &mut Effect,
     number: u32,
 ) -> Result<QuietResult, AllocError>
     ensures ok { IfOk result (λ how. Does code.now line (Op.CallOn number) work.old
@@ -171,7 +171,7 @@ pub(crate) fn call_unwritten(
     code: &Code,
     line: u32,
     work: &mut Work,
-    stop: &mut Stepped,
+    stop: &mut Effect,
     number: u32,
 ) -> Result<QuietResult, AllocError>
     ensures ok { IfOk result (λ how. Does code.now line (Op.CallUnwritten number) work.old

@@ -4,9 +4,9 @@
 mod accepting;
 pub mod begin;
 mod carried;
-mod clusters;
 mod conditions;
 mod coroutines;
+pub mod effect;
 mod elements;
 mod jumps;
 mod memory;
@@ -18,4 +18,3 @@ mod outside;
 mod plain;
 mod polls;
 pub mod step;
-pub mod stepped;

@@ -5,7 +5,7 @@ ghost use Rattle.uc_step.specs.OpEffects.{act_built, may_call, ended, Does, Ends
 ghost use Rattle.uc_machine.specs.Insides.{is_last};
 ghost use Rattle.uc_frames.specs.Objects.{by_event, object_in, this_object};
 
-use crate::stepped::{QuietResult, Stepped, put_end, put_fault, put_request};
+use crate::effect::{Effect, QuietResult, put_end, put_fault, put_request};
 use std::alloc::AllocError;
 use uc_code::code::Code;
 use uc_code::op::Op;
@@ -45,7 +45,7 @@ pub(crate) fn enter(
     code: &Code,
     line: u32,
     work: &mut Work,
-    stop: &mut Stepped,
+    stop: &mut Effect,
     member: u8,
     number: u32,
 ) -> Result<QuietResult, AllocError>
@@ -91,7 +91,7 @@ pub(crate) fn leave(
     code: &Code,
     line: u32,
     work: &mut Work,
-    stop: &mut Stepped,
+    stop: &mut Effect,
     to: u32,
 ) -> QuietResult
     ensures { Does code.now line (Op.Leave to) work.old (ended result stop.new) work.new }
@@ -121,7 +121,7 @@ pub(crate) fn make(
     code: &Code,
     line: u32,
     work: &mut Work,
-    stop: &mut Stepped,
+    stop: &mut Effect,
     class: u32,
     number: u32,
 ) -> Result<QuietResult, AllocError>
@@ -144,7 +144,7 @@ pub(crate) fn bind_made(
     code: &Code,
     line: u32,
     work: &mut Work,
-    stop: &mut Stepped,
+    stop: &mut Effect,
     number: u32,
 ) -> QuietResult
     ensures { (class : ℕ) →
@@ -160,11 +160,11 @@ pub(crate) fn bind_made(
 }
 
 // The object at hand is built, which is asked so, unless the task is held up there.
-fn built(
+pub(crate) fn built(
     code: &Code,
     line: u32,
     work: &mut Work,
-    stop: &mut Stepped,
+    stop: &mut Effect,
     object: u32,
     request: Request,
 ) -> QuietResult
@@ -175,43 +175,6 @@ fn built(
         return put_fault(code, line, work, stop, RunFault::BlockedInside);
     }
     let how = put_request(code, line, work, stop, request);
-    work.end_build(object);
-    how
-}
-
-// It is free.
-pub(crate) fn made(code: &Code, line: u32, work: &mut Work, stop: &mut Stepped) -> QuietResult
-    ensures { Does code.now line Op.Made work.old (ended result stop.new) work.new }
-{
-    let object = this_object(work);
-    built(code, line, work, stop, object, Request::Made { object })
-}
-
-// It begins as a task.
-pub(crate) fn spawn(code: &Code, line: u32, work: &mut Work, stop: &mut Stepped) -> QuietResult
-    ensures { (main : ℕ) →
-        Does code.now line (Op.Spawn main) work.old (ended result stop.new) work.new }
-{
-    let object = this_object(work);
-    built(code, line, work, stop, object, Request::Spawn { object })
-}
-
-// The call in which it is destroyed ends.
-pub(crate) fn gone(code: &Code, line: u32, work: &mut Work, stop: &mut Stepped) -> QuietResult
-    ensures { Does code.now line Op.Gone work.old (ended result stop.new) work.new }
-{
-    let object = this_object(work);
-    let how = put_request(code, line, work, stop, Request::Gone { object });
-    work.end_gone(object);
-    how
-}
-
-// Its building is given up.
-pub(crate) fn give_up(code: &Code, line: u32, work: &mut Work, stop: &mut Stepped) -> QuietResult
-    ensures { Does code.now line Op.GiveUp work.old (ended result stop.new) work.new }
-{
-    let object = this_object(work);
-    let how = put_request(code, line, work, stop, Request::Gone { object });
     work.end_build(object);
     how
 }

@@ -5,8 +5,8 @@ ghost use Rattle.uc_frames.specs.Machine.{top, below, cell_number};
 ghost use Rattle.uc_step.specs.OpEffects.{act_operator, ended, Does, Ends};
 ghost use Rattle.uc_step.specs.OperatorResults.{operator_of};
 
+use crate::effect::{Effect, QuietResult, put_fault};
 use crate::numbers::{Computed, Operator, in_range};
-use crate::stepped::{QuietResult, Stepped, put_fault};
 use std::alloc::AllocError;
 use uc_code::code::Code;
 use uc_code::op::Op;
@@ -20,7 +20,7 @@ pub(crate) fn two(
     code: &Code,
     line: u32,
     work: &mut Work,
-    stop: &mut Stepped,
+    stop: &mut Effect,
     operator: Operator,
 ) -> Result<QuietResult, AllocError>
     ensures ok { IfOk result (λ how. Ends
@@ -45,7 +45,7 @@ pub(crate) fn negate(
     code: &Code,
     line: u32,
     work: &mut Work,
-    stop: &mut Stepped,
+    stop: &mut Effect,
 ) -> Result<QuietResult, AllocError>
     ensures ok { IfOk result (λ how. Does code.now line Op.Negate work.old
         (ended how stop.new) work.new) }

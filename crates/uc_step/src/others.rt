@@ -1,12 +1,11 @@
-// The ops that raise events at other executions, and that say which are enabled.
+// The op that raises an event at another execution.
 
 ghost use Rattle.std.specs.Prelude.{◌≡◌, IfOk, OnErr};
 ghost use Rattle.uc_frames.specs.Machine.{below, exec_at};
 ghost use Rattle.uc_frames.specs.Unwinding.{event_at};
-ghost use Rattle.uc_step.specs.OpEffects.{act_pend_at, enabling, leaves, with_operands, without_event, ended, Does, DoesAlone, Ends};
-ghost use Rattle.uc_step.specs.declared.stepped.Stepped.{Stepped};
+ghost use Rattle.uc_step.specs.OpEffects.{act_pend_at, with_operands, without_event, ended, Does, Ends};
 
-use crate::stepped::{QuietResult, Stepped, put_fault, put_request};
+use crate::effect::{Effect, QuietResult, put_fault, put_request};
 use std::alloc::AllocError;
 use uc_code::code::Code;
 use uc_code::op::Op;
@@ -23,7 +22,7 @@ pub(crate) fn raise_at(
     code: &Code,
     line: u32,
     work: &mut Work,
-    stop: &mut Stepped,
+    stop: &mut Effect,
 ) -> Result<QuietResult, AllocError>
     ensures ok { IfOk result (λ how. Does code.now line Op.RaiseAt work.old
         (ended how stop.new) work.new) }
@@ -74,7 +73,7 @@ fn pend_at(
     code: &Code,
     line: u32,
     work: &mut Work,
-    stop: &mut Stepped,
+    stop: &mut Effect,
     exec: Option<Exec>,
 ) -> Result<QuietResult, AllocError>
     ensures ok { IfOk result (λ how. Ends
@@ -103,30 +102,4 @@ fn pend_at(
     work.raise_at(exec, Pending { event, x, y })?;
     pop_raised(work);
     Ok(QuietResult::Quiet)
-}
-
-// These events are enabled, and no others; a cell keeps which were.
-pub(crate) fn enable(events: u64, cell: u32, work: &mut Work) -> Result<QuietResult, AllocError>
-    ensures ok { IfOk result (λ how. (stop : Stepped) →
-        Ends (leaves Stepped.Quiet (enabling events cell work.old)) (ended how stop) work.new) }
-    ensures err { OnErr result (work.new ≡ work.old) }
-{
-    work.enable(events, cell);
-    Ok(QuietResult::Quiet)
-}
-
-// The newest operands are an event, which is thrown.
-pub(crate) fn throw(work: &mut Work, stop: &mut Stepped) -> QuietResult
-    ensures { DoesAlone Op.Throw work.old (ended result stop.new) work.new }
-{
-    *stop = Stepped::Throw(work.pop_event());
-    QuietResult::Stops
-}
-
-// They are one that is raised for its handler.
-pub(crate) fn raise(work: &mut Work, stop: &mut Stepped) -> QuietResult
-    ensures { DoesAlone Op.Raise work.old (ended result stop.new) work.new }
-{
-    *stop = Stepped::Raise(work.pop_event());
-    QuietResult::Stops
 }

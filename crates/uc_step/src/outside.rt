@@ -1,10 +1,9 @@
-// The ops that print and read.
+// The ops that print.
 
 ghost use Rattle.std.specs.Prelude.{◌≡◌, IfOk, OnErr};
-ghost use Rattle.uc_frames.specs.Machine.{line_at};
-ghost use Rattle.uc_step.specs.OpEffects.{bare_request, ended, Does};
+ghost use Rattle.uc_step.specs.OpEffects.{ended, Does};
 
-use crate::stepped::{QuietResult, Stepped, put_request};
+use crate::effect::{Effect, QuietResult, put_request};
 use std::alloc::AllocError;
 use uc_code::code::Code;
 use uc_code::op::Op;
@@ -19,7 +18,7 @@ pub(crate) fn print(
     code: &Code,
     line: u32,
     work: &mut Work,
-    stop: &mut Stepped,
+    stop: &mut Effect,
     form: ValueForm,
 ) -> Result<QuietResult, AllocError>
     ensures ok { IfOk result (λ how. Does code.now line (Op.Print form) work.old
@@ -45,7 +44,7 @@ pub(crate) fn text(
     code: &Code,
     line: u32,
     work: &mut Work,
-    stop: &mut Stepped,
+    stop: &mut Effect,
     number: u32,
 ) -> Result<QuietResult, AllocError>
     ensures ok { IfOk result (λ how. Does code.now line (Op.Text number) work.old
@@ -64,7 +63,7 @@ pub(crate) fn text(
     }
 }
 
-pub(crate) fn flush(code: &Code, line: u32, work: &mut Work, stop: &mut Stepped) -> QuietResult
+pub(crate) fn flush(code: &Code, line: u32, work: &mut Work, stop: &mut Effect) -> QuietResult
     ensures { Does code.now line Op.Flush work.old (ended result stop.new) work.new }
 {
     match work.take_gathered() {
@@ -73,37 +72,5 @@ pub(crate) fn flush(code: &Code, line: u32, work: &mut Work, stop: &mut Stepped)
             None => QuietResult::Quiet,
             Some(request) => { put_request(code, line, work, stop, request) }
         },
-    }
-}
-
-pub(crate) fn read(
-    code: &Code,
-    line: u32,
-    work: &mut Work,
-    stop: &mut Stepped,
-    form: ValueForm,
-) -> QuietResult
-    ensures { Does code.now line (Op.Read form) work.old (ended result stop.new) work.new }
-{
-    let form = form.number();
-    put_request(code, line, work, stop, Request::Read { form })
-}
-
-// A request that names nothing.
-pub(crate) fn put_bare(
-    code: &Code,
-    line: u32,
-    work: &Work,
-    stop: &mut Stepped,
-    op: Op,
-) -> QuietResult
-    ensures { ended result stop.new
-        ≡ Stepped.Ask
-        (record { request = bare_request op; line = line_at code.now.ops line work.now.callers }) }
-{
-    match op {
-        Op::Yield => put_request(code, line, work, stop, Request::Yield),
-        Op::Cluster => put_request(code, line, work, stop, Request::Cluster),
-        _ => put_request(code, line, work, stop, Request::Fail),
     }
 }

@@ -4,7 +4,7 @@ ghost use Rattle.std.specs.Prelude.{◌≡◌, IfOk, OnErr};
 ghost use Rattle.uc_machine.specs.Insides.{oldest_enabled};
 ghost use Rattle.uc_step.specs.OpEffects.{ended, Does, DoesAlone};
 
-use crate::stepped::{QuietResult, Stepped, put_request};
+use crate::effect::{Effect, QuietResult, put_request};
 use std::alloc::AllocError;
 use uc_code::code::Code;
 use uc_code::op::Op;
@@ -19,7 +19,7 @@ pub(crate) fn poll(
     code: &Code,
     line: u32,
     work: &mut Work,
-    stop: &mut Stepped,
+    stop: &mut Effect,
     to: u32,
 ) -> Result<QuietResult, AllocError>
     ensures ok { IfOk result (λ how. Does code.now line (Op.Poll to) work.old
@@ -42,7 +42,7 @@ pub(crate) fn poll(
 }
 
 // What was delivered is raised; where that is nothing, the task goes on elsewhere.
-pub(crate) fn deliver(work: &mut Work, stop: &mut Stepped, to: u32) -> QuietResult
+pub(crate) fn deliver(work: &mut Work, stop: &mut Effect, to: u32) -> QuietResult
     ensures { DoesAlone (Op.Deliver to) work.old (ended result stop.new) work.new }
 {
     let number = work.below(2);
@@ -53,7 +53,7 @@ pub(crate) fn deliver(work: &mut Work, stop: &mut Stepped, to: u32) -> QuietResu
             QuietResult::Quiet
         }
         Cell::Number(_) | Cell::Place(_, _) | Cell::Running(_) | Cell::Object(_) => {
-            *stop = Stepped::Raise(event);
+            *stop = Effect::Raise(event);
             QuietResult::Stops
         }
     }

@@ -11,7 +11,7 @@ use uc_entry::fault::RunFault;
 use uc_outside::{Sink, SinkFault};
 
 /// How a run ends.
-#[derive(Clone, Copy, PartialEq, Eq, Debug)]
+#[derive(Clone, Copy)]
 pub enum Ending {
     /// Task 0 has ended.
     Done,

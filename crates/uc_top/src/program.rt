@@ -52,7 +52,7 @@ pub(crate) struct Run {
 }
 
 /// What is to be done with an accepted program.
-#[derive(Clone, Copy, PartialEq, Eq, Debug)]
+#[derive(Clone, Copy)]
 pub enum Purpose {
     /// To run it under these options, and to give the journal's text behind the output or not.
     Run { opts: Options, journal: bool },

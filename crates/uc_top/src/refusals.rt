@@ -12,7 +12,7 @@ use uc_tree::pos::Pos;
 use uc_tree::scan::LexicalFault;
 
 /// Why nothing is run.
-#[derive(Clone, Copy, PartialEq, Eq, Debug)]
+#[derive(Clone, Copy)]
 pub enum Refusal {
     /// The words are no line of the table; the number of the first at fault.
     Word(u32),

@@ -1,8 +1,7 @@
 -- A clean-up that ends what is known by its number finds its variable and reads of it what is of its type.
 use Rattle.std.proofs.Common.{◌≡◌, ℕ, zero, suc, inl, inr, Bool, true, false, List, [], ◌∷◌, refl, sym, ap, ◌∙◌, subst}
-use Rattle.uc_tree.specs.Source.{Expr, Variable, Load, OfObject, EndOn, EndCluster, EndProcessor, Destroys, Source}
-use Rattle.uc_tree.specs.declared.limits.TheConstants.{DESTRUCTOR}
-use Rattle.uc_machine.specs.Pieces.{Value, Slot, Todo, State, Step, Goes, Ticks, Asks, Eval, LoadNow, DropNow, TickNow, EnterNow, CallOnNow, CallUnwrittenNow, ClusterEndNow, ProcessorEndNow, Clean, Unwind, loaded, top, variable_at}
+use Rattle.uc_tree.specs.Source.{Variable, Load, OfObject, EndOn, EndCluster, EndProcessor, Destroys, Source}
+use Rattle.uc_machine.specs.Pieces.{Value, Slot, Todo, State, Step, Goes, Ticks, Asks, Eval, LoadNow, DropNow, Clean, Unwind, loaded, top, variable_at}
 use Rattle.uc_machine.specs.Quiet.{act_todo, quiet}
 use Rattle.uc_typing.specs.Typing.{Ty, Cell, Clu, Pro, Name, Sig, Table, object_ty}
 use Rattle.uc_typing.specs.Pieces.{onto, CallsOn, Ok}
@@ -13,26 +12,8 @@ use Rattle.uc_value_laws.specs.ThereStates.{ThereState}
 use Rattle.uc_value_laws.specs.NewClusters.{GoodState}
 use Rattle.uc_value_laws.proofs.Cells.{held_there}
 use Rattle.uc_value_laws.proofs.Readings.{running}
-use Rattle.uc_typed_runs.specs.TypedRuns.{reading, still_reading}
-use Rattle.uc_typed_runs.proofs.Openings.{no_end, point_end}
-
--- what ends: a mutex object by a destructor, which is written or not, a cluster, a processor
-pub data End : Type 0 where
-  OnObject : ℕ → Bool → End
-  OfCluster : End
-  OfProcessor : End
-
-abbrev pub end_expr : End → ℕ → Expr
-end_expr (OnObject r written) k = OfObject (EndOn r written (Load (Variable k)))
-end_expr OfCluster k = OfObject (EndCluster (Load (Variable k)))
-end_expr OfProcessor k = OfObject (EndProcessor (Load (Variable k)))
-
--- what is to do behind the one that is found
-abbrev pub behind_end : End → List Todo → List Todo
-behind_end (OnObject r false) todo = EnterNow DESTRUCTOR r ∷ (CallUnwrittenNow r ∷ todo)
-behind_end (OnObject r true) todo = TickNow ∷ (EnterNow DESTRUCTOR r ∷ (CallOnNow r ∷ todo))
-behind_end OfCluster todo = ClusterEndNow ∷ todo
-behind_end OfProcessor todo = ProcessorEndNow ∷ todo
+use Rattle.uc_value_laws.specs.Endings.{reading, still_reading, End, OnObject, OfCluster, OfProcessor, end_expr, behind_end}
+use Rattle.uc_typed_runs.proofs.Openings.{fill_end, no_end, point_end}
 
 abbrev pub IsHeld : ℕ → State → Type 0
 IsHeld k s = IsNumbered (loaded (variable_at k s) s.env)
@@ -80,7 +61,7 @@ module _ (t : Table) where
         held k i = running IsNumbered s (Slot k ∷ []) i
 
         there : (l : List Todo) → s.run.control ≡ l → AllThere (frame_at s.run.frame s.env.frames) l
-        there l c = subst (AllThere (frame_at s.run.frame s.env.frames)) c (held_there Any (frame_at s.run.frame s.env.frames) s.run.control h.stack.1)
+        there l c = subst (AllThere (frame_at s.run.frame s.env.frames)) c (held_there Any (frame_at s.run.frame s.env.frames) s.run.elements s.run.control h.stack.1)
 
         by : (l : List Todo) → s.run.control ≡ l → EndingStep (reading l) (act_todo source l s)
         by (Clean (Destroys (OfObject (EndOn r written (Load (Variable k))))) ∷ todo) c = (OnObject r written, k, DropNow ∷ todo, refl, held k (there _ c).0)
@@ -107,8 +88,9 @@ module _ (t : Table) where
 
     pub ending : (n : ℕ) (s : State) → GoodState s → Typed t [] s → Ending n s → EndingStep (still_reading n s.run.control) (quiet source s)
     ending zero s (inl there) x h = starts s there
-    ending zero s (inr (inl d)) x h = subst (λ n. EndingStep n (quiet source s)) (sym (ap reading d.control ∙ point_end d.line d.binder d.next d.todo d.point)) tt
-    ending zero s (inr (inr o)) x h = subst (λ n. EndingStep n (quiet source s)) (sym (ap reading o.control ∙ no_end o.cell o.line o.next o.todo o.stage)) tt
+    ending zero s (inr (inl d)) x h = subst (λ n. EndingStep n (quiet source s)) (sym (ap reading d.control ∙ point_end d.binder d.next d.todo d.point)) tt
+    ending zero s (inr (inr (inr f))) x h = subst (λ n. EndingStep n (quiet source s)) (sym (ap reading f.control ∙ fill_end f.stage f.array)) tt
+    ending zero s (inr (inr (inl o))) x h = subst (λ n. EndingStep n (quiet source s)) (sym (ap reading o.control ∙ no_end o.cell o.line o.next o.todo o.stage)) tt
     ending (suc n) s good x h = onward n s x h
 
   -- what is read is of the type that the end of it asks for

@@ -19,7 +19,8 @@ use Rattle.uc_typing.specs.States.{Sound, Typed, Asked as AskedIn, After, Inhand
 use Rattle.uc_typing.specs.Laws.{ReadsIn}
 use Rattle.uc_typing.proofs.Answers.{handed}
 use Rattle.uc_typing.proofs.Keeps.{keeps}
-use Rattle.uc_typed_runs.specs.TypedRuns.{still_reading, RideHolds, LeadsHold, Reading, AtHome}
+use Rattle.uc_value_laws.specs.Endings.{still_reading, RideHolds, LeadsHold}
+use Rattle.uc_typed_runs.specs.TypedRuns.{Reading, AtHome}
 
 -- an answer of the form that a request asks for suits it
 pub suits : (q : Request) (a : Answer) → IsForm (form_of_request q) a → (q ≡ ask.End → ⊥) → ((n : ℕ) → q ≡ ask.Fault n → ⊥) → Suits q a

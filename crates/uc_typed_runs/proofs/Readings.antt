@@ -31,11 +31,12 @@ use Rattle.uc_value_laws.specs.Reading.{ReadsElement}
 use Rattle.uc_value_laws.specs.Opens.{Opens, LeadsOpen, RideOpens, MayOpen, RunOpens}
 use Rattle.uc_value_laws.proofs.Readings.{law_reading}
 use Rattle.uc_value_laws.proofs.Worlds.{law_runs}
-use Rattle.uc_binding_laws.proofs.Asides.{law_opens}
-use Rattle.uc_typed_runs.specs.TypedRuns.{still_reading, RideHolds, MayHold, RunHolds, LeadsHold, Reading, Following, LeadsFollowing, IsTyped, LawTypedTexts}
+use Rattle.uc_binding_laws.proofs.Addressing.{law_opens}
+use Rattle.uc_value_laws.specs.Endings.{still_reading, RideHolds, MayHold, RunHolds, LeadsHold}
+use Rattle.uc_typed_runs.specs.TypedRuns.{Reading, Following, LeadsFollowing, IsTyped, LawTypedTexts}
 use Rattle.uc_typed_runs.proofs.Endings.{Ending, EndingStep, at_goes, at_ticks, ending, reads as reads_ending}
 use Rattle.uc_typed_runs.proofs.Hands.{behind}
-use Rattle.uc_typed_runs.proofs.Openings.{no_variable, no_place, point_variable, point_place}
+use Rattle.uc_typed_runs.proofs.Openings.{no_variable, no_place, point_variable, point_place, fill_variable, fill_place}
 use Rattle.uc_typed_runs.proofs.Worlds.{law_typed_runs}
 
 module _ (table : Table) (source : Source) (sound : Sound table source) where
@@ -43,11 +44,18 @@ module _ (table : Table) (source : Source) (sound : Sound table source) where
   reads zero s (inr (inl d)) e h x = (
     x,
     (
-      subst (ReadsVariable table x.run.scope s) (sym d.control) (point_variable d.line d.binder d.next d.todo table x.run.sig x.run.scope s d.point),
-      subst (λ l. ReadsPlace table x.run.sig s l x.run.own) (sym d.control) (point_place d.line d.binder d.next d.todo table x.run.sig x.run.scope s x.run.own d.point),
+      subst (ReadsVariable table x.run.scope s) (sym d.control) (point_variable d.binder d.next d.todo table x.run.sig x.run.scope s d.point),
+      subst (λ l. ReadsPlace table x.run.sig s l x.run.own) (sym d.control) (point_place d.binder d.next d.todo table x.run.sig x.run.scope s x.run.own d.point),
     ),
   )
-  reads zero s (inr (inr o)) e h x = (
+  reads zero s (inr (inr (inr f))) e h x = (
+    x,
+    (
+      subst (ReadsVariable table x.run.scope s) (sym f.control) (fill_variable table x.run.sig x.run.scope s f.stage f.array),
+      subst (λ l. ReadsPlace table x.run.sig s l x.run.own) (sym f.control) (fill_place table x.run.sig x.run.scope s x.run.own f.stage f.array),
+    ),
+  )
+  reads zero s (inr (inr (inl o))) e h x = (
     x,
     (
       subst (ReadsVariable table x.run.scope s) (sym o.control) (no_variable o.cell o.line o.next o.todo table x.run.sig x.run.scope s o.stage),

@@ -38,7 +38,8 @@ use Rattle.uc_typing.specs.Typing.{Table}
 use Rattle.uc_typing.specs.States.{Sound, Typed, IsTask, Asked as AskedIn, Inhand}
 use Rattle.uc_typing.proofs.Answers.{begins, law_answered}
 use Rattle.uc_typing.proofs.Finding.{law_finds}
-use Rattle.uc_typed_runs.specs.TypedRuns.{RideHolds, MayHold, RunHolds, LeadsHold, Reading, Awaits, AtHome, LawTypedRuns}
+use Rattle.uc_value_laws.specs.Endings.{RideHolds, MayHold, RunHolds, LeadsHold}
+use Rattle.uc_typed_runs.specs.TypedRuns.{Reading, Awaits, AtHome, LawTypedRuns}
 use Rattle.uc_typed_runs.proofs.Spawning.{Spawned, spawner, ended_before}
 use Rattle.uc_typed_runs.proofs.Hands.{suits, asked_handed, asked_hand, rides_typed, leads_typed, found_home, drawn_hand, either_home}
 

@@ -1,24 +1,19 @@
 -- Runs of a program whose worlds are in order: each task that has not ended, and all that is at home somewhere.
-use Rattle.std.specs.Prelude.{◌≡◌, ◌⊎◌, ℕ, zero, suc, Bool, true, false, List, [], ◌∷◌, Option, Some, None}
+use Rattle.std.specs.Prelude.{◌≡◌, ◌⊎◌, ℕ, zero, suc, false, List, [], ◌∷◌, Option, Some, None}
 use Rattle.uc_tree.specs.Programs.{Program}
-use Rattle.uc_tree.specs.Source.{Variable, Load, OfObject, EndOn, EndCluster, EndProcessor, CleanUp, Destroys, Source}
-use Rattle.uc_entry.specs.declared.entry.Entry.{Entry}
+use Rattle.uc_tree.specs.Source.{Source}
 use Rattle.uc_entry.specs.declared.entry.Options.{Options}
-use Rattle.uc_entry.specs.declared.request.Asked.{Asked}
 use Rattle.uc_entry.specs.declared.request.Request.{Request}
 use Rattle.uc_entry.specs.declared.request.Request.TheVariants as ask
 use Rattle.uc_acts.specs.Journal.{Journal, is_over}
 use Rattle.uc_acts.specs.Known.{has_ended}
-use Rattle.uc_acts.specs.Serves.{left}
 use Rattle.uc_acts.specs.KernelRuns.{InRange}
 use Rattle.uc_answer_laws.specs.Suiting.{Form, form_of_request, asked_form}
-use Rattle.uc_machine.specs.Pieces.{Clean, Unwind}
 use Rattle.uc_machine.specs.Quiet.{State, Members, Todo}
 use Rattle.uc_machine.specs.Answering.{answered}
-use Rattle.uc_machine.specs.Rides.{Rides, slices, goes_on, ticks, asks}
-use Rattle.uc_meaning.specs.Runs.{World, May, Runs, drawn, gives, no_room, acts, begun, more}
+use Rattle.uc_meaning.specs.Runs.{World, Runs, drawn}
 use Rattle.uc_program_laws.specs.Fitting.{RunFits}
-use Rattle.uc_scope_laws.specs.RoomRuns.{Leads, Comes, stays, goes, ticks as by_tick}
+use Rattle.uc_scope_laws.specs.RoomRuns.{Leads, Comes}
 use Rattle.uc_resolve.specs.Resolve.{source_of}
 use Rattle.uc_typing.specs.Typing.{Table}
 use Rattle.uc_typing.specs.States.{Sound, Typed, ReadsPlace, IsTask, Asked as AskedIn, Parked}
@@ -26,62 +21,9 @@ use Rattle.uc_typing.specs.Laws.{ReadsIn}
 use Rattle.uc_typing.specs.Finds.{Finds}
 use Rattle.uc_sound.specs.Tables.{table_of}
 use Rattle.uc_formed.specs.WellTyped.{IsTextOf}
+use Rattle.uc_value_laws.specs.Endings.{RunHolds, LeadsHold}
 use Rattle.uc_value_laws.specs.Reading.{ReadsElement}
-use Rattle.uc_binding_laws.specs.Aside.{RunAside, LeadsAside}
-
--- a clean-up ends what is known by its number and stands in a variable
-abbrev pub ends_variable : CleanUp → Bool
-ends_variable (Destroys (OfObject (EndOn r written (Load (Variable k))))) = true
-ends_variable (Destroys (OfObject (EndCluster (Load (Variable k))))) = true
-ends_variable (Destroys (OfObject (EndProcessor (Load (Variable k))))) = true
-ends_variable c = false
-
--- Behind the mark of such a clean-up, which is come to or unwound, the steps from four states find that variable and read it.
-abbrev pub reading_by : Bool → ℕ
-reading_by true = 4
-reading_by false = 0
-
-abbrev pub reading : List Todo → ℕ
-reading (Clean c ∷ todo) = reading_by (ends_variable c)
-reading (Unwind ∷ (Clean c ∷ todo)) = reading_by (ends_variable c)
-reading todo = 0
-
--- behind a state, by how many of them are left with it
-abbrev pub still_reading : ℕ → List Todo → ℕ
-still_reading zero todo = reading todo
-still_reading (suc n) todo = n
-
--- What holds of the states of a ride, each with how many of those are left with it; of an act, and of each act of a run.
-abbrev pub RideHolds : (P : ℕ → State → Type 0) (source : Source) (n : ℕ) (s : State) (q : ℕ)
-    (u : State) (k : ℕ) (a : Asked) → Rides source s q u k a → Type 0
-RideHolds P source n _ _ _ _ _ slices = Unit {0}
-RideHolds P source n _ _ _ _ _ (goes_on {s} {t = v} {u} {q} {k} {a} e rest) = P n s ×
-    RideHolds P source (still_reading n s.run.control) v (suc q) u k a rest
-RideHolds P source n _ _ _ _ _ (ticks {s} {t = v} {u} {q} {k} {a} e rest) = P n s ×
-    RideHolds P source (still_reading n s.run.control) v q u k a rest
-RideHolds P source n _ _ _ _ _ (asks {s} e) = P n s
-
-abbrev pub MayHold : (P : ℕ → State → Type 0) (source : Source) (opts : Options) (input : List ℕ)
-    (j : Journal) (w : World) (a : List Entry) (x : World) → May source opts input j w a x → Type 0
-MayHold P source opts input j w _ _ (gives p t s h) = Unit {0}
-MayHold P source opts input j w _ _ (no_room p t s h) = Unit {0}
-MayHold P source opts input j w _ _ (acts p t k s asked d) =
-    RideHolds P source 0 (answered source d.given (drawn j w t)) (left opts j t) s k asked d.rides
-
-abbrev pub RunHolds : (P : ℕ → State → Type 0) (source : Source) (input : List ℕ) (opts : Options)
-    (j : Journal) (w : World) → Runs source input opts j w → Type 0
-RunHolds P source input opts _ _ begun = Unit {0}
-RunHolds P source input opts _ _ (more {j} {w} {a} {w' = x} r o m) = RunHolds P source input opts j w r ×
-    MayHold P source opts input j w a x m
-
--- so it holds of the states on the way to one
-abbrev pub LeadsHold : (P : ℕ → State → Type 0) (source : Source) (n : ℕ) (s u : State) →
-    Leads source s u → Type 0
-LeadsHold P source n _ _ stays = Unit {0}
-LeadsHold P source n _ _ (goes {s} {u} {v} e l) = P n s ×
-    LeadsHold P source (still_reading n s.run.control) u v l
-LeadsHold P source n _ _ (by_tick {s} {u} {v} e l) = P n s ×
-    LeadsHold P source (still_reading n s.run.control) u v l
+use Rattle.uc_binding_laws.specs.Addressed.{RunAddressed, LeadsAddressed}
 
 -- What is read of bindings is of its type.
 abbrev pub Reading : Table → ℕ → State → Type 0
@@ -134,17 +76,17 @@ LawTypedRuns =
     RunHolds (Reading table) source input opts j w r → is_over j ≡ false →
     IsTyped table source (LeadsHold (Reading table) source 0) j w
 
--- on the way what is no object is bound aside, arrays and variables without addresses are there where their scopes open, and what is read at places is of its type
+-- on the way frames in which scopes open have addresses for all their cells, and what is read at places is of its type
 abbrev pub LeadsFollowing : (p : Program) (s u : State) → Leads (source_of p) s u → Type 0
-LeadsFollowing p s u l = LeadsAside (source_of p) s u l ×
+LeadsFollowing p s u l = LeadsAddressed (source_of p) s u l ×
     LeadsHold (Following (table_of p)) (source_of p) 0 s u l
 
--- Of each program whose text is accepted, where what is no object was bound aside of variables that were still to be bound, each scope of an
--- array of what is known by its number opened where its elements hold objects, and all was of its type that was read at places and of fields of the object at hand, but by the clean-ups of such variables.
+-- Of each program whose text is accepted, where each scope opened in a frame of which all cells have addresses, and all was of its type that was
+-- read at places and of fields of the object at hand, but by the clean-ups of variables that are known by their numbers.
 abbrev pub LawTypedTexts : Type 0
 LawTypedTexts =
     (text : List ℕ) (p : Program) → IsTextOf text p →
     (input : List ℕ) (opts : Options) (j : Journal) (w : World) (r : Runs (source_of p) input opts j w) →
-    InRange opts → RunFits (source_of p) input opts j w r → RunAside (source_of p) input opts j w r →
+    InRange opts → RunFits (source_of p) input opts j w r → RunAddressed (source_of p) input opts j w r →
     RunHolds (Following (table_of p)) (source_of p) input opts j w r → is_over j ≡ false →
     IsTyped (table_of p) (source_of p) (LeadsFollowing p) j w

@@ -10,10 +10,9 @@ pub fn law_typed_runs()
     ensures { LawTypedRuns }
 {}
 
-/// So it is in each run of a program whose text is accepted in which all that was asked fits, what is no
-/// object was bound aside of variables that were still to be bound, scopes of arrays and of variables at
-/// cells that have no address opened where these hold objects, and all is of its type that was read at
-/// places and of fields of the object at hand, but by clean-ups of variables.
+/// So it is in each run of a program whose text is accepted in which all that was asked fits, scopes
+/// opened in frames of which all cells have addresses, and all is of its type that was read at places
+/// and of fields of the object at hand, but by clean-ups of variables.
 pub fn law_typed_texts()
     ensures { LawTypedTexts }
 {}

@@ -1,5 +1,5 @@
 -- To-do lists that are in order stay so as pieces are taken apart, and for exits that leave them.
-use Rattle.std.proofs.Common.{◌≡◌, ℕ, List, [], ◌∷◌, inl, inr, Option, Some, None, Bool, true, false, refl, sym, ap, ◌∙◌}
+use Rattle.std.proofs.Common.{◌≡◌, ℕ, List, [], ◌∷◌, inl, inr, Option, Some, None, Bool, true, false, refl, sym, ap, ◌∙◌, subst}
 use Rattle.std.specs.Prelude.{◌&&◌}
 use Rattle.uc_tree.specs.Source.{Shape, Character, Truth, Integer, Binding, Last, Field, Array, Expr, CleanUp, Destroys, DestroysAll, Unwinds, Forgets, Leaves, Ends, Frees, Restores, Clauses, NoClauses, Otherwise, MoreClauses, clause_count, Order, TestFirst, BodyFirst, NoTest, Way, ToBreak, ToContinue, ToReturn, ToEnd, Stmt, Raised, Plainly, BuiltAt, AgainFrom, Handlers, NoHandlers, MoreHandlers}
 use Rattle.uc_machine.specs.Raising as r
@@ -8,7 +8,7 @@ use Rattle.uc_machine.specs.Quiet.{Value, Number, Place, Running, Object, Nothin
 use Rattle.uc_machine.specs.Pieces as pc
 use Rattle.uc_typing.specs.Typing.{Ty, Num, Cell, Obj, Raw, Row, Clu, Pro, Name, Sig, Table, Fine, FineClean, FineRaised, FineStmts, FineHandlers, FineLoop}
 use Rattle.uc_typing.specs.Pieces as on
-use Rattle.uc_typing.specs.Pieces.{IsNone, onto, item_tys, Exits, nums, guard_tys, Popped, Reached, Met, Ok, Left}
+use Rattle.uc_typing.specs.Pieces.{IsNone, AreNumbers, onto, item_tys, Exits, nums, guard_tys, Popped, Reached, Met, Ok, Left}
 use Rattle.uc_typing.proofs.Operands.{either}
 
 module _ (t : Table) (g : Sig) (base : List Name) where
@@ -77,7 +77,7 @@ module _ (t : Table) (g : Sig) (base : List Name) where
   stepped sc pc.GoneNow own K X f h = f _ h.1
   stepped sc pc.GiveUpNow own K X f h = f _ h.1
   stepped sc pc.ClusterNow own K X f h = f _ h
-  stepped sc pc.ProcessorNow (a ∷ more) K X f h = f _ h.1
+  stepped sc pc.ProcessorNow (Clu ∷ more) K X f h = f _ h
   stepped sc pc.ClusterEndNow (Clu ∷ more) K X f h = f _ h
   stepped sc pc.ProcessorEndNow (Pro ∷ more) K X f h = f _ h
   stepped sc (pc.ConditionNow k n) (Num ∷ more) K X f h = f _ h
@@ -105,8 +105,8 @@ module _ (t : Table) (g : Sig) (base : List Name) where
   met sc pc.Simple own X todo f k h = f h
   met sc (pc.IsLoop o x e b) own X todo f k h = (h.1, h.2, k sc [] h.2)
   met sc pc.IsWhole own X todo f k h = (h.1, h.2)
-  met [] (pc.IsClean c) own X todo f k h = absurd h
-  met (x ∷ sc) (pc.IsClean c) own X todo f k h = (h.0, h.1, k sc own h.2)
+  met [] (pc.IsClean c) own X todo f k h = absurd h.0
+  met (x ∷ sc) (pc.IsClean c) own X todo f k h = (h.0.0, h.0.1, k sc own h.0.2)
   met sc (pc.IsFill n b d) own X todo f k h = (h.1, k sc own h.2)
   met sc (pc.IsSweep e) own X todo f k h = (h.0, k sc own h.1)
   met sc (pc.IsPart c) own X todo f k h = (h.0, k sc own h.1)
@@ -124,6 +124,16 @@ module _ (t : Table) (g : Sig) (base : List Name) where
   from_none sc todo [] n h = h
   from_none sc todo (a ∷ more) n h = absurd n
 
+  none_numbers : (own : List Ty) → IsNone own → AreNumbers own
+  none_numbers [] n = tt
+  none_numbers (a ∷ own) n = absurd n
+
+  exit_numbers : (w : Way) (own : List Ty) → Exits t g w own → AreNumbers own
+  exit_numbers ToReturn own x = subst AreNumbers (sym x.0) tt
+  exit_numbers ToBreak own x = none_numbers own x
+  exit_numbers ToContinue own x = none_numbers own x
+  exit_numbers ToEnd own x = none_numbers own x
+
   -- an exit leaves a piece
   pub exit_left : (sc : List Name) (w : Way) (s : pc.Sort) (todo : List Todo) (own : List Ty) → Exits t g w own → Met t g sc s (λ sc. Left t g base sc todo) (λ sc. Ok t g base sc todo) → Ok t g base sc (q.left_behind w s todo) own
   exit_left sc w pc.Simple todo own x h = (x, h)
@@ -136,7 +146,7 @@ module _ (t : Table) (g : Sig) (base : List Name) where
   exit_left sc ToReturn pc.IsWhole todo own x h = let f : true ≡ false = sym h.0 ∙ x.1 in absurd (cc)
   exit_left sc ToEnd pc.IsWhole todo own x h = from_none sc todo own x h.1
   exit_left [] w (pc.IsClean c) todo own x h = absurd h
-  exit_left (y ∷ sc) w (pc.IsClean c) todo own x h = (h.0, h.1, (x, h.2))
+  exit_left (y ∷ sc) w (pc.IsClean c) todo own x h = ((h.0, h.1, (x, h.2)), exit_numbers w own x)
   exit_left sc w (pc.IsFill n b d) todo own x h = (x, h.1)
   exit_left sc w (pc.IsSweep e) todo own x h = (x, h.1)
   exit_left sc w (pc.IsPart c) todo own x h = (x, h.1)

@@ -105,7 +105,7 @@ module _ (t : Table) (source : Source) (sound : Sound t source) (s : State) (sig
   object (MakeOn n r true e args) a todo own l f o h =
       goes sc own _ _ (Cell (Raw f.1.0), f.1.1, ((t.routine r).params, f.2, (own, f.1.0, (refl, f.1.3, f.1.5, f.1.6), (own, f.1.0, (raw_below (t.routine r).params own (t.routine r).whole f.1.0 f.1.4, f.1.2, f.1.3), num todo own a f.0 o)))) h
   object NewCluster a todo own l f o h = goes sc own _ _ (subst (λ a. Ok t g base sc todo (a ∷ own)) f o) h
-  object (NewProcessor e) a todo own l f o h = goes sc own _ _ (f.1.0, f.1.1, (f.1.2, subst (λ a. Ok t g base sc todo (a ∷ own)) f.0 o)) h
+  object (NewProcessor e) a todo own l f o h = goes sc own _ _ (Clu, f.1, subst (λ a. Ok t g base sc todo (a ∷ own)) f.0 o) h
   object (EndCluster e) a todo own l f o h = goes sc own _ _ (Clu, f.1, num todo own a f.0 o) h
   object (EndProcessor e) a todo own l f o h = goes sc own _ _ (Pro, f.1, num todo own a f.0 o) h
   object (ConditionAt k n e) a todo own l f o h = goes sc own _ _ (Num, f.1, num todo own a f.0 o) h
@@ -118,7 +118,7 @@ module _ (t : Table) (source : Source) (sound : Sound t source) (s : State) (sig
   pub eval : (e : Expr) (a : Ty) (todo : List Todo) (own : List Ty) → Reads t g sc s (pc.Eval e ∷ todo) own → Yields t g sc e a → Ok t g base sc todo (a ∷ own) → Values t own s.run.operands → After t source (eval_step e todo s)
   eval (Literal n) a todo own l f o h = goes sc (Num ∷ own) todo _ (num todo own a f o) (tt, h)
   eval (Variable k) a todo own l f o h = goes sc (a ∷ own) todo _ o (slot_is a k f.1, h)
-  eval (Element n k e i) a todo own l f o h = goes sc own _ _ (Row n a, f.1, (Num, f.2, (refl, f.0, o))) h
+  eval (Element n k e i) a todo own l f o h = goes sc own _ _ (Row n a, f.1, (Num, f.2, (refl, f.0, o, f.3))) h
   eval (Get k) a todo own l f o h = goes sc (a ∷ own) todo _ o (held_is k a l.0 f, h)
   eval (Load e) a todo own l f o h = goes sc own _ _ (Cell a, f.1, (f.0, o)) h
   eval (Negated e) a todo own l f o h = goes sc own _ _ (Num, f.1, num todo own a f.0 o) h

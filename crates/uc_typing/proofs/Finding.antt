@@ -190,8 +190,8 @@ module _ (t : Table) (source : Source) (sound : Sound t source) where
     finds (pc.ChildNow r) todo own o h = known r o.0.2
     finds pc.GoneNow todo own o h = this_number o.0
     finds pc.GiveUpNow todo own o h = this_number o.0
-    finds pc.ProcessorNow todo (a ∷ own) o h = one t a own s.run.operands h
-    finds pc.ProcessorNow todo [] o h = absurd o
+    finds pc.ProcessorNow todo (Clu ∷ own) o h = one t Clu own s.run.operands h
+    finds pc.ProcessorNow todo _ o h = absurd o
     finds pc.ClusterEndNow todo (Clu ∷ own) o h = newest t Clu own s.run.operands h
     finds pc.ClusterEndNow todo _ o h = absurd o
     finds pc.ProcessorEndNow todo (Pro ∷ own) o h = newest t Pro own s.run.operands h

@@ -304,7 +304,7 @@ module _ (t : Table) (source : Source) (sound : Sound t source) (s : State) (sig
   acts (pc.InLoop d e step b) todo (a ∷ own) l o h = absurd o.0
   acts pc.InWhole todo [] l o h = run sc [] todo _ o.2 h
   acts pc.InWhole todo (a ∷ own) l o h = absurd o.0
-  acts (pc.Clean c) todo own l o h = popped sc o
+  acts (pc.Clean c) todo own l o h = popped sc o.0
     where
       popped : (sc : List Name) → Popped t g c sc (λ sc. Ok t g base sc todo own) → Typed t [] (at (pc.clean_todo c todo) s.run.operands s)
       popped [] o = absurd o
@@ -342,8 +342,8 @@ module _ (t : Table) (source : Source) (sound : Sound t source) (s : State) (sig
   acts pc.GoneNow todo own l o h = run_in sc [] own todo _ (inside.call_gone (this_object s) s.env) s.run.elements idle frames o.1 h
   acts pc.GiveUpNow todo own l o h = run_in sc [] own todo _ (inside.build_ended (this_object s) s.env) s.run.elements idle frames o.1 h
   acts pc.ClusterNow todo own l o h = run_in sc (Clu ∷ []) own todo _ s.env s.run.elements idle frames o h
-  acts pc.ProcessorNow todo (a ∷ own) l o h = run_in sc (Pro ∷ []) own todo _ s.env s.run.elements idle frames o.1 (rest_of t a own s.run.operands h)
-  acts pc.ProcessorNow todo [] l o h = absurd o
+  acts pc.ProcessorNow todo (Clu ∷ own) l o h = run_in sc (Pro ∷ []) own todo _ s.env s.run.elements idle frames o (rest_of t Clu own s.run.operands h)
+  acts pc.ProcessorNow todo _ l o h = absurd o
   acts pc.ClusterEndNow todo (Clu ∷ own) l o h = run_in sc [] (Num ∷ own) todo _ s.env s.run.elements idle frames o (tt, rest_of t Clu own s.run.operands h)
   acts pc.ClusterEndNow todo _ l o h = absurd o
   acts pc.ProcessorEndNow todo (Pro ∷ own) l o h = run_in sc [] (Num ∷ own) todo _ s.env s.run.elements idle frames o (tt, rest_of t Pro own s.run.operands h)

@@ -44,7 +44,7 @@ task_sound (suc zero) r e =
     subst (Routine_is table (sigs 1)) (some_same e) (record { body = (Kept, tt, ((((tt, (refl, tt)), tt), refl), tt), (1, refl, refl, tt)); params = refl; purpose = tt; enters = λ e. tt })
 task_sound (suc (suc zero)) r e =
     subst (Routine_is table (sigs 2)) (some_same e) (record {
-      body = ((omega arith, tt, tt), ((Num, (refl, (1, (inr (inr (inl (refl, refl))), tt), refl, omega arith, refl, refl, refl), tt, refl)), (Var 0 (Cell (Obj 1)), (refl, refl), ((tt, tt), tt), (Num, (refl, (1, (inr refl, (inr (inr (inl (refl, refl))), tt)), refl, omega arith, refl), refl, tt)))));
+      body = ((omega arith, tt, tt), ((Num, (refl, (1, (inr (inr (inl (refl, refl), tt)), tt), refl, omega arith, refl, refl, refl), tt, refl)), (Var 0 (Cell (Obj 1)), (refl, refl, refl), ((tt, tt), tt), (Num, (refl, (1, (inr refl, (inr (inr (inl (refl, refl), tt)), tt)), refl, omega arith, refl), refl, tt)))));
       params = refl;
       purpose = refl;
       enters = apart;
@@ -54,7 +54,7 @@ task_sound (suc (suc (suc zero))) r e =
 task_sound (suc (suc (suc (suc n)))) r e = absurd (cc)
 
 pub sample : SampleSound
-sample = (table, record { count = refl; routines = task_sound })
+sample = (table, record { count = refl; leads = λ c e. absurd (cc); routines = task_sound })
 
 -- class 0 is the event, class 1 has no fields: its object and the event that is built stand at one cell
 abbrev event_sigs : ℕ → Sig
@@ -87,7 +87,7 @@ event_sound (suc zero) r e =
     subst (Routine_is event_table (event_sigs 1)) (some_same e) (record { body = ((((refl, tt), tt), refl), tt); params = refl; purpose = tt; enters = apart })
 event_sound (suc (suc zero)) r e =
     subst (Routine_is event_table (event_sigs 2)) (some_same e) (record {
-      body = (((((omega arith, tt, tt), ((Num, (refl, (1, (inr (inr (inl (refl, refl))), refl), refl, omega arith), refl, tt)), (Var 0 (Obj 1), (refl, refl), ((omega arith, (Num, (refl, (0, (inr (inr (inr (inl (refl, refl)))), refl), refl, omega arith), (refl, tt), tt))), tt), (Num, (refl, (1, (inr (inr (inl (refl, refl))), refl), refl, omega arith), tt, tt))))), tt), (((((inl refl, (0, (inr (inr (inr (inr (inl (refl, refl))))), refl), refl, refl, tt, refl)), tt), tt)), tt)), (((refl, tt), tt)));
+      body = (((((omega arith, tt, tt), ((Num, (refl, (1, (inr (inr (inl (refl, refl), tt)), refl), refl, omega arith), refl, tt)), (Var 0 (Obj 1), (refl, refl, refl), ((omega arith, (Num, (refl, (0, (inr (inr (inr (inl (refl, refl)), tt)), refl), refl, omega arith), (refl, tt), tt))), tt), (Num, (refl, (1, (inr (inr (inl (refl, refl), tt)), refl), refl, omega arith), tt, tt))))), tt), (((((inl refl, (0, (inr (inr (inr (inr (inl (refl, refl))), λ i. tt)), refl), refl, refl, tt, refl)), tt), tt)), tt)), (((refl, tt), tt)));
       params = refl;
       purpose = refl;
       enters = apart;
@@ -97,4 +97,4 @@ event_sound (suc (suc (suc zero))) r e =
 event_sound (suc (suc (suc (suc n)))) r e = absurd (cc)
 
 pub event_sample : EventSound
-event_sample = (event_table, record { count = refl; routines = event_sound }, refl)
+event_sample = (event_table, record { count = refl; leads = λ c e. absurd (cc); routines = event_sound }, refl)

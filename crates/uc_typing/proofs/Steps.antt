@@ -177,8 +177,8 @@ module _ (t : Table) (source : Source) where
     event (Try line body hs) todo f o h = go sc [] _ _ (tt, f.0, (tt, f.1, (tt, o))) h
     event (RaiseAt line x a) todo f o h =
         go sc [] _ _ (raised_ok t g base sc x (pc.Eval a ∷ (pc.RaiseAtNow ∷ (pc.Within line ∷ todo))) f.0 (Obj f.1.0, f.1.1, (f.1.2, (tt, o)))) h
-    event (Enable line events cell a) todo f o h = go (Kept ∷ sc) [] _ _ (tt, f, (tt, tt, (tt, o))) h
-    event (Disable line events cell a) todo f o h = go (Kept ∷ sc) [] _ _ (tt, f, (tt, tt, (tt, o))) h
+    event (Enable line events cell a) todo f o h = go (Kept ∷ sc) [] _ _ (tt, f, ((tt, tt, (tt, o)), tt)) h
+    event (Disable line events cell a) todo f o h = go (Kept ∷ sc) [] _ _ (tt, f, ((tt, tt, (tt, o)), tt)) h
 
     -- a statement
     pub stmt : (a : Stmt) (todo : List Todo) (own : List Ty) → IsNone own → FineStmt t g sc a → Ok t g base sc todo own → Values t own s.run.operands → After t source (q.stmt_step a todo s)
@@ -207,8 +207,8 @@ module _ (t : Table) (source : Source) where
     rest a todo (x ∷ own) n f o h = absurd n
     rest Nil todo [] n f o h = go sc [] _ _ o h
     rest (Then a more) todo [] n f o h = go sc [] _ _ (tt, f.0, (tt, f.1, o)) h
-    rest (Scoped c more) todo [] n f o h = go (f.0 ∷ sc) [] _ _ (tt, f.2, (f.1, f.3, o)) h
-    rest (Built c more) todo [] n f o h = go sc [] _ _ (tt, f.0, (f.1, o)) h
+    rest (Scoped c more) todo [] n f o h = go (f.0 ∷ sc) [] _ _ (tt, f.2, ((f.1, f.3, o), tt)) h
+    rest (Built c more) todo [] n f o h = go sc [] _ _ (tt, f.0, (f.1, o, tt)) h
 
     -- outcomes
     pub outcome_ok : (x : Outcome) (todo : List Todo) (own : List Ty) (vs : List Value) → Ok t g base sc todo (Num ∷ own) → Values t own vs → After t source (pc.outcome_step x todo vs s)

@@ -3,7 +3,7 @@
 use Rattle.std.specs.Prelude.{◌≡◌, ℕ, zero, suc, ◌≤◌, List, [], ◌∷◌, length, Some, None, true, false}
 use Rattle.uc_tree.specs.Source.{CleanUp, Item, Show, ShowText, Way, ToBreak, ToContinue, ToReturn, ToEnd, Clauses, NoClauses, Otherwise, MoreClauses}
 use Rattle.uc_machine.specs.Pieces.{Todo, Sort, sort, Eval, LoadNow, ElementNow, FieldNow, NegateNow, NotNow, CharacterNow, TruthNow, OperateNow, CopyNow, CopyBelowNow, DropNow, DropBelowNow, StoreNow, KeepNow, SetNow, BindNow, Choose, Branch, Arguments, TickNow, CallNow, CallOnNow, CallUnwrittenNow, CountNow, MoreNow, TurnNow, Again, PrintNow, TextNow, GatherNow, FlushNow, ReadNow, ClearNow, Items, Values, Pieces, Targets, Variables, Do, Rest, Within, Exit, NoReturnNow, Unwind, ThrowNow, RaiseNow, SetUpNow, EnlivenNow, TakeDownNow, ForgetNow, LiveNow, EnterNow, LeaveNow, MakeNow, BindMadeNow, MadeNow, SpawnNow, ChildNow, GoneNow, GiveUpNow, ClusterNow, ProcessorNow, ClusterEndNow, ProcessorEndNow, ConditionNow, WaitNow, SignalNow, SignalBlockNow, EmptyNow, FrontNow, YieldNow, MigrateNow, Guards, AcceptNow, FailedNow, ChooseNow, RaiseAtNow, EnableNow, DisableNow, RestoreNow, PollNow, DeliverNow, ResumeNow, SuspendNow, Land, Simple, IsLoop, IsWhole, IsClean, IsFill, IsSweep, IsPart, IsGuard, IsFinish, IsFinishCoroutine}
-use Rattle.uc_typing.specs.Typing.{Ty, Num, Cell, Obj, Raw, Row, Clu, Pro, Name, Sig, Table, object_ty, Cleans, IsRead, IsPlaced, IsCluster, IsTarget, IsRoutine, InMutex, Executing, Yields, GiveAll, Fine, FineItems, FineTargets, FineDeclared, FineClean, FinePart, FineGuards, FineStmt, FineStmts, FineLoop, FineHandlers, FineClauses, IsMain}
+use Rattle.uc_typing.specs.Typing.{Ty, Num, Cell, Obj, Raw, Row, Clu, Pro, Name, Sig, Table, object_ty, Cleans, IsRead, IsPlaced, IsKept, IsTarget, IsRoutine, InMutex, Executing, Yields, GiveAll, Fine, FineItems, FineTargets, FineDeclared, FineClean, FinePart, FineGuards, FineStmt, FineStmts, FineLoop, FineHandlers, FineClauses, IsMain}
 
 abbrev pub IsNone : List Ty → Type 0
 IsNone [] = Unit {0}
@@ -13,6 +13,12 @@ IsNone (a ∷ more) = ⊥
 abbrev pub onto : List Ty → List Ty → List Ty
 onto [] more = more
 onto (a ∷ rest) more = onto rest (a ∷ more)
+
+-- numbers alone
+abbrev pub AreNumbers : List Ty → Type 0
+AreNumbers [] = Unit {0}
+AreNumbers (Num ∷ more) = AreNumbers more
+AreNumbers (a ∷ more) = ⊥
 
 -- of items those that have a value
 abbrev pub item_tys : List Item → List Ty
@@ -47,7 +53,7 @@ module _ (t : Table) (g : Sig) (sc : List Name) where
   abbrev pub Step : Todo → List Ty → (List Ty → Type 0) → Type 0
   Step (Eval e) tys next = (a : Ty) × Yields t g sc e a × next (a ∷ tys)
   Step LoadNow (Cell a ∷ more) next = IsRead t a × next (a ∷ more)
-  Step (ElementNow n s) (Num ∷ (Row m a ∷ more)) next = (m ≡ n) × IsPlaced t a × next (a ∷ more)
+  Step (ElementNow n s) (Num ∷ (Row m a ∷ more)) next = (m ≡ n) × IsPlaced t a × next (a ∷ more) × IsKept t s a
   Step (FieldNow s i) (Obj c ∷ more) next = (s ≡ t.shape c) × IsPlaced t (t.fields c i) × next (t.fields c i ∷ more)
   Step NegateNow (Num ∷ more) next = next (Num ∷ more)
   Step NotNow (Num ∷ more) next = next (Num ∷ more)
@@ -112,7 +118,7 @@ module _ (t : Table) (g : Sig) (sc : List Name) where
   Step GoneNow tys next = InMutex t g × next tys
   Step GiveUpNow tys next = InMutex t g × next tys
   Step ClusterNow tys next = next (Clu ∷ tys)
-  Step ProcessorNow (a ∷ more) next = IsCluster a × next (Pro ∷ more)
+  Step ProcessorNow (Clu ∷ more) next = next (Pro ∷ more)
   Step ClusterEndNow (Clu ∷ more) next = next (Num ∷ more)
   Step ProcessorEndNow (Pro ∷ more) next = next (Num ∷ more)
   Step (ConditionNow k n) (Num ∷ more) next = next (Num ∷ more)
@@ -150,15 +156,15 @@ module _ (t : Table) (g : Sig) where
   Popped c [] next = ⊥
   Popped c (x ∷ sc) next = Cleans t g x c × FineClean t g sc c × next sc
 
-  -- at a mark that is reached, with what is asked outwards of it
+  -- at a mark that is reached, with what is asked outwards of it: whoever comes to a clean-up hands over numbers alone
   abbrev pub Reached : List Name → Sort → List Ty → Type 0 → (List Name → List Ty → Type 0) → Type 0
   Reached sc Simple tys simple rest = simple
   Reached sc (IsLoop o e step b) tys simple rest = IsNone tys × FineLoop t g sc e step b × rest sc []
   Reached sc IsWhole tys simple rest = IsNone tys × (g.whole ≡ true) × rest sc []
-  Reached sc (IsClean c) tys simple rest = Popped c sc (λ sc. rest sc tys)
+  Reached sc (IsClean c) tys simple rest = Popped c sc (λ sc. rest sc tys) × AreNumbers tys
   Reached sc (IsFill n b d) tys simple rest = Fine t g sc b × Fine t g sc d × rest sc tys
   Reached sc (IsSweep e) tys simple rest = Fine t g sc e × rest sc tys
-  Reached sc (IsPart c) tys simple rest = FinePart t g sc c × rest sc tys
+  Reached sc (IsPart c) tys simple rest = FinePart t g sc c × rest sc tys × AreNumbers tys
   Reached sc (IsGuard hs) tys simple rest = IsNone tys × FineHandlers t g sc hs × rest sc []
   Reached sc IsFinish tys simple rest = rest sc []
   Reached sc IsFinishCoroutine tys simple rest = rest sc []

@@ -261,6 +261,8 @@ pub record Routine_is (t : Table) (g : Sig) (r : Routine) : Type 0 where
   pub purpose : IsSorted r.purpose g.whole
   pub enters : (g.inward ≡ Enters) ⊎ (g.inward ≡ Makes) → LetsGo r.body
 
+-- the first cell of what has an execution is no declared field
 pub record Sound (t : Table) (source : Source) : Type 0 where
   pub count : length source.routines ≡ t.count
+  pub leads : (c : ℕ) → t.executes c ≡ true → t.fields c 0 ≡ Num
   pub routines : (n : ℕ) (r : Routine) → slice_get source.routines n ≡ Some r → Routine_is t (t.routine n) r

@@ -97,9 +97,45 @@ abbrev pub object_ty : Bool → ℕ → Ty
 object_ty true c = Raw c
 object_ty false c = Obj c
 
--- a place of a variable: of a parameter, or of a local. Of objects `locals` tells the place alone: they are whole where they are in scope
-abbrev pub IsVariable : Sig → List Name → ℕ → Ty → Type 0
-IsVariable g sc k a = InScope sc k a ⊎ (((p : Ty) × IsParam g.params k p × (a ≡ Cell p)) ⊎ Among g.locals k a)
+-- a cell in which no reference is whole
+abbrev pub IsBareCell : Ty → Type 0
+IsBareCell Num = Unit {0}
+IsBareCell (Cell a) = ⊥
+IsBareCell (Obj c) = ⊥
+IsBareCell (Raw c) = Unit {0}
+IsBareCell (Row n a) = ⊥
+IsBareCell Clu = Unit {0}
+IsBareCell Pro = Unit {0}
+
+-- what holds a number alone
+abbrev pub IsScalarPlace : Ty → Type 0
+IsScalarPlace Num = Unit {0}
+IsScalarPlace (Cell Num) = Unit {0}
+IsScalarPlace _ = ⊥
+
+-- no reference stands there, and no object that has other fields than scalars, but for what is being built or destroyed
+abbrev pub IsBare : Table → Ty → Type 0
+IsBare t Num = Unit {0}
+IsBare t (Cell a) = IsBareCell a
+IsBare t (Obj c) = (i : ℕ) → IsScalarPlace (t.fields c i)
+IsBare t (Raw c) = Unit {0}
+IsBare t (Row n a) = IsBare t a
+IsBare t Clu = Unit {0}
+IsBare t Pro = Unit {0}
+
+-- a place of a variable: of a parameter that is a number, or of a local. Of objects `locals` tells the place alone: they are whole where
+-- they are in scope, but for the event that a handler keeps
+abbrev pub IsVariable : Table → Sig → List Name → ℕ → Ty → Type 0
+IsVariable t g sc k a = InScope sc k a ⊎ ((IsParam g.params k Num × (a ≡ Cell Num)) ⊎ (Among g.locals k a × IsBare t a))
+
+-- what an element of an array is kept as
+abbrev pub element_shape : Table → Ty → Shape
+element_shape t (Obj c) = t.shape c
+element_shape t _ = Binding
+
+-- an element is kept so, as far as something may be bound in it
+abbrev pub IsKept : Table → Shape → Ty → Type 0
+IsKept t s a = (s ≡ element_shape t a) ⊎ IsBare t a
 
 -- what a place holds is read: a number, or what it is bound to
 abbrev pub IsRead : Table → Ty → Type 0
@@ -108,12 +144,6 @@ IsRead t a = (a ≡ Num) ⊎ (t.refers ≡ true)
 -- what is read of a variable: any cell may be read as a number
 abbrev pub IsHeld : Table → Sig → List Name → ℕ → Ty → Type 0
 IsHeld t g sc k a = (IsParam g.params k a × (k ≤ LAST_ADDRESS)) ⊎ ((a ≡ Num) ⊎ (InScope sc k (Cell a) × (t.refers ≡ true)))
-
--- cluster 0 is told by its number
-abbrev pub IsCluster : Ty → Type 0
-IsCluster Num = Unit {0}
-IsCluster Clu = Unit {0}
-IsCluster _ = ⊥
 
 abbrev pub IsInside : Inward → Type 0
 IsInside Apart = ⊥
@@ -183,8 +213,8 @@ module _ (t : Table) (g : Sig) (sc : List Name) where
     -- an expression gives what is of a type
     pub Yields : Expr → Ty → Type 0
     Yields (Literal n) a = a ≡ Num
-    Yields (Variable k) a = IsVariable g sc k a × IsPlaced t a
-    Yields (Element n s e i) a = IsPlaced t a × Yields e (Row n a) × Yields i Num
+    Yields (Variable k) a = IsVariable t g sc k a × IsPlaced t a
+    Yields (Element n s e i) a = IsPlaced t a × Yields e (Row n a) × Yields i Num × IsKept t s a
     Yields (Get k) a = IsHeld t g sc k a
     Yields (Load e) a = IsRead t a × Yields e (Cell a)
     Yields (Negated e) a = (a ≡ Num) × Yields e Num
@@ -226,7 +256,7 @@ module _ (t : Table) (g : Sig) (sc : List Name) where
     -- its place is bound to the new object, which the constructor builds
     ObjectGives (MakeOn n r written p args) a = (a ≡ Num) × MadeAt t n r (Yields p) × GiveAll args (t.routine r).params × ((t.routine r).inward ≡ Makes)
     ObjectGives NewCluster a = a ≡ Clu
-    ObjectGives (NewProcessor e) a = (a ≡ Pro) × ((b : Ty) × Yields e b × IsCluster b)
+    ObjectGives (NewProcessor e) a = (a ≡ Pro) × Yields e Clu
     ObjectGives (EndCluster e) a = (a ≡ Num) × Yields e Clu
     ObjectGives (EndProcessor e) a = (a ≡ Num) × Yields e Pro
     -- a condition is known by its number in the object at hand
@@ -256,7 +286,7 @@ module _ (t : Table) (g : Sig) (sc : List Name) where
   -- a variable that is declared is no parameter
   abbrev pub FineStart : ℕ → Option Expr → Type 0
   FineStart k None = Unit {0}
-  FineStart k (Some e) = IsVariable g sc k (Cell Num) × Yields e Num
+  FineStart k (Some e) = IsVariable t g sc k (Cell Num) × Yields e Num
 
   abbrev pub FineDeclared : List Declared → Type 0
   FineDeclared [] = Unit {0}
@@ -292,16 +322,11 @@ module _ (t : Table) (g : Sig) (sc : List Name) where
   FineGuards (Otherwise b) = Unit {0}
   FineGuards (MoreClauses guard b cs) = Yields guard Num × FineGuards cs
 
--- what an element of an array is kept as
-abbrev pub element_shape : Table → Ty → Shape
-element_shape t (Obj c) = t.shape c
-element_shape t _ = Binding
-
--- an expression destroys what stands at this place
+-- an expression destroys what stands at this place: it calls what is left as a whole, or ends what is known by its number
 abbrev pub DestroysAt : Table → Ty → Expr → Expr → Type 0
-DestroysAt t (Obj c) place (OfObject (CallOn r e args)) = (place ≡ e) × ((t.routine r).this ≡ Some c)
-DestroysAt t (Obj c) place (OfObject (CallUnwritten r e)) = (place ≡ e) × ((t.routine r).this ≡ Some c)
-DestroysAt t (Cell (Obj c)) place (OfObject (EndOn r written (Load e))) = (place ≡ e) × ((t.routine r).this ≡ Some c)
+DestroysAt t (Obj c) place (OfObject (CallOn r e args)) = (place ≡ e) × ((t.routine r).this ≡ Some c) × ((t.routine r).whole ≡ true)
+DestroysAt t (Obj c) place (OfObject (CallUnwritten r e)) = (place ≡ e) × ((t.routine r).this ≡ Some c) × ((t.routine r).whole ≡ true)
+DestroysAt t (Cell (Obj c)) place (OfObject (EndOn r written (Load e))) = (place ≡ e) × ((t.routine r).this ≡ Some c) × ((t.routine r).whole ≡ true)
 DestroysAt t (Cell Clu) place (OfObject (EndCluster (Load e))) = place ≡ e
 DestroysAt t (Cell Pro) place (OfObject (EndProcessor (Load e))) = place ≡ e
 DestroysAt t _ place _ = ⊥

@@ -1,14 +1,16 @@
 -- What is there stays there, whatever is written, and where cells behind it start anew.
-use Rattle.std.proofs.Common.{◌≡◌, ℕ, zero, suc, ◌≤◌, ◌<◌, inl, inr, Bool, true, false, List, [], ◌∷◌, ◌++◌, length, take, Some, refl, sym, ap, ◌∙◌, subst, arith}
-use Rattle.std.specs.Prelude.{nat_eq, if◌then◌else◌, slice_index_or}
+use Rattle.std.proofs.Common.{◌≡◌, ℕ, zero, suc, ◌+◌, ◌*◌, ◌≤◌, ◌<◌, inl, inr, Bool, true, false, List, [], ◌∷◌, ◌++◌, length, take, Some, refl, sym, ap, ◌∙◌, subst, arith}
+use Rattle.std.specs.Prelude.{min, nat_eq, if◌then◌else◌, slice_index_or}
+use Rattle.std.proofs.Math.Nat.{min-le_left}
 use Rattle.std.proofs.lemmas.Bool.{eqb-true}
 use Rattle.uc_tree.specs.Source as src
 use Rattle.uc_tree.specs.Source.{Expr, CleanUp, Stmts}
 use Rattle.uc_machine.specs.Executions.{at_depth, set_depth, frame_changed, list_in, others, value_changed, values_cleared}
 use Rattle.uc_machine.specs.Pieces as piece
-use Rattle.uc_machine.specs.Pieces.{Link, Value, Number, Place, Running, Object, Nothing, Todo, Sort, Active, stored, nought, address}
+use Rattle.uc_machine.specs.Pieces.{Link, Value, Number, Place, Running, Object, Nothing, Todo, Sort, Active, stored, nought, address, LAST_ADDRESS}
 use Rattle.uc_typing.specs.States.{IsNumbered}
-use Rattle.uc_value_laws.specs.There.{EndsAt, OfVariable, OfElements, OfEach, HoldsObject, IsBefore, IsThere, CleanBy, AllCleans, AllThere, OfBound, IsLoose, HoldsLoose, OpensBound, NextBound, NextRest, NextDrop, NextCall, Pends, IsFew, IsCounted, MarkCounted, PieceCounted, LeftBy, AllCounted, AtRest, AtDrop, AtCall, AllLeft, AtBound, Held, AllBefore, FrameBefore, frame_at}
+use Rattle.uc_value_laws.specs.Filling.{Array, element_at, turn_todo}
+use Rattle.uc_value_laws.specs.There.{EndsAt, OfVariable, OfElements, OfEach, HoldsObject, IsBefore, IsThere, CleanBy, AllCleans, AllThere, OfBound, IsLoose, HoldsLoose, OpensBound, NextBound, NextRest, NextDrop, NextCall, EachNext, EndsArray, Pends, IsFew, IsCounted, MarkCounted, PieceCounted, LeftBy, AllCounted, AtRest, AtDrop, AtCall, AllLeft, AtBound, FilledBy, Held, AllBefore, FrameBefore, frame_at}
 use Rattle.uc_value_laws.specs.ThereStates.{CountedStack, StackAside}
 
 -- the first of two by a test
@@ -108,6 +110,50 @@ module _ (P : List Link → Type 0) (f : (p : List Link) → P p) where
   any_pends (piece.BindMadeNow c r ∷ todo) = (any_call todo, any_pends todo)
   any_pends (p ∷ todo) = any_pends todo
 
+-- of each element of an array that is being filled
+any_ends : (P : Expr → Type 0) → ((x : Expr) → P x) → (e : Expr) → EndsAt P e
+any_ends P f (src.OfObject (src.EndOn n written (src.Load e))) = f e
+any_ends P f (src.OfObject (src.EndCluster (src.Load e))) = f e
+any_ends P f (src.OfObject (src.EndProcessor (src.Load e))) = f e
+any_ends P f e = tt
+
+any_variable : (e : Expr) → OfVariable (λ p. Unit {0}) e
+any_variable (src.Variable k) = tt
+any_variable e = tt
+
+any_elements : (n : ℕ) (e : Expr) → OfElements n (λ p. Unit {0}) e
+any_elements n (src.Element m src.Binding (src.Variable k) i) = λ j l. tt
+any_elements n e = tt
+
+any_each : (c : CleanUp) → OfEach (λ p. Unit {0}) c
+any_each (src.Destroys e) = any_ends (OfVariable (λ p. Unit {0})) any_variable e
+any_each (src.DestroysAll n e) = any_ends (OfElements n (λ p. Unit {0})) (any_elements n) e
+any_each c = tt
+
+any_array : (todo : List Todo) → EachNext (λ p. Unit {0}) todo
+any_array (piece.DropNow ∷ (piece.MoreNow ∷ (piece.FillNow n b d ∷ (piece.Within line ∷ (piece.Rest (src.Scoped c rest) ∷ todo))))) = any_each c
+any_array todo = tt
+
+-- what holds of the place of each element that ends
+pub each_of : (R : List Link → Type 0) (k n : ℕ) (e : Expr) → EndsArray k e → OfEach R (src.DestroysAll n e) → (j : ℕ) → j < n → R (element_at k j)
+each_of R k n (src.OfObject (src.EndCluster (src.Load (src.Element m src.Binding (src.Variable c) i)))) q h j l = subst (λ (c : ℕ). R (element_at c j)) q (h j l)
+each_of R k n (src.OfObject (src.EndProcessor (src.Load (src.Element m src.Binding (src.Variable c) i)))) q h j l = subst (λ (c : ℕ). R (element_at c j)) q (h j l)
+each_of R k n (src.OfObject (src.EndOn r written (src.Load (src.Element m src.Binding (src.Variable c) i)))) q h j l = subst (λ (c : ℕ). R (element_at c j)) q (h j l)
+each_of R k n e q h j l = absurd q
+
+-- such an element has an address before the last one, if the array ends there or before
+element_low : (k n j : ℕ) → k + n ≤ LAST_ADDRESS → j < n → address (element_at k j) < LAST_ADDRESS
+element_low k n j near l =
+    let a : min (0 + k) LAST_ADDRESS ≤ 0 + k = min-le_left (0 + k) LAST_ADDRESS in
+    let b : min (min (0 + k) LAST_ADDRESS + j * 1) LAST_ADDRESS ≤ min (0 + k) LAST_ADDRESS + j * 1 = min-le_left (min (0 + k) LAST_ADDRESS + j * 1) LAST_ADDRESS in
+    omega (arith, a, b, near, l)
+
+pub of_each : (R : List Link → Type 0) (k n : ℕ) (e : Expr) → EndsArray k e → ((j : ℕ) → j < n → R (element_at k j)) → OfEach R (src.DestroysAll n e)
+of_each R k n (src.OfObject (src.EndCluster (src.Load (src.Element m src.Binding (src.Variable c) i)))) q h = λ j l. subst (λ (c : ℕ). R (element_at c j)) (sym q) (h j l)
+of_each R k n (src.OfObject (src.EndProcessor (src.Load (src.Element m src.Binding (src.Variable c) i)))) q h = λ j l. subst (λ (c : ℕ). R (element_at c j)) (sym q) (h j l)
+of_each R k n (src.OfObject (src.EndOn r written (src.Load (src.Element m src.Binding (src.Variable c) i)))) q h = λ j l. subst (λ (c : ℕ). R (element_at c j)) (sym q) (h j l)
+of_each R k n e q h = absurd q
+
 pends_tail : (P : List Link → Type 0) (p : Todo) (todo : List Todo) → Pends P (p ∷ todo) → Pends P todo
 pends_tail P (piece.Eval e) todo h = h.1
 pends_tail P (piece.Do a) todo h = h.1
@@ -118,7 +164,7 @@ pends_tail P p todo h = h
 
 -- cells
 
-loose_stored : (v x : Value) → IsLoose v → IsLoose x → IsLoose (stored v x)
+pub loose_stored : (v x : Value) → IsLoose v → IsLoose x → IsLoose (stored v x)
 loose_stored v (Number n) l h = l
 loose_stored v (Place o p) l h = absurd h
 loose_stored v (Running e) l h = absurd h
@@ -148,7 +194,7 @@ loose_cleared [] j (suc k) (suc n) h = h
 loose_cleared (x ∷ vs) zero (suc k) n h = h
 loose_cleared (x ∷ vs) (suc j) (suc k) n h = loose_cleared vs j k n h
 
-numbered_stored : (v x : Value) → IsNumbered x → IsNumbered (stored v x)
+pub numbered_stored : (v x : Value) → IsNumbered x → IsNumbered (stored v x)
 numbered_stored v (Number n) h = absurd h
 numbered_stored v (Place o p) h = absurd h
 numbered_stored v (Running e) h = absurd h
@@ -156,7 +202,7 @@ numbered_stored v (Object o) h = h
 numbered_stored v Nothing h = absurd h
 
 -- of any property that a binding keeps
-cell_stored : (P : Value → Type 0) (v : Value) → ((x : Value) → P x → P (stored v x)) → (vs : List Value) (j k : ℕ) → P (slice_index_or vs j nought) → P (slice_index_or (value_changed k (stored v) nought vs) j nought)
+pub cell_stored : (P : Value → Type 0) (v : Value) → ((x : Value) → P x → P (stored v x)) → (vs : List Value) (j k : ℕ) → P (slice_index_or vs j nought) → P (slice_index_or (value_changed k (stored v) nought vs) j nought)
 cell_stored P v f [] j k h = h
 cell_stored P v f (x ∷ vs) zero zero h = f x h
 cell_stored P v f (x ∷ vs) zero (suc k) h = h
@@ -186,7 +232,7 @@ set_length (x ∷ xs) d y =
     either (λ l. length l ≡ suc (length xs)) (nat_eq d (length xs)) (y ∷ xs) (x ∷ set_depth xs d y) refl (ap suc h)
 
 -- a frame is changed: what held of another one holds on, and what holds of its new values
-set_at : (P : List Value → Type 0) (fs : List (List Value)) (d f : ℕ) (y : List Value) → (f ≡ d → P y) → P (frame_at f fs) → P (frame_at f (set_depth fs d y))
+pub set_at : (P : List Value → Type 0) (fs : List (List Value)) (d f : ℕ) (y : List Value) → (f ≡ d → P y) → P (frame_at f fs) → P (frame_at f (set_depth fs d y))
 set_at P [] d f y h k = k
 set_at P (x ∷ xs) d f y h k = by (set_at P xs d f y h) (nat_eq d (length xs)) refl (nat_eq f (length xs)) refl k
   where
@@ -254,7 +300,7 @@ module _ (Few : ℕ → Bool) where
   left_by vs (piece.IsLoop order t e b) left all f h = f h.1
   left_by vs piece.IsWhole left all f h = f h.1
   left_by vs (piece.IsClean c) left all f h = f h.1
-  left_by vs (piece.IsFill m b d) left all f h = f h.1
+  left_by vs (piece.IsFill m b d) left all f h = h
   left_by vs (piece.IsSweep e) left all f h = f h.1
   left_by vs (piece.IsPart c) left all f h = f h.1
   left_by vs (piece.IsGuard hs) left all f h = f h.1
@@ -266,7 +312,7 @@ module _ (Few : ℕ → Bool) where
   mark_there vs (piece.IsLoop order t e b) left all rest f g h = (tt, g h.1)
   mark_there vs piece.IsWhole left all rest f g h = (tt, g h.1)
   mark_there vs (piece.IsClean c) left all rest f g h = (h.0.0, g h.1)
-  mark_there vs (piece.IsFill m b d) left all rest f g h = (tt, g h.1)
+  mark_there vs (piece.IsFill m b d) left all rest f g h = (tt, f h)
   mark_there vs (piece.IsSweep e) left all rest f g h = (tt, g h.1)
   mark_there vs (piece.IsPart c) left all rest f g h = (tt, g h.1)
   mark_there vs (piece.IsGuard hs) left all rest f g h = (tt, g h.1)
@@ -279,7 +325,7 @@ module _ (Few : ℕ → Bool) where
   left_piece vs (piece.Guard hs) left all f h k = (h, k)
   left_piece vs (piece.InLoop order t e b) left all f h k = (tt, k)
   left_piece vs piece.InWhole left all f h k = (tt, k)
-  left_piece vs (piece.FillNow m b d) left all f h k = (tt, k)
+  left_piece vs (piece.FillNow m b d) left all f h k = f k
   left_piece vs (piece.Sweep e) left all f h k = (tt, k)
   left_piece vs (piece.Part c) left all f h k = (tt, k)
   left_piece vs piece.Finish left all f h k = (tt, k)
@@ -324,9 +370,14 @@ module _ (Few : ℕ → Bool) where
   bound_left vs (piece.CallUnwrittenNow r ∷ todo) h = drop_left vs todo h
   bound_left vs todo h = absurd h
 
-  pub held_left : (vs : List Value) (todo : List Todo) → Held Few vs todo → AllLeft Few vs todo
-  held_left vs todo (inl h) = all_left vs todo h
-  held_left vs todo (inr h) = bound_left vs todo h.0
+  -- an array that is being filled is left as it is
+  filled_left : (vs : List Value) (m : ℕ) (todo : List Todo) → FilledBy Few vs m todo → AllLeft Few vs todo
+  filled_left vs m todo h = subst (AllLeft Few vs) (sym h.turns) (all_left vs h.array.todo h.behind)
+
+  pub held_left : (vs : List Value) (m : ℕ) (todo : List Todo) → Held Few vs m todo → AllLeft Few vs todo
+  held_left vs m todo (inl h) = all_left vs todo h
+  held_left vs m todo (inr (inl h)) = bound_left vs todo h.0
+  held_left vs m todo (inr (inr h)) = filled_left vs m todo h
 
   pub left_on : (vs : List Value) (k : Sort) (todo : List Todo) → LeftBy Few vs k (AllLeft Few vs todo) (AllCounted Few vs todo) → AllLeft Few vs todo
   left_on vs k todo h = left_by vs k (AllLeft Few vs todo) (AllCounted Few vs todo) (all_left vs todo) h
@@ -337,8 +388,8 @@ module _ (Few : ℕ → Bool) where
   left_there vs (p ∷ todo) h =
       mark_there vs (piece.sort p) (AllLeft Few vs todo) (AllCounted Few vs todo) (AllThere vs todo) (left_there vs todo) (λ x. left_there vs todo (all_left vs todo x)) h
 
-  pub held_there : (vs : List Value) (todo : List Todo) → Held Few vs todo → AllThere vs todo
-  held_there vs todo h = left_there vs todo (held_left vs todo h)
+  pub held_there : (vs : List Value) (m : ℕ) (todo : List Todo) → Held Few vs m todo → AllThere vs todo
+  held_there vs m todo h = left_there vs todo (held_left vs m todo h)
 
   -- once it is bound, the scope behind opens next
   pub drop_bound : (vs : List Value) (todo : List Todo) → AtDrop Few vs todo → AtBound Few vs todo
@@ -393,7 +444,7 @@ module _ (Few : ℕ → Bool) where
     left_changed_by (piece.IsLoop order t e x) left all more every b g i h = (tt, i h.1)
     left_changed_by piece.IsWhole left all more every b g i h = (tt, i h.1)
     left_changed_by (piece.IsClean c) left all more every b g i h = (f c b h.0, i h.1)
-    left_changed_by (piece.IsFill m x d) left all more every b g i h = (tt, i h.1)
+    left_changed_by (piece.IsFill m x d) left all more every b g i h = g h
     left_changed_by (piece.IsSweep e) left all more every b g i h = (tt, i h.1)
     left_changed_by (piece.IsPart c) left all more every b g i h = (tt, i h.1)
     left_changed_by (piece.IsGuard hs) left all more every b g i h = (h.0, i h.1)
@@ -443,9 +494,27 @@ module _ (Few : ℕ → Bool) where
     bound_changed (piece.CallUnwrittenNow r ∷ todo) b q h = drop_changed todo b.1 q h
     bound_changed todo b q h = absurd h
 
-    held_changed : (todo : List Todo) → AllCleans B todo → Pends Q todo → (NextBound (HoldsObject vs) todo → NextBound (HoldsObject ws) todo) → Held Few vs todo → Held Few ws todo
-    held_changed todo b q i (inl h) = inl (all_changed todo b q h)
-    held_changed todo b q i (inr h) = inr (bound_changed todo b q h.0, i h.1)
+    module _ (R : List Link → Type 0) (o : (p : List Link) → HoldsObject vs p → R p → HoldsObject ws p) (l : (p : List Link) → address p < LAST_ADDRESS → HoldsLoose vs p → R p → HoldsLoose ws p) where
+      filled_changed : (m : ℕ) (todo : List Todo) → AllCleans B todo → Pends Q todo → EachNext R todo → FilledBy Few vs m todo → FilledBy Few ws m todo
+      filled_changed m todo b q r h =
+          let x : Array = h.array in
+          let clean : AllCleans B (turn_todo x) = subst (AllCleans B) h.turns b in
+          let pends : Pends Q (turn_todo x) = subst (Pends Q) h.turns q in
+          let each : (j : ℕ) → j < x.count → R (element_at x.cell j) = each_of R x.cell x.count x.ended h.ends (subst (EachNext R) h.turns r) in
+          record {
+            array = x;
+            turns = h.turns;
+            ends = h.ends;
+            begins = h.begins;
+            loose = λ near j k. l (element_at x.cell j) (element_low x.cell x.count j near k) (h.loose near j k) (each j k);
+            there = λ near j k f. o (element_at x.cell j) (h.there near j k f) (each j k);
+            behind = all_changed x.todo clean.1.1.1.1.1 pends h.behind;
+          }
+
+      held_changed : (m : ℕ) (todo : List Todo) → AllCleans B todo → Pends Q todo → EachNext R todo → (NextBound (HoldsObject vs) todo → NextBound (HoldsObject ws) todo) → Held Few vs m todo → Held Few ws m todo
+      held_changed m todo b q r i (inl h) = inl (all_changed todo b q h)
+      held_changed m todo b q r i (inr (inl h)) = inr (inl (bound_changed todo b q h.0, i h.1))
+      held_changed m todo b q r i (inr (inr h)) = inr (inr (filled_changed m todo b q r h))
 
   -- a value is written to a cell: an object or a number to any, a place or an execution to none that is still to be bound
 
@@ -465,17 +534,20 @@ module _ (Few : ℕ → Bool) where
   all_stored k v l todo vs h =
       all_changed vs (value_changed k (stored v) nought vs) (λ c. Unit {0}) (λ p. Unit {0}) (marks_stored vs k v) (loose_kept vs k v l) todo (any_cleans todo) (any_pends (λ p. Unit {0}) (λ p. tt) todo) h
 
-  held_stored : (k : ℕ) (v : Value) → IsLoose v → (todo : List Todo) (vs : List Value) → Held Few vs todo → Held Few (value_changed k (stored v) nought vs) todo
-  held_stored k v l todo vs h =
-      held_changed vs (value_changed k (stored v) nought vs) (λ c. Unit {0}) (λ p. Unit {0}) (marks_stored vs k v) (loose_kept vs k v l) todo (any_cleans todo) (any_pends (λ p. Unit {0}) (λ p. tt) todo) (next_stored vs k v todo) h
+  object_stored : (R : List Link → Type 0) (vs : List Value) (k : ℕ) (v : Value) (p : List Link) → HoldsObject vs p → R p → HoldsObject (value_changed k (stored v) nought vs) p
+  object_stored R vs k v p x r = cell_stored IsNumbered v (numbered_stored v) vs (address p) k x
+
+  held_stored : (k : ℕ) (v : Value) → IsLoose v → (m : ℕ) (todo : List Todo) (vs : List Value) → Held Few vs m todo → Held Few (value_changed k (stored v) nought vs) m todo
+  held_stored k v l m todo vs h =
+      held_changed vs (value_changed k (stored v) nought vs) (λ c. Unit {0}) (λ p. Unit {0}) (marks_stored vs k v) (loose_kept vs k v l) (λ p. Unit {0}) (object_stored (λ p. Unit {0}) vs k v) (λ p g. loose_kept vs k v l p) m todo (any_cleans todo) (any_pends (λ p. Unit {0}) (λ p. tt) todo) (any_array todo) (next_stored vs k v todo) h
 
   all_aside : (k : ℕ) (v : Value) (todo : List Todo) (vs : List Value) → Pends (λ p. address p ≡ k → ⊥) todo → AllCounted Few vs todo → AllCounted Few (value_changed k (stored v) nought vs) todo
   all_aside k v todo vs q h =
       all_changed vs (value_changed k (stored v) nought vs) (λ c. Unit {0}) (λ p. address p ≡ k → ⊥) (marks_stored vs k v) (loose_aside vs k v) todo (any_cleans todo) q h
 
-  held_aside : (k : ℕ) (v : Value) (todo : List Todo) (vs : List Value) → Pends (λ p. address p ≡ k → ⊥) todo → Held Few vs todo → Held Few (value_changed k (stored v) nought vs) todo
-  held_aside k v todo vs q h =
-      held_changed vs (value_changed k (stored v) nought vs) (λ c. Unit {0}) (λ p. address p ≡ k → ⊥) (marks_stored vs k v) (loose_aside vs k v) todo (any_cleans todo) q (next_stored vs k v todo) h
+  held_aside : (k : ℕ) (v : Value) (m : ℕ) (todo : List Todo) (vs : List Value) → Pends (λ p. address p ≡ k → ⊥) todo → EachNext (λ p. address p < LAST_ADDRESS → address p ≡ k → ⊥) todo → Held Few vs m todo → Held Few (value_changed k (stored v) nought vs) m todo
+  held_aside k v m todo vs q r h =
+      held_changed vs (value_changed k (stored v) nought vs) (λ c. Unit {0}) (λ p. address p ≡ k → ⊥) (marks_stored vs k v) (loose_aside vs k v) (λ p. address p < LAST_ADDRESS → address p ≡ k → ⊥) (object_stored (λ p. address p < LAST_ADDRESS → address p ≡ k → ⊥) vs k v) (λ p g x r. loose_aside vs k v p x (r g)) m todo (any_cleans todo) q r (next_stored vs k v todo) h
 
   -- cells start anew
 
@@ -486,9 +558,9 @@ module _ (Few : ℕ → Bool) where
   all_cleared k n todo vs b h =
       all_changed vs (values_cleared k n nought vs) (OfEach (IsBefore k)) (λ p. Unit {0}) (marks_cleared vs k n) (λ p x u. loose_cleared vs (address p) k n x) todo b (any_pends (λ p. Unit {0}) (λ p. tt) todo) h
 
-  held_cleared : (k n : ℕ) (todo : List Todo) (vs : List Value) → AllBefore k todo → NextBound (IsBefore k) todo → Held Few vs todo → Held Few (values_cleared k n nought vs) todo
-  held_cleared k n todo vs b l h =
-      held_changed vs (values_cleared k n nought vs) (OfEach (IsBefore k)) (λ p. Unit {0}) (marks_cleared vs k n) (λ p x u. loose_cleared vs (address p) k n x) todo b (any_pends (λ p. Unit {0}) (λ p. tt) todo) (λ x. next (HoldsObject vs) (IsBefore k) (HoldsObject (values_cleared k n nought vs)) (λ p x l. cell_taken IsNumbered (λ n. n) vs _ (address p) k l x) todo x l) h
+  held_cleared : (k n m : ℕ) (todo : List Todo) (vs : List Value) → AllBefore k todo → NextBound (IsBefore k) todo → EachNext (IsBefore k) todo → Held Few vs m todo → Held Few (values_cleared k n nought vs) m todo
+  held_cleared k n m todo vs b l r h =
+      held_changed vs (values_cleared k n nought vs) (OfEach (IsBefore k)) (λ p. Unit {0}) (marks_cleared vs k n) (λ p x u. loose_cleared vs (address p) k n x) (IsBefore k) (λ p x l. cell_taken IsNumbered (λ n. n) vs _ (address p) k l x) (λ p g x u. loose_cleared vs (address p) k n x) m todo b (any_pends (λ p. Unit {0}) (λ p. tt) todo) r (λ x. next (HoldsObject vs) (IsBefore k) (HoldsObject (values_cleared k n nought vs)) (λ p x l. cell_taken IsNumbered (λ n. n) vs _ (address p) k l x) todo x l) h
 
   -- in a frame of an execution, of which one is written
   pub list_stored : (d k : ℕ) (v : Value) → IsLoose v → (fs : List (List Value)) (f : ℕ) (todo : List Todo) → AllCounted Few (frame_at f fs) todo → AllCounted Few (frame_at f (frame_changed d (value_changed k (stored v) nought) fs)) todo
@@ -509,29 +581,29 @@ module _ (Few : ℕ → Bool) where
   pub stack_stored : (d k : ℕ) (v : Value) → IsLoose v → (fs : List (List Value)) (cs : List Active) → CountedStack Few fs cs → CountedStack Few (frame_changed d (value_changed k (stored v) nought) fs) cs
   stack_stored d k v l fs [] h = tt
   stack_stored d k v l fs (a ∷ older) h =
-      let there : Held Few (frame_at a.frame fs) a.control = h.1 in
-      (h.0, set_at (λ vs. Held Few vs a.control) fs d a.frame _ (λ e. held_stored k v l a.control (frame_at d fs) (subst (λ f. Held Few (frame_at f fs) a.control) e there)) there, stack_stored d k v l fs older h.2)
+      let there : Held Few (frame_at a.frame fs) a.elements a.control = h.1 in
+      (h.0, set_at (λ vs. Held Few vs a.elements a.control) fs d a.frame _ (λ e. held_stored k v l a.elements a.control (frame_at d fs) (subst (λ f. Held Few (frame_at f fs) a.elements a.control) e there)) there, stack_stored d k v l fs older h.2)
 
   pub stack_aside : (d k : ℕ) (v : Value) (fs : List (List Value)) (cs : List Active) → StackAside k d cs → CountedStack Few fs cs → CountedStack Few (frame_changed d (value_changed k (stored v) nought) fs) cs
   stack_aside d k v fs [] q h = tt
   stack_aside d k v fs (a ∷ older) q h =
-      let there : Held Few (frame_at a.frame fs) a.control = h.1 in
-      (h.0, set_at (λ vs. Held Few vs a.control) fs d a.frame _ (λ e. held_aside k v a.control (frame_at d fs) (q.0 e) (subst (λ f. Held Few (frame_at f fs) a.control) e there)) there, stack_aside d k v fs older q.1 h.2)
+      let there : Held Few (frame_at a.frame fs) a.elements a.control = h.1 in
+      (h.0, set_at (λ vs. Held Few vs a.elements a.control) fs d a.frame _ (λ e. held_aside k v a.elements a.control (frame_at d fs) (q.0 e).0 (q.0 e).1 (subst (λ f. Held Few (frame_at f fs) a.elements a.control) e there)) there, stack_aside d k v fs older q.1 h.2)
 
   pub stack_cleared : (d k n : ℕ) (fs : List (List Value)) (cs : List Active) → FrameBefore k d cs → CountedStack Few fs cs → CountedStack Few (frame_changed d (values_cleared k n nought) fs) cs
   stack_cleared d k n fs [] b h = tt
   stack_cleared d k n fs (a ∷ older) b h =
-      let there : Held Few (frame_at a.frame fs) a.control = h.1 in
-      (h.0, set_at (λ vs. Held Few vs a.control) fs d a.frame _ (λ e. held_cleared k n a.control (frame_at d fs) (b.0 e).0 (b.0 e).1 (subst (λ f. Held Few (frame_at f fs) a.control) e there)) there, stack_cleared d k n fs older b.1 h.2)
+      let there : Held Few (frame_at a.frame fs) a.elements a.control = h.1 in
+      (h.0, set_at (λ vs. Held Few vs a.elements a.control) fs d a.frame _ (λ e. held_cleared k n a.elements a.control (frame_at d fs) (b.0 e).0 (b.0 e).1 (b.0 e).2 (subst (λ f. Held Few (frame_at f fs) a.elements a.control) e there)) there, stack_cleared d k n fs older b.1 h.2)
 
   pub stack_newer : (x : List Value) (fs : List (List Value)) (cs : List Active) → length cs ≤ length fs → CountedStack Few fs cs → CountedStack Few (x ∷ fs) cs
   stack_newer x fs [] l h = tt
   stack_newer x fs (a ∷ older) l h =
       let le = h.0 in
-      (h.0, newer_at (λ vs. Held Few vs a.control) x fs a.frame (omega (arith, le, l)) h.1, stack_newer x fs older (omega (arith, l)) h.2)
+      (h.0, newer_at (λ vs. Held Few vs a.elements a.control) x fs a.frame (omega (arith, le, l)) h.1, stack_newer x fs older (omega (arith, l)) h.2)
 
   pub stack_older : (fs : List (List Value)) (cs : List Active) → length cs ≤ length (others fs) → CountedStack Few fs cs → CountedStack Few (others fs) cs
   stack_older fs [] l h = tt
   stack_older fs (a ∷ older) l h =
       let le = h.0 in
-      (h.0, older_at (λ vs. Held Few vs a.control) fs a.frame (omega (arith, le, l)) h.1, stack_older fs older (omega (arith, l)) h.2)
+      (h.0, older_at (λ vs. Held Few vs a.elements a.control) fs a.frame (omega (arith, le, l)) h.1, stack_older fs older (omega (arith, l)) h.2)

@@ -2,6 +2,7 @@ pub mod Cells
 pub mod Keeping
 pub mod Steps
 pub mod NewClusters
+pub mod Filling
 pub mod Declaring
 pub mod Walk
 pub mod Readings

@@ -90,7 +90,7 @@ module _ (t : Table) (g : Sig) (fs : List (List Value)) (d k : ℕ) (a : Ty) (R 
   in_base (Some v) base [] h e i = absurd e
   in_base (Some v) base (c ∷ older) h e i =
       one_of (nat_eq (length older) v.level) _ (IsBase t g (Some v) base d older) R e
-      (λ x. in_scope t g x.0 (frame_at d fs) k a R f (within v.rest c.control) base x.2 (all_within (frame_at d fs) v.rest c.control (subst (λ n. AllThere (frame_at n fs) c.control) x.1 (held_there Any (frame_at c.frame fs) c.control h.1))) (λ j. in_base c.handles x.0 older h.2 x.3 j) i)
+      (λ x. in_scope t g x.0 (frame_at d fs) k a R f (within v.rest c.control) base x.2 (all_within (frame_at d fs) v.rest c.control (subst (λ n. AllThere (frame_at n fs) c.control) x.1 (held_there Any (frame_at c.frame fs) c.elements c.control h.1))) (λ j. in_base c.handles x.0 older h.2 x.3 j) i)
       (λ y. in_base (Some v) base older h.2 y i)
 
 -- what a place of the running frame holds
@@ -101,7 +101,7 @@ running P s p h =
 module _ (t : Table) (given : List Ty) (s : State) (x : Typed t given s) (h : ThereState s) where
   scope : (k : ℕ) (a : Ty) (R : Type 0) → ((sc : List Name) (c : CleanUp) → Cleans t x.run.sig (typing.Var k a) c → FineClean t x.run.sig sc c → IsThere (here s) c → R) → InScope x.run.scope k a → R
   scope k a R f i =
-      in_scope t x.run.sig x.run.base (here s) k a R f s.run.control x.run.scope (control.left t x.run.sig x.run.base x.run.scope s.run.control (onto given x.run.own) x.run.ok) (held_there Any (here s) s.run.control h.stack.1) (λ j. in_base t x.run.sig s.env.frames s.run.frame k a R f s.run.handles x.run.base s.callers h.stack.2 x.run.ends j) i
+      in_scope t x.run.sig x.run.base (here s) k a R f s.run.control x.run.scope (control.left t x.run.sig x.run.base x.run.scope s.run.control (onto given x.run.own) x.run.ok) (held_there Any (here s) s.run.elements s.run.control h.stack.1) (λ j. in_base t x.run.sig s.env.frames s.run.frame k a R f s.run.handles x.run.base s.callers h.stack.2 x.run.ends j) i
 
   variable : (k : ℕ) (a : Ty) → InScope x.run.scope k (Cell a) → Is t a (loaded (variable_at k s) s.env)
   variable k a i =

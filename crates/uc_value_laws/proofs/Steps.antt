@@ -93,10 +93,10 @@ module _ (Few : ℕ → Bool) where
   seek_to fs n (Some v) e [] l h = tt
   seek_to fs n None e (a ∷ cs) l h =
       let d = h.0 in
-      found_or n (raising.hit_in e a.control) a cs (raising.seek a.handles e cs) (omega (arith, d, l)) (hit_in (frame_at a.frame fs) e a.control (held_left Few (frame_at a.frame fs) a.control h.1)) (seek_to fs n a.handles e cs (omega (arith, l)) h.2)
+      found_or n (raising.hit_in e a.control) a cs (raising.seek a.handles e cs) (omega (arith, d, l)) (hit_in (frame_at a.frame fs) e a.control (held_left Few (frame_at a.frame fs) a.elements a.control h.1)) (seek_to fs n a.handles e cs (omega (arith, l)) h.2)
   seek_to fs n (Some v) e (a ∷ cs) l h =
       let d = h.0 in
-      either (FoundTo n) (nat_eq (length cs) v.level) (raising.found_or (raising.hit_in e (raising.within v.rest a.control)) a cs (raising.seek a.handles e cs)) (raising.seek (Some v) e cs) (found_or n (raising.hit_in e (raising.within v.rest a.control)) a cs (raising.seek a.handles e cs) (omega (arith, d, l)) (hit_in (frame_at a.frame fs) e (raising.within v.rest a.control) (all_within (frame_at a.frame fs) v.rest a.control (held_left Few (frame_at a.frame fs) a.control h.1))) (seek_to fs n a.handles e cs (omega (arith, l)) h.2)) (seek_to fs n (Some v) e cs (omega (arith, l)) h.2)
+      either (FoundTo n) (nat_eq (length cs) v.level) (raising.found_or (raising.hit_in e (raising.within v.rest a.control)) a cs (raising.seek a.handles e cs)) (raising.seek (Some v) e cs) (found_or n (raising.hit_in e (raising.within v.rest a.control)) a cs (raising.seek a.handles e cs) (omega (arith, d, l)) (hit_in (frame_at a.frame fs) e (raising.within v.rest a.control) (all_within (frame_at a.frame fs) v.rest a.control (held_left Few (frame_at a.frame fs) a.elements a.control h.1))) (seek_to fs n a.handles e cs (omega (arith, l)) h.2)) (seek_to fs n (Some v) e cs (omega (arith, l)) h.2)
 
   -- to-do lists, in a frame of these values
 
@@ -145,7 +145,7 @@ module _ (Few : ℕ → Bool) where
     left_behind w (piece.IsLoop order t e b) todo h = loop_left w order t e b todo h.1
     left_behind w piece.IsWhole todo h = h.1
     left_behind w (piece.IsClean x) todo h = (h.0, all_left Few vs todo h.1)
-    left_behind w (piece.IsFill m b d) todo h = all_left Few vs todo h.1
+    left_behind w (piece.IsFill m b d) todo h = h
     left_behind w (piece.IsSweep e) todo h = all_left Few vs todo h.1
     left_behind w (piece.IsPart x) todo h = all_left Few vs todo h.1
     left_behind w (piece.IsGuard hs) todo h = all_left Few vs todo h.1
@@ -210,7 +210,7 @@ module _ (Few : ℕ → Bool) where
     pub go : (todo : List Todo) (vs : List Value) → There todo → CountedState Few (at todo vs s)
     go todo vs h = record { frames = st.frames; stack = (st.stack.0, inl h, st.stack.2); env = st.env }
 
-    pub go_held : (todo : List Todo) (vs : List Value) → Held Few (here s) todo → CountedState Few (at todo vs s)
+    pub go_held : (todo : List Todo) (vs : List Value) → Held Few (here s) s.run.elements todo → CountedState Few (at todo vs s)
     go_held todo vs h = record { frames = st.frames; stack = (st.stack.0, h, st.stack.2); env = st.env }
 
     -- and with another rest of the task
@@ -224,7 +224,7 @@ module _ (Few : ℕ → Bool) where
     -- what opens next is bound
     pub bound_in : (todo : List Todo) (vs : List Value) (e : Env) → KeepsAt Few s.run.frame todo s.callers s.env e → AtBound Few (frame_at s.run.frame e.frames) todo → NextBound (HoldsObject (frame_at s.run.frame e.frames)) todo → CountedState Few (at todo vs (in_env e s))
     bound_in todo vs e k h b =
-        record { frames = k.frames ∙ st.frames; stack = (st.stack.0, inr (h, b), k.stack st.stack.2); env = k.env }
+        record { frames = k.frames ∙ st.frames; stack = (st.stack.0, inr (inl (h, b)), k.stack st.stack.2); env = k.env }
 
     -- nothing that is told of changes
     pub like : {e : Env} → e.frames ≡ s.env.frames → e.hand ≡ s.env.hand → e.house ≡ s.env.house → Keeps Few s.env e
@@ -248,7 +248,7 @@ module _ (Few : ℕ → Bool) where
     past v given [] l h = st
     past v given (a ∷ cs) l h =
         let k = less a cs l h in
-        record { frames = others_length s.env.frames (length cs) l; stack = (k.0, inl (held_left Few _ _ k.1), k.2); env = kept.like Few st.env refl refl }
+        record { frames = others_length s.env.frames (length cs) l; stack = (k.0, inl (held_left Few _ _ _ k.1), k.2); env = kept.like Few st.env refl refl }
 
     end_by : (v : Option Visited) (given : Value) → CountedStep Few (raising.end_by v given s)
     end_by None given = returned given s.callers st.frames st.stack.2
@@ -264,7 +264,7 @@ module _ (Few : ℕ → Bool) where
     pass_on None c cs l h = st
     pass_on (Some why) c cs l h =
         let k = less c cs l h in
-        record { frames = others_length s.env.frames (length cs) l; stack = (k.0, inl (held_left Few _ _ k.1), k.2); env = kept.like Few st.env refl refl }
+        record { frames = others_length s.env.frames (length cs) l; stack = (k.0, inl (held_left Few _ _ _ k.1), k.2); env = kept.like Few st.env refl refl }
 
     leave_for : (b : Bool) (c : Active) (cs : List Active) → length s.env.frames ≡ suc (length (c ∷ cs)) → CountedStack Few s.env.frames (c ∷ cs) → CountedStep Few (raising.leave_for b c cs s)
     leave_for true c cs l h = st
@@ -415,7 +415,7 @@ module _ (Few : ℕ → Bool) where
 
     -- calls
 
-    begun : (r : Routine) (this : Value) (counts : Bool) (todo : List Todo) (vs : List Value) → Begins r.body → Held Few (here s) todo → CountedStep Few (quiet.begun_step r this counts todo vs s)
+    begun : (r : Routine) (this : Value) (counts : Bool) (todo : List Todo) (vs : List Value) → Begins r.body → Held Few (here s) s.run.elements todo → CountedStep Few (quiet.begun_step r this counts todo vs s)
     begun r this counts todo vs b h =
         let n = st.frames in
         record {
@@ -428,11 +428,11 @@ module _ (Few : ℕ → Bool) where
     call None todo b h = go _ _ h
     call (Some r) todo b h = either (CountedStep Few) (nat_lt s.env.links.calls CALLS) _ _ (begun r _ true todo _ b (inl h)) (go todo _ h)
 
-    pub call_on : (r : Option Routine) (todo : List Todo) → RoutineBegins r → Held Few (here s) todo → CountedStep Few (quiet.call_on_step r todo s)
+    pub call_on : (r : Option Routine) (todo : List Todo) → RoutineBegins r → Held Few (here s) s.run.elements todo → CountedStep Few (quiet.call_on_step r todo s)
     call_on None todo b h = go_held _ _ h
     call_on (Some r) todo b h = either (CountedStep Few) (nat_lt s.env.links.calls CALLS) _ _ (begun r _ true todo _ b h) (go_held todo _ h)
 
-    pub call_unwritten : (r : Option Routine) (todo : List Todo) → RoutineBegins r → Held Few (here s) todo → CountedStep Few (quiet.call_unwritten_step r todo s)
+    pub call_unwritten : (r : Option Routine) (todo : List Todo) → RoutineBegins r → Held Few (here s) s.run.elements todo → CountedStep Few (quiet.call_unwritten_step r todo s)
     call_unwritten None todo b h = go_held _ _ h
     call_unwritten (Some r) todo b h = begun r _ false todo _ b h
 
@@ -496,12 +496,12 @@ module _ (Few : ℕ → Bool) where
 
     -- for a variable whose scope opens behind the call
     pub makes : (c n : ℕ) (r : Option Routine) (todo : List Todo) → AtCall Few (here s) todo → NextCall (HoldsLoose (here s)) todo → GoodStepBy Few (monitors.make_step c n r todo s)
-    makes c n None todo h l = inr (inr (tt, st.env))
+    makes c n None todo h l = inr (inr (inr (tt, st.env)))
     makes c n (Some r) todo h l =
-        either (GoodStepBy Few) (monitors.may_call r.written s) _ _ (inl (go_in _ _ _ (like refl refl refl) (inr (h, l)))) (inr (inr (tt, st.env)))
+        either (GoodStepBy Few) (monitors.may_call r.written s) _ _ (inl (go_in _ _ _ (like refl refl refl) (inr (h, l)))) (inr (inr (inr (tt, st.env))))
 
     pub made : (r : Option Routine) (todo : List Todo) → BoundBehind (λ P. NextCall P todo) (here s) (monitors.bind_step r todo s) → IsLoose (top s.run.operands) → AtCall Few (here s) todo → NextCall (HoldsLoose (here s)) todo → GoodStepBy Few (monitors.bind_step r todo s)
-    made None todo f o h l = inr (inr (tt, st.env))
+    made None todo f o h l = inr (inr (inr (tt, st.env)))
     made (Some r) todo f o h l =
         let e : Env = written (top (drop r.params (below s.run.operands))) (top s.run.operands) s.env in
         let k : Keeps Few s.env e = kept.written_keeps Few (top (drop r.params (below s.run.operands))) (top s.run.operands) o s.env st.env in
@@ -623,7 +623,7 @@ module _ (Few : ℕ → Bool) where
     unwind_past (piece.IsLoop order t e b) todo h = go _ _ (all_left Few (here s) todo h.1)
     unwind_past piece.IsWhole todo h = whole _ todo h.1
     unwind_past (piece.IsClean x) todo h = scope x _ todo h.1
-    unwind_past (piece.IsFill m b d) todo h = go _ _ (tt, all_left Few (here s) todo h.1)
+    unwind_past (piece.IsFill m b d) todo h = go _ _ (tt, h)
     unwind_past (piece.IsSweep e) todo h = go _ _ (tt, all_left Few (here s) todo h.1)
     unwind_past (piece.IsPart x) todo h = go _ _ (cleans (here s) x _ (all_left Few (here s) todo h.1))
     unwind_past (piece.IsGuard hs) todo h = guarded hs s.run.raised todo h.0 h.1

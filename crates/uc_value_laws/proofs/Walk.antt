@@ -2,7 +2,7 @@
 use Rattle.std.proofs.Common.{◌≡◌, ℕ, List, [], ◌∷◌, ◌++◌, Option, Some, None, inl, inr, refl, sym, ap, ◌∙◌, subst, arith, Bool, true}
 use Rattle.std.specs.Prelude.{nat_lt, slice_get, drop}
 use Rattle.uc_tree.specs.Source as src
-use Rattle.uc_tree.specs.Source.{Source, CleanUp, Stmt, Stmts, Routine, routine_or_none, routine_of}
+use Rattle.uc_tree.specs.Source.{Source, Expr, CleanUp, Stmt, Stmts, Routine, routine_or_none, routine_of}
 use Rattle.uc_entry.specs.declared.request.Answer.{Answer}
 use Rattle.uc_entry.specs.declared.request.Answer.TheVariants as answer
 use Rattle.uc_machine.specs.Executions.{take_operands}
@@ -13,9 +13,11 @@ use Rattle.uc_machine.specs.Quiet.{first_state, zeros}
 use Rattle.uc_machine.specs.Pieces as piece
 use Rattle.uc_machine.specs.Pieces.{Value, Nothing, Todo, State, Env, Members, Step, Goes, Ticks, Asks, at, top, below, number}
 use Rattle.uc_machine.specs.Answering.{answered, entered, new_members, with_operand}
-use Rattle.uc_scope_laws.specs.Clusters.{Follows, IsUnbound, IsUnscoped, Joined}
-use Rattle.uc_value_laws.specs.There.{HoldsObject, NextBound, IsNoCluster, AllCounted, AtBound, Held}
+use Rattle.uc_scope_laws.specs.Clusters.{PrecedesFill, OpensArray, Follows, EndsNone, IsUnbound, IsUnscoped, Joined}
+use Rattle.uc_value_laws.specs.There.{HoldsObject, NextBound, MayOpen, AllCounted, AtBound, Held}
 use Rattle.uc_value_laws.specs.ThereStates.{CountedParked, CountedHand, CountedMembers, CountedState, CountedStep, RoutineBegins, SourceBegins, FairAt, Fair}
+use Rattle.uc_value_laws.specs.Filling as fill
+use Rattle.uc_value_laws.specs.FillingStates.{Finding, FillingBy, FillWaits}
 use Rattle.uc_value_laws.specs.NewClusters as way
 use Rattle.uc_value_laws.specs.NewClusters.{Stage, stage_todo, OpeningBy, WaitingBy, GoodBy, GoodStepBy}
 use Rattle.uc_value_laws.specs.ValueLaws.{LawSteps}
@@ -24,7 +26,8 @@ use Rattle.uc_value_laws.proofs.Keeping as kept
 use Rattle.uc_value_laws.proofs.Steps as steps
 use Rattle.uc_value_laws.proofs.Steps.{here}
 use Rattle.uc_value_laws.proofs.NewClusters.{lift, opening, no_bind, no_processor, no_object, far, opened, uncounted}
-use Rattle.uc_value_laws.proofs.Declaring.{begun, declaring}
+use Rattle.uc_value_laws.proofs.Declaring.{begun_alone, begun_all, declaring}
+use Rattle.uc_value_laws.proofs.Filling.{no_array, filling, counting}
 
 -- a piece that tells of no statements that are left of a block, and that binds nothing
 abbrev IsOther : Todo → Type 0
@@ -34,9 +37,17 @@ IsOther (piece.MakeNow c r) = ⊥
 IsOther (piece.BindMadeNow c r) = ⊥
 IsOther p = Unit {0}
 
-no_cluster : (c : CleanUp) → IsUnscoped c → IsNoCluster c
+no_cluster : (c : CleanUp) → IsUnscoped c → MayOpen c
 no_cluster (src.Destroys (src.OfObject (src.EndCluster (src.Load (src.Variable k))))) h = h
+no_cluster (src.DestroysAll n e) h = h
 no_cluster c h = tt
+
+-- no scope of an array opens behind a statement that fills none
+not_opened : (a : Stmt) (n : ℕ) (e : Expr) → OpensArray a n e → IsUnbound a → EndsNone e
+not_opened a n (src.OfObject (src.EndCluster (src.Load (src.Element m src.Binding (src.Variable k) i)))) h u = no_array k n a h u
+not_opened a n (src.OfObject (src.EndProcessor (src.Load (src.Element m src.Binding (src.Variable k) i)))) h u = no_array k n a h u
+not_opened a n (src.OfObject (src.EndOn r written (src.Load (src.Element m src.Binding (src.Variable k) i)))) h u = no_array k n a h u
+not_opened a n e h u = tt
 
 none_new : (source : Source) (g : Stage) (k l : ℕ) (ss : Stmts) (todo : List Todo) → new_members source (stage_todo g k l ss todo) ≡ None
 none_new source way.Does k l ss todo = refl
@@ -48,6 +59,16 @@ none_new source way.Told k l ss todo = refl
 none_new source way.Bound k l ss todo = refl
 none_new source way.Leaves k l ss todo = refl
 none_new source way.Opens k l ss todo = refl
+
+-- what the operands are stays so while an object comes into the hand
+find_entered : (g : fill.Stage) (x : fill.Array) (m : Members) (o : ℕ) (s : State) → Finding g x (with_operand (piece.Object o) s) → Finding g x (with_operand (piece.Object o) (entered (Some m) o s))
+find_entered fill.Indexes x m o s h = h
+find_entered fill.Elements x m o s h = h
+find_entered fill.Found x m o s h = h
+find_entered fill.Nears x m o s h = h
+find_entered fill.Asks x m o s h = h
+find_entered fill.Told x m o s h = h
+find_entered g x m o s h = tt
 
 module _ (Few : ℕ → Bool) where
   module _ (source : Source) (known : SourceBegins source) where
@@ -156,15 +177,24 @@ module _ (Few : ℕ → Bool) where
 
       -- the statements that are left of a block
 
+      fills : (a : Stmt) (l n : ℕ) (x d : Expr) (rest : Stmts) (todo : List Todo) → PrecedesFill a n x → AllCounted Few (here s) todo → GoodStepBy Few (quiet.rest_step (src.Then a (src.Then (src.Fill l n x d) rest)) todo s)
+      fills a l n (src.OfObject (src.Bind (src.Element m src.Binding (src.Variable k) i) e)) d rest todo f h =
+          begun_all Few s st k n (src.Fill l n (src.OfObject (src.Bind (src.Element m src.Binding (src.Variable k) i) e)) d) (refl, f.1) a rest todo f.0 h
+      fills a l n (src.OfObject (src.MakeOn c r w (src.Element m src.Binding (src.Variable k) i) args)) d rest todo f h =
+          begun_all Few s st k n (src.Fill l n (src.OfObject (src.MakeOn c r w (src.Element m src.Binding (src.Variable k) i) args)) d) (refl, f.1) a rest todo f.0 h
+      fills a l n x d rest todo f h = inl (steps.rest_with Few s st a (src.Then (src.Fill l n x d) rest) todo tt h)
+
       thens : (a : Stmt) (ss : Stmts) (todo : List Todo) → IsUnbound a → Follows a ss → Joined ss → AllCounted Few (here s) todo → GoodStepBy Few (quiet.rest_step (src.Then a ss) todo s)
       thens a src.Nil todo b f j h = inl (steps.rest_with Few s st a src.Nil todo tt h)
-      thens a (src.Then (src.Evaluate l (src.OfObject (src.Bind (src.Variable k) (src.OfObject src.NewCluster)))) rest) todo b f j h = begun Few s st k l (src.OfObject (src.Bind (src.Variable k) (src.OfObject src.NewCluster))) refl a rest todo f h
-      thens a (src.Then (src.Evaluate l (src.OfObject (src.Bind (src.Variable k) (src.OfObject (src.NewProcessor e))))) rest) todo b f j h = begun Few s st k l (src.OfObject (src.Bind (src.Variable k) (src.OfObject (src.NewProcessor e)))) refl a rest todo f h
-      thens a (src.Then (src.Evaluate l (src.OfObject (src.MakeOn c r written (src.Variable k) args))) rest) todo b f j h = begun Few s st k l (src.OfObject (src.MakeOn c r written (src.Variable k) args)) refl a rest todo f h
+      thens a (src.Then (src.Evaluate l (src.OfObject (src.Bind (src.Variable k) (src.OfObject src.NewCluster)))) rest) todo b f j h = begun_alone Few s st k (src.Evaluate l (src.OfObject (src.Bind (src.Variable k) (src.OfObject src.NewCluster)))) (refl, refl) a rest todo f h
+      thens a (src.Then (src.Evaluate l (src.OfObject (src.Bind (src.Variable k) (src.OfObject (src.NewProcessor e))))) rest) todo b f j h = begun_alone Few s st k (src.Evaluate l (src.OfObject (src.Bind (src.Variable k) (src.OfObject (src.NewProcessor e))))) (refl, refl) a rest todo f h
+      thens a (src.Then (src.Evaluate l (src.OfObject (src.MakeOn c r written (src.Variable k) args))) rest) todo b f j h = begun_alone Few s st k (src.Evaluate l (src.OfObject (src.MakeOn c r written (src.Variable k) args))) (refl, refl) a rest todo f h
+      thens a (src.Then (src.Fill l n x d) rest) todo b f j h = fills a l n x d rest todo f h
       thens a (src.Then c rest) todo b f j h = inl (steps.rest_with Few s st a (src.Then c rest) todo tt h)
       thens a (src.Scoped (src.Destroys (src.OfObject (src.EndCluster (src.Load (src.Variable k))))) rest) todo b f j h = absurd (no_bind k a f b)
       thens a (src.Scoped (src.Destroys (src.OfObject (src.EndProcessor (src.Load (src.Variable k))))) rest) todo b f j h = absurd (no_processor k a f b)
       thens a (src.Scoped (src.Destroys (src.OfObject (src.EndOn r written (src.Load (src.Variable k))))) rest) todo b f j h = absurd (no_object k a f b)
+      thens a (src.Scoped (src.DestroysAll n e) rest) todo b f j h = inl (steps.rest_with Few s st a (src.Scoped (src.DestroysAll n e) rest) todo (not_opened a n e f b) h)
       thens a (src.Scoped c rest) todo b f j h = inl (steps.rest_with Few s st a (src.Scoped c rest) todo tt h)
       thens a (src.Built c rest) todo b f j h = inl (steps.rest_with Few s st a (src.Built c rest) todo tt h)
 
@@ -183,12 +213,12 @@ module _ (Few : ℕ → Bool) where
 
       bounds : (l : List Todo) → FairAt source l s → AtBound Few (here s) l → NextBound (HoldsObject (here s)) l → GoodStepBy Few (quiet.act_todo source l s)
       bounds (piece.Rest ss ∷ todo) f h b = scopes ss todo f h b
-      bounds (piece.Within line ∷ (piece.Rest ss ∷ todo)) f h b = inl (steps.go_held Few s st _ _ (inr (h, b)))
-      bounds (piece.DropNow ∷ (piece.Within line ∷ (piece.Rest ss ∷ todo))) f h b = inl (steps.go_held Few s st _ _ (inr (h, b)))
+      bounds (piece.Within line ∷ (piece.Rest ss ∷ todo)) f h b = inl (steps.go_held Few s st _ _ (inr (inl (h, b))))
+      bounds (piece.DropNow ∷ (piece.Within line ∷ (piece.Rest ss ∷ todo))) f h b = inl (steps.go_held Few s st _ _ (inr (inl (h, b))))
       bounds (piece.CallOnNow r ∷ (piece.DropNow ∷ (piece.Within line ∷ (piece.Rest ss ∷ todo)))) f h b =
-          lift Few _ (steps.call_on Few s st (slice_get source.routines r) (piece.DropNow ∷ (piece.Within line ∷ (piece.Rest ss ∷ todo))) (known r) (inr (h, b)))
+          lift Few _ (steps.call_on Few s st (slice_get source.routines r) (piece.DropNow ∷ (piece.Within line ∷ (piece.Rest ss ∷ todo))) (known r) (inr (inl (h, b))))
       bounds (piece.CallUnwrittenNow r ∷ (piece.DropNow ∷ (piece.Within line ∷ (piece.Rest ss ∷ todo)))) f h b =
-          lift Few _ (steps.call_unwritten Few s st (slice_get source.routines r) (piece.DropNow ∷ (piece.Within line ∷ (piece.Rest ss ∷ todo))) (known r) (inr (h, b)))
+          lift Few _ (steps.call_unwritten Few s st (slice_get source.routines r) (piece.DropNow ∷ (piece.Within line ∷ (piece.Rest ss ∷ todo))) (known r) (inr (inl (h, b))))
       bounds l f h b = absurd h
 
       counts : (l : List Todo) → s.run.control ≡ l → FairAt source l s → AllCounted Few (here s) l → GoodStepBy Few (quiet.act_todo source l s)
@@ -202,14 +232,16 @@ module _ (Few : ℕ → Bool) where
       there : Fair source s → GoodStepBy Few (quiet.quiet source s)
       there f = by s.run.control refl st.stack.1
         where
-          by : (l : List Todo) → s.run.control ≡ l → Held Few (here s) s.run.control → GoodStepBy Few (quiet.act_todo source l s)
+          by : (l : List Todo) → s.run.control ≡ l → Held Few (here s) s.run.elements s.run.control → GoodStepBy Few (quiet.act_todo source l s)
           by l e (inl h) = counts l e (subst (λ l. FairAt source l s) e f) (subst (AllCounted Few (here s)) e h)
-          by l e (inr h) = bounds l (subst (λ l. FairAt source l s) e f) (subst (AtBound Few (here s)) e h.0) (subst (NextBound (HoldsObject (here s))) e h.1)
+          by l e (inr (inl h)) = bounds l (subst (λ l. FairAt source l s) e f) (subst (AtBound Few (here s)) e h.0) (subst (NextBound (HoldsObject (here s))) e h.1)
+          by l e (inr (inr h)) = subst (λ l. GoodStepBy Few (quiet.act_todo source l s)) e (counting Few source known s st h)
 
     pub walk : (s : State) → GoodBy Few s → Fair source s → GoodStepBy Few (quiet.quiet source s)
     walk s (inl st) f = there s st f
     walk s (inr (inl d)) f = declaring Few source s d f
-    walk s (inr (inr o)) f = opening Few source s o f
+    walk s (inr (inr (inl o))) f = opening Few source s o f
+    walk s (inr (inr (inr x))) f = filling Few source known s x f
 
     begins : (o : ℕ) (r : Option Routine) → RoutineBegins r → CountedState Few (first_state (routine_or_none r) o)
     begins o None b = record { frames = refl; stack = (omega arith, inl (tt, (tt, tt)), tt); env = record { house = (tt, tt); hand = tt } }
@@ -254,10 +286,34 @@ module _ (Few : ℕ → Bool) where
       let none : new_members source s.run.control ≡ None = ap (new_members source) t.control ∙ none_new source t.stage t.cell t.line t.next t.todo in
       subst (λ m. OpeningBy Few (with_operand (piece.Object o) (entered m o s))) (sym none) t
 
+  -- one that fills an array and waits for an object is told of it
+  fill_entered : (m : Option Members) (o : ℕ) (s : State) → CountedMembers Few m → FillingBy Few (with_operand (piece.Object o) s) → FillingBy Few (with_operand (piece.Object o) (entered m o s))
+  fill_entered None o s k h = h
+  fill_entered (Some m) o s k h = record {
+    array = h.array;
+    stage = h.stage;
+    control = h.control;
+    ends = h.ends;
+    begins = h.begins;
+    loose = h.loose;
+    there = h.there;
+    missing = h.missing;
+    finding = find_entered h.stage h.array m o s h.finding;
+    frames = h.frames;
+    frame = h.frame;
+    behind = h.behind;
+    callers = h.callers;
+    env = record { house = h.env.house; hand = more_hand s.env.hand o m k h.env.hand };
+  }
+
+  pub fill_told : (source : Source) (o : ℕ) (s : State) → FillWaits Few s → FillingBy Few (answered source (answer.Object o) s)
+  fill_told source o s h = fill_entered (new_members source s.run.control) o s (new_there source s.run.control) (h o)
+
 pub law_steps : LawSteps
 law_steps = record {
   begins = λ few source known r o. first few source known r o;
   steps = λ few source known s h f. walk few source known s h f;
   told = λ few source given s h. answered_there few source given s h;
   waited = λ few source o s w h. waited few source o s w h;
+  filled = λ few source o s h. fill_told few source o s h;
 }

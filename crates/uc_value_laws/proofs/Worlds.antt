@@ -55,10 +55,12 @@ use Rattle.uc_scope_laws.proofs.StackWalk as stacking
 use Rattle.uc_scope_laws.proofs.StackWorlds as stacked
 use Rattle.uc_scope_laws.proofs.StackWorlds.{StackWorld}
 use Rattle.uc_scope_laws.proofs.Unreferring.{law_accepted}
-use Rattle.uc_value_laws.specs.There.{EndsAt, OfVariable, OfElements, OfEach, CleanBy, OfBound, OpensBound, NextBound, IsFew, AllLeft, Any, IsBefore, AllBefore, FrameBefore, frame_at}
+use Rattle.uc_value_laws.specs.There.{EndsAt, OfVariable, OfElements, OfEach, IsThere, IsGiven, CleanBy, OfBound, OpensBound, NextBound, EachNext, EachCall, IsFew, AllLeft, Any, IsBefore, AllBefore, FrameBefore, frame_at}
 use Rattle.uc_value_laws.specs.ThereStates.{CountedHand, CountedMembers, CountedEnv, CountedState, RoutineBegins, SourceBegins, BodiesBegin, ScopeFits, BoundFits, FairAt, Fair}
 use Rattle.uc_value_laws.specs.Declaring as point
 use Rattle.uc_value_laws.specs.Declaring.{Point, point_todo, PointHolds}
+use Rattle.uc_value_laws.specs.Filling as fill
+use Rattle.uc_value_laws.specs.FillingStates.{AsksObject, Finding, FillingBy, FillWaits}
 use Rattle.uc_value_laws.specs.NewClusters as way
 use Rattle.uc_value_laws.specs.NewClusters.{Stage, stage_todo, StageHoldsBy, OpeningBy, WaitingBy, OnWayBy, GoodBy, IsLast, AskedBy, GoodStepBy}
 use Rattle.uc_value_laws.specs.Opens.{OpensAt, Opens, LawFair, RideOpens, MayOpen, RunOpens, LeadsOpen, TellsFew, RestsBy, AllIsCounted, LawRuns, LawCounts, LeavesCluster, EndsCluster, LawEnds}
@@ -66,7 +68,7 @@ use Rattle.uc_value_laws.proofs.Cells.{either, held_left}
 use Rattle.uc_value_laws.proofs.Keeping.{found_hand}
 use Rattle.uc_value_laws.proofs.Counts.{some_cluster, grows, told_own, told_others, one_kept}
 use Rattle.uc_value_laws.proofs.Steps.{exec_same, here}
-use Rattle.uc_value_laws.proofs.Walk.{walk, first, answered_there, waited}
+use Rattle.uc_value_laws.proofs.Walk.{walk, first, answered_there, waited, fill_told}
 
 no_both : {A : Type 0} (b : Bool) → b ≡ true → b ≡ false → A
 no_both b t f = absurd (cc)
@@ -93,14 +95,16 @@ element_before cell k n j h l =
     omega (arith, m, e, h, l)
 
 module _ (Z : ℕ → ℕ → Type 0) where
-  at_before : (cell : ℕ) (e : Expr) → LiesAt Z 0 cell 1 1 e → OfVariable (IsBefore cell) e
-  at_before cell (src.Variable k) h = single_before cell k (let l = h.1 in omega (arith, l))
-  at_before cell e h = tt
+  -- what lies between two cells, of which the second one is no later
 
-  in_before : (cell n : ℕ) (e : Expr) → LiesIn Z 0 cell n 1 e → OfElements n (IsBefore cell) e
-  in_before cell n (src.Element m src.Binding (src.Variable k) (src.OfObject src.Counted)) h = λ j l. element_before cell k n j (let b = h.1.1 in omega (arith, b)) l
-  in_before cell n (src.Element m src.Binding (src.Variable k) i) h = absurd h
-  in_before cell n e h = tt
+  at_before : (cell low high : ℕ) (e : Expr) → high ≤ cell → LiesAt Z low high 1 1 e → OfVariable (IsBefore cell) e
+  at_before cell low high (src.Variable k) le h = single_before cell k (let l = h.1 in omega (arith, l, le))
+  at_before cell low high e le h = tt
+
+  in_before : (cell low high n : ℕ) (e : Expr) → high ≤ cell → LiesIn Z low high n 1 e → OfElements n (IsBefore cell) e
+  in_before cell low high n (src.Element m src.Binding (src.Variable k) (src.OfObject src.Counted)) le h = λ j l. element_before cell k n j (let b = h.1.1 in omega (arith, b, le)) l
+  in_before cell low high n (src.Element m src.Binding (src.Variable k) i) le h = absurd h
+  in_before cell low high n e le h = tt
 
   ends_before : (lies : ℕ → Expr → Type 0) (P : Expr → Type 0) (e : Expr) → ((x : Expr) → lies 1 x → P x) → Destroyed Z lies e → EndsAt P e
   ends_before lies P (src.OfObject (src.EndOn r written (src.Load e))) f h = f e h
@@ -108,10 +112,13 @@ module _ (Z : ℕ → ℕ → Type 0) where
   ends_before lies P (src.OfObject (src.EndProcessor (src.Load e))) f h = f e h
   ends_before lies P e f h = tt
 
+  lies_before : (cell low high : ℕ) (c : CleanUp) → high ≤ cell → Lies Z low high c → OfEach (IsBefore cell) c
+  lies_before cell low high (src.Destroys e) le h = ends_before (LiesAt Z low high 1) (OfVariable (IsBefore cell)) e (λ x. at_before cell low high x le) h
+  lies_before cell low high (src.DestroysAll n e) le h = ends_before (LiesIn Z low high n) (OfElements n (IsBefore cell)) e (λ x. in_before cell low high n x le) h
+  lies_before cell low high c le h = tt
+
   clean_before : (cell : ℕ) (c : CleanUp) → Lies Z 0 cell c → OfEach (IsBefore cell) c
-  clean_before cell (src.Destroys e) h = ends_before (LiesAt Z 0 cell 1) (OfVariable (IsBefore cell)) e (at_before cell) h
-  clean_before cell (src.DestroysAll n e) h = ends_before (LiesIn Z 0 cell n) (OfElements n (IsBefore cell)) e (in_before cell n) h
-  clean_before cell c h = tt
+  clean_before cell c h = lies_before cell 0 cell c (omega arith) h
 
   before_by : (cell : ℕ) (s : Sort) → rooms.IsBefore Z cell s → CleanBy (OfEach (IsBefore cell)) s
   before_by cell (piece.IsClean c) h = clean_before cell c h
@@ -145,9 +152,55 @@ module _ (Z : ℕ → ℕ → Type 0) where
   next_before cell (piece.CallUnwrittenNow r ∷ (piece.DropNow ∷ (piece.Within line ∷ (piece.Rest ss ∷ todo)))) h = opens_before cell h.0 ss h.1 h.2.1.1.1.0
   next_before cell todo h = tt
 
+  -- so do the elements of an array that is being filled
+  scope_before : (cell : ℕ) (o : Room) (c : CleanUp) (rest : Stmts) → o.high ≤ cell → StmtsIn Z o (src.Scoped c rest) → OfEach (IsBefore cell) c
+  scope_before cell o c rest le h =
+      let m : Room = h.0 in
+      let w : IsWithin o m = h.1 in
+      let a = w.cells in
+      let b = w.high in
+      lies_before cell o.low m.low c (omega (arith, le, a, b)) h.2.0
+
+  each_before : (cell : ℕ) (todo : List Todo) → Beneath Z cell todo → EachNext (IsBefore cell) todo
+  each_before cell (piece.DropNow ∷ (piece.MoreNow ∷ (piece.FillNow n b d ∷ (piece.Within line ∷ (piece.Rest (src.Scoped c rest) ∷ todo))))) h =
+      scope_before cell h.0 c rest h.1 h.2.1.1.1.1.0
+  each_before cell todo h = tt
+
+  each_fits : (n : ℕ) (todo : List Todo) → SomeTo Z (UpTo n) todo → EachNext (IsBefore n) todo
+  each_fits n (piece.DropNow ∷ (piece.MoreNow ∷ (piece.FillNow m b d ∷ (piece.Within line ∷ (piece.Rest (src.Scoped c rest) ∷ todo))))) h =
+      scope_before n h.0 c rest (up_to Z n h.0 todo h.1.1.1.1.1.1) h.1.1.1.1.1.0
+  each_fits n todo h = tt
+
+  call_fits : (n : ℕ) (todo : List Todo) → SomeTo Z (UpTo n) todo → EachCall (IsBefore n) todo
+  call_fits n (piece.CallOnNow r ∷ todo) h = each_fits n todo (h.0, h.1.1)
+  call_fits n (piece.CallUnwrittenNow r ∷ todo) h = each_fits n todo (h.0, h.1.1)
+  call_fits n todo h = tt
+
   frame_before : (cell f : ℕ) (cs : List Active) → stacks.FrameBefore Z cell f cs → stacks.FrameBeneath Z cell f cs → FrameBefore cell f cs
   frame_before cell f [] h b = tt
-  frame_before cell f (c ∷ cs) h b = ((λ e. (all_before cell c.control (h.0 e), next_before cell c.control (b.0 e))), frame_before cell f cs h.1 b.1)
+  frame_before cell f (c ∷ cs) h b = ((λ e. (all_before cell c.control (h.0 e), next_before cell c.control (b.0 e), each_before cell c.control (b.0 e))), frame_before cell f cs h.1 b.1)
+
+  -- in a frame of which all cells have addresses what opens is given
+
+  given_there : (vs : List Value) (low high : ℕ) (c : CleanUp) → high ≤ LAST_ADDRESS → Lies Z low high c → (IsGiven c → ⊥) → IsThere vs c
+  given_there vs low high (src.Destroys (src.OfObject (src.EndCluster (src.Load (src.Variable k))))) le h f = let l = h.1 in absurd (f (omega (arith, le, l)))
+  given_there vs low high (src.Destroys (src.OfObject (src.EndProcessor (src.Load (src.Variable k))))) le h f = let l = h.1 in absurd (f (omega (arith, le, l)))
+  given_there vs low high (src.Destroys (src.OfObject (src.EndOn r written (src.Load (src.Variable k))))) le h f = let l = h.1 in absurd (f (omega (arith, le, l)))
+  given_there vs low high (src.DestroysAll n (src.OfObject (src.EndCluster (src.Load (src.Element m src.Binding (src.Variable k) (src.OfObject src.Counted)))))) le h f = let l = h.1.1 in absurd (f (omega (arith, le, l)))
+  given_there vs low high (src.DestroysAll n (src.OfObject (src.EndProcessor (src.Load (src.Element m src.Binding (src.Variable k) (src.OfObject src.Counted)))))) le h f = let l = h.1.1 in absurd (f (omega (arith, le, l)))
+  given_there vs low high (src.DestroysAll n (src.OfObject (src.EndOn r written (src.Load (src.Element m src.Binding (src.Variable k) (src.OfObject src.Counted)))))) le h f = let l = h.1.1 in absurd (f (omega (arith, le, l)))
+  given_there vs low high (src.DestroysAll n (src.OfObject (src.EndCluster (src.Load (src.Element m src.Binding (src.Variable k) i))))) le h f = absurd h
+  given_there vs low high (src.DestroysAll n (src.OfObject (src.EndProcessor (src.Load (src.Element m src.Binding (src.Variable k) i))))) le h f = absurd h
+  given_there vs low high (src.DestroysAll n (src.OfObject (src.EndOn r written (src.Load (src.Element m src.Binding (src.Variable k) i))))) le h f = absurd h
+  given_there vs low high c le h f = tt
+
+  opens_there : (n : ℕ) (vs : List Value) (o : Room) (c : CleanUp) (rest : Stmts) → o.high ≤ n → n ≤ LAST_ADDRESS → StmtsIn Z o (src.Scoped c rest) → (IsGiven c → ⊥) → IsThere vs c
+  opens_there n vs o c rest le short h f =
+      let m : Room = h.0 in
+      let w : IsWithin o m = h.1 in
+      let a = w.cells in
+      let b = w.high in
+      given_there vs o.low m.low c (omega (arith, le, short, a, b)) h.2.0 f
 
   -- a cluster lies in the frame
 
@@ -184,10 +237,16 @@ module _ (Z : ℕ → ℕ → Type 0) where
           let before = stacking.cleared Z s st k n todo e in
           let own : rooms.AllBefore Z k (piece.ClearNow k n ∷ todo) = subst (rooms.AllBefore Z k) e (before.0 refl) in
           (all_before k todo own.1, frame_before k s.run.frame s.callers before.1 (stacking.beneath Z s st k n todo e))
-      by (piece.Rest ss ∷ todo) e o = let t = to (piece.Rest ss ∷ todo) e in (joined Z t.0 ss t.1.0, o)
+      by (piece.Rest (src.Scoped c rest) ∷ todo) e o =
+          let n : ℕ = length (frame_at s.run.frame s.env.frames) in
+          let t = to (piece.Rest (src.Scoped c rest) ∷ todo) e in
+          (joined Z t.0 (src.Scoped c rest) t.1.0, opens_there n (frame_at s.run.frame s.env.frames) t.0 c rest (up_to Z n t.0 todo t.1.1) o t.1.0)
+      by (piece.Rest ss ∷ todo) e o = let t = to (piece.Rest ss ∷ todo) e in (joined Z t.0 ss t.1.0, tt)
       by (piece.Do a ∷ todo) e o = let t = to (piece.Do a ∷ todo) e in bodies t.0 a t.1.0
-      by (piece.BindNow ∷ todo) e o = let t = to (piece.BindNow ∷ todo) e in (bound_fits (length (frame_at s.run.frame s.env.frames)) todo (t.0, t.1.1), o.0, o.1)
-      by (piece.BindMadeNow c r ∷ todo) e o = o
+      by (piece.BindNow ∷ todo) e o = let t = to (piece.BindNow ∷ todo) e in (bound_fits (length (frame_at s.run.frame s.env.frames)) todo (t.0, t.1.1), o.0, o.1, each_fits (length (frame_at s.run.frame s.env.frames)) todo (t.0, t.1.1))
+      by (piece.BindMadeNow c r ∷ todo) e o =
+          let t = to (piece.BindMadeNow c r ∷ todo) e in
+          (o.0, o.1, call_fits (length (frame_at s.run.frame s.env.frames)) todo (t.0, t.1.1), o.2)
       by (piece.SetUpNow r ∷ todo) e o = o
       by l e o = tt
 
@@ -252,33 +311,61 @@ module _ (Few : ℕ → Bool) where
     env = record { house = h.env.house; hand = k };
   }
 
-  hand_point : (hand : List (ℕ × Members)) (g : Point) (k : ℕ) (s : State) → PointHolds g k s → PointHolds g k (with_hand hand s)
-  hand_point hand (point.Declares m d) k s h = h
-  hand_point hand (point.Lists m d) k s h = h
-  hand_point hand (point.Clears m d) k s h = h
-  hand_point hand (point.Cleared m) k s h = h
-  hand_point hand (point.Passes m) k s h = h
-  hand_point hand point.Reaches k s h = h
+  hand_point : (hand : List (ℕ × Members)) (g : Point) (k n : ℕ) (s : State) → PointHolds g k n s → PointHolds g k n (with_hand hand s)
+  hand_point hand (point.Declares m d) k n s h = h
+  hand_point hand (point.Lists m d) k n s h = h
+  hand_point hand (point.Clears m d) k n s h = h
+  hand_point hand (point.Cleared m) k n s h = h
+  hand_point hand (point.Passes m) k n s h = h
+  hand_point hand point.Reaches k n s h = h
+
+  hand_finding : (hand : List (ℕ × Members)) (g : fill.Stage) (x : fill.Array) (s : State) → Finding g x s → Finding g x (with_hand hand s)
+  hand_finding hand fill.Indexes x s h = h
+  hand_finding hand fill.Elements x s h = h
+  hand_finding hand fill.Found x s h = h
+  hand_finding hand fill.Nears x s h = h
+  hand_finding hand fill.Asks x s h = h
+  hand_finding hand fill.Told x s h = h
+  hand_finding hand g x s h = tt
+
+  hand_filling : (hand : List (ℕ × Members)) (s : State) → CountedHand Few hand → FillingBy Few s → FillingBy Few (with_hand hand s)
+  hand_filling hand s k h = record {
+    array = h.array;
+    stage = h.stage;
+    control = h.control;
+    ends = h.ends;
+    begins = h.begins;
+    loose = h.loose;
+    there = h.there;
+    missing = h.missing;
+    finding = hand_finding hand h.stage h.array s h.finding;
+    frames = h.frames;
+    frame = h.frame;
+    behind = h.behind;
+    callers = h.callers;
+    env = record { house = h.env.house; hand = k };
+  }
 
   hand_way : (hand : List (ℕ × Members)) (s : State) → CountedHand Few hand → OnWayBy Few s → OnWayBy Few (with_hand hand s)
   hand_way hand s k (inl h) =
       inl (record {
         cell = h.cell;
-        line = h.line;
+        count = h.count;
         binder = h.binder;
         next = h.next;
         todo = h.todo;
         point = h.point;
         control = h.control;
         binds = h.binds;
-        holds = hand_point hand h.point h.cell s h.holds;
+        holds = hand_point hand h.point h.cell h.count s h.holds;
         frames = h.frames;
         frame = h.frame;
         behind = h.behind;
         callers = h.callers;
         env = record { house = h.env.house; hand = k };
       })
-  hand_way hand s k (inr h) = inr (hand_opening hand s k h)
+  hand_way hand s k (inr (inl h)) = inr (inl (hand_opening hand s k h))
+  hand_way hand s k (inr (inr h)) = inr (inr (hand_filling hand s k h))
 
   hand_waiting : (hand : List (ℕ × Members)) (s : State) → CountedHand Few hand → WaitingBy Few s → WaitingBy Few (with_hand hand s)
   hand_waiting hand s k h o w = hand_opening hand (with_operand (piece.Object o) s) k (h o w)
@@ -286,27 +373,32 @@ module _ (Few : ℕ → Bool) where
   hand_rests : (source : Source) (j : Journal) (t : ℕ) (hand : List (ℕ × Members)) (s : State) → CountedHand Few hand → RestsBy Few source j t s → RestsBy Few source j t (with_hand hand s)
   hand_rests source j t hand s k (inl h) = inl (hand_state hand s k h)
   hand_rests source j t hand s k (inr (inl h)) = inr (inl (h.0, hand_waiting hand s k h.1, h.2))
-  hand_rests source j t hand s k (inr (inr h)) = inr (inr (h.0, hand_way hand s k h.1))
+  hand_rests source j t hand s k (inr (inr (inl h))) = inr (inr (inl (h.0, λ o. hand_filling hand (with_operand (piece.Object o) s) k (h.1 o))))
+  hand_rests source j t hand s k (inr (inr (inr h))) = inr (inr (inr (h.0, hand_way hand s k h.1)))
 
   -- what a task has asked of the form
 
   same_form : (source : Source) (j i : Journal) (t : ℕ) (s : State) → asked_form t i ≡ asked_form t j → ((o : ℕ) → answer_to source.sites t i ≡ Some (answer.Object o) → answer_to source.sites t j ≡ Some (answer.Object o)) → RestsBy Few source j t s → RestsBy Few source i t s
   same_form source j i t s e f (inl h) = inl h
   same_form source j i t s e f (inr (inl h)) = inr (inl (e ∙ h.0, h.1, λ o q. h.2 o (f o q)))
-  same_form source j i t s e f (inr (inr h)) = inr (inr (e ∙ h.0, h.1))
+  same_form source j i t s e f (inr (inr (inl h))) = inr (inr (inl (e ∙ h.0, h.1)))
+  same_form source j i t s e f (inr (inr (inr h))) = inr (inr (inr (e ∙ h.0, h.1)))
 
   -- where a ride ends
   abbrev RiddenState : Request → State → Type 0
-  RiddenState r s = CountedState Few s ⊎ (((r ≡ ask.Cluster) × WaitingBy Few s) ⊎ (((r ≡ ask.Slice) × OnWayBy Few s) ⊎ (IsLast r × CountedEnv Few s.env)))
+  RiddenState r s =
+      CountedState Few s ⊎
+      (((r ≡ ask.Cluster) × WaitingBy Few s) ⊎ ((AsksObject r × FillWaits Few s) ⊎ (((r ≡ ask.Slice) × OnWayBy Few s) ⊎ (IsLast r × CountedEnv Few s.env))))
 
   asked_ridden : (r : Request) (s : State) → AskedBy Few r s → RiddenState r s
   asked_ridden r s (inl h) = inl h
   asked_ridden r s (inr (inl h)) = inr (inl h)
-  asked_ridden r s (inr (inr h)) = inr (inr (inr h))
+  asked_ridden r s (inr (inr (inl h))) = inr (inr (inl h))
+  asked_ridden r s (inr (inr (inr h))) = inr (inr (inr (inr h)))
 
   sliced : (s : State) → GoodBy Few s → RiddenState ask.Slice s
   sliced s (inl h) = inl h
-  sliced s (inr h) = inr (inr (inl (refl, h)))
+  sliced s (inr h) = inr (inr (inr (inl (refl, h))))
 
   -- some number is one of these
   abbrev SomeFew : Type 0
@@ -314,13 +406,15 @@ module _ (Few : ℕ → Bool) where
 
   way_env : (s : State) → OnWayBy Few s → CountedEnv Few s.env
   way_env s (inl h) = h.env
-  way_env s (inr h) = h.env
+  way_env s (inr (inl h)) = h.env
+  way_env s (inr (inr h)) = h.env
 
   ridden_env : SomeFew → (r : Request) (s : State) → RiddenState r s → CountedEnv Few s.env
   ridden_env f r s (inl h) = h.env
   ridden_env f r s (inr (inl h)) = (h.1 f.0 f.1).env
-  ridden_env f r s (inr (inr (inl h))) = way_env s h.1
-  ridden_env f r s (inr (inr (inr h))) = h.1
+  ridden_env f r s (inr (inr (inl h))) = (h.1 0).env
+  ridden_env f r s (inr (inr (inr (inl h)))) = way_env s h.1
+  ridden_env f r s (inr (inr (inr (inr h)))) = h.1
 
   no_last : (r : Request) → IsLast r → (r ≡ ask.End → ⊥) → ((n : ℕ) → r ≡ ask.Fault n → ⊥) → ⊥
   no_last ask.End h e f = e refl
@@ -330,14 +424,19 @@ module _ (Few : ℕ → Bool) where
   ridden_rests : (source : Source) (j : Journal) (t : ℕ) (r : Request) (s : State) → asked_form t j ≡ form_of_request r → (r ≡ ask.Cluster → TellsFew Few source t j) → (r ≡ ask.End → ⊥) → ((n : ℕ) → r ≡ ask.Fault n → ⊥) → RiddenState r s → RestsBy Few source j t s
   ridden_rests source j t r s e f n m (inl h) = inl h
   ridden_rests source j t r s e f n m (inr (inl h)) = inr (inl (e ∙ ap form_of_request h.0, h.1, f h.0))
-  ridden_rests source j t r s e f n m (inr (inr (inl h))) = inr (inr (e ∙ ap form_of_request h.0, h.1))
-  ridden_rests source j t r s e f n m (inr (inr (inr h))) = absurd (no_last r h.0 n m)
+  ridden_rests source j t r s e f n m (inr (inr (inl h))) = inr (inr (inl (e ∙ h.0, h.1)))
+  ridden_rests source j t r s e f n m (inr (inr (inr (inl h)))) = inr (inr (inr (e ∙ ap form_of_request h.0, h.1)))
+  ridden_rests source j t r s e f n m (inr (inr (inr (inr h)))) = absurd (no_last r h.0 n m)
 
   -- a task goes on with an answer
 
   told_waiting : (source : Source) (given : Answer) (s : State) → IsForm AnObject given → ((o : ℕ) → given ≡ answer.Object o → Few o ≡ true) → WaitingBy Few s → GoodBy Few (answered source given s)
-  told_waiting source (answer.Object o) s f w h = inr (inr (waited Few source o s (w o refl) h))
+  told_waiting source (answer.Object o) s f w h = inr (inr (inl (waited Few source o s (w o refl) h)))
   told_waiting source given s f w h = absurd f
+
+  told_filling : (source : Source) (given : Answer) (s : State) → IsForm AnObject given → FillWaits Few s → GoodBy Few (answered source given s)
+  told_filling source (answer.Object o) s f h = inr (inr (inr (fill_told Few source o s h)))
+  told_filling source given s f h = absurd f
 
   told_opening : (source : Source) (given : Answer) (s : State) → IsForm JustGo given → OnWayBy Few s → GoodBy Few (answered source given s)
   told_opening source answer.Go s f h = inr h
@@ -346,7 +445,8 @@ module _ (Few : ℕ → Bool) where
   told_rests : (source : Source) (given : Answer) (j : Journal) (t : ℕ) (s : State) → IsForm (asked_form t j) given → answer_to source.sites t j ≡ Some given → RestsBy Few source j t s → GoodBy Few (answered source given s)
   told_rests source given j t s f a (inl h) = inl (answered_there Few source given s h)
   told_rests source given j t s f a (inr (inl h)) = told_waiting source given s (subst (λ (x : Form). IsForm x given) h.0 f) (λ o q. h.2 o (a ∙ ap (λ (x : Answer). Some x) q)) h.1
-  told_rests source given j t s f a (inr (inr h)) = told_opening source given s (subst (λ (x : Form). IsForm x given) h.0 f) h.1
+  told_rests source given j t s f a (inr (inr (inl h))) = told_filling source given s (subst (λ (x : Form). IsForm x given) h.0 f) h.1
+  told_rests source given j t s f a (inr (inr (inr h))) = told_opening source given s (subst (λ (x : Form). IsForm x given) h.0 f) h.1
 
   -- all clusters that there are have such numbers
   abbrev Below : Journal → Type 0
@@ -497,6 +597,16 @@ module _ (source : Source) (j : Journal) (s : State) (k : ℕ) (todo : List Todo
   leaves (inr e) = ends (piece.Unwind ∷ todo) [] (ap (λ (x : List Todo). quiet.act_todo source x s) e)
 
 -- no list on the way to a scope begins so
+
+abbrev BeginsElse : List Todo → Type 0
+BeginsElse (piece.Clean c ∷ todo) = ⊥
+BeginsElse (piece.Unwind ∷ todo) = ⊥
+BeginsElse todo = Unit {0}
+
+none_list : (l : List Todo) (k : ℕ) (todo : List Todo) → BeginsElse l → LeavesCluster k todo l → ⊥
+none_list l k todo h (inl e) = subst BeginsElse e h
+none_list l k todo h (inr e) = subst BeginsElse e h
+
 none_leaves : (g : Stage) (n l : ℕ) (ss : Stmts) (rest : List Todo) (k : ℕ) (todo : List Todo) → LeavesCluster k todo (stage_todo g n l ss rest) → ⊥
 none_leaves way.Does n l ss rest k todo (inl e) = cc
 none_leaves way.Does n l ss rest k todo (inr e) = cc
@@ -517,29 +627,60 @@ none_leaves way.Leaves n l ss rest k todo (inr e) = cc
 none_leaves way.Opens n l ss rest k todo (inl e) = cc
 none_leaves way.Opens n l ss rest k todo (inr e) = cc
 
-none_points : (g : Point) (l : ℕ) (b : Expr) (ss : Stmts) (rest : List Todo) (k : ℕ) (todo : List Todo) → LeavesCluster k todo (point_todo g l b ss rest) → ⊥
-none_points (point.Declares m d) l b ss rest k todo (inl e) = cc
-none_points (point.Declares m d) l b ss rest k todo (inr e) = cc
-none_points (point.Lists m d) l b ss rest k todo (inl e) = cc
-none_points (point.Lists m d) l b ss rest k todo (inr e) = cc
-none_points (point.Clears m d) l b ss rest k todo (inl e) = cc
-none_points (point.Clears m d) l b ss rest k todo (inr e) = cc
-none_points (point.Cleared m) l b ss rest k todo (inl e) = cc
-none_points (point.Cleared m) l b ss rest k todo (inr e) = cc
-none_points (point.Passes m) l b ss rest k todo (inl e) = cc
-none_points (point.Passes m) l b ss rest k todo (inr e) = cc
-none_points point.Reaches l b ss rest k todo (inl e) = cc
-none_points point.Reaches l b ss rest k todo (inr e) = cc
+none_points : (g : Point) (b : Stmt) (ss : Stmts) (rest : List Todo) (k : ℕ) (todo : List Todo) → LeavesCluster k todo (point_todo g b ss rest) → ⊥
+none_points (point.Declares m d) b ss rest k todo (inl e) = cc
+none_points (point.Declares m d) b ss rest k todo (inr e) = cc
+none_points (point.Lists m d) b ss rest k todo (inl e) = cc
+none_points (point.Lists m d) b ss rest k todo (inr e) = cc
+none_points (point.Clears m d) b ss rest k todo (inl e) = cc
+none_points (point.Clears m d) b ss rest k todo (inr e) = cc
+none_points (point.Cleared m) b ss rest k todo (inl e) = cc
+none_points (point.Cleared m) b ss rest k todo (inr e) = cc
+none_points (point.Passes m) b ss rest k todo (inl e) = cc
+none_points (point.Passes m) b ss rest k todo (inr e) = cc
+none_points point.Reaches b ss rest k todo (inl e) = cc
+none_points point.Reaches b ss rest k todo (inr e) = cc
 
-counted_here : (few : ℕ → Bool) (s : State) (k : ℕ) (todo : List Todo) → LeavesCluster k todo s.run.control → k ≤ LAST_ADDRESS → GoodBy few s → IsFew few (slice_index_or (here s) (address (Slot k ∷ [])) nought)
+none_kinds : (kind : fill.Kind) (k : ℕ) (todo behind : List Todo) → (LeavesCluster k todo (fill.found_todo kind behind) → ⊥) × (LeavesCluster k todo (fill.going_todo kind behind) → ⊥) × (LeavesCluster k todo (fill.asking_todo kind behind) → ⊥) × (LeavesCluster k todo (fill.told_todo kind behind) → ⊥)
+none_kinds fill.Cluster k todo behind = (none_list _ k todo tt, none_list _ k todo tt, none_list _ k todo tt, none_list _ k todo tt)
+none_kinds (fill.Processor i) k todo behind = (none_list _ k todo tt, none_list _ k todo tt, none_list _ k todo tt, none_list _ k todo tt)
+none_kinds (fill.Object c r true) k todo behind = (none_list _ k todo tt, none_list _ k todo tt, none_list _ k todo tt, none_list _ k todo tt)
+none_kinds (fill.Object c r false) k todo behind = (none_list _ k todo tt, none_list _ k todo tt, none_list _ k todo tt, none_list _ k todo tt)
+
+none_bound : (x : fill.Array) (kind : fill.Kind) (k : ℕ) (todo : List Todo) → LeavesCluster k todo (fill.bound_todo kind (fill.turn_todo x)) → ⊥
+none_bound x fill.Cluster k todo = none_list _ k todo tt
+none_bound x (fill.Processor i) k todo = none_list _ k todo tt
+none_bound x (fill.Object c r true) k todo = none_list _ k todo tt
+none_bound x (fill.Object c r false) k todo = none_list _ k todo tt
+
+none_fills : (g : fill.Stage) (x : fill.Array) (k : ℕ) (todo : List Todo) → LeavesCluster k todo (fill.fill_todo g x) → ⊥
+none_fills fill.Found x k todo = (none_kinds x.kind k todo (fill.turn_todo x)).0
+none_fills fill.Nears x k todo = (none_kinds x.kind k todo (fill.turn_todo x)).1
+none_fills fill.Asks x k todo = (none_kinds x.kind k todo (fill.turn_todo x)).2
+none_fills fill.Told x k todo = (none_kinds x.kind k todo (fill.turn_todo x)).3
+none_fills fill.Bound x k todo = none_bound x x.kind k todo
+none_fills fill.Does x k todo = none_list _ k todo tt
+none_fills fill.Counts x k todo = none_list _ k todo tt
+none_fills fill.Turns x k todo = none_list _ k todo tt
+none_fills fill.Evals x k todo = none_list _ k todo tt
+none_fills fill.Finds x k todo = none_list _ k todo tt
+none_fills fill.Names x k todo = none_list _ k todo tt
+none_fills fill.Indexes x k todo = none_list _ k todo tt
+none_fills fill.Elements x k todo = none_list _ k todo tt
+none_fills fill.More x k todo = none_list _ k todo tt
+none_fills fill.Passes x k todo = none_list _ k todo tt
+none_fills fill.Opens x k todo = none_list _ k todo tt
+
+counted_here : (few : ℕ → Bool) (s : State) (k : ℕ) (todo : List Todo) → LeavesCluster k todo s.run.control → k < LAST_ADDRESS → GoodBy few s → IsFew few (slice_index_or (here s) (address (Slot k ∷ [])) nought)
 counted_here few s k todo (inl e) l (inl h) =
-    let left : AllLeft few (here s) (piece.Clean (src.Destroys (src.OfObject (src.EndCluster (src.Load (src.Variable k))))) ∷ todo) = subst (AllLeft few (here s)) e (held_left few (here s) s.run.control h.stack.1) in
+    let left : AllLeft few (here s) (piece.Clean (src.Destroys (src.OfObject (src.EndCluster (src.Load (src.Variable k))))) ∷ todo) = subst (AllLeft few (here s)) e (held_left few (here s) s.run.elements s.run.control h.stack.1) in
     left.0.1 l
 counted_here few s k todo (inr e) l (inl h) =
-    let left : AllLeft few (here s) (piece.Unwind ∷ (piece.Clean (src.Destroys (src.OfObject (src.EndCluster (src.Load (src.Variable k))))) ∷ todo)) = subst (AllLeft few (here s)) e (held_left few (here s) s.run.control h.stack.1) in
+    let left : AllLeft few (here s) (piece.Unwind ∷ (piece.Clean (src.Destroys (src.OfObject (src.EndCluster (src.Load (src.Variable k))))) ∷ todo)) = subst (AllLeft few (here s)) e (held_left few (here s) s.run.elements s.run.control h.stack.1) in
     left.0.1 l
-counted_here few s k todo e l (inr (inl h)) = absurd (none_points h.point h.line h.binder h.next h.todo k todo (subst (LeavesCluster k todo) h.control e))
-counted_here few s k todo e l (inr (inr h)) = absurd (none_leaves h.stage h.cell h.line h.next h.todo k todo (subst (LeavesCluster k todo) h.control e))
+counted_here few s k todo e l (inr (inl h)) = absurd (none_points h.point h.binder h.next h.todo k todo (subst (LeavesCluster k todo) h.control e))
+counted_here few s k todo e l (inr (inr (inr h))) = absurd (none_fills h.stage h.array k todo (subst (LeavesCluster k todo) h.control e))
+counted_here few s k todo e l (inr (inr (inl h))) = absurd (none_leaves h.stage h.cell h.line h.next h.todo k todo (subst (LeavesCluster k todo) h.control e))
 
 pub law_ends : LawEnds
 law_ends p h input opts range j w r f on o t s c l k todo near e =

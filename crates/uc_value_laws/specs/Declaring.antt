@@ -1,7 +1,8 @@
--- A task on its way from the declaration of a variable that is a cluster, a processor or a mutex object to the statement that binds it: its
--- cells start anew, and nothing lies between.
-use Rattle.std.specs.Prelude.{◌≡◌, ℕ, suc, ◌≤◌, List, [], ◌∷◌, length, None, slice_index_or, Bool}
-use Rattle.uc_tree.specs.Source.{Expr, Variable, OfObject, Bind, MakeOn, NewCluster, NewProcessor, Declared, Stmts, Evaluate, Declare, Then}
+-- A task on its way from the declaration of a variable that is a cluster, a processor or a mutex object, or an array of such, to the statement
+-- that binds it: its cells start anew, and nothing lies between.
+use Rattle.std.specs.Prelude.{◌≡◌, ℕ, suc, ◌+◌, ◌<◌, ◌≤◌, List, [], ◌∷◌, length, None, slice_index_or, Bool}
+use Rattle.uc_tree.specs.Source.{Variable, OfObject, Bind, MakeOn, NewCluster, NewProcessor, Declared, Stmt, Stmts, Evaluate, Declare, Fill, Then}
+use Rattle.uc_scope_laws.specs.Clusters.{FillsArray}
 use Rattle.uc_machine.specs.Pieces.{Value, Number, nought, Todo, ClearNow, Variables, Do, Rest, Within, State}
 use Rattle.uc_value_laws.specs.There.{AllCounted, frame_at}
 use Rattle.uc_value_laws.specs.ThereStates.{CountedStack, CountedEnv}
@@ -15,28 +16,28 @@ pub data Point : Type 0 where
   Passes : ℕ → Point
   Reaches : Point
 
--- what is to do then: before the statement of a line that binds the variable, and before what is behind that
-abbrev pub point_todo : Point → ℕ → Expr → Stmts → List Todo → List Todo
-point_todo (Declares m d) l e ss todo = Do (Declare m (d ∷ [])) ∷ (Rest (Then (Evaluate l e) ss) ∷ todo)
-point_todo (Lists m d) l e ss todo = Variables (d ∷ []) ∷ (Within m ∷ (Rest (Then (Evaluate l e) ss) ∷ todo))
-point_todo (Clears m d) l e ss todo =
-    ClearNow d.cell d.cells ∷ (Variables [] ∷ (Within m ∷ (Rest (Then (Evaluate l e) ss) ∷ todo)))
-point_todo (Cleared m) l e ss todo = Variables [] ∷ (Within m ∷ (Rest (Then (Evaluate l e) ss) ∷ todo))
-point_todo (Passes m) l e ss todo = Within m ∷ (Rest (Then (Evaluate l e) ss) ∷ todo)
-point_todo Reaches l e ss todo = Rest (Then (Evaluate l e) ss) ∷ todo
+-- what is to do then: before the statement that binds the variable, and before what is behind that
+abbrev pub point_todo : Point → Stmt → Stmts → List Todo → List Todo
+point_todo (Declares m d) a ss todo = Do (Declare m (d ∷ [])) ∷ (Rest (Then a ss) ∷ todo)
+point_todo (Lists m d) a ss todo = Variables (d ∷ []) ∷ (Within m ∷ (Rest (Then a ss) ∷ todo))
+point_todo (Clears m d) a ss todo = ClearNow d.cell d.cells ∷ (Variables [] ∷ (Within m ∷ (Rest (Then a ss) ∷ todo)))
+point_todo (Cleared m) a ss todo = Variables [] ∷ (Within m ∷ (Rest (Then a ss) ∷ todo))
+point_todo (Passes m) a ss todo = Within m ∷ (Rest (Then a ss) ∷ todo)
+point_todo Reaches a ss todo = Rest (Then a ss) ∷ todo
 
--- the variable at a cell is bound to a new cluster, a new processor or a new mutex object
-abbrev pub BindsAt : ℕ → Expr → Type 0
-BindsAt k (OfObject (Bind (Variable m) (OfObject NewCluster))) = m ≡ k
-BindsAt k (OfObject (Bind (Variable m) (OfObject (NewProcessor e)))) = m ≡ k
-BindsAt k (OfObject (MakeOn c r written (Variable m) args)) = m ≡ k
-BindsAt k e = ⊥
+-- the variable at a cell is bound to a new cluster, a new processor or a new mutex object, or so many elements of it are
+abbrev pub BindsAt : (cell count : ℕ) → Stmt → Type 0
+BindsAt k n (Evaluate line (OfObject (Bind (Variable m) (OfObject NewCluster)))) = (m ≡ k) × (n ≡ 1)
+BindsAt k n (Evaluate line (OfObject (Bind (Variable m) (OfObject (NewProcessor e))))) = (m ≡ k) × (n ≡ 1)
+BindsAt k n (Evaluate line (OfObject (MakeOn c r written (Variable m) args))) = (m ≡ k) × (n ≡ 1)
+BindsAt k n (Fill line m b d) = FillsArray k n (Fill line m b d)
+BindsAt k n a = ⊥
 
 -- a declaration of that variable, without a value
-abbrev pub IsOwn : ℕ → Declared → Type 0
-IsOwn k d = (d.cell ≡ k) × (d.value ≡ None) × (1 ≤ d.cells)
+abbrev pub IsOwn : (cell count : ℕ) → Declared → Type 0
+IsOwn k n d = (d.cell ≡ k) × (d.value ≡ None) × (n ≤ d.cells)
 
--- a cell holds a number, so it may be bound
+-- a cell holds a number, so it may be bound; so many cells do
 abbrev pub IsCount : Value → Type 0
 IsCount (Number n) = Unit {0}
 IsCount v = ⊥
@@ -44,24 +45,27 @@ IsCount v = ⊥
 abbrev pub IsUnset : ℕ → State → Type 0
 IsUnset k s = IsCount (slice_index_or (frame_at s.run.frame s.env.frames) k nought)
 
+abbrev pub AreUnset : (cell count : ℕ) → State → Type 0
+AreUnset k n s = (j : ℕ) → j < n → IsUnset (k + j) s
+
 -- what holds then
-abbrev pub PointHolds : Point → ℕ → State → Type 0
-PointHolds (Declares m d) k s = IsOwn k d
-PointHolds (Lists m d) k s = IsOwn k d
-PointHolds (Clears m d) k s = IsOwn k d
-PointHolds p k s = IsUnset k s
+abbrev pub PointHolds : Point → (cell count : ℕ) → State → Type 0
+PointHolds (Declares m d) k n s = IsOwn k n d
+PointHolds (Lists m d) k n s = IsOwn k n d
+PointHolds (Clears m d) k n s = IsOwn k n d
+PointHolds p k n s = AreUnset k n s
 
 -- a task on that way; all else is there as it is to be
 pub record DeclaringBy (Few : ℕ → Bool) (s : State) : Type 0 where
   pub cell : ℕ
-  pub line : ℕ
-  pub binder : Expr
+  pub count : ℕ
+  pub binder : Stmt
   pub next : Stmts
   pub todo : List Todo
   pub point : Point
-  pub control : s.run.control ≡ point_todo point line binder next todo
-  pub binds : BindsAt cell binder
-  pub holds : PointHolds point cell s
+  pub control : s.run.control ≡ point_todo point binder next todo
+  pub binds : BindsAt cell count binder
+  pub holds : PointHolds point cell count s
   pub frames : length s.env.frames ≡ suc (length s.callers)
   pub frame : s.run.frame ≤ length s.callers
   pub behind : AllCounted Few (frame_at s.run.frame s.env.frames) todo

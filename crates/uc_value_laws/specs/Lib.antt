@@ -1,8 +1,11 @@
+pub mod Filling
 pub mod There
 pub mod ThereStates
 pub mod Declaring
+pub mod FillingStates
 pub mod NewClusters
 pub mod ValueLaws
 pub mod Reading
 pub mod Opens
 pub mod Makers
+pub mod Endings

@@ -1,6 +1,6 @@
 -- A task on its way from the statement that binds a variable to a new cluster to the scope of that: no call lies between, so what the variable
 -- holds is known at each step.
-use Rattle.std.specs.Prelude.{◌≡◌, ℕ, suc, ◌≤◌, ◌⊎◌, List, ◌∷◌, length, slice_index_or, Bool, true}
+use Rattle.std.specs.Prelude.{◌≡◌, ℕ, suc, ◌<◌, ◌≤◌, ◌⊎◌, List, ◌∷◌, length, slice_index_or, Bool, true}
 use Rattle.uc_tree.specs.Source.{Variable, Load, OfObject, Bind, NewCluster, EndCluster, Destroys, Stmts, Evaluate, Scoped}
 use Rattle.uc_entry.specs.declared.request.Request.{Request}
 use Rattle.uc_entry.specs.declared.request.Request.TheVariants as ask
@@ -9,6 +9,7 @@ use Rattle.uc_scope_laws.specs.Clusters.{Begins}
 use Rattle.uc_value_laws.specs.There.{IsFew, AllCounted, Any, frame_at}
 use Rattle.uc_value_laws.specs.ThereStates.{CountedStack, CountedEnv, CountedState}
 use Rattle.uc_value_laws.specs.Declaring.{IsUnset, DeclaringBy}
+use Rattle.uc_value_laws.specs.FillingStates.{FillingBy, FillWaits, AsksObject}
 
 -- how far it is: the statement that binds it is to be done, a new cluster is to be asked for, its number is told, and the variable is bound
 pub data Stage : Type 0 where
@@ -48,9 +49,9 @@ IsLast (ask.Fault f) = Unit {0}
 IsLast r = ⊥
 
 module _ (Few : ℕ → Bool) where
-  -- it holds the number of a cluster; a variable behind the last address stands for another cell
+  -- it holds the number of a cluster, where its cell lies before the last address
   abbrev pub IsSetBy : ℕ → State → Type 0
-  IsSetBy k s = k ≤ LAST_ADDRESS → IsFew Few (slice_index_or (frame_at s.run.frame s.env.frames) k nought)
+  IsSetBy k s = k < LAST_ADDRESS → IsFew Few (slice_index_or (frame_at s.run.frame s.env.frames) k nought)
 
   -- what holds then
   abbrev pub StageHoldsBy : Stage → ℕ → Stmts → State → Type 0
@@ -85,16 +86,18 @@ module _ (Few : ℕ → Bool) where
       (o : ℕ) → Few o ≡ true →
       OpeningBy (record s { run = record s.run { operands = Object o ∷ s.run.operands } })
 
-  -- one on the way from a declaration, or from the statement behind that
+  -- one on the way from a declaration, or from the statement behind that, or filling an array
   abbrev pub OnWayBy : State → Type 0
-  OnWayBy s = DeclaringBy Few s ⊎ OpeningBy s
+  OnWayBy s = DeclaringBy Few s ⊎ (OpeningBy s ⊎ FillingBy Few s)
 
   -- a task that runs, and one that has asked something
   abbrev pub GoodBy : State → Type 0
   GoodBy s = CountedState Few s ⊎ OnWayBy s
 
   abbrev pub AskedBy : Request → State → Type 0
-  AskedBy r s = CountedState Few s ⊎ (((r ≡ ask.Cluster) × WaitingBy s) ⊎ (IsLast r × CountedEnv Few s.env))
+  AskedBy r s =
+      CountedState Few s ⊎
+      (((r ≡ ask.Cluster) × WaitingBy s) ⊎ ((AsksObject r × FillWaits Few s) ⊎ (IsLast r × CountedEnv Few s.env)))
 
   abbrev pub GoodStepBy : Step → Type 0
   GoodStepBy (Goes s) = GoodBy s

@@ -1,8 +1,7 @@
--- Runs in which each variable that is a mutex object or a processor holds an object once it is bound, and each scope of an array opens where its
--- elements hold some.
-use Rattle.std.specs.Prelude.{◌≡◌, ℕ, suc, ◌<◌, ◌≤◌, ◌⊎◌, Bool, true, false, List, [], ◌∷◌, Some, nat_lt}
+-- Runs in which each variable that is a mutex object or a processor holds an object once it is bound.
+use Rattle.std.specs.Prelude.{◌≡◌, ℕ, suc, ◌<◌, ◌≤◌, ◌⊎◌, Bool, true, false, List, [], ◌∷◌, length, Some, nat_lt}
 use Rattle.uc_tree.specs.Programs.{Program}
-use Rattle.uc_tree.specs.Source.{Source, Variable, Load, OfObject, EndCluster, Destroys}
+use Rattle.uc_tree.specs.Source.{Source, Variable, Load, OfObject, EndCluster, Destroys, Scoped}
 use Rattle.uc_entry.specs.declared.entry.Entry.{Entry}
 use Rattle.uc_entry.specs.declared.entry.Options.{Options}
 use Rattle.uc_entry.specs.declared.request.Answer.TheVariants as answer
@@ -28,21 +27,25 @@ use Rattle.uc_scope_laws.specs.Rooms.{SourceIn}
 use Rattle.uc_scope_laws.specs.RoomStacks.{StackState}
 use Rattle.uc_scope_laws.specs.RoomRuns.{Leads, stays, goes, ticks as leads_by_tick, Comes}
 use Rattle.uc_value_laws.specs.There.{IsLoose, NextDrop, NextCall, Any, frame_at}
-use Rattle.uc_value_laws.specs.ThereStates.{CountedMembers, CountedState, SourceBegins, OpensThere, IsAside, PutsAside, BoundBehind, Fair}
+use Rattle.uc_value_laws.specs.ThereStates.{CountedMembers, CountedState, SourceBegins, IsAside, PutsAside, BoundBehind, FillsBare, Fair}
+use Rattle.uc_value_laws.specs.FillingStates.{FillWaits}
 use Rattle.uc_value_laws.specs.NewClusters.{WaitingBy, OnWayBy, GoodBy}
 
+-- the frame of the running activation has no more cells than there are addresses before the last one
+abbrev pub HasAddresses : State → Type 0
+HasAddresses s = length (frame_at s.run.frame s.env.frames) ≤ LAST_ADDRESS
+
 -- behind the step that binds the variable of the scope that opens next, that holds an object, if it was loose; what is no object is bound
--- aside; where a scope opens that is not given so, what it is of is there: the elements of an array, and a variable at a cell that has no
--- address
+-- aside; what builds the elements of an array of mutex objects takes no arguments; where a scope opens, all cells of the frame have addresses
 module _ (source : Source) where
   abbrev pub OpensAt : List Todo → State → Type 0
-  OpensAt (Rest ss ∷ todo) s = OpensThere (frame_at s.run.frame s.env.frames) ss
+  OpensAt (Rest (Scoped c rest) ∷ todo) s = HasAddresses s
   OpensAt (BindNow ∷ todo) s =
       BoundBehind (λ P. NextDrop P todo) (frame_at s.run.frame s.env.frames) (act source BindNow todo s) ×
       PutsAside todo s
   OpensAt (BindMadeNow c r ∷ todo) s =
       BoundBehind (λ P. NextCall P todo) (frame_at s.run.frame s.env.frames) (act source (BindMadeNow c r) todo s) ×
-      IsLoose (top s.run.operands)
+      IsLoose (top s.run.operands) × FillsBare source todo
   OpensAt (SetUpNow r ∷ todo) s = IsAside s.run.this todo s
   OpensAt todo s = Unit {0}
 
@@ -105,11 +108,11 @@ LeadsOpen source s u l = LeadsMeet (Opens source) source s u l
 abbrev pub TellsFew : (ℕ → Bool) → Source → ℕ → Journal → Type 0
 TellsFew few source t j = (o : ℕ) → answer_to source.sites t j ≡ Some (answer.Object o) → few o ≡ true
 
--- a task at rest: all is there, but for what it is on the way to, where it waits for a new cluster or has only to go on
+-- a task at rest: all is there, but for what it is on the way to, where it waits for a new cluster or another object, or has only to go on
 abbrev pub RestsBy : (ℕ → Bool) → Source → Journal → ℕ → State → Type 0
 RestsBy few source j t s =
     CountedState few s ⊎
-    (((asked_form t j ≡ AnObject) × WaitingBy few s × TellsFew few source t j) ⊎ ((asked_form t j ≡ JustGo) × OnWayBy few s))
+    (((asked_form t j ≡ AnObject) × WaitingBy few s × TellsFew few source t j) ⊎ (((asked_form t j ≡ AnObject) × FillWaits few s) ⊎ ((asked_form t j ≡ JustGo) × OnWayBy few s)))
 
 -- then all is there that is in scope and known by its number: of each task at rest that has not ended, of what is at home in each object, and of whoever runs
 -- in each state to which it comes before it asks; clusters that are variables have such numbers
@@ -145,7 +148,7 @@ LeavesCluster k todo control =
     (control ≡ Clean (Destroys (OfObject (EndCluster (Load (Variable k))))) ∷ todo) ⊎
     (control ≡ Unwind ∷ (Clean (Destroys (OfObject (EndCluster (Load (Variable k))))) ∷ todo))
 
--- so who leaves that of one at a cell that has an address asks for the end of a cluster that there is, by quiet steps alone
+-- so who leaves that of one at a cell before the last address asks for the end of a cluster that there is, by quiet steps alone
 pub record EndsCluster (source : Source) (j : Journal) (s : State) : Type 0 where
   pub cluster : ℕ
   pub there : cluster < cluster_count j
@@ -161,5 +164,5 @@ LawEnds =
     RunFits (source_of p) input opts j w r → is_over j ≡ false →
     RunOpens (source_of p) input opts j w r → (t : ℕ) (s : State) (c : Comes (source_of p) j w t s) →
     LeadsOpen (source_of p) (answered (source_of p) c.given (drawn j w t)) s c.leads →
-    (k : ℕ) (todo : List Todo) → k ≤ LAST_ADDRESS →
+    (k : ℕ) (todo : List Todo) → k < LAST_ADDRESS →
     LeavesCluster k todo s.run.control → EndsCluster (source_of p) j s

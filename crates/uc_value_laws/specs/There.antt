@@ -1,10 +1,11 @@
 -- What is known by its number and in scope: the variable that its clean-up ends holds an object.
-use Rattle.std.specs.Prelude.{◌≡◌, ℕ, ◌<◌, ◌≤◌, ◌⊎◌, List, [], ◌∷◌, slice_index_or, Bool, true}
+use Rattle.std.specs.Prelude.{◌≡◌, ℕ, suc, ◌+◌, ◌<◌, ◌≤◌, ◌⊎◌, List, [], ◌∷◌, slice_index_or, Bool, true}
 use Rattle.uc_tree.specs.Source.{Binding, Expr, Variable, Element, Load, OfObject, EndOn, Bind, MakeOn, EndCluster, EndProcessor, CleanUp, Destroys, DestroysAll, Stmt, Stmts, Evaluate, Scoped}
 use Rattle.uc_machine.specs.Executions.{at_depth, list_in}
-use Rattle.uc_machine.specs.Pieces.{Link, Slot, At, Value, Place, Running, Object, LAST_ADDRESS, nought, address, Todo, Eval, DropNow, BindNow, MakeNow, BindMadeNow, CallOnNow, CallUnwrittenNow, Do, Rest, Within, Exit, Unwind, Clean, Guard, Sort, sort, Simple, IsClean, IsGuard, Active}
-use Rattle.uc_scope_laws.specs.Clusters.{Begins, HandlersBegin}
+use Rattle.uc_machine.specs.Pieces.{Link, Slot, At, Value, Place, Running, Object, LAST_ADDRESS, nought, address, Todo, Eval, DropNow, BindNow, MakeNow, BindMadeNow, CallOnNow, CallUnwrittenNow, Do, Rest, Within, Exit, Unwind, Clean, Guard, Sort, sort, Simple, IsClean, IsFill, IsGuard, MoreNow, FillNow, Active}
+use Rattle.uc_scope_laws.specs.Clusters.{EndsNone, Begins, HandlersBegin}
 use Rattle.uc_typing.specs.States.{IsNumbered}
+use Rattle.uc_value_laws.specs.Filling.{Array, element_at, turn_todo}
 
 -- a mutex object, a cluster or a processor ends, whose number such a place holds
 abbrev pub EndsAt : (Expr → Type 0) → Expr → Type 0
@@ -61,22 +62,31 @@ AllCleans B (p ∷ todo) = CleanBy B (sort p) × AllCleans B todo
 abbrev pub AllThere : List Value → List Todo → Type 0
 AllThere vs todo = AllCleans (IsThere vs) todo
 
--- what is there as its scope opens without anything to find then: a variable that is a cluster, a processor or a mutex object, at a cell that
--- has an address
+-- what is there as its scope opens without anything to find then: a variable that is a cluster, a processor or a mutex object, and an array of
+-- such, at cells before the last address, which stands for all cells behind it
+abbrev pub ArrayGiven : ℕ → Expr → Type 0
+ArrayGiven n (OfObject (EndCluster (Load (Element m Binding (Variable k) i)))) = k + n ≤ LAST_ADDRESS
+ArrayGiven n (OfObject (EndProcessor (Load (Element m Binding (Variable k) i)))) = k + n ≤ LAST_ADDRESS
+ArrayGiven n (OfObject (EndOn r written (Load (Element m Binding (Variable k) i)))) = k + n ≤ LAST_ADDRESS
+ArrayGiven n e = ⊥
+
 abbrev pub IsGiven : CleanUp → Type 0
-IsGiven (Destroys (OfObject (EndCluster (Load (Variable k))))) = k ≤ LAST_ADDRESS
-IsGiven (Destroys (OfObject (EndProcessor (Load (Variable k))))) = k ≤ LAST_ADDRESS
-IsGiven (Destroys (OfObject (EndOn r written (Load (Variable k))))) = k ≤ LAST_ADDRESS
+IsGiven (Destroys (OfObject (EndCluster (Load (Variable k))))) = k < LAST_ADDRESS
+IsGiven (Destroys (OfObject (EndProcessor (Load (Variable k))))) = k < LAST_ADDRESS
+IsGiven (Destroys (OfObject (EndOn r written (Load (Variable k))))) = k < LAST_ADDRESS
+IsGiven (DestroysAll n e) = ArrayGiven n e
 IsGiven c = ⊥
 
-abbrev pub IsNoCluster : CleanUp → Type 0
-IsNoCluster (Destroys (OfObject (EndCluster (Load (Variable k))))) = ⊥
-IsNoCluster c = Unit {0}
+-- what may be in scope behind a statement that binds a variable to a processor or a mutex object
+abbrev pub MayOpen : CleanUp → Type 0
+MayOpen (Destroys (OfObject (EndCluster (Load (Variable k))))) = ⊥
+MayOpen (DestroysAll n e) = EndsNone e
+MayOpen c = Unit {0}
 
 -- the place of such a variable that is a processor or a mutex object, whose scope opens next in what is left of a block
 abbrev pub OfBound : (List Link → Type 0) → CleanUp → Type 0
-OfBound P (Destroys (OfObject (EndProcessor (Load (Variable k))))) = k ≤ LAST_ADDRESS → P (Slot k ∷ [])
-OfBound P (Destroys (OfObject (EndOn r written (Load (Variable k))))) = k ≤ LAST_ADDRESS → P (Slot k ∷ [])
+OfBound P (Destroys (OfObject (EndProcessor (Load (Variable k))))) = k < LAST_ADDRESS → P (Slot k ∷ [])
+OfBound P (Destroys (OfObject (EndOn r written (Load (Variable k))))) = k < LAST_ADDRESS → P (Slot k ∷ [])
 OfBound P c = Unit {0}
 
 abbrev pub OpensBound : (List Link → Type 0) → Stmts → Type 0
@@ -116,9 +126,34 @@ Pends P (MakeNow c r ∷ todo) = NextCall P todo × Pends P todo
 Pends P (BindMadeNow c r ∷ todo) = NextCall P todo × Pends P todo
 Pends P (p ∷ todo) = Pends P todo
 
+-- of each element of an array whose scope opens behind what fills it, where that goes on once an element is bound
+abbrev pub EachNext : (List Link → Type 0) → List Todo → Type 0
+EachNext P (DropNow ∷ (MoreNow ∷ (FillNow n b d ∷ (Within line ∷ (Rest (Scoped c rest) ∷ todo))))) = OfEach P c
+EachNext P todo = Unit {0}
+
+-- and before the call of a constructor
+abbrev pub EachCall : (List Link → Type 0) → List Todo → Type 0
+EachCall P (CallOnNow r ∷ todo) = EachNext P todo
+EachCall P (CallUnwrittenNow r ∷ todo) = EachNext P todo
+EachCall P todo = Unit {0}
+
+-- an element of the array at a variable ends
+abbrev pub EndsArray : ℕ → Expr → Type 0
+EndsArray k (OfObject (EndCluster (Load (Element m Binding (Variable c) i)))) = c ≡ k
+EndsArray k (OfObject (EndProcessor (Load (Element m Binding (Variable c) i)))) = c ≡ k
+EndsArray k (OfObject (EndOn r written (Load (Element m Binding (Variable c) i)))) = c ≡ k
+EndsArray k e = ⊥
+
+-- all elements of an array at a variable are loose, if its cells lie before the last address; the first of them hold objects
+abbrev pub ElementsLoose : List Value → (cell count : ℕ) → Type 0
+ElementsLoose vs k n = k + n ≤ LAST_ADDRESS → (j : ℕ) → j < n → HoldsLoose vs (element_at k j)
+
+abbrev pub ElementsThere : List Value → (cell count first : ℕ) → Type 0
+ElementsThere vs k n m = k + n ≤ LAST_ADDRESS → (j : ℕ) → j < n → j < m → HoldsObject vs (element_at k j)
+
 -- what may be left of a block behind a statement that binds
 abbrev pub MayBegin : Stmts → Type 0
-MayBegin (Scoped c rest) = IsNoCluster c
+MayBegin (Scoped c rest) = MayOpen c
 MayBegin ss = Begins ss
 
 -- an expression, and a statement, that bind a place to something
@@ -139,7 +174,7 @@ module _ (Few : ℕ → Bool) where
 
   -- such a variable holds the number of such a cluster
   abbrev pub IsCounted : List Value → CleanUp → Type 0
-  IsCounted vs (Destroys (OfObject (EndCluster (Load (Variable k))))) = k ≤ LAST_ADDRESS →
+  IsCounted vs (Destroys (OfObject (EndCluster (Load (Variable k))))) = k < LAST_ADDRESS →
       IsFew (slice_index_or vs (address (Slot k ∷ [])) nought)
   IsCounted vs c = Unit {0}
 
@@ -156,9 +191,10 @@ module _ (Few : ℕ → Bool) where
   PieceCounted vs (Rest ss) = Begins ss
   PieceCounted vs p = Unit {0}
 
-  -- who leaves a simple piece comes to what stands behind it; at a mark that may be done
+  -- who leaves a simple piece, or what fills an array, comes to what stands behind it; at another mark that may be done
   abbrev pub LeftBy : List Value → Sort → Type 0 → Type 0 → Type 0
   LeftBy vs Simple left all = left
+  LeftBy vs (IsFill n b d) left all = left
   LeftBy vs k left all = MarkCounted vs k × all
 
   abbrev mutual
@@ -201,9 +237,20 @@ module _ (Few : ℕ → Bool) where
   AtBound vs (CallUnwrittenNow r ∷ todo) = AtDrop vs todo
   AtBound vs todo = ⊥
 
-  -- what an activation has to do: all is there, also of the scope that opens next, from where its variable is bound on
-  abbrev pub Held : List Value → List Todo → Type 0
-  Held vs todo = AllCounted vs todo ⊎ (AtBound vs todo × NextBound (HoldsObject vs) todo)
+  -- an array is being filled, of which one element more is bound than these many, while what builds that runs
+  pub record FilledBy (vs : List Value) (elements : ℕ) (control : List Todo) : Type 0 where
+    pub array : Array
+    pub turns : control ≡ turn_todo array
+    pub ends : EndsArray array.cell array.ended
+    pub begins : Begins array.rest
+    pub loose : ElementsLoose vs array.cell array.count
+    pub there : ElementsThere vs array.cell array.count (suc elements)
+    pub behind : AllCounted vs array.todo
+
+  -- what an activation has to do that has so many elements: all is there, also of the scope that opens next, from where its variable is bound
+  -- on, and of an array that is being filled
+  abbrev pub Held : List Value → ℕ → List Todo → Type 0
+  Held vs elements todo = AllCounted vs todo ⊎ ((AtBound vs todo × NextBound (HoldsObject vs) todo) ⊎ FilledBy vs elements todo)
 
 -- of any numbers
 abbrev pub Any : ℕ → Bool
@@ -213,10 +260,13 @@ Any n = true
 abbrev pub AllBefore : ℕ → List Todo → Type 0
 AllBefore cell todo = AllCleans (OfEach (IsBefore cell)) todo
 
--- so it does in all of these activations that use the frame of a depth, and so does what was bound of a scope that opens next
+-- so it does in all of these activations that use the frame of a depth, and so does what was bound of a scope that opens next, and of an
+-- array that is being filled
 abbrev pub FrameBefore : ℕ → ℕ → List Active → Type 0
 FrameBefore cell d [] = Unit {0}
-FrameBefore cell d (a ∷ older) = (a.frame ≡ d → AllBefore cell a.control × NextBound (IsBefore cell) a.control) × FrameBefore cell d older
+FrameBefore cell d (a ∷ older) = (a.frame ≡ d →
+    AllBefore cell a.control × NextBound (IsBefore cell) a.control × EachNext (IsBefore cell) a.control) ×
+    FrameBefore cell d older
 
 -- the values of the frame of a depth
 abbrev pub frame_at : ℕ → List (List Value) → List Value

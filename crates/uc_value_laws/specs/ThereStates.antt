@@ -1,20 +1,20 @@
 -- Executions and tasks in which all that is known by its number and in scope is there, the newest activation first.
 use Rattle.std.specs.Prelude.{◌≡◌, ℕ, suc, ◌≤◌, ◌<◌, ◌⊎◌, true, List, [], ◌∷◌, length, Option, Some, None, slice_get, Bool}
-use Rattle.uc_tree.specs.Source.{Variable, Load, OfObject, EndCluster, Destroys, Stmt, Stmts, Block, Whole, OfEvents, Scoped, Try, Routine, Source}
+use Rattle.uc_tree.specs.Source.{Expr, Variable, Load, OfObject, NoExprs, MakeOn, EndCluster, Destroys, Stmt, Stmts, Block, Whole, OfEvents, Scoped, Try, Routine, Source}
 use Rattle.uc_machine.specs.Quiet.{act}
 use Rattle.uc_machine.specs.declared.exec.Owner.{Owner}
 use Rattle.uc_machine.specs.declared.exec.Owner.TheVariants.{Frame, Fields}
 use Rattle.uc_machine.specs.Executions.{Execution, exec_eq}
-use Rattle.uc_machine.specs.Pieces.{Link, Value, Place, address, top, below, Todo, BindNow, BindMadeNow, SetUpNow, DropNow, Within, Do, Rest, ClearNow, Active, State, Env, Members, Step, Goes, Ticks, Asks}
+use Rattle.uc_machine.specs.Pieces.{Link, Value, Place, LAST_ADDRESS, address, top, below, Todo, BindNow, BindMadeNow, SetUpNow, DropNow, CallOnNow, CallUnwrittenNow, MoreNow, FillNow, Within, Do, Rest, ClearNow, Active, State, Env, Members, Step, Goes, Ticks, Asks}
 use Rattle.uc_scope_laws.specs.Clusters.{Begins, HandlersBegin, Joined}
-use Rattle.uc_value_laws.specs.There.{IsLoose, HoldsLoose, HoldsObject, IsThere, IsGiven, NextDrop, NextCall, Pends, Held, Any, AllBefore, FrameBefore, frame_at}
+use Rattle.uc_value_laws.specs.There.{IsLoose, HoldsLoose, HoldsObject, IsBefore, IsThere, IsGiven, NextDrop, NextCall, EachNext, EachCall, Pends, Held, Any, AllBefore, FrameBefore, frame_at}
 
 module _ (Few : ℕ → Bool) where
   -- activations with these frames: each uses its own frame or that of an older one, in which all is there that it has still to clean up
   abbrev pub CountedStack : List (List Value) → List Active → Type 0
   CountedStack fs [] = Unit {0}
   CountedStack fs (a ∷ older) = (a.frame ≤ length older) ×
-      Held Few (frame_at a.frame fs) a.control × CountedStack fs older
+      Held Few (frame_at a.frame fs) a.elements a.control × CountedStack fs older
 
   -- an execution that does not run, with a frame for each activation
   pub record CountedEx (x : Execution (List Todo) Value) : Type 0 where
@@ -77,7 +77,7 @@ BodiesBegin (Whole line body) = Begins body
 BodiesBegin (OfEvents (Try line body hs)) = Begins body × HandlersBegin hs
 BodiesBegin a = Unit {0}
 
--- where a scope opens, what it is of is there, if that is not given: an array is
+-- where a scope opens of a variable that is not given, that is there: its cells lie behind the last address
 abbrev pub OpensThere : List Value → Stmts → Type 0
 OpensThere vs (Scoped c rest) = (IsGiven c → ⊥) → IsThere vs c
 OpensThere vs ss = Unit {0}
@@ -91,10 +91,11 @@ abbrev pub BoundFits : ℕ → List Todo → Type 0
 BoundFits n (DropNow ∷ (Within line ∷ (Rest ss ∷ todo))) = ScopeFits n ss
 BoundFits n todo = Unit {0}
 
--- so of the frame of a depth it is no cell that is still to be bound there
+-- so of the frame of a depth it is no cell that is still to be bound there, and none of an array that is being filled before the last address
 abbrev pub StackAside : ℕ → ℕ → List Active → Type 0
 StackAside cell d [] = Unit {0}
-StackAside cell d (a ∷ older) = (a.frame ≡ d → Pends (λ p. address p ≡ cell → ⊥) a.control) ×
+StackAside cell d (a ∷ older) = (a.frame ≡ d → Pends (λ p. address p ≡ cell → ⊥) a.control ×
+    EachNext (λ p. address p < LAST_ADDRESS → address p ≡ cell → ⊥) a.control) ×
     StackAside cell d older
 
 -- a place where something else than an object may be bound, by an activation with this frame and this to do behind that, before these older
@@ -122,9 +123,20 @@ BoundBehind next vs (Goes s) =
 BoundBehind next vs (Ticks s) = Unit {0}
 BoundBehind next vs (Asks r s) = Unit {0}
 
+-- what builds the elements of an array of mutex objects takes no arguments
+abbrev pub BuildsBare : Source → Expr → Type 0
+BuildsBare source (OfObject (MakeOn c r written p NoExprs)) = (q : Routine) →
+    slice_get source.routines r ≡ Some q → q.params ≡ 0
+BuildsBare source e = Unit {0}
+
+abbrev pub FillsBare : Source → List Todo → Type 0
+FillsBare source (CallOnNow q ∷ (DropNow ∷ (MoreNow ∷ (FillNow n b d ∷ todo)))) = BuildsBare source b
+FillsBare source (CallUnwrittenNow q ∷ (DropNow ∷ (MoreNow ∷ (FillNow n b d ∷ todo)))) = BuildsBare source b
+FillsBare source todo = Unit {0}
+
 -- what a step is to find: where a scope opens, what it is of is there, if it is not given; what is bound is there behind the step, if it was
 -- loose; what is no object is bound aside; what begins and what stands behind each other is as in the source; cells that start anew lie behind
--- all that is there; and a cluster lies in the frame
+-- all that is there; a cluster lies in the frame, and so does each element of an array that is being filled, which takes no arguments
 module _ (source : Source) where
   abbrev pub FairAt : List Todo → State → Type 0
   FairAt (Rest ss ∷ todo) s = Joined ss × OpensThere (frame_at s.run.frame s.env.frames) ss
@@ -132,10 +144,11 @@ module _ (source : Source) where
   FairAt (ClearNow k n ∷ todo) s = AllBefore k todo × FrameBefore k s.run.frame s.callers
   FairAt (BindNow ∷ todo) s = BoundFits (length (frame_at s.run.frame s.env.frames)) todo ×
       BoundBehind (λ P. NextDrop P todo) (frame_at s.run.frame s.env.frames) (act source BindNow todo s) ×
-      PutsAside todo s
+      PutsAside todo s × EachNext (IsBefore (length (frame_at s.run.frame s.env.frames))) todo
   FairAt (BindMadeNow c r ∷ todo) s =
       BoundBehind (λ P. NextCall P todo) (frame_at s.run.frame s.env.frames) (act source (BindMadeNow c r) todo s) ×
-      IsLoose (top s.run.operands)
+      IsLoose (top s.run.operands) × EachCall (IsBefore (length (frame_at s.run.frame s.env.frames))) todo ×
+      FillsBare source todo
   FairAt (SetUpNow r ∷ todo) s = IsAside s.run.this todo s
   FairAt todo s = Unit {0}
 

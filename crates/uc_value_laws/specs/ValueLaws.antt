@@ -6,11 +6,12 @@ use Rattle.uc_entry.specs.declared.request.Answer.TheVariants as answer
 use Rattle.uc_machine.specs.Quiet.{State, quiet, first_state}
 use Rattle.uc_machine.specs.Answering.{answered}
 use Rattle.uc_value_laws.specs.ThereStates.{CountedState, SourceBegins, Fair}
+use Rattle.uc_value_laws.specs.FillingStates.{FillingBy, FillWaits}
 use Rattle.uc_value_laws.specs.NewClusters.{OpeningBy, WaitingBy, GoodBy, GoodStepBy}
 
 -- of any source in which no routine begins with what belongs behind the declaration of a cluster: a task begins with all there, and each
--- step that finds what it is to find keeps that, also on the way from the declaration of a cluster to its scope; so does each answer, and
--- who waits for a new cluster is told of one. Of the numbers of clusters any may be chosen that are so: those of variables are, where each answer
+-- step that finds what it is to find keeps that, also on the way from the declaration of a cluster to its scope, and while an array is filled;
+-- so does each answer, and who waits for a new object is told of one. Of the numbers of clusters any may be chosen that are so: those of variables are, where each answer
 -- tells a new cluster of one of these numbers
 pub record LawSteps : Type 0 where
   pub begins : (few : ℕ → Bool) (source : Source) → SourceBegins source → (r o : ℕ) →
@@ -21,3 +22,5 @@ pub record LawSteps : Type 0 where
       CountedState few (answered source given s)
   pub waited : (few : ℕ → Bool) (source : Source) (o : ℕ) (s : State) → few o ≡ true →
       WaitingBy few s → OpeningBy few (answered source (answer.Object o) s)
+  pub filled : (few : ℕ → Bool) (source : Source) (o : ℕ) (s : State) → FillWaits few s →
+      FillingBy few (answered source (answer.Object o) s)

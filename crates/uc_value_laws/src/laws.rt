@@ -8,6 +8,7 @@ ghost use Rattle.uc_value_laws.specs.ValueLaws.{LawSteps};
 /// What is in scope and known by its number is there: the variable that its clean-up ends holds an
 /// object, whatever is written meanwhile and whoever runs. So does a variable from the step that binds
 /// it on, before its scope opens; from its declaration to that step it holds no place and no execution.
+/// So do the elements of an array, one by one as they are bound.
 pub fn law_steps()
     ensures { LawSteps }
 {}
@@ -20,9 +21,9 @@ pub fn law_reading()
 {}
 
 /// Where activations that use one frame stay behind one another, a step finds what it is to find as soon
-/// as what binds a variable takes, what is no object is bound aside of variables that are still to be
-/// bound, and the scope of an array, or of a variable at a cell that has no address, opens where these hold
-/// objects; of clusters nothing is asked.
+/// as what binds a variable takes, what is no object is bound aside of variables and elements that are
+/// still to be bound, what builds elements takes no arguments, and scopes open in frames of which all
+/// cells have addresses; of clusters nothing is asked.
 pub fn law_fair()
     ensures { LawFair }
 {}

@@ -3,7 +3,7 @@
 use uc_entry::entry::Options;
 
 /// What a line asks for. Its names are the words themselves.
-#[derive(Clone, Copy, PartialEq, Eq, Debug)]
+#[derive(Clone, Copy)]
 pub enum Job<'a> {
     /// To run a file: under these options, with the bytes of the file `input` or with none, and to put the journal behind the output or not.
     Run {
@@ -32,7 +32,7 @@ pub enum Job<'a> {
 }
 
 /// Why words are no line.
-#[derive(Clone, Copy, PartialEq, Eq, Debug)]
+#[derive(Clone, Copy)]
 pub enum WordsFault {
     /// No line begins with the words up to this one, from 1. Where some line begins with all words and goes on, it is one past the last.
     Word { number: u32 },

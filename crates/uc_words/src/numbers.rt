@@ -11,7 +11,7 @@ use uc_tree::limits::{
 };
 
 /// An option of `run` that has a number.
-#[derive(Clone, Copy, PartialEq, Eq, Debug)]
+#[derive(Clone, Copy)]
 pub enum NumberOption {
     Processors,
     Slice,

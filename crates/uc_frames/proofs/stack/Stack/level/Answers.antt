@@ -1,10 +1,12 @@
-use Rattle.std.proofs.Common.{rules, ◌≡◌, length, reverse, arith}
-use Rattle.std.proofs.lemmas.List.{length-reverse}
+use Rattle.std.proofs.Common.{◌≡◌, List, length, reverse, take, arith}
+use Rattle.std.proofs.lemmas.List.{length-reverse, length-take-le}
+use Rattle.uc_frames.specs.declared.active.Activation.{Activation as Row}
 use Rattle.uc_frames.proofs.Completed.{completed_count}
 use Rattle.uc_frames.proofs.stack.Stack.level.Goals as goal
 
 pub returns : goal.returns
 returns c =
     let s = c.self.inside in
-    let n : c.len.result ≡ length s.callers.items = search rules in
-    rw (← c.self.view_is) (omega (arith, n, completed_count (reverse s.callers.items) s.block.waiting, length-reverse s.callers.items))
+    let cs : List Row = take s.waiting s.callers.items in
+    let q : length cs ≡ s.waiting = length-take-le s.waiting s.callers.items c.self.invariant.2 in
+    rw (← c.self.view_is) (omega (arith, q, completed_count (reverse cs) s.block.waiting, length-reverse cs))

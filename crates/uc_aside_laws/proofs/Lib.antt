@@ -1,0 +1,13 @@
+pub mod Keeping
+pub mod Marks
+pub mod Steps
+pub mod Nearness
+pub mod Walk
+pub mod Roles
+pub mod Expressions
+pub mod Statements
+pub mod Routines
+pub mod Puts
+pub mod Worlds
+pub mod LawSteps
+pub mod PutsRuns

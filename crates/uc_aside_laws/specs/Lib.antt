@@ -1,0 +1,5 @@
+pub mod Siting
+pub mod OlderResting
+pub mod Asides
+pub mod AsideLaws
+pub mod AsideRuns

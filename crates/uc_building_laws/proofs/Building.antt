@@ -1,0 +1,161 @@
+-- What is still to be bound of an object that is built, and that it holds what is known once nothing is.
+use Rattle.std.proofs.Common.{◌≡◌, ℕ, suc, ◌⊎◌, inl, inr, List, [], ◌∷◌, length, refl, sym, subst}
+use Rattle.std.specs.Prelude.{slice_index_or}
+use Rattle.uc_tree.specs.Source as src
+use Rattle.uc_tree.specs.Source.{Stmt, Stmts, CleanUp}
+use Rattle.uc_machine.specs.declared.exec.Exec.{Exec}
+use Rattle.uc_machine.specs.declared.exec.Owner.TheVariants.{Frame}
+use Rattle.uc_machine.specs.Pieces as piece
+use Rattle.uc_machine.specs.Pieces.{FieldAt, Value, Place, Todo, Active, address, further, nought}
+use Rattle.uc_typing.specs.Typing.{Ty, Cell, Obj, Row, Table, element_shape, IsParam}
+use Rattle.uc_life_laws.specs.Things.{Few, IsField, Within, itself, field, element, IsUnbound, Known, Holds}
+use Rattle.uc_life_laws.specs.LifeStates.{frame_at, Outwards}
+use Rattle.uc_building_laws.specs.Building.{IsHead, AllLeft, Behind, Now}
+use Rattle.uc_building_laws.specs.BuildingStates.{variable, Awaits, IsBuilt, IsMaking, Builds, of_wait, AllBuild}
+use Rattle.uc_building_laws.proofs.Memory.{FrameKeeps, same_frame, known_kept, holds_kept}
+
+-- parts
+
+pub within_more : (t : Table) {u v : Value} {a b : Ty} {w : Value} {d : Ty} → Within t u a v b → Within t v b w d → Within t u a w d
+within_more t h itself = h
+within_more t h (field k i f) = field (within_more t h k) i f
+within_more t h (element k j l) = element (within_more t h k) j l
+
+-- a part of an object is that itself, or one of a field of it
+data IsPart (t : Table) (w : Value) (c : ℕ) (v : Value) (b : Ty) : Type 0 where
+  whole : v ≡ w → b ≡ Obj c → IsPart t w c v b
+  of : (i : ℕ) → IsField t c i → Within t (further (FieldAt (t.shape c) i) w) (t.fields c i) v b → IsPart t w c v b
+
+part_of : (t : Table) (w : Value) (c : ℕ) {v : Value} {b : Ty} → Within t w (Obj c) v b → IsPart t w c v b
+part_of t w c itself = whole refl refl
+part_of t w c (field {v} {c = d} h i f) = by (part_of t w c h)
+  where
+    by : IsPart t w c v (Obj d) → IsPart t w c (further (FieldAt (t.shape d) i) v) (t.fields d i)
+    by (whole e q) =
+        let s : d ≡ c = cc in
+        of i (subst (λ c. IsField t c i) s f) (subst (λ v. Within t (further (FieldAt (t.shape c) i) w) (t.fields c i) (further (FieldAt (t.shape d) i) v) (t.fields d i)) (sym e) (subst (λ d. Within t (further (FieldAt (t.shape c) i) w) (t.fields c i) (further (FieldAt (t.shape d) i) w) (t.fields d i)) (sym s) itself))
+    by (of j g k) = of j g (field k i f)
+part_of t w c (element {v} {m} {b} h j l) = by (part_of t w c h)
+  where
+    by : IsPart t w c v (Row m b) → IsPart t w c (further (piece.At (element_shape t b) j) v) b
+    by (whole e q) = absurd (cc)
+    by (of k g x) = of k g (element x j l)
+
+-- lists
+
+-- what stands behind what is still to be bound is left as a whole
+pub head_left : (t : Table) (ps : List Ty) (c i : ℕ) (a : Stmt) (A B : Type 0) → (A → B) → IsHead a A → B
+head_left t ps c i (src.Evaluate line e) A B f h = f h
+head_left t ps c i (src.Fill line n b d) A B f h = f h
+head_left t ps c i (src.OfTasks (src.SetUp r)) A B f h = f h
+head_left t ps c i a A B f h = absurd h
+
+pub head_more : (a : Stmt) (A B : Type 0) → (A → B) → IsHead a A → IsHead a B
+head_more (src.Evaluate line e) A B f h = f h
+head_more (src.Fill line n b d) A B f h = f h
+head_more (src.OfTasks (src.SetUp r)) A B f h = f h
+head_more a A B f h = absurd h
+
+module _ (t : Table) (ps : List Ty) (c i : ℕ) where
+  pub left : (todo : List Todo) → Behind t ps c i todo → AllLeft todo
+  left [] h = absurd h
+  left (piece.Rest ss ∷ todo) h = h.1
+  left (piece.Do a ∷ todo) h = head_left t ps c i a (Behind t ps c i todo) (AllLeft todo) (left todo) h
+  left (piece.Unwind ∷ todo) h = h
+  left (piece.ClearNow k n ∷ todo) h = absurd h
+  left (piece.Variables ds ∷ todo) h = absurd h
+  left (piece.Branch a b ∷ todo) h = absurd h
+  left (piece.TurnNow o e step b ∷ todo) h = absurd h
+  left (piece.Again o e step b ∷ todo) h = absurd h
+  left (piece.Exit w ∷ todo) h = absurd h
+  left (piece.ChooseNow cs ∷ todo) h = absurd h
+  left (piece.InLoop o e step b ∷ todo) h = absurd h
+  left (piece.InWhole ∷ todo) h = absurd h
+  left (piece.Clean x ∷ todo) h = absurd h
+  left (piece.Part x ∷ todo) h = absurd h
+  left (piece.Guard hs ∷ todo) h = absurd h
+  left (piece.Finish ∷ todo) h = absurd h
+  left (piece.FinishCoroutine ∷ todo) h = absurd h
+  left (p ∷ todo) h = left todo h
+
+  pub now : (w : Value) (K : Ty → Value → Type 0) (todo : List Todo) (vs : List Value) → Behind t ps c i todo → Now t ps c i w K todo vs
+  now w K [] vs h = h
+  now w K (piece.Do a ∷ todo) vs h = inr h
+  now w K (piece.Eval e ∷ todo) vs h = inr h
+  now w K (piece.BindNow ∷ todo) vs h = inr h
+  now w K (p ∷ todo) vs h = h
+
+-- what is next
+
+pub awaits_more : (P Q : CleanUp → List Todo → Type 0) → ((c : CleanUp) (todo : List Todo) → P c todo → Q c todo) → (l : List Todo) → Awaits P l → Awaits Q l
+awaits_more P Q f (piece.DropNow ∷ (piece.Within line ∷ (piece.Rest (src.Scoped c ss) ∷ todo))) h = f c todo h
+awaits_more P Q f l h = tt
+
+pub awaits_both : (P Q R : CleanUp → List Todo → Type 0) → ((c : CleanUp) (todo : List Todo) → P c todo → Q c todo → R c todo) → (l : List Todo) → Awaits P l → Awaits Q l → Awaits R l
+awaits_both P Q R f (piece.DropNow ∷ (piece.Within line ∷ (piece.Rest (src.Scoped c ss) ∷ todo))) h k = f c todo h k
+awaits_both P Q R f l h k = tt
+
+pub awaits_all : (P : CleanUp → List Todo → Type 0) → ((c : CleanUp) (todo : List Todo) → P c todo) → (l : List Todo) → Awaits P l
+awaits_all P f (piece.DropNow ∷ (piece.Within line ∷ (piece.Rest (src.Scoped c ss) ∷ todo))) = f c todo
+awaits_all P f l = tt
+
+module _ (t : Table) (few : Few) (n : Exec) where
+  -- of a field of an object
+  pub built : (fs : List (List Value)) (g : ℕ) (w : Value) (c : ℕ) (K : Value → Ty → Type 0) → ((i : ℕ) → IsField t c i → Holds t few n K (Frame n g) (frame_at g fs) (further (FieldAt (t.shape c) i) w) (t.fields c i)) → IsBuilt t few n fs g w c K
+  built fs g w c K h p b i binds = by (part_of t w c i)
+    where
+      by : IsPart t w c (Place (Frame n g) p) (Cell b) → Known t few n K b (slice_index_or (frame_at g fs) (address p) nought)
+      by (whole e q) = absurd (cc)
+      by (of j f k) = h j f p b k binds
+
+  pub unbound : (fs : List (List Value)) (g : ℕ) (w : Value) (K : Value → Ty → Type 0) (a : Ty) → IsUnbound t a → Holds t few n K (Frame n g) (frame_at g fs) w a
+  unbound fs g w K a none p b i binds = absurd (none w (Place (Frame n g) p) b i binds)
+
+  -- those that wait keep what is bound in their frames
+  abbrev pub AllKeep : List (List Value) → List (List Value) → List Active → Type 0
+  AllKeep fs gs [] = Unit {0}
+  AllKeep fs gs (a ∷ older) = FrameKeeps fs gs a.frame × AllKeep fs gs older
+
+  pub all_keep : (fs gs : List (List Value)) → ((d : ℕ) → FrameKeeps fs gs d) → (cs : List Active) → AllKeep fs gs cs
+  all_keep fs gs k [] = tt
+  all_keep fs gs k (a ∷ older) = (k a.frame, all_keep fs gs k older)
+
+  module _ (L M : List Ty → ℕ → ℕ → Value → (Ty → Value → Type 0) → Type 0) (fs gs : List (List Value)) (f : ℕ) (this : Value) where
+    -- what is still to be bound of an object is bound, or still to be bound
+    abbrev pub Goes : ℕ → Type 1
+    Goes g = (k : ℕ) (ps : List Ty) (c i : ℕ) (K : Value → Ty → Type 0) → this ≡ variable n g k → ((j : ℕ) (b : Ty) → IsParam ps j b → Known t few n K b (slice_index_or (frame_at f fs) j nought)) → Known t few n K (Obj c) (variable n g k) → L ps c i (variable n g k) (Known t few n K) → Holds t few n K (Frame n g) (frame_at g gs) (further (FieldAt (t.shape c) i) (variable n g k)) (t.fields c i) ⊎ M ps c i (variable n g k) (Known t few n K)
+
+    making_to : (depth g k c : ℕ) (K : Value → Ty → Type 0) → FrameKeeps fs gs f → FrameKeeps fs gs g → Goes g → IsMaking t few n L fs f depth this g (variable n g k) c K → IsMaking t few n M gs f depth this g (variable n g k) c K
+    making_to depth g k c K kf kg m h = record {
+      frame = h.frame;
+      object = h.object;
+      known_object = h.known_object;
+      params = h.params;
+      known = λ j b i. known_kept t few n K b _ _ (kf j) (h.known j b i);
+      fields = λ i x. by i (h.fields i x);
+    }
+      where
+        by : (i : ℕ) → Holds t few n K (Frame n g) (frame_at g fs) (further (FieldAt (t.shape c) i) (variable n g k)) (t.fields c i) ⊎ L h.params c i (variable n g k) (Known t few n K) → Holds t few n K (Frame n g) (frame_at g gs) (further (FieldAt (t.shape c) i) (variable n g k)) (t.fields c i) ⊎ M h.params c i (variable n g k) (Known t few n K)
+        by i (inl x) = inl (holds_kept t few n K (Frame n g) (frame_at g fs) (frame_at g gs) _ (t.fields c i) kg x)
+        by i (inr x) = m k h.params c i K h.object h.known h.known_object x
+
+    either_to : (depth g k c : ℕ) (K : Value → Ty → Type 0) → FrameKeeps fs gs f → FrameKeeps fs gs g → Goes g → IsBuilt t few n fs g (variable n g k) c K ⊎ IsMaking t few n L fs f depth this g (variable n g k) c K → IsBuilt t few n gs g (variable n g k) c K ⊎ IsMaking t few n M gs f depth this g (variable n g k) c K
+    either_to depth g k c K kf kg m (inl h) = inl (holds_kept t few n K (Frame n g) (frame_at g fs) (frame_at g gs) (variable n g k) (Obj c) kg h)
+    either_to depth g k c K kf kg m (inr h) = inr (making_to depth g k c K kf kg m h)
+
+    pub builds_to : (cs : List Active) → FrameKeeps fs gs f → AllKeep fs gs cs → ((g : ℕ) → Goes g) → Builds t few n L fs f this cs → Builds t few n M gs f this cs
+    builds_to [] kf k m h = tt
+    builds_to (b ∷ older) kf k m h =
+        awaits_more _ _ (λ c todo x j i d. either_to (suc (length older)) b.frame j i (Outwards t few n b.frame b.this older c todo) kf k.0 (m b.frame) (x j i d)) b.control h
+
+  pub builds_kept : (L : List Ty → ℕ → ℕ → Value → (Ty → Value → Type 0) → Type 0) (fs gs : List (List Value)) (f : ℕ) (this : Value) (cs : List Active) → FrameKeeps fs gs f → AllKeep fs gs cs → Builds t few n L fs f this cs → Builds t few n L gs f this cs
+  builds_kept L fs gs f this cs kf k h = builds_to L L fs gs f this cs kf k (λ g j ps c i K e p o x. inr x) h
+
+  pub all_kept : (fs gs : List (List Value)) (cs : List Active) → AllKeep fs gs cs → AllBuild t few n fs cs → AllBuild t few n gs cs
+  all_kept fs gs [] k h = tt
+  all_kept fs gs (a ∷ older) k h = (builds_kept (of_wait t a) fs gs a.frame a.this older k.0 k.1 h.0, all_kept fs gs older k.1 h.1)
+
+  -- something else is left
+  pub builds_more : (L M : List Ty → ℕ → ℕ → Value → (Ty → Value → Type 0) → Type 0) → ((ps : List Ty) (c i : ℕ) (w : Value) (K : Ty → Value → Type 0) → L ps c i w K → M ps c i w K) → (fs : List (List Value)) (f : ℕ) (this : Value) (cs : List Active) → Builds t few n L fs f this cs → Builds t few n M fs f this cs
+  builds_more L M m fs f this cs h =
+      builds_to L M fs fs f this cs (same_frame fs f) (all_keep fs fs (same_frame fs) cs) (λ g j ps c i K e p o x. inr (m ps c i (variable n g j) (Known t few n K) x)) h

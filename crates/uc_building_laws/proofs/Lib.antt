@@ -1,0 +1,11 @@
+pub mod Memory
+pub mod Building
+pub mod Keeping
+pub mod Searching
+pub mod Steps
+pub mod Making
+pub mod Clears
+pub mod Standing
+pub mod Walk
+pub mod Laid
+pub mod Worlds

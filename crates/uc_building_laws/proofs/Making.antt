@@ -1,0 +1,281 @@
+-- A constructor is called, finds its fields, binds them; and cells start anew.
+use Rattle.std.proofs.Common.{◌≡◌, ℕ, suc, ◌-◌, ◌≤◌, ◌⊎◌, inl, inr, Bool, true, false, List, [], ◌∷◌, length, drop, Option, Some, None, refl, sym, ap, ◌∙◌, subst, arith}
+use Rattle.std.specs.Prelude.{nat_lt, replicate, slice_get, slice_index_or, if◌then◌else◌}
+use Rattle.std.proofs.lemmas.Bool.{eq-eqb}
+use Rattle.uc_tree.specs.declared.limits.TheConstants.{CALLS}
+use Rattle.uc_tree.specs.Source as src
+use Rattle.uc_tree.specs.Source.{Shape, Expr, CleanUp, Purpose, Routine, Source}
+use Rattle.uc_machine.specs.declared.exec.Owner.TheVariants.{Frame}
+use Rattle.uc_machine.specs.Executions.{exec_eq, at_depth, list_in, frames_of, frames_in, parked_at, take_operands}
+use Rattle.uc_machine.specs.Raising as raising
+use Rattle.uc_machine.specs.Raising.{Event, Found}
+use Rattle.uc_machine.specs.Quiet as quiet
+use Rattle.uc_machine.specs.Pieces as piece
+use Rattle.uc_machine.specs.Pieces.{Slot, FieldAt, Value, Place, Todo, Active, State, Env, Goes, at, in_env, top, below, further, loaded, written, address, variable_at, nought, LAST_ADDRESS}
+use Rattle.uc_typing.specs.Typing.{Ty, Cell, Obj, Row, Table, CleansAt, IsParam, IsPlaced, object_ty}
+use Rattle.uc_typing.specs.Pieces.{Ok, onto}
+use Rattle.uc_typing.specs.States.{IsObjectBy, Sound}
+use Rattle.uc_life_laws.specs.Things.{Few, IsField, lies, Within, itself, field, element, IsUnbound, InTodo, IsFor, AtField, Known, Holds}
+use Rattle.uc_life_laws.specs.LifeStates.{frame_at, Outwards}
+use Rattle.uc_scope_laws.specs.RoomStacks.{StackState}
+use Rattle.uc_life_laws.specs.Knowing.{InMaking, AtHand, KnownAll, KnownParams, KnowsState}
+use Rattle.uc_life_laws.proofs.Cells.{either}
+use Rattle.uc_life_laws.proofs.Steps.{exec_same}
+use Rattle.uc_life_laws.proofs.Knowns as known
+use Rattle.uc_building_laws.specs.Building.{InHead, AllLeft, Finds, Now}
+use Rattle.uc_building_laws.specs.BuildingStates.{variable, Awaits, IsBuilt, IsMaking, Builds, of_wait, AllBuild, IsApart, AllApart, BuildsEnv}
+use Rattle.uc_building_laws.specs.BuildingLaws.{IsPlain, IsConstructed, Constructs}
+use Rattle.uc_building_laws.proofs.Memory.{frame_newer, same_frame}
+use Rattle.uc_building_laws.proofs.Building as building
+use Rattle.uc_building_laws.proofs.Building.{awaits_more, all_keep, builds_to, builds_kept, all_kept}
+use Rattle.uc_building_laws.proofs.Keeping as kept
+use Rattle.uc_building_laws.proofs.Keeping.{Keeps}
+use Rattle.uc_building_laws.proofs.Searching.{Frames, FoundApart, frames_of_stack, seek_apart}
+use Rattle.uc_building_laws.proofs.Steps as steps
+use Rattle.uc_building_laws.proofs.Steps.{StepBuilds, newer_all}
+
+-- a binding has no parts
+within_cell : (t : Table) (w : Value) (b : Ty) (v : Value) (d : Ty) → Within t w (Cell b) v d → (v ≡ w) × (d ≡ Cell b)
+within_cell t w b v d itself = (refl, refl)
+within_cell t w b v d (field {v = u} {c} h i f) = let e = within_cell t w b u (Obj c) h in absurd (cc)
+within_cell t w b v d (element {v = u} {m} {b = x} h j l) = let e = within_cell t w b u (Row m x) h in absurd (cc)
+
+module _ (t : Table) (ps : List Ty) (c i : ℕ) (w : Value) (K : Ty → Value → Type 0) where
+  -- the place of a field is found: that is to be bound, or to be what it is bound to
+  found : (k : Shape) (j : ℕ) (this : Value) → this ≡ w → ((m : ℕ) → IsField t c m → IsPlaced t (t.fields c m) → K (t.fields c m) (further (FieldAt (t.shape c) m) w)) → (todo : List Todo) (vs : List Value) → Finds t ps c i w K (src.OfObject (src.OwnField k j)) todo vs → Now t ps c i w K todo (further (FieldAt k j) this ∷ vs)
+  found k j this e h (piece.Eval (src.Get m) ∷ (piece.BindNow ∷ todo)) vs f =
+      inl (inr (f.2, ap (λ k. further (FieldAt k j) this) f.1 ∙ (ap (λ j. further (FieldAt (t.shape c) j) this) f.0 ∙ ap (further (FieldAt (t.shape c) i)) e), f.3))
+  found k j this e h (piece.Eval (src.OfObject (src.OwnField l m)) ∷ (piece.BindNow ∷ todo)) vs f =
+      inl (inr (f.2, ap (λ k. further (FieldAt k j) this) f.1 ∙ (ap (λ j. further (FieldAt (t.shape c) j) this) f.0 ∙ ap (further (FieldAt (t.shape c) i)) e), f.3))
+  found k j this e h (piece.Eval (src.OfObject x) ∷ (piece.BindNow ∷ todo)) vs f = absurd f.2
+  found k j this e h (piece.Eval x ∷ (piece.BindNow ∷ todo)) vs f = absurd f.2
+  found k j this e h (piece.BindNow ∷ todo) vs f =
+      inl (t.fields c j, f.0.0, f.1, subst (K (t.fields c j)) (sym (ap (λ k. further (FieldAt k j) this) f.0.1 ∙ ap (further (FieldAt (t.shape c) j)) e)) (h j f.0.2 f.0.3), f.2)
+  found k j this e h todo vs f = absurd f
+
+  owns : (k : Shape) (j : ℕ) (this : Value) → this ≡ w → ((m : ℕ) → IsField t c m → IsPlaced t (t.fields c m) → K (t.fields c m) (further (FieldAt (t.shape c) m) w)) → (todo : List Todo) (vs : List Value) → Now t ps c i w K (piece.Eval (src.OfObject (src.OwnField k j)) ∷ todo) vs → Now t ps c i w K todo (further (FieldAt k j) this ∷ vs)
+  owns k j this e h todo vs (inl (inl x)) = absurd x.0
+  owns k j this e h todo vs (inl (inr x)) = found k j this e h todo vs x
+  owns k j this e h todo vs (inr x) = building.now t ps c i w K todo _ x
+
+  -- what it is to be bound to
+  got : (m : ℕ) (v : Value) → ((b : Ty) → IsParam ps m b → m ≤ LAST_ADDRESS → K b v) → (todo : List Todo) (vs : List Value) → Finds t ps c i w K (src.Get m) todo vs → Now t ps c i w K todo (v ∷ vs)
+  got m v h (piece.BindNow ∷ todo) vs f = inl (f.0.0, f.0.1, f.1, h f.0.0 f.0.2 f.0.3, f.2)
+  got m v h todo vs f = absurd f
+
+  gets : (m : ℕ) (v : Value) → ((b : Ty) → IsParam ps m b → m ≤ LAST_ADDRESS → K b v) → (todo : List Todo) (vs : List Value) → Now t ps c i w K (piece.Eval (src.Get m) ∷ todo) vs → Now t ps c i w K todo (v ∷ vs)
+  gets m v h todo vs (inl (inl x)) = absurd x.0
+  gets m v h todo vs (inl (inr x)) = got m v h todo vs x
+  gets m v h todo vs (inr x) = building.now t ps c i w K todo _ x
+
+slot_address : (k : ℕ) → k ≤ LAST_ADDRESS → address (Slot k ∷ []) ≡ k
+slot_address k l = omega (arith, l)
+
+-- a new frame is shared with none
+far : (m : ℕ) (a : Active) (cs : List Active) → length (a ∷ cs) ≤ m → a.frame ≤ length cs → Frames cs → IsApart m (a ∷ cs)
+far m a [] l le h = ((λ e o k. let n : ⊥ = omega (arith, e, l, le) in absurd n), tt)
+far m a (c ∷ cs) l le h = ((λ e o k. let n : ⊥ = omega (arith, e, l, le) in absurd n), far m c cs (omega (arith, l)) h.0 h.1)
+
+-- the frame that is called is the newest
+newest_frame : (x : List Value) (fs : List (List Value)) → frame_at (length fs) (x ∷ fs) ≡ x
+newest_frame x fs = ap (λ (b : Bool). list_in (if b then Some x else at_depth fs (length fs))) (eq-eqb (length fs) (length fs) refl)
+
+module _ (t : Table) (few : Few) (Z : ℕ → ℕ → Type 0) (s : State) (life : StackState Z s) (env : BuildsEnv t few s.env) (callers : AllBuild t few s.env.exec s.env.frames s.callers) (apart : AllApart (s.run ∷ s.callers)) where
+  abbrev With : (List Ty → ℕ → ℕ → Value → (Ty → Value → Type 0) → Type 0) → Type 0
+  With L = steps.With t few Z s life env callers apart L
+
+  abbrev Holding : List Todo → Type 0
+  Holding todo = steps.Holding t few Z s life env callers apart todo
+
+  frames_here : frames_of s.env.exec s.env ≡ s.env.frames
+  frames_here = ap (λ (c : Bool). if c then s.env.frames else frames_in (parked_at s.env.exec s.env)) (exec_same s.env.exec)
+
+  loaded_here : (m : ℕ) → m ≤ LAST_ADDRESS → loaded (variable_at m s) s.env ≡ slice_index_or (frame_at s.run.frame s.env.frames) m nought
+  loaded_here m l =
+      ap (λ fs. slice_index_or (list_in (at_depth fs s.run.frame)) (address (Slot m ∷ [])) nought) frames_here ∙ ap (λ k. slice_index_or (frame_at s.run.frame s.env.frames) k nought) (slot_address m l)
+
+  -- the place of a field of the object at hand is found
+  pub own : (k : Shape) (j : ℕ) (todo : List Todo) → With (λ ps c i w K. Now t ps c i w K (piece.Eval (src.OfObject (src.OwnField k j)) ∷ todo) s.run.operands) → StepBuilds t few (quiet.eval_step (src.OfObject (src.OwnField k j)) todo s)
+  own k j todo h = record {
+    apart = apart;
+    run = builds_to t few s.env.exec (λ ps c i w K. Now t ps c i w K (piece.Eval (src.OfObject (src.OwnField k j)) ∷ todo) s.run.operands) (λ ps c i w K. Now t ps c i w K todo (further (FieldAt k j) s.run.this ∷ s.run.operands)) s.env.frames s.env.frames s.run.frame s.run.this s.callers (same_frame s.env.frames s.run.frame) (all_keep t few s.env.exec s.env.frames s.env.frames (same_frame s.env.frames) s.callers) (λ g m ps c i K e p o x. inr (owns t ps c i (variable s.env.exec g m) (Known t few s.env.exec K) k j s.run.this e (λ n f l. known.further_field t few s.env.exec K c n (t.shape c) (variable s.env.exec g m) refl l (λ r. f) o) todo s.run.operands x)) h;
+    callers = callers;
+    env = env;
+  }
+
+  -- so is what a parameter is bound to
+  pub get : (m : ℕ) (todo : List Todo) → With (λ ps c i w K. Now t ps c i w K (piece.Eval (src.Get m) ∷ todo) s.run.operands) → StepBuilds t few (quiet.eval_step (src.Get m) todo s)
+  get m todo h = record {
+    apart = apart;
+    run = builds_to t few s.env.exec (λ ps c i w K. Now t ps c i w K (piece.Eval (src.Get m) ∷ todo) s.run.operands) (λ ps c i w K. Now t ps c i w K todo (loaded (variable_at m s) s.env ∷ s.run.operands)) s.env.frames s.env.frames s.run.frame s.run.this s.callers (same_frame s.env.frames s.run.frame) (all_keep t few s.env.exec s.env.frames s.env.frames (same_frame s.env.frames) s.callers) (λ g j ps c i K e k o x. inr (gets t ps c i (variable s.env.exec g j) (Known t few s.env.exec K) m (loaded (variable_at m s) s.env) (λ b p l. subst (Known t few s.env.exec K b) (sym (loaded_here m l)) (k m b p)) todo s.run.operands x)) h;
+    callers = callers;
+    env = env;
+  }
+
+  -- a field is bound
+  module _ (todo : List Todo) (takes : (c i : ℕ) → top (below s.run.operands) ≡ further (FieldAt (t.shape c) i) s.run.this → loaded (top (below s.run.operands)) (written (top (below s.run.operands)) (top s.run.operands) s.env) ≡ top s.run.operands) where
+    abbrev after : Env
+    after = written (top (below s.run.operands)) (top s.run.operands) s.env
+
+    keeps : Keeps t few s.env after
+    keeps = kept.written_keeps t few (top (below s.run.operands)) (top s.run.operands) s.env env
+
+    frames_after : frames_of s.env.exec after ≡ after.frames
+    frames_after = ap (λ (c : Bool). if c then after.frames else frames_in (parked_at s.env.exec after)) (subst (λ m. exec_eq s.env.exec m ≡ true) (sym keeps.exec) (exec_same s.env.exec))
+
+    held : (g k c i : ℕ) (K : Value → Ty → Type 0) → s.run.this ≡ variable s.env.exec g k → (b : Ty) → t.fields c i ≡ Cell b → top (below s.run.operands) ≡ further (FieldAt (t.shape c) i) (variable s.env.exec g k) → Known t few s.env.exec K b (top s.run.operands) → Holds t few s.env.exec K (Frame s.env.exec g) (frame_at g after.frames) (further (FieldAt (t.shape c) i) (variable s.env.exec g k)) (t.fields c i)
+    held g k c i K e b f p h q d x binds =
+        let y = within_cell t (further (FieldAt (t.shape c) i) (variable s.env.exec g k)) b (Place (Frame s.env.exec g) q) (Cell d) (subst (λ a. Within t (further (FieldAt (t.shape c) i) (variable s.env.exec g k)) a (Place (Frame s.env.exec g) q) (Cell d)) f x) in
+        let z = y.0 in
+        let u = y.1 in
+        let path : q ≡ FieldAt (t.shape c) i ∷ (Slot k ∷ []) = cc in
+        let type : d ≡ b = cc in
+        let there : loaded (top (below s.run.operands)) after ≡ top s.run.operands = takes c i (p ∙ sym (ap (further (FieldAt (t.shape c) i)) e)) in
+        let here : loaded (further (FieldAt (t.shape c) i) (variable s.env.exec g k)) after ≡ top s.run.operands = subst (λ v. loaded v after ≡ top s.run.operands) p there in
+        let stands : slice_index_or (frame_at g after.frames) (address (FieldAt (t.shape c) i ∷ (Slot k ∷ []))) nought ≡ top s.run.operands = subst (λ fs. slice_index_or (list_in (at_depth fs g)) (address (FieldAt (t.shape c) i ∷ (Slot k ∷ []))) nought ≡ top s.run.operands) frames_after here in
+        subst (λ q. Known t few s.env.exec K d (slice_index_or (frame_at g after.frames) (address q) nought)) (sym path) (subst (λ d. Known t few s.env.exec K d (slice_index_or (frame_at g after.frames) (address (FieldAt (t.shape c) i ∷ (Slot k ∷ []))) nought)) (sym type) (subst (Known t few s.env.exec K b) (sym stands) h))
+
+    bound : (vs : List Value) (g k : ℕ) (ps : List Ty) (c i : ℕ) (K : Value → Ty → Type 0) → s.run.this ≡ variable s.env.exec g k → Now t ps c i (variable s.env.exec g k) (Known t few s.env.exec K) (piece.BindNow ∷ todo) s.run.operands → Holds t few s.env.exec K (Frame s.env.exec g) (frame_at g after.frames) (further (FieldAt (t.shape c) i) (variable s.env.exec g k)) (t.fields c i) ⊎ Now t ps c i (variable s.env.exec g k) (Known t few s.env.exec K) todo vs
+    bound vs g k ps c i K e (inl x) = inl (held g k c i K e x.0 x.1 x.2 x.3)
+    bound vs g k ps c i K e (inr x) = inr (building.now t ps c i (variable s.env.exec g k) (Known t few s.env.exec K) todo vs x)
+
+    pub bind_now : (vs : List Value) → With (λ ps c i w K. Now t ps c i w K (piece.BindNow ∷ todo) s.run.operands) → StepBuilds t few (Goes (at todo vs (in_env after s)))
+    bind_now vs h = record {
+      apart = apart;
+      run = subst (λ n. Builds t few n (λ ps c i w K. Now t ps c i w K todo vs) after.frames s.run.frame s.run.this s.callers) (sym keeps.exec) (builds_to t few s.env.exec (λ ps c i w K. Now t ps c i w K (piece.BindNow ∷ todo) s.run.operands) (λ ps c i w K. Now t ps c i w K todo vs) s.env.frames after.frames s.run.frame s.run.this s.callers (keeps.frames s.run.frame) (all_keep t few s.env.exec s.env.frames after.frames keeps.frames s.callers) (λ g m ps c i K e k o x. bound vs g m ps c i K e x) h);
+      callers = subst (λ n. AllBuild t few n after.frames s.callers) (sym keeps.exec) (all_kept t few s.env.exec s.env.frames after.frames s.callers (all_keep t few s.env.exec s.env.frames after.frames keeps.frames s.callers) callers);
+      env = keeps.env;
+    }
+
+  -- calls
+
+  -- those that wait, once one more does, with a new frame
+  module _ (x : List Value) (todo : List Todo) (vs : List Value) (h : Holding todo) where
+    abbrev waits : Active
+    waits = record s.run { control = todo; operands = vs }
+
+    all_new : AllBuild t few s.env.exec (x ∷ s.env.frames) (waits ∷ s.callers)
+    all_new =
+        let n = life.frames in
+        let r = life.stack.0.frame in
+        let k = newer_all t few Z s.env.exec x s.env.frames s.callers (omega (arith, n)) life.stack.1 in
+        (builds_kept t few s.env.exec (of_wait t waits) s.env.frames (x ∷ s.env.frames) s.run.frame s.run.this s.callers (frame_newer x s.env.frames s.run.frame (omega (arith, n, r))) k h, all_kept t few s.env.exec s.env.frames (x ∷ s.env.frames) s.callers k callers)
+
+  -- no scope of an object opens behind what is called
+  none_built : (L : List Ty → ℕ → ℕ → Value → (Ty → Value → Type 0) → Type 0) (fs : List (List Value)) (f : ℕ) (this : Value) (b : Active) (older : List Active) → Awaits (λ c rest. IsPlain t c → ⊥) b.control → Builds t few s.env.exec L fs f this (b ∷ older)
+  none_built L fs f this b older h = awaits_more (λ c rest. IsPlain t c → ⊥) _ (λ c rest none k i d. absurd (none (k, i, d))) b.control h
+
+  begun : (r : Routine) (this : Value) (counts : Bool) (todo : List Todo) (vs : List Value) → Holding todo → Builds t few s.env.exec (λ ps c i w K. Now t ps c i w K (quiet.routine_todo r) []) (quiet.call_frame r s.run.operands ∷ s.env.frames) (length s.env.frames) this (record s.run { control = todo; operands = vs } ∷ s.callers) → StepBuilds t few (quiet.begun_step r this counts todo vs s)
+  begun r this counts todo vs h b = record {
+    apart = (far (length s.env.frames) (record s.run { control = todo; operands = vs }) s.callers (let n = life.frames in omega (arith, n)) life.stack.0.frame (frames_of_stack Z s.env.frames s.callers life.stack.1), apart);
+    run = b;
+    callers = all_new (quiet.call_frame r s.run.operands) todo vs h;
+    env = kept.like t few env refl refl refl;
+  }
+
+  pub call : (r : Option Routine) (todo : List Todo) → Awaits (λ c rest. IsPlain t c → ⊥) todo → Holding todo → StepBuilds t few (quiet.call_step r todo s)
+  call None todo n h = steps.stays t few Z s life env callers apart _ _ h
+  call (Some r) todo n h =
+      either (StepBuilds t few) (nat_lt s.env.links.calls CALLS) _ _ (begun r _ true todo (drop r.params s.run.operands) h (none_built (λ ps c i w K. Now t ps c i w K (quiet.routine_todo r) []) (quiet.call_frame r s.run.operands ∷ s.env.frames) (length s.env.frames) piece.Nothing (record s.run { control = todo; operands = drop r.params s.run.operands }) s.callers n)) (steps.stays t few Z s life env callers apart todo _ h)
+
+  -- the handler of a resumption begins
+  handles : (o : Option Found) (e : Event) (todo : List Todo) → FoundApart (record s.run { control = todo } ∷ s.callers) o → Awaits (λ c rest. IsPlain t c → ⊥) (piece.DropNow ∷ todo) → Holding todo → StepBuilds t few (raising.handle_step o e todo s)
+  handles None e todo f n h = steps.throws t few Z s life env callers apart e todo h
+  handles (Some x) e todo f n h = record {
+    apart = (f.0, apart);
+    run = none_built _ ([] ∷ s.env.frames) _ _ (record s.run { control = piece.DropNow ∷ todo; operands = below (below (below s.run.operands)) }) s.callers n;
+    callers = all_new [] (piece.DropNow ∷ todo) (below (below (below s.run.operands))) h;
+    env = kept.like t few env refl refl refl;
+  }
+
+  pub raises : (e : Event) (todo : List Todo) → Awaits (λ c rest. IsPlain t c → ⊥) (piece.DropNow ∷ todo) → Holding todo → StepBuilds t few (raising.raise_step e todo s)
+  raises e todo n h = handles (raising.seek None e (record s.run { control = todo } ∷ s.callers)) e todo (seek_apart None e (record s.run { control = todo } ∷ s.callers) (life.stack.0.frame, frames_of_stack Z s.env.frames s.callers life.stack.1) apart) n h
+
+  -- a constructor is called at the variable whose scope opens next
+  module _ (source : Source) (sound : Sound t source) (r : ℕ) (q : Routine) (is : slice_get source.routines r ≡ Some q) where
+    abbrev ps : List Ty
+    ps = (t.routine r).params
+
+    behind_left : (p : Purpose) (line : ℕ) → p ≡ src.Builder → AllLeft (quiet.behind_body p line)
+    behind_left src.TaskMain line e = absurd (cc)
+    behind_left src.CoroutineMain line e = absurd (cc)
+    behind_left src.Procedure line e = tt
+    behind_left src.Function line e = tt
+    behind_left src.Builder line e = tt
+
+    -- what is left to be bound as it begins
+    lacks : (K : Value → Ty → Type 0) (fs : List (List Value)) (g k c i : ℕ) → q.purpose ≡ src.Builder → InHead t ps c i q.body ⊎ IsUnbound t (t.fields c i) → Holds t few s.env.exec K (Frame s.env.exec g) (frame_at g fs) (further (FieldAt (t.shape c) i) (variable s.env.exec g k)) (t.fields c i) ⊎ Now t ps c i (variable s.env.exec g k) (Known t few s.env.exec K) (quiet.routine_todo q) []
+    lacks K fs g k c i p (inl x) = inr (x, behind_left q.purpose q.line p)
+    lacks K fs g k c i p (inr x) = inl (building.unbound t few s.env.exec fs g _ K (t.fields c i) x)
+
+    module _ (o : Todo) (owns_all : (x : KnowsState t few [] s) → (more : List Ty) × (x.run.own ≡ onto ps more)) (outside : (w : Value) (a : Ty) (todo : List Todo) → InTodo (IsFor t (Frame s.env.exec s.run.frame) s.run.this) (AtField t (Frame s.env.exec s.run.frame) s.run.this) (o ∷ todo) w a → InTodo (IsFor t (Frame s.env.exec s.run.frame) s.run.this) (AtField t (Frame s.env.exec s.run.frame) s.run.this) todo w a) where
+      -- its parameters are known to what lies outwards of the scope to come
+      module _ (line : ℕ) (c : CleanUp) (ss : src.Stmts) (rest : List Todo) (control : s.run.control ≡ o ∷ (piece.DropNow ∷ (piece.Within line ∷ (piece.Rest (src.Scoped c ss) ∷ rest)))) where
+        abbrev K : Value → Ty → Type 0
+        K w a = Outwards t few s.env.exec s.run.frame s.run.this s.callers c rest w a
+
+        less : (x : KnowsState t few [] s) → ((w : Value) (a : Ty) → InMaking x.sigs (s.run ∷ s.callers) w a → ⊥) → (w : Value) (a : Ty) → AtHand t few s.env.exec x.sigs (s.run ∷ s.callers) w a → K w a
+        less x apart w a (inl (inl h)) =
+            inl (inr (outside w a (piece.DropNow ∷ (piece.Within line ∷ (piece.Rest (src.Scoped c ss) ∷ rest))) (subst (λ l. InTodo (IsFor t (Frame s.env.exec s.run.frame) s.run.this) (AtField t (Frame s.env.exec s.run.frame) s.run.this) l w a) control h)))
+        less x apart w a (inl (inr h)) = inr h
+        less x apart w a (inr h) = absurd (apart w a h)
+
+        params_known : (x : KnowsState t few [] s) → ((w : Value) (a : Ty) → InMaking x.sigs (s.run ∷ s.callers) w a → ⊥) → KnownParams t few s.env.exec K ps (quiet.call_frame q s.run.operands)
+        params_known x apart =
+            let m = owns_all x in
+            let all : KnownAll t few s.env.exec K x.run.own s.run.operands = known.all_more t few s.env.exec (AtHand t few s.env.exec x.sigs (s.run ∷ s.callers)) K (less x apart) x.run.own s.run.operands x.run.values in
+            let given : KnownAll t few s.env.exec K (onto ps m.0) s.run.operands = subst (λ l. KnownAll t few s.env.exec K l s.run.operands) m.1 all in
+            subst (λ n. KnownParams t few s.env.exec K ps (take_operands piece.Nothing n s.run.operands (replicate (q.cells - q.params) nought))) (sym (sound.routines r q is).params) (known.params_call t few s.env.exec K ps m.0 s.run.operands (replicate (q.cells - q.params) nought) given)
+
+        in_frame : (x : KnowsState t few [] s) → ((w : Value) (a : Ty) → InMaking x.sigs (s.run ∷ s.callers) w a → ⊥) → (k : ℕ) (b : Ty) → IsParam ps k b → Known t few s.env.exec K b (slice_index_or (frame_at (length s.env.frames) (quiet.call_frame q s.run.operands ∷ s.env.frames)) k nought)
+        in_frame x apart k b i =
+            subst (λ vs. Known t few s.env.exec K b (slice_index_or vs k nought)) (sym (newest_frame (quiet.call_frame q s.run.operands) s.env.frames)) (known.held t few s.env.exec K ps (quiet.call_frame q s.run.operands) k b (params_known x apart) i)
+
+        known_object : (k i : ℕ) → CleansAt t (Obj i) (src.Variable k) c → t.mutex i ≡ false → Known t few s.env.exec K (Obj i) (variable s.env.exec s.run.frame k)
+        known_object k i d plain = record {
+          is = subst (λ (b : Bool). IsObjectBy t b i (variable s.env.exec s.run.frame k)) (sym plain) tt;
+          passes = tt;
+          rooted = λ l. inl (lies (inl (inl (inl (k, d, refl)))) itself);
+          held = λ m. absurd (cc);
+        }
+
+        begins : KnowsState t few [] s → (k i : ℕ) → CleansAt t (Obj i) (src.Variable k) c → IsUnbound t (Obj i) ⊎ IsConstructed t few source s r k i → IsBuilt t few s.env.exec (quiet.call_frame q s.run.operands ∷ s.env.frames) s.run.frame (variable s.env.exec s.run.frame k) i K ⊎ IsMaking t few s.env.exec (λ ps c i w K. Now t ps c i w K (quiet.routine_todo q) []) (quiet.call_frame q s.run.operands ∷ s.env.frames) (length s.env.frames) (suc (length s.callers)) (top (drop q.params s.run.operands)) s.run.frame (variable s.env.exec s.run.frame k) i K
+        begins x k i d (inl none) = inl (building.unbound t few s.env.exec (quiet.call_frame q s.run.operands ∷ s.env.frames) s.run.frame (variable s.env.exec s.run.frame k) K (Obj i) none)
+        begins x k i d (inr z) =
+            let a = z.there in
+            let same : z.routine ≡ q = cc in
+            let y = z.apart x in
+            inr (record {
+              frame = life.frames;
+              object = subst (λ (m : Routine). top (drop m.params s.run.operands) ≡ variable s.env.exec s.run.frame k) same z.object;
+              known_object = known_object k i d z.plain;
+              params = ps;
+              known = λ j b l. in_frame y.0 y.1 j b l;
+              fields = λ j l. lacks K (quiet.call_frame q s.run.operands ∷ s.env.frames) s.run.frame k i j (subst (λ (m : Routine). m.purpose ≡ src.Builder) same z.purpose) (subst (λ (m : Routine). InHead t ps i j m.body ⊎ IsUnbound t (t.fields i j)) same (z.makes j l));
+            })
+
+      made : KnowsState t few [] s → (todo : List Todo) (vs : List Value) → s.run.control ≡ o ∷ todo → Constructs t few source s r todo → Builds t few s.env.exec (λ ps c i w K. Now t ps c i w K (quiet.routine_todo q) []) (quiet.call_frame q s.run.operands ∷ s.env.frames) (length s.env.frames) (top (drop q.params s.run.operands)) (record s.run { control = todo; operands = vs } ∷ s.callers)
+      made x (piece.DropNow ∷ (piece.Within line ∷ (piece.Rest (src.Scoped c ss) ∷ rest))) vs e h = λ k i d. begins line c ss rest e x k i d (h k i d)
+      made x todo vs e h = tt
+
+  -- what a call takes
+  owns_on : (r : ℕ) (todo : List Todo) → s.run.control ≡ piece.CallOnNow r ∷ todo → (x : KnowsState t few [] s) → (more : List Ty) × (x.run.own ≡ onto (t.routine r).params more)
+  owns_on r todo e x =
+      let o : Ok t x.run.sig x.run.base x.run.scope (piece.CallOnNow r ∷ todo) x.run.own = subst (λ l. Ok t x.run.sig x.run.base x.run.scope l x.run.own) e x.run.ok in
+      (object_ty (t.routine r).whole o.1 ∷ o.0, o.2.0)
+
+  owns_unwritten : (r : ℕ) (todo : List Todo) → s.run.control ≡ piece.CallUnwrittenNow r ∷ todo → (x : KnowsState t few [] s) → (more : List Ty) × (x.run.own ≡ onto (t.routine r).params more)
+  owns_unwritten r todo e x =
+      let o : Ok t x.run.sig x.run.base x.run.scope (piece.CallUnwrittenNow r ∷ todo) x.run.own = subst (λ l. Ok t x.run.sig x.run.base x.run.scope l x.run.own) e x.run.ok in
+      (object_ty (t.routine r).whole o.1 ∷ o.0, o.2.0)
+
+  module _ (source : Source) (sound : Sound t source) (x : KnowsState t few [] s) (r : ℕ) (todo : List Todo) (h : Holding todo) (build : Constructs t few source s r todo) where
+    pub call_on : (o : Option Routine) → slice_get source.routines r ≡ o → s.run.control ≡ piece.CallOnNow r ∷ todo → StepBuilds t few (quiet.call_on_step o todo s)
+    call_on None is e = steps.stays t few Z s life env callers apart _ _ h
+    call_on (Some q) is e =
+        either (StepBuilds t few) (nat_lt s.env.links.calls CALLS) _ _ (begun q (top (drop q.params s.run.operands)) true todo (below (drop q.params s.run.operands)) h (made source sound r q is (piece.CallOnNow r) (owns_on r todo e) (λ w a l k. k) x todo (below (drop q.params s.run.operands)) e build)) (steps.stays t few Z s life env callers apart todo _ h)
+
+    pub call_unwritten : (o : Option Routine) → slice_get source.routines r ≡ o → s.run.control ≡ piece.CallUnwrittenNow r ∷ todo → StepBuilds t few (quiet.call_unwritten_step o todo s)
+    call_unwritten None is e = steps.stays t few Z s life env callers apart _ _ h
+    call_unwritten (Some q) is e =
+        begun q (top (drop q.params s.run.operands)) false todo (below (drop q.params s.run.operands)) h (made source sound r q is (piece.CallUnwrittenNow r) (owns_unwritten r todo e) (λ w a l k. k) x todo (below (drop q.params s.run.operands)) e build)

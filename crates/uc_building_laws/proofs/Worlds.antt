@@ -1,0 +1,230 @@
+-- In every run in which objects are built by what stands before their scopes, these open where they hold what is known.
+use Rattle.std.proofs.Common.{◌≡◌, ℕ, ◌==◌, inl, inr, false, List, [], ◌∷◌, Option, Some, None, refl, subst}
+use Rattle.std.specs.Prelude.{slice_get}
+use Rattle.uc_tree.specs.Programs.{Program}
+use Rattle.uc_tree.specs.Source as src
+use Rattle.uc_tree.specs.Source.{Source, Expr, CleanUp, Stmts, Routine, Variable, routine_of, routine_or_none}
+use Rattle.uc_entry.specs.declared.entry.Entry.{Entry}
+use Rattle.uc_entry.specs.declared.entry.Options.{Options}
+use Rattle.uc_entry.specs.declared.request.Answer.{Answer}
+use Rattle.uc_entry.specs.declared.request.Asked.{Asked}
+use Rattle.uc_entry.specs.Keyed.{find}
+use Rattle.uc_acts.specs.Journal.{Journal, held, own_object, is_over}
+use Rattle.uc_acts.specs.Known.{spawns, takes_out}
+use Rattle.uc_acts.specs.Queues.{running}
+use Rattle.uc_acts.specs.Answers.{answer_to}
+use Rattle.uc_acts.specs.KernelRuns.{InRange}
+use Rattle.uc_machine.specs.declared.exec.Home.TheVariants as home
+use Rattle.uc_machine.specs.Pieces as piece
+use Rattle.uc_machine.specs.Pieces.{Todo, Goes, Ticks, Asks}
+use Rattle.uc_machine.specs.Quiet.{State, Members, no_members, quiet, first_state}
+use Rattle.uc_machine.specs.Answering.{answered, child_main}
+use Rattle.uc_machine.specs.Rides as rides
+use Rattle.uc_machine.specs.Rides.{Rides}
+use Rattle.uc_meaning.specs.Runs.{World, Runs, gives, no_room, acts, begun, more, bare, with_home, hand_of, drawn, or_else, first_world, world_after}
+use Rattle.uc_program_laws.specs.Fitting.{RunFits}
+use Rattle.uc_resolve.specs.Resolve.{source_of}
+use Rattle.uc_rules.specs.Breaks.{breaks_of}
+use Rattle.uc_scope_laws.specs.Opening.{ScopeOpens, OpenStmts, OpenRoutine}
+use Rattle.uc_scope_laws.specs.RoomStacks.{StackState}
+use Rattle.uc_scope_laws.specs.Layout.{Sized}
+use Rattle.uc_scope_laws.specs.RoomRuns as runs
+use Rattle.uc_scope_laws.specs.RoomRuns.{Leads, Comes}
+use Rattle.uc_scope_laws.proofs.Openings.{law_opening}
+use Rattle.uc_scope_laws.proofs.StackWorlds.{law_frame_runs}
+use Rattle.uc_value_laws.specs.Opens.{RideMeets, RunMeets, LeadsMeet}
+use Rattle.uc_typing.specs.Typing.{Obj, Table, DestroysAt}
+use Rattle.uc_sound.specs.Formed.{IsFormed}
+use Rattle.uc_sound.specs.Tables.{table_of}
+use Rattle.uc_sound.proofs.SoundLemmas.{law_sound}
+use Rattle.uc_life_laws.specs.LifeStates.{HandBy, MembersBy}
+use Rattle.uc_life_laws.specs.Knowing.{KnowsState}
+use Rattle.uc_life_laws.specs.Opened.{any}
+use Rattle.uc_life_laws.specs.OpenedRuns.{MeetsObjects, IsFollowed}
+use Rattle.uc_life_laws.proofs.Cells.{either}
+use Rattle.uc_life_laws.proofs.Parked.{found_hand}
+use Rattle.uc_life_laws.proofs.Laying.{laid_out}
+use Rattle.uc_life_laws.proofs.OpenedRuns.{law_opened_runs}
+use Rattle.uc_building_laws.specs.BuildingStates.{BuildsEx, BuildsState, BuildsRest, BuildsStep}
+use Rattle.uc_building_laws.specs.BuildingLaws.{IsPlain, Joined}
+use Rattle.uc_building_laws.specs.BuildingRuns.{MeetsBuilding, LawBuilt}
+use Rattle.uc_building_laws.proofs.Walk.{law_steps}
+use Rattle.uc_building_laws.proofs.Standing as standing
+use Rattle.uc_building_laws.proofs.Laid.{clears}
+
+-- no routine begins with the scope of an object that is a variable
+
+unplain_at : (t : Table) (k i : ℕ) (e : Expr) → DestroysAt t (Obj i) (Variable k) e → ScopeOpens None (src.Destroys e) → ⊥
+unplain_at t k i (src.OfObject (src.CallOn r x args)) d (inl h) = absurd h
+unplain_at t k i (src.OfObject (src.CallOn r x args)) d (inr h) = let a = d.0 in let b = h.field in absurd (cc)
+unplain_at t k i (src.OfObject (src.CallUnwritten r x)) d (inl h) = absurd h
+unplain_at t k i (src.OfObject (src.CallUnwritten r x)) d (inr h) = let a = d.0 in let b = h.field in absurd (cc)
+unplain_at t k i e d h = absurd d
+
+unplain : (t : Table) (c : CleanUp) → ScopeOpens None c → IsPlain t c → ⊥
+unplain t (src.Destroys e) h x = unplain_at t x.0 x.1 e x.2 h
+unplain t (src.DestroysAll m e) h x = absurd x.2
+unplain t c h x = absurd x.2
+
+begins_joined : (t : Table) (ss : Stmts) → OpenStmts None ss → Joined t [] (piece.Rest ss ∷ [])
+begins_joined t (src.Scoped c ss) h = λ x. absurd (unplain t c h.0 x)
+begins_joined t ss h = tt
+
+routine_joined : (t : Table) (r : Option Routine) → OpenRoutine r → Joined t [] (piece.Rest (routine_or_none r).body ∷ [])
+routine_joined t None h = tt
+routine_joined t (Some r) h = begins_joined t r.body h
+
+-- one step more on a way
+
+abbrev leads_more : (source : Source) {a s v : State} → Leads source a s → quiet source s ≡ Goes v → Leads source a v
+leads_more source runs.stays e = runs.goes e runs.stays
+leads_more source (runs.goes q l) e = runs.goes q (leads_more source l e)
+leads_more source (runs.ticks q l) e = runs.ticks q (leads_more source l e)
+
+abbrev leads_tick : (source : Source) {a s v : State} → Leads source a s → quiet source s ≡ Ticks v → Leads source a v
+leads_tick source runs.stays e = runs.ticks e runs.stays
+leads_tick source (runs.goes q l) e = runs.goes q (leads_tick source l e)
+leads_tick source (runs.ticks q l) e = runs.ticks q (leads_tick source l e)
+
+module _ (P : State → Type 0) (source : Source) where
+  meets_more : {a s v : State} (l : Leads source a s) (e : quiet source s ≡ Goes v) → LeadsMeet P source a s l → P s → LeadsMeet P source a v (leads_more source l e)
+  meets_more runs.stays e h p = (p, tt)
+  meets_more (runs.goes q l) e h p = (h.0, meets_more l e h.1 p)
+  meets_more (runs.ticks q l) e h p = (h.0, meets_more l e h.1 p)
+
+  meets_tick : {a s v : State} (l : Leads source a s) (e : quiet source s ≡ Ticks v) → LeadsMeet P source a s l → P s → LeadsMeet P source a v (leads_tick source l e)
+  meets_tick runs.stays e h p = (p, tt)
+  meets_tick (runs.goes q l) e h p = (h.0, meets_tick l e h.1 p)
+  meets_tick (runs.ticks q l) e h p = (h.0, meets_tick l e h.1 p)
+
+module _ (p : Program) (formed : IsFormed p) (accepted : breaks_of p ≡ []) where
+  abbrev source : Source
+  source = source_of p
+
+  abbrev t : Table
+  t = table_of p
+
+  -- tasks at rest, and what is at home in objects
+  record BuildsWorld (w : World) : Type 0 where
+    pub tasks : (n : ℕ) → BuildsRest t any (w.tasks n)
+    pub homes : (o : ℕ) → MembersBy (BuildsEx t any) (home.Object o) (w.homes o)
+
+  home_rests : (o : ℕ) (x : Option Members) (hand : List (ℕ × Members)) → MembersBy (BuildsEx t any) (home.Object o) x → HandBy (BuildsEx t any) hand → HandBy (BuildsEx t any) (with_home o x hand)
+  home_rests o None hand h k = k
+  home_rests o (Some m) hand h k = (h, k)
+
+  hand_rests : (os : List ℕ) (homes : ℕ → Option Members) → ((o : ℕ) → MembersBy (BuildsEx t any) (home.Object o) (homes o)) → HandBy (BuildsEx t any) (hand_of os homes)
+  hand_rests [] homes h = tt
+  hand_rests (o ∷ os) homes h = home_rests o (homes o) (hand_of os homes) (h o) (hand_rests os homes h)
+
+  or_rests : (o : ℕ) (x y : Option Members) → MembersBy (BuildsEx t any) (home.Object o) x → MembersBy (BuildsEx t any) (home.Object o) y → MembersBy (BuildsEx t any) (home.Object o) (or_else x y)
+  or_rests o None y h k = k
+  or_rests o (Some m) y h k = h
+
+  told : (given : Answer) (j : Journal) (w : World) (n : ℕ) → BuildsWorld w → BuildsRest t any (answered source given (drawn j w n))
+  told given j w n x =
+      let s = x.tasks n in
+      law_steps.told t any source given (drawn j w n) (record {
+        builds = record { apart = s.builds.apart; run = s.builds.run; callers = s.builds.callers; env = record { house = s.builds.env.house; hand = hand_rests (held n j) w.homes x.homes } };
+        stands = s.stands;
+      })
+
+  bare_rests : (s : State) → BuildsRest t any s → BuildsRest t any (bare s)
+  bare_rests s h = record { builds = record { apart = h.builds.apart; run = h.builds.run; callers = h.builds.callers; env = record { house = h.builds.env.house; hand = tt } }; stands = h.stands }
+
+  first_rests : (n o : ℕ) → BuildsRest t any (first_state (routine_of source n) o)
+  first_rests n o = law_steps.begins t any source n o (routine_joined t (slice_get source.routines n) (law_opening p n))
+
+  -- after an act whose ride ended in this state
+  acted : (w : World) (a : List Entry) (n : ℕ) (s : State) → BuildsWorld w → BuildsRest t any s → BuildsWorld (world_after source a w n s)
+  acted w a n s h asks = record {
+    tasks = λ u. either (BuildsRest t any) (u == n) _ _ (bare_rests s asks) (either (BuildsRest t any) (spawns a u) _ _ (first_rests (child_main source s.run.control) (own_object u a)) (h.tasks u));
+    homes = λ o. either (MembersBy (BuildsEx t any) (home.Object o)) (takes_out a o) None (or_else (find o s.env.hand) (w.homes o)) tt (or_rests o (find o s.env.hand) (w.homes o) (found_hand (BuildsEx t any) o s.env.hand asks.builds.env.hand) (h.homes o));
+  }
+
+  begins : BuildsWorld (first_world source)
+  begins = record {
+    tasks = λ n. first_rests source.main 0;
+    homes = λ o. either (MembersBy (BuildsEx t any) (home.Object o)) (o == 0) (Some no_members) None tt tt;
+  }
+
+  -- objects hold what is known where a scope opens
+  met : (s : State) → BuildsState t any s → MeetsBuilding t source s → MeetsObjects t source s
+  met s b m = record {
+    opens = m.opens;
+    objects = λ c rest todo e. record {
+      object = λ k i d. (subst (standing.StandsOf t any s) e b.stands) k i d;
+      array = λ k n i d. m.arrays c rest todo e k n i d;
+    };
+    finds = m.finds;
+  }
+
+  step : (s : State) → StackState (Sized p) s → KnowsState t any [] s → BuildsState t any s → MeetsBuilding t source s → BuildsStep t any (quiet source s)
+  step s st x b m = law_steps.steps t any source (law_sound p formed accepted) p s st x b (clears (Sized p) t (laid_out p formed accepted) s st) m.builds
+
+  module _ (input : List ℕ) (opts : Options) (range : InRange opts) where
+    -- on the way from an answer
+    module _ (j : Journal) (w : World) (r : Runs source input opts j w) (followed : IsFollowed t source j w) (n : ℕ) (given : Answer) (processor : ℕ) (runs_on : running processor j ≡ n ∷ []) (told_so : answer_to source.sites n j ≡ Some given) where
+      abbrev start : State
+      start = answered source given (drawn j w n)
+
+      abbrev comes_at : (s : State) → Leads source start s → Comes source j w n s
+      comes_at s l = record { given = given; processor = processor; runs = runs_on; told = told_so; leads = l }
+
+      stack : (s : State) → Leads source start s → StackState (Sized p) s
+      stack s l = (law_frame_runs p accepted input opts j w r).comes n s (comes_at s l)
+
+      next : (s : State) (l : Leads source start s) → LeadsMeet (MeetsObjects t source) source start s l → BuildsState t any s → MeetsBuilding t source s → BuildsStep t any (quiet source s)
+      next s l h b m = step s (stack s l) (followed.comes n s (comes_at s l) h) b m
+
+      ridden : {s u : State} {q k : ℕ} {a : Asked} (l : Leads source start s) → LeadsMeet (MeetsObjects t source) source start s l → (d : Rides source s q u k a) → RideMeets (MeetsBuilding t source) source s q u k a d → (q ≡ 0 → BuildsRest t any s) → BuildsState t any s → RideMeets (MeetsObjects t source) source s q u k a d × BuildsRest t any u
+      ridden l h (rides.slices {s}) m rest b = (tt, rest refl)
+      ridden l h (rides.goes_on {s} {t = v} e d) m rest b =
+          let c : BuildsState t any v = subst (BuildsStep t any) e (next s l h b m.0) in
+          let y = met s b m.0 in
+          let z = ridden (leads_more source l e) (meets_more (MeetsObjects t source) source l e h y) d m.1 (λ q. absurd (cc)) c in
+          ((y, z.0), z.1)
+      ridden l h (rides.ticks {s} {t = v} e d) m rest b =
+          let c : BuildsRest t any v = subst (BuildsStep t any) e (next s l h b m.0) in
+          let y = met s b m.0 in
+          let z = ridden (leads_tick source l e) (meets_tick (MeetsObjects t source) source l e h y) d m.1 (λ q. c) (law_steps.goes_on t any v c) in
+          ((y, z.0), z.1)
+      ridden l h (rides.asks {s} {t = v} e) m rest b = (met s b m, subst (BuildsStep t any) e (next s l h b m))
+
+      led : {s u : State} (l : Leads source start s) → LeadsMeet (MeetsObjects t source) source start s l → (d : Leads source s u) → LeadsMeet (MeetsBuilding t source) source s u d → BuildsState t any s → LeadsMeet (MeetsObjects t source) source s u d × BuildsState t any u
+      led l h runs.stays m b = (tt, b)
+      led l h (runs.goes {s} {u = v} e d) m b =
+          let c : BuildsState t any v = subst (BuildsStep t any) e (next s l h b m.0) in
+          let y = met s b m.0 in
+          let z = led (leads_more source l e) (meets_more (MeetsObjects t source) source l e h y) d m.1 c in
+          ((y, z.0), z.1)
+      led l h (runs.ticks {s} {u = v} e d) m b =
+          let c : BuildsRest t any v = subst (BuildsStep t any) e (next s l h b m.0) in
+          let y = met s b m.0 in
+          let z = led (leads_tick source l e) (meets_tick (MeetsObjects t source) source l e h y) d m.1 (law_steps.goes_on t any v c) in
+          ((y, z.0), z.1)
+
+    built : {j : Journal} {w : World} (r : Runs source input opts j w) → RunFits source input opts j w r → RunMeets (MeetsBuilding t source) source input opts j w r → RunMeets (MeetsObjects t source) source input opts j w r × BuildsWorld w
+    built begun f m = (tt, begins)
+    built (more r on (gives q n s le)) f m = let y = built r f.0 m.0 in ((y.0, tt), y.1)
+    built (more r on (no_room q n s le)) f m = let y = built r f.0 m.0 in ((y.0, tt), y.1)
+    built (more {j} {w} {a} r on (acts q n k s asked d)) f m =
+        let y = built r f.0 m.0 in
+        let followed : IsFollowed t source j w = law_opened_runs p formed accepted input opts range j w r f.0 on y.0 in
+        let b : BuildsRest t any (answered source d.given (drawn j w n)) = told d.given j w n y.1 in
+        let z = ridden j w r followed n d.given q d.runs d.told runs.stays tt d.rides m.1 (λ e. b) (law_steps.goes_on t any (answered source d.given (drawn j w n)) b) in
+        ((y.0, z.0), acted w a n s y.1 z.1)
+
+    module _ (j : Journal) (w : World) (r : Runs source input opts j w) (f : RunFits source input opts j w r) (on : is_over j ≡ false) (m : RunMeets (MeetsBuilding t source) source input opts j w r) (n : ℕ) (s : State) (c : Comes source j w n s) (l : LeadsMeet (MeetsBuilding t source) source (answered source c.given (drawn j w n)) s c.leads) where
+      all : LeadsMeet (MeetsObjects t source) source (answered source c.given (drawn j w n)) s c.leads × BuildsState t any s
+      all =
+          let y = built r f m in
+          let followed : IsFollowed t source j w = law_opened_runs p formed accepted input opts range j w r f on y.0 in
+          led j w r followed n c.given c.processor c.runs c.told runs.stays tt c.leads l (law_steps.goes_on t any (answered source c.given (drawn j w n)) (told c.given j w n y.1))
+
+pub law_built : LawBuilt
+law_built = record {
+  runs = λ p formed accepted input opts range j w r f m. (built p formed accepted input opts range r f m).0;
+  leads = λ p formed accepted input opts range j w r f on m n s c l. (all p formed accepted input opts range j w r f on m n s c l).0;
+  here = λ p formed accepted input opts range j w r f on m n s c l h. met p formed accepted s (all p formed accepted input opts range j w r f on m n s c l).1 h;
+}

@@ -1,0 +1,109 @@
+-- What a constructor leaves.
+use Rattle.std.specs.Prelude.{◌≡◌, ℕ, ◌⊎◌, false, List, [], ◌∷◌, drop, slice_get, Some}
+use Rattle.uc_tree.specs.Programs.{Program}
+use Rattle.uc_tree.specs.Source.{CleanUp, Variable, Scoped, Builder, Routine, Source, routine_of}
+use Rattle.uc_entry.specs.declared.request.Answer.{Answer}
+use Rattle.uc_machine.specs.declared.exec.Exec.{Exec}
+use Rattle.uc_machine.specs.declared.exec.Owner.TheVariants.{Frame}
+use Rattle.uc_machine.specs.Pieces as piece
+use Rattle.uc_machine.specs.Pieces.{FieldAt, Value, Todo, Active, Step, Goes, Ticks, Asks, top, below, further, loaded}
+use Rattle.uc_machine.specs.Quiet.{State, quiet, first_state}
+use Rattle.uc_machine.specs.Answering.{answered}
+use Rattle.uc_scope_laws.specs.Layout.{Sized}
+use Rattle.uc_scope_laws.specs.RoomStacks.{StackState}
+use Rattle.uc_typing.specs.Typing.{Ty, Obj, Table, CleansAt}
+use Rattle.uc_typing.specs.States.{Sound}
+use Rattle.uc_life_laws.specs.Things.{Few, IsUnbound, LiesBefore}
+use Rattle.uc_life_laws.specs.LifeRuns.{IsLaidOut}
+use Rattle.uc_life_laws.specs.Knowing.{InMaking, KnowsState}
+use Rattle.uc_building_laws.specs.Building.{MakesAll}
+use Rattle.uc_building_laws.specs.BuildingStates.{Awaits, variable, BuildsState, BuildsRest, BuildsStep}
+
+-- an object that is a variable is cleaned up
+abbrev pub IsPlain : Table → CleanUp → Type 0
+IsPlain t c = (k i : ℕ) × CleansAt t (Obj i) (Variable k) c
+
+-- the scope of such an object opens next, behind the first list, only where that drops the value of a statement, or has come to its end
+abbrev pub Joined : Table → List Todo → List Todo → Type 0
+Joined t before (piece.Rest (Scoped c ss) ∷ todo) = IsPlain t c →
+    (line : ℕ) × (before ≡ piece.Within line ∷ (piece.Rest (Scoped c ss) ∷ todo))
+Joined t before (piece.Within line ∷ (piece.Rest (Scoped c ss) ∷ todo)) = IsPlain t c →
+    before ≡ piece.DropNow ∷ (piece.Within line ∷ (piece.Rest (Scoped c ss) ∷ todo))
+Joined t before (piece.DropNow ∷ (piece.Within line ∷ (piece.Rest (Scoped c ss) ∷ todo))) = IsPlain t c →
+    before ≡ []
+Joined t before todo = Unit {0}
+
+abbrev pub StepJoins : Table → List Todo → Step → Type 0
+StepJoins t before (Goes s) = Joined t before s.run.control
+StepJoins t before (Ticks s) = Joined t before s.run.control
+StepJoins t before (Asks r s) = Joined t before s.run.control
+
+module _ (t : Table) (few : Few) (source : Source) (s : State) where
+  -- the routine r is a constructor of the class i, which is called at the variable k, and binds all fields in which something is bound to its
+  -- parameters and to fields; and no constructor and no destructor waits
+  pub record IsConstructed (r k i : ℕ) : Type 0 where
+    pub routine : Routine
+    pub there : slice_get source.routines r ≡ Some routine
+    pub purpose : routine.purpose ≡ Builder
+    pub plain : t.mutex i ≡ false
+    pub makes : MakesAll t (t.routine r).params i routine.body
+    pub object : top (drop routine.params s.run.operands) ≡ variable s.env.exec s.run.frame k
+    pub apart : KnowsState t few [] s → (x : KnowsState t few [] s) ×
+        ((w : Value) (a : Ty) → InMaking x.sigs (s.run ∷ s.callers) w a → ⊥)
+
+  -- where the scope of an object opens next, what is called builds it, or nothing is bound in it
+  abbrev pub Constructs : ℕ → List Todo → Type 0
+  Constructs r todo =
+      Awaits (λ c rest. (k i : ℕ) → CleansAt t (Obj i) (Variable k) c → IsUnbound t (Obj i) ⊎ IsConstructed r k i) todo
+
+  -- and nothing else is called there
+  abbrev pub NoScope : List Todo → Type 0
+  NoScope todo = Awaits (λ c rest. IsPlain t c → ⊥) todo
+
+  -- what a step is to find: a constructor is called at the variable whose scope opens next; what is bound at a field of the object at hand is
+  -- held there behind the step
+  abbrev pub BuildsAt : List Todo → Type 0
+  BuildsAt (piece.CallNow r ∷ todo) = NoScope todo
+  BuildsAt (piece.CallOnNow r ∷ todo) = Constructs r todo
+  BuildsAt (piece.CallUnwrittenNow r ∷ todo) = Constructs r todo
+  BuildsAt (piece.RaiseNow ∷ todo) = NoScope (piece.DropNow ∷ todo)
+  BuildsAt (piece.BindNow ∷ todo) = (c i : ℕ) → top (below s.run.operands) ≡ further (FieldAt (t.shape c) i) s.run.this →
+      (u : State) → quiet source s ≡ Goes u → loaded (top (below s.run.operands)) u.env ≡ top s.run.operands
+  BuildsAt todo = Unit {0}
+
+  -- and scopes of objects open behind what has built these
+  pub record Fair : Type 0 where
+    pub at : BuildsAt s.run.control
+    pub joins : StepJoins t s.run.control (quiet source s)
+
+-- where one of these waits, in the frame of a depth, for the scope of an object, that lies before a cell
+abbrev pub AwaitedBefore : Table → Exec → ℕ → ℕ → List Active → Type 0
+AwaitedBefore t n cell f [] = Unit {0}
+AwaitedBefore t n cell f (a ∷ older) =
+    (a.frame ≡ f → Awaits (λ c rest. (k i : ℕ) → CleansAt t (Obj i) (Variable k) c → LiesBefore t cell (Frame n a.frame) (variable n a.frame k) (Obj i)) a.control) ×
+    AwaitedBefore t n cell f older
+
+abbrev pub ClearsAt : Table → List Todo → State → Type 0
+ClearsAt t (piece.ClearNow k m ∷ todo) s = AwaitedBefore t s.env.exec k s.run.frame s.callers
+ClearsAt t todo s = Unit {0}
+
+-- so it is of each cell that starts anew
+abbrev pub Clears : Table → State → Type 0
+Clears t s = ClearsAt t s.run.control s
+
+-- of each sound source: a task begins so whose routine begins with no scope of an object; each step keeps it that finds what it is to find, where
+-- all is known and activations that use one frame stay behind one another; and so does each answer
+pub record LawSteps : Type 0 where
+  pub begins : (t : Table) (few : Few) (source : Source) (r o : ℕ) →
+      Joined t [] (piece.Rest (routine_of source r).body ∷ []) →
+      BuildsRest t few (first_state (routine_of source r) o)
+  pub steps : (t : Table) (few : Few) (source : Source) → Sound t source →
+      (p : Program) (s : State) → StackState (Sized p) s → KnowsState t few [] s → BuildsState t few s →
+      Clears t s → Fair t few source s → BuildsStep t few (quiet source s)
+  pub told : (t : Table) (few : Few) (source : Source) (given : Answer) (s : State) →
+      BuildsRest t few s → BuildsRest t few (answered source given s)
+  pub goes_on : (t : Table) (few : Few) (s : State) → BuildsRest t few s → BuildsState t few s
+
+-- where things lie so and activations that use one frame stay behind one another, all that starts anew lies behind what is being built there
+abbrev pub LawClears : Type 0
+LawClears = (p : Program) (t : Table) → IsLaidOut (Sized p) t → (s : State) → StackState (Sized p) s → Clears t s

@@ -1,0 +1,108 @@
+-- Executions and tasks in which each constructor has bound what its statements do not bind any more, of an object whose scope opens behind it.
+use Rattle.std.specs.Prelude.{◌≡◌, ℕ, suc, ◌⊎◌, List, [], ◌∷◌, length, slice_index_or}
+use Rattle.uc_tree.specs.Source.{Variable, CleanUp, Scoped}
+use Rattle.uc_machine.specs.declared.exec.Exec.{Exec}
+use Rattle.uc_machine.specs.declared.exec.Owner.TheVariants.{Frame}
+use Rattle.uc_machine.specs.Executions.{Execution}
+use Rattle.uc_machine.specs.Pieces as piece
+use Rattle.uc_machine.specs.Pieces.{Slot, FieldAt, Value, Place, Todo, Active, State, Env, Step, Goes, Ticks, Asks, further, nought}
+use Rattle.uc_typing.specs.Typing.{Ty, Obj, Table, IsParam, CleansAt}
+use Rattle.uc_life_laws.specs.Things.{Few, IsField, Known, Holds}
+use Rattle.uc_life_laws.specs.LifeStates.{EnvBy, frame_at, Outwards}
+use Rattle.uc_building_laws.specs.Building.{AllLeft, Behind, Now}
+
+-- a scope opens next, once the value of the statement before it is dropped
+abbrev pub Awaits : (CleanUp → List Todo → Type 0) → List Todo → Type 0
+Awaits P (piece.DropNow ∷ (piece.Within line ∷ (piece.Rest (Scoped c ss) ∷ todo))) = P c todo
+Awaits P todo = Unit {0}
+
+-- or then, or now
+abbrev pub Nears : (CleanUp → List Todo → Type 0) → List Todo → Type 0
+Nears P (piece.Rest (Scoped c ss) ∷ todo) = P c todo
+Nears P (piece.Within line ∷ (piece.Rest (Scoped c ss) ∷ todo)) = P c todo
+Nears P (piece.DropNow ∷ (piece.Within line ∷ (piece.Rest (Scoped c ss) ∷ todo))) = P c todo
+Nears P todo = Unit {0}
+
+-- what is left to bind to an activation that runs, and to one that waits
+module _ (t : Table) (a : Active) (ps : List Ty) (c i : ℕ) (w : Value) (K : Ty → Value → Type 0) where
+  abbrev pub of_run : Type 0
+  of_run = Now t ps c i w K a.control a.operands
+
+  abbrev pub of_wait : Type 0
+  of_wait = Behind t ps c i a.control
+
+-- the place of a variable in the frame of a depth
+abbrev pub variable : Exec → ℕ → ℕ → Value
+variable n g k = Place (Frame n g) (Slot k ∷ [])
+
+module _ (t : Table) (few : Few) (n : Exec) where
+  -- the object of a class at a place in the frame of the depth g holds what is known
+  abbrev pub IsBuilt : List (List Value) → ℕ → Value → ℕ → (Value → Ty → Type 0) → Type 0
+  IsBuilt fs g w c K = Holds t few n K (Frame n g) (frame_at g fs) w (Obj c)
+
+  -- a constructor with a frame f of its own, of this depth, builds it: its parameters are known, and so is what each field holds that is not
+  -- still to be bound. `L ps c i w K`: that is so of the field i of the class c, by a constructor with parameters of these types
+  pub record IsMaking (L : List Ty → ℕ → ℕ → Value → (Ty → Value → Type 0) → Type 0) (fs : List (List Value)) (f depth : ℕ) (this : Value) (g : ℕ) (w : Value) (c : ℕ) (K : Value → Ty → Type 0) : Type 0 where
+    pub frame : f ≡ depth
+    pub object : this ≡ w
+    pub known_object : Known t few n K (Obj c) w
+    pub params : List Ty
+    pub known : (k : ℕ) (b : Ty) → IsParam params k b →
+        Known t few n K b (slice_index_or (frame_at f fs) k nought)
+    pub fields : (i : ℕ) → IsField t c i →
+        Holds t few n K (Frame n g) (frame_at g fs) (further (FieldAt (t.shape c) i) w) (t.fields c i) ⊎
+        L params c i w (Known t few n K)
+
+  -- an activation before those that wait: where the first of these waits for the scope of an object, that one builds it
+  abbrev pub Builds : (List Ty → ℕ → ℕ → Value → (Ty → Value → Type 0) → Type 0) → List (List Value) → ℕ → Value → List Active → Type 0
+  Builds L fs f this [] = Unit {0}
+  Builds L fs f this (b ∷ older) =
+      Awaits (λ c todo. (k i : ℕ) → CleansAt t (Obj i) (Variable k) c → IsBuilt fs b.frame (variable n b.frame k) i (Outwards t few n b.frame b.this older c todo) ⊎ IsMaking L fs f (suc (length older)) this b.frame (variable n b.frame k) i (Outwards t few n b.frame b.this older c todo)) b.control
+
+  abbrev pub AllBuild : List (List Value) → List Active → Type 0
+  AllBuild fs [] = Unit {0}
+  AllBuild fs (a ∷ older) = Builds (of_wait t a) fs a.frame a.this older × AllBuild fs older
+
+-- an activation with this frame shares it with none of these that has it as its own and is left as a whole by an unwinding, as a constructor is
+abbrev pub IsApart : ℕ → List Active → Type 0
+IsApart f [] = Unit {0}
+IsApart f (a ∷ older) = (f ≡ a.frame → a.frame ≡ length older → AllLeft a.control → ⊥) × IsApart f older
+
+abbrev pub AllApart : List Active → Type 0
+AllApart [] = Unit {0}
+AllApart (a ∷ older) = IsApart a.frame older × AllApart older
+
+module _ (t : Table) (few : Few) where
+  -- an execution of this name that does not run
+  pub record BuildsEx (n : Exec) (x : Execution (List Todo) Value) : Type 0 where
+    pub apart : AllApart (x.run ∷ x.callers)
+    pub run : Builds t few n (of_run t x.run) x.frames x.run.frame x.run.this x.callers
+    pub callers : AllBuild t few n x.frames x.callers
+
+  abbrev pub BuildsEnv : Env → Type 0
+  BuildsEnv e = EnvBy BuildsEx e
+
+  -- a task whose running activation has this still to do
+  pub record BuildsBy (L : List Ty → ℕ → ℕ → Value → (Ty → Value → Type 0) → Type 0) (s : State) : Type 0 where
+    pub apart : AllApart (s.run ∷ s.callers)
+    pub run : Builds t few s.env.exec L s.env.frames s.run.frame s.run.this s.callers
+    pub callers : AllBuild t few s.env.exec s.env.frames s.callers
+    pub env : BuildsEnv s.env
+
+  -- where a scope of an object that is a variable opens next, behind what has built it, that holds what is known
+  abbrev pub Stands : State → Type 0
+  Stands s = Nears (λ c todo. (k i : ℕ) → CleansAt t (Obj i) (Variable k) c → IsBuilt t few s.env.exec s.env.frames s.run.frame (variable s.env.exec s.run.frame k) i (Outwards t few s.env.exec s.run.frame s.run.this s.callers c todo)) s.run.control
+
+  pub record BuildsState (s : State) : Type 0 where
+    pub builds : BuildsBy (of_run t s.run) s
+    pub stands : Stands s
+
+  -- one that has asked, or may be sliced: nothing is being bound
+  pub record BuildsRest (s : State) : Type 0 where
+    pub builds : BuildsBy (of_wait t s.run) s
+    pub stands : Stands s
+
+  abbrev pub BuildsStep : Step → Type 0
+  BuildsStep (Goes s) = BuildsState s
+  BuildsStep (Ticks s) = BuildsRest s
+  BuildsStep (Asks r s) = BuildsRest s

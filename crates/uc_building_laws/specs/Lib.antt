@@ -1,0 +1,4 @@
+pub mod Building
+pub mod BuildingStates
+pub mod BuildingLaws
+pub mod BuildingRuns

@@ -1,0 +1,24 @@
+// The laws: each is a function whose contract is the law.
+
+ghost use Rattle.uc_building_laws.specs.BuildingLaws.{LawClears, LawSteps};
+ghost use Rattle.uc_building_laws.specs.BuildingRuns.{LawBuilt};
+
+/// Of an object whose scope opens behind its constructor, each field in which something is bound holds
+/// what is known once the statement that binds it is done; so the object does once the constructor has
+/// come to its end. A task begins so, each step keeps it that finds what it is to find, and so does
+/// each answer.
+pub fn law_steps()
+    ensures { LawSteps }
+{}
+
+/// Cells that start anew lie behind what is being built in their frame, where things lie within their
+/// cells and activations that use one frame stay behind one another.
+pub fn law_clears()
+    ensures { LawClears }
+{}
+
+/// So objects hold what is known where their scopes open, in each run of a program of the grammar that
+/// breaks no rule, as long as all that was asked before fits and each step found what it is to find.
+pub fn law_built()
+    ensures { LawBuilt }
+{}

@@ -1,0 +1,4 @@
+// Laws over executions whose objects stand in what others have to clean up.
+#![tactic(auto)]
+
+pub mod laws;

@@ -1,0 +1,10 @@
+pub mod Homes
+pub mod Values
+pub mod Keeping
+pub mod Running
+pub mod Switching
+pub mod Goods
+pub mod Steps
+pub mod Births
+pub mod Walk
+pub mod Telling

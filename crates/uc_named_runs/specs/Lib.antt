@@ -1,0 +1,2 @@
+pub mod NamedRuns
+pub mod RunningRuns

@@ -1,0 +1,92 @@
+// How one op ends.
+
+ghost use Rattle.std.specs.Prelude.{◌≡◌};
+ghost use Rattle.uc_entry.specs.declared.request.Request.TheVariants as ask;
+ghost use Rattle.uc_entry.specs.Faults.{fault_number};
+ghost use Rattle.uc_frames.specs.Machine.{line_at};
+ghost use Rattle.uc_step.specs.OpEffects.{ended};
+
+use uc_code::code::Code;
+use uc_entry::fault::RunFault;
+use uc_entry::request::{Asked, Request};
+use uc_frames::cell::Cell;
+use uc_frames::event::Event;
+use uc_frames::work::Work;
+
+/// How an op ends: going on; going on after a tick; or otherwise, as the stop that the op was lent tells.
+#[derive(Clone, Copy)]
+pub enum QuietResult {
+    Quiet,
+    Tick,
+    Stops,
+}
+
+/// Going on; going on after a tick; or waiting for the answer to a request. What is left to others: an event that was popped and
+/// is thrown or raised; unwinding, which goes on behind the op; the end of a handler of resumptions by a return, with what
+/// it hands over; and switches to other executions, which leave the task behind their op: a resume, a suspend, the destruction of the
+/// coroutine at hand, and the end of a coroutine's main. No task comes to an op that ends an unwinding but by unwinding: at such an op
+/// it has gone astray.
+#[derive(Clone, Copy)]
+pub enum Effect {
+    Quiet,
+    Tick,
+    Ask(Asked),
+    Throw(Event),
+    Raise(Event),
+    Unwind,
+    Past(Cell),
+    Resume,
+    Suspend,
+    TakeDown,
+    EndMain,
+    Astray,
+}
+
+// It asks, by an op of this line. A part of the op that asks, so that the request is written to the stop as it is made, and is not copied.
+#[inline(always)]
+pub(crate) fn put_request(
+    code: &Code,
+    line: u32,
+    work: &Work,
+    stop: &mut Effect,
+    request: Request,
+) -> QuietResult
+    ensures { ended result stop.new
+        ≡ Effect.Ask
+        (record { request = request; line = line_at code.now.ops line work.now.callers }) }
+{
+    let line = work.line(code, line);
+    *stop = Effect::Ask(Asked { request, line });
+    QuietResult::Stops
+}
+
+// The end of the task is asked so. This and the fault below stand apart from the ops, which seldom need them.
+#[inline(never)]
+pub(crate) fn put_end(code: &Code, line: u32, work: &Work, stop: &mut Effect) -> QuietResult
+    ensures { ended result stop.new
+        ≡ Effect.Ask
+        (record { request = ask.End; line = line_at code.now.ops line work.now.callers }) }
+{
+    put_request(code, line, work, stop, Request::End)
+}
+
+// A run fault, by an op of this line.
+#[inline(never)]
+pub(crate) fn put_fault(
+    code: &Code,
+    line: u32,
+    work: &Work,
+    stop: &mut Effect,
+    fault: RunFault,
+) -> QuietResult
+    ensures { ended result stop.new
+        ≡ Effect.Ask
+        (record {
+          request = ask.Fault
+              (fault_number fault);
+          line = line_at code.now.ops line work.now.callers;
+        }) }
+{
+    let number = fault.number();
+    put_request(code, line, work, stop, Request::Fault { number })
+}

@@ -1,0 +1,4 @@
+pub mod Fewer
+pub mod Lasting
+pub mod Called
+pub mod Rooted

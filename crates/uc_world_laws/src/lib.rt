@@ -1,0 +1,4 @@
+// Laws over what is gone: nobody has it at hand, so nobody names it.
+#![tactic(auto)]
+
+pub mod laws;
