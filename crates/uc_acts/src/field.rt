@@ -1,7 +1,7 @@
 // The types of the fields of entries.
 
 /// What a field of an entry may hold.
-#[derive(Clone, Copy, PartialEq, Eq, Debug)]
+#[derive(Clone, Copy)]
 pub enum FieldType {
     /// The field is not named: it is 0.
     Absent,

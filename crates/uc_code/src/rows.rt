@@ -15,7 +15,7 @@ pub struct Instruction {
 
 /// What a handler row does with a raise: a `catch` and a `_CatchResume` take the events that they name; a clean-up is a
 /// destruction or a leave that unwinding performs.
-#[derive(Clone, Copy, PartialEq, Eq, Debug)]
+#[derive(Clone, Copy)]
 pub enum RowKind {
     Catch,
     CatchResume,
@@ -48,7 +48,7 @@ pub const OPEN_END: u32 = 4_294_967_295;
 /// number of the next row outwards plus 1, or 0 where there is none: the handlers of one guarded block are rows one outwards of
 /// another, the first one innermost. `event` is the event that it takes, or `ANY_EVENT`. `rest` is how many rows stand outwards of
 /// its guarded block: so far a search has come that finds it.
-#[derive(Clone, Copy, PartialEq, Eq, Debug)]
+#[derive(Clone, Copy)]
 pub struct HandlerRow {
     pub from: u32,
     pub to: u32,
@@ -61,7 +61,7 @@ pub struct HandlerRow {
 
 /// A handler: its kind, the event that it takes or `ANY_EVENT`, how many rows stand outwards of its guarded block, and the op at which
 /// it begins.
-#[derive(Clone, Copy, PartialEq, Eq, Debug)]
+#[derive(Clone, Copy)]
 pub struct Handler {
     pub kind: RowKind,
     pub event: u8,
@@ -70,21 +70,21 @@ pub struct Handler {
 }
 
 /// Where an object lies: from this cell of the frame on, or from this cell of the object at hand on.
-#[derive(Clone, Copy, PartialEq, Eq, Debug)]
+#[derive(Clone, Copy)]
 pub enum ObjectSpot {
     Local(u32),
     This(u32),
 }
 
 /// An array of objects: how many there are, and the cells of each.
-#[derive(Clone, Copy, PartialEq, Eq, Debug)]
+#[derive(Clone, Copy)]
 pub struct Array {
     pub length: u32,
     pub size: u32,
 }
 
 /// A cluster or a processor.
-#[derive(Clone, Copy, PartialEq, Eq, Debug)]
+#[derive(Clone, Copy)]
 pub enum Resource {
     Cluster,
     Processor,
@@ -93,7 +93,7 @@ pub enum Resource {
 /// How a constructor or a destructor is called: as that of a plain object or a coroutine; as the constructor of a mutex object of this
 /// class, which is made; or as the destructor of the mutex object whose number the place holds, which it enters. A cluster and a processor
 /// are asked for without a call, a processor of the first cluster, and ended by the number that the place holds.
-#[derive(Clone, Copy, PartialEq, Eq, Debug)]
+#[derive(Clone, Copy)]
 pub enum Manner {
     Plain,
     Makes { class: u32 },
@@ -104,7 +104,7 @@ pub enum Manner {
 
 /// A call of a constructor or a destructor without arguments, at the object that begins in a spot, or at the element that is
 /// counted of an array that begins there: the number of the routine, whether it is written, and how it is called.
-#[derive(Clone, Copy, PartialEq, Eq, Debug)]
+#[derive(Clone, Copy)]
 pub struct ObjectCall {
     pub spot: ObjectSpot,
     pub array: Option<Array>,
@@ -117,7 +117,7 @@ pub struct ObjectCall {
 /// execution is no more; or, of a mutex object, that its running call leaves it, that its destruction ends, and that its building ends: it
 /// is free then, or begins as a task with the main of this number, and where it is unwound it is given up; or, of events, that those are
 /// enabled again which this cell of the frame keeps.
-#[derive(Clone, Copy, PartialEq, Eq, Debug)]
+#[derive(Clone, Copy)]
 pub enum Cleaning {
     Call(ObjectCall),
     TakeDown,
@@ -129,7 +129,7 @@ pub enum Cleaning {
 }
 
 /// Whose main a routine is: that of a task or that of a coroutine.
-#[derive(Clone, Copy, PartialEq, Eq, Debug)]
+#[derive(Clone, Copy)]
 pub enum MainOf {
     Task,
     Coroutine,
@@ -163,7 +163,7 @@ impl MainOf {
 /// row; the scope of an object, with what cleans it up, the line of its
 /// block, and its row; a part of an object under construction, with its row; the turns over the elements of an array, with
 /// their row; or the code of an exit or of a handler of resumptions, which has left all marks with rows from this number on.
-#[derive(Clone, Copy, PartialEq, Eq, Debug)]
+#[derive(Clone, Copy)]
 pub enum CodeMark {
     Body {
         routine: u32,
@@ -206,7 +206,7 @@ pub enum CodeMark {
 /// block that is left as a whole, by a jump to this op; a handler of a guarded block; the scope of an object, with what cleans it up and
 /// the line of its block; a part of an object under construction; turns over the elements of an array; or the code of an exit or of a
 /// handler, which leaves all marks with rows from this number on.
-#[derive(Clone, Copy, PartialEq, Eq, Debug)]
+#[derive(Clone, Copy)]
 pub enum Opening {
     Main {
         main: MainOf,
@@ -229,7 +229,7 @@ pub enum Opening {
 }
 
 /// What leaves statements before their end: `break`, `continue`, and a return with a value or without one.
-#[derive(Clone, Copy, PartialEq, Eq, Debug)]
+#[derive(Clone, Copy)]
 pub enum Way {
     Break,
     Continue,
@@ -239,7 +239,7 @@ pub enum Way {
 
 /// Where the code of a routine begins, the cells of its frame, how many of them, from the first on, hold its parameters, and whether it is
 /// written: only then a call of it is an active one.
-#[derive(Clone, Copy, PartialEq, Eq, Debug)]
+#[derive(Clone, Copy)]
 pub struct RoutineCode {
     pub entry: u32,
     pub cells: u32,

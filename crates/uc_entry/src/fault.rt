@@ -4,7 +4,7 @@ ghost use Rattle.std.specs.Prelude.{◌≡◌, pos, Some};
 ghost use Rattle.uc_entry.specs.Faults.{fault_number, fault_name, fault_of};
 
 /// What may go wrong in a run of an accepted program.
-#[derive(Clone, Copy, PartialEq, Eq, Debug)]
+#[derive(Clone, Copy)]
 pub enum RunFault {
     /// A number that is no `int`.
     Overflow,

@@ -6,7 +6,7 @@ ghost use Rattle.uc_grammar.specs.declared.fault.ParseFault.TheVariants.{NoMemor
 use std::alloc::{AllocError, AllocFailed};
 
 /// Why there is no tree.
-#[derive(Clone, Copy, PartialEq, Eq, Debug)]
+#[derive(Clone, Copy)]
 pub enum ParseFault {
     /// The token at which the text stops being the beginning of one, from 0; the count of tokens where the text ends
     /// too early.

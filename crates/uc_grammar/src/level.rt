@@ -1,7 +1,7 @@
 // The levels of left-to-right chains of operators.
 
 /// A level of operators between two operands, from tight to loose.
-#[derive(Clone, Copy, PartialEq, Eq, Debug)]
+#[derive(Clone, Copy)]
 pub enum Level {
     /// `*`, `/` and `%`
     Product,

@@ -1,7 +1,7 @@
 // What the first token of a statement says of it.
 
 /// What a statement is, by its first token.
-#[derive(Clone, Copy, PartialEq, Eq, Debug)]
+#[derive(Clone, Copy)]
 pub enum StmtStart {
     Block,
     Empty,

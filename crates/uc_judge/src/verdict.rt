@@ -1,7 +1,7 @@
 // What a judge answers.
 
 /// Whether a journal is a run.
-#[derive(Clone, Copy, PartialEq, Eq, Debug)]
+#[derive(Clone, Copy)]
 pub enum Verdict {
     /// It is a complete run.
     Yes,

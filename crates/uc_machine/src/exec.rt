@@ -23,7 +23,7 @@ pub enum Owner {
 }
 
 /// How far the main of an execution is: not begun, begun, ended or unwound.
-#[derive(Clone, Copy, PartialEq, Eq, Debug)]
+#[derive(Clone, Copy)]
 pub enum Stage {
     Fresh,
     Started,
@@ -31,7 +31,7 @@ pub enum Stage {
 }
 
 /// An event that is pending, with its fields.
-#[derive(Clone, Copy, PartialEq, Eq, Debug)]
+#[derive(Clone, Copy)]
 pub struct Pending {
     pub event: u8,
     pub x: i64,

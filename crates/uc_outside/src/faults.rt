@@ -5,7 +5,7 @@ ghost use Rattle.uc_outside.specs.declared.faults.StoreFault.TheVariants.{NoMemo
 use std::alloc::AllocError;
 
 /// Why a store gave no bytes.
-#[derive(Clone, Copy, Debug, PartialEq, Eq)]
+#[derive(Clone, Copy)]
 pub enum StoreFault {
     /// There are no such bytes, or they could not be read. The store counts it.
     Failed,
@@ -16,7 +16,7 @@ pub enum StoreFault {
 }
 
 /// Why a sink took nothing.
-#[derive(Clone, Copy, Debug, PartialEq, Eq)]
+#[derive(Clone, Copy)]
 pub enum SinkFault {
     /// The sink could not take the piece. The sink counts it.
     Failed,

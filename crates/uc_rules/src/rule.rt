@@ -6,7 +6,7 @@ ghost use Rattle.uc_rules.specs.RuleNames.{rule_number, rule_name};
 use uc_tree::pos::Pos;
 
 /// The rules that a program keeps: those on its text, and those on who owns what.
-#[derive(Clone, Copy, PartialEq, Eq, Debug)]
+#[derive(Clone, Copy)]
 pub enum Rule {
     S1,
     S2,

@@ -7,7 +7,7 @@ use crate::name::Name;
 use crate::pos::Pos;
 
 /// The kind of a class: `_Mutex class` is a monitor and `_Mutex _Coroutine` a cormonitor.
-#[derive(Clone, Copy, PartialEq, Eq, Debug)]
+#[derive(Clone, Copy)]
 pub enum Kind {
     Class,
     Coroutine,
@@ -18,7 +18,7 @@ pub enum Kind {
 }
 
 /// From where a member may be named.
-#[derive(Clone, Copy, PartialEq, Eq, Debug)]
+#[derive(Clone, Copy)]
 pub enum Access {
     Public,
     Private,
@@ -26,7 +26,7 @@ pub enum Access {
 }
 
 /// What is written before a member.
-#[derive(Clone, Copy, PartialEq, Eq, Debug)]
+#[derive(Clone, Copy)]
 pub enum MutexMark {
     Unmarked,
     Mutex,
@@ -34,7 +34,7 @@ pub enum MutexMark {
 }
 
 /// The form in which a value is printed or read: as a number, or as one byte.
-#[derive(Clone, Copy, PartialEq, Eq, Debug)]
+#[derive(Clone, Copy)]
 pub enum ValueForm {
     Number,
     Character,
@@ -53,7 +53,7 @@ impl ValueForm {
 }
 
 /// What a routine is.
-#[derive(Clone, Copy, PartialEq, Eq, Debug)]
+#[derive(Clone, Copy)]
 pub enum Role {
     Plain,
     Constructor,
@@ -61,7 +61,7 @@ pub enum Role {
 }
 
 /// Which raises a handler takes: `catch` those of `_Throw`, `_CatchResume` those of `_Resume`.
-#[derive(Clone, Copy, PartialEq, Eq, Debug)]
+#[derive(Clone, Copy)]
 pub enum HandlerKind {
     Catch,
     CatchResume,

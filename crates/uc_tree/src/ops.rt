@@ -1,7 +1,7 @@
 // Operators of expressions.
 
 /// An operator before its operand.
-#[derive(Clone, Copy, PartialEq, Eq, Debug)]
+#[derive(Clone, Copy, Debug)]
 pub enum UnaryOp {
     Minus,
     Plus,
@@ -11,7 +11,7 @@ pub enum UnaryOp {
 }
 
 /// An operator between two operands.
-#[derive(Clone, Copy, PartialEq, Eq, Debug)]
+#[derive(Clone, Copy, Debug)]
 pub enum BinaryOp {
     Or,
     And,
@@ -29,7 +29,7 @@ pub enum BinaryOp {
 }
 
 /// An operator that assigns: `=`, and those that first combine the old value with the right side.
-#[derive(Clone, Copy, PartialEq, Eq, Debug)]
+#[derive(Clone, Copy, Debug)]
 pub enum AssignOp {
     Set,
     Add,
@@ -40,7 +40,7 @@ pub enum AssignOp {
 }
 
 /// An operator behind its operand.
-#[derive(Clone, Copy, PartialEq, Eq, Debug)]
+#[derive(Clone, Copy, Debug)]
 pub enum StepOp {
     Increment,
     Decrement,

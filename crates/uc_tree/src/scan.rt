@@ -4,7 +4,7 @@ use crate::pos::Pos;
 use crate::token::TokenKind;
 
 /// A place on the way through a text.
-#[derive(Clone, Copy, PartialEq, Eq, Debug)]
+#[derive(Clone, Copy)]
 pub struct ScanPlace {
     /// The offset in the text, from 0.
     pub at: u32,
@@ -25,7 +25,7 @@ pub enum Lexeme {
 }
 
 /// Why a text has no tokens.
-#[derive(Clone, Copy, PartialEq, Eq, Debug)]
+#[derive(Clone, Copy)]
 pub enum LexicalFault {
     /// A byte that cannot stand there.
     BadByte,

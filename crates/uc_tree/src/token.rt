@@ -30,7 +30,7 @@ pub enum TokenKind {
 }
 
 /// The words that are never names, in the order of the table of tokens.
-#[derive(Clone, Copy, PartialEq, Eq, Debug)]
+#[derive(Clone, Copy, Debug)]
 pub enum Word {
     /// `class`
     Class,
