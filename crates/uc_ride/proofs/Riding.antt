@@ -12,8 +12,7 @@ use Rattle.uc_code.specs.Lowered.{Lowered}
 use Rattle.uc_frames.specs.Machine.{Machine}
 use Rattle.uc_frames.specs.Stands.{Rests, Standing}
 use Rattle.uc_frames.specs.PaceInvariant.{has_begun, AllIdle}
-use Rattle.uc_step.specs.declared.effect.Effect.{Effect}
-use Rattle.uc_step.specs.declared.effect.Effect.TheVariants.{Quiet, Tick, Ask}
+use Rattle.uc_step.specs.Effects.{Effect, Quiet, Tick, Ask}
 use Rattle.uc_step.specs.Simulation.{behind_line, StandsAfter, Follow}
 use Rattle.uc_step.specs.WeightFalls.{AskFalls, FallsBelow}
 use Rattle.uc_step.proofs.Rode.{quiet_rides, tick_rides, ask_rides}

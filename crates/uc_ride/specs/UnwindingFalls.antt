@@ -12,8 +12,7 @@ use Rattle.uc_code.specs.Layout.{laid_of, chain}
 use Rattle.uc_frames.specs.PaceInvariant.{UnwoundBelow, Entry, EachOf, IdlesAt, Within}
 use Rattle.uc_frames.specs.Machine.{Machine}
 use Rattle.uc_frames.specs.Weight.{waits}
-use Rattle.uc_step.specs.declared.effect.Effect.{Effect}
-use Rattle.uc_step.specs.declared.effect.Effect.TheVariants.{Quiet, Tick, Ask, Unwind}
+use Rattle.uc_step.specs.Effects.{Effect, Quiet, Tick, Ask, Unwind}
 use Rattle.uc_step.specs.WeightFalls.{Keeps, FallsBelow}
 use Rattle.uc_ride.specs.declared.events.Caught.{Caught}
 use Rattle.uc_ride.specs.declared.events.OpEnd.{OpEnd}

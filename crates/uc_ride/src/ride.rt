@@ -23,7 +23,7 @@ use uc_entry::request::{Answer, Asked, Request};
 use uc_frames::task::Task;
 use uc_frames::work::Work;
 use uc_outside::Gate;
-use uc_step::effect::Effect;
+use uc_step::effect::Stop;
 use uc_step::step::{answer as give, run};
 
 /// How a ride ended: the task with its hand, the new task where one is spawned, and the ticks.
@@ -139,7 +139,7 @@ fn go_on(code: &Code, work: &mut Work, quantum: u32, asked: &mut Asked) -> Resul
     ensures kept { IfOk result (λ ticks. KeepsAfter code.now asked.new.request work.new) }
 {
     let mut ticks = 0;
-    let mut stop = Effect::Quiet;
+    let mut stop = Stop::Astray;
     'ticks: loop {
         let end = burst(code, work, &mut stop, asked)?;
         match end {
@@ -161,7 +161,7 @@ fn go_on(code: &Code, work: &mut Work, quantum: u32, asked: &mut Asked) -> Resul
 fn burst(
     code: &Code,
     work: &mut Work,
-    stop: &mut Effect,
+    stop: &mut Stop,
     asked: &mut Asked,
 ) -> Result<BurstEnd, AllocError>
     requires paced { IsPaced (laid_of code.now) code.now.routines }
@@ -171,14 +171,13 @@ fn burst(
     ensures kept { IfOk result (λ end. BurstKeeps code.now (burst_of end asked.new) work.new) }
 {
     'stops: loop {
-        let ticked = run(code, work, stop)?;
+        let ticked = run(code, work, stop, asked)?;
         if ticked {
             return Ok(BurstEnd::Tick);
         }
         let after = settle(code, work, stop, asked)?;
         match after {
             OpEnd::On => {}
-            OpEnd::Tick => return Ok(BurstEnd::Tick),
             OpEnd::Asks => return Ok(BurstEnd::Asks),
         }
     }

@@ -1,6 +1,7 @@
 use Rattle.std.proofs.Common.{Option, sym, subst, ◌∙◌}
 use Rattle.uc_machine.specs.declared.exec.UnwindReason.{UnwindReason}
-use Rattle.uc_step.specs.OpEffects.{ended, act_land, Ends}
+use Rattle.uc_step.specs.Effects.{ended}
+use Rattle.uc_step.specs.OpEffects.{act_land, Ends}
 use Rattle.uc_step.proofs.coroutines.land.Goals as goal
 
 pub returns-in-Some : goal.returns-in-Some
