@@ -35,7 +35,8 @@ pub(crate) fn condition(
     code: &Code,
     line: u32,
     work: &mut Work,
-    stop: &mut Stop, asked: &mut Asked,
+    stop: &mut Stop,
+    asked: &mut Asked,
     first: u32,
     count: u32,
 ) -> Result<QuietResult, AllocError>
@@ -60,7 +61,8 @@ pub(crate) fn wait(
     code: &Code,
     line: u32,
     work: &mut Work,
-    stop: &mut Stop, asked: &mut Asked,
+    stop: &mut Stop,
+    asked: &mut Asked,
 ) -> Result<QuietResult, AllocError>
     ensures ok { IfOk result (λ how. Does code.now line Op.Wait work.old
         (ended how stop.new asked.new) work.new) }
@@ -73,14 +75,22 @@ pub(crate) fn wait(
     let cond = condition_in(work.second())?;
     let n = number_in(work.top());
     work.replace_two(Cell::Number(0))?;
-    Ok(put_request(code, line, work, stop, asked, Request::Wait { object, cond, n }))
+    Ok(put_request(
+        code,
+        line,
+        work,
+        stop,
+        asked,
+        Request::Wait { object, cond, n },
+    ))
 }
 
 pub(crate) fn signal(
     code: &Code,
     line: u32,
     work: &mut Work,
-    stop: &mut Stop, asked: &mut Asked,
+    stop: &mut Stop,
+    asked: &mut Asked,
 ) -> Result<QuietResult, AllocError>
     ensures ok { IfOk result (λ how. Does code.now line Op.Signal work.old
         (ended how stop.new asked.new) work.new) }
@@ -89,7 +99,14 @@ pub(crate) fn signal(
     let object = this_object(work);
     let cond = condition_in(work.top())?;
     work.replace(Cell::Number(0))?;
-    Ok(put_request(code, line, work, stop, asked, Request::Signal { object, cond }))
+    Ok(put_request(
+        code,
+        line,
+        work,
+        stop,
+        asked,
+        Request::Signal { object, cond },
+    ))
 }
 
 // A task is blocked by a signal, unless it is held up.
@@ -97,7 +114,8 @@ pub(crate) fn signal_block(
     code: &Code,
     line: u32,
     work: &mut Work,
-    stop: &mut Stop, asked: &mut Asked,
+    stop: &mut Stop,
+    asked: &mut Asked,
 ) -> Result<QuietResult, AllocError>
     ensures ok { IfOk result (λ how. Does code.now line Op.SignalBlock work.old
         (ended how stop.new asked.new) work.new) }
@@ -123,7 +141,8 @@ pub(crate) fn empty(
     code: &Code,
     line: u32,
     work: &mut Work,
-    stop: &mut Stop, asked: &mut Asked,
+    stop: &mut Stop,
+    asked: &mut Asked,
 ) -> Result<QuietResult, AllocError>
     ensures ok { IfOk result (λ how. Does code.now line Op.Empty work.old
         (ended how stop.new asked.new) work.new) }
@@ -132,14 +151,22 @@ pub(crate) fn empty(
     let object = this_object(work);
     let cond = condition_in(work.top())?;
     work.pop();
-    Ok(put_request(code, line, work, stop, asked, Request::Empty { object, cond }))
+    Ok(put_request(
+        code,
+        line,
+        work,
+        stop,
+        asked,
+        Request::Empty { object, cond },
+    ))
 }
 
 pub(crate) fn front(
     code: &Code,
     line: u32,
     work: &mut Work,
-    stop: &mut Stop, asked: &mut Asked,
+    stop: &mut Stop,
+    asked: &mut Asked,
 ) -> Result<QuietResult, AllocError>
     ensures ok { IfOk result (λ how. Does code.now line Op.Front work.old
         (ended how stop.new asked.new) work.new) }
@@ -148,5 +175,12 @@ pub(crate) fn front(
     let object = this_object(work);
     let cond = condition_in(work.top())?;
     work.pop();
-    Ok(put_request(code, line, work, stop, asked, Request::Front { object, cond }))
+    Ok(put_request(
+        code,
+        line,
+        work,
+        stop,
+        asked,
+        Request::Front { object, cond },
+    ))
 }

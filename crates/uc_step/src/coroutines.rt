@@ -16,7 +16,8 @@ pub(crate) fn alive(
     code: &Code,
     line: u32,
     work: &mut Work,
-    stop: &mut Stop, asked: &mut Asked,
+    stop: &mut Stop,
+    asked: &mut Asked,
     number: u32,
 ) -> QuietResult
     ensures { Does code.now line (Op.Alive number) work.old (ended result stop.new asked.new) work.new }

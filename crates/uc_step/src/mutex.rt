@@ -46,7 +46,8 @@ pub(crate) fn enter(
     code: &Code,
     line: u32,
     work: &mut Work,
-    stop: &mut Stop, asked: &mut Asked,
+    stop: &mut Stop,
+    asked: &mut Asked,
     member: u8,
     number: u32,
 ) -> Result<QuietResult, AllocError>
@@ -66,7 +67,14 @@ pub(crate) fn enter(
     if inside {
         return Ok(QuietResult::Quiet);
     }
-    Ok(put_request(code, line, work, stop, asked, Request::Call { object, member }))
+    Ok(put_request(
+        code,
+        line,
+        work,
+        stop,
+        asked,
+        Request::Call { object, member },
+    ))
 }
 
 // Whether the call that ends is the last one in an object.
@@ -92,7 +100,8 @@ pub(crate) fn leave(
     code: &Code,
     line: u32,
     work: &mut Work,
-    stop: &mut Stop, asked: &mut Asked,
+    stop: &mut Stop,
+    asked: &mut Asked,
     to: u32,
 ) -> QuietResult
     ensures { Does code.now line (Op.Leave to) work.old (ended result stop.new asked.new) work.new }
@@ -108,7 +117,14 @@ pub(crate) fn leave(
     }
     let why = work.raised();
     let failed = by_event(why);
-    let how = put_request(code, line, work, stop, asked, Request::Leave { object, failed });
+    let how = put_request(
+        code,
+        line,
+        work,
+        stop,
+        asked,
+        Request::Leave { object, failed },
+    );
     work.end_call(object);
     work.count_no_more();
     if why.is_some() {
@@ -122,7 +138,8 @@ pub(crate) fn make(
     code: &Code,
     line: u32,
     work: &mut Work,
-    stop: &mut Stop, asked: &mut Asked,
+    stop: &mut Stop,
+    asked: &mut Asked,
     class: u32,
     number: u32,
 ) -> Result<QuietResult, AllocError>
@@ -145,7 +162,8 @@ pub(crate) fn bind_made(
     code: &Code,
     line: u32,
     work: &mut Work,
-    stop: &mut Stop, asked: &mut Asked,
+    stop: &mut Stop,
+    asked: &mut Asked,
     number: u32,
 ) -> QuietResult
     ensures { (class : ℕ) →
@@ -165,7 +183,8 @@ pub(crate) fn built(
     code: &Code,
     line: u32,
     work: &mut Work,
-    stop: &mut Stop, asked: &mut Asked,
+    stop: &mut Stop,
+    asked: &mut Asked,
     object: u32,
     request: Request,
 ) -> QuietResult

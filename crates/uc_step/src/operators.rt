@@ -22,7 +22,8 @@ pub(crate) fn two(
     code: &Code,
     line: u32,
     work: &mut Work,
-    stop: &mut Stop, asked: &mut Asked,
+    stop: &mut Stop,
+    asked: &mut Asked,
     operator: Operator,
 ) -> Result<QuietResult, AllocError>
     ensures ok { IfOk result (λ how. Ends
@@ -47,7 +48,8 @@ pub(crate) fn negate(
     code: &Code,
     line: u32,
     work: &mut Work,
-    stop: &mut Stop, asked: &mut Asked,
+    stop: &mut Stop,
+    asked: &mut Asked,
 ) -> Result<QuietResult, AllocError>
     ensures ok { IfOk result (λ how. Does code.now line Op.Negate work.old
         (ended how stop.new asked.new) work.new) }

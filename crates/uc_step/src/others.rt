@@ -23,7 +23,8 @@ pub(crate) fn raise_at(
     code: &Code,
     line: u32,
     work: &mut Work,
-    stop: &mut Stop, asked: &mut Asked,
+    stop: &mut Stop,
+    asked: &mut Asked,
 ) -> Result<QuietResult, AllocError>
     ensures ok { IfOk result (λ how. Does code.now line Op.RaiseAt work.old
         (ended how stop.new asked.new) work.new) }
@@ -75,7 +76,8 @@ fn pend_at(
     code: &Code,
     line: u32,
     work: &mut Work,
-    stop: &mut Stop, asked: &mut Asked,
+    stop: &mut Stop,
+    asked: &mut Asked,
     exec: Option<Exec>,
 ) -> Result<QuietResult, AllocError>
     ensures ok { IfOk result (λ how. Ends

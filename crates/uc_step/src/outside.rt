@@ -19,7 +19,8 @@ pub(crate) fn print(
     code: &Code,
     line: u32,
     work: &mut Work,
-    stop: &mut Stop, asked: &mut Asked,
+    stop: &mut Stop,
+    asked: &mut Asked,
     form: ValueForm,
 ) -> Result<QuietResult, AllocError>
     ensures ok { IfOk result (λ how. Does code.now line (Op.Print form) work.old
@@ -45,7 +46,8 @@ pub(crate) fn text(
     code: &Code,
     line: u32,
     work: &mut Work,
-    stop: &mut Stop, asked: &mut Asked,
+    stop: &mut Stop,
+    asked: &mut Asked,
     number: u32,
 ) -> Result<QuietResult, AllocError>
     ensures ok { IfOk result (λ how. Does code.now line (Op.Text number) work.old
@@ -64,7 +66,13 @@ pub(crate) fn text(
     }
 }
 
-pub(crate) fn flush(code: &Code, line: u32, work: &mut Work, stop: &mut Stop, asked: &mut Asked) -> QuietResult
+pub(crate) fn flush(
+    code: &Code,
+    line: u32,
+    work: &mut Work,
+    stop: &mut Stop,
+    asked: &mut Asked,
+) -> QuietResult
     ensures { Does code.now line Op.Flush work.old (ended result stop.new asked.new) work.new }
 {
     match work.take_gathered() {
