@@ -1,7 +1,6 @@
-use Rattle.std.proofs.Common.{◌≡◌, ◌≤◌, true, false, sym, subst, arith}
+use Rattle.std.proofs.Common.{◌≡◌, refl, sym, subst, arith}
 use Rattle.uc_entry.specs.declared.request.Asked.{Asked}
-use Rattle.uc_frames.specs.Weight.{total}
-use Rattle.uc_step.specs.Effects.{Quiet, Ask, Tick, stopping}
+use Rattle.uc_step.specs.Effects.{Tick, stopping}
 use Rattle.uc_step.specs.Runs.{halted}
 use Rattle.uc_step.specs.Simulation.{HasArrived}
 use Rattle.uc_step.specs.WeightFalls.{FallsBelow}
