@@ -362,8 +362,8 @@ module _ (most : ℕ) where
     acts source known (piece.AcceptNow site m) todo = accept_by (monitors.mask_of (take_operands Nothing m s.run.operands [])) (monitors.this_object s) site todo (drop m s.run.operands)
     acts source known piece.FailedNow todo = failed _ todo _
     acts source known piece.RaiseAtNow todo = raise_at _ _ todo _
-    acts source known (piece.EnableNow events cell) todo = enables _ cell todo
-    acts source known (piece.DisableNow events cell) todo = enables _ cell todo
+    acts source known (piece.EnableNow events cell) todo = enables (inside.enabled_more s.env.links.enabled events) cell todo
+    acts source known (piece.DisableNow events cell) todo = enables (inside.enabled_less s.env.links.enabled events) cell todo
     acts source known piece.PollNow todo = poll todo
     acts source known piece.DeliverNow todo = deliver _ todo
     acts source known piece.Finish todo = unless s.env.own _ todo (returned _ s.callers)

@@ -1,4 +1,4 @@
--- Where scopes open in frames whose cells have addresses, what is bound is there behind the step that binds it: in runs.
+-- In programs within their limits what is bound is there behind the step that binds it: in runs.
 use Rattle.std.proofs.Common.{◌≡◌, ℕ, suc, Bool, false, true, Some, List, [], ◌∷◌, refl, sym, ap, ◌∙◌, subst}
 use Rattle.std.specs.Prelude.{slice_get}
 use Rattle.uc_tree.specs.Programs.{Program}
@@ -42,7 +42,10 @@ use Rattle.uc_aside_laws.specs.AsideLaws.{PutsAt, Puts}
 use Rattle.uc_aside_laws.proofs.PutsRuns.{law_runs as aside_runs}
 use Rattle.uc_binding_laws.specs.Placed.{IsObject, Mark, rest, rests, anys, CodeRoutine, Ok, PlacedState, PlacedStep}
 use Rattle.uc_binding_laws.specs.Taking.{here, call_now, Takes}
-use Rattle.uc_binding_laws.specs.Addressed.{AddressedAt, Addressed, RunAddressed, LawOpens}
+use Rattle.uc_address_laws.specs.Limits.{IsWithinLimits}
+use Rattle.uc_address_laws.specs.Addressed.{AddressedAt, Addressed}
+use Rattle.uc_address_laws.proofs.Worlds.{law_addressed}
+use Rattle.uc_binding_laws.specs.OpenRuns.{LawOpens}
 use Rattle.uc_binding_laws.proofs.Walk.{walk, law_bound}
 use Rattle.uc_binding_laws.proofs.Worlds.{code_of, placed_in}
 use Rattle.uc_binding_laws.proofs.Taking.{law_taken}
@@ -164,9 +167,9 @@ module _ (p : Program) (formed : IsFormed p) (accepted : breaks_of p ≡ []) (in
       ridden p (source_of p) (law_accepted p accepted) (code_of p formed accepted) d.rides (begins r f on q t d.given d.runs d.told) o h
 
 pub law_opens : LawOpens
-law_opens = record { runs = runs; leads = λ p formed accepted input opts range j w r f on t s c o. led p (source_of p) (law_accepted p accepted) (code_of p formed accepted) c.leads (begins p formed accepted input opts range r f on c.processor t c.given c.runs c.told) o (aside_runs.leads p formed accepted input opts range j w r f on t s c) }
+law_opens = record { runs = runs; leads = λ p formed accepted within input opts range j w r f on t s c. led p (source_of p) (law_accepted p accepted) (code_of p formed accepted) c.leads (begins p formed accepted input opts range r f on c.processor t c.given c.runs c.told) (law_addressed.leads p within input opts j w r t s c) (aside_runs.leads p formed accepted input opts range j w r f on t s c) }
   where
-    runs : (p : Program) → IsFormed p → breaks_of p ≡ [] → (input : List ℕ) (opts : Options) → InRange opts → (j : Journal) (w : World) (r : Runs (source_of p) input opts j w) → RunFits (source_of p) input opts j w r → RunAddressed (source_of p) input opts j w r → RunOpens (source_of p) input opts j w r
-    runs p formed accepted input opts range j w begun f o = tt
-    runs p formed accepted input opts range j w (more r on m) f o =
-        (runs p formed accepted input opts range _ _ r f.0 o.0, may_open p formed accepted input opts range r f.0 on m o.1 (aside_runs.runs p formed accepted input opts range _ _ (more r on m) f).1)
+    runs : (p : Program) → IsFormed p → breaks_of p ≡ [] → IsWithinLimits p → (input : List ℕ) (opts : Options) → InRange opts → (j : Journal) (w : World) (r : Runs (source_of p) input opts j w) → RunFits (source_of p) input opts j w r → RunOpens (source_of p) input opts j w r
+    runs p formed accepted within input opts range j w begun f = tt
+    runs p formed accepted within input opts range j w (more r on m) f =
+        (runs p formed accepted within input opts range _ _ r f.0, may_open p formed accepted input opts range r f.0 on m (law_addressed.runs p within input opts _ _ (more r on m)).1 (aside_runs.runs p formed accepted input opts range _ _ (more r on m) f).1)
