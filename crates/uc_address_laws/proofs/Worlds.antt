@@ -143,4 +143,5 @@ pub law_addressed : LawAddressed
 law_addressed = record {
   runs = λ p h input opts j w r. run_addressed (source_of p) (law_limits p h) input opts r;
   leads = λ p h input opts j w r t s c. lead_addressed (source_of p) (law_limits p h) c.leads (answered_fits MOST_CELLS (source_of p) c.given (drawn j w t) (drawn_fits MOST_CELLS j w t (world_fits MOST_CELLS (source_of p) (law_limits p h) input opts r)));
+  comes = λ p h input opts j w r t s c. addressed s (comes_fits MOST_CELLS (source_of p) (law_limits p h) j w (world_fits MOST_CELLS (source_of p) (law_limits p h) input opts r) t s c);
 }

@@ -27,7 +27,7 @@ RunAddressed source input opts j w r = RunMeets Addressed source input opts j w 
 abbrev pub LeadsAddressed : (source : Source) (s u : State) → Leads source s u → Type 0
 LeadsAddressed source s u l = LeadsMeet Addressed source s u l
 
--- so it is in each run of a program within its limits, and on the way to each state to which whoever runs comes before it asks
+-- so it is in each run of a program within its limits, and on the way to each state to which whoever runs comes before it asks, and there
 pub record LawAddressed : Type 0 where
   pub runs : (p : Program) → IsWithinLimits p → (input : List ℕ) (opts : Options) →
       (j : Journal) (w : World) (r : Runs (source_of p) input opts j w) →
@@ -36,3 +36,6 @@ pub record LawAddressed : Type 0 where
       (j : Journal) (w : World) → Runs (source_of p) input opts j w →
       (t : ℕ) (s : State) (c : Comes (source_of p) j w t s) →
       LeadsAddressed (source_of p) (answered (source_of p) c.given (drawn j w t)) s c.leads
+  pub comes : (p : Program) → IsWithinLimits p → (input : List ℕ) (opts : Options) →
+      (j : Journal) (w : World) → Runs (source_of p) input opts j w →
+      (t : ℕ) (s : State) → Comes (source_of p) j w t s → Addressed s

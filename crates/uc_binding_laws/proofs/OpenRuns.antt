@@ -37,6 +37,7 @@ use Rattle.uc_scope_laws.proofs.Walk.{walk as walk_rooms}
 use Rattle.uc_value_laws.specs.There.{IsLoose, HoldsLoose, HoldsObject, OfBound, NextDrop, NextCall}
 use Rattle.uc_value_laws.specs.ThereStates.{BoundBehind, BuildsBare, FillsBare}
 use Rattle.uc_value_laws.specs.Opens.{OpensAt, Opens, RunOpens, RideMeets, MayMeet, LeadsMeet}
+use Rattle.uc_value_laws.proofs.Worlds.{law_counts, law_ends}
 use Rattle.uc_event_laws.specs.Counted.{params, params_at, CountedExpr}
 use Rattle.uc_aside_laws.specs.AsideLaws.{PutsAt, Puts}
 use Rattle.uc_aside_laws.proofs.PutsRuns.{law_runs as aside_runs}
@@ -45,7 +46,7 @@ use Rattle.uc_binding_laws.specs.Taking.{here, call_now, Takes}
 use Rattle.uc_address_laws.specs.Limits.{IsWithinLimits}
 use Rattle.uc_address_laws.specs.Addressed.{AddressedAt, Addressed}
 use Rattle.uc_address_laws.proofs.Worlds.{law_addressed}
-use Rattle.uc_binding_laws.specs.OpenRuns.{LawOpens}
+use Rattle.uc_binding_laws.specs.OpenRuns.{LawOpens, LawThere}
 use Rattle.uc_binding_laws.proofs.Walk.{walk, law_bound}
 use Rattle.uc_binding_laws.proofs.Worlds.{code_of, placed_in}
 use Rattle.uc_binding_laws.proofs.Taking.{law_taken}
@@ -151,14 +152,15 @@ module _ (p : Program) (source : Source) (in_rooms : SourceIn (Sized p) source) 
 -- runs
 
 module _ (p : Program) (formed : IsFormed p) (accepted : breaks_of p ≡ []) (input : List ℕ) (opts : Options) (range : InRange opts) where
+  stands : {j : Journal} {w : World} (r : Runs (source_of p) input opts j w) → RunFits (source_of p) input opts j w r → is_over j ≡ false → (t : ℕ) (s : State) → Comes (source_of p) j w t s → Stands p (source_of p) s
+  stands {j} {w} r f on t s c = record {
+    rooms = (rooms_in p accepted input opts j w r).comes t s c;
+    placed = placed_in p formed accepted input opts range j w r f on t s c;
+    stack = (law_frame_runs p accepted input opts j w r).comes t s c;
+  }
+
   begins : {j : Journal} {w : World} (r : Runs (source_of p) input opts j w) → RunFits (source_of p) input opts j w r → is_over j ≡ false → (q t : ℕ) (a : Answer) → running q j ≡ t ∷ [] → answer_to (source_of p).sites t j ≡ Some a → Stands p (source_of p) (answered (source_of p) a (drawn j w t))
-  begins {j} {w} r f on q t a runs told =
-      let c : Comes (source_of p) j w t (answered (source_of p) a (drawn j w t)) = record { given = a; processor = q; runs = runs; told = told; leads = rooms.stays } in
-      record {
-        rooms = (rooms_in p accepted input opts j w r).comes t _ c;
-        placed = placed_in p formed accepted input opts range j w r f on t _ c;
-        stack = (law_frame_runs p accepted input opts j w r).comes t _ c;
-      }
+  begins {j} {w} r f on q t a runs told = stands r f on t _ (record { given = a; processor = q; runs = runs; told = told; leads = rooms.stays })
 
   may_open : {j : Journal} {w : World} {a : List Entry} {x : World} (r : Runs (source_of p) input opts j w) → RunFits (source_of p) input opts j w r → is_over j ≡ false → (m : May (source_of p) opts input j w a x) → MayMeet Addressed (source_of p) opts input j w a x m → MayMeet Puts (source_of p) opts input j w a x m → MayMeet (Opens (source_of p)) (source_of p) opts input j w a x m
   may_open r f on (gives q t s le) o h = tt
@@ -167,9 +169,19 @@ module _ (p : Program) (formed : IsFormed p) (accepted : breaks_of p ≡ []) (in
       ridden p (source_of p) (law_accepted p accepted) (code_of p formed accepted) d.rides (begins r f on q t d.given d.runs d.told) o h
 
 pub law_opens : LawOpens
-law_opens = record { runs = runs; leads = λ p formed accepted within input opts range j w r f on t s c. led p (source_of p) (law_accepted p accepted) (code_of p formed accepted) c.leads (begins p formed accepted input opts range r f on c.processor t c.given c.runs c.told) (law_addressed.leads p within input opts j w r t s c) (aside_runs.leads p formed accepted input opts range j w r f on t s c) }
+law_opens = record {
+  runs = runs;
+  leads = λ p formed accepted within input opts range j w r f on t s c. led p (source_of p) (law_accepted p accepted) (code_of p formed accepted) c.leads (begins p formed accepted input opts range r f on c.processor t c.given c.runs c.told) (law_addressed.leads p within input opts j w r t s c) (aside_runs.leads p formed accepted input opts range j w r f on t s c);
+  comes = λ p formed accepted within input opts range j w r f on t s c. opens p (source_of p) (law_accepted p accepted) (code_of p formed accepted) s (stands p formed accepted input opts range r f on t s c) (law_addressed.comes p within input opts j w r t s c) (aside_runs.comes p formed accepted input opts range j w r f on t s c);
+}
   where
     runs : (p : Program) → IsFormed p → breaks_of p ≡ [] → IsWithinLimits p → (input : List ℕ) (opts : Options) → InRange opts → (j : Journal) (w : World) (r : Runs (source_of p) input opts j w) → RunFits (source_of p) input opts j w r → RunOpens (source_of p) input opts j w r
     runs p formed accepted within input opts range j w begun f = tt
     runs p formed accepted within input opts range j w (more r on m) f =
         (runs p formed accepted within input opts range _ _ r f.0, may_open p formed accepted input opts range r f.0 on m (law_addressed.runs p within input opts _ _ (more r on m)).1 (aside_runs.runs p formed accepted input opts range _ _ (more r on m) f).1)
+
+pub law_there : LawThere
+law_there = record {
+  comes = λ p formed accepted within input opts range j w r f on t s c. (law_counts p accepted input opts range j w r f on (law_opens.runs p formed accepted within input opts range j w r f)).comes t s c (law_opens.leads p formed accepted within input opts range j w r f on t s c);
+  ends = λ p formed accepted within input opts range j w r f on t s c k todo l leaves. law_ends p accepted input opts range j w r f on (law_opens.runs p formed accepted within input opts range j w r f) t s c (law_opens.leads p formed accepted within input opts range j w r f on t s c) k todo l leaves;
+}
