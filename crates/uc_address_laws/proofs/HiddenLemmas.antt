@@ -1,5 +1,5 @@
 -- A statement has at most three hidden cells for each unit of its size.
-use Rattle.std.proofs.Common.{◌≤◌, ◌*◌, ◌+◌, ℕ, Option, Some, None, arith}
+use Rattle.std.proofs.Common.{◌≤◌, ◌*◌, Some, None, arith}
 use Rattle.uc_tree.specs.Hidden.{hidden_in, hidden_in_all, hidden_in_maybe, hidden_in_handler, hidden_in_handlers, hidden_in_clause, hidden_in_clauses}
 use Rattle.uc_tree.specs.Statements.{Stmt, Block, If, While, Do, For, Try, Throw, Raise, RaiseAt, Enable, Disable, Accept, Stmts, NoStmts, MoreStmts, MaybeStmt, NoStmt, OneStmt, Handler, Handles, Handlers, NoHandlers, MoreHandlers, Clause, Accepts, Clauses, NoClauses, MoreClauses}
 use Rattle.uc_tree.specs.StatementSizes.{stmt_size, stmts_size, maybe_stmt_size, handler_size, handlers_size, clause_size, clauses_size}

@@ -1,5 +1,5 @@
 -- The frames of the source of a program within its limits are no larger than a number.
-use Rattle.std.proofs.Common.{◌≡◌, ◌≤◌, ◌*◌, ◌+◌, ℕ, zero, suc, List, [], ◌∷◌, ◌++◌, length, Option, Some, None, refl, arith}
+use Rattle.std.proofs.Common.{◌≡◌, ◌≤◌, ◌+◌, ℕ, zero, suc, List, [], ◌∷◌, ◌++◌, length, Some, refl, arith}
 use Rattle.std.specs.Prelude.{slice_get}
 use Rattle.uc_tree.specs.declared.limits.TheConstants.{FRAME_CELLS, PROGRAM_SIZE}
 use Rattle.uc_tree.specs.declared.kinds.Owner.{Owner}
@@ -10,13 +10,12 @@ use Rattle.uc_tree.specs.Numbering.{Defined, defined_by, form_defined, members_d
 use Rattle.uc_tree.specs.Objects.{Unwritten, unwritten_of}
 use Rattle.uc_tree.specs.Programs as whole
 use Rattle.uc_tree.specs.Programs.{Item, Member, MemberForm, Program}
-use Rattle.uc_tree.specs.Sizes.{inits_size, routine_size, member_form_size, members_size, item_size, items_size, items_exits}
-use Rattle.uc_tree.specs.StatementSizes.{stmts_size}
+use Rattle.uc_tree.specs.Sizes.{routine_size, member_form_size, members_size, item_size, items_size}
 use Rattle.uc_tree.specs.Source.{Routine}
 use Rattle.uc_resolve.specs.Resolve as meaning
 use Rattle.uc_resolve.specs.Resolve.{source_of}
-use Rattle.uc_address_laws.specs.FrameSizes.{RoutineFits, MaybeRoutineFits, SourceFits}
-use Rattle.uc_address_laws.specs.Limits.{IsWithinLimits, MOST_CELLS, LawLimits}
+use Rattle.uc_address_laws.specs.FrameSizes.{RoutineFits, SourceFits}
+use Rattle.uc_address_laws.specs.Limits.{MOST_CELLS, LawLimits}
 use Rattle.uc_address_laws.proofs.HiddenLemmas.{few_in_all}
 
 -- the sizes of routines are at most that of the program

@@ -1,5 +1,5 @@
 -- A quiet step keeps frames as small as they are, or makes one for a routine.
-use Rattle.std.proofs.Common.{◌≡◌, ◌≤◌, ◌+◌, ◌-◌, ◌++◌, ℕ, zero, suc, Bool, true, false, List, [], ◌∷◌, length, drop, Option, Some, None, refl, arith, ap, subst, sym}
+use Rattle.std.proofs.Common.{◌≡◌, ◌≤◌, ◌+◌, ◌-◌, ◌++◌, ℕ, zero, suc, Bool, true, false, List, [], ◌∷◌, length, drop, Option, Some, None, refl, arith, ap}
 use Rattle.std.specs.Prelude.{nat_eq, nat_lt, replicate, slice_get}
 use Rattle.uc_tree.specs.declared.limits.TheConstants.{CALLS, PENDING_EVENTS}
 use Rattle.uc_tree.specs.Source as src
@@ -27,7 +27,7 @@ use Rattle.uc_machine.specs.Pieces as piece
 use Rattle.uc_machine.specs.Pieces.{Value, Number, Object, Nothing, Todo, Sort, Active, State, Members, Step, Outcome, Gives, Faults, at, top, below, nought, number}
 use Rattle.uc_machine.specs.Answering.{answered, entered, new_members, with_operand}
 use Rattle.uc_site_laws.proofs.Kept.{either}
-use Rattle.uc_address_laws.specs.FrameSizes.{FramesFit, ParkedFit, HandFits, MembersFit, StateFits, StepFits, RoutineFits, MaybeRoutineFits, SourceFits}
+use Rattle.uc_address_laws.specs.FrameSizes.{ParkedFit, HandFits, MembersFit, StateFits, StepFits, RoutineFits, MaybeRoutineFits, SourceFits}
 use Rattle.uc_address_laws.proofs.Keeping as kept
 use Rattle.uc_address_laws.proofs.Keeping.{MovedFits}
 

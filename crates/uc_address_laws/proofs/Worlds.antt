@@ -1,6 +1,5 @@
 -- In every run of a source of which no routine takes more cells than a number no frame has more; so all cells of frames have addresses.
-use Rattle.std.proofs.Common.{◌≡◌, ◌≤◌, ℕ, ◌==◌, List, [], ◌∷◌, Option, Some, None, refl, arith, subst}
-use Rattle.uc_tree.specs.Programs.{Program}
+use Rattle.std.proofs.Common.{◌≤◌, ℕ, ◌==◌, List, [], ◌∷◌, Option, Some, None, arith, subst}
 use Rattle.uc_tree.specs.Source as src
 use Rattle.uc_tree.specs.Source.{Source}
 use Rattle.uc_entry.specs.declared.entry.Entry.{Entry}
@@ -11,11 +10,11 @@ use Rattle.uc_acts.specs.Journal.{Journal, held, own_object}
 use Rattle.uc_acts.specs.Known.{spawns, takes_out}
 use Rattle.uc_machine.specs.Pieces as piece
 use Rattle.uc_machine.specs.Pieces.{State, Todo, Members, Goes, Ticks, LAST_ADDRESS}
-use Rattle.uc_machine.specs.Quiet.{quiet, no_members}
-use Rattle.uc_machine.specs.Answering.{answered, child_main}
+use Rattle.uc_machine.specs.Quiet.{no_members}
+use Rattle.uc_machine.specs.Answering.{child_main}
 use Rattle.uc_machine.specs.Rides as rides
 use Rattle.uc_machine.specs.Rides.{Rides}
-use Rattle.uc_meaning.specs.Runs.{World, AsksIn, May, Runs, gives, no_room, acts, begun, more, bare, with_home, hand_of, drawn, or_else}
+use Rattle.uc_meaning.specs.Runs.{World, May, Runs, gives, no_room, acts, begun, more, bare, with_home, hand_of, drawn, or_else}
 use Rattle.uc_resolve.specs.Resolve.{source_of}
 use Rattle.uc_site_laws.proofs.Kept.{either}
 use Rattle.uc_scope_laws.specs.RoomRuns as runs
@@ -24,7 +23,7 @@ use Rattle.uc_value_laws.specs.Opens.{RideMeets, MayMeet, LeadsMeet}
 use Rattle.uc_address_laws.specs.FrameSizes.{SourceFits, HandFits, MembersFit, StateFits, StepFits}
 use Rattle.uc_address_laws.specs.FrameSteps.{LawSteps}
 use Rattle.uc_address_laws.specs.FrameRuns.{LawRuns}
-use Rattle.uc_address_laws.specs.Limits.{MOST_CELLS, IsWithinLimits}
+use Rattle.uc_address_laws.specs.Limits.{MOST_CELLS}
 use Rattle.uc_address_laws.specs.Addressed.{AddressedAt, Addressed, RunAddressed, LawAddressed}
 use Rattle.uc_address_laws.proofs.Keeping.{found_hand, frame_fits}
 use Rattle.uc_address_laws.proofs.Steps.{walk, first, answered_fits}

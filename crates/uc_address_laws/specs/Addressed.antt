@@ -1,5 +1,5 @@
 -- Runs in which scopes open where all cells of the frame have addresses.
-use Rattle.std.specs.Prelude.{ℕ, List, [], ◌∷◌}
+use Rattle.std.specs.Prelude.{ℕ, List, ◌∷◌}
 use Rattle.uc_tree.specs.Programs.{Program}
 use Rattle.uc_tree.specs.Source.{Source, Scoped}
 use Rattle.uc_entry.specs.declared.entry.Options.{Options}

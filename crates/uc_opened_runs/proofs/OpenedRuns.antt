@@ -1,6 +1,5 @@
 -- What uc_value_laws asks of steps that bind holds in programs within their limits, so that a step finds all that it is to find.
-use Rattle.std.proofs.Common.{◌≡◌, ℕ, zero, suc, false, List}
-use Rattle.uc_tree.specs.Programs.{Program}
+use Rattle.std.proofs.Common.{ℕ, zero, suc, List}
 use Rattle.uc_tree.specs.Source.{Source}
 use Rattle.uc_entry.specs.declared.entry.Options.{Options}
 use Rattle.uc_entry.specs.declared.request.Asked.{Asked}
