@@ -88,7 +88,7 @@ fn same_word(a: Word, b: Word) -> bool
     ensures same { result ≡ true → a ≡ b }
     ensures other { result ≡ false → a ≢ b }
 {
-    a == b
+    a as u8 == b as u8
 }
 
 /// Whether the token at a place is this word.
