@@ -8,8 +8,9 @@ use Rattle.uc_machine.specs.declared.exec.Exec.{Exec}
 use Rattle.uc_machine.specs.Pieces as piece
 use Rattle.uc_machine.specs.Pieces.{Value, Todo, Active, below}
 use Rattle.uc_aside_laws.specs.OlderResting.{AllWait}
-use Rattle.uc_opening_laws.specs.Opened.{OfPlain, OpensOf, OpensNone, Builds}
-use Rattle.uc_opening_laws.specs.Called.{Mark, Any, At, Holds, rest, rests, anys, Placed, Every, after, Ok, AtRest, AtDrop, Left}
+use Rattle.uc_event_laws.specs.Counted.{params}
+use Rattle.uc_opening_laws.specs.Opened.{OfPlain, OpensOf, OpensNone, Builds, Before}
+use Rattle.uc_opening_laws.specs.Called.{Mark, Any, At, Holds, rest, rests, anys, Placed, Every, CalledBy, after, Ok, AtRest, AtDrop, Left}
 use Rattle.uc_opening_laws.specs.CalledStates.{Runs, Waits}
 
 -- operands
@@ -82,14 +83,28 @@ module _ (p : Program) (source : Source) where
 
   -- to-do lists that are left
 
+  -- what is evaluated, and what is called, may build or not
+  either_eval : (e : Expr) (A B Q : Type 0) (P : ℕ → Type 0) → (A → Q) → (B → Q) → ((k : ℕ) → P k → Q) → A ⊎ (B ⊎ Placed e P) → Q
+  either_eval e A B Q P f g h (inl x) = f x
+  either_eval e A B Q P f g h (inr (inl x)) = g x
+  either_eval (src.Variable k) A B Q P f g h (inr (inr x)) = h k x
+  either_eval e A B Q P f g h (inr (inr x)) = absurd x
+
+  either_call : (A B Q : Type 0) → (A → Q) → (B → Q) → A ⊎ B → Q
+  either_call A B Q f g (inl x) = f x
+  either_call A B Q f g (inr x) = g x
+
   mutual
     pub left : (ms : List Mark) (todo : List Todo) → Ok p source ms todo → Left p source todo
     left ms [] h = tt
-    left ms (piece.Eval e ∷ todo) h = left_eval ms e todo h.1
-    left ms (piece.CallOnNow r ∷ todo) h = left_call ms r todo h
-    left ms (piece.CallUnwrittenNow r ∷ todo) h = left_call ms r todo h
-    left ms (piece.Do a ∷ todo) (k, inl h) = left [] todo h
-    left ms (piece.Do a ∷ todo) (k, inr h) = left_rest _ todo h
+    left ms (piece.Eval e ∷ todo) h =
+        either_eval e (Ok p source (Any ∷ ms) todo) (AtDrop p source (Builds p e) todo) (Left p source todo) (λ k. Ok p source (At k ∷ ms) todo) (λ x. left (Any ∷ ms) todo x) (λ x. left_drop (Builds p e) todo x) (λ k x. left (At k ∷ ms) todo x) h.1
+    left ms (piece.CallOnNow r ∷ todo) h =
+        either_call (Ok p source (Any ∷ rests (suc (params source r)) ms) todo) (AtDrop p source (CalledBy p r (rests (params source r) ms)) todo) (Left p source todo) (λ x. left (Any ∷ rests (suc (params source r)) ms) todo x) (λ x. left_drop (CalledBy p r (rests (params source r) ms)) todo x) h
+    left ms (piece.CallUnwrittenNow r ∷ todo) h =
+        either_call (Ok p source (Any ∷ rests (suc (params source r)) ms) todo) (AtDrop p source (CalledBy p r (rests (params source r) ms)) todo) (Left p source todo) (λ x. left (Any ∷ rests (suc (params source r)) ms) todo x) (λ x. left_drop (CalledBy p r (rests (params source r) ms)) todo x) h
+    left ms (piece.Do a ∷ todo) h =
+        either_call (Ok p source [] todo) (AtRest p source (Before p a) todo) (Left p source todo) (λ x. left [] todo x) (λ x. left_rest (Before p a) todo x) h.1
     left ms (piece.Exit w ∷ todo) h = h
     left ms (piece.Unwind ∷ todo) h = h
     left ms (piece.InLoop o t e b ∷ todo) h = h
@@ -102,16 +117,6 @@ module _ (p : Program) (source : Source) where
     left ms (piece.Finish ∷ todo) h = h.1
     left ms (piece.FinishCoroutine ∷ todo) h = h.1
     left ms (x ∷ todo) h = left (after source x ms) todo h.1
-
-    left_eval : (ms : List Mark) (e : Expr) (todo : List Todo) → Ok p source (Any ∷ ms) todo ⊎ (AtDrop p source (Builds p e) todo ⊎ Placed e (λ k. Ok p source (At k ∷ ms) todo)) → Left p source todo
-    left_eval ms e todo (inl h) = left (Any ∷ ms) todo h
-    left_eval ms e todo (inr (inl h)) = left_drop _ todo h
-    left_eval ms (src.Variable k) todo (inr (inr h)) = left (At k ∷ ms) todo h
-    left_eval ms e todo (inr (inr h)) = absurd h
-
-    left_call : (ms : List Mark) (r : ℕ) (todo : List Todo) → Ok p source ms (piece.CallOnNow r ∷ todo) → Left p source todo
-    left_call ms r todo (inl h) = left _ todo h
-    left_call ms r todo (inr h) = left_drop _ todo h
 
     left_rest : (P : ℕ → ℕ → Type 0) (todo : List Todo) → AtRest p source P todo → Left p source todo
     left_rest P (piece.Rest ss ∷ todo) h = left [] todo h.1
