@@ -98,13 +98,13 @@ module _ (p : Program) (source : Source) where
     pub left : (ms : List Mark) (todo : List Todo) → Ok p source ms todo → Left p source todo
     left ms [] h = tt
     left ms (piece.Eval e ∷ todo) h =
-        either_eval e (Ok p source (Any ∷ ms) todo) (AtDrop p source (Builds p e) todo) (Left p source todo) (λ k. Ok p source (At k ∷ ms) todo) (λ x. left (Any ∷ ms) todo x) (λ x. left_drop (Builds p e) todo x) (λ k x. left (At k ∷ ms) todo x) h.1
+        either_eval e (Ok p source (Any ∷ ms) todo) (AtDrop p source (Builds p e) todo) (Left p source todo) (λ k. Ok p source (At k ∷ ms) todo) (λ x. left (Any ∷ ms) todo x) (λ x. left_drop todo (drop_more (Builds p e) Every (λ d k y. tt) todo x)) (λ k x. left (At k ∷ ms) todo x) h.1
     left ms (piece.CallOnNow r ∷ todo) h =
-        either_call (Ok p source (Any ∷ rests (suc (params source r)) ms) todo) (AtDrop p source (CalledBy p r (rests (params source r) ms)) todo) (Left p source todo) (λ x. left (Any ∷ rests (suc (params source r)) ms) todo x) (λ x. left_drop (CalledBy p r (rests (params source r) ms)) todo x) h
+        either_call (Ok p source (Any ∷ rests (suc (params source r)) ms) todo) (AtDrop p source (CalledBy p r (rests (params source r) ms)) todo) (Left p source todo) (λ x. left (Any ∷ rests (suc (params source r)) ms) todo x) (λ x. left_drop todo (drop_more (CalledBy p r (rests (params source r) ms)) Every (λ d k y. tt) todo x)) h
     left ms (piece.CallUnwrittenNow r ∷ todo) h =
-        either_call (Ok p source (Any ∷ rests (suc (params source r)) ms) todo) (AtDrop p source (CalledBy p r (rests (params source r) ms)) todo) (Left p source todo) (λ x. left (Any ∷ rests (suc (params source r)) ms) todo x) (λ x. left_drop (CalledBy p r (rests (params source r) ms)) todo x) h
+        either_call (Ok p source (Any ∷ rests (suc (params source r)) ms) todo) (AtDrop p source (CalledBy p r (rests (params source r) ms)) todo) (Left p source todo) (λ x. left (Any ∷ rests (suc (params source r)) ms) todo x) (λ x. left_drop todo (drop_more (CalledBy p r (rests (params source r) ms)) Every (λ d k y. tt) todo x)) h
     left ms (piece.Do a ∷ todo) h =
-        either_call (Ok p source [] todo) (AtRest p source (Before p a) todo) (Left p source todo) (λ x. left [] todo x) (λ x. left_rest (Before p a) todo x) h.1
+        either_call (Ok p source [] todo) (AtRest p source (Before p a) todo) (Left p source todo) (λ x. left [] todo x) (λ x. left_rest todo (rest_more (Before p a) Every (λ d k y. tt) todo x)) h.1
     left ms (piece.Exit w ∷ todo) h = h
     left ms (piece.Unwind ∷ todo) h = h
     left ms (piece.InLoop o t e b ∷ todo) h = h
@@ -118,13 +118,13 @@ module _ (p : Program) (source : Source) where
     left ms (piece.FinishCoroutine ∷ todo) h = h.1
     left ms (x ∷ todo) h = left (after source x ms) todo h.1
 
-    left_rest : (P : ℕ → ℕ → Type 0) (todo : List Todo) → AtRest p source P todo → Left p source todo
-    left_rest P (piece.Rest ss ∷ todo) h = left [] todo h.1
-    left_rest P todo h = absurd h
+    left_rest : (todo : List Todo) → AtRest p source Every todo → Left p source todo
+    left_rest (piece.Rest ss ∷ todo) h = left [] todo h.1
+    left_rest todo h = absurd h
 
-    pub left_drop : (P : ℕ → ℕ → Type 0) (todo : List Todo) → AtDrop p source P todo → Left p source todo
-    left_drop P (piece.DropNow ∷ (piece.Within line ∷ todo)) h = left_rest P todo h
-    left_drop P todo h = absurd h
+    left_drop : (todo : List Todo) → AtDrop p source Every todo → Left p source todo
+    left_drop (piece.DropNow ∷ (piece.Within line ∷ todo)) h = left_rest todo h
+    left_drop todo h = absurd h
 
   -- what stands behind the first piece
   pub left_tail : (x : Todo) (todo : List Todo) → Left p source (x ∷ todo) → Left p source todo
@@ -146,7 +146,7 @@ module _ (p : Program) (source : Source) where
 
   pub wait_left : (n : Exec) (older : List Active) (a : Active) → Waits p source n older a → Left p source a.control
   wait_left n older a (inl h) = left (Any ∷ h.marks) a.control h.ok
-  wait_left n older a (inr h) = left_drop Every a.control h
+  wait_left n older a (inr h) = left_drop a.control h
 
   pub waits_left : (n : Exec) (cs : List Active) → AllWait (Runs p source) (Waits p source) n cs → AllLeft cs
   waits_left n [] h = tt
