@@ -32,7 +32,7 @@ use Rattle.uc_event_laws.specs.Counted.{params_at, params}
 use Rattle.uc_life_laws.specs.Things.{Few, IsUnbound}
 use Rattle.uc_opening_laws.specs.Opened.{role_number, ArePaired, OfPlain}
 use Rattle.uc_opening_laws.specs.OpeningLaws.{Awaited, CallsAt, IsCalled}
-use Rattle.uc_building_laws.specs.BuildingStates.{variable, Awaits}
+use Rattle.uc_building_laws.specs.BuildingStates.{variable}
 use Rattle.uc_building_laws.specs.BuildingLaws.{IsConstructed, Constructs, BuildsAt, Fair}
 use Rattle.uc_building_laws.specs.BuildingRuns.{Makes, MakesNext, RemainsAt, Remains}
 use Rattle.uc_building_laws.proofs.Plain.{plain_of, no_scope}

@@ -1,5 +1,5 @@
 -- Objects that are variables, by what cleans them up.
-use Rattle.std.proofs.Common.{◌≡◌, ℕ, List, [], ◌∷◌, Some, sym, subst}
+use Rattle.std.proofs.Common.{◌≡◌, ℕ, List, ◌∷◌, Some, sym, subst}
 use Rattle.uc_tree.specs.Source as src
 use Rattle.uc_tree.specs.Source.{Expr, CleanUp}
 use Rattle.uc_machine.specs.Pieces as piece

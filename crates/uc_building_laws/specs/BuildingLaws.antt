@@ -1,7 +1,7 @@
 -- What a constructor leaves.
 use Rattle.std.specs.Prelude.{◌≡◌, ℕ, ◌⊎◌, true, false, List, [], ◌∷◌, length, drop, slice_get, Some}
 use Rattle.uc_tree.specs.Programs.{Program}
-use Rattle.uc_tree.specs.Source.{CleanUp, Variable, Scoped, Builder, Routine, Source, routine_of}
+use Rattle.uc_tree.specs.Source.{CleanUp, Variable, Builder, Routine, Source, routine_of}
 use Rattle.uc_entry.specs.declared.request.Answer.{Answer}
 use Rattle.uc_machine.specs.declared.exec.Exec.{Exec}
 use Rattle.uc_machine.specs.declared.exec.Owner.TheVariants.{Frame}

@@ -7,10 +7,10 @@ use Rattle.uc_machine.specs.Quiet as quiet
 use Rattle.uc_machine.specs.Pieces as piece
 use Rattle.uc_machine.specs.Pieces.{Value, Todo, State, top}
 use Rattle.uc_event_laws.specs.Counted.{params, CountedRoutine, CountedSource}
-use Rattle.uc_opening_laws.specs.Opened.{ArePaired, OpensOf, OpenedRoutine, OpenedSource}
+use Rattle.uc_opening_laws.specs.Opened.{ArePaired, OpenedRoutine, OpenedSource}
 use Rattle.uc_opening_laws.specs.Called.{variable, Mark, Any, At, Holds, rests, CalledAt, CalledBy, CodeRoutine, Ok, AtDrop, Stands}
-use Rattle.uc_opening_laws.specs.CalledStates.{RunsNow, CalledState}
-use Rattle.uc_opening_laws.specs.OpeningLaws.{Awaited, NoneAwaited, CallsAt, IsCalled, LawSteps, LawCalled}
+use Rattle.uc_opening_laws.specs.CalledStates.{RunsNow}
+use Rattle.uc_opening_laws.specs.OpeningLaws.{Awaited, NoneAwaited, CallsAt, LawSteps, LawCalled}
 use Rattle.uc_opening_laws.proofs.Marks.{holds_drop, opens_more, opens_any}
 use Rattle.uc_opening_laws.proofs.Walk.{walk, first_called, led, joined, answered_called}
 
@@ -43,26 +43,26 @@ module _ (g : Program) (source : Source) where
 
   module _ (s : State) where
     -- the routine r is called at this
-    abbrev pub At_variable : ℕ → Value → ℕ → ℕ → Type 0
-    At_variable r v d k = ArePaired g r d × (v ≡ variable s.env.exec s.run.frame k)
+    abbrev pub AtVariable : ℕ → Value → ℕ → ℕ → Type 0
+    AtVariable r v d k = ArePaired g r d × (v ≡ variable s.env.exec s.run.frame k)
 
-    awaited : (r m : ℕ) (v : Value) → v ≡ variable s.env.exec s.run.frame m → (todo : List Todo) → AtDrop g source (CalledAt g r m) todo → Awaited (At_variable r v) todo
+    awaited : (r m : ℕ) (v : Value) → v ≡ variable s.env.exec s.run.frame m → (todo : List Todo) → AtDrop g source (CalledAt g r m) todo → Awaited (AtVariable r v) todo
     awaited r m v e (piece.DropNow ∷ (piece.Within line ∷ (piece.Rest ss ∷ todo))) h =
-        opens_more (CalledAt g r m) (At_variable r v) (λ d k x. (x.1, subst (λ i. v ≡ variable s.env.exec s.run.frame i) x.0 e)) ss h.0.0
+        opens_more (CalledAt g r m) (AtVariable r v) (λ d k x. (x.1, subst (λ i. v ≡ variable s.env.exec s.run.frame i) x.0 e)) ss h.0.0
     awaited r m v e todo h = tt
 
     none_at : (todo : List Todo) → AtDrop g source (λ d k. ⊥) todo → NoneAwaited todo
     none_at (piece.DropNow ∷ (piece.Within line ∷ (piece.Rest ss ∷ todo))) h = h.0.0
     none_at todo h = tt
 
-    awaited_at : (r : ℕ) (ms : List Mark) (vs : List Value) → Holds s.env.exec s.run.frame ms vs → (todo : List Todo) → AtDrop g source (CalledBy g r ms) todo → Awaited (At_variable r (top vs)) todo
+    awaited_at : (r : ℕ) (ms : List Mark) (vs : List Value) → Holds s.env.exec s.run.frame ms vs → (todo : List Todo) → AtDrop g source (CalledBy g r ms) todo → Awaited (AtVariable r (top vs)) todo
     awaited_at r (At m ∷ ms) vs k todo h = awaited r m (top vs) k.0 todo h
-    awaited_at r (Any ∷ ms) vs k todo h = any_awaited (At_variable r (top vs)) todo (none_at todo h)
-    awaited_at r [] vs k todo h = any_awaited (At_variable r (top vs)) todo (none_at todo h)
+    awaited_at r (Any ∷ ms) vs k todo h = any_awaited (AtVariable r (top vs)) todo (none_at todo h)
+    awaited_at r [] vs k todo h = any_awaited (AtVariable r (top vs)) todo (none_at todo h)
 
     module _ (ms : List Mark) (holds : Holds s.env.exec s.run.frame ms s.run.operands) where
-      called : (r : ℕ) (todo : List Todo) → Ok g source ms (piece.CallOnNow r ∷ todo) → Awaited (At_variable r (top (drop (params source r) s.run.operands))) todo
-      called r todo (inl h) = any_awaited (At_variable r (top (drop (params source r) s.run.operands))) todo (none_awaited _ todo h)
+      called : (r : ℕ) (todo : List Todo) → Ok g source ms (piece.CallOnNow r ∷ todo) → Awaited (AtVariable r (top (drop (params source r) s.run.operands))) todo
+      called r todo (inl h) = any_awaited (AtVariable r (top (drop (params source r) s.run.operands))) todo (none_awaited _ todo h)
       called r todo (inr h) = awaited_at r (rests (params source r) ms) (drop (params source r) s.run.operands) (holds_drop s.env.exec s.run.frame (params source r) ms s.run.operands holds) todo h
 
       calls : (l : List Todo) → Ok g source ms l → CallsAt g source l s

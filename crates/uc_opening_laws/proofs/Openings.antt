@@ -20,7 +20,7 @@ use Rattle.uc_resolve.specs.Standings as tree
 use Rattle.uc_resolve.specs.Standings.{Meant}
 use Rattle.uc_resolve.specs.Resolve as meaning
 use Rattle.uc_resolve.specs.Resolve.{Scope, source_of}
-use Rattle.uc_opening_laws.specs.Opened.{role_number, ArePaired, CallsAt, OfPlain, OpensOf, OpensNone, Builds, Before, OpenedStmt, OpenedStmts, OpenedHandlers, OpenedClauses, OpenedRoutine}
+use Rattle.uc_opening_laws.specs.Opened.{role_number, OfPlain, OpensNone, Builds, Before, OpenedStmt, OpenedStmts, OpenedHandlers, OpenedClauses, OpenedRoutine}
 use Rattle.uc_opening_laws.specs.OpeningLaws.{LawOpened}
 use Rattle.uc_opening_laws.proofs.Marks.{opens_any}
 

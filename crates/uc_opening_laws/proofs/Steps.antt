@@ -1,7 +1,7 @@
 -- A quiet step of a state in which scopes open behind the calls of constructors leads to one, and to where such a scope opens only from where an
 -- activation ends.
 use Rattle.std.proofs.Common.{◌≡◌, ℕ, zero, suc, ◌⊎◌, inl, inr, ◌++◌, Bool, true, false, ◌&&◌, List, [], ◌∷◌, length, drop, Option, Some, None, refl, sym, ap, ◌∙◌, subst}
-use Rattle.std.specs.Prelude.{pos, nat_eq, nat_lt, slice_set}
+use Rattle.std.specs.Prelude.{nat_eq, nat_lt, slice_set}
 use Rattle.uc_tree.specs.declared.limits.TheConstants.{CALLS, PENDING_EVENTS}
 use Rattle.uc_tree.specs.Programs.{Program}
 use Rattle.uc_tree.specs.Source as src
@@ -9,7 +9,6 @@ use Rattle.uc_tree.specs.Source.{Shape, Expr, ObjectExpr, Stmt, Stmts, EventStmt
 use Rattle.uc_entry.specs.declared.fault.RunFault.{RunFault}
 use Rattle.uc_entry.specs.declared.fault.RunFault.TheVariants.{Index, Depth, BlockedInside, TooManyPending, NotLive, Unhandled}
 use Rattle.uc_entry.specs.declared.request.Piece.{Piece}
-use Rattle.uc_entry.specs.declared.request.Request.{Request}
 use Rattle.uc_entry.specs.declared.request.Request.TheVariants as ask
 use Rattle.uc_entry.specs.Keyed.{find, signed_64}
 use Rattle.uc_machine.specs.declared.exec.Exec.{Exec}
@@ -27,13 +26,13 @@ use Rattle.uc_machine.specs.Polls as polls
 use Rattle.uc_machine.specs.Quiet as quiet
 use Rattle.uc_machine.specs.Pieces as piece
 use Rattle.uc_machine.specs.Pieces.{Value, Number, Place, Running, Object, Nothing, Todo, Sort, Active, State, Env, Members, Step, Goes, Ticks, Asks, Outcome, Gives, Faults, at, in_env, goes, fault, asks, turns, top, below, number, written}
-use Rattle.uc_event_laws.specs.Counted.{params_at, params, count, CountedExpr, CountedExprs, CountedObject, CountedMaybe, CountedItem, CountedClean, CountedRaised, CountedAt}
+use Rattle.uc_event_laws.specs.Counted.{params_at, params, count, CountedExpr, CountedObject, CountedMaybe, CountedItem, CountedClean, CountedRaised, CountedAt}
 use Rattle.uc_aside_laws.specs.OlderResting.{AllWait, NamedEnv, NamedState}
 use Rattle.uc_aside_laws.proofs.Keeping as kept
 use Rattle.uc_aside_laws.proofs.Keeping.{either, tested}
 use Rattle.uc_opening_laws.specs.Opened.{Builds, Before}
-use Rattle.uc_opening_laws.specs.Called.{Mark, Any, At, Holds, rest, rests, anys, Placed, Every, CalledAt, CalledBy, CodeStmt, CodeStmts, CodeBlock, CodeHandlers, CodeClauses, CodeLoop, CodeRoutine, LeftBy, Ok, AtRest, AtDrop, Left, Stands}
-use Rattle.uc_opening_laws.specs.CalledStates.{Finds, Runs, Waits, CalledAsk, Ends, Joins}
+use Rattle.uc_opening_laws.specs.Called.{Mark, Any, At, Holds, rest, rests, anys, Placed, Every, CalledAt, CalledBy, CodeStmt, CodeStmts, CodeBlock, CodeHandlers, CodeClauses, CodeRoutine, LeftBy, Ok, AtRest, AtDrop, Left, Stands}
+use Rattle.uc_opening_laws.specs.CalledStates.{Runs, Waits, CalledAsk, Ends, Joins}
 use Rattle.uc_opening_laws.proofs.Marks as marks
 use Rattle.uc_opening_laws.proofs.Marks.{holds_below, holds_drop, holds_anys, rests_anys, drop_set}
 

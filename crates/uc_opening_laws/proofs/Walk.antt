@@ -9,7 +9,6 @@ use Rattle.uc_entry.specs.declared.request.Answer.{Answer}
 use Rattle.uc_entry.specs.declared.request.Answer.TheVariants as answer
 use Rattle.uc_entry.specs.declared.request.Request.{Request}
 use Rattle.uc_entry.specs.declared.request.Request.TheVariants as ask
-use Rattle.uc_machine.specs.declared.exec.Exec.{Exec}
 use Rattle.uc_machine.specs.declared.exec.Home.{Home}
 use Rattle.uc_machine.specs.declared.exec.Home.TheVariants as home
 use Rattle.uc_machine.specs.Executions.{values_cleared}
@@ -20,14 +19,13 @@ use Rattle.uc_machine.specs.Quiet.{first_state}
 use Rattle.uc_machine.specs.Pieces as piece
 use Rattle.uc_machine.specs.Pieces.{Value, Todo, State, Env, Members, Active, Step, Goes, Ticks, Asks, at, top, below, number}
 use Rattle.uc_machine.specs.Answering.{answered, entered, new_members, with_operand}
-use Rattle.uc_answer_laws.specs.Suiting.{Form, AnObject, AClause, ANumber, AValue, AnEvent, JustGo, IsForm, form_of_request}
-use Rattle.uc_event_laws.specs.Counted.{CountedExpr, params_at}
-use Rattle.uc_event_laws.specs.Marked.{operands}
+use Rattle.uc_answer_laws.specs.Suiting.{Form, AnObject, AClause, ANumber, AValue, AnEvent, JustGo, IsForm}
+use Rattle.uc_event_laws.specs.Counted.{CountedExpr}
 use Rattle.uc_aside_laws.specs.OlderResting.{AllWait, NamedParked, NamedHand, NamedEnv}
 use Rattle.uc_aside_laws.proofs.Keeping as kept
 use Rattle.uc_aside_laws.proofs.Keeping.{either}
 use Rattle.uc_opening_laws.specs.Called.{Mark, Any, Holds, rest, CodeStmt, CodeRoutine, Ok, Stands}
-use Rattle.uc_opening_laws.specs.CalledStates.{Ends, Finds, Runs, Waits, RunsNow, CalledMembers, CalledState, FindsFor, FindsBehind, CalledAsk, CalledStep, Joins, AskJoins, StepJoins}
+use Rattle.uc_opening_laws.specs.CalledStates.{Ends, Finds, Runs, Waits, RunsNow, CalledMembers, CalledState, FindsFor, FindsBehind, CalledStep, Joins, AskJoins, StepJoins}
 use Rattle.uc_opening_laws.proofs.Marks.{holds_below}
 use Rattle.uc_opening_laws.proofs.Steps as steps
 

@@ -4,7 +4,7 @@ use Rattle.std.specs.Prelude.{if◌then◌else◌, slice_get}
 use Rattle.std.proofs.lemmas.Bool.{eqb-true, ne_eqb, cases_lt}
 use Rattle.uc_tree.specs.Programs.{Program}
 use Rattle.uc_tree.specs.Numbering.{sites_of}
-use Rattle.uc_tree.specs.Source.{Source, Routine, routine_of}
+use Rattle.uc_tree.specs.Source.{Source, routine_of}
 use Rattle.uc_entry.specs.declared.entry.Entry.{Entry}
 use Rattle.uc_entry.specs.declared.entry.EntryKind.{EntryKind}
 use Rattle.uc_entry.specs.declared.entry.EntryKind.TheVariants as kind

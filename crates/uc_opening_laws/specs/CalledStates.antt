@@ -1,7 +1,7 @@
 -- Tasks in which each scope of an object that is a variable opens behind the call of its constructor.
 use Rattle.std.specs.Prelude.{◌≡◌, ℕ, ◌⊎◌, true, List, [], ◌∷◌, Option, length}
 use Rattle.uc_tree.specs.Programs.{Program}
-use Rattle.uc_tree.specs.Source.{Stmts, Source}
+use Rattle.uc_tree.specs.Source.{Source}
 use Rattle.uc_entry.specs.declared.request.Request.{Request}
 use Rattle.uc_entry.specs.declared.request.Request.TheVariants as ask
 use Rattle.uc_machine.specs.declared.exec.Exec.{Exec}

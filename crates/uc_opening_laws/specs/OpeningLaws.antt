@@ -1,7 +1,7 @@
 -- Scopes of objects open behind the calls of their constructors at their variables: of every program, and of every task of such a source.
-use Rattle.std.specs.Prelude.{◌≡◌, ℕ, List, [], ◌∷◌, drop, true}
+use Rattle.std.specs.Prelude.{◌≡◌, ℕ, List, ◌∷◌, drop}
 use Rattle.uc_tree.specs.Programs.{Program}
-use Rattle.uc_tree.specs.Source.{Source, Stmts, routine_of}
+use Rattle.uc_tree.specs.Source.{Source, routine_of}
 use Rattle.uc_entry.specs.declared.request.Answer.{Answer}
 use Rattle.uc_machine.specs.Pieces as piece
 use Rattle.uc_machine.specs.Pieces.{Todo, State, top}
@@ -39,12 +39,17 @@ Awaited P todo = Unit {0}
 abbrev pub NoneAwaited : List Todo → Type 0
 NoneAwaited todo = Awaited (λ d k. ⊥) todo
 
--- where the scope of an object opens next, a constructor of its class is called at its variable, and nothing else
+-- the routine r is a constructor of the class that d destroys, and is called at the variable k
+abbrev pub IsAt : Program → Source → State → ℕ → ℕ → ℕ → Type 0
+IsAt p source s r d k = ArePaired p r d ×
+    (top (drop (params source r) s.run.operands) ≡ variable s.env.exec s.run.frame k)
+
+-- where the scope of an object opens next, that is so of what is called, and nothing else is called there
 abbrev pub CallsAt : Program → Source → List Todo → State → Type 0
 CallsAt p source (piece.CallNow r ∷ todo) s = NoneAwaited todo
 CallsAt p source (piece.RaiseNow ∷ todo) s = NoneAwaited (piece.DropNow ∷ todo)
-CallsAt p source (piece.CallOnNow r ∷ todo) s = Awaited (λ d k. ArePaired p r d × (top (drop (params source r) s.run.operands) ≡ variable s.env.exec s.run.frame k)) todo
-CallsAt p source (piece.CallUnwrittenNow r ∷ todo) s = Awaited (λ d k. ArePaired p r d × (top (drop (params source r) s.run.operands) ≡ variable s.env.exec s.run.frame k)) todo
+CallsAt p source (piece.CallOnNow r ∷ todo) s = Awaited (IsAt p source s r) todo
+CallsAt p source (piece.CallUnwrittenNow r ∷ todo) s = Awaited (IsAt p source s r) todo
 CallsAt p source todo s = Unit {0}
 
 -- so it is in each such state, and behind its step the scope opens next only behind the end of what was called
