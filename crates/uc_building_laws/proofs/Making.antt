@@ -242,16 +242,14 @@ module _ (t : Table) (few : Few) (Z : ℕ → ℕ → Type 0) (s : State) (life 
         begins : KnowsState t few [] s → (k i : ℕ) → CleansAt t (Obj i) (src.Variable k) c → IsUnbound t (Obj i) ⊎ IsConstructed t few source s r k i → IsBuilt t few s.env.exec (quiet.call_frame q s.run.operands ∷ s.env.frames) s.run.frame (variable s.env.exec s.run.frame k) i K ⊎ IsMaking t few s.env.exec (λ ps c i w K. Now t ps c i w K (quiet.routine_todo q) []) (quiet.call_frame q s.run.operands ∷ s.env.frames) (length s.env.frames) (suc (length s.callers)) (top (drop q.params s.run.operands)) s.run.frame (variable s.env.exec s.run.frame k) i K
         begins x k i d (inl none) = inl (building.unbound t few s.env.exec (quiet.call_frame q s.run.operands ∷ s.env.frames) s.run.frame (variable s.env.exec s.run.frame k) K (Obj i) none)
         begins x k i d (inr z) =
-            let a = z.there in
-            let same : z.routine ≡ q = cc in
             let y = z.apart x in
             inr (record {
               frame = life.frames;
-              object = subst (λ (m : Routine). top (drop m.params s.run.operands) ≡ variable s.env.exec s.run.frame k) same z.object;
+              object = z.object q is;
               known_object = known_object k i d z.plain;
               params = ps;
               known = λ j b l. in_frame y.0 y.1 j b l;
-              fields = λ j l. lacks K (quiet.call_frame q s.run.operands ∷ s.env.frames) s.run.frame k i j (subst (λ (m : Routine). m.purpose ≡ src.Builder) same z.purpose) (subst (λ (m : Routine). InHead t ps i j m.body ⊎ IsUnbound t (t.fields i j)) same (z.makes j l));
+              fields = λ j l. lacks K (quiet.call_frame q s.run.operands ∷ s.env.frames) s.run.frame k i j (z.purpose q is) (z.makes q is j l);
             })
 
       made : KnowsState t few [] s → (todo : List Todo) (vs : List Value) → s.run.control ≡ o ∷ todo → Constructs t few source s r todo → Builds t few s.env.exec (λ ps c i w K. Now t ps c i w K (quiet.routine_todo q) []) (quiet.call_frame q s.run.operands ∷ s.env.frames) (length s.env.frames) (top (drop q.params s.run.operands)) (record s.run { control = todo; operands = vs } ∷ s.callers)

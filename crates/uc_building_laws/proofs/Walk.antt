@@ -23,7 +23,7 @@ use Rattle.uc_life_laws.specs.Knowing.{KnowsState}
 use Rattle.uc_life_laws.proofs.Parked as parked
 use Rattle.uc_building_laws.specs.Building.{InHead, AllLeft, Behind, Now}
 use Rattle.uc_building_laws.specs.BuildingStates.{of_run, of_wait, BuildsEx, BuildsBy, BuildsState, BuildsRest, BuildsStep, Builds}
-use Rattle.uc_building_laws.specs.BuildingLaws.{Joined, BuildsAt, ClearsAt, Clears, Fair, LawSteps}
+use Rattle.uc_building_laws.specs.BuildingLaws.{BuildsAt, ClearsAt, Clears, Fair, LawSteps}
 use Rattle.uc_building_laws.proofs.Building as building
 use Rattle.uc_building_laws.proofs.Keeping as kept
 use Rattle.uc_building_laws.proofs.Steps as steps
@@ -31,6 +31,8 @@ use Rattle.uc_building_laws.proofs.Steps.{StepBuilds}
 use Rattle.uc_building_laws.proofs.Making as making
 use Rattle.uc_building_laws.proofs.Clears as clearing
 use Rattle.uc_building_laws.proofs.Standing as standing
+use Rattle.uc_building_laws.proofs.Plain.{none_plain}
+use Rattle.uc_opening_laws.specs.Opened.{OpensNone}
 use Rattle.uc_life_laws.specs.Things.{Few}
 
 module _ (t : Table) (few : Few) (source : Source) (sound : Sound t source) (Z : ℕ → ℕ → Type 0) (s : State) (life : StackState Z s) (x : KnowsState t few [] s) (st : BuildsBy t few (of_run t s.run) s) where
@@ -193,17 +195,17 @@ module _ (t : Table) (few : Few) where
 
   steps_to : (source : Source) → Sound t source → (Z : ℕ → ℕ → Type 0) (s : State) → StackState Z s → KnowsState t few [] s → BuildsState t few s → Clears t s → Fair t few source s → BuildsStep t few (quiet.quiet source s)
   steps_to source sound Z s life x st clears fair =
-      both source Z s life st (quiet.quiet source s) (walk t few source sound Z s life x st.builds clears fair) (standing.stands t few source Z s life st (quiet.quiet source s) refl fair.joins)
+      both source Z s life st (quiet.quiet source s) (walk t few source sound Z s life x st.builds clears fair) (standing.stands t few source Z s life st fair.returns (quiet.quiet source s) refl fair.joins)
 
   -- a task begins
-  begun : (r : Routine) (o : ℕ) (body : Stmts) → Joined t [] (piece.Rest body ∷ []) → r.body ≡ body → BuildsRest t few (first_state r o)
+  begun : (r : Routine) (o : ℕ) (body : Stmts) → OpensNone body → r.body ≡ body → BuildsRest t few (first_state r o)
   begun r o body j e = record {
     builds = record { apart = (tt, tt); run = tt; callers = tt; env = record { house = (tt, tt); hand = tt } };
     stands = subst (λ (ss : Stmts). standing.StandsOf t few (first_state r o) (piece.Rest ss ∷ quiet.behind_body r.purpose r.line)) (sym e) (by body j);
   }
     where
-      by : (ss : Stmts) → Joined t [] (piece.Rest ss ∷ []) → standing.StandsOf t few (first_state r o) (piece.Rest ss ∷ quiet.behind_body r.purpose r.line)
-      by (src.Scoped c ss) h = λ k i d. let q = h (k, i, d) in let e = q.1 in absurd (cc)
+      by : (ss : Stmts) → OpensNone ss → standing.StandsOf t few (first_state r o) (piece.Rest ss ∷ quiet.behind_body r.purpose r.line)
+      by (src.Scoped c ss) h = λ k i d. absurd (none_plain t c h (k, i, d))
       by ss h = tt
 
   -- an answer

@@ -1,6 +1,8 @@
 -- Executions and tasks in which each constructor has bound what its statements do not bind any more, of an object whose scope opens behind it.
 use Rattle.std.specs.Prelude.{◌≡◌, ℕ, suc, ◌⊎◌, List, [], ◌∷◌, length, slice_index_or}
 use Rattle.uc_tree.specs.Source.{Variable, CleanUp, Scoped}
+use Rattle.uc_entry.specs.declared.request.Request.{Request}
+use Rattle.uc_entry.specs.declared.request.Request.TheVariants as ask
 use Rattle.uc_machine.specs.declared.exec.Exec.{Exec}
 use Rattle.uc_machine.specs.declared.exec.Owner.TheVariants.{Frame}
 use Rattle.uc_machine.specs.Executions.{Execution}
@@ -102,7 +104,18 @@ module _ (t : Table) (few : Few) where
     pub builds : BuildsBy (of_wait t s.run) s
     pub stands : Stands s
 
+  -- nobody goes on behind an end and behind a fault
+  abbrev pub StandsBehind : Request → State → Type 0
+  StandsBehind ask.End s = Unit {0}
+  StandsBehind (ask.Fault f) s = Unit {0}
+  StandsBehind r s = Stands s
+
+  -- one that has asked this
+  pub record BuildsAsk (r : Request) (s : State) : Type 0 where
+    pub builds : BuildsBy (of_wait t s.run) s
+    pub stands : StandsBehind r s
+
   abbrev pub BuildsStep : Step → Type 0
   BuildsStep (Goes s) = BuildsState s
   BuildsStep (Ticks s) = BuildsRest s
-  BuildsStep (Asks r s) = BuildsRest s
+  BuildsStep (Asks r s) = BuildsAsk r s
