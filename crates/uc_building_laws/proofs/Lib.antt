@@ -11,3 +11,4 @@ pub mod Walk
 pub mod Laid
 pub mod Constructors
 pub mod Worlds
+pub mod BuiltRuns
