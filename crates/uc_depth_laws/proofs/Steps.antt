@@ -1,5 +1,5 @@
 -- A quiet step of a task that is as deep as it is owed leads to such a one, or asks as one does.
-use Rattle.std.proofs.Common.{◌≡◌, ℕ, zero, suc, ◌+◌, ◌≤◌, ◌++◌, Bool, true, false, List, [], ◌∷◌, length, drop, Option, Some, None, refl, sym, subst, ap, ◌∙◌, arith}
+use Rattle.std.proofs.Common.{◌≡◌, ℕ, zero, suc, ◌+◌, ◌≤◌, ◌++◌, inl, Bool, true, false, List, [], ◌∷◌, length, drop, Option, Some, None, refl, sym, subst, ap, ◌∙◌, arith}
 use Rattle.std.specs.Prelude.{◌-◌, nat_eq, nat_lt, slice_get, if◌then◌else◌}
 use Rattle.std.proofs.lemmas.Bool.{eqb-true}
 use Rattle.uc_tree.specs.declared.limits.TheConstants.{PENDING_EVENTS}
@@ -521,7 +521,7 @@ module _ (source : Source) (news : ℕ → Bool) where
 
     pend : (n : Exec) (e : Event) (todo : List Todo) (vs : List Value) → Entered source new Any todo → marks todo ≤ many → DeepStep source news s.env (polls.pend_step n e todo vs s)
     pend n e todo vs h l =
-        either (DeepStep source news s.env) (nat_lt (length (inside.pending_at n s.env)) PENDING_EVENTS) _ _ (go_in _ _ _ h l (kept.with_links_lighter source news (λ k. record k { pending = k.pending ++ (record { event = e.number; x = e.x; y = e.y }) ∷ [] }) (λ k. omega arith) n s.env b.env)) (stop TooManyPending todo vs)
+        either (DeepStep source news s.env) (nat_lt (length (inside.pending_at n s.env)) PENDING_EVENTS) _ _ (go_in _ _ _ h l (kept.with_links_lighter source news (λ k. record k { pending = k.pending ++ (record { event = e.number; x = e.x; y = e.y }) ∷ [] }) (record { counts = λ k. omega arith; stage = λ k. inl refl }) n s.env b.env)) (stop TooManyPending todo vs)
 
     pend_at : (o : Option Exec) (e : Event) (todo : List Todo) (vs : List Value) → Entered source new Any todo → marks todo ≤ many → DeepStep source news s.env (polls.pend_at o e todo vs s)
     pend_at None e todo vs h l = stop NotLive todo vs

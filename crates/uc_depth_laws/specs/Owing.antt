@@ -5,6 +5,8 @@ use Rattle.uc_tree.specs.Source.{CleanUp, Stmts, Source, routine_of}
 use Rattle.uc_entry.specs.Keyed.{find}
 use Rattle.uc_entry.specs.declared.request.Request.{Request}
 use Rattle.uc_entry.specs.declared.request.Request.TheVariants as ask
+use Rattle.uc_machine.specs.declared.exec.Stage.{Stage}
+use Rattle.uc_machine.specs.declared.exec.Stage.TheVariants.{Fresh, Started, Ended}
 use Rattle.uc_machine.specs.Executions.{Links, Execution}
 use Rattle.uc_machine.specs.Insides.{is_held_up}
 use Rattle.uc_machine.specs.Switches.{without}
@@ -183,9 +185,14 @@ module _ (source : Source) (news : ℕ → Bool) where
     pub callers : AllEntered x.callers
     pub engaged : marks x.run.control + marks_waiting x.callers ≤ entries x.links
 
+  -- of one that has ended nothing is asked: it never goes on
+  abbrev pub EngagedBy : Stage → Ex → Type 0
+  EngagedBy Ended x = Unit {0}
+  EngagedBy g x = Engaged x
+
   abbrev pub EngagedSlot : Option Ex → Type 0
   EngagedSlot None = Unit {0}
-  EngagedSlot (Some x) = Engaged x
+  EngagedSlot (Some x) = EngagedBy x.links.stage x
 
   abbrev pub EngagedParked : List (ℕ × Option Ex) → Type 0
   EngagedParked [] = Unit {0}
@@ -204,10 +211,19 @@ module _ (source : Source) (news : ℕ → Bool) where
     pub house : EngagedParked e.house.parked
     pub hand : EngagedHand e.hand
 
--- what is owed to q by an execution that does not run, by all in a list, in hand, and of a task
+-- what is owed to q by the activations of an execution
+abbrev pub owed_all : ℕ → Ex → ℕ
+owed_all q x = owed_by q x.run + owed_waiting q x.callers
+
+-- one that has ended owes nothing, since it never goes on
+abbrev pub owed_at : Stage → ℕ → ℕ
+owed_at Ended n = 0
+owed_at g n = n
+
+-- what is owed by an execution that does not run, by all in a list, in hand, and of a task
 
 abbrev pub owed_ex : ℕ → Ex → ℕ
-owed_ex q x = owed_by q x.run + owed_waiting q x.callers
+owed_ex q x = owed_at x.links.stage (owed_all q x)
 
 abbrev pub owed_slot : ℕ → Option Ex → ℕ
 owed_slot q None = 0
