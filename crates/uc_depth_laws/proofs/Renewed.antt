@@ -9,7 +9,7 @@ use Rattle.uc_machine.specs.declared.exec.Stage.TheVariants.{Fresh, Started, End
 use Rattle.uc_machine.specs.Pieces as piece
 use Rattle.uc_machine.specs.Pieces.{Value, Todo, Active, State, Env, Members, object_in, top}
 use Rattle.uc_depth_laws.specs.Entering.{lets_go, holds_object, is_building}
-use Rattle.uc_depth_laws.specs.Owing.{Ex, First, Any, Skipped, CallOf, Bound, next, owes, more, marks, counted, owed_by, owed_waiting, calling, owed_first, owed_all, owed_at, owed_slot, owed_parked, owed_hand, owed_env, owed_behind, owed, is_new, is_new_for, EnteredPiece, Allowed, Entered, IsNewFirst, AllEntered, Engaged, EngagedBy, EngagedSlot, EngagedParked, EngagedHand, EngagedEnv, Deep, DeepBehind, DeepAlone, DeepAsk}
+use Rattle.uc_depth_laws.specs.Owing.{Ex, First, Any, Skipped, CallOf, Bound, next, owes, more, marks, counted, owed_by, owed_waiting, calling, owed_first, owed_all, owed_at, owed_slot, owed_parked, owed_hand, owed_env, owed_behind, owed, is_new, is_new_for, EnteredPiece, Allowed, Entered, IsNewFirst, AllEntered, Engaged, EngagedBy, EngagedSlot, EngagedParked, EngagedHand, EngagedEnv, Deep, DeepBehind, DeepAlone, DeepAsk, Done, EnteredNext}
 use Rattle.uc_depth_laws.specs.DepthLaws.{LawRenewed}
 use Rattle.uc_depth_laws.proofs.Depths.{holds_scope, holds_building, both_hold, both_are, counted_own, more_least}
 
@@ -29,15 +29,20 @@ module _ (source : Source) (new now : Bool) where
       by (inr l) = more_one b n e l
 
   piece_again : (p : Todo) (n : ℕ) → EnteredPiece source new p → (new ≡ true → (now ≡ true) ⊎ (more (owes p) n ≡ 0)) → EnteredPiece source now p
-  piece_again (piece.Rest ss) n h k = (h.0, λ f. either_new (holds_object ss) n (holds_building ss f) (h.1 f) k)
   piece_again (piece.Clean c) n h k = (h.0, λ f. either_new (lets_go c) n (holds_scope c f) (h.1 f) k)
-  piece_again piece.MadeNow n h k = either_new true n refl h k
-  piece_again (piece.SpawnNow r) n h k = (either_new true n refl h.0 k, h.1)
-  piece_again piece.GiveUpNow n h k = either_new true n refl h k
   piece_again p n h k = h
+
+  next_again : (p : Todo) (n : ℕ) → EnteredNext source new p → (new ≡ true → (now ≡ true) ⊎ (more (owes p) n ≡ 0)) → EnteredNext source now p
+  next_again (piece.Rest ss) n h k = (h.0, λ f. either_new (holds_object ss) n (holds_building ss f) (h.1 f) k)
+  next_again (piece.Clean c) n h k = (h.0, λ f. either_new (lets_go c) n (holds_scope c f) (h.1 f) k)
+  next_again piece.MadeNow n h k = either_new true n refl h k
+  next_again (piece.SpawnNow r) n h k = (either_new true n refl h.0 k, h.1)
+  next_again piece.GiveUpNow n h k = either_new true n refl h k
+  next_again p n h k = h
 
   allowed_again : (g : First) (p : Todo) (n : ℕ) → Allowed source new g p → (new ≡ true → (now ≡ true) ⊎ (more (owes p) n ≡ 0)) → Allowed source now g p
   allowed_again Any p n h k = piece_again p n h k
+  allowed_again Done p n h k = next_again p n h k
   allowed_again Skipped (piece.CallOnNow r) n h k = tt
   allowed_again Skipped (piece.CallUnwrittenNow r) n h k = tt
   allowed_again Skipped p n h k = piece_again p n h k
