@@ -1,9 +1,8 @@
 -- Nothing else is owed to what nobody else has at hand.
-use Rattle.std.proofs.Common.{◌≡◌, ℕ, ◌+◌, ◌⊎◌, inl, inr, Bool, true, false, List, [], ◌∷◌, Option, Some, None, refl, sym, subst, ap, arith}
+use Rattle.std.proofs.Common.{◌≡◌, ℕ, ◌⊎◌, inl, inr, Bool, true, false, List, [], ◌∷◌, Option, Some, None, refl, arith}
 use Rattle.std.specs.Prelude.{nat_eq, if◌then◌else◌}
 use Rattle.std.proofs.lemmas.Bool.{eqb-true}
 use Rattle.uc_tree.specs.Source.{Source}
-use Rattle.uc_entry.specs.Keyed.{find}
 use Rattle.uc_machine.specs.declared.exec.Exec.{Exec}
 use Rattle.uc_machine.specs.declared.exec.Home.{Home}
 use Rattle.uc_machine.specs.declared.exec.Home.TheVariants as home
@@ -18,7 +17,7 @@ use Rattle.uc_typing.specs.Typing.{Table}
 use Rattle.uc_life_laws.specs.Things.{Few}
 use Rattle.uc_life_laws.specs.LifeStates.{SlotBy, ParkedBy, HandBy, EnvBy}
 use Rattle.uc_life_laws.specs.Knowing.{KnowsBy, KnowsSlot, KnowsState}
-use Rattle.uc_depth_laws.specs.Owing.{Ex, owed_all, owed_at, owed_slot, owed_parked, owed_hand, owed_own, owed_waiting, owed_resting, owed_elsewhere, owed_else, EngagedBy, EngagedSlot, EngagedParked, EngagedHand, Deep, AloneAt}
+use Rattle.uc_depth_laws.specs.Owing.{Ex, owed_all, owed_at, owed_slot, owed_parked, owed_hand, owed_own, owed_resting, owed_elsewhere, owed_else, EngagedBy, EngagedSlot, EngagedParked, EngagedHand, Deep, AloneAt}
 use Rattle.uc_depth_laws.proofs.Kept.{either}
 use Rattle.uc_owing_laws.specs.AtHand.{IsAtHand, FarBy, IsFar, elsewhere, IsApartAt, LawApart}
 use Rattle.uc_owing_laws.proofs.Owes.{rests_owe, waits_owe}

@@ -1,5 +1,5 @@
 -- Who owes an object anything has it at hand.
-use Rattle.std.proofs.Common.{◌≡◌, ℕ, zero, suc, ◌+◌, ◌<◌, ◌⊎◌, inl, inr, Bool, true, false, List, [], ◌∷◌, Option, Some, None, refl, sym, ap, ◌∙◌, subst, arith}
+use Rattle.std.proofs.Common.{◌≡◌, ℕ, zero, suc, ◌+◌, ◌<◌, ◌⊎◌, inl, inr, Bool, true, false, List, [], ◌∷◌, Some, refl, ap, ◌∙◌, subst, arith}
 use Rattle.std.specs.Prelude.{nat_eq, if◌then◌else◌}
 use Rattle.std.proofs.lemmas.Bool.{eqb-true}
 use Rattle.uc_tree.specs.Source.{Source}
@@ -9,11 +9,11 @@ use Rattle.uc_machine.specs.Pieces.{Value, Number, Place, Running, Object, Nothi
 use Rattle.uc_typing.specs.Typing.{Ty, Num, Obj, Raw, Sig, Table, object_ty}
 use Rattle.uc_typing.specs.Pieces.{onto}
 use Rattle.uc_typing.specs.States.{IsObjectBy, IsObject}
-use Rattle.uc_life_laws.specs.Things.{Few, Within, itself, IsMutex, Held, LiesIn, Known}
-use Rattle.uc_life_laws.specs.Knowing.{Making, InMaking, AtHand, KnownThis, Knows, KnowsWaits, KnowsEx}
+use Rattle.uc_life_laws.specs.Things.{Few, itself, Held, LiesIn, Known}
+use Rattle.uc_life_laws.specs.Knowing.{Making, AtHand, KnownThis, Knows, KnowsWaits, KnowsEx}
 use Rattle.uc_life_laws.proofs.Knowns.{held_more, older_hand}
 use Rattle.uc_depth_laws.specs.Owing.{Ex, marks, counted, owed_by, owed_waiting, owed_all, is_new, Any, Entered, AllEntered, Engaged}
-use Rattle.uc_depth_laws.proofs.Depths.{counted_least, counted_none}
+use Rattle.uc_depth_laws.proofs.Depths.{counted_none}
 use Rattle.uc_owing_laws.specs.AtHand.{IsAtHand, LawOwes}
 use Rattle.uc_owing_laws.proofs.Marked.{ok_mutex}
 
