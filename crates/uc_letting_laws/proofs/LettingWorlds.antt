@@ -66,7 +66,7 @@ use Rattle.uc_inner_laws.specs.Standing.{StandsState, StandsAsk, StandsStep, Sta
 use Rattle.uc_inner_laws.specs.InnerLaws.{IsAt}
 use Rattle.uc_inner_laws.proofs.Walk.{law_steps as inner_steps, law_is_inside, law_fair}
 use Rattle.uc_letting_laws.specs.AloneRuns.{AskAlone, RideAlone, MayAlone, RunAlone}
-use Rattle.uc_letting_laws.specs.LettingLaws.{AsksInHand, OwnersFit, LawInHand, LawOwners}
+use Rattle.uc_letting_laws.specs.LettingLaws.{AsksInHand, OwnersFit, LeavesFree, LawInHand, LawOwners, LawLeaving}
 use Rattle.uc_letting_laws.proofs.StandingWorlds.{Binds, no_binding, IsApart, StandingWorld, found_has, standing_start, standing_act, standing_given, standing_begin}
 use Rattle.uc_hand_laws.specs.Deep as deep
 use Rattle.uc_hand_laws.specs.Deep.{deep_in}
@@ -383,6 +383,14 @@ module _ (part : ℕ → Part) (source : Source) (entered : EnteredSource source
           by (ask.Spawn o) h = new_unowned t j o h.1
           by (ask.Raise o event a b) h = x.single o
           by q h = tt
+
+      leaves_free : LeavesFree (own_object t j) asked.request s
+      leaves_free = by asked.request owes.stands owes.apart
+        where
+          by : (q : Request) → StandsAsk part source (own_object t j) q s → IsApart q s → LeavesFree (own_object t j) q s
+          by (ask.Gone o) h k = k
+          by ask.End h k = h.1
+          by q h k = tt
 
       hand : keys s.env.hand ≡ held t j
       hand = (asks_with source input opts range r going p t n s asked d).hand
@@ -761,6 +769,11 @@ module _ (part : ℕ → Part) (source : Source) (entered : EnteredSource source
         let x = both_run r f g on in
         owners_fit (run_rests source input opts range r f on) on (deep_run source input opts range r f on) x.owing x.standing p t n s asked d alone
 
+    pub leaving_in_run : LeavesFree (own_object t j) asked.request s
+    leaving_in_run =
+        let x = both_run r f g on in
+        leaves_free (run_rests source input opts range r f on) on (deep_run source input opts range r f on) x.owing x.standing p t n s asked d alone
+
 pub law_in_hand : LawInHand
 law_in_hand part source entered inner input opts j w r range f g on p t n s asked d alone =
     in_hand_in_run part source entered inner law_steps law_free law_drawn input opts range r f g on p t n s asked d alone
@@ -768,3 +781,7 @@ law_in_hand part source entered inner input opts j w r range f g on p t n s aske
 pub law_owners : LawOwners
 law_owners part source entered inner input opts j w r range f g on p t n s asked d alone =
     owners_in_run part source entered inner law_steps law_free law_drawn input opts range r f g on p t n s asked d alone
+
+pub law_leaving : LawLeaving
+law_leaving part source entered inner input opts j w r range f g on p t n s asked d alone =
+    leaving_in_run part source entered inner law_steps law_free law_drawn input opts range r f g on p t n s asked d alone
