@@ -1,0 +1,5 @@
+pub mod Keeping
+pub mod Steps
+pub mod Walk
+pub mod Own
+pub mod Worlds
