@@ -3,3 +3,4 @@ pub mod Steps
 pub mod Walk
 pub mod Own
 pub mod Worlds
+pub mod Ending

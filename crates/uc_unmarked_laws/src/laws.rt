@@ -1,5 +1,6 @@
 // The laws: each is a function whose contract is the law.
 
+ghost use Rattle.uc_unmarked_laws.specs.Ending.{LawBegins, LawLeft};
 ghost use Rattle.uc_unmarked_laws.specs.Unmarked.{LawOwn, LawRuns, LawSteps, LawUnmarked};
 
 /// What is an execution's own is no other's.
@@ -22,4 +23,15 @@ pub fn law_unmarked()
 /// So in runs nobody has a mark around what goes.
 pub fn law_runs()
     ensures { LawRuns }
+{}
+
+/// Who leaves the scope of a mutex object that is a variable has no other mark around it, up to where it enters
+/// the object.
+pub fn law_left()
+    ensures { LawLeft }
+{}
+
+/// What destroys or builds such an object begins with a mark that is put so.
+pub fn law_begins()
+    ensures { LawBegins }
 {}

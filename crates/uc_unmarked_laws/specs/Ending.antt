@@ -1,0 +1,77 @@
+-- Who leaves the scope of a mutex object that is a variable has no other mark around it: as the mark is reached, up to where it enters the object,
+-- and as the destructor begins.
+use Rattle.std.specs.Prelude.{◌≡◌, ℕ, Bool, true, false, List, [], ◌∷◌, drop, slice_get, Option, Some}
+use Rattle.uc_tree.specs.declared.limits.TheConstants.{DESTRUCTOR}
+use Rattle.uc_tree.specs.Source.{OfObject, EndOn, Load, Variable, CleanUp, Destroys, Ends, Frees, Stmts, Scoped, Routine, Source}
+use Rattle.uc_machine.specs.Pieces.{Value, Todo, CallOnNow, CallUnwrittenNow, TickNow, DropNow, Clean, Unwind, EnterNow, Active, State, Step, Goes, Ticks, Asks, at, top, loaded, variable_at, object_in}
+use Rattle.uc_machine.specs.Quiet.{quiet}
+use Rattle.uc_scope_laws.specs.RoomStacks.{StackState}
+use Rattle.uc_scope_laws.specs.RoomRuns.{Leads}
+use Rattle.uc_typing.specs.Typing.{Table}
+use Rattle.uc_life_laws.specs.Things.{Few}
+use Rattle.uc_unmarked_laws.specs.Belonging.{Belongs}
+use Rattle.uc_unmarked_laws.specs.Marks.{Marked, Free, Puts}
+
+-- the clean-up of a mutex object at a variable, by a destructor that somebody wrote or by another
+abbrev pub ends_at : ℕ → ℕ → Bool → CleanUp
+ends_at k r written = Destroys (OfObject (EndOn r written (Load (Variable k))))
+
+-- its scope is left next, by an unwinding or not; and what is to do behind the call of the destructor
+abbrev pub leaving : Bool → CleanUp → List Todo → List Todo
+leaving true c todo = Unwind ∷ (Clean c ∷ todo)
+leaving false c todo = Clean c ∷ todo
+
+abbrev pub behind : Bool → List Todo → List Todo
+behind true todo = DropNow ∷ (Unwind ∷ todo)
+behind false todo = DropNow ∷ todo
+
+abbrev pub calling : Bool → ℕ → Todo
+calling true r = CallOnNow r
+calling false r = CallUnwrittenNow r
+
+-- operands are dropped where an unwinding goes on
+abbrev pub left_of : Bool → State → List Value
+left_of true s = []
+left_of false s = s.run.operands
+
+-- it enters the object to which the variable is bound
+abbrev pub entering : Bool → ℕ → ℕ → Bool → List Todo → State → State
+entering unwinds k r written todo s =
+    at (EnterNow DESTRUCTOR r ∷ (calling written r ∷ behind unwinds todo)) (loaded (variable_at k s) s.env ∷ left_of unwinds s) s
+
+module _ (t : Table) (few : Few) where
+  -- an object is at home in what is the own of whoever runs, where nothing is cleaned up by what is then to do and by activations that wait
+  abbrev pub LoneBefore : ℕ → List Todo → State → Type 0
+  LoneBefore o todo s =
+      Belongs few s.env.exec (few.home o) × Free t few o (Marked t s.env.exec (record s.run { control = todo } ∷ s.callers))
+
+  -- a step to where a mark is put puts it so
+  abbrev pub PutsThen : Step → Type 0
+  PutsThen (Goes s) = Puts t few s
+  PutsThen (Ticks s) = Unit {0}
+  PutsThen (Asks r s) = Unit {0}
+
+-- what begins by opening the scope in which it destroys or builds the mutex object at hand
+abbrev pub OpensObject : Stmts → Type 0
+OpensObject (Scoped Ends rest) = Unit {0}
+OpensObject (Scoped (Frees r) rest) = Unit {0}
+OpensObject ss = ⊥
+
+-- of any state in which activations that use one frame stay behind one another: who leaves the scope of a mutex object that is at home in that
+-- variable comes by quiet steps and ticks alone to where it enters the object, and has no other mark around it on the way
+pub record LawLeft : Type 0 where
+  pub leads : (source : Source) (s : State) (unwinds : Bool) (k r : ℕ) (written : Bool) (todo : List Todo) →
+      s.run.control ≡ leaving unwinds (ends_at k r written) todo →
+      Leads source s (entering unwinds k r written todo s)
+  pub lone : (Z : ℕ → ℕ → Type 0) (t : Table) (few : Few) (s : State) → StackState Z s →
+      (unwinds : Bool) (k r : ℕ) (written : Bool) (todo : List Todo) →
+      s.run.control ≡ leaving unwinds (ends_at k r written) todo →
+      (o : ℕ) → few.home o ≡ variable_at k s → LoneBefore t few o (behind unwinds todo) s
+
+-- where what is called destroys or builds an object that is so, the mark with which it begins is put so
+abbrev pub LawBegins : Type 0
+LawBegins =
+    (t : Table) (few : Few) (source : Source) (s : State) (written : Bool) (r : ℕ) (x : Routine) (todo : List Todo) →
+    s.run.control ≡ calling written r ∷ todo → slice_get source.routines r ≡ Some x → OpensObject x.body →
+    LoneBefore t few (object_in (top (drop x.params s.run.operands))) todo s →
+    PutsThen t few (quiet source s)
