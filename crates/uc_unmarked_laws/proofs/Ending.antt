@@ -13,15 +13,16 @@ use Rattle.uc_machine.specs.Quiet as quiet
 use Rattle.uc_typing.specs.Typing.{Ty, Cell, Obj, Row, Table, DestroysAt, CleansAt}
 use Rattle.uc_scope_laws.specs.Rooms.{Room, LiesAt, Destroyed, Lies}
 use Rattle.uc_scope_laws.specs.RoomStates as rooms
+use Rattle.uc_scope_laws.specs.Layout.{Sized}
 use Rattle.uc_scope_laws.specs.RoomStacks as stacks
-use Rattle.uc_scope_laws.specs.RoomStacks.{SomeTo, Stacked, StackState}
+use Rattle.uc_scope_laws.specs.RoomStacks.{TodoTo, SomeTo, StackState}
 use Rattle.uc_scope_laws.specs.RoomRuns.{Leads, stays, goes, ticks}
 use Rattle.uc_scope_laws.proofs.Stacks.{stacked_by, stack_before}
 use Rattle.uc_life_laws.specs.Things.{Few, Within, itself, field, element, AtVariable, AtField, IsFor, Marks, InTodo, NoBase, Stands, lies, inside}
 use Rattle.uc_life_laws.proofs.Cells.{either}
 use Rattle.uc_unmarked_laws.specs.Belonging.{Belongs, frame}
 use Rattle.uc_unmarked_laws.specs.Marks.{Marked, Outward, Free, PutsAt, Puts}
-use Rattle.uc_unmarked_laws.specs.Ending.{ends_at, leaving, behind, calling, left_of, entering, LoneBefore, PutsThen, OpensObject, LawLeft, LawBegins}
+use Rattle.uc_unmarked_laws.specs.Ending.{ends_at, leaving, behind, calling, left_of, entering, opening, LoneBefore, PutsThen, OpensObject, LawLeft, LawBegins}
 
 -- a variable is no part of anything else
 
@@ -32,11 +33,11 @@ is_slot (At s i) = false
 
 further_slot : (l : Link) (v : Value) (q : Owner) (k : ℕ) → is_slot l ≡ false → Place q (Slot k ∷ []) ≡ further l v → ⊥
 further_slot l (Number z) q k h e = cc
-further_slot (Slot j) (Place o p) q k h e = cc
+further_slot (Slot j) (Place o p) q k h e = let f : true ≡ false = h in absurd (cc)
 further_slot (FieldAt s i) (Place o p) q k h e = cc
 further_slot (At s i) (Place o p) q k h e = cc
 further_slot l (Running x) q k h e = cc
-further_slot (Slot j) (Object o) q k h e = cc
+further_slot (Slot j) (Object o) q k h e = let f : true ≡ false = h in absurd (cc)
 further_slot (FieldAt s i) (Object o) q k h e = cc
 further_slot (At s i) (Object o) q k h e = cc
 further_slot l Nothing q k h e = cc
@@ -146,19 +147,40 @@ behind_same : (t : Table) (n : Exec) (a : Active) (older : List Active) (unwinds
 behind_same t n a older true k todo w b m = m
 behind_same t n a older false k todo w b m = m
 
-lone : (Z : ℕ → ℕ → Type 0) (t : Table) (few : Few) (s : State) → StackState Z s → (unwinds : Bool) (k r : ℕ) (written : Bool) (todo : List Todo) → s.run.control ≡ leaving unwinds (ends_at k r written) todo → (o : ℕ) → few.home o ≡ variable_at k s → LoneBefore t few o (behind unwinds todo) s
-lone Z t few s st unwinds k r written todo e o h = (subst (Belongs few s.env.exec) (sym h) (frame refl), free)
-  where
-    abbrev cleared : List Active
-    cleared = record s.run { control = piece.ClearNow k 0 ∷ todo } ∷ s.callers
+-- so it is where all marks of the frame lie before the variable
+module _ (Z : ℕ → ℕ → Type 0) (t : Table) (few : Few) (s : State) (k : ℕ) (todo : List Todo) where
+  abbrev cleared : List Active
+  cleared = record s.run { control = piece.ClearNow k 0 ∷ todo } ∷ s.callers
 
+  module _ (before : stacks.FrameBefore Z k s.run.frame cleared) where
     none : (w : Value) (a : Ty) → Marked t s.env.exec cleared w a → w ≡ variable_at k s → (c : ℕ) → a ≡ Cell (Obj c) → ⊥
     none w a m f c g =
-        none_there Z t s.env.exec s.run.frame k cleared c (left_before Z k r written s st unwinds todo e) (subst (Marked t s.env.exec cleared (variable_at k s)) g (subst (λ w. Marked t s.env.exec cleared w a) f m))
+        none_there Z t s.env.exec s.run.frame k cleared c before (subst (Marked t s.env.exec cleared (variable_at k s)) g (subst (λ w. Marked t s.env.exec cleared w a) f m))
 
-    free : Free t few o (Marked t s.env.exec (record s.run { control = behind unwinds todo } ∷ s.callers))
-    free =
-        free_fewer t few (Marked t s.env.exec (record s.run { control = behind unwinds todo } ∷ s.callers)) (Marked t s.env.exec cleared) (behind_same t s.env.exec s.run s.callers unwinds k todo) o (λ c m. only_there t (Frame s.env.exec s.run.frame) k few (Marked t s.env.exec cleared) none c (few.home o) h m)
+    lone : (rest : List Todo) → ((w : Value) (b : Ty) → Marked t s.env.exec (record s.run { control = rest } ∷ s.callers) w b → Marked t s.env.exec cleared w b) → (o : ℕ) → few.home o ≡ variable_at k s → LoneBefore t few o rest s
+    lone rest same o h =
+        (subst (Belongs few s.env.exec) (sym h) (frame refl), free_fewer t few (Marked t s.env.exec (record s.run { control = rest } ∷ s.callers)) (Marked t s.env.exec cleared) same o (λ c m. only_there t (Frame s.env.exec s.run.frame) k few (Marked t s.env.exec cleared) none c (few.home o) h m))
+
+-- the scope of what is being built opens behind the call of its constructor
+module _ (Z : ℕ → ℕ → Type 0) (k q : ℕ) (ends : Bool) where
+  made_in : (line : ℕ) (rest : Stmts) (todo : List Todo) (End : Room → Type 0) (o : Room) → TodoTo Z End o (opening line (ends_at k q ends) rest todo) → SomeTo Z End (piece.ClearNow k 0 ∷ todo)
+  made_in line rest todo End o h =
+      let there = h.1.1 in
+      let w = there.0.1 in
+      let low = there.0.2.0.0 in
+      let high = there.0.2.0.1 in
+      let cells = w.cells in
+      let wide = w.high in
+      (o, (inl (low, omega (arith, high, cells, wide)), there.1))
+
+  some_made : (written : Bool) (r line : ℕ) (rest : Stmts) (todo : List Todo) (End : Room → Type 0) → SomeTo Z End (calling written r ∷ opening line (ends_at k q ends) rest todo) → SomeTo Z End (piece.ClearNow k 0 ∷ todo)
+  some_made true r line rest todo End h = made_in line rest todo End h.0 h.1.1
+  some_made false r line rest todo End h = made_in line rest todo End h.0 h.1.1
+
+  made_before : (s : State) → StackState Z s → (written : Bool) (r line : ℕ) (rest : Stmts) (todo : List Todo) → s.run.control ≡ calling written r ∷ opening line (ends_at k q ends) rest todo → stacks.FrameBefore Z k s.run.frame (record s.run { control = piece.ClearNow k 0 ∷ todo } ∷ s.callers)
+  made_before s st written r line rest todo e =
+      let b = record s.run { control = piece.ClearNow k 0 ∷ todo } in
+      stack_before Z s.env.frames b s.callers k 0 todo refl (stacked_by Z s.env.frames s.run b s.callers refl refl (λ End h. some_made written r line rest todo End (subst (SomeTo Z End) e h)) st.stack.0)
 
 -- the way to the object
 
@@ -179,7 +201,10 @@ module _ (source : Source) (s : State) (k r : ℕ) (written : Bool) where
 pub law_left : LawLeft
 law_left = record {
   leads = λ source s unwinds k r written todo e. way source s k r written unwinds todo e;
-  lone = λ Z t few s st unwinds k r written todo e o h. lone Z t few s st unwinds k r written todo e o h;
+  left = λ p t few s st unwinds k r written todo e o h.
+      lone (Sized p) t few s k todo (left_before (Sized p) k r written s st unwinds todo e) (behind unwinds todo) (behind_same t s.env.exec s.run s.callers unwinds k todo) o h;
+  made = λ p t few s st k q ends written r line rest todo e o h.
+      lone (Sized p) t few s k todo (made_before (Sized p) k q ends s st written r line rest todo e) (opening line (ends_at k q ends) rest todo) (λ w b m. m) o h;
 }
 
 -- what is called begins
@@ -206,23 +231,16 @@ module _ (t : Table) (few : Few) (source : Source) (s : State) (x : Routine) (to
       by w a (inl m) = absurd (no_marks t s.env.exec f v x.purpose x.line w a m)
       by w a (inr m) = m
 
-  opens : (d : State) → d.env.exec ≡ s.env.exec → d.run.this ≡ v → d.callers ≡ caller ∷ s.callers → (b : Stmts) → OpensObject b → LoneBefore t few (object_in v) todo s → PutsAt t few (piece.Rest b ∷ last) d
-  opens d e f g b o h = by b o
-    where
-      abbrev Out : Exec → Value → List Active → Type 0
-      Out n this older = Belongs few n (few.home (object_in this)) × Free t few (object_in this) (Outward t n d.run.frame this older last)
+  abbrev Out : ℕ → Exec → Value → List Active → Type 0
+  Out f n this older = Belongs few n (few.home (object_in this)) × Free t few (object_in this) (Outward t n f this older last)
 
-      lone_begun : Out d.env.exec d.run.this d.callers
-      lone_begun =
-          subst (λ cs. Out d.env.exec d.run.this cs) (sym g) (subst (λ w. Out d.env.exec w (caller ∷ s.callers)) (sym f) (subst (λ n. Out n v (caller ∷ s.callers)) (sym e) (h.0, free_begun d.run.frame h.1)))
-
-      by : (b : Stmts) → OpensObject b → PutsAt t few (piece.Rest b ∷ last) d
-      by (src.Scoped src.Ends rest) o = lone_begun
-      by (src.Scoped (src.Frees m) rest) o = lone_begun
-      by b o = absurd o
+  opens : (d : State) (b : Stmts) → OpensObject b → Out d.run.frame d.env.exec d.run.this d.callers → PutsAt t few (piece.Rest b ∷ last) d
+  opens d (src.Scoped src.Ends rest) o h = h
+  opens d (src.Scoped (src.Frees m) rest) o h = h
+  opens d b o h = absurd o
 
   begun : (counts : Bool) → OpensObject x.body → LoneBefore t few (object_in v) todo s → PutsThen t few (quiet.begun_step x v counts todo vs s)
-  begun counts o h = opens _ refl refl refl x.body o h
+  begun counts o h = opens _ x.body o (h.0, free_begun _ h.1)
 
 law_begins_by : (t : Table) (few : Few) (source : Source) (s : State) (written : Bool) (r : ℕ) (x : Routine) (todo : List Todo) → slice_get source.routines r ≡ Some x → OpensObject x.body → LoneBefore t few (object_in (top (drop x.params s.run.operands))) todo s → PutsThen t few (quiet.act_todo source (calling written r ∷ todo) s)
 law_begins_by t few source s true r x todo f o h =

@@ -1,5 +1,5 @@
 -- What is an execution's own is no other's, and so is what stands in what its marks are for.
-use Rattle.std.proofs.Common.{◌≡◌, ℕ, ◌⊎◌, inl, inr, List, [], ◌∷◌, Option, Some, None, refl, sym, ◌∙◌, subst}
+use Rattle.std.proofs.Common.{◌≡◌, ℕ, ◌⊎◌, inl, inr, List, [], ◌∷◌, Option, Some, None, refl, sym, ◌∙◌, subst, ⊎_elim}
 use Rattle.uc_tree.specs.Source as src
 use Rattle.uc_tree.specs.Source.{CleanUp}
 use Rattle.uc_entry.specs.declared.request.Request.TheVariants as ask
@@ -112,7 +112,7 @@ module _ (P Q R : Exec → Execution (List Todo) Value → Type 0) (f : (n : Exe
   env_both : (e : Env) → EnvBy P e → EnvBy Q e → EnvBy R e
   env_both e x y = record { house = parked_both (home.Task e.own) e.house.parked x.house y.house; hand = hand_both e.hand x.hand y.hand }
 
-module _ (t : Table) (few : Few) (x : World) (u o : ℕ) (world : LoneWorld t few x) (name : HasOwnName u x) (freed : Freed t few (ask.Gone o) (x.tasks u)) where
+module _ (t : Table) (few : Few) (x : World) (u o : ℕ) (world : LoneWorld t few x) (name : HasOwnName t u x) (freed : Freed t few (ask.Gone o) (x.tasks u)) where
   abbrev runner : Exec
   runner = (x.tasks u).env.exec
 
@@ -127,10 +127,16 @@ module _ (t : Table) (few : Few) (x : World) (u o : ℕ) (world : LoneWorld t fe
   abbrev None_there : ℕ → Type 0
   None_there v = Free t few o (Marked t (x.tasks v).env.exec ((x.tasks v).run ∷ (x.tasks v).callers))
 
+  nothing : (K : Value → Ty → Type 0) → ((w : Value) (a : Ty) → K w a → ⊥) → (b : Ty) (v : Value) → Stands t few K b v → ⊥
+  nothing K none b v (lies {w = w} {a} k h) = none w a k
+  nothing K none b v (inside {o = q} {c} m k h) = nothing K none (Cell (Obj c)) (few.home q) k
+
   running : (v : ℕ) → None_there v
   running v c k =
-      let e : v ≡ u = name.running v (owner (x.tasks v).env.exec ((x.tasks v).run ∷ (x.tasks v).callers) (world.tasks v).stack c k) in
-      subst None_there (sym e) freed.1 c k
+      ⊎_elim
+      (λ e. subst None_there (sym e) freed.1 c k)
+      (λ none. nothing (Marked t (x.tasks v).env.exec ((x.tasks v).run ∷ (x.tasks v).callers)) none (Cell (Obj c)) (few.home o) k)
+      (name.running v (owner (x.tasks v).env.exec ((x.tasks v).run ∷ (x.tasks v).callers) (world.tasks v).stack c k))
 
   pub unmarked : Unmarked t few o x
   unmarked = record {

@@ -2,9 +2,11 @@
 -- and as the destructor begins.
 use Rattle.std.specs.Prelude.{◌≡◌, ℕ, Bool, true, false, List, [], ◌∷◌, drop, slice_get, Option, Some}
 use Rattle.uc_tree.specs.declared.limits.TheConstants.{DESTRUCTOR}
+use Rattle.uc_tree.specs.Programs.{Program}
 use Rattle.uc_tree.specs.Source.{OfObject, EndOn, Load, Variable, CleanUp, Destroys, Ends, Frees, Stmts, Scoped, Routine, Source}
-use Rattle.uc_machine.specs.Pieces.{Value, Todo, CallOnNow, CallUnwrittenNow, TickNow, DropNow, Clean, Unwind, EnterNow, Active, State, Step, Goes, Ticks, Asks, at, top, loaded, variable_at, object_in}
+use Rattle.uc_machine.specs.Pieces.{Value, Todo, CallOnNow, CallUnwrittenNow, TickNow, DropNow, Clean, Unwind, EnterNow, Within, Rest, Active, State, Step, Goes, Ticks, Asks, at, top, loaded, variable_at, object_in}
 use Rattle.uc_machine.specs.Quiet.{quiet}
+use Rattle.uc_scope_laws.specs.Layout.{Sized}
 use Rattle.uc_scope_laws.specs.RoomStacks.{StackState}
 use Rattle.uc_scope_laws.specs.RoomRuns.{Leads}
 use Rattle.uc_typing.specs.Typing.{Table}
@@ -57,16 +59,25 @@ OpensObject (Scoped Ends rest) = Unit {0}
 OpensObject (Scoped (Frees r) rest) = Unit {0}
 OpensObject ss = ⊥
 
+-- the scope of an object opens behind the call of its constructor
+abbrev pub opening : ℕ → CleanUp → Stmts → List Todo → List Todo
+opening line c rest todo = DropNow ∷ (Within line ∷ (Rest (Scoped c rest) ∷ todo))
+
 -- of any state in which activations that use one frame stay behind one another: who leaves the scope of a mutex object that is at home in that
--- variable comes by quiet steps and ticks alone to where it enters the object, and has no other mark around it on the way
+-- variable comes by quiet steps and ticks alone to where it enters the object, and has no other mark around it behind the call of the destructor;
+-- nor has one who calls what builds it
 pub record LawLeft : Type 0 where
   pub leads : (source : Source) (s : State) (unwinds : Bool) (k r : ℕ) (written : Bool) (todo : List Todo) →
       s.run.control ≡ leaving unwinds (ends_at k r written) todo →
       Leads source s (entering unwinds k r written todo s)
-  pub lone : (Z : ℕ → ℕ → Type 0) (t : Table) (few : Few) (s : State) → StackState Z s →
+  pub left : (p : Program) (t : Table) (few : Few) (s : State) → StackState (Sized p) s →
       (unwinds : Bool) (k r : ℕ) (written : Bool) (todo : List Todo) →
       s.run.control ≡ leaving unwinds (ends_at k r written) todo →
       (o : ℕ) → few.home o ≡ variable_at k s → LoneBefore t few o (behind unwinds todo) s
+  pub made : (p : Program) (t : Table) (few : Few) (s : State) → StackState (Sized p) s →
+      (k q : ℕ) (ends written : Bool) (r line : ℕ) (rest : Stmts) (todo : List Todo) →
+      s.run.control ≡ calling written r ∷ opening line (ends_at k q ends) rest todo →
+      (o : ℕ) → few.home o ≡ variable_at k s → LoneBefore t few o (opening line (ends_at k q ends) rest todo) s
 
 -- where what is called destroys or builds an object that is so, the mark with which it begins is put so
 abbrev pub LawBegins : Type 0

@@ -1,5 +1,5 @@
 -- Where an object goes nobody has to clean up anything around it: in each run in which marks are put for what is an execution's own.
-use Rattle.std.specs.Prelude.{◌≡◌, ℕ, List, ◌∷◌}
+use Rattle.std.specs.Prelude.{◌≡◌, ℕ, ◌⊎◌, List, ◌∷◌}
 use Rattle.uc_tree.specs.Source.{Source, routine_of}
 use Rattle.uc_entry.specs.declared.entry.Entry.{Entry}
 use Rattle.uc_entry.specs.declared.entry.Options.{Options}
@@ -16,7 +16,7 @@ use Rattle.uc_machine.specs.Answering.{answered}
 use Rattle.uc_meaning.specs.Runs.{World, May, Runs, drawn, world_after, gives, no_room, acts, begun, more}
 use Rattle.uc_scope_laws.specs.RoomRuns.{Comes}
 use Rattle.uc_value_laws.specs.Opens.{RunMeets, LeadsMeet}
-use Rattle.uc_typing.specs.Typing.{Table}
+use Rattle.uc_typing.specs.Typing.{Ty, Table}
 use Rattle.uc_life_laws.specs.Things.{Few}
 use Rattle.uc_life_laws.specs.LifeStates.{MembersBy, EnvBy}
 use Rattle.uc_unmarked_laws.specs.Belonging.{Belongs}
@@ -48,22 +48,24 @@ module _ (t : Table) (few : Few) where
     pub tasks : (u : ℕ) → EnvBy (λ n y. Free t few o (Marked t n (y.run ∷ y.callers))) (x.tasks u).env
     pub homes : (q : ℕ) → MembersBy (λ n y. Free t few o (Marked t n (y.run ∷ y.callers))) (Object q) (x.homes q)
 
--- the execution that runs in a task has a name of its own in a world
-pub record HasOwnName (u : ℕ) (x : World) : Type 0 where
-  pub running : (v : ℕ) → (x.tasks v).env.exec ≡ (x.tasks u).env.exec → v ≡ u
+-- the execution that runs in a task has a name of its own in a world, but for what runs in tasks that have nothing to clean up, as those that are
+-- not spawned yet
+pub record HasOwnName (t : Table) (u : ℕ) (x : World) : Type 0 where
+  pub running : (v : ℕ) → (x.tasks v).env.exec ≡ (x.tasks u).env.exec →
+      (v ≡ u) ⊎ ((w : Value) (a : Ty) → Marked t (x.tasks v).env.exec ((x.tasks v).run ∷ (x.tasks v).callers) w a → ⊥)
   pub tasks : (v : ℕ) → EnvBy (λ n y. n ≡ (x.tasks u).env.exec → ⊥) (x.tasks v).env
   pub homes : (q : ℕ) → MembersBy (λ n y. n ≡ (x.tasks u).env.exec → ⊥) (Object q) (x.homes q)
 
 -- so in a world in which all marks are for what is their execution's own, and whoever runs in a task has none around the object, nobody has
 abbrev pub LawUnmarked : Type 0
 LawUnmarked =
-    (t : Table) (few : Few) (x : World) (u o : ℕ) → LoneWorld t few x → HasOwnName u x →
+    (t : Table) (few : Few) (x : World) (u o : ℕ) → LoneWorld t few x → HasOwnName t u x →
     Freed t few (ask.Gone o) (x.tasks u) → Unmarked t few o x
 
 module _ (t : Table) (few : Few) where
   -- after an act by which an object goes
   abbrev pub UnmarkedAt : ℕ → World → Request → Type 0
-  UnmarkedAt u x (ask.Gone o) = HasOwnName u x → Unmarked t few o x
+  UnmarkedAt u x (ask.Gone o) = HasOwnName t u x → Unmarked t few o x
   UnmarkedAt u x r = Unit {0}
 
   module _ (source : Source) where
