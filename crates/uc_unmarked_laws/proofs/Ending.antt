@@ -26,7 +26,7 @@ use Rattle.uc_unmarked_laws.specs.Ending.{ends_at, leaving, behind, calling, lef
 
 -- a variable is no part of anything else
 
-is_slot : Link → Bool
+abbrev is_slot : Link → Bool
 is_slot (Slot k) = true
 is_slot (FieldAt s i) = false
 is_slot (At s i) = false
@@ -185,9 +185,6 @@ module _ (Z : ℕ → ℕ → Type 0) (k q : ℕ) (ends : Bool) where
 -- the way to the object
 
 module _ (source : Source) (s : State) (k r : ℕ) (written : Bool) where
-  abbrev ending : Expr
-  ending = src.OfObject (src.EndOn r written (src.Load (src.Variable k)))
-
   enters : (b : Bool) → (rest : List Todo) (vs : List Value) → Leads source (at (piece.Eval (src.OfObject (src.EndOn r b (src.Load (src.Variable k)))) ∷ rest) vs s) (at (piece.EnterNow DESTRUCTOR r ∷ (calling b r ∷ rest)) (loaded (variable_at k s) s.env ∷ vs) s)
   enters true rest vs = goes refl (goes refl (goes refl (goes refl (ticks refl stays))))
   enters false rest vs = goes refl (goes refl (goes refl (goes refl stays)))
