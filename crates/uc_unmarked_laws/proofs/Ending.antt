@@ -1,4 +1,4 @@
--- The scope of a mutex object that is a variable is left: other marks in its frame lie before it.
+-- The scope of a mutex object is left: where that is a variable, other marks in its frame lie before it.
 use Rattle.std.proofs.Common.{◌≡◌, ℕ, ◌+◌, ◌*◌, ◌≤◌, ◌<◌, ◌⊎◌, inl, inr, Bool, true, false, List, [], ◌∷◌, drop, Option, Some, None, refl, sym, ap, ◌∙◌, subst, arith}
 use Rattle.std.specs.Prelude.{nat_lt, slice_get}
 use Rattle.uc_tree.specs.declared.limits.TheConstants.{CALLS, DESTRUCTOR}
@@ -21,8 +21,9 @@ use Rattle.uc_scope_laws.proofs.Stacks.{stacked_by, stack_before}
 use Rattle.uc_life_laws.specs.Things.{Few, Within, itself, field, element, AtVariable, AtField, IsFor, Marks, InTodo, NoBase, Stands, lies, inside}
 use Rattle.uc_life_laws.proofs.Cells.{either}
 use Rattle.uc_unmarked_laws.specs.Belonging.{Belongs, frame}
-use Rattle.uc_unmarked_laws.specs.Marks.{Marked, Outward, Free, PutsAt, Puts}
-use Rattle.uc_unmarked_laws.specs.Ending.{ends_at, leaving, behind, calling, left_of, entering, opening, LoneBefore, PutsThen, OpensObject, LawLeft, LawBegins}
+use Rattle.uc_unmarked_laws.specs.Marks.{Marked, Outward, Free, OfClean, AllLone, LoneState, PutsAt, Puts}
+use Rattle.uc_unmarked_laws.proofs.Own.{further_own}
+use Rattle.uc_unmarked_laws.specs.Ending.{Spot, OfVariable, OfField, naming, place_at, ends_at, leaving, behind, calling, left_of, entering, opening, LoneBefore, PutsThen, OpensObject, LawLeft, LawBegins}
 
 -- a variable is no part of anything else
 
@@ -116,7 +117,7 @@ module _ (Z : ℕ → ℕ → Type 0) (t : Table) (n : Exec) (f k : ℕ) where
 
 -- marks in the frame lie before the variable whose scope is left
 module _ (Z : ℕ → ℕ → Type 0) (k r : ℕ) (written : Bool) where
-  opened : (todo : List Todo) (End : Room → Type 0) → SomeTo Z End (piece.Clean (ends_at k r written) ∷ todo) → SomeTo Z End (piece.ClearNow k 0 ∷ todo)
+  opened : (todo : List Todo) (End : Room → Type 0) → SomeTo Z End (piece.Clean (ends_at (OfVariable k) r written) ∷ todo) → SomeTo Z End (piece.ClearNow k 0 ∷ todo)
   opened todo End h =
       let w = h.1.1 in
       let low = h.1.2.0.0 in
@@ -125,11 +126,11 @@ module _ (Z : ℕ → ℕ → Type 0) (k r : ℕ) (written : Bool) where
       let wide = w.high in
       (h.1.0, (inl (low, omega (arith, high, cells, wide)), h.1.3))
 
-  some_left : (unwinds : Bool) (todo : List Todo) (End : Room → Type 0) → SomeTo Z End (leaving unwinds (ends_at k r written) todo) → SomeTo Z End (piece.ClearNow k 0 ∷ todo)
+  some_left : (unwinds : Bool) (todo : List Todo) (End : Room → Type 0) → SomeTo Z End (leaving unwinds (ends_at (OfVariable k) r written) todo) → SomeTo Z End (piece.ClearNow k 0 ∷ todo)
   some_left true todo End h = opened todo End (h.0, h.1.1)
   some_left false todo End h = opened todo End h
 
-  left_before : (s : State) → StackState Z s → (unwinds : Bool) (todo : List Todo) → s.run.control ≡ leaving unwinds (ends_at k r written) todo → stacks.FrameBefore Z k s.run.frame (record s.run { control = piece.ClearNow k 0 ∷ todo } ∷ s.callers)
+  left_before : (s : State) → StackState Z s → (unwinds : Bool) (todo : List Todo) → s.run.control ≡ leaving unwinds (ends_at (OfVariable k) r written) todo → stacks.FrameBefore Z k s.run.frame (record s.run { control = piece.ClearNow k 0 ∷ todo } ∷ s.callers)
   left_before s st unwinds todo e =
       let b = record s.run { control = piece.ClearNow k 0 ∷ todo } in
       stack_before Z s.env.frames b s.callers k 0 todo refl (stacked_by Z s.env.frames s.run b s.callers refl refl (λ End h. some_left unwinds todo End (subst (SomeTo Z End) e h)) st.stack.0)
@@ -163,7 +164,7 @@ module _ (Z : ℕ → ℕ → Type 0) (t : Table) (few : Few) (s : State) (k : �
 
 -- the scope of what is being built opens behind the call of its constructor
 module _ (Z : ℕ → ℕ → Type 0) (k q : ℕ) (ends : Bool) where
-  made_in : (line : ℕ) (rest : Stmts) (todo : List Todo) (End : Room → Type 0) (o : Room) → TodoTo Z End o (opening line (ends_at k q ends) rest todo) → SomeTo Z End (piece.ClearNow k 0 ∷ todo)
+  made_in : (line : ℕ) (rest : Stmts) (todo : List Todo) (End : Room → Type 0) (o : Room) → TodoTo Z End o (opening line (ends_at (OfVariable k) q ends) rest todo) → SomeTo Z End (piece.ClearNow k 0 ∷ todo)
   made_in line rest todo End o h =
       let there = h.1.1 in
       let w = there.0.1 in
@@ -173,35 +174,70 @@ module _ (Z : ℕ → ℕ → Type 0) (k q : ℕ) (ends : Bool) where
       let wide = w.high in
       (o, (inl (low, omega (arith, high, cells, wide)), there.1))
 
-  some_made : (written : Bool) (r line : ℕ) (rest : Stmts) (todo : List Todo) (End : Room → Type 0) → SomeTo Z End (calling written r ∷ opening line (ends_at k q ends) rest todo) → SomeTo Z End (piece.ClearNow k 0 ∷ todo)
+  some_made : (written : Bool) (r line : ℕ) (rest : Stmts) (todo : List Todo) (End : Room → Type 0) → SomeTo Z End (calling written r ∷ opening line (ends_at (OfVariable k) q ends) rest todo) → SomeTo Z End (piece.ClearNow k 0 ∷ todo)
   some_made true r line rest todo End h = made_in line rest todo End h.0 h.1.1
   some_made false r line rest todo End h = made_in line rest todo End h.0 h.1.1
 
-  made_before : (s : State) → StackState Z s → (written : Bool) (r line : ℕ) (rest : Stmts) (todo : List Todo) → s.run.control ≡ calling written r ∷ opening line (ends_at k q ends) rest todo → stacks.FrameBefore Z k s.run.frame (record s.run { control = piece.ClearNow k 0 ∷ todo } ∷ s.callers)
+  made_before : (s : State) → StackState Z s → (written : Bool) (r line : ℕ) (rest : Stmts) (todo : List Todo) → s.run.control ≡ calling written r ∷ opening line (ends_at (OfVariable k) q ends) rest todo → stacks.FrameBefore Z k s.run.frame (record s.run { control = piece.ClearNow k 0 ∷ todo } ∷ s.callers)
   made_before s st written r line rest todo e =
       let b = record s.run { control = piece.ClearNow k 0 ∷ todo } in
       stack_before Z s.env.frames b s.callers k 0 todo refl (stacked_by Z s.env.frames s.run b s.callers refl refl (λ End h. some_made written r line rest todo End (subst (SomeTo Z End) e h)) st.stack.0)
 
+-- what is a field of the execution's own object is its own
+module _ (t : Table) (few : Few) (s : State) (st : LoneState t few s) (h : Shape) (i r c : ℕ) (written : Bool) (todo : List Todo) (this : (t.routine r).this ≡ Some c) (whole : (t.routine r).whole ≡ true) where
+  abbrev mark : CleanUp
+  mark = ends_at (OfField h i) r written
+
+  abbrev owner : Owner
+  owner = Frame s.env.exec s.run.frame
+
+  abbrev spot : Value
+  spot = further (FieldAt h i) s.run.this
+
+  it : AtField t owner s.run.this mark spot (Cell (Obj c))
+  it = (h, i, (refl, this, whole), refl)
+
+  abbrev Claims : List Todo → Type 0
+  Claims l = AllLone t few s.env.exec s.run.frame s.run.this s.callers l
+
+  claim : (unwinds : Bool) → Claims (leaving unwinds mark todo) → OfClean t few s.env.exec s.run.frame s.run.this s.callers mark todo
+  claim true k = k.0
+  claim false k = k.0
+
+  outward : (unwinds : Bool) (w : Value) (b : Ty) → Marked t s.env.exec (record s.run { control = behind unwinds todo } ∷ s.callers) w b → Outward t s.env.exec s.run.frame s.run.this s.callers todo w b
+  outward true w b m = m
+  outward false w b m = m
+
+  field_lone : (unwinds : Bool) → s.run.control ≡ leaving unwinds mark todo → (o : ℕ) → few.home o ≡ spot → LoneBefore t few o (behind unwinds todo) s
+  field_lone unwinds e o f =
+      let k = claim unwinds (subst Claims e st.stack.0) in
+      (subst (Belongs few s.env.exec) (sym f) (further_own t few s.env.exec (FieldAt h i) s.run.this (k.0 spot (Cell (Obj c)) it)), (λ d m.
+      k.1 spot (Cell (Obj c)) it spot c d itself (subst (Stands t few (Outward t s.env.exec s.run.frame s.run.this s.callers todo) (Cell (Obj d))) f (stands_more t few (Marked t s.env.exec (record s.run { control = behind unwinds todo } ∷ s.callers)) (Outward t s.env.exec s.run.frame s.run.this s.callers todo) (outward unwinds) (Cell (Obj d)) (few.home o) m))))
+
 -- the way to the object
 
-module _ (source : Source) (s : State) (k r : ℕ) (written : Bool) where
-  enters : (b : Bool) → (rest : List Todo) (vs : List Value) → Leads source (at (piece.Eval (src.OfObject (src.EndOn r b (src.Load (src.Variable k)))) ∷ rest) vs s) (at (piece.EnterNow DESTRUCTOR r ∷ (calling b r ∷ rest)) (loaded (variable_at k s) s.env ∷ vs) s)
-  enters true rest vs = goes refl (goes refl (goes refl (goes refl (ticks refl stays))))
-  enters false rest vs = goes refl (goes refl (goes refl (goes refl stays)))
+module _ (source : Source) (s : State) (r : ℕ) where
+  enters : (p : Spot) (b : Bool) → (rest : List Todo) (vs : List Value) → Leads source (at (piece.Eval (src.OfObject (src.EndOn r b (src.Load (naming p)))) ∷ rest) vs s) (at (piece.EnterNow DESTRUCTOR r ∷ (calling b r ∷ rest)) (loaded (place_at p s) s.env ∷ vs) s)
+  enters (OfVariable k) true rest vs = goes refl (goes refl (goes refl (goes refl (ticks refl stays))))
+  enters (OfVariable k) false rest vs = goes refl (goes refl (goes refl (goes refl stays)))
+  enters (OfField h i) true rest vs = goes refl (goes refl (goes refl (goes refl (ticks refl stays))))
+  enters (OfField h i) false rest vs = goes refl (goes refl (goes refl (goes refl stays)))
 
-  way : (unwinds : Bool) (todo : List Todo) → s.run.control ≡ leaving unwinds (ends_at k r written) todo → Leads source s (entering unwinds k r written todo s)
-  way true todo e =
-      goes (ap (λ l. quiet.act_todo source l s) e) (enters written (piece.DropNow ∷ (piece.Unwind ∷ todo)) [])
-  way false todo e =
-      goes (ap (λ l. quiet.act_todo source l s) e) (enters written (piece.DropNow ∷ todo) s.run.operands)
+  way : (unwinds : Bool) (p : Spot) (written : Bool) (todo : List Todo) → s.run.control ≡ leaving unwinds (ends_at p r written) todo → Leads source s (entering unwinds p r written todo s)
+  way true p written todo e =
+      goes (ap (λ l. quiet.act_todo source l s) e) (enters p written (piece.DropNow ∷ (piece.Unwind ∷ todo)) [])
+  way false p written todo e =
+      goes (ap (λ l. quiet.act_todo source l s) e) (enters p written (piece.DropNow ∷ todo) s.run.operands)
 
 pub law_left : LawLeft
 law_left = record {
-  leads = λ source s unwinds k r written todo e. way source s k r written unwinds todo e;
+  leads = λ source s unwinds p r written todo e. way source s r unwinds p written todo e;
   left = λ p t few s st unwinds k r written todo e o h.
       lone (Sized p) t few s k todo (left_before (Sized p) k r written s st unwinds todo e) (behind unwinds todo) (behind_same t s.env.exec s.run s.callers unwinds k todo) o h;
   made = λ p t few s st k q ends written r line rest todo e o h.
-      lone (Sized p) t few s k todo (made_before (Sized p) k q ends s st written r line rest todo e) (opening line (ends_at k q ends) rest todo) (λ w b m. m) o h;
+      lone (Sized p) t few s k todo (made_before (Sized p) k q ends s st written r line rest todo e) (opening line (ends_at (OfVariable k) q ends) rest todo) (λ w b m. m) o h;
+  field = λ t few s st unwinds h i r c written todo this whole e o f.
+      field_lone t few s st h i r c written todo this whole unwinds e o f;
 }
 
 -- what is called begins

@@ -29,7 +29,7 @@ law_own few n m Nothing h _ = elim h [ ]
 
 module _ (t : Table) (few : Few) (n : Exec) where
   -- so is what lies in it
-  further_own : (l : Link) (v : Value) → Belongs few n v → Belongs few n (further l v)
+  pub further_own : (l : Link) (v : Value) → Belongs few n v → Belongs few n (further l v)
   further_own l (Place (Frame x d) p) (frame e) = frame e
   further_own l (Place (Fields o) p) (fields h) = fields h
   further_own l (Object o) (object h) = fields h
@@ -56,7 +56,7 @@ module _ (t : Table) (few : Few) (n : Exec) where
     field_own : (c : CleanUp) (todo : List Todo) → OfClean t few n f this older c todo → (w : Value) (a : Ty) → At c w a → Belongs few n w
     field_own src.Ends todo h w a k = absurd k.2
     field_own (src.Frees r) todo h w a k = absurd k.2
-    field_own c todo h w a k = subst (Belongs few n) (sym k.3) (further_own _ this (h w a k))
+    field_own c todo h w a k = subst (Belongs few n) (sym k.3) (further_own _ this (h.0 w a k))
 
     mark_own : (c : CleanUp) (todo : List Todo) → OfClean t few n f this older c todo → (w : Value) (a : Ty) → IsFor t (Frame n f) this c w a → Belongs few n w
     mark_own c todo h w a (inl k) = subst (Belongs few n) (sym k.2) (frame refl)

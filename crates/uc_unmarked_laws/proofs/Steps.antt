@@ -245,8 +245,8 @@ module _ (t : Table) (few : Few) where
     event_step (src.Raise line r) todo o h = go _ _ (raised s.env.exec s.run.frame s.run.this s.callers r _ h)
     event_step (src.RaiseAt line r a) todo o h = go _ _ (raised s.env.exec s.run.frame s.run.this s.callers r _ h)
     event_step (src.Try line body hs) todo o h = go _ _ h
-    event_step (src.Enable line events cell a) todo o h = go _ _ ((λ w a k. absurd k.2), h)
-    event_step (src.Disable line events cell a) todo o h = go _ _ ((λ w a k. absurd k.2), h)
+    event_step (src.Enable line events cell a) todo o h = go _ _ (((λ w a k. absurd k.2), (λ w a k. absurd k.2)), h)
+    event_step (src.Disable line events cell a) todo o h = go _ _ (((λ w a k. absurd k.2), (λ w a k. absurd k.2)), h)
 
     task_step : (a : TaskStmt) (todo : List Todo) → Holding todo → LoneStep t few (quiet.task_step a todo s)
     task_step (src.Resume line) todo h = go _ _ h

@@ -10,7 +10,7 @@ use Rattle.uc_machine.specs.declared.exec.Owner.TheVariants.{Frame}
 use Rattle.uc_machine.specs.Executions.{Execution}
 use Rattle.uc_machine.specs.Pieces.{Value, Todo, Rest, GoneNow, GiveUpNow, Sort, sort, IsClean, IsPart, Active, State, Env, Members, Step, Goes, Ticks, Asks, object_in}
 use Rattle.uc_typing.specs.Typing.{Ty, Cell, Obj, Table}
-use Rattle.uc_life_laws.specs.Things.{Few, AtField, IsFor, InTodo, InStack, NoBase, Stands}
+use Rattle.uc_life_laws.specs.Things.{Few, Within, AtField, IsFor, InTodo, InStack, NoBase, Stands}
 use Rattle.uc_life_laws.specs.LifeStates.{MembersBy, EnvBy}
 use Rattle.uc_unmarked_laws.specs.Belonging.{Belongs}
 
@@ -37,11 +37,16 @@ module _ (t : Table) (few : Few) where
     abbrev pub OwnFields : CleanUp → Type 0
     OwnFields c = (w : Value) (a : Ty) → AtField t (Frame n f) this c w a → Belongs few n this
 
-    -- of a clean-up, before what is to do outwards of it: where a mutex object is destroyed, and where it is built
+    -- what such a clean-up is for stands in nothing that is cleaned up outwards of it, as far as mutex objects are at home there
+    abbrev pub Sole : CleanUp → List Todo → Type 0
+    Sole c todo = (w : Value) (a : Ty) → AtField t (Frame n f) this c w a → (v : Value) (d e : ℕ) →
+        Within t w a v (Cell (Obj d)) → Stands t few (Outward t n f this older todo) (Cell (Obj e)) v → ⊥
+
+    -- of a clean-up, before what is to do outwards of it: where the mutex object at hand is destroyed, where it is built, and of a field
     abbrev pub OfClean : CleanUp → List Todo → Type 0
     OfClean Ends todo = Lone todo
     OfClean (Frees r) todo = Lone todo
-    OfClean c todo = OwnFields c
+    OfClean c todo = OwnFields c × Sole c todo
 
     abbrev pub OfSort : Sort → List Todo → Type 0 → Type 0
     OfSort (IsClean c) todo rest = OfClean c todo × rest
