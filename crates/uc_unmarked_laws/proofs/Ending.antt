@@ -1,16 +1,16 @@
 -- The scope of a mutex object is left: where that is a variable, other marks in its frame lie before it.
-use Rattle.std.proofs.Common.{◌≡◌, ℕ, ◌+◌, ◌*◌, ◌≤◌, ◌<◌, ◌⊎◌, inl, inr, Bool, true, false, List, [], ◌∷◌, drop, Option, Some, None, refl, sym, ap, ◌∙◌, subst, arith}
+use Rattle.std.proofs.Common.{◌≡◌, ℕ, ◌<◌, inl, inr, Bool, true, false, List, [], ◌∷◌, drop, Some, refl, sym, ap, subst, arith}
 use Rattle.std.specs.Prelude.{nat_lt, slice_get}
 use Rattle.uc_tree.specs.declared.limits.TheConstants.{CALLS, DESTRUCTOR}
 use Rattle.uc_tree.specs.Source as src
 use Rattle.uc_tree.specs.Source.{Shape, Expr, CleanUp, Stmts, Routine, Purpose, Source}
 use Rattle.uc_machine.specs.declared.exec.Exec.{Exec}
 use Rattle.uc_machine.specs.declared.exec.Owner.{Owner}
-use Rattle.uc_machine.specs.declared.exec.Owner.TheVariants.{Frame, Fields}
+use Rattle.uc_machine.specs.declared.exec.Owner.TheVariants.{Frame}
 use Rattle.uc_machine.specs.Pieces as piece
 use Rattle.uc_machine.specs.Pieces.{Link, Slot, FieldAt, At, Value, Number, Place, Running, Object, Nothing, further, Todo, Sort, Active, State, Step, Goes, Ticks, Asks, at, top, below, loaded, variable_at, object_in}
 use Rattle.uc_machine.specs.Quiet as quiet
-use Rattle.uc_typing.specs.Typing.{Ty, Cell, Obj, Row, Table, DestroysAt, CleansAt}
+use Rattle.uc_typing.specs.Typing.{Ty, Cell, Obj, Table, DestroysAt, CleansAt}
 use Rattle.uc_scope_laws.specs.Rooms.{Room, LiesAt, Destroyed, Lies}
 use Rattle.uc_scope_laws.specs.RoomStates as rooms
 use Rattle.uc_scope_laws.specs.Layout.{Sized}
@@ -18,12 +18,12 @@ use Rattle.uc_scope_laws.specs.RoomStacks as stacks
 use Rattle.uc_scope_laws.specs.RoomStacks.{TodoTo, SomeTo, StackState}
 use Rattle.uc_scope_laws.specs.RoomRuns.{Leads, stays, goes, ticks}
 use Rattle.uc_scope_laws.proofs.Stacks.{stacked_by, stack_before}
-use Rattle.uc_life_laws.specs.Things.{Few, Within, itself, field, element, AtVariable, AtField, IsFor, Marks, InTodo, NoBase, Stands, lies, inside}
+use Rattle.uc_life_laws.specs.Things.{Few, Within, itself, field, element, AtField, IsFor, Marks, InTodo, Stands, lies, inside}
 use Rattle.uc_life_laws.proofs.Cells.{either}
 use Rattle.uc_unmarked_laws.specs.Belonging.{Belongs, frame}
-use Rattle.uc_unmarked_laws.specs.Marks.{Marked, Outward, Free, OfClean, AllLone, LoneState, PutsAt, Puts}
+use Rattle.uc_unmarked_laws.specs.Marks.{Marked, Outward, Free, OfClean, AllLone, LoneState, PutsAt}
 use Rattle.uc_unmarked_laws.proofs.Own.{further_own}
-use Rattle.uc_unmarked_laws.specs.Ending.{Spot, OfVariable, OfField, naming, place_at, ends_at, leaving, behind, calling, left_of, entering, opening, LoneBefore, PutsThen, OpensObject, LawLeft, LawBegins}
+use Rattle.uc_unmarked_laws.specs.Ending.{Spot, OfVariable, OfField, naming, place_at, ends_at, leaving, behind, calling, entering, opening, LoneBefore, PutsThen, OpensObject, LawLeft, LawBegins}
 
 -- a variable is no part of anything else
 
@@ -210,9 +210,11 @@ module _ (t : Table) (few : Few) (s : State) (st : LoneState t few s) (h : Shape
 
   field_lone : (unwinds : Bool) → s.run.control ≡ leaving unwinds mark todo → (o : ℕ) → few.home o ≡ spot → LoneBefore t few o (behind unwinds todo) s
   field_lone unwinds e o f =
-      let k = claim unwinds (subst Claims e st.stack.0) in
-      (subst (Belongs few s.env.exec) (sym f) (further_own t few s.env.exec (FieldAt h i) s.run.this (k.0 spot (Cell (Obj c)) it)), (λ d m.
-      k.1 spot (Cell (Obj c)) it spot c d itself (subst (Stands t few (Outward t s.env.exec s.run.frame s.run.this s.callers todo) (Cell (Obj d))) f (stands_more t few (Marked t s.env.exec (record s.run { control = behind unwinds todo } ∷ s.callers)) (Outward t s.env.exec s.run.frame s.run.this s.callers todo) (outward unwinds) (Cell (Obj d)) (few.home o) m))))
+      let k = claim unwinds (subst Claims e st.stack.0) in (
+        subst (Belongs few s.env.exec) (sym f) (further_own t few s.env.exec (FieldAt h i) s.run.this (k.0 spot (Cell (Obj c)) it)),
+        (λ d m.
+            k.1 spot (Cell (Obj c)) it spot c d itself (subst (Stands t few (Outward t s.env.exec s.run.frame s.run.this s.callers todo) (Cell (Obj d))) f (stands_more t few (Marked t s.env.exec (record s.run { control = behind unwinds todo } ∷ s.callers)) (Outward t s.env.exec s.run.frame s.run.this s.callers todo) (outward unwinds) (Cell (Obj d)) (few.home o) m))),
+      )
 
 -- the way to the object
 

@@ -1,12 +1,11 @@
 -- What is an execution's own is no other's, and so is what stands in what its marks are for.
-use Rattle.std.proofs.Common.{◌≡◌, ℕ, ◌⊎◌, inl, inr, List, [], ◌∷◌, Option, Some, None, refl, sym, ◌∙◌, subst, ⊎_elim}
+use Rattle.std.proofs.Common.{◌≡◌, ℕ, inl, inr, List, [], ◌∷◌, Option, Some, None, refl, sym, ◌∙◌, subst, ⊎_elim}
 use Rattle.uc_tree.specs.Source as src
 use Rattle.uc_tree.specs.Source.{CleanUp}
 use Rattle.uc_entry.specs.declared.request.Request.TheVariants as ask
 use Rattle.uc_machine.specs.declared.exec.Exec.{Exec}
 use Rattle.uc_machine.specs.declared.exec.Home.{Home}
 use Rattle.uc_machine.specs.declared.exec.Home.TheVariants as home
-use Rattle.uc_machine.specs.declared.exec.Owner.{Owner}
 use Rattle.uc_machine.specs.declared.exec.Owner.TheVariants.{Frame, Fields}
 use Rattle.uc_machine.specs.Executions.{Execution}
 use Rattle.uc_machine.specs.Pieces as piece
@@ -16,7 +15,7 @@ use Rattle.uc_typing.specs.Typing.{Ty, Cell, Obj, Row, Table}
 use Rattle.uc_life_laws.specs.Things.{Few, Within, itself, field, element, AtField, IsFor, Marks, InTodo, Stands, lies, inside}
 use Rattle.uc_life_laws.specs.LifeStates.{SlotBy, ParkedBy, HandBy, MembersBy, EnvBy}
 use Rattle.uc_unmarked_laws.specs.Belonging.{Belongs, frame, fields, object}
-use Rattle.uc_unmarked_laws.specs.Marks.{Marked, Free, OfClean, OfSort, AllLone, LoneStack, LoneEx, LoneState, Freed}
+use Rattle.uc_unmarked_laws.specs.Marks.{Marked, Free, OfClean, OfSort, AllLone, LoneStack, LoneEx, Freed}
 use Rattle.uc_unmarked_laws.specs.Unmarked.{LawOwn, LawUnmarked, LoneWorld, Unmarked, HasOwnName}
 
 pub law_own : LawOwn

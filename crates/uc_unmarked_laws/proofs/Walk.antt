@@ -1,6 +1,5 @@
 -- Every quiet step of a task of whose marks something holds, and answers to it.
 use Rattle.std.proofs.Common.{◌≡◌, ℕ, List, [], ◌∷◌, Option, Some, None, refl, subst}
-use Rattle.uc_machine.specs.declared.exec.Exec.{Exec}
 use Rattle.uc_tree.specs.Source.{CleanUp}
 use Rattle.uc_machine.specs.Pieces.{Active}
 use Rattle.std.specs.Prelude.{nat_lt, slice_get, drop}

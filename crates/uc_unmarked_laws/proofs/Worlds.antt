@@ -1,5 +1,5 @@
 -- In every run in which marks are put for what is an execution's own, all are; and nobody has one around what goes.
-use Rattle.std.proofs.Common.{◌≡◌, ℕ, ◌==◌, Bool, List, [], ◌∷◌, ◌++◌, Option, Some, None, subst, sym}
+use Rattle.std.proofs.Common.{ℕ, ◌==◌, Bool, List, [], ◌∷◌, Option, Some, None, subst, sym}
 use Rattle.std.specs.Prelude.{if◌then◌else◌}
 use Rattle.uc_tree.specs.Source.{Source}
 use Rattle.uc_entry.specs.declared.entry.Entry.{Entry}
@@ -28,7 +28,7 @@ use Rattle.uc_life_laws.specs.LifeStates.{HandBy}
 use Rattle.uc_life_laws.proofs.Cells.{either}
 use Rattle.uc_life_laws.proofs.Parked.{found_hand}
 use Rattle.uc_unmarked_laws.specs.Marks.{LoneEx, LoneMembers, LoneState, LoneStep, Freed, Puts}
-use Rattle.uc_unmarked_laws.specs.Unmarked.{LoneWorld, HasOwnName, UnmarkedAt, MayUnmark, RunUnmarked, LawRuns}
+use Rattle.uc_unmarked_laws.specs.Unmarked.{LoneWorld, UnmarkedAt, MayUnmark, RunUnmarked, LawRuns}
 use Rattle.uc_unmarked_laws.proofs.Walk.{law_steps}
 use Rattle.uc_unmarked_laws.proofs.Own.{law_unmarked}
 

@@ -1,10 +1,10 @@
 -- Who leaves the scope of a mutex object that is a variable, or a field of the object at hand, has no other mark around it: as the mark is reached,
 -- up to where it enters the object, and as the destructor begins.
-use Rattle.std.specs.Prelude.{◌≡◌, ℕ, Bool, true, false, List, [], ◌∷◌, drop, slice_get, Option, Some}
+use Rattle.std.specs.Prelude.{◌≡◌, ℕ, Bool, true, false, List, [], ◌∷◌, drop, slice_get, Some}
 use Rattle.uc_tree.specs.declared.limits.TheConstants.{DESTRUCTOR}
 use Rattle.uc_tree.specs.Programs.{Program}
 use Rattle.uc_tree.specs.Source.{Shape, Expr, OfObject, OwnField, EndOn, Load, Variable, CleanUp, Destroys, Ends, Frees, Stmts, Scoped, Routine, Source}
-use Rattle.uc_machine.specs.Pieces.{Value, Todo, CallOnNow, CallUnwrittenNow, TickNow, DropNow, Clean, Unwind, EnterNow, Within, Rest, Active, State, Step, Goes, Ticks, Asks, at, top, further, FieldAt, loaded, variable_at, object_in}
+use Rattle.uc_machine.specs.Pieces.{Value, Todo, CallOnNow, CallUnwrittenNow, DropNow, Clean, Unwind, EnterNow, Within, Rest, State, Step, Goes, Ticks, Asks, at, top, further, FieldAt, loaded, variable_at, object_in}
 use Rattle.uc_machine.specs.Quiet.{quiet}
 use Rattle.uc_scope_laws.specs.Layout.{Sized}
 use Rattle.uc_scope_laws.specs.RoomStacks.{StackState}

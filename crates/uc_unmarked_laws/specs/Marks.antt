@@ -8,7 +8,7 @@ use Rattle.uc_machine.specs.declared.exec.Exec.{Exec}
 use Rattle.uc_machine.specs.declared.exec.Home.{Home}
 use Rattle.uc_machine.specs.declared.exec.Owner.TheVariants.{Frame}
 use Rattle.uc_machine.specs.Executions.{Execution}
-use Rattle.uc_machine.specs.Pieces.{Value, Todo, Rest, GoneNow, GiveUpNow, Sort, sort, IsClean, IsPart, Active, State, Env, Members, Step, Goes, Ticks, Asks, object_in}
+use Rattle.uc_machine.specs.Pieces.{Value, Todo, Rest, GoneNow, GiveUpNow, Sort, sort, IsClean, IsPart, Active, State, Members, Step, Goes, Ticks, Asks, object_in}
 use Rattle.uc_typing.specs.Typing.{Ty, Cell, Obj, Table}
 use Rattle.uc_life_laws.specs.Things.{Few, Within, AtField, IsFor, InTodo, InStack, NoBase, Stands}
 use Rattle.uc_life_laws.specs.LifeStates.{MembersBy, EnvBy}

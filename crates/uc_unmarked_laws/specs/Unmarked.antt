@@ -10,7 +10,7 @@ use Rattle.uc_acts.specs.Journal.{Journal}
 use Rattle.uc_acts.specs.Acts.{act}
 use Rattle.uc_machine.specs.declared.exec.Exec.{Exec}
 use Rattle.uc_machine.specs.declared.exec.Home.TheVariants.{Object}
-use Rattle.uc_machine.specs.Pieces.{Value, Active}
+use Rattle.uc_machine.specs.Pieces.{Value}
 use Rattle.uc_machine.specs.Quiet.{State, first_state, quiet}
 use Rattle.uc_machine.specs.Answering.{answered}
 use Rattle.uc_meaning.specs.Runs.{World, May, Runs, drawn, world_after, gives, no_room, acts, begun, more}

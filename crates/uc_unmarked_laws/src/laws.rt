@@ -25,8 +25,7 @@ pub fn law_runs()
     ensures { LawRuns }
 {}
 
-/// Who leaves the scope of a mutex object that is a variable has no other mark around it, up to where it enters
-/// the object.
+/// Who leaves the scope of a mutex object has no other mark around it, up to where it enters the object.
 pub fn law_left()
     ensures { LawLeft }
 {}
