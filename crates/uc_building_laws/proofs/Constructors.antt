@@ -156,4 +156,4 @@ module _ (p : Program) (formed : IsFormed p) (accepted : breaks_of p ≡ []) whe
     at l h m = tt
 
     pub fair : Remains t few source s → IsCalled p source s → Fair t few source s
-    fair m c = record { at = at s.run.control c.calls m.at; returns = m.returns; joins = c.joins }
+    fair m c = record { at = at s.run.control c.calls m; joins = c.joins }

@@ -5,6 +5,8 @@ use Rattle.uc_tree.specs.Source.{Source, Stmts, Way, CleanUp}
 use Rattle.uc_entry.specs.declared.request.Request.{Request}
 use Rattle.uc_entry.specs.declared.request.Request.TheVariants as ask
 use Rattle.uc_machine.specs.declared.exec.UnwindReason.{UnwindReason}
+use Rattle.uc_machine.specs.declared.exec.UnwindReason.TheVariants as reason
+use Rattle.std.proofs.lemmas.Bool.{eqb-true}
 use Rattle.uc_machine.specs.declared.exec.Visited.{Visited}
 use Rattle.uc_machine.specs.Insides as inside
 use Rattle.uc_machine.specs.Raising as raising
@@ -19,12 +21,18 @@ use Rattle.uc_life_laws.specs.LifeStates.{Outwards, frame_at}
 use Rattle.uc_scope_laws.specs.RoomStacks.{Stack, StackState}
 use Rattle.uc_life_laws.proofs.Cells.{either, others_length}
 use Rattle.uc_building_laws.specs.Building.{Now}
-use Rattle.uc_building_laws.specs.BuildingStates.{variable, Awaits, Nears, IsBuilt, IsMaking, Builds, of_run, Stands, StandsBehind, BuildsState}
+use Rattle.uc_building_laws.specs.BuildingStates.{variable, Awaits, Nears, NotBack, IsBuilt, IsMaking, Builds, of_run, Stands, StandsBehind, BuildsState}
 use Rattle.uc_opening_laws.specs.CalledStates.{Ends, Joins, AskJoins, StepJoins}
-use Rattle.uc_building_laws.specs.BuildingLaws.{IsPlain, Returns}
 use Rattle.uc_building_laws.proofs.Memory.{frame_older, holds_kept}
 use Rattle.uc_building_laws.proofs.Plain.{none_plain}
 use Rattle.uc_building_laws.proofs.Building as building
+
+-- a return is over
+arrives_is : (o : Option UnwindReason) (n : ℕ) → raising.arrives o n ≡ true → o ≡ Some (reason.ReturnTo n)
+arrives_is None n e = absurd (cc)
+arrives_is (Some (reason.Event k x y)) n e = absurd (cc)
+arrives_is (Some (reason.ReturnTo home)) n e = ap (λ m. Some (reason.ReturnTo m)) (eqb-true home n e)
+arrives_is (Some reason.Destroyed) n e = absurd (cc)
 
 -- so a list tells
 abbrev pub StandsOf : (t : Table) (few : Few) → State → List Todo → Type 0
@@ -108,14 +116,14 @@ module _ (t : Table) (few : Few) (source : Source) (Z : ℕ → ℕ → Type 0) 
     dropped_stands e = subst (StandsOf t few s) e st.stands
 
     -- a constructor has come to its end, and nothing is left to be bound
-    module _ (nothing : (ps : List Ty) (d i : ℕ) (w : Value) (K : Ty → Value → Type 0) → Now t ps d i w K s.run.control s.run.operands → ⊥) (b : Active) (cs : List Active) (l : length s.env.frames ≡ suc (length (b ∷ cs))) (h : Stack Z s.env.frames (b ∷ cs)) (control : b.control ≡ drop) (x : Builds t few s.env.exec (of_run t s.run) s.env.frames s.run.frame s.run.this (b ∷ cs)) where
+    module _ (nothing : suc s.run.frame ≡ length s.env.frames → (ps : List Ty) (d i : ℕ) (w : Value) (K : Ty → Value → Type 0) → of_run t s.run ps d i w K → ⊥) (b : Active) (cs : List Active) (l : length s.env.frames ≡ suc (length (b ∷ cs))) (h : Stack Z s.env.frames (b ∷ cs)) (control : b.control ≡ drop) (x : Builds t few s.env.exec (of_run t s.run) s.env.frames s.run.frame s.run.this (b ∷ cs)) where
       made : (g : ℕ) (w : Value) (d : ℕ) (K : Value → Ty → Type 0) → IsBuilt t few s.env.exec s.env.frames g w d K ⊎ IsMaking t few s.env.exec (of_run t s.run) s.env.frames s.run.frame (suc (length cs)) s.run.this g w d K → IsBuilt t few s.env.exec s.env.frames g w d K
       made g w d K (inl y) = y
       made g w d K (inr m) = building.built t few s.env.exec s.env.frames g w d K (λ i f. by i (m.fields i f))
         where
           by : (i : ℕ) → Holds t few s.env.exec K (Frame s.env.exec g) (frame_at g s.env.frames) (further (FieldAt (t.shape d) i) w) (t.fields d i) ⊎ of_run t s.run m.params d i w (Known t few s.env.exec K) → Holds t few s.env.exec K (Frame s.env.exec g) (frame_at g s.env.frames) (further (FieldAt (t.shape d) i) w) (t.fields d i)
           by i (inl y) = y
-          by i (inr y) = absurd (nothing m.params d i w (Known t few s.env.exec K) y)
+          by i (inr y) = let q = m.frame in absurd (nothing (omega (arith, q, l)) m.params d i w (Known t few s.env.exec K) y)
 
       handed : (k i : ℕ) → CleansAt t (Obj i) (src.Variable k) c → IsBuilt t few s.env.exec (others s.env.frames) b.frame (variable s.env.exec b.frame k) i (Outwards t few s.env.exec b.frame b.this cs c todo)
       handed k i d =
@@ -124,7 +132,7 @@ module _ (t : Table) (few : Few) (source : Source) (Z : ℕ → ℕ → Type 0) 
           let le = h.0.frame in
           holds_kept t few s.env.exec (Outwards t few s.env.exec b.frame b.this cs c todo) (Frame s.env.exec b.frame) (frame_at b.frame s.env.frames) (frame_at b.frame (others s.env.frames)) (variable s.env.exec b.frame k) (Obj i) (frame_older s.env.frames b.frame (omega (arith, n, le))) (made b.frame (variable s.env.exec b.frame k) i (Outwards t few s.env.exec b.frame b.this cs c todo) (y k i d))
 
-    returned_goes : ((ps : List Ty) (d i : ℕ) (w : Value) (K : Ty → Value → Type 0) → Now t ps d i w K s.run.control s.run.operands → ⊥) → (given : Value) (u : State) → u.run.control ≡ drop → piece.return_step given s.callers s ≡ Goes u → Claim u c todo
+    returned_goes : (suc s.run.frame ≡ length s.env.frames → (ps : List Ty) (d i : ℕ) (w : Value) (K : Ty → Value → Type 0) → of_run t s.run ps d i w K → ⊥) → (given : Value) (u : State) → u.run.control ≡ drop → piece.return_step given s.callers s ≡ Goes u → Claim u c todo
     returned_goes nothing given u control q = by s.callers life.frames life.stack.1 st.builds.run q
       where
         by : (cs : List Active) → length s.env.frames ≡ suc (length cs) → Stack Z s.env.frames cs → Builds t few s.env.exec (of_run t s.run) s.env.frames s.run.frame s.run.this cs → piece.return_step given cs s ≡ Goes u → Claim u c todo
@@ -134,46 +142,42 @@ module _ (t : Table) (few : Few) (source : Source) (Z : ℕ → ℕ → Type 0) 
             let stands : b.control ≡ drop = ap (λ (u : State). u.run.control) same ∙ control in
             subst (λ u. Claim u c todo) same (handed nothing b cs l h stands x)
 
-    -- no return is over there
-    returns_not : s.run.control ≡ piece.Unwind ∷ [] → raising.arrives s.run.raised (length s.callers) ≡ true → Returns t few source s s.run.control s.callers → (given : Value) (u : State) → u.run.control ≡ drop → piece.return_step given s.callers s ≡ Goes u → IsPlain t c → ⊥
-    returns_not e a f given u control q plain = by s.callers (subst (λ l. Returns t few source s l s.callers) e f) q
-      where
-        by : (cs : List Active) → Returns t few source s (piece.Unwind ∷ []) cs → piece.return_step given cs s ≡ Goes u → ⊥
-        by [] f q = absurd (cc)
-        by (b ∷ cs) f q =
-            let same : returned (Some given) s.run.counts b cs s.env ≡ u = cc in
-            let stands : b.control ≡ drop = ap (λ (u : State). u.run.control) same ∙ control in
-            (subst (Awaits (λ c rest. IsPlain t c → ⊥)) stands (f a)) plain
+    -- where a return is over, nothing is left either
+    returned_back : raising.arrives s.run.raised (length s.callers) ≡ true → suc s.run.frame ≡ length s.env.frames → NotBack s.run → ⊥
+    returned_back a q none =
+        let m = life.frames in
+        let own : length s.callers ≡ s.run.frame = omega (arith, m, q) in
+        none (arrives_is s.run.raised (length s.callers) a ∙ ap (λ n. Some (reason.ReturnTo n)) own)
 
-    ended_goes : Returns t few source s s.run.control s.callers → (u : State) → u.run.control ≡ drop → (l : List Todo) → s.run.control ≡ l → Ends s l → EndsTo s s.callers (Goes u) → Claim u c todo
-    ended_goes f u control l e en (inr q) =
+    ended_goes : (u : State) → u.run.control ≡ drop → (l : List Todo) → s.run.control ≡ l → Ends s l → EndsTo s s.callers (Goes u) → Claim u c todo
+    ended_goes u control l e en (inr q) =
         let z : piece.Unwind ∷ q.0 ≡ drop = sym q.1 ∙ control in
         absurd (cc)
-    ended_goes f u control [] e en (inl q) = returned_goes (λ ps d i w K y. subst (λ l. Now t ps d i w K l s.run.operands) e y) q.0 u control q.1
-    ended_goes f u control (piece.Exit w ∷ []) e en (inl q) = returned_goes (λ ps d i w' K y. subst (λ l. Now t ps d i w' K l s.run.operands) e y) q.0 u control q.1
-    ended_goes f u control (piece.Finish ∷ rest) e en (inl q) = returned_goes (λ ps d i w K y. subst (λ l. Now t ps d i w K l s.run.operands) e y) q.0 u control q.1
-    ended_goes f u control (piece.Unwind ∷ []) e en (inl q) = λ k i d. absurd (returns_not e en f q.0 u control q.1 (k, i, d))
-    ended_goes f u control l e en (inl q) = absurd en
+    ended_goes u control [] e en (inl q) = returned_goes (λ f ps d i w K y. subst (λ l. Now t ps d i w K l s.run.operands) e y.0) q.0 u control q.1
+    ended_goes u control (piece.Exit w ∷ []) e en (inl q) = returned_goes (λ f ps d i v K y. subst (λ l. Now t ps d i v K l s.run.operands) e y.0) q.0 u control q.1
+    ended_goes u control (piece.Finish ∷ rest) e en (inl q) = returned_goes (λ f ps d i w K y. subst (λ l. Now t ps d i w K l s.run.operands) e y.0) q.0 u control q.1
+    ended_goes u control (piece.Unwind ∷ []) e en (inl q) = returned_goes (λ f ps d i w K y. returned_back en f y.1) q.0 u control q.1
+    ended_goes u control l e en (inl q) = absurd en
 
   -- who runs has come to an end
   ended : (step : Step) → quiet.quiet source s ≡ step → Ends s s.run.control → EndsTo s s.callers step
   ended step e en = subst (EndsTo s s.callers) e (ends_to s source s.run.control en)
 
-  goes_at : Returns t few source s s.run.control s.callers → (u : State) (l : List Todo) → u.run.control ≡ l → quiet.quiet source s ≡ Goes u → Joins s l → StandsOf t few u l
-  goes_at f u (piece.Rest (src.Scoped c ss) ∷ todo) control e (inl none) = λ k i d. absurd (none_plain t c none (k, i, d))
-  goes_at f u (piece.Rest (src.Scoped c ss) ∷ todo) control e (inr q) =
+  goes_at : (u : State) (l : List Todo) → u.run.control ≡ l → quiet.quiet source s ≡ Goes u → Joins s l → StandsOf t few u l
+  goes_at u (piece.Rest (src.Scoped c ss) ∷ todo) control e (inl none) = λ k i d. absurd (none_plain t c none (k, i, d))
+  goes_at u (piece.Rest (src.Scoped c ss) ∷ todo) control e (inr q) =
       let a : Goes (at (piece.Rest (src.Scoped c ss) ∷ todo) s.run.operands s) ≡ Goes u = sym (leaves q.0 c ss todo q.1) ∙ e in
       let same : at (piece.Rest (src.Scoped c ss) ∷ todo) s.run.operands s ≡ u = cc in
       subst (λ u. Claim u c todo) same (left_stands q.0 c ss todo q.1)
-  goes_at f u (piece.Within line ∷ (piece.Rest (src.Scoped c ss) ∷ todo)) control e (inl none) = λ k i d. absurd (none_plain t c none (k, i, d))
-  goes_at f u (piece.Within line ∷ (piece.Rest (src.Scoped c ss) ∷ todo)) control e (inr q) =
+  goes_at u (piece.Within line ∷ (piece.Rest (src.Scoped c ss) ∷ todo)) control e (inl none) = λ k i d. absurd (none_plain t c none (k, i, d))
+  goes_at u (piece.Within line ∷ (piece.Rest (src.Scoped c ss) ∷ todo)) control e (inr q) =
       let a : Goes (at (piece.Within line ∷ (piece.Rest (src.Scoped c ss) ∷ todo)) (below s.run.operands) s) ≡ Goes u = sym (drops line c ss todo q) ∙ e in
       let same : at (piece.Within line ∷ (piece.Rest (src.Scoped c ss) ∷ todo)) (below s.run.operands) s ≡ u = cc in
       subst (λ u. Claim u c todo) same (dropped_stands line c ss todo q)
-  goes_at f u (piece.DropNow ∷ (piece.Within line ∷ (piece.Rest (src.Scoped c ss) ∷ todo))) control e (inl none) = λ k i d. absurd (none_plain t c none (k, i, d))
-  goes_at f u (piece.DropNow ∷ (piece.Within line ∷ (piece.Rest (src.Scoped c ss) ∷ todo))) control e (inr q) =
-      ended_goes line c ss todo f u control s.run.control refl q (ended (Goes u) e q)
-  goes_at f u l control e j = tt
+  goes_at u (piece.DropNow ∷ (piece.Within line ∷ (piece.Rest (src.Scoped c ss) ∷ todo))) control e (inl none) = λ k i d. absurd (none_plain t c none (k, i, d))
+  goes_at u (piece.DropNow ∷ (piece.Within line ∷ (piece.Rest (src.Scoped c ss) ∷ todo))) control e (inr q) =
+      ended_goes line c ss todo u control s.run.control refl q (ended (Goes u) e q)
+  goes_at u l control e j = tt
 
   ticks_at : (u : State) (l : List Todo) → u.run.control ≡ l → quiet.quiet source s ≡ Ticks u → Joins s l → StandsOf t few u l
   ticks_at u (piece.Rest (src.Scoped c ss) ∷ todo) control e (inl none) = λ k i d. absurd (none_plain t c none (k, i, d))
@@ -210,7 +214,7 @@ module _ (t : Table) (few : Few) (source : Source) (Z : ℕ → ℕ → Type 0) 
   behind (ask.Fault n) u e j = tt
   behind r u e j = asks_at r (λ q. absurd (cc)) (λ n q. absurd (cc)) u u.run.control refl e j
 
-  pub stands : Returns t few source s s.run.control s.callers → (step : Step) → quiet.quiet source s ≡ step → StepJoins s step → StepStands step
-  stands f (Goes u) e j = goes_at f u u.run.control refl e j
-  stands f (Ticks u) e j = ticks_at u u.run.control refl e j
-  stands f (Asks r u) e j = behind r u e j
+  pub stands : (step : Step) → quiet.quiet source s ≡ step → StepJoins s step → StepStands step
+  stands (Goes u) e j = goes_at u u.run.control refl e j
+  stands (Ticks u) e j = ticks_at u u.run.control refl e j
+  stands (Asks r u) e j = behind r u e j

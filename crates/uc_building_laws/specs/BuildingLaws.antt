@@ -1,5 +1,5 @@
 -- What a constructor leaves.
-use Rattle.std.specs.Prelude.{◌≡◌, ℕ, ◌⊎◌, true, false, List, [], ◌∷◌, length, drop, slice_get, Some}
+use Rattle.std.specs.Prelude.{◌≡◌, ℕ, ◌⊎◌, false, List, [], ◌∷◌, drop, slice_get, Some}
 use Rattle.uc_tree.specs.Programs.{Program}
 use Rattle.uc_tree.specs.Source.{CleanUp, Variable, Builder, Routine, Source, routine_of}
 use Rattle.uc_entry.specs.declared.request.Answer.{Answer}
@@ -8,7 +8,6 @@ use Rattle.uc_machine.specs.declared.exec.Owner.TheVariants.{Frame}
 use Rattle.uc_machine.specs.Pieces as piece
 use Rattle.uc_machine.specs.Pieces.{FieldAt, Value, Todo, Active, Goes, top, below, further, loaded}
 use Rattle.uc_machine.specs.Quiet.{State, quiet, first_state}
-use Rattle.uc_machine.specs.Raising.{arrives}
 use Rattle.uc_machine.specs.Answering.{answered}
 use Rattle.uc_scope_laws.specs.Layout.{Sized}
 use Rattle.uc_scope_laws.specs.RoomStacks.{StackState}
@@ -59,15 +58,9 @@ module _ (t : Table) (few : Few) (source : Source) (s : State) where
       (u : State) → quiet source s ≡ Goes u → loaded (top (below s.run.operands)) u.env ≡ top s.run.operands
   BuildsAt todo = Unit {0}
 
-  -- who is left by a return that is over there is none that has built the object of the scope that opens next
-  abbrev pub Returns : List Todo → List Active → Type 0
-  Returns (piece.Unwind ∷ []) (b ∷ older) = arrives s.run.raised (length s.callers) ≡ true → NoScope b.control
-  Returns todo cs = Unit {0}
-
   -- and scopes of objects open behind what has built these
   pub record Fair : Type 0 where
     pub at : BuildsAt s.run.control
-    pub returns : Returns s.run.control s.callers
     pub joins : StepJoins s (quiet source s)
 
 -- where one of these waits, in the frame of a depth, for the scope of an object, that lies before a cell

@@ -26,7 +26,7 @@ use Rattle.uc_life_laws.specs.Opened.{any}
 use Rattle.uc_life_laws.specs.OpenedRuns.{MeetsObjects}
 use Rattle.uc_building_laws.specs.Building.{MakesAll}
 use Rattle.uc_building_laws.specs.BuildingStates.{Awaits, variable}
-use Rattle.uc_building_laws.specs.BuildingLaws.{BuildsAt, Returns}
+use Rattle.uc_building_laws.specs.BuildingLaws.{BuildsAt}
 
 module _ (t : Table) (few : Few) (source : Source) (s : State) where
   -- the constructor r of the class i binds all fields in which something is bound to its parameters and to fields; and no constructor and no
@@ -47,11 +47,10 @@ module _ (t : Table) (few : Few) (source : Source) (s : State) where
   RemainsAt (BindNow ∷ todo) = BuildsAt t few source s (BindNow ∷ todo)
   RemainsAt todo = Unit {0}
 
-  -- what is left to find of how objects are built: their constructors bind so; what is bound at a field of the object at hand is held there behind
-  -- the step; and no return is over at the end of such a constructor
-  pub record Remains : Type 0 where
-    pub at : RemainsAt s.run.control
-    pub returns : Returns t few source s s.run.control s.callers
+  -- what is left to find of how objects are built: their constructors bind so, and what is bound at a field of the object at hand is held there
+  -- behind the step
+  abbrev pub Remains : Type 0
+  Remains = RemainsAt s.run.control
 
 -- a step finds what it is to find: where the scope of an array of objects opens, they hold what is known; what is left to find of how objects are
 -- built; and the rest as where nothing is told of objects
