@@ -1,0 +1,323 @@
+-- In each run executions are made by others that were made before: a new name is none of those that were there.
+use Rattle.std.proofs.Common.{◌≡◌, ℕ, suc, ◌<◌, ◌≤◌, Bool, true, false, List, [], ◌∷◌, ◌++◌, Option, Some, None, refl, sym, ap, ◌∙◌, subst, arith}
+use Rattle.std.specs.Prelude.{if◌then◌else◌}
+use Rattle.std.proofs.lemmas.Bool.{eqb-true}
+use Rattle.uc_tree.specs.Source.{Source}
+use Rattle.uc_entry.specs.declared.entry.Entry.{Entry}
+use Rattle.uc_entry.specs.declared.entry.Options.{Options}
+use Rattle.uc_entry.specs.declared.request.Asked.{Asked}
+use Rattle.uc_entry.specs.declared.request.Request.{Request}
+use Rattle.uc_entry.specs.declared.request.Request.TheVariants as ask
+use Rattle.uc_acts.specs.Journal.{Journal, held, is_over}
+use Rattle.uc_acts.specs.KernelRuns.{InRange, Fits}
+use Rattle.uc_acts.specs.Known.{task_count, owner}
+use Rattle.uc_acts.specs.Acts.{act, lone_limit}
+use Rattle.uc_acts.proofs.Bounds.{over_limit}
+use Rattle.uc_machine.specs.declared.exec.Exec.{Exec}
+use Rattle.uc_machine.specs.declared.exec.Home.{Home}
+use Rattle.uc_machine.specs.declared.exec.Home.TheVariants as home
+use Rattle.uc_machine.specs.Executions.{exec_eq, members_at}
+use Rattle.uc_machine.specs.Switches.{new_exec}
+use Rattle.uc_machine.specs.Pieces.{State, Members, Step, Asks}
+use Rattle.uc_machine.specs.Quiet.{home_at}
+use Rattle.uc_machine.specs.Answering.{answered}
+use Rattle.uc_machine.specs.Rides.{Rides, slices, goes_on, ticks, asks}
+use Rattle.uc_meaning.specs.Runs.{World, May, Runs, AsksIn, begun, more, gives, no_room, acts, drawn}
+use Rattle.uc_program_laws.specs.Fitting.{RunFits}
+use Rattle.uc_program_laws.proofs.Others.{RunRests, run_rests}
+use Rattle.uc_hand_laws.proofs.DeepWorlds.{DeepWorld, deep_run}
+use Rattle.uc_value_laws.specs.Opens.{RideMeets, MayMeet, RunMeets}
+use Rattle.uc_life_laws.specs.Knowing.{main_of}
+use Rattle.uc_name_laws.specs.Below.{IsBelow}
+use Rattle.uc_name_laws.specs.NameSteps.{Named, StepNamed, BornBelow, NamedBehind, Grows, IsBorn, Spares}
+use Rattle.uc_name_laws.proofs.Homes.{no_both, none_some, same_exec, exec_self}
+use Rattle.uc_name_laws.proofs.Values.{below_more}
+use Rattle.uc_name_laws.proofs.Walk.{walk}
+use Rattle.uc_name_laws.proofs.Births.{law_new}
+use Rattle.uc_named_runs.specs.NamedRuns.{is_here}
+use Rattle.uc_named_runs.proofs.Riding.{RideNamed, ride_named, run_more, ride_more}
+use Rattle.uc_named_runs.proofs.Worlds.{WorldNamed, RunNamed, run_named, vacuous, known, start, ride, after_by, after_more, after_spawn, now_more, own_stays}
+use Rattle.uc_rooted_runs.specs.Births.{Births, MadeBy, MakesLater, SpawnsLater, MaySpawnLater, RunSpawnsLater, AllMadeLater, LawBirths}
+
+-- one more is made by another
+
+abbrev made_now : Births → Exec → Exec → Births
+made_now b n by = record {
+  parent = λ m. if exec_eq m n then by else b.parent m;
+  rank = λ m. if exec_eq m n then suc (b.rank by) else b.rank m;
+}
+
+-- of those that were made by now the same is told
+record Keeps (serials : Home → ℕ) (b c : Births) : Type 0 where
+  parents : (m : Exec) → IsBelow serials m → c.parent m ≡ b.parent m
+  ranks : (m : Exec) → IsBelow serials m → c.rank m ≡ b.rank m
+
+keeps_same : (serials : Home → ℕ) (b : Births) → Keeps serials b b
+keeps_same serials b = record { parents = λ m h. refl; ranks = λ m h. refl }
+
+keeps_on : (before behind : Home → ℕ) → ((h : Home) → before h ≤ behind h) → (a b c : Births) → Keeps before a b → Keeps behind b c → Keeps before a c
+keeps_on before behind le a b c h k = record {
+  parents = λ m x. k.parents m (below_more before behind le m x) ∙ h.parents m x;
+  ranks = λ m x. k.ranks m (below_more before behind le m x) ∙ h.ranks m x;
+}
+
+module _ (serials : Home → ℕ) (b : Births) (n by : Exec) (new : IsBelow serials n → ⊥) where
+  apart : (m : Exec) → IsBelow serials m → exec_eq m n ≡ false
+  apart m h = at (exec_eq m n) refl
+    where
+      at : (c : Bool) → exec_eq m n ≡ c → exec_eq m n ≡ false
+      at true e = absurd (new (subst (IsBelow serials) (same_exec m n e) h))
+      at false e = e
+
+  made_keeps : Keeps serials b (made_now b n by)
+  made_keeps = record {
+    parents = λ m h. ap (λ c. if c then by else b.parent m) (apart m h);
+    ranks = λ m h. ap (λ c. if c then suc (b.rank by) else b.rank m) (apart m h);
+  }
+
+  made_by : IsBelow serials by → MadeBy (made_now b n by) n by
+  made_by h =
+      let new_rank : (made_now b n by).rank n ≡ suc (b.rank by) = ap (λ c. if c then suc (b.rank by) else b.rank n) (exec_self n) in
+      let old_rank : (made_now b n by).rank by ≡ b.rank by = ap (λ c. if c then suc (b.rank by) else b.rank by) (apart by h) in
+      record {
+        parent = ap (λ c. if c then by else b.parent n) (exec_self n);
+        later = omega (arith, new_rank, old_rank);
+      }
+
+-- what is told of one that was made goes on to be
+later_kept : (serials : Home → ℕ) (b c : Births) → Keeps serials b c → (n by : Exec) → IsBelow serials n → IsBelow serials by → MadeBy b n by → MadeBy c n by
+later_kept serials b c k n by h i y =
+    let p = k.ranks n h in
+    let q = k.ranks by i in
+    let l = y.later in
+    record { parent = k.parents n h ∙ y.parent; later = omega (arith, p, q, l) }
+
+-- all that a state makes, by one that was made
+pub record MakesBelow (source : Source) (serials : Home → ℕ) (b : Births) (s : State) : Type 0 where
+  running : IsBelow serials s.env.exec
+  born : (n : Exec) → IsBorn source s n → IsBelow serials n
+  later : MakesLater source b s
+
+makes_more : (source : Source) (before behind : Home → ℕ) → ((h : Home) → before h ≤ behind h) → (b c : Births) → Keeps before b c → (s : State) → MakesBelow source before b s → MakesBelow source behind c s
+makes_more source before behind le b c k s h = record {
+  running = below_more before behind le s.env.exec h.running;
+  born = λ n x. below_more before behind le n (h.born n x);
+  later = λ n x. later_kept before b c k n s.env.exec (h.born n x) h.running (h.later n x);
+}
+
+-- a step
+
+record Next (source : Source) (before behind : Home → ℕ) (b : Births) (s : State) : Type 0 where
+  births : Births
+  keeps : Keeps before b births
+  makes : MakesBelow source behind births s
+
+module _ (source : Source) (here : Home → Bool) where
+  next : (serials : Home → ℕ) (s : State) → Named here false serials s → (h : NamedBehind source here false serials s) → (b : Births) → Next source serials h.serials b s
+  next serials s k h b = by (members_at (home_at s.run.this s.env) s.env) refl
+    where
+      at : Home
+      at = home_at s.run.this s.env
+
+      grown : (n : Exec) → IsBelow serials n → IsBelow h.serials n
+      grown n x = below_more serials h.serials h.grows.more n x
+
+      in_hand : (n : Exec) (x : IsBorn source s n) → members_at (home_at s.run.this s.env) s.env ≡ Some x.members
+      in_hand n x = ap (λ q. members_at q s.env) (sym (ap (λ (m : Exec). m.home) x.named)) ∙ x.in_hand
+
+      by : (o : Option Members) → members_at (home_at s.run.this s.env) s.env ≡ o → Next source serials h.serials b s
+      by None e = record {
+        births = b;
+        keeps = keeps_same serials b;
+        makes = record {
+          running = grown s.env.exec k.names.env_named.exec_below;
+          born = h.born;
+          later = λ n x. absurd (none_some x.members (members_at (home_at s.run.this s.env) s.env) e (in_hand n x));
+        };
+      }
+      by (Some m) e =
+          let new : IsBelow serials (new_exec (home_at s.run.this s.env) s.env) → ⊥ = law_new.unnamed here false serials s k (home_at s.run.this s.env) m e in
+          record {
+            births = made_now b (new_exec (home_at s.run.this s.env) s.env) s.env.exec;
+            keeps = made_keeps serials b (new_exec (home_at s.run.this s.env) s.env) s.env.exec new;
+            makes = record {
+              running = grown s.env.exec k.names.env_named.exec_below;
+              born = h.born;
+              later = λ n x. subst (λ q. MadeBy (made_now b (new_exec (home_at s.run.this s.env) s.env) s.env.exec) q s.env.exec) (sym x.named) (made_by serials b (new_exec (home_at s.run.this s.env) s.env) s.env.exec new k.names.env_named.exec_below);
+            };
+          }
+
+  -- a ride, with as many executions as it has made
+
+  record Ridden (before now : Home → ℕ) (b : Births) (s : State) (q : ℕ) (u : State) (k : ℕ) (a : Asked) (r : Rides source s q u k a) : Type 0 where
+    births : Births
+    keeps : Keeps before b births
+    makes : RideMeets (MakesBelow source now births) source s q u k a r
+
+  ridden : (serials : Home → ℕ) {s u : State} {q k : ℕ} {a : Asked} (r : Rides source s q u k a) (h : Named here false serials s) (f : false ≡ true → RideMeets Spares source s q u k a r) (b : Births) → Ridden serials (ride_named source here false serials r h f).now b s q u k a r
+  ridden serials slices h f b = record { births = b; keeps = keeps_same serials b; makes = tt }
+  ridden serials (goes_on {s} e r) h f b =
+      let x = walk source here false serials s h (λ i. (f i).0) in
+      let y = next serials s h x b in
+      let named = subst (StepNamed here false x.serials) e x.named in
+      let z = ridden x.serials r named (λ i. (f i).1) y.births in
+      let all = ride_named source here false x.serials r named (λ i. (f i).1) in
+      record {
+        births = z.births;
+        keeps = keeps_on serials x.serials x.grows.more b y.births z.births y.keeps z.keeps;
+        makes = (makes_more source x.serials all.now all.grows.more y.births z.births z.keeps s y.makes, z.makes);
+      }
+  ridden serials (ticks {s} e r) h f b =
+      let x = walk source here false serials s h (λ i. (f i).0) in
+      let y = next serials s h x b in
+      let named = subst (StepNamed here false x.serials) e x.named in
+      let z = ridden x.serials r named (λ i. (f i).1) y.births in
+      let all = ride_named source here false x.serials r named (λ i. (f i).1) in
+      record {
+        births = z.births;
+        keeps = keeps_on serials x.serials x.grows.more b y.births z.births y.keeps z.keeps;
+        makes = (makes_more source x.serials all.now all.grows.more y.births z.births z.keeps s y.makes, z.makes);
+      }
+  ridden serials (asks {s} {t} {q} {r} e) h f b =
+      let x = walk source here false serials s h f in
+      let y = next serials s h x b in
+      record { births = y.births; keeps = y.keeps; makes = y.makes }
+
+-- a run
+
+module _ (source : Source) (input : List ℕ) (opts : Options) (range : InRange opts) where
+  -- what is asked at the end of an act: a task that is spawned is made by who asks
+  abbrev spawned_now : Request → Births → Exec → Births
+  spawned_now (ask.Spawn o) b by = made_now b (main_of o) by
+  spawned_now q b by = b
+
+  one_not_none : (t : ℕ) (ts : List ℕ) → ts ≡ t ∷ [] → ts ≡ [] → ⊥
+  one_not_none t ts e f = cc
+
+  record Spawned (before behind : Home → ℕ) (b : Births) (q : Request) (s : State) : Type 0 where
+    births : Births
+    keeps : Keeps before b births
+    running : IsBelow behind s.env.exec
+    main : (o : ℕ) → q ≡ ask.Spawn o → IsBelow behind (main_of o)
+    later : SpawnsLater births q s
+
+  spawned : (now : Home → ℕ) (q : Request) (s : State) → IsBelow now s.env.exec → ((o : ℕ) → q ≡ ask.Spawn o → now (home.Task o) ≡ 0) → (b : Births) → Spawned now (after_by q now) b q s
+  spawned now (ask.Spawn o) s h f b =
+      let none = f o refl in
+      let new : IsBelow now (main_of o) → ⊥ = λ l. omega (arith, l, none) in
+      record {
+        births = made_now b (main_of o) s.env.exec;
+        keeps = made_keeps now b (main_of o) s.env.exec new;
+        running = below_more now (after_by (ask.Spawn o) now) (after_more (ask.Spawn o) now) s.env.exec h;
+        main = λ k e. let one = after_spawn (ask.Spawn o) now k e in omega (arith, one);
+        later = made_by now b (main_of o) s.env.exec new h;
+      }
+  spawned now q s h f b = record {
+    births = b;
+    keeps = keeps_same now b;
+    running = below_more now (after_by q now) (after_more q now) s.env.exec h;
+    main = λ o e. let one = after_spawn q now o e in omega (arith, one);
+    later = tt;
+  }
+
+  -- who asks, and the main of the task that is spawned, were made
+  record SpawnsBelow (serials : Home → ℕ) (b : Births) (q : Request) (s : State) : Type 0 where
+    running : IsBelow serials s.env.exec
+    main : (o : ℕ) → q ≡ ask.Spawn o → IsBelow serials (main_of o)
+    later : SpawnsLater b q s
+
+  spawns_more : (before behind : Home → ℕ) → ((h : Home) → before h ≤ behind h) → (b c : Births) → Keeps before b c → (q : Request) (s : State) → SpawnsBelow before b q s → SpawnsBelow behind c q s
+  spawns_more before behind le b c k q s h = record {
+    running = below_more before behind le s.env.exec h.running;
+    main = λ o e. below_more before behind le (main_of o) (h.main o e);
+    later = by q (λ o e. h.main o e) h.later;
+  }
+    where
+      by : (q : Request) → ((o : ℕ) → q ≡ ask.Spawn o → IsBelow before (main_of o)) → SpawnsLater b q s → SpawnsLater c q s
+      by (ask.Spawn o) m l = later_kept before b c k (main_of o) s.env.exec (m o refl) h.running l
+      by q m l = tt
+
+  MaySpawnBelow : (serials : Home → ℕ) (b : Births) {j : Journal} {w : World} {a : List Entry} {v : World} → May source opts input j w a v → Type 0
+  MaySpawnBelow serials b (gives p t s h) = Unit {0}
+  MaySpawnBelow serials b (no_room p t s h) = Unit {0}
+  MaySpawnBelow serials b (acts p t n s asked d) = SpawnsBelow serials b asked.request s
+
+  RunSpawnsBelow : (serials : Home → ℕ) (b : Births) {j : Journal} {w : World} → Runs source input opts j w → Type 0
+  RunSpawnsBelow serials b begun = Unit {0}
+  RunSpawnsBelow serials b (more r o m) = RunSpawnsBelow serials b r × MaySpawnBelow serials b m
+
+  module _ (before behind : Home → ℕ) (le : (h : Home) → before h ≤ behind h) (b c : Births) (k : Keeps before b c) where
+    may_spawn_more : {j : Journal} {w : World} {a : List Entry} {v : World} (m : May source opts input j w a v) → MaySpawnBelow before b m → MaySpawnBelow behind c m
+    may_spawn_more (gives p t s h) x = tt
+    may_spawn_more (no_room p t s h) x = tt
+    may_spawn_more (acts p t n s asked d) x = spawns_more before behind le b c k asked.request s x
+
+    run_spawns_more : {j : Journal} {w : World} (r : Runs source input opts j w) → RunSpawnsBelow before b r → RunSpawnsBelow behind c r
+    run_spawns_more begun x = tt
+    run_spawns_more (more r o m) x = (run_spawns_more r x.0, may_spawn_more m x.1)
+
+  may_spawn_told : (serials : Home → ℕ) (b : Births) {j : Journal} {w : World} {a : List Entry} {v : World} (m : May source opts input j w a v) → MaySpawnBelow serials b m → MaySpawnLater b source opts input j w a v m
+  may_spawn_told serials b (gives p t s h) x = tt
+  may_spawn_told serials b (no_room p t s h) x = tt
+  may_spawn_told serials b (acts p t n s asked d) x = x.later
+
+  run_spawns_told : (serials : Home → ℕ) (b : Births) {j : Journal} {w : World} (r : Runs source input opts j w) → RunSpawnsBelow serials b r → RunSpawnsLater b source input opts j w r
+  run_spawns_told serials b begun x = tt
+  run_spawns_told serials b (more r o m) x = (run_spawns_told serials b r x.0, may_spawn_told serials b m x.1)
+
+  record RunMade (serials : Home → ℕ) {j : Journal} {w : World} (r : Runs source input opts j w) : Type 0 where
+    births : Births
+    makes : RunMeets (MakesBelow source serials births) source input opts j w r
+    spawns : RunSpawnsBelow serials births r
+
+  -- what is spawned is no task's own, and nothing was made there
+  module _ {j : Journal} {w : World} (rests : RunRests source input opts j w) (on : is_over j ≡ false) (deep : DeepWorld j w) (serials : Home → ℕ) (x : WorldNamed serials j w) (p t n : ℕ) (s : State) (asked : Asked) (d : AsksIn source opts j w p t n s asked) (f : Fits opts source.sites j t asked.request) (going : is_over (j ++ act opts source.sites input j p t n asked) ≡ false) where
+    none_there : (o : ℕ) → asked.request ≡ ask.Spawn o → (ride source input opts range rests on deep serials x p t n s asked d f going).now (home.Task o) ≡ 0
+    none_there o e =
+        let free : owner o j ≡ [] = (subst (Fits opts source.sites j t) e f).1 in
+        let lt = known source input opts range rests on serials x p t d.runs in
+        let other : is_here (w.tasks t).env.own (held t j) (home.Task o) ≡ false = at (is_here (w.tasks t).env.own (held t j) (home.Task o)) refl free lt in
+        (ride source input opts range rests on deep serials x p t n s asked d f going).grows.same (home.Task o) other ∙ x.unowned o free
+      where
+        at : (c : Bool) → is_here (w.tasks t).env.own (held t j) (home.Task o) ≡ c → owner o j ≡ [] → t < task_count j → is_here (w.tasks t).env.own (held t j) (home.Task o) ≡ false
+        at true g free lt = absurd (one_not_none t (owner o j) (ap (λ q. owner q j) (own_is o (w.tasks t).env.own g) ∙ x.owned t lt) free)
+          where
+            own_is : (a own : ℕ) → is_here own (held t j) (home.Task a) ≡ true → a ≡ own
+            own_is a own g = eqb-true a own g
+        at false g free lt = g
+
+  run_made : {j : Journal} {w : World} (r : Runs source input opts j w) (f : RunFits source input opts j w r) (on : is_over j ≡ false) → RunMade (run_named source input opts range r f on).serials r
+  run_made begun f on = record { births = record { parent = λ m. m; rank = λ m. 0 }; makes = tt; spawns = tt }
+  run_made (more {j} {w} r o (gives p t v le)) f on =
+      let y = run_made r f.0 o in
+      record { births = y.births; makes = (y.makes, tt); spawns = (y.spawns, tt) }
+  run_made (more {j} r o (no_room p t v le)) f on = no_both (is_over (j ++ lone_limit ∷ [])) (over_limit j 0 0) on
+  run_made (more {j} {w} r o (acts p t n s asked d)) f on =
+      let y = run_made r f.0 o in
+      let x = run_named source input opts range r f.0 o in
+      let rests = run_rests source input opts range r f.0 o in
+      let deep = deep_run source input opts range r f.0 o in
+      let k = ride source input opts range rests o deep x.serials x.world p t n s asked d f.1 on in
+      let z = ridden source (is_here (w.tasks t).env.own (held t j)) x.serials d.rides (start source input opts range rests o x.serials x.world p t d.runs d.given d.told) (λ u. vacuous u) y.births in
+      let m = spawned k.now asked.request s k.named.names.env_named.exec_below (none_there rests o deep x.serials x.world p t n s asked d f.1 on) z.births in
+      let le = now_more source input opts range rests o deep x.serials x.world p t n s asked d f.1 on in
+      let all = keeps_on x.serials k.now k.grows.more y.births z.births m.births z.keeps m.keeps in
+      record {
+        births = m.births;
+        makes = (
+            run_more source (MakesBelow source x.serials y.births) (MakesBelow source (after_by asked.request k.now) m.births) (λ s h. makes_more source x.serials (after_by asked.request k.now) le y.births m.births all s h) opts input r y.makes,
+            ride_more source (MakesBelow source k.now z.births) (MakesBelow source (after_by asked.request k.now) m.births) (λ s h. makes_more source k.now (after_by asked.request k.now) (after_more asked.request k.now) z.births m.births m.keeps s h) d.rides z.makes);
+        spawns = (
+            run_spawns_more x.serials (after_by asked.request k.now) le y.births m.births all r y.spawns,
+            record { running = m.running; main = m.main; later = m.later });
+      }
+
+pub law_births : LawBirths
+law_births source input opts j w r range fits on =
+    let x = run_named source input opts range r fits on in
+    let y = run_made source input opts range r fits on in
+    record {
+      births = y.births;
+      made = run_more source (MakesBelow source x.serials y.births) (MakesLater source y.births) (λ s h. h.later) opts input r y.makes;
+      spawned = run_spawns_told source input opts range x.serials y.births r y.spawns;
+    }

@@ -1,0 +1,4 @@
+pub mod Births
+pub mod FreshStates
+pub mod FreshRuns
+pub mod Forgetting

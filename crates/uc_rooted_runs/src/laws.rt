@@ -1,0 +1,21 @@
+// The laws: each is a function whose contract is the law.
+
+ghost use Rattle.uc_rooted_runs.specs.Births.{LawBirths};
+ghost use Rattle.uc_rooted_runs.specs.Forgetting.{LawForgetting};
+ghost use Rattle.uc_rooted_runs.specs.FreshRuns.{LawFresh};
+
+/// In each run, as long as all that was asked so far fits, each execution is made by one that was made before it.
+pub fn law_births()
+    ensures { LawBirths }
+{}
+
+/// Executions that have not begun are as they were made, as long as no step binds what stands in their frames.
+pub fn law_fresh()
+    ensures { LawFresh }
+{}
+
+/// In a run nobody has at hand what has gone, where behind each act by which an object goes nobody is to clean
+/// up that in which it is at home, and what executions have of others stands in what those have.
+pub fn law_forgetting()
+    ensures { LawForgetting }
+{}
