@@ -3,3 +3,8 @@ pub mod FreshKeeping
 pub mod FreshSteps
 pub mod FreshRuns
 pub mod Forgetting
+pub mod OutlastKeeping
+pub mod OutlastSteps
+pub mod OutlastWalk
+pub mod Outlasting
+pub mod Upwards

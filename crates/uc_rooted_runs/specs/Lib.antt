@@ -2,3 +2,5 @@ pub mod Births
 pub mod FreshStates
 pub mod FreshRuns
 pub mod Forgetting
+pub mod Outlasting
+pub mod Upwards

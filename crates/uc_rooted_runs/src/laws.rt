@@ -3,6 +3,8 @@
 ghost use Rattle.uc_rooted_runs.specs.Births.{LawBirths};
 ghost use Rattle.uc_rooted_runs.specs.Forgetting.{LawForgetting};
 ghost use Rattle.uc_rooted_runs.specs.FreshRuns.{LawFresh};
+ghost use Rattle.uc_rooted_runs.specs.Outlasting.{LawOutlasting};
+ghost use Rattle.uc_rooted_runs.specs.Upwards.{LawUpwards};
 
 /// In each run, as long as all that was asked so far fits, each execution is made by one that was made before it.
 pub fn law_births()
@@ -18,4 +20,15 @@ pub fn law_fresh()
 /// up that in which it is at home, and what executions have of others stands in what those have.
 pub fn law_forgetting()
     ensures { LawForgetting }
+{}
+
+/// What an execution was to clean up as it made another stays with it, as long as that is up and the marks that
+/// were there then are not reached.
+pub fn law_outlasting()
+    ensures { LawOutlasting }
+{}
+
+/// So what an execution that lives has of others stands in what the one that made it has, if it stood there then.
+pub fn law_upwards()
+    ensures { LawUpwards }
 {}
