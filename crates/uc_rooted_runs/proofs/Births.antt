@@ -37,31 +37,35 @@ use Rattle.uc_name_laws.proofs.Births.{law_new}
 use Rattle.uc_named_runs.specs.NamedRuns.{is_here}
 use Rattle.uc_named_runs.proofs.Riding.{RideNamed, ride_named, run_more, ride_more}
 use Rattle.uc_named_runs.proofs.Worlds.{WorldNamed, RunNamed, run_named, vacuous, known, start, ride, after_by, after_more, after_spawn, now_more, own_stays}
-use Rattle.uc_rooted_runs.specs.Births.{Births, MadeBy, MakesLater, SpawnsLater, MaySpawnLater, RunSpawnsLater, AllMadeLater, LawBirths}
+use Rattle.uc_rooted_runs.specs.Makers.{Placed, stacked, Makers, MadeBy}
+use Rattle.uc_rooted_runs.specs.Births.{MakesLater, SpawnsLater, MaySpawnLater, RunSpawnsLater, AllMadeLater, LawBirths}
 
 -- one more is made by another
 
-abbrev made_now : Births → Exec → Exec → Births
-made_now b n by = record {
+abbrev made_now : Makers → Exec → Exec → List Placed → Makers
+made_now b n by ps = record {
   parent = λ m. if exec_eq m n then by else b.parent m;
+  before = λ m. if exec_eq m n then ps else b.before m;
   rank = λ m. if exec_eq m n then suc (b.rank by) else b.rank m;
 }
 
 -- of those that were made by now the same is told
-record Keeps (serials : Home → ℕ) (b c : Births) : Type 0 where
+record Keeps (serials : Home → ℕ) (b c : Makers) : Type 0 where
   parents : (m : Exec) → IsBelow serials m → c.parent m ≡ b.parent m
+  befores : (m : Exec) → IsBelow serials m → c.before m ≡ b.before m
   ranks : (m : Exec) → IsBelow serials m → c.rank m ≡ b.rank m
 
-keeps_same : (serials : Home → ℕ) (b : Births) → Keeps serials b b
-keeps_same serials b = record { parents = λ m h. refl; ranks = λ m h. refl }
+keeps_same : (serials : Home → ℕ) (b : Makers) → Keeps serials b b
+keeps_same serials b = record { parents = λ m h. refl; befores = λ m h. refl; ranks = λ m h. refl }
 
-keeps_on : (before behind : Home → ℕ) → ((h : Home) → before h ≤ behind h) → (a b c : Births) → Keeps before a b → Keeps behind b c → Keeps before a c
+keeps_on : (before behind : Home → ℕ) → ((h : Home) → before h ≤ behind h) → (a b c : Makers) → Keeps before a b → Keeps behind b c → Keeps before a c
 keeps_on before behind le a b c h k = record {
   parents = λ m x. k.parents m (below_more before behind le m x) ∙ h.parents m x;
+  befores = λ m x. k.befores m (below_more before behind le m x) ∙ h.befores m x;
   ranks = λ m x. k.ranks m (below_more before behind le m x) ∙ h.ranks m x;
 }
 
-module _ (serials : Home → ℕ) (b : Births) (n by : Exec) (new : IsBelow serials n → ⊥) where
+module _ (serials : Home → ℕ) (b : Makers) (n by : Exec) (ps : List Placed) (new : IsBelow serials n → ⊥) where
   apart : (m : Exec) → IsBelow serials m → exec_eq m n ≡ false
   apart m h = at (exec_eq m n) refl
     where
@@ -69,51 +73,53 @@ module _ (serials : Home → ℕ) (b : Births) (n by : Exec) (new : IsBelow seri
       at true e = absurd (new (subst (IsBelow serials) (same_exec m n e) h))
       at false e = e
 
-  made_keeps : Keeps serials b (made_now b n by)
+  made_keeps : Keeps serials b (made_now b n by ps)
   made_keeps = record {
     parents = λ m h. ap (λ c. if c then by else b.parent m) (apart m h);
+    befores = λ m h. ap (λ c. if c then ps else b.before m) (apart m h);
     ranks = λ m h. ap (λ c. if c then suc (b.rank by) else b.rank m) (apart m h);
   }
 
-  made_by : IsBelow serials by → MadeBy (made_now b n by) n by
+  made_by : IsBelow serials by → MadeBy (made_now b n by ps) n by ps
   made_by h =
-      let new_rank : (made_now b n by).rank n ≡ suc (b.rank by) = ap (λ c. if c then suc (b.rank by) else b.rank n) (exec_self n) in
-      let old_rank : (made_now b n by).rank by ≡ b.rank by = ap (λ c. if c then suc (b.rank by) else b.rank by) (apart by h) in
+      let new_rank : (made_now b n by ps).rank n ≡ suc (b.rank by) = ap (λ c. if c then suc (b.rank by) else b.rank n) (exec_self n) in
+      let old_rank : (made_now b n by ps).rank by ≡ b.rank by = ap (λ c. if c then suc (b.rank by) else b.rank by) (apart by h) in
       record {
         parent = ap (λ c. if c then by else b.parent n) (exec_self n);
+        before = ap (λ c. if c then ps else b.before n) (exec_self n);
         later = omega (arith, new_rank, old_rank);
       }
 
 -- what is told of one that was made goes on to be
-later_kept : (serials : Home → ℕ) (b c : Births) → Keeps serials b c → (n by : Exec) → IsBelow serials n → IsBelow serials by → MadeBy b n by → MadeBy c n by
-later_kept serials b c k n by h i y =
+later_kept : (serials : Home → ℕ) (b c : Makers) → Keeps serials b c → (n by : Exec) (ps : List Placed) → IsBelow serials n → IsBelow serials by → MadeBy b n by ps → MadeBy c n by ps
+later_kept serials b c k n by ps h i y =
     let p = k.ranks n h in
     let q = k.ranks by i in
     let l = y.later in
-    record { parent = k.parents n h ∙ y.parent; later = omega (arith, p, q, l) }
+    record { parent = k.parents n h ∙ y.parent; before = k.befores n h ∙ y.before; later = omega (arith, p, q, l) }
 
 -- all that a state makes, by one that was made
-pub record MakesBelow (source : Source) (serials : Home → ℕ) (b : Births) (s : State) : Type 0 where
+pub record MakesBelow (source : Source) (serials : Home → ℕ) (b : Makers) (s : State) : Type 0 where
   running : IsBelow serials s.env.exec
   born : (n : Exec) → IsBorn source s n → IsBelow serials n
   later : MakesLater source b s
 
-makes_more : (source : Source) (before behind : Home → ℕ) → ((h : Home) → before h ≤ behind h) → (b c : Births) → Keeps before b c → (s : State) → MakesBelow source before b s → MakesBelow source behind c s
+makes_more : (source : Source) (before behind : Home → ℕ) → ((h : Home) → before h ≤ behind h) → (b c : Makers) → Keeps before b c → (s : State) → MakesBelow source before b s → MakesBelow source behind c s
 makes_more source before behind le b c k s h = record {
   running = below_more before behind le s.env.exec h.running;
   born = λ n x. below_more before behind le n (h.born n x);
-  later = λ n x. later_kept before b c k n s.env.exec (h.born n x) h.running (h.later n x);
+  later = λ n x. later_kept before b c k n s.env.exec (stacked (s.run ∷ s.callers)) (h.born n x) h.running (h.later n x);
 }
 
 -- a step
 
-record Next (source : Source) (before behind : Home → ℕ) (b : Births) (s : State) : Type 0 where
-  births : Births
+record Next (source : Source) (before behind : Home → ℕ) (b : Makers) (s : State) : Type 0 where
+  births : Makers
   keeps : Keeps before b births
   makes : MakesBelow source behind births s
 
 module _ (source : Source) (here : Home → Bool) where
-  next : (serials : Home → ℕ) (s : State) → Named here false serials s → (h : NamedBehind source here false serials s) → (b : Births) → Next source serials h.serials b s
+  next : (serials : Home → ℕ) (s : State) → Named here false serials s → (h : NamedBehind source here false serials s) → (b : Makers) → Next source serials h.serials b s
   next serials s k h b = by (members_at (home_at s.run.this s.env) s.env) refl
     where
       at : Home
@@ -138,23 +144,23 @@ module _ (source : Source) (here : Home → Bool) where
       by (Some m) e =
           let new : IsBelow serials (new_exec (home_at s.run.this s.env) s.env) → ⊥ = law_new.unnamed here false serials s k (home_at s.run.this s.env) m e in
           record {
-            births = made_now b (new_exec (home_at s.run.this s.env) s.env) s.env.exec;
-            keeps = made_keeps serials b (new_exec (home_at s.run.this s.env) s.env) s.env.exec new;
+            births = made_now b (new_exec (home_at s.run.this s.env) s.env) s.env.exec (stacked (s.run ∷ s.callers));
+            keeps = made_keeps serials b (new_exec (home_at s.run.this s.env) s.env) s.env.exec (stacked (s.run ∷ s.callers)) new;
             makes = record {
               running = grown s.env.exec k.names.env_named.exec_below;
               born = h.born;
-              later = λ n x. subst (λ q. MadeBy (made_now b (new_exec (home_at s.run.this s.env) s.env) s.env.exec) q s.env.exec) (sym x.named) (made_by serials b (new_exec (home_at s.run.this s.env) s.env) s.env.exec new k.names.env_named.exec_below);
+              later = λ n x. subst (λ q. MadeBy (made_now b (new_exec (home_at s.run.this s.env) s.env) s.env.exec (stacked (s.run ∷ s.callers))) q s.env.exec (stacked (s.run ∷ s.callers))) (sym x.named) (made_by serials b (new_exec (home_at s.run.this s.env) s.env) s.env.exec (stacked (s.run ∷ s.callers)) new k.names.env_named.exec_below);
             };
           }
 
   -- a ride, with as many executions as it has made
 
-  record Ridden (before now : Home → ℕ) (b : Births) (s : State) (q : ℕ) (u : State) (k : ℕ) (a : Asked) (r : Rides source s q u k a) : Type 0 where
-    births : Births
+  record Ridden (before now : Home → ℕ) (b : Makers) (s : State) (q : ℕ) (u : State) (k : ℕ) (a : Asked) (r : Rides source s q u k a) : Type 0 where
+    births : Makers
     keeps : Keeps before b births
     makes : RideMeets (MakesBelow source now births) source s q u k a r
 
-  ridden : (serials : Home → ℕ) {s u : State} {q k : ℕ} {a : Asked} (r : Rides source s q u k a) (h : Named here false serials s) (f : false ≡ true → RideMeets Spares source s q u k a r) (b : Births) → Ridden serials (ride_named source here false serials r h f).now b s q u k a r
+  ridden : (serials : Home → ℕ) {s u : State} {q k : ℕ} {a : Asked} (r : Rides source s q u k a) (h : Named here false serials s) (f : false ≡ true → RideMeets Spares source s q u k a r) (b : Makers) → Ridden serials (ride_named source here false serials r h f).now b s q u k a r
   ridden serials slices h f b = record { births = b; keeps = keeps_same serials b; makes = tt }
   ridden serials (goes_on {s} e r) h f b =
       let x = walk source here false serials s h (λ i. (f i).0) in
@@ -186,31 +192,28 @@ module _ (source : Source) (here : Home → Bool) where
 -- a run
 
 module _ (source : Source) (input : List ℕ) (opts : Options) (range : InRange opts) where
-  -- what is asked at the end of an act: a task that is spawned is made by who asks
-  abbrev spawned_now : Request → Births → Exec → Births
-  spawned_now (ask.Spawn o) b by = made_now b (main_of o) by
-  spawned_now q b by = b
+  -- a task that is spawned is made by who asks
 
   one_not_none : (t : ℕ) (ts : List ℕ) → ts ≡ t ∷ [] → ts ≡ [] → ⊥
   one_not_none t ts e f = cc
 
-  record Spawned (before behind : Home → ℕ) (b : Births) (q : Request) (s : State) : Type 0 where
-    births : Births
+  record Spawned (before behind : Home → ℕ) (b : Makers) (q : Request) (s : State) : Type 0 where
+    births : Makers
     keeps : Keeps before b births
     running : IsBelow behind s.env.exec
     main : (o : ℕ) → q ≡ ask.Spawn o → IsBelow behind (main_of o)
     later : SpawnsLater births q s
 
-  spawned : (now : Home → ℕ) (q : Request) (s : State) → IsBelow now s.env.exec → ((o : ℕ) → q ≡ ask.Spawn o → now (home.Task o) ≡ 0) → (b : Births) → Spawned now (after_by q now) b q s
+  spawned : (now : Home → ℕ) (q : Request) (s : State) → IsBelow now s.env.exec → ((o : ℕ) → q ≡ ask.Spawn o → now (home.Task o) ≡ 0) → (b : Makers) → Spawned now (after_by q now) b q s
   spawned now (ask.Spawn o) s h f b =
       let none = f o refl in
       let new : IsBelow now (main_of o) → ⊥ = λ l. omega (arith, l, none) in
       record {
-        births = made_now b (main_of o) s.env.exec;
-        keeps = made_keeps now b (main_of o) s.env.exec new;
+        births = made_now b (main_of o) s.env.exec (stacked (s.run ∷ s.callers));
+        keeps = made_keeps now b (main_of o) s.env.exec (stacked (s.run ∷ s.callers)) new;
         running = below_more now (after_by (ask.Spawn o) now) (after_more (ask.Spawn o) now) s.env.exec h;
         main = λ k e. let one = after_spawn (ask.Spawn o) now k e in omega (arith, one);
-        later = made_by now b (main_of o) s.env.exec new h;
+        later = made_by now b (main_of o) s.env.exec (stacked (s.run ∷ s.callers)) new h;
       }
   spawned now q s h f b = record {
     births = b;
@@ -221,12 +224,12 @@ module _ (source : Source) (input : List ℕ) (opts : Options) (range : InRange 
   }
 
   -- who asks, and the main of the task that is spawned, were made
-  record SpawnsBelow (serials : Home → ℕ) (b : Births) (q : Request) (s : State) : Type 0 where
+  record SpawnsBelow (serials : Home → ℕ) (b : Makers) (q : Request) (s : State) : Type 0 where
     running : IsBelow serials s.env.exec
     main : (o : ℕ) → q ≡ ask.Spawn o → IsBelow serials (main_of o)
     later : SpawnsLater b q s
 
-  spawns_more : (before behind : Home → ℕ) → ((h : Home) → before h ≤ behind h) → (b c : Births) → Keeps before b c → (q : Request) (s : State) → SpawnsBelow before b q s → SpawnsBelow behind c q s
+  spawns_more : (before behind : Home → ℕ) → ((h : Home) → before h ≤ behind h) → (b c : Makers) → Keeps before b c → (q : Request) (s : State) → SpawnsBelow before b q s → SpawnsBelow behind c q s
   spawns_more before behind le b c k q s h = record {
     running = below_more before behind le s.env.exec h.running;
     main = λ o e. below_more before behind le (main_of o) (h.main o e);
@@ -234,19 +237,19 @@ module _ (source : Source) (input : List ℕ) (opts : Options) (range : InRange 
   }
     where
       by : (q : Request) → ((o : ℕ) → q ≡ ask.Spawn o → IsBelow before (main_of o)) → SpawnsLater b q s → SpawnsLater c q s
-      by (ask.Spawn o) m l = later_kept before b c k (main_of o) s.env.exec (m o refl) h.running l
+      by (ask.Spawn o) m l = later_kept before b c k (main_of o) s.env.exec (stacked (s.run ∷ s.callers)) (m o refl) h.running l
       by q m l = tt
 
-  MaySpawnBelow : (serials : Home → ℕ) (b : Births) {j : Journal} {w : World} {a : List Entry} {v : World} → May source opts input j w a v → Type 0
+  MaySpawnBelow : (serials : Home → ℕ) (b : Makers) {j : Journal} {w : World} {a : List Entry} {v : World} → May source opts input j w a v → Type 0
   MaySpawnBelow serials b (gives p t s h) = Unit {0}
   MaySpawnBelow serials b (no_room p t s h) = Unit {0}
   MaySpawnBelow serials b (acts p t n s asked d) = SpawnsBelow serials b asked.request s
 
-  RunSpawnsBelow : (serials : Home → ℕ) (b : Births) {j : Journal} {w : World} → Runs source input opts j w → Type 0
+  RunSpawnsBelow : (serials : Home → ℕ) (b : Makers) {j : Journal} {w : World} → Runs source input opts j w → Type 0
   RunSpawnsBelow serials b begun = Unit {0}
   RunSpawnsBelow serials b (more r o m) = RunSpawnsBelow serials b r × MaySpawnBelow serials b m
 
-  module _ (before behind : Home → ℕ) (le : (h : Home) → before h ≤ behind h) (b c : Births) (k : Keeps before b c) where
+  module _ (before behind : Home → ℕ) (le : (h : Home) → before h ≤ behind h) (b c : Makers) (k : Keeps before b c) where
     may_spawn_more : {j : Journal} {w : World} {a : List Entry} {v : World} (m : May source opts input j w a v) → MaySpawnBelow before b m → MaySpawnBelow behind c m
     may_spawn_more (gives p t s h) x = tt
     may_spawn_more (no_room p t s h) x = tt
@@ -256,17 +259,17 @@ module _ (source : Source) (input : List ℕ) (opts : Options) (range : InRange 
     run_spawns_more begun x = tt
     run_spawns_more (more r o m) x = (run_spawns_more r x.0, may_spawn_more m x.1)
 
-  may_spawn_told : (serials : Home → ℕ) (b : Births) {j : Journal} {w : World} {a : List Entry} {v : World} (m : May source opts input j w a v) → MaySpawnBelow serials b m → MaySpawnLater b source opts input j w a v m
+  may_spawn_told : (serials : Home → ℕ) (b : Makers) {j : Journal} {w : World} {a : List Entry} {v : World} (m : May source opts input j w a v) → MaySpawnBelow serials b m → MaySpawnLater b source opts input j w a v m
   may_spawn_told serials b (gives p t s h) x = tt
   may_spawn_told serials b (no_room p t s h) x = tt
   may_spawn_told serials b (acts p t n s asked d) x = x.later
 
-  run_spawns_told : (serials : Home → ℕ) (b : Births) {j : Journal} {w : World} (r : Runs source input opts j w) → RunSpawnsBelow serials b r → RunSpawnsLater b source input opts j w r
+  run_spawns_told : (serials : Home → ℕ) (b : Makers) {j : Journal} {w : World} (r : Runs source input opts j w) → RunSpawnsBelow serials b r → RunSpawnsLater b source input opts j w r
   run_spawns_told serials b begun x = tt
   run_spawns_told serials b (more r o m) x = (run_spawns_told serials b r x.0, may_spawn_told serials b m x.1)
 
   record RunMade (serials : Home → ℕ) {j : Journal} {w : World} (r : Runs source input opts j w) : Type 0 where
-    births : Births
+    births : Makers
     makes : RunMeets (MakesBelow source serials births) source input opts j w r
     spawns : RunSpawnsBelow serials births r
 
@@ -287,7 +290,7 @@ module _ (source : Source) (input : List ℕ) (opts : Options) (range : InRange 
         at false g free lt = g
 
   run_made : {j : Journal} {w : World} (r : Runs source input opts j w) (f : RunFits source input opts j w r) (on : is_over j ≡ false) → RunMade (run_named source input opts range r f on).serials r
-  run_made begun f on = record { births = record { parent = λ m. m; rank = λ m. 0 }; makes = tt; spawns = tt }
+  run_made begun f on = record { births = record { parent = λ m. m; before = λ m. []; rank = λ m. 0 }; makes = tt; spawns = tt }
   run_made (more {j} {w} r o (gives p t v le)) f on =
       let y = run_made r f.0 o in
       record { births = y.births; makes = (y.makes, tt); spawns = (y.spawns, tt) }
@@ -317,7 +320,7 @@ law_births source input opts j w r range fits on =
     let x = run_named source input opts range r fits on in
     let y = run_made source input opts range r fits on in
     record {
-      births = y.births;
+      makers = y.births;
       made = run_more source (MakesBelow source x.serials y.births) (MakesLater source y.births) (λ s h. h.later) opts input r y.makes;
       spawned = run_spawns_told source input opts range x.serials y.births r y.spawns;
     }

@@ -1,8 +1,8 @@
 -- An act takes out one object alone, so nobody has at hand what has gone.
-use Rattle.std.proofs.Common.{◌≡◌, ℕ, Bool, true, false, List, [], ◌∷◌, ◌++◌, Option, Some, None, refl, sym, ap, ◌∙◌, subst, ◌||◌}
+use Rattle.std.proofs.Common.{◌≡◌, ℕ, Bool, true, false, List, [], ◌∷◌, ◌++◌, Option, Some, None, refl, sym, ap, ◌∙◌, subst, ◌||◌, ◌⊎◌, inl, inr}
 use Rattle.std.specs.Prelude.{nat_eq, pos, if◌then◌else◌}
 use Rattle.std.proofs.lemmas.Bool.{eqb-true}
-use Rattle.uc_tree.specs.Source.{Source}
+use Rattle.uc_tree.specs.Source.{Source, CleanUp}
 use Rattle.uc_entry.specs.declared.entry.Entry.{Entry}
 use Rattle.uc_entry.specs.declared.entry.EntryKind.TheVariants as kind
 use Rattle.uc_entry.specs.declared.entry.Options.{Options}
@@ -22,15 +22,17 @@ use Rattle.uc_machine.specs.declared.exec.Home.TheVariants as home
 use Rattle.uc_machine.specs.declared.exec.Stage.{Stage}
 use Rattle.uc_machine.specs.declared.exec.Stage.TheVariants.{Fresh, Started, Ended}
 use Rattle.uc_machine.specs.Executions.{Execution}
-use Rattle.uc_machine.specs.Pieces.{Value, Todo, State, Active, Members}
+use Rattle.uc_machine.specs.declared.exec.Owner.TheVariants.{Frame}
+use Rattle.uc_machine.specs.Pieces.{Value, Todo, Sort, sort, Simple, IsLoop, IsWhole, IsClean, IsFill, IsSweep, IsPart, IsGuard, IsFinish, IsFinishCoroutine, State, Active, Members}
 use Rattle.uc_meaning.specs.Runs.{World, May, Runs, world_after, or_else, gives, no_room, acts, begun, more}
 use Rattle.uc_value_laws.specs.Opens.{RunMeets}
 use Rattle.uc_typing.specs.Typing.{Ty, Obj, Table}
-use Rattle.uc_life_laws.specs.Things.{Few, Base}
+use Rattle.uc_life_laws.specs.Things.{Few, AtVariable, Nowhere, Marks, InTodo, Base, Variables}
 use Rattle.uc_life_laws.specs.LifeStates.{SlotBy, ParkedBy, HandBy, MembersBy}
 use Rattle.uc_world_laws.specs.Lasting.{lasting, lasting_numbers, MayForget, RunForgets, ForgetsAt}
 use Rattle.uc_world_laws.specs.Rooted.{IsPlace, FreshKeeps, FreshLast, Rooted}
 use Rattle.uc_world_laws.proofs.Rooted.{law_rooted}
+use Rattle.uc_rooted_runs.specs.Makers.{put, placed}
 use Rattle.uc_rooted_runs.specs.FreshStates.{FreshBy, FreshEx, BindsBegun}
 use Rattle.uc_rooted_runs.specs.FreshRuns.{FreshWorld}
 use Rattle.uc_rooted_runs.proofs.FreshRuns.{run_fresh}
@@ -54,10 +56,33 @@ module _ (P Q : Exec → Execution (List Todo) Value → Type 0) where
   parked_map h [] f k = tt
   parked_map h (p ∷ ps) f k = (slot_map (record { home = h; serial = p.0 }) p.1 (λ x y. f (record { home = h; serial = p.0 }) x refl y) k.0, parked_map h ps f k.1)
 
+-- one that has no marks has nothing in scope
+module _ (P Q : CleanUp → Value → Ty → Type 0) (f : ℕ) (this w : Value) (a : Ty) where
+  no_mark : (todo : List Todo) → placed f this todo [] ≡ [] → InTodo P Q todo w a → ⊥
+  no_mark [] e m = m
+  no_mark (p ∷ todo) e m = by (sort p) (no_mark todo) e m
+    where
+      by : (k : Sort) → (placed f this todo [] ≡ [] → InTodo P Q todo w a → ⊥) → put k f this (placed f this todo []) ≡ [] → Marks P Q k w a (InTodo P Q todo w a) → ⊥
+      by (IsClean c) g e m = cc
+      by (IsPart c) g e m = cc
+      by Simple g e m = g e m
+      by (IsLoop x y z q) g e m = g e m
+      by IsWhole g e m = g e m
+      by (IsFill x y z) g e m = g e m
+      by (IsSweep x) g e m = g e m
+      by (IsGuard x) g e m = g e m
+      by IsFinish g e m = g e m
+      by IsFinishCoroutine g e m = g e m
+
+module _ (t : Table) where
+  no_scope : (n : Exec) (x : Execution (List Todo) Value) → x.callers ≡ [] → placed x.run.frame x.run.this x.run.control [] ≡ [] → (w : Value) (a : Ty) → Variables t n (x.run ∷ x.callers) w a → ⊥
+  no_scope n x e m w a (inl h) = no_mark (AtVariable t (Frame n x.run.frame) x.run.this) (Nowhere (Frame n x.run.frame) x.run.this) x.run.frame x.run.this w a x.run.control m h
+  no_scope n x e m w a (inr h) = subst (λ cs. Variables t n cs w a) e h
+
 -- one that has not begun knows its own object alone, which has not gone, since the execution is at home there
 module _ (t : Table) (few : Few) (j : Journal) (a : List Entry) (x : World) (w : FreshWorld x) (taken : (q : ℕ) → is_gone q j ≡ false → is_gone q (j ++ a) ≡ true → x.homes q ≡ None) where
   abbrev Kept : Exec → Execution (List Todo) Value → Type 0
-  Kept n y = FreshKeeps t (lasting few j) (lasting_numbers few.numbers (j ++ a)) y.links.stage y
+  Kept n y = FreshKeeps t (lasting few j) (lasting_numbers few.numbers (j ++ a)) y.links.stage n y
 
   keeps : (n : Exec) (y : Execution (List Todo) Value) → ((o : ℕ) → n.home ≡ home.Object o → (is_gone o j ≡ false → is_gone o (j ++ a) ≡ false)) → FreshEx n y → Kept n y
   keeps n y f h = by y.links.stage h
@@ -67,13 +92,13 @@ module _ (t : Table) (few : Few) (j : Journal) (a : List Entry) (x : World) (w :
       still c o false true g h = let e = g refl in absurd (cc)
       still c o false false g h = h
 
-      by : (g : Stage) → FreshBy g n y → FreshKeeps t (lasting few j) (lasting_numbers few.numbers (j ++ a)) g y
-      by Fresh k = record {
+      by : (g : Stage) → FreshBy g n y → FreshKeeps t (lasting few j) (lasting_numbers few.numbers (j ++ a)) g n y
+      by Fresh k = (record {
         callers = k.callers;
         operands = k.operands;
         frames = k.frames;
         this = λ c o m e l. still c o (is_gone o j) (is_gone o (j ++ a)) (f o (k.this o e)) l;
-      }
+      }, λ w b v. no_scope t n y k.callers k.marks w b v)
       by Started k = tt
       by Ended k = tt
 

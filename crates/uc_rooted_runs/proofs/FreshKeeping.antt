@@ -1,7 +1,8 @@
 -- Executions that have not begun stay as they were made where members, executions and who runs change.
 use Rattle.std.proofs.Common.{◌≡◌, ℕ, zero, suc, ◌++◌, length, take, replicate, ap, ◌∙◌, Bool, true, false, List, [], ◌∷◌, Option, Some, None, refl, sym, subst}
 use Rattle.std.specs.Prelude.{nat_eq, drop}
-use Rattle.uc_tree.specs.Source.{Routine}
+use Rattle.uc_tree.specs.Source as src
+use Rattle.uc_tree.specs.Source.{Routine, Purpose}
 use Rattle.uc_entry.specs.Keyed.{find}
 use Rattle.uc_entry.specs.declared.fault.RunFault.TheVariants.{ResumeInUse, SwitchInUnwind}
 use Rattle.uc_machine.specs.declared.exec.Exec.{Exec}
@@ -21,6 +22,7 @@ use Rattle.uc_life_laws.proofs.Cells.{either}
 use Rattle.uc_life_laws.proofs.Parked as parked
 use Rattle.uc_life_laws.proofs.Parked.{Ex, at_home}
 use Rattle.uc_world_laws.specs.Fewer.{AllNumbers, FramesNumbers}
+use Rattle.uc_rooted_runs.specs.Makers.{placed}
 use Rattle.uc_rooted_runs.specs.FreshStates.{HasBegun, IsFresh, FreshBy, FreshEx, FreshEnv, SlotBegun, IsBegun}
 
 -- numbers
@@ -132,7 +134,7 @@ frames_told : (n : Exec) (x : Ex) (fs : List (List Value)) → (x.links.stage �
 frames_told n x fs f h = by x.links.stage refl h
   where
     by : (g : Stage) → x.links.stage ≡ g → FreshBy g n x → FreshBy g n (record x { frames = fs })
-    by Fresh e h = record { callers = h.callers; operands = h.operands; frames = f e; this = h.this }
+    by Fresh e h = record { callers = h.callers; operands = h.operands; marks = h.marks; frames = f e; this = h.this }
     by Started e h = tt
     by Ended e h = tt
 
@@ -180,8 +182,18 @@ written_begun Nothing w e b s = s
 at_this : (v : Value) (e : Env) (o : ℕ) → v ≡ Object o → quiet.home_at v e ≡ home.Object o
 at_this v e o q = ap (λ v. quiet.home_at v e) q
 
+begins_bare : (this : Value) (r : Routine) → placed 0 this (quiet.routine_todo r) [] ≡ []
+begins_bare this r = by r.purpose
+  where
+    by : (p : Purpose) → placed 0 this (quiet.behind_body p r.line) [] ≡ []
+    by src.TaskMain = refl
+    by src.CoroutineMain = refl
+    by src.Procedure = refl
+    by src.Function = refl
+    by src.Builder = refl
+
 pub fresh_made : (r : Routine) (this : Value) (e : Env) (k : ℕ) → FreshEx (at_home (quiet.home_at this e) k) (quiet.fresh r this)
-fresh_made r this e k = record { callers = refl; operands = refl; frames = (noughts r.cells, tt); this = λ o q. at_this this e o q }
+fresh_made r this e k = record { callers = refl; operands = refl; marks = begins_bare this r; frames = (noughts r.cells, tt); this = λ o q. at_this this e o q }
 
 pub born_keeps : (h : Home) (x : Ex) (e : Env) → ((k : ℕ) → FreshEx (at_home h k) x) → FreshEnv e → FreshEnv (sw.born h x e)
 born_keeps h x e r s = changes h (sw.one_more x) e (λ m q p. parked.more_parked FreshEx h m.serial x m.parked (r m.serial) p) s
@@ -199,7 +211,7 @@ links_told : (g : Links → Links) → Stays g → (n : Exec) (x : Ex) → Fresh
 links_told g (same f) n x h = subst (λ q. FreshBy q n (record x { links = g x.links })) (sym (f x.links)) (by x.links.stage h)
   where
     by : (q : Stage) → FreshBy q n x → FreshBy q n (record x { links = g x.links })
-    by Fresh h = record { callers = h.callers; operands = h.operands; frames = h.frames; this = h.this }
+    by Fresh h = record { callers = h.callers; operands = h.operands; marks = h.marks; frames = h.frames; this = h.this }
     by Started h = tt
     by Ended h = tt
 links_told g (ends f) n x h = subst (λ q. FreshBy q n (record x { links = g x.links })) (sym (f x.links)) tt

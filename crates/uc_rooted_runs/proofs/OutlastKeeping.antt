@@ -14,7 +14,8 @@ use Rattle.uc_machine.specs.Switches as sw
 use Rattle.uc_machine.specs.Switches.{Moved, To, Stops}
 use Rattle.uc_machine.specs.Pieces.{Value, Number, Place, Running, Object, Nothing, Todo, Active, State, Env, Members, address, stored, nought, written}
 use Rattle.uc_life_laws.specs.LifeStates.{SlotBy, ParkedBy, MembersBy, EnvBy}
-use Rattle.uc_rooted_runs.specs.Outlasting.{Makers, EndIn, Outlasts, OutlastEx, OutlastState}
+use Rattle.uc_rooted_runs.specs.Makers.{Makers}
+use Rattle.uc_rooted_runs.specs.Outlasting.{EndIn, Outlasts, OutlastEx, OutlastState}
 use Rattle.uc_life_laws.proofs.Cells.{either}
 use Rattle.uc_life_laws.proofs.Parked as parked
 use Rattle.uc_life_laws.proofs.Parked.{Ex, at_home}

@@ -25,7 +25,8 @@ use Rattle.uc_machine.specs.Polls as polls
 use Rattle.uc_machine.specs.Quiet as quiet
 use Rattle.uc_machine.specs.Pieces as piece
 use Rattle.uc_machine.specs.Pieces.{Value, Number, Place, Running, Object, Nothing, Todo, Sort, Active, State, Env, Members, Step, Goes, Ticks, Asks, Outcome, Gives, Faults, at, in_env, top, below, number, nought, written}
-use Rattle.uc_rooted_runs.specs.Outlasting.{Placed, put, placed, stacked, Ends, all, behind, Makers, EndIn, Outlasts, OutlastEx, OutlastState, OutlastStep, LeavesLater, ExitsLater, SparesAt}
+use Rattle.uc_rooted_runs.specs.Makers.{Placed, put, placed, stacked, Ends, all, behind, Makers}
+use Rattle.uc_rooted_runs.specs.Outlasting.{EndIn, Outlasts, OutlastEx, OutlastState, OutlastStep, LeavesLater, ExitsLater, SparesAt}
 use Rattle.uc_life_laws.proofs.Cells.{either}
 use Rattle.uc_rooted_runs.proofs.OutlastKeeping as kept
 use Rattle.uc_rooted_runs.proofs.OutlastKeeping.{Keeps}

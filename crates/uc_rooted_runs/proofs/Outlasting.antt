@@ -6,7 +6,8 @@ use Rattle.uc_machine.specs.Pieces as piece
 use Rattle.uc_machine.specs.Pieces.{Value, Todo, Sort, Active, State}
 use Rattle.uc_typing.specs.Typing.{Ty, Cell, Obj, Table}
 use Rattle.uc_life_laws.specs.Things.{Few, AtField, IsFor, Marks, InTodo, InStack, Base, NoBase, Stands, lies, inside}
-use Rattle.uc_rooted_runs.specs.Outlasting.{Placed, put, placed, stacked, Ends, all, behind, Makers, EndIn, Outlasts, OutlastEx, OutlastState, InPlaced, HadBefore, IsAlone, LawOutlasting}
+use Rattle.uc_rooted_runs.specs.Makers.{Placed, put, placed, stacked, Ends, all, behind, Makers}
+use Rattle.uc_rooted_runs.specs.Outlasting.{EndIn, Outlasts, OutlastEx, OutlastState, InPlaced, HadBefore, IsAlone, LawOutlasting}
 use Rattle.uc_world_laws.proofs.Fewer.{both_env}
 use Rattle.uc_rooted_runs.proofs.OutlastWalk as walking
 

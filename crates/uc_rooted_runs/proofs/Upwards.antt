@@ -11,7 +11,8 @@ use Rattle.uc_typing.specs.Typing.{Ty, Table}
 use Rattle.uc_life_laws.specs.Things.{Few, AtField, IsFor, InStack, NoBase, Base, Stands}
 use Rattle.uc_life_laws.specs.LifeStates.{SlotBy, ParkedBy, HandBy, MembersBy}
 use Rattle.uc_world_laws.specs.Rooted.{InSlot, InParked, InHand, InMembers, Lives, Had}
-use Rattle.uc_rooted_runs.specs.Outlasting.{Makers, Outlasts, OutlastEx}
+use Rattle.uc_rooted_runs.specs.Makers.{Makers}
+use Rattle.uc_rooted_runs.specs.Outlasting.{Outlasts, OutlastEx}
 use Rattle.uc_rooted_runs.specs.Upwards.{OutlastWorld, IsBased, LawUpwards}
 use Rattle.uc_rooted_runs.proofs.Outlasting.{law_outlasting, stands_more}
 
@@ -45,7 +46,7 @@ module _ (makers : Makers) (up : Exec → Bool) where
   in_world j x w n cs (inr (inr (o, i))) = in_members n cs (home.Object o) (x.homes o) i (w.homes o)
 
 pub law_upwards : LawUpwards
-law_upwards t few makers up rank j x own yet w based n cs i v b k e =
+law_upwards t few makers up j x own yet w based n cs i v b k e =
     let r = based n cs i v b k e in
     let h = in_world makers up j x w (makers.parent n) r.active r.lives in
     let s = law_outlasting.stands t few makers up (makers.parent n) r.active h n r.asked refl v b r.stood in

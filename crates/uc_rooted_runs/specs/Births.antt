@@ -1,5 +1,5 @@
 -- Runs of programs: each execution is made by one that was made before.
-use Rattle.std.specs.Prelude.{◌≡◌, ℕ, ◌<◌, false, List}
+use Rattle.std.specs.Prelude.{◌≡◌, ℕ, false, List, ◌∷◌}
 use Rattle.uc_tree.specs.Source.{Source}
 use Rattle.uc_entry.specs.declared.entry.Entry.{Entry}
 use Rattle.uc_entry.specs.declared.entry.Options.{Options}
@@ -14,32 +14,23 @@ use Rattle.uc_program_laws.specs.Fitting.{RunFits}
 use Rattle.uc_value_laws.specs.Opens.{RunMeets}
 use Rattle.uc_name_laws.specs.NameSteps.{IsBorn}
 use Rattle.uc_life_laws.specs.Knowing.{main_of}
+use Rattle.uc_rooted_runs.specs.Makers.{stacked, Makers, MadeBy}
 
--- by whom each execution was made, and a number that grows with each that is made
-pub record Births : Type 0 where
-  pub parent : Exec → Exec
-  pub rank : Exec → ℕ
-
--- one is made by another, which was made before
-pub record MadeBy (births : Births) (n by : Exec) : Type 0 where
-  pub parent : births.parent n ≡ by
-  pub later : births.rank by < births.rank n
-
--- so is each that a state makes next, by the running one
-abbrev pub MakesLater : Source → Births → State → Type 0
-MakesLater source births s = (n : Exec) → IsBorn source s n → MadeBy births n s.env.exec
+-- each that a state makes next is made by the running one
+abbrev pub MakesLater : Source → Makers → State → Type 0
+MakesLater source makers s = (n : Exec) → IsBorn source s n → MadeBy makers n s.env.exec (stacked (s.run ∷ s.callers))
 
 -- so is the main of a task, by who asks that it be spawned
-abbrev pub SpawnsLater : Births → Request → State → Type 0
-SpawnsLater births (ask.Spawn o) s = MadeBy births (main_of o) s.env.exec
-SpawnsLater births r s = Unit {0}
+abbrev pub SpawnsLater : Makers → Request → State → Type 0
+SpawnsLater makers (ask.Spawn o) s = MadeBy makers (main_of o) s.env.exec (stacked (s.run ∷ s.callers))
+SpawnsLater makers r s = Unit {0}
 
-module _ (births : Births) (source : Source) where
+module _ (makers : Makers) (source : Source) where
   abbrev pub MaySpawnLater : (opts : Options) (input : List ℕ) (j : Journal) (w : World) (a : List Entry) (x : World) →
       May source opts input j w a x → Type 0
   MaySpawnLater opts input j w _ _ (gives p n s h) = Unit {0}
   MaySpawnLater opts input j w _ _ (no_room p n s h) = Unit {0}
-  MaySpawnLater opts input j w _ _ (acts p n k s asked d) = SpawnsLater births asked.request s
+  MaySpawnLater opts input j w _ _ (acts p n k s asked d) = SpawnsLater makers asked.request s
 
   abbrev pub RunSpawnsLater : (input : List ℕ) (opts : Options) (j : Journal) (w : World) →
       Runs source input opts j w → Type 0
@@ -49,9 +40,9 @@ module _ (births : Births) (source : Source) where
 
 -- in a run each that is made in its states is made by the running one, and each that is spawned by who asks that
 pub record AllMadeLater (source : Source) (input : List ℕ) (opts : Options) (j : Journal) (w : World) (r : Runs source input opts j w) : Type 0 where
-  pub births : Births
-  pub made : RunMeets (MakesLater source births) source input opts j w r
-  pub spawned : RunSpawnsLater births source input opts j w r
+  pub makers : Makers
+  pub made : RunMeets (MakesLater source makers) source input opts j w r
+  pub spawned : RunSpawnsLater makers source input opts j w r
 
 -- so it is in each run in which all that was asked so far fits, of whatever source
 abbrev pub LawBirths : Type 0

@@ -12,6 +12,7 @@ use Rattle.uc_machine.specs.Pieces.{Value, Place, Object, Todo, SetUpNow, BindNo
 use Rattle.uc_machine.specs.Quiet.{fresh, home_at}
 use Rattle.uc_life_laws.specs.LifeStates.{EnvBy}
 use Rattle.uc_world_laws.specs.Fewer.{FramesNumbers}
+use Rattle.uc_rooted_runs.specs.Makers.{placed}
 
 -- it has begun; it may have ended
 abbrev pub HasBegun : Stage → Type 0
@@ -19,11 +20,12 @@ HasBegun Fresh = ⊥
 HasBegun Started = Unit {0}
 HasBegun Ended = Unit {0}
 
--- an execution that has not begun: nobody waits in it, it has no operands, its frames hold numbers alone, and if its object is a mutex object,
--- it is at home there
+-- an execution that has not begun: nobody waits in it, it has no operands and no marks, its frames hold numbers alone, and if its object is a mutex
+-- object, it is at home there
 pub record IsFresh (n : Exec) (x : Execution (List Todo) Value) : Type 0 where
   pub callers : x.callers ≡ []
   pub operands : x.run.operands ≡ []
+  pub marks : placed x.run.frame x.run.this x.run.control [] ≡ []
   pub frames : FramesNumbers x.frames
   pub this : (o : ℕ) → x.run.this ≡ Object o → n.home ≡ home.Object o
 

@@ -1,3 +1,4 @@
+pub mod Makers
 pub mod Births
 pub mod FreshStates
 pub mod FreshRuns

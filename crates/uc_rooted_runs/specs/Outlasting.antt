@@ -12,36 +12,7 @@ use Rattle.uc_machine.specs.Answering.{answered}
 use Rattle.uc_typing.specs.Typing.{Ty, Table}
 use Rattle.uc_life_laws.specs.Things.{Few, AtField, IsFor, Marks, NoBase, InStack, Base, Stands}
 use Rattle.uc_life_laws.specs.LifeStates.{EnvBy}
-
--- a mark, with the frame and the object of its activation
-pub record Placed : Type 0 where
-  pub frame : ℕ
-  pub this : Value
-  pub mark : Todo
-
--- all marks of activations, the innermost first
-abbrev pub put : Sort → ℕ → Value → List Placed → List Placed
-put (IsClean c) f this ps = record { frame = f; this = this; mark = Clean c } ∷ ps
-put (IsPart c) f this ps = record { frame = f; this = this; mark = Part c } ∷ ps
-put k f this ps = ps
-
-abbrev pub placed : ℕ → Value → List Todo → List Placed → List Placed
-placed f this [] ps = ps
-placed f this (p ∷ todo) ps = put (sort p) f this (placed f this todo ps)
-
-abbrev pub stacked : List Active → List Placed
-stacked [] = []
-stacked (a ∷ older) = placed a.frame a.this a.control (stacked older)
-
--- these are the outermost ones of those
-pub data Ends (ps : List Placed) : List Placed → Type 0 where
-  all : Ends ps ps
-  behind : {p : Placed} {qs : List Placed} → Ends ps qs → Ends ps (p ∷ qs)
-
--- by whom each execution was made, and what that was to clean up then
-pub record Makers : Type 0 where
-  pub parent : Exec → Exec
-  pub before : Exec → List Placed
+use Rattle.uc_rooted_runs.specs.Makers.{Placed, put, placed, stacked, Ends, Makers}
 
 -- `up x`: of this execution it is asked
 module _ (makers : Makers) (up : Exec → Bool) where

@@ -10,7 +10,8 @@ use Rattle.uc_typing.specs.Typing.{Ty, Table}
 use Rattle.uc_life_laws.specs.Things.{Few, Base, Stands}
 use Rattle.uc_life_laws.specs.LifeStates.{EnvBy, MembersBy}
 use Rattle.uc_world_laws.specs.Rooted.{Lives, Had}
-use Rattle.uc_rooted_runs.specs.Outlasting.{Makers, Outlasts, OutlastEx, HadBefore}
+use Rattle.uc_rooted_runs.specs.Makers.{Makers}
+use Rattle.uc_rooted_runs.specs.Outlasting.{Outlasts, OutlastEx, HadBefore}
 
 -- in the world behind a journal what executions were to clean up as they made others stays with them, of the tasks that have not ended
 pub record OutlastWorld (makers : Makers) (up : Exec → Bool) (j : Journal) (x : World) : Type 0 where
@@ -21,9 +22,9 @@ pub record OutlastWorld (makers : Makers) (up : Exec → Bool) (j : Journal) (x 
 
 -- what one that lives has of others, but its own object: it is asked of this one, which was made later than the one that made it; that lives, and the
 -- thing stood in what it was to clean up, or had of others, as it made this one
-pub record IsBased (t : Table) (few : Few) (makers : Makers) (up : Exec → Bool) (rank : Exec → ℕ) (j : Journal) (x : World) (n : Exec) (w : Value) (b : Ty) : Type 0 where
+pub record IsBased (t : Table) (few : Few) (makers : Makers) (up : Exec → Bool) (j : Journal) (x : World) (n : Exec) (w : Value) (b : Ty) : Type 0 where
   pub asked : up n ≡ true
-  pub later : rank (makers.parent n) < rank n
+  pub later : makers.rank (makers.parent n) < makers.rank n
   pub active : List Active
   pub lives : Lives j x (makers.parent n) active
   pub stood : Stands t few (HadBefore t few makers n) b w
@@ -31,9 +32,9 @@ pub record IsBased (t : Table) (few : Few) (makers : Makers) (up : Exec → Bool
 -- then it stands in what that one has
 abbrev pub LawUpwards : Type 0
 LawUpwards =
-    (t : Table) (few : Few) (makers : Makers) (up : Exec → Bool) (rank : Exec → ℕ) (j : Journal) (x : World)
+    (t : Table) (few : Few) (makers : Makers) (up : Exec → Bool) (j : Journal) (x : World)
     (own : Exec → Value → Ty → Bool) (yet : Exec → List Active → Value → Ty → Bool) → OutlastWorld makers up j x →
     ((n : Exec) (cs : List Active) → Lives j x n cs → (w : Value) (b : Ty) → Base few n w b → own n w b ≡ false →
-        IsBased t few makers up rank j x n w b) →
+        IsBased t few makers up j x n w b) →
     (n : Exec) (cs : List Active) → Lives j x n cs → (w : Value) (b : Ty) → Base few n w b → own n w b ≡ false →
-    (m : Exec) × (ds : List Active) × Lives j x m ds × (rank m < rank n) × Stands t few (Had t few yet m ds) b w
+    (m : Exec) × (ds : List Active) × Lives j x m ds × (makers.rank m < makers.rank n) × Stands t few (Had t few yet m ds) b w

@@ -243,18 +243,23 @@ module _ (t : Table) (few : Few) (j : Journal) (a : List Entry) (x : World) (own
 
   -- what holds of an execution that does not run
   abbrev Told : Exec → Execution (List Todo) Value → Type 0
-  Told n y = FreshKeeps t (lasting few j) left y.links.stage y × ExApart t (lasting few j) left o n y
+  Told n y = FreshKeeps t (lasting few j) left y.links.stage n y × ExApart t (lasting few j) left o n y
 
   ex_apart : (n : Exec) (y : Execution (List Todo) Value) → (y.links.stage ≡ Started → Lives (j ++ a) x n (y.run ∷ y.callers)) → Told n y → ExLasts t (lasting few j) left n y
-  ex_apart n y i e = record { scopes = λ w b v. things_last n (y.run ∷ y.callers) (i (e.1.scopes w b v)); hand = by y.links.stage refl e.0 e.1.stage }
+  ex_apart n y i e = record { scopes = λ w b v. things_last n (y.run ∷ y.callers) (i (begun y.links.stage refl e.0 w b v)); hand = by y.links.stage refl e.0 e.1.stage }
     where
-      by : (g : Stage) → y.links.stage ≡ g → FreshKeeps t (lasting few j) left g y → StageApart t (lasting few j) left o g n y → HandLasts t (lasting few j) left g n y
-      by Fresh q f h = inl f
+      begun : (g : Stage) → y.links.stage ≡ g → FreshKeeps t (lasting few j) left g n y → (w : Value) (b : Ty) → Variables t n (y.run ∷ y.callers) w b → y.links.stage ≡ Started
+      begun Fresh q f w b v = absurd (f.1 w b v)
+      begun Started q f w b v = q
+      begun Ended q f w b v = absurd (e.1.scopes w b v q)
+
+      by : (g : Stage) → y.links.stage ≡ g → FreshKeeps t (lasting few j) left g n y → StageApart t (lasting few j) left o g n y → HandLasts t (lasting few j) left g n y
+      by Fresh q f h = inl f.0
       by Started q f h = λ k. hand_lasts n (y.run ∷ y.callers) (i q) k.sigs (y.run ∷ y.callers) (λ w b m. m) (h k)
       by Ended q f h = tt
 
   abbrev Kept : Exec → Execution (List Todo) Value → Type 0
-  Kept n y = FreshKeeps t (lasting few j) left y.links.stage y
+  Kept n y = FreshKeeps t (lasting few j) left y.links.stage n y
 
   running : (u : ℕ) → has_ended u (j ++ a) ≡ false → Lives (j ++ a) x (x.tasks u).env.exec ((x.tasks u).run ∷ (x.tasks u).callers)
   running u e = inl (u, e, refl, refl)

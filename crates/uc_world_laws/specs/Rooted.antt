@@ -79,9 +79,9 @@ module _ (t : Table) (few : Few) (numbers : Ty → ℕ → Bool) (o : ℕ) where
   StageApart Started n x = (k : KnowsEx t few n x) → Apart k.sigs (x.run ∷ x.callers)
   StageApart Ended n x = Unit {0}
 
-  -- one that has variables in scope has begun and not ended
+  -- one that has ended has no variables in scope
   pub record ExApart (n : Exec) (x : Execution (List Todo) Value) : Type 0 where
-    pub scopes : (w : Value) (a : Ty) → Variables t n (x.run ∷ x.callers) w a → x.links.stage ≡ Started
+    pub scopes : (w : Value) (a : Ty) → Variables t n (x.run ∷ x.callers) w a → x.links.stage ≡ Ended → ⊥
     pub stage : StageApart x.links.stage n x
 
   -- of the running execution, those of its activations that wait do not build or destroy the object, nor does the newest one as long as it has
@@ -90,18 +90,19 @@ module _ (t : Table) (few : Few) (numbers : Ty → ℕ → Bool) (o : ℕ) where
     pub waiting : Apart (others x.sigs) s.callers
     pub operands : Apart x.sigs (s.run ∷ s.callers) ⊎ AreNumbers x.run.own
 
--- one that has not begun knows its own object alone, and that keeps its number
-abbrev pub FreshKeeps : Table → Few → (Ty → ℕ → Bool) → Stage → Execution (List Todo) Value → Type 0
-FreshKeeps t few numbers Fresh x = FreshLasts t few numbers x
-FreshKeeps t few numbers Started x = Unit {0}
-FreshKeeps t few numbers Ended x = Unit {0}
+-- one that has not begun knows its own object alone, which keeps its number, and has no variables in scope
+abbrev pub FreshKeeps : Table → Few → (Ty → ℕ → Bool) → Stage → Exec → Execution (List Todo) Value → Type 0
+FreshKeeps t few numbers Fresh n x = FreshLasts t few numbers x ×
+    ((w : Value) (a : Ty) → Variables t n (x.run ∷ x.callers) w a → ⊥)
+FreshKeeps t few numbers Started n x = Unit {0}
+FreshKeeps t few numbers Ended n x = Unit {0}
 
 -- so it is of all in a world behind an act
 pub record FreshLast (t : Table) (few : Few) (j : Journal) (a : List Entry) (x : World) : Type 0 where
   pub tasks : (u : ℕ) →
-      EnvBy (λ n y. FreshKeeps t (lasting few j) (lasting_numbers few.numbers (j ++ a)) y.links.stage y) (x.tasks u).env
+      EnvBy (λ n y. FreshKeeps t (lasting few j) (lasting_numbers few.numbers (j ++ a)) y.links.stage n y) (x.tasks u).env
   pub homes : (q : ℕ) →
-      MembersBy (λ n y. FreshKeeps t (lasting few j) (lasting_numbers few.numbers (j ++ a)) y.links.stage y) (Object q) (x.homes q)
+      MembersBy (λ n y. FreshKeeps t (lasting few j) (lasting_numbers few.numbers (j ++ a)) y.links.stage n y) (Object q) (x.homes q)
 
 -- after an act that takes out an object: nobody is to clean up that in which it is at home, nor does it stand in the own object of one that
 -- lives; whoever may go on does not build or destroy it; and each thing that one which lives has of others, but its own object, stands in what
