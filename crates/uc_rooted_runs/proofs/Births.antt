@@ -1,7 +1,7 @@
 -- In each run executions are made by others that were made before: a new name is none of those that were there.
 use Rattle.std.proofs.Common.{◌≡◌, ℕ, suc, ◌<◌, ◌≤◌, Bool, true, false, List, [], ◌∷◌, ◌++◌, Option, Some, None, refl, sym, ap, ◌∙◌, subst, arith}
-use Rattle.std.specs.Prelude.{if◌then◌else◌}
-use Rattle.std.proofs.lemmas.Bool.{eqb-true}
+use Rattle.std.specs.Prelude.{nat_eq, if◌then◌else◌}
+use Rattle.std.proofs.lemmas.Bool.{eqb-true, eq-eqb}
 use Rattle.uc_tree.specs.Source.{Source}
 use Rattle.uc_entry.specs.declared.entry.Entry.{Entry}
 use Rattle.uc_entry.specs.declared.entry.Options.{Options}
@@ -10,8 +10,8 @@ use Rattle.uc_entry.specs.declared.request.Request.{Request}
 use Rattle.uc_entry.specs.declared.request.Request.TheVariants as ask
 use Rattle.uc_acts.specs.Journal.{Journal, held, is_over}
 use Rattle.uc_acts.specs.KernelRuns.{InRange, Fits}
-use Rattle.uc_acts.specs.Known.{task_count, owner}
-use Rattle.uc_acts.specs.Acts.{act, lone_limit}
+use Rattle.uc_acts.specs.Known.{has, task_count, owner}
+use Rattle.uc_acts.specs.Acts.{act, dispatch, lone_limit}
 use Rattle.uc_acts.proofs.Bounds.{over_limit}
 use Rattle.uc_machine.specs.declared.exec.Exec.{Exec}
 use Rattle.uc_machine.specs.declared.exec.Home.{Home}
@@ -24,7 +24,10 @@ use Rattle.uc_machine.specs.Answering.{answered}
 use Rattle.uc_machine.specs.Rides.{Rides, slices, goes_on, ticks, asks}
 use Rattle.uc_meaning.specs.Runs.{World, May, Runs, AsksIn, begun, more, gives, no_room, acts, drawn}
 use Rattle.uc_program_laws.specs.Fitting.{RunFits}
-use Rattle.uc_program_laws.proofs.Others.{RunRests, run_rests}
+use Rattle.uc_acts.proofs.SoundLemmas.{tasks_push, objects_push}
+use Rattle.uc_step_laws.specs.Hands.{keys}
+use Rattle.uc_program_laws.proofs.Makes.{just_made_given}
+use Rattle.uc_program_laws.proofs.Others.{RunRests, run_rests, asking as asks_with}
 use Rattle.uc_hand_laws.proofs.DeepWorlds.{DeepWorld, deep_run}
 use Rattle.uc_value_laws.specs.Opens.{RideMeets, MayMeet, RunMeets}
 use Rattle.uc_life_laws.specs.Knowing.{main_of}
@@ -35,8 +38,9 @@ use Rattle.uc_name_laws.proofs.Values.{below_more}
 use Rattle.uc_name_laws.proofs.Walk.{walk}
 use Rattle.uc_name_laws.proofs.Births.{law_new}
 use Rattle.uc_named_runs.specs.NamedRuns.{is_here}
-use Rattle.uc_named_runs.proofs.Riding.{RideNamed, ride_named, run_more, ride_more}
-use Rattle.uc_named_runs.proofs.Worlds.{WorldNamed, RunNamed, run_named, vacuous, known, start, ride, after_by, after_more, after_spawn, now_more, own_stays}
+use Rattle.uc_named_runs.proofs.Owned.{owner_still}
+use Rattle.uc_named_runs.proofs.Riding.{RideNamed, run_more, ride_more, grows_not}
+use Rattle.uc_named_runs.proofs.Worlds.{WorldNamed, RunNamed, run_named, named_act, found_none, vacuous, known, start, ride, after_by, after_more, now_more, own_stays}
 use Rattle.uc_rooted_runs.specs.Makers.{Placed, stacked, Makers, MadeBy}
 use Rattle.uc_rooted_runs.specs.Births.{MakesLater, SpawnsLater, MaySpawnLater, RunSpawnsLater, AllMadeLater, LawBirths}
 
@@ -63,6 +67,13 @@ keeps_on before behind le a b c h k = record {
   parents = λ m x. k.parents m (below_more before behind le m x) ∙ h.parents m x;
   befores = λ m x. k.befores m (below_more before behind le m x) ∙ h.befores m x;
   ranks = λ m x. k.ranks m (below_more before behind le m x) ∙ h.ranks m x;
+}
+
+keeps_less : (before behind : Home → ℕ) → ((h : Home) → before h ≤ behind h) → (b c : Makers) → Keeps behind b c → Keeps before b c
+keeps_less before behind le b c k = record {
+  parents = λ m x. k.parents m (below_more before behind le m x);
+  befores = λ m x. k.befores m (below_more before behind le m x);
+  ranks = λ m x. k.ranks m (below_more before behind le m x);
 }
 
 module _ (serials : Home → ℕ) (b : Makers) (n by : Exec) (ps : List Placed) (new : IsBelow serials n → ⊥) where
@@ -111,6 +122,12 @@ makes_more source before behind le b c k s h = record {
   later = λ n x. later_kept before b c k n s.env.exec (stacked (s.run ∷ s.callers)) (h.born n x) h.running (h.later n x);
 }
 
+grows_on : (here : Home → Bool) (a b c : Home → ℕ) → Grows here a b → Grows here b c → Grows here a c
+grows_on here a b c g h = record {
+  more = λ k. let x = g.more k in let y = h.more k in omega (arith, x, y);
+  same = λ k e. h.same k e ∙ g.same k e;
+}
+
 -- a step
 
 record Next (source : Source) (before behind : Home → ℕ) (b : Makers) (s : State) : Type 0 where
@@ -153,43 +170,55 @@ module _ (source : Source) (here : Home → Bool) where
             };
           }
 
-  -- a ride, with as many executions as it has made
+  -- a ride
 
-  record Ridden (before now : Home → ℕ) (b : Makers) (s : State) (q : ℕ) (u : State) (k : ℕ) (a : Asked) (r : Rides source s q u k a) : Type 0 where
+  record Ridden (before : Home → ℕ) (b : Makers) (s : State) (q : ℕ) (u : State) (k : ℕ) (a : Asked) (r : Rides source s q u k a) : Type 0 where
+    now : Home → ℕ
+    grows : Grows here before now
+    named : Named here false now u
     births : Makers
     keeps : Keeps before b births
     makes : RideMeets (MakesBelow source now births) source s q u k a r
 
-  ridden : (serials : Home → ℕ) {s u : State} {q k : ℕ} {a : Asked} (r : Rides source s q u k a) (h : Named here false serials s) (f : false ≡ true → RideMeets Spares source s q u k a r) (b : Makers) → Ridden serials (ride_named source here false serials r h f).now b s q u k a r
-  ridden serials slices h f b = record { births = b; keeps = keeps_same serials b; makes = tt }
-  ridden serials (goes_on {s} e r) h f b =
-      let x = walk source here false serials s h (λ i. (f i).0) in
+  ridden : (serials : Home → ℕ) {s u : State} {q k : ℕ} {a : Asked} (r : Rides source s q u k a) → Named here false serials s → (b : Makers) → Ridden serials b s q u k a r
+  ridden serials slices h b =
+      record { now = serials; grows = grows_not here serials; named = h; births = b; keeps = keeps_same serials b; makes = tt }
+  ridden serials (goes_on {s} e r) h b =
+      let x = walk source here false serials s h (λ u. vacuous u) in
       let y = next serials s h x b in
-      let named = subst (StepNamed here false x.serials) e x.named in
-      let z = ridden x.serials r named (λ i. (f i).1) y.births in
-      let all = ride_named source here false x.serials r named (λ i. (f i).1) in
+      let z = ridden x.serials r (subst (StepNamed here false x.serials) e x.named) y.births in
       record {
+        now = z.now;
+        grows = grows_on here serials x.serials z.now x.grows z.grows;
+        named = z.named;
         births = z.births;
         keeps = keeps_on serials x.serials x.grows.more b y.births z.births y.keeps z.keeps;
-        makes = (makes_more source x.serials all.now all.grows.more y.births z.births z.keeps s y.makes, z.makes);
+        makes = (makes_more source x.serials z.now z.grows.more y.births z.births z.keeps s y.makes, z.makes);
       }
-  ridden serials (ticks {s} e r) h f b =
-      let x = walk source here false serials s h (λ i. (f i).0) in
+  ridden serials (ticks {s} e r) h b =
+      let x = walk source here false serials s h (λ u. vacuous u) in
       let y = next serials s h x b in
-      let named = subst (StepNamed here false x.serials) e x.named in
-      let z = ridden x.serials r named (λ i. (f i).1) y.births in
-      let all = ride_named source here false x.serials r named (λ i. (f i).1) in
+      let z = ridden x.serials r (subst (StepNamed here false x.serials) e x.named) y.births in
       record {
+        now = z.now;
+        grows = grows_on here serials x.serials z.now x.grows z.grows;
+        named = z.named;
         births = z.births;
         keeps = keeps_on serials x.serials x.grows.more b y.births z.births y.keeps z.keeps;
-        makes = (makes_more source x.serials all.now all.grows.more y.births z.births z.keeps s y.makes, z.makes);
+        makes = (makes_more source x.serials z.now z.grows.more y.births z.births z.keeps s y.makes, z.makes);
       }
-  ridden serials (asks {s} {t} {q} {r} e) h f b =
-      let x = walk source here false serials s h f in
+  ridden serials (asks {s} {t} {q} {r} e) h b =
+      let x = walk source here false serials s h (λ u. vacuous u) in
       let y = next serials s h x b in
-      record { births = y.births; keeps = y.keeps; makes = y.makes }
+      let z : StepNamed here false x.serials (Asks r t) = subst (StepNamed here false x.serials) e x.named in
+      record { now = x.serials; grows = x.grows; named = z.0; births = y.births; keeps = y.keeps; makes = y.makes }
 
 -- a run
+
+-- what a task that is spawned adds
+one_main : (q : Request) (now : Home → ℕ) (a : ℕ) → q ≡ ask.Spawn a → after_by q now (home.Task a) ≡ suc (now (home.Task a))
+one_main q now a e =
+    ap (λ x. after_by x now (home.Task a)) e ∙ ap (λ b. if b then suc (now (home.Task a)) else now (home.Task a)) (eq-eqb a a refl)
 
 module _ (source : Source) (input : List ℕ) (opts : Options) (range : InRange opts) where
   -- a task that is spawned is made by who asks
@@ -212,14 +241,14 @@ module _ (source : Source) (input : List ℕ) (opts : Options) (range : InRange 
         births = made_now b (main_of o) s.env.exec (stacked (s.run ∷ s.callers));
         keeps = made_keeps now b (main_of o) s.env.exec (stacked (s.run ∷ s.callers)) new;
         running = below_more now (after_by (ask.Spawn o) now) (after_more (ask.Spawn o) now) s.env.exec h;
-        main = λ k e. let one = after_spawn (ask.Spawn o) now k e in omega (arith, one);
+        main = λ k e. let one = one_main (ask.Spawn o) now k e in omega (arith, one);
         later = made_by now b (main_of o) s.env.exec (stacked (s.run ∷ s.callers)) new h;
       }
   spawned now q s h f b = record {
     births = b;
     keeps = keeps_same now b;
     running = below_more now (after_by q now) (after_more q now) s.env.exec h;
-    main = λ o e. let one = after_spawn q now o e in omega (arith, one);
+    main = λ o e. let one = one_main q now o e in omega (arith, one);
     later = tt;
   }
 
@@ -240,12 +269,12 @@ module _ (source : Source) (input : List ℕ) (opts : Options) (range : InRange 
       by (ask.Spawn o) m l = later_kept before b c k (main_of o) s.env.exec (stacked (s.run ∷ s.callers)) (m o refl) h.running l
       by q m l = tt
 
-  MaySpawnBelow : (serials : Home → ℕ) (b : Makers) {j : Journal} {w : World} {a : List Entry} {v : World} → May source opts input j w a v → Type 0
+  abbrev MaySpawnBelow : (serials : Home → ℕ) (b : Makers) {j : Journal} {w : World} {a : List Entry} {v : World} → May source opts input j w a v → Type 0
   MaySpawnBelow serials b (gives p t s h) = Unit {0}
   MaySpawnBelow serials b (no_room p t s h) = Unit {0}
   MaySpawnBelow serials b (acts p t n s asked d) = SpawnsBelow serials b asked.request s
 
-  RunSpawnsBelow : (serials : Home → ℕ) (b : Makers) {j : Journal} {w : World} → Runs source input opts j w → Type 0
+  abbrev RunSpawnsBelow : (serials : Home → ℕ) (b : Makers) {j : Journal} {w : World} → Runs source input opts j w → Type 0
   RunSpawnsBelow serials b begun = Unit {0}
   RunSpawnsBelow serials b (more r o m) = RunSpawnsBelow serials b r × MaySpawnBelow serials b m
 
@@ -268,59 +297,109 @@ module _ (source : Source) (input : List ℕ) (opts : Options) (range : InRange 
   run_spawns_told serials b begun x = tt
   run_spawns_told serials b (more r o m) x = (run_spawns_told serials b r x.0, may_spawn_told serials b m x.1)
 
-  record RunMade (serials : Home → ℕ) {j : Journal} {w : World} (r : Runs source input opts j w) : Type 0 where
+  -- as many executions were made at each home
+  record RunMade {j : Journal} {w : World} (r : Runs source input opts j w) : Type 0 where
+    serials : Home → ℕ
+    world : WorldNamed serials j w
     births : Makers
     makes : RunMeets (MakesBelow source serials births) source input opts j w r
     spawns : RunSpawnsBelow serials births r
 
-  -- what is spawned is no task's own, and nothing was made there
   module _ {j : Journal} {w : World} (rests : RunRests source input opts j w) (on : is_over j ≡ false) (deep : DeepWorld j w) (serials : Home → ℕ) (x : WorldNamed serials j w) (p t n : ℕ) (s : State) (asked : Asked) (d : AsksIn source opts j w p t n s asked) (f : Fits opts source.sites j t asked.request) (going : is_over (j ++ act opts source.sites input j p t n asked) ≡ false) where
+    -- what is spawned is no task's own, and nothing was made there
     none_there : (o : ℕ) → asked.request ≡ ask.Spawn o → (ride source input opts range rests on deep serials x p t n s asked d f going).now (home.Task o) ≡ 0
     none_there o e =
         let free : owner o j ≡ [] = (subst (Fits opts source.sites j t) e f).1 in
         let lt = known source input opts range rests on serials x p t d.runs in
-        let other : is_here (w.tasks t).env.own (held t j) (home.Task o) ≡ false = at (is_here (w.tasks t).env.own (held t j) (home.Task o)) refl free lt in
+        let other : nat_eq o (w.tasks t).env.own ≡ false = at (nat_eq o (w.tasks t).env.own) refl free lt in
         (ride source input opts range rests on deep serials x p t n s asked d f going).grows.same (home.Task o) other ∙ x.unowned o free
       where
-        at : (c : Bool) → is_here (w.tasks t).env.own (held t j) (home.Task o) ≡ c → owner o j ≡ [] → t < task_count j → is_here (w.tasks t).env.own (held t j) (home.Task o) ≡ false
-        at true g free lt = absurd (one_not_none t (owner o j) (ap (λ q. owner q j) (own_is o (w.tasks t).env.own g) ∙ x.owned t lt) free)
-          where
-            own_is : (a own : ℕ) → is_here own (held t j) (home.Task a) ≡ true → a ≡ own
-            own_is a own g = eqb-true a own g
+        at : (c : Bool) → nat_eq o (w.tasks t).env.own ≡ c → owner o j ≡ [] → t < task_count j → nat_eq o (w.tasks t).env.own ≡ false
+        at true g free lt = absurd (one_not_none t (owner o j) (ap (λ q. owner q j) (eqb-true o (w.tasks t).env.own g) ∙ x.owned t lt) free)
         at false g free lt = g
 
-  run_made : {j : Journal} {w : World} (r : Runs source input opts j w) (f : RunFits source input opts j w r) (on : is_over j ≡ false) → RunMade (run_named source input opts range r f on).serials r
-  run_made begun f on = record { births = record { parent = λ m. m; before = λ m. []; rank = λ m. 0 }; makes = tt; spawns = tt }
+    -- two countings of what a ride has made agree
+    module _ (now : Home → ℕ) (grows : Grows (is_here (w.tasks t).env.own (held t j)) serials now) (named : Named (is_here (w.tasks t).env.own (held t j)) false now s) where
+      no_more : (h : Home) → now h ≤ (ride source input opts range rests on deep serials x p t n s asked d f going).now h
+      no_more h = by (members_at h s.env) refl
+        where
+          k : RideNamed source (is_here (w.tasks t).env.own (held t j)) false serials (answered source d.given (drawn j w t)) _ s n asked d.rides
+          k = ride source input opts range rests on deep serials x p t n s asked d f going
+
+          there : (h : Home) → is_here (w.tasks t).env.own (held t j) h ≡ true → members_at h s.env ≡ None → ⊥
+          there (home.Task a) e g =
+              let own = own_stays source input opts range rests on serials x p t d.runs now s named.names.env_named in
+              let it : nat_eq a s.env.own ≡ true = ap (nat_eq a) own ∙ e in
+              let some : members_at (home.Task a) s.env ≡ Some s.env.house = ap (λ b. if b then Some s.env.house else None) it in
+              none_some s.env.house (members_at (home.Task a) s.env) g some
+          there (home.Object o) e g =
+              let hand : has (keys s.env.hand) o ≡ has (held t j) o = ap (λ l. has l o) (asks_with source input opts range rests on p t n s asked d).hand in
+              no_both (has (held t j) o) e (sym hand ∙ found_none o s.env.hand g)
+
+          away : (b : Bool) → is_here (w.tasks t).env.own (held t j) h ≡ b → members_at h s.env ≡ None → now h ≤ (ride source input opts range rests on deep serials x p t n s asked d f going).now h
+          away true e g = absurd (there h e g)
+          away false e g = let a = grows.same h e in let b = k.grows.same h e in omega (arith, a, b)
+
+          by : (o : Option Members) → members_at h s.env ≡ o → now h ≤ (ride source input opts range rests on deep serials x p t n s asked d f going).now h
+          by None g = away (is_here (w.tasks t).env.own (held t j) h) refl g
+          by (Some m) g =
+              let a = (named.names.env_named.members_named h m g).serial_is in
+              let b = (k.named.names.env_named.members_named h m g).serial_is in
+              omega (arith, a, b)
+
+  -- a dispatch makes nothing
+
+  named_given : (serials : Home → ℕ) (j : Journal) (w : World) (p t : ℕ) → WorldNamed serials j w → WorldNamed serials (j ++ dispatch p t ∷ []) w
+  named_given serials j w p t x =
+      let tasks_same = tasks_push j (dispatch p t) in
+      let objects_same = objects_push j (dispatch p t) in
+      record {
+        tasks = λ u le. x.tasks u (omega (arith, le, tasks_same));
+        homes = x.homes;
+        unmade = λ o le. x.unmade o (omega (arith, le, objects_same));
+        new = λ u o h. x.new u o (sym (just_made_given u p t j) ∙ h);
+        owned = λ u le. owner_still (w.tasks u).env.own j (dispatch p t) refl ∙ x.owned u (omega (arith, le, tasks_same));
+        unowned = λ k h. x.unowned k (sym (owner_still k j (dispatch p t) refl) ∙ h);
+      }
+
+  run_made : {j : Journal} {w : World} (r : Runs source input opts j w) → RunFits source input opts j w r → is_over j ≡ false → RunMade r
+  run_made begun f on =
+      let x = run_named source input opts range begun f on in
+      record { serials = x.serials; world = x.world; births = record { parent = λ m. m; before = λ m. []; rank = λ m. 0 }; makes = tt; spawns = tt }
   run_made (more {j} {w} r o (gives p t v le)) f on =
       let y = run_made r f.0 o in
-      record { births = y.births; makes = (y.makes, tt); spawns = (y.spawns, tt) }
+      record { serials = y.serials; world = named_given y.serials j w p t y.world; births = y.births; makes = (y.makes, tt); spawns = (y.spawns, tt) }
   run_made (more {j} r o (no_room p t v le)) f on = no_both (is_over (j ++ lone_limit ∷ [])) (over_limit j 0 0) on
   run_made (more {j} {w} r o (acts p t n s asked d)) f on =
       let y = run_made r f.0 o in
-      let x = run_named source input opts range r f.0 o in
       let rests = run_rests source input opts range r f.0 o in
       let deep = deep_run source input opts range r f.0 o in
-      let k = ride source input opts range rests o deep x.serials x.world p t n s asked d f.1 on in
-      let z = ridden source (is_here (w.tasks t).env.own (held t j)) x.serials d.rides (start source input opts range rests o x.serials x.world p t d.runs d.given d.told) (λ u. vacuous u) y.births in
-      let m = spawned k.now asked.request s k.named.names.env_named.exec_below (none_there rests o deep x.serials x.world p t n s asked d f.1 on) z.births in
-      let le = now_more source input opts range rests o deep x.serials x.world p t n s asked d f.1 on in
-      let all = keeps_on x.serials k.now k.grows.more y.births z.births m.births z.keeps m.keeps in
+      let here = is_here (w.tasks t).env.own (held t j) in
+      let k = ride source input opts range rests o deep y.serials y.world p t n s asked d f.1 on in
+      let z = ridden source here y.serials d.rides (start source input opts range rests o y.serials y.world p t d.runs d.given d.told) y.births in
+      let same = no_more rests o deep y.serials y.world p t n s asked d f.1 on z.now z.grows z.named in
+      let m = spawned k.now asked.request s k.named.names.env_named.exec_below (none_there rests o deep y.serials y.world p t n s asked d f.1 on) z.births in
+      let le = now_more source input opts range rests o deep y.serials y.world p t n s asked d f.1 on in
+      let up : (h : Home) → z.now h ≤ after_by asked.request k.now h = λ h. let a = same h in let b = after_more asked.request k.now h in omega (arith, a, b) in
+      let later = keeps_less z.now k.now same z.births m.births m.keeps in
+      let all = keeps_on y.serials z.now z.grows.more y.births z.births m.births z.keeps later in
       record {
+        serials = after_by asked.request k.now;
+        world = named_act source input opts range rests o deep y.serials y.world p t n s asked d f.1 on;
         births = m.births;
         makes = (
-            run_more source (MakesBelow source x.serials y.births) (MakesBelow source (after_by asked.request k.now) m.births) (λ s h. makes_more source x.serials (after_by asked.request k.now) le y.births m.births all s h) opts input r y.makes,
-            ride_more source (MakesBelow source k.now z.births) (MakesBelow source (after_by asked.request k.now) m.births) (λ s h. makes_more source k.now (after_by asked.request k.now) (after_more asked.request k.now) z.births m.births m.keeps s h) d.rides z.makes);
+            run_more source (MakesBelow source y.serials y.births) (MakesBelow source (after_by asked.request k.now) m.births) (λ s h. makes_more source y.serials (after_by asked.request k.now) le y.births m.births all s h) opts input r y.makes,
+            ride_more source (MakesBelow source z.now z.births) (MakesBelow source (after_by asked.request k.now) m.births) (λ s h. makes_more source z.now (after_by asked.request k.now) up z.births m.births later s h) d.rides z.makes);
         spawns = (
-            run_spawns_more x.serials (after_by asked.request k.now) le y.births m.births all r y.spawns,
+            run_spawns_more y.serials (after_by asked.request k.now) le y.births m.births all r y.spawns,
             record { running = m.running; main = m.main; later = m.later });
       }
 
 pub law_births : LawBirths
 law_births source input opts j w r range fits on =
-    let x = run_named source input opts range r fits on in
     let y = run_made source input opts range r fits on in
     record {
       makers = y.births;
-      made = run_more source (MakesBelow source x.serials y.births) (MakesLater source y.births) (λ s h. h.later) opts input r y.makes;
-      spawned = run_spawns_told source input opts range x.serials y.births r y.spawns;
+      made = run_more source (MakesBelow source y.serials y.births) (MakesLater source y.births) (λ s h. h.later) opts input r y.makes;
+      spawned = run_spawns_told source input opts range y.serials y.births r y.spawns;
     }

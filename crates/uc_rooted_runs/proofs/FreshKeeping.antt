@@ -1,6 +1,7 @@
 -- Executions that have not begun stay as they were made where members, executions and who runs change.
 use Rattle.std.proofs.Common.{◌≡◌, ℕ, zero, suc, ◌++◌, length, take, replicate, ap, ◌∙◌, Bool, true, false, List, [], ◌∷◌, Option, Some, None, refl, sym, subst}
-use Rattle.std.specs.Prelude.{nat_eq, drop}
+use Rattle.std.specs.Prelude.{nat_eq, drop, pos}
+use Rattle.uc_tree.specs.declared.limits.TheConstants.{UNHANDLED}
 use Rattle.uc_tree.specs.Source as src
 use Rattle.uc_tree.specs.Source.{Routine, Purpose}
 use Rattle.uc_entry.specs.Keyed.{find}
@@ -12,6 +13,7 @@ use Rattle.uc_machine.specs.declared.exec.Owner.{Owner}
 use Rattle.uc_machine.specs.declared.exec.Owner.TheVariants.{Frame, Fields}
 use Rattle.uc_machine.specs.declared.exec.Stage.{Stage}
 use Rattle.uc_machine.specs.declared.exec.Stage.TheVariants.{Fresh, Started, Ended}
+use Rattle.uc_machine.specs.declared.exec.UnwindReason.TheVariants as reason
 use Rattle.uc_machine.specs.Executions.{Links, others, one_call_less, one_call_more, exec_eq, joined, slot_in, members_at, set_members, change, change_in, parked_at, frames_by, frames_changed, frame_changed, set_depth, at_depth, list_in, value_changed, values_cleared, with_owned, with_frames}
 use Rattle.uc_machine.specs.Switches as sw
 use Rattle.uc_machine.specs.Switches.{Moved, To, Stops}
@@ -105,6 +107,9 @@ returned_keeps b e s = like s (less_stage b e.links) refl refl refl
 
 pub called_keeps : {f : List Value} (b : Bool) (e : Env) → FreshEnv e → FreshEnv (record e { frames = f ∷ e.frames; links = one_call_more b e.links })
 called_keeps b e s = like s (more_stage b e.links) refl refl refl
+
+pub counted_keeps : (b : Bool) (e : Env) → FreshEnv e → FreshEnv (record e { links = one_call_less b e.links })
+counted_keeps b e s = like s (less_stage b e.links) refl refl refl
 
 -- what is at a home changes
 change_by : (h : Home) (f : Members → Members) (o : Option Members) (e : Env) → ((m : Members) → o ≡ Some m → ParkedBy FreshEx h m.parked → ParkedBy FreshEx h (f m).parked) → MembersBy FreshEx h o → EnvBy FreshEx e → EnvBy FreshEx (change_in h f o e)
@@ -282,8 +287,8 @@ go_on_keeps None s r h = tt
 go_on_keeps (Some p) s r h = switched_keeps p.0 p.1 s r h
 
 wake_stage : (g : Stage) (n : Exec) (x : Ex) (s : State) → FreshEnv s.env → FreshMoved (sw.wake_at g n x s)
-wake_stage Fresh n x s h = switched_keeps n _ s tt h
-wake_stage Started n x s h = switched_keeps n _ s tt h
+wake_stage Fresh n x s h = switched_keeps n (record x { links = sw.woken s.env.exec x.links }) s tt h
+wake_stage Started n x s h = switched_keeps n (record x { links = sw.woken s.env.exec x.links }) s tt h
 wake_stage Ended n x s h = tt
 
 wake_slot : (n : Exec) (o : Option Ex) (s : State) → FreshEnv s.env → FreshMoved (sw.wake_by n o s)
@@ -309,7 +314,7 @@ finish_keeps s h =
 
 throw_keeps : (o : Option (Exec × Ex)) (s : State) → NextBegun o → FreshEnv s.env → FreshMoved (sw.throw_at o s)
 throw_keeps None s r h = tt
-throw_keeps (Some p) s r h = switched_keeps p.0 _ s r h
+throw_keeps (Some p) s r h = switched_keeps p.0 (sw.unwound_there (reason.Event UNHANDLED (pos 0) (pos 0)) p.1) s r h
 
 pub escape_keeps : (s : State) → FreshEnv s.env → FreshMoved (sw.escape s)
 escape_keeps s h = throw_keeps (sw.able s.env.links.resumer s.env) (sw.ended s) (able_begun s.env.links.resumer s.env) (ended_keeps s h)
@@ -322,7 +327,8 @@ over_keeps n s h = links_keeps (λ l. record l { live = false; stage = Ended }) 
 
 take_down_stage : (g : Stage) (n : Exec) (x : Ex) (s : State) → x.links.stage ≡ g → FreshEnv s.env → FreshMoved (sw.take_down_at g n x s)
 take_down_stage Fresh n x s e h = over_keeps n s h
-take_down_stage Started n x s e h = switched_keeps n _ s (subst HasBegun (sym e) tt) h
+take_down_stage Started n x s e h =
+    switched_keeps n (sw.unwound_there reason.Destroyed (record x { links = record x.links { live = false; destroyer = Some s.env.exec } })) s (subst HasBegun (sym e) tt) h
 take_down_stage Ended n x s e h = over_keeps n s h
 
 take_down_slot : (n : Exec) (o : Option Ex) (s : State) → FreshEnv s.env → FreshMoved (sw.take_down_by n o s)

@@ -11,7 +11,7 @@ use Rattle.uc_acts.specs.Acts.{act}
 use Rattle.uc_machine.specs.declared.exec.Home.TheVariants as home
 use Rattle.uc_machine.specs.Pieces.{State, Members}
 use Rattle.uc_machine.specs.Quiet.{first_state}
-use Rattle.uc_machine.specs.Answering.{answered, child_of}
+use Rattle.uc_machine.specs.Answering.{answered, child_main, child_of}
 use Rattle.uc_machine.specs.Rides.{Rides, slices, goes_on, ticks, asks}
 use Rattle.uc_meaning.specs.Runs.{World, May, Runs, AsksIn, gives, no_room, acts, begun, more, first_world, first_home, with_home, hand_of, drawn, bare, or_else, world_after}
 use Rattle.uc_value_laws.specs.Opens.{RideMeets, RunMeets}
@@ -57,7 +57,7 @@ module _ (source : Source) where
 
   world_fresh : (a : List Entry) (w : World) (t : ℕ) (s : State) → FreshEnv s.env → FreshWorld w → FreshWorld (world_after source a w t s)
   world_fresh a w t s f h = record {
-    tasks = λ u. either (λ (v : State). FreshEnv v.env) (u == t) (bare s) _ (bare_fresh s f) (either (λ (v : State). FreshEnv v.env) (spawns a u) (child_of source (own_object u a) s) (w.tasks u) (first_fresh _ (own_object u a)) (h.tasks u));
+    tasks = λ u. either (λ (v : State). FreshEnv v.env) (u == t) (bare s) _ (bare_fresh s f) (either (λ (v : State). FreshEnv v.env) (spawns a u) (child_of source (own_object u a) s) (w.tasks u) (first_fresh (routine_of source (child_main source s.run.control)) (own_object u a)) (h.tasks u));
     bare = λ u. either (λ (v : State). v.env.hand ≡ []) (u == t) (bare s) _ refl (either (λ (v : State). v.env.hand ≡ []) (spawns a u) (child_of source (own_object u a) s) (w.tasks u) refl (h.bare u));
     homes = λ o. either (MembersBy FreshEx (home.Object o)) (takes_out a o) None _ tt (or_fresh o (find o s.env.hand) (w.homes o) (parked.found_hand FreshEx o s.env.hand f.slots.hand) (h.homes o));
   }
@@ -69,7 +69,7 @@ module _ (source : Source) where
     homes = λ o. either (MembersBy FreshEx (home.Object o)) (o == 0) (Some _) None tt tt;
   }
 
-  run_fresh : (input : List ℕ) (opts : Options) (j : Journal) (w : World) (r : Runs source input opts j w) → RunMeets (BindsBegun source) source input opts j w r → FreshWorld w
+  pub run_fresh : (input : List ℕ) (opts : Options) (j : Journal) (w : World) (r : Runs source input opts j w) → RunMeets (BindsBegun source) source input opts j w r → FreshWorld w
   run_fresh input opts _ _ begun h = begin_fresh
   run_fresh input opts _ _ (more {j} {w} r o (gives p t v le)) h = run_fresh input opts j w r h.0
   run_fresh input opts _ _ (more {j} {w} r o (no_room p t v le)) h = run_fresh input opts j w r h.0

@@ -130,15 +130,16 @@ module _ (s : State) (st : FreshEnv s.env) where
 
   call : (r : Option Routine) (todo : List Todo) → FreshStep (quiet.call_step r todo s)
   call None todo = st
-  call (Some r) todo = either FreshStep (nat_lt s.env.links.calls CALLS) _ _ (begun r _ true todo _) st
+  call (Some r) todo = either FreshStep (nat_lt s.env.links.calls CALLS) _ _ (begun r Nothing true todo (drop r.params s.run.operands)) st
 
   call_on : (r : Option Routine) (todo : List Todo) → FreshStep (quiet.call_on_step r todo s)
   call_on None todo = st
-  call_on (Some r) todo = either FreshStep (nat_lt s.env.links.calls CALLS) _ _ (begun r _ true todo _) st
+  call_on (Some r) todo =
+      either FreshStep (nat_lt s.env.links.calls CALLS) _ _ (begun r (top (drop r.params s.run.operands)) true todo (below (drop r.params s.run.operands))) st
 
   call_unwritten : (r : Option Routine) (todo : List Todo) → FreshStep (quiet.call_unwritten_step r todo s)
   call_unwritten None todo = st
-  call_unwritten (Some r) todo = begun r _ false todo _
+  call_unwritten (Some r) todo = begun r (top (drop r.params s.run.operands)) false todo (below (drop r.params s.run.operands))
 
   -- coroutines
 
@@ -174,7 +175,7 @@ module _ (s : State) (st : FreshEnv s.env) where
 
   leave : (b : Bool) (q : ℕ) (todo : List Todo) → FreshStep (monitors.leave_at b q todo s)
   leave false q todo = kept.like st refl refl refl refl
-  leave true q todo = unless q _ todo (kept.like st refl refl refl refl)
+  leave true q todo = unless q _ todo (kept.counted_keeps s.run.counts (inside.call_ended q s.env) (kept.like st refl refl refl refl))
 
   make : (c n : ℕ) (r : Option Routine) (todo : List Todo) → FreshStep (monitors.make_step c n r todo s)
   make c n None todo = st

@@ -1,5 +1,5 @@
 -- What executions were to clean up as they made others stays where members, executions and who runs change.
-use Rattle.std.proofs.Common.{◌≡◌, ℕ, length, ap, ◌∙◌, true, false, List, ◌∷◌, Option, Some, None, refl, sym, subst}
+use Rattle.std.proofs.Common.{◌≡◌, ℕ, Bool, length, ap, ◌∙◌, true, false, List, ◌∷◌, Option, Some, None, refl, sym, subst}
 use Rattle.uc_entry.specs.declared.fault.RunFault.TheVariants.{ResumeInUse, SwitchInUnwind}
 use Rattle.uc_entry.specs.Keyed.{find}
 use Rattle.uc_machine.specs.declared.exec.Exec.{Exec}

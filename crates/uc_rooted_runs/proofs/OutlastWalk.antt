@@ -1,5 +1,5 @@
 -- Every quiet step of a task keeps what executions were to clean up as they made others, and so does each answer.
-use Rattle.std.proofs.Common.{◌≡◌, ℕ, List, [], ◌∷◌, Option, Some, None, refl, subst}
+use Rattle.std.proofs.Common.{◌≡◌, ℕ, Bool, List, [], ◌∷◌, Option, Some, None, refl, subst}
 use Rattle.uc_machine.specs.declared.exec.Exec.{Exec}
 use Rattle.uc_machine.specs.Pieces.{Active}
 use Rattle.std.specs.Prelude.{nat_lt, slice_get, drop}

@@ -1,5 +1,5 @@
 -- What stands in what an execution was to clean up as it made another, or had of others, stands in what it is to clean up, or has of others.
-use Rattle.std.proofs.Common.{◌≡◌, ℕ, ◌⊎◌, inl, inr, Bool, true, false, List, [], ◌∷◌, refl, sym, ◌∙◌, subst}
+use Rattle.std.proofs.Common.{◌≡◌, ℕ, ◌⊎◌, inl, inr, Bool, true, false, List, [], ◌∷◌, refl, sym, ◌∙◌, subst, ⊎_elim}
 use Rattle.uc_machine.specs.declared.exec.Exec.{Exec}
 use Rattle.uc_machine.specs.declared.exec.Owner.TheVariants.{Frame}
 use Rattle.uc_machine.specs.Pieces as piece
@@ -63,11 +63,8 @@ module _ (t : Table) (n : Exec) where
 
   in_stack : (cs : List Active) (w : Value) (a : Ty) → InPlaced t n (stacked cs) w a → InStack (IsFor t) (AtField t) NoBase n cs w a
   in_stack [] w a m = m
-  in_stack (c ∷ older) w a m = by (in_todo c.frame c.this c.control (stacked older) w a m)
-    where
-      by : InTodo (IsFor t (Frame n c.frame) c.this) (AtField t (Frame n c.frame) c.this) c.control w a ⊎ InPlaced t n (stacked older) w a → InStack (IsFor t) (AtField t) NoBase n (c ∷ older) w a
-      by (inl h) = inl h
-      by (inr h) = inr (in_stack older w a h)
+  in_stack (c ∷ older) w a m =
+      ⊎_elim (λ h. inl h) (λ h. inr (in_stack older w a h)) (in_todo c.frame c.this c.control (stacked older) w a m)
 
 module _ (t : Table) (few : Few) (K L : Value → Ty → Type 0) (more : (w : Value) (a : Ty) → K w a → L w a) where
   pub stands_more : (b : Ty) (v : Value) → Stands t few K b v → Stands t few L b v
