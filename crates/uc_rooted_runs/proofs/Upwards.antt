@@ -13,7 +13,7 @@ use Rattle.uc_life_laws.specs.LifeStates.{SlotBy, ParkedBy, HandBy, MembersBy}
 use Rattle.uc_world_laws.specs.Rooted.{InSlot, InParked, InHand, InMembers, Lives, Had}
 use Rattle.uc_rooted_runs.specs.Makers.{Makers}
 use Rattle.uc_rooted_runs.specs.Outlasting.{Outlasts, OutlastEx}
-use Rattle.uc_rooted_runs.specs.Upwards.{OutlastWorld, IsBased, LawUpwards}
+use Rattle.uc_rooted_runs.specs.Upwards.{IsThere, OutlastWorld, IsBased, LawUpwards}
 use Rattle.uc_rooted_runs.proofs.Outlasting.{law_outlasting, stands_more}
 
 module _ (makers : Makers) (up : Exec → Bool) where
@@ -39,18 +39,23 @@ module _ (makers : Makers) (up : Exec → Bool) where
   in_members n cs h None i k = absurd i
   in_members n cs h (Some m) i k = in_parked n cs h m.parked i k
 
-  in_world : (j : Journal) (x : World) → OutlastWorld makers up j x → (n : Exec) (cs : List Active) → Lives j x n cs → Outlasts makers up n cs
-  in_world j x w n cs (inl i) = told n (x.tasks i.0).env.exec cs ((x.tasks i.0).run ∷ (x.tasks i.0).callers) i.2 i.3 (w.stacks i.0 i.1)
+  in_world : (j : Journal) (x : World) → OutlastWorld makers up j x → (n : Exec) (cs : List Active) → IsThere j x n cs → Outlasts makers up n cs
+  in_world j x w n cs (inl i) = told n (x.tasks i.0).env.exec cs ((x.tasks i.0).run ∷ (x.tasks i.0).callers) i.2 i.3 (w.stacks i.0 i.1.0)
   in_world j x w n cs (inr (inl (u, inl i))) = in_parked n cs (home.Task (x.tasks u).env.own) (x.tasks u).env.house.parked i (w.tasks u).house
   in_world j x w n cs (inr (inl (u, inr i))) = in_hand n cs (x.tasks u).env.hand i (w.tasks u).hand
   in_world j x w n cs (inr (inr (o, i))) = in_members n cs (home.Object o) (x.homes o) i (w.homes o)
+
+-- one that is there lives
+lives : (j : Journal) (x : World) (n : Exec) (cs : List Active) → IsThere j x n cs → Lives j x n cs
+lives j x n cs (inl i) = inl (i.0, i.1.1, i.2, i.3)
+lives j x n cs (inr i) = inr i
 
 pub law_upwards : LawUpwards
 law_upwards t few makers up j x own yet w based n cs i v b k e =
     let r = based n cs i v b k e in
     let h = in_world makers up j x w (makers.parent n) r.active r.lives in
     let s = law_outlasting.stands t few makers up (makers.parent n) r.active h n r.asked refl v b r.stood in
-    (makers.parent n, r.active, r.lives, r.later, stands_more t few (λ w a. InStack (IsFor t) (AtField t) NoBase (makers.parent n) r.active w a ⊎ Base few (makers.parent n) w a) (Had t few yet (makers.parent n) r.active) had b v s)
+    (makers.parent n, r.active, lives j x (makers.parent n) r.active r.lives, r.later, stands_more t few (λ w a. InStack (IsFor t) (AtField t) NoBase (makers.parent n) r.active w a ⊎ Base few (makers.parent n) w a) (Had t few yet (makers.parent n) r.active) had b v s)
   where
     had : (w : Value) (a : Ty) → InStack (IsFor t) (AtField t) NoBase (makers.parent n) (based n cs i v b k e).active w a ⊎ Base few (makers.parent n) w a → Had t few yet (makers.parent n) (based n cs i v b k e).active w a
     had w a (inl m) = inl (inl m)

@@ -1,7 +1,7 @@
 -- Worlds in which each thing that an execution has of others stands in what the one that made it has.
 use Rattle.std.specs.Prelude.{◌≡◌, ℕ, ◌<◌, Bool, true, false, List, ◌∷◌}
 use Rattle.uc_acts.specs.Journal.{Journal}
-use Rattle.uc_acts.specs.Known.{has_ended}
+use Rattle.uc_acts.specs.Known.{has_ended, task_count}
 use Rattle.uc_machine.specs.declared.exec.Exec.{Exec}
 use Rattle.uc_machine.specs.declared.exec.Home.TheVariants.{Object}
 use Rattle.uc_machine.specs.Pieces.{Value, Active}
@@ -9,13 +9,17 @@ use Rattle.uc_meaning.specs.Runs.{World}
 use Rattle.uc_typing.specs.Typing.{Ty, Table}
 use Rattle.uc_life_laws.specs.Things.{Few, Base, Stands}
 use Rattle.uc_life_laws.specs.LifeStates.{EnvBy, MembersBy}
-use Rattle.uc_world_laws.specs.Rooted.{Lives, Had}
+use Rattle.uc_world_laws.specs.Rooted.{LivesBy, Lives, Had}
 use Rattle.uc_rooted_runs.specs.Makers.{Makers}
 use Rattle.uc_rooted_runs.specs.Outlasting.{Outlasts, OutlastEx, HadBefore}
 
--- in the world behind a journal what executions were to clean up as they made others stays with them, of the tasks that have not ended
+-- an execution lives in the world behind a journal, of the tasks that were spawned and have not ended
+abbrev pub IsThere : Journal → World → Exec → List Active → Type 0
+IsThere j x n cs = LivesBy (λ u. (u < task_count j) × (has_ended u j ≡ false)) x n cs
+
+-- in the world behind a journal what executions were to clean up as they made others stays with them
 pub record OutlastWorld (makers : Makers) (up : Exec → Bool) (j : Journal) (x : World) : Type 0 where
-  pub stacks : (u : ℕ) → has_ended u j ≡ false →
+  pub stacks : (u : ℕ) → u < task_count j →
       Outlasts makers up (x.tasks u).env.exec ((x.tasks u).run ∷ (x.tasks u).callers)
   pub tasks : (u : ℕ) → EnvBy (OutlastEx makers up) (x.tasks u).env
   pub homes : (o : ℕ) → MembersBy (OutlastEx makers up) (Object o) (x.homes o)
@@ -26,7 +30,7 @@ pub record IsBased (t : Table) (few : Few) (makers : Makers) (up : Exec → Bool
   pub asked : up n ≡ true
   pub later : makers.rank (makers.parent n) < makers.rank n
   pub active : List Active
-  pub lives : Lives j x (makers.parent n) active
+  pub lives : IsThere j x (makers.parent n) active
   pub stood : Stands t few (HadBefore t few makers n) b w
 
 -- then it stands in what that one has

@@ -41,12 +41,16 @@ abbrev pub InMembers : Exec → List Active → Home → Option Members → Type
 InMembers n cs h None = ⊥
 InMembers n cs h (Some m) = InParked n cs h m.parked
 
--- it lives in the world behind a journal: it runs in a task that has not ended, or does not run, in a task or in an object
-abbrev pub Lives : Journal → World → Exec → List Active → Type 0
-Lives j x n cs =
-    ((u : ℕ) × (has_ended u j ≡ false) × (n ≡ (x.tasks u).env.exec) × (cs ≡ (x.tasks u).run ∷ (x.tasks u).callers)) ⊎
+-- it lives in a world: it runs in a task of which this holds, or does not run, in a task or in an object
+abbrev pub LivesBy : (ℕ → Type 0) → World → Exec → List Active → Type 0
+LivesBy P x n cs =
+    ((u : ℕ) × P u × (n ≡ (x.tasks u).env.exec) × (cs ≡ (x.tasks u).run ∷ (x.tasks u).callers)) ⊎
     (((u : ℕ) × (InParked n cs (Task (x.tasks u).env.own) (x.tasks u).env.house.parked ⊎ InHand n cs (x.tasks u).env.hand)) ⊎
     ((o : ℕ) × InMembers n cs (Object o) (x.homes o)))
+
+-- behind a journal: of tasks that have not ended
+abbrev pub Lives : Journal → World → Exec → List Active → Type 0
+Lives j x n cs = LivesBy (λ u. has_ended u j ≡ false) x n cs
 
 -- what is at a place
 abbrev pub IsPlace : Value → Type 0
