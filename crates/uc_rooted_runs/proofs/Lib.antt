@@ -8,3 +8,4 @@ pub mod OutlastSteps
 pub mod OutlastWalk
 pub mod Outlasting
 pub mod Upwards
+pub mod OutlastRuns

@@ -9,7 +9,7 @@ use Rattle.uc_entry.specs.declared.request.Asked.{Asked}
 use Rattle.uc_entry.specs.declared.request.Request.{Request}
 use Rattle.uc_entry.specs.declared.request.Request.TheVariants as ask
 use Rattle.uc_entry.specs.Keyed.{find}
-use Rattle.uc_acts.specs.Journal.{Journal, held, is_over, own_object, cost}
+use Rattle.uc_acts.specs.Journal.{Journal, begin, held, is_over, own_object, cost}
 use Rattle.uc_acts.specs.Known.{task_count, spawns, takes_out}
 use Rattle.uc_acts.specs.Acts.{act, dispatch, lone_limit}
 use Rattle.uc_acts.specs.KernelRuns.{InRange, Fits}
@@ -33,7 +33,8 @@ use Rattle.uc_program_laws.proofs.Others.{RunRests, run_rests, may_ask}
 use Rattle.uc_hand_laws.proofs.DeepWorlds.{DeepWorld, deep_run, spawns_none, spawned_by}
 use Rattle.uc_name_laws.specs.NameSteps.{IsBorn}
 use Rattle.uc_name_laws.proofs.Homes.{no_both, same_exec}
-use Rattle.uc_named_runs.proofs.Worlds.{own_spawn}
+use Rattle.uc_named_runs.proofs.Worlds.{known, own_spawn}
+use Rattle.uc_named_runs.proofs.Worlds as named
 use Rattle.uc_life_laws.specs.Knowing.{main_of}
 use Rattle.uc_life_laws.specs.LifeStates.{HandBy, MembersBy, EnvBy}
 use Rattle.uc_life_laws.proofs.Cells.{either, tested}
@@ -42,11 +43,11 @@ use Rattle.uc_world_laws.proofs.Fewer.{both_members, both_env}
 use Rattle.uc_rooted_runs.specs.Makers.{Placed, placed, stacked, Ends, all, Makers}
 use Rattle.uc_rooted_runs.specs.Outlasting.{EndIn, Outlasts, OutlastEx, OutlastState, OutlastStep, Spares, SparesAt, IsAlone}
 use Rattle.uc_rooted_runs.specs.Upwards.{OutlastWorld}
-use Rattle.uc_rooted_runs.specs.OutlastRuns.{with_made, made_by, made_behind, ride_made, made_asked, may_made, run_made, now, OutlastsAt, RideOutlasts, IsElsewhere, SpawnsAlone, MayOutlast, RunOutlasts, LawOutlastRuns}
+use Rattle.uc_rooted_runs.specs.OutlastRuns.{with_made, made_by, made_behind, ride_made, made_asked, may_made, run_made, now, OutlastsAt, RideOutlasts, NoneElsewhere, SpawnsAlone, MayOutlast, RunOutlasts, LawOutlastRuns}
 use Rattle.uc_rooted_runs.proofs.OutlastWalk as walking
 use Rattle.uc_rooted_runs.proofs.OutlastSteps as steps
 use Rattle.uc_rooted_runs.proofs.OutlastKeeping as kept
-use Rattle.uc_rooted_runs.proofs.Outlasting.{ends_more, state_more}
+use Rattle.uc_rooted_runs.proofs.Outlasting.{ends_more, state_fewer, state_more}
 
 module _ (makers : Makers) (asked : Exec → Bool) where
   -- who is made now was not before
@@ -210,7 +211,137 @@ module _ (makers : Makers) (asked : Exec → Bool) where
             by false e =
                 let now_it : (if exec_eq x (main_of o) then true else made x) ≡ true = now_made (made_asked (ask.Spawn o) made) x h in
                 no_both (made x) (ap (λ b. if b then true else made x) (sym e) ∙ now_it) old
-    asked_spawned q f st = same q st
+    asked_spawned q f st = state_fewer makers (now makers asked made) (now makers asked (made_asked q made)) s st (λ x h. h)
+
+  -- worlds
+
+  with_hand_told : (up : Exec → Bool) (o : ℕ) (m : Option Members) (hand : List (ℕ × Members)) → MembersBy (OutlastEx makers up) (home.Object o) m → HandBy (OutlastEx makers up) hand → HandBy (OutlastEx makers up) (with_home o m hand)
+  with_hand_told up o None hand h k = k
+  with_hand_told up o (Some m) hand h k = (h, k)
+
+  hand_told : (up : Exec → Bool) (os : List ℕ) (homes : ℕ → Option Members) → ((o : ℕ) → MembersBy (OutlastEx makers up) (home.Object o) (homes o)) → HandBy (OutlastEx makers up) (hand_of os homes)
+  hand_told up [] homes h = tt
+  hand_told up (o ∷ os) homes h = with_hand_told up o (homes o) (hand_of os homes) (h o) (hand_told up os homes h)
+
+  drawn_told : (up : Exec → Bool) (j : Journal) (w : World) (t : ℕ) → t < task_count j → OutlastWorld makers up j w → OutlastState makers up (drawn j w t)
+  drawn_told up j w t l h = record {
+    stack = h.stacks t l;
+    env = record { house = (h.tasks t).house; hand = hand_told up (held t j) w.homes h.homes };
+  }
+
+  bare_told : (up : Exec → Bool) (s : State) → OutlastState makers up s → OutlastState makers up (bare s)
+  bare_told up s h = record { stack = h.stack; env = record { house = h.env.house; hand = tt } }
+
+  bare_main : (r : Routine) (o : ℕ) (up : Exec → Bool) → EndIn makers up (main_of o) [] → Outlasts makers up (first_state r o).env.exec ((first_state r o).run ∷ (first_state r o).callers)
+  bare_main r o up h = steps.routine makers up (main_of o) 0 (piece.Object o) [] r h
+
+  first_env : (r : Routine) (o : ℕ) (up : Exec → Bool) → EnvBy (OutlastEx makers up) (first_state r o).env
+  first_env r o up = record { house = (tt, tt); hand = tt }
+
+  module _ (source : Source) (input : List ℕ) (opts : Options) (range : InRange opts) where
+    module _ {j : Journal} {w : World} (rests : RunRests source input opts j w) (going : is_over j ≡ false) (deep : DeepWorld j w) (made : Exec → Bool) (h : OutlastWorld makers (now makers asked made) j w) (p t n : ℕ) (s : State) (q : Asked) (d : AsksIn source opts j w p t n s q) (f : Fits opts source.sites j t q.request) (on : is_over (j ++ act opts source.sites input j p t n q) ≡ false) (k : MayOutlast makers asked source input opts made (acts p t n s q d)) (lt : t < task_count j) where
+      abbrev a : List Entry
+      a = act opts source.sites input j p t n q
+
+      abbrev After : Exec → Bool
+      After = now makers asked (made_asked q.request (ride_made source made d.rides))
+
+      -- the state that has asked
+      behind : OutlastState makers (now makers asked (made_asked q.request (ride_made source made d.rides))) s
+      behind =
+          asked_spawned (ride_made source made d.rides) s q.request k.1 (ride_outlasts source made d.rides k.0 (walking.answered_there makers (now makers asked made) source d.given (drawn j w t) (drawn_told (now makers asked made) j w t lt h)))
+
+      -- elsewhere
+      old_stack : (v : ℕ) → v < task_count j → (v == t) ≡ false → Outlasts makers (now makers asked (made_asked q.request (ride_made source made d.rides))) (w.tasks v).env.exec ((w.tasks v).run ∷ (w.tasks v).callers)
+      old_stack v l e =
+          ends_more makers (now makers asked made) (now makers asked (made_asked q.request (ride_made source made d.rides))) (w.tasks v).env.exec (stacked ((w.tasks v).run ∷ (w.tasks v).callers)) (λ x g i r. absurd (k.2.tasks v l e x g i r)) (h.stacks v l)
+
+      -- of one that has made none meanwhile
+      grown : (m : Exec) (y : _) → ((x : Exec) → now makers asked (made_asked q.request (ride_made source made d.rides)) x ≡ true → now makers asked made x ≡ false → makers.parent x ≡ m → ⊥) → OutlastEx makers (now makers asked made) m y → OutlastEx makers (now makers asked (made_asked q.request (ride_made source made d.rides))) m y
+      grown m y g e = ends_more makers (now makers asked made) (now makers asked (made_asked q.request (ride_made source made d.rides))) m (stacked (y.run ∷ y.callers)) (λ x u d r. absurd (g x u d r)) e
+
+      old_env : (v : ℕ) → (v == t) ≡ false → EnvBy (OutlastEx makers (now makers asked (made_asked q.request (ride_made source made d.rides)))) (w.tasks v).env
+      old_env v e =
+          both_env (λ m y. (x : Exec) → now makers asked (made_asked q.request (ride_made source made d.rides)) x ≡ true → now makers asked made x ≡ false → makers.parent x ≡ m → ⊥) (OutlastEx makers (now makers asked made)) (OutlastEx makers (now makers asked (made_asked q.request (ride_made source made d.rides)))) (λ m y g i. grown m y g i) (w.tasks v).env (k.2.slots v e) (h.tasks v)
+
+      old_home : (o : ℕ) → find o s.env.hand ≡ None → MembersBy (OutlastEx makers (now makers asked (made_asked q.request (ride_made source made d.rides)))) (home.Object o) (w.homes o)
+      old_home o e =
+          both_members (λ m y. (x : Exec) → now makers asked (made_asked q.request (ride_made source made d.rides)) x ≡ true → now makers asked made x ≡ false → makers.parent x ≡ m → ⊥) (OutlastEx makers (now makers asked made)) (OutlastEx makers (now makers asked (made_asked q.request (ride_made source made d.rides)))) (λ m y g i. grown m y g i) (home.Object o) (w.homes o) (k.2.homes o e) (h.homes o)
+
+      or_home : (o : ℕ) (z : Option Members) → find o s.env.hand ≡ z → MembersBy (OutlastEx makers (now makers asked (made_asked q.request (ride_made source made d.rides)))) (home.Object o) z → MembersBy (OutlastEx makers (now makers asked (made_asked q.request (ride_made source made d.rides)))) (home.Object o) (or_else z (w.homes o))
+      or_home o None e m = old_home o e
+      or_home o (Some z) e m = m
+
+      -- the main that is spawned has made none
+      main_none : (o : ℕ) → q.request ≡ ask.Spawn o → EndIn makers (now makers asked (made_asked q.request (ride_made source made d.rides))) (main_of o) []
+      main_none o e x u r = absurd (by q.request e k.1 u)
+        where
+          by : (g : Request) → g ≡ ask.Spawn o → SpawnsAlone makers asked (ride_made source made d.rides) g s → now makers asked (made_asked g (ride_made source made d.rides)) x ≡ true → ⊥
+          by (ask.Spawn c) e g u = let same : c ≡ o = cc in g.2 x u (r ∙ ap main_of (sym same))
+          by g e y u = absurd (cc)
+
+      abbrev Holds : State → Type 0
+      Holds v = Outlasts makers (now makers asked (made_asked q.request (ride_made source made d.rides))) v.env.exec (v.run ∷ v.callers)
+
+      stacks_after : (u : ℕ) → u < task_count (j ++ act opts source.sites input j p t n q) → Holds ((world_after source (act opts source.sites input j p t n q) w t s).tasks u)
+      stacks_after u l = by (u == t) refl
+        where
+          old : (u == t) ≡ false → u < task_count j → Holds ((world_after source (act opts source.sites input j p t n q) w t s).tasks u)
+          old e i =
+              let none : spawns a u ≡ false = spawns_none j a u (lawful_act opts source.sites input j p t n q (good_whole opts source.sites input rests.kernel).sound (may_ask source input opts range d f)) i in
+              let state : (world_after source a w t s).tasks u ≡ w.tasks u = ap (λ b. if b then bare s else if spawns a u then child_of source (own_object u a) s else w.tasks u) e ∙ ap (λ b. if b then child_of source (own_object u a) s else w.tasks u) none in
+              subst Holds (sym state) (old_stack u i e)
+
+          new : (u == t) ≡ false → task_count j ≤ u → Holds ((world_after source (act opts source.sites input j p t n q) w t s).tasks u)
+          new e le =
+              let b = spawned_by source input opts range rests going deep p t n s q d f on u le l in
+              let spawns_it : spawns a u ≡ true = ap (λ l. spawns l u) b.entries ∙ ap (λ c. c || false) b.test in
+              let own : own_object u a ≡ b.object = ap (own_object u) b.entries ∙ own_spawn p t (cost n q.line) b.object (task_count j) u b.test in
+              let state : (world_after source a w t s).tasks u ≡ child_of source b.object s = ap (λ b. if b then bare s else if spawns a u then child_of source (own_object u a) s else w.tasks u) e ∙ (ap (λ b. if b then child_of source (own_object u a) s else w.tasks u) spawns_it ∙ ap (λ o. child_of source o s) own) in
+              subst Holds (sym state) (bare_main (routine_of source (child_main source s.run.control)) b.object (now makers asked (made_asked q.request (ride_made source made d.rides))) (main_none b.object b.request))
+
+          by : (b : Bool) → (u == t) ≡ b → Holds ((world_after source (act opts source.sites input j p t n q) w t s).tasks u)
+          by true e =
+              let state : (world_after source a w t s).tasks u ≡ bare s = ap (λ b. if b then bare s else if spawns a u then child_of source (own_object u a) s else w.tasks u) e in
+              subst Holds (sym state) behind.stack
+          by false e = ⊎_elim (λ i. old e i) (λ le. new e le) (cases_lt u (task_count j))
+
+      tasks_after : (u : ℕ) → EnvBy (OutlastEx makers (now makers asked (made_asked q.request (ride_made source made d.rides)))) ((world_after source (act opts source.sites input j p t n q) w t s).tasks u).env
+      tasks_after u =
+          tested (λ (v : State). EnvBy (OutlastEx makers (now makers asked (made_asked q.request (ride_made source made d.rides)))) v.env) (u == t) (bare s) _ (λ e. (bare_told (now makers asked (made_asked q.request (ride_made source made d.rides))) s behind).env) (λ e. either (λ (v : State). EnvBy (OutlastEx makers (now makers asked (made_asked q.request (ride_made source made d.rides)))) v.env) (spawns a u) (child_of source (own_object u a) s) (w.tasks u) (first_env (routine_of source (child_main source s.run.control)) (own_object u a) (now makers asked (made_asked q.request (ride_made source made d.rides)))) (old_env u e))
+
+      outlast_act : OutlastWorld makers (now makers asked (made_asked q.request (ride_made source made d.rides))) (j ++ act opts source.sites input j p t n q) (world_after source (act opts source.sites input j p t n q) w t s)
+      outlast_act = record {
+        stacks = stacks_after;
+        tasks = tasks_after;
+        homes = λ o. either (MembersBy (OutlastEx makers (now makers asked (made_asked q.request (ride_made source made d.rides)))) (home.Object o)) (takes_out a o) None _ tt (or_home o (find o s.env.hand) refl (parked.found_hand (OutlastEx makers (now makers asked (made_asked q.request (ride_made source made d.rides)))) o s.env.hand behind.env.hand));
+      }
+
+    outlast_given : (up : Exec → Bool) (j : Journal) (w : World) (p t : ℕ) → OutlastWorld makers up j w → OutlastWorld makers up (j ++ dispatch p t ∷ []) w
+    outlast_given up j w p t h =
+        let same = tasks_push j (dispatch p t) in
+        record { stacks = λ u l. h.stacks u (omega (arith, l, same)); tasks = h.tasks; homes = h.homes }
+
+    outlast_begin : OutlastWorld makers (now makers asked (λ x. false)) (begin opts ∷ []) (first_world source)
+    outlast_begin = record {
+      stacks = λ u l x h. absurd (no_one x h);
+      tasks = λ u. first_env (routine_of source source.main) 0 (now makers asked (λ x. false));
+      homes = λ o. either (MembersBy (OutlastEx makers (now makers asked (λ x. false))) (home.Object o)) (o == 0) (Some _) None tt tt;
+    }
       where
-        same : (q : Request) → OutlastState makers (now makers asked made) s → OutlastState makers (now makers asked (made_asked q made)) s
-        same q st = absurd (cc)
+        no_one : (x : Exec) → now makers asked (λ x. false) x ≡ true → ⊥
+        no_one x h = let e = now_made (λ x. false) x h in absurd (cc)
+
+    run_outlasts : {j : Journal} {w : World} (r : Runs source input opts j w) → RunFits source input opts j w r → is_over j ≡ false → RunOutlasts makers asked source input opts r → OutlastWorld makers (now makers asked (run_made source input opts r)) j w
+    run_outlasts begun f on o = outlast_begin
+    run_outlasts (more {j} {w} r going (gives p t v le)) f on o = outlast_given (now makers asked (run_made source input opts r)) j w p t (run_outlasts r f.0 going o.0)
+    run_outlasts (more {j} r going (no_room p t v le)) f on o = no_both (is_over (j ++ lone_limit ∷ [])) (over_limit j 0 0) on
+    run_outlasts (more {j} {w} r going (acts p t n s q d)) f on o =
+        let h = run_outlasts r f.0 going o.0 in
+        let rests = run_rests source input opts range r f.0 going in
+        let deep = deep_run source input opts range r f.0 going in
+        let x = named.run_named source input opts range r f.0 going in
+        outlast_act rests going deep (run_made source input opts r) h p t n s q d f.1 on o.1 (known source input opts range rests going x.serials x.world p t d.runs)
+
+pub law_outlast_runs : LawOutlastRuns
+law_outlast_runs makers asked source input opts j w r range fits on o = run_outlasts makers asked source input opts range r fits on o

@@ -254,7 +254,7 @@ module _ (makers : Makers) (up : Exec → Bool) where
     -- coroutines
 
     -- one that has not begun has made none
-    fresh : (n : Exec) (r : Routine) (this : Value) → ((x : Exec) → up x ≡ true → makers.parent x ≡ n → ⊥) → OutlastEx makers up n (quiet.fresh r this)
+    pub fresh : (n : Exec) (r : Routine) (this : Value) → ((x : Exec) → up x ≡ true → makers.parent x ≡ n → ⊥) → OutlastEx makers up n (quiet.fresh r this)
     fresh n r this f = routine n _ this [] r (λ x u p. absurd (f x u p))
 
     pub set_up : (r : Option Routine) (todo : List Todo) → SparesAt makers up (piece.SetUpNow 0 ∷ todo) s → Holding todo → OutlastStep makers up (quiet.set_up_step r todo s)

@@ -82,7 +82,7 @@ module _ (makers : Makers) (up other : Exec → Bool) where
   ends_fewer : (n : Exec) (ps : List Placed) → ((x : Exec) → other x ≡ true → up x ≡ true) → EndIn makers up n ps → EndIn makers other n ps
   ends_fewer n ps f h x u p = h x (f x u) p
 
-  ends_more : (n : Exec) (ps : List Placed) → ((x : Exec) → other x ≡ true → up x ≡ false → makers.parent x ≡ n → Ends (makers.before x) ps) → EndIn makers up n ps → EndIn makers other n ps
+  pub ends_more : (n : Exec) (ps : List Placed) → ((x : Exec) → other x ≡ true → up x ≡ false → makers.parent x ≡ n → Ends (makers.before x) ps) → EndIn makers up n ps → EndIn makers other n ps
   ends_more n ps f h x u p = by (up x) refl
     where
       by : (b : Bool) → up x ≡ b → Ends (makers.before x) ps
@@ -90,14 +90,14 @@ module _ (makers : Makers) (up other : Exec → Bool) where
       by false e = f x u e p
 
 module _ (makers : Makers) (up fewer : Exec → Bool) (s : State) (h : OutlastState makers up s) (f : (x : Exec) → fewer x ≡ true → up x ≡ true) where
-  state_fewer : OutlastState makers fewer s
+  pub state_fewer : OutlastState makers fewer s
   state_fewer = record {
     stack = ends_fewer makers up fewer s.env.exec (stacked (s.run ∷ s.callers)) f h.stack;
     env = both_env (OutlastEx makers up) (OutlastEx makers up) (OutlastEx makers fewer) (λ n y k l. ends_fewer makers up fewer n (stacked (y.run ∷ y.callers)) f k) s.env h.env h.env;
   }
 
 module _ (makers : Makers) (up more : Exec → Bool) (s : State) (h : OutlastState makers up s) (alone : IsAlone s.env) (f : (x : Exec) → more x ≡ true → up x ≡ false → (makers.parent x ≡ s.env.exec) × Ends (makers.before x) (stacked (s.run ∷ s.callers))) where
-  state_more : OutlastState makers more s
+  pub state_more : OutlastState makers more s
   state_more = record {
     stack = ends_more makers up more s.env.exec (stacked (s.run ∷ s.callers)) (λ x u d p. (f x u d).1) h.stack;
     env = both_env (λ n y. n ≡ s.env.exec → ⊥) (OutlastEx makers up) (OutlastEx makers more) (λ n y k l. ends_more makers up more n (stacked (y.run ∷ y.callers)) (λ x u d p. absurd (k (sym p ∙ (f x u d).0))) l) s.env alone h.env;

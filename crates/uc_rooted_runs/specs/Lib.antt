@@ -5,3 +5,4 @@ pub mod FreshRuns
 pub mod Forgetting
 pub mod Outlasting
 pub mod Upwards
+pub mod OutlastRuns

@@ -81,11 +81,14 @@ module _ (makers : Makers) (asked : Exec → Bool) where
   RideOutlasts source made (ticks {s} e r) = OutlastsAt source made s × RideOutlasts source (made_behind source s made) r
   RideOutlasts source made (asks {s} e) = OutlastsAt source made s
 
-  -- at the end of an act of task t: nobody elsewhere in the world before has the name of one that made others meanwhile
-  pub record IsElsewhere (j : Journal) (w : World) (t : ℕ) (s : State) (n : Exec) : Type 0 where
-    pub tasks : (v : ℕ) → v < task_count j → (v == t) ≡ false → n ≡ (w.tasks v).env.exec → ⊥
-    pub slots : (v : ℕ) → (v == t) ≡ false → EnvBy (λ m y. m ≡ n → ⊥) (w.tasks v).env
-    pub homes : (o : ℕ) → find o s.env.hand ≡ None → MembersBy (λ m y. m ≡ n → ⊥) (Object o) (w.homes o)
+  -- at the end of an act of task t: nobody elsewhere in the world before has made any of those that were made meanwhile
+  abbrev pub MadeNone : (Exec → Bool) → (Exec → Bool) → Exec → Type 0
+  MadeNone made behind n = (x : Exec) → now behind x ≡ true → now made x ≡ false → makers.parent x ≡ n → ⊥
+
+  pub record NoneElsewhere (made behind : Exec → Bool) (j : Journal) (w : World) (t : ℕ) (s : State) : Type 0 where
+    pub tasks : (v : ℕ) → v < task_count j → (v == t) ≡ false → MadeNone made behind (w.tasks v).env.exec
+    pub slots : (v : ℕ) → (v == t) ≡ false → EnvBy (λ n y. MadeNone made behind n) (w.tasks v).env
+    pub homes : (o : ℕ) → find o s.env.hand ≡ None → MembersBy (λ n y. MadeNone made behind n) (Object o) (w.homes o)
 
   -- what is spawned is made by who asks that, with all that that is to clean up, and has made none
   abbrev pub SpawnsAlone : (Exec → Bool) → Request → State → Type 0
@@ -102,8 +105,7 @@ module _ (makers : Makers) (asked : Exec → Bool) where
     MayOutlast made (no_room p t s h) = Unit {0}
     MayOutlast made {j} {w} (acts p t k s q d) = RideOutlasts source made d.rides ×
         SpawnsAlone (ride_made source made d.rides) q.request s ×
-        ((x : Exec) → now (made_asked q.request (ride_made source made d.rides)) x ≡ true → now made x ≡ false →
-            IsElsewhere j w t s (makers.parent x))
+        NoneElsewhere made (made_asked q.request (ride_made source made d.rides)) j w t s
 
     -- at each state and each act of a run
     abbrev pub RunOutlasts : {j : Journal} {w : World} → Runs source input opts j w → Type 0

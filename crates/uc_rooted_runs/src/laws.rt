@@ -3,6 +3,7 @@
 ghost use Rattle.uc_rooted_runs.specs.Births.{LawBirths};
 ghost use Rattle.uc_rooted_runs.specs.Forgetting.{LawForgetting};
 ghost use Rattle.uc_rooted_runs.specs.FreshRuns.{LawFresh};
+ghost use Rattle.uc_rooted_runs.specs.OutlastRuns.{LawOutlastRuns};
 ghost use Rattle.uc_rooted_runs.specs.Outlasting.{LawOutlasting};
 ghost use Rattle.uc_rooted_runs.specs.Upwards.{LawUpwards};
 
@@ -31,4 +32,9 @@ pub fn law_outlasting()
 /// So what an execution that lives has of others stands in what the one that made it has, if it stood there then.
 pub fn law_upwards()
     ensures { LawUpwards }
+{}
+
+/// So it is in runs, of what each execution was to clean up as it made another, from the making on.
+pub fn law_outlast_runs()
+    ensures { LawOutlastRuns }
 {}
