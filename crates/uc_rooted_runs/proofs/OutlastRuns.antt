@@ -11,6 +11,7 @@ use Rattle.uc_entry.specs.declared.request.Request.TheVariants as ask
 use Rattle.uc_entry.specs.Keyed.{find}
 use Rattle.uc_acts.specs.Journal.{Journal, begin, held, is_over, own_object, cost}
 use Rattle.uc_acts.specs.Known.{task_count, spawns, takes_out}
+use Rattle.uc_acts.specs.Serves.{left}
 use Rattle.uc_acts.specs.Acts.{act, dispatch, lone_limit}
 use Rattle.uc_acts.specs.KernelRuns.{InRange, Fits}
 use Rattle.uc_acts.proofs.Bounds.{over_limit}
@@ -31,6 +32,7 @@ use Rattle.uc_meaning.specs.Runs.{World, May, Runs, AsksIn, gives, no_room, acts
 use Rattle.uc_program_laws.specs.Fitting.{RunFits}
 use Rattle.uc_program_laws.proofs.Others.{RunRests, run_rests, may_ask}
 use Rattle.uc_hand_laws.proofs.DeepWorlds.{DeepWorld, deep_run, spawns_none, spawned_by}
+use Rattle.uc_value_laws.specs.Opens.{RideMeets, RunMeets}
 use Rattle.uc_name_laws.specs.NameSteps.{IsBorn}
 use Rattle.uc_name_laws.proofs.Homes.{no_both, same_exec}
 use Rattle.uc_named_runs.proofs.Worlds.{known, own_spawn}
@@ -42,6 +44,7 @@ use Rattle.uc_life_laws.proofs.Parked as parked
 use Rattle.uc_world_laws.proofs.Fewer.{both_members, both_env}
 use Rattle.uc_rooted_runs.specs.Makers.{Placed, placed, stacked, Ends, all, Makers}
 use Rattle.uc_rooted_runs.specs.Outlasting.{EndIn, Outlasts, OutlastEx, OutlastState, OutlastStep, Spares, SparesAt, IsAlone}
+use Rattle.uc_rooted_runs.specs.Births.{MakesLater, SpawnsLater, RunSpawnsLater}
 use Rattle.uc_rooted_runs.specs.Upwards.{OutlastWorld}
 use Rattle.uc_rooted_runs.specs.OutlastRuns.{with_made, made_by, made_behind, ride_made, made_asked, may_made, run_made, now, OutlastsAt, RideOutlasts, NoneElsewhere, SpawnsAlone, MayOutlast, RunOutlasts, LawOutlastRuns}
 use Rattle.uc_rooted_runs.proofs.OutlastWalk as walking
@@ -133,7 +136,7 @@ module _ (makers : Makers) (asked : Exec → Bool) where
       cc
 
   -- behind a step, of those too that it has made
-  module _ (source : Source) (made : Exec → Bool) (s : State) (st : OutlastState makers (now makers asked made) s) (a : OutlastsAt makers asked source made s) where
+  module _ (source : Source) (made : Exec → Bool) (s : State) (st : OutlastState makers (now makers asked made) s) (a : OutlastsAt makers asked source made s) (l : MakesLater source makers s) where
     abbrev Behind : Exec → Bool
     Behind = now makers asked (made_behind source s made)
 
@@ -157,9 +160,9 @@ module _ (makers : Makers) (asked : Exec → Bool) where
         told : (x : Exec) → now makers asked (made_behind source s made) x ≡ true → now makers asked made x ≡ false → (makers.parent x ≡ u.env.exec) × Ends (makers.before x) (stacked (u.run ∷ u.callers))
         told x k f =
             let b = born x k f in
-            let m = a.makes x b (now_asked (made_behind source s made) x k) (not_now made x (now_asked (made_behind source s made) x k) f) in
+            let m = l x b in
             let g = birth_same source (now makers asked made) s u x b st a.spares e in
-            (m.0 ∙ sym g.exec, subst (Ends (makers.before x)) (m.1 ∙ sym g.marks) all)
+            (m.parent ∙ sym g.exec, subst (Ends (makers.before x)) (m.before ∙ sym g.marks) all)
 
         by : (c : Bool) → now makers asked (made_behind source s made) (new_exec (home_at s.run.this s.env) s.env) ≡ c → (d : Bool) → now makers asked made (new_exec (home_at s.run.this s.env) s.env) ≡ d → OutlastState makers (now makers asked (made_behind source s made)) u
         by true g false i =
@@ -185,17 +188,17 @@ module _ (makers : Makers) (asked : Exec → Bool) where
     step_asks r u e =
         state_fewer makers (now makers asked made) (now makers asked (made_behind source s made)) u (subst (OutlastStep makers (now makers asked made)) e (walking.walk makers (now makers asked made) source s st a.spares)) (same_asked (λ x b. asks_not source s u r x b e))
 
-  ride_outlasts : (source : Source) (made : Exec → Bool) {s u : State} {q k : ℕ} {a : Asked} (r : Rides source s q u k a) → RideOutlasts makers asked source made r → OutlastState makers (now makers asked made) s → OutlastState makers (now makers asked (ride_made source made r)) u
-  ride_outlasts source made slices o st = st
-  ride_outlasts source made (goes_on {s} {t} e r) o st = ride_outlasts source (made_behind source s made) r o.1 (step_goes source made s st o.0 t e)
-  ride_outlasts source made (ticks {s} {t} e r) o st = ride_outlasts source (made_behind source s made) r o.1 (step_ticks source made s st o.0 t e)
-  ride_outlasts source made (asks {s} {t} {q} {r} e) o st = step_asks source made s st o r t e
+  ride_outlasts : (source : Source) (made : Exec → Bool) {s u : State} {q k : ℕ} {a : Asked} (r : Rides source s q u k a) → RideOutlasts makers asked source made r → RideMeets (MakesLater source makers) source s q u k a r → OutlastState makers (now makers asked made) s → OutlastState makers (now makers asked (ride_made source made r)) u
+  ride_outlasts source made slices o l st = st
+  ride_outlasts source made (goes_on {s} {t} e r) o l st = ride_outlasts source (made_behind source s made) r o.1 l.1 (step_goes source made s st o.0 l.0 t e)
+  ride_outlasts source made (ticks {s} {t} e r) o l st = ride_outlasts source (made_behind source s made) r o.1 l.1 (step_ticks source made s st o.0 l.0 t e)
+  ride_outlasts source made (asks {s} {t} {q} {r} e) o l st = step_asks source made s st o l r t e
 
   -- what is spawned
 
   module _ (made : Exec → Bool) (s : State) where
-    asked_spawned : (q : Request) → SpawnsAlone makers asked made q s → OutlastState makers (now makers asked made) s → OutlastState makers (now makers asked (made_asked q made)) s
-    asked_spawned (ask.Spawn o) f st = state_more makers (now makers asked made) (now makers asked (made_asked (ask.Spawn o) made)) s st f.1 told
+    asked_spawned : (q : Request) → SpawnsAlone makers asked made q s → SpawnsLater makers q s → OutlastState makers (now makers asked made) s → OutlastState makers (now makers asked (made_asked q made)) s
+    asked_spawned (ask.Spawn o) f l st = state_more makers (now makers asked made) (now makers asked (made_asked (ask.Spawn o) made)) s st f.0 told
       where
         told : (x : Exec) → now makers asked (made_asked (ask.Spawn o) made) x ≡ true → now makers asked made x ≡ false → (makers.parent x ≡ s.env.exec) × Ends (makers.before x) (stacked (s.run ∷ s.callers))
         told x h g = by (exec_eq x (main_of o)) refl
@@ -206,12 +209,11 @@ module _ (makers : Makers) (asked : Exec → Bool) where
             by : (b : Bool) → exec_eq x (main_of o) ≡ b → (makers.parent x ≡ s.env.exec) × Ends (makers.before x) (stacked (s.run ∷ s.callers))
             by true e =
                 let same = same_exec x (main_of o) e in
-                let m = f.0 (ap asked (sym same) ∙ now_asked (made_asked (ask.Spawn o) made) x h) (ap made (sym same) ∙ old) in
-                (ap makers.parent same ∙ m.0, subst (Ends (makers.before x)) (ap makers.before same ∙ m.1) all)
+                (ap makers.parent same ∙ l.parent, subst (Ends (makers.before x)) (ap makers.before same ∙ l.before) all)
             by false e =
                 let now_it : (if exec_eq x (main_of o) then true else made x) ≡ true = now_made (made_asked (ask.Spawn o) made) x h in
                 no_both (made x) (ap (λ b. if b then true else made x) (sym e) ∙ now_it) old
-    asked_spawned q f st = state_fewer makers (now makers asked made) (now makers asked (made_asked q made)) s st (λ x h. h)
+    asked_spawned q f l st = state_fewer makers (now makers asked made) (now makers asked (made_asked q made)) s st (λ x h. h)
 
   -- worlds
 
@@ -239,7 +241,7 @@ module _ (makers : Makers) (asked : Exec → Bool) where
   first_env r o up = record { house = (tt, tt); hand = tt }
 
   module _ (source : Source) (input : List ℕ) (opts : Options) (range : InRange opts) where
-    module _ {j : Journal} {w : World} (rests : RunRests source input opts j w) (going : is_over j ≡ false) (deep : DeepWorld j w) (made : Exec → Bool) (h : OutlastWorld makers (now makers asked made) j w) (p t n : ℕ) (s : State) (q : Asked) (d : AsksIn source opts j w p t n s q) (f : Fits opts source.sites j t q.request) (on : is_over (j ++ act opts source.sites input j p t n q) ≡ false) (k : MayOutlast makers asked source input opts made (acts p t n s q d)) (lt : t < task_count j) where
+    module _ {j : Journal} {w : World} (rests : RunRests source input opts j w) (going : is_over j ≡ false) (deep : DeepWorld j w) (made : Exec → Bool) (h : OutlastWorld makers (now makers asked made) j w) (p t n : ℕ) (s : State) (q : Asked) (d : AsksIn source opts j w p t n s q) (f : Fits opts source.sites j t q.request) (on : is_over (j ++ act opts source.sites input j p t n q) ≡ false) (k : MayOutlast makers asked source input opts made (acts p t n s q d)) (lt : t < task_count j) (ml : RideMeets (MakesLater source makers) source (answered source d.given (drawn j w t)) (left opts j t) s n q d.rides) (sl : SpawnsLater makers q.request s) where
       abbrev a : List Entry
       a = act opts source.sites input j p t n q
 
@@ -249,7 +251,7 @@ module _ (makers : Makers) (asked : Exec → Bool) where
       -- the state that has asked
       behind : OutlastState makers (now makers asked (made_asked q.request (ride_made source made d.rides))) s
       behind =
-          asked_spawned (ride_made source made d.rides) s q.request k.1 (ride_outlasts source made d.rides k.0 (walking.answered_there makers (now makers asked made) source d.given (drawn j w t) (drawn_told (now makers asked made) j w t lt h)))
+          asked_spawned (ride_made source made d.rides) s q.request k.1 sl (ride_outlasts source made d.rides k.0 ml (walking.answered_there makers (now makers asked made) source d.given (drawn j w t) (drawn_told (now makers asked made) j w t lt h)))
 
       -- elsewhere
       old_stack : (v : ℕ) → v < task_count j → (v == t) ≡ false → Outlasts makers (now makers asked (made_asked q.request (ride_made source made d.rides))) (w.tasks v).env.exec ((w.tasks v).run ∷ (w.tasks v).callers)
@@ -277,7 +279,7 @@ module _ (makers : Makers) (asked : Exec → Bool) where
       main_none o e x u r = absurd (by q.request e k.1 u)
         where
           by : (g : Request) → g ≡ ask.Spawn o → SpawnsAlone makers asked (ride_made source made d.rides) g s → now makers asked (made_asked g (ride_made source made d.rides)) x ≡ true → ⊥
-          by (ask.Spawn c) e g u = let same : c ≡ o = cc in g.2 x u (r ∙ ap main_of (sym same))
+          by (ask.Spawn c) e g u = let same : c ≡ o = cc in g.1 x u (r ∙ ap main_of (sym same))
           by g e y u = absurd (cc)
 
       abbrev Holds : State → Type 0
@@ -332,16 +334,16 @@ module _ (makers : Makers) (asked : Exec → Bool) where
         no_one : (x : Exec) → now makers asked (λ x. false) x ≡ true → ⊥
         no_one x h = let e = now_made (λ x. false) x h in absurd (cc)
 
-    run_outlasts : {j : Journal} {w : World} (r : Runs source input opts j w) → RunFits source input opts j w r → is_over j ≡ false → RunOutlasts makers asked source input opts r → OutlastWorld makers (now makers asked (run_made source input opts r)) j w
-    run_outlasts begun f on o = outlast_begin
-    run_outlasts (more {j} {w} r going (gives p t v le)) f on o = outlast_given (now makers asked (run_made source input opts r)) j w p t (run_outlasts r f.0 going o.0)
-    run_outlasts (more {j} r going (no_room p t v le)) f on o = no_both (is_over (j ++ lone_limit ∷ [])) (over_limit j 0 0) on
-    run_outlasts (more {j} {w} r going (acts p t n s q d)) f on o =
-        let h = run_outlasts r f.0 going o.0 in
+    run_outlasts : {j : Journal} {w : World} (r : Runs source input opts j w) → RunFits source input opts j w r → is_over j ≡ false → RunOutlasts makers asked source input opts r → RunMeets (MakesLater source makers) source input opts j w r → RunSpawnsLater makers source input opts j w r → OutlastWorld makers (now makers asked (run_made source input opts r)) j w
+    run_outlasts begun f on o ml sl = outlast_begin
+    run_outlasts (more {j} {w} r going (gives p t v le)) f on o ml sl = outlast_given (now makers asked (run_made source input opts r)) j w p t (run_outlasts r f.0 going o.0 ml.0 sl.0)
+    run_outlasts (more {j} r going (no_room p t v le)) f on o ml sl = no_both (is_over (j ++ lone_limit ∷ [])) (over_limit j 0 0) on
+    run_outlasts (more {j} {w} r going (acts p t n s q d)) f on o ml sl =
+        let h = run_outlasts r f.0 going o.0 ml.0 sl.0 in
         let rests = run_rests source input opts range r f.0 going in
         let deep = deep_run source input opts range r f.0 going in
         let x = named.run_named source input opts range r f.0 going in
-        outlast_act rests going deep (run_made source input opts r) h p t n s q d f.1 on o.1 (known source input opts range rests going x.serials x.world p t d.runs)
+        outlast_act rests going deep (run_made source input opts r) h p t n s q d f.1 on o.1 (known source input opts range rests going x.serials x.world p t d.runs) ml.1 sl.1
 
 pub law_outlast_runs : LawOutlastRuns
-law_outlast_runs makers asked source input opts j w r range fits on o = run_outlasts makers asked source input opts range r fits on o
+law_outlast_runs asked source input opts j w r range fits on b o = run_outlasts b.makers asked source input opts range r fits on o b.made b.spawned

@@ -23,7 +23,8 @@ use Rattle.uc_program_laws.specs.Fitting.{RunFits}
 use Rattle.uc_name_laws.specs.NameSteps.{IsBorn}
 use Rattle.uc_life_laws.specs.Knowing.{main_of}
 use Rattle.uc_life_laws.specs.LifeStates.{EnvBy, MembersBy}
-use Rattle.uc_rooted_runs.specs.Makers.{stacked, Makers}
+use Rattle.uc_rooted_runs.specs.Makers.{Makers}
+use Rattle.uc_rooted_runs.specs.Births.{AllMadeLater}
 use Rattle.uc_rooted_runs.specs.Outlasting.{Spares, IsAlone}
 use Rattle.uc_rooted_runs.specs.Upwards.{OutlastWorld}
 
@@ -67,12 +68,10 @@ module _ (makers : Makers) (asked : Exec → Bool) where
   abbrev pub now : (Exec → Bool) → Exec → Bool
   now made x = if asked x then made x else false
 
-  -- at a state: no mark is reached that was there as one was made of those that were made by now; and what it makes is made by the running one, with
-  -- all that that is to clean up, and behind it no other has the name of the running one
+  -- at a state: no mark is reached that was there as one was made of those that were made by now; and where it makes one, behind that no other has
+  -- the name of the running one
   pub record OutlastsAt (source : Source) (made : Exec → Bool) (s : State) : Type 0 where
     pub spares : Spares makers (now made) s
-    pub makes : (n : Exec) → IsBorn source s n → asked n ≡ true → made n ≡ false →
-        (makers.parent n ≡ s.env.exec) × (makers.before n ≡ stacked (s.run ∷ s.callers))
     pub alone : (n : Exec) → IsBorn source s n → (u : State) → quiet source s ≡ Goes u → IsAlone u.env
 
   abbrev pub RideOutlasts : (source : Source) → (Exec → Bool) → {s u : State} {q k : ℕ} {a : Asked} → Rides source s q u k a → Type 0
@@ -90,12 +89,9 @@ module _ (makers : Makers) (asked : Exec → Bool) where
     pub slots : (v : ℕ) → (v == t) ≡ false → EnvBy (λ n y. MadeNone made behind n) (w.tasks v).env
     pub homes : (o : ℕ) → find o s.env.hand ≡ None → MembersBy (λ n y. MadeNone made behind n) (Object o) (w.homes o)
 
-  -- what is spawned is made by who asks that, with all that that is to clean up, and has made none
+  -- as a task is spawned, no other has the name of who asks that, and its main has made none
   abbrev pub SpawnsAlone : (Exec → Bool) → Request → State → Type 0
-  SpawnsAlone made (ask.Spawn o) s =
-      (asked (main_of o) ≡ true → made (main_of o) ≡ false →
-          (makers.parent (main_of o) ≡ s.env.exec) × (makers.before (main_of o) ≡ stacked (s.run ∷ s.callers))) ×
-      IsAlone s.env ×
+  SpawnsAlone made (ask.Spawn o) s = IsAlone s.env ×
       ((x : Exec) → now (made_asked (ask.Spawn o) made) x ≡ true → makers.parent x ≡ main_of o → ⊥)
   SpawnsAlone made r s = Unit {0}
 
@@ -112,10 +108,10 @@ module _ (makers : Makers) (asked : Exec → Bool) where
     RunOutlasts begun = Unit {0}
     RunOutlasts (more r o m) = RunOutlasts r × MayOutlast (run_made source input opts r) m
 
--- so it is in each run in which all that was asked so far fits, as long as it is so at each state
+-- so it is in each run in which all that was asked so far fits, as long as it is so at each state, with those by whom executions were made in it
 abbrev pub LawOutlastRuns : Type 0
 LawOutlastRuns =
-    (makers : Makers) (asked : Exec → Bool) (source : Source) (input : List ℕ) (opts : Options) (j : Journal) (w : World)
+    (asked : Exec → Bool) (source : Source) (input : List ℕ) (opts : Options) (j : Journal) (w : World)
     (r : Runs source input opts j w) → InRange opts → RunFits source input opts j w r → is_over j ≡ false →
-    RunOutlasts makers asked source input opts r →
-    OutlastWorld makers (now makers asked (run_made source input opts r)) j w
+    (b : AllMadeLater source input opts j w r) → RunOutlasts b.makers asked source input opts r →
+    OutlastWorld b.makers (now b.makers asked (run_made source input opts r)) j w
