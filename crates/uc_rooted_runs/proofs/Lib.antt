@@ -9,3 +9,4 @@ pub mod OutlastWalk
 pub mod Outlasting
 pub mod Upwards
 pub mod OutlastRuns
+pub mod RootedRuns

@@ -6,3 +6,4 @@ pub mod Forgetting
 pub mod Outlasting
 pub mod Upwards
 pub mod OutlastRuns
+pub mod RootedRuns

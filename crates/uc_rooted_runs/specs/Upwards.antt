@@ -9,7 +9,7 @@ use Rattle.uc_meaning.specs.Runs.{World}
 use Rattle.uc_typing.specs.Typing.{Ty, Table}
 use Rattle.uc_life_laws.specs.Things.{Few, Base, Stands}
 use Rattle.uc_life_laws.specs.LifeStates.{EnvBy, MembersBy}
-use Rattle.uc_world_laws.specs.Rooted.{LivesBy, Lives, Had}
+use Rattle.uc_world_laws.specs.Rooted.{LivesBy, Lives, StandsUpwards}
 use Rattle.uc_rooted_runs.specs.Makers.{Makers}
 use Rattle.uc_rooted_runs.specs.Outlasting.{Outlasts, OutlastEx, HadBefore}
 
@@ -40,5 +40,4 @@ LawUpwards =
     (own : Exec → Value → Ty → Bool) (yet : Exec → List Active → Value → Ty → Bool) → OutlastWorld makers up j x →
     ((n : Exec) (cs : List Active) → Lives j x n cs → (w : Value) (b : Ty) → Base few n w b → own n w b ≡ false →
         IsBased t few makers up j x n w b) →
-    (n : Exec) (cs : List Active) → Lives j x n cs → (w : Value) (b : Ty) → Base few n w b → own n w b ≡ false →
-    (m : Exec) × (ds : List Active) × Lives j x m ds × (makers.rank m < makers.rank n) × Stands t few (Had t few yet m ds) b w
+    StandsUpwards t few j x own yet makers.rank

@@ -5,6 +5,7 @@ ghost use Rattle.uc_rooted_runs.specs.Forgetting.{LawForgetting};
 ghost use Rattle.uc_rooted_runs.specs.FreshRuns.{LawFresh};
 ghost use Rattle.uc_rooted_runs.specs.OutlastRuns.{LawOutlastRuns};
 ghost use Rattle.uc_rooted_runs.specs.Outlasting.{LawOutlasting};
+ghost use Rattle.uc_rooted_runs.specs.RootedRuns.{LawRootedRuns};
 ghost use Rattle.uc_rooted_runs.specs.Upwards.{LawUpwards};
 
 /// In each run, as long as all that was asked so far fits, each execution is made by one that was made before it.
@@ -37,4 +38,10 @@ pub fn law_upwards()
 /// So it is in runs, of what each execution was to clean up as it made another, from the making on.
 pub fn law_outlast_runs()
     ensures { LawOutlastRuns }
+{}
+
+/// So nobody has at hand what has gone, in runs in which what was there as executions were made stays as long as
+/// those live.
+pub fn law_rooted_runs()
+    ensures { LawRootedRuns }
 {}

@@ -24,7 +24,7 @@ use Rattle.uc_life_laws.proofs.Reading.{within_raw, in_raw}
 use Rattle.uc_world_laws.proofs.Fewer.{both_members, both_env}
 use Rattle.uc_world_laws.specs.Fewer.{Lasts, HandLasts, ExLasts, RunLasts}
 use Rattle.uc_world_laws.specs.Lasting.{lasting_numbers, lasting, WorldLasts}
-use Rattle.uc_world_laws.specs.Rooted.{OwnThings, InSlot, InParked, InHand, InMembers, Lives, IsPlace, Yet, Had, OwnObject, Apart, StageApart, ExApart, RunApart, FreshKeeps, FreshLast, Rooted, LawRooted}
+use Rattle.uc_world_laws.specs.Rooted.{OwnThings, InSlot, InParked, InHand, InMembers, Lives, IsPlace, Yet, Had, OwnObject, Apart, StageApart, ExApart, RunApart, FreshKeeps, FreshLast, StandsUpwards, RootedBeside, Rooted, LawRooted}
 
 -- executions that do not run, each with where it is, if it has begun and not ended
 
@@ -180,10 +180,10 @@ module _ (t : Table) (few : Few) (j : Journal) (a : List Entry) (x : World) (own
   no_home zero n cs f i c h = let e : ⊥ = omega (arith, f) in e
   no_home (suc fuel) n cs f i c h =
       ⊎_elim
-      (λ s. r.unmarked n cs i c s)
+      (λ s. r.beside.unmarked n cs i c s)
       (λ s.
       ⊎_elim
-      (λ k. r.outside n cs i c k)
+      (λ k. r.beside.outside n cs i c k)
       (λ k.
       let u = based n cs i (Cell (Obj c)) (few.home o) k in
       let g = u.before in
@@ -269,11 +269,11 @@ module _ (t : Table) (few : Few) (j : Journal) (a : List Entry) (x : World) (own
     tasks = λ u.
         let s = x.tasks u in
         record {
-          scopes = λ w b v. things_last s.env.exec (s.run ∷ s.callers) (running u (r.scopes u w b v));
-          env = env_in Told (ExLasts t (lasting few j) left) s.env (λ n y i e. ex_apart n y (λ q. inr (inl (u, i q))) e) (both_env Kept (ExApart t (lasting few j) left o) Told (λ n y h k. (h, k)) s.env (fresh.tasks u) (r.tasks u));
+          scopes = λ w b v. things_last s.env.exec (s.run ∷ s.callers) (running u (r.beside.scopes u w b v));
+          env = env_in Told (ExLasts t (lasting few j) left) s.env (λ n y i e. ex_apart n y (λ q. inr (inl (u, i q))) e) (both_env Kept (ExApart t (lasting few j) left o) Told (λ n y h k. (h, k)) s.env (fresh.tasks u) (r.beside.tasks u));
         };
-    alive = λ u e given k. run_lasts u e given k (r.alive u e given k);
-    homes = λ q. members_in Told (ExLasts t (lasting few j) left) (home.Object q) (x.homes q) (λ n y i e. ex_apart n y (λ g. inr (inr (q, i g))) e) (both_members Kept (ExApart t (lasting few j) left o) Told (λ n y h k. (h, k)) (home.Object q) (x.homes q) (fresh.homes q) (r.homes q));
+    alive = λ u e given k. run_lasts u e given k (r.beside.alive u e given k);
+    homes = λ q. members_in Told (ExLasts t (lasting few j) left) (home.Object q) (x.homes q) (λ n y i e. ex_apart n y (λ g. inr (inr (q, i g))) e) (both_members Kept (ExApart t (lasting few j) left o) Told (λ n y h k. (h, k)) (home.Object q) (x.homes q) (fresh.homes q) (r.beside.homes q));
   }
     where
       run_lasts : (u : ℕ) → has_ended u (j ++ a) ≡ false → (given : List Ty) (k : KnowsState t (lasting few j) given (x.tasks u)) → RunApart t (lasting few j) left o given (x.tasks u) k → RunLasts t (lasting few j) left given (x.tasks u) k

@@ -108,12 +108,15 @@ pub record FreshLast (t : Table) (few : Few) (j : Journal) (a : List Entry) (x :
   pub homes : (q : ℕ) →
       MembersBy (λ n y. FreshKeeps t (lasting few j) (lasting_numbers few.numbers (j ++ a)) y.links.stage n y) (Object q) (x.homes q)
 
+-- each thing that one which lives has of others, but its own object, stands in what one has that lives and was there before
+abbrev pub StandsUpwards : Table → Few → Journal → World → (Exec → Value → Ty → Bool) → (Exec → List Active → Value → Ty → Bool) → (Exec → ℕ) → Type 0
+StandsUpwards t few j x own yet rank =
+    (n : Exec) (cs : List Active) → Lives j x n cs → (w : Value) (b : Ty) → Base few n w b → own n w b ≡ false →
+    (m : Exec) × (ds : List Active) × Lives j x m ds × (rank m < rank n) × Stands t few (Had t few yet m ds) b w
+
 -- after an act that takes out an object: nobody is to clean up that in which it is at home, nor does it stand in the own object of one that
--- lives; whoever may go on does not build or destroy it; and each thing that one which lives has of others, but its own object, stands in what
--- one has that lives and was there before
-pub record Rooted (t : Table) (few : Few) (j : Journal) (a : List Entry) (x : World) (own : Exec → Value → Ty → Bool) (yet : Exec → List Active → Value → Ty → Bool) (rank : Exec → ℕ) (o : ℕ) : Type 0 where
-  pub up : (n : Exec) (cs : List Active) → Lives (j ++ a) x n cs → (w : Value) (b : Ty) → Base few n w b → own n w b ≡ false →
-      (m : Exec) × (ds : List Active) × Lives (j ++ a) x m ds × (rank m < rank n) × Stands t few (Had t few yet m ds) b w
+-- lives; and whoever may go on does not build or destroy it
+pub record RootedBeside (t : Table) (few : Few) (j : Journal) (a : List Entry) (x : World) (own : Exec → Value → Ty → Bool) (yet : Exec → List Active → Value → Ty → Bool) (o : ℕ) : Type 0 where
   pub outside : (n : Exec) (cs : List Active) → Lives (j ++ a) x n cs → (c : ℕ) →
       Stands t few (OwnObject few own n) (Cell (Obj c)) (few.home o) → ⊥
   pub unmarked : (n : Exec) (cs : List Active) → Lives (j ++ a) x n cs → (c : ℕ) →
@@ -125,6 +128,11 @@ pub record Rooted (t : Table) (few : Few) (j : Journal) (a : List Entry) (x : Wo
       RunApart t (lasting few j) (lasting_numbers few.numbers (j ++ a)) o given (x.tasks u) k
   pub homes : (q : ℕ) →
       MembersBy (ExApart t (lasting few j) (lasting_numbers few.numbers (j ++ a)) o) (Object q) (x.homes q)
+
+-- so it is, and what executions have of others stands upwards
+pub record Rooted (t : Table) (few : Few) (j : Journal) (a : List Entry) (x : World) (own : Exec → Value → Ty → Bool) (yet : Exec → List Active → Value → Ty → Bool) (rank : Exec → ℕ) (o : ℕ) : Type 0 where
+  pub up : StandsUpwards t few (j ++ a) x own yet rank
+  pub beside : RootedBeside t few j a x own yet o
 
 -- then what has gone is at hand of nobody, if that object alone has gone, what executions have of others are places, and those that have not begun
 -- know their own objects alone
