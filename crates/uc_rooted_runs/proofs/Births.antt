@@ -18,7 +18,7 @@ use Rattle.uc_machine.specs.declared.exec.Home.{Home}
 use Rattle.uc_machine.specs.declared.exec.Home.TheVariants as home
 use Rattle.uc_machine.specs.Executions.{exec_eq, members_at}
 use Rattle.uc_machine.specs.Switches.{new_exec}
-use Rattle.uc_machine.specs.Pieces.{State, Members, Step, Asks}
+use Rattle.uc_machine.specs.Pieces.{State, Members, Asks}
 use Rattle.uc_machine.specs.Quiet.{home_at}
 use Rattle.uc_machine.specs.Answering.{answered}
 use Rattle.uc_machine.specs.Rides.{Rides, slices, goes_on, ticks, asks}
@@ -29,10 +29,10 @@ use Rattle.uc_step_laws.specs.Hands.{keys}
 use Rattle.uc_program_laws.proofs.Makes.{just_made_given}
 use Rattle.uc_program_laws.proofs.Others.{RunRests, run_rests, asking as asks_with}
 use Rattle.uc_hand_laws.proofs.DeepWorlds.{DeepWorld, deep_run}
-use Rattle.uc_value_laws.specs.Opens.{RideMeets, MayMeet, RunMeets}
+use Rattle.uc_value_laws.specs.Opens.{RideMeets, RunMeets}
 use Rattle.uc_life_laws.specs.Knowing.{main_of}
 use Rattle.uc_name_laws.specs.Below.{IsBelow}
-use Rattle.uc_name_laws.specs.NameSteps.{Named, StepNamed, BornBelow, NamedBehind, Grows, IsBorn, Spares}
+use Rattle.uc_name_laws.specs.NameSteps.{Named, StepNamed, NamedBehind, Grows, IsBorn}
 use Rattle.uc_name_laws.proofs.Homes.{no_both, none_some, same_exec, exec_self}
 use Rattle.uc_name_laws.proofs.Values.{below_more}
 use Rattle.uc_name_laws.proofs.Walk.{walk}
@@ -40,9 +40,9 @@ use Rattle.uc_name_laws.proofs.Births.{law_new}
 use Rattle.uc_named_runs.specs.NamedRuns.{is_here}
 use Rattle.uc_named_runs.proofs.Owned.{owner_still}
 use Rattle.uc_named_runs.proofs.Riding.{RideNamed, run_more, ride_more, grows_not}
-use Rattle.uc_named_runs.proofs.Worlds.{WorldNamed, RunNamed, run_named, named_act, found_none, vacuous, known, start, ride, after_by, after_more, now_more, own_stays}
+use Rattle.uc_named_runs.proofs.Worlds.{WorldNamed, run_named, named_act, found_none, vacuous, known, start, ride, after_by, after_more, now_more, own_stays}
 use Rattle.uc_rooted_runs.specs.Makers.{Placed, stacked, Makers, MadeBy}
-use Rattle.uc_rooted_runs.specs.Births.{MakesLater, SpawnsLater, MaySpawnLater, RunSpawnsLater, AllMadeLater, LawBirths}
+use Rattle.uc_rooted_runs.specs.Births.{MakesLater, SpawnsLater, MaySpawnLater, RunSpawnsLater, LawBirths}
 
 -- one more is made by another
 
@@ -388,11 +388,13 @@ module _ (source : Source) (input : List ℕ) (opts : Options) (range : InRange 
         world = named_act source input opts range rests o deep y.serials y.world p t n s asked d f.1 on;
         births = m.births;
         makes = (
-            run_more source (MakesBelow source y.serials y.births) (MakesBelow source (after_by asked.request k.now) m.births) (λ s h. makes_more source y.serials (after_by asked.request k.now) le y.births m.births all s h) opts input r y.makes,
-            ride_more source (MakesBelow source z.now z.births) (MakesBelow source (after_by asked.request k.now) m.births) (λ s h. makes_more source z.now (after_by asked.request k.now) up z.births m.births later s h) d.rides z.makes);
+          run_more source (MakesBelow source y.serials y.births) (MakesBelow source (after_by asked.request k.now) m.births) (λ s h. makes_more source y.serials (after_by asked.request k.now) le y.births m.births all s h) opts input r y.makes,
+          ride_more source (MakesBelow source z.now z.births) (MakesBelow source (after_by asked.request k.now) m.births) (λ s h. makes_more source z.now (after_by asked.request k.now) up z.births m.births later s h) d.rides z.makes,
+        );
         spawns = (
-            run_spawns_more y.serials (after_by asked.request k.now) le y.births m.births all r y.spawns,
-            record { running = m.running; main = m.main; later = m.later });
+          run_spawns_more y.serials (after_by asked.request k.now) le y.births m.births all r y.spawns,
+          record { running = m.running; main = m.main; later = m.later },
+        );
       }
 
 pub law_births : LawBirths

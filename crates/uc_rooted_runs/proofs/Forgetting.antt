@@ -1,6 +1,6 @@
 -- An act takes out one object alone, so nobody has at hand what has gone.
-use Rattle.std.proofs.Common.{◌≡◌, ℕ, Bool, true, false, List, [], ◌∷◌, ◌++◌, Option, Some, None, refl, sym, ap, ◌∙◌, subst, ◌||◌, ◌⊎◌, inl, inr}
-use Rattle.std.specs.Prelude.{nat_eq, pos, if◌then◌else◌}
+use Rattle.std.proofs.Common.{◌≡◌, ℕ, Bool, true, false, List, [], ◌∷◌, ◌++◌, Option, Some, None, refl, sym, ap, ◌∙◌, subst, ◌||◌, inl, inr}
+use Rattle.std.specs.Prelude.{pos, if◌then◌else◌}
 use Rattle.std.proofs.lemmas.Bool.{eqb-true}
 use Rattle.uc_tree.specs.Source.{Source, CleanUp}
 use Rattle.uc_entry.specs.declared.entry.Entry.{Entry}
@@ -30,7 +30,7 @@ use Rattle.uc_typing.specs.Typing.{Ty, Obj, Table}
 use Rattle.uc_life_laws.specs.Things.{Few, AtVariable, Nowhere, Marks, InTodo, Base, Variables}
 use Rattle.uc_life_laws.specs.LifeStates.{SlotBy, ParkedBy, HandBy, MembersBy}
 use Rattle.uc_world_laws.specs.Lasting.{lasting, lasting_numbers, MayForget, RunForgets, ForgetsAt}
-use Rattle.uc_world_laws.specs.Rooted.{IsPlace, FreshKeeps, FreshLast, Rooted}
+use Rattle.uc_world_laws.specs.Rooted.{IsPlace, FreshKeeps, FreshLast}
 use Rattle.uc_world_laws.proofs.Rooted.{law_rooted}
 use Rattle.uc_rooted_runs.specs.Makers.{put, placed}
 use Rattle.uc_rooted_runs.specs.FreshStates.{FreshBy, FreshEx, BindsBegun}
@@ -93,12 +93,15 @@ module _ (t : Table) (few : Few) (j : Journal) (a : List Entry) (x : World) (w :
       still c o false false g h = h
 
       by : (g : Stage) → FreshBy g n y → FreshKeeps t (lasting few j) (lasting_numbers few.numbers (j ++ a)) g n y
-      by Fresh k = (record {
-        callers = k.callers;
-        operands = k.operands;
-        frames = k.frames;
-        this = λ c o m e l. still c o (is_gone o j) (is_gone o (j ++ a)) (f o (k.this o e)) l;
-      }, λ w b v. no_scope t n y k.callers k.marks w b v)
+      by Fresh k = (
+        record {
+          callers = k.callers;
+          operands = k.operands;
+          frames = k.frames;
+          this = λ c o m e l. still c o (is_gone o j) (is_gone o (j ++ a)) (f o (k.this o e)) l;
+        },
+        λ w b v. no_scope t n y k.callers k.marks w b v,
+      )
       by Started k = tt
       by Ended k = tt
 

@@ -1,5 +1,5 @@
 -- In each run executions that have not begun are as they were made.
-use Rattle.std.proofs.Common.{◌≡◌, ℕ, ◌==◌, Bool, true, false, List, [], ◌∷◌, Option, Some, None, refl, subst}
+use Rattle.std.proofs.Common.{◌≡◌, ℕ, ◌==◌, List, [], ◌∷◌, Option, Some, None, refl, subst}
 use Rattle.uc_tree.specs.Source.{Source, Routine, routine_of}
 use Rattle.uc_entry.specs.declared.entry.Entry.{Entry}
 use Rattle.uc_entry.specs.declared.entry.Options.{Options}
@@ -11,9 +11,9 @@ use Rattle.uc_acts.specs.Acts.{act}
 use Rattle.uc_machine.specs.declared.exec.Home.TheVariants as home
 use Rattle.uc_machine.specs.Pieces.{State, Members}
 use Rattle.uc_machine.specs.Quiet.{first_state}
-use Rattle.uc_machine.specs.Answering.{answered, child_main, child_of}
+use Rattle.uc_machine.specs.Answering.{child_main, child_of}
 use Rattle.uc_machine.specs.Rides.{Rides, slices, goes_on, ticks, asks}
-use Rattle.uc_meaning.specs.Runs.{World, May, Runs, AsksIn, gives, no_room, acts, begun, more, first_world, first_home, with_home, hand_of, drawn, bare, or_else, world_after}
+use Rattle.uc_meaning.specs.Runs.{World, Runs, gives, no_room, acts, begun, more, first_world, with_home, hand_of, drawn, bare, or_else, world_after}
 use Rattle.uc_value_laws.specs.Opens.{RideMeets, RunMeets}
 use Rattle.uc_life_laws.specs.LifeStates.{HandBy, MembersBy}
 use Rattle.uc_life_laws.proofs.Cells.{either}

@@ -1,7 +1,7 @@
 -- In each run what executions were to clean up as they made others stays with them, as long as no state reaches a mark of those.
-use Rattle.std.proofs.Common.{◌≡◌, ℕ, ◌==◌, ◌<◌, ◌≤◌, ◌⊎◌, inl, inr, Bool, true, false, List, [], ◌∷◌, ◌++◌, Option, Some, None, refl, sym, ap, ◌∙◌, subst, arith, ⊎_elim, ◌||◌}
+use Rattle.std.proofs.Common.{◌≡◌, ℕ, ◌==◌, ◌<◌, ◌≤◌, Bool, true, false, List, [], ◌∷◌, ◌++◌, Option, Some, None, refl, sym, ap, ◌∙◌, subst, arith, ⊎_elim, ◌||◌}
 use Rattle.std.specs.Prelude.{if◌then◌else◌, slice_get}
-use Rattle.std.proofs.lemmas.Bool.{eqb-true, eq-eqb, ne_eqb, cases_lt}
+use Rattle.std.proofs.lemmas.Bool.{cases_lt}
 use Rattle.uc_tree.specs.Source.{Source, Routine, routine_of}
 use Rattle.uc_entry.specs.declared.entry.Entry.{Entry}
 use Rattle.uc_entry.specs.declared.entry.Options.{Options}
@@ -28,7 +28,7 @@ use Rattle.uc_machine.specs.Quiet as quiet
 use Rattle.uc_machine.specs.Quiet.{home_at, first_state}
 use Rattle.uc_machine.specs.Answering.{answered, child_main, child_of}
 use Rattle.uc_machine.specs.Rides.{Rides, slices, goes_on, ticks, asks}
-use Rattle.uc_meaning.specs.Runs.{World, May, Runs, AsksIn, gives, no_room, acts, begun, more, first_world, first_home, with_home, hand_of, drawn, bare, or_else, world_after}
+use Rattle.uc_meaning.specs.Runs.{World, Runs, AsksIn, gives, no_room, acts, begun, more, first_world, with_home, hand_of, drawn, bare, or_else, world_after}
 use Rattle.uc_program_laws.specs.Fitting.{RunFits}
 use Rattle.uc_program_laws.proofs.Others.{RunRests, run_rests, may_ask}
 use Rattle.uc_hand_laws.proofs.DeepWorlds.{DeepWorld, deep_run, spawns_none, spawned_by}
@@ -42,11 +42,11 @@ use Rattle.uc_life_laws.specs.LifeStates.{HandBy, MembersBy, EnvBy}
 use Rattle.uc_life_laws.proofs.Cells.{either, tested}
 use Rattle.uc_life_laws.proofs.Parked as parked
 use Rattle.uc_world_laws.proofs.Fewer.{both_members, both_env}
-use Rattle.uc_rooted_runs.specs.Makers.{Placed, placed, stacked, Ends, all, Makers}
-use Rattle.uc_rooted_runs.specs.Outlasting.{EndIn, Outlasts, OutlastEx, OutlastState, OutlastStep, Spares, SparesAt, IsAlone}
+use Rattle.uc_rooted_runs.specs.Makers.{placed, stacked, Ends, all, Makers}
+use Rattle.uc_rooted_runs.specs.Outlasting.{EndIn, Outlasts, OutlastEx, OutlastState, OutlastStep, Spares, SparesAt}
 use Rattle.uc_rooted_runs.specs.Births.{MakesLater, SpawnsLater, RunSpawnsLater}
 use Rattle.uc_rooted_runs.specs.Upwards.{OutlastWorld}
-use Rattle.uc_rooted_runs.specs.OutlastRuns.{with_made, made_by, made_behind, ride_made, made_asked, may_made, run_made, now, OutlastsAt, RideOutlasts, NoneElsewhere, SpawnsAlone, MayOutlast, RunOutlasts, LawOutlastRuns}
+use Rattle.uc_rooted_runs.specs.OutlastRuns.{with_made, made_by, made_behind, ride_made, made_asked, run_made, now, OutlastsAt, RideOutlasts, SpawnsAlone, MayOutlast, RunOutlasts, LawOutlastRuns}
 use Rattle.uc_rooted_runs.proofs.OutlastWalk as walking
 use Rattle.uc_rooted_runs.proofs.OutlastSteps as steps
 use Rattle.uc_rooted_runs.proofs.OutlastKeeping as kept

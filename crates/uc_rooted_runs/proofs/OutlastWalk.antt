@@ -16,8 +16,8 @@ use Rattle.uc_machine.specs.Pieces as piece
 use Rattle.uc_machine.specs.Pieces.{Value, Todo, State, Members, at, top, number}
 use Rattle.uc_machine.specs.Answering.{answered, entered, new_members, with_operand}
 use Rattle.uc_life_laws.specs.LifeStates.{MembersBy}
-use Rattle.uc_rooted_runs.specs.Makers.{placed, stacked, behind, Makers}
-use Rattle.uc_rooted_runs.specs.Outlasting.{EndIn, OutlastEx, OutlastState, OutlastStep, SparesAt, Spares}
+use Rattle.uc_rooted_runs.specs.Makers.{stacked, behind, Makers}
+use Rattle.uc_rooted_runs.specs.Outlasting.{OutlastEx, OutlastState, OutlastStep, SparesAt, Spares}
 use Rattle.uc_life_laws.proofs.Cells.{either}
 use Rattle.uc_rooted_runs.proofs.OutlastKeeping as kept
 use Rattle.uc_life_laws.proofs.Parked as parked

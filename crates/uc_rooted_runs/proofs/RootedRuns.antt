@@ -16,10 +16,10 @@ use Rattle.uc_value_laws.specs.Opens.{RunMeets}
 use Rattle.uc_typing.specs.Typing.{Ty, Table}
 use Rattle.uc_life_laws.specs.Things.{Few}
 use Rattle.uc_rooted_runs.specs.Makers.{Makers}
-use Rattle.uc_rooted_runs.specs.Births.{MakesLater, RunSpawnsLater, AllMadeLater}
+use Rattle.uc_rooted_runs.specs.Births.{MakesLater, RunSpawnsLater}
 use Rattle.uc_rooted_runs.specs.Forgetting.{RootsAt, MayRoot, RunRoots}
 use Rattle.uc_rooted_runs.specs.OutlastRuns.{run_made, now}
-use Rattle.uc_rooted_runs.specs.RootedRuns.{IsUpheld, UpheldBy, MayUphold, RunUpholds, LawRootedRuns}
+use Rattle.uc_rooted_runs.specs.RootedRuns.{UpheldBy, MayUphold, RunUpholds, LawRootedRuns}
 use Rattle.uc_rooted_runs.proofs.Forgetting.{law_forgetting}
 use Rattle.uc_rooted_runs.proofs.Upwards.{law_upwards}
 use Rattle.uc_rooted_runs.proofs.OutlastRuns.{law_outlast_runs}

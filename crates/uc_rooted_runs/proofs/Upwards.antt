@@ -1,5 +1,5 @@
 -- What an execution that lives has of others stands in what the one that made it has.
-use Rattle.std.proofs.Common.{◌≡◌, ℕ, ◌<◌, ◌⊎◌, inl, inr, Bool, true, false, List, [], ◌∷◌, Option, Some, None, refl, sym, subst}
+use Rattle.std.proofs.Common.{◌≡◌, ℕ, ◌⊎◌, inl, inr, Bool, List, [], ◌∷◌, Option, Some, None, refl, sym, subst}
 use Rattle.uc_acts.specs.Journal.{Journal}
 use Rattle.uc_machine.specs.declared.exec.Exec.{Exec}
 use Rattle.uc_machine.specs.declared.exec.Home.{Home}
@@ -7,13 +7,13 @@ use Rattle.uc_machine.specs.declared.exec.Home.TheVariants as home
 use Rattle.uc_machine.specs.Executions.{Execution}
 use Rattle.uc_machine.specs.Pieces.{Value, Todo, Active, Members}
 use Rattle.uc_meaning.specs.Runs.{World}
-use Rattle.uc_typing.specs.Typing.{Ty, Table}
-use Rattle.uc_life_laws.specs.Things.{Few, AtField, IsFor, InStack, NoBase, Base, Stands}
+use Rattle.uc_typing.specs.Typing.{Ty}
+use Rattle.uc_life_laws.specs.Things.{AtField, IsFor, InStack, NoBase, Base}
 use Rattle.uc_life_laws.specs.LifeStates.{SlotBy, ParkedBy, HandBy, MembersBy}
 use Rattle.uc_world_laws.specs.Rooted.{InSlot, InParked, InHand, InMembers, Lives, Had}
 use Rattle.uc_rooted_runs.specs.Makers.{Makers}
 use Rattle.uc_rooted_runs.specs.Outlasting.{Outlasts, OutlastEx}
-use Rattle.uc_rooted_runs.specs.Upwards.{IsThere, OutlastWorld, IsBased, LawUpwards}
+use Rattle.uc_rooted_runs.specs.Upwards.{IsThere, OutlastWorld, LawUpwards}
 use Rattle.uc_rooted_runs.proofs.Outlasting.{law_outlasting, stands_more}
 
 module _ (makers : Makers) (up : Exec → Bool) where

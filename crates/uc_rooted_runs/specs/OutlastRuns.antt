@@ -1,5 +1,5 @@
 -- Runs in which what executions were to clean up as they made others stays with them.
-use Rattle.std.specs.Prelude.{◌≡◌, ℕ, ◌<◌, ◌==◌, Bool, true, false, if◌then◌else◌, List, [], ◌∷◌, Option, Some, None, slice_get}
+use Rattle.std.specs.Prelude.{◌≡◌, ℕ, ◌<◌, ◌==◌, Bool, true, false, if◌then◌else◌, List, ◌∷◌, Option, Some, None, slice_get}
 use Rattle.uc_tree.specs.Source.{Source, Routine}
 use Rattle.uc_entry.specs.declared.entry.Entry.{Entry}
 use Rattle.uc_entry.specs.declared.entry.Options.{Options}
@@ -16,9 +16,8 @@ use Rattle.uc_machine.specs.Executions.{exec_eq, members_at}
 use Rattle.uc_machine.specs.Switches.{new_exec}
 use Rattle.uc_machine.specs.Pieces.{Todo, SetUpNow, State, Members, Goes}
 use Rattle.uc_machine.specs.Quiet.{quiet, home_at}
-use Rattle.uc_machine.specs.Answering.{answered}
 use Rattle.uc_machine.specs.Rides.{Rides, slices, goes_on, ticks, asks}
-use Rattle.uc_meaning.specs.Runs.{World, May, Runs, drawn, gives, no_room, acts, begun, more}
+use Rattle.uc_meaning.specs.Runs.{World, May, Runs, gives, no_room, acts, begun, more}
 use Rattle.uc_program_laws.specs.Fitting.{RunFits}
 use Rattle.uc_name_laws.specs.NameSteps.{IsBorn}
 use Rattle.uc_life_laws.specs.Knowing.{main_of}

@@ -1,5 +1,5 @@
 -- Tasks in which what an execution was to clean up as it made another stays with it, as long as that is up.
-use Rattle.std.specs.Prelude.{◌≡◌, ℕ, ◌⊎◌, Bool, true, false, List, [], ◌∷◌}
+use Rattle.std.specs.Prelude.{◌≡◌, ◌⊎◌, Bool, true, false, List, [], ◌∷◌}
 use Rattle.uc_tree.specs.Source.{Source}
 use Rattle.uc_entry.specs.declared.request.Answer.{Answer}
 use Rattle.uc_machine.specs.declared.exec.Exec.{Exec}
@@ -83,7 +83,7 @@ pub record LawOutlasting : Type 0 where
       ((x : Exec) → fewer x ≡ true → up x ≡ true) → OutlastState makers fewer s
   pub more : (makers : Makers) (up more : Exec → Bool) (s : State) → OutlastState makers up s → IsAlone s.env →
       ((x : Exec) → more x ≡ true → up x ≡ false →
-          (makers.parent x ≡ s.env.exec) × Ends (makers.before x) (stacked (s.run ∷ s.callers))) →
+      (makers.parent x ≡ s.env.exec) × Ends (makers.before x) (stacked (s.run ∷ s.callers))) →
       OutlastState makers more s
   pub stands : (t : Table) (few : Few) (makers : Makers) (up : Exec → Bool) (n : Exec) (cs : List Active) →
       Outlasts makers up n cs → (x : Exec) → up x ≡ true → makers.parent x ≡ n → (w : Value) (a : Ty) →

@@ -39,5 +39,5 @@ LawUpwards =
     (t : Table) (few : Few) (makers : Makers) (up : Exec → Bool) (j : Journal) (x : World)
     (own : Exec → Value → Ty → Bool) (yet : Exec → List Active → Value → Ty → Bool) → OutlastWorld makers up j x →
     ((n : Exec) (cs : List Active) → Lives j x n cs → (w : Value) (b : Ty) → Base few n w b → own n w b ≡ false →
-        IsBased t few makers up j x n w b) →
+    IsBased t few makers up j x n w b) →
     StandsUpwards t few j x own yet makers.rank

@@ -1,7 +1,7 @@
 -- What nobody has to clean up is at hand of nobody, where what executions have of others stands in what those have.
-use Rattle.std.proofs.Common.{◌≡◌, ℕ, zero, suc, ◌<◌, ◌⊎◌, inl, inr, Bool, true, false, List, [], ◌∷◌, ◌++◌, Option, Some, None, refl, sym, ap, ◌∙◌, subst, arith, ⊎_elim}
+use Rattle.std.proofs.Common.{◌≡◌, ℕ, zero, suc, ◌<◌, ◌⊎◌, inl, inr, Bool, true, false, List, [], ◌∷◌, ◌++◌, Option, Some, None, refl, sym, ◌∙◌, subst, arith, ⊎_elim}
 use Rattle.std.specs.Prelude.{if◌then◌else◌}
-use Rattle.uc_tree.specs.Source.{Shape, CleanUp}
+use Rattle.uc_tree.specs.Source.{CleanUp}
 use Rattle.uc_entry.specs.declared.entry.Entry.{Entry}
 use Rattle.uc_acts.specs.Journal.{Journal}
 use Rattle.uc_acts.specs.Known.{has_ended, is_gone}
@@ -17,14 +17,14 @@ use Rattle.uc_machine.specs.Pieces as piece
 use Rattle.uc_machine.specs.Pieces.{Link, Value, Number, Place, Running, Object, Nothing, Todo, Sort, Active, State, Env, Members, further}
 use Rattle.uc_meaning.specs.Runs.{World}
 use Rattle.uc_typing.specs.Typing.{Ty, Cell, Obj, Raw, Row, Sig, Table}
-use Rattle.uc_life_laws.specs.Things.{Few, Within, itself, field, element, AtField, IsFor, Marks, InTodo, InStack, Base, NoBase, Things, Variables, Stands, lies, inside, Held}
+use Rattle.uc_life_laws.specs.Things.{Few, Within, itself, field, element, AtField, IsFor, Marks, InTodo, Base, Things, Variables, Stands, lies, inside, Held}
 use Rattle.uc_life_laws.specs.LifeStates.{SlotBy, ParkedBy, HandBy, MembersBy, EnvBy}
-use Rattle.uc_life_laws.specs.Knowing.{AtHand, InMaking, KnowsEx, KnowsState}
+use Rattle.uc_life_laws.specs.Knowing.{AtHand, InMaking, KnowsState}
 use Rattle.uc_life_laws.proofs.Reading.{within_raw, in_raw}
 use Rattle.uc_world_laws.proofs.Fewer.{both_members, both_env}
 use Rattle.uc_world_laws.specs.Fewer.{Lasts, HandLasts, ExLasts, RunLasts}
 use Rattle.uc_world_laws.specs.Lasting.{lasting_numbers, lasting, WorldLasts}
-use Rattle.uc_world_laws.specs.Rooted.{OwnThings, InSlot, InParked, InHand, InMembers, Lives, IsPlace, Yet, Had, OwnObject, Apart, StageApart, ExApart, RunApart, FreshKeeps, FreshLast, StandsUpwards, RootedBeside, Rooted, LawRooted}
+use Rattle.uc_world_laws.specs.Rooted.{OwnThings, InSlot, InParked, InHand, InMembers, Lives, IsPlace, Yet, Had, OwnObject, Apart, StageApart, ExApart, RunApart, FreshKeeps, FreshLast, Rooted, LawRooted}
 
 -- executions that do not run, each with where it is, if it has begun and not ended
 

@@ -14,7 +14,7 @@ use Rattle.uc_machine.specs.Pieces.{Value, Todo, Active, State, Env, Members}
 use Rattle.uc_meaning.specs.Runs.{World}
 use Rattle.uc_typing.specs.Typing.{Ty, Cell, Obj, Raw, Sig, Table}
 use Rattle.uc_typing.specs.Pieces.{AreNumbers}
-use Rattle.uc_life_laws.specs.Things.{Few, AtField, IsFor, InStack, Base, NoBase, Things, Variables, Stands}
+use Rattle.uc_life_laws.specs.Things.{Few, AtField, IsFor, InStack, Base, NoBase, Variables, Stands}
 use Rattle.uc_life_laws.specs.Knowing.{InMaking, KnowsEx, KnowsState}
 use Rattle.uc_world_laws.specs.Fewer.{FreshLasts}
 use Rattle.uc_world_laws.specs.Lasting.{lasting, lasting_numbers, WorldLasts}
