@@ -241,7 +241,7 @@ module _ (part : ℕ → Part) (source : Source) (entered : EnteredSource source
 
   module _ (news : ℕ → Bool) (mine : news own ≡ false) where
     -- nothing else is owed to what is let go of
-    sole : (s : State) → Alone source s → Deep source news s → StandsState part source own s → Sole source s
+    pub sole : (s : State) → Alone source s → Deep source news s → StandsState part source own s → Sole source s
     sole s f d v = law_alone source news s d (ap news v.own ∙ mine) f
 
     pub ride_owes : (ks : List ℕ) (s : State) (q : ℕ) (u : State) (k : ℕ) (a : Asked) (r : Rides source s q u k a) → RideAlone source s q u k a r → Deep source news s → StandsState part source own s → deep_in s ≡ ks → RideOwes news ks a.request u
@@ -342,7 +342,7 @@ module _ (part : ℕ → Part) (source : Source) (entered : EnteredSource source
     suits (ask.Fault k) f h n = absurd h
     suits q f h n = (h, tt)
 
-    start : Deep source (new_for t j) (answered source d.given (drawn j w t))
+    pub start : Deep source (new_for t j) (answered source d.given (drawn j w t))
     start =
         let y = suits mine.request mine.form mine.rests mine.brings in
         steps.told source (new_for t j) mine.request d.given (drawn j w t) y.0 y.1
@@ -719,9 +719,9 @@ module _ (part : ℕ → Part) (source : Source) (entered : EnteredSource source
       given_brings u q n = tt
 
   -- both go on to hold
-  record Both (j : Journal) (w : World) : Type 0 where
-    owing : OwingWorld source j w
-    standing : StandingWorld part source j w
+  pub record Both (j : Journal) (w : World) : Type 0 where
+    pub owing : OwingWorld source j w
+    pub standing : StandingWorld part source j w
 
   both_may : {j : Journal} {w : World} {a : List Entry} {v : World} → RunRests source input opts j w → is_over j ≡ false → DeepWorld j w → Both j w → (m : May source opts input j w a v) → MayFit source opts input j w a v m → MayAlone source opts input j w a v m → is_over (j ++ a) ≡ false → Both (j ++ a) v
   both_may r o e x (gives p t s le) f g on = record { owing = owing_given p t r s x.owing; standing = standing_given part source inner entered.ends input opts range p t r s x.standing }
@@ -753,7 +753,7 @@ module _ (part : ℕ → Part) (source : Source) (entered : EnteredSource source
     free = λ o h. either (FreeMembers source) (o == 0) (Some (quiet.zeros 0)) None free_none tt;
   }
 
-  both_run : {j : Journal} {w : World} → (r : Runs source input opts j w) → RunFits source input opts j w r → RunAlone source input opts j w r → is_over j ≡ false → Both j w
+  pub both_run : {j : Journal} {w : World} → (r : Runs source input opts j w) → RunFits source input opts j w r → RunAlone source input opts j w r → is_over j ≡ false → Both j w
   both_run begun f g on = record { owing = owing_begin; standing = standing_begin part source inner entered.ends input opts range }
   both_run (more r o m) f g on =
       both_may (run_rests source input opts range r f.0 o) o (deep_run source input opts range r f.0 o) (both_run r f.0 g.0 o) m f.1 g.1 on
