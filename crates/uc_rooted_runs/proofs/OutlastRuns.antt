@@ -42,17 +42,21 @@ use Rattle.uc_life_laws.specs.LifeStates.{HandBy, MembersBy, EnvBy}
 use Rattle.uc_life_laws.proofs.Cells.{either, tested}
 use Rattle.uc_life_laws.proofs.Parked as parked
 use Rattle.uc_world_laws.proofs.Fewer.{both_members, both_env}
-use Rattle.uc_rooted_runs.specs.Makers.{placed, stacked, Ends, all, Makers}
+use Rattle.uc_rooted_runs.specs.Makers.{Placed, placed, stacked, Ends, Makers}
 use Rattle.uc_rooted_runs.specs.Outlasting.{EndIn, Outlasts, OutlastEx, OutlastState, OutlastStep, Spares, SparesAt}
 use Rattle.uc_rooted_runs.specs.Births.{MakesLater, SpawnsLater, RunSpawnsLater}
 use Rattle.uc_rooted_runs.specs.Upwards.{OutlastWorld}
-use Rattle.uc_rooted_runs.specs.OutlastRuns.{with_made, made_by, made_behind, ride_made, made_asked, run_made, now, OutlastsAt, RideOutlasts, SpawnsAlone, MayOutlast, RunOutlasts, LawOutlastRuns}
+use Rattle.uc_rooted_runs.specs.OutlastRuns.{with_before, with_made, made_by, made_behind, ride_made, made_asked, run_made, now, OutlastsAt, RideOutlasts, SpawnsAlone, MayOutlast, RunOutlasts, LawOutlastRuns}
 use Rattle.uc_rooted_runs.proofs.OutlastWalk as walking
 use Rattle.uc_rooted_runs.proofs.OutlastSteps as steps
 use Rattle.uc_rooted_runs.proofs.OutlastKeeping as kept
 use Rattle.uc_rooted_runs.proofs.Outlasting.{ends_more, state_fewer, state_more}
 
-module _ (makers : Makers) (asked : Exec → Bool) where
+module _ (whole : Makers) (before : Exec → List Placed) (ends : (n : Exec) → Ends (before n) (whole.before n)) (asked : Exec → Bool) where
+  -- with these outer parts
+  abbrev makers : Makers
+  makers = with_before before whole
+
   -- who is made now was not before
   abbrev Now : (Exec → Bool) → Exec → Bool
   Now made = now makers asked made
@@ -136,7 +140,7 @@ module _ (makers : Makers) (asked : Exec → Bool) where
       cc
 
   -- behind a step, of those too that it has made
-  module _ (source : Source) (made : Exec → Bool) (s : State) (st : OutlastState makers (now makers asked made) s) (a : OutlastsAt makers asked source made s) (l : MakesLater source makers s) where
+  module _ (source : Source) (made : Exec → Bool) (s : State) (st : OutlastState makers (now makers asked made) s) (a : OutlastsAt makers asked source made s) (l : MakesLater source whole s) where
     abbrev Behind : Exec → Bool
     Behind = now makers asked (made_behind source s made)
 
@@ -162,7 +166,7 @@ module _ (makers : Makers) (asked : Exec → Bool) where
             let b = born x k f in
             let m = l x b in
             let g = birth_same source (now makers asked made) s u x b st a.spares e in
-            (m.parent ∙ sym g.exec, subst (Ends (makers.before x)) (m.before ∙ sym g.marks) all)
+            (m.parent ∙ sym g.exec, subst (Ends (before x)) (m.before ∙ sym g.marks) (ends x))
 
         by : (c : Bool) → now makers asked (made_behind source s made) (new_exec (home_at s.run.this s.env) s.env) ≡ c → (d : Bool) → now makers asked made (new_exec (home_at s.run.this s.env) s.env) ≡ d → OutlastState makers (now makers asked (made_behind source s made)) u
         by true g false i =
@@ -188,7 +192,7 @@ module _ (makers : Makers) (asked : Exec → Bool) where
     step_asks r u e =
         state_fewer makers (now makers asked made) (now makers asked (made_behind source s made)) u (subst (OutlastStep makers (now makers asked made)) e (walking.walk makers (now makers asked made) source s st a.spares)) (same_asked (λ x b. asks_not source s u r x b e))
 
-  ride_outlasts : (source : Source) (made : Exec → Bool) {s u : State} {q k : ℕ} {a : Asked} (r : Rides source s q u k a) → RideOutlasts makers asked source made r → RideMeets (MakesLater source makers) source s q u k a r → OutlastState makers (now makers asked made) s → OutlastState makers (now makers asked (ride_made source made r)) u
+  ride_outlasts : (source : Source) (made : Exec → Bool) {s u : State} {q k : ℕ} {a : Asked} (r : Rides source s q u k a) → RideOutlasts makers asked source made r → RideMeets (MakesLater source whole) source s q u k a r → OutlastState makers (now makers asked made) s → OutlastState makers (now makers asked (ride_made source made r)) u
   ride_outlasts source made slices o l st = st
   ride_outlasts source made (goes_on {s} {t} e r) o l st = ride_outlasts source (made_behind source s made) r o.1 l.1 (step_goes source made s st o.0 l.0 t e)
   ride_outlasts source made (ticks {s} {t} e r) o l st = ride_outlasts source (made_behind source s made) r o.1 l.1 (step_ticks source made s st o.0 l.0 t e)
@@ -197,7 +201,7 @@ module _ (makers : Makers) (asked : Exec → Bool) where
   -- what is spawned
 
   module _ (made : Exec → Bool) (s : State) where
-    asked_spawned : (q : Request) → SpawnsAlone makers asked made q s → SpawnsLater makers q s → OutlastState makers (now makers asked made) s → OutlastState makers (now makers asked (made_asked q made)) s
+    asked_spawned : (q : Request) → SpawnsAlone makers asked made q s → SpawnsLater whole q s → OutlastState makers (now makers asked made) s → OutlastState makers (now makers asked (made_asked q made)) s
     asked_spawned (ask.Spawn o) f l st = state_more makers (now makers asked made) (now makers asked (made_asked (ask.Spawn o) made)) s st f.0 told
       where
         told : (x : Exec) → now makers asked (made_asked (ask.Spawn o) made) x ≡ true → now makers asked made x ≡ false → (makers.parent x ≡ s.env.exec) × Ends (makers.before x) (stacked (s.run ∷ s.callers))
@@ -209,7 +213,7 @@ module _ (makers : Makers) (asked : Exec → Bool) where
             by : (b : Bool) → exec_eq x (main_of o) ≡ b → (makers.parent x ≡ s.env.exec) × Ends (makers.before x) (stacked (s.run ∷ s.callers))
             by true e =
                 let same = same_exec x (main_of o) e in
-                (ap makers.parent same ∙ l.parent, subst (Ends (makers.before x)) (ap makers.before same ∙ l.before) all)
+                (ap whole.parent same ∙ l.parent, subst (Ends (before x)) (ap whole.before same ∙ l.before) (ends x))
             by false e =
                 let now_it : (if exec_eq x (main_of o) then true else made x) ≡ true = now_made (made_asked (ask.Spawn o) made) x h in
                 no_both (made x) (ap (λ b. if b then true else made x) (sym e) ∙ now_it) old
@@ -241,7 +245,7 @@ module _ (makers : Makers) (asked : Exec → Bool) where
   first_env r o up = record { house = (tt, tt); hand = tt }
 
   module _ (source : Source) (input : List ℕ) (opts : Options) (range : InRange opts) where
-    module _ {j : Journal} {w : World} (rests : RunRests source input opts j w) (going : is_over j ≡ false) (deep : DeepWorld j w) (made : Exec → Bool) (h : OutlastWorld makers (now makers asked made) j w) (p t n : ℕ) (s : State) (q : Asked) (d : AsksIn source opts j w p t n s q) (f : Fits opts source.sites j t q.request) (on : is_over (j ++ act opts source.sites input j p t n q) ≡ false) (k : MayOutlast makers asked source input opts made (acts p t n s q d)) (lt : t < task_count j) (ml : RideMeets (MakesLater source makers) source (answered source d.given (drawn j w t)) (left opts j t) s n q d.rides) (sl : SpawnsLater makers q.request s) where
+    module _ {j : Journal} {w : World} (rests : RunRests source input opts j w) (going : is_over j ≡ false) (deep : DeepWorld j w) (made : Exec → Bool) (h : OutlastWorld makers (now makers asked made) j w) (p t n : ℕ) (s : State) (q : Asked) (d : AsksIn source opts j w p t n s q) (f : Fits opts source.sites j t q.request) (on : is_over (j ++ act opts source.sites input j p t n q) ≡ false) (k : MayOutlast makers asked source input opts made (acts p t n s q d)) (lt : t < task_count j) (ml : RideMeets (MakesLater source whole) source (answered source d.given (drawn j w t)) (left opts j t) s n q d.rides) (sl : SpawnsLater whole q.request s) where
       abbrev a : List Entry
       a = act opts source.sites input j p t n q
 
@@ -334,7 +338,7 @@ module _ (makers : Makers) (asked : Exec → Bool) where
         no_one : (x : Exec) → now makers asked (λ x. false) x ≡ true → ⊥
         no_one x h = let e = now_made (λ x. false) x h in absurd (cc)
 
-    run_outlasts : {j : Journal} {w : World} (r : Runs source input opts j w) → RunFits source input opts j w r → is_over j ≡ false → RunOutlasts makers asked source input opts r → RunMeets (MakesLater source makers) source input opts j w r → RunSpawnsLater makers source input opts j w r → OutlastWorld makers (now makers asked (run_made source input opts r)) j w
+    run_outlasts : {j : Journal} {w : World} (r : Runs source input opts j w) → RunFits source input opts j w r → is_over j ≡ false → RunOutlasts makers asked source input opts r → RunMeets (MakesLater source whole) source input opts j w r → RunSpawnsLater whole source input opts j w r → OutlastWorld makers (now makers asked (run_made source input opts r)) j w
     run_outlasts begun f on o ml sl = outlast_begin
     run_outlasts (more {j} {w} r going (gives p t v le)) f on o ml sl = outlast_given (now makers asked (run_made source input opts r)) j w p t (run_outlasts r f.0 going o.0 ml.0 sl.0)
     run_outlasts (more {j} r going (no_room p t v le)) f on o ml sl = no_both (is_over (j ++ lone_limit ∷ [])) (over_limit j 0 0) on
@@ -346,4 +350,4 @@ module _ (makers : Makers) (asked : Exec → Bool) where
         outlast_act rests going deep (run_made source input opts r) h p t n s q d f.1 on o.1 (known source input opts range rests going x.serials x.world p t d.runs) ml.1 sl.1
 
 pub law_outlast_runs : LawOutlastRuns
-law_outlast_runs asked source input opts j w r range fits on b o = run_outlasts b.makers asked source input opts range r fits on o b.made b.spawned
+law_outlast_runs asked before source input opts j w r range fits on b e o = run_outlasts b.makers before e asked source input opts range r fits on o b.made b.spawned

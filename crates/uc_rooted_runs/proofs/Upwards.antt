@@ -1,5 +1,5 @@
 -- What an execution that lives has of others stands in what the one that made it has.
-use Rattle.std.proofs.Common.{◌≡◌, ℕ, ◌⊎◌, inl, inr, Bool, List, [], ◌∷◌, Option, Some, None, refl, sym, subst}
+use Rattle.std.proofs.Common.{◌≡◌, ℕ, ◌⊎◌, inl, inr, Bool, List, [], ◌∷◌, Option, Some, None, refl, sym, subst, ⊎_elim}
 use Rattle.uc_acts.specs.Journal.{Journal}
 use Rattle.uc_machine.specs.declared.exec.Exec.{Exec}
 use Rattle.uc_machine.specs.declared.exec.Home.{Home}
@@ -53,10 +53,18 @@ lives j x n cs (inr i) = inr i
 pub law_upwards : LawUpwards
 law_upwards t few makers up j x own yet w based n cs i v b k e =
     let r = based n cs i v b k e in
-    let h = in_world makers up j x w (makers.parent n) r.active r.lives in
-    let s = law_outlasting.stands t few makers up (makers.parent n) r.active h n r.asked refl v b r.stood in
-    (makers.parent n, r.active, lives j x (makers.parent n) r.active r.lives, r.later, stands_more t few (λ w a. InStack (IsFor t) (AtField t) NoBase (makers.parent n) r.active w a ⊎ Base few (makers.parent n) w a) (Had t few yet (makers.parent n) r.active) had b v s)
+    let h = in_world makers up j x w (makers.parent n) r.active r.lives in (
+      makers.parent n,
+      r.active,
+      lives j x (makers.parent n) r.active r.lives,
+      r.later,
+      ⊎_elim
+          (λ s.
+          stands_more t few (λ w a. InStack (IsFor t) (AtField t) NoBase (makers.parent n) r.active w a ⊎ Base few (makers.parent n) w a) (Had t few yet (makers.parent n) r.active) (had r.active) b v (law_outlasting.stands t few makers up (makers.parent n) r.active h n r.asked refl v b s))
+          (λ s. s)
+          r.stood,
+    )
   where
-    had : (w : Value) (a : Ty) → InStack (IsFor t) (AtField t) NoBase (makers.parent n) (based n cs i v b k e).active w a ⊎ Base few (makers.parent n) w a → Had t few yet (makers.parent n) (based n cs i v b k e).active w a
-    had w a (inl m) = inl (inl m)
-    had w a (inr m) = inr m
+    had : (ds : List Active) (w : Value) (a : Ty) → InStack (IsFor t) (AtField t) NoBase (makers.parent n) ds w a ⊎ Base few (makers.parent n) w a → Had t few yet (makers.parent n) ds w a
+    had ds w a (inl m) = inl (inl m)
+    had ds w a (inr m) = inr m

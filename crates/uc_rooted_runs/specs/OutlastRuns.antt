@@ -22,10 +22,14 @@ use Rattle.uc_program_laws.specs.Fitting.{RunFits}
 use Rattle.uc_name_laws.specs.NameSteps.{IsBorn}
 use Rattle.uc_life_laws.specs.Knowing.{main_of}
 use Rattle.uc_life_laws.specs.LifeStates.{EnvBy, MembersBy}
-use Rattle.uc_rooted_runs.specs.Makers.{Makers}
+use Rattle.uc_rooted_runs.specs.Makers.{Placed, Ends, Makers}
 use Rattle.uc_rooted_runs.specs.Births.{AllMadeLater}
 use Rattle.uc_rooted_runs.specs.Outlasting.{Spares, IsAlone}
 use Rattle.uc_rooted_runs.specs.Upwards.{OutlastWorld}
+
+-- of what each was to clean up as it made others, an outer part is asked: parts of an object under construction are left as it is done
+abbrev pub with_before : (Exec → List Placed) → Makers → Makers
+with_before before makers = record { parent = makers.parent; before = before; rank = makers.rank }
 
 -- which executions were made by now: behind a state, behind a ride, with what was asked, and in a run
 
@@ -107,10 +111,12 @@ module _ (makers : Makers) (asked : Exec → Bool) where
     RunOutlasts begun = Unit {0}
     RunOutlasts (more r o m) = RunOutlasts r × MayOutlast (run_made source input opts r) m
 
--- so it is in each run in which all that was asked so far fits, as long as it is so at each state, with those by whom executions were made in it
+-- so it is in each run in which all that was asked so far fits, as long as it is so at each state, with those by whom executions were made in it, and
+-- any outer parts of what those were to clean up then
 abbrev pub LawOutlastRuns : Type 0
 LawOutlastRuns =
-    (asked : Exec → Bool) (source : Source) (input : List ℕ) (opts : Options) (j : Journal) (w : World)
+    (asked : Exec → Bool) (before : Exec → List Placed) (source : Source) (input : List ℕ) (opts : Options) (j : Journal) (w : World)
     (r : Runs source input opts j w) → InRange opts → RunFits source input opts j w r → is_over j ≡ false →
-    (b : AllMadeLater source input opts j w r) → RunOutlasts b.makers asked source input opts r →
-    OutlastWorld b.makers (now b.makers asked (run_made source input opts r)) j w
+    (b : AllMadeLater source input opts j w r) → ((n : Exec) → Ends (before n) (b.makers.before n)) →
+    RunOutlasts (with_before before b.makers) asked source input opts r →
+    OutlastWorld (with_before before b.makers) (now (with_before before b.makers) asked (run_made source input opts r)) j w
