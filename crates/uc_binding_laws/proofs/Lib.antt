@@ -4,4 +4,4 @@ pub mod Steps
 pub mod Walk
 pub mod Worlds
 pub mod Taking
-pub mod Addressing
+pub mod OpenRuns

@@ -3,4 +3,4 @@ pub mod Placed
 pub mod BindingLaws
 pub mod BindingRuns
 pub mod Taking
-pub mod Addressed
+pub mod OpenRuns

@@ -1,8 +1,8 @@
 // The laws: each is a function whose contract is the law.
 
-ghost use Rattle.uc_binding_laws.specs.Addressed.{LawOpens};
 ghost use Rattle.uc_binding_laws.specs.BindingLaws.{LawBound, LawSteps};
 ghost use Rattle.uc_binding_laws.specs.BindingRuns.{LawRuns};
+ghost use Rattle.uc_binding_laws.specs.OpenRuns.{LawOpens, LawThere};
 ghost use Rattle.uc_binding_laws.specs.Taking.{LawTaken, LawTakenRuns};
 
 /// In any source in which arguments are counted and scopes open behind what builds their objects, the
@@ -40,9 +40,16 @@ pub fn law_taken_runs()
     ensures { LawTakenRuns }
 {}
 
-/// So where scopes open in frames whose cells all have addresses, a variable of a mutex object or a
-/// processor holds an object behind the step that binds it, and what is bound otherwise lies aside: in
-/// such runs, and on the way to such a state.
+/// So where the program is within its limits, a variable of a mutex object or a processor holds an
+/// object behind the step that binds it, and what is bound otherwise lies aside: in each such run, on
+/// the way to each state to which whoever runs comes before it asks, and there.
 pub fn law_opens()
     ensures { LawOpens }
+{}
+
+/// So all is there in each such state that is in scope and known by its number, clusters that are
+/// variables have numbers below their count, and who leaves the scope of such a one, at a cell before
+/// the last address, asks for the end of a cluster that there is.
+pub fn law_there()
+    ensures { LawThere }
 {}

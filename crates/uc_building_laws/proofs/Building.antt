@@ -148,6 +148,15 @@ module _ (t : Table) (few : Few) (n : Exec) where
     builds_to (b ∷ older) kf k m h =
         awaits_more _ _ (λ c todo x j i d. either_to (suc (length older)) b.frame j i (Outwards t few n b.frame b.this older c todo) kf k.0 (m b.frame) (x j i d)) b.control h
 
+  -- without a frame of its own an activation builds nothing
+  pub not_making : (L M : List Ty → ℕ → ℕ → Value → (Ty → Value → Type 0) → Type 0) (fs : List (List Value)) (f : ℕ) (this : Value) (cs : List Active) → (f ≡ length cs → ⊥) → Builds t few n L fs f this cs → Builds t few n M fs f this cs
+  not_making L M fs f this [] none h = tt
+  not_making L M fs f this (b ∷ older) none h = awaits_more _ _ (λ c todo x j i d. by c todo j i (x j i d)) b.control h
+    where
+      by : (c : CleanUp) (todo : List Todo) (j i : ℕ) → IsBuilt t few n fs b.frame (variable n b.frame j) i (Outwards t few n b.frame b.this older c todo) ⊎ IsMaking t few n L fs f (suc (length older)) this b.frame (variable n b.frame j) i (Outwards t few n b.frame b.this older c todo) → IsBuilt t few n fs b.frame (variable n b.frame j) i (Outwards t few n b.frame b.this older c todo) ⊎ IsMaking t few n M fs f (suc (length older)) this b.frame (variable n b.frame j) i (Outwards t few n b.frame b.this older c todo)
+      by c todo j i (inl x) = inl x
+      by c todo j i (inr x) = absurd (none x.frame)
+
   pub builds_kept : (L : List Ty → ℕ → ℕ → Value → (Ty → Value → Type 0) → Type 0) (fs gs : List (List Value)) (f : ℕ) (this : Value) (cs : List Active) → FrameKeeps fs gs f → AllKeep fs gs cs → Builds t few n L fs f this cs → Builds t few n L gs f this cs
   builds_kept L fs gs f this cs kf k h = builds_to L L fs gs f this cs kf k (λ g j ps c i K e p o x. inr x) h
 

@@ -13,7 +13,7 @@ use Rattle.uc_life_laws.specs.Things.{Few, IsField, itself, field, Known, Holds,
 use Rattle.uc_life_laws.specs.LifeStates.{frame_at, Outwards}
 use Rattle.uc_life_laws.proofs.Steps.{exec_same}
 use Rattle.uc_building_laws.specs.Building.{Now}
-use Rattle.uc_building_laws.specs.BuildingStates.{variable, Awaits, IsBuilt, IsMaking, Builds, of_wait, AllBuild, IsApart, AllApart, BuildsEnv, BuildsBy}
+use Rattle.uc_building_laws.specs.BuildingStates.{variable, Awaits, NotBack, IsBuilt, IsMaking, Builds, of_wait, AllBuild, IsApart, AllApart, BuildsEnv, BuildsBy}
 use Rattle.uc_building_laws.specs.BuildingLaws.{AwaitedBefore}
 use Rattle.uc_building_laws.proofs.Memory.{FrameKeeps, same_frame, set_at, CellsKeep, known_kept, holds_cleared}
 use Rattle.uc_building_laws.proofs.Building as building
@@ -85,13 +85,13 @@ module _ (t : Table) (few : Few) (s : State) (cell m : ℕ) where
   all_cleared : (cs : List Active) → IsApart s.run.frame cs → AwaitedBefore t s.env.exec cell s.run.frame cs → AllBuild t few s.env.exec s.env.frames cs → AllBuild t few s.env.exec gs cs
   all_cleared [] p k h = tt
   all_cleared (a ∷ older) p k h =
-      (builds_cleared (of_wait t a) a.frame a.this older (λ e d ps c i w K x. p.0 (sym e) d (building.left t ps c i a.control x)) k.1 h.0, all_cleared older p.1 k.1 h.1)
+      (builds_cleared (of_wait t a) a.frame a.this older (λ e d ps c i w K x. p.0 (sym e) d (building.left t ps c i a.control x.0)) k.1 h.0, all_cleared older p.1 k.1 h.1)
 
-  pub clears : (todo : List Todo) → BuildsEnv t few s.env → AllApart (s.run ∷ s.callers) → AwaitedBefore t s.env.exec cell s.run.frame s.callers → Builds t few s.env.exec (λ ps c i w K. ⊥) s.env.frames s.run.frame s.run.this s.callers → AllBuild t few s.env.exec s.env.frames s.callers → BuildsBy t few (λ ps c i w K. Now t ps c i w K todo s.run.operands) (at todo s.run.operands (in_env (piece.cleared cell m s) s))
+  pub clears : (todo : List Todo) → BuildsEnv t few s.env → AllApart (s.run ∷ s.callers) → AwaitedBefore t s.env.exec cell s.run.frame s.callers → Builds t few s.env.exec (λ ps c i w K. ⊥) s.env.frames s.run.frame s.run.this s.callers → AllBuild t few s.env.exec s.env.frames s.callers → BuildsBy t few (λ ps c i w K. Now t ps c i w K todo s.run.operands × NotBack s.run) (at todo s.run.operands (in_env (piece.cleared cell m s) s))
   clears todo env p k h callers =
-      subst (λ (b : Bool). BuildsBy t few (λ ps c i w K. Now t ps c i w K todo s.run.operands) (at todo s.run.operands (in_env (if b then record s.env { frames = gs } else change s.env.exec.home (frames_changed s.env.exec.serial (frame_changed s.run.frame (values_cleared cell m nought))) s.env) s))) (sym (exec_same s.env.exec)) (record {
+      subst (λ (b : Bool). BuildsBy t few (λ ps c i w K. Now t ps c i w K todo s.run.operands × NotBack s.run) (at todo s.run.operands (in_env (if b then record s.env { frames = gs } else change s.env.exec.home (frames_changed s.env.exec.serial (frame_changed s.run.frame (values_cleared cell m nought))) s.env) s))) (sym (exec_same s.env.exec)) (record {
         apart = p;
-        run = building.builds_more t few s.env.exec (λ ps c i w K. ⊥) (λ ps c i w K. Now t ps c i w K todo s.run.operands) (λ ps c i w K x. absurd x) gs s.run.frame s.run.this s.callers (builds_cleared (λ ps c i w K. ⊥) s.run.frame s.run.this s.callers (λ e d ps c i w K x. x) k h);
-        callers = all_cleared s.callers p.0 k callers;
+        run = building.builds_more t few s.env.exec (λ ps c i w K. ⊥) (λ ps c i w K. Now t ps c i w K todo s.run.operands × NotBack s.run) (λ ps c i w K x. absurd x) gs s.run.frame s.run.this s.callers (builds_cleared (λ ps c i w K. ⊥) s.run.frame s.run.this s.callers (λ e d ps c i w K x. x) k h);
+        callers = all_cleared s.callers p.0.0 k callers;
         env = kept.like t few env refl refl refl;
       })

@@ -1,5 +1,7 @@
 -- What constructors have bound stays so where members, executions and who runs change.
 use Rattle.std.proofs.Common.{◌≡◌, ℕ, ◌∙◌, true, false, List, Option, Some, None, refl, sym, subst}
+use Rattle.std.specs.Prelude.{pos}
+use Rattle.uc_tree.specs.declared.limits.TheConstants.{UNHANDLED}
 use Rattle.uc_entry.specs.declared.fault.RunFault.TheVariants.{ResumeInUse, SwitchInUnwind}
 use Rattle.uc_entry.specs.Keyed.{find}
 use Rattle.uc_machine.specs.declared.exec.Exec.{Exec}
@@ -8,6 +10,8 @@ use Rattle.uc_machine.specs.declared.exec.Home.TheVariants as home
 use Rattle.uc_machine.specs.declared.exec.Owner.{Owner}
 use Rattle.uc_machine.specs.declared.exec.Owner.TheVariants.{Frame, Fields}
 use Rattle.uc_machine.specs.declared.exec.Stage.{Stage}
+use Rattle.uc_machine.specs.declared.exec.UnwindReason.{UnwindReason}
+use Rattle.uc_machine.specs.declared.exec.UnwindReason.TheVariants as reason
 use Rattle.uc_machine.specs.declared.exec.Stage.TheVariants.{Fresh, Started, Ended}
 use Rattle.uc_machine.specs.Executions.{Links, exec_eq, joined, change, parked_at, frames_by, frames_changed, frame_changed, value_changed, with_owned, with_frames}
 use Rattle.uc_machine.specs.Switches as sw
@@ -20,8 +24,11 @@ use Rattle.uc_life_laws.proofs.Parked as parked
 use Rattle.uc_life_laws.proofs.Parked.{Ex, at_home}
 use Rattle.uc_building_laws.specs.BuildingStates.{Builds, of_run, AllBuild, BuildsEx, BuildsEnv, BuildsBy}
 use Rattle.uc_building_laws.proofs.Memory.{FrameKeeps, same_frame, frame_stored, kept_both}
-use Rattle.uc_building_laws.proofs.Building.{all_keep, builds_kept, all_kept}
+use Rattle.uc_building_laws.proofs.Building.{all_keep, builds_kept, all_kept, builds_more}
 use Rattle.uc_life_laws.specs.Things.{Few}
+
+pub some_is : {A : Type 0} {x y : A} → Some x ≡ Some y → x ≡ y
+some_is h = cc
 
 module _ (t : Table) (few : Few) where
   pub like : {e f : Env} → BuildsEnv t few e → f.hand ≡ e.hand → f.house ≡ e.house → f.own ≡ e.own → BuildsEnv t few f
@@ -175,9 +182,17 @@ module _ (t : Table) (few : Few) where
   finish_rests s h =
       go_on_rests (sw.or_else (sw.able s.env.links.starter s.env) (sw.able s.env.links.resumer s.env)) (sw.ended s) (or_rests (sw.able s.env.links.starter s.env) (sw.able s.env.links.resumer s.env) (able_rests s.env.links.starter s.env h.env) (able_rests s.env.links.resumer s.env h.env)) (ended_rests s h)
 
+  -- it is to be unwound, by no return
+  raised_there : (n : Exec) (x : Ex) (links : Links) (why : UnwindReason) → ((home : ℕ) → why ≡ reason.ReturnTo home → ⊥) → BuildsEx t few n x → BuildsEx t few n (record x { run = record x.run { raised = Some why }; links = links })
+  raised_there n x links why none r = record {
+    apart = ((r.apart.0.0, r.apart.0.1, λ home e. absurd (none home (some_is e))), r.apart.1);
+    run = builds_more t few n (of_run t x.run) (of_run t (record x.run { raised = Some why })) (λ ps c i w K y. (y.0, λ e. none x.run.frame (some_is e))) x.frames x.run.frame x.run.this x.callers r.run;
+    callers = r.callers;
+  }
+
   throw_rests : (o : Option (Exec × Ex)) (s : State) → BuildsNext o → Runs s → BuildsMoved (sw.throw_at o s)
   throw_rests None s r h = tt
-  throw_rests (Some p) s r h = switched_rests p.0 _ s (record { apart = r.apart; run = r.run; callers = r.callers }) h
+  throw_rests (Some p) s r h = switched_rests p.0 _ s (raised_there p.0 p.1 p.1.links (reason.Event UNHANDLED (pos 0) (pos 0)) (λ home e. absurd (cc)) r) h
 
   pub escape_rests : (s : State) → Runs s → BuildsMoved (sw.escape s)
   escape_rests s h = throw_rests (sw.able s.env.links.resumer s.env) (sw.ended s) (able_rests s.env.links.resumer s.env h.env) (ended_rests s h)
@@ -199,7 +214,7 @@ module _ (t : Table) (few : Few) where
 
   take_down_stage : (g : Stage) (n : Exec) (x : Ex) (s : State) → BuildsEx t few n x → Runs s → BuildsMoved (sw.take_down_at g n x s)
   take_down_stage Fresh n x s r h = over_rests n s h
-  take_down_stage Started n x s r h = switched_rests n _ s (record { apart = r.apart; run = r.run; callers = r.callers }) h
+  take_down_stage Started n x s r h = switched_rests n _ s (raised_there n x (record x.links { live = false; destroyer = Some s.env.exec }) reason.Destroyed (λ home e. absurd (cc)) r) h
   take_down_stage Ended n x s r h = over_rests n s h
 
   take_down_slot : (n : Exec) (o : Option Ex) (s : State) → SlotBy (BuildsEx t few) n o → Runs s → BuildsMoved (sw.take_down_by n o s)

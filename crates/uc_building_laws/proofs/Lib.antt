@@ -5,7 +5,10 @@ pub mod Searching
 pub mod Steps
 pub mod Making
 pub mod Clears
+pub mod Plain
 pub mod Standing
 pub mod Walk
 pub mod Laid
+pub mod Constructors
 pub mod Worlds
+pub mod BuiltRuns

@@ -23,11 +23,11 @@ use Rattle.uc_life_laws.proofs.Cells.{either}
 use Rattle.uc_life_laws.proofs.Steps.{exec_same}
 use Rattle.uc_life_laws.proofs.Knowns as known
 use Rattle.uc_building_laws.specs.Building.{InHead, AllLeft, Finds, Now}
-use Rattle.uc_building_laws.specs.BuildingStates.{variable, Awaits, IsBuilt, IsMaking, Builds, of_wait, AllBuild, IsApart, AllApart, BuildsEnv}
+use Rattle.uc_building_laws.specs.BuildingStates.{variable, Awaits, NotBack, IsBuilt, IsMaking, Builds, of_wait, AllBuild, IsApart, AllApart, BuildsEnv}
 use Rattle.uc_building_laws.specs.BuildingLaws.{IsPlain, IsConstructed, Constructs}
 use Rattle.uc_building_laws.proofs.Memory.{frame_newer, same_frame}
 use Rattle.uc_building_laws.proofs.Building as building
-use Rattle.uc_building_laws.proofs.Building.{awaits_more, all_keep, builds_to, builds_kept, all_kept}
+use Rattle.uc_building_laws.proofs.Building.{awaits_more, all_keep, builds_to, builds_kept, builds_more, all_kept}
 use Rattle.uc_building_laws.proofs.Keeping as kept
 use Rattle.uc_building_laws.proofs.Keeping.{Keeps}
 use Rattle.uc_building_laws.proofs.Searching.{Frames, FoundApart, frames_of_stack, seek_apart}
@@ -98,7 +98,7 @@ module _ (t : Table) (few : Few) (Z : ℕ → ℕ → Type 0) (s : State) (life 
   pub own : (k : Shape) (j : ℕ) (todo : List Todo) → With (λ ps c i w K. Now t ps c i w K (piece.Eval (src.OfObject (src.OwnField k j)) ∷ todo) s.run.operands) → StepBuilds t few (quiet.eval_step (src.OfObject (src.OwnField k j)) todo s)
   own k j todo h = record {
     apart = apart;
-    run = builds_to t few s.env.exec (λ ps c i w K. Now t ps c i w K (piece.Eval (src.OfObject (src.OwnField k j)) ∷ todo) s.run.operands) (λ ps c i w K. Now t ps c i w K todo (further (FieldAt k j) s.run.this ∷ s.run.operands)) s.env.frames s.env.frames s.run.frame s.run.this s.callers (same_frame s.env.frames s.run.frame) (all_keep t few s.env.exec s.env.frames s.env.frames (same_frame s.env.frames) s.callers) (λ g m ps c i K e p o x. inr (owns t ps c i (variable s.env.exec g m) (Known t few s.env.exec K) k j s.run.this e (λ n f l. known.further_field t few s.env.exec K c n (t.shape c) (variable s.env.exec g m) refl l (λ r. f) o) todo s.run.operands x)) h;
+    run = builds_to t few s.env.exec (λ ps c i w K. Now t ps c i w K (piece.Eval (src.OfObject (src.OwnField k j)) ∷ todo) s.run.operands × NotBack s.run) (λ ps c i w K. Now t ps c i w K todo (further (FieldAt k j) s.run.this ∷ s.run.operands) × NotBack s.run) s.env.frames s.env.frames s.run.frame s.run.this s.callers (same_frame s.env.frames s.run.frame) (all_keep t few s.env.exec s.env.frames s.env.frames (same_frame s.env.frames) s.callers) (λ g m ps c i K e p o x. inr (owns t ps c i (variable s.env.exec g m) (Known t few s.env.exec K) k j s.run.this e (λ n f l. known.further_field t few s.env.exec K c n (t.shape c) (variable s.env.exec g m) refl l (λ r. f) o) todo s.run.operands x.0, x.1)) h;
     callers = callers;
     env = env;
   }
@@ -107,7 +107,7 @@ module _ (t : Table) (few : Few) (Z : ℕ → ℕ → Type 0) (s : State) (life 
   pub get : (m : ℕ) (todo : List Todo) → With (λ ps c i w K. Now t ps c i w K (piece.Eval (src.Get m) ∷ todo) s.run.operands) → StepBuilds t few (quiet.eval_step (src.Get m) todo s)
   get m todo h = record {
     apart = apart;
-    run = builds_to t few s.env.exec (λ ps c i w K. Now t ps c i w K (piece.Eval (src.Get m) ∷ todo) s.run.operands) (λ ps c i w K. Now t ps c i w K todo (loaded (variable_at m s) s.env ∷ s.run.operands)) s.env.frames s.env.frames s.run.frame s.run.this s.callers (same_frame s.env.frames s.run.frame) (all_keep t few s.env.exec s.env.frames s.env.frames (same_frame s.env.frames) s.callers) (λ g j ps c i K e k o x. inr (gets t ps c i (variable s.env.exec g j) (Known t few s.env.exec K) m (loaded (variable_at m s) s.env) (λ b p l. subst (Known t few s.env.exec K b) (sym (loaded_here m l)) (k m b p)) todo s.run.operands x)) h;
+    run = builds_to t few s.env.exec (λ ps c i w K. Now t ps c i w K (piece.Eval (src.Get m) ∷ todo) s.run.operands × NotBack s.run) (λ ps c i w K. Now t ps c i w K todo (loaded (variable_at m s) s.env ∷ s.run.operands) × NotBack s.run) s.env.frames s.env.frames s.run.frame s.run.this s.callers (same_frame s.env.frames s.run.frame) (all_keep t few s.env.exec s.env.frames s.env.frames (same_frame s.env.frames) s.callers) (λ g j ps c i K e k o x. inr (gets t ps c i (variable s.env.exec g j) (Known t few s.env.exec K) m (loaded (variable_at m s) s.env) (λ b p l. subst (Known t few s.env.exec K b) (sym (loaded_here m l)) (k m b p)) todo s.run.operands x.0, x.1)) h;
     callers = callers;
     env = env;
   }
@@ -139,10 +139,17 @@ module _ (t : Table) (few : Few) (Z : ℕ → ℕ → Type 0) (s : State) (life 
     bound vs g k ps c i K e (inl x) = inl (held g k c i K e x.0 x.1 x.2 x.3)
     bound vs g k ps c i K e (inr x) = inr (building.now t ps c i (variable s.env.exec g k) (Known t few s.env.exec K) todo vs x)
 
+    bound_back : (vs : List Value) (g k : ℕ) (ps : List Ty) (c i : ℕ) (K : Value → Ty → Type 0) → s.run.this ≡ variable s.env.exec g k → Now t ps c i (variable s.env.exec g k) (Known t few s.env.exec K) (piece.BindNow ∷ todo) s.run.operands × NotBack s.run → Holds t few s.env.exec K (Frame s.env.exec g) (frame_at g after.frames) (further (FieldAt (t.shape c) i) (variable s.env.exec g k)) (t.fields c i) ⊎ (Now t ps c i (variable s.env.exec g k) (Known t few s.env.exec K) todo vs × NotBack s.run)
+    bound_back vs g k ps c i K e x = by (bound vs g k ps c i K e x.0)
+      where
+        by : Holds t few s.env.exec K (Frame s.env.exec g) (frame_at g after.frames) (further (FieldAt (t.shape c) i) (variable s.env.exec g k)) (t.fields c i) ⊎ Now t ps c i (variable s.env.exec g k) (Known t few s.env.exec K) todo vs → Holds t few s.env.exec K (Frame s.env.exec g) (frame_at g after.frames) (further (FieldAt (t.shape c) i) (variable s.env.exec g k)) (t.fields c i) ⊎ (Now t ps c i (variable s.env.exec g k) (Known t few s.env.exec K) todo vs × NotBack s.run)
+        by (inl y) = inl y
+        by (inr y) = inr (y, x.1)
+
     pub bind_now : (vs : List Value) → With (λ ps c i w K. Now t ps c i w K (piece.BindNow ∷ todo) s.run.operands) → StepBuilds t few (Goes (at todo vs (in_env after s)))
     bind_now vs h = record {
       apart = apart;
-      run = subst (λ n. Builds t few n (λ ps c i w K. Now t ps c i w K todo vs) after.frames s.run.frame s.run.this s.callers) (sym keeps.exec) (builds_to t few s.env.exec (λ ps c i w K. Now t ps c i w K (piece.BindNow ∷ todo) s.run.operands) (λ ps c i w K. Now t ps c i w K todo vs) s.env.frames after.frames s.run.frame s.run.this s.callers (keeps.frames s.run.frame) (all_keep t few s.env.exec s.env.frames after.frames keeps.frames s.callers) (λ g m ps c i K e k o x. bound vs g m ps c i K e x) h);
+      run = subst (λ n. Builds t few n (λ ps c i w K. Now t ps c i w K todo vs × NotBack s.run) after.frames s.run.frame s.run.this s.callers) (sym keeps.exec) (builds_to t few s.env.exec (λ ps c i w K. Now t ps c i w K (piece.BindNow ∷ todo) s.run.operands × NotBack s.run) (λ ps c i w K. Now t ps c i w K todo vs × NotBack s.run) s.env.frames after.frames s.run.frame s.run.this s.callers (keeps.frames s.run.frame) (all_keep t few s.env.exec s.env.frames after.frames keeps.frames s.callers) (λ g m ps c i K e k o x. bound_back vs g m ps c i K e x) h);
       callers = subst (λ n. AllBuild t few n after.frames s.callers) (sym keeps.exec) (all_kept t few s.env.exec s.env.frames after.frames s.callers (all_keep t few s.env.exec s.env.frames after.frames keeps.frames s.callers) callers);
       env = keeps.env;
     }
@@ -165,10 +172,13 @@ module _ (t : Table) (few : Few) (Z : ℕ → ℕ → Type 0) (s : State) (life 
   none_built : (L : List Ty → ℕ → ℕ → Value → (Ty → Value → Type 0) → Type 0) (fs : List (List Value)) (f : ℕ) (this : Value) (b : Active) (older : List Active) → Awaits (λ c rest. IsPlain t c → ⊥) b.control → Builds t few s.env.exec L fs f this (b ∷ older)
   none_built L fs f this b older h = awaits_more (λ c rest. IsPlain t c → ⊥) _ (λ c rest none k i d. absurd (none (k, i, d))) b.control h
 
+  waits_apart : (todo : List Todo) (vs : List Value) → AllApart (record s.run { control = todo; operands = vs } ∷ s.callers)
+  waits_apart todo vs = ((apart.0.0, apart.0.1, apart.0.2), apart.1)
+
   begun : (r : Routine) (this : Value) (counts : Bool) (todo : List Todo) (vs : List Value) → Holding todo → Builds t few s.env.exec (λ ps c i w K. Now t ps c i w K (quiet.routine_todo r) []) (quiet.call_frame r s.run.operands ∷ s.env.frames) (length s.env.frames) this (record s.run { control = todo; operands = vs } ∷ s.callers) → StepBuilds t few (quiet.begun_step r this counts todo vs s)
   begun r this counts todo vs h b = record {
-    apart = (far (length s.env.frames) (record s.run { control = todo; operands = vs }) s.callers (let n = life.frames in omega (arith, n)) life.stack.0.frame (frames_of_stack Z s.env.frames s.callers life.stack.1), apart);
-    run = b;
+    apart = ((far (length s.env.frames) (record s.run { control = todo; operands = vs }) s.callers (let n = life.frames in omega (arith, n)) life.stack.0.frame (frames_of_stack Z s.env.frames s.callers life.stack.1), life.frames, λ home e. absurd (cc)), waits_apart todo vs);
+    run = builds_more t few s.env.exec (λ ps c i w K. Now t ps c i w K (quiet.routine_todo r) []) _ (λ ps c i w K x. (x, λ e. absurd (cc))) (quiet.call_frame r s.run.operands ∷ s.env.frames) (length s.env.frames) this (record s.run { control = todo; operands = vs } ∷ s.callers) b;
     callers = all_new (quiet.call_frame r s.run.operands) todo vs h;
     env = kept.like t few env refl refl refl;
   }
@@ -182,7 +192,7 @@ module _ (t : Table) (few : Few) (Z : ℕ → ℕ → Type 0) (s : State) (life 
   handles : (o : Option Found) (e : Event) (todo : List Todo) → FoundApart (record s.run { control = todo } ∷ s.callers) o → Awaits (λ c rest. IsPlain t c → ⊥) (piece.DropNow ∷ todo) → Holding todo → StepBuilds t few (raising.handle_step o e todo s)
   handles None e todo f n h = steps.throws t few Z s life env callers apart e todo h
   handles (Some x) e todo f n h = record {
-    apart = (f.0, apart);
+    apart = ((f.0, f.2, λ home r. absurd (cc)), waits_apart (piece.DropNow ∷ todo) (below (below (below s.run.operands))));
     run = none_built _ ([] ∷ s.env.frames) _ _ (record s.run { control = piece.DropNow ∷ todo; operands = below (below (below s.run.operands)) }) s.callers n;
     callers = all_new [] (piece.DropNow ∷ todo) (below (below (below s.run.operands))) h;
     env = kept.like t few env refl refl refl;
@@ -242,16 +252,14 @@ module _ (t : Table) (few : Few) (Z : ℕ → ℕ → Type 0) (s : State) (life 
         begins : KnowsState t few [] s → (k i : ℕ) → CleansAt t (Obj i) (src.Variable k) c → IsUnbound t (Obj i) ⊎ IsConstructed t few source s r k i → IsBuilt t few s.env.exec (quiet.call_frame q s.run.operands ∷ s.env.frames) s.run.frame (variable s.env.exec s.run.frame k) i K ⊎ IsMaking t few s.env.exec (λ ps c i w K. Now t ps c i w K (quiet.routine_todo q) []) (quiet.call_frame q s.run.operands ∷ s.env.frames) (length s.env.frames) (suc (length s.callers)) (top (drop q.params s.run.operands)) s.run.frame (variable s.env.exec s.run.frame k) i K
         begins x k i d (inl none) = inl (building.unbound t few s.env.exec (quiet.call_frame q s.run.operands ∷ s.env.frames) s.run.frame (variable s.env.exec s.run.frame k) K (Obj i) none)
         begins x k i d (inr z) =
-            let a = z.there in
-            let same : z.routine ≡ q = cc in
             let y = z.apart x in
             inr (record {
               frame = life.frames;
-              object = subst (λ (m : Routine). top (drop m.params s.run.operands) ≡ variable s.env.exec s.run.frame k) same z.object;
+              object = z.object q is;
               known_object = known_object k i d z.plain;
               params = ps;
               known = λ j b l. in_frame y.0 y.1 j b l;
-              fields = λ j l. lacks K (quiet.call_frame q s.run.operands ∷ s.env.frames) s.run.frame k i j (subst (λ (m : Routine). m.purpose ≡ src.Builder) same z.purpose) (subst (λ (m : Routine). InHead t ps i j m.body ⊎ IsUnbound t (t.fields i j)) same (z.makes j l));
+              fields = λ j l. lacks K (quiet.call_frame q s.run.operands ∷ s.env.frames) s.run.frame k i j (z.purpose q is) (z.makes q is j l);
             })
 
       made : KnowsState t few [] s → (todo : List Todo) (vs : List Value) → s.run.control ≡ o ∷ todo → Constructs t few source s r todo → Builds t few s.env.exec (λ ps c i w K. Now t ps c i w K (quiet.routine_todo q) []) (quiet.call_frame q s.run.operands ∷ s.env.frames) (length s.env.frames) (top (drop q.params s.run.operands)) (record s.run { control = todo; operands = vs } ∷ s.callers)

@@ -1,5 +1,5 @@
 -- A handler of resumptions that is found uses no frame of a constructor that waits.
-use Rattle.std.proofs.Common.{◌≡◌, ℕ, ◌≤◌, ◌<◌, List, [], ◌∷◌, length, Option, Some, None, refl, arith}
+use Rattle.std.proofs.Common.{◌≡◌, ℕ, ◌≤◌, ◌<◌, List, [], ◌∷◌, length, Option, Some, None, refl, sym, arith}
 use Rattle.std.specs.Prelude.{nat_eq}
 use Rattle.uc_tree.specs.Source as src
 use Rattle.uc_tree.specs.Source.{CleanUp}
@@ -11,7 +11,7 @@ use Rattle.uc_machine.specs.Pieces.{Value, Todo, Sort, Active}
 use Rattle.uc_scope_laws.specs.RoomStacks.{Stack}
 use Rattle.uc_life_laws.proofs.Cells.{either}
 use Rattle.uc_building_laws.specs.Building.{IsLeft, AllLeft}
-use Rattle.uc_building_laws.specs.BuildingStates.{IsApart, AllApart}
+use Rattle.uc_building_laws.specs.BuildingStates.{IsApart, IsOwn, HomedBy, AllApart}
 
 -- each uses its own frame or that of an older one
 abbrev pub Frames : List Active → Type 0
@@ -58,16 +58,21 @@ within_left n (p ∷ todo) h =
 
 abbrev pub FoundApart : List Active → Option Found → Type 0
 FoundApart cs None = Unit {0}
-FoundApart cs (Some f) = IsApart f.frame cs × (f.frame < length cs)
+FoundApart cs (Some f) = IsApart f.frame cs × (f.frame < length cs) × (f.visited.home ≡ f.frame)
 
 -- found in an older one
 found_older : (a : Active) (others : List Active) (o : Option Found) → FoundApart others o → FoundApart (a ∷ others) o
 found_older a others None h = tt
-found_older a others (Some f) h = let l = h.1 in (((λ e q k. let n : ⊥ = omega (arith, l, e, q) in absurd n), h.0), omega (arith, l))
+found_older a others (Some f) h = let l = h.1 in (((λ e q k. let n : ⊥ = omega (arith, l, e, q) in absurd n), h.0), omega (arith, l), h.2)
 
-found_here : (x : Option Hit) (a : Active) (others : List Active) (other : Option Found) → a.frame ≤ length others → IsApart a.frame others → (AllLeft a.control → x ≡ None) → FoundApart others other → FoundApart (a ∷ others) (raising.found_or x a others other)
+-- a return is one to the routine whose frame it is
+home_is : (v : Option Visited) (frame level : ℕ) → HomedBy v frame level → raising.home_of v level ≡ frame
+home_is None frame level h = sym h
+home_is (Some v) frame level h = h
+
+found_here : (x : Option Hit) (a : Active) (others : List Active) (other : Option Found) → a.frame ≤ length others → IsOwn a others → (AllLeft a.control → x ≡ None) → FoundApart others other → FoundApart (a ∷ others) (raising.found_or x a others other)
 found_here None a others other l p none h = found_older a others other h
-found_here (Some x) a others other l p none h = (((λ e q k. let n = none k in absurd (cc)), p), omega (arith, l))
+found_here (Some x) a others other l p none h = (((λ e q k. let n = none k in absurd (cc)), p.0), omega (arith, l), home_is a.handles a.frame (length others) p.1)
 
 pub seek_apart : (v : Option Visited) (e : Event) (cs : List Active) → Frames cs → AllApart cs → FoundApart cs (raising.seek v e cs)
 seek_apart None e [] l p = tt

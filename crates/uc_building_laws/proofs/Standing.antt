@@ -1,8 +1,15 @@
 -- Where the scope of an object opens next, behind what has built it, that holds what is known.
-use Rattle.std.proofs.Common.{◌≡◌, ℕ, suc, ◌⊎◌, inl, inr, List, [], ◌∷◌, length, Some, refl, sym, ap, ◌∙◌, subst, arith}
+use Rattle.std.proofs.Common.{◌≡◌, ℕ, suc, ◌⊎◌, inl, inr, Bool, true, false, List, [], ◌∷◌, length, Option, Some, None, refl, sym, ap, ◌∙◌, subst, arith}
 use Rattle.uc_tree.specs.Source as src
-use Rattle.uc_tree.specs.Source.{Source, Stmts, CleanUp}
+use Rattle.uc_tree.specs.Source.{Source, Stmts, Way, CleanUp}
 use Rattle.uc_entry.specs.declared.request.Request.{Request}
+use Rattle.uc_entry.specs.declared.request.Request.TheVariants as ask
+use Rattle.uc_machine.specs.declared.exec.UnwindReason.{UnwindReason}
+use Rattle.uc_machine.specs.declared.exec.UnwindReason.TheVariants as reason
+use Rattle.std.proofs.lemmas.Bool.{eqb-true}
+use Rattle.uc_machine.specs.declared.exec.Visited.{Visited}
+use Rattle.uc_machine.specs.Insides as inside
+use Rattle.uc_machine.specs.Raising as raising
 use Rattle.uc_machine.specs.declared.exec.Owner.TheVariants.{Frame}
 use Rattle.uc_machine.specs.Executions.{others, returned}
 use Rattle.uc_machine.specs.Quiet as quiet
@@ -12,16 +19,69 @@ use Rattle.uc_typing.specs.Typing.{Ty, Obj, Table, CleansAt}
 use Rattle.uc_life_laws.specs.Things.{Few, Known, Holds}
 use Rattle.uc_life_laws.specs.LifeStates.{Outwards, frame_at}
 use Rattle.uc_scope_laws.specs.RoomStacks.{Stack, StackState}
-use Rattle.uc_life_laws.proofs.Cells.{others_length}
+use Rattle.uc_life_laws.proofs.Cells.{either, others_length}
 use Rattle.uc_building_laws.specs.Building.{Now}
-use Rattle.uc_building_laws.specs.BuildingStates.{variable, Awaits, Nears, IsBuilt, IsMaking, Builds, of_run, Stands, BuildsState}
-use Rattle.uc_building_laws.specs.BuildingLaws.{Joined, StepJoins}
+use Rattle.uc_building_laws.specs.BuildingStates.{variable, Awaits, Nears, NotBack, IsBuilt, IsMaking, Builds, of_run, Stands, StandsBehind, BuildsState}
+use Rattle.uc_opening_laws.specs.CalledStates.{Ends, Joins, AskJoins, StepJoins}
 use Rattle.uc_building_laws.proofs.Memory.{frame_older, holds_kept}
+use Rattle.uc_building_laws.proofs.Plain.{none_plain}
 use Rattle.uc_building_laws.proofs.Building as building
+
+-- a return is over
+arrives_is : (o : Option UnwindReason) (n : ℕ) → raising.arrives o n ≡ true → o ≡ Some (reason.ReturnTo n)
+arrives_is None n e = absurd (cc)
+arrives_is (Some (reason.Event k x y)) n e = absurd (cc)
+arrives_is (Some (reason.ReturnTo home)) n e = ap (λ m. Some (reason.ReturnTo m)) (eqb-true home n e)
+arrives_is (Some reason.Destroyed) n e = absurd (cc)
 
 -- so a list tells
 abbrev pub StandsOf : (t : Table) (few : Few) → State → List Todo → Type 0
 StandsOf t few u l = Nears (λ c todo. (k i : ℕ) → CleansAt t (Obj i) (src.Variable k) c → IsBuilt t few u.env.exec u.env.frames u.run.frame (variable u.env.exec u.run.frame k) i (Outwards t few u.env.exec u.run.frame u.run.this u.callers c todo)) l
+
+-- what the end of an activation of a state leads to: to who waits for it, which goes on or is unwound
+abbrev EndsTo : State → List Active → Step → Type 0
+EndsTo s cs (Goes u) = ((given : Value) × (piece.return_step given cs s ≡ Goes u)) ⊎ ((rest : List Todo) × (u.run.control ≡ piece.Unwind ∷ rest))
+EndsTo s cs (Ticks u) = ⊥
+EndsTo s cs (Asks r u) = (r ≡ ask.End) ⊎ ((n : ℕ) × (r ≡ ask.Fault n))
+
+module _ (s : State) where
+  return_to : (given : Value) (cs : List Active) → EndsTo s cs (piece.return_step given cs s)
+  return_to given [] = inl refl
+  return_to given (b ∷ cs) = inl (given, refl)
+
+  past_to : (v : Visited) (given : Value) (cs : List Active) → EndsTo s cs (raising.return_past v given cs s)
+  past_to v given [] = inl refl
+  past_to v given (b ∷ cs) = inr (b.control, refl)
+
+  end_to : (v : Option Visited) (given : Value) → EndsTo s s.callers (raising.end_by v given s)
+  end_to None given = return_to given s.callers
+  end_to (Some v) given = past_to v given s.callers
+
+  exit_to : (w : Way) → EndsTo s s.callers (quiet.end_step w s)
+  exit_to src.ToReturn = end_to s.run.handles (piece.top s.run.operands)
+  exit_to src.ToEnd = end_to s.run.handles nought
+  exit_to src.ToBreak = return_to nought s.callers
+  exit_to src.ToContinue = return_to nought s.callers
+
+  pass_to : (o : Option UnwindReason) (c : Active) (cs : List Active) → EndsTo s (c ∷ cs) (raising.pass_on o c cs s)
+  pass_to None c cs = inl refl
+  pass_to (Some why) c cs = inr (c.control, refl)
+
+  leave_for_to : (b : Bool) (c : Active) (cs : List Active) → EndsTo s (c ∷ cs) (raising.leave_for b c cs s)
+  leave_for_to true c cs = inr (_, refl)
+  leave_for_to false c cs = pass_to s.run.raised c cs
+
+  leave_to : (cs : List Active) → EndsTo s cs (raising.leave_step cs s)
+  leave_to [] = inl refl
+  leave_to (c ∷ cs) = either (EndsTo s (c ∷ cs)) (raising.arrives s.run.raised (length (c ∷ cs))) (piece.return_step s.run.result (c ∷ cs) s) (raising.leave_for (raising.escapes s.run.raised c.raised) c cs s) (return_to s.run.result (c ∷ cs)) (leave_for_to (raising.escapes s.run.raised c.raised) c cs)
+
+  -- so it is of each end
+  pub ends_to : (source : Source) (l : List Todo) → Ends s l → EndsTo s s.callers (quiet.act_todo source l s)
+  ends_to source [] e = return_to nought s.callers
+  ends_to source (piece.Exit w ∷ []) e = exit_to w
+  ends_to source (piece.Finish ∷ todo) e = either (EndsTo s s.callers) (inside.is_held_up s.env.own s.env) _ (piece.return_step nought s.callers s) (inr (_, refl)) (return_to nought s.callers)
+  ends_to source (piece.Unwind ∷ []) e = leave_to s.callers
+  ends_to source l e = absurd e
 
 module _ (t : Table) (few : Few) (source : Source) (Z : ℕ → ℕ → Type 0) (s : State) (life : StackState Z s) (st : BuildsState t few s) where
   -- what a clean-up is for is built, in the frame of who runs, with this to do behind it
@@ -31,7 +91,7 @@ module _ (t : Table) (few : Few) (source : Source) (Z : ℕ → ℕ → Type 0) 
   abbrev pub StepStands : Step → Type 0
   StepStands (Goes u) = Stands t few u
   StepStands (Ticks u) = Stands t few u
-  StepStands (Asks r u) = Stands t few u
+  StepStands (Asks r u) = StandsBehind t few r u
 
   module _ (line : ℕ) (c : CleanUp) (ss : Stmts) (todo : List Todo) where
     abbrev rest : List Todo
@@ -49,27 +109,21 @@ module _ (t : Table) (few : Few) (source : Source) (Z : ℕ → ℕ → Type 0) 
     drops : s.run.control ≡ drop → quiet.quiet source s ≡ Goes (at within (below s.run.operands) s)
     drops e = ap (λ l. quiet.act_todo source l s) e
 
-    ends : s.run.control ≡ [] → quiet.quiet source s ≡ piece.return_step nought s.callers s
-    ends e = ap (λ l. quiet.act_todo source l s) e
-
     left_stands : s.run.control ≡ within → Claim s c todo
     left_stands e = subst (StandsOf t few s) e st.stands
 
     dropped_stands : s.run.control ≡ drop → Claim s c todo
     dropped_stands e = subst (StandsOf t few s) e st.stands
 
-    -- a constructor has come to its end
-    module _ (end : s.run.control ≡ []) (b : Active) (cs : List Active) (l : length s.env.frames ≡ suc (length (b ∷ cs))) (h : Stack Z s.env.frames (b ∷ cs)) (control : b.control ≡ drop) (x : Builds t few s.env.exec (of_run t s.run) s.env.frames s.run.frame s.run.this (b ∷ cs)) where
-      nothing_left : (ps : List Ty) (d i : ℕ) (w : Value) (K : Ty → Value → Type 0) → Now t ps d i w K s.run.control s.run.operands → ⊥
-      nothing_left ps d i w K y = subst (λ l. Now t ps d i w K l s.run.operands) end y
-
+    -- a constructor has come to its end, and nothing is left to be bound
+    module _ (nothing : suc s.run.frame ≡ length s.env.frames → (ps : List Ty) (d i : ℕ) (w : Value) (K : Ty → Value → Type 0) → of_run t s.run ps d i w K → ⊥) (b : Active) (cs : List Active) (l : length s.env.frames ≡ suc (length (b ∷ cs))) (h : Stack Z s.env.frames (b ∷ cs)) (control : b.control ≡ drop) (x : Builds t few s.env.exec (of_run t s.run) s.env.frames s.run.frame s.run.this (b ∷ cs)) where
       made : (g : ℕ) (w : Value) (d : ℕ) (K : Value → Ty → Type 0) → IsBuilt t few s.env.exec s.env.frames g w d K ⊎ IsMaking t few s.env.exec (of_run t s.run) s.env.frames s.run.frame (suc (length cs)) s.run.this g w d K → IsBuilt t few s.env.exec s.env.frames g w d K
       made g w d K (inl y) = y
       made g w d K (inr m) = building.built t few s.env.exec s.env.frames g w d K (λ i f. by i (m.fields i f))
         where
           by : (i : ℕ) → Holds t few s.env.exec K (Frame s.env.exec g) (frame_at g s.env.frames) (further (FieldAt (t.shape d) i) w) (t.fields d i) ⊎ of_run t s.run m.params d i w (Known t few s.env.exec K) → Holds t few s.env.exec K (Frame s.env.exec g) (frame_at g s.env.frames) (further (FieldAt (t.shape d) i) w) (t.fields d i)
           by i (inl y) = y
-          by i (inr y) = absurd (nothing_left m.params d i w (Known t few s.env.exec K) y)
+          by i (inr y) = let q = m.frame in absurd (nothing (omega (arith, q, l)) m.params d i w (Known t few s.env.exec K) y)
 
       handed : (k i : ℕ) → CleansAt t (Obj i) (src.Variable k) c → IsBuilt t few s.env.exec (others s.env.frames) b.frame (variable s.env.exec b.frame k) i (Outwards t few s.env.exec b.frame b.this cs c todo)
       handed k i d =
@@ -78,74 +132,89 @@ module _ (t : Table) (few : Few) (source : Source) (Z : ℕ → ℕ → Type 0) 
           let le = h.0.frame in
           holds_kept t few s.env.exec (Outwards t few s.env.exec b.frame b.this cs c todo) (Frame s.env.exec b.frame) (frame_at b.frame s.env.frames) (frame_at b.frame (others s.env.frames)) (variable s.env.exec b.frame k) (Obj i) (frame_older s.env.frames b.frame (omega (arith, n, le))) (made b.frame (variable s.env.exec b.frame k) i (Outwards t few s.env.exec b.frame b.this cs c todo) (y k i d))
 
-    ended_goes : (u : State) → u.run.control ≡ drop → s.run.control ≡ [] → quiet.quiet source s ≡ Goes u → Claim u c todo
-    ended_goes u control end e = by s.callers life.frames life.stack.1 st.builds.run (sym (ends end) ∙ e)
+    returned_goes : (suc s.run.frame ≡ length s.env.frames → (ps : List Ty) (d i : ℕ) (w : Value) (K : Ty → Value → Type 0) → of_run t s.run ps d i w K → ⊥) → (given : Value) (u : State) → u.run.control ≡ drop → piece.return_step given s.callers s ≡ Goes u → Claim u c todo
+    returned_goes nothing given u control q = by s.callers life.frames life.stack.1 st.builds.run q
       where
-        by : (cs : List Active) → length s.env.frames ≡ suc (length cs) → Stack Z s.env.frames cs → Builds t few s.env.exec (of_run t s.run) s.env.frames s.run.frame s.run.this cs → piece.return_step nought cs s ≡ Goes u → Claim u c todo
+        by : (cs : List Active) → length s.env.frames ≡ suc (length cs) → Stack Z s.env.frames cs → Builds t few s.env.exec (of_run t s.run) s.env.frames s.run.frame s.run.this cs → piece.return_step given cs s ≡ Goes u → Claim u c todo
         by [] l h x q = absurd (cc)
         by (b ∷ cs) l h x q =
-            let same : returned (Some nought) s.run.counts b cs s.env ≡ u = cc in
+            let same : returned (Some given) s.run.counts b cs s.env ≡ u = cc in
             let stands : b.control ≡ drop = ap (λ (u : State). u.run.control) same ∙ control in
-            subst (λ u. Claim u c todo) same (handed end b cs l h stands x)
+            subst (λ u. Claim u c todo) same (handed nothing b cs l h stands x)
 
-    ended_asks : (r : Request) (u : State) → u.run.control ≡ drop → s.run.control ≡ [] → quiet.quiet source s ≡ Asks r u → ⊥
-    ended_asks r u control end e = by s.callers (sym (ends end) ∙ e)
-      where
-        by : (cs : List Active) → piece.return_step nought cs s ≡ Asks r u → ⊥
-        by [] q =
-            let same : s ≡ u = cc in
-            let stands : s.run.control ≡ drop = ap (λ (u : State). u.run.control) same ∙ control in
-            let none : [] ≡ drop = sym end ∙ stands in
-            absurd (cc)
-        by (b ∷ cs) q = absurd (cc)
+    -- where a return is over, nothing is left either
+    returned_back : raising.arrives s.run.raised (length s.callers) ≡ true → suc s.run.frame ≡ length s.env.frames → NotBack s.run → ⊥
+    returned_back a q none =
+        let m = life.frames in
+        let own : length s.callers ≡ s.run.frame = omega (arith, m, q) in
+        none (arrives_is s.run.raised (length s.callers) a ∙ ap (λ n. Some (reason.ReturnTo n)) own)
 
-    ended_ticks : (u : State) → s.run.control ≡ [] → quiet.quiet source s ≡ Ticks u → ⊥
-    ended_ticks u end e = by s.callers (sym (ends end) ∙ e)
-      where
-        by : (cs : List Active) → piece.return_step nought cs s ≡ Ticks u → ⊥
-        by [] q = absurd (cc)
-        by (b ∷ cs) q = absurd (cc)
+    ended_goes : (u : State) → u.run.control ≡ drop → (l : List Todo) → s.run.control ≡ l → Ends s l → EndsTo s s.callers (Goes u) → Claim u c todo
+    ended_goes u control l e en (inr q) =
+        let z : piece.Unwind ∷ q.0 ≡ drop = sym q.1 ∙ control in
+        absurd (cc)
+    ended_goes u control [] e en (inl q) = returned_goes (λ f ps d i w K y. subst (λ l. Now t ps d i w K l s.run.operands) e y.0) q.0 u control q.1
+    ended_goes u control (piece.Exit w ∷ []) e en (inl q) = returned_goes (λ f ps d i v K y. subst (λ l. Now t ps d i v K l s.run.operands) e y.0) q.0 u control q.1
+    ended_goes u control (piece.Finish ∷ rest) e en (inl q) = returned_goes (λ f ps d i w K y. subst (λ l. Now t ps d i w K l s.run.operands) e y.0) q.0 u control q.1
+    ended_goes u control (piece.Unwind ∷ []) e en (inl q) = returned_goes (λ f ps d i w K y. returned_back en f y.1) q.0 u control q.1
+    ended_goes u control l e en (inl q) = absurd en
 
-  goes_at : (u : State) (l : List Todo) → u.run.control ≡ l → quiet.quiet source s ≡ Goes u → Joined t s.run.control l → StandsOf t few u l
-  goes_at u (piece.Rest (src.Scoped c ss) ∷ todo) control e j = λ k i d.
-      let q = j (k, i, d) in
+  -- who runs has come to an end
+  ended : (step : Step) → quiet.quiet source s ≡ step → Ends s s.run.control → EndsTo s s.callers step
+  ended step e en = subst (EndsTo s s.callers) e (ends_to s source s.run.control en)
+
+  goes_at : (u : State) (l : List Todo) → u.run.control ≡ l → quiet.quiet source s ≡ Goes u → Joins s l → StandsOf t few u l
+  goes_at u (piece.Rest (src.Scoped c ss) ∷ todo) control e (inl none) = λ k i d. absurd (none_plain t c none (k, i, d))
+  goes_at u (piece.Rest (src.Scoped c ss) ∷ todo) control e (inr q) =
       let a : Goes (at (piece.Rest (src.Scoped c ss) ∷ todo) s.run.operands s) ≡ Goes u = sym (leaves q.0 c ss todo q.1) ∙ e in
       let same : at (piece.Rest (src.Scoped c ss) ∷ todo) s.run.operands s ≡ u = cc in
-      subst (λ u. Claim u c todo) same (left_stands q.0 c ss todo q.1) k i d
-  goes_at u (piece.Within line ∷ (piece.Rest (src.Scoped c ss) ∷ todo)) control e j = λ k i d.
-      let q = j (k, i, d) in
+      subst (λ u. Claim u c todo) same (left_stands q.0 c ss todo q.1)
+  goes_at u (piece.Within line ∷ (piece.Rest (src.Scoped c ss) ∷ todo)) control e (inl none) = λ k i d. absurd (none_plain t c none (k, i, d))
+  goes_at u (piece.Within line ∷ (piece.Rest (src.Scoped c ss) ∷ todo)) control e (inr q) =
       let a : Goes (at (piece.Within line ∷ (piece.Rest (src.Scoped c ss) ∷ todo)) (below s.run.operands) s) ≡ Goes u = sym (drops line c ss todo q) ∙ e in
       let same : at (piece.Within line ∷ (piece.Rest (src.Scoped c ss) ∷ todo)) (below s.run.operands) s ≡ u = cc in
-      subst (λ u. Claim u c todo) same (dropped_stands line c ss todo q) k i d
-  goes_at u (piece.DropNow ∷ (piece.Within line ∷ (piece.Rest (src.Scoped c ss) ∷ todo))) control e j = λ k i d.
-      ended_goes line c ss todo u control (j (k, i, d)) e k i d
+      subst (λ u. Claim u c todo) same (dropped_stands line c ss todo q)
+  goes_at u (piece.DropNow ∷ (piece.Within line ∷ (piece.Rest (src.Scoped c ss) ∷ todo))) control e (inl none) = λ k i d. absurd (none_plain t c none (k, i, d))
+  goes_at u (piece.DropNow ∷ (piece.Within line ∷ (piece.Rest (src.Scoped c ss) ∷ todo))) control e (inr q) =
+      ended_goes line c ss todo u control s.run.control refl q (ended (Goes u) e q)
   goes_at u l control e j = tt
 
-  ticks_at : (u : State) (l : List Todo) → u.run.control ≡ l → quiet.quiet source s ≡ Ticks u → Joined t s.run.control l → StandsOf t few u l
-  ticks_at u (piece.Rest (src.Scoped c ss) ∷ todo) control e j = λ k i d.
-      let q = j (k, i, d) in
+  ticks_at : (u : State) (l : List Todo) → u.run.control ≡ l → quiet.quiet source s ≡ Ticks u → Joins s l → StandsOf t few u l
+  ticks_at u (piece.Rest (src.Scoped c ss) ∷ todo) control e (inl none) = λ k i d. absurd (none_plain t c none (k, i, d))
+  ticks_at u (piece.Rest (src.Scoped c ss) ∷ todo) control e (inr q) =
       let a : Goes (at (piece.Rest (src.Scoped c ss) ∷ todo) s.run.operands s) ≡ Ticks u = sym (leaves q.0 c ss todo q.1) ∙ e in
       absurd (cc)
-  ticks_at u (piece.Within line ∷ (piece.Rest (src.Scoped c ss) ∷ todo)) control e j = λ k i d.
-      let a : Goes (at (piece.Within line ∷ (piece.Rest (src.Scoped c ss) ∷ todo)) (below s.run.operands) s) ≡ Ticks u = sym (drops line c ss todo (j (k, i, d))) ∙ e in
+  ticks_at u (piece.Within line ∷ (piece.Rest (src.Scoped c ss) ∷ todo)) control e (inl none) = λ k i d. absurd (none_plain t c none (k, i, d))
+  ticks_at u (piece.Within line ∷ (piece.Rest (src.Scoped c ss) ∷ todo)) control e (inr q) =
+      let a : Goes (at (piece.Within line ∷ (piece.Rest (src.Scoped c ss) ∷ todo)) (below s.run.operands) s) ≡ Ticks u = sym (drops line c ss todo q) ∙ e in
       absurd (cc)
-  ticks_at u (piece.DropNow ∷ (piece.Within line ∷ (piece.Rest (src.Scoped c ss) ∷ todo))) control e j = λ k i d.
-      absurd (ended_ticks line c ss todo u (j (k, i, d)) e)
+  ticks_at u (piece.DropNow ∷ (piece.Within line ∷ (piece.Rest (src.Scoped c ss) ∷ todo))) control e (inl none) = λ k i d. absurd (none_plain t c none (k, i, d))
+  ticks_at u (piece.DropNow ∷ (piece.Within line ∷ (piece.Rest (src.Scoped c ss) ∷ todo))) control e (inr q) = absurd (ended (Ticks u) e q)
   ticks_at u l control e j = tt
 
-  asks_at : (r : Request) (u : State) (l : List Todo) → u.run.control ≡ l → quiet.quiet source s ≡ Asks r u → Joined t s.run.control l → StandsOf t few u l
-  asks_at r u (piece.Rest (src.Scoped c ss) ∷ todo) control e j = λ k i d.
-      let q = j (k, i, d) in
+  asks_at : (r : Request) → (r ≡ ask.End → ⊥) → ((n : ℕ) → r ≡ ask.Fault n → ⊥) → (u : State) (l : List Todo) → u.run.control ≡ l → quiet.quiet source s ≡ Asks r u → Joins s l → StandsOf t few u l
+  asks_at r no_end no_fault u (piece.Rest (src.Scoped c ss) ∷ todo) control e (inl none) = λ k i d. absurd (none_plain t c none (k, i, d))
+  asks_at r no_end no_fault u (piece.Rest (src.Scoped c ss) ∷ todo) control e (inr q) =
       let a : Goes (at (piece.Rest (src.Scoped c ss) ∷ todo) s.run.operands s) ≡ Asks r u = sym (leaves q.0 c ss todo q.1) ∙ e in
       absurd (cc)
-  asks_at r u (piece.Within line ∷ (piece.Rest (src.Scoped c ss) ∷ todo)) control e j = λ k i d.
-      let a : Goes (at (piece.Within line ∷ (piece.Rest (src.Scoped c ss) ∷ todo)) (below s.run.operands) s) ≡ Asks r u = sym (drops line c ss todo (j (k, i, d))) ∙ e in
+  asks_at r no_end no_fault u (piece.Within line ∷ (piece.Rest (src.Scoped c ss) ∷ todo)) control e (inl none) = λ k i d. absurd (none_plain t c none (k, i, d))
+  asks_at r no_end no_fault u (piece.Within line ∷ (piece.Rest (src.Scoped c ss) ∷ todo)) control e (inr q) =
+      let a : Goes (at (piece.Within line ∷ (piece.Rest (src.Scoped c ss) ∷ todo)) (below s.run.operands) s) ≡ Asks r u = sym (drops line c ss todo q) ∙ e in
       absurd (cc)
-  asks_at r u (piece.DropNow ∷ (piece.Within line ∷ (piece.Rest (src.Scoped c ss) ∷ todo))) control e j = λ k i d.
-      absurd (ended_asks line c ss todo r u control (j (k, i, d)) e)
-  asks_at r u l control e j = tt
+  asks_at r no_end no_fault u (piece.DropNow ∷ (piece.Within line ∷ (piece.Rest (src.Scoped c ss) ∷ todo))) control e (inl none) = λ k i d. absurd (none_plain t c none (k, i, d))
+  asks_at r no_end no_fault u (piece.DropNow ∷ (piece.Within line ∷ (piece.Rest (src.Scoped c ss) ∷ todo))) control e (inr q) = absurd (by (ended (Asks r u) e q))
+    where
+      by : (r ≡ ask.End) ⊎ ((n : ℕ) × (r ≡ ask.Fault n)) → ⊥
+      by (inl x) = no_end x
+      by (inr x) = no_fault x.0 x.1
+  asks_at r no_end no_fault u l control e j = tt
 
-  pub stands : (step : Step) → quiet.quiet source s ≡ step → StepJoins t s.run.control step → StepStands step
+  behind : (r : Request) (u : State) → quiet.quiet source s ≡ Asks r u → AskJoins s r u → StandsBehind t few r u
+  behind ask.End u e j = tt
+  behind (ask.Fault n) u e j = tt
+  behind r u e j = asks_at r (λ q. absurd (cc)) (λ n q. absurd (cc)) u u.run.control refl e j
+
+  pub stands : (step : Step) → quiet.quiet source s ≡ step → StepJoins s step → StepStands step
   stands (Goes u) e j = goes_at u u.run.control refl e j
   stands (Ticks u) e j = ticks_at u u.run.control refl e j
-  stands (Asks r u) e j = asks_at r u u.run.control refl e j
+  stands (Asks r u) e j = behind r u e j

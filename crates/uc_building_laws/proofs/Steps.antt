@@ -1,6 +1,7 @@
 -- What constructors have bound stays so in a step.
-use Rattle.std.proofs.Common.{◌≡◌, ℕ, zero, suc, ◌≤◌, ◌++◌, ◌⊎◌, inl, inr, Bool, true, false, List, [], ◌∷◌, length, drop, Option, Some, None, refl, arith, subst, sym}
+use Rattle.std.proofs.Common.{◌≡◌, ℕ, zero, suc, ◌≤◌, ◌++◌, ◌⊎◌, inl, inr, Bool, true, false, List, [], ◌∷◌, length, drop, Option, Some, None, refl, arith, ap, ◌∙◌, subst, sym}
 use Rattle.std.specs.Prelude.{nat_eq, nat_lt}
+use Rattle.std.proofs.lemmas.Bool.{eq-eqb, eqb-true}
 use Rattle.uc_tree.specs.declared.limits.TheConstants.{PENDING_EVENTS}
 use Rattle.uc_tree.specs.Source as src
 use Rattle.uc_tree.specs.Source.{Shape, Expr, ObjectExpr, Stmt, EventStmt, TaskStmt, Routine, Order, Way, CleanUp, Handlers, Clauses, Raised, Item}
@@ -26,12 +27,12 @@ use Rattle.uc_typing.specs.Typing.{Ty, Table}
 use Rattle.uc_scope_laws.specs.RoomStacks.{Stack, StackState}
 use Rattle.uc_life_laws.proofs.Cells.{either, others_length}
 use Rattle.uc_building_laws.specs.Building.{IsLeft, IsHead, BindsField, BindsBy, AllLeft, Behind, Now}
-use Rattle.uc_building_laws.specs.BuildingStates.{Builds, of_run, of_wait, AllBuild, IsApart, AllApart, BuildsEx, BuildsEnv, BuildsBy}
+use Rattle.uc_building_laws.specs.BuildingStates.{NotBack, Builds, of_run, of_wait, AllBuild, IsApart, HomedBy, AllApart, BuildsEx, BuildsEnv, BuildsBy}
 use Rattle.uc_building_laws.proofs.Memory.{frame_newer, frame_older}
 use Rattle.uc_building_laws.proofs.Building as building
-use Rattle.uc_building_laws.proofs.Building.{AllKeep, builds_kept, all_kept, builds_more}
+use Rattle.uc_building_laws.proofs.Building.{AllKeep, builds_kept, all_kept, builds_more, not_making}
 use Rattle.uc_building_laws.proofs.Keeping as kept
-use Rattle.uc_building_laws.proofs.Keeping.{Keeps}
+use Rattle.uc_building_laws.proofs.Keeping.{Keeps, some_is}
 use Rattle.uc_life_laws.specs.Things.{Few}
 
 abbrev pub StepBuilds : (t : Table) (few : Few) → Step → Type 0
@@ -85,7 +86,7 @@ module _ (t : Table) (ps : List Ty) (c i : ℕ) (w : Value) (K : Ty → Value �
 
 module _ (t : Table) (few : Few) (Z : ℕ → ℕ → Type 0) (s : State) (life : StackState Z s) (env : BuildsEnv t few s.env) (callers : AllBuild t few s.env.exec s.env.frames s.callers) (apart : AllApart (s.run ∷ s.callers)) where
   abbrev pub With : (List Ty → ℕ → ℕ → Value → (Ty → Value → Type 0) → Type 0) → Type 0
-  With L = Builds t few s.env.exec L s.env.frames s.run.frame s.run.this s.callers
+  With L = Builds t few s.env.exec (λ ps c i w K. L ps c i w K × NotBack s.run) s.env.frames s.run.frame s.run.this s.callers
 
   abbrev pub Holding : List Todo → Type 0
   Holding todo = With (λ ps c i w K. Behind t ps c i todo)
@@ -94,10 +95,14 @@ module _ (t : Table) (few : Few) (Z : ℕ → ℕ → Type 0) (s : State) (life 
   Nothing_left = With (λ ps c i w K. ⊥)
 
   pub more : (L M : List Ty → ℕ → ℕ → Value → (Ty → Value → Type 0) → Type 0) → ((ps : List Ty) (c i : ℕ) (w : Value) (K : Ty → Value → Type 0) → L ps c i w K → M ps c i w K) → With L → With M
-  more L M m h = builds_more t few s.env.exec L M m s.env.frames s.run.frame s.run.this s.callers h
+  more L M m h = builds_more t few s.env.exec (λ ps c i w K. L ps c i w K × NotBack s.run) (λ ps c i w K. M ps c i w K × NotBack s.run) (λ ps c i w K x. (m ps c i w K x.0, x.1)) s.env.frames s.run.frame s.run.this s.callers h
 
   pub lost : (M : List Ty → ℕ → ℕ → Value → (Ty → Value → Type 0) → Type 0) → Nothing_left → With M
   lost M h = more (λ ps c i w K. ⊥) M (λ ps c i w K x. absurd x) h
+
+  -- nothing is, whoever is to return
+  pub nothing : Nothing_left → Builds t few s.env.exec (λ ps c i w K. ⊥) s.env.frames s.run.frame s.run.this s.callers
+  nothing h = builds_more t few s.env.exec (λ ps c i w K. ⊥ × NotBack s.run) (λ ps c i w K. ⊥) (λ ps c i w K x. x.0) s.env.frames s.run.frame s.run.this s.callers h
 
   pub later : (todo : List Todo) (vs : List Value) → Holding todo → With (λ ps c i w K. Now t ps c i w K todo vs)
   later todo vs h = more (λ ps c i w K. Behind t ps c i todo) (λ ps c i w K. Now t ps c i w K todo vs) (λ ps c i w K x. building.now t ps c i w K todo vs x) h
@@ -133,7 +138,7 @@ module _ (t : Table) (few : Few) (Z : ℕ → ℕ → Type 0) (s : State) (life 
           let n : length (others s.env.frames) ≡ suc (length cs) = others_length s.env.frames (length cs) l in
           older_all t few Z s.env.exec s.env.frames (c ∷ cs) (omega (arith, n)) h
 
-      less : (M : List Ty → ℕ → ℕ → Value → (Ty → Value → Type 0) → Type 0) → ((ps : List Ty) (d i : ℕ) (w : Value) (K : Ty → Value → Type 0) → Behind t ps d i c.control → M ps d i w K) → Builds t few s.env.exec M (others s.env.frames) c.frame c.this cs
+      less : (M : List Ty → ℕ → ℕ → Value → (Ty → Value → Type 0) → Type 0) → ((ps : List Ty) (d i : ℕ) (w : Value) (K : Ty → Value → Type 0) → Behind t ps d i c.control × NotBack c → M ps d i w K) → Builds t few s.env.exec M (others s.env.frames) c.frame c.this cs
       less M m = builds_more t few s.env.exec (of_wait t c) M m (others s.env.frames) c.frame c.this cs (builds_kept t few s.env.exec (of_wait t c) s.env.frames (others s.env.frames) c.frame c.this cs all_less.0 all_less.1 b.0)
 
       rest_less : AllBuild t few s.env.exec (others s.env.frames) cs
@@ -143,46 +148,69 @@ module _ (t : Table) (few : Few) (Z : ℕ → ℕ → Type 0) (s : State) (life 
     returned given [] l h b p = stay
     returned given (a ∷ cs) l h b p = record {
       apart = p;
-      run = less a cs l h b _ (λ ps c i w K x. building.now t ps c i w K a.control (given ∷ a.operands) x);
+      run = less a cs l h b _ (λ ps c i w K x. (building.now t ps c i w K a.control (given ∷ a.operands) x.0, x.1));
       callers = rest_less a cs l h b;
       env = kept.like t few env refl refl refl;
     }
 
-    -- it is left to the one that waits to unwind
-    passed : (given : Value) (why : UnwindReason) (a : Active) (cs : List Active) → length s.env.frames ≡ suc (length (a ∷ cs)) → Stack Z s.env.frames (a ∷ cs) → AllBuild t few s.env.exec s.env.frames (a ∷ cs) → AllApart (a ∷ cs) → StepBuilds t few (Goes (left_for s.run.counts (unwound (piece.Unwind ∷ a.control) why given a) cs s.env))
-    passed given why a cs l h b p = record {
-      apart = p;
-      run = less a cs l h b _ (λ ps c i w K x. building.left t ps c i a.control x);
+    -- it is left to the one that waits to unwind, which builds nothing if a return is over there
+    why_returns : (why : UnwindReason) (o : Option UnwindReason) (home : ℕ) → raising.why_by why o ≡ reason.ReturnTo home → why ≡ reason.ReturnTo home
+    why_returns why None home e = e
+    why_returns why (Some (reason.Event n x y)) home e = e
+    why_returns why (Some (reason.ReturnTo n)) home e = e
+    why_returns why (Some reason.Destroyed) home e = absurd (cc)
+
+    passed : (given : Value) (why : UnwindReason) (a : Active) (cs : List Active) → ((home : ℕ) → why ≡ reason.ReturnTo home → IsApart home (a ∷ cs)) → length s.env.frames ≡ suc (length (a ∷ cs)) → Stack Z s.env.frames (a ∷ cs) → AllBuild t few s.env.exec s.env.frames (a ∷ cs) → AllApart (a ∷ cs) → StepBuilds t few (Goes (left_for s.run.counts (unwound (piece.Unwind ∷ a.control) why given a) cs s.env))
+    passed given why a cs far l h b p = record {
+      apart = ((p.0.0, p.0.1, λ home e. (far home (some_is e)).1), p.1);
+      run = by (nat_eq a.frame (length cs)) refl;
       callers = rest_less a cs l h b;
       env = kept.like t few env refl refl refl;
     }
+      where
+        by : (own : Bool) → nat_eq a.frame (length cs) ≡ own → Builds t few s.env.exec (of_run t (unwound (piece.Unwind ∷ a.control) why given a)) (others s.env.frames) a.frame a.this cs
+        by true e =
+            let q : a.frame ≡ length cs = eqb-true a.frame (length cs) e in
+            less a cs l h b (of_run t (unwound (piece.Unwind ∷ a.control) why given a)) (λ ps c i w K x. (building.left t ps c i a.control x.0, λ r. (far a.frame (some_is r)).0 refl q (building.left t ps c i a.control x.0)))
+        by false e = not_making t few s.env.exec (of_wait t a) (of_run t (unwound (piece.Unwind ∷ a.control) why given a)) (others s.env.frames) a.frame a.this cs (λ q. let y : nat_eq a.frame (length cs) ≡ true = eq-eqb a.frame (length cs) q in absurd (cc)) (less a cs l h b (of_wait t a) (λ ps c i w K x. x))
 
-    past : (v : Visited) (given : Value) (cs : List Active) → length s.env.frames ≡ suc (length cs) → Stack Z s.env.frames cs → AllBuild t few s.env.exec s.env.frames cs → AllApart cs → StepBuilds t few (raising.return_past v given cs s)
-    past v given [] l h b p = stay
-    past v given (a ∷ cs) l h b p = passed given _ a cs l h b p
+    return_is : {m n : ℕ} → reason.ReturnTo m ≡ reason.ReturnTo n → m ≡ n
+    return_is e = cc
 
-    end_by : (v : Option Visited) (given : Value) → StepBuilds t few (raising.end_by v given s)
-    end_by None given = returned given s.callers life.frames life.stack.1 callers apart.1
-    end_by (Some v) given = past v given s.callers life.frames life.stack.1 callers apart.1
+    past : (v : Visited) (given : Value) (cs : List Active) → ((home : ℕ) → v.home ≡ home → IsApart home cs) → length s.env.frames ≡ suc (length cs) → Stack Z s.env.frames cs → AllBuild t few s.env.exec s.env.frames cs → AllApart cs → StepBuilds t few (raising.return_past v given cs s)
+    past v given [] far l h b p = stay
+    past v given (a ∷ cs) far l h b p = passed given (reason.ReturnTo v.home) a cs (λ home e. far home (return_is e)) l h b p
+
+    -- a handler uses the frame of its routine
+    home_apart : (o : Option Visited) (v : Visited) → o ≡ Some v → HomedBy o s.run.frame (length s.callers) → (home : ℕ) → v.home ≡ home → IsApart home s.callers
+    home_apart None v e h home q = absurd (cc)
+    home_apart (Some x) v e h home q =
+        let same : x ≡ v = some_is e in
+        let at : s.run.frame ≡ home = sym h ∙ (ap (λ (x : Visited). x.home) same ∙ q) in
+        subst (λ f. IsApart f s.callers) at apart.0.0
+
+    end_by : (v : Option Visited) (given : Value) → s.run.handles ≡ v → StepBuilds t few (raising.end_by v given s)
+    end_by None given e = returned given s.callers life.frames life.stack.1 callers apart.1
+    end_by (Some v) given e = past v given s.callers (λ home q. home_apart s.run.handles v e apart.0.1 home q) life.frames life.stack.1 callers apart.1
 
     pub end_step : (w : Way) → StepBuilds t few (quiet.end_step w s)
-    end_step src.ToReturn = end_by s.run.handles _
-    end_step src.ToEnd = end_by s.run.handles _
+    end_step src.ToReturn = end_by s.run.handles _ refl
+    end_step src.ToEnd = end_by s.run.handles _ refl
     end_step src.ToBreak = returned _ s.callers life.frames life.stack.1 callers apart.1
     end_step src.ToContinue = returned _ s.callers life.frames life.stack.1 callers apart.1
 
-    pass_on : (w : Option UnwindReason) (c : Active) (cs : List Active) → length s.env.frames ≡ suc (length (c ∷ cs)) → Stack Z s.env.frames (c ∷ cs) → AllBuild t few s.env.exec s.env.frames (c ∷ cs) → AllApart (c ∷ cs) → StepBuilds t few (raising.pass_on w c cs s)
-    pass_on None c cs l h b p = stay
-    pass_on (Some why) c cs l h b p = passed s.run.result _ c cs l h b p
+    pass_on : (w : Option UnwindReason) (c : Active) (cs : List Active) → ((home : ℕ) → w ≡ Some (reason.ReturnTo home) → IsApart home (c ∷ cs)) → length s.env.frames ≡ suc (length (c ∷ cs)) → Stack Z s.env.frames (c ∷ cs) → AllBuild t few s.env.exec s.env.frames (c ∷ cs) → AllApart (c ∷ cs) → StepBuilds t few (raising.pass_on w c cs s)
+    pass_on None c cs far l h b p = stay
+    pass_on (Some why) c cs far l h b p = passed s.run.result (raising.why_by why c.raised) c cs (λ home e. far home (ap Some (why_returns why c.raised home e))) l h b p
 
-    leave_for : (b : Bool) (c : Active) (cs : List Active) → length s.env.frames ≡ suc (length (c ∷ cs)) → Stack Z s.env.frames (c ∷ cs) → AllBuild t few s.env.exec s.env.frames (c ∷ cs) → AllApart (c ∷ cs) → StepBuilds t few (raising.leave_for b c cs s)
-    leave_for true c cs l h b p = stay
-    leave_for false c cs l h b p = pass_on s.run.raised c cs l h b p
+    leave_for : (b : Bool) (c : Active) (cs : List Active) → ((home : ℕ) → s.run.raised ≡ Some (reason.ReturnTo home) → IsApart home (c ∷ cs)) → length s.env.frames ≡ suc (length (c ∷ cs)) → Stack Z s.env.frames (c ∷ cs) → AllBuild t few s.env.exec s.env.frames (c ∷ cs) → AllApart (c ∷ cs) → StepBuilds t few (raising.leave_for b c cs s)
+    leave_for true c cs far l h b p = stay
+    leave_for false c cs far l h b p = pass_on s.run.raised c cs far l h b p
 
-    pub leaves : (cs : List Active) → length s.env.frames ≡ suc (length cs) → Stack Z s.env.frames cs → AllBuild t few s.env.exec s.env.frames cs → AllApart cs → StepBuilds t few (raising.leave_step cs s)
-    leaves [] l h b p = stay
-    leaves (c ∷ cs) l h b p =
-        either (StepBuilds t few) (raising.arrives s.run.raised (length (c ∷ cs))) _ _ (returned s.run.result (c ∷ cs) l h b p) (leave_for _ c cs l h b p)
+    pub leaves : (cs : List Active) → ((home : ℕ) → s.run.raised ≡ Some (reason.ReturnTo home) → IsApart home cs) → length s.env.frames ≡ suc (length cs) → Stack Z s.env.frames cs → AllBuild t few s.env.exec s.env.frames cs → AllApart cs → StepBuilds t few (raising.leave_step cs s)
+    leaves [] far l h b p = stay
+    leaves (c ∷ cs) far l h b p =
+        either (StepBuilds t few) (raising.arrives s.run.raised (length (c ∷ cs))) _ _ (returned s.run.result (c ∷ cs) l h b p) (leave_for _ c cs far l h b p)
 
   pub moved : (m : Moved (List Todo) Value) (todo : List Todo) (vs : List Value) → Holding todo → kept.BuildsMoved t few m → StepBuilds t few (piece.moves m (at todo vs s))
   moved (To u) todo vs h m = m
@@ -305,7 +333,7 @@ module _ (t : Table) (few : Few) (Z : ℕ → ℕ → Type 0) (s : State) (life 
   -- coroutines
 
   fresh : (n : Exec) (r : Routine) (this : Value) → BuildsEx t few n (quiet.fresh r this)
-  fresh n r this = record { apart = (tt, tt); run = tt; callers = tt }
+  fresh n r this = record { apart = ((tt, refl, λ home e. absurd (cc)), tt); run = tt; callers = tt }
 
   pub set_up : (r : Option Routine) (todo : List Todo) → Holding todo → StepBuilds t few (quiet.set_up_step r todo s)
   set_up None todo h = go _ _ h
@@ -402,11 +430,11 @@ module _ (t : Table) (few : Few) (Z : ℕ → ℕ → Type 0) (s : State) (life 
   deliver Nothing todo h = go _ _ h
   deliver v todo h = go _ _ h
 
-  -- the running activation is told anew
-  told : (b : Active) → b.frame ≡ s.run.frame → b.this ≡ s.run.this → With (of_run t b) → BuildsBy t few (of_run t b) (record s { run = b })
-  told b e q h = record {
-    apart = subst (λ f. IsApart f s.callers × AllApart s.callers) (sym e) apart;
-    run = subst (λ v. Builds t few s.env.exec (of_run t b) s.env.frames b.frame v s.callers) (sym q) (subst (λ f. Builds t few s.env.exec (of_run t b) s.env.frames f s.run.this s.callers) (sym e) h);
+  -- the running activation is told anew, and no return unwinds it
+  told : (b : Active) → b.frame ≡ s.run.frame → b.this ≡ s.run.this → b.handles ≡ s.run.handles → With (λ ps c i w K. Now t ps c i w K b.control b.operands) → ((home : ℕ) → b.raised ≡ Some (reason.ReturnTo home) → ⊥) → BuildsBy t few (of_run t b) (record s { run = b })
+  told b e q v h none = record {
+    apart = ((subst (λ f. IsApart f s.callers) (sym e) apart.0.0, subst (λ o. HomedBy o b.frame (length s.callers)) (sym v) (subst (λ f. HomedBy s.run.handles f (length s.callers)) (sym e) apart.0.1), λ home r. absurd (none home r)), apart.1);
+    run = subst (λ v. Builds t few s.env.exec (of_run t b) s.env.frames b.frame v s.callers) (sym q) (subst (λ f. Builds t few s.env.exec (of_run t b) s.env.frames f s.run.this s.callers) (sym e) (builds_more t few s.env.exec (λ ps c i w K. Now t ps c i w K b.control b.operands × NotBack s.run) (of_run t b) (λ ps c i w K x. (x.0, λ r. none b.frame r)) s.env.frames s.run.frame s.run.this s.callers h));
     callers = callers;
     env = env;
   }
@@ -415,28 +443,28 @@ module _ (t : Table) (few : Few) (Z : ℕ → ℕ → Type 0) (s : State) (life 
   unwinding todo h = more (λ ps c i w K. Behind t ps c i todo) (λ ps c i w K. AllLeft todo) (λ ps c i w K x. building.left t ps c i todo x) h
 
   pub throws : (e : Event) (todo : List Todo) → Holding todo → StepBuilds t few (raising.throw_step e todo s)
-  throws e todo h = told _ refl refl (unwinding todo h)
+  throws e todo h = told _ refl refl refl (unwinding todo h) (λ home r. absurd (cc))
 
   -- unwinding
 
   catches : (x : Option Handler) (e : Event) (todo : List Todo) → Nothing_left → StepBuilds t few (raising.catch_step x e todo s)
   catches None e todo h = gone _ _ h
-  catches (Some x) e todo h = told _ refl refl (lost _ h)
+  catches (Some x) e todo h = told _ refl refl refl (lost _ h) (λ home r. absurd (cc))
 
   guarded : (hs : Handlers) (w : Option UnwindReason) (todo : List Todo) → Nothing_left → StepBuilds t few (raising.guard_left hs w todo s)
   guarded hs (Some (reason.Event n y z)) todo h = catches (raising.handler_for false (record { number = n; x = y; y = z }) hs) (record { number = n; x = y; y = z }) todo h
   guarded hs w todo h = gone _ _ h
 
   whole : (b : Bool) (todo : List Todo) → Nothing_left → StepBuilds t few (raising.whole_left b todo s)
-  whole true todo h = told _ refl refl (lost _ h)
+  whole true todo h = told _ refl refl refl (lost _ h) (λ home r. absurd (cc))
   whole false todo h = gone _ _ h
 
   main_left : (w : Option UnwindReason) (todo : List Todo) → Nothing_left → StepBuilds t few (raising.main_left w todo s)
-  main_left (Some (reason.ReturnTo n)) todo h = told _ refl refl (lost _ h)
+  main_left (Some (reason.ReturnTo n)) todo h = told _ refl refl refl (lost _ h) (λ home r. absurd (cc))
   main_left w todo h = stays todo [] (free todo h)
 
   coroutine_left : (w : Option UnwindReason) (todo : List Todo) → Nothing_left → StepBuilds t few (raising.coroutine_left w todo s)
-  coroutine_left (Some (reason.ReturnTo n)) todo h = told _ refl refl (lost _ h)
+  coroutine_left (Some (reason.ReturnTo n)) todo h = told _ refl refl refl (lost _ h) (λ home r. absurd (cc))
   coroutine_left (Some reason.Destroyed) todo h = moved _ todo _ (free todo h) (kept.taken_down_rests t few (at todo [] s) (gone todo [] h))
   coroutine_left w todo h = moved _ todo _ (free todo h) (kept.escape_rests t few (at todo [] s) (gone todo [] h))
 
@@ -457,7 +485,7 @@ module _ (t : Table) (few : Few) (Z : ℕ → ℕ → Type 0) (s : State) (life 
   left_cleans c todo h = cleans c todo h
 
   scope : (c : CleanUp) (b : Bool) (todo : List Todo) → With (λ ps d i w K. IsLeft (piece.IsClean c) (AllLeft todo)) → StepBuilds t few (raising.scope_left c b todo s)
-  scope src.Leaves true todo h = told _ refl refl (lost _ h)
+  scope src.Leaves true todo h = told _ refl refl refl (lost _ h) (λ home r. absurd (cc))
   scope src.Leaves false todo h = gone _ _ h
   scope c b todo h = go (raising.left_todo c (piece.Unwind ∷ todo)) [] (left_cleans c (piece.Unwind ∷ todo) h)
 
@@ -474,7 +502,7 @@ module _ (t : Table) (few : Few) (Z : ℕ → ℕ → Type 0) (s : State) (life 
   unwind_past piece.IsFinishCoroutine todo h = coroutine_left s.run.raised todo h
 
   pub unwinds : BuildsBy t few (of_wait t s.run) s → (todo : List Todo) → With (λ ps c i w K. AllLeft todo) → StepBuilds t few (raising.unwind_step todo s)
-  unwinds stay [] h = leaves stay s.callers life.frames life.stack.1 callers apart.1
+  unwinds stay [] h = leaves stay s.callers apart.0.2 life.frames life.stack.1 callers apart.1
   unwinds stay (p ∷ ps) h = unwind_past (piece.sort p) ps h
 
   pub exits : BuildsBy t few (of_wait t s.run) s → (w : Way) (todo : List Todo) → Nothing_left → StepBuilds t few (quiet.exit_step w todo s)

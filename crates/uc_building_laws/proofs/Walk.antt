@@ -22,8 +22,8 @@ use Rattle.uc_scope_laws.specs.RoomStacks.{StackState}
 use Rattle.uc_life_laws.specs.Knowing.{KnowsState}
 use Rattle.uc_life_laws.proofs.Parked as parked
 use Rattle.uc_building_laws.specs.Building.{InHead, AllLeft, Behind, Now}
-use Rattle.uc_building_laws.specs.BuildingStates.{of_run, of_wait, BuildsEx, BuildsBy, BuildsState, BuildsRest, BuildsStep, Builds}
-use Rattle.uc_building_laws.specs.BuildingLaws.{Joined, BuildsAt, ClearsAt, Clears, Fair, LawSteps}
+use Rattle.uc_building_laws.specs.BuildingStates.{NotBack, of_run, of_wait, BuildsEx, BuildsBy, BuildsState, BuildsRest, BuildsStep, Builds}
+use Rattle.uc_building_laws.specs.BuildingLaws.{BuildsAt, ClearsAt, Clears, Fair, LawSteps}
 use Rattle.uc_building_laws.proofs.Building as building
 use Rattle.uc_building_laws.proofs.Keeping as kept
 use Rattle.uc_building_laws.proofs.Steps as steps
@@ -31,6 +31,8 @@ use Rattle.uc_building_laws.proofs.Steps.{StepBuilds}
 use Rattle.uc_building_laws.proofs.Making as making
 use Rattle.uc_building_laws.proofs.Clears as clearing
 use Rattle.uc_building_laws.proofs.Standing as standing
+use Rattle.uc_building_laws.proofs.Plain.{none_plain}
+use Rattle.uc_opening_laws.specs.Opened.{OpensNone}
 use Rattle.uc_life_laws.specs.Things.{Few}
 
 module _ (t : Table) (few : Few) (source : Source) (sound : Sound t source) (Z : ℕ → ℕ → Type 0) (s : State) (life : StackState Z s) (x : KnowsState t few [] s) (st : BuildsBy t few (of_run t s.run) s) where
@@ -57,7 +59,7 @@ module _ (t : Table) (few : Few) (source : Source) (sound : Sound t source) (Z :
   stay : (l : List Todo) → s.run.control ≡ l → Holding l → BuildsBy t few (of_wait t s.run) s
   stay l e h = record {
     apart = st.apart;
-    run = subst (λ l. Builds t few s.env.exec (λ ps c i w K. Behind t ps c i l) s.env.frames s.run.frame s.run.this s.callers) (sym e) h;
+    run = subst (λ l. Builds t few s.env.exec (λ ps c i w K. Behind t ps c i l × NotBack s.run) s.env.frames s.run.frame s.run.this s.callers) (sym e) h;
     callers = st.callers;
     env = st.env;
   }
@@ -108,7 +110,7 @@ module _ (t : Table) (few : Few) (source : Source) (sound : Sound t source) (Z :
   acts piece.GatherNow todo e f l h = steps.go_in t few Z s life st.env st.callers st.apart _ _ _ (steps.same t few Z s life st.env st.callers st.apart refl refl refl refl refl) h
   acts piece.FlushNow todo e f l h = steps.flushes t few Z s life st.env st.callers st.apart s.env.gathered todo _ h
   acts (piece.ReadNow form) todo e f l h = stays _ _ h
-  acts (piece.ClearNow k m) todo e f l h = clearing.clears t few s k m todo st.env st.apart l h st.callers
+  acts (piece.ClearNow k m) todo e f l h = clearing.clears t few s k m todo st.env st.apart l (steps.nothing t few Z s life st.env st.callers st.apart h) st.callers
   acts (piece.Items []) todo e f l h = go _ _ h
   acts (piece.Items (i ∷ is)) todo e f l h = go _ _ (steps.item t few Z s life st.env st.callers st.apart i (piece.Items is ∷ todo) h)
   acts (piece.Values []) todo e f l h = go _ _ h
@@ -196,14 +198,14 @@ module _ (t : Table) (few : Few) where
       both source Z s life st (quiet.quiet source s) (walk t few source sound Z s life x st.builds clears fair) (standing.stands t few source Z s life st (quiet.quiet source s) refl fair.joins)
 
   -- a task begins
-  begun : (r : Routine) (o : ℕ) (body : Stmts) → Joined t [] (piece.Rest body ∷ []) → r.body ≡ body → BuildsRest t few (first_state r o)
+  begun : (r : Routine) (o : ℕ) (body : Stmts) → OpensNone body → r.body ≡ body → BuildsRest t few (first_state r o)
   begun r o body j e = record {
-    builds = record { apart = (tt, tt); run = tt; callers = tt; env = record { house = (tt, tt); hand = tt } };
+    builds = record { apart = ((tt, refl, λ home e. absurd (cc)), tt); run = tt; callers = tt; env = record { house = (tt, tt); hand = tt } };
     stands = subst (λ (ss : Stmts). standing.StandsOf t few (first_state r o) (piece.Rest ss ∷ quiet.behind_body r.purpose r.line)) (sym e) (by body j);
   }
     where
-      by : (ss : Stmts) → Joined t [] (piece.Rest ss ∷ []) → standing.StandsOf t few (first_state r o) (piece.Rest ss ∷ quiet.behind_body r.purpose r.line)
-      by (src.Scoped c ss) h = λ k i d. let q = h (k, i, d) in let e = q.1 in absurd (cc)
+      by : (ss : Stmts) → OpensNone ss → standing.StandsOf t few (first_state r o) (piece.Rest ss ∷ quiet.behind_body r.purpose r.line)
+      by (src.Scoped c ss) h = λ k i d. absurd (none_plain t c h (k, i, d))
       by ss h = tt
 
   -- an answer
@@ -235,7 +237,7 @@ module _ (t : Table) (few : Few) where
 
   going : (s : State) → BuildsRest t few s → BuildsState t few s
   going s h = record {
-    builds = record { apart = h.builds.apart; run = building.builds_more t few s.env.exec (of_wait t s.run) (of_run t s.run) (λ ps c i w K x. building.now t ps c i w K s.run.control s.run.operands x) s.env.frames s.run.frame s.run.this s.callers h.builds.run; callers = h.builds.callers; env = h.builds.env };
+    builds = record { apart = h.builds.apart; run = building.builds_more t few s.env.exec (of_wait t s.run) (of_run t s.run) (λ ps c i w K x. (building.now t ps c i w K s.run.control s.run.operands x.0, x.1)) s.env.frames s.run.frame s.run.this s.callers h.builds.run; callers = h.builds.callers; env = h.builds.env };
     stands = h.stands;
   }
 

@@ -1,39 +1,44 @@
 -- In every run in which objects are built by what stands before their scopes, these open where they hold what is known.
-use Rattle.std.proofs.Common.{◌≡◌, ℕ, ◌==◌, inl, inr, false, List, [], ◌∷◌, Option, Some, None, refl, subst}
-use Rattle.std.specs.Prelude.{slice_get}
+use Rattle.std.proofs.Common.{◌≡◌, ℕ, ◌==◌, ◌||◌, Bool, true, false, List, [], ◌∷◌, ◌++◌, Option, Some, None, refl, sym, ap, ◌∙◌, subst, append-nil, append_assoc}
+use Rattle.std.specs.Prelude.{slice_get, if◌then◌else◌}
+use Rattle.std.proofs.lemmas.Bool.{eqb-true}
 use Rattle.uc_tree.specs.Programs.{Program}
-use Rattle.uc_tree.specs.Source as src
-use Rattle.uc_tree.specs.Source.{Source, Expr, CleanUp, Stmts, Routine, Variable, routine_of, routine_or_none}
+use Rattle.uc_tree.specs.Source.{Source, Routine, routine_of, routine_or_none}
 use Rattle.uc_entry.specs.declared.entry.Entry.{Entry}
 use Rattle.uc_entry.specs.declared.entry.Options.{Options}
 use Rattle.uc_entry.specs.declared.request.Answer.{Answer}
 use Rattle.uc_entry.specs.declared.request.Asked.{Asked}
+use Rattle.uc_entry.specs.declared.request.Request.{Request}
+use Rattle.uc_entry.specs.declared.request.Request.TheVariants as ask
 use Rattle.uc_entry.specs.Keyed.{find}
 use Rattle.uc_acts.specs.Journal.{Journal, held, own_object, is_over}
-use Rattle.uc_acts.specs.Known.{spawns, takes_out}
+use Rattle.uc_acts.specs.Known.{has_ended, ends, spawns, takes_out}
+use Rattle.uc_acts.specs.Acts.{dispatch, lone_limit}
+use Rattle.uc_acts.proofs.Bounds.{over_limit}
+use Rattle.uc_acts.proofs.SoundLemmas.{ended_push}
 use Rattle.uc_acts.specs.Queues.{running}
 use Rattle.uc_acts.specs.Answers.{answer_to}
 use Rattle.uc_acts.specs.KernelRuns.{InRange}
 use Rattle.uc_machine.specs.declared.exec.Home.TheVariants as home
-use Rattle.uc_machine.specs.Pieces as piece
-use Rattle.uc_machine.specs.Pieces.{Todo, Goes, Ticks, Asks}
+use Rattle.uc_machine.specs.Pieces.{Goes, Ticks}
 use Rattle.uc_machine.specs.Quiet.{State, Members, no_members, quiet, first_state}
-use Rattle.uc_machine.specs.Answering.{answered, child_main}
+use Rattle.uc_machine.specs.Answering.{answered, child_main, child_of}
 use Rattle.uc_machine.specs.Rides as rides
 use Rattle.uc_machine.specs.Rides.{Rides}
 use Rattle.uc_meaning.specs.Runs.{World, Runs, gives, no_room, acts, begun, more, bare, with_home, hand_of, drawn, or_else, first_world, world_after}
 use Rattle.uc_program_laws.specs.Fitting.{RunFits}
+use Rattle.uc_program_laws.proofs.Alive.{law_alive}
+use Rattle.uc_program_laws.proofs.Makes.{law_ends}
+use Rattle.uc_program_laws.proofs.Others.{run_rests}
 use Rattle.uc_resolve.specs.Resolve.{source_of}
 use Rattle.uc_rules.specs.Breaks.{breaks_of}
-use Rattle.uc_scope_laws.specs.Opening.{ScopeOpens, OpenStmts, OpenRoutine}
 use Rattle.uc_scope_laws.specs.RoomStacks.{StackState}
 use Rattle.uc_scope_laws.specs.Layout.{Sized}
 use Rattle.uc_scope_laws.specs.RoomRuns as runs
 use Rattle.uc_scope_laws.specs.RoomRuns.{Leads, Comes}
-use Rattle.uc_scope_laws.proofs.Openings.{law_opening}
 use Rattle.uc_scope_laws.proofs.StackWorlds.{law_frame_runs}
 use Rattle.uc_value_laws.specs.Opens.{RideMeets, RunMeets, LeadsMeet}
-use Rattle.uc_typing.specs.Typing.{Obj, Table, DestroysAt}
+use Rattle.uc_typing.specs.Typing.{Table}
 use Rattle.uc_sound.specs.Formed.{IsFormed}
 use Rattle.uc_sound.specs.Tables.{table_of}
 use Rattle.uc_sound.proofs.SoundLemmas.{law_sound}
@@ -45,34 +50,34 @@ use Rattle.uc_life_laws.proofs.Cells.{either}
 use Rattle.uc_life_laws.proofs.Parked.{found_hand}
 use Rattle.uc_life_laws.proofs.Laying.{laid_out}
 use Rattle.uc_life_laws.proofs.OpenedRuns.{law_opened_runs}
-use Rattle.uc_building_laws.specs.BuildingStates.{BuildsEx, BuildsState, BuildsRest, BuildsStep}
-use Rattle.uc_building_laws.specs.BuildingLaws.{IsPlain, Joined}
+use Rattle.uc_opening_laws.specs.Opened.{OpensNone, OpenedRoutine}
+use Rattle.uc_opening_laws.specs.OpeningLaws.{IsCalled}
+use Rattle.uc_opening_laws.proofs.Openings.{law_opened}
+use Rattle.uc_opening_laws.proofs.OpeningRuns.{law_runs as called}
+use Rattle.uc_building_laws.specs.BuildingStates.{of_wait, BuildsEx, BuildsBy, Stands, BuildsState, BuildsRest, StandsBehind, BuildsAsk, BuildsStep}
 use Rattle.uc_building_laws.specs.BuildingRuns.{MeetsBuilding, LawBuilt}
 use Rattle.uc_building_laws.proofs.Walk.{law_steps}
 use Rattle.uc_building_laws.proofs.Standing as standing
 use Rattle.uc_building_laws.proofs.Laid.{clears}
+use Rattle.uc_building_laws.proofs.Constructors.{fair}
 
 -- no routine begins with the scope of an object that is a variable
+begins_open : (p : Program) (r : Option Routine) → OpenedRoutine p r → OpensNone (routine_or_none r).body
+begins_open p None h = tt
+begins_open p (Some r) h = h.0
 
-unplain_at : (t : Table) (k i : ℕ) (e : Expr) → DestroysAt t (Obj i) (Variable k) e → ScopeOpens None (src.Destroys e) → ⊥
-unplain_at t k i (src.OfObject (src.CallOn r x args)) d (inl h) = absurd h
-unplain_at t k i (src.OfObject (src.CallOn r x args)) d (inr h) = let a = d.0 in let b = h.field in absurd (cc)
-unplain_at t k i (src.OfObject (src.CallUnwritten r x)) d (inl h) = absurd h
-unplain_at t k i (src.OfObject (src.CallUnwritten r x)) d (inr h) = let a = d.0 in let b = h.field in absurd (cc)
-unplain_at t k i e d h = absurd d
+-- who has not ended had not ended before
+ended_before : (j : Journal) (a : List Entry) (t : ℕ) → has_ended t (j ++ a) ≡ false → has_ended t j ≡ false
+ended_before j [] t h = ap (has_ended t) (sym (append-nil j)) ∙ h
+ended_before j (e ∷ a) t h =
+    first (has_ended t j) (ends t e.kind e) (sym (ended_push t j e) ∙ ended_before (j ++ e ∷ []) a t (ap (has_ended t) (append_assoc j (e ∷ []) a) ∙ h))
+  where
+    first : (b c : Bool) → (b || c) ≡ false → b ≡ false
+    first true c g = cc
+    first false c g = refl
 
-unplain : (t : Table) (c : CleanUp) → ScopeOpens None c → IsPlain t c → ⊥
-unplain t (src.Destroys e) h x = unplain_at t x.0 x.1 e x.2 h
-unplain t (src.DestroysAll m e) h x = absurd x.2
-unplain t c h x = absurd x.2
-
-begins_joined : (t : Table) (ss : Stmts) → OpenStmts None ss → Joined t [] (piece.Rest ss ∷ [])
-begins_joined t (src.Scoped c ss) h = λ x. absurd (unplain t c h.0 x)
-begins_joined t ss h = tt
-
-routine_joined : (t : Table) (r : Option Routine) → OpenRoutine r → Joined t [] (piece.Rest (routine_or_none r).body ∷ [])
-routine_joined t None h = tt
-routine_joined t (Some r) h = begins_joined t r.body h
+no_both : {A : Type 0} (b : Bool) → b ≡ true → b ≡ false → A
+no_both b t f = absurd (cc)
 
 -- one step more on a way
 
@@ -105,8 +110,12 @@ module _ (p : Program) (formed : IsFormed p) (accepted : breaks_of p ≡ []) whe
   t = table_of p
 
   -- tasks at rest, and what is at home in objects
-  record BuildsWorld (w : World) : Type 0 where
-    pub tasks : (n : ℕ) → BuildsRest t any (w.tasks n)
+  record TaskBuilds (j : Journal) (n : ℕ) (s : State) : Type 0 where
+    pub builds : BuildsBy t any (of_wait t s.run) s
+    pub stands : has_ended n j ≡ false → Stands t any s
+
+  record BuildsWorld (j : Journal) (w : World) : Type 0 where
+    pub tasks : (n : ℕ) → TaskBuilds j n (w.tasks n)
     pub homes : (o : ℕ) → MembersBy (BuildsEx t any) (home.Object o) (w.homes o)
 
   home_rests : (o : ℕ) (x : Option Members) (hand : List (ℕ × Members)) → MembersBy (BuildsEx t any) (home.Object o) x → HandBy (BuildsEx t any) hand → HandBy (BuildsEx t any) (with_home o x hand)
@@ -121,30 +130,49 @@ module _ (p : Program) (formed : IsFormed p) (accepted : breaks_of p ≡ []) whe
   or_rests o None y h k = k
   or_rests o (Some m) y h k = h
 
-  told : (given : Answer) (j : Journal) (w : World) (n : ℕ) → BuildsWorld w → BuildsRest t any (answered source given (drawn j w n))
-  told given j w n x =
+  told : (given : Answer) (j : Journal) (w : World) (n : ℕ) → has_ended n j ≡ false → BuildsWorld j w → BuildsRest t any (answered source given (drawn j w n))
+  told given j w n on x =
       let s = x.tasks n in
       law_steps.told t any source given (drawn j w n) (record {
         builds = record { apart = s.builds.apart; run = s.builds.run; callers = s.builds.callers; env = record { house = s.builds.env.house; hand = hand_rests (held n j) w.homes x.homes } };
-        stands = s.stands;
+        stands = s.stands on;
       })
 
-  bare_rests : (s : State) → BuildsRest t any s → BuildsRest t any (bare s)
-  bare_rests s h = record { builds = record { apart = h.builds.apart; run = h.builds.run; callers = h.builds.callers; env = record { house = h.builds.env.house; hand = tt } }; stands = h.stands }
+  bare_builds : (s : State) → BuildsBy t any (of_wait t s.run) s → BuildsBy t any (of_wait t s.run) (bare s)
+  bare_builds s h = record { apart = h.apart; run = h.run; callers = h.callers; env = record { house = h.env.house; hand = tt } }
 
   first_rests : (n o : ℕ) → BuildsRest t any (first_state (routine_of source n) o)
-  first_rests n o = law_steps.begins t any source n o (routine_joined t (slice_get source.routines n) (law_opening p n))
+  first_rests n o = law_steps.begins t any source n o (begins_open p (slice_get source.routines n) (law_opened p n))
+
+  rested : (j : Journal) (n : ℕ) (s : State) → BuildsRest t any s → TaskBuilds j n s
+  rested j n s h = record { builds = h.builds; stands = λ on. h.stands }
+
+  -- where nobody asks for an end
+  stands_behind : (r : Request) (s : State) → (r ≡ ask.End → ⊥) → ((k : ℕ) → r ≡ ask.Fault k → ⊥) → StandsBehind t any r s → Stands t any s
+  stands_behind ask.End s e f h = absurd (e refl)
+  stands_behind (ask.Fault k) s e f h = absurd (f k refl)
+  stands_behind r s e f h = h
 
   -- after an act whose ride ended in this state
-  acted : (w : World) (a : List Entry) (n : ℕ) (s : State) → BuildsWorld w → BuildsRest t any s → BuildsWorld (world_after source a w n s)
-  acted w a n s h asks = record {
-    tasks = λ u. either (BuildsRest t any) (u == n) _ _ (bare_rests s asks) (either (BuildsRest t any) (spawns a u) _ _ (first_rests (child_main source s.run.control) (own_object u a)) (h.tasks u));
-    homes = λ o. either (MembersBy (BuildsEx t any) (home.Object o)) (takes_out a o) None (or_else (find o s.env.hand) (w.homes o)) tt (or_rests o (find o s.env.hand) (w.homes o) (found_hand (BuildsEx t any) o s.env.hand asks.builds.env.hand) (h.homes o));
+  acted : (j : Journal) (w : World) (a : List Entry) (n : ℕ) (s : State) → BuildsWorld j w → BuildsBy t any (of_wait t s.run) s → (has_ended n (j ++ a) ≡ false → Stands t any s) → BuildsWorld (j ++ a) (world_after source a w n s)
+  acted j w a n s h builds stands = record {
+    tasks = λ u. task u (u == n) refl;
+    homes = λ o. either (MembersBy (BuildsEx t any) (home.Object o)) (takes_out a o) None (or_else (find o s.env.hand) (w.homes o)) tt (or_rests o (find o s.env.hand) (w.homes o) (found_hand (BuildsEx t any) o s.env.hand builds.env.hand) (h.homes o));
   }
+    where
+      others : (u : ℕ) → TaskBuilds (j ++ a) u (w.tasks u)
+      others u = record { builds = (h.tasks u).builds; stands = λ on. (h.tasks u).stands (ended_before j a u on) }
 
-  begins : BuildsWorld (first_world source)
-  begins = record {
-    tasks = λ n. first_rests source.main 0;
+      own : TaskBuilds (j ++ a) n (bare s)
+      own = record { builds = bare_builds s builds; stands = stands }
+
+      task : (u : ℕ) (b : Bool) → (u == n) ≡ b → TaskBuilds (j ++ a) u (if b then bare s else if spawns a u then child_of source (own_object u a) s else w.tasks u)
+      task u true e = subst (λ v. TaskBuilds (j ++ a) v (bare s)) (sym (eqb-true u n e)) own
+      task u false e = either (TaskBuilds (j ++ a) u) (spawns a u) _ _ (rested (j ++ a) u _ (first_rests (child_main source s.run.control) (own_object u a))) (others u)
+
+  begins : (j : Journal) → BuildsWorld j (first_world source)
+  begins j = record {
+    tasks = λ n. rested j n _ (first_rests source.main 0);
     homes = λ o. either (MembersBy (BuildsEx t any) (home.Object o)) (o == 0) (Some no_members) None tt tt;
   }
 
@@ -159,12 +187,12 @@ module _ (p : Program) (formed : IsFormed p) (accepted : breaks_of p ≡ []) whe
     finds = m.finds;
   }
 
-  step : (s : State) → StackState (Sized p) s → KnowsState t any [] s → BuildsState t any s → MeetsBuilding t source s → BuildsStep t any (quiet source s)
-  step s st x b m = law_steps.steps t any source (law_sound p formed accepted) p s st x b (clears (Sized p) t (laid_out p formed accepted) s st) m.builds
+  step : (s : State) → StackState (Sized p) s → KnowsState t any [] s → BuildsState t any s → MeetsBuilding t source s → IsCalled p source s → BuildsStep t any (quiet source s)
+  step s st x b m c = law_steps.steps t any source (law_sound p formed accepted) p s st x b (clears (Sized p) t (laid_out p formed accepted) s st) (fair p formed accepted any s m.builds c)
 
   module _ (input : List ℕ) (opts : Options) (range : InRange opts) where
     -- on the way from an answer
-    module _ (j : Journal) (w : World) (r : Runs source input opts j w) (followed : IsFollowed t source j w) (n : ℕ) (given : Answer) (processor : ℕ) (runs_on : running processor j ≡ n ∷ []) (told_so : answer_to source.sites n j ≡ Some given) where
+    module _ (j : Journal) (w : World) (r : Runs source input opts j w) (f : RunFits source input opts j w r) (on : is_over j ≡ false) (followed : IsFollowed t source j w) (n : ℕ) (given : Answer) (processor : ℕ) (runs_on : running processor j ≡ n ∷ []) (told_so : answer_to source.sites n j ≡ Some given) where
       abbrev start : State
       start = answered source given (drawn j w n)
 
@@ -175,10 +203,11 @@ module _ (p : Program) (formed : IsFormed p) (accepted : breaks_of p ≡ []) whe
       stack s l = (law_frame_runs p accepted input opts j w r).comes n s (comes_at s l)
 
       next : (s : State) (l : Leads source start s) → LeadsMeet (MeetsObjects t source) source start s l → BuildsState t any s → MeetsBuilding t source s → BuildsStep t any (quiet source s)
-      next s l h b m = step s (stack s l) (followed.comes n s (comes_at s l) h) b m
+      next s l h b m =
+          step s (stack s l) (followed.comes n s (comes_at s l) h) b m (called.comes p formed accepted input opts range j w r f on n s (comes_at s l))
 
-      ridden : {s u : State} {q k : ℕ} {a : Asked} (l : Leads source start s) → LeadsMeet (MeetsObjects t source) source start s l → (d : Rides source s q u k a) → RideMeets (MeetsBuilding t source) source s q u k a d → (q ≡ 0 → BuildsRest t any s) → BuildsState t any s → RideMeets (MeetsObjects t source) source s q u k a d × BuildsRest t any u
-      ridden l h (rides.slices {s}) m rest b = (tt, rest refl)
+      ridden : {s u : State} {q k : ℕ} {a : Asked} (l : Leads source start s) → LeadsMeet (MeetsObjects t source) source start s l → (d : Rides source s q u k a) → RideMeets (MeetsBuilding t source) source s q u k a d → (q ≡ 0 → BuildsRest t any s) → BuildsState t any s → RideMeets (MeetsObjects t source) source s q u k a d × BuildsAsk t any a.request u
+      ridden l h (rides.slices {s}) m rest b = (tt, record { builds = (rest refl).builds; stands = (rest refl).stands })
       ridden l h (rides.goes_on {s} {t = v} e d) m rest b =
           let c : BuildsState t any v = subst (BuildsStep t any) e (next s l h b m.0) in
           let y = met s b m.0 in
@@ -204,23 +233,31 @@ module _ (p : Program) (formed : IsFormed p) (accepted : breaks_of p ≡ []) whe
           let z = led (leads_tick source l e) (meets_tick (MeetsObjects t source) source l e h y) d m.1 (law_steps.goes_on t any v c) in
           ((y, z.0), z.1)
 
-    built : {j : Journal} {w : World} (r : Runs source input opts j w) → RunFits source input opts j w r → RunMeets (MeetsBuilding t source) source input opts j w r → RunMeets (MeetsObjects t source) source input opts j w r × BuildsWorld w
-    built begun f m = (tt, begins)
-    built (more r on (gives q n s le)) f m = let y = built r f.0 m.0 in ((y.0, tt), y.1)
-    built (more r on (no_room q n s le)) f m = let y = built r f.0 m.0 in ((y.0, tt), y.1)
+    -- who runs has not ended
+    alive : {j : Journal} {w : World} (r : Runs source input opts j w) → RunFits source input opts j w r → is_over j ≡ false → (q n : ℕ) → running q j ≡ n ∷ [] → has_ended n j ≡ false
+    alive {j} r f on q n runs = law_alive opts source.sites input j (run_rests source input opts range r f on).kernel on q n runs
+
+    built : {j : Journal} {w : World} (r : Runs source input opts j w) → RunFits source input opts j w r → RunMeets (MeetsBuilding t source) source input opts j w r → RunMeets (MeetsObjects t source) source input opts j w r × (is_over j ≡ false → BuildsWorld j w)
+    built {j} begun f m = (tt, λ on. begins j)
+    built (more {j} {w} r on (gives q n s le)) f m =
+        let y = built r f.0 m.0 in
+        ((y.0, tt), λ over. record { tasks = λ u. record { builds = ((y.1 on).tasks u).builds; stands = λ h. ((y.1 on).tasks u).stands (ended_before j (dispatch q n ∷ []) u h) }; homes = (y.1 on).homes })
+    built (more {j} r on (no_room q n s le)) f m =
+        let y = built r f.0 m.0 in
+        ((y.0, tt), λ over. no_both (is_over (j ++ lone_limit ∷ [])) (over_limit j 0 0) over)
     built (more {j} {w} {a} r on (acts q n k s asked d)) f m =
         let y = built r f.0 m.0 in
         let followed : IsFollowed t source j w = law_opened_runs p formed accepted input opts range j w r f.0 on y.0 in
-        let b : BuildsRest t any (answered source d.given (drawn j w n)) = told d.given j w n y.1 in
-        let z = ridden j w r followed n d.given q d.runs d.told runs.stays tt d.rides m.1 (λ e. b) (law_steps.goes_on t any (answered source d.given (drawn j w n)) b) in
-        ((y.0, z.0), acted w a n s y.1 z.1)
+        let b : BuildsRest t any (answered source d.given (drawn j w n)) = told d.given j w n (alive r f.0 on q n d.runs) (y.1 on) in
+        let z = ridden j w r f.0 on followed n d.given q d.runs d.told runs.stays tt d.rides m.1 (λ e. b) (law_steps.goes_on t any (answered source d.given (drawn j w n)) b) in
+        ((y.0, z.0), λ over. acted j w _ n s (y.1 on) z.1.builds (λ h. let e = law_ends opts source.sites input j q n k asked over h in stands_behind asked.request s e.no_end e.no_fault z.1.stands))
 
     module _ (j : Journal) (w : World) (r : Runs source input opts j w) (f : RunFits source input opts j w r) (on : is_over j ≡ false) (m : RunMeets (MeetsBuilding t source) source input opts j w r) (n : ℕ) (s : State) (c : Comes source j w n s) (l : LeadsMeet (MeetsBuilding t source) source (answered source c.given (drawn j w n)) s c.leads) where
       all : LeadsMeet (MeetsObjects t source) source (answered source c.given (drawn j w n)) s c.leads × BuildsState t any s
       all =
           let y = built r f m in
           let followed : IsFollowed t source j w = law_opened_runs p formed accepted input opts range j w r f on y.0 in
-          led j w r followed n c.given c.processor c.runs c.told runs.stays tt c.leads l (law_steps.goes_on t any (answered source c.given (drawn j w n)) (told c.given j w n y.1))
+          led j w r f on followed n c.given c.processor c.runs c.told runs.stays tt c.leads l (law_steps.goes_on t any (answered source c.given (drawn j w n)) (told c.given j w n (alive r f on c.processor n c.runs) (y.1 on)))
 
 pub law_built : LawBuilt
 law_built = record {

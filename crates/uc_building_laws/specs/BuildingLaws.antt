@@ -1,12 +1,12 @@
 -- What a constructor leaves.
 use Rattle.std.specs.Prelude.{◌≡◌, ℕ, ◌⊎◌, false, List, [], ◌∷◌, drop, slice_get, Some}
 use Rattle.uc_tree.specs.Programs.{Program}
-use Rattle.uc_tree.specs.Source.{CleanUp, Variable, Scoped, Builder, Routine, Source, routine_of}
+use Rattle.uc_tree.specs.Source.{CleanUp, Variable, Builder, Routine, Source, routine_of}
 use Rattle.uc_entry.specs.declared.request.Answer.{Answer}
 use Rattle.uc_machine.specs.declared.exec.Exec.{Exec}
 use Rattle.uc_machine.specs.declared.exec.Owner.TheVariants.{Frame}
 use Rattle.uc_machine.specs.Pieces as piece
-use Rattle.uc_machine.specs.Pieces.{FieldAt, Value, Todo, Active, Step, Goes, Ticks, Asks, top, below, further, loaded}
+use Rattle.uc_machine.specs.Pieces.{FieldAt, Value, Todo, Active, Goes, top, below, further, loaded}
 use Rattle.uc_machine.specs.Quiet.{State, quiet, first_state}
 use Rattle.uc_machine.specs.Answering.{answered}
 use Rattle.uc_scope_laws.specs.Layout.{Sized}
@@ -16,6 +16,8 @@ use Rattle.uc_typing.specs.States.{Sound}
 use Rattle.uc_life_laws.specs.Things.{Few, IsUnbound, LiesBefore}
 use Rattle.uc_life_laws.specs.LifeRuns.{IsLaidOut}
 use Rattle.uc_life_laws.specs.Knowing.{InMaking, KnowsState}
+use Rattle.uc_opening_laws.specs.Opened.{OpensNone}
+use Rattle.uc_opening_laws.specs.CalledStates.{StepJoins}
 use Rattle.uc_building_laws.specs.Building.{MakesAll}
 use Rattle.uc_building_laws.specs.BuildingStates.{Awaits, variable, BuildsState, BuildsRest, BuildsStep}
 
@@ -23,31 +25,16 @@ use Rattle.uc_building_laws.specs.BuildingStates.{Awaits, variable, BuildsState,
 abbrev pub IsPlain : Table → CleanUp → Type 0
 IsPlain t c = (k i : ℕ) × CleansAt t (Obj i) (Variable k) c
 
--- the scope of such an object opens next, behind the first list, only where that drops the value of a statement, or has come to its end
-abbrev pub Joined : Table → List Todo → List Todo → Type 0
-Joined t before (piece.Rest (Scoped c ss) ∷ todo) = IsPlain t c →
-    (line : ℕ) × (before ≡ piece.Within line ∷ (piece.Rest (Scoped c ss) ∷ todo))
-Joined t before (piece.Within line ∷ (piece.Rest (Scoped c ss) ∷ todo)) = IsPlain t c →
-    before ≡ piece.DropNow ∷ (piece.Within line ∷ (piece.Rest (Scoped c ss) ∷ todo))
-Joined t before (piece.DropNow ∷ (piece.Within line ∷ (piece.Rest (Scoped c ss) ∷ todo))) = IsPlain t c →
-    before ≡ []
-Joined t before todo = Unit {0}
-
-abbrev pub StepJoins : Table → List Todo → Step → Type 0
-StepJoins t before (Goes s) = Joined t before s.run.control
-StepJoins t before (Ticks s) = Joined t before s.run.control
-StepJoins t before (Asks r s) = Joined t before s.run.control
-
 module _ (t : Table) (few : Few) (source : Source) (s : State) where
   -- the routine r is a constructor of the class i, which is called at the variable k, and binds all fields in which something is bound to its
   -- parameters and to fields; and no constructor and no destructor waits
   pub record IsConstructed (r k i : ℕ) : Type 0 where
-    pub routine : Routine
-    pub there : slice_get source.routines r ≡ Some routine
-    pub purpose : routine.purpose ≡ Builder
+    pub purpose : (q : Routine) → slice_get source.routines r ≡ Some q → q.purpose ≡ Builder
     pub plain : t.mutex i ≡ false
-    pub makes : MakesAll t (t.routine r).params i routine.body
-    pub object : top (drop routine.params s.run.operands) ≡ variable s.env.exec s.run.frame k
+    pub makes : (q : Routine) → slice_get source.routines r ≡ Some q →
+        MakesAll t (t.routine r).params i q.body
+    pub object : (q : Routine) → slice_get source.routines r ≡ Some q →
+        top (drop q.params s.run.operands) ≡ variable s.env.exec s.run.frame k
     pub apart : KnowsState t few [] s → (x : KnowsState t few [] s) ×
         ((w : Value) (a : Ty) → InMaking x.sigs (s.run ∷ s.callers) w a → ⊥)
 
@@ -74,7 +61,7 @@ module _ (t : Table) (few : Few) (source : Source) (s : State) where
   -- and scopes of objects open behind what has built these
   pub record Fair : Type 0 where
     pub at : BuildsAt s.run.control
-    pub joins : StepJoins t s.run.control (quiet source s)
+    pub joins : StepJoins s (quiet source s)
 
 -- where one of these waits, in the frame of a depth, for the scope of an object, that lies before a cell
 abbrev pub AwaitedBefore : Table → Exec → ℕ → ℕ → List Active → Type 0
@@ -91,11 +78,11 @@ ClearsAt t todo s = Unit {0}
 abbrev pub Clears : Table → State → Type 0
 Clears t s = ClearsAt t s.run.control s
 
--- of each sound source: a task begins so whose routine begins with no scope of an object; each step keeps it that finds what it is to find, where
--- all is known and activations that use one frame stay behind one another; and so does each answer
+-- of each sound source: a task begins so whose routine begins with no scope of an object that is a variable; each step keeps it that finds what it
+-- is to find, where all is known and activations that use one frame stay behind one another; and so does each answer
 pub record LawSteps : Type 0 where
   pub begins : (t : Table) (few : Few) (source : Source) (r o : ℕ) →
-      Joined t [] (piece.Rest (routine_of source r).body ∷ []) →
+      OpensNone (routine_of source r).body →
       BuildsRest t few (first_state (routine_of source r) o)
   pub steps : (t : Table) (few : Few) (source : Source) → Sound t source →
       (p : Program) (s : State) → StackState (Sized p) s → KnowsState t few [] s → BuildsState t few s →

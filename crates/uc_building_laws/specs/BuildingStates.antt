@@ -1,7 +1,11 @@
 -- Executions and tasks in which each constructor has bound what its statements do not bind any more, of an object whose scope opens behind it.
-use Rattle.std.specs.Prelude.{◌≡◌, ℕ, suc, ◌⊎◌, List, [], ◌∷◌, length, slice_index_or}
+use Rattle.std.specs.Prelude.{◌≡◌, ℕ, suc, ◌⊎◌, List, [], ◌∷◌, Option, Some, None, length, slice_index_or}
 use Rattle.uc_tree.specs.Source.{Variable, CleanUp, Scoped}
+use Rattle.uc_entry.specs.declared.request.Request.{Request}
+use Rattle.uc_entry.specs.declared.request.Request.TheVariants as ask
 use Rattle.uc_machine.specs.declared.exec.Exec.{Exec}
+use Rattle.uc_machine.specs.declared.exec.UnwindReason.TheVariants as reason
+use Rattle.uc_machine.specs.declared.exec.Visited.{Visited}
 use Rattle.uc_machine.specs.declared.exec.Owner.TheVariants.{Frame}
 use Rattle.uc_machine.specs.Executions.{Execution}
 use Rattle.uc_machine.specs.Pieces as piece
@@ -23,13 +27,17 @@ Nears P (piece.Within line ∷ (piece.Rest (Scoped c ss) ∷ todo)) = P c todo
 Nears P (piece.DropNow ∷ (piece.Within line ∷ (piece.Rest (Scoped c ss) ∷ todo))) = P c todo
 Nears P todo = Unit {0}
 
+-- no return is to be over at the end of an activation with a frame of its own
+abbrev pub NotBack : Active → Type 0
+NotBack a = a.raised ≡ Some (reason.ReturnTo a.frame) → ⊥
+
 -- what is left to bind to an activation that runs, and to one that waits
 module _ (t : Table) (a : Active) (ps : List Ty) (c i : ℕ) (w : Value) (K : Ty → Value → Type 0) where
   abbrev pub of_run : Type 0
-  of_run = Now t ps c i w K a.control a.operands
+  of_run = Now t ps c i w K a.control a.operands × NotBack a
 
   abbrev pub of_wait : Type 0
-  of_wait = Behind t ps c i a.control
+  of_wait = Behind t ps c i a.control × NotBack a
 
 -- the place of a variable in the frame of a depth
 abbrev pub variable : Exec → ℕ → ℕ → Value
@@ -68,9 +76,20 @@ abbrev pub IsApart : ℕ → List Active → Type 0
 IsApart f [] = Unit {0}
 IsApart f (a ∷ older) = (f ≡ a.frame → a.frame ≡ length older → AllLeft a.control → ⊥) × IsApart f older
 
+-- an activation has a frame of its own, or it handles a resumption in that of the routine to which a return in it is one
+abbrev pub HomedBy : Option Visited → (frame level : ℕ) → Type 0
+HomedBy None frame level = frame ≡ level
+HomedBy (Some v) frame level = v.home ≡ frame
+
+-- and while a return unwinds it, the frame of the routine to which that is one is apart too
+abbrev pub IsOwn : Active → List Active → Type 0
+IsOwn a older = IsApart a.frame older ×
+    HomedBy a.handles a.frame (length older) ×
+    ((home : ℕ) → a.raised ≡ Some (reason.ReturnTo home) → IsApart home older)
+
 abbrev pub AllApart : List Active → Type 0
 AllApart [] = Unit {0}
-AllApart (a ∷ older) = IsApart a.frame older × AllApart older
+AllApart (a ∷ older) = IsOwn a older × AllApart older
 
 module _ (t : Table) (few : Few) where
   -- an execution of this name that does not run
@@ -102,7 +121,18 @@ module _ (t : Table) (few : Few) where
     pub builds : BuildsBy (of_wait t s.run) s
     pub stands : Stands s
 
+  -- nobody goes on behind an end and behind a fault
+  abbrev pub StandsBehind : Request → State → Type 0
+  StandsBehind ask.End s = Unit {0}
+  StandsBehind (ask.Fault f) s = Unit {0}
+  StandsBehind r s = Stands s
+
+  -- one that has asked this
+  pub record BuildsAsk (r : Request) (s : State) : Type 0 where
+    pub builds : BuildsBy (of_wait t s.run) s
+    pub stands : StandsBehind r s
+
   abbrev pub BuildsStep : Step → Type 0
   BuildsStep (Goes s) = BuildsState s
   BuildsStep (Ticks s) = BuildsRest s
-  BuildsStep (Asks r s) = BuildsRest s
+  BuildsStep (Asks r s) = BuildsAsk r s

@@ -2,3 +2,4 @@ pub mod Building
 pub mod BuildingStates
 pub mod BuildingLaws
 pub mod BuildingRuns
+pub mod BuiltRuns

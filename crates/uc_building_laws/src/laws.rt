@@ -2,6 +2,7 @@
 
 ghost use Rattle.uc_building_laws.specs.BuildingLaws.{LawClears, LawSteps};
 ghost use Rattle.uc_building_laws.specs.BuildingRuns.{LawBuilt};
+ghost use Rattle.uc_building_laws.specs.BuiltRuns.{LawBuiltRuns};
 
 /// Of an object whose scope opens behind its constructor, each field in which something is bound holds
 /// what is known once the statement that binds it is done; so the object does once the constructor has
@@ -21,4 +22,11 @@ pub fn law_clears()
 /// breaks no rule, as long as all that was asked before fits and each step found what it is to find.
 pub fn law_built()
     ensures { LawBuilt }
+{}
+
+/// So in each such run of a program within its limits, as long as all that was asked before fits: all is
+/// known of whoever runs in each state to which it comes before it asks, what is in scope holds what is
+/// known, and what the next step reads of bindings is of its type. What binds leaves what it is to leave.
+pub fn law_built_runs()
+    ensures { LawBuiltRuns }
 {}

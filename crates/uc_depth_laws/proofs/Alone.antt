@@ -6,7 +6,7 @@ use Rattle.uc_tree.specs.Source.{Source}
 use Rattle.uc_machine.specs.Monitors.{this_object}
 use Rattle.uc_machine.specs.Pieces as piece
 use Rattle.uc_machine.specs.Pieces.{Todo, State, at}
-use Rattle.uc_depth_laws.specs.Owing.{marks, counted, owed, owed_first, owed_waiting, owed_own, owed_elsewhere, owed_outside, owed_else, First, Any, Skipped, CallOf, Bound, is_new, Allowed, Entered, Deep, SoleAt, AloneAt}
+use Rattle.uc_depth_laws.specs.Owing.{marks, counted, owed, owed_first, owed_waiting, owed_own, owed_elsewhere, owed_outside, owed_else, First, Any, Done, Skipped, CallOf, Bound, is_new, Allowed, Entered, Deep, SoleAt, AloneAt}
 use Rattle.uc_depth_laws.specs.DepthLaws.{LawAlone}
 use Rattle.uc_depth_laws.proofs.Depths.{both_hold, true_false, counted_least, counted_none, none_first}
 
@@ -54,20 +54,23 @@ module _ (source : Source) (news : ℕ → Bool) (s : State) (deep : Deep source
       omega (arith, a, b)
 
   made : (g : First) → Allowed source new g piece.MadeNow → new ≡ true
-  made Any h = h
-  made Skipped h = h
+  made Any h = absurd h
+  made Done h = h
+  made Skipped h = absurd h
   made (CallOf r) h = absurd h
   made Bound h = absurd h
 
   spawned : (g : First) (r : ℕ) → Allowed source new g (piece.SpawnNow r) → new ≡ true
-  spawned Any r h = h.0
-  spawned Skipped r h = h.0
+  spawned Any r h = absurd h
+  spawned Done r h = h.0
+  spawned Skipped r h = absurd h
   spawned (CallOf k) r h = absurd h
   spawned Bound r h = absurd h
 
   given_up : (g : First) → Allowed source new g piece.GiveUpNow → new ≡ true
-  given_up Any h = h
-  given_up Skipped h = h
+  given_up Any h = absurd h
+  given_up Done h = h
+  given_up Skipped h = absurd h
   given_up (CallOf r) h = absurd h
   given_up Bound h = absurd h
 

@@ -13,7 +13,7 @@ use Rattle.uc_machine.specs.Pieces as piece
 use Rattle.uc_machine.specs.Pieces.{Value, Object, Todo, State, Members}
 use Rattle.uc_machine.specs.Answering.{answered, child_main, child_of, entered, new_members, with_operand}
 use Rattle.uc_depth_laws.specs.Entering.{holds_object, is_holding, EnteredSource}
-use Rattle.uc_depth_laws.specs.Owing.{more, marks, counted, Any, is_new, IsNewFirst, Entered, EngagedHand, owed_waiting, owed_hand, owed_first, owed_own, owed, depth_in, IsBinding, Deep, DeepBehind, DeepAlone, DeepAsk}
+use Rattle.uc_depth_laws.specs.Owing.{more, marks, counted, Any, is_new, IsNewFirst, Entered, EngagedHand, owed_waiting, owed_hand, owed_first, owed_own, owed, depth_in, IsBinding, Deep, DeepBehind, DeepAlone, DeepAsk, Done}
 use Rattle.uc_depth_laws.specs.DepthLaws.{Suits, LawSteps}
 use Rattle.uc_depth_laws.proofs.Depths.{building_none, both_are, counted_least, counted_none, none_first, none_new, calling_most}
 use Rattle.uc_depth_laws.proofs.TodoLists as lists
@@ -33,7 +33,7 @@ begins source known news r o e =
     let few = lists.routine_marks source false x in
     let z : more (holds_object x.body) 0 ≡ 0 = ap (λ c. more c 0) e in
     record {
-      first = Any;
+      first = Done;
       run = ((body_at source news known r, λ f. building_none x.body e f), (lists.behind source (is_new news (Object o) []) x.purpose x.line).list);
       new = tt;
       one = omega (arith, few, z);

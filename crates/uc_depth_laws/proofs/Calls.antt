@@ -12,8 +12,8 @@ use Rattle.uc_machine.specs.Monitors as monitors
 use Rattle.uc_machine.specs.Pieces as piece
 use Rattle.uc_machine.specs.Pieces.{Value, Nothing, Todo, State, Env, at, in_env, top, below, written}
 use Rattle.uc_depth_laws.specs.Entering.{holds_object, frees_object, is_holding, EnteredBody, EnteredRoutine, EnteredSource}
-use Rattle.uc_depth_laws.specs.Owing.{owes, more, marks, counted, owed_first, calling, first_marks, Any, CallOf, is_new, is_new_for, IsNewFirst, Entered, depth_in, IsInside, Deep, DeepStep}
-use Rattle.uc_depth_laws.proofs.Depths.{own_one, inside_of, more_most, more_least, counted_least, counted_none, none_first, none_marked, none_new, building_none, called_first, called_new, called_marks, set_top}
+use Rattle.uc_depth_laws.specs.Owing.{owes, more, marks, counted, owed_first, calling, first_marks, Any, CallOf, is_new, is_new_for, IsNewFirst, Entered, depth_in, IsInside, Deep, DeepStep, Done}
+use Rattle.uc_depth_laws.proofs.Depths.{own_one, inside_of, more_most, more_least, counted_least, counted_none, none_first, none_marked, none_new, building_none, called_first, called_new, called_marks, set_top, done_first, done_marked, done_new}
 use Rattle.uc_depth_laws.proofs.Kept as kept
 use Rattle.uc_depth_laws.proofs.Kept.{either}
 use Rattle.uc_depth_laws.proofs.TodoLists as lists
@@ -49,12 +49,12 @@ module _ (source : Source) (news : ℕ → Bool) (known : EnteredSource source) 
     begun : (p : Todo) (todo : List Todo) (x : Routine) (this : Value) (counts : Bool) (vs : List Value) → s.run.control ≡ p ∷ todo → EnteredBody source x.body → Entered source new Any todo → more (holds_object x.body) 0 ≤ first_marks source (p ∷ todo) → ((q : ℕ) → counted q this (more (holds_object x.body) 0) ≤ owed_first source q (p ∷ todo) s.run.operands) → (frees_object x.body ≡ true → is_new_for news this s.run.this todo s.callers ≡ true) → Deep source news (entered (quiet.routine_todo x) this Nothing (quiet.call_frame x s.run.operands) counts (record s.run { control = todo; operands = vs }) s.callers s.env)
     begun p todo x this counts vs c n h k w m =
         let within : Bool = is_new_for news this s.run.this todo s.callers in
-        let list : Entered source within Any (quiet.routine_todo x) = ((n, m), (lists.behind source within x.purpose x.line).list) in
+        let list : Entered source within Done (quiet.routine_todo x) = ((n, m), (lists.behind source within x.purpose x.line).list) in
         let few = lists.routine_marks source within x in
         record {
-          first = Any;
+          first = Done;
           run = list;
-          new = none_new source within news this ((record s.run { control = todo; operands = vs }) ∷ s.callers) (quiet.routine_todo x) [] list;
+          new = done_new source within news this ((record s.run { control = todo; operands = vs }) ∷ s.callers) (quiet.routine_todo x) [] list;
           one =
               let a1 = more_most (holds_object x.body) 0 in
               omega (arith, a1, few);
@@ -65,7 +65,7 @@ module _ (source : Source) (news : ℕ → Bool) (known : EnteredSource source) 
               (h, omega (arith, a1, a2, a3), deep.callers);
           env = record { house = deep.env.house; hand = deep.env.hand };
           engaged =
-              let a1 = none_marked source within (quiet.routine_todo x) list in
+              let a1 = done_marked source within (quiet.routine_todo x) list in
               let a2 = ap (first_marks source) c in
               let a3 = ap marks c in
               let a4 = more_least (owes p) (marks todo) in
@@ -73,7 +73,7 @@ module _ (source : Source) (news : ℕ → Bool) (known : EnteredSource source) 
               let a6 = deep.engaged in
               omega (arith, a1, a2, a3, a4, a5, a6, few, k);
           depths = λ q.
-              let a1 = none_first source within q (quiet.routine_todo x) [] list in
+              let a1 = done_first source within q (quiet.routine_todo x) [] list in
               let a2 = ap (λ (y : List Todo). owed_first source q y s.run.operands) c in
               let a3 = ap (λ (y : List Todo). counted q s.run.this (marks y)) c in
               let a4 = counted_least q s.run.this (marks todo) (marks (p ∷ todo)) (more_least (owes p) (marks todo)) in

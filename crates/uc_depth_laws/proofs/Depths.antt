@@ -12,7 +12,7 @@ use Rattle.uc_machine.specs.Insides.{deeper, shallower}
 use Rattle.uc_machine.specs.Pieces as piece
 use Rattle.uc_machine.specs.Pieces.{Value, Todo, Sort, Active, top, object_in}
 use Rattle.uc_depth_laws.specs.Entering.{lets_go, frees, holds_object, frees_object, is_holding, is_building, EnteredStmts, EnteredBody}
-use Rattle.uc_depth_laws.specs.Owing.{more, counted, Any, Skipped, CallOf, EnteredWhole, Entered, is_new_for, IsNewFirst, calling, owed_first, first_marks, owed_own, depth_in}
+use Rattle.uc_depth_laws.specs.Owing.{more, counted, Any, Skipped, CallOf, EnteredWhole, Entered, is_new_for, IsNewFirst, calling, owed_first, first_marks, owed_own, depth_in, Done, EnteredPiece, EnteredNext, First}
 
 -- marks
 
@@ -36,6 +36,12 @@ body_of source src.Nil h = h
 body_of source (src.Then a ss) h = h
 body_of source (src.Scoped c ss) h = (h.1, h.2)
 body_of source (src.Built c ss) h = h
+
+pub stmts_of : (source : Source) (ss : Stmts) → holds_object ss ≡ false → EnteredBody source ss → EnteredStmts source ss
+stmts_of source src.Nil e h = h
+stmts_of source (src.Then a ss) e h = h
+stmts_of source (src.Scoped c ss) e h = (e, h.0, h.1)
+stmts_of source (src.Built c ss) e h = h
 
 -- nor is anything built in them
 pub holds_scope : (c : CleanUp) → frees c ≡ true → lets_go c ≡ true
@@ -121,6 +127,42 @@ none_marked source new (piece.CallOnNow r ∷ todo) h = ap (λ b. more b 0) h.0
 none_marked source new (piece.CallUnwrittenNow r ∷ todo) h = ap (λ b. more b 0) h.0
 none_marked source new (piece.BindMadeNow c r ∷ todo) h = absurd h.0
 none_marked source new (p ∷ todo) h = refl
+
+-- so it is in a list of which the first piece is done next
+
+pub piece_next : (source : Source) (new : Bool) (p : Todo) → EnteredPiece source new p → EnteredNext source new p
+piece_next source new (piece.Rest ss) h = whole_of source new ss h
+piece_next source new piece.LeaveNow h = absurd h
+piece_next source new piece.MadeNow h = absurd h
+piece_next source new (piece.SpawnNow r) h = absurd h
+piece_next source new piece.GoneNow h = absurd h
+piece_next source new piece.GiveUpNow h = absurd h
+piece_next source new p h = h
+
+pub any_done : (source : Source) (new : Bool) (todo : List Todo) → Entered source new Any todo → Entered source new Done todo
+any_done source new [] h = tt
+any_done source new (p ∷ todo) h = (piece_next source new p h.0, h.1)
+
+pub done_first : (source : Source) (new : Bool) (q : ℕ) (todo : List Todo) (vs : List Value) → Entered source new Done todo → owed_first source q todo vs ≡ 0
+done_first source new q [] vs h = refl
+done_first source new q (piece.CallOnNow r ∷ todo) vs h = ap (λ b. if b then counted q (top (drop (routine_of source r).params vs)) 1 else 0) h.0
+done_first source new q (piece.CallUnwrittenNow r ∷ todo) vs h = ap (λ b. if b then counted q (top (drop (routine_of source r).params vs)) 1 else 0) h.0
+done_first source new q (piece.BindMadeNow c r ∷ todo) vs h = absurd h.0
+done_first source new q (p ∷ todo) vs h = refl
+
+pub done_marked : (source : Source) (new : Bool) (todo : List Todo) → Entered source new Done todo → first_marks source todo ≡ 0
+done_marked source new [] h = refl
+done_marked source new (piece.CallOnNow r ∷ todo) h = ap (λ b. more b 0) h.0
+done_marked source new (piece.CallUnwrittenNow r ∷ todo) h = ap (λ b. more b 0) h.0
+done_marked source new (piece.BindMadeNow c r ∷ todo) h = absurd h.0
+done_marked source new (p ∷ todo) h = refl
+
+pub done_new : (source : Source) (new : Bool) (news : ℕ → Bool) (this : Value) (older : List Active) (todo : List Todo) (vs : List Value) → Entered source new Done todo → IsNewFirst source news this older todo vs
+done_new source new news this older [] vs h = tt
+done_new source new news this older (piece.CallOnNow r ∷ todo) vs h = λ f. building_none (routine_of source r).body h.0 f
+done_new source new news this older (piece.CallUnwrittenNow r ∷ todo) vs h = λ f. building_none (routine_of source r).body h.0 f
+done_new source new news this older (piece.BindMadeNow c r ∷ todo) vs h = absurd h.0
+done_new source new news this older (p ∷ todo) vs h = tt
 
 -- nor is anything built then
 pub none_new : (source : Source) (new : Bool) (news : ℕ → Bool) (this : Value) (older : List Active) (todo : List Todo) (vs : List Value) → Entered source new Any todo → IsNewFirst source news this older todo vs

@@ -1,5 +1,5 @@
 -- What is engaged goes on to be so, and owes no more, where members, executions and who runs change.
-use Rattle.std.proofs.Common.{◌≡◌, ℕ, ◌+◌, ◌≤◌, Bool, true, false, List, [], ◌∷◌, ◌++◌, Option, Some, None, refl, sym, subst, ap, arith}
+use Rattle.std.proofs.Common.{◌≡◌, ℕ, ◌+◌, ◌≤◌, ◌⊎◌, inl, inr, Bool, true, false, List, [], ◌∷◌, ◌++◌, Option, Some, None, refl, sym, subst, ap, arith}
 use Rattle.std.specs.Prelude.{nat_eq, if◌then◌else◌}
 use Rattle.uc_tree.specs.Source.{Source}
 use Rattle.uc_entry.specs.declared.fault.RunFault.TheVariants.{ResumeInUse, SwitchInUnwind}
@@ -16,7 +16,7 @@ use Rattle.uc_machine.specs.Executions.{Links, update, exec_eq, joined, members_
 use Rattle.uc_machine.specs.Switches as sw
 use Rattle.uc_machine.specs.Switches.{Moved, To, Stops}
 use Rattle.uc_machine.specs.Pieces.{Value, Number, Place, Running, Object, Nothing, Todo, State, Env, Members, written}
-use Rattle.uc_depth_laws.specs.Owing.{Ex, Any, is_new, DeepAlone, entries, Engaged, EngagedSlot, EngagedParked, EngagedHand, EngagedMembers, EngagedEnv, owed_ex, owed_slot, owed_parked, owed_hand, owed_own, owed_env, owed, depth_in, Deep}
+use Rattle.uc_depth_laws.specs.Owing.{Ex, Any, is_new, DeepAlone, entries, Engaged, EngagedBy, EngagedSlot, EngagedParked, EngagedHand, EngagedMembers, EngagedEnv, owed_all, owed_at, owed_ex, owed_slot, owed_parked, owed_hand, owed_own, owed_env, owed, depth_in, Deep}
 use Rattle.uc_depth_laws.proofs.Depths.{none_first, none_marked, none_new}
 
 -- the first of two by a test, and of two pairs
@@ -28,7 +28,38 @@ pub both : {A B : Type 0} (P : A → B → Type 0) (b : Bool) (x y : A) (u v : B
 both P true x y u v h k = h
 both P false x y u v h k = k
 
+-- one that has ended owes nothing, and another what its activations do
+
+owed_most : (g : Stage) (n : ℕ) → owed_at g n ≤ n
+owed_most Fresh n = omega arith
+owed_most Started n = omega arith
+owed_most Ended n = omega arith
+
+-- a stage that stays, or is the end
+abbrev pub StaysOrEnds : Stage → Stage → Type 0
+StaysOrEnds now before = (now ≡ before) ⊎ (now ≡ Ended)
+
+owed_less : (now before : Stage) (n : ℕ) → StaysOrEnds now before → owed_at now n ≤ owed_at before n
+owed_less now before n (inl e) = let a = ap (λ g. owed_at g n) e in omega (arith, a)
+owed_less now before n (inr e) = let a : owed_at now n ≡ 0 = ap (λ g. owed_at g n) e in omega (arith, a)
+
 module _ (source : Source) (news : ℕ → Bool) where
+  -- by their stages
+
+  pub by_stage : (g : Stage) (x : Ex) → Engaged source news x → EngagedBy source news g x
+  by_stage Fresh x h = h
+  by_stage Started x h = h
+  by_stage Ended x h = tt
+
+  same_stage : (g : Stage) (x y : Ex) → (Engaged source news x → Engaged source news y) → EngagedBy source news g x → EngagedBy source news g y
+  same_stage Fresh x y f h = f h
+  same_stage Started x y f h = f h
+  same_stage Ended x y f h = tt
+
+  next_stage : (now before : Stage) (x y : Ex) → StaysOrEnds now before → (Engaged source news x → Engaged source news y) → EngagedBy source news before x → EngagedBy source news now y
+  next_stage now before x y (inl e) f h = subst (λ g. EngagedBy source news g y) (sym e) (same_stage before x y f h)
+  next_stage now before x y (inr e) f h = subst (λ g. EngagedBy source news g y) (sym e) tt
+
   -- lists of executions
 
   abbrev pub owed_members : ℕ → Option Members → ℕ
@@ -68,7 +99,7 @@ module _ (source : Source) (news : ℕ → Bool) where
       either (λ (xs : List (ℕ × Option Ex)). owed_parked q xs ≤ owed_slot q p.1 + owed_parked q ps) (nat_eq p.0 k) ps (p ∷ sw.without k ps) (omega arith) (omega (arith, h))
 
   more_parked : (k : ℕ) (x : Ex) (ps : List (ℕ × Option Ex)) → Engaged source news x → EngagedParked source news ps → EngagedParked source news (ps ++ (k, Some x) ∷ [])
-  more_parked k x [] r h = (r, tt)
+  more_parked k x [] r h = (by_stage x.links.stage x r, tt)
   more_parked k x (p ∷ ps) r h = (h.0, more_parked k x ps r h.1)
 
   more_owed : (q k : ℕ) (x : Ex) (ps : List (ℕ × Option Ex)) → owed_parked q (ps ++ (k, Some x) ∷ []) ≤ owed_parked q ps + owed_ex q x
@@ -175,7 +206,7 @@ module _ (source : Source) (news : ℕ → Bool) where
   frames_parked : (n : ℕ) (f : List (List Value) → List (List Value)) (o : Option Ex) (m : Members) → EngagedSlot source news o → EngagedParked source news m.parked → EngagedParked source news (frames_by n f o m).parked
   frames_parked n f None m r h = h
   frames_parked n f (Some x) m r h =
-      update_parked n (Some (record x { frames = f x.frames })) m.parked (record { run = r.run; one = r.one; callers = r.callers; engaged = r.engaged }) h
+      update_parked n (Some (record x { frames = f x.frames })) m.parked (same_stage x.links.stage x (record x { frames = f x.frames }) (λ k. record { run = k.run; one = k.one; callers = k.callers; engaged = k.engaged }) r) h
 
   frames_owed : (n : ℕ) (f : List (List Value) → List (List Value)) (o : Option Ex) (m : Members) → joined (find n m.parked) ≡ o → (q : ℕ) → owed_parked q (frames_by n f o m).parked ≤ owed_parked q m.parked
   frames_owed n f None m e q = omega arith
@@ -235,31 +266,32 @@ module _ (source : Source) (news : ℕ → Bool) where
   forgotten_lighter None e s = same e e s refl refl refl refl (omega arith)
   forgotten_lighter (Some n) e s = change_lighter n.home (sw.slot_gone n.serial) e (gone_spared n.serial) s
 
-  abbrev pub Spares : (Links → Links) → Type 0
-  Spares g = (l : Links) → entries l ≤ entries (g l)
+  pub record Spares (g : Links → Links) : Type 0 where
+    pub counts : (l : Links) → entries l ≤ entries (g l)
+    pub stage : (l : Links) → StaysOrEnds (g l).stage l.stage
 
   links_parked : (g : Links → Links) → Spares g → (n : ℕ) (o : Option Ex) (m : Members) → EngagedSlot source news o → EngagedParked source news m.parked → EngagedParked source news (sw.links_by g n o m).parked
   links_parked g k n None m r h = h
   links_parked g k n (Some x) m r h =
-      update_parked n (Some (record x { links = g x.links })) m.parked (record { run = r.run; one = r.one; callers = r.callers; engaged = let a = r.engaged in let b = k x.links in omega (arith, a, b) }) h
+      update_parked n (Some (record x { links = g x.links })) m.parked (next_stage (g x.links).stage x.links.stage x (record x { links = g x.links }) (k.stage x.links) (λ r. record { run = r.run; one = r.one; callers = r.callers; engaged = let a = r.engaged in let b = k.counts x.links in omega (arith, a, b) }) r) h
 
-  links_owed : (g : Links → Links) (n : ℕ) (o : Option Ex) (m : Members) → joined (find n m.parked) ≡ o → (q : ℕ) → owed_parked q (sw.links_by g n o m).parked ≤ owed_parked q m.parked
-  links_owed g n None m e q = omega arith
-  links_owed g n (Some x) m e q = swapped n x (record x { links = g x.links }) m e (λ q. omega arith) q
+  links_owed : (g : Links → Links) → Spares g → (n : ℕ) (o : Option Ex) (m : Members) → joined (find n m.parked) ≡ o → (q : ℕ) → owed_parked q (sw.links_by g n o m).parked ≤ owed_parked q m.parked
+  links_owed g k n None m e q = omega arith
+  links_owed g k n (Some x) m e q = swapped n x (record x { links = g x.links }) m e (λ q. owed_less (g x.links).stage x.links.stage (owed_all q x) (k.stage x.links)) q
 
   links_spared : (g : Links → Links) → Spares g → (n : ℕ) → Spared (sw.links_changed g n)
   links_spared g k n = record {
     parked = λ m h. links_parked g k n (joined (find n m.parked)) m (found_parked n m.parked h) h;
-    owed = λ m q. links_owed g n (joined (find n m.parked)) m refl q;
+    owed = λ m q. links_owed g k n (joined (find n m.parked)) m refl q;
   }
 
   pub with_links_lighter : (g : Links → Links) → Spares g → (n : Exec) (e : Env) → EngagedEnv source news e → Lighter e (sw.with_links g n e)
   with_links_lighter g k n e s =
-      either (Lighter e) (exec_eq n e.exec) (record e { links = g e.links }) (change n.home (sw.links_changed g n.serial) e) (same e (record e { links = g e.links }) s refl refl refl refl (k e.links)) (change_lighter n.home (sw.links_changed g n.serial) e (links_spared g k n.serial) s)
+      either (Lighter e) (exec_eq n e.exec) (record e { links = g e.links }) (change n.home (sw.links_changed g n.serial) e) (same e (record e { links = g e.links }) s refl refl refl refl (k.counts e.links)) (change_lighter n.home (sw.links_changed g n.serial) e (links_spared g k n.serial) s)
 
   pub enlivened_lighter : (o : Option Exec) (e : Env) → EngagedEnv source news e → Lighter e (sw.enlivened o e)
   enlivened_lighter None e s = same e e s refl refl refl refl (omega arith)
-  enlivened_lighter (Some n) e s = with_links_lighter (λ l. record l { live = true }) (λ l. omega arith) n e s
+  enlivened_lighter (Some n) e s = with_links_lighter (λ l. record l { live = true }) (record { counts = λ l. omega arith; stage = λ l. inl refl }) n e s
 
   -- slots
 
@@ -295,7 +327,7 @@ module _ (source : Source) (news : ℕ → Bool) where
     pub engaged : Engaged source news x
     pub was : Ex
     pub parked : parked_at n e ≡ Some was
-    pub owes : (q : ℕ) → owed_ex q x ≤ owed_ex q was
+    pub owes : (q : ℕ) → owed_all q x ≤ owed_ex q was
 
   abbrev pub WaitingNext : Env → Option (Exec × Ex) → Type 0
   WaitingNext e None = Unit {0}
@@ -313,7 +345,7 @@ module _ (source : Source) (news : ℕ → Bool) where
         one = r.engaged.one;
         callers = r.engaged.callers;
         env =
-            let f = set_slot_engaged s.env.exec (Some stopped) free is (set_slot_engaged n None s.env tt h.deep.env) in
+            let f = set_slot_engaged s.env.exec (Some stopped) free (by_stage s.env.links.stage stopped is) (set_slot_engaged n None s.env tt h.deep.env) in
             record { house = f.house; hand = f.hand };
         engaged = let a = r.engaged.engaged in let b = none_marked source (is_new news x.run.this x.callers) x.run.control r.engaged.run in omega (arith, a, b);
         depths = λ q.
@@ -327,17 +359,27 @@ module _ (source : Source) (news : ℕ → Bool) where
             let e2 = set_slot_beside s.env.exec (Some stopped) free in
             let g = subst (λ ds. owed source q s ≤ depth_in (find q ds)) (sym e1.depths) d in
             let i = subst (λ ds. owed source q s ≤ depth_in (find q ds)) (sym e2.depths) g in
-            omega (arith, a, b, c, w, i, f);
+            let least = owed_most s.env.links.stage (owed_all q stopped) in
+            omega (arith, a, b, c, w, i, f, least);
       }
+
+  -- one that has not ended
+  waits_there : (n : Exec) (x : Ex) (e : Env) → parked_at n e ≡ Some x → (g : Stage) → x.links.stage ≡ g → (EngagedBy source news g x → Engaged source news x) → ((k : ℕ) → owed_at g k ≡ k) → EngagedSlot source news (Some x) → Waiting e n x
+  waits_there n x e p g i f k r = record {
+    engaged = f (subst (λ g. EngagedBy source news g x) i r);
+    was = x;
+    parked = p;
+    owes = λ q. let a : owed_ex q x ≡ owed_at g (owed_all q x) = ap (λ g. owed_at g (owed_all q x)) i in let b = k (owed_all q x) in omega (arith, a, b);
+  }
 
   parked_slot : (n : Exec) (o : Option Ex) (e : Env) → parked_at n e ≡ o → EngagedSlot source news o → WaitingNext e (sw.able_by n o)
   parked_slot n None e p r = tt
-  parked_slot n (Some x) e p r = stage x.links.stage
+  parked_slot n (Some x) e p r = stage x.links.stage refl
     where
-      stage : (g : Stage) → WaitingNext e (sw.able_at g n x)
-      stage Fresh = tt
-      stage Started = record { engaged = r; was = x; parked = p; owes = λ q. omega arith }
-      stage Ended = tt
+      stage : (g : Stage) → x.links.stage ≡ g → WaitingNext e (sw.able_at g n x)
+      stage Fresh i = tt
+      stage Started i = waits_there n x e p Started i (λ k. k) (λ n. refl) r
+      stage Ended i = tt
 
   pub able_waiting : (o : Option Exec) (e : Env) → EngagedEnv source news e → WaitingNext e (sw.able o e)
   able_waiting None e s = tt
@@ -379,17 +421,14 @@ module _ (source : Source) (news : ℕ → Bool) where
     owes = w.owes;
   }
 
-  waits_there : (n : Exec) (x : Ex) (e : Env) → parked_at n e ≡ Some x → Engaged source news x → Waiting e n x
-  waits_there n x e p r = record { engaged = r; was = x; parked = p; owes = λ q. omega arith }
-
-  wake_stage : (g : Stage) (n : Exec) (x : Ex) (s : State) → Waiting s.env n x → DeepAlone source news s → DeepMoved (sw.wake_at g n x s)
-  wake_stage Fresh n x s r h = switched_deep n _ s (relinked s.env n x (sw.woken s.env.exec x.links) (omega arith) r) h
-  wake_stage Started n x s r h = switched_deep n _ s (relinked s.env n x (sw.woken s.env.exec x.links) (omega arith) r) h
-  wake_stage Ended n x s r h = tt
-
   wake_slot : (n : Exec) (o : Option Ex) (s : State) → parked_at n s.env ≡ o → EngagedSlot source news o → DeepAlone source news s → DeepMoved (sw.wake_by n o s)
   wake_slot n None s p r h = tt
-  wake_slot n (Some x) s p r h = wake_stage x.links.stage n x s (waits_there n x s.env p r) h
+  wake_slot n (Some x) s p r h = stage x.links.stage refl
+    where
+      stage : (g : Stage) → x.links.stage ≡ g → DeepMoved (sw.wake_at g n x s)
+      stage Fresh i = switched_deep n _ s (relinked s.env n x (sw.woken s.env.exec x.links) (omega arith) (waits_there n x s.env p Fresh i (λ k. k) (λ n. refl) r)) h
+      stage Started i = switched_deep n _ s (relinked s.env n x (sw.woken s.env.exec x.links) (omega arith) (waits_there n x s.env p Started i (λ k. k) (λ n. refl) r)) h
+      stage Ended i = tt
 
   wake_one_deep : (o : Option Exec) (s : State) → DeepAlone source news s → DeepMoved (sw.wake_one o s)
   wake_one_deep None s h = tt
@@ -457,17 +496,17 @@ module _ (source : Source) (news : ℕ → Bool) where
   }
 
   over_deep : (n : Exec) (s : State) → Deep source news s → Deep source news (sw.over n s)
-  over_deep n s h = eased s _ (with_links_lighter (λ l. record l { live = false; stage = Ended }) (λ l. omega arith) n s.env h.env) h
-
-  take_down_stage : (g : Stage) (n : Exec) (x : Ex) (s : State) → Waiting s.env n x → DeepAlone source news s → DeepMoved (sw.take_down_at g n x s)
-  take_down_stage Fresh n x s r h = over_deep n s h.deep
-  take_down_stage Started n x s r h =
-      switched_deep n _ s (reasoned s.env n _ _ (relinked s.env n x (record x.links { live = false; destroyer = Some s.env.exec }) (omega arith) r)) h
-  take_down_stage Ended n x s r h = over_deep n s h.deep
+  over_deep n s h = eased s _ (with_links_lighter (λ l. record l { live = false; stage = Ended }) (record { counts = λ l. omega arith; stage = λ l. inr refl }) n s.env h.env) h
 
   take_down_slot : (n : Exec) (o : Option Ex) (s : State) → parked_at n s.env ≡ o → EngagedSlot source news o → DeepAlone source news s → DeepMoved (sw.take_down_by n o s)
   take_down_slot n None s p r h = h.deep
-  take_down_slot n (Some x) s p r h = take_down_stage x.links.stage n x s (waits_there n x s.env p r) h
+  take_down_slot n (Some x) s p r h = stage x.links.stage refl
+    where
+      stage : (g : Stage) → x.links.stage ≡ g → DeepMoved (sw.take_down_at g n x s)
+      stage Fresh i = over_deep n s h.deep
+      stage Started i =
+          switched_deep n _ s (reasoned s.env n _ _ (relinked s.env n x (record x.links { live = false; destroyer = Some s.env.exec }) (omega arith) (waits_there n x s.env p Started i (λ k. k) (λ n. refl) r))) h
+      stage Ended i = over_deep n s h.deep
 
   pub take_down_deep : (o : Option Exec) (s : State) → DeepAlone source news s → DeepMoved (sw.take_down o s)
   take_down_deep None s h = h.deep

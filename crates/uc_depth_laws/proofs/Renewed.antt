@@ -4,10 +4,12 @@ use Rattle.std.specs.Prelude.{nat_eq, drop, if◌then◌else◌}
 use Rattle.uc_tree.specs.Source.{Source, routine_of}
 use Rattle.uc_entry.specs.declared.request.Request.{Request}
 use Rattle.uc_entry.specs.declared.request.Request.TheVariants as ask
+use Rattle.uc_machine.specs.declared.exec.Stage.{Stage}
+use Rattle.uc_machine.specs.declared.exec.Stage.TheVariants.{Fresh, Started, Ended}
 use Rattle.uc_machine.specs.Pieces as piece
 use Rattle.uc_machine.specs.Pieces.{Value, Todo, Active, State, Env, Members, object_in, top}
 use Rattle.uc_depth_laws.specs.Entering.{lets_go, holds_object, is_building}
-use Rattle.uc_depth_laws.specs.Owing.{Ex, First, Any, Skipped, CallOf, Bound, next, owes, more, marks, counted, owed_by, owed_waiting, calling, owed_first, owed_ex, owed_slot, owed_parked, owed_hand, owed_env, owed_behind, owed, is_new, is_new_for, EnteredPiece, Allowed, Entered, IsNewFirst, AllEntered, Engaged, EngagedSlot, EngagedParked, EngagedHand, EngagedEnv, Deep, DeepBehind, DeepAlone, DeepAsk}
+use Rattle.uc_depth_laws.specs.Owing.{Ex, First, Any, Skipped, CallOf, Bound, next, owes, more, marks, counted, owed_by, owed_waiting, calling, owed_first, owed_all, owed_at, owed_slot, owed_parked, owed_hand, owed_env, owed_behind, owed, is_new, is_new_for, EnteredPiece, Allowed, Entered, IsNewFirst, AllEntered, Engaged, EngagedBy, EngagedSlot, EngagedParked, EngagedHand, EngagedEnv, Deep, DeepBehind, DeepAlone, DeepAsk, Done, EnteredNext}
 use Rattle.uc_depth_laws.specs.DepthLaws.{LawRenewed}
 use Rattle.uc_depth_laws.proofs.Depths.{holds_scope, holds_building, both_hold, both_are, counted_own, more_least}
 
@@ -27,15 +29,20 @@ module _ (source : Source) (new now : Bool) where
       by (inr l) = more_one b n e l
 
   piece_again : (p : Todo) (n : ℕ) → EnteredPiece source new p → (new ≡ true → (now ≡ true) ⊎ (more (owes p) n ≡ 0)) → EnteredPiece source now p
-  piece_again (piece.Rest ss) n h k = (h.0, λ f. either_new (holds_object ss) n (holds_building ss f) (h.1 f) k)
   piece_again (piece.Clean c) n h k = (h.0, λ f. either_new (lets_go c) n (holds_scope c f) (h.1 f) k)
-  piece_again piece.MadeNow n h k = either_new true n refl h k
-  piece_again (piece.SpawnNow r) n h k = (either_new true n refl h.0 k, h.1)
-  piece_again piece.GiveUpNow n h k = either_new true n refl h k
   piece_again p n h k = h
+
+  next_again : (p : Todo) (n : ℕ) → EnteredNext source new p → (new ≡ true → (now ≡ true) ⊎ (more (owes p) n ≡ 0)) → EnteredNext source now p
+  next_again (piece.Rest ss) n h k = (h.0, λ f. either_new (holds_object ss) n (holds_building ss f) (h.1 f) k)
+  next_again (piece.Clean c) n h k = (h.0, λ f. either_new (lets_go c) n (holds_scope c f) (h.1 f) k)
+  next_again piece.MadeNow n h k = either_new true n refl h k
+  next_again (piece.SpawnNow r) n h k = (either_new true n refl h.0 k, h.1)
+  next_again piece.GiveUpNow n h k = either_new true n refl h k
+  next_again p n h k = h
 
   allowed_again : (g : First) (p : Todo) (n : ℕ) → Allowed source new g p → (new ≡ true → (now ≡ true) ⊎ (more (owes p) n ≡ 0)) → Allowed source now g p
   allowed_again Any p n h k = piece_again p n h k
+  allowed_again Done p n h k = next_again p n h k
   allowed_again Skipped (piece.CallOnNow r) n h k = tt
   allowed_again Skipped (piece.CallUnwrittenNow r) n h k = tt
   allowed_again Skipped p n h k = piece_again p n h k
@@ -105,17 +112,22 @@ module _ (source : Source) (news now : ℕ → Bool) where
   first_again this older (piece.BindMadeNow c r ∷ todo) vs h k = λ f. called_again r (top vs) this older todo f (h f) k
   first_again this older (p ∷ todo) vs h k = tt
 
-  ex_again : (x : Ex) → Engaged source news x → Stays (λ q. owed_ex q x) → Engaged source now x
+  ex_again : (x : Ex) → Engaged source news x → Stays (λ q. owed_all q x) → Engaged source now x
   ex_again x h k = record {
-    run = run_again Any x.run.this x.callers x.run.control h.run (less (λ q. owed_by q x.run) (λ q. owed_ex q x) k (λ q. omega arith));
+    run = run_again Any x.run.this x.callers x.run.control h.run (less (λ q. owed_by q x.run) (λ q. owed_all q x) k (λ q. omega arith));
     one = h.one;
-    callers = callers_again x.callers h.callers (less (λ q. owed_waiting q x.callers) (λ q. owed_ex q x) k (λ q. omega arith));
+    callers = callers_again x.callers h.callers (less (λ q. owed_waiting q x.callers) (λ q. owed_all q x) k (λ q. omega arith));
     engaged = h.engaged;
   }
 
+  stage_again : (g : Stage) (x : Ex) → EngagedBy source news g x → Stays (λ q. owed_at g (owed_all q x)) → EngagedBy source now g x
+  stage_again Fresh x h k = ex_again x h k
+  stage_again Started x h k = ex_again x h k
+  stage_again Ended x h k = tt
+
   slot_again : (o : Option Ex) → EngagedSlot source news o → Stays (λ q. owed_slot q o) → EngagedSlot source now o
   slot_again None h k = tt
-  slot_again (Some x) h k = ex_again x h k
+  slot_again (Some x) h k = stage_again x.links.stage x h k
 
   pub parked_again : (ps : List (ℕ × Option Ex)) → EngagedParked source news ps → Stays (λ q. owed_parked q ps) → EngagedParked source now ps
   parked_again [] h k = tt

@@ -13,9 +13,11 @@ use Rattle.uc_machine.specs.Executions.{home_eq}
 use Rattle.uc_machine.specs.declared.exec.Home.TheVariants as home
 use Rattle.uc_machine.specs.Insides.{is_engaged, has_engaged, is_held_up}
 use Rattle.uc_machine.specs.Monitors.{this_object}
+use Rattle.uc_machine.specs.declared.exec.Stage.{Stage}
+use Rattle.uc_machine.specs.declared.exec.Stage.TheVariants.{Fresh, Started, Ended}
 use Rattle.uc_machine.specs.Pieces.{Todo, Active, State, Members, at, object_in}
 use Rattle.uc_machine.specs.Answering.{with_hand}
-use Rattle.uc_depth_laws.specs.Owing.{Ex, entries, marks, marks_waiting, owed_waiting, EngagedSlot, EngagedParked, EngagedHand, EngagedMembers, Free, Redrawn, owed_slot, owed_parked, owed_hand, owed, owed_outside, owed_by, IsInside, Deep, DeepBehind, DeepAsk}
+use Rattle.uc_depth_laws.specs.Owing.{Ex, entries, marks, marks_waiting, owed_waiting, owed_all, owed_at, Engaged, EngagedBy, EngagedSlot, EngagedParked, EngagedHand, EngagedMembers, Free, Redrawn, owed_slot, owed_parked, owed_hand, owed, owed_outside, owed_by, IsInside, Deep, DeepBehind, DeepAsk}
 use Rattle.uc_depth_laws.specs.DepthLaws.{LawFree, LawDrawn, LawInside}
 use Rattle.uc_depth_laws.proofs.Kept.{both, found_hand}
 use Rattle.uc_depth_laws.proofs.Depths.{own_one, counted_own, counted_least, counted_none, inside_of}
@@ -60,15 +62,25 @@ waiting_none q (a ∷ cs) l =
 
 -- what is not engaged owes nothing
 
-slot_none : (source : Source) (news : ℕ → Bool) (q : ℕ) (o : Option Ex) → EngagedSlot source news o → is_engaged o ≡ false → owed_slot q o ≡ 0
-slot_none source news q None h e = refl
-slot_none source news q (Some x) h e =
-    let none : entries x.links ≤ 0 = ltb-false 0 (entries x.links) e in
+ex_none : (source : Source) (news : ℕ → Bool) (q : ℕ) (x : Ex) → Engaged source news x → entries x.links ≤ 0 → owed_all q x ≡ 0
+ex_none source news q x h none =
     let l = h.engaged in
     let b = counted_least q x.run.this (marks x.run.control) 0 (omega (arith, l, none)) in
     let c = counted_none q x.run.this in
     let d = waiting_none q x.callers (omega (arith, l, none)) in
     omega (arith, b, c, d)
+
+slot_none : (source : Source) (news : ℕ → Bool) (q : ℕ) (o : Option Ex) → EngagedSlot source news o → is_engaged o ≡ false → owed_slot q o ≡ 0
+slot_none source news q None h e = refl
+slot_none source news q (Some x) h e = stage x.links.stage h
+  where
+    none : entries x.links ≤ 0
+    none = ltb-false 0 (entries x.links) e
+
+    stage : (g : Stage) → EngagedBy source news g x → owed_at g (owed_all q x) ≡ 0
+    stage Fresh h = ex_none source news q x h none
+    stage Started h = ex_none source news q x h none
+    stage Ended h = refl
 
 found_without : {X : Type 0} (q o : ℕ) (ds : List (ℕ × X)) → nat_eq o q ≡ false → find q (without o ds) ≡ find q ds
 found_without q o [] n = refl

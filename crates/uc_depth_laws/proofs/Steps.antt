@@ -1,5 +1,5 @@
 -- A quiet step of a task that is as deep as it is owed leads to such a one, or asks as one does.
-use Rattle.std.proofs.Common.{◌≡◌, ℕ, zero, suc, ◌+◌, ◌≤◌, ◌++◌, Bool, true, false, List, [], ◌∷◌, length, drop, Option, Some, None, refl, sym, subst, ap, ◌∙◌, arith}
+use Rattle.std.proofs.Common.{◌≡◌, ℕ, zero, suc, ◌+◌, ◌≤◌, ◌++◌, inl, Bool, true, false, List, [], ◌∷◌, length, drop, Option, Some, None, refl, sym, subst, ap, ◌∙◌, arith}
 use Rattle.std.specs.Prelude.{◌-◌, nat_eq, nat_lt, slice_get, if◌then◌else◌}
 use Rattle.std.proofs.lemmas.Bool.{eqb-true}
 use Rattle.uc_tree.specs.declared.limits.TheConstants.{PENDING_EVENTS}
@@ -30,12 +30,12 @@ use Rattle.uc_machine.specs.Quiet as quiet
 use Rattle.uc_machine.specs.Pieces as piece
 use Rattle.uc_machine.specs.Pieces.{Value, Number, Object, Nothing, Todo, Sort, Active, State, Env, Members, Step, Asks, Outcome, Gives, Faults, at, in_env, fault, asks, turns, top, below, number, written, object_in}
 use Rattle.uc_depth_laws.specs.Entering.{lets_go, holds_object, is_holding, is_building, EnteredExpr, EnteredObject, EnteredStmt, EnteredEvent, EnteredTask, EnteredHandlers, EnteredRoutine}
-use Rattle.uc_depth_laws.specs.Owing.{more, marks, counted, owed_by, marks_waiting, owed_waiting, Any, Skipped, CallOf, Bound, is_new, EnteredScope, EnteredWhole, Entered, IsNewFirst, AllEntered, entries, EngagedParked, EngagedHand, EngagedEnv, owed_parked, owed_own, owed_hand, owed_env, owed_first, owed, first_marks, depth_in, depth_at, IsInside, LetsGo, Unheld, Deep, DeepAlone, DeepAsk, DeepStep}
-use Rattle.uc_depth_laws.proofs.Depths.{own_one, more_most, true_false, whole_of, scope_none, none_new, called_new, still, counted_least, counted_one_less, counted_none, counted_own, none_first, none_marked, entered_first, called_marks, any_skipped, without_other, deeper_most, shallower_least, inside_of}
+use Rattle.uc_depth_laws.specs.Owing.{more, marks, counted, owed_by, marks_waiting, owed_waiting, Any, Skipped, CallOf, Bound, is_new, EnteredScope, EnteredWhole, Entered, IsNewFirst, AllEntered, entries, EngagedParked, EngagedHand, EngagedEnv, owed_parked, owed_own, owed_hand, owed_env, owed_first, owed, first_marks, depth_in, depth_at, IsInside, LetsGo, Unheld, Deep, DeepAlone, DeepAsk, DeepStep, Done}
+use Rattle.uc_depth_laws.proofs.Depths.{own_one, more_most, true_false, scope_none, none_new, called_new, still, counted_least, counted_one_less, counted_none, counted_own, none_first, none_marked, entered_first, called_marks, any_skipped, without_other, deeper_most, shallower_least, inside_of, any_done, done_first, done_marked, done_new}
 use Rattle.uc_depth_laws.proofs.Kept as kept
 use Rattle.uc_depth_laws.proofs.Kept.{either, Lighter}
 use Rattle.uc_depth_laws.proofs.TodoLists as lists
-use Rattle.uc_depth_laws.proofs.TodoLists.{Ok}
+use Rattle.uc_depth_laws.proofs.TodoLists.{Ok, OkDone}
 
 same_entries_less : (b : Bool) (l : Links) → entries (one_call_less b l) ≡ entries l
 same_entries_less true l = refl
@@ -60,27 +60,30 @@ module _ (source : Source) (news : ℕ → Bool) where
     new = is_new news s.run.this s.callers
 
     -- with other operands and something else to do, and with something lighter
-    pub go_in : (todo : List Todo) (vs : List Value) (e : Env) → Entered source new Any todo → marks todo ≤ many → Lighter source news s.env e → Deep source news (at todo vs (in_env e s))
-    go_in todo vs e h l x = record {
-      first = Any;
+    pub next_in : (todo : List Todo) (vs : List Value) (e : Env) → Entered source new Done todo → marks todo ≤ many → Lighter source news s.env e → Deep source news (at todo vs (in_env e s))
+    next_in todo vs e h l x = record {
+      first = Done;
       run = h;
-      new = none_new source new news s.run.this s.callers todo vs h;
+      new = done_new source new news s.run.this s.callers todo vs h;
       one = let c = b.one in omega (arith, c, l);
       callers = b.callers;
       env = x.env;
       engaged =
-          let a = none_marked source new todo h in
+          let a = done_marked source new todo h in
           let c = b.engaged in
           let d = x.entries in
           omega (arith, a, c, d, l);
       depths = λ q.
-          let a = none_first source new q todo vs h in
+          let a = done_first source new q todo vs h in
           let c = counted_least q s.run.this (marks todo) many l in
           let d = b.depths q in
           let f = x.owed q in
           let g = subst (λ ds. counted q s.run.this many + owed_waiting q s.callers + owed_env q s.env ≤ depth_in (find q ds)) (sym x.depths) d in
           omega (arith, a, c, f, g);
     }
+
+    pub go_in : (todo : List Todo) (vs : List Value) (e : Env) → Entered source new Any todo → marks todo ≤ many → Lighter source news s.env e → Deep source news (at todo vs (in_env e s))
+    go_in todo vs e h l x = next_in todo vs e (any_done source new todo h) l x
 
     pub plain : Lighter source news s.env s.env
     plain = kept.same source news s.env s.env b.env refl refl refl refl (omega arith)
@@ -93,6 +96,9 @@ module _ (source : Source) (news : ℕ → Bool) where
 
     pub go_ok : (todo : List Todo) (vs : List Value) → Ok source new many todo → Deep source news (at todo vs s)
     go_ok todo vs x = go todo vs x.list x.few
+
+    pub go_done : (todo : List Todo) (vs : List Value) → OkDone source new many todo → Deep source news (at todo vs s)
+    go_done todo vs x = next_in todo vs s.env x.list x.few plain
 
     -- with a request
     pub asked_in : (r : Request) (todo : List Todo) (vs : List Value) (e : Env) → (DeepAlone source news (at todo vs (in_env e s)) → DeepAsk source news r (at todo vs (in_env e s))) → LetsGo r s.env → Unheld r e → Entered source new Any todo → marks todo ≤ many → Lighter source news s.env e → DeepStep source news s.env (asks r todo vs (in_env e s))
@@ -197,6 +203,13 @@ module _ (source : Source) (news : ℕ → Bool) where
     none_first_new t todo n rc h =
         subst (λ y. IsNewFirst source news t.run.this t.callers y t.run.operands) (sym rc) (none_new source n news t.run.this t.callers todo t.run.operands h)
 
+    as_done : (t : State) (todo : List Todo) (n : Bool) → t.run.control ≡ todo → Entered source n Done todo → is_new news t.run.this t.callers ≡ n → Entered source (is_new news t.run.this t.callers) Done t.run.control
+    as_done t todo n rc h e = subst (λ c. Entered source c Done t.run.control) (sym e) (subst (Entered source n Done) (sym rc) h)
+
+    done_first_new : (t : State) (todo : List Todo) (n : Bool) → t.run.control ≡ todo → Entered source n Done todo → IsNewFirst source news t.run.this t.callers t.run.control t.run.operands
+    done_first_new t todo n rc h =
+        subst (λ y. IsNewFirst source news t.run.this t.callers y t.run.operands) (sym rc) (done_new source n news t.run.this t.callers todo t.run.operands h)
+
     -- the activation is left for one that waits, which may have a little more to do
     left : (a : Active) (cs : List Active) (todo : List Todo) (e : Env) → Entered source (is_new news a.this cs) Any a.control → marks a.control ≤ 1 → AllEntered source news cs → marks a.control + marks_waiting cs ≤ marks_waiting s.callers → ((q : ℕ) → owed_by q a + owed_waiting q cs ≤ owed_waiting q s.callers) → Lighter source news s.env e → (t : State) → t.run.control ≡ todo → Entered source (is_new news a.this cs) Any todo → marks todo ≤ marks a.control → t.run.this ≡ a.this → t.callers ≡ cs → t.env ≡ e → Deep source news t
     left a cs todo e h one c l m x t rc th tl rt tc te =
@@ -284,7 +297,7 @@ module _ (source : Source) (news : ℕ → Bool) where
     event_step : (a : EventStmt) (todo : List Todo) → EnteredEvent source a → Entered source new Any todo → marks todo ≤ many → DeepStep source news s.env (quiet.event_step a todo s)
     event_step (src.Throw line r) todo n h l = go_ok _ _ (lists.raised source new many r _ n (tt, (tt, h)) l)
     event_step (src.Raise line r) todo n h l = go_ok _ _ (lists.raised source new many r _ n (tt, (tt, h)) l)
-    event_step (src.Try line body hs) todo n h l = go _ _ (whole_of source new body n.0, (n.1, (tt, h))) (still source body (marks todo) many n.0 l)
+    event_step (src.Try line body hs) todo n h l = go _ _ (n.0, (n.1, (tt, h))) (still source body (marks todo) many n.0 l)
     event_step (src.RaiseAt line r a) todo n h l = go_ok _ _ (lists.raised source new many r _ n.0 (n.1, (tt, (tt, h))) l)
     event_step (src.Enable line events cell a) todo n h l = go _ _ (tt, (tt, (n, ((tt, λ f. cc), (tt, h))))) l
     event_step (src.Disable line events cell a) todo n h l = go _ _ (tt, (n, ((tt, λ f. cc), (tt, h)))) l
@@ -301,8 +314,8 @@ module _ (source : Source) (news : ℕ → Bool) where
 
     pub stmt : (a : Stmt) (todo : List Todo) → EnteredStmt source a → Entered source new Any todo → marks todo ≤ many → DeepStep source news s.env (quiet.stmt_step a todo s)
     stmt (src.Skip line) todo n h l = go _ _ h l
-    stmt (src.Block line body) todo n h l = go _ _ (whole_of source new body n, (tt, h)) (still source body (marks todo) many n l)
-    stmt (src.Whole line body) todo n h l = go _ _ (whole_of source new body n, (tt, (tt, h))) (still source body (marks todo) many n l)
+    stmt (src.Block line body) todo n h l = go _ _ (n, (tt, h)) (still source body (marks todo) many n l)
+    stmt (src.Whole line body) todo n h l = go _ _ (n, (tt, (tt, h))) (still source body (marks todo) many n l)
     stmt (src.Evaluate line a) todo n h l = go _ _ (n, (tt, (tt, h))) l
     stmt (src.Declare line ds) todo n h l = go _ _ (n, (tt, h)) l
     stmt (src.Print line items) todo n h l = go _ _ (n, (tt, h)) l
@@ -321,9 +334,9 @@ module _ (source : Source) (news : ℕ → Bool) where
 
     pub rest : (ss : Stmts) (todo : List Todo) → EnteredWhole source new ss → Entered source new Any todo → more (holds_object ss) (marks todo) ≤ many → DeepStep source news s.env (quiet.rest_step ss todo s)
     rest src.Nil todo n h l = go _ _ h l
-    rest (src.Then a ss) todo n h l = go _ _ (n.0.0, (whole_of source new ss n.0.1, h)) (still source ss (marks todo) many n.0.1 l)
-    rest (src.Scoped c ss) todo n h l = go _ _ (whole_of source new ss n.0.1, ((n.0.0, n.1), h)) (still source ss (more (lets_go c) (marks todo)) many n.0.1 l)
-    rest (src.Built c ss) todo n h l = go _ _ (whole_of source new ss n.0.2, ((n.0.0, n.0.1), h)) (still source ss (marks todo) many n.0.2 l)
+    rest (src.Then a ss) todo n h l = go _ _ (n.0.0, (n.0.1, h)) (still source ss (marks todo) many n.0.1 l)
+    rest (src.Scoped c ss) todo n h l = go _ _ (n.0.1, ((n.0.0, n.1), h)) (still source ss (more (lets_go c) (marks todo)) many n.0.1 l)
+    rest (src.Built c ss) todo n h l = go _ _ (n.0.2, ((n.0.0, n.0.1), h)) (still source ss (marks todo) many n.0.2 l)
 
     -- coroutines
 
@@ -521,7 +534,7 @@ module _ (source : Source) (news : ℕ → Bool) where
 
     pend : (n : Exec) (e : Event) (todo : List Todo) (vs : List Value) → Entered source new Any todo → marks todo ≤ many → DeepStep source news s.env (polls.pend_step n e todo vs s)
     pend n e todo vs h l =
-        either (DeepStep source news s.env) (nat_lt (length (inside.pending_at n s.env)) PENDING_EVENTS) _ _ (go_in _ _ _ h l (kept.with_links_lighter source news (λ k. record k { pending = k.pending ++ (record { event = e.number; x = e.x; y = e.y }) ∷ [] }) (λ k. omega arith) n s.env b.env)) (stop TooManyPending todo vs)
+        either (DeepStep source news s.env) (nat_lt (length (inside.pending_at n s.env)) PENDING_EVENTS) _ _ (go_in _ _ _ h l (kept.with_links_lighter source news (λ k. record k { pending = k.pending ++ (record { event = e.number; x = e.x; y = e.y }) ∷ [] }) (record { counts = λ k. omega arith; stage = λ k. inl refl }) n s.env b.env)) (stop TooManyPending todo vs)
 
     pend_at : (o : Option Exec) (e : Event) (todo : List Todo) (vs : List Value) → Entered source new Any todo → marks todo ≤ many → DeepStep source news s.env (polls.pend_at o e todo vs s)
     pend_at None e todo vs h l = stop NotLive todo vs
@@ -552,11 +565,11 @@ module _ (source : Source) (news : ℕ → Bool) where
     deliver v todo h l = go _ _ (tt, (tt, h)) l
 
     -- the running activation somewhat changed, but for its object
-    like : (t : State) (u : State) → Deep source news t → u.run.control ≡ t.run.control → u.run.this ≡ t.run.this → u.callers ≡ t.callers → u.env ≡ t.env → Entered source (is_new news t.run.this t.callers) Any t.run.control → Deep source news u
+    like : (t : State) (u : State) → Deep source news t → u.run.control ≡ t.run.control → u.run.this ≡ t.run.this → u.callers ≡ t.callers → u.env ≡ t.env → Entered source (is_new news t.run.this t.callers) Done t.run.control → Deep source news u
     like t u h rc rt tc te alone = record {
-      first = Any;
-      run = as_it_is u t.run.control (is_new news t.run.this t.callers) rc alone (ap (λ (v : Value). is_new news v u.callers) rt ∙ ap (λ (l : List Active). is_new news t.run.this l) tc);
-      new = none_first_new u t.run.control (is_new news t.run.this t.callers) rc alone;
+      first = Done;
+      run = as_done u t.run.control (is_new news t.run.this t.callers) rc alone (ap (λ (v : Value). is_new news v u.callers) rt ∙ ap (λ (l : List Active). is_new news t.run.this l) tc);
+      new = done_first_new u t.run.control (is_new news t.run.this t.callers) rc alone;
       one = let c = ap marks rc in let d = h.one in omega (arith, c, d);
       callers = subst (AllEntered source news) (sym tc) h.callers;
       env = subst (EngagedEnv source news) (sym te) h.env;
@@ -568,7 +581,7 @@ module _ (source : Source) (news : ℕ → Bool) where
           let a6 = h.engaged in
           omega (arith, a2, a3, a4, a5, a6);
       depths = λ q.
-          let a1 = none_first source (is_new news t.run.this t.callers) q t.run.control u.run.operands alone in
+          let a1 = done_first source (is_new news t.run.this t.callers) q t.run.control u.run.operands alone in
           let a2 = ap (λ (y : List Todo). owed_first source q y u.run.operands) rc in
           let a3 = ap (λ (y : List Todo). counted q u.run.this (marks y)) rc in
           let a4 = ap (λ (v : Value). counted q v (marks t.run.control)) rt in
@@ -580,8 +593,11 @@ module _ (source : Source) (news : ℕ → Bool) where
     }
 
     -- with this to do, for whatever reason it is unwound and with whatever operands
+    changed_next : (todo : List Todo) (u : State) → Entered source new Done todo → marks todo ≤ many → u.run.control ≡ todo → u.run.this ≡ s.run.this → u.callers ≡ s.callers → u.env ≡ s.env → Deep source news u
+    changed_next todo u h l rc rt tc te = like (at todo [] s) u (next_in todo [] s.env h l plain) rc rt tc te h
+
     changed : (todo : List Todo) (u : State) → Entered source new Any todo → marks todo ≤ many → u.run.control ≡ todo → u.run.this ≡ s.run.this → u.callers ≡ s.callers → u.env ≡ s.env → Deep source news u
-    changed todo u h l rc rt tc te = like (at todo [] s) u (go todo [] h l) rc rt tc te h
+    changed todo u h l rc rt tc te = changed_next todo u (any_done source new todo h) l rc rt tc te
 
     pub throws : (e : Event) (todo : List Todo) → Entered source new Any todo → marks todo ≤ many → DeepStep source news s.env (raising.throw_step e todo s)
     throws e todo h l = changed (piece.Unwind ∷ todo) _ (tt, any_skipped source new todo h) l refl refl refl refl
@@ -634,8 +650,8 @@ module _ (source : Source) (news : ℕ → Bool) where
     whole false todo h l = go _ _ (tt, any_skipped source new todo h) l
 
     scope : (c : CleanUp) (d : Bool) (todo : List Todo) → EnteredScope source new c → Entered source new Any todo → more (lets_go c) (marks todo) ≤ many → DeepStep source news s.env (raising.scope_left c d todo s)
-    scope src.Leaves true todo n h l = changed (piece.LeaveNow ∷ (piece.Exit src.ToReturn ∷ todo)) _ (tt, (tt, any_skipped source new todo h)) l refl refl refl refl
-    scope c d todo n h l = go_ok (raising.left_todo c (piece.Unwind ∷ todo)) [] (lists.left_cleans source new many c (piece.Unwind ∷ todo) n (tt, any_skipped source new todo h) l)
+    scope src.Leaves true todo n h l = changed_next (piece.LeaveNow ∷ (piece.Exit src.ToReturn ∷ todo)) _ (tt, (tt, any_skipped source new todo h)) l refl refl refl refl
+    scope c d todo n h l = go_done (raising.left_todo c (piece.Unwind ∷ todo)) [] (lists.left_cleans source new many c (piece.Unwind ∷ todo) n (tt, any_skipped source new todo h) l)
 
     main_left : (o : Option UnwindReason) (todo : List Todo) → Entered source new Any todo → marks todo ≤ many → DeepStep source news s.env (raising.main_left o todo s)
     main_left (Some (reason.ReturnTo n)) todo h l = changed (piece.Finish ∷ todo) _ (tt, h) l refl refl refl refl
@@ -655,7 +671,7 @@ module _ (source : Source) (news : ℕ → Bool) where
     unwind_past (piece.IsSweep e) todo n l = go _ _ (n.0, (tt, any_skipped source new todo n.1)) l
     unwind_past (piece.IsPart c) todo n l =
         let e : more (lets_go c) (marks todo) ≡ marks todo = ap (λ d. more d (marks todo)) n.0.0 in
-        go_ok _ _ (lists.cleans source new many c (piece.Unwind ∷ todo) (n.0.1, λ f. scope_none c n.0.0 f) (tt, any_skipped source new todo n.1) (omega (arith, e, l)))
+        go_done _ _ (lists.cleans source new many c (piece.Unwind ∷ todo) (n.0.1, λ f. scope_none c n.0.0 f) (tt, any_skipped source new todo n.1) (omega (arith, e, l)))
     unwind_past (piece.IsGuard hs) todo n l = guarded hs s.run.raised todo n.0 n.1 l
     unwind_past piece.IsFinish todo n l = main_left s.run.raised todo n.1 l
     unwind_past piece.IsFinishCoroutine todo n l = coroutine_left s.run.raised todo n.1 l

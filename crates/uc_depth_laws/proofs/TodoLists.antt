@@ -12,13 +12,18 @@ use Rattle.uc_machine.specs.Quiet as quiet
 use Rattle.uc_machine.specs.Pieces as piece
 use Rattle.uc_machine.specs.Pieces.{Value, Todo, Sort, Active}
 use Rattle.uc_depth_laws.specs.Entering.{lets_go, holds_object, EnteredExpr, EnteredMaybe, EnteredItem, EnteredClean, EnteredRaised, EnteredStmt, EnteredStmts, EnteredBody, EnteredHandlers, EnteredClauses}
-use Rattle.uc_depth_laws.specs.Owing.{owes, more, marks, Any, Skipped, next, is_new, EnteredScope, Allowed, Entered, AllEntered, Engaged, owed_ex}
-use Rattle.uc_depth_laws.proofs.Depths.{more_least, whole_of, building_none, still, counted_least, counted_none, any_skipped, call_skipped}
+use Rattle.uc_depth_laws.specs.Owing.{owes, more, marks, Any, Skipped, next, is_new, EnteredScope, Allowed, Entered, AllEntered, Engaged, owed_ex, Done}
+use Rattle.uc_depth_laws.proofs.Depths.{more_least, whole_of, building_none, still, counted_least, counted_none, any_skipped, call_skipped, stmts_of}
 use Rattle.uc_depth_laws.proofs.Kept.{either}
 
 -- what stands first in a list with so many marks
 pub record Ok (source : Source) (new : Bool) (n : ℕ) (todo : List Todo) : Type 0 where
   pub list : Entered source new Any todo
+  pub few : marks todo ≤ n
+
+-- of which the first piece is done next
+pub record OkDone (source : Source) (new : Bool) (n : ℕ) (todo : List Todo) : Type 0 where
+  pub list : Entered source new Done todo
   pub few : marks todo ≤ n
 
 module _ (source : Source) where
@@ -181,9 +186,9 @@ module _ (source : Source) (new : Bool) where
     raised (src.AgainFrom c) todo k h l = record { list = (tt, (tt, (tt, h))); few = l }
 
     pub handled : (x : Handler) (todo : List Todo) → EnteredStmts source x.body → Entered source new Any todo → marks todo ≤ n → Ok source new n (raising.handler_todo x todo)
-    handled x todo k h l = record { list = (tt, (tt, (tt, (tt, (tt, (tt, (whole_of source new x.body k, (tt, h)))))))); few = still source x.body (marks todo) n k l }
+    handled x todo k h l = record { list = (tt, (tt, (tt, (tt, (tt, (tt, (k, (tt, h)))))))); few = still source x.body (marks todo) n k l }
 
-    pub cleans : (c : CleanUp) (todo : List Todo) → EnteredScope source new c → Entered source new Any todo → more (lets_go c) (marks todo) ≤ n → Ok source new n (piece.clean_todo c todo)
+    pub cleans : (c : CleanUp) (todo : List Todo) → EnteredScope source new c → Entered source new Any todo → more (lets_go c) (marks todo) ≤ n → OkDone source new n (piece.clean_todo c todo)
     cleans (src.Destroys e) todo k h l = record { list = (k.0, (tt, h)); few = l }
     cleans (src.DestroysAll m e) todo k h l = record { list = (tt, (k.0, h)); few = l }
     cleans src.Unwinds todo k h l = record { list = (tt, h); few = l }
@@ -194,7 +199,7 @@ module _ (source : Source) (new : Bool) where
     cleans (src.Frees (Some r)) todo k h l = record { list = ((k.1 refl, k.0.0), h); few = l }
     cleans (src.Restores c) todo k h l = record { list = (tt, h); few = l }
 
-    pub left_cleans : (c : CleanUp) (todo : List Todo) → EnteredScope source new c → Entered source new Any todo → more (lets_go c) (marks todo) ≤ n → Ok source new n (raising.left_todo c todo)
+    pub left_cleans : (c : CleanUp) (todo : List Todo) → EnteredScope source new c → Entered source new Any todo → more (lets_go c) (marks todo) ≤ n → OkDone source new n (raising.left_todo c todo)
     left_cleans (src.Frees r) todo k h l = record { list = (k.1 refl, h); few = l }
     left_cleans c todo k h l = cleans c todo k h l
 
@@ -253,4 +258,4 @@ module _ (source : Source) (news : ℕ → Bool) where
   main_engaged r this n e =
       let l = routine_marks source false r in
       let z : more (holds_object r.body) 0 ≡ 0 = ap (λ c. more c 0) e in
-      record { run = ((n, λ f. building_none r.body e f), (behind source (is_new news this []) r.purpose r.line).list); one = omega (arith, l, z); callers = tt; engaged = omega (arith, l, z) }
+      record { run = (stmts_of source r.body e n, (behind source (is_new news this []) r.purpose r.line).list); one = omega (arith, l, z); callers = tt; engaged = omega (arith, l, z) }

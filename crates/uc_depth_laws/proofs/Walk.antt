@@ -12,12 +12,12 @@ use Rattle.uc_machine.specs.Quiet as quiet
 use Rattle.uc_machine.specs.Pieces as piece
 use Rattle.uc_machine.specs.Pieces.{Value, Todo, Active, State, Step, at, top, below, number, object_in}
 use Rattle.uc_depth_laws.specs.Entering.{EnteredSource}
-use Rattle.uc_depth_laws.specs.Owing.{marks, First, Any, Skipped, CallOf, Bound, next, is_new, owed_waiting, EnteredPiece, Allowed, Entered, owed, DeepAlone, Deep, DeepStep, FairAt, Fair}
-use Rattle.uc_depth_laws.proofs.Depths.{both_hold}
+use Rattle.uc_depth_laws.specs.Owing.{marks, First, Any, Skipped, CallOf, Bound, next, is_new, owed_waiting, EnteredPiece, Allowed, Entered, owed, DeepAlone, Deep, DeepStep, FairAt, Fair, Done, EnteredNext}
+use Rattle.uc_depth_laws.proofs.Depths.{both_hold, piece_next}
 use Rattle.uc_depth_laws.proofs.Kept as kept
 use Rattle.uc_depth_laws.proofs.Kept.{either}
 use Rattle.uc_depth_laws.proofs.TodoLists as lists
-use Rattle.uc_depth_laws.proofs.TodoLists.{Ok}
+use Rattle.uc_depth_laws.proofs.TodoLists.{Ok, OkDone}
 use Rattle.uc_depth_laws.proofs.Standing.{all_owed}
 use Rattle.uc_depth_laws.proofs.Steps as steps
 use Rattle.uc_depth_laws.proofs.Steps.{Budget}
@@ -54,8 +54,11 @@ module _ (source : Source) (news : ℕ → Bool) (known : EnteredSource source) 
     go_ok : (todo : List Todo) (vs : List Value) → Ok source new (marks s.run.control) todo → Deep source news (at todo vs s)
     go_ok todo vs x = steps.go_ok source news s (marks s.run.control) b todo vs x
 
+    go_done : (todo : List Todo) (vs : List Value) → OkDone source new (marks s.run.control) todo → Deep source news (at todo vs s)
+    go_done todo vs x = steps.go_done source news s (marks s.run.control) b todo vs x
+
     -- one piece, with what is to do behind it
-    acts : (p : Todo) (todo : List Todo) → s.run.control ≡ p ∷ todo → EnteredPiece source new p → Entered source new (next p) todo → marks (p ∷ todo) ≤ marks s.run.control → FairAt source (p ∷ todo) s → DeepStep source news s.env (quiet.act source p todo s)
+    acts : (p : Todo) (todo : List Todo) → s.run.control ≡ p ∷ todo → EnteredNext source new p → Entered source new (next p) todo → marks (p ∷ todo) ≤ marks s.run.control → FairAt source (p ∷ todo) s → DeepStep source news s.env (quiet.act source p todo s)
     acts (piece.Eval a) todo c n h l f = steps.eval source news s (marks s.run.control) b a todo n h l
     acts (piece.ElementNow m k) todo c n h l f = steps.element source news s (marks s.run.control) b k _ todo _ _ h l
     acts piece.NegateNow todo c n h l f = steps.outcome source news s (marks s.run.control) b _ todo _ h l
@@ -99,7 +102,7 @@ module _ (source : Source) (news : ℕ → Bool) (known : EnteredSource source) 
     acts (piece.InLoop o t e d) todo c n h l f =
         let x = lists.tested source new (marks s.run.control) o t e d todo n.0 n.1 n.2 h l in
         go_ok _ _ (lists.stepped source new (marks s.run.control) e _ n.1 x.list x.few)
-    acts (piece.Clean x) todo c n h l f = go_ok _ _ (lists.cleans source new (marks s.run.control) x todo n h l)
+    acts (piece.Clean x) todo c n h l f = go_done _ _ (lists.cleans source new (marks s.run.control) x todo n h l)
     acts (piece.Sweep e) todo c n h l f = steps.swept source news s (marks s.run.control) b s.run.elements e todo n h l
     acts piece.Unwind todo c n h l f = steps.unwinds source news s (marks s.run.control) b todo h l
     acts piece.ThrowNow todo c n h l f = steps.throws source news s (marks s.run.control) b (raising.event_in s.run.operands) todo h l
@@ -150,10 +153,11 @@ module _ (source : Source) (news : ℕ → Bool) (known : EnteredSource source) 
 
     -- whatever may stand first
     starts : (g : First) (p : Todo) (todo : List Todo) → s.run.control ≡ p ∷ todo → Allowed source new g p → Entered source new (next p) todo → FairAt source (p ∷ todo) s → DeepStep source news s.env (quiet.act source p todo s)
-    starts Any p todo c n h f = acts p todo c n h (let a = ap marks c in omega (arith, a)) f
+    starts Any p todo c n h f = acts p todo c (piece_next source new p n) h (let a = ap marks c in omega (arith, a)) f
+    starts Done p todo c n h f = acts p todo c n h (let a = ap marks c in omega (arith, a)) f
     starts Skipped (piece.CallOnNow r) todo c n h f = calls.call_on source news known s deep r todo c h (slice_get source.routines r) refl
     starts Skipped (piece.CallUnwrittenNow r) todo c n h f = calls.call_unwritten source news known s deep r todo c h (slice_get source.routines r) refl
-    starts Skipped p todo c n h f = acts p todo c n h (let a = ap marks c in omega (arith, a)) f
+    starts Skipped p todo c n h f = acts p todo c (piece_next source new p n) h (let a = ap marks c in omega (arith, a)) f
     starts (CallOf k) (piece.CallOnNow r) todo c n h f = calls.call_on source news known s deep r todo c h (slice_get source.routines r) refl
     starts (CallOf k) (piece.CallUnwrittenNow r) todo c n h f = calls.call_unwritten source news known s deep r todo c h (slice_get source.routines r) refl
     starts (CallOf k) p todo c n h f = absurd n

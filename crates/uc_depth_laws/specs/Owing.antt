@@ -5,13 +5,15 @@ use Rattle.uc_tree.specs.Source.{CleanUp, Stmts, Source, routine_of}
 use Rattle.uc_entry.specs.Keyed.{find}
 use Rattle.uc_entry.specs.declared.request.Request.{Request}
 use Rattle.uc_entry.specs.declared.request.Request.TheVariants as ask
+use Rattle.uc_machine.specs.declared.exec.Stage.{Stage}
+use Rattle.uc_machine.specs.declared.exec.Stage.TheVariants.{Fresh, Started, Ended}
 use Rattle.uc_machine.specs.Executions.{Links, Execution}
 use Rattle.uc_machine.specs.Insides.{is_held_up}
 use Rattle.uc_machine.specs.Switches.{without}
 use Rattle.uc_machine.specs.Monitors.{this_object}
 use Rattle.uc_machine.specs.Pieces as piece
 use Rattle.uc_machine.specs.Pieces.{Value, Todo, Active, State, Env, Members, Step, Goes, Ticks, Asks, at, top, below, object_in}
-use Rattle.uc_depth_laws.specs.Entering.{lets_go, frees, holds_object, frees_object, is_holding, is_building, EnteredExpr, EnteredExprs, EnteredMaybe, EnteredItems, EnteredTargets, EnteredDeclared, EnteredClean, EnteredStmt, EnteredBody, EnteredHandlers, EnteredClauses}
+use Rattle.uc_depth_laws.specs.Entering.{lets_go, frees, holds_object, frees_object, is_holding, is_building, EnteredExpr, EnteredExprs, EnteredMaybe, EnteredItems, EnteredTargets, EnteredDeclared, EnteredClean, EnteredStmt, EnteredStmts, EnteredBody, EnteredHandlers, EnteredClauses}
 
 abbrev pub Ex : Type 0
 Ex = Execution (List Todo) Value
@@ -54,10 +56,12 @@ abbrev pub owed_waiting : ℕ → List Active → ℕ
 owed_waiting q [] = 0
 owed_waiting q (a ∷ rest) = owed_by q a + owed_waiting q rest
 
--- what may stand first in a list: any piece, but for a call of a routine that holds its object; behind what leaves all pieces any call;
--- behind what has entered an object the call of this routine alone; or what binds a new object
+-- what may stand first in a list: any piece, but for a call of a routine that holds its object, and for what lets go of the object of the
+-- activation; that too where it is done next; behind what leaves all pieces any call; behind what has entered an object the call of this routine
+-- alone; or what binds a new object
 pub data First : Type 0 where
   Any : First
+  Done : First
   Skipped : First
   CallOf : ℕ → First
   Bound : First
@@ -113,7 +117,7 @@ module _ (source : Source) (new : Bool) where
   EnteredPiece (piece.Targets xs) = EnteredTargets source xs
   EnteredPiece (piece.Variables ds) = EnteredDeclared source ds
   EnteredPiece (piece.Do a) = EnteredStmt source a
-  EnteredPiece (piece.Rest ss) = EnteredWhole ss
+  EnteredPiece (piece.Rest ss) = EnteredStmts source ss
   EnteredPiece (piece.InLoop o t e b) = EnteredExpr source t × EnteredMaybe source e × EnteredStmt source b
   EnteredPiece (piece.Clean c) = EnteredScope c
   EnteredPiece (piece.Sweep e) = EnteredExpr source e
@@ -121,17 +125,30 @@ module _ (source : Source) (new : Bool) where
   EnteredPiece (piece.Guard hs) = EnteredHandlers source hs
   EnteredPiece (piece.SetUpNow r) = is_holding source r ≡ false
   EnteredPiece (piece.EnterNow m r) = is_building source r ≡ false
-  EnteredPiece piece.MadeNow = new ≡ true
-  EnteredPiece (piece.SpawnNow r) = (new ≡ true) × (is_holding source r ≡ false)
-  EnteredPiece piece.GiveUpNow = new ≡ true
+  EnteredPiece piece.LeaveNow = ⊥
+  EnteredPiece piece.MadeNow = ⊥
+  EnteredPiece (piece.SpawnNow r) = ⊥
+  EnteredPiece piece.GoneNow = ⊥
+  EnteredPiece piece.GiveUpNow = ⊥
   EnteredPiece (piece.ChildNow r) = is_holding source r ≡ false
   EnteredPiece (piece.BindMadeNow c r) = ⊥
   EnteredPiece (piece.Guards cs) = EnteredClauses source cs
   EnteredPiece (piece.ChooseNow cs) = EnteredClauses source cs
   EnteredPiece p = Unit {0}
 
+  -- what is done next may be a routine that begins, or what lets go of the object
+  abbrev pub EnteredNext : Todo → Type 0
+  EnteredNext (piece.Rest ss) = EnteredWhole ss
+  EnteredNext piece.LeaveNow = Unit {0}
+  EnteredNext piece.MadeNow = new ≡ true
+  EnteredNext (piece.SpawnNow r) = (new ≡ true) × (is_holding source r ≡ false)
+  EnteredNext piece.GoneNow = Unit {0}
+  EnteredNext piece.GiveUpNow = new ≡ true
+  EnteredNext p = EnteredPiece p
+
   abbrev pub Allowed : First → Todo → Type 0
   Allowed Any p = EnteredPiece p
+  Allowed Done p = EnteredNext p
   Allowed Skipped (piece.CallOnNow k) = Unit {0}
   Allowed Skipped (piece.CallUnwrittenNow k) = Unit {0}
   Allowed Skipped p = EnteredPiece p
@@ -183,9 +200,14 @@ module _ (source : Source) (news : ℕ → Bool) where
     pub callers : AllEntered x.callers
     pub engaged : marks x.run.control + marks_waiting x.callers ≤ entries x.links
 
+  -- of one that has ended nothing is asked: it never goes on
+  abbrev pub EngagedBy : Stage → Ex → Type 0
+  EngagedBy Ended x = Unit {0}
+  EngagedBy g x = Engaged x
+
   abbrev pub EngagedSlot : Option Ex → Type 0
   EngagedSlot None = Unit {0}
-  EngagedSlot (Some x) = Engaged x
+  EngagedSlot (Some x) = EngagedBy x.links.stage x
 
   abbrev pub EngagedParked : List (ℕ × Option Ex) → Type 0
   EngagedParked [] = Unit {0}
@@ -204,10 +226,19 @@ module _ (source : Source) (news : ℕ → Bool) where
     pub house : EngagedParked e.house.parked
     pub hand : EngagedHand e.hand
 
--- what is owed to q by an execution that does not run, by all in a list, in hand, and of a task
+-- what is owed to q by the activations of an execution
+abbrev pub owed_all : ℕ → Ex → ℕ
+owed_all q x = owed_by q x.run + owed_waiting q x.callers
+
+-- one that has ended owes nothing, since it never goes on
+abbrev pub owed_at : Stage → ℕ → ℕ
+owed_at Ended n = 0
+owed_at g n = n
+
+-- what is owed by an execution that does not run, by all in a list, in hand, and of a task
 
 abbrev pub owed_ex : ℕ → Ex → ℕ
-owed_ex q x = owed_by q x.run + owed_waiting q x.callers
+owed_ex q x = owed_at x.links.stage (owed_all q x)
 
 abbrev pub owed_slot : ℕ → Option Ex → ℕ
 owed_slot q None = 0

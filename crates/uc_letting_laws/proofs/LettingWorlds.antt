@@ -66,7 +66,7 @@ use Rattle.uc_inner_laws.specs.Standing.{StandsState, StandsAsk, StandsStep, Sta
 use Rattle.uc_inner_laws.specs.InnerLaws.{IsAt}
 use Rattle.uc_inner_laws.proofs.Walk.{law_steps as inner_steps, law_is_inside, law_fair}
 use Rattle.uc_letting_laws.specs.AloneRuns.{AskAlone, RideAlone, MayAlone, RunAlone}
-use Rattle.uc_letting_laws.specs.LettingLaws.{AsksInHand, OwnersFit, LawInHand, LawOwners}
+use Rattle.uc_letting_laws.specs.LettingLaws.{AsksInHand, OwnersFit, LeavesFree, LawInHand, LawOwners, LawLeaving}
 use Rattle.uc_letting_laws.proofs.StandingWorlds.{Binds, no_binding, IsApart, StandingWorld, found_has, standing_start, standing_act, standing_given, standing_begin}
 use Rattle.uc_hand_laws.specs.Deep as deep
 use Rattle.uc_hand_laws.specs.Deep.{deep_in}
@@ -241,7 +241,7 @@ module _ (part : ℕ → Part) (source : Source) (entered : EnteredSource source
 
   module _ (news : ℕ → Bool) (mine : news own ≡ false) where
     -- nothing else is owed to what is let go of
-    sole : (s : State) → Alone source s → Deep source news s → StandsState part source own s → Sole source s
+    pub sole : (s : State) → Alone source s → Deep source news s → StandsState part source own s → Sole source s
     sole s f d v = law_alone source news s d (ap news v.own ∙ mine) f
 
     pub ride_owes : (ks : List ℕ) (s : State) (q : ℕ) (u : State) (k : ℕ) (a : Asked) (r : Rides source s q u k a) → RideAlone source s q u k a r → Deep source news s → StandsState part source own s → deep_in s ≡ ks → RideOwes news ks a.request u
@@ -342,7 +342,7 @@ module _ (part : ℕ → Part) (source : Source) (entered : EnteredSource source
     suits (ask.Fault k) f h n = absurd h
     suits q f h n = (h, tt)
 
-    start : Deep source (new_for t j) (answered source d.given (drawn j w t))
+    pub start : Deep source (new_for t j) (answered source d.given (drawn j w t))
     start =
         let y = suits mine.request mine.form mine.rests mine.brings in
         steps.told source (new_for t j) mine.request d.given (drawn j w t) y.0 y.1
@@ -383,6 +383,14 @@ module _ (part : ℕ → Part) (source : Source) (entered : EnteredSource source
           by (ask.Spawn o) h = new_unowned t j o h.1
           by (ask.Raise o event a b) h = x.single o
           by q h = tt
+
+      leaves_free : LeavesFree (own_object t j) asked.request s
+      leaves_free = by asked.request owes.stands owes.apart
+        where
+          by : (q : Request) → StandsAsk part source (own_object t j) q s → IsApart q s → LeavesFree (own_object t j) q s
+          by (ask.Gone o) h k = k
+          by ask.End h k = h.1
+          by q h k = tt
 
       hand : keys s.env.hand ≡ held t j
       hand = (asks_with source input opts range r going p t n s asked d).hand
@@ -711,9 +719,9 @@ module _ (part : ℕ → Part) (source : Source) (entered : EnteredSource source
       given_brings u q n = tt
 
   -- both go on to hold
-  record Both (j : Journal) (w : World) : Type 0 where
-    owing : OwingWorld source j w
-    standing : StandingWorld part source j w
+  pub record Both (j : Journal) (w : World) : Type 0 where
+    pub owing : OwingWorld source j w
+    pub standing : StandingWorld part source j w
 
   both_may : {j : Journal} {w : World} {a : List Entry} {v : World} → RunRests source input opts j w → is_over j ≡ false → DeepWorld j w → Both j w → (m : May source opts input j w a v) → MayFit source opts input j w a v m → MayAlone source opts input j w a v m → is_over (j ++ a) ≡ false → Both (j ++ a) v
   both_may r o e x (gives p t s le) f g on = record { owing = owing_given p t r s x.owing; standing = standing_given part source inner entered.ends input opts range p t r s x.standing }
@@ -745,7 +753,7 @@ module _ (part : ℕ → Part) (source : Source) (entered : EnteredSource source
     free = λ o h. either (FreeMembers source) (o == 0) (Some (quiet.zeros 0)) None free_none tt;
   }
 
-  both_run : {j : Journal} {w : World} → (r : Runs source input opts j w) → RunFits source input opts j w r → RunAlone source input opts j w r → is_over j ≡ false → Both j w
+  pub both_run : {j : Journal} {w : World} → (r : Runs source input opts j w) → RunFits source input opts j w r → RunAlone source input opts j w r → is_over j ≡ false → Both j w
   both_run begun f g on = record { owing = owing_begin; standing = standing_begin part source inner entered.ends input opts range }
   both_run (more r o m) f g on =
       both_may (run_rests source input opts range r f.0 o) o (deep_run source input opts range r f.0 o) (both_run r f.0 g.0 o) m f.1 g.1 on
@@ -761,6 +769,11 @@ module _ (part : ℕ → Part) (source : Source) (entered : EnteredSource source
         let x = both_run r f g on in
         owners_fit (run_rests source input opts range r f on) on (deep_run source input opts range r f on) x.owing x.standing p t n s asked d alone
 
+    pub leaving_in_run : LeavesFree (own_object t j) asked.request s
+    leaving_in_run =
+        let x = both_run r f g on in
+        leaves_free (run_rests source input opts range r f on) on (deep_run source input opts range r f on) x.owing x.standing p t n s asked d alone
+
 pub law_in_hand : LawInHand
 law_in_hand part source entered inner input opts j w r range f g on p t n s asked d alone =
     in_hand_in_run part source entered inner law_steps law_free law_drawn input opts range r f g on p t n s asked d alone
@@ -768,3 +781,7 @@ law_in_hand part source entered inner input opts j w r range f g on p t n s aske
 pub law_owners : LawOwners
 law_owners part source entered inner input opts j w r range f g on p t n s asked d alone =
     owners_in_run part source entered inner law_steps law_free law_drawn input opts range r f g on p t n s asked d alone
+
+pub law_leaving : LawLeaving
+law_leaving part source entered inner input opts j w r range f g on p t n s asked d alone =
+    leaving_in_run part source entered inner law_steps law_free law_drawn input opts range r f g on p t n s asked d alone

@@ -9,6 +9,8 @@ use Rattle.uc_entry.specs.declared.request.Request.TheVariants as ask
 use Rattle.uc_acts.specs.Journal.{Journal, own_object, is_over}
 use Rattle.uc_acts.specs.Known.{has, owner}
 use Rattle.uc_acts.specs.KernelRuns.{InRange}
+use Rattle.uc_machine.specs.declared.exec.Home.TheVariants as home
+use Rattle.uc_machine.specs.Insides.{is_held_up}
 use Rattle.uc_machine.specs.Quiet.{State}
 use Rattle.uc_meaning.specs.Runs.{World, Runs, AsksIn}
 use Rattle.uc_step_laws.specs.Hands.{keys}
@@ -40,7 +42,7 @@ OwnersFit j r = Unit {0}
 
 -- of what a task asks in a run in which all that was asked so far fits, where objects are entered by their calls, code waits, signals and
 -- accepts only where its task is inside, and tasks have mains, as long as nothing else is owed to what is let go of
-abbrev pub OfAsked : (Journal → ℕ → List ℕ → Request → Type 0) → Type 0
+abbrev pub OfAsked : (Journal → ℕ → State → Request → Type 0) → Type 0
 OfAsked Claim =
     (part : ℕ → Part)
     (source : Source)
@@ -60,12 +62,21 @@ OfAsked Claim =
     (asked : Asked)
     (d : AsksIn source opts j w p t n s asked)
     → RideAlone source _ _ s n asked d.rides
-    → Claim j t (keys s.env.hand) asked.request
+    → Claim j t s asked.request
 
 -- what it asks something of is in its hand
 abbrev pub LawInHand : Type 0
-LawInHand = OfAsked (λ j t hand r. AsksInHand (own_object t j) hand r)
+LawInHand = OfAsked (λ j t s r. AsksInHand (own_object t j) (keys s.env.hand) r)
 
 -- and what it spawns is of no task yet, what it raises an event at of one at most
 abbrev pub LawOwners : Type 0
-LawOwners = OfAsked (λ j t hand r. OwnersFit j r)
+LawOwners = OfAsked (λ j t s r. OwnersFit j r)
+
+-- behind what it asks: whoever takes an object out is not at home there, and at its end nothing holds a task up in its own object
+abbrev pub LeavesFree : ℕ → Request → State → Type 0
+LeavesFree own (ask.Gone o) s = s.env.exec.home ≡ home.Object o → ⊥
+LeavesFree own ask.End s = is_held_up own s.env ≡ false
+LeavesFree own r s = Unit {0}
+
+abbrev pub LawLeaving : Type 0
+LawLeaving = OfAsked (λ j t s r. LeavesFree (own_object t j) r s)

@@ -1,6 +1,6 @@
 // The laws: each is a function whose contract is the law.
 
-ghost use Rattle.uc_letting_laws.specs.LettingLaws.{LawInHand, LawOwners};
+ghost use Rattle.uc_letting_laws.specs.LettingLaws.{LawInHand, LawLeaving, LawOwners};
 
 /// In a run of a source in which objects are entered by their calls and code waits, signals and
 /// accepts only where its task is inside, a task has in hand all objects of which it asks something,
@@ -14,4 +14,10 @@ pub fn law_in_hand()
 /// most.
 pub fn law_owners()
     ensures { LawOwners }
+{}
+
+/// There whoever takes an object out is not at home in it, and at its end nothing holds a task up in
+/// its own object.
+pub fn law_leaving()
+    ensures { LawLeaving }
 {}

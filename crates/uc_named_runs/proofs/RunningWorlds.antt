@@ -52,9 +52,9 @@ use Rattle.uc_name_laws.specs.NameSteps.{Named, Outside, Spares}
 use Rattle.uc_name_laws.proofs.Homes.{no_both, none_some, the_same}
 use Rattle.uc_name_laws.proofs.Telling.{law_told}
 use Rattle.uc_named_runs.specs.NamedRuns.{is_here}
-use Rattle.uc_named_runs.specs.RunningRuns.{LeavesHome, KeepsHome, LawRunningRuns}
+use Rattle.uc_named_runs.specs.RunningRuns.{LeavesHome, RunLeaves, LawRunningRuns}
 use Rattle.uc_named_runs.proofs.Owned.{tasks_grow}
-use Rattle.uc_named_runs.proofs.Riding.{RideNamed, ride_named, leads_named, ride_more, leads_more}
+use Rattle.uc_named_runs.proofs.Riding.{RideNamed, ride_named, leads_named}
 use Rattle.uc_named_runs.proofs.Insiders.{others_inside, apart_inside, signal_inside}
 use Rattle.uc_named_runs.proofs.Worlds.{WorldNamed, run_named, known, held_made, drawn_named, brings, found_home, absent_home, found_none, own_spawn}
 
@@ -142,13 +142,6 @@ pub record WorldRuns (j : Journal) (w : World) : Type 0 where
   pub house : (t : ℕ) → t < task_count j → (k : ℕ) → find k (w.tasks t).env.house.parked ≡ Some None → (w.tasks t).env.exec ≡ exec_of (home.Task (w.tasks t).env.own) k
   pub homes : (o : ℕ) (m : Members) (k : ℕ) → w.homes o ≡ Some m → find k m.parked ≡ Some None → Runner j w o k
 
--- what a request leaves
-ride_leaves : (source : Source) {s u : State} {q k : ℕ} {a : Asked} (r : Rides source s q u k a) → RideMeets (KeepsHome source) source s q u k a r → LeavesHome a.request u.env
-ride_leaves source slices h = tt
-ride_leaves source (goes_on e r) h = ride_leaves source r h.1
-ride_leaves source (ticks e r) h = ride_leaves source r h.1
-ride_leaves source (asks {s} {t} {q} {r} e) h = h.leaves r t e
-
 abbrev is_signal : Request → Bool
 is_signal (ask.Signal o c) = true
 is_signal q = false
@@ -185,7 +178,7 @@ module _ (source : Source) (input : List ℕ) (opts : Options) (range : InRange 
         let names = drawn_named source input opts range r going serials y p t runs in
         law_told.told source (is_here (w.tasks t).env.own (held t j)) true serials given (drawn j w t) (record { names = names.names; runs = drawn_alone x sound t lt }) (brings source input opts range r going serials y p t runs given told)
 
-  module _ {j : Journal} {w : World} (r : RunRests source input opts j w) (going : is_over j ≡ false) (deep : DeepWorld j w) (serials : Home → ℕ) (y : WorldNamed serials j w) (x : WorldRuns j w) (p t n : ℕ) (s : State) (asked : Asked) (d : AsksIn source opts j w p t n s asked) (f : Fits opts source.sites j t asked.request) (on : is_over (j ++ act opts source.sites input j p t n asked) ≡ false) (keeps : RideMeets (KeepsHome source) source (answered source d.given (drawn j w t)) _ s n asked d.rides) where
+  module _ {j : Journal} {w : World} (r : RunRests source input opts j w) (going : is_over j ≡ false) (deep : DeepWorld j w) (serials : Home → ℕ) (y : WorldNamed serials j w) (x : WorldRuns j w) (p t n : ℕ) (s : State) (asked : Asked) (d : AsksIn source opts j w p t n s asked) (f : Fits opts source.sites j t asked.request) (on : is_over (j ++ act opts source.sites input j p t n asked) ≡ false) (leaves : LeavesHome (own_object t j) asked.request s.env) (spares : RideMeets Spares source (answered source d.given (drawn j w t)) _ s n asked d.rides) where
     abbrev a : List Entry
     a = act opts source.sites input j p t n asked
 
@@ -202,13 +195,10 @@ module _ (source : Source) (input : List ℕ) (opts : Options) (range : InRange 
     lt = known source input opts range r going serials y p t d.runs
 
     ride : RideNamed source (is_here (w.tasks t).env.own (held t j)) true serials (answered source d.given (drawn j w t)) _ s n asked d.rides
-    ride = ride_named source (is_here (w.tasks t).env.own (held t j)) true serials d.rides (begins_alone r going serials y x p t d.runs d.given d.told) (λ u. ride_more source (KeepsHome source) Spares (λ v k. k.spares) d.rides keeps)
+    ride = ride_named source (is_here (w.tasks t).env.own (held t j)) true serials d.rides (begins_alone r going serials y x p t d.runs d.given d.told) (λ u. spares)
 
     alone : RunsAlone true s.env.exec s.env
     alone = ride.named.runs
-
-    leaves : LeavesHome asked.request s.env
-    leaves = ride_leaves source d.rides keeps
 
     made_by : Makes j (act opts source.sites input j p t n asked) t
     made_by = makes opts source.sites input j p t n asked r.kernel m on
@@ -220,7 +210,7 @@ module _ (source : Source) (input : List ℕ) (opts : Options) (range : InRange 
     in_hand o = ap (λ l. has l o) (asks_with source input opts range r going p t n s asked d).hand
 
     -- what is asked is of another object than the home
-    apart : (o : ℕ) → s.env.exec.home ≡ home.Object o → has (inside o j) t ≡ true → o < object_count j → (q : Request) → Fits opts source.sites j t q → Outside q s.env → LeavesHome q s.env → is_signal q ≡ false → is_quiet q ≡ false → (object_of t j q == o) ≡ false
+    apart : (o : ℕ) → s.env.exec.home ≡ home.Object o → has (inside o j) t ≡ true → o < object_count j → (q : Request) → Fits opts source.sites j t q → Outside q s.env → LeavesHome (own_object t j) q s.env → is_signal q ≡ false → is_quiet q ≡ false → (object_of t j q == o) ≡ false
     apart o e i le (ask.Make class) g u l z h = ne_eqb (object_count j) o (λ same. omega (arith, le, same))
     apart o e i le (ask.Made k) g u l z h = turned o k (ap (λ v. home_eq v (home.Object k)) (sym e) ∙ u)
     apart o e i le (ask.Spawn k) g u l z h = turned o k (ap (λ v. home_eq v (home.Object k)) (sym e) ∙ u)
@@ -230,7 +220,7 @@ module _ (source : Source) (input : List ℕ) (opts : Options) (range : InRange 
     apart o e i le (ask.Wait k c v) g u l z h = turned o k (ap (λ v. home_eq v (home.Object k)) (sym e) ∙ u)
     apart o e i le (ask.Signal k c) g u l z h = cc
     apart o e i le (ask.SignalBlock k c) g u l z h = turned o k (ap (λ v. home_eq v (home.Object k)) (sym e) ∙ u)
-    apart o e i le ask.End g u l z h = turned o (own_object t j) (ap (λ v. home_eq v (home.Object (own_object t j))) (sym e) ∙ l (own_object t j))
+    apart o e i le ask.End g u l z h = turned o (own_object t j) (ap (λ v. home_eq v (home.Object (own_object t j))) (sym e) ∙ l)
     apart o e i le (ask.Gone k) g u l z h = turned o k (ap (λ v. home_eq v (home.Object k)) (sym e) ∙ l)
     apart o e i le q g u l z h = cc
 
@@ -256,7 +246,7 @@ module _ (source : Source) (input : List ℕ) (opts : Options) (range : InRange 
     not_taken : (o : ℕ) → s.env.exec.home ≡ home.Object o → takes_out (act opts source.sites input j p t n asked) o ≡ false
     not_taken o e = not_true (takes_out a o) (λ h. let g = gone_of p t (object_of t j asked.request) (is_quiet asked.request ≡ false) (destroys asked.request) o a by_this h in gone asked.request leaves g.0 g.1)
       where
-        gone : (q : Request) → LeavesHome q s.env → destroys q ≡ true → object_of t j q ≡ o → ⊥
+        gone : (q : Request) → LeavesHome (own_object t j) q s.env → destroys q ≡ true → object_of t j q ≡ o → ⊥
         gone (ask.Gone k) l g same =
             no_both (home_eq s.env.exec.home (home.Object k)) (ap (λ v. home_eq v (home.Object k)) e ∙ eq-eqb o k (sym same)) l
         gone q l g same = cc
@@ -380,23 +370,23 @@ module _ (source : Source) (input : List ℕ) (opts : Options) (range : InRange 
           by true e = none_some None (find k (zeros 0).parked) refl (ap (λ q. find k q.parked) (the_same (zeros 0) m e) ∙ f)
           by false e = cc
 
-  pub run_runs : {j : Journal} {w : World} (r : Runs source input opts j w) → RunFits source input opts j w r → is_over j ≡ false → RunMeets (KeepsHome source) source input opts j w r → WorldRuns j w
-  run_runs begun f on h = runs_begin
-  run_runs (more {j} {w} r o (gives p t v le)) f on h = runs_given (run_rests source input opts range r f.0 o) p t v (run_runs r f.0 o h.0)
-  run_runs (more {j} r o (no_room p t v le)) f on h = no_both (is_over (j ++ lone_limit ∷ [])) (over_limit j 0 0) on
-  run_runs (more {j} {w} r o (acts p t n s asked d)) f on h =
+  pub run_runs : {j : Journal} {w : World} (r : Runs source input opts j w) → RunFits source input opts j w r → is_over j ≡ false → RunLeaves source input opts j w r → RunMeets Spares source input opts j w r → WorldRuns j w
+  run_runs begun f on l h = runs_begin
+  run_runs (more {j} {w} r o (gives p t v le)) f on l h = runs_given (run_rests source input opts range r f.0 o) p t v (run_runs r f.0 o l.0 h.0)
+  run_runs (more {j} r o (no_room p t v le)) f on l h = no_both (is_over (j ++ lone_limit ∷ [])) (over_limit j 0 0) on
+  run_runs (more {j} {w} r o (acts p t n s asked d)) f on l h =
       let y = run_named source input opts range r f.0 o in
-      runs_act (run_rests source input opts range r f.0 o) o (deep_run source input opts range r f.0 o) y.serials y.world (run_runs r f.0 o h.0) p t n s asked d f.1 on h.1
+      runs_act (run_rests source input opts range r f.0 o) o (deep_run source input opts range r f.0 o) y.serials y.world (run_runs r f.0 o l.0 h.0) p t n s asked d f.1 on l.1 h.1
 
 pub law_running_runs : LawRunningRuns
-law_running_runs source input opts j w r range fits on keeps =
+law_running_runs source input opts j w r range fits on leaves spares =
     let rests = run_rests source input opts range r fits on in
     let y = run_named source input opts range r fits on in
-    let x = run_runs source input opts range r fits on keeps in
+    let x = run_runs source input opts range r fits on leaves spares in
     let sound = (good_whole opts source.sites input rests.kernel).sound in
     record {
       rests = λ t lt. drawn_alone source input opts range x sound t lt;
       comes = λ t s c k.
-          let z = leads_named source (is_here (w.tasks t).env.own (held t j)) true y.serials c.leads (begins_alone source input opts range rests on y.serials y.world x c.processor t c.runs c.given c.told) (λ u. leads_more source (KeepsHome source) Spares (λ v q. q.spares) c.leads k) in
+          let z = leads_named source (is_here (w.tasks t).env.own (held t j)) true y.serials c.leads (begins_alone source input opts range rests on y.serials y.world x c.processor t c.runs c.given c.told) (λ u. k) in
           z.named.runs;
     }

@@ -16,7 +16,8 @@ use Rattle.uc_meaning.specs.Runs.{World, Runs}
 use Rattle.uc_rules.specs.Breaks.{breaks_of}
 use Rattle.uc_program_laws.specs.Fitting.{RunFits}
 use Rattle.uc_resolve.specs.Resolve.{source_of}
-use Rattle.uc_value_laws.proofs.Worlds.{law_ends}
+use Rattle.uc_sound.specs.Formed.{IsFormed}
+use Rattle.uc_binding_laws.proofs.OpenRuns.{law_there}
 use Rattle.uc_step_laws.specs.Hands.{keys}
 use Rattle.uc_enter_laws.proofs.Routines.{law_entered}
 use Rattle.uc_letting_laws.specs.LettingLaws.{AsksInHand, OwnersFit}
@@ -81,9 +82,9 @@ module _ (source : Source) where
   same_request s a b t u q r (quiet.more {t = x} h l) e m f = same_request x a b t u q r l e (next s x b u r h m f) f
 
 -- so the end of a cluster that is a variable is asked of one that there is
-left_there : (p : Program) → breaks_of p ≡ [] → (input : List ℕ) (opts : Options) → InRange opts → (j : Journal) (w : World) (r : Runs (source_of p) input opts j w) → RunFits (source_of p) input opts j w r → is_over j ≡ false → (t : ℕ) (q : Request) → LeavesScope (source_of p) input opts j w r t q → IsRemaining opts j q
-left_there p ok input opts range j w r f on t q x =
-    let e = law_ends p ok input opts range j w r f on x.opens t x.state x.comes x.opened x.cell x.todo x.near x.leaves in
+left_there : (p : Program) → IsFormed p → breaks_of p ≡ [] → (input : List ℕ) (opts : Options) → InRange opts → (j : Journal) (w : World) (r : Runs (source_of p) input opts j w) → RunFits (source_of p) input opts j w r → is_over j ≡ false → (t : ℕ) (q : Request) → LeavesScope p j w t q → IsRemaining opts j q
+left_there p formed ok input opts range j w r f on t q x =
+    let e = law_there.ends p formed ok x.within input opts range j w r f on t x.state x.comes x.cell x.todo x.near x.leaves in
     subst (IsRemaining opts j) (same_request (source_of p) x.state e.asking x.asking e.after x.after (ask.ClusterEnd e.cluster) q e.leads e.asks x.leads x.asks) e.there
 
 pub law_remaining : LawRemaining
@@ -92,7 +93,7 @@ law_remaining p formed ok input opts range left =
     let l = left j w r f on q t n s asked d in
     let entered = law_entered p formed ok in
     let inner = (law_inner p formed ok).source in
-    by_hand opts j t (keys s.env.hand) asked.request (law_in_hand (part_of p) (source_of p) entered inner input opts j w r range f l.1 on q t n s asked d l.2) (law_owners (part_of p) (source_of p) entered inner input opts j w r range f l.1 on q t n s asked d l.2) (either l.0 (λ x. left_there p ok input opts range j w r f on t asked.request x)))
+    by_hand opts j t (keys s.env.hand) asked.request (law_in_hand (part_of p) (source_of p) entered inner input opts j w r range f l.1 on q t n s asked d l.2) (law_owners (part_of p) (source_of p) entered inner input opts j w r range f l.1 on q t n s asked d l.2) (either l.0 (λ x. left_there p formed ok input opts range j w r f on t asked.request x)))
   where
     either : {A B : Type 0} → A ⊎ B → (B → A) → A
     either (inl a) f = a

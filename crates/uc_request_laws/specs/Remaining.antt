@@ -2,7 +2,6 @@
 -- at, of the tasks of that, of clusters and of processors.
 use Rattle.std.specs.Prelude.{◌≡◌, ℕ, ◌<◌, ◌⊎◌, false, List, []}
 use Rattle.uc_tree.specs.Programs.{Program}
-use Rattle.uc_tree.specs.Source.{Source}
 use Rattle.uc_entry.specs.declared.entry.Options.{Options}
 use Rattle.uc_entry.specs.declared.request.Asked.{Asked}
 use Rattle.uc_entry.specs.declared.request.Request.{Request}
@@ -34,15 +33,16 @@ IsRemaining opts j r = Unit {0}
 
 -- so it is of what a task of the program asks, unless that is the end of a cluster that is a variable; and nothing else is owed to what is let
 -- go of, as long as all that was asked before fits
-abbrev pub AsksRemaining : Source → List ℕ → Options → Type 0
-AsksRemaining source input opts =
-    (j : Journal) (w : World) (r : Runs source input opts j w) → RunFits source input opts j w r →
-    is_over j ≡ false → (p t n : ℕ) (s : State) (asked : Asked) →
-    (d : AsksIn source opts j w p t n s asked) →
-    (IsRemaining opts j asked.request ⊎ LeavesScope source input opts j w r t asked.request) × RunAlone source input opts j w r × RideAlone source _ _ s n asked d.rides
+abbrev pub AsksRemaining : Program → List ℕ → Options → Type 0
+AsksRemaining p input opts =
+    (j : Journal) (w : World) (r : Runs (source_of p) input opts j w) → RunFits (source_of p) input opts j w r →
+    is_over j ≡ false → (q t n : ℕ) (s : State) (asked : Asked) →
+    (d : AsksIn (source_of p) opts j w q t n s asked) →
+    (IsRemaining opts j asked.request ⊎ LeavesScope p j w t asked.request) ×
+    RunAlone (source_of p) input opts j w r × RideAlone (source_of p) _ _ s n asked d.rides
 
 -- then all that a program which breaks no rule asks fits
 abbrev pub LawRemaining : Type 0
 LawRemaining =
     (p : Program) → IsFormed p → breaks_of p ≡ [] → (input : List ℕ) (opts : Options) → InRange opts →
-    AsksRemaining (source_of p) input opts → Reentry (source_of p) input opts
+    AsksRemaining p input opts → Reentry (source_of p) input opts

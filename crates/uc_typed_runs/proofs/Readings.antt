@@ -31,9 +31,10 @@ use Rattle.uc_value_laws.specs.Reading.{ReadsElement}
 use Rattle.uc_value_laws.specs.Opens.{Opens, LeadsOpen, RideOpens, MayOpen, RunOpens}
 use Rattle.uc_value_laws.proofs.Readings.{law_reading}
 use Rattle.uc_value_laws.proofs.Worlds.{law_runs}
-use Rattle.uc_binding_laws.proofs.Addressing.{law_opens}
+use Rattle.uc_address_laws.specs.Limits.{IsWithinLimits}
+use Rattle.uc_binding_laws.proofs.OpenRuns.{law_opens}
 use Rattle.uc_value_laws.specs.Endings.{still_reading, RideHolds, MayHold, RunHolds, LeadsHold}
-use Rattle.uc_typed_runs.specs.TypedRuns.{Reading, Following, LeadsFollowing, IsTyped, LawTypedTexts}
+use Rattle.uc_typed_runs.specs.TypedRuns.{Reading, Following, IsTyped, LawTypedTexts}
 use Rattle.uc_typed_runs.proofs.Endings.{Ending, EndingStep, at_goes, at_ticks, ending, reads as reads_ending}
 use Rattle.uc_typed_runs.proofs.Hands.{behind}
 use Rattle.uc_typed_runs.proofs.Openings.{no_variable, no_place, point_variable, point_place, fill_variable, fill_place}
@@ -112,7 +113,7 @@ module _ (table : Table) (source : Source) (sound : Sound table source) where
         let next : EndingStep table (still_reading n s.run.control) (Ticks v) = subst (EndingStep table (still_reading n s.run.control)) e (ending table source n s (there s l o) x h) in
         (r, leads_reads (still_reading n s.run.control) rest m.0 m.1 opens.1 places.1 (at_ticks table (still_reading n s.run.control) v next) (behind table source sound s (Ticks v) e x r))
 
-module _ (text : List ℕ) (p : Program) (is : IsTextOf text p) (input : List ℕ) (opts : Options) (range : InRange opts) where
+module _ (text : List ℕ) (p : Program) (is : IsTextOf text p) (within : IsWithinLimits p) (input : List ℕ) (opts : Options) (range : InRange opts) where
   well : IsWellTyped p
   well = law_well_typed text p is
 
@@ -139,9 +140,9 @@ module _ (text : List ℕ) (p : Program) (is : IsTextOf text p) (input : List �
     may_reads (acts q t n s asked d) opens places =
         ride_reads (table_of p) (source_of p) well.sound (answered (source_of p) d.given (drawn j w t)) (comes_there t d.given q d.runs d.told) 0 d.rides stays tt opens places tt (begins t d.given q d.runs d.told)
 
-    comes_reads : (t : ℕ) (s : State) (c : Comes (source_of p) j w t s) → LeadsFollowing p (answered (source_of p) c.given (drawn j w t)) s c.leads → LeadsHold (Reading (table_of p)) (source_of p) 0 (answered (source_of p) c.given (drawn j w t)) s c.leads
+    comes_reads : (t : ℕ) (s : State) (c : Comes (source_of p) j w t s) → LeadsHold (Following (table_of p)) (source_of p) 0 (answered (source_of p) c.given (drawn j w t)) s c.leads → LeadsHold (Reading (table_of p)) (source_of p) 0 (answered (source_of p) c.given (drawn j w t)) s c.leads
     comes_reads t s c l =
-        leads_reads (table_of p) (source_of p) well.sound (answered (source_of p) c.given (drawn j w t)) (comes_there t c.given c.processor c.runs c.told) 0 c.leads stays tt (law_opens.leads p (text_formed text p is) is.no_break input opts range j w r fits on t s c l.0) l.1 tt (begins t c.given c.processor c.runs c.told)
+        leads_reads (table_of p) (source_of p) well.sound (answered (source_of p) c.given (drawn j w t)) (comes_there t c.given c.processor c.runs c.told) 0 c.leads stays tt (law_opens.leads p (text_formed text p is) is.no_break within input opts range j w r fits on t s c) l tt (begins t c.given c.processor c.runs c.told)
 
   run_reads : {j : Journal} {w : World} (r : Runs (source_of p) input opts j w) → RunFits (source_of p) input opts j w r → RunOpens (source_of p) input opts j w r → RunHolds (Following (table_of p)) (source_of p) input opts j w r → RunHolds (Reading (table_of p)) (source_of p) input opts j w r
   run_reads begun fits opens places = tt
@@ -150,15 +151,15 @@ module _ (text : List ℕ) (p : Program) (is : IsTextOf text p) (input : List �
       (before, may_reads r fits.0 on opens.0 (typeds r fits.0 before on) m opens.1 places.1)
 
 pub law_typed_texts : LawTypedTexts
-law_typed_texts text p is input opts j w r range fits loose places on = record {
+law_typed_texts text p is within input opts j w r range fits places on = record {
   tasks = h.tasks;
   homes = h.homes;
-  comes = λ t s c l. h.comes t s c (comes_reads text p is input opts range r fits on opens h t s c l);
-  finds = λ t s c l q todo e. h.finds t s c (comes_reads text p is input opts range r fits on opens h t s c l) q todo e;
+  comes = λ t s c l. h.comes t s c (comes_reads text p is within input opts range r fits on opens h t s c l);
+  finds = λ t s c l q todo e. h.finds t s c (comes_reads text p is within input opts range r fits on opens h t s c l) q todo e;
 }
   where
     opens : RunOpens (source_of p) input opts j w r
-    opens = law_opens.runs p (text_formed text p is) is.no_break input opts range j w r fits loose
+    opens = law_opens.runs p (text_formed text p is) is.no_break within input opts range j w r fits
 
-    h : Typeds text p is input opts range j w
-    h = typeds text p is input opts range r fits (run_reads text p is input opts range r fits opens places) on
+    h : Typeds text p is within input opts range j w
+    h = typeds text p is within input opts range r fits (run_reads text p is within input opts range r fits opens places) on

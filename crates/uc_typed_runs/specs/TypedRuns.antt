@@ -23,7 +23,7 @@ use Rattle.uc_sound.specs.Tables.{table_of}
 use Rattle.uc_formed.specs.WellTyped.{IsTextOf}
 use Rattle.uc_value_laws.specs.Endings.{RunHolds, LeadsHold}
 use Rattle.uc_value_laws.specs.Reading.{ReadsElement}
-use Rattle.uc_binding_laws.specs.Addressed.{RunAddressed, LeadsAddressed}
+use Rattle.uc_address_laws.specs.Limits.{IsWithinLimits}
 
 -- What is read of bindings is of its type.
 abbrev pub Reading : Table → ℕ → State → Type 0
@@ -76,17 +76,12 @@ LawTypedRuns =
     RunHolds (Reading table) source input opts j w r → is_over j ≡ false →
     IsTyped table source (LeadsHold (Reading table) source 0) j w
 
--- on the way frames in which scopes open have addresses for all their cells, and what is read at places is of its type
-abbrev pub LeadsFollowing : (p : Program) (s u : State) → Leads (source_of p) s u → Type 0
-LeadsFollowing p s u l = LeadsAddressed (source_of p) s u l ×
-    LeadsHold (Following (table_of p)) (source_of p) 0 s u l
-
--- Of each program whose text is accepted, where each scope opened in a frame of which all cells have addresses, and all was of its type that was
--- read at places and of fields of the object at hand, but by the clean-ups of variables that are known by their numbers.
+-- Of each program whose text is accepted and which is within its limits, where all was of its type that was read at places and of fields of
+-- the object at hand, but by the clean-ups of variables that are known by their numbers.
 abbrev pub LawTypedTexts : Type 0
 LawTypedTexts =
-    (text : List ℕ) (p : Program) → IsTextOf text p →
+    (text : List ℕ) (p : Program) → IsTextOf text p → IsWithinLimits p →
     (input : List ℕ) (opts : Options) (j : Journal) (w : World) (r : Runs (source_of p) input opts j w) →
-    InRange opts → RunFits (source_of p) input opts j w r → RunAddressed (source_of p) input opts j w r →
+    InRange opts → RunFits (source_of p) input opts j w r →
     RunHolds (Following (table_of p)) (source_of p) input opts j w r → is_over j ≡ false →
-    IsTyped (table_of p) (source_of p) (LeadsFollowing p) j w
+    IsTyped (table_of p) (source_of p) (LeadsHold (Following (table_of p)) (source_of p) 0) j w

@@ -1,12 +1,12 @@
 -- Who calls an object knows it, and it is not gone.
-use Rattle.std.proofs.Common.{◌≡◌, ℕ, Bool, true, false, List, [], ◌∷◌, drop, length, Option, Some, None, refl, sym, ap, subst}
+use Rattle.std.proofs.Common.{◌≡◌, ℕ, Bool, true, false, List, [], ◌∷◌, drop, length, Option, Some, None, refl, sym, subst}
 use Rattle.std.specs.Prelude.{slice_get, if◌then◌else◌}
 use Rattle.uc_tree.specs.Source.{Source, Routine}
 use Rattle.uc_entry.specs.Keyed.{find}
 use Rattle.uc_entry.specs.declared.request.Request.TheVariants as ask
-use Rattle.uc_machine.specs.Pieces.{Todo, EnterNow, Value, Number, Place, Running, Object, Nothing, Step, top, object_in}
+use Rattle.uc_machine.specs.Pieces.{Todo, EnterNow, Value, Number, Place, Running, Object, Nothing, top, object_in}
 use Rattle.uc_machine.specs.Monitors.{may_call, enter_at, enter_step}
-use Rattle.uc_machine.specs.Quiet.{State, Asks, quiet, act, act_todo, fault}
+use Rattle.uc_machine.specs.Quiet.{State, Asks, quiet, act_todo, fault}
 use Rattle.uc_entry.specs.declared.fault.RunFault.TheVariants.{Depth}
 use Rattle.uc_typing.specs.Typing.{Ty, Obj, Table, object_ty}
 use Rattle.uc_typing.specs.Pieces.{Ok, onto}

@@ -1,6 +1,5 @@
 -- With fewer numbers all stays known, where nobody has at hand what had the others.
-use Rattle.std.proofs.Common.{◌≡◌, ℕ, ◌⊎◌, inl, inr, Bool, true, false, List, [], ◌∷◌, Option, Some, None, refl, subst, ℤ}
-use Rattle.uc_tree.specs.Source.{Variable, CleanUp}
+use Rattle.std.proofs.Common.{◌≡◌, ℕ, ◌⊎◌, inl, inr, Bool, true, false, List, [], ◌∷◌, Option, Some, None, refl, ℤ}
 use Rattle.uc_machine.specs.declared.exec.Exec.{Exec}
 use Rattle.uc_machine.specs.declared.exec.Home.{Home}
 use Rattle.uc_machine.specs.declared.exec.Home.TheVariants as home
@@ -10,10 +9,10 @@ use Rattle.uc_machine.specs.declared.exec.Stage.TheVariants.{Fresh, Started, End
 use Rattle.uc_machine.specs.Executions.{Execution, others}
 use Rattle.uc_machine.specs.Pieces as piece
 use Rattle.uc_machine.specs.Pieces.{Slot, Value, Number, Place, Running, Object, Nothing, Todo, Sort, Active, State, Env, Members}
-use Rattle.uc_typing.specs.Typing.{Ty, Num, Cell, Obj, Raw, Row, Clu, Pro, Sig, Table, CleansAt, object_ty}
+use Rattle.uc_typing.specs.Typing.{Ty, Num, Cell, Obj, Raw, Row, Clu, Pro, Sig, Table, object_ty}
 use Rattle.uc_typing.specs.Pieces.{AreNumbers}
 use Rattle.uc_typing.specs.States.{IsAt, IsObjectBy}
-use Rattle.uc_life_laws.specs.Things.{Few, AtVariable, AtField, IsFor, Nowhere, Marks, InTodo, Things, Variables, Stands, lies, inside, Held, LiesIn, IsFew, IsKnown, Known}
+use Rattle.uc_life_laws.specs.Things.{Few, AtVariable, AtField, IsFor, Nowhere, Marks, InTodo, Things, Stands, lies, inside, Held, LiesIn, IsFew, IsKnown, Known}
 use Rattle.uc_life_laws.specs.LifeStates.{SlotBy, ParkedBy, HandBy, MembersBy, EnvBy, Outwards, MarkHolds, AllHold, LifeStack, LifeEx, LifeState}
 use Rattle.uc_life_laws.specs.Knowing.{AtHand, KnownAll, KnownParams, KnownThis, KnownFrames, Knows, KnowsWaits, KnowsEx, KnowsBy, KnowsSlot, KnowsState}
 use Rattle.uc_life_laws.proofs.Knowns.{Less, held_more, older_hand}

@@ -1,5 +1,5 @@
 -- Runs in which nobody has at hand what has gone.
-use Rattle.std.proofs.Common.{◌≡◌, ℕ, ◌<◌, ◌≤◌, ◌⊎◌, inl, inr, Bool, true, false, List, [], ◌∷◌, ◌++◌, Option, Some, None, refl, sym, ap, ◌∙◌, subst, arith, append-nil, append_assoc, ◌||◌}
+use Rattle.std.proofs.Common.{◌≡◌, ℕ, inl, inr, Bool, true, false, List, [], ◌∷◌, ◌++◌, Option, Some, None, refl, sym, ap, ◌∙◌, subst, arith, append-nil, append_assoc, ◌||◌}
 use Rattle.std.specs.Prelude.{if◌then◌else◌}
 use Rattle.uc_tree.specs.Source.{Source}
 use Rattle.uc_entry.specs.declared.entry.Entry.{Entry}
@@ -10,10 +10,10 @@ use Rattle.uc_entry.specs.declared.request.Answer.TheVariants as answer
 use Rattle.uc_entry.specs.declared.request.Asked.{Asked}
 use Rattle.uc_entry.specs.declared.request.Request.{Request}
 use Rattle.uc_entry.specs.declared.request.Request.TheVariants as ask
-use Rattle.uc_acts.specs.Journal.{Journal, Cost, begin, is_over, cost}
-use Rattle.uc_acts.specs.Known.{object_count, has_ended, is_gone, is_gone_by, takes_object, takes_out}
-use Rattle.uc_acts.specs.Acts.{act, row, dispatch, lone_limit}
-use Rattle.uc_acts.specs.KernelRuns.{InRange, KernelRuns}
+use Rattle.uc_acts.specs.Journal.{Journal, begin, is_over, cost}
+use Rattle.uc_acts.specs.Known.{is_gone, is_gone_by, takes_object, takes_out}
+use Rattle.uc_acts.specs.Acts.{act, dispatch, lone_limit}
+use Rattle.uc_acts.specs.KernelRuns.{InRange}
 use Rattle.uc_acts.proofs.Living.{going_row, gone_still, nothing_gone}
 use Rattle.uc_acts.proofs.Counted.{gone_push}
 use Rattle.uc_acts.proofs.Acting.{object_of, destroys, AllBy, by_row}
@@ -26,10 +26,10 @@ use Rattle.uc_machine.specs.declared.exec.Stage.{Stage}
 use Rattle.uc_machine.specs.declared.exec.Stage.TheVariants.{Fresh, Started, Ended}
 use Rattle.uc_machine.specs.Executions.{Execution}
 use Rattle.uc_machine.specs.Pieces.{Value, Todo}
-use Rattle.uc_machine.specs.Quiet.{State, Env, Members, quiet, Asks}
+use Rattle.uc_machine.specs.Quiet.{State, Env, Members}
 use Rattle.uc_machine.specs.Answering.{answered, child_main}
 use Rattle.uc_meaning.specs.Runs.{World, May, Runs, drawn, gives, no_room, acts, begun, more}
-use Rattle.uc_program_laws.specs.Fitting.{MayFit, RunFits}
+use Rattle.uc_program_laws.specs.Fitting.{RunFits}
 use Rattle.uc_program_laws.proofs.Others.{run_rests}
 use Rattle.uc_resolve.specs.Resolve.{source_of}
 use Rattle.uc_scope_laws.specs.Layout.{Sized}
@@ -37,21 +37,21 @@ use Rattle.uc_scope_laws.specs.Rooms.{SourceIn}
 use Rattle.uc_scope_laws.specs.RoomRuns.{Comes}
 use Rattle.uc_scope_laws.proofs.StackWorlds as stacked
 use Rattle.uc_scope_laws.proofs.Unreferring.{law_accepted}
-use Rattle.uc_value_laws.specs.Opens.{MayMeet, LeadsMeet}
+use Rattle.uc_value_laws.specs.Opens.{LeadsMeet}
 use Rattle.uc_typing.specs.Typing.{Ty, Num, Obj, Raw, Clu, Pro, Table}
 use Rattle.uc_typing.specs.States.{Sound, IsTask}
 use Rattle.uc_sound.specs.Sounds.{of_program}
 use Rattle.uc_sound.specs.Tables.{table_of}
 use Rattle.uc_sound.proofs.MainLemmas.{law_mains}
 use Rattle.uc_sound.proofs.SoundLemmas.{law_sound}
-use Rattle.uc_life_laws.specs.Things.{Few, Held}
+use Rattle.uc_life_laws.specs.Things.{Few}
 use Rattle.uc_life_laws.specs.LifeStates.{SlotBy, ParkedBy, HandBy, MembersBy, EnvBy}
 use Rattle.uc_life_laws.specs.LifeRuns.{IsLaidOut}
-use Rattle.uc_life_laws.specs.Knowing.{KnowsEx, KnowsSlot, KnowsState, KnowsAsked, KnowsStep, Names, HasObject}
+use Rattle.uc_life_laws.specs.Knowing.{KnowsSlot, KnowsState, KnowsAsked, KnowsStep, Names, HasObject}
 use Rattle.uc_life_laws.specs.KnownAnswers.{Passes, MainPasses}
-use Rattle.uc_life_laws.specs.KnownRuns.{PassesBelow, Meets, KnowsRest, AllIsKnown}
+use Rattle.uc_life_laws.specs.KnownRuns.{PassesBelow, Meets}
 use Rattle.uc_life_laws.proofs.Laying.{laid_out}
-use Rattle.uc_life_laws.proofs.LifeWorlds.{LifeWorld, stack_told}
+use Rattle.uc_life_laws.proofs.LifeWorlds.{stack_told}
 use Rattle.uc_life_laws.proofs.NewNumbers.{objects_grow, clusters_grow, processors_grow}
 use Rattle.uc_life_laws.proofs.KnownWorlds as worlds
 use Rattle.uc_life_laws.proofs.KnownWorlds.{PassesNow, KnownWorld, There, knows_to}

@@ -14,7 +14,7 @@ use Rattle.uc_machine.specs.Pieces.{Value, Todo, Active, State, Env, Members}
 use Rattle.uc_meaning.specs.Runs.{World}
 use Rattle.uc_typing.specs.Typing.{Ty, Cell, Obj, Raw, Sig, Table}
 use Rattle.uc_typing.specs.Pieces.{AreNumbers}
-use Rattle.uc_life_laws.specs.Things.{Few, AtField, IsFor, InStack, Base, NoBase, Things, Variables, Stands}
+use Rattle.uc_life_laws.specs.Things.{Few, AtField, IsFor, InStack, Base, NoBase, Variables, Stands}
 use Rattle.uc_life_laws.specs.Knowing.{InMaking, KnowsEx, KnowsState}
 use Rattle.uc_world_laws.specs.Fewer.{FreshLasts}
 use Rattle.uc_world_laws.specs.Lasting.{lasting, lasting_numbers, WorldLasts}
@@ -24,10 +24,10 @@ use Rattle.uc_life_laws.specs.LifeStates.{EnvBy, MembersBy}
 abbrev pub OwnThings : Table → Exec → List Active → Value → Ty → Type 0
 OwnThings t n cs w a = InStack (IsFor t) (AtField t) NoBase n cs w a
 
--- an execution is among those that do not run, with these activations
+-- an execution is among those that do not run, has begun and not ended, and has these activations
 abbrev pub InSlot : Exec → List Active → Exec → Option (Execution (List Todo) Value) → Type 0
 InSlot n cs m None = ⊥
-InSlot n cs m (Some x) = (n ≡ m) × (cs ≡ x.run ∷ x.callers)
+InSlot n cs m (Some x) = (n ≡ m) × (cs ≡ x.run ∷ x.callers) × (x.links.stage ≡ Started)
 
 abbrev pub InParked : Exec → List Active → Home → List (ℕ × Option (Execution (List Todo) Value)) → Type 0
 InParked n cs h [] = ⊥
@@ -41,11 +41,16 @@ abbrev pub InMembers : Exec → List Active → Home → Option Members → Type
 InMembers n cs h None = ⊥
 InMembers n cs h (Some m) = InParked n cs h m.parked
 
--- it is in a world: it runs in a task, or does not, in a task or in an object
-abbrev pub IsIn : World → Exec → List Active → Type 0
-IsIn x n cs = ((u : ℕ) × (n ≡ (x.tasks u).env.exec) × (cs ≡ (x.tasks u).run ∷ (x.tasks u).callers)) ⊎
+-- it lives in a world: it runs in a task of which this holds, or does not run, in a task or in an object
+abbrev pub LivesBy : (ℕ → Type 0) → World → Exec → List Active → Type 0
+LivesBy P x n cs =
+    ((u : ℕ) × P u × (n ≡ (x.tasks u).env.exec) × (cs ≡ (x.tasks u).run ∷ (x.tasks u).callers)) ⊎
     (((u : ℕ) × (InParked n cs (Task (x.tasks u).env.own) (x.tasks u).env.house.parked ⊎ InHand n cs (x.tasks u).env.hand)) ⊎
     ((o : ℕ) × InMembers n cs (Object o) (x.homes o)))
+
+-- behind a journal: of tasks that have not ended
+abbrev pub Lives : Journal → World → Exec → List Active → Type 0
+Lives j x n cs = LivesBy (λ u. has_ended u j ≡ false) x n cs
 
 -- what is at a place
 abbrev pub IsPlace : Value → Type 0
@@ -55,52 +60,86 @@ IsPlace (piece.Running n) = ⊥
 IsPlace (piece.Object o) = ⊥
 IsPlace piece.Nothing = ⊥
 
--- `live n`: the execution has begun and has not ended
-module _ (t : Table) (few : Few) (numbers : Ty → ℕ → Bool) (live : Exec → Bool) (o : ℕ) where
+-- what an execution is still to clean up: what it has marks for, and what else is told, such as that which it is about to destroy
+abbrev pub Yet : Table → (Exec → List Active → Value → Ty → Bool) → Exec → List Active → Value → Ty → Type 0
+Yet t yet n cs w a = OwnThings t n cs w a ⊎ (yet n cs w a ≡ true)
+
+-- that, and what it has of others
+abbrev pub Had : Table → Few → (Exec → List Active → Value → Ty → Bool) → Exec → List Active → Value → Ty → Type 0
+Had t few yet n cs w a = Yet t yet n cs w a ⊎ Base few n w a
+
+-- among what it has of others, that which is told to be its own object
+abbrev pub OwnObject : Few → (Exec → Value → Ty → Bool) → Exec → Value → Ty → Type 0
+OwnObject few own n w a = Base few n w a × (own n w a ≡ true)
+
+module _ (t : Table) (few : Few) (numbers : Ty → ℕ → Bool) (o : ℕ) where
   -- these activations do not build or destroy the object
   abbrev pub Apart : List Sig → List Active → Type 0
   Apart gs cs = (c : ℕ) → InMaking gs cs (piece.Object o) (Raw c) → ⊥
 
-  -- an execution that does not run, and may be activated, is live and does not build or destroy the object, or has not begun
+  -- an execution that does not run, has begun and not ended does not build or destroy the object
   abbrev pub StageApart : Stage → Exec → Execution (List Todo) Value → Type 0
-  StageApart Fresh n x = FreshLasts t few numbers x
-  StageApart Started n x = (live n ≡ true) × ((k : KnowsEx t few n x) → Apart k.sigs (x.run ∷ x.callers))
+  StageApart Fresh n x = Unit {0}
+  StageApart Started n x = (k : KnowsEx t few n x) → Apart k.sigs (x.run ∷ x.callers)
   StageApart Ended n x = Unit {0}
 
-  -- one that has variables in scope is live
+  -- one that has ended has no variables in scope
   pub record ExApart (n : Exec) (x : Execution (List Todo) Value) : Type 0 where
-    pub scopes : (w : Value) (a : Ty) → Variables t n (x.run ∷ x.callers) w a → live n ≡ true
+    pub scopes : (w : Value) (a : Ty) → Variables t n (x.run ∷ x.callers) w a → x.links.stage ≡ Ended → ⊥
     pub stage : StageApart x.links.stage n x
 
-  pub record TaskApart (s : State) : Type 0 where
-    pub scopes : (w : Value) (a : Ty) → Variables t s.env.exec (s.run ∷ s.callers) w a → live s.env.exec ≡ true
-    pub env : EnvBy ExApart s.env
-
-  -- the running execution is live; those of its activations that wait do not build or destroy the object, nor does the newest one as long as it
-  -- has operands that are no numbers
+  -- of the running execution, those of its activations that wait do not build or destroy the object, nor does the newest one as long as it has
+  -- operands that are no numbers
   pub record RunApart (given : List Ty) (s : State) (x : KnowsState t few given s) : Type 0 where
-    pub living : live s.env.exec ≡ true
     pub waiting : Apart (others x.sigs) s.callers
     pub operands : Apart x.sigs (s.run ∷ s.callers) ⊎ AreNumbers x.run.own
 
--- after an act that takes out an object alone: nobody has to clean up that in which it is at home, whoever may go on does not build or destroy
--- it, and each thing that a live execution has of others stands in the things of one that is live and was there before
-pub record Rooted (t : Table) (few : Few) (j : Journal) (a : List Entry) (x : World) (live : Exec → Bool) (rank : Exec → ℕ) (o : ℕ) : Type 0 where
-  pub alone : (u : ℕ) → is_gone u j ≡ false → is_gone u (j ++ a) ≡ true → u ≡ o
-  pub places : (n : Exec) (w : Value) (b : Ty) → Base few n w b → IsPlace w
-  pub up : (n : Exec) (cs : List Active) → IsIn x n cs → live n ≡ true → (w : Value) (b : Ty) → Base few n w b →
-      (m : Exec) × (ds : List Active) × IsIn x m ds × (live m ≡ true) × (rank m < rank n) ×
-      Stands t few (Things t few m ds) b w
-  pub unmarked : (n : Exec) (cs : List Active) → IsIn x n cs → live n ≡ true → (c : ℕ) →
-      Stands t few (OwnThings t n cs) (Cell (Obj c)) (few.home o) → ⊥
-  pub tasks : (u : ℕ) → TaskApart t (lasting few j) (lasting_numbers few.numbers (j ++ a)) live o (x.tasks u)
-  pub alive : (u : ℕ) → has_ended u (j ++ a) ≡ false → (given : List Ty) (k : KnowsState t (lasting few j) given (x.tasks u)) →
-      RunApart t (lasting few j) (lasting_numbers few.numbers (j ++ a)) live o given (x.tasks u) k
-  pub homes : (q : ℕ) →
-      MembersBy (ExApart t (lasting few j) (lasting_numbers few.numbers (j ++ a)) live o) (Object q) (x.homes q)
+-- one that has not begun knows its own object alone, which keeps its number, and has no variables in scope
+abbrev pub FreshKeeps : Table → Few → (Ty → ℕ → Bool) → Stage → Exec → Execution (List Todo) Value → Type 0
+FreshKeeps t few numbers Fresh n x = FreshLasts t few numbers x ×
+    ((w : Value) (a : Ty) → Variables t n (x.run ∷ x.callers) w a → ⊥)
+FreshKeeps t few numbers Started n x = Unit {0}
+FreshKeeps t few numbers Ended n x = Unit {0}
 
--- then what has gone is at hand of nobody
+-- so it is of all in a world behind an act
+pub record FreshLast (t : Table) (few : Few) (j : Journal) (a : List Entry) (x : World) : Type 0 where
+  pub tasks : (u : ℕ) →
+      EnvBy (λ n y. FreshKeeps t (lasting few j) (lasting_numbers few.numbers (j ++ a)) y.links.stage n y) (x.tasks u).env
+  pub homes : (q : ℕ) →
+      MembersBy (λ n y. FreshKeeps t (lasting few j) (lasting_numbers few.numbers (j ++ a)) y.links.stage n y) (Object q) (x.homes q)
+
+-- each thing that one which lives has of others, but its own object, stands in what one has that lives and was there before
+abbrev pub StandsUpwards : Table → Few → Journal → World → (Exec → Value → Ty → Bool) → (Exec → List Active → Value → Ty → Bool) → (Exec → ℕ) → Type 0
+StandsUpwards t few j x own yet rank =
+    (n : Exec) (cs : List Active) → Lives j x n cs → (w : Value) (b : Ty) → Base few n w b → own n w b ≡ false →
+    (m : Exec) × (ds : List Active) × Lives j x m ds × (rank m < rank n) × Stands t few (Had t few yet m ds) b w
+
+-- after an act that takes out an object: nobody is to clean up that in which it is at home, nor does it stand in the own object of one that
+-- lives; and whoever may go on does not build or destroy it
+pub record RootedBeside (t : Table) (few : Few) (j : Journal) (a : List Entry) (x : World) (own : Exec → Value → Ty → Bool) (yet : Exec → List Active → Value → Ty → Bool) (o : ℕ) : Type 0 where
+  pub outside : (n : Exec) (cs : List Active) → Lives (j ++ a) x n cs → (c : ℕ) →
+      Stands t few (OwnObject few own n) (Cell (Obj c)) (few.home o) → ⊥
+  pub unmarked : (n : Exec) (cs : List Active) → Lives (j ++ a) x n cs → (c : ℕ) →
+      Stands t few (Yet t yet n cs) (Cell (Obj c)) (few.home o) → ⊥
+  pub scopes : (u : ℕ) (w : Value) (b : Ty) → Variables t (x.tasks u).env.exec ((x.tasks u).run ∷ (x.tasks u).callers) w b →
+      has_ended u (j ++ a) ≡ false
+  pub tasks : (u : ℕ) → EnvBy (ExApart t (lasting few j) (lasting_numbers few.numbers (j ++ a)) o) (x.tasks u).env
+  pub alive : (u : ℕ) → has_ended u (j ++ a) ≡ false → (given : List Ty) (k : KnowsState t (lasting few j) given (x.tasks u)) →
+      RunApart t (lasting few j) (lasting_numbers few.numbers (j ++ a)) o given (x.tasks u) k
+  pub homes : (q : ℕ) →
+      MembersBy (ExApart t (lasting few j) (lasting_numbers few.numbers (j ++ a)) o) (Object q) (x.homes q)
+
+-- so it is, and what executions have of others stands upwards
+pub record Rooted (t : Table) (few : Few) (j : Journal) (a : List Entry) (x : World) (own : Exec → Value → Ty → Bool) (yet : Exec → List Active → Value → Ty → Bool) (rank : Exec → ℕ) (o : ℕ) : Type 0 where
+  pub up : StandsUpwards t few (j ++ a) x own yet rank
+  pub beside : RootedBeside t few j a x own yet o
+
+-- then what has gone is at hand of nobody, if that object alone has gone, what executions have of others are places, and those that have not begun
+-- know their own objects alone
 abbrev pub LawRooted : Type 0
 LawRooted =
-    (t : Table) (few : Few) (j : Journal) (a : List Entry) (x : World) (live : Exec → Bool) (rank : Exec → ℕ) (o : ℕ) →
-    Rooted t few j a x live rank o → WorldLasts t few j a x
+    (t : Table) (few : Few) (j : Journal) (a : List Entry) (x : World) (own : Exec → Value → Ty → Bool)
+    (yet : Exec → List Active → Value → Ty → Bool) (rank : Exec → ℕ) (o : ℕ) →
+    ((u : ℕ) → is_gone u j ≡ false → is_gone u (j ++ a) ≡ true → u ≡ o) →
+    ((n : Exec) (w : Value) (b : Ty) → Base few n w b → IsPlace w) →
+    FreshLast t few j a x → Rooted t few j a x own yet rank o → WorldLasts t few j a x

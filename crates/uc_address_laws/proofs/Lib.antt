@@ -1,0 +1,5 @@
+pub mod Keeping
+pub mod Steps
+pub mod HiddenLemmas
+pub mod Limits
+pub mod Worlds

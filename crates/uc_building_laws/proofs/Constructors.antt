@@ -1,0 +1,159 @@
+-- A constructor that is called at the variable whose scope opens next is that of its class.
+use Rattle.std.proofs.Common.{◌≡◌, ℕ, ◌+◌, ◌⊎◌, inl, inr, Bool, true, false, List, [], ◌∷◌, drop, Option, Some, None, refl, sym, ap, ◌∙◌, subst}
+use Rattle.std.specs.Prelude.{slice_get, if◌then◌else◌}
+use Rattle.uc_tree.specs.declared.kinds.Base.{Base}
+use Rattle.uc_tree.specs.declared.kinds.Base.TheVariants as base
+use Rattle.uc_tree.specs.declared.kinds.Kind.{Kind}
+use Rattle.uc_tree.specs.declared.kinds.Kind.TheVariants as kind
+use Rattle.uc_tree.specs.declared.kinds.Role.TheVariants as role
+use Rattle.uc_tree.specs.Names.{same_name}
+use Rattle.uc_tree.specs.Cells.{classes_of, object_of_kind, object_named}
+use Rattle.uc_tree.specs.Objects.{APlain, making_by, making, written_at}
+use Rattle.uc_tree.specs.Programs.{Class, Program}
+use Rattle.uc_tree.specs.Source as src
+use Rattle.uc_tree.specs.Source.{Source, Purpose, Routine, CleanUp}
+use Rattle.uc_machine.specs.Pieces as piece
+use Rattle.uc_machine.specs.Pieces.{Value, Todo, State, top}
+use Rattle.uc_resolve.specs.Resolve.{source_of}
+use Rattle.uc_rules.specs.declared.rules.Sort.{Sort}
+use Rattle.uc_rules.specs.declared.rules.Sort.TheVariants as sort
+use Rattle.uc_rules.specs.Breaks.{breaks_of}
+use Rattle.uc_rules.specs.Sorts.{class_sort, sort_of}
+use Rattle.uc_typing.specs.Typing.{Obj, Table, CleansAt}
+use Rattle.uc_typing.specs.States.{IsSorted}
+use Rattle.uc_sound.specs.Formed.{IsFormed}
+use Rattle.uc_sound.specs.Tables.{table_of}
+use Rattle.uc_sound.specs.Told.{TellsMaker}
+use Rattle.uc_sound.proofs.ClassLemmas.{mutex_is, law_told}
+use Rattle.uc_sound.proofs.DeclaringLemmas.{made_kind, made}
+use Rattle.uc_sound.proofs.ObjectLemmas.{Making_is, made_told}
+use Rattle.uc_sound.proofs.SoundLemmas.{law_sound}
+use Rattle.uc_event_laws.specs.Counted.{params_at, params}
+use Rattle.uc_life_laws.specs.Things.{Few, IsUnbound}
+use Rattle.uc_opening_laws.specs.Opened.{role_number, ArePaired, OfPlain}
+use Rattle.uc_opening_laws.specs.OpeningLaws.{Awaited, CallsAt, IsCalled}
+use Rattle.uc_building_laws.specs.BuildingStates.{variable}
+use Rattle.uc_building_laws.specs.BuildingLaws.{IsConstructed, Constructs, BuildsAt, Fair}
+use Rattle.uc_building_laws.specs.BuildingRuns.{Makes, MakesNext, RemainsAt, Remains}
+use Rattle.uc_building_laws.proofs.Plain.{plain_of, no_scope}
+
+-- what is made of a sort
+
+kind_made : (i : ℕ) (k : Kind) (name : List ℕ) → making_by (object_of_kind i k) (base.Named name) ≡ made_kind i k
+kind_made i kind.Class name = refl
+kind_made i kind.Coroutine name = refl
+kind_made i kind.Monitor name = refl
+kind_made i kind.Cormonitor name = refl
+kind_made i kind.Task name = refl
+kind_made i kind.Event name = refl
+
+-- a class of which such objects are made has a sort
+abbrev HasSort : ℕ → Option Sort → Type 0
+HasSort k o = (s : Sort) × (o ≡ Some s) × (made s ≡ Some (APlain k))
+
+named_sort : (cs : List Class) (i : ℕ) (name : List ℕ) (k : ℕ) → making_by (object_named cs i name) (base.Named name) ≡ Some (APlain k) → HasSort k (class_sort cs i name)
+named_sort [] i name k h = absurd (cc)
+named_sort (c ∷ cs) i name k h = by (same_name c.name name) (named_sort cs (i + 1) name k) h
+  where
+    by : (b : Bool) → (making_by (object_named cs (i + 1) name) (base.Named name) ≡ Some (APlain k) → HasSort k (class_sort cs (i + 1) name)) → making_by (if b then object_of_kind i c.kind else object_named cs (i + 1) name) (base.Named name) ≡ Some (APlain k) → HasSort k (if b then Some (sort.Object i c.kind) else class_sort cs (i + 1) name)
+    by true f q = (sort.Object i c.kind, refl, sym (kind_made i c.kind name) ∙ q)
+    by false f q = f q
+
+base_sort : (p : Program) (b : Base) (k : ℕ) → making p b ≡ Some (APlain k) → HasSort k (sort_of p b)
+base_sort p base.Void k h = absurd (cc)
+base_sort p base.Int k h = absurd (cc)
+base_sort p base.Char k h = absurd (cc)
+base_sort p base.Bool k h = absurd (cc)
+base_sort p base.Condition k h = absurd (cc)
+base_sort p base.Cluster k h = absurd (cc)
+base_sort p base.Processor k h = absurd (cc)
+base_sort p (base.Named name) k h = named_sort (classes_of p.items) 0 name k h
+
+-- only what is left as a whole is a constructor or a destructor
+builder : (u : Purpose) (w : Bool) → w ≡ true → IsSorted u w → u ≡ src.Builder
+builder src.TaskMain w e h = absurd (cc)
+builder src.CoroutineMain w e h = absurd (cc)
+builder src.Procedure w e h = absurd (cc)
+builder src.Function w e h = absurd (cc)
+builder src.Builder w e h = refl
+
+module _ (p : Program) (formed : IsFormed p) (accepted : breaks_of p ≡ []) where
+  abbrev source : Source
+  source = source_of p
+
+  abbrev t : Table
+  t = table_of p
+
+  module _ (r d : ℕ) (x : ArePaired p r d) where
+    is_made : Making_is t (t.routine 0) refl p (APlain x.class)
+    is_made =
+        let s = base_sort p x.base x.class x.made in
+        (made_told t (t.routine 0) refl p x.base s.0 (APlain x.class) (law_told p formed accepted) (λ b c k e. mutex_is p b c k e) s.1 s.2).0
+
+    -- it is left as a whole
+    whole : (t.routine r).whole ≡ true
+    whole = by (written_at p x.class role.Constructor) refl
+      where
+        m : TellsMaker t p x.class role.Constructor
+        m = is_made.0
+
+        by : (o : Option ℕ) → written_at p x.class role.Constructor ≡ o → (t.routine r).whole ≡ true
+        by None e = ap (λ n. (t.routine n).whole) (x.builds ∙ ap (role_number p x.class role.Constructor) e) ∙ m.unwritten_whole e
+        by (Some n) e = ap (λ n. (t.routine n).whole) (x.builds ∙ ap (role_number p x.class role.Constructor) e) ∙ m.written_whole n e
+
+    -- the destructor is of the class
+    this : (t.routine d).this ≡ Some x.class
+    this = by (written_at p x.class role.Destructor) refl
+      where
+        m : TellsMaker t p x.class role.Destructor
+        m = is_made.1
+
+        by : (o : Option ℕ) → written_at p x.class role.Destructor ≡ o → (t.routine d).this ≡ Some x.class
+        by None e = ap (λ n. (t.routine n).this) (x.ends ∙ ap (role_number p x.class role.Destructor) e) ∙ m.unwritten_this e
+        by (Some n) e = ap (λ n. (t.routine n).this) (x.ends ∙ ap (role_number p x.class role.Destructor) e) ∙ (m.written n e).this
+
+    plain : (i : ℕ) → (t.routine d).this ≡ Some i → t.mutex i ≡ false
+    plain i e =
+        let same : x.class ≡ i = (let q : Some x.class ≡ Some i = sym this ∙ e in cc) in
+        subst (λ i. t.mutex i ≡ false) same is_made.2
+
+    purpose : (q : Routine) → slice_get source.routines r ≡ Some q → q.purpose ≡ src.Builder
+    purpose q e = builder q.purpose (t.routine r).whole whole ((law_sound p formed accepted).routines r q e).purpose
+
+  module _ (few : Few) (s : State) where
+    -- the routine is called at the variable
+    abbrev Called : ℕ → ℕ → ℕ → Type 0
+    Called r d k = ArePaired p r d × (top (drop (params source r) s.run.operands) ≡ variable s.env.exec s.run.frame k)
+
+    object : (r k : ℕ) → top (drop (params source r) s.run.operands) ≡ variable s.env.exec s.run.frame k → (q : Routine) → slice_get source.routines r ≡ Some q → top (drop q.params s.run.operands) ≡ variable s.env.exec s.run.frame k
+    object r k h q e = subst (λ o. top (drop (params_at o) s.run.operands) ≡ variable s.env.exec s.run.frame k) e h
+
+    is_constructed : (r k i : ℕ) (c : CleanUp) → CleansAt t (Obj i) (src.Variable k) c → OfPlain (Called r) c → Makes t few source s r i → IsConstructed t few source s r k i
+    is_constructed r k i c d h m =
+        let z = plain_of t k i (Called r) c d h in
+        record {
+          purpose = purpose r z.0 z.2.0;
+          plain = plain r z.0 z.2.0 i z.1;
+          makes = m.makes;
+          object = object r k z.2.1;
+          apart = m.apart;
+        }
+
+    constructs : (r : ℕ) (todo : List Todo) → Awaited (Called r) todo → MakesNext t few source s r todo → Constructs t few source s r todo
+    constructs r (piece.DropNow ∷ (piece.Within line ∷ (piece.Rest (src.Scoped c ss) ∷ todo))) h m = λ k i d. by k i d (m k i d)
+      where
+        by : (k i : ℕ) → CleansAt t (Obj i) (src.Variable k) c → IsUnbound t (Obj i) ⊎ Makes t few source s r i → IsUnbound t (Obj i) ⊎ IsConstructed t few source s r k i
+        by k i d (inl none) = inl none
+        by k i d (inr x) = inr (is_constructed r k i c d h x)
+    constructs r todo h m = tt
+
+    at : (l : List Todo) → CallsAt p source l s → RemainsAt t few source s l → BuildsAt t few source s l
+    at (piece.CallNow r ∷ todo) h m = no_scope t todo h
+    at (piece.RaiseNow ∷ todo) h m = no_scope t (piece.DropNow ∷ todo) h
+    at (piece.CallOnNow r ∷ todo) h m = constructs r todo h m
+    at (piece.CallUnwrittenNow r ∷ todo) h m = constructs r todo h m
+    at (piece.BindNow ∷ todo) h m = m
+    at l h m = tt
+
+    pub fair : Remains t few source s → IsCalled p source s → Fair t few source s
+    fair m c = record { at = at s.run.control c.calls m; joins = c.joins }

@@ -1,0 +1,60 @@
+-- Runs of programs within their limits in which of scopes only those of plain objects are asked: what is known by its number is there.
+use Rattle.std.specs.Prelude.{◌≡◌, ℕ, zero, suc, false, List, [], ◌∷◌}
+use Rattle.uc_tree.specs.Programs.{Program}
+use Rattle.uc_tree.specs.Source.{Source, CleanUp, Stmts, Scoped}
+use Rattle.uc_entry.specs.declared.entry.Options.{Options}
+use Rattle.uc_acts.specs.Journal.{Journal, is_over}
+use Rattle.uc_acts.specs.KernelRuns.{InRange}
+use Rattle.uc_machine.specs.Pieces.{Todo, Rest, State}
+use Rattle.uc_machine.specs.Answering.{answered}
+use Rattle.uc_meaning.specs.Runs.{World, Runs, drawn}
+use Rattle.uc_program_laws.specs.Fitting.{RunFits}
+use Rattle.uc_resolve.specs.Resolve.{source_of}
+use Rattle.uc_rules.specs.Breaks.{breaks_of}
+use Rattle.uc_scope_laws.specs.RoomRuns.{Comes}
+use Rattle.uc_value_laws.specs.Endings.{RunHolds, LeadsHold}
+use Rattle.uc_address_laws.specs.Limits.{IsWithinLimits}
+use Rattle.uc_typing.specs.Typing.{Table}
+use Rattle.uc_typing.specs.Laws.{ReadsIn}
+use Rattle.uc_sound.specs.Formed.{IsFormed}
+use Rattle.uc_sound.specs.Tables.{table_of}
+use Rattle.uc_life_laws.specs.LifeStates.{LifeState}
+use Rattle.uc_life_laws.specs.Knowing.{KnowsState, Finds}
+use Rattle.uc_life_laws.specs.Opened.{any, ObjectsHold}
+
+-- a step finds what it is to find of objects and of what it reads: where a scope of plain objects opens, they hold what is known; and by some
+-- typing the step finds the rest
+pub record FindsObjects (t : Table) (s : State) : Type 0 where
+  pub objects : (c : CleanUp) (rest : Stmts) (todo : List Todo) →
+      s.run.control ≡ Rest (Scoped c rest) ∷ todo →
+      ObjectsHold t c todo s
+  pub finds : KnowsState t any [] s →
+      (x : KnowsState t any [] s) × Finds t any x.sigs x.run.sig x.run.scope s s.run.control x.run.own
+
+-- but in the four states from which a clean-up comes to the variable that it ends, and reads it
+abbrev pub FindsOutside : Table → ℕ → State → Type 0
+FindsOutside t zero s = FindsObjects t s
+FindsOutside t (suc n) s = Unit {0}
+
+-- all is known then of whoever runs in each state to which it comes before it asks, what is in scope holds what is, and what its next step reads
+-- is of its type
+pub record AreFollowed (t : Table) (source : Source) (j : Journal) (w : World) : Type 0 where
+  pub comes : (n : ℕ) (s : State) (c : Comes source j w n s) →
+      LeadsHold (FindsOutside t) source 0 (answered source c.given (drawn j w n)) s c.leads →
+      KnowsState t any [] s
+  pub scopes : (n : ℕ) (s : State) (c : Comes source j w n s) →
+      LeadsHold (FindsOutside t) source 0 (answered source c.given (drawn j w n)) s c.leads →
+      LifeState t any s
+  pub reads : (n : ℕ) (s : State) (c : Comes source j w n s) →
+      LeadsHold (FindsOutside t) source 0 (answered source c.given (drawn j w n)) s c.leads →
+      FindsObjects t s → ReadsIn t s
+
+-- so it is in each run of a program that breaks no rule and is within its limits, as long as all that was asked so far fits
+abbrev pub LawOpened : Type 0
+LawOpened =
+    (p : Program) → IsFormed p → breaks_of p ≡ [] → IsWithinLimits p →
+    (input : List ℕ) (opts : Options) → InRange opts →
+    (j : Journal) (w : World) (r : Runs (source_of p) input opts j w) →
+    RunFits (source_of p) input opts j w r → is_over j ≡ false →
+    RunHolds (FindsOutside (table_of p)) (source_of p) input opts j w r →
+    AreFollowed (table_of p) (source_of p) j w

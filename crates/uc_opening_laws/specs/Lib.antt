@@ -1,0 +1,5 @@
+pub mod Opened
+pub mod Called
+pub mod CalledStates
+pub mod OpeningLaws
+pub mod OpeningRuns

@@ -1,0 +1,97 @@
+-- Code in which the scope of an object that is a variable, and no mutex object, opens right behind the statement that calls a constructor of its
+-- class at that variable.
+use Rattle.std.specs.Prelude.{◌≡◌, ℕ, Option, Some, None, slice_get}
+use Rattle.uc_tree.specs.declared.kinds.Base.{Base}
+use Rattle.uc_tree.specs.declared.kinds.Role.{Role}
+use Rattle.uc_tree.specs.declared.kinds.Role.TheVariants as role
+use Rattle.uc_tree.specs.Objects.{APlain, making, written_at, unwritten_number}
+use Rattle.uc_tree.specs.Programs.{Program}
+use Rattle.uc_tree.specs.Source.{Expr, Variable, OfObject, CallOn, CallUnwritten, CleanUp, Destroys, Stmt, Stmts, Block, Whole, Evaluate, If, Loop, OfEvents, OfTasks, Nil, Then, Scoped, Built, EventStmt, Try, Enable, Disable, TaskStmt, Accept, Handlers, NoHandlers, MoreHandlers, Clauses, NoClauses, Otherwise, MoreClauses, Routine, Source}
+
+-- the constructor or the destructor of a class, by its number: the one that is written, or that which stands for it where none is
+abbrev pub role_number : Program → ℕ → Role → Option ℕ → ℕ
+role_number p i wanted None = unwritten_number p i wanted
+role_number p i wanted (Some r) = r
+
+-- a constructor and a destructor, by their numbers, of one class, of which variables are declared, and which is no mutex class
+pub record ArePaired (p : Program) (r d : ℕ) : Type 0 where
+  pub class : ℕ
+  pub base : Base
+  pub made : making p base ≡ Some (APlain class)
+  pub builds : r ≡ role_number p class role.Constructor (written_at p class role.Constructor)
+  pub ends : d ≡ role_number p class role.Destructor (written_at p class role.Destructor)
+
+-- what an expression calls at a variable: the routine, and the first cell of the variable
+abbrev pub CallsAt : (ℕ → ℕ → Type 0) → Expr → Type 0
+CallsAt P (OfObject (CallOn r (Variable k) args)) = P r k
+CallsAt P (OfObject (CallUnwritten r (Variable k))) = P r k
+CallsAt P e = ⊥
+
+-- so is it of what a clean-up calls there
+abbrev pub OfPlain : (ℕ → ℕ → Type 0) → CleanUp → Type 0
+OfPlain P (Destroys (OfObject (CallOn d (Variable k) args))) = P d k
+OfPlain P (Destroys (OfObject (CallUnwritten d (Variable k)))) = P d k
+OfPlain P c = Unit {0}
+
+-- so is it of the scope that opens next in what is left of a block
+abbrev pub OpensOf : (ℕ → ℕ → Type 0) → Stmts → Type 0
+OpensOf P (Scoped c rest) = OfPlain P c
+OpensOf P ss = Unit {0}
+
+-- no such scope opens next
+abbrev pub OpensNone : Stmts → Type 0
+OpensNone ss = OpensOf (λ d k. ⊥) ss
+
+module _ (p : Program) where
+  -- an expression calls a constructor at a variable which a destructor of its class destroys
+  abbrev pub Builds : Expr → ℕ → ℕ → Type 0
+  Builds e d k = CallsAt (λ r m. (m ≡ k) × ArePaired p r d) e
+
+  -- a statement does
+  abbrev pub Before : Stmt → ℕ → ℕ → Type 0
+  Before (Evaluate line e) d k = Builds e d k
+  Before a d k = ⊥
+
+  -- each scope of such an object stands behind a statement that does
+  abbrev mutual
+    pub OpenedStmt : Stmt → Type 0
+    OpenedStmt (Block line body) = OpensNone body × OpenedStmts body
+    OpenedStmt (Whole line body) = OpensNone body × OpenedStmts body
+    OpenedStmt (If line e a b) = OpenedStmt a × OpenedStmt b
+    OpenedStmt (Loop line order e step b) = OpenedStmt b
+    OpenedStmt (OfEvents a) = OpenedEvent a
+    OpenedStmt (OfTasks a) = OpenedTask a
+    OpenedStmt a = Unit {0}
+
+    pub OpenedStmts : Stmts → Type 0
+    OpenedStmts Nil = Unit {0}
+    OpenedStmts (Then a rest) = OpenedStmt a × OpensOf (Before a) rest × OpenedStmts rest
+    OpenedStmts (Scoped c rest) = OpensNone rest × OpenedStmts rest
+    OpenedStmts (Built c rest) = OpensNone rest × OpenedStmts rest
+
+    pub OpenedEvent : EventStmt → Type 0
+    OpenedEvent (Try line body hs) = (OpensNone body × OpenedStmts body) × OpenedHandlers hs
+    OpenedEvent (Enable line events cell a) = OpenedStmt a
+    OpenedEvent (Disable line events cell a) = OpenedStmt a
+    OpenedEvent a = Unit {0}
+
+    pub OpenedHandlers : Handlers → Type 0
+    OpenedHandlers NoHandlers = Unit {0}
+    OpenedHandlers (MoreHandlers resumes event cell line body rest) = (OpensNone body × OpenedStmts body) × OpenedHandlers rest
+
+    pub OpenedTask : TaskStmt → Type 0
+    OpenedTask (Accept line site cs) = OpenedClauses cs
+    OpenedTask a = Unit {0}
+
+    pub OpenedClauses : Clauses → Type 0
+    OpenedClauses NoClauses = Unit {0}
+    OpenedClauses (Otherwise b) = OpenedStmt b
+    OpenedClauses (MoreClauses guard b cs) = OpenedStmt b × OpenedClauses cs
+
+  abbrev pub OpenedRoutine : Option Routine → Type 0
+  OpenedRoutine None = Unit {0}
+  OpenedRoutine (Some r) = OpensNone r.body × OpenedStmts r.body
+
+  -- the routines of a source
+  abbrev pub OpenedSource : Source → Type 0
+  OpenedSource source = (n : ℕ) → OpenedRoutine (slice_get source.routines n)

@@ -1,0 +1,12 @@
+pub mod Births
+pub mod FreshKeeping
+pub mod FreshSteps
+pub mod FreshRuns
+pub mod Forgetting
+pub mod OutlastKeeping
+pub mod OutlastSteps
+pub mod OutlastWalk
+pub mod Outlasting
+pub mod Upwards
+pub mod OutlastRuns
+pub mod RootedRuns

@@ -1,0 +1,353 @@
+-- In each run what executions were to clean up as they made others stays with them, as long as no state reaches a mark of those.
+use Rattle.std.proofs.Common.{◌≡◌, ℕ, ◌==◌, ◌<◌, ◌≤◌, Bool, true, false, List, [], ◌∷◌, ◌++◌, Option, Some, None, refl, sym, ap, ◌∙◌, subst, arith, ⊎_elim, ◌||◌}
+use Rattle.std.specs.Prelude.{if◌then◌else◌, slice_get}
+use Rattle.std.proofs.lemmas.Bool.{cases_lt}
+use Rattle.uc_tree.specs.Source.{Source, Routine, routine_of}
+use Rattle.uc_entry.specs.declared.entry.Entry.{Entry}
+use Rattle.uc_entry.specs.declared.entry.Options.{Options}
+use Rattle.uc_entry.specs.declared.request.Asked.{Asked}
+use Rattle.uc_entry.specs.declared.request.Request.{Request}
+use Rattle.uc_entry.specs.declared.request.Request.TheVariants as ask
+use Rattle.uc_entry.specs.Keyed.{find}
+use Rattle.uc_acts.specs.Journal.{Journal, begin, held, is_over, own_object, cost}
+use Rattle.uc_acts.specs.Known.{task_count, spawns, takes_out}
+use Rattle.uc_acts.specs.Serves.{left}
+use Rattle.uc_acts.specs.Acts.{act, dispatch, lone_limit}
+use Rattle.uc_acts.specs.KernelRuns.{InRange, Fits}
+use Rattle.uc_acts.proofs.Bounds.{over_limit}
+use Rattle.uc_acts.proofs.Law.{good_whole, lawful_act}
+use Rattle.uc_acts.proofs.SoundLemmas.{tasks_push}
+use Rattle.uc_machine.specs.declared.exec.Exec.{Exec}
+use Rattle.uc_machine.specs.declared.exec.Home.TheVariants as home
+use Rattle.uc_machine.specs.Executions.{exec_eq, members_at}
+use Rattle.uc_machine.specs.Switches as sw
+use Rattle.uc_machine.specs.Switches.{new_exec}
+use Rattle.uc_machine.specs.Pieces as piece
+use Rattle.uc_machine.specs.Pieces.{Todo, SetUpNow, Active, State, Env, Members, Step, Goes, Ticks, Asks, at, in_env, written, Running}
+use Rattle.uc_machine.specs.Quiet as quiet
+use Rattle.uc_machine.specs.Quiet.{home_at, first_state}
+use Rattle.uc_machine.specs.Answering.{answered, child_main, child_of}
+use Rattle.uc_machine.specs.Rides.{Rides, slices, goes_on, ticks, asks}
+use Rattle.uc_meaning.specs.Runs.{World, Runs, AsksIn, gives, no_room, acts, begun, more, first_world, with_home, hand_of, drawn, bare, or_else, world_after}
+use Rattle.uc_program_laws.specs.Fitting.{RunFits}
+use Rattle.uc_program_laws.proofs.Others.{RunRests, run_rests, may_ask}
+use Rattle.uc_hand_laws.proofs.DeepWorlds.{DeepWorld, deep_run, spawns_none, spawned_by}
+use Rattle.uc_value_laws.specs.Opens.{RideMeets, RunMeets}
+use Rattle.uc_name_laws.specs.NameSteps.{IsBorn}
+use Rattle.uc_name_laws.proofs.Homes.{no_both, same_exec}
+use Rattle.uc_named_runs.proofs.Worlds.{known, own_spawn}
+use Rattle.uc_named_runs.proofs.Worlds as named
+use Rattle.uc_life_laws.specs.Knowing.{main_of}
+use Rattle.uc_life_laws.specs.LifeStates.{HandBy, MembersBy, EnvBy}
+use Rattle.uc_life_laws.proofs.Cells.{either, tested}
+use Rattle.uc_life_laws.proofs.Parked as parked
+use Rattle.uc_world_laws.proofs.Fewer.{both_members, both_env}
+use Rattle.uc_rooted_runs.specs.Makers.{Placed, placed, stacked, Ends, Makers}
+use Rattle.uc_rooted_runs.specs.Outlasting.{EndIn, Outlasts, OutlastEx, OutlastState, OutlastStep, Spares, SparesAt}
+use Rattle.uc_rooted_runs.specs.Births.{MakesLater, SpawnsLater, RunSpawnsLater}
+use Rattle.uc_rooted_runs.specs.Upwards.{OutlastWorld}
+use Rattle.uc_rooted_runs.specs.OutlastRuns.{with_before, with_made, made_by, made_behind, ride_made, made_asked, run_made, now, OutlastsAt, RideOutlasts, SpawnsAlone, MayOutlast, RunOutlasts, LawOutlastRuns}
+use Rattle.uc_rooted_runs.proofs.OutlastWalk as walking
+use Rattle.uc_rooted_runs.proofs.OutlastSteps as steps
+use Rattle.uc_rooted_runs.proofs.OutlastKeeping as kept
+use Rattle.uc_rooted_runs.proofs.Outlasting.{ends_more, state_fewer, state_more}
+
+module _ (whole : Makers) (before : Exec → List Placed) (ends : (n : Exec) → Ends (before n) (whole.before n)) (asked : Exec → Bool) where
+  -- with these outer parts
+  abbrev makers : Makers
+  makers = with_before before whole
+
+  -- who is made now was not before
+  abbrev Now : (Exec → Bool) → Exec → Bool
+  Now made = now makers asked made
+
+  now_asked : (made : Exec → Bool) (x : Exec) → now makers asked made x ≡ true → asked x ≡ true
+  now_asked made x h = by (asked x) refl h
+    where
+      by : (b : Bool) → asked x ≡ b → (if b then made x else false) ≡ true → asked x ≡ true
+      by true e h = e
+      by false e h = absurd (cc)
+
+  now_made : (made : Exec → Bool) (x : Exec) → now makers asked made x ≡ true → made x ≡ true
+  now_made made x h = by (asked x) h
+    where
+      by : (b : Bool) → (if b then made x else false) ≡ true → made x ≡ true
+      by true h = h
+      by false h = absurd (cc)
+
+  not_now : (made : Exec → Bool) (x : Exec) → asked x ≡ true → now makers asked made x ≡ false → made x ≡ false
+  not_now made x e h = ap (λ b. if b then made x else false) (sym e) ∙ h
+
+  -- what a state makes
+  born_now : (source : Source) (s : State) (made : Exec → Bool) (x : Exec) → made_behind source s made x ≡ true → made x ≡ false → IsBorn source s x
+  born_now source s made x h f = at s.run.control refl h
+    where
+      one : (r : ℕ) (todo : List Todo) → s.run.control ≡ SetUpNow r ∷ todo → (a : Option Routine) → slice_get source.routines r ≡ a → (m : Option Members) → members_at (home_at s.run.this s.env) s.env ≡ m → with_made a m (new_exec (home_at s.run.this s.env) s.env) made x ≡ true → IsBorn source s x
+      one r todo c None e m g h = absurd (no_both (made x) h f)
+      one r todo c (Some a) e None g h = absurd (no_both (made x) h f)
+      one r todo c (Some a) e (Some m) g h = by (exec_eq x (new_exec (home_at s.run.this s.env) s.env)) refl h
+        where
+          by : (b : Bool) → exec_eq x (new_exec (home_at s.run.this s.env) s.env) ≡ b → (if b then true else made x) ≡ true → IsBorn source s x
+          by true q h =
+              let same : x ≡ new_exec (home_at s.run.this s.env) s.env = same_exec x (new_exec (home_at s.run.this s.env) s.env) q in
+              record {
+                main = r;
+                todo = todo;
+                next = c;
+                routine = a;
+                known = e;
+                members = m;
+                in_hand = ap (λ k. members_at k s.env) (ap (λ (n : Exec). n.home) same) ∙ g;
+                named = same;
+              }
+          by false q h = absurd (no_both (made x) h f)
+
+      at : (l : List Todo) → s.run.control ≡ l → made_by source l s made x ≡ true → IsBorn source s x
+      at [] c h = absurd (no_both (made x) h f)
+      at (SetUpNow r ∷ todo) c h = one r todo c (slice_get source.routines r) refl (members_at (home_at s.run.this s.env) s.env) refl h
+      at (p ∷ todo) c h = absurd (no_both (made x) h f)
+
+  -- a step that makes one goes on with the same running execution and the same marks
+  record Same (s u : State) : Type 0 where
+    exec : u.env.exec ≡ s.env.exec
+    marks : stacked (u.run ∷ u.callers) ≡ stacked (s.run ∷ s.callers)
+
+  birth_same : (source : Source) (up : Exec → Bool) (s u : State) (x : Exec) → IsBorn source s x → OutlastState makers up s → Spares makers up s → quiet.quiet source s ≡ Goes u → Same s u
+  birth_same source up s u x b st o e =
+      let new : SparesAt makers up (SetUpNow b.main ∷ b.todo) s = subst (λ l. SparesAt makers up l s) b.next o in
+      let q = home_at s.run.this s.env in
+      let y = quiet.fresh b.routine s.run.this in
+      let k : kept.Keeps makers up s.env (sw.born q y s.env) = kept.born_keeps makers up q y s.env (steps.fresh makers up s st (new_exec q s.env) b.routine s.run.this new) st.env in
+      let l : kept.Keeps makers up s.env (written s.run.this (Running (new_exec q s.env)) (sw.born q y s.env)) = kept.keeps_both makers up k (kept.written_keeps makers up s.run.this (Running (new_exec q s.env)) (sw.born q y s.env) k.env) in
+      let first : quiet.act_todo source (SetUpNow b.main ∷ b.todo) s ≡ Goes u = subst (λ l. quiet.act_todo source l s ≡ Goes u) b.next e in
+      let goes : Goes (at b.todo s.run.operands (in_env (written s.run.this (Running (new_exec q s.env)) (sw.born q y s.env)) s)) ≡ Goes u = subst (λ o. quiet.set_up_step o b.todo s ≡ Goes u) b.known first in
+      let same : at b.todo s.run.operands (in_env (written s.run.this (Running (new_exec q s.env)) (sw.born q y s.env)) s) ≡ u = cc goes in
+      subst (Same s) same (record {
+        exec = l.exec;
+        marks = ap (λ l. placed s.run.frame s.run.this l (stacked s.callers)) (sym b.next);
+      })
+
+  goes_only : (source : Source) (s u : State) (x : Exec) → IsBorn source s x → quiet.quiet source s ≡ Ticks u → ⊥
+  goes_only source s u x b e =
+      let first : quiet.act_todo source (SetUpNow b.main ∷ b.todo) s ≡ Ticks u = subst (λ l. quiet.act_todo source l s ≡ Ticks u) b.next e in
+      let goes : quiet.set_up_step (Some b.routine) b.todo s ≡ Ticks u = subst (λ o. quiet.set_up_step o b.todo s ≡ Ticks u) b.known first in
+      cc
+
+  asks_not : (source : Source) (s u : State) (r : Request) (x : Exec) → IsBorn source s x → quiet.quiet source s ≡ Asks r u → ⊥
+  asks_not source s u r x b e =
+      let first : quiet.act_todo source (SetUpNow b.main ∷ b.todo) s ≡ Asks r u = subst (λ l. quiet.act_todo source l s ≡ Asks r u) b.next e in
+      let goes : quiet.set_up_step (Some b.routine) b.todo s ≡ Asks r u = subst (λ o. quiet.set_up_step o b.todo s ≡ Asks r u) b.known first in
+      cc
+
+  -- behind a step, of those too that it has made
+  module _ (source : Source) (made : Exec → Bool) (s : State) (st : OutlastState makers (now makers asked made) s) (a : OutlastsAt makers asked source made s) (l : MakesLater source whole s) where
+    abbrev Behind : Exec → Bool
+    Behind = now makers asked (made_behind source s made)
+
+    born : (x : Exec) → now makers asked (made_behind source s made) x ≡ true → now makers asked made x ≡ false → IsBorn source s x
+    born x h f = born_now source s made x (now_made (made_behind source s made) x h) (not_now made x (now_asked (made_behind source s made) x h) f)
+
+    -- where nothing is made it is asked of the same ones
+    same_asked : ((x : Exec) → IsBorn source s x → ⊥) → (x : Exec) → now makers asked (made_behind source s made) x ≡ true → now makers asked made x ≡ true
+    same_asked f x h = by (now makers asked made x) refl
+      where
+        by : (b : Bool) → now makers asked made x ≡ b → now makers asked made x ≡ true
+        by true e = e
+        by false e = absurd (f x (born x h e))
+
+    step_goes : (u : State) → quiet.quiet source s ≡ Goes u → OutlastState makers (now makers asked (made_behind source s made)) u
+    step_goes u e = by (now makers asked (made_behind source s made) (new_exec (home_at s.run.this s.env) s.env)) refl (now makers asked made (new_exec (home_at s.run.this s.env) s.env)) refl
+      where
+        y : OutlastState makers (now makers asked made) u
+        y = subst (OutlastStep makers (now makers asked made)) e (walking.walk makers (now makers asked made) source s st a.spares)
+
+        told : (x : Exec) → now makers asked (made_behind source s made) x ≡ true → now makers asked made x ≡ false → (makers.parent x ≡ u.env.exec) × Ends (makers.before x) (stacked (u.run ∷ u.callers))
+        told x k f =
+            let b = born x k f in
+            let m = l x b in
+            let g = birth_same source (now makers asked made) s u x b st a.spares e in
+            (m.parent ∙ sym g.exec, subst (Ends (before x)) (m.before ∙ sym g.marks) (ends x))
+
+        by : (c : Bool) → now makers asked (made_behind source s made) (new_exec (home_at s.run.this s.env) s.env) ≡ c → (d : Bool) → now makers asked made (new_exec (home_at s.run.this s.env) s.env) ≡ d → OutlastState makers (now makers asked (made_behind source s made)) u
+        by true g false i =
+            state_more makers (now makers asked made) (now makers asked (made_behind source s made)) u y (a.alone (new_exec (home_at s.run.this s.env) s.env) (born (new_exec (home_at s.run.this s.env) s.env) g i) u e) told
+        by true g true i =
+            state_fewer makers (now makers asked made) (now makers asked (made_behind source s made)) u y (λ x h. still x h (now makers asked made x) refl)
+          where
+            still : (x : Exec) → now makers asked (made_behind source s made) x ≡ true → (b : Bool) → now makers asked made x ≡ b → now makers asked made x ≡ true
+            still x h true f = f
+            still x h false f = ap (now makers asked made) (born x h f).named ∙ i
+        by false g d i =
+            state_fewer makers (now makers asked made) (now makers asked (made_behind source s made)) u y (λ x h. still x h (now makers asked made x) refl)
+          where
+            still : (x : Exec) → now makers asked (made_behind source s made) x ≡ true → (b : Bool) → now makers asked made x ≡ b → now makers asked made x ≡ true
+            still x h true f = f
+            still x h false f = no_both (now makers asked (made_behind source s made) (new_exec (home_at s.run.this s.env) s.env)) (ap (now makers asked (made_behind source s made)) (sym (born x h f).named) ∙ h) g
+
+    step_ticks : (u : State) → quiet.quiet source s ≡ Ticks u → OutlastState makers (now makers asked (made_behind source s made)) u
+    step_ticks u e =
+        state_fewer makers (now makers asked made) (now makers asked (made_behind source s made)) u (subst (OutlastStep makers (now makers asked made)) e (walking.walk makers (now makers asked made) source s st a.spares)) (same_asked (λ x b. goes_only source s u x b e))
+
+    step_asks : (r : Request) (u : State) → quiet.quiet source s ≡ Asks r u → OutlastState makers (now makers asked (made_behind source s made)) u
+    step_asks r u e =
+        state_fewer makers (now makers asked made) (now makers asked (made_behind source s made)) u (subst (OutlastStep makers (now makers asked made)) e (walking.walk makers (now makers asked made) source s st a.spares)) (same_asked (λ x b. asks_not source s u r x b e))
+
+  ride_outlasts : (source : Source) (made : Exec → Bool) {s u : State} {q k : ℕ} {a : Asked} (r : Rides source s q u k a) → RideOutlasts makers asked source made r → RideMeets (MakesLater source whole) source s q u k a r → OutlastState makers (now makers asked made) s → OutlastState makers (now makers asked (ride_made source made r)) u
+  ride_outlasts source made slices o l st = st
+  ride_outlasts source made (goes_on {s} {t} e r) o l st = ride_outlasts source (made_behind source s made) r o.1 l.1 (step_goes source made s st o.0 l.0 t e)
+  ride_outlasts source made (ticks {s} {t} e r) o l st = ride_outlasts source (made_behind source s made) r o.1 l.1 (step_ticks source made s st o.0 l.0 t e)
+  ride_outlasts source made (asks {s} {t} {q} {r} e) o l st = step_asks source made s st o l r t e
+
+  -- what is spawned
+
+  module _ (made : Exec → Bool) (s : State) where
+    asked_spawned : (q : Request) → SpawnsAlone makers asked made q s → SpawnsLater whole q s → OutlastState makers (now makers asked made) s → OutlastState makers (now makers asked (made_asked q made)) s
+    asked_spawned (ask.Spawn o) f l st = state_more makers (now makers asked made) (now makers asked (made_asked (ask.Spawn o) made)) s st f.0 told
+      where
+        told : (x : Exec) → now makers asked (made_asked (ask.Spawn o) made) x ≡ true → now makers asked made x ≡ false → (makers.parent x ≡ s.env.exec) × Ends (makers.before x) (stacked (s.run ∷ s.callers))
+        told x h g = by (exec_eq x (main_of o)) refl
+          where
+            old : made x ≡ false
+            old = not_now made x (now_asked (made_asked (ask.Spawn o) made) x h) g
+
+            by : (b : Bool) → exec_eq x (main_of o) ≡ b → (makers.parent x ≡ s.env.exec) × Ends (makers.before x) (stacked (s.run ∷ s.callers))
+            by true e =
+                let same = same_exec x (main_of o) e in
+                (ap whole.parent same ∙ l.parent, subst (Ends (before x)) (ap whole.before same ∙ l.before) (ends x))
+            by false e =
+                let now_it : (if exec_eq x (main_of o) then true else made x) ≡ true = now_made (made_asked (ask.Spawn o) made) x h in
+                no_both (made x) (ap (λ b. if b then true else made x) (sym e) ∙ now_it) old
+    asked_spawned q f l st = state_fewer makers (now makers asked made) (now makers asked (made_asked q made)) s st (λ x h. h)
+
+  -- worlds
+
+  with_hand_told : (up : Exec → Bool) (o : ℕ) (m : Option Members) (hand : List (ℕ × Members)) → MembersBy (OutlastEx makers up) (home.Object o) m → HandBy (OutlastEx makers up) hand → HandBy (OutlastEx makers up) (with_home o m hand)
+  with_hand_told up o None hand h k = k
+  with_hand_told up o (Some m) hand h k = (h, k)
+
+  hand_told : (up : Exec → Bool) (os : List ℕ) (homes : ℕ → Option Members) → ((o : ℕ) → MembersBy (OutlastEx makers up) (home.Object o) (homes o)) → HandBy (OutlastEx makers up) (hand_of os homes)
+  hand_told up [] homes h = tt
+  hand_told up (o ∷ os) homes h = with_hand_told up o (homes o) (hand_of os homes) (h o) (hand_told up os homes h)
+
+  drawn_told : (up : Exec → Bool) (j : Journal) (w : World) (t : ℕ) → t < task_count j → OutlastWorld makers up j w → OutlastState makers up (drawn j w t)
+  drawn_told up j w t l h = record {
+    stack = h.stacks t l;
+    env = record { house = (h.tasks t).house; hand = hand_told up (held t j) w.homes h.homes };
+  }
+
+  bare_told : (up : Exec → Bool) (s : State) → OutlastState makers up s → OutlastState makers up (bare s)
+  bare_told up s h = record { stack = h.stack; env = record { house = h.env.house; hand = tt } }
+
+  bare_main : (r : Routine) (o : ℕ) (up : Exec → Bool) → EndIn makers up (main_of o) [] → Outlasts makers up (first_state r o).env.exec ((first_state r o).run ∷ (first_state r o).callers)
+  bare_main r o up h = steps.routine makers up (main_of o) 0 (piece.Object o) [] r h
+
+  first_env : (r : Routine) (o : ℕ) (up : Exec → Bool) → EnvBy (OutlastEx makers up) (first_state r o).env
+  first_env r o up = record { house = (tt, tt); hand = tt }
+
+  module _ (source : Source) (input : List ℕ) (opts : Options) (range : InRange opts) where
+    module _ {j : Journal} {w : World} (rests : RunRests source input opts j w) (going : is_over j ≡ false) (deep : DeepWorld j w) (made : Exec → Bool) (h : OutlastWorld makers (now makers asked made) j w) (p t n : ℕ) (s : State) (q : Asked) (d : AsksIn source opts j w p t n s q) (f : Fits opts source.sites j t q.request) (on : is_over (j ++ act opts source.sites input j p t n q) ≡ false) (k : MayOutlast makers asked source input opts made (acts p t n s q d)) (lt : t < task_count j) (ml : RideMeets (MakesLater source whole) source (answered source d.given (drawn j w t)) (left opts j t) s n q d.rides) (sl : SpawnsLater whole q.request s) where
+      abbrev a : List Entry
+      a = act opts source.sites input j p t n q
+
+      abbrev After : Exec → Bool
+      After = now makers asked (made_asked q.request (ride_made source made d.rides))
+
+      -- the state that has asked
+      behind : OutlastState makers (now makers asked (made_asked q.request (ride_made source made d.rides))) s
+      behind =
+          asked_spawned (ride_made source made d.rides) s q.request k.1 sl (ride_outlasts source made d.rides k.0 ml (walking.answered_there makers (now makers asked made) source d.given (drawn j w t) (drawn_told (now makers asked made) j w t lt h)))
+
+      -- elsewhere
+      old_stack : (v : ℕ) → v < task_count j → (v == t) ≡ false → Outlasts makers (now makers asked (made_asked q.request (ride_made source made d.rides))) (w.tasks v).env.exec ((w.tasks v).run ∷ (w.tasks v).callers)
+      old_stack v l e =
+          ends_more makers (now makers asked made) (now makers asked (made_asked q.request (ride_made source made d.rides))) (w.tasks v).env.exec (stacked ((w.tasks v).run ∷ (w.tasks v).callers)) (λ x g i r. absurd (k.2.tasks v l e x g i r)) (h.stacks v l)
+
+      -- of one that has made none meanwhile
+      grown : (m : Exec) (y : _) → ((x : Exec) → now makers asked (made_asked q.request (ride_made source made d.rides)) x ≡ true → now makers asked made x ≡ false → makers.parent x ≡ m → ⊥) → OutlastEx makers (now makers asked made) m y → OutlastEx makers (now makers asked (made_asked q.request (ride_made source made d.rides))) m y
+      grown m y g e = ends_more makers (now makers asked made) (now makers asked (made_asked q.request (ride_made source made d.rides))) m (stacked (y.run ∷ y.callers)) (λ x u d r. absurd (g x u d r)) e
+
+      old_env : (v : ℕ) → (v == t) ≡ false → EnvBy (OutlastEx makers (now makers asked (made_asked q.request (ride_made source made d.rides)))) (w.tasks v).env
+      old_env v e =
+          both_env (λ m y. (x : Exec) → now makers asked (made_asked q.request (ride_made source made d.rides)) x ≡ true → now makers asked made x ≡ false → makers.parent x ≡ m → ⊥) (OutlastEx makers (now makers asked made)) (OutlastEx makers (now makers asked (made_asked q.request (ride_made source made d.rides)))) (λ m y g i. grown m y g i) (w.tasks v).env (k.2.slots v e) (h.tasks v)
+
+      old_home : (o : ℕ) → find o s.env.hand ≡ None → MembersBy (OutlastEx makers (now makers asked (made_asked q.request (ride_made source made d.rides)))) (home.Object o) (w.homes o)
+      old_home o e =
+          both_members (λ m y. (x : Exec) → now makers asked (made_asked q.request (ride_made source made d.rides)) x ≡ true → now makers asked made x ≡ false → makers.parent x ≡ m → ⊥) (OutlastEx makers (now makers asked made)) (OutlastEx makers (now makers asked (made_asked q.request (ride_made source made d.rides)))) (λ m y g i. grown m y g i) (home.Object o) (w.homes o) (k.2.homes o e) (h.homes o)
+
+      or_home : (o : ℕ) (z : Option Members) → find o s.env.hand ≡ z → MembersBy (OutlastEx makers (now makers asked (made_asked q.request (ride_made source made d.rides)))) (home.Object o) z → MembersBy (OutlastEx makers (now makers asked (made_asked q.request (ride_made source made d.rides)))) (home.Object o) (or_else z (w.homes o))
+      or_home o None e m = old_home o e
+      or_home o (Some z) e m = m
+
+      -- the main that is spawned has made none
+      main_none : (o : ℕ) → q.request ≡ ask.Spawn o → EndIn makers (now makers asked (made_asked q.request (ride_made source made d.rides))) (main_of o) []
+      main_none o e x u r = absurd (by q.request e k.1 u)
+        where
+          by : (g : Request) → g ≡ ask.Spawn o → SpawnsAlone makers asked (ride_made source made d.rides) g s → now makers asked (made_asked g (ride_made source made d.rides)) x ≡ true → ⊥
+          by (ask.Spawn c) e g u = let same : c ≡ o = cc in g.1 x u (r ∙ ap main_of (sym same))
+          by g e y u = absurd (cc)
+
+      abbrev Holds : State → Type 0
+      Holds v = Outlasts makers (now makers asked (made_asked q.request (ride_made source made d.rides))) v.env.exec (v.run ∷ v.callers)
+
+      stacks_after : (u : ℕ) → u < task_count (j ++ act opts source.sites input j p t n q) → Holds ((world_after source (act opts source.sites input j p t n q) w t s).tasks u)
+      stacks_after u l = by (u == t) refl
+        where
+          old : (u == t) ≡ false → u < task_count j → Holds ((world_after source (act opts source.sites input j p t n q) w t s).tasks u)
+          old e i =
+              let none : spawns a u ≡ false = spawns_none j a u (lawful_act opts source.sites input j p t n q (good_whole opts source.sites input rests.kernel).sound (may_ask source input opts range d f)) i in
+              let state : (world_after source a w t s).tasks u ≡ w.tasks u = ap (λ b. if b then bare s else if spawns a u then child_of source (own_object u a) s else w.tasks u) e ∙ ap (λ b. if b then child_of source (own_object u a) s else w.tasks u) none in
+              subst Holds (sym state) (old_stack u i e)
+
+          new : (u == t) ≡ false → task_count j ≤ u → Holds ((world_after source (act opts source.sites input j p t n q) w t s).tasks u)
+          new e le =
+              let b = spawned_by source input opts range rests going deep p t n s q d f on u le l in
+              let spawns_it : spawns a u ≡ true = ap (λ l. spawns l u) b.entries ∙ ap (λ c. c || false) b.test in
+              let own : own_object u a ≡ b.object = ap (own_object u) b.entries ∙ own_spawn p t (cost n q.line) b.object (task_count j) u b.test in
+              let state : (world_after source a w t s).tasks u ≡ child_of source b.object s = ap (λ b. if b then bare s else if spawns a u then child_of source (own_object u a) s else w.tasks u) e ∙ (ap (λ b. if b then child_of source (own_object u a) s else w.tasks u) spawns_it ∙ ap (λ o. child_of source o s) own) in
+              subst Holds (sym state) (bare_main (routine_of source (child_main source s.run.control)) b.object (now makers asked (made_asked q.request (ride_made source made d.rides))) (main_none b.object b.request))
+
+          by : (b : Bool) → (u == t) ≡ b → Holds ((world_after source (act opts source.sites input j p t n q) w t s).tasks u)
+          by true e =
+              let state : (world_after source a w t s).tasks u ≡ bare s = ap (λ b. if b then bare s else if spawns a u then child_of source (own_object u a) s else w.tasks u) e in
+              subst Holds (sym state) behind.stack
+          by false e = ⊎_elim (λ i. old e i) (λ le. new e le) (cases_lt u (task_count j))
+
+      tasks_after : (u : ℕ) → EnvBy (OutlastEx makers (now makers asked (made_asked q.request (ride_made source made d.rides)))) ((world_after source (act opts source.sites input j p t n q) w t s).tasks u).env
+      tasks_after u =
+          tested (λ (v : State). EnvBy (OutlastEx makers (now makers asked (made_asked q.request (ride_made source made d.rides)))) v.env) (u == t) (bare s) _ (λ e. (bare_told (now makers asked (made_asked q.request (ride_made source made d.rides))) s behind).env) (λ e. either (λ (v : State). EnvBy (OutlastEx makers (now makers asked (made_asked q.request (ride_made source made d.rides)))) v.env) (spawns a u) (child_of source (own_object u a) s) (w.tasks u) (first_env (routine_of source (child_main source s.run.control)) (own_object u a) (now makers asked (made_asked q.request (ride_made source made d.rides)))) (old_env u e))
+
+      outlast_act : OutlastWorld makers (now makers asked (made_asked q.request (ride_made source made d.rides))) (j ++ act opts source.sites input j p t n q) (world_after source (act opts source.sites input j p t n q) w t s)
+      outlast_act = record {
+        stacks = stacks_after;
+        tasks = tasks_after;
+        homes = λ o. either (MembersBy (OutlastEx makers (now makers asked (made_asked q.request (ride_made source made d.rides)))) (home.Object o)) (takes_out a o) None _ tt (or_home o (find o s.env.hand) refl (parked.found_hand (OutlastEx makers (now makers asked (made_asked q.request (ride_made source made d.rides)))) o s.env.hand behind.env.hand));
+      }
+
+    outlast_given : (up : Exec → Bool) (j : Journal) (w : World) (p t : ℕ) → OutlastWorld makers up j w → OutlastWorld makers up (j ++ dispatch p t ∷ []) w
+    outlast_given up j w p t h =
+        let same = tasks_push j (dispatch p t) in
+        record { stacks = λ u l. h.stacks u (omega (arith, l, same)); tasks = h.tasks; homes = h.homes }
+
+    outlast_begin : OutlastWorld makers (now makers asked (λ x. false)) (begin opts ∷ []) (first_world source)
+    outlast_begin = record {
+      stacks = λ u l x h. absurd (no_one x h);
+      tasks = λ u. first_env (routine_of source source.main) 0 (now makers asked (λ x. false));
+      homes = λ o. either (MembersBy (OutlastEx makers (now makers asked (λ x. false))) (home.Object o)) (o == 0) (Some _) None tt tt;
+    }
+      where
+        no_one : (x : Exec) → now makers asked (λ x. false) x ≡ true → ⊥
+        no_one x h = let e = now_made (λ x. false) x h in absurd (cc)
+
+    run_outlasts : {j : Journal} {w : World} (r : Runs source input opts j w) → RunFits source input opts j w r → is_over j ≡ false → RunOutlasts makers asked source input opts r → RunMeets (MakesLater source whole) source input opts j w r → RunSpawnsLater whole source input opts j w r → OutlastWorld makers (now makers asked (run_made source input opts r)) j w
+    run_outlasts begun f on o ml sl = outlast_begin
+    run_outlasts (more {j} {w} r going (gives p t v le)) f on o ml sl = outlast_given (now makers asked (run_made source input opts r)) j w p t (run_outlasts r f.0 going o.0 ml.0 sl.0)
+    run_outlasts (more {j} r going (no_room p t v le)) f on o ml sl = no_both (is_over (j ++ lone_limit ∷ [])) (over_limit j 0 0) on
+    run_outlasts (more {j} {w} r going (acts p t n s q d)) f on o ml sl =
+        let h = run_outlasts r f.0 going o.0 ml.0 sl.0 in
+        let rests = run_rests source input opts range r f.0 going in
+        let deep = deep_run source input opts range r f.0 going in
+        let x = named.run_named source input opts range r f.0 going in
+        outlast_act rests going deep (run_made source input opts r) h p t n s q d f.1 on o.1 (known source input opts range rests going x.serials x.world p t d.runs) ml.1 sl.1
+
+pub law_outlast_runs : LawOutlastRuns
+law_outlast_runs asked before source input opts j w r range fits on b e o = run_outlasts b.makers before e asked source input opts range r fits on o b.made b.spawned

@@ -1,0 +1,11 @@
+// The laws: each is a function whose contract is the law.
+
+ghost use Rattle.uc_running_laws.specs.Running.{LawRunning};
+
+/// In each run of a program that breaks no rule in which all that was asked so far fits, nothing else
+/// is owed to what tasks let go of, and no step forgets the execution that runs, the running execution
+/// of each task is there, at home in the task or in an object in its hand, without what it has to do,
+/// and no other execution in hand is so.
+pub fn law_running()
+    ensures { LawRunning }
+{}

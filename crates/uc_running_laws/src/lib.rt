@@ -1,0 +1,4 @@
+// Laws of which execution runs, in programs that break no rule: each is a function whose contract is the law.
+#![tactic(auto)]
+
+pub mod laws;

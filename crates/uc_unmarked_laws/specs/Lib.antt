@@ -1,0 +1,4 @@
+pub mod Belonging
+pub mod Marks
+pub mod Unmarked
+pub mod Ending
