@@ -1,9 +1,12 @@
 // Runs the program of four tasks on two processors, through a gate at which rides of the two wait for each other, and prints how many
-// pairs of rides were out at once, and what the program printed.
+// pairs of rides were out at once, and what the program printed. Then runs a program that has a processor of its own, by one worker,
+// through a gate that writes down what it is told, and prints that.
 #![tactic(auto)]
 
+mod ledger;
 mod meeting;
 
+use crate::ledger::Ledger;
 use crate::meeting::Meeting;
 use std::alloc::{AllocError, Global};
 use std::io;
@@ -43,23 +46,58 @@ fn call<R: Threads + Wait + Sync, G: Gate + Sync>(
     })
 }
 
-fn answer<R: Threads + Wait + Sync>(rt: &R, alloc: Global) -> Result<String, AllocError> {
+// A program with a second cluster and a processor for it, on which its second task goes on.
+const COOK: &str = "
+_Task Cook {
+    uCluster & kitchen;
+    void main() {
+        migrate(kitchen);
+        cout << 1;
+        yield();
+        cout << 2 << endl;
+    }
+  public:
+    Cook(uCluster & kitchen) : kitchen(kitchen) { }
+};
+
+void uMain::main() {
+    uCluster kitchen;
+    uProcessor stove(kitchen);
+    Cook cook(kitchen);
+    yield();
+}
+";
+
+// Two rides at once.
+fn meet<R: Threads + Wait + Sync>(rt: &R, alloc: Global) -> Result<String, AllocError> {
     let made = call(rt, alloc, "make 4", Vec::new(alloc), &OpenGate)?;
     let gate = Meeting::new();
     let told = call(rt, alloc, "run a.cc --processors 2", made.out, &gate)?;
     let out = String::from_utf8_lossy(alloc, &told.out)?;
     format!(in alloc;
-        "pairs {}\nin vain {}\n{}status {}\n",
+        "pairs {}\nin vain {}\nworkers {}\n{}status {}\n",
         gate.pairs(),
         gate.is_in_vain(),
+        gate.workers(),
         out,
         told.status
     )
 }
 
+// What the gate is told of each ride of one worker.
+fn write_down<R: Threads + Wait + Sync>(rt: &R, alloc: Global) -> Result<String, AllocError> {
+    let gate = Ledger::new(alloc)?;
+    let text = Vec::from_slice(alloc, COOK.as_bytes())?;
+    let told = call(rt, alloc, "run a.cc --processors 1", text, &gate)?;
+    let out = String::from_utf8_lossy(alloc, &told.out)?;
+    format!(in alloc; "{}{}status {}\n", gate.text(alloc)?, out, told.status)
+}
+
 fn main(rt: HostRuntime) -> io::Result<()> {
     let alloc = rt.alloc();
-    let text = answer(&rt, alloc)?;
-    println!(rt; "{}", text.as_str().trim_end())?;
+    let met = meet(&rt, alloc)?;
+    print!(rt; "{met}")?;
+    let written = write_down(&rt, alloc)?;
+    println!(rt; "{}", written.as_str().trim_end())?;
     Ok(())
 }

@@ -16,6 +16,8 @@ pub struct Meeting {
     // How many rides have come, by the processor; of processor 0 the first one too.
     first: AtomicU64,
     second: AtomicU64,
+    // How many rides have come that are behind their worker's first dispatch.
+    workers: AtomicU64,
     in_vain: AtomicU64,
 }
 
@@ -25,6 +27,7 @@ impl Meeting {
         Meeting {
             first: AtomicU64::new(0),
             second: AtomicU64::new(0),
+            workers: AtomicU64::new(0),
             in_vain: AtomicU64::new(0),
         }
     }
@@ -34,6 +37,11 @@ impl Meeting {
         let first = self.first.load(Ordering::SeqCst).saturating_sub(1);
         let second = self.second.load(Ordering::SeqCst);
         first.min(second).min(PAIRS)
+    }
+
+    /// How many workers have come, each with its first dispatch.
+    pub fn workers(&self) -> u64 {
+        self.workers.load(Ordering::SeqCst)
     }
 
     /// Whether a wait ended in vain.
@@ -56,7 +64,10 @@ impl Meeting {
 }
 
 impl Gate for Meeting {
-    fn ride(&self, processor: u32, _dispatches: u64) {
+    fn ride(&self, processor: u32, dispatches: u64) {
+        if dispatches == 1 {
+            self.workers.fetch_add(1, Ordering::SeqCst);
+        }
         if processor == 0 {
             // The number of this ride, from 0: the first one is not counted.
             let number = self.first.fetch_add(1, Ordering::SeqCst);

@@ -38,8 +38,7 @@ use Rattle.uc_coroutine.specs.UnwindingSteps.{ReturnsPast, Leads, Begins, LeftAs
 use Rattle.uc_coroutine.specs.Switching.{SwitchedAs}
 use Rattle.uc_coroutine.specs.Unwinding.{Made, past_of, left_as}
 use Rattle.uc_except.specs.Handling.{GoesOn, UnwindsNow}
-use Rattle.uc_step.specs.declared.effect.Effect.{Effect}
-use Rattle.uc_step.specs.declared.effect.Effect.TheVariants.{Quiet, Tick, Ask, Throw, Raise, Unwind, Past, Resume, Suspend, TakeDown, EndMain, Astray}
+use Rattle.uc_step.specs.Effects.{Effect, Quiet, Tick, Ask, Throw, Raise, Unwind, Past, Resume, Suspend, TakeDown, EndMain, Astray}
 use Rattle.uc_step.specs.Simulation.{behind_line, HandStands, Follow}
 use Rattle.uc_step.proofs.Apart.{no_test, no_arrival, no_end, no_coroutine_end}
 use Rattle.uc_step.proofs.Simulates.{lines}

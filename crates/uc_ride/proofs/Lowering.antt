@@ -31,8 +31,7 @@ use Rattle.uc_coroutine.specs.declared.testing.TaskMainEnd.TheVariants as end
 use Rattle.uc_coroutine.specs.MainEnds.{block_over, call_over, main_by, main_over}
 use Rattle.uc_coroutine.specs.Switching.{fault_in, state_in, left_by}
 use Rattle.uc_coroutine.specs.Unwinding.{step_of, Made, ending_by, passed_for, passed_as, left_as, past_of}
-use Rattle.uc_step.specs.declared.effect.Effect.{Effect}
-use Rattle.uc_step.specs.declared.effect.Effect.TheVariants.{Quiet, Ask, Throw, Raise, Unwind, Past, Resume, Suspend, TakeDown, EndMain}
+use Rattle.uc_step.specs.Effects.{Effect, Quiet, Ask, Throw, Raise, Unwind, Past, Resume, Suspend, TakeDown, EndMain}
 use Rattle.uc_step.specs.WeightFalls.{AskFalls, RunFalls, FallsBelow}
 use Rattle.uc_ride.specs.UnwindingFalls.{left_in, stop_by, Entered, EnteredBelow}
 use Rattle.uc_ride.proofs.Falling.{found_goes, found_env, catch_goes, catch_env, entered, entered_env, entered_goes, entered_leaves, over_goes, on_falls, call_goes, main_goes, leave_returns, leave_passes, thrown_goes, past_goes}

@@ -1,5 +1,5 @@
 -- Ops, one after another, are a ride of the source.
-use Rattle.std.proofs.Common.{◌≡◌, ℕ, zero, suc, ◌+◌, ◌<◌, Some, None, true, refl, sym, subst, arith}
+use Rattle.std.proofs.Common.{◌≡◌, ℕ, zero, suc, ◌+◌, ◌-◌, ◌≤◌, true, refl, sym, subst, arith}
 use Rattle.uc_tree.specs.Source.{Source}
 use Rattle.uc_entry.specs.declared.request.Asked.{Asked}
 use Rattle.uc_entry.specs.declared.request.Request.{Request}
@@ -10,101 +10,92 @@ use Rattle.uc_code.specs.Codes.{Code}
 use Rattle.uc_code.specs.Layout.{laid_of}
 use Rattle.uc_code.specs.Lowered.{Lowered}
 use Rattle.uc_frames.specs.Machine.{Machine}
-use Rattle.uc_frames.specs.Stands.{Rests, Standing}
+use Rattle.uc_frames.specs.Stands.{Standing}
 use Rattle.uc_frames.specs.PaceInvariant.{has_begun, AllIdle}
-use Rattle.uc_step.specs.declared.effect.Effect.{Effect}
-use Rattle.uc_step.specs.declared.effect.Effect.TheVariants.{Quiet, Tick, Ask}
-use Rattle.uc_step.specs.Simulation.{behind_line, StandsAfter, Follow}
+use Rattle.uc_step.specs.Effects.{Effect, Quiet, Tick, Ask}
+use Rattle.uc_step.specs.Simulation.{behind_line, StandsAfter, Follow, Onward, HasArrived}
 use Rattle.uc_step.specs.WeightFalls.{AskFalls, FallsBelow}
 use Rattle.uc_step.proofs.Rode.{quiet_rides, tick_rides, ask_rides}
 use Rattle.uc_ride.specs.UnwindingFalls.{KeepsAfter}
-use Rattle.uc_ride.specs.RideStands.{HasCome, HasBurst, IsOnWay, HasRidden}
+use Rattle.uc_ride.specs.RideStands.{IsOnWay, HasRidden}
+
+-- one ride goes on where another one is
+joined : {source : Source} {quantum middle left : ℕ} {s t u : State} → Onward source quantum middle s t → Onward source middle left t u → Onward source quantum left s u
+joined o p =
+    let first = o.together in
+    let second = p.together in
+    record {
+      ticks = o.ticks + p.ticks;
+      together = omega arith;
+      rides = λ k v a r. let e : o.ticks + (p.ticks + k) ≡ (o.ticks + p.ticks) + k = omega arith in rw e at (o.rides (p.ticks + k) v a (p.rides k v a r));
+    }
 
 module _ (code : Code) where
-  pub come_first : (m : Machine) → HasCome code m m
-  come_first m source s l h = record { now = s; rests = h; rides = λ q k u a r. r }
-
-  -- what ops say of each source
-  abbrev pub Stepping : Machine → Effect → Machine → Type 0
-  Stepping m how n = (source : Source) (s : State) → Lowered source code → Rests (laid_of code) m s → Follow (laid_of code) source how n s
-
-  -- and settling of what it leaves
+  -- what settling says of each source
   abbrev pub Settling : Effect → Machine → Effect → Machine → Type 0
   Settling how m after n = (source : Source) (s : State) → Lowered source code → Follow (laid_of code) source how m s → Follow (laid_of code) source after n s
 
-  pub settled_on : (m n o : Machine) (how after : Effect) → Stepping m how n → Settling how n after o → Stepping m after o
-  settled_on m n o how after f g source s l st = g source s l (f source s l st)
-
-  pub come_on : (old m n : Machine) → HasCome code old m → Stepping m Quiet n → HasCome code old n
-  come_on old m n h f source s l st =
-      let w = h source s l st in
-      let o = quiet_rides source (laid_of code) n w.now (f source w.now l w.rests) in
-      record { now = o.reached; rests = Standing n o.reached o.stands; rides = λ q k u a r. w.rides q k u a (o.rides q k u a r) }
-
-  pub come_ticked : (old m n : Machine) → HasCome code old m → Stepping m Tick n → HasBurst code old None n
-  come_ticked old m n h f source s l st =
-      let w = h source s l st in
-      let o = tick_rides source (laid_of code) n w.now (f source w.now l w.rests) in
-      record { now = o.reached; line = o.line; stands = o.stands; rides = λ q k u a r. w.rides q (suc k) u a (o.rides q k u a r) }
-
-  pub come_asked : (old m n : Machine) (asked : Asked) → HasCome code old m → Stepping m (Ask asked) n → HasBurst code old (Some asked) n
-  come_asked old m n asked h f source s l st =
-      let w = h source s l st in
-      let o = ask_rides source (laid_of code) asked n w.now (f source w.now l w.rests) in
-      record {
-        reached = o.reached;
-        rides = λ q. w.rides q 0 o.reached asked (o.rides q);
-        stands = subst (λ r. StandsAfter (laid_of code) r n o.reached) (sym o.same) o.stands;
-      }
-
-  pub way_first : (quantum : ℕ) (m : Machine) → IsOnWay code quantum m 0 m
+  pub way_first : (quantum : ℕ) (m : Machine) → IsOnWay code quantum quantum m m
   way_first quantum m source s l h = record {
     now = s;
-    left = quantum;
-    together = omega arith;
+    onward = record { ticks = 0; together = omega arith; rides = λ k u a r. let e : 0 + k ≡ k = omega arith in rw e r };
     rests = h;
-    rides = λ k u a r. let e : 0 + k ≡ k = omega arith in rw e r;
   }
 
-  -- what is left is one more than what is left behind a tick
-  one_left : (ticks left quantum : ℕ) → ticks + left ≡ quantum → ticks < quantum → (n : ℕ) × (left ≡ suc n)
-  one_left ticks zero quantum e l = absurd (omega (arith, e, l))
-  one_left ticks (suc n) quantum e l = (n, refl)
+  -- ops, from where a task is on its way
+  pub way_ran : (quantum middle left : ℕ) (old m n : Machine) (how : Effect) → IsOnWay code quantum middle old m → HasArrived code middle left m how n → HasArrived code quantum left old how n
+  way_ran quantum middle left old m n how w f source s l st =
+      let o = w source s l st in
+      let p = f source o.now l o.rests in
+      record { now = p.now; onward = joined o.onward p.onward; follows = p.follows }
 
-  pub way_ticked : (quantum ticks : ℕ) (old m n : Machine) → ticks < quantum → IsOnWay code quantum old ticks m → HasBurst code m None n → IsOnWay code quantum old (ticks + 1) n
-  way_ticked quantum ticks old m n lt h b source s l st =
-      let w = h source s l st in
-      let t = b source w.now l w.rests in
-      let o = one_left ticks w.left quantum w.together lt in
+  -- what that leaves is settled
+  pub way_settled : (quantum left : ℕ) (old m n : Machine) (how after : Effect) → HasArrived code quantum left old how m → Settling how m after n → HasArrived code quantum left old after n
+  way_settled quantum left old m n how after w g source s l st =
+      let o = w source s l st in
+      record { now = o.now; onward = o.onward; follows = g source o.now l o.follows }
+
+  -- it goes on
+  pub way_on : (quantum left : ℕ) (old m : Machine) → 1 ≤ left → HasArrived code quantum left old Quiet m → IsOnWay code quantum left old m
+  way_on quantum zero old m some w source s l st = absurd (omega (arith, some))
+  way_on quantum (suc k) old m some w source s l st =
+      let o = w source s l st in
+      let way = o.onward in
+      let f = quiet_rides source (laid_of code) m o.now o.follows in
       record {
-        now = t.now;
-        left = o.0;
-        together = omega (arith, w.together, o.1);
-        rests = Standing n t.now t.stands;
-        rides = λ k u a r.
-            let e : ticks + suc k ≡ (ticks + 1) + k = omega arith in
-            rw e at (w.rides (suc k) u a (rw o.1 (t.rides o.0 k u a r)));
+        now = f.reached;
+        onward = record { ticks = way.ticks; together = way.together; rides = λ j u a r. way.rides j u a (f.rides k j u a r) };
+        rests = Standing m f.reached f.stands;
       }
 
-  pub way_asked : (quantum ticks : ℕ) (old m n : Machine) (asked : Asked) → ticks < quantum → IsOnWay code quantum old ticks m → HasBurst code m (Some asked) n → HasRidden code quantum old ticks asked n
-  way_asked quantum ticks old m n asked lt h b source s l st =
-      let w = h source s l st in
-      let t = b source w.now l w.rests in
-      let o = one_left ticks w.left quantum w.together lt in
-      let e : ticks + 0 ≡ ticks = omega arith in
-      record { reached = t.reached; rides = rw e at (w.rides 0 t.reached asked (rw o.1 (t.rides o.0))); stands = t.stands }
-
-  pub way_sliced : (quantum ticks : ℕ) (old m n : Machine) (asked : Asked) → ticks + 1 ≡ quantum → IsOnWay code quantum old ticks m → HasBurst code m None n → asked ≡ record { request = ask.Slice; line = behind_line (laid_of code) n } → HasRidden code quantum old (ticks + 1) asked n
-  way_sliced quantum ticks old m n asked eq h b q source s l st =
-      let w = h source s l st in
-      let t = b source w.now l w.rests in
-      let one : w.left ≡ suc 0 = omega (arith, w.together, eq) in
-      let e : ticks + suc 0 ≡ ticks + 1 = omega arith in
-      let same : asked_in t.now ask.Slice ≡ asked = rw q (rw t.line refl) in
-      let r : Rides source w.now w.left t.now (suc 0) (asked_in t.now ask.Slice) = rw one (t.rides 0 0 t.now (asked_in t.now ask.Slice) slices) in
+  -- it asks
+  pub way_asked : (quantum left : ℕ) (old m : Machine) (asked : Asked) → 1 ≤ left → HasArrived code quantum left old (Ask asked) m → HasRidden code quantum old (quantum - left) asked m
+  way_asked quantum zero old m asked some w source s l st = absurd (omega (arith, some))
+  way_asked quantum (suc k) old m asked some w source s l st =
+      let o = w source s l st in
+      let way = o.onward in
+      let whole = way.together in
+      let f = ask_rides source (laid_of code) asked m o.now o.follows in
+      let e : way.ticks + 0 ≡ quantum - suc k = omega arith in
       record {
-        reached = t.now;
-        rides = subst (λ a. Rides source s quantum t.now (ticks + 1) a) same (rw e at (w.rides (suc 0) t.now (asked_in t.now ask.Slice) r));
+        reached = f.reached;
+        rides = rw e at (way.rides 0 f.reached asked (f.rides k));
+        stands = subst (λ r. StandsAfter (laid_of code) r m f.reached) (sym f.same) f.stands;
+      }
+
+  -- the last tick is made, and a slice is asked
+  pub way_sliced : (quantum left : ℕ) (old m : Machine) (asked : Asked) → left ≡ 1 → HasArrived code quantum left old Tick m → asked ≡ record { request = ask.Slice; line = behind_line (laid_of code) m } → HasRidden code quantum old quantum asked m
+  way_sliced quantum left old m asked one w q source s l st =
+      let o = w source s l st in
+      let way = o.onward in
+      let whole = way.together in
+      let t = tick_rides source (laid_of code) m o.now o.follows in
+      let e : way.ticks + suc 0 ≡ quantum = omega (arith, whole, one) in
+      let same : asked_in t.reached ask.Slice ≡ asked = rw q (rw t.line refl) in
+      let r : Rides source o.now left t.reached (suc 0) (asked_in t.reached ask.Slice) = rw one (t.rides 0 0 t.reached (asked_in t.reached ask.Slice) slices) in
+      record {
+        reached = t.reached;
+        rides = subst (λ a. Rides source s quantum t.reached quantum a) same (rw e at (way.rides (suc 0) t.reached (asked_in t.reached ask.Slice) r));
         stands = rw q t.stands;
       }
 

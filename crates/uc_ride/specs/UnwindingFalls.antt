@@ -12,8 +12,7 @@ use Rattle.uc_code.specs.Layout.{laid_of, chain}
 use Rattle.uc_frames.specs.PaceInvariant.{UnwoundBelow, Entry, EachOf, IdlesAt, Within}
 use Rattle.uc_frames.specs.Machine.{Machine}
 use Rattle.uc_frames.specs.Weight.{waits}
-use Rattle.uc_step.specs.declared.effect.Effect.{Effect}
-use Rattle.uc_step.specs.declared.effect.Effect.TheVariants.{Quiet, Tick, Ask, Unwind}
+use Rattle.uc_step.specs.Effects.{Effect, Quiet, Ask, Unwind}
 use Rattle.uc_step.specs.WeightFalls.{Keeps, FallsBelow}
 use Rattle.uc_ride.specs.declared.events.Caught.{Caught}
 use Rattle.uc_ride.specs.declared.events.OpEnd.{OpEnd}
@@ -45,7 +44,6 @@ stop_by line (Some f) = Ask (record { request = ask.Fault (fault_number f); line
 
 abbrev pub how_settled : OpEnd → Asked → Effect
 how_settled settled.On a = Quiet
-how_settled settled.Tick a = Tick
 how_settled settled.Asks a = Ask a
 
 abbrev pub how_unwound : UnwindEnd → Asked → Effect
@@ -88,10 +86,6 @@ module _ (code : Code) where
   KeepsAfter ask.End m = EachOf (IdlesAt (laid_of code) code.routines) m.env.hand
   KeepsAfter (ask.Fault n) m = Unit {0}
   KeepsAfter _ m = Keeps code m
-
-  abbrev pub BurstKeeps : Option Asked → Machine → Type 0
-  BurstKeeps None m = Keeps code m
-  BurstKeeps (Some a) m = KeepsAfter a.request m
 
   -- so it is of a task that is made
   abbrev pub ChildKeeps : Option Machine → Type 0

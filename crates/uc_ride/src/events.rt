@@ -15,6 +15,8 @@ ghost use Rattle.uc_frames.specs.Machine.{line_at};
 ghost use Rattle.uc_frames.specs.Searches.{catcher_in};
 ghost use Rattle.uc_frames.specs.UnwindingStands.{LeavesNow, Unwinds};
 ghost use Rattle.uc_coroutine.specs.UnwindingSteps.{Begins};
+ghost use Rattle.uc_step.specs.Effects as effect;
+ghost use Rattle.uc_step.specs.Effects.{stopping};
 ghost use Rattle.uc_step.specs.WeightFalls.{FallsBelow};
 ghost use Rattle.uc_step.specs.Simulation.{behind_line, Follow};
 ghost use Rattle.uc_machine.specs.declared.exec.UnwindReason.TheVariants as reason;
@@ -37,14 +39,13 @@ use uc_except::seeking::{catching_row, propagate};
 use uc_frames::event::Event;
 use uc_frames::work::Work;
 use uc_machine::exec::UnwindReason;
-use uc_step::effect::Effect;
+use uc_step::effect::Stop;
 
-/// How an op ends with what an event or a switch leads to by it: the task goes on, after a tick or without one, or it asks what is then
-/// written where a request was lent.
+/// How a stop ends with what an event or a switch leads to by it: the task goes on, or it asks what is then written where a request was
+/// lent.
 #[derive(Clone, Copy)]
 pub(crate) enum OpEnd {
     On,
-    Tick,
     Asks,
 }
 
@@ -79,38 +80,33 @@ pub(crate) struct Caught {
 pub(crate) fn settle(
     code: &Code,
     work: &mut Work,
-    how: &Effect,
+    stop: &Stop,
     asked: &mut Asked,
 ) -> Result<OpEnd, AllocError>
     requires paced { IsPaced (laid_of code.now) code.now.routines }
-    requires below { (w : ℕ) × FallsBelow code.now w how.now work.old }
+    requires below { (w : ℕ) × FallsBelow code.now w (stopping stop.now asked.old) work.old }
     ensures source { IfOk result (λ after. (source : Source) (s : State) → Lowered source code.now →
-        Follow (laid_of code.now) source how.now work.old s →
+        Follow (laid_of code.now) source (stopping stop.now asked.old) work.old s →
         Follow (laid_of code.now) source (how_settled after asked.new) work.new s) }
-    ensures falls { IfOk result (λ after. (w : ℕ) → FallsBelow code.now w how.now work.old →
+    ensures falls { IfOk result (λ after. (w : ℕ) → FallsBelow code.now w (stopping stop.now asked.old) work.old →
         FallsBelow code.now w (how_settled after asked.new) work.new) }
 {
-    match *how {
-        Effect::Quiet => Ok(OpEnd::On),
-        Effect::Tick => Ok(OpEnd::Tick),
-        Effect::Ask(request) => {
-            *asked = request;
-            Ok(OpEnd::Asks)
-        }
-        Effect::Throw(event) => {
+    match *stop {
+        Stop::Ask => Ok(OpEnd::Asks),
+        Stop::Throw(event) => {
             throw(work, event.number, event.x, event.y);
             let end = unwinds(code, work, asked)?;
             Ok(end)
         }
-        Effect::Raise(event) => {
+        Stop::Raise(event) => {
             let end = raise(code, work, event, asked)?;
             Ok(end)
         }
-        Effect::Unwind => {
+        Stop::Unwind => {
             let end = unwinds(code, work, asked)?;
             Ok(end)
         }
-        Effect::Past(given) => {
+        Stop::Past(given) => {
             if return_past(work, given) {
                 let end = unwinds(code, work, asked)?;
                 Ok(end)
@@ -119,14 +115,14 @@ pub(crate) fn settle(
                 Ok(OpEnd::Asks)
             }
         }
-        Effect::Resume => Ok(settle_resume(code, work, asked)),
-        Effect::Suspend => Ok(settle_suspend(code, work, asked)),
-        Effect::TakeDown => {
+        Stop::Resume => Ok(settle_resume(code, work, asked)),
+        Stop::Suspend => Ok(settle_suspend(code, work, asked)),
+        Stop::TakeDown => {
             take_down(work);
             Ok(OpEnd::On)
         }
-        Effect::EndMain => Ok(settle_end(code, work, asked)),
-        Effect::Astray => {
+        Stop::EndMain => Ok(settle_end(code, work, asked)),
+        Stop::Astray => {
             *asked = asks(code, 0, work, Request::End);
             Ok(OpEnd::Asks)
         }
@@ -136,9 +132,9 @@ pub(crate) fn settle(
 // Resumes the execution of the coroutine whose member runs; in a main, the one that runs, which is a fault.
 fn settle_resume(code: &Code, work: &mut Work, asked: &mut Asked) -> OpEnd
     ensures source { (source : Source) (s : State) →
-        Follow (laid_of code.now) source Effect.Resume work.old s →
+        Follow (laid_of code.now) source effect.Resume work.old s →
         Follow (laid_of code.now) source (how_settled result asked.new) work.new s }
-    ensures falls { (w : ℕ) → FallsBelow code.now w Effect.Resume work.old →
+    ensures falls { (w : ℕ) → FallsBelow code.now w effect.Resume work.old →
         FallsBelow code.now w (how_settled result asked.new) work.new }
 {
     let fault = resume(work);
@@ -149,9 +145,9 @@ fn settle_resume(code: &Code, work: &mut Work, asked: &mut Asked) -> OpEnd
 // The running execution is suspended.
 fn settle_suspend(code: &Code, work: &mut Work, asked: &mut Asked) -> OpEnd
     ensures source { (source : Source) (s : State) →
-        Follow (laid_of code.now) source Effect.Suspend work.old s →
+        Follow (laid_of code.now) source effect.Suspend work.old s →
         Follow (laid_of code.now) source (how_settled result asked.new) work.new s }
-    ensures falls { (w : ℕ) → FallsBelow code.now w Effect.Suspend work.old →
+    ensures falls { (w : ℕ) → FallsBelow code.now w effect.Suspend work.old →
         FallsBelow code.now w (how_settled result asked.new) work.new }
 {
     let fault = suspend(work);
@@ -162,9 +158,9 @@ fn settle_suspend(code: &Code, work: &mut Work, asked: &mut Asked) -> OpEnd
 // The main of a coroutine ends.
 fn settle_end(code: &Code, work: &mut Work, asked: &mut Asked) -> OpEnd
     ensures source { (source : Source) (s : State) →
-        Follow (laid_of code.now) source Effect.EndMain work.old s →
+        Follow (laid_of code.now) source effect.EndMain work.old s →
         Follow (laid_of code.now) source (how_settled result asked.new) work.new s }
-    ensures falls { (w : ℕ) → FallsBelow code.now w Effect.EndMain work.old →
+    ensures falls { (w : ℕ) → FallsBelow code.now w effect.EndMain work.old →
         FallsBelow code.now w (how_settled result asked.new) work.new }
 {
     let fault = finish(work);
@@ -194,12 +190,12 @@ fn switched(code: &Code, work: &Work, fault: Option<RunFault>, asked: &mut Asked
 // The handler begins that the event finds; where it finds none, it is thrown.
 fn raise(code: &Code, work: &mut Work, event: Event, asked: &mut Asked) -> Result<OpEnd, AllocError>
     requires paced { IsPaced (laid_of code.now) code.now.routines }
-    requires below { (w : ℕ) × FallsBelow code.now w (Effect.Raise event) work.old }
+    requires below { (w : ℕ) × FallsBelow code.now w (effect.Raise event) work.old }
     ensures source { IfOk result (λ end. (source : Source) (s : State) → Lowered source code.now →
-        Follow (laid_of code.now) source (Effect.Raise event) work.old s →
+        Follow (laid_of code.now) source (effect.Raise event) work.old s →
         Follow (laid_of code.now) source (how_settled end asked.new) work.new s) }
     ensures falls { IfOk result (λ end. (w : ℕ) →
-        FallsBelow code.now w (Effect.Raise event) work.old →
+        FallsBelow code.now w (effect.Raise event) work.old →
         FallsBelow code.now w (how_settled end asked.new) work.new) }
 {
     let found = propagate(code, work, event.number, true);
@@ -219,11 +215,11 @@ fn raise(code: &Code, work: &mut Work, event: Event, asked: &mut Asked) -> Resul
 // Step after step, as long as it unwinds.
 fn unwinds(code: &Code, work: &mut Work, asked: &mut Asked) -> Result<OpEnd, AllocError>
     requires paced { IsPaced (laid_of code.now) code.now.routines }
-    requires below { (w : ℕ) × FallsBelow code.now w Effect.Unwind work.old }
+    requires below { (w : ℕ) × FallsBelow code.now w effect.Unwind work.old }
     ensures source { IfOk result (λ end. (source : Source) (s : State) → Lowered source code.now →
         Unwinds (laid_of code.now) work.old s →
         Follow (laid_of code.now) source (how_settled end asked.new) work.new s) }
-    ensures falls { IfOk result (λ end. (w : ℕ) → FallsBelow code.now w Effect.Unwind work.old →
+    ensures falls { IfOk result (λ end. (w : ℕ) → FallsBelow code.now w effect.Unwind work.old →
         FallsBelow code.now w (how_settled end asked.new) work.new) }
 {
     'steps: loop {
@@ -243,7 +239,7 @@ fn unwind_once(code: &Code, work: &mut Work, asked: &mut Asked) -> Result<Unwind
     ensures source { IfOk result (λ after. (source : Source) (s : State) → Lowered source code.now →
         Unwinds (laid_of code.now) work.old s →
         Follow (laid_of code.now) source (how_unwound after asked.new) work.new s) }
-    ensures falls { IfOk result (λ after. (w : ℕ) → FallsBelow code.now w Effect.Unwind work.old →
+    ensures falls { IfOk result (λ after. (w : ℕ) → FallsBelow code.now w effect.Unwind work.old →
         StepFalls code.now w (left_in code.now work.old) after asked.new work.new) }
 {
     // A number of elements that is a `u32` bounds what is left of the activation.
@@ -420,7 +416,7 @@ fn leave_on(code: &Code, work: &mut Work, asked: &mut Asked) -> Result<UnwindEnd
     ensures source { IfOk result (λ after. (source : Source) (s : State) →
         LeavesNow (laid_of code.now) work.old s →
         Follow (laid_of code.now) source (how_unwound after asked.new) work.new s) }
-    ensures falls { IfOk result (λ after. (w : ℕ) → FallsBelow code.now w Effect.Unwind work.old →
+    ensures falls { IfOk result (λ after. (w : ℕ) → FallsBelow code.now w effect.Unwind work.old →
         StepFalls code.now w (left_in code.now work.old) after asked.new work.new) }
 {
     let left = leave(work)?;

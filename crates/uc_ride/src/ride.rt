@@ -11,8 +11,8 @@ ghost use Rattle.uc_code.specs.Pace.{IsPaced};
 ghost use Rattle.uc_frames.specs.Stands.{Rests};
 ghost use Rattle.uc_step.specs.WeightFalls.{Keeps};
 ghost use Rattle.uc_step.specs.Simulation.{behind_line, StandsAfter};
-ghost use Rattle.uc_ride.specs.UnwindingFalls.{KeepsAfter, BurstKeeps, ChildKeeps};
-ghost use Rattle.uc_ride.specs.RideStands.{spawned_by, main_at, main_behind, burst_of, BornAs, Rode, HasBurst, HasRidden};
+ghost use Rattle.uc_ride.specs.UnwindingFalls.{KeepsAfter, ChildKeeps};
+ghost use Rattle.uc_ride.specs.RideStands.{spawned_by, main_at, main_behind, BornAs, Rode, HasRidden};
 
 use crate::events::{OpEnd, settle};
 use std::alloc::AllocError;
@@ -23,7 +23,7 @@ use uc_entry::request::{Answer, Asked, Request};
 use uc_frames::task::Task;
 use uc_frames::work::Work;
 use uc_outside::Gate;
-use uc_step::effect::Effect;
+use uc_step::effect::Stop;
 use uc_step::step::{answer as give, run};
 
 /// How a ride ended: the task with its hand, the new task where one is spawned, and the ticks.
@@ -32,13 +32,6 @@ pub struct Ridden {
     pub work: Work,
     pub child: Option<Task>,
     pub ticks: u32,
-}
-
-/// How a burst of ops ends: by a tick, or by a request, which is then written where one was lent.
-#[derive(Clone, Copy)]
-pub(crate) enum BurstEnd {
-    Tick,
-    Asks,
 }
 
 /// Goes on with an answer up to a request, or up to so many ticks, and then asks for a slice. What is asked is written where it is
@@ -127,7 +120,7 @@ fn main_before(code: &Code, at: u32) -> Option<u32>
     }
 }
 
-// Bursts up to a request, or up to so many ticks. The last ones ask for a slice.
+// Ops up to a request, or up to so many ticks. The last ones ask for a slice. Where ops stop, others go on from there.
 fn go_on(code: &Code, work: &mut Work, quantum: u32, asked: &mut Asked) -> Result<u32, AllocError>
     requires some { 1 ≤ quantum }
     requires paced { IsPaced (laid_of code.now) code.now.routines }
@@ -138,48 +131,24 @@ fn go_on(code: &Code, work: &mut Work, quantum: u32, asked: &mut Asked) -> Resul
     ensures early { IfOk result (λ ticks. (asked.new.request ≡ ask.Slice → ⊥) → ticks < quantum) }
     ensures kept { IfOk result (λ ticks. KeepsAfter code.now asked.new.request work.new) }
 {
-    let mut ticks = 0;
-    let mut stop = Effect::Quiet;
+    let mut left = quantum;
+    let mut stop = Stop::Astray;
     'ticks: loop {
-        let end = burst(code, work, &mut stop, asked)?;
-        match end {
-            BurstEnd::Asks => return Ok(ticks),
-            BurstEnd::Tick => {
-                ticks += 1;
-                if ticks == quantum {
-                    *asked = slice(code, work);
-                    return Ok(ticks);
-                }
+        let before = left;
+        'stops: loop {
+            let last = run(code, work, &mut left, &mut stop, asked)?;
+            if last {
+                *asked = slice(code, work);
+                return Ok(quantum);
             }
-        }
-    }
-}
-
-// Ops up to a tick, or up to a request. What was in the stop does not matter. It stands in the loop of the ticks, so that a tick costs no
-// call.
-#[inline(always)]
-fn burst(
-    code: &Code,
-    work: &mut Work,
-    stop: &mut Effect,
-    asked: &mut Asked,
-) -> Result<BurstEnd, AllocError>
-    requires paced { IsPaced (laid_of code.now) code.now.routines }
-    requires kept { Keeps code.now work.old }
-    ensures burst { IfOk result (λ end. HasBurst code.now work.old
-        (burst_of end asked.new) work.new) }
-    ensures kept { IfOk result (λ end. BurstKeeps code.now (burst_of end asked.new) work.new) }
-{
-    'stops: loop {
-        let ticked = run(code, work, stop)?;
-        if ticked {
-            return Ok(BurstEnd::Tick);
-        }
-        let after = settle(code, work, stop, asked)?;
-        match after {
-            OpEnd::On => {}
-            OpEnd::Tick => return Ok(BurstEnd::Tick),
-            OpEnd::Asks => return Ok(BurstEnd::Asks),
+            let after = settle(code, work, &stop, asked)?;
+            match after {
+                OpEnd::On => {}
+                OpEnd::Asks => return Ok(quantum - left),
+            }
+            if left < before {
+                break 'stops;
+            }
         }
     }
 }

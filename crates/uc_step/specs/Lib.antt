@@ -1,3 +1,4 @@
+pub mod Effects
 pub mod OpEffects
 pub mod Runs
 pub mod WeightFalls

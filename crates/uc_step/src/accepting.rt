@@ -2,16 +2,17 @@
 
 ghost use Rattle.std.specs.Prelude.{◌≡◌, IfOk, OnErr};
 ghost use Rattle.uc_machine.specs.Pieces.{as_number};
-ghost use Rattle.uc_step.specs.OpEffects.{chosen, ended, Does, DoesAlone};
-ghost use Rattle.uc_step.specs.declared.effect.Effect.{Effect};
+ghost use Rattle.uc_step.specs.Effects.{ended};
+ghost use Rattle.uc_step.specs.OpEffects.{chosen, Does, DoesAlone};
+ghost use Rattle.uc_step.specs.declared.effect.Stop.{Stop};
 
-use crate::effect::{Effect, QuietResult, put_fault, put_request};
+use crate::effect::{QuietResult, Stop, put_fault, put_request};
 use crate::mutex::this_object;
 use std::alloc::AllocError;
 use uc_code::code::Code;
 use uc_code::op::Op;
 use uc_entry::fault::RunFault;
-use uc_entry::request::Request;
+use uc_entry::request::{Asked, Request};
 use uc_frames::cell::{Cell, number_in};
 use uc_frames::work::Work;
 use uc_tree::limits::CLAUSES;
@@ -22,13 +23,14 @@ pub(crate) fn accept(
     code: &Code,
     line: u32,
     work: &mut Work,
-    stop: &mut Effect,
+    stop: &mut Stop,
+    asked: &mut Asked,
     site: u32,
     guards: u32,
     end: u32,
 ) -> Result<QuietResult, AllocError>
     ensures ok { IfOk result (λ how. Does code.now line (Op.Accept site guards end) work.old
-        (ended how stop.new) work.new) }
+        (ended how stop.new asked.new) work.new) }
     ensures err { OnErr result (work.new ≡ work.old) }
 {
     if guards > u32::from(CLAUSES) {
@@ -43,21 +45,22 @@ pub(crate) fn accept(
     }
     work.pop();
     if work.is_held_up(object) {
-        return Ok(put_fault(code, line, work, stop, RunFault::BlockedInside));
+        return Ok(put_fault(code, line, work, stop, asked, RunFault::BlockedInside));
     }
     Ok(put_request(
         code,
         line,
         work,
         stop,
+        asked,
         Request::Accept { object, site, mask },
     ))
 }
 
 // Where the call that was taken has failed, the event of that is pushed; else the task goes on elsewhere.
 pub(crate) fn failed(work: &mut Work, to: u32) -> Result<QuietResult, AllocError>
-    ensures ok { IfOk result (λ how. (stop : Effect) →
-        DoesAlone (Op.Failed to) work.old (ended how stop) work.new) }
+    ensures ok { IfOk result (λ how. (stop : Stop) (asked : Asked) →
+        DoesAlone (Op.Failed to) work.old (ended how stop asked) work.new) }
     ensures err { OnErr result (work.new ≡ work.old) }
 {
     if number_in(work.top()) == 0 {
@@ -87,8 +90,8 @@ fn chosen(clauses: u32, to: u32, next: u32, number: i64) -> Result<u32, AllocErr
 
 // The branch of a clause by its number, or elsewhere.
 pub(crate) fn choose(work: &mut Work, clauses: u32, end: u32) -> Result<QuietResult, AllocError>
-    ensures ok { IfOk result (λ how. (stop : Effect) →
-        DoesAlone (Op.Choose clauses end) work.old (ended how stop) work.new) }
+    ensures ok { IfOk result (λ how. (stop : Stop) (asked : Asked) →
+        DoesAlone (Op.Choose clauses end) work.old (ended how stop asked) work.new) }
     ensures err { OnErr result (work.new ≡ work.old) }
 {
     let at = chosen(clauses, end, work.next(), number_in(work.top()))?;

@@ -1,16 +1,17 @@
 // The ops of conditions.
 
 ghost use Rattle.std.specs.Prelude.{◌≡◌, IfOk, OnErr};
-ghost use Rattle.uc_step.specs.OpEffects.{condition_in, ended, Does};
+ghost use Rattle.uc_step.specs.Effects.{ended};
+ghost use Rattle.uc_step.specs.OpEffects.{condition_in, Does};
 
-use crate::effect::{Effect, QuietResult, put_fault, put_request};
+use crate::effect::{QuietResult, Stop, put_fault, put_request};
 use crate::memory::index_below;
 use crate::mutex::this_object;
 use std::alloc::AllocError;
 use uc_code::code::Code;
 use uc_code::op::Op;
 use uc_entry::fault::RunFault;
-use uc_entry::request::Request;
+use uc_entry::request::{Asked, Request};
 use uc_frames::cell::{Cell, number_in};
 use uc_frames::work::Work;
 use uc_tree::limits::LAST_CONDITION;
@@ -34,18 +35,19 @@ pub(crate) fn condition(
     code: &Code,
     line: u32,
     work: &mut Work,
-    stop: &mut Effect,
+    stop: &mut Stop,
+    asked: &mut Asked,
     first: u32,
     count: u32,
 ) -> Result<QuietResult, AllocError>
     ensures ok { IfOk result (λ how. Does code.now line (Op.Condition first count) work.old
-        (ended how stop.new) work.new) }
+        (ended how stop.new asked.new) work.new) }
     ensures err { OnErr result (work.new ≡ work.old) }
 {
     match index_below(count, number_in(work.top())) {
         None => {
             work.pop();
-            Ok(put_fault(code, line, work, stop, RunFault::Index))
+            Ok(put_fault(code, line, work, stop, asked, RunFault::Index))
         }
         Some(i) => {
             work.replace(Cell::Number(i64::from(first) + i64::from(i)))?;
@@ -59,36 +61,52 @@ pub(crate) fn wait(
     code: &Code,
     line: u32,
     work: &mut Work,
-    stop: &mut Effect,
+    stop: &mut Stop,
+    asked: &mut Asked,
 ) -> Result<QuietResult, AllocError>
     ensures ok { IfOk result (λ how. Does code.now line Op.Wait work.old
-        (ended how stop.new) work.new) }
+        (ended how stop.new asked.new) work.new) }
     ensures err { OnErr result (work.new ≡ work.old) }
 {
     let object = this_object(work);
     if work.is_held_up(object) {
-        return Ok(put_fault(code, line, work, stop, RunFault::BlockedInside));
+        return Ok(put_fault(code, line, work, stop, asked, RunFault::BlockedInside));
     }
     let cond = condition_in(work.second())?;
     let n = number_in(work.top());
     work.replace_two(Cell::Number(0))?;
-    Ok(put_request(code, line, work, stop, Request::Wait { object, cond, n }))
+    Ok(put_request(
+        code,
+        line,
+        work,
+        stop,
+        asked,
+        Request::Wait { object, cond, n },
+    ))
 }
 
 pub(crate) fn signal(
     code: &Code,
     line: u32,
     work: &mut Work,
-    stop: &mut Effect,
+    stop: &mut Stop,
+    asked: &mut Asked,
 ) -> Result<QuietResult, AllocError>
     ensures ok { IfOk result (λ how. Does code.now line Op.Signal work.old
-        (ended how stop.new) work.new) }
+        (ended how stop.new asked.new) work.new) }
     ensures err { OnErr result (work.new ≡ work.old) }
 {
     let object = this_object(work);
     let cond = condition_in(work.top())?;
     work.replace(Cell::Number(0))?;
-    Ok(put_request(code, line, work, stop, Request::Signal { object, cond }))
+    Ok(put_request(
+        code,
+        line,
+        work,
+        stop,
+        asked,
+        Request::Signal { object, cond },
+    ))
 }
 
 // A task is blocked by a signal, unless it is held up.
@@ -96,15 +114,16 @@ pub(crate) fn signal_block(
     code: &Code,
     line: u32,
     work: &mut Work,
-    stop: &mut Effect,
+    stop: &mut Stop,
+    asked: &mut Asked,
 ) -> Result<QuietResult, AllocError>
     ensures ok { IfOk result (λ how. Does code.now line Op.SignalBlock work.old
-        (ended how stop.new) work.new) }
+        (ended how stop.new asked.new) work.new) }
     ensures err { OnErr result (work.new ≡ work.old) }
 {
     let object = this_object(work);
     if work.is_held_up(object) {
-        return Ok(put_fault(code, line, work, stop, RunFault::BlockedInside));
+        return Ok(put_fault(code, line, work, stop, asked, RunFault::BlockedInside));
     }
     let cond = condition_in(work.top())?;
     work.replace(Cell::Number(0))?;
@@ -113,6 +132,7 @@ pub(crate) fn signal_block(
         line,
         work,
         stop,
+        asked,
         Request::SignalBlock { object, cond },
     ))
 }
@@ -121,30 +141,46 @@ pub(crate) fn empty(
     code: &Code,
     line: u32,
     work: &mut Work,
-    stop: &mut Effect,
+    stop: &mut Stop,
+    asked: &mut Asked,
 ) -> Result<QuietResult, AllocError>
     ensures ok { IfOk result (λ how. Does code.now line Op.Empty work.old
-        (ended how stop.new) work.new) }
+        (ended how stop.new asked.new) work.new) }
     ensures err { OnErr result (work.new ≡ work.old) }
 {
     let object = this_object(work);
     let cond = condition_in(work.top())?;
     work.pop();
-    Ok(put_request(code, line, work, stop, Request::Empty { object, cond }))
+    Ok(put_request(
+        code,
+        line,
+        work,
+        stop,
+        asked,
+        Request::Empty { object, cond },
+    ))
 }
 
 pub(crate) fn front(
     code: &Code,
     line: u32,
     work: &mut Work,
-    stop: &mut Effect,
+    stop: &mut Stop,
+    asked: &mut Asked,
 ) -> Result<QuietResult, AllocError>
     ensures ok { IfOk result (λ how. Does code.now line Op.Front work.old
-        (ended how stop.new) work.new) }
+        (ended how stop.new asked.new) work.new) }
     ensures err { OnErr result (work.new ≡ work.old) }
 {
     let object = this_object(work);
     let cond = condition_in(work.top())?;
     work.pop();
-    Ok(put_request(code, line, work, stop, Request::Front { object, cond }))
+    Ok(put_request(
+        code,
+        line,
+        work,
+        stop,
+        asked,
+        Request::Front { object, cond },
+    ))
 }

@@ -1,12 +1,14 @@
 // The ops of coroutines, but for those that switch.
 
-ghost use Rattle.uc_step.specs.OpEffects.{ended, Does, DoesAlone};
+ghost use Rattle.uc_step.specs.Effects.{ended};
+ghost use Rattle.uc_step.specs.OpEffects.{Does, DoesAlone};
 
-use crate::effect::{Effect, QuietResult, put_end, put_fault};
+use crate::effect::{QuietResult, Stop, put_end, put_fault};
 use crate::jumps::unwind;
 use uc_code::code::Code;
 use uc_code::op::Op;
 use uc_entry::fault::RunFault;
+use uc_entry::request::Asked;
 use uc_frames::work::Work;
 
 // The coroutine below the arguments of a routine must be live.
@@ -14,26 +16,27 @@ pub(crate) fn alive(
     code: &Code,
     line: u32,
     work: &mut Work,
-    stop: &mut Effect,
+    stop: &mut Stop,
+    asked: &mut Asked,
     number: u32,
 ) -> QuietResult
-    ensures { Does code.now line (Op.Alive number) work.old (ended result stop.new) work.new }
+    ensures { Does code.now line (Op.Alive number) work.old (ended result stop.new asked.new) work.new }
 {
     match code.routine(number) {
-        None => { put_end(code, line, work, stop) }
+        None => { put_end(code, line, work, stop, asked) }
         Some(routine) => {
             if work.is_live(routine.params) {
                 QuietResult::Quiet
             } else {
-                put_fault(code, line, work, stop, RunFault::NotLive)
+                put_fault(code, line, work, stop, asked, RunFault::NotLive)
             }
         }
     }
 }
 
 // Where an execution stopped it goes on, or is unwound.
-pub(crate) fn land(work: &mut Work, stop: &mut Effect) -> QuietResult
-    ensures { DoesAlone Op.Land work.old (ended result stop.new) work.new }
+pub(crate) fn land(work: &mut Work, stop: &mut Stop) -> QuietResult
+    ensures { (asked : Asked) → DoesAlone Op.Land work.old (ended result stop.new asked) work.new }
 {
     match work.raised() {
         None => QuietResult::Quiet,

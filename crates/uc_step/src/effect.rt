@@ -4,7 +4,8 @@ ghost use Rattle.std.specs.Prelude.{◌≡◌};
 ghost use Rattle.uc_entry.specs.declared.request.Request.TheVariants as ask;
 ghost use Rattle.uc_entry.specs.Faults.{fault_number};
 ghost use Rattle.uc_frames.specs.Machine.{line_at};
-ghost use Rattle.uc_step.specs.OpEffects.{ended};
+ghost use Rattle.uc_step.specs.Effects as effect;
+ghost use Rattle.uc_step.specs.Effects.{ended};
 
 use uc_code::code::Code;
 use uc_entry::fault::RunFault;
@@ -21,16 +22,14 @@ pub enum QuietResult {
     Stops,
 }
 
-/// Going on; going on after a tick; or waiting for the answer to a request. What is left to others: an event that was popped and
-/// is thrown or raised; unwinding, which goes on behind the op; the end of a handler of resumptions by a return, with what
-/// it hands over; and switches to other executions, which leave the task behind their op: a resume, a suspend, the destruction of the
-/// coroutine at hand, and the end of a coroutine's main. No task comes to an op that ends an unwinding but by unwinding: at such an op
+/// Where a task stops: it waits for the answer to a request, which is written where one was lent. Or it leaves to others what follows: an
+/// event that was popped and is thrown or raised; unwinding, which goes on behind the op; the end of a handler of resumptions by a return,
+/// with what it hands over; and switches to other executions, which leave the task behind their op: a resume, a suspend, the destruction of
+/// the coroutine at hand, and the end of a coroutine's main. No task comes to an op that ends an unwinding but by unwinding: at such an op
 /// it has gone astray.
 #[derive(Clone, Copy)]
-pub enum Effect {
-    Quiet,
-    Tick,
-    Ask(Asked),
+pub enum Stop {
+    Ask,
     Throw(Event),
     Raise(Event),
     Unwind,
@@ -42,32 +41,40 @@ pub enum Effect {
     Astray,
 }
 
-// It asks, by an op of this line. A part of the op that asks, so that the request is written to the stop as it is made, and is not copied.
+// It asks, by an op of this line. A part of the op that asks, so that the request is written where it is lent as it is made, and is not copied.
 #[inline(always)]
 pub(crate) fn put_request(
     code: &Code,
     line: u32,
     work: &Work,
-    stop: &mut Effect,
+    stop: &mut Stop,
+    asked: &mut Asked,
     request: Request,
 ) -> QuietResult
-    ensures { ended result stop.new
-        ≡ Effect.Ask
+    ensures { ended result stop.new asked.new
+        ≡ effect.Ask
         (record { request = request; line = line_at code.now.ops line work.now.callers }) }
 {
-    let line = work.line(code, line);
-    *stop = Effect::Ask(Asked { request, line });
+    asked.line = work.line(code, line);
+    asked.request = request;
+    *stop = Stop::Ask;
     QuietResult::Stops
 }
 
 // The end of the task is asked so. This and the fault below stand apart from the ops, which seldom need them.
 #[inline(never)]
-pub(crate) fn put_end(code: &Code, line: u32, work: &Work, stop: &mut Effect) -> QuietResult
-    ensures { ended result stop.new
-        ≡ Effect.Ask
+pub(crate) fn put_end(
+    code: &Code,
+    line: u32,
+    work: &Work,
+    stop: &mut Stop,
+    asked: &mut Asked,
+) -> QuietResult
+    ensures { ended result stop.new asked.new
+        ≡ effect.Ask
         (record { request = ask.End; line = line_at code.now.ops line work.now.callers }) }
 {
-    put_request(code, line, work, stop, Request::End)
+    put_request(code, line, work, stop, asked, Request::End)
 }
 
 // A run fault, by an op of this line.
@@ -76,11 +83,12 @@ pub(crate) fn put_fault(
     code: &Code,
     line: u32,
     work: &Work,
-    stop: &mut Effect,
+    stop: &mut Stop,
+    asked: &mut Asked,
     fault: RunFault,
 ) -> QuietResult
-    ensures { ended result stop.new
-        ≡ Effect.Ask
+    ensures { ended result stop.new asked.new
+        ≡ effect.Ask
         (record {
           request = ask.Fault
               (fault_number fault);
@@ -88,5 +96,5 @@ pub(crate) fn put_fault(
         }) }
 {
     let number = fault.number();
-    put_request(code, line, work, stop, Request::Fault { number })
+    put_request(code, line, work, stop, asked, Request::Fault { number })
 }

@@ -1,15 +1,17 @@
 // The ops that go on elsewhere, calls, and the ends of activations.
 
 ghost use Rattle.std.specs.Prelude.{◌≡◌, IfOk, OnErr};
-ghost use Rattle.uc_step.specs.OpEffects.{act_enter, act_return, act_end, ended, Does, DoesAlone, Ends};
+ghost use Rattle.uc_step.specs.Effects.{ended};
+ghost use Rattle.uc_step.specs.OpEffects.{act_enter, act_return, act_end, Does, DoesAlone, Ends};
 ghost use Rattle.uc_frames.specs.Calls.{object_call};
 
-use crate::effect::{Effect, QuietResult, put_end, put_fault};
+use crate::effect::{QuietResult, Stop, put_end, put_fault};
 use std::alloc::AllocError;
 use uc_code::code::Code;
 use uc_code::op::Op;
 use uc_code::rows::RoutineCode;
 use uc_entry::fault::RunFault;
+use uc_entry::request::Asked;
 use uc_frames::call::Call;
 use uc_frames::cell::Cell;
 use uc_frames::work::Work;
@@ -21,19 +23,20 @@ pub(crate) fn end(
     line: u32,
     given: Cell,
     work: &mut Work,
-    stop: &mut Effect,
+    stop: &mut Stop,
+    asked: &mut Asked,
 ) -> Result<QuietResult, AllocError>
     ensures ok { IfOk result (λ how. Ends
-        (act_end code.now line given work.old.run.handles work.old) (ended how stop.new) work.new) }
+        (act_end code.now line given work.old.run.handles work.old) (ended how stop.new asked.new) work.new) }
     ensures err { OnErr result (work.new ≡ work.old) }
 {
     match work.handles() {
         None => {
-            let how = give_back(code, line, work, stop, given)?;
+            let how = give_back(code, line, work, stop, asked, given)?;
             Ok(how)
         }
         Some(_) => {
-            *stop = Effect::Past(given);
+            *stop = Stop::Past(given);
             Ok(QuietResult::Stops)
         }
     }
@@ -44,17 +47,18 @@ pub(crate) fn give_back(
     code: &Code,
     line: u32,
     work: &mut Work,
-    stop: &mut Effect,
+    stop: &mut Stop,
+    asked: &mut Asked,
     given: Cell,
 ) -> Result<QuietResult, AllocError>
     ensures ok { IfOk result (λ how. Ends (act_return code.now line given work.old.callers work.old)
-        (ended how stop.new) work.new) }
+        (ended how stop.new asked.new) work.new) }
     ensures err { OnErr result (work.new ≡ work.old) }
 {
     if work.leave(given)? {
         Ok(QuietResult::Quiet)
     } else {
-        Ok(put_end(code, line, work, stop))
+        Ok(put_end(code, line, work, stop, asked))
     }
 }
 
@@ -63,27 +67,28 @@ pub(crate) fn end_task(
     code: &Code,
     line: u32,
     work: &mut Work,
-    stop: &mut Effect,
+    stop: &mut Stop,
+    asked: &mut Asked,
 ) -> Result<QuietResult, AllocError>
     ensures ok { IfOk result (λ how. Does code.now line Op.EndTask work.old
-        (ended how stop.new) work.new) }
+        (ended how stop.new asked.new) work.new) }
     ensures err { OnErr result (work.new ≡ work.old) }
 {
     if work.is_held_up(work.own()) {
-        Ok(put_fault(code, line, work, stop, RunFault::BlockedInside))
+        Ok(put_fault(code, line, work, stop, asked, RunFault::BlockedInside))
     } else {
-        let how = give_back(code, line, work, stop, Cell::Number(0))?;
+        let how = give_back(code, line, work, stop, asked, Cell::Number(0))?;
         Ok(how)
     }
 }
 
 // Unwinding goes on behind a clean-up, without operands.
-pub(crate) fn unwind(work: &mut Work, stop: &mut Effect) -> QuietResult
-    ensures { DoesAlone Op.Unwind work.old (ended result stop.new) work.new }
+pub(crate) fn unwind(work: &mut Work, stop: &mut Stop) -> QuietResult
+    ensures { (asked : Asked) → DoesAlone Op.Unwind work.old (ended result stop.new asked) work.new }
 {
     let next = work.next();
     work.begin_clean_up(next);
-    *stop = Effect::Unwind;
+    *stop = Stop::Unwind;
     QuietResult::Stops
 }
 
@@ -91,15 +96,16 @@ pub(crate) fn call(
     code: &Code,
     line: u32,
     work: &mut Work,
-    stop: &mut Effect,
+    stop: &mut Stop,
+    asked: &mut Asked,
     number: u32,
 ) -> Result<QuietResult, AllocError>
     ensures ok { IfOk result (λ how. Does code.now line (Op.Call number) work.old
-        (ended how stop.new) work.new) }
+        (ended how stop.new asked.new) work.new) }
     ensures err { OnErr result (work.new ≡ work.old) }
 {
     match code.routine(number) {
-        None => Ok(put_end(code, line, work, stop)),
+        None => Ok(put_end(code, line, work, stop, asked)),
         Some(routine) => {
             let call = Call {
                 routine,
@@ -107,7 +113,7 @@ pub(crate) fn call(
                 taken: u64::from(routine.params),
                 counts: true,
             };
-            let how = enter(code, line, work, stop, call)?;
+            let how = enter(code, line, work, stop, asked, call)?;
             Ok(how)
         }
     }
@@ -118,18 +124,19 @@ fn enter(
     code: &Code,
     line: u32,
     work: &mut Work,
-    stop: &mut Effect,
+    stop: &mut Stop,
+    asked: &mut Asked,
     call: Call,
 ) -> Result<QuietResult, AllocError>
     ensures ok { IfOk result (λ how. Ends (act_enter code.now line call work.old)
-        (ended how stop.new) work.new) }
+        (ended how stop.new asked.new) work.new) }
     ensures err { OnErr result (work.new ≡ work.old) }
 {
     if work.calls() < CALLS {
         work.enter(call)?;
         Ok(QuietResult::Quiet)
     } else {
-        Ok(put_fault(code, line, work, stop, RunFault::Depth))
+        Ok(put_fault(code, line, work, stop, asked, RunFault::Depth))
     }
 }
 
@@ -149,18 +156,19 @@ pub(crate) fn call_on(
     code: &Code,
     line: u32,
     work: &mut Work,
-    stop: &mut Effect,
+    stop: &mut Stop,
+    asked: &mut Asked,
     number: u32,
 ) -> Result<QuietResult, AllocError>
     ensures ok { IfOk result (λ how. Does code.now line (Op.CallOn number) work.old
-        (ended how stop.new) work.new) }
+        (ended how stop.new asked.new) work.new) }
     ensures err { OnErr result (work.new ≡ work.old) }
 {
     match code.routine(number) {
-        None => Ok(put_end(code, line, work, stop)),
+        None => Ok(put_end(code, line, work, stop, asked)),
         Some(routine) => {
             let call = object_call(routine, true, work);
-            let how = enter(code, line, work, stop, call)?;
+            let how = enter(code, line, work, stop, asked, call)?;
             Ok(how)
         }
     }
@@ -171,15 +179,16 @@ pub(crate) fn call_unwritten(
     code: &Code,
     line: u32,
     work: &mut Work,
-    stop: &mut Effect,
+    stop: &mut Stop,
+    asked: &mut Asked,
     number: u32,
 ) -> Result<QuietResult, AllocError>
     ensures ok { IfOk result (λ how. Does code.now line (Op.CallUnwritten number) work.old
-        (ended how stop.new) work.new) }
+        (ended how stop.new asked.new) work.new) }
     ensures err { OnErr result (work.new ≡ work.old) }
 {
     match code.routine(number) {
-        None => Ok(put_end(code, line, work, stop)),
+        None => Ok(put_end(code, line, work, stop, asked)),
         Some(routine) => {
             let call = object_call(routine, false, work);
             work.enter(call)?;

@@ -1,16 +1,17 @@
 // The ops of mutex objects: a task enters and leaves them, makes them and destroys them.
 
 ghost use Rattle.std.specs.Prelude.{◌≡◌, ℕ, IfOk, OnErr};
-ghost use Rattle.uc_step.specs.OpEffects.{act_built, may_call, ended, Does, Ends};
+ghost use Rattle.uc_step.specs.Effects.{ended};
+ghost use Rattle.uc_step.specs.OpEffects.{act_built, may_call, Does, Ends};
 ghost use Rattle.uc_machine.specs.Insides.{is_last};
 ghost use Rattle.uc_frames.specs.Objects.{by_event, object_in, this_object};
 
-use crate::effect::{Effect, QuietResult, put_end, put_fault, put_request};
+use crate::effect::{QuietResult, Stop, put_end, put_fault, put_request};
 use std::alloc::AllocError;
 use uc_code::code::Code;
 use uc_code::op::Op;
 use uc_entry::fault::RunFault;
-use uc_entry::request::Request;
+use uc_entry::request::{Asked, Request};
 use uc_frames::cell::Cell;
 use uc_frames::work::Work;
 use uc_machine::exec::UnwindReason;
@@ -45,19 +46,20 @@ pub(crate) fn enter(
     code: &Code,
     line: u32,
     work: &mut Work,
-    stop: &mut Effect,
+    stop: &mut Stop,
+    asked: &mut Asked,
     member: u8,
     number: u32,
 ) -> Result<QuietResult, AllocError>
     ensures ok { IfOk result (λ how. Does code.now line (Op.Enter member number) work.old
-        (ended how stop.new) work.new) }
+        (ended how stop.new asked.new) work.new) }
     ensures err { OnErr result (work.new ≡ work.old) }
 {
     let Some(routine) = code.routine(number) else {
-        return Ok(put_end(code, line, work, stop));
+        return Ok(put_end(code, line, work, stop, asked));
     };
     if !may_call(work, routine.written) {
-        return Ok(put_fault(code, line, work, stop, RunFault::Depth));
+        return Ok(put_fault(code, line, work, stop, asked, RunFault::Depth));
     }
     let object = object_in(work.below(routine.params));
     let inside = work.depth(object).is_some();
@@ -65,7 +67,14 @@ pub(crate) fn enter(
     if inside {
         return Ok(QuietResult::Quiet);
     }
-    Ok(put_request(code, line, work, stop, Request::Call { object, member }))
+    Ok(put_request(
+        code,
+        line,
+        work,
+        stop,
+        asked,
+        Request::Call { object, member },
+    ))
 }
 
 // Whether the call that ends is the last one in an object.
@@ -91,10 +100,11 @@ pub(crate) fn leave(
     code: &Code,
     line: u32,
     work: &mut Work,
-    stop: &mut Effect,
+    stop: &mut Stop,
+    asked: &mut Asked,
     to: u32,
 ) -> QuietResult
-    ensures { Does code.now line (Op.Leave to) work.old (ended result stop.new) work.new }
+    ensures { Does code.now line (Op.Leave to) work.old (ended result stop.new asked.new) work.new }
 {
     let object = this_object(work);
     if !is_last(work.depth(object)) {
@@ -103,11 +113,18 @@ pub(crate) fn leave(
         return QuietResult::Quiet;
     }
     if work.is_held_up(object) {
-        return put_fault(code, line, work, stop, RunFault::BlockedInside);
+        return put_fault(code, line, work, stop, asked, RunFault::BlockedInside);
     }
     let why = work.raised();
     let failed = by_event(why);
-    let how = put_request(code, line, work, stop, Request::Leave { object, failed });
+    let how = put_request(
+        code,
+        line,
+        work,
+        stop,
+        asked,
+        Request::Leave { object, failed },
+    );
     work.end_call(object);
     work.count_no_more();
     if why.is_some() {
@@ -121,22 +138,23 @@ pub(crate) fn make(
     code: &Code,
     line: u32,
     work: &mut Work,
-    stop: &mut Effect,
+    stop: &mut Stop,
+    asked: &mut Asked,
     class: u32,
     number: u32,
 ) -> Result<QuietResult, AllocError>
     ensures ok { IfOk result (λ how. Does code.now line (Op.Make class number) work.old
-        (ended how stop.new) work.new) }
+        (ended how stop.new asked.new) work.new) }
     ensures err { OnErr result (work.new ≡ work.old) }
 {
     let Some(routine) = code.routine(number) else {
-        return Ok(put_end(code, line, work, stop));
+        return Ok(put_end(code, line, work, stop, asked));
     };
     if !may_call(work, routine.written) {
-        return Ok(put_fault(code, line, work, stop, RunFault::Depth));
+        return Ok(put_fault(code, line, work, stop, asked, RunFault::Depth));
     }
     work.begin_build()?;
-    Ok(put_request(code, line, work, stop, Request::Make { class }))
+    Ok(put_request(code, line, work, stop, asked, Request::Make { class }))
 }
 
 // What was made is bound to its place.
@@ -144,14 +162,15 @@ pub(crate) fn bind_made(
     code: &Code,
     line: u32,
     work: &mut Work,
-    stop: &mut Effect,
+    stop: &mut Stop,
+    asked: &mut Asked,
     number: u32,
 ) -> QuietResult
     ensures { (class : ℕ) →
-        Does code.now line (Op.BindMade class number) work.old (ended result stop.new) work.new }
+        Does code.now line (Op.BindMade class number) work.old (ended result stop.new asked.new) work.new }
 {
     match code.routine(number) {
-        None => { put_end(code, line, work, stop) }
+        None => { put_end(code, line, work, stop, asked) }
         Some(routine) => {
             work.bind_made(routine);
             QuietResult::Quiet
@@ -164,17 +183,18 @@ pub(crate) fn built(
     code: &Code,
     line: u32,
     work: &mut Work,
-    stop: &mut Effect,
+    stop: &mut Stop,
+    asked: &mut Asked,
     object: u32,
     request: Request,
 ) -> QuietResult
     ensures { Ends (act_built code.now line object request work.old)
-        (ended result stop.new) work.new }
+        (ended result stop.new asked.new) work.new }
 {
     if work.is_held_up(object) {
-        return put_fault(code, line, work, stop, RunFault::BlockedInside);
+        return put_fault(code, line, work, stop, asked, RunFault::BlockedInside);
     }
-    let how = put_request(code, line, work, stop, request);
+    let how = put_request(code, line, work, stop, asked, request);
     work.end_build(object);
     how
 }

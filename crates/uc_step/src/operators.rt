@@ -2,14 +2,16 @@
 
 ghost use Rattle.std.specs.Prelude.{◌≡◌, IfOk, OnErr};
 ghost use Rattle.uc_frames.specs.Machine.{top, below, cell_number};
-ghost use Rattle.uc_step.specs.OpEffects.{act_operator, ended, Does, Ends};
+ghost use Rattle.uc_step.specs.Effects.{ended};
+ghost use Rattle.uc_step.specs.OpEffects.{act_operator, Does, Ends};
 ghost use Rattle.uc_step.specs.OperatorResults.{operator_of};
 
-use crate::effect::{Effect, QuietResult, put_fault};
+use crate::effect::{QuietResult, Stop, put_fault};
 use crate::numbers::{Computed, Operator, in_range};
 use std::alloc::AllocError;
 use uc_code::code::Code;
 use uc_code::op::Op;
+use uc_entry::request::Asked;
 use uc_frames::cell::{Cell, number_in};
 use uc_frames::work::Work;
 use uc_tree::int::negated;
@@ -20,11 +22,12 @@ pub(crate) fn two(
     code: &Code,
     line: u32,
     work: &mut Work,
-    stop: &mut Effect,
+    stop: &mut Stop,
+    asked: &mut Asked,
     operator: Operator,
 ) -> Result<QuietResult, AllocError>
     ensures ok { IfOk result (λ how. Ends
-        (act_operator code.now line (operator_of operator) work.old) (ended how stop.new) work.new) }
+        (act_operator code.now line (operator_of operator) work.old) (ended how stop.new asked.new) work.new) }
     ensures err { OnErr result (work.new ≡ work.old) }
 {
     match operator.given(number_in(work.second()), number_in(work.top())) {
@@ -35,7 +38,7 @@ pub(crate) fn two(
         Computed::Fault(fault) => {
             work.pop();
             work.pop();
-            Ok(put_fault(code, line, work, stop, fault))
+            Ok(put_fault(code, line, work, stop, asked, fault))
         }
     }
 }
@@ -45,10 +48,11 @@ pub(crate) fn negate(
     code: &Code,
     line: u32,
     work: &mut Work,
-    stop: &mut Effect,
+    stop: &mut Stop,
+    asked: &mut Asked,
 ) -> Result<QuietResult, AllocError>
     ensures ok { IfOk result (λ how. Does code.now line Op.Negate work.old
-        (ended how stop.new) work.new) }
+        (ended how stop.new asked.new) work.new) }
     ensures err { OnErr result (work.new ≡ work.old) }
 {
     match in_range(negated(number_in(work.top()))) {
@@ -58,7 +62,7 @@ pub(crate) fn negate(
         }
         Computed::Fault(fault) => {
             work.pop();
-            Ok(put_fault(code, line, work, stop, fault))
+            Ok(put_fault(code, line, work, stop, asked, fault))
         }
     }
 }

@@ -3,14 +3,15 @@
 ghost use Rattle.std.specs.Prelude.{◌≡◌, IfOk, OnErr};
 ghost use Rattle.uc_frames.specs.Machine.{below, exec_at};
 ghost use Rattle.uc_frames.specs.Unwinding.{event_at};
-ghost use Rattle.uc_step.specs.OpEffects.{act_pend_at, with_operands, without_event, ended, Does, Ends};
+ghost use Rattle.uc_step.specs.Effects.{ended};
+ghost use Rattle.uc_step.specs.OpEffects.{act_pend_at, with_operands, without_event, Does, Ends};
 
-use crate::effect::{Effect, QuietResult, put_fault, put_request};
+use crate::effect::{QuietResult, Stop, put_fault, put_request};
 use std::alloc::AllocError;
 use uc_code::code::Code;
 use uc_code::op::Op;
 use uc_entry::fault::RunFault;
-use uc_entry::request::Request;
+use uc_entry::request::{Asked, Request};
 use uc_frames::cell::{Cell, exec_in};
 use uc_frames::event::Event;
 use uc_frames::work::Work;
@@ -22,10 +23,11 @@ pub(crate) fn raise_at(
     code: &Code,
     line: u32,
     work: &mut Work,
-    stop: &mut Effect,
+    stop: &mut Stop,
+    asked: &mut Asked,
 ) -> Result<QuietResult, AllocError>
     ensures ok { IfOk result (λ how. Does code.now line Op.RaiseAt work.old
-        (ended how stop.new) work.new) }
+        (ended how stop.new asked.new) work.new) }
     ensures err { OnErr result (work.new ≡ work.old) }
 {
     let place = work.top();
@@ -41,6 +43,7 @@ pub(crate) fn raise_at(
                 line,
                 work,
                 stop,
+                asked,
                 Request::Raise {
                     object,
                     event,
@@ -51,7 +54,7 @@ pub(crate) fn raise_at(
         }
         Cell::Number(_) | Cell::Place(_, _) | Cell::Running(_) | Cell::Nothing => {
             let exec = exec_in(work.read(place));
-            let how = pend_at(code, line, work, stop, exec)?;
+            let how = pend_at(code, line, work, stop, asked, exec)?;
             Ok(how)
         }
     }
@@ -73,26 +76,27 @@ fn pend_at(
     code: &Code,
     line: u32,
     work: &mut Work,
-    stop: &mut Effect,
+    stop: &mut Stop,
+    asked: &mut Asked,
     exec: Option<Exec>,
 ) -> Result<QuietResult, AllocError>
     ensures ok { IfOk result (λ how. Ends
         (act_pend_at code.now line exec (event_at (below work.old.run.operands))
         (without_event (with_operands (below work.old.run.operands) work.old)))
-        (ended how stop.new) work.new) }
+        (ended how stop.new asked.new) work.new) }
     ensures err { OnErr result (work.new ≡ work.old) }
 {
     let Some(exec) = exec else {
         pop_raised(work);
-        return Ok(put_fault(code, line, work, stop, RunFault::NotLive));
+        return Ok(put_fault(code, line, work, stop, asked, RunFault::NotLive));
     };
     if !work.is_live_at(exec) {
         pop_raised(work);
-        return Ok(put_fault(code, line, work, stop, RunFault::NotLive));
+        return Ok(put_fault(code, line, work, stop, asked, RunFault::NotLive));
     }
     if work.pending_count(exec) >= usize::from(PENDING_EVENTS) {
         pop_raised(work);
-        return Ok(put_fault(code, line, work, stop, RunFault::TooManyPending));
+        return Ok(put_fault(code, line, work, stop, asked, RunFault::TooManyPending));
     }
     let Event {
         number: event,

@@ -1,13 +1,14 @@
 // The ops that print.
 
 ghost use Rattle.std.specs.Prelude.{◌≡◌, IfOk, OnErr};
-ghost use Rattle.uc_step.specs.OpEffects.{ended, Does};
+ghost use Rattle.uc_step.specs.Effects.{ended};
+ghost use Rattle.uc_step.specs.OpEffects.{Does};
 
-use crate::effect::{Effect, QuietResult, put_request};
+use crate::effect::{QuietResult, Stop, put_request};
 use std::alloc::AllocError;
 use uc_code::code::Code;
 use uc_code::op::Op;
-use uc_entry::request::{Piece, Request, TEXT_FORM};
+use uc_entry::request::{Asked, Piece, Request, TEXT_FORM};
 use uc_frames::cell::number_in;
 use uc_frames::pieces::print_request;
 use uc_frames::work::Work;
@@ -18,11 +19,12 @@ pub(crate) fn print(
     code: &Code,
     line: u32,
     work: &mut Work,
-    stop: &mut Effect,
+    stop: &mut Stop,
+    asked: &mut Asked,
     form: ValueForm,
 ) -> Result<QuietResult, AllocError>
     ensures ok { IfOk result (λ how. Does code.now line (Op.Print form) work.old
-        (ended how stop.new) work.new) }
+        (ended how stop.new asked.new) work.new) }
     ensures err { OnErr result (work.new ≡ work.old) }
 {
     let piece = Piece {
@@ -35,7 +37,7 @@ pub(crate) fn print(
         Ok(QuietResult::Quiet)
     } else {
         work.pop();
-        Ok(put_request(code, line, work, stop, print_request(&[piece])))
+        Ok(put_request(code, line, work, stop, asked, print_request(&[piece])))
     }
 }
 
@@ -44,11 +46,12 @@ pub(crate) fn text(
     code: &Code,
     line: u32,
     work: &mut Work,
-    stop: &mut Effect,
+    stop: &mut Stop,
+    asked: &mut Asked,
     number: u32,
 ) -> Result<QuietResult, AllocError>
     ensures ok { IfOk result (λ how. Does code.now line (Op.Text number) work.old
-        (ended how stop.new) work.new) }
+        (ended how stop.new asked.new) work.new) }
     ensures err { OnErr result (work.new ≡ work.old) }
 {
     let piece = Piece {
@@ -59,18 +62,24 @@ pub(crate) fn text(
         work.gather(piece)?;
         Ok(QuietResult::Quiet)
     } else {
-        Ok(put_request(code, line, work, stop, print_request(&[piece])))
+        Ok(put_request(code, line, work, stop, asked, print_request(&[piece])))
     }
 }
 
-pub(crate) fn flush(code: &Code, line: u32, work: &mut Work, stop: &mut Effect) -> QuietResult
-    ensures { Does code.now line Op.Flush work.old (ended result stop.new) work.new }
+pub(crate) fn flush(
+    code: &Code,
+    line: u32,
+    work: &mut Work,
+    stop: &mut Stop,
+    asked: &mut Asked,
+) -> QuietResult
+    ensures { Does code.now line Op.Flush work.old (ended result stop.new asked.new) work.new }
 {
     match work.take_gathered() {
         None => QuietResult::Quiet,
         Some(pieces) => match pieces.request() {
             None => QuietResult::Quiet,
-            Some(request) => { put_request(code, line, work, stop, request) }
+            Some(request) => { put_request(code, line, work, stop, asked, request) }
         },
     }
 }

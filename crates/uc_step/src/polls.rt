@@ -2,13 +2,14 @@
 
 ghost use Rattle.std.specs.Prelude.{◌≡◌, IfOk, OnErr};
 ghost use Rattle.uc_machine.specs.Insides.{oldest_enabled};
-ghost use Rattle.uc_step.specs.OpEffects.{ended, Does, DoesAlone};
+ghost use Rattle.uc_step.specs.Effects.{ended};
+ghost use Rattle.uc_step.specs.OpEffects.{Does, DoesAlone};
 
-use crate::effect::{Effect, QuietResult, put_request};
+use crate::effect::{QuietResult, Stop, put_request};
 use std::alloc::AllocError;
 use uc_code::code::Code;
 use uc_code::op::Op;
-use uc_entry::request::Request;
+use uc_entry::request::{Asked, Request};
 use uc_frames::cell::Cell;
 use uc_frames::work::Work;
 
@@ -19,11 +20,12 @@ pub(crate) fn poll(
     code: &Code,
     line: u32,
     work: &mut Work,
-    stop: &mut Effect,
+    stop: &mut Stop,
+    asked: &mut Asked,
     to: u32,
 ) -> Result<QuietResult, AllocError>
     ensures ok { IfOk result (λ how. Does code.now line (Op.Poll to) work.old
-        (ended how stop.new) work.new) }
+        (ended how stop.new asked.new) work.new) }
     ensures err { OnErr result (work.new ≡ work.old) }
 {
     let mask = work.enabled();
@@ -32,7 +34,7 @@ pub(crate) fn poll(
         return Ok(QuietResult::Quiet);
     }
     if work.is_own() {
-        return Ok(put_request(code, line, work, stop, Request::Poll { mask }));
+        return Ok(put_request(code, line, work, stop, asked, Request::Poll { mask }));
     }
     if work.deliver()? {
         return Ok(QuietResult::Tick);
@@ -42,8 +44,8 @@ pub(crate) fn poll(
 }
 
 // What was delivered is raised; where that is nothing, the task goes on elsewhere.
-pub(crate) fn deliver(work: &mut Work, stop: &mut Effect, to: u32) -> QuietResult
-    ensures { DoesAlone (Op.Deliver to) work.old (ended result stop.new) work.new }
+pub(crate) fn deliver(work: &mut Work, stop: &mut Stop, to: u32) -> QuietResult
+    ensures { (asked : Asked) → DoesAlone (Op.Deliver to) work.old (ended result stop.new asked) work.new }
 {
     let number = work.below(2);
     let event = work.pop_event();
@@ -53,7 +55,7 @@ pub(crate) fn deliver(work: &mut Work, stop: &mut Effect, to: u32) -> QuietResul
             QuietResult::Quiet
         }
         Cell::Number(_) | Cell::Place(_, _) | Cell::Running(_) | Cell::Object(_) => {
-            *stop = Effect::Raise(event);
+            *stop = Stop::Raise(event);
             QuietResult::Stops
         }
     }

@@ -6,7 +6,7 @@ use Rattle.uc_entry.specs.Faults.{fault_number}
 use Rattle.uc_machine.specs.Insides.{is_held_up}
 use Rattle.uc_coroutine.specs.declared.testing.TaskMainEnd.TheVariants as end
 use Rattle.uc_coroutine.specs.MainEnds.{MainLeft, main_over}
-use Rattle.uc_step.specs.declared.effect.Effect.TheVariants.{Ask}
+use Rattle.uc_step.specs.Effects.{Ask}
 use Rattle.uc_step.specs.Simulation.{Follow}
 use Rattle.uc_ride.proofs.Leading.{asked_now, ends}
 use Rattle.uc_ride.specs.UnwindingFalls.{Entered}

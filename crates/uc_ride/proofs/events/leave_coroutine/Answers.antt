@@ -3,7 +3,7 @@ use Rattle.uc_entry.specs.Faults.{fault_number}
 use Rattle.uc_entry.specs.declared.request.Request.TheVariants as ask
 use Rattle.uc_code.specs.Layout.{laid_of}
 use Rattle.uc_coroutine.specs.Switching.{left_by, SwitchedAs}
-use Rattle.uc_step.specs.declared.effect.Effect.TheVariants.{Ask}
+use Rattle.uc_step.specs.Effects.{Ask}
 use Rattle.uc_step.specs.Simulation.{Follow}
 use Rattle.uc_ride.specs.UnwindingFalls.{Entered}
 use Rattle.uc_ride.proofs.Leading.{asked_now, leaves_coroutine}

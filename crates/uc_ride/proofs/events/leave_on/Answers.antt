@@ -6,7 +6,7 @@ use Rattle.uc_entry.specs.Faults.{fault_number}
 use Rattle.uc_coroutine.specs.declared.leaving.Left.TheVariants as left
 use Rattle.uc_coroutine.specs.UnwindingSteps.{LeftAs}
 use Rattle.uc_coroutine.specs.Unwinding.{left_as}
-use Rattle.uc_step.specs.declared.effect.Effect.TheVariants.{Ask, Unwind}
+use Rattle.uc_step.specs.Effects.{Ask, Unwind}
 use Rattle.uc_step.specs.WeightFalls.{RunFalls}
 use Rattle.uc_step.specs.Simulation.{Follow}
 use Rattle.uc_ride.proofs.Leading.{asked_now, leaves}

@@ -1,7 +1,7 @@
 use Rattle.std.proofs.Common.{◌∙◌}
 use Rattle.uc_machine.specs.Switches.{suspend}
 use Rattle.uc_code.specs.Layout.{laid_of}
-use Rattle.uc_step.specs.declared.effect.Effect.TheVariants.{Suspend}
+use Rattle.uc_step.specs.Effects.{Suspend}
 use Rattle.uc_step.specs.WeightFalls.{RunFalls}
 use Rattle.uc_step.specs.Simulation.{behind_line}
 use Rattle.uc_ride.specs.UnwindingFalls.{how_settled}

@@ -1,5 +1,5 @@
 use Rattle.std.proofs.Common.{subst}
-use Rattle.uc_step.specs.declared.effect.Effect.TheVariants.{Quiet, Ask, Unwind}
+use Rattle.uc_step.specs.Effects.{Quiet, Ask, Unwind}
 use Rattle.uc_ride.specs.UnwindingFalls.{how_unwound, left_in, StepFalls}
 use Rattle.uc_ride.proofs.Leading.{Unwinding, unwinding_first, unwinding_on}
 use Rattle.uc_ride.proofs.events.unwinds.Goals as goal

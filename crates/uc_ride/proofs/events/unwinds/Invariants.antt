@@ -1,6 +1,6 @@
 use Rattle.std.proofs.Common.{ℕ}
 use Rattle.uc_step.specs.WeightFalls.{FallsBelow}
-use Rattle.uc_step.specs.declared.effect.Effect.TheVariants.{Unwind}
+use Rattle.uc_step.specs.Effects.{Unwind}
 use Rattle.uc_ride.specs.UnwindingFalls.{left_in}
 use Rattle.uc_ride.proofs.Leading.{Unwinding}
 use Rattle.uc_ride.proofs.events.unwinds.Given as goal
