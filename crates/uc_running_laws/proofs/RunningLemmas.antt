@@ -7,7 +7,7 @@ use Rattle.uc_entry.specs.declared.entry.Options.{Options}
 use Rattle.uc_entry.specs.declared.request.Request.{Request}
 use Rattle.uc_entry.specs.declared.request.Request.TheVariants as ask
 use Rattle.uc_entry.specs.Keyed.{find}
-use Rattle.uc_acts.specs.Journal.{Journal, is_over}
+use Rattle.uc_acts.specs.Journal.{Journal}
 use Rattle.uc_acts.specs.KernelRuns.{InRange}
 use Rattle.uc_machine.specs.declared.exec.Home.{Home}
 use Rattle.uc_machine.specs.declared.exec.Home.TheVariants.{Task, Object}
@@ -48,7 +48,7 @@ leaves own ask.End s h = or_first (home_eq s.env.exec.home (Object own)) (has_en
 leaves own q s h = tt
 
 module _ (p : Program) (formed : IsFormed p) (ok : breaks_of p ≡ []) (input : List ℕ) (opts : Options) (range : InRange opts) where
-  run_leaves : {j : Journal} {w : World} (r : Runs (source_of p) input opts j w) → RunFits (source_of p) input opts j w r → RunAlone (source_of p) input opts j w r → RunLeaves (source_of p) input opts j w r
+  pub run_leaves : {j : Journal} {w : World} (r : Runs (source_of p) input opts j w) → RunFits (source_of p) input opts j w r → RunAlone (source_of p) input opts j w r → RunLeaves (source_of p) input opts j w r
   run_leaves begun f g = tt
   run_leaves (more r o (gives q t s le)) f g = (run_leaves r f.0 g.0, tt)
   run_leaves (more r o (no_room q t s le)) f g = (run_leaves r f.0 g.0, tt)

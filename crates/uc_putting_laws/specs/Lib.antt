@@ -1,0 +1,5 @@
+pub mod Calling
+pub mod Putting
+pub mod PuttingLaws
+pub mod PuttingRuns
+pub mod Fields
