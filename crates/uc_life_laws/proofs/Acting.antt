@@ -13,7 +13,7 @@ use Rattle.uc_machine.specs.Insides as inside
 use Rattle.uc_machine.specs.Raising.{Event, event_in}
 use Rattle.uc_machine.specs.Switches as sw
 use Rattle.uc_machine.specs.Quiet as q
-use Rattle.uc_machine.specs.Quiet.{Value, Number, Place, Running, Object, Nothing, Env, State, Step, Todo, at, in_env, top, below, number, is_zero, loaded, written, variable_at, nought, index_in, with_elements, object_in, as_number, this_object, mask_of}
+use Rattle.uc_machine.specs.Quiet.{Value, Number, Place, Running, Object, Nothing, Env, Members, State, Step, Todo, at, in_env, top, below, number, is_zero, loaded, written, variable_at, nought, index_in, with_elements, object_in, as_number, this_object, mask_of}
 use Rattle.uc_machine.specs.Pieces as pc
 use Rattle.uc_typing.specs.Typing.{Ty, Num, Cell, Obj, Raw, Row, Clu, Pro, Name, Sig, Table, object_ty, IsMain, IsTarget, Yields, GiveAll, Fine, FineItem, FineItems, FineStart, FineStmt, FineLoop, FineClauses}
 use Rattle.uc_typing.specs.Pieces.{AreNumbers, IsNone, onto, item_tys, nums, CallsOn, Makes, Popped, Ok}
