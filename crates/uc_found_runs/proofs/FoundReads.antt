@@ -12,20 +12,20 @@ use Rattle.uc_machine.specs.Switches.{new_exec}
 use Rattle.uc_machine.specs.Quiet.{home_at}
 use Rattle.uc_machine.specs.Pieces as piece
 use Rattle.uc_machine.specs.Pieces.{Link, FieldAt, Value, Number, Place, Running, Object, Nothing, Todo, Sort, Active, State, Members, Eval, LoadNow, SetUpNow, SpawnNow, further, loaded, top, object_in}
-use Rattle.uc_typing.specs.Typing.{Ty, Cell, Obj, Raw, Row, Name, Sig, Table, IsMain, Yields, ObjectGives, DestroysAt, CleansAt}
+use Rattle.uc_typing.specs.Typing.{Ty, Num, Cell, Obj, Raw, Row, Clu, Pro, Name, Sig, Table, IsMain, IsRead, Yields, ObjectGives, DestroysAt, CleansAt}
 use Rattle.uc_typing.specs.Pieces.{Ok}
-use Rattle.uc_typing.specs.States.{Sound}
+use Rattle.uc_typing.specs.States.{Sound, IsObjectBy}
 use Rattle.uc_typing.proofs.Answers.{there}
 use Rattle.uc_acts.specs.Journal.{Journal}
 use Rattle.uc_meaning.specs.Runs.{World}
 use Rattle.uc_scope_laws.specs.RoomRuns.{Comes}
 use Rattle.uc_name_laws.specs.Below.{IsNamed}
 use Rattle.uc_named_runs.specs.NamedRuns.{ComesNamed}
-use Rattle.uc_life_laws.specs.Things.{Few, numbered, is_outside, Within, itself, field, element, AtVariable, AtField, IsFor, Marks, InTodo, InStack, NoBase, Base, Things, OwnFields, LiesIn, IsFew, lies}
+use Rattle.uc_life_laws.specs.Things.{Few, numbered, is_outside, Within, itself, field, element, AtVariable, AtField, IsFor, Marks, InTodo, InStack, NoBase, Base, Things, OwnFields, LiesIn, IsFew, Known, Held, lies}
 use Rattle.uc_life_laws.specs.Knowing.{InMaking, IsOwn, Here, KnowsState, ReadsKnown, IsStill, FindsObject, FindsExpr, Finds, HasObject}
 use Rattle.uc_life_laws.proofs.Reading.{exec_is}
 use Rattle.uc_life_laws.proofs.Steps.{exec_same}
-use Rattle.uc_found_runs.specs.FoundReads.{OwnMarks, ReadsFound, ReadsAt, Reads}
+use Rattle.uc_found_runs.specs.FoundReads.{OwnMarks, IsRightAs, IsFound, ReadsFound, ReadsAt, Reads}
 
 -- in a frame of this execution or elsewhere
 own_or_not : (n : Exec) (v : Value) → IsOwn n v ⊎ (IsOwn n v → ⊥)
@@ -155,14 +155,66 @@ module _ (t : Table) (numbers : Ty → ℕ → Bool) where
   has_object (Some c) o = inl (lies refl itself)
 
   module _ (gs : List Sig) (s : State) where
+    -- what lies outside is a thing
+    outside_thing : (n : Exec) (cs : List Active) (w : Value) (a : Ty) → is_outside n w ≡ true → Things t few n cs w a
+    outside_thing n [] w a h = h
+    outside_thing n (c ∷ older) w a h = inr (outside_thing n older w a h)
+
+    outside_or_own : (v : Value) → (is_outside s.env.exec v ≡ true) ⊎ IsOwn s.env.exec v
+    outside_or_own (Place (Frame x d) p) = by (exec_eq x s.env.exec) refl
+      where
+        by : (b : Bool) → exec_eq x s.env.exec ≡ b → ((if exec_eq x s.env.exec then false else true) ≡ true) ⊎ (x ≡ s.env.exec)
+        by true e = inr (exec_is x s.env.exec e)
+        by false e = inl (ap (λ (b : Bool). if b then false else true) e)
+    outside_or_own (Place (Fields o) p) = inl refl
+    outside_or_own (Number z) = inl refl
+    outside_or_own (Running x) = inl refl
+    outside_or_own (Object o) = inl refl
+    outside_or_own Nothing = inl refl
+
+    to_lie : (a : Ty) (v : Value) → (IsOwn s.env.exec v → Held t few (Here t few gs s) a v) → LiesIn t few s.env.exec (Here t few gs s) a v
+    to_lie a (Place o p) h = ⊎_elim (λ e. inl (lies (inl (outside_thing s.env.exec (s.run ∷ s.callers) (Place o p) a e)) itself)) h (outside_or_own (Place o p))
+    to_lie a (Object o) h = inl (lies (inl (outside_thing s.env.exec (s.run ∷ s.callers) (Object o) a refl)) itself)
+    to_lie a (Number z) h = tt
+    to_lie a (Running x) h = tt
+    to_lie a Nothing h = tt
+
+    -- a mutex object is known by its number
+    numbered_lies : (c : ℕ) (v : Value) (b : Bool) → t.mutex c ≡ b → b ≡ true → IsObjectBy t b c v → LiesIn t few s.env.exec (Here t few gs s) (Obj c) v
+    numbered_lies c (Object o) true m e i = to_lie (Obj c) (Object o) (λ f. absurd f)
+    numbered_lies c (Number z) true m e i = tt
+    numbered_lies c (Place o p) true m e i = absurd i
+    numbered_lies c (Running x) true m e i = tt
+    numbered_lies c Nothing true m e i = tt
+    numbered_lies c v false m e i = absurd (cc)
+
+    right_known : (a : Ty) (v : Value) → IsRightAs t few gs s a v → Known t few s.env.exec (Here t few gs s) a v
+    right_known Num v r = tt
+    right_known (Cell a) v r = record { is = r.is; passes = r.passes; rooted = λ k. to_lie (Cell a) v (λ i. r.lies i (inl k)); held = λ m. absurd m; seated = λ k. inl (to_lie (Cell a) v (λ i. r.lies i (inr k))) }
+    right_known (Obj c) v r = record { is = r.is; passes = r.passes; rooted = λ k. to_lie (Obj c) v (λ i. r.lies i (inl k)); held = λ m. numbered_lies c v (t.mutex c) refl m r.is; seated = λ k. absurd k }
+    right_known (Raw c) v r = record { is = r.is; passes = r.passes }
+    right_known (Row m a) v r = record { is = r.is; passes = r.passes; rooted = λ k. to_lie (Row m a) v (λ i. r.lies i (inl k)); held = λ m. absurd m; seated = λ k. inl (to_lie (Row m a) v (λ i. r.lies i (inr k))) }
+    right_known Clu v r = record { is = r.is; passes = r.passes; rooted = λ k. absurd k; held = λ m. absurd m; seated = λ k. absurd k }
+    right_known Pro v r = record { is = r.is; passes = r.passes; rooted = λ k. absurd k; held = λ m. absurd m; seated = λ k. absurd k }
+
     reads_known : (a : Ty) (v : Value) → ReadsFound t few gs s a v → ReadsKnown t few gs s a v
     reads_known a v r = record {
-      untracked = λ no other. ⊎_elim (λ i. r.ending i no other) (λ i. r.foreign i) (own_or_not s.env.exec v);
-      seated = λ k l. ⊎_elim (λ i. r.loose i k l) (λ i. r.foreign i) (own_or_not s.env.exec v);
-      foreign = r.foreign;
-      field = λ w b m y. ⊎_elim (λ i. ⊎_elim (λ h. r.field i w b h y) (λ h. absurd (outside t s.env.exec w b v (Cell a) y i h)) (own_marks t few s.env.exec (s.run ∷ s.callers) w b m)) (λ i. r.foreign i) (own_or_not s.env.exec v);
-      making = λ w c m y. ⊎_elim (λ i. ⊎_elim (λ h. absurd (outside t s.env.exec w (Obj c) v (Cell a) y i (raw_thing t c w few s.env.exec (s.run ∷ s.callers) h))) (λ h. r.making i w c h y) m) (λ i. r.foreign i) (own_or_not s.env.exec v);
+      untracked = λ no other. known (⊎_elim (λ i. r.ending i no other) (λ i. r.foreign i) (own_or_not s.env.exec v));
+      seated = λ k l. known (⊎_elim (λ i. r.loose i k l) (λ i. r.foreign i) (own_or_not s.env.exec v));
+      foreign = λ i. known (r.foreign i);
+      field = λ w b m y. known (⊎_elim (λ i. ⊎_elim (λ h. r.field i w b h y) (λ h. absurd (outside t s.env.exec w b v (Cell a) y i h)) (own_marks t few s.env.exec (s.run ∷ s.callers) w b m)) (λ i. r.foreign i) (own_or_not s.env.exec v));
+      making = λ w c m y. known (⊎_elim (λ i. ⊎_elim (λ h. absurd (outside t s.env.exec w (Obj c) v (Cell a) y i (raw_thing t c w few s.env.exec (s.run ∷ s.callers) h))) (λ h. r.making i w c h y) m) (λ i. r.foreign i) (own_or_not s.env.exec v));
     }
+      where
+        known : IsFound t few gs s a v → Known t few s.env.exec (Here t few gs s) a (loaded v s.env)
+        known f = right_known a (loaded v s.env) f
+
+    number_known : (v : Value) → ReadsKnown t few gs s Num v
+    number_known v = record { untracked = λ no other. tt; seated = λ k l. tt; foreign = λ i. tt; field = λ w b m y. tt; making = λ w c m y. tt }
+
+    read_found : (a : Ty) (v : Value) → IsRead t a → (t.refers ≡ true → ReadsFound t few gs s a v) → ReadsKnown t few gs s a v
+    read_found a v (inl e) h = subst (λ a. ReadsKnown t few gs s a v) (sym e) (number_known v)
+    read_found a v (inr r) h = reads_known a v (h r)
 
     still : (g : Sig) (sc : List Name) → IsStill t few gs g sc s
     still g sc c e = (raw_few s.env.exec c s.run.this, few_raw s.env.exec c s.run.this)
@@ -174,7 +226,7 @@ module _ (t : Table) (numbers : Ty → ℕ → Bool) where
 
       objects : (o : ObjectExpr) (todo : List Todo) (own : List Ty) → ReadsAt t few gs s g sc (Eval (OfObject o) ∷ todo) own → (a : Ty) → ObjectGives t g sc o a → FindsObject t few gs g sc s o a
       objects This todo own h a y = still g sc
-      objects (GetOwn k i) todo own h a y = reads_known a (further (FieldAt k i) s.run.this) (h a y)
+      objects (GetOwn k i) todo own h a y = read_found a (further (FieldAt k i) s.run.this) y.4 (λ r. h r a y)
       objects o todo own h a y = tt
 
       exprs : (e : Expr) (todo : List Todo) (own : List Ty) → ReadsAt t few gs s g sc (Eval e ∷ todo) own → (a : Ty) → Yields t g sc e a → FindsExpr t few gs g sc s e a
@@ -183,7 +235,7 @@ module _ (t : Table) (numbers : Ty → ℕ → Bool) where
 
       finds : (control : List Todo) (own : List Ty) → s.run.control ≡ control → Ok t g base sc control own → ReadsAt t few gs s g sc control own → Finds t few gs g sc s control own
       finds (Eval e ∷ todo) own q o h = λ a y. exprs e todo own h a y
-      finds (LoadNow ∷ todo) (Cell a ∷ more) e o h = reads_known a (top s.run.operands) h
+      finds (LoadNow ∷ todo) (Cell a ∷ more) e o h = read_found a (top s.run.operands) o.0 h
       finds (SetUpNow r ∷ todo) own e o h = λ m at. (still g sc, λ c q. at_hand (new_exec (home_at s.run.this s.env) s.env) c s.run.this (λ d p is. let x = known r (slice_get source.routines r) refl o.0 in new r todo e x.0 x.1 m at d p is))
       finds (SpawnNow r ∷ todo) own e o h = has_object (t.routine r).this (object_in s.run.this)
       finds control own e o h = tt

@@ -1,11 +1,12 @@
 -- What a step is still to find where numbers alone are told: that what it reads is known, where the state does not tell it.
-use Rattle.std.specs.Prelude.{◌≡◌, ℕ, zero, suc, Bool, List, [], ◌∷◌}
+use Rattle.std.specs.Prelude.{◌≡◌, ℕ, zero, suc, ◌⊎◌, Bool, true, List, [], ◌∷◌}
 use Rattle.uc_tree.specs.Source.{Source, CleanUp, Stmts, Scoped, OfObject, GetOwn}
 use Rattle.uc_machine.specs.declared.exec.Exec.{Exec}
 use Rattle.uc_machine.specs.Pieces.{FieldAt, Value, Todo, Eval, LoadNow, Rest, Active, State, further, loaded, top}
 use Rattle.uc_value_laws.specs.Opens as there
-use Rattle.uc_typing.specs.Typing.{Ty, Cell, Obj, Raw, Name, Sig, Table, ObjectGives}
-use Rattle.uc_life_laws.specs.Things.{Few, numbered, IsReference, IsResource, IsLoosePlace, AtField, InStack, NoBase, Within, Known}
+use Rattle.uc_typing.specs.States.{Is}
+use Rattle.uc_typing.specs.Typing.{Ty, Num, Cell, Obj, Raw, Row, Clu, Pro, Name, Sig, Table, ObjectGives}
+use Rattle.uc_life_laws.specs.Things.{Few, numbered, IsReference, IsResource, IsTracked, IsSited, IsLoosePlace, AtField, InStack, NoBase, Within, Held, IsFew}
 use Rattle.uc_life_laws.specs.LifeStates.{LifeState, Opens}
 use Rattle.uc_life_laws.specs.Knowing.{InMaking, IsOwn, Here, KnowsState}
 use Rattle.uc_life_laws.specs.Opened.{any, ObjectsHold}
@@ -15,9 +16,25 @@ abbrev pub OwnMarks : Table → Exec → List Active → Value → Ty → Type 0
 OwnMarks t n cs w a = InStack (AtField t) (AtField t) NoBase n cs w a
 
 module _ (t : Table) (few : Few) (gs : List Sig) (s : State) where
-  -- what stands there is known
+  -- a value is of its type, and a number is such; and in a frame of the running execution, the place of an object in which something is bound lies in
+  -- what is at hand
+  pub record IsRight (a : Ty) (v : Value) : Type 0 where
+    pub is : Is t a v
+    pub passes : IsFew t few s.env.exec a v
+    pub lies : IsOwn s.env.exec v → IsTracked t a ⊎ IsSited a → Held t few (Here t few gs s) a v
+
+  -- so is what stands at a place, if that is no number
+  abbrev pub IsRightAs : Ty → Value → Type 0
+  IsRightAs Num v = Unit {0}
+  IsRightAs (Cell a) v = IsRight (Cell a) v
+  IsRightAs (Obj c) v = IsRight (Obj c) v
+  IsRightAs (Raw c) v = IsRight (Raw c) v
+  IsRightAs (Row m a) v = IsRight (Row m a) v
+  IsRightAs Clu v = IsRight Clu v
+  IsRightAs Pro v = IsRight Pro v
+
   abbrev pub IsFound : Ty → Value → Type 0
-  IsFound a v = Known t few s.env.exec (Here t few gs s) a (loaded v s.env)
+  IsFound a v = IsRightAs a (loaded v s.env)
 
   -- of what is read at a place: in a frame of another execution, or of a mutex object; and in a frame of its own, what is being destroyed; a cluster or
   -- a processor at a variable, or at an element of one; what stands in a field that is to be cleaned up, and in an object that an activation of
@@ -31,11 +48,11 @@ module _ (t : Table) (few : Few) (gs : List Sig) (s : State) where
     pub making : IsOwn s.env.exec v → (w : Value) (c : ℕ) → InMaking gs (s.run ∷ s.callers) w (Raw c) →
         Within t w (Obj c) v (Cell a) → IsFound a v
 
-  -- by what is next to do
+  -- by what is next to do, if bindings are read at all
   abbrev pub ReadsAt : Sig → List Name → List Todo → List Ty → Type 0
-  ReadsAt g sc (Eval (OfObject (GetOwn k i)) ∷ todo) own = (a : Ty) → ObjectGives t g sc (GetOwn k i) a →
-      ReadsFound a (further (FieldAt k i) s.run.this)
-  ReadsAt g sc (LoadNow ∷ todo) (Cell a ∷ more) = ReadsFound a (top s.run.operands)
+  ReadsAt g sc (Eval (OfObject (GetOwn k i)) ∷ todo) own = t.refers ≡ true → (a : Ty) →
+      ObjectGives t g sc (GetOwn k i) a → ReadsFound a (further (FieldAt k i) s.run.this)
+  ReadsAt g sc (LoadNow ∷ todo) (Cell a ∷ more) = t.refers ≡ true → ReadsFound a (top s.run.operands)
   ReadsAt g sc todo own = Unit {0}
 
 -- by some typing what the next step reads is known
