@@ -12,7 +12,7 @@ use Rattle.uc_machine.specs.Switches.{new_exec}
 use Rattle.uc_machine.specs.Quiet.{home_at}
 use Rattle.uc_machine.specs.Pieces as piece
 use Rattle.uc_machine.specs.Pieces.{Link, FieldAt, Value, Number, Place, Running, Object, Nothing, Todo, Sort, Active, State, Members, Eval, LoadNow, SetUpNow, SpawnNow, further, loaded, top, object_in}
-use Rattle.uc_typing.specs.Typing.{Ty, Num, Cell, Obj, Raw, Row, Clu, Pro, Name, Sig, Table, IsMain, IsRead, Yields, ObjectGives, DestroysAt, CleansAt}
+use Rattle.uc_typing.specs.Typing.{Ty, Num, Cell, Obj, Raw, Row, Clu, Pro, Name, Sig, Table, IsMain, Yields, ObjectGives, DestroysAt, CleansAt}
 use Rattle.uc_typing.specs.Pieces.{Ok}
 use Rattle.uc_typing.specs.States.{Sound, IsObjectBy}
 use Rattle.uc_typing.proofs.Answers.{there}
@@ -209,13 +209,6 @@ module _ (t : Table) (numbers : Ty → ℕ → Bool) where
         known : IsFound t few gs s a v → Known t few s.env.exec (Here t few gs s) a (loaded v s.env)
         known f = right_known a (loaded v s.env) f
 
-    number_known : (v : Value) → ReadsKnown t few gs s Num v
-    number_known v = record { untracked = λ no other. tt; seated = λ k l. tt; foreign = λ i. tt; field = λ w b m y. tt; making = λ w c m y. tt }
-
-    read_found : (a : Ty) (v : Value) → IsRead t a → (t.refers ≡ true → ReadsFound t few gs s a v) → ReadsKnown t few gs s a v
-    read_found a v (inl e) h = subst (λ a. ReadsKnown t few gs s a v) (sym e) (number_known v)
-    read_found a v (inr r) h = reads_known a v (h r)
-
     still : (g : Sig) (sc : List Name) → IsStill t few gs g sc s
     still g sc c e = (raw_few s.env.exec c s.run.this, few_raw s.env.exec c s.run.this)
 
@@ -226,7 +219,7 @@ module _ (t : Table) (numbers : Ty → ℕ → Bool) where
 
       objects : (o : ObjectExpr) (todo : List Todo) (own : List Ty) → ReadsAt t few gs s g sc (Eval (OfObject o) ∷ todo) own → (a : Ty) → ObjectGives t g sc o a → FindsObject t few gs g sc s o a
       objects This todo own h a y = still g sc
-      objects (GetOwn k i) todo own h a y = read_found a (further (FieldAt k i) s.run.this) y.4 (λ r. h r a y)
+      objects (GetOwn k i) todo own h a y = reads_known a (further (FieldAt k i) s.run.this) (h a y)
       objects o todo own h a y = tt
 
       exprs : (e : Expr) (todo : List Todo) (own : List Ty) → ReadsAt t few gs s g sc (Eval e ∷ todo) own → (a : Ty) → Yields t g sc e a → FindsExpr t few gs g sc s e a
@@ -235,7 +228,7 @@ module _ (t : Table) (numbers : Ty → ℕ → Bool) where
 
       finds : (control : List Todo) (own : List Ty) → s.run.control ≡ control → Ok t g base sc control own → ReadsAt t few gs s g sc control own → Finds t few gs g sc s control own
       finds (Eval e ∷ todo) own q o h = λ a y. exprs e todo own h a y
-      finds (LoadNow ∷ todo) (Cell a ∷ more) e o h = read_found a (top s.run.operands) o.0 h
+      finds (LoadNow ∷ todo) (Cell a ∷ more) e o h = reads_known a (top s.run.operands) h
       finds (SetUpNow r ∷ todo) own e o h = λ m at. (still g sc, λ c q. at_hand (new_exec (home_at s.run.this s.env) s.env) c s.run.this (λ d p is. let x = known r (slice_get source.routines r) refl o.0 in new r todo e x.0 x.1 m at d p is))
       finds (SpawnNow r ∷ todo) own e o h = has_object (t.routine r).this (object_in s.run.this)
       finds control own e o h = tt

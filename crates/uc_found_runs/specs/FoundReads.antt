@@ -1,5 +1,5 @@
 -- What a step is still to find where numbers alone are told: that what it reads is known, where the state does not tell it.
-use Rattle.std.specs.Prelude.{◌≡◌, ℕ, zero, suc, ◌⊎◌, Bool, true, List, [], ◌∷◌}
+use Rattle.std.specs.Prelude.{◌≡◌, ℕ, zero, suc, ◌⊎◌, Bool, List, [], ◌∷◌}
 use Rattle.uc_tree.specs.Source.{Source, CleanUp, Stmts, Scoped, OfObject, GetOwn}
 use Rattle.uc_machine.specs.declared.exec.Exec.{Exec}
 use Rattle.uc_machine.specs.Pieces.{FieldAt, Value, Todo, Eval, LoadNow, Rest, Active, State, further, loaded, top}
@@ -48,11 +48,11 @@ module _ (t : Table) (few : Few) (gs : List Sig) (s : State) where
     pub making : IsOwn s.env.exec v → (w : Value) (c : ℕ) → InMaking gs (s.run ∷ s.callers) w (Raw c) →
         Within t w (Obj c) v (Cell a) → IsFound a v
 
-  -- by what is next to do, if bindings are read at all
+  -- by what is next to do
   abbrev pub ReadsAt : Sig → List Name → List Todo → List Ty → Type 0
-  ReadsAt g sc (Eval (OfObject (GetOwn k i)) ∷ todo) own = t.refers ≡ true → (a : Ty) →
-      ObjectGives t g sc (GetOwn k i) a → ReadsFound a (further (FieldAt k i) s.run.this)
-  ReadsAt g sc (LoadNow ∷ todo) (Cell a ∷ more) = t.refers ≡ true → ReadsFound a (top s.run.operands)
+  ReadsAt g sc (Eval (OfObject (GetOwn k i)) ∷ todo) own = (a : Ty) → ObjectGives t g sc (GetOwn k i) a →
+      ReadsFound a (further (FieldAt k i) s.run.this)
+  ReadsAt g sc (LoadNow ∷ todo) (Cell a ∷ more) = ReadsFound a (top s.run.operands)
   ReadsAt g sc todo own = Unit {0}
 
 -- by some typing what the next step reads is known
