@@ -1,8 +1,8 @@
 -- What numbers and homes alone tell: an object at hand has the number of one that is whole, a task and a new execution have their objects at hand,
 -- and what is read in what lies outside the frames of the running execution is read elsewhere.
 use Rattle.std.proofs.Common.{◌≡◌, ℕ, ◌<◌, ◌⊎◌, inl, inr, ⊎_elim, List, [], ◌∷◌, Option, Some, None, Bool, true, false, refl, sym, ap, ◌∙◌, subst}
-use Rattle.std.specs.Prelude.{if◌then◌else◌, slice_get}
-use Rattle.uc_tree.specs.Source.{Expr, Shape, Variable, OfObject, ObjectExpr, This, GetOwn, OwnField, CleanUp, Destroys, DestroysAll, Source, Routine}
+use Rattle.std.specs.Prelude.{if◌then◌else◌, slice_get, slice_index_or}
+use Rattle.uc_tree.specs.Source.{Expr, Shape, Variable, OfObject, ObjectExpr, This, GetOwn, OwnField, CleanUp, Destroys, DestroysAll, Scoped, Source, Routine}
 use Rattle.uc_machine.specs.declared.exec.Exec.{Exec}
 use Rattle.uc_machine.specs.declared.exec.Home.{Home}
 use Rattle.uc_machine.specs.declared.exec.Owner.{Owner}
@@ -11,7 +11,7 @@ use Rattle.uc_machine.specs.Executions.{exec_eq, members_at}
 use Rattle.uc_machine.specs.Switches.{new_exec}
 use Rattle.uc_machine.specs.Quiet.{home_at}
 use Rattle.uc_machine.specs.Pieces as piece
-use Rattle.uc_machine.specs.Pieces.{Link, FieldAt, Value, Number, Place, Running, Object, Nothing, Todo, Sort, Active, State, Members, Eval, LoadNow, SetUpNow, SpawnNow, further, loaded, top, object_in}
+use Rattle.uc_machine.specs.Pieces.{Link, Slot, FieldAt, Value, Number, Place, Running, Object, Nothing, Todo, Sort, Active, State, Members, Eval, LoadNow, Rest, SetUpNow, SpawnNow, address, further, loaded, nought, top, object_in}
 use Rattle.uc_typing.specs.Typing.{Ty, Num, Cell, Obj, Raw, Row, Clu, Pro, Name, Sig, Table, IsMain, Yields, ObjectGives, DestroysAt, CleansAt}
 use Rattle.uc_typing.specs.Pieces.{Ok}
 use Rattle.uc_typing.specs.States.{Sound, IsObjectBy}
@@ -21,11 +21,13 @@ use Rattle.uc_meaning.specs.Runs.{World}
 use Rattle.uc_scope_laws.specs.RoomRuns.{Comes}
 use Rattle.uc_name_laws.specs.Below.{IsNamed}
 use Rattle.uc_named_runs.specs.NamedRuns.{ComesNamed}
-use Rattle.uc_life_laws.specs.Things.{Few, numbered, is_outside, Within, itself, field, element, AtVariable, AtField, IsFor, Marks, InTodo, InStack, NoBase, Base, Things, OwnFields, LiesIn, IsFew, Known, Held, lies}
+use Rattle.uc_life_laws.specs.Things.{Few, numbered, is_outside, Within, itself, field, element, AtVariable, AtField, IsFor, Marks, InTodo, InStack, NoBase, Base, Things, OwnFields, LiesIn, IsFew, Known, Holds, Held, lies}
+use Rattle.uc_life_laws.specs.LifeStates.{frame_at, Outwards, OpensAt}
+use Rattle.uc_life_laws.specs.Opened.{ObjectsHold}
 use Rattle.uc_life_laws.specs.Knowing.{InMaking, IsOwn, Here, KnowsState, ReadsKnown, IsStill, FindsObject, FindsExpr, Finds, HasObject}
 use Rattle.uc_life_laws.proofs.Reading.{exec_is}
 use Rattle.uc_life_laws.proofs.Steps.{exec_same}
-use Rattle.uc_found_runs.specs.FoundReads.{OwnMarks, IsRightAs, IsFound, ReadsFound, ReadsAt, Reads}
+use Rattle.uc_found_runs.specs.FoundReads.{OwnMarks, IsRightAs, HoldsRight, VariableRight, OpensRightAt, ObjectsRight, IsFound, ReadsFound, ReadsAt, Reads}
 
 -- in a frame of this execution or elsewhere
 own_or_not : (n : Exec) (v : Value) → IsOwn n v ⊎ (IsOwn n v → ⊥)
@@ -154,17 +156,18 @@ module _ (t : Table) (numbers : Ty → ℕ → Bool) where
   has_object None o = tt
   has_object (Some c) o = inl (lies refl itself)
 
-  module _ (gs : List Sig) (s : State) where
-    -- what lies outside is a thing
-    outside_thing : (n : Exec) (cs : List Active) (w : Value) (a : Ty) → is_outside n w ≡ true → Things t few n cs w a
-    outside_thing n [] w a h = h
-    outside_thing n (c ∷ older) w a h = inr (outside_thing n older w a h)
+  -- what lies outside is a thing
+  outside_thing : (n : Exec) (cs : List Active) (w : Value) (a : Ty) → is_outside n w ≡ true → Things t few n cs w a
+  outside_thing n [] w a h = h
+  outside_thing n (c ∷ older) w a h = inr (outside_thing n older w a h)
 
-    outside_or_own : (v : Value) → (is_outside s.env.exec v ≡ true) ⊎ IsOwn s.env.exec v
-    outside_or_own (Place (Frame x d) p) = by (exec_eq x s.env.exec) refl
+  -- who has at hand all that lies outside knows what is right
+  module _ (n : Exec) (K : Value → Ty → Type 0) (others : (w : Value) (a : Ty) → is_outside n w ≡ true → K w a) where
+    outside_or_own : (v : Value) → (is_outside n v ≡ true) ⊎ IsOwn n v
+    outside_or_own (Place (Frame x d) p) = by (exec_eq x n) refl
       where
-        by : (b : Bool) → exec_eq x s.env.exec ≡ b → ((if exec_eq x s.env.exec then false else true) ≡ true) ⊎ (x ≡ s.env.exec)
-        by true e = inr (exec_is x s.env.exec e)
+        by : (b : Bool) → exec_eq x n ≡ b → ((if exec_eq x n then false else true) ≡ true) ⊎ (x ≡ n)
+        by true e = inr (exec_is x n e)
         by false e = inl (ap (λ (b : Bool). if b then false else true) e)
     outside_or_own (Place (Fields o) p) = inl refl
     outside_or_own (Number z) = inl refl
@@ -172,15 +175,15 @@ module _ (t : Table) (numbers : Ty → ℕ → Bool) where
     outside_or_own (Object o) = inl refl
     outside_or_own Nothing = inl refl
 
-    to_lie : (a : Ty) (v : Value) → (IsOwn s.env.exec v → Held t few (Here t few gs s) a v) → LiesIn t few s.env.exec (Here t few gs s) a v
-    to_lie a (Place o p) h = ⊎_elim (λ e. inl (lies (inl (outside_thing s.env.exec (s.run ∷ s.callers) (Place o p) a e)) itself)) h (outside_or_own (Place o p))
-    to_lie a (Object o) h = inl (lies (inl (outside_thing s.env.exec (s.run ∷ s.callers) (Object o) a refl)) itself)
+    to_lie : (a : Ty) (v : Value) → (IsOwn n v → Held t few K a v) → LiesIn t few n K a v
+    to_lie a (Place o p) h = ⊎_elim (λ e. inl (lies (others (Place o p) a e) itself)) h (outside_or_own (Place o p))
+    to_lie a (Object o) h = inl (lies (others (Object o) a refl) itself)
     to_lie a (Number z) h = tt
     to_lie a (Running x) h = tt
     to_lie a Nothing h = tt
 
     -- a mutex object is known by its number
-    numbered_lies : (c : ℕ) (v : Value) (b : Bool) → t.mutex c ≡ b → b ≡ true → IsObjectBy t b c v → LiesIn t few s.env.exec (Here t few gs s) (Obj c) v
+    numbered_lies : (c : ℕ) (v : Value) (b : Bool) → t.mutex c ≡ b → b ≡ true → IsObjectBy t b c v → LiesIn t few n K (Obj c) v
     numbered_lies c (Object o) true m e i = to_lie (Obj c) (Object o) (λ f. absurd f)
     numbered_lies c (Number z) true m e i = tt
     numbered_lies c (Place o p) true m e i = absurd i
@@ -188,7 +191,7 @@ module _ (t : Table) (numbers : Ty → ℕ → Bool) where
     numbered_lies c Nothing true m e i = tt
     numbered_lies c v false m e i = absurd (cc)
 
-    right_known : (a : Ty) (v : Value) → IsRightAs t few gs s a v → Known t few s.env.exec (Here t few gs s) a v
+    right_known : (a : Ty) (v : Value) → IsRightAs t few n K a v → Known t few n K a v
     right_known Num v r = tt
     right_known (Cell a) v r = record { is = r.is; passes = r.passes; rooted = λ k. to_lie (Cell a) v (λ i. r.lies i (inl k)); held = λ m. absurd m; seated = λ k. inl (to_lie (Cell a) v (λ i. r.lies i (inr k))) }
     right_known (Obj c) v r = record { is = r.is; passes = r.passes; rooted = λ k. to_lie (Obj c) v (λ i. r.lies i (inl k)); held = λ m. numbered_lies c v (t.mutex c) refl m r.is; seated = λ k. absurd k }
@@ -197,6 +200,22 @@ module _ (t : Table) (numbers : Ty → ℕ → Bool) where
     right_known Clu v r = record { is = r.is; passes = r.passes; rooted = λ k. absurd k; held = λ m. absurd m; seated = λ k. absurd k }
     right_known Pro v r = record { is = r.is; passes = r.passes; rooted = λ k. absurd k; held = λ m. absurd m; seated = λ k. absurd k }
 
+    right_holds : (o : Owner) (vs : List Value) (w : Value) (a : Ty) → HoldsRight t few n K o vs w a → Holds t few n K o vs w a
+    right_holds o vs w a h p b y i = right_known b (slice_index_or vs (address p) nought) (h p b y i)
+
+  -- so a scope opens where what it is of holds what is known
+  module _ (s : State) where
+    outwards : (c : CleanUp) (todo : List Todo) (w : Value) (a : Ty) → is_outside s.env.exec w ≡ true → Outwards t few s.env.exec s.run.frame s.run.this s.callers c todo w a
+    outwards c todo w a h = inr (outside_thing s.env.exec s.callers w a h)
+
+    variable_holds : (c : CleanUp) (todo : List Todo) (k : ℕ) (a : Ty) → VariableRight t few c todo s k a → Holds t few s.env.exec (Outwards t few s.env.exec s.run.frame s.run.this s.callers c todo) (Frame s.env.exec s.run.frame) (frame_at s.run.frame s.env.frames) (Place (Frame s.env.exec s.run.frame) (Slot k ∷ [])) a
+    variable_holds c todo k a h = right_holds s.env.exec (Outwards t few s.env.exec s.run.frame s.run.this s.callers c todo) (outwards c todo) (Frame s.env.exec s.run.frame) (frame_at s.run.frame s.env.frames) (Place (Frame s.env.exec s.run.frame) (Slot k ∷ [])) a h
+
+    pub opens_at : (l : List Todo) → OpensRightAt t few l s → OpensAt t few l s
+    opens_at (Rest (Scoped c rest) ∷ todo) h = λ k a y. variable_holds c todo k a (h k a y)
+    opens_at l h = tt
+
+  module _ (gs : List Sig) (s : State) where
     reads_known : (a : Ty) (v : Value) → ReadsFound t few gs s a v → ReadsKnown t few gs s a v
     reads_known a v r = record {
       untracked = λ no other. known (⊎_elim (λ i. r.ending i no other) (λ i. r.foreign i) (own_or_not s.env.exec v));
@@ -207,7 +226,7 @@ module _ (t : Table) (numbers : Ty → ℕ → Bool) where
     }
       where
         known : IsFound t few gs s a v → Known t few s.env.exec (Here t few gs s) a (loaded v s.env)
-        known f = right_known a (loaded v s.env) f
+        known f = right_known s.env.exec (Here t few gs s) (λ w b h. inl (outside_thing s.env.exec (s.run ∷ s.callers) w b h)) a (loaded v s.env) f
 
     still : (g : Sig) (sc : List Name) → IsStill t few gs g sc s
     still g sc c e = (raw_few s.env.exec c s.run.this, few_raw s.env.exec c s.run.this)
@@ -238,3 +257,10 @@ module _ (t : Table) (numbers : Ty → ℕ → Bool) where
   found source sound s new h =
       let x = h.0 in
       (x, finds x.sigs s source sound new x.run.sig x.run.base x.run.scope s.run.control x.run.own refl x.run.ok h.1)
+
+-- where numbers are not tested, objects hold what is known
+pub objects_hold : (t : Table) (c : CleanUp) (todo : List Todo) (s : State) → ObjectsRight t c todo s → ObjectsHold t c todo s
+objects_hold t c todo s h = record {
+  object = λ k i y. variable_holds t (λ a o. true) s c todo k (Obj i) (h.object k i y);
+  array = λ k m i y. variable_holds t (λ a o. true) s c todo k (Row m (Obj i)) (h.array k m i y);
+}

@@ -18,16 +18,16 @@ use Rattle.uc_life_laws.proofs.KnownWorlds.{law_named}
 use Rattle.uc_life_laws.proofs.NamedAsks.{asked_by}
 use Rattle.uc_found_runs.specs.FoundReads.{FoundOutside, ObjectsFoundOutside}
 use Rattle.uc_found_runs.specs.FoundRuns.{AllIsFound, LawFound, LawFoundObjects, LawNamesMade}
-use Rattle.uc_found_runs.proofs.FoundReads.{SetsUpNew, found}
+use Rattle.uc_found_runs.proofs.FoundReads.{SetsUpNew, opens_at, objects_hold, found}
 use Rattle.uc_found_runs.proofs.Walking.{all_found}
 
 module _ (t : Table) (source : Source) (sound : Sound t source) where
   meets : (numbers : Ty → ℕ → Bool) (n : ℕ) (s : State) → SetsUpNew source s → FoundOutside t numbers n s → MeetsOutside t (numbered numbers) n s
-  meets numbers zero s new h = λ life x. let f = h life x in (f.0, found t numbers source sound s new f.1)
+  meets numbers zero s new h = λ life x. let f = h life x in (opens_at t numbers s s.run.control f.0, found t numbers source sound s new f.1)
   meets numbers (suc n) s new h = tt
 
   objects : (n : ℕ) (s : State) → SetsUpNew source s → ObjectsFoundOutside t source n s → ObjectsOutside t source n s
-  objects zero s new h = record { opens = h.opens; objects = h.objects; finds = λ x. found t (λ a o. true) source sound s new (h.reads x) }
+  objects zero s new h = record { opens = h.opens; objects = λ c rest todo e. objects_hold t c todo s (h.objects c rest todo e); finds = λ x. found t (λ a o. true) source sound s new (h.reads x) }
   objects (suc n) s new h = tt
 
 pub law_found : LawFound

@@ -1,29 +1,31 @@
 -- What a step is still to find where numbers alone are told: that what it reads is known, where the state does not tell it.
-use Rattle.std.specs.Prelude.{◌≡◌, ℕ, zero, suc, ◌⊎◌, Bool, List, [], ◌∷◌}
-use Rattle.uc_tree.specs.Source.{Source, CleanUp, Stmts, Scoped, OfObject, GetOwn}
+use Rattle.std.specs.Prelude.{◌≡◌, ℕ, zero, suc, ◌⊎◌, Bool, List, [], ◌∷◌, slice_index_or}
+use Rattle.uc_tree.specs.Source.{Source, CleanUp, Stmts, Scoped, Variable, OfObject, GetOwn}
 use Rattle.uc_machine.specs.declared.exec.Exec.{Exec}
-use Rattle.uc_machine.specs.Pieces.{FieldAt, Value, Todo, Eval, LoadNow, Rest, Active, State, further, loaded, top}
+use Rattle.uc_machine.specs.declared.exec.Owner.{Owner}
+use Rattle.uc_machine.specs.declared.exec.Owner.TheVariants.{Frame}
+use Rattle.uc_machine.specs.Pieces.{Link, Slot, FieldAt, Value, Place, Todo, Eval, LoadNow, Rest, Active, State, address, further, loaded, nought, top}
 use Rattle.uc_value_laws.specs.Opens as there
 use Rattle.uc_typing.specs.States.{Is}
-use Rattle.uc_typing.specs.Typing.{Ty, Num, Cell, Obj, Raw, Row, Clu, Pro, Name, Sig, Table, ObjectGives}
-use Rattle.uc_life_laws.specs.Things.{Few, numbered, IsReference, IsResource, IsTracked, IsSited, IsLoosePlace, AtField, InStack, NoBase, Within, Held, IsFew}
-use Rattle.uc_life_laws.specs.LifeStates.{LifeState, Opens}
+use Rattle.uc_typing.specs.Typing.{Ty, Num, Cell, Obj, Raw, Row, Clu, Pro, Name, Sig, Table, ObjectGives, CleansAt}
+use Rattle.uc_life_laws.specs.Things.{Few, numbered, IsBinding, IsReference, IsResource, IsTracked, IsSited, IsLoosePlace, AtField, InStack, NoBase, Within, Held, IsFew}
+use Rattle.uc_life_laws.specs.LifeStates.{LifeState, Outwards, frame_at}
 use Rattle.uc_life_laws.specs.Knowing.{InMaking, IsOwn, Here, KnowsState}
-use Rattle.uc_life_laws.specs.Opened.{any, ObjectsHold}
+use Rattle.uc_life_laws.specs.Opened.{any}
 
 -- the fields of objects at hand that are to be cleaned up, of these activations of an execution
 abbrev pub OwnMarks : Table → Exec → List Active → Value → Ty → Type 0
 OwnMarks t n cs w a = InStack (AtField t) (AtField t) NoBase n cs w a
 
-module _ (t : Table) (few : Few) (gs : List Sig) (s : State) where
-  -- a value is of its type, and a number is such; and in a frame of the running execution, the place of an object in which something is bound lies in
-  -- what is at hand
+-- what an execution of this name, which has at hand what is of K, may come by
+module _ (t : Table) (few : Few) (n : Exec) (K : Value → Ty → Type 0) where
+  -- a value is of its type, and a number is such; and in a frame of its own, the place of an object in which something is bound lies in what is at hand
   pub record IsRight (a : Ty) (v : Value) : Type 0 where
     pub is : Is t a v
-    pub passes : IsFew t few s.env.exec a v
-    pub lies : IsOwn s.env.exec v → IsTracked t a ⊎ IsSited a → Held t few (Here t few gs s) a v
+    pub passes : IsFew t few n a v
+    pub lies : IsOwn n v → IsTracked t a ⊎ IsSited a → Held t few K a v
 
-  -- so is what stands at a place, if that is no number
+  -- so is what is no number
   abbrev pub IsRightAs : Ty → Value → Type 0
   IsRightAs Num v = Unit {0}
   IsRightAs (Cell a) v = IsRight (Cell a) v
@@ -33,8 +35,31 @@ module _ (t : Table) (few : Few) (gs : List Sig) (s : State) where
   IsRightAs Clu v = IsRight Clu v
   IsRightAs Pro v = IsRight Pro v
 
+  -- and all to which a thing at a place of an owner with these values is bound
+  abbrev pub HoldsRight : Owner → List Value → Value → Ty → Type 0
+  HoldsRight o vs w a = (p : List Link) (b : Ty) → Within t w a (Place o p) (Cell b) → IsBinding b →
+      IsRightAs b (slice_index_or vs (address p) nought)
+
+-- so it is of what is at a variable of the running activation
+module _ (t : Table) (few : Few) (c : CleanUp) (todo : List Todo) (s : State) where
+  abbrev pub VariableRight : ℕ → Ty → Type 0
+  VariableRight k a = HoldsRight t few s.env.exec (Outwards t few s.env.exec s.run.frame s.run.this s.callers c todo) (Frame s.env.exec s.run.frame) (frame_at s.run.frame s.env.frames) (Place (Frame s.env.exec s.run.frame) (Slot k ∷ [])) a
+
+-- where a scope opens, it is so of what that is of
+abbrev pub OpensRightAt : Table → Few → List Todo → State → Type 0
+OpensRightAt t few (Rest (Scoped c rest) ∷ todo) s = (k : ℕ) (a : Ty) → CleansAt t a (Variable k) c →
+    VariableRight t few c todo s k a
+OpensRightAt t few todo s = Unit {0}
+
+-- an object that is a variable, and those of an array that is one
+pub record ObjectsRight (t : Table) (c : CleanUp) (todo : List Todo) (s : State) : Type 0 where
+  pub object : (k i : ℕ) → CleansAt t (Obj i) (Variable k) c → VariableRight t any c todo s k (Obj i)
+  pub array : (k m i : ℕ) → CleansAt t (Row m (Obj i)) (Variable k) c →
+      VariableRight t any c todo s k (Row m (Obj i))
+
+module _ (t : Table) (few : Few) (gs : List Sig) (s : State) where
   abbrev pub IsFound : Ty → Value → Type 0
-  IsFound a v = IsRightAs a (loaded v s.env)
+  IsFound a v = IsRightAs t few s.env.exec (Here t few gs s) a (loaded v s.env)
 
   -- of what is read at a place: in a frame of another execution, or of a mutex object; and in a frame of its own, what is being destroyed; a cluster or
   -- a processor at a variable, or at an element of one; what stands in a field that is to be cleaned up, and in an object that an activation of
@@ -55,13 +80,14 @@ module _ (t : Table) (few : Few) (gs : List Sig) (s : State) where
   ReadsAt g sc (LoadNow ∷ todo) (Cell a ∷ more) = ReadsFound a (top s.run.operands)
   ReadsAt g sc todo own = Unit {0}
 
--- by some typing what the next step reads is known
+-- by some typing what the next step reads is right
 abbrev pub Reads : Table → Few → State → Type 0
 Reads t few s = (x : KnowsState t few [] s) × ReadsAt t few x.sigs s x.run.sig x.run.scope s.run.control x.run.own
 
--- where a scope opens, what that is of holds what is known too
+-- where a scope opens, what that is of is right too
 abbrev pub Found : Table → Few → State → Type 0
-Found t few s = LifeState t few s → KnowsState t few [] s → Opens t few s × Reads t few s
+Found t few s = LifeState t few s → KnowsState t few [] s →
+    OpensRightAt t few s.run.control s × Reads t few s
 
 -- but in the four states from which a clean-up comes to the variable that it ends, and reads it
 abbrev pub FoundOutside : Table → (Ty → ℕ → Bool) → ℕ → State → Type 0
@@ -72,7 +98,7 @@ FoundOutside t numbers (suc n) s = Unit {0}
 pub record ObjectsFound (t : Table) (source : Source) (s : State) : Type 0 where
   pub opens : there.Opens source s
   pub objects : (c : CleanUp) (rest : Stmts) (todo : List Todo) →
-      s.run.control ≡ Rest (Scoped c rest) ∷ todo → ObjectsHold t c todo s
+      s.run.control ≡ Rest (Scoped c rest) ∷ todo → ObjectsRight t c todo s
   pub reads : KnowsState t any [] s → Reads t any s
 
 abbrev pub ObjectsFoundOutside : Table → Source → ℕ → State → Type 0

@@ -1,5 +1,5 @@
--- Runs of programs whose text is accepted, of which it is asked only what no state tells: that scopes of plain objects open where these hold what is
--- known, and of what is read, what is read elsewhere or of what is being built or destroyed.
+-- Runs of programs whose text is accepted, of which it is asked only what no state tells: that scopes of plain objects open where these are right, and of
+-- what is read, what is read elsewhere or of what is being built or destroyed.
 use Rattle.std.specs.Prelude.{◌≡◌, ℕ, zero, suc, false, List, [], ◌∷◌}
 use Rattle.uc_tree.specs.Programs.{Program}
 use Rattle.uc_tree.specs.Source.{Source, CleanUp, Stmts, Scoped}
@@ -20,14 +20,14 @@ use Rattle.uc_value_laws.specs.Endings.{RunHolds, LeadsHold}
 use Rattle.uc_address_laws.specs.Limits.{IsWithinLimits}
 use Rattle.uc_life_laws.specs.LifeStates.{LifeState}
 use Rattle.uc_life_laws.specs.Knowing.{KnowsState}
-use Rattle.uc_life_laws.specs.Opened.{any, ObjectsHold}
-use Rattle.uc_found_runs.specs.FoundReads.{Reads}
+use Rattle.uc_life_laws.specs.Opened.{any}
+use Rattle.uc_found_runs.specs.FoundReads.{ObjectsRight, Reads}
 use Rattle.uc_typed_runs.specs.TypedRuns.{IsTyped}
 
--- where a scope of plain objects opens, they hold what is known, and by some typing what the next step reads is known where no state tells it
+-- where a scope of plain objects opens, these are right, and by some typing what the next step reads is, where no state tells it
 pub record Founds (t : Table) (s : State) : Type 0 where
   pub objects : (c : CleanUp) (rest : Stmts) (todo : List Todo) →
-      s.run.control ≡ Rest (Scoped c rest) ∷ todo → ObjectsHold t c todo s
+      s.run.control ≡ Rest (Scoped c rest) ∷ todo → ObjectsRight t c todo s
   pub reads : KnowsState t any [] s → Reads t any s
 
 -- but in the four states from which a clean-up comes to the variable that it ends, and reads it
