@@ -14,7 +14,7 @@ use Rattle.uc_machine.specs.Pieces as piece
 use Rattle.uc_machine.specs.Pieces.{Value, Nothing, Todo, State, Env, at, in_env, top, below, written}
 use Rattle.uc_depth_laws.specs.Entering.{Aspect, holds_object, asks_object, is_holding, EnteredBody, EnteredRoutine, EnteredSource}
 use Rattle.uc_depth_laws.specs.Owing.{Tests, IsToldFor, AllEntered, owes, more, marks, counted, owed_first, calling, first_marks, Any, CallOf, is_told, is_told_for, IsToldFirst, Entered, depth_in, IsInside, Deep, DeepStep, Done}
-use Rattle.uc_depth_laws.proofs.Depths.{own_one, inside_of, more_most, more_least, counted_least, counted_none, none_first, none_marked, none_told, building_none, called_first, called_told, called_marks, set_top, done_first, done_marked, done_told}
+use Rattle.uc_depth_laws.proofs.Depths.{own_one, inside_of, more_most, more_least, counted_least, counted_none, building_none, called_first, called_told, called_marks, set_top, done_first, done_marked, done_told}
 use Rattle.uc_depth_laws.proofs.Kept as kept
 use Rattle.uc_depth_laws.proofs.Kept.{either}
 use Rattle.uc_depth_laws.proofs.TodoLists as lists

@@ -12,7 +12,7 @@ use Rattle.uc_machine.specs.Insides.{deeper, shallower}
 use Rattle.uc_machine.specs.Pieces as piece
 use Rattle.uc_machine.specs.Pieces.{Value, Todo, Sort, Active, top, object_in}
 use Rattle.uc_depth_laws.specs.Entering.{Aspect, lets_go, asks, holds_object, asks_object, is_holding, EnteredStmts, EnteredBody}
-use Rattle.uc_depth_laws.specs.Owing.{more, counted, Any, Skipped, CallOf, EnteredWhole, Entered, IsToldFor, IsToldFirst, calling, owed_first, first_marks, owed_own, depth_in, Done, EnteredPiece, EnteredNext, First}
+use Rattle.uc_depth_laws.specs.Owing.{more, counted, Any, Skipped, CallOf, EnteredWhole, Entered, IsToldFor, IsToldFirst, calling, owed_first, first_marks, owed_own, depth_in, Done, EnteredPiece, EnteredNext}
 
 -- marks
 

@@ -425,10 +425,10 @@ module _ (source : Source) (news : Tests) where
     enter_at : (tells : TellsOthers news s) (d : Option ℕ) (m r : ℕ) (todo : List Todo) → find (entering source r s) s.env.depths ≡ d → is_building source r ≡ false → FairAt source (piece.EnterNow m r ∷ todo) s → Entered source told (CallOf r) todo → marks todo ≤ many → many ≤ marks s.run.control → DeepStep source news s (monitors.enter_at d (entering source r s) m todo s)
     enter_at tells (Some d) m r todo g n f h l k =
         begun_here r todo (entered_told tells r todo n (λ e.
-            let a = f e (ap is_some g) in
-            let z = a.1 in
-            let i = counted_least (entering source r s) s.run.this (marks todo) (marks s.run.control) (omega (arith, l, k)) in
-            (a.0, omega (arith, z, i)))) h l
+        let a = f e (ap is_some g) in
+        let z = a.1 in
+        let i = counted_least (entering source r s) s.run.this (marks todo) (marks s.run.control) (omega (arith, l, k)) in
+        (a.0, omega (arith, z, i)))) h l
     enter_at tells None m r todo g n f h l k = record {
       state = λ away. begun_here r todo (entered_told tells r todo n (λ e.
           let a = b.depths (entering source r s) in

@@ -13,7 +13,7 @@ use Rattle.uc_machine.specs.Pieces as piece
 use Rattle.uc_machine.specs.Pieces.{Value, Todo, Sort, Active}
 use Rattle.uc_depth_laws.specs.Entering.{Aspect, New, Other, lets_go, holds_object, EnteredExpr, EnteredMaybe, EnteredItem, EnteredClean, EnteredRaised, EnteredStmt, EnteredStmts, EnteredBody, EnteredHandlers, EnteredClauses}
 use Rattle.uc_depth_laws.specs.Owing.{owes, more, marks, Any, Skipped, next, is_told, EnteredScope, Allowed, Entered, AllEntered, Engaged, owed_ex, Done}
-use Rattle.uc_depth_laws.proofs.Depths.{more_least, whole_of, building_none, still, counted_least, counted_none, any_skipped, call_skipped, stmts_of}
+use Rattle.uc_depth_laws.proofs.Depths.{more_least, still, counted_least, counted_none, any_skipped, call_skipped, stmts_of}
 use Rattle.uc_depth_laws.proofs.Kept.{either}
 
 -- what stands first in a list with so many marks

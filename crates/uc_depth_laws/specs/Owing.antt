@@ -8,7 +8,7 @@ use Rattle.uc_entry.specs.declared.request.Request.TheVariants as ask
 use Rattle.uc_machine.specs.declared.exec.Home.{Home}
 use Rattle.uc_machine.specs.declared.exec.Home.TheVariants as home
 use Rattle.uc_machine.specs.declared.exec.Stage.{Stage}
-use Rattle.uc_machine.specs.declared.exec.Stage.TheVariants.{Fresh, Started, Ended}
+use Rattle.uc_machine.specs.declared.exec.Stage.TheVariants.{Ended}
 use Rattle.uc_machine.specs.Executions.{Links, Execution}
 use Rattle.uc_machine.specs.Insides.{is_held_up}
 use Rattle.uc_machine.specs.Switches.{without}
