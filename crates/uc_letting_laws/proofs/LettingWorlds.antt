@@ -37,7 +37,6 @@ use Rattle.uc_machine.specs.Quiet.{State, Members}
 use Rattle.uc_machine.specs.Quiet as quiet
 use Rattle.uc_machine.specs.Insides.{has_engaged, is_held_up}
 use Rattle.uc_machine.specs.Answering.{answered, child_of, with_hand}
-use Rattle.uc_machine.specs.Pieces as piece
 use Rattle.uc_machine.specs.Rides as rides
 use Rattle.uc_machine.specs.Rides.{Rides}
 use Rattle.uc_meaning.specs.Runs.{World, Runs, May, AsksIn, begun, more, gives, no_room, acts, first_world, first_home, drawn, bare, with_home, hand_of, or_else, world_after}

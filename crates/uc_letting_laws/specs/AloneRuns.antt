@@ -1,5 +1,5 @@
 -- Runs in whose rides nothing else is owed to an object that is let go of however deep its task is, nor to one that is entered again to be destroyed.
-use Rattle.std.specs.Prelude.{◌≡◌, ℕ, suc, List}
+use Rattle.std.specs.Prelude.{ℕ, suc, List}
 use Rattle.uc_tree.specs.Source.{Source}
 use Rattle.uc_entry.specs.declared.entry.Entry.{Entry}
 use Rattle.uc_entry.specs.declared.entry.Options.{Options}
