@@ -16,7 +16,7 @@ use Rattle.uc_life_laws.specs.Knowing.{AtHand, InMaking, KnowsState}
 use Rattle.uc_life_laws.proofs.Reading.{within_raw, in_raw}
 use Rattle.uc_world_laws.specs.Rooted.{IsPlace}
 use Rattle.uc_world_laws.proofs.Rooted.{within_object, things_place, stands_things}
-use Rattle.uc_depth_laws.specs.Owing.{Ex}
+use Rattle.uc_depth_laws.specs.Owing.{Ex, entering}
 use Rattle.uc_owing_laws.specs.AtHand.{IsAtHand, FarBy, IsFar, elsewhere, IsApartAt}
 use Rattle.uc_apart_laws.specs.Clear.{IsClear, ClearBy, ClearEx, IsClearAt, LawClear}
 
@@ -63,7 +63,7 @@ module _ (t : Table) (few : Few) (places : (n : Exec) (w : Value) (b : Ty) → B
 
 module _ (t : Table) (few : Few) (places : (n : Exec) (w : Value) (b : Ty) → Base few n w b → IsPlace w) (source : Source) (s : State) (k : KnowsState t few [] s) where
   apart : (todo : List Todo) → IsClearAt t few source s k todo → IsApartAt t few source s k todo
-  apart (piece.EnterNow m r ∷ todo) f = λ e a. let x = f e a in (x.0, hand t few places _ s.env.exec k.sigs (s.run ∷ s.callers) x.1.0, x.1.1)
+  apart (piece.EnterNow m r ∷ todo) f = λ e a. let x = f e a in (x.0, hand t few places (entering source r s) s.env.exec k.sigs (s.run ∷ s.callers) x.1, x.2)
   apart (piece.MadeNow ∷ todo) f = env_far t few places (this_object s) (elsewhere t few source s k) f
   apart (piece.SpawnNow r ∷ todo) f = env_far t few places (this_object s) (elsewhere t few source s k) f
   apart (piece.GoneNow ∷ todo) f = env_far t few places (this_object s) s.env f

@@ -1,5 +1,5 @@
 -- Nothing else is owed to what nobody else has at hand.
-use Rattle.std.proofs.Common.{◌≡◌, ℕ, ◌⊎◌, inl, inr, Bool, true, false, List, [], ◌∷◌, Option, Some, None, refl, sym, subst, arith}
+use Rattle.std.proofs.Common.{◌≡◌, ℕ, ◌+◌, ◌⊎◌, inl, inr, Bool, true, false, List, [], ◌∷◌, Option, Some, None, refl, sym, subst, arith}
 use Rattle.std.specs.Prelude.{nat_eq, if◌then◌else◌}
 use Rattle.std.proofs.lemmas.Bool.{eqb-true}
 use Rattle.uc_tree.specs.Source.{Source}
@@ -103,8 +103,8 @@ module _ (t : Table) (few : Few) (source : Source) (news : Tests) (s : State) (k
   alone : (todo : List Todo) → s.run.control ≡ todo → IsApartAt t few source s k todo → AloneAt source todo s
   alone (piece.EnterNow m r ∷ todo) c h = λ e a.
       let x = h e a in
-      let y = entered m r todo c (entering source r s) x.1.0 in
-      let z = own_none t few source news (entering source r s) s.env.own x.1.1 in
+      let y = entered m r todo c (entering source r s) x.1 in
+      let z = own_none t few source news (entering source r s) s.env.own x.2 in
       (x.0, omega (arith, y, z))
   alone (piece.MadeNow ∷ todo) c h = others_owe h
   alone (piece.SpawnNow r ∷ todo) c h = others_owe h
