@@ -1,5 +1,5 @@
 -- Step by step nothing else is owed to what is let go of, where nobody else has it at hand.
-use Rattle.std.proofs.Common.{◌≡◌, ℕ, Bool, false, List, [], subst}
+use Rattle.std.proofs.Common.{◌≡◌, ℕ, Bool, true, false, List, [], subst}
 use Rattle.uc_tree.specs.Programs.{Program}
 use Rattle.uc_entry.specs.declared.entry.Options.{Options}
 use Rattle.uc_entry.specs.declared.request.Asked.{Asked}
