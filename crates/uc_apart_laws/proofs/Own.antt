@@ -1,5 +1,5 @@
 -- What is an execution's own does not stand in what it has of others.
-use Rattle.std.proofs.Common.{◌≡◌, ℕ, List, ◌∷◌, ⊎_elim}
+use Rattle.std.proofs.Common.{ℕ, List, ⊎_elim}
 use Rattle.uc_machine.specs.declared.exec.Exec.{Exec}
 use Rattle.uc_machine.specs.declared.exec.Owner.TheVariants.{Frame, Fields}
 use Rattle.uc_machine.specs.Pieces.{Link, Value, Number, Place, Running, Object, Nothing, further, Active}

@@ -5,7 +5,6 @@ use Rattle.uc_machine.specs.declared.exec.Exec.{Exec}
 use Rattle.uc_machine.specs.declared.exec.Home.TheVariants as home
 use Rattle.uc_machine.specs.declared.exec.Stage.{Stage}
 use Rattle.uc_machine.specs.declared.exec.Stage.TheVariants.{Ended}
-use Rattle.uc_machine.specs.Executions.{others}
 use Rattle.uc_machine.specs.Switches.{without}
 use Rattle.uc_machine.specs.Monitors.{this_object}
 use Rattle.uc_machine.specs.Pieces.{Object, Todo, EnterNow, MadeNow, SpawnNow, GoneNow, GiveUpNow, Active, State, Env}

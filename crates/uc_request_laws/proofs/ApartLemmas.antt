@@ -1,5 +1,5 @@
 -- Step by step nothing else is owed to what is let go of, where nobody else has it at hand.
-use Rattle.std.proofs.Common.{◌≡◌, ℕ, Bool, true, false, List, [], subst}
+use Rattle.std.proofs.Common.{◌≡◌, ℕ, true, false, List, [], subst}
 use Rattle.uc_tree.specs.Programs.{Program}
 use Rattle.uc_entry.specs.declared.entry.Options.{Options}
 use Rattle.uc_entry.specs.declared.request.Asked.{Asked}
@@ -40,7 +40,7 @@ use Rattle.uc_source_laws.proofs.InnerSources.{law_inner}
 use Rattle.uc_letting_laws.specs.AloneRuns.{RideAlone, RunAlone}
 use Rattle.uc_letting_laws.proofs.NewObjects.{told_for, own_not_told, told_other, told_away}
 use Rattle.uc_letting_laws.proofs.StandingWorlds.{standing_start}
-use Rattle.uc_letting_laws.proofs.LettingWorlds.{Both, both_run, sole, start, tells}
+use Rattle.uc_letting_laws.proofs.LettingWorlds.{both_run, sole, start, tells}
 use Rattle.uc_owing_laws.proofs.Aparts.{law_apart}
 use Rattle.uc_request_laws.specs.ApartRuns.{StepApart, LawApartRuns}
 
