@@ -11,8 +11,8 @@ use Rattle.uc_machine.specs.Switches.{without}
 use Rattle.uc_machine.specs.Insides.{deeper, shallower}
 use Rattle.uc_machine.specs.Pieces as piece
 use Rattle.uc_machine.specs.Pieces.{Value, Todo, Sort, Active, top, object_in}
-use Rattle.uc_depth_laws.specs.Entering.{lets_go, frees, holds_object, frees_object, is_holding, is_building, EnteredStmts, EnteredBody}
-use Rattle.uc_depth_laws.specs.Owing.{more, counted, Any, Skipped, CallOf, EnteredWhole, Entered, is_new_for, IsNewFirst, calling, owed_first, first_marks, owed_own, depth_in, Done, EnteredPiece, EnteredNext, First}
+use Rattle.uc_depth_laws.specs.Entering.{Aspect, lets_go, asks, holds_object, asks_object, is_holding, EnteredStmts, EnteredBody}
+use Rattle.uc_depth_laws.specs.Owing.{more, counted, Any, Skipped, CallOf, EnteredWhole, Entered, IsToldFor, IsToldFirst, calling, owed_first, first_marks, owed_own, depth_in, Done, EnteredPiece, EnteredNext}
 
 -- marks
 
@@ -44,13 +44,14 @@ stmts_of source (src.Scoped c ss) e h = (e, h.0, h.1)
 stmts_of source (src.Built c ss) e h = h
 
 -- nor is anything built in them
-pub holds_scope : (c : CleanUp) → frees c ≡ true → lets_go c ≡ true
-holds_scope (src.Frees r) f = refl
-holds_scope c f = cc
+pub holds_scope : (c : CleanUp) (k : Aspect) → asks c k ≡ true → lets_go c ≡ true
+holds_scope (src.Frees r) k f = refl
+holds_scope src.Ends k f = refl
+holds_scope c k f = cc
 
-pub holds_building : (ss : Stmts) → frees_object ss ≡ true → holds_object ss ≡ true
-holds_building (src.Scoped c ss) f = holds_scope c f
-holds_building ss f = cc
+pub holds_building : (ss : Stmts) (k : Aspect) → asks_object ss k ≡ true → holds_object ss ≡ true
+holds_building (src.Scoped c ss) k f = holds_scope c k f
+holds_building ss k f = cc
 
 pub true_false : {A : Type 0} {b : Bool} → b ≡ true → b ≡ false → A
 true_false t f = cc
@@ -63,14 +64,14 @@ pub both_are : (a b : Bool) → a ≡ true → b ≡ true → (a && b) ≡ true
 both_are true b h k = k
 both_are false b h k = cc
 
-pub scope_none : {A : Type 0} (c : CleanUp) → lets_go c ≡ false → frees c ≡ true → A
-scope_none c l f = true_false (holds_scope c f) l
+pub scope_none : {A : Type 0} (c : CleanUp) → lets_go c ≡ false → (k : Aspect) → asks c k ≡ true → A
+scope_none c l k f = true_false (holds_scope c k f) l
 
-pub building_none : {A : Type 0} (ss : Stmts) → holds_object ss ≡ false → frees_object ss ≡ true → A
-building_none ss h f = true_false (holds_building ss f) h
+pub building_none : {A : Type 0} (ss : Stmts) → holds_object ss ≡ false → (k : Aspect) → asks_object ss k ≡ true → A
+building_none ss h k f = true_false (holds_building ss k f) h
 
-pub whole_of : (source : Source) (new : Bool) (ss : Stmts) → EnteredStmts source ss → EnteredWhole source new ss
-whole_of source new ss h = (body_of source ss h, λ f. building_none ss (holds_none source ss h) f)
+pub whole_of : (source : Source) (told : Aspect → Bool) (ss : Stmts) → EnteredStmts source ss → EnteredWhole source told ss
+whole_of source told ss h = (body_of source ss h, λ k f. building_none ss (holds_none source ss h) k f)
 
 pub still : (source : Source) (ss : Stmts) (n m : ℕ) → EnteredStmts source ss → n ≤ m → more (holds_object ss) n ≤ m
 still source ss n m h l =
@@ -114,72 +115,72 @@ own_one o = ap {B = ℕ} (λ b. if b then 1 else 0) (same_true o)
 
 -- in a list in which no call comes first that has entered an object
 
-pub none_first : (source : Source) (new : Bool) (q : ℕ) (todo : List Todo) (vs : List Value) → Entered source new Any todo → owed_first source q todo vs ≡ 0
-none_first source new q [] vs h = refl
-none_first source new q (piece.CallOnNow r ∷ todo) vs h = ap (λ b. if b then counted q (top (drop (routine_of source r).params vs)) 1 else 0) h.0
-none_first source new q (piece.CallUnwrittenNow r ∷ todo) vs h = ap (λ b. if b then counted q (top (drop (routine_of source r).params vs)) 1 else 0) h.0
-none_first source new q (piece.BindMadeNow c r ∷ todo) vs h = absurd h.0
-none_first source new q (p ∷ todo) vs h = refl
+pub none_first : (source : Source) (told : Aspect → Bool) (q : ℕ) (todo : List Todo) (vs : List Value) → Entered source told Any todo → owed_first source q todo vs ≡ 0
+none_first source told q [] vs h = refl
+none_first source told q (piece.CallOnNow r ∷ todo) vs h = ap (λ b. if b then counted q (top (drop (routine_of source r).params vs)) 1 else 0) h.0
+none_first source told q (piece.CallUnwrittenNow r ∷ todo) vs h = ap (λ b. if b then counted q (top (drop (routine_of source r).params vs)) 1 else 0) h.0
+none_first source told q (piece.BindMadeNow c r ∷ todo) vs h = absurd h.0
+none_first source told q (p ∷ todo) vs h = refl
 
-pub none_marked : (source : Source) (new : Bool) (todo : List Todo) → Entered source new Any todo → first_marks source todo ≡ 0
-none_marked source new [] h = refl
-none_marked source new (piece.CallOnNow r ∷ todo) h = ap (λ b. more b 0) h.0
-none_marked source new (piece.CallUnwrittenNow r ∷ todo) h = ap (λ b. more b 0) h.0
-none_marked source new (piece.BindMadeNow c r ∷ todo) h = absurd h.0
-none_marked source new (p ∷ todo) h = refl
+pub none_marked : (source : Source) (told : Aspect → Bool) (todo : List Todo) → Entered source told Any todo → first_marks source todo ≡ 0
+none_marked source told [] h = refl
+none_marked source told (piece.CallOnNow r ∷ todo) h = ap (λ b. more b 0) h.0
+none_marked source told (piece.CallUnwrittenNow r ∷ todo) h = ap (λ b. more b 0) h.0
+none_marked source told (piece.BindMadeNow c r ∷ todo) h = absurd h.0
+none_marked source told (p ∷ todo) h = refl
 
 -- so it is in a list of which the first piece is done next
 
-pub piece_next : (source : Source) (new : Bool) (p : Todo) → EnteredPiece source new p → EnteredNext source new p
-piece_next source new (piece.Rest ss) h = whole_of source new ss h
-piece_next source new piece.LeaveNow h = absurd h
-piece_next source new piece.MadeNow h = absurd h
-piece_next source new (piece.SpawnNow r) h = absurd h
-piece_next source new piece.GoneNow h = absurd h
-piece_next source new piece.GiveUpNow h = absurd h
-piece_next source new p h = h
+pub piece_next : (source : Source) (told : Aspect → Bool) (p : Todo) → EnteredPiece source told p → EnteredNext source told p
+piece_next source told (piece.Rest ss) h = whole_of source told ss h
+piece_next source told piece.LeaveNow h = absurd h
+piece_next source told piece.MadeNow h = absurd h
+piece_next source told (piece.SpawnNow r) h = absurd h
+piece_next source told piece.GoneNow h = absurd h
+piece_next source told piece.GiveUpNow h = absurd h
+piece_next source told p h = h
 
-pub any_done : (source : Source) (new : Bool) (todo : List Todo) → Entered source new Any todo → Entered source new Done todo
-any_done source new [] h = tt
-any_done source new (p ∷ todo) h = (piece_next source new p h.0, h.1)
+pub any_done : (source : Source) (told : Aspect → Bool) (todo : List Todo) → Entered source told Any todo → Entered source told Done todo
+any_done source told [] h = tt
+any_done source told (p ∷ todo) h = (piece_next source told p h.0, h.1)
 
-pub done_first : (source : Source) (new : Bool) (q : ℕ) (todo : List Todo) (vs : List Value) → Entered source new Done todo → owed_first source q todo vs ≡ 0
-done_first source new q [] vs h = refl
-done_first source new q (piece.CallOnNow r ∷ todo) vs h = ap (λ b. if b then counted q (top (drop (routine_of source r).params vs)) 1 else 0) h.0
-done_first source new q (piece.CallUnwrittenNow r ∷ todo) vs h = ap (λ b. if b then counted q (top (drop (routine_of source r).params vs)) 1 else 0) h.0
-done_first source new q (piece.BindMadeNow c r ∷ todo) vs h = absurd h.0
-done_first source new q (p ∷ todo) vs h = refl
+pub done_first : (source : Source) (told : Aspect → Bool) (q : ℕ) (todo : List Todo) (vs : List Value) → Entered source told Done todo → owed_first source q todo vs ≡ 0
+done_first source told q [] vs h = refl
+done_first source told q (piece.CallOnNow r ∷ todo) vs h = ap (λ b. if b then counted q (top (drop (routine_of source r).params vs)) 1 else 0) h.0
+done_first source told q (piece.CallUnwrittenNow r ∷ todo) vs h = ap (λ b. if b then counted q (top (drop (routine_of source r).params vs)) 1 else 0) h.0
+done_first source told q (piece.BindMadeNow c r ∷ todo) vs h = absurd h.0
+done_first source told q (p ∷ todo) vs h = refl
 
-pub done_marked : (source : Source) (new : Bool) (todo : List Todo) → Entered source new Done todo → first_marks source todo ≡ 0
-done_marked source new [] h = refl
-done_marked source new (piece.CallOnNow r ∷ todo) h = ap (λ b. more b 0) h.0
-done_marked source new (piece.CallUnwrittenNow r ∷ todo) h = ap (λ b. more b 0) h.0
-done_marked source new (piece.BindMadeNow c r ∷ todo) h = absurd h.0
-done_marked source new (p ∷ todo) h = refl
+pub done_marked : (source : Source) (told : Aspect → Bool) (todo : List Todo) → Entered source told Done todo → first_marks source todo ≡ 0
+done_marked source told [] h = refl
+done_marked source told (piece.CallOnNow r ∷ todo) h = ap (λ b. more b 0) h.0
+done_marked source told (piece.CallUnwrittenNow r ∷ todo) h = ap (λ b. more b 0) h.0
+done_marked source told (piece.BindMadeNow c r ∷ todo) h = absurd h.0
+done_marked source told (p ∷ todo) h = refl
 
-pub done_new : (source : Source) (new : Bool) (news : ℕ → Bool) (this : Value) (older : List Active) (todo : List Todo) (vs : List Value) → Entered source new Done todo → IsNewFirst source news this older todo vs
-done_new source new news this older [] vs h = tt
-done_new source new news this older (piece.CallOnNow r ∷ todo) vs h = λ f. building_none (routine_of source r).body h.0 f
-done_new source new news this older (piece.CallUnwrittenNow r ∷ todo) vs h = λ f. building_none (routine_of source r).body h.0 f
-done_new source new news this older (piece.BindMadeNow c r ∷ todo) vs h = absurd h.0
-done_new source new news this older (p ∷ todo) vs h = tt
+pub done_told : (source : Source) (told : Aspect → Bool) (tells : Aspect → ℕ → Bool) (this : Value) (older : List Active) (todo : List Todo) (vs : List Value) → Entered source told Done todo → IsToldFirst source tells this older todo vs
+done_told source told tells this older [] vs h = tt
+done_told source told tells this older (piece.CallOnNow r ∷ todo) vs h = λ k f. building_none (routine_of source r).body h.0 k f
+done_told source told tells this older (piece.CallUnwrittenNow r ∷ todo) vs h = λ k f. building_none (routine_of source r).body h.0 k f
+done_told source told tells this older (piece.BindMadeNow c r ∷ todo) vs h = absurd h.0
+done_told source told tells this older (p ∷ todo) vs h = tt
 
 -- nor is anything built then
-pub none_new : (source : Source) (new : Bool) (news : ℕ → Bool) (this : Value) (older : List Active) (todo : List Todo) (vs : List Value) → Entered source new Any todo → IsNewFirst source news this older todo vs
-none_new source new news this older [] vs h = tt
-none_new source new news this older (piece.CallOnNow r ∷ todo) vs h = λ f. building_none (routine_of source r).body h.0 f
-none_new source new news this older (piece.CallUnwrittenNow r ∷ todo) vs h = λ f. building_none (routine_of source r).body h.0 f
-none_new source new news this older (piece.BindMadeNow c r ∷ todo) vs h = absurd h.0
-none_new source new news this older (p ∷ todo) vs h = tt
+pub none_told : (source : Source) (told : Aspect → Bool) (tells : Aspect → ℕ → Bool) (this : Value) (older : List Active) (todo : List Todo) (vs : List Value) → Entered source told Any todo → IsToldFirst source tells this older todo vs
+none_told source told tells this older [] vs h = tt
+none_told source told tells this older (piece.CallOnNow r ∷ todo) vs h = λ k f. building_none (routine_of source r).body h.0 k f
+none_told source told tells this older (piece.CallUnwrittenNow r ∷ todo) vs h = λ k f. building_none (routine_of source r).body h.0 k f
+none_told source told tells this older (piece.BindMadeNow c r ∷ todo) vs h = absurd h.0
+none_told source told tells this older (p ∷ todo) vs h = tt
 
 -- behind what enters an object for a routine
 
 -- what that builds is new
-pub called_new : (source : Source) (new : Bool) (news : ℕ → Bool) (this : Value) (older : List Active) (r : ℕ) (todo : List Todo) (vs : List Value) → Entered source new (CallOf r) todo → (is_building source r ≡ true → is_new_for news (top (drop (routine_of source r).params vs)) this todo older ≡ true) → IsNewFirst source news this older todo vs
-called_new source new news this older r [] vs h k = tt
-called_new source new news this older r (piece.CallOnNow n ∷ todo) vs h k = λ f. subst (λ m. is_new_for news (top (drop (routine_of source m).params vs)) this todo older ≡ true) (sym h.0) (k (subst (λ m. is_building source m ≡ true) h.0 f))
-called_new source new news this older r (piece.CallUnwrittenNow n ∷ todo) vs h k = λ f. subst (λ m. is_new_for news (top (drop (routine_of source m).params vs)) this todo older ≡ true) (sym h.0) (k (subst (λ m. is_building source m ≡ true) h.0 f))
-called_new source new news this older r (p ∷ todo) vs h k = absurd h.0
+pub called_told : (source : Source) (told : Aspect → Bool) (tells : Aspect → ℕ → Bool) (this : Value) (older : List Active) (r : ℕ) (todo : List Todo) (vs : List Value) → Entered source told (CallOf r) todo → IsToldFor source tells r (top (drop (routine_of source r).params vs)) this todo older → IsToldFirst source tells this older todo vs
+called_told source told tells this older r [] vs h k = tt
+called_told source told tells this older r (piece.CallOnNow n ∷ todo) vs h k = subst (λ m. IsToldFor source tells m (top (drop (routine_of source m).params vs)) this todo older) (sym h.0) k
+called_told source told tells this older r (piece.CallUnwrittenNow n ∷ todo) vs h k = subst (λ m. IsToldFor source tells m (top (drop (routine_of source m).params vs)) this todo older) (sym h.0) k
+called_told source told tells this older r (p ∷ todo) vs h k = absurd h.0
 
 pub calling_most : (source : Source) (q r : ℕ) (v : Value) → calling source q r v ≤ counted q v 1
 calling_most source q r v = by (is_holding source r)
@@ -189,37 +190,37 @@ calling_most source q r v = by (is_holding source r)
     by false = omega arith
 
 -- just what the call of the routine owes
-pub called_first : (source : Source) (new : Bool) (q r : ℕ) (todo : List Todo) (vs : List Value) → Entered source new (CallOf r) todo → owed_first source q todo vs ≤ calling source q r (top (drop (routine_of source r).params vs))
-called_first source new q r [] vs h = omega arith
-called_first source new q r (piece.CallOnNow k ∷ todo) vs h = subst (λ n. calling source q k (top (drop (routine_of source k).params vs)) ≤ calling source q n (top (drop (routine_of source n).params vs))) h.0 (omega arith)
-called_first source new q r (piece.CallUnwrittenNow k ∷ todo) vs h = subst (λ n. calling source q k (top (drop (routine_of source k).params vs)) ≤ calling source q n (top (drop (routine_of source n).params vs))) h.0 (omega arith)
-called_first source new q r (p ∷ todo) vs h = absurd h.0
+pub called_first : (source : Source) (told : Aspect → Bool) (q r : ℕ) (todo : List Todo) (vs : List Value) → Entered source told (CallOf r) todo → owed_first source q todo vs ≤ calling source q r (top (drop (routine_of source r).params vs))
+called_first source told q r [] vs h = omega arith
+called_first source told q r (piece.CallOnNow k ∷ todo) vs h = subst (λ n. calling source q k (top (drop (routine_of source k).params vs)) ≤ calling source q n (top (drop (routine_of source n).params vs))) h.0 (omega arith)
+called_first source told q r (piece.CallUnwrittenNow k ∷ todo) vs h = subst (λ n. calling source q k (top (drop (routine_of source k).params vs)) ≤ calling source q n (top (drop (routine_of source n).params vs))) h.0 (omega arith)
+called_first source told q r (p ∷ todo) vs h = absurd h.0
 
-pub entered_first : (source : Source) (new : Bool) (q r : ℕ) (todo : List Todo) (vs : List Value) → Entered source new (CallOf r) todo → owed_first source q todo vs ≤ counted q (top (drop (routine_of source r).params vs)) 1
-entered_first source new q r todo vs h =
-    let a = called_first source new q r todo vs h in
+pub entered_first : (source : Source) (told : Aspect → Bool) (q r : ℕ) (todo : List Todo) (vs : List Value) → Entered source told (CallOf r) todo → owed_first source q todo vs ≤ counted q (top (drop (routine_of source r).params vs)) 1
+entered_first source told q r todo vs h =
+    let a = called_first source told q r todo vs h in
     let b = calling_most source q r (top (drop (routine_of source r).params vs)) in
     omega (arith, a, b)
 
-pub called_marks : (source : Source) (new : Bool) (r : ℕ) (todo : List Todo) → Entered source new (CallOf r) todo → first_marks source todo ≤ more (is_holding source r) 0
-called_marks source new r [] h = omega arith
-called_marks source new r (piece.CallOnNow k ∷ todo) h = subst (λ n. more (is_holding source k) 0 ≤ more (is_holding source n) 0) h.0 (omega arith)
-called_marks source new r (piece.CallUnwrittenNow k ∷ todo) h = subst (λ n. more (is_holding source k) 0 ≤ more (is_holding source n) 0) h.0 (omega arith)
-called_marks source new r (p ∷ todo) h = absurd h.0
+pub called_marks : (source : Source) (told : Aspect → Bool) (r : ℕ) (todo : List Todo) → Entered source told (CallOf r) todo → first_marks source todo ≤ more (is_holding source r) 0
+called_marks source told r [] h = omega arith
+called_marks source told r (piece.CallOnNow k ∷ todo) h = subst (λ n. more (is_holding source k) 0 ≤ more (is_holding source n) 0) h.0 (omega arith)
+called_marks source told r (piece.CallUnwrittenNow k ∷ todo) h = subst (λ n. more (is_holding source k) 0 ≤ more (is_holding source n) 0) h.0 (omega arith)
+called_marks source told r (p ∷ todo) h = absurd h.0
 
 -- what may stand behind an exit
 
-pub any_skipped : (source : Source) (new : Bool) (todo : List Todo) → Entered source new Any todo → Entered source new Skipped todo
-any_skipped source new [] h = tt
-any_skipped source new (piece.CallOnNow r ∷ todo) h = (tt, h.1)
-any_skipped source new (piece.CallUnwrittenNow r ∷ todo) h = (tt, h.1)
-any_skipped source new (p ∷ todo) h = h
+pub any_skipped : (source : Source) (told : Aspect → Bool) (todo : List Todo) → Entered source told Any todo → Entered source told Skipped todo
+any_skipped source told [] h = tt
+any_skipped source told (piece.CallOnNow r ∷ todo) h = (tt, h.1)
+any_skipped source told (piece.CallUnwrittenNow r ∷ todo) h = (tt, h.1)
+any_skipped source told (p ∷ todo) h = h
 
-pub call_skipped : (source : Source) (new : Bool) (r : ℕ) (todo : List Todo) → Entered source new (CallOf r) todo → Entered source new Skipped todo
-call_skipped source new r [] h = tt
-call_skipped source new r (piece.CallOnNow k ∷ todo) h = (tt, h.1)
-call_skipped source new r (piece.CallUnwrittenNow k ∷ todo) h = (tt, h.1)
-call_skipped source new r (p ∷ todo) h = absurd h.0
+pub call_skipped : (source : Source) (told : Aspect → Bool) (r : ℕ) (todo : List Todo) → Entered source told (CallOf r) todo → Entered source told Skipped todo
+call_skipped source told r [] h = tt
+call_skipped source told r (piece.CallOnNow k ∷ todo) h = (tt, h.1)
+call_skipped source told r (piece.CallUnwrittenNow k ∷ todo) h = (tt, h.1)
+call_skipped source told r (p ∷ todo) h = absurd h.0
 
 -- depths
 

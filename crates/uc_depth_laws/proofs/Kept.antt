@@ -1,6 +1,7 @@
 -- What is engaged goes on to be so, and owes no more, where members, executions and who runs change.
 use Rattle.std.proofs.Common.{◌≡◌, ℕ, ◌+◌, ◌≤◌, ◌⊎◌, inl, inr, Bool, true, false, List, [], ◌∷◌, ◌++◌, Option, Some, None, refl, sym, subst, ap, arith}
 use Rattle.std.specs.Prelude.{nat_eq, if◌then◌else◌}
+use Rattle.std.proofs.lemmas.Bool.{eqb-true}
 use Rattle.uc_tree.specs.Source.{Source}
 use Rattle.uc_entry.specs.declared.fault.RunFault.TheVariants.{ResumeInUse, SwitchInUnwind}
 use Rattle.uc_entry.specs.Keyed.{find}
@@ -16,8 +17,9 @@ use Rattle.uc_machine.specs.Executions.{Links, update, exec_eq, joined, members_
 use Rattle.uc_machine.specs.Switches as sw
 use Rattle.uc_machine.specs.Switches.{Moved, To, Stops}
 use Rattle.uc_machine.specs.Pieces.{Value, Number, Place, Running, Object, Nothing, Todo, State, Env, Members, written}
-use Rattle.uc_depth_laws.specs.Owing.{Ex, Any, is_new, DeepAlone, entries, Engaged, EngagedBy, EngagedSlot, EngagedParked, EngagedHand, EngagedMembers, EngagedEnv, owed_all, owed_at, owed_ex, owed_slot, owed_parked, owed_hand, owed_own, owed_env, owed, depth_in, Deep}
-use Rattle.uc_depth_laws.proofs.Depths.{none_first, none_marked, none_new}
+use Rattle.uc_depth_laws.specs.Owing.{Ex, Any, Tests, is_told, Entered, IsToldFirst, AllEntered, DeepAlone, entries, Engaged, EngagedBy, EngagedSlot, EngagedParked, EngagedHand, EngagedMembers, EngagedEnv, owed_all, owed_at, owed_ex, owed_slot, owed_parked, owed_hand, owed_own, owed_env, owed, depth_in, Deep}
+use Rattle.uc_depth_laws.specs.Entering.{Aspect}
+use Rattle.uc_depth_laws.proofs.Depths.{none_first, none_marked, none_told}
 
 -- the first of two by a test, and of two pairs
 pub either : {A : Type 0} (P : A → Type 0) (b : Bool) (x y : A) → P x → P y → P (if b then x else y)
@@ -43,44 +45,73 @@ owed_less : (now before : Stage) (n : ℕ) → StaysOrEnds now before → owed_a
 owed_less now before n (inl e) = let a = ap (λ g. owed_at g n) e in omega (arith, a)
 owed_less now before n (inr e) = let a : owed_at now n ≡ 0 = ap (λ g. owed_at g n) e in omega (arith, a)
 
-module _ (source : Source) (news : ℕ → Bool) where
+pub record Spares (g : Links → Links) : Type 0 where
+  pub counts : (l : Links) → entries l ≤ entries (g l)
+  pub stage : (l : Links) → StaysOrEnds (g l).stage l.stage
+
+module _ (source : Source) (tells : Aspect → ℕ → Bool) where
   -- by their stages
 
-  pub by_stage : (g : Stage) (x : Ex) → Engaged source news x → EngagedBy source news g x
+  pub by_stage : (g : Stage) (x : Ex) → Engaged source tells x → EngagedBy source tells g x
   by_stage Fresh x h = h
   by_stage Started x h = h
   by_stage Ended x h = tt
 
-  same_stage : (g : Stage) (x y : Ex) → (Engaged source news x → Engaged source news y) → EngagedBy source news g x → EngagedBy source news g y
+  same_stage : (g : Stage) (x y : Ex) → (Engaged source tells x → Engaged source tells y) → EngagedBy source tells g x → EngagedBy source tells g y
   same_stage Fresh x y f h = f h
   same_stage Started x y f h = f h
   same_stage Ended x y f h = tt
 
-  next_stage : (now before : Stage) (x y : Ex) → StaysOrEnds now before → (Engaged source news x → Engaged source news y) → EngagedBy source news before x → EngagedBy source news now y
-  next_stage now before x y (inl e) f h = subst (λ g. EngagedBy source news g y) (sym e) (same_stage before x y f h)
-  next_stage now before x y (inr e) f h = subst (λ g. EngagedBy source news g y) (sym e) tt
+  next_stage : (now before : Stage) (x y : Ex) → StaysOrEnds now before → (Engaged source tells x → Engaged source tells y) → EngagedBy source tells before x → EngagedBy source tells now y
+  next_stage now before x y (inl e) f h = subst (λ g. EngagedBy source tells g y) (sym e) (same_stage before x y f h)
+  next_stage now before x y (inr e) f h = subst (λ g. EngagedBy source tells g y) (sym e) tt
 
   -- lists of executions
+
+  found_parked : (k : ℕ) (ps : List (ℕ × Option Ex)) → EngagedParked source tells ps → EngagedSlot source tells (joined (find k ps))
+  found_parked k [] h = tt
+  found_parked k (p ∷ ps) h = either (λ o. EngagedSlot source tells (joined o)) (nat_eq p.0 k) (Some p.1) (find k ps) h.0 (found_parked k ps h.1)
+
+  update_parked : (k : ℕ) (o : Option Ex) (ps : List (ℕ × Option Ex)) → EngagedSlot source tells o → EngagedParked source tells ps → EngagedParked source tells (update k o ps)
+  update_parked k o [] r h = tt
+  update_parked k o (p ∷ ps) r h = either (EngagedParked source tells) (nat_eq p.0 k) ((k, o) ∷ ps) (p ∷ update k o ps) (r, h.1) (h.0, update_parked k o ps r h.1)
+
+  without_parked : (k : ℕ) (ps : List (ℕ × Option Ex)) → EngagedParked source tells ps → EngagedParked source tells (sw.without k ps)
+  without_parked k [] h = tt
+  without_parked k (p ∷ ps) h = either (EngagedParked source tells) (nat_eq p.0 k) ps (p ∷ sw.without k ps) h.1 (h.0, without_parked k ps h.1)
+
+  more_parked : (k : ℕ) (x : Ex) (ps : List (ℕ × Option Ex)) → Engaged source tells x → EngagedParked source tells ps → EngagedParked source tells (ps ++ (k, Some x) ∷ [])
+  more_parked k x [] r h = (by_stage x.links.stage x r, tt)
+  more_parked k x (p ∷ ps) r h = (h.0, more_parked k x ps r h.1)
+
+  frames_parked : (n : ℕ) (f : List (List Value) → List (List Value)) (o : Option Ex) (m : Members) → EngagedSlot source tells o → EngagedParked source tells m.parked → EngagedParked source tells (frames_by n f o m).parked
+  frames_parked n f None m r h = h
+  frames_parked n f (Some x) m r h =
+      update_parked n (Some (record x { frames = f x.frames })) m.parked (same_stage x.links.stage x (record x { frames = f x.frames }) (λ k. record { run = k.run; one = k.one; callers = k.callers; engaged = k.engaged }) r) h
+
+  links_parked : (g : Links → Links) → Spares g → (n : ℕ) (o : Option Ex) (m : Members) → EngagedSlot source tells o → EngagedParked source tells m.parked → EngagedParked source tells (sw.links_by g n o m).parked
+  links_parked g k n None m r h = h
+  links_parked g k n (Some x) m r h =
+      update_parked n (Some (record x { links = g x.links })) m.parked (next_stage (g x.links).stage x.links.stage x (record x { links = g x.links }) (k.stage x.links) (λ r. record { run = r.run; one = r.one; callers = r.callers; engaged = let a = r.engaged in let b = k.counts x.links in omega (arith, a, b) }) r) h
+
+module _ (source : Source) (news : Tests) where
+  -- what is owed by lists of executions
 
   abbrev pub owed_members : ℕ → Option Members → ℕ
   owed_members q None = 0
   owed_members q (Some m) = owed_parked q m.parked
 
-  found_parked : (k : ℕ) (ps : List (ℕ × Option Ex)) → EngagedParked source news ps → EngagedSlot source news (joined (find k ps))
-  found_parked k [] h = tt
-  found_parked k (p ∷ ps) h = either (λ o. EngagedSlot source news (joined o)) (nat_eq p.0 k) (Some p.1) (find k ps) h.0 (found_parked k ps h.1)
-
-  pub found_hand : (k : ℕ) (ps : List (ℕ × Members)) → EngagedHand source news ps → EngagedMembers source news (find k ps)
+  pub found_hand : (k : ℕ) (ps : List (ℕ × Members)) → EngagedHand source news ps → EngagedMembers source news (home.Object k) (find k ps)
   found_hand k [] h = tt
-  found_hand k (p ∷ ps) h = either (EngagedMembers source news) (nat_eq p.0 k) (Some p.1) (find k ps) h.0 (found_hand k ps h.1)
+  found_hand k (p ∷ ps) h = by (nat_eq p.0 k) refl (found_hand k ps h.1)
+    where
+      by : (b : Bool) → nat_eq p.0 k ≡ b → EngagedMembers source news (home.Object k) (find k ps) → EngagedMembers source news (home.Object k) (if b then Some p.1 else find k ps)
+      by true e r = subst (λ o. EngagedParked source (news (home.Object o)) p.1.parked) (eqb-true p.0 k e) h.0
+      by false e r = r
 
-  slot_engaged : (k : ℕ) (o : Option Members) → EngagedMembers source news o → EngagedSlot source news (joined (slot_in k o))
-  slot_engaged k None h = tt
-  slot_engaged k (Some m) h = found_parked k m.parked h
-
-  update_parked : (k : ℕ) (o : Option Ex) (ps : List (ℕ × Option Ex)) → EngagedSlot source news o → EngagedParked source news ps → EngagedParked source news (update k o ps)
-  update_parked k o [] r h = tt
-  update_parked k o (p ∷ ps) r h = either (EngagedParked source news) (nat_eq p.0 k) ((k, o) ∷ ps) (p ∷ update k o ps) (r, h.1) (h.0, update_parked k o ps r h.1)
+  slot_engaged : (h : Home) (k : ℕ) (o : Option Members) → EngagedMembers source news h o → EngagedSlot source (news h) (joined (slot_in k o))
+  slot_engaged h k None r = tt
+  slot_engaged h k (Some m) r = found_parked source (news h) k m.parked r
 
   update_owed : (q k : ℕ) (o : Option Ex) (ps : List (ℕ × Option Ex)) → owed_parked q (update k o ps) + owed_slot q (joined (find k ps)) ≤ owed_parked q ps + owed_slot q o
   update_owed q k o [] = omega arith
@@ -88,25 +119,17 @@ module _ (source : Source) (news : ℕ → Bool) where
       let h = update_owed q k o ps in
       both (λ (xs : List (ℕ × Option Ex)) (x : Option (Option Ex)). owed_parked q xs + owed_slot q (joined x) ≤ (owed_slot q p.1 + owed_parked q ps) + owed_slot q o) (nat_eq p.0 k) ((k, o) ∷ ps) (p ∷ update k o ps) (Some p.1) (find k ps) (omega arith) (omega (arith, h))
 
-  without_parked : (k : ℕ) (ps : List (ℕ × Option Ex)) → EngagedParked source news ps → EngagedParked source news (sw.without k ps)
-  without_parked k [] h = tt
-  without_parked k (p ∷ ps) h = either (EngagedParked source news) (nat_eq p.0 k) ps (p ∷ sw.without k ps) h.1 (h.0, without_parked k ps h.1)
-
   without_owed : (q k : ℕ) (ps : List (ℕ × Option Ex)) → owed_parked q (sw.without k ps) ≤ owed_parked q ps
   without_owed q k [] = omega arith
   without_owed q k (p ∷ ps) =
       let h = without_owed q k ps in
       either (λ (xs : List (ℕ × Option Ex)). owed_parked q xs ≤ owed_slot q p.1 + owed_parked q ps) (nat_eq p.0 k) ps (p ∷ sw.without k ps) (omega arith) (omega (arith, h))
 
-  more_parked : (k : ℕ) (x : Ex) (ps : List (ℕ × Option Ex)) → Engaged source news x → EngagedParked source news ps → EngagedParked source news (ps ++ (k, Some x) ∷ [])
-  more_parked k x [] r h = (by_stage x.links.stage x r, tt)
-  more_parked k x (p ∷ ps) r h = (h.0, more_parked k x ps r h.1)
-
   more_owed : (q k : ℕ) (x : Ex) (ps : List (ℕ × Option Ex)) → owed_parked q (ps ++ (k, Some x) ∷ []) ≤ owed_parked q ps + owed_ex q x
   more_owed q k x [] = omega arith
   more_owed q k x (p ∷ ps) = let h = more_owed q k x ps in omega (arith, h)
 
-  update_hand : (k : ℕ) (m : Members) (ps : List (ℕ × Members)) → EngagedParked source news m.parked → EngagedHand source news ps → EngagedHand source news (update k m ps)
+  update_hand : (k : ℕ) (m : Members) (ps : List (ℕ × Members)) → EngagedParked source (news (home.Object k)) m.parked → EngagedHand source news ps → EngagedHand source news (update k m ps)
   update_hand k m [] r h = tt
   update_hand k m (p ∷ ps) r h = either (EngagedHand source news) (nat_eq p.0 k) ((k, m) ∷ ps) (p ∷ update k m ps) (r, h.1) (h.0, update_hand k m ps r h.1)
 
@@ -118,18 +141,26 @@ module _ (source : Source) (news : ℕ → Bool) where
 
   -- members of a home
 
-  members_engaged : (h : Home) (e : Env) → EngagedEnv source news e → EngagedMembers source news (members_at h e)
-  members_engaged (home.Task t) e s = either (EngagedMembers source news) (nat_eq t e.own) (Some e.house) None s.house tt
+  members_engaged : (h : Home) (e : Env) → EngagedEnv source news e → EngagedMembers source news h (members_at h e)
+  members_engaged (home.Task t) e s = by (nat_eq t e.own) refl
+    where
+      by : (b : Bool) → nat_eq t e.own ≡ b → EngagedMembers source news (home.Task t) (if b then Some e.house else None)
+      by true q = subst (λ o. EngagedParked source (news (home.Task o)) e.house.parked) (sym (eqb-true t e.own q)) s.house
+      by false q = tt
   members_engaged (home.Object o) e s = found_hand o e.hand s.hand
 
-  pub parked_engaged : (n : Exec) (e : Env) → EngagedEnv source news e → EngagedSlot source news (parked_at n e)
-  parked_engaged n e s = slot_engaged n.serial (members_at n.home e) (members_engaged n.home e s)
+  pub parked_engaged : (n : Exec) (e : Env) → EngagedEnv source news e → EngagedSlot source (news n.home) (parked_at n e)
+  parked_engaged n e s = slot_engaged n.home n.serial (members_at n.home e) (members_engaged n.home e s)
 
-  housed : (m : Members) (e : Env) → EngagedParked source news m.parked → EngagedEnv source news e → EngagedEnv source news (record e { house = m })
+  housed : (m : Members) (e : Env) → EngagedParked source (news (home.Task e.own)) m.parked → EngagedEnv source news e → EngagedEnv source news (record e { house = m })
   housed m e h s = record { house = h; hand = s.hand }
 
-  set_engaged : (h : Home) (m : Members) (e : Env) → EngagedParked source news m.parked → EngagedEnv source news e → EngagedEnv source news (set_members h m e)
-  set_engaged (home.Task t) m e r s = either (EngagedEnv source news) (nat_eq t e.own) (record e { house = m }) e (housed m e r s) s
+  set_engaged : (h : Home) (m : Members) (e : Env) → EngagedParked source (news h) m.parked → EngagedEnv source news e → EngagedEnv source news (set_members h m e)
+  set_engaged (home.Task t) m e r s = by (nat_eq t e.own) refl
+    where
+      by : (b : Bool) → nat_eq t e.own ≡ b → EngagedEnv source news (if b then record e { house = m } else e)
+      by true q = housed m e (subst (λ o. EngagedParked source (news (home.Task o)) m.parked) (eqb-true t e.own q) r) s
+      by false q = s
   set_engaged (home.Object o) m e r s = record { house = s.house; hand = update_hand o m e.hand r s.hand }
 
   set_owed : (q : ℕ) (h : Home) (m : Members) (e : Env) → owed_env q (set_members h m e) + owed_members q (members_at h e) ≤ owed_env q e + owed_parked q m.parked
@@ -141,13 +172,14 @@ module _ (source : Source) (news : ℕ → Bool) where
   pub record Beside (e f : Env) : Type 0 where
     pub depths : f.depths ≡ e.depths
     pub links : f.links ≡ e.links
+    pub exec : f.exec ≡ e.exec
 
   beside : (e : Env) → Beside e e
-  beside e = record { depths = refl; links = refl }
+  beside e = record { depths = refl; links = refl; exec = refl }
 
   set_beside : (h : Home) (m : Members) (e : Env) → Beside e (set_members h m e)
-  set_beside (home.Task t) m e = either (Beside e) (nat_eq t e.own) (record e { house = m }) e (record { depths = refl; links = refl }) (beside e)
-  set_beside (home.Object o) m e = record { depths = refl; links = refl }
+  set_beside (home.Task t) m e = either (Beside e) (nat_eq t e.own) (record e { house = m }) e (record { depths = refl; links = refl; exec = refl }) (beside e)
+  set_beside (home.Object o) m e = record { depths = refl; links = refl; exec = refl }
 
   change_beside : (h : Home) (g : Members → Members) (o : Option Members) (e : Env) → Beside e (change_in h g o e)
   change_beside h g None e = beside e
@@ -160,25 +192,27 @@ module _ (source : Source) (news : ℕ → Bool) where
     pub owed : (q : ℕ) → owed_env q f ≤ owed_env q e
     pub depths : f.depths ≡ e.depths
     pub entries : entries e.links ≤ entries f.links
+    pub exec : f.exec ≡ e.exec
 
-  pub same : (e f : Env) → EngagedEnv source news e → f.own ≡ e.own → f.hand ≡ e.hand → f.house ≡ e.house → f.depths ≡ e.depths → entries e.links ≤ entries f.links → Lighter e f
-  same e f s o h g d l =
+  pub same : (e f : Env) → EngagedEnv source news e → f.own ≡ e.own → f.hand ≡ e.hand → f.house ≡ e.house → f.depths ≡ e.depths → entries e.links ≤ entries f.links → f.exec ≡ e.exec → Lighter e f
+  same e f s o h g d l x =
       record {
         env = record {
-          house = subst (λ m. EngagedParked source news m.parked) (sym g) s.house;
+          house = subst (λ t. EngagedParked source (news (home.Task t)) f.house.parked) (sym o) (subst (λ m. EngagedParked source (news (home.Task e.own)) m.parked) (sym g) s.house);
           hand = subst (EngagedHand source news) (sym h) s.hand;
         };
         owed = λ q. let a = ap (λ (m : Members). owed_parked q m.parked) g in let b = ap (owed_hand q) h in let c = ap (owed_own q) o in omega (arith, a, b, c);
         depths = d;
         entries = l;
+        exec = x;
       }
 
-  record Spared (f : Members → Members) : Type 0 where
-    parked : (m : Members) → EngagedParked source news m.parked → EngagedParked source news (f m).parked
+  record Spared (h : Home) (f : Members → Members) : Type 0 where
+    parked : (m : Members) → EngagedParked source (news h) m.parked → EngagedParked source (news h) (f m).parked
     owed : (m : Members) (q : ℕ) → owed_parked q (f m).parked ≤ owed_parked q m.parked
 
-  change_by : (h : Home) (f : Members → Members) (o : Option Members) (e : Env) → members_at h e ≡ o → Spared f → EngagedMembers source news o → EngagedEnv source news e → Lighter e (change_in h f o e)
-  change_by h f None e r k m s = record { env = s; owed = λ q. omega arith; depths = refl; entries = omega arith }
+  change_by : (h : Home) (f : Members → Members) (o : Option Members) (e : Env) → members_at h e ≡ o → Spared h f → EngagedMembers source news h o → EngagedEnv source news e → Lighter e (change_in h f o e)
+  change_by h f None e r k m s = record { env = s; owed = λ q. omega arith; depths = refl; entries = omega arith; exec = refl }
   change_by h f (Some x) e r k m s =
       let b = set_beside h (f x) e in
       record {
@@ -190,9 +224,10 @@ module _ (source : Source) (news : ℕ → Bool) where
             omega (arith, a, c, d);
         depths = b.depths;
         entries = let l = ap entries b.links in omega (arith, l);
+        exec = b.exec;
       }
 
-  change_lighter : (h : Home) (f : Members → Members) (e : Env) → Spared f → EngagedEnv source news e → Lighter e (change h f e)
+  change_lighter : (h : Home) (f : Members → Members) (e : Env) → Spared h f → EngagedEnv source news e → Lighter e (change h f e)
   change_lighter h f e k s = change_by h f (members_at h e) e refl k (members_engaged h e s) s
 
   -- an execution in another's place, which owes as much
@@ -203,38 +238,33 @@ module _ (source : Source) (news : ℕ → Bool) where
       let c : owed_slot q (joined (find k m.parked)) ≡ owed_ex q x = ap (owed_slot q) e in
       omega (arith, a, b, c)
 
-  frames_parked : (n : ℕ) (f : List (List Value) → List (List Value)) (o : Option Ex) (m : Members) → EngagedSlot source news o → EngagedParked source news m.parked → EngagedParked source news (frames_by n f o m).parked
-  frames_parked n f None m r h = h
-  frames_parked n f (Some x) m r h =
-      update_parked n (Some (record x { frames = f x.frames })) m.parked (same_stage x.links.stage x (record x { frames = f x.frames }) (λ k. record { run = k.run; one = k.one; callers = k.callers; engaged = k.engaged }) r) h
-
   frames_owed : (n : ℕ) (f : List (List Value) → List (List Value)) (o : Option Ex) (m : Members) → joined (find n m.parked) ≡ o → (q : ℕ) → owed_parked q (frames_by n f o m).parked ≤ owed_parked q m.parked
   frames_owed n f None m e q = omega arith
   frames_owed n f (Some x) m e q = swapped n x (record x { frames = f x.frames }) m e (λ q. omega arith) q
 
-  frames_spared : (n : ℕ) (f : List (List Value) → List (List Value)) → Spared (frames_changed n f)
-  frames_spared n f = record {
-    parked = λ m h. frames_parked n f (joined (find n m.parked)) m (found_parked n m.parked h) h;
+  frames_spared : (h : Home) (n : ℕ) (f : List (List Value) → List (List Value)) → Spared h (frames_changed n f)
+  frames_spared h n f = record {
+    parked = λ m r. frames_parked source (news h) n f (joined (find n m.parked)) m (found_parked source (news h) n m.parked r) r;
     owed = λ m q. frames_owed n f (joined (find n m.parked)) m refl q;
   }
 
   with_frames_lighter : (n : Exec) (f : List (List Value) → List (List Value)) (e : Env) → EngagedEnv source news e → Lighter e (with_frames n f e)
   with_frames_lighter n f e s =
-      either (Lighter e) (exec_eq n e.exec) (record e { frames = f e.frames }) (change n.home (frames_changed n.serial f) e) (same e (record e { frames = f e.frames }) s refl refl refl refl (omega arith)) (change_lighter n.home (frames_changed n.serial f) e (frames_spared n.serial f) s)
+      either (Lighter e) (exec_eq n e.exec) (record e { frames = f e.frames }) (change n.home (frames_changed n.serial f) e) (same e (record e { frames = f e.frames }) s refl refl refl refl (omega arith) refl) (change_lighter n.home (frames_changed n.serial f) e (frames_spared n.home n.serial f) s)
 
-  values_spared : (f : List Value → List Value) → Spared (λ m. record m { values = f m.values })
-  values_spared f = record { parked = λ m h. h; owed = λ m q. omega arith }
+  values_spared : (h : Home) (f : List Value → List Value) → Spared h (λ m. record m { values = f m.values })
+  values_spared h f = record { parked = λ m h. h; owed = λ m q. omega arith }
 
   pub owned_lighter : (o : Owner) (f : List Value → List Value) (e : Env) → EngagedEnv source news e → Lighter e (with_owned o f e)
   owned_lighter (Frame n d) f e s = with_frames_lighter n (frame_changed d f) e s
-  owned_lighter (Fields o) f e s = change_lighter (home.Object o) (λ m. record m { values = f m.values }) e (values_spared f) s
+  owned_lighter (Fields o) f e s = change_lighter (home.Object o) (λ m. record m { values = f m.values }) e (values_spared (home.Object o) f) s
 
   pub written_lighter : (v w : Value) (e : Env) → EngagedEnv source news e → Lighter e (written v w e)
-  written_lighter (Number n) w e s = same e e s refl refl refl refl (omega arith)
+  written_lighter (Number n) w e s = same e e s refl refl refl refl (omega arith) refl
   written_lighter (Place o p) w e s = owned_lighter o _ e s
-  written_lighter (Running x) w e s = same e e s refl refl refl refl (omega arith)
+  written_lighter (Running x) w e s = same e e s refl refl refl refl (omega arith) refl
   written_lighter (Object o) w e s = owned_lighter (Fields o) _ e s
-  written_lighter Nothing w e s = same e e s refl refl refl refl (omega arith)
+  written_lighter Nothing w e s = same e e s refl refl refl refl (omega arith) refl
 
   -- one after another
   pub after : {e f g : Env} → Lighter e f → Lighter f g → Lighter e g
@@ -243,63 +273,55 @@ module _ (source : Source) (news : ℕ → Bool) where
     owed = λ q. let x = a.owed q in let y = b.owed q in omega (arith, x, y);
     depths = let x = a.depths in let y = b.depths in subst (λ ds. g.depths ≡ ds) x y;
     entries = let x = a.entries in let y = b.entries in omega (arith, x, y);
+    exec = let x = a.exec in let y = b.exec in subst (λ n. g.exec ≡ n) x y;
   }
 
   -- executions are made and go, and their links change
 
-  born_spared : (x : Ex) → Engaged source news x → ((q : ℕ) → owed_ex q x ≡ 0) → Spared (sw.one_more x)
-  born_spared x r w = record {
-    parked = λ m h. more_parked m.serial x m.parked r h;
+  born_spared : (h : Home) (x : Ex) → Engaged source (news h) x → ((q : ℕ) → owed_ex q x ≡ 0) → Spared h (sw.one_more x)
+  born_spared h x r w = record {
+    parked = λ m k. more_parked source (news h) m.serial x m.parked r k;
     owed = λ m q. let a = more_owed q m.serial x m.parked in let b = w q in omega (arith, a, b);
   }
 
-  pub born_lighter : (h : Home) (x : Ex) (e : Env) → Engaged source news x → ((q : ℕ) → owed_ex q x ≡ 0) → EngagedEnv source news e → Lighter e (sw.born h x e)
-  born_lighter h x e r w s = change_lighter h (sw.one_more x) e (born_spared x r w) s
+  pub born_lighter : (h : Home) (x : Ex) (e : Env) → Engaged source (news h) x → ((q : ℕ) → owed_ex q x ≡ 0) → EngagedEnv source news e → Lighter e (sw.born h x e)
+  born_lighter h x e r w s = change_lighter h (sw.one_more x) e (born_spared h x r w) s
 
-  gone_spared : (k : ℕ) → Spared (sw.slot_gone k)
-  gone_spared k = record {
-    parked = λ m h. without_parked k m.parked h;
+  gone_spared : (h : Home) (k : ℕ) → Spared h (sw.slot_gone k)
+  gone_spared h k = record {
+    parked = λ m r. without_parked source (news h) k m.parked r;
     owed = λ m q. without_owed q k m.parked;
   }
 
   pub forgotten_lighter : (o : Option Exec) (e : Env) → EngagedEnv source news e → Lighter e (sw.forgotten o e)
-  forgotten_lighter None e s = same e e s refl refl refl refl (omega arith)
-  forgotten_lighter (Some n) e s = change_lighter n.home (sw.slot_gone n.serial) e (gone_spared n.serial) s
-
-  pub record Spares (g : Links → Links) : Type 0 where
-    pub counts : (l : Links) → entries l ≤ entries (g l)
-    pub stage : (l : Links) → StaysOrEnds (g l).stage l.stage
-
-  links_parked : (g : Links → Links) → Spares g → (n : ℕ) (o : Option Ex) (m : Members) → EngagedSlot source news o → EngagedParked source news m.parked → EngagedParked source news (sw.links_by g n o m).parked
-  links_parked g k n None m r h = h
-  links_parked g k n (Some x) m r h =
-      update_parked n (Some (record x { links = g x.links })) m.parked (next_stage (g x.links).stage x.links.stage x (record x { links = g x.links }) (k.stage x.links) (λ r. record { run = r.run; one = r.one; callers = r.callers; engaged = let a = r.engaged in let b = k.counts x.links in omega (arith, a, b) }) r) h
+  forgotten_lighter None e s = same e e s refl refl refl refl (omega arith) refl
+  forgotten_lighter (Some n) e s = change_lighter n.home (sw.slot_gone n.serial) e (gone_spared n.home n.serial) s
 
   links_owed : (g : Links → Links) → Spares g → (n : ℕ) (o : Option Ex) (m : Members) → joined (find n m.parked) ≡ o → (q : ℕ) → owed_parked q (sw.links_by g n o m).parked ≤ owed_parked q m.parked
   links_owed g k n None m e q = omega arith
   links_owed g k n (Some x) m e q = swapped n x (record x { links = g x.links }) m e (λ q. owed_less (g x.links).stage x.links.stage (owed_all q x) (k.stage x.links)) q
 
-  links_spared : (g : Links → Links) → Spares g → (n : ℕ) → Spared (sw.links_changed g n)
-  links_spared g k n = record {
-    parked = λ m h. links_parked g k n (joined (find n m.parked)) m (found_parked n m.parked h) h;
+  links_spared : (h : Home) (g : Links → Links) → Spares g → (n : ℕ) → Spared h (sw.links_changed g n)
+  links_spared h g k n = record {
+    parked = λ m r. links_parked source (news h) g k n (joined (find n m.parked)) m (found_parked source (news h) n m.parked r) r;
     owed = λ m q. links_owed g k n (joined (find n m.parked)) m refl q;
   }
 
   pub with_links_lighter : (g : Links → Links) → Spares g → (n : Exec) (e : Env) → EngagedEnv source news e → Lighter e (sw.with_links g n e)
   with_links_lighter g k n e s =
-      either (Lighter e) (exec_eq n e.exec) (record e { links = g e.links }) (change n.home (sw.links_changed g n.serial) e) (same e (record e { links = g e.links }) s refl refl refl refl (k.counts e.links)) (change_lighter n.home (sw.links_changed g n.serial) e (links_spared g k n.serial) s)
+      either (Lighter e) (exec_eq n e.exec) (record e { links = g e.links }) (change n.home (sw.links_changed g n.serial) e) (same e (record e { links = g e.links }) s refl refl refl refl (k.counts e.links) refl) (change_lighter n.home (sw.links_changed g n.serial) e (links_spared n.home g k n.serial) s)
 
   pub enlivened_lighter : (o : Option Exec) (e : Env) → EngagedEnv source news e → Lighter e (sw.enlivened o e)
-  enlivened_lighter None e s = same e e s refl refl refl refl (omega arith)
+  enlivened_lighter None e s = same e e s refl refl refl refl (omega arith) refl
   enlivened_lighter (Some n) e s = with_links_lighter (λ l. record l { live = true }) (record { counts = λ l. omega arith; stage = λ l. inl refl }) n e s
 
   -- slots
 
-  slot_by : (n : Exec) (x : Option Ex) (o : Option Members) (e : Env) → EngagedSlot source news x → EngagedMembers source news o → EngagedEnv source news e → EngagedEnv source news (change_in n.home (sw.slot_set n.serial x) o e)
+  slot_by : (n : Exec) (x : Option Ex) (o : Option Members) (e : Env) → EngagedSlot source (news n.home) x → EngagedMembers source news n.home o → EngagedEnv source news e → EngagedEnv source news (change_in n.home (sw.slot_set n.serial x) o e)
   slot_by n x None e r m s = s
-  slot_by n x (Some y) e r m s = set_engaged n.home (sw.slot_set n.serial x y) e (update_parked n.serial x y.parked r m) s
+  slot_by n x (Some y) e r m s = set_engaged n.home (sw.slot_set n.serial x y) e (update_parked source (news n.home) n.serial x y.parked r m) s
 
-  set_slot_engaged : (n : Exec) (x : Option Ex) (e : Env) → EngagedSlot source news x → EngagedEnv source news e → EngagedEnv source news (sw.set_slot n x e)
+  set_slot_engaged : (n : Exec) (x : Option Ex) (e : Env) → EngagedSlot source (news n.home) x → EngagedEnv source news e → EngagedEnv source news (sw.set_slot n x e)
   set_slot_engaged n x e r s = slot_by n x (members_at n.home e) e r (members_engaged n.home e s) s
 
   slot_owed_by : (q : ℕ) (n : Exec) (x : Option Ex) (o : Option Members) (e : Env) → members_at n.home e ≡ o → owed_env q (change_in n.home (sw.slot_set n.serial x) o e) + owed_slot q (joined (slot_in n.serial o)) ≤ owed_env q e + owed_slot q x
@@ -324,7 +346,7 @@ module _ (source : Source) (news : ℕ → Bool) where
 
   -- who may be activated: one that does not run, or that one somewhat changed
   pub record Waiting (e : Env) (n : Exec) (x : Ex) : Type 0 where
-    pub engaged : Engaged source news x
+    pub engaged : Engaged source (news n.home) x
     pub was : Ex
     pub parked : parked_at n e ≡ Some was
     pub owes : (q : ℕ) → owed_all q x ≤ owed_ex q was
@@ -337,23 +359,23 @@ module _ (source : Source) (news : ℕ → Bool) where
   switched_deep n x s r h =
       let free : Env = sw.set_slot n None s.env in
       let stopped : Ex = sw.stopped s in
-      let is : Engaged source news stopped = record { run = h.alone; one = h.deep.one; callers = h.deep.callers; engaged = let a = h.deep.engaged in omega (arith, a) } in
+      let is : Engaged source (news s.env.exec.home) stopped = record { run = h.alone; one = h.deep.one; callers = h.deep.callers; engaged = let a = h.deep.engaged in omega (arith, a) } in
       record {
         first = Any;
         run = r.engaged.run;
-        new = none_new source (is_new news x.run.this x.callers) news x.run.this x.callers x.run.control x.run.operands r.engaged.run;
+        new = none_told source (is_told (news n.home) x.run.this x.callers) (news n.home) x.run.this x.callers x.run.control x.run.operands r.engaged.run;
         one = r.engaged.one;
         callers = r.engaged.callers;
         env =
-            let f = set_slot_engaged s.env.exec (Some stopped) free (by_stage s.env.links.stage stopped is) (set_slot_engaged n None s.env tt h.deep.env) in
+            let f = set_slot_engaged s.env.exec (Some stopped) free (by_stage source (news s.env.exec.home) s.env.links.stage stopped is) (set_slot_engaged n None s.env tt h.deep.env) in
             record { house = f.house; hand = f.hand };
-        engaged = let a = r.engaged.engaged in let b = none_marked source (is_new news x.run.this x.callers) x.run.control r.engaged.run in omega (arith, a, b);
+        engaged = let a = r.engaged.engaged in let b = none_marked source (is_told (news n.home) x.run.this x.callers) x.run.control r.engaged.run in omega (arith, a, b);
         depths = λ q.
             let a = set_slot_owed q n None s.env in
             let b = set_slot_owed q s.env.exec (Some stopped) free in
             let c : owed_slot q (parked_at n s.env) ≡ owed_ex q r.was = ap (owed_slot q) r.parked in
             let d = h.deep.depths q in
-            let f = none_first source (is_new news x.run.this x.callers) q x.run.control x.run.operands r.engaged.run in
+            let f = none_first source (is_told (news n.home) x.run.this x.callers) q x.run.control x.run.operands r.engaged.run in
             let w = r.owes q in
             let e1 = set_slot_beside n None s.env in
             let e2 = set_slot_beside s.env.exec (Some stopped) free in
@@ -364,15 +386,15 @@ module _ (source : Source) (news : ℕ → Bool) where
       }
 
   -- one that has not ended
-  waits_there : (n : Exec) (x : Ex) (e : Env) → parked_at n e ≡ Some x → (g : Stage) → x.links.stage ≡ g → (EngagedBy source news g x → Engaged source news x) → ((k : ℕ) → owed_at g k ≡ k) → EngagedSlot source news (Some x) → Waiting e n x
+  waits_there : (n : Exec) (x : Ex) (e : Env) → parked_at n e ≡ Some x → (g : Stage) → x.links.stage ≡ g → (EngagedBy source (news n.home) g x → Engaged source (news n.home) x) → ((k : ℕ) → owed_at g k ≡ k) → EngagedSlot source (news n.home) (Some x) → Waiting e n x
   waits_there n x e p g i f k r = record {
-    engaged = f (subst (λ g. EngagedBy source news g x) i r);
+    engaged = f (subst (λ g. EngagedBy source (news n.home) g x) i r);
     was = x;
     parked = p;
     owes = λ q. let a : owed_ex q x ≡ owed_at g (owed_all q x) = ap (λ g. owed_at g (owed_all q x)) i in let b = k (owed_all q x) in omega (arith, a, b);
   }
 
-  parked_slot : (n : Exec) (o : Option Ex) (e : Env) → parked_at n e ≡ o → EngagedSlot source news o → WaitingNext e (sw.able_by n o)
+  parked_slot : (n : Exec) (o : Option Ex) (e : Env) → parked_at n e ≡ o → EngagedSlot source (news n.home) o → WaitingNext e (sw.able_by n o)
   parked_slot n None e p r = tt
   parked_slot n (Some x) e p r = stage x.links.stage refl
     where
@@ -421,7 +443,7 @@ module _ (source : Source) (news : ℕ → Bool) where
     owes = w.owes;
   }
 
-  wake_slot : (n : Exec) (o : Option Ex) (s : State) → parked_at n s.env ≡ o → EngagedSlot source news o → DeepAlone source news s → DeepMoved (sw.wake_by n o s)
+  wake_slot : (n : Exec) (o : Option Ex) (s : State) → parked_at n s.env ≡ o → EngagedSlot source (news n.home) o → DeepAlone source news s → DeepMoved (sw.wake_by n o s)
   wake_slot n None s p r h = tt
   wake_slot n (Some x) s p r h = stage x.links.stage refl
     where
@@ -482,10 +504,10 @@ module _ (source : Source) (news : ℕ → Bool) where
   pub eased : (s : State) (e : Env) → Lighter s.env e → Deep source news s → Deep source news (record s { env = e })
   eased s e l h = record {
     first = h.first;
-    run = h.run;
-    new = h.new;
+    run = subst (λ n. Entered source (is_told (news n.home) s.run.this s.callers) h.first s.run.control) (sym l.exec) h.run;
+    new = subst (λ n. IsToldFirst source (news n.home) s.run.this s.callers s.run.control s.run.operands) (sym l.exec) h.new;
     one = h.one;
-    callers = h.callers;
+    callers = subst (λ n. AllEntered source (news n.home) s.callers) (sym l.exec) h.callers;
     env = l.env;
     engaged = let a = h.engaged in let b = l.entries in omega (arith, a, b);
     depths = λ q.
@@ -498,7 +520,7 @@ module _ (source : Source) (news : ℕ → Bool) where
   over_deep : (n : Exec) (s : State) → Deep source news s → Deep source news (sw.over n s)
   over_deep n s h = eased s _ (with_links_lighter (λ l. record l { live = false; stage = Ended }) (record { counts = λ l. omega arith; stage = λ l. inr refl }) n s.env h.env) h
 
-  take_down_slot : (n : Exec) (o : Option Ex) (s : State) → parked_at n s.env ≡ o → EngagedSlot source news o → DeepAlone source news s → DeepMoved (sw.take_down_by n o s)
+  take_down_slot : (n : Exec) (o : Option Ex) (s : State) → parked_at n s.env ≡ o → EngagedSlot source (news n.home) o → DeepAlone source news s → DeepMoved (sw.take_down_by n o s)
   take_down_slot n None s p r h = h.deep
   take_down_slot n (Some x) s p r h = stage x.links.stage refl
     where

@@ -17,7 +17,8 @@ use Rattle.uc_machine.specs.declared.exec.Stage.{Stage}
 use Rattle.uc_machine.specs.declared.exec.Stage.TheVariants.{Fresh, Started, Ended}
 use Rattle.uc_machine.specs.Pieces.{Todo, Active, State, Members, at, object_in}
 use Rattle.uc_machine.specs.Answering.{with_hand}
-use Rattle.uc_depth_laws.specs.Owing.{Ex, entries, marks, marks_waiting, owed_waiting, owed_all, owed_at, Engaged, EngagedBy, EngagedSlot, EngagedParked, EngagedHand, EngagedMembers, Free, Redrawn, owed_slot, owed_parked, owed_hand, owed, owed_outside, owed_by, IsInside, Deep, DeepBehind, DeepAsk}
+use Rattle.uc_depth_laws.specs.Entering.{Aspect}
+use Rattle.uc_depth_laws.specs.Owing.{Ex, Tests, entries, marks, marks_waiting, owed_waiting, owed_all, owed_at, Engaged, EngagedBy, EngagedSlot, EngagedParked, EngagedHand, EngagedMembers, Free, Redrawn, owed_slot, owed_parked, owed_hand, owed, owed_outside, owed_by, IsInside, Deep, DeepBehind, DeepAsk}
 use Rattle.uc_depth_laws.specs.DepthLaws.{LawFree, LawDrawn, LawInside}
 use Rattle.uc_depth_laws.proofs.Kept.{both, found_hand}
 use Rattle.uc_depth_laws.proofs.Depths.{own_one, counted_own, counted_least, counted_none, inside_of}
@@ -33,7 +34,7 @@ one_owes q [] n a e = absurd cc
 one_owes q (x ∷ cs) zero a e = let f = ap (λ (o : Option Active). owed_option q o) e in omega (arith, f)
 one_owes q (x ∷ cs) (suc n) a e = let h = one_owes q cs n a e in omega (arith, h)
 
-marked : (source : Source) (news : ℕ → Bool) (s : State) → Deep source news s → (n : ℕ) (a : Active) → slice_get (s.run ∷ s.callers) n ≡ Some a → 0 < marks a.control → IsInside (object_in a.this) s.env
+marked : (source : Source) (news : Tests) (s : State) → Deep source news s → (n : ℕ) (a : Active) → slice_get (s.run ∷ s.callers) n ≡ Some a → 0 < marks a.control → IsInside (object_in a.this) s.env
 marked source news s h n a e l =
     let o = object_in a.this in
     let d = h.depths o in
@@ -41,7 +42,7 @@ marked source news s h n a e l =
     let c = one_owes o (s.run ∷ s.callers) n a e in
     inside_of (find o s.env.depths) (omega (arith, d, b, c, l))
 
-own : (source : Source) (news : ℕ → Bool) (s : State) → Deep source news s → IsInside s.env.own s.env
+own : (source : Source) (news : Tests) (s : State) → Deep source news s → IsInside s.env.own s.env
 own source news s h =
     let d = h.depths s.env.own in
     let b = own_one s.env.own in
@@ -62,24 +63,24 @@ waiting_none q (a ∷ cs) l =
 
 -- what is not engaged owes nothing
 
-ex_none : (source : Source) (news : ℕ → Bool) (q : ℕ) (x : Ex) → Engaged source news x → entries x.links ≤ 0 → owed_all q x ≡ 0
-ex_none source news q x h none =
+ex_none : (source : Source) (tells : Aspect → ℕ → Bool) (q : ℕ) (x : Ex) → Engaged source tells x → entries x.links ≤ 0 → owed_all q x ≡ 0
+ex_none source tells q x h none =
     let l = h.engaged in
     let b = counted_least q x.run.this (marks x.run.control) 0 (omega (arith, l, none)) in
     let c = counted_none q x.run.this in
     let d = waiting_none q x.callers (omega (arith, l, none)) in
     omega (arith, b, c, d)
 
-slot_none : (source : Source) (news : ℕ → Bool) (q : ℕ) (o : Option Ex) → EngagedSlot source news o → is_engaged o ≡ false → owed_slot q o ≡ 0
-slot_none source news q None h e = refl
-slot_none source news q (Some x) h e = stage x.links.stage h
+slot_none : (source : Source) (tells : Aspect → ℕ → Bool) (q : ℕ) (o : Option Ex) → EngagedSlot source tells o → is_engaged o ≡ false → owed_slot q o ≡ 0
+slot_none source tells q None h e = refl
+slot_none source tells q (Some x) h e = stage x.links.stage h
   where
     none : entries x.links ≤ 0
     none = ltb-false 0 (entries x.links) e
 
-    stage : (g : Stage) → EngagedBy source news g x → owed_at g (owed_all q x) ≡ 0
-    stage Fresh h = ex_none source news q x h none
-    stage Started h = ex_none source news q x h none
+    stage : (g : Stage) → EngagedBy source tells g x → owed_at g (owed_all q x) ≡ 0
+    stage Fresh h = ex_none source tells q x h none
+    stage Started h = ex_none source tells q x h none
     stage Ended h = refl
 
 found_without : {X : Type 0} (q o : ℕ) (ds : List (ℕ × X)) → nat_eq o q ≡ false → find q (without o ds) ≡ find q ds
@@ -114,16 +115,16 @@ neither : (a b : Bool) → (a || b) ≡ false → (a ≡ false) × (b ≡ false)
 neither true b e = absurd cc
 neither false b e = (refl, e)
 
-free : (source : Source) (news : ℕ → Bool) (q : ℕ) (ps : List (ℕ × Option Ex)) → EngagedParked source news ps → list_any (λ (p : ℕ × Option Ex). is_engaged p.1) ps ≡ false → owed_parked q ps ≡ 0
-free source news q [] h e = refl
-free source news q (p ∷ ps) h e =
+free : (source : Source) (tells : Aspect → ℕ → Bool) (q : ℕ) (ps : List (ℕ × Option Ex)) → EngagedParked source tells ps → list_any (λ (p : ℕ × Option Ex). is_engaged p.1) ps ≡ false → owed_parked q ps ≡ 0
+free source tells q [] h e = refl
+free source tells q (p ∷ ps) h e =
     let two = neither (is_engaged p.1) (list_any (λ (p : ℕ × Option Ex). is_engaged p.1) ps) e in
-    let a = slot_none source news q p.1 h.0 two.0 in
-    let b = free source news q ps h.1 two.1 in
+    let a = slot_none source tells q p.1 h.0 two.0 in
+    let b = free source tells q ps h.1 two.1 in
     omega (arith, a, b)
 
 pub law_free : LawFree
-law_free = λ source news m h e. record { parked = parked_again source news (λ o. false) m.parked h (λ q n. inr (free source news q m.parked h e)); nothing = λ q. free source news q m.parked h e }
+law_free = λ source tells m h e. record { parked = parked_again source tells (λ k o. false) m.parked h (λ k q n. inr (free source tells q m.parked h e)); nothing = λ q. free source tells q m.parked h e }
 
 -- a hand that is drawn anew
 
@@ -145,19 +146,19 @@ left q k (p ∷ hand) =
     let h = left q k hand in
     both (λ (xs : List (ℕ × Members)) (x : Option Members). owed_parked q p.1.parked + owed_hand q hand ≤ owed_hand q xs + owed_found q x) (nat_eq p.0 k) hand (p ∷ without k hand) (Some p.1) (find k hand) (omega arith) (omega (arith, h))
 
-pub all_owed : (source : Source) (news : ℕ → Bool) (s : State) → Deep source news s → (todo : List Todo) → is_held_up (this_object s) s.env ≡ false → owed_outside source (this_object s) (at todo s.run.operands s) ≡ 0 → owed source (this_object s) (at todo s.run.operands s) ≡ 0
+pub all_owed : (source : Source) (news : Tests) (s : State) → Deep source news s → (todo : List Todo) → is_held_up (this_object s) s.env ≡ false → owed_outside source (this_object s) (at todo s.run.operands s) ≡ 0 → owed source (this_object s) (at todo s.run.operands s) ≡ 0
 all_owed source news s h todo u e =
     let o = this_object s in
     let a = left o o s.env.hand in
     let b = by (find o s.env.hand) (found_hand source news o s.env.hand h.env.hand) (neither (home_eq s.env.exec.home (home.Object o)) (has_engaged (find o s.env.hand)) u).1 in
     omega (arith, a, b, e)
   where
-    by : (x : Option Members) → EngagedMembers source news x → has_engaged x ≡ false → owed_found (this_object s) x ≡ 0
+    by : (x : Option Members) → EngagedMembers source news (home.Object (this_object s)) x → has_engaged x ≡ false → owed_found (this_object s) x ≡ 0
     by None k g = refl
-    by (Some m) k g = free source news (this_object s) m.parked k g
+    by (Some m) k g = free source (news (home.Object (this_object s))) (this_object s) m.parked k g
 
-engaged_found : (source : Source) (news : ℕ → Bool) (k : ℕ) (hand : List (ℕ × Members)) (m : Members) → EngagedHand source news hand → find k hand ≡ Some m → EngagedParked source news m.parked
-engaged_found source news k hand m h e = subst (EngagedMembers source news) e (found_hand source news k hand h)
+engaged_found : (source : Source) (news : Tests) (k : ℕ) (hand : List (ℕ × Members)) (m : Members) → EngagedHand source news hand → find k hand ≡ Some m → EngagedParked source (news (home.Object k)) m.parked
+engaged_found source news k hand m h e = subst (EngagedMembers source news (home.Object k)) e (found_hand source news k hand h)
 
 -- without an object the others are found as they were
 redrawn_without : (source : Source) (k : ℕ) (old hand : List (ℕ × Members)) → find k hand ≡ None → Redrawn source old hand → Redrawn source (without k old) hand
@@ -189,15 +190,15 @@ redrawn_owed source q old (p ∷ hand) h = by h.0 (λ xs k. redrawn_owed source 
         let c = ap (owed_found q) x in
         omega (arith, a, b, c)
 
-redrawn_engaged : (source : Source) (news : ℕ → Bool) (old hand : List (ℕ × Members)) → EngagedHand source news old → Redrawn source old hand → EngagedHand source news hand
+redrawn_engaged : (source : Source) (news : Tests) (old hand : List (ℕ × Members)) → EngagedHand source news old → Redrawn source old hand → EngagedHand source news hand
 redrawn_engaged source news old [] k h = tt
 redrawn_engaged source news old (p ∷ hand) k h = (by h.0, redrawn_engaged source news old hand k h.2)
   where
-    by : Free source p.1 ⊎ (find p.0 old ≡ Some p.1) → EngagedParked source news p.1.parked
-    by (inl x) = parked_again source (λ o. false) news p.1.parked x.parked (λ q n. cc)
+    by : Free source p.1 ⊎ (find p.0 old ≡ Some p.1) → EngagedParked source (news (home.Object p.0)) p.1.parked
+    by (inl x) = parked_again source (λ k o. false) (news (home.Object p.0)) p.1.parked x.parked (λ k q n. cc)
     by (inr x) = engaged_found source news p.0 old p.1 k x
 
-module _ (source : Source) (news : ℕ → Bool) where
+module _ (source : Source) (news : Tests) where
   drawn : (hand : List (ℕ × Members)) (s : State) → Deep source news s → Redrawn source s.env.hand hand → Deep source news (with_hand hand s)
   drawn hand s h k = record {
     first = h.first;
@@ -223,7 +224,7 @@ module _ (source : Source) (news : ℕ → Bool) where
   }
 
   drawn_asked : (r : Request) (hand : List (ℕ × Members)) (s : State) → DeepAsk source news r s → Redrawn source s.env.hand hand → DeepAsk source news r (with_hand hand s)
-  drawn_asked (ask.Call o m) hand s h k = drawn hand s h k
+  drawn_asked (ask.Call o m) hand s h k = λ away. drawn hand s (h away) k
   drawn_asked (ask.Make c) hand s h k = (h.0, drawn_behind hand s h.1 k)
   drawn_asked ask.Slice hand s h k = drawn hand s h k
   drawn_asked (ask.Spawn o) hand s h k = (record { alone = h.0.alone; deep = drawn hand s h.0.deep k }, h.1, let a = redrawn_owed source o s.env.hand hand k in let b = h.2 in omega (arith, a, b))

@@ -12,27 +12,40 @@ lets_go Ends = true
 lets_go (Frees r) = true
 lets_go c = false
 
--- the last of these
-abbrev pub frees : CleanUp → Bool
-frees (Frees r) = true
-frees c = false
+-- what is told of an object: that it is new, and that it is another than the own object of the task and than that in which the execution is at
+-- home
+pub data Aspect : Type 0 where
+  New : Aspect
+  Other : Aspect
+
+-- of what a clean-up lets go of that is told: what has been built is new, and what has been destroyed another
+abbrev pub asks : CleanUp → Aspect → Bool
+asks (Frees r) New = true
+asks (Frees r) Other = false
+asks Ends New = false
+asks Ends Other = true
+asks c k = false
 
 -- whether statements are, as a whole, in a scope that does
 abbrev pub holds_object : Stmts → Bool
 holds_object (Scoped c rest) = lets_go c
 holds_object body = false
 
--- whether they are in one at whose end the object has been built
-abbrev pub frees_object : Stmts → Bool
-frees_object (Scoped c rest) = frees c
-frees_object body = false
+-- whether this is told of the object of statements that are in such a scope
+abbrev pub asks_object : Stmts → Aspect → Bool
+asks_object (Scoped c rest) k = asks c k
+asks_object body k = false
 
 -- whether those of the routine of this number are
 abbrev pub is_holding : Source → ℕ → Bool
 is_holding source r = holds_object (routine_of source r).body
 
+-- whether they are in one at whose end the object has been built, and in one at whose end it has been destroyed
 abbrev pub is_building : Source → ℕ → Bool
-is_building source r = frees_object (routine_of source r).body
+is_building source r = asks_object (routine_of source r).body New
+
+abbrev pub is_ending : Source → ℕ → Bool
+is_ending source r = asks_object (routine_of source r).body Other
 
 -- a main ends in its own way: by what asks for the end of its task, or by what ends the coroutine
 abbrev pub EndsMain : Purpose → Type 0

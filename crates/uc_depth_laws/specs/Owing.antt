@@ -1,19 +1,21 @@
 -- What a task owes the objects in which it is: each piece that lets go of the object of its activation is one mark, of which the activation
 -- still has to leave that object once.
-use Rattle.std.specs.Prelude.{◌≡◌, ℕ, suc, ◌+◌, ◌≤◌, ◌<◌, ◌⊎◌, ◌&&◌, List, [], ◌∷◌, length, drop, Option, Some, None, Bool, true, false, nat_eq, if◌then◌else◌}
+use Rattle.std.specs.Prelude.{◌≡◌, ℕ, suc, ◌+◌, ◌≤◌, ◌<◌, ◌⊎◌, ◌&&◌, List, [], ◌∷◌, length, drop, Option, Some, None, Bool, true, false, nat_eq, is_some, if◌then◌else◌}
 use Rattle.uc_tree.specs.Source.{CleanUp, Stmts, Source, routine_of}
 use Rattle.uc_entry.specs.Keyed.{find}
 use Rattle.uc_entry.specs.declared.request.Request.{Request}
 use Rattle.uc_entry.specs.declared.request.Request.TheVariants as ask
+use Rattle.uc_machine.specs.declared.exec.Home.{Home}
+use Rattle.uc_machine.specs.declared.exec.Home.TheVariants as home
 use Rattle.uc_machine.specs.declared.exec.Stage.{Stage}
-use Rattle.uc_machine.specs.declared.exec.Stage.TheVariants.{Fresh, Started, Ended}
+use Rattle.uc_machine.specs.declared.exec.Stage.TheVariants.{Ended}
 use Rattle.uc_machine.specs.Executions.{Links, Execution}
 use Rattle.uc_machine.specs.Insides.{is_held_up}
 use Rattle.uc_machine.specs.Switches.{without}
 use Rattle.uc_machine.specs.Monitors.{this_object}
 use Rattle.uc_machine.specs.Pieces as piece
 use Rattle.uc_machine.specs.Pieces.{Value, Todo, Active, State, Env, Members, Step, Goes, Ticks, Asks, at, top, below, object_in}
-use Rattle.uc_depth_laws.specs.Entering.{lets_go, frees, holds_object, frees_object, is_holding, is_building, EnteredExpr, EnteredExprs, EnteredMaybe, EnteredItems, EnteredTargets, EnteredDeclared, EnteredClean, EnteredStmt, EnteredStmts, EnteredBody, EnteredHandlers, EnteredClauses}
+use Rattle.uc_depth_laws.specs.Entering.{Aspect, New, Other, lets_go, asks, holds_object, asks_object, is_holding, is_building, is_ending, EnteredExpr, EnteredExprs, EnteredMaybe, EnteredItems, EnteredTargets, EnteredDeclared, EnteredClean, EnteredStmt, EnteredStmts, EnteredBody, EnteredHandlers, EnteredClauses}
 
 abbrev pub Ex : Type 0
 Ex = Execution (List Todo) Value
@@ -74,14 +76,18 @@ next piece.Unwind = Skipped
 next (piece.Exit w) = Skipped
 next p = Any
 
--- which objects are new is told by a test; to one that is, the activations which wait for what builds it owe nothing
-abbrev pub is_new : (ℕ → Bool) → Value → List Active → Bool
-is_new news v older = news (object_in v) && nat_eq (owed_waiting (object_in v) older) 0
+-- which objects are new, and which are others, is told by tests for an execution that is at home here
+abbrev pub Tests : Type 0
+Tests = Home → Aspect → ℕ → Bool
+
+-- to one that passes, the activations which wait for what builds or destroys it owe nothing
+abbrev pub is_told : (Aspect → ℕ → Bool) → Value → List Active → Aspect → Bool
+is_told tells v older k = tells k (object_in v) && nat_eq (owed_waiting (object_in v) older) 0
 
 -- so it is for what an activation calls, which has this to do behind the call
-abbrev pub is_new_for : (ℕ → Bool) → Value → Value → List Todo → List Active → Bool
-is_new_for news v this todo older =
-    news (object_in v) && nat_eq (counted (object_in v) this (marks todo) + owed_waiting (object_in v) older) 0
+abbrev pub is_told_for : (Aspect → ℕ → Bool) → Value → Value → List Todo → List Active → Aspect → Bool
+is_told_for tells v this todo older k =
+    tells k (object_in v) && nat_eq (counted (object_in v) this (marks todo) + owed_waiting (object_in v) older) 0
 
 -- one is owed to the own object
 abbrev pub owed_own : ℕ → ℕ → ℕ
@@ -91,14 +97,14 @@ owed_own q own = if nat_eq own q then 1 else 0
 abbrev pub entries : Links → ℕ
 entries l = l.mutex_calls + l.builds
 
--- what stands in to-do lists of an activation whose object is new, or is not
-module _ (source : Source) (new : Bool) where
-  -- only what has a new object builds it: in a scope, and as a whole
+-- what stands in to-do lists of an activation of whose object this is told
+module _ (source : Source) (told : Aspect → Bool) where
+  -- only what has a new object builds it, and only what has another destroys it: in a scope, and as a whole
   abbrev pub EnteredScope : CleanUp → Type 0
-  EnteredScope c = EnteredClean source c × (frees c ≡ true → new ≡ true)
+  EnteredScope c = EnteredClean source c × ((k : Aspect) → asks c k ≡ true → told k ≡ true)
 
   abbrev pub EnteredWhole : Stmts → Type 0
-  EnteredWhole ss = EnteredBody source ss × (frees_object ss ≡ true → new ≡ true)
+  EnteredWhole ss = EnteredBody source ss × ((k : Aspect) → asks_object ss k ≡ true → told k ≡ true)
 
   abbrev pub EnteredPiece : Todo → Type 0
   EnteredPiece (piece.Eval e) = EnteredExpr source e
@@ -140,10 +146,10 @@ module _ (source : Source) (new : Bool) where
   abbrev pub EnteredNext : Todo → Type 0
   EnteredNext (piece.Rest ss) = EnteredWhole ss
   EnteredNext piece.LeaveNow = Unit {0}
-  EnteredNext piece.MadeNow = new ≡ true
-  EnteredNext (piece.SpawnNow r) = (new ≡ true) × (is_holding source r ≡ false)
-  EnteredNext piece.GoneNow = Unit {0}
-  EnteredNext piece.GiveUpNow = new ≡ true
+  EnteredNext piece.MadeNow = told New ≡ true
+  EnteredNext (piece.SpawnNow r) = (told New ≡ true) × (is_holding source r ≡ false)
+  EnteredNext piece.GoneNow = told Other ≡ true
+  EnteredNext piece.GiveUpNow = told New ≡ true
   EnteredNext p = EnteredPiece p
 
   abbrev pub Allowed : First → Todo → Type 0
@@ -174,12 +180,16 @@ module _ (source : Source) where
   owed_first q (piece.BindMadeNow c r ∷ todo) vs = calling q r (top vs)
   owed_first q todo vs = 0
 
-  -- where what is called first builds its object, that is new
-  abbrev pub IsNewFirst : (ℕ → Bool) → Value → List Active → List Todo → List Value → Type 0
-  IsNewFirst news this older (piece.CallOnNow r ∷ todo) vs = is_building source r ≡ true → is_new_for news (top (drop (routine_of source r).params vs)) this todo older ≡ true
-  IsNewFirst news this older (piece.CallUnwrittenNow r ∷ todo) vs = is_building source r ≡ true → is_new_for news (top (drop (routine_of source r).params vs)) this todo older ≡ true
-  IsNewFirst news this older (piece.BindMadeNow c r ∷ todo) vs = is_building source r ≡ true → is_new_for news (top vs) this todo older ≡ true
-  IsNewFirst news this older todo vs = Unit {0}
+  -- where this routine builds its object or destroys it, so it is told of the object
+  abbrev pub IsToldFor : (Aspect → ℕ → Bool) → ℕ → Value → Value → List Todo → List Active → Type 0
+  IsToldFor tells r v this todo older = (k : Aspect) → asks_object (routine_of source r).body k ≡ true → is_told_for tells v this todo older k ≡ true
+
+  -- so it is of what is called first
+  abbrev pub IsToldFirst : (Aspect → ℕ → Bool) → Value → List Active → List Todo → List Value → Type 0
+  IsToldFirst tells this older (piece.CallOnNow r ∷ todo) vs = IsToldFor tells r (top (drop (routine_of source r).params vs)) this todo older
+  IsToldFirst tells this older (piece.CallUnwrittenNow r ∷ todo) vs = IsToldFor tells r (top (drop (routine_of source r).params vs)) this todo older
+  IsToldFirst tells this older (piece.BindMadeNow c r ∷ todo) vs = IsToldFor tells r (top vs) this todo older
+  IsToldFirst tells this older todo vs = Unit {0}
 
   abbrev pub first_marks : List Todo → ℕ
   first_marks (piece.CallOnNow r ∷ todo) = more (is_holding source r) 0
@@ -187,15 +197,15 @@ module _ (source : Source) where
   first_marks (piece.BindMadeNow c r ∷ todo) = more (is_holding source r) 0
   first_marks todo = 0
 
-module _ (source : Source) (news : ℕ → Bool) where
+module _ (source : Source) (tells : Aspect → ℕ → Bool) where
   -- activations that wait, each with one mark at most
   abbrev pub AllEntered : List Active → Type 0
   AllEntered [] = Unit {0}
-  AllEntered (a ∷ rest) = Entered source (is_new news a.this rest) Any a.control × (marks a.control ≤ 1) × AllEntered rest
+  AllEntered (a ∷ rest) = Entered source (is_told tells a.this rest) Any a.control × (marks a.control ≤ 1) × AllEntered rest
 
   -- an execution that does not run has as many mutex calls and buildings as marks, or more
   pub record Engaged (x : Ex) : Type 0 where
-    pub run : Entered source (is_new news x.run.this x.callers) Any x.run.control
+    pub run : Entered source (is_told tells x.run.this x.callers) Any x.run.control
     pub one : marks x.run.control ≤ 1
     pub callers : AllEntered x.callers
     pub engaged : marks x.run.control + marks_waiting x.callers ≤ entries x.links
@@ -213,17 +223,18 @@ module _ (source : Source) (news : ℕ → Bool) where
   EngagedParked [] = Unit {0}
   EngagedParked (p ∷ ps) = EngagedSlot p.1 × EngagedParked ps
 
+module _ (source : Source) (news : Tests) where
   abbrev pub EngagedHand : List (ℕ × Members) → Type 0
   EngagedHand [] = Unit {0}
-  EngagedHand (p ∷ ps) = EngagedParked p.1.parked × EngagedHand ps
+  EngagedHand (p ∷ ps) = EngagedParked source (news (home.Object p.0)) p.1.parked × EngagedHand ps
 
-  -- members, if there are any
-  abbrev pub EngagedMembers : Option Members → Type 0
-  EngagedMembers None = Unit {0}
-  EngagedMembers (Some m) = EngagedParked m.parked
+  -- members of a home, if there are any
+  abbrev pub EngagedMembers : Home → Option Members → Type 0
+  EngagedMembers h None = Unit {0}
+  EngagedMembers h (Some m) = EngagedParked source (news h) m.parked
 
   pub record EngagedEnv (e : Env) : Type 0 where
-    pub house : EngagedParked e.house.parked
+    pub house : EngagedParked source (news (home.Task e.own)) e.house.parked
     pub hand : EngagedHand e.hand
 
 -- what is owed to q by the activations of an execution
@@ -263,9 +274,9 @@ owed_resting q e = owed_parked q e.house.parked + owed_hand q e.hand
 abbrev pub owed_elsewhere : ℕ → Env → ℕ
 owed_elsewhere q e = owed_parked q e.house.parked + owed_hand q (without q e.hand)
 
--- all but what the running activation owes
-abbrev pub owed_else : ℕ → State → ℕ
-owed_else q s = owed_waiting q s.callers + owed_env q s.env
+-- what activations of the running execution owe, and what is owed to the own object
+abbrev pub owed_here : ℕ → State → ℕ
+owed_here q s = owed_by q s.run + owed_waiting q s.callers + owed_own q s.env.own
 
 -- all but what has been entered for the call that comes first
 abbrev pub owed_behind : ℕ → State → ℕ
@@ -278,7 +289,7 @@ module _ (source : Source) where
 module _ (source : Source) where
   -- what is at home in an object and owes nothing
   pub record Free (m : Members) : Type 0 where
-    pub parked : EngagedParked source (λ o. false) m.parked
+    pub parked : EngagedParked source (λ k o. false) m.parked
     pub nothing : (q : ℕ) → owed_parked q m.parked ≡ 0
 
   -- a hand that is drawn anew: what is in it is what was, or owes nothing
@@ -303,14 +314,14 @@ abbrev pub IsBinding : List Todo → Type 0
 IsBinding (piece.BindMadeNow c r ∷ todo) = Unit {0}
 IsBinding todo = ⊥
 
--- just before it asks to let go of an object, or to end, a task is inside that, or its own
-abbrev pub LetsGo : Request → Env → Type 0
-LetsGo (ask.Made o) e = IsInside o e
-LetsGo (ask.Spawn o) e = IsInside o e
-LetsGo (ask.Leave o failed) e = IsInside o e
-LetsGo (ask.Gone o) e = IsInside o e
-LetsGo ask.End e = IsInside e.own e
-LetsGo r e = Unit {0}
+-- just before it asks to let go of an object, or to end, a task is inside that, or its own; what it takes out is new, or another
+abbrev pub LetsGo : Tests → Request → State → Type 0
+LetsGo news (ask.Made o) s = IsInside o s.env
+LetsGo news (ask.Spawn o) s = IsInside o s.env
+LetsGo news (ask.Leave o failed) s = IsInside o s.env
+LetsGo news (ask.Gone o) s = IsInside o s.env × ((k : Aspect) × (news s.env.exec.home k o ≡ true))
+LetsGo news ask.End s = IsInside s.env.own s.env
+LetsGo news r s = Unit {0}
 
 -- where it asks for what lets others into an object, no execution there holds it up
 abbrev pub Unheld : Request → Env → Type 0
@@ -322,68 +333,80 @@ Unheld (ask.Wait o c n) e = is_held_up o e ≡ false
 Unheld (ask.SignalBlock o c) e = is_held_up o e ≡ false
 Unheld r e = Unit {0}
 
-module _ (source : Source) (news : ℕ → Bool) where
+module _ (source : Source) (news : Tests) where
   -- a task that goes on, or has asked for a new object and waits: each execution has as many mutex calls and buildings as marks, and the task
   -- is as deep in each object as it is owed, or deeper
   pub record Engages (owing : ℕ → ℕ) (New : Type 0) (s : State) : Type 0 where
     pub first : First
-    pub run : Entered source (is_new news s.run.this s.callers) first s.run.control
+    pub run : Entered source (is_told (news s.env.exec.home) s.run.this s.callers) first s.run.control
     pub new : New
     pub one : marks s.run.control ≤ 1
-    pub callers : AllEntered source news s.callers
+    pub callers : AllEntered source (news s.env.exec.home) s.callers
     pub env : EngagedEnv source news s.env
     pub engaged : first_marks source s.run.control + marks s.run.control + marks_waiting s.callers ≤ entries s.env.links
     pub depths : (q : ℕ) → owing q ≤ depth_at q s.env
 
   abbrev pub Deep : State → Type 0
-  Deep s = Engages (λ q. owed source q s) (IsNewFirst source news s.run.this s.callers s.run.control s.run.operands) s
+  Deep s = Engages (λ q. owed source q s) (IsToldFirst source (news s.env.exec.home) s.run.this s.callers s.run.control s.run.operands) s
 
   abbrev pub DeepBehind : State → Type 0
   DeepBehind s = Engages (λ q. owed_behind q s) (Unit {0}) s
 
   -- no call is about to begin
   pub record DeepAlone (s : State) : Type 0 where
-    pub alone : Entered source (is_new news s.run.this s.callers) Any s.run.control
+    pub alone : Entered source (is_told (news s.env.exec.home) s.run.this s.callers) Any s.run.control
     pub deep : Deep s
 
-  -- a task that has asked something, which the answer lets go on; what it spawns is new until then, and nothing is owed to it any more;
+  -- a task that has asked something, which the answer lets go on; what it calls is not where the running execution is at home; what it spawns is
+  -- new until then, and nothing is owed to it any more;
   -- behind an end and a fault nothing goes on, but what a task has in hand at its end stays in order
   abbrev pub DeepAsk : Request → State → Type 0
-  DeepAsk (ask.Call o m) s = Deep s
+  DeepAsk (ask.Call o m) s = (s.env.exec.home ≡ home.Object o → ⊥) → Deep s
   DeepAsk (ask.Make c) s = IsBinding s.run.control × DeepBehind s
   DeepAsk ask.Slice s = Deep s
-  DeepAsk (ask.Spawn o) s = DeepAlone s × (news o ≡ true) × (owed source o s ≡ 0)
+  DeepAsk (ask.Spawn o) s = DeepAlone s × (news s.env.exec.home New o ≡ true) × (owed source o s ≡ 0)
   DeepAsk ask.End s = EngagedEnv source news s.env
   DeepAsk (ask.Fault f) s = Unit {0}
   DeepAsk r s = DeepAlone s
 
   -- so it is of a request of a task that had this before
-  pub record DeepAsking (before : Env) (r : Request) (s : State) : Type 0 where
+  pub record DeepAsking (before : State) (r : Request) (s : State) : Type 0 where
     pub state : DeepAsk r s
-    pub inside : LetsGo r before
+    pub inside : LetsGo news r before
     pub unheld : Unheld r s.env
 
-  abbrev pub DeepStep : Env → Step → Type 0
-  DeepStep e (Goes s) = Deep s
-  DeepStep e (Ticks s) = Deep s
-  DeepStep e (Asks r s) = DeepAsking e r s
+  abbrev pub DeepStep : State → Step → Type 0
+  DeepStep before (Goes s) = Deep s
+  DeepStep before (Ticks s) = Deep s
+  DeepStep before (Asks r s) = DeepAsking before r s
 
 module _ (source : Source) where
   -- what is owed but by what is at home in the object
   abbrev pub owed_outside : ℕ → State → ℕ
   owed_outside q s = owed_first source q s.run.control s.run.operands + owed_by q s.run + owed_waiting q s.callers + owed_own q s.env.own + owed_elsewhere q s.env
 
-  -- what a step is to find: where an object has been made, the place that is bound to it; where one is let go of however deep the task
-  -- is, nothing else that is owed to it, but by what is at home there where that is asked to let others in
+  -- the object that is entered for this routine, and whether the task is there already
+  abbrev pub entering : ℕ → State → ℕ
+  entering r s = object_in (top (drop (routine_of source r).params s.run.operands))
+
+  abbrev pub is_again : ℕ → State → Bool
+  is_again r s = is_some (find (entering r s) s.env.depths)
+
+  -- what a step is to find: where an object has been made, the place that is bound to it; where one in which the task is already is entered to be
+  -- destroyed, that the running execution is not at home there, and that neither its activations owe anything there nor its task; where one is let
+  -- go of however deep the task is, nothing else that is owed to it, but by what is at home there where that is asked to let others in
   abbrev pub FairAt : List Todo → State → Type 0
   FairAt (piece.BindMadeNow c r ∷ todo) s = (routine_of source r).params < length (below s.run.operands)
+  FairAt (piece.EnterNow m r ∷ todo) s =
+      is_ending source r ≡ true → is_again r s ≡ true →
+      (s.env.exec.home ≡ home.Object (entering r s) → ⊥) × (owed_here (entering r s) s ≡ 0)
   FairAt (piece.MadeNow ∷ todo) s = owed_outside (this_object s) (at todo s.run.operands s) ≡ 0
   FairAt (piece.SpawnNow r ∷ todo) s = owed_outside (this_object s) (at todo s.run.operands s) ≡ 0
   FairAt (piece.GoneNow ∷ todo) s = owed source (this_object s) (at todo s.run.operands s) ≡ 0
   FairAt (piece.GiveUpNow ∷ todo) s = owed source (this_object s) (at todo s.run.operands s) ≡ 0
   FairAt todo s = Unit {0}
 
-  -- the second of these alone
+  -- but for the first of these
   abbrev pub SoleAt : List Todo → State → Type 0
   SoleAt (piece.BindMadeNow c r ∷ todo) s = Unit {0}
   SoleAt todo s = FairAt todo s
@@ -391,12 +414,12 @@ module _ (source : Source) where
   abbrev pub Sole : State → Type 0
   Sole s = SoleAt s.run.control s
 
-  -- of that, what executions owe that do not run; and where an object is gone, what older activations of the running execution owe too, and as
-  -- the own object
+  -- of that, what executions owe that do not run, and what a step is to find where one is entered
   abbrev pub AloneAt : List Todo → State → Type 0
+  AloneAt (piece.EnterNow m r ∷ todo) s = FairAt (piece.EnterNow m r ∷ todo) s
   AloneAt (piece.MadeNow ∷ todo) s = owed_elsewhere (this_object s) s.env ≡ 0
   AloneAt (piece.SpawnNow r ∷ todo) s = owed_elsewhere (this_object s) s.env ≡ 0
-  AloneAt (piece.GoneNow ∷ todo) s = owed_else (this_object s) s ≡ 0
+  AloneAt (piece.GoneNow ∷ todo) s = owed_resting (this_object s) s.env ≡ 0
   AloneAt (piece.GiveUpNow ∷ todo) s = owed_resting (this_object s) s.env ≡ 0
   AloneAt todo s = Unit {0}
 

@@ -19,14 +19,14 @@ use Rattle.uc_agreement.proofs.Ties.{false_true}
 use Rattle.uc_sound.specs.Tables.{sig_or_none, inward_in, inward_at, inward_by, role_inward, of_kind, all_sigs, table_of}
 use Rattle.uc_sound.proofs.BodyLemmas.{InStep, is_written, nobody_wrote, in_step}
 use Rattle.uc_sound.proofs.Signatures.{has_sig}
-use Rattle.uc_depth_laws.specs.Entering.{holds_object, frees_object, is_building}
+use Rattle.uc_depth_laws.specs.Entering.{New, holds_object, asks_object, is_building}
 use Rattle.uc_enter_laws.proofs.Holding as holding
 
 abbrev pub FreesObject : Stmts → Type 0
 FreesObject (src.Scoped (src.Frees r) rest) = Unit {0}
 FreesObject ss = ⊥
 
-frees_some : (ss : Stmts) → frees_object ss ≡ true → FreesObject ss
+frees_some : (ss : Stmts) → asks_object ss New ≡ true → FreesObject ss
 frees_some (src.Scoped (src.Frees r) rest) e = tt
 frees_some ss e = cc
 
@@ -93,14 +93,14 @@ module _ (p : Program) where
 
   -- so nothing else builds one
 
-  of_none : (o : Option Routine) → ((r : Routine) → o ≡ Some r → frees_object r.body ≡ false) → frees_object (routine_or_none o).body ≡ false
+  of_none : (o : Option Routine) → ((r : Routine) → o ≡ Some r → asks_object r.body New ≡ false) → asks_object (routine_or_none o).body New ≡ false
   of_none None f = refl
   of_none (Some r) f = f r refl
 
   pub no_building : (n : ℕ) → (((table_of p).routine n).inward ≡ Makes → ⊥) → is_building (source_of p) n ≡ false
-  no_building n k = of_none (slice_get (source_of p).routines n) (λ r e. by r e (frees_object r.body) refl)
+  no_building n k = of_none (slice_get (source_of p).routines n) (λ r e. by r e (asks_object r.body New) refl)
     where
-      by : (r : Routine) → slice_get (source_of p).routines n ≡ Some r → (b : Bool) → frees_object r.body ≡ b → frees_object r.body ≡ false
+      by : (r : Routine) → slice_get (source_of p).routines n ≡ Some r → (b : Bool) → asks_object r.body New ≡ b → asks_object r.body New ≡ false
       by r e true f = absurd (k (routine_frees n r e (frees_some r.body f)))
       by r e false f = f
 

@@ -22,7 +22,7 @@ use Rattle.uc_machine.specs.Quiet.{first_state}
 use Rattle.uc_machine.specs.Pieces as piece
 use Rattle.uc_machine.specs.Pieces.{Value, Todo, State, Members, Active, at, top, below, number, object_in}
 use Rattle.uc_machine.specs.Answering.{answered, entered, new_members, with_operand}
-use Rattle.uc_depth_laws.specs.Owing.{marks, SoleAt, FairAt, IsInside, Deep}
+use Rattle.uc_depth_laws.specs.Owing.{Tests, marks, SoleAt, FairAt, IsInside, Deep}
 use Rattle.uc_depth_laws.proofs.Kept.{either}
 use Rattle.uc_depth_laws.proofs.Standing.{law_inside}
 use Rattle.uc_answer_laws.specs.Suiting.{AnObject, AClause, ANumber, AValue, AnEvent, JustGo, IsForm, form_of_request}
@@ -329,7 +329,7 @@ module _ (h : Home) (o : ℕ) where
       further (inl i) = inl i
       further (inr m) = inr (record { at = suc m.at; active = m.active; there = m.there; this = m.this; marked = m.marked })
 
-module _ (part : ℕ → Part) (source : Source) (mine : ℕ) (s : State) (h : StandsState part source mine s) (news : ℕ → Bool) (deep : Deep source news s) where
+module _ (part : ℕ → Part) (source : Source) (mine : ℕ) (s : State) (h : StandsState part source mine s) (news : Tests) (deep : Deep source news s) where
   -- by a mark, or at home in it
   is_inside : (o : ℕ) → Backs s.env.exec.home o (s.run ∷ s.callers) → IsInside o s.env ⊎ ((s.env.exec.home ≡ home.Object o) × (is_some (find o s.env.hand) ≡ true))
   is_inside o b = by (backing s.env.exec.home o (s.run ∷ s.callers) b)

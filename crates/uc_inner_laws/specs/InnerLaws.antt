@@ -1,5 +1,5 @@
 -- Whoever waits, signals or accepts in an object is inside it, and a new object finds its place.
-use Rattle.std.specs.Prelude.{◌≡◌, ℕ, ◌⊎◌, Bool, true, false, is_some}
+use Rattle.std.specs.Prelude.{◌≡◌, ℕ, ◌⊎◌, true, false, is_some}
 use Rattle.uc_tree.specs.Source.{Source, routine_of}
 use Rattle.uc_entry.specs.Keyed.{find}
 use Rattle.uc_entry.specs.declared.request.Answer.{Answer}
@@ -11,7 +11,7 @@ use Rattle.uc_machine.specs.Quiet.{State, Asks, quiet, first_state}
 use Rattle.uc_machine.specs.Answering.{answered}
 use Rattle.uc_machine.specs.Insides.{is_held_up}
 use Rattle.uc_answer_laws.specs.Suiting.{IsForm, form_of_request}
-use Rattle.uc_depth_laws.specs.Owing.{IsInside, Deep, Sole, Fair}
+use Rattle.uc_depth_laws.specs.Owing.{Tests, IsInside, Deep, Sole, Fair}
 use Rattle.uc_inner_laws.specs.Inner.{Part, InnerSource}
 use Rattle.uc_inner_laws.specs.Standing.{GivesUp, brings, StandsWith, StandsState, StandsStep}
 use Rattle.uc_depth_laws.specs.Entering.{IsMain}
@@ -48,7 +48,7 @@ IsAt r s t = Unit {0}
 
 abbrev pub LawInside : Type 0
 LawInside =
-    (part : ℕ → Part) (source : Source) → InnerSource part source → (mine : ℕ) (news : ℕ → Bool)
+    (part : ℕ → Part) (source : Source) → InnerSource part source → (mine : ℕ) (news : Tests)
     (s : State) → StandsState part source mine s → Deep source news s → (r : Request) (t : State) →
     quiet source s ≡ Asks r t → IsAt r s t
 

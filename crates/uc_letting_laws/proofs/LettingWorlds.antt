@@ -30,12 +30,13 @@ use Rattle.uc_acts.proofs.Law.{good_whole, lawful_act}
 use Rattle.uc_acts.proofs.Living.{going_row}
 use Rattle.uc_acts.proofs.Held.{law_held}
 use Rattle.uc_acts.proofs.Moves.{one_inside}
+use Rattle.uc_machine.specs.declared.exec.Exec.{Exec}
+use Rattle.uc_machine.specs.declared.exec.Home.{Home}
 use Rattle.uc_machine.specs.declared.exec.Home.TheVariants as home
 use Rattle.uc_machine.specs.Quiet.{State, Members}
 use Rattle.uc_machine.specs.Quiet as quiet
 use Rattle.uc_machine.specs.Insides.{has_engaged, is_held_up}
 use Rattle.uc_machine.specs.Answering.{answered, child_of, with_hand}
-use Rattle.uc_machine.specs.Pieces as piece
 use Rattle.uc_machine.specs.Rides as rides
 use Rattle.uc_machine.specs.Rides.{Rides}
 use Rattle.uc_meaning.specs.Runs.{World, Runs, May, AsksIn, begun, more, gives, no_room, acts, first_world, first_home, drawn, bare, with_home, hand_of, or_else, world_after}
@@ -52,28 +53,28 @@ use Rattle.uc_program_laws.proofs.Ticks.{no_both, not_true}
 use Rattle.uc_program_laws.proofs.Makes.{makes, one_new, just_made_given, run_after, same_holder, law_ends}
 use Rattle.uc_program_laws.proofs.Worlds.{IsThere, none_found}
 use Rattle.uc_program_laws.proofs.Others.{RunRests, run_rests, may_ask, asking as asks_with}
-use Rattle.uc_depth_laws.specs.Entering.{EnteredSource}
+use Rattle.uc_depth_laws.specs.Entering.{Aspect, New, Other, EnteredSource}
 use Rattle.uc_depth_laws.proofs.Alone.{law_alone}
 use Rattle.uc_depth_laws.specs.Owing as owing
-use Rattle.uc_depth_laws.specs.Owing.{EngagedParked, EngagedHand, Free, depth_in, Alone, Sole, Redrawn, IsInside as IsDeepInside, Deep, DeepAsk, LetsGo, Unheld}
-use Rattle.uc_depth_laws.specs.DepthLaws.{Suits, LawSteps, LawFree, LawDrawn}
+use Rattle.uc_depth_laws.specs.Owing.{Tests, EngagedParked, EngagedHand, Free, depth_in, Alone, Sole, Redrawn, IsInside as IsDeepInside, Deep, DeepAsk, LetsGo, Unheld}
+use Rattle.uc_depth_laws.specs.DepthLaws.{TellsOthers, Suits, LawSteps, LawFree, LawDrawn}
 use Rattle.uc_depth_laws.proofs.Answers.{law_steps}
 use Rattle.uc_depth_laws.proofs.Depths.{own_one}
 use Rattle.uc_depth_laws.proofs.Renewed.{law_renewed}
 use Rattle.uc_depth_laws.proofs.Standing.{law_free, law_drawn}
 use Rattle.uc_inner_laws.specs.Inner.{Part, InnerSource}
-use Rattle.uc_inner_laws.specs.Standing.{StandsState, StandsAsk, StandsStep, StandsAsking, GivesUp}
+use Rattle.uc_inner_laws.specs.Standing.{IsHere, StandsState, StandsAsk, StandsStep, StandsAsking}
 use Rattle.uc_inner_laws.specs.InnerLaws.{IsAt}
 use Rattle.uc_inner_laws.proofs.Walk.{law_steps as inner_steps, law_is_inside, law_fair}
-use Rattle.uc_letting_laws.specs.AloneRuns.{AskAlone, RideAlone, MayAlone, RunAlone}
+use Rattle.uc_letting_laws.specs.AloneRuns.{RideAlone, MayAlone, RunAlone}
 use Rattle.uc_letting_laws.specs.LettingLaws.{AsksInHand, OwnersFit, LeavesFree, LawInHand, LawOwners, LawLeaving}
-use Rattle.uc_letting_laws.proofs.StandingWorlds.{Binds, no_binding, IsApart, StandingWorld, found_has, standing_start, standing_act, standing_given, standing_begin}
+use Rattle.uc_letting_laws.proofs.StandingWorlds.{Binds, no_binding, IsApart, StandingWorld, found_has, new_away, standing_start, standing_act, standing_given, standing_begin}
 use Rattle.uc_hand_laws.specs.Deep as deep
 use Rattle.uc_hand_laws.specs.Deep.{deep_in}
 use Rattle.uc_hand_laws.proofs.Walk.{walk}
 use Rattle.uc_hand_laws.proofs.Lists.{Once, first_once, once_rest}
 use Rattle.uc_letting_laws.proofs.Insiders.{GoesOut, Kicks, Insiders, row_kicks, row_insiders}
-use Rattle.uc_letting_laws.proofs.NewObjects.{made_for, gives_away, is_fresh, new_for, both_hold, both_are, own_not_new, nobody, owner_more, owner_stays, new_unowned, new_made, fresh_stays, new_stays, gives_more, Makers, makers_stay, fresh_made, makers_given, makers_begin}
+use Rattle.uc_letting_laws.proofs.NewObjects.{made_for, gives_away, is_fresh, new_for, told_for, both_hold, both_are, own_not_told, told_away, told_new, told_other, told_stays, other_stays, not_here, nobody, owner_more, owner_stays, new_unowned, new_made, fresh_stays, gives_more, Makers, makers_stay, fresh_made, makers_given, makers_begin}
 use Rattle.uc_letting_laws.proofs.Owners.{own_same, own_given}
 use Rattle.uc_hand_laws.proofs.Places.{flipped, still}
 use Rattle.uc_hand_laws.proofs.Rows.{over_by}
@@ -172,13 +173,15 @@ some_found o (p ∷ ps) h = by (nat_eq p.0 o) (some_found o ps) h
     by true ih h = tt
     by false ih h = ih h
 
-found_engaged : (source : Source) (news : ℕ → Bool) (o : ℕ) (ps : List (ℕ × Members)) (m : Members) → EngagedHand source news ps → find o ps ≡ Some m → EngagedParked source news m.parked
+found_engaged : (source : Source) (news : Tests) (o : ℕ) (ps : List (ℕ × Members)) (m : Members) → EngagedHand source news ps → find o ps ≡ Some m → EngagedParked source (news (home.Object o)) m.parked
 found_engaged source news o [] m h e = cc
-found_engaged source news o (p ∷ ps) m h e = by (nat_eq p.0 o) e (found_engaged source news o ps m h.1)
+found_engaged source news o (p ∷ ps) m h e = by (nat_eq p.0 o) refl e (found_engaged source news o ps m h.1)
   where
-    by : (b : Bool) → (if b then Some p.1 else find o ps) ≡ Some m → (find o ps ≡ Some m → EngagedParked source news m.parked) → EngagedParked source news m.parked
-    by true g ih = let same : p.1 ≡ m = cc in subst (λ n. EngagedParked source news n.parked) same h.0
-    by false g ih = ih g
+    by : (b : Bool) → nat_eq p.0 o ≡ b → (if b then Some p.1 else find o ps) ≡ Some m → (find o ps ≡ Some m → EngagedParked source (news (home.Object o)) m.parked) → EngagedParked source (news (home.Object o)) m.parked
+    by true f g ih =
+        let same : p.1 ≡ m = cc in
+        subst (λ n. EngagedParked source (news (home.Object o)) n.parked) same (subst (λ k. EngagedParked source (news (home.Object k)) p.1.parked) (eqb-true p.0 o f) h.0)
+    by false f g ih = ih g
 
 -- rides
 
@@ -198,80 +201,85 @@ AsksAt own ks u ask.End = has ks own ≡ true
 AsksAt own ks u r = Unit {0}
 
 module _ (part : ℕ → Part) (source : Source) (entered : EnteredSource source) (inner : InnerSource part source) (steps : LawSteps) (own : ℕ) where
-  pub record RideOwes (news : ℕ → Bool) (ks : List ℕ) (r : Request) (u : State) : Type 0 where
+  pub record RideOwes (news : Tests) (ks : List ℕ) (r : Request) (u : State) : Type 0 where
     pub state : DeepAsk source news r u
     pub stands : StandsAsk part source own r u
     pub asks : AsksAt own ks u r
     pub unheld : Unheld r u.env
     pub apart : IsApart r u
+    pub behind : deep.DeepBehind r ks (deep_in u)
 
-  asks_at : (ks : List ℕ) (s : State) (r : Request) (u : State) → LetsGo r s.env → IsAt r s u → keys s.env.depths ≡ ks → s.env.own ≡ own → AsksAt own ks u r
-  asks_at ks s r u h i k e = by r h i
-    where
-      deep_at : (o : ℕ) → IsDeepInside o s.env → has ks o ≡ true
-      deep_at o h = ap (λ l. has l o) (sym k) ∙ found_some o (suc h.0) s.env.depths h.1
+  module _ (news : Tests) (mine : (h : Home) (k : Aspect) → news h k own ≡ false) (other : (h : Home) (q : ℕ) → (own ≡ q → ⊥) → (h ≡ home.Object q → ⊥) → news h Other q ≡ true) (away : (h : Home) (k : Aspect) (q : ℕ) → news h k q ≡ true → h ≡ home.Object q → ⊥) where
+    asks_at : (ks : List ℕ) (s : State) (r : Request) (u : State) → LetsGo news r s → IsAt r s u → keys s.env.depths ≡ ks → s.env.own ≡ own → AsksAt own ks u r
+    asks_at ks s r u h i k e = by r h i
+      where
+        deep_at : (o : ℕ) → IsDeepInside o s.env → has ks o ≡ true
+        deep_at o h = ap (λ l. has l o) (sym k) ∙ found_some o (suc h.0) s.env.depths h.1
 
-      or_at : (o : ℕ) → IsDeepInside o s.env ⊎ (is_some (find o u.env.hand) ≡ true) → (has ks o ≡ true) ⊎ (is_some (find o u.env.hand) ≡ true)
-      or_at o (inl h) = inl (deep_at o h)
-      or_at o (inr h) = inr h
+        or_at : (o : ℕ) → IsDeepInside o s.env ⊎ (is_some (find o u.env.hand) ≡ true) → (has ks o ≡ true) ⊎ (is_some (find o u.env.hand) ≡ true)
+        or_at o (inl h) = inl (deep_at o h)
+        or_at o (inr h) = inr h
 
-      by : (r : Request) → LetsGo r s.env → IsAt r s u → AsksAt own ks u r
-      by (ask.Made o) h i = deep_at o h
-      by (ask.Spawn o) h i = deep_at o h
-      by (ask.Leave o failed) h i = deep_at o h
-      by (ask.Gone o) h i = deep_at o h
-      by (ask.Accept o site mask) h i = deep_at o i
-      by (ask.Wait o c n) h i = deep_at o i
-      by (ask.SignalBlock o c) h i = deep_at o i
-      by (ask.Signal o c) h i = or_at o i
-      by (ask.Empty o c) h i = or_at o i
-      by (ask.Front o c) h i = or_at o i
-      by ask.End h i = subst (λ o. has ks o ≡ true) e (deep_at s.env.own h)
-      by r h i = tt
+        by : (r : Request) → LetsGo news r s → IsAt r s u → AsksAt own ks u r
+        by (ask.Made o) h i = deep_at o h
+        by (ask.Spawn o) h i = deep_at o h
+        by (ask.Leave o failed) h i = deep_at o h
+        by (ask.Gone o) h i = deep_at o h.0
+        by (ask.Accept o site mask) h i = deep_at o i
+        by (ask.Wait o c n) h i = deep_at o i
+        by (ask.SignalBlock o c) h i = deep_at o i
+        by (ask.Signal o c) h i = or_at o i
+        by (ask.Empty o c) h i = or_at o i
+        by (ask.Front o c) h i = or_at o i
+        by ask.End h i = subst (λ o. has ks o ≡ true) e (deep_at s.env.own h)
+        by r h i = tt
 
-  -- whoever gives up the building of an object is not at home there; whoever has destroyed one is not by the premise
-  apart_at : (s : State) (r : Request) (t : State) → AskAlone s r t → IsAt r s t → IsApart r t
-  apart_at s (ask.Gone o) t k i = by s.run.control refl
-    where
-      by : (l : List piece.Todo) → s.run.control ≡ l → t.env.exec.home ≡ home.Object o → ⊥
-      by (piece.GiveUpNow ∷ l) e h = i (subst GivesUp (sym e) tt) h
-      by [] e h = k (λ g. subst GivesUp e g) h
-      by (p ∷ l) e h = k (λ g. subst GivesUp e g) h
-  apart_at s r t k i = tt
+    -- whoever takes an object out is not at home there: it is new, or another
+    apart_at : (s : State) (r : Request) (t : State) → LetsGo news r s → t.env.exec ≡ s.env.exec → IsApart r t
+    apart_at s (ask.Gone o) t k e = λ h. away s.env.exec.home k.1.0 o k.1.1 (ap (λ (n : Exec). n.home) (sym e) ∙ h)
+    apart_at s r t k e = tt
 
-  module _ (news : ℕ → Bool) (mine : news own ≡ false) where
+    -- all objects are others but the own one and that in which the running execution is at home
+    pub tells : (s : State) → StandsState part source own s → TellsOthers news s
+    tells s v q n k = other s.env.exec.home q (λ e. n (v.own ∙ e)) k
+
     -- nothing else is owed to what is let go of
     pub sole : (s : State) → Alone source s → Deep source news s → StandsState part source own s → Sole source s
-    sole s f d v = law_alone source news s d (ap news v.own ∙ mine) f
+    sole s f d v =
+        law_alone source news s d (λ k. ap (news s.env.exec.home k) v.own ∙ mine s.env.exec.home k) f
+
+    deeper : (s : State) → Alone source s → Deep source news s → StandsState part source own s → owing.DeepStep source news s (quiet.quiet source s)
+    deeper s f d v = steps.steps source entered news s (tells s v) d (law_fair part source own s v (sole s f d v))
 
     pub ride_owes : (ks : List ℕ) (s : State) (q : ℕ) (u : State) (k : ℕ) (a : Asked) (r : Rides source s q u k a) → RideAlone source s q u k a r → Deep source news s → StandsState part source own s → deep_in s ≡ ks → RideOwes news ks a.request u
-    ride_owes ks _ _ _ _ _ rides.slices f d v e = record { state = d; stands = v; asks = tt; unheld = tt; apart = tt }
+    ride_owes ks _ _ _ _ _ rides.slices f d v e = record { state = d; stands = v; asks = tt; unheld = tt; apart = tt; behind = e }
     ride_owes ks _ _ _ _ _ (rides.goes_on {s} {t} {u} {q} {k} {a} g r) f d v e =
-        ride_owes ks t (suc q) u k a r f.1 (subst (owing.DeepStep source news s.env) g (steps.steps source entered news s d (law_fair part source own s v (sole s f.0 d v)))) (subst (StandsStep part source own s) g (inner_steps.steps part source inner own s v)) (subst (deep.DeepStep ks) g (walk ks source s e))
+        ride_owes ks t (suc q) u k a r f.1 (subst (owing.DeepStep source news s) g (deeper s f.0 d v)) (subst (StandsStep part source own s) g (inner_steps.steps part source inner own s v)) (subst (deep.DeepStep ks) g (walk ks source s e))
     ride_owes ks _ _ _ _ _ (rides.ticks {s} {t} {u} {q} {k} {a} g r) f d v e =
-        ride_owes ks t q u k a r f.1 (subst (owing.DeepStep source news s.env) g (steps.steps source entered news s d (law_fair part source own s v (sole s f.0 d v)))) (subst (StandsStep part source own s) g (inner_steps.steps part source inner own s v)) (subst (deep.DeepStep ks) g (walk ks source s e))
+        ride_owes ks t q u k a r f.1 (subst (owing.DeepStep source news s) g (deeper s f.0 d v)) (subst (StandsStep part source own s) g (inner_steps.steps part source inner own s v)) (subst (deep.DeepStep ks) g (walk ks source s e))
     ride_owes ks _ _ _ _ _ (rides.asks {s} {t} {q} {r} g) f d v e =
-        let x : owing.DeepAsking source news s.env r t = subst (owing.DeepStep source news s.env) g (steps.steps source entered news s d (law_fair part source own s v (sole s f.0 d v))) in
+        let x : owing.DeepAsking source news s r t = subst (owing.DeepStep source news s) g (deeper s f d v) in
         let y : StandsAsking part source own s r t = subst (StandsStep part source own s) g (inner_steps.steps part source inner own s v) in
-        record { state = x.state; stands = y.state; asks = asks_at ks s r t x.inside (law_is_inside part source inner own news s v d r t g) e v.own; unheld = x.unheld; apart = apart_at s r t f.1 (law_is_inside part source inner own news s v d r t g) }
+        record { state = x.state; stands = y.state; asks = asks_at ks s r t x.inside (law_is_inside part source inner own news s v d r t g) e v.own; unheld = x.unheld; apart = apart_at s r t x.inside y.exec; behind = subst (deep.DeepStep ks) g (walk ks source s e) }
 
 -- tasks at rest, behind what they asked last
 
-abbrev Rests : (source : Source) (news : ℕ → Bool) → Request → State → Type 0
+abbrev Rests : (source : Source) (news : Tests) → Request → State → Type 0
 Rests source news ask.End s = ⊥
 Rests source news (ask.Fault n) s = ⊥
 Rests source news r s = DeepAsk source news r s
 
--- an object that was asked for is of no task yet
-abbrev Brings : ℕ → Journal → Request → Type 0
-Brings u j (ask.Make c) = (o : ℕ) → just_made u j ≡ o ∷ [] → is_fresh u j o ≡ true
-Brings u j r = Unit {0}
+-- an object that was called is not where the execution is at home that called it, and one that was asked for is of no task yet
+abbrev Brings : ℕ → Journal → Request → Home → Type 0
+Brings u j (ask.Call o m) h = h ≡ home.Object o → ⊥
+Brings u j (ask.Make c) h = (o : ℕ) → just_made u j ≡ o ∷ [] → is_fresh u j o ≡ true
+Brings u j r h = Unit {0}
 
 pub record OwingTask (source : Source) (j : Journal) (u : ℕ) (s : State) : Type 0 where
   pub request : Request
   pub form : asked_form u j ≡ form_of_request request
-  pub rests : Rests source (new_for u j) request s
-  pub brings : Brings u j request
+  pub rests : Rests source (told_for u j) request s
+  pub brings : Brings u j request s.env.exec.home
 
 pub record OwingWorld (source : Source) (j : Journal) (w : World) : Type 0 where
   pub tasks : (u : ℕ) → u < task_count j → has_ended u j ≡ false → OwingTask source j u (drawn j w u)
@@ -280,12 +288,12 @@ pub record OwingWorld (source : Source) (j : Journal) (w : World) : Type 0 where
   pub free : (o : ℕ) → inside o j ≡ [] → FreeMembers source (w.homes o)
 
 module _ (source : Source) (drawing : LawDrawn) where
-  rests_drawn : (news : ℕ → Bool) (r : Request) (hand : List (ℕ × Members)) (s : State) → Rests source news r s → Redrawn source s.env.hand hand → Rests source news r (with_hand hand s)
+  rests_drawn : (news : Tests) (r : Request) (hand : List (ℕ × Members)) (s : State) → Rests source news r s → Redrawn source s.env.hand hand → Rests source news r (with_hand hand s)
   rests_drawn news ask.End hand s h d = absurd h
   rests_drawn news (ask.Fault n) hand s h d = absurd h
   rests_drawn news r hand s h d = drawing.asked source news r hand s h d
 
-  rests_again : (news now : ℕ → Bool) → ((q : ℕ) → news q ≡ true → now q ≡ true) → (r : Request) (s : State) → Rests source news r s → Rests source now r s
+  rests_again : (news now : Tests) → ((h : Home) (k : Aspect) (q : ℕ) → news h k q ≡ true → now h k q ≡ true) → (r : Request) (s : State) → Rests source news r s → Rests source now r s
   rests_again news now f ask.End s h = absurd h
   rests_again news now f (ask.Fault n) s h = absurd h
   rests_again news now f r s h = law_renewed.asked source news now f r s h
@@ -308,8 +316,8 @@ module _ (part : ℕ → Part) (source : Source) (entered : EnteredSource source
     mine = x.tasks t (known source input opts range r going deeps p t n s asked d) (law_alive opts source.sites input j r.kernel going p t d.runs)
 
     -- its answer is one to what it asked
-    suits : (q : Request) → asked_form t j ≡ form_of_request q → Rests source (new_for t j) q (drawn j w t) → Brings t j q → DeepAsk source (new_for t j) q (drawn j w t) × Suits (new_for t j) q d.given (drawn j w t)
-    suits (ask.Call o m) f h n = (h, goes f)
+    suits : (q : Request) → asked_form t j ≡ form_of_request q → Rests source (told_for t j) q (drawn j w t) → Brings t j q (drawn j w t).env.exec.home → DeepAsk source (told_for t j) q (drawn j w t) × Suits (told_for t j) q d.given (drawn j w t)
+    suits (ask.Call o m) f h n = (h, (goes f, n))
       where
         goes : asked_form t j ≡ JustGo → d.given ≡ answer.Go
         goes f = just_go d.given (subst (λ (y : Form). IsForm y d.given) f (law_suiting opts source.sites input j r.kernel going t d.given d.told))
@@ -319,15 +327,24 @@ module _ (part : ℕ → Part) (source : Source) (entered : EnteredSource source
         goes f = just_go d.given (subst (λ (y : Form). IsForm y d.given) f (law_suiting opts source.sites input j r.kernel going t d.given d.told))
     suits (ask.Make c) f h g = (h, makes_known (r.rests.tasks t).control)
       where
-        makes_known : (plain (w.tasks t).run.control ≡ true) ⊎ ((o : ℕ) × (just_made t j ≡ o ∷ [])) → (o : ℕ) × (d.given ≡ answer.Object o) × (find o (w.tasks t).env.depths ≡ None) × (new_for t j o ≡ true)
+        makes_known : (plain (w.tasks t).run.control ≡ true) ⊎ ((o : ℕ) × (just_made t j ≡ o ∷ [])) → (o : ℕ) × (d.given ≡ answer.Object o) × (find o (w.tasks t).env.depths ≡ None) × ((k : Aspect) → told_for t j (w.tasks t).env.exec.home k o ≡ true)
         makes_known (inl g) = absurd (no_binding (w.tasks t).run.control g h.0)
         makes_known (inr y) =
             let new = law_new opts source.sites input j r.kernel going t y.0 y.1 in
             let told : Some d.given ≡ Some (answer.Object y.0) = sym d.told ∙ new.answer in
             let here = deeps.tasks t (known source input opts range r going deeps p t n s asked d) (law_alive opts source.sites input j r.kernel going p t d.runs) in
             let none : find y.0 (w.tasks t).env.depths ≡ None = found_none y.0 (w.tasks t).env.depths (here.new y.0 y.1) in
-            (y.0, cc told, none, both_are (is_fresh t j y.0) (not (own_object t j == y.0)) (g y.0 y.1) (ap not (apart y.0 none)))
+            let is : d.given ≡ answer.Object y.0 = cc told in
+            (y.0, is, none, tells_made y.0 (both_are (is_fresh t j y.0) (not (own_object t j == y.0)) (g y.0 y.1) (ap not (apart y.0 none))) (apart y.0 none) (new_elsewhere y.0 is))
           where
+            new_elsewhere : (o : ℕ) → d.given ≡ answer.Object o → (w.tasks t).env.exec.home ≡ home.Object o → ⊥
+            new_elsewhere o e =
+                new_away part source inner entered.ends input opts range r going deeps z p t n s asked d o h.0 (z.tasks t (known source input opts range r going deeps p t n s asked d) (law_alive opts source.sites input j r.kernel going p t d.runs)).stands.here e
+
+            tells_made : (o : ℕ) → new_for t j o ≡ true → (own_object t j == o) ≡ false → ((w.tasks t).env.exec.home ≡ home.Object o → ⊥) → (k : Aspect) → told_for t j (w.tasks t).env.exec.home k o ≡ true
+            tells_made o n m i New = both_are (new_for t j o) _ n (not_here (w.tasks t).env.exec.home o i)
+            tells_made o n m i Other = both_are (not (own_object t j == o)) _ (ap not m) (not_here (w.tasks t).env.exec.home o i)
+
             -- the own object is one in which the task is
             own : own_object t j ≡ (w.tasks t).env.own
             own = sym (z.tasks t (known source input opts range r going deeps p t n s asked d) (law_alive opts source.sites input j r.kernel going p t d.runs)).stands.own
@@ -342,15 +359,15 @@ module _ (part : ℕ → Part) (source : Source) (entered : EnteredSource source
     suits (ask.Fault k) f h n = absurd h
     suits q f h n = (h, tt)
 
-    pub start : Deep source (new_for t j) (answered source d.given (drawn j w t))
+    pub start : Deep source (told_for t j) (answered source d.given (drawn j w t))
     start =
         let y = suits mine.request mine.form mine.rests mine.brings in
-        steps.told source (new_for t j) mine.request d.given (drawn j w t) y.0 y.1
+        steps.told source (told_for t j) mine.request d.given (drawn j w t) y.0 y.1
 
     module _ (fair : RideAlone source _ _ s n asked d.rides) where
-      owes : RideOwes part source entered inner steps (own_object t j) (new_for t j) (deep_in (answered source d.given (drawn j w t))) asked.request s
+      owes : RideOwes part source entered inner steps (own_object t j) (told_for t j) (deep_in (answered source d.given (drawn j w t))) asked.request s
       owes =
-          ride_owes part source entered inner steps (own_object t j) (new_for t j) (own_not_new t j) (deep_in (answered source d.given (drawn j w t))) _ _ s n asked d.rides fair start (standing_start part source inner entered.ends input opts range r going deeps z p t n s asked d) refl
+          ride_owes part source entered inner steps (own_object t j) (told_for t j) (own_not_told t j) (told_other t j) (told_away t j) (deep_in (answered source d.given (drawn j w t))) _ _ s n asked d.rides fair start (standing_start part source inner entered.ends input opts range r going deeps z p t n s asked d) refl
 
       asks_in_hand : AsksInHand (own_object t j) (keys s.env.hand) asked.request
       asks_in_hand = by asked.request owes.asks
@@ -379,10 +396,18 @@ module _ (part : ℕ → Part) (source : Source) (entered : EnteredSource source
       owners_fit : OwnersFit j asked.request
       owners_fit = by asked.request owes.state
         where
-          by : (q : Request) → DeepAsk source (new_for t j) q s → OwnersFit j q
-          by (ask.Spawn o) h = new_unowned t j o h.1
+          by : (q : Request) → DeepAsk source (told_for t j) q s → OwnersFit j q
+          by (ask.Spawn o) h = new_unowned t j o (told_new t j s.env.exec.home o h.1)
           by (ask.Raise o event a b) h = x.single o
           by q h = tt
+
+      -- what it calls is not where it is at home: that is in hand
+      not_called : (o m : ℕ) → asked.request ≡ ask.Call o m → s.env.exec.home ≡ home.Object o → ⊥
+      not_called o m e i =
+          let b : deep.DeepBehind (ask.Call o m) (deep_in (answered source d.given (drawn j w t))) (deep_in s) = subst (λ q. deep.DeepBehind q (deep_in (answered source d.given (drawn j w t))) (deep_in s)) e owes.behind in
+          let v : StandsAsk part source (own_object t j) (ask.Call o m) s = subst (λ q. StandsAsk part source (own_object t j) q s) e owes.stands in
+          let here : is_some (find o s.env.hand) ≡ true = subst (λ (k : Home). IsHere s.env.own s.env.hand k) i v.here in
+          no_both (has (keys s.env.hand) o) (found_has o s.env.hand here) (sym (deep_in_hand source input opts range r going deeps p t n s asked d o) ∙ b.0)
 
       leaves_free : LeavesFree (own_object t j) asked.request s
       leaves_free = by asked.request owes.stands owes.apart
@@ -438,7 +463,7 @@ module _ (part : ℕ → Part) (source : Source) (entered : EnteredSource source
             or_false_is false h = h
 
         spawned_new : (o : ℕ) → asked.request ≡ ask.Spawn o → new_for t j o ≡ true
-        spawned_new o e = (subst (λ q. DeepAsk source (new_for t j) q s) e owes.state).1
+        spawned_new o e = told_new t j s.env.exec.home o (subst (λ q. DeepAsk source (told_for t j) q s) e owes.state).1
 
         -- not what another task has made
         kept_of : (u : ℕ) → (u == t) ≡ false → (o : ℕ) → made_for u o j ≡ true → gives_away o (act opts source.sites input j p t n asked) ≡ false
@@ -456,17 +481,19 @@ module _ (part : ℕ → Part) (source : Source) (entered : EnteredSource source
                 let l = subst (λ l. length (owner o (j ++ l)) ≤ length (owner o j) + 1) (sym b.entries) (owner_more o j (asking_entry kind.Spawn p t (cost n asked.line) b.object (pos (task_count j)) (pos 0))) in
                 omega (arith, none, l)
 
-        new_other : (u : ℕ) → (u == t) ≡ false → spawns (act opts source.sites input j p t n asked) u ≡ false → (o : ℕ) → new_for u j o ≡ true → new_for u (j ++ act opts source.sites input j p t n asked) o ≡ true
-        new_other u h born o g = new_stays u o j a (kept_of u h o (new_made u j o g)) (own_same t (GoesOut t j asked.request) u j a kicks born) g
+        told_others : (u : ℕ) → (u == t) ≡ false → spawns (act opts source.sites input j p t n asked) u ≡ false → (h : Home) (k : Aspect) (o : ℕ) → told_for u j h k o ≡ true → told_for u (j ++ act opts source.sites input j p t n asked) h k o ≡ true
+        told_others u n born h New o g =
+            told_stays u o j a h New (kept_of u n o (new_made u j o (told_new u j h o g))) (own_same t (GoesOut t j asked.request) u j a kicks born) g
+        told_others u n born h Other o g = other_stays u o j a h (own_same t (GoesOut t j asked.request) u j a kicks born) g
 
         born_not : spawns (act opts source.sites input j p t n asked) t ≡ false
         born_not = spawns_none j a t lawful (known source input opts range r going deeps p t n s asked d)
 
-        engaged_hand : EngagedHand source (new_for t j) s.env.hand
+        engaged_hand : EngagedHand source (told_for t j) s.env.hand
         engaged_hand = by asked.request refl owes.state
           where
-            by : (q : Request) → asked.request ≡ q → DeepAsk source (new_for t j) q s → EngagedHand source (new_for t j) s.env.hand
-            by (ask.Call o c) e h = h.env.hand
+            by : (q : Request) → asked.request ≡ q → DeepAsk source (told_for t j) q s → EngagedHand source (told_for t j) s.env.hand
+            by (ask.Call o c) e h = (h (not_called o c e)).env.hand
             by (ask.Make c) e h = h.1.env.hand
             by ask.Slice e h = h.env.hand
             by (ask.Spawn o) e h = h.0.deep.env.hand
@@ -493,7 +520,7 @@ module _ (part : ℕ → Part) (source : Source) (entered : EnteredSource source
             by : (y : Option Members) → find o s.env.hand ≡ y → IsThere y → FreeMembers source (or_else y (w.homes o))
             by None e g = absurd g
             by (Some k) e g =
-                freeing source (new_for t j) k (found_engaged source (new_for t j) o s.env.hand k engaged_hand e) (ap has_engaged (sym e) ∙ or_second _ (has_engaged (find o s.env.hand)) u)
+                freeing source (told_for t j (home.Object o)) k (found_engaged source (told_for t j) o s.env.hand k engaged_hand e) (ap has_engaged (sym e) ∙ or_second _ (has_engaged (find o s.env.hand)) u)
 
         at_end : (q : Request) → q ≡ ask.End → StandsAsk part source (own_object t j) q s → is_held_up (own_object t j) s.env ≡ false
         at_end q e h = (subst (λ y. StandsAsk part source (own_object t j) y s) e h).1
@@ -578,31 +605,32 @@ module _ (part : ℕ → Part) (source : Source) (entered : EnteredSource source
             by (Some v) e g = cc
 
         -- with what is new behind the act
-        to_rests : (q : Request) → asked.request ≡ q → (q ≡ ask.End → ⊥) → ((k : ℕ) → q ≡ ask.Fault k → ⊥) → DeepAsk source (new_for t j) q s → Rests source (new_for t (j ++ act opts source.sites input j p t n asked)) (settled q) s
+        to_rests : (q : Request) → asked.request ≡ q → (q ≡ ask.End → ⊥) → ((k : ℕ) → q ≡ ask.Fault k → ⊥) → DeepAsk source (told_for t j) q s → Rests source (told_for t (j ++ act opts source.sites input j p t n asked)) (settled q) s
         to_rests q k e g h = by q k e g h
           where
-            still : (v : ℕ) → gives_away v (act opts source.sites input j p t n asked) ≡ false → new_for t j v ≡ true → new_for t (j ++ act opts source.sites input j p t n asked) v ≡ true
-            still v w n = new_stays t v j a w (own_same t (GoesOut t j asked.request) t j a kicks born_not) n
+            still : (h : Home) (i : Aspect) (v : ℕ) → gives_away v (act opts source.sites input j p t n asked) ≡ false → told_for t j h i v ≡ true → told_for t (j ++ act opts source.sites input j p t n asked) h i v ≡ true
+            still h i v w n = told_stays t v j a h i w (own_same t (GoesOut t j asked.request) t j a kicks born_not) n
 
             -- unless it spawns something
-            unspawned : ((v : ℕ) → asked.request ≡ ask.Spawn v → ⊥) → (v : ℕ) → new_for t j v ≡ true → new_for t (j ++ act opts source.sites input j p t n asked) v ≡ true
-            unspawned k v n = still v (not_true (gives_away v a) (λ w. k v (given_away v w))) n
+            unspawned : ((v : ℕ) → asked.request ≡ ask.Spawn v → ⊥) → (h : Home) (i : Aspect) (v : ℕ) → told_for t j h i v ≡ true → told_for t (j ++ act opts source.sites input j p t n asked) h i v ≡ true
+            unspawned k h i v n = still h i v (not_true (gives_away v a) (λ w. k v (given_away v w))) n
 
-            or_spawned : (o : ℕ) → asked.request ≡ ask.Spawn o → (v : ℕ) (b : Bool) → gives_away v (act opts source.sites input j p t n asked) ≡ b → new_for t j v ≡ true → (o ≡ v) ⊎ (new_for t (j ++ act opts source.sites input j p t n asked) v ≡ true)
-            or_spawned o k v true w n = let same = sym k ∙ given_away v w in inl (cc same)
-            or_spawned o k v false w n = inr (still v w n)
+            or_spawned : (o : ℕ) → asked.request ≡ ask.Spawn o → (h : Home) (i : Aspect) (v : ℕ) (b : Bool) → gives_away v (act opts source.sites input j p t n asked) ≡ b → told_for t j h i v ≡ true → (o ≡ v) ⊎ (told_for t (j ++ act opts source.sites input j p t n asked) h i v ≡ true)
+            or_spawned o k h i v true w n = let same = sym k ∙ given_away v w in inl (cc same)
+            or_spawned o k h i v false w n = inr (still h i v w n)
 
             other : (q : Request) → asked.request ≡ q → ((v : ℕ) → q ≡ ask.Spawn v → ⊥) → (v : ℕ) → asked.request ≡ ask.Spawn v → ⊥
             other q k n v e = n v (sym k ∙ e)
 
-            by : (q : Request) → asked.request ≡ q → (q ≡ ask.End → ⊥) → ((k : ℕ) → q ≡ ask.Fault k → ⊥) → DeepAsk source (new_for t j) q s → Rests source (new_for t (j ++ act opts source.sites input j p t n asked)) (settled q) s
+            by : (q : Request) → asked.request ≡ q → (q ≡ ask.End → ⊥) → ((k : ℕ) → q ≡ ask.Fault k → ⊥) → DeepAsk source (told_for t j) q s → Rests source (told_for t (j ++ act opts source.sites input j p t n asked)) (settled q) s
             by ask.End k e g h = absurd (e refl)
             by (ask.Fault v) k e g h = absurd (g v refl)
-            by (ask.Spawn o) k e g h = law_renewed.spawned source (new_for t j) (new_for t (j ++ a)) o (λ v n. or_spawned o k v (gives_away v a) refl n) s h
-            by q k e g h = law_renewed.asked source (new_for t j) (new_for t (j ++ a)) (unspawned (other q k (λ v w. cc w))) q s h
+            by (ask.Spawn o) k e g h = law_renewed.spawned source (told_for t j) (told_for t (j ++ a)) o (λ i l v n. or_spawned o k i l v (gives_away v a) refl n) s h
+            by q k e g h = law_renewed.asked source (told_for t j) (told_for t (j ++ a)) (unspawned (other q k (λ v w. cc w))) q s h
 
         -- an object that is asked for
-        to_brings : (q : Request) → asked.request ≡ q → Brings t (j ++ act opts source.sites input j p t n asked) (settled q)
+        to_brings : (q : Request) → asked.request ≡ q → Brings t (j ++ act opts source.sites input j p t n asked) (settled q) s.env.exec.home
+        to_brings (ask.Call o m) k = not_called o m k
         to_brings (ask.Make c) k = λ o h. by o h (nat_lt (object_count j) OBJECTS) (is ∙ ap (row opts source.sites input j p t (cost n asked.line) asked.line) k)
           where
             here : (o : ℕ) → just_made t (j ++ act opts source.sites input j p t n asked) ≡ o ∷ [] → object_count j ≡ o
@@ -623,29 +651,30 @@ module _ (part : ℕ → Part) (source : Source) (entered : EnteredSource source
             record {
               request = settled asked.request;
               form = asking.own ∙ sym (settled_form asked.request);
-              rests = rests_drawn source drawing (new_for t (j ++ a)) (settled asked.request) (hand_of (held t (j ++ a)) after.homes) s (to_rests asked.request refl k.no_end k.no_fault owes.state) (redrawn_to t s.env.hand own_agrees);
+              rests = rests_drawn source drawing (told_for t (j ++ a)) (settled asked.request) (hand_of (held t (j ++ a)) after.homes) s (to_rests asked.request refl k.no_end k.no_fault owes.state) (redrawn_to t s.env.hand own_agrees);
               brings = to_brings asked.request refl;
             }
 
-        brings_other : (u : ℕ) → (u == t) ≡ false → (q : Request) → Brings u j q → Brings u (j ++ act opts source.sites input j p t n asked) q
-        brings_other u h (ask.Make c) n = λ o e.
+        brings_other : (u : ℕ) → (u == t) ≡ false → (q : Request) (i : Home) → Brings u j q i → Brings u (j ++ act opts source.sites input j p t n asked) q i
+        brings_other u h (ask.Call o m) i n = n
+        brings_other u h (ask.Make c) i n = λ o e.
             let g = n o (sym (made.others u h) ∙ e) in
             fresh_stays u o j a (kept_of u h o (both_hold (made_for u o j) _ g).0) g
-        brings_other u h q n = tt
+        brings_other u h q i n = tt
 
         other_after : (u : ℕ) → (u == t) ≡ false → spawns (act opts source.sites input j p t n asked) u ≡ false → OwingTask source j u (drawn j w u) → OwingTask source (j ++ act opts source.sites input j p t n asked) u (with_hand (hand_of (held u (j ++ act opts source.sites input j p t n asked)) (world_after source (act opts source.sites input j p t n asked) w t s).homes) (w.tasks u))
         other_after u h born y = record {
           request = y.request;
           form = asking.others u h ∙ y.form;
-          rests = rests_drawn source drawing (new_for u (j ++ a)) y.request (hand_of (held u (j ++ a)) after.homes) (drawn j w u) (rests_again source drawing (new_for u j) (new_for u (j ++ a)) (new_other u h born) y.request (drawn j w u) y.rests) (redrawn_to u (hand_of (held u j) w.homes) (other_agrees u h));
-          brings = brings_other u h y.request y.brings;
+          rests = rests_drawn source drawing (told_for u (j ++ a)) y.request (hand_of (held u (j ++ a)) after.homes) (drawn j w u) (rests_again source drawing (told_for u j) (told_for u (j ++ a)) (told_others u h born) y.request (drawn j w u) y.rests) (redrawn_to u (hand_of (held u j) w.homes) (other_agrees u h));
+          brings = brings_other u h y.request _ y.brings;
         }
 
-        child_after : (u : ℕ) → (u == t) ≡ false → task_count j ≤ u → Deep source (new_for u (j ++ act opts source.sites input j p t n asked)) (child_of source (own_object u (act opts source.sites input j p t n asked)) s) → OwingTask source (j ++ act opts source.sites input j p t n asked) u (with_hand (hand_of (held u (j ++ act opts source.sites input j p t n asked)) (world_after source (act opts source.sites input j p t n asked) w t s).homes) (child_of source (own_object u (act opts source.sites input j p t n asked)) s))
+        child_after : (u : ℕ) → (u == t) ≡ false → task_count j ≤ u → Deep source (told_for u (j ++ act opts source.sites input j p t n asked)) (child_of source (own_object u (act opts source.sites input j p t n asked)) s) → OwingTask source (j ++ act opts source.sites input j p t n asked) u (with_hand (hand_of (held u (j ++ act opts source.sites input j p t n asked)) (world_after source (act opts source.sites input j p t n asked) w t s).homes) (child_of source (own_object u (act opts source.sites input j p t n asked)) s))
         child_after u h le c = record {
           request = ask.Slice;
           form = asking.others u h ∙ late_form;
-          rests = drawing.asked source (new_for u (j ++ a)) ask.Slice (hand_of (held u (j ++ a)) after.homes) (child_of source (own_object u a) s) c (redrawn_to u [] (λ o e k g. no_both (has (held u j) o) e (nowhere o)));
+          rests = drawing.asked source (told_for u (j ++ a)) ask.Slice (hand_of (held u (j ++ a)) after.homes) (child_of source (own_object u a) s) c (redrawn_to u [] (λ o e k g. no_both (has (held u j) o) e (nowhere o)));
           brings = tt;
         }
           where
@@ -669,10 +698,10 @@ module _ (part : ℕ → Part) (source : Source) (entered : EnteredSource source
             not_late e =
                 ⊎_elim (λ k. k) (λ le. no_both (spawns a u) (spawned_true source input opts range r going deeps p t n s asked d f on u le lt) e) (cases_lt u (task_count j))
 
-            child_plain : task_count j ≤ u → Deep source (new_for u (j ++ act opts source.sites input j p t n asked)) (child_of source (own_object u a) s)
+            child_plain : task_count j ≤ u → Deep source (told_for u (j ++ act opts source.sites input j p t n asked)) (child_of source (own_object u a) s)
             child_plain le =
                 let b = spawned_by source input opts range r going deeps p t n s asked d f on u le lt in
-                steps.born source entered (new_for t j) (new_for u (j ++ a)) b.object (own_object u a) s (subst (λ q. DeepAsk source (new_for t j) q s) b.request owes.state)
+                steps.born source entered (told_for t j) (told_for u (j ++ a)) b.object (own_object u a) s (subst (λ q. DeepAsk source (told_for t j) q s) b.request owes.state)
 
             other : (u == t) ≡ false → (b : Bool) → spawns a u ≡ b → at_rest (if b then child_of source (own_object u a) s else w.tasks u)
             other h true e =
@@ -685,7 +714,7 @@ module _ (part : ℕ → Part) (source : Source) (entered : EnteredSource source
                 subst (λ v. OwingTask source (j ++ a) v (with_hand (hand_of (held v (j ++ a)) after.homes) s)) (sym (eqb-true u t h)) (own_after (ap (λ v. has_ended v (j ++ a)) (sym (eqb-true u t h)) ∙ alive))
             by false h = other h (spawns a u) refl
 
-        binds_by : (q : Request) → DeepAsk source (new_for t j) q s → Binds q s.run.control
+        binds_by : (q : Request) → DeepAsk source (told_for t j) q s → Binds q s.run.control
         binds_by (ask.Make c) h = h.0
         binds_by q h = tt
 
@@ -706,17 +735,18 @@ module _ (part : ℕ → Part) (source : Source) (entered : EnteredSource source
             record {
               request = y.request;
               form = form_push u j (dispatch p t) ∙ y.form;
-              rests = rests_again source drawing (new_for u j) (new_for u (j ++ dispatch p t ∷ [])) (λ q. new_stays u q j (dispatch p t ∷ []) refl (own_given u j (dispatch p t) refl)) y.request _ (subst (λ l. Rests source (new_for u j) y.request (with_hand (hand_of l w.homes) (w.tasks u))) (sym (d.objects u)) y.rests);
-              brings = given_brings u y.request y.brings;
+              rests = rests_again source drawing (told_for u j) (told_for u (j ++ dispatch p t ∷ [])) (λ h k q. told_stays u q j (dispatch p t ∷ []) h k refl (own_given u j (dispatch p t) refl)) y.request _ (subst (λ l. Rests source (told_for u j) y.request (with_hand (hand_of l w.homes) (w.tasks u))) (sym (d.objects u)) y.rests);
+              brings = given_brings u y.request _ y.brings;
             };
         makers = makers_given j p t x.makers;
         single = λ o. let same = ap length (owner_stays o j (dispatch p t ∷ []) refl) in let l = x.single o in omega (arith, same, l);
         free = λ o h. x.free o (sym (door_silent o j (dispatch p t) refl).inside ∙ h);
       }
     where
-      given_brings : (u : ℕ) (q : Request) → Brings u j q → Brings u (j ++ dispatch p t ∷ []) q
-      given_brings u (ask.Make c) n = λ o e. fresh_stays u o j (dispatch p t ∷ []) refl (n o (sym (just_made_given u p t j) ∙ e))
-      given_brings u q n = tt
+      given_brings : (u : ℕ) (q : Request) (i : Home) → Brings u j q i → Brings u (j ++ dispatch p t ∷ []) q i
+      given_brings u (ask.Call o m) i n = n
+      given_brings u (ask.Make c) i n = λ o e. fresh_stays u o j (dispatch p t ∷ []) refl (n o (sym (just_made_given u p t j) ∙ e))
+      given_brings u q i n = tt
 
   -- both go on to hold
   pub record Both (j : Journal) (w : World) : Type 0 where
@@ -746,7 +776,7 @@ module _ (part : ℕ → Part) (source : Source) (entered : EnteredSource source
       request = ask.Slice;
       form = begin_form u;
       brings = tt;
-      rests = drawing.asked source (new_for u (begin opts ∷ [])) ask.Slice (hand_of (held u (begin opts ∷ [])) first_home) (quiet.first_state (routine_of source source.main) 0) (steps.begins source entered (new_for u (begin opts ∷ [])) source.main 0 entered.main) (redrawn source [] (held u (begin opts ∷ [])) first_home ((law_held (begin opts ∷ [])).once u) (λ o h. either (Found source [] o) (o == 0) (Some (quiet.zeros 0)) None (inl free_none) tt));
+      rests = drawing.asked source (told_for u (begin opts ∷ [])) ask.Slice (hand_of (held u (begin opts ∷ [])) first_home) (quiet.first_state (routine_of source source.main) 0) (steps.begins source entered (told_for u (begin opts ∷ [])) source.main 0 entered.main) (redrawn source [] (held u (begin opts ∷ [])) first_home ((law_held (begin opts ∷ [])).once u) (λ o h. either (Found source [] o) (o == 0) (Some (quiet.zeros 0)) None (inl free_none) tt));
     };
     makers = makers_begin opts;
     single = λ o. let l = owner_more o [] (begin opts) in let none = ap length (nobody o) in omega (arith, none, l);

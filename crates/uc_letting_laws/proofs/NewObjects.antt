@@ -17,6 +17,11 @@ use Rattle.uc_acts.proofs.OpenLemmas.{or_false, any_push, still_open_push, still
 use Rattle.uc_acts.proofs.Rows.{Lawful}
 use Rattle.uc_acts.proofs.Seats.{at_push, at_other}
 use Rattle.uc_acts.proofs.SoundLemmas.{plus, self_test, objects_push, tasks_push}
+use Rattle.uc_machine.specs.declared.exec.Home.{Home}
+use Rattle.uc_machine.specs.declared.exec.Home.TheVariants as home
+use Rattle.uc_machine.specs.Executions.{home_eq}
+use Rattle.uc_depth_laws.specs.Entering.{Aspect, New, Other}
+use Rattle.uc_depth_laws.specs.Owing.{Tests}
 use Rattle.uc_letting_laws.proofs.Insiders.{Kicks, is_begin}
 
 -- whether an entry makes object o for task u
@@ -47,6 +52,11 @@ is_fresh u j o = made_for u o j && is_none (owner o j)
 abbrev pub new_for : ℕ → Journal → ℕ → Bool
 new_for u j o = is_fresh u j o && not (own_object u j == o)
 
+-- new is for task u what it has made, but where the execution is at home; another object is any but the own one and that
+abbrev pub told_for : ℕ → Journal → Tests
+told_for u j h New o = new_for u j o && not (home_eq h (home.Object o))
+told_for u j h Other o = not (own_object u j == o) && not (home_eq h (home.Object o))
+
 -- tests
 
 pub both_hold : (a b : Bool) → (a && b) ≡ true → (a ≡ true) × (b ≡ true)
@@ -76,6 +86,12 @@ none_is (t ∷ ts) h = cc
 is_none_of : (ts : List ℕ) → ts ≡ [] → is_none ts ≡ true
 is_none_of ts h = ap is_none h
 
+away : (h : Home) (o : ℕ) → not (home_eq h (home.Object o)) ≡ true → h ≡ home.Object o → ⊥
+away h o e i =
+    let here : not (home_eq (home.Object o) (home.Object o)) ≡ true = subst (λ k. not (home_eq k (home.Object o)) ≡ true) i e in
+    let same : not (home_eq (home.Object o) (home.Object o)) ≡ false = ap not (self_test o) in
+    cc
+
 -- the own object is not new
 pub own_not_new : (u : ℕ) (j : Journal) → new_for u j (own_object u j) ≡ false
 own_not_new u j =
@@ -84,6 +100,28 @@ own_not_new u j =
     and_false : (b : Bool) → (b && false) ≡ false
     and_false true = refl
     and_false false = refl
+
+-- nor is anything told of it
+pub own_not_told : (u : ℕ) (j : Journal) (h : Home) (k : Aspect) → told_for u j h k (own_object u j) ≡ false
+own_not_told u j h New = ap (λ b. b && not (home_eq h (home.Object (own_object u j)))) (own_not_new u j)
+own_not_told u j h Other = ap (λ b. not b && not (home_eq h (home.Object (own_object u j)))) (self_test (own_object u j))
+
+-- nor of that in which the execution is at home
+pub told_away : (u : ℕ) (j : Journal) (h : Home) (k : Aspect) (o : ℕ) → told_for u j h k o ≡ true → h ≡ home.Object o → ⊥
+told_away u j h New o e i = away h o (both_hold (new_for u j o) (not (home_eq h (home.Object o))) e).1 i
+told_away u j h Other o e i = away h o (both_hold (not (own_object u j == o)) (not (home_eq h (home.Object o))) e).1 i
+
+pub told_new : (u : ℕ) (j : Journal) (h : Home) (o : ℕ) → told_for u j h New o ≡ true → new_for u j o ≡ true
+told_new u j h o e = (both_hold (new_for u j o) (not (home_eq h (home.Object o))) e).0
+
+-- all others are told
+pub not_here : (h : Home) (o : ℕ) → (h ≡ home.Object o → ⊥) → not (home_eq h (home.Object o)) ≡ true
+not_here (home.Task t) o n = refl
+not_here (home.Object q) o n = ap not (ne_eqb q o (λ e. n (ap home.Object e)))
+
+pub told_other : (u : ℕ) (j : Journal) (h : Home) (o : ℕ) → (own_object u j ≡ o → ⊥) → (h ≡ home.Object o → ⊥) → told_for u j h Other o ≡ true
+told_other u j h o n k =
+    both_are (not (own_object u j == o)) (not (home_eq h (home.Object o))) (ap not (ne_eqb (own_object u j) o n)) (not_here h o k)
 
 pub new_unowned : (u : ℕ) (j : Journal) (o : ℕ) → new_for u j o ≡ true → owner o j ≡ []
 new_unowned u j o h =
@@ -149,6 +187,15 @@ pub new_stays : (u o : ℕ) (j : Journal) (a : List Entry) → gives_away o a �
 new_stays u o j a g same h =
     let k = both_hold (is_fresh u j o) (not (own_object u j == o)) h in
     both_are (is_fresh u (j ++ a) o) (not (own_object u (j ++ a) == o)) (fresh_stays u o j a g k.0) (ap (λ v. not (v == o)) same ∙ k.1)
+
+pub other_stays : (u o : ℕ) (j : Journal) (a : List Entry) (h : Home) → own_object u (j ++ a) ≡ own_object u j → told_for u j h Other o ≡ true → told_for u (j ++ a) h Other o ≡ true
+other_stays u o j a h same e = ap (λ v. not (v == o) && not (home_eq h (home.Object o))) same ∙ e
+
+pub told_stays : (u o : ℕ) (j : Journal) (a : List Entry) (h : Home) (k : Aspect) → gives_away o a ≡ false → own_object u (j ++ a) ≡ own_object u j → told_for u j h k o ≡ true → told_for u (j ++ a) h k o ≡ true
+told_stays u o j a h New g same e =
+    let b = both_hold (new_for u j o) (not (home_eq h (home.Object o))) e in
+    both_are (new_for u (j ++ a) o) (not (home_eq h (home.Object o))) (new_stays u o j a g same b.0) b.1
+told_stays u o j a h Other g same e = other_stays u o j a h same e
 
 -- one that gives it away spawns a task
 

@@ -166,19 +166,22 @@ module _ (part : ℕ → Part) (source : Source) (inner : InnerSource part sourc
     mine = x.tasks t (known source input opts range r going deeps p t n s asked d) (law_alive opts source.sites input j r.kernel going p t d.runs)
 
     -- a new object is not where the running execution is at home
-    elsewhere : (q : Request) (g : Answer) → Binds q (w.tasks t).run.control → StandsWith part source (own_object t j) (brings q) (drawn j w t) → d.given ≡ g → IsElsewhere q g (drawn j w t)
-    elsewhere (ask.Make c) (answer.Object o) b y e = λ h. by h (r.rests.tasks t).control
+    pub new_away : (o : ℕ) → IsBinding (w.tasks t).run.control → IsHere (drawn j w t).env.own (drawn j w t).env.hand (drawn j w t).env.exec.home → d.given ≡ answer.Object o → (drawn j w t).env.exec.home ≡ home.Object o → ⊥
+    new_away o b y e h = by (r.rests.tasks t).control
       where
-        by : (drawn j w t).env.exec.home ≡ home.Object o → (plain (w.tasks t).run.control ≡ true) ⊎ ((v : ℕ) × (just_made t j ≡ v ∷ [])) → ⊥
-        by h (inl g) = no_binding (w.tasks t).run.control g b
-        by h (inr v) =
+        by : (plain (w.tasks t).run.control ≡ true) ⊎ ((v : ℕ) × (just_made t j ≡ v ∷ [])) → ⊥
+        by (inl g) = no_binding (w.tasks t).run.control g b
+        by (inr v) =
             let new = law_new opts source.sites input j r.kernel going t v.0 v.1 in
             let told : Some (answer.Object o) ≡ Some (answer.Object v.0) = ap (λ (a : Answer). Some a) (sym e) ∙ (sym d.told ∙ new.answer) in
             let same : o ≡ v.0 = cc told in
-            let here : is_some (find o (drawn j w t).env.hand) ≡ true = subst (λ (k : Home). IsHere (drawn j w t).env.own (drawn j w t).env.hand k) h y.here in
+            let here : is_some (find o (drawn j w t).env.hand) ≡ true = subst (λ (k : Home). IsHere (drawn j w t).env.own (drawn j w t).env.hand k) h y in
             let home_there : is_some (w.homes o) ≡ true = (there_home (held t j) w.homes o here).1 in
             let none : w.homes o ≡ None = subst (λ k. w.homes k ≡ None) (sym same) (r.rests.new t v.0 v.1) in
             no_both (is_some (w.homes o)) home_there (ap (λ (k : Option Members). is_some k) none)
+
+    elsewhere : (q : Request) (g : Answer) → Binds q (w.tasks t).run.control → StandsWith part source (own_object t j) (brings q) (drawn j w t) → d.given ≡ g → IsElsewhere q g (drawn j w t)
+    elsewhere (ask.Make c) (answer.Object o) b y e = new_away o b y.here e
     elsewhere q g b y e = tt
 
     pub standing_start : StandsState part source (own_object t j) (answered source d.given (drawn j w t))

@@ -1,33 +1,23 @@
--- Runs in whose rides nothing else is owed to an object that is let go of however deep its task is, and whoever has destroyed an object is not
--- at home there.
-use Rattle.std.specs.Prelude.{◌≡◌, ℕ, suc, List}
+-- Runs in whose rides nothing else is owed to an object that is let go of however deep its task is, nor to one that is entered again to be destroyed.
+use Rattle.std.specs.Prelude.{ℕ, suc, List}
 use Rattle.uc_tree.specs.Source.{Source}
 use Rattle.uc_entry.specs.declared.entry.Entry.{Entry}
 use Rattle.uc_entry.specs.declared.entry.Options.{Options}
 use Rattle.uc_entry.specs.declared.request.Asked.{Asked}
-use Rattle.uc_entry.specs.declared.request.Request.{Request}
-use Rattle.uc_entry.specs.declared.request.Request.TheVariants as ask
 use Rattle.uc_acts.specs.Journal.{Journal}
-use Rattle.uc_machine.specs.declared.exec.Home.TheVariants as home
 use Rattle.uc_machine.specs.Quiet.{State}
 use Rattle.uc_machine.specs.Rides.{Rides, slices, goes_on, ticks, asks}
 use Rattle.uc_meaning.specs.Runs.{World, May, Runs, gives, no_room, acts, begun, more}
 use Rattle.uc_depth_laws.specs.Owing.{Alone}
-use Rattle.uc_inner_laws.specs.Standing.{GivesUp}
 
--- whoever takes out an object that it has destroyed, and not one whose building it gives up, is not at home there
-abbrev pub AskAlone : State → Request → State → Type 0
-AskAlone s (ask.Gone o) t = (GivesUp s.run.control → ⊥) → t.env.exec.home ≡ home.Object o → ⊥
-AskAlone s r t = Unit {0}
-
--- so is each step of a ride
+-- so it is at each step of a ride
 abbrev pub RideAlone : (source : Source) (s : State) (q : ℕ) (u : State) (k : ℕ) (a : Asked) → Rides source s q u k a → Type 0
 RideAlone source _ _ _ _ _ slices = Unit {0}
 RideAlone source _ _ _ _ _ (goes_on {s} {t} {u} {q} {k} {a} e r) = Alone source s × RideAlone source t (suc q) u k a r
 RideAlone source _ _ _ _ _ (ticks {s} {t} {u} {q} {k} {a} e r) = Alone source s × RideAlone source t q u k a r
-RideAlone source _ _ _ _ _ (asks {s} {t} {q} {r} e) = Alone source s × AskAlone s r t
+RideAlone source _ _ _ _ _ (asks {s} {t} {q} {r} e) = Alone source s
 
--- so is each ride of a run
+-- and in each ride of a run
 abbrev pub MayAlone : (source : Source) (opts : Options) (input : List ℕ) (j : Journal) (w : World) (a : List Entry) (x : World) → May source opts input j w a x → Type 0
 MayAlone source opts input j w _ _ (gives p t s h) = Unit {0}
 MayAlone source opts input j w _ _ (no_room p t s h) = Unit {0}

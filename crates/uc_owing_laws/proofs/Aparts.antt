@@ -1,5 +1,5 @@
 -- Nothing else is owed to what nobody else has at hand.
-use Rattle.std.proofs.Common.{◌≡◌, ℕ, ◌⊎◌, inl, inr, Bool, true, false, List, [], ◌∷◌, Option, Some, None, refl, arith}
+use Rattle.std.proofs.Common.{◌≡◌, ℕ, ◌+◌, ◌⊎◌, inl, inr, Bool, true, false, List, [], ◌∷◌, Option, Some, None, refl, sym, subst, arith}
 use Rattle.std.specs.Prelude.{nat_eq, if◌then◌else◌}
 use Rattle.std.proofs.lemmas.Bool.{eqb-true}
 use Rattle.uc_tree.specs.Source.{Source}
@@ -8,7 +8,6 @@ use Rattle.uc_machine.specs.declared.exec.Home.{Home}
 use Rattle.uc_machine.specs.declared.exec.Home.TheVariants as home
 use Rattle.uc_machine.specs.declared.exec.Stage.{Stage}
 use Rattle.uc_machine.specs.declared.exec.Stage.TheVariants.{Fresh, Started, Ended}
-use Rattle.uc_machine.specs.Executions.{others}
 use Rattle.uc_machine.specs.Switches.{without}
 use Rattle.uc_machine.specs.Monitors.{this_object}
 use Rattle.uc_machine.specs.Pieces as piece
@@ -17,28 +16,28 @@ use Rattle.uc_typing.specs.Typing.{Table}
 use Rattle.uc_life_laws.specs.Things.{Few}
 use Rattle.uc_life_laws.specs.LifeStates.{SlotBy, ParkedBy, HandBy, EnvBy}
 use Rattle.uc_life_laws.specs.Knowing.{KnowsBy, KnowsSlot, KnowsState}
-use Rattle.uc_depth_laws.specs.Owing.{Ex, owed_all, owed_at, owed_slot, owed_parked, owed_hand, owed_own, owed_resting, owed_elsewhere, owed_else, EngagedBy, EngagedSlot, EngagedParked, EngagedHand, Deep, AloneAt}
+use Rattle.uc_depth_laws.specs.Owing.{Tests, First, Any, Done, Skipped, CallOf, Bound, is_told, Entered, entering, Ex, owed_by, owed_waiting, owed_all, owed_at, owed_slot, owed_parked, owed_hand, owed_own, owed_resting, owed_elsewhere, EngagedBy, EngagedSlot, EngagedParked, EngagedHand, Deep, AloneAt}
 use Rattle.uc_depth_laws.proofs.Kept.{either}
 use Rattle.uc_owing_laws.specs.AtHand.{IsAtHand, FarBy, IsFar, elsewhere, IsApartAt, LawApart}
-use Rattle.uc_owing_laws.proofs.Owes.{rests_owe, waits_owe}
+use Rattle.uc_owing_laws.proofs.Owes.{rests_owe, run_owes}
 
 none_of : {A B : Type 0} → A ⊎ B → (B → ⊥) → A
 none_of (inl a) f = a
 none_of (inr b) f = absurd (f b)
 
-module _ (t : Table) (few : Few) (source : Source) (news : ℕ → Bool) (o : ℕ) where
+module _ (t : Table) (few : Few) (source : Source) (news : Tests) (o : ℕ) where
   -- executions that do not have it at hand owe it nothing
 
-  stage_owes : (g : Stage) (n : Exec) (x : Ex) → KnowsBy t few n g x → EngagedBy source news g x → FarBy t few o g n x → owed_at g (owed_all o x) ≡ 0
-  stage_owes Fresh n x k e f = none_of (rests_owe t few n source news x k e o) (f k)
-  stage_owes Started n x k e f = none_of (rests_owe t few n source news x k e o) (f k)
+  stage_owes : (g : Stage) (n : Exec) (x : Ex) → KnowsBy t few n g x → EngagedBy source (news n.home) g x → FarBy t few o g n x → owed_at g (owed_all o x) ≡ 0
+  stage_owes Fresh n x k e f = none_of (rests_owe t few n source (news n.home) x k e o) (f k)
+  stage_owes Started n x k e f = none_of (rests_owe t few n source (news n.home) x k e o) (f k)
   stage_owes Ended n x k e f = refl
 
-  slot_owes : (n : Exec) (x : Option Ex) → SlotBy (KnowsSlot t few) n x → EngagedSlot source news x → SlotBy (IsFar t few o) n x → owed_slot o x ≡ 0
+  slot_owes : (n : Exec) (x : Option Ex) → SlotBy (KnowsSlot t few) n x → EngagedSlot source (news n.home) x → SlotBy (IsFar t few o) n x → owed_slot o x ≡ 0
   slot_owes n None k e f = refl
   slot_owes n (Some x) k e f = stage_owes x.links.stage n x k e f
 
-  parked_owe : (h : Home) (ps : List (ℕ × Option Ex)) → ParkedBy (KnowsSlot t few) h ps → EngagedParked source news ps → ParkedBy (IsFar t few o) h ps → owed_parked o ps ≡ 0
+  parked_owe : (h : Home) (ps : List (ℕ × Option Ex)) → ParkedBy (KnowsSlot t few) h ps → EngagedParked source (news h) ps → ParkedBy (IsFar t few o) h ps → owed_parked o ps ≡ 0
   parked_owe h [] k e f = refl
   parked_owe h (p ∷ ps) k e f =
       let a = slot_owes (record { home = h; serial = p.0 }) p.1 k.0 e.0 f.0 in
@@ -69,7 +68,7 @@ module _ (t : Table) (few : Few) (source : Source) (news : ℕ → Bool) (o : �
       by true e = absurd (d (eqb-true own o e))
       by false e = refl
 
-module _ (t : Table) (few : Few) (source : Source) (news : ℕ → Bool) (s : State) (k : KnowsState t few [] s) (deep : Deep source news s) where
+module _ (t : Table) (few : Few) (source : Source) (news : Tests) (s : State) (k : KnowsState t few [] s) (deep : Deep source news s) where
   abbrev o : ℕ
   o = this_object s
 
@@ -82,26 +81,36 @@ module _ (t : Table) (few : Few) (source : Source) (news : ℕ → Bool) (s : St
       let b = hand_owes t few source news o s.env.hand k.env.hand deep.env.hand f.hand in
       omega (arith, a, b)
 
-  others_owe : EnvBy (IsFar t few o) (elsewhere t few s k) → owed_elsewhere o s.env ≡ 0
+  others_owe : EnvBy (IsFar t few o) (elsewhere t few source s k) → owed_elsewhere o s.env ≡ 0
   others_owe f =
       let a = house f.house in
       let b = hand_owes t few source news o (without o s.env.hand) (known_without t few source news o (KnowsSlot t few) s.env.hand k.env.hand) (engaged_without t few source news o s.env.hand deep.env.hand) f.hand in
       omega (arith, a, b)
 
-  gone : EnvBy (IsFar t few o) s.env → (IsAtHand t few s.env.exec (others k.sigs) s.callers o → ⊥) → (s.env.own ≡ o → ⊥) → owed_else o s ≡ 0
-  gone f g d =
-      let a = resting f in
-      let b = none_of (waits_owe t few s.env.exec source news (others k.sigs) s.callers k.callers deep.callers o) g in
-      let c = own_none t few source news o s.env.own d in
-      omega (arith, a, b, c)
+  -- who enters an object owes it nothing that it does not have at hand
+  entered : (m r : ℕ) (todo : List Todo) → s.run.control ≡ piece.EnterNow m r ∷ todo → (q : ℕ) → (IsAtHand t few s.env.exec k.sigs (s.run ∷ s.callers) q → ⊥) → owed_by q s.run + owed_waiting q s.callers ≡ 0
+  entered m r todo e q f =
+      none_of (run_owes t few s.env.exec source (news s.env.exec.home) Any k.sigs [] s.run s.callers tt k.run (subst (Entered source (is_told (news s.env.exec.home) s.run.this s.callers) Any) (sym e) (any deep.first (subst (Entered source (is_told (news s.env.exec.home) s.run.this s.callers) deep.first) e deep.run))) k.callers deep.callers q) f
+    where
+      any : (g : First) → Entered source (is_told (news s.env.exec.home) s.run.this s.callers) g (piece.EnterNow m r ∷ todo) → Entered source (is_told (news s.env.exec.home) s.run.this s.callers) Any (piece.EnterNow m r ∷ todo)
+      any Any h = h
+      any Done h = h
+      any Skipped h = h
+      any (CallOf q) h = absurd h.0
+      any Bound h = absurd h.0
 
-  alone : (todo : List Todo) → IsApartAt t few s k todo → AloneAt source todo s
-  alone (piece.MadeNow ∷ todo) h = others_owe h
-  alone (piece.SpawnNow r ∷ todo) h = others_owe h
-  alone (piece.GoneNow ∷ todo) h = gone h.0 h.1 h.2
-  alone (piece.GiveUpNow ∷ todo) h = resting h
-  alone [] h = tt
-  alone (p ∷ todo) h = tt
+  alone : (todo : List Todo) → s.run.control ≡ todo → IsApartAt t few source s k todo → AloneAt source todo s
+  alone (piece.EnterNow m r ∷ todo) c h = λ e a.
+      let x = h e a in
+      let y = entered m r todo c (entering source r s) x.1 in
+      let z = own_none t few source news (entering source r s) s.env.own x.2 in
+      (x.0, omega (arith, y, z))
+  alone (piece.MadeNow ∷ todo) c h = others_owe h
+  alone (piece.SpawnNow r ∷ todo) c h = others_owe h
+  alone (piece.GoneNow ∷ todo) c h = resting h
+  alone (piece.GiveUpNow ∷ todo) c h = resting h
+  alone [] c h = tt
+  alone (p ∷ todo) c h = tt
 
 pub law_apart : LawApart
-law_apart t few source news s k deep h = alone t few source news s k deep s.run.control h
+law_apart t few source news s k deep h = alone t few source news s k deep s.run.control refl h

@@ -7,13 +7,13 @@ use Rattle.uc_machine.specs.Pieces.{Todo, Sort, sort}
 use Rattle.uc_typing.specs.Typing.{Ty, Name, Sig, Table, InMutex, FineClean}
 use Rattle.uc_typing.specs.Pieces.{Popped, Met, Ok, Left}
 use Rattle.uc_typing.proofs.Control.{left}
-use Rattle.uc_depth_laws.specs.Entering.{lets_go}
+use Rattle.uc_depth_laws.specs.Entering.{Aspect, lets_go}
 use Rattle.uc_depth_laws.specs.Owing.{First, Any, Done, Skipped, CallOf, Bound, next, owes, more, marks, Allowed, Entered}
 use Rattle.uc_depth_laws.proofs.Depths.{holds_none}
 
 -- a list that is not done next
 
-abbrev IsBehind : First → Type 0
+abbrev pub IsBehind : First → Type 0
 IsBehind Done = ⊥
 IsBehind f = Unit {0}
 
@@ -34,8 +34,8 @@ record Scope (p : Todo) : Type 0 where
 true_false : {A : Type 0} → true ≡ false → A
 true_false e = cc
 
-module _ (source : Source) (new : Bool) where
-  owing : (p : Todo) → Allowed source new Any p → owes p ≡ true → Scope p
+module _ (source : Source) (told : Aspect → Bool) where
+  owing : (p : Todo) → Allowed source told Any p → owes p ≡ true → Scope p
   owing (piece.Rest ss) h e = true_false (let a = holds_none source ss h in cc)
   owing (piece.Clean c) h e = record { clean = c; is = refl; lets = e }
   owing piece.LeaveNow h e = absurd h
@@ -45,21 +45,21 @@ module _ (source : Source) (new : Bool) where
   owing piece.GiveUpNow h e = absurd h
   owing p h e = cc
 
-  called : (r : ℕ) (p : Todo) → Allowed source new (CallOf r) p → owes p ≡ true → Scope p
+  called : (r : ℕ) (p : Todo) → Allowed source told (CallOf r) p → owes p ≡ true → Scope p
   called r (piece.CallOnNow k) h e = cc
   called r (piece.CallUnwrittenNow k) h e = cc
   called r p h e = absurd h
 
-  skipped : (p : Todo) → Allowed source new Skipped p → owes p ≡ true → Scope p
+  skipped : (p : Todo) → Allowed source told Skipped p → owes p ≡ true → Scope p
   skipped (piece.CallOnNow k) h e = cc
   skipped (piece.CallUnwrittenNow k) h e = cc
   skipped p h e = owing p h e
 
-  bound : (p : Todo) → Allowed source new Bound p → owes p ≡ true → Scope p
+  bound : (p : Todo) → Allowed source told Bound p → owes p ≡ true → Scope p
   bound (piece.BindMadeNow c r) h e = cc
   bound p h e = absurd h
 
-  scope_of : (f : First) (p : Todo) → IsBehind f → Allowed source new f p → owes p ≡ true → Scope p
+  scope_of : (f : First) (p : Todo) → IsBehind f → Allowed source told f p → owes p ≡ true → Scope p
   scope_of Any p b h e = owing p h e
   scope_of Done p b h e = absurd b
   scope_of Skipped p b h e = skipped p h e
@@ -94,7 +94,7 @@ module _ (source : Source) (new : Bool) where
     popped [] c X e h = absurd h
     popped (x ∷ sc) c X e h = cleaned sc c e h.1
 
-    pub left_mutex : (f : First) (sc : List Name) (todo : List Todo) → IsBehind f → Left t g base sc todo → Entered source new f todo → 0 < marks todo → InMutex t g
+    pub left_mutex : (f : First) (sc : List Name) (todo : List Todo) → IsBehind f → Left t g base sc todo → Entered source told f todo → 0 < marks todo → InMutex t g
     left_mutex f sc [] b h n l = let z : ⊥ = omega (arith, l) in absurd z
     left_mutex f sc (p ∷ todo) b h n l = by (owes p) refl l (λ sc k l. left_mutex (next p) sc todo (next_behind p) k n.1 l)
       where
@@ -105,5 +105,5 @@ module _ (source : Source) (new : Bool) where
         by false e l ih = let y = met sc (sort p) todo h in ih y.0 y.1 l
 
     -- so it is of an activation in order that does not run, or waits
-    pub ok_mutex : (sc : List Name) (todo : List Todo) (own : List Ty) → Ok t g base sc todo own → Entered source new Any todo → 0 < marks todo → InMutex t g
-    ok_mutex sc todo own h n l = left_mutex Any sc todo tt (left t g base sc todo own h) n l
+    pub ok_mutex : (f : First) → IsBehind f → (sc : List Name) (todo : List Todo) (own : List Ty) → Ok t g base sc todo own → Entered source told f todo → 0 < marks todo → InMutex t g
+    ok_mutex f b sc todo own h n l = left_mutex f sc todo b (left t g base sc todo own h) n l

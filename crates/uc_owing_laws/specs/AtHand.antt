@@ -2,17 +2,18 @@
 use Rattle.std.specs.Prelude.{◌≡◌, ℕ, ◌⊎◌, Bool, true, List, [], ◌∷◌}
 use Rattle.uc_tree.specs.Source.{Source}
 use Rattle.uc_machine.specs.declared.exec.Exec.{Exec}
+use Rattle.uc_machine.specs.declared.exec.Home.TheVariants as home
 use Rattle.uc_machine.specs.declared.exec.Stage.{Stage}
 use Rattle.uc_machine.specs.declared.exec.Stage.TheVariants.{Ended}
-use Rattle.uc_machine.specs.Executions.{others}
 use Rattle.uc_machine.specs.Switches.{without}
 use Rattle.uc_machine.specs.Monitors.{this_object}
-use Rattle.uc_machine.specs.Pieces.{Object, Todo, MadeNow, SpawnNow, GoneNow, GiveUpNow, Active, State, Env}
+use Rattle.uc_machine.specs.Pieces.{Object, Todo, EnterNow, MadeNow, SpawnNow, GoneNow, GiveUpNow, Active, State, Env}
 use Rattle.uc_typing.specs.Typing.{Obj, Sig, Table}
 use Rattle.uc_life_laws.specs.Things.{Few, Held}
 use Rattle.uc_life_laws.specs.LifeStates.{EnvBy}
 use Rattle.uc_life_laws.specs.Knowing.{AtHand, KnowsWaits, KnowsEx, KnowsState}
-use Rattle.uc_depth_laws.specs.Owing.{Ex, owed_all, owed_waiting, AllEntered, Engaged, Deep, Alone}
+use Rattle.uc_depth_laws.specs.Entering.{Aspect, is_ending}
+use Rattle.uc_depth_laws.specs.Owing.{Tests, entering, is_again, Ex, owed_all, owed_waiting, AllEntered, Engaged, Deep, Alone}
 
 -- a mutex object is at hand of these activations, the newest first, with the kinds of their frames: it is known to them, or they build or
 -- destroy it
@@ -21,11 +22,11 @@ IsAtHand t few n gs cs o = (c : ℕ) × (t.mutex c ≡ true) × Held t few (AtHa
 
 -- of an execution that does not run, and of activations that wait for one that does
 pub record LawOwes : Type 0 where
-  pub rests : (t : Table) (few : Few) (source : Source) (news : ℕ → Bool) (n : Exec) (x : Ex)
-      (k : KnowsEx t few n x) → Engaged source news x → (o : ℕ) →
+  pub rests : (t : Table) (few : Few) (source : Source) (tells : Aspect → ℕ → Bool) (n : Exec) (x : Ex)
+      (k : KnowsEx t few n x) → Engaged source tells x → (o : ℕ) →
       (owed_all o x ≡ 0) ⊎ IsAtHand t few n k.sigs (x.run ∷ x.callers) o
-  pub waits : (t : Table) (few : Few) (source : Source) (news : ℕ → Bool) (n : Exec) (gs : List Sig)
-      (cs : List Active) → KnowsWaits t few n gs cs → AllEntered source news cs → (o : ℕ) →
+  pub waits : (t : Table) (few : Few) (source : Source) (tells : Aspect → ℕ → Bool) (n : Exec) (gs : List Sig)
+      (cs : List Active) → KnowsWaits t few n gs cs → AllEntered source tells cs → (o : ℕ) →
       (owed_waiting o cs ≡ 0) ⊎ IsAtHand t few n gs cs o
 
 module _ (t : Table) (few : Few) (o : ℕ) where
@@ -38,18 +39,22 @@ module _ (t : Table) (few : Few) (o : ℕ) where
   IsFar n x = FarBy x.links.stage n x
 
 -- just before an object is let go of however deep the task is, none has it at hand that may go on and does not run, but for such as are at home in
--- one that has been built; where one is gone, older activations do not either, and it is not the own one
-module _ (t : Table) (few : Few) (s : State) (k : KnowsState t few [] s) where
+-- one that has been built; where a task enters one to destroy it in which it is already, the running execution is not at home there and none of its
+-- activations has it at hand, and it is not the own one
+module _ (t : Table) (few : Few) (source : Source) (s : State) (k : KnowsState t few [] s) where
   -- without what is at home in the object
   abbrev pub elsewhere : Env
   elsewhere = record s.env { hand = without (this_object s) s.env.hand }
 
   abbrev pub IsApartAt : List Todo → Type 0
+  IsApartAt (EnterNow m r ∷ todo) =
+      is_ending source r ≡ true → is_again source r s ≡ true →
+      (s.env.exec.home ≡ home.Object (entering source r s) → ⊥) ×
+      (IsAtHand t few s.env.exec k.sigs (s.run ∷ s.callers) (entering source r s) → ⊥) ×
+      (s.env.own ≡ entering source r s → ⊥)
   IsApartAt (MadeNow ∷ todo) = EnvBy (IsFar t few (this_object s)) elsewhere
   IsApartAt (SpawnNow r ∷ todo) = EnvBy (IsFar t few (this_object s)) elsewhere
-  IsApartAt (GoneNow ∷ todo) = EnvBy (IsFar t few (this_object s)) s.env ×
-      (IsAtHand t few s.env.exec (others k.sigs) s.callers (this_object s) → ⊥) ×
-      (s.env.own ≡ this_object s → ⊥)
+  IsApartAt (GoneNow ∷ todo) = EnvBy (IsFar t few (this_object s)) s.env
   IsApartAt (GiveUpNow ∷ todo) = EnvBy (IsFar t few (this_object s)) s.env
   IsApartAt todo = Unit {0}
 
@@ -58,5 +63,5 @@ module _ (t : Table) (few : Few) (s : State) (k : KnowsState t few [] s) where
 
 abbrev pub LawApart : Type 0
 LawApart =
-    (t : Table) (few : Few) (source : Source) (news : ℕ → Bool) (s : State)
-    (k : KnowsState t few [] s) → Deep source news s → IsApart t few s k → Alone source s
+    (t : Table) (few : Few) (source : Source) (news : Tests) (s : State)
+    (k : KnowsState t few [] s) → Deep source news s → IsApart t few source s k → Alone source s

@@ -1,3 +1,4 @@
 pub mod RequestLemmas
 pub mod RemainingLemmas
+pub mod ApartLemmas
 pub mod LastingLemmas

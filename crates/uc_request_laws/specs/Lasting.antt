@@ -19,9 +19,12 @@ use Rattle.uc_meaning.specs.Runs.{World, Runs, AsksIn, drawn}
 use Rattle.uc_meaning.specs.Cuts.{Reentry}
 use Rattle.uc_program_laws.specs.Fitting.{RunFits}
 use Rattle.uc_value_laws.specs.Endings.{RideHolds, RunHolds}
-use Rattle.uc_letting_laws.specs.AloneRuns.{RideAlone, RunAlone}
-use Rattle.uc_life_laws.specs.KnownRuns.{is_made}
-use Rattle.uc_life_laws.specs.Endings.{MeetsOutside}
+use Rattle.uc_value_laws.specs.Opens.{RideMeets, RunMeets}
+use Rattle.uc_life_laws.specs.Things.{Few}
+use Rattle.uc_life_laws.specs.KnownAnswers.{MainPasses}
+use Rattle.uc_life_laws.specs.KnownRuns.{PassesBelow, is_made}
+use Rattle.uc_life_laws.specs.Endings.{RawsPass, MeetsOutside}
+use Rattle.uc_request_laws.specs.ApartRuns.{StepApart}
 
 -- what a task calls is not gone; nor is the object at whose task it raises an event, and that has one
 abbrev pub IsLasting : Journal → Request → Type 0
@@ -29,8 +32,19 @@ IsLasting j (ask.Call o m) = is_gone o j ≡ false
 IsLasting j (ask.Raise o event x y) = (is_gone o j ≡ false) × (owner o j ≡ [] → ⊥)
 IsLasting j r = Unit {0}
 
--- so it is of what a task of the program asks; each step so far, and each on the way to what is asked, found what it was to find, but where a
--- clean-up finds and reads the variable that it ends; and nothing else is owed to what is let go of, as long as all that was asked before fits
+-- by some homes, some bases and a test of numbers that all pass which have been made: each step so far, and each on the way to what is asked,
+-- found what it was to find, but where a clean-up finds and reads the variable that it ends, and nobody else had at hand what was let go of
+pub record LetsGoApart (p : Program) (input : List ℕ) (opts : Options) (j : Journal) (w : World) (r : Runs (source_of p) input opts j w) (q t n : ℕ) (s : State) (asked : Asked) (d : AsksIn (source_of p) opts j w q t n s asked) : Type 0 where
+  pub few : Few
+  pub raws : RawsPass few
+  pub below : PassesBelow few opts j
+  pub main : MainPasses (table_of p) few ((table_of p).routine (source_of p).main).this 0
+  pub met : RunHolds (MeetsOutside (table_of p) few) (source_of p) input opts j w r
+  pub meets : RideHolds (MeetsOutside (table_of p) few) (source_of p) 0 (answered (source_of p) d.given (drawn j w t)) (left opts j t) s n asked d.rides
+  pub was_apart : RunMeets (StepApart (table_of p) few (source_of p)) (source_of p) input opts j w r
+  pub apart : RideMeets (StepApart (table_of p) few (source_of p)) (source_of p) (answered (source_of p) d.given (drawn j w t)) (left opts j t) s n asked d.rides
+
+-- so it is of what a task of the program asks, by the numbers that have been made, and by some few, as long as all that was asked before fits
 abbrev pub AsksLasting : Program → List ℕ → Options → Type 0
 AsksLasting p input opts =
     (j : Journal) (w : World) (r : Runs (source_of p) input opts j w) → RunFits (source_of p) input opts j w r →
@@ -38,7 +52,7 @@ AsksLasting p input opts =
     (d : AsksIn (source_of p) opts j w q t n s asked) →
     IsLasting j asked.request × RunHolds (MeetsOutside (table_of p) (is_made opts j)) (source_of p) input opts j w r ×
     RideHolds (MeetsOutside (table_of p) (is_made opts j)) (source_of p) 0 (answered (source_of p) d.given (drawn j w t)) (left opts j t) s n asked d.rides ×
-    RunAlone (source_of p) input opts j w r × RideAlone (source_of p) _ _ s n asked d.rides
+    LetsGoApart p input opts j w r q t n s asked d
 
 -- then all that a program which breaks no rule asks fits
 abbrev pub LawLasting : Type 0

@@ -3,3 +3,4 @@ pub mod Holds
 pub mod Leaving
 pub mod Remaining
 pub mod Lasting
+pub mod ApartRuns

@@ -2,6 +2,7 @@
 
 ghost use Rattle.uc_request_laws.specs.RequestLaws.{LawEvents, LawNames};
 ghost use Rattle.uc_request_laws.specs.Holds.{LawHolds, LawTexts};
+ghost use Rattle.uc_request_laws.specs.ApartRuns.{LawApartRuns};
 ghost use Rattle.uc_request_laws.specs.Lasting.{LawLasting};
 ghost use Rattle.uc_request_laws.specs.Remaining.{LawRemaining};
 
@@ -37,9 +38,17 @@ pub fn law_remaining()
     ensures { LawRemaining }
 {}
 
-/// Where besides each step finds what it is to find, so that all is known that an execution can come by, what
-/// a task names was made: then what a program that breaks no rule asks fits where what it calls, and raises
-/// events at, is not gone, and what events are raised at has a task.
+/// In each run of a program that breaks no rule in which all that was asked so far fits, and each step
+/// found what it was to find, nothing else is owed to what tasks let go of, as long as nobody else has
+/// that at hand.
+pub fn law_apart_runs()
+    ensures { LawApartRuns }
+{}
+
+/// Where each step finds what it is to find, so that all is known that an execution can come by, what
+/// a task names was made, and where nobody else has at hand what is let go of, hands need not be shown:
+/// then what a program that breaks no rule asks fits where what it calls, and raises events at, is not
+/// gone, and what events are raised at has a task.
 pub fn law_lasting()
     ensures { LawLasting }
 {}

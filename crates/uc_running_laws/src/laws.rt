@@ -1,6 +1,7 @@
 // The laws: each is a function whose contract is the law.
 
 ghost use Rattle.uc_running_laws.specs.Running.{LawRunning};
+ghost use Rattle.uc_running_laws.specs.Sparing.{LawSparing};
 
 /// In each run of a program that breaks no rule in which all that was asked so far fits, nothing else
 /// is owed to what tasks let go of, and no step forgets the execution that runs, the running execution
@@ -8,4 +9,11 @@ ghost use Rattle.uc_running_laws.specs.Running.{LawRunning};
 /// and no other execution in hand is so.
 pub fn law_running()
     ensures { LawRunning }
+{}
+
+/// In each run of a program that breaks no rule in which all that was asked so far fits, and nothing else
+/// is owed to what is let go of, who builds or destroys an object is not at home there: so no step
+/// forgets the running execution that forgets one which is at home in such an object.
+pub fn law_sparing()
+    ensures { LawSparing }
 {}

@@ -46,7 +46,7 @@ module _ (P Q : Exec → Execution (List Todo) Value → Type 0) where
   members_in h None f k = tt
   members_in h (Some m) f k = parked_in h m.parked f k
 
-  env_in : (e : Env) → ((n : Exec) (x : Execution (List Todo) Value) → (x.links.stage ≡ Started → InParked n (x.run ∷ x.callers) (home.Task e.own) e.house.parked ⊎ InHand n (x.run ∷ x.callers) e.hand) → P n x → Q n x) → EnvBy P e → EnvBy Q e
+  pub env_in : (e : Env) → ((n : Exec) (x : Execution (List Todo) Value) → (x.links.stage ≡ Started → InParked n (x.run ∷ x.callers) (home.Task e.own) e.house.parked ⊎ InHand n (x.run ∷ x.callers) e.hand) → P n x → Q n x) → EnvBy P e → EnvBy Q e
   env_in e f k = record {
     house = parked_in (home.Task e.own) e.house.parked (λ n x i. f n x (λ e. inl (i e))) k.house;
     hand = hand_in e.hand (λ n x i. f n x (λ e. inr (i e))) k.hand;
@@ -71,7 +71,7 @@ module _ (t : Table) where
   within_both w a v b u d h (field {v = x} {c} k i f) = field (within_both w a v b x (Obj c) h k) i f
   within_both w a v b u d h (element {v = x} {m} {b = e} k j l) = element (within_both w a v b x (Row m e) h k) j l
 
-  within_object : (w : Value) (a : Ty) (v : Value) (b : Ty) (o : ℕ) → Within t w a v b → v ≡ Object o → w ≡ Object o
+  pub within_object : (w : Value) (a : Ty) (v : Value) (b : Ty) (o : ℕ) → Within t w a v b → v ≡ Object o → w ≡ Object o
   within_object w a v b o itself e = e
   within_object w a v b o (field {v = x} {c} k i f) e = absurd (further_object _ x o e)
   within_object w a v b o (element {v = x} {m} {b = d} k j l) e = absurd (further_object _ x o e)
@@ -109,32 +109,32 @@ module _ (t : Table) where
   base_place Nothing h u e = h
 
   module _ (few : Few) (places : (n : Exec) (w : Value) (b : Ty) → Base few n w b → IsPlace w) where
-    things_place : (n : Exec) (cs : List Active) (w : Value) (a : Ty) → Things t few n cs w a → (u : ℕ) → w ≡ Object u → ⊥
+    pub things_place : (n : Exec) (cs : List Active) (w : Value) (a : Ty) → Things t few n cs w a → (u : ℕ) → w ≡ Object u → ⊥
     things_place n [] w a m u e = base_place w (places n w a m) u e
     things_place n (c ∷ cs) w a (inl m) u e = todo_place (Frame n c.frame) c.this w a c.control m u e
     things_place n (c ∷ cs) w a (inr m) u e = things_place n cs w a m u e
 
   -- what is own, and what is of others
-  things_split : (few : Few) (n : Exec) (cs : List Active) (w : Value) (a : Ty) → Things t few n cs w a → OwnThings t n cs w a ⊎ Base few n w a
+  pub things_split : (few : Few) (n : Exec) (cs : List Active) (w : Value) (a : Ty) → Things t few n cs w a → OwnThings t n cs w a ⊎ Base few n w a
   things_split few n [] w a m = inr m
   things_split few n (c ∷ cs) w a (inl m) = inl (inl m)
   things_split few n (c ∷ cs) w a (inr m) = ⊎_elim (λ x. inl (inr x)) (λ x. inr x) (things_split few n cs w a m)
 
   module _ (few : Few) where
-    stands_more : (K L : Value → Ty → Type 0) → ((w : Value) (a : Ty) → K w a → L w a) → (b : Ty) (v : Value) → Stands t few K b v → Stands t few L b v
+    pub stands_more : (K L : Value → Ty → Type 0) → ((w : Value) (a : Ty) → K w a → L w a) → (b : Ty) (v : Value) → Stands t few K b v → Stands t few L b v
     stands_more K L more b v (lies {w = w} {a} k h) = lies (more w a k) h
     stands_more K L more b v (inside {o = o} {c} m k h) = inside m (stands_more K L more (Cell (Obj c)) (few.home o) k) h
 
-    stands_split : (K L M : Value → Ty → Type 0) → ((w : Value) (a : Ty) → K w a → L w a ⊎ M w a) → (b : Ty) (v : Value) → Stands t few K b v → Stands t few L b v ⊎ Stands t few M b v
+    pub stands_split : (K L M : Value → Ty → Type 0) → ((w : Value) (a : Ty) → K w a → L w a ⊎ M w a) → (b : Ty) (v : Value) → Stands t few K b v → Stands t few L b v ⊎ Stands t few M b v
     stands_split K L M split b v (lies {w = w} {a} k h) = ⊎_elim (λ x. inl (lies x h)) (λ x. inr (lies x h)) (split w a k)
     stands_split K L M split b v (inside {o = o} {c} m k h) = ⊎_elim (λ x. inl (inside m x h)) (λ x. inr (inside m x h)) (stands_split K L M split (Cell (Obj c)) (few.home o) k)
 
-    within_on : (L : Value → Ty → Type 0) (a : Ty) (w : Value) (b : Ty) (v : Value) → Stands t few L a w → Within t w a v b → Stands t few L b v
+    pub within_on : (L : Value → Ty → Type 0) (a : Ty) (w : Value) (b : Ty) (v : Value) → Stands t few L a w → Within t w a v b → Stands t few L b v
     within_on L a w b v (lies {w = x} {a = d} k h) y = lies k (within_both x d w a v b h y)
     within_on L a w b v (inside {o = o} {c} m k h) y = inside m k (within_both (Object o) (Obj c) w a v b h y)
 
     -- what is being built or destroyed has no part that stands
-    stands_things : (n : Exec) (gs : List Sig) (cs : List Active) (b : Ty) (v : Value) → Stands t few (AtHand t few n gs cs) (Cell b) v → Stands t few (Things t few n cs) (Cell b) v
+    pub stands_things : (n : Exec) (gs : List Sig) (cs : List Active) (b : Ty) (v : Value) → Stands t few (AtHand t few n gs cs) (Cell b) v → Stands t few (Things t few n cs) (Cell b) v
     stands_things n gs cs b v (lies {w = w} {a} (inl k) h) = lies k h
     stands_things n gs cs b v (lies {w = w} {a} (inr k) h) =
         let r = in_raw gs cs w a k in

@@ -1,11 +1,13 @@
 -- Step by step nothing else is owed to what is let go of, where nobody else has it at hand.
-use Rattle.std.proofs.Common.{◌≡◌, ℕ, Bool, false, List, [], subst}
+use Rattle.std.proofs.Common.{◌≡◌, ℕ, true, false, List, [], subst}
 use Rattle.uc_tree.specs.Programs.{Program}
 use Rattle.uc_entry.specs.declared.entry.Options.{Options}
 use Rattle.uc_entry.specs.declared.request.Asked.{Asked}
 use Rattle.uc_acts.specs.Journal.{Journal, own_object, is_over}
 use Rattle.uc_acts.specs.Serves.{left}
 use Rattle.uc_acts.specs.KernelRuns.{InRange}
+use Rattle.uc_machine.specs.declared.exec.Home.{Home}
+use Rattle.uc_machine.specs.declared.exec.Home.TheVariants.{Object}
 use Rattle.uc_machine.specs.Quiet.{State, quiet}
 use Rattle.uc_machine.specs.Answering.{answered}
 use Rattle.uc_machine.specs.Rides.{Rides, slices, goes_on, ticks, asks}
@@ -25,8 +27,8 @@ use Rattle.uc_life_laws.specs.Knowing.{KnowsState}
 use Rattle.uc_life_laws.specs.KnownAnswers.{MainPasses}
 use Rattle.uc_life_laws.specs.KnownRuns.{PassesBelow, Meets, AllIsKnown}
 use Rattle.uc_life_laws.proofs.KnownWorlds.{earlier, law_known_runs}
-use Rattle.uc_depth_laws.specs.Entering.{EnteredSource}
-use Rattle.uc_depth_laws.specs.Owing.{Alone, Deep, DeepStep}
+use Rattle.uc_depth_laws.specs.Entering.{Aspect, Other, EnteredSource}
+use Rattle.uc_depth_laws.specs.Owing.{Tests, Alone, Deep, DeepStep}
 use Rattle.uc_depth_laws.proofs.Answers.{law_steps}
 use Rattle.uc_depth_laws.proofs.Standing.{law_free, law_drawn}
 use Rattle.uc_inner_laws.specs.Inner.{InnerSource}
@@ -36,11 +38,11 @@ use Rattle.uc_enter_laws.proofs.Routines.{law_entered}
 use Rattle.uc_source_laws.specs.SourceLaws.{part_of}
 use Rattle.uc_source_laws.proofs.InnerSources.{law_inner}
 use Rattle.uc_letting_laws.specs.AloneRuns.{RideAlone, RunAlone}
-use Rattle.uc_letting_laws.proofs.NewObjects.{new_for, own_not_new}
+use Rattle.uc_letting_laws.proofs.NewObjects.{told_for, own_not_told, told_other, told_away}
 use Rattle.uc_letting_laws.proofs.StandingWorlds.{standing_start}
-use Rattle.uc_letting_laws.proofs.LettingWorlds.{Both, both_run, sole, start}
+use Rattle.uc_letting_laws.proofs.LettingWorlds.{both_run, sole, start, tells}
 use Rattle.uc_owing_laws.proofs.Aparts.{law_apart}
-use Rattle.uc_apart_runs.specs.ApartRuns.{StepApart, LawApartRuns}
+use Rattle.uc_request_laws.specs.ApartRuns.{StepApart, LawApartRuns}
 
 module _ (p : Program) (formed : IsFormed p) (ok : breaks_of p ≡ []) (few : Few) where
   entered : EnteredSource (source_of p)
@@ -49,13 +51,13 @@ module _ (p : Program) (formed : IsFormed p) (ok : breaks_of p ≡ []) (few : Fe
   inner : InnerSource (part_of p) (source_of p)
   inner = (law_inner p formed ok).source
 
-  module _ (own : ℕ) (news : ℕ → Bool) (mine : news own ≡ false) where
+  module _ (own : ℕ) (news : Tests) (mine : (h : Home) (k : Aspect) → news h k own ≡ false) (other : (h : Home) (q : ℕ) → (own ≡ q → ⊥) → (h ≡ Object q → ⊥) → news h Other q ≡ true) (away : (h : Home) (k : Aspect) (q : ℕ) → news h k q ≡ true → h ≡ Object q → ⊥) where
     here : (s : State) → KnowsState (table_of p) few [] s → StepApart (table_of p) few (source_of p) s → Deep (source_of p) news s → Alone (source_of p) s
-    here s k h d = law_apart (table_of p) few (source_of p) news s k d (h.apart k)
+    here s k h d = law_apart (table_of p) few (source_of p) news s k d (h k)
 
-    deeper : (s : State) → Alone (source_of p) s → Deep (source_of p) news s → StandsState (part_of p) (source_of p) own s → DeepStep (source_of p) news s.env (quiet (source_of p) s)
+    deeper : (s : State) → Alone (source_of p) s → Deep (source_of p) news s → StandsState (part_of p) (source_of p) own s → DeepStep (source_of p) news s (quiet (source_of p) s)
     deeper s a d v =
-        law_steps.steps (source_of p) entered news s d (law_fair (part_of p) (source_of p) own s v (sole (part_of p) (source_of p) entered inner law_steps own news mine s a d v))
+        law_steps.steps (source_of p) entered news s (tells (part_of p) (source_of p) entered inner law_steps own news mine other away s v) d (law_fair (part_of p) (source_of p) own s v (sole (part_of p) (source_of p) entered inner law_steps own news mine other away s a d v))
 
     stands : (s : State) → StandsState (part_of p) (source_of p) own s → StandsStep (part_of p) (source_of p) own s (quiet (source_of p) s)
     stands s v = inner_steps.steps (part_of p) (source_of p) inner own s v
@@ -64,11 +66,11 @@ module _ (p : Program) (formed : IsFormed p) (ok : breaks_of p ≡ []) (few : Fe
     ride_alone slices m h known d v = tt
     ride_alone (goes_on {s} e r) m h known d v =
         let a = here s (known s way.stays tt) h.0 d in
-        (a, ride_alone r m.1 h.1 (λ x l y. known x (way.goes e l) (m.0, y)) (subst (DeepStep (source_of p) news s.env) e (deeper s a d v)) (subst (StandsStep (part_of p) (source_of p) own s) e (stands s v)))
+        (a, ride_alone r m.1 h.1 (λ x l y. known x (way.goes e l) (m.0, y)) (subst (DeepStep (source_of p) news s) e (deeper s a d v)) (subst (StandsStep (part_of p) (source_of p) own s) e (stands s v)))
     ride_alone (ticks {s} e r) m h known d v =
         let a = here s (known s way.stays tt) h.0 d in
-        (a, ride_alone r m.1 h.1 (λ x l y. known x (way.ticks e l) (m.0, y)) (subst (DeepStep (source_of p) news s.env) e (deeper s a d v)) (subst (StandsStep (part_of p) (source_of p) own s) e (stands s v)))
-    ride_alone (asks {s} {t} {q} {r} e) m h known d v = (here s (known s way.stays tt) h d, h.away r t e)
+        (a, ride_alone r m.1 h.1 (λ x l y. known x (way.ticks e l) (m.0, y)) (subst (DeepStep (source_of p) news s) e (deeper s a d v)) (subst (StandsStep (part_of p) (source_of p) own s) e (stands s v)))
+    ride_alone (asks {s} e) m h known d v = here s (known s way.stays tt) h d
 
   module _ (input : List ℕ) (opts : Options) (range : InRange opts) (first : MainPasses (table_of p) few ((table_of p).routine (source_of p).main).this 0) where
     along : {j : Journal} {w : World} (r : Runs (source_of p) input opts j w) → RunFits (source_of p) input opts j w r → is_over j ≡ false → PassesBelow few opts j → RunMeets (Meets (table_of p) few) (source_of p) input opts j w r → RunAlone (source_of p) input opts j w r → (q t n : ℕ) (s : State) (asked : Asked) (d : AsksIn (source_of p) opts j w q t n s asked) → RideMeets (Meets (table_of p) few) (source_of p) (answered (source_of p) d.given (drawn j w t)) (left opts j t) s n asked d.rides → RideMeets (StepApart (table_of p) few (source_of p)) (source_of p) (answered (source_of p) d.given (drawn j w t)) (left opts j t) s n asked d.rides → RideAlone (source_of p) (answered (source_of p) d.given (drawn j w t)) (left opts j t) s n asked d.rides
@@ -77,9 +79,9 @@ module _ (p : Program) (formed : IsFormed p) (ok : breaks_of p ≡ []) (few : Fe
         let deeps = deep_run (source_of p) input opts range r f on in
         let x = both_run (part_of p) (source_of p) entered inner law_steps law_free law_drawn input opts range r f alone on in
         let all : AllIsKnown (table_of p) few (source_of p) j w = law_known_runs p formed ok few input opts range j w r f on below first met in
-        let deep : Deep (source_of p) (new_for t j) (answered (source_of p) d.given (drawn j w t)) = start (part_of p) (source_of p) entered inner law_steps law_free law_drawn input opts range rests on deeps x.owing x.standing q t n s asked d in
+        let deep : Deep (source_of p) (told_for t j) (answered (source_of p) d.given (drawn j w t)) = start (part_of p) (source_of p) entered inner law_steps law_free law_drawn input opts range rests on deeps x.owing x.standing q t n s asked d in
         let stood : StandsState (part_of p) (source_of p) (own_object t j) (answered (source_of p) d.given (drawn j w t)) = standing_start (part_of p) (source_of p) inner entered.ends input opts range rests on deeps x.standing q t n s asked d in
-        ride_alone (own_object t j) (new_for t j) (own_not_new t j) d.rides m h (λ v l y. all.comes t v (record { given = d.given; processor = q; runs = d.runs; told = d.told; leads = l }) y) deep stood
+        ride_alone (own_object t j) (told_for t j) (own_not_told t j) (told_other t j) (told_away t j) d.rides m h (λ v l y. all.comes t v (record { given = d.given; processor = q; runs = d.runs; told = d.told; leads = l }) y) deep stood
 
     run_alone : {j : Journal} {w : World} (r : Runs (source_of p) input opts j w) → RunFits (source_of p) input opts j w r → PassesBelow few opts j → RunMeets (Meets (table_of p) few) (source_of p) input opts j w r → RunMeets (StepApart (table_of p) few (source_of p)) (source_of p) input opts j w r → RunAlone (source_of p) input opts j w r
     run_alone begun f below m h = tt

@@ -4,11 +4,10 @@ use Rattle.uc_tree.specs.Programs.{Program}
 use Rattle.uc_tree.specs.Source.{Source}
 use Rattle.uc_entry.specs.declared.entry.Options.{Options}
 use Rattle.uc_entry.specs.declared.request.Asked.{Asked}
-use Rattle.uc_entry.specs.declared.request.Request.{Request}
 use Rattle.uc_acts.specs.Journal.{Journal, is_over}
 use Rattle.uc_acts.specs.Serves.{left}
 use Rattle.uc_acts.specs.KernelRuns.{InRange}
-use Rattle.uc_machine.specs.Quiet.{State, Asks, quiet}
+use Rattle.uc_machine.specs.Quiet.{State}
 use Rattle.uc_machine.specs.Answering.{answered}
 use Rattle.uc_resolve.specs.Resolve.{source_of}
 use Rattle.uc_rules.specs.Breaks.{breaks_of}
@@ -22,14 +21,12 @@ use Rattle.uc_life_laws.specs.Things.{Few}
 use Rattle.uc_life_laws.specs.Knowing.{KnowsState}
 use Rattle.uc_life_laws.specs.KnownAnswers.{MainPasses}
 use Rattle.uc_life_laws.specs.KnownRuns.{PassesBelow, Meets}
-use Rattle.uc_letting_laws.specs.AloneRuns.{AskAlone, RideAlone, RunAlone}
+use Rattle.uc_letting_laws.specs.AloneRuns.{RideAlone, RunAlone}
 use Rattle.uc_owing_laws.specs.AtHand.{IsApart}
 
--- at a step: where all is known, nobody else has at hand what is let go of; and whoever takes out an object that it has destroyed is not at
--- home there
-pub record StepApart (t : Table) (few : Few) (source : Source) (s : State) : Type 0 where
-  pub apart : (k : KnowsState t few [] s) → IsApart t few s k
-  pub away : (r : Request) (u : State) → quiet source s ≡ Asks r u → AskAlone s r u
+-- at a step: where all is known, nobody else has at hand what is let go of, nor what is entered again to be destroyed
+abbrev pub StepApart : Table → Few → Source → State → Type 0
+StepApart t few source s = (k : KnowsState t few [] s) → IsApart t few source s k
 
 -- so in each run of a program that breaks no rule, as long as all that was asked so far fits and each step found what it was to find, and on the
 -- way to what is asked next
