@@ -7,7 +7,7 @@ use Rattle.uc_machine.specs.declared.exec.Exec.{Exec}
 use Rattle.uc_machine.specs.declared.exec.Owner.TheVariants.{Frame}
 use Rattle.uc_machine.specs.Pieces as piece
 use Rattle.uc_machine.specs.Pieces.{FieldAt, Value, Place, Todo, Active, address, further, nought}
-use Rattle.uc_typing.specs.Typing.{Ty, Cell, Obj, Row, Table, element_shape, IsParam}
+use Rattle.uc_typing.specs.Typing.{Ty, Cell, Obj, Row, Table, element_shape, IsParam, CleansAt}
 use Rattle.uc_life_laws.specs.Things.{Few, IsField, Within, itself, field, element, IsUnbound, Known, Holds}
 use Rattle.uc_life_laws.specs.LifeStates.{frame_at, Outwards}
 use Rattle.uc_building_laws.specs.Building.{IsHead, AllLeft, Behind, Now}

@@ -1,5 +1,5 @@
 -- What constructors have bound stays so where members, executions and who runs change.
-use Rattle.std.proofs.Common.{◌≡◌, ℕ, ◌∙◌, true, false, List, Option, Some, None, refl, sym, subst}
+use Rattle.std.proofs.Common.{◌≡◌, ℕ, ◌∙◌, true, false, List, Option, Some, None, refl, sym, subst, Bool}
 use Rattle.std.specs.Prelude.{pos}
 use Rattle.uc_tree.specs.declared.limits.TheConstants.{UNHANDLED}
 use Rattle.uc_entry.specs.declared.fault.RunFault.TheVariants.{ResumeInUse, SwitchInUnwind}
