@@ -276,6 +276,7 @@ module _ (t : Table) (heads : ℕ → ℕ → Bool) (few : Few) (Z : ℕ → ℕ
           passes = tt;
           rooted = λ l. inl (lies (inl (inl (inl (k, d, refl)))) itself);
           held = λ m. absurd (cc);
+          seated = λ i. absurd i;
         }
 
         begins : (k i : ℕ) → CleansAt t (Obj i) (src.Variable k) c → IsUnbound t (Obj i) ⊎ IsConstructed t heads few source s r k i → IsBuilt t heads few s.env.exec (quiet.call_frame q s.run.operands ∷ s.env.frames) s.run.frame (variable s.env.exec s.run.frame k) i K ⊎ IsMaking t heads few s.env.exec (λ ps c i w K. Now t ps c i w K (quiet.routine_todo q) []) (quiet.call_frame q s.run.operands ∷ s.env.frames) (length s.env.frames) (suc (length s.callers)) (top (drop q.params s.run.operands)) s.run.frame (variable s.env.exec s.run.frame k) i K

@@ -8,12 +8,12 @@ use Rattle.uc_entry.specs.declared.fault.RunFault.TheVariants.{BlockedInside}
 use Rattle.uc_machine.specs.declared.exec.Exec.{Exec}
 use Rattle.uc_machine.specs.declared.exec.Pending.{Pending}
 use Rattle.uc_machine.specs.declared.exec.UnwindReason.{UnwindReason}
-use Rattle.uc_machine.specs.Executions.{at_depth, others, values_cleared, take_operands, frame_changed, frames_changed, change}
+use Rattle.uc_machine.specs.Executions.{at_depth, others, members_at, values_cleared, take_operands, frame_changed, frames_changed, change}
 use Rattle.uc_machine.specs.Insides as inside
 use Rattle.uc_machine.specs.Raising.{Event, event_in}
 use Rattle.uc_machine.specs.Switches as sw
 use Rattle.uc_machine.specs.Quiet as q
-use Rattle.uc_machine.specs.Quiet.{Value, Number, Place, Running, Object, Nothing, Env, State, Step, Todo, at, in_env, top, below, number, is_zero, loaded, written, variable_at, nought, index_in, with_elements, object_in, as_number, this_object, mask_of}
+use Rattle.uc_machine.specs.Quiet.{Value, Number, Place, Running, Object, Nothing, Env, Members, State, Step, Todo, at, in_env, top, below, number, is_zero, loaded, written, variable_at, nought, index_in, with_elements, object_in, as_number, this_object, mask_of}
 use Rattle.uc_machine.specs.Pieces as pc
 use Rattle.uc_typing.specs.Typing.{Ty, Num, Cell, Obj, Raw, Row, Clu, Pro, Name, Sig, Table, object_ty, IsMain, IsTarget, Yields, GiveAll, Fine, FineItem, FineItems, FineStart, FineStmt, FineLoop, FineClauses}
 use Rattle.uc_typing.specs.Pieces.{AreNumbers, IsNone, onto, item_tys, nums, CallsOn, Makes, Popped, Ok}
@@ -25,7 +25,7 @@ use Rattle.uc_life_laws.specs.LifeStates.{LifeState}
 use Rattle.uc_life_laws.specs.LifeLaws.{LawKnown}
 use Rattle.uc_life_laws.specs.Knowing.{AtHand, KnownAll, KnownFrames, KnownThis, KnowsWaits, KnowsEx, KnowsEnv, KnowsState, KnowsStep, Finds, IsStill}
 use Rattle.uc_life_laws.proofs.Cells.{either}
-use Rattle.uc_life_laws.proofs.Knowns.{kept_tracked, tracked_declared, newest, rest_of, next, rest_behind, values_drop, values_set, further_field, frames_cleared, lies_more}
+use Rattle.uc_life_laws.proofs.Knowns.{kept_tracked, told_declared, newest, rest_of, next, rest_behind, values_drop, values_set, further_field, frames_cleared, lies_more}
 use Rattle.uc_life_laws.proofs.Steps.{exec_same}
 use Rattle.uc_life_laws.proofs.Parking as parking
 use Rattle.uc_life_laws.proofs.Parking.{Keeps, frames_run, like, keeps_like}
@@ -196,11 +196,11 @@ module _ (t : Table) (few : Few) (source : Source) (sound : Sound t source) (s :
       run_like [] own (pc.Eval e ∷ (pc.DropNow ∷ (pc.Sweep e ∷ todo))) _ s.env n refl refl refl refl refl (f.0, f.1, (f, o)) h
 
   -- coroutines
-  set_up : (c : Option Routine) (r : ℕ) (todo : List Todo) (own : List Ty) → slice_get source.routines r ≡ c → IsStill t few sigs g sc s × ((c : ℕ) → g.this ≡ Some c → LiesIn t few (sw.new_exec (q.home_at s.run.this s.env) s.env) (Base few (sw.new_exec (q.home_at s.run.this s.env) s.env)) (Obj c) s.run.this) → IsMain t g r → Ok t g base sc todo own → All todo own s.run.operands → After (q.set_up_step c todo s)
+  set_up : (c : Option Routine) (r : ℕ) (todo : List Todo) (own : List Ty) → slice_get source.routines r ≡ c → ((m : Members) → members_at (q.home_at s.run.this s.env) s.env ≡ Some m → IsStill t few sigs g sc s × ((c : ℕ) → g.this ≡ Some c → LiesIn t few (sw.new_exec (q.home_at s.run.this s.env) s.env) (Base few (sw.new_exec (q.home_at s.run.this s.env) s.env)) (Obj c) s.run.this)) → IsMain t g r → Ok t g base sc todo own → All todo own s.run.operands → After (q.set_up_step c todo s)
   set_up None r todo own e l m o h = run sc own todo _ o h
   set_up (Some x) r todo own e l m o h =
       let n = sw.new_exec (q.home_at s.run.this s.env) s.env in
-      let known : KnowsEx t few n (q.fresh x s.run.this) = parking.fresh_knows t few n (t.routine r) x s.run.this (sound.routines r x e) m.1 (parking.this_apart t few s.env.exec n (AtHand t few s.env.exec (others sigs) s.callers) (AtHand t few n [] []) g (t.routine r) s.run.this m.0 this l.0 (λ c q. lies_more t few n (Base few n) (AtHand t few n [] []) (λ w a b. inl b) (Obj c) s.run.this (l.1 c q))) in
+      let known : (h : Members) → members_at (q.home_at s.run.this s.env) s.env ≡ Some h → KnowsEx t few n (q.fresh x s.run.this) = λ h at. parking.fresh_knows t few n (t.routine r) x s.run.this (sound.routines r x e) m.1 (parking.this_apart t few s.env.exec n (AtHand t few s.env.exec (others sigs) s.callers) (AtHand t few n [] []) g (t.routine r) s.run.this m.0 this (l h at).0 (λ c q. lies_more t few n (Base few n) (AtHand t few n [] []) (λ w a b. inl b) (Obj c) s.run.this ((l h at).1 c q))) in
       let born : Keeps t few s.env (sw.born (q.home_at s.run.this s.env) (q.fresh x s.run.this) s.env) = parking.born_keeps t few (q.home_at s.run.this s.env) (q.fresh x s.run.this) s.env known env in
       run_in sc [] own todo _ _ s.run.elements (parking.keeps_both t few born (parking.written_keeps t few s.run.this (Running n) _ born.env)) o h
 
@@ -312,7 +312,7 @@ module _ (t : Table) (few : Few) (source : Source) (sound : Sound t source) (s :
       calls.element t few source sound s sigs g base sc frames frame this callers env ends n (index_in n (number (top s.run.operands))) k a todo (top (below s.run.operands)) own (below (below s.run.operands)) (in_range n (number (top s.run.operands))) o.1 (kept_tracked t k a o.3) (subst (λ m. Known t few s.env.exec (With t few s sigs todo) (Row m a) (top (below s.run.operands))) o.0 (next t few s.env.exec (With t few s sigs todo) Num (Row m a) own s.run.operands h)) o.2 (rest_behind t few s.env.exec (With t few s sigs todo) Num (Row m a) own s.run.operands h)
   acts (pc.ElementNow n k) todo _ e l o h = absurd o
   acts (pc.FieldNow k i) todo (Obj c ∷ own) e l o h =
-      run sc (t.fields c i ∷ own) todo _ o.2 (further_field t few s.env.exec (With t few s sigs todo) c i k (top s.run.operands) o.0 o.1 (tracked_declared t sound.leads c i) (newest t few s.env.exec (With t few s sigs todo) (Obj c) own s.run.operands h), rest_of t few s.env.exec (With t few s sigs todo) (Obj c) own s.run.operands h)
+      run sc (t.fields c i ∷ own) todo _ o.2 (further_field t few s.env.exec (With t few s sigs todo) c i k (top s.run.operands) o.0 o.1 (told_declared t sound.leads c i) (newest t few s.env.exec (With t few s sigs todo) (Obj c) own s.run.operands h), rest_of t few s.env.exec (With t few s sigs todo) (Obj c) own s.run.operands h)
   acts (pc.FieldNow k i) todo _ e l o h = absurd o
   acts pc.NegateNow todo (Num ∷ own) e l o h = calls.outcome t few source sound s sigs g base sc frames frame this callers env ends _ todo own (below s.run.operands) o (rest_of t few s.env.exec (With t few s sigs todo) Num own s.run.operands h)
   acts pc.NegateNow todo _ e l o h = absurd o

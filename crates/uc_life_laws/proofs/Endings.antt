@@ -131,18 +131,18 @@ module _ (t : Table) (few : Few) where
             (OnObject r written, k, DropNow ∷ todo, refl, object r k written _ c (popped _ x.run.scope _ (o _ c).0) (λ d m. inl (k, m, refl)))
         by (Clean (Destroys (OfObject (EndCluster (Load (Variable k))))) ∷ todo) c o =
             let h = number Clu k _ tt c (inl (k, refl, refl)) in
-            (OfCluster, k, DropNow ∷ todo, refl, record { is = h.is; passes = h.passes; rooted = λ i. absurd i; held = λ i. absurd i })
+            (OfCluster, k, DropNow ∷ todo, refl, record { is = h.is; passes = h.passes; rooted = λ i. absurd i; held = λ i. absurd i; seated = λ i. absurd i })
         by (Clean (Destroys (OfObject (EndProcessor (Load (Variable k))))) ∷ todo) c o =
             let h = number Pro k _ tt c (inl (k, refl, refl)) in
-            (OfProcessor, k, DropNow ∷ todo, refl, record { is = h.is; passes = h.passes; rooted = λ i. absurd i; held = λ i. absurd i })
+            (OfProcessor, k, DropNow ∷ todo, refl, record { is = h.is; passes = h.passes; rooted = λ i. absurd i; held = λ i. absurd i; seated = λ i. absurd i })
         by (Unwind ∷ (Clean (Destroys (OfObject (EndOn r written (Load (Variable k))))) ∷ todo)) c o =
             (OnObject r written, k, DropNow ∷ (Unwind ∷ todo), refl, object r k written _ c (popped _ x.run.scope _ (o _ c)) (λ d m. inl (k, m, refl)))
         by (Unwind ∷ (Clean (Destroys (OfObject (EndCluster (Load (Variable k))))) ∷ todo)) c o =
             let h = number Clu k _ tt c (inl (k, refl, refl)) in
-            (OfCluster, k, DropNow ∷ (Unwind ∷ todo), refl, record { is = h.is; passes = h.passes; rooted = λ i. absurd i; held = λ i. absurd i })
+            (OfCluster, k, DropNow ∷ (Unwind ∷ todo), refl, record { is = h.is; passes = h.passes; rooted = λ i. absurd i; held = λ i. absurd i; seated = λ i. absurd i })
         by (Unwind ∷ (Clean (Destroys (OfObject (EndProcessor (Load (Variable k))))) ∷ todo)) c o =
             let h = number Pro k _ tt c (inl (k, refl, refl)) in
-            (OfProcessor, k, DropNow ∷ (Unwind ∷ todo), refl, record { is = h.is; passes = h.passes; rooted = λ i. absurd i; held = λ i. absurd i })
+            (OfProcessor, k, DropNow ∷ (Unwind ∷ todo), refl, record { is = h.is; passes = h.passes; rooted = λ i. absurd i; held = λ i. absurd i; seated = λ i. absurd i })
         by l c o = tt
 
     found : (s : State) (e : End) (k : ℕ) (todo : List Todo) → Held e k s → EndingStep 3 (act_todo source (Eval (end_expr e k) ∷ todo) s)
@@ -188,7 +188,7 @@ module _ (t : Table) (few : Few) where
   place : (gs : List Sig) (g : Sig) (base sc : List Name) (s : State) (e : End) (k : ℕ) (todo : List Todo) (own : List Ty) → Ok t g base sc (LoadNow ∷ behind_end e todo) own → Held e k s → top s.run.operands ≡ variable_at k s → Finds t few gs g sc s (LoadNow ∷ behind_end e todo) own
   place gs g base sc s e k todo (Cell a ∷ own) o h q =
       let f : Known t few s.env.exec (Here t few gs s) a (loaded (top s.run.operands) s.env) = subst (λ v. Known t few s.env.exec (Here t few gs s) a (loaded v s.env)) (sym q) (ended s.env.exec (Here t few gs s) g base sc e todo a own (loaded (variable_at k s) s.env) o.1 h) in
-      record { untracked = λ i. f; foreign = λ i. f; field = λ w b m i. f; making = λ w b m i. f }
+      record { untracked = λ i no. f; seated = λ i l. f; foreign = λ i. f; field = λ w b m i. f; making = λ w b m i. f }
   place gs g base sc s e k todo _ o h q = tt
 
   opens : (n : ℕ) (s : State) → Ending (suc n) s → Opens t few s

@@ -67,7 +67,7 @@ module _ (t : Table) (few : Few) (source : Source) (sound : Sound t source) (s :
         by : (b : Bool) → g.whole ≡ b → Known t few s.env.exec (AtHand t few s.env.exec (others sigs) s.callers) (object_ty b c) s.run.this → Known t few s.env.exec (With t few s sigs todo) (Obj c) s.run.this
         by true w h =
             let lies : LiesIn t few s.env.exec (With t few s sigs todo) (Obj c) s.run.this = made_itself (With t few s sigs todo) c s.run.this (inr (inl (g, frame, (w, (c, e, refl, refl))))) in
-            record { is = h.is; passes = still h.passes; rooted = λ i. lies; held = λ m. lies }
+            record { is = h.is; passes = still h.passes; rooted = λ i. lies; held = λ m. lies; seated = λ i. absurd i }
         by false w h =
             known_more t few s.env.exec (AtHand t few s.env.exec (others sigs) s.callers) (With t few s sigs todo) (older_hand t few s.env.exec sigs (record s.run { control = todo }) s.callers) (Obj c) s.run.this h
 
@@ -76,9 +76,9 @@ module _ (t : Table) (few : Few) (source : Source) (sound : Sound t source) (s :
       where
         by : (b : Bool) → g.whole ≡ b → Known t few s.env.exec (AtHand t few s.env.exec (others sigs) s.callers) (object_ty b c) s.run.this → Known t few s.env.exec (With t few s sigs todo) (t.fields c i) (further (FieldAt k i) s.run.this)
         by true m h =
-            known.further_placed t few s.env.exec (With t few s sigs todo) c i k s.run.this e w (known.tracked_declared t sound.leads c i) h.is (λ r. made_itself (With t few s sigs todo) c s.run.this (inr (inl (g, frame, (m, (c, n, refl, refl))))))
+            known.further_placed t few s.env.exec (With t few s sigs todo) c i k s.run.this e w (known.told_declared t sound.leads c i) h.is (λ r. made_itself (With t few s sigs todo) c s.run.this (inr (inl (g, frame, (m, (c, n, refl, refl))))))
         by false m h =
-            known.further_field t few s.env.exec (With t few s sigs todo) c i k s.run.this e w (known.tracked_declared t sound.leads c i) (known_more t few s.env.exec (AtHand t few s.env.exec (others sigs) s.callers) (With t few s sigs todo) (older_hand t few s.env.exec sigs (record s.run { control = todo }) s.callers) (Obj c) s.run.this h)
+            known.further_field t few s.env.exec (With t few s sigs todo) c i k s.run.this e w (known.told_declared t sound.leads c i) (known_more t few s.env.exec (AtHand t few s.env.exec (others sigs) s.callers) (With t few s sigs todo) (older_hand t few s.env.exec sigs (record s.run { control = todo }) s.callers) (Obj c) s.run.this h)
 
     pub read_at : known.Less t few s.env.exec (Here t few sigs s) (With t few s sigs todo) → known.Less t few s.env.exec (With t few s sigs todo) (Here t few sigs s) → (a : Ty) (v : Value) → Known t few s.env.exec (With t few s sigs todo) (Cell a) v → ReadsKnown t few sigs s a v → Known t few s.env.exec (With t few s sigs todo) a (loaded v s.env)
     read_at more back a v h r =
@@ -101,7 +101,7 @@ module _ (t : Table) (few : Few) (source : Source) (sound : Sound t source) (s :
 
     pub slot_known : (a : Ty) (k : ℕ) (tys : List Ty) → Ok t g base sc todo tys → IsPlaced t a → IsVariable t g sc k a → Known t few s.env.exec (With t few s sigs todo) a (variable_at k s)
     slot_known a k tys o w v =
-        known.known_place t few s.env.exec (With t few s sigs todo) a (variable_at k s) w (slot_is a k w) (λ b. tt) (λ i. by v i)
+        known.known_place t few s.env.exec (With t few s sigs todo) a (variable_at k s) w (slot_is a k w) (λ b. tt) (λ i. by v i) (λ i. inr (inl (refl, refl)))
       where
         by : IsVariable t g sc k a → IsTracked t a → LiesIn t few s.env.exec (With t few s sigs todo) a (variable_at k s)
         by (inl h) i = lies_itself (With t few s sigs todo) a (variable_at k s) (inl (reading.variable_thing t s.env.exec few (record s.run { control = todo } ∷ s.callers) (variable_at k s) a (scoped k a tys o h)))

@@ -75,8 +75,8 @@ module _ (t : Table) (few : Few) where
   told source (ask.Poll mask) answer.Nothing s x h p = three Nothing Nothing Nothing s x
   told source (ask.Read form) (answer.Value z failed) s x h p = number_brought [] (Number z) s x
   told source ask.Fail (answer.Number z) s x h p = number_brought [] (Number z) s x
-  told source ask.Cluster (answer.Object o) s x h p = made source Clu o s x (λ gs. record { is = tt; passes = p; rooted = λ i. absurd i; held = λ m. absurd m })
-  told source (ask.Processor c) (answer.Object o) s x h p = made source Pro o s x (λ gs. record { is = tt; passes = p; rooted = λ i. absurd i; held = λ m. absurd m })
+  told source ask.Cluster (answer.Object o) s x h p = made source Clu o s x (λ gs. record { is = tt; passes = p; rooted = λ i. absurd i; held = λ m. absurd m; seated = λ i. absurd i })
+  told source (ask.Processor c) (answer.Object o) s x h p = made source Pro o s x (λ gs. record { is = tt; passes = p; rooted = λ i. absurd i; held = λ m. absurd m; seated = λ i. absurd i })
   told source (ask.Made o) answer.Go s x h p = x
   told source (ask.Spawn o) answer.Go s x h p = x.2
   told source (ask.Call o m) answer.Go s x h p = x
@@ -99,7 +99,7 @@ module _ (t : Table) (few : Few) where
   module _ (source : Source) (sound : Sound t source) where
     main_at : (n : Exec) (K : Value → Ty → Type 0) (b : Bool) (c o : ℕ) → t.mutex c ≡ true → few.numbers (Raw c) o ≡ true → few.numbers (Obj c) o ≡ true → Held t few K (Obj c) (Object o) → Known t few n K (object_ty b c) (Object o)
     main_at n K true c o m q p h = record { is = subst (λ b. IsObjectBy t b c (Object o)) (sym m) tt; passes = q }
-    main_at n K false c o m q p h = record { is = subst (λ b. IsObjectBy t b c (Object o)) (sym m) tt; passes = p; rooted = λ i. h; held = λ i. h }
+    main_at n K false c o m q p h = record { is = subst (λ b. IsObjectBy t b c (Object o)) (sym m) tt; passes = p; rooted = λ i. h; held = λ i. h; seated = λ i. absurd i }
 
     main_this : (g : Sig) (o : Option ℕ) (k : ℕ) → IsOfTask t o → MainPasses t few o k → KnownThis t few (main_of k) (AtHand t few (main_of k) [] []) g o (Object k)
     main_this g None k h p = tt

@@ -1,8 +1,9 @@
 -- What is known stays so, to whoever knows more; and what is known of places further on.
-use Rattle.std.proofs.Common.{◌≡◌, ℕ, zero, suc, ◌<◌, ◌≤◌, ◌⊎◌, inl, inr, List, [], ◌∷◌, ◌++◌, length, take, drop, Option, Some, None, Bool, true, false, refl, sym, ap, ◌∙◌, subst, arith}
+use Rattle.std.proofs.Common.{◌≡◌, ℕ, zero, suc, ◌<◌, ◌≤◌, ◌⊎◌, inl, inr, ⊎_elim, List, [], ◌∷◌, ◌++◌, length, take, drop, Option, Some, None, Bool, true, false, refl, sym, ap, ◌∙◌, subst, arith}
 use Rattle.std.specs.Prelude.{nat_eq, if◌then◌else◌, slice_index_or, slice_set}
-use Rattle.uc_tree.specs.Source.{Shape}
+use Rattle.uc_tree.specs.Source.{Shape, Integer, Character, Truth, Binding, Last, Field, Array}
 use Rattle.uc_machine.specs.declared.exec.Exec.{Exec}
+use Rattle.uc_machine.specs.declared.exec.Owner.TheVariants.{Frame, Fields}
 use Rattle.uc_machine.specs.Executions.{at_depth, first_or, others, take_operands, list_in, set_depth, frame_changed, value_changed, values_cleared}
 use Rattle.uc_machine.specs.Pieces.{Link, FieldAt, At, Value, Number, Place, Running, Object, Nothing, Active, further, nought, stored, top, below}
 use Rattle.uc_typing.specs.Typing.{Ty, Num, Cell, Obj, Raw, Row, Clu, Pro, Sig, Table, IsPlaced, IsScalarPlace, IsBare, IsKept, IsParam, raw, element_shape, object_ty}
@@ -11,7 +12,7 @@ use Rattle.uc_typing.specs.States.{Is}
 use Rattle.uc_typing.proofs.Operands as operands
 use Rattle.uc_typing.proofs.Frames.{drop_onto}
 use Rattle.uc_life_laws.proofs.Cells.{known_stored}
-use Rattle.uc_life_laws.specs.Things.{Few, IsField, IsScalar, IsBinding, IsReference, IsUnbound, IsTracked, Within, itself, field, element, IsFew, LiesIn, IsKnown, Known, Held, lies, inside, Stands}
+use Rattle.uc_life_laws.specs.Things.{Few, IsField, IsScalar, IsBinding, IsReference, IsUnbound, IsTracked, IsResource, IsSited, IsLoosePlace, IsSeated, Within, itself, field, element, IsFew, LiesIn, IsKnown, Known, Held, lies, inside, Stands}
 use Rattle.uc_life_laws.specs.Knowing.{AtHand, KnownAll, KnownParams, KnownFrames, KnownThis}
 
 -- lists, as uc_typing has them
@@ -63,6 +64,33 @@ module _ (t : Table) where
   untracked c u Clu w v h i = i
   untracked c u Pro w v h i = i
 
+  -- what is told by its place, or is the place of a cluster or a processor
+  abbrev pub IsTold : Ty → Type 0
+  IsTold a = IsTracked t a ⊎ IsSited a
+
+  bound_resource : (a : Ty) → IsResource a → IsBinding a
+  bound_resource Num i = absurd i
+  bound_resource (Cell a) i = absurd i
+  bound_resource (Obj c) i = absurd i
+  bound_resource (Raw c) i = absurd i
+  bound_resource (Row m a) i = absurd i
+  bound_resource Clu i = tt
+  bound_resource Pro i = tt
+
+  unsited : (c : ℕ) → IsUnbound t (Obj c) → (a : Ty) (w v : Value) → Within t w (Obj c) v a → IsSited a → ⊥
+  unsited c u Num w v h i = i
+  unsited c u (Cell a) w v h i = u w v a h (bound_resource a i)
+  unsited c u (Obj d) w v h i = i
+  unsited c u (Raw d) w v h i = i
+  unsited c u (Row m a) w v h i = unsited c u a w (further (At (element_shape t a) 0) v) (element h 0 i.1) i.0
+  unsited c u Clu w v h i = i
+  unsited c u Pro w v h i = i
+
+  -- what is told lies in no object in which nothing is bound
+  untold : (c : ℕ) → IsUnbound t (Obj c) → (a : Ty) (w v : Value) → Within t w (Obj c) v a → IsTold a → ⊥
+  untold c u a w v h (inl i) = untracked c u a w v h i
+  untold c u a w v h (inr i) = unsited c u a w v h i
+
 -- nothing is bound in an object that has scalars alone
 within_bare : (t : Table) (c : ℕ) → ((i : ℕ) → IsScalarPlace (t.fields c i)) → {w v : Value} {a : Ty} → Within t w (Obj c) v a → (a ≡ Obj c) ⊎ IsScalarPlace a
 within_bare t c f itself = inl refl
@@ -110,10 +138,48 @@ pub kept_tracked : (t : Table) (s : Shape) (a : Ty) → IsKept t s a → IsTrack
 kept_tracked t s a (inl e) i = e
 kept_tracked t s a (inr b) i = absurd (bare_untracked t a b i)
 
--- a field that is tracked is one that somebody declared
-pub tracked_declared : (t : Table) → ((c : ℕ) → t.executes c ≡ true → t.fields c 0 ≡ Num) → (c i : ℕ) → IsTracked t (t.fields c i) → IsField t c i
-tracked_declared t l c zero i e = absurd (subst (IsTracked t) (l c e) i)
-tracked_declared t l c (suc n) i e = omega arith
+-- a field that is told is one that somebody declared
+pub told_declared : (t : Table) → ((c : ℕ) → t.executes c ≡ true → t.fields c 0 ≡ Num) → (c i : ℕ) → IsTold t (t.fields c i) → IsField t c i
+told_declared t l c zero (inl i) e = absurd (subst (IsTracked t) (l c e) i)
+told_declared t l c zero (inr i) e = absurd (subst IsSited (l c e) i)
+told_declared t l c (suc n) i e = omega arith
+
+-- an element is kept as a binding, or it is stray
+kept_or_stray : (s : Shape) → (s ≡ Binding) ⊎ (s ≡ Binding → ⊥)
+kept_or_stray Integer = inr (λ e. absurd (cc))
+kept_or_stray Character = inr (λ e. absurd (cc))
+kept_or_stray Truth = inr (λ e. absurd (cc))
+kept_or_stray Binding = inl refl
+kept_or_stray Last = inr (λ e. absurd (cc))
+kept_or_stray (Field a b) = inr (λ e. absurd (cc))
+kept_or_stray (Array m a) = inr (λ e. absurd (cc))
+
+-- the elements of an array of them are kept as bindings
+sited_shape : (t : Table) (a : Ty) → IsSited a → element_shape t a ≡ Binding
+sited_shape t Num i = absurd i
+sited_shape t (Cell a) i = refl
+sited_shape t (Obj c) i = absurd i
+sited_shape t (Raw c) i = absurd i
+sited_shape t (Row m a) i = refl
+sited_shape t Clu i = absurd i
+sited_shape t Pro i = absurd i
+
+loose_element : (n : Exec) (s : Shape) (j : ℕ) (v : Value) → IsLoosePlace n v → IsLoosePlace n (further (At s j) v)
+loose_element n s j (Number z) h = absurd h
+loose_element n s j (Place (Frame x d) p) (inl h) = inl h
+loose_element n s j (Place (Frame x d) p) (inr h) = inr (inr h)
+loose_element n s j (Place (Fields o) p) h = inr h
+loose_element n s j (Running x) h = absurd h
+loose_element n s j (Object o) h = absurd h
+loose_element n s j Nothing h = absurd h
+
+stray_element : (t : Table) (n : Exec) (m : ℕ) (a : Ty) (s : Shape) (j : ℕ) (v : Value) → Is t (Row m a) v → (s ≡ Binding → ⊥) → IsLoosePlace n (further (At s j) v)
+stray_element t n m a s j (Place (Frame x d) p) i f = inr (inl f)
+stray_element t n m a s j (Place (Fields o) p) i f = inl f
+stray_element t n m a s j (Number z) i f = absurd i
+stray_element t n m a s j (Running x) i f = absurd i
+stray_element t n m a s j (Object o) i f = absurd i
+stray_element t n m a s j Nothing i f = absurd i
 
 module _ (t : Table) (few : Few) (n : Exec) where
   -- what one knows, one who knows more does
@@ -137,7 +203,7 @@ module _ (t : Table) (few : Few) (n : Exec) where
     lies_more b Nothing h = tt
 
     is_more : (a : Ty) (v : Value) → IsKnown t few n K a v → IsKnown t few n L a v
-    is_more a v h = record { is = h.is; passes = h.passes; rooted = λ i. lies_more a v (h.rooted i); held = λ m. lies_more a v (h.held m) }
+    is_more a v h = record { is = h.is; passes = h.passes; rooted = λ i. lies_more a v (h.rooted i); held = λ m. lies_more a v (h.held m); seated = λ i. ⊎_elim (λ l. inl (lies_more a v l)) (λ l. inr l) (h.seated i) }
 
     pub known_more : (a : Ty) (v : Value) → Known t few n K a v → Known t few n L a v
     known_more Num v h = tt
@@ -217,30 +283,35 @@ module _ (t : Table) (few : Few) (n : Exec) where
     lies_element m j a Nothing l h = tt
 
     -- a place is known that lies in what is known
-    pub known_place : (a : Ty) (v : Value) → IsPlaced t a → Is t a v → ((b : Ty) → IsFew t few n b v) → (IsTracked t a → LiesIn t few n K a v) → Known t few n K a v
-    known_place Num v p i f h = absurd p
-    known_place (Cell a) v p i f h = record { is = i; passes = f (Cell a); rooted = h; held = λ m. absurd m }
-    known_place (Obj c) v p i f h = record { is = i; passes = f (Obj c); rooted = h; held = λ m. absurd (either_way (t.mutex c) m p) }
-    known_place (Raw c) v p i f h = record { is = i; passes = f (Raw c) }
-    known_place (Row m a) v p i f h = record { is = i; passes = f (Row m a); rooted = h; held = λ m. absurd m }
-    known_place Clu v p i f h = absurd p
-    known_place Pro v p i f h = absurd p
+    pub known_place : (a : Ty) (v : Value) → IsPlaced t a → Is t a v → ((b : Ty) → IsFew t few n b v) → (IsTracked t a → LiesIn t few n K a v) → (IsSited a → IsSeated t few n K a v) → Known t few n K a v
+    known_place Num v p i f h k = absurd p
+    known_place (Cell a) v p i f h k = record { is = i; passes = f (Cell a); rooted = h; held = λ m. absurd m; seated = k }
+    known_place (Obj c) v p i f h k = record { is = i; passes = f (Obj c); rooted = h; held = λ m. absurd (either_way (t.mutex c) m p); seated = λ i. absurd i }
+    known_place (Raw c) v p i f h k = record { is = i; passes = f (Raw c) }
+    known_place (Row m a) v p i f h k = record { is = i; passes = f (Row m a); rooted = h; held = λ m. absurd m; seated = k }
+    known_place Clu v p i f h k = absurd p
+    known_place Pro v p i f h k = absurd p
 
-    -- an object of which a field is tracked lies in what is at hand
-    object_lies : (b : Bool) (c i : ℕ) (v : Value) → t.mutex c ≡ b → IsField t c i → IsTracked t (t.fields c i) → IsKnown t few n K (Obj c) v → LiesIn t few n K (Obj c) v
+    -- an object of which a field is told lies in what is at hand
+    object_lies : (b : Bool) (c i : ℕ) (v : Value) → t.mutex c ≡ b → IsField t c i → IsTold t (t.fields c i) → IsKnown t few n K (Obj c) v → LiesIn t few n K (Obj c) v
     object_lies true c i v m f k h = h.held m
-    object_lies false c i v m f k h = h.rooted (λ u. untracked t c u (t.fields c i) v (further (FieldAt (t.shape c) i) v) (field itself i f) k)
+    object_lies false c i v m f k h = h.rooted (λ u. untold t c u (t.fields c i) v (further (FieldAt (t.shape c) i) v) (field itself i f) k)
 
-    pub further_placed : (c i : ℕ) (s : Shape) (v : Value) → s ≡ t.shape c → IsPlaced t (t.fields c i) → (IsTracked t (t.fields c i) → IsField t c i) → Is t (Obj c) v → (IsTracked t (t.fields c i) → LiesIn t few n K (Obj c) v) → Known t few n K (t.fields c i) (further (FieldAt s i) v)
-    further_placed c i s v e w f h l =
-        known_place (t.fields c i) (further (FieldAt s i) v) w (operands.further_field t c i s v e w h) (λ b. few_further b (FieldAt s i) v) (λ k. subst (λ s. LiesIn t few n K (t.fields c i) (further (FieldAt s i) v)) (sym e) (lies_field c i v (f k) (l k)))
+    pub further_placed : (c i : ℕ) (s : Shape) (v : Value) → s ≡ t.shape c → IsPlaced t (t.fields c i) → (IsTold t (t.fields c i) → IsField t c i) → Is t (Obj c) v → (IsTold t (t.fields c i) → LiesIn t few n K (Obj c) v) → Known t few n K (t.fields c i) (further (FieldAt s i) v)
+    further_placed c i s v e w f h l = known_place (t.fields c i) (further (FieldAt s i) v) w (operands.further_field t c i s v e w h) (λ b. few_further b (FieldAt s i) v) (λ k. lies (inl k)) (λ k. inl (lies (inr k)))
+      where
+        lies : IsTold t (t.fields c i) → LiesIn t few n K (t.fields c i) (further (FieldAt s i) v)
+        lies k = subst (λ s. LiesIn t few n K (t.fields c i) (further (FieldAt s i) v)) (sym e) (lies_field c i v (f k) (l k))
 
-    pub further_field : (c i : ℕ) (s : Shape) (v : Value) → s ≡ t.shape c → IsPlaced t (t.fields c i) → (IsTracked t (t.fields c i) → IsField t c i) → Known t few n K (Obj c) v → Known t few n K (t.fields c i) (further (FieldAt s i) v)
+    pub further_field : (c i : ℕ) (s : Shape) (v : Value) → s ≡ t.shape c → IsPlaced t (t.fields c i) → (IsTold t (t.fields c i) → IsField t c i) → Known t few n K (Obj c) v → Known t few n K (t.fields c i) (further (FieldAt s i) v)
     further_field c i s v e w f h = further_placed c i s v e w f h.is (λ k. object_lies (t.mutex c) c i v refl (f k) k h)
 
     pub further_element : (m j : ℕ) (a : Ty) (s : Shape) (v : Value) → j < m → IsPlaced t a → (IsTracked t a → s ≡ element_shape t a) → Known t few n K (Row m a) v → Known t few n K a (further (At s j) v)
     further_element m j a s v l w f h =
-        known_place a (further (At s j) v) w (operands.further_element t m j a s v l w h.is) (λ b. few_further b (At s j) v) (λ k. subst (λ s. LiesIn t few n K a (further (At s j) v)) (sym (f k)) (lies_element m j a v l (h.rooted (k, omega (arith, l)))))
+        known_place a (further (At s j) v) w (operands.further_element t m j a s v l w h.is) (λ b. few_further b (At s j) v) (λ k. subst (λ s. LiesIn t few n K a (further (At s j) v)) (sym (f k)) (lies_element m j a v l (h.rooted (k, omega (arith, l))))) (λ k. ⊎_elim (kept k) (λ no. inr (stray_element t n m a s j v h.is no)) (kept_or_stray s))
+      where
+        kept : IsSited a → s ≡ Binding → IsSeated t few n K a (further (At s j) v)
+        kept k e = ⊎_elim (λ lies. inl (subst (λ s. LiesIn t few n K a (further (At s j) v)) (sited_shape t a k ∙ sym e) (lies_element m j a v l lies))) (λ loose. inr (loose_element n s j v loose)) (h.seated (k, omega (arith, l)))
 
     -- what is whole may be taken for what is not
     raw_scalar : (a : Ty) → IsScalar (raw a) → raw a ≡ a
@@ -270,6 +341,24 @@ module _ (t : Table) (few : Few) (n : Exec) where
     raw_tracked Clu i = absurd i
     raw_tracked Pro i = absurd i
 
+    raw_resource : (a : Ty) → IsResource (raw a) → raw a ≡ a
+    raw_resource Num i = absurd i
+    raw_resource (Cell a) i = absurd i
+    raw_resource (Obj c) i = absurd i
+    raw_resource (Raw c) i = absurd i
+    raw_resource (Row m a) i = absurd i
+    raw_resource Clu i = refl
+    raw_resource Pro i = refl
+
+    raw_sited : (a : Ty) → IsSited (raw a) → raw a ≡ a
+    raw_sited Num i = absurd i
+    raw_sited (Cell a) i = ap Cell (raw_resource a i)
+    raw_sited (Obj c) i = absurd i
+    raw_sited (Raw c) i = absurd i
+    raw_sited (Row m a) i = ap (Row m) (raw_sited a i.0)
+    raw_sited Clu i = absurd i
+    raw_sited Pro i = absurd i
+
     raw_placed : (a : Ty) → IsPlaced t a → IsPlaced t (raw a)
     raw_placed Num p = absurd p
     raw_placed (Cell a) p = tt
@@ -281,8 +370,17 @@ module _ (t : Table) (few : Few) (n : Exec) where
 
     pub known_raw : (a : Ty) (v : Value) → IsPlaced t a → ((b : Ty) → IsFew t few n b v) → Known t few n K a v → Known t few n K (raw a) v
     known_raw a v w f h =
-        known_place (raw a) v (raw_placed a w) (operands.is_raw t a v (known_is a v h)) f (λ i. let e : raw a ≡ a = raw_tracked a i in subst (λ b. LiesIn t few n K b v) (sym e) (rooted a h (subst (IsTracked t) e i)))
+        known_place (raw a) v (raw_placed a w) (operands.is_raw t a v (known_is a v h)) f (λ i. let e : raw a ≡ a = raw_tracked a i in subst (λ b. LiesIn t few n K b v) (sym e) (rooted a h (subst (IsTracked t) e i))) (λ i. let e : raw a ≡ a = raw_sited a i in subst (λ b. IsSeated t few n K b v) (sym e) (seated a h (subst IsSited e i)))
       where
+        seated : (a : Ty) → Known t few n K a v → IsSited a → IsSeated t few n K a v
+        seated Num h i = absurd i
+        seated (Cell a) h i = h.seated i
+        seated (Obj c) h i = absurd i
+        seated (Raw c) h i = absurd i
+        seated (Row m a) h i = h.seated i
+        seated Clu h i = absurd i
+        seated Pro h i = absurd i
+
         rooted : (a : Ty) → Known t few n K a v → IsTracked t a → LiesIn t few n K a v
         rooted Num h i = absurd i
         rooted (Cell a) h i = h.rooted i

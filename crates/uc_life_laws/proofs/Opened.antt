@@ -52,21 +52,21 @@ module _ (t : Table) (n : Exec) (K : Value → Ty → Type 0) (objects : (c o : 
   cluster (Number z) h = absurd h
   cluster (Place o p) h = absurd h
   cluster (Running x) h = absurd h
-  cluster (Object o) h = record { is = tt; passes = refl; rooted = λ i. absurd i; held = λ m. absurd m }
+  cluster (Object o) h = record { is = tt; passes = refl; rooted = λ i. absurd i; held = λ m. absurd m; seated = λ i. absurd i }
   cluster Nothing h = absurd h
 
   processor : (v : Value) → IsNumbered v → Known t any n K Pro v
   processor (Number z) h = absurd h
   processor (Place o p) h = absurd h
   processor (Running x) h = absurd h
-  processor (Object o) h = record { is = tt; passes = refl; rooted = λ i. absurd i; held = λ m. absurd m }
+  processor (Object o) h = record { is = tt; passes = refl; rooted = λ i. absurd i; held = λ m. absurd m; seated = λ i. absurd i }
   processor Nothing h = absurd h
 
   object : (c : ℕ) (v : Value) → t.mutex c ≡ true → IsNumbered v → Known t any n K (Obj c) v
   object c (Number z) m h = absurd h
   object c (Place o p) m h = absurd h
   object c (Running x) m h = absurd h
-  object c (Object o) m h = record { is = subst (λ (b : Bool). IsObjectBy t b c (Object o)) (sym m) tt; passes = refl; rooted = λ i. inl (lies (objects c o) itself); held = λ i. inl (lies (objects c o) itself) }
+  object c (Object o) m h = record { is = subst (λ (b : Bool). IsObjectBy t b c (Object o)) (sym m) tt; passes = refl; rooted = λ i. inl (lies (objects c o) itself); held = λ i. inl (lies (objects c o) itself); seated = λ i. absurd i }
   object c Nothing m h = absurd h
 
   -- what ends at a place, of the numbers that it holds

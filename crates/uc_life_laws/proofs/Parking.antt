@@ -103,13 +103,13 @@ module _ (t : Table) (few : Few) where
   -- executions are made and go, and their links change
 
   -- known under the name that it gets
-  pub born_keeps : (h : Home) (x : Ex) (e : Env) → KnowsSlot t few (sw.new_exec h e) x → KnowsEnv t few e → Keeps e (sw.born h x e)
+  pub born_keeps : (h : Home) (x : Ex) (e : Env) → ((m : Members) → members_at h e ≡ Some m → KnowsSlot t few (sw.new_exec h e) x) → KnowsEnv t few e → Keeps e (sw.born h x e)
   born_keeps h x e r s =
       keeps_frames (parked.change_exec h (sw.one_more x) e) (parked.change_frames h (sw.one_more x) e) (by (members_at h e) (parked.members_rests (KnowsSlot t few) h e s) r)
     where
-      by : (o : Option Members) → MembersBy (KnowsSlot t few) h o → KnowsSlot t few (at_home h (sw.serial_in o)) x → KnowsEnv t few (change_in h (sw.one_more x) o e)
+      by : (o : Option Members) → MembersBy (KnowsSlot t few) h o → ((m : Members) → o ≡ Some m → KnowsSlot t few (at_home h (sw.serial_in o)) x) → KnowsEnv t few (change_in h (sw.one_more x) o e)
       by None k r = s
-      by (Some m) k r = parked.set_rests (KnowsSlot t few) h (sw.one_more x m) e (parked.more_parked (KnowsSlot t few) h m.serial x m.parked r k) s
+      by (Some m) k r = parked.set_rests (KnowsSlot t few) h (sw.one_more x m) e (parked.more_parked (KnowsSlot t few) h m.serial x m.parked (r m refl) k) s
 
   pub forgotten_keeps : (o : Option Exec) (e : Env) → KnowsEnv t few e → Keeps e (sw.forgotten o e)
   forgotten_keeps None e s = keeps_like s refl refl refl refl refl
@@ -274,7 +274,7 @@ module _ (t : Table) (few : Few) where
   -- what is an object, whole or not, is one to an execution that has it at hand
   object_to : (n : Exec) (K : Value → Ty → Type 0) (b : Bool) (c : ℕ) (v : Value) → IsObject t c v → IsFew t few n (Raw c) v → IsFew t few n (Obj c) v → LiesIn t few n K (Obj c) v → Known t few n K (object_ty b c) v
   object_to n K true c v i r f h = record { is = i; passes = r }
-  object_to n K false c v i r f h = record { is = i; passes = f; rooted = λ k. h; held = λ m. h }
+  object_to n K false c v i r f h = record { is = i; passes = f; rooted = λ k. h; held = λ m. h; seated = λ i. absurd i }
 
   object_apart : (n m : Exec) (K L : Value → Ty → Type 0) (b d : Bool) (c : ℕ) (v : Value) → Known t few n K (object_ty b c) v → (IsFew t few n (Raw c) v → IsFew t few n (Obj c) v) × (IsFew t few n (Obj c) v → IsFew t few n (Raw c) v) → LiesIn t few m L (Obj c) v → Known t few m L (object_ty d c) v
   object_apart n m K L true d c v h f k = object_to m L d c v h.is (few_other n m (Raw c) v h.passes) (few_other n m (Obj c) v (f.0 h.passes)) k

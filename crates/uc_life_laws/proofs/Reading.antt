@@ -18,7 +18,7 @@ use Rattle.uc_typing.specs.Typing.{Ty, Num, Cell, Obj, Raw, Row, Clu, Pro, Name,
 use Rattle.uc_typing.specs.Pieces.{Ok, Left, Met}
 use Rattle.uc_typing.specs.States.{Either, IsBase}
 use Rattle.uc_typing.proofs.Control as control
-use Rattle.uc_life_laws.specs.Things.{Few, IsBinding, IsReference, Within, itself, field, element, AtVariable, AtField, IsFor, Nowhere, Marks, InTodo, Things, Variables, OwnFields, LiesIn, Known, Holds, Held, lies, inside}
+use Rattle.uc_life_laws.specs.Things.{Few, IsBinding, IsReference, IsResource, Within, itself, field, element, AtVariable, AtField, IsFor, Nowhere, Marks, InTodo, Things, Variables, OwnFields, LiesIn, Known, Holds, Held, lies, inside}
 use Rattle.uc_life_laws.specs.LifeStates.{frame_at, Outwards, MarkHolds, AllHold, LifeStack, LifeState}
 use Rattle.uc_life_laws.specs.Knowing.{Here, ReadsKnown, InMaking}
 use Rattle.uc_life_laws.proofs.Steps.{exec_same}
@@ -32,7 +32,7 @@ home_is (home.Task x) (home.Object y) e = absurd (cc)
 home_is (home.Object x) (home.Task y) e = absurd (cc)
 home_is (home.Object x) (home.Object y) e = ap home.Object (eqb-true x y e)
 
-exec_is : (x y : Exec) → exec_eq x y ≡ true → x ≡ y
+pub exec_is : (x y : Exec) → exec_eq x y ≡ true → x ≡ y
 exec_is x y e = by (home_eq x.home y.home) refl e
   where
     by : (b : Bool) → home_eq x.home y.home ≡ b → (if b then nat_eq x.serial y.serial else false) ≡ true → x ≡ y
@@ -323,6 +323,24 @@ reference (Row m a) = inr (λ i. i)
 reference Clu = inr (λ i. i)
 reference Pro = inr (λ i. i)
 
+resource : (a : Ty) → IsResource a ⊎ (IsResource a → ⊥)
+resource Num = inr (λ i. i)
+resource (Cell a) = inr (λ i. i)
+resource (Obj c) = inr (λ i. i)
+resource (Raw c) = inr (λ i. i)
+resource (Row m a) = inr (λ i. i)
+resource Clu = inl tt
+resource Pro = inl tt
+
+resource_bound : (a : Ty) → IsResource a → IsBinding a
+resource_bound Num i = absurd i
+resource_bound (Cell a) i = absurd i
+resource_bound (Obj c) i = absurd i
+resource_bound (Raw c) i = absurd i
+resource_bound (Row m a) i = absurd i
+resource_bound Clu i = tt
+resource_bound Pro i = tt
+
 -- a reference is a binding
 bound : (a : Ty) → IsReference a → IsBinding a
 bound Num i = absurd i
@@ -370,4 +388,4 @@ module _ (t : Table) (few : Few) (s : State) (st : LifeState t few s) (gs : List
 
   -- at a place that is known
   pub load_known : (a : Ty) (v : Value) → Known t few s.env.exec (Here t few gs s) (Cell a) v → ReadsKnown t few gs s a v → Known t few s.env.exec (Here t few gs s) a (loaded v s.env)
-  load_known a v h r = ⊎_elim (λ i. bound_read a v (bound a i) (h.rooted i) r) (λ no. r.untracked no) (reference a)
+  load_known a v h r = ⊎_elim (λ i. bound_read a v (bound a i) (h.rooted i) r) (λ no. ⊎_elim (λ i. ⊎_elim (λ l. bound_read a v (resource_bound a i) l r) (λ l. r.seated i l) (h.seated i)) (λ other. r.untracked no other) (resource a)) (reference a)

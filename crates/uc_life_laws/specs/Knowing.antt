@@ -8,15 +8,15 @@ use Rattle.uc_machine.specs.declared.exec.Home.TheVariants.{Task}
 use Rattle.uc_machine.specs.declared.exec.Owner.TheVariants.{Frame}
 use Rattle.uc_machine.specs.declared.exec.Stage.{Stage}
 use Rattle.uc_machine.specs.declared.exec.Stage.TheVariants.{Fresh, Started, Ended}
-use Rattle.uc_machine.specs.Executions.{Execution, at_depth, others}
-use Rattle.uc_machine.specs.Pieces.{FieldAt, Value, Place, Todo, Eval, LoadNow, Object, SetUpNow, SpawnNow, Active, State, Env, Step, Goes, Ticks, Asks, further, loaded, top, object_in}
+use Rattle.uc_machine.specs.Executions.{Execution, at_depth, others, members_at}
+use Rattle.uc_machine.specs.Pieces.{FieldAt, Value, Place, Todo, Eval, LoadNow, Object, SetUpNow, SpawnNow, Active, State, Env, Members, Step, Goes, Ticks, Asks, further, loaded, top, object_in}
 use Rattle.uc_machine.specs.Switches.{new_exec}
 use Rattle.uc_machine.specs.Quiet.{home_at}
 use Rattle.uc_machine.specs.Answering.{child_main}
 use Rattle.uc_typing.specs.Typing.{Ty, Num, Cell, Obj, Raw, Clu, Pro, Name, Sig, Table, IsTarget, object_ty, Yields}
 use Rattle.uc_typing.specs.Pieces.{Ok, onto}
 use Rattle.uc_typing.specs.States.{IsBase, IsTask}
-use Rattle.uc_life_laws.specs.Things.{Few, IsReference, Within, OwnFields, Base, Things, LiesIn, Known, Held, IsFew}
+use Rattle.uc_life_laws.specs.Things.{Few, IsReference, IsResource, IsLoosePlace, Within, OwnFields, Base, Things, LiesIn, Known, Held, IsFew}
 use Rattle.uc_life_laws.specs.LifeStates.{EnvBy}
 
 -- the object at hand, in a constructor or a destructor: it is there, but not whole
@@ -157,10 +157,11 @@ abbrev pub Here : Table → Few → List Sig → State → Value → Ty → Type
 Here t few gs s w a = AtHand t few s.env.exec gs (s.run ∷ s.callers) w a
 
 module _ (t : Table) (few : Few) (gs : List Sig) (s : State) where
-  -- what is read at a place is known, where that is no reference in what is whole, where it belongs to another execution or a mutex object,
-  -- and where it lies in an object that is being built or destroyed
+  -- what is read at a place is known, where that is no reference, no cluster and no processor in what is whole, but one at a variable or an element of
+  -- one, where it belongs to another execution or a mutex object, and where it lies in an object that is being built or destroyed
   pub record ReadsKnown (a : Ty) (v : Value) : Type 0 where
-    pub untracked : (IsReference a → ⊥) → Known t few s.env.exec (Here t few gs s) a (loaded v s.env)
+    pub untracked : (IsReference a → ⊥) → (IsResource a → ⊥) → Known t few s.env.exec (Here t few gs s) a (loaded v s.env)
+    pub seated : IsResource a → IsLoosePlace s.env.exec v → Known t few s.env.exec (Here t few gs s) a (loaded v s.env)
     pub foreign : (IsOwn s.env.exec v → ⊥) → Known t few s.env.exec (Here t few gs s) a (loaded v s.env)
     pub field : (w : Value) (b : Ty) → OwnFields t few s.env.exec (s.run ∷ s.callers) w b →
         Within t w b v (Cell a) →
@@ -187,8 +188,9 @@ module _ (t : Table) (few : Few) (gs : List Sig) (g : Sig) (sc : List Name) (s :
   abbrev pub Finds : List Todo → List Ty → Type 0
   Finds (Eval e ∷ todo) own = (a : Ty) → Yields t g sc e a → FindsExpr e a
   Finds (LoadNow ∷ todo) (Cell a ∷ more) = ReadsKnown t few gs s a (top s.run.operands)
-  -- a new execution has its coroutine at hand
-  Finds (SetUpNow r ∷ todo) own = IsStill × ((c : ℕ) → g.this ≡ Some c →
+  -- a new execution, whose home is in hand, has its coroutine at hand
+  Finds (SetUpNow r ∷ todo) own = (m : Members) → members_at (home_at s.run.this s.env) s.env ≡ Some m →
+      IsStill × ((c : ℕ) → g.this ≡ Some c →
       LiesIn t few (new_exec (home_at s.run.this s.env) s.env) (Base few (new_exec (home_at s.run.this s.env) s.env)) (Obj c) s.run.this)
   -- so has a new task
   Finds (SpawnNow r ∷ todo) own = HasObject t few (t.routine r).this (object_in s.run.this)

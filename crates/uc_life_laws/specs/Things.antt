@@ -1,6 +1,6 @@
 -- What an execution knows: the things that are still to be cleaned up, each by its place and its type, and all that lies within them.
 use Rattle.std.specs.Prelude.{◌≡◌, ℕ, ◌≤◌, ◌<◌, ◌⊎◌, Bool, true, List, [], ◌∷◌, slice_index_or, false, if◌then◌else◌}
-use Rattle.uc_tree.specs.Source.{Shape, Variable, OfObject, OwnField, CleanUp}
+use Rattle.uc_tree.specs.Source.{Shape, Binding, Variable, OfObject, OwnField, CleanUp}
 use Rattle.uc_machine.specs.declared.exec.Exec.{Exec}
 use Rattle.uc_machine.specs.declared.exec.Owner.{Owner}
 use Rattle.uc_machine.specs.declared.exec.Owner.TheVariants.{Frame, Fields}
@@ -130,7 +130,8 @@ abbrev pub IsUnbound : Table → Ty → Type 0
 IsUnbound t a = (w v : Value) (b : Ty) → Within t w a v (Cell b) → IsBinding b → ⊥
 
 -- a place of this type is told by the thing in which it lies: that of an object in which something is bound, of an array of such, and of a
--- reference. It is not told of scalars, of what is being built, of clusters and processors
+-- reference. It is not told of scalars and of what is being built; nor of clusters and processors, of which a variable that is still to be bound
+-- has the type of one that is
 abbrev pub IsTracked : Table → Ty → Type 0
 IsTracked t Num = ⊥
 IsTracked t (Cell a) = IsReference a
@@ -139,6 +140,48 @@ IsTracked t (Raw c) = ⊥
 IsTracked t (Row n a) = IsTracked t a × (0 < n)
 IsTracked t Clu = ⊥
 IsTracked t Pro = ⊥
+
+-- a cluster or a processor
+abbrev pub IsResource : Ty → Type 0
+IsResource Num = ⊥
+IsResource (Cell a) = ⊥
+IsResource (Obj c) = ⊥
+IsResource (Raw c) = ⊥
+IsResource (Row n a) = ⊥
+IsResource Clu = Unit {0}
+IsResource Pro = Unit {0}
+
+-- the place of one, or of an array of them
+abbrev pub IsSited : Ty → Type 0
+IsSited Num = ⊥
+IsSited (Cell a) = IsResource a
+IsSited (Obj c) = ⊥
+IsSited (Raw c) = ⊥
+IsSited (Row n a) = IsSited a × (0 < n)
+IsSited Clu = ⊥
+IsSited Pro = ⊥
+
+-- a variable, or an element of an array that is one; and an element that is kept as no binding is
+abbrev pub IsOfVariable : List Link → Type 0
+IsOfVariable [] = ⊥
+IsOfVariable (Slot k ∷ p) = p ≡ []
+IsOfVariable (At s j ∷ p) = IsOfVariable p
+IsOfVariable (FieldAt s i ∷ p) = ⊥
+
+abbrev pub IsStray : List Link → Type 0
+IsStray [] = ⊥
+IsStray (Slot k ∷ p) = ⊥
+IsStray (At s j ∷ p) = (s ≡ Binding → ⊥) ⊎ IsStray p
+IsStray (FieldAt s i ∷ p) = ⊥
+
+-- the place of such a variable in a frame of this execution, or of such an element
+abbrev pub IsLoosePlace : Exec → Value → Type 0
+IsLoosePlace n (Number z) = ⊥
+IsLoosePlace n (Place (Frame x d) p) = (IsOfVariable p × (x ≡ n)) ⊎ IsStray p
+IsLoosePlace n (Place (Fields o) p) = IsStray p
+IsLoosePlace n (Running x) = ⊥
+IsLoosePlace n (Object o) = ⊥
+IsLoosePlace n Nothing = ⊥
 
 -- what is known
 
@@ -181,6 +224,10 @@ module _ (t : Table) (few : Few) (n : Exec) where
   LiesIn K b (Object o) = Held t few K b (Object o)
   LiesIn K b Nothing = Unit {0}
 
+  -- one of a cluster or a processor does so, or it is that of a variable, which may still be to be bound, or of an element of one
+  abbrev pub IsSeated : (Value → Ty → Type 0) → Ty → Value → Type 0
+  IsSeated K b v = LiesIn K b v ⊎ IsLoosePlace n v
+
   -- it is of its type, a number is such, and a place lies in what is at hand, and so does a mutex object. Of the places of scalars nothing
   -- more is told
   pub record IsKnown (K : Value → Ty → Type 0) (a : Ty) (v : Value) : Type 0 where
@@ -188,6 +235,7 @@ module _ (t : Table) (few : Few) (n : Exec) where
     pub passes : IsFew a v
     pub rooted : IsTracked t a → LiesIn K a v
     pub held : IsMutex t a → LiesIn K a v
+    pub seated : IsSited a → IsSeated K a v
 
   -- one that is being built or destroyed has such a number
   pub record IsMade (c : ℕ) (v : Value) : Type 0 where

@@ -4,3 +4,4 @@ pub mod Worlds
 pub mod Openings
 pub mod Endings
 pub mod Readings
+pub mod FoundTexts

@@ -1,1 +1,2 @@
 pub mod TypedRuns
+pub mod FoundTexts

@@ -1,5 +1,6 @@
 // The laws of types over runs of programs. Each function does nothing: its contract is the law.
 
+ghost use Rattle.uc_typed_runs.specs.FoundTexts.{LawFoundTexts};
 ghost use Rattle.uc_typed_runs.specs.TypedRuns.{LawTypedRuns, LawTypedTexts};
 
 /// In a run of a sound source, in which all that was asked fits and all that was read of bindings is
@@ -15,4 +16,11 @@ pub fn law_typed_runs()
 /// and of fields of the object at hand, but by clean-ups of variables.
 pub fn law_typed_texts()
     ensures { LawTypedTexts }
+{}
+
+/// So it is where only that is asked of what is read which no state tells: what is read in frames of other
+/// executions and in mutex objects, and of what is being built or destroyed, and what plain objects hold as
+/// their scopes open. There all is known that whoever runs can come by.
+pub fn law_found_texts()
+    ensures { LawFoundTexts }
 {}

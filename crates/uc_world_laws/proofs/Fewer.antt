@@ -1,5 +1,5 @@
 -- With fewer numbers all stays known, where nobody has at hand what had the others.
-use Rattle.std.proofs.Common.{◌≡◌, ℕ, ◌⊎◌, inl, inr, Bool, true, false, List, [], ◌∷◌, Option, Some, None, refl, ℤ}
+use Rattle.std.proofs.Common.{◌≡◌, ℕ, ◌⊎◌, inl, inr, ⊎_elim, Bool, true, false, List, [], ◌∷◌, Option, Some, None, refl, ℤ}
 use Rattle.uc_machine.specs.declared.exec.Exec.{Exec}
 use Rattle.uc_machine.specs.declared.exec.Home.{Home}
 use Rattle.uc_machine.specs.declared.exec.Home.TheVariants as home
@@ -87,7 +87,7 @@ module _ (t : Table) (few : Few) (numbers : Ty → ℕ → Bool) where
       object_few lasts b c Nothing m i h f = tt
 
       is_fewer : (a : Ty) (v : Value) → (IsFew t few n a v → IsFew t less n a v) → IsKnown t few n K a v → IsKnown t less n K a v
-      is_fewer a v f h = record { is = h.is; passes = f h.passes; rooted = λ i. lies_same K a v (h.rooted i); held = λ m. lies_same K a v (h.held m) }
+      is_fewer a v f h = record { is = h.is; passes = f h.passes; rooted = λ i. lies_same K a v (h.rooted i); held = λ m. lies_same K a v (h.held m); seated = λ i. ⊎_elim (λ l. inl (lies_same K a v l)) (λ l. inr l) (h.seated i) }
 
       known_fewer : Lasts t few numbers K → (a : Ty) (v : Value) → Known t few n K a v → Known t less n K a v
       known_fewer lasts Num v h = tt

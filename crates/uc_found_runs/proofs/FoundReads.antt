@@ -1,0 +1,195 @@
+-- What numbers and homes alone tell: an object at hand has the number of one that is whole, a task and a new execution have their objects at hand,
+-- and what is read in what lies outside the frames of the running execution is read elsewhere.
+use Rattle.std.proofs.Common.{◌≡◌, ℕ, ◌<◌, ◌⊎◌, inl, inr, ⊎_elim, List, [], ◌∷◌, Option, Some, None, Bool, true, false, refl, sym, ap, ◌∙◌, subst}
+use Rattle.std.specs.Prelude.{if◌then◌else◌, slice_get}
+use Rattle.uc_tree.specs.Source.{Expr, Shape, Variable, OfObject, ObjectExpr, This, GetOwn, OwnField, CleanUp, Destroys, DestroysAll, Source, Routine}
+use Rattle.uc_machine.specs.declared.exec.Exec.{Exec}
+use Rattle.uc_machine.specs.declared.exec.Home.{Home}
+use Rattle.uc_machine.specs.declared.exec.Owner.{Owner}
+use Rattle.uc_machine.specs.declared.exec.Owner.TheVariants.{Frame, Fields}
+use Rattle.uc_machine.specs.Executions.{exec_eq, members_at}
+use Rattle.uc_machine.specs.Switches.{new_exec}
+use Rattle.uc_machine.specs.Quiet.{home_at}
+use Rattle.uc_machine.specs.Pieces as piece
+use Rattle.uc_machine.specs.Pieces.{Link, FieldAt, Value, Number, Place, Running, Object, Nothing, Todo, Sort, Active, State, Members, Eval, LoadNow, SetUpNow, SpawnNow, further, loaded, top, object_in}
+use Rattle.uc_typing.specs.Typing.{Ty, Cell, Obj, Raw, Row, Name, Sig, Table, IsMain, Yields, ObjectGives, DestroysAt, CleansAt}
+use Rattle.uc_typing.specs.Pieces.{Ok}
+use Rattle.uc_typing.specs.States.{Sound}
+use Rattle.uc_typing.proofs.Answers.{there}
+use Rattle.uc_acts.specs.Journal.{Journal}
+use Rattle.uc_meaning.specs.Runs.{World}
+use Rattle.uc_scope_laws.specs.RoomRuns.{Comes}
+use Rattle.uc_name_laws.specs.Below.{IsNamed}
+use Rattle.uc_named_runs.specs.NamedRuns.{ComesNamed}
+use Rattle.uc_life_laws.specs.Things.{Few, numbered, is_outside, Within, itself, field, element, AtVariable, AtField, IsFor, Marks, InTodo, InStack, NoBase, Base, Things, OwnFields, LiesIn, IsFew, lies}
+use Rattle.uc_life_laws.specs.Knowing.{InMaking, IsOwn, Here, KnowsState, ReadsKnown, IsStill, FindsObject, FindsExpr, Finds, HasObject}
+use Rattle.uc_life_laws.proofs.Reading.{exec_is}
+use Rattle.uc_life_laws.proofs.Steps.{exec_same}
+use Rattle.uc_found_runs.specs.FoundReads.{OwnMarks, ReadsFound, ReadsAt, Reads}
+
+-- in a frame of this execution or elsewhere
+own_or_not : (n : Exec) (v : Value) → IsOwn n v ⊎ (IsOwn n v → ⊥)
+own_or_not n (Place (Frame x d) p) = by (exec_eq x n) refl
+  where
+    by : (b : Bool) → exec_eq x n ≡ b → (x ≡ n) ⊎ (x ≡ n → ⊥)
+    by true e = inl (exec_is x n e)
+    by false e = inr (λ q. let f : false ≡ true = sym e ∙ (ap (λ (m : Exec). exec_eq m n) q ∙ exec_same n) in absurd (cc))
+own_or_not n (Place (Fields o) p) = inr (λ h. h)
+own_or_not n (Number z) = inr (λ h. h)
+own_or_not n (Running x) = inr (λ h. h)
+own_or_not n (Object o) = inr (λ h. h)
+own_or_not n Nothing = inr (λ h. h)
+
+-- what lies outside is in no frame of its own, and so is what lies within it
+own_inside : (n : Exec) (v : Value) → IsOwn n v → is_outside n v ≡ true → ⊥
+own_inside n (Place (Frame x d) p) h e =
+    let f : (if exec_eq x n then false else true) ≡ true = e in
+    let g : exec_eq x n ≡ true = ap (λ (m : Exec). exec_eq m n) h ∙ exec_same n in
+    let q : false ≡ true = subst (λ (b : Bool). (if b then false else true) ≡ true) g f in
+    absurd (cc)
+own_inside n (Place (Fields o) p) h e = h
+own_inside n (Number z) h e = h
+own_inside n (Running x) h e = h
+own_inside n (Object o) h e = h
+own_inside n Nothing h e = h
+
+own_further : (n : Exec) (l : Link) (v : Value) → IsOwn n (further l v) → IsOwn n v
+own_further n l (Place (Frame x d) p) h = h
+own_further n l (Place (Fields o) p) h = h
+own_further n l (Number z) h = h
+own_further n l (Running x) h = h
+own_further n l (Object o) h = h
+own_further n l Nothing h = h
+
+outside : (t : Table) (n : Exec) (w : Value) (a : Ty) (v : Value) (b : Ty) → Within t w a v b → IsOwn n v → is_outside n w ≡ true → ⊥
+outside t n w a v b itself h e = own_inside n v h e
+outside t n w a v b (field {v = u} {c} k i f) h e = outside t n w a u (Obj c) k (own_further n _ u h) e
+outside t n w a v b (element {v = u} {m} {b = d} k j l) h e = outside t n w a u (Row m d) k (own_further n _ u h) e
+
+-- of all fields that an execution has at hand those that it has of others lie outside
+own_marks : (t : Table) (few : Few) (n : Exec) (cs : List Active) (w : Value) (b : Ty) → OwnFields t few n cs w b → OwnMarks t n cs w b ⊎ Base few n w b
+own_marks t few n [] w b m = inr m
+own_marks t few n (c ∷ older) w b (inl m) = inl (inl m)
+own_marks t few n (c ∷ older) w b (inr m) = ⊎_elim (λ h. inl (inr h)) (λ h. inr h) (own_marks t few n older w b m)
+
+-- no mark is for what is not whole
+
+module _ (t : Table) (c : ℕ) (w : Value) where
+  raw_ended : (x : CleanUp) (place : Expr) → CleansAt t (Raw c) place x → ⊥
+  raw_ended (Destroys e) place h = h
+  raw_ended (DestroysAll m e) place h = h
+  raw_ended x place h = absurd h
+
+  raw_marked : (o : Owner) (this : Value) (s : Sort) (R : Type 0) → Marks (IsFor t o this) (AtField t o this) s w (Raw c) R → R
+  raw_marked o this (piece.IsClean x) R (inl (inl m)) = absurd (raw_ended x (Variable m.0) m.1)
+  raw_marked o this (piece.IsClean x) R (inl (inr m)) = absurd (raw_ended x (OfObject (OwnField m.0 m.1)) m.2)
+  raw_marked o this (piece.IsClean x) R (inr r) = r
+  raw_marked o this (piece.IsPart x) R (inl m) = absurd (raw_ended x (OfObject (OwnField m.0 m.1)) m.2)
+  raw_marked o this (piece.IsPart x) R (inr r) = r
+  raw_marked o this piece.Simple R r = r
+  raw_marked o this (piece.IsLoop x y z q) R r = r
+  raw_marked o this piece.IsWhole R r = r
+  raw_marked o this (piece.IsFill x y z) R r = r
+  raw_marked o this (piece.IsSweep x) R r = r
+  raw_marked o this (piece.IsGuard x) R r = r
+  raw_marked o this piece.IsFinish R r = r
+  raw_marked o this piece.IsFinishCoroutine R r = r
+
+  raw_todo : (o : Owner) (this : Value) (todo : List Todo) → InTodo (IsFor t o this) (AtField t o this) todo w (Raw c) → ⊥
+  raw_todo o this [] m = m
+  raw_todo o this (x ∷ todo) m = raw_todo o this todo (raw_marked o this (piece.sort x) _ m)
+
+  raw_thing : (few : Few) (n : Exec) (cs : List Active) → Things t few n cs w (Raw c) → Base few n w (Raw c)
+  raw_thing few n [] m = m
+  raw_thing few n (x ∷ older) (inl m) = absurd (raw_todo (Frame n x.frame) x.this x.control m)
+  raw_thing few n (x ∷ older) (inr m) = raw_thing few n older m
+
+-- a new execution is none in whose frame its coroutine lies
+
+module _ (source : Source) where
+  abbrev pub SetsUpNew : State → Type 0
+  SetsUpNew s = (r : ℕ) (todo : List Todo) → s.run.control ≡ SetUpNow r ∷ todo →
+      (x : Routine) → slice_get source.routines r ≡ Some x →
+      (m : Members) → members_at (home_at s.run.this s.env) s.env ≡ Some m →
+      (d : ℕ) (p : List Link) → s.run.this ≡ Place (Frame (new_exec (home_at s.run.this s.env) s.env) d) p → ⊥
+
+  -- so it is of each state to which whoever runs comes in a run, by the names of executions
+  pub sets_up : (j : Journal) (w : World) (before : Home → ℕ) (n : ℕ) (s : State) (c : Comes source j w n s) → ComesNamed source j w before n s c → SetsUpNew s
+  sets_up j w before n s c h r todo e x k m at d p q =
+      h.new (new_exec (home_at s.run.this s.env) s.env) (record { main = r; todo = todo; next = e; routine = x; known = k; members = m; in_hand = at; named = refl }) (subst (IsNamed h.now) q h.names.run_named.this_named)
+
+module _ (t : Table) (numbers : Ty → ℕ → Bool) where
+  abbrev few : Few
+  few = numbered numbers
+
+  -- what is not in a frame of an execution is at hand to it
+  at_hand : (n : Exec) (c : ℕ) (v : Value) → ((d : ℕ) (p : List Link) → v ≡ Place (Frame n d) p → ⊥) → LiesIn t few n (Base few n) (Obj c) v
+  at_hand n c (Place (Frame x d) p) h = by (exec_eq x n) refl
+    where
+      by : (b : Bool) → exec_eq x n ≡ b → LiesIn t few n (Base few n) (Obj c) (Place (Frame x d) p)
+      by true e = absurd (h d p (ap (λ (m : Exec). Place (Frame m d) p) (exec_is x n e)))
+      by false e = inl (lies (ap (λ (b : Bool). if b then false else true) e) itself)
+  at_hand n c (Place (Fields o) p) h = inl (lies refl itself)
+  at_hand n c (Object o) h = inl (lies refl itself)
+  at_hand n c (Number z) h = tt
+  at_hand n c (Running x) h = tt
+  at_hand n c Nothing h = tt
+
+  -- what is whole has the numbers of what is not
+  raw_few : (n : Exec) (c : ℕ) (v : Value) → IsFew t few n (Raw c) v → IsFew t few n (Obj c) v
+  raw_few n c (Object o) h = h
+  raw_few n c (Place o p) h = tt
+  raw_few n c (Number z) h = tt
+  raw_few n c (Running x) h = tt
+  raw_few n c Nothing h = tt
+
+  few_raw : (n : Exec) (c : ℕ) (v : Value) → IsFew t few n (Obj c) v → IsFew t few n (Raw c) v
+  few_raw n c (Object o) h = h
+  few_raw n c (Place o p) h = tt
+  few_raw n c (Number z) h = tt
+  few_raw n c (Running x) h = tt
+  few_raw n c Nothing h = tt
+
+  has_object : (c : Option ℕ) (o : ℕ) → HasObject t few c o
+  has_object None o = tt
+  has_object (Some c) o = inl (lies refl itself)
+
+  module _ (gs : List Sig) (s : State) where
+    reads_known : (a : Ty) (v : Value) → ReadsFound t few gs s a v → ReadsKnown t few gs s a v
+    reads_known a v r = record {
+      untracked = λ no other. ⊎_elim (λ i. r.ending i no other) (λ i. r.foreign i) (own_or_not s.env.exec v);
+      seated = λ k l. ⊎_elim (λ i. r.loose i k l) (λ i. r.foreign i) (own_or_not s.env.exec v);
+      foreign = r.foreign;
+      field = λ w b m y. ⊎_elim (λ i. ⊎_elim (λ h. r.field i w b h y) (λ h. absurd (outside t s.env.exec w b v (Cell a) y i h)) (own_marks t few s.env.exec (s.run ∷ s.callers) w b m)) (λ i. r.foreign i) (own_or_not s.env.exec v);
+      making = λ w c m y. ⊎_elim (λ i. ⊎_elim (λ h. absurd (outside t s.env.exec w (Obj c) v (Cell a) y i (raw_thing t c w few s.env.exec (s.run ∷ s.callers) h))) (λ h. r.making i w c h y) m) (λ i. r.foreign i) (own_or_not s.env.exec v);
+    }
+
+    still : (g : Sig) (sc : List Name) → IsStill t few gs g sc s
+    still g sc c e = (raw_few s.env.exec c s.run.this, few_raw s.env.exec c s.run.this)
+
+    module _ (source : Source) (sound : Sound t source) (new : SetsUpNew source s) (g : Sig) (base sc : List Name) where
+      known : (r : ℕ) (o : Option Routine) → slice_get source.routines r ≡ o → IsMain t g r → (x : Routine) × (slice_get source.routines r ≡ Some x)
+      known r None e m = absurd (there source.routines r (subst (λ (k : ℕ). r < k) (sym sound.count) m.2) e)
+      known r (Some x) e m = (x, e)
+
+      objects : (o : ObjectExpr) (todo : List Todo) (own : List Ty) → ReadsAt t few gs s g sc (Eval (OfObject o) ∷ todo) own → (a : Ty) → ObjectGives t g sc o a → FindsObject t few gs g sc s o a
+      objects This todo own h a y = still g sc
+      objects (GetOwn k i) todo own h a y = reads_known a (further (FieldAt k i) s.run.this) (h a y)
+      objects o todo own h a y = tt
+
+      exprs : (e : Expr) (todo : List Todo) (own : List Ty) → ReadsAt t few gs s g sc (Eval e ∷ todo) own → (a : Ty) → Yields t g sc e a → FindsExpr t few gs g sc s e a
+      exprs (OfObject o) todo own h a y = objects o todo own h a y
+      exprs e todo own h a y = tt
+
+      finds : (control : List Todo) (own : List Ty) → s.run.control ≡ control → Ok t g base sc control own → ReadsAt t few gs s g sc control own → Finds t few gs g sc s control own
+      finds (Eval e ∷ todo) own q o h = λ a y. exprs e todo own h a y
+      finds (LoadNow ∷ todo) (Cell a ∷ more) e o h = reads_known a (top s.run.operands) h
+      finds (SetUpNow r ∷ todo) own e o h = λ m at. (still g sc, λ c q. at_hand (new_exec (home_at s.run.this s.env) s.env) c s.run.this (λ d p is. let x = known r (slice_get source.routines r) refl o.0 in new r todo e x.0 x.1 m at d p is))
+      finds (SpawnNow r ∷ todo) own e o h = has_object (t.routine r).this (object_in s.run.this)
+      finds control own e o h = tt
+
+  -- by some typing, then, a step finds what it is to find
+  pub found : (source : Source) (sound : Sound t source) (s : State) → SetsUpNew source s → Reads t few s → (x : KnowsState t few [] s) × Finds t few x.sigs x.run.sig x.run.scope s s.run.control x.run.own
+  found source sound s new h =
+      let x = h.0 in
+      (x, finds x.sigs s source sound new x.run.sig x.run.base x.run.scope s.run.control x.run.own refl x.run.ok h.1)

@@ -1,0 +1,3 @@
+pub mod FoundReads
+pub mod Walking
+pub mod FoundRuns

@@ -1,0 +1,2 @@
+pub mod FoundReads
+pub mod FoundRuns

@@ -1,0 +1,4 @@
+// What a run is still to show of what it reads.
+#![tactic(auto)]
+
+pub mod laws;

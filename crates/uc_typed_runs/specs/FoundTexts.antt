@@ -1,0 +1,58 @@
+-- Runs of programs whose text is accepted, of which it is asked only what no state tells: that scopes of plain objects open where these hold what is
+-- known, and of what is read, what is read elsewhere or of what is being built or destroyed.
+use Rattle.std.specs.Prelude.{◌≡◌, ℕ, zero, suc, false, List, [], ◌∷◌}
+use Rattle.uc_tree.specs.Programs.{Program}
+use Rattle.uc_tree.specs.Source.{Source, CleanUp, Stmts, Scoped}
+use Rattle.uc_entry.specs.declared.entry.Options.{Options}
+use Rattle.uc_acts.specs.Journal.{Journal, is_over}
+use Rattle.uc_acts.specs.KernelRuns.{InRange}
+use Rattle.uc_machine.specs.Pieces.{Rest}
+use Rattle.uc_machine.specs.Quiet.{State, Todo}
+use Rattle.uc_machine.specs.Answering.{answered}
+use Rattle.uc_meaning.specs.Runs.{World, Runs, drawn}
+use Rattle.uc_program_laws.specs.Fitting.{RunFits}
+use Rattle.uc_resolve.specs.Resolve.{source_of}
+use Rattle.uc_scope_laws.specs.RoomRuns.{Comes}
+use Rattle.uc_typing.specs.Typing.{Table}
+use Rattle.uc_sound.specs.Tables.{table_of}
+use Rattle.uc_formed.specs.WellTyped.{IsTextOf}
+use Rattle.uc_value_laws.specs.Endings.{RunHolds, LeadsHold}
+use Rattle.uc_address_laws.specs.Limits.{IsWithinLimits}
+use Rattle.uc_life_laws.specs.LifeStates.{LifeState}
+use Rattle.uc_life_laws.specs.Knowing.{KnowsState}
+use Rattle.uc_life_laws.specs.Opened.{any, ObjectsHold}
+use Rattle.uc_found_runs.specs.FoundReads.{Reads}
+use Rattle.uc_typed_runs.specs.TypedRuns.{IsTyped}
+
+-- where a scope of plain objects opens, they hold what is known, and by some typing what the next step reads is known where no state tells it
+pub record Founds (t : Table) (s : State) : Type 0 where
+  pub objects : (c : CleanUp) (rest : Stmts) (todo : List Todo) →
+      s.run.control ≡ Rest (Scoped c rest) ∷ todo → ObjectsHold t c todo s
+  pub reads : KnowsState t any [] s → Reads t any s
+
+-- but in the four states from which a clean-up comes to the variable that it ends, and reads it
+abbrev pub FoundsOutside : Table → ℕ → State → Type 0
+FoundsOutside t zero s = Founds t s
+FoundsOutside t (suc n) s = Unit {0}
+
+abbrev pub Led : Table → (source : Source) (j : Journal) (w : World) (n : ℕ) (s : State) →
+    Comes source j w n s → Type 0
+Led t source j w n s c =
+    LeadsHold (FoundsOutside t) source 0 (answered source c.given (drawn j w n)) s c.leads
+
+-- all tasks are in order, and all that is at home somewhere, and whoever runs in each state to which it comes; there all is known that its
+-- execution can come by, and what is in scope holds what is known
+pub record IsInOrder (t : Table) (source : Source) (j : Journal) (w : World) : Type 0 where
+  pub typed : IsTyped t source (LeadsHold (FoundsOutside t) source 0) j w
+  pub knows : (n : ℕ) (s : State) (c : Comes source j w n s) → Led t source j w n s c →
+      KnowsState t any [] s
+  pub scopes : (n : ℕ) (s : State) (c : Comes source j w n s) → Led t source j w n s c → LifeState t any s
+
+-- of each program whose text is accepted and which is within its limits, as long as all that was asked so far fits
+abbrev pub LawFoundTexts : Type 0
+LawFoundTexts =
+    (text : List ℕ) (p : Program) → IsTextOf text p → IsWithinLimits p →
+    (input : List ℕ) (opts : Options) (j : Journal) (w : World) (r : Runs (source_of p) input opts j w) →
+    InRange opts → RunFits (source_of p) input opts j w r →
+    RunHolds (FoundsOutside (table_of p)) (source_of p) input opts j w r → is_over j ≡ false →
+    IsInOrder (table_of p) (source_of p) j w
