@@ -1,6 +1,5 @@
 -- In programs within their limits what binds leaves what it is to leave; so all is known where objects hold what is known.
 use Rattle.std.proofs.Common.{ℕ, List}
-use Rattle.uc_tree.specs.Programs.{Program}
 use Rattle.uc_tree.specs.Source.{Source}
 use Rattle.uc_entry.specs.declared.entry.Options.{Options}
 use Rattle.uc_entry.specs.declared.request.Asked.{Asked}

@@ -39,7 +39,7 @@ use Rattle.uc_building_laws.specs.BuildingStates.{variable}
 use Rattle.uc_building_laws.specs.BuildingLaws.{IsConstructed, Constructs, BuildsAt, Fair}
 use Rattle.uc_building_laws.specs.BuildingRuns.{Makes, MakesNext, RemainsAt, Remains, LawHeads}
 use Rattle.uc_building_laws.proofs.Given.{owns, in_scope, none_made}
-use Rattle.uc_building_laws.proofs.Heads.{heads}
+use Rattle.uc_building_laws.proofs.Heads.{heads, unsited}
 use Rattle.uc_building_laws.proofs.Plain.{plain_of, no_scope}
 
 -- what is made of a sort
@@ -164,7 +164,7 @@ module _ (p : Program) (formed : IsFormed p) (accepted : breaks_of p ≡ []) whe
           plain = plain r z.0 z.2.0 i z.1;
           makes = λ q e j f told. makes r z.0 z.2.0 i z.1 q e j told;
           object = object r k z.2.1;
-          given = λ q e j b l. in_scope t source (law_sound p formed accepted) s x r q e (owns t source (law_sound p formed accepted) s x r todo calls) m j b l;
+          given = λ q e j b l. in_scope t source (law_sound p formed accepted) s x r q e (owns t source (law_sound p formed accepted) s x r todo calls) (unsited p r) m j b l;
         }
 
     constructs_at : (r : ℕ) (todo : List Todo) → Calls r todo → Awaited (Called r) todo → MakesNext t source s r todo → Constructs t (heads_of p) any source s r todo

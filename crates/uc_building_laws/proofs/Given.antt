@@ -1,5 +1,5 @@
 -- What a constructor is given is known to what is in scope, where it lies in that.
-use Rattle.std.proofs.Common.{◌≡◌, ℕ, ◌-◌, ◌⊎◌, inl, inr, Bool, true, List, [], ◌∷◌, length, Some, refl, sym, subst}
+use Rattle.std.proofs.Common.{◌≡◌, ℕ, ◌-◌, ◌⊎◌, inl, inr, Bool, List, [], ◌∷◌, Some, refl, sym, subst}
 use Rattle.std.specs.Prelude.{replicate, slice_get, slice_index_or}
 use Rattle.uc_tree.specs.Source.{Routine, Source, CleanUp}
 use Rattle.uc_machine.specs.declared.exec.Exec.{Exec}
@@ -11,7 +11,7 @@ use Rattle.uc_machine.specs.Pieces.{Value, Todo, Active, State, nought}
 use Rattle.uc_typing.specs.Typing.{Ty, Num, Cell, Obj, Raw, Row, Clu, Pro, Table, IsParam, object_ty}
 use Rattle.uc_typing.specs.Pieces.{Ok, onto}
 use Rattle.uc_typing.specs.States.{IsNumbered, IsObjectBy, Sound}
-use Rattle.uc_life_laws.specs.Things.{IsTracked, IsMutex, lies, itself, InStack, Base, Things, LiesIn, IsFor, AtField, Known}
+use Rattle.uc_life_laws.specs.Things.{IsTracked, IsSited, lies, itself, InStack, Base, Things, LiesIn, IsFor, AtField, Known}
 use Rattle.uc_life_laws.specs.Knowing.{InMaking, AtHand, KnownAll, KnownParams, KnowsState}
 use Rattle.uc_life_laws.specs.Opened.{any}
 use Rattle.uc_life_laws.proofs.Knowns as known
@@ -35,14 +35,15 @@ module _ (t : Table) (n : Exec) (cs : List Active) where
   numbered c piece.Nothing h = absurd h
 
   module _ (K : Value → Ty → Type 0) where
-    pub known_in : (b : Ty) (v : Value) → Known t any n K b v → (IsTracked t b → LiesIn t any n InScope b v) → Known t any n InScope b v
-    known_in Num v h r = tt
-    known_in (Cell a) v h r = record { is = h.is; passes = h.passes; rooted = r; held = λ m. absurd m }
-    known_in (Obj c) v h r = record { is = h.is; passes = h.passes; rooted = r; held = λ m. numbered c v (subst (λ (b : Bool). IsObjectBy t b c v) m h.is) }
-    known_in (Raw c) v h r = record { is = h.is; passes = h.passes }
-    known_in (Row m a) v h r = record { is = h.is; passes = h.passes; rooted = r; held = λ m. absurd m }
-    known_in Clu v h r = record { is = h.is; passes = h.passes; rooted = r; held = λ m. absurd m }
-    known_in Pro v h r = record { is = h.is; passes = h.passes; rooted = r; held = λ m. absurd m }
+    -- one that is no place of a cluster or a processor
+    known_in : (b : Ty) (v : Value) → (IsSited b → ⊥) → Known t any n K b v → (IsTracked t b → LiesIn t any n InScope b v) → Known t any n InScope b v
+    known_in Num v u h r = tt
+    known_in (Cell a) v u h r = record { is = h.is; passes = h.passes; rooted = r; held = λ m. absurd m; seated = λ i. absurd (u i) }
+    known_in (Obj c) v u h r = record { is = h.is; passes = h.passes; rooted = r; held = λ m. numbered c v (subst (λ (b : Bool). IsObjectBy t b c v) m h.is); seated = λ i. absurd i }
+    known_in (Raw c) v u h r = record { is = h.is; passes = h.passes }
+    known_in (Row m a) v u h r = record { is = h.is; passes = h.passes; rooted = r; held = λ m. absurd m; seated = λ i. absurd (u i) }
+    known_in Clu v u h r = record { is = h.is; passes = h.passes; rooted = r; held = λ m. absurd m; seated = λ i. absurd i }
+    known_in Pro v u h r = record { is = h.is; passes = h.passes; rooted = r; held = λ m. absurd m; seated = λ i. absurd i }
 
     lies_in : (b : Ty) (v : Value) → Known t any n K b v → IsTracked t b → LiesIn t any n K b v
     lies_in Num v h i = absurd i
@@ -85,8 +86,8 @@ module _ (t : Table) (source : Source) (sound : Sound t source) (s : State) (x :
     given j b i = known.held t any s.env.exec Here ps (call_frame q s.run.operands) j b params i
 
     -- what lies in scope is known there
-    pub in_scope : Makes t source s r → (j : ℕ) (b : Ty) → IsParam ps j b → Known t any s.env.exec (Things t any s.env.exec (s.run ∷ s.callers)) b (slice_index_or (call_frame q s.run.operands) j nought)
-    in_scope h j b i = known_in t s.env.exec (s.run ∷ s.callers) Here b _ (given j b i) (h.given q is j b i)
+    pub in_scope : ((j : ℕ) (b : Ty) → IsParam ps j b → IsSited b → ⊥) → Makes t source s r → (j : ℕ) (b : Ty) → IsParam ps j b → Known t any s.env.exec (Things t any s.env.exec (s.run ∷ s.callers)) b (slice_index_or (call_frame q s.run.operands) j nought)
+    in_scope u h j b i = known_in t s.env.exec (s.run ∷ s.callers) Here b _ (u j b i) (given j b i) (h.given q is j b i)
 
     -- so it is of all where nothing is being made
     module _ (none : (w : Value) (a : Ty) → InMaking x.sigs (s.run ∷ s.callers) w a → ⊥) where

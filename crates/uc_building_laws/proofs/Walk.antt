@@ -1,5 +1,5 @@
 -- Every quiet step of a task in which constructors have bound what they do not bind any more, and answers to it.
-use Rattle.std.proofs.Common.{◌≡◌, ℕ, Bool, List, [], ◌∷◌, length, inl, inr, Option, Some, None, refl, sym, ap, subst}
+use Rattle.std.proofs.Common.{◌≡◌, ℕ, Bool, List, [], ◌∷◌, length, inl, inr, Option, Some, None, refl, sym, subst}
 use Rattle.std.specs.Prelude.{nat_lt, slice_get, drop}
 use Rattle.uc_tree.specs.Source as src
 use Rattle.uc_tree.specs.Source.{Source, Stmt, Stmts, Routine, CleanUp, routine_of}
