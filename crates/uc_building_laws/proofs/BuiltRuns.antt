@@ -1,6 +1,5 @@
 -- In programs within their limits what binds leaves what it is to leave; so all is known where objects hold what is known.
 use Rattle.std.proofs.Common.{ℕ, List}
-use Rattle.uc_tree.specs.Programs.{Program}
 use Rattle.uc_tree.specs.Source.{Source}
 use Rattle.uc_entry.specs.declared.entry.Options.{Options}
 use Rattle.uc_entry.specs.declared.request.Asked.{Asked}
@@ -18,6 +17,7 @@ use Rattle.uc_binding_laws.proofs.OpenRuns.{law_opens}
 use Rattle.uc_sound.specs.Tables.{table_of}
 use Rattle.uc_life_laws.specs.OpenedRuns.{MeetsObjects, IsFollowed}
 use Rattle.uc_life_laws.proofs.OpenedRuns.{law_opened_runs}
+use Rattle.uc_building_laws.specs.Building.{heads_of}
 use Rattle.uc_building_laws.specs.BuildingRuns.{MeetsBuilding}
 use Rattle.uc_building_laws.specs.BuiltRuns.{FindsBuilding, LawBuiltRuns}
 use Rattle.uc_building_laws.proofs.Worlds.{law_built}
@@ -48,14 +48,14 @@ law_built_runs p formed accepted within input opts range j w r fits on finds = r
   reads = λ n s c l f. followed.reads n s c (objects n s c l) (law_built.here p formed accepted input opts range j w r fits on meets n s c (leads n s c l) (f (law_opens.comes p formed accepted within input opts range j w r fits on n s c)));
 }
   where
-    meets : RunMeets (MeetsBuilding (table_of p) (source_of p)) (source_of p) input opts j w r
-    meets = run_by (Opens (source_of p)) (MeetsBuilding (table_of p) (source_of p)) (source_of p) input opts r (law_opens.runs p formed accepted within input opts range j w r fits) finds
+    meets : RunMeets (MeetsBuilding (table_of p) (heads_of p) (source_of p)) (source_of p) input opts j w r
+    meets = run_by (Opens (source_of p)) (MeetsBuilding (table_of p) (heads_of p) (source_of p)) (source_of p) input opts r (law_opens.runs p formed accepted within input opts range j w r fits) finds
 
     followed : IsFollowed (table_of p) (source_of p) j w
     followed = law_opened_runs p formed accepted input opts range j w r fits on (law_built.runs p formed accepted input opts range j w r fits meets)
 
-    leads : (n : ℕ) (s : State) (c : Comes (source_of p) j w n s) → LeadsMeet (FindsBuilding (table_of p) (source_of p)) (source_of p) (answered (source_of p) c.given (drawn j w n)) s c.leads → LeadsMeet (MeetsBuilding (table_of p) (source_of p)) (source_of p) (answered (source_of p) c.given (drawn j w n)) s c.leads
-    leads n s c l = lead_by (Opens (source_of p)) (MeetsBuilding (table_of p) (source_of p)) (source_of p) c.leads (law_opens.leads p formed accepted within input opts range j w r fits on n s c) l
+    leads : (n : ℕ) (s : State) (c : Comes (source_of p) j w n s) → LeadsMeet (FindsBuilding (table_of p) (heads_of p) (source_of p)) (source_of p) (answered (source_of p) c.given (drawn j w n)) s c.leads → LeadsMeet (MeetsBuilding (table_of p) (heads_of p) (source_of p)) (source_of p) (answered (source_of p) c.given (drawn j w n)) s c.leads
+    leads n s c l = lead_by (Opens (source_of p)) (MeetsBuilding (table_of p) (heads_of p) (source_of p)) (source_of p) c.leads (law_opens.leads p formed accepted within input opts range j w r fits on n s c) l
 
-    objects : (n : ℕ) (s : State) (c : Comes (source_of p) j w n s) → LeadsMeet (FindsBuilding (table_of p) (source_of p)) (source_of p) (answered (source_of p) c.given (drawn j w n)) s c.leads → LeadsMeet (MeetsObjects (table_of p) (source_of p)) (source_of p) (answered (source_of p) c.given (drawn j w n)) s c.leads
+    objects : (n : ℕ) (s : State) (c : Comes (source_of p) j w n s) → LeadsMeet (FindsBuilding (table_of p) (heads_of p) (source_of p)) (source_of p) (answered (source_of p) c.given (drawn j w n)) s c.leads → LeadsMeet (MeetsObjects (table_of p) (source_of p)) (source_of p) (answered (source_of p) c.given (drawn j w n)) s c.leads
     objects n s c l = law_built.leads p formed accepted input opts range j w r fits on meets n s c (leads n s c l)

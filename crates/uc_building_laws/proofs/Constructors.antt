@@ -11,7 +11,7 @@ use Rattle.uc_tree.specs.Cells.{classes_of, object_of_kind, object_named}
 use Rattle.uc_tree.specs.Objects.{APlain, making_by, making, written_at}
 use Rattle.uc_tree.specs.Programs.{Class, Program}
 use Rattle.uc_tree.specs.Source as src
-use Rattle.uc_tree.specs.Source.{Source, Purpose, Routine, CleanUp}
+use Rattle.uc_tree.specs.Source.{Source, Purpose, Routine, CleanUp, routine_of, routine_or_none}
 use Rattle.uc_machine.specs.Pieces as piece
 use Rattle.uc_machine.specs.Pieces.{Value, Todo, State, top}
 use Rattle.uc_resolve.specs.Resolve.{source_of}
@@ -29,12 +29,17 @@ use Rattle.uc_sound.proofs.DeclaringLemmas.{made_kind, made}
 use Rattle.uc_sound.proofs.ObjectLemmas.{Making_is, made_told}
 use Rattle.uc_sound.proofs.SoundLemmas.{law_sound}
 use Rattle.uc_event_laws.specs.Counted.{params_at, params}
-use Rattle.uc_life_laws.specs.Things.{Few, IsUnbound}
+use Rattle.uc_life_laws.specs.Things.{IsUnbound}
+use Rattle.uc_life_laws.specs.Knowing.{KnowsState}
+use Rattle.uc_life_laws.specs.Opened.{any}
 use Rattle.uc_opening_laws.specs.Opened.{role_number, ArePaired, OfPlain}
 use Rattle.uc_opening_laws.specs.OpeningLaws.{Awaited, CallsAt, IsCalled}
+use Rattle.uc_building_laws.specs.Building.{is_bound_in, heads_of, InHead}
 use Rattle.uc_building_laws.specs.BuildingStates.{variable}
 use Rattle.uc_building_laws.specs.BuildingLaws.{IsConstructed, Constructs, BuildsAt, Fair}
-use Rattle.uc_building_laws.specs.BuildingRuns.{Makes, MakesNext, RemainsAt, Remains}
+use Rattle.uc_building_laws.specs.BuildingRuns.{Makes, MakesNext, RemainsAt, Remains, LawHeads}
+use Rattle.uc_building_laws.proofs.Given.{owns, in_scope, none_made}
+use Rattle.uc_building_laws.proofs.Heads.{heads, unsited}
 use Rattle.uc_building_laws.proofs.Plain.{plain_of, no_scope}
 
 -- what is made of a sort
@@ -101,6 +106,22 @@ module _ (p : Program) (formed : IsFormed p) (accepted : breaks_of p ≡ []) whe
         by None e = ap (λ n. (t.routine n).whole) (x.builds ∙ ap (role_number p x.class role.Constructor) e) ∙ m.unwritten_whole e
         by (Some n) e = ap (λ n. (t.routine n).whole) (x.builds ∙ ap (role_number p x.class role.Constructor) e) ∙ m.written_whole n e
 
+    -- it is of the class
+    constructs : (t.routine r).this ≡ Some x.class
+    constructs = by (written_at p x.class role.Constructor) refl
+      where
+        m : TellsMaker t p x.class role.Constructor
+        m = is_made.0
+
+        by : (o : Option ℕ) → written_at p x.class role.Constructor ≡ o → (t.routine r).this ≡ Some x.class
+        by None e = ap (λ n. (t.routine n).this) (x.builds ∙ ap (role_number p x.class role.Constructor) e) ∙ m.unwritten_this e
+        by (Some n) e = ap (λ n. (t.routine n).this) (x.builds ∙ ap (role_number p x.class role.Constructor) e) ∙ (m.written n e).this
+
+    -- it binds what is told in its first statements
+    pub binds : (q : Routine) → slice_get source.routines r ≡ Some q → (i : ℕ) → heads_of p x.class i ≡ true → InHead t (t.routine r).params x.class i q.body ⊎ IsUnbound t (t.fields x.class i)
+    binds q e i h =
+        heads p formed accepted r x.class constructs q e i (sym (ap (λ o. is_bound_in i (routine_or_none o).body) e) ∙ (ap (λ n. is_bound_in i (routine_of source n).body) x.builds ∙ h))
+
     -- the destructor is of the class
     this : (t.routine d).this ≡ Some x.class
     this = by (written_at p x.class role.Destructor) refl
@@ -112,15 +133,19 @@ module _ (p : Program) (formed : IsFormed p) (accepted : breaks_of p ≡ []) whe
         by None e = ap (λ n. (t.routine n).this) (x.ends ∙ ap (role_number p x.class role.Destructor) e) ∙ m.unwritten_this e
         by (Some n) e = ap (λ n. (t.routine n).this) (x.ends ∙ ap (role_number p x.class role.Destructor) e) ∙ (m.written n e).this
 
+    class_is : (i : ℕ) → (t.routine d).this ≡ Some i → x.class ≡ i
+    class_is i e = let q : Some x.class ≡ Some i = sym this ∙ e in cc
+
     plain : (i : ℕ) → (t.routine d).this ≡ Some i → t.mutex i ≡ false
-    plain i e =
-        let same : x.class ≡ i = (let q : Some x.class ≡ Some i = sym this ∙ e in cc) in
-        subst (λ i. t.mutex i ≡ false) same is_made.2
+    plain i e = subst (λ i. t.mutex i ≡ false) (class_is i e) is_made.2
+
+    makes : (i : ℕ) → (t.routine d).this ≡ Some i → (q : Routine) → slice_get source.routines r ≡ Some q → (m : ℕ) → heads_of p i m ≡ true → InHead t (t.routine r).params i m q.body ⊎ IsUnbound t (t.fields i m)
+    makes i e q is m = subst (λ i. heads_of p i m ≡ true → InHead t (t.routine r).params i m q.body ⊎ IsUnbound t (t.fields i m)) (class_is i e) (binds q is m)
 
     purpose : (q : Routine) → slice_get source.routines r ≡ Some q → q.purpose ≡ src.Builder
     purpose q e = builder q.purpose (t.routine r).whole whole ((law_sound p formed accepted).routines r q e).purpose
 
-  module _ (few : Few) (s : State) where
+  module _ (s : State) (x : KnowsState t any [] s) where
     -- the routine is called at the variable
     abbrev Called : ℕ → ℕ → ℕ → Type 0
     Called r d k = ArePaired p r d × (top (drop (params source r) s.run.operands) ≡ variable s.env.exec s.run.frame k)
@@ -128,32 +153,41 @@ module _ (p : Program) (formed : IsFormed p) (accepted : breaks_of p ≡ []) whe
     object : (r k : ℕ) → top (drop (params source r) s.run.operands) ≡ variable s.env.exec s.run.frame k → (q : Routine) → slice_get source.routines r ≡ Some q → top (drop q.params s.run.operands) ≡ variable s.env.exec s.run.frame k
     object r k h q e = subst (λ o. top (drop (params_at o) s.run.operands) ≡ variable s.env.exec s.run.frame k) e h
 
-    is_constructed : (r k i : ℕ) (c : CleanUp) → CleansAt t (Obj i) (src.Variable k) c → OfPlain (Called r) c → Makes t few source s r i → IsConstructed t few source s r k i
-    is_constructed r k i c d h m =
+    abbrev Calls : ℕ → List Todo → Type 0
+    Calls r todo = (s.run.control ≡ piece.CallOnNow r ∷ todo) ⊎ (s.run.control ≡ piece.CallUnwrittenNow r ∷ todo)
+
+    is_constructed : (r k i : ℕ) (c : CleanUp) (todo : List Todo) → Calls r todo → CleansAt t (Obj i) (src.Variable k) c → OfPlain (Called r) c → Makes t source s r → IsConstructed t (heads_of p) any source s r k i
+    is_constructed r k i c todo calls d h m =
         let z = plain_of t k i (Called r) c d h in
         record {
           purpose = purpose r z.0 z.2.0;
           plain = plain r z.0 z.2.0 i z.1;
-          makes = m.makes;
+          makes = λ q e j f told. makes r z.0 z.2.0 i z.1 q e j told;
           object = object r k z.2.1;
-          apart = m.apart;
+          given = λ q e j b l. in_scope t source (law_sound p formed accepted) s x r q e (owns t source (law_sound p formed accepted) s x r todo calls) (unsited p r) m j b l;
         }
 
-    constructs : (r : ℕ) (todo : List Todo) → Awaited (Called r) todo → MakesNext t few source s r todo → Constructs t few source s r todo
-    constructs r (piece.DropNow ∷ (piece.Within line ∷ (piece.Rest (src.Scoped c ss) ∷ todo))) h m = λ k i d. by k i d (m k i d)
+    constructs_at : (r : ℕ) (todo : List Todo) → Calls r todo → Awaited (Called r) todo → MakesNext t source s r todo → Constructs t (heads_of p) any source s r todo
+    constructs_at r (piece.DropNow ∷ (piece.Within line ∷ (piece.Rest (src.Scoped c ss) ∷ todo))) e h m = λ k i d. by k i d (m k i d)
       where
-        by : (k i : ℕ) → CleansAt t (Obj i) (src.Variable k) c → IsUnbound t (Obj i) ⊎ Makes t few source s r i → IsUnbound t (Obj i) ⊎ IsConstructed t few source s r k i
+        by : (k i : ℕ) → CleansAt t (Obj i) (src.Variable k) c → IsUnbound t (Obj i) ⊎ Makes t source s r → IsUnbound t (Obj i) ⊎ IsConstructed t (heads_of p) any source s r k i
         by k i d (inl none) = inl none
-        by k i d (inr x) = inr (is_constructed r k i c d h x)
-    constructs r todo h m = tt
+        by k i d (inr y) = inr (is_constructed r k i c (piece.DropNow ∷ (piece.Within line ∷ (piece.Rest (src.Scoped c ss) ∷ todo))) e d h y)
+    constructs_at r todo e h m = tt
 
-    at : (l : List Todo) → CallsAt p source l s → RemainsAt t few source s l → BuildsAt t few source s l
-    at (piece.CallNow r ∷ todo) h m = no_scope t todo h
-    at (piece.RaiseNow ∷ todo) h m = no_scope t (piece.DropNow ∷ todo) h
-    at (piece.CallOnNow r ∷ todo) h m = constructs r todo h m
-    at (piece.CallUnwrittenNow r ∷ todo) h m = constructs r todo h m
-    at (piece.BindNow ∷ todo) h m = m
-    at l h m = tt
+    at : (l : List Todo) → s.run.control ≡ l → CallsAt p source l s → RemainsAt t source s l → BuildsAt t (heads_of p) any source s l
+    at (piece.CallNow r ∷ todo) e h m = no_scope t todo h
+    at (piece.RaiseNow ∷ todo) e h m = no_scope t (piece.DropNow ∷ todo) h
+    at (piece.CallOnNow r ∷ todo) e h m = constructs_at r todo (inl e) h m
+    at (piece.CallUnwrittenNow r ∷ todo) e h m = constructs_at r todo (inr e) h m
+    at (piece.BindNow ∷ todo) e h m = m
+    at l e h m = tt
 
-    pub fair : Remains t few source s → IsCalled p source s → Fair t few source s
-    fair m c = record { at = at s.run.control c.calls m; joins = c.joins }
+    pub fair : Remains t source s → IsCalled p source s → Fair t (heads_of p) any source s
+    fair m c = record { at = at s.run.control refl c.calls m; joins = c.joins }
+
+pub law_heads : LawHeads
+law_heads = record {
+  binds = λ p formed accepted r d x q e i h. binds p formed accepted r d x q e i h;
+  given = λ t source sound s r todo e h. none_made t source sound s r todo e h;
+}

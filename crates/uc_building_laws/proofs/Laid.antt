@@ -1,5 +1,5 @@
 -- Where fields lie within the cells of their classes, what starts anew lies behind what is being built.
-use Rattle.std.proofs.Common.{◌≡◌, ℕ, suc, ◌+◌, ◌*◌, ◌≤◌, List, [], ◌∷◌, refl, sym, ap, subst, arith}
+use Rattle.std.proofs.Common.{◌≡◌, ℕ, suc, ◌+◌, ◌*◌, ◌≤◌, Bool, List, [], ◌∷◌, length, refl, sym, ap, subst, arith}
 use Rattle.std.specs.Prelude.{min}
 use Rattle.std.proofs.Math.Nat.{min-le_left}
 use Rattle.std.proofs.lemmas.Nat.{mul-le}
@@ -9,16 +9,20 @@ use Rattle.uc_machine.specs.declared.exec.Exec.{Exec}
 use Rattle.uc_machine.specs.declared.exec.Owner.{Owner}
 use Rattle.uc_machine.specs.declared.exec.Owner.TheVariants.{Frame}
 use Rattle.uc_machine.specs.Pieces as piece
-use Rattle.uc_machine.specs.Pieces.{Link, Slot, FieldAt, At, Value, Place, Todo, Active, State, LAST_ADDRESS, address, further}
+use Rattle.uc_machine.specs.Pieces.{Link, Slot, FieldAt, At, Value, Place, Todo, Sort, Active, State, LAST_ADDRESS, address, further}
 use Rattle.uc_typing.specs.Typing.{Ty, Num, Cell, Obj, Raw, Row, Clu, Pro, Table, element_shape, DestroysAt, CleansAt}
 use Rattle.uc_scope_laws.specs.Layout.{Sized}
 use Rattle.uc_scope_laws.specs.Rooms.{Room, LiesAt, Destroyed, Lies}
-use Rattle.uc_scope_laws.specs.RoomStacks.{Beneath, FrameBeneath, StackState}
+use Rattle.uc_scope_laws.specs.RoomStates.{Reached, PieceIn}
+use Rattle.uc_scope_laws.specs.RoomStacks.{UpTo, frame_cells, TodoTo, Beneath, Stack, FrameBeneath, StackState}
+use Rattle.uc_scope_laws.proofs.Stacks.{forget, some_up}
 use Rattle.uc_scope_laws.proofs.StackWalk.{beneath}
-use Rattle.uc_life_laws.specs.Things.{Within, itself, field, element, LiesBefore}
+use Rattle.uc_life_laws.specs.LifeStates.{frame_at}
+use Rattle.uc_life_laws.specs.Things.{Few, Within, itself, field, element, LiesBefore}
 use Rattle.uc_life_laws.specs.LifeRuns.{span, IsFlat, IsLaidOut}
 use Rattle.uc_building_laws.specs.BuildingStates.{variable, Awaits}
 use Rattle.uc_building_laws.specs.BuildingLaws.{AwaitedBefore, ClearsAt, Clears, LawClears}
+use Rattle.uc_building_laws.proofs.Building.{Lying}
 
 module _ (Z : ℕ → ℕ → Type 0) (t : Table) (l : IsLaidOut Z t) where
   -- an element has the cells of its shape
@@ -133,6 +137,36 @@ module _ (Z : ℕ → ℕ → Type 0) (t : Table) (l : IsLaidOut Z t) where
       let top = w.high in
       cleaned (Frame n f) cell o.low m.low k i c (omega (arith, high, cells, top)) d body.2.0
   awaited n f cell todo h = tt
+
+  -- rooms that end before a cell, from the innermost on
+  high_by : (cell : ℕ) (k : Sort) (simple : Type 0) (o : Room) (P : Room → Type 0) → ((m : Room) → P m → m.high ≤ cell) → Reached Z o k simple P → o.high ≤ cell
+  high_by cell piece.Simple x o P f h = f o h.1
+  high_by cell (piece.IsLoop order e step b) x o P f h = f o h.1
+  high_by cell piece.IsWhole x o P f h = f o h
+  high_by cell (piece.IsClean c) x o P f h =
+      let n = f h.0 h.3 in
+      let high = h.1.high in
+      omega (arith, n, high)
+  high_by cell (piece.IsFill n b d) x o P f h = f o h.1
+  high_by cell (piece.IsSweep e) x o P f h = f o h.1
+  high_by cell (piece.IsPart c) x o P f h = f o h.1
+  high_by cell (piece.IsGuard hs) x o P f h =
+      let n = f h.0 h.6 in
+      let high = h.2.high in
+      omega (arith, n, high)
+  high_by cell piece.IsFinish x o P f h = f o h
+  high_by cell piece.IsFinishCoroutine x o P f h = f o h
+
+  high_at : (cell : ℕ) (o : Room) (todo : List Todo) → TodoTo Z (UpTo cell) o todo → o.high ≤ cell
+  high_at cell o [] h = h.1
+  high_at cell o (p ∷ todo) h = high_by cell (piece.sort p) (PieceIn Z o p) o (λ m. TodoTo Z (UpTo cell) m todo) (λ m k. high_at cell m todo k) h
+
+  -- what is awaited lies within its frame
+  pub lying : (heads : ℕ → ℕ → Bool) (few : Few) (n : Exec) (fs : List (List Value)) (cs : List Active) → Stack Z fs cs → Lying t heads few n (λ g k i. LiesBefore t (length (frame_at g fs)) (Frame n g) (variable n g k) (Obj i)) cs
+  lying heads few n fs [] h = tt
+  lying heads few n fs (b ∷ older) h =
+      let u = some_up Z h.0.top (frame_cells fs b.frame) b.control h.0.cells h.0.fits in
+      awaited n b.frame (length (frame_at b.frame fs)) b.control (u.0, high_at (frame_cells fs b.frame) u.0 b.control u.1, forget Z (UpTo (frame_cells fs b.frame)) u.0 b.control u.1)
 
   all_awaited : (n : Exec) (cell f : ℕ) (cs : List Active) → FrameBeneath Z cell f cs → AwaitedBefore t n cell f cs
   all_awaited n cell f [] h = tt

@@ -7,8 +7,10 @@ pub mod Making
 pub mod Clears
 pub mod Plain
 pub mod Standing
-pub mod Walk
 pub mod Laid
+pub mod Walk
+pub mod Heads
+pub mod Given
 pub mod Constructors
 pub mod Worlds
 pub mod BuiltRuns

@@ -10,15 +10,8 @@ use Rattle.uc_typing.specs.Typing.{Ty, Num, Cell, Obj, Raw, Row, Clu, Pro, Table
 use Rattle.uc_typing.specs.States.{whole, IsAt, IsNumbered, IsObjectBy}
 use Rattle.uc_life_laws.specs.Things.{Few, Known, Holds, LiesBefore}
 use Rattle.uc_life_laws.specs.LifeStates.{frame_at}
+use Rattle.uc_building_laws.specs.BuildingStates.{IsFree}
 use Rattle.uc_life_laws.proofs.Cells.{tested, set_length}
-
--- no binding
-abbrev IsFree : Value → Type 0
-IsFree (Number n) = Unit {0}
-IsFree (Place o p) = ⊥
-IsFree (Running e) = ⊥
-IsFree (Object o) = ⊥
-IsFree Nothing = Unit {0}
 
 abbrev pub Kept : Value → Value → Type 0
 Kept v u = IsFree v ⊎ (u ≡ v)
@@ -75,6 +68,33 @@ set_at P (x ∷ xs) d f y h k = by (set_at P xs d f y h) (nat_eq d (length xs)) 
     by more false e false g k =
         let l : nat_eq f (length (set_depth xs d y)) ≡ false = ap (nat_eq f) (set_length xs d y) ∙ g in
         subst (λ (c : Bool). P (list_in (if c then Some x else at_depth (set_depth xs d y) f))) (sym l) (more k)
+
+-- what is there is changed
+set_there : (P : List Value → Type 0) (fs : List (List Value)) (d k : ℕ) (y : List Value) → k < length (frame_at d fs) → P y → P (frame_at d (set_depth fs d y))
+set_there P [] d k y l h = let f : ⊥ = omega (arith, l) in absurd f
+set_there P (x ∷ xs) d k y l h = by (nat_eq d (length xs)) refl l (λ m. set_there P xs d k y m h)
+  where
+    by : (b : Bool) → nat_eq d (length xs) ≡ b → k < length (list_in (if b then Some x else at_depth xs d)) → (k < length (frame_at d xs) → P (frame_at d (set_depth xs d y))) → P (list_in (at_depth (if b then y ∷ xs else x ∷ set_depth xs d y) d))
+    by true e m f = subst (λ (c : Bool). P (list_in (if c then Some y else at_depth xs d))) (sym e) h
+    by false e m f =
+        let q : nat_eq d (length (set_depth xs d y)) ≡ false = ap (nat_eq d) (set_length xs d y) ∙ e in
+        subst (λ (c : Bool). P (list_in (if c then Some x else at_depth (set_depth xs d y) d))) (sym q) (f m)
+
+free_stored : (v x : Value) → IsFree x → stored v x ≡ v
+free_stored v (Number n) f = refl
+free_stored v (Place o p) f = absurd f
+free_stored v (Running e) f = absurd f
+free_stored v (Object o) f = absurd f
+free_stored v Nothing f = refl
+
+cell_stored : (v : Value) (vs : List Value) (j : ℕ) → j < length vs → IsFree (slice_index_or vs j nought) → slice_index_or (value_changed j (stored v) nought vs) j nought ≡ v
+cell_stored v [] j l f = let n : ⊥ = omega (arith, l) in absurd n
+cell_stored v (x ∷ vs) zero l f = free_stored v x f
+cell_stored v (x ∷ vs) (suc j) l f = cell_stored v vs j (omega (arith, l)) f
+
+-- a cell in which nothing is bound holds what is written there
+pub stored_there : (fs : List (List Value)) (d k : ℕ) (v : Value) → k < length (frame_at d fs) → IsFree (slice_index_or (frame_at d fs) k nought) → slice_index_or (frame_at d (frame_changed d (value_changed k (stored v) nought) fs)) k nought ≡ v
+stored_there fs d k v l f = set_there (λ vs. slice_index_or vs k nought ≡ v) fs d k _ l (cell_stored v (frame_at d fs) k l f)
 
 pub same_frame : (fs : List (List Value)) (d : ℕ) → FrameKeeps fs fs d
 same_frame fs d k = inr refl

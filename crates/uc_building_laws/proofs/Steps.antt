@@ -35,21 +35,21 @@ use Rattle.uc_building_laws.proofs.Keeping as kept
 use Rattle.uc_building_laws.proofs.Keeping.{Keeps, some_is}
 use Rattle.uc_life_laws.specs.Things.{Few}
 
-abbrev pub StepBuilds : (t : Table) (few : Few) → Step → Type 0
-StepBuilds t few (Goes s) = BuildsBy t few (of_run t s.run) s
-StepBuilds t few (Ticks s) = BuildsBy t few (of_wait t s.run) s
-StepBuilds t few (Asks r s) = BuildsBy t few (of_wait t s.run) s
+abbrev pub StepBuilds : (t : Table) (heads : ℕ → ℕ → Bool) (few : Few) → Step → Type 0
+StepBuilds t heads few (Goes s) = BuildsBy t heads few (of_run t s.run) s
+StepBuilds t heads few (Ticks s) = BuildsBy t heads few (of_wait t s.run) s
+StepBuilds t heads few (Asks r s) = BuildsBy t heads few (of_wait t s.run) s
 
 -- frames of those that wait
 
-module _ (t : Table) (few : Few) (Z : ℕ → ℕ → Type 0) (n : Exec) where
-  pub newer_all : (x : List Value) (fs : List (List Value)) (cs : List Active) → length cs ≤ length fs → Stack Z fs cs → AllKeep t few n fs (x ∷ fs) cs
+module _ (t : Table) (heads : ℕ → ℕ → Bool) (few : Few) (Z : ℕ → ℕ → Type 0) (n : Exec) where
+  pub newer_all : (x : List Value) (fs : List (List Value)) (cs : List Active) → length cs ≤ length fs → Stack Z fs cs → AllKeep t heads few n fs (x ∷ fs) cs
   newer_all x fs [] l h = tt
   newer_all x fs (a ∷ older) l h =
       let le = h.0.frame in
       (frame_newer x fs a.frame (omega (arith, le, l)), newer_all x fs older (omega (arith, l)) h.1)
 
-  pub older_all : (fs : List (List Value)) (cs : List Active) → length cs ≤ length (others fs) → Stack Z fs cs → AllKeep t few n fs (others fs) cs
+  pub older_all : (fs : List (List Value)) (cs : List Active) → length cs ≤ length (others fs) → Stack Z fs cs → AllKeep t heads few n fs (others fs) cs
   older_all fs [] l h = tt
   older_all fs (a ∷ older) l h =
       let le = h.0.frame in
@@ -61,6 +61,7 @@ module _ (t : Table) (few : Few) (Z : ℕ → ℕ → Type 0) (n : Exec) where
 abbrev pub IsOther : Expr → Type 0
 IsOther (src.Get k) = ⊥
 IsOther (src.OfObject (src.OwnField k i)) = ⊥
+IsOther (src.OfObject (src.FieldOf k i a)) = ⊥
 IsOther (src.OfObject (src.Bind a b)) = ⊥
 IsOther a = Unit {0}
 
@@ -68,25 +69,29 @@ module _ (t : Table) (ps : List Ty) (c i : ℕ) (w : Value) (K : Ty → Value �
   other : (a : Expr) (todo : List Todo) (vs : List Value) → IsOther a → Now t ps c i w K (piece.Eval a ∷ todo) vs → Behind t ps c i todo
   other (src.Get k) todo vs o h = absurd o
   other (src.OfObject (src.OwnField k j)) todo vs o h = absurd o
+  other (src.OfObject (src.FieldOf k j a)) todo vs o h = absurd o
   other (src.OfObject (src.Bind a b)) todo vs o h = absurd o
   other (src.OfObject x) todo vs o (inl (inl h)) = absurd h.0
-  other (src.OfObject x) todo vs o (inl (inr h)) = absurd h
+  other (src.OfObject x) todo vs o (inl (inr (inl h))) = absurd h
+  other (src.OfObject x) todo vs o (inl (inr (inr h))) = absurd h.1
   other (src.OfObject x) todo vs o (inr h) = h
   other a todo vs o (inl (inl h)) = absurd h.0
-  other a todo vs o (inl (inr h)) = absurd h
+  other a todo vs o (inl (inr (inl h))) = absurd h
+  other a todo vs o (inl (inr (inr h))) = absurd h.1
   other a todo vs o (inr h) = h
 
   -- the parts of what binds
   pub binds : (a b : Expr) (todo : List Todo) (vs : List Value) → Now t ps c i w K (piece.Eval (src.OfObject (src.Bind a b)) ∷ todo) vs → Now t ps c i w K (piece.Eval a ∷ (piece.Eval b ∷ (piece.BindNow ∷ todo))) vs
-  binds (src.OfObject (src.OwnField k j)) b todo vs (inl (inl h)) = inl (inr (h.0.0, h.0.1, h.0.2, h.1))
+  binds (src.OfObject (src.OwnField k j)) b todo vs (inl (inl h)) = inl (inr (inl (h.0.0, h.0.1, h.0.2, h.1)))
   binds (src.OfObject x) b todo vs (inl (inl h)) = absurd h.0
   binds a b todo vs (inl (inl h)) = absurd h.0
-  binds a b todo vs (inl (inr h)) = absurd h
+  binds a b todo vs (inl (inr (inl h))) = absurd h
+  binds a b todo vs (inl (inr (inr h))) = absurd h.1
   binds a b todo vs (inr h) = inr h
 
-module _ (t : Table) (few : Few) (Z : ℕ → ℕ → Type 0) (s : State) (life : StackState Z s) (env : BuildsEnv t few s.env) (callers : AllBuild t few s.env.exec s.env.frames s.callers) (apart : AllApart (s.run ∷ s.callers)) where
+module _ (t : Table) (heads : ℕ → ℕ → Bool) (few : Few) (Z : ℕ → ℕ → Type 0) (s : State) (life : StackState Z s) (env : BuildsEnv t heads few s.env) (callers : AllBuild t heads few s.env.exec s.env.frames s.callers) (apart : AllApart (s.run ∷ s.callers)) where
   abbrev pub With : (List Ty → ℕ → ℕ → Value → (Ty → Value → Type 0) → Type 0) → Type 0
-  With L = Builds t few s.env.exec (λ ps c i w K. L ps c i w K × NotBack s.run) s.env.frames s.run.frame s.run.this s.callers
+  With L = Builds t heads few s.env.exec (λ ps c i w K. L ps c i w K × NotBack s.run) s.env.frames s.run.frame s.run.this s.callers
 
   abbrev pub Holding : List Todo → Type 0
   Holding todo = With (λ ps c i w K. Behind t ps c i todo)
@@ -95,62 +100,62 @@ module _ (t : Table) (few : Few) (Z : ℕ → ℕ → Type 0) (s : State) (life 
   Nothing_left = With (λ ps c i w K. ⊥)
 
   pub more : (L M : List Ty → ℕ → ℕ → Value → (Ty → Value → Type 0) → Type 0) → ((ps : List Ty) (c i : ℕ) (w : Value) (K : Ty → Value → Type 0) → L ps c i w K → M ps c i w K) → With L → With M
-  more L M m h = builds_more t few s.env.exec (λ ps c i w K. L ps c i w K × NotBack s.run) (λ ps c i w K. M ps c i w K × NotBack s.run) (λ ps c i w K x. (m ps c i w K x.0, x.1)) s.env.frames s.run.frame s.run.this s.callers h
+  more L M m h = builds_more t heads few s.env.exec (λ ps c i w K. L ps c i w K × NotBack s.run) (λ ps c i w K. M ps c i w K × NotBack s.run) (λ ps c i w K x. (m ps c i w K x.0, x.1)) s.env.frames s.run.frame s.run.this s.callers h
 
   pub lost : (M : List Ty → ℕ → ℕ → Value → (Ty → Value → Type 0) → Type 0) → Nothing_left → With M
   lost M h = more (λ ps c i w K. ⊥) M (λ ps c i w K x. absurd x) h
 
   -- nothing is, whoever is to return
-  pub nothing : Nothing_left → Builds t few s.env.exec (λ ps c i w K. ⊥) s.env.frames s.run.frame s.run.this s.callers
-  nothing h = builds_more t few s.env.exec (λ ps c i w K. ⊥ × NotBack s.run) (λ ps c i w K. ⊥) (λ ps c i w K x. x.0) s.env.frames s.run.frame s.run.this s.callers h
+  pub nothing : Nothing_left → Builds t heads few s.env.exec (λ ps c i w K. ⊥) s.env.frames s.run.frame s.run.this s.callers
+  nothing h = builds_more t heads few s.env.exec (λ ps c i w K. ⊥ × NotBack s.run) (λ ps c i w K. ⊥) (λ ps c i w K x. x.0) s.env.frames s.run.frame s.run.this s.callers h
 
   pub later : (todo : List Todo) (vs : List Value) → Holding todo → With (λ ps c i w K. Now t ps c i w K todo vs)
   later todo vs h = more (λ ps c i w K. Behind t ps c i todo) (λ ps c i w K. Now t ps c i w K todo vs) (λ ps c i w K x. building.now t ps c i w K todo vs x) h
 
   -- with something else to do, and other operands
-  pub go_now : (todo : List Todo) (vs : List Value) → With (λ ps c i w K. Now t ps c i w K todo vs) → BuildsBy t few (of_run t (at todo vs s).run) (at todo vs s)
+  pub go_now : (todo : List Todo) (vs : List Value) → With (λ ps c i w K. Now t ps c i w K todo vs) → BuildsBy t heads few (of_run t (at todo vs s).run) (at todo vs s)
   go_now todo vs h = record { apart = apart; run = h; callers = callers; env = env }
 
-  pub go : (todo : List Todo) (vs : List Value) → Holding todo → BuildsBy t few (of_run t (at todo vs s).run) (at todo vs s)
+  pub go : (todo : List Todo) (vs : List Value) → Holding todo → BuildsBy t heads few (of_run t (at todo vs s).run) (at todo vs s)
   go todo vs h = go_now todo vs (later todo vs h)
 
-  pub stays : (todo : List Todo) (vs : List Value) → Holding todo → BuildsBy t few (of_wait t (at todo vs s).run) (at todo vs s)
+  pub stays : (todo : List Todo) (vs : List Value) → Holding todo → BuildsBy t heads few (of_wait t (at todo vs s).run) (at todo vs s)
   stays todo vs h = record { apart = apart; run = h; callers = callers; env = env }
 
   -- and with another rest of the task
-  pub go_in : (todo : List Todo) (vs : List Value) (e : Env) → Keeps t few s.env e → Holding todo → BuildsBy t few (of_run t (at todo vs (in_env e s)).run) (at todo vs (in_env e s))
-  go_in todo vs e k h = kept.with_env t few (of_run t (at todo vs s).run) (at todo vs s) (go todo vs h) k
+  pub go_in : (todo : List Todo) (vs : List Value) (e : Env) → Keeps t heads few s.env e → Holding todo → BuildsBy t heads few (of_run t (at todo vs (in_env e s)).run) (at todo vs (in_env e s))
+  go_in todo vs e k h = kept.with_env t heads few (of_run t (at todo vs s).run) (at todo vs s) (go todo vs h) k
 
-  pub stays_in : (todo : List Todo) (vs : List Value) (e : Env) → Keeps t few s.env e → Holding todo → BuildsBy t few (of_wait t (at todo vs (in_env e s)).run) (at todo vs (in_env e s))
-  stays_in todo vs e k h = kept.with_env t few (of_wait t (at todo vs s).run) (at todo vs s) (stays todo vs h) k
+  pub stays_in : (todo : List Todo) (vs : List Value) (e : Env) → Keeps t heads few s.env e → Holding todo → BuildsBy t heads few (of_wait t (at todo vs (in_env e s)).run) (at todo vs (in_env e s))
+  stays_in todo vs e k h = kept.with_env t heads few (of_wait t (at todo vs s).run) (at todo vs s) (stays todo vs h) k
 
   -- nothing that is told of changes
-  pub same : {e : Env} → e.exec ≡ s.env.exec → e.frames ≡ s.env.frames → e.hand ≡ s.env.hand → e.house ≡ s.env.house → e.own ≡ s.env.own → Keeps t few s.env e
-  same x q h g o = kept.keeps_like t few env x q h g o
+  pub same : {e : Env} → e.exec ≡ s.env.exec → e.frames ≡ s.env.frames → e.hand ≡ s.env.hand → e.house ≡ s.env.house → e.own ≡ s.env.own → Keeps t heads few s.env e
+  same x q h g o = kept.keeps_like t heads few env x q h g o
 
   -- the end of an activation
 
-  module _ (stay : BuildsBy t few (of_wait t s.run) s) where
+  module _ (stay : BuildsBy t heads few (of_wait t s.run) s) where
     -- the first one that waits, with a frame less
-    module _ (c : Active) (cs : List Active) (l : length s.env.frames ≡ suc (length (c ∷ cs))) (h : Stack Z s.env.frames (c ∷ cs)) (b : AllBuild t few s.env.exec s.env.frames (c ∷ cs)) where
-      all_less : AllKeep t few s.env.exec s.env.frames (others s.env.frames) (c ∷ cs)
+    module _ (c : Active) (cs : List Active) (l : length s.env.frames ≡ suc (length (c ∷ cs))) (h : Stack Z s.env.frames (c ∷ cs)) (b : AllBuild t heads few s.env.exec s.env.frames (c ∷ cs)) where
+      all_less : AllKeep t heads few s.env.exec s.env.frames (others s.env.frames) (c ∷ cs)
       all_less =
           let n : length (others s.env.frames) ≡ suc (length cs) = others_length s.env.frames (length cs) l in
-          older_all t few Z s.env.exec s.env.frames (c ∷ cs) (omega (arith, n)) h
+          older_all t heads few Z s.env.exec s.env.frames (c ∷ cs) (omega (arith, n)) h
 
-      less : (M : List Ty → ℕ → ℕ → Value → (Ty → Value → Type 0) → Type 0) → ((ps : List Ty) (d i : ℕ) (w : Value) (K : Ty → Value → Type 0) → Behind t ps d i c.control × NotBack c → M ps d i w K) → Builds t few s.env.exec M (others s.env.frames) c.frame c.this cs
-      less M m = builds_more t few s.env.exec (of_wait t c) M m (others s.env.frames) c.frame c.this cs (builds_kept t few s.env.exec (of_wait t c) s.env.frames (others s.env.frames) c.frame c.this cs all_less.0 all_less.1 b.0)
+      less : (M : List Ty → ℕ → ℕ → Value → (Ty → Value → Type 0) → Type 0) → ((ps : List Ty) (d i : ℕ) (w : Value) (K : Ty → Value → Type 0) → Behind t ps d i c.control × NotBack c → M ps d i w K) → Builds t heads few s.env.exec M (others s.env.frames) c.frame c.this cs
+      less M m = builds_more t heads few s.env.exec (of_wait t c) M m (others s.env.frames) c.frame c.this cs (builds_kept t heads few s.env.exec (of_wait t c) s.env.frames (others s.env.frames) c.frame c.this cs all_less.0 all_less.1 b.0)
 
-      rest_less : AllBuild t few s.env.exec (others s.env.frames) cs
-      rest_less = all_kept t few s.env.exec s.env.frames (others s.env.frames) cs all_less.1 b.1
+      rest_less : AllBuild t heads few s.env.exec (others s.env.frames) cs
+      rest_less = all_kept t heads few s.env.exec s.env.frames (others s.env.frames) cs all_less.1 b.1
 
-    pub returned : (given : Value) (cs : List Active) → length s.env.frames ≡ suc (length cs) → Stack Z s.env.frames cs → AllBuild t few s.env.exec s.env.frames cs → AllApart cs → StepBuilds t few (piece.return_step given cs s)
+    pub returned : (given : Value) (cs : List Active) → length s.env.frames ≡ suc (length cs) → Stack Z s.env.frames cs → AllBuild t heads few s.env.exec s.env.frames cs → AllApart cs → StepBuilds t heads few (piece.return_step given cs s)
     returned given [] l h b p = stay
     returned given (a ∷ cs) l h b p = record {
       apart = p;
       run = less a cs l h b _ (λ ps c i w K x. (building.now t ps c i w K a.control (given ∷ a.operands) x.0, x.1));
       callers = rest_less a cs l h b;
-      env = kept.like t few env refl refl refl;
+      env = kept.like t heads few env refl refl refl;
     }
 
     -- it is left to the one that waits to unwind, which builds nothing if a return is over there
@@ -160,24 +165,24 @@ module _ (t : Table) (few : Few) (Z : ℕ → ℕ → Type 0) (s : State) (life 
     why_returns why (Some (reason.ReturnTo n)) home e = e
     why_returns why (Some reason.Destroyed) home e = absurd (cc)
 
-    passed : (given : Value) (why : UnwindReason) (a : Active) (cs : List Active) → ((home : ℕ) → why ≡ reason.ReturnTo home → IsApart home (a ∷ cs)) → length s.env.frames ≡ suc (length (a ∷ cs)) → Stack Z s.env.frames (a ∷ cs) → AllBuild t few s.env.exec s.env.frames (a ∷ cs) → AllApart (a ∷ cs) → StepBuilds t few (Goes (left_for s.run.counts (unwound (piece.Unwind ∷ a.control) why given a) cs s.env))
+    passed : (given : Value) (why : UnwindReason) (a : Active) (cs : List Active) → ((home : ℕ) → why ≡ reason.ReturnTo home → IsApart home (a ∷ cs)) → length s.env.frames ≡ suc (length (a ∷ cs)) → Stack Z s.env.frames (a ∷ cs) → AllBuild t heads few s.env.exec s.env.frames (a ∷ cs) → AllApart (a ∷ cs) → StepBuilds t heads few (Goes (left_for s.run.counts (unwound (piece.Unwind ∷ a.control) why given a) cs s.env))
     passed given why a cs far l h b p = record {
       apart = ((p.0.0, p.0.1, λ home e. (far home (some_is e)).1), p.1);
       run = by (nat_eq a.frame (length cs)) refl;
       callers = rest_less a cs l h b;
-      env = kept.like t few env refl refl refl;
+      env = kept.like t heads few env refl refl refl;
     }
       where
-        by : (own : Bool) → nat_eq a.frame (length cs) ≡ own → Builds t few s.env.exec (of_run t (unwound (piece.Unwind ∷ a.control) why given a)) (others s.env.frames) a.frame a.this cs
+        by : (own : Bool) → nat_eq a.frame (length cs) ≡ own → Builds t heads few s.env.exec (of_run t (unwound (piece.Unwind ∷ a.control) why given a)) (others s.env.frames) a.frame a.this cs
         by true e =
             let q : a.frame ≡ length cs = eqb-true a.frame (length cs) e in
             less a cs l h b (of_run t (unwound (piece.Unwind ∷ a.control) why given a)) (λ ps c i w K x. (building.left t ps c i a.control x.0, λ r. (far a.frame (some_is r)).0 refl q (building.left t ps c i a.control x.0)))
-        by false e = not_making t few s.env.exec (of_wait t a) (of_run t (unwound (piece.Unwind ∷ a.control) why given a)) (others s.env.frames) a.frame a.this cs (λ q. let y : nat_eq a.frame (length cs) ≡ true = eq-eqb a.frame (length cs) q in absurd (cc)) (less a cs l h b (of_wait t a) (λ ps c i w K x. x))
+        by false e = not_making t heads few s.env.exec (of_wait t a) (of_run t (unwound (piece.Unwind ∷ a.control) why given a)) (others s.env.frames) a.frame a.this cs (λ q. let y : nat_eq a.frame (length cs) ≡ true = eq-eqb a.frame (length cs) q in absurd (cc)) (less a cs l h b (of_wait t a) (λ ps c i w K x. x))
 
     return_is : {m n : ℕ} → reason.ReturnTo m ≡ reason.ReturnTo n → m ≡ n
     return_is e = cc
 
-    past : (v : Visited) (given : Value) (cs : List Active) → ((home : ℕ) → v.home ≡ home → IsApart home cs) → length s.env.frames ≡ suc (length cs) → Stack Z s.env.frames cs → AllBuild t few s.env.exec s.env.frames cs → AllApart cs → StepBuilds t few (raising.return_past v given cs s)
+    past : (v : Visited) (given : Value) (cs : List Active) → ((home : ℕ) → v.home ≡ home → IsApart home cs) → length s.env.frames ≡ suc (length cs) → Stack Z s.env.frames cs → AllBuild t heads few s.env.exec s.env.frames cs → AllApart cs → StepBuilds t heads few (raising.return_past v given cs s)
     past v given [] far l h b p = stay
     past v given (a ∷ cs) far l h b p = passed given (reason.ReturnTo v.home) a cs (λ home e. far home (return_is e)) l h b p
 
@@ -189,38 +194,38 @@ module _ (t : Table) (few : Few) (Z : ℕ → ℕ → Type 0) (s : State) (life 
         let at : s.run.frame ≡ home = sym h ∙ (ap (λ (x : Visited). x.home) same ∙ q) in
         subst (λ f. IsApart f s.callers) at apart.0.0
 
-    end_by : (v : Option Visited) (given : Value) → s.run.handles ≡ v → StepBuilds t few (raising.end_by v given s)
+    end_by : (v : Option Visited) (given : Value) → s.run.handles ≡ v → StepBuilds t heads few (raising.end_by v given s)
     end_by None given e = returned given s.callers life.frames life.stack.1 callers apart.1
     end_by (Some v) given e = past v given s.callers (λ home q. home_apart s.run.handles v e apart.0.1 home q) life.frames life.stack.1 callers apart.1
 
-    pub end_step : (w : Way) → StepBuilds t few (quiet.end_step w s)
+    pub end_step : (w : Way) → StepBuilds t heads few (quiet.end_step w s)
     end_step src.ToReturn = end_by s.run.handles _ refl
     end_step src.ToEnd = end_by s.run.handles _ refl
     end_step src.ToBreak = returned _ s.callers life.frames life.stack.1 callers apart.1
     end_step src.ToContinue = returned _ s.callers life.frames life.stack.1 callers apart.1
 
-    pass_on : (w : Option UnwindReason) (c : Active) (cs : List Active) → ((home : ℕ) → w ≡ Some (reason.ReturnTo home) → IsApart home (c ∷ cs)) → length s.env.frames ≡ suc (length (c ∷ cs)) → Stack Z s.env.frames (c ∷ cs) → AllBuild t few s.env.exec s.env.frames (c ∷ cs) → AllApart (c ∷ cs) → StepBuilds t few (raising.pass_on w c cs s)
+    pass_on : (w : Option UnwindReason) (c : Active) (cs : List Active) → ((home : ℕ) → w ≡ Some (reason.ReturnTo home) → IsApart home (c ∷ cs)) → length s.env.frames ≡ suc (length (c ∷ cs)) → Stack Z s.env.frames (c ∷ cs) → AllBuild t heads few s.env.exec s.env.frames (c ∷ cs) → AllApart (c ∷ cs) → StepBuilds t heads few (raising.pass_on w c cs s)
     pass_on None c cs far l h b p = stay
     pass_on (Some why) c cs far l h b p = passed s.run.result (raising.why_by why c.raised) c cs (λ home e. far home (ap Some (why_returns why c.raised home e))) l h b p
 
-    leave_for : (b : Bool) (c : Active) (cs : List Active) → ((home : ℕ) → s.run.raised ≡ Some (reason.ReturnTo home) → IsApart home (c ∷ cs)) → length s.env.frames ≡ suc (length (c ∷ cs)) → Stack Z s.env.frames (c ∷ cs) → AllBuild t few s.env.exec s.env.frames (c ∷ cs) → AllApart (c ∷ cs) → StepBuilds t few (raising.leave_for b c cs s)
+    leave_for : (b : Bool) (c : Active) (cs : List Active) → ((home : ℕ) → s.run.raised ≡ Some (reason.ReturnTo home) → IsApart home (c ∷ cs)) → length s.env.frames ≡ suc (length (c ∷ cs)) → Stack Z s.env.frames (c ∷ cs) → AllBuild t heads few s.env.exec s.env.frames (c ∷ cs) → AllApart (c ∷ cs) → StepBuilds t heads few (raising.leave_for b c cs s)
     leave_for true c cs far l h b p = stay
     leave_for false c cs far l h b p = pass_on s.run.raised c cs far l h b p
 
-    pub leaves : (cs : List Active) → ((home : ℕ) → s.run.raised ≡ Some (reason.ReturnTo home) → IsApart home cs) → length s.env.frames ≡ suc (length cs) → Stack Z s.env.frames cs → AllBuild t few s.env.exec s.env.frames cs → AllApart cs → StepBuilds t few (raising.leave_step cs s)
+    pub leaves : (cs : List Active) → ((home : ℕ) → s.run.raised ≡ Some (reason.ReturnTo home) → IsApart home cs) → length s.env.frames ≡ suc (length cs) → Stack Z s.env.frames cs → AllBuild t heads few s.env.exec s.env.frames cs → AllApart cs → StepBuilds t heads few (raising.leave_step cs s)
     leaves [] far l h b p = stay
     leaves (c ∷ cs) far l h b p =
-        either (StepBuilds t few) (raising.arrives s.run.raised (length (c ∷ cs))) _ _ (returned s.run.result (c ∷ cs) l h b p) (leave_for _ c cs far l h b p)
+        either (StepBuilds t heads few) (raising.arrives s.run.raised (length (c ∷ cs))) _ _ (returned s.run.result (c ∷ cs) l h b p) (leave_for _ c cs far l h b p)
 
-  pub moved : (m : Moved (List Todo) Value) (todo : List Todo) (vs : List Value) → Holding todo → kept.BuildsMoved t few m → StepBuilds t few (piece.moves m (at todo vs s))
+  pub moved : (m : Moved (List Todo) Value) (todo : List Todo) (vs : List Value) → Holding todo → kept.BuildsMoved t heads few m → StepBuilds t heads few (piece.moves m (at todo vs s))
   moved (To u) todo vs h m = m
   moved (Stops f) todo vs h m = stays todo vs h
 
-  pub outcome : (x : Outcome) (todo : List Todo) (vs : List Value) → Holding todo → StepBuilds t few (piece.outcome_step x todo vs s)
+  pub outcome : (x : Outcome) (todo : List Todo) (vs : List Value) → Holding todo → StepBuilds t heads few (piece.outcome_step x todo vs s)
   outcome (Gives n) todo vs h = go todo _ h
   outcome (Faults f) todo vs h = stays todo _ h
 
-  pub element : (n : Shape) (i : Option ℕ) (todo : List Todo) (v : Value) (vs : List Value) → Holding todo → StepBuilds t few (piece.element_step n i todo v vs s)
+  pub element : (n : Shape) (i : Option ℕ) (todo : List Todo) (v : Value) (vs : List Value) → Holding todo → StepBuilds t heads few (piece.element_step n i todo v vs s)
   element n None todo v vs h = stays todo _ h
   element n (Some i) todo v vs h = go todo _ h
 
@@ -234,17 +239,18 @@ module _ (t : Table) (few : Few) (Z : ℕ → ℕ → Type 0) (s : State) (life 
   converts src.Truth todo h = h
   converts k todo h = h
 
-  object : (x : ObjectExpr) (todo : List Todo) → IsOther (src.OfObject x) → Holding todo → StepBuilds t few (quiet.object_step x todo s)
+  object : (x : ObjectExpr) (todo : List Todo) → IsOther (src.OfObject x) → Holding todo → StepBuilds t heads few (quiet.object_step x todo s)
   object (src.EndOn r false a) todo o h = go _ _ h
   object (src.EndOn r true a) todo o h = go _ _ h
   object (src.MakeOn c r false a args) todo o h = go _ _ h
   object (src.MakeOn c r true a args) todo o h = go _ _ h
   object (src.OwnField k i) todo o h = absurd o
+  object (src.FieldOf k i a) todo o h = absurd o
   object (src.Bind a b) todo o h = absurd o
   object x todo o h = go _ _ h
 
   -- but for what finds a field and what is bound there
-  pub eval : (a : Expr) (todo : List Todo) → IsOther a → With (λ ps c i w K. Now t ps c i w K (piece.Eval a ∷ todo) s.run.operands) → StepBuilds t few (quiet.eval_step a todo s)
+  pub eval : (a : Expr) (todo : List Todo) → IsOther a → With (λ ps c i w K. Now t ps c i w K (piece.Eval a ∷ todo) s.run.operands) → StepBuilds t heads few (quiet.eval_step a todo s)
   eval (src.Update op k p a) todo o h = go _ _ (converts k (piece.KeepNow ∷ todo) (plain (src.Update op k p a) todo o h))
   eval (src.StepBehind op k p) todo o h = go _ _ (converts k (piece.StoreNow ∷ (piece.DropBelowNow ∷ todo)) (plain (src.StepBehind op k p) todo o h))
   eval src.Fail todo o h = stays todo _ (plain src.Fail todo o h)
@@ -264,7 +270,7 @@ module _ (t : Table) (few : Few) (Z : ℕ → ℕ → Type 0) (s : State) (life 
   filled false n e d todo h = h
   filled true n e d todo h = h
 
-  pub swept : (n : ℕ) (e : Expr) (todo : List Todo) → Holding todo → StepBuilds t few (quiet.sweep_step n e todo s)
+  pub swept : (n : ℕ) (e : Expr) (todo : List Todo) → Holding todo → StepBuilds t heads few (quiet.sweep_step n e todo s)
   swept zero e todo h = go _ _ h
   swept (suc m) e todo h = record { apart = apart; run = later (piece.Eval e ∷ (piece.DropNow ∷ (piece.Sweep e ∷ todo))) s.run.operands h; callers = callers; env = env }
 
@@ -284,10 +290,10 @@ module _ (t : Table) (few : Few) (Z : ℕ → ℕ → Type 0) (s : State) (life 
   pub free : (todo : List Todo) → Nothing_left → Holding todo
   free todo h = lost (λ ps c i w K. Behind t ps c i todo) h
 
-  gone : (todo : List Todo) (vs : List Value) → Nothing_left → BuildsBy t few (of_run t (at todo vs s).run) (at todo vs s)
+  gone : (todo : List Todo) (vs : List Value) → Nothing_left → BuildsBy t heads few (of_run t (at todo vs s).run) (at todo vs s)
   gone todo vs h = go todo vs (free todo h)
 
-  event_step : (a : EventStmt) (todo : List Todo) → Nothing_left → StepBuilds t few (quiet.event_step a todo s)
+  event_step : (a : EventStmt) (todo : List Todo) → Nothing_left → StepBuilds t heads few (quiet.event_step a todo s)
   event_step (src.Throw line r) todo h = gone _ _ h
   event_step (src.Raise line r) todo h = gone _ _ h
   event_step (src.Try line body hs) todo h = gone _ _ h
@@ -303,7 +309,7 @@ module _ (t : Table) (few : Few) (Z : ℕ → ℕ → Type 0) (s : State) (life 
       by ps c i (inl x) = f ps c i x.0
       by ps c i (inr x) = g ps c i x
 
-  task_step : (a : TaskStmt) (todo : List Todo) → With (λ ps c i w K. Now t ps c i w K (piece.Do (src.OfTasks a) ∷ todo) s.run.operands) → StepBuilds t few (quiet.task_step a todo s)
+  task_step : (a : TaskStmt) (todo : List Todo) → With (λ ps c i w K. Now t ps c i w K (piece.Do (src.OfTasks a) ∷ todo) s.run.operands) → StepBuilds t heads few (quiet.task_step a todo s)
   task_step (src.SetUp r) todo h = go _ _ (more (λ ps c i w K. Now t ps c i w K (piece.Do (src.OfTasks (src.SetUp r)) ∷ todo) s.run.operands) (λ ps c i w K. Behind t ps c i todo) (λ ps c i w K x. by ps c i x) h)
     where
       by : (ps : List Ty) (c i : ℕ) → (⊥ × AllLeft todo) ⊎ Behind t ps c i todo → Behind t ps c i todo
@@ -311,7 +317,7 @@ module _ (t : Table) (few : Few) (Z : ℕ → ℕ → Type 0) (s : State) (life 
       by ps c i (inr x) = x
   task_step a todo h = gone _ _ (none (src.OfTasks a) todo (λ ps c i x. x) (λ ps c i x. x) h)
 
-  pub stmt : (a : Stmt) (todo : List Todo) → With (λ ps c i w K. Now t ps c i w K (piece.Do a ∷ todo) s.run.operands) → StepBuilds t few (quiet.stmt_step a todo s)
+  pub stmt : (a : Stmt) (todo : List Todo) → With (λ ps c i w K. Now t ps c i w K (piece.Do a ∷ todo) s.run.operands) → StepBuilds t heads few (quiet.stmt_step a todo s)
   stmt (src.Evaluate line e) todo h =
       go_now _ _ (more (λ ps c i w K. Now t ps c i w K (piece.Do (src.Evaluate line e) ∷ todo) s.run.operands) (λ ps c i w K. Now t ps c i w K (piece.Eval e ∷ (piece.DropNow ∷ (piece.Within line ∷ todo))) s.run.operands) (λ ps c i w K x. by ps c i w K x) h)
     where
@@ -332,109 +338,109 @@ module _ (t : Table) (few : Few) (Z : ℕ → ℕ → Type 0) (s : State) (life 
 
   -- coroutines
 
-  fresh : (n : Exec) (r : Routine) (this : Value) → BuildsEx t few n (quiet.fresh r this)
+  fresh : (n : Exec) (r : Routine) (this : Value) → BuildsEx t heads few n (quiet.fresh r this)
   fresh n r this = record { apart = ((tt, refl, λ home e. absurd (cc)), tt); run = tt; callers = tt }
 
-  pub set_up : (r : Option Routine) (todo : List Todo) → Holding todo → StepBuilds t few (quiet.set_up_step r todo s)
+  pub set_up : (r : Option Routine) (todo : List Todo) → Holding todo → StepBuilds t heads few (quiet.set_up_step r todo s)
   set_up None todo h = go _ _ h
   set_up (Some r) todo h =
       let q = quiet.home_at s.run.this s.env in
       let x = quiet.fresh r s.run.this in
-      let k : Keeps t few s.env (sw.born q x s.env) = kept.born_keeps t few q x s.env (λ n. fresh n r s.run.this) env in
-      go_in _ _ _ (kept.keeps_both t few k (kept.written_keeps t few s.run.this _ (sw.born q x s.env) k.env)) h
+      let k : Keeps t heads few s.env (sw.born q x s.env) = kept.born_keeps t heads few q x s.env (λ n. fresh n r s.run.this) env in
+      go_in _ _ _ (kept.keeps_both t heads few k (kept.written_keeps t heads few s.run.this _ (sw.born q x s.env) k.env)) h
 
-  pub live : (r : Option Routine) (todo : List Todo) → Holding todo → StepBuilds t few (quiet.live_step r todo s)
+  pub live : (r : Option Routine) (todo : List Todo) → Holding todo → StepBuilds t heads few (quiet.live_step r todo s)
   live None todo h = stays _ _ h
-  live (Some r) todo h = either (StepBuilds t few) (sw.is_live (piece.exec_at (top (drop r.params s.run.operands)) s.env) s.env) _ _ (go todo _ h) (stays todo _ h)
+  live (Some r) todo h = either (StepBuilds t heads few) (sw.is_live (piece.exec_at (top (drop r.params s.run.operands)) s.env) s.env) _ _ (go todo _ h) (stays todo _ h)
 
-  pub land : (w : Option UnwindReason) (todo : List Todo) → Holding todo → StepBuilds t few (quiet.land_step w todo s)
+  pub land : (w : Option UnwindReason) (todo : List Todo) → Holding todo → StepBuilds t heads few (quiet.land_step w todo s)
   land None todo h = go _ _ h
   land (Some why) todo h = go (piece.Unwind ∷ todo) [] (more (λ ps c i w K. Behind t ps c i todo) (λ ps c i w K. AllLeft todo) (λ ps c i w K x. building.left t ps c i todo x) h)
 
   -- mutex objects
 
-  pub unless : (q : ℕ) (step : Step) (todo : List Todo) → Holding todo → StepBuilds t few step → StepBuilds t few (monitors.unless_held_up q step todo s)
-  unless q step todo h k = either (StepBuilds t few) (inside.is_held_up q s.env) _ step (stays todo _ h) k
+  pub unless : (q : ℕ) (step : Step) (todo : List Todo) → Holding todo → StepBuilds t heads few step → StepBuilds t heads few (monitors.unless_held_up q step todo s)
+  unless q step todo h k = either (StepBuilds t heads few) (inside.is_held_up q s.env) _ step (stays todo _ h) k
 
-  enter_at : (d : Option ℕ) (q m : ℕ) (todo : List Todo) → Holding todo → StepBuilds t few (monitors.enter_at d q m todo s)
+  enter_at : (d : Option ℕ) (q m : ℕ) (todo : List Todo) → Holding todo → StepBuilds t heads few (monitors.enter_at d q m todo s)
   enter_at (Some d) q m todo h = go_in _ _ _ (same refl refl refl refl refl) h
   enter_at None q m todo h = stays_in _ _ _ (same refl refl refl refl refl) h
 
-  pub enter : (m : ℕ) (r : Option Routine) (todo : List Todo) → Holding todo → StepBuilds t few (monitors.enter_step m r todo s)
+  pub enter : (m : ℕ) (r : Option Routine) (todo : List Todo) → Holding todo → StepBuilds t heads few (monitors.enter_step m r todo s)
   enter m None todo h = stays _ _ h
   enter m (Some r) todo h =
       let q = piece.object_in (top (drop r.params s.run.operands)) in
-      either (StepBuilds t few) (monitors.may_call r.written s) _ _ (enter_at (find q s.env.depths) q m todo h) (stays todo _ h)
+      either (StepBuilds t heads few) (monitors.may_call r.written s) _ _ (enter_at (find q s.env.depths) q m todo h) (stays todo _ h)
 
   polled : (w : Option UnwindReason) (todo : List Todo) → Holding todo → Holding (monitors.leave_todo w todo)
   polled None todo h = h
   polled (Some why) todo h = h
 
-  pub leave : (b : Bool) (q : ℕ) (todo : List Todo) → Holding todo → StepBuilds t few (monitors.leave_at b q todo s)
+  pub leave : (b : Bool) (q : ℕ) (todo : List Todo) → Holding todo → StepBuilds t heads few (monitors.leave_at b q todo s)
   leave false q todo h = go_in _ _ _ (same refl refl refl refl refl) h
   leave true q todo h =
-      unless q _ todo h (record { apart = apart; run = polled s.run.raised todo h; callers = callers; env = kept.like t few env refl refl refl })
+      unless q _ todo h (record { apart = apart; run = polled s.run.raised todo h; callers = callers; env = kept.like t heads few env refl refl refl })
 
-  pub make : (c n : ℕ) (r : Option Routine) (todo : List Todo) → Holding todo → StepBuilds t few (monitors.make_step c n r todo s)
+  pub make : (c n : ℕ) (r : Option Routine) (todo : List Todo) → Holding todo → StepBuilds t heads few (monitors.make_step c n r todo s)
   make c n None todo h = stays _ _ h
   make c n (Some r) todo h =
-      either (StepBuilds t few) (monitors.may_call r.written s) _ _ (stays_in _ _ _ (same refl refl refl refl refl) h) (stays todo _ h)
+      either (StepBuilds t heads few) (monitors.may_call r.written s) _ _ (stays_in _ _ _ (same refl refl refl refl refl) h) (stays todo _ h)
 
-  pub bind : (r : Option Routine) (todo : List Todo) → Holding todo → StepBuilds t few (monitors.bind_step r todo s)
+  pub bind : (r : Option Routine) (todo : List Todo) → Holding todo → StepBuilds t heads few (monitors.bind_step r todo s)
   bind None todo h = stays _ _ h
-  bind (Some r) todo h = go_in _ _ _ (kept.written_keeps t few _ _ s.env env) h
+  bind (Some r) todo h = go_in _ _ _ (kept.written_keeps t heads few _ _ s.env env) h
 
-  pub condition : (n : ℕ) (i : Option ℕ) (todo : List Todo) → Holding todo → StepBuilds t few (monitors.condition_step n i todo s)
+  pub condition : (n : ℕ) (i : Option ℕ) (todo : List Todo) → Holding todo → StepBuilds t heads few (monitors.condition_step n i todo s)
   condition n None todo h = stays todo _ h
   condition n (Some i) todo h = go todo _ h
 
-  pub accept_by : (mask q site : ℕ) (todo : List Todo) (vs : List Value) → Holding todo → StepBuilds t few (monitors.accept_by mask q site todo vs s)
+  pub accept_by : (mask q site : ℕ) (todo : List Todo) (vs : List Value) → Holding todo → StepBuilds t heads few (monitors.accept_by mask q site todo vs s)
   accept_by zero q site todo vs h = go _ _ h
   accept_by (suc mask) q site todo vs h = unless q _ todo h (stays _ _ h)
 
-  pub failed : (b : Bool) (todo : List Todo) (vs : List Value) → Holding todo → StepBuilds t few (monitors.failed_step b todo vs s)
+  pub failed : (b : Bool) (todo : List Todo) (vs : List Value) → Holding todo → StepBuilds t heads few (monitors.failed_step b todo vs s)
   failed true todo vs h = go _ _ h
   failed false todo vs h = go _ _ h
 
   -- events
 
-  pend : (n : Exec) (e : Event) (todo : List Todo) (vs : List Value) → Holding todo → StepBuilds t few (polls.pend_step n e todo vs s)
+  pend : (n : Exec) (e : Event) (todo : List Todo) (vs : List Value) → Holding todo → StepBuilds t heads few (polls.pend_step n e todo vs s)
   pend n e todo vs h =
-      either (StepBuilds t few) (nat_lt (length (inside.pending_at n s.env)) PENDING_EVENTS) _ _ (go_in _ _ _ (kept.links_keeps t few (λ l. record l { pending = l.pending ++ (record { event = e.number; x = e.x; y = e.y }) ∷ [] }) n s.env env) h) (stays todo vs h)
+      either (StepBuilds t heads few) (nat_lt (length (inside.pending_at n s.env)) PENDING_EVENTS) _ _ (go_in _ _ _ (kept.links_keeps t heads few (λ l. record l { pending = l.pending ++ (record { event = e.number; x = e.x; y = e.y }) ∷ [] }) n s.env env) h) (stays todo vs h)
 
-  pend_at : (x : Option Exec) (e : Event) (todo : List Todo) (vs : List Value) → Holding todo → StepBuilds t few (polls.pend_at x e todo vs s)
+  pend_at : (x : Option Exec) (e : Event) (todo : List Todo) (vs : List Value) → Holding todo → StepBuilds t heads few (polls.pend_at x e todo vs s)
   pend_at None e todo vs h = stays todo vs h
-  pend_at (Some n) e todo vs h = either (StepBuilds t few) (sw.is_live (Some n) s.env) _ _ (pend n e todo vs h) (stays todo vs h)
+  pend_at (Some n) e todo vs h = either (StepBuilds t heads few) (sw.is_live (Some n) s.env) _ _ (pend n e todo vs h) (stays todo vs h)
 
-  pub raise_at : (v : Value) (e : Event) (todo : List Todo) (vs : List Value) → Holding todo → StepBuilds t few (polls.raise_at_step v e todo vs s)
+  pub raise_at : (v : Value) (e : Event) (todo : List Todo) (vs : List Value) → Holding todo → StepBuilds t heads few (polls.raise_at_step v e todo vs s)
   raise_at (Object q) e todo vs h = stays todo vs h
   raise_at v e todo vs h = pend_at (piece.exec_at v s.env) e todo vs h
 
-  pub enables : (events cell : ℕ) (todo : List Todo) → Holding todo → StepBuilds t few (polls.enable_step events cell todo s)
+  pub enables : (events cell : ℕ) (todo : List Todo) → Holding todo → StepBuilds t heads few (polls.enable_step events cell todo s)
   enables events cell todo h =
-      let k : Keeps t few s.env (written (piece.variable_at cell s) (Number (signed_64 s.env.links.enabled)) s.env) = kept.written_keeps t few (piece.variable_at cell s) (Number (signed_64 s.env.links.enabled)) s.env env in
-      go_in _ _ _ (kept.keeps_both t few k (kept.keeps_like t few k.env refl refl refl refl refl)) h
+      let k : Keeps t heads few s.env (written (piece.variable_at cell s) (Number (signed_64 s.env.links.enabled)) s.env) = kept.written_keeps t heads few (piece.variable_at cell s) (Number (signed_64 s.env.links.enabled)) s.env env in
+      go_in _ _ _ (kept.keeps_both t heads few k (kept.keeps_like t heads few k.env refl refl refl refl refl)) h
 
-  quiet_poll : (x : Option Pending) (todo : List Todo) → Holding todo → StepBuilds t few (polls.quiet_poll x todo s)
+  quiet_poll : (x : Option Pending) (todo : List Todo) → Holding todo → StepBuilds t heads few (polls.quiet_poll x todo s)
   quiet_poll None todo h = go _ _ h
   quiet_poll (Some p) todo h = stays_in _ _ _ (same refl refl refl refl refl) h
 
-  poll_by : (b : Bool) (todo : List Todo) → Holding todo → StepBuilds t few (polls.poll_by b todo s)
+  poll_by : (b : Bool) (todo : List Todo) → Holding todo → StepBuilds t heads few (polls.poll_by b todo s)
   poll_by true todo h = stays _ _ h
   poll_by false todo h = quiet_poll (inside.oldest_enabled s.env.links) todo h
 
-  pub poll : (todo : List Todo) → Holding todo → StepBuilds t few (polls.poll_step todo s)
-  poll todo h = either (StepBuilds t few) (nat_eq s.env.links.enabled 0) _ _ (go todo _ h) (poll_by (inside.is_own s.env) todo h)
+  pub poll : (todo : List Todo) → Holding todo → StepBuilds t heads few (polls.poll_step todo s)
+  poll todo h = either (StepBuilds t heads few) (nat_eq s.env.links.enabled 0) _ _ (go todo _ h) (poll_by (inside.is_own s.env) todo h)
 
-  pub deliver : (v : Value) (todo : List Todo) → Holding todo → StepBuilds t few (polls.deliver_step v todo s)
+  pub deliver : (v : Value) (todo : List Todo) → Holding todo → StepBuilds t heads few (polls.deliver_step v todo s)
   deliver Nothing todo h = go _ _ h
   deliver v todo h = go _ _ h
 
   -- the running activation is told anew, and no return unwinds it
-  told : (b : Active) → b.frame ≡ s.run.frame → b.this ≡ s.run.this → b.handles ≡ s.run.handles → With (λ ps c i w K. Now t ps c i w K b.control b.operands) → ((home : ℕ) → b.raised ≡ Some (reason.ReturnTo home) → ⊥) → BuildsBy t few (of_run t b) (record s { run = b })
+  told : (b : Active) → b.frame ≡ s.run.frame → b.this ≡ s.run.this → b.handles ≡ s.run.handles → With (λ ps c i w K. Now t ps c i w K b.control b.operands) → ((home : ℕ) → b.raised ≡ Some (reason.ReturnTo home) → ⊥) → BuildsBy t heads few (of_run t b) (record s { run = b })
   told b e q v h none = record {
     apart = ((subst (λ f. IsApart f s.callers) (sym e) apart.0.0, subst (λ o. HomedBy o b.frame (length s.callers)) (sym v) (subst (λ f. HomedBy s.run.handles f (length s.callers)) (sym e) apart.0.1), λ home r. absurd (none home r)), apart.1);
-    run = subst (λ v. Builds t few s.env.exec (of_run t b) s.env.frames b.frame v s.callers) (sym q) (subst (λ f. Builds t few s.env.exec (of_run t b) s.env.frames f s.run.this s.callers) (sym e) (builds_more t few s.env.exec (λ ps c i w K. Now t ps c i w K b.control b.operands × NotBack s.run) (of_run t b) (λ ps c i w K x. (x.0, λ r. none b.frame r)) s.env.frames s.run.frame s.run.this s.callers h));
+    run = subst (λ v. Builds t heads few s.env.exec (of_run t b) s.env.frames b.frame v s.callers) (sym q) (subst (λ f. Builds t heads few s.env.exec (of_run t b) s.env.frames f s.run.this s.callers) (sym e) (builds_more t heads few s.env.exec (λ ps c i w K. Now t ps c i w K b.control b.operands × NotBack s.run) (of_run t b) (λ ps c i w K x. (x.0, λ r. none b.frame r)) s.env.frames s.run.frame s.run.this s.callers h));
     callers = callers;
     env = env;
   }
@@ -442,31 +448,31 @@ module _ (t : Table) (few : Few) (Z : ℕ → ℕ → Type 0) (s : State) (life 
   unwinding : (todo : List Todo) → Holding todo → Holding (piece.Unwind ∷ todo)
   unwinding todo h = more (λ ps c i w K. Behind t ps c i todo) (λ ps c i w K. AllLeft todo) (λ ps c i w K x. building.left t ps c i todo x) h
 
-  pub throws : (e : Event) (todo : List Todo) → Holding todo → StepBuilds t few (raising.throw_step e todo s)
+  pub throws : (e : Event) (todo : List Todo) → Holding todo → StepBuilds t heads few (raising.throw_step e todo s)
   throws e todo h = told _ refl refl refl (unwinding todo h) (λ home r. absurd (cc))
 
   -- unwinding
 
-  catches : (x : Option Handler) (e : Event) (todo : List Todo) → Nothing_left → StepBuilds t few (raising.catch_step x e todo s)
+  catches : (x : Option Handler) (e : Event) (todo : List Todo) → Nothing_left → StepBuilds t heads few (raising.catch_step x e todo s)
   catches None e todo h = gone _ _ h
   catches (Some x) e todo h = told _ refl refl refl (lost _ h) (λ home r. absurd (cc))
 
-  guarded : (hs : Handlers) (w : Option UnwindReason) (todo : List Todo) → Nothing_left → StepBuilds t few (raising.guard_left hs w todo s)
+  guarded : (hs : Handlers) (w : Option UnwindReason) (todo : List Todo) → Nothing_left → StepBuilds t heads few (raising.guard_left hs w todo s)
   guarded hs (Some (reason.Event n y z)) todo h = catches (raising.handler_for false (record { number = n; x = y; y = z }) hs) (record { number = n; x = y; y = z }) todo h
   guarded hs w todo h = gone _ _ h
 
-  whole : (b : Bool) (todo : List Todo) → Nothing_left → StepBuilds t few (raising.whole_left b todo s)
+  whole : (b : Bool) (todo : List Todo) → Nothing_left → StepBuilds t heads few (raising.whole_left b todo s)
   whole true todo h = told _ refl refl refl (lost _ h) (λ home r. absurd (cc))
   whole false todo h = gone _ _ h
 
-  main_left : (w : Option UnwindReason) (todo : List Todo) → Nothing_left → StepBuilds t few (raising.main_left w todo s)
+  main_left : (w : Option UnwindReason) (todo : List Todo) → Nothing_left → StepBuilds t heads few (raising.main_left w todo s)
   main_left (Some (reason.ReturnTo n)) todo h = told _ refl refl refl (lost _ h) (λ home r. absurd (cc))
   main_left w todo h = stays todo [] (free todo h)
 
-  coroutine_left : (w : Option UnwindReason) (todo : List Todo) → Nothing_left → StepBuilds t few (raising.coroutine_left w todo s)
+  coroutine_left : (w : Option UnwindReason) (todo : List Todo) → Nothing_left → StepBuilds t heads few (raising.coroutine_left w todo s)
   coroutine_left (Some (reason.ReturnTo n)) todo h = told _ refl refl refl (lost _ h) (λ home r. absurd (cc))
-  coroutine_left (Some reason.Destroyed) todo h = moved _ todo _ (free todo h) (kept.taken_down_rests t few (at todo [] s) (gone todo [] h))
-  coroutine_left w todo h = moved _ todo _ (free todo h) (kept.escape_rests t few (at todo [] s) (gone todo [] h))
+  coroutine_left (Some reason.Destroyed) todo h = moved _ todo _ (free todo h) (kept.taken_down_rests t heads few (at todo [] s) (gone todo [] h))
+  coroutine_left w todo h = moved _ todo _ (free todo h) (kept.escape_rests t heads few (at todo [] s) (gone todo [] h))
 
   -- what cleans up, before an unwinding
   cleans : (c : CleanUp) (todo : List Todo) → Holding todo → Holding (piece.clean_todo c todo)
@@ -484,12 +490,12 @@ module _ (t : Table) (few : Few) (Z : ℕ → ℕ → Type 0) (s : State) (life 
   left_cleans (src.Frees r) todo h = h
   left_cleans c todo h = cleans c todo h
 
-  scope : (c : CleanUp) (b : Bool) (todo : List Todo) → With (λ ps d i w K. IsLeft (piece.IsClean c) (AllLeft todo)) → StepBuilds t few (raising.scope_left c b todo s)
+  scope : (c : CleanUp) (b : Bool) (todo : List Todo) → With (λ ps d i w K. IsLeft (piece.IsClean c) (AllLeft todo)) → StepBuilds t heads few (raising.scope_left c b todo s)
   scope src.Leaves true todo h = told _ refl refl refl (lost _ h) (λ home r. absurd (cc))
   scope src.Leaves false todo h = gone _ _ h
   scope c b todo h = go (raising.left_todo c (piece.Unwind ∷ todo)) [] (left_cleans c (piece.Unwind ∷ todo) h)
 
-  unwind_past : (k : Sort) (todo : List Todo) → With (λ ps c i w K. IsLeft k (AllLeft todo)) → StepBuilds t few (raising.unwind_past k todo s)
+  unwind_past : (k : Sort) (todo : List Todo) → With (λ ps c i w K. IsLeft k (AllLeft todo)) → StepBuilds t heads few (raising.unwind_past k todo s)
   unwind_past piece.Simple todo h = go _ _ h
   unwind_past (piece.IsLoop order c e b) todo h = go _ _ h
   unwind_past piece.IsWhole todo h = whole _ todo h
@@ -501,21 +507,21 @@ module _ (t : Table) (few : Few) (Z : ℕ → ℕ → Type 0) (s : State) (life 
   unwind_past piece.IsFinish todo h = main_left s.run.raised todo h
   unwind_past piece.IsFinishCoroutine todo h = coroutine_left s.run.raised todo h
 
-  pub unwinds : BuildsBy t few (of_wait t s.run) s → (todo : List Todo) → With (λ ps c i w K. AllLeft todo) → StepBuilds t few (raising.unwind_step todo s)
+  pub unwinds : BuildsBy t heads few (of_wait t s.run) s → (todo : List Todo) → With (λ ps c i w K. AllLeft todo) → StepBuilds t heads few (raising.unwind_step todo s)
   unwinds stay [] h = leaves stay s.callers apart.0.2 life.frames life.stack.1 callers apart.1
   unwinds stay (p ∷ ps) h = unwind_past (piece.sort p) ps h
 
-  pub exits : BuildsBy t few (of_wait t s.run) s → (w : Way) (todo : List Todo) → Nothing_left → StepBuilds t few (quiet.exit_step w todo s)
+  pub exits : BuildsBy t heads few (of_wait t s.run) s → (w : Way) (todo : List Todo) → Nothing_left → StepBuilds t heads few (quiet.exit_step w todo s)
   exits stay w [] h = end_step stay w
   exits stay w (p ∷ ps) h = gone _ _ h
 
   -- printing
 
-  pub prints : (x : Option (List Piece)) (p : Piece) (todo : List Todo) (vs : List Value) → Holding todo → StepBuilds t few (piece.print_step x p todo vs s)
+  pub prints : (x : Option (List Piece)) (p : Piece) (todo : List Todo) (vs : List Value) → Holding todo → StepBuilds t heads few (piece.print_step x p todo vs s)
   prints None p todo vs h = stays _ _ h
   prints (Some ps) p todo vs h = go_in _ _ _ (same refl refl refl refl refl) h
 
-  pub flushes : (x : Option (List Piece)) (todo : List Todo) (vs : List Value) → Holding todo → StepBuilds t few (piece.flush_step x todo vs s)
+  pub flushes : (x : Option (List Piece)) (todo : List Todo) (vs : List Value) → Holding todo → StepBuilds t heads few (piece.flush_step x todo vs s)
   flushes None todo vs h = go _ _ h
   flushes (Some []) todo vs h = go_in _ _ _ (same refl refl refl refl refl) h
   flushes (Some (p ∷ ps)) todo vs h = stays_in _ _ _ (same refl refl refl refl refl) h

@@ -1,10 +1,15 @@
 -- What builds an object in which references are bound: the statements of its constructor, and to-do lists in which some of them are left.
-use Rattle.std.specs.Prelude.{◌≡◌, ℕ, ◌≤◌, ◌⊎◌, List, [], ◌∷◌}
-use Rattle.uc_tree.specs.Source.{Expr, Get, OfObject, OwnField, Bind, Leaves, Stmt, Stmts, Evaluate, Fill, OfTasks, SetUp, Nil, Then, Scoped, Built}
+use Rattle.std.specs.Prelude.{◌≡◌, ℕ, ◌≤◌, ◌⊎◌, ◌&&◌, ◌||◌, Bool, true, false, List, [], ◌∷◌, nat_eq}
+use Rattle.uc_tree.specs.declared.kinds.Role.TheVariants as role
+use Rattle.uc_tree.specs.Objects.{written_at}
+use Rattle.uc_tree.specs.Programs.{Program}
+use Rattle.uc_tree.specs.Source.{Expr, ObjectExpr, Get, OfObject, OwnField, FieldOf, Bind, Leaves, Stmt, Stmts, Evaluate, Fill, OfTasks, SetUp, Nil, Then, Scoped, Built, routine_of}
 use Rattle.uc_machine.specs.Pieces as piece
 use Rattle.uc_machine.specs.Pieces.{FieldAt, Value, Todo, Sort, sort, LAST_ADDRESS, top, below, further}
-use Rattle.uc_typing.specs.Typing.{Ty, Cell, Table, IsParam, IsPlaced}
-use Rattle.uc_life_laws.specs.Things.{IsField, IsUnbound}
+use Rattle.uc_resolve.specs.Resolve.{source_of}
+use Rattle.uc_typing.specs.Typing.{Ty, Cell, Obj, Table, IsParam, IsPlaced}
+use Rattle.uc_life_laws.specs.Things.{IsField}
+use Rattle.uc_opening_laws.specs.Opened.{role_number}
 
 -- statements
 
@@ -15,33 +20,71 @@ IsHead (Fill line n b d) rest = rest
 IsHead (OfTasks (SetUp r)) rest = rest
 IsHead a rest = ⊥
 
--- `ps`: the types of the parameters of a constructor; of the class c the field i
-module _ (t : Table) (ps : List Ty) (c i : ℕ) where
-  -- what the field is bound to: a parameter that is a reference, or a field of the same object, of its type
-  abbrev pub IsGiven : Expr → Type 0
-  IsGiven (Get k) = (b : Ty) × (t.fields c i ≡ Cell b) × IsParam ps k b × (k ≤ LAST_ADDRESS)
-  IsGiven (OfObject (OwnField s m)) = (t.fields c i ≡ Cell (t.fields c m)) × (s ≡ t.shape c) × IsField t c m ×
-      IsPlaced t (t.fields c m)
-  IsGiven e = ⊥
+-- a path from a parameter that is a reference, or from a field of the object at hand, by its form alone: nothing is read on it but the parameter
+abbrev mutual
+  pub is_path : Expr → Bool
+  is_path (Get k) = true
+  is_path (OfObject o) = is_object_path o
+  is_path e = false
 
-  abbrev pub BindsField : Expr → Type 0
-  BindsField (OfObject (Bind (OfObject (OwnField s m)) e)) = (m ≡ i) × (s ≡ t.shape c) × IsGiven e
-  BindsField e = ⊥
+  pub is_object_path : ObjectExpr → Bool
+  is_object_path (OwnField s m) = true
+  is_object_path (FieldOf s m e) = is_path e
+  is_object_path o = false
 
-  abbrev pub BindsBy : Stmt → Type 0
-  BindsBy (Evaluate line e) = BindsField e
-  BindsBy a = ⊥
+-- the field i of the object at hand is bound to what such a path finds
+abbrev pub is_bound_by : ℕ → Expr → Bool
+is_bound_by i (OfObject (Bind (OfObject (OwnField s m)) e)) = nat_eq m i && is_path e
+is_bound_by i e = false
 
-  -- one of the first statements binds the field, before all that builds no fields
-  abbrev pub InHead : Stmts → Type 0
-  InHead Nil = ⊥
-  InHead (Then a rest) = BindsBy a ⊎ IsHead a (InHead rest)
-  InHead (Scoped x rest) = ⊥
-  InHead (Built x rest) = InHead rest
+-- by one of the first statements, before all that builds no fields
+abbrev pub is_bound_in : ℕ → Stmts → Bool
+is_bound_in i Nil = false
+is_bound_in i (Then (Evaluate line e) rest) = is_bound_by i e || is_bound_in i rest
+is_bound_in i (Then (Fill line n b d) rest) = is_bound_in i rest
+is_bound_in i (Then (OfTasks (SetUp r)) rest) = is_bound_in i rest
+is_bound_in i (Then a rest) = false
+is_bound_in i (Scoped x rest) = false
+is_bound_in i (Built x rest) = is_bound_in i rest
 
--- each field of the class in which something is bound is bound so
-abbrev pub MakesAll : Table → List Ty → ℕ → Stmts → Type 0
-MakesAll t ps c body = (i : ℕ) → IsField t c i → InHead t ps c i body ⊎ IsUnbound t (t.fields c i)
+-- the fields that the constructors of a program bind so, by the number of the class and their own
+abbrev pub heads_of : Program → ℕ → ℕ → Bool
+heads_of p c i = is_bound_in i (routine_of (source_of p) (role_number p c role.Constructor (written_at p c role.Constructor))).body
+
+-- `ps`: the types of the parameters of a constructor of the class c
+module _ (t : Table) (ps : List Ty) (c : ℕ) where
+  -- such a path finds what is of this type
+  abbrev mutual
+    pub IsGiven : Expr → Ty → Type 0
+    IsGiven (Get k) a = IsParam ps k a × (k ≤ LAST_ADDRESS)
+    IsGiven (OfObject o) a = IsGivenBy o a
+    IsGiven e a = ⊥
+
+    pub IsGivenBy : ObjectExpr → Ty → Type 0
+    IsGivenBy (OwnField s m) a = (a ≡ t.fields c m) × (s ≡ t.shape c) × IsField t c m × IsPlaced t (t.fields c m)
+    IsGivenBy (FieldOf s m e) a = (d : ℕ) × IsGiven e (Obj d) × (a ≡ t.fields d m) × (s ≡ t.shape d) × IsField t d m ×
+        IsPlaced t (t.fields d m)
+    IsGivenBy o a = ⊥
+
+  -- the field i is bound to what is of its type
+  module _ (i : ℕ) where
+    abbrev pub Gives : Expr → Type 0
+    Gives e = (b : Ty) × (t.fields c i ≡ Cell b) × IsGiven e b
+
+    abbrev pub BindsField : Expr → Type 0
+    BindsField (OfObject (Bind (OfObject (OwnField s m)) e)) = (m ≡ i) × (s ≡ t.shape c) × Gives e
+    BindsField e = ⊥
+
+    abbrev pub BindsBy : Stmt → Type 0
+    BindsBy (Evaluate line e) = BindsField e
+    BindsBy a = ⊥
+
+    -- by one of the first statements
+    abbrev pub InHead : Stmts → Type 0
+    InHead Nil = ⊥
+    InHead (Then a rest) = BindsBy a ⊎ IsHead a (InHead rest)
+    InHead (Scoped x rest) = ⊥
+    InHead (Built x rest) = InHead rest
 
 -- to-do lists
 
@@ -90,21 +133,30 @@ module _ (t : Table) (ps : List Ty) (c i : ℕ) where
     abbrev pub place : Value
     place = further (FieldAt (t.shape c) i) w
 
-    -- the place of the field is found, and then what it is bound to; that is found, with the place below
-    abbrev pub Finds : Expr → List Todo → List Value → Type 0
-    Finds (OfObject (OwnField s m)) (piece.Eval e ∷ (piece.BindNow ∷ todo)) vs = (m ≡ i) × (s ≡ t.shape c) × IsGiven t ps c i e × AllLeft todo
-    Finds (OfObject (OwnField s m)) (piece.BindNow ∷ todo) vs = IsGiven t ps c i (OfObject (OwnField s m)) ×
-        (top vs ≡ place) × AllLeft todo
-    Finds (Get k) (piece.BindNow ∷ todo) vs = IsGiven t ps c i (Get k) × (top vs ≡ place) × AllLeft todo
-    Finds e todo vs = ⊥
+    -- what is found now is of the type a, with these operands below it, the place of the field among them: it is what the field is bound to, or a
+    -- field in it is
+    abbrev pub Onwards : Ty → List Todo → List Value → Type 0
+    Onwards a (piece.FieldNow s m ∷ todo) vs = (d : ℕ) × (a ≡ Obj d) × (s ≡ t.shape d) × IsField t d m × IsPlaced t (t.fields d m) ×
+        Onwards (t.fields d m) todo vs
+    Onwards a (piece.BindNow ∷ todo) vs = (t.fields c i ≡ Cell a) × (top vs ≡ place) × AllLeft todo
+    Onwards a todo vs = ⊥
 
-    -- and it is bound
-    abbrev pub Binds : List Todo → List Value → Type 0
-    Binds todo vs = (b : Ty) × (t.fields c i ≡ Cell b) × (top (below vs) ≡ place) × K b (top vs) × AllLeft todo
+    -- the place of the field is found, and then what it is bound to
+    abbrev pub Starts : Expr → List Todo → Type 0
+    Starts (OfObject (OwnField s m)) (piece.Eval e ∷ (piece.BindNow ∷ todo)) = (m ≡ i) × (s ≡ t.shape c) × Gives t ps c i e × AllLeft todo
+    Starts e todo = ⊥
+
+    -- that is found, or what leads to it
+    abbrev pub Finds : Expr → List Todo → List Value → Type 0
+    Finds e todo vs = (a : Ty) × IsGiven t ps c e a × Onwards a todo vs
+
+    abbrev pub Found : List Todo → List Value → Type 0
+    Found todo vs = (a : Ty) × Onwards a todo (below vs) × K a (top vs)
 
     -- the field is still to be bound, by an activation that has this to do, with these operands
     abbrev pub Now : List Todo → List Value → Type 0
     Now (piece.Do a ∷ todo) vs = (BindsBy t ps c i a × AllLeft todo) ⊎ Behind (piece.Do a ∷ todo)
-    Now (piece.Eval e ∷ todo) vs = ((BindsField t ps c i e × AllLeft todo) ⊎ Finds e todo vs) ⊎ Behind todo
-    Now (piece.BindNow ∷ todo) vs = Binds todo vs ⊎ Behind todo
+    Now (piece.Eval e ∷ todo) vs = ((BindsField t ps c i e × AllLeft todo) ⊎ (Starts e todo ⊎ Finds e todo vs)) ⊎ Behind todo
+    Now (piece.FieldNow s m ∷ todo) vs = Found (piece.FieldNow s m ∷ todo) vs ⊎ Behind todo
+    Now (piece.BindNow ∷ todo) vs = Found (piece.BindNow ∷ todo) vs ⊎ Behind todo
     Now todo vs = Behind todo

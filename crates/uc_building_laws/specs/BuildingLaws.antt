@@ -1,42 +1,41 @@
 -- What a constructor leaves.
-use Rattle.std.specs.Prelude.{◌≡◌, ℕ, ◌⊎◌, false, List, [], ◌∷◌, drop, slice_get, Some}
+use Rattle.std.specs.Prelude.{◌≡◌, ℕ, ◌⊎◌, Bool, true, false, List, [], ◌∷◌, drop, slice_get, slice_index_or, Some}
 use Rattle.uc_tree.specs.Programs.{Program}
 use Rattle.uc_tree.specs.Source.{CleanUp, Variable, Builder, Routine, Source, routine_of}
 use Rattle.uc_entry.specs.declared.request.Answer.{Answer}
 use Rattle.uc_machine.specs.declared.exec.Exec.{Exec}
 use Rattle.uc_machine.specs.declared.exec.Owner.TheVariants.{Frame}
 use Rattle.uc_machine.specs.Pieces as piece
-use Rattle.uc_machine.specs.Pieces.{FieldAt, Value, Todo, Active, Goes, top, below, further, loaded}
-use Rattle.uc_machine.specs.Quiet.{State, quiet, first_state}
+use Rattle.uc_machine.specs.Pieces.{FieldAt, Value, Todo, Active, top, below, further, loaded, nought}
+use Rattle.uc_machine.specs.Quiet.{State, quiet, first_state, call_frame}
 use Rattle.uc_machine.specs.Answering.{answered}
 use Rattle.uc_scope_laws.specs.Layout.{Sized}
 use Rattle.uc_scope_laws.specs.RoomStacks.{StackState}
-use Rattle.uc_typing.specs.Typing.{Ty, Obj, Table, CleansAt}
-use Rattle.uc_typing.specs.States.{Sound}
-use Rattle.uc_life_laws.specs.Things.{Few, IsUnbound, LiesBefore}
+use Rattle.uc_typing.specs.Typing.{Ty, Obj, Table, IsParam, CleansAt}
+use Rattle.uc_life_laws.specs.Things.{Few, IsField, IsUnbound, Things, Known, LiesBefore}
 use Rattle.uc_life_laws.specs.LifeRuns.{IsLaidOut}
-use Rattle.uc_life_laws.specs.Knowing.{InMaking, KnowsState}
 use Rattle.uc_opening_laws.specs.Opened.{OpensNone}
 use Rattle.uc_opening_laws.specs.CalledStates.{StepJoins}
-use Rattle.uc_building_laws.specs.Building.{MakesAll}
-use Rattle.uc_building_laws.specs.BuildingStates.{Awaits, variable, BuildsState, BuildsRest, BuildsStep}
+use Rattle.uc_building_laws.specs.Building.{InHead}
+use Rattle.uc_building_laws.specs.BuildingStates.{IsFree, Awaits, variable, BuildsState, BuildsRest, BuildsStep}
 
 -- an object that is a variable is cleaned up
 abbrev pub IsPlain : Table → CleanUp → Type 0
 IsPlain t c = (k i : ℕ) × CleansAt t (Obj i) (Variable k) c
 
-module _ (t : Table) (few : Few) (source : Source) (s : State) where
-  -- the routine r is a constructor of the class i, which is called at the variable k, and binds all fields in which something is bound to its
-  -- parameters and to fields; and no constructor and no destructor waits
+module _ (t : Table) (heads : ℕ → ℕ → Bool) (few : Few) (source : Source) (s : State) where
+  -- the routine r is a constructor of the class i, which is called at the variable k, and binds the fields of which it is told to its parameters and
+  -- to fields, each of which holds what is known to all that is in scope
   pub record IsConstructed (r k i : ℕ) : Type 0 where
     pub purpose : (q : Routine) → slice_get source.routines r ≡ Some q → q.purpose ≡ Builder
     pub plain : t.mutex i ≡ false
-    pub makes : (q : Routine) → slice_get source.routines r ≡ Some q →
-        MakesAll t (t.routine r).params i q.body
+    pub makes : (q : Routine) → slice_get source.routines r ≡ Some q → (m : ℕ) → IsField t i m →
+        heads i m ≡ true → InHead t (t.routine r).params i m q.body ⊎ IsUnbound t (t.fields i m)
     pub object : (q : Routine) → slice_get source.routines r ≡ Some q →
         top (drop q.params s.run.operands) ≡ variable s.env.exec s.run.frame k
-    pub apart : KnowsState t few [] s → (x : KnowsState t few [] s) ×
-        ((w : Value) (a : Ty) → InMaking x.sigs (s.run ∷ s.callers) w a → ⊥)
+    pub given : (q : Routine) → slice_get source.routines r ≡ Some q → (j : ℕ) (b : Ty) →
+        IsParam (t.routine r).params j b →
+        Known t few s.env.exec (Things t few s.env.exec (s.run ∷ s.callers)) b (slice_index_or (call_frame q s.run.operands) j nought)
 
   -- where the scope of an object opens next, what is called builds it, or nothing is bound in it
   abbrev pub Constructs : ℕ → List Todo → Type 0
@@ -47,15 +46,15 @@ module _ (t : Table) (few : Few) (source : Source) (s : State) where
   abbrev pub NoScope : List Todo → Type 0
   NoScope todo = Awaits (λ c rest. IsPlain t c → ⊥) todo
 
-  -- what a step is to find: a constructor is called at the variable whose scope opens next; what is bound at a field of the object at hand is
-  -- held there behind the step
+  -- what a step is to find: a constructor is called at the variable whose scope opens next; nothing is bound yet at a field of the object at hand
+  -- where that is to be bound
   abbrev pub BuildsAt : List Todo → Type 0
   BuildsAt (piece.CallNow r ∷ todo) = NoScope todo
   BuildsAt (piece.CallOnNow r ∷ todo) = Constructs r todo
   BuildsAt (piece.CallUnwrittenNow r ∷ todo) = Constructs r todo
   BuildsAt (piece.RaiseNow ∷ todo) = NoScope (piece.DropNow ∷ todo)
   BuildsAt (piece.BindNow ∷ todo) = (c i : ℕ) → top (below s.run.operands) ≡ further (FieldAt (t.shape c) i) s.run.this →
-      (u : State) → quiet source s ≡ Goes u → loaded (top (below s.run.operands)) u.env ≡ top s.run.operands
+      IsFree (loaded (top (below s.run.operands)) s.env)
   BuildsAt todo = Unit {0}
 
   -- and scopes of objects open behind what has built these
@@ -78,18 +77,18 @@ ClearsAt t todo s = Unit {0}
 abbrev pub Clears : Table → State → Type 0
 Clears t s = ClearsAt t s.run.control s
 
--- of each sound source: a task begins so whose routine begins with no scope of an object that is a variable; each step keeps it that finds what it
--- is to find, where all is known and activations that use one frame stay behind one another; and so does each answer
+-- of each source: a task begins so whose routine begins with no scope of an object that is a variable; each step keeps it that finds what it is to
+-- find, where things lie within their cells and activations that use one frame stay behind one another; and so does each answer
 pub record LawSteps : Type 0 where
-  pub begins : (t : Table) (few : Few) (source : Source) (r o : ℕ) →
+  pub begins : (t : Table) (heads : ℕ → ℕ → Bool) (few : Few) (source : Source) (r o : ℕ) →
       OpensNone (routine_of source r).body →
-      BuildsRest t few (first_state (routine_of source r) o)
-  pub steps : (t : Table) (few : Few) (source : Source) → Sound t source →
-      (p : Program) (s : State) → StackState (Sized p) s → KnowsState t few [] s → BuildsState t few s →
-      Clears t s → Fair t few source s → BuildsStep t few (quiet source s)
-  pub told : (t : Table) (few : Few) (source : Source) (given : Answer) (s : State) →
-      BuildsRest t few s → BuildsRest t few (answered source given s)
-  pub goes_on : (t : Table) (few : Few) (s : State) → BuildsRest t few s → BuildsState t few s
+      BuildsRest t heads few (first_state (routine_of source r) o)
+  pub steps : (t : Table) (heads : ℕ → ℕ → Bool) (few : Few) (source : Source) (p : Program) → IsLaidOut (Sized p) t →
+      (s : State) → StackState (Sized p) s → BuildsState t heads few s →
+      Clears t s → Fair t heads few source s → BuildsStep t heads few (quiet source s)
+  pub told : (t : Table) (heads : ℕ → ℕ → Bool) (few : Few) (source : Source) (given : Answer) (s : State) →
+      BuildsRest t heads few s → BuildsRest t heads few (answered source given s)
+  pub goes_on : (t : Table) (heads : ℕ → ℕ → Bool) (few : Few) (s : State) → BuildsRest t heads few s → BuildsState t heads few s
 
 -- where things lie so and activations that use one frame stay behind one another, all that starts anew lies behind what is being built there
 abbrev pub LawClears : Type 0

@@ -1,5 +1,5 @@
 -- Executions and tasks in which each constructor has bound what its statements do not bind any more, of an object whose scope opens behind it.
-use Rattle.std.specs.Prelude.{◌≡◌, ℕ, suc, ◌⊎◌, List, [], ◌∷◌, Option, Some, None, length, slice_index_or}
+use Rattle.std.specs.Prelude.{◌≡◌, ℕ, suc, ◌⊎◌, Bool, true, List, [], ◌∷◌, Option, Some, None, length, slice_index_or}
 use Rattle.uc_tree.specs.Source.{Variable, CleanUp, Scoped}
 use Rattle.uc_entry.specs.declared.request.Request.{Request}
 use Rattle.uc_entry.specs.declared.request.Request.TheVariants as ask
@@ -9,11 +9,19 @@ use Rattle.uc_machine.specs.declared.exec.Visited.{Visited}
 use Rattle.uc_machine.specs.declared.exec.Owner.TheVariants.{Frame}
 use Rattle.uc_machine.specs.Executions.{Execution}
 use Rattle.uc_machine.specs.Pieces as piece
-use Rattle.uc_machine.specs.Pieces.{Slot, FieldAt, Value, Place, Todo, Active, State, Env, Step, Goes, Ticks, Asks, further, nought}
+use Rattle.uc_machine.specs.Pieces.{Slot, FieldAt, Value, Number, Place, Running, Object, Nothing, Todo, Active, State, Env, Step, Goes, Ticks, Asks, further, nought}
 use Rattle.uc_typing.specs.Typing.{Ty, Obj, Table, IsParam, CleansAt}
 use Rattle.uc_life_laws.specs.Things.{Few, IsField, Known, Holds}
 use Rattle.uc_life_laws.specs.LifeStates.{EnvBy, frame_at, Outwards}
 use Rattle.uc_building_laws.specs.Building.{AllLeft, Behind, Now}
+
+-- nothing is bound there
+abbrev pub IsFree : Value → Type 0
+IsFree (Number n) = Unit {0}
+IsFree (Place o p) = ⊥
+IsFree (Running e) = ⊥
+IsFree (Object o) = ⊥
+IsFree Nothing = Unit {0}
 
 -- a scope opens next, once the value of the statement before it is dropped
 abbrev pub Awaits : (CleanUp → List Todo → Type 0) → List Todo → Type 0
@@ -43,10 +51,12 @@ module _ (t : Table) (a : Active) (ps : List Ty) (c i : ℕ) (w : Value) (K : Ty
 abbrev pub variable : Exec → ℕ → ℕ → Value
 variable n g k = Place (Frame n g) (Slot k ∷ [])
 
-module _ (t : Table) (few : Few) (n : Exec) where
-  -- the object of a class at a place in the frame of the depth g holds what is known
+-- `heads`: of which fields of classes it is told, those that are bound in the heads of constructors
+module _ (t : Table) (heads : ℕ → ℕ → Bool) (few : Few) (n : Exec) where
+  -- these fields of the object of a class at a place in the frame of the depth g hold what is known
   abbrev pub IsBuilt : List (List Value) → ℕ → Value → ℕ → (Value → Ty → Type 0) → Type 0
-  IsBuilt fs g w c K = Holds t few n K (Frame n g) (frame_at g fs) w (Obj c)
+  IsBuilt fs g w c K = (i : ℕ) → IsField t c i → heads c i ≡ true →
+      Holds t few n K (Frame n g) (frame_at g fs) (further (FieldAt (t.shape c) i) w) (t.fields c i)
 
   -- a constructor with a frame f of its own, of this depth, builds it: its parameters are known, and so is what each field holds that is not
   -- still to be bound. `L ps c i w K`: that is so of the field i of the class c, by a constructor with parameters of these types
@@ -57,7 +67,7 @@ module _ (t : Table) (few : Few) (n : Exec) where
     pub params : List Ty
     pub known : (k : ℕ) (b : Ty) → IsParam params k b →
         Known t few n K b (slice_index_or (frame_at f fs) k nought)
-    pub fields : (i : ℕ) → IsField t c i →
+    pub fields : (i : ℕ) → IsField t c i → heads c i ≡ true →
         Holds t few n K (Frame n g) (frame_at g fs) (further (FieldAt (t.shape c) i) w) (t.fields c i) ⊎
         L params c i w (Known t few n K)
 
@@ -91,12 +101,12 @@ abbrev pub AllApart : List Active → Type 0
 AllApart [] = Unit {0}
 AllApart (a ∷ older) = IsOwn a older × AllApart older
 
-module _ (t : Table) (few : Few) where
+module _ (t : Table) (heads : ℕ → ℕ → Bool) (few : Few) where
   -- an execution of this name that does not run
   pub record BuildsEx (n : Exec) (x : Execution (List Todo) Value) : Type 0 where
     pub apart : AllApart (x.run ∷ x.callers)
-    pub run : Builds t few n (of_run t x.run) x.frames x.run.frame x.run.this x.callers
-    pub callers : AllBuild t few n x.frames x.callers
+    pub run : Builds t heads few n (of_run t x.run) x.frames x.run.frame x.run.this x.callers
+    pub callers : AllBuild t heads few n x.frames x.callers
 
   abbrev pub BuildsEnv : Env → Type 0
   BuildsEnv e = EnvBy BuildsEx e
@@ -104,13 +114,13 @@ module _ (t : Table) (few : Few) where
   -- a task whose running activation has this still to do
   pub record BuildsBy (L : List Ty → ℕ → ℕ → Value → (Ty → Value → Type 0) → Type 0) (s : State) : Type 0 where
     pub apart : AllApart (s.run ∷ s.callers)
-    pub run : Builds t few s.env.exec L s.env.frames s.run.frame s.run.this s.callers
-    pub callers : AllBuild t few s.env.exec s.env.frames s.callers
+    pub run : Builds t heads few s.env.exec L s.env.frames s.run.frame s.run.this s.callers
+    pub callers : AllBuild t heads few s.env.exec s.env.frames s.callers
     pub env : BuildsEnv s.env
 
   -- where a scope of an object that is a variable opens next, behind what has built it, that holds what is known
   abbrev pub Stands : State → Type 0
-  Stands s = Nears (λ c todo. (k i : ℕ) → CleansAt t (Obj i) (Variable k) c → IsBuilt t few s.env.exec s.env.frames s.run.frame (variable s.env.exec s.run.frame k) i (Outwards t few s.env.exec s.run.frame s.run.this s.callers c todo)) s.run.control
+  Stands s = Nears (λ c todo. (k i : ℕ) → CleansAt t (Obj i) (Variable k) c → IsBuilt t heads few s.env.exec s.env.frames s.run.frame (variable s.env.exec s.run.frame k) i (Outwards t few s.env.exec s.run.frame s.run.this s.callers c todo)) s.run.control
 
   pub record BuildsState (s : State) : Type 0 where
     pub builds : BuildsBy (of_run t s.run) s

@@ -1,7 +1,7 @@
 // The laws: each is a function whose contract is the law.
 
 ghost use Rattle.uc_building_laws.specs.BuildingLaws.{LawClears, LawSteps};
-ghost use Rattle.uc_building_laws.specs.BuildingRuns.{LawBuilt};
+ghost use Rattle.uc_building_laws.specs.BuildingRuns.{LawBuilt, LawHeads};
 ghost use Rattle.uc_building_laws.specs.BuiltRuns.{LawBuiltRuns};
 
 /// Of an object whose scope opens behind its constructor, each field in which something is bound holds
@@ -16,6 +16,13 @@ pub fn law_steps()
 /// cells and activations that use one frame stay behind one another.
 pub fn law_clears()
     ensures { LawClears }
+{}
+
+/// The constructor of a class of which variables are declared binds each field that it is told of in its
+/// first statements to what is of the type that stands there. Where no constructor and no destructor
+/// waits or runs, what it is given is in scope.
+pub fn law_heads()
+    ensures { LawHeads }
 {}
 
 /// So objects hold what is known where their scopes open, in each run of a program of the grammar that

@@ -1,0 +1,301 @@
+-- The constructors of a program bind fields in their first statements to what is of the type of the field.
+use Rattle.std.proofs.Common.{◌≡◌, ℕ, zero, suc, ◌+◌, ◌-◌, ◌++◌, ◌⊎◌, inl, inr, Bool, true, false, List, [], ◌∷◌, length, map, Option, Some, None, refl, sym, ap, ◌∙◌, subst, arith}
+use Rattle.std.specs.Prelude.{◌&&◌, ◌||◌, nat_eq, nat_lt, slice_get, if◌then◌else◌}
+use Rattle.std.proofs.lemmas.Bool.{eqb-true}
+use Rattle.uc_tree.specs.declared.kinds.Param.{Param}
+use Rattle.uc_tree.specs.Cells.{leading_cells}
+use Rattle.uc_tree.specs.Expressions as expr
+use Rattle.uc_tree.specs.Gathered.{gathered_all}
+use Rattle.uc_tree.specs.Numbering.{own_sites, own_texts, Defined, routines_of}
+use Rattle.uc_tree.specs.Objects.{ClassField, fields_of, class_at, Unwritten, unwritten_of}
+use Rattle.uc_tree.specs.Programs.{Class, Program}
+use Rattle.uc_tree.specs.Source as src
+use Rattle.uc_tree.specs.Source.{Shape, Expr, ObjectExpr, Stmt, Stmts, Routine}
+use Rattle.uc_machine.specs.Pieces.{Value}
+use Rattle.uc_resolve.specs.Resolve.{source_of}
+use Rattle.uc_rules.specs.declared.rules.Sort.{Sort}
+use Rattle.uc_rules.specs.declared.rules.Sort.TheVariants as sort
+use Rattle.uc_rules.specs.Breaks.{breaks_of}
+use Rattle.uc_rules.specs.Sorts.{sort_of}
+use Rattle.uc_typing.specs.Typing.{Ty, Num, Cell, Obj, Raw, Row, Clu, Pro, Sig, Table, IsParam, IsPlaced, Yields, Fine, FineStmts, raw}
+use Rattle.uc_typing.specs.States.{whole, Sound}
+use Rattle.uc_agreement.specs.Agreement.{is_numbered, found_ty, place_by, place_ty, sort_ty, param_ty}
+use Rattle.uc_agreement.specs.Fields.{field_ty}
+use Rattle.uc_sound.specs.Formed.{IsFormed}
+use Rattle.uc_sound.specs.Tables.{known_field, listed_field, class_field, written_sigs, unwritten_sigs, sig_or_none, table_of}
+use Rattle.uc_sound.proofs.Lists.{left_is, right_is}
+use Rattle.uc_sound.proofs.SoundLemmas.{law_sound}
+use Rattle.uc_life_laws.specs.Things.{IsField, Within, itself, field, element, IsBinding, IsUnbound, IsSited}
+use Rattle.uc_building_laws.specs.Building.{is_path, is_object_path, is_bound_by, is_bound_in, IsGiven, BindsField, InHead}
+
+-- what is whole
+
+abbrev IsWhole : Ty → Type 0
+IsWhole Num = Unit {0}
+IsWhole (Cell a) = IsWhole a
+IsWhole (Obj c) = Unit {0}
+IsWhole (Raw c) = ⊥
+IsWhole (Row n a) = IsWhole a
+IsWhole Clu = Unit {0}
+IsWhole Pro = Unit {0}
+
+whole_same : (a : Ty) → IsWhole a → whole a ≡ a
+whole_same Num h = refl
+whole_same (Cell a) h = ap Cell (whole_same a h)
+whole_same (Obj c) h = refl
+whole_same (Raw c) h = absurd h
+whole_same (Row n a) h = ap (Row n) (whole_same a h)
+whole_same Clu h = refl
+whole_same Pro h = refl
+
+whole_raw : (a : Ty) → IsWhole a → whole (raw a) ≡ a
+whole_raw Num h = refl
+whole_raw (Cell a) h = ap Cell (whole_raw a h)
+whole_raw (Obj c) h = refl
+whole_raw (Raw c) h = absurd h
+whole_raw (Row n a) h = ap (Row n) (whole_raw a h)
+whole_raw Clu h = refl
+whole_raw Pro h = refl
+
+-- a type is this one, or what stands there while it is built
+abbrev IsOf : Ty → Ty → Type 0
+IsOf a x = (a ≡ x) ⊎ (a ≡ raw x)
+
+whole_of : (a x : Ty) → IsWhole x → IsOf a x → whole a ≡ x
+whole_of a x w (inl e) = ap whole e ∙ whole_same x w
+whole_of a x w (inr e) = ap whole e ∙ whole_raw x w
+
+same_whole : (a x y : Ty) → IsWhole x → IsWhole y → IsOf a x → IsOf a y → x ≡ y
+same_whole a x y v w h k = sym (whole_of a x v h) ∙ whole_of a y w k
+
+no_object : (d : ℕ) (x : Ty) → IsOf (Obj d) x → x ≡ Obj d
+no_object d x (inl e) = sym e
+no_object d Num (inr e) = absurd (cc)
+no_object d (Cell a) (inr e) = absurd (cc)
+no_object d (Obj c) (inr e) = absurd (cc)
+no_object d (Raw c) (inr e) = absurd (cc)
+no_object d (Row n a) (inr e) = absurd (cc)
+no_object d Clu (inr e) = absurd (cc)
+no_object d Pro (inr e) = absurd (cc)
+
+-- what a binding is to
+record IsCell (a x : Ty) : Type 0 where
+  bound : Ty
+  is : x ≡ Cell bound
+  of : IsOf a bound
+
+cell_of : (a x : Ty) → (Cell a ≡ x) ⊎ (Cell a ≡ raw x) → IsCell a x
+cell_of a x (inl e) = record { bound = a; is = sym e; of = inl refl }
+cell_of a Num (inr e) = absurd (cc)
+cell_of a (Cell y) (inr e) = record { bound = y; is = refl; of = inr (let q : a ≡ raw y = cc in q) }
+cell_of a (Obj c) (inr e) = absurd (cc)
+cell_of a (Raw c) (inr e) = absurd (cc)
+cell_of a (Row n y) (inr e) = absurd (cc)
+cell_of a Clu (inr e) = absurd (cc)
+cell_of a Pro (inr e) = absurd (cc)
+
+-- in the place of a scalar nothing is bound
+in_scalar : (t : Table) (w v : Value) (b : Ty) → Within t w (Cell Num) v b → b ≡ Cell Num
+in_scalar t w v b itself = refl
+in_scalar t w v b (field {v = u} {c} h i f) = let e = in_scalar t w u (Obj c) h in absurd (cc)
+in_scalar t w v b (element {v = u} {m} {b = x} h j l) = let e = in_scalar t w u (Row m x) h in absurd (cc)
+
+scalar_unbound : (t : Table) → IsUnbound t (Cell Num)
+scalar_unbound t w v b h binds = by b (in_scalar t w v (Cell b) h) binds
+  where
+    by : (b : Ty) → Cell b ≡ Cell Num → IsBinding b → ⊥
+    by b e i = let q : b ≡ Num = cc in subst IsBinding q i
+
+-- what binds, of a routine of a class in which all types are whole
+
+module _ (t : Table) (g : Sig) (c : ℕ) (this : g.this ≡ Some c) (leads : (d : ℕ) → t.executes d ≡ true → t.fields d 0 ≡ Num) (fields_whole : (d i : ℕ) → IsWhole (t.fields d i)) (params_whole : (k : ℕ) (a : Ty) → IsParam g.params k a → IsWhole a) where
+  class_is : (d : ℕ) → g.this ≡ Some d → d ≡ c
+  class_is d e = let q : Some d ≡ Some c = sym e ∙ this in cc
+
+  declared : (d m : ℕ) → IsPlaced t (t.fields d m) → IsField t d m
+  declared d zero h e = absurd (subst (IsPlaced t) (leads d e) h)
+  declared d (suc m) h e = omega arith
+
+  -- what a path finds
+  record IsFound (e : Expr) (a : Ty) : Type 0 where
+    type : Ty
+    is_whole : IsWhole type
+    is_given : IsGiven t g.params c e type
+    of : IsOf a type
+
+  in_object : (s : Shape) (m : ℕ) (e : Expr) (a : Ty) (d : ℕ) → s ≡ t.shape d → a ≡ t.fields d m → IsPlaced t (t.fields d m) → (Obj d ≡ Num) ⊎ IsFound e (Obj d) → (a ≡ Num) ⊎ IsFound (src.OfObject (src.FieldOf s m e)) a
+  in_object s m e a d q y l (inl z) = absurd (cc)
+  in_object s m e a d q y l (inr f) =
+      inr (record { type = t.fields d m; is_whole = fields_whole d m; is_given = (d, subst (IsGiven t g.params c e) (no_object d f.type f.of) f.is_given, refl, q, declared d m l, l); of = inl y })
+
+  mutual
+    path : (e : Expr) (a : Ty) → is_path e ≡ true → Yields t g [] e a → (a ≡ Num) ⊎ IsFound e a
+    path (src.Get k) a p (inl h) = inr (record { type = a; is_whole = params_whole k a h.0; is_given = (h.0, h.1); of = inl refl })
+    path (src.Get k) a p (inr (inl h)) = inl h
+    path (src.Get k) a p (inr (inr h)) = absurd h.0
+    path (src.OfObject o) a p h = object_path o a p h
+    path e a p h = absurd (cc)
+
+    object_path : (o : ObjectExpr) (a : Ty) → is_object_path o ≡ true → Yields t g [] (src.OfObject o) a → (a ≡ Num) ⊎ IsFound (src.OfObject o) a
+    object_path (src.OwnField s m) a p h =
+        let same : h.0 ≡ c = class_is h.0 h.1 in
+        let placed : IsPlaced t (t.fields c m) = subst (λ d. IsPlaced t (t.fields d m)) same h.3 in
+        inr (record { type = t.fields c m; is_whole = fields_whole c m; is_given = (refl, h.2 ∙ ap t.shape same, declared c m placed, placed); of = subst (λ d. IsOf a (t.fields d m)) same h.4 })
+    object_path (src.FieldOf s m e) a p h = in_object s m e a h.0 h.2 h.3 h.4 (path e (Obj h.0) p h.1)
+    object_path o a p h = absurd (cc)
+
+  -- the field that an expression binds
+  module _ (i : ℕ) where
+    abbrev Bound : Expr → Type 0
+    Bound e = BindsField t g.params c i e ⊎ IsUnbound t (t.fields c i)
+
+    unbound : t.fields c i ≡ Cell Num → IsUnbound t (t.fields c i)
+    unbound e = subst (IsUnbound t) (sym e) (scalar_unbound t)
+
+    given : (s : Shape) (m : ℕ) (e : Expr) (a x : Ty) → m ≡ i → s ≡ t.shape c → t.fields c i ≡ Cell x → IsWhole x → IsOf a x → (a ≡ Num) ⊎ IsFound e a → Bound (src.OfObject (src.Bind (src.OfObject (src.OwnField s m)) e))
+    given s m e a x n q f w o (inl z) =
+        let num : x ≡ Num = sym (whole_of a x w o) ∙ ap whole z in
+        inr (unbound (f ∙ ap Cell num))
+    given s m e a x n q f w o (inr y) = inl (n, q, (x, f, subst (IsGiven t g.params c e) (same_whole a y.type x y.is_whole w y.of o) y.is_given))
+
+    binds : (s : Shape) (m : ℕ) (e : Expr) → (nat_eq m i && is_path e) ≡ true → (a : Ty) → Yields t g [] (src.OfObject (src.OwnField s m)) (Cell a) → Yields t g [] e a → Bound (src.OfObject (src.Bind (src.OfObject (src.OwnField s m)) e))
+    binds s m e h a y z =
+        let same : y.0 ≡ c = class_is y.0 y.1 in
+        let n : m ≡ i = eqb-true m i (left_is (nat_eq m i) (is_path e) h) in
+        let x = cell_of a (t.fields c i) (subst (λ m. (Cell a ≡ t.fields c m) ⊎ (Cell a ≡ raw (t.fields c m))) n (subst (λ d. (Cell a ≡ t.fields d m) ⊎ (Cell a ≡ raw (t.fields d m))) same y.4)) in
+        given s m e a x.bound n (y.2 ∙ ap t.shape same) x.is (subst IsWhole x.is (fields_whole c i)) x.of (path e a (right_is (nat_eq m i) (is_path e) h) z)
+
+    bound_by : (e : Expr) → is_bound_by i e ≡ true → Fine t g [] e → Bound e
+    bound_by (src.OfObject (src.Bind (src.OfObject (src.OwnField s m)) e)) h f = binds s m e h f.0 f.1.0 f.1.1
+    bound_by e h f = absurd (cc)
+
+    -- the first statements
+    abbrev Heads : Stmts → Type 0
+    Heads ss = InHead t g.params c i ss ⊎ IsUnbound t (t.fields c i)
+
+    later : (a : Stmt) (ss : Stmts) → (InHead t g.params c i ss → InHead t g.params c i (src.Then a ss)) → Heads ss → Heads (src.Then a ss)
+    later a ss f (inl h) = inl (f h)
+    later a ss f (inr h) = inr h
+
+    pub head : (ss : Stmts) → is_bound_in i ss ≡ true → FineStmts t g [] ss → Heads ss
+    head src.Nil h f = absurd (cc)
+    head (src.Then (src.Evaluate line e) rest) h f = by (is_bound_by i e) refl h (λ k. head rest k f.1)
+      where
+        here : Bound e → Heads (src.Then (src.Evaluate line e) rest)
+        here (inl y) = inl (inl y)
+        here (inr y) = inr y
+
+        by : (b : Bool) → is_bound_by i e ≡ b → (b || is_bound_in i rest) ≡ true → (is_bound_in i rest ≡ true → Heads rest) → Heads (src.Then (src.Evaluate line e) rest)
+        by true q k more = here (bound_by e q f.0)
+        by false q k more = later (src.Evaluate line e) rest (λ y. inr y) (more k)
+    head (src.Then (src.Fill line n b d) rest) h f = later (src.Fill line n b d) rest (λ y. inr y) (head rest h f.1)
+    head (src.Then (src.OfTasks (src.SetUp r)) rest) h f = later (src.OfTasks (src.SetUp r)) rest (λ y. inr y) (head rest h f.1)
+    head (src.Then a rest) h f = absurd (cc)
+    head (src.Scoped x rest) h f = absurd (cc)
+    head (src.Built x rest) h f = head rest h f.0
+
+-- all types of a table are whole
+
+found_whole : (s : Sort) → IsWhole (found_ty s)
+found_whole sort.Void = tt
+found_whole sort.Int = tt
+found_whole sort.Char = tt
+found_whole sort.Bool = tt
+found_whole sort.Condition = tt
+found_whole sort.Cluster = tt
+found_whole sort.Processor = tt
+found_whole (sort.Object c k) = tt
+
+place_whole : (s : Sort) → IsWhole (place_ty s)
+place_whole s = by (is_numbered s)
+  where
+    by : (b : Bool) → IsWhole (place_by b (found_ty s))
+    by true = found_whole s
+    by false = found_whole s
+
+field_whole : (b : Bool) (l : Option expr.Expr) (n : ℕ) (s : Sort) → IsWhole (field_ty b l n s)
+field_whole true l n s = found_whole s
+field_whole false None n s = place_whole s
+field_whole false (Some e) n s = place_whole s
+
+known_whole : (p : Program) (c : Class) (f : ClassField) (o : Option Sort) → IsWhole (known_field p c f o)
+known_whole p c f None = tt
+known_whole p c f (Some s) = field_whole f.declarator.by_ref f.declarator.len _ s
+
+module _ (p : Program) where
+  listed_whole : (c : Class) (o : Option ClassField) → IsWhole (listed_field p c o)
+  listed_whole c None = tt
+  listed_whole c (Some f) = known_whole p c f (sort_of p f.base)
+
+  class_whole : (o : Option Class) (n : ℕ) → IsWhole (class_field p o n)
+  class_whole None n = tt
+  class_whole (Some c) n = by (nat_lt n (leading_cells c.kind))
+    where
+      by : (b : Bool) → IsWhole (if b then Num else listed_field p c (slice_get (fields_of c.members) (n - leading_cells c.kind)))
+      by true = tt
+      by false = listed_whole c (slice_get (fields_of c.members) (n - leading_cells c.kind))
+
+  pub fields_are_whole : (c n : ℕ) → IsWhole ((table_of p).fields c n)
+  fields_are_whole c n = class_whole (class_at p c) n
+
+  -- parameters hold numbers, or what expressions of their sorts find
+  module _ (P : Ty → Type 0) (num : P Num) (found : (s : Sort) → P (found_ty s)) where
+    of_sort : (o : Option Sort) → P (sort_ty o)
+    of_sort None = num
+    of_sort (Some s) = found s
+
+    of_param : (x : Param) → P (param_ty p x)
+    of_param x = by x.by_ref
+      where
+        by : (b : Bool) → P (if b then sort_ty (sort_of p x.base) else Num)
+        by true = of_sort (sort_of p x.base)
+        by false = num
+
+    abbrev Each : List Ty → Type 0
+    Each ps = (k : ℕ) (a : Ty) → IsParam ps k a → P a
+
+    of_params : (xs : List Param) → Each (map (param_ty p) xs)
+    of_params [] k a h = absurd h
+    of_params (x ∷ xs) zero a h = subst P (sym h) (of_param x)
+    of_params (x ∷ xs) (suc k) a h = of_params xs k a h
+
+    abbrev All : List Sig → Type 0
+    All gs = (n : ℕ) → Each (sig_or_none (slice_get gs n)).params
+
+    both : (gs hs : List Sig) → All gs → All hs → All (gs ++ hs)
+    both [] hs h k n = k n
+    both (g ∷ gs) hs h k zero = h 0
+    both (g ∷ gs) hs h k (suc n) = both gs hs (λ m. h (suc m)) k n
+
+    of_written : (ds : List Defined) (number texts sites : ℕ) → All (written_sigs p ds number texts sites)
+    of_written [] number texts sites n k a h = absurd h
+    of_written (d ∷ ds) number texts sites zero k a h = of_params d.routine.sig.params k a h
+    of_written (d ∷ ds) number texts sites (suc n) k a h = of_written ds (number + 1) (texts + length (gathered_all own_texts d.routine.body)) (sites + length (gathered_all (own_sites d.class d.number) d.routine.body)) n k a h
+
+    of_unwritten : (us : List Unwritten) → All (unwritten_sigs p us)
+    of_unwritten [] n k a h = absurd h
+    of_unwritten (u ∷ us) zero k a h = absurd h
+    of_unwritten (u ∷ us) (suc n) k a h = of_unwritten us n k a h
+
+    pub of_routine : (n k : ℕ) (a : Ty) → IsParam ((table_of p).routine n).params k a → P a
+    of_routine n = both (written_sigs p (routines_of p) 0 0 0) (unwritten_sigs p (unwritten_of p)) (of_written (routines_of p) 0 0 0) (of_unwritten (unwritten_of p)) n
+
+found_unsited : (s : Sort) → IsSited (found_ty s) → ⊥
+found_unsited sort.Void h = h
+found_unsited sort.Int h = h
+found_unsited sort.Char h = h
+found_unsited sort.Bool h = h
+found_unsited sort.Condition h = h
+found_unsited sort.Cluster h = h
+found_unsited sort.Processor h = h
+found_unsited (sort.Object c k) h = h
+
+-- no parameter is the place of a cluster or a processor
+pub unsited : (p : Program) (r k : ℕ) (a : Ty) → IsParam ((table_of p).routine r).params k a → IsSited a → ⊥
+unsited p r k a h = of_routine p (λ a. IsSited a → ⊥) (λ h. h) found_unsited r k a h
+
+-- what a routine of a class binds in its first statements
+pub heads : (p : Program) → IsFormed p → breaks_of p ≡ [] → (r c : ℕ) → ((table_of p).routine r).this ≡ Some c → (q : Routine) → slice_get (source_of p).routines r ≡ Some q → (i : ℕ) → is_bound_in i q.body ≡ true → InHead (table_of p) ((table_of p).routine r).params c i q.body ⊎ IsUnbound (table_of p) ((table_of p).fields c i)
+heads p formed accepted r c this q e i h =
+    let sound : Sound (table_of p) (source_of p) = law_sound p formed accepted in
+    head (table_of p) ((table_of p).routine r) c this sound.leads (fields_are_whole p) (of_routine p IsWhole tt found_whole r) i q.body h (sound.routines r q e).body
