@@ -10,3 +10,6 @@ pub mod Outlasting
 pub mod Upwards
 pub mod OutlastRuns
 pub mod RootedRuns
+pub mod OutlastNames
+pub mod UnmarkedRuns
+pub mod Beside

@@ -7,3 +7,6 @@ pub mod Outlasting
 pub mod Upwards
 pub mod OutlastRuns
 pub mod RootedRuns
+pub mod OutlastNames
+pub mod UnmarkedRuns
+pub mod Beside

@@ -1,11 +1,14 @@
 // The laws: each is a function whose contract is the law.
 
+ghost use Rattle.uc_rooted_runs.specs.Beside.{LawBeside};
 ghost use Rattle.uc_rooted_runs.specs.Births.{LawBirths};
 ghost use Rattle.uc_rooted_runs.specs.Forgetting.{LawForgetting};
 ghost use Rattle.uc_rooted_runs.specs.FreshRuns.{LawFresh};
 ghost use Rattle.uc_rooted_runs.specs.OutlastRuns.{LawOutlastRuns};
+ghost use Rattle.uc_rooted_runs.specs.OutlastNames.{LawOutlastNames};
 ghost use Rattle.uc_rooted_runs.specs.Outlasting.{LawOutlasting};
 ghost use Rattle.uc_rooted_runs.specs.RootedRuns.{LawRootedRuns};
+ghost use Rattle.uc_rooted_runs.specs.UnmarkedRuns.{LawUnmarkedRuns};
 ghost use Rattle.uc_rooted_runs.specs.Upwards.{LawUpwards};
 
 /// In each run, as long as all that was asked so far fits, each execution is made by one that was made before it.
@@ -44,4 +47,22 @@ pub fn law_outlast_runs()
 /// those live.
 pub fn law_rooted_runs()
     ensures { LawRootedRuns }
+{}
+
+/// What is names alone in that: none of those that were made by now was made by one that is made next, no
+/// other in hand has the name of the running one, and nobody elsewhere has made what was made meanwhile.
+pub fn law_outlast_names()
+    ensures { LawOutlastNames }
+{}
+
+/// Behind each act by which an object goes nobody has to clean up that in which it was at home, in runs in which
+/// marks are put for what is an execution's own.
+pub fn law_unmarked_runs()
+    ensures { LawUnmarkedRuns }
+{}
+
+/// So it stands in no own object of an execution that lives, and nobody builds or destroys it, as far as whoever
+/// does that has it at home in what is its own.
+pub fn law_beside()
+    ensures { LawBeside }
 {}
