@@ -30,7 +30,7 @@ module _ (t : Table) (few : Few) (own : Exec → Value → Ty → Bool) (yet : E
   roots_by j a x r f on m s (ask.Gone o) h = record {
     up =
         let kept : Makers = with_before h.before makers in
-        law_upwards t few kept (now kept h.asked (run_made source input opts r)) (j ++ a) x own yet (law_outlast_runs h.asked h.before source input opts (j ++ a) x r range f on (record { makers = makers; made = m; spawned = s }) h.ends h.outlasts) h.based;
+        law_upwards t few kept (now kept h.asked (run_made source input opts r)) (j ++ a) x own yet (law_outlast_runs h.asked h.before source input opts (j ++ a) x r range f on (record { makers = makers; made = m; spawned = s }) h.outlasts) h.based;
     beside = h.beside;
   }
   roots_by j a x r f on m s q h = tt

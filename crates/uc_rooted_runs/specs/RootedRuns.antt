@@ -17,7 +17,7 @@ use Rattle.uc_typing.specs.Typing.{Ty, Table}
 use Rattle.uc_life_laws.specs.Things.{Few, Base}
 use Rattle.uc_world_laws.specs.Lasting.{RunForgets}
 use Rattle.uc_world_laws.specs.Rooted.{IsPlace, Lives, RootedBeside}
-use Rattle.uc_rooted_runs.specs.Makers.{Placed, Ends, Makers}
+use Rattle.uc_rooted_runs.specs.Makers.{Placed, Makers}
 use Rattle.uc_rooted_runs.specs.Births.{AllMadeLater}
 use Rattle.uc_rooted_runs.specs.FreshStates.{BindsBegun}
 use Rattle.uc_rooted_runs.specs.Upwards.{IsBased}
@@ -29,7 +29,6 @@ module _ (t : Table) (few : Few) (own : Exec → Value → Ty → Bool) (yet : E
   pub record IsUpheld (j : Journal) (a : List Entry) (x : World) (r : Runs source input opts (j ++ a) x) (o : ℕ) : Type 0 where
     pub asked : Exec → Bool
     pub before : Exec → List Placed
-    pub ends : (n : Exec) → Ends (before n) (makers.before n)
     pub outlasts : RunOutlasts (with_before before makers) asked source input opts r
     pub based : (n : Exec) (cs : List Active) → Lives (j ++ a) x n cs → (w : Value) (b : Ty) → Base few n w b → own n w b ≡ false →
         IsBased t few (with_before before makers) (now (with_before before makers) asked (run_made source input opts r)) yet (j ++ a) x n w b
