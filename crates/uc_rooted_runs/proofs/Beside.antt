@@ -8,11 +8,12 @@ use Rattle.uc_acts.specs.Known.{has_ended, task_count}
 use Rattle.uc_machine.specs.declared.exec.Exec.{Exec}
 use Rattle.uc_machine.specs.declared.exec.Home.{Home}
 use Rattle.uc_machine.specs.declared.exec.Home.TheVariants as home
+use Rattle.uc_machine.specs.declared.exec.Owner.TheVariants.{Frame, Fields}
 use Rattle.uc_machine.specs.declared.exec.Stage.{Stage}
 use Rattle.uc_machine.specs.declared.exec.Stage.TheVariants.{Fresh, Started, Ended}
 use Rattle.uc_machine.specs.Executions.{Execution}
 use Rattle.uc_machine.specs.Pieces as piece
-use Rattle.uc_machine.specs.Pieces.{Value, Todo, Active, Members}
+use Rattle.uc_machine.specs.Pieces.{Value, Number, Place, Running, Nothing, Todo, Active, Members}
 use Rattle.uc_meaning.specs.Runs.{World}
 use Rattle.uc_name_laws.proofs.Homes.{no_both}
 use Rattle.uc_typing.specs.Typing.{Ty, Cell, Obj, Raw, Sig, Table}
@@ -22,11 +23,20 @@ use Rattle.uc_life_laws.specs.LifeStates.{SlotBy, ParkedBy, HandBy, MembersBy, E
 use Rattle.uc_world_laws.specs.Lasting.{lasting, lasting_numbers}
 use Rattle.uc_world_laws.specs.Rooted.{InSlot, InParked, InHand, InMembers, Lives, OwnThings, OwnObject, Yet, StageApart, ExApart, RunApart}
 use Rattle.uc_world_laws.proofs.Fewer.{both_members, both_env}
-use Rattle.uc_unmarked_laws.specs.Belonging.{Belongs}
+use Rattle.uc_unmarked_laws.specs.Belonging.{Belongs, frame, fields, object}
 use Rattle.uc_unmarked_laws.specs.Marks.{Marked, Free}
 use Rattle.uc_unmarked_laws.proofs.Own.{law_own}
 use Rattle.uc_rooted_runs.specs.UnmarkedRuns.{IsLeft}
 use Rattle.uc_rooted_runs.specs.Beside.{OwnMaking, StageOwn, OwnEx, NoScopes, IsBeside, LawBeside}
+
+-- whose a place is does not depend on what has gone
+still_own : (few : Few) (j : Journal) (n : Exec) (v : Value) → Belongs (lasting few j) n v → Belongs few n v
+still_own few j n (Place (Frame x d) p) (frame e) = frame e
+still_own few j n (Place (Fields q) p) (fields h) = fields (still_own few j n (few.home q) h)
+still_own few j n (piece.Object q) (object h) = object (still_own few j n (few.home q) h)
+still_own few j n (Number z) h = elim h [ ]
+still_own few j n (Running x) h = elim h [ ]
+still_own few j n Nothing h = elim h [ ]
 
 -- who lives has what holds of all
 
@@ -90,7 +100,7 @@ module _ (t : Table) (few : Few) (j : Journal) (a : List Entry) (x : World) (own
 
   stage_apart : (n : Exec) (y : Execution (List Todo) Value) → (n ≡ (x.tasks u).env.exec → ⊥) → (g : Stage) → StageOwn t (lasting few j) o g n y → StageApart t (lasting few j) (lasting_numbers few.numbers (j ++ a)) o g n y
   stage_apart n y other Fresh k = tt
-  stage_apart n y other Started k = λ z c m. other (same n (k z c m))
+  stage_apart n y other Started k = λ z c m. other (same n (still_own few j n (few.home o) (k z c m)))
   stage_apart n y other Ended k = tt
 
   ex_apart : (n : Exec) (y : Execution (List Todo) Value) → ((n ≡ (x.tasks u).env.exec → ⊥) × NoScopes t few o n y) → OwnEx t (lasting few j) o n y → ExApart t (lasting few j) (lasting_numbers few.numbers (j ++ a)) o n y

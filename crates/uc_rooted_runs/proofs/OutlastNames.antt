@@ -36,7 +36,7 @@ use Rattle.uc_name_laws.proofs.Values.{below_more}
 use Rattle.uc_name_laws.proofs.Births.{law_new}
 use Rattle.uc_name_laws.proofs.Walk.{walk}
 use Rattle.uc_named_runs.specs.RunningRuns.{RunLeaves}
-use Rattle.uc_named_runs.proofs.Riding.{grows_not, grows_on}
+use Rattle.uc_named_runs.proofs.Riding.{grows_not}
 use Rattle.uc_named_runs.proofs.Worlds.{WorldNamed, vacuous, run_named, ride, start, known,  found_none, after_by, after_more, named_act}
 use Rattle.uc_life_laws.specs.Knowing.{main_of}
 use Rattle.uc_life_laws.specs.LifeStates.{EnvBy, MembersBy}
@@ -49,6 +49,12 @@ use Rattle.uc_rooted_runs.specs.Births.{MakesLater, SpawnsLater, RunSpawnsLater}
 use Rattle.uc_rooted_runs.specs.OutlastRuns.{with_before, with_made, made_by, made_behind, ride_made, made_asked, run_made, now, MadeNone, NoneElsewhere}
 use Rattle.uc_rooted_runs.specs.OutlastNames.{NamesAt, RideNames, SpawnsNew, MayName, RunNames, LawOutlastNames}
 use Rattle.uc_rooted_runs.proofs.Births.{no_more, none_there, named_given}
+
+grows_on : (here : Home → Bool) (a b c : Home → ℕ) → Grows here a b → Grows here b c → Grows here a c
+grows_on here a b c g h = record {
+  more = λ k. let x = g.more k in let y = h.more k in omega (arith, x, y);
+  same = λ k e. h.same k e ∙ g.same k e;
+}
 
 -- an execution that was not made before a state is made there
 born_there : (source : Source) (s : State) (made : Exec → Bool) (x : Exec) → made_behind source s made x ≡ true → made x ≡ false → IsBorn source s x

@@ -20,11 +20,13 @@ use Rattle.uc_machine.specs.declared.exec.Owner.TheVariants.{Frame}
 use Rattle.uc_machine.specs.Pieces.{Value, State}
 use Rattle.uc_machine.specs.Quiet as quiet
 use Rattle.uc_machine.specs.Quiet.{first_state}
-use Rattle.uc_machine.specs.Answering.{child_of}
-use Rattle.uc_meaning.specs.Runs.{World, May, Runs, gives, no_room, acts, begun, more, bare, world_after}
+use Rattle.uc_machine.specs.Answering.{answered, child_of}
+use Rattle.uc_machine.specs.Rides.{Rides, slices, goes_on, ticks, asks}
+use Rattle.uc_meaning.specs.Runs.{World, May, Runs, gives, no_room, acts, begun, more, bare, drawn, world_after}
 use Rattle.uc_program_laws.specs.Fitting.{RunFits}
 use Rattle.uc_program_laws.proofs.Others.{run_rests}
-use Rattle.uc_value_laws.specs.Opens.{RunMeets}
+use Rattle.uc_scope_laws.specs.RoomRuns.{stays}
+use Rattle.uc_value_laws.specs.Opens.{RideMeets, RunMeets}
 use Rattle.uc_name_laws.specs.NameSteps as names
 use Rattle.uc_name_laws.proofs.Homes.{no_both}
 use Rattle.uc_named_runs.specs.RunningRuns.{RunLeaves}
@@ -35,9 +37,10 @@ use Rattle.uc_life_laws.specs.Things.{Few, AtField, IsFor, InTodo}
 use Rattle.uc_own_names.specs.OwnNames as own
 use Rattle.uc_own_names.specs.OwnNames.{IsFirst}
 use Rattle.uc_own_names.proofs.OwnNamesLemmas.{law_own_names}
-use Rattle.uc_unmarked_laws.specs.Marks.{Marked, Freed, Puts}
+use Rattle.uc_unmarked_laws.specs.Marks.{Marked, LoneState, LoneStep, Freed, Puts}
 use Rattle.uc_unmarked_laws.specs.Unmarked.{HasOwnName, Unmarked, UnmarkedAt, RunUnmarked}
-use Rattle.uc_unmarked_laws.proofs.Worlds.{asks_so, left_so, world_rests, law_runs}
+use Rattle.uc_unmarked_laws.proofs.Walk.{law_steps}
+use Rattle.uc_unmarked_laws.proofs.Worlds.{law_runs}
 use Rattle.uc_rooted_runs.specs.UnmarkedRuns.{IsLeft, LeftBehind, MayLeave, RunLeft, LawUnmarkedRuns}
 
 -- a task that is not spawned yet has no marks
@@ -67,6 +70,25 @@ own_name t j x u later h = record {
   homes = h.homes;
 }
 
+-- what goes is free as it is asked, and stays so
+module _ (t : Table) (few : Few) (source : Source) where
+  step_on : (s : State) → Puts t few s → LoneState t few s → LoneStep t few (quiet.quiet source s)
+  step_on s p h = law_steps.steps t few source s h p
+
+  ridden : {s u : State} {q k : ℕ} {a : Asked} (r : Rides source s q u k a) → RideMeets (Puts t few) source s q u k a r → LoneState t few s → Freed t few a.request u
+  ridden slices p h = tt
+  ridden (goes_on {s} e r) p h = ridden r p.1 (subst (LoneStep t few) e (step_on s p.0 h))
+  ridden (ticks {s} e r) p h = ridden r p.1 (subst (LoneStep t few) e (step_on s p.0 h))
+  ridden (asks {s} {t = v} {q} {r} e) p h = let x : LoneState t few v × Freed t few r v = subst (LoneStep t few) e (step_on s p h) in x.1
+
+  left_so : (w : World) (a : List Entry) (n : ℕ) (s : State) (q : Request) → Freed t few q s → Freed t few q ((world_after source a w n s).tasks n)
+  left_so w a n s q h =
+      subst (λ (b : Bool). Freed t few q (if b then bare s else (if spawns a n then child_of source (own_object n a) s else w.tasks n))) (sym (self_test n)) (same q h)
+    where
+      same : (q : Request) → Freed t few q s → Freed t few q (bare s)
+      same (ask.Gone o) h = h
+      same q h = tt
+
 module _ (t : Table) (few : Few) (source : Source) (input : List ℕ) (opts : Options) (range : InRange opts) where
   -- behind an act
   left_by : (j : Journal) (x : World) (u : ℕ) (q : Request) → ((v : ℕ) → task_count j ≤ v → IsFirst (x.tasks v)) → own.HasOwnName j x u → Freed t few q (x.tasks u) → UnmarkedAt t few u x q → LeftBehind t few j x u q
@@ -78,13 +100,14 @@ module _ (t : Table) (few : Few) (source : Source) (input : List ℕ) (opts : Op
   run_left (more r o (gives q v s le)) f on l h p m = (run_left r f.0 o l.0 h.0 p.0 m.0, tt)
   run_left (more {j} r o (no_room q v s le)) f on l h p m = no_both (is_over (j ++ lone_limit ∷ [])) (over_limit j 0 0) on
   run_left (more {j} {w} r o (acts q u k s asked d)) f on l h p m =
-      let a = act opts source.sites input j q u k asked in
       let all = law_own_names source input opts (j ++ act opts source.sites input j q u k asked) (world_after source (act opts source.sites input j q u k asked) w u s) (more r o (acts q u k s asked d)) range f on l h in
       let y = run_named source input opts range r f.0 o in
       let lt : u < task_count j = known source input opts range (run_rests source input opts range r f.0 o) o y.serials y.world q u d.runs in
       let grown = tasks_grow j (act opts source.sites input j q u k asked) in
-      let freed = asks_so t few source input opts j w (world_rests t few source input opts r p.0) u s _ k asked d.given d.rides p.1 in
-      (run_left r f.0 o l.0 h.0 p.0 m.0, left_by (j ++ act opts source.sites input j q u k asked) (world_after source (act opts source.sites input j q u k asked) w u s) u asked.request all.later (all.rests u (omega (arith, lt, grown))) (left_so t few source input opts w (act opts source.sites input j q u k asked) u s asked.request freed.1) m.1)
+      let lone = law_runs t few source input opts j w r p.0 in
+      let begun_so : LoneState t few (answered source d.given (drawn j w u)) = lone.comes u (answered source d.given (drawn j w u)) (record { given = d.given; processor = q; runs = d.runs; told = d.told; leads = stays }) tt in
+      let freed : Freed t few asked.request s = ridden t few source d.rides p.1 begun_so in
+      (run_left r f.0 o l.0 h.0 p.0 m.0, left_by (j ++ act opts source.sites input j q u k asked) (world_after source (act opts source.sites input j q u k asked) w u s) u asked.request all.later (all.rests u (omega (arith, lt, grown))) (left_so t few source w (act opts source.sites input j q u k asked) u s asked.request freed) m.1)
 
 pub law_unmarked_runs : LawUnmarkedRuns
 law_unmarked_runs t few source input opts j w r range fits on leaves spares puts =

@@ -10,3 +10,4 @@ pub mod RootedRuns
 pub mod OutlastNames
 pub mod UnmarkedRuns
 pub mod Beside
+pub mod KeptRuns

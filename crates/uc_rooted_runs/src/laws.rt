@@ -5,6 +5,7 @@ ghost use Rattle.uc_rooted_runs.specs.Births.{LawBirths};
 ghost use Rattle.uc_rooted_runs.specs.Forgetting.{LawForgetting};
 ghost use Rattle.uc_rooted_runs.specs.FreshRuns.{LawFresh};
 ghost use Rattle.uc_rooted_runs.specs.OutlastRuns.{LawOutlastRuns};
+ghost use Rattle.uc_rooted_runs.specs.KeptRuns.{LawForgetsNames, LawKeptRuns};
 ghost use Rattle.uc_rooted_runs.specs.OutlastNames.{LawOutlastNames};
 ghost use Rattle.uc_rooted_runs.specs.Outlasting.{LawOutlasting};
 ghost use Rattle.uc_rooted_runs.specs.RootedRuns.{LawRootedRuns};
@@ -65,4 +66,15 @@ pub fn law_unmarked_runs()
 /// does that has it at home in what is its own.
 pub fn law_beside()
     ensures { LawBeside }
+{}
+
+/// So what was to be cleaned up as executions were made stays with those that made them, as long as it is not
+/// left before they go, as names tell the rest.
+pub fn law_kept_runs()
+    ensures { LawKeptRuns }
+{}
+
+/// So nobody has at hand what has gone, in such runs, as far as names do not tell it.
+pub fn law_forgets_names()
+    ensures { LawForgetsNames }
 {}

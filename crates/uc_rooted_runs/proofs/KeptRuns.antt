@@ -1,0 +1,98 @@
+-- Names tell the rest, so nobody has at hand what has gone.
+use Rattle.std.proofs.Common.{◌≡◌, ℕ, Bool, true, false, List, [], ◌∷◌, ◌++◌, refl}
+use Rattle.uc_tree.specs.Source.{Source}
+use Rattle.uc_entry.specs.declared.entry.Entry.{Entry}
+use Rattle.uc_entry.specs.declared.entry.Options.{Options}
+use Rattle.uc_entry.specs.declared.request.Asked.{Asked}
+use Rattle.uc_entry.specs.declared.request.Request.{Request}
+use Rattle.uc_entry.specs.declared.request.Request.TheVariants as ask
+use Rattle.uc_acts.specs.Journal.{Journal, is_over}
+use Rattle.uc_acts.specs.Acts.{act, lone_limit}
+use Rattle.uc_acts.specs.KernelRuns.{InRange}
+use Rattle.uc_acts.proofs.Bounds.{over_limit}
+use Rattle.uc_machine.specs.declared.exec.Exec.{Exec}
+use Rattle.uc_machine.specs.Pieces.{Value, Todo, SetUpNow, Active, State}
+use Rattle.uc_machine.specs.Rides.{Rides, slices, goes_on, ticks, asks}
+use Rattle.uc_meaning.specs.Runs.{World, May, Runs, world_after, gives, no_room, acts, begun, more}
+use Rattle.uc_program_laws.specs.Fitting.{RunFits}
+use Rattle.uc_value_laws.specs.Opens.{RunMeets}
+use Rattle.uc_name_laws.specs.NameSteps as names
+use Rattle.uc_name_laws.proofs.Homes.{no_both}
+use Rattle.uc_named_runs.specs.RunningRuns.{RunLeaves}
+use Rattle.uc_typing.specs.Typing.{Ty, Table}
+use Rattle.uc_life_laws.specs.Things.{Few}
+use Rattle.uc_rooted_runs.specs.Makers.{Placed, Makers}
+use Rattle.uc_rooted_runs.specs.Births.{MakesLater, RunSpawnsLater}
+use Rattle.uc_rooted_runs.specs.Outlasting.{SparesAt}
+use Rattle.uc_rooted_runs.specs.OutlastRuns.{with_before, made_behind, ride_made, made_asked, run_made, now, OutlastsAt, RideOutlasts, SpawnsAlone, MayOutlast, RunOutlasts}
+use Rattle.uc_rooted_runs.specs.OutlastNames.{NamesAt, RideNames, SpawnsNew, MayName, RunNames}
+use Rattle.uc_rooted_runs.specs.RootedRuns.{UpheldBy, MayUphold, RunUpholds}
+use Rattle.uc_rooted_runs.specs.UnmarkedRuns.{LeftBehind, MayLeave, RunLeft}
+use Rattle.uc_rooted_runs.specs.KeptRuns.{KeepsAt, Keeps, RideKeeps, SpawnsKept, MayKeep, RunKeeps, LawKeptRuns, RootedBy, MayRoot, RunRooted, LawForgetsNames}
+use Rattle.uc_rooted_runs.proofs.OutlastRuns.{law_outlast_runs}
+use Rattle.uc_rooted_runs.proofs.OutlastNames.{law_outlast_names}
+use Rattle.uc_rooted_runs.proofs.UnmarkedRuns.{law_unmarked_runs}
+use Rattle.uc_rooted_runs.proofs.Beside.{law_beside}
+use Rattle.uc_rooted_runs.proofs.RootedRuns.{law_rooted_runs}
+
+module _ (makers : Makers) (asked : Exec → Bool) where
+  spares : (source : Source) (made : Exec → Bool) (s : State) → KeepsAt makers asked (now makers asked made) s.run.control s → NamesAt makers asked source made s → SparesAt makers (now makers asked made) s.run.control s
+  spares source made s k n = by s.run.control refl k
+    where
+      by : (l : List Todo) → s.run.control ≡ l → KeepsAt makers asked (now makers asked made) l s → SparesAt makers (now makers asked made) l s
+      by (SetUpNow r ∷ todo) e h = λ m i x u p. n.new r todo e m i x u p
+      by l e h = h
+
+  at_state : (source : Source) (made : Exec → Bool) (s : State) → Keeps makers asked source made s → NamesAt makers asked source made s → OutlastsAt makers asked source made s
+  at_state source made s k n = record { spares = spares source made s k.spares n; alone = n.alone; covered = k.covered }
+
+  ride_both : (source : Source) (made : Exec → Bool) {s u : State} {q k : ℕ} {a : Asked} (r : Rides source s q u k a) → RideKeeps makers asked source made r → RideNames makers asked source made r → RideOutlasts makers asked source made r
+  ride_both source made slices h n = tt
+  ride_both source made (goes_on {s} e r) h n = (at_state source made s h.0 n.0, ride_both source (made_behind source s made) r h.1 n.1)
+  ride_both source made (ticks {s} e r) h n = (at_state source made s h.0 n.0, ride_both source (made_behind source s made) r h.1 n.1)
+  ride_both source made (asks {s} e) h n = at_state source made s h n
+
+  spawns_both : (made : Exec → Bool) (q : Request) (s : State) → SpawnsKept makers asked q s → SpawnsNew makers asked made q s → SpawnsAlone makers asked made q s
+  spawns_both made (ask.Spawn o) s h n = (n.0, n.1, h)
+  spawns_both made q s h n = tt
+
+  module _ (source : Source) (input : List ℕ) (opts : Options) where
+    may_both : (made : Exec → Bool) {j : Journal} {w : World} {a : List Entry} {x : World} (m : May source opts input j w a x) → MayKeep makers asked source input opts made m → MayName makers asked source input opts made m → MayOutlast makers asked source input opts made m
+    may_both made (gives p t s h) k n = tt
+    may_both made (no_room p t s h) k n = tt
+    may_both made (acts p t i s q d) k n = (ride_both source made d.rides k.0 n.0, spawns_both (ride_made source made d.rides) q.request s k.1 n.1, n.2)
+
+    pub run_both : {j : Journal} {w : World} (r : Runs source input opts j w) → RunKeeps makers asked source input opts r → RunNames makers asked source input opts r → RunOutlasts makers asked source input opts r
+    run_both begun k n = tt
+    run_both (more r o m) k n = (run_both r k.0 n.0, may_both (run_made source input opts r) m k.1 n.1)
+
+pub law_kept_runs : LawKeptRuns
+law_kept_runs asked before source input opts j w r range fits on leaves spares b k =
+    law_outlast_runs asked before source input opts j w r range fits on b (run_both (with_before before b.makers) asked source input opts r k (law_outlast_names asked before source input opts j w r range fits on leaves spares b))
+
+module _ (t : Table) (few : Few) (own : Exec → Value → Ty → Bool) (yet : Exec → List Active → Value → Ty → Bool) (makers : Makers) (source : Source) (input : List ℕ) (opts : Options) (range : InRange opts) where
+  -- behind one act
+  upheld : (j : Journal) (a : List Entry) (x : World) (r : Runs source input opts (j ++ a) x) → RunFits source input opts (j ++ a) x r → is_over (j ++ a) ≡ false → RunLeaves source input opts (j ++ a) x r → RunMeets names.Spares source input opts (j ++ a) x r → RunMeets (MakesLater source makers) source input opts (j ++ a) x r → RunSpawnsLater makers source input opts (j ++ a) x r → (u : ℕ) (q : Request) → LeftBehind t few (j ++ a) x u q → RootedBy t few own yet makers source input opts j a x r u q → UpheldBy t few own yet makers source input opts j a x r q
+  upheld j a x r f on l h m s u (ask.Gone o) left k = record {
+    asked = k.asked;
+    before = k.before;
+    outlasts = run_both (with_before k.before makers) k.asked source input opts r k.keeps (law_outlast_names k.asked k.before source input opts (j ++ a) x r range f on l h (record { makers = makers; made = m; spawned = s }));
+    based = k.based;
+    beside = law_beside t few j a x own yet u o left k.beside;
+  }
+  upheld j a x r f on l h m s u q left k = tt
+
+  may_uphold : {j : Journal} {w : World} {a : List Entry} {x : World} (r : Runs source input opts (j ++ a) x) → RunFits source input opts (j ++ a) x r → is_over (j ++ a) ≡ false → RunLeaves source input opts (j ++ a) x r → RunMeets names.Spares source input opts (j ++ a) x r → RunMeets (MakesLater source makers) source input opts (j ++ a) x r → RunSpawnsLater makers source input opts (j ++ a) x r → (m : May source opts input j w a x) → MayLeave t few source opts input j w a x m → MayRoot t few own yet makers source input opts r m → MayUphold t few own yet makers source input opts r m
+  may_uphold r f on l h m s (gives p n v le) left k = tt
+  may_uphold r f on l h m s (no_room p n v le) left k = tt
+  may_uphold {j} {w} r f on l h m s (acts p n i v asked d) left k =
+      upheld j (act opts source.sites input j p n i asked) (world_after source (act opts source.sites input j p n i asked) w n v) r f on l h m s n asked.request left k
+
+  run_upholds : {j : Journal} {w : World} (r : Runs source input opts j w) → RunFits source input opts j w r → is_over j ≡ false → RunLeaves source input opts j w r → RunMeets names.Spares source input opts j w r → RunMeets (MakesLater source makers) source input opts j w r → RunSpawnsLater makers source input opts j w r → RunLeft t few source input opts j w r → RunRooted t few own yet makers source input opts r → RunUpholds t few own yet makers source input opts r
+  run_upholds begun f on l h m s left k = tt
+  run_upholds (more r o y) f on l h m s left k =
+      (run_upholds r f.0 o l.0 h.0 m.0 s.0 left.0 k.0, may_uphold (more r o y) f on l h m s y left.1 k.1)
+
+pub law_forgets_names : LawForgetsNames
+law_forgets_names t few own yet source input opts j w r range fits on places binds leaves spares puts b k =
+    law_rooted_runs t few own yet source input opts j w r range fits on places binds b (run_upholds t few own yet b.makers source input opts range r fits on leaves spares b.made b.spawned (law_unmarked_runs t few source input opts j w r range fits on leaves spares puts) k)
