@@ -1,6 +1,7 @@
 pub mod Births
 pub mod FreshKeeping
 pub mod FreshSteps
+pub mod EndedTasks
 pub mod FreshRuns
 pub mod Forgetting
 pub mod OutlastKeeping
