@@ -1,5 +1,6 @@
 -- A task ends by an act in which it asks that it end, and by no other.
 use Rattle.std.proofs.Common.{◌≡◌, ℕ, ℤ, zero, suc, ◌==◌, ◌⊎◌, inl, inr, Bool, true, false, List, [], ◌∷◌, ◌++◌, Option, Some, None, refl, sym, ap, ◌∙◌, ◌||◌}
+use Rattle.std.specs.Prelude.{take}
 use Rattle.std.specs.List.{list_any}
 use Rattle.std.proofs.lemmas.List.Folds.{list_any-append}
 use Rattle.uc_tree.specs.Programs.{Site}
@@ -10,7 +11,10 @@ use Rattle.uc_entry.specs.declared.request.Asked.{Asked}
 use Rattle.uc_entry.specs.declared.request.Piece.{Piece}
 use Rattle.uc_entry.specs.declared.request.Request.{Request}
 use Rattle.uc_entry.specs.declared.request.Request.TheVariants as ask
-use Rattle.uc_acts.specs.Journal.{Journal, Cost, no_cost, is_over, cost, own_object}
+use Rattle.uc_acts.specs.Journal.{Journal, Cost, no_cost, is_over, cost, own_object, inside, asking}
+use Rattle.uc_acts.specs.Queues.{next}
+use Rattle.uc_acts.specs.Pending.{pending, oldest_in}
+use Rattle.uc_acts.specs.Doors.{site_at, open_at, next_met, blocked}
 use Rattle.uc_acts.specs.Known.{ends, has_ended}
 use Rattle.uc_acts.specs.Acts as acts
 use Rattle.uc_acts.specs.Acts.{act, row}
@@ -87,19 +91,19 @@ module _ (u : ℕ) where
     row_ends (ask.Make c) = inl (or_none _ _ _ refl refl)
     row_ends (ask.Made o) = inl (admission_none p t o sites _ _)
     row_ends (ask.Spawn o) = inl (or_none _ _ _ refl refl)
-    row_ends (ask.Call o m) = inl (called_none p t o sites m _ _)
+    row_ends (ask.Call o m) = inl (called_none p t o sites m (inside o j) (open_at o j))
     row_ends (ask.Leave o f) = inl (admission_none p t o sites _ _)
-    row_ends (ask.Accept o site mask) = inl (accepted_none p t o k site mask _ _)
+    row_ends (ask.Accept o site mask) = inl (accepted_none p t o k site mask (site_at sites site).has_else (next_met sites site mask o j))
     row_ends (ask.Wait o c n) = inl (admission_none p t o sites _ _)
-    row_ends (ask.Signal o c) = inl (signalled_none p t o k c _)
-    row_ends (ask.SignalBlock o c) = inl (handed_none p t o k c _)
+    row_ends (ask.Signal o c) = inl (signalled_none p t o k c (blocked o c j))
+    row_ends (ask.SignalBlock o c) = inl (handed_none p t o k c (blocked o c j))
     row_ends (ask.Empty o c) = inl refl
-    row_ends (ask.Front o c) = inl (front_none p t o k line c _)
+    row_ends (ask.Front o c) = inl (front_none p t o k line c (blocked o c j))
     row_ends (ask.Raise o e x y) = inl (or_none _ _ _ refl refl)
-    row_ends (ask.Poll mask) = inl (poll_none p t k mask _)
+    row_ends (ask.Poll mask) = inl (poll_none p t k mask (oldest_in mask (pending t j)))
     row_ends ask.Yield = inl refl
     row_ends ask.Slice = inl refl
-    row_ends (ask.Print n items) = inl (prints_none p t k _)
+    row_ends (ask.Print n items) = inl (prints_none p t k (take n items))
     row_ends (ask.Read form) = inl refl
     row_ends ask.Fail = inl refl
     row_ends ask.Cluster = inl (or_none _ _ _ refl refl)

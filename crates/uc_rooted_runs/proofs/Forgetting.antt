@@ -79,19 +79,19 @@ module _ (P Q : CleanUp → Value → Ty → Type 0) (f : ℕ) (this w : Value) 
   -- nor are there marks outwards of it
   none_older : (todo : List Todo) → placed f this todo older ≡ [] → older ≡ []
   none_older [] e = e
-  none_older (p ∷ todo) e = by (sort p) e
+  none_older (p ∷ todo) e = by (sort p) (none_older todo) e
     where
-      by : (k : Sort) → put k f this (placed f this todo older) ≡ [] → older ≡ []
-      by (IsClean c) e = absurd (cc)
-      by (IsPart c) e = absurd (cc)
-      by Simple e = none_older todo e
-      by (IsLoop x y z q) e = none_older todo e
-      by IsWhole e = none_older todo e
-      by (IsFill x y z) e = none_older todo e
-      by (IsSweep x) e = none_older todo e
-      by (IsGuard x) e = none_older todo e
-      by IsFinish e = none_older todo e
-      by IsFinishCoroutine e = none_older todo e
+      by : (k : Sort) → (placed f this todo older ≡ [] → older ≡ []) → put k f this (placed f this todo older) ≡ [] → older ≡ []
+      by (IsClean c) g e = absurd (cc)
+      by (IsPart c) g e = absurd (cc)
+      by Simple g e = g e
+      by (IsLoop x y z q) g e = g e
+      by IsWhole g e = g e
+      by (IsFill x y z) g e = g e
+      by (IsSweep x) g e = g e
+      by (IsGuard x) g e = g e
+      by IsFinish g e = g e
+      by IsFinishCoroutine g e = g e
 
 module _ (t : Table) where
   no_variable : (n : Exec) (cs : List Active) → stacked cs ≡ [] → (w : Value) (a : Ty) → Variables t n cs w a → ⊥

@@ -29,7 +29,7 @@ use Rattle.uc_machine.specs.Answering.{answered, entered, new_members, with_oper
 use Rattle.uc_life_laws.specs.LifeStates.{MembersBy}
 use Rattle.uc_life_laws.proofs.Cells.{either}
 use Rattle.uc_life_laws.proofs.Parked as parked
-use Rattle.uc_rooted_runs.specs.FreshStates.{FreshEx, FreshEnv, FreshStep, IsBegun, BindsBegunBy, NoneBehind, LeavesNone, EndsBareBy, KeepsFresh}
+use Rattle.uc_rooted_runs.specs.FreshStates.{FreshEx, FreshEnv, FreshStep, IsBegun, BindsBegunBy, NoneBehind, LeavesNone, MainsBareBy, TakesOthersBy, KeepsFresh}
 use Rattle.uc_rooted_runs.proofs.FreshKeeping as kept
 use Rattle.uc_rooted_runs.proofs.FreshKeeping.{FreshMoved}
 
@@ -276,7 +276,7 @@ module _ (s : State) (st : FreshEnv s.env) where
   unwind_past piece.IsFinish todo g = main_left s.run.raised todo
   unwind_past piece.IsFinishCoroutine todo g = coroutine_left s.run.raised todo g
 
-  unwinds : (todo : List Todo) → EndsBareBy (piece.Unwind ∷ todo) s → FreshStep (raising.unwind_step todo s)
+  unwinds : (todo : List Todo) → MainsBareBy (piece.Unwind ∷ todo) s → FreshStep (raising.unwind_step todo s)
   unwinds [] b = leaves s.callers
   unwinds (p ∷ ps) b = unwind_past (piece.sort p) ps b
 
@@ -297,82 +297,82 @@ module _ (s : State) (st : FreshEnv s.env) where
 
   module _ (source : Source) where
     -- one piece, with what is to do behind it
-    acts : (p : Todo) (todo : List Todo) → BindsBegunBy source (p ∷ todo) s → EndsBareBy (p ∷ todo) s → FreshStep (quiet.act source p todo s)
-    acts (piece.Eval a) todo o g = eval a todo
-    acts (piece.ElementNow m k) todo o g = element k _ todo _ _
-    acts piece.NegateNow todo o g = outcome _ todo _
-    acts (piece.OperateNow op) todo o g = outcome _ todo _
-    acts piece.StoreNow todo o g = kept.written_number _ _ s.env st
-    acts piece.KeepNow todo o g = kept.written_number _ _ s.env st
-    acts (piece.SetNow k) todo o g = kept.written_number (piece.variable_at k s) _ s.env st
-    acts piece.BindNow todo o g = kept.written_begun (top (below s.run.operands)) _ s.env o st
-    acts (piece.Arguments src.NoExprs) todo o g = st
-    acts (piece.Arguments (src.MoreExprs a es)) todo o g = st
-    acts (piece.CallNow r) todo o g = call (slice_get source.routines r) todo
-    acts (piece.CallOnNow r) todo o g = call_on (slice_get source.routines r) todo
-    acts (piece.CallUnwrittenNow r) todo o g = call_unwritten (slice_get source.routines r) todo
-    acts (piece.PrintNow form) todo o g = prints s.env.gathered _ todo _
-    acts (piece.TextNow k) todo o g = prints s.env.gathered _ todo _
-    acts piece.GatherNow todo o g = kept.like st refl refl refl refl
-    acts piece.FlushNow todo o g = flushes s.env.gathered todo _
-    acts (piece.ClearNow k m) todo o g = kept.owned_numbers (piece.this_frame s) (values_cleared k m nought) s.env (λ vs h. kept.numbers_cleared k m vs h) st
-    acts (piece.Items []) todo o g = st
-    acts (piece.Items (i ∷ is)) todo o g = st
-    acts (piece.Values []) todo o g = st
-    acts (piece.Values (i ∷ is)) todo o g = st
-    acts (piece.Pieces []) todo o g = st
-    acts (piece.Pieces (i ∷ is)) todo o g = st
-    acts (piece.Targets []) todo o g = st
-    acts (piece.Targets (x ∷ xs)) todo o g = st
-    acts (piece.Variables []) todo o g = st
-    acts (piece.Variables (d ∷ ds)) todo o g = st
-    acts (piece.Do a) todo o g = stmt a todo
-    acts (piece.Rest ss) todo o g = rests ss todo
-    acts (piece.Exit w) todo o g = exits w todo
-    acts (piece.Sweep a) todo o g = swept s.run.elements a todo
-    acts piece.Unwind todo o g = unwinds todo g
-    acts piece.ThrowNow todo o g = st
-    acts piece.RaiseNow todo o g = raises (raising.event_in s.run.operands) todo
-    acts (piece.SetUpNow r) todo o g = set_up (slice_get source.routines r) todo o
-    acts piece.EnlivenNow todo o g = kept.enlivened_keeps (piece.own_exec s) s.env st
-    acts piece.TakeDownNow todo o g = moved _ todo _ (kept.take_down_keeps (piece.own_exec s) (at todo s.run.operands s) g st)
-    acts piece.ForgetNow todo o g = kept.forgotten_keeps (piece.own_exec s) s.env st
-    acts (piece.LiveNow r) todo o g = live (slice_get source.routines r) todo
-    acts piece.ResumeNow todo o g = moved _ (piece.Land ∷ todo) _ (kept.wake_keeps (quiet.resumed s) (at (piece.Land ∷ todo) s.run.operands s) st)
-    acts piece.SuspendNow todo o g = moved _ (piece.Land ∷ todo) _ (kept.suspend_keeps (at (piece.Land ∷ todo) s.run.operands s) st)
-    acts piece.Land todo o g = land s.run.raised todo
-    acts (piece.EnterNow m r) todo o g = enter m (slice_get source.routines r) todo
-    acts piece.LeaveNow todo o g = leave _ (monitors.this_object s) todo
-    acts (piece.MakeNow k r) todo o g = make k r (slice_get source.routines r) todo
-    acts (piece.BindMadeNow k r) todo o g = bind (slice_get source.routines r) todo o
-    acts piece.MadeNow todo o g = unless (monitors.this_object s) _ todo (kept.like st refl refl refl refl)
-    acts (piece.SpawnNow r) todo o g = unless (monitors.this_object s) _ (piece.ChildNow r ∷ todo) (kept.like st refl refl refl refl)
-    acts piece.GoneNow todo o g = kept.like st refl refl refl refl
-    acts piece.GiveUpNow todo o g = kept.like st refl refl refl refl
-    acts (piece.ConditionNow k m) todo o g = condition k _ todo
-    acts piece.WaitNow todo o g = unless (monitors.this_object s) _ todo st
-    acts piece.SignalBlockNow todo o g = unless (monitors.this_object s) _ todo st
-    acts (piece.Guards src.NoClauses) todo o g = st
-    acts (piece.Guards (src.Otherwise b)) todo o g = st
-    acts (piece.Guards (src.MoreClauses guard b cs)) todo o g = st
-    acts (piece.AcceptNow site m) todo o g = accept_by (monitors.mask_of (take_operands piece.Nothing m s.run.operands [])) (monitors.this_object s) site todo (drop m s.run.operands)
-    acts piece.FailedNow todo o g = failed _ todo _
-    acts piece.RaiseAtNow todo o g = raise_at _ _ todo _
-    acts (piece.EnableNow events cell) todo o g = enables _ cell todo
-    acts (piece.DisableNow events cell) todo o g = enables _ cell todo
-    acts (piece.RestoreNow cell) todo o g = kept.like st refl refl refl refl
-    acts piece.PollNow todo o g = poll todo
-    acts piece.DeliverNow todo o g = deliver _ todo
-    acts piece.Finish todo o g = unless s.env.own _ todo (returned _ s.callers)
-    acts piece.FinishCoroutine todo o g = moved _ todo _ (kept.finish_keeps (at todo s.run.operands s) g st)
-    acts p todo o g = st
+    acts : (p : Todo) (todo : List Todo) → BindsBegunBy source (p ∷ todo) s → MainsBareBy (p ∷ todo) s → TakesOthersBy (p ∷ todo) s → FreshStep (quiet.act source p todo s)
+    acts (piece.Eval a) todo o g y = eval a todo
+    acts (piece.ElementNow m k) todo o g y = element k _ todo _ _
+    acts piece.NegateNow todo o g y = outcome _ todo _
+    acts (piece.OperateNow op) todo o g y = outcome _ todo _
+    acts piece.StoreNow todo o g y = kept.written_number _ _ s.env st
+    acts piece.KeepNow todo o g y = kept.written_number _ _ s.env st
+    acts (piece.SetNow k) todo o g y = kept.written_number (piece.variable_at k s) _ s.env st
+    acts piece.BindNow todo o g y = kept.written_begun (top (below s.run.operands)) _ s.env o st
+    acts (piece.Arguments src.NoExprs) todo o g y = st
+    acts (piece.Arguments (src.MoreExprs a es)) todo o g y = st
+    acts (piece.CallNow r) todo o g y = call (slice_get source.routines r) todo
+    acts (piece.CallOnNow r) todo o g y = call_on (slice_get source.routines r) todo
+    acts (piece.CallUnwrittenNow r) todo o g y = call_unwritten (slice_get source.routines r) todo
+    acts (piece.PrintNow form) todo o g y = prints s.env.gathered _ todo _
+    acts (piece.TextNow k) todo o g y = prints s.env.gathered _ todo _
+    acts piece.GatherNow todo o g y = kept.like st refl refl refl refl
+    acts piece.FlushNow todo o g y = flushes s.env.gathered todo _
+    acts (piece.ClearNow k m) todo o g y = kept.owned_numbers (piece.this_frame s) (values_cleared k m nought) s.env (λ vs h. kept.numbers_cleared k m vs h) st
+    acts (piece.Items []) todo o g y = st
+    acts (piece.Items (i ∷ is)) todo o g y = st
+    acts (piece.Values []) todo o g y = st
+    acts (piece.Values (i ∷ is)) todo o g y = st
+    acts (piece.Pieces []) todo o g y = st
+    acts (piece.Pieces (i ∷ is)) todo o g y = st
+    acts (piece.Targets []) todo o g y = st
+    acts (piece.Targets (x ∷ xs)) todo o g y = st
+    acts (piece.Variables []) todo o g y = st
+    acts (piece.Variables (d ∷ ds)) todo o g y = st
+    acts (piece.Do a) todo o g y = stmt a todo
+    acts (piece.Rest ss) todo o g y = rests ss todo
+    acts (piece.Exit w) todo o g y = exits w todo
+    acts (piece.Sweep a) todo o g y = swept s.run.elements a todo
+    acts piece.Unwind todo o g y = unwinds todo g
+    acts piece.ThrowNow todo o g y = st
+    acts piece.RaiseNow todo o g y = raises (raising.event_in s.run.operands) todo
+    acts (piece.SetUpNow r) todo o g y = set_up (slice_get source.routines r) todo o
+    acts piece.EnlivenNow todo o g y = kept.enlivened_keeps (piece.own_exec s) s.env st
+    acts piece.TakeDownNow todo o g y = moved _ todo _ (kept.take_down_keeps (piece.own_exec s) (at todo s.run.operands s) y st)
+    acts piece.ForgetNow todo o g y = kept.forgotten_keeps (piece.own_exec s) s.env st
+    acts (piece.LiveNow r) todo o g y = live (slice_get source.routines r) todo
+    acts piece.ResumeNow todo o g y = moved _ (piece.Land ∷ todo) _ (kept.wake_keeps (quiet.resumed s) (at (piece.Land ∷ todo) s.run.operands s) st)
+    acts piece.SuspendNow todo o g y = moved _ (piece.Land ∷ todo) _ (kept.suspend_keeps (at (piece.Land ∷ todo) s.run.operands s) st)
+    acts piece.Land todo o g y = land s.run.raised todo
+    acts (piece.EnterNow m r) todo o g y = enter m (slice_get source.routines r) todo
+    acts piece.LeaveNow todo o g y = leave _ (monitors.this_object s) todo
+    acts (piece.MakeNow k r) todo o g y = make k r (slice_get source.routines r) todo
+    acts (piece.BindMadeNow k r) todo o g y = bind (slice_get source.routines r) todo o
+    acts piece.MadeNow todo o g y = unless (monitors.this_object s) _ todo (kept.like st refl refl refl refl)
+    acts (piece.SpawnNow r) todo o g y = unless (monitors.this_object s) _ (piece.ChildNow r ∷ todo) (kept.like st refl refl refl refl)
+    acts piece.GoneNow todo o g y = kept.like st refl refl refl refl
+    acts piece.GiveUpNow todo o g y = kept.like st refl refl refl refl
+    acts (piece.ConditionNow k m) todo o g y = condition k _ todo
+    acts piece.WaitNow todo o g y = unless (monitors.this_object s) _ todo st
+    acts piece.SignalBlockNow todo o g y = unless (monitors.this_object s) _ todo st
+    acts (piece.Guards src.NoClauses) todo o g y = st
+    acts (piece.Guards (src.Otherwise b)) todo o g y = st
+    acts (piece.Guards (src.MoreClauses guard b cs)) todo o g y = st
+    acts (piece.AcceptNow site m) todo o g y = accept_by (monitors.mask_of (take_operands piece.Nothing m s.run.operands [])) (monitors.this_object s) site todo (drop m s.run.operands)
+    acts piece.FailedNow todo o g y = failed _ todo _
+    acts piece.RaiseAtNow todo o g y = raise_at _ _ todo _
+    acts (piece.EnableNow events cell) todo o g y = enables _ cell todo
+    acts (piece.DisableNow events cell) todo o g y = enables _ cell todo
+    acts (piece.RestoreNow cell) todo o g y = kept.like st refl refl refl refl
+    acts piece.PollNow todo o g y = poll todo
+    acts piece.DeliverNow todo o g y = deliver _ todo
+    acts piece.Finish todo o g y = unless s.env.own _ todo (returned _ s.callers)
+    acts piece.FinishCoroutine todo o g y = moved _ todo _ (kept.finish_keeps (at todo s.run.operands s) g st)
+    acts p todo o g y = st
 
     pub walk : KeepsFresh source s → FreshStep (quiet.quiet source s)
-    walk o = by s.run.control o.binds o.ends.mains
+    walk o = by s.run.control o.binds o.ends.mains o.ends.takes
       where
-        by : (l : List Todo) → BindsBegunBy source l s → EndsBareBy l s → FreshStep (quiet.act_todo source l s)
-        by [] o b = returned _ s.callers
-        by (p ∷ todo) o b = acts p todo o b
+        by : (l : List Todo) → BindsBegunBy source l s → MainsBareBy l s → TakesOthersBy l s → FreshStep (quiet.act_todo source l s)
+        by [] o b d = returned _ s.callers
+        by (p ∷ todo) o b d = acts p todo o b d
 
 -- answers
 

@@ -11,3 +11,7 @@ pub mod Outlasting
 pub mod Upwards
 pub mod OutlastRuns
 pub mod RootedRuns
+pub mod MainKeeping
+pub mod MainSteps
+pub mod MainWalk
+pub mod MainRuns

@@ -84,17 +84,21 @@ abbrev pub LeavesNone : Sort → List Todo → State → Type 0
 LeavesNone IsFinishCoroutine todo s = NoneBehind todo s
 LeavesNone k todo s = Unit {0}
 
--- where the main of a coroutine ends, or is left by an unwinding, no marks are left; and where an execution is taken down, none that does not run
--- has the name of the running one
-abbrev pub EndsBareBy : List Todo → State → Type 0
-EndsBareBy (FinishCoroutine ∷ todo) s = NoneBehind todo s
-EndsBareBy (Unwind ∷ (p ∷ todo)) s = LeavesNone (sort p) todo s
-EndsBareBy (TakeDownNow ∷ todo) s = EnvBy (λ n x. n ≡ s.env.exec → ⊥) s.env
-EndsBareBy todo s = Unit {0}
+-- where the main of a coroutine ends, or is left by an unwinding, no marks are left
+abbrev pub MainsBareBy : List Todo → State → Type 0
+MainsBareBy (FinishCoroutine ∷ todo) s = NoneBehind todo s
+MainsBareBy (Unwind ∷ (p ∷ todo)) s = LeavesNone (sort p) todo s
+MainsBareBy todo s = Unit {0}
 
--- so where a task asks that it end
+-- where an execution is taken down, none that does not run has the name of the running one
+abbrev pub TakesOthersBy : List Todo → State → Type 0
+TakesOthersBy (TakeDownNow ∷ todo) s = EnvBy (λ n x. n ≡ s.env.exec → ⊥) s.env
+TakesOthersBy todo s = Unit {0}
+
+-- so it is; and where a task asks that it end, no marks are left
 pub record EndsBare (source : Source) (s : State) : Type 0 where
-  pub mains : EndsBareBy s.run.control s
+  pub mains : MainsBareBy s.run.control s
+  pub takes : TakesOthersBy s.run.control s
   pub asks : (u : State) → quiet source s ≡ Asks ask.End u → stacked (u.run ∷ u.callers) ≡ []
 
 -- what each step is to keep to

@@ -6,4 +6,6 @@ pub mod Forgetting
 pub mod Outlasting
 pub mod Upwards
 pub mod OutlastRuns
+pub mod Mains
+pub mod MainRuns
 pub mod RootedRuns
