@@ -27,7 +27,7 @@ use Rattle.uc_unmarked_laws.specs.Belonging.{Belongs, frame, fields, object}
 use Rattle.uc_unmarked_laws.specs.Marks.{Marked, Free}
 use Rattle.uc_unmarked_laws.proofs.Own.{law_own}
 use Rattle.uc_rooted_runs.specs.UnmarkedRuns.{IsLeft}
-use Rattle.uc_rooted_runs.specs.Beside.{OwnMaking, StageOwn, OwnEx, NoScopes, IsBeside, LawBeside}
+use Rattle.uc_rooted_runs.specs.Beside.{OwnMaking, StageOwn, OwnEx, IsBeside, LawBeside}
 
 -- whose a place is does not depend on what has gone
 still_own : (few : Few) (j : Journal) (n : Exec) (v : Value) → Belongs (lasting few j) n v → Belongs few n v
@@ -103,8 +103,8 @@ module _ (t : Table) (few : Few) (j : Journal) (a : List Entry) (x : World) (own
   stage_apart n y other Started k = λ z c m. other (same n (still_own few j n (few.home o) (k z c m)))
   stage_apart n y other Ended k = tt
 
-  ex_apart : (n : Exec) (y : Execution (List Todo) Value) → ((n ≡ (x.tasks u).env.exec → ⊥) × NoScopes t few o n y) → OwnEx t (lasting few j) o n y → ExApart t (lasting few j) (lasting_numbers few.numbers (j ++ a)) o n y
-  ex_apart n y p k = record { scopes = p.1; stage = stage_apart n y p.0 y.links.stage k }
+  ex_apart : (n : Exec) (y : Execution (List Todo) Value) → (n ≡ (x.tasks u).env.exec → ⊥) → OwnEx t (lasting few j) o n y → ExApart t (lasting few j) (lasting_numbers few.numbers (j ++ a)) o n y
+  ex_apart n y other k = stage_apart n y other y.links.stage k
 
   other_apart : (v : ℕ) → v < task_count (j ++ a) → (v ≡ u → ⊥) → has_ended v (j ++ a) ≡ false → (given : List Ty) (k : KnowsState t (lasting few j) given (x.tasks v)) → RunApart t (lasting few j) (lasting_numbers few.numbers (j ++ a)) o given (x.tasks v) k
   other_apart v lt other on given k =
@@ -125,10 +125,9 @@ pub law_beside : LawBeside
 law_beside t few j a x own yet u o h b = record {
   outside = outside t few j a x own yet u o h b;
   unmarked = unmarked t few j a x own yet u o h b;
-  scopes = b.scopes;
   tasks = λ v.
-      both_env (λ n y. (n ≡ (x.tasks u).env.exec → ⊥) × NoScopes t few o n y) (OwnEx t (lasting few j) o) (ExApart t (lasting few j) (lasting_numbers few.numbers (j ++ a)) o) (ex_apart t few j a x own yet u o h b) (x.tasks v).env (both_env (λ n y. n ≡ (x.tasks u).env.exec → ⊥) (NoScopes t few o) (λ n y. (n ≡ (x.tasks u).env.exec → ⊥) × NoScopes t few o n y) (λ n y p q. (p, q)) (x.tasks v).env (h.name.tasks v) (b.ended v)) (b.making v);
+      both_env (λ n y. n ≡ (x.tasks u).env.exec → ⊥) (OwnEx t (lasting few j) o) (ExApart t (lasting few j) (lasting_numbers few.numbers (j ++ a)) o) (ex_apart t few j a x own yet u o h b) (x.tasks v).env (h.name.tasks v) (b.making v);
   alive = alive t few j a x own yet u o h b;
   homes = λ q.
-      both_members (λ n y. (n ≡ (x.tasks u).env.exec → ⊥) × NoScopes t few o n y) (OwnEx t (lasting few j) o) (ExApart t (lasting few j) (lasting_numbers few.numbers (j ++ a)) o) (ex_apart t few j a x own yet u o h b) (home.Object q) (x.homes q) (both_members (λ n y. n ≡ (x.tasks u).env.exec → ⊥) (NoScopes t few o) (λ n y. (n ≡ (x.tasks u).env.exec → ⊥) × NoScopes t few o n y) (λ n y p q. (p, q)) (home.Object q) (x.homes q) (h.name.homes q) (b.ended_homes q)) (b.making_homes q);
+      both_members (λ n y. n ≡ (x.tasks u).env.exec → ⊥) (OwnEx t (lasting few j) o) (ExApart t (lasting few j) (lasting_numbers few.numbers (j ++ a)) o) (ex_apart t few j a x own yet u o h b) (home.Object q) (x.homes q) (h.name.homes q) (b.making_homes q);
 }

@@ -1,6 +1,7 @@
 pub mod Births
 pub mod FreshKeeping
 pub mod FreshSteps
+pub mod EndedTasks
 pub mod FreshRuns
 pub mod Forgetting
 pub mod OutlastKeeping
@@ -15,3 +16,7 @@ pub mod UnmarkedRuns
 pub mod Beside
 pub mod MadeRuns
 pub mod KeptRuns
+pub mod MainKeeping
+pub mod MainSteps
+pub mod MainWalk
+pub mod MainRuns

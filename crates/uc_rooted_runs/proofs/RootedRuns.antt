@@ -47,4 +47,4 @@ module _ (t : Table) (few : Few) (own : Exec → Value → Ty → Bool) (yet : E
 
 pub law_rooted_runs : LawRootedRuns
 law_rooted_runs t few own yet source input opts j w r range fits on places b m h =
-    law_forgetting t few own yet m.makers.rank source input opts j w r on places b (run_roots t few own yet m.makers source input opts range r fits on m.made m.spawned h)
+    law_forgetting t few own yet m.makers.rank source input opts j w r range fits on places b (run_roots t few own yet m.makers source input opts range r fits on m.made m.spawned h)

@@ -1,5 +1,5 @@
 -- What nobody has to clean up, and names, tell of a world in which an object has just gone.
-use Rattle.std.specs.Prelude.{◌≡◌, ℕ, ◌<◌, ◌≤◌, ◌==◌, Bool, true, false, List, [], ◌∷◌, ◌++◌}
+use Rattle.std.specs.Prelude.{◌≡◌, ℕ, ◌<◌, ◌≤◌, Bool, true, false, List, ◌∷◌, ◌++◌}
 use Rattle.uc_entry.specs.declared.entry.Entry.{Entry}
 use Rattle.uc_acts.specs.Journal.{Journal}
 use Rattle.uc_acts.specs.Known.{has_ended, task_count}
@@ -12,7 +12,7 @@ use Rattle.uc_machine.specs.Pieces as piece
 use Rattle.uc_machine.specs.Pieces.{Value, Todo, Active}
 use Rattle.uc_meaning.specs.Runs.{World}
 use Rattle.uc_typing.specs.Typing.{Ty, Cell, Obj, Raw, Sig, Table}
-use Rattle.uc_life_laws.specs.Things.{Few, Variables, Stands}
+use Rattle.uc_life_laws.specs.Things.{Few, Stands}
 use Rattle.uc_life_laws.specs.Knowing.{InMaking, KnowsEx, KnowsState}
 use Rattle.uc_life_laws.specs.LifeStates.{EnvBy, MembersBy}
 use Rattle.uc_world_laws.specs.Lasting.{lasting, lasting_numbers}
@@ -34,10 +34,6 @@ module _ (t : Table) (few : Few) (o : ℕ) where
   abbrev pub OwnEx : Exec → Execution (List Todo) Value → Type 0
   OwnEx n x = StageOwn x.links.stage n x
 
-  -- one that has ended has no variables in scope
-  abbrev pub NoScopes : Exec → Execution (List Todo) Value → Type 0
-  NoScopes n x = (w : Value) (a : Ty) → Variables t n (x.run ∷ x.callers) w a → x.links.stage ≡ Ended → ⊥
-
 -- behind an act a of task u that takes out an object, what is no matter of names
 pub record IsBeside (t : Table) (few : Few) (j : Journal) (a : List Entry) (x : World) (own : Exec → Value → Ty → Bool) (yet : Exec → List Active → Value → Ty → Bool) (u o : ℕ) : Type 0 where
   -- where the object was, in the own object of one that lives, there it stood in what one that lives is to clean up
@@ -47,11 +43,6 @@ pub record IsBeside (t : Table) (few : Few) (j : Journal) (a : List Entry) (x : 
   -- it does not stand in what is told beside the marks
   pub told : (n : Exec) (cs : List Active) → Lives (j ++ a) x n cs → (c : ℕ) →
       Stands t few (λ w b. yet n cs w b ≡ true) (Cell (Obj c)) (few.home o) → ⊥
-  -- what has ended has no variables in scope
-  pub scopes : (v : ℕ) (w : Value) (b : Ty) → Variables t (x.tasks v).env.exec ((x.tasks v).run ∷ (x.tasks v).callers) w b →
-      has_ended v (j ++ a) ≡ false
-  pub ended : (v : ℕ) → EnvBy (NoScopes t few o) (x.tasks v).env
-  pub ended_homes : (q : ℕ) → MembersBy (NoScopes t few o) (Object q) (x.homes q)
   -- whoever builds or destroys it has it at home in what is its own
   pub making : (v : ℕ) → EnvBy (OwnEx t (lasting few j) o) (x.tasks v).env
   pub making_homes : (q : ℕ) → MembersBy (OwnEx t (lasting few j) o) (Object q) (x.homes q)

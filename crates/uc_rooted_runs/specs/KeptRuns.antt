@@ -27,7 +27,7 @@ use Rattle.uc_world_laws.specs.Lasting.{RunForgets}
 use Rattle.uc_world_laws.specs.Rooted.{IsPlace, Lives, Had}
 use Rattle.uc_rooted_runs.specs.Makers.{Placed, Makers}
 use Rattle.uc_rooted_runs.specs.Births.{AllMadeLater}
-use Rattle.uc_rooted_runs.specs.FreshStates.{BindsBegun}
+use Rattle.uc_rooted_runs.specs.FreshStates.{KeepsFresh}
 use Rattle.uc_rooted_runs.specs.Outlasting.{Covered, SparesAt, HadBefore}
 use Rattle.uc_rooted_runs.specs.OutlastRuns.{with_before, made_behind, ride_made, run_made, now}
 use Rattle.uc_rooted_runs.specs.Upwards.{IsThere, OutlastWorld}
@@ -115,14 +115,15 @@ module _ (t : Table) (few : Few) (own : Exec → Value → Ty → Bool) (yet : E
   RunRooted (more r o m) = RunRooted r × MayRoot (more r o m) m
 
 -- then nobody has at hand what has gone, as long as all that was asked so far fits, what executions have of others are places, no step binds what stands in
--- a frame of one that has not begun or forgets the running one, nobody leaves its home for good, and marks are put for what is an execution's own
+-- a frame of one that has not begun or forgets the running one, ends leave no marks, nobody leaves its home for good, and marks are put for what is an
+-- execution's own
 abbrev pub LawForgetsNames : Type 0
 LawForgetsNames =
     (t : Table) (few : Few) (own : Exec → Value → Ty → Bool) (yet : Exec → List Active → Value → Ty → Bool)
     (source : Source) (input : List ℕ) (opts : Options) (j : Journal) (w : World)
     (r : Runs source input opts j w) → InRange opts → RunFits source input opts j w r → is_over j ≡ false →
     ((n : Exec) (w : Value) (b : Ty) → Base few n w b → IsPlace w) →
-    RunMeets (BindsBegun source) source input opts j w r →
+    RunMeets (KeepsFresh source) source input opts j w r →
     RunLeaves source input opts j w r → RunMeets names.Spares source input opts j w r →
     RunMeets (Puts t few) source input opts j w r →
     (b : AllMadeLater source input opts j w r) →

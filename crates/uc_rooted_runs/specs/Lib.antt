@@ -6,6 +6,8 @@ pub mod Forgetting
 pub mod Outlasting
 pub mod Upwards
 pub mod OutlastRuns
+pub mod Mains
+pub mod MainRuns
 pub mod RootedRuns
 pub mod OutlastNames
 pub mod UnmarkedRuns

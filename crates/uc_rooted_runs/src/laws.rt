@@ -4,6 +4,7 @@ ghost use Rattle.uc_rooted_runs.specs.Beside.{LawBeside};
 ghost use Rattle.uc_rooted_runs.specs.Births.{LawBirths};
 ghost use Rattle.uc_rooted_runs.specs.Forgetting.{LawForgetting};
 ghost use Rattle.uc_rooted_runs.specs.FreshRuns.{LawFresh};
+ghost use Rattle.uc_rooted_runs.specs.MainRuns.{LawMains};
 ghost use Rattle.uc_rooted_runs.specs.OutlastRuns.{LawOutlastRuns};
 ghost use Rattle.uc_rooted_runs.specs.KeptRuns.{LawForgetsNames, LawKeptRuns};
 ghost use Rattle.uc_rooted_runs.specs.MadeRuns.{LawMadeRuns};
@@ -21,6 +22,11 @@ pub fn law_births()
 /// Executions that have not begun are as they were made, as long as no step binds what stands in their frames.
 pub fn law_fresh()
     ensures { LawFresh }
+{}
+
+/// In runs in which no main is called nobody waits for one, so that where one ends nothing is left to clean up.
+pub fn law_mains()
+    ensures { LawMains }
 {}
 
 /// In a run nobody has at hand what has gone, where behind each act by which an object goes nobody is to clean
