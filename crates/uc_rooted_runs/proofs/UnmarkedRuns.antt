@@ -91,7 +91,13 @@ module _ (t : Table) (few : Few) (source : Source) where
 module _ (t : Table) (few : Few) (source : Source) (input : List ℕ) (opts : Options) (range : InRange opts) where
   -- behind an act
   left_by : (j : Journal) (x : World) (u : ℕ) (q : Request) → ((v : ℕ) → task_count j ≤ v → x.tasks v ≡ first_state (routine_of source source.main) 0) → own.HasOwnName j x u → Freed t few q (x.tasks u) → UnmarkedAt t few u x q → LeftBehind t few j x u q
-  left_by j x u (ask.Gone o) later h f m = record { belongs = f.0; name = h; unmarked = m (own_name t source j x u later h) }
+  left_by j x u (ask.Gone o) later h f m = record {
+    belongs = f.0;
+    name = h;
+    unmarked = m (own_name t source j x u later h);
+    none_waits = λ v le. ap (λ (s : State). s.callers) (later v le);
+    first_object = λ v le. ap (λ (s : State). s.run.this) (later v le);
+  }
   left_by j x u q later h f m = tt
 
   run_left : {j : Journal} {w : World} (r : Runs source input opts j w) → RunFits source input opts j w r → is_over j ≡ false → RunLeaves source input opts j w r → RunMeets names.Spares source input opts j w r → RunMeets (Puts t few) source input opts j w r → RunUnmarked t few source input opts j w r → RunLeft t few source input opts j w r
