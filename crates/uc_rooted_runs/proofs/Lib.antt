@@ -15,3 +15,7 @@ pub mod MainKeeping
 pub mod MainSteps
 pub mod MainWalk
 pub mod MainRuns
+pub mod OutlastNames
+pub mod UnmarkedRuns
+pub mod Beside
+pub mod KeptRuns

@@ -9,3 +9,7 @@ pub mod OutlastRuns
 pub mod Mains
 pub mod MainRuns
 pub mod RootedRuns
+pub mod OutlastNames
+pub mod UnmarkedRuns
+pub mod Beside
+pub mod KeptRuns

@@ -1,12 +1,16 @@
 // The laws: each is a function whose contract is the law.
 
+ghost use Rattle.uc_rooted_runs.specs.Beside.{LawBeside};
 ghost use Rattle.uc_rooted_runs.specs.Births.{LawBirths};
 ghost use Rattle.uc_rooted_runs.specs.Forgetting.{LawForgetting};
 ghost use Rattle.uc_rooted_runs.specs.FreshRuns.{LawFresh};
 ghost use Rattle.uc_rooted_runs.specs.MainRuns.{LawMains};
 ghost use Rattle.uc_rooted_runs.specs.OutlastRuns.{LawOutlastRuns};
+ghost use Rattle.uc_rooted_runs.specs.KeptRuns.{LawForgetsNames, LawKeptRuns};
+ghost use Rattle.uc_rooted_runs.specs.OutlastNames.{LawOutlastNames};
 ghost use Rattle.uc_rooted_runs.specs.Outlasting.{LawOutlasting};
 ghost use Rattle.uc_rooted_runs.specs.RootedRuns.{LawRootedRuns};
+ghost use Rattle.uc_rooted_runs.specs.UnmarkedRuns.{LawUnmarkedRuns};
 ghost use Rattle.uc_rooted_runs.specs.Upwards.{LawUpwards};
 
 /// In each run, as long as all that was asked so far fits, each execution is made by one that was made before it.
@@ -50,4 +54,33 @@ pub fn law_outlast_runs()
 /// those live.
 pub fn law_rooted_runs()
     ensures { LawRootedRuns }
+{}
+
+/// What is names alone in that: none of those that were made by now was made by one that is made next, no
+/// other in hand has the name of the running one, and nobody elsewhere has made what was made meanwhile.
+pub fn law_outlast_names()
+    ensures { LawOutlastNames }
+{}
+
+/// Behind each act by which an object goes nobody has to clean up that in which it was at home, in runs in which
+/// marks are put for what is an execution's own.
+pub fn law_unmarked_runs()
+    ensures { LawUnmarkedRuns }
+{}
+
+/// So it stands in no own object of an execution that lives, and nobody builds or destroys it, as far as whoever
+/// does that has it at home in what is its own.
+pub fn law_beside()
+    ensures { LawBeside }
+{}
+
+/// So what was to be cleaned up as executions were made stays with those that made them, as long as it is not
+/// left before they go, as names tell the rest.
+pub fn law_kept_runs()
+    ensures { LawKeptRuns }
+{}
+
+/// So nobody has at hand what has gone, in such runs, as far as names do not tell it.
+pub fn law_forgets_names()
+    ensures { LawForgetsNames }
 {}
