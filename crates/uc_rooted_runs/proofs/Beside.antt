@@ -104,7 +104,7 @@ module _ (t : Table) (few : Few) (j : Journal) (a : List Entry) (x : World) (own
   stage_apart n y other Ended k = tt
 
   ex_apart : (n : Exec) (y : Execution (List Todo) Value) → (n ≡ (x.tasks u).env.exec → ⊥) → OwnEx t (lasting few j) o n y → ExApart t (lasting few j) (lasting_numbers few.numbers (j ++ a)) o n y
-  ex_apart n y other k = stage_apart n y other y.links.stage k
+  ex_apart n y p k = stage_apart n y p y.links.stage k
 
   other_apart : (v : ℕ) → v < task_count (j ++ a) → (v ≡ u → ⊥) → has_ended v (j ++ a) ≡ false → (given : List Ty) (k : KnowsState t (lasting few j) given (x.tasks v)) → RunApart t (lasting few j) (lasting_numbers few.numbers (j ++ a)) o given (x.tasks v) k
   other_apart v lt other on given k =

@@ -13,15 +13,11 @@ use Rattle.uc_acts.specs.Known.{task_count}
 use Rattle.uc_acts.specs.Acts.{act}
 use Rattle.uc_acts.specs.KernelRuns.{InRange}
 use Rattle.uc_machine.specs.declared.exec.Exec.{Exec}
-use Rattle.uc_machine.specs.declared.exec.Home.{Home}
-use Rattle.uc_machine.specs.declared.exec.Home.TheVariants as home
-use Rattle.uc_machine.specs.Executions.{Execution}
-use Rattle.uc_machine.specs.Pieces.{Value, Todo, SetUpNow, Active, State, Members}
-use Rattle.uc_machine.specs.Quiet.{first_state}
+use Rattle.uc_machine.specs.Pieces.{Value, Todo, SetUpNow, TakeDownNow, Finish, Active, State}
 use Rattle.uc_machine.specs.Rides.{Rides, slices, goes_on, ticks, asks}
 use Rattle.uc_meaning.specs.Runs.{World, May, Runs, world_after, gives, no_room, acts, begun, more}
 use Rattle.uc_program_laws.specs.Fitting.{RunFits}
-use Rattle.uc_value_laws.specs.Opens.{RunMeets}
+use Rattle.uc_value_laws.specs.Opens.{RideMeets, MayMeet, RunMeets}
 use Rattle.uc_name_laws.specs.NameSteps as names
 use Rattle.uc_name_laws.proofs.Homes.{no_both}
 use Rattle.uc_named_runs.specs.RunningRuns.{RunLeaves}
@@ -33,7 +29,11 @@ use Rattle.uc_world_laws.specs.Rooted.{InSlot, InParked, InHand, InMembers, Live
 use Rattle.uc_own_names.proofs.OwnNamesLemmas.{run_first}
 use Rattle.uc_rooted_runs.specs.Makers.{Placed, Makers}
 use Rattle.uc_rooted_runs.specs.Births.{MakesLater, RunSpawnsLater}
-use Rattle.uc_rooted_runs.specs.Outlasting.{SparesAt}
+use Rattle.uc_own_names.specs.OwnNames.{StaysOwn, RunOwns}
+use Rattle.uc_own_names.proofs.OwnNamesLemmas.{law_own_names}
+use Rattle.uc_rooted_runs.specs.FreshStates.{BindsBegun, AsksBare, TakesOthersBy, KeepsFresh}
+use Rattle.uc_rooted_runs.specs.MainRuns.{EndsMains}
+use Rattle.uc_rooted_runs.specs.Outlasting.{SparesAt, IsAlone}
 use Rattle.uc_rooted_runs.specs.OutlastRuns.{with_before, made_behind, ride_made, made_asked, run_made, now, OutlastsAt, RideOutlasts, SpawnsAlone, MayOutlast, RunOutlasts}
 use Rattle.uc_rooted_runs.specs.OutlastNames.{NamesAt, RideNames, SpawnsNew, MayName, RunNames}
 use Rattle.uc_rooted_runs.specs.Upwards.{IsBased}
@@ -41,47 +41,72 @@ use Rattle.uc_rooted_runs.specs.MadeRuns.{IsMade, AllMade}
 use Rattle.uc_rooted_runs.proofs.MadeRuns.{law_made_runs}
 use Rattle.uc_rooted_runs.specs.RootedRuns.{UpheldBy, MayUphold, RunUpholds}
 use Rattle.uc_rooted_runs.specs.UnmarkedRuns.{LeftBehind, MayLeave, RunLeft}
-use Rattle.uc_rooted_runs.specs.KeptRuns.{KeepsAt, Keeps, RideKeeps, SpawnsKept, MayKeep, RunKeeps, LawKeptRuns, IsStood, RootedBy, MayRoot, RunRooted, LawForgetsNames}
+use Rattle.uc_rooted_runs.specs.KeptRuns.{KeepsAt, Keeps, RideKeeps, SpawnsKept, MayKeep, RunKeeps, LawKeptRuns, RootedBy, MayRoot, RunRooted, LawForgetsNames}
+use Rattle.uc_rooted_runs.proofs.MainRuns.{law_mains}
 use Rattle.uc_rooted_runs.proofs.OutlastRuns.{law_outlast_runs}
 use Rattle.uc_rooted_runs.proofs.OutlastNames.{law_outlast_names}
 use Rattle.uc_rooted_runs.proofs.UnmarkedRuns.{law_unmarked_runs}
 use Rattle.uc_rooted_runs.proofs.Beside.{law_beside}
 use Rattle.uc_rooted_runs.proofs.RootedRuns.{law_rooted_runs}
 
+-- what is asked of each state of a run, that executions which have not begun stay as they were made, and ends leave no marks
+module _ (source : Source) where
+  takes : (s : State) → IsAlone s.env → (l : List Todo) → TakesOthersBy l s
+  takes s h [] = tt
+  takes s h (TakeDownNow ∷ todo) = h
+  takes s h (p ∷ todo) = tt
+
+  keeps_at : (s : State) → BindsBegun source s → EndsMains s → AsksBare source s → IsAlone s.env → KeepsFresh source s
+  keeps_at s b e a h = record { binds = b; ends = record { mains = e.bare; takes = takes s h s.run.control; asks = a } }
+
+  ride_keeps : (j : Journal) (w : World) (t : ℕ) {s u : State} {q k : ℕ} {a : Asked} (r : Rides source s q u k a) → RideMeets (BindsBegun source) source s q u k a r → RideMeets EndsMains source s q u k a r → RideMeets (AsksBare source) source s q u k a r → RideMeets (StaysOwn source j w t) source s q u k a r → RideMeets (KeepsFresh source) source s q u k a r
+  ride_keeps j w t slices b e a o = tt
+  ride_keeps j w t (goes_on {s} g r) b e a o = (keeps_at s b.0 e.0 a.0 o.0.now.alone, ride_keeps j w t r b.1 e.1 a.1 o.1)
+  ride_keeps j w t (ticks {s} g r) b e a o = (keeps_at s b.0 e.0 a.0 o.0.now.alone, ride_keeps j w t r b.1 e.1 a.1 o.1)
+  ride_keeps j w t (asks {s} g) b e a o = keeps_at s b e a o.now.alone
+
+  run_keeps : (input : List ℕ) (opts : Options) (j : Journal) (w : World) (r : Runs source input opts j w) → RunMeets (BindsBegun source) source input opts j w r → RunMeets EndsMains source input opts j w r → RunMeets (AsksBare source) source input opts j w r → RunOwns source input opts j w r → RunMeets (KeepsFresh source) source input opts j w r
+  run_keeps input opts _ _ begun b e a o = tt
+  run_keeps input opts _ _ (more {j} {w} r on (gives p t v le)) b e a o = (run_keeps input opts j w r b.0 e.0 a.0 o.0, tt)
+  run_keeps input opts _ _ (more {j} {w} r on (no_room p t v le)) b e a o = (run_keeps input opts j w r b.0 e.0 a.0 o.0, tt)
+  run_keeps input opts _ _ (more {j} {w} r on (acts p t n s asked d)) b e a o =
+      (run_keeps input opts j w r b.0 e.0 a.0 o.0, ride_keeps j w t d.rides b.1 e.1 a.1 o.1.0)
+
 module _ (makers : Makers) (asked : Exec → Bool) where
-  spares : (source : Source) (made : Exec → Bool) (s : State) → KeepsAt makers asked (now makers asked made) s.run.control s → NamesAt makers asked source made s → SparesAt makers (now makers asked made) s.run.control s
-  spares source made s k n = by s.run.control refl k
+  spares : (source : Source) (made : Exec → Bool) (s : State) → EndsMains s → KeepsAt makers asked (now makers asked made) s.run.control s → NamesAt makers asked source made s → SparesAt makers (now makers asked made) s.run.control s
+  spares source made s f k n = by s.run.control refl k
     where
       by : (l : List Todo) → s.run.control ≡ l → KeepsAt makers asked (now makers asked made) l s → SparesAt makers (now makers asked made) l s
       by (SetUpNow r ∷ todo) e h = λ m i x u p. n.new r todo e m i x u p
+      by (Finish ∷ todo) e h = f.finish todo e
       by l e h = h
 
-  at_state : (source : Source) (made : Exec → Bool) (s : State) → Keeps makers asked source made s → NamesAt makers asked source made s → OutlastsAt makers asked source made s
-  at_state source made s k n = record { spares = spares source made s k.spares n; alone = n.alone; covered = k.covered }
+  at_state : (source : Source) (made : Exec → Bool) (s : State) → EndsMains s → Keeps makers asked source made s → NamesAt makers asked source made s → OutlastsAt makers asked source made s
+  at_state source made s f k n = record { spares = spares source made s f k.spares n; alone = n.alone; covered = k.covered }
 
-  ride_both : (source : Source) (made : Exec → Bool) {s u : State} {q k : ℕ} {a : Asked} (r : Rides source s q u k a) → RideKeeps makers asked source made r → RideNames makers asked source made r → RideOutlasts makers asked source made r
-  ride_both source made slices h n = tt
-  ride_both source made (goes_on {s} e r) h n = (at_state source made s h.0 n.0, ride_both source (made_behind source s made) r h.1 n.1)
-  ride_both source made (ticks {s} e r) h n = (at_state source made s h.0 n.0, ride_both source (made_behind source s made) r h.1 n.1)
-  ride_both source made (asks {s} e) h n = at_state source made s h n
+  ride_both : (source : Source) (made : Exec → Bool) {s u : State} {q k : ℕ} {a : Asked} (r : Rides source s q u k a) → RideMeets EndsMains source s q u k a r → RideKeeps makers asked source made r → RideNames makers asked source made r → RideOutlasts makers asked source made r
+  ride_both source made slices f h n = tt
+  ride_both source made (goes_on {s} e r) f h n = (at_state source made s f.0 h.0 n.0, ride_both source (made_behind source s made) r f.1 h.1 n.1)
+  ride_both source made (ticks {s} e r) f h n = (at_state source made s f.0 h.0 n.0, ride_both source (made_behind source s made) r f.1 h.1 n.1)
+  ride_both source made (asks {s} e) f h n = at_state source made s f h n
 
   spawns_both : (made : Exec → Bool) (q : Request) (s : State) → SpawnsKept makers asked q s → SpawnsNew makers asked made q s → SpawnsAlone makers asked made q s
   spawns_both made (ask.Spawn o) s h n = (n.0, n.1, h)
   spawns_both made q s h n = tt
 
   module _ (source : Source) (input : List ℕ) (opts : Options) where
-    may_both : (made : Exec → Bool) {j : Journal} {w : World} {a : List Entry} {x : World} (m : May source opts input j w a x) → MayKeep makers asked source input opts made m → MayName makers asked source input opts made m → MayOutlast makers asked source input opts made m
-    may_both made (gives p t s h) k n = tt
-    may_both made (no_room p t s h) k n = tt
-    may_both made (acts p t i s q d) k n = (ride_both source made d.rides k.0 n.0, spawns_both (ride_made source made d.rides) q.request s k.1 n.1, n.2)
+    may_both : (made : Exec → Bool) {j : Journal} {w : World} {a : List Entry} {x : World} (m : May source opts input j w a x) → MayMeet EndsMains source opts input j w a x m → MayKeep makers asked source input opts made m → MayName makers asked source input opts made m → MayOutlast makers asked source input opts made m
+    may_both made (gives p t s h) f k n = tt
+    may_both made (no_room p t s h) f k n = tt
+    may_both made (acts p t i s q d) f k n = (ride_both source made d.rides f k.0 n.0, spawns_both (ride_made source made d.rides) q.request s k.1 n.1, n.2)
 
-    pub run_both : {j : Journal} {w : World} (r : Runs source input opts j w) → RunKeeps makers asked source input opts r → RunNames makers asked source input opts r → RunOutlasts makers asked source input opts r
-    run_both begun k n = tt
-    run_both (more r o m) k n = (run_both r k.0 n.0, may_both (run_made source input opts r) m k.1 n.1)
+    pub run_both : {j : Journal} {w : World} (r : Runs source input opts j w) → RunMeets EndsMains source input opts j w r → RunKeeps makers asked source input opts r → RunNames makers asked source input opts r → RunOutlasts makers asked source input opts r
+    run_both begun f k n = tt
+    run_both (more r o m) f k n = (run_both r f.0 k.0 n.0, may_both (run_made source input opts r) m f.1 k.1 n.1)
 
 pub law_kept_runs : LawKeptRuns
-law_kept_runs asked before source input opts j w r range fits on leaves spares b k =
-    law_outlast_runs asked before source input opts j w r range fits on b (run_both (with_before before b.makers) asked source input opts r k (law_outlast_names asked before source input opts j w r range fits on leaves spares b))
+law_kept_runs asked before source input opts j w r range fits on leaves spares mains b k =
+    law_outlast_runs asked before source input opts j w r range fits on b (run_both (with_before before b.makers) asked source input opts r (law_mains.runs source input opts j w r mains) k (law_outlast_names asked before source input opts j w r range fits on leaves spares b))
 
 -- who lives was made, or is the main of task 0
 
@@ -128,30 +153,29 @@ based_of t few makers asked made yet own j x first later n (inr e) w b k f s = r
 
 module _ (t : Table) (few : Few) (own : Exec → Value → Ty → Bool) (yet : Exec → List Active → Value → Ty → Bool) (makers : Makers) (source : Source) (input : List ℕ) (opts : Options) (range : InRange opts) where
   -- behind one act
-  upheld : (j : Journal) (a : List Entry) (x : World) (r : Runs source input opts (j ++ a) x) → RunFits source input opts (j ++ a) x r → is_over (j ++ a) ≡ false → RunLeaves source input opts (j ++ a) x r → RunMeets names.Spares source input opts (j ++ a) x r → RunMeets (MakesLater source makers) source input opts (j ++ a) x r → RunSpawnsLater makers source input opts (j ++ a) x r → (u : ℕ) (q : Request) → LeftBehind t few (j ++ a) x u q → RootedBy t few own yet makers source input opts j a x r u q → UpheldBy t few own yet makers source input opts j a x r q
-  upheld j a x r f on l h m s u (ask.Gone o) left k = record {
+  upheld : (j : Journal) (a : List Entry) (x : World) (r : Runs source input opts (j ++ a) x) → RunFits source input opts (j ++ a) x r → is_over (j ++ a) ≡ false → RunLeaves source input opts (j ++ a) x r → RunMeets names.Spares source input opts (j ++ a) x r → RunMeets EndsMains source input opts (j ++ a) x r → RunMeets (MakesLater source makers) source input opts (j ++ a) x r → RunSpawnsLater makers source input opts (j ++ a) x r → (u : ℕ) (q : Request) → LeftBehind t few (j ++ a) x u q → RootedBy t few own yet makers source input opts j a x r u q → UpheldBy t few own yet makers source input opts j a x r q
+  upheld j a x r f on l h g m s u (ask.Gone o) left k = record {
     asked = k.asked;
     before = k.before;
-    outlasts = run_both (with_before k.before makers) k.asked source input opts r k.keeps (law_outlast_names k.asked k.before source input opts (j ++ a) x r range f on l h (record { makers = makers; made = m; spawned = s }));
-    based = λ n cs i w b d e.
-        let made = law_made_runs.there source input opts (j ++ a) x r range f on in
-        let is = in_world (run_made source input opts r) source (j ++ a) x made (run_first source input opts range r f on) n cs i in
-        based_of t few (with_before k.before makers) k.asked (run_made source input opts r) yet own (j ++ a) x k.first (law_made_runs.later source input opts (j ++ a) x r (record { makers = makers; made = m; spawned = s })) n is w b d e (k.based n cs i w b d e);
+    outlasts = run_both (with_before k.before makers) k.asked source input opts r g k.keeps (law_outlast_names k.asked k.before source input opts (j ++ a) x r range f on l h (record { makers = makers; made = m; spawned = s }));
+    based = k.based;
     beside = law_beside t few j a x own yet u o left k.beside;
   }
-  upheld j a x r f on l h m s u q left k = tt
+  upheld j a x r f on l h g m s u q left k = tt
 
-  may_uphold : {j : Journal} {w : World} {a : List Entry} {x : World} (r : Runs source input opts (j ++ a) x) → RunFits source input opts (j ++ a) x r → is_over (j ++ a) ≡ false → RunLeaves source input opts (j ++ a) x r → RunMeets names.Spares source input opts (j ++ a) x r → RunMeets (MakesLater source makers) source input opts (j ++ a) x r → RunSpawnsLater makers source input opts (j ++ a) x r → (m : May source opts input j w a x) → MayLeave t few source opts input j w a x m → MayRoot t few own yet makers source input opts r m → MayUphold t few own yet makers source input opts r m
-  may_uphold r f on l h m s (gives p n v le) left k = tt
-  may_uphold r f on l h m s (no_room p n v le) left k = tt
-  may_uphold {j} {w} r f on l h m s (acts p n i v asked d) left k =
-      upheld j (act opts source.sites input j p n i asked) (world_after source (act opts source.sites input j p n i asked) w n v) r f on l h m s n asked.request left k
+  may_uphold : {j : Journal} {w : World} {a : List Entry} {x : World} (r : Runs source input opts (j ++ a) x) → RunFits source input opts (j ++ a) x r → is_over (j ++ a) ≡ false → RunLeaves source input opts (j ++ a) x r → RunMeets names.Spares source input opts (j ++ a) x r → RunMeets EndsMains source input opts (j ++ a) x r → RunMeets (MakesLater source makers) source input opts (j ++ a) x r → RunSpawnsLater makers source input opts (j ++ a) x r → (m : May source opts input j w a x) → MayLeave t few source opts input j w a x m → MayRoot t few own yet makers source input opts r m → MayUphold t few own yet makers source input opts r m
+  may_uphold r f on l h g m s (gives p n v le) left k = tt
+  may_uphold r f on l h g m s (no_room p n v le) left k = tt
+  may_uphold {j} {w} r f on l h g m s (acts p n i v asked d) left k =
+      upheld j (act opts source.sites input j p n i asked) (world_after source (act opts source.sites input j p n i asked) w n v) r f on l h g m s n asked.request left k
 
-  run_upholds : {j : Journal} {w : World} (r : Runs source input opts j w) → RunFits source input opts j w r → is_over j ≡ false → RunLeaves source input opts j w r → RunMeets names.Spares source input opts j w r → RunMeets (MakesLater source makers) source input opts j w r → RunSpawnsLater makers source input opts j w r → RunLeft t few source input opts j w r → RunRooted t few own yet makers source input opts r → RunUpholds t few own yet makers source input opts r
-  run_upholds begun f on l h m s left k = tt
-  run_upholds (more r o y) f on l h m s left k =
-      (run_upholds r f.0 o l.0 h.0 m.0 s.0 left.0 k.0, may_uphold (more r o y) f on l h m s y left.1 k.1)
+  run_upholds : {j : Journal} {w : World} (r : Runs source input opts j w) → RunFits source input opts j w r → is_over j ≡ false → RunLeaves source input opts j w r → RunMeets names.Spares source input opts j w r → RunMeets EndsMains source input opts j w r → RunMeets (MakesLater source makers) source input opts j w r → RunSpawnsLater makers source input opts j w r → RunLeft t few source input opts j w r → RunRooted t few own yet makers source input opts r → RunUpholds t few own yet makers source input opts r
+  run_upholds begun f on l h g m s left k = tt
+  run_upholds (more r o y) f on l h g m s left k =
+      (run_upholds r f.0 o l.0 h.0 g.0 m.0 s.0 left.0 k.0, may_uphold (more r o y) f on l h g m s y left.1 k.1)
 
 pub law_forgets_names : LawForgetsNames
-law_forgets_names t few own yet source input opts j w r range fits on places binds leaves spares puts b k =
-    law_rooted_runs t few own yet source input opts j w r range fits on places binds b (run_upholds t few own yet b.makers source input opts range r fits on leaves spares b.made b.spawned (law_unmarked_runs t few source input opts j w r range fits on leaves spares puts) k)
+law_forgets_names t few own yet source input opts j w r range fits on places binds mains asks leaves spares puts b k =
+    let ends : RunMeets EndsMains source input opts j w r = law_mains.runs source input opts j w r mains in
+    let owns : RunOwns source input opts j w r = (law_own_names source input opts j w r range fits on leaves spares).rides in
+    law_rooted_runs t few own yet source input opts j w r range fits on places (run_keeps source input opts j w r binds ends asks owns) b (run_upholds t few own yet b.makers source input opts range r fits on leaves spares ends b.made b.spawned (law_unmarked_runs t few source input opts j w r range fits on leaves spares puts) k)

@@ -11,12 +11,11 @@ pub mod Outlasting
 pub mod Upwards
 pub mod OutlastRuns
 pub mod RootedRuns
-pub mod OutlastNames
-pub mod UnmarkedRuns
-pub mod Beside
-pub mod MadeRuns
-pub mod KeptRuns
 pub mod MainKeeping
 pub mod MainSteps
 pub mod MainWalk
 pub mod MainRuns
+pub mod OutlastNames
+pub mod UnmarkedRuns
+pub mod Beside
+pub mod KeptRuns

@@ -95,11 +95,15 @@ abbrev pub TakesOthersBy : List Todo → State → Type 0
 TakesOthersBy (TakeDownNow ∷ todo) s = EnvBy (λ n x. n ≡ s.env.exec → ⊥) s.env
 TakesOthersBy todo s = Unit {0}
 
--- so it is; and where a task asks that it end, no marks are left
+-- where a task asks that it end, no marks are left
+abbrev pub AsksBare : Source → State → Type 0
+AsksBare source s = (u : State) → quiet source s ≡ Asks ask.End u → stacked (u.run ∷ u.callers) ≡ []
+
+-- so it is
 pub record EndsBare (source : Source) (s : State) : Type 0 where
   pub mains : MainsBareBy s.run.control s
   pub takes : TakesOthersBy s.run.control s
-  pub asks : (u : State) → quiet source s ≡ Asks ask.End u → stacked (u.run ∷ u.callers) ≡ []
+  pub asks : AsksBare source s
 
 -- what each step is to keep to
 pub record KeepsFresh (source : Source) (s : State) : Type 0 where

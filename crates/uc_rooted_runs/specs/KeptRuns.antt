@@ -11,7 +11,7 @@ use Rattle.uc_acts.specs.Journal.{Journal, is_over}
 use Rattle.uc_acts.specs.Acts.{act}
 use Rattle.uc_acts.specs.KernelRuns.{InRange}
 use Rattle.uc_machine.specs.declared.exec.Exec.{Exec}
-use Rattle.uc_machine.specs.Pieces.{Value, Todo, SetUpNow, Active, State}
+use Rattle.uc_machine.specs.Pieces.{Value, Todo, SetUpNow, Finish, Active, State}
 use Rattle.uc_machine.specs.Rides.{Rides, slices, goes_on, ticks, asks}
 use Rattle.uc_meaning.specs.Runs.{World, May, Runs, world_after, gives, no_room, acts, begun, more}
 use Rattle.uc_program_laws.specs.Fitting.{RunFits}
@@ -27,16 +27,18 @@ use Rattle.uc_world_laws.specs.Lasting.{RunForgets}
 use Rattle.uc_world_laws.specs.Rooted.{IsPlace, Lives, Had}
 use Rattle.uc_rooted_runs.specs.Makers.{Placed, Makers}
 use Rattle.uc_rooted_runs.specs.Births.{AllMadeLater}
-use Rattle.uc_rooted_runs.specs.FreshStates.{KeepsFresh}
-use Rattle.uc_rooted_runs.specs.Outlasting.{Covered, SparesAt, HadBefore}
+use Rattle.uc_rooted_runs.specs.FreshStates.{BindsBegun, AsksBare}
+use Rattle.uc_rooted_runs.specs.Mains.{CallsNoMain}
+use Rattle.uc_rooted_runs.specs.Outlasting.{Covered, SparesAt}
 use Rattle.uc_rooted_runs.specs.OutlastRuns.{with_before, made_behind, ride_made, run_made, now}
 use Rattle.uc_rooted_runs.specs.Upwards.{IsThere, OutlastWorld}
 use Rattle.uc_rooted_runs.specs.Beside.{IsBeside}
 
 module _ (makers : Makers) (asked : Exec → Bool) where
-  -- what is asked of a state that makes no execution
+  -- what is asked of a state that makes no execution, and at which no main ends
   abbrev pub KeepsAt : (Exec → Bool) → List Todo → State → Type 0
   KeepsAt up (SetUpNow r ∷ todo) s = Unit {0}
+  KeepsAt up (Finish ∷ todo) s = Unit {0}
   KeepsAt up todo s = SparesAt makers up todo s
 
   -- where what holds an object is left, another piece behind it holds one, and where an execution is made, one stands directly in front of what was to be
@@ -66,12 +68,14 @@ module _ (makers : Makers) (asked : Exec → Bool) where
     RunKeeps begun = Unit {0}
     RunKeeps (more r o m) = RunKeeps r × MayKeep (run_made source input opts r) m
 
--- so it stays in each run in which all that was asked so far fits, as long as no step forgets the running execution, and nobody leaves its home for good
+-- so it stays in each run in which all that was asked so far fits, as long as no step forgets the running execution or calls a main, and nobody leaves
+-- its home for good
 abbrev pub LawKeptRuns : Type 0
 LawKeptRuns =
     (asked : Exec → Bool) (before : Exec → List Placed) (source : Source) (input : List ℕ) (opts : Options) (j : Journal) (w : World)
     (r : Runs source input opts j w) → InRange opts → RunFits source input opts j w r → is_over j ≡ false →
     RunLeaves source input opts j w r → RunMeets names.Spares source input opts j w r →
+    RunMeets (CallsNoMain source) source input opts j w r →
     (b : AllMadeLater source input opts j w r) →
     RunKeeps (with_before before b.makers) asked source input opts r →
     OutlastWorld (with_before before b.makers) (now (with_before before b.makers) asked (run_made source input opts r)) j w
@@ -115,15 +119,17 @@ module _ (t : Table) (few : Few) (own : Exec → Value → Ty → Bool) (yet : E
   RunRooted (more r o m) = RunRooted r × MayRoot (more r o m) m
 
 -- then nobody has at hand what has gone, as long as all that was asked so far fits, what executions have of others are places, no step binds what stands in
--- a frame of one that has not begun or forgets the running one, ends leave no marks, nobody leaves its home for good, and marks are put for what is an
--- execution's own
+-- a frame of one that has not begun, forgets the running one or calls a main, a task that asks its end has no marks, nobody leaves its home for good, and
+-- marks are put for what is an execution's own
 abbrev pub LawForgetsNames : Type 0
 LawForgetsNames =
     (t : Table) (few : Few) (own : Exec → Value → Ty → Bool) (yet : Exec → List Active → Value → Ty → Bool)
     (source : Source) (input : List ℕ) (opts : Options) (j : Journal) (w : World)
     (r : Runs source input opts j w) → InRange opts → RunFits source input opts j w r → is_over j ≡ false →
     ((n : Exec) (w : Value) (b : Ty) → Base few n w b → IsPlace w) →
-    RunMeets (KeepsFresh source) source input opts j w r →
+    RunMeets (BindsBegun source) source input opts j w r →
+    RunMeets (CallsNoMain source) source input opts j w r →
+    RunMeets (AsksBare source) source input opts j w r →
     RunLeaves source input opts j w r → RunMeets names.Spares source input opts j w r →
     RunMeets (Puts t few) source input opts j w r →
     (b : AllMadeLater source input opts j w r) →
