@@ -13,7 +13,11 @@ use Rattle.uc_acts.specs.Known.{task_count}
 use Rattle.uc_acts.specs.Acts.{act}
 use Rattle.uc_acts.specs.KernelRuns.{InRange}
 use Rattle.uc_machine.specs.declared.exec.Exec.{Exec}
-use Rattle.uc_machine.specs.Pieces.{Value, Todo, SetUpNow, TakeDownNow, Finish, Active, State}
+use Rattle.uc_machine.specs.declared.exec.Home.{Home}
+use Rattle.uc_machine.specs.declared.exec.Home.TheVariants as home
+use Rattle.uc_machine.specs.Executions.{Execution}
+use Rattle.uc_machine.specs.Pieces.{Value, Todo, SetUpNow, TakeDownNow, Finish, Active, State, Members}
+use Rattle.uc_machine.specs.Quiet.{first_state}
 use Rattle.uc_machine.specs.Rides.{Rides, slices, goes_on, ticks, asks}
 use Rattle.uc_meaning.specs.Runs.{World, May, Runs, world_after, gives, no_room, acts, begun, more}
 use Rattle.uc_program_laws.specs.Fitting.{RunFits}
@@ -26,11 +30,10 @@ use Rattle.uc_life_laws.specs.Things.{Few, Base}
 use Rattle.uc_life_laws.specs.Knowing.{main_of}
 use Rattle.uc_life_laws.specs.LifeStates.{SlotBy, ParkedBy, HandBy, MembersBy}
 use Rattle.uc_world_laws.specs.Rooted.{InSlot, InParked, InHand, InMembers, Lives}
-use Rattle.uc_own_names.proofs.OwnNamesLemmas.{run_first}
 use Rattle.uc_rooted_runs.specs.Makers.{Placed, Makers}
 use Rattle.uc_rooted_runs.specs.Births.{MakesLater, RunSpawnsLater}
 use Rattle.uc_own_names.specs.OwnNames.{StaysOwn, RunOwns}
-use Rattle.uc_own_names.proofs.OwnNamesLemmas.{law_own_names}
+use Rattle.uc_own_names.proofs.OwnNamesLemmas.{run_first, law_own_names}
 use Rattle.uc_rooted_runs.specs.FreshStates.{BindsBegun, AsksBare, TakesOthersBy, KeepsFresh}
 use Rattle.uc_rooted_runs.specs.MainRuns.{EndsMains}
 use Rattle.uc_rooted_runs.specs.Outlasting.{SparesAt, IsAlone}
@@ -41,7 +44,7 @@ use Rattle.uc_rooted_runs.specs.MadeRuns.{IsMade, AllMade}
 use Rattle.uc_rooted_runs.proofs.MadeRuns.{law_made_runs}
 use Rattle.uc_rooted_runs.specs.RootedRuns.{UpheldBy, MayUphold, RunUpholds}
 use Rattle.uc_rooted_runs.specs.UnmarkedRuns.{LeftBehind, MayLeave, RunLeft}
-use Rattle.uc_rooted_runs.specs.KeptRuns.{KeepsAt, Keeps, RideKeeps, SpawnsKept, MayKeep, RunKeeps, LawKeptRuns, RootedBy, MayRoot, RunRooted, LawForgetsNames}
+use Rattle.uc_rooted_runs.specs.KeptRuns.{KeepsAt, Keeps, RideKeeps, SpawnsKept, MayKeep, RunKeeps, LawKeptRuns, IsStood, RootedBy, MayRoot, RunRooted, LawForgetsNames}
 use Rattle.uc_rooted_runs.proofs.MainRuns.{law_mains}
 use Rattle.uc_rooted_runs.proofs.OutlastRuns.{law_outlast_runs}
 use Rattle.uc_rooted_runs.proofs.OutlastNames.{law_outlast_names}
@@ -158,7 +161,10 @@ module _ (t : Table) (few : Few) (own : Exec → Value → Ty → Bool) (yet : E
     asked = k.asked;
     before = k.before;
     outlasts = run_both (with_before k.before makers) k.asked source input opts r g k.keeps (law_outlast_names k.asked k.before source input opts (j ++ a) x r range f on l h (record { makers = makers; made = m; spawned = s }));
-    based = k.based;
+    based = λ n cs i w b d e.
+        let made = law_made_runs.there source input opts (j ++ a) x r range f on in
+        let is = in_world (run_made source input opts r) source (j ++ a) x made (run_first source input opts range r f on) n cs i in
+        based_of t few (with_before k.before makers) k.asked (run_made source input opts r) yet own (j ++ a) x k.first (law_made_runs.later source input opts (j ++ a) x r (record { makers = makers; made = m; spawned = s })) n is w b d e (k.based n cs i w b d e);
     beside = law_beside t few j a x own yet u o left k.beside;
   }
   upheld j a x r f on l h g m s u q left k = tt
