@@ -29,7 +29,7 @@ use Rattle.uc_rooted_runs.specs.Makers.{Placed, Makers}
 use Rattle.uc_rooted_runs.specs.Births.{AllMadeLater}
 use Rattle.uc_rooted_runs.specs.FreshStates.{BindsBegun, AsksBare}
 use Rattle.uc_rooted_runs.specs.Mains.{CallsNoMain}
-use Rattle.uc_rooted_runs.specs.Outlasting.{Covered, SparesAt}
+use Rattle.uc_rooted_runs.specs.Outlasting.{Covered, SparesAt, HadBefore}
 use Rattle.uc_rooted_runs.specs.OutlastRuns.{with_before, made_behind, ride_made, run_made, now}
 use Rattle.uc_rooted_runs.specs.Upwards.{IsThere, OutlastWorld}
 use Rattle.uc_rooted_runs.specs.Beside.{IsBeside}
