@@ -1,5 +1,5 @@
 -- Names tell the rest, so nobody has at hand what has gone.
-use Rattle.std.proofs.Common.{◌≡◌, ℕ, Bool, true, false, List, [], ◌∷◌, ◌++◌, refl}
+use Rattle.std.proofs.Common.{◌≡◌, ℕ, Bool, true, false, List, [], ◌∷◌, ◌++◌, refl, subst}
 use Rattle.uc_tree.specs.Source.{Source}
 use Rattle.uc_entry.specs.declared.entry.Entry.{Entry}
 use Rattle.uc_entry.specs.declared.entry.Options.{Options}
@@ -23,9 +23,10 @@ use Rattle.uc_typing.specs.Typing.{Ty, Table}
 use Rattle.uc_life_laws.specs.Things.{Few}
 use Rattle.uc_rooted_runs.specs.Makers.{Placed, Makers}
 use Rattle.uc_rooted_runs.specs.Births.{MakesLater, RunSpawnsLater}
-use Rattle.uc_own_names.specs.OwnNames.{StaysOwn, RunOwns}
+use Rattle.uc_own_names.specs.OwnNames.{StepOwn, StaysOwn, RunOwns}
 use Rattle.uc_own_names.proofs.OwnNamesLemmas.{law_own_names}
-use Rattle.uc_rooted_runs.specs.FreshStates.{BindsBegun, AsksBare, TakesOthersBy, KeepsFresh}
+use Rattle.uc_rooted_runs.specs.Binds.{BindsOwn}
+use Rattle.uc_rooted_runs.specs.FreshStates.{AsksBare, TakesOthersBy, KeepsFresh}
 use Rattle.uc_rooted_runs.specs.MainRuns.{EndsMains}
 use Rattle.uc_rooted_runs.specs.Outlasting.{SparesAt, IsAlone}
 use Rattle.uc_rooted_runs.specs.OutlastRuns.{with_before, made_behind, ride_made, made_asked, run_made, now, OutlastsAt, RideOutlasts, SpawnsAlone, MayOutlast, RunOutlasts}
@@ -33,6 +34,7 @@ use Rattle.uc_rooted_runs.specs.OutlastNames.{NamesAt, RideNames, SpawnsNew, May
 use Rattle.uc_rooted_runs.specs.RootedRuns.{UpheldBy, MayUphold, RunUpholds}
 use Rattle.uc_rooted_runs.specs.UnmarkedRuns.{LeftBehind, MayLeave, RunLeft}
 use Rattle.uc_rooted_runs.specs.KeptRuns.{KeepsAt, Keeps, RideKeeps, SpawnsKept, MayKeep, RunKeeps, LawKeptRuns, RootedBy, MayRoot, RunRooted, LawForgetsNames}
+use Rattle.uc_rooted_runs.proofs.Binds.{law_binds}
 use Rattle.uc_rooted_runs.proofs.MainRuns.{law_mains}
 use Rattle.uc_rooted_runs.proofs.OutlastRuns.{law_outlast_runs}
 use Rattle.uc_rooted_runs.proofs.OutlastNames.{law_outlast_names}
@@ -47,16 +49,19 @@ module _ (source : Source) where
   takes s h (TakeDownNow ∷ todo) = h
   takes s h (p ∷ todo) = tt
 
-  keeps_at : (s : State) → BindsBegun source s → EndsMains s → AsksBare source s → IsAlone s.env → KeepsFresh source s
-  keeps_at s b e a h = record { binds = b; ends = record { mains = e.bare; takes = takes s h s.run.control; asks = a } }
+  keeps_at : (j : Journal) (w : World) (t : ℕ) (s : State) → BindsOwn source s → EndsMains s → AsksBare source s → StaysOwn source j w t s → KeepsFresh source s
+  keeps_at j w t s b e a h = record {
+    binds = law_binds source s h.now.alone (λ u g. (subst (StepOwn j w t) g h.next).alone) b;
+    ends = record { mains = e.bare; takes = takes s h.now.alone s.run.control; asks = a };
+  }
 
-  ride_keeps : (j : Journal) (w : World) (t : ℕ) {s u : State} {q k : ℕ} {a : Asked} (r : Rides source s q u k a) → RideMeets (BindsBegun source) source s q u k a r → RideMeets EndsMains source s q u k a r → RideMeets (AsksBare source) source s q u k a r → RideMeets (StaysOwn source j w t) source s q u k a r → RideMeets (KeepsFresh source) source s q u k a r
+  ride_keeps : (j : Journal) (w : World) (t : ℕ) {s u : State} {q k : ℕ} {a : Asked} (r : Rides source s q u k a) → RideMeets (BindsOwn source) source s q u k a r → RideMeets EndsMains source s q u k a r → RideMeets (AsksBare source) source s q u k a r → RideMeets (StaysOwn source j w t) source s q u k a r → RideMeets (KeepsFresh source) source s q u k a r
   ride_keeps j w t slices b e a o = tt
-  ride_keeps j w t (goes_on {s} g r) b e a o = (keeps_at s b.0 e.0 a.0 o.0.now.alone, ride_keeps j w t r b.1 e.1 a.1 o.1)
-  ride_keeps j w t (ticks {s} g r) b e a o = (keeps_at s b.0 e.0 a.0 o.0.now.alone, ride_keeps j w t r b.1 e.1 a.1 o.1)
-  ride_keeps j w t (asks {s} g) b e a o = keeps_at s b e a o.now.alone
+  ride_keeps j w t (goes_on {s} g r) b e a o = (keeps_at j w t s b.0 e.0 a.0 o.0, ride_keeps j w t r b.1 e.1 a.1 o.1)
+  ride_keeps j w t (ticks {s} g r) b e a o = (keeps_at j w t s b.0 e.0 a.0 o.0, ride_keeps j w t r b.1 e.1 a.1 o.1)
+  ride_keeps j w t (asks {s} g) b e a o = keeps_at j w t s b e a o
 
-  run_keeps : (input : List ℕ) (opts : Options) (j : Journal) (w : World) (r : Runs source input opts j w) → RunMeets (BindsBegun source) source input opts j w r → RunMeets EndsMains source input opts j w r → RunMeets (AsksBare source) source input opts j w r → RunOwns source input opts j w r → RunMeets (KeepsFresh source) source input opts j w r
+  run_keeps : (input : List ℕ) (opts : Options) (j : Journal) (w : World) (r : Runs source input opts j w) → RunMeets (BindsOwn source) source input opts j w r → RunMeets EndsMains source input opts j w r → RunMeets (AsksBare source) source input opts j w r → RunOwns source input opts j w r → RunMeets (KeepsFresh source) source input opts j w r
   run_keeps input opts _ _ begun b e a o = tt
   run_keeps input opts _ _ (more {j} {w} r on (gives p t v le)) b e a o = (run_keeps input opts j w r b.0 e.0 a.0 o.0, tt)
   run_keeps input opts _ _ (more {j} {w} r on (no_room p t v le)) b e a o = (run_keeps input opts j w r b.0 e.0 a.0 o.0, tt)

@@ -9,6 +9,7 @@ pub mod OutlastSteps
 pub mod OutlastWalk
 pub mod Outlasting
 pub mod Upwards
+pub mod Binds
 pub mod OutlastRuns
 pub mod RootedRuns
 pub mod MainKeeping
