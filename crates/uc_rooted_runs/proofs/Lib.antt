@@ -15,6 +15,7 @@ pub mod RootedRuns
 pub mod MainKeeping
 pub mod MainSteps
 pub mod MainWalk
+pub mod EndSteps
 pub mod MainRuns
 pub mod OutlastNames
 pub mod UnmarkedRuns
