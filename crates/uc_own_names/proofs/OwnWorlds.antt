@@ -2,8 +2,7 @@
 use Rattle.std.proofs.Common.{◌≡◌, ℕ, ◌==◌, ◌<◌, ◌≤◌, Bool, true, false, List, [], ◌∷◌, Option, Some, None, refl, sym, ap, ◌∙◌, subst, ⊎_elim}
 use Rattle.std.specs.Prelude.{nat_eq, if◌then◌else◌}
 use Rattle.std.proofs.lemmas.Bool.{eqb-true, eq-eqb, cases_lt}
-use Rattle.uc_tree.specs.Source.{Source}
-use Rattle.uc_entry.specs.declared.entry.Options.{Options}
+use Rattle.uc_tree.specs.Source.{Source, routine_of}
 use Rattle.uc_entry.specs.Keyed.{find}
 use Rattle.uc_acts.specs.Journal.{Journal, held}
 use Rattle.uc_acts.specs.Known.{has, task_count, owner}
@@ -13,6 +12,7 @@ use Rattle.uc_machine.specs.declared.exec.Home.{Home}
 use Rattle.uc_machine.specs.declared.exec.Home.TheVariants as home
 use Rattle.uc_machine.specs.Executions.{members_at, slot_in}
 use Rattle.uc_machine.specs.Pieces.{State, Env, Members}
+use Rattle.uc_machine.specs.Quiet.{first_state}
 use Rattle.uc_meaning.specs.Runs.{World, hand_of, drawn}
 use Rattle.uc_program_laws.proofs.Ticks.{not_true}
 use Rattle.uc_program_laws.proofs.Makes.{same_holder}
@@ -22,14 +22,14 @@ use Rattle.uc_name_laws.proofs.Homes.{no_both, none_some, the_same}
 use Rattle.uc_named_runs.specs.NamedRuns.{is_here}
 use Rattle.uc_named_runs.proofs.Worlds.{WorldNamed, found_home, absent_home}
 use Rattle.uc_named_runs.proofs.RunningWorlds.{WorldRuns}
-use Rattle.uc_own_names.specs.OwnNames.{at_hand, HasOwnName, IsElsewhere, IsFirst}
+use Rattle.uc_own_names.specs.OwnNames.{at_hand, HasOwnName, IsElsewhere}
 use Rattle.uc_own_names.proofs.Alone.{NoRest, empty_rests, Other, parked_other}
 
 one_and_one : (u v : ℕ) → u ∷ [] ≡ v ∷ [] → u ≡ v
 one_and_one u v h = cc
 
 -- nothing is in a hand in which nothing is found
-no_hand : (ps : List (ℕ × Members)) → ((o : ℕ) → find o ps ≡ None) → ps ≡ []
+pub no_hand : (ps : List (ℕ × Members)) → ((o : ℕ) → find o ps ≡ None) → ps ≡ []
 no_hand [] f = refl
 no_hand (p ∷ ps) f =
     let this : find p.0 (p ∷ ps) ≡ Some p.1 = ap (λ b. if b then Some p.1 else find p.0 ps) (eq-eqb p.0 p.0 refl) in
@@ -45,10 +45,10 @@ parked_home F h f (p ∷ ps) = (slot p.1, parked_home F h f ps)
     slot (Some x) = f
 
 -- a task that is not spawned has no execution that does not run
-first_env : (P : Exec → Ex → Type 0) (s : State) → IsFirst s → EnvBy P s.env
-first_env P s f = subst (λ (v : State). EnvBy P v.env) (sym f.is) (record { house = (tt, tt); hand = tt })
+pub first_env : (P : Exec → Ex → Type 0) (source : Source) (s : State) → s ≡ first_state (routine_of source source.main) 0 → EnvBy P s.env
+first_env P source s e = subst (λ (v : State). EnvBy P v.env) (sym e) (record { house = (tt, tt); hand = tt })
 
-module _ {j : Journal} {w : World} (sound : Sound j) (serials : Home → ℕ) (y : WorldNamed serials j w) (x : WorldRuns j w) (later : (v : ℕ) → task_count j ≤ v → IsFirst (w.tasks v)) where
+module _ (source : Source) {j : Journal} {w : World} (sound : Sound j) (serials : Home → ℕ) (y : WorldNamed serials j w) (x : WorldRuns j w) (later : (v : ℕ) → task_count j ≤ v → w.tasks v ≡ first_state (routine_of source source.main) 0) where
   -- where one is that has nothing to do, a task has something at hand
   there_home : (t : ℕ) (h : Home) (k : ℕ) → slot_in k (members_at h (drawn j w t).env) ≡ Some None → at_hand j w t h ≡ true
   there_home t (home.Task a) k e = by (nat_eq a (w.tasks t).env.own) e
@@ -139,7 +139,7 @@ module _ {j : Journal} {w : World} (sound : Sound j) (serials : Home → ℕ) (y
         not_true (at_hand j w t h) (λ g. no_both (v == t) (eq-eqb v t (hands_apart t v lt le h g f)) e)
 
     tasks_elsewhere : (v : ℕ) → (v == t) ≡ false → EnvBy (λ m z. at_hand j w t m.home ≡ false) (w.tasks v).env
-    tasks_elsewhere v e = ⊎_elim (λ le. known v le e) (λ le. first_env (λ m z. at_hand j w t m.home ≡ false) (w.tasks v) (later v le)) (cases_lt v (task_count j))
+    tasks_elsewhere v e = ⊎_elim (λ le. known v le e) (λ le. first_env (λ m z. at_hand j w t m.home ≡ false) source (w.tasks v) (later v le)) (cases_lt v (task_count j))
       where
         known : (v : ℕ) → v < task_count j → (v == t) ≡ false → EnvBy (λ m z. at_hand j w t m.home ≡ false) (w.tasks v).env
         known v le e = record {

@@ -1,6 +1,6 @@
 -- Runs of programs in which who runs has a name of its own: no other execution has it, in the task or elsewhere.
 use Rattle.std.specs.Prelude.{◌≡◌, ℕ, ◌<◌, ◌≤◌, ◌==◌, Bool, true, false, List}
-use Rattle.uc_tree.specs.Source.{Source, Routine}
+use Rattle.uc_tree.specs.Source.{Source, routine_of}
 use Rattle.uc_entry.specs.declared.entry.Entry.{Entry}
 use Rattle.uc_entry.specs.declared.entry.Options.{Options}
 use Rattle.uc_acts.specs.Journal.{Journal, held, is_over}
@@ -42,12 +42,6 @@ pub record IsElsewhere (j : Journal) (w : World) (t : ℕ) : Type 0 where
   pub tasks : (v : ℕ) → (v == t) ≡ false → EnvBy (λ n x. at_hand j w t n.home ≡ false) (w.tasks v).env
   pub homes : (o : ℕ) → has (held t j) o ≡ false → MembersBy (λ n x. at_hand j w t n.home ≡ false) (Object o) (w.homes o)
 
--- a task that is not spawned yet, at the start of some main
-pub record IsFirst (s : State) : Type 0 where
-  pub routine : Routine
-  pub object : ℕ
-  pub is : s ≡ first_state routine object
-
 -- in a state to which a task comes, what runs is at home where the task has something at hand, and nothing else in hand has its name
 pub record IsOwn (j : Journal) (w : World) (t : ℕ) (s : State) : Type 0 where
   pub at_home : at_hand j w t s.env.exec.home ≡ true
@@ -80,11 +74,11 @@ module _ (source : Source) where
   RunOwns input opts _ _ (more {j} {w} {a} {w' = x} r o m) = RunOwns input opts j w r × MayOwn opts input j w a x m
 
 -- in a run: who runs in each task that was spawned has a name of its own and lives apart from what other tasks have at hand, at rest and in all
--- states of rides; tasks that are not spawned are at the start of some main
+-- states of rides; tasks that are not spawned yet are as task 0 began
 pub record AllOwnNames (source : Source) (input : List ℕ) (opts : Options) (j : Journal) (w : World) (r : Runs source input opts j w) : Type 0 where
   pub rests : (t : ℕ) → t < task_count j → HasOwnName j w t
   pub elsewhere : (t : ℕ) → t < task_count j → IsElsewhere j w t
-  pub later : (v : ℕ) → task_count j ≤ v → IsFirst (w.tasks v)
+  pub later : (v : ℕ) → task_count j ≤ v → w.tasks v ≡ first_state (routine_of source source.main) 0
   pub comes : (t : ℕ) (s : State) (c : Comes source j w t s) →
       LeadsMeet Spares source (answered source c.given (drawn j w t)) s c.leads → IsOwn j w t s
   pub rides : RunOwns source input opts j w r

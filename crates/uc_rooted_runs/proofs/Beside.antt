@@ -1,5 +1,5 @@
 -- Where an object goes, who runs alone could still have to do with it.
-use Rattle.std.proofs.Common.{◌≡◌, ℕ, ◌==◌, ◌<◌, ◌≤◌, ◌⊎◌, inl, inr, Bool, true, false, List, [], ◌∷◌, ◌++◌, Option, Some, None, refl, sym, subst, ⊎_elim}
+use Rattle.std.proofs.Common.{◌≡◌, ℕ, ◌==◌, ◌<◌, ◌≤◌, ◌⊎◌, inl, inr, Bool, true, false, List, [], ◌∷◌, ◌++◌, Option, Some, None, refl, sym, ◌∙◌, subst, ⊎_elim}
 use Rattle.std.specs.Prelude.{nat_eq}
 use Rattle.std.proofs.lemmas.Bool.{eqb-true, eq-eqb, cases_lt}
 use Rattle.uc_entry.specs.declared.entry.Entry.{Entry}
@@ -11,7 +11,7 @@ use Rattle.uc_machine.specs.declared.exec.Home.TheVariants as home
 use Rattle.uc_machine.specs.declared.exec.Owner.TheVariants.{Frame, Fields}
 use Rattle.uc_machine.specs.declared.exec.Stage.{Stage}
 use Rattle.uc_machine.specs.declared.exec.Stage.TheVariants.{Fresh, Started, Ended}
-use Rattle.uc_machine.specs.Executions.{Execution}
+use Rattle.uc_machine.specs.Executions.{Execution, others}
 use Rattle.uc_machine.specs.Pieces as piece
 use Rattle.uc_machine.specs.Pieces.{Value, Number, Place, Running, Nothing, Todo, Active, Members}
 use Rattle.uc_meaning.specs.Runs.{World}
@@ -111,8 +111,27 @@ module _ (t : Table) (few : Few) (j : Journal) (a : List Entry) (x : World) (own
       let none : (c : ℕ) → InMaking k.sigs ((x.tasks v).run ∷ (x.tasks v).callers) (piece.Object o) (Raw c) → ⊥ = λ c m. other (h.name.running v lt (same (x.tasks v).env.exec (b.running v lt on given k c m))) in
       record { waiting = λ c m. none c (inr m); operands = inl none }
 
+  -- a task that is not spawned yet
+  first_apart : (v : ℕ) → task_count (j ++ a) ≤ v → (gs : List Sig) (c : ℕ) → InMaking gs ((x.tasks v).run ∷ (x.tasks v).callers) (piece.Object o) (Raw c) → ⊥
+  first_apart v le gs c m = by m
+    where
+      waiting : (hs : List Sig) (cs : List Active) → cs ≡ [] → InMaking hs cs (piece.Object o) (Raw c) → ⊥
+      waiting hs [] e k = absurd k
+      waiting hs (q ∷ cs) e k = absurd (cc)
+
+      same : piece.Object o ≡ piece.Object 0 → o ≡ 0
+      same e = cc
+
+      by : InMaking gs ((x.tasks v).run ∷ (x.tasks v).callers) (piece.Object o) (Raw c) → ⊥
+      by (inl q) = let k = q.2.1 in b.other (same (k.2 ∙ h.first_object v le))
+      by (inr k) = waiting (others gs) (x.tasks v).callers (h.none_waits v le) k
+
+  later_apart : (v : ℕ) → task_count (j ++ a) ≤ v → (given : List Ty) (k : KnowsState t (lasting few j) given (x.tasks v)) → RunApart t (lasting few j) (lasting_numbers few.numbers (j ++ a)) o given (x.tasks v) k
+  later_apart v le given k =
+      record { waiting = λ c m. first_apart v le k.sigs c (inr m); operands = inl (λ c m. first_apart v le k.sigs c m) }
+
   alive : (v : ℕ) → has_ended v (j ++ a) ≡ false → (given : List Ty) (k : KnowsState t (lasting few j) given (x.tasks v)) → RunApart t (lasting few j) (lasting_numbers few.numbers (j ++ a)) o given (x.tasks v) k
-  alive v on given k = ⊎_elim (λ lt. by (v == u) refl lt on given k) (λ le. b.later v le given k) (cases_lt v (task_count (j ++ a)))
+  alive v on given k = ⊎_elim (λ lt. by (v == u) refl lt on given k) (λ le. later_apart v le given k) (cases_lt v (task_count (j ++ a)))
     where
       by : (c : Bool) → (v == u) ≡ c → v < task_count (j ++ a) → has_ended v (j ++ a) ≡ false → (given : List Ty) (k : KnowsState t (lasting few j) given (x.tasks v)) → RunApart t (lasting few j) (lasting_numbers few.numbers (j ++ a)) o given (x.tasks v) k
       by true e lt = subst (λ q. has_ended q (j ++ a) ≡ false → (given : List Ty) (k : KnowsState t (lasting few j) given (x.tasks q)) → RunApart t (lasting few j) (lasting_numbers few.numbers (j ++ a)) o given (x.tasks q) k) (sym (eqb-true v u e)) b.runner

@@ -1,17 +1,23 @@
 -- Names tell the rest, so nobody has at hand what has gone.
-use Rattle.std.proofs.Common.{◌≡◌, ℕ, Bool, true, false, List, [], ◌∷◌, ◌++◌, refl, subst}
-use Rattle.uc_tree.specs.Source.{Source}
+use Rattle.std.proofs.Common.{◌≡◌, ℕ, ◌<◌, ◌≤◌, ◌⊎◌, inl, inr, Bool, true, false, List, [], ◌∷◌, ◌++◌, Option, Some, None, refl, sym, ap, ◌∙◌, subst, ⊎_elim}
+use Rattle.std.specs.Prelude.{if◌then◌else◌}
+use Rattle.std.proofs.lemmas.Bool.{cases_lt}
+use Rattle.uc_tree.specs.Source.{Source, routine_of}
 use Rattle.uc_entry.specs.declared.entry.Entry.{Entry}
 use Rattle.uc_entry.specs.declared.entry.Options.{Options}
 use Rattle.uc_entry.specs.declared.request.Asked.{Asked}
 use Rattle.uc_entry.specs.declared.request.Request.{Request}
 use Rattle.uc_entry.specs.declared.request.Request.TheVariants as ask
 use Rattle.uc_acts.specs.Journal.{Journal, is_over}
-use Rattle.uc_acts.specs.Acts.{act, lone_limit}
+use Rattle.uc_acts.specs.Known.{task_count}
+use Rattle.uc_acts.specs.Acts.{act}
 use Rattle.uc_acts.specs.KernelRuns.{InRange}
-use Rattle.uc_acts.proofs.Bounds.{over_limit}
 use Rattle.uc_machine.specs.declared.exec.Exec.{Exec}
-use Rattle.uc_machine.specs.Pieces.{Value, Todo, SetUpNow, TakeDownNow, Finish, Active, State}
+use Rattle.uc_machine.specs.declared.exec.Home.{Home}
+use Rattle.uc_machine.specs.declared.exec.Home.TheVariants as home
+use Rattle.uc_machine.specs.Executions.{Execution}
+use Rattle.uc_machine.specs.Pieces.{Value, Todo, SetUpNow, TakeDownNow, Finish, Active, State, Members}
+use Rattle.uc_machine.specs.Quiet.{first_state}
 use Rattle.uc_machine.specs.Rides.{Rides, slices, goes_on, ticks, asks}
 use Rattle.uc_meaning.specs.Runs.{World, May, Runs, world_after, gives, no_room, acts, begun, more}
 use Rattle.uc_program_laws.specs.Fitting.{RunFits}
@@ -20,11 +26,14 @@ use Rattle.uc_name_laws.specs.NameSteps as names
 use Rattle.uc_name_laws.proofs.Homes.{no_both}
 use Rattle.uc_named_runs.specs.RunningRuns.{RunLeaves}
 use Rattle.uc_typing.specs.Typing.{Ty, Table}
-use Rattle.uc_life_laws.specs.Things.{Few}
+use Rattle.uc_life_laws.specs.Things.{Few, Base}
+use Rattle.uc_life_laws.specs.Knowing.{main_of}
+use Rattle.uc_life_laws.specs.LifeStates.{SlotBy, ParkedBy, HandBy, MembersBy}
+use Rattle.uc_world_laws.specs.Rooted.{InSlot, InParked, InHand, InMembers, Lives}
 use Rattle.uc_rooted_runs.specs.Makers.{Placed, Makers}
 use Rattle.uc_rooted_runs.specs.Births.{MakesLater, RunSpawnsLater}
 use Rattle.uc_own_names.specs.OwnNames.{StepOwn, StaysOwn, RunOwns}
-use Rattle.uc_own_names.proofs.OwnNamesLemmas.{law_own_names}
+use Rattle.uc_own_names.proofs.OwnNamesLemmas.{run_first, law_own_names}
 use Rattle.uc_rooted_runs.specs.Binds.{BindsOwn}
 use Rattle.uc_rooted_runs.specs.FreshStates.{TakesOthersBy, KeepsFresh}
 use Rattle.uc_rooted_runs.specs.Mains.{FindsAll}
@@ -32,9 +41,12 @@ use Rattle.uc_rooted_runs.specs.MainRuns.{EndsMains}
 use Rattle.uc_rooted_runs.specs.Outlasting.{SparesAt, IsAlone}
 use Rattle.uc_rooted_runs.specs.OutlastRuns.{with_before, made_behind, ride_made, made_asked, run_made, now, OutlastsAt, RideOutlasts, SpawnsAlone, MayOutlast, RunOutlasts}
 use Rattle.uc_rooted_runs.specs.OutlastNames.{NamesAt, RideNames, SpawnsNew, MayName, RunNames}
+use Rattle.uc_rooted_runs.specs.Upwards.{IsBased}
+use Rattle.uc_rooted_runs.specs.MadeRuns.{IsMade, AllMade}
+use Rattle.uc_rooted_runs.proofs.MadeRuns.{law_made_runs}
 use Rattle.uc_rooted_runs.specs.RootedRuns.{UpheldBy, MayUphold, RunUpholds}
 use Rattle.uc_rooted_runs.specs.UnmarkedRuns.{LeftBehind, MayLeave, RunLeft}
-use Rattle.uc_rooted_runs.specs.KeptRuns.{KeepsAt, Keeps, RideKeeps, SpawnsKept, MayKeep, RunKeeps, LawKeptRuns, RootedBy, MayRoot, RunRooted, LawForgetsNames}
+use Rattle.uc_rooted_runs.specs.KeptRuns.{KeepsAt, Keeps, RideKeeps, SpawnsKept, MayKeep, RunKeeps, LawKeptRuns, IsStood, RootedBy, MayRoot, RunRooted, LawForgetsNames}
 use Rattle.uc_rooted_runs.proofs.Binds.{law_binds}
 use Rattle.uc_rooted_runs.proofs.MainRuns.{law_mains}
 use Rattle.uc_rooted_runs.proofs.OutlastRuns.{law_outlast_runs}
@@ -105,6 +117,49 @@ pub law_kept_runs : LawKeptRuns
 law_kept_runs asked before source input opts j w r range fits on leaves spares mains b k =
     law_outlast_runs asked before source input opts j w r range fits on b (run_both (with_before before b.makers) asked source input opts r (law_mains.runs source input opts j w r mains) k (law_outlast_names asked before source input opts j w r range fits on leaves spares b))
 
+-- who lives was made, or is the main of task 0
+
+module _ (made : Exec → Bool) where
+  abbrev MadeEx : Exec → Execution (List Todo) Value → Type 0
+  MadeEx n y = IsMade made n
+
+  in_slot : (n : Exec) (cs : List Active) (m : Exec) (o : Option (Execution (List Todo) Value)) → InSlot n cs m o → SlotBy MadeEx m o → IsMade made n
+  in_slot n cs m None i h = absurd i
+  in_slot n cs m (Some y) i h = subst (IsMade made) (sym i.0) h
+
+  in_parked : (n : Exec) (cs : List Active) (h : Home) (ps : List (ℕ × Option (Execution (List Todo) Value))) → InParked n cs h ps → ParkedBy MadeEx h ps → IsMade made n
+  in_parked n cs h [] i k = absurd i
+  in_parked n cs h (p ∷ ps) (inl i) k = in_slot n cs (record { home = h; serial = p.0 }) p.1 i k.0
+  in_parked n cs h (p ∷ ps) (inr i) k = in_parked n cs h ps i k.1
+
+  in_hand : (n : Exec) (cs : List Active) (ps : List (ℕ × Members)) → InHand n cs ps → HandBy MadeEx ps → IsMade made n
+  in_hand n cs [] i k = absurd i
+  in_hand n cs (p ∷ ps) (inl i) k = in_parked n cs (home.Object p.0) p.1.parked i k.0
+  in_hand n cs (p ∷ ps) (inr i) k = in_hand n cs ps i k.1
+
+  in_members : (n : Exec) (cs : List Active) (h : Home) (m : Option Members) → InMembers n cs h m → MembersBy MadeEx h m → IsMade made n
+  in_members n cs h None i k = absurd i
+  in_members n cs h (Some m) i k = in_parked n cs h m.parked i k
+
+  in_world : (source : Source) (j : Journal) (x : World) → AllMade made j x → ((v : ℕ) → task_count j ≤ v → x.tasks v ≡ first_state (routine_of source source.main) 0) → (n : Exec) (cs : List Active) → Lives j x n cs → IsMade made n
+  in_world source j x all later n cs (inl i) =
+      ⊎_elim (λ lt. subst (IsMade made) (sym i.2) (all.running i.0 lt)) (λ le. inl (i.2 ∙ ap (λ (s : State). s.env.exec) (later i.0 le))) (cases_lt i.0 (task_count j))
+  in_world source j x all later n cs (inr (inl (v, inl i))) = in_parked n cs (home.Task (x.tasks v).env.own) (x.tasks v).env.house.parked i (all.tasks v).house
+  in_world source j x all later n cs (inr (inl (v, inr i))) = in_hand n cs (x.tasks v).env.hand i (all.tasks v).hand
+  in_world source j x all later n cs (inr (inr (q, i))) = in_members n cs (home.Object q) (x.homes q) i (all.homes q)
+
+-- so what it has of others is based where it stood
+based_of : (t : Table) (few : Few) (makers : Makers) (asked made : Exec → Bool) (yet : Exec → List Active → Value → Ty → Bool) (own : Exec → Value → Ty → Bool) (j : Journal) (x : World) → ((w : Value) (b : Ty) → Base few (main_of 0) w b → own (main_of 0) w b ≡ true) → ((n : Exec) → made n ≡ true → makers.rank (makers.parent n) < makers.rank n) → (n : Exec) → IsMade made n → (w : Value) (b : Ty) → Base few n w b → own n w b ≡ false → IsStood t few makers asked yet j x n w b → IsBased t few makers (now makers asked made) yet j x n w b
+based_of t few makers asked made yet own j x first later n (inl e) w b k f s =
+    no_both (own n w b) (ap (λ m. own m w b) e ∙ first w b (subst (λ m. Base few m w b) e k)) f
+based_of t few makers asked made yet own j x first later n (inr e) w b k f s = record {
+  asked = ap (λ (c : Bool). if c then made n else false) s.is_asked ∙ e;
+  later = later n e;
+  active = s.active;
+  lives = s.lives;
+  stood = s.stood;
+}
+
 module _ (t : Table) (few : Few) (own : Exec → Value → Ty → Bool) (yet : Exec → List Active → Value → Ty → Bool) (makers : Makers) (source : Source) (input : List ℕ) (opts : Options) (range : InRange opts) where
   -- behind one act
   upheld : (j : Journal) (a : List Entry) (x : World) (r : Runs source input opts (j ++ a) x) → RunFits source input opts (j ++ a) x r → is_over (j ++ a) ≡ false → RunLeaves source input opts (j ++ a) x r → RunMeets names.Spares source input opts (j ++ a) x r → RunMeets (EndsMains source) source input opts (j ++ a) x r → RunMeets (MakesLater source makers) source input opts (j ++ a) x r → RunSpawnsLater makers source input opts (j ++ a) x r → (u : ℕ) (q : Request) → LeftBehind t few (j ++ a) x u q → RootedBy t few own yet makers source input opts j a x r u q → UpheldBy t few own yet makers source input opts j a x r q
@@ -112,7 +167,10 @@ module _ (t : Table) (few : Few) (own : Exec → Value → Ty → Bool) (yet : E
     asked = k.asked;
     before = k.before;
     outlasts = run_both (with_before k.before makers) k.asked source input opts r g k.keeps (law_outlast_names k.asked k.before source input opts (j ++ a) x r range f on l h (record { makers = makers; made = m; spawned = s }));
-    based = k.based;
+    based = λ n cs i w b d e.
+        let made = law_made_runs.there source input opts (j ++ a) x r range f on in
+        let is = in_world (run_made source input opts r) source (j ++ a) x made (run_first source input opts range r f on) n cs i in
+        based_of t few (with_before k.before makers) k.asked (run_made source input opts r) yet own (j ++ a) x k.first (law_made_runs.later source input opts (j ++ a) x r (record { makers = makers; made = m; spawned = s })) n is w b d e (k.based n cs i w b d e);
     beside = law_beside t few j a x own yet u o left k.beside;
   }
   upheld j a x r f on l h g m s u q left k = tt

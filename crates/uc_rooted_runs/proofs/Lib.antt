@@ -20,4 +20,5 @@ pub mod MainRuns
 pub mod OutlastNames
 pub mod UnmarkedRuns
 pub mod Beside
+pub mod MadeRuns
 pub mod KeptRuns

@@ -50,14 +50,14 @@ use Rattle.uc_rooted_runs.specs.OutlastRuns.{with_before, with_made, made_by, ma
 use Rattle.uc_rooted_runs.specs.OutlastNames.{NamesAt, RideNames, SpawnsNew, MayName, RunNames, LawOutlastNames}
 use Rattle.uc_rooted_runs.proofs.Births.{no_more, none_there, named_given}
 
-grows_on : (here : Home → Bool) (a b c : Home → ℕ) → Grows here a b → Grows here b c → Grows here a c
+pub grows_on : (here : Home → Bool) (a b c : Home → ℕ) → Grows here a b → Grows here b c → Grows here a c
 grows_on here a b c g h = record {
   more = λ k. let x = g.more k in let y = h.more k in omega (arith, x, y);
   same = λ k e. h.same k e ∙ g.same k e;
 }
 
 -- an execution that was not made before a state is made there
-born_there : (source : Source) (s : State) (made : Exec → Bool) (x : Exec) → made_behind source s made x ≡ true → made x ≡ false → IsBorn source s x
+pub born_there : (source : Source) (s : State) (made : Exec → Bool) (x : Exec) → made_behind source s made x ≡ true → made x ≡ false → IsBorn source s x
 born_there source s made x h f = at s.run.control refl h
   where
     one : (r : ℕ) (todo : List Todo) → s.run.control ≡ SetUpNow r ∷ todo → (a : Option Routine) → slice_get source.routines r ≡ a → (m : Option Members) → members_at (home_at s.run.this s.env) s.env ≡ m → with_made a m (new_exec (home_at s.run.this s.env) s.env) made x ≡ true → IsBorn source s x

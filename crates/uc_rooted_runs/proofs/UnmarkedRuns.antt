@@ -3,7 +3,7 @@ use Rattle.std.proofs.Common.{◌≡◌, ℕ, ◌==◌, ◌<◌, ◌≤◌, ◌�
 use Rattle.std.specs.Prelude.{if◌then◌else◌}
 use Rattle.std.proofs.lemmas.Bool.{cases_lt}
 use Rattle.uc_tree.specs.Source as src
-use Rattle.uc_tree.specs.Source.{Source, Purpose, Routine}
+use Rattle.uc_tree.specs.Source.{Source, Purpose, Routine, routine_of}
 use Rattle.uc_entry.specs.declared.entry.Entry.{Entry}
 use Rattle.uc_entry.specs.declared.entry.Options.{Options}
 use Rattle.uc_entry.specs.declared.request.Asked.{Asked}
@@ -35,7 +35,6 @@ use Rattle.uc_named_runs.proofs.Worlds.{run_named, known}
 use Rattle.uc_typing.specs.Typing.{Ty, Table}
 use Rattle.uc_life_laws.specs.Things.{Few, AtField, IsFor, InTodo}
 use Rattle.uc_own_names.specs.OwnNames as own
-use Rattle.uc_own_names.specs.OwnNames.{IsFirst}
 use Rattle.uc_own_names.proofs.OwnNamesLemmas.{law_own_names}
 use Rattle.uc_unmarked_laws.specs.Marks.{Marked, LoneState, LoneStep, Freed, Puts}
 use Rattle.uc_unmarked_laws.specs.Unmarked.{HasOwnName, Unmarked, UnmarkedAt, RunUnmarked}
@@ -55,17 +54,17 @@ module _ (t : Table) (n : Exec) (f : ℕ) (this : Value) where
 abbrev NoMarks : Table → State → Type 0
 NoMarks t s = (w : Value) (a : Ty) → Marked t s.env.exec (s.run ∷ s.callers) w a → ⊥
 
-first_unmarked : (t : Table) (s : State) → IsFirst s → NoMarks t s
-first_unmarked t s f = subst (NoMarks t) (sym f.is) (by f.routine f.object)
+first_unmarked : (t : Table) (source : Source) (s : State) → s ≡ first_state (routine_of source source.main) 0 → NoMarks t s
+first_unmarked t source s e = subst (NoMarks t) (sym e) (by (routine_of source source.main))
   where
-    by : (r : Routine) (o : ℕ) → NoMarks t (first_state r o)
-    by r o w a (inl m) = none_behind t (first_state r o).env.exec 0 (first_state r o).run.this r.purpose r.line w a m
-    by r o w a (inr m) = m
+    by : (r : Routine) → NoMarks t (first_state r 0)
+    by r w a (inl m) = none_behind t (first_state r 0).env.exec 0 (first_state r 0).run.this r.purpose r.line w a m
+    by r w a (inr m) = m
 
 -- a name that no other has
-pub own_name : (t : Table) (j : Journal) (x : World) (u : ℕ) → ((v : ℕ) → task_count j ≤ v → IsFirst (x.tasks v)) → own.HasOwnName j x u → HasOwnName t u x
-own_name t j x u later h = record {
-  running = λ v e. ⊎_elim (λ le. inl (h.running v le e)) (λ le. inr (first_unmarked t (x.tasks v) (later v le))) (cases_lt v (task_count j));
+pub own_name : (t : Table) (source : Source) (j : Journal) (x : World) (u : ℕ) → ((v : ℕ) → task_count j ≤ v → x.tasks v ≡ first_state (routine_of source source.main) 0) → own.HasOwnName j x u → HasOwnName t u x
+own_name t source j x u later h = record {
+  running = λ v e. ⊎_elim (λ le. inl (h.running v le e)) (λ le. inr (first_unmarked t source (x.tasks v) (later v le))) (cases_lt v (task_count j));
   tasks = h.tasks;
   homes = h.homes;
 }
@@ -91,8 +90,14 @@ module _ (t : Table) (few : Few) (source : Source) where
 
 module _ (t : Table) (few : Few) (source : Source) (input : List ℕ) (opts : Options) (range : InRange opts) where
   -- behind an act
-  left_by : (j : Journal) (x : World) (u : ℕ) (q : Request) → ((v : ℕ) → task_count j ≤ v → IsFirst (x.tasks v)) → own.HasOwnName j x u → Freed t few q (x.tasks u) → UnmarkedAt t few u x q → LeftBehind t few j x u q
-  left_by j x u (ask.Gone o) later h f m = record { belongs = f.0; name = h; unmarked = m (own_name t j x u later h) }
+  left_by : (j : Journal) (x : World) (u : ℕ) (q : Request) → ((v : ℕ) → task_count j ≤ v → x.tasks v ≡ first_state (routine_of source source.main) 0) → own.HasOwnName j x u → Freed t few q (x.tasks u) → UnmarkedAt t few u x q → LeftBehind t few j x u q
+  left_by j x u (ask.Gone o) later h f m = record {
+    belongs = f.0;
+    name = h;
+    unmarked = m (own_name t source j x u later h);
+    none_waits = λ v le. ap (λ (s : State). s.callers) (later v le);
+    first_object = λ v le. ap (λ (s : State). s.run.this) (later v le);
+  }
   left_by j x u q later h f m = tt
 
   run_left : {j : Journal} {w : World} (r : Runs source input opts j w) → RunFits source input opts j w r → is_over j ≡ false → RunLeaves source input opts j w r → RunMeets names.Spares source input opts j w r → RunMeets (Puts t few) source input opts j w r → RunUnmarked t few source input opts j w r → RunLeft t few source input opts j w r

@@ -1,5 +1,5 @@
 -- What nobody has to clean up, and names, tell of a world in which an object has just gone.
-use Rattle.std.specs.Prelude.{◌≡◌, ℕ, ◌<◌, ◌≤◌, ◌==◌, Bool, true, false, List, [], ◌∷◌, ◌++◌}
+use Rattle.std.specs.Prelude.{◌≡◌, ℕ, ◌<◌, ◌≤◌, Bool, true, false, List, ◌∷◌, ◌++◌}
 use Rattle.uc_entry.specs.declared.entry.Entry.{Entry}
 use Rattle.uc_acts.specs.Journal.{Journal}
 use Rattle.uc_acts.specs.Known.{has_ended, task_count}
@@ -49,9 +49,9 @@ pub record IsBeside (t : Table) (few : Few) (j : Journal) (a : List Entry) (x : 
   pub running : (v : ℕ) → v < task_count (j ++ a) → has_ended v (j ++ a) ≡ false → (given : List Ty)
       (k : KnowsState t (lasting few j) given (x.tasks v)) →
       OwnMaking t few o (x.tasks v).env.exec k.sigs ((x.tasks v).run ∷ (x.tasks v).callers)
-  -- nor does a task that is not spawned, and the one that acts does so no more
-  pub later : (v : ℕ) → task_count (j ++ a) ≤ v → (given : List Ty) (k : KnowsState t (lasting few j) given (x.tasks v)) →
-      RunApart t (lasting few j) (lasting_numbers few.numbers (j ++ a)) o given (x.tasks v) k
+  -- it is not the own object of task 0, as whose tasks look that are not spawned yet
+  pub other : o ≡ 0 → ⊥
+  -- the task that acts does so no more
   pub runner : has_ended u (j ++ a) ≡ false → (given : List Ty) (k : KnowsState t (lasting few j) given (x.tasks u)) →
       RunApart t (lasting few j) (lasting_numbers few.numbers (j ++ a)) o given (x.tasks u) k
 

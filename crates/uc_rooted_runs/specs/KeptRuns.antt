@@ -1,6 +1,6 @@
 -- Runs in which what executions were to clean up as they made others stays with them, as far as names alone do not tell it; so in those nobody has at
 -- hand what has gone.
-use Rattle.std.specs.Prelude.{◌≡◌, ℕ, Bool, true, false, List, ◌∷◌, ◌++◌}
+use Rattle.std.specs.Prelude.{◌≡◌, ℕ, ◌⊎◌, Bool, true, false, List, ◌∷◌, ◌++◌}
 use Rattle.uc_tree.specs.Source.{Source}
 use Rattle.uc_entry.specs.declared.entry.Entry.{Entry}
 use Rattle.uc_entry.specs.declared.entry.Options.{Options}
@@ -20,18 +20,18 @@ use Rattle.uc_name_laws.specs.NameSteps as names
 use Rattle.uc_name_laws.specs.NameSteps.{IsBorn}
 use Rattle.uc_named_runs.specs.RunningRuns.{RunLeaves}
 use Rattle.uc_typing.specs.Typing.{Ty, Table}
-use Rattle.uc_life_laws.specs.Things.{Few, Base}
+use Rattle.uc_life_laws.specs.Things.{Few, Base, Stands}
 use Rattle.uc_life_laws.specs.Knowing.{main_of}
 use Rattle.uc_unmarked_laws.specs.Marks.{Puts}
 use Rattle.uc_world_laws.specs.Lasting.{RunForgets}
-use Rattle.uc_world_laws.specs.Rooted.{IsPlace, Lives}
+use Rattle.uc_world_laws.specs.Rooted.{IsPlace, Lives, Had}
 use Rattle.uc_rooted_runs.specs.Makers.{Placed, Makers}
 use Rattle.uc_rooted_runs.specs.Births.{AllMadeLater}
 use Rattle.uc_rooted_runs.specs.Binds.{BindsOwn}
 use Rattle.uc_rooted_runs.specs.Mains.{CallsNoMain, FindsAll}
-use Rattle.uc_rooted_runs.specs.Outlasting.{Covered, SparesAt}
+use Rattle.uc_rooted_runs.specs.Outlasting.{Covered, SparesAt, HadBefore}
 use Rattle.uc_rooted_runs.specs.OutlastRuns.{with_before, made_behind, ride_made, run_made, now}
-use Rattle.uc_rooted_runs.specs.Upwards.{OutlastWorld, IsBased}
+use Rattle.uc_rooted_runs.specs.Upwards.{IsThere, OutlastWorld}
 use Rattle.uc_rooted_runs.specs.Beside.{IsBeside}
 
 module _ (makers : Makers) (asked : Exec → Bool) where
@@ -80,6 +80,15 @@ LawKeptRuns =
     RunKeeps (with_before before b.makers) asked source input opts r →
     OutlastWorld (with_before before b.makers) (now (with_before before b.makers) asked (run_made source input opts r)) j w
 
+-- what one that lives has of others stood in what the one that made it was to clean up, or had of others, as it made this one, or stands in what that one
+-- has now; so it is asked of this one
+pub record IsStood (t : Table) (few : Few) (makers : Makers) (asked : Exec → Bool) (yet : Exec → List Active → Value → Ty → Bool) (j : Journal) (x : World) (n : Exec) (w : Value) (b : Ty) : Type 0 where
+  pub is_asked : asked n ≡ true
+  pub active : List Active
+  pub lives : IsThere j x (makers.parent n) active
+  pub stood : Stands t few (HadBefore t few makers n) b w ⊎
+      Stands t few (Had t few yet (makers.parent n) active) b w
+
 module _ (t : Table) (few : Few) (own : Exec → Value → Ty → Bool) (yet : Exec → List Active → Value → Ty → Bool) (makers : Makers) (source : Source) (input : List ℕ) (opts : Options) where
   -- behind an act a of task u by which the object o goes, in a run up to it: of some executions it is asked that an outer part of what was to be cleaned
   -- up as they were made stays, and what those that live have of others was among it, or stands in what those have that made them; and what else is no
@@ -88,8 +97,10 @@ module _ (t : Table) (few : Few) (own : Exec → Value → Ty → Bool) (yet : E
     pub asked : Exec → Bool
     pub before : Exec → List Placed
     pub keeps : RunKeeps (with_before before makers) asked source input opts r
+    -- the main of task 0 has nothing of others
+    pub first : (w : Value) (b : Ty) → Base few (main_of 0) w b → own (main_of 0) w b ≡ true
     pub based : (n : Exec) (cs : List Active) → Lives (j ++ a) x n cs → (w : Value) (b : Ty) → Base few n w b → own n w b ≡ false →
-        IsBased t few (with_before before makers) (now (with_before before makers) asked (run_made source input opts r)) yet (j ++ a) x n w b
+        IsStood t few (with_before before makers) asked yet (j ++ a) x n w b
     pub beside : IsBeside t few j a x own yet u o
 
   abbrev pub RootedBy : (j : Journal) (a : List Entry) (x : World) → Runs source input opts (j ++ a) x → ℕ → Request → Type 0

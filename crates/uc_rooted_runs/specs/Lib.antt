@@ -13,4 +13,5 @@ pub mod RootedRuns
 pub mod OutlastNames
 pub mod UnmarkedRuns
 pub mod Beside
+pub mod MadeRuns
 pub mod KeptRuns

@@ -1,13 +1,15 @@
 -- Runs in which nobody has to clean up anything around what goes: who runs has a name of its own.
-use Rattle.std.specs.Prelude.{◌≡◌, ℕ, false, List, ◌++◌}
+use Rattle.std.specs.Prelude.{◌≡◌, ℕ, ◌≤◌, false, List, [], ◌++◌}
 use Rattle.uc_tree.specs.Source.{Source}
 use Rattle.uc_entry.specs.declared.entry.Entry.{Entry}
 use Rattle.uc_entry.specs.declared.entry.Options.{Options}
 use Rattle.uc_entry.specs.declared.request.Request.{Request}
 use Rattle.uc_entry.specs.declared.request.Request.TheVariants as ask
 use Rattle.uc_acts.specs.Journal.{Journal, is_over}
+use Rattle.uc_acts.specs.Known.{task_count}
 use Rattle.uc_acts.specs.Acts.{act}
 use Rattle.uc_acts.specs.KernelRuns.{InRange}
+use Rattle.uc_machine.specs.Pieces.{Object}
 use Rattle.uc_meaning.specs.Runs.{World, May, Runs, world_after, gives, no_room, acts, begun, more}
 use Rattle.uc_program_laws.specs.Fitting.{RunFits}
 use Rattle.uc_value_laws.specs.Opens.{RunMeets}
@@ -27,6 +29,9 @@ module _ (t : Table) (few : Few) where
     pub belongs : Belongs few (x.tasks u).env.exec (few.home o)
     pub name : own.HasOwnName j x u
     pub unmarked : Unmarked t few o x
+    -- tasks that are not spawned yet are as task 0 began
+    pub none_waits : (v : ℕ) → task_count j ≤ v → (x.tasks v).callers ≡ []
+    pub first_object : (v : ℕ) → task_count j ≤ v → (x.tasks v).run.this ≡ Object 0
 
   abbrev pub LeftBehind : Journal → World → ℕ → Request → Type 0
   LeftBehind j x u (ask.Gone o) = IsLeft j x u o

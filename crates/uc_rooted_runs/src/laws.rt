@@ -8,6 +8,7 @@ ghost use Rattle.uc_rooted_runs.specs.FreshRuns.{LawFresh};
 ghost use Rattle.uc_rooted_runs.specs.MainRuns.{LawMains};
 ghost use Rattle.uc_rooted_runs.specs.OutlastRuns.{LawOutlastRuns};
 ghost use Rattle.uc_rooted_runs.specs.KeptRuns.{LawForgetsNames, LawKeptRuns};
+ghost use Rattle.uc_rooted_runs.specs.MadeRuns.{LawMadeRuns};
 ghost use Rattle.uc_rooted_runs.specs.OutlastNames.{LawOutlastNames};
 ghost use Rattle.uc_rooted_runs.specs.Outlasting.{LawOutlasting};
 ghost use Rattle.uc_rooted_runs.specs.RootedRuns.{LawRootedRuns};
@@ -66,6 +67,11 @@ pub fn law_rooted_runs()
 /// other in hand has the name of the running one, and nobody elsewhere has made what was made meanwhile.
 pub fn law_outlast_names()
     ensures { LawOutlastNames }
+{}
+
+/// Each execution that is there was made in the run, but for the main of task 0, and is later than the one that made it.
+pub fn law_made_runs()
+    ensures { LawMadeRuns }
 {}
 
 /// Behind each act by which an object goes nobody has to clean up that in which it was at home, in runs in which
