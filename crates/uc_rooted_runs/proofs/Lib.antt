@@ -9,11 +9,13 @@ pub mod OutlastSteps
 pub mod OutlastWalk
 pub mod Outlasting
 pub mod Upwards
+pub mod Binds
 pub mod OutlastRuns
 pub mod RootedRuns
 pub mod MainKeeping
 pub mod MainSteps
 pub mod MainWalk
+pub mod EndSteps
 pub mod MainRuns
 pub mod OutlastNames
 pub mod UnmarkedRuns

@@ -23,15 +23,11 @@ use Rattle.uc_rooted_runs.specs.Outlasting.{CoverNone}
 use Rattle.uc_rooted_runs.specs.FreshStates.{LeavesNone, MainsBareBy}
 use Rattle.uc_rooted_runs.specs.Mains.{IsBare, AtEnd, MainIn, MainEx, MainMembers, MainState, MainStep, CallsNoMain}
 use Rattle.uc_rooted_runs.specs.MainRuns.{EndsMains, LawMains}
+use Rattle.uc_rooted_runs.proofs.EndSteps as last
+use Rattle.uc_rooted_runs.proofs.EndSteps.{bare_none, EndStep}
 use Rattle.uc_rooted_runs.proofs.MainWalk.{walk, begins, answered_there}
 
--- lines alone have no marks, and cover nothing
-
-bare_none : (f : ℕ) (this : Value) (todo : List Todo) → IsBare todo → placed f this todo [] ≡ []
-bare_none f this [] h = refl
-bare_none f this (piece.Within line ∷ todo) h = bare_none f this todo h
-bare_none f this (p ∷ todo) h = absurd h
-
+-- lines alone cover nothing
 bare_covers : (todo : List Todo) → IsBare todo → CoverNone todo
 bare_covers [] h = tt
 bare_covers (piece.Within line ∷ todo) h = (refl, bare_covers todo h)
@@ -67,10 +63,11 @@ module _ (s : State) (m : MainState s) where
   mains (piece.Unwind ∷ todo) h = unwound todo h
   mains (p ∷ todo) h = tt
 
-  ends : EndsMains s
-  ends = record {
+  ends : (source : Source) → EndsMains source s
+  ends source = record {
     bare = mains s.run.control m.stack.0;
     finish = λ todo e. bare_covers todo (subst (MainIn s.callers) e m.stack.0).1;
+    asks = λ f u e. subst EndStep e (last.walk source s m.stack.0 f);
   }
 
 -- worlds
@@ -107,11 +104,11 @@ module _ (source : Source) where
   ride_mains (ticks {s} e r) h m = ride_mains r h.1 (subst MainStep e (walk source s m h.0))
   ride_mains (asks {s} e) h m = subst MainStep e (walk source s m h)
 
-  ride_ends : {s u : State} {q k : ℕ} {a : Asked} (r : Rides source s q u k a) → RideMeets (CallsNoMain source) source s q u k a r → MainState s → RideMeets EndsMains source s q u k a r
+  ride_ends : {s u : State} {q k : ℕ} {a : Asked} (r : Rides source s q u k a) → RideMeets (CallsNoMain source) source s q u k a r → MainState s → RideMeets (EndsMains source) source s q u k a r
   ride_ends slices h m = tt
-  ride_ends (goes_on {s} e r) h m = (ends s m, ride_ends r h.1 (subst MainStep e (walk source s m h.0)))
-  ride_ends (ticks {s} e r) h m = (ends s m, ride_ends r h.1 (subst MainStep e (walk source s m h.0)))
-  ride_ends (asks {s} e) h m = ends s m
+  ride_ends (goes_on {s} e r) h m = (ends s m source, ride_ends r h.1 (subst MainStep e (walk source s m h.0)))
+  ride_ends (ticks {s} e r) h m = (ends s m source, ride_ends r h.1 (subst MainStep e (walk source s m h.0)))
+  ride_ends (asks {s} e) h m = ends s m source
 
   world_mains : (a : List Entry) (w : World) (t : ℕ) (s : State) → MainState s → MainWorld w → MainWorld (world_after source a w t s)
   world_mains a w t s m h = record {
@@ -122,7 +119,7 @@ module _ (source : Source) where
   -- a run, and what holds of its states
   record Told (input : List ℕ) (opts : Options) (j : Journal) (w : World) (r : Runs source input opts j w) : Type 0 where
     pub world : MainWorld w
-    pub ends : RunMeets EndsMains source input opts j w r
+    pub ends : RunMeets (EndsMains source) source input opts j w r
 
   run_mains : (input : List ℕ) (opts : Options) (j : Journal) (w : World) (r : Runs source input opts j w) → RunMeets (CallsNoMain source) source input opts j w r → Told input opts j w r
   run_mains input opts _ _ begun h = record {
@@ -147,6 +144,6 @@ law_mains = record {
   begins = λ source r o. begins source r o;
   steps = λ source s m h. walk source s m h;
   told = λ source given s m. answered_there source given s m;
-  ends = λ s m. ends s m;
+  ends = λ source s m. ends s m source;
   runs = λ source input opts j w r h. (run_mains source input opts j w r h).ends;
 }

@@ -27,8 +27,8 @@ use Rattle.uc_world_laws.specs.Lasting.{RunForgets}
 use Rattle.uc_world_laws.specs.Rooted.{IsPlace, Lives, Had}
 use Rattle.uc_rooted_runs.specs.Makers.{Placed, Makers}
 use Rattle.uc_rooted_runs.specs.Births.{AllMadeLater}
-use Rattle.uc_rooted_runs.specs.FreshStates.{BindsBegun, AsksBare}
-use Rattle.uc_rooted_runs.specs.Mains.{CallsNoMain}
+use Rattle.uc_rooted_runs.specs.Binds.{BindsOwn}
+use Rattle.uc_rooted_runs.specs.Mains.{CallsNoMain, FindsAll}
 use Rattle.uc_rooted_runs.specs.Outlasting.{Covered, SparesAt, HadBefore}
 use Rattle.uc_rooted_runs.specs.OutlastRuns.{with_before, made_behind, ride_made, run_made, now}
 use Rattle.uc_rooted_runs.specs.Upwards.{IsThere, OutlastWorld}
@@ -119,7 +119,7 @@ module _ (t : Table) (few : Few) (own : Exec → Value → Ty → Bool) (yet : E
   RunRooted (more r o m) = RunRooted r × MayRoot (more r o m) m
 
 -- then nobody has at hand what has gone, as long as all that was asked so far fits, what executions have of others are places, no step binds what stands in
--- a frame of one that has not begun, forgets the running one or calls a main, a task that asks its end has no marks, nobody leaves its home for good, and
+-- a frame of another one, forgets the running one or calls a main, routines are there, unwindings have reasons, nobody leaves its home for good, and
 -- marks are put for what is an execution's own
 abbrev pub LawForgetsNames : Type 0
 LawForgetsNames =
@@ -127,9 +127,9 @@ LawForgetsNames =
     (source : Source) (input : List ℕ) (opts : Options) (j : Journal) (w : World)
     (r : Runs source input opts j w) → InRange opts → RunFits source input opts j w r → is_over j ≡ false →
     ((n : Exec) (w : Value) (b : Ty) → Base few n w b → IsPlace w) →
-    RunMeets (BindsBegun source) source input opts j w r →
+    RunMeets (BindsOwn source) source input opts j w r →
     RunMeets (CallsNoMain source) source input opts j w r →
-    RunMeets (AsksBare source) source input opts j w r →
+    RunMeets (FindsAll source) source input opts j w r →
     RunLeaves source input opts j w r → RunMeets names.Spares source input opts j w r →
     RunMeets (Puts t few) source input opts j w r →
     (b : AllMadeLater source input opts j w r) →

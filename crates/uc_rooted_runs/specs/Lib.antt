@@ -5,6 +5,7 @@ pub mod FreshRuns
 pub mod Forgetting
 pub mod Outlasting
 pub mod Upwards
+pub mod Binds
 pub mod OutlastRuns
 pub mod Mains
 pub mod MainRuns

@@ -1,10 +1,10 @@
 -- Tasks in which nobody waits for a main, and nothing but its line is left behind the end of one.
-use Rattle.std.specs.Prelude.{◌≡◌, ℕ, List, [], ◌∷◌, Some, Option, slice_get}
+use Rattle.std.specs.Prelude.{◌≡◌, ℕ, List, [], ◌∷◌, Option, Some, None, slice_get}
 use Rattle.uc_tree.specs.Source.{Purpose, TaskMain, CoroutineMain, Procedure, Function, Builder, Routine, Source}
 use Rattle.uc_machine.specs.declared.exec.Exec.{Exec}
 use Rattle.uc_machine.specs.declared.exec.Home.{Home}
 use Rattle.uc_machine.specs.Executions.{Execution}
-use Rattle.uc_machine.specs.Pieces.{Value, Todo, Within, CallNow, CallOnNow, CallUnwrittenNow, Sort, sort, IsFinish, IsFinishCoroutine, Active, State, Env, Members, Step, Goes, Ticks, Asks}
+use Rattle.uc_machine.specs.Pieces.{Value, Todo, Within, CallNow, CallOnNow, CallUnwrittenNow, LiveNow, EnterNow, MakeNow, BindMadeNow, Unwind, Sort, sort, IsFinish, IsFinishCoroutine, Active, State, Env, Members, Step, Goes, Ticks, Asks}
 use Rattle.uc_life_laws.specs.LifeStates.{MembersBy, EnvBy}
 
 -- lines alone
@@ -62,3 +62,21 @@ CallsNoMainBy source todo = Unit {0}
 
 abbrev pub CallsNoMain : Source → State → Type 0
 CallsNoMain source s = CallsNoMainBy source s.run.control
+
+-- a routine that is named is there, and what leaves an activation has a reason
+abbrev pub IsThere : Source → ℕ → Type 0
+IsThere source r = slice_get source.routines r ≡ None → ⊥
+
+abbrev pub FindsBy : Source → List Todo → State → Type 0
+FindsBy source (CallNow r ∷ todo) s = IsThere source r
+FindsBy source (CallOnNow r ∷ todo) s = IsThere source r
+FindsBy source (CallUnwrittenNow r ∷ todo) s = IsThere source r
+FindsBy source (LiveNow r ∷ todo) s = IsThere source r
+FindsBy source (EnterNow m r ∷ todo) s = IsThere source r
+FindsBy source (MakeNow c r ∷ todo) s = IsThere source r
+FindsBy source (BindMadeNow c r ∷ todo) s = IsThere source r
+FindsBy source (Unwind ∷ []) s = s.run.raised ≡ None → ⊥
+FindsBy source todo s = Unit {0}
+
+abbrev pub FindsAll : Source → State → Type 0
+FindsAll source s = FindsBy source s.run.control s

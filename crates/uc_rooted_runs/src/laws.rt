@@ -1,6 +1,7 @@
 // The laws: each is a function whose contract is the law.
 
 ghost use Rattle.uc_rooted_runs.specs.Beside.{LawBeside};
+ghost use Rattle.uc_rooted_runs.specs.Binds.{LawBinds};
 ghost use Rattle.uc_rooted_runs.specs.Births.{LawBirths};
 ghost use Rattle.uc_rooted_runs.specs.Forgetting.{LawForgetting};
 ghost use Rattle.uc_rooted_runs.specs.FreshRuns.{LawFresh};
@@ -22,6 +23,11 @@ pub fn law_births()
 /// Executions that have not begun are as they were made, as long as no step binds what stands in their frames.
 pub fn law_fresh()
     ensures { LawFresh }
+{}
+
+/// What is bound in no frame of another execution stands in no frame of one that has not begun, where names are apart.
+pub fn law_binds()
+    ensures { LawBinds }
 {}
 
 /// In runs in which no main is called nobody waits for one, so that where one ends nothing is left to clean up.
