@@ -1,8 +1,10 @@
 -- An execution is made: its name is none that was there.
-use Rattle.std.proofs.Common.{◌≡◌, ℕ, suc, ◌+◌, ◌<◌, ◌≤◌, ◌++◌, Bool, true, false, List, [], ◌∷◌, Option, Some, None, refl, sym, ap, ◌∙◌, subst, arith}
+use Rattle.std.proofs.Common.{◌≡◌, ℕ, suc, ◌+◌, ◌<◌, ◌≤◌, ◌⊎◌, inl, inr, ◌++◌, Bool, true, false, List, [], ◌∷◌, Option, Some, None, refl, sym, ap, ◌∙◌, subst, arith, ⊎_elim}
+use Rattle.std.proofs.lemmas.Bool.{cases_lt}
 use Rattle.std.specs.Prelude.{if◌then◌else◌}
 use Rattle.uc_tree.specs.Source.{Routine}
 use Rattle.uc_entry.specs.Keyed.{find}
+use Rattle.uc_machine.specs.declared.exec.Exec.{Exec}
 use Rattle.uc_machine.specs.declared.exec.Home.{Home}
 use Rattle.uc_machine.specs.declared.exec.Home.TheVariants as home
 use Rattle.uc_machine.specs.declared.exec.Owner.TheVariants.{Frame, Fields}
@@ -21,11 +23,20 @@ use Rattle.uc_name_laws.proofs.Switching.{found_below}
 use Rattle.uc_name_laws.proofs.Steps as steps
 
 -- behind what makes an execution with such a main
+-- an execution of this name is made by a routine at a home in hand
+pub record HasMade (r : Option Routine) (at : Home) (e : Env) (n : Exec) : Type 0 where
+  pub routine : Routine
+  pub known : r ≡ Some routine
+  pub members : Members
+  pub in_hand : members_at at e ≡ Some members
+  pub named : n ≡ sw.new_exec at e
+
 pub record MadeBehind (here : Home → Bool) (sure : Bool) (before : Home → ℕ) (r : Option Routine) (at : Home) (e : Env) (step : Step) : Type 0 where
   pub serials : Home → ℕ
   pub grows : Grows here before serials
   pub named : StepNamed here sure serials step
   pub born : (x : Routine) → r ≡ Some x → (m : Members) → members_at at e ≡ Some m → IsBelow serials (sw.new_exec at e)
+  pub only : (n : Exec) → IsBelow serials n → IsBelow before n ⊎ HasMade r at e n
 
 module _ (here : Home → Bool) (sure : Bool) (serials : Home → ℕ) where
   -- a home that has made one more
@@ -106,7 +117,7 @@ module _ (here : Home → Bool) (sure : Bool) (serials : Home → ℕ) where
     none_made : (r : Routine) (todo : List Todo) → members_at (quiet.home_at s.run.this s.env) s.env ≡ None → MadeBehind here sure serials (Some r) (quiet.home_at s.run.this s.env) s.env (quiet.set_up_at r (quiet.home_at s.run.this s.env) todo s)
     none_made r todo g =
         let same : sw.born (quiet.home_at s.run.this s.env) (quiet.fresh r s.run.this) s.env ≡ s.env = ap (λ o. change_in (quiet.home_at s.run.this s.env) (sw.one_more (quiet.fresh r s.run.this)) o s.env) g in
-        record { serials = serials; grows = grows_not; named = steps.go_in here sure serials s h todo s.run.operands _ (steps.ops here sure serials s h) (subst (λ d. Good here sure serials (written s.run.this (Running (sw.new_exec (quiet.home_at s.run.this s.env) s.env)) d)) (sym same) (away_good s.run.this s.env h.names.run_named.this_named g env)); born = λ x e m f. none_some m (members_at (quiet.home_at s.run.this s.env) s.env) g f }
+        record { serials = serials; grows = grows_not; named = steps.go_in here sure serials s h todo s.run.operands _ (steps.ops here sure serials s h) (subst (λ d. Good here sure serials (written s.run.this (Running (sw.new_exec (quiet.home_at s.run.this s.env) s.env)) d)) (sym same) (away_good s.run.this s.env h.names.run_named.this_named g env)); born = λ x e m f. none_some m (members_at (quiet.home_at s.run.this s.env) s.env) g f; only = λ n x. inl x }
 
     -- one more is made
     module _ (r : Routine) (at : Home) (m : Members) (g : members_at at s.env ≡ Some m) where
@@ -147,8 +158,32 @@ module _ (here : Home → Bool) (sure : Bool) (serials : Home → ℕ) where
         grows = record { more = more_at at; same = λ k e. elsewhere at k (apart k e (home_eq k at) refl) };
         named = steps.task here sure (one_more_at at serials) _ (run_more (active_more serials (one_more_at at serials) (more_at at) s.run h.names.run_named)) (all_more serials (one_more_at at serials) (more_at at) s.callers h.names.callers_named) (good_written here sure (one_more_at at serials) s.run.this (Running (sw.new_exec at s.env)) (sw.born at (quiet.fresh r s.run.this) s.env) new born);
         born = λ x e y f. new;
+        only = λ n x. last n x (home_eq n.home at) refl;
       }
         where
+          -- one that was not made before is the next one there
+          last : (n : Exec) → IsBelow (one_more_at at serials) n → (b : Bool) → home_eq n.home at ≡ b → IsBelow serials n ⊎ HasMade (Some r) at s.env n
+          last n x false f = inl (subst (λ k. n.serial < k) (elsewhere at n.home f) x)
+          last n x true f = ⊎_elim (λ lt. inl lt) (λ le. inr (it le)) (cases_lt n.serial (serials n.home))
+            where
+              grown : one_more_at at serials n.home ≡ suc (serials n.home)
+              grown = ap (λ b. if b then suc (serials n.home) else serials n.home) f
+
+              it : serials n.home ≤ n.serial → HasMade (Some r) at s.env n
+              it le =
+                  let lt : n.serial < suc (serials n.home) = subst (λ k. n.serial < k) grown x in
+                  let y = h.names.env_named.members_named at m g in
+                  let place : n.home ≡ at = same_home n.home at f in
+                  let count : n.serial ≡ serials n.home = omega (arith, lt, le) in
+                  let number : n.serial ≡ sw.serial_in (members_at at s.env) = count ∙ (ap serials place ∙ (sym y.serial_is ∙ sym (ap sw.serial_in g))) in
+                  record {
+                    routine = r;
+                    known = refl;
+                    members = m;
+                    in_hand = g;
+                    named = ap (λ k. record { home = k; serial = n.serial }) place ∙ ap (λ k. record { home = at; serial = k }) number;
+                  }
+
           run_more : ActiveNamed (one_more_at at serials) s.run → ActiveNamed (one_more_at at serials) (record s.run { control = todo; operands = s.run.operands })
           run_more a = record { operands_named = a.operands_named; this_named = a.this_named; result_named = a.result_named }
 
@@ -160,7 +195,7 @@ module _ (here : Home → Bool) (sure : Bool) (serials : Home → ℕ) where
         by (Some m) g = one_made r (quiet.home_at s.run.this s.env) m g todo
 
     pub set_up : (r : Option Routine) (todo : List Todo) → MadeBehind here sure serials r (quiet.home_at s.run.this s.env) s.env (quiet.set_up_step r todo s)
-    set_up None todo = record { serials = serials; grows = grows_not; named = steps.turn here sure serials s h todo; born = λ x e. cc }
+    set_up None todo = record { serials = serials; grows = grows_not; named = steps.turn here sure serials s h todo; born = λ x e. cc; only = λ n x. inl x }
     set_up (Some r) todo = made r todo
 
 -- new names

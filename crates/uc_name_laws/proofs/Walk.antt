@@ -1,9 +1,10 @@
 -- Every quiet step of a task whose names are of executions that were made.
-use Rattle.std.proofs.Common.{◌≡◌, ℕ, Bool, true, false, List, [], ◌∷◌, Some, refl, sym, ap, ◌∙◌, subst, arith}
+use Rattle.std.proofs.Common.{◌≡◌, ℕ, ◌⊎◌, inl, inr, Bool, true, false, List, [], ◌∷◌, Some, refl, sym, ap, ◌∙◌, subst, arith, ⊎_elim}
 use Rattle.std.specs.Prelude.{slice_get}
 use Rattle.uc_tree.specs.Source as src
 use Rattle.uc_tree.specs.Source.{Source, Routine}
 use Rattle.uc_entry.specs.declared.fault.RunFault.TheVariants.{NoReturn}
+use Rattle.uc_machine.specs.declared.exec.Exec.{Exec}
 use Rattle.uc_machine.specs.declared.exec.Home.{Home}
 use Rattle.uc_machine.specs.Executions.{members_at}
 use Rattle.uc_machine.specs.Switches as sw
@@ -13,13 +14,13 @@ use Rattle.uc_machine.specs.Quiet as quiet
 use Rattle.uc_machine.specs.Pieces as piece
 use Rattle.uc_machine.specs.Pieces.{Value, Todo, State, Step, Members, at, top, below, number}
 use Rattle.uc_name_laws.specs.Below.{IsBelow, IsNamed, AreNamed}
-use Rattle.uc_name_laws.specs.NameSteps.{Named, StepNamed, Grows, BornBelow, NamedBehind, SparesAt, Spares, LawSteps}
+use Rattle.uc_name_laws.specs.NameSteps.{Named, StepNamed, Grows, IsBorn, BornBelow, NamedBehind, SparesAt, Spares, LawSteps}
 use Rattle.uc_name_laws.proofs.Homes.{no_both}
 use Rattle.uc_name_laws.proofs.Values.{named_top, named_below, named_drop, named_further}
 use Rattle.uc_name_laws.proofs.Keeping.{loaded_named}
 use Rattle.uc_name_laws.proofs.Switching.{wake_named, suspend_named, finish_named}
 use Rattle.uc_name_laws.proofs.Goods.{good_cleared, good_enlivened, good_forgotten, take_down_named}
-use Rattle.uc_name_laws.proofs.Births.{set_up}
+use Rattle.uc_name_laws.proofs.Births.{HasMade, set_up}
 use Rattle.uc_name_laws.proofs.Steps as steps
 
 -- whether an execution is made next
@@ -165,18 +166,25 @@ module _ (source : Source) (here : Home → Bool) (sure : Bool) (serials : Home 
       let place : n.home ≡ quiet.home_at s.run.this s.env = ap (λ k. k.home) x.named in
       subst (IsBelow behind) (sym x.named) (f x.routine (ap (slice_get source.routines) it ∙ x.known) x.members (ap (λ k. members_at k s.env) (sym place) ∙ x.in_hand))
 
+  one_only : (s : State) (main : ℕ) (todo : List Todo) → s.run.control ≡ piece.SetUpNow main ∷ todo → (behind : Home → ℕ) → ((n : Exec) → IsBelow behind n → IsBelow serials n ⊎ HasMade (slice_get source.routines main) (quiet.home_at s.run.this s.env) s.env n) → (n : Exec) → IsBelow behind n → IsBelow serials n ⊎ IsBorn source s n
+  one_only s main todo e behind f n x =
+      ⊎_elim
+      (λ lt. inl lt)
+      (λ m. inr (record { main = main; todo = todo; next = e; routine = m.routine; known = m.known; members = m.members; in_hand = ap (λ k. members_at k s.env) (ap (λ (q : Exec). q.home) m.named) ∙ m.in_hand; named = m.named }))
+      (f n x)
+
   pub walk : (s : State) → Named here sure serials s → (sure ≡ true → Spares s) → NamedBehind source here sure serials s
   walk s h f = by s.run.control refl f
     where
       by : (l : List Todo) → s.run.control ≡ l → (sure ≡ true → SparesAt l s) → NamedBehind source here sure serials s
-      by [] e f = record { serials = serials; grows = stays; named = subst (λ l. StepNamed here sure serials (quiet.act_todo source l s)) (sym e) (steps.returned here sure serials s h _ s.callers tt h.names.callers_named); born = empty_born s e }
+      by [] e f = record { serials = serials; grows = stays; named = subst (λ l. StepNamed here sure serials (quiet.act_todo source l s)) (sym e) (steps.returned here sure serials s h _ s.callers tt h.names.callers_named); born = empty_born s e; only = λ n x. inl x }
       by (p ∷ todo) e f = split p (is_birth p) refl e f
         where
           split : (p : Todo) (b : Bool) → is_birth p ≡ b → s.run.control ≡ p ∷ todo → (sure ≡ true → SparesAt (p ∷ todo) s) → NamedBehind source here sure serials s
-          split p false b e f = record { serials = serials; grows = stays; named = subst (λ l. StepNamed here sure serials (quiet.act_todo source l s)) (sym e) (acts s h p todo b f); born = none_born s p todo e b }
+          split p false b e f = record { serials = serials; grows = stays; named = subst (λ l. StepNamed here sure serials (quiet.act_todo source l s)) (sym e) (acts s h p todo b f); born = none_born s p todo e b; only = λ n x. inl x }
           split (piece.SetUpNow r) true b e f =
               let x = set_up here sure serials s h (slice_get source.routines r) todo in
-              record { serials = x.serials; grows = x.grows; named = subst (λ l. StepNamed here sure x.serials (quiet.act_todo source l s)) (sym e) x.named; born = one_born s r todo e x.serials x.born }
+              record { serials = x.serials; grows = x.grows; named = subst (λ l. StepNamed here sure x.serials (quiet.act_todo source l s)) (sym e) x.named; born = one_born s r todo e x.serials x.born; only = one_only s r todo e x.serials x.only }
           split p true b e f = no_both (is_birth p) b refl
 
 pub law_steps : LawSteps

@@ -61,6 +61,8 @@ pub record NamedBehind (source : Source) (here : Home → Bool) (sure : Bool) (b
   pub grows : Grows here before serials
   pub named : StepNamed here sure serials (quiet source s)
   pub born : BornBelow source serials s
+  -- each of those was made before, or is made by it
+  pub only : (n : Exec) → IsBelow serials n → IsBelow before n ⊎ IsBorn source s n
 
 -- the execution that runs is not forgotten
 abbrev pub SparesAt : List Todo → State → Type 0

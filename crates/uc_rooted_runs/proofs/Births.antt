@@ -307,7 +307,7 @@ module _ (source : Source) (input : List ℕ) (opts : Options) (range : InRange 
 
   module _ {j : Journal} {w : World} (rests : RunRests source input opts j w) (on : is_over j ≡ false) (deep : DeepWorld j w) (serials : Home → ℕ) (x : WorldNamed serials j w) (p t n : ℕ) (s : State) (asked : Asked) (d : AsksIn source opts j w p t n s asked) (f : Fits opts source.sites j t asked.request) (going : is_over (j ++ act opts source.sites input j p t n asked) ≡ false) where
     -- what is spawned is no task's own, and nothing was made there
-    none_there : (o : ℕ) → asked.request ≡ ask.Spawn o → (ride source input opts range rests on deep serials x p t n s asked d f going).now (home.Task o) ≡ 0
+    pub none_there : (o : ℕ) → asked.request ≡ ask.Spawn o → (ride source input opts range rests on deep serials x p t n s asked d f going).now (home.Task o) ≡ 0
     none_there o e =
         let free : owner o j ≡ [] = (subst (Fits opts source.sites j t) e f).1 in
         let lt = known source input opts range rests on serials x p t d.runs in
@@ -320,7 +320,7 @@ module _ (source : Source) (input : List ℕ) (opts : Options) (range : InRange 
 
     -- two countings of what a ride has made agree
     module _ (now : Home → ℕ) (grows : Grows (is_here (w.tasks t).env.own (held t j)) serials now) (named : Named (is_here (w.tasks t).env.own (held t j)) false now s) where
-      no_more : (h : Home) → now h ≤ (ride source input opts range rests on deep serials x p t n s asked d f going).now h
+      pub no_more : (h : Home) → now h ≤ (ride source input opts range rests on deep serials x p t n s asked d f going).now h
       no_more h = by (members_at h s.env) refl
         where
           k : RideNamed source (is_here (w.tasks t).env.own (held t j)) false serials (answered source d.given (drawn j w t)) _ s n asked d.rides
@@ -349,7 +349,7 @@ module _ (source : Source) (input : List ℕ) (opts : Options) (range : InRange 
 
   -- a dispatch makes nothing
 
-  named_given : (serials : Home → ℕ) (j : Journal) (w : World) (p t : ℕ) → WorldNamed serials j w → WorldNamed serials (j ++ dispatch p t ∷ []) w
+  pub named_given : (serials : Home → ℕ) (j : Journal) (w : World) (p t : ℕ) → WorldNamed serials j w → WorldNamed serials (j ++ dispatch p t ∷ []) w
   named_given serials j w p t x =
       let tasks_same = tasks_push j (dispatch p t) in
       let objects_same = objects_push j (dispatch p t) in

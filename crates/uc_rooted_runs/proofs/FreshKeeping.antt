@@ -20,12 +20,13 @@ use Rattle.uc_machine.specs.Switches.{Moved, To, Stops}
 use Rattle.uc_machine.specs.Pieces.{Value, Number, Place, Running, Object, Nothing, Todo, State, Env, Members, address, stored, nought, written}
 use Rattle.uc_machine.specs.Quiet as quiet
 use Rattle.uc_life_laws.specs.LifeStates.{SlotBy, ParkedBy, MembersBy, EnvBy}
-use Rattle.uc_life_laws.proofs.Cells.{either}
+use Rattle.uc_name_laws.proofs.Homes.{same_exec}
+use Rattle.uc_life_laws.proofs.Cells.{either, tested}
 use Rattle.uc_life_laws.proofs.Parked as parked
 use Rattle.uc_life_laws.proofs.Parked.{Ex, at_home}
 use Rattle.uc_world_laws.specs.Fewer.{AllNumbers, FramesNumbers}
-use Rattle.uc_rooted_runs.specs.Makers.{placed}
-use Rattle.uc_rooted_runs.specs.FreshStates.{HasBegun, IsFresh, FreshBy, FreshEx, FreshEnv, SlotBegun, IsBegun}
+use Rattle.uc_rooted_runs.specs.Makers.{placed, stacked}
+use Rattle.uc_rooted_runs.specs.FreshStates.{HasBegun, IsStarted, IsFresh, FreshBy, FreshEx, FreshEnv, SlotBegun, IsBegun}
 
 -- numbers
 
@@ -90,7 +91,7 @@ changed_numbers d g k fs h = set_numbers fs d (g (list_in (at_depth fs d))) (k (
 -- tasks
 
 pub like : {e f : Env} → FreshEnv e → f.links.stage ≡ e.links.stage → f.hand ≡ e.hand → f.house ≡ e.house → f.own ≡ e.own → FreshEnv f
-like s l h g o = record { running = subst HasBegun (sym l) s.running; slots = parked.like FreshEx s.slots h g o }
+like s l h g o = record { running = subst IsStarted (sym l) s.running; slots = parked.like FreshEx s.slots h g o }
 
 -- calls come and go
 
@@ -129,7 +130,7 @@ change_links h f e = change_links_by h f (members_at h e) e
 
 changes : (h : Home) (f : Members → Members) (e : Env) → ((m : Members) → members_at h e ≡ Some m → ParkedBy FreshEx h m.parked → ParkedBy FreshEx h (f m).parked) → FreshEnv e → FreshEnv (change h f e)
 changes h f e k s = record {
-  running = subst (λ (l : Links). HasBegun l.stage) (sym (change_links h f e)) s.running;
+  running = subst (λ (l : Links). IsStarted l.stage) (sym (change_links h f e)) s.running;
   slots = change_by h f (members_at h e) e k (parked.members_rests FreshEx h e s.slots) s.slots;
 }
 
@@ -141,7 +142,7 @@ frames_told n x fs f h = by x.links.stage refl h
     by : (g : Stage) → x.links.stage ≡ g → FreshBy g n x → FreshBy g n (record x { frames = fs })
     by Fresh e h = record { callers = h.callers; operands = h.operands; marks = h.marks; frames = f e; this = h.this }
     by Started e h = tt
-    by Ended e h = tt
+    by Ended e h = h
 
 fresh_frames : (n : Exec) (x : Ex) → FreshEx n x → x.links.stage ≡ Fresh → FramesNumbers x.frames
 fresh_frames n x h e = let k : IsFresh n x = subst (λ g. FreshBy g n x) e h in k.frames
@@ -207,34 +208,25 @@ pub forgotten_keeps : (o : Option Exec) (e : Env) → FreshEnv e → FreshEnv (s
 forgotten_keeps None e s = s
 forgotten_keeps (Some n) e s = changes n.home (sw.slot_gone n.serial) e (λ m q h. parked.without_parked FreshEx n.home n.serial m.parked h) s
 
--- links of which the stage stays or is that of one that has ended
-data Stays (g : Links → Links) : Type 0 where
-  same : ((l : Links) → (g l).stage ≡ l.stage) → Stays g
-  ends : ((l : Links) → (g l).stage ≡ Ended) → Stays g
+-- links change and their stage stays
+abbrev SameStage : (Links → Links) → Type 0
+SameStage g = (l : Links) → (g l).stage ≡ l.stage
 
-links_told : (g : Links → Links) → Stays g → (n : Exec) (x : Ex) → FreshEx n x → FreshEx n (record x { links = g x.links })
-links_told g (same f) n x h = subst (λ q. FreshBy q n (record x { links = g x.links })) (sym (f x.links)) (by x.links.stage h)
+links_told : (g : Links → Links) → SameStage g → (n : Exec) (x : Ex) → FreshEx n x → FreshEx n (record x { links = g x.links })
+links_told g f n x h = subst (λ q. FreshBy q n (record x { links = g x.links })) (sym (f x.links)) (by x.links.stage h)
   where
     by : (q : Stage) → FreshBy q n x → FreshBy q n (record x { links = g x.links })
     by Fresh h = record { callers = h.callers; operands = h.operands; marks = h.marks; frames = h.frames; this = h.this }
     by Started h = tt
-    by Ended h = tt
-links_told g (ends f) n x h = subst (λ q. FreshBy q n (record x { links = g x.links })) (sym (f x.links)) tt
+    by Ended h = h
 
-links_begun : (g : Links → Links) → Stays g → (l : Links) → HasBegun l.stage → HasBegun (g l).stage
-links_begun g (same f) l h = subst HasBegun (sym (f l)) h
-links_begun g (ends f) l h = subst HasBegun (sym (f l)) tt
-
-links_kept : (h : Home) (g : Links → Links) → Stays g → (n : ℕ) (o : Option Ex) (m : Members) → SlotBy FreshEx (at_home h n) o → ParkedBy FreshEx h m.parked → ParkedBy FreshEx h (sw.links_by g n o m).parked
+links_kept : (h : Home) (g : Links → Links) → SameStage g → (n : ℕ) (o : Option Ex) (m : Members) → SlotBy FreshEx (at_home h n) o → ParkedBy FreshEx h m.parked → ParkedBy FreshEx h (sw.links_by g n o m).parked
 links_kept h g k n None m r s = s
 links_kept h g k n (Some x) m r s = parked.update_parked FreshEx h n (Some (record x { links = g x.links })) m.parked (links_told g k (at_home h n) x r) s
 
-links_keeps : (g : Links → Links) → Stays g → (n : Exec) (e : Env) → FreshEnv e → FreshEnv (sw.with_links g n e)
-links_keeps g k n e s =
-    either FreshEnv (exec_eq n e.exec) (record e { links = g e.links }) (change n.home (sw.links_changed g n.serial) e) (record { running = links_begun g k e.links s.running; slots = parked.like FreshEx s.slots refl refl refl }) (changes n.home (sw.links_changed g n.serial) e (λ m q h. links_kept n.home g k n.serial (joined (find n.serial m.parked)) m (parked.found_parked FreshEx n.home n.serial m.parked h) h) s)
-
 pub links_stay : (g : Links → Links) → ((l : Links) → (g l).stage ≡ l.stage) → (n : Exec) (e : Env) → FreshEnv e → FreshEnv (sw.with_links g n e)
-links_stay g f n e s = links_keeps g (same f) n e s
+links_stay g k n e s =
+    either FreshEnv (exec_eq n e.exec) (record e { links = g e.links }) (change n.home (sw.links_changed g n.serial) e) (record { running = subst IsStarted (sym (k e.links)) s.running; slots = parked.like FreshEx s.slots refl refl refl }) (changes n.home (sw.links_changed g n.serial) e (λ m q h. links_kept n.home g k n.serial (joined (find n.serial m.parked)) m (parked.found_parked FreshEx n.home n.serial m.parked h) h) s)
 
 pub enlivened_keeps : (o : Option Exec) (e : Env) → FreshEnv e → FreshEnv (sw.enlivened o e)
 enlivened_keeps None e s = s
@@ -246,49 +238,50 @@ abbrev pub FreshMoved : Moved (List Todo) Value → Type 0
 FreshMoved (To s) = FreshEnv s.env
 FreshMoved (Stops f) = Unit {0}
 
--- who may be activated has begun
-abbrev NextBegun : Option (Exec × Ex) → Type 0
-NextBegun None = Unit {0}
-NextBegun (Some p) = HasBegun p.1.links.stage
+-- who may be activated has begun and not ended
+abbrev NextStarted : Option (Exec × Ex) → Type 0
+NextStarted None = Unit {0}
+NextStarted (Some p) = IsStarted p.1.links.stage
 
-begun_fresh : (g : Stage) → HasBegun g → (n : Exec) (x : Ex) → FreshBy g n x
-begun_fresh Fresh h n x = absurd h
-begun_fresh Started h n x = tt
-begun_fresh Ended h n x = tt
+started_fresh : (g : Stage) → IsStarted g → (n : Exec) (x : Ex) → FreshBy g n x
+started_fresh Fresh h n x = absurd h
+started_fresh Started h n x = tt
+started_fresh Ended h n x = absurd h
 
-slot_keeps : (n : Exec) (o : Option Ex) (e : Env) → SlotBy FreshEx n o → FreshEnv e → FreshEnv (sw.set_slot n o e)
-slot_keeps n o e r s = changes n.home (sw.slot_set n.serial o) e (λ m q h. parked.update_parked FreshEx n.home n.serial o m.parked r h) s
+stops : (s : State) → FreshEnv s.env → FreshEx s.env.exec (sw.stopped s)
+stops s h = started_fresh s.env.links.stage h.running s.env.exec (sw.stopped s)
 
-switched_keeps : (n : Exec) (x : Ex) (s : State) → HasBegun x.links.stage → FreshEnv s.env → FreshEnv (sw.switched n x s).env
-switched_keeps n x s r h =
-    let a = slot_keeps n None s.env tt h in
-    let b = slot_keeps s.env.exec (Some (sw.stopped s)) (sw.set_slot n None s.env) (begun_fresh s.env.links.stage h.running s.env.exec (sw.stopped s)) a in
-    record { running = r; slots = parked.like FreshEx b.slots refl refl refl }
+-- the running execution stops, of which this is told
+switched_keeps : (n : Exec) (x : Ex) (s : State) → IsStarted x.links.stage → FreshEx s.env.exec (sw.stopped s) → EnvBy FreshEx s.env → FreshEnv (sw.switched n x s).env
+switched_keeps n x s r k h = record {
+  running = r;
+  slots = parked.like FreshEx (parked.slot_rests FreshEx s.env.exec (Some (sw.stopped s)) (sw.set_slot n None s.env) k (parked.slot_rests FreshEx n None s.env tt h)) refl refl refl;
+}
 
-able_stage : (g : Stage) (n : Exec) (x : Ex) → x.links.stage ≡ g → NextBegun (sw.able_at g n x)
+able_stage : (g : Stage) (n : Exec) (x : Ex) → x.links.stage ≡ g → NextStarted (sw.able_at g n x)
 able_stage Fresh n x e = tt
-able_stage Started n x e = subst HasBegun (sym e) tt
+able_stage Started n x e = subst IsStarted (sym e) tt
 able_stage Ended n x e = tt
 
-able_slot : (n : Exec) (o : Option Ex) → NextBegun (sw.able_by n o)
+able_slot : (n : Exec) (o : Option Ex) → NextStarted (sw.able_by n o)
 able_slot n None = tt
 able_slot n (Some x) = able_stage x.links.stage n x refl
 
-able_begun : (o : Option Exec) (e : Env) → NextBegun (sw.able o e)
-able_begun None e = tt
-able_begun (Some n) e = able_slot n (parked_at n e)
+able_started : (o : Option Exec) (e : Env) → NextStarted (sw.able o e)
+able_started None e = tt
+able_started (Some n) e = able_slot n (parked_at n e)
 
-or_begun : (a b : Option (Exec × Ex)) → NextBegun a → NextBegun b → NextBegun (sw.or_else a b)
-or_begun None b h k = k
-or_begun (Some p) b h k = h
+or_started : (a b : Option (Exec × Ex)) → NextStarted a → NextStarted b → NextStarted (sw.or_else a b)
+or_started None b h k = k
+or_started (Some p) b h k = h
 
-go_on_keeps : (o : Option (Exec × Ex)) (s : State) → NextBegun o → FreshEnv s.env → FreshMoved (sw.go_on o s)
-go_on_keeps None s r h = tt
-go_on_keeps (Some p) s r h = switched_keeps p.0 p.1 s r h
+go_on_keeps : (o : Option (Exec × Ex)) (s : State) → NextStarted o → FreshEx s.env.exec (sw.stopped s) → EnvBy FreshEx s.env → FreshMoved (sw.go_on o s)
+go_on_keeps None s r k h = tt
+go_on_keeps (Some p) s r k h = switched_keeps p.0 p.1 s r k h
 
 wake_stage : (g : Stage) (n : Exec) (x : Ex) (s : State) → FreshEnv s.env → FreshMoved (sw.wake_at g n x s)
-wake_stage Fresh n x s h = switched_keeps n (record x { links = sw.woken s.env.exec x.links }) s tt h
-wake_stage Started n x s h = switched_keeps n (record x { links = sw.woken s.env.exec x.links }) s tt h
+wake_stage Fresh n x s h = switched_keeps n (record x { links = sw.woken s.env.exec x.links }) s tt (stops s h) h.slots
+wake_stage Started n x s h = switched_keeps n (record x { links = sw.woken s.env.exec x.links }) s tt (stops s h) h.slots
 wake_stage Ended n x s h = tt
 
 wake_slot : (n : Exec) (o : Option Ex) (s : State) → FreshEnv s.env → FreshMoved (sw.wake_by n o s)
@@ -303,38 +296,65 @@ pub wake_keeps : (o : Option Exec) (s : State) → FreshEnv s.env → FreshMoved
 wake_keeps o s h = either FreshMoved (sw.in_destruction s.env) (Stops SwitchInUnwind) (sw.wake_one o s) tt (wake_one_keeps o s h)
 
 pub suspend_keeps : (s : State) → FreshEnv s.env → FreshMoved (sw.suspend s)
-suspend_keeps s h = either FreshMoved (sw.in_destruction s.env) (Stops SwitchInUnwind) (sw.go_on (sw.able s.env.links.resumer s.env) s) tt (go_on_keeps (sw.able s.env.links.resumer s.env) s (able_begun s.env.links.resumer s.env) h)
+suspend_keeps s h =
+    either FreshMoved (sw.in_destruction s.env) (Stops SwitchInUnwind) (sw.go_on (sw.able s.env.links.resumer s.env) s) tt (go_on_keeps (sw.able s.env.links.resumer s.env) s (able_started s.env.links.resumer s.env) (stops s h) h.slots)
 
-ended_keeps : (s : State) → FreshEnv s.env → FreshEnv (sw.ended s).env
-ended_keeps s h = record { running = tt; slots = parked.like FreshEx h.slots refl refl refl }
+-- the running execution ends, and has no marks
+ended_slots : (s : State) → FreshEnv s.env → EnvBy FreshEx (sw.ended s).env
+ended_slots s h = parked.like FreshEx h.slots refl refl refl
 
-pub finish_keeps : (s : State) → FreshEnv s.env → FreshMoved (sw.finish s)
-finish_keeps s h =
-    go_on_keeps (sw.or_else (sw.able s.env.links.starter s.env) (sw.able s.env.links.resumer s.env)) (sw.ended s) (or_begun (sw.able s.env.links.starter s.env) (sw.able s.env.links.resumer s.env) (able_begun s.env.links.starter s.env) (able_begun s.env.links.resumer s.env)) (ended_keeps s h)
+pub finish_keeps : (s : State) → stacked (s.run ∷ s.callers) ≡ [] → FreshEnv s.env → FreshMoved (sw.finish s)
+finish_keeps s b h =
+    go_on_keeps (sw.or_else (sw.able s.env.links.starter s.env) (sw.able s.env.links.resumer s.env)) (sw.ended s) (or_started (sw.able s.env.links.starter s.env) (sw.able s.env.links.resumer s.env) (able_started s.env.links.starter s.env) (able_started s.env.links.resumer s.env)) b (ended_slots s h)
 
-throw_keeps : (o : Option (Exec × Ex)) (s : State) → NextBegun o → FreshEnv s.env → FreshMoved (sw.throw_at o s)
-throw_keeps None s r h = tt
-throw_keeps (Some p) s r h = switched_keeps p.0 (sw.unwound_there (reason.Event UNHANDLED (pos 0) (pos 0)) p.1) s r h
+throw_keeps : (o : Option (Exec × Ex)) (s : State) → NextStarted o → FreshEx s.env.exec (sw.stopped s) → EnvBy FreshEx s.env → FreshMoved (sw.throw_at o s)
+throw_keeps None s r k h = tt
+throw_keeps (Some p) s r k h = switched_keeps p.0 (sw.unwound_there (reason.Event UNHANDLED (pos 0) (pos 0)) p.1) s r k h
 
-pub escape_keeps : (s : State) → FreshEnv s.env → FreshMoved (sw.escape s)
-escape_keeps s h = throw_keeps (sw.able s.env.links.resumer s.env) (sw.ended s) (able_begun s.env.links.resumer s.env) (ended_keeps s h)
+pub escape_keeps : (s : State) → stacked (s.run ∷ s.callers) ≡ [] → FreshEnv s.env → FreshMoved (sw.escape s)
+escape_keeps s b h = throw_keeps (sw.able s.env.links.resumer s.env) (sw.ended s) (able_started s.env.links.resumer s.env) b (ended_slots s h)
 
-pub taken_down_keeps : (s : State) → FreshEnv s.env → FreshMoved (sw.taken_down s)
-taken_down_keeps s h = go_on_keeps (sw.able s.env.links.destroyer s.env) (sw.ended s) (able_begun s.env.links.destroyer s.env) (ended_keeps s h)
+pub taken_down_keeps : (s : State) → stacked (s.run ∷ s.callers) ≡ [] → FreshEnv s.env → FreshMoved (sw.taken_down s)
+taken_down_keeps s b h = go_on_keeps (sw.able s.env.links.destroyer s.env) (sw.ended s) (able_started s.env.links.destroyer s.env) b (ended_slots s h)
 
-over_keeps : (n : Exec) (s : State) → FreshEnv s.env → FreshEnv (sw.over n s).env
-over_keeps n s h = links_keeps (λ l. record l { live = false; stage = Ended }) (ends (λ l. refl)) n s.env h
+-- one that does not run ends, and has not begun or has ended already
 
-take_down_stage : (g : Stage) (n : Exec) (x : Ex) (s : State) → x.links.stage ≡ g → FreshEnv s.env → FreshMoved (sw.take_down_at g n x s)
-take_down_stage Fresh n x s e h = over_keeps n s h
-take_down_stage Started n x s e h =
-    switched_keeps n (sw.unwound_there reason.Destroyed (record x { links = record x.links { live = false; destroyer = Some s.env.exec } })) s (subst HasBegun (sym e) tt) h
-take_down_stage Ended n x s e h = over_keeps n s h
+ended_told : (n : Exec) (x : Ex) → (x.links.stage ≡ Started → ⊥) → FreshEx n x → stacked (x.run ∷ x.callers) ≡ []
+ended_told n x f h = by x.links.stage refl h
+  where
+    by : (g : Stage) → x.links.stage ≡ g → FreshBy g n x → stacked (x.run ∷ x.callers) ≡ []
+    by Fresh e h = subst (λ cs. placed x.run.frame x.run.this x.run.control (stacked cs) ≡ []) (sym h.callers) h.marks
+    by Started e h = absurd (f e)
+    by Ended e h = h
 
-take_down_slot : (n : Exec) (o : Option Ex) (s : State) → FreshEnv s.env → FreshMoved (sw.take_down_by n o s)
-take_down_slot n None s h = h
-take_down_slot n (Some x) s h = take_down_stage x.links.stage n x s refl h
+abbrev over_links : Links → Links
+over_links l = record l { live = false; stage = Ended }
 
-pub take_down_keeps : (o : Option Exec) (s : State) → FreshEnv s.env → FreshMoved (sw.take_down o s)
-take_down_keeps None s h = h
-take_down_keeps (Some n) s h = take_down_slot n (parked_at n s.env) s h
+ended_kept : (n : Exec) (o : Option Ex) (m : Members) → ((x : Ex) → o ≡ Some x → stacked (x.run ∷ x.callers) ≡ []) → ParkedBy FreshEx n.home m.parked → ParkedBy FreshEx n.home (sw.links_by over_links n.serial o m).parked
+ended_kept n None m f s = s
+ended_kept n (Some x) m f s = parked.update_parked FreshEx n.home n.serial (Some (record x { links = over_links x.links })) m.parked (f x refl) s
+
+over_keeps : (n : Exec) (s : State) → (n ≡ s.env.exec → ⊥) → ((x : Ex) → parked_at n s.env ≡ Some x → stacked (x.run ∷ x.callers) ≡ []) → FreshEnv s.env → FreshEnv (sw.over n s).env
+over_keeps n s a f h =
+    tested FreshEnv (exec_eq n s.env.exec) (record s.env { links = over_links s.env.links }) (change n.home (sw.links_changed over_links n.serial) s.env) (λ e. absurd (a (same_exec n s.env.exec e))) (λ e. changes n.home (sw.links_changed over_links n.serial) s.env (λ m q k. ended_kept n (joined (find n.serial m.parked)) m (λ x i. f x (ap (λ o. joined (slot_in n.serial o)) q ∙ i)) k) h)
+
+some_same : (x y : Ex) → Some x ≡ Some y → y ≡ x
+some_same x y e = cc
+
+take_down_slot : (n : Exec) (o : Option Ex) (s : State) → parked_at n s.env ≡ o → SlotBy FreshEx n o → SlotBy (λ m x. m ≡ s.env.exec → ⊥) n o → FreshEnv s.env → FreshMoved (sw.take_down_by n o s)
+take_down_slot n None s i r a h = h
+take_down_slot n (Some x) s i r a h = by x.links.stage refl
+  where
+    others : (x.links.stage ≡ Started → ⊥) → (y : Ex) → parked_at n s.env ≡ Some y → stacked (y.run ∷ y.callers) ≡ []
+    others f y j = subst (λ (z : Ex). stacked (z.run ∷ z.callers) ≡ []) (sym (some_same x y (sym i ∙ j))) (ended_told n x f r)
+
+    by : (g : Stage) → x.links.stage ≡ g → FreshMoved (sw.take_down_at g n x s)
+    by Fresh e = over_keeps n s a (others (λ f. let c : Fresh ≡ Started = sym e ∙ f in absurd (cc))) h
+    by Started e =
+        switched_keeps n (sw.unwound_there reason.Destroyed (record x { links = record x.links { live = false; destroyer = Some s.env.exec } })) s (subst IsStarted (sym e) tt) (stops s h) h.slots
+    by Ended e = over_keeps n s a (others (λ f. let c : Ended ≡ Started = sym e ∙ f in absurd (cc))) h
+
+pub take_down_keeps : (o : Option Exec) (s : State) → EnvBy (λ m x. m ≡ s.env.exec → ⊥) s.env → FreshEnv s.env → FreshMoved (sw.take_down o s)
+take_down_keeps None s a h = h
+take_down_keeps (Some n) s a h =
+    take_down_slot n (parked_at n s.env) s refl (parked.parked_rests FreshEx n s.env h.slots) (parked.parked_rests (λ m x. m ≡ s.env.exec → ⊥) n s.env a) h

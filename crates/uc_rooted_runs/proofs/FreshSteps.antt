@@ -29,7 +29,7 @@ use Rattle.uc_machine.specs.Answering.{answered, entered, new_members, with_oper
 use Rattle.uc_life_laws.specs.LifeStates.{MembersBy}
 use Rattle.uc_life_laws.proofs.Cells.{either}
 use Rattle.uc_life_laws.proofs.Parked as parked
-use Rattle.uc_rooted_runs.specs.FreshStates.{FreshEx, FreshEnv, FreshStep, IsBegun, BindsBegunBy, BindsBegun}
+use Rattle.uc_rooted_runs.specs.FreshStates.{FreshEx, FreshEnv, FreshStep, IsBegun, BindsBegunBy, NoneBehind, LeavesNone, MainsBareBy, TakesOthersBy, KeepsFresh}
 use Rattle.uc_rooted_runs.proofs.FreshKeeping as kept
 use Rattle.uc_rooted_runs.proofs.FreshKeeping.{FreshMoved}
 
@@ -259,26 +259,26 @@ module _ (s : State) (st : FreshEnv s.env) where
   main_left (Some (reason.ReturnTo n)) todo = st
   main_left w todo = st
 
-  coroutine_left : (w : Option UnwindReason) (todo : List Todo) → FreshStep (raising.coroutine_left w todo s)
-  coroutine_left (Some (reason.ReturnTo n)) todo = st
-  coroutine_left (Some reason.Destroyed) todo = moved _ todo _ (kept.taken_down_keeps (at todo [] s) st)
-  coroutine_left w todo = moved _ todo _ (kept.escape_keeps (at todo [] s) st)
+  coroutine_left : (w : Option UnwindReason) (todo : List Todo) → NoneBehind todo s → FreshStep (raising.coroutine_left w todo s)
+  coroutine_left (Some (reason.ReturnTo n)) todo b = st
+  coroutine_left (Some reason.Destroyed) todo b = moved _ todo _ (kept.taken_down_keeps (at todo [] s) b st)
+  coroutine_left w todo b = moved _ todo _ (kept.escape_keeps (at todo [] s) b st)
 
-  unwind_past : (k : Sort) (todo : List Todo) → FreshStep (raising.unwind_past k todo s)
-  unwind_past piece.Simple todo = st
-  unwind_past (piece.IsLoop order c e b) todo = st
-  unwind_past piece.IsWhole todo = whole _ todo
-  unwind_past (piece.IsClean x) todo = scope x _ todo
-  unwind_past (piece.IsFill m b d) todo = st
-  unwind_past (piece.IsSweep e) todo = st
-  unwind_past (piece.IsPart x) todo = st
-  unwind_past (piece.IsGuard hs) todo = guarded hs s.run.raised todo
-  unwind_past piece.IsFinish todo = main_left s.run.raised todo
-  unwind_past piece.IsFinishCoroutine todo = coroutine_left s.run.raised todo
+  unwind_past : (k : Sort) (todo : List Todo) → LeavesNone k todo s → FreshStep (raising.unwind_past k todo s)
+  unwind_past piece.Simple todo g = st
+  unwind_past (piece.IsLoop order c e b) todo g = st
+  unwind_past piece.IsWhole todo g = whole _ todo
+  unwind_past (piece.IsClean x) todo g = scope x _ todo
+  unwind_past (piece.IsFill m b d) todo g = st
+  unwind_past (piece.IsSweep e) todo g = st
+  unwind_past (piece.IsPart x) todo g = st
+  unwind_past (piece.IsGuard hs) todo g = guarded hs s.run.raised todo
+  unwind_past piece.IsFinish todo g = main_left s.run.raised todo
+  unwind_past piece.IsFinishCoroutine todo g = coroutine_left s.run.raised todo g
 
-  unwinds : (todo : List Todo) → FreshStep (raising.unwind_step todo s)
-  unwinds [] = leaves s.callers
-  unwinds (p ∷ ps) = unwind_past (piece.sort p) ps
+  unwinds : (todo : List Todo) → MainsBareBy (piece.Unwind ∷ todo) s → FreshStep (raising.unwind_step todo s)
+  unwinds [] b = leaves s.callers
+  unwinds (p ∷ ps) b = unwind_past (piece.sort p) ps b
 
   exits : (w : Way) (todo : List Todo) → FreshStep (quiet.exit_step w todo s)
   exits w [] = end_step w
@@ -297,82 +297,82 @@ module _ (s : State) (st : FreshEnv s.env) where
 
   module _ (source : Source) where
     -- one piece, with what is to do behind it
-    acts : (p : Todo) (todo : List Todo) → BindsBegunBy source (p ∷ todo) s → FreshStep (quiet.act source p todo s)
-    acts (piece.Eval a) todo o = eval a todo
-    acts (piece.ElementNow m k) todo o = element k _ todo _ _
-    acts piece.NegateNow todo o = outcome _ todo _
-    acts (piece.OperateNow op) todo o = outcome _ todo _
-    acts piece.StoreNow todo o = kept.written_number _ _ s.env st
-    acts piece.KeepNow todo o = kept.written_number _ _ s.env st
-    acts (piece.SetNow k) todo o = kept.written_number (piece.variable_at k s) _ s.env st
-    acts piece.BindNow todo o = kept.written_begun (top (below s.run.operands)) _ s.env o st
-    acts (piece.Arguments src.NoExprs) todo o = st
-    acts (piece.Arguments (src.MoreExprs a es)) todo o = st
-    acts (piece.CallNow r) todo o = call (slice_get source.routines r) todo
-    acts (piece.CallOnNow r) todo o = call_on (slice_get source.routines r) todo
-    acts (piece.CallUnwrittenNow r) todo o = call_unwritten (slice_get source.routines r) todo
-    acts (piece.PrintNow form) todo o = prints s.env.gathered _ todo _
-    acts (piece.TextNow k) todo o = prints s.env.gathered _ todo _
-    acts piece.GatherNow todo o = kept.like st refl refl refl refl
-    acts piece.FlushNow todo o = flushes s.env.gathered todo _
-    acts (piece.ClearNow k m) todo o = kept.owned_numbers (piece.this_frame s) (values_cleared k m nought) s.env (λ vs h. kept.numbers_cleared k m vs h) st
-    acts (piece.Items []) todo o = st
-    acts (piece.Items (i ∷ is)) todo o = st
-    acts (piece.Values []) todo o = st
-    acts (piece.Values (i ∷ is)) todo o = st
-    acts (piece.Pieces []) todo o = st
-    acts (piece.Pieces (i ∷ is)) todo o = st
-    acts (piece.Targets []) todo o = st
-    acts (piece.Targets (x ∷ xs)) todo o = st
-    acts (piece.Variables []) todo o = st
-    acts (piece.Variables (d ∷ ds)) todo o = st
-    acts (piece.Do a) todo o = stmt a todo
-    acts (piece.Rest ss) todo o = rests ss todo
-    acts (piece.Exit w) todo o = exits w todo
-    acts (piece.Sweep a) todo o = swept s.run.elements a todo
-    acts piece.Unwind todo o = unwinds todo
-    acts piece.ThrowNow todo o = st
-    acts piece.RaiseNow todo o = raises (raising.event_in s.run.operands) todo
-    acts (piece.SetUpNow r) todo o = set_up (slice_get source.routines r) todo o
-    acts piece.EnlivenNow todo o = kept.enlivened_keeps (piece.own_exec s) s.env st
-    acts piece.TakeDownNow todo o = moved _ todo _ (kept.take_down_keeps (piece.own_exec s) (at todo s.run.operands s) st)
-    acts piece.ForgetNow todo o = kept.forgotten_keeps (piece.own_exec s) s.env st
-    acts (piece.LiveNow r) todo o = live (slice_get source.routines r) todo
-    acts piece.ResumeNow todo o = moved _ (piece.Land ∷ todo) _ (kept.wake_keeps (quiet.resumed s) (at (piece.Land ∷ todo) s.run.operands s) st)
-    acts piece.SuspendNow todo o = moved _ (piece.Land ∷ todo) _ (kept.suspend_keeps (at (piece.Land ∷ todo) s.run.operands s) st)
-    acts piece.Land todo o = land s.run.raised todo
-    acts (piece.EnterNow m r) todo o = enter m (slice_get source.routines r) todo
-    acts piece.LeaveNow todo o = leave _ (monitors.this_object s) todo
-    acts (piece.MakeNow k r) todo o = make k r (slice_get source.routines r) todo
-    acts (piece.BindMadeNow k r) todo o = bind (slice_get source.routines r) todo o
-    acts piece.MadeNow todo o = unless (monitors.this_object s) _ todo (kept.like st refl refl refl refl)
-    acts (piece.SpawnNow r) todo o = unless (monitors.this_object s) _ (piece.ChildNow r ∷ todo) (kept.like st refl refl refl refl)
-    acts piece.GoneNow todo o = kept.like st refl refl refl refl
-    acts piece.GiveUpNow todo o = kept.like st refl refl refl refl
-    acts (piece.ConditionNow k m) todo o = condition k _ todo
-    acts piece.WaitNow todo o = unless (monitors.this_object s) _ todo st
-    acts piece.SignalBlockNow todo o = unless (monitors.this_object s) _ todo st
-    acts (piece.Guards src.NoClauses) todo o = st
-    acts (piece.Guards (src.Otherwise b)) todo o = st
-    acts (piece.Guards (src.MoreClauses guard b cs)) todo o = st
-    acts (piece.AcceptNow site m) todo o = accept_by (monitors.mask_of (take_operands piece.Nothing m s.run.operands [])) (monitors.this_object s) site todo (drop m s.run.operands)
-    acts piece.FailedNow todo o = failed _ todo _
-    acts piece.RaiseAtNow todo o = raise_at _ _ todo _
-    acts (piece.EnableNow events cell) todo o = enables _ cell todo
-    acts (piece.DisableNow events cell) todo o = enables _ cell todo
-    acts (piece.RestoreNow cell) todo o = kept.like st refl refl refl refl
-    acts piece.PollNow todo o = poll todo
-    acts piece.DeliverNow todo o = deliver _ todo
-    acts piece.Finish todo o = unless s.env.own _ todo (returned _ s.callers)
-    acts piece.FinishCoroutine todo o = moved _ todo _ (kept.finish_keeps (at todo s.run.operands s) st)
-    acts p todo o = st
+    acts : (p : Todo) (todo : List Todo) → BindsBegunBy source (p ∷ todo) s → MainsBareBy (p ∷ todo) s → TakesOthersBy (p ∷ todo) s → FreshStep (quiet.act source p todo s)
+    acts (piece.Eval a) todo o g y = eval a todo
+    acts (piece.ElementNow m k) todo o g y = element k _ todo _ _
+    acts piece.NegateNow todo o g y = outcome _ todo _
+    acts (piece.OperateNow op) todo o g y = outcome _ todo _
+    acts piece.StoreNow todo o g y = kept.written_number _ _ s.env st
+    acts piece.KeepNow todo o g y = kept.written_number _ _ s.env st
+    acts (piece.SetNow k) todo o g y = kept.written_number (piece.variable_at k s) _ s.env st
+    acts piece.BindNow todo o g y = kept.written_begun (top (below s.run.operands)) _ s.env o st
+    acts (piece.Arguments src.NoExprs) todo o g y = st
+    acts (piece.Arguments (src.MoreExprs a es)) todo o g y = st
+    acts (piece.CallNow r) todo o g y = call (slice_get source.routines r) todo
+    acts (piece.CallOnNow r) todo o g y = call_on (slice_get source.routines r) todo
+    acts (piece.CallUnwrittenNow r) todo o g y = call_unwritten (slice_get source.routines r) todo
+    acts (piece.PrintNow form) todo o g y = prints s.env.gathered _ todo _
+    acts (piece.TextNow k) todo o g y = prints s.env.gathered _ todo _
+    acts piece.GatherNow todo o g y = kept.like st refl refl refl refl
+    acts piece.FlushNow todo o g y = flushes s.env.gathered todo _
+    acts (piece.ClearNow k m) todo o g y = kept.owned_numbers (piece.this_frame s) (values_cleared k m nought) s.env (λ vs h. kept.numbers_cleared k m vs h) st
+    acts (piece.Items []) todo o g y = st
+    acts (piece.Items (i ∷ is)) todo o g y = st
+    acts (piece.Values []) todo o g y = st
+    acts (piece.Values (i ∷ is)) todo o g y = st
+    acts (piece.Pieces []) todo o g y = st
+    acts (piece.Pieces (i ∷ is)) todo o g y = st
+    acts (piece.Targets []) todo o g y = st
+    acts (piece.Targets (x ∷ xs)) todo o g y = st
+    acts (piece.Variables []) todo o g y = st
+    acts (piece.Variables (d ∷ ds)) todo o g y = st
+    acts (piece.Do a) todo o g y = stmt a todo
+    acts (piece.Rest ss) todo o g y = rests ss todo
+    acts (piece.Exit w) todo o g y = exits w todo
+    acts (piece.Sweep a) todo o g y = swept s.run.elements a todo
+    acts piece.Unwind todo o g y = unwinds todo g
+    acts piece.ThrowNow todo o g y = st
+    acts piece.RaiseNow todo o g y = raises (raising.event_in s.run.operands) todo
+    acts (piece.SetUpNow r) todo o g y = set_up (slice_get source.routines r) todo o
+    acts piece.EnlivenNow todo o g y = kept.enlivened_keeps (piece.own_exec s) s.env st
+    acts piece.TakeDownNow todo o g y = moved _ todo _ (kept.take_down_keeps (piece.own_exec s) (at todo s.run.operands s) y st)
+    acts piece.ForgetNow todo o g y = kept.forgotten_keeps (piece.own_exec s) s.env st
+    acts (piece.LiveNow r) todo o g y = live (slice_get source.routines r) todo
+    acts piece.ResumeNow todo o g y = moved _ (piece.Land ∷ todo) _ (kept.wake_keeps (quiet.resumed s) (at (piece.Land ∷ todo) s.run.operands s) st)
+    acts piece.SuspendNow todo o g y = moved _ (piece.Land ∷ todo) _ (kept.suspend_keeps (at (piece.Land ∷ todo) s.run.operands s) st)
+    acts piece.Land todo o g y = land s.run.raised todo
+    acts (piece.EnterNow m r) todo o g y = enter m (slice_get source.routines r) todo
+    acts piece.LeaveNow todo o g y = leave _ (monitors.this_object s) todo
+    acts (piece.MakeNow k r) todo o g y = make k r (slice_get source.routines r) todo
+    acts (piece.BindMadeNow k r) todo o g y = bind (slice_get source.routines r) todo o
+    acts piece.MadeNow todo o g y = unless (monitors.this_object s) _ todo (kept.like st refl refl refl refl)
+    acts (piece.SpawnNow r) todo o g y = unless (monitors.this_object s) _ (piece.ChildNow r ∷ todo) (kept.like st refl refl refl refl)
+    acts piece.GoneNow todo o g y = kept.like st refl refl refl refl
+    acts piece.GiveUpNow todo o g y = kept.like st refl refl refl refl
+    acts (piece.ConditionNow k m) todo o g y = condition k _ todo
+    acts piece.WaitNow todo o g y = unless (monitors.this_object s) _ todo st
+    acts piece.SignalBlockNow todo o g y = unless (monitors.this_object s) _ todo st
+    acts (piece.Guards src.NoClauses) todo o g y = st
+    acts (piece.Guards (src.Otherwise b)) todo o g y = st
+    acts (piece.Guards (src.MoreClauses guard b cs)) todo o g y = st
+    acts (piece.AcceptNow site m) todo o g y = accept_by (monitors.mask_of (take_operands piece.Nothing m s.run.operands [])) (monitors.this_object s) site todo (drop m s.run.operands)
+    acts piece.FailedNow todo o g y = failed _ todo _
+    acts piece.RaiseAtNow todo o g y = raise_at _ _ todo _
+    acts (piece.EnableNow events cell) todo o g y = enables _ cell todo
+    acts (piece.DisableNow events cell) todo o g y = enables _ cell todo
+    acts (piece.RestoreNow cell) todo o g y = kept.like st refl refl refl refl
+    acts piece.PollNow todo o g y = poll todo
+    acts piece.DeliverNow todo o g y = deliver _ todo
+    acts piece.Finish todo o g y = unless s.env.own _ todo (returned _ s.callers)
+    acts piece.FinishCoroutine todo o g y = moved _ todo _ (kept.finish_keeps (at todo s.run.operands s) g st)
+    acts p todo o g y = st
 
-    pub walk : BindsBegun source s → FreshStep (quiet.quiet source s)
-    walk o = by s.run.control o
+    pub walk : KeepsFresh source s → FreshStep (quiet.quiet source s)
+    walk o = by s.run.control o.binds o.ends.mains o.ends.takes
       where
-        by : (l : List Todo) → BindsBegunBy source l s → FreshStep (quiet.act_todo source l s)
-        by [] o = returned _ s.callers
-        by (p ∷ todo) o = acts p todo o
+        by : (l : List Todo) → BindsBegunBy source l s → MainsBareBy l s → TakesOthersBy l s → FreshStep (quiet.act_todo source l s)
+        by [] o b d = returned _ s.callers
+        by (p ∷ todo) o b d = acts p todo o b d
 
 -- answers
 

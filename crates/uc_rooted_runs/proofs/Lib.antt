@@ -1,6 +1,7 @@
 pub mod Births
 pub mod FreshKeeping
 pub mod FreshSteps
+pub mod EndedTasks
 pub mod FreshRuns
 pub mod Forgetting
 pub mod OutlastKeeping
@@ -8,5 +9,16 @@ pub mod OutlastSteps
 pub mod OutlastWalk
 pub mod Outlasting
 pub mod Upwards
+pub mod Binds
 pub mod OutlastRuns
 pub mod RootedRuns
+pub mod MainKeeping
+pub mod MainSteps
+pub mod MainWalk
+pub mod EndSteps
+pub mod MainRuns
+pub mod OutlastNames
+pub mod UnmarkedRuns
+pub mod Beside
+pub mod MadeRuns
+pub mod KeptRuns

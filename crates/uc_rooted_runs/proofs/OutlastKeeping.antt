@@ -62,11 +62,11 @@ module _ (makers : Makers) (up : Exec → Bool) where
   -- executions are made and go, and their links change
 
   -- of the name of one that is made
-  born_by : (h : Home) (x : Ex) (o : Option Members) (e : Env) → OutlastEx makers up (at_home h (sw.serial_in o)) x → MembersBy (OutlastEx makers up) h o → EnvBy (OutlastEx makers up) e → EnvBy (OutlastEx makers up) (change_in h (sw.one_more x) o e)
+  born_by : (h : Home) (x : Ex) (o : Option Members) (e : Env) → ((m : Members) → o ≡ Some m → OutlastEx makers up (at_home h (sw.serial_in o)) x) → MembersBy (OutlastEx makers up) h o → EnvBy (OutlastEx makers up) e → EnvBy (OutlastEx makers up) (change_in h (sw.one_more x) o e)
   born_by h x None e r m s = s
-  born_by h x (Some m) e r k s = parked.set_rests (OutlastEx makers up) h (sw.one_more x m) e (parked.more_parked (OutlastEx makers up) h m.serial x m.parked r k) s
+  born_by h x (Some m) e r k s = parked.set_rests (OutlastEx makers up) h (sw.one_more x m) e (parked.more_parked (OutlastEx makers up) h m.serial x m.parked (r m refl) k) s
 
-  pub born_keeps : (h : Home) (x : Ex) (e : Env) → OutlastEx makers up (sw.new_exec h e) x → EnvBy (OutlastEx makers up) e → Keeps e (sw.born h x e)
+  pub born_keeps : (h : Home) (x : Ex) (e : Env) → ((m : Members) → members_at h e ≡ Some m → OutlastEx makers up (sw.new_exec h e) x) → EnvBy (OutlastEx makers up) e → Keeps e (sw.born h x e)
   born_keeps h x e r s = record {
     exec = parked.change_exec h (sw.one_more x) e;
     env = born_by h x (members_at h e) e r (parked.members_rests (OutlastEx makers up) h e s) s;

@@ -1,4 +1,4 @@
--- In each run what executions were to clean up as they made others stays with them, as long as no state reaches a mark of those.
+-- In each run what holds the objects of executions stays, as long as what is left is left to another piece that holds one.
 use Rattle.std.proofs.Common.{◌≡◌, ℕ, ◌==◌, ◌<◌, ◌≤◌, Bool, true, false, List, [], ◌∷◌, ◌++◌, Option, Some, None, refl, sym, ap, ◌∙◌, subst, arith, ⊎_elim, ◌||◌}
 use Rattle.std.specs.Prelude.{if◌then◌else◌, slice_get}
 use Rattle.std.proofs.lemmas.Bool.{cases_lt}
@@ -42,17 +42,17 @@ use Rattle.uc_life_laws.specs.LifeStates.{HandBy, MembersBy, EnvBy}
 use Rattle.uc_life_laws.proofs.Cells.{either, tested}
 use Rattle.uc_life_laws.proofs.Parked as parked
 use Rattle.uc_world_laws.proofs.Fewer.{both_members, both_env}
-use Rattle.uc_rooted_runs.specs.Makers.{Placed, placed, stacked, Ends, Makers}
-use Rattle.uc_rooted_runs.specs.Outlasting.{EndIn, Outlasts, OutlastEx, OutlastState, OutlastStep, Spares, SparesAt}
+use Rattle.uc_rooted_runs.specs.Makers.{Placed, stacked, Makers}
+use Rattle.uc_rooted_runs.specs.Outlasting.{CoveredIn, Covered, Outlasts, OutlastEx, OutlastState, OutlastStep, Spares, SparesAt}
 use Rattle.uc_rooted_runs.specs.Births.{MakesLater, SpawnsLater, RunSpawnsLater}
 use Rattle.uc_rooted_runs.specs.Upwards.{OutlastWorld}
 use Rattle.uc_rooted_runs.specs.OutlastRuns.{with_before, with_made, made_by, made_behind, ride_made, made_asked, run_made, now, OutlastsAt, RideOutlasts, SpawnsAlone, MayOutlast, RunOutlasts, LawOutlastRuns}
 use Rattle.uc_rooted_runs.proofs.OutlastWalk as walking
 use Rattle.uc_rooted_runs.proofs.OutlastSteps as steps
 use Rattle.uc_rooted_runs.proofs.OutlastKeeping as kept
-use Rattle.uc_rooted_runs.proofs.Outlasting.{ends_more, state_fewer, state_more}
+use Rattle.uc_rooted_runs.proofs.Outlasting.{covered_more, state_fewer, state_more}
 
-module _ (whole : Makers) (before : Exec → List Placed) (ends : (n : Exec) → Ends (before n) (whole.before n)) (asked : Exec → Bool) where
+module _ (whole : Makers) (before : Exec → List Placed) (asked : Exec → Bool) where
   -- with these outer parts
   abbrev makers : Makers
   makers = with_before before whole
@@ -107,24 +107,24 @@ module _ (whole : Makers) (before : Exec → List Placed) (ends : (n : Exec) →
       at (SetUpNow r ∷ todo) c h = one r todo c (slice_get source.routines r) refl (members_at (home_at s.run.this s.env) s.env) refl h
       at (p ∷ todo) c h = absurd (no_both (made x) h f)
 
-  -- a step that makes one goes on with the same running execution and the same marks
+  -- a step that makes one goes on with the same running execution, which holds what it held
   record Same (s u : State) : Type 0 where
     exec : u.env.exec ≡ s.env.exec
-    marks : stacked (u.run ∷ u.callers) ≡ stacked (s.run ∷ s.callers)
+    covered : (ps : List Placed) → Covered ps (s.run ∷ s.callers) → Covered ps (u.run ∷ u.callers)
 
   birth_same : (source : Source) (up : Exec → Bool) (s u : State) (x : Exec) → IsBorn source s x → OutlastState makers up s → Spares makers up s → quiet.quiet source s ≡ Goes u → Same s u
   birth_same source up s u x b st o e =
       let new : SparesAt makers up (SetUpNow b.main ∷ b.todo) s = subst (λ l. SparesAt makers up l s) b.next o in
       let q = home_at s.run.this s.env in
       let y = quiet.fresh b.routine s.run.this in
-      let k : kept.Keeps makers up s.env (sw.born q y s.env) = kept.born_keeps makers up q y s.env (steps.fresh makers up s st (new_exec q s.env) b.routine s.run.this new) st.env in
+      let k : kept.Keeps makers up s.env (sw.born q y s.env) = kept.born_keeps makers up q y s.env (λ m e. steps.fresh makers up s st (new_exec q s.env) b.routine s.run.this (new m e)) st.env in
       let l : kept.Keeps makers up s.env (written s.run.this (Running (new_exec q s.env)) (sw.born q y s.env)) = kept.keeps_both makers up k (kept.written_keeps makers up s.run.this (Running (new_exec q s.env)) (sw.born q y s.env) k.env) in
       let first : quiet.act_todo source (SetUpNow b.main ∷ b.todo) s ≡ Goes u = subst (λ l. quiet.act_todo source l s ≡ Goes u) b.next e in
       let goes : Goes (at b.todo s.run.operands (in_env (written s.run.this (Running (new_exec q s.env)) (sw.born q y s.env)) s)) ≡ Goes u = subst (λ o. quiet.set_up_step o b.todo s ≡ Goes u) b.known first in
       let same : at b.todo s.run.operands (in_env (written s.run.this (Running (new_exec q s.env)) (sw.born q y s.env)) s) ≡ u = cc goes in
       subst (Same s) same (record {
         exec = l.exec;
-        marks = ap (λ l. placed s.run.frame s.run.this l (stacked s.callers)) (sym b.next);
+        covered = λ ps h. subst (CoveredIn ps s.run.frame s.run.this (stacked s.callers) (Covered ps s.callers)) b.next h;
       })
 
   goes_only : (source : Source) (s u : State) (x : Exec) → IsBorn source s x → quiet.quiet source s ≡ Ticks u → ⊥
@@ -161,12 +161,12 @@ module _ (whole : Makers) (before : Exec → List Placed) (ends : (n : Exec) →
         y : OutlastState makers (now makers asked made) u
         y = subst (OutlastStep makers (now makers asked made)) e (walking.walk makers (now makers asked made) source s st a.spares)
 
-        told : (x : Exec) → now makers asked (made_behind source s made) x ≡ true → now makers asked made x ≡ false → (makers.parent x ≡ u.env.exec) × Ends (makers.before x) (stacked (u.run ∷ u.callers))
+        told : (x : Exec) → now makers asked (made_behind source s made) x ≡ true → now makers asked made x ≡ false → (makers.parent x ≡ u.env.exec) × Covered (makers.before x) (u.run ∷ u.callers)
         told x k f =
             let b = born x k f in
             let m = l x b in
             let g = birth_same source (now makers asked made) s u x b st a.spares e in
-            (m.parent ∙ sym g.exec, subst (Ends (before x)) (m.before ∙ sym g.marks) (ends x))
+            (m.parent ∙ sym g.exec, g.covered (before x) (a.covered x b (now_asked (made_behind source s made) x k)))
 
         by : (c : Bool) → now makers asked (made_behind source s made) (new_exec (home_at s.run.this s.env) s.env) ≡ c → (d : Bool) → now makers asked made (new_exec (home_at s.run.this s.env) s.env) ≡ d → OutlastState makers (now makers asked (made_behind source s made)) u
         by true g false i =
@@ -204,16 +204,17 @@ module _ (whole : Makers) (before : Exec → List Placed) (ends : (n : Exec) →
     asked_spawned : (q : Request) → SpawnsAlone makers asked made q s → SpawnsLater whole q s → OutlastState makers (now makers asked made) s → OutlastState makers (now makers asked (made_asked q made)) s
     asked_spawned (ask.Spawn o) f l st = state_more makers (now makers asked made) (now makers asked (made_asked (ask.Spawn o) made)) s st f.0 told
       where
-        told : (x : Exec) → now makers asked (made_asked (ask.Spawn o) made) x ≡ true → now makers asked made x ≡ false → (makers.parent x ≡ s.env.exec) × Ends (makers.before x) (stacked (s.run ∷ s.callers))
+        told : (x : Exec) → now makers asked (made_asked (ask.Spawn o) made) x ≡ true → now makers asked made x ≡ false → (makers.parent x ≡ s.env.exec) × Covered (makers.before x) (s.run ∷ s.callers)
         told x h g = by (exec_eq x (main_of o)) refl
           where
             old : made x ≡ false
             old = not_now made x (now_asked (made_asked (ask.Spawn o) made) x h) g
 
-            by : (b : Bool) → exec_eq x (main_of o) ≡ b → (makers.parent x ≡ s.env.exec) × Ends (makers.before x) (stacked (s.run ∷ s.callers))
+            by : (b : Bool) → exec_eq x (main_of o) ≡ b → (makers.parent x ≡ s.env.exec) × Covered (makers.before x) (s.run ∷ s.callers)
             by true e =
                 let same = same_exec x (main_of o) e in
-                (ap whole.parent same ∙ l.parent, subst (Ends (before x)) (ap whole.before same ∙ l.before) (ends x))
+                let it : asked (main_of o) ≡ true = ap asked (sym same) ∙ now_asked (made_asked (ask.Spawn o) made) x h in
+                (ap whole.parent same ∙ l.parent, subst (λ n. Covered (before n) (s.run ∷ s.callers)) (sym same) (f.2 it))
             by false e =
                 let now_it : (if exec_eq x (main_of o) then true else made x) ≡ true = now_made (made_asked (ask.Spawn o) made) x h in
                 no_both (made x) (ap (λ b. if b then true else made x) (sym e) ∙ now_it) old
@@ -238,8 +239,8 @@ module _ (whole : Makers) (before : Exec → List Placed) (ends : (n : Exec) →
   bare_told : (up : Exec → Bool) (s : State) → OutlastState makers up s → OutlastState makers up (bare s)
   bare_told up s h = record { stack = h.stack; env = record { house = h.env.house; hand = tt } }
 
-  bare_main : (r : Routine) (o : ℕ) (up : Exec → Bool) → EndIn makers up (main_of o) [] → Outlasts makers up (first_state r o).env.exec ((first_state r o).run ∷ (first_state r o).callers)
-  bare_main r o up h = steps.routine makers up (main_of o) 0 (piece.Object o) [] r h
+  bare_main : (r : Routine) (o : ℕ) (up : Exec → Bool) → Outlasts makers up (main_of o) [] → Outlasts makers up (first_state r o).env.exec ((first_state r o).run ∷ (first_state r o).callers)
+  bare_main r o up h = steps.routine makers up (main_of o) 0 (piece.Object o) [] (λ x. ⊥) r h
 
   first_env : (r : Routine) (o : ℕ) (up : Exec → Bool) → EnvBy (OutlastEx makers up) (first_state r o).env
   first_env r o up = record { house = (tt, tt); hand = tt }
@@ -260,11 +261,11 @@ module _ (whole : Makers) (before : Exec → List Placed) (ends : (n : Exec) →
       -- elsewhere
       old_stack : (v : ℕ) → v < task_count j → (v == t) ≡ false → Outlasts makers (now makers asked (made_asked q.request (ride_made source made d.rides))) (w.tasks v).env.exec ((w.tasks v).run ∷ (w.tasks v).callers)
       old_stack v l e =
-          ends_more makers (now makers asked made) (now makers asked (made_asked q.request (ride_made source made d.rides))) (w.tasks v).env.exec (stacked ((w.tasks v).run ∷ (w.tasks v).callers)) (λ x g i r. absurd (k.2.tasks v l e x g i r)) (h.stacks v l)
+          covered_more makers (now makers asked made) (now makers asked (made_asked q.request (ride_made source made d.rides))) (w.tasks v).env.exec ((w.tasks v).run ∷ (w.tasks v).callers) (λ x g i r. absurd (k.2.tasks v l e x g i r)) (h.stacks v l)
 
       -- of one that has made none meanwhile
       grown : (m : Exec) (y : _) → ((x : Exec) → now makers asked (made_asked q.request (ride_made source made d.rides)) x ≡ true → now makers asked made x ≡ false → makers.parent x ≡ m → ⊥) → OutlastEx makers (now makers asked made) m y → OutlastEx makers (now makers asked (made_asked q.request (ride_made source made d.rides))) m y
-      grown m y g e = ends_more makers (now makers asked made) (now makers asked (made_asked q.request (ride_made source made d.rides))) m (stacked (y.run ∷ y.callers)) (λ x u d r. absurd (g x u d r)) e
+      grown m y g e = covered_more makers (now makers asked made) (now makers asked (made_asked q.request (ride_made source made d.rides))) m (y.run ∷ y.callers) (λ x u d r. absurd (g x u d r)) e
 
       old_env : (v : ℕ) → (v == t) ≡ false → EnvBy (OutlastEx makers (now makers asked (made_asked q.request (ride_made source made d.rides)))) (w.tasks v).env
       old_env v e =
@@ -279,7 +280,7 @@ module _ (whole : Makers) (before : Exec → List Placed) (ends : (n : Exec) →
       or_home o (Some z) e m = m
 
       -- the main that is spawned has made none
-      main_none : (o : ℕ) → q.request ≡ ask.Spawn o → EndIn makers (now makers asked (made_asked q.request (ride_made source made d.rides))) (main_of o) []
+      main_none : (o : ℕ) → q.request ≡ ask.Spawn o → Outlasts makers (now makers asked (made_asked q.request (ride_made source made d.rides))) (main_of o) []
       main_none o e x u r = absurd (by q.request e k.1 u)
         where
           by : (g : Request) → g ≡ ask.Spawn o → SpawnsAlone makers asked (ride_made source made d.rides) g s → now makers asked (made_asked g (ride_made source made d.rides)) x ≡ true → ⊥
@@ -350,4 +351,4 @@ module _ (whole : Makers) (before : Exec → List Placed) (ends : (n : Exec) →
         outlast_act rests going deep (run_made source input opts r) h p t n s q d f.1 on o.1 (known source input opts range rests going x.serials x.world p t d.runs) ml.1 sl.1
 
 pub law_outlast_runs : LawOutlastRuns
-law_outlast_runs asked before source input opts j w r range fits on b e o = run_outlasts b.makers before e asked source input opts range r fits on o b.made b.spawned
+law_outlast_runs asked before source input opts j w r range fits on b o = run_outlasts b.makers before asked source input opts range r fits on o b.made b.spawned

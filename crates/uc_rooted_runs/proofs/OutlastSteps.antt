@@ -1,5 +1,5 @@
--- A quiet step of a task keeps what executions were to clean up as they made others.
-use Rattle.std.proofs.Common.{◌≡◌, ℕ, zero, suc, ◌++◌, Bool, true, false, List, [], ◌∷◌, length, drop, Option, Some, None, refl, subst, sym}
+-- A quiet step of a task keeps what holds the objects of executions.
+use Rattle.std.proofs.Common.{◌≡◌, ℕ, zero, suc, ◌+◌, ◌++◌, ◌⊎◌, pos, inr, ⊎_elim, Bool, true, false, List, [], ◌∷◌, length, drop, Option, Some, None, refl, subst, sym}
 use Rattle.std.specs.Prelude.{nat_eq, nat_lt}
 use Rattle.uc_tree.specs.declared.limits.TheConstants.{CALLS, PENDING_EVENTS}
 use Rattle.uc_tree.specs.Source as src
@@ -22,31 +22,38 @@ use Rattle.uc_machine.specs.Polls as polls
 use Rattle.uc_machine.specs.Quiet as quiet
 use Rattle.uc_machine.specs.Pieces as piece
 use Rattle.uc_machine.specs.Pieces.{Value, Number, Place, Running, Object, Nothing, Todo, Sort, Active, State, Env, Members, Step, Goes, Ticks, Asks, Outcome, Gives, Faults, at, in_env, top, below, number, nought, written}
-use Rattle.uc_rooted_runs.specs.Makers.{Placed, put, placed, stacked, Ends, all, behind, Makers}
-use Rattle.uc_rooted_runs.specs.Outlasting.{EndIn, Outlasts, OutlastEx, OutlastState, OutlastStep, LeavesLater, ExitsLater, SparesAt}
+use Rattle.uc_rooted_runs.specs.Makers.{Placed, placed, stacked, Makers}
+use Rattle.uc_rooted_runs.specs.Outlasting.{opens, covers_simply, covers_by, or_covered, CoveredIn, Covered, CoveredBehind, CoverNone, Outlasts, OutlastEx, OutlastState, OutlastStep, CoveredLater, LeavesSimply, UnwindsLater, ExitsLater, SweepsLater, SparesAt}
 use Rattle.uc_life_laws.proofs.Cells.{either}
 use Rattle.uc_rooted_runs.proofs.OutlastKeeping as kept
 use Rattle.uc_rooted_runs.proofs.OutlastKeeping.{Keeps}
 
-pub past_one : {ps qs : List Placed} {p : Placed} → Ends ps (p ∷ qs) → (ps ≡ p ∷ qs → ⊥) → Ends ps qs
-past_one all f = absurd (f refl)
-past_one (behind h) f = h
+-- in front of what a piece stands something holds, or not
+pub skip : (b : Bool) (A R : Type 0) → R → or_covered b A R
+skip true A R r = inr r
+skip false A R r = r
 
 module _ (makers : Makers) (up : Exec → Bool) where
-  -- to-do lists of an activation of this frame and object, before older ones
-  module _ (m : Exec) (f : ℕ) (this : Value) (older : List Placed) where
+  -- to-do lists of an activation of this frame and object, before older ones with these marks, of which this is told
+  module _ (m : Exec) (f : ℕ) (this : Value) (older : List Placed) (rest : Exec → Type 0) where
     abbrev There : List Todo → Type 0
-    There todo = EndIn makers up m (placed f this todo older)
+    There todo = (x : Exec) → up x ≡ true → makers.parent x ≡ m → CoveredIn (makers.before x) f this older (rest x) todo
 
-    ends_in : (p : Purpose) (line : ℕ) → EndIn makers up m older → There (quiet.behind_body p line)
+    drop_one : (todo : List Todo) → There todo → There (piece.DropNow ∷ todo)
+    drop_one todo h x u p = inr (h x u p)
+
+    pub rest_one : (ss : Stmts) (todo : List Todo) → There todo → There (piece.Rest ss ∷ todo)
+    rest_one ss todo h x u p = skip (opens ss) (makers.before x ≡ placed f this todo older) (CoveredIn (makers.before x) f this older (rest x) todo) (h x u p)
+
+    ends_in : (p : Purpose) (line : ℕ) → ((x : Exec) → up x ≡ true → makers.parent x ≡ m → rest x) → There (quiet.behind_body p line)
     ends_in src.TaskMain line h = h
     ends_in src.CoroutineMain line h = h
     ends_in src.Procedure line h = h
     ends_in src.Function line h = h
     ends_in src.Builder line h = h
 
-    pub routine : (r : Routine) → EndIn makers up m older → There (quiet.routine_todo r)
-    routine r h = ends_in r.purpose r.line h
+    pub routine : (r : Routine) → ((x : Exec) → up x ≡ true → makers.parent x ≡ m → rest x) → There (quiet.routine_todo r)
+    routine r h = rest_one r.body (quiet.behind_body r.purpose r.line) (ends_in r.purpose r.line h)
 
     pub starts : (cell : ℕ) (v : Option Expr) (todo : List Todo) → There todo → There (quiet.starting cell v todo)
     starts cell None todo h = h
@@ -59,7 +66,7 @@ module _ (makers : Makers) (up : Exec → Bool) where
 
     pub stepped : (e : Option Expr) (todo : List Todo) → There todo → There (quiet.step_todo e todo)
     stepped None todo h = h
-    stepped (Some e) todo h = h
+    stepped (Some e) todo h = drop_one todo h
 
     pub tested : (order : Order) (c : Expr) (e : Option Expr) (b : Stmt) (todo : List Todo) → There todo → There (quiet.test_todo order c e b todo)
     tested src.TestFirst c e b todo h = h
@@ -79,16 +86,16 @@ module _ (makers : Makers) (up : Exec → Bool) where
 
     pub filled : (b : Bool) (n : ℕ) (e d : Expr) (todo : List Todo) → There todo → There (quiet.fill_todo b n e d todo)
     filled false n e d todo h = h
-    filled true n e d todo h = h
+    filled true n e d todo h = drop_one (piece.MoreNow ∷ (piece.FillNow n e d ∷ todo)) h
 
     pub raised : (r : Raised) (todo : List Todo) → There todo → There (raising.raised_todo r todo)
     raised (src.Plainly n) todo h = h
-    raised (src.BuiltAt n c e) todo h = h
+    raised (src.BuiltAt n c e) todo h = drop_one (piece.Eval (src.Literal (pos n)) ∷ (piece.Eval (src.Get c) ∷ (piece.Eval (src.Get (c + 1)) ∷ todo))) h
     raised (src.AgainFrom c) todo h = h
 
     pub cleans : (c : CleanUp) (todo : List Todo) → There todo → There (piece.clean_todo c todo)
-    cleans (src.Destroys e) todo h = h
-    cleans (src.DestroysAll k e) todo h = h
+    cleans (src.Destroys e) todo h = drop_one todo h
+    cleans (src.DestroysAll k e) todo h = λ x u p. inr (h x u p)
     cleans src.Unwinds todo h = h
     cleans src.Forgets todo h = h
     cleans src.Leaves todo h = h
@@ -97,9 +104,29 @@ module _ (makers : Makers) (up : Exec → Bool) where
     cleans (src.Frees (Some r)) todo h = h
     cleans (src.Restores k) todo h = h
 
-    pub left_cleans : (c : CleanUp) (todo : List Todo) → There todo → There (raising.left_todo c todo)
-    left_cleans (src.Frees r) todo h = h
-    left_cleans c todo h = cleans c todo h
+    -- the mark of a scope is reached
+    pub cleaned : (c : CleanUp) (todo : List Todo) → There (piece.Clean c ∷ todo) → There (piece.clean_todo c todo)
+    cleaned (src.Destroys e) todo h = h
+    cleaned (src.DestroysAll k e) todo h = h
+    cleaned src.Unwinds todo h = h
+    cleaned src.Forgets todo h = h
+    cleaned src.Leaves todo h = h
+    cleaned src.Ends todo h = h
+    cleaned (src.Frees None) todo h = h
+    cleaned (src.Frees (Some r)) todo h = h
+    cleaned (src.Restores k) todo h = h
+
+    pub left_cleaned : (c : CleanUp) (todo : List Todo) → There (piece.Clean c ∷ todo) → There (raising.left_todo c todo)
+    left_cleaned (src.Frees r) todo h = h
+    left_cleaned c todo h = cleaned c todo h
+
+    pub handled : (x : Handler) (todo : List Todo) → There todo → There (raising.handler_todo x todo)
+    handled x todo h y u p = inr (inr (inr (skip (opens x.body) (makers.before y ≡ placed f this todo older) (CoveredIn (makers.before y) f this older (rest y) todo) (h y u p))))
+
+    -- nothing behind the end of a main holds an object
+    pub none_covered : (todo : List Todo) → CoverNone todo → There todo → (x : Exec) → up x ≡ true → makers.parent x ≡ m → rest x
+    none_covered [] e h = h
+    none_covered (p ∷ todo) e h = none_covered todo e.1 (λ x u q. subst (λ b. or_covered b (makers.before x ≡ placed f this todo older) (CoveredIn (makers.before x) f this older (rest x) todo)) e.0 (h x u q))
 
     pub branch : (k : ℕ) (cs : Clauses) (todo : List Todo) → There todo → There (monitors.branch_todo k cs todo)
     branch k src.NoClauses todo h = h
@@ -126,7 +153,15 @@ module _ (makers : Makers) (up : Exec → Bool) where
 
   module _ (s : State) (st : OutlastState makers up s) where
     abbrev pub Holding : List Todo → Type 0
-    Holding todo = EndIn makers up s.env.exec (placed s.run.frame s.run.this todo (stacked s.callers))
+    Holding todo = (x : Exec) → up x ≡ true → makers.parent x ≡ s.env.exec → CoveredBehind (makers.before x) todo s
+
+    -- what holds an object is left, and another piece behind it holds one
+    pub left_one : (todo : List Todo) → CoveredLater makers up todo s → ((x : Exec) → up x ≡ true → makers.parent x ≡ s.env.exec → (makers.before x ≡ placed s.run.frame s.run.this todo (stacked s.callers)) ⊎ CoveredBehind (makers.before x) todo s) → Holding todo
+    left_one todo l h x u p = ⊎_elim (λ e. l x u p e) (λ r. r) (h x u p)
+
+    left_simply : (b : Bool) (todo : List Todo) → LeavesSimply makers up b todo s → ((x : Exec) → up x ≡ true → makers.parent x ≡ s.env.exec → or_covered b (makers.before x ≡ placed s.run.frame s.run.this todo (stacked s.callers)) (CoveredBehind (makers.before x) todo s)) → Holding todo
+    left_simply true todo l h = left_one todo l h
+    left_simply false todo l h = h
 
     -- with something else to do, and other operands
     pub go : (todo : List Todo) (vs : List Value) → Holding todo → OutlastState makers up (at todo vs s)
@@ -195,31 +230,35 @@ module _ (makers : Makers) (up : Exec → Bool) where
     object x todo h = go _ _ h
 
     pub eval : (a : Expr) (todo : List Todo) → Holding todo → OutlastStep makers up (quiet.eval_step a todo s)
-    eval (src.Update op k p a) todo h = go _ _ (converts s.env.exec s.run.frame s.run.this (stacked s.callers) k (piece.KeepNow ∷ todo) h)
-    eval (src.StepBehind op k p) todo h = go _ _ (converts s.env.exec s.run.frame s.run.this (stacked s.callers) k (piece.StoreNow ∷ (piece.DropBelowNow ∷ todo)) h)
+    eval (src.Update op k p a) todo h = go _ _ (converts s.env.exec s.run.frame s.run.this (stacked s.callers) (λ x. Covered (makers.before x) s.callers) k (piece.KeepNow ∷ todo) h)
+    eval (src.StepBehind op k p) todo h = go _ _ (converts s.env.exec s.run.frame s.run.this (stacked s.callers) (λ x. Covered (makers.before x) s.callers) k (piece.StoreNow ∷ (piece.DropBelowNow ∷ todo)) h)
     eval (src.OfObject x) todo h = object x todo h
+    eval (src.First a b) todo h = go _ _ (λ x u p. inr (h x u p))
     eval a todo h = go _ _ h
 
     -- statements
 
-    pub swept : (n : ℕ) (e : Expr) (todo : List Todo) → Holding todo → OutlastStep makers up (quiet.sweep_step n e todo s)
-    swept zero e todo h = go _ _ h
-    swept (suc m) e todo h = record { stack = h; env = st.env }
+    pub swept : (n : ℕ) (e : Expr) (todo : List Todo) → SweepsLater makers up n todo s → Holding (piece.Sweep e ∷ todo) → OutlastStep makers up (quiet.sweep_step n e todo s)
+    swept zero e todo l h = go _ _ (left_one todo l h)
+    swept (suc m) e todo l h = record { stack = λ x u p. inr (h x u p); env = st.env }
 
     event_step : (a : EventStmt) (todo : List Todo) → Holding todo → OutlastStep makers up (quiet.event_step a todo s)
-    event_step (src.Throw line r) todo h = go _ _ (raised s.env.exec s.run.frame s.run.this (stacked s.callers) r _ h)
-    event_step (src.Raise line r) todo h = go _ _ (raised s.env.exec s.run.frame s.run.this (stacked s.callers) r _ h)
-    event_step (src.RaiseAt line r a) todo h = go _ _ (raised s.env.exec s.run.frame s.run.this (stacked s.callers) r _ h)
-    event_step (src.Try line body hs) todo h = go _ _ h
-    event_step (src.Enable line events cell a) todo h = go _ _ (λ x u p. behind (h x u p))
-    event_step (src.Disable line events cell a) todo h = go _ _ (λ x u p. behind (h x u p))
+    event_step (src.Throw line r) todo h = go _ _ (raised s.env.exec s.run.frame s.run.this (stacked s.callers) (λ x. Covered (makers.before x) s.callers) r _ h)
+    event_step (src.Raise line r) todo h = go _ _ (raised s.env.exec s.run.frame s.run.this (stacked s.callers) (λ x. Covered (makers.before x) s.callers) r _ h)
+    event_step (src.RaiseAt line r a) todo h = go _ _ (raised s.env.exec s.run.frame s.run.this (stacked s.callers) (λ x. Covered (makers.before x) s.callers) r _ h)
+    event_step (src.Try line body hs) todo h = go _ _ (rest_one s.env.exec s.run.frame s.run.this (stacked s.callers) (λ x. Covered (makers.before x) s.callers) body (piece.Guard hs ∷ (piece.Within line ∷ todo)) h)
+    event_step (src.Enable line events cell a) todo h = go _ _ h
+    event_step (src.Disable line events cell a) todo h = go _ _ h
 
     task_step : (a : TaskStmt) (todo : List Todo) → Holding todo → OutlastStep makers up (quiet.task_step a todo s)
     task_step (src.Resume line) todo h = go _ _ h
     task_step a todo h = go _ _ h
 
     pub stmt : (a : Stmt) (todo : List Todo) → Holding todo → OutlastStep makers up (quiet.stmt_step a todo s)
-    stmt (src.Loop line order c e b) todo h = go _ _ (looped s.env.exec s.run.frame s.run.this (stacked s.callers) order c e b _ h)
+    stmt (src.Loop line order c e b) todo h = go _ _ (looped s.env.exec s.run.frame s.run.this (stacked s.callers) (λ x. Covered (makers.before x) s.callers) order c e b _ h)
+    stmt (src.Block line body) todo h = go _ _ (rest_one s.env.exec s.run.frame s.run.this (stacked s.callers) (λ x. Covered (makers.before x) s.callers) body (piece.Within line ∷ todo) h)
+    stmt (src.Whole line body) todo h = go _ _ (rest_one s.env.exec s.run.frame s.run.this (stacked s.callers) (λ x. Covered (makers.before x) s.callers) body (piece.InWhole ∷ (piece.Within line ∷ todo)) h)
+    stmt (src.Evaluate line e) todo h = go _ _ (λ x u p. inr (h x u p))
     stmt (src.Return line None) todo h = go _ _ h
     stmt (src.Return line (Some e)) todo h = go _ _ h
     stmt (src.OfEvents a) todo h = event_step a todo h
@@ -234,7 +273,7 @@ module _ (makers : Makers) (up : Exec → Bool) where
 
     begun : (r : Routine) (this : Value) (counts : Bool) (todo : List Todo) (vs : List Value) → Holding todo → OutlastStep makers up (quiet.begun_step r this counts todo vs s)
     begun r this counts todo vs h =
-        record { stack = routine s.env.exec _ this (placed s.run.frame s.run.this todo (stacked s.callers)) r h; env = kept.like makers up st.env refl refl refl }
+        record { stack = routine s.env.exec _ this (placed s.run.frame s.run.this todo (stacked s.callers)) (λ x. CoveredBehind (makers.before x) todo s) r h; env = kept.like makers up st.env refl refl refl }
 
     pub call : (r : Option Routine) (todo : List Todo) → Holding todo → OutlastStep makers up (quiet.call_step r todo s)
     call None todo h = go _ _ h
@@ -252,14 +291,14 @@ module _ (makers : Makers) (up : Exec → Bool) where
 
     -- one that has not begun has made none
     pub fresh : (n : Exec) (r : Routine) (this : Value) → ((x : Exec) → up x ≡ true → makers.parent x ≡ n → ⊥) → OutlastEx makers up n (quiet.fresh r this)
-    fresh n r this f = routine n _ this [] r (λ x u p. absurd (f x u p))
+    fresh n r this f = routine n _ this [] (λ x. ⊥) r (λ x u p. absurd (f x u p))
 
     pub set_up : (r : Option Routine) (todo : List Todo) → SparesAt makers up (piece.SetUpNow 0 ∷ todo) s → Holding todo → OutlastStep makers up (quiet.set_up_step r todo s)
     set_up None todo o h = go _ _ h
     set_up (Some r) todo o h =
         let q = quiet.home_at s.run.this s.env in
         let x = quiet.fresh r s.run.this in
-        let k : Keeps makers up s.env (sw.born q x s.env) = kept.born_keeps makers up q x s.env (fresh (sw.new_exec q s.env) r s.run.this o) st.env in
+        let k : Keeps makers up s.env (sw.born q x s.env) = kept.born_keeps makers up q x s.env (λ m e. fresh (sw.new_exec q s.env) r s.run.this (o m e)) st.env in
         go_in _ _ _ (kept.keeps_both makers up k (kept.written_keeps makers up s.run.this _ (sw.born q x s.env) k.env)) h
 
     pub live : (r : Option Routine) (todo : List Todo) → Holding todo → OutlastStep makers up (quiet.live_step r todo s)
@@ -288,7 +327,7 @@ module _ (makers : Makers) (up : Exec → Bool) where
     pub leave : (b : Bool) (q : ℕ) (todo : List Todo) → Holding todo → OutlastStep makers up (monitors.leave_at b q todo s)
     leave false q todo h = go_in _ _ _ (same refl refl refl refl) h
     leave true q todo h =
-        unless q _ todo h (record { stack = polled s.env.exec s.run.frame s.run.this (stacked s.callers) s.run.raised todo h; env = kept.like makers up st.env refl refl refl })
+        unless q _ todo h (record { stack = polled s.env.exec s.run.frame s.run.this (stacked s.callers) (λ x. Covered (makers.before x) s.callers) s.run.raised todo h; env = kept.like makers up st.env refl refl refl })
 
     pub make : (c n : ℕ) (r : Option Routine) (todo : List Todo) → Holding todo → OutlastStep makers up (monitors.make_step c n r todo s)
     make c n None todo h = go _ _ h
@@ -348,7 +387,7 @@ module _ (makers : Makers) (up : Exec → Bool) where
     -- the running activation is told anew
     told : (b : Active) → b.frame ≡ s.run.frame → b.this ≡ s.run.this → Holding b.control → OutlastState makers up (record s { run = b })
     told b e q h = record {
-      stack = subst (λ v. EndIn makers up s.env.exec (placed b.frame v b.control (stacked s.callers))) (sym q) (subst (λ f. EndIn makers up s.env.exec (placed f s.run.this b.control (stacked s.callers))) (sym e) h);
+      stack = λ x u p. subst (λ v. CoveredIn (makers.before x) b.frame v (stacked s.callers) (Covered (makers.before x) s.callers) b.control) (sym q) (subst (λ f. CoveredIn (makers.before x) f s.run.this (stacked s.callers) (Covered (makers.before x) s.callers) b.control) (sym e) (h x u p));
       env = st.env;
     }
 
@@ -358,7 +397,10 @@ module _ (makers : Makers) (up : Exec → Bool) where
     -- the handler of a resumption begins
     handles : (o : Option Found) (e : Event) (todo : List Todo) → Holding todo → OutlastStep makers up (raising.handle_step o e todo s)
     handles None e todo h = throws e todo h
-    handles (Some x) e todo h = record { stack = h; env = kept.like makers up st.env refl refl refl }
+    handles (Some x) e todo h = record {
+      stack = handled s.env.exec x.frame x.this (placed s.run.frame s.run.this todo (stacked s.callers)) (λ y. (makers.before y ≡ placed s.run.frame s.run.this todo (stacked s.callers)) ⊎ CoveredBehind (makers.before y) todo s) x.handler [] (λ y u p. inr (h y u p));
+      env = kept.like makers up st.env refl refl refl;
+    }
 
     pub raises : (e : Event) (todo : List Todo) → Holding todo → OutlastStep makers up (raising.raise_step e todo s)
     raises e todo h = handles (raising.seek None e (record s.run { control = todo } ∷ s.callers)) e todo h
@@ -367,7 +409,7 @@ module _ (makers : Makers) (up : Exec → Bool) where
 
     catches : (x : Option Handler) (e : Event) (todo : List Todo) → Holding todo → OutlastStep makers up (raising.catch_step x e todo s)
     catches None e todo h = go _ _ h
-    catches (Some x) e todo h = told _ refl refl h
+    catches (Some x) e todo h = told _ refl refl (handled s.env.exec s.run.frame s.run.this (stacked s.callers) (λ x. Covered (makers.before x) s.callers) x todo h)
 
     guarded : (hs : Handlers) (w : Option UnwindReason) (todo : List Todo) → Holding todo → OutlastStep makers up (raising.guard_left hs w todo s)
     guarded hs (Some (reason.Event n y z)) todo h = catches (raising.handler_for false (record { number = n; x = y; y = z }) hs) (record { number = n; x = y; y = z }) todo h
@@ -377,9 +419,9 @@ module _ (makers : Makers) (up : Exec → Bool) where
     whole true todo h = told _ refl refl h
     whole false todo h = go _ _ h
 
-    scope : (c : CleanUp) (b : Bool) (todo : List Todo) → Holding todo → OutlastStep makers up (raising.scope_left c b todo s)
+    scope : (c : CleanUp) (b : Bool) (todo : List Todo) → Holding (piece.Clean c ∷ todo) → OutlastStep makers up (raising.scope_left c b todo s)
     scope src.Leaves true todo h = told _ refl refl h
-    scope c b todo h = go (raising.left_todo c (piece.Unwind ∷ todo)) [] (left_cleans s.env.exec s.run.frame s.run.this (stacked s.callers) c (piece.Unwind ∷ todo) h)
+    scope c b todo h = go (raising.left_todo c (piece.Unwind ∷ todo)) [] (left_cleaned s.env.exec s.run.frame s.run.this (stacked s.callers) (λ x. Covered (makers.before x) s.callers) c (piece.Unwind ∷ todo) h)
 
     main_left : (w : Option UnwindReason) (todo : List Todo) → Holding todo → OutlastStep makers up (raising.main_left w todo s)
     main_left (Some (reason.ReturnTo n)) todo h = told _ refl refl h
@@ -390,38 +432,41 @@ module _ (makers : Makers) (up : Exec → Bool) where
     coroutine_left (Some reason.Destroyed) todo h = moved _ todo _ h (kept.taken_down_rests makers up (at todo [] s) (go todo [] h))
     coroutine_left w todo h = moved _ todo _ h (kept.escape_rests makers up (at todo [] s) (go todo [] h))
 
-    unwind_past : (k : Sort) (todo : List Todo) → LeavesLater makers up k todo s → EndIn makers up s.env.exec (put k s.run.frame s.run.this (placed s.run.frame s.run.this todo (stacked s.callers))) → OutlastStep makers up (raising.unwind_past k todo s)
-    unwind_past piece.Simple todo l h = go _ _ h
-    unwind_past (piece.IsLoop order c e b) todo l h = go _ _ h
-    unwind_past piece.IsWhole todo l h = whole _ todo h
-    unwind_past (piece.IsClean x) todo l h = scope x _ todo (λ x u p. past_one (h x u p) (l x u p))
-    unwind_past (piece.IsFill m b d) todo l h = go _ _ h
-    unwind_past (piece.IsSweep e) todo l h = go _ _ h
-    unwind_past (piece.IsPart c) todo l h =
-        go _ _ (cleans s.env.exec s.run.frame s.run.this (stacked s.callers) c (piece.Unwind ∷ todo) (λ x u p. past_one (h x u p) (l x u p)))
-    unwind_past (piece.IsGuard hs) todo l h = guarded hs s.run.raised todo h
-    unwind_past piece.IsFinish todo l h = main_left s.run.raised todo h
-    unwind_past piece.IsFinishCoroutine todo l h = coroutine_left s.run.raised todo h
+    -- a piece of this sort is left, which holds an object or not
+    abbrev AtSort : Sort → Bool → List Todo → Type 0
+    AtSort k b todo = (x : Exec) → up x ≡ true → makers.parent x ≡ s.env.exec → or_covered (covers_by k b) (makers.before x ≡ placed s.run.frame s.run.this todo (stacked s.callers)) (CoveredBehind (makers.before x) todo s)
+
+    unwind_past : (k : Sort) (b : Bool) (todo : List Todo) → UnwindsLater makers up k b todo s → AtSort k b todo → OutlastStep makers up (raising.unwind_past k todo s)
+    unwind_past piece.Simple b todo l h = go _ _ (left_simply b todo l h)
+    unwind_past (piece.IsLoop order c e d) b todo l h = go _ _ h
+    unwind_past piece.IsWhole b todo l h = whole _ todo h
+    unwind_past (piece.IsClean x) b todo l h = scope x _ todo h
+    unwind_past (piece.IsFill m c d) b todo l h = go _ _ (λ x u p. inr (h x u p))
+    unwind_past (piece.IsSweep e) b todo l h = go _ _ h
+    unwind_past (piece.IsPart c) b todo l h = go _ _ (cleans s.env.exec s.run.frame s.run.this (stacked s.callers) (λ x. Covered (makers.before x) s.callers) c (piece.Unwind ∷ todo) h)
+    unwind_past (piece.IsGuard hs) b todo l h = guarded hs s.run.raised todo h
+    unwind_past piece.IsFinish b todo l h = main_left s.run.raised todo h
+    unwind_past piece.IsFinishCoroutine b todo l h = coroutine_left s.run.raised todo h
 
     pub unwinds : (todo : List Todo) → SparesAt makers up (piece.Unwind ∷ todo) s → Holding todo → OutlastStep makers up (raising.unwind_step todo s)
     unwinds [] l h = leaves s.callers h
-    unwinds (p ∷ ps) l h = unwind_past (piece.sort p) ps l h
+    unwinds (p ∷ ps) l h = unwind_past (piece.sort p) (covers_simply p) ps l h
 
-    exits_past : (w : Way) (k : Sort) (todo : List Todo) → ExitsLater makers up k todo s → EndIn makers up s.env.exec (put k s.run.frame s.run.this (placed s.run.frame s.run.this todo (stacked s.callers))) → Holding (quiet.left_behind w k todo)
-    exits_past w piece.Simple todo l h = h
-    exits_past w (piece.IsLoop order c e b) todo l h = loop_left s.env.exec s.run.frame s.run.this (stacked s.callers) w order c e b todo h
-    exits_past w piece.IsWhole todo l h = h
-    exits_past w (piece.IsClean x) todo l h = h
-    exits_past w (piece.IsFill n b d) todo l h = h
-    exits_past w (piece.IsSweep e) todo l h = h
-    exits_past w (piece.IsPart c) todo l h = λ x u p. past_one (h x u p) (l x u p)
-    exits_past w (piece.IsGuard hs) todo l h = h
-    exits_past w piece.IsFinish todo l h = h
-    exits_past w piece.IsFinishCoroutine todo l h = h
+    exits_past : (w : Way) (k : Sort) (b : Bool) (todo : List Todo) → ExitsLater makers up k b todo s → AtSort k b todo → Holding (quiet.left_behind w k todo)
+    exits_past w piece.Simple b todo l h = left_simply b todo l h
+    exits_past w (piece.IsLoop order c e d) b todo l h = loop_left s.env.exec s.run.frame s.run.this (stacked s.callers) (λ x. Covered (makers.before x) s.callers) w order c e d todo h
+    exits_past w piece.IsWhole b todo l h = h
+    exits_past w (piece.IsClean x) b todo l h = h
+    exits_past w (piece.IsFill n c d) b todo l h = h
+    exits_past w (piece.IsSweep e) b todo l h = left_one todo l h
+    exits_past w (piece.IsPart c) b todo l h = h
+    exits_past w (piece.IsGuard hs) b todo l h = h
+    exits_past w piece.IsFinish b todo l h = h
+    exits_past w piece.IsFinishCoroutine b todo l h = h
 
     pub exits : (w : Way) (todo : List Todo) → SparesAt makers up (piece.Exit w ∷ todo) s → Holding todo → OutlastStep makers up (quiet.exit_step w todo s)
     exits w [] l h = end_step w h
-    exits w (p ∷ ps) l h = go _ _ (exits_past w (piece.sort p) ps l h)
+    exits w (p ∷ ps) l h = go _ _ (exits_past w (piece.sort p) (covers_simply p) ps l h)
 
     -- printing
 

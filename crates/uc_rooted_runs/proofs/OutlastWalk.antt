@@ -16,8 +16,8 @@ use Rattle.uc_machine.specs.Pieces as piece
 use Rattle.uc_machine.specs.Pieces.{Value, Todo, State, Members, at, top, number}
 use Rattle.uc_machine.specs.Answering.{answered, entered, new_members, with_operand}
 use Rattle.uc_life_laws.specs.LifeStates.{MembersBy}
-use Rattle.uc_rooted_runs.specs.Makers.{stacked, behind, Makers}
-use Rattle.uc_rooted_runs.specs.Outlasting.{OutlastEx, OutlastState, OutlastStep, SparesAt, Spares}
+use Rattle.uc_rooted_runs.specs.Makers.{stacked, Makers}
+use Rattle.uc_rooted_runs.specs.Outlasting.{Covered, OutlastEx, OutlastState, OutlastStep, SparesAt, Spares}
 use Rattle.uc_life_laws.proofs.Cells.{either}
 use Rattle.uc_rooted_runs.proofs.OutlastKeeping as kept
 use Rattle.uc_life_laws.proofs.Parked as parked
@@ -30,11 +30,11 @@ module _ (makers : Makers) (up : Exec → Bool) where
     go = steps.go makers up s st
 
     -- the statements that are left of a block
-    rests : (ss : Stmts) (todo : List Todo) → Holding makers up s st todo → OutlastStep makers up (quiet.rest_step ss todo s)
+    rests : (ss : Stmts) (todo : List Todo) → Holding makers up s st (piece.Rest ss ∷ todo) → OutlastStep makers up (quiet.rest_step ss todo s)
     rests src.Nil todo h = go _ _ h
-    rests (src.Then a ss) todo h = go _ _ h
-    rests (src.Scoped c ss) todo h = go _ _ (λ x u p. behind (h x u p))
-    rests (src.Built c ss) todo h = go _ _ (λ x u p. behind (h x u p))
+    rests (src.Then a ss) todo h = go _ _ (steps.rest_one makers up s.env.exec s.run.frame s.run.this (stacked s.callers) (λ x. Covered (makers.before x) s.callers) ss todo h)
+    rests (src.Scoped c ss) todo h = go _ _ (steps.rest_one makers up s.env.exec s.run.frame s.run.this (stacked s.callers) (λ x. Covered (makers.before x) s.callers) ss (piece.Clean c ∷ todo) h)
+    rests (src.Built c ss) todo h = go _ _ (steps.rest_one makers up s.env.exec s.run.frame s.run.this (stacked s.callers) (λ x. Covered (makers.before x) s.callers) ss (piece.Part c ∷ todo) h)
 
     -- one piece, with what is to do behind it
     acts : (p : Todo) (todo : List Todo) → s.run.control ≡ p ∷ todo → SparesAt makers up (p ∷ todo) s → Holding makers up s st (p ∷ todo) → OutlastStep makers up (quiet.act source p todo s)
@@ -53,7 +53,7 @@ module _ (makers : Makers) (up : Exec → Bool) where
     acts (piece.CallUnwrittenNow r) todo e o h = steps.call_unwritten makers up s st (slice_get source.routines r) todo h
     acts (piece.CountNow m) todo e o h = record { stack = h; env = st.env }
     acts piece.MoreNow todo e o h = record { stack = h; env = st.env }
-    acts (piece.FillNow m b d) todo e o h = go _ _ (steps.filled makers up s.env.exec s.run.frame s.run.this (stacked s.callers) (nat_lt s.run.elements m) m b d todo h)
+    acts (piece.FillNow m b d) todo e o h = go _ _ (steps.filled makers up s.env.exec s.run.frame s.run.this (stacked s.callers) (λ x. Covered (makers.before x) s.callers) (nat_lt s.run.elements m) m b d todo h)
     acts (piece.Again order c step b) todo e o h = go _ _ (either (Holding makers up s st) (piece.is_zero (number (top s.run.operands))) todo (piece.TurnNow order c step b ∷ todo) h h)
     acts (piece.PrintNow form) todo e o h = steps.prints makers up s st s.env.gathered _ todo _ h
     acts (piece.TextNow k) todo e o h = steps.prints makers up s st s.env.gathered _ todo _ h
@@ -61,22 +61,22 @@ module _ (makers : Makers) (up : Exec → Bool) where
     acts piece.FlushNow todo e o h = steps.flushes makers up s st s.env.gathered todo _ h
     acts (piece.ClearNow k m) todo e o h = steps.clears makers up s st k m todo h
     acts (piece.Items []) todo e o h = go _ _ h
-    acts (piece.Items (i ∷ is)) todo e o h = go _ _ (steps.item makers up s.env.exec s.run.frame s.run.this (stacked s.callers) i (piece.Items is ∷ todo) h)
+    acts (piece.Items (i ∷ is)) todo e o h = go _ _ (steps.item makers up s.env.exec s.run.frame s.run.this (stacked s.callers) (λ x. Covered (makers.before x) s.callers) i (piece.Items is ∷ todo) h)
     acts (piece.Values []) todo e o h = go _ _ h
-    acts (piece.Values (i ∷ is)) todo e o h = go _ _ (steps.item_value makers up s.env.exec s.run.frame s.run.this (stacked s.callers) i (piece.Values is ∷ todo) h)
+    acts (piece.Values (i ∷ is)) todo e o h = go _ _ (steps.item_value makers up s.env.exec s.run.frame s.run.this (stacked s.callers) (λ x. Covered (makers.before x) s.callers) i (piece.Values is ∷ todo) h)
     acts (piece.Pieces []) todo e o h = go _ _ h
-    acts (piece.Pieces (i ∷ is)) todo e o h = go _ _ (steps.item_piece makers up s.env.exec s.run.frame s.run.this (stacked s.callers) i todo h)
+    acts (piece.Pieces (i ∷ is)) todo e o h = go _ _ (steps.item_piece makers up s.env.exec s.run.frame s.run.this (stacked s.callers) (λ x. Covered (makers.before x) s.callers) i todo h)
     acts (piece.Targets []) todo e o h = go _ _ h
     acts (piece.Targets (x ∷ xs)) todo e o h = go _ _ h
     acts (piece.Variables []) todo e o h = go _ _ h
-    acts (piece.Variables (d ∷ ds)) todo e o h = go _ _ (steps.starts makers up s.env.exec s.run.frame s.run.this (stacked s.callers) d.cell d.value (piece.Variables ds ∷ todo) h)
+    acts (piece.Variables (d ∷ ds)) todo e o h = go _ _ (steps.starts makers up s.env.exec s.run.frame s.run.this (stacked s.callers) (λ x. Covered (makers.before x) s.callers) d.cell d.value (piece.Variables ds ∷ todo) h)
     acts (piece.Do a) todo e o h = steps.stmt makers up s st a todo h
     acts (piece.Rest ss) todo e o h = rests ss todo h
     acts (piece.Exit w) todo e o h = steps.exits makers up s st w todo o h
-    acts (piece.InLoop order c step b) todo e o h = go _ _ (steps.stepped makers up s.env.exec s.run.frame s.run.this (stacked s.callers) step _ (steps.tested makers up s.env.exec s.run.frame s.run.this (stacked s.callers) order c step b todo h))
-    acts (piece.Clean c) todo e o h = go _ _ (steps.cleans makers up s.env.exec s.run.frame s.run.this (stacked s.callers) c todo (λ x u p. steps.past_one (h x u p) (o x u p)))
-    acts (piece.Part c) todo e o h = go _ _ (λ x u p. steps.past_one (h x u p) (o x u p))
-    acts (piece.Sweep a) todo e o h = steps.swept makers up s st s.run.elements a todo h
+    acts (piece.InLoop order c step b) todo e o h = go _ _ (steps.stepped makers up s.env.exec s.run.frame s.run.this (stacked s.callers) (λ x. Covered (makers.before x) s.callers) step _ (steps.tested makers up s.env.exec s.run.frame s.run.this (stacked s.callers) (λ x. Covered (makers.before x) s.callers) order c step b todo h))
+    acts (piece.Clean c) todo e o h = go _ _ (steps.cleaned makers up s.env.exec s.run.frame s.run.this (stacked s.callers) (λ x. Covered (makers.before x) s.callers) c todo h)
+    acts piece.DropNow todo e o h = go _ _ (steps.left_one makers up s st todo o h)
+    acts (piece.Sweep a) todo e o h = steps.swept makers up s st s.run.elements a todo o h
     acts piece.Unwind todo e o h = steps.unwinds makers up s st todo o h
     acts piece.ThrowNow todo e o h = steps.throws makers up s st (raising.event_in s.run.operands) todo h
     acts piece.RaiseNow todo e o h = steps.raises makers up s st (raising.event_in s.run.operands) todo h
@@ -104,14 +104,14 @@ module _ (makers : Makers) (up : Exec → Bool) where
     acts (piece.Guards (src.MoreClauses guard b cs)) todo e o h = go _ _ h
     acts (piece.AcceptNow site m) todo e o h = steps.accept_by makers up s st (monitors.mask_of (take_operands piece.Nothing m s.run.operands [])) (monitors.this_object s) site todo (drop m s.run.operands) h
     acts piece.FailedNow todo e o h = steps.failed makers up s st _ todo _ h
-    acts (piece.ChooseNow cs) todo e o h = go _ _ (steps.branch makers up s.env.exec s.run.frame s.run.this (stacked s.callers) _ cs todo h)
+    acts (piece.ChooseNow cs) todo e o h = go _ _ (steps.branch makers up s.env.exec s.run.frame s.run.this (stacked s.callers) (λ x. Covered (makers.before x) s.callers) _ cs todo h)
     acts piece.RaiseAtNow todo e o h = steps.raise_at makers up s st _ _ todo _ h
     acts (piece.EnableNow events cell) todo e o h = steps.enables makers up s st _ cell todo h
     acts (piece.DisableNow events cell) todo e o h = steps.enables makers up s st _ cell todo h
     acts (piece.RestoreNow cell) todo e o h = steps.go_in makers up s st _ _ _ (steps.same makers up s st refl refl refl refl) h
     acts piece.PollNow todo e o h = steps.poll makers up s st todo h
     acts piece.DeliverNow todo e o h = steps.deliver makers up s st _ todo h
-    acts piece.Finish todo e o h = steps.unless makers up s st s.env.own _ todo h (steps.returned makers up s st _ s.callers o)
+    acts piece.Finish todo e o h = steps.unless makers up s st s.env.own _ todo h (steps.returned makers up s st _ s.callers (steps.none_covered makers up s.env.exec s.run.frame s.run.this (stacked s.callers) (λ x. Covered (makers.before x) s.callers) todo o h))
     acts piece.FinishCoroutine todo e o h = steps.moved makers up s st _ todo _ h (kept.finish_rests makers up (at todo s.run.operands s) (go _ _ h))
     acts p todo e o h = go _ _ h
 

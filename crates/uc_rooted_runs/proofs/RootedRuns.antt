@@ -30,7 +30,7 @@ module _ (t : Table) (few : Few) (own : Exec → Value → Ty → Bool) (yet : E
   roots_by j a x r f on m s (ask.Gone o) h = record {
     up =
         let kept : Makers = with_before h.before makers in
-        law_upwards t few kept (now kept h.asked (run_made source input opts r)) (j ++ a) x own yet (law_outlast_runs h.asked h.before source input opts (j ++ a) x r range f on (record { makers = makers; made = m; spawned = s }) h.ends h.outlasts) h.based;
+        law_upwards t few kept (now kept h.asked (run_made source input opts r)) (j ++ a) x own yet (law_outlast_runs h.asked h.before source input opts (j ++ a) x r range f on (record { makers = makers; made = m; spawned = s }) h.outlasts) h.based;
     beside = h.beside;
   }
   roots_by j a x r f on m s q h = tt
@@ -47,4 +47,4 @@ module _ (t : Table) (few : Few) (own : Exec → Value → Ty → Bool) (yet : E
 
 pub law_rooted_runs : LawRootedRuns
 law_rooted_runs t few own yet source input opts j w r range fits on places b m h =
-    law_forgetting t few own yet m.makers.rank source input opts j w r on places b (run_roots t few own yet m.makers source input opts range r fits on m.made m.spawned h)
+    law_forgetting t few own yet m.makers.rank source input opts j w r range fits on places b (run_roots t few own yet m.makers source input opts range r fits on m.made m.spawned h)

@@ -7,15 +7,17 @@ use Rattle.uc_entry.specs.declared.request.Request.{Request}
 use Rattle.uc_entry.specs.declared.request.Request.TheVariants as ask
 use Rattle.uc_acts.specs.Journal.{Journal, is_over}
 use Rattle.uc_acts.specs.Acts.{act}
+use Rattle.uc_acts.specs.KernelRuns.{InRange}
 use Rattle.uc_machine.specs.declared.exec.Exec.{Exec}
 use Rattle.uc_machine.specs.Pieces.{Value, Active}
 use Rattle.uc_meaning.specs.Runs.{World, May, Runs, world_after, gives, no_room, acts, begun, more}
+use Rattle.uc_program_laws.specs.Fitting.{RunFits}
 use Rattle.uc_value_laws.specs.Opens.{RunMeets}
 use Rattle.uc_typing.specs.Typing.{Ty, Table}
 use Rattle.uc_life_laws.specs.Things.{Few, Base}
 use Rattle.uc_world_laws.specs.Lasting.{RunForgets}
 use Rattle.uc_world_laws.specs.Rooted.{IsPlace, Rooted}
-use Rattle.uc_rooted_runs.specs.FreshStates.{BindsBegun}
+use Rattle.uc_rooted_runs.specs.FreshStates.{KeepsFresh}
 
 -- behind an act by which an object goes
 abbrev pub RootsAt : Table → Few → (Exec → Value → Ty → Bool) → (Exec → List Active → Value → Ty → Bool) → (Exec → ℕ) →
@@ -38,13 +40,13 @@ module _ (t : Table) (few : Few) (own : Exec → Value → Ty → Bool) (yet : E
   RunRoots input opts _ _ (more {j} {w} {a} {w' = x} r o m) = RunRoots input opts j w r ×
       MayRoot opts input j w a x m
 
--- then nobody has at hand what has gone, as long as the run goes on, what executions have of others are places, and no step binds what stands in
--- a frame of one that has not begun
+-- then nobody has at hand what has gone, as long as all that was asked so far fits, what executions have of others are places, no step binds what
+-- stands in a frame of one that has not begun, and ends leave no marks
 abbrev pub LawForgetting : Type 0
 LawForgetting =
     (t : Table) (few : Few) (own : Exec → Value → Ty → Bool) (yet : Exec → List Active → Value → Ty → Bool)
     (rank : Exec → ℕ) (source : Source) (input : List ℕ) (opts : Options) (j : Journal) (w : World)
-    (r : Runs source input opts j w) → is_over j ≡ false →
+    (r : Runs source input opts j w) → InRange opts → RunFits source input opts j w r → is_over j ≡ false →
     ((n : Exec) (w : Value) (b : Ty) → Base few n w b → IsPlace w) →
-    RunMeets (BindsBegun source) source input opts j w r →
+    RunMeets (KeepsFresh source) source input opts j w r →
     RunRoots t few own yet rank source input opts j w r → RunForgets t few source input opts j w r

@@ -1,6 +1,7 @@
--- Executions that have not begun are as they were made.
+-- Executions that have not begun are as they were made, and those that have ended have no marks.
 use Rattle.std.specs.Prelude.{◌≡◌, ℕ, List, [], ◌∷◌, Option, Some, None, drop, slice_get}
 use Rattle.uc_tree.specs.Source.{Source, Routine}
+use Rattle.uc_entry.specs.declared.request.Request.TheVariants as ask
 use Rattle.uc_machine.specs.declared.exec.Exec.{Exec}
 use Rattle.uc_machine.specs.declared.exec.Home.TheVariants as home
 use Rattle.uc_machine.specs.declared.exec.Owner.TheVariants.{Frame}
@@ -8,17 +9,23 @@ use Rattle.uc_machine.specs.declared.exec.Stage.{Stage}
 use Rattle.uc_machine.specs.declared.exec.Stage.TheVariants.{Fresh, Started, Ended}
 use Rattle.uc_machine.specs.Executions.{Execution, parked_at}
 use Rattle.uc_machine.specs.Switches.{born}
-use Rattle.uc_machine.specs.Pieces.{Value, Place, Object, Todo, SetUpNow, BindNow, BindMadeNow, State, Env, Step, Goes, Ticks, Asks, top, below}
-use Rattle.uc_machine.specs.Quiet.{fresh, home_at}
+use Rattle.uc_machine.specs.Pieces.{Value, Place, Object, Todo, SetUpNow, BindNow, BindMadeNow, TakeDownNow, Unwind, FinishCoroutine, Sort, sort, IsFinishCoroutine, State, Env, Step, Goes, Ticks, Asks, top, below}
+use Rattle.uc_machine.specs.Quiet.{quiet, fresh, home_at}
 use Rattle.uc_life_laws.specs.LifeStates.{EnvBy}
 use Rattle.uc_world_laws.specs.Fewer.{FramesNumbers}
-use Rattle.uc_rooted_runs.specs.Makers.{placed}
+use Rattle.uc_rooted_runs.specs.Makers.{placed, stacked}
 
 -- it has begun; it may have ended
 abbrev pub HasBegun : Stage → Type 0
 HasBegun Fresh = ⊥
 HasBegun Started = Unit {0}
 HasBegun Ended = Unit {0}
+
+-- it has begun and not ended
+abbrev pub IsStarted : Stage → Type 0
+IsStarted Fresh = ⊥
+IsStarted Started = Unit {0}
+IsStarted Ended = ⊥
 
 -- an execution that has not begun: nobody waits in it, it has no operands and no marks, its frames hold numbers alone, and if its object is a mutex
 -- object, it is at home there
@@ -32,15 +39,15 @@ pub record IsFresh (n : Exec) (x : Execution (List Todo) Value) : Type 0 where
 abbrev pub FreshBy : Stage → Exec → Execution (List Todo) Value → Type 0
 FreshBy Fresh n x = IsFresh n x
 FreshBy Started n x = Unit {0}
-FreshBy Ended n x = Unit {0}
+FreshBy Ended n x = stacked (x.run ∷ x.callers) ≡ []
 
--- an execution that does not run is so, if it has not begun
+-- an execution that does not run is so, if it has not begun; if it has ended, it has no marks
 abbrev pub FreshEx : Exec → Execution (List Todo) Value → Type 0
 FreshEx n x = FreshBy x.links.stage n x
 
--- all of a task and its hand; and the running one has begun
+-- all of a task and its hand; and the running one has begun and not ended
 pub record FreshEnv (e : Env) : Type 0 where
-  pub running : HasBegun e.links.stage
+  pub running : IsStarted e.links.stage
   pub slots : EnvBy FreshEx e
 
 abbrev pub FreshStep : Step → Type 0
@@ -68,3 +75,37 @@ BindsBegunBy source todo s = Unit {0}
 
 abbrev pub BindsBegun : Source → State → Type 0
 BindsBegun source s = BindsBegunBy source s.run.control s
+
+-- no marks are left in the running execution behind what is to be done next
+abbrev pub NoneBehind : List Todo → State → Type 0
+NoneBehind todo s = placed s.run.frame s.run.this todo (stacked s.callers) ≡ []
+
+abbrev pub LeavesNone : Sort → List Todo → State → Type 0
+LeavesNone IsFinishCoroutine todo s = NoneBehind todo s
+LeavesNone k todo s = Unit {0}
+
+-- where the main of a coroutine ends, or is left by an unwinding, no marks are left
+abbrev pub MainsBareBy : List Todo → State → Type 0
+MainsBareBy (FinishCoroutine ∷ todo) s = NoneBehind todo s
+MainsBareBy (Unwind ∷ (p ∷ todo)) s = LeavesNone (sort p) todo s
+MainsBareBy todo s = Unit {0}
+
+-- where an execution is taken down, none that does not run has the name of the running one
+abbrev pub TakesOthersBy : List Todo → State → Type 0
+TakesOthersBy (TakeDownNow ∷ todo) s = EnvBy (λ n x. n ≡ s.env.exec → ⊥) s.env
+TakesOthersBy todo s = Unit {0}
+
+-- where a task asks that it end, no marks are left
+abbrev pub AsksBare : Source → State → Type 0
+AsksBare source s = (u : State) → quiet source s ≡ Asks ask.End u → stacked (u.run ∷ u.callers) ≡ []
+
+-- so it is
+pub record EndsBare (source : Source) (s : State) : Type 0 where
+  pub mains : MainsBareBy s.run.control s
+  pub takes : TakesOthersBy s.run.control s
+  pub asks : AsksBare source s
+
+-- what each step is to keep to
+pub record KeepsFresh (source : Source) (s : State) : Type 0 where
+  pub binds : BindsBegun source s
+  pub ends : EndsBare source s

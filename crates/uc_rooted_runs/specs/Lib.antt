@@ -5,5 +5,13 @@ pub mod FreshRuns
 pub mod Forgetting
 pub mod Outlasting
 pub mod Upwards
+pub mod Binds
 pub mod OutlastRuns
+pub mod Mains
+pub mod MainRuns
 pub mod RootedRuns
+pub mod OutlastNames
+pub mod UnmarkedRuns
+pub mod Beside
+pub mod MadeRuns
+pub mod KeptRuns

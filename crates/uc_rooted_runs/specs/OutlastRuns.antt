@@ -22,9 +22,9 @@ use Rattle.uc_program_laws.specs.Fitting.{RunFits}
 use Rattle.uc_name_laws.specs.NameSteps.{IsBorn}
 use Rattle.uc_life_laws.specs.Knowing.{main_of}
 use Rattle.uc_life_laws.specs.LifeStates.{EnvBy, MembersBy}
-use Rattle.uc_rooted_runs.specs.Makers.{Placed, Ends, Makers}
+use Rattle.uc_rooted_runs.specs.Makers.{Placed, Makers}
 use Rattle.uc_rooted_runs.specs.Births.{AllMadeLater}
-use Rattle.uc_rooted_runs.specs.Outlasting.{Spares, IsAlone}
+use Rattle.uc_rooted_runs.specs.Outlasting.{Covered, Spares, IsAlone}
 use Rattle.uc_rooted_runs.specs.Upwards.{OutlastWorld}
 
 -- of what each was to clean up as it made others, an outer part is asked: parts of an object under construction are left as it is done
@@ -71,11 +71,12 @@ module _ (makers : Makers) (asked : Exec → Bool) where
   abbrev pub now : (Exec → Bool) → Exec → Bool
   now made x = if asked x then made x else false
 
-  -- at a state: no mark is reached that was there as one was made of those that were made by now; and where it makes one, behind that no other has
-  -- the name of the running one
+  -- at a state: where what holds an object is left, another piece behind it holds one, for those that were made by now; and where it makes one, behind
+  -- that no other has the name of the running one, and a piece that holds an object stands directly in front of that outer part
   pub record OutlastsAt (source : Source) (made : Exec → Bool) (s : State) : Type 0 where
     pub spares : Spares makers (now made) s
     pub alone : (n : Exec) → IsBorn source s n → (u : State) → quiet source s ≡ Goes u → IsAlone u.env
+    pub covered : (n : Exec) → IsBorn source s n → asked n ≡ true → Covered (makers.before n) (s.run ∷ s.callers)
 
   abbrev pub RideOutlasts : (source : Source) → (Exec → Bool) → {s u : State} {q k : ℕ} {a : Asked} → Rides source s q u k a → Type 0
   RideOutlasts source made slices = Unit {0}
@@ -92,10 +93,12 @@ module _ (makers : Makers) (asked : Exec → Bool) where
     pub slots : (v : ℕ) → (v == t) ≡ false → EnvBy (λ n y. MadeNone made behind n) (w.tasks v).env
     pub homes : (o : ℕ) → find o s.env.hand ≡ None → MembersBy (λ n y. MadeNone made behind n) (Object o) (w.homes o)
 
-  -- as a task is spawned, no other has the name of who asks that, and its main has made none
+  -- as a task is spawned, no other has the name of who asks that, its main has made none, and a piece that holds an object stands directly in front of
+  -- that outer part
   abbrev pub SpawnsAlone : (Exec → Bool) → Request → State → Type 0
   SpawnsAlone made (ask.Spawn o) s = IsAlone s.env ×
-      ((x : Exec) → now (made_asked (ask.Spawn o) made) x ≡ true → makers.parent x ≡ main_of o → ⊥)
+      ((x : Exec) → now (made_asked (ask.Spawn o) made) x ≡ true → makers.parent x ≡ main_of o → ⊥) ×
+      (asked (main_of o) ≡ true → Covered (makers.before (main_of o)) (s.run ∷ s.callers))
   SpawnsAlone made r s = Unit {0}
 
   module _ (source : Source) (input : List ℕ) (opts : Options) where
@@ -112,11 +115,11 @@ module _ (makers : Makers) (asked : Exec → Bool) where
     RunOutlasts (more r o m) = RunOutlasts r × MayOutlast (run_made source input opts r) m
 
 -- so it is in each run in which all that was asked so far fits, as long as it is so at each state, with those by whom executions were made in it, and
--- any outer parts of what those were to clean up then
+-- parts of what those were to clean up then in front of which a piece held an object
 abbrev pub LawOutlastRuns : Type 0
 LawOutlastRuns =
     (asked : Exec → Bool) (before : Exec → List Placed) (source : Source) (input : List ℕ) (opts : Options) (j : Journal) (w : World)
     (r : Runs source input opts j w) → InRange opts → RunFits source input opts j w r → is_over j ≡ false →
-    (b : AllMadeLater source input opts j w r) → ((n : Exec) → Ends (before n) (b.makers.before n)) →
+    (b : AllMadeLater source input opts j w r) →
     RunOutlasts (with_before before b.makers) asked source input opts r →
     OutlastWorld (with_before before b.makers) (now (with_before before b.makers) asked (run_made source input opts r)) j w

@@ -17,9 +17,9 @@ use Rattle.uc_typing.specs.Typing.{Ty, Table}
 use Rattle.uc_life_laws.specs.Things.{Few, Base}
 use Rattle.uc_world_laws.specs.Lasting.{RunForgets}
 use Rattle.uc_world_laws.specs.Rooted.{IsPlace, Lives, RootedBeside}
-use Rattle.uc_rooted_runs.specs.Makers.{Placed, Ends, Makers}
+use Rattle.uc_rooted_runs.specs.Makers.{Placed, Makers}
 use Rattle.uc_rooted_runs.specs.Births.{AllMadeLater}
-use Rattle.uc_rooted_runs.specs.FreshStates.{BindsBegun}
+use Rattle.uc_rooted_runs.specs.FreshStates.{KeepsFresh}
 use Rattle.uc_rooted_runs.specs.Upwards.{IsBased}
 use Rattle.uc_rooted_runs.specs.OutlastRuns.{with_before, run_made, now, RunOutlasts}
 
@@ -29,7 +29,6 @@ module _ (t : Table) (few : Few) (own : Exec → Value → Ty → Bool) (yet : E
   pub record IsUpheld (j : Journal) (a : List Entry) (x : World) (r : Runs source input opts (j ++ a) x) (o : ℕ) : Type 0 where
     pub asked : Exec → Bool
     pub before : Exec → List Placed
-    pub ends : (n : Exec) → Ends (before n) (makers.before n)
     pub outlasts : RunOutlasts (with_before before makers) asked source input opts r
     pub based : (n : Exec) (cs : List Active) → Lives (j ++ a) x n cs → (w : Value) (b : Ty) → Base few n w b → own n w b ≡ false →
         IsBased t few (with_before before makers) (now (with_before before makers) asked (run_made source input opts r)) yet (j ++ a) x n w b
@@ -50,14 +49,14 @@ module _ (t : Table) (few : Few) (own : Exec → Value → Ty → Bool) (yet : E
   RunUpholds begun = Unit {0}
   RunUpholds (more r o m) = RunUpholds r × MayUphold (more r o m) m
 
--- then nobody has at hand what has gone, as long as all that was asked so far fits, what executions have of others are places, and no step binds what
--- stands in a frame of one that has not begun
+-- then nobody has at hand what has gone, as long as all that was asked so far fits, what executions have of others are places, no step binds what
+-- stands in a frame of one that has not begun, and ends leave no marks
 abbrev pub LawRootedRuns : Type 0
 LawRootedRuns =
     (t : Table) (few : Few) (own : Exec → Value → Ty → Bool) (yet : Exec → List Active → Value → Ty → Bool)
     (source : Source) (input : List ℕ) (opts : Options) (j : Journal) (w : World)
     (r : Runs source input opts j w) → InRange opts → RunFits source input opts j w r → is_over j ≡ false →
     ((n : Exec) (w : Value) (b : Ty) → Base few n w b → IsPlace w) →
-    RunMeets (BindsBegun source) source input opts j w r →
+    RunMeets (KeepsFresh source) source input opts j w r →
     (b : AllMadeLater source input opts j w r) →
     RunUpholds t few own yet b.makers source input opts r → RunForgets t few source input opts j w r

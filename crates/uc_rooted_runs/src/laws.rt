@@ -1,11 +1,18 @@
 // The laws: each is a function whose contract is the law.
 
+ghost use Rattle.uc_rooted_runs.specs.Beside.{LawBeside};
+ghost use Rattle.uc_rooted_runs.specs.Binds.{LawBinds};
 ghost use Rattle.uc_rooted_runs.specs.Births.{LawBirths};
 ghost use Rattle.uc_rooted_runs.specs.Forgetting.{LawForgetting};
 ghost use Rattle.uc_rooted_runs.specs.FreshRuns.{LawFresh};
+ghost use Rattle.uc_rooted_runs.specs.MainRuns.{LawMains};
 ghost use Rattle.uc_rooted_runs.specs.OutlastRuns.{LawOutlastRuns};
+ghost use Rattle.uc_rooted_runs.specs.KeptRuns.{LawForgetsNames, LawKeptRuns};
+ghost use Rattle.uc_rooted_runs.specs.MadeRuns.{LawMadeRuns};
+ghost use Rattle.uc_rooted_runs.specs.OutlastNames.{LawOutlastNames};
 ghost use Rattle.uc_rooted_runs.specs.Outlasting.{LawOutlasting};
 ghost use Rattle.uc_rooted_runs.specs.RootedRuns.{LawRootedRuns};
+ghost use Rattle.uc_rooted_runs.specs.UnmarkedRuns.{LawUnmarkedRuns};
 ghost use Rattle.uc_rooted_runs.specs.Upwards.{LawUpwards};
 
 /// In each run, as long as all that was asked so far fits, each execution is made by one that was made before it.
@@ -16,6 +23,16 @@ pub fn law_births()
 /// Executions that have not begun are as they were made, as long as no step binds what stands in their frames.
 pub fn law_fresh()
     ensures { LawFresh }
+{}
+
+/// What is bound in no frame of another execution stands in no frame of one that has not begun, where names are apart.
+pub fn law_binds()
+    ensures { LawBinds }
+{}
+
+/// In runs in which no main is called nobody waits for one, so that where one ends nothing is left to clean up.
+pub fn law_mains()
+    ensures { LawMains }
 {}
 
 /// In a run nobody has at hand what has gone, where behind each act by which an object goes nobody is to clean
@@ -44,4 +61,38 @@ pub fn law_outlast_runs()
 /// those live.
 pub fn law_rooted_runs()
     ensures { LawRootedRuns }
+{}
+
+/// What is names alone in that: none of those that were made by now was made by one that is made next, no
+/// other in hand has the name of the running one, and nobody elsewhere has made what was made meanwhile.
+pub fn law_outlast_names()
+    ensures { LawOutlastNames }
+{}
+
+/// Each execution that is there was made in the run, but for the main of task 0, and is later than the one that made it.
+pub fn law_made_runs()
+    ensures { LawMadeRuns }
+{}
+
+/// Behind each act by which an object goes nobody has to clean up that in which it was at home, in runs in which
+/// marks are put for what is an execution's own.
+pub fn law_unmarked_runs()
+    ensures { LawUnmarkedRuns }
+{}
+
+/// So it stands in no own object of an execution that lives, and nobody builds or destroys it, as far as whoever
+/// does that has it at home in what is its own.
+pub fn law_beside()
+    ensures { LawBeside }
+{}
+
+/// So what was to be cleaned up as executions were made stays with those that made them, as long as it is not
+/// left before they go, as names tell the rest.
+pub fn law_kept_runs()
+    ensures { LawKeptRuns }
+{}
+
+/// So nobody has at hand what has gone, in such runs, as far as names do not tell it.
+pub fn law_forgets_names()
+    ensures { LawForgetsNames }
 {}

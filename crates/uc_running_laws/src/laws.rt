@@ -1,5 +1,6 @@
 // The laws: each is a function whose contract is the law.
 
+ghost use Rattle.uc_running_laws.specs.OwnPrograms.{LawOwnPrograms};
 ghost use Rattle.uc_running_laws.specs.Running.{LawRunning};
 ghost use Rattle.uc_running_laws.specs.Sparing.{LawSparing};
 
@@ -16,4 +17,9 @@ pub fn law_running()
 /// forgets the running execution that forgets one which is at home in such an object.
 pub fn law_sparing()
     ensures { LawSparing }
+{}
+
+/// So who runs has a name of its own there: no other execution of the world has it.
+pub fn law_own_programs()
+    ensures { LawOwnPrograms }
 {}

@@ -246,12 +246,12 @@ module _ (t : Table) (few : Few) (j : Journal) (a : List Entry) (x : World) (own
   Told n y = FreshKeeps t (lasting few j) left y.links.stage n y × ExApart t (lasting few j) left o n y
 
   ex_apart : (n : Exec) (y : Execution (List Todo) Value) → (y.links.stage ≡ Started → Lives (j ++ a) x n (y.run ∷ y.callers)) → Told n y → ExLasts t (lasting few j) left n y
-  ex_apart n y i e = record { scopes = λ w b v. things_last n (y.run ∷ y.callers) (i (begun y.links.stage refl e.0 w b v)); hand = by y.links.stage refl e.0 e.1.stage }
+  ex_apart n y i e = record { scopes = λ w b v. things_last n (y.run ∷ y.callers) (i (begun y.links.stage refl e.0 w b v)); hand = by y.links.stage refl e.0 e.1 }
     where
       begun : (g : Stage) → y.links.stage ≡ g → FreshKeeps t (lasting few j) left g n y → (w : Value) (b : Ty) → Variables t n (y.run ∷ y.callers) w b → y.links.stage ≡ Started
       begun Fresh q f w b v = absurd (f.1 w b v)
       begun Started q f w b v = q
-      begun Ended q f w b v = absurd (e.1.scopes w b v q)
+      begun Ended q f w b v = absurd (f w b v)
 
       by : (g : Stage) → y.links.stage ≡ g → FreshKeeps t (lasting few j) left g n y → StageApart t (lasting few j) left o g n y → HandLasts t (lasting few j) left g n y
       by Fresh q f h = inl f.0
@@ -269,7 +269,7 @@ module _ (t : Table) (few : Few) (j : Journal) (a : List Entry) (x : World) (own
     tasks = λ u.
         let s = x.tasks u in
         record {
-          scopes = λ w b v. things_last s.env.exec (s.run ∷ s.callers) (running u (r.beside.scopes u w b v));
+          scopes = λ w b v. things_last s.env.exec (s.run ∷ s.callers) (running u (fresh.scopes u w b v));
           env = env_in Told (ExLasts t (lasting few j) left) s.env (λ n y i e. ex_apart n y (λ q. inr (inl (u, i q))) e) (both_env Kept (ExApart t (lasting few j) left o) Told (λ n y h k. (h, k)) s.env (fresh.tasks u) (r.beside.tasks u));
         };
     alive = λ u e given k. run_lasts u e given k (r.beside.alive u e given k);

@@ -83,10 +83,8 @@ module _ (t : Table) (few : Few) (numbers : Ty → ℕ → Bool) (o : ℕ) where
   StageApart Started n x = (k : KnowsEx t few n x) → Apart k.sigs (x.run ∷ x.callers)
   StageApart Ended n x = Unit {0}
 
-  -- one that has ended has no variables in scope
-  pub record ExApart (n : Exec) (x : Execution (List Todo) Value) : Type 0 where
-    pub scopes : (w : Value) (a : Ty) → Variables t n (x.run ∷ x.callers) w a → x.links.stage ≡ Ended → ⊥
-    pub stage : StageApart x.links.stage n x
+  abbrev pub ExApart : Exec → Execution (List Todo) Value → Type 0
+  ExApart n x = StageApart x.links.stage n x
 
   -- of the running execution, those of its activations that wait do not build or destroy the object, nor does the newest one as long as it has
   -- operands that are no numbers
@@ -94,15 +92,17 @@ module _ (t : Table) (few : Few) (numbers : Ty → ℕ → Bool) (o : ℕ) where
     pub waiting : Apart (others x.sigs) s.callers
     pub operands : Apart x.sigs (s.run ∷ s.callers) ⊎ AreNumbers x.run.own
 
--- one that has not begun knows its own object alone, which keeps its number, and has no variables in scope
+-- one that has not begun knows its own object alone, which keeps its number, and has no variables in scope; nor has one that has ended
 abbrev pub FreshKeeps : Table → Few → (Ty → ℕ → Bool) → Stage → Exec → Execution (List Todo) Value → Type 0
 FreshKeeps t few numbers Fresh n x = FreshLasts t few numbers x ×
     ((w : Value) (a : Ty) → Variables t n (x.run ∷ x.callers) w a → ⊥)
 FreshKeeps t few numbers Started n x = Unit {0}
-FreshKeeps t few numbers Ended n x = Unit {0}
+FreshKeeps t few numbers Ended n x = (w : Value) (a : Ty) → Variables t n (x.run ∷ x.callers) w a → ⊥
 
--- so it is of all in a world behind an act
+-- so it is of all in a world behind an act, and tasks that have ended have none
 pub record FreshLast (t : Table) (few : Few) (j : Journal) (a : List Entry) (x : World) : Type 0 where
+  pub scopes : (u : ℕ) (w : Value) (b : Ty) → Variables t (x.tasks u).env.exec ((x.tasks u).run ∷ (x.tasks u).callers) w b →
+      has_ended u (j ++ a) ≡ false
   pub tasks : (u : ℕ) →
       EnvBy (λ n y. FreshKeeps t (lasting few j) (lasting_numbers few.numbers (j ++ a)) y.links.stage n y) (x.tasks u).env
   pub homes : (q : ℕ) →
@@ -121,8 +121,6 @@ pub record RootedBeside (t : Table) (few : Few) (j : Journal) (a : List Entry) (
       Stands t few (OwnObject few own n) (Cell (Obj c)) (few.home o) → ⊥
   pub unmarked : (n : Exec) (cs : List Active) → Lives (j ++ a) x n cs → (c : ℕ) →
       Stands t few (Yet t yet n cs) (Cell (Obj c)) (few.home o) → ⊥
-  pub scopes : (u : ℕ) (w : Value) (b : Ty) → Variables t (x.tasks u).env.exec ((x.tasks u).run ∷ (x.tasks u).callers) w b →
-      has_ended u (j ++ a) ≡ false
   pub tasks : (u : ℕ) → EnvBy (ExApart t (lasting few j) (lasting_numbers few.numbers (j ++ a)) o) (x.tasks u).env
   pub alive : (u : ℕ) → has_ended u (j ++ a) ≡ false → (given : List Ty) (k : KnowsState t (lasting few j) given (x.tasks u)) →
       RunApart t (lasting few j) (lasting_numbers few.numbers (j ++ a)) o given (x.tasks u) k
@@ -134,8 +132,8 @@ pub record Rooted (t : Table) (few : Few) (j : Journal) (a : List Entry) (x : Wo
   pub up : StandsUpwards t few (j ++ a) x own yet rank
   pub beside : RootedBeside t few j a x own yet o
 
--- then what has gone is at hand of nobody, if that object alone has gone, what executions have of others are places, and those that have not begun
--- know their own objects alone
+-- then what has gone is at hand of nobody, if that object alone has gone, what executions have of others are places, those that have not begun
+-- know their own objects alone, and those that have ended have nothing in scope
 abbrev pub LawRooted : Type 0
 LawRooted =
     (t : Table) (few : Few) (j : Journal) (a : List Entry) (x : World) (own : Exec → Value → Ty → Bool)

@@ -1,0 +1,4 @@
+pub mod Alone
+pub mod OwnWorlds
+pub mod OwnRides
+pub mod OwnNamesLemmas

@@ -1,0 +1,193 @@
+-- Names tell the rest, so nobody has at hand what has gone.
+use Rattle.std.proofs.Common.{◌≡◌, ℕ, ◌<◌, ◌≤◌, ◌⊎◌, inl, inr, Bool, true, false, List, [], ◌∷◌, ◌++◌, Option, Some, None, refl, sym, ap, ◌∙◌, subst, ⊎_elim}
+use Rattle.std.specs.Prelude.{if◌then◌else◌}
+use Rattle.std.proofs.lemmas.Bool.{cases_lt}
+use Rattle.uc_tree.specs.Source.{Source, routine_of}
+use Rattle.uc_entry.specs.declared.entry.Entry.{Entry}
+use Rattle.uc_entry.specs.declared.entry.Options.{Options}
+use Rattle.uc_entry.specs.declared.request.Asked.{Asked}
+use Rattle.uc_entry.specs.declared.request.Request.{Request}
+use Rattle.uc_entry.specs.declared.request.Request.TheVariants as ask
+use Rattle.uc_acts.specs.Journal.{Journal, is_over}
+use Rattle.uc_acts.specs.Known.{task_count}
+use Rattle.uc_acts.specs.Acts.{act}
+use Rattle.uc_acts.specs.KernelRuns.{InRange}
+use Rattle.uc_machine.specs.declared.exec.Exec.{Exec}
+use Rattle.uc_machine.specs.declared.exec.Home.{Home}
+use Rattle.uc_machine.specs.declared.exec.Home.TheVariants as home
+use Rattle.uc_machine.specs.Executions.{Execution}
+use Rattle.uc_machine.specs.Pieces.{Value, Todo, SetUpNow, TakeDownNow, Finish, Active, State, Members}
+use Rattle.uc_machine.specs.Quiet.{first_state}
+use Rattle.uc_machine.specs.Rides.{Rides, slices, goes_on, ticks, asks}
+use Rattle.uc_meaning.specs.Runs.{World, May, Runs, world_after, gives, no_room, acts, begun, more}
+use Rattle.uc_program_laws.specs.Fitting.{RunFits}
+use Rattle.uc_value_laws.specs.Opens.{RideMeets, MayMeet, RunMeets}
+use Rattle.uc_name_laws.specs.NameSteps as names
+use Rattle.uc_name_laws.proofs.Homes.{no_both}
+use Rattle.uc_named_runs.specs.RunningRuns.{RunLeaves}
+use Rattle.uc_typing.specs.Typing.{Ty, Table}
+use Rattle.uc_life_laws.specs.Things.{Few, Base}
+use Rattle.uc_life_laws.specs.Knowing.{main_of}
+use Rattle.uc_life_laws.specs.LifeStates.{SlotBy, ParkedBy, HandBy, MembersBy}
+use Rattle.uc_world_laws.specs.Rooted.{InSlot, InParked, InHand, InMembers, Lives}
+use Rattle.uc_rooted_runs.specs.Makers.{Placed, Makers}
+use Rattle.uc_rooted_runs.specs.Births.{MakesLater, RunSpawnsLater}
+use Rattle.uc_own_names.specs.OwnNames.{StepOwn, StaysOwn, RunOwns}
+use Rattle.uc_own_names.proofs.OwnNamesLemmas.{run_first, law_own_names}
+use Rattle.uc_rooted_runs.specs.Binds.{BindsOwn}
+use Rattle.uc_rooted_runs.specs.FreshStates.{TakesOthersBy, KeepsFresh}
+use Rattle.uc_rooted_runs.specs.Mains.{FindsAll}
+use Rattle.uc_rooted_runs.specs.MainRuns.{EndsMains}
+use Rattle.uc_rooted_runs.specs.Outlasting.{SparesAt, IsAlone}
+use Rattle.uc_rooted_runs.specs.OutlastRuns.{with_before, made_behind, ride_made, made_asked, run_made, now, OutlastsAt, RideOutlasts, SpawnsAlone, MayOutlast, RunOutlasts}
+use Rattle.uc_rooted_runs.specs.OutlastNames.{NamesAt, RideNames, SpawnsNew, MayName, RunNames}
+use Rattle.uc_rooted_runs.specs.Upwards.{IsBased}
+use Rattle.uc_rooted_runs.specs.MadeRuns.{IsMade, AllMade}
+use Rattle.uc_rooted_runs.proofs.MadeRuns.{law_made_runs}
+use Rattle.uc_rooted_runs.specs.RootedRuns.{UpheldBy, MayUphold, RunUpholds}
+use Rattle.uc_rooted_runs.specs.UnmarkedRuns.{LeftBehind, MayLeave, RunLeft}
+use Rattle.uc_rooted_runs.specs.KeptRuns.{KeepsAt, Keeps, RideKeeps, SpawnsKept, MayKeep, RunKeeps, LawKeptRuns, IsStood, RootedBy, MayRoot, RunRooted, LawForgetsNames}
+use Rattle.uc_rooted_runs.proofs.Binds.{law_binds}
+use Rattle.uc_rooted_runs.proofs.MainRuns.{law_mains}
+use Rattle.uc_rooted_runs.proofs.OutlastRuns.{law_outlast_runs}
+use Rattle.uc_rooted_runs.proofs.OutlastNames.{law_outlast_names}
+use Rattle.uc_rooted_runs.proofs.UnmarkedRuns.{law_unmarked_runs}
+use Rattle.uc_rooted_runs.proofs.Beside.{law_beside}
+use Rattle.uc_rooted_runs.proofs.RootedRuns.{law_rooted_runs}
+
+-- what is asked of each state of a run, that executions which have not begun stay as they were made, and ends leave no marks
+module _ (source : Source) where
+  takes : (s : State) → IsAlone s.env → (l : List Todo) → TakesOthersBy l s
+  takes s h [] = tt
+  takes s h (TakeDownNow ∷ todo) = h
+  takes s h (p ∷ todo) = tt
+
+  keeps_at : (j : Journal) (w : World) (t : ℕ) (s : State) → BindsOwn source s → EndsMains source s → FindsAll source s → StaysOwn source j w t s → KeepsFresh source s
+  keeps_at j w t s b e a h = record {
+    binds = law_binds source s h.now.alone (λ u g. (subst (StepOwn j w t) g h.next).alone) b;
+    ends = record { mains = e.bare; takes = takes s h.now.alone s.run.control; asks = e.asks a };
+  }
+
+  ride_keeps : (j : Journal) (w : World) (t : ℕ) {s u : State} {q k : ℕ} {a : Asked} (r : Rides source s q u k a) → RideMeets (BindsOwn source) source s q u k a r → RideMeets (EndsMains source) source s q u k a r → RideMeets (FindsAll source) source s q u k a r → RideMeets (StaysOwn source j w t) source s q u k a r → RideMeets (KeepsFresh source) source s q u k a r
+  ride_keeps j w t slices b e a o = tt
+  ride_keeps j w t (goes_on {s} g r) b e a o = (keeps_at j w t s b.0 e.0 a.0 o.0, ride_keeps j w t r b.1 e.1 a.1 o.1)
+  ride_keeps j w t (ticks {s} g r) b e a o = (keeps_at j w t s b.0 e.0 a.0 o.0, ride_keeps j w t r b.1 e.1 a.1 o.1)
+  ride_keeps j w t (asks {s} g) b e a o = keeps_at j w t s b e a o
+
+  run_keeps : (input : List ℕ) (opts : Options) (j : Journal) (w : World) (r : Runs source input opts j w) → RunMeets (BindsOwn source) source input opts j w r → RunMeets (EndsMains source) source input opts j w r → RunMeets (FindsAll source) source input opts j w r → RunOwns source input opts j w r → RunMeets (KeepsFresh source) source input opts j w r
+  run_keeps input opts _ _ begun b e a o = tt
+  run_keeps input opts _ _ (more {j} {w} r on (gives p t v le)) b e a o = (run_keeps input opts j w r b.0 e.0 a.0 o.0, tt)
+  run_keeps input opts _ _ (more {j} {w} r on (no_room p t v le)) b e a o = (run_keeps input opts j w r b.0 e.0 a.0 o.0, tt)
+  run_keeps input opts _ _ (more {j} {w} r on (acts p t n s asked d)) b e a o =
+      (run_keeps input opts j w r b.0 e.0 a.0 o.0, ride_keeps j w t d.rides b.1 e.1 a.1 o.1.0)
+
+module _ (makers : Makers) (asked : Exec → Bool) where
+  spares : (source : Source) (made : Exec → Bool) (s : State) → EndsMains source s → KeepsAt makers asked (now makers asked made) s.run.control s → NamesAt makers asked source made s → SparesAt makers (now makers asked made) s.run.control s
+  spares source made s f k n = by s.run.control refl k
+    where
+      by : (l : List Todo) → s.run.control ≡ l → KeepsAt makers asked (now makers asked made) l s → SparesAt makers (now makers asked made) l s
+      by (SetUpNow r ∷ todo) e h = λ m i x u p. n.new r todo e m i x u p
+      by (Finish ∷ todo) e h = f.finish todo e
+      by l e h = h
+
+  at_state : (source : Source) (made : Exec → Bool) (s : State) → EndsMains source s → Keeps makers asked source made s → NamesAt makers asked source made s → OutlastsAt makers asked source made s
+  at_state source made s f k n = record { spares = spares source made s f k.spares n; alone = n.alone; covered = k.covered }
+
+  ride_both : (source : Source) (made : Exec → Bool) {s u : State} {q k : ℕ} {a : Asked} (r : Rides source s q u k a) → RideMeets (EndsMains source) source s q u k a r → RideKeeps makers asked source made r → RideNames makers asked source made r → RideOutlasts makers asked source made r
+  ride_both source made slices f h n = tt
+  ride_both source made (goes_on {s} e r) f h n = (at_state source made s f.0 h.0 n.0, ride_both source (made_behind source s made) r f.1 h.1 n.1)
+  ride_both source made (ticks {s} e r) f h n = (at_state source made s f.0 h.0 n.0, ride_both source (made_behind source s made) r f.1 h.1 n.1)
+  ride_both source made (asks {s} e) f h n = at_state source made s f h n
+
+  spawns_both : (made : Exec → Bool) (q : Request) (s : State) → SpawnsKept makers asked q s → SpawnsNew makers asked made q s → SpawnsAlone makers asked made q s
+  spawns_both made (ask.Spawn o) s h n = (n.0, n.1, h)
+  spawns_both made q s h n = tt
+
+  module _ (source : Source) (input : List ℕ) (opts : Options) where
+    may_both : (made : Exec → Bool) {j : Journal} {w : World} {a : List Entry} {x : World} (m : May source opts input j w a x) → MayMeet (EndsMains source) source opts input j w a x m → MayKeep makers asked source input opts made m → MayName makers asked source input opts made m → MayOutlast makers asked source input opts made m
+    may_both made (gives p t s h) f k n = tt
+    may_both made (no_room p t s h) f k n = tt
+    may_both made (acts p t i s q d) f k n = (ride_both source made d.rides f k.0 n.0, spawns_both (ride_made source made d.rides) q.request s k.1 n.1, n.2)
+
+    pub run_both : {j : Journal} {w : World} (r : Runs source input opts j w) → RunMeets (EndsMains source) source input opts j w r → RunKeeps makers asked source input opts r → RunNames makers asked source input opts r → RunOutlasts makers asked source input opts r
+    run_both begun f k n = tt
+    run_both (more r o m) f k n = (run_both r f.0 k.0 n.0, may_both (run_made source input opts r) m f.1 k.1 n.1)
+
+pub law_kept_runs : LawKeptRuns
+law_kept_runs asked before source input opts j w r range fits on leaves spares mains b k =
+    law_outlast_runs asked before source input opts j w r range fits on b (run_both (with_before before b.makers) asked source input opts r (law_mains.runs source input opts j w r mains) k (law_outlast_names asked before source input opts j w r range fits on leaves spares b))
+
+-- who lives was made, or is the main of task 0
+
+module _ (made : Exec → Bool) where
+  abbrev MadeEx : Exec → Execution (List Todo) Value → Type 0
+  MadeEx n y = IsMade made n
+
+  in_slot : (n : Exec) (cs : List Active) (m : Exec) (o : Option (Execution (List Todo) Value)) → InSlot n cs m o → SlotBy MadeEx m o → IsMade made n
+  in_slot n cs m None i h = absurd i
+  in_slot n cs m (Some y) i h = subst (IsMade made) (sym i.0) h
+
+  in_parked : (n : Exec) (cs : List Active) (h : Home) (ps : List (ℕ × Option (Execution (List Todo) Value))) → InParked n cs h ps → ParkedBy MadeEx h ps → IsMade made n
+  in_parked n cs h [] i k = absurd i
+  in_parked n cs h (p ∷ ps) (inl i) k = in_slot n cs (record { home = h; serial = p.0 }) p.1 i k.0
+  in_parked n cs h (p ∷ ps) (inr i) k = in_parked n cs h ps i k.1
+
+  in_hand : (n : Exec) (cs : List Active) (ps : List (ℕ × Members)) → InHand n cs ps → HandBy MadeEx ps → IsMade made n
+  in_hand n cs [] i k = absurd i
+  in_hand n cs (p ∷ ps) (inl i) k = in_parked n cs (home.Object p.0) p.1.parked i k.0
+  in_hand n cs (p ∷ ps) (inr i) k = in_hand n cs ps i k.1
+
+  in_members : (n : Exec) (cs : List Active) (h : Home) (m : Option Members) → InMembers n cs h m → MembersBy MadeEx h m → IsMade made n
+  in_members n cs h None i k = absurd i
+  in_members n cs h (Some m) i k = in_parked n cs h m.parked i k
+
+  in_world : (source : Source) (j : Journal) (x : World) → AllMade made j x → ((v : ℕ) → task_count j ≤ v → x.tasks v ≡ first_state (routine_of source source.main) 0) → (n : Exec) (cs : List Active) → Lives j x n cs → IsMade made n
+  in_world source j x all later n cs (inl i) =
+      ⊎_elim (λ lt. subst (IsMade made) (sym i.2) (all.running i.0 lt)) (λ le. inl (i.2 ∙ ap (λ (s : State). s.env.exec) (later i.0 le))) (cases_lt i.0 (task_count j))
+  in_world source j x all later n cs (inr (inl (v, inl i))) = in_parked n cs (home.Task (x.tasks v).env.own) (x.tasks v).env.house.parked i (all.tasks v).house
+  in_world source j x all later n cs (inr (inl (v, inr i))) = in_hand n cs (x.tasks v).env.hand i (all.tasks v).hand
+  in_world source j x all later n cs (inr (inr (q, i))) = in_members n cs (home.Object q) (x.homes q) i (all.homes q)
+
+-- so what it has of others is based where it stood
+based_of : (t : Table) (few : Few) (makers : Makers) (asked made : Exec → Bool) (yet : Exec → List Active → Value → Ty → Bool) (own : Exec → Value → Ty → Bool) (j : Journal) (x : World) → ((w : Value) (b : Ty) → Base few (main_of 0) w b → own (main_of 0) w b ≡ true) → ((n : Exec) → made n ≡ true → makers.rank (makers.parent n) < makers.rank n) → (n : Exec) → IsMade made n → (w : Value) (b : Ty) → Base few n w b → own n w b ≡ false → IsStood t few makers asked yet j x n w b → IsBased t few makers (now makers asked made) yet j x n w b
+based_of t few makers asked made yet own j x first later n (inl e) w b k f s =
+    no_both (own n w b) (ap (λ m. own m w b) e ∙ first w b (subst (λ m. Base few m w b) e k)) f
+based_of t few makers asked made yet own j x first later n (inr e) w b k f s = record {
+  asked = ap (λ (c : Bool). if c then made n else false) s.is_asked ∙ e;
+  later = later n e;
+  active = s.active;
+  lives = s.lives;
+  stood = s.stood;
+}
+
+module _ (t : Table) (few : Few) (own : Exec → Value → Ty → Bool) (yet : Exec → List Active → Value → Ty → Bool) (makers : Makers) (source : Source) (input : List ℕ) (opts : Options) (range : InRange opts) where
+  -- behind one act
+  upheld : (j : Journal) (a : List Entry) (x : World) (r : Runs source input opts (j ++ a) x) → RunFits source input opts (j ++ a) x r → is_over (j ++ a) ≡ false → RunLeaves source input opts (j ++ a) x r → RunMeets names.Spares source input opts (j ++ a) x r → RunMeets (EndsMains source) source input opts (j ++ a) x r → RunMeets (MakesLater source makers) source input opts (j ++ a) x r → RunSpawnsLater makers source input opts (j ++ a) x r → (u : ℕ) (q : Request) → LeftBehind t few (j ++ a) x u q → RootedBy t few own yet makers source input opts j a x r u q → UpheldBy t few own yet makers source input opts j a x r q
+  upheld j a x r f on l h g m s u (ask.Gone o) left k = record {
+    asked = k.asked;
+    before = k.before;
+    outlasts = run_both (with_before k.before makers) k.asked source input opts r g k.keeps (law_outlast_names k.asked k.before source input opts (j ++ a) x r range f on l h (record { makers = makers; made = m; spawned = s }));
+    based = λ n cs i w b d e.
+        let made = law_made_runs.there source input opts (j ++ a) x r range f on in
+        let is = in_world (run_made source input opts r) source (j ++ a) x made (run_first source input opts range r f on) n cs i in
+        based_of t few (with_before k.before makers) k.asked (run_made source input opts r) yet own (j ++ a) x k.first (law_made_runs.later source input opts (j ++ a) x r (record { makers = makers; made = m; spawned = s })) n is w b d e (k.based n cs i w b d e);
+    beside = law_beside t few j a x own yet u o left k.beside;
+  }
+  upheld j a x r f on l h g m s u q left k = tt
+
+  may_uphold : {j : Journal} {w : World} {a : List Entry} {x : World} (r : Runs source input opts (j ++ a) x) → RunFits source input opts (j ++ a) x r → is_over (j ++ a) ≡ false → RunLeaves source input opts (j ++ a) x r → RunMeets names.Spares source input opts (j ++ a) x r → RunMeets (EndsMains source) source input opts (j ++ a) x r → RunMeets (MakesLater source makers) source input opts (j ++ a) x r → RunSpawnsLater makers source input opts (j ++ a) x r → (m : May source opts input j w a x) → MayLeave t few source opts input j w a x m → MayRoot t few own yet makers source input opts r m → MayUphold t few own yet makers source input opts r m
+  may_uphold r f on l h g m s (gives p n v le) left k = tt
+  may_uphold r f on l h g m s (no_room p n v le) left k = tt
+  may_uphold {j} {w} r f on l h g m s (acts p n i v asked d) left k =
+      upheld j (act opts source.sites input j p n i asked) (world_after source (act opts source.sites input j p n i asked) w n v) r f on l h g m s n asked.request left k
+
+  run_upholds : {j : Journal} {w : World} (r : Runs source input opts j w) → RunFits source input opts j w r → is_over j ≡ false → RunLeaves source input opts j w r → RunMeets names.Spares source input opts j w r → RunMeets (EndsMains source) source input opts j w r → RunMeets (MakesLater source makers) source input opts j w r → RunSpawnsLater makers source input opts j w r → RunLeft t few source input opts j w r → RunRooted t few own yet makers source input opts r → RunUpholds t few own yet makers source input opts r
+  run_upholds begun f on l h g m s left k = tt
+  run_upholds (more r o y) f on l h g m s left k =
+      (run_upholds r f.0 o l.0 h.0 g.0 m.0 s.0 left.0 k.0, may_uphold (more r o y) f on l h g m s y left.1 k.1)
+
+pub law_forgets_names : LawForgetsNames
+law_forgets_names t few own yet source input opts j w r range fits on places binds mains finds leaves spares puts b k =
+    let ends : RunMeets (EndsMains source) source input opts j w r = law_mains.runs source input opts j w r mains in
+    let owns : RunOwns source input opts j w r = (law_own_names source input opts j w r range fits on leaves spares).rides in
+    law_rooted_runs t few own yet source input opts j w r range fits on places (run_keeps source input opts j w r binds ends finds owns) b (run_upholds t few own yet b.makers source input opts range r fits on leaves spares ends b.made b.spawned (law_unmarked_runs t few source input opts j w r range fits on leaves spares puts) k)
