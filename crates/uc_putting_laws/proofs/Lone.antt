@@ -1,0 +1,114 @@
+-- Where nothing stands around what is built and destroyed at a spot: a variable whose scope is left, or opens behind the call of its constructor; and
+-- a field around whose place nothing outwards stands.
+use Rattle.std.proofs.Common.{◌≡◌, ℕ, Bool, true, false, inl, inr, List, [], ◌∷◌, ◌⊎◌, refl, sym, subst}
+use Rattle.uc_tree.specs.Programs.{Program}
+use Rattle.uc_tree.specs.Source as src
+use Rattle.uc_tree.specs.Source.{Shape, Expr, CleanUp, Stmts}
+use Rattle.uc_machine.specs.declared.exec.Owner.TheVariants.{Frame}
+use Rattle.uc_machine.specs.Pieces as piece
+use Rattle.uc_machine.specs.Pieces.{Value, Todo, State, further}
+use Rattle.uc_typing.specs.Typing.{Table, Cell, Obj}
+use Rattle.uc_scope_laws.specs.Layout.{Sized}
+use Rattle.uc_scope_laws.specs.RoomStacks.{StackState}
+use Rattle.uc_life_laws.specs.Things.{Few, AtField, itself, Stands}
+use Rattle.uc_unmarked_laws.specs.Belonging.{Belongs}
+use Rattle.uc_unmarked_laws.specs.Marks.{Outward, Sole, AllLone, LoneState}
+use Rattle.uc_unmarked_laws.specs.Ending.{Spot, OfVariable, OfField, ends_at, leaving, calling}
+use Rattle.uc_unmarked_laws.proofs.Ending.{law_left}
+use Rattle.uc_unmarked_laws.proofs.Own.{further_own}
+use Rattle.uc_putting_laws.specs.Calling.{EndsWhole, OpensFor, EndsNumber, CallsAt, EndsAt, CleansBy, AnySpot, IsField, PartBy}
+use Rattle.uc_putting_laws.specs.Putting.{Setting, Around, Mark, OpensNext, LoneAt, CodeStmts, CodeOpening, CodeScope, CodePart, Ok}
+use Rattle.uc_putting_laws.specs.PuttingLaws.{SolePart}
+use Rattle.uc_putting_laws.proofs.Steps.{here, LoneFor}
+
+-- what is at home at a field around which nothing outwards stands
+module _ (t : Table) (few : Few) (A : Around) (h : Shape) (i r : ℕ) (written : Bool) (whole : EndsWhole t r) (own : Belongs few A.exec A.this) where
+  abbrev spot : Value
+  spot = further (piece.FieldAt h i) A.this
+
+  it : AtField t (Frame A.exec A.frame) A.this (ends_at (OfField h i) r written) spot (Cell (Obj whole.class))
+  it = (h, i, (refl, whole.this, whole.whole), refl)
+
+  pub field_lone : (todo : List Todo) → Sole t few A.exec A.frame A.this A.older (ends_at (OfField h i) r written) todo → LoneAt t few A todo (OfField h i)
+  field_lone todo sole o e = (
+    subst (Belongs few A.exec) (sym e) (further_own t few A.exec (piece.FieldAt h i) A.this own),
+    (λ c m.
+        sole spot (Cell (Obj whole.class)) it spot whole.class c itself (subst (Stands t few (Outward t A.exec A.frame A.this A.older todo) (Cell (Obj c))) e m)),
+  )
+
+module _ (p : Program) (g : Setting) (s : State) (st : StackState (Sized p) s) (lone : LoneState g.table g.few s) (made : Bool) (this : made ≡ true → Belongs g.few s.env.exec s.run.this) where
+  -- what is to do behind what cleans up
+  abbrev pub left_then : Bool → List Todo → List Todo
+  left_then true todo = piece.Unwind ∷ todo
+  left_then false todo = todo
+
+  abbrev Claims : List Todo → Type 0
+  Claims todo = AllLone g.table g.few s.env.exec s.run.frame s.run.this s.callers todo
+
+  abbrev SoleHere : CleanUp → List Todo → Type 0
+  SoleHere c todo = Sole g.table g.few s.env.exec s.run.frame s.run.this s.callers c todo
+
+  variable_lone : (unwinds : Bool) (k r : ℕ) (written : Bool) (todo : List Todo) → s.run.control ≡ leaving unwinds (ends_at (OfVariable k) r written) todo → LoneAt g.table g.few (here s) (piece.DropNow ∷ left_then unwinds todo) (OfVariable k)
+  variable_lone true k r written todo e o f = law_left.left p g.table g.few s st true k r written todo e o f
+  variable_lone false k r written todo e o f = law_left.left p g.table g.few s st false k r written todo e o f
+
+  claimed : (unwinds : Bool) (e : Expr) (todo : List Todo) → Claims (leaving unwinds (src.Destroys e) todo) → SoleHere (src.Destroys e) todo
+  claimed true e todo h = h.0.1
+  claimed false e todo h = h.0.1
+
+  left_sole : (unwinds : Bool) (c : CleanUp) (todo : List Todo) → SoleHere c todo → SoleHere c (piece.DropNow ∷ left_then unwinds todo)
+  left_sole true c todo h = h
+  left_sole false c todo h = h
+
+  -- the scope of what ends at a spot is left next
+  scope_ends : (unwinds : Bool) (e : Expr) (todo : List Todo) → s.run.control ≡ leaving unwinds (src.Destroys e) todo → CleansBy g.table g.source g.special made (AnySpot g.table g.source g.special) (src.Destroys e) → LoneFor g (here s) made (src.Destroys e) (left_then unwinds todo)
+  scope_ends unwinds e todo q (inl k) = inl k
+  scope_ends unwinds e todo q (inr (inl k)) = inr (inl k)
+  scope_ends unwinds (src.OfObject (src.EndOn r w (src.Load (src.Variable k)))) todo q (inr (inr n)) = inr (inr (variable_lone unwinds k r w todo q, n.1))
+  scope_ends unwinds (src.OfObject (src.EndOn r w (src.Load (src.OfObject (src.OwnField h i))))) todo q (inr (inr n)) =
+      inr (inr (field_lone g.table g.few (here s) h i r w n.2 (this n.1) (piece.DropNow ∷ left_then unwinds todo) (left_sole unwinds (ends_at (OfField h i) r w) todo (claimed unwinds (src.OfObject (src.EndOn r w (src.Load (src.OfObject (src.OwnField h i))))) todo (subst Claims q lone.stack.0))), n.1, n.2))
+  scope_ends unwinds e todo q (inr (inr n)) = absurd n
+
+  pub scope_lone : (unwinds : Bool) (c : CleanUp) (todo : List Todo) → s.run.control ≡ leaving unwinds c todo → CodeScope g made c → LoneFor g (here s) made c (left_then unwinds todo)
+  scope_lone unwinds (src.Destroys e) todo q n = scope_ends unwinds e todo q n.1
+  scope_lone unwinds c todo q n = tt
+
+  -- a part is given up
+  part_ends : (e : Expr) (todo : List Todo) → s.run.control ≡ piece.Unwind ∷ (piece.Part (src.Destroys e) ∷ todo) → CleansBy g.table g.source g.special made (IsField g.table g.source g.special) (src.Destroys e) → LoneFor g (here s) made (src.Destroys e) (piece.Unwind ∷ todo)
+  part_ends e todo q (inl k) = inl k
+  part_ends e todo q (inr (inl k)) = inr (inl k)
+  part_ends (src.OfObject (src.EndOn r w (src.Load (src.Variable k)))) todo q (inr (inr n)) = absurd n.0
+  part_ends (src.OfObject (src.EndOn r w (src.Load (src.OfObject (src.OwnField h i))))) todo q (inr (inr n)) =
+      let claims : Claims (piece.Unwind ∷ (piece.Part (ends_at (OfField h i) r w) ∷ todo)) = subst Claims q lone.stack.0 in
+      inr (inr (field_lone g.table g.few (here s) h i r w n.2 (this n.1) (piece.DropNow ∷ (piece.Unwind ∷ todo)) claims.0.1, n.1, n.2))
+  part_ends e todo q (inr (inr n)) = absurd n
+
+  pub part_lone : (c : CleanUp) (todo : List Todo) → s.run.control ≡ piece.Unwind ∷ (piece.Part c ∷ todo) → CodePart g made c → LoneFor g (here s) made c (piece.Unwind ∷ todo)
+  part_lone (src.Destroys e) todo q n = part_ends e todo q n.1
+  part_lone c todo q n = tt
+
+  -- its scope opens behind the call of what builds it, or it is a part from then on
+
+  variable_opened : (written : Bool) (r line k : ℕ) (c : CleanUp) (ss : Stmts) (todo : List Todo) → s.run.control ≡ calling written r ∷ (piece.DropNow ∷ (piece.Within line ∷ (piece.Rest (src.Scoped c ss) ∷ todo))) → (q : ℕ) (ends : Bool) → c ≡ ends_at (OfVariable k) q ends → LoneAt g.table g.few (here s) (piece.DropNow ∷ (piece.Within line ∷ (piece.Rest (src.Scoped c ss) ∷ todo))) (OfVariable k)
+  variable_opened written r line k c ss todo e q ends f o h =
+      law_left.made p g.table g.few s st k q ends written r line ss todo (subst (λ c. s.run.control ≡ calling written r ∷ (piece.DropNow ∷ (piece.Within line ∷ (piece.Rest (src.Scoped c ss) ∷ todo)))) f e) o h
+
+  field_opened : (line i q : ℕ) (ends : Bool) (h : Shape) (c : CleanUp) (ss : Stmts) (todo : List Todo) → c ≡ ends_at (OfField h i) q ends → SolePart g (piece.DropNow ∷ (piece.Within line ∷ (piece.Rest (src.Built c ss) ∷ todo))) s → PartBy g.table g.source g.special made c → LoneAt g.table g.few (here s) (piece.DropNow ∷ (piece.Within line ∷ (piece.Rest (src.Built c ss) ∷ todo))) (OfField h i)
+  field_opened line i q ends h c ss todo f sole n =
+      let part : PartBy g.table g.source g.special made (ends_at (OfField h i) q ends) = subst (PartBy g.table g.source g.special made) f n in
+      let alone : SolePart g (piece.DropNow ∷ (piece.Within line ∷ (piece.Rest (src.Built (ends_at (OfField h i) q ends) ss) ∷ todo))) s = subst (λ c. SolePart g (piece.DropNow ∷ (piece.Within line ∷ (piece.Rest (src.Built c ss) ∷ todo))) s) f sole in
+      by part alone
+    where
+      by : PartBy g.table g.source g.special made (ends_at (OfField h i) q ends) → SoleHere (ends_at (OfField h i) q ends) todo → LoneAt g.table g.few (here s) (piece.DropNow ∷ (piece.Within line ∷ (piece.Rest (src.Built c ss) ∷ todo))) (OfField h i)
+      by (inr (inr m)) a = field_lone g.table g.few (here s) h i q ends m.2 (this m.1) (piece.DropNow ∷ (piece.Within line ∷ (piece.Rest (src.Built c ss) ∷ todo))) a
+      by (inr (inl m)) a = absurd m
+      by (inl m) a = absurd m
+
+  built_part : (c : CleanUp) (ss : Stmts) (todo : List Todo) → CodeStmts g made (src.Built c ss) ⊎ CodeOpening g (here s) made (src.Built c ss) todo → PartBy g.table g.source g.special made c
+  built_part c ss todo (inl n) = n.1.0
+  built_part c ss todo (inr n) = absurd n.2
+
+  pub opened : (written : Bool) (r : ℕ) (ms : List Mark) (todo : List Todo) → s.run.control ≡ calling written r ∷ todo → Ok g (here s) made ms todo → SolePart g todo s → (p : Spot) → OpensNext todo p → LoneAt g.table g.few (here s) todo p
+  opened written r ms (piece.DropNow ∷ (piece.Within line ∷ (piece.Rest (src.Scoped c ss) ∷ todo))) e h sole (OfVariable k) n = variable_opened written r line k c ss todo e n.0 n.1 n.2
+  opened written r ms (piece.DropNow ∷ (piece.Within line ∷ (piece.Rest (src.Built c ss) ∷ todo))) e h sole (OfField k i) n = field_opened line i n.0 n.1 k c ss todo n.2 sole (built_part c ss todo h.1.1.0)
+  opened written r ms todo e h sole p n = absurd n
