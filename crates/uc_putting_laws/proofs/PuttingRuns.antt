@@ -12,6 +12,7 @@ use Rattle.uc_site_laws.proofs.Routines.{source_named}
 use Rattle.uc_event_laws.specs.Counted.{CountedSource}
 use Rattle.uc_event_laws.proofs.Arguments.{counted_source}
 use Rattle.uc_life_laws.specs.Things.{Few}
+use Rattle.uc_unmarked_laws.proofs.Worlds.{law_runs as lone_runs}
 use Rattle.uc_putting_laws.specs.Putting.{CodeRoutine}
 use Rattle.uc_putting_laws.specs.PuttingLaws.{special_of, setting_of}
 use Rattle.uc_putting_laws.specs.PuttingRuns.{LawRuns}
@@ -31,4 +32,6 @@ law_runs = record {
       (run_put p accepted few (law_calling p formed accepted).main (code_of p formed accepted few) input opts range r f fair).1;
   leads = λ p formed accepted few input opts range j w r f fair on t s c l.
       leads_put p accepted few (law_calling p formed accepted).main (code_of p formed accepted few) input opts range r f fair on t s c l;
+  gone = λ p formed accepted few input opts range j w r f fair.
+      (lone_runs (table_of p) few (source_of p) input opts j w r (run_put p accepted few (law_calling p formed accepted).main (code_of p formed accepted few) input opts range r f fair).1).gone;
 }

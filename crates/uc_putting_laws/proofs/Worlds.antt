@@ -300,8 +300,7 @@ module _ (p : Program) (accepted : breaks_of p ≡ []) (few : Few) (main : speci
   run_put (more {j} {w} r o m) f fair =
       let k = run_put r f.0 fair.0 in
       let rests : RunRests source input opts j w = run_rests source input opts range r f.0 o in
-      let frames : KeepsFrames p j w = law_frame_runs p accepted input opts j w r in
-      (
+      let frames : KeepsFrames p j w = law_frame_runs p accepted input opts j w r in (
         (λ on. put_may rests o (k.0 o) frames (lones r k.1) m f.1 fair.1 on),
         (k.1, may_put rests o (k.0 o) frames (lones r k.1) m fair.1),
       )

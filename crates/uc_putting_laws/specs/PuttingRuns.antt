@@ -16,6 +16,7 @@ use Rattle.uc_scope_laws.specs.RoomRuns.{Comes}
 use Rattle.uc_value_laws.specs.Opens.{RunMeets, LeadsMeet}
 use Rattle.uc_life_laws.specs.Things.{Few}
 use Rattle.uc_unmarked_laws.specs.Marks.{Puts}
+use Rattle.uc_unmarked_laws.specs.Unmarked.{RunUnmarked}
 use Rattle.uc_putting_laws.specs.PuttingLaws.{setting_of, Fair}
 
 -- in each run of a program that breaks no rule, as long as all that was asked before fits and each step finds what is left to find, marks are put so
@@ -33,3 +34,9 @@ pub record LawRuns : Type 0 where
       is_over j ≡ false → (t : ℕ) (s : State) (c : Comes (source_of p) j w t s) →
       LeadsMeet (Fair (setting_of p few)) (source_of p) (answered (source_of p) c.given (drawn j w t)) s c.leads →
       LeadsMeet (Puts (table_of p) few) (source_of p) (answered (source_of p) c.given (drawn j w t)) s c.leads
+  -- so behind each act by which an object goes nobody has a mark around it, if who acts has its name alone
+  pub gone : (p : Program) → IsFormed p → breaks_of p ≡ [] → (few : Few) →
+      (input : List ℕ) (opts : Options) → InRange opts → (j : Journal) (w : World) →
+      (r : Runs (source_of p) input opts j w) → RunFits (source_of p) input opts j w r →
+      RunMeets (Fair (setting_of p few)) (source_of p) input opts j w r →
+      RunUnmarked (table_of p) few (source_of p) input opts j w r

@@ -24,7 +24,8 @@ pub fn law_puts()
 {}
 
 /// So it is in each run of a program of the grammar that breaks no rule, as long as all that was asked
-/// before fits and each step finds what is left to find.
+/// before fits and each step finds what is left to find; and behind each act by which an object goes
+/// nobody has a mark around it, if who acts has its name alone.
 pub fn law_runs()
     ensures { LawRuns }
 {}
