@@ -1,5 +1,6 @@
 pub mod Marks
 pub mod Steps
+pub mod Arrays
 pub mod Lone
 pub mod Walk
 pub mod LawSteps

@@ -1,6 +1,7 @@
 -- Marks and operands, and to-do lists that are left.
-use Rattle.std.proofs.Common.{◌≡◌, ℕ, zero, suc, ◌⊎◌, inl, inr, Bool, true, false, List, [], ◌∷◌, drop, refl, sym, ap, ◌∙◌, subst}
-use Rattle.std.specs.Prelude.{slice_set}
+use Rattle.std.proofs.Common.{◌≡◌, ℕ, zero, suc, ◌<◌, ◌⊎◌, inl, inr, Bool, true, false, List, [], ◌∷◌, drop, Option, Some, None, refl, sym, ap, subst}
+use Rattle.std.specs.Prelude.{ℤ, pos, negsuc, slice_set, nat_lt}
+use Rattle.std.proofs.lemmas.Bool.{ltb-true}
 use Rattle.uc_tree.specs.Source as src
 use Rattle.uc_tree.specs.Source.{Expr, CleanUp, Stmt, Stmts, Purpose, Source}
 use Rattle.uc_machine.specs.declared.exec.Exec.{Exec}
@@ -16,8 +17,9 @@ use Rattle.uc_unmarked_laws.specs.Marks.{Outward, Free}
 use Rattle.uc_unmarked_laws.specs.Ending.{Spot, OfVariable, OfField}
 use Rattle.uc_unmarked_laws.proofs.Own.{further_own}
 use Rattle.uc_aside_laws.specs.OlderResting.{AllWait}
-use Rattle.uc_putting_laws.specs.Calling.{of_object, opens_object, NoSpot, MakesAt, Evaluates, CallingStmt, CallingStmts, PlaceAt, PlainExpr, Opening}
-use Rattle.uc_putting_laws.specs.Putting.{Setting, Around, around, IsHome, Mark, Any, Own, At, Homed, rest, rests, anys, FirstOwn, FirstAt, FirstHome, IsIn, Located, Loads, spot_at, Meets, Holds, after, made_marks, Ok, Left, Finds, Runs, Waits}
+use Rattle.uc_aside_laws.proofs.Keeping.{tested}
+use Rattle.uc_putting_laws.specs.Calling.{Site, One, Each, of_object, opens_object, MakesAt, MakesEach, EndsEach, Evaluates, FillsBy, SweepsBy, CallingStmt, CallingStmts, PlaceAt, PlainExpr, Opening}
+use Rattle.uc_putting_laws.specs.Putting.{Setting, Around, around, IsHome, Mark, Any, Own, At, Homed, rest, rests, anys, FirstOwn, FirstAt, FirstHome, IsOf, IsIn, Located, Enters, Loads, spot_at, StandsAt, HomedAt, Meets, Holds, after, made_marks, Ok, Left, Finds, Runs, Waits}
 
 -- operands
 
@@ -38,15 +40,15 @@ module _ (few : Few) (A : Around) where
   holds_own (Homed p ∷ ms) vs h k = absurd k
 
   -- of the first, where it is the place of a spot, or the object that is at home there
-  pub at_of : (ms : List Mark) (vs : List Value) → Holds few A ms vs → (F : Spot → Type 0) → FirstAt ms F → (p : Spot) × (top vs ≡ spot_at few A p) × F p
-  at_of (At p ∷ ms) vs h F k = (p, h.0, k)
+  pub at_of : (ms : List Mark) (vs : List Value) → Holds few A ms vs → (F : Site → Type 0) → FirstAt ms F → (x : Site) × StandsAt few A x (top vs) × F x
+  at_of (At x ∷ ms) vs h F k = (x, h.0, k)
   at_of [] vs h F k = absurd k
   at_of (Any ∷ ms) vs h F k = absurd k
   at_of (Own ∷ ms) vs h F k = absurd k
   at_of (Homed p ∷ ms) vs h F k = absurd k
 
-  pub home_of : (ms : List Mark) (vs : List Value) → Holds few A ms vs → (F : Spot → Type 0) → FirstHome ms F → (p : Spot) × IsHome few (top vs) (spot_at few A p) × F p
-  home_of (Homed p ∷ ms) vs h F k = (p, h.0, k)
+  pub home_of : (ms : List Mark) (vs : List Value) → Holds few A ms vs → (F : Site → Type 0) → FirstHome ms F → (x : Site) × HomedAt few A x (top vs) × F x
+  home_of (Homed x ∷ ms) vs h F k = (x, h.0, k)
   home_of [] vs h F k = absurd k
   home_of (Any ∷ ms) vs h F k = absurd k
   home_of (Own ∷ ms) vs h F k = absurd k
@@ -95,17 +97,29 @@ set_top (suc n) v (w ∷ vs) h = set_top n v vs h
 
 module _ (t : Table) (few : Few) (A : Around) where
   -- a spot is the execution's own, if a field of the object at hand is
-  pub spot_own : (made : Bool) (p : Spot) → (made ≡ true → Belongs few A.exec A.this) → IsIn made p → Belongs few A.exec (spot_at few A p)
+  spot_own : (made : Bool) (p : Spot) → (made ≡ true → Belongs few A.exec A.this) → IsOf made p → Belongs few A.exec (spot_at few A p)
   spot_own made (OfVariable k) h i = frame refl
   spot_own made (OfField s f) h i = further_own t few A.exec (piece.FieldAt s f) A.this (h i)
 
   none_own : Belongs few A.exec piece.Nothing → ⊥
   none_own h = elim h [ ]
 
+  site_own : (made : Bool) (x : Site) (v : Value) → (made ≡ true → Belongs few A.exec A.this) → IsIn made x → StandsAt few A x v → Belongs few A.exec v
+  site_own made (One p) v h i e = subst (Belongs few A.exec) (sym e) (spot_own made p h i)
+  site_own made (Each n p) v h i e = subst (Belongs few A.exec) (sym e.2) (further_own t few A.exec (piece.At src.Binding e.0) (spot_at few A p) (spot_own made p h i))
+
   -- so there is one among the operands that is its place
-  pub spot_there : (made : Bool) (p : Spot) (vs : List Value) → (made ≡ true → Belongs few A.exec A.this) → IsIn made p → top vs ≡ spot_at few A p → vs ≡ [] → ⊥
-  spot_there made p vs h i e q =
-      none_own (subst (Belongs few A.exec) (sym e ∙ ap top q) (spot_own made p h i))
+  pub site_there : (made : Bool) (x : Site) (vs : List Value) → (made ≡ true → Belongs few A.exec A.this) → IsIn made x → StandsAt few A x (top vs) → vs ≡ [] → ⊥
+  site_there made x vs h i e q = none_own (subst (Belongs few A.exec) (ap top q) (site_own made x (top vs) h i e))
+
+-- an index that an array has
+abbrev pub OfIndex : ℕ → Option ℕ → Type 0
+OfIndex n None = Unit {0}
+OfIndex n (Some i) = i < n
+
+pub index_below : (n : ℕ) (z : ℤ) → OfIndex n (piece.index_in n z)
+index_below n (pos i) = tested (OfIndex n) (nat_lt i n) (Some i) None (λ e. ltb-true i n e) tt
+index_below n (negsuc i) = tt
 
 -- behind what a routine does nothing is cleaned up but what its caller has to clean up
 module _ (t : Table) (few : Few) (n : Exec) where
@@ -158,11 +172,33 @@ module _ (g : Setting) where
   place_plain made (src.Element n s e i) h = (place_plain made e h.0, h.1)
   place_plain made e h = absurd h
 
--- what is evaluated where the scope of fewer spots opens may be where those of more do
-module _ (t : Table) (source : Source) (special : ℕ → Bool) (made : Bool) (P Q : Spot → Type 0) (f : (p : Spot) → P p → Q p) where
+-- what builds and destroys elements of fewer arrays may where that of more does
+module _ (t : Table) (source : Source) (special : ℕ → Bool) (made : Bool) (P Q : Site → Type 0) (f : (n : ℕ) (p : Spot) → P (Each n p) → Q (Each n p)) where
+  makes_each_more : (e : Expr) → MakesEach t source special made P e → MakesEach t source special made Q e
+  makes_each_more (src.OfObject (src.MakeOn c r written (src.Element n src.Binding (src.Variable k) (src.OfObject src.Counted)) args)) h = (f n (OfVariable k) h.0, h.1)
+  makes_each_more (src.OfObject (src.MakeOn c r written (src.Element n src.Binding (src.OfObject (src.OwnField s i)) (src.OfObject src.Counted)) args)) h = (f n (OfField s i) h.0, h.1, h.2)
+  makes_each_more e h = absurd h
+
+  ends_each_more : (e : Expr) → EndsEach t source special made P e → EndsEach t source special made Q e
+  ends_each_more (src.OfObject (src.EndOn r written (src.Load (src.Element n src.Binding (src.Variable k) (src.OfObject src.Counted))))) h = (f n (OfVariable k) h.0, h.1)
+  ends_each_more (src.OfObject (src.EndOn r written (src.Load (src.Element n src.Binding (src.OfObject (src.OwnField s i)) (src.OfObject src.Counted))))) h = (f n (OfField s i) h.0, h.1, h.2)
+  ends_each_more e h = absurd h
+
+  pub fills_more : (e : Expr) → FillsBy t source special made P e → FillsBy t source special made Q e
+  fills_more e (inl h) = inl h
+  fills_more e (inr (inl h)) = inr (inl h)
+  fills_more e (inr (inr h)) = inr (inr (makes_each_more e h))
+
+  pub sweeps_more : (e : Expr) → SweepsBy t source special made P e → SweepsBy t source special made Q e
+  sweeps_more e (inl h) = inl h
+  sweeps_more e (inr (inl h)) = inr (inl h)
+  sweeps_more e (inr (inr h)) = inr (inr (ends_each_more e h))
+
+-- what is evaluated where the scope of fewer sites opens may be where those of more do
+module _ (t : Table) (source : Source) (special : ℕ → Bool) (made : Bool) (P Q : Site → Type 0) (f : (x : Site) → P x → Q x) where
   makes_more : (e : Expr) → MakesAt t source special made P e → MakesAt t source special made Q e
-  makes_more (src.OfObject (src.MakeOn c r written (src.Variable k) args)) h = (f (OfVariable k) h.0, h.1)
-  makes_more (src.OfObject (src.MakeOn c r written (src.OfObject (src.OwnField s i)) args)) h = (f (OfField s i) h.0, h.1, h.2)
+  makes_more (src.OfObject (src.MakeOn c r written (src.Variable k) args)) h = (f (One (OfVariable k)) h.0, h.1)
+  makes_more (src.OfObject (src.MakeOn c r written (src.OfObject (src.OwnField s i)) args)) h = (f (One (OfField s i)) h.0, h.1, h.2)
   makes_more e h = absurd h
 
   evaluates_more : (e : Expr) → Evaluates t source special made P e → Evaluates t source special made Q e
@@ -173,34 +209,34 @@ module _ (t : Table) (source : Source) (special : ℕ → Bool) (made : Bool) (P
 
   pub stmt_more : (a : Stmt) → CallingStmt t source special P made a → CallingStmt t source special Q made a
   stmt_more (src.Evaluate line e) h = evaluates_more e h
+  stmt_more (src.Fill line n b d) h = (fills_more t source special made P Q (λ n p. f (Each n p)) b h.0, sweeps_more t source special made P Q (λ n p. f (Each n p)) d h.1)
   stmt_more a h = h
 
 -- to-do lists that are left
 
 module _ (g : Setting) (A : Around) (made : Bool) where
   -- what is known of a place or not is left alike
-  located : (e : Expr) (todo : List Todo) (f : Spot → Mark) (ms : List Mark) → ((ms : List Mark) → Ok g A made ms todo → Left g A made todo) → Located e (λ p. Ok g A made (f p ∷ ms) todo) → Left g A made todo
-  located (src.Variable k) todo f ms next h = next (f (OfVariable k) ∷ ms) h
-  located (src.OfObject (src.OwnField s i)) todo f ms next h = next (f (OfField s i) ∷ ms) h
+  located : (e : Expr) (todo : List Todo) (f : Site → Mark) (ms : List Mark) → ((ms : List Mark) → Ok g A made ms todo → Left g A made todo) → Located e (λ x. Ok g A made (f x ∷ ms) todo) → Left g A made todo
+  located (src.Variable k) todo f ms next h = next (f (One (OfVariable k)) ∷ ms) h
+  located (src.OfObject (src.OwnField s i)) todo f ms next h = next (f (One (OfField s i)) ∷ ms) h
+  located (src.Element n src.Binding (src.Variable k) (src.OfObject src.Counted)) todo f ms next h = next (f (Each n (OfVariable k)) ∷ ms) h
+  located (src.Element n src.Binding (src.OfObject (src.OwnField s i)) (src.OfObject src.Counted)) todo f ms next h = next (f (Each n (OfField s i)) ∷ ms) h
   located e todo f ms next h = absurd h
 
-  loaded : (e : Expr) (todo : List Todo) (ms : List Mark) → ((ms : List Mark) → Ok g A made ms todo → Left g A made todo) → Loads e (λ p. Ok g A made (Homed p ∷ ms) todo) → Left g A made todo
+  loaded : (e : Expr) (todo : List Todo) (ms : List Mark) → ((ms : List Mark) → Ok g A made ms todo → Left g A made todo) → Loads e (λ x. Ok g A made (Homed x ∷ ms) todo) → Left g A made todo
   loaded (src.Load e) todo ms next h = located e todo Homed ms next h
   loaded e todo ms next h = absurd h
 
-  first_at : (ns : List Mark) (todo : List Todo) (f : Spot → List Mark) → ((ms : List Mark) → Ok g A made ms todo → Left g A made todo) → FirstAt ns (λ p. Ok g A made (f p) todo) → Left g A made todo
-  first_at (At p ∷ ns) todo f next h = next (f p) h
-  first_at [] todo f next h = absurd h
-  first_at (Any ∷ ns) todo f next h = absurd h
-  first_at (Own ∷ ns) todo f next h = absurd h
-  first_at (Homed p ∷ ns) todo f next h = absurd h
+  first_at : (ns : List Mark) (todo : List Todo) (F : Site → Type 0) → ((x : Site) → F x → Left g A made todo) → FirstAt ns F → Left g A made todo
+  first_at (At x ∷ ns) todo F next h = next x h
+  first_at [] todo F next h = absurd h
+  first_at (Any ∷ ns) todo F next h = absurd h
+  first_at (Own ∷ ns) todo F next h = absurd h
+  first_at (Homed x ∷ ns) todo F next h = absurd h
 
-  first_in : (ns : List Mark) (todo : List Todo) (f : Spot → List Mark) → ((ms : List Mark) → Ok g A made ms todo → Left g A made todo) → FirstAt ns (λ p. IsIn made p × Ok g A made (f p) todo) → Left g A made todo
-  first_in (At p ∷ ns) todo f next h = next (f p) h.1
-  first_in [] todo f next h = absurd h
-  first_in (Any ∷ ns) todo f next h = absurd h
-  first_in (Own ∷ ns) todo f next h = absurd h
-  first_in (Homed p ∷ ns) todo f next h = absurd h
+  enters : (n : ℕ) (k : src.Shape) (x : Site) (todo : List Todo) (F : Site → Type 0) → ((x : Site) → F x → Left g A made todo) → Enters n k x F → Left g A made todo
+  enters n src.Binding (One p) todo F next h = next (Each n p) h
+  enters n k x todo F next h = absurd h
 
   pub left : (ms : List Mark) (todo : List Todo) → Ok g A made ms todo → Left g A made todo
   left ms [] h = tt
@@ -213,16 +249,16 @@ module _ (g : Setting) (A : Around) (made : Bool) where
   left ms (piece.Eval e ∷ todo) (n, inr (inr (inr (inr (inr (inr (inl h))))))) = loaded e todo ms (λ ns k. left ns todo k) h.1
   left ms (piece.Eval e ∷ todo) (n, inr (inr (inr (inr (inr (inr (inr (inl h)))))))) = left (Any ∷ ms) todo h.1
   left ms (piece.Eval e ∷ todo) (n, inr (inr (inr (inr (inr (inr (inr (inr (inl h))))))))) = left (Any ∷ ms) todo h.1
-  left ms (piece.Eval e ∷ todo) (n, inr (inr (inr (inr (inr (inr (inr (inr (inr (inl h)))))))))) = left (Any ∷ ms) todo h.1
-  left ms (piece.Eval e ∷ todo) (n, inr (inr (inr (inr (inr (inr (inr (inr (inr (inr h)))))))))) = left (Any ∷ ms) todo h.2
+  left ms (piece.Eval e ∷ todo) (n, inr (inr (inr (inr (inr (inr (inr (inr (inr h))))))))) = left (Any ∷ ms) todo h.1
   left ms (piece.LoadNow ∷ todo) (inl h) = left (Any ∷ rest ms) todo h
-  left ms (piece.LoadNow ∷ todo) (inr h) = first_at ms todo (λ p. Homed p ∷ rest ms) (λ ns k. left ns todo k) h.1
+  left ms (piece.LoadNow ∷ todo) (inr h) = first_at ms todo (λ x. Ok g A made (Homed x ∷ rest ms) todo) (λ x k. left (Homed x ∷ rest ms) todo k) h.1
   left ms (piece.ElementNow n s ∷ todo) (inl h) = left (Any ∷ rest (rest ms)) todo h
-  left ms (piece.ElementNow n s ∷ todo) (inr h) = left (Own ∷ rest (rest ms)) todo h.1
+  left ms (piece.ElementNow n s ∷ todo) (inr (inl h)) = left (Own ∷ rest (rest ms)) todo h.1
+  left ms (piece.ElementNow n s ∷ todo) (inr (inr h)) = first_at (rest ms) todo (λ x. Enters n s x (λ y. Ok g A made (At y ∷ rest (rest ms)) todo)) (λ x k. enters n s x todo (λ y. Ok g A made (At y ∷ rest (rest ms)) todo) (λ y l. left (At y ∷ rest (rest ms)) todo l) k) h
   left ms (piece.MakeNow c r ∷ todo) (inl h) = left (made_marks g r Any ms) todo h
-  left ms (piece.MakeNow c r ∷ todo) (inr h) = first_in (rests (params g.source r) ms) todo (λ p. made_marks g r (Homed p) ms) (λ ns k. left ns todo k) h
+  left ms (piece.MakeNow c r ∷ todo) (inr h) = first_at (rests (params g.source r) ms) todo (λ x. IsIn made x × Ok g A made (made_marks g r (Homed x) ms) todo) (λ x k. left (made_marks g r (Homed x) ms) todo k.1) h
   left ms (piece.BindMadeNow c r ∷ todo) (inl h) = left (made_marks g r Any (rest ms)) todo h
-  left ms (piece.BindMadeNow c r ∷ todo) (inr h) = first_in (rests (params g.source r) (rest ms)) todo (λ p. made_marks g r (Homed p) (rest ms)) (λ ns k. left ns todo k) h
+  left ms (piece.BindMadeNow c r ∷ todo) (inr h) = first_at (rests (params g.source r) (rest ms)) todo (λ x. IsIn made x × Ok g A made (made_marks g r (Homed x) (rest ms)) todo) (λ x k. left (made_marks g r (Homed x) (rest ms)) todo k.1) h
   left ms (piece.Exit w ∷ todo) h = h
   left ms (piece.Unwind ∷ todo) h = h
   left ms (piece.InLoop o t e b ∷ todo) h = h

@@ -25,8 +25,8 @@ use Rattle.uc_sound.specs.Formed.{IsFormed}
 use Rattle.uc_sound.specs.Tables.{table_of}
 use Rattle.uc_value_laws.specs.Makers.{roles}
 use Rattle.uc_enter_laws.proofs.Lookups.{MakesPlain, making_plain}
-use Rattle.uc_unmarked_laws.specs.Ending.{Spot, OfField}
-use Rattle.uc_putting_laws.specs.Calling.{OpensFor, Evaluates, AnySpot, IsField, CallingStmts, CallingBody, CallingRoutine}
+use Rattle.uc_unmarked_laws.specs.Ending.{OfField}
+use Rattle.uc_putting_laws.specs.Calling.{Site, OpensFor, Evaluates, AnySite, IsField, CallingStmts, CallingBody, CallingRoutine}
 use Rattle.uc_putting_laws.specs.PuttingLaws.{is_special, special_of, LawCalling}
 use Rattle.uc_putting_laws.proofs.Roles.{main_plain, program_main_plain}
 use Rattle.uc_putting_laws.proofs.Expressions as expressions
@@ -46,7 +46,7 @@ module _ (p : Program) (formed : IsFormed p) (u : Unbroken (program_visits p)) w
   init_args s None = tt
   init_args s (Some x) = statements.args p formed u s x.args
 
-  field_start : (P : Spot → Type 0) (b : Bool) (s : Shape) (k : Shape) (i : ℕ) (m : Meant) → MeantPlain p m → Evaluates (table_of p) (source_of p) (special_of p) true P (meaning.field_start p b s (src.OfObject (src.OwnField k i)) m)
+  field_start : (P : Site → Type 0) (b : Bool) (s : Shape) (k : Shape) (i : ℕ) (m : Meant) → MeantPlain p m → Evaluates (table_of p) (source_of p) (special_of p) true P (meaning.field_start p b s (src.OfObject (src.OwnField k i)) m)
   field_start P true s k i m h = inr (inl ((tt, tt), inl h.expr))
   field_start P false s k i m h = inl ((tt, tt), expressions.converted p s (tree.value_of m) (expressions.value_of p m h))
 
@@ -57,12 +57,12 @@ module _ (p : Program) (formed : IsFormed p) (u : Unbroken (program_visits p)) w
   field_built : (m : Option Making) (f : ClassField) (len : Option ℕ) (k : Shape) (i : ℕ) (args : List Meant) (rest : Stmts) → MakesPlain p m → AllMeant p args → Fine rest → Fine (meaning.field_built p m f len (src.OfObject (src.OwnField k i)) args rest)
   field_built None f len k i args rest c h l = field_started f k i args rest h l
   field_built (Some m) f len k i args rest c h l =
-      (statements.build p formed u true 0 m len (OfField k i) args rest c refl h, (statements.clean_up p formed u true (IsField (table_of p) (source_of p) (special_of p)) m len (OfField k i) c refl tt, l))
+      (statements.build p formed u true 0 m len (OfField k i) args rest c refl h, (statements.clean_up p formed u true IsField m len (OfField k i) c refl (statements.field_site p formed u true len k i), l))
 
   -- fields are destroyed in a destructor
   field_left : (m : Option Making) (len : Option ℕ) (k : Shape) (i : ℕ) (rest : Stmts) → MakesPlain p m → Fine rest → Fine (meaning.field_left p m len (src.OfObject (src.OwnField k i)) rest)
   field_left None len k i rest c l = l
-  field_left (Some m) len k i rest c l = (statements.clean_up p formed u true (AnySpot (table_of p) (source_of p) (special_of p)) m len (OfField k i) c refl tt, l)
+  field_left (Some m) len k i rest c l = (statements.clean_up p formed u true AnySite m len (OfField k i) c refl (statements.any_site p formed u true len (OfField k i)), l)
 
   field_class : (f : ClassField) → MakesPlain p (meaning.field_making p f)
   field_class f = by f.declarator.by_ref

@@ -25,8 +25,8 @@ use Rattle.uc_sound.proofs.MemberLemmas.{tells_maker}
 use Rattle.uc_depth_laws.specs.Entering.{lets_go, holds_object, is_holding}
 use Rattle.uc_enter_laws.proofs.Lookups.{IsPlainClass, IsObjectClass, MakesPlain, making_plain, event_free, written_free, unwritten_free}
 use Rattle.uc_unmarked_laws.specs.Ending.{Spot, OfVariable, OfField, naming, ends_at}
-use Rattle.uc_putting_laws.specs.Calling.{of_object, opens_object, opens_at, EndsWhole, OpensFor, NoSpot, PlainExpr, PlainExprs, PlainMaybe, PlainItems, PlainTargets, PlainDeclared, PlaceAt, CallsAt, MakesAt, EndsAt, Evaluates, FillsBy, SweepsBy, AnySpot, CleansBy, RaisesBy, CallingStmt, CallingStmts, CallingHandlers, CallingClauses}
-use Rattle.uc_putting_laws.specs.Putting.{IsIn}
+use Rattle.uc_putting_laws.specs.Calling.{Site, One, Each, element_at, of_object, opens_object, opens_at, EndsWhole, OpensFor, NoSite, PlainExpr, PlainExprs, PlainMaybe, PlainItems, PlainTargets, PlainDeclared, PlaceAt, CallsAt, MakesAt, MakesEach, EndsAt, EndsEach, Evaluates, FillsBy, SweepsBy, AnySite, IsField, HasCount, CleansBy, RaisesBy, CallingStmt, CallingStmts, CallingHandlers, CallingClauses}
+use Rattle.uc_putting_laws.specs.Putting.{IsOf}
 use Rattle.uc_putting_laws.specs.PuttingLaws.{special_of}
 use Rattle.uc_putting_laws.proofs.Marks.{stmt_more}
 use Rattle.uc_putting_laws.proofs.Expressions as expressions
@@ -77,7 +77,7 @@ module _ (p : Program) (formed : IsFormed p) (u : Unbroken (program_visits p)) w
       record { class = i; this = k.unwritten_this e; whole = k.unwritten_whole e }
 
   module _ (made : Bool) where
-    place_at : (q : Spot) → IsIn made q → PlaceAt (table_of p) (source_of p) (special_of p) made (naming q)
+    place_at : (q : Spot) → IsOf made q → PlaceAt (table_of p) (source_of p) (special_of p) made (naming q)
     place_at (OfVariable k) h = tt
     place_at (OfField s i) h = h
 
@@ -89,67 +89,111 @@ module _ (p : Program) (formed : IsFormed p) (u : Unbroken (program_visits p)) w
     called_by i wanted place args None c w e h k = (shut_at (slice_get (source_of p).routines (unwritten_number p i wanted)) (unwritten_free p formed u i wanted c w e), h)
     called_by i wanted place args (Some r) c w e h k = (shut_at (slice_get (source_of p).routines r) (written_free p formed u i r wanted c w e), h, expressions.args_by p (tree.params_of p r) args k)
 
-    made_at : (P : Spot → Type 0) (i : ℕ) (q : Spot) (args : List Meant) (r : Option ℕ) → IsIn made q → P q → AllMeant p args → MakesAt (table_of p) (source_of p) (special_of p) made P (meaning.made_by p i (naming q) args r)
+    made_at : (P : Site → Type 0) (i : ℕ) (q : Spot) (args : List Meant) (r : Option ℕ) → IsOf made q → P (One q) → AllMeant p args → MakesAt (table_of p) (source_of p) (special_of p) made P (meaning.made_by p i (naming q) args r)
     made_at P i (OfVariable k) args None n o a = (o, tt)
     made_at P i (OfVariable k) args (Some r) n o a = (o, expressions.args_by p (tree.params_of p r) args a)
     made_at P i (OfField s j) args None n o a = (o, n, tt)
     made_at P i (OfField s j) args (Some r) n o a = (o, n, expressions.args_by p (tree.params_of p r) args a)
 
-    ended_at : (P : Spot → Type 0) (i : ℕ) (q : Spot) (r : Option ℕ) → IsObjectClass p i → written_at p i role.Destructor ≡ r → IsIn made q → P q → EndsAt (table_of p) (source_of p) (special_of p) made P (meaning.ended_by p i (src.Load (naming q)) r)
+    ended_at : (P : Site → Type 0) (i : ℕ) (q : Spot) (r : Option ℕ) → IsObjectClass p i → written_at p i role.Destructor ≡ r → IsOf made q → P (One q) → EndsAt (table_of p) (source_of p) (special_of p) made P (meaning.ended_by p i (src.Load (naming q)) r)
     ended_at P i (OfVariable k) None c e n o = (o, unwritten_whole i c e)
     ended_at P i (OfVariable k) (Some r) c e n o = (o, whole_by i c r e)
     ended_at P i (OfField s j) None c e n o = (o, n, unwritten_whole i c e)
     ended_at P i (OfField s j) (Some r) c e n o = (o, n, whole_by i c r e)
 
     -- the scope of a mutex object, or the part, is of what is made there
-    opens_for : (i : ℕ) (q : Spot) (rest : Stmts) (r : Option ℕ) → OpensFor (behind q (src.Destroys (meaning.ended_by p i (src.Load (naming q)) r)) rest) q
+    opens_for : (i : ℕ) (q : Spot) (rest : Stmts) (r : Option ℕ) → OpensFor (behind q (src.Destroys (meaning.ended_by p i (src.Load (naming q)) r)) rest) (One q)
     opens_for i (OfVariable k) rest None = (unwritten_number p i role.Destructor, false, refl)
     opens_for i (OfVariable k) rest (Some r) = (r, true, refl)
     opens_for i (OfField s j) rest None = (unwritten_number p i role.Destructor, false, refl)
     opens_for i (OfField s j) rest (Some r) = (r, true, refl)
 
-    constructed : (m : Making) (q : Spot) (args : List Meant) (rest : Stmts) → MakesPlain p (Some m) → IsIn made q → AllMeant p args → Evaluates (table_of p) (source_of p) (special_of p) made (OpensFor (behind q (meaning.clean_up p m None (naming q)) rest)) (meaning.constructed p m (naming q) args)
+    constructed : (m : Making) (q : Spot) (args : List Meant) (rest : Stmts) → MakesPlain p (Some m) → IsOf made q → AllMeant p args → Evaluates (table_of p) (source_of p) (special_of p) made (OpensFor (behind q (meaning.clean_up p m None (naming q)) rest)) (meaning.constructed p m (naming q) args)
     constructed (APlain i) q args rest c n k = inr (inr (inl (called_by i role.Constructor (naming q) args (written_at p i role.Constructor) c refl refl (place_at q n) k)))
     constructed (AMutex i) q args rest c n k = inr (inr (inr (made_at (OpensFor (behind q (meaning.clean_up p (AMutex i) None (naming q)) rest)) i q args (written_at p i role.Constructor) n (opens_for i q rest (written_at p i role.Destructor)) k)))
     constructed ACluster q args rest c n k = inr (inl (place_plain q, inr tt))
     constructed AProcessor q args rest c n k = inr (inl (place_plain q, inr (cluster_in args k)))
 
-    element_at : (m : Making) (n : ℕ) (q : Spot) → IsIn made q → PlaceAt (table_of p) (source_of p) (special_of p) made (meaning.counted_element p m n (naming q))
-    element_at m n q h = (place_at q h, (tt, tt))
+    counted_at : (m : Making) (n : ℕ) (q : Spot) → IsOf made q → PlaceAt (table_of p) (source_of p) (special_of p) made (meaning.counted_element p m n (naming q))
+    counted_at m n q h = (place_at q h, (tt, tt))
 
-    element_plain : (m : Making) (n : ℕ) (q : Spot) → PlainExpr (table_of p) (source_of p) (special_of p) (meaning.counted_element p m n (naming q))
-    element_plain m n q = (place_plain q, (tt, tt))
+    counted_plain : (m : Making) (n : ℕ) (q : Spot) → PlainExpr (table_of p) (source_of p) (special_of p) (meaning.counted_element p m n (naming q))
+    counted_plain m n q = (place_plain q, (tt, tt))
 
-    makes_each : (i n : ℕ) (q : Spot) (r : Option ℕ) → FillsBy (table_of p) (source_of p) (special_of p) made (meaning.made_by p i (meaning.counted_element p (AMutex i) n (naming q)) [] r)
-    makes_each i n q None = inr (inr (element_plain (AMutex i) n q, tt))
-    makes_each i n q (Some r) = inr (inr (element_plain (AMutex i) n q, expressions.args_by p (tree.params_of p r) [] tt))
+    -- the scope of an array of them is of what is made there
+    opens_each : (i n : ℕ) (q : Spot) (rest : Stmts) (r : Option ℕ) → OpensFor (behind q (src.DestroysAll n (meaning.ended_by p i (src.Load (element_at n q)) r)) rest) (Each n q)
+    opens_each i n (OfVariable k) rest None = (unwritten_number p i role.Destructor, false, refl)
+    opens_each i n (OfVariable k) rest (Some r) = (r, true, refl)
+    opens_each i n (OfField s j) rest None = (unwritten_number p i role.Destructor, false, refl)
+    opens_each i n (OfField s j) rest (Some r) = (r, true, refl)
 
-    fills : (m : Making) (n : ℕ) (q : Spot) → MakesPlain p (Some m) → IsIn made q → FillsBy (table_of p) (source_of p) (special_of p) made (meaning.constructed p m (meaning.counted_element p m n (naming q)) [])
-    fills (APlain i) n q c h = inr (inl (called_by i role.Constructor (meaning.counted_element p (APlain i) n (naming q)) [] (written_at p i role.Constructor) c refl refl (element_at (APlain i) n q h) tt))
-    fills (AMutex i) n q c h = makes_each i n q (written_at p i role.Constructor)
-    fills ACluster n q c h = inl (element_plain ACluster n q, inr tt)
-    fills AProcessor n q c h = inl (element_plain AProcessor n q, inr tt)
+    makes_each : (P : Site → Type 0) (i n : ℕ) (q : Spot) (r : Option ℕ) → IsOf made q → P (Each n q) → MakesEach (table_of p) (source_of p) (special_of p) made P (meaning.made_by p i (element_at n q) [] r)
+    makes_each P i n (OfVariable k) None h o = (o, tt)
+    makes_each P i n (OfVariable k) (Some r) h o = (o, expressions.args_by p (tree.params_of p r) [] tt)
+    makes_each P i n (OfField s j) None h o = (o, h, tt)
+    makes_each P i n (OfField s j) (Some r) h o = (o, h, expressions.args_by p (tree.params_of p r) [] tt)
 
-    ends_each : (i n : ℕ) (q : Spot) (r : Option ℕ) → IsIn made q → SweepsBy (table_of p) (source_of p) (special_of p) made (meaning.ended_by p i (src.Load (meaning.counted_element p (AMutex i) n (naming q))) r)
-    ends_each i n q None h = inr (inr (element_at (AMutex i) n q h))
-    ends_each i n q (Some r) h = inr (inr (element_at (AMutex i) n q h))
+    ends_each : (P : Site → Type 0) (i n : ℕ) (q : Spot) (r : Option ℕ) → IsObjectClass p i → written_at p i role.Destructor ≡ r → IsOf made q → P (Each n q) → EndsEach (table_of p) (source_of p) (special_of p) made P (meaning.ended_by p i (src.Load (element_at n q)) r)
+    ends_each P i n (OfVariable k) None c e h o = (o, unwritten_whole i c e)
+    ends_each P i n (OfVariable k) (Some r) c e h o = (o, whole_by i c r e)
+    ends_each P i n (OfField s j) None c e h o = (o, h, unwritten_whole i c e)
+    ends_each P i n (OfField s j) (Some r) c e h o = (o, h, whole_by i c r e)
 
-    sweeps : (m : Making) (n : ℕ) (q : Spot) → MakesPlain p (Some m) → IsIn made q → SweepsBy (table_of p) (source_of p) (special_of p) made (meaning.destroyed p m (meaning.counted_element p m n (naming q)))
-    sweeps (APlain i) n q c h = inr (inl (called_by i role.Destructor (meaning.counted_element p (APlain i) n (naming q)) [] (written_at p i role.Destructor) c refl refl (element_at (APlain i) n q h) tt))
-    sweeps (AMutex i) n q c h = ends_each i n q (written_at p i role.Destructor) h
-    sweeps ACluster n q c h = inl (element_at ACluster n q h)
-    sweeps AProcessor n q c h = inl (element_at AProcessor n q h)
+    -- where a mutex object may be such an element
+    abbrev IfMutex : Making → Type 0 → Type 0
+    IfMutex (AMutex i) Q = Q
+    IfMutex m Q = Unit {0}
 
-    pub build : (line : ℕ) (m : Making) (len : Option ℕ) (q : Spot) (args : List Meant) (rest : Stmts) → MakesPlain p (Some m) → IsIn made q → AllMeant p args → CallingStmt (table_of p) (source_of p) (special_of p) (OpensFor (behind q (meaning.clean_up p m len (naming q)) rest)) made (meaning.build p line m len (naming q) args)
+    fills : (P : Site → Type 0) (m : Making) (n : ℕ) (q : Spot) → MakesPlain p (Some m) → IsOf made q → IfMutex m (P (Each n q)) → FillsBy (table_of p) (source_of p) (special_of p) made P (meaning.constructed p m (meaning.counted_element p m n (naming q)) [])
+    fills P (APlain i) n q c h o = inr (inl (called_by i role.Constructor (meaning.counted_element p (APlain i) n (naming q)) [] (written_at p i role.Constructor) c refl refl (counted_at (APlain i) n q h) tt))
+    fills P (AMutex i) n q c h o = inr (inr (makes_each P i n q (written_at p i role.Constructor) h o))
+    fills P ACluster n q c h o = inl (counted_plain ACluster n q, inr tt)
+    fills P AProcessor n q c h o = inl (counted_plain AProcessor n q, inr tt)
+
+    sweeps : (P : Site → Type 0) (m : Making) (n : ℕ) (q : Spot) → MakesPlain p (Some m) → IsOf made q → IfMutex m (P (Each n q)) → SweepsBy (table_of p) (source_of p) (special_of p) made P (meaning.destroyed p m (meaning.counted_element p m n (naming q)))
+    sweeps P (APlain i) n q c h o = inr (inl (called_by i role.Destructor (meaning.counted_element p (APlain i) n (naming q)) [] (written_at p i role.Destructor) c refl refl (counted_at (APlain i) n q h) tt))
+    sweeps P (AMutex i) n q c h o = inr (inr (ends_each P i n q (written_at p i role.Destructor) c refl h o))
+    sweeps P ACluster n q c h o = inl (counted_at ACluster n q h)
+    sweeps P AProcessor n q c h o = inl (counted_at AProcessor n q h)
+
+    opens_elements : (m : Making) (n : ℕ) (q : Spot) (rest : Stmts) → IfMutex m (OpensFor (behind q (meaning.clean_up p m (Some n) (naming q)) rest) (Each n q))
+    opens_elements (AMutex i) n q rest = opens_each i n q rest (written_at p i role.Destructor)
+    opens_elements (APlain i) n q rest = tt
+    opens_elements ACluster n q rest = tt
+    opens_elements AProcessor n q rest = tt
+
+    if_mutex : (m : Making) (Q : Type 0) → Q → IfMutex m Q
+    if_mutex (AMutex i) Q h = h
+    if_mutex (APlain i) Q h = tt
+    if_mutex ACluster Q h = tt
+    if_mutex AProcessor Q h = tt
+
+    pub build : (line : ℕ) (m : Making) (len : Option ℕ) (q : Spot) (args : List Meant) (rest : Stmts) → MakesPlain p (Some m) → IsOf made q → AllMeant p args → CallingStmt (table_of p) (source_of p) (special_of p) (OpensFor (behind q (meaning.clean_up p m len (naming q)) rest)) made (meaning.build p line m len (naming q) args)
     build line m None q args rest c n k = constructed m q args rest c n k
-    build line m (Some len) q args rest c n k = (fills m len q c n, sweeps m len q c n)
+    build line m (Some len) q args rest c n k =
+        let P : Site → Type 0 = OpensFor (behind q (meaning.clean_up p m (Some len) (naming q)) rest) in
+        (fills P m len q c n (opens_elements m len q rest), sweeps P m len q c n (opens_elements m len q rest))
 
-    pub clean_up : (P : Spot → Type 0) (m : Making) (len : Option ℕ) (q : Spot) → MakesPlain p (Some m) → IsIn made q → P q → CleansBy (table_of p) (source_of p) (special_of p) made P (meaning.clean_up p m len (naming q))
+    -- a clean-up ends what may be there
+    abbrev pub AtSite : (Site → Type 0) → Option ℕ → Spot → Type 0
+    AtSite P None q = P (One q)
+    AtSite P (Some n) q = P (Each n q)
+
+    pub clean_up : (P : Site → Type 0) (m : Making) (len : Option ℕ) (q : Spot) → MakesPlain p (Some m) → IsOf made q → AtSite P len q → CleansBy (table_of p) (source_of p) (special_of p) made P (meaning.clean_up p m len (naming q))
     clean_up P (APlain i) None q c n o = inr (inl (called_by i role.Destructor (naming q) [] (written_at p i role.Destructor) c refl refl (place_at q n) tt))
     clean_up P (AMutex i) None q c n o = inr (inr (ended_at P i q (written_at p i role.Destructor) c refl n o))
     clean_up P ACluster None q c n o = inl (place_at q n)
     clean_up P AProcessor None q c n o = inl (place_at q n)
-    clean_up P m (Some len) q c n o = sweeps m len q c n
+    clean_up P m (Some len) q c n o = sweeps (λ x. P x × HasCount len x) m len q c n (if_mutex m (P (Each len q) × HasCount len (Each len q)) (o, refl))
+
+    -- at any site, and at a field
+    pub any_site : (len : Option ℕ) (q : Spot) → AtSite AnySite len q
+    any_site None q = tt
+    any_site (Some n) q = tt
+
+    pub field_site : (len : Option ℕ) (s : Shape) (i : ℕ) → AtSite IsField len (OfField s i)
+    field_site None s i = tt
+    field_site (Some n) s i = tt
 
   -- expressions in a scope
   pub meant : (s : Scope) (e : expr.Expr) → MeantPlain p (tree.meant (meaning.context_at p s) e)
@@ -215,7 +259,7 @@ module _ (p : Program) (formed : IsFormed p) (u : Unbroken (program_visits p)) w
   scoped : (made : Bool) (m : Making) (line : ℕ) (b : Base) (d : Declarator) (s : Scope) (rest : Stmts) → MakesPlain p (Some m) → CallingStmts (table_of p) (source_of p) (special_of p) made rest → CallingStmts (table_of p) (source_of p) (special_of p) made (meaning.object_scoped p m line b d s rest)
   scoped made m line b d s rest c h =
       let len : Option ℕ = meaning.length_of p d d.len in
-      ((tt, tt), (build made line m len (OfVariable s.cells) (meaning.start_args p s d.start) rest c tt (start_args s d.start), (clean_up made (AnySpot (table_of p) (source_of p) (special_of p)) m len (OfVariable s.cells) c tt tt, h)))
+      ((tt, tt), (build made line m len (OfVariable s.cells) (meaning.start_args p s d.start) rest c tt (start_args s d.start), (clean_up made AnySite m len (OfVariable s.cells) c tt (any_site made len (OfVariable s.cells)), h)))
 
   all_scoped : (made : Bool) (m : Making) (line : ℕ) (b : Base) (ds : List Declarator) (s : Scope) (rest : Stmts) → MakesPlain p (Some m) → CallingStmts (table_of p) (source_of p) (special_of p) made rest → CallingStmts (table_of p) (source_of p) (special_of p) made (meaning.objects_scoped p m line b ds s rest)
   all_scoped made m line b [] s rest c h = h
@@ -225,7 +269,7 @@ module _ (p : Program) (formed : IsFormed p) (u : Unbroken (program_visits p)) w
   declared_then made None line b ds s rest c h = (declared s b ds, h)
   declared_then made (Some m) line b ds s rest c h = all_scoped made m line b ds s rest c h
 
-  declared_alone : (made : Bool) (m : Option Making) (line : ℕ) (b : Base) (ds : List Declarator) (s : Scope) → MakesPlain p m → CallingStmt (table_of p) (source_of p) (special_of p) NoSpot made (meaning.declared_alone p m line b ds s)
+  declared_alone : (made : Bool) (m : Option Making) (line : ℕ) (b : Base) (ds : List Declarator) (s : Scope) → MakesPlain p m → CallingStmt (table_of p) (source_of p) (special_of p) NoSite made (meaning.declared_alone p m line b ds s)
   declared_alone made None line b ds s c = declared s b ds
   declared_alone made (Some m) line b ds s c = all_scoped made m line b ds s src.Nil c tt
 
@@ -239,7 +283,7 @@ module _ (p : Program) (formed : IsFormed p) (u : Unbroken (program_visits p)) w
   stmt_then made t s a rest n h = (n, h)
 
   mutual
-    pub one : (made : Bool) (t : stmt.Stmt) (s : Scope) → CallingStmt (table_of p) (source_of p) (special_of p) NoSpot made (meaning.stmt_meant p t s)
+    pub one : (made : Bool) (t : stmt.Stmt) (s : Scope) → CallingStmt (table_of p) (source_of p) (special_of p) NoSite made (meaning.stmt_meant p t s)
     one made (stmt.Block place body) s = all made body s
     one made (stmt.Empty place) s = tt
     one made (stmt.Evaluate place e) s = inl (meant s e).expr
@@ -284,7 +328,7 @@ module _ (p : Program) (formed : IsFormed p) (u : Unbroken (program_visits p)) w
         let x : stmt.Handler = stmt.Handles place kind event param brace body in
         (all made body (meaning.in_handler p x s), handlers made rest (meaning.scope_past_handler p x s), all false body (meaning.in_handler p x s))
 
-    maybe : (made : Bool) (t : stmt.MaybeStmt) (s : Scope) → CallingStmt (table_of p) (source_of p) (special_of p) NoSpot made (meaning.maybe_meant p t s)
+    maybe : (made : Bool) (t : stmt.MaybeStmt) (s : Scope) → CallingStmt (table_of p) (source_of p) (special_of p) NoSite made (meaning.maybe_meant p t s)
     maybe made stmt.NoStmt s = tt
     maybe made (stmt.OneStmt body) s = one made body s
 
@@ -292,4 +336,4 @@ module _ (p : Program) (formed : IsFormed p) (u : Unbroken (program_visits p)) w
     all made stmt.NoStmts s = tt
     all made (stmt.MoreStmts t ts) s =
         let rest : Stmts = meaning.stmts_meant p ts (meaning.scope_after p t s) in
-        stmt_then made t s (meaning.stmt_meant p t s) rest (stmt_more (table_of p) (source_of p) (special_of p) made NoSpot (OpensFor rest) (λ k z. absurd z) (meaning.stmt_meant p t s) (one made t s)) (all made ts (meaning.scope_after p t s))
+        stmt_then made t s (meaning.stmt_meant p t s) rest (stmt_more (table_of p) (source_of p) (special_of p) made NoSite (OpensFor rest) (λ k z. absurd z) (meaning.stmt_meant p t s) (one made t s)) (all made ts (meaning.scope_after p t s))

@@ -1,5 +1,5 @@
 -- A quiet step of a state in which what is called is the execution's own leads to one.
-use Rattle.std.proofs.Common.{◌≡◌, ℕ, zero, suc, ◌+◌, ◌⊎◌, inl, inr, ◌++◌, Bool, true, false, ◌&&◌, List, [], ◌∷◌, length, drop, Option, Some, None, refl, sym, ap, ◌∙◌, subst, ⊎_elim}
+use Rattle.std.proofs.Common.{◌≡◌, ℕ, zero, suc, ◌+◌, ◌<◌, ◌⊎◌, inl, inr, ◌++◌, Bool, true, false, ◌&&◌, List, [], ◌∷◌, length, drop, Option, Some, None, refl, sym, ap, ◌∙◌, subst, ⊎_elim}
 use Rattle.std.specs.Prelude.{nat_eq, nat_lt, slice_set, pos}
 use Rattle.uc_tree.specs.declared.limits.TheConstants.{CALLS, DESTRUCTOR, PENDING_EVENTS}
 use Rattle.uc_tree.specs.Source as src
@@ -32,10 +32,10 @@ use Rattle.uc_unmarked_laws.proofs.Own.{further_own}
 use Rattle.uc_aside_laws.specs.OlderResting.{AllWait, NamedEnv}
 use Rattle.uc_aside_laws.proofs.Keeping as kept
 use Rattle.uc_aside_laws.proofs.Keeping.{either}
-use Rattle.uc_putting_laws.specs.Calling.{opens_object, opens_at, is_opening, OpensFor, NoSpot, PlainNew, Binds, PlaceAt, CallsAt, MakesAt, MakesEach, EndsWhole, EndsAt, EndsEach, EndsNumber, Evaluates, FillsBy, SweepsBy, CleansBy, AnySpot, IsField, RaisesBy, CallingStmts}
-use Rattle.uc_putting_laws.specs.Putting.{Setting, Around, around, IsHome, Mark, Any, Own, At, Homed, rest, rests, anys, FirstOwn, FirstAt, FirstHome, IsEnding, ByElements, OpensRest, OpensNext, IsIn, Located, Loads, spot_at, Meets, Holds, LoneIn, LoneAt, Counts, Plain, CodeExpr, CodeExprs, CodeMaybe, CodeItems, CodeStmt, CodeStmts, CodeHandlers, CodeClauses, CodeLoop, CodeSweep, CodeFill, CodeOpening, CodeScope, CodePart, CodeRoutine, made_marks, CallFits, LeftBy, Ok, Left, Finds, Runs, Waits, PutState, PutStep}
+use Rattle.uc_putting_laws.specs.Calling.{Site, One, Each, opens_object, opens_at, is_opening, OpensFor, NoSite, PlainNew, Binds, PlaceAt, CallsAt, MakesAt, MakesEach, EndsWhole, EndsAt, EndsEach, EndsNumber, Evaluates, FillsBy, SweepsBy, CleansBy, AnySite, IsField, HasCount, RaisesBy, CallingStmts}
+use Rattle.uc_putting_laws.specs.Putting.{Setting, Around, around, IsHome, Mark, Any, Own, At, Homed, rest, rests, anys, FirstOwn, FirstAt, FirstHome, IsEnding, OpensRest, OpensNext, OneNext, IsIn, Located, Enters, Loads, StandsAt, HomedAt, Meets, Holds, LoneIn, LoneAt, Counts, Plain, CodeExpr, CodeExprs, CodeMaybe, CodeItems, CodeStmt, CodeStmts, CodeHandlers, CodeClauses, CodeLoop, CodeSweep, CodeFill, CodeOpening, CodeScope, CodePart, CodeRoutine, made_marks, CallFits, LeftBy, Ok, Left, Finds, Runs, Waits, PutState, PutStep}
 use Rattle.uc_putting_laws.proofs.Marks as marks
-use Rattle.uc_putting_laws.proofs.Marks.{place_plain, holds_below, holds_own, holds_drop, holds_anys, rests_anys, drop_set, set_top, spot_own, spot_there, stmt_more, AllLeft, waits_left}
+use Rattle.uc_putting_laws.proofs.Marks.{place_plain, holds_below, holds_own, holds_drop, holds_anys, rests_anys, drop_set, set_top, site_there, OfIndex, stmt_more, AllLeft, waits_left}
 
 no_both : {A : Type 0} (b : Bool) → b ≡ true → b ≡ false → A
 no_both b h k = absurd (cc)
@@ -96,14 +96,14 @@ module _ (g : Setting) where
     LeftTo todo = Left g A made todo
 
     -- what is known of a mark that is left
-    hit_by : (k : Sort) (n : ℕ) (e : raising.Event) (other : Option Hit) (l o : Type 0) → LeftBy g A made k l o → OfHit other → OfHit (raising.hit_by k n e other)
-    hit_by (piece.IsGuard hs) n e other l o h k = hit_or (raising.handler_for true e hs) n other (alone_for made true e hs h.0) k
-    hit_by s n e other l o h k = k
+    hit_by : (k : Sort) (n : ℕ) (e : raising.Event) (ps : List Todo) (other : Option Hit) (l o : Type 0) → LeftBy g A made k ps l o → OfHit other → OfHit (raising.hit_by k n e other)
+    hit_by (piece.IsGuard hs) n e ps other l o h k = hit_or (raising.handler_for true e hs) n other (alone_for made true e hs h.0) k
+    hit_by s n e ps other l o h k = k
 
     hit_in : (e : raising.Event) (todo : List Todo) → LeftTo todo → OfHit (raising.hit_in e todo)
     hit_in e [] h = tt
     hit_in e (p ∷ ps) h =
-        hit_by (piece.sort p) (raising.count_round ps) e (raising.hit_in e ps) (LeftTo ps) (Ok g A made [] ps) h (hit_in e ps (marks.left_tail g A made p ps h))
+        hit_by (piece.sort p) (raising.count_round ps) e ps (raising.hit_in e ps) (LeftTo ps) (Ok g A made [] ps) h (hit_in e ps (marks.left_tail g A made p ps h))
 
     within : (n : ℕ) (todo : List Todo) → LeftTo todo → LeftTo (raising.within n todo)
     within n [] h = tt
@@ -190,7 +190,7 @@ module _ (g : Setting) where
     loop_left src.ToReturn o t e b todo n h = left [] todo h
     loop_left src.ToEnd o t e b todo n h = left [] todo h
 
-    left_behind : (w : Way) (k : Sort) (todo : List Todo) → LeftBy g A made k (LeftTo A made todo) (Fits [] todo) → Fits [] (quiet.left_behind w k todo)
+    left_behind : (w : Way) (k : Sort) (todo : List Todo) → LeftBy g A made k todo (LeftTo A made todo) (Fits [] todo) → Fits [] (quiet.left_behind w k todo)
     left_behind w piece.Simple todo h = h
     left_behind w (piece.IsLoop o t e b) todo h = loop_left w o t e b todo h.0 h.1
     left_behind w piece.IsWhole todo h = h
@@ -207,25 +207,29 @@ module _ (g : Setting) where
     single e todo n (inl k) h = (n, inl (k, h))
     single e todo n (inr (inl k)) h = (n, inr (inl (k, h)))
     single e todo n (inr (inr (inl k))) h = (n, inr (inr (inr (inl (k, h)))))
-    single e todo n (inr (inr (inr k))) h = (n, inr (inr (inr (inr (inr (inr (inr (inl (k, h)))))))))
+    single e todo n (inr (inr (inr k))) h = (n, inr (inr (inr (inr (inr (inr (inr (inl (inl k, h)))))))))
+
+    -- nothing stands around a site, with this to do
+    abbrev pub Lones : List Todo → Site → Type 0
+    Lones todo x = LoneAt g.table g.few A todo x
 
     -- one that builds, and one that destroys an element
-    pub filled : (b : Bool) (n : ℕ) (e d : Expr) (todo : List Todo) → CodeFill g made e → CodeSweep g made d → Fits [] todo → Fits [] (quiet.fill_todo b n e d todo)
+    pub filled : (b : Bool) (n : ℕ) (e d : Expr) (todo : List Todo) → CodeFill g made (Lones todo) e → CodeSweep g made (Lones todo) d → Fits [] todo → Fits [] (quiet.fill_todo b n e d todo)
     filled false n e d todo k q h = h
     filled true n e d todo (k, inl y) q h = (k, inr (inl (y, (tt, (tt, (((k, inl y), q), h))))))
     filled true n e d todo (k, inr (inl y)) q h = (k, inr (inr (inr (inl (y, (tt, (tt, (((k, inr (inl y)), q), h))))))))
-    filled true n e d todo (k, inr (inr y)) q h = (k, inr (inr (inr (inr (inr (inr (inr (inr (inr (inr (tt, inl y, (tt, (tt, (((k, inr (inr y)), q), h))))))))))))))
+    filled true n e d todo (k, inr (inr y)) q h = (k, inr (inr (inr (inr (inr (inr (inr (inl (inr y, (tt, (tt, (((k, inr (inr y)), q), h))))))))))))
 
-    pub sweeps : (e : Expr) (todo : List Todo) → CodeSweep g made e → Fits [] todo → Fits [] (piece.Eval e ∷ (piece.DropNow ∷ (piece.Sweep e ∷ todo)))
-    sweeps e todo (k, inl y) h = (k, inr (inr (inr (inr (inr (inr (inr (inr (inr (inl (y, (tt, ((k, inl y), h)))))))))))))
+    pub sweeps : (e : Expr) (todo : List Todo) → CodeSweep g made (Lones todo) e → Fits [] todo → Fits [] (piece.Eval e ∷ (piece.DropNow ∷ (piece.Sweep e ∷ todo)))
+    sweeps e todo (k, inl y) h = (k, inr (inr (inr (inr (inr (inr (inr (inr (inr (y, (tt, ((k, inl y), h))))))))))))
     sweeps e todo (k, inr (inl y)) h = (k, inr (inr (inr (inl (y, (tt, ((k, inr (inl y)), h)))))))
-    sweeps e todo (k, inr (inr y)) h = (k, inr (inr (inr (inr (inr (inr (inr (inr (inr (inr (tt, inr y, (tt, ((k, inr (inr y)), h)))))))))))))
+    sweeps e todo (k, inr (inr y)) h = (k, inr (inr (inr (inr (inr (inr (inr (inr (inl (inr y, (tt, ((k, inr (inr y)), h))))))))))))
 
     -- what a clean-up destroys, where nothing stands around what it ends at a spot
-    destroys : (e : Expr) (todo : List Todo) → Counts g e → EndsNumber g.table g.source g.special made e ⊎ (CallsAt g.table g.source g.special made e ⊎ EndsAt g.table g.source g.special made (LoneAt g.table g.few A (piece.DropNow ∷ todo)) e) → Fits [] todo → Fits [] (piece.Eval e ∷ (piece.DropNow ∷ todo))
-    destroys e todo n (inl k) h = (n, inr (inr (inr (inr (inr (inr (inr (inr (inr (inl (k, (tt, h))))))))))))
+    destroys : (e : Expr) (todo : List Todo) → Counts g e → EndsNumber g.table g.source g.special made e ⊎ (CallsAt g.table g.source g.special made e ⊎ EndsAt g.table g.source g.special made (Lones (piece.DropNow ∷ todo)) e) → Fits [] todo → Fits [] (piece.Eval e ∷ (piece.DropNow ∷ todo))
+    destroys e todo n (inl k) h = (n, inr (inr (inr (inr (inr (inr (inr (inr (inr (k, (tt, h)))))))))))
     destroys e todo n (inr (inl k)) h = (n, inr (inr (inr (inl (k, (tt, h))))))
-    destroys e todo n (inr (inr k)) h = (n, inr (inr (inr (inr (inr (inr (inr (inr (inl (k, (tt, h)))))))))))
+    destroys e todo n (inr (inr k)) h = (n, inr (inr (inr (inr (inr (inr (inr (inr (inl (inl k, (tt, h)))))))))))
 
     -- an event is found before it is raised
     pub raised : (r : Raised) (todo : List Todo) → CountedRaised g.source r → RaisesBy g.table g.source g.special made r → Fits (Any ∷ (Any ∷ (Any ∷ []))) todo → Fits [] (raising.raised_todo r todo)
@@ -243,12 +247,13 @@ module _ (g : Setting) where
 
     -- where nothing stands around what ends at a spot
     abbrev pub LoneFor : CleanUp → List Todo → Type 0
-    LoneFor (src.Destroys e) todo = EndsNumber g.table g.source g.special made e ⊎ (CallsAt g.table g.source g.special made e ⊎ EndsAt g.table g.source g.special made (LoneAt g.table g.few A (piece.DropNow ∷ todo)) e)
+    LoneFor (src.Destroys e) todo = EndsNumber g.table g.source g.special made e ⊎ (CallsAt g.table g.source g.special made e ⊎ EndsAt g.table g.source g.special made (Lones (piece.DropNow ∷ todo)) e)
+    LoneFor (src.DestroysAll n e) todo = SweepsBy g.table g.source g.special made (Lones todo) e
     LoneFor c todo = Unit {0}
 
     pub cleans : (c : CleanUp) (todo : List Todo) → CodeScope g made c → LoneFor c todo → Fits [] todo → Fits [] (piece.clean_todo c todo)
     cleans (src.Destroys e) todo n l h = destroys e todo n.0 l h
-    cleans (src.DestroysAll m e) todo n l h = (tt, ((n.0, n.1), h))
+    cleans (src.DestroysAll m e) todo n l h = (tt, ((n.0, l), h))
     cleans src.Unwinds todo n l h = (tt, h)
     cleans src.Forgets todo n l h = (tt, h)
     cleans src.Leaves todo n l h = (tt, h)
@@ -260,13 +265,13 @@ module _ (g : Setting) where
     part_scope : (c : CleanUp) → CodePart g made c → CodeScope g made c
     part_scope (src.Destroys e) n = (n.0, part_ends e n.1)
       where
-        part_ends : (e : Expr) → CleansBy g.table g.source g.special made (IsField g.table g.source g.special) (src.Destroys e) → CleansBy g.table g.source g.special made (AnySpot g.table g.source g.special) (src.Destroys e)
+        part_ends : (e : Expr) → CleansBy g.table g.source g.special made IsField (src.Destroys e) → CleansBy g.table g.source g.special made AnySite (src.Destroys e)
         part_ends e (inl k) = inl k
         part_ends e (inr (inl k)) = inr (inl k)
         part_ends (src.OfObject (src.EndOn r w (src.Load (src.Variable k)))) (inr (inr q)) = absurd q.0
         part_ends (src.OfObject (src.EndOn r w (src.Load (src.OfObject (src.OwnField s i))))) (inr (inr q)) = inr (inr (tt, q.1, q.2))
         part_ends e (inr (inr q)) = absurd q
-    part_scope (src.DestroysAll m e) n = n
+    part_scope (src.DestroysAll m e) n = (n.0, marks.sweeps_more g.table g.source g.special made (λ x. IsField x × HasCount m x) (λ x. AnySite x × HasCount m x) (λ n p k. (tt, k.1)) e n.1)
     part_scope src.Unwinds n = n
     part_scope src.Forgets n = n
     part_scope src.Leaves n = n
@@ -279,8 +284,8 @@ module _ (g : Setting) where
     left_cleans c todo n l h = cleans c todo n l h
 
     -- a statement of another one
-    pub inner : (P : Spot → Type 0) (a : Stmt) → CodeStmt g NoSpot made a → CodeStmt g P made a
-    inner P a h = (h.0, stmt_more g.table g.source g.special made NoSpot P (λ p z. absurd z) a h.1)
+    pub inner : (P : Site → Type 0) (a : Stmt) → CodeStmt g NoSite made a → CodeStmt g P made a
+    inner P a h = (h.0, stmt_more g.table g.source g.special made NoSite P (λ p z. absurd z) a h.1)
 
     pub branch : (k : ℕ) (cs : Clauses) (todo : List Todo) → CodeClauses g made cs → Fits [] todo → Fits [] (monitors.branch_todo k cs todo)
     branch k src.NoClauses todo n h = h
@@ -372,11 +377,18 @@ module _ (g : Setting) where
     outcome ms (Faults f) todo vs k h = stop f todo vs
 
     -- an element is known to be the execution's own or not
-    pub element : (ms : List Mark) (k : Shape) (i : Option ℕ) (todo : List Todo) (v : Value) (vs : List Value) → H ms (v ∷ vs) → O (Any ∷ rest ms) todo ⊎ (FirstOwn ms × O (Own ∷ rest ms) todo) → PutStep g (piece.element_step k i todo v vs s)
-    element ms k None todo v vs l h = stop Index todo vs
-    element ms k (Some i) todo v vs l (inl h) = go (Any ∷ rest ms) todo _ (tt, holds_below g.few (here s) ms (v ∷ vs) l) h
-    element ms k (Some i) todo v vs l (inr h) =
+    pub element : (ms : List Mark) (n : ℕ) (k : Shape) (i : Option ℕ) (todo : List Todo) (v : Value) (vs : List Value) → H ms (v ∷ vs) → OfIndex n i → O (Any ∷ rest ms) todo ⊎ ((FirstOwn ms × O (Own ∷ rest ms) todo) ⊎ FirstAt ms (λ x. Enters n k x (λ y. O (At y ∷ rest ms) todo))) → PutStep g (piece.element_step k i todo v vs s)
+    element ms n k None todo v vs l b h = stop Index todo vs
+    element ms n k (Some i) todo v vs l b (inl h) = go (Any ∷ rest ms) todo _ (tt, holds_below g.few (here s) ms (v ∷ vs) l) h
+    element ms n k (Some i) todo v vs l b (inr (inl h)) =
         go (Own ∷ rest ms) todo _ (further_own g.table g.few s.env.exec (piece.At k i) v (holds_own g.few (here s) ms (v ∷ vs) l h.0), holds_below g.few (here s) ms (v ∷ vs) l) h.1
+    element ms n k (Some i) todo v vs l b (inr (inr h)) =
+        let f = marks.at_of g.few (here s) ms (v ∷ vs) l (λ x. Enters n k x (λ y. O (At y ∷ rest ms) todo)) h in
+        entered n k i todo v vs l b f.0 f.1 f.2
+      where
+        entered : (n : ℕ) (k : Shape) (i : ℕ) (todo : List Todo) (v : Value) (vs : List Value) → H ms (v ∷ vs) → i < n → (x : Site) → StandsAt g.few (here s) x v → Enters n k x (λ y. O (At y ∷ rest ms) todo) → PutStep g (piece.element_step k (Some i) todo v vs s)
+        entered n src.Binding i todo v vs l b (One p) e h = go (At (Each n p) ∷ rest ms) todo _ ((i, b, ap (piece.further (piece.At src.Binding i)) e), holds_below g.few (here s) ms (v ∷ vs) l) h
+        entered n k i todo v vs l b x e h = absurd h
 
     pub condition : (ms : List Mark) (k : ℕ) (i : Option ℕ) (todo : List Todo) → H ms (below s.run.operands) → O (Any ∷ ms) todo → PutStep g (monitors.condition_step k i todo s)
     condition ms k None todo l h = stop Index todo _
@@ -407,11 +419,11 @@ module _ (g : Setting) where
 
     -- statements
 
-    pub swept : (n : ℕ) (e : Expr) (todo : List Todo) → CodeSweep g made e → O [] todo → PutStep g (quiet.sweep_step n e todo s)
+    pub swept : (n : ℕ) (e : Expr) (todo : List Todo) → CodeSweep g made (Lones (here s) made todo) e → O [] todo → PutStep g (quiet.sweep_step n e todo s)
     swept zero e todo n h = anew _ _ h
     swept (suc m) e todo n h = record { run = record { made = made; this = this; marks = []; holds = tt; ok = sweeps (here s) made e todo n h }; callers = callers; env = env }
 
-    event_step : (P : Spot → Type 0) (a : EventStmt) (todo : List Todo) → CodeStmt g P made (src.OfEvents a) → O [] todo → PutStep g (quiet.event_step a todo s)
+    event_step : (P : Site → Type 0) (a : EventStmt) (todo : List Todo) → CodeStmt g P made (src.OfEvents a) → O [] todo → PutStep g (quiet.event_step a todo s)
     event_step P (src.Throw line r) todo n h = anew _ _ (raised (here s) made r (piece.ThrowNow ∷ (piece.Within line ∷ todo)) n.0 n.1 (tt, (tt, h)))
     event_step P (src.Raise line r) todo n h = anew _ _ (raised (here s) made r (piece.RaiseNow ∷ (piece.Within line ∷ todo)) n.0 n.1 (tt, (tt, h)))
     event_step P (src.Try line body hs) todo n h = anew _ _ (inl (n.0.0, n.1.0), ((n.0.1, n.1.1), (tt, h)))
@@ -420,7 +432,7 @@ module _ (g : Setting) where
     event_step P (src.Enable line events cell a) todo n h = anew _ _ (tt, (tt, (inner (here s) made (OpensRest (piece.Clean (src.Restores cell) ∷ (piece.Within line ∷ todo))) a n, ((tt, tt), (tt, h)))))
     event_step P (src.Disable line events cell a) todo n h = anew _ _ (tt, (inner (here s) made (OpensRest (piece.Clean (src.Restores cell) ∷ (piece.Within line ∷ todo))) a n, ((tt, tt), (tt, h))))
 
-    task_step : (P : Spot → Type 0) (a : TaskStmt) (todo : List Todo) → CodeStmt g P made (src.OfTasks a) → O [] todo → PutStep g (quiet.task_step a todo s)
+    task_step : (P : Site → Type 0) (a : TaskStmt) (todo : List Todo) → CodeStmt g P made (src.OfTasks a) → O [] todo → PutStep g (quiet.task_step a todo s)
     task_step P (src.Resume line) todo n h = anew _ _ (tt, (tt, (tt, h)))
     task_step P (src.Suspend line) todo n h = anew _ _ (tt, (tt, (tt, h)))
     task_step P (src.SetUp r) todo n h = anew _ _ (n.1, h)
@@ -430,25 +442,30 @@ module _ (g : Setting) where
     task_step P (src.Migrate line a) todo n h = anew _ _ (n.0, inl (n.1, (tt, (tt, h))))
     task_step P (src.Accept line site cs) todo n h = anew _ _ (n, (tt, (n, (tt, h))))
 
-    pub stmt : (a : Stmt) (todo : List Todo) → CodeStmt g (OpensRest todo) made a → O [] todo → PutStep g (quiet.stmt_step a todo s)
-    stmt (src.Skip line) todo n h = anew _ _ h
-    stmt (src.Block line body) todo n h = anew _ _ (inl n, (tt, h))
-    stmt (src.Whole line body) todo n h = anew _ _ (inl n, (tt, (tt, h)))
-    stmt (src.Evaluate line a) todo n h = anew _ _ (single (here s) made a (piece.DropNow ∷ (piece.Within line ∷ todo)) n.0 n.1 (tt, (tt, h)))
-    stmt (src.Declare line ds) todo n h = anew _ _ (n, (tt, h))
-    stmt (src.Print line items) todo n h = anew _ _ (n, (tt, h))
-    stmt (src.PrintTogether line items) todo n h = anew _ _ (n, (tt, (n, (tt, (tt, h)))))
-    stmt (src.Read line ts) todo n h = anew _ _ (n, (tt, h))
-    stmt (src.If line t a b) todo n h = anew _ _ (n.0.0, inl (n.1.0, (((n.0.1, n.1.1), (n.0.2, n.1.2)), (tt, h))))
-    stmt (src.Loop line o t e b) todo n h = anew _ _ (looped (here s) made o t e b _ ((n.0.0, n.1.0), (n.0.1, n.1.1), (n.0.2, n.1.2)) (tt, h))
-    stmt (src.Break line) todo n h = anew _ _ (gone [] todo h)
-    stmt (src.Continue line) todo n h = anew _ _ (gone [] todo h)
-    stmt (src.Return line None) todo n h = anew _ _ (gone [] todo h)
-    stmt (src.Return line (Some e)) todo n h = anew _ _ (n.0, inl (n.1, gone [] todo h))
-    stmt (src.Owes line) todo n h = anew _ _ (tt, (tt, h))
-    stmt (src.Fill line m b e) todo n h = anew _ _ (tt, (((n.0.0, n.1.0), (n.0.1, n.1.1)), (tt, h)))
-    stmt (src.OfEvents a) todo n h = event_step (OpensRest todo) a todo n h
-    stmt (src.OfTasks a) todo n h = task_step (OpensRest todo) a todo n h
+    -- nothing stands around what is to be built in a statement
+    abbrev pub LoneBuilt : Stmt → List Todo → Type 0
+    LoneBuilt (src.Fill line m b d) todo = (n : ℕ) (p : Spot) → OpensRest todo (Each n p) → LoneAt g.table g.few (here s) todo (Each n p)
+    LoneBuilt a todo = Unit {0}
+
+    pub stmt : (a : Stmt) (todo : List Todo) → CodeStmt g (OpensRest todo) made a → LoneBuilt a todo → O [] todo → PutStep g (quiet.stmt_step a todo s)
+    stmt (src.Skip line) todo n l h = anew _ _ h
+    stmt (src.Block line body) todo n l h = anew _ _ (inl n, (tt, h))
+    stmt (src.Whole line body) todo n l h = anew _ _ (inl n, (tt, (tt, h)))
+    stmt (src.Evaluate line a) todo n l h = anew _ _ (single (here s) made a (piece.DropNow ∷ (piece.Within line ∷ todo)) n.0 n.1 (tt, (tt, h)))
+    stmt (src.Declare line ds) todo n l h = anew _ _ (n, (tt, h))
+    stmt (src.Print line items) todo n l h = anew _ _ (n, (tt, h))
+    stmt (src.PrintTogether line items) todo n l h = anew _ _ (n, (tt, (n, (tt, (tt, h)))))
+    stmt (src.Read line ts) todo n l h = anew _ _ (n, (tt, h))
+    stmt (src.If line t a b) todo n l h = anew _ _ (n.0.0, inl (n.1.0, (((n.0.1, n.1.1), (n.0.2, n.1.2)), (tt, h))))
+    stmt (src.Loop line o t e b) todo n l h = anew _ _ (looped (here s) made o t e b _ ((n.0.0, n.1.0), (n.0.1, n.1.1), (n.0.2, n.1.2)) (tt, h))
+    stmt (src.Break line) todo n l h = anew _ _ (gone [] todo h)
+    stmt (src.Continue line) todo n l h = anew _ _ (gone [] todo h)
+    stmt (src.Return line None) todo n l h = anew _ _ (gone [] todo h)
+    stmt (src.Return line (Some e)) todo n l h = anew _ _ (n.0, inl (n.1, gone [] todo h))
+    stmt (src.Owes line) todo n l h = anew _ _ (tt, (tt, h))
+    stmt (src.Fill line m b e) todo n l h = anew _ _ (tt, (((n.0.0, marks.fills_more g.table g.source g.special made (OpensRest todo) (Lones (here s) made (piece.Within line ∷ todo)) l b n.1.0), (n.0.1, marks.sweeps_more g.table g.source g.special made (OpensRest todo) (Lones (here s) made (piece.Within line ∷ todo)) l e n.1.1)), (tt, h)))
+    stmt (src.OfEvents a) todo n l h = event_step (OpensRest todo) a todo n h
+    stmt (src.OfTasks a) todo n l h = task_step (OpensRest todo) a todo n h
 
     pub rest_of : (ss : Stmts) (todo : List Todo) → CodeStmts g made ss ⊎ CodeOpening g (here s) made ss todo → O [] todo → PutStep g (quiet.rest_step ss todo s)
     rest_of src.Nil todo n h = anew _ _ h
@@ -526,7 +543,7 @@ module _ (g : Setting) where
     LonePast (piece.IsPart c) todo = LoneFor (here s) made c (piece.Unwind ∷ todo)
     LonePast k todo = Unit {0}
 
-    unwind_past : (k : Sort) (todo : List Todo) → LeftBy g (here s) made k (L todo) (O [] todo) → LonePast k todo → PutStep g (raising.unwind_past k todo s)
+    unwind_past : (k : Sort) (todo : List Todo) → LeftBy g (here s) made k todo (L todo) (O [] todo) → LonePast k todo → PutStep g (raising.unwind_past k todo s)
     unwind_past piece.Simple todo h l = unwound _ _ h
     unwind_past (piece.IsLoop o t e b) todo h l = unwound _ _ (gone [] todo h.1)
     unwind_past piece.IsWhole todo h l = whole _ todo h
@@ -638,64 +655,72 @@ module _ (g : Setting) where
       place : (e : Expr) (todo : List Todo) → Counts g e → PlaceAt g.table g.source g.special made e → O (Own ∷ ms) todo → PutStep g (quiet.eval_step e todo s)
       place (src.Variable k) todo n p h = go (Own ∷ ms) _ _ (frame refl, holds) h
       place (src.OfObject (src.OwnField k i)) todo n p h = go (Own ∷ ms) _ _ (further_own g.table g.few s.env.exec (piece.FieldAt k i) s.run.this (this p), holds) h
-      place (src.Element m k a i) todo n p h = go ms _ _ holds (n.0, inr (inr (inr (inr (inl (p.0, (n.1, inl (p.1, inr (tt, h)))))))))
+      place (src.Element m k a i) todo n p h = go ms _ _ holds (n.0, inr (inr (inr (inr (inl (p.0, (n.1, inl (p.1, inr (inl (tt, h))))))))))
       place e todo n p h = absurd p
 
-      -- the place of a spot
-      locates : (e : Expr) (todo : List Todo) → Located e (λ p. O (At p ∷ ms) todo) → PutStep g (quiet.eval_step e todo s)
-      locates (src.Variable k) todo h = go (At (OfVariable k) ∷ ms) _ _ (refl, holds) h
-      locates (src.OfObject (src.OwnField k i)) todo h = go (At (OfField k i) ∷ ms) _ _ (refl, holds) h
-      locates e todo h = absurd h
+      -- a place at a site
+      locates : (e : Expr) (todo : List Todo) → Counts g e → Located e (λ x. O (At x ∷ ms) todo) → PutStep g (quiet.eval_step e todo s)
+      locates (src.Variable k) todo n h = go (At (One (OfVariable k)) ∷ ms) _ _ (refl, holds) h
+      locates (src.OfObject (src.OwnField k i)) todo n h = go (At (One (OfField k i)) ∷ ms) _ _ (refl, holds) h
+      locates (src.Element m src.Binding (src.Variable k) (src.OfObject src.Counted)) todo n h = go ms _ _ holds (n.0, inr (inr (inr (inr (inr (inl (n.1, inl ((tt, tt), inr (inr h)))))))))
+      locates (src.Element m src.Binding (src.OfObject (src.OwnField k i)) (src.OfObject src.Counted)) todo n h = go ms _ _ holds (n.0, inr (inr (inr (inr (inr (inl (n.1, inl ((tt, tt), inr (inr h)))))))))
+      locates e todo n h = absurd h
 
-      loads : (e : Expr) (todo : List Todo) → Counts g e → IsEnding todo → Loads e (λ p. O (Homed p ∷ ms) todo) → PutStep g (quiet.eval_step e todo s)
+      loads : (e : Expr) (todo : List Todo) → Counts g e → IsEnding todo → Loads e (λ x. O (Homed x ∷ ms) todo) → PutStep g (quiet.eval_step e todo s)
       loads (src.Load (src.Variable k)) todo n i h = go ms _ _ holds (n, inr (inr (inr (inr (inr (inl (inr (i, h))))))))
       loads (src.Load (src.OfObject (src.OwnField k j))) todo n i h = go ms _ _ holds (n, inr (inr (inr (inr (inr (inl (inr (i, h))))))))
+      loads (src.Load (src.Element m src.Binding (src.Variable k) (src.OfObject src.Counted))) todo n i h = go ms _ _ holds (n, inr (inr (inr (inr (inr (inl (inr (i, h))))))))
+      loads (src.Load (src.Element m src.Binding (src.OfObject (src.OwnField k j)) (src.OfObject src.Counted))) todo n i h = go ms _ _ holds (n, inr (inr (inr (inr (inr (inl (inr (i, h))))))))
       loads e todo n i h = absurd h
 
-      -- the place of a spot lies below the arguments of what makes an object there
-      made_spot : (p : Spot) → IsIn made p → (n r : ℕ) (todo : List Todo) → n ≡ params g.source r → OpensNext todo p → O (Any ∷ ms) todo → FirstAt (rests (params g.source r) (anys n (At p ∷ ms))) (λ q. IsIn made q × (CallsFit (here s) made r (made_marks g r (Homed q) (anys n (At p ∷ ms))) todo × O (Any ∷ rests (suc (params g.source r)) (made_marks g r (Homed q) (anys n (At p ∷ ms)))) todo))
-      made_spot p i n r todo e o h =
-          let fits : CallsFit (here s) made r (anys (params g.source r) (Homed p ∷ ms)) todo = inr (inr (inl (subst (λ ns. FirstHome ns (λ p. LoneAt g.table g.few (here s) todo p ⊎ OpensNext todo p)) (sym (rests_anys (params g.source r) (Homed p ∷ ms))) (inr o)))) in
-          under (λ ns. FirstAt ns (λ q. IsIn made q × (CallsFit (here s) made r (made_marks g r (Homed q) (anys n (At p ∷ ms))) todo × O (Any ∷ rests (suc (params g.source r)) (made_marks g r (Homed q) (anys n (At p ∷ ms)))) todo))) n r (At p ∷ ms) e (i, made_on (here s) made n r (At p) (Homed p) ms todo e fits h)
+      -- what is known of the site of an object that is made or ended
+      abbrev pub LoneOr : List Todo → Site → Type 0
+      LoneOr todo x = LoneAt g.table g.few (here s) todo x ⊎ OneNext todo x
 
-      -- what ends an object at a spot finds it without arguments
-      ends_spot : (p : Spot) (r : ℕ) (todo : List Todo) → 0 ≡ params g.source r → LoneAt g.table g.few (here s) todo p → CallsFit (here s) made r (Homed p ∷ ms) todo
-      ends_spot p r todo e l =
-          inr (inr (inl (under (λ ns. FirstHome ns (λ p. LoneAt g.table g.few (here s) todo p ⊎ OpensNext todo p)) 0 r (Homed p ∷ ms) e (inl l))))
+      -- its place lies below the arguments of what makes an object there
+      made_site : (x : Site) → IsIn made x → (n r : ℕ) (todo : List Todo) → n ≡ params g.source r → LoneOr todo x → O (Any ∷ ms) todo → FirstAt (rests (params g.source r) (anys n (At x ∷ ms))) (λ y. IsIn made y × (CallsFit (here s) made r (made_marks g r (Homed y) (anys n (At x ∷ ms))) todo × O (Any ∷ rests (suc (params g.source r)) (made_marks g r (Homed y) (anys n (At x ∷ ms)))) todo))
+      made_site x i n r todo e o h =
+          let fits : CallsFit (here s) made r (anys (params g.source r) (Homed x ∷ ms)) todo = inr (inr (subst (λ ns. FirstHome ns (LoneOr todo)) (sym (rests_anys (params g.source r) (Homed x ∷ ms))) o)) in
+          under (λ ns. FirstAt ns (λ y. IsIn made y × (CallsFit (here s) made r (made_marks g r (Homed y) (anys n (At x ∷ ms))) todo × O (Any ∷ rests (suc (params g.source r)) (made_marks g r (Homed y) (anys n (At x ∷ ms)))) todo))) n r (At x ∷ ms) e (i, made_on (here s) made n r (At x) (Homed x) ms todo e fits h)
 
-      -- what makes a mutex object at a spot
+      -- what ends an object there finds it without arguments
+      ends_site : (x : Site) (r : ℕ) (todo : List Todo) → 0 ≡ params g.source r → LoneAt g.table g.few (here s) todo x → CallsFit (here s) made r (Homed x ∷ ms) todo
+      ends_site x r todo e l = inr (inr (under (λ ns. FirstHome ns (LoneOr todo)) 0 r (Homed x ∷ ms) e (inl l)))
+
+      -- what makes a mutex object at a spot, and at an element
       makes : (a : Expr) (todo : List Todo) → Counts g a → MakesAt g.table g.source g.special made (OpensNext todo) a → O (Any ∷ ms) todo → PutStep g (quiet.eval_step a todo s)
-      makes (src.OfObject (src.MakeOn c r true (src.Variable k) args)) todo n b h = go ms _ _ holds (n.0, inr (inr (inr (inr (inr (inl ((n.1, b.1), (tt, inr (made_spot (OfVariable k) tt (count args) r todo n.2 b.0 h)))))))))
-      makes (src.OfObject (src.MakeOn c r false (src.Variable k) args)) todo n b h = go ms _ _ holds (n.0, inr (inr (inr (inr (inr (inl ((n.1, b.1), inr (made_spot (OfVariable k) tt (count args) r todo n.2 b.0 h))))))))
-      makes (src.OfObject (src.MakeOn c r true (src.OfObject (src.OwnField k i)) args)) todo n b h = go ms _ _ holds (n.0, inr (inr (inr (inr (inr (inl ((n.1, b.2), (tt, inr (made_spot (OfField k i) b.1 (count args) r todo n.2 b.0 h)))))))))
-      makes (src.OfObject (src.MakeOn c r false (src.OfObject (src.OwnField k i)) args)) todo n b h = go ms _ _ holds (n.0, inr (inr (inr (inr (inr (inl ((n.1, b.2), inr (made_spot (OfField k i) b.1 (count args) r todo n.2 b.0 h))))))))
+      makes (src.OfObject (src.MakeOn c r true (src.Variable k) args)) todo n b h = go ms _ _ holds (n.0, inr (inr (inr (inr (inr (inl ((n.1, b.1), (tt, inr (made_site (One (OfVariable k)) tt (count args) r todo n.2 (inr b.0) h)))))))))
+      makes (src.OfObject (src.MakeOn c r true (src.OfObject (src.OwnField k i)) args)) todo n b h = go ms _ _ holds (n.0, inr (inr (inr (inr (inr (inl ((n.1, b.2), (tt, inr (made_site (One (OfField k i)) b.1 (count args) r todo n.2 (inr b.0) h)))))))))
+      makes (src.OfObject (src.MakeOn c r false (src.Variable k) args)) todo n b h = go ms _ _ holds (n.0, inr (inr (inr (inr (inr (inl ((n.1, b.1), inr (made_site (One (OfVariable k)) tt (count args) r todo n.2 (inr b.0) h))))))))
+      makes (src.OfObject (src.MakeOn c r false (src.OfObject (src.OwnField k i)) args)) todo n b h = go ms _ _ holds (n.0, inr (inr (inr (inr (inr (inl ((n.1, b.2), inr (made_site (One (OfField k i)) b.1 (count args) r todo n.2 (inr b.0) h))))))))
       makes a todo n b h = absurd b
 
+      makes_each : (a : Expr) (todo : List Todo) → Counts g a → MakesEach g.table g.source g.special made (LoneAt g.table g.few (here s) todo) a → O (Any ∷ ms) todo → PutStep g (quiet.eval_step a todo s)
+      makes_each (src.OfObject (src.MakeOn c r true (src.Element m src.Binding (src.Variable k) (src.OfObject src.Counted)) args)) todo n b h = go ms _ _ holds (n.0, inr (inr (inr (inr (inr (inl ((n.1, b.1), (tt, inr (made_site (Each m (OfVariable k)) tt (count args) r todo n.2 (inl b.0) h)))))))))
+      makes_each (src.OfObject (src.MakeOn c r true (src.Element m src.Binding (src.OfObject (src.OwnField k i)) (src.OfObject src.Counted)) args)) todo n b h = go ms _ _ holds (n.0, inr (inr (inr (inr (inr (inl ((n.1, b.2), (tt, inr (made_site (Each m (OfField k i)) b.1 (count args) r todo n.2 (inl b.0) h)))))))))
+      makes_each (src.OfObject (src.MakeOn c r false (src.Element m src.Binding (src.Variable k) (src.OfObject src.Counted)) args)) todo n b h = go ms _ _ holds (n.0, inr (inr (inr (inr (inr (inl ((n.1, b.1), inr (made_site (Each m (OfVariable k)) tt (count args) r todo n.2 (inl b.0) h))))))))
+      makes_each (src.OfObject (src.MakeOn c r false (src.Element m src.Binding (src.OfObject (src.OwnField k i)) (src.OfObject src.Counted)) args)) todo n b h = go ms _ _ holds (n.0, inr (inr (inr (inr (inr (inl ((n.1, b.2), inr (made_site (Each m (OfField k i)) b.1 (count args) r todo n.2 (inl b.0) h))))))))
+      makes_each a todo n b h = absurd b
+
+      -- what ends one there
       ends_at_spot : (a : Expr) (todo : List Todo) → Counts g a → EndsAt g.table g.source g.special made (LoneAt g.table g.few (here s) todo) a → O (Any ∷ ms) todo → PutStep g (quiet.eval_step a todo s)
-      ends_at_spot (src.OfObject (src.EndOn r true (src.Load (src.Variable k)))) todo n b h = go ms _ _ holds (n.0, inr (inr (inr (inr (inr (inr (inl (refl, (tt, (tt, (ends_spot (OfVariable k) r todo n.1 b.0, on 0 r (Homed (OfVariable k)) todo n.1 h)))))))))))
-      ends_at_spot (src.OfObject (src.EndOn r false (src.Load (src.Variable k)))) todo n b h = go ms _ _ holds (n.0, inr (inr (inr (inr (inr (inr (inl (refl, (tt, (ends_spot (OfVariable k) r todo n.1 b.0, on 0 r (Homed (OfVariable k)) todo n.1 h))))))))))
-      ends_at_spot (src.OfObject (src.EndOn r true (src.Load (src.OfObject (src.OwnField k i))))) todo n b h = go ms _ _ holds (n.0, inr (inr (inr (inr (inr (inr (inl (refl, (tt, (tt, (ends_spot (OfField k i) r todo n.1 b.0, on 0 r (Homed (OfField k i)) todo n.1 h)))))))))))
-      ends_at_spot (src.OfObject (src.EndOn r false (src.Load (src.OfObject (src.OwnField k i))))) todo n b h = go ms _ _ holds (n.0, inr (inr (inr (inr (inr (inr (inl (refl, (tt, (ends_spot (OfField k i) r todo n.1 b.0, on 0 r (Homed (OfField k i)) todo n.1 h))))))))))
+      ends_at_spot (src.OfObject (src.EndOn r true (src.Load (src.Variable k)))) todo n b h = go ms _ _ holds (n.0, inr (inr (inr (inr (inr (inr (inl (refl, (tt, (tt, (ends_site (One (OfVariable k)) r todo n.1 b.0, on 0 r (Homed (One (OfVariable k))) todo n.1 h)))))))))))
+      ends_at_spot (src.OfObject (src.EndOn r true (src.Load (src.OfObject (src.OwnField k i))))) todo n b h = go ms _ _ holds (n.0, inr (inr (inr (inr (inr (inr (inl (refl, (tt, (tt, (ends_site (One (OfField k i)) r todo n.1 b.0, on 0 r (Homed (One (OfField k i))) todo n.1 h)))))))))))
+      ends_at_spot (src.OfObject (src.EndOn r false (src.Load (src.Variable k)))) todo n b h = go ms _ _ holds (n.0, inr (inr (inr (inr (inr (inr (inl (refl, (tt, (ends_site (One (OfVariable k)) r todo n.1 b.0, on 0 r (Homed (One (OfVariable k))) todo n.1 h))))))))))
+      ends_at_spot (src.OfObject (src.EndOn r false (src.Load (src.OfObject (src.OwnField k i))))) todo n b h = go ms _ _ holds (n.0, inr (inr (inr (inr (inr (inr (inl (refl, (tt, (ends_site (One (OfField k i)) r todo n.1 b.0, on 0 r (Homed (One (OfField k i))) todo n.1 h))))))))))
       ends_at_spot a todo n b h = absurd b
+
+      ends_each : (a : Expr) (todo : List Todo) → Counts g a → EndsEach g.table g.source g.special made (LoneAt g.table g.few (here s) todo) a → O (Any ∷ ms) todo → PutStep g (quiet.eval_step a todo s)
+      ends_each (src.OfObject (src.EndOn r true (src.Load (src.Element m src.Binding (src.Variable k) (src.OfObject src.Counted))))) todo n b h = go ms _ _ holds (n.0, inr (inr (inr (inr (inr (inr (inl (refl, (tt, (tt, (ends_site (Each m (OfVariable k)) r todo n.1 b.0, on 0 r (Homed (Each m (OfVariable k))) todo n.1 h)))))))))))
+      ends_each (src.OfObject (src.EndOn r true (src.Load (src.Element m src.Binding (src.OfObject (src.OwnField k i)) (src.OfObject src.Counted))))) todo n b h = go ms _ _ holds (n.0, inr (inr (inr (inr (inr (inr (inl (refl, (tt, (tt, (ends_site (Each m (OfField k i)) r todo n.1 b.0, on 0 r (Homed (Each m (OfField k i))) todo n.1 h)))))))))))
+      ends_each (src.OfObject (src.EndOn r false (src.Load (src.Element m src.Binding (src.Variable k) (src.OfObject src.Counted))))) todo n b h = go ms _ _ holds (n.0, inr (inr (inr (inr (inr (inr (inl (refl, (tt, (ends_site (Each m (OfVariable k)) r todo n.1 b.0, on 0 r (Homed (Each m (OfVariable k))) todo n.1 h))))))))))
+      ends_each (src.OfObject (src.EndOn r false (src.Load (src.Element m src.Binding (src.OfObject (src.OwnField k i)) (src.OfObject src.Counted))))) todo n b h = go ms _ _ holds (n.0, inr (inr (inr (inr (inr (inr (inl (refl, (tt, (ends_site (Each m (OfField k i)) r todo n.1 b.0, on 0 r (Homed (Each m (OfField k i))) todo n.1 h))))))))))
+      ends_each a todo n b h = absurd b
 
       ends_number : (a : Expr) (todo : List Todo) → Counts g a → EndsNumber g.table g.source g.special made a → O (Any ∷ ms) todo → PutStep g (quiet.eval_step a todo s)
       ends_number (src.OfObject (src.EndCluster (src.Load p))) todo n b h = go ms _ _ holds (n, inl (place_plain g made p b, (tt, h)))
       ends_number (src.OfObject (src.EndProcessor (src.Load p))) todo n b h = go ms _ _ holds (n, inl (place_plain g made p b, (tt, h)))
       ends_number a todo n b h = absurd b
-
-      makes_each : (a : Expr) (todo : List Todo) → Counts g a → ByElements todo → MakesEach g.table g.source g.special a → O (Any ∷ ms) todo → PutStep g (quiet.eval_step a todo s)
-      makes_each (src.OfObject (src.MakeOn c r true p args)) todo n e b h = go ms _ _ holds (n.0, inl (b.0, ((n.1, b.1), (tt, inl (made_on (here s) made (count args) r Any Any ms todo n.2 (inr (inr (inr e))) h)))))
-      makes_each (src.OfObject (src.MakeOn c r false p args)) todo n e b h = go ms _ _ holds (n.0, inl (b.0, ((n.1, b.1), inl (made_on (here s) made (count args) r Any Any ms todo n.2 (inr (inr (inr e))) h))))
-      makes_each a todo n e b h = absurd b
-
-      ends_each : (a : Expr) (todo : List Todo) → Counts g a → ByElements todo → EndsEach g.table g.source g.special made a → O (Any ∷ ms) todo → PutStep g (quiet.eval_step a todo s)
-      ends_each (src.OfObject (src.EndOn r true (src.Load p))) todo n e b h = go ms _ _ holds (n.0, inl (place_plain g made p b, (tt, (tt, (inr (inr (inr e)), on 0 r Any todo n.1 h)))))
-      ends_each (src.OfObject (src.EndOn r false (src.Load p))) todo n e b h = go ms _ _ holds (n.0, inl (place_plain g made p b, (tt, (inr (inr (inr e)), on 0 r Any todo n.1 h))))
-      ends_each a todo n e b h = absurd b
-
-      each : (a : Expr) (todo : List Todo) → Counts g a → ByElements todo → MakesEach g.table g.source g.special a ⊎ EndsEach g.table g.source g.special made a → O (Any ∷ ms) todo → PutStep g (quiet.eval_step a todo s)
-      each a todo n e (inl b) h = makes_each a todo n e b h
-      each a todo n e (inr b) h = ends_each a todo n e b h
 
       pub evals : (e : Expr) (todo : List Todo) → O ms (piece.Eval e ∷ todo) → PutStep g (quiet.eval_step e todo s)
       evals e todo (n, inl h) = eval e todo n h.0 h.1
@@ -703,19 +728,20 @@ module _ (g : Setting) where
       evals e todo (n, inr (inr (inl h))) = making e todo n h.0 h.1
       evals e todo (n, inr (inr (inr (inl h)))) = calls e todo n h.0 h.1
       evals e todo (n, inr (inr (inr (inr (inl h))))) = place e todo n h.0 h.1
-      evals e todo (n, inr (inr (inr (inr (inr (inl h)))))) = locates e todo h
+      evals e todo (n, inr (inr (inr (inr (inr (inl h)))))) = locates e todo n h
       evals e todo (n, inr (inr (inr (inr (inr (inr (inl h))))))) = loads e todo n h.0 h.1
-      evals e todo (n, inr (inr (inr (inr (inr (inr (inr (inl h)))))))) = makes e todo n h.0 h.1
-      evals e todo (n, inr (inr (inr (inr (inr (inr (inr (inr (inl h))))))))) = ends_at_spot e todo n h.0 h.1
-      evals e todo (n, inr (inr (inr (inr (inr (inr (inr (inr (inr (inl h)))))))))) = ends_number e todo n h.0 h.1
-      evals e todo (n, inr (inr (inr (inr (inr (inr (inr (inr (inr (inr h)))))))))) = each e todo n h.0 h.1 h.2
+      evals e todo (n, inr (inr (inr (inr (inr (inr (inr (inl (inl b, h))))))))) = makes e todo n b h
+      evals e todo (n, inr (inr (inr (inr (inr (inr (inr (inl (inr b, h))))))))) = makes_each e todo n b h
+      evals e todo (n, inr (inr (inr (inr (inr (inr (inr (inr (inl (inl b, h)))))))))) = ends_at_spot e todo n b h
+      evals e todo (n, inr (inr (inr (inr (inr (inr (inr (inr (inl (inr b, h)))))))))) = ends_each e todo n b h
+      evals e todo (n, inr (inr (inr (inr (inr (inr (inr (inr (inr h))))))))) = ends_number e todo n h.0 h.1
 
       -- what an object is bound to, and what is loaded to be destroyed, is at home there
       pub load : (todo : List Todo) → (IsEnding todo → IsHome g.few (loaded (top s.run.operands) s.env) (top s.run.operands)) → O ms (piece.LoadNow ∷ todo) → PutStep g (quiet.act g.source piece.LoadNow todo s)
       load todo f (inl h) = go (Any ∷ rest ms) _ _ (tt, one) h
       load todo f (inr h) =
-          let k = marks.at_of g.few (here s) ms s.run.operands holds (λ p. O (Homed p ∷ rest ms) todo) h.1 in
-          go (Homed k.0 ∷ rest ms) _ _ (subst (IsHome g.few (loaded (top s.run.operands) s.env)) k.1 (f h.0), one) k.2
+          let k = marks.at_of g.few (here s) ms s.run.operands holds (λ x. O (Homed x ∷ rest ms) todo) h.1 in
+          go (Homed k.0 ∷ rest ms) _ _ ((top s.run.operands, k.1, f h.0), one) k.2
 
       -- calls
 
@@ -727,42 +753,30 @@ module _ (g : Setting) where
 
       -- what is known where the routine x is called, of special ones if b
       abbrev pub FitsFor : Bool → Option Routine → List Todo → Type 0
-      FitsFor b x todo = (b ≡ false) ⊎
-          (((opens_at x ≡ false) × FirstOwn (rests (params_at x) ms)) ⊎
-          (FirstHome (rests (params_at x) ms) (λ p. LoneAt g.table g.few (here s) todo p ⊎ OpensNext todo p) ⊎
-          ByElements todo))
-
-      abbrev pub FairFor : Option Routine → List Todo → Type 0
-      FairFor x todo = ByElements todo →
-          Belongs g.few s.env.exec (top (drop (params_at x) s.run.operands)) ×
-          (opens_at x ≡ true → LoneIn g.table g.few (here s) (piece.object_in (top (drop (params_at x) s.run.operands))) todo)
+      FitsFor b x todo = (b ≡ false) ⊎ (((opens_at x ≡ false) × FirstOwn (rests (params_at x) ms)) ⊎ FirstHome (rests (params_at x) ms) (LoneOr todo))
 
       -- it finds its object the execution's own, and nothing around it where it destroys or builds that
       record Finding (b : Bool) (x : Routine) (todo : List Todo) : Type 0 where
         own : b ≡ true → Belongs g.few s.env.exec (top (drop x.params s.run.operands))
         lone : b ≡ true → opens_object x.body ≡ true → LoneIn g.table g.few (here s) (piece.object_in (top (drop x.params s.run.operands))) todo
 
-      lone_home : (v : Value) (todo : List Todo) (p : Spot) → IsHome g.few v (spot_at g.few (here s) p) → LoneAt g.table g.few (here s) todo p → LoneIn g.table g.few (here s) (piece.object_in v) todo
-      lone_home v todo p i l =
-          subst (λ w. LoneIn g.table g.few (here s) (piece.object_in w) todo) (sym i.object) (l i.number i.home)
+      homed : (v : Value) (todo : List Todo) (y : Site) (h : HomedAt g.few (here s) y v) → LoneAt g.table g.few (here s) todo y → LoneIn g.table g.few (here s) h.2.number todo
+      homed v todo y h l = l h.2.number (subst (StandsAt g.few (here s) y) (sym h.2.home) h.1)
 
-      own_home : (v : Value) (todo : List Todo) (p : Spot) → IsHome g.few v (spot_at g.few (here s) p) → LoneAt g.table g.few (here s) todo p → Belongs g.few s.env.exec v
-      own_home v todo p i l = subst (Belongs g.few s.env.exec) (sym i.object) (object_own (l i.number i.home).0)
-
-      finding : (b : Bool) (x : Routine) (todo : List Todo) → FitsFor b (Some x) todo → ((p : Spot) → OpensNext todo p → LoneAt g.table g.few (here s) todo p) → FairFor (Some x) todo → Finding b x todo
-      finding b x todo (inl e) l f = record { own = λ q. no_both b q e; lone = λ q o. no_both b q e }
-      finding b x todo (inr (inl k)) l f = record {
+      finding : (b : Bool) (x : Routine) (todo : List Todo) → FitsFor b (Some x) todo → ((y : Site) → OneNext todo y → LoneAt g.table g.few (here s) todo y) → Finding b x todo
+      finding b x todo (inl e) l = record { own = λ q. no_both b q e; lone = λ q o. no_both b q e }
+      finding b x todo (inr (inl k)) l = record {
         own = λ q. holds_own g.few (here s) (rests x.params ms) (drop x.params s.run.operands) (dropped x.params) k.1;
         lone = λ q o. no_both (opens_object x.body) o k.0;
       }
-      finding b x todo (inr (inr (inl k))) l f =
-          let h = marks.home_of g.few (here s) (rests x.params ms) (drop x.params s.run.operands) (dropped x.params) (λ p. LoneAt g.table g.few (here s) todo p ⊎ OpensNext todo p) k in
-          let lone : LoneAt g.table g.few (here s) todo h.0 = ⊎_elim (λ y. y) (λ y. l h.0 y) h.2 in
+      finding b x todo (inr (inr k)) l =
+          let v = top (drop x.params s.run.operands) in
+          let h = marks.home_of g.few (here s) (rests x.params ms) (drop x.params s.run.operands) (dropped x.params) (LoneOr todo) k in
+          let lone : LoneIn g.table g.few (here s) h.1.2.number todo = homed v todo h.0 h.1 (⊎_elim (λ z. z) (λ z. l h.0 z) h.2) in
           record {
-            own = λ q. own_home (top (drop x.params s.run.operands)) todo h.0 h.1 lone;
-            lone = λ q o. lone_home (top (drop x.params s.run.operands)) todo h.0 h.1 lone;
+            own = λ q. subst (Belongs g.few s.env.exec) (sym h.1.2.object) (object_own lone.0);
+            lone = λ q o. subst (λ w. LoneIn g.table g.few (here s) (piece.object_in w) todo) (sym h.1.2.object) lone;
           }
-      finding b x todo (inr (inr (inr k))) l f = record { own = λ q. (f k).0; lone = λ q o. (f k).1 o }
 
       begun : (b : Bool) (x : Routine) (v : Value) (counts : Bool) (ns : List Mark) (todo : List Todo) (vs : List Value) → CodeRoutine g b (Some x) → (b ≡ true → Belongs g.few s.env.exec v) → (b ≡ true → opens_object x.body ≡ true → LoneIn g.table g.few (here s) (piece.object_in v) todo) → H ns vs → O (Any ∷ ns) todo → PutStep g (quiet.begun_step x v counts todo vs s)
       begun b x v counts ns todo vs n own lone k h = record {
@@ -785,16 +799,16 @@ module _ (g : Setting) where
       call b None todo e n h = ends _ _
       call b (Some x) todo e n h = either (PutStep g) (nat_lt s.env.links.calls CALLS) _ _ (begun b x _ true (rests x.params ms) todo _ n (λ q. no_both b q e) (λ q o. no_both b q e) (dropped x.params) h) (stop Depth todo _)
 
-      pub call_on : (b : Bool) (x : Option Routine) (todo : List Todo) → CodeRoutine g b x → FitsFor b x todo → ((p : Spot) → OpensNext todo p → LoneAt g.table g.few (here s) todo p) → FairFor x todo → O (Any ∷ rests (suc (params_at x)) ms) todo → PutStep g (quiet.call_on_step x todo s)
-      call_on b None todo n k l f h = ends _ _
-      call_on b (Some x) todo n k l f h =
-          let d = finding b x todo k l f in
+      pub call_on : (b : Bool) (x : Option Routine) (todo : List Todo) → CodeRoutine g b x → FitsFor b x todo → ((y : Site) → OneNext todo y → LoneAt g.table g.few (here s) todo y) → O (Any ∷ rests (suc (params_at x)) ms) todo → PutStep g (quiet.call_on_step x todo s)
+      call_on b None todo n k l h = ends _ _
+      call_on b (Some x) todo n k l h =
+          let d = finding b x todo k l in
           either (PutStep g) (nat_lt s.env.links.calls CALLS) _ _ (begun b x _ true (rests (suc x.params) ms) todo _ n d.own d.lone (dropped_one x.params) h) (stop Depth todo _)
 
-      pub call_unwritten : (b : Bool) (x : Option Routine) (todo : List Todo) → CodeRoutine g b x → FitsFor b x todo → ((p : Spot) → OpensNext todo p → LoneAt g.table g.few (here s) todo p) → FairFor x todo → O (Any ∷ rests (suc (params_at x)) ms) todo → PutStep g (quiet.call_unwritten_step x todo s)
-      call_unwritten b None todo n k l f h = ends _ _
-      call_unwritten b (Some x) todo n k l f h =
-          let d = finding b x todo k l f in
+      pub call_unwritten : (b : Bool) (x : Option Routine) (todo : List Todo) → CodeRoutine g b x → FitsFor b x todo → ((y : Site) → OneNext todo y → LoneAt g.table g.few (here s) todo y) → O (Any ∷ rests (suc (params_at x)) ms) todo → PutStep g (quiet.call_unwritten_step x todo s)
+      call_unwritten b None todo n k l h = ends _ _
+      call_unwritten b (Some x) todo n k l h =
+          let d = finding b x todo k l in
           begun b x _ false (rests (suc x.params) ms) todo _ n d.own d.lone (dropped_one x.params) h
 
       pub live : (r : Option Routine) (todo : List Todo) → O ms todo → PutStep g (quiet.live_step r todo s)
@@ -840,19 +854,19 @@ module _ (g : Setting) where
           let vs = below s.run.operands in
           subst (H (rests (suc n) (rest ms))) (sym (marks.drop_one n (slice_set vs n v) ∙ drop_set n v vs)) (holds_drop g.few (here s) (suc n) (rest ms) vs one)
 
-      bound_at : (n : ℕ) (p : Spot) → IsIn made p → top (drop n (below s.run.operands)) ≡ spot_at g.few (here s) p → IsHome g.few (top s.run.operands) (top (drop n (below s.run.operands))) → IsHome g.few (top (drop n (slice_set (below s.run.operands) n (top s.run.operands)))) (spot_at g.few (here s) p)
-      bound_at n p i e f =
-          let there = set_top n (top s.run.operands) (below s.run.operands) (spot_there g.table g.few (here s) made p (drop n (below s.run.operands)) this i e) in
-          subst (λ v. IsHome g.few v (spot_at g.few (here s) p)) (sym there) (subst (IsHome g.few (top s.run.operands)) e f)
+      bound_at : (n : ℕ) (x : Site) → IsIn made x → StandsAt g.few (here s) x (top (drop n (below s.run.operands))) → IsHome g.few (top s.run.operands) (top (drop n (below s.run.operands))) → HomedAt g.few (here s) x (top (drop n (slice_set (below s.run.operands) n (top s.run.operands))))
+      bound_at n x i e f =
+          let there = set_top n (top s.run.operands) (below s.run.operands) (site_there g.table g.few (here s) made x (drop n (below s.run.operands)) this i e) in
+          (top (drop n (below s.run.operands)), e, subst (λ v. IsHome g.few v (top (drop n (below s.run.operands)))) (sym there) f)
 
-      pub bind : (x : Option Routine) (todo : List Todo) → IsHome g.few (top s.run.operands) (top (drop (params_at x) (below s.run.operands))) → O (anys (params_at x) (Any ∷ rests (suc (params_at x)) (rest ms))) todo ⊎ FirstAt (rests (params_at x) (rest ms)) (λ p. IsIn made p × O (anys (params_at x) (Homed p ∷ rests (suc (params_at x)) (rest ms))) todo) → PutStep g (monitors.bind_step x todo s)
+      pub bind : (x : Option Routine) (todo : List Todo) → IsHome g.few (top s.run.operands) (top (drop (params_at x) (below s.run.operands))) → O (anys (params_at x) (Any ∷ rests (suc (params_at x)) (rest ms))) todo ⊎ FirstAt (rests (params_at x) (rest ms)) (λ y. IsIn made y × O (anys (params_at x) (Homed y ∷ rests (suc (params_at x)) (rest ms))) todo) → PutStep g (monitors.bind_step x todo s)
       bind None todo f h = ends _ _
       bind (Some x) todo f (inl h) =
           let n = x.params in
           go_in (anys n (Any ∷ rests (suc n) (rest ms))) todo _ _ (holds_anys g.few (here s) n (Any ∷ rests (suc n) (rest ms)) (slice_set (below s.run.operands) n (top s.run.operands)) (tt, bound_under n (top s.run.operands))) h (write _ _)
       bind (Some x) todo f (inr h) =
           let n = x.params in
-          let k = marks.at_of g.few (here s) (rests n (rest ms)) (drop n (below s.run.operands)) (holds_drop g.few (here s) n (rest ms) (below s.run.operands) one) (λ p. IsIn made p × O (anys n (Homed p ∷ rests (suc n) (rest ms))) todo) h in
+          let k = marks.at_of g.few (here s) (rests n (rest ms)) (drop n (below s.run.operands)) (holds_drop g.few (here s) n (rest ms) (below s.run.operands) one) (λ y. IsIn made y × O (anys n (Homed y ∷ rests (suc n) (rest ms))) todo) h in
           go_in (anys n (Homed k.0 ∷ rests (suc n) (rest ms))) todo _ _ (holds_anys g.few (here s) n (Homed k.0 ∷ rests (suc n) (rest ms)) (slice_set (below s.run.operands) n (top s.run.operands)) (bound_at n k.0 k.2.0 k.1 f, bound_under n (top s.run.operands))) k.2.1 (write _ _)
 
       pub accept : (mask o site : ℕ) (todo : List Todo) (vs : List Value) → O [] todo → PutStep g (monitors.accept_by mask o site todo vs s)

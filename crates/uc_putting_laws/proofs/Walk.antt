@@ -25,14 +25,14 @@ use Rattle.uc_unmarked_laws.specs.Marks.{LoneState}
 use Rattle.uc_aside_laws.specs.OlderResting.{AllWait, NamedParked, NamedHand, NamedEnv}
 use Rattle.uc_aside_laws.proofs.Keeping as kept
 use Rattle.uc_aside_laws.proofs.Keeping.{either}
-use Rattle.uc_putting_laws.specs.Calling.{NoSpot}
+use Rattle.uc_putting_laws.specs.Calling.{NoSite}
 use Rattle.uc_putting_laws.specs.Putting.{Setting, Around, around, Mark, Any, Holds, rest, OpensRest, Counts, Plain, CodeStmt, CodeRoutine, Ok, Left, Finds, FindsFor, Runs, Waits, PutMembers, PutState, PutStep}
 use Rattle.uc_putting_laws.specs.PuttingLaws.{FairAt, Fair}
 use Rattle.uc_putting_laws.proofs.Marks as marks
-use Rattle.uc_putting_laws.proofs.Marks.{holds_below, holds_spread}
+use Rattle.uc_putting_laws.proofs.Marks.{holds_below, holds_spread, index_below}
 use Rattle.uc_putting_laws.proofs.Steps as steps
 use Rattle.uc_putting_laws.proofs.Steps.{here}
-use Rattle.uc_putting_laws.proofs.Lone.{scope_lone, part_lone, opened}
+use Rattle.uc_putting_laws.proofs.Lone.{scope_lone, part_lone, opened, filled}
 
 module _ (program : Program) (g : Setting) (known : (n : ℕ) → CodeRoutine g (g.special n) (slice_get g.source.routines n)) where
   module _ (s : State) (st : StackState (Sized program) s) (lone : LoneState g.table g.few s) (fair : Fair g s) (callers : AllWait (Runs g) (Waits g) s.env.exec s.callers) (env : NamedEnv (Runs g) (Waits g) s.env) (made : Bool) (this : made ≡ true → Belongs g.few s.env.exec s.run.this) (ms : List Mark) (holds : Holds g.few (here s) ms s.run.operands) where
@@ -62,11 +62,15 @@ module _ (program : Program) (g : Setting) (known : (n : ℕ) → CodeRoutine g 
     past (piece.Part x) ps e h = part_lone program g s st lone made this x ps e h.0
     past p ps e h = tt
 
+    lone_built : (a : Stmt) (todo : List Todo) → s.run.control ≡ piece.Do a ∷ todo → Ok g (here s) made ms (piece.Do a ∷ todo) → steps.LoneBuilt g s callers env made this a todo
+    lone_built (src.Fill line m b d) todo c h = filled program g s st lone made this line m b d todo c h.1 (fair_at (piece.Do (src.Fill line m b d) ∷ todo) c)
+    lone_built a todo c h = tt
+
     -- one piece, with what is to do behind it
     acts : (p : Todo) (todo : List Todo) → s.run.control ≡ p ∷ todo → Ok g (here s) made ms (p ∷ todo) → PutStep g (quiet.act g.source p todo s)
     acts (piece.Eval a) todo c h = steps.evals g s callers env made this ms holds a todo h
     acts piece.LoadNow todo c h = steps.load g s callers env made this ms holds todo (fair_at (piece.LoadNow ∷ todo) c) h
-    acts (piece.ElementNow m k) todo c h = steps.element g s callers env made this (rest ms) k _ todo _ _ (holds_spread g.few (here s) (rest ms) (below s.run.operands) one) h
+    acts (piece.ElementNow m k) todo c h = steps.element g s callers env made this (rest ms) m k _ todo _ _ (holds_spread g.few (here s) (rest ms) (below s.run.operands) one) (index_below m (number (top s.run.operands))) h
     acts (piece.FieldNow k i) todo c h = go (Any ∷ rest ms) _ _ (tt, one) h.1
     acts piece.NegateNow todo c h = steps.outcome g s callers env made this (rest ms) _ todo _ one h.1
     acts piece.NotNow todo c h = go (Any ∷ rest ms) _ _ (tt, one) h.1
@@ -82,14 +86,14 @@ module _ (program : Program) (g : Setting) (known : (n : ℕ) → CodeRoutine g 
     acts (piece.SetNow k) todo c h = steps.go_in g s callers env made this ms _ _ _ holds h.1 (steps.write g s callers env made this (piece.variable_at k s) (piece.Number (number (top s.run.operands))))
     acts piece.BindNow todo c h = steps.go_in g s callers env made this (Any ∷ rest (rest ms)) _ _ _ (tt, two) h.1 (steps.write g s callers env made this (top (below s.run.operands)) (top s.run.operands))
     acts (piece.Choose e f) todo c h = go (rest ms) _ _ one (either (Counts g) (piece.is_zero (number (top s.run.operands))) f e h.0.1.0 h.0.0.0, inl (either (Plain g) (piece.is_zero (number (top s.run.operands))) f e h.0.1.1 h.0.0.1, h.1))
-    acts (piece.Branch a b) todo c h = anew _ _ (steps.inner g (here s) made (OpensRest todo) (if piece.is_zero (number (top s.run.operands)) then b else a) (either (CodeStmt g NoSpot made) (piece.is_zero (number (top s.run.operands))) b a h.0.1 h.0.0), h.1)
+    acts (piece.Branch a b) todo c h = anew _ _ (steps.inner g (here s) made (OpensRest todo) (if piece.is_zero (number (top s.run.operands)) then b else a) (either (CodeStmt g NoSite made) (piece.is_zero (number (top s.run.operands))) b a h.0.1 h.0.0), h.1)
     acts piece.TickNow todo c h = go ms _ _ holds h.1
     acts (piece.TurnNow o t e b) todo c h = anew _ _ (steps.inner g (here s) made (OpensRest (piece.InLoop o t e b ∷ todo)) b h.0.2, (h.0, h.1))
     acts (piece.Arguments src.NoExprs) todo c h = go ms _ _ holds h.1
     acts (piece.Arguments (src.MoreExprs e es)) todo c h = go ms _ _ holds (h.0.0.0, inl (h.0.1.0, ((h.0.0.1, h.0.1.1), h.1)))
     acts (piece.CallNow r) todo c h = steps.call g s callers env made this ms holds (g.special r) (slice_get g.source.routines r) todo h.0 (known r) h.1
-    acts (piece.CallOnNow r) todo c h = let f = fair_at (piece.CallOnNow r ∷ todo) c in steps.call_on g s callers env made this ms holds (g.special r) (slice_get g.source.routines r) todo (known r) h.0 (opened program g s st lone made this true r _ todo c h.1 f.1) f.0 h.1
-    acts (piece.CallUnwrittenNow r) todo c h = let f = fair_at (piece.CallUnwrittenNow r ∷ todo) c in steps.call_unwritten g s callers env made this ms holds (g.special r) (slice_get g.source.routines r) todo (known r) h.0 (opened program g s st lone made this false r _ todo c h.1 f.1) f.0 h.1
+    acts (piece.CallOnNow r) todo c h = steps.call_on g s callers env made this ms holds (g.special r) (slice_get g.source.routines r) todo (known r) h.0 (opened program g s st lone made this true r _ todo c h.1 (fair_at (piece.CallOnNow r ∷ todo) c)) h.1
+    acts (piece.CallUnwrittenNow r) todo c h = steps.call_unwritten g s callers env made this ms holds (g.special r) (slice_get g.source.routines r) todo (known r) h.0 (opened program g s st lone made this false r _ todo c h.1 (fair_at (piece.CallUnwrittenNow r ∷ todo) c)) h.1
     acts (piece.CountNow m) todo c h = record { run = record { made = made; this = this; marks = []; holds = tt; ok = h.1 }; callers = callers; env = env }
     acts piece.MoreNow todo c h = record { run = record { made = made; this = this; marks = []; holds = tt; ok = h.1 }; callers = callers; env = env }
     acts (piece.FillNow m b d) todo c h = anew _ _ (steps.filled g (here s) made (nat_lt s.run.elements m) m b d todo h.0.0 h.0.1 h.1)
@@ -110,7 +114,7 @@ module _ (program : Program) (g : Setting) (known : (n : ℕ) → CodeRoutine g 
     acts (piece.Targets (t ∷ ts)) todo c h = anew _ _ (h.0.0.0, inl (h.0.1.0, (tt, (tt, ((h.0.0.1, h.0.1.1), h.1)))))
     acts (piece.Variables []) todo c h = anew _ _ h.1
     acts (piece.Variables (d ∷ ds)) todo c h = anew _ _ (tt, steps.starts g (here s) made d.cell d.value (piece.Variables ds ∷ todo) (h.0.0.0, h.0.1.0) ((h.0.0.1, h.0.1.1), h.1))
-    acts (piece.Do a) todo c h = steps.stmt g s callers env made this a todo h.0 h.1
+    acts (piece.Do a) todo c h = steps.stmt g s callers env made this a todo h.0 (lone_built a todo c h) h.1
     acts (piece.Rest ss) todo c h = steps.rest_of g s callers env made this ss todo h.0 h.1
     acts (piece.Within line) todo c h = anew _ _ h.1
     acts (piece.Exit w) todo c h = steps.exits g s callers env made this w todo h

@@ -1,10 +1,10 @@
 -- Code in which constructors and destructors are called at variables and at fields of the object at hand alone, each by what builds the object or
 -- by a clean-up, and in which what holds the mutex object that it builds or destroys is called by what makes or ends that.
 use Rattle.std.specs.Prelude.{◌≡◌, ℕ, ◌⊎◌, Bool, true, false, List, [], ◌∷◌, Option, Some, None, slice_get}
-use Rattle.uc_tree.specs.Source.{Shape, Expr, Exprs, ObjectExpr, Variable, Element, Load, OfObject, OwnField, CallOn, CallLive, CallUnwritten, EnterOn, EndOn, Bind, MakeOn, NewCluster, NewProcessor, EndCluster, EndProcessor, Item, Target, Declared, CleanUp, Destroys, DestroysAll, Ends, Frees, Stmt, Stmts, Skip, Block, Whole, Evaluate, Declare, Print, PrintTogether, Read, If, Loop, Break, Continue, Return, Owes, Fill, OfEvents, OfTasks, Nil, Then, Scoped, Built, Raised, Plainly, BuiltAt, AgainFrom, EventStmt, Throw, Raise, Try, RaiseAt, Enable, Disable, TaskStmt, SetUp, Migrate, Accept, Handlers, NoHandlers, MoreHandlers, Clauses, NoClauses, Otherwise, MoreClauses, Routine, Source}
+use Rattle.uc_tree.specs.Source.{Shape, Binding, Expr, Exprs, ObjectExpr, Variable, Element, Load, OfObject, OwnField, Counted, CallOn, CallLive, CallUnwritten, EnterOn, EndOn, Bind, MakeOn, NewCluster, NewProcessor, EndCluster, EndProcessor, Item, Target, Declared, CleanUp, Destroys, DestroysAll, Ends, Frees, Stmt, Stmts, Skip, Block, Whole, Evaluate, Declare, Print, PrintTogether, Read, If, Loop, Break, Continue, Return, Owes, Fill, OfEvents, OfTasks, Nil, Then, Scoped, Built, Raised, Plainly, BuiltAt, AgainFrom, EventStmt, Throw, Raise, Try, RaiseAt, Enable, Disable, TaskStmt, SetUp, Migrate, Accept, Handlers, NoHandlers, MoreHandlers, Clauses, NoClauses, Otherwise, MoreClauses, Routine, Source}
 use Rattle.uc_typing.specs.Typing.{Table}
 use Rattle.uc_inner_laws.specs.Walks as walk
-use Rattle.uc_unmarked_laws.specs.Ending.{Spot, OfVariable, OfField, ends_at}
+use Rattle.uc_unmarked_laws.specs.Ending.{Spot, OfVariable, OfField, naming, ends_at}
 
 -- whether a clean-up is of the mutex object at hand, as that is destroyed or built; and whether such a scope opens next
 abbrev pub of_object : CleanUp → Bool
@@ -30,14 +30,43 @@ pub record EndsWhole (t : Table) (r : ℕ) : Type 0 where
   pub this : (t.routine r).this ≡ Some class
   pub whole : (t.routine r).whole ≡ true
 
--- the scope of what is at a place opens next, or that is a part of the object at hand from then on
-abbrev pub OpensFor : Stmts → Spot → Type 0
-OpensFor (Scoped c rest) (OfVariable k) = (r : ℕ) × (written : Bool) × (c ≡ ends_at (OfVariable k) r written)
-OpensFor (Built c rest) (OfField h i) = (r : ℕ) × (written : Bool) × (c ≡ ends_at (OfField h i) r written)
-OpensFor ss p = ⊥
+-- where mutex objects are at home: at a spot, or as the elements of an array of so many there
+pub data Site : Type 0 where
+  One : Spot → Site
+  Each : ℕ → Spot → Site
 
-abbrev pub NoSpot : Spot → Type 0
-NoSpot p = ⊥
+abbrev pub element_at : ℕ → Spot → Expr
+element_at n p = Element n Binding (naming p) (OfObject Counted)
+
+-- the clean-up of such an array
+abbrev pub each_at : Spot → ℕ → ℕ → Bool → CleanUp
+each_at p n r written = DestroysAll n (OfObject (EndOn r written (Load (element_at n p))))
+
+-- the scope of what is at a site opens next, or that is a part of the object at hand from then on
+abbrev pub OpensFor : Stmts → Site → Type 0
+OpensFor (Scoped c rest) (One (OfVariable k)) = (r : ℕ) × (written : Bool) × (c ≡ ends_at (OfVariable k) r written)
+OpensFor (Scoped c rest) (Each n (OfVariable k)) = (r : ℕ) × (written : Bool) × (c ≡ each_at (OfVariable k) n r written)
+OpensFor (Built c rest) (One (OfField h i)) = (r : ℕ) × (written : Bool) × (c ≡ ends_at (OfField h i) r written)
+OpensFor (Built c rest) (Each n (OfField h i)) = (r : ℕ) × (written : Bool) × (c ≡ each_at (OfField h i) n r written)
+OpensFor ss x = ⊥
+
+abbrev pub NoSite : Site → Type 0
+NoSite x = ⊥
+
+abbrev pub AnySite : Site → Type 0
+AnySite x = Unit {0}
+
+-- a part of the object at hand is no variable
+abbrev pub IsField : Site → Type 0
+IsField (One (OfVariable k)) = ⊥
+IsField (One (OfField h i)) = Unit {0}
+IsField (Each n (OfVariable k)) = ⊥
+IsField (Each n (OfField h i)) = Unit {0}
+
+-- it has so many elements
+abbrev pub HasCount : ℕ → Site → Type 0
+HasCount n (One p) = ⊥
+HasCount n (Each m p) = m ≡ n
 
 -- `special r`: the routine of this number is a constructor or a destructor
 module _ (t : Table) (source : Source) (special : ℕ → Bool) where
@@ -111,25 +140,27 @@ module _ (t : Table) (source : Source) (special : ℕ → Bool) where
   CallsAt made (OfObject (CallUnwritten r p)) = (is_opening source r ≡ false) × PlaceAt made p
   CallsAt made e = ⊥
 
-  -- what makes a mutex object at a variable or a field of which this holds; and at an element
-  abbrev pub MakesAt : Bool → (Spot → Type 0) → Expr → Type 0
-  MakesAt made P (OfObject (MakeOn c r written (Variable k) args)) = P (OfVariable k) × PlainExprs args
-  MakesAt made P (OfObject (MakeOn c r written (OfObject (OwnField h i)) args)) = P (OfField h i) × (made ≡ true) × PlainExprs args
+  -- what makes a mutex object at a variable or a field of which this holds; and at an element of such an array
+  abbrev pub MakesAt : Bool → (Site → Type 0) → Expr → Type 0
+  MakesAt made P (OfObject (MakeOn c r written (Variable k) args)) = P (One (OfVariable k)) × PlainExprs args
+  MakesAt made P (OfObject (MakeOn c r written (OfObject (OwnField h i)) args)) = P (One (OfField h i)) × (made ≡ true) × PlainExprs args
   MakesAt made P e = ⊥
 
-  abbrev pub MakesEach : Expr → Type 0
-  MakesEach (OfObject (MakeOn c r written p args)) = PlainExpr p × PlainExprs args
-  MakesEach e = ⊥
+  abbrev pub MakesEach : Bool → (Site → Type 0) → Expr → Type 0
+  MakesEach made P (OfObject (MakeOn c r written (Element n Binding (Variable k) (OfObject Counted)) args)) = P (Each n (OfVariable k)) × PlainExprs args
+  MakesEach made P (OfObject (MakeOn c r written (Element n Binding (OfObject (OwnField h i)) (OfObject Counted)) args)) = P (Each n (OfField h i)) × (made ≡ true) × PlainExprs args
+  MakesEach made P e = ⊥
 
-  -- what ends one at a variable, where it may, or at a field; and at an element
-  abbrev pub EndsAt : Bool → (Spot → Type 0) → Expr → Type 0
-  EndsAt made P (OfObject (EndOn r written (Load (Variable k)))) = P (OfVariable k) × EndsWhole t r
-  EndsAt made P (OfObject (EndOn r written (Load (OfObject (OwnField h i))))) = P (OfField h i) × (made ≡ true) × EndsWhole t r
+  -- what ends one there
+  abbrev pub EndsAt : Bool → (Site → Type 0) → Expr → Type 0
+  EndsAt made P (OfObject (EndOn r written (Load (Variable k)))) = P (One (OfVariable k)) × EndsWhole t r
+  EndsAt made P (OfObject (EndOn r written (Load (OfObject (OwnField h i))))) = P (One (OfField h i)) × (made ≡ true) × EndsWhole t r
   EndsAt made P e = ⊥
 
-  abbrev pub EndsEach : Bool → Expr → Type 0
-  EndsEach made (OfObject (EndOn r written (Load p))) = PlaceAt made p
-  EndsEach made e = ⊥
+  abbrev pub EndsEach : Bool → (Site → Type 0) → Expr → Type 0
+  EndsEach made P (OfObject (EndOn r written (Load (Element n Binding (Variable k) (OfObject Counted))))) = P (Each n (OfVariable k)) × EndsWhole t r
+  EndsEach made P (OfObject (EndOn r written (Load (Element n Binding (OfObject (OwnField h i)) (OfObject Counted))))) = P (Each n (OfField h i)) × (made ≡ true) × EndsWhole t r
+  EndsEach made P e = ⊥
 
   -- what ends a cluster or a processor
   abbrev pub EndsNumber : Bool → Expr → Type 0
@@ -137,35 +168,27 @@ module _ (t : Table) (source : Source) (special : ℕ → Bool) where
   EndsNumber made (OfObject (EndProcessor (Load p))) = PlaceAt made p
   EndsNumber made e = ⊥
 
-  -- what a statement evaluates by itself, where the scope of what is at a spot opens behind it
-  abbrev pub Evaluates : Bool → (Spot → Type 0) → Expr → Type 0
+  -- what a statement evaluates by itself, where the scope of what is at a site opens behind it
+  abbrev pub Evaluates : Bool → (Site → Type 0) → Expr → Type 0
   Evaluates made P e = PlainExpr e ⊎ (Binds e ⊎ (CallsAt made e ⊎ MakesAt made P e))
 
   -- what builds one element of an array after another, and what destroys them
-  abbrev pub FillsBy : Bool → Expr → Type 0
-  FillsBy made e = Binds e ⊎ (CallsAt made e ⊎ MakesEach e)
+  abbrev pub FillsBy : Bool → (Site → Type 0) → Expr → Type 0
+  FillsBy made P e = Binds e ⊎ (CallsAt made e ⊎ MakesEach made P e)
 
-  abbrev pub SweepsBy : Bool → Expr → Type 0
-  SweepsBy made e = EndsNumber made e ⊎ (CallsAt made e ⊎ EndsEach made e)
+  abbrev pub SweepsBy : Bool → (Site → Type 0) → Expr → Type 0
+  SweepsBy made P e = EndsNumber made e ⊎ (CallsAt made e ⊎ EndsEach made P e)
 
   -- a clean-up, but for those of the mutex object at hand
-  abbrev pub CleansBy : Bool → (Spot → Type 0) → CleanUp → Type 0
+  abbrev pub CleansBy : Bool → (Site → Type 0) → CleanUp → Type 0
   CleansBy made P (Destroys e) = EndsNumber made e ⊎ (CallsAt made e ⊎ EndsAt made P e)
-  CleansBy made P (DestroysAll n e) = SweepsBy made e
+  CleansBy made P (DestroysAll n e) = SweepsBy made (λ x. P x × HasCount n x) e
   CleansBy made P Ends = ⊥
   CleansBy made P (Frees r) = ⊥
   CleansBy made P c = Unit {0}
 
-  abbrev pub AnySpot : Spot → Type 0
-  AnySpot p = Unit {0}
-
-  -- a part of the object at hand is no variable
-  abbrev pub IsField : Spot → Type 0
-  IsField (OfVariable k) = ⊥
-  IsField (OfField h i) = Unit {0}
-
   abbrev pub ScopeBy : Bool → CleanUp → Type 0
-  ScopeBy made c = CleansBy made AnySpot c
+  ScopeBy made c = CleansBy made AnySite c
 
   abbrev pub PartBy : Bool → CleanUp → Type 0
   PartBy made c = CleansBy made IsField c
@@ -176,9 +199,9 @@ module _ (t : Table) (source : Source) (special : ℕ → Bool) where
   RaisesBy made (BuiltAt n k e) = CallsAt made e
   RaisesBy made (AgainFrom k) = Unit {0}
 
-  -- a statement behind which the scope of what is at such a spot opens
+  -- a statement behind which the scope of what is at such a site opens
   abbrev mutual
-    pub CallingStmt : (Spot → Type 0) → Bool → Stmt → Type 0
+    pub CallingStmt : (Site → Type 0) → Bool → Stmt → Type 0
     CallingStmt P made (Skip line) = Unit {0}
     CallingStmt P made (Block line body) = CallingStmts made body
     CallingStmt P made (Whole line body) = CallingStmts made body
@@ -187,13 +210,13 @@ module _ (t : Table) (source : Source) (special : ℕ → Bool) where
     CallingStmt P made (Print line items) = PlainItems items
     CallingStmt P made (PrintTogether line items) = PlainItems items
     CallingStmt P made (Read line xs) = PlainTargets xs
-    CallingStmt P made (If line e a b) = PlainExpr e × CallingStmt NoSpot made a × CallingStmt NoSpot made b
-    CallingStmt P made (Loop line o e step b) = PlainExpr e × PlainMaybe step × CallingStmt NoSpot made b
+    CallingStmt P made (If line e a b) = PlainExpr e × CallingStmt NoSite made a × CallingStmt NoSite made b
+    CallingStmt P made (Loop line o e step b) = PlainExpr e × PlainMaybe step × CallingStmt NoSite made b
     CallingStmt P made (Break line) = Unit {0}
     CallingStmt P made (Continue line) = Unit {0}
     CallingStmt P made (Return line e) = PlainMaybe e
     CallingStmt P made (Owes line) = Unit {0}
-    CallingStmt P made (Fill line n b d) = FillsBy made b × SweepsBy made d
+    CallingStmt P made (Fill line n b d) = FillsBy made P b × SweepsBy made P d
     CallingStmt P made (OfEvents a) = CallingEvent made a
     CallingStmt P made (OfTasks a) = CallingTask made a
 
@@ -208,8 +231,8 @@ module _ (t : Table) (source : Source) (special : ℕ → Bool) where
     CallingEvent made (Raise line r) = RaisesBy made r
     CallingEvent made (Try line body hs) = CallingStmts made body × CallingHandlers made hs
     CallingEvent made (RaiseAt line r e) = RaisesBy made r × PlainExpr e
-    CallingEvent made (Enable line events cell a) = CallingStmt NoSpot made a
-    CallingEvent made (Disable line events cell a) = CallingStmt NoSpot made a
+    CallingEvent made (Enable line events cell a) = CallingStmt NoSite made a
+    CallingEvent made (Disable line events cell a) = CallingStmt NoSite made a
 
     -- a handler may run as an activation of its own, which builds and destroys no object at hand
     pub CallingHandlers : Bool → Handlers → Type 0
@@ -225,8 +248,8 @@ module _ (t : Table) (source : Source) (special : ℕ → Bool) where
 
     pub CallingClauses : Bool → Clauses → Type 0
     CallingClauses made NoClauses = Unit {0}
-    CallingClauses made (Otherwise b) = CallingStmt NoSpot made b
-    CallingClauses made (MoreClauses guard b cs) = PlainExpr guard × CallingStmt NoSpot made b × CallingClauses made cs
+    CallingClauses made (Otherwise b) = CallingStmt NoSite made b
+    CallingClauses made (MoreClauses guard b cs) = PlainExpr guard × CallingStmt NoSite made b × CallingClauses made cs
 
   -- the main of a task that begins
   abbrev pub Begins : Option ℕ → Type 0

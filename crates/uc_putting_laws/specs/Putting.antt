@@ -1,8 +1,8 @@
 -- To-do lists before which the places of the objects that are built and destroyed lie among the operands: what is called there is the execution's
 -- own, and where it is a mutex object, nothing that is to be cleaned up stands around it.
-use Rattle.std.specs.Prelude.{◌≡◌, ℕ, zero, suc, ◌⊎◌, Bool, true, false, List, [], ◌∷◌, Option, Some, None}
+use Rattle.std.specs.Prelude.{◌≡◌, ℕ, zero, suc, ◌<◌, ◌⊎◌, Bool, true, false, List, [], ◌∷◌, Option, Some, None}
 use Rattle.uc_tree.specs.declared.limits.TheConstants.{DESTRUCTOR}
-use Rattle.uc_tree.specs.Source.{Expr, Exprs, Variable, Load, OfObject, OwnField, EndOn, MakeOn, Item, Target, Declared, CleanUp, Ends, Frees, Stmt, Stmts, Scoped, Built, Handlers, Clauses, Routine, Source}
+use Rattle.uc_tree.specs.Source.{Shape, Binding, Expr, Exprs, Variable, Element, Load, OfObject, OwnField, Counted, Item, Target, Declared, CleanUp, Ends, Frees, Stmt, Stmts, Scoped, Built, Handlers, Clauses, Routine, Source}
 use Rattle.uc_entry.specs.declared.request.Request.{Request}
 use Rattle.uc_entry.specs.declared.request.Request.TheVariants as ask
 use Rattle.uc_machine.specs.declared.exec.Exec.{Exec}
@@ -19,7 +19,7 @@ use Rattle.uc_unmarked_laws.specs.Belonging.{Belongs}
 use Rattle.uc_unmarked_laws.specs.Marks.{Outward, Free, Lone}
 use Rattle.uc_unmarked_laws.specs.Ending.{Spot, OfVariable, OfField}
 use Rattle.uc_aside_laws.specs.OlderResting.{AllWait, NamedMembers, NamedEnv, NamedState}
-use Rattle.uc_putting_laws.specs.Calling.{is_opening, OpensFor, NoSpot, PlainExpr, PlainExprs, PlainMaybe, PlainItems, PlainTargets, PlainDeclared, PlainNew, Binds, PlaceAt, CallsAt, MakesAt, MakesEach, EndsAt, EndsEach, EndsNumber, FillsBy, SweepsBy, ScopeBy, PartBy, CallingStmt, CallingStmts, CallingHandlers, CallingClauses, Begins, Opening, CallingRoutine}
+use Rattle.uc_putting_laws.specs.Calling.{Site, One, Each, is_opening, OpensFor, NoSite, PlainExpr, PlainExprs, PlainMaybe, PlainItems, PlainTargets, PlainDeclared, PlainNew, Binds, PlaceAt, CallsAt, MakesAt, MakesEach, EndsAt, EndsEach, EndsNumber, FillsBy, SweepsBy, ScopeBy, PartBy, CallingStmt, CallingStmts, CallingHandlers, CallingClauses, Begins, Opening, CallingRoutine}
 
 -- a source with the table of its types, what there is, and which routines are constructors and destructors
 pub record Setting : Type 0 where
@@ -44,12 +44,12 @@ pub record IsHome (few : Few) (v place : Value) : Type 0 where
   pub object : v ≡ Object number
   pub home : few.home number ≡ place
 
--- what is known of an operand: nothing, that it is the execution's own, that it is the place of a spot, or the object that is at home there
+-- what is known of an operand: nothing, that it is the execution's own, that it is a place at a site, or an object that is at home there
 pub data Mark : Type 0 where
   Any : Mark
   Own : Mark
-  At : Spot → Mark
-  Homed : Spot → Mark
+  At : Site → Mark
+  Homed : Site → Mark
 
 abbrev pub rest : List Mark → List Mark
 rest [] = []
@@ -70,13 +70,13 @@ abbrev pub FirstOwn : List Mark → Type 0
 FirstOwn (Own ∷ ms) = Unit {0}
 FirstOwn ms = ⊥
 
--- the first is the place of a spot of which this holds; so is it of the object that is at home there
-abbrev pub FirstAt : List Mark → (Spot → Type 0) → Type 0
-FirstAt (At p ∷ ms) next = next p
+-- the first is a place at a site of which this holds; so is it of the object that is at home there
+abbrev pub FirstAt : List Mark → (Site → Type 0) → Type 0
+FirstAt (At x ∷ ms) next = next x
 FirstAt ms next = ⊥
 
-abbrev pub FirstHome : List Mark → (Spot → Type 0) → Type 0
-FirstHome (Homed p ∷ ms) next = next p
+abbrev pub FirstHome : List Mark → (Site → Type 0) → Type 0
+FirstHome (Homed x ∷ ms) next = next x
 FirstHome ms next = ⊥
 
 -- the destruction of an object comes next
@@ -85,35 +85,45 @@ IsEnding (piece.EnterNow m r ∷ todo) = m ≡ DESTRUCTOR
 IsEnding (piece.TickNow ∷ (piece.EnterNow m r ∷ todo)) = m ≡ DESTRUCTOR
 IsEnding todo = ⊥
 
--- behind the call of what builds or destroys an element of an array
-abbrev pub ByElements : List Todo → Type 0
-ByElements (piece.DropNow ∷ (piece.Sweep e ∷ todo)) = Unit {0}
-ByElements (piece.DropNow ∷ (piece.MoreNow ∷ todo)) = Unit {0}
-ByElements todo = ⊥
-
--- the scope of what is at a spot opens next, or that is a part from then on
-abbrev pub OpensRest : List Todo → Spot → Type 0
-OpensRest (piece.Rest ss ∷ todo) p = OpensFor ss p
-OpensRest todo p = ⊥
+-- the scope of what is at a site opens next, or that is a part from then on
+abbrev pub OpensRest : List Todo → Site → Type 0
+OpensRest (piece.Rest ss ∷ todo) x = OpensFor ss x
+OpensRest todo x = ⊥
 
 -- behind the call of what builds it
-abbrev pub OpensNext : List Todo → Spot → Type 0
-OpensNext (piece.DropNow ∷ (piece.Within line ∷ todo)) p = OpensRest todo p
-OpensNext todo p = ⊥
+abbrev pub OpensNext : List Todo → Site → Type 0
+OpensNext (piece.DropNow ∷ (piece.Within line ∷ todo)) x = OpensRest todo x
+OpensNext todo x = ⊥
+
+-- so it is of a spot
+abbrev pub OneNext : List Todo → Site → Type 0
+OneNext todo (One p) = OpensNext todo (One p)
+OneNext todo (Each n p) = ⊥
 
 -- a field is one of the object at hand, in code of a constructor or a destructor
-abbrev pub IsIn : Bool → Spot → Type 0
-IsIn made (OfVariable k) = Unit {0}
-IsIn made (OfField h i) = made ≡ true
+abbrev pub IsOf : Bool → Spot → Type 0
+IsOf made (OfVariable k) = Unit {0}
+IsOf made (OfField h i) = made ≡ true
 
--- the place of a spot is found
-abbrev pub Located : Expr → (Spot → Type 0) → Type 0
-Located (Variable k) next = next (OfVariable k)
-Located (OfObject (OwnField h i)) next = next (OfField h i)
+abbrev pub IsIn : Bool → Site → Type 0
+IsIn made (One p) = IsOf made p
+IsIn made (Each n p) = IsOf made p
+
+-- a place at a site is found
+abbrev pub Located : Expr → (Site → Type 0) → Type 0
+Located (Variable k) next = next (One (OfVariable k))
+Located (OfObject (OwnField h i)) next = next (One (OfField h i))
+Located (Element n Binding (Variable k) (OfObject Counted)) next = next (Each n (OfVariable k))
+Located (Element n Binding (OfObject (OwnField h i)) (OfObject Counted)) next = next (Each n (OfField h i))
 Located e next = ⊥
 
+-- that of an element, behind that of its array
+abbrev pub Enters : ℕ → Shape → Site → (Site → Type 0) → Type 0
+Enters n Binding (One p) next = next (Each n p)
+Enters n s x next = ⊥
+
 -- what is there is loaded
-abbrev pub Loads : Expr → (Spot → Type 0) → Type 0
+abbrev pub Loads : Expr → (Site → Type 0) → Type 0
 Loads (Load e) next = Located e next
 Loads e next = ⊥
 
@@ -122,11 +132,20 @@ module _ (few : Few) (A : Around) where
   spot_at (OfVariable k) = Place (Frame A.exec A.frame) (Slot k ∷ [])
   spot_at (OfField h i) = further (FieldAt h i) A.this
 
+  -- a place at a site
+  abbrev pub StandsAt : Site → Value → Type 0
+  StandsAt (One p) v = v ≡ spot_at p
+  StandsAt (Each n p) v = (j : ℕ) × (j < n) × (v ≡ further (piece.At Binding j) (spot_at p))
+
+  -- an object that is at home there
+  abbrev pub HomedAt : Site → Value → Type 0
+  HomedAt x v = (place : Value) × StandsAt x place × IsHome few v place
+
   abbrev pub Meets : Mark → Value → Type 0
   Meets Any v = Unit {0}
   Meets Own v = Belongs few A.exec v
-  Meets (At p) v = v ≡ spot_at p
-  Meets (Homed p) v = IsHome few v (spot_at p)
+  Meets (At x) v = StandsAt x v
+  Meets (Homed x) v = HomedAt x v
 
   -- of the newest operands, the first mark for the newest; of what lies below nothing is known
   abbrev pub Holds : List Mark → List Value → Type 0
@@ -138,9 +157,9 @@ abbrev pub LoneIn : Table → Few → Around → ℕ → List Todo → Type 0
 LoneIn t few A o todo =
     Belongs few A.exec (few.home o) × Free t few o (Outward t A.exec A.frame A.this A.older todo)
 
--- so it is of each that is at home at a spot
-abbrev pub LoneAt : Table → Few → Around → List Todo → Spot → Type 0
-LoneAt t few A todo p = (o : ℕ) → few.home o ≡ spot_at few A p → LoneIn t few A o todo
+-- so it is of each that is at home at a site
+abbrev pub LoneAt : Table → Few → Around → List Todo → Site → Type 0
+LoneAt t few A todo x = (o : ℕ) → StandsAt few A x (few.home o) → LoneIn t few A o todo
 
 module _ (g : Setting) where
   abbrev pub Counts : Expr → Type 0
@@ -168,7 +187,7 @@ module _ (g : Setting) where
   abbrev pub CodeDeclared : List Declared → Type 0
   CodeDeclared ds = CountedDeclared g.source ds × PlainDeclared g.table g.source g.special ds
 
-  abbrev pub CodeStmt : (Spot → Type 0) → Bool → Stmt → Type 0
+  abbrev pub CodeStmt : (Site → Type 0) → Bool → Stmt → Type 0
   CodeStmt P made a = CountedStmt g.source a × CallingStmt g.table g.source g.special P made a
 
   abbrev pub CodeStmts : Bool → Stmts → Type 0
@@ -181,13 +200,13 @@ module _ (g : Setting) where
   CodeClauses made cs = CountedClauses g.source cs × CallingClauses g.table g.source g.special made cs
 
   abbrev pub CodeLoop : Bool → Expr → Option Expr → Stmt → Type 0
-  CodeLoop made t e b = CodeExpr t × CodeMaybe e × CodeStmt NoSpot made b
+  CodeLoop made t e b = CodeExpr t × CodeMaybe e × CodeStmt NoSite made b
 
-  abbrev pub CodeSweep : Bool → Expr → Type 0
-  CodeSweep made e = Counts e × SweepsBy g.table g.source g.special made e
+  abbrev pub CodeSweep : Bool → (Site → Type 0) → Expr → Type 0
+  CodeSweep made P e = Counts e × SweepsBy g.table g.source g.special made P e
 
-  abbrev pub CodeFill : Bool → Expr → Type 0
-  CodeFill made e = Counts e × FillsBy g.table g.source g.special made e
+  abbrev pub CodeFill : Bool → (Site → Type 0) → Expr → Type 0
+  CodeFill made P e = Counts e × FillsBy g.table g.source g.special made P e
 
   -- the mutex object at hand is destroyed, or built, with this to do behind that
   abbrev pub CodeOpening : Around → Bool → Stmts → List Todo → Type 0
@@ -256,23 +275,22 @@ module _ (g : Setting) where
   made_marks r m ms = anys (params g.source r) (m ∷ rests (suc (params g.source r)) ms)
 
   module _ (A : Around) (made : Bool) where
-    -- what is called: no constructor and no destructor; one of an object that is no mutex one, at what is the execution's own; one of a mutex object
-    -- that is at home at a spot, where nothing stands around that, or its scope opens behind the call; or one of an element
+    -- what is called: no constructor and no destructor; one of an object that is no mutex one, at what is the execution's own; or one of a mutex
+    -- object that is at home at a site, where nothing stands around that, or its scope opens behind the call
     abbrev pub CallFits : ℕ → List Mark → List Todo → Type 0
     CallFits r ms todo = (g.special r ≡ false) ⊎
         (((is_opening g.source r ≡ false) × FirstOwn (rests (params g.source r) ms)) ⊎
-        (FirstHome (rests (params g.source r) ms) (λ p. LoneAt g.table g.few A todo p ⊎ OpensNext todo p) ⊎
-        ByElements todo))
+        FirstHome (rests (params g.source r) ms) (λ x. LoneAt g.table g.few A todo x ⊎ OneNext todo x))
 
     -- the code of a piece, with what is to do behind it, but for those of which more is asked
     abbrev pub CodePiece : Todo → List Mark → List Todo → Type 0
     CodePiece (piece.Choose e f) ms todo = CodeExpr e × CodeExpr f
-    CodePiece (piece.Branch a b) ms todo = CodeStmt NoSpot made a × CodeStmt NoSpot made b
+    CodePiece (piece.Branch a b) ms todo = CodeStmt NoSite made a × CodeStmt NoSite made b
     CodePiece (piece.Arguments es) ms todo = CodeExprs es
     CodePiece (piece.CallNow r) ms todo = g.special r ≡ false
     CodePiece (piece.CallOnNow r) ms todo = CallFits r ms todo
     CodePiece (piece.CallUnwrittenNow r) ms todo = CallFits r ms todo
-    CodePiece (piece.FillNow n b d) ms todo = CodeFill made b × CodeSweep made d
+    CodePiece (piece.FillNow n b d) ms todo = CodeFill made (LoneAt g.table g.few A todo) b × CodeSweep made (LoneAt g.table g.few A todo) d
     CodePiece (piece.TurnNow o t e b) ms todo = CodeLoop made t e b
     CodePiece (piece.Again o t e b) ms todo = CodeLoop made t e b
     CodePiece (piece.Items is) ms todo = CodeItems is
@@ -284,7 +302,7 @@ module _ (g : Setting) where
     CodePiece (piece.Rest ss) ms todo = CodeStmts made ss ⊎ CodeOpening A made ss todo
     CodePiece (piece.InLoop o t e b) ms todo = CodeLoop made t e b
     CodePiece (piece.Clean c) ms todo = CodeScope made c
-    CodePiece (piece.Sweep e) ms todo = CodeSweep made e
+    CodePiece (piece.Sweep e) ms todo = CodeSweep made (LoneAt g.table g.few A todo) e
     CodePiece (piece.Part c) ms todo = CodePart made c
     CodePiece (piece.Guard hs) ms todo = CodeHandlers made hs
     CodePiece (piece.Guards cs) ms todo = CodeClauses made cs
@@ -295,17 +313,17 @@ module _ (g : Setting) where
     CodePiece p ms todo = Unit {0}
 
     -- one who leaves a simple piece comes to what stands behind it; at a mark that may be done
-    abbrev pub LeftBy : Sort → Type 0 → Type 0 → Type 0
-    LeftBy piece.Simple left ok = left
-    LeftBy (piece.IsLoop o t e b) left ok = CodeLoop made t e b × ok
-    LeftBy piece.IsWhole left ok = ok
-    LeftBy (piece.IsClean c) left ok = CodeScope made c × ok
-    LeftBy (piece.IsFill n b d) left ok = (CodeFill made b × CodeSweep made d) × ok
-    LeftBy (piece.IsSweep e) left ok = CodeSweep made e × ok
-    LeftBy (piece.IsPart c) left ok = CodePart made c × ok
-    LeftBy (piece.IsGuard hs) left ok = CodeHandlers made hs × ok
-    LeftBy piece.IsFinish left ok = ok
-    LeftBy piece.IsFinishCoroutine left ok = ok
+    abbrev pub LeftBy : Sort → List Todo → Type 0 → Type 0 → Type 0
+    LeftBy piece.Simple todo left ok = left
+    LeftBy (piece.IsLoop o t e b) todo left ok = CodeLoop made t e b × ok
+    LeftBy piece.IsWhole todo left ok = ok
+    LeftBy (piece.IsClean c) todo left ok = CodeScope made c × ok
+    LeftBy (piece.IsFill n b d) todo left ok = (CodeFill made (LoneAt g.table g.few A todo) b × CodeSweep made (LoneAt g.table g.few A todo) d) × ok
+    LeftBy (piece.IsSweep e) todo left ok = CodeSweep made (LoneAt g.table g.few A todo) e × ok
+    LeftBy (piece.IsPart c) todo left ok = CodePart made c × ok
+    LeftBy (piece.IsGuard hs) todo left ok = CodeHandlers made hs × ok
+    LeftBy piece.IsFinish todo left ok = ok
+    LeftBy piece.IsFinishCoroutine todo left ok = ok
 
     abbrev mutual
       -- a to-do list is in order before operands of which this is known. Where a place is found, and where what is there is loaded, something may be
@@ -318,20 +336,20 @@ module _ (g : Setting) where
           ((PlainNew g.table g.source g.special e × Ok (Any ∷ ms) todo) ⊎
           ((CallsAt g.table g.source g.special made e × Ok (Any ∷ ms) todo) ⊎
           ((PlaceAt g.table g.source g.special made e × Ok (Own ∷ ms) todo) ⊎
-          (Located e (λ p. Ok (At p ∷ ms) todo) ⊎
-          ((IsEnding todo × Loads e (λ p. Ok (Homed p ∷ ms) todo)) ⊎
-          ((MakesAt g.table g.source g.special made (OpensNext todo) e × Ok (Any ∷ ms) todo) ⊎
-          ((EndsAt g.table g.source g.special made (LoneAt g.table g.few A todo) e × Ok (Any ∷ ms) todo) ⊎
-          ((EndsNumber g.table g.source g.special made e × Ok (Any ∷ ms) todo) ⊎
-          (ByElements todo × (MakesEach g.table g.source g.special e ⊎ EndsEach g.table g.source g.special made e) × Ok (Any ∷ ms) todo)))))))))))
+          (Located e (λ x. Ok (At x ∷ ms) todo) ⊎
+          ((IsEnding todo × Loads e (λ x. Ok (Homed x ∷ ms) todo)) ⊎
+          (((MakesAt g.table g.source g.special made (OpensNext todo) e ⊎ MakesEach g.table g.source g.special made (LoneAt g.table g.few A todo) e) × Ok (Any ∷ ms) todo) ⊎
+          (((EndsAt g.table g.source g.special made (LoneAt g.table g.few A todo) e ⊎ EndsEach g.table g.source g.special made (LoneAt g.table g.few A todo) e) × Ok (Any ∷ ms) todo) ⊎
+          (EndsNumber g.table g.source g.special made e × Ok (Any ∷ ms) todo))))))))))
       Ok ms (piece.LoadNow ∷ todo) = Ok (Any ∷ rest ms) todo ⊎
-          (IsEnding todo × FirstAt ms (λ p. Ok (Homed p ∷ rest ms) todo))
+          (IsEnding todo × FirstAt ms (λ x. Ok (Homed x ∷ rest ms) todo))
       Ok ms (piece.ElementNow n k ∷ todo) = Ok (Any ∷ rest (rest ms)) todo ⊎
-          (FirstOwn (rest ms) × Ok (Own ∷ rest (rest ms)) todo)
+          ((FirstOwn (rest ms) × Ok (Own ∷ rest (rest ms)) todo) ⊎
+          FirstAt (rest ms) (λ x. Enters n k x (λ y. Ok (At y ∷ rest (rest ms)) todo)))
       Ok ms (piece.MakeNow c r ∷ todo) = Ok (made_marks r Any ms) todo ⊎
-          FirstAt (rests (params g.source r) ms) (λ p. IsIn made p × Ok (made_marks r (Homed p) ms) todo)
+          FirstAt (rests (params g.source r) ms) (λ x. IsIn made x × Ok (made_marks r (Homed x) ms) todo)
       Ok ms (piece.BindMadeNow c r ∷ todo) = Ok (made_marks r Any (rest ms)) todo ⊎
-          FirstAt (rests (params g.source r) (rest ms)) (λ p. IsIn made p × Ok (made_marks r (Homed p) (rest ms)) todo)
+          FirstAt (rests (params g.source r) (rest ms)) (λ x. IsIn made x × Ok (made_marks r (Homed x) (rest ms)) todo)
       Ok ms (piece.Exit w ∷ todo) = Left todo
       Ok ms (piece.Unwind ∷ todo) = Left todo
       Ok ms (p ∷ todo) = CodePiece p ms todo × Ok (after p ms) todo
@@ -339,7 +357,7 @@ module _ (g : Setting) where
       -- it is for one who leaves it
       pub Left : List Todo → Type 0
       Left [] = Unit {0}
-      Left (p ∷ todo) = LeftBy (sort p) (Left todo) (Ok [] todo)
+      Left (p ∷ todo) = LeftBy (sort p) todo (Left todo) (Ok [] todo)
 
   -- an activation of the execution n, before these older ones, that is to find so many operands in front of its own
   pub record Finds (many : ℕ) (n : Exec) (older : List Active) (a : Active) : Type 0 where

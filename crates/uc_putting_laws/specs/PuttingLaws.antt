@@ -4,10 +4,10 @@ use Rattle.std.specs.Prelude.{◌≡◌, ℕ, Bool, true, false, List, [], ◌�
 use Rattle.uc_tree.specs.declared.kinds.Role.{Role}
 use Rattle.uc_tree.specs.declared.kinds.Role.TheVariants as role
 use Rattle.uc_tree.specs.Programs.{Program}
-use Rattle.uc_tree.specs.Source.{OfObject, EndOn, Destroys, CleanUp, Scoped, Built, routine_of}
+use Rattle.uc_tree.specs.Source.{OfObject, EndOn, Destroys, DestroysAll, CleanUp, Fill, Scoped, Built, routine_of}
 use Rattle.uc_entry.specs.declared.request.Answer.{Answer}
 use Rattle.uc_machine.specs.Pieces as piece
-use Rattle.uc_machine.specs.Pieces.{Todo, State, loaded, object_in, top, below}
+use Rattle.uc_machine.specs.Pieces.{Todo, State, loaded, top, below}
 use Rattle.uc_machine.specs.Quiet.{quiet, first_state}
 use Rattle.uc_machine.specs.Answering.{answered}
 use Rattle.uc_answer_laws.specs.Suiting.{Form, IsForm}
@@ -20,12 +20,10 @@ use Rattle.uc_scope_laws.specs.RoomStacks.{StackState}
 use Rattle.uc_value_laws.specs.Makers.{roles}
 use Rattle.uc_event_laws.specs.Counted.{params, CountedSource}
 use Rattle.uc_life_laws.specs.Things.{Few}
-use Rattle.uc_unmarked_laws.specs.Belonging.{Belongs}
 use Rattle.uc_unmarked_laws.specs.Marks.{Sole, LoneState, Puts}
-use Rattle.uc_unmarked_laws.specs.Ending.{LoneBefore}
 use Rattle.uc_aside_laws.specs.OlderResting.{AllWait, NamedEnv}
-use Rattle.uc_putting_laws.specs.Calling.{is_opening, CallingSource}
-use Rattle.uc_putting_laws.specs.Putting.{Setting, IsHome, IsEnding, ByElements, FindsFor, Runs, Waits, PutState, PutStep}
+use Rattle.uc_putting_laws.specs.Calling.{CallingSource}
+use Rattle.uc_putting_laws.specs.Putting.{Setting, IsHome, IsEnding, FindsFor, Runs, Waits, PutState, PutStep}
 
 -- a constructor or a destructor, by its role
 abbrev pub is_special : Option Role → Bool
@@ -50,27 +48,20 @@ module _ (g : Setting) where
   abbrev pub SoleNow : CleanUp → List Todo → State → Type 0
   SoleNow c todo s = Sole g.table g.few s.env.exec s.run.frame s.run.this s.callers c todo
 
-  -- so it is of a mutex object that becomes a part of the one at hand behind this call
+  -- so it is of mutex objects that become a part of the one at hand behind this call, or this statement
   abbrev pub SolePart : List Todo → State → Type 0
   SolePart (piece.DropNow ∷ (piece.Within line ∷ (piece.Rest (Built (Destroys (OfObject (EndOn q written e))) rest) ∷ todo))) s = SoleNow (Destroys (OfObject (EndOn q written e))) todo s
+  SolePart (piece.Rest (Built (DestroysAll n (OfObject (EndOn q written e))) rest) ∷ todo) s = SoleNow (DestroysAll n (OfObject (EndOn q written e))) todo s
   SolePart todo s = Unit {0}
 
-  -- an element of an array that is built or destroyed is the execution's own, and nothing stands around what is at home there
-  abbrev pub LoneElement : ℕ → List Todo → State → Type 0
-  LoneElement r todo s =
-      Belongs g.few s.env.exec (top (drop (params g.source r) s.run.operands)) ×
-      (is_opening g.source r ≡ true → LoneBefore g.table g.few (object_in (top (drop (params g.source r) s.run.operands))) todo s)
-
-  abbrev pub FairCall : ℕ → List Todo → State → Type 0
-  FairCall r todo s = (ByElements todo → LoneElement r todo s) × SolePart todo s
-
   -- what is left to find for a step: where an object is bound, and where one that is to be destroyed is loaded, it is at home at that place; and
-  -- nothing stands around what is a field or an element, where that is put, and before it is built
+  -- nothing stands around what is a field, where that is put, and before it is built
   abbrev pub FairAt : List Todo → State → Type 0
   FairAt (piece.LoadNow ∷ todo) s = IsEnding todo → IsHome g.few (loaded (top s.run.operands) s.env) (top s.run.operands)
   FairAt (piece.BindMadeNow c r ∷ todo) s = IsHome g.few (top s.run.operands) (top (drop (params g.source r) (below s.run.operands)))
-  FairAt (piece.CallOnNow r ∷ todo) s = FairCall r todo s
-  FairAt (piece.CallUnwrittenNow r ∷ todo) s = FairCall r todo s
+  FairAt (piece.CallOnNow r ∷ todo) s = SolePart todo s
+  FairAt (piece.CallUnwrittenNow r ∷ todo) s = SolePart todo s
+  FairAt (piece.Do (Fill line n b d) ∷ todo) s = SolePart todo s
   FairAt (piece.Rest (Scoped c rest) ∷ todo) s = SoleNow c todo s
   FairAt (piece.Rest (Built c rest) ∷ todo) s = SoleNow c todo s
   FairAt todo s = Unit {0}
