@@ -1,0 +1,13 @@
+pub mod Marks
+pub mod Steps
+pub mod Arrays
+pub mod Lone
+pub mod Walk
+pub mod LawSteps
+pub mod Puts
+pub mod Roles
+pub mod Expressions
+pub mod Statements
+pub mod Routines
+pub mod Worlds
+pub mod PuttingRuns

@@ -1,0 +1,4 @@
+pub mod Calling
+pub mod Putting
+pub mod PuttingLaws
+pub mod PuttingRuns

@@ -1,0 +1,31 @@
+// The laws: each is a function whose contract is the law.
+
+ghost use Rattle.uc_putting_laws.specs.PuttingLaws.{LawCalling, LawPuts, LawSteps};
+ghost use Rattle.uc_putting_laws.specs.PuttingRuns.{LawRuns};
+
+/// In the source of every program of the grammar that breaks no rule constructors and destructors are
+/// called at variables and at fields of the object at hand alone, by what builds the object or by a
+/// clean-up; and what ends a mutex object stands in clean-ups alone.
+pub fn law_calling()
+    ensures { LawCalling }
+{}
+
+/// Of any such source in which arguments are counted: what is called at an object finds it the execution's
+/// own, and where it destroys or builds a mutex object, nothing that is still to be cleaned up stands
+/// around that. Each quiet step that finds what is left to find keeps it, and so does each answer of the
+/// form that was asked for.
+pub fn law_steps()
+    ensures { LawSteps }
+{}
+
+/// In such a task a mark that is put next is put for what is the execution's own.
+pub fn law_puts()
+    ensures { LawPuts }
+{}
+
+/// So it is in each run of a program of the grammar that breaks no rule, as long as all that was asked
+/// before fits and each step finds what is left to find; and behind each act by which an object goes
+/// nobody has a mark around it, if who acts has its name alone.
+pub fn law_runs()
+    ensures { LawRuns }
+{}
