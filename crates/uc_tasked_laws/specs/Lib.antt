@@ -1,0 +1,4 @@
+pub mod Seated
+pub mod Seats
+pub mod SeatedStates
+pub mod TaskedRuns

@@ -1,0 +1,4 @@
+// The laws: each is a function whose contract is the law.
+
+/// Nothing yet.
+pub fn law_tasked() {}
