@@ -30,13 +30,13 @@ top_set (suc n) v (w ∷ vs) l = top_set n v vs (omega (arith, l))
 
 module _ (g : Program) (source : Source) (told : Told) (s : State) (callers : AllWait (Runs g source told) (Waits g source told) s.env.exec s.callers) (env : NamedEnv (Runs g source told) (Waits g source told) s.env) where
   abbrev D : Type 0
-  D = Done g source told s.env.exec s.callers
+  D = Done g told s.env.exec s.callers
 
   abbrev B : Type 0
-  B = Begun g source told s.env.exec s.run.this s.callers
+  B = Begun g told s.env.exec s.run.this s.callers
 
   abbrev S : ℕ → Expr → Type 0
-  S d e = Kept g source told s.env.exec s.run.frame s.run.this d e
+  S d e = Kept g told s.env.exec s.run.frame s.run.this d e
 
   abbrev here : Expr → Value
   here e = seat s.env.exec s.run.frame s.run.this e
@@ -140,7 +140,7 @@ module _ (g : Program) (source : Source) (told : Told) (s : State) (callers : Al
     begins counts todo vs code h (inl k) =
         let b : Active = record s.run { control = todo; operands = vs } in
         inl (record {
-          run = record { marks = []; holds = tt; ok = lists.routine g source (Done g source told s.env.exec (b ∷ s.callers)) (Begun g source told s.env.exec object (b ∷ s.callers)) (Kept g source told s.env.exec (length s.env.frames) object) q k code };
+          run = record { marks = []; holds = tt; ok = lists.routine g source (Done g told s.env.exec (b ∷ s.callers)) (Begun g told s.env.exec object (b ∷ s.callers)) (Kept g told s.env.exec (length s.env.frames) object) q k code };
           callers = (inr (marks.drop_more g source D B S (Free x r) Every (λ d e y. tt) todo h), callers);
           env = steps.likes g source told env refl refl refl;
         })

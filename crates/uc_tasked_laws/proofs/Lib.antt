@@ -8,3 +8,6 @@ pub mod Binding
 pub mod Walk
 pub mod Pending
 pub mod Telling
+pub mod Worlds
+pub mod SeatThings
+pub mod SeatsKept

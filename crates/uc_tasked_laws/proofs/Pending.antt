@@ -3,7 +3,7 @@ use Rattle.std.proofs.Common.{◌≡◌, ℕ, ◌≤◌, ◌<◌, ◌++◌, ◌=
 use Rattle.std.specs.Prelude.{nat_lt, if◌then◌else◌}
 use Rattle.std.specs.Option.{option_to_list}
 use Rattle.std.specs.List.{filter, list_any}
-use Rattle.std.proofs.lemmas.Bool.{eq-eqb}
+use Rattle.std.proofs.lemmas.Bool.{eq-eqb, ltb-true, ltb-false}
 use Rattle.std.proofs.lemmas.List.Elements.{filter-append}
 use Rattle.std.proofs.lemmas.List.Folds.{list_any-append}
 use Rattle.uc_entry.specs.declared.entry.Entry.{Entry}
@@ -12,7 +12,8 @@ use Rattle.uc_acts.specs.Open.{still_open}
 use Rattle.uc_acts.specs.Journal.{Journal, entries_at}
 use Rattle.uc_acts.specs.Known.{object_count, is_gone, is_gone_by, owned, owner}
 use Rattle.uc_acts.proofs.OpenLemmas.{filter_true, still_open_begins}
-use Rattle.uc_tasked_laws.specs.TaskedRuns.{is_nobody, is_pending}
+use Rattle.uc_acts.specs.Queues.{is_nobody}
+use Rattle.uc_tasked_laws.specs.TaskedRuns.{is_pending}
 
 never : {E : Type 0} (xs : List E) → list_any (λ x. false) xs ≡ false
 never [] = refl
@@ -30,19 +31,18 @@ nobody_last (x ∷ xs) t = refl
 abbrev all_owned : List Entry → List ℕ
 all_owned es = still_open (λ e. owned e.kind e) (λ e t. false) es
 
-told_more : (o : Option ℕ) (xs ys : List ℕ) (as bs : List Entry) → (is_nobody xs ≡ false → is_nobody ys ≡ false) → is_nobody (filter (λ t. not (list_any (λ x. false) as)) (option_to_list o) ++ xs) ≡ false → is_nobody (filter (λ t. not (list_any (λ x. false) bs)) (option_to_list o) ++ ys) ≡ false
-told_more None xs ys as bs f h = f h
-told_more (Some t) xs ys as bs f h =
-    let e : filter (λ t. not (list_any (λ x. false) bs)) (t ∷ []) ≡ t ∷ [] = filter_true (λ t. not (list_any (λ x. false) bs)) (t ∷ []) (λ a. ap not (never bs)) in
+told_more : (o : Option ℕ) (xs ys : List ℕ) (es fs : List Entry) → (is_nobody xs ≡ false → is_nobody ys ≡ false) → is_nobody (filter (λ t. not (list_any (λ x. false) es)) (option_to_list o) ++ xs) ≡ false → is_nobody (filter (λ t. not (list_any (λ x. false) fs)) (option_to_list o) ++ ys) ≡ false
+told_more None xs ys es fs f h = f h
+told_more (Some t) xs ys es fs f h =
+    let e : filter (λ t. not (list_any (λ x. false) fs)) (t ∷ []) ≡ t ∷ [] = filter_true (λ t. not (list_any (λ x. false) fs)) (t ∷ []) (λ a. ap not (never fs)) in
     ap (λ l. is_nobody (l ++ ys)) e
 
-owned_more : (es as : List Entry) → is_nobody (all_owned es) ≡ false → is_nobody (all_owned (es ++ as)) ≡ false
-owned_more [] as h = absurd (cc)
-owned_more (e ∷ es) as h = told_more (owned e.kind e) (all_owned es) (all_owned (es ++ as)) es (es ++ as) (λ k. owned_more es as k) h
+owned_more : (es fs : List Entry) → is_nobody (all_owned es) ≡ false → is_nobody (all_owned (es ++ fs)) ≡ false
+owned_more [] fs h = absurd (cc)
+owned_more (e ∷ es) fs h = told_more (owned e.kind e) (all_owned es) (all_owned (es ++ fs)) es (es ++ fs) (λ k. owned_more es fs k) h
 
 pub owner_more : (o : ℕ) (j : Journal) (a : List Entry) → is_nobody (owner o j) ≡ false → is_nobody (owner o (j ++ a)) ≡ false
-unfolding owner
-unfolding entries_at
+unfolding owner entries_at
 owner_more o j a h =
     ap (λ l. is_nobody (all_owned l)) (filter-append (λ e. e.object == o) j a) ∙ owned_more (entries_at o j) (entries_at o a) h
 
@@ -51,8 +51,7 @@ or_true true c h = refl
 or_true false c h = absurd (cc)
 
 gone_more : (o : ℕ) (j : Journal) (a : List Entry) → is_gone o j ≡ true → is_gone o (j ++ a) ≡ true
-unfolding is_gone
-unfolding entries_at
+unfolding is_gone entries_at
 gone_more o j a h =
     ap (list_any (λ e. is_gone_by e.kind)) (filter-append (λ e. e.object == o) j a) ∙ (list_any-append (λ e. is_gone_by e.kind) (entries_at o j) (entries_at o a) ∙ or_true (list_any (λ e. is_gone_by e.kind) (entries_at o j)) (list_any (λ e. is_gone_by e.kind) (entries_at o a)) h)
 
@@ -72,11 +71,11 @@ pub later : (j : Journal) (a : List Entry) (o : ℕ) → is_pending j o ≡ fals
 later j a o h = by (nat_lt o (object_count j)) refl (is_nobody (owner o j)) refl (is_gone o j) refl
   where
     new : object_count j ≤ o → (b : Bool) → nat_lt o (object_count (j ++ a)) ≡ b → (is_pending (j ++ a) o ≡ false) ⊎ ((object_count j ≤ o) × (o < object_count (j ++ a)))
-    new le true e = inr (le, omega (arith, e))
+    new le true e = inr (le, ltb-true o (object_count (j ++ a)) e)
     new le false e = inl (ap (λ b. b && (is_nobody (owner o (j ++ a)) && not (is_gone o (j ++ a)))) e)
 
     by : (b : Bool) → nat_lt o (object_count j) ≡ b → (n : Bool) → is_nobody (owner o j) ≡ n → (g : Bool) → is_gone o j ≡ g → (is_pending (j ++ a) o ≡ false) ⊎ ((object_count j ≤ o) × (o < object_count (j ++ a)))
-    by false e n f g k = new (omega (arith, e)) (nat_lt o (object_count (j ++ a))) refl
+    by false e n f g k = new (ltb-false o (object_count j) e) (nat_lt o (object_count (j ++ a))) refl
     by true e false f g k = inl (lost (nat_lt o (object_count (j ++ a))) (not (is_gone o (j ++ a))) (is_nobody (owner o (j ++ a))) (owner_more o j a f))
     by true e true f true k = inl (went (nat_lt o (object_count (j ++ a))) (is_nobody (owner o (j ++ a))) (is_gone o (j ++ a)) (gone_more o j a k))
     by true e true f false k =
@@ -89,8 +88,7 @@ not_pending j o h = lost (nat_lt o (object_count j)) (not (is_gone o j)) (is_nob
 
 -- so is whom an entry lets begin
 pub spawned_by : (o : ℕ) (j : Journal) (e : Entry) (t : ℕ) → e.object ≡ o → owned e.kind e ≡ Some t → is_nobody (owner o (j ++ e ∷ [])) ≡ false
-unfolding owner
-unfolding entries_at
+unfolding owner entries_at
 spawned_by o j e t h k =
     let at : filter (λ e. e.object == o) (j ++ e ∷ []) ≡ entries_at o j ++ e ∷ [] = filter-append (λ e. e.object == o) j (e ∷ []) ∙ ap (λ l. entries_at o j ++ l) (kept (e.object == o) (self e.object o h)) in
     ap (λ l. is_nobody (all_owned l)) at ∙ (ap is_nobody (still_open_begins (λ e. owned e.kind e) (λ e t. false) (entries_at o j) e t k (λ x. refl)) ∙ nobody_last (all_owned (entries_at o j)) t)

@@ -159,22 +159,6 @@ module _ (p : Program) where
     ends_of : (i : ℕ) → TellsMaker t p i role.Destructor → (t.routine (number_of p i role.Destructor)).this ≡ Some i
     ends_of i m = of_maker (λ g. g.this) (Some i) i role.Destructor (λ n e. (m.written n e).this) (λ e. m.unwritten_this e)
 
-    -- a class of tasks
-    task_maker : (i : ℕ) → of_kind is_task (class_at p i) ≡ true → TellsMaker t p i role.Destructor
-    task_maker i h = by (class_at p i) refl h
-      where
-        no_event : (k : Kind) → is_task k ≡ true → is_event k ≡ false
-        no_event kind.Task e = refl
-        no_event kind.Monitor e = refl
-        no_event kind.Cormonitor e = refl
-        no_event kind.Class e = refl
-        no_event kind.Coroutine e = refl
-        no_event kind.Event e = absurd (cc)
-
-        by : (o : Option Class) → class_at p i ≡ o → of_kind is_task o ≡ true → TellsMaker t p i role.Destructor
-        by None e k = absurd (cc)
-        by (Some c) e k = (law_told p formed accepted).makers i c role.Destructor e (no_event c.kind k) refl
-
     module _ (r d : ℕ) (x : ArePaired p r d) where
       is_made : Making_is t (t.routine 0) refl p (AMutex x.class)
       is_made =
@@ -192,12 +176,10 @@ module _ (p : Program) where
           let m : role_inward role.Constructor (t.mutex x.class) ≡ Makes = ap (role_inward role.Constructor) is_made.2 in
           ap (λ n. (t.routine n).inward) x.builds ∙ (of_maker (λ g. g.inward) (role_inward role.Constructor (t.mutex x.class)) x.class role.Constructor (λ n e. is_made.0.written_inward n e) (λ e. is_made.0.unwritten_inward e) ∙ m)
 
-      -- a class has one destructor
       same : (y : EndsTask p d) → y.class ≡ x.class
       same y =
-          let a : (t.routine d).this ≡ Some y.class = ap (λ n. (t.routine n).this) y.ends ∙ ends_of y.class (task_maker y.class y.tasks) in
-          let b : (t.routine d).this ≡ Some x.class = ap (λ n. (t.routine n).this) x.ends ∙ ends_of x.class is_made.1 in
-          same_some (sym a ∙ b)
+          let at : (t.routine d).this ≡ Some x.class = ap (λ n. (t.routine n).this) x.ends ∙ ends_of x.class is_made.1 in
+          same_some (sym y.this ∙ at)
 
       spawns : (q : Option Routine) → slice_get (source_of p).routines r ≡ q → SpawnsBy p d q
       spawns None e = tt

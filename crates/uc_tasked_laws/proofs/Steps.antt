@@ -73,15 +73,15 @@ module _ (g : Program) (source : Source) (told : Told) where
   -- activations that wait are left
 
   abbrev WaitLeft : Exec → List Active → Active → Type 0
-  WaitLeft n cs a = Left g source (Done g source told n cs) (Begun g source told n a.this cs) (Kept g source told n a.frame a.this) a.control
+  WaitLeft n cs a = Left g source (Done g told n cs) (Begun g told n a.this cs) (Kept g told n a.frame a.this) a.control
 
   abbrev AllLeft : Exec → List Active → Type 0
   AllLeft n [] = Unit {0}
   AllLeft n (a ∷ cs) = WaitLeft n cs a × AllLeft n cs
 
   wait_left : (n : Exec) (cs : List Active) (a : Active) → Waits g source told n cs a → WaitLeft n cs a
-  wait_left n cs a (inl h) = marks.left g source (Done g source told n cs) (Begun g source told n a.this cs) (Kept g source told n a.frame a.this) (Any ∷ h.marks) a.control h.ok
-  wait_left n cs a (inr h) = marks.left_drop g source (Done g source told n cs) (Begun g source told n a.this cs) (Kept g source told n a.frame a.this) a.control h
+  wait_left n cs a (inl h) = marks.left g source (Done g told n cs) (Begun g told n a.this cs) (Kept g told n a.frame a.this) (Any ∷ h.marks) a.control h.ok
+  wait_left n cs a (inr h) = marks.left_drop g source (Done g told n cs) (Begun g told n a.this cs) (Kept g told n a.frame a.this) a.control h
 
   waits_left : (n : Exec) (cs : List Active) → W n cs → AllLeft n cs
   waits_left n [] h = tt
@@ -94,9 +94,9 @@ module _ (g : Program) (source : Source) (told : Told) where
   seek : (n : Exec) (v : Option Visited) (e : raising.Event) (cs : List Active) → AllLeft n cs → lists.OfFound g source (raising.seek v e cs)
   seek n None e [] h = tt
   seek n (Some v) e [] h = tt
-  seek n None e (a ∷ cs) h = found_or (raising.hit_in e a.control) a cs (raising.seek a.handles e cs) (lists.hit_in g source (Done g source told n cs) (Begun g source told n a.this cs) (Kept g source told n a.frame a.this) e a.control h.0) (seek n a.handles e cs h.1)
+  seek n None e (a ∷ cs) h = found_or (raising.hit_in e a.control) a cs (raising.seek a.handles e cs) (lists.hit_in g source (Done g told n cs) (Begun g told n a.this cs) (Kept g told n a.frame a.this) e a.control h.0) (seek n a.handles e cs h.1)
   seek n (Some v) e (a ∷ cs) h =
-      either (lists.OfFound g source) (nat_eq (length cs) v.level) (raising.found_or (raising.hit_in e (raising.within v.rest a.control)) a cs (raising.seek a.handles e cs)) (raising.seek (Some v) e cs) (found_or (raising.hit_in e (raising.within v.rest a.control)) a cs (raising.seek a.handles e cs) (lists.hit_in g source (Done g source told n cs) (Begun g source told n a.this cs) (Kept g source told n a.frame a.this) e (raising.within v.rest a.control) (lists.within g source (Done g source told n cs) (Begun g source told n a.this cs) (Kept g source told n a.frame a.this) v.rest a.control h.0)) (seek n a.handles e cs h.1)) (seek n (Some v) e cs h.1)
+      either (lists.OfFound g source) (nat_eq (length cs) v.level) (raising.found_or (raising.hit_in e (raising.within v.rest a.control)) a cs (raising.seek a.handles e cs)) (raising.seek (Some v) e cs) (found_or (raising.hit_in e (raising.within v.rest a.control)) a cs (raising.seek a.handles e cs) (lists.hit_in g source (Done g told n cs) (Begun g told n a.this cs) (Kept g told n a.frame a.this) e (raising.within v.rest a.control) (lists.within g source (Done g told n cs) (Begun g told n a.this cs) (Kept g told n a.frame a.this) v.rest a.control h.0)) (seek n a.handles e cs h.1)) (seek n (Some v) e cs h.1)
 
 
   -- in a list that is in order no scope opens next, so whatever opens next is so
@@ -116,13 +116,13 @@ module _ (g : Program) (source : Source) (told : Told) where
 
   module _ (s : State) (callers : W s.env.exec s.callers) (env : E s.env) where
     abbrev pub D : Type 0
-    D = Done g source told s.env.exec s.callers
+    D = Done g told s.env.exec s.callers
 
     abbrev pub B : Type 0
-    B = Begun g source told s.env.exec s.run.this s.callers
+    B = Begun g told s.env.exec s.run.this s.callers
 
     abbrev pub S : ℕ → Expr → Type 0
-    S d e = Kept g source told s.env.exec s.run.frame s.run.this d e
+    S d e = Kept g told s.env.exec s.run.frame s.run.this d e
 
     abbrev pub H : List Mark → List Value → Type 0
     H ms vs = Holds s.env.exec s.run.frame s.run.this ms vs
@@ -175,10 +175,10 @@ module _ (g : Program) (source : Source) (told : Told) where
 
     -- the end of an activation
 
-    pub returned : (given : Value) (cs : List Active) → W s.env.exec cs → Done g source told s.env.exec cs → T (piece.return_step given cs s)
+    pub returned : (given : Value) (cs : List Active) → W s.env.exec cs → Done g told s.env.exec cs → T (piece.return_step given cs s)
     returned given [] c e = record { run = tt; callers = callers; env = env }
     returned given (a ∷ cs) (inl f, c) e = inl (record { run = record { marks = Any ∷ f.marks; holds = (tt, f.holds); ok = f.ok }; callers = c; env = likes env refl refl refl })
-    returned given (a ∷ cs) (inr f, c) e = inr (record { now = inr (inl (stands_at (Done g source told s.env.exec cs) (Begun g source told s.env.exec a.this cs) (Kept g source told s.env.exec a.frame a.this) a.control f e)); callers = c; env = likes env refl refl refl })
+    returned given (a ∷ cs) (inr f, c) e = inr (record { now = inr (inl (stands_at (Done g told s.env.exec cs) (Begun g told s.env.exec a.this cs) (Kept g told s.env.exec a.frame a.this) a.control f e)); callers = c; env = likes env refl refl refl })
 
     past : (v : Visited) (given : Value) (cs : List Active) → W s.env.exec cs → T (raising.return_past v given cs s)
     past v given [] c = record { run = tt; callers = callers; env = env }
@@ -310,7 +310,7 @@ module _ (g : Program) (source : Source) (told : Told) where
         let below_it : List Value = below (below (below s.run.operands)) in
         let b : Active = record s.run { control = piece.DropNow ∷ todo; operands = below_it } in
         inl (record {
-          run = record { marks = []; holds = tt; ok = lists.handled g source (Done g source told s.env.exec (b ∷ s.callers)) (Begun g source told s.env.exec f.this (b ∷ s.callers)) (Kept g source told s.env.exec f.frame f.this) f.handler [] n (none_behind D B S (λ d e. Kept g source told s.env.exec b.frame b.this d e) (rests 3 ms) todo h) };
+          run = record { marks = []; holds = tt; ok = lists.handled g source (Done g told s.env.exec (b ∷ s.callers)) (Begun g told s.env.exec f.this (b ∷ s.callers)) (Kept g told s.env.exec f.frame f.this) f.handler [] n (none_behind D B S (λ d e. Kept g told s.env.exec b.frame b.this d e) (rests 3 ms) todo h) };
           callers = (inl (record { marks = rests 3 ms; holds = holds_below s.env.exec s.run.frame s.run.this (rests 2 ms) _ (holds_below s.env.exec s.run.frame s.run.this (rests 1 ms) _ (holds_below s.env.exec s.run.frame s.run.this ms _ k)); ok = (tt, h) }), callers);
           env = likes env refl refl refl;
         })
@@ -369,7 +369,7 @@ module _ (g : Program) (source : Source) (told : Told) where
     leave_for true c cs a b = record { run = tt; callers = callers; env = env }
     leave_for false c cs a b = pass_on s.run.raised c cs a b
 
-    leaves : (cs : List Active) → W s.env.exec cs → (raising.arrives s.run.raised (length cs) ≡ true → Done g source told s.env.exec cs) → T (raising.leave_step cs s)
+    leaves : (cs : List Active) → W s.env.exec cs → (raising.arrives s.run.raised (length cs) ≡ true → Done g told s.env.exec cs) → T (raising.leave_step cs s)
     leaves [] c f = record { run = tt; callers = callers; env = env }
     leaves (c ∷ cs) w f =
         tested T (raising.arrives s.run.raised (length (c ∷ cs))) _ _ (λ e. returned s.run.result (c ∷ cs) w (f e)) (leave_for _ c cs (wait_left s.env.exec cs c w.0) w.1)
@@ -478,7 +478,7 @@ module _ (g : Program) (source : Source) (told : Told) where
       begun r this counts todo vs n w d =
           let b : Active = record s.run { control = todo; operands = vs } in
           inl (record {
-            run = record { marks = []; holds = tt; ok = lists.routine g source (Done g source told s.env.exec (b ∷ s.callers)) (Begun g source told s.env.exec this (b ∷ s.callers)) (Kept g source told s.env.exec (length s.env.frames) this) r d n };
+            run = record { marks = []; holds = tt; ok = lists.routine g source (Done g told s.env.exec (b ∷ s.callers)) (Begun g told s.env.exec this (b ∷ s.callers)) (Kept g told s.env.exec (length s.env.frames) this) r d n };
             callers = (w, callers);
             env = likes env refl refl refl;
           })
@@ -512,7 +512,7 @@ module _ (g : Program) (source : Source) (told : Told) where
       set_up None todo n h = anew _ _ h
       set_up (Some r) todo n h =
           let at_home = quiet.home_at s.run.this s.env in
-          let b : K s.env (sw.born at_home (quiet.fresh r s.run.this) s.env) = kept.born_keeps (Runs g source told) (Waits g source told) calm at_home (quiet.fresh r s.run.this) s.env (λ k. record { run = record { marks = []; holds = tt; ok = lists.routine g source (Unit {0}) (Unit {0}) (Kept g source told (kept.at_home at_home k) 0 s.run.this) r tt n }; callers = tt }) env in
+          let b : K s.env (sw.born at_home (quiet.fresh r s.run.this) s.env) = kept.born_keeps (Runs g source told) (Waits g source told) calm at_home (quiet.fresh r s.run.this) s.env (λ k. record { run = record { marks = []; holds = tt; ok = lists.routine g source (Unit {0}) (Unit {0}) (Kept g told (kept.at_home at_home k) 0 s.run.this) r tt n }; callers = tt }) env in
           go_in [] _ _ _ tt h (kept.keeps_both (Runs g source told) (Waits g source told) calm b (kept.written_keeps (Runs g source told) (Waits g source told) calm s.run.this _ _ b.env))
 
       -- mutex objects

@@ -122,7 +122,7 @@ module _ (p : Program) (source : Source) (homes : ℕ → Value) (before after :
   abbrev TopApart : Exec → List Active → Type 0
   TopApart n older = (o : ℕ) → N o → OnTop (λ b d e. IsElsewhere p (homes o) n b.frame b.this d e) older
 
-  done : (n : Exec) (older : List Active) → TopApart n older → Done p source one n older → Done p source two n older
+  done : (n : Exec) (older : List Active) → TopApart n older → Done p one n older → Done p two n older
   done n [] far h = tt
   done n (b ∷ older) far h =
       awaited_both (Seats n b.frame b.this) (Kept p one n b.frame b.this) (Kept p two n b.frame b.this) (λ d e k x t. free (seat n b.frame b.this e) (elsewhere n b.frame b.this d e k t) (x t)) b.control (awaited_all N (λ o. IsElsewhere p (homes o) n b.frame b.this) b.control far) h
@@ -130,7 +130,7 @@ module _ (p : Program) (source : Source) (homes : ℕ → Value) (before after :
   abbrev Builds : Told → Exec → Value → Active → ℕ → Expr → Type 0
   Builds told n this b d e = EndsTask p d → (x : ℕ) × (this ≡ Object x) × IsFreeBut told x (seat n b.frame b.this e)
 
-  begun : (n : Exec) (this : Value) (older : List Active) → TopApart n older → Begun p source one n this older → Begun p source two n this older
+  begun : (n : Exec) (this : Value) (older : List Active) → TopApart n older → Begun p one n this older → Begun p two n this older
   begun n this [] far h = tt
   begun n this (b ∷ older) far h =
       awaited_both (Seats n b.frame b.this) (Builds one n this b) (Builds two n this b) (λ d e k x t. let y = x t in (y.0, y.1, free_but y.0 (seat n b.frame b.this e) (elsewhere n b.frame b.this d e k t) y.2)) b.control (awaited_all N (λ o. IsElsewhere p (homes o) n b.frame b.this) b.control far) h
@@ -138,7 +138,7 @@ module _ (p : Program) (source : Source) (homes : ℕ → Value) (before after :
   object_is : (this : Value) (o x : ℕ) → o ≡ piece.object_in this → this ≡ Object x → x ≡ o
   object_is this o x e q = sym (e ∙ ap piece.object_in q)
 
-  spawned : (n : Exec) (this : Value) (older : List Active) (o : ℕ) → o ≡ piece.object_in this → after o ≡ false → TopApart n older → Begun p source one n this older → Done p source two n older
+  spawned : (n : Exec) (this : Value) (older : List Active) (o : ℕ) → o ≡ piece.object_in this → after o ≡ false → TopApart n older → Begun p one n this older → Done p two n older
   spawned n this [] o e k far h = tt
   spawned n this (b ∷ older) o e k far h =
       awaited_both (Seats n b.frame b.this) (Builds one n this b) (Kept p two n b.frame b.this) (λ d q s x t. let y = x t in free_now y.0 (seat n b.frame b.this q) (subst (λ o. after o ≡ false) (sym (object_is this o y.0 e y.1)) k) (elsewhere n b.frame b.this d q s t) y.2) b.control (awaited_all N (λ o. IsElsewhere p (homes o) n b.frame b.this) b.control far) h
@@ -150,17 +150,17 @@ module _ (p : Program) (source : Source) (homes : ℕ → Value) (before after :
   finds many n older a far top h = record {
     marks = h.marks;
     holds = h.holds;
-    ok = ok_more p source (Done p source one n older) (Begun p source one n a.this older) (Kept p one n a.frame a.this) (Done p source two n older) (Begun p source two n a.this older) (Kept p two n a.frame a.this) (done n older top) (begun n a.this older top) _ a.control (keeps n a.frame a.this a.control far) h.ok;
+    ok = ok_more p source (Done p one n older) (Begun p one n a.this older) (Kept p one n a.frame a.this) (Done p two n older) (Begun p two n a.this older) (Kept p two n a.frame a.this) (done n older top) (begun n a.this older top) _ a.control (keeps n a.frame a.this a.control far) h.ok;
   }
 
   pub spawns : (n : Exec) (older : List Active) (a : Active) (o : ℕ) → o ≡ piece.object_in a.this → after o ≡ false → RunApart n older a → TopApart n older → Spawning p source one n older a → Finds p source two 0 n older a
   spawns n older a o e k far top h = record {
     marks = h.marks;
     holds = h.holds;
-    ok = ok_more p source (Done p source one n older ⊎ Begun p source one n a.this older) (Begun p source one n a.this older) (Kept p one n a.frame a.this) (Done p source two n older) (Begun p source two n a.this older) (Kept p two n a.frame a.this) either_done (begun n a.this older top) h.marks a.control (keeps n a.frame a.this a.control far) h.ok;
+    ok = ok_more p source (Done p one n older ⊎ Begun p one n a.this older) (Begun p one n a.this older) (Kept p one n a.frame a.this) (Done p two n older) (Begun p two n a.this older) (Kept p two n a.frame a.this) either_done (begun n a.this older top) h.marks a.control (keeps n a.frame a.this a.control far) h.ok;
   }
     where
-      either_done : Done p source one n older ⊎ Begun p source one n a.this older → Done p source two n older
+      either_done : Done p one n older ⊎ Begun p one n a.this older → Done p two n older
       either_done (inl d) = done n older top d
       either_done (inr b) = spawned n a.this older o e k top b
 
@@ -174,7 +174,7 @@ module _ (p : Program) (source : Source) (homes : ℕ → Value) (before after :
   waits : (n : Exec) (older : List Active) (a : Active) → RunApart n older a → TopApart n older → Waits p source one n older a → Waits p source two n older a
   waits n older a far top (inl h) = inl (finds 1 n older a far top h)
   waits n older a far top (inr h) =
-      inr (drop_ok p source (Done p source one n older) (Begun p source one n a.this older) (Kept p one n a.frame a.this) (Done p source two n older) (Begun p source two n a.this older) (Kept p two n a.frame a.this) (done n older top) (begun n a.this older top) a.control (keeps n a.frame a.this a.control far) h)
+      inr (drop_ok p source (Done p one n older) (Begun p one n a.this older) (Kept p one n a.frame a.this) (Done p two n older) (Begun p two n a.this older) (Kept p two n a.frame a.this) (done n older top) (begun n a.this older top) a.control (keeps n a.frame a.this a.control far) h)
 
   pub all_waits : (n : Exec) (cs : List Active) → WaitsApart n cs → AllWait (Runs p source one) (Waits p source one) n cs → AllWait (Runs p source two) (Waits p source two) n cs
   all_waits n [] far h = tt

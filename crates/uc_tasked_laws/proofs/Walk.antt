@@ -37,13 +37,13 @@ use Rattle.uc_tasked_laws.proofs.Binding as binding
 module _ (g : Program) (source : Source) (told : Told) (known : (n : ℕ) → CodeRoutine g source (slice_get source.routines n)) (spawning : SpawnsSource g source) where
   module _ (s : State) (callers : AllWait (Runs g source told) (Waits g source told) s.env.exec s.callers) (env : NamedEnv (Runs g source told) (Waits g source told) s.env) (ms : List Mark) (holds : Holds s.env.exec s.run.frame s.run.this ms s.run.operands) where
     abbrev D : Type 0
-    D = Done g source told s.env.exec s.callers
+    D = Done g told s.env.exec s.callers
 
     abbrev B : Type 0
-    B = Begun g source told s.env.exec s.run.this s.callers
+    B = Begun g told s.env.exec s.run.this s.callers
 
     abbrev S : ℕ → src.Expr → Type 0
-    S d e = Kept g source told s.env.exec s.run.frame s.run.this d e
+    S d e = Kept g told s.env.exec s.run.frame s.run.this d e
 
     abbrev H : List Mark → List Value → Type 0
     H ns vs = Holds s.env.exec s.run.frame s.run.this ns vs
@@ -168,14 +168,14 @@ module _ (g : Program) (source : Source) (told : Told) (known : (n : ℕ) → Co
     acts piece.FinishCoroutine todo c fair h = steps.moved g source told s callers env _ todo _ (kept.finish_rests (Runs g source told) (Waits g source told) (steps.calm g source told) (at todo s.run.operands s) (steps.afresh g source told s callers env _ _ h.1))
 
   -- such a scope opens next
-  stands : (s : State) → AllWait (Runs g source told) (Waits g source told) s.env.exec s.callers → NamedEnv (Runs g source told) (Waits g source told) s.env → (l : List Todo) → Stands g source (Done g source told s.env.exec s.callers) (Begun g source told s.env.exec s.run.this s.callers) (Kept g source told s.env.exec s.run.frame s.run.this) (Kept g source told s.env.exec s.run.frame s.run.this) l → steps.T g source told (quiet.act_todo source l s)
+  stands : (s : State) → AllWait (Runs g source told) (Waits g source told) s.env.exec s.callers → NamedEnv (Runs g source told) (Waits g source told) s.env → (l : List Todo) → Stands g source (Done g told s.env.exec s.callers) (Begun g told s.env.exec s.run.this s.callers) (Kept g told s.env.exec s.run.frame s.run.this) (Kept g told s.env.exec s.run.frame s.run.this) l → steps.T g source told (quiet.act_todo source l s)
   stands s callers env (piece.Rest ss ∷ todo) h = steps.rest_of g source told s callers env ss todo h.0.0 h.0.1 h.1
   stands s callers env (piece.Within line ∷ (piece.Rest ss ∷ todo)) h = inr (record { now = inr (inl h); callers = callers; env = env })
   stands s callers env (piece.DropNow ∷ (piece.Within line ∷ (piece.Rest ss ∷ todo))) h = inr (record { now = inr (inl h); callers = callers; env = env })
   stands s callers env l h = absurd h
 
   -- the building of an object begins, or lets its task begin
-  starts : (s : State) → AllWait (Runs g source told) (Waits g source told) s.env.exec s.callers → NamedEnv (Runs g source told) (Waits g source told) s.env → (l : List Todo) → Starts g source (Done g source told s.env.exec s.callers) (Begun g source told s.env.exec s.run.this s.callers) (Kept g source told s.env.exec s.run.frame s.run.this) l → steps.T g source told (quiet.act_todo source l s)
+  starts : (s : State) → AllWait (Runs g source told) (Waits g source told) s.env.exec s.callers → NamedEnv (Runs g source told) (Waits g source told) s.env → (l : List Todo) → Starts g source (Done g told s.env.exec s.callers) (Begun g told s.env.exec s.run.this s.callers) (Kept g told s.env.exec s.run.frame s.run.this) l → steps.T g source told (quiet.act_todo source l s)
   starts s callers env (piece.Rest ss ∷ todo) h = steps.start_of g source told s callers env ss todo h.0 h.1 h.2 h.3
   starts s callers env (piece.SpawnNow r ∷ todo) h = steps.spawns g source told s callers env r todo h.0 h.1
   starts s callers env l h = absurd h
@@ -201,7 +201,7 @@ module _ (g : Program) (source : Source) (told : Told) (known : (n : ℕ) → Co
 
   begins : (o : ℕ) (r : Option Routine) → CodeRoutine g source r → SeatedRest g source told 0 (first_state (routine_or_none r) o)
   begins o None h = record { run = record { marks = []; holds = tt; ok = ((tt, (tt, tt)), (tt, tt)) }; callers = tt; env = record { house = (tt, tt); hand = tt } }
-  begins o (Some r) h = record { run = record { marks = []; holds = tt; ok = lists.routine g source (Unit {0}) (Unit {0}) (Kept g source told (record { home = home.Task o; serial = 0 }) 0 (piece.Object o)) r tt h }; callers = tt; env = record { house = (tt, tt); hand = tt } }
+  begins o (Some r) h = record { run = record { marks = []; holds = tt; ok = lists.routine g source (Unit {0}) (Unit {0}) (Kept g told (record { home = home.Task o; serial = 0 }) 0 (piece.Object o)) r tt h }; callers = tt; env = record { house = (tt, tt); hand = tt } }
 
   -- a task begins so
   pub first_seated : (r o : ℕ) → SeatedRest g source told 0 (first_state (routine_of source r) o)

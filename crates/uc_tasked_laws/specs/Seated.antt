@@ -4,10 +4,10 @@ use Rattle.std.specs.Prelude.{◌≡◌, ℕ, ◌⊎◌, List, [], ◌∷◌, Op
 use Rattle.uc_tree.specs.declared.kinds.Base.{Base}
 use Rattle.uc_tree.specs.declared.kinds.Role.{Role}
 use Rattle.uc_tree.specs.declared.kinds.Role.TheVariants as role
-use Rattle.uc_tree.specs.Objects.{AMutex, making, is_task, class_at, written_at, unwritten_number}
+use Rattle.uc_tree.specs.Objects.{AMutex, making, written_at, unwritten_number}
 use Rattle.uc_tree.specs.Programs.{Program}
 use Rattle.uc_tree.specs.Source.{Expr, Variable, Load, OfObject, OwnField, EndOn, MakeOn, CleanUp, Destroys, Frees, Stmt, Stmts, Block, Whole, Evaluate, If, Loop, OfEvents, OfTasks, Nil, Then, Scoped, Built, EventStmt, Try, Enable, Disable, TaskStmt, Accept, Handlers, NoHandlers, MoreHandlers, Clauses, NoClauses, Otherwise, MoreClauses, Purpose, Builder, Routine, Source}
-use Rattle.uc_sound.specs.Tables.{of_kind}
+use Rattle.uc_sound.specs.Tables.{table_of}
 
 -- the constructor or the destructor of a class, by its number: the one that is written, or that which stands for it where none is
 abbrev pub role_number : Program → ℕ → Role → Option ℕ → ℕ
@@ -25,11 +25,11 @@ pub record ArePaired (p : Program) (r d : ℕ) : Type 0 where
   pub builds : r ≡ number_of p class role.Constructor
   pub ends : d ≡ number_of p class role.Destructor
 
--- a routine destroys tasks
+-- a routine is of a class of tasks
 pub record EndsTask (p : Program) (d : ℕ) : Type 0 where
   pub class : ℕ
-  pub tasks : of_kind is_task (class_at p class) ≡ true
-  pub ends : d ≡ number_of p class role.Destructor
+  pub this : ((table_of p).routine d).this ≡ Some class
+  pub tasks : (table_of p).tasks class ≡ true
 
 -- a clean-up of an object under construction lets its task begin once that is built
 abbrev pub IsSpawning : CleanUp → Type 0

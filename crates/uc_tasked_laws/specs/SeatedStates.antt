@@ -47,7 +47,7 @@ abbrev pub AllHave : (ℕ → Expr → Type 0) → List Todo → Type 0
 AllHave P [] = Unit {0}
 AllHave P (x ∷ todo) = MarkHas P x × AllHave P todo
 
-module _ (p : Program) (source : Source) (told : Told) where
+module _ (p : Program) (told : Told) where
   -- where a task is in scope, or a part of an object under construction, nobody is at home who is pending
   abbrev pub Kept : Exec → ℕ → Value → ℕ → Expr → Type 0
   Kept n f this d e = EndsTask p d → IsFree told (seat n f this e)
@@ -60,9 +60,10 @@ module _ (p : Program) (source : Source) (told : Told) where
   Begun n this older =
       OnTop (λ b d e. EndsTask p d → (x : ℕ) × (this ≡ Object x) × IsFreeBut told x (seat n b.frame b.this e)) older
 
+module _ (p : Program) (source : Source) (told : Told) where
   -- an activation before these older ones, with this still to do
   abbrev pub IsOk : Exec → ℕ → Value → List Active → List Mark → List Todo → Type 0
-  IsOk n f this older ms todo = Ok p source (Done n older) (Begun n this older) (Kept n f this) ms todo
+  IsOk n f this older ms todo = Ok p source (Done p told n older) (Begun p told n this older) (Kept p told n f this) ms todo
 
   -- one of the execution n that is to find so many operands in front of its own
   pub record Finds (many : ℕ) (n : Exec) (older : List Active) (a : Active) : Type 0 where
@@ -76,23 +77,23 @@ module _ (p : Program) (source : Source) (told : Told) where
 
   -- one that waits for another, which may be a constructor of the object whose scope opens next
   abbrev pub WaitsAt : Exec → ℕ → Value → List Active → List Todo → Type 0
-  WaitsAt n f this older todo = AtDrop p source (Done n older) (Begun n this older) (Kept n f this) Every todo
+  WaitsAt n f this older todo = AtDrop p source (Done p told n older) (Begun p told n this older) (Kept p told n f this) Every todo
 
   abbrev pub Waits : Exec → List Active → Active → Type 0
   Waits n older a = Finds 1 n older a ⊎ WaitsAt n a.frame a.this older a.control
 
   -- who runs may stand before such a scope
   abbrev pub Standing : Exec → List Active → Active → Type 0
-  Standing n older a = Stands p source (Done n older) (Begun n a.this older) (Kept n a.frame a.this) (Kept n a.frame a.this) a.control
+  Standing n older a = Stands p source (Done p told n older) (Begun p told n a.this older) (Kept p told n a.frame a.this) (Kept p told n a.frame a.this) a.control
 
   -- or at the start or at the end of the building of its object
   abbrev pub Starting : Exec → List Active → Active → Type 0
-  Starting n older a = Starts p source (Done n older) (Begun n a.this older) (Kept n a.frame a.this) a.control
+  Starting n older a = Starts p source (Done p told n older) (Begun p told n a.this older) (Kept p told n a.frame a.this) a.control
 
   -- or before the call of a constructor for an object that is made
   abbrev pub Calls : Exec → List Active → Active → ℕ → List Todo → Type 0
   Calls n older a r todo = (x : ℕ) × (top (drop (params source r) a.operands) ≡ Object x) ×
-      AtDrop p source (Done n older) (Begun n a.this older) (Kept n a.frame a.this) (λ d e. ArePaired p r d × (EndsTask p d → IsFreeBut told x (seat n a.frame a.this e))) todo
+      AtDrop p source (Done p told n older) (Begun p told n a.this older) (Kept p told n a.frame a.this) (λ d e. ArePaired p r d × (EndsTask p d → IsFreeBut told x (seat n a.frame a.this e))) todo
 
   abbrev pub Calling : Exec → List Active → Active → List Todo → Type 0
   Calling n older a (piece.CallOnNow r ∷ todo) = Calls n older a r todo
@@ -120,7 +121,7 @@ module _ (p : Program) (source : Source) (told : Told) where
   pub record Spawning (n : Exec) (older : List Active) (a : Active) : Type 0 where
     pub marks : List Mark
     pub holds : Holds n a.frame a.this marks a.operands
-    pub ok : Ok p source (Done n older ⊎ Begun n a.this older) (Begun n a.this older) (Kept n a.frame a.this) marks a.control
+    pub ok : Ok p source (Done p told n older ⊎ Begun p told n a.this older) (Begun p told n a.this older) (Kept p told n a.frame a.this) marks a.control
 
   -- behind a request: so many operands come with the answer; behind an end and a fault nothing is done
   abbrev pub FindsBehind : Request → Exec → List Active → Active → Type 0
@@ -151,8 +152,8 @@ module _ (p : Program) (source : Source) (told : Told) where
   -- task waits
   abbrev pub FairAt : List Todo → State → Type 0
   FairAt (piece.BindMadeNow c r ∷ todo) s = Binds r s
-  FairAt (piece.Exit w ∷ []) s = Done s.env.exec s.callers
-  FairAt (piece.Unwind ∷ []) s = arrives s.run.raised (length s.callers) ≡ true → Done s.env.exec s.callers
+  FairAt (piece.Exit w ∷ []) s = Done p told s.env.exec s.callers
+  FairAt (piece.Unwind ∷ []) s = arrives s.run.raised (length s.callers) ≡ true → Done p told s.env.exec s.callers
   FairAt todo s = Unit {0}
 
   abbrev pub Fair : State → Type 0

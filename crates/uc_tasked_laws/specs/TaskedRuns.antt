@@ -6,6 +6,7 @@ use Rattle.uc_entry.specs.declared.entry.Entry.{Entry}
 use Rattle.uc_entry.specs.declared.entry.Options.{Options}
 use Rattle.uc_acts.specs.Journal.{Journal, is_over}
 use Rattle.uc_acts.specs.Known.{object_count, is_gone, owner}
+use Rattle.uc_acts.specs.Queues.{is_nobody}
 use Rattle.uc_acts.specs.KernelRuns.{InRange}
 use Rattle.uc_machine.specs.declared.exec.Exec.{Exec}
 use Rattle.uc_machine.specs.declared.exec.Home.TheVariants.{Task, Object}
@@ -22,10 +23,6 @@ use Rattle.uc_aside_laws.specs.OlderResting.{AllWait, NamedParked, NamedMembers,
 use Rattle.uc_tasked_laws.specs.Seated.{EndsTask}
 use Rattle.uc_tasked_laws.specs.Seats.{seat}
 use Rattle.uc_tasked_laws.specs.SeatedStates.{Told, Awaited, Kept, AllHave, Fair}
-
-abbrev pub is_nobody : List ℕ → Bool
-is_nobody [] = true
-is_nobody (t ∷ ts) = false
 
 -- whether an object has been made, is of no task, and is not gone
 abbrev pub is_pending : Journal → ℕ → Bool
@@ -97,10 +94,3 @@ LawTasked =
     RunFair p homes (source_of p) input opts j w r →
     RunMakesApart p homes (source_of p) input opts j w r →
     AreSeated p homes (source_of p) j w
-
--- so an object that has been made and is not gone, and is at home where a task is in scope, is of a task
-abbrev pub LawOwned : Type 0
-LawOwned =
-    (p : Program) (homes : ℕ → Value) (j : Journal) (n : Exec) (f : ℕ) (this : Value) (d : ℕ) (e : Expr) →
-    Kept p (told_by homes j) n f this d e → EndsTask p d → (o : ℕ) → o < object_count j → is_gone o j ≡ false →
-    homes o ≡ seat n f this e → owner o j ≡ [] → ⊥
