@@ -11,3 +11,4 @@ pub mod Telling
 pub mod Worlds
 pub mod SeatThings
 pub mod SeatsKept
+pub mod Aiming

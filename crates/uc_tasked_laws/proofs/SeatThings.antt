@@ -9,12 +9,11 @@ use Rattle.uc_machine.specs.Pieces as piece
 use Rattle.uc_machine.specs.Pieces.{Value, Todo, Active}
 use Rattle.uc_typing.specs.Typing.{Ty, Cell, Obj, Table, CleansAt}
 use Rattle.uc_sound.specs.Tables.{table_of}
-use Rattle.uc_aside_laws.specs.OlderResting.{AllWait}
 use Rattle.uc_life_laws.specs.Things.{AtVariable, AtField, NoBase, InTodo, InStack}
 use Rattle.uc_tasked_laws.specs.Seated.{EndsTask, OfScope, OfPart}
 use Rattle.uc_tasked_laws.specs.Seats.{seat}
 use Rattle.uc_tasked_laws.specs.SeatedStates.{Told, IsFree, AllHave, Kept}
-use Rattle.uc_tasked_laws.specs.TaskedRuns.{KeepsSeats}
+use Rattle.uc_tasked_laws.specs.TaskedRuns.{AllKeep}
 use Rattle.uc_tasked_laws.specs.TaskedLaws.{InScope, LawThings}
 
 module _ (p : Program) (told : Told) (i : ℕ) (tasks : (table_of p).tasks i ≡ true) where
@@ -49,10 +48,10 @@ module _ (p : Program) (told : Told) (i : ℕ) (tasks : (table_of p).tasks i ≡
     in_list w (piece.Part c ∷ todo) h (inr m) = in_list w todo h.1 m
     in_list w (x ∷ todo) h m = in_list w todo h.1 m
 
-  in_stack : (n : Exec) (w : Value) (cs : List Active) → AllWait (KeepsSeats p told) (KeepsSeats p told) n cs → InScope t n cs w (Cell (Obj i)) → IsFree told w
+  in_stack : (n : Exec) (w : Value) (cs : List Active) → AllKeep p told n cs → InScope t n cs w (Cell (Obj i)) → IsFree told w
   in_stack n w [] h m = absurd m
   in_stack n w (a ∷ cs) h (inl m) = in_list n a.frame a.this w a.control h.0 m
   in_stack n w (a ∷ cs) h (inr m) = in_stack n w cs h.1 m
 
 pub law_things : LawThings
-law_things p told s h i tasks w m = in_stack p told i tasks s.env.exec w (s.run ∷ s.callers) (h.run, h.callers) m
+law_things p told n cs h i tasks w m = in_stack p told i tasks n w cs h m

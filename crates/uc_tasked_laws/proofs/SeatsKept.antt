@@ -122,8 +122,7 @@ module _ (p : Program) (source : Source) (told : Told) where
 
   state_keeps : (s : State) → SeatedState p source told s → SeatsKept p told s
   state_keeps s h = record {
-    run = run_keeps s.env.exec s.callers s.run h.run;
-    callers = all_keep s.env.exec s.callers h.callers;
+    stack = (run_keeps s.env.exec s.callers s.run h.run, all_keep s.env.exec s.callers h.callers);
     env = record { house = parked_keep (home.Task s.env.own) s.env.house.parked h.env.house; hand = hand_keeps s.env.hand h.env.hand };
   }
 
@@ -142,6 +141,13 @@ law_tasked p formed accepted homes input opts range j w r f on fair far =
     let known : (n : ℕ) → CodeRoutine p (source_of p) (slice_get (source_of p).routines n) = code_of p formed accepted in
     let x = worlds.seated_run p known (spawning p formed accepted) homes input opts range r f fair far on in
     record {
+      tasks = λ n h.
+          let v : State = w.tasks n in
+          let m = x.tasks n in
+          record {
+            stack = (finds_keep p (source_of p) (told_by homes j) _ v.env.exec v.callers v.run (m.run h), all_keep p (source_of p) (told_by homes j) v.env.exec v.callers m.callers);
+            house = parked_keep p (source_of p) (told_by homes j) (home.Task v.env.own) v.env.house.parked m.house;
+          };
       comes = λ n s c m. state_keeps p (source_of p) (told_by homes j) s (worlds.state p known (spawning p formed accepted) homes input opts range (run_rests (source_of p) input opts range r f on) on x n s c m);
       homes_keep = λ o. members_keep p (source_of p) (told_by homes j) (home.Object o) (w.homes o) (x.homes o);
     }
@@ -155,7 +161,7 @@ owned j o x made there none =
 
 pub law_owned : LawOwned
 law_owned p formed accepted homes input opts range j w r f on fair far n s c m i o tasks at made there none =
-    owned j o (law_things p (told_by homes j) s ((law_tasked p formed accepted homes input opts range j w r f on fair far).comes n s c m) i tasks (homes o) at o refl) made there none
+    owned j o (law_things p (told_by homes j) s.env.exec (s.run ∷ s.callers) ((law_tasked p formed accepted homes input opts range j w r f on fair far).comes n s c m).stack i tasks (homes o) at o refl) made there none
 
 pub law_seated : LawSeated
 law_seated = record { seated = seated; spawns = λ p formed accepted. spawning p formed accepted }

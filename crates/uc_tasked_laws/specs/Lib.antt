@@ -4,3 +4,4 @@ pub mod SeatedStates
 pub mod TaskedRuns
 pub mod TaskedLaws
 pub mod OwnedRuns
+pub mod Aims

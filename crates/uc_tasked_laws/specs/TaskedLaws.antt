@@ -20,7 +20,7 @@ use Rattle.uc_aside_laws.specs.OlderResting.{AllWait, NamedEnv}
 use Rattle.uc_life_laws.specs.Things.{AtVariable, AtField, NoBase, InStack}
 use Rattle.uc_tasked_laws.specs.Seated.{SeatedSource, SpawnsSource}
 use Rattle.uc_tasked_laws.specs.SeatedStates.{Told, IsFree, Finds, Runs, Waits, SeatedState, SeatedRest, SeatedStep, Fair}
-use Rattle.uc_tasked_laws.specs.TaskedRuns.{SeatsKept}
+use Rattle.uc_tasked_laws.specs.TaskedRuns.{AllKeep, SeatsKept}
 
 -- in the source of every program each scope of a mutex object that is a variable, and each part that is one, stands behind the statement that makes
 -- it; and in that of one that breaks no rule what builds a task lets it begin at its end
@@ -51,5 +51,5 @@ InScope t n cs w a = InStack (AtVariable t) (AtField t) NoBase n cs w a
 -- so who is at home where a task is among these is not pending
 abbrev pub LawThings : Type 0
 LawThings =
-    (p : Program) (told : Told) (s : State) → SeatsKept p told s → (i : ℕ) → (table_of p).tasks i ≡ true → (w : Value) →
-    InScope (table_of p) s.env.exec (s.run ∷ s.callers) w (Cell (Obj i)) → IsFree told w
+    (p : Program) (told : Told) (n : Exec) (cs : List Active) → AllKeep p told n cs →
+    (i : ℕ) → (table_of p).tasks i ≡ true → (w : Value) → InScope (table_of p) n cs w (Cell (Obj i)) → IsFree told w

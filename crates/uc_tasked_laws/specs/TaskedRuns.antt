@@ -5,7 +5,7 @@ use Rattle.uc_tree.specs.Source.{Expr, Source}
 use Rattle.uc_entry.specs.declared.entry.Entry.{Entry}
 use Rattle.uc_entry.specs.declared.entry.Options.{Options}
 use Rattle.uc_acts.specs.Journal.{Journal, is_over}
-use Rattle.uc_acts.specs.Known.{object_count, is_gone, owner}
+use Rattle.uc_acts.specs.Known.{object_count, has_ended, is_gone, owner}
 use Rattle.uc_acts.specs.Queues.{is_nobody}
 use Rattle.uc_acts.specs.KernelRuns.{InRange}
 use Rattle.uc_machine.specs.declared.exec.Exec.{Exec}
@@ -70,14 +70,23 @@ module _ (p : Program) (told : Told) where
   abbrev pub KeepsSeats : Exec → List Active → Active → Type 0
   KeepsSeats n older a = AllHave (Kept p told n a.frame a.this) a.control
 
+  -- of an execution, its newest activation first
+  abbrev pub AllKeep : Exec → List Active → Type 0
+  AllKeep n cs = AllWait KeepsSeats KeepsSeats n cs
+
   pub record SeatsKept (s : State) : Type 0 where
-    pub run : KeepsSeats s.env.exec s.callers s.run
-    pub callers : AllWait KeepsSeats KeepsSeats s.env.exec s.callers
+    pub stack : AllKeep s.env.exec (s.run ∷ s.callers)
     pub env : NamedEnv KeepsSeats KeepsSeats s.env
 
--- of whoever runs in each state to which it comes before it asks, as far as each step on the way found what it was to find, and of what is at
--- home in each object
+  -- of a task at rest, but for what is at home in objects
+  pub record RestKept (s : State) : Type 0 where
+    pub stack : AllKeep s.env.exec (s.run ∷ s.callers)
+    pub house : NamedParked KeepsSeats KeepsSeats (Task s.env.own) s.env.house.parked
+
+-- of each task at rest that has not ended, of what is at home in each object, and of whoever runs in each state to which it comes before it asks,
+-- as far as each step on the way found what it was to find
 pub record AreSeated (p : Program) (homes : ℕ → Value) (source : Source) (j : Journal) (w : World) : Type 0 where
+  pub tasks : (n : ℕ) → has_ended n j ≡ false → RestKept p (told_by homes j) (w.tasks n)
   pub comes : (n : ℕ) (s : State) (c : Comes source j w n s) →
       LeadsMeet (Fair p source (told_by homes j)) source (answered source c.given (drawn j w n)) s c.leads →
       SeatsKept p (told_by homes j) s

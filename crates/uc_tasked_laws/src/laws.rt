@@ -1,5 +1,6 @@
 // The laws: each is a function whose contract is the law.
 
+ghost use Rattle.uc_tasked_laws.specs.Aims.{LawAimed};
 ghost use Rattle.uc_tasked_laws.specs.OwnedRuns.{LawOwned};
 ghost use Rattle.uc_tasked_laws.specs.TaskedLaws.{LawSeated, LawSteps, LawThings};
 ghost use Rattle.uc_tasked_laws.specs.TaskedRuns.{LawTasked};
@@ -35,4 +36,10 @@ pub fn law_tasked()
 /// a task.
 pub fn law_owned()
     ensures { LawOwned }
+{}
+
+/// Where all is known, an event is raised at a task, known by its number, that is at home in what the execution
+/// has at hand, or is itself what the execution has of others, or is being built or destroyed by it.
+pub fn law_aimed()
+    ensures { LawAimed }
 {}
