@@ -14,7 +14,7 @@ use Rattle.uc_machine.specs.Pieces.{Todo, Sort}
 use Rattle.uc_event_laws.specs.Counted.{params, count, CountedExpr, CountedMaybe, CountedItem, CountedClean, CountedRaised, CountedAt}
 use Rattle.uc_aside_laws.proofs.Keeping.{either}
 use Rattle.uc_tasked_laws.specs.Seated.{IsSpawning}
-use Rattle.uc_tasked_laws.specs.Seats.{Mark, Any, At, rest, rests, anys, AtEnd, CalledAt, CalledBy, CodeStmt, CodeBlock, CodeHandlers, CodeClauses, LeftBy, Ok, AtDrop, AtCall, Left}
+use Rattle.uc_tasked_laws.specs.Seats.{Mark, Any, At, rest, rests, anys, AtEnd, CalledAt, CalledBy, CodeStmt, CodeBlock, CodeHandlers, CodeClauses, QuitsBy, Quits, QuitsAt, LeftBy, Ok, AtDrop, AtCall, Left}
 use Rattle.uc_tasked_laws.proofs.Marks as marks
 use Rattle.uc_tasked_laws.proofs.Marks.{rests_anys}
 
@@ -52,8 +52,15 @@ module _ (g : Program) (source : Source) where
     behind src.Function line d = (tt, (tt, d))
     behind src.Builder line d = d
 
+    quits_behind : (p : Purpose) (line : ℕ) → D → Quits g source D B S (quiet.behind_body p line)
+    quits_behind src.TaskMain line d = d
+    quits_behind src.CoroutineMain line d = d
+    quits_behind src.Procedure line d = d
+    quits_behind src.Function line d = d
+    quits_behind src.Builder line d = d
+
     pub routine : (r : Routine) → D → CodeBlock g source r.body → Ok g source D B S [] (quiet.routine_todo r)
-    routine r d h = (h, behind r.purpose r.line d)
+    routine r d h = (h, behind r.purpose r.line d, inr (quits_behind r.purpose r.line d))
 
     -- what is known of a mark that is left
     pub hit_by : (k : Sort) (n : ℕ) (e : raising.Event) (other : Option Hit) (ps : List Todo) (l o : Type 0) → LeftBy g source D B S k ps l o → OfHit other → OfHit (raising.hit_by k n e other)
@@ -85,37 +92,37 @@ module _ (g : Program) (source : Source) where
     stepped None todo n h = h
     stepped (Some e) todo n h = (n, inl (tt, h))
 
-    pub turned : (o : Order) (t : Expr) (e : Option Expr) (b : Stmt) (todo : List Todo) → CountedExpr source t → CountedMaybe source e → CodeStmt g source b → Ok g source D B S [] todo → Ok g source D B S [] (quiet.test_todo o t e b todo)
-    turned src.TestFirst t e b todo k l m h = (k, inl ((k, l, m), h))
-    turned src.BodyFirst t e b todo k l m h = (k, inl ((k, l, m), h))
-    turned src.NoTest t e b todo k l m h = ((k, l, m), h)
+    pub turned : (o : Order) (t : Expr) (e : Option Expr) (b : Stmt) (todo : List Todo) → CountedExpr source t → CountedMaybe source e → CodeStmt g source b → Ok g source D B S [] todo → Quits g source D B S todo → Ok g source D B S [] (quiet.test_todo o t e b todo)
+    turned src.TestFirst t e b todo k l m h q = (k, inl ((k, l, m), h, q))
+    turned src.BodyFirst t e b todo k l m h q = (k, inl ((k, l, m), h, q))
+    turned src.NoTest t e b todo k l m h q = ((k, l, m), h, q)
 
-    pub looped : (o : Order) (t : Expr) (e : Option Expr) (b : Stmt) (todo : List Todo) → CountedExpr source t → CountedMaybe source e → CodeStmt g source b → Ok g source D B S [] todo → Ok g source D B S [] (quiet.loop_todo o t e b todo)
-    looped src.TestFirst t e b todo k l m h = (k, inl ((k, l, m), h))
-    looped src.BodyFirst t e b todo k l m h = ((k, l, m), h)
-    looped src.NoTest t e b todo k l m h = ((k, l, m), h)
+    pub looped : (o : Order) (t : Expr) (e : Option Expr) (b : Stmt) (todo : List Todo) → CountedExpr source t → CountedMaybe source e → CodeStmt g source b → Ok g source D B S [] todo → Quits g source D B S todo → Ok g source D B S [] (quiet.loop_todo o t e b todo)
+    looped src.TestFirst t e b todo k l m h q = (k, inl ((k, l, m), h, q))
+    looped src.BodyFirst t e b todo k l m h q = ((k, l, m), h, q)
+    looped src.NoTest t e b todo k l m h q = ((k, l, m), h, q)
 
-    pub loop_left : (w : Way) (o : Order) (t : Expr) (e : Option Expr) (b : Stmt) (todo : List Todo) → CountedExpr source t × CountedMaybe source e × CodeStmt g source b → Ok g source D B S [] todo → Ok g source D B S [] (quiet.loop_left w o t e b todo)
-    loop_left src.ToBreak o t e b todo n h = h
-    loop_left src.ToContinue o t e b todo n h = (n, h)
-    loop_left src.ToReturn o t e b todo n h = marks.left g source D B S [] todo h
-    loop_left src.ToEnd o t e b todo n h = marks.left g source D B S [] todo h
+    pub quits_at : (c : CleanUp) (todo : List Todo) → Quits g source D B S todo → QuitsAt g source D B S c todo
+    quits_at src.Leaves todo q = q
+    quits_at c todo q = tt
 
-    clean_behind : (w : Way) (c : CleanUp) (todo : List Todo) → Ok g source D B S [] todo ⊎ (B × IsSpawning c × AtEnd todo) → Left g source D B S todo ⊎ (B × IsSpawning c × AtEnd todo)
-    clean_behind w c todo (inl h) = inl (marks.left g source D B S [] todo h)
-    clean_behind w c todo (inr h) = inr h
+    pub loop_left : (w : Way) (o : Order) (t : Expr) (e : Option Expr) (b : Stmt) (todo : List Todo) → CountedExpr source t × CountedMaybe source e × CodeStmt g source b → Ok g source D B S [] todo → Quits g source D B S todo → Ok g source D B S [] (quiet.loop_left w o t e b todo)
+    loop_left src.ToBreak o t e b todo n h q = h
+    loop_left src.ToContinue o t e b todo n h q = (n, h, q)
+    loop_left src.ToReturn o t e b todo n h q = (marks.left g source D B S [] todo h, q)
+    loop_left src.ToEnd o t e b todo n h q = (marks.left g source D B S [] todo h, q)
 
-    pub left_behind : (w : Way) (k : Sort) (todo : List Todo) → LeftBy g source D B S k todo (Left g source D B S todo) (Ok g source D B S [] todo) → Ok g source D B S [] (quiet.left_behind w k todo)
-    left_behind w piece.Simple todo h = h
-    left_behind w (piece.IsLoop o t e b) todo h = loop_left w o t e b todo h.0 h.1
-    left_behind w piece.IsWhole todo h = h
-    left_behind w (piece.IsClean c) todo h = (h.0, clean_behind w c todo h.1)
-    left_behind w (piece.IsFill m b d) todo h = marks.left g source D B S [] todo h.1
-    left_behind w (piece.IsSweep e) todo h = marks.left g source D B S [] todo h.1
-    left_behind w (piece.IsPart c) todo h = marks.left g source D B S [] todo h.1
-    left_behind w (piece.IsGuard hs) todo h = marks.left g source D B S [] todo h.1
-    left_behind w piece.IsFinish todo h = h
-    left_behind w piece.IsFinishCoroutine todo h = (tt, h)
+    pub left_behind : (w : Way) (k : Sort) (todo : List Todo) → LeftBy g source D B S k todo (Left g source D B S todo) (Ok g source D B S [] todo) → QuitsBy k (Quits g source D B S todo) → Ok g source D B S [] (quiet.left_behind w k todo)
+    left_behind w piece.Simple todo h q = (h, q)
+    left_behind w (piece.IsLoop o t e b) todo h q = loop_left w o t e b todo h.0 h.1 q
+    left_behind w piece.IsWhole todo h q = h
+    left_behind w (piece.IsClean c) todo h q = (h.0, inl (marks.clean_tail g source D B S c todo h.1, q), quits_at c (piece.Exit w ∷ todo) q)
+    left_behind w (piece.IsFill m b d) todo h q = (marks.left g source D B S [] todo h.1, q)
+    left_behind w (piece.IsSweep e) todo h q = (marks.left g source D B S [] todo h.1, q)
+    left_behind w (piece.IsPart c) todo h q = (marks.left g source D B S [] todo h.1, q)
+    left_behind w (piece.IsGuard hs) todo h q = (marks.left g source D B S [] todo h.1, q)
+    left_behind w piece.IsFinish todo h q = h
+    left_behind w piece.IsFinishCoroutine todo h q = (tt, h)
 
     pub filled : (b : Bool) (n : ℕ) (e d : Expr) (todo : List Todo) → CountedExpr source e × CountedExpr source d → Ok g source D B S [] todo → Ok g source D B S [] (quiet.fill_todo b n e d todo)
     filled false n e d todo k h = h
@@ -132,8 +139,8 @@ module _ (g : Program) (source : Source) where
     counted_at (src.BuiltAt n c e) h = h.1
     counted_at (src.AgainFrom c) h = tt
 
-    pub handled : (x : Handler) (todo : List Todo) → CodeBlock g source x.body → Ok g source D B S [] todo → Ok g source D B S [] (raising.handler_todo x todo)
-    handled x todo k h = (tt, (tt, (tt, (tt, (tt, (tt, (k, (tt, h))))))))
+    pub handled : (x : Handler) (todo : List Todo) → CodeBlock g source x.body → Ok g source D B S [] todo → Quits g source D B S todo → Ok g source D B S [] (raising.handler_todo x todo)
+    handled x todo k h q = (tt, (tt, (tt, (tt, (tt, (tt, (k, (tt, h), inr q)))))))
 
     pub cleans : (c : CleanUp) (todo : List Todo) → CountedClean source c → Ok g source D B S [] todo → Ok g source D B S [] (piece.clean_todo c todo)
     cleans (src.Destroys e) todo n h = (n, inl (tt, h))
@@ -150,12 +157,12 @@ module _ (g : Program) (source : Source) where
     left_cleans (src.Frees r) todo n h = (tt, h)
     left_cleans c todo n h = cleans c todo n h
 
-    pub branch : (k : ℕ) (cs : Clauses) (todo : List Todo) → CodeClauses g source cs → Ok g source D B S [] todo → Ok g source D B S [] (monitors.branch_todo k cs todo)
-    branch k src.NoClauses todo n h = h
-    branch k (src.Otherwise b) todo n h = either (Ok g source D B S []) (nat_eq k 0) (piece.Do b ∷ todo) todo (n, inl h) h
-    branch zero (src.MoreClauses guard b cs) todo n h = branch zero cs todo (n.0.2, n.1.1) h
-    branch (suc zero) (src.MoreClauses guard b cs) todo n h = ((n.0.1, n.1.0), inl h)
-    branch (suc (suc k)) (src.MoreClauses guard b cs) todo n h = branch (suc k) cs todo (n.0.2, n.1.1) h
+    pub branch : (k : ℕ) (cs : Clauses) (todo : List Todo) → CodeClauses g source cs → Ok g source D B S [] todo → Quits g source D B S todo → Ok g source D B S [] (monitors.branch_todo k cs todo)
+    branch k src.NoClauses todo n h q = h
+    branch k (src.Otherwise b) todo n h q = either (Ok g source D B S []) (nat_eq k 0) (piece.Do b ∷ todo) todo (n, inl h, inr q) h
+    branch zero (src.MoreClauses guard b cs) todo n h q = branch zero cs todo (n.0.2, n.1.1) h q
+    branch (suc zero) (src.MoreClauses guard b cs) todo n h q = ((n.0.1, n.1.0), inl h, inr q)
+    branch (suc (suc k)) (src.MoreClauses guard b cs) todo n h q = branch (suc k) cs todo (n.0.2, n.1.1) h q
 
     pub item : (i : Item) (todo : List Todo) → CountedItem source i → Ok g source D B S [] todo → Ok g source D B S [] (quiet.item_todo i todo)
     item (src.Show f e) todo n h = (n, inl (tt, h))

@@ -4,10 +4,10 @@ use Rattle.uc_tree.specs.Programs.{Program}
 use Rattle.uc_tree.specs.Source as src
 use Rattle.uc_tree.specs.Source.{Expr, CleanUp, Source}
 use Rattle.uc_machine.specs.Pieces as piece
-use Rattle.uc_machine.specs.Pieces.{Todo}
+use Rattle.uc_machine.specs.Pieces.{Todo, Sort}
 use Rattle.uc_event_laws.specs.Counted.{params}
-use Rattle.uc_tasked_laws.specs.Seated.{IsSpawning, OfScope, OfPart, Makes, Before}
-use Rattle.uc_tasked_laws.specs.Seats.{Mark, Any, At, rest, rests, anys, Placed, Every, AtEnd, CalledBy, after, Ok, AtRest, AtDrop, AtCall, Left}
+use Rattle.uc_tasked_laws.specs.Seated.{IsSpawning, IsTame, AreTame, OfScope, OfPart, Makes, Before}
+use Rattle.uc_tasked_laws.specs.Seats.{QuitsBy, Quits, QuitsAt, Mark, Any, At, rest, rests, anys, Placed, Every, AtEnd, CalledBy, after, Ok, AtRest, AtDrop, AtCall, Left}
 use Rattle.uc_tasked_laws.specs.SeatedStates.{MarkHas, AllHave}
 use Rattle.uc_tasked_laws.proofs.Marks.{scope_both, part_both, rest_more, drop_more, call_more}
 
@@ -44,7 +44,7 @@ module _ (p : Program) (source : Source) (D B : Type 0) (S : ℕ → Expr → Ty
 
   -- the scope that may open next is the same
   rest_join : (P : ℕ → Expr → Type 0) (todo : List Todo) → AtRest p source D B S P todo → AtRest p source D2 B2 S2 Every todo → AtRest p source D2 B2 S2 P todo
-  rest_join P (piece.Rest ss ∷ todo) h k = (h.0, k.1)
+  rest_join P (piece.Rest ss ∷ todo) h k = (h.0, k.1, k.2)
   rest_join P todo h k = absurd h
 
   drop_join : (P : ℕ → Expr → Type 0) (todo : List Todo) → AtDrop p source D B S P todo → AtDrop p source D2 B2 S2 Every todo → AtDrop p source D2 B2 S2 P todo
@@ -56,6 +56,31 @@ module _ (p : Program) (source : Source) (D B : Type 0) (S : ℕ → Expr → Ty
   call_join r P (piece.CallUnwrittenNow q ∷ todo) h k = (h.0, drop_join P todo h.1 k.1)
   call_join r P todo h k = absurd h
 
+  by_sort : (k : Sort) (X Y : Type 0) → (X → Y) → QuitsBy k X → QuitsBy k Y
+  by_sort piece.IsWhole X Y f h = tt
+  by_sort piece.Simple X Y f h = f h
+  by_sort (piece.IsLoop o t e b) X Y f h = f h
+  by_sort (piece.IsClean c) X Y f h = f h
+  by_sort (piece.IsFill n b d) X Y f h = f h
+  by_sort (piece.IsSweep e) X Y f h = f h
+  by_sort (piece.IsPart c) X Y f h = f h
+  by_sort (piece.IsGuard hs) X Y f h = f h
+  by_sort piece.IsFinish X Y f h = f h
+  by_sort piece.IsFinishCoroutine X Y f h = f h
+
+  quits_more : (todo : List Todo) → Quits p source D B S todo → Quits p source D2 B2 S2 todo
+  quits_more [] h = done h
+  quits_more (x ∷ todo) h = by_sort (piece.sort x) (Quits p source D B S todo) (Quits p source D2 B2 S2 todo) (λ k. quits_more todo k) h
+
+  at_more : (c : CleanUp) (todo : List Todo) → QuitsAt p source D B S c todo → QuitsAt p source D2 B2 S2 c todo
+  at_more src.Leaves todo h = quits_more todo h
+  at_more c todo h = tt
+
+  -- of statements that are tame, or may be left
+  or_more : (X : Type 0) (todo : List Todo) → X ⊎ Quits p source D B S todo → X ⊎ Quits p source D2 B2 S2 todo
+  or_more X todo (inl h) = inl h
+  or_more X todo (inr h) = inr (quits_more todo h)
+
   mutual
     pub ok_more : (ms : List Mark) (todo : List Todo) → More todo → Ok p source D B S ms todo → Ok p source D2 B2 S2 ms todo
     ok_more ms [] a h = done h
@@ -66,19 +91,25 @@ module _ (p : Program) (source : Source) (D B : Type 0) (S : ℕ → Expr → Ty
     ok_more ms (piece.BindMadeNow c r ∷ todo) a h =
         either_more (Ok p source D B S (anys (suc (params source r)) (rests (suc (params source r)) (rest ms))) todo) (AtCall p source D B S r (CalledBy p r (rests (params source r) (rest ms))) todo) (Ok p source D2 B2 S2 (anys (suc (params source r)) (rests (suc (params source r)) (rest ms))) todo) (AtCall p source D2 B2 S2 r (CalledBy p r (rests (params source r) (rest ms))) todo) (λ x. ok_more (anys (suc (params source r)) (rests (suc (params source r)) (rest ms))) todo a.1 x) (λ x. call_join r (CalledBy p r (rests (params source r) (rest ms))) todo x (call_ok r todo a.1 (call_more p source D B S r (CalledBy p r (rests (params source r) (rest ms))) Every (λ d q z. tt) todo x))) h
     ok_more ms (piece.Do y ∷ todo) a h =
-        (h.0, either_more (Ok p source D B S [] todo) (AtRest p source D B S (Before p y) todo) (Ok p source D2 B2 S2 [] todo) (AtRest p source D2 B2 S2 (Before p y) todo) (λ x. ok_more [] todo a.1 x) (λ x. rest_join (Before p y) todo x (rest_ok todo a.1 (rest_more p source D B S (Before p y) Every (λ d q z. tt) todo x))) h.1)
-    ok_more ms (piece.Rest ss ∷ todo) a h = (h.0, ok_more [] todo a.1 h.1)
-    ok_more ms (piece.Exit w ∷ todo) a h = left_ok todo a.1 h
+        (h.0, either_more (Ok p source D B S [] todo) (AtRest p source D B S (Before p y) todo) (Ok p source D2 B2 S2 [] todo) (AtRest p source D2 B2 S2 (Before p y) todo) (λ x. ok_more [] todo a.1 x) (λ x. rest_join (Before p y) todo x (rest_ok todo a.1 (rest_more p source D B S (Before p y) Every (λ d q z. tt) todo x))) h.1, or_more (IsTame y) todo h.2)
+    ok_more ms (piece.Rest ss ∷ todo) a h = (h.0, ok_more [] todo a.1 h.1, or_more (AreTame ss) todo h.2)
+    ok_more ms (piece.Branch b c ∷ todo) a h = (h.0, ok_more [] todo a.1 h.1, quits_more todo h.2)
+    ok_more ms (piece.TurnNow o t e b ∷ todo) a h = (h.0, ok_more [] todo a.1 h.1, quits_more todo h.2)
+    ok_more ms (piece.Again o t e b ∷ todo) a h = (h.0, ok_more [] todo a.1 h.1, quits_more todo h.2)
+    ok_more ms (piece.InLoop o t e b ∷ todo) a h = (h.0, ok_more [] todo a.1 h.1, quits_more todo h.2)
+    ok_more ms (piece.ChooseNow cs ∷ todo) a h = (h.0, ok_more [] todo a.1 h.1, quits_more todo h.2)
+    ok_more ms (piece.Guard hs ∷ todo) a h = (h.0, ok_more [] todo a.1 h.1, quits_more todo h.2)
+    ok_more ms (piece.Exit w ∷ todo) a h = (left_ok todo a.1 h.0, quits_more todo h.1)
     ok_more ms (piece.Unwind ∷ todo) a h = left_ok todo a.1 h
     ok_more ms (piece.Clean c ∷ todo) a h =
-        ((h.0.0, scope_both (λ d e. S d e → S2 d e) S S2 (λ d e f x. f x) c a.0 h.0.1), either_more (Ok p source D B S [] todo) (B × IsSpawning c × AtEnd todo) (Ok p source D2 B2 S2 [] todo) (B2 × IsSpawning c × AtEnd todo) (λ x. ok_more [] todo a.1 x) (λ x. (begun x.0, x.1, x.2)) h.1)
+        ((h.0.0, scope_both (λ d e. S d e → S2 d e) S S2 (λ d e f x. f x) c a.0 h.0.1), either_more (Ok p source D B S [] todo) (B × IsSpawning c × AtEnd todo) (Ok p source D2 B2 S2 [] todo) (B2 × IsSpawning c × AtEnd todo) (λ x. ok_more [] todo a.1 x) (λ x. (begun x.0, x.1, x.2)) h.1, at_more c todo h.2)
     ok_more ms (piece.Part c ∷ todo) a h =
         ((h.0.0, part_both (λ d e. S d e → S2 d e) S S2 (λ d e f x. f x) c a.0 h.0.1), ok_more [] todo a.1 h.1)
     ok_more ms (piece.Finish ∷ todo) a h = (done h.0, ok_more [] todo a.1 h.1)
     ok_more ms (x ∷ todo) a h = (h.0, ok_more (after source x ms) todo a.1 h.1)
 
     rest_ok : (todo : List Todo) → More todo → AtRest p source D B S Every todo → AtRest p source D2 B2 S2 Every todo
-    rest_ok (piece.Rest ss ∷ todo) a h = (h.0, ok_more [] todo a.1 h.1)
+    rest_ok (piece.Rest ss ∷ todo) a h = (h.0, ok_more [] todo a.1 h.1, or_more (AreTame ss) todo h.2)
     rest_ok todo a h = absurd h
 
     pub drop_ok : (todo : List Todo) → More todo → AtDrop p source D B S Every todo → AtDrop p source D2 B2 S2 Every todo
@@ -95,12 +126,12 @@ module _ (p : Program) (source : Source) (D B : Type 0) (S : ℕ → Expr → Ty
     left_ok (piece.InLoop o t e b ∷ todo) a h = (h.0, ok_more [] todo a.1 h.1)
     left_ok (piece.InWhole ∷ todo) a h = ok_more [] todo a.1 h
     left_ok (piece.Clean c ∷ todo) a h =
-        ((h.0.0, scope_both (λ d e. S d e → S2 d e) S S2 (λ d e f x. f x) c a.0 h.0.1), either_more (Ok p source D B S [] todo) (B × IsSpawning c × AtEnd todo) (Ok p source D2 B2 S2 [] todo) (B2 × IsSpawning c × AtEnd todo) (λ x. ok_more [] todo a.1 x) (λ x. (begun x.0, x.1, x.2)) h.1)
+        ((h.0.0, scope_both (λ d e. S d e → S2 d e) S S2 (λ d e f x. f x) c a.0 h.0.1), either_more (Ok p source D B S [] todo) (B × IsSpawning c × AtEnd todo) (Ok p source D2 B2 S2 [] todo) (B2 × IsSpawning c × AtEnd todo) (λ x. ok_more [] todo a.1 x) (λ x. (begun x.0, x.1, x.2)) h.1, at_more c todo h.2)
     left_ok (piece.FillNow n b d ∷ todo) a h = (h.0, ok_more [] todo a.1 h.1)
     left_ok (piece.Sweep e ∷ todo) a h = (h.0, ok_more [] todo a.1 h.1)
     left_ok (piece.Part c ∷ todo) a h =
         ((h.0.0, part_both (λ d e. S d e → S2 d e) S S2 (λ d e f x. f x) c a.0 h.0.1), ok_more [] todo a.1 h.1)
-    left_ok (piece.Guard hs ∷ todo) a h = (h.0, ok_more [] todo a.1 h.1)
+    left_ok (piece.Guard hs ∷ todo) a h = (h.0, ok_more [] todo a.1 h.1, quits_more todo h.2)
     left_ok (piece.Finish ∷ todo) a h = (done h.0, ok_more [] todo a.1 h.1)
     left_ok (piece.FinishCoroutine ∷ todo) a h = ok_more [] todo a.1 h
     left_ok (x ∷ todo) a h = left_ok todo a.1 h

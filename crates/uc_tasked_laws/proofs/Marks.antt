@@ -83,7 +83,7 @@ module _ (P Q R : ℕ → Expr → Type 0) (f : (d : ℕ) (e : Expr) → P d e �
 
 module _ (p : Program) (source : Source) (D B : Type 0) (K : ℕ → Expr → Type 0) where
   pub rest_more : (P Q : ℕ → Expr → Type 0) → ((d : ℕ) (e : Expr) → P d e → Q d e) → (todo : List Todo) → AtRest p source D B K P todo → AtRest p source D B K Q todo
-  rest_more P Q f (piece.Rest ss ∷ todo) h = ((opens_more P Q f ss h.0.0, h.0.1), h.1)
+  rest_more P Q f (piece.Rest ss ∷ todo) h = ((opens_more P Q f ss h.0.0, h.0.1), h.1, h.2)
   rest_more P Q f todo h = absurd h
 
   pub drop_more : (P Q : ℕ → Expr → Type 0) → ((d : ℕ) (e : Expr) → P d e → Q d e) → (todo : List Todo) → AtDrop p source D B K P todo → AtDrop p source D B K Q todo
@@ -121,12 +121,10 @@ module _ (p : Program) (source : Source) (D B : Type 0) (K : ℕ → Expr → Ty
   -- who leaves all comes to its end
   pub end_left : (todo : List Todo) → AtEnd todo → Left p source D B K todo
   end_left [] h = tt
-  end_left (piece.Exit w ∷ todo) h = end_left todo h
   end_left todo h = absurd h
 
   pub end_ok : (ms : List Mark) (todo : List Todo) → AtEnd todo → D → Ok p source D B K ms todo
   end_ok ms [] h d = d
-  end_ok ms (piece.Exit w ∷ todo) h d = end_left todo h
   end_ok ms todo h d = absurd h
 
   mutual
@@ -140,9 +138,9 @@ module _ (p : Program) (source : Source) (D B : Type 0) (K : ℕ → Expr → Ty
         either_call (Ok p source D B K (anys (suc (params source r)) (rests (suc (params source r)) (rest ms))) todo) (AtCall p source D B K r (CalledBy p r (rests (params source r) (rest ms))) todo) (Left p source D B K todo) (λ x. left (anys (suc (params source r)) (rests (suc (params source r)) (rest ms))) todo x) (λ x. left_call r todo (call_more r (CalledBy p r (rests (params source r) (rest ms))) Every (λ d e y. tt) todo x)) h
     left ms (piece.Do a ∷ todo) h =
         either_call (Ok p source D B K [] todo) (AtRest p source D B K (Before p a) todo) (Left p source D B K todo) (λ x. left [] todo x) (λ x. left_rest todo (rest_more (Before p a) Every (λ d e y. tt) todo x)) h.1
-    left ms (piece.Exit w ∷ todo) h = h
+    left ms (piece.Exit w ∷ todo) h = h.0
     left ms (piece.Unwind ∷ todo) h = h
-    left ms (piece.InLoop o t e b ∷ todo) h = h
+    left ms (piece.InLoop o t e b ∷ todo) h = (h.0, h.1)
     left ms (piece.InWhole ∷ todo) h = h.1
     left ms (piece.Clean c ∷ todo) h = h
     left ms (piece.FillNow n b d ∷ todo) h = h

@@ -1,5 +1,5 @@
 -- What builds a task lets it begin at its end, in each program that breaks no rule.
-use Rattle.std.proofs.Common.{◌≡◌, ℕ, ◌+◌, ◌⊎◌, inl, inr, Bool, true, false, List, [], ◌∷◌, Option, Some, None, refl, sym, ap, ◌∙◌, subst}
+use Rattle.std.proofs.Common.{◌≡◌, ℕ, suc, ◌+◌, ◌⊎◌, inl, inr, Bool, true, false, List, [], ◌∷◌, Option, Some, None, refl, sym, ap, ◌∙◌, subst}
 use Rattle.std.specs.Prelude.{slice_get, if◌then◌else◌}
 use Rattle.uc_tree.specs.declared.kinds.Base.{Base}
 use Rattle.uc_tree.specs.declared.kinds.Base.TheVariants as base
@@ -9,12 +9,14 @@ use Rattle.uc_tree.specs.declared.kinds.Role.{Role}
 use Rattle.uc_tree.specs.declared.kinds.Role.TheVariants as role
 use Rattle.uc_tree.specs.Names.{same_name}
 use Rattle.uc_tree.specs.Numbering.{Defined, is_event, is_mutex, is_plain, routines_of}
-use Rattle.uc_tree.specs.Cells.{classes_of, object_of_kind, object_named}
-use Rattle.uc_tree.specs.Objects.{AMutex, making_by, making, is_task, class_at, written_at, unwritten_of}
+use Rattle.uc_tree.specs.Cells.{classes_of, leading_cells, object_of_kind, object_named}
+use Rattle.uc_tree.specs.Objects.{Making, AMutex, making_by, making, ClassField, fields_of, has_execution, class_shape, is_task, class_at, written_at, unwritten_of}
 use Rattle.uc_tree.specs.Programs as whole
 use Rattle.uc_tree.specs.Programs.{Class, Program}
 use Rattle.uc_tree.specs.Source as src
-use Rattle.uc_tree.specs.Source.{Source, Stmts, Purpose, Routine}
+use Rattle.uc_tree.specs.Source.{Expr, Source, Stmts, Purpose, Routine}
+use Rattle.uc_resolve.specs.Standings as tree
+use Rattle.uc_resolve.specs.Standings.{Meant}
 use Rattle.uc_resolve.specs.Resolve as meaning
 use Rattle.uc_resolve.specs.Resolve.{Scope, source_of, place_by}
 use Rattle.uc_rules.specs.declared.rules.Sort.{Sort}
@@ -31,7 +33,7 @@ use Rattle.uc_sound.proofs.ClassLemmas.{mutex_is, law_told}
 use Rattle.uc_sound.proofs.DeclaringLemmas.{made_kind, made}
 use Rattle.uc_sound.proofs.ObjectLemmas.{Making_is, made_told}
 use Rattle.uc_sound.proofs.SoundLemmas.{law_sound}
-use Rattle.uc_tasked_laws.specs.Seated.{role_number, number_of, ArePaired, EndsTask, Begins, SpawnsBy, SpawnsSource}
+use Rattle.uc_tasked_laws.specs.Seated.{role_number, number_of, ArePaired, EndsTask, IsTame, AreTame, Begins, SpawnsBy, SpawnsSource}
 
 -- what is made of a sort
 
@@ -105,27 +107,63 @@ unwritten_role role.Destructor false e = absurd (cc)
 unwritten_role role.Plain b e = absurd (cc)
 
 module _ (p : Program) where
-  -- the building of a task begins with its scope
-  freed : (k : Kind) (i : ℕ) (rest : Stmts) → is_task k ≡ true → Begins (meaning.freed p k i rest)
-  freed kind.Task i rest h = tt
-  freed kind.Monitor i rest h = absurd (cc)
-  freed kind.Cormonitor i rest h = absurd (cc)
-  freed kind.Class i rest h = absurd (cc)
-  freed kind.Coroutine i rest h = absurd (cc)
-  freed kind.Event i rest h = absurd (cc)
+  -- what builds fields, and what stands behind the body
 
-  constructed : (c : Option Class) (i : ℕ) (inits : List whole.Init) (s : Scope) (body : Stmts) → of_kind is_task c ≡ true → Begins (meaning.construction p c i inits s body)
-  constructed None i inits s body h = absurd (cc)
-  constructed (Some c) i inits s body h = freed c.kind i _ h
+  built : (line : ℕ) (m : Making) (len : Option ℕ) (place : Expr) (args : List Meant) → IsTame (meaning.build p line m len place args)
+  built line m None place args = tt
+  built line m (Some n) place args = tt
+
+  field_started : (f : ClassField) (place : Expr) (args : List Meant) (rest : Stmts) → AreTame rest → AreTame (meaning.field_started p f place args rest)
+  field_started f place [] rest h = h
+  field_started f place (m ∷ ms) rest h = (tt, h)
+
+  field_built : (m : Option Making) (f : ClassField) (len : Option ℕ) (place : Expr) (args : List Meant) (rest : Stmts) → AreTame rest → AreTame (meaning.field_built p m f len place args rest)
+  field_built None f len place args rest h = field_started f place args rest h
+  field_built (Some m) f len place args rest h = (built 0 m len place args, h)
+
+  fields_built : (c : Class) (i : ℕ) (inits : List whole.Init) (s : Scope) (fs : List ClassField) (n : ℕ) (rest : Stmts) → AreTame rest → AreTame (meaning.fields_built p c i inits s fs n rest)
+  fields_built c i inits s [] n rest h = h
+  fields_built c i inits s (f ∷ fs) n rest h =
+      field_built (meaning.field_making p f) f (meaning.length_in_class p c i f) (tree.field_place (class_shape p i) n tree.Own) (meaning.init_args p s (meaning.init_named p inits f.declarator.name)) (meaning.fields_built p c i inits s fs (suc n) rest) (fields_built c i inits s fs (suc n) rest h)
+
+  set_up : (b : Bool) (i : ℕ) (rest : Stmts) → AreTame rest → AreTame (meaning.set_up p b i rest)
+  set_up false i rest h = h
+  set_up true i rest h = (tt, h)
+
+  started_in : (b : Bool) (body : Stmts) → AreTame body → AreTame (meaning.started_in p b body)
+  started_in false body h = h
+  started_in true body h = h
+
+  ends : (c : Option Class) (i : ℕ) → AreTame (meaning.construction_ends p c i)
+  ends None i = tt
+  ends (Some c) i = by (has_execution c.kind)
+    where
+      by : (b : Bool) → AreTame (meaning.enlivened p b)
+      by false = tt
+      by true = (tt, tt)
+
+  -- the building of a task begins with its scope
+  freed : (k : Kind) (i : ℕ) (rest : Stmts) → is_task k ≡ true → AreTame rest → Begins (meaning.freed p k i rest)
+  freed kind.Task i rest h t = (tt, t)
+  freed kind.Monitor i rest h t = absurd (cc)
+  freed kind.Cormonitor i rest h t = absurd (cc)
+  freed kind.Class i rest h t = absurd (cc)
+  freed kind.Coroutine i rest h t = absurd (cc)
+  freed kind.Event i rest h t = absurd (cc)
+
+  constructed : (c : Option Class) (i : ℕ) (inits : List whole.Init) (s : Scope) (body : Stmts) → AreTame body → of_kind is_task c ≡ true → Begins (meaning.construction p c i inits s body)
+  constructed None i inits s body t h = absurd (cc)
+  constructed (Some c) i inits s body t h =
+      freed c.kind i _ h (set_up (has_execution c.kind) i _ (fields_built c i inits s (fields_of c.members) (leading_cells c.kind) _ (started_in (has_execution c.kind) body t)))
 
   written : (x : Role) (r : whole.Routine) (s : Scope) (i : ℕ) → x ≡ role.Constructor → s.class ≡ Some i → of_kind is_task (class_at p i) ≡ true → Begins (meaning.body_by p x r s)
   written role.Constructor r s i e q h =
-      constructed (meaning.class_by p s.class) (meaning.place_or_zero p s.class) r.inits s _ (ap (λ o. of_kind is_task (meaning.class_by p o)) q ∙ h)
+      constructed (meaning.class_by p s.class) (meaning.place_or_zero p s.class) r.inits s _ (tt, ends (meaning.class_by p s.class) (meaning.place_or_zero p s.class)) (ap (λ o. of_kind is_task (meaning.class_by p o)) q ∙ h)
   written role.Plain r s i e q h = absurd (cc)
   written role.Destructor r s i e q h = absurd (cc)
 
   unwritten : (x : Role) (i : ℕ) → x ≡ role.Constructor → of_kind is_task (class_at p i) ≡ true → Begins (meaning.unwritten_body p x i)
-  unwritten role.Constructor i e h = constructed (class_at p i) i [] (meaning.nowhere p) _ h
+  unwritten role.Constructor i e h = constructed (class_at p i) i [] (meaning.nowhere p) _ (ends (class_at p i) i) h
   unwritten role.Plain i e h = absurd (cc)
   unwritten role.Destructor i e h = absurd (cc)
 

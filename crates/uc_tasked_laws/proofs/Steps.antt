@@ -29,8 +29,8 @@ use Rattle.uc_event_laws.specs.Counted.{params_at, params, count, CountedExpr, C
 use Rattle.uc_aside_laws.specs.OlderResting.{AllWait, NamedEnv, NamedState}
 use Rattle.uc_aside_laws.proofs.Keeping as kept
 use Rattle.uc_aside_laws.proofs.Keeping.{either, tested}
-use Rattle.uc_tasked_laws.specs.Seated.{IsSpawning, Begins, OpensOf, Makes, Before}
-use Rattle.uc_tasked_laws.specs.Seats.{Mark, Any, At, Holds, rest, rests, anys, Placed, Every, AtEnd, CalledAt, CodeStmt, CodeStmts, CodeBlock, CodeHandlers, CodeRoutine, LeftBy, Ok, AtRest, AtDrop, Left, Stands}
+use Rattle.uc_tasked_laws.specs.Seated.{IsSpawning, IsTame, AreTame, Begins, OpensOf, Makes, Before}
+use Rattle.uc_tasked_laws.specs.Seats.{Mark, Any, At, Holds, rest, rests, anys, Placed, Every, AtEnd, CalledAt, CodeStmt, CodeStmts, CodeBlock, CodeHandlers, CodeRoutine, Quits, QuitsAt, LeftBy, Ok, AtRest, AtDrop, Left, Stands}
 use Rattle.uc_tasked_laws.specs.SeatedStates.{Told, Awaited, Kept, Done, Begun, Finds, Runs, Waits, Starting, Standing, Calling, SeatedAsk, FairAt}
 use Rattle.uc_tasked_laws.proofs.Lists as lists
 use Rattle.uc_tasked_laws.proofs.Marks as marks
@@ -111,7 +111,7 @@ module _ (g : Program) (source : Source) (told : Told) where
 
   -- a scope opens next, behind the end of what has built its object
   stands_at : (D B : Type 0) (S : ℕ → Expr → Type 0) (todo : List Todo) → AtDrop g source D B S Every todo → Awaited S todo → Stands g source D B S S todo
-  stands_at D B S (piece.DropNow ∷ (piece.Within line ∷ (piece.Rest ss ∷ todo))) h e = ((e, h.0.1), h.1)
+  stands_at D B S (piece.DropNow ∷ (piece.Within line ∷ (piece.Rest ss ∷ todo))) h e = ((e, h.0.1), h.1, h.2)
   stands_at D B S todo h e = absurd h
 
   module _ (s : State) (callers : W s.env.exec s.callers) (env : E s.env) where
@@ -194,33 +194,37 @@ module _ (g : Program) (source : Source) (told : Told) where
     end_step src.ToBreak e = returned _ s.callers callers e
     end_step src.ToContinue e = returned _ s.callers callers e
 
-    pub exits : (w : Way) (todo : List Todo) → FairAt g source told (piece.Exit w ∷ todo) s → Left g source D B S todo → T (quiet.exit_step w todo s)
-    exits w [] e h = end_step w e
-    exits w (x ∷ xs) e h = anew _ _ (lists.left_behind g source D B S w (piece.sort x) xs h)
+    pub exits : (w : Way) (todo : List Todo) → Left g source D B S todo → Quits g source D B S todo → T (quiet.exit_step w todo s)
+    exits w [] h q = end_step w q
+    exits w (x ∷ xs) h q = anew _ _ (lists.left_behind g source D B S w (piece.sort x) xs h q)
 
     -- statements
+
+    must : {X : Type 0} → ⊥ ⊎ X → X
+    must (inl h) = absurd h
+    must (inr h) = h
 
     pub swept : (n : ℕ) (e : Expr) (todo : List Todo) → CountedExpr source e → Ok g source D B S [] todo → T (quiet.sweep_step n e todo s)
     swept zero e todo n h = anew _ _ h
     swept (suc m) e todo n h = inl (record { run = record { marks = []; holds = tt; ok = (n, inl (tt, (n, h))) }; callers = callers; env = env })
 
-    event_step : (a : EventStmt) (todo : List Todo) → CodeStmt g source (src.OfEvents a) → Ok g source D B S [] todo → T (quiet.event_step a todo s)
-    event_step (src.Throw line r) todo n h = anew _ _ (lists.raised g source D B S r _ n.0 (tt, (tt, h)))
-    event_step (src.Raise line r) todo n h = anew _ _ (lists.raised g source D B S r _ n.0 (tt, (tt, h)))
-    event_step (src.Try line body hs) todo n h = anew _ _ ((n.1.0.0, (n.0.0, n.1.0.1)), ((n.0.1, n.1.1), (tt, h)))
-    event_step (src.RaiseAt line r a) todo n h = anew _ _ (lists.raised g source D B S r _ (lists.counted_at g source D B S r n.0.0) (n.0.1, inl (tt, (tt, h))))
-    event_step (src.Enable line events cell a) todo n h = anew _ _ (tt, (tt, (n, inl ((tt, tt), inl (tt, h)))))
-    event_step (src.Disable line events cell a) todo n h = anew _ _ (tt, (n, inl ((tt, tt), inl (tt, h))))
+    event_step : (a : EventStmt) (todo : List Todo) → CodeStmt g source (src.OfEvents a) → Ok g source D B S [] todo → Quits g source D B S todo → T (quiet.event_step a todo s)
+    event_step (src.Throw line r) todo n h q = anew _ _ (lists.raised g source D B S r _ n.0 (tt, (tt, h)))
+    event_step (src.Raise line r) todo n h q = anew _ _ (lists.raised g source D B S r _ n.0 (tt, (tt, h)))
+    event_step (src.Try line body hs) todo n h q = anew _ _ ((n.1.0.0, (n.0.0, n.1.0.1)), ((n.0.1, n.1.1), (tt, h), q), inr q)
+    event_step (src.RaiseAt line r a) todo n h q = anew _ _ (lists.raised g source D B S r _ (lists.counted_at g source D B S r n.0.0) (n.0.1, inl (tt, (tt, h))))
+    event_step (src.Enable line events cell a) todo n h q = anew _ _ (tt, (tt, (n, inl ((tt, tt), inl (tt, h), tt), inr q)))
+    event_step (src.Disable line events cell a) todo n h q = anew _ _ (tt, (n, inl ((tt, tt), inl (tt, h), tt), inr q))
 
-    task_step : (a : TaskStmt) (todo : List Todo) → CodeStmt g source (src.OfTasks a) → Ok g source D B S [] todo → T (quiet.task_step a todo s)
-    task_step (src.Resume line) todo n h = anew _ _ (tt, (tt, (tt, h)))
-    task_step (src.Suspend line) todo n h = anew _ _ (tt, (tt, (tt, h)))
-    task_step (src.SetUp r) todo n h = anew _ _ (tt, h)
-    task_step src.Enliven todo n h = anew _ _ (tt, h)
-    task_step src.TakeDown todo n h = anew _ _ (tt, h)
-    task_step (src.Yield line) todo n h = anew _ _ (tt, (tt, (tt, h)))
-    task_step (src.Migrate line a) todo n h = anew _ _ (n.0, inl (tt, (tt, h)))
-    task_step (src.Accept line site cs) todo n h = anew _ _ (n, (tt, (n, (tt, h))))
+    task_step : (a : TaskStmt) (todo : List Todo) → CodeStmt g source (src.OfTasks a) → Ok g source D B S [] todo → IsTame (src.OfTasks a) ⊎ Quits g source D B S todo → T (quiet.task_step a todo s)
+    task_step (src.Resume line) todo n h q = anew _ _ (tt, (tt, (tt, h)))
+    task_step (src.Suspend line) todo n h q = anew _ _ (tt, (tt, (tt, h)))
+    task_step (src.SetUp r) todo n h q = anew _ _ (tt, h)
+    task_step src.Enliven todo n h q = anew _ _ (tt, h)
+    task_step src.TakeDown todo n h q = anew _ _ (tt, h)
+    task_step (src.Yield line) todo n h q = anew _ _ (tt, (tt, (tt, h)))
+    task_step (src.Migrate line a) todo n h q = anew _ _ (n.0, inl (tt, (tt, h)))
+    task_step (src.Accept line site cs) todo n h q = anew _ _ (n, (tt, (n, (tt, h), must q)))
 
     -- the value of an expression that is evaluated by itself is dropped
     evaluates : (line : ℕ) (a : Expr) (todo : List Todo) → CountedExpr source a → Ok g source D B S [] todo ⊎ AtRest g source D B S (Makes g a) todo → Ok g source D B S [] (piece.Eval a ∷ (piece.DropNow ∷ (piece.Within line ∷ todo)))
@@ -232,41 +236,47 @@ module _ (g : Program) (source : Source) (told : Told) where
     plainly todo (inl h) = h
     plainly todo (inr h) = marks.rest_none g source D B S todo h
 
-    pub stmt : (a : Stmt) (todo : List Todo) → CodeStmt g source a → Ok g source D B S [] todo ⊎ AtRest g source D B S (Before g a) todo → T (quiet.stmt_step a todo s)
-    stmt (src.Skip line) todo n h = anew _ _ (plainly todo h)
-    stmt (src.Block line body) todo n h = anew _ _ ((n.1.0, (n.0, n.1.1)), (tt, plainly todo h))
-    stmt (src.Whole line body) todo n h = anew _ _ ((n.1.0, (n.0, n.1.1)), (tt, (tt, plainly todo h)))
-    stmt (src.Evaluate line a) todo n h = anew _ _ (evaluates line a todo n.0 h)
-    stmt (src.Declare line ds) todo n h = anew _ _ (n.0, (tt, plainly todo h))
-    stmt (src.Print line items) todo n h = anew _ _ (n.0, (tt, plainly todo h))
-    stmt (src.PrintTogether line items) todo n h = anew _ _ (n.0, (tt, (n.0, (tt, (tt, plainly todo h)))))
-    stmt (src.Read line ts) todo n h = anew _ _ (n.0, (tt, plainly todo h))
-    stmt (src.If line t a b) todo n h = anew _ _ (n.0.0, inl (((n.0.1, n.1.0), (n.0.2, n.1.1)), (tt, plainly todo h)))
-    stmt (src.Loop line o t e b) todo n h = anew _ _ (lists.looped g source D B S o t e b _ n.0.0 n.0.1 (n.0.2, n.1) (tt, plainly todo h))
-    stmt (src.Break line) todo n h = anew _ _ (marks.left g source D B S [] todo (plainly todo h))
-    stmt (src.Continue line) todo n h = anew _ _ (marks.left g source D B S [] todo (plainly todo h))
-    stmt (src.Return line None) todo n h = anew _ _ (marks.left g source D B S [] todo (plainly todo h))
-    stmt (src.Return line (Some e)) todo n h = anew _ _ (n.0, inl (marks.left g source D B S [] todo (plainly todo h)))
-    stmt (src.Owes line) todo n h = anew _ _ (tt, (tt, plainly todo h))
-    stmt (src.Fill line m b d) todo n h = anew _ _ (tt, (n.0, (tt, plainly todo h)))
-    stmt (src.OfEvents a) todo n h = event_step a todo n (plainly todo h)
-    stmt (src.OfTasks a) todo n h = task_step a todo n (plainly todo h)
+    pub stmt : (a : Stmt) (todo : List Todo) → CodeStmt g source a → Ok g source D B S [] todo ⊎ AtRest g source D B S (Before g a) todo → IsTame a ⊎ Quits g source D B S todo → T (quiet.stmt_step a todo s)
+    stmt (src.Skip line) todo n h q = anew _ _ (plainly todo h)
+    stmt (src.Block line body) todo n h q = anew _ _ ((n.1.0, (n.0, n.1.1)), (tt, plainly todo h), inr (must q))
+    stmt (src.Whole line body) todo n h q = anew _ _ ((n.1.0, (n.0, n.1.1)), (tt, (tt, plainly todo h)), inr tt)
+    stmt (src.Evaluate line a) todo n h q = anew _ _ (evaluates line a todo n.0 h)
+    stmt (src.Declare line ds) todo n h q = anew _ _ (n.0, (tt, plainly todo h))
+    stmt (src.Print line items) todo n h q = anew _ _ (n.0, (tt, plainly todo h))
+    stmt (src.PrintTogether line items) todo n h q = anew _ _ (n.0, (tt, (n.0, (tt, (tt, plainly todo h)))))
+    stmt (src.Read line ts) todo n h q = anew _ _ (n.0, (tt, plainly todo h))
+    stmt (src.If line t a b) todo n h q = anew _ _ (n.0.0, inl (((n.0.1, n.1.0), (n.0.2, n.1.1)), (tt, plainly todo h), must q))
+    stmt (src.Loop line o t e b) todo n h q = anew _ _ (lists.looped g source D B S o t e b _ n.0.0 n.0.1 (n.0.2, n.1) (tt, plainly todo h) (must q))
+    stmt (src.Break line) todo n h q = anew _ _ (marks.left g source D B S [] todo (plainly todo h), must q)
+    stmt (src.Continue line) todo n h q = anew _ _ (marks.left g source D B S [] todo (plainly todo h), must q)
+    stmt (src.Return line None) todo n h q = anew _ _ (marks.left g source D B S [] todo (plainly todo h), must q)
+    stmt (src.Return line (Some e)) todo n h q = anew _ _ (n.0, inl (marks.left g source D B S [] todo (plainly todo h), must q))
+    stmt (src.Owes line) todo n h q = anew _ _ (tt, (tt, plainly todo h))
+    stmt (src.Fill line m b d) todo n h q = anew _ _ (tt, (n.0, (tt, plainly todo h)))
+    stmt (src.OfEvents a) todo n h q = event_step a todo n (plainly todo h) (must q)
+    stmt (src.OfTasks a) todo n h q = task_step a todo n (plainly todo h) q
 
     -- where the scope of an object opens next, that is built
-    behind_stmt : (a : Stmt) (ss : Stmts) (todo : List Todo) → CodeStmts g source (src.Then a ss) → Ok g source D B S [] todo → Ok g source D B S [] (piece.Do a ∷ (piece.Rest ss ∷ todo))
-    behind_stmt a ss todo n h = ((n.0.0, n.1.0), inr ((n.1.1, (n.0.1, n.1.2)), h))
+    behind_stmt : (a : Stmt) (ss : Stmts) (todo : List Todo) → CodeStmts g source (src.Then a ss) → Ok g source D B S [] todo → AreTame (src.Then a ss) ⊎ Quits g source D B S todo → Ok g source D B S [] (piece.Do a ∷ (piece.Rest ss ∷ todo))
+    behind_stmt a ss todo n h (inl t) = ((n.0.0, n.1.0), inr ((n.1.1, (n.0.1, n.1.2)), h, inl t.1), inl t.0)
+    behind_stmt a ss todo n h (inr q) = ((n.0.0, n.1.0), inr ((n.1.1, (n.0.1, n.1.2)), h, inr q), inr q)
 
-    pub rest_of : (ss : Stmts) (todo : List Todo) → OpensOf S ss → CodeStmts g source ss → Ok g source D B S [] todo → T (quiet.rest_step ss todo s)
-    rest_of src.Nil todo k n h = anew _ _ h
-    rest_of (src.Then a ss) todo k n h = anew _ _ (behind_stmt a ss todo n h)
-    rest_of (src.Scoped c ss) todo k n h = anew _ _ ((n.1.0, (n.0.1, n.1.1)), ((n.0.0, k), inl h))
-    rest_of (src.Built c ss) todo k n h = anew _ _ ((n.1.0, (n.0.1, n.1.1)), ((n.0.0, k), h))
+    pub rest_of : (ss : Stmts) (todo : List Todo) → OpensOf S ss → CodeStmts g source ss → Ok g source D B S [] todo → AreTame ss ⊎ Quits g source D B S todo → T (quiet.rest_step ss todo s)
+    rest_of src.Nil todo k n h q = anew _ _ h
+    rest_of (src.Then a ss) todo k n h q = anew _ _ (behind_stmt a ss todo n h q)
+    rest_of (src.Scoped c ss) todo k n h q = anew _ _ ((n.1.0, (n.0.1, n.1.1)), ((n.0.0, k), inl h, lists.quits_at g source D B S c todo (must q)), inr (must q))
+    rest_of (src.Built c ss) todo k n h q = anew _ _ ((n.1.0, (n.0.1, n.1.1)), ((n.0.0, k), h), q)
 
     -- the building of an object begins that lets its task begin at its end
+    spawning_at : (c : CleanUp) (todo : List Todo) → IsSpawning c → QuitsAt g source D B S c todo
+    spawning_at src.Leaves todo h = absurd h
+    spawning_at c todo h = tt
+
     pub start_of : (ss : Stmts) (todo : List Todo) → CodeBlock g source ss → B → Begins ss → AtEnd todo → T (quiet.rest_step ss todo s)
     start_of src.Nil todo n b h e = absurd h
     start_of (src.Then a ss) todo n b h e = absurd h
-    start_of (src.Scoped c ss) todo n b h e = anew _ _ ((n.1.1.0, (n.1.0.1, n.1.1.1)), ((n.1.0.0, marks.scope_more (λ d e. ⊥) S (λ d e x. absurd x) c n.0), inr (b, h, e)))
+    start_of (src.Scoped c ss) todo n b h e =
+        anew _ _ ((n.1.1.0, (n.1.0.1, n.1.1.1)), ((n.1.0.0, marks.scope_more (λ d e. ⊥) S (λ d e x. absurd x) c n.0), inr (b, h.0, e), spawning_at c todo h.0), inl h.1)
     start_of (src.Built c ss) todo n b h e = absurd h
 
     -- and that is now
@@ -310,7 +320,7 @@ module _ (g : Program) (source : Source) (told : Told) where
         let below_it : List Value = below (below (below s.run.operands)) in
         let b : Active = record s.run { control = piece.DropNow ∷ todo; operands = below_it } in
         inl (record {
-          run = record { marks = []; holds = tt; ok = lists.handled g source (Done g told s.env.exec (b ∷ s.callers)) (Begun g told s.env.exec f.this (b ∷ s.callers)) (Kept g told s.env.exec f.frame f.this) f.handler [] n (none_behind D B S (λ d e. Kept g told s.env.exec b.frame b.this d e) (rests 3 ms) todo h) };
+          run = record { marks = []; holds = tt; ok = lists.handled g source (Done g told s.env.exec (b ∷ s.callers)) (Begun g told s.env.exec f.this (b ∷ s.callers)) (Kept g told s.env.exec f.frame f.this) f.handler [] n (none_behind D B S (λ d e. Kept g told s.env.exec b.frame b.this d e) (rests 3 ms) todo h) (none_behind D B S (λ d e. Kept g told s.env.exec b.frame b.this d e) (rests 3 ms) todo h) };
           callers = (inl (record { marks = rests 3 ms; holds = holds_below s.env.exec s.run.frame s.run.this (rests 2 ms) _ (holds_below s.env.exec s.run.frame s.run.this (rests 1 ms) _ (holds_below s.env.exec s.run.frame s.run.this ms _ k)); ok = (tt, h) }), callers);
           env = likes env refl refl refl;
         })
@@ -322,23 +332,23 @@ module _ (g : Program) (source : Source) (told : Told) where
 
     -- unwinding
 
-    catches : (o : Option Handler) (e : raising.Event) (todo : List Todo) → lists.OfHandler g source o → Ok g source D B S [] todo → T (raising.catch_step o e todo s)
-    catches None e todo n h = anew _ _ (marks.left g source D B S [] todo h)
-    catches (Some x) e todo n h = inl (record { run = record { marks = []; holds = tt; ok = lists.handled g source D B S x todo n h }; callers = callers; env = env })
+    catches : (o : Option Handler) (e : raising.Event) (todo : List Todo) → lists.OfHandler g source o → Ok g source D B S [] todo → Quits g source D B S todo → T (raising.catch_step o e todo s)
+    catches None e todo n h q = anew _ _ (marks.left g source D B S [] todo h)
+    catches (Some x) e todo n h q = inl (record { run = record { marks = []; holds = tt; ok = lists.handled g source D B S x todo n h q }; callers = callers; env = env })
 
-    guarded : (hs : Handlers) (o : Option UnwindReason) (todo : List Todo) → CodeHandlers g source hs → Ok g source D B S [] todo → T (raising.guard_left hs o todo s)
-    guarded hs (Some (reason.Event n x y)) todo k h =
-        catches _ _ todo (lists.handler_for g source false (record { number = n; x = x; y = y }) hs k) h
-    guarded hs o todo k h = anew _ _ (marks.left g source D B S [] todo h)
+    guarded : (hs : Handlers) (o : Option UnwindReason) (todo : List Todo) → CodeHandlers g source hs → Ok g source D B S [] todo → Quits g source D B S todo → T (raising.guard_left hs o todo s)
+    guarded hs (Some (reason.Event n x y)) todo k h q =
+        catches _ _ todo (lists.handler_for g source false (record { number = n; x = x; y = y }) hs k) h q
+    guarded hs o todo k h q = anew _ _ (marks.left g source D B S [] todo h)
 
     whole : (b : Bool) (todo : List Todo) → Ok g source D B S [] todo → T (raising.whole_left b todo s)
     whole true todo h = inl (record { run = record { marks = []; holds = tt; ok = h }; callers = callers; env = env })
     whole false todo h = anew _ _ (marks.left g source D B S [] todo h)
 
-    scope : (c : CleanUp) (b : Bool) (todo : List Todo) → CountedClean source c → Ok g source D B S [] todo ⊎ (B × IsSpawning c × AtEnd todo) → T (raising.scope_left c b todo s)
-    scope src.Leaves true todo n (inl h) = inl (record { run = record { marks = []; holds = tt; ok = (tt, marks.left g source D B S [] todo h) }; callers = callers; env = env })
-    scope src.Leaves true todo n (inr h) = absurd h.1
-    scope c b todo n h = anew (raising.left_todo c (piece.Unwind ∷ todo)) [] (lists.left_cleans g source D B S c (piece.Unwind ∷ todo) n (marks.clean_tail g source D B S c todo h))
+    scope : (c : CleanUp) (b : Bool) (todo : List Todo) → CountedClean source c → Ok g source D B S [] todo ⊎ (B × IsSpawning c × AtEnd todo) → QuitsAt g source D B S c todo → T (raising.scope_left c b todo s)
+    scope src.Leaves true todo n (inl h) q = inl (record { run = record { marks = []; holds = tt; ok = (tt, (marks.left g source D B S [] todo h, q)) }; callers = callers; env = env })
+    scope src.Leaves true todo n (inr h) q = absurd h.1
+    scope c b todo n h q = anew (raising.left_todo c (piece.Unwind ∷ todo)) [] (lists.left_cleans g source D B S c (piece.Unwind ∷ todo) n (marks.clean_tail g source D B S c todo h))
 
     main_left : (o : Option UnwindReason) (todo : List Todo) → D × Ok g source D B S [] todo → T (raising.main_left o todo s)
     main_left (Some (reason.ReturnTo n)) todo h = inl (record { run = record { marks = []; holds = tt; ok = h }; callers = callers; env = env })
@@ -353,11 +363,11 @@ module _ (g : Program) (source : Source) (told : Told) where
     unwind_past piece.Simple todo h = anew _ _ h
     unwind_past (piece.IsLoop o t e b) todo h = anew _ _ (marks.left g source D B S [] todo h.1)
     unwind_past piece.IsWhole todo h = whole _ todo h
-    unwind_past (piece.IsClean c) todo h = scope c _ todo h.0.0 h.1
+    unwind_past (piece.IsClean c) todo h = scope c _ todo h.0.0 h.1 h.2
     unwind_past (piece.IsFill m b d) todo h = anew _ _ (h.0.1, marks.left g source D B S [] todo h.1)
     unwind_past (piece.IsSweep e) todo h = anew _ _ (h.0, marks.left g source D B S [] todo h.1)
     unwind_past (piece.IsPart c) todo h = anew _ _ (lists.cleans g source D B S c _ h.0.0 (marks.left g source D B S [] todo h.1))
-    unwind_past (piece.IsGuard hs) todo h = guarded hs s.run.raised todo h.0 h.1
+    unwind_past (piece.IsGuard hs) todo h = guarded hs s.run.raised todo h.0 h.1 h.2
     unwind_past piece.IsFinish todo h = main_left s.run.raised todo h
     unwind_past piece.IsFinishCoroutine todo h = coroutine_left s.run.raised todo h
 

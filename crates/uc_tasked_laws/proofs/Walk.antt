@@ -80,9 +80,9 @@ module _ (g : Program) (source : Source) (told : Told) (known : (n : ℕ) → Co
     acts (piece.SetNow k) todo c fair h = steps.go_in g source told s callers env ms _ _ _ holds h.1 (steps.write g source told s callers env (piece.variable_at k s) (piece.Number (number (top s.run.operands))))
     acts piece.BindNow todo c fair h = steps.go_in g source told s callers env (Any ∷ rest (rest ms)) _ _ _ (tt, two) h.1 (steps.write g source told s callers env (top (below s.run.operands)) (top s.run.operands))
     acts (piece.Choose e f) todo c fair h = go (rest ms) _ _ one (either (CountedExpr source) (piece.is_zero (number (top s.run.operands))) f e h.0.1 h.0.0, inl h.1)
-    acts (piece.Branch a b) todo c fair h = anew _ _ (either (CodeStmt g source) (piece.is_zero (number (top s.run.operands))) b a h.0.1 h.0.0, inl h.1)
+    acts (piece.Branch a b) todo c fair h = anew _ _ (either (CodeStmt g source) (piece.is_zero (number (top s.run.operands))) b a h.0.1 h.0.0, inl h.1, inr h.2)
     acts piece.TickNow todo c fair h = steps.here g source told s callers env ms _ _ holds h.1
-    acts (piece.TurnNow o t e b) todo c fair h = steps.afresh g source told s callers env _ _ (h.0.2, inl (h.0, h.1))
+    acts (piece.TurnNow o t e b) todo c fair h = steps.afresh g source told s callers env _ _ (h.0.2, inl (h.0, h.1, h.2), inr h.2)
     acts (piece.Arguments src.NoExprs) todo c fair h = go ms _ _ holds h.1
     acts (piece.Arguments (src.MoreExprs e es)) todo c fair h = go ms _ _ holds (h.0.0, inl (h.0.1, h.1))
     acts (piece.CallNow r) todo c fair h = steps.call g source told s callers env ms holds (slice_get source.routines r) todo (known r) h.1
@@ -91,7 +91,7 @@ module _ (g : Program) (source : Source) (told : Told) (known : (n : ℕ) → Co
     acts (piece.CountNow m) todo c fair h = inl (record { run = record { marks = []; holds = tt; ok = h.1 }; callers = callers; env = env })
     acts piece.MoreNow todo c fair h = inl (record { run = record { marks = []; holds = tt; ok = h.1 }; callers = callers; env = env })
     acts (piece.FillNow m b d) todo c fair h = anew _ _ (lists.filled g source D B S (nat_lt s.run.elements m) m b d todo h.0 h.1)
-    acts (piece.Again o t e b) todo c fair h = anew _ _ (either (Ok g source D B S []) (piece.is_zero (number (top s.run.operands))) todo (piece.TurnNow o t e b ∷ todo) h.1 (h.0, h.1))
+    acts (piece.Again o t e b) todo c fair h = anew _ _ (either (Ok g source D B S []) (piece.is_zero (number (top s.run.operands))) todo (piece.TurnNow o t e b ∷ todo) h.1 (h.0, h.1, h.2))
     acts (piece.PrintNow f) todo c fair h = steps.prints g source told s callers env s.env.gathered _ todo _ h.1
     acts (piece.TextNow k) todo c fair h = steps.prints g source told s callers env s.env.gathered _ todo _ h.1
     acts piece.GatherNow todo c fair h = steps.go_in g source told s callers env [] _ _ _ tt h.1 (steps.same g source told s callers env refl refl refl refl)
@@ -108,12 +108,12 @@ module _ (g : Program) (source : Source) (told : Told) (known : (n : ℕ) → Co
     acts (piece.Targets (t ∷ ts)) todo c fair h = anew _ _ (h.0.0, inl (tt, (tt, (h.0.1, h.1))))
     acts (piece.Variables []) todo c fair h = anew _ _ h.1
     acts (piece.Variables (d ∷ ds)) todo c fair h = anew _ _ (tt, lists.starts g source D B S d.cell d.value (piece.Variables ds ∷ todo) h.0.0 (h.0.1, h.1))
-    acts (piece.Do a) todo c fair h = steps.stmt g source told s callers env a todo h.0 h.1
-    acts (piece.Rest ss) todo c fair h = steps.rest_of g source told s callers env ss todo (opens_any S ss h.0.0) h.0.1 h.1
+    acts (piece.Do a) todo c fair h = steps.stmt g source told s callers env a todo h.0 h.1 h.2
+    acts (piece.Rest ss) todo c fair h = steps.rest_of g source told s callers env ss todo (opens_any S ss h.0.0) h.0.1 h.1 h.2
     acts (piece.Within line) todo c fair h = anew _ _ h.1
-    acts (piece.Exit w) todo c fair h = steps.exits g source told s callers env w todo fair h
+    acts (piece.Exit w) todo c fair h = steps.exits g source told s callers env w todo h.0 h.1
     acts piece.NoReturnNow todo c fair h = steps.stop g source told s callers env NoReturn todo _
-    acts (piece.InLoop o t e b) todo c fair h = anew _ _ (lists.stepped g source D B S e _ h.0.1 (lists.turned g source D B S o t e b todo h.0.0 h.0.1 h.0.2 h.1))
+    acts (piece.InLoop o t e b) todo c fair h = anew _ _ (lists.stepped g source D B S e _ h.0.1 (lists.turned g source D B S o t e b todo h.0.0 h.0.1 h.0.2 h.1 h.2))
     acts piece.InWhole todo c fair h = anew _ _ h.1
     acts (piece.Clean x) todo c fair h = steps.cleans_up g source told s callers env x todo h.0.0 h.1
     acts (piece.Sweep e) todo c fair h = steps.swept g source told s callers env s.run.elements e todo h.0 h.1
@@ -157,7 +157,7 @@ module _ (g : Program) (source : Source) (told : Told) (known : (n : ℕ) → Co
     acts (piece.Guards (src.MoreClauses guard b cs)) todo c fair h = anew _ _ (h.0.0.0, inl ((h.0.0.2, h.0.1.1), h.1))
     acts (piece.AcceptNow site m) todo c fair h = steps.accept g source told s callers env ms holds _ (monitors.this_object s) site todo _ h.1
     acts piece.FailedNow todo c fair h = steps.failed g source told s callers env ms holds _ todo _ h.1
-    acts (piece.ChooseNow cs) todo c fair h = anew _ _ (lists.branch g source D B S _ cs todo h.0 h.1)
+    acts (piece.ChooseNow cs) todo c fair h = anew _ _ (lists.branch g source D B S _ cs todo h.0 h.1 h.2)
     acts piece.RaiseAtNow todo c fair h = steps.raise_at g source told s callers env ms holds (top s.run.operands) (raising.event_in (below s.run.operands)) todo (drop 4 s.run.operands) h.1
     acts (piece.EnableNow events cell) todo c fair h = steps.enables g source told s callers env ms holds _ cell todo h.1
     acts (piece.DisableNow events cell) todo c fair h = steps.enables g source told s callers env ms holds _ cell todo h.1
@@ -169,7 +169,7 @@ module _ (g : Program) (source : Source) (told : Told) (known : (n : ℕ) → Co
 
   -- such a scope opens next
   stands : (s : State) → AllWait (Runs g source told) (Waits g source told) s.env.exec s.callers → NamedEnv (Runs g source told) (Waits g source told) s.env → (l : List Todo) → Stands g source (Done g told s.env.exec s.callers) (Begun g told s.env.exec s.run.this s.callers) (Kept g told s.env.exec s.run.frame s.run.this) (Kept g told s.env.exec s.run.frame s.run.this) l → steps.T g source told (quiet.act_todo source l s)
-  stands s callers env (piece.Rest ss ∷ todo) h = steps.rest_of g source told s callers env ss todo h.0.0 h.0.1 h.1
+  stands s callers env (piece.Rest ss ∷ todo) h = steps.rest_of g source told s callers env ss todo h.0.0 h.0.1 h.1 h.2
   stands s callers env (piece.Within line ∷ (piece.Rest ss ∷ todo)) h = inr (record { now = inr (inl h); callers = callers; env = env })
   stands s callers env (piece.DropNow ∷ (piece.Within line ∷ (piece.Rest ss ∷ todo))) h = inr (record { now = inr (inl h); callers = callers; env = env })
   stands s callers env l h = absurd h
@@ -200,7 +200,7 @@ module _ (g : Program) (source : Source) (told : Told) (known : (n : ℕ) → Co
       from (inr (inr (inr f))) = calls s h.callers h.env s.run.control f
 
   begins : (o : ℕ) (r : Option Routine) → CodeRoutine g source r → SeatedRest g source told 0 (first_state (routine_or_none r) o)
-  begins o None h = record { run = record { marks = []; holds = tt; ok = ((tt, (tt, tt)), (tt, tt)) }; callers = tt; env = record { house = (tt, tt); hand = tt } }
+  begins o None h = record { run = record { marks = []; holds = tt; ok = ((tt, (tt, tt)), (tt, tt), inl tt) }; callers = tt; env = record { house = (tt, tt); hand = tt } }
   begins o (Some r) h = record { run = record { marks = []; holds = tt; ok = lists.routine g source (Unit {0}) (Unit {0}) (Kept g told (record { home = home.Task o; serial = 0 }) 0 (piece.Object o)) r tt h }; callers = tt; env = record { house = (tt, tt); hand = tt } }
 
   -- a task begins so

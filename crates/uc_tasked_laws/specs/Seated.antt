@@ -6,7 +6,7 @@ use Rattle.uc_tree.specs.declared.kinds.Role.{Role}
 use Rattle.uc_tree.specs.declared.kinds.Role.TheVariants as role
 use Rattle.uc_tree.specs.Objects.{AMutex, making, written_at, unwritten_number}
 use Rattle.uc_tree.specs.Programs.{Program}
-use Rattle.uc_tree.specs.Source.{Expr, Variable, Load, OfObject, OwnField, EndOn, MakeOn, CleanUp, Destroys, Frees, Stmt, Stmts, Block, Whole, Evaluate, If, Loop, OfEvents, OfTasks, Nil, Then, Scoped, Built, EventStmt, Try, Enable, Disable, TaskStmt, Accept, Handlers, NoHandlers, MoreHandlers, Clauses, NoClauses, Otherwise, MoreClauses, Purpose, Builder, Routine, Source}
+use Rattle.uc_tree.specs.Source.{Expr, Variable, Load, OfObject, OwnField, EndOn, MakeOn, CleanUp, Destroys, Frees, Stmt, Stmts, Block, Whole, Evaluate, If, Loop, Fill, OfEvents, OfTasks, Nil, Then, Scoped, Built, EventStmt, Try, Enable, Disable, TaskStmt, SetUp, Enliven, Accept, Handlers, NoHandlers, MoreHandlers, Clauses, NoClauses, Otherwise, MoreClauses, Purpose, Builder, Routine, Source}
 use Rattle.uc_sound.specs.Tables.{table_of}
 
 -- the constructor or the destructor of a class, by its number: the one that is written, or that which stands for it where none is
@@ -36,9 +36,25 @@ abbrev pub IsSpawning : CleanUp → Type 0
 IsSpawning (Frees (Some m)) = Unit {0}
 IsSpawning c = ⊥
 
--- the statements of a routine begin with its scope
+-- a statement by which nobody leaves what stands behind it, whatever stands in it: what builds a field, sets up an execution or makes it live, and
+-- a block that is left as a whole
+abbrev pub IsTame : Stmt → Type 0
+IsTame (Evaluate line e) = Unit {0}
+IsTame (Fill line n b d) = Unit {0}
+IsTame (Whole line body) = Unit {0}
+IsTame (OfTasks (SetUp r)) = Unit {0}
+IsTame (OfTasks Enliven) = Unit {0}
+IsTame a = ⊥
+
+abbrev pub AreTame : Stmts → Type 0
+AreTame Nil = Unit {0}
+AreTame (Then a rest) = IsTame a × AreTame rest
+AreTame (Scoped c rest) = ⊥
+AreTame (Built c rest) = AreTame rest
+
+-- the statements of a routine begin with its scope, and are such
 abbrev pub Begins : Stmts → Type 0
-Begins (Scoped c rest) = IsSpawning c
+Begins (Scoped c rest) = IsSpawning c × AreTame rest
 Begins ss = ⊥
 
 -- what is called for objects of a class of tasks begins so, and there is nothing to do behind its statements

@@ -148,11 +148,9 @@ module _ (p : Program) (source : Source) (told : Told) where
     pub lies : params source r < length (below s.run.operands)
     pub alone : IsFreeBut told object (top (drop (params source r) (below s.run.operands)))
 
-  -- and whoever leaves an activation as a whole, by an exit or by a return of a handler that is over there, leaves none for which the scope of a
-  -- task waits
+  -- and no return of a handler is over at the end of an activation for which the scope of a task waits
   abbrev pub FairAt : List Todo → State → Type 0
   FairAt (piece.BindMadeNow c r ∷ todo) s = Binds r s
-  FairAt (piece.Exit w ∷ []) s = Done p told s.env.exec s.callers
   FairAt (piece.Unwind ∷ []) s = arrives s.run.raised (length s.callers) ≡ true → Done p told s.env.exec s.callers
   FairAt todo s = Unit {0}
 

@@ -9,7 +9,7 @@ use Rattle.uc_machine.specs.declared.exec.Owner.TheVariants.{Frame}
 use Rattle.uc_machine.specs.Pieces as piece
 use Rattle.uc_machine.specs.Pieces.{Slot, FieldAt, Value, Place, Nothing, Todo, Sort, sort, top, below, further}
 use Rattle.uc_event_laws.specs.Counted.{params, count, CountedExpr, CountedExprs, CountedMaybe, CountedItems, CountedTargets, CountedDeclared, CountedClean, CountedStmt, CountedStmts, CountedHandlers, CountedClauses}
-use Rattle.uc_tasked_laws.specs.Seated.{ArePaired, IsSpawning, Begins, OfScope, OfPart, OpensOf, OpensNone, Makes, Before, SeatedStmt, SeatedStmts, SeatedHandlers, SeatedClauses}
+use Rattle.uc_tasked_laws.specs.Seated.{ArePaired, IsSpawning, IsTame, AreTame, Begins, OfScope, OfPart, OpensOf, OpensNone, Makes, Before, SeatedStmt, SeatedStmts, SeatedHandlers, SeatedClauses}
 
 -- what is known of an operand: nothing, or that it is the place which this finds
 pub data Mark : Type 0 where
@@ -65,11 +65,15 @@ CalledBy p r [] d e = ⊥
 CalledBy p r (Any ∷ ms) d e = ⊥
 CalledBy p r (At m ∷ ms) d e = CalledAt p r m d e
 
--- nothing is left but to leave all
+-- nothing is left
 abbrev pub AtEnd : List Todo → Type 0
 AtEnd [] = Unit {0}
-AtEnd (piece.Exit w ∷ todo) = AtEnd todo
 AtEnd todo = ⊥
+
+-- whoever exits leaves nothing outwards of what is left as a whole
+abbrev pub QuitsBy : Sort → Type 0 → Type 0
+QuitsBy piece.IsWhole rest = Unit {0}
+QuitsBy k rest = rest
 
 module _ (source : Source) where
   -- the marks behind a piece; behind one of statements nothing is known
@@ -145,21 +149,15 @@ module _ (p : Program) (source : Source) where
   -- the code of a piece, but for those of which more is asked
   abbrev pub CodePiece : Todo → Type 0
   CodePiece (piece.Choose e f) = CountedExpr source e × CountedExpr source f
-  CodePiece (piece.Branch a b) = CodeStmt a × CodeStmt b
   CodePiece (piece.Arguments es) = CountedExprs source es
   CodePiece (piece.FillNow n b d) = CountedExpr source b × CountedExpr source d
-  CodePiece (piece.TurnNow o t e b) = CodeLoop t e b
-  CodePiece (piece.Again o t e b) = CodeLoop t e b
   CodePiece (piece.Items is) = CountedItems source is
   CodePiece (piece.Values is) = CountedItems source is
   CodePiece (piece.Pieces is) = CountedItems source is
   CodePiece (piece.Targets xs) = CountedTargets source xs
   CodePiece (piece.Variables ds) = CountedDeclared source ds
-  CodePiece (piece.InLoop o t e b) = CodeLoop t e b
   CodePiece (piece.Sweep e) = CountedExpr source e
-  CodePiece (piece.Guard hs) = CodeHandlers hs
   CodePiece (piece.Guards cs) = CodeClauses cs
-  CodePiece (piece.ChooseNow cs) = CodeClauses cs
   CodePiece x = Unit {0}
 
   -- `Done`: what holds where an activation ends by its last piece; `Begun`: what holds of one that is still to let the task of its object begin, and has
@@ -169,16 +167,26 @@ module _ (p : Program) (source : Source) where
     abbrev pub Spawns : CleanUp → List Todo → Type 0
     Spawns c todo = Begun × IsSpawning c × AtEnd todo
 
+    -- an exit comes to what is left as a whole, or to where the activation may end
+    abbrev pub Quits : List Todo → Type 0
+    Quits [] = Done
+    Quits (x ∷ todo) = QuitsBy (sort x) (Quits todo)
+
+    -- a return of a mutex member is over as it leaves its object, and exits from there
+    abbrev pub QuitsAt : CleanUp → List Todo → Type 0
+    QuitsAt src.Leaves todo = Quits todo
+    QuitsAt c todo = Unit {0}
+
     -- one who leaves a simple piece comes to what stands behind it; at a mark that may be done
     abbrev pub LeftBy : Sort → List Todo → Type 0 → Type 0 → Type 0
     LeftBy piece.Simple todo left ok = left
     LeftBy (piece.IsLoop o t e b) todo left ok = CodeLoop t e b × ok
     LeftBy piece.IsWhole todo left ok = ok
-    LeftBy (piece.IsClean c) todo left ok = (CountedClean source c × OfScope Kept c) × (ok ⊎ Spawns c todo)
+    LeftBy (piece.IsClean c) todo left ok = (CountedClean source c × OfScope Kept c) × (ok ⊎ Spawns c todo) × QuitsAt c todo
     LeftBy (piece.IsFill n b d) todo left ok = (CountedExpr source b × CountedExpr source d) × ok
     LeftBy (piece.IsSweep e) todo left ok = CountedExpr source e × ok
     LeftBy (piece.IsPart c) todo left ok = (CountedClean source c × OfPart Kept c) × ok
-    LeftBy (piece.IsGuard hs) todo left ok = CodeHandlers hs × ok
+    LeftBy (piece.IsGuard hs) todo left ok = CodeHandlers hs × ok × Quits todo
     LeftBy piece.IsFinish todo left ok = Done × ok
     LeftBy piece.IsFinishCoroutine todo left ok = ok
 
@@ -194,18 +202,24 @@ module _ (p : Program) (source : Source) where
           AtCall r (CalledBy p r (rests (params source r) ms)) todo
       Ok ms (piece.BindMadeNow c r ∷ todo) = Ok (anys (suc (params source r)) (rests (suc (params source r)) (rest ms))) todo ⊎
           AtCall r (CalledBy p r (rests (params source r) (rest ms))) todo
-      Ok ms (piece.Do a ∷ todo) = CodeStmt a × (Ok [] todo ⊎ AtRest (Before p a) todo)
-      Ok ms (piece.Rest ss ∷ todo) = CodeBlock ss × Ok [] todo
-      Ok ms (piece.Exit w ∷ todo) = Left todo
+      Ok ms (piece.Do a ∷ todo) = CodeStmt a × (Ok [] todo ⊎ AtRest (Before p a) todo) × (IsTame a ⊎ Quits todo)
+      Ok ms (piece.Rest ss ∷ todo) = CodeBlock ss × Ok [] todo × (AreTame ss ⊎ Quits todo)
+      Ok ms (piece.Branch a b ∷ todo) = (CodeStmt a × CodeStmt b) × Ok [] todo × Quits todo
+      Ok ms (piece.TurnNow o t e b ∷ todo) = CodeLoop t e b × Ok [] todo × Quits todo
+      Ok ms (piece.Again o t e b ∷ todo) = CodeLoop t e b × Ok [] todo × Quits todo
+      Ok ms (piece.InLoop o t e b ∷ todo) = CodeLoop t e b × Ok [] todo × Quits todo
+      Ok ms (piece.ChooseNow cs ∷ todo) = CodeClauses cs × Ok [] todo × Quits todo
+      Ok ms (piece.Guard hs ∷ todo) = CodeHandlers hs × Ok [] todo × Quits todo
+      Ok ms (piece.Exit w ∷ todo) = Left todo × Quits todo
       Ok ms (piece.Unwind ∷ todo) = Left todo
-      Ok ms (piece.Clean c ∷ todo) = (CountedClean source c × OfScope Kept c) × (Ok [] todo ⊎ Spawns c todo)
+      Ok ms (piece.Clean c ∷ todo) = (CountedClean source c × OfScope Kept c) × (Ok [] todo ⊎ Spawns c todo) × QuitsAt c todo
       Ok ms (piece.Part c ∷ todo) = (CountedClean source c × OfPart Kept c) × Ok [] todo
       Ok ms (piece.Finish ∷ todo) = Done × Ok [] todo
       Ok ms (x ∷ todo) = CodePiece x × Ok (after source x ms) todo
 
       -- such a scope may open next
       pub AtRest : (ℕ → Expr → Type 0) → List Todo → Type 0
-      AtRest P (piece.Rest ss ∷ todo) = (OpensOf P ss × CodeStmts ss) × Ok [] todo
+      AtRest P (piece.Rest ss ∷ todo) = (OpensOf P ss × CodeStmts ss) × Ok [] todo × (AreTame ss ⊎ Quits todo)
       AtRest P todo = ⊥
 
       pub AtDrop : (ℕ → Expr → Type 0) → List Todo → Type 0
