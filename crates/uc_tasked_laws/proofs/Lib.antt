@@ -1,0 +1,14 @@
+pub mod Marks
+pub mod Seating
+pub mod Spawners
+pub mod Lists
+pub mod Mapping
+pub mod Steps
+pub mod Binding
+pub mod Walk
+pub mod Pending
+pub mod Telling
+pub mod Worlds
+pub mod SeatThings
+pub mod SeatsKept
+pub mod Aiming

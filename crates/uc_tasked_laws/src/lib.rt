@@ -1,0 +1,4 @@
+// Laws over tasks: which objects of tasks are of no task yet.
+#![tactic(auto)]
+
+pub mod laws;
