@@ -12,14 +12,14 @@ pub fn law_running()
     ensures { LawRunning }
 {}
 
+/// So who runs has a name of its own there: no other execution of the world has it.
+pub fn law_own_programs()
+    ensures { LawOwnPrograms }
+{}
+
 /// In each run of a program that breaks no rule in which all that was asked so far fits, and nothing else
 /// is owed to what is let go of, who builds or destroys an object is not at home there: so no step
 /// forgets the running execution that forgets one which is at home in such an object.
 pub fn law_sparing()
     ensures { LawSparing }
-{}
-
-/// So who runs has a name of its own there: no other execution of the world has it.
-pub fn law_own_programs()
-    ensures { LawOwnPrograms }
 {}
