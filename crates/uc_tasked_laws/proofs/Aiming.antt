@@ -1,18 +1,17 @@
 -- What an event is raised at that is known by its number.
-use Rattle.std.proofs.Common.{◌≡◌, ℕ, ◌⊎◌, inl, inr, Bool, true, false, List, [], ◌∷◌, refl, sym, ap, ◌∙◌, subst}
+use Rattle.std.proofs.Common.{◌≡◌, ℕ, inl, inr, Bool, true, false, List, [], ◌∷◌, refl, sym, ◌∙◌, subst}
 use Rattle.uc_machine.specs.declared.exec.Exec.{Exec}
-use Rattle.uc_machine.specs.declared.exec.Owner.{Owner}
 use Rattle.uc_machine.specs.declared.exec.Owner.TheVariants.{Frame}
 use Rattle.uc_machine.specs.Executions.{others}
 use Rattle.uc_machine.specs.Pieces as piece
 use Rattle.uc_machine.specs.Pieces.{Link, Value, Number, Place, Running, Object, Nothing, Todo, Sort, Active, State, RaiseAtNow, further, top}
 use Rattle.uc_tree.specs.Source.{CleanUp}
-use Rattle.uc_typing.specs.Typing.{Ty, Num, Cell, Obj, Raw, Row, Clu, Pro, Name, Sig, Table, IsTarget}
+use Rattle.uc_typing.specs.Typing.{Ty, Cell, Obj, Raw, Name, Sig, Table}
 use Rattle.uc_typing.specs.Pieces.{Ok}
-use Rattle.uc_typing.specs.States.{IsObjectBy, IsAt}
+use Rattle.uc_typing.specs.States.{IsObjectBy}
 use Rattle.uc_life_laws.specs.Things as thing
 use Rattle.uc_life_laws.specs.Things.{Few, Within, IsFor, AtField, InTodo, InStack, Marks, Base, Things, Stands, Held, Known, lies, inside, itself}
-use Rattle.uc_life_laws.specs.Knowing.{Making, InMaking, AtHand, KnownAll, KnowsState}
+use Rattle.uc_life_laws.specs.Knowing.{InMaking, AtHand, KnownAll}
 use Rattle.uc_tasked_laws.specs.Aims.{IsAimed, LawAimed}
 
 -- a field and an element are places

@@ -1,5 +1,5 @@
 -- To-do lists that a step makes of such in which seats are told.
-use Rattle.std.proofs.Common.{◌≡◌, ℕ, zero, suc, ◌⊎◌, inl, inr, Bool, true, false, ◌&&◌, List, [], ◌∷◌, Option, Some, None, sym, ap, ◌∙◌, subst}
+use Rattle.std.proofs.Common.{◌≡◌, ℕ, zero, suc, inl, inr, Bool, true, false, ◌&&◌, List, [], ◌∷◌, Option, Some, None, sym, ap, ◌∙◌, subst}
 use Rattle.std.specs.Prelude.{nat_eq}
 use Rattle.uc_tree.specs.Programs.{Program}
 use Rattle.uc_tree.specs.Source as src
@@ -13,8 +13,7 @@ use Rattle.uc_machine.specs.Pieces as piece
 use Rattle.uc_machine.specs.Pieces.{Todo, Sort}
 use Rattle.uc_event_laws.specs.Counted.{params, count, CountedExpr, CountedMaybe, CountedItem, CountedClean, CountedRaised, CountedAt}
 use Rattle.uc_aside_laws.proofs.Keeping.{either}
-use Rattle.uc_tasked_laws.specs.Seated.{IsSpawning}
-use Rattle.uc_tasked_laws.specs.Seats.{Mark, Any, At, rest, rests, anys, AtEnd, CalledAt, CalledBy, CodeStmt, CodeBlock, CodeHandlers, CodeClauses, QuitsBy, Quits, QuitsAt, LeftBy, Ok, AtDrop, AtCall, Left}
+use Rattle.uc_tasked_laws.specs.Seats.{Mark, Any, At, rest, rests, anys, CalledAt, CalledBy, CodeStmt, CodeBlock, CodeHandlers, CodeClauses, QuitsBy, Quits, QuitsAt, LeftBy, Ok, AtDrop, Left}
 use Rattle.uc_tasked_laws.proofs.Marks as marks
 use Rattle.uc_tasked_laws.proofs.Marks.{rests_anys}
 

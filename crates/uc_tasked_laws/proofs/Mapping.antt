@@ -1,5 +1,5 @@
 -- To-do lists stay in order where less is told of seats.
-use Rattle.std.proofs.Common.{◌≡◌, ℕ, suc, ◌⊎◌, inl, inr, List, [], ◌∷◌}
+use Rattle.std.proofs.Common.{ℕ, suc, ◌⊎◌, inl, inr, List, [], ◌∷◌}
 use Rattle.uc_tree.specs.Programs.{Program}
 use Rattle.uc_tree.specs.Source as src
 use Rattle.uc_tree.specs.Source.{Expr, CleanUp, Source}

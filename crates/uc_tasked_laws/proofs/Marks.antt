@@ -7,10 +7,9 @@ use Rattle.uc_tree.specs.Source.{Expr, CleanUp, Stmts, Source}
 use Rattle.uc_machine.specs.declared.exec.Exec.{Exec}
 use Rattle.uc_machine.specs.Pieces as piece
 use Rattle.uc_machine.specs.Pieces.{Value, Todo, Active, below}
-use Rattle.uc_aside_laws.specs.OlderResting.{AllWait}
 use Rattle.uc_event_laws.specs.Counted.{params}
 use Rattle.uc_tasked_laws.specs.Seated.{IsSpawning, OfScope, OfPart, OpensOf, OpensNone, Makes, Before}
-use Rattle.uc_tasked_laws.specs.Seats.{Mark, Any, At, Holds, rest, rests, anys, Placed, Every, AtEnd, CalledBy, after, LeftBy, Ok, AtRest, AtDrop, AtCall, Left}
+use Rattle.uc_tasked_laws.specs.Seats.{Mark, Any, At, Holds, rest, rests, anys, Placed, Every, AtEnd, CalledBy, after, Ok, AtRest, AtDrop, AtCall, Left}
 
 -- operands
 
@@ -180,4 +179,3 @@ module _ (p : Program) (source : Source) (D B : Type 0) (K : ℕ → Expr → Ty
   left_tail piece.Finish todo h = left [] todo h.1
   left_tail piece.FinishCoroutine todo h = left [] todo h
   left_tail x todo h = h
-

@@ -1,5 +1,5 @@
 -- The seats of what an execution has to clean up.
-use Rattle.std.proofs.Common.{◌≡◌, ℕ, ◌⊎◌, inl, inr, true, List, [], ◌∷◌, Some, refl, sym, subst}
+use Rattle.std.proofs.Common.{◌≡◌, ℕ, inl, inr, true, List, [], ◌∷◌, Some, sym, subst}
 use Rattle.uc_tree.specs.Programs.{Program}
 use Rattle.uc_tree.specs.Source as src
 use Rattle.uc_tree.specs.Source.{Shape, Expr, CleanUp}
@@ -7,9 +7,9 @@ use Rattle.uc_machine.specs.declared.exec.Exec.{Exec}
 use Rattle.uc_machine.specs.declared.exec.Owner.TheVariants.{Frame}
 use Rattle.uc_machine.specs.Pieces as piece
 use Rattle.uc_machine.specs.Pieces.{Value, Todo, Active}
-use Rattle.uc_typing.specs.Typing.{Ty, Cell, Obj, Table, CleansAt}
+use Rattle.uc_typing.specs.Typing.{Cell, Obj, Table, CleansAt}
 use Rattle.uc_sound.specs.Tables.{table_of}
-use Rattle.uc_life_laws.specs.Things.{AtVariable, AtField, NoBase, InTodo, InStack}
+use Rattle.uc_life_laws.specs.Things.{AtVariable, AtField, InTodo}
 use Rattle.uc_tasked_laws.specs.Seated.{EndsTask, OfScope, OfPart}
 use Rattle.uc_tasked_laws.specs.Seats.{seat}
 use Rattle.uc_tasked_laws.specs.SeatedStates.{Told, IsFree, AllHave, Kept}

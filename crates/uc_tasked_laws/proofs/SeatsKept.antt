@@ -1,10 +1,9 @@
 -- What lists tell of the seats for which they have marks; and the laws over runs.
-use Rattle.std.proofs.Common.{◌≡◌, ℕ, suc, ◌<◌, ◌&&◌, ◌⊎◌, inl, inr, Bool, true, false, not, List, [], ◌∷◌, Option, Some, None, refl, ap, ◌∙◌, arith}
+use Rattle.std.proofs.Common.{◌≡◌, ℕ, ◌<◌, ◌&&◌, inl, inr, true, false, not, List, [], ◌∷◌, Option, Some, None, refl, ap, ◌∙◌}
 use Rattle.std.specs.Prelude.{nat_lt, slice_get}
 use Rattle.std.proofs.lemmas.Bool.{lt-ltb}
 use Rattle.uc_tree.specs.Programs.{Program}
 use Rattle.uc_tree.specs.Numbering.{sites_of}
-use Rattle.uc_tree.specs.Source as src
 use Rattle.uc_tree.specs.Source.{Expr, Source, Routine}
 use Rattle.uc_acts.specs.Journal.{Journal}
 use Rattle.uc_acts.specs.Known.{object_count, is_gone, owner}
@@ -23,11 +22,11 @@ use Rattle.uc_sound.specs.Formed.{IsFormed}
 use Rattle.uc_sound.specs.Tables.{table_of}
 use Rattle.uc_sound.proofs.SoundLemmas.{law_sound}
 use Rattle.uc_site_laws.proofs.Routines.{source_named}
-use Rattle.uc_event_laws.specs.Counted.{params, CountedRoutine}
+use Rattle.uc_event_laws.specs.Counted.{CountedRoutine}
 use Rattle.uc_event_laws.proofs.Arguments.{counted_source}
-use Rattle.uc_aside_laws.specs.OlderResting.{AllWait, NamedSlot, NamedParked, NamedHand, NamedMembers, NamedEnv}
+use Rattle.uc_aside_laws.specs.OlderResting.{AllWait, NamedSlot, NamedParked, NamedHand, NamedMembers}
 use Rattle.uc_tasked_laws.specs.Seated.{SeatedRoutine}
-use Rattle.uc_tasked_laws.specs.Seats.{Mark, Any, At, rest, rests, anys, Every, AtEnd, CalledBy, after, CodeRoutine, Ok, AtRest, AtDrop, AtCall, Left, Stands, Starts}
+use Rattle.uc_tasked_laws.specs.Seats.{Every, AtEnd, CodeRoutine, AtRest, AtDrop, Left, Stands, Starts}
 use Rattle.uc_tasked_laws.specs.SeatedStates.{Told, AllHave, Kept, Done, Begun, Finds, Runs, Waits, Calling, RunsNow, SeatedMembers, SeatedState}
 use Rattle.uc_tasked_laws.specs.TaskedRuns.{is_pending, told_by, KeepsSeats, SeatsKept, LawTasked}
 use Rattle.uc_tasked_laws.specs.OwnedRuns.{LawOwned}

@@ -8,7 +8,7 @@ use Rattle.uc_tree.specs.declared.kinds.Kind.TheVariants as kind
 use Rattle.uc_tree.specs.declared.kinds.Role.{Role}
 use Rattle.uc_tree.specs.declared.kinds.Role.TheVariants as role
 use Rattle.uc_tree.specs.Names.{same_name}
-use Rattle.uc_tree.specs.Numbering.{Defined, is_event, is_mutex, is_plain, routines_of}
+use Rattle.uc_tree.specs.Numbering.{is_mutex, routines_of}
 use Rattle.uc_tree.specs.Cells.{classes_of, leading_cells, object_of_kind, object_named}
 use Rattle.uc_tree.specs.Objects.{Making, AMutex, making_by, making, ClassField, fields_of, has_execution, class_shape, is_task, class_at, written_at, unwritten_of}
 use Rattle.uc_tree.specs.Programs as whole

@@ -1,5 +1,5 @@
 -- A quiet step of a state in which nobody who is pending is at home where a task is in scope leads to one.
-use Rattle.std.proofs.Common.{◌≡◌, ℕ, zero, suc, ◌⊎◌, inl, inr, ◌++◌, Bool, true, false, ◌&&◌, List, [], ◌∷◌, length, drop, Option, Some, None, refl, sym, ap, ◌∙◌, subst}
+use Rattle.std.proofs.Common.{◌≡◌, ℕ, zero, suc, ◌⊎◌, inl, inr, ◌++◌, Bool, true, false, List, [], ◌∷◌, length, drop, Option, Some, None, refl, sym, subst}
 use Rattle.std.specs.Prelude.{nat_eq, nat_lt, slice_set, pos}
 use Rattle.uc_tree.specs.declared.limits.TheConstants.{CALLS, PENDING_EVENTS}
 use Rattle.uc_tree.specs.Programs.{Program}
@@ -25,13 +25,13 @@ use Rattle.uc_machine.specs.Polls as polls
 use Rattle.uc_machine.specs.Quiet as quiet
 use Rattle.uc_machine.specs.Pieces as piece
 use Rattle.uc_machine.specs.Pieces.{Value, Number, Place, Running, Object, Nothing, Todo, Sort, Active, State, Env, Members, Step, Goes, Ticks, Asks, Outcome, Gives, Faults, at, in_env, goes, fault, asks, turns, top, below, number, written}
-use Rattle.uc_event_laws.specs.Counted.{params_at, params, count, CountedExpr, CountedExprs, CountedObject, CountedMaybe, CountedItem, CountedClean, CountedRaised, CountedAt}
+use Rattle.uc_event_laws.specs.Counted.{params_at, params, count, CountedExpr, CountedExprs, CountedObject, CountedClean}
 use Rattle.uc_aside_laws.specs.OlderResting.{AllWait, NamedEnv, NamedState}
 use Rattle.uc_aside_laws.proofs.Keeping as kept
 use Rattle.uc_aside_laws.proofs.Keeping.{either, tested}
 use Rattle.uc_tasked_laws.specs.Seated.{IsSpawning, IsTame, AreTame, Begins, OpensOf, Makes, Before}
 use Rattle.uc_tasked_laws.specs.Seats.{Mark, Any, At, Holds, rest, rests, anys, Placed, Every, AtEnd, CalledAt, CodeStmt, CodeStmts, CodeBlock, CodeHandlers, CodeRoutine, Quits, QuitsAt, LeftBy, Ok, AtRest, AtDrop, Left, Stands}
-use Rattle.uc_tasked_laws.specs.SeatedStates.{Told, Awaited, Kept, Done, Begun, Finds, Runs, Waits, Starting, Standing, Calling, SeatedAsk, FairAt}
+use Rattle.uc_tasked_laws.specs.SeatedStates.{Told, Awaited, Kept, Done, Begun, Runs, Waits, Starting, Standing, Calling, SeatedAsk, FairAt}
 use Rattle.uc_tasked_laws.proofs.Lists as lists
 use Rattle.uc_tasked_laws.proofs.Marks as marks
 use Rattle.uc_tasked_laws.proofs.Marks.{holds_below, holds_drop, holds_anys, drop_set}
@@ -97,7 +97,6 @@ module _ (g : Program) (source : Source) (told : Told) where
   seek n None e (a ∷ cs) h = found_or (raising.hit_in e a.control) a cs (raising.seek a.handles e cs) (lists.hit_in g source (Done g told n cs) (Begun g told n a.this cs) (Kept g told n a.frame a.this) e a.control h.0) (seek n a.handles e cs h.1)
   seek n (Some v) e (a ∷ cs) h =
       either (lists.OfFound g source) (nat_eq (length cs) v.level) (raising.found_or (raising.hit_in e (raising.within v.rest a.control)) a cs (raising.seek a.handles e cs)) (raising.seek (Some v) e cs) (found_or (raising.hit_in e (raising.within v.rest a.control)) a cs (raising.seek a.handles e cs) (lists.hit_in g source (Done g told n cs) (Begun g told n a.this cs) (Kept g told n a.frame a.this) e (raising.within v.rest a.control) (lists.within g source (Done g told n cs) (Begun g told n a.this cs) (Kept g told n a.frame a.this) v.rest a.control h.0)) (seek n a.handles e cs h.1)) (seek n (Some v) e cs h.1)
-
 
   -- in a list that is in order no scope opens next, so whatever opens next is so
   module _ (D B : Type 0) (S P : ℕ → Expr → Type 0) where

@@ -1,17 +1,16 @@
 -- What is told of seats, once more objects are pending that are at home elsewhere, and fewer others.
-use Rattle.std.proofs.Common.{◌≡◌, ℕ, ◌⊎◌, inl, inr, Bool, true, false, List, [], ◌∷◌, Option, Some, None, sym, ap, ◌∙◌, subst}
+use Rattle.std.proofs.Common.{◌≡◌, ℕ, ◌⊎◌, inl, inr, Bool, false, List, [], ◌∷◌, Option, Some, None, sym, ap, ◌∙◌, subst}
 use Rattle.uc_tree.specs.Programs.{Program}
 use Rattle.uc_tree.specs.Source as src
 use Rattle.uc_tree.specs.Source.{Expr, CleanUp, Stmts, Source}
 use Rattle.uc_machine.specs.declared.exec.Exec.{Exec}
 use Rattle.uc_machine.specs.declared.exec.Home.{Home}
-use Rattle.uc_machine.specs.declared.exec.Home.TheVariants as home
 use Rattle.uc_machine.specs.Executions.{Execution}
 use Rattle.uc_machine.specs.Pieces as piece
 use Rattle.uc_machine.specs.Pieces.{Value, Object, Todo, Active, Members}
 use Rattle.uc_aside_laws.specs.OlderResting.{AllWait, NamedSlot, NamedParked, NamedMembers}
 use Rattle.uc_tasked_laws.specs.Seated.{EndsTask, OfScope, OfPart, OpensOf}
-use Rattle.uc_tasked_laws.specs.Seats.{seat, Ok}
+use Rattle.uc_tasked_laws.specs.Seats.{seat}
 use Rattle.uc_tasked_laws.specs.SeatedStates.{Told, IsFree, IsFreeBut, Awaited, OnTop, MarkHas, AllHave, Kept, Done, Begun, Finds, Runs, Waits, Spawning}
 use Rattle.uc_tasked_laws.specs.TaskedRuns.{IsElsewhere, ApartRuns, ApartWaits}
 use Rattle.uc_tasked_laws.proofs.Marks.{opens_both}

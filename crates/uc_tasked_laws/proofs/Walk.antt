@@ -1,5 +1,5 @@
 -- Every quiet step of a state in which nobody who is pending is at home where a task is in scope, and answers to it.
-use Rattle.std.proofs.Common.{◌≡◌, ℕ, ◌⊎◌, List, [], ◌∷◌, ◌++◌, inl, inr, drop, Option, Some, None, refl, sym, subst}
+use Rattle.std.proofs.Common.{◌≡◌, ℕ, ◌⊎◌, List, [], ◌∷◌, ◌++◌, inl, inr, drop, Option, Some, None, refl, subst}
 use Rattle.std.specs.Prelude.{nat_lt, slice_get}
 use Rattle.uc_tree.specs.Programs.{Program}
 use Rattle.uc_tree.specs.Source as src
@@ -7,8 +7,6 @@ use Rattle.uc_tree.specs.Source.{Source, Routine, routine_or_none, routine_of}
 use Rattle.uc_entry.specs.declared.fault.RunFault.TheVariants.{NoReturn}
 use Rattle.uc_entry.specs.declared.request.Answer.{Answer}
 use Rattle.uc_entry.specs.declared.request.Answer.TheVariants as answer
-use Rattle.uc_entry.specs.declared.request.Request.{Request}
-use Rattle.uc_entry.specs.declared.request.Request.TheVariants as ask
 use Rattle.uc_machine.specs.declared.exec.Home.{Home}
 use Rattle.uc_machine.specs.declared.exec.Home.TheVariants as home
 use Rattle.uc_machine.specs.Executions.{values_cleared}

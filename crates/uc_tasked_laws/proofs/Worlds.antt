@@ -1,5 +1,5 @@
 -- In every run of a program nobody who is pending is at home where a task is in scope.
-use Rattle.std.proofs.Common.{◌≡◌, ℕ, ◌<◌, ◌≤◌, ◌==◌, ◌||◌, Bool, true, false, List, [], ◌∷◌, ◌++◌, inl, Option, Some, None, refl, sym, ap, ◌∙◌, subst, arith, append-nil, append_assoc, ⊎_elim}
+use Rattle.std.proofs.Common.{◌≡◌, ℕ, ◌<◌, ◌≤◌, ◌==◌, ◌||◌, Bool, true, false, List, [], ◌∷◌, ◌++◌, Option, Some, None, refl, sym, ap, ◌∙◌, subst, arith, append-nil, append_assoc, ⊎_elim}
 use Rattle.std.specs.Prelude.{if◌then◌else◌, slice_get, nat_lt, pos}
 use Rattle.std.proofs.lemmas.Bool.{eqb-true, ne_eqb, cases_lt}
 use Rattle.std.proofs.lemmas.List.Folds.{list_any-append}
@@ -8,7 +8,6 @@ use Rattle.uc_tree.specs.Programs.{Site, Program}
 use Rattle.uc_tree.specs.declared.limits.TheConstants.{TASKS}
 use Rattle.uc_entry.specs.declared.fault.RunFault.TheVariants as run_fault
 use Rattle.uc_entry.specs.Faults.{fault_number}
-use Rattle.uc_tree.specs.Numbering.{sites_of}
 use Rattle.uc_tree.specs.Source.{Source, routine_of}
 use Rattle.uc_entry.specs.declared.entry.Entry.{Entry}
 use Rattle.uc_entry.specs.declared.entry.EntryKind.{EntryKind}
@@ -35,37 +34,30 @@ use Rattle.uc_acts.proofs.Moves.{more_tasks}
 use Rattle.uc_acts.proofs.Rows.{Lawful}
 use Rattle.uc_acts.proofs.SoundLemmas.{ended_push}
 use Rattle.uc_machine.specs.declared.exec.Home.TheVariants as home
-use Rattle.uc_machine.specs.declared.exec.Exec.{Exec}
-use Rattle.uc_machine.specs.Quiet.{Value, State, Active, Members, no_members, first_state, quiet}
+use Rattle.uc_machine.specs.Quiet.{Value, State, Members, no_members, first_state, quiet}
 use Rattle.uc_machine.specs.Answering.{answered, child_main, child_of}
 use Rattle.uc_machine.specs.Rides as rides
 use Rattle.uc_machine.specs.Rides.{Rides}
 use Rattle.uc_meaning.specs.Runs.{World, AsksIn, May, Runs as RunsIn, gives, no_room, acts, begun, more, bare, with_home, hand_of, drawn, or_else, world_after}
 use Rattle.uc_resolve.specs.Resolve.{source_of}
-use Rattle.uc_rules.specs.Breaks.{breaks_of}
-use Rattle.uc_sound.specs.Formed.{IsFormed}
-use Rattle.uc_sound.specs.Tables.{table_of}
-use Rattle.uc_sound.proofs.SoundLemmas.{law_sound}
 use Rattle.uc_program_laws.specs.Fitting.{MayFit, RunFits}
 use Rattle.uc_program_laws.proofs.Alive.{law_alive}
 use Rattle.uc_program_laws.proofs.Makes.{law_ends}
 use Rattle.uc_program_laws.proofs.Others.{RunRests, may_ask, run_rests}
-use Rattle.uc_answer_laws.specs.Suiting.{Form, JustGo, asked_form, form_of_request}
+use Rattle.uc_answer_laws.specs.Suiting.{JustGo, asked_form, form_of_request}
 use Rattle.uc_answer_laws.proofs.Told.{form_push, SpotSuits}
 use Rattle.uc_answer_laws.proofs.Runs.{kept_run, law_suiting}
 use Rattle.uc_answer_laws.proofs.Asking.{law_asking}
 use Rattle.uc_scope_laws.specs.RoomRuns as rooms
 use Rattle.uc_scope_laws.specs.RoomRuns.{Leads, Comes}
 use Rattle.uc_value_laws.specs.Opens.{RideMeets, MayMeet, LeadsMeet}
-use Rattle.uc_site_laws.proofs.Routines.{source_named}
-use Rattle.uc_event_laws.proofs.Arguments.{counted_source}
-use Rattle.uc_aside_laws.specs.OlderResting.{AllWait, NamedParked, NamedHand, NamedEnv}
+use Rattle.uc_aside_laws.specs.OlderResting.{AllWait, NamedParked, NamedHand}
 use Rattle.uc_event_laws.specs.Marked.{operands}
 use Rattle.uc_aside_laws.proofs.Keeping as kept
 use Rattle.uc_aside_laws.proofs.Keeping.{either}
-use Rattle.uc_tasked_laws.specs.Seated.{SeatedRoutine, SeatedSource, SpawnsSource}
+use Rattle.uc_tasked_laws.specs.Seated.{SpawnsSource}
 use Rattle.uc_tasked_laws.specs.Seats.{CodeRoutine}
-use Rattle.uc_tasked_laws.specs.SeatedStates.{Told, Finds, Runs, Waits, FindsBehind, Fair, SeatedMembers, SeatedState, SeatedRest, SeatedAsk, SeatedStep, Spawning}
+use Rattle.uc_tasked_laws.specs.SeatedStates.{Told, Finds, Runs, Waits, FindsBehind, Fair, SeatedMembers, SeatedState, SeatedRest, SeatedAsk, SeatedStep}
 use Rattle.uc_tasked_laws.specs.TaskedRuns.{is_pending, told_by, ApartTask, ApartWorld, RunFair, RunMakesApart}
 use Rattle.uc_tasked_laws.proofs.Pending.{later, not_pending, spawned_by}
 use Rattle.uc_tasked_laws.proofs.Telling as telling

@@ -2,7 +2,7 @@
 -- or at what it is building or destroying.
 use Rattle.std.specs.Prelude.{◌≡◌, ℕ, ◌⊎◌, true, List, [], ◌∷◌}
 use Rattle.uc_machine.specs.declared.exec.Exec.{Exec}
-use Rattle.uc_machine.specs.Pieces.{Value, Object, Todo, RaiseAtNow, Active, State, top}
+use Rattle.uc_machine.specs.Pieces.{Object, Todo, RaiseAtNow, Active, State, top}
 use Rattle.uc_typing.specs.Typing.{Cell, Obj, Raw, Sig, Table}
 use Rattle.uc_life_laws.specs.Things.{Few, Base, Stands}
 use Rattle.uc_life_laws.specs.Knowing.{AtHand, InMaking, KnowsState}

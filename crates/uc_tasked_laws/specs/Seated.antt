@@ -1,12 +1,12 @@
 -- Code in which the scope of a mutex object that is a variable, and the part of an object under construction that is a mutex object, opens right
 -- behind the statement that makes it there by a constructor of its class.
-use Rattle.std.specs.Prelude.{◌≡◌, ℕ, ◌⊎◌, List, [], ◌∷◌, Option, Some, None, slice_get, true}
+use Rattle.std.specs.Prelude.{◌≡◌, ℕ, ◌⊎◌, Option, Some, None, slice_get, true}
 use Rattle.uc_tree.specs.declared.kinds.Base.{Base}
 use Rattle.uc_tree.specs.declared.kinds.Role.{Role}
 use Rattle.uc_tree.specs.declared.kinds.Role.TheVariants as role
 use Rattle.uc_tree.specs.Objects.{AMutex, making, written_at, unwritten_number}
 use Rattle.uc_tree.specs.Programs.{Program}
-use Rattle.uc_tree.specs.Source.{Expr, Variable, Load, OfObject, OwnField, EndOn, MakeOn, CleanUp, Destroys, Frees, Stmt, Stmts, Block, Whole, Evaluate, If, Loop, Fill, OfEvents, OfTasks, Nil, Then, Scoped, Built, EventStmt, Try, Enable, Disable, TaskStmt, SetUp, Enliven, Accept, Handlers, NoHandlers, MoreHandlers, Clauses, NoClauses, Otherwise, MoreClauses, Purpose, Builder, Routine, Source}
+use Rattle.uc_tree.specs.Source.{Expr, Variable, Load, OfObject, OwnField, EndOn, MakeOn, CleanUp, Destroys, Frees, Stmt, Stmts, Block, Whole, Evaluate, If, Loop, Fill, OfEvents, OfTasks, Nil, Then, Scoped, Built, EventStmt, Try, Enable, Disable, TaskStmt, SetUp, Enliven, Accept, Handlers, NoHandlers, MoreHandlers, Clauses, NoClauses, Otherwise, MoreClauses, Builder, Routine, Source}
 use Rattle.uc_sound.specs.Tables.{table_of}
 
 -- the constructor or the destructor of a class, by its number: the one that is written, or that which stands for it where none is

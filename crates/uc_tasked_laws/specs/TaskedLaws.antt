@@ -1,6 +1,6 @@
 -- Where tasks are in scope nobody is at home who is still to be of a task: of every program, of every task of such a source, and of what an execution
 -- has to clean up.
-use Rattle.std.specs.Prelude.{◌≡◌, ℕ, true, List, [], ◌∷◌}
+use Rattle.std.specs.Prelude.{◌≡◌, ℕ, true, List, []}
 use Rattle.uc_tree.specs.Programs.{Program}
 use Rattle.uc_tree.specs.Source.{Source, routine_of}
 use Rattle.uc_entry.specs.declared.request.Answer.{Answer}
