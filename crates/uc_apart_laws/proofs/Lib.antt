@@ -1,3 +1,4 @@
 pub mod Clear
 pub mod Nowhere
 pub mod Own
+pub mod Before

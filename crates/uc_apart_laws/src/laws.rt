@@ -1,5 +1,6 @@
 // The laws: each is a function whose contract is the law.
 
+ghost use Rattle.uc_apart_laws.specs.Before.{LawBefore};
 ghost use Rattle.uc_apart_laws.specs.Clear.{LawClear};
 ghost use Rattle.uc_apart_laws.specs.Nowhere.{LawNowhere};
 ghost use Rattle.uc_apart_laws.specs.Own.{LawOwn};
@@ -20,4 +21,10 @@ pub fn law_nowhere()
 /// is at home, where what it has of others is not its own.
 pub fn law_own()
     ensures { LawOwn }
+{}
+
+/// In each run in which just before an object goes, or is given up, it is nowhere in the world, and what
+/// else is let go of is at hand of nobody of whom that is asked, nobody else has at hand what is let go of.
+pub fn law_before()
+    ensures { LawBefore }
 {}
