@@ -38,7 +38,7 @@ use Rattle.uc_building_laws.specs.Building.{is_bound_in, heads_of, InHead}
 use Rattle.uc_building_laws.specs.BuildingStates.{variable}
 use Rattle.uc_building_laws.specs.BuildingLaws.{IsConstructed, Constructs, BuildsAt, Fair}
 use Rattle.uc_building_laws.specs.BuildingRuns.{Makes, MakesNext, RemainsAt, Remains, LawHeads}
-use Rattle.uc_building_laws.proofs.Given.{owns, in_scope, none_made}
+use Rattle.uc_building_laws.proofs.Given.{owns, in_scope, made_elsewhere}
 use Rattle.uc_building_laws.proofs.Heads.{heads, unsited}
 use Rattle.uc_building_laws.proofs.Plain.{plain_of, no_scope}
 
@@ -189,5 +189,5 @@ module _ (p : Program) (formed : IsFormed p) (accepted : breaks_of p ≡ []) whe
 pub law_heads : LawHeads
 law_heads = record {
   binds = λ p formed accepted r d x q e i h. binds p formed accepted r d x q e i h;
-  given = λ t source sound s r todo e h. none_made t source sound s r todo e h;
+  given = λ t source sound s r todo e h. made_elsewhere t source sound s r todo e h;
 }

@@ -16,11 +16,11 @@ use Rattle.uc_rules.specs.Breaks.{breaks_of}
 use Rattle.uc_scope_laws.specs.RoomRuns.{Comes}
 use Rattle.uc_value_laws.specs.Opens as there
 use Rattle.uc_value_laws.specs.Opens.{RunMeets, LeadsMeet}
-use Rattle.uc_typing.specs.Typing.{Ty, Obj, Row, Table, IsParam, CleansAt}
+use Rattle.uc_typing.specs.Typing.{Ty, Obj, Raw, Row, Table, IsParam, CleansAt}
 use Rattle.uc_typing.specs.States.{Sound}
 use Rattle.uc_sound.specs.Formed.{IsFormed}
 use Rattle.uc_sound.specs.Tables.{table_of}
-use Rattle.uc_life_laws.specs.Things.{IsField, IsUnbound, IsTracked, Things, LiesIn, Holds}
+use Rattle.uc_life_laws.specs.Things.{IsField, IsUnbound, IsTracked, is_outside, Things, LiesIn, Holds}
 use Rattle.uc_life_laws.specs.LifeStates.{frame_at, Outwards}
 use Rattle.uc_life_laws.specs.Knowing.{InMaking, KnowsState, Finds}
 use Rattle.uc_life_laws.specs.Opened.{any}
@@ -53,10 +53,12 @@ module _ (t : Table) (source : Source) (s : State) where
   abbrev pub Remains : Type 0
   Remains = RemainsAt s.run.control
 
--- no constructor and no destructor waits or runs, by some typing
-pub record NoneMade (t : Table) (s : State) : Type 0 where
+-- all that is being built or destroyed, by some typing, is of a class in which nothing is bound, or lies in no frame of this execution, as a mutex
+-- object does and what is in one
+pub record MadeElsewhere (t : Table) (s : State) : Type 0 where
   pub knows : KnowsState t any [] s
-  pub none : (w : Value) (a : Ty) → InMaking knows.sigs (s.run ∷ s.callers) w a → ⊥
+  pub elsewhere : (w : Value) (c : ℕ) → InMaking knows.sigs (s.run ∷ s.callers) w (Raw c) →
+      IsUnbound t (Obj c) ⊎ (is_outside s.env.exec w ≡ true)
 
 -- a step finds what it is to find: where the scope of an object opens, the fields of which `heads` does not tell hold what is known; where that of an
 -- array of objects opens, they do; what is left to find of how objects are built; and the rest as where nothing is told of objects
@@ -73,8 +75,8 @@ pub record MeetsBuilding (t : Table) (heads : ℕ → ℕ → Bool) (source : So
   pub builds : Remains t source s
 
 -- the constructor of a class of which variables are declared, and which is no mutex class, binds each field that `heads_of` tells in one of its first
--- statements, to what is of the type that stands there, or nothing is bound there at all; so it is in each program that breaks no rule. And where no
--- constructor and no destructor waits or runs, what a constructor is given is in scope
+-- statements, to what is of the type that stands there, or nothing is bound there at all; so it is in each program that breaks no rule. And where all
+-- that is being built or destroyed is such, what a constructor is given is in scope
 pub record LawHeads : Type 0 where
   pub binds : (p : Program) → IsFormed p → breaks_of p ≡ [] → (r d : ℕ) (x : ArePaired p r d) →
       (q : Routine) → slice_get (source_of p).routines r ≡ Some q → (i : ℕ) →
@@ -82,7 +84,7 @@ pub record LawHeads : Type 0 where
       InHead (table_of p) ((table_of p).routine r).params x.class i q.body ⊎ IsUnbound (table_of p) ((table_of p).fields x.class i)
   pub given : (t : Table) (source : Source) → Sound t source → (s : State) (r : ℕ) (todo : List Todo) →
       (s.run.control ≡ CallOnNow r ∷ todo) ⊎ (s.run.control ≡ CallUnwrittenNow r ∷ todo) →
-      NoneMade t s → Makes t source s r
+      MadeElsewhere t s → Makes t source s r
 
 -- then objects hold what is known where their scopes open, in each run of a program that breaks no rule, as long as all that was asked before
 -- fits: at each step so far, at each on the way to a state to which whoever runs comes before it asks, and there

@@ -19,8 +19,8 @@ pub fn law_clears()
 {}
 
 /// The constructor of a class of which variables are declared binds each field that it is told of in its
-/// first statements to what is of the type that stands there. Where no constructor and no destructor
-/// waits or runs, what it is given is in scope.
+/// first statements to what is of the type that stands there. What it is given is in scope, where what is
+/// being built or destroyed in frames of the execution is of classes in which nothing is bound.
 pub fn law_heads()
     ensures { LawHeads }
 {}
