@@ -110,7 +110,7 @@ module _ (source : Source) {j : Journal} {w : World} (sound : Sound j) (serials 
             ap (λ (u : Members). find (w.tasks t).env.exec.serial u.parked) same ∙ i
 
     tasks_other : (v : ℕ) → EnvBy (λ m z. m ≡ (w.tasks t).env.exec → ⊥) (w.tasks v).env
-    tasks_other v = ⊎_elim (λ le. known v le) (λ le. first_env (λ m z. m ≡ (w.tasks t).env.exec → ⊥) (w.tasks v) (later v le)) (cases_lt v (task_count j))
+    tasks_other v = ⊎_elim (λ le. known v le) (λ le. first_env (λ m z. m ≡ (w.tasks t).env.exec → ⊥) source (w.tasks v) (later v le)) (cases_lt v (task_count j))
       where
         known : (v : ℕ) → v < task_count j → EnvBy (λ m z. m ≡ (w.tasks t).env.exec → ⊥) (w.tasks v).env
         known v le = record {

@@ -48,7 +48,7 @@ leaves own ask.End s h = or_first (home_eq s.env.exec.home (Object own)) (has_en
 leaves own q s h = tt
 
 module _ (p : Program) (formed : IsFormed p) (ok : breaks_of p ≡ []) (input : List ℕ) (opts : Options) (range : InRange opts) where
-  run_leaves : {j : Journal} {w : World} (r : Runs (source_of p) input opts j w) → RunFits (source_of p) input opts j w r → RunAlone (source_of p) input opts j w r → RunLeaves (source_of p) input opts j w r
+  pub run_leaves : {j : Journal} {w : World} (r : Runs (source_of p) input opts j w) → RunFits (source_of p) input opts j w r → RunAlone (source_of p) input opts j w r → RunLeaves (source_of p) input opts j w r
   run_leaves begun f g = tt
   run_leaves (more r o (gives q t s le)) f g = (run_leaves r f.0 g.0, tt)
   run_leaves (more r o (no_room q t s le)) f g = (run_leaves r f.0 g.0, tt)

@@ -1,5 +1,6 @@
 // The laws: each is a function whose contract is the law.
 
+ghost use Rattle.uc_running_laws.specs.OwnPrograms.{LawOwnPrograms};
 ghost use Rattle.uc_running_laws.specs.Running.{LawRunning};
 
 /// In each run of a program that breaks no rule in which all that was asked so far fits, nothing else
@@ -8,4 +9,9 @@ ghost use Rattle.uc_running_laws.specs.Running.{LawRunning};
 /// and no other execution in hand is so.
 pub fn law_running()
     ensures { LawRunning }
+{}
+
+/// So who runs has a name of its own there: no other execution of the world has it.
+pub fn law_own_programs()
+    ensures { LawOwnPrograms }
 {}

@@ -1,0 +1,25 @@
+-- In programs that break no rule who runs has a name of its own, as long as nothing else is owed to what is let go of and no step forgets the
+-- execution that runs.
+use Rattle.std.specs.Prelude.{◌≡◌, ℕ, false, List, []}
+use Rattle.uc_tree.specs.Programs.{Program}
+use Rattle.uc_entry.specs.declared.entry.Options.{Options}
+use Rattle.uc_acts.specs.Journal.{Journal, is_over}
+use Rattle.uc_acts.specs.KernelRuns.{InRange}
+use Rattle.uc_resolve.specs.Resolve.{source_of}
+use Rattle.uc_rules.specs.Breaks.{breaks_of}
+use Rattle.uc_sound.specs.Formed.{IsFormed}
+use Rattle.uc_meaning.specs.Runs.{World, Runs}
+use Rattle.uc_program_laws.specs.Fitting.{RunFits}
+use Rattle.uc_value_laws.specs.Opens.{RunMeets}
+use Rattle.uc_name_laws.specs.NameSteps.{Spares}
+use Rattle.uc_letting_laws.specs.AloneRuns.{RunAlone}
+use Rattle.uc_own_names.specs.OwnNames.{AllOwnNames}
+
+-- in each run in which all that was asked so far fits
+abbrev pub LawOwnPrograms : Type 0
+LawOwnPrograms =
+    (p : Program) → IsFormed p → breaks_of p ≡ [] → (input : List ℕ) (opts : Options) → InRange opts →
+    (j : Journal) (w : World) (r : Runs (source_of p) input opts j w) →
+    RunFits (source_of p) input opts j w r → is_over j ≡ false →
+    RunAlone (source_of p) input opts j w r → RunMeets Spares (source_of p) input opts j w r →
+    AllOwnNames (source_of p) input opts j w r
