@@ -7,7 +7,7 @@ use Rattle.uc_entry.specs.declared.entry.Options.{Options}
 use Rattle.uc_entry.specs.declared.request.Asked.{Asked}
 use Rattle.uc_entry.specs.declared.request.Request.{Request}
 use Rattle.uc_entry.specs.declared.request.Request.TheVariants as ask
-use Rattle.uc_acts.specs.Journal.{Journal, begin, held, is_over}
+use Rattle.uc_acts.specs.Journal.{Journal, begin, held, entries_at, is_over}
 use Rattle.uc_acts.specs.Known.{has, task_count, object_count, owner}
 use Rattle.uc_acts.specs.Serves.{left}
 use Rattle.uc_acts.specs.Acts.{act, lone_limit}
@@ -156,7 +156,7 @@ unfolding object_count
 one_object opts = omega arith
 
 nobody : (a : ℕ) → owner a [] ≡ []
-unfolding owner
+unfolding owner entries_at
 nobody a = refl
 
 module _ (source : Source) (opts : Options) (serials : Home → ℕ) (x : WorldNamed serials (begin opts ∷ []) (first_world source)) where
@@ -172,8 +172,11 @@ module _ (source : Source) (opts : Options) (serials : Home → ℕ) (x : WorldN
   other_task a e = x.unowned a (owner_other a [] (begin opts) (turned a e) ∙ nobody a)
     where
       turned : (a : ℕ) → (a == 0) ≡ false → (0 == a) ≡ false
-      turned zero e = absurd (cc)
-      turned (suc a) e = refl
+      turned a e = by (0 == a) refl
+        where
+          by : (b : Bool) → (0 == a) ≡ b → (0 == a) ≡ false
+          by true g = no_both (a == 0) (eq-eqb a 0 (sym (eqb-true 0 a g))) e
+          by false g = g
 
   one_at_task : serials (home.Task 0) ≡ 1
   one_at_task =
@@ -319,14 +322,14 @@ module _ (makers : Makers) where
         by : (b : Bool) → exec_eq n (main_of o) ≡ b → (if b then true else made n) ≡ true → IsLater n
         by true g e = subst (λ k. IsLater k) (sym (same_exec n (main_of o) g)) (later_by (main_of o) s.env.exec (stacked (s.run ∷ s.callers)) l)
         by false g e = h n e
-    asked_later made q s l h = h
+    asked_later made q s l h n e = h n e
 
     run_later : (input : List ℕ) (opts : Options) {j : Journal} {w : World} (r : Runs source input opts j w) → RunMeets (MakesLater source makers) source input opts j w r → RunSpawnsLater makers source input opts j w r → AllLater (run_made source input opts r)
     run_later input opts begun m l n e = absurd (cc)
-    run_later input opts (more r o (gives p t v le)) m l = run_later input opts r m.0 l.0
-    run_later input opts (more r o (no_room p t v le)) m l = run_later input opts r m.0 l.0
-    run_later input opts (more r o (acts p t n s q d)) m l =
-        asked_later (ride_made source (run_made source input opts r) d.rides) q.request s l.1 (ride_later (run_made source input opts r) d.rides m.1 (run_later input opts r m.0 l.0))
+    run_later input opts (more r o (gives p t v le)) m l k e = run_later input opts r m.0 l.0 k e
+    run_later input opts (more r o (no_room p t v le)) m l k e = run_later input opts r m.0 l.0 k e
+    run_later input opts (more r o (acts p t n s q d)) m l k e =
+        asked_later (ride_made source (run_made source input opts r) d.rides) q.request s l.1 (ride_later (run_made source input opts r) d.rides m.1 (run_later input opts r m.0 l.0)) k e
 
 pub law_made_runs : LawMadeRuns
 law_made_runs = record {
