@@ -12,7 +12,7 @@ use Rattle.uc_machine.specs.Raising as raising
 use Rattle.uc_machine.specs.Monitors as monitors
 use Rattle.uc_machine.specs.Quiet as quiet
 use Rattle.uc_machine.specs.Pieces as piece
-use Rattle.uc_machine.specs.Pieces.{Value, Todo, State, Members, at, top, below, number}
+use Rattle.uc_machine.specs.Pieces.{Value, Todo, State, Step, Members, at, top, below, number}
 use Rattle.uc_name_laws.specs.Below.{IsBelow, IsNamed, AreNamed}
 use Rattle.uc_name_laws.specs.NameSteps.{Named, StepNamed, Grows, IsBorn, BornBelow, NamedBehind, SparesAt, Spares, LawSteps}
 use Rattle.uc_name_laws.proofs.Homes.{no_both}
