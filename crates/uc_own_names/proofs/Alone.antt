@@ -1,5 +1,5 @@
 -- No execution that does not run has the name of one that is there without what it has to do.
-use Rattle.std.proofs.Common.{◌≡◌, ℕ, ◌==◌, ◌||◌, Bool, true, false, List, [], ◌∷◌, Option, Some, None, refl, sym, ap, ◌∙◌}
+use Rattle.std.proofs.Common.{◌≡◌, ℕ, ◌||◌, Bool, true, false, List, [], ◌∷◌, Option, Some, None, refl, sym, ap, ◌∙◌}
 use Rattle.std.specs.Prelude.{nat_eq, if◌then◌else◌}
 use Rattle.std.proofs.lemmas.Bool.{eqb-true, eq-eqb}
 use Rattle.uc_entry.specs.Keyed.{find}
@@ -8,12 +8,12 @@ use Rattle.uc_machine.specs.declared.exec.Exec.{Exec}
 use Rattle.uc_machine.specs.declared.exec.Home.{Home}
 use Rattle.uc_machine.specs.declared.exec.Home.TheVariants as home
 use Rattle.uc_machine.specs.Executions.{members_at, slot_in}
-use Rattle.uc_machine.specs.Pieces.{State, Env, Members}
+use Rattle.uc_machine.specs.Pieces.{Env, Members}
 use Rattle.uc_step_laws.specs.Hands.{keys}
 use Rattle.uc_hand_laws.proofs.Lists.{Once, once_rest, first_once}
 use Rattle.uc_life_laws.specs.LifeStates.{SlotBy, ParkedBy, HandBy, EnvBy}
 use Rattle.uc_name_laws.specs.Below.{Ex, AreApart, EnvNamed, slot_at}
-use Rattle.uc_name_laws.proofs.Homes.{no_both, none_some}
+use Rattle.uc_name_laws.proofs.Homes.{no_both}
 
 -- not one that does not run
 abbrev pub NoRest : Option (Option Ex) → Type 0

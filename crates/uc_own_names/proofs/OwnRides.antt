@@ -1,6 +1,5 @@
 -- In the states of a ride what runs is at home where its task has something at hand, and nothing else in hand has its name.
 use Rattle.std.proofs.Common.{◌≡◌, ℕ, ◌==◌, ◌⊎◌, inl, inr, Bool, true, false, List, [], ◌∷◌, ◌++◌, Option, Some, None, refl, sym, ap, ◌∙◌, subst, ◌||◌}
-use Rattle.std.specs.Prelude.{nat_eq}
 use Rattle.std.proofs.lemmas.Bool.{eqb-true, eq-eqb}
 use Rattle.uc_tree.specs.Source.{Source}
 use Rattle.uc_entry.specs.declared.entry.Options.{Options}
@@ -10,7 +9,6 @@ use Rattle.uc_entry.specs.declared.request.Asked.{Asked}
 use Rattle.uc_entry.specs.Keyed.{find}
 use Rattle.uc_acts.specs.Journal.{Journal, held, is_over}
 use Rattle.uc_acts.specs.Known.{has}
-use Rattle.uc_acts.specs.Queues.{running}
 use Rattle.uc_acts.specs.Answers.{answer_to, just_made}
 use Rattle.uc_acts.specs.KernelRuns.{InRange}
 use Rattle.uc_acts.proofs.Held.{law_held}
@@ -23,18 +21,17 @@ use Rattle.uc_machine.specs.Answering.{answered}
 use Rattle.uc_machine.specs.Rides.{Rides, slices, goes_on, ticks, asks}
 use Rattle.uc_meaning.specs.Runs.{World, with_home, hand_of, drawn}
 use Rattle.uc_step_laws.specs.Hands.{keys}
-use Rattle.uc_step_laws.specs.Holding.{plain, Binds, PlainMembers, PlainHand, Holding, BindsNext, StepHolding}
+use Rattle.uc_step_laws.specs.Holding.{plain, PlainMembers, PlainHand, Holding, BindsNext, StepHolding}
 use Rattle.uc_step_laws.proofs.Walk.{law_steps}
 use Rattle.uc_step_laws.proofs.Told.{law_told}
 use Rattle.uc_program_laws.proofs.Others.{RunRests}
 use Rattle.uc_hand_laws.proofs.Lists.{Once, once_more, once_rest, first_once}
 use Rattle.uc_scope_laws.specs.RoomRuns.{Leads, stays, goes, ticks as leads_by_tick}
 use Rattle.uc_value_laws.specs.Opens.{RideMeets, LeadsMeet}
-use Rattle.uc_name_laws.specs.Below.{EnvNamed}
-use Rattle.uc_name_laws.specs.NameSteps.{Named, StepNamed, NamedBehind, Spares}
+use Rattle.uc_name_laws.specs.NameSteps.{Named, StepNamed, Spares}
 use Rattle.uc_name_laws.proofs.Homes.{no_both, none_some}
 use Rattle.uc_name_laws.proofs.Walk.{walk}
-use Rattle.uc_named_runs.proofs.Worlds.{WorldNamed, found_home, absent_home, found_none}
+use Rattle.uc_named_runs.proofs.Worlds.{found_home, absent_home, found_none}
 use Rattle.uc_own_names.specs.OwnNames.{at_hand, IsOwn, StepOwn, StaysOwn}
 use Rattle.uc_own_names.proofs.Alone.{alone_env}
 

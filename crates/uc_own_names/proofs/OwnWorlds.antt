@@ -11,19 +11,18 @@ use Rattle.uc_machine.specs.declared.exec.Exec.{Exec}
 use Rattle.uc_machine.specs.declared.exec.Home.{Home}
 use Rattle.uc_machine.specs.declared.exec.Home.TheVariants as home
 use Rattle.uc_machine.specs.Executions.{members_at, slot_in}
-use Rattle.uc_machine.specs.Pieces.{State, Env, Members}
+use Rattle.uc_machine.specs.Pieces.{State, Members}
 use Rattle.uc_machine.specs.Quiet.{first_state}
 use Rattle.uc_meaning.specs.Runs.{World, hand_of, drawn}
 use Rattle.uc_program_laws.proofs.Ticks.{not_true}
 use Rattle.uc_program_laws.proofs.Makes.{same_holder}
 use Rattle.uc_life_laws.specs.LifeStates.{SlotBy, ParkedBy, HandBy, EnvBy, MembersBy}
-use Rattle.uc_name_laws.specs.Below.{Ex, AreApart, EnvNamed}
+use Rattle.uc_name_laws.specs.Below.{Ex, AreApart}
 use Rattle.uc_name_laws.proofs.Homes.{no_both, none_some, the_same}
-use Rattle.uc_named_runs.specs.NamedRuns.{is_here}
 use Rattle.uc_named_runs.proofs.Worlds.{WorldNamed, found_home, absent_home}
 use Rattle.uc_named_runs.proofs.RunningWorlds.{WorldRuns}
 use Rattle.uc_own_names.specs.OwnNames.{at_hand, HasOwnName, IsElsewhere}
-use Rattle.uc_own_names.proofs.Alone.{NoRest, empty_rests, Other, parked_other}
+use Rattle.uc_own_names.proofs.Alone.{NoRest, empty_rests, parked_other}
 
 one_and_one : (u v : ℕ) → u ∷ [] ≡ v ∷ [] → u ≡ v
 one_and_one u v h = cc

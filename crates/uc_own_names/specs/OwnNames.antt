@@ -7,7 +7,6 @@ use Rattle.uc_acts.specs.Journal.{Journal, held, is_over}
 use Rattle.uc_acts.specs.Known.{has, task_count}
 use Rattle.uc_acts.specs.KernelRuns.{InRange}
 use Rattle.uc_acts.specs.Serves.{left}
-use Rattle.uc_machine.specs.declared.exec.Exec.{Exec}
 use Rattle.uc_machine.specs.declared.exec.Home.{Home}
 use Rattle.uc_machine.specs.declared.exec.Home.TheVariants.{Object}
 use Rattle.uc_machine.specs.Pieces.{State, Env, Step, Goes, Ticks, Asks}

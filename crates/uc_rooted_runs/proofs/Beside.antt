@@ -1,6 +1,5 @@
 -- Where an object goes, who runs alone could still have to do with it.
 use Rattle.std.proofs.Common.{◌≡◌, ℕ, ◌==◌, ◌<◌, ◌≤◌, ◌⊎◌, inl, inr, Bool, true, false, List, [], ◌∷◌, ◌++◌, Option, Some, None, refl, sym, ◌∙◌, subst, ⊎_elim}
-use Rattle.std.specs.Prelude.{nat_eq}
 use Rattle.std.proofs.lemmas.Bool.{eqb-true, eq-eqb, cases_lt}
 use Rattle.uc_entry.specs.declared.entry.Entry.{Entry}
 use Rattle.uc_acts.specs.Journal.{Journal}
@@ -18,8 +17,8 @@ use Rattle.uc_meaning.specs.Runs.{World}
 use Rattle.uc_name_laws.proofs.Homes.{no_both}
 use Rattle.uc_typing.specs.Typing.{Ty, Cell, Obj, Raw, Sig, Table}
 use Rattle.uc_life_laws.specs.Things.{Few, Stands, lies, inside}
-use Rattle.uc_life_laws.specs.Knowing.{InMaking, KnowsEx, KnowsState}
-use Rattle.uc_life_laws.specs.LifeStates.{SlotBy, ParkedBy, HandBy, MembersBy, EnvBy}
+use Rattle.uc_life_laws.specs.Knowing.{InMaking, KnowsState}
+use Rattle.uc_life_laws.specs.LifeStates.{SlotBy, ParkedBy, HandBy, MembersBy}
 use Rattle.uc_world_laws.specs.Lasting.{lasting, lasting_numbers}
 use Rattle.uc_world_laws.specs.Rooted.{InSlot, InParked, InHand, InMembers, Lives, OwnThings, OwnObject, Yet, StageApart, ExApart, RunApart}
 use Rattle.uc_world_laws.proofs.Fewer.{both_members, both_env}
@@ -27,7 +26,7 @@ use Rattle.uc_unmarked_laws.specs.Belonging.{Belongs, frame, fields, object}
 use Rattle.uc_unmarked_laws.specs.Marks.{Marked, Free}
 use Rattle.uc_unmarked_laws.proofs.Own.{law_own}
 use Rattle.uc_rooted_runs.specs.UnmarkedRuns.{IsLeft}
-use Rattle.uc_rooted_runs.specs.Beside.{OwnMaking, StageOwn, OwnEx, IsBeside, LawBeside}
+use Rattle.uc_rooted_runs.specs.Beside.{StageOwn, OwnEx, IsBeside, LawBeside}
 
 -- whose a place is does not depend on what has gone
 still_own : (few : Few) (j : Journal) (n : Exec) (v : Value) → Belongs (lasting few j) n v → Belongs few n v

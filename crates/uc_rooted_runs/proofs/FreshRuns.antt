@@ -125,9 +125,9 @@ module _ (source : Source) where
         let rests = run_rests source input opts range r f.0 going in
         let alive : has_ended t j ≡ false = law_alive opts source.sites input j rests.kernel going p t d.runs in
         world_fresh j (act opts source.sites input j p t n asked) w t s
-            (λ u e q. ⊎_elim (λ g. no_both (has_ended t j) (ap (λ u. has_ended u j) (sym (eqb-true u t q)) ∙ g) alive) (λ g. ride_ends d.rides h.1 g.asks) (ended_by u opts source.sites input j p t n asked on e))
-            (λ u e q. ⊎_elim (λ g. g) (λ g. no_both (u == t) g.same q) (ended_by u opts source.sites input j p t n asked on e))
-            (ride_fresh d.rides h.1 (told source d.given (drawn j w t) (drawn_fresh j w t x))) x
+        (λ u e q. ⊎_elim (λ g. no_both (has_ended t j) (ap (λ u. has_ended u j) (sym (eqb-true u t q)) ∙ g) alive) (λ g. ride_ends d.rides h.1 g.asks) (ended_by u opts source.sites input j p t n asked on e))
+        (λ u e q. ⊎_elim (λ g. g) (λ g. no_both (u == t) g.same q) (ended_by u opts source.sites input j p t n asked on e))
+        (ride_fresh d.rides h.1 (told source d.given (drawn j w t) (drawn_fresh j w t x))) x
 
 pub law_fresh : LawFresh
 law_fresh = record {

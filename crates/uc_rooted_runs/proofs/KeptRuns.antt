@@ -30,7 +30,7 @@ use Rattle.uc_life_laws.specs.Things.{Few, Base}
 use Rattle.uc_life_laws.specs.Knowing.{main_of}
 use Rattle.uc_life_laws.specs.LifeStates.{SlotBy, ParkedBy, HandBy, MembersBy}
 use Rattle.uc_world_laws.specs.Rooted.{InSlot, InParked, InHand, InMembers, Lives}
-use Rattle.uc_rooted_runs.specs.Makers.{Placed, Makers}
+use Rattle.uc_rooted_runs.specs.Makers.{Makers}
 use Rattle.uc_rooted_runs.specs.Births.{MakesLater, RunSpawnsLater}
 use Rattle.uc_own_names.specs.OwnNames.{StepOwn, StaysOwn, RunOwns}
 use Rattle.uc_own_names.proofs.OwnNamesLemmas.{run_first, law_own_names}
@@ -39,7 +39,7 @@ use Rattle.uc_rooted_runs.specs.FreshStates.{TakesOthersBy, KeepsFresh}
 use Rattle.uc_rooted_runs.specs.Mains.{FindsAll}
 use Rattle.uc_rooted_runs.specs.MainRuns.{EndsMains}
 use Rattle.uc_rooted_runs.specs.Outlasting.{SparesAt, IsAlone}
-use Rattle.uc_rooted_runs.specs.OutlastRuns.{with_before, made_behind, ride_made, made_asked, run_made, now, OutlastsAt, RideOutlasts, SpawnsAlone, MayOutlast, RunOutlasts}
+use Rattle.uc_rooted_runs.specs.OutlastRuns.{with_before, made_behind, ride_made, run_made, now, OutlastsAt, RideOutlasts, SpawnsAlone, MayOutlast, RunOutlasts}
 use Rattle.uc_rooted_runs.specs.OutlastNames.{NamesAt, RideNames, SpawnsNew, MayName, RunNames}
 use Rattle.uc_rooted_runs.specs.Upwards.{IsBased}
 use Rattle.uc_rooted_runs.specs.MadeRuns.{IsMade, AllMade}

@@ -18,19 +18,19 @@ use Rattle.uc_machine.specs.declared.exec.Home.{Home}
 use Rattle.uc_machine.specs.declared.exec.Home.TheVariants as home
 use Rattle.uc_machine.specs.Executions.{Execution, home_eq, exec_eq, members_at}
 use Rattle.uc_machine.specs.Switches.{new_exec}
-use Rattle.uc_machine.specs.Pieces.{Value, Todo, SetUpNow, State, Members, Step, Goes, Ticks, Asks}
+use Rattle.uc_machine.specs.Pieces.{Value, Todo, SetUpNow, State, Members, Asks}
 use Rattle.uc_machine.specs.Quiet.{home_at, no_members, first_state}
 use Rattle.uc_machine.specs.Answering.{answered}
 use Rattle.uc_machine.specs.Rides.{Rides, slices, goes_on, ticks, asks}
-use Rattle.uc_meaning.specs.Runs.{World, May, Runs, AsksIn, gives, no_room, acts, begun, more, drawn, first_world}
+use Rattle.uc_meaning.specs.Runs.{World, Runs, AsksIn, gives, no_room, acts, begun, more, drawn, first_world}
 use Rattle.uc_step_laws.specs.Hands.{keys}
 use Rattle.uc_program_laws.specs.Fitting.{RunFits}
 use Rattle.uc_program_laws.proofs.Others.{RunRests, run_rests, asking as asks_with}
 use Rattle.uc_hand_laws.proofs.DeepWorlds.{DeepWorld, deep_run}
 use Rattle.uc_value_laws.specs.Opens.{RideMeets, RunMeets}
-use Rattle.uc_name_laws.specs.Below.{IsBelow, ParkedNamed, MembersNamed, one_more_at}
+use Rattle.uc_name_laws.specs.Below.{IsBelow, ParkedNamed, one_more_at}
 use Rattle.uc_name_laws.specs.NameSteps.{Named, StepNamed, Grows, IsBorn, NamedBehind}
-use Rattle.uc_name_laws.proofs.Homes.{no_both, none_some, the_same, same_home, same_exec, exec_self}
+use Rattle.uc_name_laws.proofs.Homes.{no_both, none_some, same_home, same_exec, exec_self}
 use Rattle.uc_name_laws.proofs.Values.{below_more}
 use Rattle.uc_name_laws.proofs.Walk.{walk}
 use Rattle.uc_named_runs.specs.NamedRuns.{is_here}
@@ -43,7 +43,7 @@ use Rattle.uc_life_laws.specs.Knowing.{main_of}
 use Rattle.uc_life_laws.specs.LifeStates.{SlotBy, ParkedBy, HandBy, EnvBy, MembersBy}
 use Rattle.uc_rooted_runs.specs.Makers.{Placed, stacked, Makers, MadeBy}
 use Rattle.uc_rooted_runs.specs.Births.{MakesLater, SpawnsLater, RunSpawnsLater}
-use Rattle.uc_rooted_runs.specs.OutlastRuns.{with_made, made_by, made_behind, ride_made, made_asked, may_made, run_made}
+use Rattle.uc_rooted_runs.specs.OutlastRuns.{with_made, made_by, made_behind, ride_made, made_asked, run_made}
 use Rattle.uc_rooted_runs.specs.MadeRuns.{IsMade, AllMade, LawMadeRuns}
 use Rattle.uc_rooted_runs.proofs.Births.{none_there, named_given}
 use Rattle.uc_rooted_runs.proofs.OutlastNames.{born_there, grows_on}

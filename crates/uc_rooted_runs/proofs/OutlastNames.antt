@@ -1,6 +1,6 @@
 -- Each new name is none that was there, so what is made meanwhile was made by who runs.
-use Rattle.std.proofs.Common.{◌≡◌, ℕ, ◌==◌, ◌<◌, ◌≤◌, ◌⊎◌, inl, inr, Bool, true, false, List, [], ◌∷◌, ◌++◌, Option, Some, None, refl, sym, ap, ◌∙◌, subst, arith, ⊎_elim}
-use Rattle.std.specs.Prelude.{if◌then◌else◌, slice_get, nat_eq}
+use Rattle.std.proofs.Common.{◌≡◌, ℕ, ◌≤◌, ◌⊎◌, inl, inr, Bool, true, false, List, [], ◌∷◌, ◌++◌, Option, Some, None, refl, sym, ap, ◌∙◌, subst, arith, ⊎_elim}
+use Rattle.std.specs.Prelude.{if◌then◌else◌, slice_get}
 use Rattle.uc_tree.specs.Source.{Source, Routine}
 use Rattle.uc_entry.specs.declared.entry.Options.{Options}
 use Rattle.uc_entry.specs.declared.request.Asked.{Asked}
@@ -8,7 +8,7 @@ use Rattle.uc_entry.specs.declared.request.Request.{Request}
 use Rattle.uc_entry.specs.declared.request.Request.TheVariants as ask
 use Rattle.uc_entry.specs.Keyed.{find}
 use Rattle.uc_acts.specs.Journal.{Journal, held, is_over}
-use Rattle.uc_acts.specs.Known.{has, task_count}
+use Rattle.uc_acts.specs.Known.{has}
 use Rattle.uc_acts.specs.Serves.{left}
 use Rattle.uc_acts.specs.Acts.{act, lone_limit}
 use Rattle.uc_acts.specs.KernelRuns.{InRange, Fits}
@@ -18,12 +18,11 @@ use Rattle.uc_machine.specs.declared.exec.Home.{Home}
 use Rattle.uc_machine.specs.declared.exec.Home.TheVariants as home
 use Rattle.uc_machine.specs.Executions.{Execution, exec_eq, members_at}
 use Rattle.uc_machine.specs.Switches.{new_exec}
-use Rattle.uc_machine.specs.Pieces.{Value, Todo, SetUpNow, State, Members, Step, Goes, Ticks, Asks}
-use Rattle.uc_machine.specs.Quiet.{quiet, home_at}
+use Rattle.uc_machine.specs.Pieces.{Value, Todo, SetUpNow, State, Members, Goes, Asks}
+use Rattle.uc_machine.specs.Quiet.{home_at}
 use Rattle.uc_machine.specs.Answering.{answered}
 use Rattle.uc_machine.specs.Rides.{Rides, slices, goes_on, ticks, asks}
 use Rattle.uc_meaning.specs.Runs.{World, Runs, AsksIn, gives, no_room, acts, begun, more, drawn}
-use Rattle.uc_step_laws.specs.Hands.{keys}
 use Rattle.uc_program_laws.specs.Fitting.{RunFits}
 use Rattle.uc_program_laws.proofs.Others.{RunRests, run_rests, asking as asks_with}
 use Rattle.uc_hand_laws.proofs.DeepWorlds.{DeepWorld, deep_run}
@@ -37,14 +36,12 @@ use Rattle.uc_name_laws.proofs.Births.{law_new}
 use Rattle.uc_name_laws.proofs.Walk.{walk}
 use Rattle.uc_named_runs.specs.RunningRuns.{RunLeaves}
 use Rattle.uc_named_runs.proofs.Riding.{grows_not}
-use Rattle.uc_named_runs.proofs.Worlds.{WorldNamed, vacuous, run_named, ride, start, known,  found_none, after_by, after_more, named_act}
+use Rattle.uc_named_runs.proofs.Worlds.{WorldNamed, vacuous, run_named, ride, start, known, found_none, after_by, after_more, named_act}
 use Rattle.uc_life_laws.specs.Knowing.{main_of}
-use Rattle.uc_life_laws.specs.LifeStates.{EnvBy, MembersBy}
 use Rattle.uc_world_laws.proofs.Fewer.{both_members, both_env}
-use Rattle.uc_own_names.specs.OwnNames.{at_hand, IsElsewhere, IsOwn, StepOwn, StaysOwn, RunOwns}
+use Rattle.uc_own_names.specs.OwnNames.{at_hand, IsElsewhere, IsOwn, StepOwn, StaysOwn}
 use Rattle.uc_own_names.proofs.OwnNamesLemmas.{run_owns, law_own_names}
 use Rattle.uc_rooted_runs.specs.Makers.{Placed, Makers}
-use Rattle.uc_rooted_runs.specs.Outlasting.{IsAlone}
 use Rattle.uc_rooted_runs.specs.Births.{MakesLater, SpawnsLater, RunSpawnsLater}
 use Rattle.uc_rooted_runs.specs.OutlastRuns.{with_before, with_made, made_by, made_behind, ride_made, made_asked, run_made, now, MadeNone, NoneElsewhere}
 use Rattle.uc_rooted_runs.specs.OutlastNames.{NamesAt, RideNames, SpawnsNew, MayName, RunNames, LawOutlastNames}

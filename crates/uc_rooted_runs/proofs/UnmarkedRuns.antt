@@ -1,5 +1,5 @@
 -- Who runs as an object goes has a name of its own, so nobody has a mark around that.
-use Rattle.std.proofs.Common.{◌≡◌, ℕ, ◌==◌, ◌<◌, ◌≤◌, ◌⊎◌, inl, inr, Bool, true, false, List, [], ◌∷◌, ◌++◌, refl, sym, ap, subst, arith, ⊎_elim}
+use Rattle.std.proofs.Common.{◌≡◌, ℕ, ◌<◌, ◌≤◌, ◌⊎◌, inl, inr, Bool, false, List, [], ◌∷◌, ◌++◌, sym, ap, subst, arith, ⊎_elim}
 use Rattle.std.specs.Prelude.{if◌then◌else◌}
 use Rattle.std.proofs.lemmas.Bool.{cases_lt}
 use Rattle.uc_tree.specs.Source as src
@@ -22,7 +22,7 @@ use Rattle.uc_machine.specs.Quiet as quiet
 use Rattle.uc_machine.specs.Quiet.{first_state}
 use Rattle.uc_machine.specs.Answering.{answered, child_of}
 use Rattle.uc_machine.specs.Rides.{Rides, slices, goes_on, ticks, asks}
-use Rattle.uc_meaning.specs.Runs.{World, May, Runs, gives, no_room, acts, begun, more, bare, drawn, world_after}
+use Rattle.uc_meaning.specs.Runs.{World, Runs, gives, no_room, acts, begun, more, bare, drawn, world_after}
 use Rattle.uc_program_laws.specs.Fitting.{RunFits}
 use Rattle.uc_program_laws.proofs.Others.{run_rests}
 use Rattle.uc_scope_laws.specs.RoomRuns.{stays}
@@ -37,10 +37,10 @@ use Rattle.uc_life_laws.specs.Things.{Few, AtField, IsFor, InTodo}
 use Rattle.uc_own_names.specs.OwnNames as own
 use Rattle.uc_own_names.proofs.OwnNamesLemmas.{law_own_names}
 use Rattle.uc_unmarked_laws.specs.Marks.{Marked, LoneState, LoneStep, Freed, Puts}
-use Rattle.uc_unmarked_laws.specs.Unmarked.{HasOwnName, Unmarked, UnmarkedAt, RunUnmarked}
+use Rattle.uc_unmarked_laws.specs.Unmarked.{HasOwnName, UnmarkedAt, RunUnmarked}
 use Rattle.uc_unmarked_laws.proofs.Walk.{law_steps}
 use Rattle.uc_unmarked_laws.proofs.Worlds.{law_runs}
-use Rattle.uc_rooted_runs.specs.UnmarkedRuns.{IsLeft, LeftBehind, MayLeave, RunLeft, LawUnmarkedRuns}
+use Rattle.uc_rooted_runs.specs.UnmarkedRuns.{LeftBehind, RunLeft, LawUnmarkedRuns}
 
 -- a task that is not spawned yet has no marks
 module _ (t : Table) (n : Exec) (f : ℕ) (this : Value) where
