@@ -38,7 +38,7 @@ use Rattle.uc_building_laws.specs.Building.{is_bound_in, heads_of, InHead}
 use Rattle.uc_building_laws.specs.BuildingStates.{variable}
 use Rattle.uc_building_laws.specs.BuildingLaws.{IsConstructed, Constructs, BuildsAt, Fair}
 use Rattle.uc_building_laws.specs.BuildingRuns.{Makes, MakesNext, RemainsAt, Remains, LawHeads}
-use Rattle.uc_building_laws.proofs.Given.{owns, in_scope, made_elsewhere}
+use Rattle.uc_building_laws.proofs.Given.{owns, in_scope, made_elsewhere, numbered_holds}
 use Rattle.uc_building_laws.proofs.Heads.{heads, unsited}
 use Rattle.uc_building_laws.proofs.Plain.{plain_of, no_scope}
 
@@ -190,4 +190,5 @@ pub law_heads : LawHeads
 law_heads = record {
   binds = λ p formed accepted r d x q e i h. binds p formed accepted r d x q e i h;
   given = λ t source sound s r todo e h. made_elsewhere t source sound s r todo e h;
+  numbered = λ t s c todo o vs p b n h. numbered_holds t s c todo o vs p b n h;
 }

@@ -8,16 +8,18 @@ use Rattle.uc_machine.specs.declared.exec.Owner.TheVariants.{Frame, Fields}
 use Rattle.uc_machine.specs.Executions.{others, take_operands}
 use Rattle.uc_machine.specs.Quiet.{call_frame}
 use Rattle.uc_machine.specs.Pieces as piece
-use Rattle.uc_machine.specs.Pieces.{Link, FieldAt, At, Value, Todo, Active, State, further, nought}
+use Rattle.uc_machine.specs.Pieces.{Link, FieldAt, At, Value, Todo, Active, State, address, further, object_in, nought}
 use Rattle.uc_typing.specs.Typing.{Ty, Num, Cell, Obj, Raw, Row, Clu, Pro, Sig, Table, element_shape, IsParam, object_ty}
 use Rattle.uc_typing.specs.Pieces.{Ok, onto}
 use Rattle.uc_typing.specs.States.{IsNumbered, IsObjectBy, Sound}
-use Rattle.uc_life_laws.specs.Things.{IsReference, IsBinding, IsUnbound, IsTracked, IsSited, is_outside, Within, itself, field, element, Stands, lies, inside, Held, InStack, Base, Things, LiesIn, IsFor, AtField, Known}
+use Rattle.uc_life_laws.specs.Things.{IsReference, IsBinding, IsUnbound, IsTracked, IsSited, is_outside, Within, itself, field, element, Stands, lies, inside, Held, InStack, Base, Things, IsFew, LiesIn, IsFor, AtField, Known, Holds}
+use Rattle.uc_life_laws.specs.LifeStates.{Outwards}
 use Rattle.uc_life_laws.specs.Knowing.{InMaking, AtHand, KnownAll, KnownParams, KnowsState}
 use Rattle.uc_life_laws.specs.Opened.{any}
 use Rattle.uc_life_laws.proofs.Knowns as known
-use Rattle.uc_building_laws.specs.BuildingRuns.{MadeElsewhere, Makes}
+use Rattle.uc_building_laws.specs.BuildingRuns.{MadeElsewhere, Makes, IsByNumber}
 use Rattle.uc_building_laws.proofs.Building.{within_more}
+use Rattle.uc_building_laws.proofs.Making.{within_cell}
 
 -- what an execution has of others is at hand wherever it stands
 in_base : (P Q : Owner → Value → CleanUp → Value → Ty → Type 0) (B : Value → Ty → Type 0) (n : Exec) (cs : List Active) (w : Value) (a : Ty) → B w a → InStack P Q B n cs w a
@@ -192,3 +194,47 @@ pub made_elsewhere : (t : Table) (source : Source) → Sound t source → (s : S
 made_elsewhere t source sound s r todo e h = record {
   given = λ q is j b i k. unmade t source sound s h.knows r q is (owns t source sound s h.knows r todo e) h.elsewhere j b i k;
 }
+
+-- what is known by its number is known as soon as it is an object
+
+module _ (t : Table) (s : State) (c : CleanUp) (todo : List Todo) where
+  abbrev OutOf : Value → Ty → Type 0
+  OutOf w a = Outwards t any s.env.exec s.run.frame s.run.this s.callers c todo w a
+
+  lies_out : (b : Ty) (v : Value) → IsNumbered v → LiesIn t any s.env.exec OutOf b v
+  lies_out b (piece.Number z) h = absurd h
+  lies_out b (piece.Place o p) h = absurd h
+  lies_out b (piece.Running x) h = absurd h
+  lies_out b (piece.Object o) h = inl (lies (inr (in_base (IsFor t) (AtField t) (Base any s.env.exec) s.env.exec s.callers (piece.Object o) b refl)) itself)
+  lies_out b piece.Nothing h = absurd h
+
+  passes_any : (b : Ty) (v : Value) → IsNumbered v → any.numbers b (object_in v) ≡ true → IsFew t any s.env.exec b v
+  passes_any b (piece.Number z) h e = tt
+  passes_any b (piece.Place o p) h e = tt
+  passes_any b (piece.Running x) h e = tt
+  passes_any b (piece.Object o) h e = e
+  passes_any b piece.Nothing h e = tt
+
+  by_number : (b : Ty) (v : Value) → IsByNumber t b → IsNumbered v → Known t any s.env.exec OutOf b v
+  by_number Num v n h = tt
+  by_number (Cell a) v n h = absurd n
+  by_number (Obj d) v n h = record {
+    is = subst (λ (b : Bool). IsObjectBy t b d v) (sym n) h;
+    passes = passes_any (Obj d) v h refl;
+    rooted = λ i. lies_out (Obj d) v h;
+    held = λ m. lies_out (Obj d) v h;
+    seated = λ i. absurd i;
+  }
+  by_number (Raw d) v n h = absurd n
+  by_number (Row m a) v n h = absurd n
+  by_number Clu v n h = record { is = h; passes = passes_any Clu v h refl; rooted = λ i. absurd i; held = λ m. absurd m; seated = λ i. absurd i }
+  by_number Pro v n h = record { is = h; passes = passes_any Pro v h refl; rooted = λ i. absurd i; held = λ m. absurd m; seated = λ i. absurd i }
+
+  pub numbered_holds : (o : Owner) (vs : List Value) (p : List Link) (b : Ty) → IsByNumber t b → IsNumbered (slice_index_or vs (address p) nought) → Holds t any s.env.exec OutOf o vs (piece.Place o p) (Cell b)
+  numbered_holds o vs p b n h q d x binds =
+      let y = within_cell t (piece.Place o p) b (piece.Place o q) (Cell d) x in
+      let z = y.0 in
+      let u = y.1 in
+      let path : q ≡ p = cc in
+      let type : d ≡ b = cc in
+      subst (λ q. Known t any s.env.exec OutOf d (slice_index_or vs (address q) nought)) (sym path) (subst (λ d. Known t any s.env.exec OutOf d (slice_index_or vs (address p) nought)) (sym type) (by_number b (slice_index_or vs (address p) nought) n h))

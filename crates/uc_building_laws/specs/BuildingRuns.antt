@@ -5,8 +5,9 @@ use Rattle.uc_tree.specs.Source.{Source, Routine, Variable, CleanUp, Stmts, Scop
 use Rattle.uc_entry.specs.declared.entry.Options.{Options}
 use Rattle.uc_acts.specs.Journal.{Journal, is_over}
 use Rattle.uc_acts.specs.KernelRuns.{InRange}
+use Rattle.uc_machine.specs.declared.exec.Owner.{Owner}
 use Rattle.uc_machine.specs.declared.exec.Owner.TheVariants.{Frame}
-use Rattle.uc_machine.specs.Pieces.{FieldAt, Todo, Value, Rest, CallOnNow, CallUnwrittenNow, BindNow, top, below, further, loaded, nought}
+use Rattle.uc_machine.specs.Pieces.{Link, FieldAt, Todo, Value, Place, Rest, CallOnNow, CallUnwrittenNow, BindNow, top, below, further, loaded, address, nought}
 use Rattle.uc_machine.specs.Quiet.{State, call_frame}
 use Rattle.uc_machine.specs.Answering.{answered}
 use Rattle.uc_meaning.specs.Runs.{World, Runs, drawn}
@@ -16,8 +17,8 @@ use Rattle.uc_rules.specs.Breaks.{breaks_of}
 use Rattle.uc_scope_laws.specs.RoomRuns.{Comes}
 use Rattle.uc_value_laws.specs.Opens as there
 use Rattle.uc_value_laws.specs.Opens.{RunMeets, LeadsMeet}
-use Rattle.uc_typing.specs.Typing.{Ty, Obj, Raw, Row, Table, IsParam, CleansAt}
-use Rattle.uc_typing.specs.States.{Sound}
+use Rattle.uc_typing.specs.Typing.{Ty, Num, Cell, Obj, Raw, Row, Clu, Pro, Table, IsParam, CleansAt}
+use Rattle.uc_typing.specs.States.{IsNumbered, Sound}
 use Rattle.uc_sound.specs.Formed.{IsFormed}
 use Rattle.uc_sound.specs.Tables.{table_of}
 use Rattle.uc_life_laws.specs.Things.{IsField, IsUnbound, IsTracked, is_outside, Things, LiesIn, Holds}
@@ -74,9 +75,20 @@ pub record MeetsBuilding (t : Table) (heads : ℕ → ℕ → Bool) (source : So
       (x : KnowsState t any [] s) × Finds t any x.sigs x.run.sig x.run.scope s s.run.control x.run.own
   pub builds : Remains t source s
 
+-- what is known by its number
+abbrev pub IsByNumber : Table → Ty → Type 0
+IsByNumber t Num = ⊥
+IsByNumber t (Cell a) = ⊥
+IsByNumber t (Obj c) = t.mutex c ≡ true
+IsByNumber t (Raw c) = ⊥
+IsByNumber t (Row n a) = ⊥
+IsByNumber t Clu = Unit {0}
+IsByNumber t Pro = Unit {0}
+
 -- the constructor of a class of which variables are declared, and which is no mutex class, binds each field that `heads_of` tells in one of its first
 -- statements, to what is of the type that stands there, or nothing is bound there at all; so it is in each program that breaks no rule. And where all
--- that is being built or destroyed is such, what a constructor is given is in scope
+-- that is being built or destroyed is such, what a constructor is given is in scope. Of a cell for a mutex object, a cluster or a processor, or for a
+-- reference to one, it is enough that it holds an object
 pub record LawHeads : Type 0 where
   pub binds : (p : Program) → IsFormed p → breaks_of p ≡ [] → (r d : ℕ) (x : ArePaired p r d) →
       (q : Routine) → slice_get (source_of p).routines r ≡ Some q → (i : ℕ) →
@@ -85,6 +97,9 @@ pub record LawHeads : Type 0 where
   pub given : (t : Table) (source : Source) → Sound t source → (s : State) (r : ℕ) (todo : List Todo) →
       (s.run.control ≡ CallOnNow r ∷ todo) ⊎ (s.run.control ≡ CallUnwrittenNow r ∷ todo) →
       MadeElsewhere t s → Makes t source s r
+  pub numbered : (t : Table) (s : State) (c : CleanUp) (todo : List Todo) (o : Owner) (vs : List Value) (p : List Link) (b : Ty) →
+      IsByNumber t b → IsNumbered (slice_index_or vs (address p) nought) →
+      Holds t any s.env.exec (Outwards t any s.env.exec s.run.frame s.run.this s.callers c todo) o vs (Place o p) (Cell b)
 
 -- then objects hold what is known where their scopes open, in each run of a program that breaks no rule, as long as all that was asked before
 -- fits: at each step so far, at each on the way to a state to which whoever runs comes before it asks, and there

@@ -20,7 +20,8 @@ pub fn law_clears()
 
 /// The constructor of a class of which variables are declared binds each field that it is told of in its
 /// first statements to what is of the type that stands there. What it is given is in scope, where what is
-/// being built or destroyed in frames of the execution is of classes in which nothing is bound.
+/// being built or destroyed in frames of the execution is of classes in which nothing is bound. A field
+/// that is known by its number holds what is known as soon as its cell holds an object.
 pub fn law_heads()
     ensures { LawHeads }
 {}
