@@ -1,7 +1,7 @@
 -- Of any source in which constructors and destructors are called where they may be, and arguments are counted.
-use Rattle.std.proofs.Common.{◌≡◌, ℕ, Bool, Option, Some, None}
+use Rattle.std.proofs.Common.{ℕ, Bool, Option, Some, None}
 use Rattle.std.specs.Prelude.{slice_get}
-use Rattle.uc_tree.specs.Source.{Source, Routine}
+use Rattle.uc_tree.specs.Source.{Routine}
 use Rattle.uc_event_laws.specs.Counted.{CountedRoutine, CountedSource}
 use Rattle.uc_putting_laws.specs.Calling.{CallingRoutine, CallingSource}
 use Rattle.uc_putting_laws.specs.Putting.{Setting, CodeRoutine}

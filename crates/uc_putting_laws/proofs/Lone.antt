@@ -16,7 +16,7 @@ use Rattle.uc_unmarked_laws.specs.Marks.{Outward, Sole, AllLone, LoneState}
 use Rattle.uc_unmarked_laws.specs.Ending.{Spot, OfVariable, OfField, ends_at, leaving, calling}
 use Rattle.uc_unmarked_laws.proofs.Ending.{law_left}
 use Rattle.uc_unmarked_laws.proofs.Own.{further_own}
-use Rattle.uc_putting_laws.specs.Calling.{Site, One, Each, each_at, EndsWhole, OpensFor, CleansBy, AnySite, IsField, PartBy}
+use Rattle.uc_putting_laws.specs.Calling.{Site, One, Each, each_at, EndsWhole, CleansBy, AnySite, IsField, PartBy}
 use Rattle.uc_putting_laws.specs.Putting.{Setting, Around, Mark, OpensRest, OneNext, LoneAt, CodeStmts, CodeOpening, CodeScope, CodePart, Ok}
 use Rattle.uc_putting_laws.specs.PuttingLaws.{SolePart}
 use Rattle.uc_putting_laws.proofs.Steps.{here, LoneFor}

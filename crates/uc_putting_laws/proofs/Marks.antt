@@ -1,5 +1,5 @@
 -- Marks and operands, and to-do lists that are left.
-use Rattle.std.proofs.Common.{◌≡◌, ℕ, zero, suc, ◌<◌, ◌⊎◌, inl, inr, Bool, true, false, List, [], ◌∷◌, drop, Option, Some, None, refl, sym, ap, subst}
+use Rattle.std.proofs.Common.{◌≡◌, ℕ, zero, suc, ◌<◌, inl, inr, Bool, true, false, List, [], ◌∷◌, drop, Option, Some, None, refl, sym, ap, subst}
 use Rattle.std.specs.Prelude.{ℤ, pos, negsuc, slice_set, nat_lt}
 use Rattle.std.proofs.lemmas.Bool.{ltb-true}
 use Rattle.uc_tree.specs.Source as src
@@ -18,8 +18,8 @@ use Rattle.uc_unmarked_laws.specs.Ending.{Spot, OfVariable, OfField}
 use Rattle.uc_unmarked_laws.proofs.Own.{further_own}
 use Rattle.uc_aside_laws.specs.OlderResting.{AllWait}
 use Rattle.uc_aside_laws.proofs.Keeping.{tested}
-use Rattle.uc_putting_laws.specs.Calling.{Site, One, Each, of_object, opens_object, MakesAt, MakesEach, EndsEach, Evaluates, FillsBy, SweepsBy, CallingStmt, CallingStmts, PlaceAt, PlainExpr, Opening}
-use Rattle.uc_putting_laws.specs.Putting.{Setting, Around, around, IsHome, Mark, Any, Own, At, Homed, rest, rests, anys, FirstOwn, FirstAt, FirstHome, IsOf, IsIn, Located, Enters, Loads, spot_at, StandsAt, HomedAt, Meets, Holds, after, made_marks, Ok, Left, Finds, Runs, Waits}
+use Rattle.uc_putting_laws.specs.Calling.{Site, One, Each, opens_object, MakesAt, MakesEach, EndsEach, Evaluates, FillsBy, SweepsBy, CallingStmt, CallingStmts, PlaceAt, PlainExpr, Opening}
+use Rattle.uc_putting_laws.specs.Putting.{Setting, Around, around, Mark, Any, Own, At, Homed, rest, rests, anys, FirstOwn, FirstAt, FirstHome, IsOf, IsIn, Located, Enters, Loads, spot_at, StandsAt, HomedAt, Holds, after, made_marks, Ok, Left, Runs, Waits}
 
 -- operands
 

@@ -1,13 +1,11 @@
 -- A mark that is put next is put for what is the execution's own.
-use Rattle.std.proofs.Common.{◌≡◌, ℕ, ◌⊎◌, inl, inr, Bool, true, false, List, [], ◌∷◌, sym, subst}
+use Rattle.std.proofs.Common.{◌≡◌, ℕ, ◌⊎◌, inl, inr, Bool, true, List, ◌∷◌, sym, subst}
 use Rattle.uc_tree.specs.Source as src
 use Rattle.uc_tree.specs.Source.{Shape, Expr, CleanUp, Source}
 use Rattle.uc_machine.specs.declared.exec.Exec.{Exec}
-use Rattle.uc_machine.specs.declared.exec.Owner.TheVariants.{Frame}
 use Rattle.uc_machine.specs.Pieces as piece
 use Rattle.uc_machine.specs.Pieces.{Value, Todo, State}
 use Rattle.uc_typing.specs.Typing.{Ty, Cell, Obj, Row, Clu, Pro, Table, DestroysAt, CleansAt}
-use Rattle.uc_life_laws.specs.Things.{AtField}
 use Rattle.uc_unmarked_laws.specs.Belonging.{Belongs}
 use Rattle.uc_unmarked_laws.specs.Marks.{OwnFields, Sole, OfClean, PutsAt}
 use Rattle.uc_putting_laws.specs.Calling.{Site, PlaceAt, CallsAt, EndsAt, EndsEach, EndsNumber, CleansBy, AnySite, IsField, HasCount}

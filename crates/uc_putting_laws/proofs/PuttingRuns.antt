@@ -1,5 +1,5 @@
 -- In every run of a program that breaks no rule marks are put for what is an execution's own.
-use Rattle.std.proofs.Common.{◌≡◌, ℕ, List, []}
+use Rattle.std.proofs.Common.{◌≡◌, ℕ, []}
 use Rattle.std.specs.Prelude.{slice_get}
 use Rattle.uc_tree.specs.Numbering.{sites_of}
 use Rattle.uc_tree.specs.Programs.{Program}

@@ -1,5 +1,5 @@
 -- What statements of a program stand for calls constructors and destructors where they may be called.
-use Rattle.std.proofs.Common.{◌≡◌, ℕ, ◌+◌, ◌⊎◌, inl, inr, Bool, true, false, List, [], ◌∷◌, Option, Some, None, refl}
+use Rattle.std.proofs.Common.{◌≡◌, ℕ, ◌+◌, inl, inr, Bool, true, false, List, [], ◌∷◌, Option, Some, None, refl}
 use Rattle.std.specs.Prelude.{slice_get}
 use Rattle.uc_tree.specs.declared.kinds.Base.{Base}
 use Rattle.uc_tree.specs.declared.kinds.Role.{Role}
@@ -18,14 +18,13 @@ use Rattle.uc_resolve.specs.Resolve as meaning
 use Rattle.uc_resolve.specs.Resolve.{Scope, source_of}
 use Rattle.uc_rules.specs.ProgramVisits.{program_visits}
 use Rattle.uc_agreement.specs.Unbroken.{Unbroken}
-use Rattle.uc_agreement.proofs.Ties.{false_true}
 use Rattle.uc_sound.specs.Formed.{IsFormed}
 use Rattle.uc_sound.specs.Tables.{table_of}
 use Rattle.uc_sound.proofs.MemberLemmas.{tells_maker}
-use Rattle.uc_depth_laws.specs.Entering.{lets_go, holds_object, is_holding}
+use Rattle.uc_depth_laws.specs.Entering.{lets_go, holds_object}
 use Rattle.uc_enter_laws.proofs.Lookups.{IsPlainClass, IsObjectClass, MakesPlain, making_plain, event_free, written_free, unwritten_free}
-use Rattle.uc_unmarked_laws.specs.Ending.{Spot, OfVariable, OfField, naming, ends_at}
-use Rattle.uc_putting_laws.specs.Calling.{Site, One, Each, element_at, of_object, opens_object, opens_at, EndsWhole, OpensFor, NoSite, PlainExpr, PlainExprs, PlainMaybe, PlainItems, PlainTargets, PlainDeclared, PlaceAt, CallsAt, MakesAt, MakesEach, EndsAt, EndsEach, Evaluates, FillsBy, SweepsBy, AnySite, IsField, HasCount, CleansBy, RaisesBy, CallingStmt, CallingStmts, CallingHandlers, CallingClauses}
+use Rattle.uc_unmarked_laws.specs.Ending.{Spot, OfVariable, OfField, naming}
+use Rattle.uc_putting_laws.specs.Calling.{Site, One, Each, element_at, of_object, opens_object, opens_at, EndsWhole, OpensFor, NoSite, PlainExpr, PlainMaybe, PlainItems, PlainTargets, PlainDeclared, PlaceAt, CallsAt, MakesAt, MakesEach, EndsAt, EndsEach, Evaluates, FillsBy, SweepsBy, AnySite, IsField, HasCount, CleansBy, RaisesBy, CallingStmt, CallingStmts, CallingHandlers, CallingClauses}
 use Rattle.uc_putting_laws.specs.Putting.{IsOf}
 use Rattle.uc_putting_laws.specs.PuttingLaws.{special_of}
 use Rattle.uc_putting_laws.proofs.Marks.{stmt_more}

@@ -1,7 +1,7 @@
 -- A quiet step of a state in which what is called is the execution's own leads to one.
-use Rattle.std.proofs.Common.{◌≡◌, ℕ, zero, suc, ◌+◌, ◌<◌, ◌⊎◌, inl, inr, ◌++◌, Bool, true, false, ◌&&◌, List, [], ◌∷◌, length, drop, Option, Some, None, refl, sym, ap, ◌∙◌, subst, ⊎_elim}
-use Rattle.std.specs.Prelude.{nat_eq, nat_lt, slice_set, pos}
-use Rattle.uc_tree.specs.declared.limits.TheConstants.{CALLS, DESTRUCTOR, PENDING_EVENTS}
+use Rattle.std.proofs.Common.{◌≡◌, ℕ, zero, suc, ◌<◌, ◌⊎◌, inl, inr, ◌++◌, Bool, true, false, ◌&&◌, List, [], ◌∷◌, length, drop, Option, Some, None, refl, sym, ap, ◌∙◌, subst, ⊎_elim}
+use Rattle.std.specs.Prelude.{nat_eq, nat_lt, slice_set}
+use Rattle.uc_tree.specs.declared.limits.TheConstants.{CALLS, PENDING_EVENTS}
 use Rattle.uc_tree.specs.Source as src
 use Rattle.uc_tree.specs.Source.{Shape, Expr, ObjectExpr, Stmt, Stmts, EventStmt, TaskStmt, Routine, Purpose, Order, Way, CleanUp, Handlers, Clauses, Raised, Item, Source}
 use Rattle.uc_entry.specs.declared.fault.RunFault.{RunFault}
@@ -24,16 +24,15 @@ use Rattle.uc_machine.specs.Polls as polls
 use Rattle.uc_machine.specs.Quiet as quiet
 use Rattle.uc_machine.specs.Pieces as piece
 use Rattle.uc_machine.specs.Pieces.{Value, Number, Place, Running, Object, Nothing, Slot, Todo, Sort, Active, State, Env, Members, Step, Goes, Ticks, Asks, Outcome, Gives, Faults, at, in_env, goes, fault, asks, turns, top, below, number, loaded, written}
-use Rattle.uc_event_laws.specs.Counted.{params_at, params, count, CountedExpr, CountedClean, CountedStmts, CountedRaised, CountedAt}
-use Rattle.uc_life_laws.specs.Things.{Few}
+use Rattle.uc_event_laws.specs.Counted.{params_at, params, count, CountedRaised, CountedAt}
 use Rattle.uc_unmarked_laws.specs.Belonging.{Belongs, frame, object as object_own}
 use Rattle.uc_unmarked_laws.specs.Ending.{Spot, OfVariable, OfField}
 use Rattle.uc_unmarked_laws.proofs.Own.{further_own}
 use Rattle.uc_aside_laws.specs.OlderResting.{AllWait, NamedEnv}
 use Rattle.uc_aside_laws.proofs.Keeping as kept
 use Rattle.uc_aside_laws.proofs.Keeping.{either}
-use Rattle.uc_putting_laws.specs.Calling.{Site, One, Each, opens_object, opens_at, is_opening, OpensFor, NoSite, PlainNew, Binds, PlaceAt, CallsAt, MakesAt, MakesEach, EndsWhole, EndsAt, EndsEach, EndsNumber, Evaluates, FillsBy, SweepsBy, CleansBy, AnySite, IsField, HasCount, RaisesBy, CallingStmts}
-use Rattle.uc_putting_laws.specs.Putting.{Setting, Around, around, IsHome, Mark, Any, Own, At, Homed, rest, rests, anys, FirstOwn, FirstAt, FirstHome, IsEnding, OpensRest, OpensNext, OneNext, IsIn, Located, Enters, Loads, StandsAt, HomedAt, Meets, Holds, LoneIn, LoneAt, Counts, Plain, CodeExpr, CodeExprs, CodeMaybe, CodeItems, CodeStmt, CodeStmts, CodeHandlers, CodeClauses, CodeLoop, CodeSweep, CodeFill, CodeOpening, CodeScope, CodePart, CodeRoutine, made_marks, CallFits, LeftBy, Ok, Left, Finds, Runs, Waits, PutState, PutStep}
+use Rattle.uc_putting_laws.specs.Calling.{Site, One, Each, opens_object, opens_at, NoSite, PlainNew, Binds, PlaceAt, CallsAt, MakesAt, MakesEach, EndsAt, EndsEach, EndsNumber, Evaluates, SweepsBy, CleansBy, AnySite, IsField, HasCount, RaisesBy, CallingStmts}
+use Rattle.uc_putting_laws.specs.Putting.{Setting, Around, around, IsHome, Mark, Any, Own, At, Homed, rest, rests, anys, FirstOwn, FirstAt, FirstHome, IsEnding, OpensRest, OpensNext, OneNext, IsIn, Located, Enters, Loads, StandsAt, HomedAt, Holds, LoneIn, LoneAt, Counts, Plain, CodeMaybe, CodeItems, CodeStmt, CodeStmts, CodeHandlers, CodeClauses, CodeLoop, CodeSweep, CodeFill, CodeOpening, CodeScope, CodePart, CodeRoutine, made_marks, CallFits, LeftBy, Ok, Left, Finds, Runs, Waits, PutState, PutStep}
 use Rattle.uc_putting_laws.proofs.Marks as marks
 use Rattle.uc_putting_laws.proofs.Marks.{place_plain, holds_below, holds_own, holds_drop, holds_anys, rests_anys, drop_set, set_top, site_there, OfIndex, stmt_more, AllLeft, waits_left}
 

@@ -1,5 +1,5 @@
 -- Every quiet step of a state in which what is called is the execution's own, and answers to it.
-use Rattle.std.proofs.Common.{◌≡◌, ℕ, Bool, true, false, inl, inr, List, [], ◌∷◌, ◌++◌, drop, Option, Some, None, refl, subst, sym}
+use Rattle.std.proofs.Common.{◌≡◌, ℕ, Bool, true, false, inl, List, [], ◌∷◌, ◌++◌, drop, Option, Some, None, refl, subst}
 use Rattle.std.specs.Prelude.{nat_lt, slice_get, if◌then◌else◌}
 use Rattle.uc_tree.specs.Source as src
 use Rattle.uc_tree.specs.Source.{Source, Stmt, Routine, routine_or_none, routine_of}
@@ -26,9 +26,8 @@ use Rattle.uc_aside_laws.specs.OlderResting.{AllWait, NamedParked, NamedHand, Na
 use Rattle.uc_aside_laws.proofs.Keeping as kept
 use Rattle.uc_aside_laws.proofs.Keeping.{either}
 use Rattle.uc_putting_laws.specs.Calling.{NoSite}
-use Rattle.uc_putting_laws.specs.Putting.{Setting, Around, around, Mark, Any, Holds, rest, OpensRest, Counts, Plain, CodeStmt, CodeRoutine, Ok, Left, Finds, FindsFor, Runs, Waits, PutMembers, PutState, PutStep}
+use Rattle.uc_putting_laws.specs.Putting.{Setting, Around, Mark, Any, Holds, rest, OpensRest, Counts, Plain, CodeStmt, CodeRoutine, Ok, Left, Finds, FindsFor, Runs, Waits, PutMembers, PutState, PutStep}
 use Rattle.uc_putting_laws.specs.PuttingLaws.{FairAt, Fair}
-use Rattle.uc_putting_laws.proofs.Marks as marks
 use Rattle.uc_putting_laws.proofs.Marks.{holds_below, holds_spread, index_below}
 use Rattle.uc_putting_laws.proofs.Steps as steps
 use Rattle.uc_putting_laws.proofs.Steps.{here}

@@ -2,3 +2,4 @@ pub mod Calling
 pub mod Putting
 pub mod PuttingLaws
 pub mod PuttingRuns
+pub mod Fields

@@ -2,7 +2,7 @@
 -- own, and where it is a mutex object, nothing that is to be cleaned up stands around it.
 use Rattle.std.specs.Prelude.{◌≡◌, ℕ, zero, suc, ◌<◌, ◌⊎◌, Bool, true, false, List, [], ◌∷◌, Option, Some, None}
 use Rattle.uc_tree.specs.declared.limits.TheConstants.{DESTRUCTOR}
-use Rattle.uc_tree.specs.Source.{Shape, Binding, Expr, Exprs, Variable, Element, Load, OfObject, OwnField, Counted, Item, Target, Declared, CleanUp, Ends, Frees, Stmt, Stmts, Scoped, Built, Handlers, Clauses, Routine, Source}
+use Rattle.uc_tree.specs.Source.{Shape, Binding, Expr, Exprs, Variable, Element, Load, OfObject, OwnField, Counted, Item, Target, Declared, CleanUp, Ends, Frees, Stmt, Stmts, Handlers, Clauses, Routine, Source}
 use Rattle.uc_entry.specs.declared.request.Request.{Request}
 use Rattle.uc_entry.specs.declared.request.Request.TheVariants as ask
 use Rattle.uc_machine.specs.declared.exec.Exec.{Exec}
@@ -10,7 +10,7 @@ use Rattle.uc_machine.specs.declared.exec.Home.{Home}
 use Rattle.uc_machine.specs.declared.exec.Owner.TheVariants.{Frame}
 use Rattle.uc_machine.specs.Pieces as piece
 use Rattle.uc_machine.specs.Pieces.{Slot, FieldAt, Value, Place, Object, object_in, further, Todo, Sort, sort, Active, State, Members, Step, Goes, Ticks, Asks, top, below}
-use Rattle.uc_answer_laws.specs.Suiting.{Form, JustGo, form_of_request}
+use Rattle.uc_answer_laws.specs.Suiting.{Form, form_of_request}
 use Rattle.uc_typing.specs.Typing.{Table}
 use Rattle.uc_event_laws.specs.Counted.{params, count, CountedExpr, CountedExprs, CountedMaybe, CountedItems, CountedTargets, CountedDeclared, CountedClean, CountedStmt, CountedStmts, CountedHandlers, CountedClauses}
 use Rattle.uc_event_laws.specs.Marked.{operands}

@@ -2,6 +2,7 @@
 
 ghost use Rattle.uc_putting_laws.specs.PuttingLaws.{LawCalling, LawPuts, LawSteps};
 ghost use Rattle.uc_putting_laws.specs.PuttingRuns.{LawRuns};
+ghost use Rattle.uc_putting_laws.specs.Fields.{LawSole};
 
 /// In the source of every program of the grammar that breaks no rule constructors and destructors are
 /// called at variables and at fields of the object at hand alone, by what builds the object or by a
@@ -28,4 +29,11 @@ pub fn law_puts()
 /// nobody has a mark around it, if who acts has its name alone.
 pub fn law_runs()
     ensures { LawRuns }
+{}
+
+/// Nothing outwards stands around a field of the object at hand, where nothing that older activations
+/// have to clean up stands in the object, which is the execution's own, and the activation itself cleans
+/// up other fields alone.
+pub fn law_sole()
+    ensures { LawSole }
 {}
