@@ -223,10 +223,6 @@ module _ (source : Source) (s : State) where
   raise_at (Object q) e todo vs = tt
   raise_at v e todo vs = pend_at (piece.exec_at v s.env) e todo vs
 
-  enables : (events cell : ℕ) (todo : List Todo) → EndStep (polls.enable_step events cell todo s)
-  enables events cell todo =
-      tt
-
   quiet_poll : (x : Option Pending) (todo : List Todo) → EndStep (polls.quiet_poll x todo s)
   quiet_poll None todo = tt
   quiet_poll (Some p) todo = tt
@@ -380,8 +376,8 @@ module _ (source : Source) (s : State) where
   acts (piece.AcceptNow site m) todo z y o = accept_by (monitors.mask_of (take_operands piece.Nothing m s.run.operands [])) (monitors.this_object s) site todo (drop m s.run.operands)
   acts piece.FailedNow todo z y o = failed _ todo _
   acts piece.RaiseAtNow todo z y o = raise_at _ _ todo _
-  acts (piece.EnableNow events cell) todo z y o = enables (inside.enabled_more s.env.links.enabled events) cell todo
-  acts (piece.DisableNow events cell) todo z y o = enables (inside.enabled_less s.env.links.enabled events) cell todo
+  acts (piece.EnableNow events cell) todo z y o = tt
+  acts (piece.DisableNow events cell) todo z y o = tt
   acts (piece.RestoreNow cell) todo z y o = tt
   acts piece.PollNow todo z y o = poll todo
   acts piece.DeliverNow todo z y o = deliver _ todo
