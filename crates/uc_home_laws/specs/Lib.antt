@@ -1,0 +1,3 @@
+pub mod Homes
+pub mod HomedStates
+pub mod HomedRuns
