@@ -5,3 +5,4 @@ pub mod HomedKeeping
 pub mod HomedSteps
 pub mod HomedWalk
 pub mod HomedWorlds
+pub mod HomedReading

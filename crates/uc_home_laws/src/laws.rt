@@ -1,6 +1,7 @@
 // The laws: each is a function whose contract is the law.
 
 ghost use Rattle.uc_home_laws.specs.HomedRuns.{LawRuns, LawSteps};
+ghost use Rattle.uc_home_laws.specs.HomedReading.{LawReading};
 ghost use Rattle.uc_home_laws.specs.Homes.{LawHomes, LawOnce};
 
 /// In each run in which all that was asked so far fits, of whatever source, who is told the number of an object
@@ -22,4 +23,9 @@ pub fn law_steps()
 /// So it is in each run of a program that breaks no rule in which each scope opens so.
 pub fn law_runs()
     ensures { LawRuns }
+{}
+
+/// So what is read at a binding to a mutex object, within what is in scope, is at home there.
+pub fn law_reading()
+    ensures { LawReading }
 {}
