@@ -1,0 +1,4 @@
+pub mod Homes
+pub mod HomedStates
+pub mod HomedRuns
+pub mod HomedReading
