@@ -1,3 +1,4 @@
+pub mod Hands
 pub mod Insiders
 pub mod NewObjects
 pub mod Owners
