@@ -1,0 +1,3 @@
+cd /work/lanes/mf3
+for c in uc_except uc_coroutine uc_ride uc_outside; do
+  rm -rf /work/lanes/mf3/crates/*/must-fail; git checkout -q crates/$c/must-fail; date; echo "== $c"; RT_JOBS=1 rt ci $c 2>&1 | grep -E 'rt: |must-fail|refused|passed|failed|BAD' ; done

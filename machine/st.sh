@@ -1,0 +1,1 @@
+date; tail -qn1 /work/logs/[A-Z]*.log | cut -c1-80; cat /work/logs/pl1.log 2>/dev/null | tail -3; ps -eo pid,args | grep '[r]attle build\|[r]attle check' | awk '{print $1}' | while read p; do [ -e /proc/$p/cwd ] && echo $(readlink /proc/$p/cwd | sed 's#/tmp/rt-copy-[^/]*/repo/crates/#LANE #') $(ps -o time= -p $p); done | sort | uniq -c | sort -rn | head -30; uptime | cut -c1-80

@@ -1,0 +1,14 @@
+
+import sys
+n=int(sys.argv[1])
+
+def gen():
+    v=0
+    while True:
+        yield v
+        v+=1
+def main():
+    g=gen(); s=0
+    for i in range(n): s=(s+next(g))%1000003
+    print(s)
+main()
