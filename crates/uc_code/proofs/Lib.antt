@@ -26,3 +26,4 @@ pub mod Sweeping
 pub mod Tabled
 pub mod Turning
 pub mod Ways
+pub mod FusingLemmas

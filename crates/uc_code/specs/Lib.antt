@@ -1,5 +1,6 @@
 pub mod Codes
 pub mod Drafts
+pub mod Fusing
 pub mod Guarding
 pub mod Layout
 pub mod Exits

@@ -515,6 +515,7 @@ impl Draft {
             routines: self.routines,
             classes,
             table: None,
+            fused: None,
         }
     }
 }

@@ -5,6 +5,7 @@ pub mod cleaning;
 pub mod code;
 pub mod draft;
 pub mod draft_parts;
+pub mod fused;
 pub mod guarding;
 pub mod listing;
 mod marks;
