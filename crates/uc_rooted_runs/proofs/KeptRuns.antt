@@ -1,5 +1,5 @@
 -- Names tell the rest, so nobody has at hand what has gone.
-use Rattle.std.proofs.Common.{◌≡◌, ℕ, ◌<◌, ◌≤◌, ◌⊎◌, inl, inr, Bool, true, false, List, [], ◌∷◌, ◌++◌, Option, Some, None, refl, sym, ap, ◌∙◌, subst, ⊎_elim}
+use Rattle.std.proofs.Common.{◌≡◌, ℕ, ◌<◌, ◌≤◌, inl, inr, Bool, true, false, List, [], ◌∷◌, ◌++◌, Option, Some, None, refl, sym, ap, ◌∙◌, subst, ⊎_elim}
 use Rattle.std.specs.Prelude.{if◌then◌else◌}
 use Rattle.std.proofs.lemmas.Bool.{cases_lt}
 use Rattle.uc_tree.specs.Source.{Source, routine_of}
@@ -20,25 +20,27 @@ use Rattle.uc_machine.specs.Pieces.{Value, Todo, SetUpNow, TakeDownNow, Finish, 
 use Rattle.uc_machine.specs.Quiet.{first_state}
 use Rattle.uc_machine.specs.Rides.{Rides, slices, goes_on, ticks, asks}
 use Rattle.uc_meaning.specs.Runs.{World, May, Runs, world_after, gives, no_room, acts, begun, more}
-use Rattle.uc_program_laws.specs.Fitting.{RunFits}
-use Rattle.uc_value_laws.specs.Opens.{RideMeets, MayMeet, RunMeets}
+use Rattle.uc_state_laws.specs.Fitting.{RunFits}
+use Rattle.uc_state_laws.specs.Opens.{RideMeets, MayMeet, RunMeets}
 use Rattle.uc_name_laws.specs.NameSteps as names
 use Rattle.uc_name_laws.proofs.Homes.{no_both}
-use Rattle.uc_named_runs.specs.RunningRuns.{RunLeaves}
+use Rattle.uc_life_laws.specs.RunningRuns.{RunLeaves}
 use Rattle.uc_typing.specs.Typing.{Ty, Table}
 use Rattle.uc_life_laws.specs.Things.{Few, Base}
 use Rattle.uc_life_laws.specs.Knowing.{main_of}
 use Rattle.uc_life_laws.specs.LifeStates.{SlotBy, ParkedBy, HandBy, MembersBy}
-use Rattle.uc_world_laws.specs.Rooted.{InSlot, InParked, InHand, InMembers, Lives}
-use Rattle.uc_rooted_runs.specs.Makers.{Makers}
+use Rattle.uc_life_laws.specs.Rooted.{InSlot, InParked, InHand, InMembers, Lives}
+use Rattle.uc_life_laws.specs.Ways.{LeavesAt}
+use Rattle.uc_life_laws.proofs.Ways.{law_ways}
+use Rattle.uc_rooted_runs.specs.Makers.{Makers, seating}
 use Rattle.uc_rooted_runs.specs.Births.{MakesLater, RunSpawnsLater}
-use Rattle.uc_own_names.specs.OwnNames.{StepOwn, StaysOwn, RunOwns}
-use Rattle.uc_own_names.proofs.OwnNamesLemmas.{run_first, law_own_names}
+use Rattle.uc_life_laws.specs.OwnNames.{StepOwn, StaysOwn, RunOwns}
+use Rattle.uc_life_laws.proofs.OwnNamesLemmas.{run_first, law_own_names}
 use Rattle.uc_rooted_runs.specs.Binds.{BindsOwn}
 use Rattle.uc_rooted_runs.specs.FreshStates.{TakesOthersBy, KeepsFresh}
 use Rattle.uc_rooted_runs.specs.Mains.{FindsAll}
 use Rattle.uc_rooted_runs.specs.MainRuns.{EndsMains}
-use Rattle.uc_rooted_runs.specs.Outlasting.{SparesAt, IsAlone}
+use Rattle.uc_rooted_runs.specs.Outlasting.{IsAlone}
 use Rattle.uc_rooted_runs.specs.OutlastRuns.{with_before, made_behind, ride_made, run_made, now, OutlastsAt, RideOutlasts, SpawnsAlone, MayOutlast, RunOutlasts}
 use Rattle.uc_rooted_runs.specs.OutlastNames.{NamesAt, RideNames, SpawnsNew, MayName, RunNames}
 use Rattle.uc_rooted_runs.specs.Upwards.{IsBased}
@@ -68,13 +70,13 @@ module _ (source : Source) where
     ends = record { mains = e.bare; takes = takes s h.now.alone s.run.control; asks = e.asks a };
   }
 
-  ride_keeps : (j : Journal) (w : World) (t : ℕ) {s u : State} {q k : ℕ} {a : Asked} (r : Rides source s q u k a) → RideMeets (BindsOwn source) source s q u k a r → RideMeets (EndsMains source) source s q u k a r → RideMeets (FindsAll source) source s q u k a r → RideMeets (StaysOwn source j w t) source s q u k a r → RideMeets (KeepsFresh source) source s q u k a r
+  pub ride_keeps : (j : Journal) (w : World) (t : ℕ) {s u : State} {q k : ℕ} {a : Asked} (r : Rides source s q u k a) → RideMeets (BindsOwn source) source s q u k a r → RideMeets (EndsMains source) source s q u k a r → RideMeets (FindsAll source) source s q u k a r → RideMeets (StaysOwn source j w t) source s q u k a r → RideMeets (KeepsFresh source) source s q u k a r
   ride_keeps j w t slices b e a o = tt
   ride_keeps j w t (goes_on {s} g r) b e a o = (keeps_at j w t s b.0 e.0 a.0 o.0, ride_keeps j w t r b.1 e.1 a.1 o.1)
   ride_keeps j w t (ticks {s} g r) b e a o = (keeps_at j w t s b.0 e.0 a.0 o.0, ride_keeps j w t r b.1 e.1 a.1 o.1)
   ride_keeps j w t (asks {s} g) b e a o = keeps_at j w t s b e a o
 
-  run_keeps : (input : List ℕ) (opts : Options) (j : Journal) (w : World) (r : Runs source input opts j w) → RunMeets (BindsOwn source) source input opts j w r → RunMeets (EndsMains source) source input opts j w r → RunMeets (FindsAll source) source input opts j w r → RunOwns source input opts j w r → RunMeets (KeepsFresh source) source input opts j w r
+  pub run_keeps : (input : List ℕ) (opts : Options) (j : Journal) (w : World) (r : Runs source input opts j w) → RunMeets (BindsOwn source) source input opts j w r → RunMeets (EndsMains source) source input opts j w r → RunMeets (FindsAll source) source input opts j w r → RunOwns source input opts j w r → RunMeets (KeepsFresh source) source input opts j w r
   run_keeps input opts _ _ begun b e a o = tt
   run_keeps input opts _ _ (more {j} {w} r on (gives p t v le)) b e a o = (run_keeps input opts j w r b.0 e.0 a.0 o.0, tt)
   run_keeps input opts _ _ (more {j} {w} r on (no_room p t v le)) b e a o = (run_keeps input opts j w r b.0 e.0 a.0 o.0, tt)
@@ -82,32 +84,32 @@ module _ (source : Source) where
       (run_keeps input opts j w r b.0 e.0 a.0 o.0, ride_keeps j w t d.rides b.1 e.1 a.1 o.1.0)
 
 module _ (makers : Makers) (asked : Exec → Bool) where
-  spares : (source : Source) (made : Exec → Bool) (s : State) → EndsMains source s → KeepsAt makers asked (now makers asked made) s.run.control s → NamesAt makers asked source made s → SparesAt makers (now makers asked made) s.run.control s
-  spares source made s f k n = by s.run.control refl k
+  takes_at : (source : Source) (made : Exec → Bool) (s : State) → EndsMains source s → KeepsAt makers asked source (now makers asked made) s.run.control s → NamesAt makers asked source made s → LeavesAt source (seating makers) (now makers asked made) s.run.control s
+  takes_at source made s f k n = by s.run.control refl k
     where
-      by : (l : List Todo) → s.run.control ≡ l → KeepsAt makers asked (now makers asked made) l s → SparesAt makers (now makers asked made) l s
+      by : (l : List Todo) → s.run.control ≡ l → KeepsAt makers asked source (now makers asked made) l s → LeavesAt source (seating makers) (now makers asked made) l s
       by (SetUpNow r ∷ todo) e h = λ m i x u p. n.new r todo e m i x u p
       by (Finish ∷ todo) e h = f.finish todo e
       by l e h = h
 
   at_state : (source : Source) (made : Exec → Bool) (s : State) → EndsMains source s → Keeps makers asked source made s → NamesAt makers asked source made s → OutlastsAt makers asked source made s
-  at_state source made s f k n = record { spares = spares source made s f k.spares n; alone = n.alone; covered = k.covered }
+  at_state source made s f k n = record { takes = law_ways source (seating makers) (now makers asked made) s (takes_at source made s f k.leaves n); alone = n.alone; held = k.held }
 
-  ride_both : (source : Source) (made : Exec → Bool) {s u : State} {q k : ℕ} {a : Asked} (r : Rides source s q u k a) → RideMeets (EndsMains source) source s q u k a r → RideKeeps makers asked source made r → RideNames makers asked source made r → RideOutlasts makers asked source made r
+  pub ride_both : (source : Source) (made : Exec → Bool) {s u : State} {q k : ℕ} {a : Asked} (r : Rides source s q u k a) → RideMeets (EndsMains source) source s q u k a r → RideKeeps makers asked source made r → RideNames makers asked source made r → RideOutlasts makers asked source made r
   ride_both source made slices f h n = tt
   ride_both source made (goes_on {s} e r) f h n = (at_state source made s f.0 h.0 n.0, ride_both source (made_behind source s made) r f.1 h.1 n.1)
   ride_both source made (ticks {s} e r) f h n = (at_state source made s f.0 h.0 n.0, ride_both source (made_behind source s made) r f.1 h.1 n.1)
   ride_both source made (asks {s} e) f h n = at_state source made s f h n
 
-  spawns_both : (made : Exec → Bool) (q : Request) (s : State) → SpawnsKept makers asked q s → SpawnsNew makers asked made q s → SpawnsAlone makers asked made q s
-  spawns_both made (ask.Spawn o) s h n = (n.0, n.1, h)
-  spawns_both made q s h n = tt
+  spawns_both : (source : Source) (made : Exec → Bool) (q : Request) (s : State) → SpawnsKept makers asked source q s → SpawnsNew makers asked made q s → SpawnsAlone makers asked source made q s
+  spawns_both source made (ask.Spawn o) s h n = (n.0, n.1, h)
+  spawns_both source made q s h n = tt
 
   module _ (source : Source) (input : List ℕ) (opts : Options) where
     may_both : (made : Exec → Bool) {j : Journal} {w : World} {a : List Entry} {x : World} (m : May source opts input j w a x) → MayMeet (EndsMains source) source opts input j w a x m → MayKeep makers asked source input opts made m → MayName makers asked source input opts made m → MayOutlast makers asked source input opts made m
     may_both made (gives p t s h) f k n = tt
     may_both made (no_room p t s h) f k n = tt
-    may_both made (acts p t i s q d) f k n = (ride_both source made d.rides f k.0 n.0, spawns_both (ride_made source made d.rides) q.request s k.1 n.1, n.2)
+    may_both made (acts p t i s q d) f k n = (ride_both source made d.rides f k.0 n.0, spawns_both source (ride_made source made d.rides) q.request s k.1 n.1, n.2)
 
     pub run_both : {j : Journal} {w : World} (r : Runs source input opts j w) → RunMeets (EndsMains source) source input opts j w r → RunKeeps makers asked source input opts r → RunNames makers asked source input opts r → RunOutlasts makers asked source input opts r
     run_both begun f k n = tt
@@ -141,7 +143,7 @@ module _ (made : Exec → Bool) where
   in_members n cs h None i k = absurd i
   in_members n cs h (Some m) i k = in_parked n cs h m.parked i k
 
-  in_world : (source : Source) (j : Journal) (x : World) → AllMade made j x → ((v : ℕ) → task_count j ≤ v → x.tasks v ≡ first_state (routine_of source source.main) 0) → (n : Exec) (cs : List Active) → Lives j x n cs → IsMade made n
+  pub in_world : (source : Source) (j : Journal) (x : World) → AllMade made j x → ((v : ℕ) → task_count j ≤ v → x.tasks v ≡ first_state (routine_of source source.main) 0) → (n : Exec) (cs : List Active) → Lives j x n cs → IsMade made n
   in_world source j x all later n cs (inl i) =
       ⊎_elim (λ lt. subst (IsMade made) (sym i.2) (all.running i.0 lt)) (λ le. inl (i.2 ∙ ap (λ (s : State). s.env.exec) (later i.0 le))) (cases_lt i.0 (task_count j))
   in_world source j x all later n cs (inr (inl (v, inl i))) = in_parked n cs (home.Task (x.tasks v).env.own) (x.tasks v).env.house.parked i (all.tasks v).house
@@ -149,7 +151,7 @@ module _ (made : Exec → Bool) where
   in_world source j x all later n cs (inr (inr (q, i))) = in_members n cs (home.Object q) (x.homes q) i (all.homes q)
 
 -- so what it has of others is based where it stood
-based_of : (t : Table) (few : Few) (makers : Makers) (asked made : Exec → Bool) (yet : Exec → List Active → Value → Ty → Bool) (own : Exec → Value → Ty → Bool) (j : Journal) (x : World) → ((w : Value) (b : Ty) → Base few (main_of 0) w b → own (main_of 0) w b ≡ true) → ((n : Exec) → made n ≡ true → makers.rank (makers.parent n) < makers.rank n) → (n : Exec) → IsMade made n → (w : Value) (b : Ty) → Base few n w b → own n w b ≡ false → IsStood t few makers asked yet j x n w b → IsBased t few makers (now makers asked made) yet j x n w b
+pub based_of : (t : Table) (few : Few) (makers : Makers) (asked made : Exec → Bool) (yet : Exec → List Active → Value → Ty → Bool) (own : Exec → Value → Ty → Bool) (j : Journal) (x : World) → ((w : Value) (b : Ty) → Base few (main_of 0) w b → own (main_of 0) w b ≡ true) → ((n : Exec) → made n ≡ true → makers.rank (makers.parent n) < makers.rank n) → (n : Exec) → IsMade made n → (w : Value) (b : Ty) → Base few n w b → own n w b ≡ false → IsStood t few makers asked yet j x n w b → IsBased t few makers (now makers asked made) yet j x n w b
 based_of t few makers asked made yet own j x first later n (inl e) w b k f s =
     no_both (own n w b) (ap (λ m. own m w b) e ∙ first w b (subst (λ m. Base few m w b) e k)) f
 based_of t few makers asked made yet own j x first later n (inr e) w b k f s = record {

@@ -1,5 +1,5 @@
 -- Homes have made no more executions than were made in the run, and the main of task 0.
-use Rattle.std.proofs.Common.{◌≡◌, ℕ, zero, suc, ◌==◌, ◌<◌, ◌≤◌, ◌⊎◌, inl, inr, Bool, true, false, List, [], ◌∷◌, ◌++◌, Option, Some, None, refl, sym, ap, ◌∙◌, subst, arith, ⊎_elim}
+use Rattle.std.proofs.Common.{◌≡◌, ℕ, zero, suc, ◌==◌, ◌<◌, ◌≤◌, inl, inr, Bool, true, false, List, [], ◌∷◌, ◌++◌, Option, Some, None, refl, sym, ap, ◌∙◌, subst, arith, ⊎_elim}
 use Rattle.std.specs.Prelude.{if◌then◌else◌, slice_get, nat_eq}
 use Rattle.std.proofs.lemmas.Bool.{eqb-true, eq-eqb, cases_lt}
 use Rattle.uc_tree.specs.Source.{Source, Routine, routine_of}
@@ -18,30 +18,32 @@ use Rattle.uc_machine.specs.declared.exec.Home.{Home}
 use Rattle.uc_machine.specs.declared.exec.Home.TheVariants as home
 use Rattle.uc_machine.specs.Executions.{Execution, home_eq, exec_eq, members_at}
 use Rattle.uc_machine.specs.Switches.{new_exec}
+use Rattle.uc_machine.specs.Pieces as piece
 use Rattle.uc_machine.specs.Pieces.{Value, Todo, SetUpNow, State, Members, Asks}
 use Rattle.uc_machine.specs.Quiet.{home_at, no_members, first_state}
 use Rattle.uc_machine.specs.Answering.{answered}
 use Rattle.uc_machine.specs.Rides.{Rides, slices, goes_on, ticks, asks}
 use Rattle.uc_meaning.specs.Runs.{World, Runs, AsksIn, gives, no_room, acts, begun, more, drawn, first_world}
 use Rattle.uc_step_laws.specs.Hands.{keys}
-use Rattle.uc_program_laws.specs.Fitting.{RunFits}
-use Rattle.uc_program_laws.proofs.Others.{RunRests, run_rests, asking as asks_with}
-use Rattle.uc_hand_laws.proofs.DeepWorlds.{DeepWorld, deep_run}
-use Rattle.uc_value_laws.specs.Opens.{RideMeets, RunMeets}
+use Rattle.uc_state_laws.specs.Fitting.{RunFits}
+use Rattle.uc_state_laws.proofs.Others.{RunRests, run_rests, asking as asks_with}
+use Rattle.uc_state_laws.proofs.DeepWorlds.{DeepWorld, deep_run}
+use Rattle.uc_state_laws.specs.Opens.{RideMeets, RunMeets}
 use Rattle.uc_name_laws.specs.Below.{IsBelow, ParkedNamed, one_more_at}
 use Rattle.uc_name_laws.specs.NameSteps.{Named, StepNamed, Grows, IsBorn, NamedBehind}
 use Rattle.uc_name_laws.proofs.Homes.{no_both, none_some, same_home, same_exec, exec_self}
 use Rattle.uc_name_laws.proofs.Values.{below_more}
 use Rattle.uc_name_laws.proofs.Walk.{walk}
-use Rattle.uc_named_runs.specs.NamedRuns.{is_here}
-use Rattle.uc_named_runs.proofs.Owned.{owner_other}
-use Rattle.uc_named_runs.proofs.Riding.{RideNamed, grows_not}
-use Rattle.uc_named_runs.proofs.Worlds.{WorldNamed, vacuous, run_named, ride, start, own_stays, found_none, after_by, named_act, one_task}
-use Rattle.uc_own_names.proofs.OwnWorlds.{no_hand, first_env}
-use Rattle.uc_own_names.proofs.OwnNamesLemmas.{run_first}
+use Rattle.uc_life_laws.specs.NamedRuns.{is_here}
+use Rattle.uc_life_laws.proofs.Owned.{owner_other}
+use Rattle.uc_life_laws.proofs.Riding.{RideNamed, grows_not}
+use Rattle.uc_life_laws.proofs.NamedWorlds.{WorldNamed, vacuous, run_named, ride, start, own_stays, found_none, after_by, named_act, one_task}
+use Rattle.uc_life_laws.proofs.OwnWorlds.{no_hand, first_env}
+use Rattle.uc_life_laws.proofs.OwnNamesLemmas.{run_first}
 use Rattle.uc_life_laws.specs.Knowing.{main_of}
 use Rattle.uc_life_laws.specs.LifeStates.{SlotBy, ParkedBy, HandBy, EnvBy, MembersBy}
-use Rattle.uc_rooted_runs.specs.Makers.{Placed, stacked, Makers, MadeBy}
+use Rattle.uc_life_laws.specs.Placed.{Placed, stacked}
+use Rattle.uc_rooted_runs.specs.Makers.{Makers, MadeBy}
 use Rattle.uc_rooted_runs.specs.Births.{MakesLater, SpawnsLater, RunSpawnsLater}
 use Rattle.uc_rooted_runs.specs.OutlastRuns.{with_made, made_by, made_behind, ride_made, made_asked, run_made}
 use Rattle.uc_rooted_runs.specs.MadeRuns.{IsMade, AllMade, LawMadeRuns}
@@ -59,7 +61,7 @@ with_grows (Some r) (Some m) k made n h = by (exec_eq n k)
     by true = refl
     by false = h
 
-made_grows : (source : Source) (s : State) (made : Exec → Bool) (n : Exec) → made n ≡ true → made_behind source s made n ≡ true
+pub made_grows : (source : Source) (s : State) (made : Exec → Bool) (n : Exec) → made n ≡ true → made_behind source s made n ≡ true
 made_grows source s made n h = by s.run.control
   where
     by : (l : List Todo) → made_by source l s made n ≡ true
@@ -92,7 +94,7 @@ BelowMade serials made = (n : Exec) → IsBelow serials n → IsMade made n
 -- a ride
 
 module _ (source : Source) (here : Home → Bool) where
-  step_made : (serials : Home → ℕ) (made : Exec → Bool) (s : State) (b : NamedBehind source here false serials s) → BelowMade serials made → BelowMade b.serials (made_behind source s made)
+  pub step_made : (serials : Home → ℕ) (made : Exec → Bool) (s : State) (b : NamedBehind source here false serials s) → BelowMade serials made → BelowMade b.serials (made_behind source s made)
   step_made serials made s b h n x =
       ⊎_elim (λ lt. grown made (made_behind source s made) n (made_grows source s made n) (h n lt)) (λ y. inr (born_made source s made n y)) (b.only n x)
 
@@ -119,7 +121,7 @@ module _ (source : Source) (here : Home → Bool) where
 
 -- a world
 
-parked_made : (serials : Home → ℕ) (made : Exec → Bool) → BelowMade serials made → (h : Home) (n : ℕ) → n ≡ serials h → (ps : List (ℕ × Option (Execution (List Todo) Value))) → ParkedNamed serials n ps → ParkedBy (λ n y. IsMade made n) h ps
+pub parked_made : (serials : Home → ℕ) (made : Exec → Bool) → BelowMade serials made → (h : Home) (n : ℕ) → n ≡ serials h → (ps : List (ℕ × Option (Execution (List Todo) Value))) → ParkedNamed serials n ps → ParkedBy (λ n y. IsMade made n) h ps
 parked_made serials made all h n e [] p = tt
 parked_made serials made all h n e (q ∷ ps) p = (slot q.1, parked_made serials made all h n e ps p.2)
   where
@@ -262,12 +264,12 @@ module _ (source : Source) (input : List ℕ) (opts : Options) (range : InRange 
     pub act_made : BelowMade (after_by q.request (ride source input opts range rests on deep serials x p t n s q d f going).now) (made_asked q.request (ride_made source made d.rides))
     act_made = spawned q.request refl
 
-  record RunTold {j : Journal} {w : World} (r : Runs source input opts j w) : Type 0 where
-    serials : Home → ℕ
-    world : WorldNamed serials j w
-    all : BelowMade serials (run_made source input opts r)
+  pub record RunTold {j : Journal} {w : World} (r : Runs source input opts j w) : Type 0 where
+    pub serials : Home → ℕ
+    pub world : WorldNamed serials j w
+    pub all : BelowMade serials (run_made source input opts r)
 
-  run_told : {j : Journal} {w : World} (r : Runs source input opts j w) → RunFits source input opts j w r → is_over j ≡ false → RunTold r
+  pub run_told : {j : Journal} {w : World} (r : Runs source input opts j w) → RunFits source input opts j w r → is_over j ≡ false → RunTold r
   run_told begun f on =
       let x = run_named source input opts range begun f on in
       record { serials = x.serials; world = x.world; all = begun_made source opts x.serials x.world }
@@ -299,8 +301,8 @@ module _ (makers : Makers) where
   abbrev AllLater : (Exec → Bool) → Type 0
   AllLater made = (n : Exec) → made n ≡ true → IsLater n
 
-  later_by : (n by : Exec) (ps : List Placed) → MadeBy makers n by ps → IsLater n
-  later_by n by ps m = subst (λ k. makers.rank k < makers.rank n) (sym m.parent) m.later
+  later_by : (n by : Exec) (v : Value) (ps : List Placed) → MadeBy makers n by v ps → IsLater n
+  later_by n by v ps m = subst (λ k. makers.rank k < makers.rank n) (sym m.parent) m.later
 
   module _ (source : Source) where
     step_later : (made : Exec → Bool) (s : State) → MakesLater source makers s → AllLater made → AllLater (made_behind source s made)
@@ -308,7 +310,7 @@ module _ (makers : Makers) where
       where
         by : (b : Bool) → made n ≡ b → IsLater n
         by true f = h n f
-        by false f = later_by n s.env.exec (stacked (s.run ∷ s.callers)) (m n (born_there source s made n e f))
+        by false f = later_by n s.env.exec s.run.this (stacked (s.run ∷ s.callers)) (m n (born_there source s made n e f))
 
     ride_later : (made : Exec → Bool) {s u : State} {q k : ℕ} {a : Asked} (r : Rides source s q u k a) → RideMeets (MakesLater source makers) source s q u k a r → AllLater made → AllLater (ride_made source made r)
     ride_later made slices m h = h
@@ -320,7 +322,7 @@ module _ (makers : Makers) where
     asked_later made (ask.Spawn o) s l h n e = by (exec_eq n (main_of o)) refl e
       where
         by : (b : Bool) → exec_eq n (main_of o) ≡ b → (if b then true else made n) ≡ true → IsLater n
-        by true g e = subst (λ k. IsLater k) (sym (same_exec n (main_of o) g)) (later_by (main_of o) s.env.exec (stacked (s.run ∷ s.callers)) l)
+        by true g e = subst (λ k. IsLater k) (sym (same_exec n (main_of o) g)) (later_by (main_of o) s.env.exec (piece.Object o) (stacked (s.run ∷ s.callers)) l)
         by false g e = h n e
     asked_later made q s l h n e = h n e
 

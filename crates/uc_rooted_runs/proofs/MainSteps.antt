@@ -1,20 +1,17 @@
 -- A quiet step of a task in which nobody waits for a main leads to one.
-use Rattle.std.proofs.Common.{◌≡◌, ℕ, zero, suc, ◌≤◌, ◌++◌, Bool, true, false, List, [], ◌∷◌, length, drop, Option, Some, None, refl, arith, ap, ◌∙◌, subst, sym}
-use Rattle.std.specs.Prelude.{nat_eq, nat_lt, if◌then◌else◌}
-use Rattle.std.proofs.lemmas.Bool.{eq-eqb}
+use Rattle.std.proofs.Common.{◌≡◌, ℕ, zero, suc, ◌++◌, Bool, true, false, List, [], ◌∷◌, length, drop, Option, Some, None, refl}
+use Rattle.std.specs.Prelude.{nat_eq, nat_lt}
 use Rattle.uc_tree.specs.declared.limits.TheConstants.{CALLS, PENDING_EVENTS}
 use Rattle.uc_tree.specs.Source as src
 use Rattle.uc_tree.specs.Source.{Shape, Expr, ObjectExpr, Stmt, Stmts, EventStmt, TaskStmt, Routine, Purpose, Order, Way, CleanUp, Handlers, Clauses, Raised, Item, Declared}
 use Rattle.uc_entry.specs.declared.request.Piece.{Piece}
 use Rattle.uc_entry.specs.Keyed.{find, signed_64}
 use Rattle.uc_machine.specs.declared.exec.Exec.{Exec}
-use Rattle.uc_machine.specs.declared.exec.Home.{Home}
-use Rattle.uc_machine.specs.declared.exec.Home.TheVariants as home
 use Rattle.uc_machine.specs.declared.exec.Pending.{Pending}
 use Rattle.uc_machine.specs.declared.exec.UnwindReason.{UnwindReason}
 use Rattle.uc_machine.specs.declared.exec.UnwindReason.TheVariants as reason
 use Rattle.uc_machine.specs.declared.exec.Visited.{Visited}
-use Rattle.uc_machine.specs.Executions.{others, home_eq, exec_eq, frame_changed, values_cleared, change, frames_changed}
+use Rattle.uc_machine.specs.Executions.{values_cleared}
 use Rattle.uc_machine.specs.Switches as sw
 use Rattle.uc_machine.specs.Switches.{Moved, To, Stops}
 use Rattle.uc_machine.specs.Insides as inside
@@ -25,7 +22,8 @@ use Rattle.uc_machine.specs.Polls as polls
 use Rattle.uc_machine.specs.Quiet as quiet
 use Rattle.uc_machine.specs.Pieces as piece
 use Rattle.uc_machine.specs.Pieces.{Value, Number, Place, Running, Object, Nothing, Todo, Sort, Active, State, Env, Members, Step, Goes, Ticks, Asks, Outcome, Gives, Faults, at, in_env, top, below, number, nought, written}
-use Rattle.uc_rooted_runs.specs.Mains.{IsBare, AtEnd, MainIn, MainStack, MainEx, MainState, MainStep, IsNoMain, AreNoMains}
+use Rattle.uc_life_laws.specs.Held.{AreLines}
+use Rattle.uc_rooted_runs.specs.Mains.{AtEnd, MainIn, MainStack, MainEx, MainState, MainStep, IsNoMain, AreNoMains}
 use Rattle.uc_life_laws.proofs.Cells.{either}
 use Rattle.uc_rooted_runs.proofs.MainKeeping as kept
 use Rattle.uc_rooted_runs.proofs.MainKeeping.{Keeps}
@@ -58,7 +56,7 @@ module _ (older : List Active) where
   begins e r = behind_begun e r.purpose r.line
 
   -- lines alone
-  pub bare_in : (todo : List Todo) → IsBare todo → There todo
+  pub bare_in : (todo : List Todo) → AreLines todo → There todo
   bare_in [] h = tt
   bare_in (piece.Within line ∷ todo) h = bare_in todo h
   bare_in (p ∷ todo) h = absurd h
@@ -405,11 +403,11 @@ module _ (s : State) (st : MainState s) where
   scope src.Leaves true todo h = told _ h
   scope c b todo h = go (raising.left_todo c (piece.Unwind ∷ todo)) [] (left_cleans s.callers c (piece.Unwind ∷ todo) h)
 
-  main_left : (w : Option UnwindReason) (todo : List Todo) → (s.callers ≡ []) × IsBare todo → MainStep (raising.main_left w todo s)
+  main_left : (w : Option UnwindReason) (todo : List Todo) → (s.callers ≡ []) × AreLines todo → MainStep (raising.main_left w todo s)
   main_left (Some (reason.ReturnTo n)) todo h = told _ h
   main_left w todo h = go todo [] (bare_in s.callers todo h.1)
 
-  coroutine_left : (w : Option UnwindReason) (todo : List Todo) → (s.callers ≡ []) × IsBare todo → MainStep (raising.coroutine_left w todo s)
+  coroutine_left : (w : Option UnwindReason) (todo : List Todo) → (s.callers ≡ []) × AreLines todo → MainStep (raising.coroutine_left w todo s)
   coroutine_left (Some (reason.ReturnTo n)) todo h = told _ h
   coroutine_left (Some reason.Destroyed) todo h =
       let k = bare_in s.callers todo h.1 in

@@ -23,10 +23,10 @@ use Rattle.uc_machine.specs.Quiet.{home_at}
 use Rattle.uc_machine.specs.Answering.{answered}
 use Rattle.uc_machine.specs.Rides.{Rides, slices, goes_on, ticks, asks}
 use Rattle.uc_meaning.specs.Runs.{World, Runs, AsksIn, gives, no_room, acts, begun, more, drawn}
-use Rattle.uc_program_laws.specs.Fitting.{RunFits}
-use Rattle.uc_program_laws.proofs.Others.{RunRests, run_rests, asking as asks_with}
-use Rattle.uc_hand_laws.proofs.DeepWorlds.{DeepWorld, deep_run}
-use Rattle.uc_value_laws.specs.Opens.{RideMeets, RunMeets}
+use Rattle.uc_state_laws.specs.Fitting.{RunFits}
+use Rattle.uc_state_laws.proofs.Others.{RunRests, run_rests, asking as asks_with}
+use Rattle.uc_state_laws.proofs.DeepWorlds.{DeepWorld, deep_run}
+use Rattle.uc_state_laws.specs.Opens.{RideMeets, RunMeets}
 use Rattle.uc_name_laws.specs.Below.{IsBelow}
 use Rattle.uc_name_laws.specs.NameSteps as names
 use Rattle.uc_name_laws.specs.NameSteps.{Named, StepNamed, Grows, IsBorn}
@@ -34,14 +34,14 @@ use Rattle.uc_name_laws.proofs.Homes.{no_both, same_exec}
 use Rattle.uc_name_laws.proofs.Values.{below_more}
 use Rattle.uc_name_laws.proofs.Births.{law_new}
 use Rattle.uc_name_laws.proofs.Walk.{walk}
-use Rattle.uc_named_runs.specs.RunningRuns.{RunLeaves}
-use Rattle.uc_named_runs.proofs.Riding.{grows_not}
-use Rattle.uc_named_runs.proofs.Worlds.{WorldNamed, vacuous, run_named, ride, start, known, found_none, after_by, after_more, named_act}
+use Rattle.uc_life_laws.specs.RunningRuns.{RunLeaves}
+use Rattle.uc_life_laws.proofs.Riding.{grows_not}
+use Rattle.uc_life_laws.proofs.NamedWorlds.{WorldNamed, vacuous, run_named, ride, start, known, found_none, after_by, after_more, named_act}
 use Rattle.uc_life_laws.specs.Knowing.{main_of}
-use Rattle.uc_world_laws.proofs.Fewer.{both_members, both_env}
-use Rattle.uc_own_names.specs.OwnNames.{at_hand, IsElsewhere, IsOwn, StepOwn, StaysOwn}
-use Rattle.uc_own_names.proofs.OwnNamesLemmas.{run_owns, law_own_names}
-use Rattle.uc_rooted_runs.specs.Makers.{Placed, Makers}
+use Rattle.uc_life_laws.proofs.Fewer.{both_members, both_env}
+use Rattle.uc_life_laws.specs.OwnNames.{at_hand, IsElsewhere, IsOwn, StepOwn, StaysOwn}
+use Rattle.uc_life_laws.proofs.OwnNamesLemmas.{run_owns, law_own_names}
+use Rattle.uc_rooted_runs.specs.Makers.{Outside, Makers}
 use Rattle.uc_rooted_runs.specs.Births.{MakesLater, SpawnsLater, RunSpawnsLater}
 use Rattle.uc_rooted_runs.specs.OutlastRuns.{with_before, with_made, made_by, made_behind, ride_made, made_asked, run_made, now, MadeNone, NoneElsewhere}
 use Rattle.uc_rooted_runs.specs.OutlastNames.{NamesAt, RideNames, SpawnsNew, MayName, RunNames, LawOutlastNames}
@@ -81,7 +81,7 @@ born_there source s made x h f = at s.run.control refl h
     at (SetUpNow r ∷ todo) c h = one r todo c (slice_get source.routines r) refl (members_at (home_at s.run.this s.env) s.env) refl h
     at l c h = absurd (no_both (made x) h f)
 
-module _ (whole : Makers) (before : Exec → List Placed) (asked : Exec → Bool) where
+module _ (whole : Makers) (before : Outside) (asked : Exec → Bool) where
   abbrev makers : Makers
   makers = with_before before whole
 
@@ -103,7 +103,7 @@ module _ (whole : Makers) (before : Exec → List Placed) (asked : Exec → Bool
   not_now made x e h = ap (λ b. if b then made x else false) (sym e) ∙ h
 
   -- all that were made were made by one that was made
-  abbrev MadeBelow : (Home → ℕ) → (Exec → Bool) → Type 0
+  abbrev pub MadeBelow : (Home → ℕ) → (Exec → Bool) → Type 0
   MadeBelow serials made = (x : Exec) → made x ≡ true → IsBelow serials (whole.parent x)
 
   made_more : (a b : Home → ℕ) → ((h : Home) → a h ≤ b h) → (made : Exec → Bool) → MadeBelow a made → MadeBelow b made
@@ -144,15 +144,15 @@ module _ (whole : Makers) (before : Exec → List Placed) (asked : Exec → Bool
           by false e = next e
 
     -- a ride
-    record RideTold (serials : Home → ℕ) (made : Exec → Bool) (s : State) (q : ℕ) (u : State) (k : ℕ) (a : Asked) (r : Rides source s q u k a) : Type 0 where
-      behind : Home → ℕ
-      grows : Grows (at_hand j w t) serials behind
-      named : Named (at_hand j w t) false behind u
-      below : MadeBelow behind (ride_made source made r)
-      names : RideNames makers asked source made r
-      mine : (x : Exec) → ride_made source made r x ≡ true → made x ≡ false → at_hand j w t (whole.parent x).home ≡ true
+    pub record RideTold (serials : Home → ℕ) (made : Exec → Bool) (s : State) (q : ℕ) (u : State) (k : ℕ) (a : Asked) (r : Rides source s q u k a) : Type 0 where
+      pub behind : Home → ℕ
+      pub grows : Grows (at_hand j w t) serials behind
+      pub named : Named (at_hand j w t) false behind u
+      pub below : MadeBelow behind (ride_made source made r)
+      pub names : RideNames makers asked source made r
+      pub mine : (x : Exec) → ride_made source made r x ≡ true → made x ≡ false → at_hand j w t (whole.parent x).home ≡ true
 
-    ride_told : (serials : Home → ℕ) (made : Exec → Bool) {s u : State} {q k : ℕ} {a : Asked} (r : Rides source s q u k a) → Named (at_hand j w t) false serials s → MadeBelow serials made → RideMeets (StaysOwn source j w t) source s q u k a r → RideMeets (MakesLater source whole) source s q u k a r → RideTold serials made s q u k a r
+    pub ride_told : (serials : Home → ℕ) (made : Exec → Bool) {s u : State} {q k : ℕ} {a : Asked} (r : Rides source s q u k a) → Named (at_hand j w t) false serials s → MadeBelow serials made → RideMeets (StaysOwn source j w t) source s q u k a r → RideMeets (MakesLater source whole) source s q u k a r → RideTold serials made s q u k a r
     ride_told serials made slices n h own later = record {
       behind = serials;
       grows = grows_not (at_hand j w t) serials;
@@ -272,13 +272,13 @@ module _ (whole : Makers) (before : Exec → List Placed) (asked : Exec → Bool
       act_names = (told.names, spawns_new, none_elsewhere)
 
     -- a run
-    record RunTold {j : Journal} {w : World} (r : Runs source input opts j w) : Type 0 where
-      serials : Home → ℕ
-      world : WorldNamed serials j w
-      below : MadeBelow serials (run_made source input opts r)
-      names : RunNames makers asked source input opts r
+    pub record RunTold {j : Journal} {w : World} (r : Runs source input opts j w) : Type 0 where
+      pub serials : Home → ℕ
+      pub world : WorldNamed serials j w
+      pub below : MadeBelow serials (run_made source input opts r)
+      pub names : RunNames makers asked source input opts r
 
-    run_told : {j : Journal} {w : World} (r : Runs source input opts j w) → RunFits source input opts j w r → is_over j ≡ false → RunLeaves source input opts j w r → RunMeets names.Spares source input opts j w r → RunMeets (MakesLater source whole) source input opts j w r → RunSpawnsLater whole source input opts j w r → RunTold r
+    pub run_told : {j : Journal} {w : World} (r : Runs source input opts j w) → RunFits source input opts j w r → is_over j ≡ false → RunLeaves source input opts j w r → RunMeets names.Spares source input opts j w r → RunMeets (MakesLater source whole) source input opts j w r → RunSpawnsLater whole source input opts j w r → RunTold r
     run_told begun f on l h m z =
         let x = run_named source input opts range begun f on in
         record { serials = x.serials; world = x.world; below = λ x e. absurd (cc); names = tt }

@@ -12,13 +12,13 @@ use Rattle.uc_machine.specs.declared.exec.Home.TheVariants.{Task, Object}
 use Rattle.uc_machine.specs.Pieces.{Value, Active, State}
 use Rattle.uc_machine.specs.Answering.{answered}
 use Rattle.uc_meaning.specs.Runs.{World, Runs, drawn, begun, more}
-use Rattle.uc_program_laws.specs.Fitting.{RunFits}
+use Rattle.uc_state_laws.specs.Fitting.{RunFits}
 use Rattle.uc_resolve.specs.Resolve.{source_of}
 use Rattle.uc_rules.specs.Breaks.{breaks_of}
-use Rattle.uc_scope_laws.specs.RoomRuns.{Comes}
-use Rattle.uc_value_laws.specs.Opens.{MayMeet, LeadsMeet}
-use Rattle.uc_sound.specs.Formed.{IsFormed}
-use Rattle.uc_aside_laws.specs.OlderResting.{AllWait, NamedParked, NamedMembers, NamedEnv}
+use Rattle.uc_state_laws.specs.RoomRuns.{Comes}
+use Rattle.uc_state_laws.specs.Opens.{MayMeet, LeadsMeet}
+use Rattle.uc_sound.specs.SoundFormed.{IsFormed}
+use Rattle.uc_place_laws.specs.OlderResting.{AllWait, NamedParked, NamedMembers, NamedEnv}
 use Rattle.uc_tasked_laws.specs.Seated.{EndsTask}
 use Rattle.uc_tasked_laws.specs.Seats.{seat}
 use Rattle.uc_tasked_laws.specs.SeatedStates.{Told, Awaited, Kept, AllHave, Fair}
@@ -91,6 +91,9 @@ pub record AreSeated (p : Program) (homes : ℕ → Value) (source : Source) (j 
       SeatsKept p (told_by homes j) s
   pub homes_keep : (o : ℕ) →
       NamedMembers (KeepsSeats p (told_by homes j)) (KeepsSeats p (told_by homes j)) (Object o) (w.homes o)
+  -- so it is of what does not run in a task, whether that has ended or not
+  pub houses : (n : ℕ) →
+      NamedParked (KeepsSeats p (told_by homes j)) (KeepsSeats p (told_by homes j)) (Task (w.tasks n).env.own) (w.tasks n).env.house.parked
 
 -- so it is in each run of a program that breaks no rule, as long as all that was asked so far fits
 abbrev pub LawTasked : Type 0

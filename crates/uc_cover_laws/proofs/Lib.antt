@@ -1,4 +1,0 @@
-pub mod Keeping
-pub mod Steps
-pub mod Walk
-pub mod Claims

@@ -1,4 +1,0 @@
-pub mod Homes
-pub mod HomedStates
-pub mod HomedRuns
-pub mod HomedReading
