@@ -1,4 +1,5 @@
 pub mod Marks
+pub mod PuttingTodos
 pub mod Steps
 pub mod Arrays
 pub mod Lone

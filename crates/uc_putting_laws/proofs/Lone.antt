@@ -19,7 +19,8 @@ use Rattle.uc_unmarked_laws.proofs.Own.{further_own}
 use Rattle.uc_putting_laws.specs.Calling.{Site, One, Each, each_at, EndsWhole, CleansBy, AnySite, IsField, PartBy}
 use Rattle.uc_putting_laws.specs.Putting.{Setting, Around, Mark, OpensRest, OneNext, LoneAt, CodeStmts, CodeOpening, CodeScope, CodePart, Ok}
 use Rattle.uc_putting_laws.specs.PuttingLaws.{SolePart}
-use Rattle.uc_putting_laws.proofs.Steps.{here, LoneFor}
+use Rattle.uc_putting_laws.proofs.PuttingTodos.{LoneFor}
+use Rattle.uc_putting_laws.proofs.Steps.{here}
 use Rattle.uc_putting_laws.proofs.Arrays.{elements_lone, left_before, filled_before}
 
 -- what is at home at a field around which nothing outwards stands

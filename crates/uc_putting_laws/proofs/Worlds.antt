@@ -65,7 +65,7 @@ use Rattle.uc_aside_laws.proofs.Keeping as kept
 use Rattle.uc_aside_laws.proofs.Keeping.{either}
 use Rattle.uc_putting_laws.specs.Putting.{Setting, around, CodeRoutine, FindsFor, Runs, Waits, FindsBehind, PutMembers, PutState, PutAsk, PutStep}
 use Rattle.uc_putting_laws.specs.PuttingLaws.{special_of, setting_of, Fair}
-use Rattle.uc_putting_laws.proofs.Steps.{calm}
+use Rattle.uc_putting_laws.proofs.PuttingTodos.{calm}
 use Rattle.uc_putting_laws.proofs.Walk.{walk, first_put, child_plain, answered_put}
 use Rattle.uc_putting_laws.proofs.Puts.{law_puts}
 
