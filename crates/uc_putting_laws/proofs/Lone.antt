@@ -244,9 +244,9 @@ module _ (Z : ℕ → ℕ → Type 0) (g : Setting) (laid : IsLaidOut Z g.table)
   opened a ss todo q n code x i e =
       spot_lone (site_spot x) todo i code (λ k y end h. opened_cleared Z k a ss x todo end y e (subst (SomeTo Z end) q h)) (λ h j y. rest_below ss todo x h j n e y)
 
-  pub lone_behind : (a : Stmt) (ms : List Mark) (todo : List Todo) → s.run.control ≡ piece.Do a ∷ todo → Ok g (here s) made ms todo → steps.LoneBehind g s callers env made this todo
-  lone_behind a ms (piece.Rest ss ∷ todo) q h x i e = opened a ss todo q h.0 (marks.left g (here s) made [] todo h.1) x i e
-  lone_behind a ms todo q h x i e = absurd e
+  pub lone_behind : (a : Stmt) (todo : List Todo) → s.run.control ≡ piece.Do a ∷ todo → Ok g (here s) made [] todo → steps.LoneBehind g s callers env made this todo
+  lone_behind a (piece.Rest ss ∷ todo) q h x i e = opened a ss todo q h.0 (marks.left g (here s) made [] todo h.1) x i e
+  lone_behind a todo q h x i e = absurd e
 
   -- where an event is built
 

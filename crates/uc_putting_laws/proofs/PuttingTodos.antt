@@ -17,7 +17,8 @@ use Rattle.uc_event_laws.specs.Counted.{params, count, CountedClean, CountedStmt
 use Rattle.uc_aside_laws.specs.OlderResting.{AllWait, NamedEnv}
 use Rattle.uc_aside_laws.proofs.Keeping as kept
 use Rattle.uc_aside_laws.proofs.Keeping.{either}
-use Rattle.uc_putting_laws.specs.CleanedSpots.{Site, NoSite, Reach, apart}
+use Rattle.uc_unmarked_laws.specs.Ending.{Spot, OfVariable, OfField}
+use Rattle.uc_putting_laws.specs.CleanedSpots.{Site, NoSite, spot_of, Reach, apart, IsOutermost}
 use Rattle.uc_putting_laws.specs.Calling.{CallsAt, EndsAt, EndsNumber, Evaluates, SweepsBy, CleansBy, Begins}
 use Rattle.uc_putting_laws.specs.Putting.{Setting, Around, around, Mark, Any, rest, rests, anys, OpensRest, LoneAt, Counts, CodeMaybe, CodeItems, CodeStmt, CodeStmts, CodeHandlers, CodeClauses, CodeLoop, CodeSweep, CodeFill, CodeScope, CodePart, made_marks, CallFits, LeftBy, Ok, Left, Runs, Waits}
 use Rattle.uc_putting_laws.proofs.CleanedSpots.{apart_outermost}
@@ -174,11 +175,22 @@ module _ (g : Setting) where
     loop_left src.ToReturn o t e b todo n h = left [] todo h
     loop_left src.ToEnd o t e b todo n h = left [] todo h
 
+    -- a way out in front of what is to do outwards of a scope
+    outermost_past : (o : Option Spot) (w : Way) (todo : List Todo) → IsOutermost o todo → IsOutermost o (piece.Exit w ∷ todo)
+    outermost_past None w todo h = tt
+    outermost_past (Some (OfVariable k)) w todo h = tt
+    outermost_past (Some (OfField s i)) w todo h = (tt, h)
+
+    scope_past : (c : CleanUp) (w : Way) (todo : List Todo) → CodeScope g made c todo → CodeScope g made c (piece.Exit w ∷ todo)
+    scope_past src.Ends w todo n = tt
+    scope_past (src.Frees r) w todo n = n
+    scope_past c w todo n = (n.0, n.1, outermost_past (spot_of c) w todo n.2)
+
     pub left_behind : (w : Way) (k : Sort) (todo : List Todo) → LeftBy g A made k todo (LeftTo A made todo) (Fits [] todo) → Fits [] (quiet.left_behind w k todo)
     left_behind w piece.Simple todo h = h
     left_behind w (piece.IsLoop o t e b) todo h = loop_left w o t e b todo h.0 h.1
     left_behind w piece.IsWhole todo h = h
-    left_behind w (piece.IsClean x) todo h = (h.0, left [] todo h.1)
+    left_behind w (piece.IsClean x) todo h = (scope_past x w todo h.0, left [] todo h.1)
     left_behind w (piece.IsFill m b d) todo h = left [] todo h.1
     left_behind w (piece.IsSweep e) todo h = left [] todo h.1
     left_behind w (piece.IsPart x) todo h = left [] todo h.1

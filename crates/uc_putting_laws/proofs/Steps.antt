@@ -3,7 +3,7 @@ use Rattle.std.proofs.Common.{◌≡◌, ℕ, zero, suc, ◌<◌, ◌≤◌, ◌
 use Rattle.std.specs.Prelude.{nat_eq, nat_lt, slice_set}
 use Rattle.uc_tree.specs.declared.limits.TheConstants.{CALLS, PENDING_EVENTS}
 use Rattle.uc_tree.specs.Source as src
-use Rattle.uc_tree.specs.Source.{Shape, Expr, ObjectExpr, Stmt, Stmts, EventStmt, TaskStmt, Routine, Way, CleanUp, Handlers}
+use Rattle.uc_tree.specs.Source.{Shape, Expr, ObjectExpr, Stmt, Stmts, EventStmt, TaskStmt, Routine, Way, CleanUp, Handlers, Purpose}
 use Rattle.uc_entry.specs.declared.fault.RunFault.{RunFault}
 use Rattle.uc_entry.specs.declared.fault.RunFault.TheVariants.{Index, Depth, BlockedInside, TooManyPending, NotLive, Unhandled}
 use Rattle.uc_entry.specs.declared.request.Piece.{Piece}
@@ -444,8 +444,8 @@ module _ (g : Setting) where
       locates : (e : Expr) (todo : List Todo) → Counts g e → Located e (λ x. O (At x ∷ ms) todo) → PutStep g (quiet.eval_step e todo s)
       locates (src.Variable k) todo n h = go (At (One (OfVariable k)) ∷ ms) _ _ (refl, holds) h
       locates (src.OfObject (src.OwnField k i)) todo n h = go (At (One (OfField k i)) ∷ ms) _ _ (refl, holds) h
-      locates (src.Element m src.Binding (src.Variable k) (src.OfObject src.Counted)) todo n h = go ms _ _ holds (n.0, inr (inr (inr (inr (inr (inl (n.1, inl ((tt, tt), inr (inr h)))))))))
-      locates (src.Element m src.Binding (src.OfObject (src.OwnField k i)) (src.OfObject src.Counted)) todo n h = go ms _ _ holds (n.0, inr (inr (inr (inr (inr (inl (n.1, inl ((tt, tt), inr (inr h)))))))))
+      locates (src.Element m src.Binding (src.Variable k) (src.OfObject src.Counted)) todo n h = go ms _ _ holds (n.0, inr (inr (inr (inr (inr (inl (n.1, inl ((tt, tt), inr h))))))))
+      locates (src.Element m src.Binding (src.OfObject (src.OwnField k i)) (src.OfObject src.Counted)) todo n h = go ms _ _ holds (n.0, inr (inr (inr (inr (inr (inl (n.1, inl ((tt, tt), inr h))))))))
       locates e todo n h = absurd h
 
       loads : (e : Expr) (todo : List Todo) → Counts g e → IsEnding todo → Loads e (λ x. O (Homed x ∷ ms) todo) → PutStep g (quiet.eval_step e todo s)

@@ -120,7 +120,7 @@ module _ (program : Program) (g : Setting) (laid : IsLaidOut (Sized program) g.t
     acts (piece.Targets (t ∷ ts)) todo c h = anew _ _ (h.0.0.0, inl (h.0.1.0, (tt, (tt, ((h.0.0.1, h.0.1.1), h.1)))))
     acts (piece.Variables []) todo c h = anew _ _ h.1
     acts (piece.Variables (d ∷ ds)) todo c h = anew _ _ (tt, todos.starts g (here s) made d.cell d.value (piece.Variables ds ∷ todo) (h.0.0.0, h.0.1.0) ((h.0.0.1, h.0.1.1), h.1))
-    acts (piece.Do a) todo c h = steps.stmt g s callers env made this a todo h.0 (lone_behind (Sized program) g laid s st callers env made this a ms todo c h) (lone_stmt (Sized program) g laid s st callers env made this (OpensRest todo) a todo c h.0 (left g (here s) made [] todo h.1)) h.1
+    acts (piece.Do a) todo c h = steps.stmt g s callers env made this a todo h.0 (lone_behind (Sized program) g laid s st callers env made this a todo c h.1) (lone_stmt (Sized program) g laid s st callers env made this (OpensRest todo) a todo c h.0 (left g (here s) made [] todo h.1)) h.1
     acts (piece.Rest ss) todo c h = steps.rest_of g s callers env made this ss todo h.0 h.1
     acts (piece.Within line) todo c h = anew _ _ h.1
     acts (piece.Exit w) todo c h = steps.exits g s callers env made this w todo h

@@ -34,7 +34,7 @@ use Rattle.uc_machine.specs.Answering.{answered, child_main, child_of}
 use Rattle.uc_machine.specs.Rides as rides
 use Rattle.uc_machine.specs.Rides.{Rides}
 use Rattle.uc_acts.specs.Serves.{left}
-use Rattle.uc_meaning.specs.Runs.{World, AsksIn, May, gives, no_room, acts, begun, more, bare, with_home, hand_of, drawn, or_else, first_world}
+use Rattle.uc_meaning.specs.Runs.{World, AsksIn, May, Runs as RunsIn, gives, no_room, acts, begun, more, bare, with_home, hand_of, drawn, or_else, first_world}
 use Rattle.uc_resolve.specs.Resolve.{source_of}
 use Rattle.uc_rules.specs.Breaks.{breaks_of}
 use Rattle.uc_program_laws.specs.Fitting.{MayFit, RunFits}
@@ -54,6 +54,8 @@ use Rattle.uc_scope_laws.specs.RoomRuns.{Leads, Comes}
 use Rattle.uc_scope_laws.proofs.StackWorlds.{law_frame_runs}
 use Rattle.uc_scope_laws.proofs.Unreferring.{law_accepted}
 use Rattle.uc_value_laws.specs.Opens.{RideMeets, MayMeet, RunMeets, LeadsMeet}
+use Rattle.uc_scope_laws.proofs.StackWalk.{walk as walk_stack}
+use Rattle.uc_sound.specs.Tables.{table_of}
 use Rattle.uc_life_laws.specs.Things.{Few}
 use Rattle.uc_life_laws.specs.LifeRuns.{IsLaidOut}
 use Rattle.uc_life_laws.proofs.Spawning.{Spawned, spawner}
