@@ -21,7 +21,7 @@ use Rattle.uc_typing.specs.Typing.{Ty, Num, Cell, Obj, Raw, Row, Clu, Pro, Table
 use Rattle.uc_typing.specs.States.{IsNumbered, Sound}
 use Rattle.uc_sound.specs.Formed.{IsFormed}
 use Rattle.uc_sound.specs.Tables.{table_of}
-use Rattle.uc_life_laws.specs.Things.{IsField, IsUnbound, IsTracked, is_outside, Things, LiesIn, Holds}
+use Rattle.uc_life_laws.specs.Things.{IsField, IsUnbound, IsTracked, is_outside, Around, LiesIn, Holds}
 use Rattle.uc_life_laws.specs.LifeStates.{frame_at, Outwards}
 use Rattle.uc_life_laws.specs.Knowing.{InMaking, KnowsState, Finds}
 use Rattle.uc_life_laws.specs.Opened.{any}
@@ -36,7 +36,7 @@ module _ (t : Table) (source : Source) (s : State) where
   pub record Makes (r : ℕ) : Type 0 where
     pub given : (q : Routine) → slice_get source.routines r ≡ Some q → (j : ℕ) (b : Ty) →
         IsParam (t.routine r).params j b → IsTracked t b →
-        LiesIn t any s.env.exec (Things t any s.env.exec (s.run ∷ s.callers)) b (slice_index_or (call_frame q s.run.operands) j nought)
+        LiesIn t any s.env.exec (Around t any s.env.exec (s.run ∷ s.callers)) b (slice_index_or (call_frame q s.run.operands) j nought)
 
   -- so it is of what is called where the scope of an object opens next, if something is bound in it
   abbrev pub MakesNext : ℕ → List Todo → Type 0
