@@ -12,7 +12,7 @@ use Rattle.uc_machine.specs.Pieces.{Link, FieldAt, At, Value, Todo, Active, Stat
 use Rattle.uc_typing.specs.Typing.{Ty, Num, Cell, Obj, Raw, Row, Clu, Pro, Sig, Table, element_shape, IsParam, object_ty}
 use Rattle.uc_typing.specs.Pieces.{Ok, onto}
 use Rattle.uc_typing.specs.States.{IsNumbered, IsObjectBy, Sound}
-use Rattle.uc_life_laws.specs.Things.{IsReference, IsBinding, IsUnbound, IsTracked, IsSited, is_outside, Within, itself, field, element, Stands, lies, inside, Held, InStack, Base, Around, IsFew, LiesIn, IsFor, AtField, Known, Holds}
+use Rattle.uc_life_laws.specs.Things.{IsReference, IsBinding, IsUnbound, IsTracked, IsSited, is_outside, Within, itself, field, element, Stands, lies, inside, Held, InStack, Base, Around, UnmadeBehind, IsFew, LiesIn, IsFor, AtField, Known, Holds}
 use Rattle.uc_life_laws.specs.LifeStates.{Outwards}
 use Rattle.uc_life_laws.specs.Knowing.{InMaking, AtHand, KnownAll, KnownParams, KnowsState}
 use Rattle.uc_life_laws.specs.Opened.{any}
@@ -90,8 +90,8 @@ module _ (t : Table) (n : Exec) (cs : List Active) where
   lies_outside : (b : Ty) (v : Value) → is_outside n v ≡ true → Stands t any InScope b v
   lies_outside b v h = lies (known.things_around t any n cs v b (in_base (IsFor t) (AtField t) (Base any n) n cs v b h)) itself
 
-  -- so is all that is tracked, where what is being made lies outside or is bare
-  module _ (gs : List Sig) (elsewhere : (w : Value) (c : ℕ) → InMaking gs cs w (Raw c) → IsUnbound t (Obj c) ⊎ (is_outside n w ≡ true)) where
+  -- so is all that is tracked, where what is being made lies outside, is bare or is waited for
+  module _ (gs : List Sig) (elsewhere : (w : Value) (c : ℕ) → InMaking gs cs w (Raw c) → IsUnbound t (Obj c) ⊎ ((is_outside n w ≡ true) ⊎ UnmadeBehind t n cs w (Raw c))) where
     abbrev AtHere : Value → Ty → Type 0
     AtHere w a = AtHand t any n gs cs w a
 
@@ -111,9 +111,10 @@ module _ (t : Table) (n : Exec) (cs : List Active) where
     by_made w c b v (inr (inr h)) k i = inr (w, c, known.behind_around t any n cs w (Raw c) h, k)
     by_made w c b v (inr (inl h)) k i = by (elsewhere w c h)
       where
-        by : IsUnbound t (Obj c) ⊎ (is_outside n w ≡ true) → Held t any InScope b v
+        by : IsUnbound t (Obj c) ⊎ ((is_outside n w ≡ true) ⊎ UnmadeBehind t n cs w (Raw c)) → Held t any InScope b v
         by (inl u) = absurd (untracked t c u b w v k i)
-        by (inr o) = inl (lies_outside b v (outside_within t n w (Obj c) v b k o))
+        by (inr (inl o)) = inl (lies_outside b v (outside_within t n w (Obj c) v b k o))
+        by (inr (inr m)) = inr (w, c, known.behind_around t any n cs w (Raw c) m, k)
 
     held_in : (b : Ty) (v : Value) → Held t any AtHere b v → IsTracked t b → Held t any InScope b v
     held_in b v (inl h) i = inl (stands_in b v h i)
@@ -181,8 +182,8 @@ module _ (t : Table) (source : Source) (sound : Sound t source) (s : State) (x :
     pub in_scope : ((j : ℕ) (b : Ty) → IsParam ps j b → IsSited b → ⊥) → Makes t source s r → (j : ℕ) (b : Ty) → IsParam ps j b → Known t any s.env.exec (Around t any s.env.exec (s.run ∷ s.callers)) b (slice_index_or (call_frame q s.run.operands) j nought)
     in_scope u h j b i = known_in t s.env.exec (s.run ∷ s.callers) Here b _ (u j b i) (given j b i) (h.given q is j b i)
 
-    -- so it is of all where what is being made lies elsewhere
-    unmade : ((w : Value) (c : ℕ) → InMaking x.sigs (s.run ∷ s.callers) w (Raw c) → IsUnbound t (Obj c) ⊎ (is_outside s.env.exec w ≡ true)) → (j : ℕ) (b : Ty) → IsParam ps j b → IsTracked t b → LiesIn t any s.env.exec (Around t any s.env.exec (s.run ∷ s.callers)) b (slice_index_or (call_frame q s.run.operands) j nought)
+    -- so it is of all where what is being made lies elsewhere, or is waited for
+    unmade : ((w : Value) (c : ℕ) → InMaking x.sigs (s.run ∷ s.callers) w (Raw c) → IsUnbound t (Obj c) ⊎ ((is_outside s.env.exec w ≡ true) ⊎ UnmadeBehind t s.env.exec (s.run ∷ s.callers) w (Raw c))) → (j : ℕ) (b : Ty) → IsParam ps j b → IsTracked t b → LiesIn t any s.env.exec (Around t any s.env.exec (s.run ∷ s.callers)) b (slice_index_or (call_frame q s.run.operands) j nought)
     unmade elsewhere j b i k =
         lies_elsewhere t s.env.exec (s.run ∷ s.callers) x.sigs elsewhere b _ (lies_in t s.env.exec (s.run ∷ s.callers) Here b _ (given j b i) k) k
 
