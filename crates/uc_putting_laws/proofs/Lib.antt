@@ -16,3 +16,4 @@ pub mod Statements
 pub mod Routines
 pub mod Worlds
 pub mod PuttingRuns
+pub mod OwnPlaces

@@ -1,5 +1,5 @@
 -- Marks and operands, and to-do lists that are left.
-use Rattle.std.proofs.Common.{◌≡◌, ℕ, zero, suc, ◌<◌, inl, inr, Bool, true, List, [], ◌∷◌, drop, Option, Some, None, refl, sym, ap, subst, arith}
+use Rattle.std.proofs.Common.{◌≡◌, ℕ, zero, suc, ◌<◌, inl, inr, Bool, true, false, List, [], ◌∷◌, drop, Option, Some, None, refl, sym, ap, subst, arith}
 use Rattle.std.specs.Prelude.{ℤ, pos, negsuc, slice_set, nat_lt}
 use Rattle.std.proofs.lemmas.Bool.{ltb-true}
 use Rattle.uc_tree.specs.Source as src
@@ -18,7 +18,7 @@ use Rattle.uc_aside_laws.specs.OlderResting.{AllWait}
 use Rattle.uc_aside_laws.proofs.Keeping.{tested}
 use Rattle.uc_putting_laws.specs.CleanedSpots.{Site, One, Each, Under, site_spot, AnySite, IsAtVariable, IsSpotOf, Reach, apart, IsOf, IsIn}
 use Rattle.uc_putting_laws.specs.ObjectsAtHand.{LiesUnder, same_place, further_on, BelongsBelow, in_frame, IsSeated}
-use Rattle.uc_putting_laws.specs.Calling.{opens_object, PlainExpr, PlaceAt, CallsAt, MakesAt, MakesEach, EndsAt, EndsEach, EndsNumber, Evaluates, FillsBy, SweepsBy, CleansBy, RaisesBy, CallingStmt, CallingEvent, CallingTask, Opening}
+use Rattle.uc_putting_laws.specs.Calling.{opens_object, PlainExpr, PlaceAt, Binds, CallsAt, MakesAt, MakesEach, EndsAt, EndsEach, EndsNumber, Evaluates, FillsBy, SweepsBy, CleansBy, RaisesBy, CallingStmt, CallingEvent, CallingTask, Opening}
 use Rattle.uc_putting_laws.specs.Putting.{Setting, Around, around, Mark, Any, At, Homed, rest, rests, anys, FirstUnder, FirstAt, FirstHome, Located, Enters, Loads, spot_at, StandsAt, HomedAt, Holds, after, made_marks, Ok, Left, Runs, Waits}
 use Rattle.uc_putting_laws.proofs.ObjectsWithin.{below_more, under_below}
 
@@ -207,9 +207,13 @@ module _ (t : Table) (source : Source) (special : ℕ → Bool) (r q : Reach) (w
   number_more (src.OfObject (src.EndProcessor (src.Load x))) h = place_more AnySite AnySite (λ x i y. y) x h
   number_more e h = absurd h
 
+  binds_more : (e : Expr) → Binds t source special r e → Binds t source special q e
+  binds_more (src.OfObject (src.Bind x e)) h = (place_more AnySite AnySite (λ x i y. y) x h.0, h.1)
+  binds_more e h = absurd h
+
   module _ (P Q : Site → Type 0) (f : (x : Site) → IsIn r x → P x → Q x) where
     pub fills_more : (e : Expr) → FillsBy t source special r P e → FillsBy t source special q Q e
-    fills_more e (inl h) = inl h
+    fills_more e (inl h) = inl (binds_more e h)
     fills_more e (inr (inl h)) = inr (inl (calls_more P Q f e h))
     fills_more e (inr (inr h)) = inr (inr (makes_each_more P Q f e h))
 
@@ -220,7 +224,7 @@ module _ (t : Table) (source : Source) (special : ℕ → Bool) (r q : Reach) (w
 
     pub evaluates_more : (e : Expr) → Evaluates t source special r P e → Evaluates t source special q Q e
     evaluates_more e (inl h) = inl h
-    evaluates_more e (inr (inl h)) = inr (inl h)
+    evaluates_more e (inr (inl h)) = inr (inl (binds_more e h))
     evaluates_more e (inr (inr (inl h))) = inr (inr (inl (calls_more P Q f e h)))
     evaluates_more e (inr (inr (inr h))) = inr (inr (inr (makes_more P Q f e h)))
 
@@ -249,7 +253,7 @@ module _ (t : Table) (source : Source) (special : ℕ → Bool) (made : Reach) w
   event_more a h = h
 
   task_more : (a : TaskStmt) → CallingTask t source special (apart made) a → CallingTask t source special made a
-  task_more (src.SetUp n) h = h
+  task_more (src.SetUp n) h = let e : false ≡ true = h.0 in absurd (cc)
   task_more (src.Migrate line e) h = h
   task_more (src.Accept line site cs) h = h
   task_more a h = h
@@ -309,10 +313,8 @@ module _ (g : Setting) (A : Around) (made : Reach) where
   left ms (piece.LoadNow ∷ todo) (inr h) = first_at ms todo (λ x. Ok g A made (Homed x ∷ rest ms) todo) (λ x k. left (Homed x ∷ rest ms) todo k) h.1
   left ms (piece.ElementNow n s ∷ todo) (inl h) = left (Any ∷ rest (rest ms)) todo h
   left ms (piece.ElementNow n s ∷ todo) (inr h) = first_at (rest ms) todo (λ x. Enters n s x (λ y. Ok g A made (At y ∷ rest (rest ms)) todo)) (λ x k. enters n s x todo (λ y. Ok g A made (At y ∷ rest (rest ms)) todo) (λ y l. left (At y ∷ rest (rest ms)) todo l) k) h
-  left ms (piece.MakeNow c r ∷ todo) (inl h) = left (made_marks g r Any ms) todo h
-  left ms (piece.MakeNow c r ∷ todo) (inr h) = first_at (rests (params g.source r) ms) todo (λ x. IsIn made x × Ok g A made (made_marks g r (Homed x) ms) todo) (λ x k. left (made_marks g r (Homed x) ms) todo k.1) h
-  left ms (piece.BindMadeNow c r ∷ todo) (inl h) = left (made_marks g r Any (rest ms)) todo h
-  left ms (piece.BindMadeNow c r ∷ todo) (inr h) = first_at (rests (params g.source r) (rest ms)) todo (λ x. IsIn made x × Ok g A made (made_marks g r (Homed x) (rest ms)) todo) (λ x k. left (made_marks g r (Homed x) (rest ms)) todo k.1) h
+  left ms (piece.MakeNow c r ∷ todo) h = first_at (rests (params g.source r) ms) todo (λ x. IsIn made x × Ok g A made (made_marks g r (Homed x) ms) todo) (λ x k. left (made_marks g r (Homed x) ms) todo k.1) h
+  left ms (piece.BindMadeNow c r ∷ todo) h = first_at (rests (params g.source r) (rest ms)) todo (λ x. IsIn made x × Ok g A made (made_marks g r (Homed x) (rest ms)) todo) (λ x k. left (made_marks g r (Homed x) (rest ms)) todo k.1) h
   left ms (piece.Exit w ∷ todo) h = h
   left ms (piece.Unwind ∷ todo) h = h
   left ms (piece.InLoop o t e b ∷ todo) h = h

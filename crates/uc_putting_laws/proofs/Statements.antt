@@ -116,10 +116,6 @@ module _ (p : Program) (formed : IsFormed p) (u : Unbroken (program_visits p)) w
     place_at P (OfVariable k) h o = (h, o)
     place_at P (OfField s i) h o = (h, o)
 
-    place_plain : (q : Spot) → PlainExpr (table_of p) (source_of p) (special_of p) (naming q)
-    place_plain (OfVariable k) = tt
-    place_plain (OfField s i) = (tt, tt)
-
     called_by : (P : Site → Type 0) (i : ℕ) (wanted : Role) (place : Expr) (args : List Meant) (r : Option ℕ) → IsPlainClass p i → is_plain wanted ≡ false → written_at p i wanted ≡ r → PlaceAt (table_of p) (source_of p) (special_of p) made P place → AllMeant p args → CallsAt (table_of p) (source_of p) (special_of p) made P (meaning.called_by p i wanted place args r)
     called_by P i wanted place args None c w e h k = (shut_at (slice_get (source_of p).routines (unwritten_number p i wanted)) (unwritten_free p formed u i wanted c w e), h)
     called_by P i wanted place args (Some r) c w e h k = (shut_at (slice_get (source_of p).routines r) (written_free p formed u i r wanted c w e), h, expressions.args_by p (tree.params_of p r) args k)
@@ -139,14 +135,11 @@ module _ (p : Program) (formed : IsFormed p) (u : Unbroken (program_visits p)) w
     constructed : (P : Site → Type 0) (m : Making) (q : Spot) (args : List Meant) → MakesPlain p (Some m) → IsOf made q → ((x : Site) → site_spot x ≡ q → P x) → AllMeant p args → Evaluates (table_of p) (source_of p) (special_of p) made P (meaning.constructed p m (naming q) args)
     constructed P (APlain i) q args c n f k = inr (inr (inl (called_by P i role.Constructor (naming q) args (written_at p i role.Constructor) c refl refl (place_at P q n (f (Under q) refl)) k)))
     constructed P (AMutex i) q args c n f k = inr (inr (inr (made_at P i q args (written_at p i role.Constructor) n (f (One q) refl) k)))
-    constructed P ACluster q args c n f k = inr (inl (place_plain q, inr tt))
-    constructed P AProcessor q args c n f k = inr (inl (place_plain q, inr (cluster_in args k)))
+    constructed P ACluster q args c n f k = inr (inl (place_at AnySite q n tt, inr tt))
+    constructed P AProcessor q args c n f k = inr (inl (place_at AnySite q n tt, inr (cluster_in args k)))
 
     counted_at : (P : Site → Type 0) (m : Making) (n : ℕ) (q : Spot) → IsOf made q → P (Under q) → PlaceAt (table_of p) (source_of p) (special_of p) made P (meaning.counted_element p m n (naming q))
     counted_at P m n q h o = (place_at P q h o, (tt, tt))
-
-    counted_plain : (m : Making) (n : ℕ) (q : Spot) → PlainExpr (table_of p) (source_of p) (special_of p) (meaning.counted_element p m n (naming q))
-    counted_plain m n q = (place_plain q, (tt, tt))
 
     makes_each : (P : Site → Type 0) (i n : ℕ) (q : Spot) (r : Option ℕ) → IsOf made q → P (Each n q) → MakesEach (table_of p) (source_of p) (special_of p) made P (meaning.made_by p i (element_at n q) [] r)
     makes_each P i n (OfVariable k) None h o = (o, h, tt)
@@ -163,8 +156,8 @@ module _ (p : Program) (formed : IsFormed p) (u : Unbroken (program_visits p)) w
     fills : (P : Site → Type 0) (m : Making) (n : ℕ) (q : Spot) → MakesPlain p (Some m) → IsOf made q → ((x : Site) → site_spot x ≡ q → P x) → FillsBy (table_of p) (source_of p) (special_of p) made P (meaning.constructed p m (meaning.counted_element p m n (naming q)) [])
     fills P (APlain i) n q c h f = inr (inl (called_by P i role.Constructor (meaning.counted_element p (APlain i) n (naming q)) [] (written_at p i role.Constructor) c refl refl (counted_at P (APlain i) n q h (f (Under q) refl)) tt))
     fills P (AMutex i) n q c h f = inr (inr (makes_each P i n q (written_at p i role.Constructor) h (f (Each n q) refl)))
-    fills P ACluster n q c h f = inl (counted_plain ACluster n q, inr tt)
-    fills P AProcessor n q c h f = inl (counted_plain AProcessor n q, inr tt)
+    fills P ACluster n q c h f = inl (counted_at AnySite ACluster n q h tt, inr tt)
+    fills P AProcessor n q c h f = inl (counted_at AnySite AProcessor n q h tt, inr tt)
 
     sweeps : (P : Site → Type 0) (m : Making) (n : ℕ) (q : Spot) → MakesPlain p (Some m) → IsOf made q → ((x : Site) → site_spot x ≡ q → P x) → SweepsBy (table_of p) (source_of p) (special_of p) made P (meaning.destroyed p m (meaning.counted_element p m n (naming q)))
     sweeps P (APlain i) n q c h f = inr (inl (called_by P i role.Destructor (meaning.counted_element p (APlain i) n (naming q)) [] (written_at p i role.Destructor) c refl refl (counted_at P (APlain i) n q h (f (Under q) refl)) tt))

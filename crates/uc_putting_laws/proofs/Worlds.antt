@@ -129,9 +129,9 @@ module _ (g : Setting) where
 
 -- rides of a task that keeps to its rooms
 
-record Stands (p : Program) (g : Setting) (s : State) : Type 0 where
-  put : PutState g s
-  stack : StackState (Sized p) s
+pub record Stands (p : Program) (g : Setting) (s : State) : Type 0 where
+  pub put : PutState g s
+  pub stack : StackState (Sized p) s
 
 module _ (p : Program) (g : Setting) (laid : IsLaidOut (Sized p) g.table) (in_rooms : SourceIn (Sized p) g.source) (known : (n : ℕ) → CodeRoutine g (g.special n) (slice_get g.source.routines n)) where
   puts : (s : State) → Stands p g s → Puts g.table g.few s
@@ -140,13 +140,13 @@ module _ (p : Program) (g : Setting) (laid : IsLaidOut (Sized p) g.table) (in_ro
   step : (s : State) → Stands p g s → Fair g s → PutStep g (quiet.quiet g.source s)
   step s n f = walk p g laid known s n.put n.stack f
 
-  goes : (s t : State) → quiet.quiet g.source s ≡ Goes t → Stands p g s → Fair g s → Stands p g t
+  pub goes : (s t : State) → quiet.quiet g.source s ≡ Goes t → Stands p g s → Fair g s → Stands p g t
   goes s t e n f = record {
     put = subst (PutStep g) e (step s n f);
     stack = subst (StackStep (Sized p)) e (walk_stack (Sized p) g.source in_rooms s n.stack);
   }
 
-  ticks : (s t : State) → quiet.quiet g.source s ≡ Ticks t → Stands p g s → Fair g s → Stands p g t
+  pub ticks : (s t : State) → quiet.quiet g.source s ≡ Ticks t → Stands p g s → Fair g s → Stands p g t
   ticks s t e n f = record {
     put = subst (PutStep g) e (step s n f);
     stack = subst (StackStep (Sized p)) e (walk_stack (Sized p) g.source in_rooms s n.stack);
@@ -181,7 +181,7 @@ module _ (p : Program) (accepted : breaks_of p ≡ []) (few : Few) (laid : IsLai
         let finds : FindsFor g (asked_form t j) (drawn j w t).env.exec (drawn j w t).callers (drawn j w t).run = m.run (law_alive opts source.sites input j r.kernel going p t runs) in
         answered_put g (asked_form t j) a (drawn j w t) (law_suiting opts source.sites input j r.kernel going t a told) finds m.callers (record { house = m.house; hand = hand_put g (held t j) w.homes x.homes })
 
-    start : (q t : ℕ) (a : Answer) → running q j ≡ t ∷ [] → answer_to source.sites t j ≡ Some a → Stands p g (answered source a (drawn j w t))
+    pub start : (q t : ℕ) (a : Answer) → running q j ≡ t ∷ [] → answer_to source.sites t j ≡ Some a → Stands p g (answered source a (drawn j w t))
     start q t a runs told =
         let c : Comes source j w t (answered source a (drawn j w t)) = record { given = a; processor = q; runs = runs; told = told; leads = rooms.stays } in
         record { put = goes_on q t a runs told; stack = told_rooms.comes t _ c }

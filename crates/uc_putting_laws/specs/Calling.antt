@@ -84,17 +84,17 @@ module _ (t : Table) (source : Source) (special : ℕ → Bool) where
   PlainNew (OfObject (NewProcessor e)) = PlainExpr e
   PlainNew e = ⊥
 
-  -- a field is bound, or a place to what is new
-  abbrev pub Binds : Expr → Type 0
-  Binds (OfObject (Bind p e)) = PlainExpr p × (PlainExpr e ⊎ PlainNew e)
-  Binds e = ⊥
-
   -- a place of a site of which this holds: a variable; a field of the object at hand; an element of one of these
   abbrev pub PlaceAt : Reach → (Site → Type 0) → Expr → Type 0
   PlaceAt r P (Variable k) = IsOf r (OfVariable k) × P (Under (OfVariable k))
   PlaceAt r P (OfObject (OwnField h i)) = IsOf r (OfField h i) × P (Under (OfField h i))
   PlaceAt r P (Element n s e i) = PlaceAt r P e × PlainExpr i
   PlaceAt r P e = ⊥
+
+  -- such a place is bound, also to what is new
+  abbrev pub Binds : Reach → Expr → Type 0
+  Binds r (OfObject (Bind p e)) = PlaceAt r AnySite p × (PlainExpr e ⊎ PlainNew e)
+  Binds r e = ⊥
 
   -- what builds or destroys an object that is no mutex one, at such a place
   abbrev pub CallsAt : Reach → (Site → Type 0) → Expr → Type 0
@@ -132,11 +132,11 @@ module _ (t : Table) (source : Source) (special : ℕ → Bool) where
 
   -- what a statement evaluates by itself, where the scope of what is at a site opens behind it
   abbrev pub Evaluates : Reach → (Site → Type 0) → Expr → Type 0
-  Evaluates r P e = PlainExpr e ⊎ (Binds e ⊎ (CallsAt r P e ⊎ MakesAt r P e))
+  Evaluates r P e = PlainExpr e ⊎ (Binds r e ⊎ (CallsAt r P e ⊎ MakesAt r P e))
 
   -- what builds one element of an array after another, and what destroys them
   abbrev pub FillsBy : Reach → (Site → Type 0) → Expr → Type 0
-  FillsBy r P e = Binds e ⊎ (CallsAt r P e ⊎ MakesEach r P e)
+  FillsBy r P e = Binds r e ⊎ (CallsAt r P e ⊎ MakesEach r P e)
 
   abbrev pub SweepsBy : Reach → (Site → Type 0) → Expr → Type 0
   SweepsBy r P e = EndsNumber r e ⊎ (CallsAt r P e ⊎ EndsEach r P e)
@@ -197,7 +197,7 @@ module _ (t : Table) (source : Source) (special : ℕ → Bool) where
         CallingStmts r body × CallingHandlers r rest
 
     pub CallingTask : Reach → TaskStmt → Type 0
-    CallingTask r (SetUp q) = special q ≡ false
+    CallingTask r (SetUp q) = (r.builds ≡ true) × (special q ≡ false)
     CallingTask r (Migrate line e) = PlainExpr e
     CallingTask r (Accept line site cs) = CallingClauses (apart r) cs
     CallingTask r a = Unit {0}
