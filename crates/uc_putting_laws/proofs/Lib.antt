@@ -13,3 +13,4 @@ pub mod Routines
 pub mod Worlds
 pub mod PuttingRuns
 pub mod Fields
+pub mod OwnPlaces

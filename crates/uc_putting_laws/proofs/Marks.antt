@@ -104,7 +104,7 @@ module _ (t : Table) (few : Few) (A : Around) where
   none_own : Belongs few A.exec piece.Nothing → ⊥
   none_own h = elim h [ ]
 
-  site_own : (made : Bool) (x : Site) (v : Value) → (made ≡ true → Belongs few A.exec A.this) → IsIn made x → StandsAt few A x v → Belongs few A.exec v
+  pub site_own : (made : Bool) (x : Site) (v : Value) → (made ≡ true → Belongs few A.exec A.this) → IsIn made x → StandsAt few A x v → Belongs few A.exec v
   site_own made (One p) v h i e = subst (Belongs few A.exec) (sym e) (spot_own made p h i)
   site_own made (Each n p) v h i e = subst (Belongs few A.exec) (sym e.2) (further_own t few A.exec (piece.At src.Binding e.0) (spot_at few A p) (spot_own made p h i))
 
@@ -255,10 +255,8 @@ module _ (g : Setting) (A : Around) (made : Bool) where
   left ms (piece.ElementNow n s ∷ todo) (inl h) = left (Any ∷ rest (rest ms)) todo h
   left ms (piece.ElementNow n s ∷ todo) (inr (inl h)) = left (Own ∷ rest (rest ms)) todo h.1
   left ms (piece.ElementNow n s ∷ todo) (inr (inr h)) = first_at (rest ms) todo (λ x. Enters n s x (λ y. Ok g A made (At y ∷ rest (rest ms)) todo)) (λ x k. enters n s x todo (λ y. Ok g A made (At y ∷ rest (rest ms)) todo) (λ y l. left (At y ∷ rest (rest ms)) todo l) k) h
-  left ms (piece.MakeNow c r ∷ todo) (inl h) = left (made_marks g r Any ms) todo h
-  left ms (piece.MakeNow c r ∷ todo) (inr h) = first_at (rests (params g.source r) ms) todo (λ x. IsIn made x × Ok g A made (made_marks g r (Homed x) ms) todo) (λ x k. left (made_marks g r (Homed x) ms) todo k.1) h
-  left ms (piece.BindMadeNow c r ∷ todo) (inl h) = left (made_marks g r Any (rest ms)) todo h
-  left ms (piece.BindMadeNow c r ∷ todo) (inr h) = first_at (rests (params g.source r) (rest ms)) todo (λ x. IsIn made x × Ok g A made (made_marks g r (Homed x) (rest ms)) todo) (λ x k. left (made_marks g r (Homed x) (rest ms)) todo k.1) h
+  left ms (piece.MakeNow c r ∷ todo) h = first_at (rests (params g.source r) ms) todo (λ x. IsIn made x × Ok g A made (made_marks g r (Homed x) ms) todo) (λ x k. left (made_marks g r (Homed x) ms) todo k.1) h
+  left ms (piece.BindMadeNow c r ∷ todo) h = first_at (rests (params g.source r) (rest ms)) todo (λ x. IsIn made x × Ok g A made (made_marks g r (Homed x) (rest ms)) todo) (λ x k. left (made_marks g r (Homed x) (rest ms)) todo k.1) h
   left ms (piece.Exit w ∷ todo) h = h
   left ms (piece.Unwind ∷ todo) h = h
   left ms (piece.InLoop o t e b ∷ todo) h = h

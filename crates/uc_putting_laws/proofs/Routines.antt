@@ -47,7 +47,7 @@ module _ (p : Program) (formed : IsFormed p) (u : Unbroken (program_visits p)) w
   init_args s (Some x) = statements.args p formed u s x.args
 
   field_start : (P : Site → Type 0) (b : Bool) (s : Shape) (k : Shape) (i : ℕ) (m : Meant) → MeantPlain p m → Evaluates (table_of p) (source_of p) (special_of p) true P (meaning.field_start p b s (src.OfObject (src.OwnField k i)) m)
-  field_start P true s k i m h = inr (inl ((tt, tt), inl h.expr))
+  field_start P true s k i m h = inr (inl (refl, inl h.expr))
   field_start P false s k i m h = inl ((tt, tt), expressions.converted p s (tree.value_of m) (expressions.value_of p m h))
 
   field_started : (f : ClassField) (k : Shape) (i : ℕ) (args : List Meant) (rest : Stmts) → AllMeant p args → Fine rest → Fine (meaning.field_started p f (src.OfObject (src.OwnField k i)) args rest)
@@ -93,7 +93,7 @@ module _ (p : Program) (formed : IsFormed p) (u : Unbroken (program_visits p)) w
   set_up c i rest at h = by (has_execution c.kind) refl
     where
       by : (b : Bool) → has_execution c.kind ≡ b → Fine (meaning.set_up p b i rest)
-      by true e = (main_plain p formed u i c at (executes_main c.kind e), (tt, h))
+      by true e = ((refl, main_plain p formed u i c at (executes_main c.kind e)), (tt, h))
       by false e = h
 
   started_in : (b : Bool) (body : Stmts) → Fine body → Fine (meaning.started_in p b body)

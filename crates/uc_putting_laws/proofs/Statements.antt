@@ -80,10 +80,6 @@ module _ (p : Program) (formed : IsFormed p) (u : Unbroken (program_visits p)) w
     place_at (OfVariable k) h = tt
     place_at (OfField s i) h = h
 
-    place_plain : (q : Spot) → PlainExpr (table_of p) (source_of p) (special_of p) (naming q)
-    place_plain (OfVariable k) = tt
-    place_plain (OfField s i) = (tt, tt)
-
     called_by : (i : ℕ) (wanted : Role) (place : Expr) (args : List Meant) (r : Option ℕ) → IsPlainClass p i → is_plain wanted ≡ false → written_at p i wanted ≡ r → PlaceAt (table_of p) (source_of p) (special_of p) made place → AllMeant p args → CallsAt (table_of p) (source_of p) (special_of p) made (meaning.called_by p i wanted place args r)
     called_by i wanted place args None c w e h k = (shut_at (slice_get (source_of p).routines (unwritten_number p i wanted)) (unwritten_free p formed u i wanted c w e), h)
     called_by i wanted place args (Some r) c w e h k = (shut_at (slice_get (source_of p).routines r) (written_free p formed u i r wanted c w e), h, expressions.args_by p (tree.params_of p r) args k)
@@ -110,14 +106,11 @@ module _ (p : Program) (formed : IsFormed p) (u : Unbroken (program_visits p)) w
     constructed : (m : Making) (q : Spot) (args : List Meant) (rest : Stmts) → MakesPlain p (Some m) → IsOf made q → AllMeant p args → Evaluates (table_of p) (source_of p) (special_of p) made (OpensFor (behind q (meaning.clean_up p m None (naming q)) rest)) (meaning.constructed p m (naming q) args)
     constructed (APlain i) q args rest c n k = inr (inr (inl (called_by i role.Constructor (naming q) args (written_at p i role.Constructor) c refl refl (place_at q n) k)))
     constructed (AMutex i) q args rest c n k = inr (inr (inr (made_at (OpensFor (behind q (meaning.clean_up p (AMutex i) None (naming q)) rest)) i q args (written_at p i role.Constructor) n (opens_for i q rest (written_at p i role.Destructor)) k)))
-    constructed ACluster q args rest c n k = inr (inl (place_plain q, inr tt))
-    constructed AProcessor q args rest c n k = inr (inl (place_plain q, inr (cluster_in args k)))
+    constructed ACluster q args rest c n k = inr (inl (place_at q n, inr tt))
+    constructed AProcessor q args rest c n k = inr (inl (place_at q n, inr (cluster_in args k)))
 
     counted_at : (m : Making) (n : ℕ) (q : Spot) → IsOf made q → PlaceAt (table_of p) (source_of p) (special_of p) made (meaning.counted_element p m n (naming q))
     counted_at m n q h = (place_at q h, (tt, tt))
-
-    counted_plain : (m : Making) (n : ℕ) (q : Spot) → PlainExpr (table_of p) (source_of p) (special_of p) (meaning.counted_element p m n (naming q))
-    counted_plain m n q = (place_plain q, (tt, tt))
 
     -- the scope of an array of them is of what is made there
     opens_each : (i n : ℕ) (q : Spot) (rest : Stmts) (r : Option ℕ) → OpensFor (behind q (src.DestroysAll n (meaning.ended_by p i (src.Load (element_at n q)) r)) rest) (Each n q)
@@ -146,8 +139,8 @@ module _ (p : Program) (formed : IsFormed p) (u : Unbroken (program_visits p)) w
     fills : (P : Site → Type 0) (m : Making) (n : ℕ) (q : Spot) → MakesPlain p (Some m) → IsOf made q → IfMutex m (P (Each n q)) → FillsBy (table_of p) (source_of p) (special_of p) made P (meaning.constructed p m (meaning.counted_element p m n (naming q)) [])
     fills P (APlain i) n q c h o = inr (inl (called_by i role.Constructor (meaning.counted_element p (APlain i) n (naming q)) [] (written_at p i role.Constructor) c refl refl (counted_at (APlain i) n q h) tt))
     fills P (AMutex i) n q c h o = inr (inr (makes_each P i n q (written_at p i role.Constructor) h o))
-    fills P ACluster n q c h o = inl (counted_plain ACluster n q, inr tt)
-    fills P AProcessor n q c h o = inl (counted_plain AProcessor n q, inr tt)
+    fills P ACluster n q c h o = inl (counted_at ACluster n q h, inr tt)
+    fills P AProcessor n q c h o = inl (counted_at AProcessor n q h, inr tt)
 
     sweeps : (P : Site → Type 0) (m : Making) (n : ℕ) (q : Spot) → MakesPlain p (Some m) → IsOf made q → IfMutex m (P (Each n q)) → SweepsBy (table_of p) (source_of p) (special_of p) made P (meaning.destroyed p m (meaning.counted_element p m n (naming q)))
     sweeps P (APlain i) n q c h o = inr (inl (called_by i role.Destructor (meaning.counted_element p (APlain i) n (naming q)) [] (written_at p i role.Destructor) c refl refl (counted_at (APlain i) n q h) tt))

@@ -357,9 +357,9 @@ module _ (g : Setting) where
       eval (src.Call r args) todo n q h = go ms _ _ holds ((n.0, q.1), (tt, (q.0, todos.called g (here s) made args r ms todo n.1 h)))
       eval (src.OfObject x) todo n q h = object x todo n q h
 
-      binds : (a : Expr) (todo : List Todo) → Counts g a → Binds g.table g.source g.special a → O (Any ∷ ms) todo → PutStep g (quiet.eval_step a todo s)
-      binds (src.OfObject (src.Bind a e)) todo n (b, inl q) h = go ms _ _ holds (n.0, inl (b, (n.1, inl (q, (tt, h)))))
-      binds (src.OfObject (src.Bind a e)) todo n (b, inr q) h = go ms _ _ holds (n.0, inl (b, (n.1, inr (inr (inl (q, (tt, h)))))))
+      binds : (a : Expr) (todo : List Todo) → Counts g a → Binds g.table g.source g.special made a → O (Any ∷ ms) todo → PutStep g (quiet.eval_step a todo s)
+      binds (src.OfObject (src.Bind a e)) todo n (b, inl q) h = go ms _ _ holds (n.0, inr (inr (inr (inr (inl (b, (n.1, inl (q, (tt, h)))))))))
+      binds (src.OfObject (src.Bind a e)) todo n (b, inr q) h = go ms _ _ holds (n.0, inr (inr (inr (inr (inl (b, (n.1, inr (inr (inl (q, (tt, h)))))))))))
       binds a todo n b h = absurd b
 
       making : (e : Expr) (todo : List Todo) → Counts g e → PlainNew g.table g.source g.special e → O (Any ∷ ms) todo → PutStep g (quiet.eval_step e todo s)
@@ -409,17 +409,17 @@ module _ (g : Setting) where
 
       -- what makes a mutex object at a spot, and at an element
       makes : (a : Expr) (todo : List Todo) → Counts g a → MakesAt g.table g.source g.special made (OpensNext todo) a → O (Any ∷ ms) todo → PutStep g (quiet.eval_step a todo s)
-      makes (src.OfObject (src.MakeOn c r true (src.Variable k) args)) todo n b h = go ms _ _ holds (n.0, inr (inr (inr (inr (inr (inl ((n.1, b.1), (tt, inr (made_site (One (OfVariable k)) tt (count args) r todo n.2 (inr b.0) h)))))))))
-      makes (src.OfObject (src.MakeOn c r true (src.OfObject (src.OwnField k i)) args)) todo n b h = go ms _ _ holds (n.0, inr (inr (inr (inr (inr (inl ((n.1, b.2), (tt, inr (made_site (One (OfField k i)) b.1 (count args) r todo n.2 (inr b.0) h)))))))))
-      makes (src.OfObject (src.MakeOn c r false (src.Variable k) args)) todo n b h = go ms _ _ holds (n.0, inr (inr (inr (inr (inr (inl ((n.1, b.1), inr (made_site (One (OfVariable k)) tt (count args) r todo n.2 (inr b.0) h))))))))
-      makes (src.OfObject (src.MakeOn c r false (src.OfObject (src.OwnField k i)) args)) todo n b h = go ms _ _ holds (n.0, inr (inr (inr (inr (inr (inl ((n.1, b.2), inr (made_site (One (OfField k i)) b.1 (count args) r todo n.2 (inr b.0) h))))))))
+      makes (src.OfObject (src.MakeOn c r true (src.Variable k) args)) todo n b h = go ms _ _ holds (n.0, inr (inr (inr (inr (inr (inl ((n.1, b.1), (tt, made_site (One (OfVariable k)) tt (count args) r todo n.2 (inr b.0) h))))))))
+      makes (src.OfObject (src.MakeOn c r true (src.OfObject (src.OwnField k i)) args)) todo n b h = go ms _ _ holds (n.0, inr (inr (inr (inr (inr (inl ((n.1, b.2), (tt, made_site (One (OfField k i)) b.1 (count args) r todo n.2 (inr b.0) h))))))))
+      makes (src.OfObject (src.MakeOn c r false (src.Variable k) args)) todo n b h = go ms _ _ holds (n.0, inr (inr (inr (inr (inr (inl ((n.1, b.1), made_site (One (OfVariable k)) tt (count args) r todo n.2 (inr b.0) h)))))))
+      makes (src.OfObject (src.MakeOn c r false (src.OfObject (src.OwnField k i)) args)) todo n b h = go ms _ _ holds (n.0, inr (inr (inr (inr (inr (inl ((n.1, b.2), made_site (One (OfField k i)) b.1 (count args) r todo n.2 (inr b.0) h)))))))
       makes a todo n b h = absurd b
 
       makes_each : (a : Expr) (todo : List Todo) → Counts g a → MakesEach g.table g.source g.special made (LoneAt g.table g.few (here s) todo) a → O (Any ∷ ms) todo → PutStep g (quiet.eval_step a todo s)
-      makes_each (src.OfObject (src.MakeOn c r true (src.Element m src.Binding (src.Variable k) (src.OfObject src.Counted)) args)) todo n b h = go ms _ _ holds (n.0, inr (inr (inr (inr (inr (inl ((n.1, b.1), (tt, inr (made_site (Each m (OfVariable k)) tt (count args) r todo n.2 (inl b.0) h)))))))))
-      makes_each (src.OfObject (src.MakeOn c r true (src.Element m src.Binding (src.OfObject (src.OwnField k i)) (src.OfObject src.Counted)) args)) todo n b h = go ms _ _ holds (n.0, inr (inr (inr (inr (inr (inl ((n.1, b.2), (tt, inr (made_site (Each m (OfField k i)) b.1 (count args) r todo n.2 (inl b.0) h)))))))))
-      makes_each (src.OfObject (src.MakeOn c r false (src.Element m src.Binding (src.Variable k) (src.OfObject src.Counted)) args)) todo n b h = go ms _ _ holds (n.0, inr (inr (inr (inr (inr (inl ((n.1, b.1), inr (made_site (Each m (OfVariable k)) tt (count args) r todo n.2 (inl b.0) h))))))))
-      makes_each (src.OfObject (src.MakeOn c r false (src.Element m src.Binding (src.OfObject (src.OwnField k i)) (src.OfObject src.Counted)) args)) todo n b h = go ms _ _ holds (n.0, inr (inr (inr (inr (inr (inl ((n.1, b.2), inr (made_site (Each m (OfField k i)) b.1 (count args) r todo n.2 (inl b.0) h))))))))
+      makes_each (src.OfObject (src.MakeOn c r true (src.Element m src.Binding (src.Variable k) (src.OfObject src.Counted)) args)) todo n b h = go ms _ _ holds (n.0, inr (inr (inr (inr (inr (inl ((n.1, b.1), (tt, made_site (Each m (OfVariable k)) tt (count args) r todo n.2 (inl b.0) h))))))))
+      makes_each (src.OfObject (src.MakeOn c r true (src.Element m src.Binding (src.OfObject (src.OwnField k i)) (src.OfObject src.Counted)) args)) todo n b h = go ms _ _ holds (n.0, inr (inr (inr (inr (inr (inl ((n.1, b.2), (tt, made_site (Each m (OfField k i)) b.1 (count args) r todo n.2 (inl b.0) h))))))))
+      makes_each (src.OfObject (src.MakeOn c r false (src.Element m src.Binding (src.Variable k) (src.OfObject src.Counted)) args)) todo n b h = go ms _ _ holds (n.0, inr (inr (inr (inr (inr (inl ((n.1, b.1), made_site (Each m (OfVariable k)) tt (count args) r todo n.2 (inl b.0) h)))))))
+      makes_each (src.OfObject (src.MakeOn c r false (src.Element m src.Binding (src.OfObject (src.OwnField k i)) (src.OfObject src.Counted)) args)) todo n b h = go ms _ _ holds (n.0, inr (inr (inr (inr (inr (inl ((n.1, b.2), made_site (Each m (OfField k i)) b.1 (count args) r todo n.2 (inl b.0) h)))))))
       makes_each a todo n b h = absurd b
 
       -- what ends one there
@@ -579,12 +579,9 @@ module _ (g : Setting) where
           let there = set_top n (top s.run.operands) (below s.run.operands) (site_there g.table g.few (here s) made x (drop n (below s.run.operands)) this i e) in
           (top (drop n (below s.run.operands)), e, subst (λ v. IsHome g.few v (top (drop n (below s.run.operands)))) (sym there) f)
 
-      pub bind : (x : Option Routine) (todo : List Todo) → IsHome g.few (top s.run.operands) (top (drop (params_at x) (below s.run.operands))) → O (anys (params_at x) (Any ∷ rests (suc (params_at x)) (rest ms))) todo ⊎ FirstAt (rests (params_at x) (rest ms)) (λ y. IsIn made y × O (anys (params_at x) (Homed y ∷ rests (suc (params_at x)) (rest ms))) todo) → PutStep g (monitors.bind_step x todo s)
+      pub bind : (x : Option Routine) (todo : List Todo) → IsHome g.few (top s.run.operands) (top (drop (params_at x) (below s.run.operands))) → FirstAt (rests (params_at x) (rest ms)) (λ y. IsIn made y × O (anys (params_at x) (Homed y ∷ rests (suc (params_at x)) (rest ms))) todo) → PutStep g (monitors.bind_step x todo s)
       bind None todo f h = ends _ _
-      bind (Some x) todo f (inl h) =
-          let n = x.params in
-          go_in (anys n (Any ∷ rests (suc n) (rest ms))) todo _ _ (holds_anys g.few (here s) n (Any ∷ rests (suc n) (rest ms)) (slice_set (below s.run.operands) n (top s.run.operands)) (tt, bound_under n (top s.run.operands))) h (write _ _)
-      bind (Some x) todo f (inr h) =
+      bind (Some x) todo f h =
           let n = x.params in
           let k = marks.at_of g.few (here s) (rests n (rest ms)) (drop n (below s.run.operands)) (holds_drop g.few (here s) n (rest ms) (below s.run.operands) one) (λ y. IsIn made y × O (anys n (Homed y ∷ rests (suc n) (rest ms))) todo) h in
           go_in (anys n (Homed k.0 ∷ rests (suc n) (rest ms))) todo _ _ (holds_anys g.few (here s) n (Homed k.0 ∷ rests (suc n) (rest ms)) (slice_set (below s.run.operands) n (top s.run.operands)) (bound_at n k.0 k.2.0 k.1 f, bound_under n (top s.run.operands))) k.2.1 (write _ _)

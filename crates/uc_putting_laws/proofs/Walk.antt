@@ -128,7 +128,7 @@ module _ (program : Program) (g : Setting) (known : (n : ℕ) → CodeRoutine g 
     acts piece.Unwind todo c h = steps.unwinds g s callers env made this todo h (λ p ps e. past p ps (subst (λ l. s.run.control ≡ piece.Unwind ∷ l) e c) (subst (Left g (here s) made) e h))
     acts piece.ThrowNow todo c h = steps.thrown g s callers env made this (raising.event_in s.run.operands) todo h.1
     acts piece.RaiseNow todo c h = steps.raises g s callers env made this ms (raising.event_in s.run.operands) todo holds h.1
-    acts (piece.SetUpNow r) todo c h = steps.set_up g s callers env made this ms holds (g.special r) (slice_get g.source.routines r) todo h.0 (known r) h.1
+    acts (piece.SetUpNow r) todo c h = steps.set_up g s callers env made this ms holds (g.special r) (slice_get g.source.routines r) todo h.0.1 (known r) h.1
     acts piece.EnlivenNow todo c h = steps.go_in g s callers env made this [] _ _ _ tt h.1 (kept.enlivened_keeps (Runs g) (Waits g) (todos.calm g) (piece.own_exec s) s.env env)
     acts piece.TakeDownNow todo c h = steps.moved g s callers env made this _ todo _ (kept.take_down_rests (Runs g) (Waits g) (todos.calm g) (piece.own_exec s) (at todo s.run.operands s) (anew _ _ h.1))
     acts piece.ForgetNow todo c h = steps.go_in g s callers env made this [] _ _ _ tt h.1 (kept.forgotten_keeps (Runs g) (Waits g) (todos.calm g) (piece.own_exec s) s.env env)

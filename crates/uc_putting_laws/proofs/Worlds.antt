@@ -129,10 +129,10 @@ module _ (g : Setting) where
 
 -- rides of a task that keeps to its rooms and whose marks are for what is its own
 
-record Stands (p : Program) (g : Setting) (s : State) : Type 0 where
-  put : PutState g s
-  stack : StackState (Sized p) s
-  lone : LoneState g.table g.few s
+pub record Stands (p : Program) (g : Setting) (s : State) : Type 0 where
+  pub put : PutState g s
+  pub stack : StackState (Sized p) s
+  pub lone : LoneState g.table g.few s
 
 module _ (p : Program) (g : Setting) (in_rooms : SourceIn (Sized p) g.source) (known : (n : ℕ) → CodeRoutine g (g.special n) (slice_get g.source.routines n)) where
   puts : (s : State) → Stands p g s → Fair g s → Puts g.table g.few s
@@ -144,14 +144,14 @@ module _ (p : Program) (g : Setting) (in_rooms : SourceIn (Sized p) g.source) (k
   lone_step : (s : State) → Stands p g s → Fair g s → LoneStep g.table g.few (quiet.quiet g.source s)
   lone_step s n f = law_lone.steps g.table g.few g.source s n.lone (puts s n f)
 
-  goes : (s t : State) → quiet.quiet g.source s ≡ Goes t → Stands p g s → Fair g s → Stands p g t
+  pub goes : (s t : State) → quiet.quiet g.source s ≡ Goes t → Stands p g s → Fair g s → Stands p g t
   goes s t e n f = record {
     put = subst (PutStep g) e (step s n f);
     stack = subst (StackStep (Sized p)) e (walk_stack (Sized p) g.source in_rooms s n.stack);
     lone = subst (LoneStep g.table g.few) e (lone_step s n f);
   }
 
-  ticks : (s t : State) → quiet.quiet g.source s ≡ Ticks t → Stands p g s → Fair g s → Stands p g t
+  pub ticks : (s t : State) → quiet.quiet g.source s ≡ Ticks t → Stands p g s → Fair g s → Stands p g t
   ticks s t e n f = record {
     put = subst (PutStep g) e (step s n f);
     stack = subst (StackStep (Sized p)) e (walk_stack (Sized p) g.source in_rooms s n.stack);
@@ -177,7 +177,7 @@ module _ (p : Program) (accepted : breaks_of p ≡ []) (few : Few) (main : speci
   source = source_of p
 
   -- who runs comes to such states as long as marks are put so
-  abbrev Lones : Journal → World → Type 0
+  abbrev pub Lones : Journal → World → Type 0
   Lones j w = (t : ℕ) (s : State) (c : Comes source j w t s) → LeadsMeet (Puts g.table few) source (answered source c.given (drawn j w t)) s c.leads → LoneState g.table few s
 
   module _ {j : Journal} {w : World} (r : RunRests source input opts j w) (going : is_over j ≡ false) (x : PutWorld g j w) (told_rooms : KeepsFrames p j w) (lone : Lones j w) where
@@ -191,7 +191,7 @@ module _ (p : Program) (accepted : breaks_of p ≡ []) (few : Few) (main : speci
         let finds : FindsFor g (asked_form t j) (drawn j w t).env.exec (drawn j w t).callers (drawn j w t).run = m.run (law_alive opts source.sites input j r.kernel going p t runs) in
         answered_put g (asked_form t j) a (drawn j w t) (law_suiting opts source.sites input j r.kernel going t a told) finds m.callers (record { house = m.house; hand = hand_put g (held t j) w.homes x.homes })
 
-    start : (q t : ℕ) (a : Answer) → running q j ≡ t ∷ [] → answer_to source.sites t j ≡ Some a → Stands p g (answered source a (drawn j w t))
+    pub start : (q t : ℕ) (a : Answer) → running q j ≡ t ∷ [] → answer_to source.sites t j ≡ Some a → Stands p g (answered source a (drawn j w t))
     start q t a runs told =
         let c : Comes source j w t (answered source a (drawn j w t)) = record { given = a; processor = q; runs = runs; told = told; leads = rooms.stays } in
         record { put = goes_on q t a runs told; stack = told_rooms.comes t _ c; lone = lone t _ c tt }
@@ -291,7 +291,7 @@ module _ (p : Program) (accepted : breaks_of p ≡ []) (few : Few) (main : speci
         homes = λ o. either (PutMembers g (home.Object o)) (o == 0) (Some no_members) None tt tt;
       }
 
-  lones : {j : Journal} {w : World} (r : RunsIn source input opts j w) → RunMeets (Puts g.table few) source input opts j w r → Lones j w
+  pub lones : {j : Journal} {w : World} (r : RunsIn source input opts j w) → RunMeets (Puts g.table few) source input opts j w r → Lones j w
   lones {j} {w} r m = (lone_runs g.table few source input opts j w r m).comes
 
   pub run_put : {j : Journal} {w : World} (r : RunsIn source input opts j w) → RunFits source input opts j w r → RunMeets (Fair g) source input opts j w r → (is_over j ≡ false → PutWorld g j w) × RunMeets (Puts g.table few) source input opts j w r

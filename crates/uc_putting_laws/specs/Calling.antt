@@ -121,11 +121,6 @@ module _ (t : Table) (source : Source) (special : ℕ → Bool) where
   PlainNew (OfObject (NewProcessor e)) = PlainExpr e
   PlainNew e = ⊥
 
-  -- a field is bound, or a place to what is new
-  abbrev pub Binds : Expr → Type 0
-  Binds (OfObject (Bind p e)) = PlainExpr p × (PlainExpr e ⊎ PlainNew e)
-  Binds e = ⊥
-
   -- `made`: the code is of a constructor or a destructor. A place: a variable; a field of the object at hand, in such code; an element of one of
   -- these
   abbrev pub PlaceAt : Bool → Expr → Type 0
@@ -133,6 +128,11 @@ module _ (t : Table) (source : Source) (special : ℕ → Bool) where
   PlaceAt made (OfObject (OwnField s i)) = made ≡ true
   PlaceAt made (Element n s e i) = PlaceAt made e × PlainExpr i
   PlaceAt made e = ⊥
+
+  -- such a place is bound, also to what is new
+  abbrev pub Binds : Bool → Expr → Type 0
+  Binds made (OfObject (Bind p e)) = PlaceAt made p × (PlainExpr e ⊎ PlainNew e)
+  Binds made e = ⊥
 
   -- what builds or destroys an object that is no mutex one, at such a place
   abbrev pub CallsAt : Bool → Expr → Type 0
@@ -170,11 +170,11 @@ module _ (t : Table) (source : Source) (special : ℕ → Bool) where
 
   -- what a statement evaluates by itself, where the scope of what is at a site opens behind it
   abbrev pub Evaluates : Bool → (Site → Type 0) → Expr → Type 0
-  Evaluates made P e = PlainExpr e ⊎ (Binds e ⊎ (CallsAt made e ⊎ MakesAt made P e))
+  Evaluates made P e = PlainExpr e ⊎ (Binds made e ⊎ (CallsAt made e ⊎ MakesAt made P e))
 
   -- what builds one element of an array after another, and what destroys them
   abbrev pub FillsBy : Bool → (Site → Type 0) → Expr → Type 0
-  FillsBy made P e = Binds e ⊎ (CallsAt made e ⊎ MakesEach made P e)
+  FillsBy made P e = Binds made e ⊎ (CallsAt made e ⊎ MakesEach made P e)
 
   abbrev pub SweepsBy : Bool → (Site → Type 0) → Expr → Type 0
   SweepsBy made P e = EndsNumber made e ⊎ (CallsAt made e ⊎ EndsEach made P e)
@@ -241,7 +241,7 @@ module _ (t : Table) (source : Source) (special : ℕ → Bool) where
         CallingStmts made body × CallingHandlers made rest × CallingStmts false body
 
     pub CallingTask : Bool → TaskStmt → Type 0
-    CallingTask made (SetUp r) = special r ≡ false
+    CallingTask made (SetUp r) = (made ≡ true) × (special r ≡ false)
     CallingTask made (Migrate line e) = PlainExpr e
     CallingTask made (Accept line site cs) = CallingClauses made cs
     CallingTask made a = Unit {0}

@@ -3,3 +3,4 @@ pub mod Putting
 pub mod PuttingLaws
 pub mod PuttingRuns
 pub mod Fields
+pub mod OwnPlaces

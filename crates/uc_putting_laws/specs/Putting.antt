@@ -307,7 +307,8 @@ module _ (g : Setting) where
     CodePiece (piece.Guard hs) ms todo = CodeHandlers made hs
     CodePiece (piece.Guards cs) ms todo = CodeClauses made cs
     CodePiece (piece.ChooseNow cs) ms todo = CodeClauses made cs
-    CodePiece (piece.SetUpNow r) ms todo = g.special r ≡ false
+    CodePiece piece.BindNow ms todo = FirstOwn (rest ms)
+    CodePiece (piece.SetUpNow r) ms todo = (made ≡ true) × (g.special r ≡ false)
     CodePiece (piece.SpawnNow r) ms todo = g.special r ≡ false
     CodePiece (piece.ChildNow r) ms todo = g.special r ≡ false
     CodePiece p ms todo = Unit {0}
@@ -332,7 +333,7 @@ module _ (g : Setting) where
       Ok ms [] = Unit {0}
       Ok ms (piece.Eval e ∷ todo) = Counts e ×
           ((Plain e × Ok (Any ∷ ms) todo) ⊎
-          ((Binds g.table g.source g.special e × Ok (Any ∷ ms) todo) ⊎
+          ((Binds g.table g.source g.special made e × Ok (Any ∷ ms) todo) ⊎
           ((PlainNew g.table g.source g.special e × Ok (Any ∷ ms) todo) ⊎
           ((CallsAt g.table g.source g.special made e × Ok (Any ∷ ms) todo) ⊎
           ((PlaceAt g.table g.source g.special made e × Ok (Own ∷ ms) todo) ⊎
@@ -346,9 +347,9 @@ module _ (g : Setting) where
       Ok ms (piece.ElementNow n k ∷ todo) = Ok (Any ∷ rest (rest ms)) todo ⊎
           ((FirstOwn (rest ms) × Ok (Own ∷ rest (rest ms)) todo) ⊎
           FirstAt (rest ms) (λ x. Enters n k x (λ y. Ok (At y ∷ rest (rest ms)) todo)))
-      Ok ms (piece.MakeNow c r ∷ todo) = Ok (made_marks r Any ms) todo ⊎
+      Ok ms (piece.MakeNow c r ∷ todo) =
           FirstAt (rests (params g.source r) ms) (λ x. IsIn made x × Ok (made_marks r (Homed x) ms) todo)
-      Ok ms (piece.BindMadeNow c r ∷ todo) = Ok (made_marks r Any (rest ms)) todo ⊎
+      Ok ms (piece.BindMadeNow c r ∷ todo) =
           FirstAt (rests (params g.source r) (rest ms)) (λ x. IsIn made x × Ok (made_marks r (Homed x) (rest ms)) todo)
       Ok ms (piece.Exit w ∷ todo) = Left todo
       Ok ms (piece.Unwind ∷ todo) = Left todo
