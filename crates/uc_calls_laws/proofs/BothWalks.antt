@@ -127,7 +127,7 @@ module _ (G : Type 0) (under : CleanUp → G → G) (A : ℕ → Exprs → Type 
 
     handlers : (g : G) (hs : Handlers) → walk.InHandlers G under A O T C g hs → walk.InHandlers (Unit {0}) same B P S D tt hs → walk.InHandlers G under E Q U F g hs
     handlers g src.NoHandlers h k = tt
-    handlers g (src.MoreHandlers resumes event cell line body rest) h k = (stmts g body h.0 k.0, handlers g rest h.1 k.1)
+    handlers g (src.MoreHandlers resumes v cell line body rest) h k = (stmts g body h.0 k.0, handlers g rest h.1 k.1)
 
     task : (g : G) (a : TaskStmt) → walk.InTask G under A O T C g a → walk.InTask (Unit {0}) same B P S D tt a → walk.InTask G under E Q U F g a
     task g (src.Migrate line e) h k = expr g e h k

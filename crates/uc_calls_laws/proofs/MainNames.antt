@@ -16,6 +16,7 @@ use Rattle.uc_rules.specs.declared.rules.Sort.TheVariants as sort
 use Rattle.uc_rules.specs.declared.rules.Entity.{Entity}
 use Rattle.uc_rules.specs.declared.rules.Entity.TheVariants as entity
 use Rattle.uc_rules.specs.declared.rules.NameMeaning.{NameMeaning}
+use Rattle.uc_rules.specs.declared.rules.Origin.TheVariants as origin
 use Rattle.uc_rules.specs.declared.rules.LocalName.{LocalName}
 use Rattle.uc_rules.specs.declared.rules.OwnClass.{OwnClass}
 use Rattle.uc_rules.specs.Asked.{unless}
@@ -81,15 +82,15 @@ module _ (p : Program) where
 
   local_found : (ss : List LocalName) (name : List ℕ) (m : NameMeaning) → AreLocals ss → local_named ss name ≡ Some m → IsLocal m.entity
   local_found [] name m h e = none_some e
-  local_found (s ∷ ss) name m h e = by (local_named ss name) refl e
+  local_found (s ∷ ss) name m h e = by (local_named ss name) refl (λ q. local_found ss name m h.1 q) e
     where
       here : (b : Bool) → (if b then Some s.meant else None) ≡ Some m → IsLocal m.entity
       here true e = subst (λ (m : NameMeaning). IsLocal m.entity) (some_same e) h.0
       here false e = none_some e
 
-      by : (o : Option NameMeaning) → local_named ss name ≡ o → scopes.later_or o s name ≡ Some m → IsLocal m.entity
-      by None q e = here (same_name s.name name) e
-      by (Some x) q e = local_found ss name m h.1 (q ∙ e)
+      by : (o : Option NameMeaning) → local_named ss name ≡ o → (local_named ss name ≡ Some m → IsLocal m.entity) → scopes.later_or o s name ≡ Some m → IsLocal m.entity
+      by None q f e = here (same_name s.name name) e
+      by (Some x) q f e = f (q ∙ e)
 
   -- members
 
@@ -123,7 +124,7 @@ module _ (p : Program) where
         sig : method_sig p i j ≡ Some s
         sig = ap (option_and_then (λ (c : Class). option_and_then (λ (m : Member). form_sig m.form) (slice_get c.members j))) at ∙ (ap (option_and_then (λ (m : Member). form_sig m.form)) l ∙ f)
 
-        by : (z : Bool) → (is_plain s.role && same_name s.name name) ≡ z → (if z then Some (record { entity = Some (entity.Method i j (names.is_inner_only c.kind k a) false); origin = _ }) else None) ≡ Some m → Meaning p m
+        by : (z : Bool) → (is_plain s.role && same_name s.name name) ≡ z → (if z then Some (record { entity = Some (entity.Method i j (names.is_inner_only c.kind k a) false); origin = origin.Method i a }) else None) ≡ Some m → Meaning p m
         by true q e =
             subst (Meaning p) (some_same e) (λ w g. subst (NotCalled p) (some_same g) (main_not (entity.Method i j (names.is_inner_only c.kind k a) false) (ap rules.is_main_sig sig ∙ named_main s (right_is (is_plain s.role) (same_name s.name name) q))))
         by false q e = none_some e
@@ -135,11 +136,12 @@ module _ (p : Program) where
 
     members_not : (ms : List Member) (j : ℕ) → ((k : ℕ) (x : Member) → slice_get ms k ≡ Some x → (l : ℕ) → j + k ≡ l → slice_get c.members l ≡ Some x) → (m : NameMeaning) → names.members_named p owned j ms name ≡ Some m → Meaning p m
     members_not [] j f m e = none_some e
-    members_not (x ∷ xs) j f m e = by (names.form_named p owned x.mark x.access j x.form name) refl e
+    members_not (x ∷ xs) j f m e =
+        by (names.form_named p owned x.mark x.access j x.form name) refl (λ q. members_not xs (j + 1) (λ k y g l h. f (suc k) y g l (omega (arith, h))) m q) e
       where
-        by : (o : Option NameMeaning) → names.form_named p owned x.mark x.access j x.form name ≡ o → names.first_of o (names.members_named p owned (j + 1) xs name) ≡ Some m → Meaning p m
-        by (Some y) q e = form_not j x x.form (f 0 x refl j (omega arith)) refl m (q ∙ e)
-        by None q e = members_not xs (j + 1) (λ k y g l h. f (suc k) y g l (omega (arith, h))) m e
+        by : (o : Option NameMeaning) → names.form_named p owned x.mark x.access j x.form name ≡ o → (names.members_named p owned (j + 1) xs name ≡ Some m → Meaning p m) → names.first_of o (names.members_named p owned (j + 1) xs name) ≡ Some m → Meaning p m
+        by (Some y) q g e = form_not j x x.form (f 0 x refl j (omega arith)) refl m (q ∙ e)
+        by None q g e = g e
 
   pub member_not : (i : ℕ) (name : List ℕ) (m : NameMeaning) → same_name name main_name ≡ true → member_named p i name ≡ Some m → Meaning p m
   member_not i name m main e = by (class_at p i) refl e
@@ -182,11 +184,12 @@ module _ (p : Program) where
 
   items_not : (xs : List Item) (i : ℕ) (name : List ℕ) (m : NameMeaning) → same_name name main_name ≡ true → ((k : ℕ) (x : Item) → slice_get xs k ≡ Some x → (l : ℕ) → i + k ≡ l → slice_get p.items l ≡ Some x) → names.items_named p i xs name ≡ Some m → Meaning p m
   items_not [] i name m main f e = none_some e
-  items_not (x ∷ xs) i name m main f e = by (names.item_named p i x name) refl e
+  items_not (x ∷ xs) i name m main f e =
+      by (names.item_named p i x name) refl (λ q. items_not xs (i + 1) name m main (λ k y g l h. f (suc k) y g l (omega (arith, h))) q) e
     where
-      by : (o : Option NameMeaning) → names.item_named p i x name ≡ o → names.first_of o (names.items_named p (i + 1) xs name) ≡ Some m → Meaning p m
-      by (Some y) q e = item_not i x name m main (f 0 x refl i (omega arith)) (q ∙ e)
-      by None q e = items_not xs (i + 1) name m main (λ k y g l h. f (suc k) y g l (omega (arith, h))) e
+      by : (o : Option NameMeaning) → names.item_named p i x name ≡ o → (names.items_named p (i + 1) xs name ≡ Some m → Meaning p m) → names.first_of o (names.items_named p (i + 1) xs name) ≡ Some m → Meaning p m
+      by (Some y) q g e = item_not i x name m main (f 0 x refl i (omega arith)) (q ∙ e)
+      by None q g e = g e
 
   outer_not : (name : List ℕ) (m : NameMeaning) → same_name name main_name ≡ true → outer_named p name ≡ Some m → Meaning p m
   outer_not name m main e = by (is_given name) e
@@ -253,13 +256,11 @@ module _ (env : Env) (known : IsKnown env) (locals : AreLocals env.names) where
   pub member_like : (sign : Pos) (called : Bool) (name : List ℕ) (w : Entity) → breaks_at (AtMember env sign called name (Some w)) ≡ [] → same_name name main_name ≡ true → MainLike env.program (of_field env called name (Some w))
   member_like sign called name w u main = by (path_member env.program w name) refl
     where
-      u1 = none_right (unless (is_member env called name w) S1 sign) _ u
-
       is_there : is_member env called name w ≡ true
       is_there = holds (is_member env called name w) S1 sign _ u
 
       open_is : may_name env name w ≡ true
-      open_is = holds (may_name env name w) S18 sign _ u1
+      open_is = holds (may_name env name w) S18 sign _ (none_right (unless (is_member env called name w) S1 sign) _ u)
 
       found : (m : NameMeaning) → path_member env.program w name ≡ Some m → MainLike env.program (open_entity env.around.home m)
       found m e =

@@ -115,6 +115,9 @@ module _ (p : Program) (formed : IsFormed p) (u : Unbroken (program_visits p)) w
       }
       by r k (nobody_wrote x m a f q s) = absurd (subst (λ (z : Routine). EndsMain z.purpose) q k)
 
+  abbrev IsWay : Inward → Type 0
+  IsWay w = (w ≡ Apart) ⊎ (w ≡ Main)
+
   -- so it comes to run inside its object as a main does, or apart from one
   pub main_inward : (n : ℕ) → IsMain (source_of p) n → (((table_of p).routine n).inward ≡ Apart) ⊎ (((table_of p).routine n).inward ≡ Main)
   main_inward n h =
@@ -122,9 +125,6 @@ module _ (p : Program) (formed : IsFormed p) (u : Unbroken (program_visits p)) w
       let d = m.defined in
       ways (at_place (place_by p d) d.routine.sig.role d.routine.sig.name m.named.plain m.named.named) m.inward
     where
-      abbrev IsWay : Inward → Type 0
-      IsWay w = (w ≡ Apart) ⊎ (w ≡ Main)
-
       of_mutex : (i : ℕ) (r : Role) (name : List ℕ) (main number helps b : Bool) → is_plain r ≡ true → main ≡ true → IsWay (if b then inward_by r main number helps else Apart)
       of_mutex i role.Plain name true number helps true w e = inr refl
       of_mutex i role.Plain name false number helps true w e = false_true e
