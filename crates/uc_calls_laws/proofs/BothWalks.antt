@@ -111,11 +111,8 @@ module _ (G : Type 0) (under : CleanUp → G → G) (A : ℕ → Exprs → Type 
     pub stmts : (g : G) (ss : Stmts) → walk.InStmts G under A O T C g ss → walk.InStmts (Unit {0}) same B P S D tt ss → walk.InStmts G under E Q U F g ss
     stmts g src.Nil h k = tt
     stmts g (src.Then a rest) h k = (stmt g a h.0 k.0, stmts g rest h.1 k.1)
-    stmts g (src.Scoped c rest) h k = (clean g c h.0 k.0, stmts (under c g) rest h.1 (one (same c tt) rest k.1))
+    stmts g (src.Scoped c rest) h k = (clean g c h.0 k.0, stmts (under c g) rest h.1 k.1)
     stmts g (src.Built c rest) h k = (clean g c h.0 k.0, stmts g rest h.1 k.1)
-
-    one : (x : Unit {0}) (ss : Stmts) → walk.InStmts (Unit {0}) same B P S D x ss → walk.InStmts (Unit {0}) same B P S D tt ss
-    one tt ss k = k
 
     event : (g : G) (a : EventStmt) → walk.InEvent G under A O T C g a → walk.InEvent (Unit {0}) same B P S D tt a → walk.InEvent G under E Q U F g a
     event g (src.Throw line r) h k = raised g r h k

@@ -34,7 +34,8 @@ use Rattle.uc_rules.specs.declared.rules.Target.{Target}
 use Rattle.uc_rules.specs.Sorts.{sort_of}
 use Rattle.uc_rules.specs.Names.{variable, declared_entity}
 use Rattle.uc_rules.specs.Scopes as scopes
-use Rattle.uc_rules.specs.Scopes.{Env, opened, with_around, with_joins, with_seen, with_caught, caught_entity, event_named, event_sort, place_of, declared, all_declared, seen_as, env_after, local_named, named}
+use Rattle.uc_rules.specs.Scopes.{Env, opened, with_around, with_joins, with_seen, with_caught, caught_entity, event_named, event_sort, place_of, declared, all_declared, seen_as, env_after, local_named, named, value_named}
+use Rattle.uc_tree.specs.Constants.{length_in}
 use Rattle.uc_rules.specs.Entities.{entity_of, path_member, takes, is_main, given, count}
 use Rattle.uc_rules.specs.ExpressionBreaks.{handlers_breaks, is_event_or_all, behind_all, is_catch}
 use Rattle.uc_rules.specs.ProgramVisits.{program_visits}
@@ -82,15 +83,15 @@ local_stands (Some w) h = (w, refl)
 
 locals_stand : (ss : List LocalName) (name : List ℕ) (m : NameMeaning) → AreLocals ss → local_named ss name ≡ Some m → Stands m.entity
 locals_stand [] name m h e = none_some e
-locals_stand (s ∷ ss) name m h e = by (local_named ss name) refl e
+locals_stand (s ∷ ss) name m h e = by (local_named ss name) refl (λ q. locals_stand ss name m h.1 q) e
   where
     here : (b : Bool) → (if b then Some s.meant else None) ≡ Some m → Stands m.entity
     here true e = subst (λ (m : NameMeaning). Stands m.entity) (some_same e) (local_stands s.meant.entity h.0)
     here false e = none_some e
 
-    by : (o : Option NameMeaning) → local_named ss name ≡ o → scopes.later_or o s name ≡ Some m → Stands m.entity
-    by None q e = here (same_name s.name name) e
-    by (Some x) q e = locals_stand ss name m h.1 (q ∙ e)
+    by : (o : Option NameMeaning) → local_named ss name ≡ o → (local_named ss name ≡ Some m → Stands m.entity) → scopes.later_or o s name ≡ Some m → Stands m.entity
+    by None q f e = here (same_name s.name name) e
+    by (Some x) q f e = f (q ∙ e)
 
 pub known_of : (p : Program) (env : Env) → Stood p env → IsKnown env
 known_of p env h = record { names = names; members = h.members; results = h.results }
@@ -113,12 +114,12 @@ variable_local true len n s = tt
 variable_local false None n s = tt
 variable_local false (Some e) n s = tt
 
-seen_stood : (p : Program) (env : Env) (x : LocalName) → Stood p env → IsLocal x.meant.entity → Stood p (with_seen env x)
+pub seen_stood : (p : Program) (env : Env) (x : LocalName) → Stood p env → IsLocal x.meant.entity → Stood p (with_seen env x)
 seen_stood p env x h k = record { same = h.same; root = h.root; members = h.members; results = h.results; locals = locals_more env.names x h.locals k }
 
 declared_stood : (p : Program) (env : Env) (b : Base) (d : Declarator) → Stood p env → (s : Sort) → sort_of env.program b ≡ Some s → Stood p (declared env b d)
 declared_stood p env b d h s e =
-    seen_stood p env (seen_as env b d) h (subst (λ o. IsLocal (option_map (variable d.by_ref d.len _) o)) (sym e) (variable_local d.by_ref d.len _ s))
+    seen_stood p env (seen_as env b d) h (subst (λ o. IsLocal (option_map (variable d.by_ref d.len (length_in (value_named env) d.len)) o)) (sym e) (variable_local d.by_ref d.len (length_in (value_named env) d.len) s))
 
 all_stood : (p : Program) (b : Base) (ds : List Declarator) (env : Env) → Stood p env → (s : Sort) → sort_of env.program b ≡ Some s → Stood p (all_declared env b ds)
 all_stood p b [] env h s e = h

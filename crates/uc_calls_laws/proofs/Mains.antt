@@ -22,7 +22,7 @@ use Rattle.uc_typing.specs.States.{IsSorted}
 use Rattle.uc_agreement.specs.Unbroken.{Unbroken}
 use Rattle.uc_agreement.proofs.Ties.{some_same, none_some, false_true}
 use Rattle.uc_sound.specs.Formed.{IsFormed}
-use Rattle.uc_sound.specs.Tables.{inward_by, inward_in, inward_at, sig_or_none, table_of}
+use Rattle.uc_sound.specs.Tables.{inward_by, inward_in, inward_at, sig_or_none, all_sigs, table_of}
 use Rattle.uc_sound.proofs.Lists.{left_is, right_is}
 use Rattle.uc_sound.proofs.Origins.{Looked, looked, routine_looked, member_looked}
 use Rattle.uc_sound.proofs.ClassNames.{same_is}
@@ -106,7 +106,7 @@ module _ (p : Program) (formed : IsFormed p) (u : Unbroken (program_visits p)) w
       let x = there (slice_get (source_of p).routines n) h in
       by x.0 x.2 (in_step p n x.0 x.1)
     where
-      by : (r : Routine) → EndsMain r.purpose → InStep p (routines_of p) (unwritten_of p) n n r (slice_get _ n) → MainIs n
+      by : (r : Routine) → EndsMain r.purpose → InStep p (routines_of p) (unwritten_of p) n n r (slice_get (all_sigs p) n) → MainIs n
       by r k (is_written d texts sites f q s) = record {
         defined = d;
         at = f;

@@ -54,11 +54,11 @@ module _ (P : Exec → List Active → Active → Type 0) where
   -- what is at home in an object that is in hand, and what is in none
   found : (q : ℕ) (ps : List (ℕ × Members)) → NamedHand P P ps → NamedMembers P P (Object q) (find q ps)
   found q [] h = tt
-  found q (p ∷ ps) h = by (nat_eq p.0 q) refl
+  found q (p ∷ ps) h = by (nat_eq p.0 q) refl (found q ps h.1)
     where
-      by : (b : Bool) → nat_eq p.0 q ≡ b → NamedMembers P P (Object q) (if b then Some p.1 else find q ps)
-      by true e = subst (λ k. NamedParked P P (Object k) p.1.parked) (eqb-true p.0 q e) h.0
-      by false e = found q ps h.1
+      by : (b : Bool) → nat_eq p.0 q ≡ b → NamedMembers P P (Object q) (find q ps) → NamedMembers P P (Object q) (if b then Some p.1 else find q ps)
+      by true e f = subst (λ k. NamedParked P P (Object k) p.1.parked) (eqb-true p.0 q e) h.0
+      by false e f = f
 
   either_members : (h : Home) (a b : Option Members) → NamedMembers P P h a → NamedMembers P P h b → NamedMembers P P h (or_else a b)
   either_members h None b k l = l
