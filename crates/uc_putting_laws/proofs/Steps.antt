@@ -25,7 +25,7 @@ use Rattle.uc_machine.specs.Quiet as quiet
 use Rattle.uc_machine.specs.Pieces as piece
 use Rattle.uc_machine.specs.Pieces.{Value, Number, Object, Nothing, Todo, Sort, Active, State, Env, Step, Asks, Outcome, Gives, Faults, at, in_env, goes, fault, top, below, number, loaded, written}
 use Rattle.uc_event_laws.specs.Counted.{params_at, params, count}
-use Rattle.uc_unmarked_laws.specs.Belonging.{Belongs, frame}
+use Rattle.uc_unmarked_laws.specs.Belonging.{Belongs, frame, object as object_own}
 use Rattle.uc_unmarked_laws.specs.Ending.{Spot, OfVariable, OfField}
 use Rattle.uc_unmarked_laws.proofs.Own.{further_own}
 use Rattle.uc_aside_laws.proofs.Keeping as kept
