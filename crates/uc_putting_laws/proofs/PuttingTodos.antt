@@ -13,14 +13,17 @@ use Rattle.uc_machine.specs.Monitors as monitors
 use Rattle.uc_machine.specs.Quiet as quiet
 use Rattle.uc_machine.specs.Pieces as piece
 use Rattle.uc_machine.specs.Pieces.{Value, Todo, Sort, Active, Env, at, below}
-use Rattle.uc_event_laws.specs.Counted.{params, count, CountedRaised, CountedAt}
+use Rattle.uc_event_laws.specs.Counted.{params, count, CountedClean, CountedStmts, CountedHandlers, CountedRaised, CountedAt}
 use Rattle.uc_aside_laws.specs.OlderResting.{AllWait, NamedEnv}
 use Rattle.uc_aside_laws.proofs.Keeping as kept
 use Rattle.uc_aside_laws.proofs.Keeping.{either}
-use Rattle.uc_putting_laws.specs.Calling.{Site, NoSite, CallsAt, EndsAt, EndsNumber, Evaluates, SweepsBy, CleansBy, AnySite, IsField, HasCount, RaisesBy}
-use Rattle.uc_putting_laws.specs.Putting.{Setting, Around, around, Mark, Any, rest, rests, anys, OpensRest, OpensNext, LoneAt, Counts, CodeMaybe, CodeItems, CodeStmt, CodeStmts, CodeHandlers, CodeClauses, CodeLoop, CodeSweep, CodeFill, CodeScope, CodePart, made_marks, CallFits, LeftBy, Ok, Left, Runs, Waits}
+use Rattle.uc_unmarked_laws.specs.Ending.{Spot, OfVariable, OfField}
+use Rattle.uc_putting_laws.specs.CleanedSpots.{Site, NoSite, spot_of, Reach, apart, IsOutermost}
+use Rattle.uc_putting_laws.specs.Calling.{CallsAt, EndsAt, EndsNumber, Evaluates, SweepsBy, CleansBy, Begins}
+use Rattle.uc_putting_laws.specs.Putting.{Setting, Around, around, Mark, Any, rest, rests, anys, OpensRest, LoneAt, Counts, CodeMaybe, CodeItems, CodeStmt, CodeStmts, CodeHandlers, CodeClauses, CodeLoop, CodeSweep, CodeFill, CodeScope, CodePart, made_marks, CallFits, LeftBy, Ok, Left, Runs, Waits}
+use Rattle.uc_putting_laws.proofs.CleanedSpots.{apart_outermost}
 use Rattle.uc_putting_laws.proofs.Marks as marks
-use Rattle.uc_putting_laws.proofs.Marks.{rests_anys, stmt_more, AllLeft}
+use Rattle.uc_putting_laws.proofs.Marks.{rests_anys, apart_wide, cleans_more, stmt_more, AllLeft}
 
 module _ (g : Setting) where
   abbrev pub E : Env → Type 0
@@ -41,41 +44,45 @@ module _ (g : Setting) where
   pub likes : {e f : Env} → E e → f.hand ≡ e.hand → f.house ≡ e.house → f.own ≡ e.own → E f
   likes h k i o = kept.like (Runs g) (Waits g) calm h k i o
 
-  -- handlers that run as activations of their own
+  -- arguments are counted in handlers that run as activations of their own
 
   abbrev pub OfFound : Option Found → Type 0
   OfFound None = Unit {0}
-  OfFound (Some x) = CodeStmts g false x.handler.body
+  OfFound (Some x) = CountedStmts g.source x.handler.body
 
-  abbrev pub OfHandler : Bool → Option Handler → Type 0
-  OfHandler made None = Unit {0}
-  OfHandler made (Some x) = CodeStmts g made x.body
+  abbrev pub OfHandler : Reach → Option Handler → Type 0
+  OfHandler r None = Unit {0}
+  OfHandler r (Some x) = CodeStmts g r x.body
+
+  abbrev OfAlone : Option Handler → Type 0
+  OfAlone None = Unit {0}
+  OfAlone (Some x) = CountedStmts g.source x.body
 
   abbrev OfHit : Option Hit → Type 0
   OfHit None = Unit {0}
-  OfHit (Some x) = CodeStmts g false x.handler.body
+  OfHit (Some x) = CountedStmts g.source x.handler.body
 
-  pub handler_for : (made kind : Bool) (e : raising.Event) (hs : Handlers) → CodeHandlers g made hs → OfHandler made (raising.handler_for kind e hs)
-  handler_for made kind e src.NoHandlers h = tt
-  handler_for made kind e (src.MoreHandlers resumes event cell line body others) h =
-      either (OfHandler made) (raising.same_kind kind resumes && raising.takes event e) (Some (record { cell = cell; line = line; body = body })) (raising.handler_for kind e others) (h.0.0, h.1.0) (handler_for made kind e others (h.0.1, h.1.1))
+  pub handler_for : (r : Reach) (kind : Bool) (e : raising.Event) (hs : Handlers) → CodeHandlers g r hs → OfHandler r (raising.handler_for kind e hs)
+  handler_for r kind e src.NoHandlers h = tt
+  handler_for r kind e (src.MoreHandlers resumes event cell line body others) h =
+      either (OfHandler r) (raising.same_kind kind resumes && raising.takes event e) (Some (record { cell = cell; line = line; body = body })) (raising.handler_for kind e others) (h.0.0, h.1.0) (handler_for r kind e others (h.0.1, h.1.1))
 
-  alone_for : (made kind : Bool) (e : raising.Event) (hs : Handlers) → CodeHandlers g made hs → OfHandler false (raising.handler_for kind e hs)
-  alone_for made kind e src.NoHandlers h = tt
-  alone_for made kind e (src.MoreHandlers resumes event cell line body others) h =
-      either (OfHandler false) (raising.same_kind kind resumes && raising.takes event e) (Some (record { cell = cell; line = line; body = body })) (raising.handler_for kind e others) (h.0.0, h.1.2) (alone_for made kind e others (h.0.1, h.1.1))
+  alone_for : (kind : Bool) (e : raising.Event) (hs : Handlers) → CountedHandlers g.source hs → OfAlone (raising.handler_for kind e hs)
+  alone_for kind e src.NoHandlers h = tt
+  alone_for kind e (src.MoreHandlers resumes event cell line body others) h =
+      either OfAlone (raising.same_kind kind resumes && raising.takes event e) (Some (record { cell = cell; line = line; body = body })) (raising.handler_for kind e others) h.0 (alone_for kind e others h.1)
 
-  hit_or : (x : Option Handler) (n : ℕ) (other : Option Hit) → OfHandler false x → OfHit other → OfHit (raising.hit_or x n other)
+  hit_or : (x : Option Handler) (n : ℕ) (other : Option Hit) → OfAlone x → OfHit other → OfHit (raising.hit_or x n other)
   hit_or None n other h k = k
   hit_or (Some x) n other h k = h
 
-  module _ (A : Around) (made : Bool) where
+  module _ (A : Around) (made : Reach) where
     abbrev pub LeftTo : List Todo → Type 0
     LeftTo todo = Left g A made todo
 
     -- what is known of a mark that is left
     hit_by : (k : Sort) (n : ℕ) (e : raising.Event) (ps : List Todo) (other : Option Hit) (l o : Type 0) → LeftBy g A made k ps l o → OfHit other → OfHit (raising.hit_by k n e other)
-    hit_by (piece.IsGuard hs) n e ps other l o h k = hit_or (raising.handler_for true e hs) n other (alone_for made true e hs h.0) k
+    hit_by (piece.IsGuard hs) n e ps other l o h k = hit_or (raising.handler_for true e hs) n other (alone_for true e hs h.0.0) k
     hit_by s n e ps other l o h k = k
 
     hit_in : (e : raising.Event) (todo : List Todo) → LeftTo todo → OfHit (raising.hit_in e todo)
@@ -112,7 +119,7 @@ module _ (g : Setting) where
   none_between : (r : ℕ) (P : List Mark → Type 0) (ms : List Mark) → 0 ≡ params g.source r → P ms → P (rests (params g.source r) ms)
   none_between r P ms e h = under P 0 r ms e h
 
-  module _ (A : Around) (made : Bool) where
+  module _ (A : Around) (made : Reach) where
     abbrev pub Fits : List Mark → List Todo → Type 0
     Fits ms todo = Ok g A made ms todo
 
@@ -131,7 +138,7 @@ module _ (g : Setting) where
     behind src.Function line = (tt, (tt, tt))
     behind src.Builder line = tt
 
-    pub routine : (r : Routine) → CodeStmts g made r.body → Fits [] (quiet.routine_todo r)
+    pub routine : (r : Routine) → CodeStmts g (apart made) r.body → Fits [] (quiet.routine_todo r)
     routine r h = (inl h, behind r.purpose r.line)
 
     -- to-do lists
@@ -168,11 +175,22 @@ module _ (g : Setting) where
     loop_left src.ToReturn o t e b todo n h = left [] todo h
     loop_left src.ToEnd o t e b todo n h = left [] todo h
 
+    -- a way out in front of what is to do outwards of a scope
+    outermost_past : (o : Option Spot) (w : Way) (todo : List Todo) → IsOutermost o todo → IsOutermost o (piece.Exit w ∷ todo)
+    outermost_past None w todo h = tt
+    outermost_past (Some (OfVariable k)) w todo h = tt
+    outermost_past (Some (OfField s i)) w todo h = (tt, h)
+
+    scope_past : (c : CleanUp) (w : Way) (todo : List Todo) → CodeScope g made c todo → CodeScope g made c (piece.Exit w ∷ todo)
+    scope_past src.Ends w todo n = tt
+    scope_past (src.Frees r) w todo n = n
+    scope_past c w todo n = (n.0, n.1, outermost_past (spot_of c) w todo n.2)
+
     pub left_behind : (w : Way) (k : Sort) (todo : List Todo) → LeftBy g A made k todo (LeftTo A made todo) (Fits [] todo) → Fits [] (quiet.left_behind w k todo)
     left_behind w piece.Simple todo h = h
     left_behind w (piece.IsLoop o t e b) todo h = loop_left w o t e b todo h.0 h.1
     left_behind w piece.IsWhole todo h = h
-    left_behind w (piece.IsClean x) todo h = (h.0, left [] todo h.1)
+    left_behind w (piece.IsClean x) todo h = (scope_past x w todo h.0, left [] todo h.1)
     left_behind w (piece.IsFill m b d) todo h = left [] todo h.1
     left_behind w (piece.IsSweep e) todo h = left [] todo h.1
     left_behind w (piece.IsPart x) todo h = left [] todo h.1
@@ -180,16 +198,16 @@ module _ (g : Setting) where
     left_behind w piece.IsFinish todo h = (tt, h)
     left_behind w piece.IsFinishCoroutine todo h = (tt, h)
 
+    -- nothing stands around a site, with this to do
+    abbrev pub Lones : List Todo → Site → Type 0
+    Lones todo x = LoneAt g.table g.few A todo x
+
     -- an expression that is evaluated by itself
-    pub single : (e : Expr) (todo : List Todo) → Counts g e → Evaluates g.table g.source g.special made (OpensNext todo) e → Fits (Any ∷ []) todo → Fits [] (piece.Eval e ∷ todo)
+    pub single : (e : Expr) (todo : List Todo) → Counts g e → Evaluates g.table g.source g.special made (Lones todo) e → Fits (Any ∷ []) todo → Fits [] (piece.Eval e ∷ todo)
     single e todo n (inl k) h = (n, inl (k, h))
     single e todo n (inr (inl k)) h = (n, inr (inl (k, h)))
     single e todo n (inr (inr (inl k))) h = (n, inr (inr (inr (inl (k, h)))))
     single e todo n (inr (inr (inr k))) h = (n, inr (inr (inr (inr (inr (inr (inr (inl (inl k, h)))))))))
-
-    -- nothing stands around a site, with this to do
-    abbrev pub Lones : List Todo → Site → Type 0
-    Lones todo x = LoneAt g.table g.few A todo x
 
     -- one that builds, and one that destroys an element
     pub filled : (b : Bool) (n : ℕ) (e d : Expr) (todo : List Todo) → CodeFill g made (Lones todo) e → CodeSweep g made (Lones todo) d → Fits [] todo → Fits [] (quiet.fill_todo b n e d todo)
@@ -204,13 +222,18 @@ module _ (g : Setting) where
     sweeps e todo (k, inr (inr y)) h = (k, inr (inr (inr (inr (inr (inr (inr (inr (inl (inr y, (tt, ((k, inr (inr y)), h))))))))))))
 
     -- what a clean-up destroys, where nothing stands around what it ends at a spot
-    destroys : (e : Expr) (todo : List Todo) → Counts g e → EndsNumber g.table g.source g.special made e ⊎ (CallsAt g.table g.source g.special made e ⊎ EndsAt g.table g.source g.special made (Lones (piece.DropNow ∷ todo)) e) → Fits [] todo → Fits [] (piece.Eval e ∷ (piece.DropNow ∷ todo))
+    destroys : (e : Expr) (todo : List Todo) → Counts g e → EndsNumber g.table g.source g.special made e ⊎ (CallsAt g.table g.source g.special made (Lones todo) e ⊎ EndsAt g.table g.source g.special made (Lones todo) e) → Fits [] todo → Fits [] (piece.Eval e ∷ (piece.DropNow ∷ todo))
     destroys e todo n (inl k) h = (n, inr (inr (inr (inr (inr (inr (inr (inr (inr (k, (tt, h)))))))))))
     destroys e todo n (inr (inl k)) h = (n, inr (inr (inr (inl (k, (tt, h))))))
     destroys e todo n (inr (inr k)) h = (n, inr (inr (inr (inr (inr (inr (inr (inr (inl (inl k, (tt, h)))))))))))
 
+    -- an event is built at such a site
+    abbrev pub BuildsAt : Raised → (Site → Type 0) → Type 0
+    BuildsAt (src.BuiltAt n c e) P = CallsAt g.table g.source g.special made P e
+    BuildsAt r P = Unit {0}
+
     -- an event is found before it is raised
-    pub raised : (r : Raised) (todo : List Todo) → CountedRaised g.source r → RaisesBy g.table g.source g.special made r → Fits (Any ∷ (Any ∷ (Any ∷ []))) todo → Fits [] (raising.raised_todo r todo)
+    pub raised : (r : Raised) (todo : List Todo) → CountedRaised g.source r → BuildsAt r (Lones todo) → Fits (Any ∷ (Any ∷ (Any ∷ []))) todo → Fits [] (raising.raised_todo r todo)
     raised (src.Plainly n) todo k q h = (tt, inl (tt, (tt, inl (tt, (tt, inl (tt, h))))))
     raised (src.BuiltAt n c e) todo k q h = (tt, (k, inr (inr (inr (inl (q, (tt, (tt, inl (tt, (tt, inl (tt, (tt, inl (tt, h)))))))))))))
     raised (src.AgainFrom c) todo k q h = (tt, inl (tt, (tt, inl (tt, (tt, inl (tt, h))))))
@@ -220,52 +243,70 @@ module _ (g : Setting) where
     counted_at (src.BuiltAt n c e) h = h.1
     counted_at (src.AgainFrom c) h = tt
 
-    pub handled : (x : Handler) (todo : List Todo) → CodeStmts g made x.body → Fits [] todo → Fits [] (raising.handler_todo x todo)
+    pub handled : (x : Handler) (todo : List Todo) → CodeStmts g (apart made) x.body → Fits [] todo → Fits [] (raising.handler_todo x todo)
     handled x todo k h = (tt, (tt, (tt, (tt, (tt, (tt, (inl k, (tt, h))))))))
 
     -- where nothing stands around what ends at a spot
     abbrev pub LoneFor : CleanUp → List Todo → Type 0
-    LoneFor (src.Destroys e) todo = EndsNumber g.table g.source g.special made e ⊎ (CallsAt g.table g.source g.special made e ⊎ EndsAt g.table g.source g.special made (Lones (piece.DropNow ∷ todo)) e)
+    LoneFor (src.Destroys e) todo = EndsNumber g.table g.source g.special made e ⊎ (CallsAt g.table g.source g.special made (Lones todo) e ⊎ EndsAt g.table g.source g.special made (Lones todo) e)
     LoneFor (src.DestroysAll n e) todo = SweepsBy g.table g.source g.special made (Lones todo) e
     LoneFor c todo = Unit {0}
 
-    pub cleans : (c : CleanUp) (todo : List Todo) → CodeScope g made c → LoneFor c todo → Fits [] todo → Fits [] (piece.clean_todo c todo)
-    cleans (src.Destroys e) todo n l h = destroys e todo n.0 l h
-    cleans (src.DestroysAll m e) todo n l h = (tt, ((n.0, l), h))
-    cleans src.Unwinds todo n l h = (tt, h)
-    cleans src.Forgets todo n l h = (tt, h)
-    cleans src.Leaves todo n l h = (tt, h)
-    cleans src.Ends todo n l h = (tt, h)
-    cleans (src.Frees None) todo n l h = (tt, h)
-    cleans (src.Frees (Some r)) todo n l h = (n, h)
-    cleans (src.Restores k) todo n l h = (tt, h)
+    abbrev CodeClean : CleanUp → Type 0
+    CodeClean src.Ends = Unit {0}
+    CodeClean (src.Frees r) = Begins g.table g.source g.special r
+    CodeClean c = CountedClean g.source c
 
-    pub part_scope : (c : CleanUp) → CodePart g made c → CodeScope g made c
-    part_scope (src.Destroys e) n = (n.0, part_ends e n.1)
-      where
-        part_ends : (e : Expr) → CleansBy g.table g.source g.special made IsField (src.Destroys e) → CleansBy g.table g.source g.special made AnySite (src.Destroys e)
-        part_ends e (inl k) = inl k
-        part_ends e (inr (inl k)) = inr (inl k)
-        part_ends (src.OfObject (src.EndOn r w (src.Load (src.Variable k)))) (inr (inr q)) = absurd q.0
-        part_ends (src.OfObject (src.EndOn r w (src.Load (src.OfObject (src.OwnField s i))))) (inr (inr q)) = inr (inr (tt, q.1, q.2))
-        part_ends e (inr (inr q)) = absurd q
-    part_scope (src.DestroysAll m e) n = (n.0, marks.sweeps_more g.table g.source g.special made (λ x. IsField x × HasCount m x) (λ x. AnySite x × HasCount m x) (λ n p k. (tt, k.1)) e n.1)
-    part_scope src.Unwinds n = n
-    part_scope src.Forgets n = n
-    part_scope src.Leaves n = n
-    part_scope src.Ends n = absurd n.1
-    part_scope (src.Frees r) n = absurd n.1
-    part_scope (src.Restores k) n = n
+    code_clean : (c : CleanUp) (todo : List Todo) → CodeScope g made c todo → CodeClean c
+    code_clean (src.Destroys e) todo n = n.0
+    code_clean (src.DestroysAll m e) todo n = n.0
+    code_clean src.Unwinds todo n = n.0
+    code_clean src.Forgets todo n = n.0
+    code_clean src.Leaves todo n = n.0
+    code_clean src.Ends todo n = tt
+    code_clean (src.Frees r) todo n = n
+    code_clean (src.Restores k) todo n = n.0
 
-    pub left_cleans : (c : CleanUp) (todo : List Todo) → CodeScope g made c → LoneFor c todo → Fits [] todo → Fits [] (raising.left_todo c todo)
-    left_cleans (src.Frees r) todo n l h = (tt, h)
-    left_cleans c todo n l h = cleans c todo n l h
+    cleaned : (c : CleanUp) (todo : List Todo) → CodeClean c → LoneFor c todo → Fits [] todo → Fits [] (piece.clean_todo c todo)
+    cleaned (src.Destroys e) todo n l h = destroys e todo n l h
+    cleaned (src.DestroysAll m e) todo n l h = (tt, ((n, l), h))
+    cleaned src.Unwinds todo n l h = (tt, h)
+    cleaned src.Forgets todo n l h = (tt, h)
+    cleaned src.Leaves todo n l h = (tt, h)
+    cleaned src.Ends todo n l h = (tt, h)
+    cleaned (src.Frees None) todo n l h = (tt, h)
+    cleaned (src.Frees (Some r)) todo n l h = (n, h)
+    cleaned (src.Restores k) todo n l h = (tt, h)
+
+    -- a clean-up, before which something else may be to do now
+    pub cleans : (c : CleanUp) (before todo : List Todo) → CodeScope g made c before → LoneFor c todo → Fits [] todo → Fits [] (piece.clean_todo c todo)
+    cleans c before todo n l h = cleaned c todo (code_clean c before n) l h
+
+    pub part_scope : (c : CleanUp) (todo : List Todo) → CodePart g made c todo → CodeScope g made c todo
+    part_scope (src.Destroys e) todo n = n
+    part_scope (src.DestroysAll m e) todo n = n
+    part_scope src.Unwinds todo n = n
+    part_scope src.Forgets todo n = n
+    part_scope src.Leaves todo n = n
+    part_scope src.Ends todo n = absurd n.1
+    part_scope (src.Frees r) todo n = absurd n.1
+    part_scope (src.Restores k) todo n = n
+
+    pub left_cleans : (c : CleanUp) (before todo : List Todo) → CodeScope g made c before → LoneFor c todo → Fits [] todo → Fits [] (raising.left_todo c todo)
+    left_cleans (src.Frees r) before todo n l h = (tt, h)
+    left_cleans c before todo n l h = cleans c before todo n l h
+
+    -- the scope of a statement within others
+    pub scope_more : (c : CleanUp) (todo : List Todo) → CountedClean g.source c → CleansBy g.table g.source g.special (apart made) c → CodeScope g made c todo
+    scope_more src.Ends todo n k = tt
+    scope_more (src.Frees r) todo n k = absurd k
+    scope_more c todo n k = (n, cleans_more g.table g.source g.special (apart made) made (apart_wide made) c k, apart_outermost g.table g.source g.special made c todo k)
 
     -- a statement of another one
-    pub inner : (P : Site → Type 0) (a : Stmt) → CodeStmt g NoSite made a → CodeStmt g P made a
-    inner P a h = (h.0, stmt_more g.table g.source g.special made NoSite P (λ p z. absurd z) a h.1)
+    pub inner : (P : Site → Type 0) (a : Stmt) → CodeStmt g NoSite (apart made) a → CodeStmt g P made a
+    inner P a h = (h.0, stmt_more g.table g.source g.special made NoSite P (λ p i z. absurd z) a h.1)
 
-    pub branch : (k : ℕ) (cs : Clauses) (todo : List Todo) → CodeClauses g made cs → Fits [] todo → Fits [] (monitors.branch_todo k cs todo)
+    pub branch : (k : ℕ) (cs : Clauses) (todo : List Todo) → CodeClauses g (apart made) cs → Fits [] todo → Fits [] (monitors.branch_todo k cs todo)
     branch k src.NoClauses todo n h = h
     branch k (src.Otherwise b) todo n h = either (Fits []) (nat_eq k 0) (piece.Do b ∷ todo) todo (inner (OpensRest todo) b n, h) h
     branch zero (src.MoreClauses guard b cs) todo n h = branch zero cs todo (n.0.2, n.1.2) h

@@ -1,3 +1,5 @@
+pub mod CleanedSpots
+pub mod ObjectsAtHand
 pub mod Calling
 pub mod Putting
 pub mod PuttingLaws
