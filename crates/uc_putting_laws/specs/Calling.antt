@@ -96,11 +96,6 @@ module _ (t : Table) (source : Source) (special : ℕ → Bool) where
   Binds r (OfObject (Bind p e)) = PlaceAt r AnySite p × (PlainExpr e ⊎ PlainNew e)
   Binds r e = ⊥
 
-  -- such a place is bound, also to what is new
-  abbrev pub Binds : Bool → Expr → Type 0
-  Binds made (OfObject (Bind p e)) = PlaceAt made p × (PlainExpr e ⊎ PlainNew e)
-  Binds made e = ⊥
-
   -- what builds or destroys an object that is no mutex one, at such a place
   abbrev pub CallsAt : Reach → (Site → Type 0) → Expr → Type 0
   CallsAt r P (OfObject (CallOn q p args)) = (is_opening source q ≡ false) × PlaceAt r P p × PlainExprs args
