@@ -101,7 +101,7 @@ module _ (source : Source) where
 
   module _ (opts : Options) (input : List ℕ) (j : Journal) (w : World) (homes : ℕ → Value) (kernel : KernelRuns opts source.sites input j) (on : is_over j ≡ false) (h : WorldHomed homes j w) where
     -- whoever runs is told what it has asked for
-    pub start : (p t : ℕ) (given : Answer) → running p j ≡ t ∷ [] → answer_to source.sites t j ≡ Some given → FirstState source homes (object_count j) (answered source given (drawn j w t))
+    start : (p t : ℕ) (given : Answer) → running p j ≡ t ∷ [] → answer_to source.sites t j ≡ Some given → FirstState source homes (object_count j) (answered source given (drawn j w t))
     start p t given runs told =
         let x : HomedRest source homes j t (w.tasks t) = h.rests t (law_alive opts source.sites input j kernel on p t runs) in
         let f : IsForm (form_of_request x.request) given = subst (λ f. IsForm f given) (sym x.asks_for) (law_suiting opts source.sites input j kernel on t given told) in
@@ -175,7 +175,7 @@ module _ (source : Source) where
               subst (λ v. HomedRest source later (j ++ a) v (bare s)) (sym q) own_after
           by false e = born (spawns a u) e refl
 
-      pub act_homed : WorldHomed later (j ++ a) (world_after source a w n s)
+      act_homed : WorldHomed later (j ++ a) (world_after source a w n s)
       act_homed = record {
         rests = rests_after;
         members = λ o. either NoneMembers (takes_out a o) None (or_else (find o s.env.hand) (w.homes o)) tt (or_none (find o s.env.hand) (w.homes o) (found_hand NoneActive NoneActive calm o s.env.hand (env_of source homes (object_count j) asked.request s ended).hand) (h.members o));
@@ -211,7 +211,7 @@ module _ (source : Source) where
     may_homed {j} {w} kernel on homes h (acts p n k s asked d) f still =
         act_homed opts input j w homes kernel on h p n k s asked (may_ask source input opts range d f) still (ridden source homes (object_count j) d.rides (start opts input j w homes kernel on h p n d.given d.runs d.told)).0
 
-    pub run_homed : {j : Journal} {w : World} (r : Runs source input opts j w) → RunFits source input opts j w r → is_over j ≡ false → WorldHomed (λ o. home_of source input opts j w r o) j w
+    run_homed : {j : Journal} {w : World} (r : Runs source input opts j w) → RunFits source input opts j w r → is_over j ≡ false → WorldHomed (λ o. home_of source input opts j w r o) j w
     run_homed begun f still = begin_homed opts
     run_homed (more {j} {w} r on m) f still =
         may_homed (run_rests source input opts range r f.0 on).kernel on (λ i. home_of source input opts j w r i) (run_homed r f.0 on) m f.1 still
@@ -227,9 +227,9 @@ module _ (source : Source) where
       may_bind {j} {w} told kernel on h same le (acts p n k s asked d) =
           (ridden source homes many d.rides (first_more source told homes (object_count j) many same le _ (start opts input j w told kernel on h p n d.given d.runs d.told))).1
 
-      pub run_binds : {j : Journal} {w : World} (r : Runs source input opts j w) → RunFits source input opts j w r → Agrees (λ o. home_of source input opts j w r o) j → object_count j ≤ many → RunMeets (Binds source homes many) source input opts j w r
+      run_binds : {j : Journal} {w : World} (r : Runs source input opts j w) → RunFits source input opts j w r → Agrees (λ o. home_of source input opts j w r o) j → object_count j ≤ many → RunMeets (Binds source homes many) source input opts j w r
       run_binds begun f same le = tt
-      run_binds (more {j} {w} {a} {x} r on m) f same le =
+      run_binds (more {j} {w} {a} {w' = x} r on m) f same le =
           let before : Agrees (λ o. home_of source input opts j w r o) j = λ o l. same o (let g = objects_grow j a in let q : o < object_count (j ++ a) = omega (arith, l, g) in q) ∙ law_once source input opts j w a x m (λ i. home_of source input opts j w r i) o l in
           let fewer : object_count j ≤ many = (let g = objects_grow j a in let q : object_count j ≤ many = omega (arith, g, le) in q) in (
             run_binds r f.0 before fewer,

@@ -1,0 +1,4 @@
+pub mod EndCode
+pub mod EndLists
+pub mod EndWays
+pub mod HomedEnds
