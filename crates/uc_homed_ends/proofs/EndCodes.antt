@@ -208,8 +208,8 @@ module _ (t : Table) (source : Source) (special : ℕ → Bool) where
   mutual
     stmt : (n : Near) (made : Bool) (g : Sig) (sc : List Name) (a : Stmt) → CallingStmt t source special (site_of n) made a → FineStmt t g sc a → FreeStmt t a
     stmt n made g sc (src.Skip line) h f = tt
-    stmt n made g sc (src.Block line body) h f = stmts made g sc body h f
-    stmt n made g sc (src.Whole line body) h f = stmts made g sc body h f.0
+    stmt n made g sc (src.Block line code) h f = stmts made g sc code h f
+    stmt n made g sc (src.Whole line code) h f = stmts made g sc code h f.0
     stmt n made g sc (src.Evaluate line e) h f = evaluates made (site_of n) e h
     stmt n made g sc (src.Declare line ds) h f = declared ds h
     stmt n made g sc (src.Print line is) h f = items is h
@@ -234,14 +234,14 @@ module _ (t : Table) (source : Source) (special : ℕ → Bool) where
     event : (made : Bool) (g : Sig) (sc : List Name) (a : EventStmt) → CallingEvent t source special made a → FineEvent t g sc a → FreeEvent t a
     event made g sc (src.Throw line r) h f = raises made r h
     event made g sc (src.Raise line r) h f = raises made r h
-    event made g sc (src.Try line body hs) h f = (stmts made g sc body h.0 f.0, handlers made g sc hs h.1 f.1)
+    event made g sc (src.Try line code hs) h f = (stmts made g sc code h.0 f.0, handlers made g sc hs h.1 f.1)
     event made g sc (src.RaiseAt line r e) h f = (raises made r h.0, expr e h.1)
     event made g sc (src.Enable line events cell a) h f = stmt Nothing_near made g (Kept ∷ sc) a h f
     event made g sc (src.Disable line events cell a) h f = stmt Nothing_near made g (Kept ∷ sc) a h f
 
     handlers : (made : Bool) (g : Sig) (sc : List Name) (hs : Handlers) → CallingHandlers t source special made hs → FineHandlers t g sc hs → FreeHandlers t hs
     handlers made g sc src.NoHandlers h f = tt
-    handlers made g sc (src.MoreHandlers resumes event cell line body rest) h f = (stmts made g sc body h.0 f.0, handlers made g sc rest h.1 f.1)
+    handlers made g sc (src.MoreHandlers resumes kind cell line code rest) h f = (stmts made g sc code h.0 f.0, handlers made g sc rest h.1 f.1)
 
     task : (made : Bool) (g : Sig) (sc : List Name) (a : TaskStmt) → CallingTask t source special made a → FineTask t g sc a → FreeTask t a
     task made g sc (src.Migrate line e) h f = expr e h

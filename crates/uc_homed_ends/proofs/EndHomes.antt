@@ -50,6 +50,7 @@ use Rattle.uc_putting_laws.specs.PuttingLaws.{setting_of, FairAt, Fair}
 use Rattle.uc_homed_ends.specs.EndLists.{NoEnding, FreeList, FreeActive}
 use Rattle.uc_homed_ends.specs.EndWays as ways
 use Rattle.uc_homed_ends.specs.EndWays.{Stage, Ends, Loads, Finds, Arrays, Counts, Picks, todo_at, Found, Leaves, Way, NowState}
+use Rattle.uc_homed_ends.specs.EndLaws.{LawCode, LawWays}
 use Rattle.uc_homed_ends.specs.HomedEnds.{ReadsAt, Reads, LawReads, IsElsewhere, RestAt, Rest, LawFair}
 use Rattle.uc_homed_ends.proofs.EndCodes.{free_of}
 use Rattle.uc_homed_ends.proofs.EndRuns.{run_ways, leads_ways}
@@ -307,6 +308,15 @@ module _ (p : Program) (formed : IsFormed p) (accepted : breaks_of p ≡ []) (ow
 
   leads_of : {j : Journal} {w : World} (r : Runs (source_of p) input opts j w) → RunFits (source_of p) input opts j w r → RunMeets (Opens (table_of p) owns few) (source_of p) input opts j w r → is_over j ≡ false → (n : ℕ) (s : State) (c : Comes (source_of p) j w n s) → LeadsMeet (Opens (table_of p) owns few) (source_of p) (answered (source_of p) c.given (drawn j w n)) s c.leads → LeadsMeet Now (source_of p) (answered (source_of p) c.given (drawn j w n)) s c.leads
   leads_of r f o on n s c l = (leads_ways (table_of p) (HomedHere (table_of p) owns few) (source_of p) (free_of p formed accepted) input opts range r f (run_homed p formed accepted owns few input opts r o) on n s c (leads_homed p formed accepted owns few input opts r o n s c l)).1
+
+pub law_code : LawCode
+law_code p formed accepted = free_of p formed accepted
+
+pub law_ways : LawWays
+law_ways = record {
+  runs = λ p formed accepted owns few input opts range j w r f o. ways_of p formed accepted owns few input opts range r f o;
+  leads = λ p formed accepted owns few input opts range j w r f o on n s c l. leads_of p formed accepted owns few input opts range r f o on n s c l;
+}
 
 pub law_reads : LawReads
 law_reads = record {

@@ -79,25 +79,25 @@ module _ (tb : Table) where
           let x = h.rests t (law_alive opts source.sites input j kernel on p t runs) in
           answered_free tb source given (drawn j w t) (record { run = x.run; callers = x.callers; env = record { house = x.env.house; hand = hand_free (held t j) w.homes h.members } })
 
+      abbrev entries : Journal → ℕ → ℕ → ℕ → Asked → List Entry
+      entries j p t k asked = act opts source.sites input j p t k asked
+
       -- after an act whose ride ended in this state
-      acted : {j : Journal} {w : World} → WorldFree j w → (p t k : ℕ) (s : State) (asked : Asked) → is_over (j ++ act opts source.sites input j p t k asked) ≡ false → AskedFree tb P source known asked.request s → WorldFree (j ++ act opts source.sites input j p t k asked) (world_after source (act opts source.sites input j p t k asked) w t s)
+      acted : {j : Journal} {w : World} → WorldFree j w → (p t k : ℕ) (s : State) (asked : Asked) → is_over (j ++ entries j p t k asked) ≡ false → AskedFree tb P source known asked.request s → WorldFree (j ++ entries j p t k asked) (world_after source (entries j p t k asked) w t s)
       acted {j} {w} h p t k s asked still ended = record {
         rests = after;
-        members = λ o. either (FreeMembers tb) (takes_out a o) None (or_else (find o s.env.hand) (w.homes o)) tt (or_free (find o s.env.hand) (w.homes o) (found_hand (FreeActive tb) (FreeActive tb) (calm tb) o s.env.hand (asked_env asked.request s ended).hand) (h.members o));
+        members = λ o. either (FreeMembers tb) (takes_out (entries j p t k asked) o) None (or_else (find o s.env.hand) (w.homes o)) tt (or_free (find o s.env.hand) (w.homes o) (found_hand (FreeActive tb) (FreeActive tb) (calm tb) o s.env.hand (asked_env asked.request s ended).hand) (h.members o));
       }
         where
-          abbrev a : List Entry
-          a = act opts source.sites input j p t k asked
-
-          after : (u : ℕ) → has_ended u (j ++ a) ≡ false → FreeState tb ((world_after source a w t s).tasks u)
+          after : (u : ℕ) → has_ended u (j ++ (entries j p t k asked)) ≡ false → FreeState tb ((world_after source (entries j p t k asked) w t s).tasks u)
           after u lives = by (u == t) refl
             where
               own : u ≡ t → FreeState tb (bare s)
-              own q = bare_free s (asked_state asked.request s (law_ends opts source.sites input j p t k asked still (subst (λ v. has_ended v (j ++ a) ≡ false) q lives)).no_fault ended)
+              own q = bare_free s (asked_state asked.request s (law_ends opts source.sites input j p t k asked still (subst (λ v. has_ended v (j ++ (entries j p t k asked)) ≡ false) q lives)).no_fault ended)
 
-              by : (b : Bool) → (u == t) ≡ b → FreeState tb (if b then bare s else if spawns a u then child_of source (own_object u a) s else w.tasks u)
+              by : (b : Bool) → (u == t) ≡ b → FreeState tb (if b then bare s else if spawns (entries j p t k asked) u then child_of source (own_object u (entries j p t k asked)) s else w.tasks u)
               by true e = own (eqb-true u t e)
-              by false e = either (FreeState tb) (spawns a u) (child_of source (own_object u a) s) (w.tasks u) (first_free tb source known (child_main source s.run.control) (own_object u a)) (h.rests u (ended_before u j a lives))
+              by false e = either (FreeState tb) (spawns (entries j p t k asked) u) (child_of source (own_object u (entries j p t k asked)) s) (w.tasks u) (first_free tb source known (child_main source s.run.control) (own_object u (entries j p t k asked))) (h.rests u (ended_before u j (entries j p t k asked) lives))
 
       may_free : {j : Journal} {w : World} {a : List Entry} {x : World} → KernelRuns opts source.sites input j → is_over j ≡ false → WorldFree j w → (m : May source opts input j w a x) → MayMeet P source opts input j w a x m → is_over (j ++ a) ≡ false → WorldFree (j ++ a) x
       may_free {j} kernel on h (gives p t s le) f still = record { rests = λ u e. h.rests u (ended_before u j (dispatch p t ∷ []) e); members = h.members }
