@@ -12,10 +12,10 @@ use Rattle.uc_sound.specs.Formed.{IsFormed}
 use Rattle.uc_sound.specs.Tables.{table_of}
 use Rattle.uc_sound.proofs.SoundLemmas.{law_sound}
 use Rattle.uc_unmarked_laws.specs.Ending.{Spot, OfVariable, OfField}
-use Rattle.uc_putting_laws.specs.Calling.{Site, One, AnySite, IsField, HasCount, EndsWhole, PartBy, ScopeBy, OpensFor, NoSite, PlainExpr, PlainExprs, PlainMaybe, PlainItems, PlainTargets, PlainDeclared, PlainNew, Binds, PlaceAt, CallsAt, MakesAt, MakesEach, EndsAt, EndsEach, EndsNumber, Evaluates, FillsBy, SweepsBy, CleansBy, RaisesBy, CallingStmt, CallingStmts, CallingEvent, CallingHandlers, CallingTask, CallingClauses, Opening, CallingBody, CallingRoutine, CallingSource}
+use Rattle.uc_putting_laws.specs.Calling.{Site, One, AnySite, IsField, HasCount, EndsWhole, OpensFor, NoSite, PlainExpr, PlainExprs, PlainMaybe, PlainItems, PlainTargets, PlainDeclared, PlainNew, Binds, PlaceAt, CallsAt, MakesAt, MakesEach, EndsAt, EndsEach, EndsNumber, Evaluates, FillsBy, SweepsBy, CleansBy, RaisesBy, CallingStmt, CallingStmts, CallingEvent, CallingHandlers, CallingTask, CallingClauses, Opening, CallingBody, CallingRoutine, CallingSource}
 use Rattle.uc_putting_laws.specs.PuttingLaws.{special_of}
 use Rattle.uc_putting_laws.proofs.Routines.{law_calling}
-use Rattle.uc_homed_ends.specs.EndCode.{FreeExpr, FreeExprs, FreeObject, FreeMaybe, FreeItems, FreeTargets, FreeDeclared, FreeRaised, EndOf, EndsSpot, EndsElement, FreeSweep, IsOfField, FreeClean, FreePart, FreeStmt, FreeStmts, FreeEvent, FreeHandlers, FreeTask, FreeClauses, FreeRoutine, FreeSource}
+use Rattle.uc_homed_ends.specs.EndCode.{AtSpot, AtElement, FreeExpr, FreeExprs, FreeObject, FreeMaybe, FreeItems, FreeTargets, FreeDeclared, FreeRaised, EndOf, EndsSpot, EndsElement, FreeSweep, FreeClean, FreeStmt, FreeStmts, FreeEvent, FreeHandlers, FreeTask, FreeClauses, FreeRoutine, FreeSource}
 
 -- what opens next behind a statement
 data Near : Type 0 where
@@ -180,24 +180,6 @@ module _ (t : Table) (source : Source) (special : ℕ → Bool) where
         destroys e (inr (inl h)) f = inl (calls e h)
         destroys e (inr (inr h)) f = inr (spot e h f)
 
-    -- a part is a field
-    part : (g : Sig) (sc : List Name) (e : Expr) → EndsAt t source special made IsField e → Fine t g sc e → (p : Spot) × IsOfField p × EndOf t (One p) e
-    part g sc (OfObject (EndOn r w (Load (Variable k)))) h f = absurd h.0
-    part g sc (OfObject (EndOn r w (Load (OfObject (OwnField s i))))) h f =
-        let x = f.1.1 in
-        (OfField s i, tt, record { routine = r; written = w; class = x.0; is = refl; this = x.2; whole = h.2.whole; mutex = x.4 })
-    part g sc e h f = absurd h
-
-    part_destroys : (g : Sig) (sc : List Name) (e : Expr) → EndsNumber t source special made e ⊎ (CallsAt t source special made e ⊎ EndsAt t source special made IsField e) → Fine t g sc e → FreePart t (src.Destroys e)
-    part_destroys g sc e (inl h) f = inl (number e h)
-    part_destroys g sc e (inr (inl h)) f = inl (calls e h)
-    part_destroys g sc e (inr (inr h)) f = inr (part g sc e h f)
-
-    parts : (g : Sig) (sc : List Name) (c : CleanUp) → PartBy t source special made c → FineClean t g sc c → FreePart t c
-    parts g sc (src.Destroys e) h f = part_destroys g sc e h f
-    parts g sc (src.DestroysAll n e) h f = sweeps (λ x. IsField x × HasCount n x) g sc e h f
-    parts g sc c h f = tt
-
     cleans : (P : Site → Type 0) (g : Sig) (sc : List Name) (c : CleanUp) → CleansBy t source special made P c → FineClean t g sc c → FreeClean t c
     cleans P g sc (src.Destroys e) h f = destroys P g sc e h f
     cleans P g sc (src.DestroysAll n e) h f = sweeps (λ x. P x × HasCount n x) g sc e h f
@@ -229,7 +211,7 @@ module _ (t : Table) (source : Source) (special : ℕ → Bool) where
     stmts made g sc src.Nil h f = tt
     stmts made g sc (src.Then a rest) h f = (stmt (Near_by rest) made g sc a h.0 f.0, stmts made g sc rest h.1 f.1)
     stmts made g sc (src.Scoped c rest) h f = (cleans made AnySite g sc c h.0 f.3, stmts made g (f.0 ∷ sc) rest h.1 f.2)
-    stmts made g sc (src.Built c rest) h f = (parts made g sc c h.0 f.1.0, stmts made g sc rest h.1 f.0)
+    stmts made g sc (src.Built c rest) h f = (cleans made IsField g sc c h.0 f.1.0, stmts made g sc rest h.1 f.0)
 
     event : (made : Bool) (g : Sig) (sc : List Name) (a : EventStmt) → CallingEvent t source special made a → FineEvent t g sc a → FreeEvent t a
     event made g sc (src.Throw line r) h f = raises made r h

@@ -11,7 +11,7 @@ use Rattle.uc_acts.specs.KernelRuns.{InRange}
 use Rattle.uc_machine.specs.declared.exec.Exec.{Exec}
 use Rattle.uc_machine.specs.declared.exec.Owner.TheVariants.{Frame}
 use Rattle.uc_machine.specs.Pieces as piece
-use Rattle.uc_machine.specs.Pieces.{Link, Slot, FieldAt, At, Value, Number, Place, Running, Object, Nothing, Todo, Eval, LoadNow, Clean, Unwind, State, Env, further, loaded, top, below, variable_at}
+use Rattle.uc_machine.specs.Pieces.{Link, Slot, FieldAt, At, Value, Number, Place, Running, Object, Nothing, Todo, Eval, LoadNow, Clean, Part, Unwind, State, Env, further, loaded, top, below, variable_at}
 use Rattle.uc_machine.specs.Quiet.{quiet}
 use Rattle.uc_machine.specs.Answering.{answered}
 use Rattle.uc_machine.specs.Rides as rides
@@ -22,7 +22,7 @@ use Rattle.uc_resolve.specs.Resolve.{source_of}
 use Rattle.uc_rules.specs.Breaks.{breaks_of}
 use Rattle.uc_scope_laws.specs.Layout.{Sized}
 use Rattle.uc_scope_laws.specs.Rooms.{SourceIn}
-use Rattle.uc_scope_laws.specs.RoomStacks.{StackState, StackStep}
+use Rattle.uc_scope_laws.specs.RoomStacks.{UpTo, TodoTo, StackState, StackStep}
 use Rattle.uc_scope_laws.specs.FrameRuns.{KeepsFrames}
 use Rattle.uc_scope_laws.specs.RoomRuns as runs
 use Rattle.uc_scope_laws.specs.RoomRuns.{Leads, Comes}
@@ -44,9 +44,9 @@ use Rattle.uc_home_laws.proofs.HomedReading.{law_reading}
 use Rattle.uc_home_laws.proofs.HomedWorlds.{law_runs, steps_to}
 use Rattle.uc_home_laws.proofs.Homes.{law_binds}
 use Rattle.uc_unmarked_laws.specs.Ending.{Spot, OfVariable, OfField, ends_at, place_at}
-use Rattle.uc_putting_laws.specs.Calling.{Site, One, Each}
 use Rattle.uc_putting_laws.specs.Putting.{Setting, IsHome, IsEnding}
 use Rattle.uc_putting_laws.specs.PuttingLaws.{setting_of, FairAt, Fair}
+use Rattle.uc_homed_ends.specs.EndCode.{EndSite, AtSpot, AtElement}
 use Rattle.uc_homed_ends.specs.EndLists.{NoEnding, FreeList, FreeActive}
 use Rattle.uc_homed_ends.specs.EndWays as ways
 use Rattle.uc_homed_ends.specs.EndWays.{Stage, Ends, Loads, Finds, Arrays, Counts, Picks, todo_at, Found, Leaves, Way, NowState}
@@ -57,6 +57,10 @@ use Rattle.uc_homed_ends.proofs.EndRuns.{run_ways, leads_ways}
 
 -- mutex objects in scope are at home in each state of a ride
 
+-- and it keeps to its rooms
+abbrev Homed : Table → Owns → Few → (ℕ → ℕ → Type 0) → State → Type 0
+Homed t owns few Z s = HomedState t owns few s × StackState Z s
+
 module _ (t : Table) (owns : Owns) (few : Few) (Z : ℕ → ℕ → Type 0) (laid : IsLaidOut Z t) (source : Source) (known : SourceIn Z source) where
   homed_goes : (s u : State) → quiet source s ≡ piece.Goes u → StackState Z s → Opens t owns few s → HomedState t owns few s → HomedState t owns few u
   homed_goes s u e st o h = subst (HomedStep t owns few) e (steps_to t owns few Z laid source known s st o h)
@@ -64,20 +68,20 @@ module _ (t : Table) (owns : Owns) (few : Few) (Z : ℕ → ℕ → Type 0) (lai
   homed_ticks : (s u : State) → quiet source s ≡ piece.Ticks u → StackState Z s → Opens t owns few s → HomedState t owns few s → HomedState t owns few u
   homed_ticks s u e st o h = subst (HomedStep t owns few) e (steps_to t owns few Z laid source known s st o h)
 
-  homed_ride : {s u : State} {q k : ℕ} {a : Asked} (d : Rides source s q u k a) → RideMeets (Opens t owns few) source s q u k a d → StackState Z s → HomedState t owns few s → RideMeets (HomedState t owns few) source s q u k a d
+  homed_ride : {s u : State} {q k : ℕ} {a : Asked} (d : Rides source s q u k a) → RideMeets (Opens t owns few) source s q u k a d → StackState Z s → HomedState t owns few s → RideMeets (Homed t owns few Z) source s q u k a d
   homed_ride rides.slices o st h = tt
   homed_ride (rides.goes_on {s} {t = u} e d) o st h =
-      (h, homed_ride d o.1 (subst (StackStep Z) e (stacking.walk Z source known s st)) (homed_goes s u e st o.0 h))
+      ((h, st), homed_ride d o.1 (subst (StackStep Z) e (stacking.walk Z source known s st)) (homed_goes s u e st o.0 h))
   homed_ride (rides.ticks {s} {t = u} e d) o st h =
-      (h, homed_ride d o.1 (subst (StackStep Z) e (stacking.walk Z source known s st)) (homed_ticks s u e st o.0 h))
-  homed_ride (rides.asks {s} e) o st h = h
+      ((h, st), homed_ride d o.1 (subst (StackStep Z) e (stacking.walk Z source known s st)) (homed_ticks s u e st o.0 h))
+  homed_ride (rides.asks {s} e) o st h = (h, st)
 
-  homed_leads : {s u : State} (l : Leads source s u) → LeadsMeet (Opens t owns few) source s u l → StackState Z s → HomedState t owns few s → LeadsMeet (HomedState t owns few) source s u l
+  homed_leads : {s u : State} (l : Leads source s u) → LeadsMeet (Opens t owns few) source s u l → StackState Z s → HomedState t owns few s → LeadsMeet (Homed t owns few Z) source s u l
   homed_leads runs.stays o st h = tt
   homed_leads (runs.goes {s} {u} e l) o st h =
-      (h, homed_leads l o.1 (subst (StackStep Z) e (stacking.walk Z source known s st)) (homed_goes s u e st o.0 h))
+      ((h, st), homed_leads l o.1 (subst (StackStep Z) e (stacking.walk Z source known s st)) (homed_goes s u e st o.0 h))
   homed_leads (runs.ticks {s} {u} e l) o st h =
-      (h, homed_leads l o.1 (subst (StackStep Z) e (stacking.walk Z source known s st)) (homed_ticks s u e st o.0 h))
+      ((h, st), homed_leads l o.1 (subst (StackStep Z) e (stacking.walk Z source known s st)) (homed_ticks s u e st o.0 h))
 
 module _ (p : Program) (formed : IsFormed p) (accepted : breaks_of p ≡ []) (owns : Owns) (few : Few) (input : List ℕ) (opts : Options) where
   abbrev t : Table
@@ -86,8 +90,8 @@ module _ (p : Program) (formed : IsFormed p) (accepted : breaks_of p ≡ []) (ow
   abbrev source : Source
   source = source_of p
 
-  abbrev Homed : State → Type 0
-  Homed s = HomedState t owns few s
+  abbrev Here : State → Type 0
+  Here s = Homed t owns few (Sized p) s
 
   keeps : {j : Journal} {w : World} (r : Runs source input opts j w) → RunMeets (Opens t owns few) source input opts j w r → KeepsHomes t owns few source j w
   keeps {j} {w} r o = law_runs p formed accepted owns few input opts j w r o
@@ -95,7 +99,7 @@ module _ (p : Program) (formed : IsFormed p) (accepted : breaks_of p ≡ []) (ow
   frames : {j : Journal} {w : World} → Runs source input opts j w → KeepsFrames p j w
   frames {j} {w} r = law_frame_runs p accepted input opts j w r
 
-  run_homed : {j : Journal} {w : World} (r : Runs source input opts j w) → RunMeets (Opens t owns few) source input opts j w r → RunMeets Homed source input opts j w r
+  run_homed : {j : Journal} {w : World} (r : Runs source input opts j w) → RunMeets (Opens t owns few) source input opts j w r → RunMeets Here source input opts j w r
   run_homed begun o = tt
   run_homed (more r on (gives q n s le)) o = (run_homed r o.0, tt)
   run_homed (more r on (no_room q n s le)) o = (run_homed r o.0, tt)
@@ -103,7 +107,7 @@ module _ (p : Program) (formed : IsFormed p) (accepted : breaks_of p ≡ []) (ow
       let c : Comes source j w n (answered source d.given (drawn j w n)) = record { given = d.given; processor = q; runs = d.runs; told = d.told; leads = runs.stays } in
       (run_homed r o.0, homed_ride t owns few (Sized p) (laid_out p formed accepted) source (law_accepted p accepted) d.rides o.1 ((frames r).comes n _ c) ((keeps r o.0).comes n _ c tt))
 
-  leads_homed : {j : Journal} {w : World} (r : Runs source input opts j w) → RunMeets (Opens t owns few) source input opts j w r → (n : ℕ) (s : State) (c : Comes source j w n s) → LeadsMeet (Opens t owns few) source (answered source c.given (drawn j w n)) s c.leads → LeadsMeet Homed source (answered source c.given (drawn j w n)) s c.leads
+  leads_homed : {j : Journal} {w : World} (r : Runs source input opts j w) → RunMeets (Opens t owns few) source input opts j w r → (n : ℕ) (s : State) (c : Comes source j w n s) → LeadsMeet (Opens t owns few) source (answered source c.given (drawn j w n)) s c.leads → LeadsMeet Here source (answered source c.given (drawn j w n)) s c.leads
   leads_homed {j} {w} r o n s c l =
       let b : Comes source j w n (answered source c.given (drawn j w n)) = record { given = c.given; processor = c.processor; runs = c.runs; told = c.told; leads = runs.stays } in
       homed_leads t owns few (Sized p) (laid_out p formed accepted) source (law_accepted p accepted) c.leads l ((frames r).comes n _ b) ((keeps r o).comes n _ b tt)
@@ -130,9 +134,16 @@ no_field (Running y) h i x d k e = cc
 no_field (Object o) h i x d k e = cc
 no_field Nothing h i x d k e = cc
 
-module _ (t : Table) (owns : Owns) (few : Few) where
+-- a part of the object at hand is no variable
+no_part : (Z : ℕ → ℕ → Type 0) (s : State) → StackState Z s → (k r : ℕ) (written : Bool) (todo : List Todo) → s.run.control ≡ Unwind ∷ (Part (ends_at (OfVariable k) r written) ∷ todo) → ⊥
+no_part Z s st k r written todo e =
+    let f = st.stack.0.fits in
+    let x : TodoTo Z (UpTo st.stack.0.top) f.0 (Unwind ∷ (Part (ends_at (OfVariable k) r written) ∷ todo)) = subst (TodoTo Z (UpTo st.stack.0.top) f.0) e f.1 in
+    x.1.0
+
+module _ (t : Table) (owns : Owns) (few : Few) (Z : ℕ → ℕ → Type 0) where
   abbrev HomedHere : State → Type 0
-  HomedHere s = HomedState t owns few s
+  HomedHere s = Homed t owns few Z s
 
   abbrev AtHomeOf : State → ℕ → Type 0
   AtHomeOf s k = IsHome few (loaded (variable_at k s) s.env) (variable_at k s)
@@ -144,12 +155,12 @@ module _ (t : Table) (owns : Owns) (few : Few) where
       let h = law_reading t owns few s st (variable_at k s) (Cell (Obj c)) v s.run.frame (Slot k ∷ []) (Obj c) all_of_it mutex in
       record { number = h.0; object = h.1; home = h.2 }
 
-  left_home : (s : State) → HomedState t owns few s → (k r c : ℕ) (written : Bool) → (t.routine r).this ≡ Some c → (t.routine r).whole ≡ true → t.mutex c ≡ true → Leaves (One (OfVariable k)) r written s.run.control → AtHomeOf s k
+  left_home : (s : State) → HomedHere s → (k r c : ℕ) (written : Bool) → (t.routine r).this ≡ Some c → (t.routine r).whole ≡ true → t.mutex c ≡ true → Leaves (AtSpot (OfVariable k)) r written s.run.control → AtHomeOf s k
   left_home s st k r c written this whole mutex (todo, inl e) =
-      at_mark s st k r c written this whole mutex (Clean (ends_at (OfVariable k) r written) ∷ todo) e (inl (k, (refl, this, whole), refl))
+      at_mark s st.0 k r c written this whole mutex (Clean (ends_at (OfVariable k) r written) ∷ todo) e (inl (k, (refl, this, whole), refl))
   left_home s st k r c written this whole mutex (todo, inr (inl e)) =
-      at_mark s st k r c written this whole mutex (Unwind ∷ (Clean (ends_at (OfVariable k) r written) ∷ todo)) e (inl (k, (refl, this, whole), refl))
-  left_home s st k r c written this whole mutex (todo, inr (inr (f, e))) = absurd f
+      at_mark s st.0 k r c written this whole mutex (Unwind ∷ (Clean (ends_at (OfVariable k) r written) ∷ todo)) e (inl (k, (refl, this, whole), refl))
+  left_home s st k r c written this whole mutex (todo, inr (inr e)) = absurd (no_part Z s st.1 k r written todo e)
 
   -- and later, with the same memory
   same_home : (s u : State) (k : ℕ) → s.env ≡ u.env → s.run.frame ≡ u.run.frame → AtHomeOf u k → AtHomeOf s k
@@ -158,7 +169,7 @@ module _ (t : Table) (owns : Owns) (few : Few) where
 
   -- whoever reads before an end is on the way from a clean-up, at the end of it
   record Reading (s : State) : Type 0 where
-    site : Site
+    site : EndSite
     routine : ℕ
     written : Bool
     class : ℕ
@@ -168,14 +179,14 @@ module _ (t : Table) (owns : Owns) (few : Few) where
     mutex : t.mutex class ≡ true
     start : State
     leaves : Leaves site routine written start.run.control
-    held : HomedState t owns few start
+    held : HomedHere start
     env : s.env ≡ start.env
     frame : s.run.frame ≡ start.run.frame
 
   reading_at : (s : State) (todo : List Todo) → s.run.control ≡ LoadNow ∷ todo → (w : Way t HomedHere s) → Reading s
   reading_at s todo c w = by w.stage w.site w.control w.found w.leaves
     where
-      ends : (x : Site) → Found ways.Reads x s → Leaves x w.routine w.written w.start.run.control → Reading s
+      ends : (x : EndSite) → Found ways.Reads x s → Leaves x w.routine w.written w.start.run.control → Reading s
       ends x f l = record {
         site = x;
         routine = w.routine;
@@ -192,16 +203,16 @@ module _ (t : Table) (owns : Owns) (few : Few) where
         frame = w.frame;
       }
 
-      by : (k : Stage) (x : Site) → s.run.control ≡ todo_at k x w.routine w.written w.todo → Found k x s → Leaves x w.routine w.written w.start.run.control → Reading s
+      by : (k : Stage) (x : EndSite) → s.run.control ≡ todo_at k x w.routine w.written w.todo → Found k x s → Leaves x w.routine w.written w.start.run.control → Reading s
       by Ends x e f l = let q : LoadNow ∷ todo ≡ todo_at Ends x w.routine w.written w.todo = sym c ∙ e in absurd (cc)
       by Loads x e f l = let q : LoadNow ∷ todo ≡ todo_at Loads x w.routine w.written w.todo = sym c ∙ e in absurd (cc)
       by Finds x e f l = let q : LoadNow ∷ todo ≡ todo_at Finds x w.routine w.written w.todo = sym c ∙ e in absurd (cc)
-      by Arrays (One p) e f l = absurd f
-      by Arrays (Each n p) e f l = let q : LoadNow ∷ todo ≡ todo_at Arrays (Each n p) w.routine w.written w.todo = sym c ∙ e in absurd (cc)
-      by Counts (One p) e f l = absurd f
-      by Counts (Each n p) e f l = let q : LoadNow ∷ todo ≡ todo_at Counts (Each n p) w.routine w.written w.todo = sym c ∙ e in absurd (cc)
-      by Picks (One p) e f l = absurd f
-      by Picks (Each n p) e f l = let q : LoadNow ∷ todo ≡ todo_at Picks (Each n p) w.routine w.written w.todo = sym c ∙ e in absurd (cc)
+      by Arrays (AtSpot p) e f l = absurd f
+      by Arrays (AtElement n p) e f l = let q : LoadNow ∷ todo ≡ todo_at Arrays (AtElement n p) w.routine w.written w.todo = sym c ∙ e in absurd (cc)
+      by Counts (AtSpot p) e f l = absurd f
+      by Counts (AtElement n p) e f l = let q : LoadNow ∷ todo ≡ todo_at Counts (AtElement n p) w.routine w.written w.todo = sym c ∙ e in absurd (cc)
+      by Picks (AtSpot p) e f l = absurd f
+      by Picks (AtElement n p) e f l = let q : LoadNow ∷ todo ≡ todo_at Picks (AtElement n p) w.routine w.written w.todo = sym c ∙ e in absurd (cc)
       by ways.Reads x e f l = ends x f l
 
   reading_of : (s : State) (todo : List Todo) → s.run.control ≡ LoadNow ∷ todo → IsEnding todo → FreeActive t s.run ⊎ Way t HomedHere s → Reading s
@@ -209,19 +220,19 @@ module _ (t : Table) (owns : Owns) (few : Few) where
   reading_of s todo c e (inr w) = reading_at s todo c w
 
   -- that of a variable
-  at_variable : (s : State) (k : ℕ) (x : Reading s) (y : Site) → x.site ≡ y → top s.run.operands ≡ variable_at k s → AtHomeOf s k
-  at_variable s k x (One (OfVariable m)) q e =
+  at_variable : (s : State) (k : ℕ) (x : Reading s) (y : EndSite) → x.site ≡ y → top s.run.operands ≡ variable_at k s → AtHomeOf s k
+  at_variable s k x (AtSpot (OfVariable m)) q e =
       let f : top s.run.operands ≡ variable_at m s = subst (λ y. Found ways.Reads y s) q x.found in
       let same : m ≡ k = same_slot s.env.exec s.run.frame m k (sym f ∙ e) in
-      let l : Leaves (One (OfVariable m)) x.routine x.written x.start.run.control = subst (λ y. Leaves y x.routine x.written x.start.run.control) q x.leaves in
+      let l : Leaves (AtSpot (OfVariable m)) x.routine x.written x.start.run.control = subst (λ y. Leaves y x.routine x.written x.start.run.control) q x.leaves in
       subst (λ k. AtHomeOf s k) same (same_home s x.start m x.env x.frame (left_home x.start x.held m x.routine x.class x.written x.this x.whole x.mutex l))
     where
       same_slot : (n : Exec) (d a b : ℕ) → Place (Frame n d) (Slot a ∷ []) ≡ Place (Frame n d) (Slot b ∷ []) → a ≡ b
       same_slot n d a b h = cc
-  at_variable s k x (One (OfField h i)) q e =
+  at_variable s k x (AtSpot (OfField h i)) q e =
       let f : top s.run.operands ≡ further (FieldAt h i) s.run.this = subst (λ y. Found ways.Reads y s) q x.found in
       absurd (no_field s.run.this h i s.env.exec s.run.frame k (sym f ∙ e))
-  at_variable s k x (Each n p) q e =
+  at_variable s k x (AtElement n p) q e =
       let f = subst (λ y. Found ways.Reads y s) q x.found in
       absurd (no_element (place_at p s) f.0 s.env.exec s.run.frame k (sym f.1 ∙ e))
 
@@ -241,18 +252,18 @@ module _ (p : Program) (owns : Owns) (few : Few) (homes : ℕ → Value) (many :
   abbrev g : Setting
   g = setting_of p few
 
-  fair_here : (s : State) → NowState (table_of p) (HomedHere (table_of p) owns few) s → made.Binds (source_of p) homes many s → Rest g s → Fair g s
+  fair_here : (s : State) → NowState (table_of p) (HomedHere (table_of p) owns few (Sized p)) s → made.Binds (source_of p) homes many s → Rest g s → Fair g s
   fair_here s h b r = by s.run.control refl b r
     where
-      read : (todo : List Todo) → (x : Reading (table_of p) owns few s) (y : Site) → x.site ≡ y → (IsElsewhere s (top s.run.operands) → IsHome few (loaded (top s.run.operands) s.env) (top s.run.operands)) → IsHome few (loaded (top s.run.operands) s.env) (top s.run.operands)
-      read todo x (One (OfVariable k)) q f =
+      read : (todo : List Todo) → (x : Reading (table_of p) owns few (Sized p) s) (y : EndSite) → x.site ≡ y → (IsElsewhere s (top s.run.operands) → IsHome few (loaded (top s.run.operands) s.env) (top s.run.operands)) → IsHome few (loaded (top s.run.operands) s.env) (top s.run.operands)
+      read todo x (AtSpot (OfVariable k)) q f =
           let e : top s.run.operands ≡ variable_at k s = subst (λ y. Found ways.Reads y s) q x.found in
-          subst (λ v. IsHome few (loaded v s.env) v) (sym e) (at_variable (table_of p) owns few s k x (One (OfVariable k)) q e)
-      read todo x (One (OfField h i)) q f = f (inl (h, i, subst (λ y. Found ways.Reads y s) q x.found))
-      read todo x (Each n q) e f = let k = subst (λ y. Found ways.Reads y s) e x.found in f (inr (q, k.0, k.1))
+          subst (λ v. IsHome few (loaded v s.env) v) (sym e) (at_variable (table_of p) owns few (Sized p) s k x (AtSpot (OfVariable k)) q e)
+      read todo x (AtSpot (OfField h i)) q f = f (inl (h, i, subst (λ y. Found ways.Reads y s) q x.found))
+      read todo x (AtElement n q) e f = let k = subst (λ y. Found ways.Reads y s) e x.found in f (inr (q, k.0, k.1))
 
       by : (l : List Todo) → s.run.control ≡ l → made.BindsAt (source_of p) homes many l s → RestAt g l s → FairAt g l s
-      by (LoadNow ∷ todo) c b f = λ e. let x = reading_of (table_of p) owns few s todo c e h.run in read todo x x.site refl (f e)
+      by (LoadNow ∷ todo) c b f = λ e. let x = reading_of (table_of p) owns few (Sized p) s todo c e h.run in read todo x x.site refl (f e)
       by (piece.BindMadeNow c r ∷ todo) e b f = record { number = b.number; object = b.object; home = same b.number ∙ b.home }
       by [] c b f = f
       by (q ∷ todo) c b f = f
@@ -301,13 +312,13 @@ module _ (P Q : State → Type 0) where
 
 module _ (p : Program) (formed : IsFormed p) (accepted : breaks_of p ≡ []) (owns : Owns) (few : Few) (input : List ℕ) (opts : Options) (range : InRange opts) where
   abbrev Now : State → Type 0
-  Now s = NowState (table_of p) (HomedHere (table_of p) owns few) s
+  Now s = NowState (table_of p) (HomedHere (table_of p) owns few (Sized p)) s
 
   ways_of : {j : Journal} {w : World} (r : Runs (source_of p) input opts j w) → RunFits (source_of p) input opts j w r → RunMeets (Opens (table_of p) owns few) (source_of p) input opts j w r → RunMeets Now (source_of p) input opts j w r
-  ways_of r f o = (run_ways (table_of p) (HomedHere (table_of p) owns few) (source_of p) (free_of p formed accepted) input opts range r f (run_homed p formed accepted owns few input opts r o)).1
+  ways_of r f o = (run_ways (table_of p) (HomedHere (table_of p) owns few (Sized p)) (source_of p) (free_of p formed accepted) input opts range r f (run_homed p formed accepted owns few input opts r o)).1
 
   leads_of : {j : Journal} {w : World} (r : Runs (source_of p) input opts j w) → RunFits (source_of p) input opts j w r → RunMeets (Opens (table_of p) owns few) (source_of p) input opts j w r → is_over j ≡ false → (n : ℕ) (s : State) (c : Comes (source_of p) j w n s) → LeadsMeet (Opens (table_of p) owns few) (source_of p) (answered (source_of p) c.given (drawn j w n)) s c.leads → LeadsMeet Now (source_of p) (answered (source_of p) c.given (drawn j w n)) s c.leads
-  leads_of r f o on n s c l = (leads_ways (table_of p) (HomedHere (table_of p) owns few) (source_of p) (free_of p formed accepted) input opts range r f (run_homed p formed accepted owns few input opts r o) on n s c (leads_homed p formed accepted owns few input opts r o n s c l)).1
+  leads_of r f o on n s c l = (leads_ways (table_of p) (HomedHere (table_of p) owns few (Sized p)) (source_of p) (free_of p formed accepted) input opts range r f (run_homed p formed accepted owns few input opts r o) on n s c (leads_homed p formed accepted owns few input opts r o n s c l)).1
 
 pub law_code : LawCode
 law_code p formed accepted = free_of p formed accepted
@@ -321,9 +332,9 @@ law_ways = record {
 pub law_reads : LawReads
 law_reads = record {
   runs = λ p formed accepted owns few input opts range j w r f o.
-      run_with (Now p formed accepted owns few input opts range) (Reads few) (λ s h. reads_here (table_of p) owns few s h) r (ways_of p formed accepted owns few input opts range r f o);
+      run_with (Now p formed accepted owns few input opts range) (Reads few) (λ s h. reads_here (table_of p) owns few (Sized p) s h) r (ways_of p formed accepted owns few input opts range r f o);
   leads = λ p formed accepted owns few input opts range j w r f o on n s c l.
-      leads_with (Now p formed accepted owns few input opts range) (Reads few) (λ s h. reads_here (table_of p) owns few s h) c.leads (leads_of p formed accepted owns few input opts range r f o on n s c l);
+      leads_with (Now p formed accepted owns few input opts range) (Reads few) (λ s h. reads_here (table_of p) owns few (Sized p) s h) c.leads (leads_of p formed accepted owns few input opts range r f o on n s c l);
 }
 
 pub law_fair : LawFair

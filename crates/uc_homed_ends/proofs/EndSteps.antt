@@ -29,7 +29,7 @@ use Rattle.uc_typing.specs.Typing.{Table}
 use Rattle.uc_site_laws.specs.Resting.{AllWait, RestsEnv}
 use Rattle.uc_site_laws.proofs.Kept as kept
 use Rattle.uc_site_laws.proofs.Kept.{either}
-use Rattle.uc_homed_ends.specs.EndCode.{FreeExpr, FreeObject, FreeMaybe, FreeItem, FreeRaised, FreeSweep, FreeClean, FreePart, FreeStmt, FreeStmts, FreeEvent, FreeTask, FreeHandlers, FreeClauses, FreeRoutine}
+use Rattle.uc_homed_ends.specs.EndCode.{FreeExpr, FreeObject, FreeMaybe, FreeItem, FreeRaised, FreeSweep, FreeClean, FreeStmt, FreeStmts, FreeEvent, FreeTask, FreeHandlers, FreeClauses, FreeRoutine}
 use Rattle.uc_homed_ends.specs.EndLists.{NoEnding, FreePiece, FreeList, FreeActive, FreeState, FreeStep}
 
 module _ (tb : Table) where
@@ -61,7 +61,7 @@ module _ (tb : Table) where
   FreeSort (piece.IsClean c) = FreeClean tb c
   FreeSort (piece.IsFill n b d) = FreeExpr b × FreeSweep tb d
   FreeSort (piece.IsSweep e) = FreeSweep tb e
-  FreeSort (piece.IsPart c) = FreePart tb c
+  FreeSort (piece.IsPart c) = FreeClean tb c
   FreeSort (piece.IsGuard hs) = FreeHandlers tb hs
   FreeSort k = Unit {0}
 

@@ -1,10 +1,9 @@
 -- Code in which mutex objects are ended by clean-ups alone: by one for what is at a variable or at a field of the object at hand, or for the elements of an
 -- array there.
 use Rattle.std.specs.Prelude.{◌≡◌, ℕ, ◌⊎◌, Bool, true, List, [], ◌∷◌, Option, Some, None, slice_get}
-use Rattle.uc_tree.specs.Source.{Expr, Exprs, ObjectExpr, Literal, Variable, Element, Get, Load, Negated, Not, AsCharacter, AsTruth, Operate, And, Or, Set, Assign, First, Update, StepBehind, Fail, Call, OfObject, NoExprs, MoreExprs, This, OwnField, GetOwn, FieldOf, Counted, CallOn, CallLive, CallUnwritten, EnterOn, EndOn, Bind, MakeOn, NewCluster, NewProcessor, EndCluster, EndProcessor, ConditionAt, Wait, Signal, SignalBlock, IsEmpty, FrontOf, Item, Show, ShowText, Target, Declared, CleanUp, Destroys, DestroysAll, Stmt, Stmts, Skip, Block, Whole, Evaluate, Declare, Print, PrintTogether, Read, If, Loop, Break, Continue, Return, Owes, Fill, OfEvents, OfTasks, Nil, Then, Scoped, Built, Raised, Plainly, BuiltAt, AgainFrom, EventStmt, Throw, Raise, Try, RaiseAt, Enable, Disable, TaskStmt, Migrate, Accept, Handlers, NoHandlers, MoreHandlers, Clauses, NoClauses, Otherwise, MoreClauses, Routine, Source}
+use Rattle.uc_tree.specs.Source.{Binding, Expr, Exprs, ObjectExpr, Literal, Variable, Element, Get, Load, Negated, Not, AsCharacter, AsTruth, Operate, And, Or, Set, Assign, First, Update, StepBehind, Fail, Call, OfObject, NoExprs, MoreExprs, This, OwnField, GetOwn, FieldOf, Counted, CallOn, CallLive, CallUnwritten, EnterOn, EndOn, Bind, MakeOn, NewCluster, NewProcessor, EndCluster, EndProcessor, ConditionAt, Wait, Signal, SignalBlock, IsEmpty, FrontOf, Item, Show, ShowText, Target, Declared, CleanUp, Destroys, DestroysAll, Stmt, Stmts, Skip, Block, Whole, Evaluate, Declare, Print, PrintTogether, Read, If, Loop, Break, Continue, Return, Owes, Fill, OfEvents, OfTasks, Nil, Then, Scoped, Built, Raised, Plainly, BuiltAt, AgainFrom, EventStmt, Throw, Raise, Try, RaiseAt, Enable, Disable, TaskStmt, Migrate, Accept, Handlers, NoHandlers, MoreHandlers, Clauses, NoClauses, Otherwise, MoreClauses, Routine, Source}
 use Rattle.uc_typing.specs.Typing.{Table}
-use Rattle.uc_unmarked_laws.specs.Ending.{Spot, OfVariable, OfField, naming}
-use Rattle.uc_putting_laws.specs.Calling.{Site, One, Each, element_at}
+use Rattle.uc_unmarked_laws.specs.Ending.{Spot, naming}
 
 -- no mutex object is ended in these
 abbrev mutual
@@ -83,13 +82,18 @@ FreeRaised (Plainly n) = Unit {0}
 FreeRaised (BuiltAt n k e) = FreeExpr e
 FreeRaised (AgainFrom k) = Unit {0}
 
--- the place of a site, as code names it
-abbrev pub named : Site → Expr
-named (One p) = naming p
-named (Each n p) = element_at n p
+-- where mutex objects end: at a spot, or as the elements of an array of so many there
+pub data EndSite : Type 0 where
+  AtSpot : Spot → EndSite
+  AtElement : ℕ → Spot → EndSite
+
+-- such a place, as code names it: of an element that of the one that is counted
+abbrev pub named : EndSite → Expr
+named (AtSpot p) = naming p
+named (AtElement n p) = Element n Binding (naming p) (OfObject Counted)
 
 -- an expression ends the mutex object that is at home at a site: by a destructor of a mutex class, which is called for the object as a whole
-pub record EndOf (t : Table) (x : Site) (e : Expr) : Type 0 where
+pub record EndOf (t : Table) (x : EndSite) (e : Expr) : Type 0 where
   pub routine : ℕ
   pub written : Bool
   pub class : ℕ
@@ -100,10 +104,10 @@ pub record EndOf (t : Table) (x : Site) (e : Expr) : Type 0 where
 
 -- one at a spot; one that is the counted element of an array there
 abbrev pub EndsSpot : Table → Expr → Type 0
-EndsSpot t e = (p : Spot) × EndOf t (One p) e
+EndsSpot t e = (p : Spot) × EndOf t (AtSpot p) e
 
 abbrev pub EndsElement : Table → Expr → Type 0
-EndsElement t e = (n : ℕ) × (p : Spot) × EndOf t (Each n p) e
+EndsElement t e = (n : ℕ) × (p : Spot) × EndOf t (AtElement n p) e
 
 -- what a clean-up evaluates ends none, or that one
 abbrev pub FreeSweep : Table → Expr → Type 0
@@ -113,16 +117,6 @@ abbrev pub FreeClean : Table → CleanUp → Type 0
 FreeClean t (Destroys e) = FreeExpr e ⊎ EndsSpot t e
 FreeClean t (DestroysAll n e) = FreeSweep t e
 FreeClean t c = Unit {0}
-
--- a field is no variable; a part of the object at hand is one
-abbrev pub IsOfField : Spot → Type 0
-IsOfField (OfVariable k) = ⊥
-IsOfField (OfField h i) = Unit {0}
-
-abbrev pub FreePart : Table → CleanUp → Type 0
-FreePart t (Destroys e) = FreeExpr e ⊎ ((p : Spot) × IsOfField p × EndOf t (One p) e)
-FreePart t (DestroysAll n e) = FreeSweep t e
-FreePart t c = Unit {0}
 
 module _ (t : Table) where
   abbrev mutual
@@ -149,7 +143,7 @@ module _ (t : Table) where
     FreeStmts Nil = Unit {0}
     FreeStmts (Then a rest) = FreeStmt a × FreeStmts rest
     FreeStmts (Scoped c rest) = FreeClean t c × FreeStmts rest
-    FreeStmts (Built c rest) = FreePart t c × FreeStmts rest
+    FreeStmts (Built c rest) = FreeClean t c × FreeStmts rest
 
     pub FreeEvent : EventStmt → Type 0
     FreeEvent (Throw line r) = FreeRaised r

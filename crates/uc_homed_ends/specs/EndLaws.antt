@@ -10,6 +10,8 @@ use Rattle.uc_meaning.specs.Runs.{World, Runs, drawn}
 use Rattle.uc_program_laws.specs.Fitting.{RunFits}
 use Rattle.uc_resolve.specs.Resolve.{source_of}
 use Rattle.uc_rules.specs.Breaks.{breaks_of}
+use Rattle.uc_scope_laws.specs.Layout.{Sized}
+use Rattle.uc_scope_laws.specs.RoomStacks.{StackState}
 use Rattle.uc_scope_laws.specs.RoomRuns.{Comes}
 use Rattle.uc_sound.specs.Formed.{IsFormed}
 use Rattle.uc_sound.specs.Tables.{table_of}
@@ -23,19 +25,23 @@ use Rattle.uc_homed_ends.specs.EndWays.{NowState}
 abbrev pub LawCode : Type 0
 LawCode = (p : Program) → IsFormed p → breaks_of p ≡ [] → FreeSource (table_of p) (source_of p)
 
+-- what is in scope is at home, and the task keeps to its rooms
+abbrev pub InOrder : Program → Owns → Few → State → Type 0
+InOrder p owns few s = HomedState (table_of p) owns few s × StackState (Sized p) s
+
 -- and in each run of it in which each scope opens where the mutex objects that it is of are at home, as long as all that was asked fits: in each state
 -- of each ride, and of whoever runs on the way to each state to which it comes before it asks, that is on no such way, or was at the clean-up before
--- in a state in which what was in scope was at home, with the same memory
+-- in a state in which what was in scope was at home, and which kept to its rooms, with the same memory
 pub record LawWays : Type 0 where
   pub runs : (p : Program) → IsFormed p → breaks_of p ≡ [] → (owns : Owns) (few : Few) →
       (input : List ℕ) (opts : Options) → InRange opts → (j : Journal) (w : World) →
       (r : Runs (source_of p) input opts j w) → RunFits (source_of p) input opts j w r →
       RunMeets (Opens (table_of p) owns few) (source_of p) input opts j w r →
-      RunMeets (NowState (table_of p) (HomedState (table_of p) owns few)) (source_of p) input opts j w r
+      RunMeets (NowState (table_of p) (InOrder p owns few)) (source_of p) input opts j w r
   pub leads : (p : Program) → IsFormed p → breaks_of p ≡ [] → (owns : Owns) (few : Few) →
       (input : List ℕ) (opts : Options) → InRange opts → (j : Journal) (w : World) →
       (r : Runs (source_of p) input opts j w) → RunFits (source_of p) input opts j w r →
       RunMeets (Opens (table_of p) owns few) (source_of p) input opts j w r →
       is_over j ≡ false → (t : ℕ) (s : State) (c : Comes (source_of p) j w t s) →
       LeadsMeet (Opens (table_of p) owns few) (source_of p) (answered (source_of p) c.given (drawn j w t)) s c.leads →
-      LeadsMeet (NowState (table_of p) (HomedState (table_of p) owns few)) (source_of p) (answered (source_of p) c.given (drawn j w t)) s c.leads
+      LeadsMeet (NowState (table_of p) (InOrder p owns few)) (source_of p) (answered (source_of p) c.given (drawn j w t)) s c.leads

@@ -4,7 +4,7 @@ use Rattle.uc_machine.specs.Pieces as piece
 use Rattle.uc_machine.specs.Pieces.{Todo, Active, State, Members, Step, Goes, Ticks, Asks}
 use Rattle.uc_site_laws.specs.Resting.{RestsMembers, RestsState}
 use Rattle.uc_typing.specs.Typing.{Table}
-use Rattle.uc_homed_ends.specs.EndCode.{FreeExpr, FreeExprs, FreeMaybe, FreeItems, FreeTargets, FreeDeclared, FreeClean, FreePart, FreeSweep, FreeStmt, FreeStmts, FreeHandlers, FreeClauses}
+use Rattle.uc_homed_ends.specs.EndCode.{FreeExpr, FreeExprs, FreeMaybe, FreeItems, FreeTargets, FreeDeclared, FreeClean, FreeSweep, FreeStmt, FreeStmts, FreeHandlers, FreeClauses}
 
 -- no object is entered next
 abbrev pub NoEntering : List Todo → Type 0
@@ -37,7 +37,7 @@ module _ (t : Table) where
   FreePiece (piece.InLoop o e step b) todo = FreeExpr e × FreeMaybe step × FreeStmt t b
   FreePiece (piece.Clean c) todo = FreeClean t c
   FreePiece (piece.Sweep e) todo = FreeSweep t e
-  FreePiece (piece.Part c) todo = FreePart t c
+  FreePiece (piece.Part c) todo = FreeClean t c
   FreePiece (piece.Guard hs) todo = FreeHandlers t hs
   FreePiece (piece.Guards cs) todo = FreeClauses t cs
   FreePiece (piece.ChooseNow cs) todo = FreeClauses t cs

@@ -8,8 +8,7 @@ use Rattle.uc_site_laws.specs.Resting.{AllWait, RestsEnv}
 use Rattle.uc_typing.specs.Typing.{Table}
 use Rattle.uc_value_laws.specs.Endings.{OnObject, behind_end}
 use Rattle.uc_unmarked_laws.specs.Ending.{Spot, naming, place_at, ends_at}
-use Rattle.uc_putting_laws.specs.Calling.{Site, One, Each, element_at}
-use Rattle.uc_homed_ends.specs.EndCode.{named, IsOfField}
+use Rattle.uc_homed_ends.specs.EndCode.{EndSite, AtSpot, AtElement, named}
 use Rattle.uc_homed_ends.specs.EndLists.{FreeList, FreeActive, FreeState}
 
 -- what is to do next: the end of it, to load what it is bound to, to find that place, for an element first that of its array, then how many stand, then
@@ -27,45 +26,44 @@ pub data Stage : Type 0 where
 abbrev pub entering : ℕ → Bool → List Todo → List Todo
 entering r written todo = behind_end (OnObject r written) todo
 
-abbrev pub todo_at : Stage → Site → ℕ → Bool → List Todo → List Todo
+abbrev pub todo_at : Stage → EndSite → ℕ → Bool → List Todo → List Todo
 todo_at Ends x r written todo = Eval (OfObject (EndOn r written (Load (named x)))) ∷ todo
 todo_at Loads x r written todo = Eval (Load (named x)) ∷ entering r written todo
 todo_at Finds x r written todo = Eval (named x) ∷ (LoadNow ∷ entering r written todo)
-todo_at Arrays (Each n p) r written todo =
+todo_at Arrays (AtElement n p) r written todo =
     Eval (naming p) ∷ (Eval (OfObject Counted) ∷ (ElementNow n Binding ∷ (LoadNow ∷ entering r written todo)))
-todo_at Counts (Each n p) r written todo =
+todo_at Counts (AtElement n p) r written todo =
     Eval (OfObject Counted) ∷ (ElementNow n Binding ∷ (LoadNow ∷ entering r written todo))
-todo_at Picks (Each n p) r written todo = ElementNow n Binding ∷ (LoadNow ∷ entering r written todo)
+todo_at Picks (AtElement n p) r written todo = ElementNow n Binding ∷ (LoadNow ∷ entering r written todo)
 todo_at k x r written todo = LoadNow ∷ entering r written todo
 
 -- the place is found: of an element, that of its array first
-abbrev pub Found : Stage → Site → State → Type 0
+abbrev pub Found : Stage → EndSite → State → Type 0
 Found Ends x s = Unit {0}
 Found Loads x s = Unit {0}
 Found Finds x s = Unit {0}
-Found Arrays (One p) s = ⊥
-Found Arrays (Each n p) s = Unit {0}
-Found Counts (One p) s = ⊥
-Found Counts (Each n p) s = top s.run.operands ≡ place_at p s
-Found Picks (One p) s = ⊥
-Found Picks (Each n p) s = top (below s.run.operands) ≡ place_at p s
-Found Reads (One p) s = top s.run.operands ≡ place_at p s
-Found Reads (Each n p) s = (j : ℕ) × (top s.run.operands ≡ further (At Binding j) (place_at p s))
+Found Arrays (AtSpot p) s = ⊥
+Found Arrays (AtElement n p) s = Unit {0}
+Found Counts (AtSpot p) s = ⊥
+Found Counts (AtElement n p) s = top s.run.operands ≡ place_at p s
+Found Picks (AtSpot p) s = ⊥
+Found Picks (AtElement n p) s = top (below s.run.operands) ≡ place_at p s
+Found Reads (AtSpot p) s = top s.run.operands ≡ place_at p s
+Found Reads (AtElement n p) s = (j : ℕ) × (top s.run.operands ≡ further (At Binding j) (place_at p s))
 
 -- the scope of what is at a site is left, or it is a part of the object at hand and that is left, or it is the last element that stands of an array
-abbrev pub Leaves : Site → ℕ → Bool → List Todo → Type 0
-Leaves (One p) r written control = (todo : List Todo) ×
+abbrev pub Leaves : EndSite → ℕ → Bool → List Todo → Type 0
+Leaves (AtSpot p) r written control = (todo : List Todo) ×
     ((control ≡ Clean (ends_at p r written) ∷ todo) ⊎
-    ((control ≡ Unwind ∷ (Clean (ends_at p r written) ∷ todo)) ⊎
-    (IsOfField p × (control ≡ Unwind ∷ (Part (ends_at p r written) ∷ todo)))))
-Leaves (Each n p) r written control = (todo : List Todo) ×
-    (control ≡ Sweep (OfObject (EndOn r written (Load (element_at n p)))) ∷ todo)
+    ((control ≡ Unwind ∷ (Clean (ends_at p r written) ∷ todo)) ⊎ (control ≡ Unwind ∷ (Part (ends_at p r written) ∷ todo))))
+Leaves (AtElement n p) r written control = (todo : List Todo) ×
+    (control ≡ Sweep (OfObject (EndOn r written (Load (named (AtElement n p))))) ∷ todo)
 
 module _ (t : Table) (P : State → Type 0) where
   -- who is on the way was at such a clean-up before, in a state of which this held, with the same memory
   pub record Way (s : State) : Type 0 where
     pub stage : Stage
-    pub site : Site
+    pub site : EndSite
     pub routine : ℕ
     pub written : Bool
     pub class : ℕ
