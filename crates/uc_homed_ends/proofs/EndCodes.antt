@@ -12,7 +12,8 @@ use Rattle.uc_sound.specs.Formed.{IsFormed}
 use Rattle.uc_sound.specs.Tables.{table_of}
 use Rattle.uc_sound.proofs.SoundLemmas.{law_sound}
 use Rattle.uc_unmarked_laws.specs.Ending.{Spot, OfVariable, OfField}
-use Rattle.uc_putting_laws.specs.Calling.{Site, One, AnySite, IsField, HasCount, EndsWhole, OpensFor, NoSite, PlainExpr, PlainExprs, PlainMaybe, PlainItems, PlainTargets, PlainDeclared, PlainNew, Binds, PlaceAt, CallsAt, MakesAt, MakesEach, EndsAt, EndsEach, EndsNumber, Evaluates, FillsBy, SweepsBy, CleansBy, RaisesBy, CallingStmt, CallingStmts, CallingEvent, CallingHandlers, CallingTask, CallingClauses, Opening, CallingBody, CallingRoutine, CallingSource}
+use Rattle.uc_putting_laws.specs.CleanedSpots.{Site, NoSite, AnySite, IsAtVariable, OpensFor, IsSpotOf, Reach, reach_of, apart}
+use Rattle.uc_putting_laws.specs.Calling.{EndsWhole, PlainExpr, PlainExprs, PlainMaybe, PlainItems, PlainTargets, PlainDeclared, PlainNew, Binds, PlaceAt, CallsAt, MakesAt, MakesEach, EndsAt, EndsEach, EndsNumber, Evaluates, FillsBy, SweepsBy, CleansBy, RaisesBy, CallingStmt, CallingStmts, CallingEvent, CallingHandlers, CallingTask, CallingClauses, Opening, CallingBody, CallingRoutine, CallingSource}
 use Rattle.uc_putting_laws.specs.PuttingLaws.{special_of}
 use Rattle.uc_putting_laws.proofs.Routines.{law_calling}
 use Rattle.uc_homed_ends.specs.EndCode.{AtSpot, AtElement, FreeExpr, FreeExprs, FreeObject, FreeMaybe, FreeItems, FreeTargets, FreeDeclared, FreeRaised, EndOf, EndsSpot, EndsElement, FreeSweep, FreeClean, FreeStmt, FreeStmts, FreeEvent, FreeHandlers, FreeTask, FreeClauses, FreeRoutine, FreeSource}
@@ -103,149 +104,150 @@ module _ (t : Table) (source : Source) (special : ℕ → Bool) where
   new_or e (inl h) = expr e h
   new_or e (inr h) = newly e h
 
-  binds : (e : Expr) → Binds t source special e → FreeExpr e
-  binds (OfObject (src.Bind p e)) h = (expr p h.0, new_or e h.1)
-  binds e h = absurd h
+  module _ (r : Reach) where
+    module _ (P : Site → Type 0) where
+      place : (e : Expr) → PlaceAt t source special r P e → FreeExpr e
+      place (Variable k) h = tt
+      place (OfObject (OwnField s i)) h = tt
+      place (Element n s e i) h = (place e h.0, expr i h.1)
+      place e h = absurd h
 
-  module _ (made : Bool) where
-    place : (e : Expr) → PlaceAt t source special made e → FreeExpr e
-    place (Variable k) h = tt
-    place (OfObject (OwnField s i)) h = tt
-    place (Element n s e i) h = (place e h.0, expr i h.1)
-    place e h = absurd h
+      calls : (e : Expr) → CallsAt t source special r P e → FreeExpr e
+      calls (OfObject (src.CallOn q p args)) h = (place p h.1, exprs args h.2)
+      calls (OfObject (src.CallUnwritten q p)) h = place p h.1
+      calls e h = absurd h
 
-    calls : (e : Expr) → CallsAt t source special made e → FreeExpr e
-    calls (OfObject (src.CallOn r p args)) h = (place p h.1, exprs args h.2)
-    calls (OfObject (src.CallUnwritten r p)) h = place p h.1
-    calls e h = absurd h
+    binds : (e : Expr) → Binds t source special r e → FreeExpr e
+    binds (OfObject (src.Bind p e)) h = (place AnySite p h.0, new_or e h.1)
+    binds e h = absurd h
 
-    number : (e : Expr) → EndsNumber t source special made e → FreeExpr e
-    number (OfObject (src.EndCluster (Load p))) h = place p h
-    number (OfObject (src.EndProcessor (Load p))) h = place p h
+    number : (e : Expr) → EndsNumber t source special r e → FreeExpr e
+    number (OfObject (src.EndCluster (Load p))) h = place AnySite p h
+    number (OfObject (src.EndProcessor (Load p))) h = place AnySite p h
     number e h = absurd h
 
-    raises : (r : Raised) → RaisesBy t source special made r → FreeRaised r
+    raises : (x : Raised) → RaisesBy t source special r x → FreeRaised x
     raises (src.Plainly n) h = tt
-    raises (src.BuiltAt n k e) h = calls e h
+    raises (src.BuiltAt n k e) h = calls (λ x. IsAtVariable k x) e h
     raises (src.AgainFrom k) h = tt
 
     module _ (P : Site → Type 0) where
-      makes : (e : Expr) → MakesAt t source special made P e → FreeExpr e
-      makes (OfObject (src.MakeOn c r w (Variable k) args)) h = (tt, exprs args h.1)
-      makes (OfObject (src.MakeOn c r w (OfObject (OwnField s i)) args)) h = (tt, exprs args h.2)
+      makes : (e : Expr) → MakesAt t source special r P e → FreeExpr e
+      makes (OfObject (src.MakeOn c q w (Variable k) args)) h = (tt, exprs args h.2)
+      makes (OfObject (src.MakeOn c q w (OfObject (OwnField s i)) args)) h = (tt, exprs args h.2)
       makes e h = absurd h
 
-      makes_each : (e : Expr) → MakesEach t source special made P e → FreeExpr e
-      makes_each (OfObject (src.MakeOn c r w (Element n Binding (Variable k) (OfObject Counted)) args)) h = ((tt, tt), exprs args h.1)
-      makes_each (OfObject (src.MakeOn c r w (Element n Binding (OfObject (OwnField s i)) (OfObject Counted)) args)) h = ((tt, tt), exprs args h.2)
+      makes_each : (e : Expr) → MakesEach t source special r P e → FreeExpr e
+      makes_each (OfObject (src.MakeOn c q w (Element n Binding (Variable k) (OfObject Counted)) args)) h = ((tt, tt), exprs args h.2)
+      makes_each (OfObject (src.MakeOn c q w (Element n Binding (OfObject (OwnField s i)) (OfObject Counted)) args)) h = ((tt, tt), exprs args h.2)
       makes_each e h = absurd h
 
-      evaluates : (e : Expr) → Evaluates t source special made P e → FreeExpr e
+      evaluates : (e : Expr) → Evaluates t source special r P e → FreeExpr e
       evaluates e (inl h) = expr e h
       evaluates e (inr (inl h)) = binds e h
-      evaluates e (inr (inr (inl h))) = calls e h
+      evaluates e (inr (inr (inl h))) = calls P e h
       evaluates e (inr (inr (inr h))) = makes e h
 
-      fills : (e : Expr) → FillsBy t source special made P e → FreeExpr e
+      fills : (e : Expr) → FillsBy t source special r P e → FreeExpr e
       fills e (inl h) = binds e h
-      fills e (inr (inl h)) = calls e h
+      fills e (inr (inl h)) = calls P e h
       fills e (inr (inr h)) = makes_each e h
 
       module _ (g : Sig) (sc : List Name) where
-        spot : (e : Expr) → EndsAt t source special made P e → Fine t g sc e → EndsSpot t e
-        spot (OfObject (EndOn r w (Load (Variable k)))) h f =
+        spot : (e : Expr) → EndsAt t source special r P e → Fine t g sc e → EndsSpot t e
+        spot (OfObject (EndOn q w (Load (Variable k)))) h f =
             let x = f.1.1 in
-            (OfVariable k, record { routine = r; written = w; class = x.0; is = refl; this = x.2; whole = h.1.whole; mutex = x.4 })
-        spot (OfObject (EndOn r w (Load (OfObject (OwnField s i))))) h f =
+            (OfVariable k, record { routine = q; written = w; class = x.0; is = refl; this = x.2; whole = h.2.whole; mutex = x.4 })
+        spot (OfObject (EndOn q w (Load (OfObject (OwnField s i))))) h f =
             let x = f.1.1 in
-            (OfField s i, record { routine = r; written = w; class = x.0; is = refl; this = x.2; whole = h.2.whole; mutex = x.4 })
+            (OfField s i, record { routine = q; written = w; class = x.0; is = refl; this = x.2; whole = h.2.whole; mutex = x.4 })
         spot e h f = absurd h
 
-        element : (e : Expr) → EndsEach t source special made P e → Fine t g sc e → EndsElement t e
-        element (OfObject (EndOn r w (Load (Element n Binding (Variable k) (OfObject Counted))))) h f =
+        element : (e : Expr) → EndsEach t source special r P e → Fine t g sc e → EndsElement t e
+        element (OfObject (EndOn q w (Load (Element n Binding (Variable k) (OfObject Counted))))) h f =
             let x = f.1.1 in
-            (n, OfVariable k, record { routine = r; written = w; class = x.0; is = refl; this = x.2; whole = h.1.whole; mutex = x.4 })
-        element (OfObject (EndOn r w (Load (Element n Binding (OfObject (OwnField s i)) (OfObject Counted))))) h f =
+            (n, OfVariable k, record { routine = q; written = w; class = x.0; is = refl; this = x.2; whole = h.2.whole; mutex = x.4 })
+        element (OfObject (EndOn q w (Load (Element n Binding (OfObject (OwnField s i)) (OfObject Counted))))) h f =
             let x = f.1.1 in
-            (n, OfField s i, record { routine = r; written = w; class = x.0; is = refl; this = x.2; whole = h.2.whole; mutex = x.4 })
+            (n, OfField s i, record { routine = q; written = w; class = x.0; is = refl; this = x.2; whole = h.2.whole; mutex = x.4 })
         element e h f = absurd h
 
-        sweeps : (e : Expr) → SweepsBy t source special made P e → Fine t g sc e → FreeSweep t e
+        sweeps : (e : Expr) → SweepsBy t source special r P e → Fine t g sc e → FreeSweep t e
         sweeps e (inl h) f = inl (number e h)
-        sweeps e (inr (inl h)) f = inl (calls e h)
+        sweeps e (inr (inl h)) f = inl (calls P e h)
         sweeps e (inr (inr h)) f = inr (element e h f)
 
-        destroys : (e : Expr) → EndsNumber t source special made e ⊎ (CallsAt t source special made e ⊎ EndsAt t source special made P e) → Fine t g sc e → FreeClean t (src.Destroys e)
+        destroys : (e : Expr) → EndsNumber t source special r e ⊎ (CallsAt t source special r P e ⊎ EndsAt t source special r P e) → Fine t g sc e → FreeClean t (src.Destroys e)
         destroys e (inl h) f = inl (number e h)
-        destroys e (inr (inl h)) f = inl (calls e h)
+        destroys e (inr (inl h)) f = inl (calls P e h)
         destroys e (inr (inr h)) f = inr (spot e h f)
 
-    cleans : (P : Site → Type 0) (g : Sig) (sc : List Name) (c : CleanUp) → CleansBy t source special made P c → FineClean t g sc c → FreeClean t c
-    cleans P g sc (src.Destroys e) h f = destroys P g sc e h f
-    cleans P g sc (src.DestroysAll n e) h f = sweeps (λ x. P x × HasCount n x) g sc e h f
-    cleans P g sc c h f = tt
+    cleans : (g : Sig) (sc : List Name) (c : CleanUp) → CleansBy t source special r c → FineClean t g sc c → FreeClean t c
+    cleans g sc (src.Destroys e) h f = destroys (λ x. IsSpotOf (src.Destroys e) x) g sc e h f
+    cleans g sc (src.DestroysAll n e) h f = sweeps (λ x. IsSpotOf (src.DestroysAll n e) x) g sc e h f
+    cleans g sc c h f = tt
 
   -- statements
 
   mutual
-    stmt : (n : Near) (made : Bool) (g : Sig) (sc : List Name) (a : Stmt) → CallingStmt t source special (site_of n) made a → FineStmt t g sc a → FreeStmt t a
-    stmt n made g sc (src.Skip line) h f = tt
-    stmt n made g sc (src.Block line code) h f = stmts made g sc code h f
-    stmt n made g sc (src.Whole line code) h f = stmts made g sc code h f.0
-    stmt n made g sc (src.Evaluate line e) h f = evaluates made (site_of n) e h
-    stmt n made g sc (src.Declare line ds) h f = declared ds h
-    stmt n made g sc (src.Print line is) h f = items is h
-    stmt n made g sc (src.PrintTogether line is) h f = items is h
-    stmt n made g sc (src.Read line xs) h f = targets xs h
-    stmt n made g sc (src.If line e a b) h f = (expr e h.0, stmt Nothing_near made g sc a h.1 f.1, stmt Nothing_near made g sc b h.2 f.2)
-    stmt n made g sc (src.Loop line o e step b) h f = (expr e h.0, maybe step h.1, stmt Nothing_near made g sc b h.2 f.2)
-    stmt n made g sc (src.Break line) h f = tt
-    stmt n made g sc (src.Continue line) h f = tt
-    stmt n made g sc (src.Return line e) h f = maybe e h
-    stmt n made g sc (src.Owes line) h f = tt
-    stmt n made g sc (src.Fill line m b d) h f = (fills made (site_of n) b h.0, sweeps made (site_of n) g sc d h.1 f.1)
-    stmt n made g sc (src.OfEvents a) h f = event made g sc a h f
-    stmt n made g sc (src.OfTasks a) h f = task made g sc a h f
+    stmt : (n : Near) (r : Reach) (g : Sig) (sc : List Name) (a : Stmt) → CallingStmt t source special (site_of n) r a → FineStmt t g sc a → FreeStmt t a
+    stmt n r g sc (src.Skip line) h f = tt
+    stmt n r g sc (src.Block line code) h f = stmts (apart r) g sc code h f
+    stmt n r g sc (src.Whole line code) h f = stmts (apart r) g sc code h f.0
+    stmt n r g sc (src.Evaluate line e) h f = evaluates r (site_of n) e h
+    stmt n r g sc (src.Declare line ds) h f = declared ds h
+    stmt n r g sc (src.Print line is) h f = items is h
+    stmt n r g sc (src.PrintTogether line is) h f = items is h
+    stmt n r g sc (src.Read line xs) h f = targets xs h
+    stmt n r g sc (src.If line e a b) h f = (expr e h.0, stmt Nothing_near (apart r) g sc a h.1 f.1, stmt Nothing_near (apart r) g sc b h.2 f.2)
+    stmt n r g sc (src.Loop line o e step b) h f = (expr e h.0, maybe step h.1, stmt Nothing_near (apart r) g sc b h.2 f.2)
+    stmt n r g sc (src.Break line) h f = tt
+    stmt n r g sc (src.Continue line) h f = tt
+    stmt n r g sc (src.Return line e) h f = maybe e h
+    stmt n r g sc (src.Owes line) h f = tt
+    stmt n r g sc (src.Fill line m b d) h f = (fills r (site_of n) b h.0, sweeps r (site_of n) g sc d h.1 f.1)
+    stmt n r g sc (src.OfEvents a) h f = event r g sc a h f
+    stmt n r g sc (src.OfTasks a) h f = task r g sc a h f
 
-    stmts : (made : Bool) (g : Sig) (sc : List Name) (ss : Stmts) → CallingStmts t source special made ss → FineStmts t g sc ss → FreeStmts t ss
-    stmts made g sc src.Nil h f = tt
-    stmts made g sc (src.Then a rest) h f = (stmt (Near_by rest) made g sc a h.0 f.0, stmts made g sc rest h.1 f.1)
-    stmts made g sc (src.Scoped c rest) h f = (cleans made AnySite g sc c h.0 f.3, stmts made g (f.0 ∷ sc) rest h.1 f.2)
-    stmts made g sc (src.Built c rest) h f = (cleans made IsField g sc c h.0 f.1.0, stmts made g sc rest h.1 f.0)
+    stmts : (r : Reach) (g : Sig) (sc : List Name) (ss : Stmts) → CallingStmts t source special r ss → FineStmts t g sc ss → FreeStmts t ss
+    stmts r g sc src.Nil h f = tt
+    stmts r g sc (src.Then a rest) h f = (stmt (Near_by rest) r g sc a h.0 f.0, stmts r g sc rest h.1 f.1)
+    stmts r g sc (src.Scoped c rest) h f = (cleans r g sc c h.0 f.3, stmts r g (f.0 ∷ sc) rest h.1 f.2)
+    stmts r g sc (src.Built c rest) h f = (cleans r g sc c h.0 f.1.0, stmts r g sc rest h.1 f.0)
 
-    event : (made : Bool) (g : Sig) (sc : List Name) (a : EventStmt) → CallingEvent t source special made a → FineEvent t g sc a → FreeEvent t a
-    event made g sc (src.Throw line r) h f = raises made r h
-    event made g sc (src.Raise line r) h f = raises made r h
-    event made g sc (src.Try line code hs) h f = (stmts made g sc code h.0 f.0, handlers made g sc hs h.1 f.1)
-    event made g sc (src.RaiseAt line r e) h f = (raises made r h.0, expr e h.1)
-    event made g sc (src.Enable line events cell a) h f = stmt Nothing_near made g (Kept ∷ sc) a h f
-    event made g sc (src.Disable line events cell a) h f = stmt Nothing_near made g (Kept ∷ sc) a h f
+    event : (r : Reach) (g : Sig) (sc : List Name) (a : EventStmt) → CallingEvent t source special r a → FineEvent t g sc a → FreeEvent t a
+    event r g sc (src.Throw line x) h f = raises r x h
+    event r g sc (src.Raise line x) h f = raises r x h
+    event r g sc (src.Try line code hs) h f = (stmts (apart r) g sc code h.0 f.0, handlers (apart r) g sc hs h.1 f.1)
+    event r g sc (src.RaiseAt line x e) h f = (raises r x h.0, expr e h.1)
+    event r g sc (src.Enable line events cell a) h f = stmt Nothing_near (apart r) g (Kept ∷ sc) a h f
+    event r g sc (src.Disable line events cell a) h f = stmt Nothing_near (apart r) g (Kept ∷ sc) a h f
 
-    handlers : (made : Bool) (g : Sig) (sc : List Name) (hs : Handlers) → CallingHandlers t source special made hs → FineHandlers t g sc hs → FreeHandlers t hs
-    handlers made g sc src.NoHandlers h f = tt
-    handlers made g sc (src.MoreHandlers resumes kind cell line code rest) h f = (stmts made g sc code h.0 f.0, handlers made g sc rest h.1 f.1)
+    handlers : (r : Reach) (g : Sig) (sc : List Name) (hs : Handlers) → CallingHandlers t source special r hs → FineHandlers t g sc hs → FreeHandlers t hs
+    handlers r g sc src.NoHandlers h f = tt
+    handlers r g sc (src.MoreHandlers resumes kind cell line code rest) h f = (stmts r g sc code h.0 f.0, handlers r g sc rest h.1 f.1)
 
-    task : (made : Bool) (g : Sig) (sc : List Name) (a : TaskStmt) → CallingTask t source special made a → FineTask t g sc a → FreeTask t a
-    task made g sc (src.Migrate line e) h f = expr e h
-    task made g sc (src.Accept line site cs) h f = clauses made g sc cs h f.2
-    task made g sc a h f = tt
+    task : (r : Reach) (g : Sig) (sc : List Name) (a : TaskStmt) → CallingTask t source special r a → FineTask t g sc a → FreeTask t a
+    task r g sc (src.Migrate line e) h f = expr e h
+    task r g sc (src.Accept line site cs) h f = clauses (apart r) g sc cs h f.2
+    task r g sc a h f = tt
 
-    clauses : (made : Bool) (g : Sig) (sc : List Name) (cs : Clauses) → CallingClauses t source special made cs → FineClauses t g sc cs → FreeClauses t cs
-    clauses made g sc src.NoClauses h f = tt
-    clauses made g sc (src.Otherwise b) h f = stmt Nothing_near made g sc b h f
-    clauses made g sc (src.MoreClauses guard b cs) h f = (expr guard h.0, stmt Nothing_near made g sc b h.1 f.0, clauses made g sc cs h.2 f.1)
+    clauses : (r : Reach) (g : Sig) (sc : List Name) (cs : Clauses) → CallingClauses t source special r cs → FineClauses t g sc cs → FreeClauses t cs
+    clauses r g sc src.NoClauses h f = tt
+    clauses r g sc (src.Otherwise b) h f = stmt Nothing_near r g sc b h f
+    clauses r g sc (src.MoreClauses guard b cs) h f = (expr guard h.0, stmt Nothing_near r g sc b h.1 f.0, clauses r g sc cs h.2 f.1)
 
   -- routines
 
-  opening : (g : Sig) (ss : Stmts) → Opening t source special ss → FineStmts t g [] ss → FreeStmts t ss
-  opening g (src.Scoped src.Ends rest) h f = (tt, stmts true g (f.0 ∷ []) rest h f.2)
-  opening g (src.Scoped (src.Frees r) rest) h f = (tt, stmts true g (f.0 ∷ []) rest h.1 f.2)
-  opening g ss h f = absurd h
+  opening : (r : Reach) (g : Sig) (ss : Stmts) → Opening t source special r ss → FineStmts t g [] ss → FreeStmts t ss
+  opening r g (src.Scoped src.Ends rest) h f = (tt, stmts r g (f.0 ∷ []) rest h.0 f.2)
+  opening r g (src.Scoped (src.Frees q) rest) h f = (tt, stmts r g (f.0 ∷ []) rest h.1 f.2)
+  opening r g ss h f = absurd h
 
   body : (b : Bool) (g : Sig) (ss : Stmts) → CallingBody t source special b ss → FineStmts t g [] ss → FreeStmts t ss
-  body true g ss (inl h) f = stmts true g [] ss h f
-  body true g ss (inr h) f = opening g ss h f
-  body false g ss h f = stmts false g [] ss h f
+  body true g ss (inl h) f = stmts (reach_of true) g [] ss h.0 f
+  body true g ss (inr h) f = opening (reach_of true) g ss h f
+  body false g ss h f = stmts (reach_of false) g [] ss h f
 
   routine : (b : Bool) (g : Sig) (r : Option Routine) → CallingRoutine t source special b r → ((x : Routine) → r ≡ Some x → Routine_is t g x) → FreeRoutine t r
   routine b g None h f = tt
