@@ -70,7 +70,7 @@ module _ (source : Source) (told : Aspect → Bool) where
   -- where no scope is open, nothing is owed
   pub none_marked : (f : First) → IsBehind f → (todo : List Todo) → Entered source told f todo → NoScopes todo → marks todo ≡ 0
   none_marked f b [] h n = refl
-  none_marked f b (p ∷ todo) h n = by (owes p) refl
+  none_marked f b (p ∷ todo) h n = by (owes p) refl (λ k. none_marked (next p) (next_behind p) todo h.1 k)
     where
       rest : (q : Todo) → NoScopes (q ∷ todo) → NoScopes todo
       rest (piece.Clean c) k = absurd k
@@ -79,9 +79,9 @@ module _ (source : Source) (told : Aspect → Bool) where
       unscoped : (c : CleanUp) → p ≡ piece.Clean c → ⊥
       unscoped c e = subst (λ q. NoScopes (q ∷ todo)) e n
 
-      by : (c : Bool) → owes p ≡ c → more c (marks todo) ≡ 0
-      by true e = let x = scope_of f p b h.0 e in absurd (unscoped x.clean x.is)
-      by false e = none_marked (next p) (next_behind p) todo h.1 (rest p n)
+      by : (c : Bool) → owes p ≡ c → (NoScopes todo → marks todo ≡ 0) → more c (marks todo) ≡ 0
+      by true e ih = let x = scope_of f p b h.0 e in absurd (unscoped x.clean x.is)
+      by false e ih = ih (rest p n)
 
   module _ (t : Table) (g : Sig) (base : List Name) where
     -- what stands behind a piece
