@@ -2,9 +2,6 @@ pub mod ThisKeeping
 pub mod ThisSteps
 pub mod ThisWalk
 pub mod ThisRuns
-pub mod Wholes
-pub mod CallsStates
-pub mod CallsRuns
 pub mod NoOthers
 pub mod Upheld
 pub mod BeforeWorlds

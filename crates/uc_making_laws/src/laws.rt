@@ -1,7 +1,6 @@
 // The laws: each is a function whose contract is the law.
 
 ghost use Rattle.uc_making_laws.specs.BeforeRides.{LawBeforeRides};
-ghost use Rattle.uc_making_laws.specs.CallsRuns.{LawCallsRuns};
 ghost use Rattle.uc_making_laws.specs.NoOthers.{LawNoOthers};
 ghost use Rattle.uc_making_laws.specs.OwnThis.{LawThis};
 ghost use Rattle.uc_making_laws.specs.ThisRuns.{LawThisRuns};
@@ -15,12 +14,6 @@ pub fn law_this()
 /// So it is in each run in which it is so of what is called, made and spawned.
 pub fn law_this_runs()
     ensures { LawThisRuns }
-{}
-
-/// In runs of programs that break no rule what is called, made and spawned is had, as long as steps find what
-/// they are to find.
-pub fn law_calls_runs()
-    ensures { LawCallsRuns }
 {}
 
 /// Nobody else builds or destroys an object that is at home in what is one's own, and at hand of nobody.

@@ -1,5 +1,5 @@
 -- What is called, made and spawned is had: it is known to who calls, or is at home in what is its own.
-use Rattle.std.proofs.Common.{◌≡◌, ℕ, ◌⊎◌, inl, inr, Bool, true, false, List, [], ◌∷◌, length, drop, Option, Some, None, refl, sym, ap, ◌∙◌, subst, ⊎_elim}
+use Rattle.std.proofs.Common.{◌≡◌, ℕ, ◌⊎◌, inl, inr, suc, Bool, true, false, List, [], ◌∷◌, length, drop, Option, Some, None, refl, sym, ap, ◌∙◌, subst, arith, ⊎_elim}
 use Rattle.std.specs.Prelude.{slice_get}
 use Rattle.uc_tree.specs.Programs.{Program}
 use Rattle.uc_tree.specs.Source.{Source, Routine}
@@ -12,8 +12,6 @@ use Rattle.uc_machine.specs.Pieces.{Value, Object, Todo, Active, State, Members,
 use Rattle.uc_machine.specs.Quiet.{home_at}
 use Rattle.uc_resolve.specs.Resolve.{source_of}
 use Rattle.uc_rules.specs.Breaks.{breaks_of}
-use Rattle.uc_scope_laws.specs.Layout.{Sized}
-use Rattle.uc_scope_laws.specs.RoomStacks.{StackState}
 use Rattle.uc_name_laws.proofs.Homes.{no_both}
 use Rattle.uc_typing.specs.Typing.{Ty, Cell, Obj, Raw, Sig, Table, object_ty, IsMain, InMutex, Executing}
 use Rattle.uc_typing.specs.Pieces.{Ok, onto, CallsOn}
@@ -33,18 +31,18 @@ use Rattle.uc_life_laws.proofs.Reading.{within_raw, in_raw}
 use Rattle.uc_world_laws.specs.Rooted.{IsPlace}
 use Rattle.uc_world_laws.proofs.Rooted.{within_object, things_place, stands_things}
 use Rattle.uc_unmarked_laws.specs.Belonging.{Belongs, object}
-use Rattle.uc_unmarked_laws.specs.Marks.{LoneState}
-use Rattle.uc_unmarked_laws.specs.Ending.{calling}
-use Rattle.uc_putting_laws.specs.Calling.{Site, is_opening, opens_at}
-use Rattle.uc_putting_laws.specs.Putting.{Setting, Around, IsHome, Mark, rests, FirstOwn, FirstHome, OneNext, StandsAt, HomedAt, Holds, LoneAt, CallFits, PutState}
+use Rattle.uc_unmarked_laws.specs.Ending.{Spot, calling}
+use Rattle.uc_putting_laws.specs.CleanedSpots.{Under, site_spot, IsOf}
+use Rattle.uc_putting_laws.specs.ObjectsAtHand.{LiesUnder}
 use Rattle.uc_putting_laws.specs.Putting as putting
-use Rattle.uc_putting_laws.specs.PuttingLaws.{special_of, setting_of, SolePart, FairAt, Fair}
-use Rattle.uc_putting_laws.proofs.Marks.{holds_own, holds_drop, home_of}
-use Rattle.uc_putting_laws.proofs.Lone.{opened}
+use Rattle.uc_putting_laws.specs.Putting.{Setting, rests, FirstUnder, FirstHome, IsIn, LoneAt, CallFits, PutState, spot_at}
+use Rattle.uc_putting_laws.specs.PuttingLaws.{special_of, setting_of}
+use Rattle.uc_putting_laws.proofs.Marks.{holds_drop, home_of, under_of, stands_under, under_spot}
+use Rattle.uc_putting_laws.proofs.ObjectsWithin.{below_own}
 use Rattle.uc_putting_laws.proofs.Steps.{here}
 use Rattle.uc_making_laws.specs.OwnThis.{HasHome, Has, ThisStack, ThisState, CallsAt, Calls, FindsThis}
 use Rattle.uc_making_laws.proofs.ThisSteps.{more, again}
-use Rattle.uc_making_laws.proofs.Wholes.{plain_whole}
+use Rattle.uc_making_programs.proofs.Wholes.{plain_whole}
 
 module _ (t : Table) (few : Few) (places : (n : Exec) (w : Value) (b : Ty) → Base few n w b → IsPlace w) where
   -- what is the execution's own
@@ -126,19 +124,22 @@ module _ (p : Program) (formed : IsFormed p) (accepted : breaks_of p ≡ []) (fe
   sound : Sound (table_of p) (source_of p)
   sound = law_sound p formed accepted
 
-  module _ (s : State) (st : StackState (Sized p) s) (lone : LoneState (table_of p) few s) (put : PutState (setting_of p few) s) (fair : Fair (setting_of p few) s) (k : KnowsState (table_of p) few [] s) (this : ThisState (table_of p) few s) where
+  module _ (s : State) (put : PutState (setting_of p few) s) (k : KnowsState (table_of p) few [] s) (this : ThisState (table_of p) few s) where
     -- a constructor or a destructor finds its object the execution's own
-    lone_own : (v : Value) (todo : List Todo) (y : Site) (h : HomedAt few (here s) y v) → LoneAt (table_of p) few (here s) todo y → Belongs few s.env.exec v
-    lone_own v todo y h l =
-        subst (Belongs few s.env.exec) (sym h.2.object) (object (l h.2.number (subst (StandsAt few (here s) y) (sym h.2.home) h.1)).0)
+    spot_own : (y : Spot) → IsOf put.run.made y → (v : Value) → LiesUnder (spot_at few (here s) y) v → Belongs few s.env.exec v
+    spot_own y i v u = below_own few s.env.exec (suc s.run.frame) v (under_spot few (here s) put.run.made put.run.this.own (suc s.run.frame) (omega (arith)) y i v u)
 
-    called_own : (written : Bool) (r : ℕ) (todo : List Todo) (x : Routine) → s.run.control ≡ calling written r ∷ todo → special_of p r ≡ true → SolePart (setting_of p few) todo s → CallFits (setting_of p few) (here s) put.run.made r put.run.marks todo → putting.Ok (setting_of p few) (here s) put.run.made (putting.after (setting_of p few) (calling written r) put.run.marks) todo → params (source_of p) r ≡ x.params → Belongs few s.env.exec (top (drop x.params s.run.operands))
-    called_own written r todo x e special sole (inl f) behind n = no_both (special_of p r) special f
-    called_own written r todo x e special sole (inr (inl f)) behind n =
-        holds_own few (here s) (rests x.params put.run.marks) (drop x.params s.run.operands) (holds_drop few (here s) x.params put.run.marks s.run.operands put.run.holds) (subst (λ m. FirstOwn (rests m put.run.marks)) n f.1)
-    called_own written r todo x e special sole (inr (inr f)) behind n =
-        let h = home_of few (here s) (rests x.params put.run.marks) (drop x.params s.run.operands) (holds_drop few (here s) x.params put.run.marks s.run.operands put.run.holds) (λ y. LoneAt (table_of p) few (here s) todo y ⊎ OneNext todo y) (subst (λ m. FirstHome (rests m put.run.marks) (λ y. LoneAt (table_of p) few (here s) todo y ⊎ OneNext todo y)) n f) in
-        lone_own (top (drop x.params s.run.operands)) todo h.0 h.1 (⊎_elim (λ z. z) (λ z. opened p (setting_of p few) s st lone put.run.made put.run.this written r (putting.after (setting_of p few) (calling written r) put.run.marks) todo e behind sole h.0 z) h.2)
+    called_own : (r : ℕ) (todo : List Todo) (x : Routine) → special_of p r ≡ true → CallFits (setting_of p few) (here s) put.run.made r put.run.marks todo → params (source_of p) r ≡ x.params → Belongs few s.env.exec (top (drop x.params s.run.operands))
+    called_own r todo x special (inl f) n = no_both (special_of p r) special f
+    called_own r todo x special (inr (inl f)) n =
+        let v = top (drop x.params s.run.operands) in
+        let h = under_of few (here s) (rests x.params put.run.marks) (drop x.params s.run.operands) (holds_drop few (here s) x.params put.run.marks s.run.operands put.run.holds) (λ y. IsOf put.run.made y × LoneAt (table_of p) few (here s) todo (Under y)) (subst (λ m. FirstUnder (rests m put.run.marks) (λ y. IsOf put.run.made y × LoneAt (table_of p) few (here s) todo (Under y))) n f.1) in
+        spot_own h.0 h.2.0 (top (drop x.params s.run.operands)) h.1
+    called_own r todo x special (inr (inr f)) n =
+        let h = home_of few (here s) (rests x.params put.run.marks) (drop x.params s.run.operands) (holds_drop few (here s) x.params put.run.marks s.run.operands put.run.holds) (λ y. IsIn put.run.made y × LoneAt (table_of p) few (here s) todo y) (subst (λ m. FirstHome (rests m put.run.marks) (λ y. IsIn put.run.made y × LoneAt (table_of p) few (here s) todo y)) n f) in
+        let z = h.1 in
+        let place : Belongs few s.env.exec z.0 = spot_own (site_spot h.0) h.2.0 z.0 (stands_under few (here s) h.0 z.0 z.1) in
+        subst (Belongs few s.env.exec) (sym z.2.object) (object (subst (Belongs few s.env.exec) (sym z.2.home) place))
 
     -- the operand below the arguments is known
     operand : (r : ℕ) (x : Routine) (c : ℕ) (rest : List Ty) → slice_get (source_of p).routines r ≡ Some x → k.run.own ≡ onto ((table_of p).routine r).params (object_ty ((table_of p).routine r).whole c ∷ rest) → Known (table_of p) few s.env.exec (AtHand (table_of p) few s.env.exec k.sigs (s.run ∷ s.callers)) (object_ty ((table_of p).routine r).whole c) (top (drop x.params s.run.operands))
@@ -157,8 +158,8 @@ module _ (p : Program) (formed : IsFormed p) (accepted : breaks_of p ≡ []) (fe
     fewer false r todo vs e v h =
         again (table_of p) few s.env.exec v (record s.run { control = piece.CallUnwrittenNow r ∷ todo }) (record s.run { control = todo; operands = vs }) s.callers (λ w a x. x) (subst (λ l. Has (table_of p) few s.env.exec (record s.run { control = l } ∷ s.callers) v) e h)
 
-    called : (written : Bool) (r : ℕ) (todo : List Todo) (x : Routine) → s.run.control ≡ calling written r ∷ todo → slice_get (source_of p).routines r ≡ Some x → SolePart (setting_of p few) todo s → CallFits (setting_of p few) (here s) put.run.made r put.run.marks todo → putting.Ok (setting_of p few) (here s) put.run.made (putting.after (setting_of p few) (calling written r) put.run.marks) todo → (c : ℕ) (rest : List Ty) → k.run.own ≡ onto ((table_of p).routine r).params (object_ty ((table_of p).routine r).whole c ∷ rest) → Has (table_of p) few s.env.exec (record s.run { control = todo; operands = below (drop x.params s.run.operands) } ∷ s.callers) (top (drop x.params s.run.operands))
-    called written r todo x e q sole f behind c rest own =
+    called : (written : Bool) (r : ℕ) (todo : List Todo) (x : Routine) → s.run.control ≡ calling written r ∷ todo → slice_get (source_of p).routines r ≡ Some x → CallFits (setting_of p few) (here s) put.run.made r put.run.marks todo → (c : ℕ) (rest : List Ty) → k.run.own ≡ onto ((table_of p).routine r).params (object_ty ((table_of p).routine r).whole c ∷ rest) → Has (table_of p) few s.env.exec (record s.run { control = todo; operands = below (drop x.params s.run.operands) } ∷ s.callers) (top (drop x.params s.run.operands))
+    called written r todo x e q f c rest own =
         fewer written r todo (below (drop x.params s.run.operands)) e (top (drop x.params s.run.operands)) (by ((table_of p).routine r).whole refl (operand r x c rest q own))
       where
         is_special : (b : Bool) → special_of p r ≡ b → ((table_of p).routine r).whole ≡ true → special_of p r ≡ true
@@ -168,19 +169,19 @@ module _ (p : Program) (formed : IsFormed p) (accepted : breaks_of p ≡ []) (fe
         by : (b : Bool) → ((table_of p).routine r).whole ≡ b → Known (table_of p) few s.env.exec (AtHand (table_of p) few s.env.exec k.sigs (s.run ∷ s.callers)) (object_ty b c) (top (drop x.params s.run.operands)) → Has (table_of p) few s.env.exec (s.run ∷ s.callers) (top (drop x.params s.run.operands))
         by false w h = whole_has (table_of p) few places s.env.exec k.sigs (s.run ∷ s.callers) c (top (drop x.params s.run.operands)) this.stack h
         by true w h =
-            own_has (table_of p) few places s.env.exec (s.run ∷ s.callers) (top (drop x.params s.run.operands)) (called_own written r todo x e (is_special (special_of p r) refl w) sole f behind (ap params_at q))
+            own_has (table_of p) few places s.env.exec (s.run ∷ s.callers) (top (drop x.params s.run.operands)) (called_own r todo x (is_special (special_of p r) refl w) f (ap params_at q))
 
     -- each step
-    on : (l : List Todo) → s.run.control ≡ l → (life : LifeState (table_of p) few s) → Meets (table_of p) few s → FairAt (setting_of p few) l s → putting.Ok (setting_of p few) (here s) put.run.made put.run.marks l → Ok (table_of p) k.run.sig k.run.base k.run.scope l k.run.own → CallsAt (table_of p) few (source_of p) l s
-    on (piece.CallOnNow r ∷ todo) e life m f o h = λ x q. called true r todo x e q f o.0 o.1 h.1 h.0 h.2.0
-    on (piece.CallUnwrittenNow r ∷ todo) e life m f o h = λ x q. called false r todo x e q f o.0 o.1 h.1 h.0 h.2.0
-    on (piece.SetUpNow r ∷ todo) e life m f o h = λ n i.
+    on : (l : List Todo) → s.run.control ≡ l → (life : LifeState (table_of p) few s) → Meets (table_of p) few s → putting.Ok (setting_of p few) (here s) put.run.made put.run.marks l → Ok (table_of p) k.run.sig k.run.base k.run.scope l k.run.own → CallsAt (table_of p) few (source_of p) l s
+    on (piece.CallOnNow r ∷ todo) e life m o h = λ x q. called true r todo x e q o.0 h.1 h.0 h.2.0
+    on (piece.CallUnwrittenNow r ∷ todo) e life m o h = λ x q. called false r todo x e q o.0 h.1 h.0 h.2.0
+    on (piece.SetUpNow r ∷ todo) e life m o h = λ n i.
         let z = (m life k).1 in
         let finds : Finds (table_of p) few z.0.sigs z.0.run.sig z.0.run.scope s (piece.SetUpNow r ∷ todo) z.0.run.own = subst (λ l. Finds (table_of p) few z.0.sigs z.0.run.sig z.0.run.scope s l z.0.run.own) e z.1 in
         let ok : Ok (table_of p) z.0.run.sig z.0.run.base z.0.run.scope (piece.SetUpNow r ∷ todo) z.0.run.own = subst (λ l. Ok (table_of p) z.0.run.sig z.0.run.base z.0.run.scope l z.0.run.own) e z.0.run.ok in
         let at = ok.1 in
         based_value (table_of p) few places (new_exec (home_at s.run.this s.env) s.env) at.0 s.run.this ((finds n i).1 at.0 at.1)
-    on (piece.SpawnNow r ∷ todo) e life m f o h =
+    on (piece.SpawnNow r ∷ todo) e life m o h =
         let z = (m life k).1 in
         let finds : Finds (table_of p) few z.0.sigs z.0.run.sig z.0.run.scope s (piece.SpawnNow r ∷ todo) z.0.run.own = subst (λ l. Finds (table_of p) few z.0.sigs z.0.run.sig z.0.run.scope s l z.0.run.own) e z.1 in
         let ok : Ok (table_of p) z.0.run.sig z.0.run.base z.0.run.scope (piece.SpawnNow r ∷ todo) z.0.run.own = subst (λ l. Ok (table_of p) z.0.run.sig z.0.run.base z.0.run.scope l z.0.run.own) e z.0.run.ok in
@@ -189,7 +190,7 @@ module _ (p : Program) (formed : IsFormed p) (accepted : breaks_of p ≡ []) (fe
       where
         spawned : (c : ℕ) → knowing.HasObject (table_of p) few (Some c) (object_in s.run.this) → HasHome (table_of p) few (main_of (this_object s)) [] (this_object s)
         spawned c z = based_has (table_of p) few places (main_of (this_object s)) (this_object s) c z
-    on l e life m f o h = tt
+    on l e life m o h = tt
 
     pub calls : LifeState (table_of p) few s → Meets (table_of p) few s → Calls (table_of p) few (source_of p) s
-    calls life m = on s.run.control refl life m fair put.run.ok k.run.ok
+    calls life m = on s.run.control refl life m put.run.ok k.run.ok

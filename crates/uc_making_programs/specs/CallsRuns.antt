@@ -11,8 +11,6 @@ use Rattle.uc_meaning.specs.Runs.{World, Runs}
 use Rattle.uc_program_laws.specs.Fitting.{RunFits}
 use Rattle.uc_resolve.specs.Resolve.{source_of}
 use Rattle.uc_rules.specs.Breaks.{breaks_of}
-use Rattle.uc_scope_laws.specs.Layout.{Sized}
-use Rattle.uc_scope_laws.specs.RoomStacks.{StackState}
 use Rattle.uc_value_laws.specs.Opens.{RunMeets}
 use Rattle.uc_typing.specs.Typing.{Ty}
 use Rattle.uc_sound.specs.Formed.{IsFormed}
@@ -23,21 +21,19 @@ use Rattle.uc_life_laws.specs.Knowing.{KnowsState}
 use Rattle.uc_life_laws.specs.KnownAnswers.{MainPasses}
 use Rattle.uc_life_laws.specs.KnownRuns.{PassesBelow, Meets}
 use Rattle.uc_world_laws.specs.Rooted.{IsPlace}
-use Rattle.uc_unmarked_laws.specs.Marks.{LoneState}
 use Rattle.uc_putting_laws.specs.Putting.{PutState}
 use Rattle.uc_putting_laws.specs.PuttingLaws.{special_of, setting_of, Fair}
 use Rattle.uc_making_laws.specs.OwnThis.{FindsThis}
 use Rattle.uc_making_laws.specs.ThisRuns.{KeepsThis}
 
--- what is called that is left as a whole is a constructor or a destructor. A step finds what it is to find where all is known, what is in scope holds what
--- is known, places of the objects that are built and destroyed are among operands, and it finds what is left to find; where executions have places alone
--- of others. So it is in each run in which all that was asked so far fits
+-- what is left as a whole is a constructor or a destructor. A step finds what is called, made and spawned had where all is known, what is in scope holds
+-- what is known, and of operands it is known what is the execution's own (`PutState` of uc_putting_laws), where executions have places alone of others. So
+-- it is in each run in which all that was asked so far fits
 pub record LawCallsRuns : Type 0 where
   pub special : (p : Program) (r : ℕ) → special_of p r ≡ false → ((table_of p).routine r).whole ≡ false
   pub state : (p : Program) → IsFormed p → breaks_of p ≡ [] → (few : Few) →
       ((n : Exec) (w : Value) (b : Ty) → Base few n w b → IsPlace w) →
-      (s : State) → StackState (Sized p) s → LoneState (table_of p) few s → PutState (setting_of p few) s →
-      Fair (setting_of p few) s → LifeState (table_of p) few s → KnowsState (table_of p) few [] s →
+      (s : State) → PutState (setting_of p few) s → LifeState (table_of p) few s → KnowsState (table_of p) few [] s →
       Meets (table_of p) few s → FindsThis (table_of p) few (source_of p) s
   pub runs : (p : Program) → IsFormed p → breaks_of p ≡ [] → (few : Few) →
       ((n : Exec) (w : Value) (b : Ty) → Base few n w b → IsPlace w) →
