@@ -42,7 +42,7 @@ use Rattle.uc_life_laws.proofs.Parked.{found_hand}
 use Rattle.uc_world_laws.proofs.Fewer.{both_members, both_env}
 use Rattle.uc_own_names.specs.OwnNames.{at_hand, IsOwn, StaysOwn, IsElsewhere}
 use Rattle.uc_own_names.proofs.OwnNamesLemmas.{law_own_names}
-use Rattle.uc_own_names.proofs.OwnRides.{Settled, settled_keys, ride_owns, start as own_start}
+use Rattle.uc_own_names.proofs.OwnRides.{Settled, ride_owns, start as own_start}
 use Rattle.uc_apart_laws.specs.Before.{world_at}
 use Rattle.uc_rooted_runs.specs.Makers.{Placed, Makers}
 use Rattle.uc_rooted_runs.specs.Births.{MakesLater, AllMadeLater}
@@ -79,6 +79,14 @@ or_first : (b c : Bool) → (b || c) ≡ false → b ≡ false
 or_first true c h = absurd (cc)
 or_first false c h = refl
 
+not_there : (o : ℕ) (m : Members) (qs : List (ℕ × Members)) → find o qs ≡ Some m → has (keys qs) o ≡ false → ⊥
+not_there o m [] e h = absurd (cc)
+not_there o m (q ∷ qs) e h = by (nat_eq q.0 o) e h (λ e h. not_there o m qs e h)
+  where
+    by : (b : Bool) → (if b then Some q.1 else find o qs) ≡ Some m → (b || has (keys qs) o) ≡ false → (find o qs ≡ Some m → has (keys qs) o ≡ false → ⊥) → ⊥
+    by true e h ih = absurd (cc)
+    by false e h ih = ih e h
+
 -- what holds of all that are found in a hand in which each stands once holds of it
 module _ (P : Exec → Execution (List Todo) Value → Type 0) where
   hand_by : (ps : List (ℕ × Members)) → Once (keys ps) → ((o : ℕ) (m : Members) → find o ps ≡ Some m → MembersBy P (home.Object o) (Some m)) → HandBy P ps
@@ -95,16 +103,12 @@ module _ (P : Exec → Execution (List Todo) Value → Type 0) where
           by true g =
               let same : p.0 ≡ o = eqb-true p.0 o g in
               let none : has (keys ps) p.0 ≡ false = first_once p.0 (keys ps) once in
-              absurd (there o m ps e (subst (λ k. has (keys ps) k ≡ false) same none))
+              absurd (not_there o m ps e (subst (λ k. has (keys ps) k ≡ false) same none))
           by false g = ap (λ (b : Bool). if b then Some p.1 else find o ps) g ∙ e
 
-      there : (o : ℕ) (m : Members) (qs : List (ℕ × Members)) → find o qs ≡ Some m → has (keys qs) o ≡ false → ⊥
-      there o m [] e h = absurd (cc)
-      there o m (q ∷ qs) e h = by (nat_eq q.0 o) e h (λ e h. there o m qs e h)
-        where
-          by : (b : Bool) → (if b then Some q.1 else find o qs) ≡ Some m → (b || has (keys qs) o) ≡ false → (find o qs ≡ Some m → has (keys qs) o ≡ false → ⊥) → ⊥
-          by true e h ih = absurd (cc)
-          by false e h ih = ih e h
+settled_keys : (ks : List ℕ) (s : State) → Settled ks s → keys s.env.hand ≡ ks
+settled_keys ks s (inl h) = h.env.keys_are
+settled_keys ks s (inr h) = h.env.keys_are
 
 -- the world on the way
 
