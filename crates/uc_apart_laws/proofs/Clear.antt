@@ -42,7 +42,7 @@ module _ (t : Table) (few : Few) (places : (n : Exec) (w : Value) (b : Ty) → B
   hand n gs cs f h = held n gs cs f h.0 h.2
 
   far : (g : Stage) (n : Exec) (x : Ex) → ClearBy t few o g n x → FarBy t few o g n x
-  far Fresh n x f = λ k. hand n k.sigs (x.run ∷ x.callers) (f k)
+  far Fresh n x f = f
   far Started n x f = λ k. hand n k.sigs (x.run ∷ x.callers) (f k)
   far Ended n x f = tt
 
