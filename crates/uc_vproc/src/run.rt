@@ -17,6 +17,7 @@ use std::alloc::{AllocError, Global};
 use std::sync::Wait;
 use std::thread::Threads;
 use uc_code::code::Code;
+use uc_fused::fused::fused_ops;
 use uc_entry::entry::{Entry, Options};
 use uc_frames::members::Members;
 use uc_kernel::given::Shape;
@@ -100,7 +101,8 @@ fn serve<R: Threads + Wait + Sync, G: Gate + Sync>(
 {
     let desk = Box::new(alloc, desk)?;
     let (lock, seats) = Shared::new(alloc, Locked { desk }, processors)?;
-    let seats = work_all(rt, alloc, &lock, code, gate, seats)?;
+    let fused = fused_ops(alloc, code.ops());
+    let seats = work_all(rt, alloc, &lock, code, &fused, gate, seats)?;
     let Locked { desk } = lock.close(seats);
     let journal = Box::into_inner(desk).finish()?;
     Ok(journal)
