@@ -2,6 +2,7 @@ pub mod UnwindingOutcomes
 pub mod PaceInvariant
 pub mod Block
 pub mod Calls
+pub mod CellNumbers
 pub mod Machine
 pub mod Numbered
 pub mod StandsByParts

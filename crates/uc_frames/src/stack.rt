@@ -99,7 +99,8 @@ impl Stack {
         self.waiting as u32
     }
 
-    // Makes a call. Executions of `u32::MAX` frames, or activations that wait, make no more.
+    // Makes a call. A part of who calls, so that what is known of the call there is not asked here. Executions of `u32::MAX` frames, or activations that wait, make no more.
+    #[inline(always)]
     pub(crate) fn enter(&mut self, call: Call) -> Result<(), AllocError>
         requires { call.counts ≡ true → self.old.links.calls < CALLS }
         ensures ok { OnOk result (self.new ≡ call_made call self.old) }
@@ -203,7 +204,18 @@ fn put_at(callers: &mut Vec<Activation>, at: usize, waiting: &Activation) -> Res
     if at < callers.len() {
         callers[at].copy_from(waiting);
     } else {
-        callers.push(*waiting)?;
+        add(callers, waiting)?;
     }
+    Ok(())
+}
+
+// One more place for activations that wait, where this one does.
+#[cold]
+#[inline(never)]
+fn add(callers: &mut Vec<Activation>, waiting: &Activation) -> Result<(), AllocError>
+    ensures ok { OnOk result (callers.new.items ≡ callers.old.items ++ waiting.now ∷ []) }
+    ensures err { OnErr result (callers.new.items ≡ callers.old.items) }
+{
+    callers.push(*waiting)?;
     Ok(())
 }
