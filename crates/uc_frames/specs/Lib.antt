@@ -1,5 +1,6 @@
 pub mod UnwindingOutcomes
 pub mod PaceInvariant
+pub mod BareReturns
 pub mod Block
 pub mod Calls
 pub mod CellNumbers

@@ -5,6 +5,7 @@ ghost use Rattle.uc_machine.specs.Executions.{at_depth, calmed};
 ghost use Rattle.uc_machine.specs.Insides.{counted_no_more};
 ghost use Rattle.uc_frames.specs.declared.cell.Cell.{Cell};
 ghost use Rattle.uc_frames.specs.Block.{completed, all_completed};
+ghost use Rattle.uc_frames.specs.BareReturns.{left_bare};
 ghost use Rattle.uc_frames.specs.Machine.{line_in, line_at};
 ghost use Rattle.uc_frames.specs.Calls.{left, called, object_call, plain_call};
 ghost use Rattle.uc_frames.specs.Objects.{arrived_at};
@@ -117,6 +118,15 @@ impl Work {
     {
         let called = self.task.running.leave(given)?;
         Ok(called)
+    }
+
+    /// The same, where the one that waits is handed nothing.
+    pub fn leave_bare(&mut self) -> bool
+        ensures called { result ≡ nat_lt 0 (length self.old.callers) }
+        ensures after { self.new ≡ left_bare self.old.callers self.old }
+    {
+        let called = self.task.running.leave_bare();
+        called
     }
 
     /// How many activations wait for the running one.

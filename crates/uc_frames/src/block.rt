@@ -287,6 +287,7 @@ impl Block {
     }
 
     // A call of a routine that takes so many of the newest operands, its parameters among them.
+    #[inline(always)]
     pub(crate) fn enter(&mut self, routine: RoutineCode, taken: u64) -> Result<(), AllocError>
         ensures ok { OnOk result (self.new ≡ with_call taken (call_frame routine self.old.operands) self.old) }
         ensures err { OnErr result (self.new ≡ self.old) }
@@ -300,7 +301,7 @@ impl Block {
         }
         let others = routine.cells.saturating_sub(routine.params) as usize;
         have_room(&mut self.older)?;
-        self.cells.resize(length + others, Cell::Number(0))?;
+        add_zeros(&mut self.cells, others)?;
         self.older.push_reserved(self.newest);
         self.newest.floor = length - taken;
         self.newest.base = length - params;
@@ -360,6 +361,17 @@ impl Block {
         Ok(())
     }
 
+    // The same, where that one is handed nothing.
+    #[inline(always)]
+    pub(crate) fn leave_bare(&mut self)
+        ensures { self.new ≡ with_return [] self.old.waiting self.old }
+    {
+        if let Some(extent) = self.older.pop() {
+            self.cells.truncate(self.newest.floor);
+            self.newest = extent;
+        }
+    }
+
     // The newest activation is left, if another waits, whose operands go.
     pub(crate) fn leave_unwinding(&mut self)
         ensures { self.new ≡ without_call self.old.waiting self.old }
@@ -392,6 +404,28 @@ fn make_room<X>(list: &mut Vec<X>) -> Result<(), AllocError>
     ensures room { OnOk result (length list.new.items + 1 ≤ vec_capacity list.new) }
 {
     list.reserve(1)?;
+    Ok(())
+}
+
+// So many cells more that are 0; most calls need none.
+#[inline(always)]
+fn add_zeros(cells: &mut Vec<Cell>, count: usize) -> Result<(), AllocError>
+    ensures ok { OnOk result (cells.new.items ≡ cells.old.items ++ replicate count nought) }
+    ensures err { OnErr result (cells.new.items ≡ cells.old.items) }
+{
+    if count == 0 {
+        return Ok(());
+    }
+    grow(cells, count)?;
+    Ok(())
+}
+
+#[inline(never)]
+fn grow(cells: &mut Vec<Cell>, count: usize) -> Result<(), AllocError>
+    ensures ok { OnOk result (cells.new.items ≡ cells.old.items ++ replicate count nought) }
+    ensures err { OnErr result (cells.new.items ≡ cells.old.items) }
+{
+    cells.resize(cells.len() + count, Cell::Number(0))?;
     Ok(())
 }
 

@@ -1,8 +1,9 @@
 // Items that are printed at once.
 
-ghost use Rattle.std.specs.Prelude.{◌≡◌, ◌≤◌, ◌++◌, [], drop, length, OnOk, OnErr, true, false};
+ghost use Rattle.std.specs.Prelude.{◌≡◌, ◌≤◌, ◌++◌, [], drop, length, replicate, OnOk, OnErr, true, false};
+ghost use Rattle.uc_entry.specs.declared.request.Request.TheVariants as ask;
 ghost use Rattle.uc_entry.specs.declared.request.TheConstants.{PRINT_ITEMS};
-ghost use Rattle.uc_machine.specs.Quiet.{with_piece, print_of};
+ghost use Rattle.uc_machine.specs.Quiet.{blank, with_piece, print_of};
 ghost use Rattle.uc_frames.specs.Machine.{request_of};
 
 use std::alloc::{AllocError, Global};
@@ -67,13 +68,21 @@ pub fn put_print(request: &mut Request, pieces: &[Piece])
     requires { length pieces.now ≤ PRINT_ITEMS }
     ensures { request.new ≡ print_of pieces.now }
 {
-    *request = Request::Print {
-        n: pieces.len() as u8,
-        items: [Piece { form: 0, value: 0 }; 32],
-    };
+    put_blanks(request, pieces.len() as u8);
     if let Request::Print { items, .. } = request {
         put_items(items, pieces);
     }
+}
+
+// So many items are printed, all blank.
+#[inline(always)]
+fn put_blanks(request: &mut Request, count: u8)
+    ensures { request.new ≡ ask.Print count (replicate PRINT_ITEMS blank) }
+{
+    *request = Request::Print {
+        n: count,
+        items: [Piece { form: 0, value: 0 }; 32],
+    };
 }
 
 // These are the first items.

@@ -5,6 +5,7 @@ ghost use Rattle.uc_machine.specs.Executions.{at_depth};
 ghost use Rattle.uc_machine.specs.Switches.{unwound_there};
 ghost use Rattle.uc_frames.specs.declared.cell.Cell.{Cell};
 ghost use Rattle.uc_frames.specs.Block.{completed, Told, call_made, call_left, handler_made, unwound_back};
+ghost use Rattle.uc_frames.specs.BareReturns.{call_over};
 ghost use Rattle.uc_frames.specs.Machine.{first_execution};
 ghost use Rattle.uc_frames.specs.Unwinding.{IsCaller};
 ghost use Rattle.uc_tree.specs.declared.limits.TheConstants.{CALLS};
@@ -158,6 +159,23 @@ impl Stack {
         self.run.copy_from(&self.callers[waiting - 1]);
         self.waiting = waiting - 1;
         Ok(true)
+    }
+
+    // The same, where that one is handed nothing.
+    #[inline(always)]
+    pub(crate) fn leave_bare(&mut self) -> bool
+        ensures called { result ≡ nat_lt 0 (length self.old.callers) }
+        ensures after { self.new ≡ call_over self.old.callers self.old }
+    {
+        let waiting = self.waiting;
+        if waiting == 0 {
+            return false;
+        }
+        self.block.leave_bare();
+        self.links.leave(self.run.counts);
+        self.run.copy_from(&self.callers[waiting - 1]);
+        self.waiting = waiting - 1;
+        true
     }
 
     // The newest activation is left with its frame, and the one that waits for it is unwound in its turn, for this reason and with
