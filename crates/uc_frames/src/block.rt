@@ -299,13 +299,13 @@ impl Block {
             self.enter_with_copies(routine, taken)?;
             return Ok(());
         }
-        let others = routine.cells.saturating_sub(routine.params) as usize;
+        let others = routine.cells.saturating_sub(routine.params);
         have_room(&mut self.older)?;
         add_zeros(&mut self.cells, others)?;
         self.older.push_reserved(self.newest);
         self.newest.floor = length - taken;
         self.newest.base = length - params;
-        self.newest.start = length + others;
+        self.newest.start = length + others as usize;
         Ok(())
     }
 
@@ -409,7 +409,7 @@ fn make_room<X>(list: &mut Vec<X>) -> Result<(), AllocError>
 
 // So many cells more that are 0; most calls need none.
 #[inline(always)]
-fn add_zeros(cells: &mut Vec<Cell>, count: usize) -> Result<(), AllocError>
+fn add_zeros(cells: &mut Vec<Cell>, count: u32) -> Result<(), AllocError>
     ensures ok { OnOk result (cells.new.items ≡ cells.old.items ++ replicate count nought) }
     ensures err { OnErr result (cells.new.items ≡ cells.old.items) }
 {
@@ -421,11 +421,11 @@ fn add_zeros(cells: &mut Vec<Cell>, count: usize) -> Result<(), AllocError>
 }
 
 #[inline(never)]
-fn grow(cells: &mut Vec<Cell>, count: usize) -> Result<(), AllocError>
+fn grow(cells: &mut Vec<Cell>, count: u32) -> Result<(), AllocError>
     ensures ok { OnOk result (cells.new.items ≡ cells.old.items ++ replicate count nought) }
     ensures err { OnErr result (cells.new.items ≡ cells.old.items) }
 {
-    cells.resize(cells.len() + count, Cell::Number(0))?;
+    cells.resize(cells.len() + count as usize, Cell::Number(0))?;
     Ok(())
 }
 

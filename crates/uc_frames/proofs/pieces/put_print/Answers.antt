@@ -16,6 +16,7 @@ items_in (ask.Print n ps) = ps
 items_in _ = []
 
 pub returns-in-Print : goal.returns-in-Print
+unfolding count_in items_in
 returns-in-Print c =
     let ps = c.args.pieces.now in
     let e : ask.Print c.in-Print.n c.in-Print.items ≡ ask.Print (length ps) (replicate PRINT_ITEMS blank) = sym c.in-Print.is ∙ c.put_blanks.ensures in
