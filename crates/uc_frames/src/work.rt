@@ -104,7 +104,9 @@ impl Work {
         match &running.run.this {
             Cell::Place(Owner::Frame { exec, depth }, at) => {
                 if self.runs(*exec) {
-                    running.block.number_older(*depth, at.saturating_add(u64::from(cell)))
+                    running
+                        .block
+                        .number_older(*depth, at.saturating_add(u64::from(cell)))
                 } else {
                     self.own_number_apart(cell)
                 }
