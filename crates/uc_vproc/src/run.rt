@@ -17,9 +17,9 @@ use std::alloc::{AllocError, Global};
 use std::sync::Wait;
 use std::thread::Threads;
 use uc_code::code::Code;
-use uc_fused::fused::fused_ops;
 use uc_entry::entry::{Entry, Options};
 use uc_frames::members::Members;
+use uc_fused::table::Table;
 use uc_kernel::given::Shape;
 use uc_lock::Shared;
 use uc_outside::Gate;
@@ -101,8 +101,8 @@ fn serve<R: Threads + Wait + Sync, G: Gate + Sync>(
 {
     let desk = Box::new(alloc, desk)?;
     let (lock, seats) = Shared::new(alloc, Locked { desk }, processors)?;
-    let fused = fused_ops(alloc, code.ops());
-    let seats = work_all(rt, alloc, &lock, code, &fused, gate, seats)?;
+    let table = Table::new(alloc, code);
+    let seats = work_all(rt, alloc, &lock, code, &table, gate, seats)?;
     let Locked { desk } = lock.close(seats);
     let journal = Box::into_inner(desk).finish()?;
     Ok(journal)
