@@ -23,9 +23,9 @@ use Rattle.uc_putting_laws.specs.PuttingLaws.{setting_of, Fair}
 use Rattle.uc_rooted_runs.specs.Births.{AllMadeLater}
 use Rattle.uc_rooted_runs.specs.KeptRuns.{RunRooted}
 
--- what is left of it: a step that forgets the running execution does so in what that is at home in; objects are at home where they are bound and
--- destroyed, and nothing stands around fields as they are put; and behind each act by which an object goes what is left to show of those that live
--- holds, by some telling of who made whom
+-- what is left of it: a step that forgets the running execution does so in what that is at home in; each step finds what it is to find where objects
+-- are bound and destroyed, and where resumptions are raised; and behind each act by which an object goes what is left to show of those that live holds,
+-- by some telling of who made whom
 pub record IsLeftOf (p : Program) (few : Few) (own : Exec → Value → Ty → Bool) (yet : Exec → List Active → Value → Ty → Bool) (input : List ℕ) (opts : Options) (j : Journal) (w : World) (r : Runs (source_of p) input opts j w) : Type 0 where
   pub homes : RunMeets NamesHome (source_of p) input opts j w r
   pub fair : RunMeets (Fair (setting_of p few)) (source_of p) input opts j w r
