@@ -6,8 +6,8 @@ use Rattle.uc_machine.specs.declared.exec.Exec.{Exec}
 use Rattle.uc_machine.specs.declared.exec.Owner.{Owner}
 use Rattle.uc_machine.specs.Executions.{at_depth, set_depth, frame_changed, list_in, others, value_changed, values_cleared}
 use Rattle.uc_machine.specs.Pieces as piece
-use Rattle.uc_machine.specs.Pieces.{Value, Number, Place, Running, Object, Nothing, Todo, Sort, Active, stored, nought, address}
-use Rattle.uc_typing.specs.Typing.{Ty, Num, Cell, Obj, Raw, Row, Clu, Pro, Table}
+use Rattle.uc_machine.specs.Pieces.{Value, Place, Object, Todo, Sort, Active, stored, nought, address}
+use Rattle.uc_typing.specs.Typing.{Ty, Cell, Obj, Row, Table}
 use Rattle.uc_life_laws.specs.Things.{Few, Within, itself, field, element, LiesBefore}
 use Rattle.uc_life_laws.specs.LifeStates.{frame_at, MarkBefore, AllBefore, FrameBefore}
 use Rattle.uc_home_laws.specs.HomedStates.{Owns, Inside, all_of_it, own_field, own_element, IsAtHome, HoldsHome, MarkHomed, AllAtHome, HomedStack}

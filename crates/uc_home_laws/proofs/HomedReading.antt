@@ -6,13 +6,13 @@ use Rattle.uc_machine.specs.declared.exec.Owner.{Owner}
 use Rattle.uc_machine.specs.declared.exec.Owner.TheVariants.{Frame}
 use Rattle.uc_machine.specs.Executions.{at_depth, list_in, frames_in, parked_at}
 use Rattle.uc_machine.specs.Pieces as piece
-use Rattle.uc_machine.specs.Pieces.{Link, Slot, Value, Number, Place, Running, Object, Nothing, Todo, Sort, Active, State, address, nought, loaded}
+use Rattle.uc_machine.specs.Pieces.{Link, Slot, Value, Number, Place, Running, Object, Nothing, Todo, Sort, Active, address, nought}
 use Rattle.uc_typing.specs.Typing.{Ty, Cell, Obj, Row, Table}
 use Rattle.uc_life_laws.specs.Things.{Few, IsMutex, Within, itself, field, element, AtVariable, Nowhere, Marks, InTodo, Variables}
 use Rattle.uc_life_laws.specs.LifeStates.{frame_at}
 use Rattle.uc_life_laws.proofs.Steps.{exec_same}
 use Rattle.uc_home_laws.proofs.HomedCells.{is_within}
-use Rattle.uc_home_laws.specs.HomedStates.{Owns, Inside, IsAtHome, HoldsHome, MarkHomed, AllAtHome, HomedStack, HomedState}
+use Rattle.uc_home_laws.specs.HomedStates.{Owns, Inside, IsAtHome, HoldsHome, MarkHomed, AllAtHome, HomedStack}
 use Rattle.uc_home_laws.specs.HomedReading.{LawReading}
 
 -- what lies within a thing has its owner

@@ -19,7 +19,7 @@ use Rattle.uc_scope_laws.specs.Rooms.{SourceIn}
 use Rattle.uc_scope_laws.specs.RoomStacks.{StackState, StackStep}
 use Rattle.uc_scope_laws.specs.Layout.{Sized}
 use Rattle.uc_scope_laws.specs.RoomRuns as runs
-use Rattle.uc_scope_laws.specs.RoomRuns.{Leads, Comes}
+use Rattle.uc_scope_laws.specs.RoomRuns.{Leads}
 use Rattle.uc_scope_laws.proofs.StackWalk as stacking
 use Rattle.uc_scope_laws.proofs.StackWorlds as stacked
 use Rattle.uc_scope_laws.proofs.StackWorlds.{StackWorld}

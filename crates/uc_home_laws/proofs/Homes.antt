@@ -28,7 +28,7 @@ use Rattle.uc_answer_laws.proofs.Asking.{law_asking}
 use Rattle.uc_machine.specs.Pieces.{Value, Nothing, State, Members}
 use Rattle.uc_machine.specs.Quiet.{no_members, first_state}
 use Rattle.uc_machine.specs.Answering.{answered, child_main, child_of, entered, new_members}
-use Rattle.uc_meaning.specs.Runs.{World, May, Runs, AsksIn, first_world, world_after, bare, with_home, hand_of, drawn, or_else, gives, no_room, acts, begun, more}
+use Rattle.uc_meaning.specs.Runs.{World, May, Runs, first_world, world_after, bare, with_home, hand_of, drawn, or_else, gives, no_room, acts, begun, more}
 use Rattle.uc_program_laws.specs.Fitting.{MayFit, RunFits}
 use Rattle.uc_program_laws.proofs.Alive.{law_alive}
 use Rattle.uc_program_laws.proofs.Others.{run_rests, may_ask}
@@ -40,7 +40,7 @@ use Rattle.uc_life_laws.proofs.Spawning.{Spawned, spawner, ended_before}
 use Rattle.uc_life_laws.proofs.NewNumbers.{objects_grow, told_object}
 use Rattle.uc_home_laws.specs.MadeObjects.{NoneActive, NoneMembers, NoneState, Binds, FirstState, RestsBy}
 use Rattle.uc_home_laws.specs.BoundRuns.{LawBinds}
-use Rattle.uc_home_laws.specs.Homes.{made_at, then_home, home_by, home_of, HomedRest, AllHomed, LawHomes, LawOnce}
+use Rattle.uc_home_laws.specs.Homes.{made_at, then_home, home_by, home_of, HomedRest, LawHomes, LawOnce}
 use Rattle.uc_home_laws.proofs.NextNumbers.{told_next}
 use Rattle.uc_home_laws.proofs.MadeSteps.{calm}
 use Rattle.uc_home_laws.proofs.MadeWalk.{begins_none, first_more, rests_more, binds_first, answered_first, handed, env_of, ridden, led}

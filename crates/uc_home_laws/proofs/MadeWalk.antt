@@ -2,7 +2,7 @@
 use Rattle.std.proofs.Common.{◌≡◌, ℕ, ◌<◌, ◌≤◌, List, [], ◌∷◌, ◌++◌, drop, Option, Some, None, refl, sym, ◌∙◌, subst, arith}
 use Rattle.std.specs.Prelude.{nat_lt, slice_get}
 use Rattle.uc_tree.specs.Source as src
-use Rattle.uc_tree.specs.Source.{Source, Stmts, Routine, routine_of}
+use Rattle.uc_tree.specs.Source.{Source, Stmts, routine_of}
 use Rattle.uc_entry.specs.declared.request.Answer.{Answer}
 use Rattle.uc_entry.specs.declared.request.Answer.TheVariants as answer
 use Rattle.uc_entry.specs.declared.request.Asked.{Asked}
@@ -26,7 +26,7 @@ use Rattle.uc_scope_laws.specs.RoomRuns as runs
 use Rattle.uc_scope_laws.specs.RoomRuns.{Leads}
 use Rattle.uc_value_laws.specs.Opens.{RideMeets, LeadsMeet}
 use Rattle.uc_home_laws.specs.Homes.{made_at}
-use Rattle.uc_home_laws.specs.MadeObjects.{BindsNone, BindsNext, NoneActive, NoneMembers, NoneState, NextState, NoneStep, IsBound, BindsAt, Binds, BindsFirst, FirstState, RestsBy}
+use Rattle.uc_home_laws.specs.MadeObjects.{BindsNone, BindsNext, NoneActive, NoneMembers, NoneState, NextState, NoneStep, BindsAt, Binds, BindsFirst, FirstState, RestsBy}
 use Rattle.uc_home_laws.proofs.MadeSteps as steps
 use Rattle.uc_home_laws.proofs.MadeSteps.{calm}
 

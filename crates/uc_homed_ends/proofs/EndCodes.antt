@@ -3,7 +3,7 @@ use Rattle.std.proofs.Common.{◌≡◌, ℕ, inl, inr, ◌⊎◌, Bool, true, f
 use Rattle.std.specs.Prelude.{slice_get}
 use Rattle.uc_tree.specs.Programs.{Program}
 use Rattle.uc_tree.specs.Source as src
-use Rattle.uc_tree.specs.Source.{Expr, Exprs, ObjectExpr, OfObject, EndOn, Load, Variable, OwnField, Element, Binding, Counted, Item, Target, Declared, CleanUp, Stmt, Stmts, EventStmt, TaskStmt, Raised, Handlers, Clauses, Routine, Source}
+use Rattle.uc_tree.specs.Source.{Expr, Exprs, OfObject, EndOn, Load, Variable, OwnField, Element, Binding, Counted, Item, Target, Declared, CleanUp, Stmt, Stmts, EventStmt, TaskStmt, Raised, Handlers, Clauses, Routine, Source}
 use Rattle.uc_resolve.specs.Resolve.{source_of}
 use Rattle.uc_rules.specs.Breaks.{breaks_of}
 use Rattle.uc_typing.specs.Typing.{Name, Kept, Sig, Table, Fine, FineClean, FineStmt, FineStmts, FineEvent, FineHandlers, FineTask, FineClauses}
@@ -11,12 +11,12 @@ use Rattle.uc_typing.specs.States.{Routine_is, Sound}
 use Rattle.uc_sound.specs.Formed.{IsFormed}
 use Rattle.uc_sound.specs.Tables.{table_of}
 use Rattle.uc_sound.proofs.SoundLemmas.{law_sound}
-use Rattle.uc_unmarked_laws.specs.Ending.{Spot, OfVariable, OfField}
+use Rattle.uc_unmarked_laws.specs.Ending.{OfVariable, OfField}
 use Rattle.uc_putting_laws.specs.CleanedSpots.{Site, NoSite, AnySite, IsAtVariable, OpensFor, IsSpotOf, Reach, reach_of, apart}
-use Rattle.uc_putting_laws.specs.Calling.{EndsWhole, PlainExpr, PlainExprs, PlainMaybe, PlainItems, PlainTargets, PlainDeclared, PlainNew, Binds, PlaceAt, CallsAt, MakesAt, MakesEach, EndsAt, EndsEach, EndsNumber, Evaluates, FillsBy, SweepsBy, CleansBy, RaisesBy, CallingStmt, CallingStmts, CallingEvent, CallingHandlers, CallingTask, CallingClauses, Opening, CallingBody, CallingRoutine, CallingSource}
+use Rattle.uc_putting_laws.specs.Calling.{PlainExpr, PlainExprs, PlainMaybe, PlainItems, PlainTargets, PlainDeclared, PlainNew, Binds, PlaceAt, CallsAt, MakesAt, MakesEach, EndsAt, EndsEach, EndsNumber, Evaluates, FillsBy, SweepsBy, CleansBy, RaisesBy, CallingStmt, CallingStmts, CallingEvent, CallingHandlers, CallingTask, CallingClauses, Opening, CallingBody, CallingRoutine, CallingSource}
 use Rattle.uc_putting_laws.specs.PuttingLaws.{special_of}
 use Rattle.uc_putting_laws.proofs.Routines.{law_calling}
-use Rattle.uc_homed_ends.specs.EndCode.{AtSpot, AtElement, FreeExpr, FreeExprs, FreeObject, FreeMaybe, FreeItems, FreeTargets, FreeDeclared, FreeRaised, EndOf, EndsSpot, EndsElement, FreeSweep, FreeClean, FreeStmt, FreeStmts, FreeEvent, FreeHandlers, FreeTask, FreeClauses, FreeRoutine, FreeSource}
+use Rattle.uc_homed_ends.specs.EndCode.{FreeExpr, FreeExprs, FreeMaybe, FreeItems, FreeTargets, FreeDeclared, FreeRaised, EndsSpot, EndsElement, FreeSweep, FreeClean, FreeStmt, FreeStmts, FreeEvent, FreeHandlers, FreeTask, FreeClauses, FreeRoutine, FreeSource}
 
 -- what opens next behind a statement
 data Near : Type 0 where

@@ -1,8 +1,7 @@
 -- What is read of a variable before a mutex object ends is at home there, since it was as its scope was left.
-use Rattle.std.proofs.Common.{◌≡◌, ℕ, ◌<◌, ◌≤◌, inl, inr, ◌⊎◌, Bool, true, false, List, [], ◌∷◌, Option, Some, None, refl, sym, ap, ◌∙◌, subst, arith}
-use Rattle.std.specs.Prelude.{drop}
+use Rattle.std.proofs.Common.{◌≡◌, ℕ, inl, inr, ◌⊎◌, Bool, true, false, List, [], ◌∷◌, Some, refl, sym, ◌∙◌, subst}
 use Rattle.uc_tree.specs.Programs.{Program}
-use Rattle.uc_tree.specs.Source.{Shape, Binding, Source, Expr, Load, Variable, OfObject, EndOn, CleanUp, Destroys}
+use Rattle.uc_tree.specs.Source.{Shape, Binding, Source}
 use Rattle.uc_entry.specs.declared.entry.Options.{Options}
 use Rattle.uc_entry.specs.declared.request.Asked.{Asked}
 use Rattle.uc_acts.specs.Journal.{Journal, is_over}
@@ -11,12 +10,12 @@ use Rattle.uc_acts.specs.KernelRuns.{InRange}
 use Rattle.uc_machine.specs.declared.exec.Exec.{Exec}
 use Rattle.uc_machine.specs.declared.exec.Owner.TheVariants.{Frame}
 use Rattle.uc_machine.specs.Pieces as piece
-use Rattle.uc_machine.specs.Pieces.{Link, Slot, FieldAt, At, Value, Number, Place, Running, Object, Nothing, Todo, Eval, LoadNow, Clean, Part, Unwind, State, Env, further, loaded, top, below, variable_at}
+use Rattle.uc_machine.specs.Pieces.{Slot, FieldAt, At, Value, Number, Place, Running, Object, Nothing, Todo, LoadNow, Clean, Part, Unwind, State, Env, further, loaded, top, variable_at}
 use Rattle.uc_machine.specs.Quiet.{quiet}
 use Rattle.uc_machine.specs.Answering.{answered}
 use Rattle.uc_machine.specs.Rides as rides
 use Rattle.uc_machine.specs.Rides.{Rides}
-use Rattle.uc_meaning.specs.Runs.{World, May, Runs, drawn, gives, no_room, acts, begun, more}
+use Rattle.uc_meaning.specs.Runs.{World, Runs, drawn, gives, no_room, acts, begun, more}
 use Rattle.uc_program_laws.specs.Fitting.{RunFits}
 use Rattle.uc_resolve.specs.Resolve.{source_of}
 use Rattle.uc_rules.specs.Breaks.{breaks_of}
@@ -29,10 +28,10 @@ use Rattle.uc_scope_laws.specs.RoomRuns.{Leads, Comes}
 use Rattle.uc_scope_laws.proofs.StackWalk as stacking
 use Rattle.uc_scope_laws.proofs.StackWorlds.{law_frame_runs}
 use Rattle.uc_scope_laws.proofs.Unreferring.{law_accepted}
-use Rattle.uc_typing.specs.Typing.{Ty, Cell, Obj, Table, CleansAt}
+use Rattle.uc_typing.specs.Typing.{Cell, Obj, Table}
 use Rattle.uc_sound.specs.Formed.{IsFormed}
 use Rattle.uc_sound.specs.Tables.{table_of}
-use Rattle.uc_value_laws.specs.Opens.{RideMeets, MayMeet, RunMeets, LeadsMeet}
+use Rattle.uc_value_laws.specs.Opens.{RideMeets, RunMeets, LeadsMeet}
 use Rattle.uc_life_laws.specs.Things.{Few, AtVariable, Nowhere, InTodo, Variables}
 use Rattle.uc_life_laws.specs.LifeRuns.{IsLaidOut}
 use Rattle.uc_life_laws.proofs.Laying.{laid_out}
@@ -43,7 +42,7 @@ use Rattle.uc_home_laws.specs.HomedRuns.{KeepsHomes}
 use Rattle.uc_home_laws.proofs.HomedReading.{law_reading}
 use Rattle.uc_home_laws.proofs.HomedWorlds.{law_runs, steps_to}
 use Rattle.uc_home_laws.proofs.Homes.{law_binds}
-use Rattle.uc_unmarked_laws.specs.Ending.{Spot, OfVariable, OfField, ends_at, place_at}
+use Rattle.uc_unmarked_laws.specs.Ending.{OfVariable, OfField, ends_at, place_at}
 use Rattle.uc_putting_laws.specs.Putting.{Setting, IsHome, IsEnding}
 use Rattle.uc_putting_laws.specs.PuttingLaws.{setting_of, FairAt, Fair}
 use Rattle.uc_homed_ends.specs.EndCode.{EndSite, AtSpot, AtElement}

@@ -1,5 +1,5 @@
 -- In every run of a program that breaks no rule mutex objects are ended by clean-ups alone, and whoever reads one that ends was at such a clean-up before.
-use Rattle.std.proofs.Common.{◌≡◌, ℕ, ◌==◌, Bool, true, false, List, [], ◌∷◌, ◌++◌, Option, Some, None, refl, sym, ap, ◌∙◌, subst}
+use Rattle.std.proofs.Common.{◌≡◌, ℕ, ◌==◌, Bool, true, false, List, [], ◌∷◌, ◌++◌, Option, Some, None, refl, subst}
 use Rattle.std.specs.Prelude.{if◌then◌else◌}
 use Rattle.std.proofs.lemmas.Bool.{eqb-true}
 use Rattle.uc_tree.specs.Source.{Source}
@@ -10,7 +10,7 @@ use Rattle.uc_entry.specs.declared.request.Asked.{Asked}
 use Rattle.uc_entry.specs.declared.request.Request.{Request}
 use Rattle.uc_entry.specs.declared.request.Request.TheVariants as ask
 use Rattle.uc_entry.specs.Keyed.{find}
-use Rattle.uc_acts.specs.Journal.{Journal, begin, held, is_over, own_object}
+use Rattle.uc_acts.specs.Journal.{Journal, held, is_over, own_object}
 use Rattle.uc_acts.specs.Known.{spawns, has_ended, takes_out}
 use Rattle.uc_acts.specs.Queues.{running}
 use Rattle.uc_acts.specs.Acts.{act, dispatch, lone_limit}
@@ -20,7 +20,7 @@ use Rattle.uc_machine.specs.Pieces.{Members, State}
 use Rattle.uc_machine.specs.Quiet.{no_members}
 use Rattle.uc_machine.specs.Answering.{answered, child_main, child_of}
 use Rattle.uc_meaning.specs.Runs.{World, May, Runs, first_world, world_after, bare, with_home, hand_of, drawn, or_else, gives, no_room, acts, begun, more}
-use Rattle.uc_program_laws.specs.Fitting.{MayFit, RunFits}
+use Rattle.uc_program_laws.specs.Fitting.{RunFits}
 use Rattle.uc_program_laws.proofs.Alive.{law_alive}
 use Rattle.uc_program_laws.proofs.Makes.{law_ends}
 use Rattle.uc_program_laws.proofs.Others.{run_rests}

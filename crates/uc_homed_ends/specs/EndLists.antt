@@ -1,5 +1,5 @@
 -- To-do lists in which mutex objects are ended by clean-ups alone: nothing in them is evaluated or loaded for that yet.
-use Rattle.std.specs.Prelude.{ℕ, ◌⊎◌, List, [], ◌∷◌, Option, Some, None}
+use Rattle.std.specs.Prelude.{List, [], ◌∷◌, Option}
 use Rattle.uc_machine.specs.Pieces as piece
 use Rattle.uc_machine.specs.Pieces.{Todo, Active, State, Members, Step, Goes, Ticks, Asks}
 use Rattle.uc_site_laws.specs.Resting.{RestsMembers, RestsState}

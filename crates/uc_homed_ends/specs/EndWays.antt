@@ -1,13 +1,12 @@
 -- On the way from the clean-up of a mutex object to where that is read: nothing changes but what is to do and operands.
-use Rattle.std.specs.Prelude.{◌≡◌, ℕ, ◌⊎◌, Bool, true, List, [], ◌∷◌, Some}
-use Rattle.uc_tree.specs.Source.{Binding, Expr, Load, OfObject, EndOn, Counted}
-use Rattle.uc_entry.specs.declared.request.Request.{Request}
+use Rattle.std.specs.Prelude.{◌≡◌, ℕ, ◌⊎◌, Bool, true, List, ◌∷◌, Some}
+use Rattle.uc_tree.specs.Source.{Binding, Load, OfObject, EndOn, Counted}
 use Rattle.uc_entry.specs.declared.request.Request.TheVariants as ask
-use Rattle.uc_machine.specs.Pieces.{Link, At, Value, Todo, Eval, LoadNow, ElementNow, Clean, Part, Sweep, Unwind, State, Step, Goes, Ticks, Asks, further, top, below}
+use Rattle.uc_machine.specs.Pieces.{At, Todo, Eval, LoadNow, ElementNow, Clean, Part, Sweep, Unwind, State, Step, Goes, Ticks, Asks, further, top, below}
 use Rattle.uc_site_laws.specs.Resting.{AllWait, RestsEnv}
 use Rattle.uc_typing.specs.Typing.{Table}
 use Rattle.uc_value_laws.specs.Endings.{OnObject, behind_end}
-use Rattle.uc_unmarked_laws.specs.Ending.{Spot, naming, place_at, ends_at}
+use Rattle.uc_unmarked_laws.specs.Ending.{naming, place_at, ends_at}
 use Rattle.uc_homed_ends.specs.EndCode.{EndSite, AtSpot, AtElement, named}
 use Rattle.uc_homed_ends.specs.EndLists.{FreeList, FreeActive, FreeState}
 

@@ -53,8 +53,8 @@ abbrev pub IsElsewhere : State → Value → Type 0
 IsElsewhere s v = ((h : Shape) × (i : ℕ) × (v ≡ further (FieldAt h i) s.run.this)) ⊎
     ((p : Spot) × (j : ℕ) × (v ≡ further (At Binding j) (place_at p s)))
 
--- what is left to find for marks that are put: where an object that is to be destroyed is loaded from such a place, it is at home there; and that nothing
--- stands around what is a field, as before
+-- what is left to find for marks that are put: where an object that is to be destroyed is loaded from such a place, it is at home there; and what is asked
+-- elsewhere, as before
 module _ (g : Setting) where
   abbrev pub RestAt : List Todo → State → Type 0
   RestAt (LoadNow ∷ todo) s = IsEnding todo → IsElsewhere s (top s.run.operands) →
