@@ -27,7 +27,7 @@ use Rattle.uc_life_laws.specs.Knowing as knowing
 use Rattle.uc_life_laws.specs.Knowing.{AtHand, InMaking, KnownAll, KnowsState, Finds, main_of}
 use Rattle.uc_life_laws.specs.KnownRuns.{Meets}
 use Rattle.uc_life_laws.proofs.Knowns.{values_drop, newest}
-use Rattle.uc_life_laws.proofs.Reading.{within_raw, in_raw}
+use Rattle.uc_life_laws.proofs.Reading.{within_raw, not_whole, NoNumber, behind_number}
 use Rattle.uc_world_laws.specs.Rooted.{IsPlace}
 use Rattle.uc_world_laws.proofs.Rooted.{within_object, things_place, stands_things}
 use Rattle.uc_unmarked_laws.specs.Belonging.{Belongs, object}
@@ -67,7 +67,7 @@ module _ (t : Table) (few : Few) (places : (n : Exec) (w : Value) (b : Ty) → B
   held_has n gs cs o c h (inl (lies {w = w} {a = d} (inl k) i)) =
       absurd (things_place t few places n cs w d k o (within_object t w d (Object o) (Obj c) o i refl))
   held_has n gs cs o c h (inl (lies {w = w} {a = d} (inr k) i)) =
-      let q = in_raw gs cs w d k in
+      let q = not_whole t n gs cs w d k in
       let e : Obj c ≡ Raw q.0 = within_raw t w q.0 (Object o) (Obj c) (subst (λ d. Within t w d (Object o) (Obj c)) q.1 i) in
       absurd (cc)
   held_has n gs cs o c h (inl (inside {o = u} {c = d} m k i)) =
@@ -75,7 +75,7 @@ module _ (t : Table) (few : Few) (places : (n : Exec) (w : Value) (b : Ty) → B
       let same : u ≡ o = cc in
       inr (inr (d, subst (λ (u : ℕ). Stands t few (Things t few n cs) (Cell (Obj d)) (few.home u)) same (stands_things t few n gs cs (Obj d) (few.home u) k)))
   held_has n gs cs o c h (inr k) =
-      ⊎_elim (λ x. absurd (things_place t few places n cs k.0 (Raw k.1) x o e)) (λ x. making_has n gs cs o k.1 h (subst (λ w. InMaking gs cs w (Raw k.1)) e x)) k.2
+      ⊎_elim (λ x. absurd (things_place t few places n cs k.0 (Raw k.1) x o e)) (λ x. ⊎_elim (λ y. making_has n gs cs o k.1 h (subst (λ w. InMaking gs cs w (Raw k.1)) e y)) (λ y. absurd (subst NoNumber e (behind_number t n cs k.0 (Raw k.1) y))) x) k.2
     where
       e : k.0 ≡ Object o
       e = within_object t k.0 (Obj k.1) (Object o) (Obj c) o k.3 refl
