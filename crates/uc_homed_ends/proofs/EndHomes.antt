@@ -232,8 +232,8 @@ module _ (t : Table) (owns : Owns) (few : Few) (Z : ℕ → ℕ → Type 0) wher
       let f : top s.run.operands ≡ further (FieldAt h i) s.run.this = subst (λ y. Found ways.Reads y s) q x.found in
       absurd (no_field s.run.this h i s.env.exec s.run.frame k (sym f ∙ e))
   at_variable s k x (AtElement n p) q e =
-      let f = subst (λ y. Found ways.Reads y s) q x.found in
-      absurd (no_element (place_at p s) f.0 s.env.exec s.run.frame k (sym f.1 ∙ e))
+      let f : top s.run.operands ≡ further (At Binding s.run.elements) (place_at p s) = subst (λ y. Found ways.Reads y s) q x.found in
+      absurd (no_element (place_at p s) s.run.elements s.env.exec s.run.frame k (sym f ∙ e))
 
   reads_here : (s : State) → NowState t HomedHere s → Reads few s
   reads_here s h = by s.run.control refl
@@ -259,7 +259,7 @@ module _ (p : Program) (owns : Owns) (few : Few) (homes : ℕ → Value) (many :
           let e : top s.run.operands ≡ variable_at k s = subst (λ y. Found ways.Reads y s) q x.found in
           subst (λ v. IsHome few (loaded v s.env) v) (sym e) (at_variable (table_of p) owns few (Sized p) s k x (AtSpot (OfVariable k)) q e)
       read todo x (AtSpot (OfField h i)) q f = f (inl (h, i, subst (λ y. Found ways.Reads y s) q x.found))
-      read todo x (AtElement n q) e f = let k = subst (λ y. Found ways.Reads y s) e x.found in f (inr (q, k.0, k.1))
+      read todo x (AtElement n q) e f = f (inr (q, subst (λ y. Found ways.Reads y s) e x.found))
 
       by : (l : List Todo) → s.run.control ≡ l → made.BindsAt (source_of p) homes many l s → RestAt g l s → FairAt g l s
       by (LoadNow ∷ todo) c b f = λ e. let x = reading_of (table_of p) owns few (Sized p) s todo c e h.run in read todo x x.site refl (f e)

@@ -1,7 +1,7 @@
 -- Every quiet step of a task in which mutex objects are ended by clean-ups alone, and of one that is on the way from such a clean-up to where it reads
 -- what it ends.
 use Rattle.std.proofs.Common.{◌≡◌, ℕ, zero, suc, inl, inr, ◌⊎◌, Bool, true, false, List, [], ◌∷◌, ◌++◌, drop, Option, Some, None, refl, sym, ap, ◌∙◌, subst}
-use Rattle.std.specs.Prelude.{pos, nat_lt, slice_get}
+use Rattle.std.specs.Prelude.{pos, nat_lt, slice_get, if◌then◌else◌}
 use Rattle.uc_tree.specs.Source as src
 use Rattle.uc_tree.specs.Source.{Source, Expr, CleanUp, Routine, routine_or_none, routine_of}
 use Rattle.uc_entry.specs.declared.fault.RunFault.TheVariants.{NoReturn}
@@ -31,7 +31,7 @@ use Rattle.uc_unmarked_laws.specs.Ending.{Spot, OfVariable, OfField, place_at}
 use Rattle.uc_homed_ends.specs.EndCode.{EndSite, AtSpot, AtElement, EndOf, FreeSweep, FreeExpr, FreeStmt, FreeClean, FreeRoutine, FreeSource}
 use Rattle.uc_homed_ends.specs.EndLists.{FreePiece, FreeList, FreeActive, FreeMembers, FreeState, FreeStep}
 use Rattle.uc_homed_ends.specs.EndWays as ways
-use Rattle.uc_homed_ends.specs.EndWays.{Stage, Ends, Loads, Finds, Arrays, Counts, Picks, Reads, todo_at, Found, Leaves, Way, NowState, NowStep}
+use Rattle.uc_homed_ends.specs.EndWays.{Stage, Ends, Loads, Finds, Arrays, Counts, Picks, Reads, todo_at, Found, Leaves, OneLess, Way, NowState, NowStep}
 use Rattle.uc_homed_ends.proofs.EndSteps as steps
 
 -- a piece at which no mutex object is ended
@@ -159,8 +159,8 @@ module _ (tb : Table) (P : State → Type 0) (source : Source) (known : FreeSour
     -- at a clean-up of one
 
     module _ (held : P s) where
-      way_from : (u : State) (x : Expr) (site : EndSite) (en : EndOf tb site x) (todo : List Todo) → u.run.control ≡ piece.Eval x ∷ todo → FreeList tb todo → Leaves site en.routine en.written s.run.control → u.env ≡ s.env → u.run.frame ≡ s.run.frame → u.run.this ≡ s.run.this → u.callers ≡ s.callers → Way tb P u
-      way_from u x site en todo c f l e g o k = record {
+      way_from : (u : State) (x : Expr) (site : EndSite) (en : EndOf tb site x) (todo : List Todo) → u.run.control ≡ piece.Eval x ∷ todo → FreeList tb todo → Leaves site en.routine en.written s.run.control → u.env ≡ s.env → u.run.frame ≡ s.run.frame → u.run.this ≡ s.run.this → u.callers ≡ s.callers → OneLess site s.run.elements u.run.elements → Way tb P u
+      way_from u x site en todo c f l e g o k m = record {
         stage = Ends;
         site = site;
         routine = en.routine;
@@ -176,6 +176,7 @@ module _ (tb : Table) (P : State → Type 0) (source : Source) (known : FreeSour
         start = s;
         leaves = l;
         held = held;
+        elements = m;
         env = e;
         frame = g;
         object = o;
@@ -185,26 +186,26 @@ module _ (tb : Table) (P : State → Type 0) (source : Source) (known : FreeSour
       cleaned : (x : CleanUp) (todo : List Todo) → s.run.control ≡ piece.Clean x ∷ todo → FreeClean tb x → FreeList tb todo → NowStep tb P (quiet.act source (piece.Clean x) todo s)
       cleaned (src.Destroys x) todo e (inl f) h = free_now tb P (quiet.act source (piece.Clean (src.Destroys x)) todo s) (go _ _ ((f, tt), (tt, h)))
       cleaned (src.Destroys x) todo e (inr (p, en)) h =
-          record { run = inr (way_from (at (piece.Eval x ∷ (piece.DropNow ∷ todo)) s.run.operands s) x (AtSpot p) en (piece.DropNow ∷ todo) refl (tt, h) (todo, inl (e ∙ ap (λ x. piece.Clean (src.Destroys x) ∷ todo) en.is)) refl refl refl refl); callers = callers; env = env }
+          record { run = inr (way_from (at (piece.Eval x ∷ (piece.DropNow ∷ todo)) s.run.operands s) x (AtSpot p) en (piece.DropNow ∷ todo) refl (tt, h) (todo, inl (e ∙ ap (λ x. piece.Clean (src.Destroys x) ∷ todo) en.is)) refl refl refl refl tt); callers = callers; env = env }
       cleaned x todo e n h = free_now tb P (quiet.act source (piece.Clean x) todo s) (go _ _ (steps.cleans tb x todo n h))
 
-      swept : (m : ℕ) (x : Expr) (todo : List Todo) → s.run.control ≡ piece.Sweep x ∷ todo → FreeSweep tb x → FreeList tb todo → NowStep tb P (quiet.sweep_step m x todo s)
-      swept m x todo e (inl f) h = free_now tb P (quiet.sweep_step m x todo s) (steps.swept_free tb s callers env m x todo f h)
-      swept zero x todo e (inr (n, p, en)) h = free_now tb P (quiet.sweep_step zero x todo s) (go _ _ h)
-      swept (suc m) x todo e (inr (n, p, en)) h =
+      swept : (m : ℕ) (x : Expr) (todo : List Todo) → s.run.elements ≡ m → s.run.control ≡ piece.Sweep x ∷ todo → FreeSweep tb x → FreeList tb todo → NowStep tb P (quiet.sweep_step m x todo s)
+      swept m x todo q e (inl f) h = free_now tb P (quiet.sweep_step m x todo s) (steps.swept_free tb s callers env m x todo f h)
+      swept zero x todo q e (inr (n, p, en)) h = free_now tb P (quiet.sweep_step zero x todo s) (go _ _ h)
+      swept (suc m) x todo q e (inr (n, p, en)) h =
           let u : State = at (piece.Eval x ∷ (piece.DropNow ∷ (piece.Sweep x ∷ todo))) s.run.operands (quiet.with_elements m s) in
-          record { run = inr (way_from u x (AtElement n p) en (piece.DropNow ∷ (piece.Sweep x ∷ todo)) refl (tt, (inr (n, p, en), h)) (todo, e ∙ ap (λ x. piece.Sweep x ∷ todo) en.is) refl refl refl refl); callers = callers; env = env }
+          record { run = inr (way_from u x (AtElement n p) en (piece.DropNow ∷ (piece.Sweep x ∷ todo)) refl (tt, (inr (n, p, en), h)) (todo, e ∙ ap (λ x. piece.Sweep x ∷ todo) en.is) refl refl refl refl q); callers = callers; env = env }
 
       left_scope : (x : CleanUp) (b : Bool) (todo : List Todo) → s.run.control ≡ piece.Unwind ∷ (piece.Clean x ∷ todo) → FreeClean tb x → FreeList tb todo → NowStep tb P (raising.scope_left x b todo s)
       left_scope (src.Destroys x) b todo e (inl f) h = free_now tb P (raising.scope_left (src.Destroys x) b todo s) (steps.scope tb s callers env (src.Destroys x) b todo f h)
       left_scope (src.Destroys x) b todo e (inr (p, en)) h =
-          record { run = inr (way_from (at (piece.Eval x ∷ (piece.DropNow ∷ (piece.Unwind ∷ todo))) [] s) x (AtSpot p) en (piece.DropNow ∷ (piece.Unwind ∷ todo)) refl (tt, (tt, h)) (todo, inr (inl (e ∙ ap (λ x. piece.Unwind ∷ (piece.Clean (src.Destroys x) ∷ todo)) en.is))) refl refl refl refl); callers = callers; env = env }
+          record { run = inr (way_from (at (piece.Eval x ∷ (piece.DropNow ∷ (piece.Unwind ∷ todo))) [] s) x (AtSpot p) en (piece.DropNow ∷ (piece.Unwind ∷ todo)) refl (tt, (tt, h)) (todo, inr (inl (e ∙ ap (λ x. piece.Unwind ∷ (piece.Clean (src.Destroys x) ∷ todo)) en.is))) refl refl refl refl tt); callers = callers; env = env }
       left_scope x b todo e n h = free_now tb P (raising.scope_left x b todo s) (steps.scope tb s callers env x b todo n h)
 
       left_part : (x : CleanUp) (todo : List Todo) → s.run.control ≡ piece.Unwind ∷ (piece.Part x ∷ todo) → FreeClean tb x → FreeList tb todo → NowStep tb P (raising.unwind_past (piece.IsPart x) todo s)
       left_part (src.Destroys x) todo e (inl f) h = free_now tb P (raising.unwind_past (piece.IsPart (src.Destroys x)) todo s) (go _ _ ((f, tt), (tt, (tt, h))))
       left_part (src.Destroys x) todo e (inr (p, en)) h =
-          record { run = inr (way_from (at (piece.Eval x ∷ (piece.DropNow ∷ (piece.Unwind ∷ todo))) [] s) x (AtSpot p) en (piece.DropNow ∷ (piece.Unwind ∷ todo)) refl (tt, (tt, h)) (todo, inr (inr (e ∙ ap (λ x. piece.Unwind ∷ (piece.Part (src.Destroys x) ∷ todo)) en.is))) refl refl refl refl); callers = callers; env = env }
+          record { run = inr (way_from (at (piece.Eval x ∷ (piece.DropNow ∷ (piece.Unwind ∷ todo))) [] s) x (AtSpot p) en (piece.DropNow ∷ (piece.Unwind ∷ todo)) refl (tt, (tt, h)) (todo, inr (inr (e ∙ ap (λ x. piece.Unwind ∷ (piece.Part (src.Destroys x) ∷ todo)) en.is))) refl refl refl refl tt); callers = callers; env = env }
       left_part x todo e n h = free_now tb P (raising.unwind_past (piece.IsPart x) todo s) (go _ _ (steps.cleans tb x (piece.Unwind ∷ todo) n (tt, h)))
 
       unwound : (todo : List Todo) → s.run.control ≡ piece.Unwind ∷ todo → FreeList tb todo → FreeList tb s.run.control → NowStep tb P (raising.unwind_step todo s)
@@ -215,15 +216,15 @@ module _ (tb : Table) (P : State → Type 0) (source : Source) (known : FreeSour
 
       first : (p : Todo) (todo : List Todo) → s.run.control ≡ p ∷ todo → FreePiece tb p todo → FreeList tb todo → FreeList tb s.run.control → NowStep tb P (quiet.act source p todo s)
       first (piece.Clean x) todo e n h c = cleaned x todo e n h
-      first (piece.Sweep x) todo e n h c = swept s.run.elements x todo e n h
+      first (piece.Sweep x) todo e n h c = swept s.run.elements x todo refl e n h
       first piece.Unwind todo e n h c = unwound todo e h c
       first p todo e n h c = free_now tb P (quiet.act source p todo s) (acts p todo tt n h c)
 
     -- on the way from there
 
     module _ (w : Way tb P s) where
-      next : (k : Stage) (x : EndSite) (b : Bool) (u : State) → u.run.control ≡ todo_at k x w.routine b w.todo → Found k x u → Leaves x w.routine b w.start.run.control → u.env ≡ s.env → u.run.frame ≡ s.run.frame → u.run.this ≡ s.run.this → u.callers ≡ s.callers → NowState tb P u
-      next k x b u c f l e g o r = record {
+      next : (k : Stage) (x : EndSite) (b : Bool) (u : State) → u.run.control ≡ todo_at k x w.routine b w.todo → Found k x u → Leaves x w.routine b w.start.run.control → u.env ≡ s.env → u.run.frame ≡ s.run.frame → u.run.this ≡ s.run.this → u.callers ≡ s.callers → OneLess x w.start.run.elements u.run.elements → NowState tb P u
+      next k x b u c f l e g o r m = record {
         run = inr (record {
           stage = k;
           site = x;
@@ -240,6 +241,7 @@ module _ (tb : Table) (P : State → Type 0) (source : Source) (known : FreeSour
           start = w.start;
           leaves = l;
           held = w.held;
+          elements = m;
           env = e ∙ w.env;
           frame = g ∙ w.frame;
           object = o ∙ w.object;
@@ -249,32 +251,35 @@ module _ (tb : Table) (P : State → Type 0) (source : Source) (known : FreeSour
         env = subst (RestsEnv (FreeActive tb) (FreeActive tb)) (sym e) env;
       }
 
-      picked : (n : ℕ) (p : Spot) (b : Bool) (i : Option ℕ) → top (below s.run.operands) ≡ place_at p s → Leaves (AtElement n p) w.routine b w.start.run.control → NowStep tb P (piece.element_step src.Binding i (piece.LoadNow ∷ ways.entering w.routine b w.todo) (top (below s.run.operands)) (below (below s.run.operands)) s)
-      picked n p b None f l = env
-      picked n p b (Some i) f l = next Reads (AtElement n p) b (at (piece.LoadNow ∷ ways.entering w.routine b w.todo) (further (piece.At src.Binding i) (top (below s.run.operands)) ∷ below (below s.run.operands)) s) refl (i, ap (λ v. further (piece.At src.Binding i) v) (f ∙ sym (same_place p (piece.LoadNow ∷ ways.entering w.routine b w.todo) (further (piece.At src.Binding i) (top (below s.run.operands)) ∷ below (below s.run.operands)) s))) l refl refl refl refl
+      picked : (n : ℕ) (p : Spot) (b : Bool) (c : Bool) → top (below s.run.operands) ≡ place_at p s → Leaves (AtElement n p) w.routine b w.start.run.control → OneLess (AtElement n p) w.start.run.elements s.run.elements → NowStep tb P (piece.element_step src.Binding (if c then Some s.run.elements else None) (piece.LoadNow ∷ ways.entering w.routine b w.todo) (top (below s.run.operands)) (below (below s.run.operands)) s)
+      picked n p b false f l m = env
+      picked n p b true f l m =
+          let todo : List Todo = piece.LoadNow ∷ ways.entering w.routine b w.todo in
+          let vs : List Value = further (piece.At src.Binding s.run.elements) (top (below s.run.operands)) ∷ below (below s.run.operands) in
+          next Reads (AtElement n p) b (at todo vs s) refl (ap (λ v. further (piece.At src.Binding s.run.elements) v) (f ∙ sym (same_place p todo vs s))) l refl refl refl refl m
 
       read : (b : Bool) → FreeList tb (ways.entering w.routine b w.todo)
       read false = (tt, (tt, w.free))
       read true = (tt, (tt, (tt, w.free)))
 
-      onward : (k : Stage) (x : EndSite) (b : Bool) → Found k x s → Leaves x w.routine b w.start.run.control → NowStep tb P (quiet.act_todo source (todo_at k x w.routine b w.todo) s)
-      onward Ends x false f l = next Loads x false _ refl tt l refl refl refl refl
-      onward Ends x true f l = next Loads x true _ refl tt l refl refl refl refl
-      onward Loads x b f l = next Finds x b _ refl tt l refl refl refl refl
-      onward Finds (AtSpot (OfVariable k)) b f l = next Reads (AtSpot (OfVariable k)) b _ refl refl l refl refl refl refl
-      onward Finds (AtSpot (OfField h i)) b f l = next Reads (AtSpot (OfField h i)) b _ refl refl l refl refl refl refl
-      onward Finds (AtElement n p) b f l = next Arrays (AtElement n p) b _ refl tt l refl refl refl refl
-      onward Arrays (AtSpot p) b f l = absurd f
-      onward Arrays (AtElement n (OfVariable k)) b f l = next Counts (AtElement n (OfVariable k)) b _ refl refl l refl refl refl refl
-      onward Arrays (AtElement n (OfField h i)) b f l = next Counts (AtElement n (OfField h i)) b _ refl refl l refl refl refl refl
-      onward Counts (AtSpot p) b f l = absurd f
-      onward Counts (AtElement n p) b f l = next Picks (AtElement n p) b (at (todo_at Picks (AtElement n p) w.routine b w.todo) (piece.Number (pos s.run.elements) ∷ s.run.operands) s) refl (f ∙ sym (same_place p (todo_at Picks (AtElement n p) w.routine b w.todo) (piece.Number (pos s.run.elements) ∷ s.run.operands) s)) l refl refl refl refl
-      onward Picks (AtSpot p) b f l = absurd f
-      onward Picks (AtElement n p) b f l = picked n p b _ f l
-      onward Reads x b f l = record { run = inl (read b); callers = callers; env = env }
+      onward : (k : Stage) (x : EndSite) (b : Bool) → Found k x s → Leaves x w.routine b w.start.run.control → OneLess x w.start.run.elements s.run.elements → NowStep tb P (quiet.act_todo source (todo_at k x w.routine b w.todo) s)
+      onward Ends x false f l m = next Loads x false _ refl tt l refl refl refl refl m
+      onward Ends x true f l m = next Loads x true _ refl tt l refl refl refl refl m
+      onward Loads x b f l m = next Finds x b _ refl tt l refl refl refl refl m
+      onward Finds (AtSpot (OfVariable k)) b f l m = next Reads (AtSpot (OfVariable k)) b _ refl refl l refl refl refl refl m
+      onward Finds (AtSpot (OfField h i)) b f l m = next Reads (AtSpot (OfField h i)) b _ refl refl l refl refl refl refl m
+      onward Finds (AtElement n p) b f l m = next Arrays (AtElement n p) b _ refl tt l refl refl refl refl m
+      onward Arrays (AtSpot p) b f l m = absurd f
+      onward Arrays (AtElement n (OfVariable k)) b f l m = next Counts (AtElement n (OfVariable k)) b _ refl refl l refl refl refl refl m
+      onward Arrays (AtElement n (OfField h i)) b f l m = next Counts (AtElement n (OfField h i)) b _ refl refl l refl refl refl refl m
+      onward Counts (AtSpot p) b f l m = absurd f
+      onward Counts (AtElement n p) b f l m = next Picks (AtElement n p) b (at (todo_at Picks (AtElement n p) w.routine b w.todo) (piece.Number (pos s.run.elements) ∷ s.run.operands) s) refl (refl, f ∙ sym (same_place p (todo_at Picks (AtElement n p) w.routine b w.todo) (piece.Number (pos s.run.elements) ∷ s.run.operands) s)) l refl refl refl refl m
+      onward Picks (AtSpot p) b f l m = absurd f
+      onward Picks (AtElement n p) b f l m = subst (λ v. NowStep tb P (piece.element_step src.Binding (piece.index_in n (number v)) (piece.LoadNow ∷ ways.entering w.routine b w.todo) (top (below s.run.operands)) (below (below s.run.operands)) s)) (sym f.0) (picked n p b (nat_lt s.run.elements n) f.1 l m)
+      onward Reads x b f l m = record { run = inl (read b); callers = callers; env = env }
 
       go_on : NowStep tb P (quiet.quiet source s)
-      go_on = subst (λ l. NowStep tb P (quiet.act_todo source l s)) (sym w.control) (onward w.stage w.site w.written w.found w.leaves)
+      go_on = subst (λ l. NowStep tb P (quiet.act_todo source l s)) (sym w.control) (onward w.stage w.site w.written w.found w.leaves w.elements)
 
   pub walk : (s : State) → P s → NowState tb P s → NowStep tb P (quiet.quiet source s)
   walk s held h = by_run h.run

@@ -1,8 +1,8 @@
 -- On the way from the clean-up of a mutex object to where that is read: nothing changes but what is to do and operands.
-use Rattle.std.specs.Prelude.{◌≡◌, ℕ, ◌⊎◌, Bool, true, List, ◌∷◌, Some}
+use Rattle.std.specs.Prelude.{◌≡◌, ℕ, suc, pos, ◌⊎◌, Bool, true, List, ◌∷◌, Some}
 use Rattle.uc_tree.specs.Source.{Binding, Load, OfObject, EndOn, Counted}
 use Rattle.uc_entry.specs.declared.request.Request.TheVariants as ask
-use Rattle.uc_machine.specs.Pieces.{At, Todo, Eval, LoadNow, ElementNow, Clean, Part, Sweep, Unwind, State, Step, Goes, Ticks, Asks, further, top, below}
+use Rattle.uc_machine.specs.Pieces.{Number, At, Todo, Eval, LoadNow, ElementNow, Clean, Part, Sweep, Unwind, State, Step, Goes, Ticks, Asks, further, top, below}
 use Rattle.uc_site_laws.specs.Resting.{AllWait, RestsEnv}
 use Rattle.uc_typing.specs.Typing.{Table}
 use Rattle.uc_value_laws.specs.Endings.{OnObject, behind_end}
@@ -36,7 +36,7 @@ todo_at Counts (AtElement n p) r written todo =
 todo_at Picks (AtElement n p) r written todo = ElementNow n Binding ∷ (LoadNow ∷ entering r written todo)
 todo_at k x r written todo = LoadNow ∷ entering r written todo
 
--- the place is found: of an element, that of its array first
+-- the place is found: of an element, that of its array first; it is the last one that stood, so as many stand now as are before it
 abbrev pub Found : Stage → EndSite → State → Type 0
 Found Ends x s = Unit {0}
 Found Loads x s = Unit {0}
@@ -46,9 +46,10 @@ Found Arrays (AtElement n p) s = Unit {0}
 Found Counts (AtSpot p) s = ⊥
 Found Counts (AtElement n p) s = top s.run.operands ≡ place_at p s
 Found Picks (AtSpot p) s = ⊥
-Found Picks (AtElement n p) s = top (below s.run.operands) ≡ place_at p s
+Found Picks (AtElement n p) s = (top s.run.operands ≡ Number (pos s.run.elements)) ×
+    (top (below s.run.operands) ≡ place_at p s)
 Found Reads (AtSpot p) s = top s.run.operands ≡ place_at p s
-Found Reads (AtElement n p) s = (j : ℕ) × (top s.run.operands ≡ further (At Binding j) (place_at p s))
+Found Reads (AtElement n p) s = top s.run.operands ≡ further (At Binding s.run.elements) (place_at p s)
 
 -- the scope of what is at a site is left, or it is a part of the object at hand and that is left, or it is the last element that stands of an array
 abbrev pub Leaves : EndSite → ℕ → Bool → List Todo → Type 0
@@ -57,6 +58,11 @@ Leaves (AtSpot p) r written control = (todo : List Todo) ×
     ((control ≡ Unwind ∷ (Clean (ends_at p r written) ∷ todo)) ⊎ (control ≡ Unwind ∷ (Part (ends_at p r written) ∷ todo))))
 Leaves (AtElement n p) r written control = (todo : List Todo) ×
     (control ≡ Sweep (OfObject (EndOn r written (Load (named (AtElement n p))))) ∷ todo)
+
+-- of an array one element stands no more
+abbrev pub OneLess : EndSite → ℕ → ℕ → Type 0
+OneLess (AtSpot p) m n = Unit {0}
+OneLess (AtElement k p) m n = m ≡ suc n
 
 module _ (t : Table) (P : State → Type 0) where
   -- who is on the way was at such a clean-up before, in a state of which this held, with the same memory
@@ -76,6 +82,7 @@ module _ (t : Table) (P : State → Type 0) where
     pub start : State
     pub leaves : Leaves site routine written start.run.control
     pub held : P start
+    pub elements : OneLess site start.run.elements s.run.elements
     pub env : s.env ≡ start.env
     pub frame : s.run.frame ≡ start.run.frame
     pub object : s.run.this ≡ start.run.this

@@ -48,10 +48,10 @@ pub record LawReads : Type 0 where
       LeadsMeet (Opens (table_of p) owns few) (source_of p) (answered (source_of p) c.given (drawn j w t)) s c.leads →
       LeadsMeet (Reads few) (source_of p) (answered (source_of p) c.given (drawn j w t)) s c.leads
 
--- a place is a field of the object at hand, or an element of an array that is a variable or such a field
+-- a place is a field of the object at hand, or the element that is counted of an array that is a variable or such a field
 abbrev pub IsElsewhere : State → Value → Type 0
 IsElsewhere s v = ((h : Shape) × (i : ℕ) × (v ≡ further (FieldAt h i) s.run.this)) ⊎
-    ((p : Spot) × (j : ℕ) × (v ≡ further (At Binding j) (place_at p s)))
+    ((p : Spot) × (v ≡ further (At Binding s.run.elements) (place_at p s)))
 
 -- what is left to find for marks that are put: where an object that is to be destroyed is loaded from such a place, it is at home there; and what is asked
 -- elsewhere, as before
