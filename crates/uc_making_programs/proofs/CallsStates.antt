@@ -32,10 +32,10 @@ use Rattle.uc_world_laws.specs.Rooted.{IsPlace}
 use Rattle.uc_world_laws.proofs.Rooted.{within_object, things_place, stands_things}
 use Rattle.uc_unmarked_laws.specs.Belonging.{Belongs, object}
 use Rattle.uc_unmarked_laws.specs.Ending.{Spot, calling}
-use Rattle.uc_putting_laws.specs.CleanedSpots.{Under, site_spot, IsOf}
+use Rattle.uc_putting_laws.specs.CleanedSpots.{Under, site_spot, IsOf, IsIn}
 use Rattle.uc_putting_laws.specs.ObjectsAtHand.{LiesUnder}
 use Rattle.uc_putting_laws.specs.Putting as putting
-use Rattle.uc_putting_laws.specs.Putting.{Setting, rests, FirstUnder, FirstHome, IsIn, LoneAt, CallFits, PutState, spot_at}
+use Rattle.uc_putting_laws.specs.Putting.{Setting, rests, FirstUnder, FirstHome, LoneAt, CallFits, PutState, spot_at}
 use Rattle.uc_putting_laws.specs.PuttingLaws.{special_of, setting_of}
 use Rattle.uc_putting_laws.proofs.Marks.{holds_drop, home_of, under_of, stands_under, under_spot}
 use Rattle.uc_putting_laws.proofs.ObjectsWithin.{below_own}
