@@ -129,7 +129,7 @@ module _ (p : Program) (formed : IsFormed p) (ok : breaks_of p ≡ []) (input : 
       ride_both Lasts (λ v. Seats v × Known v) source d.rides x.lasts_now (ride_both Seats Known source d.rides x.seats_now (met.rides q t n s asked d x.met_now))
 
   module _ (a : AsksAt All source start asked.request s) where
-    comes : Comes source j w t a.state
+    abbrev comes : Comes source j w t a.state
     comes = record { given = d.given; processor = q; runs = d.runs; told = d.told; leads = a.leads }
 
     lasts_there : LeadsMeet Lasts source start a.state a.leads
