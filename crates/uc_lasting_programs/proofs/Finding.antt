@@ -28,8 +28,8 @@ use Rattle.uc_unmarked_laws.specs.Belonging.{Belongs, frame}
 use Rattle.uc_depth_laws.specs.Entering.{EndsMain, IsMainRoutine, IsMain, EnteredSource}
 use Rattle.uc_depth_laws.proofs.Answers.{law_steps}
 use Rattle.uc_depth_laws.proofs.Standing.{law_free, law_drawn}
-use Rattle.uc_inner_laws.specs.Inner.{Part, Plain, Helper, Maker, Uncalled, Begun, Ground, InnerSource}
-use Rattle.uc_inner_laws.specs.Standing.{Mark, Base, Ok, Ready, StandsState, StandsStep}
+use Rattle.uc_inner_laws.specs.Inner.{Part, Plain, Helper, Maker, Uncalled, Begun, Ground, InnerSource, params as inner_params}
+use Rattle.uc_inner_laws.specs.Standing.{Mark, Base, Ok, Ready, ground, rests, StandsState, StandsStep}
 use Rattle.uc_inner_laws.proofs.Walk.{law_steps as inner_steps}
 use Rattle.uc_enter_laws.proofs.Routines.{law_entered}
 use Rattle.uc_letting_laws.specs.AloneRuns.{RunAlone}
@@ -94,8 +94,8 @@ module _ (part : ℕ → Part) (source : Source) (mains : (r : ℕ) → IsMain s
   called : (b : Base) (ms : List Mark) (l : List Todo) → Ok part source b ms l → CallsNoMainBy source l
   called b ms [] h = tt
   called b ms (piece.CallNow r ∷ todo) h = none_main (slice_get source.routines r) (λ m. subst IsUncalled h.0.0 (mains r m))
-  called b ms (piece.CallOnNow r ∷ todo) h = none_main (slice_get source.routines r) (λ m. ready_part _ (part r) _ h.0.0 (mains r m))
-  called b ms (piece.CallUnwrittenNow r ∷ todo) h = none_main (slice_get source.routines r) (λ m. ready_part _ (part r) _ h.0.0 (mains r m))
+  called b ms (piece.CallOnNow r ∷ todo) h = none_main (slice_get source.routines r) (λ m. ready_part (ground b.ground todo) (part r) (rests (inner_params part source r) ms) h.0.0 (mains r m))
+  called b ms (piece.CallUnwrittenNow r ∷ todo) h = none_main (slice_get source.routines r) (λ m. ready_part (ground b.ground todo) (part r) (rests (inner_params part source r) ms) h.0.0 (mains r m))
   called b ms (p ∷ todo) h = tt
 
 state_calls : (part : ℕ → Part) (source : Source) → ((r : ℕ) → IsMain source r → IsUncalled (part r)) → (mine : ℕ) (s : State) → StandsState part source mine s → CallsNoMain source s

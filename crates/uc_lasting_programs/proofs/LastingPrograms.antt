@@ -129,18 +129,18 @@ module _ (p : Program) (formed : IsFormed p) (ok : breaks_of p ≡ []) (input : 
       ride_both Lasts (λ v. Seats v × Known v) source d.rides x.lasts_now (ride_both Seats Known source d.rides x.seats_now (met.rides q t n s asked d x.met_now))
 
   module _ (a : AsksAt All source start asked.request s) where
-    comes : Comes source j w t a.state
+    abbrev comes : Comes source j w t a.state
     comes = record { given = d.given; processor = q; runs = d.runs; told = d.told; leads = a.leads }
 
     lasts_there : LeadsMeet Lasts source start a.state a.leads
     lasts_there = leads_map All Lasts source (λ v h. h.0) a.leads a.meets
 
     seats_there : LeadsMeet Seats source start a.state a.leads
-    seats_there = leads_map All Seats source (λ v h. h.1) a.leads a.meets
+    seats_there = leads_map All Seats source (λ v h. h.1.0) a.leads a.meets
 
     known_there : KnowsState (table_of p) x.few [] a.state
     known_there =
-        (law_known_runs p formed ok x.few input opts range j w r f on x.below x.main met.runs).comes t a.state comes (leads_map All Known source (λ v h. h.2) a.leads a.meets)
+        (law_known_runs p formed ok x.few input opts range j w r f on x.below x.main met.runs).comes t a.state comes (leads_map All Known source (λ v h. h.1.1) a.leads a.meets)
 
     -- a call of what is no destructor is of what is not gone
     calls : (o m : ℕ) → quiet source a.state ≡ Asks (ask.Call o m) s → is_gone o j ≡ false
