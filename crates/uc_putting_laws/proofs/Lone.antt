@@ -20,7 +20,7 @@ use Rattle.uc_putting_laws.specs.CleanedSpots.{Site, site_spot, IsAtVariable, pl
 use Rattle.uc_putting_laws.specs.ObjectsAtHand as hand
 use Rattle.uc_putting_laws.specs.ObjectsAtHand.{OwnedBy, same_place, further_on, there, at_home, variable, OwnMarked, IsSeated}
 use Rattle.uc_putting_laws.specs.Calling.{CleansBy, RaisesBy, CallingEvent}
-use Rattle.uc_putting_laws.specs.Putting.{Setting, Mark, spot_at, LoneAt, CodeStmt, CodeRest, CodeScope, CodePart, Ok, Left, Runs, Waits}
+use Rattle.uc_putting_laws.specs.Putting.{Setting, spot_at, LoneAt, CodeStmt, CodeRest, CodeScope, CodePart, Ok, Left, Runs, Waits}
 use Rattle.uc_putting_laws.proofs.CleanedSpots.{some_one, spot_named, below_more, all_others}
 use Rattle.uc_putting_laws.proofs.ObjectsWithin.{owner_one, owned_under, one_object, no_frame, within_under, below_own, under_below, not_below}
 use Rattle.uc_putting_laws.proofs.Fields.{field_lone}

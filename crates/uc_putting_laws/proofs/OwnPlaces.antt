@@ -1,5 +1,5 @@
 -- What is bound is a place of the execution's own.
-use Rattle.std.proofs.Common.{◌≡◌, ℕ, suc, ◌<◌, true, false, List, [], ◌∷◌, refl, arith}
+use Rattle.std.proofs.Common.{◌≡◌, ℕ, suc, false, List, [], ◌∷◌, arith}
 use Rattle.std.specs.Prelude.{drop, slice_get}
 use Rattle.uc_tree.specs.Programs.{Program}
 use Rattle.uc_entry.specs.declared.entry.Entry.{Entry}

@@ -1,5 +1,5 @@
 -- A mark that is put next is put for what is the execution's own, and nothing outwards stands around it.
-use Rattle.std.proofs.Common.{◌≡◌, ℕ, inl, inr, true, List, ◌∷◌, sym, subst}
+use Rattle.std.proofs.Common.{◌≡◌, ℕ, inl, inr, true, List, ◌∷◌, subst}
 use Rattle.uc_tree.specs.Source as src
 use Rattle.uc_tree.specs.Source.{Shape, CleanUp}
 use Rattle.uc_machine.specs.Pieces as piece

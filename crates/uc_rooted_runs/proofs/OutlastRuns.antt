@@ -61,21 +61,21 @@ module _ (whole : Makers) (before : Exec → List Placed) (asked : Exec → Bool
   abbrev Now : (Exec → Bool) → Exec → Bool
   Now made = now makers asked made
 
-  now_asked : (made : Exec → Bool) (x : Exec) → now makers asked made x ≡ true → asked x ≡ true
+  pub now_asked : (made : Exec → Bool) (x : Exec) → now makers asked made x ≡ true → asked x ≡ true
   now_asked made x h = by (asked x) refl h
     where
       by : (b : Bool) → asked x ≡ b → (if b then made x else false) ≡ true → asked x ≡ true
       by true e h = e
       by false e h = absurd (cc)
 
-  now_made : (made : Exec → Bool) (x : Exec) → now makers asked made x ≡ true → made x ≡ true
+  pub now_made : (made : Exec → Bool) (x : Exec) → now makers asked made x ≡ true → made x ≡ true
   now_made made x h = by (asked x) h
     where
       by : (b : Bool) → (if b then made x else false) ≡ true → made x ≡ true
       by true h = h
       by false h = absurd (cc)
 
-  not_now : (made : Exec → Bool) (x : Exec) → asked x ≡ true → now makers asked made x ≡ false → made x ≡ false
+  pub not_now : (made : Exec → Bool) (x : Exec) → asked x ≡ true → now makers asked made x ≡ false → made x ≡ false
   not_now made x e h = ap (λ b. if b then made x else false) (sym e) ∙ h
 
   -- what a state makes
@@ -155,7 +155,7 @@ module _ (whole : Makers) (before : Exec → List Placed) (asked : Exec → Bool
         by true e = e
         by false e = absurd (f x (born x h e))
 
-    step_goes : (u : State) → quiet.quiet source s ≡ Goes u → OutlastState makers (now makers asked (made_behind source s made)) u
+    pub step_goes : (u : State) → quiet.quiet source s ≡ Goes u → OutlastState makers (now makers asked (made_behind source s made)) u
     step_goes u e = by (now makers asked (made_behind source s made) (new_exec (home_at s.run.this s.env) s.env)) refl (now makers asked made (new_exec (home_at s.run.this s.env) s.env)) refl
       where
         y : OutlastState makers (now makers asked made) u
@@ -184,7 +184,7 @@ module _ (whole : Makers) (before : Exec → List Placed) (asked : Exec → Bool
             still x h true f = f
             still x h false f = no_both (now makers asked (made_behind source s made) (new_exec (home_at s.run.this s.env) s.env)) (ap (now makers asked (made_behind source s made)) (sym (born x h f).named) ∙ h) g
 
-    step_ticks : (u : State) → quiet.quiet source s ≡ Ticks u → OutlastState makers (now makers asked (made_behind source s made)) u
+    pub step_ticks : (u : State) → quiet.quiet source s ≡ Ticks u → OutlastState makers (now makers asked (made_behind source s made)) u
     step_ticks u e =
         state_fewer makers (now makers asked made) (now makers asked (made_behind source s made)) u (subst (OutlastStep makers (now makers asked made)) e (walking.walk makers (now makers asked made) source s st a.spares)) (same_asked (λ x b. goes_only source s u x b e))
 
@@ -230,7 +230,7 @@ module _ (whole : Makers) (before : Exec → List Placed) (asked : Exec → Bool
   hand_told up [] homes h = tt
   hand_told up (o ∷ os) homes h = with_hand_told up o (homes o) (hand_of os homes) (h o) (hand_told up os homes h)
 
-  drawn_told : (up : Exec → Bool) (j : Journal) (w : World) (t : ℕ) → t < task_count j → OutlastWorld makers up j w → OutlastState makers up (drawn j w t)
+  pub drawn_told : (up : Exec → Bool) (j : Journal) (w : World) (t : ℕ) → t < task_count j → OutlastWorld makers up j w → OutlastState makers up (drawn j w t)
   drawn_told up j w t l h = record {
     stack = h.stacks t l;
     env = record { house = (h.tasks t).house; hand = hand_told up (held t j) w.homes h.homes };
