@@ -1,22 +1,17 @@
 -- Mains are parts that nobody calls.
-use Rattle.std.proofs.Common.{◌≡◌, ℕ, inl, inr, ◌⊎◌, [], Bool, true, false, Option, Some, None, refl, sym, ap, ◌∙◌, subst}
+use Rattle.std.proofs.Common.{◌≡◌, ℕ, inl, inr, ◌⊎◌, Bool, true, false, Option, Some, None, refl, sym, ap, ◌∙◌, subst}
 use Rattle.std.specs.Prelude.{slice_get}
-use Rattle.uc_tree.specs.Programs.{Program}
 use Rattle.uc_tree.specs.Source as src
 use Rattle.uc_tree.specs.Source.{Exprs, ObjectExpr, CleanUp, TaskStmt, Purpose, Routine, Source}
 use Rattle.uc_resolve.specs.Resolve.{source_of}
-use Rattle.uc_rules.specs.ProgramVisits.{program_visits}
 use Rattle.uc_typing.specs.Typing.{Inward, Apart, Main}
-use Rattle.uc_agreement.specs.Unbroken.{Unbroken}
-use Rattle.uc_sound.specs.Formed.{IsFormed}
-use Rattle.uc_sound.specs.Tables.{table_of}
-use Rattle.uc_depth_laws.specs.Entering.{EndsMain, IsMainRoutine, IsMain}
+use Rattle.uc_depth_laws.specs.Entering.{EndsMain, IsMainRoutine}
 use Rattle.uc_inner_laws.specs.Inner as inner
 use Rattle.uc_inner_laws.specs.Inner.{Part, Plain, Helper, Maker, Uncalled, Begun, Ground, ground_of, under, InnerRoutine, InnerSource}
 use Rattle.uc_source_laws.specs.SourceLaws.{part_by, part_of}
 use Rattle.uc_source_laws.proofs.InnerSources.{law_inner}
 use Rattle.uc_calls_laws.specs.Calls as calls
-use Rattle.uc_calls_laws.specs.Calls.{IsNoMain, CallsRoutine, ends_main, is_main_by, main_part, main_part_of, IsUncalled, LawNoMains}
+use Rattle.uc_calls_laws.specs.Calls.{IsNoMain, CallsRoutine, ends_main, is_main_by, main_part, IsUncalled, LawNoMains}
 use Rattle.uc_calls_laws.proofs.Mains.{main_inward}
 use Rattle.uc_calls_laws.proofs.BothWalks as both
 use Rattle.uc_calls_laws.proofs.CallRoutines.{no_main_source}

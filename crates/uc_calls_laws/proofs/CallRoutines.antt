@@ -1,5 +1,5 @@
 -- In the source of every program that breaks no rule no main is called.
-use Rattle.std.proofs.Common.{◌≡◌, ℕ, zero, suc, ◌+◌, ◌-◌, ◌≤◌, ◌++◌, List, [], ◌∷◌, length, Option, Some, None, Bool, true, false, refl, sym, ap, ◌∙◌, subst, arith}
+use Rattle.std.proofs.Common.{◌≡◌, ℕ, suc, ◌+◌, ◌-◌, ◌++◌, List, [], ◌∷◌, Option, Some, None, Bool, true, false, refl, sym, subst}
 use Rattle.std.specs.Prelude.{slice_get, if◌then◌else◌, option_map}
 use Rattle.uc_tree.specs.declared.kinds.Kind.{Kind}
 use Rattle.uc_tree.specs.declared.kinds.Kind.TheVariants as kind
@@ -11,42 +11,38 @@ use Rattle.uc_tree.specs.Expressions as expr
 use Rattle.uc_tree.specs.Programs as whole
 use Rattle.uc_tree.specs.Programs.{Program}
 use Rattle.uc_tree.specs.Numbering.{Defined, is_mutex, routines_of}
-use Rattle.uc_tree.specs.Objects.{Making, making, ClassField, fields_of, has_execution, class_at, class_shape, shape_of, Unwritten, unwritten_of}
+use Rattle.uc_tree.specs.Objects.{Making, making, ClassField, fields_of, has_execution, class_at, class_shape, shape_of, unwritten_of}
 use Rattle.uc_tree.specs.Source as src
 use Rattle.uc_tree.specs.Source.{Shape, Expr, Stmts, Purpose, Routine, Source}
 use Rattle.uc_resolve.specs.Standings as tree
 use Rattle.uc_resolve.specs.Standings.{Meant}
 use Rattle.uc_resolve.specs.Resolve as meaning
 use Rattle.uc_resolve.specs.Resolve.{Scope, source_of, routine_scope, place_by}
-use Rattle.uc_rules.specs.declared.rules.Entity.{Entity}
 use Rattle.uc_rules.specs.declared.rules.Expected.{Expected}
 use Rattle.uc_rules.specs.declared.rules.FieldPlace.{FieldPlace}
-use Rattle.uc_rules.specs.declared.rules.NameMeaning.{NameMeaning}
 use Rattle.uc_rules.specs.declared.rules.Surroundings.{Surroundings}
 use Rattle.uc_rules.specs.declared.rules.Target.{Target}
 use Rattle.uc_typing.specs.Typing.{Sig}
 use Rattle.uc_tree.specs.declared.kinds.Param.{Param}
 use Rattle.uc_rules.specs.Scopes.{Env, plain_env, sig_around, with_param, with_params, param_seen, place_of}
-use Rattle.uc_rules.specs.Sorts.{sort_of}
 use Rattle.uc_rules.specs.Entities.{entity_of, expected}
-use Rattle.uc_rules.specs.ProgramVisits.{program_visits, params_visits, sig_visits, base_visits, body_visits, routine_visits, inits_visits, init_arg_visits, init_args_visits, init_target, argument_env, field_of, last_field}
-use Rattle.uc_rules.specs.Visits.{Visit, AtBase, AtParam, AtSig, AtInits, AtInit, AtArgument, AtBound, visits, stmts_visits}
-use Rattle.uc_rules.specs.Breaks.{breaks_at}
+use Rattle.uc_rules.specs.ProgramVisits.{program_visits, params_visits, sig_visits, base_visits, body_visits, inits_visits, init_arg_visits, init_args_visits, init_target, argument_env, field_of, last_field}
+use Rattle.uc_rules.specs.Visits.{AtBase, AtParam, AtSig, AtInits, AtInit, AtArgument, AtBound, visits, stmts_visits}
 use Rattle.uc_agreement.specs.Unbroken.{Unbroken}
 use Rattle.uc_agreement.proofs.Ties.{some_same, none_some}
 use Rattle.uc_agreement.proofs.UnbrokenLemmas.{first, second, one}
 use Rattle.uc_sound.specs.Formed.{IsFormed}
-use Rattle.uc_sound.specs.Rooted.{IsStood, Rooted}
+use Rattle.uc_sound.specs.Rooted.{Rooted}
 use Rattle.uc_sound.specs.Tables.{routine_sig_in, table_of}
 use Rattle.uc_sound.proofs.BodyLemmas.{InStep, is_written, nobody_wrote, in_step}
-use Rattle.uc_sound.proofs.DestructionLemmas.{Standing, standing, params_program}
+use Rattle.uc_sound.proofs.DestructionLemmas.{Standing, standing}
 use Rattle.uc_sound.proofs.GivingLemmas.{stood_stands}
 use Rattle.uc_sound.proofs.Origins.{origin}
 use Rattle.uc_sound.proofs.RootedLemmas.{rooted}
 use Rattle.uc_sound.proofs.Visited.{base_known}
 use Rattle.uc_enter_laws.proofs.Lookups.{MakesPlain, making_plain}
-use Rattle.uc_calls_laws.specs.Calls.{CallsExpr, CallsStmt, CallsStmts, CallsRoutine, NoMainSource}
-use Rattle.uc_calls_laws.proofs.MainNames.{IsLocal, AreLocals}
+use Rattle.uc_calls_laws.specs.Calls.{CallsExpr, CallsStmts, CallsRoutine, NoMainSource}
+use Rattle.uc_calls_laws.proofs.MainNames.{IsLocal}
 use Rattle.uc_calls_laws.proofs.CallExprs as exprs
 use Rattle.uc_calls_laws.proofs.CallExprs.{AllMeant}
 use Rattle.uc_calls_laws.proofs.CallStatements as statements

@@ -1,5 +1,5 @@
 -- What statements stand for calls no main, where no rule is broken.
-use Rattle.std.proofs.Common.{◌≡◌, ℕ, zero, suc, ◌+◌, ◌++◌, inl, inr, List, [], ◌∷◌, Option, Some, None, Bool, true, false, refl, sym, ap, ◌∙◌, subst, arith}
+use Rattle.std.proofs.Common.{◌≡◌, ℕ, ◌+◌, ◌++◌, List, [], ◌∷◌, Option, Some, None, Bool, true, false, refl, sym, ◌∙◌, subst}
 use Rattle.std.specs.Prelude.{◌&&◌, ◌||◌, not, is_some, if◌then◌else◌, option_map}
 use Rattle.uc_tree.specs.declared.pos.Pos.{Pos}
 use Rattle.uc_tree.specs.declared.kinds.Base.{Base}
@@ -18,7 +18,7 @@ use Rattle.uc_tree.specs.Numbering.{is_given, is_plain}
 use Rattle.uc_tree.specs.Objects.{Making, APlain, AMutex, ACluster, AProcessor, making, written_at, unwritten_number, shape_of, event_place}
 use Rattle.uc_tree.specs.Programs.{Program}
 use Rattle.uc_tree.specs.Source as src
-use Rattle.uc_tree.specs.Source.{Shape, Expr, CleanUp, Stmt, Stmts, Clauses, Source}
+use Rattle.uc_tree.specs.Source.{Shape, Expr, Stmt, Stmts, Clauses, Source}
 use Rattle.uc_resolve.specs.Standings as tree
 use Rattle.uc_resolve.specs.Standings.{Meant}
 use Rattle.uc_resolve.specs.Resolve as meaning
@@ -32,30 +32,27 @@ use Rattle.uc_rules.specs.declared.rules.LocalName.{LocalName}
 use Rattle.uc_rules.specs.declared.rules.Origin.TheVariants as origin
 use Rattle.uc_rules.specs.declared.rules.Target.{Target}
 use Rattle.uc_rules.specs.Sorts.{sort_of}
-use Rattle.uc_rules.specs.Names.{variable, declared_entity}
+use Rattle.uc_rules.specs.Names.{variable}
 use Rattle.uc_rules.specs.Scopes as scopes
 use Rattle.uc_rules.specs.Scopes.{Env, opened, with_around, with_joins, with_seen, with_caught, caught_entity, event_named, event_sort, place_of, declared, all_declared, seen_as, env_after, local_named, named, value_named}
 use Rattle.uc_tree.specs.Constants.{length_in}
 use Rattle.uc_rules.specs.Entities.{entity_of, path_member, takes, is_main, given, count}
 use Rattle.uc_rules.specs.ExpressionBreaks.{handlers_breaks, is_event_or_all, behind_all, is_catch}
 use Rattle.uc_rules.specs.ProgramVisits.{program_visits}
-use Rattle.uc_rules.specs.Visits.{Visit, AtBase, AtHandlers, AtEvent, AtRaise, AtRaiseTarget, AtAccept, AtCaught, AtMigrate, AtTogether, AtStatement, AtVariable, visits, args_visits, arg_visits, maybe_visits, condition_visits, maybe_condition_visits, statement_visits, maybe_statement_visits, return_visits, outs_visits, out_visits, reads_visits, read_visits, start_values, variable_target, variable_visits, variables_visits, declaration_visits, event_target, raised_visits, raise_visits, events_visits, looped, joined, handling, stmt_visits, stmts_visits, maybe_stmt_visits, handlers_visits, clauses_visits}
-use Rattle.uc_rules.specs.Breaks.{breaks_at}
+use Rattle.uc_rules.specs.Visits.{Visit, AtBase, AtHandlers, AtEvent, AtRaise, AtRaiseTarget, AtAccept, AtCaught, AtVariable, visits, args_visits, arg_visits, maybe_visits, condition_visits, maybe_condition_visits, statement_visits, maybe_statement_visits, return_visits, outs_visits, out_visits, reads_visits, read_visits, start_values, variable_target, variable_visits, variables_visits, declaration_visits, event_target, raised_visits, raise_visits, events_visits, looped, joined, handling, stmt_visits, stmts_visits, maybe_stmt_visits, handlers_visits, clauses_visits}
 use Rattle.uc_agreement.specs.Unbroken.{Unbroken, Stands, IsKnown}
 use Rattle.uc_agreement.proofs.Ties.{some_same, none_some, false_true}
 use Rattle.uc_rules.specs.Asked.{unless}
 use Rattle.uc_agreement.proofs.UnbrokenLemmas.{none_left, none_right, first, second, one, holds}
 use Rattle.uc_sound.specs.Formed.{IsFormed, nameless, own_nameless}
 use Rattle.uc_sound.specs.Rooted.{root_named}
-use Rattle.uc_sound.specs.Tables.{table_of}
 use Rattle.uc_sound.proofs.Lists.{left_is}
 use Rattle.uc_sound.proofs.Visited.{base_known}
 use Rattle.uc_sound.proofs.ClassNames.{sorted_event}
 use Rattle.uc_sound.proofs.ClassLemmas.{law_told}
 use Rattle.uc_sound.proofs.MemberLemmas.{tells_maker}
 use Rattle.uc_enter_laws.proofs.Lookups.{IsPlainClass, IsObjectClass, MakesPlain, making_plain}
-use Rattle.uc_depth_laws.specs.Entering.{IsMain}
-use Rattle.uc_calls_laws.specs.Calls.{IsNoMain, CallsExpr, CallsExprs, CallsMaybe, CallsItems, CallsTargets, CallsDeclared, CallsClean, CallsRaised, CallsStmt, CallsStmts, CallsHandlers, CallsClauses}
+use Rattle.uc_calls_laws.specs.Calls.{IsNoMain, CallsExpr, CallsMaybe, CallsItems, CallsTargets, CallsDeclared, CallsClean, CallsRaised, CallsStmt, CallsStmts, CallsHandlers, CallsClauses}
 use Rattle.uc_calls_laws.proofs.Mains.{whole_no_main}
 use Rattle.uc_calls_laws.proofs.MainNames.{IsLocal, AreLocals}
 use Rattle.uc_calls_laws.proofs.CallExprs as exprs

@@ -1,11 +1,11 @@
 -- What the name of a main stands for under the rules is a main, or nothing that is called.
-use Rattle.std.proofs.Common.{◌≡◌, ℕ, zero, suc, ◌+◌, List, [], ◌∷◌, Option, Some, None, Bool, true, false, refl, sym, ap, ◌∙◌, subst, arith}
+use Rattle.std.proofs.Common.{◌≡◌, ℕ, suc, ◌+◌, List, [], ◌∷◌, Option, Some, None, Bool, true, false, refl, sym, ap, ◌∙◌, subst, arith}
 use Rattle.std.specs.Prelude.{◌&&◌, ◌||◌, not, is_some, slice_get, if◌then◌else◌, option_map, option_and_then}
 use Rattle.uc_tree.specs.declared.pos.Pos.{Pos}
 use Rattle.uc_tree.specs.declared.kinds.Access.{Access}
 use Rattle.uc_tree.specs.declared.kinds.Base.{Base}
 use Rattle.uc_tree.specs.declared.kinds.MutexMark.{MutexMark}
-use Rattle.uc_tree.specs.Names.{same_name, fail_name}
+use Rattle.uc_tree.specs.Names.{same_name}
 use Rattle.uc_tree.specs.Numbering.{is_given, is_plain, main_name}
 use Rattle.uc_tree.specs.Statements.{Declarator}
 use Rattle.uc_tree.specs.Programs as whole
@@ -22,7 +22,7 @@ use Rattle.uc_rules.specs.declared.rules.OwnClass.{OwnClass}
 use Rattle.uc_rules.specs.Asked.{unless}
 use Rattle.uc_rules.specs.Sorts.{sort_of, class_at}
 use Rattle.uc_rules.specs.Names as names
-use Rattle.uc_rules.specs.Names.{Owned, variable, form_sig, method_sig, item_sig, routine_sig, member_named, outer_named}
+use Rattle.uc_rules.specs.Names.{Owned, variable, form_sig, method_sig, item_sig, member_named, outer_named}
 use Rattle.uc_rules.specs.Scopes as scopes
 use Rattle.uc_rules.specs.Scopes.{Env, named, local_named, own_named}
 use Rattle.uc_rules.specs.Entities as rules
@@ -30,7 +30,7 @@ use Rattle.uc_rules.specs.Entities.{takes, is_main, may_call, is_object, path_me
 use Rattle.uc_rules.specs.ExpressionBreaks.{is_member, is_no_main, is_open_member, may_name}
 use Rattle.uc_rules.specs.Visits.{AtUse, AtMember, AtCall}
 use Rattle.uc_rules.specs.Breaks.{breaks_at}
-use Rattle.uc_agreement.specs.Unbroken.{Stands, IsKnown}
+use Rattle.uc_agreement.specs.Unbroken.{IsKnown}
 use Rattle.uc_agreement.proofs.Ties.{some_same, none_some, false_true}
 use Rattle.uc_agreement.proofs.UnbrokenLemmas.{none_right, holds}
 use Rattle.uc_sound.proofs.Lists.{left_is, right_is, not_is}

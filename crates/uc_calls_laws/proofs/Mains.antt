@@ -1,13 +1,13 @@
 -- Which routines of a program are mains: plain ones by the name of one.
-use Rattle.std.proofs.Common.{◌≡◌, ℕ, ◌+◌, ◌⊎◌, inl, inr, ◌++◌, List, [], ◌∷◌, length, Option, Some, None, Bool, true, false, refl, sym, ap, ◌∙◌, subst, arith}
+use Rattle.std.proofs.Common.{◌≡◌, ℕ, ◌+◌, ◌⊎◌, inl, inr, List, Option, Some, None, Bool, true, false, refl, sym, ap, ◌∙◌, subst, arith}
 use Rattle.std.specs.Prelude.{◌&&◌, ◌||◌, nat_eq, slice_get, if◌then◌else◌}
 use Rattle.std.proofs.lemmas.Bool.{eqb-true}
 use Rattle.uc_tree.specs.declared.kinds.Base.{Base}
 use Rattle.uc_tree.specs.declared.kinds.Role.{Role}
 use Rattle.uc_tree.specs.declared.kinds.Role.TheVariants as role
 use Rattle.uc_tree.specs.Names.{same_name}
-use Rattle.uc_tree.specs.Numbering.{Defined, defined_by, main_name, is_mutex, is_plain, member_number, routines_of}
-use Rattle.uc_tree.specs.Objects.{class_at, number_at, is_member, member_from, written_at, unwritten_number, unwritten_of, Unwritten}
+use Rattle.uc_tree.specs.Numbering.{Defined, defined_by, main_name, is_mutex, is_plain, routines_of}
+use Rattle.uc_tree.specs.Objects.{class_at, is_member, member_from, unwritten_of}
 use Rattle.uc_tree.specs.ProgramMain as program
 use Rattle.uc_tree.specs.ProgramMain.{main_number}
 use Rattle.uc_tree.specs.Programs as whole
@@ -15,12 +15,12 @@ use Rattle.uc_tree.specs.Programs.{Program}
 use Rattle.uc_tree.specs.Source as src
 use Rattle.uc_tree.specs.Source.{Purpose, Routine}
 use Rattle.uc_resolve.specs.Standings as tree
-use Rattle.uc_resolve.specs.Resolve.{source_of, place_by, class_by, has_tasks, has_coroutines, has_number_in, is_main, value_purpose, role_purpose, purpose_of, event_constructor}
+use Rattle.uc_resolve.specs.Resolve.{source_of, place_by, class_by, has_tasks, has_coroutines, has_number_in, is_main, value_purpose, role_purpose, purpose_of}
 use Rattle.uc_rules.specs.ProgramVisits.{program_visits}
-use Rattle.uc_typing.specs.Typing.{Inward, Apart, Enters, Makes, Helps, Main, Sig}
+use Rattle.uc_typing.specs.Typing.{Inward, Apart, Main}
 use Rattle.uc_typing.specs.States.{IsSorted}
 use Rattle.uc_agreement.specs.Unbroken.{Unbroken}
-use Rattle.uc_agreement.proofs.Ties.{some_same, none_some, false_true}
+use Rattle.uc_agreement.proofs.Ties.{some_same, false_true}
 use Rattle.uc_sound.specs.Formed.{IsFormed}
 use Rattle.uc_sound.specs.Tables.{inward_by, inward_in, inward_at, sig_or_none, all_sigs, table_of}
 use Rattle.uc_sound.proofs.Lists.{left_is, right_is}
@@ -30,7 +30,7 @@ use Rattle.uc_sound.proofs.BodyLemmas.{InStep, is_written, nobody_wrote, in_step
 use Rattle.uc_sound.proofs.RoutineLemmas.{defined_routine}
 use Rattle.uc_sound.proofs.SoundLemmas.{law_sound}
 use Rattle.uc_depth_laws.specs.Entering.{EndsMain, IsMainRoutine, IsMain}
-use Rattle.uc_enter_laws.proofs.Lookups.{MainAt, found_in}
+use Rattle.uc_enter_laws.proofs.Lookups.{found_in}
 
 -- a routine that is there
 there : (o : Option Routine) → IsMainRoutine o → (r : Routine) × (o ≡ Some r) × EndsMain r.purpose

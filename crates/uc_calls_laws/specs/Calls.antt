@@ -1,7 +1,7 @@
 -- Code in which no main is called: in the source of every program that breaks no rule.
 use Rattle.std.specs.Prelude.{◌≡◌, ℕ, List, [], Bool, true, false, Option, Some, None, slice_get}
 use Rattle.uc_tree.specs.Programs.{Program}
-use Rattle.uc_tree.specs.Source.{Expr, Exprs, ObjectExpr, CallOn, CallLive, CallUnwritten, EnterOn, EndOn, MakeOn, Item, Target, Declared, CleanUp, Raised, Stmt, Stmts, EventStmt, TaskStmt, Handlers, Clauses, Purpose, TaskMain, CoroutineMain, Procedure, Function, Builder, Routine, Source}
+use Rattle.uc_tree.specs.Source.{Expr, Exprs, ObjectExpr, CallOn, CallLive, CallUnwritten, EnterOn, EndOn, MakeOn, Item, Target, Declared, CleanUp, Raised, Stmt, Stmts, TaskStmt, Handlers, Clauses, Purpose, TaskMain, CoroutineMain, Procedure, Function, Builder, Routine, Source}
 use Rattle.uc_resolve.specs.Resolve.{source_of}
 use Rattle.uc_rules.specs.Breaks.{breaks_of}
 use Rattle.uc_sound.specs.Formed.{IsFormed}
