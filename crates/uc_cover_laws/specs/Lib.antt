@@ -1,2 +1,6 @@
 pub mod Marked
 pub mod Claims
+pub mod Placed
+pub mod Destroying
+pub mod Held
+pub mod HeldLaws

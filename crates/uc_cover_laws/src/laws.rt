@@ -1,9 +1,16 @@
 // The laws: each is a function whose contract is the law.
 
 ghost use Rattle.uc_cover_laws.specs.Claims.{LawClaims};
+ghost use Rattle.uc_cover_laws.specs.HeldLaws.{LawHeld};
 
 /// What an execution has of others stands outwards of the mark for its object, as long as it is so where a mark
 /// is put.
 pub fn law_claims()
     ensures { LawClaims }
+{}
+
+/// Those that executions have made are held by what these are to clean up, or quiet steps lead to where they are,
+/// as long as that is so behind each step that takes a mark away which holds one.
+pub fn law_held()
+    ensures { LawHeld }
 {}
