@@ -269,6 +269,7 @@ module _ (source : Source) (seats : Seating) (up : Exec → Bool) (H : Exec → 
     stmt (src.Block line body) todo h = go _ _ h
     stmt (src.Whole line body) todo h = go _ _ h
     stmt (src.Evaluate line e) todo h = go _ _ (h)
+    stmt (src.Fill line m b d) todo h = go _ _ (λ x u p q. inr (h x u p q))
     stmt (src.Return line None) todo h = go _ _ h
     stmt (src.Return line (Some e)) todo h = go _ _ h
     stmt (src.OfEvents a) todo h = event_step a todo h

@@ -6,3 +6,5 @@ pub mod HeldKeeping
 pub mod HeldSteps
 pub mod HeldWalk
 pub mod HeldLaws
+pub mod WaysCalls
+pub mod Ways

@@ -4,3 +4,4 @@ pub mod Placed
 pub mod Destroying
 pub mod Held
 pub mod HeldLaws
+pub mod Ways

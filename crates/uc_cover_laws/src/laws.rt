@@ -2,6 +2,7 @@
 
 ghost use Rattle.uc_cover_laws.specs.Claims.{LawClaims};
 ghost use Rattle.uc_cover_laws.specs.HeldLaws.{LawHeld};
+ghost use Rattle.uc_cover_laws.specs.Ways.{LawWays};
 
 /// What an execution has of others stands outwards of the mark for its object, as long as it is so where a mark
 /// is put.
@@ -13,4 +14,11 @@ pub fn law_claims()
 /// as long as that is so behind each step that takes a mark away which holds one.
 pub fn law_held()
     ensures { LawHeld }
+{}
+
+/// So it is behind each step that takes such a mark away, where clean-ups call destructors, as far as executions
+/// are up no more where their coroutines are forgotten, and those of a part of an object are held soon where
+/// that part is left.
+pub fn law_ways()
+    ensures { LawWays }
 {}

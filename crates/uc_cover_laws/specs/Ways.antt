@@ -1,0 +1,52 @@
+-- What is left to find of steps that take marks away, where destructors are called as clean-ups tell.
+use Rattle.std.specs.Prelude.{◌≡◌, ℕ, ◌<◌, Bool, true, false, List, [], ◌∷◌, nat_lt}
+use Rattle.uc_tree.specs.Source.{Source, CleanUp, Forgets}
+use Rattle.uc_machine.specs.declared.exec.Exec.{Exec}
+use Rattle.uc_machine.specs.Pieces as piece
+use Rattle.uc_machine.specs.Pieces.{Todo, Sort, sort, State}
+use Rattle.uc_machine.specs.Quiet.{MOST_ELEMENTS}
+use Rattle.uc_cover_laws.specs.Held.{Seating, IsOwn, Takes, Recounts, TakesAt, TakesNow}
+
+module _ (source : Source) (seats : Seating) (up : Exec → Bool) where
+  -- the execution of the coroutine at hand is not up any more
+  abbrev pub IsForgotten : State → Type 0
+  IsForgotten s = (x : Exec) → IsOwn source seats up s x → s.run.this ≡ seats.seat x → ⊥
+
+  abbrev pub ForgetsBy : CleanUp → State → Type 0
+  ForgetsBy Forgets s = IsForgotten s
+  ForgetsBy c s = Unit {0}
+
+  -- a clean-up is done behind an event
+  abbrev pub UnwindsBy : Sort → State → Type 0
+  UnwindsBy (piece.IsClean c) s = ForgetsBy c s
+  UnwindsBy (piece.IsPart c) s = ForgetsBy c s
+  UnwindsBy k s = Unit {0}
+
+  -- an exit leaves a part of an object, and elements
+  abbrev pub ExitsBy : Sort → List Todo → State → Type 0
+  ExitsBy (piece.IsPart c) todo s = Takes source seats up s (piece.IsPart c) todo
+  ExitsBy (piece.IsFill m b d) todo s = Takes source seats up s (piece.IsFill m b d) todo
+  ExitsBy (piece.IsSweep d) todo s = Takes source seats up s (piece.IsSweep d) todo
+  ExitsBy k todo s = Unit {0}
+
+  -- an execution is up no more where its coroutine is forgotten; where a part of an object is left as that is built, where all elements of an array are, and
+  -- where an exit leaves what is being built or destroyed, those that it held are held soon; no other elements are counted where some are counted anew;
+  -- where a main ends, nothing is left behind it; and one that is made next has made none
+  abbrev pub LeavesAt : List Todo → State → Type 0
+  LeavesAt (piece.Clean c ∷ todo) s = ForgetsBy c s
+  LeavesAt (piece.Part c ∷ todo) s = Takes source seats up s (piece.IsPart c) todo
+  LeavesAt (piece.FillNow m b d ∷ todo) s = nat_lt s.run.elements m ≡ false → Takes source seats up s (piece.IsFill m b d) todo
+  LeavesAt (piece.Sweep d ∷ todo) s = Recounts source seats up s todo
+  LeavesAt (piece.CountNow m ∷ todo) s = Recounts source seats up s todo
+  LeavesAt (piece.MoreNow ∷ todo) s = s.run.elements < MOST_ELEMENTS
+  LeavesAt (piece.Unwind ∷ (p ∷ todo)) s = UnwindsBy (sort p) s
+  LeavesAt (piece.Exit way ∷ (p ∷ todo)) s = ExitsBy (sort p) todo s
+  LeavesAt todo s = TakesAt source seats up todo s
+
+  abbrev pub LeavesNow : State → Type 0
+  LeavesNow s = LeavesAt s.run.control s
+
+-- then each step leads on as it is to
+abbrev pub LawWays : Type 0
+LawWays = (source : Source) (seats : Seating) (up : Exec → Bool) (s : State) → LeavesNow source seats up s →
+    TakesNow source seats up s
