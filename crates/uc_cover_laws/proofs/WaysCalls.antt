@@ -18,7 +18,7 @@ use Rattle.uc_cover_laws.specs.Held.{Onwards, SoonIn, Soon}
 
 module _ (source : Source) (w : Value) (ps : List Placed) (n : Exec) where
   -- how many scopes open up to this one
-  depth : (c : CleanUp) (ss : Stmts) → IsScoped c ss → ℕ
+  abbrev depth : (c : CleanUp) (ss : Stmts) → IsScoped c ss → ℕ
   depth c (src.Scoped d rest) (inl e) = 1
   depth c (src.Scoped d rest) (inr h) = suc (depth c rest h)
   depth c ss h = absurd h
