@@ -8,3 +8,4 @@ pub mod HeldWalk
 pub mod HeldLaws
 pub mod WaysCalls
 pub mod Ways
+pub mod Completing

@@ -5,3 +5,4 @@ pub mod Destroying
 pub mod Held
 pub mod HeldLaws
 pub mod Ways
+pub mod Completing

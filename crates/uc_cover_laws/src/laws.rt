@@ -1,6 +1,7 @@
 // The laws: each is a function whose contract is the law.
 
 ghost use Rattle.uc_cover_laws.specs.Claims.{LawClaims};
+ghost use Rattle.uc_cover_laws.specs.Completing.{LawCompleting};
 ghost use Rattle.uc_cover_laws.specs.HeldLaws.{LawHeld};
 ghost use Rattle.uc_cover_laws.specs.Ways.{LawWays};
 
@@ -21,4 +22,10 @@ pub fn law_held()
 /// that part is left.
 pub fn law_ways()
     ensures { LawWays }
+{}
+
+/// Where a constructor ends, what its object held is held soon where who waits for it takes it over; and so is an
+/// execution that has just been made.
+pub fn law_completing()
+    ensures { LawCompleting }
 {}
