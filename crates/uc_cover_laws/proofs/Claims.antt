@@ -1,5 +1,5 @@
 -- What an execution has of others stands where its object does, or outwards of that.
-use Rattle.std.proofs.Common.{◌≡◌, ℕ, ◌⊎◌, inl, inr, Bool, true, List, [], ◌∷◌, refl}
+use Rattle.std.proofs.Common.{◌≡◌, ℕ, ◌⊎◌, inl, inr, true, List, [], ◌∷◌}
 use Rattle.uc_machine.specs.declared.exec.Exec.{Exec}
 use Rattle.uc_machine.specs.declared.exec.Owner.TheVariants.{Frame}
 use Rattle.uc_machine.specs.Pieces as piece
@@ -7,7 +7,7 @@ use Rattle.uc_machine.specs.Pieces.{Value, Todo, Sort, Active, State}
 use Rattle.uc_typing.specs.Typing.{Ty, Cell, Obj, Table}
 use Rattle.uc_life_laws.specs.Things.{Few, AtField, IsFor, Marks, InTodo, Base, Things, Stands, lies, inside}
 use Rattle.uc_cover_laws.specs.Marked.{mark_or, marks, OfMark, AllMarked, MarkStack}
-use Rattle.uc_cover_laws.specs.Claims.{Seats, MarkIs, MarkKnows, Claimed, SeatsIn, SeatsAmong, LawClaims}
+use Rattle.uc_cover_laws.specs.Claims.{Seats, MarkKnows, Claimed, SeatsIn, SeatsAmong, LawClaims}
 use Rattle.uc_cover_laws.proofs.Walk as walking
 
 module _ (t : Table) (few : Few) (K L : Value → Ty → Type 0) (more : (w : Value) (a : Ty) → K w a → L w a) where

@@ -1,5 +1,5 @@
 -- Who waits for a constructor takes over what that held as it ends.
-use Rattle.std.proofs.Common.{◌≡◌, ℕ, suc, ◌<◌, ◌+◌, ◌⊎◌, inl, inr, List, [], ◌∷◌, refl, sym, subst, arith}
+use Rattle.std.proofs.Common.{ℕ, suc, ◌<◌, ◌+◌, inl, List, [], ◌∷◌, arith}
 use Rattle.std.specs.Prelude.{min}
 use Rattle.uc_tree.specs.Source as src
 use Rattle.uc_tree.specs.Source.{Source, Stmts}

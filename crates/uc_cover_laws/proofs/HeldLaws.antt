@@ -1,5 +1,5 @@
 -- While an execution is held soon, the marks that were there before its coroutine was built are the outermost ones.
-use Rattle.std.proofs.Common.{◌≡◌, ℕ, zero, suc, ◌⊎◌, inl, inr, List, [], ◌∷◌}
+use Rattle.std.proofs.Common.{ℕ, zero, suc, inl, inr, List, [], ◌∷◌}
 use Rattle.uc_tree.specs.Source.{Source}
 use Rattle.uc_machine.specs.declared.exec.Exec.{Exec}
 use Rattle.uc_machine.specs.Pieces as piece

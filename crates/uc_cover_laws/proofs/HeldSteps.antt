@@ -1,5 +1,5 @@
 -- A quiet step of a task keeps what holds those executions that are held otherwise than by what it takes away.
-use Rattle.std.proofs.Common.{◌≡◌, ℕ, zero, suc, ◌+◌, ◌++◌, ◌⊎◌, pos, inl, inr, Bool, true, false, List, [], ◌∷◌, length, drop, Option, Some, None, refl}
+use Rattle.std.proofs.Common.{◌≡◌, ℕ, zero, suc, ◌++◌, ◌⊎◌, inl, inr, Bool, true, false, List, [], ◌∷◌, length, drop, Option, Some, None, refl}
 use Rattle.std.specs.Prelude.{nat_eq, nat_lt}
 use Rattle.uc_tree.specs.declared.limits.TheConstants.{CALLS, PENDING_EVENTS}
 use Rattle.uc_tree.specs.Source as src
@@ -24,7 +24,7 @@ use Rattle.uc_machine.specs.Pieces as piece
 use Rattle.uc_machine.specs.Pieces.{Value, Number, Place, Running, Object, Nothing, Todo, Sort, Active, State, Env, Members, Step, Goes, Ticks, Asks, Outcome, Gives, Faults, at, in_env, top, below, number, nought, written}
 use Rattle.uc_life_laws.specs.LifeStates.{EnvBy}
 use Rattle.uc_cover_laws.specs.Placed.{Placed, placed, stacked}
-use Rattle.uc_cover_laws.specs.Held.{Seating, AreLines, NoMain, Stays, HeldBy, HeldIn, Held, AllHeld, HeldEx, TakesAt}
+use Rattle.uc_cover_laws.specs.Held.{Seating, AreLines, NoMain, HeldBy, HeldIn, Held, HeldEx, TakesAt}
 use Rattle.uc_life_laws.proofs.Cells.{either}
 use Rattle.uc_cover_laws.proofs.HeldKeeping as kept
 use Rattle.uc_cover_laws.proofs.HeldKeeping.{Keeps, FullState}

@@ -19,8 +19,8 @@ use Rattle.uc_machine.specs.Pieces as piece
 use Rattle.uc_machine.specs.Pieces.{Value, Todo, Sort, State, Members, Step, Goes, Ticks, Asks, at, top, number}
 use Rattle.uc_machine.specs.Answering.{answered, entered, new_members, with_operand}
 use Rattle.uc_life_laws.specs.LifeStates.{MembersBy}
-use Rattle.uc_cover_laws.specs.Placed.{stacked, placed, Ends}
-use Rattle.uc_cover_laws.specs.Held.{Seating, NoMain, Stays, Holds, HeldBy, HeldIn, Held, Onwards, SoonIn, Soon, SoonAsked, AllHeld, HeldEx, HeldState, HeldAsked, HeldAsk, HeldStep, IsOwn, LeadsSoon, HoldsNow, OfCounted, HoldsCounted, TakesAt, TakesNow}
+use Rattle.uc_cover_laws.specs.Placed.{stacked, placed}
+use Rattle.uc_cover_laws.specs.Held.{Seating, NoMain, Stays, HeldBy, HeldIn, Held, Onwards, SoonIn, Soon, SoonAsked, HeldEx, HeldState, HeldAsked, HeldAsk, HeldStep, IsOwn, LeadsSoon, HoldsNow, OfCounted, HoldsCounted, TakesAt, TakesNow}
 use Rattle.uc_life_laws.proofs.Cells.{either}
 use Rattle.uc_cover_laws.proofs.HeldKeeping as kept
 use Rattle.uc_cover_laws.proofs.HeldKeeping.{FullState}

@@ -1,5 +1,5 @@
 -- Steps that take marks away lead to where those that these held are held.
-use Rattle.std.proofs.Common.{◌≡◌, ℕ, zero, suc, ◌<◌, ◌≤◌, ◌⊎◌, inl, inr, ⊎_elim, Bool, true, false, List, [], ◌∷◌, refl, sym, subst, arith}
+use Rattle.std.proofs.Common.{◌≡◌, ℕ, zero, suc, ◌<◌, ◌≤◌, inl, inr, ⊎_elim, Bool, true, false, List, [], ◌∷◌, refl, sym, subst, arith}
 use Rattle.std.specs.Prelude.{nat_lt, min, ◌+◌}
 use Rattle.std.proofs.lemmas.Bool.{cases_lt}
 use Rattle.uc_tree.specs.Source as src
@@ -12,7 +12,7 @@ use Rattle.uc_machine.specs.Pieces as piece
 use Rattle.uc_machine.specs.Pieces.{Value, Todo, Sort, Active, State, Step, at}
 use Rattle.uc_cover_laws.specs.Placed.{placed, stacked, Ends}
 use Rattle.uc_cover_laws.specs.Destroying.{CleansUp, EndsBelow, EndsElement}
-use Rattle.uc_cover_laws.specs.Held.{Seating, HeldBy, HeldIn, Held, Onwards, SoonIn, Soon, IsOwn, LeadsSoon, HoldsNow, Takes, OfCounted, HoldsCounted, TakesAt}
+use Rattle.uc_cover_laws.specs.Held.{Seating, HeldBy, HeldIn, Held, Onwards, Soon, IsOwn, LeadsSoon, HoldsNow, Takes, OfCounted, HoldsCounted, TakesAt}
 use Rattle.uc_cover_laws.specs.Ways.{ForgetsBy, UnwindsBy, ExitsBy, LeavesAt, LawWays}
 use Rattle.uc_cover_laws.proofs.WaysCalls as calls
 

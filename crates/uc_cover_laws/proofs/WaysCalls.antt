@@ -1,5 +1,5 @@
 -- Clean-ups come by quiet steps to where the scope opens in which an execution is ended.
-use Rattle.std.proofs.Common.{◌≡◌, ℕ, zero, suc, ◌<◌, ◌⊎◌, inl, inr, Bool, true, false, pos, List, [], ◌∷◌, drop, Some, None, refl, sym, subst}
+use Rattle.std.proofs.Common.{◌≡◌, ℕ, suc, ◌<◌, inl, inr, Bool, true, false, pos, List, [], ◌∷◌, drop, Some, None, refl, sym, subst}
 use Rattle.std.specs.Prelude.{nat_lt, slice_get, if◌then◌else◌}
 use Rattle.uc_tree.specs.declared.limits.TheConstants.{CALLS}
 use Rattle.uc_entry.specs.declared.fault.RunFault.TheVariants.{Depth}

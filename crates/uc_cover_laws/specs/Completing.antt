@@ -1,14 +1,14 @@
 -- Where a constructor ends, who waits for it takes over what it held: its scope opens next, it becomes a part of the object that is being built, or it is
 -- one more element of an array that is.
-use Rattle.std.specs.Prelude.{◌≡◌, ℕ, ◌<◌, ◌⊎◌, List, [], ◌∷◌}
-use Rattle.uc_tree.specs.Source.{Source, CleanUp, Forgets, Stmts, Scoped, Built}
+use Rattle.std.specs.Prelude.{◌≡◌, ◌<◌, List, [], ◌∷◌}
+use Rattle.uc_tree.specs.Source.{Source, Forgets, Stmts, Scoped, Built}
 use Rattle.uc_machine.specs.declared.exec.Exec.{Exec}
 use Rattle.uc_machine.specs.Pieces as piece
 use Rattle.uc_machine.specs.Pieces.{Value, Todo, Active, State, Env}
 use Rattle.uc_machine.specs.Quiet.{MOST_ELEMENTS}
 use Rattle.uc_cover_laws.specs.Placed.{Placed, placed, stacked, Ends}
 use Rattle.uc_cover_laws.specs.Destroying.{EndsElement, CleansUp}
-use Rattle.uc_cover_laws.specs.Held.{Onwards, Soon}
+use Rattle.uc_cover_laws.specs.Held.{Soon}
 
 -- parts of the object at hand alone
 abbrev pub AreParts : List Todo → Type 0

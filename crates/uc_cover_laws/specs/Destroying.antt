@@ -1,5 +1,5 @@
 -- What comes to the end of an execution: destructors of objects that are its coroutine, or in which that lies, and clean-ups that call these.
-use Rattle.std.specs.Prelude.{◌≡◌, ℕ, ◌<◌, ◌⊎◌, Bool, true, false, List, [], ◌∷◌, Some, slice_get}
+use Rattle.std.specs.Prelude.{◌≡◌, ℕ, ◌<◌, ◌⊎◌, Bool, true, false, [], ◌∷◌, Some, slice_get}
 use Rattle.uc_tree.specs.Source.{Shape, Expr, Variable, Element, NoExprs, OfObject, OwnField, Counted, CallOn, CallUnwritten, CleanUp, Destroys, DestroysAll, Forgets, Stmts, Scoped, Routine, Source}
 use Rattle.uc_machine.specs.declared.exec.Exec.{Exec}
 use Rattle.uc_machine.specs.declared.exec.Owner.TheVariants.{Frame}

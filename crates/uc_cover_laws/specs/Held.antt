@@ -1,17 +1,15 @@
 -- Executions that others have to end: of each a mark stands for what destroys its coroutine, in what the one that made it is to clean up, and outwards of
 -- that mark what was there before the coroutine was built. Quiet steps may lead to where such a mark stands.
 use Rattle.std.specs.Prelude.{◌≡◌, ℕ, zero, suc, ◌⊎◌, Bool, true, List, [], ◌∷◌, Some}
-use Rattle.uc_tree.specs.Source.{Source, CleanUp}
+use Rattle.uc_tree.specs.Source.{Source}
 use Rattle.uc_entry.specs.declared.request.Request.{Request}
 use Rattle.uc_entry.specs.declared.request.Request.TheVariants as ask
-use Rattle.uc_entry.specs.declared.request.Answer.{Answer}
 use Rattle.uc_machine.specs.declared.exec.Exec.{Exec}
 use Rattle.uc_machine.specs.Executions.{Execution, members_at}
 use Rattle.uc_machine.specs.Switches.{new_exec}
 use Rattle.uc_machine.specs.Pieces as piece
 use Rattle.uc_machine.specs.Pieces.{Value, Todo, Sort, sort, Active, State, Env, Members, Step, Goes, Ticks, Asks}
 use Rattle.uc_machine.specs.Quiet.{quiet, home_at}
-use Rattle.uc_machine.specs.Answering.{answered}
 use Rattle.uc_answer_laws.specs.Suiting.{Form, JustGo, form_of_request}
 use Rattle.uc_life_laws.specs.LifeStates.{EnvBy}
 use Rattle.uc_cover_laws.specs.Placed.{Placed, placed, stacked, Ends}

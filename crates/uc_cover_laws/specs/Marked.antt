@@ -2,11 +2,11 @@
 -- it is may depend on the name of the execution, the frame and the object of the activation, those that wait for it, the clean-up, and the marks
 -- behind it, and on no value that a frame holds.
 use Rattle.std.specs.Prelude.{ℕ, List, [], ◌∷◌, Option}
-use Rattle.uc_tree.specs.Source.{CleanUp, Restores, Scoped, Built, OfEvents, Enable, Disable}
+use Rattle.uc_tree.specs.Source.{Restores, Scoped, Built, OfEvents, Enable, Disable}
 use Rattle.uc_machine.specs.declared.exec.Exec.{Exec}
 use Rattle.uc_machine.specs.declared.exec.Home.{Home}
 use Rattle.uc_machine.specs.Executions.{Execution}
-use Rattle.uc_machine.specs.Pieces.{Value, Todo, Do, Rest, Clean, Part, Sort, sort, IsClean, IsPart, Active, State, Env, Members, Step, Goes, Ticks, Asks}
+use Rattle.uc_machine.specs.Pieces.{Value, Todo, Do, Rest, Clean, Part, Sort, sort, IsClean, IsPart, Active, State, Members, Step, Goes, Ticks, Asks}
 use Rattle.uc_life_laws.specs.LifeStates.{MembersBy, EnvBy}
 
 -- the marks of what is to do, the innermost first

@@ -1,5 +1,5 @@
 -- What is left to find of steps that take marks away, where destructors are called as clean-ups tell.
-use Rattle.std.specs.Prelude.{◌≡◌, ℕ, ◌<◌, Bool, true, false, List, [], ◌∷◌, nat_lt}
+use Rattle.std.specs.Prelude.{◌≡◌, ◌<◌, Bool, false, List, ◌∷◌, nat_lt}
 use Rattle.uc_tree.specs.Source.{Source, CleanUp, Forgets}
 use Rattle.uc_machine.specs.declared.exec.Exec.{Exec}
 use Rattle.uc_machine.specs.Pieces as piece
