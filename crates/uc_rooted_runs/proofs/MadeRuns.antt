@@ -302,7 +302,7 @@ module _ (makers : Makers) where
   AllLater made = (n : Exec) → made n ≡ true → IsLater n
 
   later_by : (n by : Exec) (v : Value) (ps : List Placed) → MadeBy makers n by v ps → IsLater n
-  later_by n by ps m = subst (λ k. makers.rank k < makers.rank n) (sym m.parent) m.later
+  later_by n by v ps m = subst (λ k. makers.rank k < makers.rank n) (sym m.parent) m.later
 
   module _ (source : Source) where
     step_later : (made : Exec → Bool) (s : State) → MakesLater source makers s → AllLater made → AllLater (made_behind source s made)

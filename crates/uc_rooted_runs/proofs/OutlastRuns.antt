@@ -360,33 +360,33 @@ module _ (whole : Makers) (before : Exec → List Placed) (asked : Exec → Bool
           by (ask.Spawn c) e g u = let same : c ≡ o = cc in g.1 x u (r ∙ ap main_of (sym same))
           by g e y u = absurd (cc)
 
+      abbrev Told : ℕ → State → Type 0
+      Told u v = Rests source (now makers asked (made_asked q.request (ride_made source made d.rides))) (asked_form u (j ++ act opts source.sites input j p t n q)) v
+
       stacks_after : (u : ℕ) → u < task_count (j ++ act opts source.sites input j p t n q) → has_ended u (j ++ act opts source.sites input j p t n q) ≡ false → Rests source (now makers asked (made_asked q.request (ride_made source made d.rides))) (asked_form u (j ++ act opts source.sites input j p t n q)) ((world_after source (act opts source.sites input j p t n q) w t s).tasks u)
       stacks_after u l i = by (u == t) refl
         where
-          abbrev Told : State → Type 0
-          Told v = Rests source (now makers asked (made_asked q.request (ride_made source made d.rides))) (asked_form u (j ++ act opts source.sites input j p t n q)) v
-
-          old : (u == t) ≡ false → u < task_count j → Told ((world_after source (act opts source.sites input j p t n q) w t s).tasks u)
+          old : (u == t) ≡ false → u < task_count j → Told u ((world_after source (act opts source.sites input j p t n q) w t s).tasks u)
           old e b =
               let none : spawns a u ≡ false = spawns_none j a u (lawful_act opts source.sites input j p t n q (good_whole opts source.sites input rests.kernel).sound (may_ask source input opts range d f)) b in
               let state : (world_after source a w t s).tasks u ≡ w.tasks u = ap (λ b. if b then bare s else if spawns a u then child_of source (own_object u a) s else w.tasks u) e ∙ ap (λ b. if b then child_of source (own_object u a) s else w.tasks u) none in
-              subst Told (sym state) (old_rests u b e i)
+              subst (Told u) (sym state) (old_rests u b e i)
 
-          new : (u == t) ≡ false → task_count j ≤ u → Told ((world_after source (act opts source.sites input j p t n q) w t s).tasks u)
+          new : (u == t) ≡ false → task_count j ≤ u → Told u ((world_after source (act opts source.sites input j p t n q) w t s).tasks u)
           new e le =
               let b = spawned_by source input opts range rests going deep p t n s q d f on u le l in
               let spawns_it : spawns a u ≡ true = ap (λ l. spawns l u) b.entries ∙ ap (λ c. c || false) b.test in
               let own : own_object u a ≡ b.object = ap (own_object u) b.entries ∙ own_spawn p t (cost n q.line) b.object (task_count j) u b.test in
               let state : (world_after source a w t s).tasks u ≡ child_of source b.object s = ap (λ b. if b then bare s else if spawns a u then child_of source (own_object u a) s else w.tasks u) e ∙ (ap (λ b. if b then child_of source (own_object u a) s else w.tasks u) spawns_it ∙ ap (λ o. child_of source o s) own) in
-              subst Told (sym state) (λ x v r. absurd (main_none b.object b.request x v r))
+              subst (Told u) (sym state) (λ x v r. absurd (main_none b.object b.request x v r))
 
           own_form : (u == t) ≡ true → asked_form u (j ++ act opts source.sites input j p t n q) ≡ form_of_request q.request
           own_form e = ap (λ v. asked_form v (j ++ act opts source.sites input j p t n q)) (eqb-true u t e) ∙ (law_asking opts source.sites input j p t n q rests.kernel (may_ask source input opts range d f) on).own
 
-          by : (b : Bool) → (u == t) ≡ b → Told ((world_after source (act opts source.sites input j p t n q) w t s).tasks u)
+          by : (b : Bool) → (u == t) ≡ b → Told u ((world_after source (act opts source.sites input j p t n q) w t s).tasks u)
           by true e =
               let state : (world_after source a w t s).tasks u ≡ bare s = ap (λ b. if b then bare s else if spawns a u then child_of source (own_object u a) s else w.tasks u) e in
-              subst Told (sym state) (λ x v r. subst (λ form. SoonAsked source (makers.seat x) (makers.before x) s.env.exec form s.run s.callers) (sym (own_form e)) (behind.soon x v r))
+              subst (Told u) (sym state) (λ x v r. subst (λ form. SoonAsked source (makers.seat x) (makers.before x) s.env.exec form s.run s.callers) (sym (own_form e)) (behind.soon x v r))
           by false e = ⊎_elim (λ b. old e b) (λ le. new e le) (cases_lt u (task_count j))
 
       tasks_after : (u : ℕ) → EnvBy (Slot source (now makers asked (made_asked q.request (ride_made source made d.rides)))) ((world_after source (act opts source.sites input j p t n q) w t s).tasks u).env
