@@ -1,5 +1,5 @@
 -- Who waits for a constructor takes over what that held as it ends.
-use Rattle.std.proofs.Common.{ℕ, suc, ◌<◌, ◌+◌, inl, List, [], ◌∷◌, arith}
+use Rattle.std.proofs.Common.{ℕ, suc, ◌<◌, ◌+◌, inl, List, [], ◌∷◌, Some, None, refl, arith}
 use Rattle.std.specs.Prelude.{min}
 use Rattle.uc_tree.specs.Source as src
 use Rattle.uc_tree.specs.Source.{Source, Stmts}
@@ -8,10 +8,13 @@ use Rattle.uc_machine.specs.Pieces as piece
 use Rattle.uc_machine.specs.Pieces.{Value, Todo, Active, Env}
 use Rattle.uc_machine.specs.Quiet.{MOST_ELEMENTS}
 use Rattle.uc_cover_laws.specs.Placed.{Placed, placed, stacked, Ends, behind}
-use Rattle.uc_cover_laws.specs.Held.{SoonIn, Soon}
+use Rattle.uc_machine.specs.Insides as inside
+use Rattle.uc_life_laws.proofs.Cells.{either}
+use Rattle.uc_cover_laws.specs.Destroying.{Seat}
+use Rattle.uc_cover_laws.specs.Held.{Onwards, SoonIn, Soon}
 use Rattle.uc_cover_laws.specs.Completing.{AreParts, Next, TakesOver, AreTaken, IsSetUp, LawCompleting}
 
-module _ (source : Source) (w : Value) (ps : List Placed) (n : Exec) where
+module _ (source : Source) (w : Seat) (ps : List Placed) (n : Exec) where
   one_more : (e : ℕ) → e < MOST_ELEMENTS → e < min (e + 1) MOST_ELEMENTS
   one_more e l = omega (arith, l)
 
@@ -49,14 +52,33 @@ module _ (source : Source) (w : Value) (ps : List Placed) (n : Exec) where
     parts_ends : (l : List Todo) → AreParts l → Ends ps (placed a.frame a.this l (stacked (b ∷ older)))
     parts_ends [] p = h.ends
     parts_ends (piece.Part c ∷ todo) p = behind (parts_ends todo p)
-    parts_ends (x ∷ todo) p = absurd p
+    parts_ends (piece.Clean (src.Frees r) ∷ []) p = behind h.ends
+    parts_ends (piece.ChildNow r ∷ []) p = h.ends
+    parts_ends l p = absurd p
+
+    -- the activation ends
+    ending : SoonIn source w ps n (suc h.many) (record a { control = [] }) (b ∷ older)
+    ending = (tt, h.ends, λ e q. (q, h.soon (piece.nought ∷ b.operands)))
+
+    -- a mutex object has been built, and its task begins
+    built : SoonIn source w ps n (suc (suc h.many)) (record a { control = piece.MadeNow ∷ [] }) (b ∷ older)
+    built = (tt, h.ends, λ e q. either (Onwards source w ps n (λ u. SoonIn source w ps n (suc h.many) u.run u.callers) (SoonIn source w ps n (suc h.many))) (inside.is_held_up (piece.object_in a.this) e) _ _ tt (refl, q, ending))
+
+    child : (r : ℕ) → SoonIn source w ps n (suc (suc h.many)) (record a { control = piece.ChildNow r ∷ [] }) (b ∷ older)
+    child r = (tt, h.ends, λ e q. (q, ending))
+
+    spawned : (r : ℕ) → SoonIn source w ps n (suc (suc (suc h.many))) (record a { control = piece.SpawnNow r ∷ [] }) (b ∷ older)
+    spawned r = (tt, h.ends, λ e q. either (Onwards source w ps n (λ u. SoonIn source w ps n (suc (suc h.many)) u.run u.callers) (SoonIn source w ps n (suc (suc h.many)))) (inside.is_held_up (piece.object_in a.this) e) _ _ tt (refl, q, child r))
 
     left : (l : List Todo) → AreParts l → Soon source w ps n (record a { control = l }) (b ∷ older)
-    left [] p = (suc h.many, (tt, h.ends, λ e q. (q, h.soon (piece.nought ∷ b.operands))))
+    left [] p = (suc h.many, ending)
     left (piece.Part c ∷ todo) p =
         let x = left todo p in
         (suc x.0, (tt, behind (parts_ends todo p), λ e q. (q, x.1)))
-    left (x ∷ todo) p = absurd p
+    left (piece.Clean (src.Frees None) ∷ []) p = (suc (suc (suc h.many)), (tt, behind h.ends, λ e q. (q, built)))
+    left (piece.Clean (src.Frees (Some r)) ∷ []) p = (suc (suc (suc (suc h.many))), (tt, behind h.ends, λ e q. (q, spawned r)))
+    left (piece.ChildNow r ∷ []) p = (suc (suc h.many), child r)
+    left l p = absurd p
 
   pub parts : (a : Active) (cs : List Active) → AreParts a.control → AreTaken source w ps n cs → Soon source w ps n a cs
   parts a [] p h = absurd h

@@ -4,12 +4,13 @@ use Rattle.uc_tree.specs.Source.{Source}
 use Rattle.uc_machine.specs.declared.exec.Exec.{Exec}
 use Rattle.uc_machine.specs.Pieces as piece
 use Rattle.uc_machine.specs.Pieces.{Value, Todo, Sort, Active}
+use Rattle.uc_cover_laws.specs.Destroying.{Seat}
 use Rattle.uc_cover_laws.specs.Placed.{Placed, put, placed, stacked, Ends, behind}
 use Rattle.uc_cover_laws.specs.Held.{HeldBy, HeldIn, Held, Soon}
 use Rattle.uc_cover_laws.specs.HeldLaws.{LawHeld}
 use Rattle.uc_cover_laws.proofs.HeldWalk as walking
 
-module _ (source : Source) (w : Value) (ps : List Placed) (n : Exec) where
+module _ (source : Source) (w : Seat) (ps : List Placed) (n : Exec) where
   more_put : (k : Sort) (f : ℕ) (this : Value) (qs : List Placed) → Ends ps qs → Ends ps (put k f this qs)
   more_put (piece.IsClean c) f this qs h = behind h
   more_put (piece.IsPart c) f this qs h = behind h
@@ -55,5 +56,6 @@ pub law_held : LawHeld
 law_held = record {
   steps = λ source seats up s h o. walking.walk source seats up s h o;
   told = λ source seats up form given s i h. walking.answered_there source seats up form s h given i;
+  goes_on = λ source seats up s h. walking.rested source seats up s h;
   stays = λ source w ps n a cs h. soon_ends source w ps n a cs h;
 }

@@ -20,7 +20,7 @@ use Rattle.uc_machine.specs.Pieces.{Value, Todo, Sort, State, Members, Step, Goe
 use Rattle.uc_machine.specs.Answering.{answered, entered, new_members, with_operand}
 use Rattle.uc_life_laws.specs.LifeStates.{MembersBy}
 use Rattle.uc_cover_laws.specs.Placed.{stacked, placed}
-use Rattle.uc_cover_laws.specs.Held.{Seating, NoMain, Stays, HeldBy, HeldIn, Held, Onwards, SoonIn, Soon, SoonAsked, HeldEx, HeldState, HeldAsked, HeldAsk, HeldStep, IsOwn, LeadsSoon, HoldsNow, OfCounted, HoldsCounted, TakesAt, TakesNow}
+use Rattle.uc_cover_laws.specs.Held.{Seating, NoMain, Stays, HeldBy, HeldIn, Held, Onwards, SoonIn, Soon, SoonFrom, SoonHere, SoonAsked, HeldEx, HeldState, HeldAsked, HeldAsk, HeldStep, IsOwn, LeadsSoon, HoldsNow, OfCounted, HoldsCounted, TakesAt, TakesNow}
 use Rattle.uc_life_laws.proofs.Cells.{either}
 use Rattle.uc_cover_laws.proofs.HeldKeeping as kept
 use Rattle.uc_cover_laws.proofs.HeldKeeping.{FullState}
@@ -147,8 +147,9 @@ module _ (source : Source) (seats : Seating) (up : Exec → Bool) (s : State) wh
     Keeping todo = (x : Exec) → up x ≡ true → seats.parent x ≡ s.env.exec → H x → KeptIn x todo
 
     -- all are held where another execution may run
-    by_soon : (x : Exec) → (Stays s.run.control → ⊥) → Soon source (seats.seat x) (seats.before x) s.env.exec s.run s.callers → Held source (seats.seat x) (seats.before x) s.env.exec (s.run ∷ s.callers)
-    by_soon x f (zero, h) = h
+    by_soon : (x : Exec) → (Stays s.run.control → ⊥) → SoonHere source (seats.seat x) (seats.before x) s.env.exec s → Held source (seats.seat x) (seats.before x) s.env.exec (s.run ∷ s.callers)
+    by_soon x f (zero, (zero, h)) = h
+    by_soon x f (zero, (suc k, h)) = absurd (f h.0)
     by_soon x f (suc k, h) = absurd (f h.0)
 
     full : (l : List Todo) → s.run.control ≡ l → (Stays l → ⊥) → (x : Exec) → up x ≡ true → seats.parent x ≡ s.env.exec → Behind x l
@@ -260,29 +261,42 @@ module _ (source : Source) (seats : Seating) (up : Exec → Bool) (s : State) wh
 
     -- what was held soon is, and what is taken away
     abbrev Next : Exec → Step → Type 0
-    Next x step = Onwards source (seats.seat x) (seats.before x) s.env.exec (Soon source (seats.seat x) (seats.before x) s.env.exec) step
+    Next x step = Onwards source (seats.seat x) (seats.before x) s.env.exec (SoonHere source (seats.seat x) (seats.before x) s.env.exec) (Soon source (seats.seat x) (seats.before x) s.env.exec) step
 
-    weaker : (x : Exec) (k : ℕ) (step : Step) → Onwards source (seats.seat x) (seats.before x) s.env.exec (SoonIn source (seats.seat x) (seats.before x) s.env.exec k) step → Next x step
-    weaker x k (Goes u) h = (h.0, (k, h.1))
-    weaker x k (Ticks u) h = (h.0, (k, h.1))
-    weaker x k (Asks r u) h = asked r h
+    in_any : (x : Exec) (k : ℕ) (step : Step) → Onwards source (seats.seat x) (seats.before x) s.env.exec (λ u. SoonIn source (seats.seat x) (seats.before x) s.env.exec k u.run u.callers) (SoonIn source (seats.seat x) (seats.before x) s.env.exec k) step → Next x step
+    in_any x k (Goes u) h = (h.0, (zero, (k, h.1)))
+    in_any x k (Ticks u) h = (h.0, (k, h.1))
+    in_any x k (Asks r u) h = asked r h
       where
-        asked : (r : Request) → Onwards source (seats.seat x) (seats.before x) s.env.exec (SoonIn source (seats.seat x) (seats.before x) s.env.exec k) (Asks r u) → Next x (Asks r u)
+        asked : (r : Request) → Onwards source (seats.seat x) (seats.before x) s.env.exec (λ u. SoonIn source (seats.seat x) (seats.before x) s.env.exec k u.run u.callers) (SoonIn source (seats.seat x) (seats.before x) s.env.exec k) (Asks r u) → Next x (Asks r u)
         asked (ask.Fault m) h = tt
         asked r h = (h.0, h.1, (k, h.2))
+
+    from_here : (x : Exec) (k : ℕ) (step : Step) → Onwards source (seats.seat x) (seats.before x) s.env.exec (SoonFrom source (seats.seat x) (seats.before x) s.env.exec k) (Soon source (seats.seat x) (seats.before x) s.env.exec) step → Next x step
+    from_here x k (Goes u) h = (h.0, (k, h.1))
+    from_here x k (Ticks u) h = h
+    from_here x k (Asks r u) h = h
 
     told : TakesNow source seats up s → (x : Exec) → up x ≡ true → seats.parent x ≡ s.env.exec → Next x (quiet.quiet source s) ⊎ H x
     told o x u p = by (st.soon x u p)
       where
-        by : Soon source (seats.seat x) (seats.before x) s.env.exec s.run s.callers → Next x (quiet.quiet source s) ⊎ H x
-        by (zero, h) = ⊎_elim (λ l. inl l) (λ k. inr (h, k)) (parted s.run.control o x (u, p) h)
-        by (suc k, h) = inl (weaker x k (quiet.quiet source s) (h.2 s.env refl))
+        by : SoonHere source (seats.seat x) (seats.before x) s.env.exec s → Next x (quiet.quiet source s) ⊎ H x
+        by (zero, (zero, h)) = ⊎_elim (λ l. inl l) (λ k. inr (h, k)) (parted s.run.control o x (u, p) h)
+        by (zero, (suc k, h)) = inl (in_any x k (quiet.quiet source s) (h.2 s.env refl))
+        by (suc k, h) = inl (from_here x k (quiet.quiet source s) h.2)
 
     module _ (o : TakesNow source seats up s) where
-      goes_on : (u : State) → steps.Done source seats up H s st.env old u → ((x : Exec) → Next x (quiet.quiet source s) → (u.env.exec ≡ s.env.exec) × Soon source (seats.seat x) (seats.before x) s.env.exec u.run u.callers) → HeldState source seats up u
-      goes_on u (inr f) g = record { soon = λ x v p. (zero, f.stack x v p); env = f.env }
+      goes_on : (u : State) → steps.Done source seats up H s st.env old u → ((x : Exec) → Next x (quiet.quiet source s) → Next x (Goes u)) → HeldState source seats up u
+      goes_on u (inr f) g = record { soon = λ x v p. (zero, (zero, f.stack x v p)); env = f.env }
       goes_on u (inl w) g = record {
-        soon = λ x v p. subst (λ n. Soon source (seats.seat x) (seats.before x) n u.run u.callers) (sym w.exec) (⊎_elim (λ l. (g x l).1) (λ h. (zero, w.stack x v (p ∙ w.exec) h)) (told o x v (p ∙ w.exec)));
+        soon = λ x v p. subst (λ n. SoonHere source (seats.seat x) (seats.before x) n u) (sym w.exec) (⊎_elim (λ l. (g x l).1) (λ h. (zero, (zero, w.stack x v (p ∙ w.exec) h))) (told o x v (p ∙ w.exec)));
+        env = w.env;
+      }
+
+      ticks_on : (u : State) → steps.Done source seats up H s st.env old u → ((x : Exec) → Next x (quiet.quiet source s) → Next x (Ticks u)) → HeldAsked source seats up JustGo u
+      ticks_on u (inr f) g = record { soon = λ x v p. inl (f.stack x v p); env = f.env }
+      ticks_on u (inl w) g = record {
+        soon = λ x v p. subst (λ n. SoonAsked source (seats.seat x) (seats.before x) n JustGo u.run u.callers) (sym w.exec) (⊎_elim (λ l. inr (refl, (g x l).1)) (λ h. inl (w.stack x v (p ∙ w.exec) h)) (told o x v (p ∙ w.exec)));
         env = w.env;
       }
 
@@ -299,7 +313,7 @@ module _ (source : Source) (seats : Seating) (up : Exec → Bool) (s : State) wh
     where
       by : (step : Step) → quiet.quiet source s ≡ step → WStep st step → HeldStep source seats up step
       by (Goes u) e d = goes_on st o u d (λ x l. subst (Next st x) e l)
-      by (Ticks u) e d = goes_on st o u d (λ x l. subst (Next st x) e l)
+      by (Ticks u) e d = ticks_on st o u d (λ x l. subst (Next st x) e l)
       by (Asks r u) e d = asks_on st o r u d (λ x l. subst (Next st x) e l)
 
 module _ (source : Source) (seats : Seating) (up : Exec → Bool) where
@@ -315,25 +329,21 @@ module _ (source : Source) (seats : Seating) (up : Exec → Bool) where
 
   module _ (form : Form) (s : State) (h : HeldAsked source seats up form s) where
     -- with other operands
-    with_operands : (given : Answer) (vs : List Value) → IsForm form given → (IsForm JustGo given → ⊥) → HeldState source seats up (record s { run = record s.run { operands = vs } })
-    with_operands given vs i f = record { soon = λ x u p. (zero, held_now form given s.env.exec s.run s.callers x i f (h.soon x u p)); env = h.env }
+    with_operands : (given : Answer) (vs : List Value) → IsForm form given → (IsForm JustGo given → ⊥) → HeldAsked source seats up JustGo (record s { run = record s.run { operands = vs } })
+    with_operands given vs i f = record { soon = λ x u p. inl (held_now form given s.env.exec s.run s.callers x i f (h.soon x u p)); env = h.env }
 
-    entered_there : (m : Option Members) (o : ℕ) → IsForm form (answer.Object o) → MembersBy (HeldEx source seats up) (home.Object o) m → HeldState source seats up (with_operand (piece.Object o) (entered m o s))
+    entered_there : (m : Option Members) (o : ℕ) → IsForm form (answer.Object o) → MembersBy (HeldEx source seats up) (home.Object o) m → HeldAsked source seats up JustGo (with_operand (piece.Object o) (entered m o s))
     entered_there None o i k = with_operands (answer.Object o) _ i (λ z. z)
     entered_there (Some m) o i k = record {
-      soon = λ x u p. (zero, held_now form (answer.Object o) s.env.exec s.run s.callers x i (λ z. z) (h.soon x u p));
+      soon = λ x u p. inl (held_now form (answer.Object o) s.env.exec s.run s.callers x i (λ z. z) (h.soon x u p));
       env = record { house = h.env.house; hand = parked.more_hand (HeldEx source seats up) s.env.hand o m k h.env.hand };
     }
 
     -- a bare answer changes nothing
-    gone_on : HeldState source seats up s
-    gone_on = record { soon = λ x u p. by x (h.soon x u p); env = h.env }
-      where
-        by : (x : Exec) → SoonAsked source (seats.seat x) (seats.before x) s.env.exec form s.run s.callers → Soon source (seats.seat x) (seats.before x) s.env.exec s.run s.callers
-        by x (inl k) = (zero, k)
-        by x (inr k) = k.1
+    gone_on : HeldAsked source seats up JustGo s
+    gone_on = record { soon = λ x u p. ⊎_elim (λ k. inl k) (λ k. inr (refl, k.1)) (h.soon x u p); env = h.env }
 
-    pub answered_there : (given : Answer) → IsForm form given → HeldState source seats up (answered source given s)
+    pub answered_there : (given : Answer) → IsForm form given → HeldAsked source seats up JustGo (answered source given s)
     answered_there (answer.Object o) i = entered_there (new_members source s.run.control) o i (new_there o s.run.control)
     answered_there (answer.Number n) i = with_operands (answer.Number n) _ i (λ z. z)
     answered_there (answer.Value n failed) i = with_operands (answer.Value n failed) _ i (λ z. z)
@@ -341,3 +351,11 @@ module _ (source : Source) (seats : Seating) (up : Exec → Bool) where
     answered_there (answer.Event n x y) i = with_operands (answer.Event n x y) _ i (λ z. z)
     answered_there answer.Nothing i = with_operands answer.Nothing _ i (λ z. z)
     answered_there answer.Go i = gone_on
+
+  -- who rests so goes on
+  pub rested : (s : State) → HeldAsked source seats up JustGo s → HeldState source seats up s
+  rested s h = record { soon = λ x u p. (zero, by x (h.soon x u p)); env = h.env }
+    where
+      by : (x : Exec) → SoonAsked source (seats.seat x) (seats.before x) s.env.exec JustGo s.run s.callers → Soon source (seats.seat x) (seats.before x) s.env.exec s.run s.callers
+      by x (inl k) = (zero, k)
+      by x (inr k) = k.1

@@ -13,10 +13,11 @@ use Rattle.uc_machine.specs.Quiet as quiet
 use Rattle.uc_machine.specs.Pieces as piece
 use Rattle.uc_machine.specs.Pieces.{Slot, FieldAt, At, Value, Number, Place, Todo, Active, State, Env, Step, Goes, top, further, index_in}
 use Rattle.uc_cover_laws.specs.Placed.{Placed, placed, stacked, Ends, behind}
-use Rattle.uc_cover_laws.specs.Destroying.{IsScoped, calling_at, Destroying, itself, field, element, AtPlace, EndsAt, AtElement, EndsElement, CleansUp}
+use Rattle.uc_cover_laws.specs.Destroying.{IsScoped, calling_at, Destroying, Seat, IsLast, itself, field, element, mutex, AtPlace, EndsAt, AtElement, EndsElement, CleansUp}
+use Rattle.uc_cover_laws.specs.Ways.{calls_plainly}
 use Rattle.uc_cover_laws.specs.Held.{Onwards, SoonIn, Soon}
 
-module _ (source : Source) (w : Value) (ps : List Placed) (n : Exec) where
+module _ (source : Source) (w : Seat) (ps : List Placed) (n : Exec) where
   -- how many scopes open up to this one
   abbrev depth : (c : CleanUp) (ss : Stmts) → IsScoped c ss → ℕ
   depth c (src.Scoped d rest) (inl e) = 1
@@ -46,8 +47,14 @@ module _ (source : Source) (w : Value) (ps : List Placed) (n : Exec) where
   each_written true d f v h i m j s l k = (l, k)
   each_written false d f v h i m j s l k = (l, k)
 
+  last_cleans : (c : CleanUp) → IsLast c → (f : ℕ) → CleansUp source w n f w.place c
+  last_cleans src.Forgets l f = refl
+  last_cleans src.Ends l f = refl
+  last_cleans c l f = absurd l
+
   starts : {r : ℕ} {v : Value} → Destroying source w r v → Start r v
-  starts (itself x e p h) = record { routine = x; known = e; params = p; clean = src.Forgets; scoped = h; cleans = λ f. refl }
+  starts (itself x e p c l h) = record { routine = x; known = e; params = p; clean = c; scoped = h; cleans = last_cleans c l }
+  starts {r} {v} (mutex {d = d} x e p h i m b s q k) = record { routine = x; known = e; params = p; clean = src.Destroys (src.OfObject (src.EndOn d b (src.Load (src.OfObject (src.OwnField h i))))); scoped = s; cleans = λ f. (m, q, k) }
   starts {r} {v} (field {d = d} x e p h i b s k) = record { routine = x; known = e; params = p; clean = src.Destroys (calling_at b d (src.OfObject (src.OwnField h i))); scoped = s; cleans = λ f. at_written b d f v h i k }
   starts {r} {v} (element {d = d} x e p h i m j z b l s k) = record { routine = x; known = e; params = p; clean = src.DestroysAll m (calling_at b d (src.Element m z (src.OfObject (src.OwnField h i)) (src.OfObject src.Counted))); scoped = s; cleans = λ f. (j, l, each_written b d f v h i m j z l k) }
 
@@ -68,20 +75,20 @@ module _ (source : Source) (w : Value) (ps : List Placed) (n : Exec) where
       abbrev Many : ℕ
       Many = depth h.clean h.routine.body h.scoped
 
-      begins : (counts : Bool) (e : Env) → e.exec ≡ n → Onwards source w ps n (SoonIn source w ps n (depth h.clean h.routine.body h.scoped)) (quiet.begun_step h.routine (top (drop h.routine.params (v ∷ vs))) counts todo (piece.below (drop h.routine.params (v ∷ vs))) (record { run = With (piece.CallOnNow r ∷ todo) (v ∷ vs); callers = cs; env = e }))
+      begins : (counts : Bool) (e : Env) → e.exec ≡ n → Onwards source w ps n (λ u. SoonIn source w ps n (depth h.clean h.routine.body h.scoped) u.run u.callers) (SoonIn source w ps n (depth h.clean h.routine.body h.scoped)) (quiet.begun_step h.routine (top (drop h.routine.params (v ∷ vs))) counts todo (piece.below (drop h.routine.params (v ∷ vs))) (record { run = With (piece.CallOnNow r ∷ todo) (v ∷ vs); callers = cs; env = e }))
       begins counts e q =
           (q, subst (λ m. SoonIn source w ps n (depth h.clean h.routine.body h.scoped) (exec.begun (quiet.routine_todo h.routine) (top (drop m (v ∷ vs))) (length e.frames) piece.Nothing counts) (record b { control = todo; operands = piece.below (drop h.routine.params (v ∷ vs)) } ∷ cs)) (sym h.params) (opens h.clean h.routine.body h.scoped (exec.begun (quiet.routine_todo h.routine) v (length e.frames) piece.Nothing counts) (record b { control = todo; operands = piece.below (drop h.routine.params (v ∷ vs)) } ∷ cs) (quiet.behind_body h.routine.purpose h.routine.line) (h.cleans (length e.frames)) (no_marks h.routine.purpose h.routine.line (length e.frames) v _ o)))
 
       -- it is called, one that somebody wrote or another
       called : SoonIn source w ps n (suc (depth h.clean h.routine.body h.scoped)) (With (piece.CallOnNow r ∷ todo) (v ∷ vs)) cs
-      called = (tt, o, λ e q. subst (λ x. Onwards source w ps n (SoonIn source w ps n (depth h.clean h.routine.body h.scoped)) (quiet.call_on_step x todo (record { run = With (piece.CallOnNow r ∷ todo) (v ∷ vs); callers = cs; env = e }))) (sym h.known) (by e q (nat_lt e.links.calls CALLS)))
+      called = (tt, o, λ e q. subst (λ x. Onwards source w ps n (λ u. SoonIn source w ps n (depth h.clean h.routine.body h.scoped) u.run u.callers) (SoonIn source w ps n (depth h.clean h.routine.body h.scoped)) (quiet.call_on_step x todo (record { run = With (piece.CallOnNow r ∷ todo) (v ∷ vs); callers = cs; env = e }))) (sym h.known) (by e q (nat_lt e.links.calls CALLS)))
         where
-          by : (e : Env) → e.exec ≡ n → (c : Bool) → Onwards source w ps n (SoonIn source w ps n (depth h.clean h.routine.body h.scoped)) (if c then quiet.begun_step h.routine (top (drop h.routine.params (v ∷ vs))) true todo (piece.below (drop h.routine.params (v ∷ vs))) (record { run = With (piece.CallOnNow r ∷ todo) (v ∷ vs); callers = cs; env = e }) else piece.fault Depth todo (v ∷ vs) (record { run = With (piece.CallOnNow r ∷ todo) (v ∷ vs); callers = cs; env = e }))
+          by : (e : Env) → e.exec ≡ n → (c : Bool) → Onwards source w ps n (λ u. SoonIn source w ps n (depth h.clean h.routine.body h.scoped) u.run u.callers) (SoonIn source w ps n (depth h.clean h.routine.body h.scoped)) (if c then quiet.begun_step h.routine (top (drop h.routine.params (v ∷ vs))) true todo (piece.below (drop h.routine.params (v ∷ vs))) (record { run = With (piece.CallOnNow r ∷ todo) (v ∷ vs); callers = cs; env = e }) else piece.fault Depth todo (v ∷ vs) (record { run = With (piece.CallOnNow r ∷ todo) (v ∷ vs); callers = cs; env = e }))
           by e q true = begins true e q
           by e q false = tt
 
       unwritten : SoonIn source w ps n (suc (depth h.clean h.routine.body h.scoped)) (With (piece.CallUnwrittenNow r ∷ todo) (v ∷ vs)) cs
-      unwritten = (tt, o, λ e q. subst (λ x. Onwards source w ps n (SoonIn source w ps n (depth h.clean h.routine.body h.scoped)) (quiet.call_unwritten_step x todo (record { run = With (piece.CallUnwrittenNow r ∷ todo) (v ∷ vs); callers = cs; env = e }))) (sym h.known) (begins false e q))
+      unwritten = (tt, o, λ e q. subst (λ x. Onwards source w ps n (λ u. SoonIn source w ps n (depth h.clean h.routine.body h.scoped) u.run u.callers) (SoonIn source w ps n (depth h.clean h.routine.body h.scoped)) (quiet.call_unwritten_step x todo (record { run = With (piece.CallUnwrittenNow r ∷ todo) (v ∷ vs); callers = cs; env = e }))) (sym h.known) (begins false e q))
 
     -- a variable or a field of the object at hand is found
     abbrev IsAt : Expr → Value → Type 0
@@ -106,7 +113,7 @@ module _ (source : Source) (w : Value) (ps : List Placed) (n : Exec) where
       indexed : (m : ℕ) (z : Shape) (v : Value) (k : ℕ) → SoonIn source w ps n k (With rest (further (At z b.elements) v ∷ vs)) cs → SoonIn source w ps n (suc k) (With (piece.ElementNow m z ∷ rest) (Number (pos b.elements) ∷ (v ∷ vs))) cs
       indexed m z v k g = (tt, l, λ e q. by e q (nat_lt b.elements m))
         where
-          by : (e : Env) → e.exec ≡ n → (c : Bool) → Onwards source w ps n (SoonIn source w ps n k) (piece.element_step z (if c then Some b.elements else None) rest v vs (record { run = With (piece.ElementNow m z ∷ rest) (Number (pos b.elements) ∷ (v ∷ vs)); callers = cs; env = e }))
+          by : (e : Env) → e.exec ≡ n → (c : Bool) → Onwards source w ps n (λ u. SoonIn source w ps n k u.run u.callers) (SoonIn source w ps n k) (piece.element_step z (if c then Some b.elements else None) rest v vs (record { run = With (piece.ElementNow m z ∷ rest) (Number (pos b.elements) ∷ (v ∷ vs)); callers = cs; env = e }))
           by e q true = (q, g)
           by e q false = tt
 
@@ -127,14 +134,15 @@ module _ (source : Source) (w : Value) (ps : List Placed) (n : Exec) where
     find_place : (p : Expr) (v : Value) (vs : List Value) → IsAt p v → (rest : List Todo) → Ends ps (placed b.frame b.this rest (stacked cs)) → (k : ℕ) → SoonIn source w ps n k (With rest (v ∷ vs)) cs → Soon source w ps n (With (piece.Eval p ∷ rest) vs) cs
     find_place p v vs i rest l k g = (suc k, found rest l vs p v k i g)
 
-    pub ends_at : (e : Expr) (vs : List Value) → EndsAt source w n b.frame b.this e → Soon source w ps n (With (piece.Eval e ∷ todo) vs) cs
-    ends_at (src.OfObject (src.CallOn d p src.NoExprs)) vs h =
+    pub ends_at : (e : Expr) (vs : List Value) → (calls_plainly e ≡ false → ⊥) → EndsAt source w n b.frame b.this e → Soon source w ps n (With (piece.Eval e ∷ todo) vs) cs
+    ends_at (src.OfObject (src.CallOn d p src.NoExprs)) vs f h =
         let x = at_place (Destroying source w d) p h in
         by_call d p vs x.0 x.2 (find_place p x.0 vs x.1)
-    ends_at (src.OfObject (src.CallUnwritten d p)) vs h =
+    ends_at (src.OfObject (src.CallUnwritten d p)) vs f h =
         let x = at_place (Destroying source w d) p h in
         by_unwritten d p vs x.0 x.2 (find_place p x.0 vs x.1)
-    ends_at e vs h = absurd h
+    ends_at (src.OfObject (src.EndOn d b e)) vs f h = absurd (f refl)
+    ends_at e vs f h = absurd h
 
     -- so is one at the element that is counted
     find_element : (m : ℕ) (z : Shape) (p : Expr) (v : Value) (vs : List Value) → IsAt p v → (rest : List Todo) → Ends ps (placed b.frame b.this rest (stacked cs)) → (k : ℕ) → SoonIn source w ps n k (With rest (further (At z b.elements) v ∷ vs)) cs → Soon source w ps n (With (piece.Eval (src.Element m z p (src.OfObject src.Counted)) ∷ rest) vs) cs
@@ -147,7 +155,8 @@ module _ (source : Source) (w : Value) (ps : List Placed) (n : Exec) where
         g (further (At z b.elements) x.0) x.2 (find_element m z p x.0 vs x.1)
     by_element d p P h vs g = absurd h
 
-    pub ends_element : (e : Expr) (vs : List Value) → EndsElement source w n b.frame b.this b.elements e → Soon source w ps n (With (piece.Eval e ∷ todo) vs) cs
-    ends_element (src.OfObject (src.CallOn d p src.NoExprs)) vs h = by_element d p (λ p. src.OfObject (src.CallOn d p src.NoExprs)) h vs (λ v k g. by_call d p vs v k g)
-    ends_element (src.OfObject (src.CallUnwritten d p)) vs h = by_element d p (λ p. src.OfObject (src.CallUnwritten d p)) h vs (λ v k g. by_unwritten d p vs v k g)
-    ends_element e vs h = absurd h
+    pub ends_element : (e : Expr) (vs : List Value) → (calls_plainly e ≡ false → ⊥) → EndsElement source w n b.frame b.this b.elements e → Soon source w ps n (With (piece.Eval e ∷ todo) vs) cs
+    ends_element (src.OfObject (src.CallOn d p src.NoExprs)) vs f h = by_element d p (λ p. src.OfObject (src.CallOn d p src.NoExprs)) h vs (λ v k g. by_call d p vs v k g)
+    ends_element (src.OfObject (src.CallUnwritten d p)) vs f h = by_element d p (λ p. src.OfObject (src.CallUnwritten d p)) h vs (λ v k g. by_unwritten d p vs v k g)
+    ends_element (src.OfObject (src.EndOn d b e)) vs f h = absurd (f refl)
+    ends_element e vs f h = absurd h

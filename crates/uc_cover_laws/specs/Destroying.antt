@@ -1,9 +1,9 @@
 -- What comes to the end of an execution: destructors of objects that are its coroutine, or in which that lies, and clean-ups that call these.
 use Rattle.std.specs.Prelude.{◌≡◌, ℕ, ◌<◌, ◌⊎◌, Bool, true, false, [], ◌∷◌, Some, slice_get}
-use Rattle.uc_tree.specs.Source.{Shape, Expr, Variable, Element, NoExprs, OfObject, OwnField, Counted, CallOn, CallUnwritten, CleanUp, Destroys, DestroysAll, Forgets, Stmts, Scoped, Routine, Source}
+use Rattle.uc_tree.specs.Source.{Shape, Expr, Variable, Element, Load, NoExprs, OfObject, OwnField, Counted, CallOn, CallUnwritten, EndOn, CleanUp, Destroys, DestroysAll, Forgets, Ends, Stmts, Scoped, Routine, Source}
 use Rattle.uc_machine.specs.declared.exec.Exec.{Exec}
 use Rattle.uc_machine.specs.declared.exec.Owner.TheVariants.{Frame}
-use Rattle.uc_machine.specs.Pieces.{Slot, FieldAt, At, Value, Place, further}
+use Rattle.uc_machine.specs.Pieces.{Slot, FieldAt, At, Value, Place, Object, further}
 
 -- the scope of this clean-up opens among the first ones
 abbrev pub IsScoped : CleanUp → Stmts → Type 0
@@ -15,13 +15,23 @@ abbrev pub calling_at : Bool → ℕ → Expr → Expr
 calling_at true d p = OfObject (CallOn d p NoExprs)
 calling_at false d p = OfObject (CallUnwritten d p)
 
--- `w`: the place of a coroutine
-module _ (source : Source) (w : Value) where
-  -- the routine of this number, called at this value, opens the scope in which the execution of that coroutine is forgotten at last, or one in which
-  -- such a destructor is called at a field, or at an element of one
+-- what ends a coroutine or a task at hand at last
+abbrev pub IsLast : CleanUp → Type 0
+IsLast Forgets = Unit {0}
+IsLast Ends = Unit {0}
+IsLast c = ⊥
+
+-- where a coroutine or the object of a task is, and where mutex objects are at home
+pub record Seat : Type 0 where
+  pub place : Value
+  pub home : ℕ → Value
+
+module _ (source : Source) (w : Seat) where
+  -- the routine of this number, called at this value, opens the scope in which the execution of that coroutine is forgotten at last, or that task is taken
+  -- out, or one in which such a destructor is called at a field, at an element of one, or at the mutex object that is at home at a field
   pub data Destroying : ℕ → Value → Type 0 where
     itself : {r : ℕ} (x : Routine) → slice_get source.routines r ≡ Some x → x.params ≡ 0 →
-        IsScoped Forgets x.body → Destroying r w
+        (c : CleanUp) → IsLast c → IsScoped c x.body → Destroying r w.place
     field : {r d : ℕ} {v : Value} (x : Routine) → slice_get source.routines r ≡ Some x → x.params ≡ 0 →
         (h : Shape) (i : ℕ) (written : Bool) → IsScoped (Destroys (calling_at written d (OfObject (OwnField h i)))) x.body →
         Destroying d (further (FieldAt h i) v) → Destroying r v
@@ -29,6 +39,14 @@ module _ (source : Source) (w : Value) where
         (h : Shape) (i n j : ℕ) (k : Shape) (written : Bool) → j < n →
         IsScoped (DestroysAll n (calling_at written d (Element n k (OfObject (OwnField h i)) (OfObject Counted)))) x.body →
         Destroying d (further (At k j) (further (FieldAt h i) v)) → Destroying r v
+
+    mutex : {r d : ℕ} {v : Value} (x : Routine) → slice_get source.routines r ≡ Some x → x.params ≡ 0 →
+        (h : Shape) (i o : ℕ) (written : Bool) → IsScoped (Destroys (OfObject (EndOn d written (Load (OfObject (OwnField h i)))))) x.body →
+        w.home o ≡ further (FieldAt h i) v → Destroying d (Object o) → Destroying r v
+
+  -- at the mutex object that is at home at a place
+  abbrev pub DestroyingAt : ℕ → Value → Type 0
+  DestroyingAt d v = (o : ℕ) × (w.home o ≡ v) × Destroying d (Object o)
 
   -- in an activation of this frame and object
   module _ (n : Exec) (f : ℕ) (this : Value) where
@@ -42,6 +60,7 @@ module _ (source : Source) (w : Value) where
     abbrev pub EndsAt : Expr → Type 0
     EndsAt (OfObject (CallOn d p NoExprs)) = AtPlace (Destroying d) p
     EndsAt (OfObject (CallUnwritten d p)) = AtPlace (Destroying d) p
+    EndsAt (OfObject (EndOn d written (Load p))) = AtPlace (DestroyingAt d) p
     EndsAt e = ⊥
 
     -- at the element j of an array there
@@ -52,6 +71,7 @@ module _ (source : Source) (w : Value) where
     abbrev pub EndsElement : ℕ → Expr → Type 0
     EndsElement j (OfObject (CallOn d p NoExprs)) = AtElement (Destroying d) j p
     EndsElement j (OfObject (CallUnwritten d p)) = AtElement (Destroying d) j p
+    EndsElement j (OfObject (EndOn d written (Load p))) = AtElement (DestroyingAt d) j p
     EndsElement j e = ⊥
 
     -- at one of the first elements, of so many
@@ -60,7 +80,8 @@ module _ (source : Source) (w : Value) where
 
     -- a clean-up comes to the end of the execution
     abbrev pub CleansUp : CleanUp → Type 0
-    CleansUp Forgets = this ≡ w
+    CleansUp Forgets = this ≡ w.place
+    CleansUp Ends = this ≡ w.place
     CleansUp (Destroys e) = EndsAt e
     CleansUp (DestroysAll m e) = EndsBelow m e
     CleansUp c = ⊥

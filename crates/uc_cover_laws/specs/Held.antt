@@ -13,12 +13,12 @@ use Rattle.uc_machine.specs.Quiet.{quiet, home_at}
 use Rattle.uc_answer_laws.specs.Suiting.{Form, JustGo, form_of_request}
 use Rattle.uc_life_laws.specs.LifeStates.{EnvBy}
 use Rattle.uc_cover_laws.specs.Placed.{Placed, placed, stacked, Ends}
-use Rattle.uc_cover_laws.specs.Destroying.{EndsBelow, CleansUp}
+use Rattle.uc_cover_laws.specs.Destroying.{Seat, EndsBelow, CleansUp}
 
 -- by whom each execution was made, where its coroutine is, and marks that were there before that was built
 pub record Seating : Type 0 where
   pub parent : Exec → Exec
-  pub seat : Exec → Value
+  pub seat : Exec → Seat
   pub before : Exec → List Placed
 
 -- lines alone
@@ -41,7 +41,7 @@ Stays (piece.Unwind ∷ (p ∷ todo)) = NoMain (sort p)
 Stays todo = Unit {0}
 
 -- `w`: where the coroutine is, `ps`: those marks, `n`: who made it
-module _ (source : Source) (w : Value) (ps : List Placed) (n : Exec) where
+module _ (source : Source) (w : Seat) (ps : List Placed) (n : Exec) where
   -- in an activation of this frame and object, of which so many elements stand: a mark of this sort, before these marks, is of what destroys the coroutine
   abbrev pub Holds : ℕ → Value → ℕ → Sort → List Placed → Type 0
   Holds f this e (piece.IsClean c) qs = CleansUp source w n f this c × Ends ps qs
@@ -66,24 +66,32 @@ module _ (source : Source) (w : Value) (ps : List Placed) (n : Exec) where
   Held [] = ⊥
   Held (a ∷ older) = HeldIn a.frame a.this a.elements (stacked older) (Held older) a.control
 
-  -- behind a step, who runs now or goes on with a bare answer is such; nothing is asked behind a fault
+  -- behind a step who runs goes on so, and so behind a tick or a bare answer; nothing is asked behind a fault
   abbrev pub AskOnwards : (Active → List Active → Type 0) → Request → State → Type 0
-  AskOnwards P (ask.Fault m) u = Unit {0}
-  AskOnwards P r u = (form_of_request r ≡ JustGo) × (u.env.exec ≡ n) × P u.run u.callers
+  AskOnwards Q (ask.Fault m) u = Unit {0}
+  AskOnwards Q r u = (form_of_request r ≡ JustGo) × (u.env.exec ≡ n) × Q u.run u.callers
 
-  abbrev pub Onwards : (Active → List Active → Type 0) → Step → Type 0
-  Onwards P (Goes u) = (u.env.exec ≡ n) × P u.run u.callers
-  Onwards P (Ticks u) = (u.env.exec ≡ n) × P u.run u.callers
-  Onwards P (Asks r u) = AskOnwards P r u
+  abbrev pub Onwards : (State → Type 0) → (Active → List Active → Type 0) → Step → Type 0
+  Onwards P Q (Goes u) = (u.env.exec ≡ n) × P u
+  Onwards P Q (Ticks u) = (u.env.exec ≡ n) × Q u.run u.callers
+  Onwards P Q (Asks r u) = AskOnwards Q r u
 
   -- so many steps, whatever else there is in the task, lead to where such a mark stands
   abbrev pub SoonIn : ℕ → Active → List Active → Type 0
   SoonIn zero a cs = Held (a ∷ cs)
   SoonIn (suc k) a cs = Stays a.control × Ends ps (stacked (a ∷ cs)) ×
-      ((e : Env) → e.exec ≡ n → Onwards (SoonIn k) (quiet source (record { run = a; callers = cs; env = e })))
+      ((e : Env) → e.exec ≡ n → Onwards (λ u. SoonIn k u.run u.callers) (SoonIn k) (quiet source (record { run = a; callers = cs; env = e })))
 
   abbrev pub Soon : Active → List Active → Type 0
   Soon a cs = (k : ℕ) × SoonIn k a cs
+
+  -- so many steps from this state lead to where it is so
+  abbrev pub SoonFrom : ℕ → State → Type 0
+  SoonFrom zero s = Soon s.run s.callers
+  SoonFrom (suc k) s = Stays s.run.control × Ends ps (stacked (s.run ∷ s.callers)) × Onwards (SoonFrom k) Soon (quiet source s)
+
+  abbrev pub SoonHere : State → Type 0
+  SoonHere s = (k : ℕ) × SoonFrom k s
 
   -- behind a request others may run first: such a mark stands, or bare answers are enough
   abbrev pub SoonAsked : Form → Active → List Active → Type 0
@@ -99,7 +107,7 @@ module _ (source : Source) (seats : Seating) (up : Exec → Bool) where
   HeldEx n y = AllHeld n (y.run ∷ y.callers)
 
   pub record HeldState (s : State) : Type 0 where
-    pub soon : (x : Exec) → up x ≡ true → seats.parent x ≡ s.env.exec → Soon source (seats.seat x) (seats.before x) s.env.exec s.run s.callers
+    pub soon : (x : Exec) → up x ≡ true → seats.parent x ≡ s.env.exec → SoonHere source (seats.seat x) (seats.before x) s.env.exec s
     pub env : EnvBy HeldEx s.env
 
   -- one that has asked for an answer of this form
@@ -113,7 +121,7 @@ module _ (source : Source) (seats : Seating) (up : Exec → Bool) where
 
   abbrev pub HeldStep : Step → Type 0
   HeldStep (Goes s) = HeldState s
-  HeldStep (Ticks s) = HeldState s
+  HeldStep (Ticks s) = HeldAsked JustGo s
   HeldStep (Asks r s) = HeldAsk r s
 
   -- what a step takes away
@@ -125,7 +133,7 @@ module _ (source : Source) (seats : Seating) (up : Exec → Bool) where
 
     -- the step leads to where such a mark stands
     abbrev pub LeadsSoon : Exec → Type 0
-    LeadsSoon x = Onwards source (seats.seat x) (seats.before x) s.env.exec (Soon source (seats.seat x) (seats.before x) s.env.exec) (quiet source s)
+    LeadsSoon x = Onwards source (seats.seat x) (seats.before x) s.env.exec (SoonHere source (seats.seat x) (seats.before x) s.env.exec) (Soon source (seats.seat x) (seats.before x) s.env.exec) (quiet source s)
 
     abbrev pub HoldsNow : Exec → Sort → List Todo → Type 0
     HoldsNow x k todo = Holds source (seats.seat x) (seats.before x) s.env.exec s.run.frame s.run.this s.run.elements k (placed s.run.frame s.run.this todo (stacked s.callers))

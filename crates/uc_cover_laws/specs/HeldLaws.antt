@@ -3,10 +3,11 @@ use Rattle.std.specs.Prelude.{Bool, List, ◌∷◌}
 use Rattle.uc_tree.specs.Source.{Source}
 use Rattle.uc_entry.specs.declared.request.Answer.{Answer}
 use Rattle.uc_machine.specs.declared.exec.Exec.{Exec}
-use Rattle.uc_machine.specs.Pieces.{Value, Active, State}
+use Rattle.uc_machine.specs.Pieces.{Active, State}
 use Rattle.uc_machine.specs.Quiet.{quiet}
 use Rattle.uc_machine.specs.Answering.{answered}
-use Rattle.uc_answer_laws.specs.Suiting.{Form, IsForm}
+use Rattle.uc_answer_laws.specs.Suiting.{Form, JustGo, IsForm}
+use Rattle.uc_cover_laws.specs.Destroying.{Seat}
 use Rattle.uc_cover_laws.specs.Placed.{Placed, stacked, Ends}
 use Rattle.uc_cover_laws.specs.Held.{Seating, Soon, HeldState, HeldAsked, HeldStep, TakesNow}
 
@@ -16,6 +17,8 @@ pub record LawHeld : Type 0 where
   pub steps : (source : Source) (seats : Seating) (up : Exec → Bool) (s : State) → HeldState source seats up s →
       TakesNow source seats up s → HeldStep source seats up (quiet source s)
   pub told : (source : Source) (seats : Seating) (up : Exec → Bool) (form : Form) (given : Answer) (s : State) →
-      IsForm form given → HeldAsked source seats up form s → HeldState source seats up (answered source given s)
-  pub stays : (source : Source) (w : Value) (ps : List Placed) (n : Exec) (a : Active) (cs : List Active) →
+      IsForm form given → HeldAsked source seats up form s → HeldAsked source seats up JustGo (answered source given s)
+  pub goes_on : (source : Source) (seats : Seating) (up : Exec → Bool) (s : State) → HeldAsked source seats up JustGo s →
+      HeldState source seats up s
+  pub stays : (source : Source) (w : Seat) (ps : List Placed) (n : Exec) (a : Active) (cs : List Active) →
       Soon source w ps n a cs → Ends ps (stacked (a ∷ cs))
