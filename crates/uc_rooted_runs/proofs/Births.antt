@@ -51,7 +51,7 @@ use Rattle.uc_rooted_runs.specs.Births.{MakesLater, SpawnsLater, MaySpawnLater, 
 abbrev made_now : Makers → Exec → Exec → Value → List Placed → Makers
 made_now b n by v ps = record {
   parent = λ m. if exec_eq m n then by else b.parent m;
-  seat = λ m. if exec_eq m n then v else b.seat m;
+  seat = λ m. record { place = if exec_eq m n then v else (b.seat m).place; home = λ o. piece.Nothing };
   before = λ m. if exec_eq m n then ps else b.before m;
   rank = λ m. if exec_eq m n then suc (b.rank by) else b.rank m;
 }
@@ -59,7 +59,7 @@ made_now b n by v ps = record {
 -- of those that were made by now the same is told
 record Keeps (serials : Home → ℕ) (b c : Makers) : Type 0 where
   parents : (m : Exec) → IsBelow serials m → c.parent m ≡ b.parent m
-  seats : (m : Exec) → IsBelow serials m → c.seat m ≡ b.seat m
+  seats : (m : Exec) → IsBelow serials m → (c.seat m).place ≡ (b.seat m).place
   befores : (m : Exec) → IsBelow serials m → c.before m ≡ b.before m
   ranks : (m : Exec) → IsBelow serials m → c.rank m ≡ b.rank m
 
@@ -93,7 +93,7 @@ module _ (serials : Home → ℕ) (b : Makers) (n by : Exec) (v : Value) (ps : L
   made_keeps : Keeps serials b (made_now b n by v ps)
   made_keeps = record {
     parents = λ m h. ap (λ c. if c then by else b.parent m) (apart m h);
-    seats = λ m h. ap (λ c. if c then v else b.seat m) (apart m h);
+    seats = λ m h. ap (λ c. if c then v else (b.seat m).place) (apart m h);
     befores = λ m h. ap (λ c. if c then ps else b.before m) (apart m h);
     ranks = λ m h. ap (λ c. if c then suc (b.rank by) else b.rank m) (apart m h);
   }
@@ -104,7 +104,7 @@ module _ (serials : Home → ℕ) (b : Makers) (n by : Exec) (v : Value) (ps : L
       let old_rank : (made_now b n by v ps).rank by ≡ b.rank by = ap (λ c. if c then suc (b.rank by) else b.rank by) (apart by h) in
       record {
         parent = ap (λ c. if c then by else b.parent n) (exec_self n);
-        seat = ap (λ c. if c then v else b.seat n) (exec_self n);
+        seat = ap (λ c. if c then v else (b.seat n).place) (exec_self n);
         before = ap (λ c. if c then ps else b.before n) (exec_self n);
         later = omega (arith, new_rank, old_rank);
       }
@@ -373,7 +373,7 @@ module _ (source : Source) (input : List ℕ) (opts : Options) (range : InRange 
   run_made : {j : Journal} {w : World} (r : Runs source input opts j w) → RunFits source input opts j w r → is_over j ≡ false → RunMade r
   run_made begun f on =
       let x = run_named source input opts range begun f on in
-      record { serials = x.serials; world = x.world; births = record { parent = λ m. m; seat = λ m. piece.Nothing; before = λ m. []; rank = λ m. 0 }; makes = tt; spawns = tt }
+      record { serials = x.serials; world = x.world; births = record { parent = λ m. m; seat = λ m. record { place = piece.Nothing; home = λ o. piece.Nothing }; before = λ m. []; rank = λ m. 0 }; makes = tt; spawns = tt }
   run_made (more {j} {w} r o (gives p t v le)) f on =
       let y = run_made r f.0 o in
       record { serials = y.serials; world = named_given y.serials j w p t y.world; births = y.births; makes = (y.makes, tt); spawns = (y.spawns, tt) }

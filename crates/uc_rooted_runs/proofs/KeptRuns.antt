@@ -32,7 +32,7 @@ use Rattle.uc_life_laws.specs.LifeStates.{SlotBy, ParkedBy, HandBy, MembersBy}
 use Rattle.uc_world_laws.specs.Rooted.{InSlot, InParked, InHand, InMembers, Lives}
 use Rattle.uc_cover_laws.specs.Ways.{LeavesAt}
 use Rattle.uc_cover_laws.proofs.Ways.{law_ways}
-use Rattle.uc_rooted_runs.specs.Makers.{Makers, seating}
+use Rattle.uc_rooted_runs.specs.Makers.{Outside, Makers, seating}
 use Rattle.uc_rooted_runs.specs.Births.{MakesLater, RunSpawnsLater}
 use Rattle.uc_own_names.specs.OwnNames.{StepOwn, StaysOwn, RunOwns}
 use Rattle.uc_own_names.proofs.OwnNamesLemmas.{run_first, law_own_names}

@@ -1,5 +1,5 @@
 -- In each run those that were made are held, so what was there before their coroutines were built stays.
-use Rattle.std.proofs.Common.{◌≡◌, ℕ, ◌==◌, ◌<◌, ◌≤◌, Bool, true, false, List, [], ◌∷◌, ◌++◌, Option, Some, None, refl, sym, ap, ◌∙◌, subst, arith, ◌⊎◌, inl, inr, ⊎_elim, ◌||◌}
+use Rattle.std.proofs.Common.{◌≡◌, ℕ, zero, suc, ◌==◌, ◌<◌, ◌≤◌, Bool, true, false, List, [], ◌∷◌, ◌++◌, Option, Some, None, refl, sym, ap, ◌∙◌, subst, arith, ◌⊎◌, inl, inr, ⊎_elim, ◌||◌}
 use Rattle.std.specs.Prelude.{if◌then◌else◌, slice_get}
 use Rattle.std.proofs.lemmas.Bool.{eqb-true, cases_lt}
 use Rattle.uc_tree.specs.Source.{Source, Routine, routine_of}
@@ -49,10 +49,10 @@ use Rattle.uc_answer_laws.proofs.Told.{form_push}
 use Rattle.uc_answer_laws.proofs.Runs.{law_suiting}
 use Rattle.uc_answer_laws.proofs.Asking.{law_asking}
 use Rattle.uc_cover_laws.specs.Placed.{Placed, stacked, Ends}
-use Rattle.uc_cover_laws.specs.Held.{Seating, Held, SoonIn, Soon, SoonAsked, AllHeld, HeldEx, HeldState, HeldAsked, HeldAsk, HeldStep, TakesAt, TakesNow}
+use Rattle.uc_cover_laws.specs.Held.{Seating, Held, Soon, SoonHere, SoonAsked, AllHeld, HeldEx, HeldState, HeldAsked, HeldAsk, HeldStep, TakesAt, TakesNow}
 use Rattle.uc_cover_laws.proofs.HeldLaws.{law_held, held_ends, soon_ends}
 use Rattle.uc_cover_laws.proofs.HeldKeeping as kept
-use Rattle.uc_rooted_runs.specs.Makers.{Makers, seating}
+use Rattle.uc_rooted_runs.specs.Makers.{Outside, Makers, seating}
 use Rattle.uc_rooted_runs.proofs.EndedTasks.{ended_by}
 use Rattle.uc_rooted_runs.specs.Outlasting.{IsAlone, Outlasts, OutlastEx}
 use Rattle.uc_rooted_runs.specs.Births.{MakesLater, SpawnsLater, RunSpawnsLater}
@@ -88,9 +88,9 @@ module _ (source : Source) (seats : Seating) (up other : Exec → Bool) where
   state_more : (s : State) → HeldState source seats up s → IsAlone s.env → ((x : Exec) → other x ≡ true → up x ≡ false → (seats.parent x ≡ s.env.exec) × Soon source (seats.seat x) (seats.before x) s.env.exec s.run s.callers) → HeldState source seats other s
   state_more s h alone f = record { soon = λ x u p. by x u p (up x) refl; env = env_more s.env alone (λ x u d. (f x u d).0) h.env }
     where
-      by : (x : Exec) → other x ≡ true → seats.parent x ≡ s.env.exec → (b : Bool) → up x ≡ b → Soon source (seats.seat x) (seats.before x) s.env.exec s.run s.callers
+      by : (x : Exec) → other x ≡ true → seats.parent x ≡ s.env.exec → (b : Bool) → up x ≡ b → SoonHere source (seats.seat x) (seats.before x) s.env.exec s
       by x u p true e = h.soon x e p
-      by x u p false e = (f x u e).1
+      by x u p false e = (zero, (f x u e).1)
 
   asked_more : (s : State) → HeldAsked source seats up JustGo s → IsAlone s.env → ((x : Exec) → other x ≡ true → up x ≡ false → (seats.parent x ≡ s.env.exec) × Soon source (seats.seat x) (seats.before x) s.env.exec s.run s.callers) → HeldAsked source seats other JustGo s
   asked_more s h alone f = record { soon = λ x u p. by x u p (up x) refl; env = env_more s.env alone (λ x u d. (f x u d).0) h.env }
@@ -99,16 +99,21 @@ module _ (source : Source) (seats : Seating) (up other : Exec → Bool) where
       by x u p true e = h.soon x e p
       by x u p false e = inr (refl, (f x u e).1)
 
--- at the end of a slice a bare answer comes
-sliced : (source : Source) (seats : Seating) (up : Exec → Bool) (s : State) → HeldState source seats up s → HeldAsked source seats up JustGo s
-sliced source seats up s h = record { soon = λ x u p. inr (refl, h.soon x u p); env = h.env }
+-- a ride of so many ticks begins, or goes on: without one that is left, it rests
+abbrev Riding : Source → Seating → (Exec → Bool) → ℕ → State → Type 0
+Riding source seats up zero s = HeldAsked source seats up JustGo s
+Riding source seats up (suc q) s = HeldState source seats up s
+
+riding : (source : Source) (seats : Seating) (up : Exec → Bool) (q : ℕ) (s : State) → HeldAsked source seats up JustGo s → Riding source seats up q s
+riding source seats up zero s h = h
+riding source seats up (suc q) s h = law_held.goes_on source seats up s h
 
 -- where no run is over, no fault was asked
 no_fault : (source : Source) (seats : Seating) (up : Exec → Bool) (r : Request) (s : State) → ((m : ℕ) → r ≡ ask.Fault m → ⊥) → HeldAsk source seats up r s → HeldAsked source seats up (form_of_request r) s
 no_fault source seats up (ask.Fault m) s f h = absurd (f m refl)
 no_fault source seats up r s f h = h
 
-module _ (whole : Makers) (before : Exec → List Placed) (asked : Exec → Bool) where
+module _ (whole : Makers) (before : Outside) (asked : Exec → Bool) where
   -- with these outer parts
   abbrev makers : Makers
   makers = with_before before whole
@@ -232,18 +237,18 @@ module _ (whole : Makers) (before : Exec → List Placed) (asked : Exec → Bool
             still x h true f = f
             still x h false f = no_both (now makers asked (made_behind source s made) (new_exec (home_at s.run.this s.env) s.env)) (ap (now makers asked (made_behind source s made)) (sym (born x h f).named) ∙ h) g
 
-    step_ticks : (u : State) → quiet.quiet source s ≡ Ticks u → HeldState source (seating makers) (now makers asked (made_behind source s made)) u
+    step_ticks : (u : State) → quiet.quiet source s ≡ Ticks u → HeldAsked source (seating makers) (now makers asked (made_behind source s made)) JustGo u
     step_ticks u e =
-        state_fewer source (seating makers) (now makers asked made) (now makers asked (made_behind source s made)) u (subst (HeldStep source (seating makers) (now makers asked made)) e stepped) (same_asked (λ x b. goes_only source s u x b e))
+        asked_fewer source (seating makers) (now makers asked made) (now makers asked (made_behind source s made)) JustGo u (subst (HeldStep source (seating makers) (now makers asked made)) e stepped) (same_asked (λ x b. goes_only source s u x b e))
 
     step_asks : (r : Request) (u : State) → quiet.quiet source s ≡ Asks r u → HeldAsk source (seating makers) (now makers asked (made_behind source s made)) r u
     step_asks r u e =
         ask_fewer source (seating makers) (now makers asked made) (now makers asked (made_behind source s made)) r u (subst (HeldStep source (seating makers) (now makers asked made)) e stepped) (same_asked (λ x b. asks_not source s u r x b e))
 
-  ride_outlasts : (source : Source) (made : Exec → Bool) {s u : State} {q k : ℕ} {a : Asked} (r : Rides source s q u k a) → RideOutlasts makers asked source made r → RideMeets (MakesLater source whole) source s q u k a r → HeldState source (seating makers) (now makers asked made) s → HeldAsk source (seating makers) (now makers asked (ride_made source made r)) a.request u
-  ride_outlasts source made (slices {s}) o l st = sliced source (seating makers) (now makers asked made) s st
+  ride_outlasts : (source : Source) (made : Exec → Bool) {s u : State} {q k : ℕ} {a : Asked} (r : Rides source s q u k a) → RideOutlasts makers asked source made r → RideMeets (MakesLater source whole) source s q u k a r → Riding source (seating makers) (now makers asked made) q s → HeldAsk source (seating makers) (now makers asked (ride_made source made r)) a.request u
+  ride_outlasts source made slices o l st = st
   ride_outlasts source made (goes_on {s} {t} e r) o l st = ride_outlasts source (made_behind source s made) r o.1 l.1 (step_goes source made s st o.0 l.0 t e)
-  ride_outlasts source made (ticks {s} {t} e r) o l st = ride_outlasts source (made_behind source s made) r o.1 l.1 (step_ticks source made s st o.0 l.0 t e)
+  ride_outlasts source made (ticks {s} {t} {u} {q} e r) o l st = ride_outlasts source (made_behind source s made) r o.1 l.1 (riding source (seating makers) (now makers asked (made_behind source s made)) q t (step_ticks source made s st o.0 l.0 t e))
   ride_outlasts source made (asks {s} {t} {q} {r} e) o l st = step_asks source made s st o l r t e
 
   -- what is spawned
@@ -322,7 +327,7 @@ module _ (whole : Makers) (before : Exec → List Placed) (asked : Exec → Bool
       -- the state that has asked
       behind : HeldAsked source (seating makers) (now makers asked (made_asked q.request (ride_made source made d.rides))) (form_of_request q.request) s
       behind =
-          asked_spawned (ride_made source made d.rides) s source q.request k.1 sl (no_fault source (seating makers) (now makers asked (ride_made source made d.rides)) q.request s faultless (ride_outlasts source made d.rides k.0 ml (law_held.told source (seating makers) (now makers asked made) (asked_form t j) d.given (drawn j w t) (law_suiting opts source.sites input j rests.kernel going t d.given d.told) (drawn_told source (now makers asked made) j w t lt alive h))))
+          asked_spawned (ride_made source made d.rides) s source q.request k.1 sl (no_fault source (seating makers) (now makers asked (ride_made source made d.rides)) q.request s faultless (ride_outlasts source made d.rides k.0 ml (riding source (seating makers) (now makers asked made) (left opts j t) (answered source d.given (drawn j w t)) (law_held.told source (seating makers) (now makers asked made) (asked_form t j) d.given (drawn j w t) (law_suiting opts source.sites input j rests.kernel going t d.given d.told) (drawn_told source (now makers asked made) j w t lt alive h)))))
 
       forms : (u : ℕ) → (u == t) ≡ false → asked_form u (j ++ act opts source.sites input j p t n q) ≡ asked_form u j
       forms u e = (law_asking opts source.sites input j p t n q rests.kernel (may_ask source input opts range d f) on).others u e

@@ -29,7 +29,7 @@ use Rattle.uc_world_laws.specs.Rooted.{IsPlace, Lives, Had}
 use Rattle.uc_cover_laws.specs.Placed.{Placed}
 use Rattle.uc_cover_laws.specs.Held.{Soon}
 use Rattle.uc_cover_laws.specs.Ways.{LeavesAt}
-use Rattle.uc_rooted_runs.specs.Makers.{Makers, seating}
+use Rattle.uc_rooted_runs.specs.Makers.{Outside, Makers, seating}
 use Rattle.uc_rooted_runs.specs.Births.{AllMadeLater}
 use Rattle.uc_rooted_runs.specs.Binds.{BindsOwn}
 use Rattle.uc_rooted_runs.specs.Mains.{CallsNoMain, FindsAll}
@@ -77,7 +77,7 @@ module _ (makers : Makers) (asked : Exec → Bool) where
 -- its home for good
 abbrev pub LawKeptRuns : Type 0
 LawKeptRuns =
-    (asked : Exec → Bool) (before : Exec → List Placed) (source : Source) (input : List ℕ) (opts : Options) (j : Journal) (w : World)
+    (asked : Exec → Bool) (before : Outside) (source : Source) (input : List ℕ) (opts : Options) (j : Journal) (w : World)
     (r : Runs source input opts j w) → InRange opts → RunFits source input opts j w r → is_over j ≡ false →
     RunLeaves source input opts j w r → RunMeets names.Spares source input opts j w r →
     RunMeets (CallsNoMain source) source input opts j w r →
@@ -100,7 +100,7 @@ module _ (t : Table) (few : Few) (own : Exec → Value → Ty → Bool) (yet : E
   -- matter of names
   pub record IsRooted (j : Journal) (a : List Entry) (x : World) (r : Runs source input opts (j ++ a) x) (u o : ℕ) : Type 0 where
     pub asked : Exec → Bool
-    pub before : Exec → List Placed
+    pub before : Outside
     pub keeps : RunKeeps (with_before before makers) asked source input opts r
     -- the main of task 0 has nothing of others
     pub first : (w : Value) (b : Ty) → Base few (main_of 0) w b → own (main_of 0) w b ≡ true

@@ -3,14 +3,21 @@ use Rattle.std.specs.Prelude.{◌≡◌, ℕ, ◌<◌, List}
 use Rattle.uc_machine.specs.declared.exec.Exec.{Exec}
 use Rattle.uc_machine.specs.Pieces.{Value}
 use Rattle.uc_cover_laws.specs.Placed.{Placed}
+use Rattle.uc_cover_laws.specs.Destroying.{Seat}
 use Rattle.uc_cover_laws.specs.Held.{Seating}
 
--- by whom each execution was made, the object for which it was made, what that was to clean up then, and a number that grows with each that is made
+-- by whom each execution was made, the object for which it was made, with where mutex objects are at home, what that was to clean up then, and a number that
+-- grows with each that is made
 pub record Makers : Type 0 where
   pub parent : Exec → Exec
-  pub seat : Exec → Value
+  pub seat : Exec → Seat
   pub before : Exec → List Placed
   pub rank : Exec → ℕ
+
+-- where mutex objects are at home, and what was to be cleaned up as executions were made, outwards of what holds them
+pub record Outside : Type 0 where
+  pub home : ℕ → Value
+  pub before : Exec → List Placed
 
 abbrev pub seating : Makers → Seating
 seating makers = record { parent = makers.parent; seat = makers.seat; before = makers.before }
@@ -18,6 +25,6 @@ seating makers = record { parent = makers.parent; seat = makers.seat; before = m
 -- one is made by another, which was made before, for this object, and is to clean up this then
 pub record MadeBy (makers : Makers) (n by : Exec) (v : Value) (ps : List Placed) : Type 0 where
   pub parent : makers.parent n ≡ by
-  pub seat : makers.seat n ≡ v
+  pub seat : (makers.seat n).place ≡ v
   pub before : makers.before n ≡ ps
   pub later : makers.rank by < makers.rank n

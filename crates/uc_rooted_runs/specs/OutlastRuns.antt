@@ -24,14 +24,19 @@ use Rattle.uc_life_laws.specs.Knowing.{main_of}
 use Rattle.uc_life_laws.specs.LifeStates.{EnvBy, MembersBy}
 use Rattle.uc_cover_laws.specs.Placed.{Placed}
 use Rattle.uc_cover_laws.specs.Held.{Soon, TakesNow}
-use Rattle.uc_rooted_runs.specs.Makers.{Makers, seating}
+use Rattle.uc_rooted_runs.specs.Makers.{Outside, Makers, seating}
 use Rattle.uc_rooted_runs.specs.Births.{AllMadeLater}
 use Rattle.uc_rooted_runs.specs.Outlasting.{IsAlone}
 use Rattle.uc_rooted_runs.specs.Upwards.{OutlastWorld}
 
 -- of what each was to clean up as it made others, an outer part is asked: parts of an object under construction are left as it is done
-abbrev pub with_before : (Exec → List Placed) → Makers → Makers
-with_before before makers = record { parent = makers.parent; seat = makers.seat; before = before; rank = makers.rank }
+abbrev pub with_before : Outside → Makers → Makers
+with_before out makers = record {
+  parent = makers.parent;
+  seat = λ x. record { place = (makers.seat x).place; home = out.home };
+  before = out.before;
+  rank = makers.rank;
+}
 
 -- which executions were made by now: behind a state, behind a ride, with what was asked, and in a run
 
@@ -120,7 +125,7 @@ module _ (makers : Makers) (asked : Exec → Bool) where
 -- parts of what those were to clean up then, outwards of what holds them
 abbrev pub LawOutlastRuns : Type 0
 LawOutlastRuns =
-    (asked : Exec → Bool) (before : Exec → List Placed) (source : Source) (input : List ℕ) (opts : Options) (j : Journal) (w : World)
+    (asked : Exec → Bool) (before : Outside) (source : Source) (input : List ℕ) (opts : Options) (j : Journal) (w : World)
     (r : Runs source input opts j w) → InRange opts → RunFits source input opts j w r → is_over j ≡ false →
     (b : AllMadeLater source input opts j w r) →
     RunOutlasts (with_before before b.makers) asked source input opts r →
