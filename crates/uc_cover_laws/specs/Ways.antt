@@ -7,15 +7,15 @@ use Rattle.uc_machine.specs.Pieces.{Todo, Sort, sort, State}
 use Rattle.uc_machine.specs.Quiet.{MOST_ELEMENTS}
 use Rattle.uc_cover_laws.specs.Held.{Seating, IsOwn, Takes, Recounts, TakesAt, TakesNow}
 
+-- what calls no destructor of a mutex object
+abbrev pub calls_plainly : Expr → Bool
+calls_plainly (OfObject (EndOn d written e)) = false
+calls_plainly e = true
+
 module _ (source : Source) (seats : Seating) (up : Exec → Bool) where
   -- the execution of the coroutine or task at hand is not up any more
   abbrev pub IsForgotten : State → Type 0
   IsForgotten s = (x : Exec) → IsOwn source seats up s x → s.run.this ≡ (seats.seat x).place → ⊥
-
-  -- what calls no destructor of a mutex object
-  abbrev pub calls_plainly : Expr → Bool
-  calls_plainly (OfObject (EndOn d written e)) = false
-  calls_plainly e = true
 
   -- a mark of this sort is reached, of this clean-up
   abbrev pub ForgetsBy : Sort → CleanUp → List Todo → State → Type 0
