@@ -13,7 +13,7 @@ use Rattle.uc_typing.specs.Typing.{Ty, Cell, Obj, Raw, Sig, Table}
 use Rattle.uc_life_laws.specs.Things.{Few, Within, lies, inside, Base, Things, Stands, Held}
 use Rattle.uc_life_laws.specs.LifeStates.{SlotBy, ParkedBy, HandBy, EnvBy}
 use Rattle.uc_life_laws.specs.Knowing.{AtHand, InMaking, KnowsState}
-use Rattle.uc_life_laws.proofs.Reading.{within_raw, in_raw}
+use Rattle.uc_life_laws.proofs.Reading.{within_raw, not_whole, NoNumber, behind_number}
 use Rattle.uc_world_laws.specs.Rooted.{IsPlace}
 use Rattle.uc_world_laws.proofs.Rooted.{within_object, things_place, stands_things}
 use Rattle.uc_depth_laws.specs.Owing.{Ex, entering}
@@ -25,7 +25,7 @@ module _ (t : Table) (few : Few) (places : (n : Exec) (w : Value) (b : Ty) → B
   held n gs cs f c (inl (lies {w = w} {a = d} (inl k) h)) =
       things_place t few places n cs w d k o (within_object t w d (Object o) (Obj c) o h refl)
   held n gs cs f c (inl (lies {w = w} {a = d} (inr k) h)) =
-      let q = in_raw gs cs w d k in
+      let q = not_whole t n gs cs w d k in
       let e : Obj c ≡ Raw q.0 = within_raw t w q.0 (Object o) (Obj c) (subst (λ d. Within t w d (Object o) (Obj c)) q.1 h) in
       absurd (cc)
   held n gs cs f c (inl (inside {o = u} {c = d} m k h)) =
@@ -33,7 +33,7 @@ module _ (t : Table) (few : Few) (places : (n : Exec) (w : Value) (b : Ty) → B
       let same : u ≡ o = cc in
       f.1 d (subst (λ (u : ℕ). Stands t few (Things t few n cs) (Cell (Obj d)) (few.home u)) same (stands_things t few n gs cs (Obj d) (few.home u) k))
   held n gs cs f c (inr h) =
-      ⊎_elim (λ k. things_place t few places n cs h.0 (Raw h.1) k o e) (λ k. f.0 h.1 (subst (λ w. InMaking gs cs w (Raw h.1)) e k)) h.2
+      ⊎_elim (λ k. things_place t few places n cs h.0 (Raw h.1) k o e) (λ k. ⊎_elim (λ k. f.0 h.1 (subst (λ w. InMaking gs cs w (Raw h.1)) e k)) (λ k. subst NoNumber e (behind_number t n cs h.0 (Raw h.1) k)) k) h.2
     where
       e : h.0 ≡ Object o
       e = within_object t h.0 (Obj h.1) (Object o) (Obj c) o h.3 refl
@@ -42,7 +42,7 @@ module _ (t : Table) (few : Few) (places : (n : Exec) (w : Value) (b : Ty) → B
   hand n gs cs f h = held n gs cs f h.0 h.2
 
   far : (g : Stage) (n : Exec) (x : Ex) → ClearBy t few o g n x → FarBy t few o g n x
-  far Fresh n x f = λ k. hand n k.sigs (x.run ∷ x.callers) (f k)
+  far Fresh n x f = f
   far Started n x f = λ k. hand n k.sigs (x.run ∷ x.callers) (f k)
   far Ended n x f = tt
 

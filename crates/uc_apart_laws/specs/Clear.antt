@@ -4,7 +4,7 @@ use Rattle.uc_tree.specs.Source.{Source}
 use Rattle.uc_machine.specs.declared.exec.Exec.{Exec}
 use Rattle.uc_machine.specs.declared.exec.Home.TheVariants as home
 use Rattle.uc_machine.specs.declared.exec.Stage.{Stage}
-use Rattle.uc_machine.specs.declared.exec.Stage.TheVariants.{Ended}
+use Rattle.uc_machine.specs.declared.exec.Stage.TheVariants.{Fresh, Ended}
 use Rattle.uc_machine.specs.Monitors.{this_object}
 use Rattle.uc_machine.specs.Pieces.{Value, Object, Todo, EnterNow, MadeNow, SpawnNow, GoneNow, GiveUpNow, Active, State}
 use Rattle.uc_typing.specs.Typing.{Ty, Cell, Obj, Raw, Sig, Table}
@@ -14,7 +14,7 @@ use Rattle.uc_life_laws.specs.Knowing.{InMaking, KnowsEx, KnowsState}
 use Rattle.uc_world_laws.specs.Rooted.{IsPlace}
 use Rattle.uc_depth_laws.specs.Entering.{is_ending}
 use Rattle.uc_depth_laws.specs.Owing.{Ex, entering, is_again}
-use Rattle.uc_owing_laws.specs.AtHand.{IsAtHand, elsewhere, IsApart}
+use Rattle.uc_owing_laws.specs.AtHand.{IsUnopened, IsAtHand, elsewhere, IsApart}
 
 module _ (t : Table) (few : Few) (o : ℕ) where
   -- these activations neither build nor destroy the object
@@ -28,8 +28,9 @@ module _ (t : Table) (few : Few) (o : ℕ) where
   abbrev pub IsClear : Exec → List Sig → List Active → Type 0
   IsClear n gs cs = NotMaking gs cs × IsNoHome (Things t few n cs)
 
-  -- so it is of an execution that does not run, and may go on
+  -- so it is of an execution that does not run, and may go on; one that has not begun has nothing to clean up
   abbrev pub ClearBy : Stage → Exec → Ex → Type 0
+  ClearBy Fresh n x = IsUnopened x
   ClearBy Ended n x = Unit {0}
   ClearBy g n x = (k : KnowsEx t few n x) → IsClear n k.sigs (x.run ∷ x.callers)
 

@@ -14,7 +14,8 @@ use Rattle.uc_life_laws.specs.LifeStates.{EnvBy}
 use Rattle.uc_life_laws.specs.Knowing.{KnowsEx}
 use Rattle.uc_world_laws.specs.Rooted.{Lives, Yet, OwnObject, StandsUpwards}
 use Rattle.uc_depth_laws.specs.Owing.{Ex}
-use Rattle.uc_apart_laws.specs.Clear.{NotMaking, IsNoHome, IsClear, ClearEx}
+use Rattle.uc_owing_laws.specs.AtHand.{IsUnopened}
+use Rattle.uc_apart_laws.specs.Clear.{NotMaking, IsNoHome, ClearEx}
 
 -- in a world, of those that live: nobody is to clean up that in which the object is at home, nor does it stand in the own object of one, and what they
 -- have of others stands upwards
@@ -26,10 +27,9 @@ pub record IsNowhere (t : Table) (few : Few) (j : Journal) (x : World) (own : Ex
       Stands t few (Yet t yet n cs) (Cell (Obj c)) (few.home o) → ⊥
 
 module _ (t : Table) (few : Few) (o : ℕ) where
-  -- an execution that does not run, and has begun, neither builds nor destroys it; one that has not begun has nothing at hand in which it is at home
-  -- either
+  -- an execution that does not run, and has begun, neither builds nor destroys it; one that has not begun has nothing to clean up
   abbrev pub SparesBy : Stage → Exec → Ex → Type 0
-  SparesBy Fresh n x = (k : KnowsEx t few n x) → IsClear t few o n k.sigs (x.run ∷ x.callers)
+  SparesBy Fresh n x = IsUnopened x
   SparesBy Started n x = (k : KnowsEx t few n x) → NotMaking t few o k.sigs (x.run ∷ x.callers)
   SparesBy Ended n x = Unit {0}
 

@@ -5,18 +5,19 @@ use Rattle.uc_tree.specs.Source.{Routine, Source, CleanUp}
 use Rattle.uc_machine.specs.declared.exec.Exec.{Exec}
 use Rattle.uc_machine.specs.declared.exec.Owner.{Owner}
 use Rattle.uc_machine.specs.declared.exec.Owner.TheVariants.{Frame, Fields}
-use Rattle.uc_machine.specs.Executions.{others, take_operands}
+use Rattle.uc_machine.specs.Executions.{take_operands}
 use Rattle.uc_machine.specs.Quiet.{call_frame}
 use Rattle.uc_machine.specs.Pieces as piece
 use Rattle.uc_machine.specs.Pieces.{Link, FieldAt, At, Value, Todo, Active, State, address, further, object_in, nought}
 use Rattle.uc_typing.specs.Typing.{Ty, Num, Cell, Obj, Raw, Row, Clu, Pro, Sig, Table, element_shape, IsParam, object_ty}
 use Rattle.uc_typing.specs.Pieces.{Ok, onto}
 use Rattle.uc_typing.specs.States.{IsNumbered, IsObjectBy, Sound}
-use Rattle.uc_life_laws.specs.Things.{IsReference, IsBinding, IsUnbound, IsTracked, IsSited, is_outside, Within, itself, field, element, Stands, lies, inside, Held, InStack, Base, Things, IsFew, LiesIn, IsFor, AtField, Known, Holds}
+use Rattle.uc_life_laws.specs.Things.{IsReference, IsBinding, IsUnbound, IsTracked, IsSited, is_outside, Within, itself, field, element, Stands, lies, inside, Held, InStack, Base, Around, UnmadeBehind, IsFew, LiesIn, IsFor, AtField, Known, Holds}
 use Rattle.uc_life_laws.specs.LifeStates.{Outwards}
 use Rattle.uc_life_laws.specs.Knowing.{InMaking, AtHand, KnownAll, KnownParams, KnowsState}
 use Rattle.uc_life_laws.specs.Opened.{any}
 use Rattle.uc_life_laws.proofs.Knowns as known
+use Rattle.uc_life_laws.proofs.Reading.{not_whole}
 use Rattle.uc_building_laws.specs.BuildingRuns.{MadeElsewhere, Makes, IsByNumber}
 use Rattle.uc_building_laws.proofs.Building.{within_more}
 use Rattle.uc_building_laws.proofs.Making.{within_cell}
@@ -75,35 +76,29 @@ module _ (t : Table) where
 
 module _ (t : Table) (n : Exec) (cs : List Active) where
   abbrev InScope : Value → Ty → Type 0
-  InScope w a = Things t any n cs w a
+  InScope w a = Around t any n cs w a
 
   -- a mutex object is known by its number, and so is at hand everywhere
   numbered : (c : ℕ) (v : Value) → IsNumbered v → LiesIn t any n InScope (Obj c) v
   numbered c (piece.Number z) h = absurd h
   numbered c (piece.Place o p) h = absurd h
   numbered c (piece.Running x) h = absurd h
-  numbered c (piece.Object o) h = inl (lies (in_base (IsFor t) (AtField t) (Base any n) n cs (piece.Object o) (Obj c) refl) itself)
+  numbered c (piece.Object o) h = inl (lies (known.things_around t any n cs (piece.Object o) (Obj c) (in_base (IsFor t) (AtField t) (Base any n) n cs (piece.Object o) (Obj c) refl)) itself)
   numbered c piece.Nothing h = absurd h
 
   -- what lies outside is at hand
   lies_outside : (b : Ty) (v : Value) → is_outside n v ≡ true → Stands t any InScope b v
-  lies_outside b v h = lies (in_base (IsFor t) (AtField t) (Base any n) n cs v b h) itself
+  lies_outside b v h = lies (known.things_around t any n cs v b (in_base (IsFor t) (AtField t) (Base any n) n cs v b h)) itself
 
-  -- so is all that is tracked, where what is being made lies outside or is bare
-  module _ (gs : List Sig) (elsewhere : (w : Value) (c : ℕ) → InMaking gs cs w (Raw c) → IsUnbound t (Obj c) ⊎ (is_outside n w ≡ true)) where
+  -- so is all that is tracked, where what is being made lies outside, is bare or is waited for
+  module _ (gs : List Sig) (elsewhere : (w : Value) (c : ℕ) → InMaking gs cs w (Raw c) → IsUnbound t (Obj c) ⊎ ((is_outside n w ≡ true) ⊎ UnmadeBehind t n cs w (Raw c))) where
     abbrev AtHere : Value → Ty → Type 0
     AtHere w a = AtHand t any n gs cs w a
 
-    -- what is being made is not whole
-    made_raw : (hs : List Sig) (xs : List Active) (w : Value) (a : Ty) → InMaking hs xs w a → (c : ℕ) × (a ≡ Raw c)
-    made_raw hs [] w a h = absurd h
-    made_raw hs (x ∷ xs) w a (inl h) = (h.2.1.0, h.2.1.3)
-    made_raw hs (x ∷ xs) w a (inr h) = made_raw (others hs) xs w a h
-
     by_thing : (w : Value) (a b : Ty) (v : Value) → AtHere w a → Within t w a v b → IsTracked t b → Stands t any InScope b v
-    by_thing w a b v (inl h) k i = lies h k
+    by_thing w a b v (inl h) k i = lies (known.things_around t any n cs w a h) k
     by_thing w a b v (inr h) k i =
-        let m = made_raw gs cs w a h in
+        let m = not_whole t n gs cs w a h in
         let e : b ≡ Raw m.0 = raw_itself t w m.0 v b (subst (λ a. Within t w a v b) m.1 k) in
         absurd (subst (IsTracked t) e i)
 
@@ -112,12 +107,14 @@ module _ (t : Table) (n : Exec) (cs : List Active) where
     stands_in b v (inside {o = o} {c} m h k) i = inside m (stands_in (Cell (Obj c)) (any.home o) h tt) k
 
     by_made : (w : Value) (c : ℕ) (b : Ty) (v : Value) → AtHere w (Raw c) → Within t w (Obj c) v b → IsTracked t b → Held t any InScope b v
-    by_made w c b v (inl h) k i = inr (w, c, h, k)
-    by_made w c b v (inr h) k i = by (elsewhere w c h)
+    by_made w c b v (inl h) k i = inr (w, c, known.things_around t any n cs w (Raw c) h, k)
+    by_made w c b v (inr (inr h)) k i = inr (w, c, known.behind_around t any n cs w (Raw c) h, k)
+    by_made w c b v (inr (inl h)) k i = by (elsewhere w c h)
       where
-        by : IsUnbound t (Obj c) ⊎ (is_outside n w ≡ true) → Held t any InScope b v
+        by : IsUnbound t (Obj c) ⊎ ((is_outside n w ≡ true) ⊎ UnmadeBehind t n cs w (Raw c)) → Held t any InScope b v
         by (inl u) = absurd (untracked t c u b w v k i)
-        by (inr o) = inl (lies_outside b v (outside_within t n w (Obj c) v b k o))
+        by (inr (inl o)) = inl (lies_outside b v (outside_within t n w (Obj c) v b k o))
+        by (inr (inr m)) = inr (w, c, known.behind_around t any n cs w (Raw c) m, k)
 
     held_in : (b : Ty) (v : Value) → Held t any AtHere b v → IsTracked t b → Held t any InScope b v
     held_in b v (inl h) i = inl (stands_in b v h i)
@@ -182,11 +179,11 @@ module _ (t : Table) (source : Source) (sound : Sound t source) (s : State) (x :
     given j b i = known.held t any s.env.exec Here ps (call_frame q s.run.operands) j b params i
 
     -- what lies in scope is known there
-    pub in_scope : ((j : ℕ) (b : Ty) → IsParam ps j b → IsSited b → ⊥) → Makes t source s r → (j : ℕ) (b : Ty) → IsParam ps j b → Known t any s.env.exec (Things t any s.env.exec (s.run ∷ s.callers)) b (slice_index_or (call_frame q s.run.operands) j nought)
+    pub in_scope : ((j : ℕ) (b : Ty) → IsParam ps j b → IsSited b → ⊥) → Makes t source s r → (j : ℕ) (b : Ty) → IsParam ps j b → Known t any s.env.exec (Around t any s.env.exec (s.run ∷ s.callers)) b (slice_index_or (call_frame q s.run.operands) j nought)
     in_scope u h j b i = known_in t s.env.exec (s.run ∷ s.callers) Here b _ (u j b i) (given j b i) (h.given q is j b i)
 
-    -- so it is of all where what is being made lies elsewhere
-    unmade : ((w : Value) (c : ℕ) → InMaking x.sigs (s.run ∷ s.callers) w (Raw c) → IsUnbound t (Obj c) ⊎ (is_outside s.env.exec w ≡ true)) → (j : ℕ) (b : Ty) → IsParam ps j b → IsTracked t b → LiesIn t any s.env.exec (Things t any s.env.exec (s.run ∷ s.callers)) b (slice_index_or (call_frame q s.run.operands) j nought)
+    -- so it is of all where what is being made lies elsewhere, or is waited for
+    unmade : ((w : Value) (c : ℕ) → InMaking x.sigs (s.run ∷ s.callers) w (Raw c) → IsUnbound t (Obj c) ⊎ ((is_outside s.env.exec w ≡ true) ⊎ UnmadeBehind t s.env.exec (s.run ∷ s.callers) w (Raw c))) → (j : ℕ) (b : Ty) → IsParam ps j b → IsTracked t b → LiesIn t any s.env.exec (Around t any s.env.exec (s.run ∷ s.callers)) b (slice_index_or (call_frame q s.run.operands) j nought)
     unmade elsewhere j b i k =
         lies_elsewhere t s.env.exec (s.run ∷ s.callers) x.sigs elsewhere b _ (lies_in t s.env.exec (s.run ∷ s.callers) Here b _ (given j b i) k) k
 
@@ -205,7 +202,7 @@ module _ (t : Table) (s : State) (c : CleanUp) (todo : List Todo) where
   lies_out b (piece.Number z) h = absurd h
   lies_out b (piece.Place o p) h = absurd h
   lies_out b (piece.Running x) h = absurd h
-  lies_out b (piece.Object o) h = inl (lies (inr (in_base (IsFor t) (AtField t) (Base any s.env.exec) s.env.exec s.callers (piece.Object o) b refl)) itself)
+  lies_out b (piece.Object o) h = inl (lies (inr (inl (in_base (IsFor t) (AtField t) (Base any s.env.exec) s.env.exec s.callers (piece.Object o) b refl))) itself)
   lies_out b piece.Nothing h = absurd h
 
   passes_any : (b : Ty) (v : Value) → IsNumbered v → any.numbers b (object_in v) ≡ true → IsFew t any s.env.exec b v

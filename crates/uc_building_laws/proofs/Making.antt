@@ -14,7 +14,7 @@ use Rattle.uc_machine.specs.Pieces as piece
 use Rattle.uc_machine.specs.Pieces.{Link, Slot, FieldAt, Value, Place, Todo, Active, State, Env, Goes, at, in_env, top, below, further, loaded, stored, written, address, variable_at, nought, LAST_ADDRESS}
 use Rattle.uc_typing.specs.Typing.{Ty, Cell, Obj, Row, Table, CleansAt, IsParam, IsPlaced}
 use Rattle.uc_typing.specs.States.{IsObjectBy}
-use Rattle.uc_life_laws.specs.Things.{Few, IsField, lies, Within, itself, field, element, IsUnbound, InTodo, IsFor, AtField, Things, Known, Holds, LiesBefore}
+use Rattle.uc_life_laws.specs.Things.{Few, IsField, lies, Within, itself, field, element, IsUnbound, InTodo, IsFor, AtField, Around, Known, Holds, LiesBefore}
 use Rattle.uc_life_laws.specs.LifeStates.{frame_at, Outwards}
 use Rattle.uc_scope_laws.specs.RoomStacks.{StackState}
 use Rattle.uc_life_laws.proofs.Cells.{either}
@@ -261,14 +261,14 @@ module _ (t : Table) (heads : ℕ → ℕ → Bool) (few : Few) (Z : ℕ → ℕ
         abbrev K : Value → Ty → Type 0
         K w a = Outwards t few s.env.exec s.run.frame s.run.this s.callers c rest w a
 
-        less : (w : Value) (a : Ty) → Things t few s.env.exec (s.run ∷ s.callers) w a → K w a
+        less : (w : Value) (a : Ty) → Around t few s.env.exec (s.run ∷ s.callers) w a → K w a
         less w a (inl h) =
             inl (inr (outside w a (piece.DropNow ∷ (piece.Within line ∷ (piece.Rest (src.Scoped c ss) ∷ rest))) (subst (λ l. InTodo (IsFor t (Frame s.env.exec s.run.frame) s.run.this) (AtField t (Frame s.env.exec s.run.frame) s.run.this) l w a) control h)))
         less w a (inr h) = inr h
 
-        in_frame : (k : ℕ) (b : Ty) → Known t few s.env.exec (Things t few s.env.exec (s.run ∷ s.callers)) b (slice_index_or (quiet.call_frame q s.run.operands) k nought) → Known t few s.env.exec K b (slice_index_or (frame_at (length s.env.frames) (quiet.call_frame q s.run.operands ∷ s.env.frames)) k nought)
+        in_frame : (k : ℕ) (b : Ty) → Known t few s.env.exec (Around t few s.env.exec (s.run ∷ s.callers)) b (slice_index_or (quiet.call_frame q s.run.operands) k nought) → Known t few s.env.exec K b (slice_index_or (frame_at (length s.env.frames) (quiet.call_frame q s.run.operands ∷ s.env.frames)) k nought)
         in_frame k b h =
-            subst (λ vs. Known t few s.env.exec K b (slice_index_or vs k nought)) (sym (newest_frame (quiet.call_frame q s.run.operands) s.env.frames)) (known.known_more t few s.env.exec (Things t few s.env.exec (s.run ∷ s.callers)) K less b _ h)
+            subst (λ vs. Known t few s.env.exec K b (slice_index_or vs k nought)) (sym (newest_frame (quiet.call_frame q s.run.operands) s.env.frames)) (known.known_more t few s.env.exec (Around t few s.env.exec (s.run ∷ s.callers)) K less b _ h)
 
         known_object : (k i : ℕ) → CleansAt t (Obj i) (src.Variable k) c → t.mutex i ≡ false → Known t few s.env.exec K (Obj i) (variable s.env.exec s.run.frame k)
         known_object k i d plain = record {

@@ -12,7 +12,7 @@ use Rattle.uc_machine.specs.Answering.{answered}
 use Rattle.uc_scope_laws.specs.Layout.{Sized}
 use Rattle.uc_scope_laws.specs.RoomStacks.{StackState}
 use Rattle.uc_typing.specs.Typing.{Ty, Obj, Table, IsParam, CleansAt}
-use Rattle.uc_life_laws.specs.Things.{Few, IsField, IsUnbound, Things, Known, LiesBefore}
+use Rattle.uc_life_laws.specs.Things.{Few, IsField, IsUnbound, Around, Known, LiesBefore}
 use Rattle.uc_life_laws.specs.LifeRuns.{IsLaidOut}
 use Rattle.uc_opening_laws.specs.Opened.{OpensNone}
 use Rattle.uc_opening_laws.specs.CalledStates.{StepJoins}
@@ -35,7 +35,7 @@ module _ (t : Table) (heads : ℕ → ℕ → Bool) (few : Few) (source : Source
         top (drop q.params s.run.operands) ≡ variable s.env.exec s.run.frame k
     pub given : (q : Routine) → slice_get source.routines r ≡ Some q → (j : ℕ) (b : Ty) →
         IsParam (t.routine r).params j b →
-        Known t few s.env.exec (Things t few s.env.exec (s.run ∷ s.callers)) b (slice_index_or (call_frame q s.run.operands) j nought)
+        Known t few s.env.exec (Around t few s.env.exec (s.run ∷ s.callers)) b (slice_index_or (call_frame q s.run.operands) j nought)
 
   -- where the scope of an object opens next, what is called builds it, or nothing is bound in it
   abbrev pub Constructs : ℕ → List Todo → Type 0

@@ -21,7 +21,7 @@ use Rattle.uc_typing.specs.Typing.{Ty, Num, Cell, Obj, Raw, Row, Clu, Pro, Table
 use Rattle.uc_typing.specs.States.{IsNumbered, Sound}
 use Rattle.uc_sound.specs.Formed.{IsFormed}
 use Rattle.uc_sound.specs.Tables.{table_of}
-use Rattle.uc_life_laws.specs.Things.{IsField, IsUnbound, IsTracked, is_outside, Things, LiesIn, Holds}
+use Rattle.uc_life_laws.specs.Things.{IsField, IsUnbound, IsTracked, is_outside, UnmadeBehind, Around, LiesIn, Holds}
 use Rattle.uc_life_laws.specs.LifeStates.{frame_at, Outwards}
 use Rattle.uc_life_laws.specs.Knowing.{InMaking, KnowsState, Finds}
 use Rattle.uc_life_laws.specs.Opened.{any}
@@ -31,12 +31,12 @@ use Rattle.uc_building_laws.specs.Building.{heads_of, InHead}
 use Rattle.uc_building_laws.specs.BuildingStates.{IsFree, Awaits, variable}
 
 module _ (t : Table) (source : Source) (s : State) where
-  -- what the parameters of the routine r are bound to in which something is bound lies in what is in scope, and not only in what is being built or
-  -- destroyed
+  -- what the parameters of the routine r are bound to in which something is bound lies in what is in scope, or in what older activations wait for, and
+  -- not only in what else is being built or destroyed
   pub record Makes (r : ℕ) : Type 0 where
     pub given : (q : Routine) → slice_get source.routines r ≡ Some q → (j : ℕ) (b : Ty) →
         IsParam (t.routine r).params j b → IsTracked t b →
-        LiesIn t any s.env.exec (Things t any s.env.exec (s.run ∷ s.callers)) b (slice_index_or (call_frame q s.run.operands) j nought)
+        LiesIn t any s.env.exec (Around t any s.env.exec (s.run ∷ s.callers)) b (slice_index_or (call_frame q s.run.operands) j nought)
 
   -- so it is of what is called where the scope of an object opens next, if something is bound in it
   abbrev pub MakesNext : ℕ → List Todo → Type 0
@@ -55,11 +55,11 @@ module _ (t : Table) (source : Source) (s : State) where
   Remains = RemainsAt s.run.control
 
 -- all that is being built or destroyed, by some typing, is of a class in which nothing is bound, or lies in no frame of this execution, as a mutex
--- object does and what is in one
+-- object does and what is in one, or in what older activations wait for
 pub record MadeElsewhere (t : Table) (s : State) : Type 0 where
   pub knows : KnowsState t any [] s
   pub elsewhere : (w : Value) (c : ℕ) → InMaking knows.sigs (s.run ∷ s.callers) w (Raw c) →
-      IsUnbound t (Obj c) ⊎ (is_outside s.env.exec w ≡ true)
+      IsUnbound t (Obj c) ⊎ ((is_outside s.env.exec w ≡ true) ⊎ UnmadeBehind t s.env.exec (s.run ∷ s.callers) w (Raw c))
 
 -- a step finds what it is to find: where the scope of an object opens, the fields of which `heads` does not tell hold what is known; where that of an
 -- array of objects opens, they do; what is left to find of how objects are built; and the rest as where nothing is told of objects
@@ -87,8 +87,8 @@ IsByNumber t Pro = Unit {0}
 
 -- the constructor of a class of which variables are declared, and which is no mutex class, binds each field that `heads_of` tells in one of its first
 -- statements, to what is of the type that stands there, or nothing is bound there at all; so it is in each program that breaks no rule. And where all
--- that is being built or destroyed is such, what a constructor is given is in scope. Of a cell for a mutex object, a cluster or a processor, or for a
--- reference to one, it is enough that it holds an object
+-- that is being built or destroyed is such, what a constructor is given is in scope, or in what older activations wait for. Of a cell for a mutex
+-- object, a cluster or a processor, or for a reference to one, it is enough that it holds an object
 pub record LawHeads : Type 0 where
   pub binds : (p : Program) → IsFormed p → breaks_of p ≡ [] → (r d : ℕ) (x : ArePaired p r d) →
       (q : Routine) → slice_get (source_of p).routines r ≡ Some q → (i : ℕ) →

@@ -369,10 +369,10 @@ module _ (p : Program) (formed : IsFormed p) (u : Unbroken (program_visits p)) w
 
 -- the main of the program
 
-record MainAt (p : Program) (ds : List Defined) (n : ℕ) : Type 0 where
-  routine : whole.Routine
-  at : slice_get ds n ≡ Some (defined_by p routine.sig.owner routine)
-  main : is_main_sig routine.sig ≡ true
+pub record MainAt (p : Program) (ds : List Defined) (n : ℕ) : Type 0 where
+  pub routine : whole.Routine
+  pub at : slice_get ds n ≡ Some (defined_by p routine.sig.owner routine)
+  pub main : is_main_sig routine.sig ≡ true
 
 module _ (p : Program) where
   behind : (x : whole.Item) (xs : List whole.Item) → MainAt p (items_defined p xs) (main_among p xs) → MainAt p (item_defined p x ++ items_defined p xs) (length (item_defined p x) + main_among p xs)
@@ -402,7 +402,7 @@ module _ (p : Program) where
   main_found (whole.ForwardItem f ∷ xs) l = behind (whole.ForwardItem f) xs (main_found xs (omega (arith, l)))
   main_found (whole.UsingItem q ∷ xs) l = behind (whole.UsingItem q) xs (main_found xs (omega (arith, l)))
 
-  found_in : Unbroken (program_visits p) → MainAt p (items_defined p p.items) (main_among p p.items)
+  pub found_in : Unbroken (program_visits p) → MainAt p (items_defined p p.items) (main_among p p.items)
   found_in u =
       let one = eqb-true (mains_in p.items) 1 (holds (nat_eq (mains_in p.items) 1) S3 _ _ (none_left (main_breaks p ++ []) _ u)) in
       main_found p.items (omega (arith, one))

@@ -24,7 +24,7 @@ use Rattle.uc_named_runs.specs.NamedRuns.{ComesNamed}
 use Rattle.uc_life_laws.specs.Things.{Few, numbered, is_outside, Within, itself, field, element, AtVariable, AtField, IsFor, Marks, InTodo, InStack, NoBase, Base, Things, OwnFields, LiesIn, IsFew, Known, Holds, Held, lies}
 use Rattle.uc_life_laws.specs.LifeStates.{frame_at, Outwards, OpensAt}
 use Rattle.uc_life_laws.specs.Opened.{ObjectsHold}
-use Rattle.uc_life_laws.specs.Knowing.{InMaking, IsOwn, Here, KnowsState, ReadsKnown, IsStill, FindsObject, FindsExpr, Finds, HasObject}
+use Rattle.uc_life_laws.specs.Knowing.{IsOwn, Here, KnowsState, ReadsKnown, IsStill, FindsObject, FindsExpr, Finds, HasObject}
 use Rattle.uc_life_laws.proofs.Reading.{exec_is}
 use Rattle.uc_life_laws.proofs.Steps.{exec_same}
 use Rattle.uc_found_runs.specs.FoundReads.{OwnMarks, IsRightAs, HoldsRight, VariableRight, OpensRightAt, ObjectsRight, IsFound, ReadsFound, ReadsAt, Reads}
@@ -206,7 +206,7 @@ module _ (t : Table) (numbers : Ty → ℕ → Bool) where
   -- so a scope opens where what it is of holds what is known
   module _ (s : State) where
     outwards : (c : CleanUp) (todo : List Todo) (w : Value) (a : Ty) → is_outside s.env.exec w ≡ true → Outwards t few s.env.exec s.run.frame s.run.this s.callers c todo w a
-    outwards c todo w a h = inr (outside_thing s.env.exec s.callers w a h)
+    outwards c todo w a h = inr (inl (outside_thing s.env.exec s.callers w a h))
 
     variable_holds : (c : CleanUp) (todo : List Todo) (k : ℕ) (a : Ty) → VariableRight t few c todo s k a → Holds t few s.env.exec (Outwards t few s.env.exec s.run.frame s.run.this s.callers c todo) (Frame s.env.exec s.run.frame) (frame_at s.run.frame s.env.frames) (Place (Frame s.env.exec s.run.frame) (Slot k ∷ [])) a
     variable_holds c todo k a h = right_holds s.env.exec (Outwards t few s.env.exec s.run.frame s.run.this s.callers c todo) (outwards c todo) (Frame s.env.exec s.run.frame) (frame_at s.run.frame s.env.frames) (Place (Frame s.env.exec s.run.frame) (Slot k ∷ [])) a h

@@ -10,7 +10,7 @@ use Rattle.uc_typing.specs.States.{Is}
 use Rattle.uc_typing.specs.Typing.{Ty, Num, Cell, Obj, Raw, Row, Clu, Pro, Name, Sig, Table, ObjectGives, CleansAt}
 use Rattle.uc_life_laws.specs.Things.{Few, numbered, IsBinding, IsReference, IsResource, IsTracked, IsSited, IsLoosePlace, AtField, InStack, NoBase, Within, Held, IsFew}
 use Rattle.uc_life_laws.specs.LifeStates.{LifeState, Outwards, frame_at}
-use Rattle.uc_life_laws.specs.Knowing.{InMaking, IsOwn, Here, KnowsState}
+use Rattle.uc_life_laws.specs.Knowing.{NotWhole, IsOwn, Here, KnowsState}
 use Rattle.uc_life_laws.specs.Opened.{any}
 
 -- the fields of objects at hand that are to be cleaned up, of these activations of an execution
@@ -63,14 +63,14 @@ module _ (t : Table) (few : Few) (gs : List Sig) (s : State) where
 
   -- of what is read at a place: in a frame of another execution, or of a mutex object; and in a frame of its own, what is being destroyed; a cluster or
   -- a processor at a variable, or at an element of one; what stands in a field that is to be cleaned up, and in an object that an activation of
-  -- this execution is building or destroying
+  -- this execution is building or destroying, or that lies in what one waits for
   pub record ReadsFound (a : Ty) (v : Value) : Type 0 where
     pub foreign : (IsOwn s.env.exec v → ⊥) → IsFound a v
     pub ending : IsOwn s.env.exec v → (IsReference a → ⊥) → (IsResource a → ⊥) → IsFound a v
     pub loose : IsOwn s.env.exec v → IsResource a → IsLoosePlace s.env.exec v → IsFound a v
     pub field : IsOwn s.env.exec v → (w : Value) (b : Ty) → OwnMarks t s.env.exec (s.run ∷ s.callers) w b →
         Within t w b v (Cell a) → IsFound a v
-    pub making : IsOwn s.env.exec v → (w : Value) (c : ℕ) → InMaking gs (s.run ∷ s.callers) w (Raw c) →
+    pub making : IsOwn s.env.exec v → (w : Value) (c : ℕ) → NotWhole t s.env.exec gs (s.run ∷ s.callers) w (Raw c) →
         Within t w (Obj c) v (Cell a) → IsFound a v
 
   -- by what is next to do

@@ -1,7 +1,9 @@
 pub mod UnwindingOutcomes
 pub mod PaceInvariant
+pub mod BareReturns
 pub mod Block
 pub mod Calls
+pub mod CellNumbers
 pub mod Machine
 pub mod Numbered
 pub mod StandsByParts

@@ -5,8 +5,9 @@ ghost use Rattle.uc_machine.specs.Executions.{at_depth, calmed};
 ghost use Rattle.uc_machine.specs.Insides.{counted_no_more};
 ghost use Rattle.uc_frames.specs.declared.cell.Cell.{Cell};
 ghost use Rattle.uc_frames.specs.Block.{completed, all_completed};
+ghost use Rattle.uc_frames.specs.BareReturns.{left_bare};
 ghost use Rattle.uc_frames.specs.Machine.{line_in, line_at};
-ghost use Rattle.uc_frames.specs.Calls.{left, called};
+ghost use Rattle.uc_frames.specs.Calls.{left, called, object_call, plain_call};
 ghost use Rattle.uc_frames.specs.Objects.{arrived_at};
 ghost use Rattle.uc_frames.specs.Unwinding.{IsCaller, unwound_by, cleaning, catching, passed, handled};
 ghost use Rattle.uc_tree.specs.declared.limits.TheConstants.{CALLS};
@@ -18,6 +19,7 @@ use crate::event::{Event, HandlerStart};
 use crate::work::Work;
 use std::alloc::AllocError;
 use uc_code::code::Code;
+use uc_code::rows::RoutineCode;
 use uc_machine::exec::{UnwindReason, Visited};
 
 impl Work {
@@ -64,12 +66,46 @@ impl Work {
     }
 
     /// Makes a call: the newest operands are the routine's parameters.
+    #[inline(never)]
     pub fn enter(&mut self, call: Call) -> Result<(), AllocError>
         requires { call.counts ≡ true → self.old.env.links.calls < CALLS }
         ensures ok { OnOk result (self.new ≡ called call self.old) }
         ensures err { OnErr result (self.new ≡ self.old) }
     {
         self.task.running.enter(call)?;
+        Ok(())
+    }
+
+    /// Makes a call without an object, which counts: the newest operands are the routine's parameters.
+    #[inline(always)]
+    pub fn call(&mut self, routine: RoutineCode) -> Result<(), AllocError>
+        requires { self.old.env.links.calls < CALLS }
+        ensures ok { OnOk result (self.new ≡ called (plain_call routine) self.old) }
+        ensures err { OnErr result (self.new ≡ self.old) }
+    {
+        self.task.running.enter(Call {
+            routine,
+            this: Cell::Nothing,
+            taken: u64::from(routine.params),
+            counts: true,
+        })?;
+        Ok(())
+    }
+
+    /// Makes a call at the object below its arguments, which counts or does not: the newest operands are the routine's parameters.
+    #[inline(always)]
+    pub fn call_on(&mut self, routine: RoutineCode, counts: bool) -> Result<(), AllocError>
+        requires { counts ≡ true → self.old.env.links.calls < CALLS }
+        ensures ok { OnOk result (self.new ≡ called (object_call routine counts self.old) self.old) }
+        ensures err { OnErr result (self.new ≡ self.old) }
+    {
+        let this = self.below(routine.params);
+        self.task.running.enter(Call {
+            routine,
+            this,
+            taken: u64::from(routine.params) + 1,
+            counts,
+        })?;
         Ok(())
     }
 
@@ -82,6 +118,15 @@ impl Work {
     {
         let called = self.task.running.leave(given)?;
         Ok(called)
+    }
+
+    /// The same, where the one that waits is handed nothing.
+    pub fn leave_bare(&mut self) -> bool
+        ensures called { result ≡ nat_lt 0 (length self.old.callers) }
+        ensures after { self.new ≡ left_bare self.old.callers self.old }
+    {
+        let called = self.task.running.leave_bare();
+        called
     }
 
     /// How many activations wait for the running one.

@@ -5,7 +5,7 @@ ghost use Rattle.uc_machine.specs.Executions.{begun};
 ghost use Rattle.uc_frames.specs.Block.{completed, Told};
 ghost use Rattle.uc_frames.specs.Unwinding.{operands_of, handler_of};
 
-use crate::cell::Cell;
+use crate::cell::{Cell, is_nothing};
 use crate::event::HandlerStart;
 use uc_machine::exec::{UnwindReason, Visited};
 
@@ -82,7 +82,9 @@ impl Activation {
         ensures { self.new ≡ other.now }
     {
         self.next = other.next;
-        self.this = other.this;
+        if !(is_nothing(&self.this) && is_nothing(&other.this)) {
+            self.this = other.this;
+        }
         self.frame = other.frame;
         self.counts = other.counts;
         self.elements = other.elements;

@@ -2,12 +2,13 @@
 
 ghost use Rattle.std.specs.Prelude.{◌≡◌, ◌∷◌, ◌++◌, ◌+◌, ◌-◌, ◌≤◌, [], length, drop, replicate, reverse, slice_index_or, slice_set, max, vec_capacity, IfOk, OnOk, OnErr};
 ghost use Rattle.uc_machine.specs.Executions.{at_depth, frame_changed, list_in, values_cleared};
+ghost use Rattle.uc_frames.specs.CellNumbers.{number_within};
 ghost use Rattle.uc_frames.specs.Block.{frame_of, with_call, with_frame, with_return, without_call};
 ghost use Rattle.uc_frames.specs.Calls.{call_frame};
 ghost use Rattle.uc_frames.specs.Machine.{below, cell_written, nought, top};
 ghost use Rattle.uc_frames.specs.Unwinding.{operands_of};
 
-use crate::cell::{Cell, is_writable};
+use crate::cell::{Cell, is_writable, number_in_place};
 use crate::event::Event;
 use crate::frames::{clear, zeros};
 use std::alloc::{AllocError, Global};
@@ -61,13 +62,14 @@ impl Block {
         })
     }
 
-    // One more operand.
+    // One more operand. What makes room stands apart and is handed no cell, so that this is small wherever it is used.
     #[inline(always)]
     pub(crate) fn push(&mut self, cell: Cell) -> Result<(), AllocError>
         ensures ok { OnOk result (self.new ≡ record self.old { operands = cell ∷ self.old.operands }) }
         ensures err { OnErr result (self.new ≡ self.old) }
     {
-        self.cells.push(cell)?;
+        have_room(&mut self.cells)?;
+        self.cells.push_reserved(cell);
         Ok(())
     }
 
@@ -232,6 +234,28 @@ impl Block {
         self.read_at(depth, at)
     }
 
+    // The number in a cell of a frame, if one is there; 0 where there is no cell.
+    #[inline(always)]
+    pub(crate) fn number(&self, depth: u32, at: u64) -> Option<i64>
+        ensures { result ≡ number_within (slice_index_or (list_in (at_depth self.now.frames depth)) at nought) }
+    {
+        if depth as usize == self.older.len() {
+            return number_at(&self.cells, self.newest, at);
+        }
+        self.number_older(depth, at)
+    }
+
+    // The same where the frame is not the newest one.
+    #[inline(never)]
+    pub(crate) fn number_older(&self, depth: u32, at: u64) -> Option<i64>
+        ensures { result ≡ number_within (slice_index_or (list_in (at_depth self.now.frames depth)) at nought) }
+    {
+        match extent_at(self.newest, &self.older, depth) {
+            None => Some(0),
+            Some(extent) => number_at(&self.cells, extent, at),
+        }
+    }
+
     // The same, where the frame is as likely an older one.
     #[inline(always)]
     pub(crate) fn read_at(&self, depth: u32, at: u64) -> Cell
@@ -263,6 +287,7 @@ impl Block {
     }
 
     // A call of a routine that takes so many of the newest operands, its parameters among them.
+    #[inline(always)]
     pub(crate) fn enter(&mut self, routine: RoutineCode, taken: u64) -> Result<(), AllocError>
         ensures ok { OnOk result (self.new ≡ with_call taken (call_frame routine self.old.operands) self.old) }
         ensures err { OnErr result (self.new ≡ self.old) }
@@ -274,15 +299,13 @@ impl Block {
             self.enter_with_copies(routine, taken)?;
             return Ok(());
         }
-        let others = routine.cells.saturating_sub(routine.params) as usize;
-        self.older.reserve(1)?;
-        self.cells.resize(length + others, Cell::Number(0))?;
+        let others = routine.cells.saturating_sub(routine.params);
+        have_room(&mut self.older)?;
+        add_zeros(&mut self.cells, others)?;
         self.older.push_reserved(self.newest);
-        self.newest = Extent {
-            floor: length - taken,
-            base: length - params,
-            start: length + others,
-        };
+        self.newest.floor = length - taken;
+        self.newest.base = length - params;
+        self.newest.start = length + others as usize;
         Ok(())
     }
 
@@ -329,13 +352,24 @@ impl Block {
         ensures ok { OnOk result (self.new ≡ with_return (given ∷ []) self.old.waiting self.old) }
         ensures err { OnErr result (self.new ≡ self.old) }
     {
-        self.cells.reserve(1)?;
+        have_room(&mut self.cells)?;
         if let Some(extent) = self.older.pop() {
             self.cells.truncate(self.newest.floor);
             self.cells.push_reserved(given);
             self.newest = extent;
         }
         Ok(())
+    }
+
+    // The same, where that one is handed nothing.
+    #[inline(always)]
+    pub(crate) fn leave_bare(&mut self)
+        ensures { self.new ≡ with_return [] self.old.waiting self.old }
+    {
+        if let Some(extent) = self.older.pop() {
+            self.cells.truncate(self.newest.floor);
+            self.newest = extent;
+        }
     }
 
     // The newest activation is left, if another waits, whose operands go.
@@ -347,6 +381,52 @@ impl Block {
             self.newest = extent;
         }
     }
+}
+
+// There is room for one more.
+#[inline(always)]
+fn have_room<X>(list: &mut Vec<X>) -> Result<(), AllocError>
+    ensures items { list.new.items ≡ list.old.items }
+    ensures room { OnOk result (length list.new.items + 1 ≤ vec_capacity list.new) }
+{
+    if list.len() < list.capacity() {
+        return Ok(());
+    }
+    make_room(list)?;
+    Ok(())
+}
+
+// Room is made for one more. It stands apart, since it is seldom needed.
+#[cold]
+#[inline(never)]
+fn make_room<X>(list: &mut Vec<X>) -> Result<(), AllocError>
+    ensures items { list.new.items ≡ list.old.items }
+    ensures room { OnOk result (length list.new.items + 1 ≤ vec_capacity list.new) }
+{
+    list.reserve(1)?;
+    Ok(())
+}
+
+// So many cells more that are 0; most calls need none.
+#[inline(always)]
+fn add_zeros(cells: &mut Vec<Cell>, count: u32) -> Result<(), AllocError>
+    ensures ok { OnOk result (cells.new.items ≡ cells.old.items ++ replicate count nought) }
+    ensures err { OnErr result (cells.new.items ≡ cells.old.items) }
+{
+    if count == 0 {
+        return Ok(());
+    }
+    grow(cells, count)?;
+    Ok(())
+}
+
+#[inline(never)]
+fn grow(cells: &mut Vec<Cell>, count: u32) -> Result<(), AllocError>
+    ensures ok { OnOk result (cells.new.items ≡ cells.old.items ++ replicate count nought) }
+    ensures err { OnErr result (cells.new.items ≡ cells.old.items) }
+{
+    cells.resize(cells.len() + count as usize, Cell::Number(0))?;
+    Ok(())
 }
 
 // How many of so many cells are left without so many of those from `start` on.
@@ -384,6 +464,20 @@ fn cell_in(cells: &Vec<Cell>, extent: Extent, at: u64) -> Cell
         cells[extent.base + at]
     } else {
         Cell::Number(0)
+    }
+}
+
+// The number in a cell of the frame of an activation, if one is there; 0 where there is no cell.
+#[inline(always)]
+fn number_at(cells: &Vec<Cell>, extent: Extent, at: u64) -> Option<i64>
+    requires { (extent.base ≤ extent.start) × (extent.start ≤ length cells.now.items) }
+    ensures { result ≡ number_within (slice_index_or (frame_of extent cells.now.items) at nought) }
+{
+    let at = at as usize;
+    if at < extent.start - extent.base {
+        number_in_place(&cells[extent.base + at])
+    } else {
+        Some(0)
     }
 }
 

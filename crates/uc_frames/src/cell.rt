@@ -1,6 +1,7 @@
 // What a cell holds.
 
-ghost use Rattle.std.specs.Prelude.{◌≡◌, if◌then◌else◌};
+ghost use Rattle.std.specs.Prelude.{◌≡◌, if◌then◌else◌, true};
+ghost use Rattle.uc_frames.specs.CellNumbers.{number_within};
 ghost use Rattle.uc_frames.specs.declared.cell.Cell.{Cell};
 ghost use Rattle.uc_frames.specs.Machine.{cell_number, exec_in as exec_named, shifted, stored};
 
@@ -52,6 +53,28 @@ pub fn further_on(by: u64, cell: Cell) -> Cell
         Cell::Running(_) => Cell::Nothing,
         Cell::Object(object) => Cell::Place(Owner::Fields(object), by),
         Cell::Nothing => Cell::Nothing,
+    }
+}
+
+// The number that a cell holds, if it holds one.
+#[inline(always)]
+pub(crate) fn number_in_place(cell: &Cell) -> Option<i64>
+    ensures { result ≡ number_within cell.now }
+{
+    match cell {
+        Cell::Number(n) => Some(*n),
+        _ => None,
+    }
+}
+
+// Whether a cell holds nothing.
+#[inline(always)]
+pub(crate) fn is_nothing(cell: &Cell) -> bool
+    ensures { result ≡ true → cell.now ≡ Cell.Nothing }
+{
+    match cell {
+        Cell::Nothing => true,
+        _ => false,
     }
 }
 

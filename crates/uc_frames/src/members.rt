@@ -154,6 +154,7 @@ impl House {
     }
 
     // That execution is left here as this, or runs where it is nothing. What was left of it is handed over.
+    #[inline(always)]
     pub(crate) fn exchange(&mut self, serial: u64, slot: Option<ParkedStack>) -> Option<ParkedStack>
         ensures value { result ≡ joined (find serial self.old.parked) }
         ensures after { self.new ≡ slot_set serial slot self.old }

@@ -1,8 +1,9 @@
 // Items that are printed at once.
 
-ghost use Rattle.std.specs.Prelude.{◌≡◌, ◌≤◌, [], length, OnOk, OnErr};
+ghost use Rattle.std.specs.Prelude.{◌≡◌, ◌≤◌, ◌++◌, [], drop, length, replicate, OnOk, OnErr, true, false};
+ghost use Rattle.uc_entry.specs.declared.request.Request.TheVariants as ask;
 ghost use Rattle.uc_entry.specs.declared.request.TheConstants.{PRINT_ITEMS};
-ghost use Rattle.uc_machine.specs.Quiet.{with_piece, print_of};
+ghost use Rattle.uc_machine.specs.Quiet.{blank, with_piece, print_of};
 ghost use Rattle.uc_frames.specs.Machine.{request_of};
 
 use std::alloc::{AllocError, Global};
@@ -48,26 +49,47 @@ impl Pieces {
         Ok(())
     }
 
-    /// The request to print these items, if there are any.
-    pub fn request(&self) -> Option<Request>
-        ensures { result ≡ request_of self.now }
+    /// Writes the request to print these items where one is lent, if there are any. The answer is whether there are.
+    pub fn put_request(&self, request: &mut Request) -> bool
+        ensures some { result ≡ true → request_of self.now ≡ Some request.new }
+        ensures none { result ≡ false → request_of self.now ≡ None }
     {
         if self.items.is_empty() {
-            return None;
+            return false;
         }
-        Some(print_request(self.items.as_slice()))
+        put_print(request, self.items.as_slice());
+        true
     }
 }
 
-/// The request to print these items.
-pub fn print_request(pieces: &[Piece]) -> Request
+/// Writes the request to print these items where one is lent, so that its room is not copied.
+#[inline(always)]
+pub fn put_print(request: &mut Request, pieces: &[Piece])
     requires { length pieces.now ≤ PRINT_ITEMS }
-    ensures { result ≡ print_of pieces.now }
+    ensures { request.new ≡ print_of pieces.now }
 {
-    let mut items = [Piece { form: 0, value: 0 }; 32];
-    items[..pieces.len()].copy_from_slice(pieces);
-    Request::Print {
-        n: pieces.len() as u8,
-        items,
+    put_blanks(request, pieces.len() as u8);
+    if let Request::Print { items, .. } = request {
+        put_items(items, pieces);
     }
+}
+
+// So many items are printed, all blank.
+#[inline(always)]
+fn put_blanks(request: &mut Request, count: u8)
+    ensures { request.new ≡ ask.Print count (replicate PRINT_ITEMS blank) }
+{
+    *request = Request::Print {
+        n: count,
+        items: [Piece { form: 0, value: 0 }; 32],
+    };
+}
+
+// These are the first items.
+#[inline(always)]
+fn put_items(items: &mut [Piece; 32], pieces: &[Piece])
+    requires { length pieces.now ≤ PRINT_ITEMS }
+    ensures { items.new ≡ pieces.now ++ drop (length pieces.now) items.old }
+{
+    items[..pieces.len()].copy_from_slice(pieces);
 }

@@ -5,6 +5,7 @@ ghost use Rattle.uc_machine.specs.Executions.{at_depth};
 ghost use Rattle.uc_machine.specs.Switches.{unwound_there};
 ghost use Rattle.uc_frames.specs.declared.cell.Cell.{Cell};
 ghost use Rattle.uc_frames.specs.Block.{completed, Told, call_made, call_left, handler_made, unwound_back};
+ghost use Rattle.uc_frames.specs.BareReturns.{call_over};
 ghost use Rattle.uc_frames.specs.Machine.{first_execution};
 ghost use Rattle.uc_frames.specs.Unwinding.{IsCaller};
 ghost use Rattle.uc_tree.specs.declared.limits.TheConstants.{CALLS};
@@ -99,7 +100,8 @@ impl Stack {
         self.waiting as u32
     }
 
-    // Makes a call. Executions of `u32::MAX` frames, or activations that wait, make no more.
+    // Makes a call. A part of who calls, so that what is known of the call there is not asked here. Executions of `u32::MAX` frames, or activations that wait, make no more.
+    #[inline(always)]
     pub(crate) fn enter(&mut self, call: Call) -> Result<(), AllocError>
         requires { call.counts ≡ true → self.old.links.calls < CALLS }
         ensures ok { OnOk result (self.new ≡ call_made call self.old) }
@@ -159,6 +161,23 @@ impl Stack {
         Ok(true)
     }
 
+    // The same, where that one is handed nothing.
+    #[inline(always)]
+    pub(crate) fn leave_bare(&mut self) -> bool
+        ensures called { result ≡ nat_lt 0 (length self.old.callers) }
+        ensures after { self.new ≡ call_over self.old.callers self.old }
+    {
+        let waiting = self.waiting;
+        if waiting == 0 {
+            return false;
+        }
+        self.block.leave_bare();
+        self.links.leave(self.run.counts);
+        self.run.copy_from(&self.callers[waiting - 1]);
+        self.waiting = waiting - 1;
+        true
+    }
+
     // The newest activation is left with its frame, and the one that waits for it is unwound in its turn, for this reason and with
     // what a return that arrives hands over. The answer is whether one waits.
     pub(crate) fn leave_unwinding(&mut self, why: UnwindReason, given: Cell) -> bool
@@ -203,7 +222,18 @@ fn put_at(callers: &mut Vec<Activation>, at: usize, waiting: &Activation) -> Res
     if at < callers.len() {
         callers[at].copy_from(waiting);
     } else {
-        callers.push(*waiting)?;
+        add(callers, waiting)?;
     }
+    Ok(())
+}
+
+// One more place for activations that wait, where this one does.
+#[cold]
+#[inline(never)]
+fn add(callers: &mut Vec<Activation>, waiting: &Activation) -> Result<(), AllocError>
+    ensures ok { OnOk result (callers.new.items ≡ callers.old.items ++ waiting.now ∷ []) }
+    ensures err { OnErr result (callers.new.items ≡ callers.old.items) }
+{
+    callers.push(*waiting)?;
     Ok(())
 }

@@ -111,6 +111,7 @@ impl Work {
     }
 
     // The running execution stops, and this one, which was taken out, goes on.
+    #[inline(never)]
     fn run(&mut self, exec: Exec, stack: ParkedStack)
         ensures { self.new ≡ spread exec stack (set_slot self.old.env.exec (Some (stopped self.old)) self.old.env) }
     {
@@ -122,6 +123,7 @@ impl Work {
     }
 
     // An execution in hand is left as this, or runs where it is nothing; what was left of it is handed over.
+    #[inline(always)]
     fn exchange(&mut self, exec: Exec, slot: Option<ParkedStack>) -> Option<ParkedStack>
         ensures value { result ≡ parked_at exec self.old.env }
         ensures after { self.new ≡ record self.old { env = set_slot exec slot self.old.env } }

@@ -4,9 +4,11 @@ ghost use Rattle.std.specs.Prelude.{◌≡◌, [], None, Some, IfOk, OnOk, OnErr
 ghost use Rattle.std.specs.Option.{is_some, option_map};
 ghost use Rattle.uc_machine.specs.Executions.{frame_changed, frames_changed, members_at, parked_at, change, value_at, with_owned};
 ghost use Rattle.uc_machine.specs.Quiet.{with_piece};
+ghost use Rattle.uc_frames.specs.CellNumbers.{number_within};
+ghost use Rattle.uc_frames.specs.Calls.{this_place};
 ghost use Rattle.uc_frames.specs.Machine.{nought, cell_written, shifted, loaded, written, this_frame, cleared, with_hand, first_machine};
 
-use crate::cell::Cell;
+use crate::cell::{Cell, further_on, number_in_place};
 use crate::members::{House, Members};
 use crate::numbered::position;
 use crate::parked::ParkedStack;
@@ -82,6 +84,43 @@ impl Work {
     {
         let running = &*self.task.running;
         running.block.read(running.run.frame, u64::from(cell))
+    }
+
+    /// The number in a cell of the frame of the running activation, if it holds one.
+    #[inline(always)]
+    pub fn number(&self, cell: u32) -> Option<i64>
+        ensures { result ≡ number_within (loaded (shifted cell (Cell.Place (this_frame self.now) 0)) self.now.env) }
+    {
+        let running = &*self.task.running;
+        running.block.number(running.run.frame, u64::from(cell))
+    }
+
+    /// The number in the cell so many behind the place of the object at hand, if it holds one.
+    #[inline(always)]
+    pub fn own_number(&self, cell: u32) -> Option<i64>
+        ensures { result ≡ number_within (loaded (this_place cell self.now) self.now.env) }
+    {
+        let running = &*self.task.running;
+        match &running.run.this {
+            Cell::Place(Owner::Frame { exec, depth }, at) => {
+                if self.runs(*exec) {
+                    running
+                        .block
+                        .number_older(*depth, at.saturating_add(u64::from(cell)))
+                } else {
+                    self.own_number_apart(cell)
+                }
+            }
+            _ => self.own_number_apart(cell),
+        }
+    }
+
+    // The same, wherever the object stands.
+    #[inline(never)]
+    fn own_number_apart(&self, cell: u32) -> Option<i64>
+        ensures { result ≡ number_within (loaded (this_place cell self.now) self.now.env) }
+    {
+        number_in_place(&self.read(further_on(u64::from(cell), self.this())))
     }
 
     /// A cell of the frame of the running activation is written; a binding stays.

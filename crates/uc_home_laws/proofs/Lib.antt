@@ -1,4 +1,6 @@
 pub mod NextNumbers
+pub mod MadeSteps
+pub mod MadeWalk
 pub mod Homes
 pub mod HomedCells
 pub mod HomedKeeping

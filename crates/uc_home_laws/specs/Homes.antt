@@ -17,6 +17,7 @@ use Rattle.uc_machine.specs.Answering.{answered}
 use Rattle.uc_meaning.specs.Runs.{World, May, Runs, gives, no_room, acts, begun, more, drawn}
 use Rattle.uc_event_laws.specs.Counted.{params}
 use Rattle.uc_program_laws.specs.Fitting.{RunFits}
+use Rattle.uc_home_laws.specs.MadeObjects.{RestsBy}
 
 -- where an object that is asked for is to be bound: at the place below the arguments of the constructor that comes next
 abbrev pub made_at : Source → List Todo → List Value → Value
@@ -43,7 +44,8 @@ home_of source input opts _ _ begun o = Nothing
 home_of source input opts _ _ (more {j} {w} {a} {w' = x} r on m) o =
     home_by source opts input j w a x m (λ i. home_of source input opts j w r i) o
 
--- a task at rest has asked something, and where that is an object and it is told its number, this was made, and its home is where it is to be bound
+-- a task at rest has asked something, and where that is an object and it is told its number, this was made, and its home is where it is to be bound;
+-- that is what it does next, and nothing else that is to do binds a made object
 pub record HomedRest (source : Source) (homes : ℕ → Value) (j : Journal) (t : ℕ) (s : State) : Type 0 where
   pub request : Request
   pub asks_for : form_of_request request ≡ asked_form t j
@@ -52,6 +54,7 @@ pub record HomedRest (source : Source) (homes : ℕ → Value) (j : Journal) (t 
   pub homed : (m : ℕ) → request ≡ ask.Make m → (o : ℕ) →
       answer_to source.sites t j ≡ Some (answer.Object o) →
       homes o ≡ made_at source s.run.control s.run.operands
+  pub binds : RestsBy source homes (object_count j) request s
 
 -- as it goes on, its newest operand is that object, and behind it and the arguments stands its home
 pub record AllHomed (source : Source) (homes : ℕ → Value) (j : Journal) (w : World) : Type 0 where

@@ -3,6 +3,7 @@
 ghost use Rattle.uc_home_laws.specs.HomedRuns.{LawRuns, LawSteps};
 ghost use Rattle.uc_home_laws.specs.HomedReading.{LawReading};
 ghost use Rattle.uc_home_laws.specs.Homes.{LawHomes, LawOnce};
+ghost use Rattle.uc_home_laws.specs.BoundRuns.{LawBinds};
 
 /// In each run in which all that was asked so far fits, of whatever source, who is told the number of an object
 /// that it has asked for has the home of that object below the arguments of its constructor.
@@ -13,6 +14,11 @@ pub fn law_homes()
 /// No act changes the home of an object that was made before it.
 pub fn law_once()
     ensures { LawOnce }
+{}
+
+/// So who binds a made object has just been told it, and binds it where it is at home.
+pub fn law_binds()
+    ensures { LawBinds }
 {}
 
 /// Mutex objects that are at home in what is in scope stay there, whatever a step does, where scopes open so.

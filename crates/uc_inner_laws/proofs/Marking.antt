@@ -9,7 +9,7 @@ use Rattle.uc_machine.specs.Pieces as piece
 use Rattle.uc_machine.specs.Pieces.{Value, Todo, Sort, Active, top, below, object_in}
 use Rattle.uc_depth_laws.specs.Entering.{lets_go}
 use Rattle.uc_depth_laws.specs.Owing.{marks, more, owes}
-use Rattle.uc_inner_laws.specs.Inner.{Part, Plain, Helper, Maker, Uncalled, Ground, ground_of, under}
+use Rattle.uc_inner_laws.specs.Inner.{Part, Plain, Helper, Maker, Uncalled, Begun, Ground, ground_of, under}
 use Rattle.uc_inner_laws.specs.Standing.{Mark, Any, Own, Thing, IsNew, Holds, rest, rests, anys, bound, IsThere, IsOwn, IsObject, Known, within_sort, ground, Base, calm, Ready, after, Ok, Left, Backs, IsOlder, Stands, Waits}
 
 -- operands
@@ -92,12 +92,14 @@ ready_inside at g Plain this ms vs k h i = absurd (cc)
 ready_inside at g Helper this ms vs k h i = (k.0, own_top at this ms vs k.1 h)
 ready_inside at g Maker this ms vs k h i = absurd (cc)
 ready_inside at g Uncalled this ms vs k h i = absurd k
+ready_inside at g Begun this ms vs k h i = absurd k
 
 pub ready_thing : (at : Home) (g : Ground) (p : Part) (this : Value) (ms : List Mark) (vs : List Value) → Ready g p ms → Holds at this ms vs → (ground_of p).made ≡ true → IsNew at (top vs)
 ready_thing at g Plain this ms vs k h i = absurd (cc)
 ready_thing at g Helper this ms vs k h i = absurd (cc)
 ready_thing at g Maker this ms vs k h i = object_top at this ms vs k h
 ready_thing at g Uncalled this ms vs k h i = absurd k
+ready_thing at g Begun this ms vs k h i = absurd k
 
 -- places
 

@@ -27,7 +27,7 @@ use Rattle.uc_machine.specs.Quiet as quiet
 use Rattle.uc_machine.specs.Pieces as piece
 use Rattle.uc_machine.specs.Pieces.{Value, Number, Object, Nothing, Todo, Sort, Active, State, Env, Members, Step, Asks, Outcome, Gives, Faults, at, in_env, fault, top, below, number, written, object_in}
 use Rattle.uc_depth_laws.proofs.Kept.{either}
-use Rattle.uc_inner_laws.specs.Inner.{Part, Plain, Helper, Maker, Uncalled, Ground, ground_of, count, params_at, params, Exists, IsPlain, CalledOn, SetsUp, InnerExpr, InnerObject, InnerClean, InnerStmts, InnerStmt, InnerEvent, InnerTask, InnerHandlers, InnerRoutine}
+use Rattle.uc_inner_laws.specs.Inner.{Part, Plain, Helper, Maker, Uncalled, Begun, Ground, ground_of, count, params_at, params, Exists, IsPlain, CalledOn, SetsUp, InnerExpr, InnerObject, InnerClean, InnerStmts, InnerStmt, InnerEvent, InnerTask, InnerHandlers, InnerRoutine}
 use Rattle.uc_inner_laws.specs.Standing.{Mark, Any, Own, IsThing, IsNew, GivesUp, Holds, rest, rests, anys, bound, IsThere, IsObject, Known, ground, Base, calm, over, Ready, Ok, Left, LeftAt, IsHome, Backs, IsOlder, IsHere, Stands, Waits, StandsEnv, StandsWith, StandsState, brings, StandsAsk, StandsIn, StandsStep}
 use Rattle.uc_inner_laws.proofs.Keeping as kept
 use Rattle.uc_inner_laws.proofs.Keeping.{Kept}
@@ -445,6 +445,7 @@ module _ (part : ℕ → Part) (source : Source) (mine : ℕ) where
           on Helper e k = (n.1.0, inr (own a k.1 (n.1.1, (tt, called_on (count args) r Own todo n.0.1 n.0.2 (subst (λ q. Ready (ground base.ground todo) q (Own ∷ ms)) (sym e) (k.0, tt)) h))))
           on Maker e k = absurd k
           on Uncalled e k = absurd k
+          on Begun e k = absurd k
       object (src.CallLive r a args) todo n h = go ms _ _ holds (n.1.0, inl (n.1.1, (tt, (n.0.2, called_plain (count args) r todo n.0 h))))
       object (src.CallUnwritten r a) todo n h = go ms _ _ holds (n.1, inl (called_plain 0 r todo n.0 h))
       object (src.EnterOn m r a args) todo n h = go ms _ _ holds (n.1.0, inl (n.1.1, (tt, (n.0.2, called_plain (count args) r todo n.0 h))))
@@ -561,6 +562,7 @@ module _ (part : ℕ → Part) (source : Source) (mine : ℕ) where
           at_home Plain k i = absurd (cc)
           at_home Helper k i = absurd k
           at_home Maker k i = absurd k
+          at_home Begun k i = absurd (cc)
           at_home Uncalled k i =
               let t : IsThing s.run.this = (x.thing (sym (ground_made base.ground todo) ∙ k)).0 in
               subst (λ v. IsHome (quiet.home_at v s.env) (object_in s.run.this)) (sym t) refl
@@ -570,6 +572,7 @@ module _ (part : ℕ → Part) (source : Source) (mine : ℕ) where
           no_maker Helper k i = absurd k
           no_maker Maker k i = absurd k
           no_maker Uncalled k i = absurd (cc)
+          no_maker Begun k i = absurd (cc)
 
       -- mutex objects
 

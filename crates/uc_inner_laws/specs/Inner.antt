@@ -6,12 +6,14 @@ use Rattle.uc_depth_laws.specs.Entering.{lets_go, IsMain}
 use Rattle.uc_inner_laws.specs.Walks as walk
 
 -- what a routine is for its callers: any one; a helper of an object, which waits, signals or accepts without holding its object; one that
--- builds a mutex object; or the main of a task or of a cormonitor, which does what a helper does, and which nobody calls
+-- builds a mutex object; the main of a task or of a cormonitor, which does what a helper does, and which nobody calls; or another main, which nobody
+-- calls either
 pub data Part : Type 0 where
   Plain : Part
   Helper : Part
   Maker : Part
   Uncalled : Part
+  Begun : Part
 
 -- what is known of a place: whether the task is inside the object of the activation, and whether that is a mutex object that it builds
 pub record Ground : Type 0 where
@@ -24,6 +26,7 @@ ground_of Plain = record { inside = false; made = false }
 ground_of Helper = record { inside = true; made = false }
 ground_of Maker = record { inside = false; made = true }
 ground_of Uncalled = record { inside = true; made = false }
+ground_of Begun = record { inside = false; made = false }
 
 -- in a scope that lets go of the object of the activation, the task is inside that
 abbrev pub under : CleanUp → Ground → Ground
@@ -56,6 +59,7 @@ module _ (part : ℕ → Part) (source : Source) where
   CalledOn g Helper e = (g.inside ≡ true) × (e ≡ OfObject This)
   CalledOn g Maker e = ⊥
   CalledOn g Uncalled e = ⊥
+  CalledOn g Begun e = ⊥
 
   abbrev pub AtCall : ℕ → Exprs → Type 0
   AtCall r args = IsPlain r (count args)
@@ -80,6 +84,7 @@ module _ (part : ℕ → Part) (source : Source) where
   SetsUp g Helper = ⊥
   SetsUp g Maker = ⊥
   SetsUp g Uncalled = g.made ≡ true
+  SetsUp g Begun = Unit {0}
 
   abbrev pub AtTask : Ground → TaskStmt → Type 0
   AtTask g (Accept line site cs) = g.inside ≡ true

@@ -14,7 +14,7 @@ use Rattle.uc_machine.specs.Insides.{is_held_up}
 use Rattle.uc_machine.specs.Pieces as piece
 use Rattle.uc_machine.specs.Pieces.{Value, Object, Todo, Sort, sort, Active, State, Env, Members, Step, Goes, Ticks, Asks, object_in}
 use Rattle.uc_depth_laws.specs.Owing.{Ex, marks}
-use Rattle.uc_inner_laws.specs.Inner.{Part, Plain, Helper, Maker, Uncalled, Ground, under, count, params, Exists, SetsUp, InnerExpr, InnerExprs, InnerMaybe, InnerItems, InnerTargets, InnerDeclared, InnerClean, InnerStmt, InnerStmts, InnerHandlers, InnerClauses}
+use Rattle.uc_inner_laws.specs.Inner.{Part, Plain, Helper, Maker, Uncalled, Begun, Ground, under, count, params, Exists, SetsUp, InnerExpr, InnerExprs, InnerMaybe, InnerItems, InnerTargets, InnerDeclared, InnerClean, InnerStmt, InnerStmts, InnerHandlers, InnerClauses}
 use Rattle.uc_depth_laws.specs.Entering.{IsMain}
 
 -- operands
@@ -131,6 +131,7 @@ Ready g Plain ms = Unit {0}
 Ready g Helper ms = (g.inside ≡ true) × IsOwn ms
 Ready g Maker ms = IsObject ms
 Ready g Uncalled ms = ⊥
+Ready g Begun ms = ⊥
 
 module _ (part : ℕ → Part) (source : Source) where
   -- the marks behind a piece; behind one of statements nothing is known

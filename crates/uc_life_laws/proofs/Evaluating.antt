@@ -66,7 +66,7 @@ module _ (t : Table) (few : Few) (source : Source) (sound : Sound t source) (s :
       where
         by : (b : Bool) → g.whole ≡ b → Known t few s.env.exec (AtHand t few s.env.exec (others sigs) s.callers) (object_ty b c) s.run.this → Known t few s.env.exec (With t few s sigs todo) (Obj c) s.run.this
         by true w h =
-            let lies : LiesIn t few s.env.exec (With t few s sigs todo) (Obj c) s.run.this = made_itself (With t few s sigs todo) c s.run.this (inr (inl (g, frame, (w, (c, e, refl, refl))))) in
+            let lies : LiesIn t few s.env.exec (With t few s sigs todo) (Obj c) s.run.this = made_itself (With t few s sigs todo) c s.run.this (inr (inl (inl (g, frame, (w, (c, e, refl, refl)))))) in
             record { is = h.is; passes = still h.passes; rooted = λ i. lies; held = λ m. lies; seated = λ i. absurd i }
         by false w h =
             known_more t few s.env.exec (AtHand t few s.env.exec (others sigs) s.callers) (With t few s sigs todo) (older_hand t few s.env.exec sigs (record s.run { control = todo }) s.callers) (Obj c) s.run.this h
@@ -76,7 +76,7 @@ module _ (t : Table) (few : Few) (source : Source) (sound : Sound t source) (s :
       where
         by : (b : Bool) → g.whole ≡ b → Known t few s.env.exec (AtHand t few s.env.exec (others sigs) s.callers) (object_ty b c) s.run.this → Known t few s.env.exec (With t few s sigs todo) (t.fields c i) (further (FieldAt k i) s.run.this)
         by true m h =
-            known.further_placed t few s.env.exec (With t few s sigs todo) c i k s.run.this e w (known.told_declared t sound.leads c i) h.is (λ r. made_itself (With t few s sigs todo) c s.run.this (inr (inl (g, frame, (m, (c, n, refl, refl))))))
+            known.further_placed t few s.env.exec (With t few s sigs todo) c i k s.run.this e w (known.told_declared t sound.leads c i) h.is (λ r. made_itself (With t few s sigs todo) c s.run.this (inr (inl (inl (g, frame, (m, (c, n, refl, refl)))))))
         by false m h =
             known.further_field t few s.env.exec (With t few s sigs todo) c i k s.run.this e w (known.told_declared t sound.leads c i) (known_more t few s.env.exec (AtHand t few s.env.exec (others sigs) s.callers) (With t few s sigs todo) (older_hand t few s.env.exec sigs (record s.run { control = todo }) s.callers) (Obj c) s.run.this h)
 

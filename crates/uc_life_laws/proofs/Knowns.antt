@@ -1,18 +1,19 @@
 -- What is known stays so, to whoever knows more; and what is known of places further on.
 use Rattle.std.proofs.Common.{◌≡◌, ℕ, zero, suc, ◌<◌, ◌≤◌, ◌⊎◌, inl, inr, ⊎_elim, List, [], ◌∷◌, ◌++◌, length, take, drop, Option, Some, None, Bool, true, false, refl, sym, ap, ◌∙◌, subst, arith}
 use Rattle.std.specs.Prelude.{nat_eq, if◌then◌else◌, slice_index_or, slice_set}
-use Rattle.uc_tree.specs.Source.{Shape, Integer, Character, Truth, Binding, Last, Field, Array}
+use Rattle.uc_tree.specs.Source.{Shape, Integer, Character, Truth, Binding, Last, Field, Array, CleanUp, Scoped}
 use Rattle.uc_machine.specs.declared.exec.Exec.{Exec}
 use Rattle.uc_machine.specs.declared.exec.Owner.TheVariants.{Frame, Fields}
 use Rattle.uc_machine.specs.Executions.{at_depth, first_or, others, take_operands, list_in, set_depth, frame_changed, value_changed, values_cleared}
-use Rattle.uc_machine.specs.Pieces.{Link, FieldAt, At, Value, Number, Place, Running, Object, Nothing, Active, further, nought, stored, top, below}
+use Rattle.uc_machine.specs.Pieces as piece
+use Rattle.uc_machine.specs.Pieces.{Link, FieldAt, At, Value, Number, Place, Running, Object, Nothing, Todo, Active, further, nought, stored, top, below}
 use Rattle.uc_typing.specs.Typing.{Ty, Num, Cell, Obj, Raw, Row, Clu, Pro, Sig, Table, IsPlaced, IsScalarPlace, IsBare, IsKept, IsParam, raw, element_shape, object_ty}
 use Rattle.uc_typing.specs.Pieces.{onto}
 use Rattle.uc_typing.specs.States.{Is}
 use Rattle.uc_typing.proofs.Operands as operands
 use Rattle.uc_typing.proofs.Frames.{drop_onto}
 use Rattle.uc_life_laws.proofs.Cells.{known_stored}
-use Rattle.uc_life_laws.specs.Things.{Few, IsField, IsScalar, IsBinding, IsReference, IsUnbound, IsTracked, IsResource, IsSited, IsLoosePlace, IsSeated, Within, itself, field, element, IsFew, LiesIn, IsKnown, Known, Held, lies, inside, Stands}
+use Rattle.uc_life_laws.specs.Things.{Few, IsField, IsScalar, IsBinding, IsReference, IsUnbound, IsTracked, IsResource, IsSited, IsLoosePlace, IsSeated, Within, itself, field, element, Things, AwaitsScope, Unmade, UnmadeBehind, Outer, Around, IsFew, LiesIn, IsKnown, Known, Held, lies, inside, Stands}
 use Rattle.uc_life_laws.specs.Knowing.{AtHand, KnownAll, KnownParams, KnownFrames, KnownThis}
 
 -- lists, as uc_typing has them
@@ -181,6 +182,12 @@ stray_element t n m a s j (Running x) i f = absurd i
 stray_element t n m a s j (Object o) i f = absurd i
 stray_element t n m a s j Nothing i f = absurd i
 
+-- the scope that opens next
+pub awaits_some : (P : CleanUp → Type 0) (todo : List Todo) → AwaitsScope P todo → (c : CleanUp) × P c
+awaits_some P (piece.DropNow ∷ (piece.Within line ∷ (piece.Rest (Scoped c ss) ∷ todo))) h = (c, h)
+awaits_some P (piece.DropNow ∷ (piece.MoreNow ∷ (piece.FillNow n b d ∷ (piece.Within line ∷ (piece.Rest (Scoped c ss) ∷ todo))))) h = (c, h)
+awaits_some P todo h = absurd h
+
 module _ (t : Table) (few : Few) (n : Exec) where
   -- what one knows, one who knows more does
   abbrev pub Less : (Value → Ty → Type 0) → (Value → Ty → Type 0) → Type 0
@@ -229,10 +236,39 @@ module _ (t : Table) (few : Few) (n : Exec) where
     this_more g None v h = tt
     this_more g (Some c) v h = known_more (object_ty g.whole c) v h
 
+  -- what those wait for that are not the newest, they all do
+  pub behind_unmade : (cs : List Active) → Less (UnmadeBehind t n cs) (Unmade t n cs)
+  behind_unmade [] w a h = absurd h
+  behind_unmade (c ∷ older) w a h = inr h
+
+  pub around_outer : (cs : List Active) → Less (Around t few n cs) (Outer t few n cs)
+  around_outer [] w a h = inl h
+  around_outer (c ∷ older) w a (inl h) = inl (inl h)
+  around_outer (c ∷ older) w a (inr (inl h)) = inl (inr h)
+  around_outer (c ∷ older) w a (inr (inr h)) = inr (inr h)
+
+  -- it is at hand
+  pub around_hand : (gs : List Sig) (cs : List Active) → Less (Around t few n cs) (AtHand t few n gs cs)
+  around_hand gs [] w a h = inl h
+  around_hand gs (c ∷ older) w a (inl h) = inl (inl h)
+  around_hand gs (c ∷ older) w a (inr (inl h)) = inl (inr h)
+  around_hand gs (c ∷ older) w a (inr (inr h)) = inr (inr h)
+
+  pub behind_around : (cs : List Active) → Less (UnmadeBehind t n cs) (Around t few n cs)
+  behind_around [] w a h = absurd h
+  behind_around (c ∷ older) w a h = inr (inr h)
+
+  -- so are all things
+  pub things_around : (cs : List Active) → Less (Things t few n cs) (Around t few n cs)
+  things_around [] w a h = h
+  things_around (c ∷ older) w a (inl h) = inl h
+  things_around (c ∷ older) w a (inr h) = inr (inl h)
+
   -- those of older activations are at hand
   pub older_hand : (gs : List Sig) (c : Active) (cs : List Active) → Less (AtHand t few n (others gs) cs) (AtHand t few n gs (c ∷ cs))
   older_hand gs c cs w a (inl h) = inl (inr h)
-  older_hand gs c cs w a (inr h) = inr (inr h)
+  older_hand gs c cs w a (inr (inl h)) = inr (inl (inr h))
+  older_hand gs c cs w a (inr (inr h)) = inr (inr (behind_unmade cs w a h))
 
   module _ (K : Value → Ty → Type 0) where
     pub known_is : (a : Ty) (v : Value) → Known t few n K a v → Is t a v

@@ -85,7 +85,7 @@ module _ (t : Table) (s : State) (g : Sig) (sc : List Name) (c : CleanUp) (todo 
   K w a = Outwards t any s.env.exec s.run.frame s.run.this s.callers c todo w a
 
   objects : (i o : ℕ) → K (Object o) (Obj i)
-  objects i o = inr (outside t any s.env.exec s.callers (Object o) (Obj i) refl)
+  objects i o = inr (inl (outside t any s.env.exec s.callers (Object o) (Obj i) refl))
 
   abbrev vs : List Value
   vs = frame_at s.run.frame s.env.frames

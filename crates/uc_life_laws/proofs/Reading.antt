@@ -18,11 +18,11 @@ use Rattle.uc_typing.specs.Typing.{Ty, Num, Cell, Obj, Raw, Row, Clu, Pro, Name,
 use Rattle.uc_typing.specs.Pieces.{Ok, Left, Met}
 use Rattle.uc_typing.specs.States.{Either, IsBase}
 use Rattle.uc_typing.proofs.Control as control
-use Rattle.uc_life_laws.specs.Things.{Few, IsBinding, IsReference, IsResource, Within, itself, field, element, AtVariable, AtField, IsFor, Nowhere, Marks, InTodo, Things, Variables, OwnFields, LiesIn, Known, Holds, Held, lies, inside}
+use Rattle.uc_life_laws.specs.Things.{Few, IsBinding, IsReference, IsResource, Within, itself, field, element, AtVariable, AtField, IsFor, Nowhere, Marks, InTodo, Things, Variables, UnmadeBehind, Unmade, Outer, Around, OwnFields, LiesIn, Known, Holds, Held, lies, inside}
 use Rattle.uc_life_laws.specs.LifeStates.{frame_at, Outwards, MarkHolds, AllHold, LifeStack, LifeState}
-use Rattle.uc_life_laws.specs.Knowing.{Here, ReadsKnown, InMaking}
+use Rattle.uc_life_laws.specs.Knowing.{Here, ReadsKnown, InMaking, NotWhole}
 use Rattle.uc_life_laws.proofs.Steps.{exec_same}
-use Rattle.uc_life_laws.proofs.Knowns.{Less, known_more}
+use Rattle.uc_life_laws.proofs.Knowns.{Less, known_more, awaits_some, around_outer, around_hand}
 
 -- executions by their names
 
@@ -77,12 +77,12 @@ module _ (t : Table) (n : Exec) where
   -- in a to-do list: what is known behind a mark is known before the list
   module _ (few : Few) (fs : List (List Value)) (f : ℕ) (this : Value) (older : List Active) (w : Value) (a : Ty) (d : ℕ) (p : List Link) (b : Ty) (i : IsBinding b) (L : Value → Ty → Type 0) where
     abbrev Before : List Todo → Value → Ty → Type 0
-    Before todo v c = InTodo (IsFor t (Frame n f) this) (AtField t (Frame n f) this) todo v c ⊎ Things t few n older v c
+    Before todo v c = InTodo (IsFor t (Frame n f) this) (AtField t (Frame n f) this) todo v c ⊎ Outer t few n older v c
 
     abbrev Reads : Type 0
     Reads = Known t few n L b (slice_index_or (frame_at d fs) (address p) nought)
 
-    from_mark : (s : Sort) (todo : List Todo) → MarkHolds t few n (frame_at f fs) f this older s todo (AllHold t few n (frame_at f fs) f this older todo) → ((v : Value) (e : Ty) → (Marks (IsFor t (Frame n f) this) (AtField t (Frame n f) this) s v e (InTodo (IsFor t (Frame n f) this) (AtField t (Frame n f) this) todo v e) ⊎ Things t few n older v e) → L v e) → Marks (AtVariable t (Frame n f) this) (Nowhere (Frame n f) this) s w a (InTodo (AtVariable t (Frame n f) this) (Nowhere (Frame n f) this) todo w a) → (AllHold t few n (frame_at f fs) f this older todo → Less t few n (Before todo) L → InTodo (AtVariable t (Frame n f) this) (Nowhere (Frame n f) this) todo w a → Reads) → Within t w a (Place (Frame n d) p) (Cell b) → Reads
+    from_mark : (s : Sort) (todo : List Todo) → MarkHolds t few n (frame_at f fs) f this older s todo (AllHold t few n (frame_at f fs) f this older todo) → ((v : Value) (e : Ty) → (Marks (IsFor t (Frame n f) this) (AtField t (Frame n f) this) s v e (InTodo (IsFor t (Frame n f) this) (AtField t (Frame n f) this) todo v e) ⊎ Outer t few n older v e) → L v e) → Marks (AtVariable t (Frame n f) this) (Nowhere (Frame n f) this) s w a (InTodo (AtVariable t (Frame n f) this) (Nowhere (Frame n f) this) todo w a) → (AllHold t few n (frame_at f fs) f this older todo → Less t few n (Before todo) L → InTodo (AtVariable t (Frame n f) this) (Nowhere (Frame n f) this) todo w a → Reads) → Within t w a (Place (Frame n d) p) (Cell b) → Reads
     from_mark (piece.IsClean c) todo h more (inl m) next y =
         known_more t few n (Outwards t few n f this older c todo) L (λ v e x. more v e x) b _ (at_thing few (Outwards t few n f this older c todo) fs f m.0 a d p b (h.0 m.0 a m.1) (subst (λ w. Within t w a (Place (Frame n d) p) (Cell b)) m.2 y) i)
     from_mark (piece.IsClean c) todo h more (inr m) next y = next h.1 (λ v e x. ⊎_elim (λ x. more v e (inl (inr x))) (λ x. more v e (inr x)) x) m
@@ -102,10 +102,10 @@ module _ (t : Table) (n : Exec) where
     from_todo (x ∷ todo) h more m y = from_mark (piece.sort x) todo h more m (λ h more m. from_todo todo h more m y) y
 
   -- what a binding within a variable holds is known
-  pub from_variables : (few : Few) (fs : List (List Value)) (w : Value) (a : Ty) (d : ℕ) (p : List Link) (b : Ty) (i : IsBinding b) (L : Value → Ty → Type 0) (cs : List Active) → LifeStack t few n fs cs → Less t few n (Things t few n cs) L → Variables t n cs w a → Within t w a (Place (Frame n d) p) (Cell b) → Known t few n L b (slice_index_or (frame_at d fs) (address p) nought)
+  pub from_variables : (few : Few) (fs : List (List Value)) (w : Value) (a : Ty) (d : ℕ) (p : List Link) (b : Ty) (i : IsBinding b) (L : Value → Ty → Type 0) (cs : List Active) → LifeStack t few n fs cs → Less t few n (Around t few n cs) L → Variables t n cs w a → Within t w a (Place (Frame n d) p) (Cell b) → Known t few n L b (slice_index_or (frame_at d fs) (address p) nought)
   from_variables few fs w a d p b i L [] h more m y = absurd m
   from_variables few fs w a d p b i L (c ∷ older) h more (inl m) y = from_todo few fs c.frame c.this older w a d p b i L c.control h.1 more m y
-  from_variables few fs w a d p b i L (c ∷ older) h more (inr m) y = from_variables few fs w a d p b i L older h.2 (λ v e x. more v e (inr x)) m y
+  from_variables few fs w a d p b i L (c ∷ older) h more (inr m) y = from_variables few fs w a d p b i L older h.2 (λ v e x. more v e (inr (around_outer t few n older v e x))) m y
 
   -- a thing is a field of an object at hand, or a variable
 
@@ -189,6 +189,55 @@ pub in_raw : (gs : List Sig) (cs : List Active) (w : Value) (a : Ty) → InMakin
 in_raw gs [] w a m = absurd m
 in_raw gs (c ∷ older) w a (inl m) = let h = m.2.1 in (h.0, h.3)
 in_raw gs (c ∷ older) w a (inr m) = in_raw (others gs) older w a m
+
+pub unmade_raw : (t : Table) (n : Exec) (cs : List Active) (w : Value) (a : Ty) → Unmade t n cs w a → (c : ℕ) × (a ≡ Raw c)
+unmade_raw t n [] w a m = absurd m
+unmade_raw t n (c ∷ older) w a (inl m) = (m.0, m.1)
+unmade_raw t n (c ∷ older) w a (inr m) = unmade_raw t n older w a m
+
+pub behind_raw : (t : Table) (n : Exec) (cs : List Active) (w : Value) (a : Ty) → UnmadeBehind t n cs w a → (c : ℕ) × (a ≡ Raw c)
+behind_raw t n [] w a m = absurd m
+behind_raw t n (c ∷ older) w a m = unmade_raw t n older w a m
+
+pub not_whole : (t : Table) (n : Exec) (gs : List Sig) (cs : List Active) (w : Value) (a : Ty) → NotWhole t n gs cs w a → (c : ℕ) × (a ≡ Raw c)
+not_whole t n gs cs w a (inl m) = in_raw gs cs w a m
+not_whole t n gs cs w a (inr m) = behind_raw t n cs w a m
+
+-- what others wait for is known by no number
+abbrev pub NoNumber : Value → Type 0
+NoNumber (Number z) = Unit {0}
+NoNumber (Place o p) = Unit {0}
+NoNumber (Running x) = Unit {0}
+NoNumber (Object o) = ⊥
+NoNumber Nothing = Unit {0}
+
+further_number : (l : Link) (v : Value) → NoNumber (piece.further l v)
+further_number l (Number z) = tt
+further_number l (Place o p) = tt
+further_number l (Running x) = tt
+further_number l (Object o) = tt
+further_number l Nothing = tt
+
+within_number : (t : Table) (w : Value) (a : Ty) (v : Value) (b : Ty) → NoNumber w → Within t w a v b → NoNumber v
+within_number t w a v b h itself = h
+within_number t w a v b h (field {v = u} {c} k i f) = further_number _ u
+within_number t w a v b h (element {v = u} {m} {b = d} k j l) = further_number _ u
+
+for_number : (t : Table) (o : Owner) (this : Value) (c : CleanUp) (w : Value) (a : Ty) → IsFor t o this c w a → NoNumber w
+for_number t o this c w a (inl h) = subst NoNumber (sym h.2) tt
+for_number t o this c w a (inr h) = subst NoNumber (sym h.3) (further_number _ this)
+
+pub unmade_number : (t : Table) (n : Exec) (cs : List Active) (w : Value) (a : Ty) → Unmade t n cs w a → NoNumber w
+unmade_number t n [] w a m = absurd m
+unmade_number t n (c ∷ older) w a (inl m) =
+    let x = awaits_some _ c.control m.2 in
+    let y = x.1 in
+    within_number t y.0 y.1 w (Obj m.0) (for_number t (Frame n c.frame) c.this x.0 y.0 y.1 y.2) y.3
+unmade_number t n (c ∷ older) w a (inr m) = unmade_number t n older w a m
+
+pub behind_number : (t : Table) (n : Exec) (cs : List Active) (w : Value) (a : Ty) → UnmadeBehind t n cs w a → NoNumber w
+behind_number t n [] w a m = absurd m
+behind_number t n (c ∷ older) w a m = unmade_number t n older w a m
 
 -- a variable with one cell is bound to an object, a cluster or a processor
 module _ (t : Table) (n : Exec) (w : Value) where
@@ -360,7 +409,7 @@ module _ (t : Table) (few : Few) (s : State) (st : LifeState t few s) (gs : List
   -- at a part of a variable that is to be cleaned up
   pub variable_read : (w : Value) (a : Ty) (d : ℕ) (p : List Link) (b : Ty) → IsBinding b → Variables t s.env.exec (s.run ∷ s.callers) w a → Within t w a (Place (Frame s.env.exec d) p) (Cell b) → Known t few s.env.exec (Here t few gs s) b (loaded (Place (Frame s.env.exec d) p) s.env)
   variable_read w a d p b i m y =
-      own (Known t few s.env.exec (Here t few gs s) b) d p (from_variables t s.env.exec few s.env.frames w a d p b i (Here t few gs s) (s.run ∷ s.callers) st.stack (λ v e x. inl x) m y)
+      own (Known t few s.env.exec (Here t few gs s) b) d p (from_variables t s.env.exec few s.env.frames w a d p b i (Here t few gs s) (s.run ∷ s.callers) st.stack (around_hand t few s.env.exec gs (s.run ∷ s.callers)) m y)
 
   in_own : (a : Ty) (x : Exec) (d : ℕ) (p : List Link) → IsBinding a → Held t few (Here t few gs s) (Cell a) (Place (Frame x d) p) → ReadsKnown t few gs s a (Place (Frame x d) p) → x ≡ s.env.exec → Known t few s.env.exec (Here t few gs s) a (loaded (Place (Frame x d) p) s.env)
   in_own a x d p i (inl (lies {w = w} {a = b} k y)) r e =
@@ -369,7 +418,7 @@ module _ (t : Table) (few : Few) (s : State) (st : LifeState t few s) (gs : List
       (λ f. r.field w b f y)
       (λ v. subst (λ (n : Exec). Known t few s.env.exec (Here t few gs s) a (loaded (Place (Frame n d) p) s.env)) (sym e) (variable_read w b d p a i v (subst (λ (n : Exec). Within t w b (Place (Frame n d) p) (Cell a)) e y)))
       (split t s.env.exec few (s.run ∷ s.callers) w b m))
-      (λ m. let y2 = in_raw gs (s.run ∷ s.callers) w b m in let e2 : Cell a ≡ Raw y2.0 = within_raw t w y2.0 (Place (Frame x d) p) (Cell a) (subst (λ b. Within t w b (Place (Frame x d) p) (Cell a)) y2.1 y) in absurd (cc))
+      (λ m. let y2 = not_whole t s.env.exec gs (s.run ∷ s.callers) w b m in let e2 : Cell a ≡ Raw y2.0 = within_raw t w y2.0 (Place (Frame x d) p) (Cell a) (subst (λ b. Within t w b (Place (Frame x d) p) (Cell a)) y2.1 y) in absurd (cc))
       k
   in_own a x d p i (inl (inside {o = o} {c} m k y)) r e = absurd (in_no_frame t (Object o) (Obj c) (Place (Frame x d) p) (Cell a) tt y)
   in_own a x d p i (inr h) r e = r.making h.0 h.1 h.2 h.3

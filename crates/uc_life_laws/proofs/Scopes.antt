@@ -12,7 +12,7 @@ use Rattle.uc_machine.specs.Pieces.{Link, Slot, Value, Place, Todo, Sort, Active
 use Rattle.uc_typing.specs.Typing.{Ty, Cell, Obj, Clu, Pro, Table, InScope, DestroysAt, CleansAt}
 use Rattle.uc_typing.specs.Pieces.{onto}
 use Rattle.uc_typing.specs.States.{Is, Typed, ReadsVariable}
-use Rattle.uc_life_laws.specs.Things.{Few, IsBinding, Within, itself, AtVariable, Nowhere, Marks, InTodo, Things, Variables, Known}
+use Rattle.uc_life_laws.specs.Things.{Few, IsBinding, Within, itself, AtVariable, Nowhere, Marks, InTodo, Around, Variables, Known}
 use Rattle.uc_life_laws.specs.LifeStates.{frame_at, LifeState}
 use Rattle.uc_life_laws.specs.LifeReading.{LawReading}
 use Rattle.uc_life_laws.proofs.Steps.{exec_same}
@@ -26,7 +26,7 @@ own_frame P s d p h =
 
 module _ (t : Table) (few : Few) (s : State) (st : LifeState t few s) where
   abbrev K : Value → Ty → Type 0
-  K w a = Things t few s.env.exec (s.run ∷ s.callers) w a
+  K w a = Around t few s.env.exec (s.run ∷ s.callers) w a
 
   places : (w : Value) (a : Ty) → Variables t s.env.exec (s.run ∷ s.callers) w a → (d : ℕ) (p : List Link) (b : Ty) → Within t w a (Place (Frame s.env.exec d) p) (Cell b) → IsBinding b → Known t few s.env.exec K b (loaded (Place (Frame s.env.exec d) p) s.env)
   places w a x d p b i binds =

@@ -16,7 +16,7 @@ use Rattle.uc_machine.specs.Answering.{child_main}
 use Rattle.uc_typing.specs.Typing.{Ty, Num, Cell, Obj, Raw, Clu, Pro, Name, Sig, Table, IsTarget, object_ty, Yields}
 use Rattle.uc_typing.specs.Pieces.{Ok, onto}
 use Rattle.uc_typing.specs.States.{IsBase, IsTask}
-use Rattle.uc_life_laws.specs.Things.{Few, IsReference, IsResource, IsLoosePlace, Within, OwnFields, Base, Things, LiesIn, Known, Held, IsFew}
+use Rattle.uc_life_laws.specs.Things.{Few, IsReference, IsResource, IsLoosePlace, Within, OwnFields, Base, Things, UnmadeBehind, LiesIn, Known, Held, IsFew}
 use Rattle.uc_life_laws.specs.LifeStates.{EnvBy}
 
 -- the object at hand, in a constructor or a destructor: it is there, but not whole
@@ -29,9 +29,13 @@ InMaking gs [] w a = ⊥
 InMaking gs (c ∷ older) w a = ((g : Sig) × (at_depth gs c.frame ≡ Some g) × Making g c.this w a) ⊎
     InMaking (others gs) older w a
 
--- what an execution has at hand: all its things, and what it is building and destroying
+-- what is not whole: what is being built and destroyed, and what lies in what older activations wait for
+abbrev pub NotWhole : Table → Exec → List Sig → List Active → Value → Ty → Type 0
+NotWhole t n gs cs w a = InMaking gs cs w a ⊎ UnmadeBehind t n cs w a
+
+-- what an execution has at hand: all its things, and what is not whole
 abbrev pub AtHand : Table → Few → Exec → List Sig → List Active → Value → Ty → Type 0
-AtHand t few n gs cs w a = Things t few n cs w a ⊎ InMaking gs cs w a
+AtHand t few n gs cs w a = Things t few n cs w a ⊎ NotWhole t n gs cs w a
 
 module _ (t : Table) (few : Few) (n : Exec) where
   -- operands

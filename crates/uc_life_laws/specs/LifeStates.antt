@@ -8,7 +8,7 @@ use Rattle.uc_machine.specs.declared.exec.Owner.TheVariants.{Frame}
 use Rattle.uc_machine.specs.Executions.{Execution, at_depth, list_in}
 use Rattle.uc_machine.specs.Pieces.{Slot, Value, Place, Todo, Rest, ClearNow, Sort, sort, IsClean, Active, State, Env, Members, Step, Goes, Ticks, Asks}
 use Rattle.uc_typing.specs.Typing.{Ty, Table, CleansAt}
-use Rattle.uc_life_laws.specs.Things.{Few, AtField, IsFor, InTodo, Things, Holds, LiesBefore}
+use Rattle.uc_life_laws.specs.Things.{Few, AtField, IsFor, InTodo, Outer, Holds, LiesBefore}
 
 -- the values of the frame of a depth
 abbrev pub frame_at : ℕ → List (List Value) → List Value
@@ -38,10 +38,10 @@ module _ (P : Exec → Execution (List Todo) Value → Type 0) where
     pub hand : HandBy e.hand
 
 module _ (t : Table) (few : Few) (n : Exec) where
-  -- what is known behind a mark, in an activation before older ones: what the mark is for, and what lies outwards of it
+  -- what is known behind a mark, in an activation before older ones: what the mark is for, and what lies outwards of it, with what those wait for
   abbrev pub Outwards : ℕ → Value → List Active → CleanUp → List Todo → Value → Ty → Type 0
   Outwards f this older c todo w a = (IsFor t (Frame n f) this c w a ⊎ InTodo (IsFor t (Frame n f) this) (AtField t (Frame n f) this) todo w a) ⊎
-      Things t few n older w a
+      Outer t few n older w a
 
   -- in a frame with these values, what a clean-up is for, at a variable, holds what is known so
   abbrev pub CleanHolds : List Value → ℕ → Value → List Active → CleanUp → List Todo → Type 0

@@ -1,10 +1,11 @@
 -- What an execution knows: the things that are still to be cleaned up, each by its place and its type, and all that lies within them.
 use Rattle.std.specs.Prelude.{◌≡◌, ℕ, ◌≤◌, ◌<◌, ◌⊎◌, Bool, true, List, [], ◌∷◌, slice_index_or, false, if◌then◌else◌}
-use Rattle.uc_tree.specs.Source.{Shape, Binding, Variable, OfObject, OwnField, CleanUp}
+use Rattle.uc_tree.specs.Source.{Shape, Binding, Variable, OfObject, OwnField, CleanUp, Scoped}
 use Rattle.uc_machine.specs.declared.exec.Exec.{Exec}
 use Rattle.uc_machine.specs.declared.exec.Owner.{Owner}
 use Rattle.uc_machine.specs.declared.exec.Owner.TheVariants.{Frame, Fields}
 use Rattle.uc_machine.specs.Executions.{exec_eq}
+use Rattle.uc_machine.specs.Pieces as piece
 use Rattle.uc_machine.specs.Pieces.{Link, Slot, FieldAt, At, Value, Number, Place, Running, Object, Nothing, further, nought, address, Todo, Sort, sort, IsClean, IsPart, Active}
 use Rattle.uc_typing.specs.Typing.{Ty, Num, Cell, Obj, Raw, Row, Clu, Pro, Table, element_shape, CleansAt}
 use Rattle.uc_typing.specs.States.{Is}
@@ -114,6 +115,37 @@ Variables t n cs w a = InStack (AtVariable t) Nowhere NoBase n cs w a
 
 abbrev pub OwnFields : Table → Few → Exec → List Active → Value → Ty → Type 0
 OwnFields t few n cs w a = InStack (AtField t) (AtField t) (Base few n) n cs w a
+
+-- what is being built
+
+-- the scope that opens next behind a call: that of a variable, or of an array that is being filled
+abbrev pub AwaitsScope : (CleanUp → Type 0) → List Todo → Type 0
+AwaitsScope P (piece.DropNow ∷ (piece.Within line ∷ (piece.Rest (Scoped c ss) ∷ todo))) = P c
+AwaitsScope P (piece.DropNow ∷ (piece.MoreNow ∷ (piece.FillNow n b d ∷ (piece.Within line ∷ (piece.Rest (Scoped c ss) ∷ todo))))) = P c
+AwaitsScope P todo = ⊥
+
+-- an object that lies in what that scope is of, as one that is not whole
+abbrev pub IsAwaited : Table → Owner → Value → List Todo → Value → Ty → Type 0
+IsAwaited t o this todo w a = (c : ℕ) × (a ≡ Raw c) ×
+    AwaitsScope (λ x. (v : Value) × (b : Ty) × IsFor t o this x v b × Within t v b w (Obj c)) todo
+
+-- those of activations that wait; of an execution, whose newest activation runs, those that the others wait for
+abbrev pub Unmade : Table → Exec → List Active → Value → Ty → Type 0
+Unmade t n [] w a = ⊥
+Unmade t n (c ∷ older) w a = IsAwaited t (Frame n c.frame) c.this c.control w a ⊎ Unmade t n older w a
+
+abbrev pub UnmadeBehind : Table → Exec → List Active → Value → Ty → Type 0
+UnmadeBehind t n [] w a = ⊥
+UnmadeBehind t n (c ∷ older) w a = Unmade t n older w a
+
+-- what activations that wait have, with what they wait for; so what an execution has whose newest activation runs
+abbrev pub Outer : Table → Few → Exec → List Active → Value → Ty → Type 0
+Outer t few n cs w a = Things t few n cs w a ⊎ Unmade t n cs w a
+
+abbrev pub Around : Table → Few → Exec → List Active → Value → Ty → Type 0
+Around t few n [] w a = Base few n w a
+Around t few n (c ∷ older) w a = InTodo (IsFor t (Frame n c.frame) c.this) (AtField t (Frame n c.frame) c.this) c.control w a ⊎
+    Outer t few n older w a
 
 -- a binding to a place or to an object
 abbrev pub IsReference : Ty → Type 0

@@ -1,5 +1,5 @@
 -- Nothing else is owed to what nobody else has at hand.
-use Rattle.std.proofs.Common.{◌≡◌, ℕ, ◌+◌, ◌⊎◌, inl, inr, Bool, true, false, List, [], ◌∷◌, Option, Some, None, refl, sym, subst, arith}
+use Rattle.std.proofs.Common.{◌≡◌, ℕ, ◌+◌, ◌⊎◌, inl, inr, Bool, true, false, List, [], ◌∷◌, Option, Some, None, refl, sym, ap, ◌∙◌, subst, arith}
 use Rattle.std.specs.Prelude.{nat_eq, if◌then◌else◌}
 use Rattle.std.proofs.lemmas.Bool.{eqb-true}
 use Rattle.uc_tree.specs.Source.{Source}
@@ -16,9 +16,11 @@ use Rattle.uc_typing.specs.Typing.{Table}
 use Rattle.uc_life_laws.specs.Things.{Few}
 use Rattle.uc_life_laws.specs.LifeStates.{SlotBy, ParkedBy, HandBy, EnvBy}
 use Rattle.uc_life_laws.specs.Knowing.{KnowsBy, KnowsSlot, KnowsState}
-use Rattle.uc_depth_laws.specs.Owing.{Tests, First, Any, Done, Skipped, CallOf, Bound, is_told, Entered, entering, Ex, owed_by, owed_waiting, owed_all, owed_at, owed_slot, owed_parked, owed_hand, owed_own, owed_resting, owed_elsewhere, EngagedBy, EngagedSlot, EngagedParked, EngagedHand, Deep, AloneAt}
+use Rattle.uc_depth_laws.specs.Owing.{Tests, First, Any, Done, Skipped, CallOf, Bound, counted, is_told, Entered, entering, Ex, owed_by, owed_waiting, owed_all, owed_at, owed_slot, owed_parked, owed_hand, owed_own, owed_resting, owed_elsewhere, EngagedBy, EngagedSlot, EngagedParked, EngagedHand, Deep, AloneAt}
+use Rattle.uc_depth_laws.proofs.Depths.{counted_none}
 use Rattle.uc_depth_laws.proofs.Kept.{either}
 use Rattle.uc_owing_laws.specs.AtHand.{IsAtHand, FarBy, IsFar, elsewhere, IsApartAt, LawApart}
+use Rattle.uc_owing_laws.proofs.Marked.{none_marked}
 use Rattle.uc_owing_laws.proofs.Owes.{rests_owe, run_owes}
 
 none_of : {A B : Type 0} → A ⊎ B → (B → ⊥) → A
@@ -29,7 +31,10 @@ module _ (t : Table) (few : Few) (source : Source) (news : Tests) (o : ℕ) wher
   -- executions that do not have it at hand owe it nothing
 
   stage_owes : (g : Stage) (n : Exec) (x : Ex) → KnowsBy t few n g x → EngagedBy source (news n.home) g x → FarBy t few o g n x → owed_at g (owed_all o x) ≡ 0
-  stage_owes Fresh n x k e f = none_of (rests_owe t few n source (news n.home) x k e o) (f k)
+  stage_owes Fresh n x k e f =
+      let a = ap (counted o x.run.this) (none_marked source (is_told (news n.home) x.run.this x.callers) Any tt x.run.control e.run f.1) ∙ counted_none o x.run.this in
+      let b : owed_waiting o x.callers ≡ 0 = ap (owed_waiting o) f.0 in
+      omega (arith, a, b)
   stage_owes Started n x k e f = none_of (rests_owe t few n source (news n.home) x k e o) (f k)
   stage_owes Ended n x k e f = refl
 

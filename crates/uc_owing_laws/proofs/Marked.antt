@@ -10,6 +10,7 @@ use Rattle.uc_typing.proofs.Control.{left}
 use Rattle.uc_depth_laws.specs.Entering.{Aspect, lets_go}
 use Rattle.uc_depth_laws.specs.Owing.{First, Any, Done, Skipped, CallOf, Bound, next, owes, more, marks, Allowed, Entered}
 use Rattle.uc_depth_laws.proofs.Depths.{holds_none}
+use Rattle.uc_owing_laws.specs.AtHand.{NoScopes}
 
 -- a list that is not done next
 
@@ -65,6 +66,22 @@ module _ (source : Source) (told : Aspect → Bool) where
   scope_of Skipped p b h e = skipped p h e
   scope_of (CallOf r) p b h e = called r p h e
   scope_of Bound p b h e = bound p h e
+
+  -- where no scope is open, nothing is owed
+  pub none_marked : (f : First) → IsBehind f → (todo : List Todo) → Entered source told f todo → NoScopes todo → marks todo ≡ 0
+  none_marked f b [] h n = refl
+  none_marked f b (p ∷ todo) h n = by (owes p) refl (λ k. none_marked (next p) (next_behind p) todo h.1 k)
+    where
+      rest : (q : Todo) → NoScopes (q ∷ todo) → NoScopes todo
+      rest (piece.Clean c) k = absurd k
+      rest q k = k
+
+      unscoped : (c : CleanUp) → p ≡ piece.Clean c → ⊥
+      unscoped c e = subst (λ q. NoScopes (q ∷ todo)) e n
+
+      by : (c : Bool) → owes p ≡ c → (NoScopes todo → marks todo ≡ 0) → more c (marks todo) ≡ 0
+      by true e ih = let x = scope_of f p b h.0 e in absurd (unscoped x.clean x.is)
+      by false e ih = ih (rest p n)
 
   module _ (t : Table) (g : Sig) (base : List Name) where
     -- what stands behind a piece

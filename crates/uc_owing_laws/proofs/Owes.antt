@@ -51,7 +51,7 @@ module _ (t : Table) (few : Few) (n : Exec) where
       at l true f =
           let m = ok_mutex source told t k.sig k.base first behind k.scope a.control (onto given k.own) k.ok e l in
           let known : Known t few n (AtHand t few n (others gs) older) (object_ty k.sig.whole m.0) a.this = subst (λ i. KnownThis t few n (AtHand t few n (others gs) older) k.sig i a.this) m.1 k.this in
-          let held = this_held gs a older k.sig m.0 m.2 k.sig.whole refl m.1 (λ y b p. inr (inl (k.sig, k.frame, p))) known in
+          let held = this_held gs a older k.sig m.0 m.2 k.sig.whole refl m.1 (λ y b p. inr (inl (inl (k.sig, k.frame, p)))) known in
           inr (m.0, m.2, subst (λ q. Held t few (AtHand t few n gs (a ∷ older)) (Obj m.0) (Object q)) (eqb-true (object_in a.this) o f) held)
 
       by : (d : ℕ) → marks a.control ≡ d → (owed_by o a ≡ 0) ⊎ IsAtHand t few n gs (a ∷ older) o

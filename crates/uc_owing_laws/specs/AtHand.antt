@@ -4,10 +4,10 @@ use Rattle.uc_tree.specs.Source.{Source}
 use Rattle.uc_machine.specs.declared.exec.Exec.{Exec}
 use Rattle.uc_machine.specs.declared.exec.Home.TheVariants as home
 use Rattle.uc_machine.specs.declared.exec.Stage.{Stage}
-use Rattle.uc_machine.specs.declared.exec.Stage.TheVariants.{Ended}
+use Rattle.uc_machine.specs.declared.exec.Stage.TheVariants.{Fresh, Ended}
 use Rattle.uc_machine.specs.Switches.{without}
 use Rattle.uc_machine.specs.Monitors.{this_object}
-use Rattle.uc_machine.specs.Pieces.{Object, Todo, EnterNow, MadeNow, SpawnNow, GoneNow, GiveUpNow, Active, State, Env}
+use Rattle.uc_machine.specs.Pieces.{Object, Todo, Clean, EnterNow, MadeNow, SpawnNow, GoneNow, GiveUpNow, Active, State, Env}
 use Rattle.uc_typing.specs.Typing.{Obj, Sig, Table}
 use Rattle.uc_life_laws.specs.Things.{Few, Held}
 use Rattle.uc_life_laws.specs.LifeStates.{EnvBy}
@@ -29,9 +29,20 @@ pub record LawOwes : Type 0 where
       (cs : List Active) → KnowsWaits t few n gs cs → AllEntered source tells cs → (o : ℕ) →
       (owed_waiting o cs ≡ 0) ⊎ IsAtHand t few n gs cs o
 
+-- no scope is open
+abbrev pub NoScopes : List Todo → Type 0
+NoScopes [] = Unit {0}
+NoScopes (Clean c ∷ todo) = ⊥
+NoScopes (p ∷ todo) = NoScopes todo
+
+-- an execution has nothing to clean up, as one that has not begun
+abbrev pub IsUnopened : Ex → Type 0
+IsUnopened x = (x.callers ≡ []) × NoScopes x.run.control
+
 module _ (t : Table) (few : Few) (o : ℕ) where
-  -- an execution that does not run, and may go on, does not have the object at hand
+  -- an execution that does not run, and may go on, does not have the object at hand; one that has not begun has nothing to clean up
   abbrev pub FarBy : Stage → Exec → Ex → Type 0
+  FarBy Fresh n x = IsUnopened x
   FarBy Ended n x = Unit {0}
   FarBy g n x = (k : KnowsEx t few n x) → IsAtHand t few n k.sigs (x.run ∷ x.callers) o → ⊥
 

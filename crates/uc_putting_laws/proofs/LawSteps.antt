@@ -18,6 +18,6 @@ code g known calling n = code_by g (g.special n) (slice_get g.source.routines n)
 pub law_steps : LawSteps
 law_steps = record {
   begins = λ g known calling r o e. first_put g (code g known calling) r o e;
-  steps = λ p g known calling s h st lone fair. walk p g (code g known calling) s h st lone fair;
+  steps = λ p g known calling laid s h st fair. walk p g laid (code g known calling) s h st fair;
   told = λ g form given s k f c e. answered_put g form given s k f c e;
 }

@@ -1,6 +1,11 @@
+pub mod ObjectsWithin
+pub mod Fields
+pub mod CleanedSpots
 pub mod Marks
+pub mod OwnMarks
+pub mod VariableMarks
+pub mod PuttingTodos
 pub mod Steps
-pub mod Arrays
 pub mod Lone
 pub mod Walk
 pub mod LawSteps
@@ -11,4 +16,4 @@ pub mod Statements
 pub mod Routines
 pub mod Worlds
 pub mod PuttingRuns
-pub mod Fields
+pub mod OwnPlaces

@@ -1,181 +1,267 @@
--- Where nothing stands around what is built and destroyed at a spot: a variable whose scope is left, or opens behind the call of its constructor; and
--- a field around whose place nothing outwards stands.
-use Rattle.std.proofs.Common.{◌≡◌, ℕ, Bool, true, false, inl, inr, List, [], ◌∷◌, ◌⊎◌, refl, sym, subst}
-use Rattle.uc_tree.specs.Programs.{Program}
+-- Where nothing stands around what is built and destroyed at a spot: a variable whose scope is left, or opens behind what builds that; and a field of
+-- a higher number than those that are cleaned up outwards of it.
+use Rattle.std.proofs.Common.{◌≡◌, ℕ, ◌+◌, ◌≤◌, ◌<◌, ◌⊎◌, inl, inr, Bool, true, false, List, [], ◌∷◌, Some, refl, sym, ap, ◌∙◌, subst, arith}
 use Rattle.uc_tree.specs.Source as src
-use Rattle.uc_tree.specs.Source.{Shape, Expr, CleanUp, Stmts}
-use Rattle.uc_machine.specs.declared.exec.Owner.TheVariants.{Frame}
+use Rattle.uc_tree.specs.Source.{Expr, CleanUp, Stmt, Stmts, EventStmt, Raised}
+use Rattle.uc_machine.specs.declared.exec.Owner.TheVariants.{Frame, Fields}
 use Rattle.uc_machine.specs.Pieces as piece
-use Rattle.uc_machine.specs.Pieces.{Value, Todo, State, further}
-use Rattle.uc_typing.specs.Typing.{Table, Cell, Obj, Row}
-use Rattle.uc_scope_laws.specs.Layout.{Sized}
-use Rattle.uc_scope_laws.specs.RoomStacks.{StackState}
-use Rattle.uc_life_laws.specs.Things.{Few, AtField, itself, element, Stands}
-use Rattle.uc_unmarked_laws.specs.Belonging.{Belongs}
-use Rattle.uc_unmarked_laws.specs.Marks.{Outward, Sole, AllLone, LoneState}
-use Rattle.uc_unmarked_laws.specs.Ending.{Spot, OfVariable, OfField, ends_at, leaving, calling}
-use Rattle.uc_unmarked_laws.proofs.Ending.{law_left}
-use Rattle.uc_unmarked_laws.proofs.Own.{further_own}
-use Rattle.uc_putting_laws.specs.Calling.{Site, One, Each, each_at, EndsWhole, CleansBy, AnySite, IsField, PartBy}
-use Rattle.uc_putting_laws.specs.Putting.{Setting, Around, Mark, OpensRest, OneNext, LoneAt, CodeStmts, CodeOpening, CodeScope, CodePart, Ok}
-use Rattle.uc_putting_laws.specs.PuttingLaws.{SolePart}
-use Rattle.uc_putting_laws.proofs.Steps.{here, LoneFor}
-use Rattle.uc_putting_laws.proofs.Arrays.{elements_lone, left_before, filled_before}
+use Rattle.uc_machine.specs.Pieces.{Slot, FieldAt, Value, Object, Todo, Active, State, further}
+use Rattle.uc_typing.specs.Typing.{Ty, Cell, Obj}
+use Rattle.uc_scope_laws.specs.Rooms.{Room, LiesAt, LiesIn, Destroyed, Lies, OwnAt, OwnIn, OwnPart, RaisedIn}
+use Rattle.uc_scope_laws.specs.RoomStacks as stacks
+use Rattle.uc_scope_laws.specs.RoomStacks.{SomeTo, StackState}
+use Rattle.uc_scope_laws.proofs.Stacks.{stacked_by, stack_before}
+use Rattle.uc_life_laws.specs.Things.{Within, Stands, lies, inside, Variables}
+use Rattle.uc_life_laws.specs.LifeRuns.{IsLaidOut}
+use Rattle.uc_unmarked_laws.specs.Marks.{Marked, Outward}
+use Rattle.uc_aside_laws.specs.OlderResting.{AllWait, NamedEnv}
+use Rattle.uc_unmarked_laws.specs.Ending.{Spot, OfVariable, OfField, leaving}
+use Rattle.uc_putting_laws.specs.CleanedSpots.{Site, site_spot, IsAtVariable, place_spot, spot_in, spot_of, IsSpotOf, OpensFor, Reach, apart, IsOf, IsIn, AllBelow, IsOutermost, AscendsBy, Ascends}
+use Rattle.uc_putting_laws.specs.ObjectsAtHand as hand
+use Rattle.uc_putting_laws.specs.ObjectsAtHand.{OwnedBy, same_place, further_on, there, at_home, variable, OwnMarked, IsSeated}
+use Rattle.uc_putting_laws.specs.Calling.{CleansBy, RaisesBy, CallingEvent}
+use Rattle.uc_putting_laws.specs.Putting.{Setting, Mark, spot_at, LoneAt, CodeStmt, CodeRest, CodeScope, CodePart, Ok, Left, Runs, Waits}
+use Rattle.uc_putting_laws.proofs.CleanedSpots.{some_one, spot_named, below_more, all_others}
+use Rattle.uc_putting_laws.proofs.ObjectsWithin.{owner_one, owned_under, one_object, no_frame, within_under, below_own, under_below, not_below}
+use Rattle.uc_putting_laws.proofs.Fields.{field_lone}
+use Rattle.uc_putting_laws.proofs.VariableMarks.{no_variable}
+use Rattle.uc_putting_laws.proofs.OwnMarks.{parts, fields_in}
+use Rattle.uc_putting_laws.proofs.Marks as marks
+use Rattle.uc_putting_laws.proofs.PuttingTodos.{LoneFor, Lones, BuildsAt}
+use Rattle.uc_putting_laws.proofs.Steps as steps
+use Rattle.uc_putting_laws.proofs.Steps.{here}
 
--- what is at home at a field around which nothing outwards stands
-module _ (t : Table) (few : Few) (A : Around) (h : Shape) (i r : ℕ) (written : Bool) (whole : EndsWhole t r) (own : Belongs few A.exec A.this) where
-  abbrev spot : Value
-  spot = further (piece.FieldAt h i) A.this
+-- rooms of clean-ups
 
-  it : AtField t (Frame A.exec A.frame) A.this (ends_at (OfField h i) r written) spot (Cell (Obj whole.class))
-  it = (h, i, (refl, whole.this, whole.whole), refl)
+no_field : false ≡ true → ⊥
+no_field e = cc
 
-  pub field_lone : (todo : List Todo) → Sole t few A.exec A.frame A.this A.older (ends_at (OfField h i) r written) todo → LoneAt t few A todo (One (OfField h i))
-  field_lone todo sole o e = (
-    subst (Belongs few A.exec) (sym e) (further_own t few A.exec (piece.FieldAt h i) A.this own),
-    (λ c m.
-        sole spot (Cell (Obj whole.class)) it spot whole.class c itself (subst (Stands t few (Outward t A.exec A.frame A.this A.older todo) (Cell (Obj c))) e m)),
-  )
+variable_one : (j k : ℕ) → OfVariable j ≡ OfVariable k → j ≡ k
+variable_one j k e = cc
 
-  -- so it is of the elements of an array there
-  row : (n : ℕ) → AtField t (Frame A.exec A.frame) A.this (each_at (OfField h i) n r written) spot (Row n (Cell (Obj whole.class)))
-  row n = (h, i, (refl, (refl, whole.this, whole.whole)), refl)
+no_variable_field : (k : ℕ) (h : src.Shape) (i : ℕ) → OfVariable k ≡ OfField h i → ⊥
+no_variable_field k h i e = cc
 
-  pub elements_of_field : (n : ℕ) (todo : List Todo) → Sole t few A.exec A.frame A.this A.older (each_at (OfField h i) n r written) todo → LoneAt t few A todo (Each n (OfField h i))
-  elements_of_field n todo sole o e = (
-    subst (Belongs few A.exec) (sym e.2) (further_own t few A.exec (piece.At src.Binding e.0) spot (further_own t few A.exec (piece.FieldAt h i) A.this own)),
-    (λ c m.
-        sole spot (Row n (Cell (Obj whole.class))) (row n) (further (piece.At src.Binding e.0) spot) whole.class c (element itself e.0 e.1) (subst (Stands t few (Outward t A.exec A.frame A.this A.older todo) (Cell (Obj c))) e.2 m)),
-  )
+module _ (Z : ℕ → ℕ → Type 0) where
+  -- what is at a variable lies behind the beginning of the room, and in it
+  abbrev Between : ℕ → ℕ → ℕ → Type 0
+  Between low high k = (low ≤ k) × (k ≤ high)
 
-module _ (p : Program) (g : Setting) (s : State) (st : StackState (Sized p) s) (lone : LoneState g.table g.few s) (made : Bool) (this : made ≡ true → Belongs g.few s.env.exec s.run.this) where
-  -- what is to do behind what cleans up
-  abbrev pub left_then : Bool → List Todo → List Todo
-  left_then true todo = piece.Unwind ∷ todo
-  left_then false todo = todo
+  place_between : (low high count n k : ℕ) (e : Expr) → LiesAt Z low high count n e → place_spot e ≡ Some (OfVariable k) → Between low high k
+  place_between low high count n k (src.Variable j) h e = subst (Between low high) (variable_one j k (some_one (OfVariable j) (OfVariable k) e)) (let a = h.0 in let b = h.1 in (a, omega (arith, b)))
+  place_between low high count n k (src.OfObject (src.OwnField s i)) h e = absurd (cc)
+  place_between low high count n k x h e = absurd h
 
-  abbrev Claims : List Todo → Type 0
-  Claims todo = AllLone g.table g.few s.env.exec s.run.frame s.run.this s.callers todo
+  element_between : (low high count n k : ℕ) (e : Expr) → LiesIn Z low high count n e → place_spot e ≡ Some (OfVariable k) → Between low high k
+  element_between low high count n k (src.Element m s x (src.OfObject src.Counted)) h e = place_between low high count n k x h.1 e
+  element_between low high count n k x h e = absurd h
 
-  abbrev SoleHere : CleanUp → List Todo → Type 0
-  SoleHere c todo = Sole g.table g.few s.env.exec s.run.frame s.run.this s.callers c todo
+  destroyed_between : (low high k : ℕ) (P : ℕ → Expr → Type 0) (e : Expr) → ((n : ℕ) (x : Expr) → P n x → place_spot x ≡ Some (OfVariable k) → Between low high k) → Destroyed Z P e → spot_in e ≡ Some (OfVariable k) → Between low high k
+  destroyed_between low high k P (src.OfObject (src.CallOn r x args)) f h e = f h.0 x h.2 e
+  destroyed_between low high k P (src.OfObject (src.CallUnwritten r x)) f h e = f h.0 x h.2 e
+  destroyed_between low high k P (src.OfObject (src.EndOn r written (src.Load x))) f h e = f 1 x h e
+  destroyed_between low high k P (src.OfObject (src.EndCluster (src.Load x))) f h e = f 1 x h e
+  destroyed_between low high k P (src.OfObject (src.EndProcessor (src.Load x))) f h e = f 1 x h e
+  destroyed_between low high k P x f h e = absurd h
 
-  variable_lone : (unwinds : Bool) (k r : ℕ) (written : Bool) (todo : List Todo) → s.run.control ≡ leaving unwinds (ends_at (OfVariable k) r written) todo → LoneAt g.table g.few (here s) (piece.DropNow ∷ left_then unwinds todo) (One (OfVariable k))
-  variable_lone true k r written todo e o f = law_left.left p g.table g.few s st true k r written todo e o f
-  variable_lone false k r written todo e o f = law_left.left p g.table g.few s st false k r written todo e o f
+  cleaned_between : (low high k : ℕ) (c : CleanUp) → Lies Z low high c → spot_of c ≡ Some (OfVariable k) → Between low high k
+  cleaned_between low high k (src.Destroys x) h e = destroyed_between low high k (LiesAt Z low high 1) x (λ n y. place_between low high 1 n k y) h e
+  cleaned_between low high k (src.DestroysAll m x) h e = destroyed_between low high k (LiesIn Z low high m) x (λ n y. element_between low high m n k y) h e
+  cleaned_between low high k c h e = absurd (cc)
 
-  claimed : (unwinds : Bool) (e : Expr) (todo : List Todo) → Claims (leaving unwinds (src.Destroys e) todo) → SoleHere (src.Destroys e) todo
-  claimed true e todo h = h.0.1
-  claimed false e todo h = h.0.1
+  -- a part is at no variable
 
-  claimed_all : (unwinds : Bool) (n : ℕ) (e : Expr) (todo : List Todo) → Claims (leaving unwinds (src.DestroysAll n e) todo) → SoleHere (src.DestroysAll n e) todo
-  claimed_all true n e todo h = h.0.1
-  claimed_all false n e todo h = h.0.1
+  own_place : (k n : ℕ) (e : Expr) → OwnAt Z n e → place_spot e ≡ Some (OfVariable k) → ⊥
+  own_place k n (src.OfObject (src.OwnField s i)) h e = cc
+  own_place k n x h e = h
 
-  left_sole : (unwinds : Bool) (c : CleanUp) (todo : List Todo) → SoleHere c todo → SoleHere c (left_then unwinds todo)
-  left_sole true c todo h = h
-  left_sole false c todo h = h
+  own_element : (k m n : ℕ) (e : Expr) → OwnIn Z m n e → place_spot e ≡ Some (OfVariable k) → ⊥
+  own_element k m n (src.Element j s x (src.OfObject src.Counted)) h e = own_place k n x h.1 e
+  own_element k m n x h e = h
 
-  array_lone : (unwinds : Bool) (n k r : ℕ) (written : Bool) (todo : List Todo) → s.run.control ≡ leaving unwinds (each_at (OfVariable k) n r written) todo → LoneAt g.table g.few (here s) (left_then unwinds todo) (Each n (OfVariable k))
-  array_lone true n k r written todo e = elements_lone (Sized p) g.table g.few s k todo (left_before (Sized p) k n r written s st todo true e) n
-  array_lone false n k r written todo e = elements_lone (Sized p) g.table g.few s k todo (left_before (Sized p) k n r written s st todo false e) n
+  own_destroyed : (k : ℕ) (P : ℕ → Expr → Type 0) (e : Expr) → ((n : ℕ) (x : Expr) → P n x → place_spot x ≡ Some (OfVariable k) → ⊥) → Destroyed Z P e → spot_in e ≡ Some (OfVariable k) → ⊥
+  own_destroyed k P (src.OfObject (src.CallOn r x args)) f h e = f h.0 x h.2 e
+  own_destroyed k P (src.OfObject (src.CallUnwritten r x)) f h e = f h.0 x h.2 e
+  own_destroyed k P (src.OfObject (src.EndOn r written (src.Load x))) f h e = f 1 x h e
+  own_destroyed k P (src.OfObject (src.EndCluster (src.Load x))) f h e = f 1 x h e
+  own_destroyed k P (src.OfObject (src.EndProcessor (src.Load x))) f h e = f 1 x h e
+  own_destroyed k P x f h e = h
 
-  -- the scope of an array is left next
-  scope_sweeps : (unwinds : Bool) (m : ℕ) (e : Expr) (todo : List Todo) → s.run.control ≡ leaving unwinds (src.DestroysAll m e) todo → CleansBy g.table g.source g.special made AnySite (src.DestroysAll m e) → LoneFor g (here s) made (src.DestroysAll m e) (left_then unwinds todo)
-  scope_sweeps unwinds m e todo q (inl k) = inl k
-  scope_sweeps unwinds m e todo q (inr (inl k)) = inr (inl k)
-  scope_sweeps unwinds m (src.OfObject (src.EndOn r w (src.Load (src.Element n src.Binding (src.Variable k) (src.OfObject src.Counted))))) todo q (inr (inr h)) =
-      let same : s.run.control ≡ leaving unwinds (each_at (OfVariable k) n r w) todo = subst (λ m. s.run.control ≡ leaving unwinds (src.DestroysAll m (src.OfObject (src.EndOn r w (src.Load (src.Element n src.Binding (src.Variable k) (src.OfObject src.Counted)))))) todo) (sym h.0.1) q in
-      inr (inr (array_lone unwinds n k r w todo same, h.1))
-  scope_sweeps unwinds m (src.OfObject (src.EndOn r w (src.Load (src.Element n src.Binding (src.OfObject (src.OwnField f i)) (src.OfObject src.Counted))))) todo q (inr (inr h)) =
-      let same : s.run.control ≡ leaving unwinds (each_at (OfField f i) n r w) todo = subst (λ m. s.run.control ≡ leaving unwinds (src.DestroysAll m (src.OfObject (src.EndOn r w (src.Load (src.Element n src.Binding (src.OfObject (src.OwnField f i)) (src.OfObject src.Counted)))))) todo) (sym h.0.1) q in
-      inr (inr (elements_of_field g.table g.few (here s) f i r w h.2 (this h.1) n (left_then unwinds todo) (left_sole unwinds (each_at (OfField f i) n r w) todo (claimed_all unwinds n (src.OfObject (src.EndOn r w (src.Load (src.Element n src.Binding (src.OfObject (src.OwnField f i)) (src.OfObject src.Counted))))) todo (subst Claims same lone.stack.0))), h.1, h.2))
-  scope_sweeps unwinds m e todo q (inr (inr h)) = absurd h
+  own_part : (k : ℕ) (c : CleanUp) → OwnPart Z c → spot_of c ≡ Some (OfVariable k) → ⊥
+  own_part k (src.Destroys x) h e = own_destroyed k (OwnAt Z) x (λ n y. own_place k n y) h e
+  own_part k (src.DestroysAll m x) h e = own_destroyed k (OwnIn Z m) x (λ n y. own_element k m n y) h e
+  own_part k c h e = absurd (cc)
 
-  -- the scope of what ends at a spot is left next
-  scope_ends : (unwinds : Bool) (e : Expr) (todo : List Todo) → s.run.control ≡ leaving unwinds (src.Destroys e) todo → CleansBy g.table g.source g.special made AnySite (src.Destroys e) → LoneFor g (here s) made (src.Destroys e) (left_then unwinds todo)
-  scope_ends unwinds e todo q (inl k) = inl k
-  scope_ends unwinds e todo q (inr (inl k)) = inr (inl k)
-  scope_ends unwinds (src.OfObject (src.EndOn r w (src.Load (src.Variable k)))) todo q (inr (inr n)) = inr (inr (variable_lone unwinds k r w todo q, n.1))
-  scope_ends unwinds (src.OfObject (src.EndOn r w (src.Load (src.OfObject (src.OwnField h i))))) todo q (inr (inr n)) =
-      inr (inr (field_lone g.table g.few (here s) h i r w n.2 (this n.1) (piece.DropNow ∷ left_then unwinds todo) (left_sole unwinds (ends_at (OfField h i) r w) todo (claimed unwinds (src.OfObject (src.EndOn r w (src.Load (src.OfObject (src.OwnField h i))))) todo (subst Claims q lone.stack.0))), n.1, n.2))
-  scope_ends unwinds e todo q (inr (inr n)) = absurd n
+  -- so marks in the frame lie before a variable whose scope is left, or opens next, and before the hidden cells of an event
 
-  pub scope_lone : (unwinds : Bool) (c : CleanUp) (todo : List Todo) → s.run.control ≡ leaving unwinds c todo → CodeScope g made c → LoneFor g (here s) made c (left_then unwinds todo)
-  scope_lone unwinds (src.Destroys e) todo q n = scope_ends unwinds e todo q n.1
-  scope_lone unwinds (src.DestroysAll m e) todo q n = scope_sweeps unwinds m e todo q n.1
-  scope_lone unwinds c todo q n = tt
+  cleared : (k : ℕ) (c : CleanUp) (todo : List Todo) (End : Room → Type 0) → spot_of c ≡ Some (OfVariable k) → SomeTo Z End (piece.Clean c ∷ todo) → SomeTo Z End (piece.ClearNow k 0 ∷ todo)
+  cleared k c todo End e h =
+      let w = h.1.1 in
+      let b = cleaned_between h.1.0.low h.0.low k c h.1.2.0 e in
+      let low = b.0 in
+      let high = b.1 in
+      let cells = w.cells in
+      let wide = w.high in
+      (h.1.0, (inl (low, omega (arith, high, cells, wide)), h.1.3))
+
+  pub left_cleared : (unwinds : Bool) (k : ℕ) (c : CleanUp) (todo : List Todo) (End : Room → Type 0) → spot_of c ≡ Some (OfVariable k) → SomeTo Z End (leaving unwinds c todo) → SomeTo Z End (piece.ClearNow k 0 ∷ todo)
+  left_cleared true k c todo End e h = cleared k c todo End e (h.0, h.1.1)
+  left_cleared false k c todo End e h = cleared k c todo End e h
+
+  pub opened_cleared : (k : ℕ) (a : Stmt) (ss : Stmts) (x : Site) (todo : List Todo) (End : Room → Type 0) → site_spot x ≡ OfVariable k → OpensFor ss x → SomeTo Z End (piece.Do a ∷ (piece.Rest ss ∷ todo)) → SomeTo Z End (piece.ClearNow k 0 ∷ todo)
+  opened_cleared k a (src.Scoped c ss) x todo End q e h =
+      let there = h.1.1 in
+      let w = there.0.1 in
+      let b = cleaned_between h.0.low there.0.0.low k c there.0.2.0 (e ∙ ap Some q) in
+      let low = b.0 in
+      let high = b.1 in
+      let cells = w.cells in
+      let wide = w.high in
+      (h.0, (inl (low, omega (arith, high, cells, wide)), there.1))
+  opened_cleared k a (src.Built c ss) x todo End q e h = absurd (own_part k c h.1.1.0.0 (e ∙ ap Some q))
+  opened_cleared k a ss x todo End q e h = absurd e
+
+  -- the cells of an event
+  abbrev pub BuiltIn : ℕ → Raised → Type 0
+  BuiltIn k (src.BuiltAt n c e) = c ≡ k
+  BuiltIn k r = ⊥
+
+  raised_cleared : (k : ℕ) (r : Raised) (o : Room) → BuiltIn k r → RaisedIn Z o r → (o.hidden ≤ k) × (k + 0 ≤ o.last)
+  raised_cleared k (src.BuiltAt n c e) o q h =
+      let low = h.0 in
+      let high = h.1 in
+      (omega (arith, low, q), omega (arith, high, q))
+  raised_cleared k r o q h = absurd q
+
+  abbrev pub EventIn : ℕ → EventStmt → Type 0
+  EventIn k (src.Throw line r) = BuiltIn k r
+  EventIn k (src.Raise line r) = BuiltIn k r
+  EventIn k (src.RaiseAt line r e) = BuiltIn k r
+  EventIn k a = ⊥
+
+  pub event_cleared : (k : ℕ) (a : EventStmt) (todo : List Todo) (End : Room → Type 0) → EventIn k a → SomeTo Z End (piece.Do (src.OfEvents a) ∷ todo) → SomeTo Z End (piece.ClearNow k 0 ∷ todo)
+  event_cleared k (src.Throw line r) todo End q h = (h.0, (inr (raised_cleared k r h.0 q h.1.0), h.1.1))
+  event_cleared k (src.Raise line r) todo End q h = (h.0, (inr (raised_cleared k r h.0 q h.1.0), h.1.1))
+  event_cleared k (src.RaiseAt line r e) todo End q h = (h.0, (inr (raised_cleared k r h.0 q h.1.0.0), h.1.1))
+  event_cleared k a todo End q h = absurd q
+
+module _ (Z : ℕ → ℕ → Type 0) (g : Setting) (laid : IsLaidOut Z g.table) (s : State) (st : StackState Z s) (callers : AllWait (Runs g) (Waits g) s.env.exec s.callers) (env : NamedEnv (Runs g) (Waits g) s.env) (made : Reach) (this : IsSeated g.table g.few made s.env.exec s.callers s.run.frame s.run.this) where
+  -- of a variable before which all marks in the frame lie
+  module _ (k : ℕ) (todo : List Todo) (low : made.low ≤ k) (code : Left g (here s) made todo) (clears : (End : Room → Type 0) → SomeTo Z End s.run.control → SomeTo Z End (piece.ClearNow k 0 ∷ todo)) where
+    abbrev run : Active
+    run = record s.run { control = piece.ClearNow k 0 ∷ todo }
+
+    abbrev cell : Value
+    cell = variable s.env.exec s.run.frame k
+
+    abbrev K : Value → Ty → Type 0
+    K w a = Marked g.table s.env.exec (run ∷ s.callers) w a
+
+    before : stacks.FrameBefore Z k s.run.frame (run ∷ s.callers)
+    before = stack_before Z s.env.frames run s.callers k 0 todo refl (stacked_by Z s.env.frames s.run run s.callers refl refl clears st.stack.0)
+
+    -- fields of the object at hand are in other frames, and those of older ones at other variables
+    no_own : (w : Value) (a : Ty) (v : Value) (e : ℕ) → OwnMarked g.table s.env.exec (run ∷ s.callers) w a → Within g.table w a v (Cell (Obj e)) → hand.LiesIn g.few cell v → ⊥
+    no_own w a v e (inl m) h l =
+        let x = fields_in g (here s) made todo w a code m in
+        let field : Value = further (FieldAt x.shape x.number) s.run.this in
+        let below = under_below g.few s.env.exec s.run.frame s.run.this field (further_on (FieldAt x.shape x.number) same_place) (this.own x.builds) in
+        not_below g.few s.env.exec s.run.frame s.run.frame (Slot k ∷ []) (omega arith) v l (under_below g.few s.env.exec s.run.frame field v (subst (λ y. hand.LiesUnder y v) x.at (within_under g.table w a v (Cell (Obj e)) h)) below)
+    no_own w a v e (inr m) h l =
+        let less : k < made.low = this.spare k v e l (lies m h) in
+        omega (arith, less, low)
+
+    no_mark : (w : Value) (a : Ty) (v : Value) (e : ℕ) → Variables g.table s.env.exec (run ∷ s.callers) w a ⊎ OwnMarked g.table s.env.exec (run ∷ s.callers) w a → Within g.table w a v (Cell (Obj e)) → hand.LiesIn g.few cell v → ⊥
+    no_mark w a v e (inr m) h l = no_own w a v e m h l
+    no_mark w a v e (inl m) h l = no_variable Z g.table laid g.few s.env.exec s.run.frame k (run ∷ s.callers) w a v e before m h l
+
+    variable_lone : (v : Value) (e : ℕ) → hand.LiesIn g.few cell v → Stands g.table g.few K (Cell (Obj e)) v → ⊥
+    variable_lone v e l (lies {w = w} {a} m h) = no_mark w a v e (parts g.table s.env.exec (run ∷ s.callers) w a m) h l
+    variable_lone v e (there u) (inside {o = o} {c} m h i) =
+        let mine : OwnedBy (Frame s.env.exec s.run.frame) v = owned_under (Frame s.env.exec s.run.frame) cell refl v u in
+        let its : OwnedBy (Fields o) v = owned_under (Fields o) (Object o) refl v (within_under g.table (Object o) (Obj c) v (Cell (Obj e)) i) in
+        no_frame s.env.exec s.run.frame o (owner_one (Frame s.env.exec s.run.frame) (Fields o) v mine its)
+    variable_lone v e (at_home {o = x} u q) (inside {o = o} {c} m h i) =
+        let its : OwnedBy (Fields o) v = owned_under (Fields o) (Object o) refl v (within_under g.table (Object o) (Obj c) v (Cell (Obj e)) i) in
+        let same : o ≡ x = one_object o x (owner_one (Fields o) (Fields x) v its q) in
+        variable_lone (g.few.home x) c u (subst (λ y. Stands g.table g.few K (Cell (Obj c)) (g.few.home y)) same h)
+
+  -- of a field
+  at_field : (h : src.Shape) (i : ℕ) (todo : List Todo) → AllBelow i todo → made.builds ≡ true → (v : Value) (e : ℕ) → hand.LiesIn g.few (further (FieldAt h i) s.run.this) v → Stands g.table g.few (Outward g.table s.env.exec s.run.frame s.run.this s.callers todo) (Cell (Obj e)) v → ⊥
+  at_field h i todo b y v e l st =
+      field_lone g.table g.few s.env.exec s.run.frame s.run.this s.callers todo i (all_others g.table i todo b) (below_own g.few s.env.exec s.run.frame s.run.this (this.own y)) (this.alone y) h v e l st
+
+  -- of a site
+  abbrev Clears : ℕ → List Todo → Type 1
+  Clears k todo = (End : Room → Type 0) → SomeTo Z End s.run.control → SomeTo Z End (piece.ClearNow k 0 ∷ todo)
+
+  spot_lone : (p : Spot) (todo : List Todo) → IsOf made p → Left g (here s) made todo → ((k : ℕ) → p ≡ OfVariable k → Clears k todo) → ((h : src.Shape) (i : ℕ) → p ≡ OfField h i → AllBelow i todo) → (v : Value) (e : ℕ) → hand.LiesIn g.few (spot_at g.few (here s) p) v → Stands g.table g.few (Outward g.table s.env.exec s.run.frame s.run.this s.callers todo) (Cell (Obj e)) v → ⊥
+  spot_lone (OfVariable k) todo i code clears below v e l st = variable_lone k todo i code (clears k refl) v e l st
+  spot_lone (OfField h j) todo i code clears below v e l st = at_field h j todo (below h j refl) i v e l st
+
+  same_spot : (p : Spot) → IsOf made p → IsOf made p
+  same_spot p i = i
+
+  -- a clean-up, where nothing stands around its spot
+  cleans_lone : (c : CleanUp) (todo : List Todo) → ((x : Site) → IsIn made x → IsSpotOf c x → LoneAt g.table g.few (here s) todo x) → CleansBy g.table g.source g.special made c → LoneFor g (here s) made c todo
+  cleans_lone (src.Destroys e) todo f (inl k) = inl k
+  cleans_lone (src.Destroys e) todo f (inr (inl k)) = inr (inl (marks.calls_more g.table g.source g.special made made same_spot (IsSpotOf (src.Destroys e)) (Lones g (here s) made todo) f e k))
+  cleans_lone (src.Destroys e) todo f (inr (inr k)) = inr (inr (marks.ends_more g.table g.source g.special made made same_spot (IsSpotOf (src.Destroys e)) (Lones g (here s) made todo) f e k))
+  cleans_lone (src.DestroysAll m e) todo f k = marks.sweeps_more g.table g.source g.special made made same_spot (IsSpotOf (src.DestroysAll m e)) (Lones g (here s) made todo) f e k
+  cleans_lone c todo f k = tt
+
+  left_lone : (unwinds : Bool) (c : CleanUp) (todo : List Todo) → s.run.control ≡ leaving unwinds c todo → CleansBy g.table g.source g.special made c → IsOutermost (spot_of c) todo → Left g (here s) made todo → LoneFor g (here s) made c todo
+  left_lone unwinds c todo q n o code =
+      cleans_lone c todo (λ x i e. spot_lone (site_spot x) todo i code (λ k y end h. left_cleared Z unwinds k c todo end (e ∙ ap Some y) (subst (SomeTo Z end) q h)) (λ h j y. subst (λ z. IsOutermost z todo) (e ∙ ap Some y) o)) n
+
+  -- its scope is left next
+  pub scope_lone : (unwinds : Bool) (c : CleanUp) (todo : List Todo) → s.run.control ≡ leaving unwinds c todo → CodeScope g made c todo → Left g (here s) made todo → LoneFor g (here s) made c todo
+  scope_lone unwinds (src.Destroys e) todo q n code = left_lone unwinds (src.Destroys e) todo q n.1 n.2 code
+  scope_lone unwinds (src.DestroysAll m e) todo q n code = left_lone unwinds (src.DestroysAll m e) todo q n.1 n.2 code
+  scope_lone unwinds c todo q n code = tt
 
   -- a part is given up
-  part_ends : (e : Expr) (todo : List Todo) → s.run.control ≡ piece.Unwind ∷ (piece.Part (src.Destroys e) ∷ todo) → CleansBy g.table g.source g.special made IsField (src.Destroys e) → LoneFor g (here s) made (src.Destroys e) (piece.Unwind ∷ todo)
-  part_ends e todo q (inl k) = inl k
-  part_ends e todo q (inr (inl k)) = inr (inl k)
-  part_ends (src.OfObject (src.EndOn r w (src.Load (src.Variable k)))) todo q (inr (inr n)) = absurd n.0
-  part_ends (src.OfObject (src.EndOn r w (src.Load (src.OfObject (src.OwnField h i))))) todo q (inr (inr n)) =
-      let claims : Claims (piece.Unwind ∷ (piece.Part (ends_at (OfField h i) r w) ∷ todo)) = subst Claims q lone.stack.0 in
-      inr (inr (field_lone g.table g.few (here s) h i r w n.2 (this n.1) (piece.DropNow ∷ (piece.Unwind ∷ todo)) claims.0.1, n.1, n.2))
-  part_ends e todo q (inr (inr n)) = absurd n
+  pub part_lone : (c : CleanUp) (todo : List Todo) → s.run.control ≡ piece.Unwind ∷ (piece.Part c ∷ todo) → CodePart g made c todo → Left g (here s) made todo → LoneFor g (here s) made c todo
+  part_lone c todo q n code =
+      cleans_lone c todo (λ x i e. spot_lone (site_spot x) todo i code (λ k y end h. absurd (own_part Z k c (subst (SomeTo Z end) q h).1.1.0 (e ∙ ap Some y))) (λ h j y. subst (λ z. IsOutermost z todo) (e ∙ ap Some y) n.2)) n.1
 
-  part_sweeps : (m : ℕ) (e : Expr) (todo : List Todo) → s.run.control ≡ piece.Unwind ∷ (piece.Part (src.DestroysAll m e) ∷ todo) → CleansBy g.table g.source g.special made IsField (src.DestroysAll m e) → LoneFor g (here s) made (src.DestroysAll m e) (piece.Unwind ∷ todo)
-  part_sweeps m e todo q (inl k) = inl k
-  part_sweeps m e todo q (inr (inl k)) = inr (inl k)
-  part_sweeps m (src.OfObject (src.EndOn r w (src.Load (src.Element n src.Binding (src.Variable k) (src.OfObject src.Counted))))) todo q (inr (inr h)) = absurd h.0.0
-  part_sweeps m (src.OfObject (src.EndOn r w (src.Load (src.Element n src.Binding (src.OfObject (src.OwnField f i)) (src.OfObject src.Counted))))) todo q (inr (inr h)) =
-      let same : s.run.control ≡ piece.Unwind ∷ (piece.Part (each_at (OfField f i) n r w) ∷ todo) = subst (λ m. s.run.control ≡ piece.Unwind ∷ (piece.Part (src.DestroysAll m (src.OfObject (src.EndOn r w (src.Load (src.Element n src.Binding (src.OfObject (src.OwnField f i)) (src.OfObject src.Counted)))))) ∷ todo)) (sym h.0.1) q in
-      let claims : Claims (piece.Unwind ∷ (piece.Part (each_at (OfField f i) n r w) ∷ todo)) = subst Claims same lone.stack.0 in
-      inr (inr (elements_of_field g.table g.few (here s) f i r w h.2 (this h.1) n (piece.Unwind ∷ todo) claims.0.1, h.1, h.2))
-  part_sweeps m e todo q (inr (inr h)) = absurd h
+  -- what opens behind a statement is of a higher number than all outwards of it
+  spot_next : (c : CleanUp) (x : Site) (n : ℕ) (todo : List Todo) (next : ℕ → Type 0) (h : src.Shape) (i : ℕ) → AscendsBy (spot_of c) n next → AllBelow n todo → IsSpotOf c x → site_spot x ≡ OfField h i → AllBelow i todo
+  spot_next c x n todo next h i a b e y = below_more n i todo (subst (λ o. AscendsBy o n next) (e ∙ ap Some y) a).0 b
 
-  pub part_lone : (c : CleanUp) (todo : List Todo) → s.run.control ≡ piece.Unwind ∷ (piece.Part c ∷ todo) → CodePart g made c → LoneFor g (here s) made c (piece.Unwind ∷ todo)
-  part_lone (src.Destroys e) todo q n = part_ends e todo q n.1
-  part_lone (src.DestroysAll m e) todo q n = part_sweeps m e todo q n.1
-  part_lone c todo q n = tt
+  rest_below : (ss : Stmts) (todo : List Todo) (x : Site) (h : src.Shape) (i : ℕ) → CodeRest g (here s) made ss todo → OpensFor ss x → site_spot x ≡ OfField h i → AllBelow i todo
+  rest_below (src.Scoped c ss) todo x h i (inl n) e y = absurd (no_field (spot_named g.table g.source g.special (apart made) (OfField h i) c n.1.0 (e ∙ ap Some y)))
+  rest_below (src.Built c ss) todo x h i (inl n) e y = absurd (no_field (spot_named g.table g.source g.special (apart made) (OfField h i) c n.1.0 (e ∙ ap Some y)))
+  rest_below (src.Scoped c ss) todo x h i (inr (inl n)) e y = spot_next c x n.1.0 todo (λ m. Ascends m ss) h i n.1.2 n.1.1 e y
+  rest_below (src.Built c ss) todo x h i (inr (inl n)) e y = spot_next c x n.1.0 todo (λ m. Ascends m ss) h i n.1.2 n.1.1 e y
+  rest_below (src.Scoped src.Ends ss) todo x h i (inr (inr n)) e y = absurd (cc)
+  rest_below (src.Scoped (src.Frees r) ss) todo x h i (inr (inr n)) e y = absurd (cc)
+  rest_below (src.Scoped c ss) todo x h i (inr (inr n)) e y = absurd n.2
+  rest_below (src.Built c ss) todo x h i (inr (inr n)) e y = absurd n.2
+  rest_below ss todo x h i n e y = absurd e
 
-  -- its scope opens behind the call of what builds it, or it is a part from then on
+  opened : (a : Stmt) (ss : Stmts) (todo : List Todo) → s.run.control ≡ piece.Do a ∷ (piece.Rest ss ∷ todo) → CodeRest g (here s) made ss todo → Left g (here s) made todo → (x : Site) → IsIn made x → OpensFor ss x → LoneAt g.table g.few (here s) todo x
+  opened a ss todo q n code x i e =
+      spot_lone (site_spot x) todo i code (λ k y end h. opened_cleared Z k a ss x todo end y e (subst (SomeTo Z end) q h)) (λ h j y. rest_below ss todo x h j n e y)
 
-  variable_opened : (written : Bool) (r line k : ℕ) (c : CleanUp) (ss : Stmts) (todo : List Todo) → s.run.control ≡ calling written r ∷ (piece.DropNow ∷ (piece.Within line ∷ (piece.Rest (src.Scoped c ss) ∷ todo))) → (q : ℕ) (ends : Bool) → c ≡ ends_at (OfVariable k) q ends → LoneAt g.table g.few (here s) (piece.DropNow ∷ (piece.Within line ∷ (piece.Rest (src.Scoped c ss) ∷ todo))) (One (OfVariable k))
-  variable_opened written r line k c ss todo e q ends f o h =
-      law_left.made p g.table g.few s st k q ends written r line ss todo (subst (λ c. s.run.control ≡ calling written r ∷ (piece.DropNow ∷ (piece.Within line ∷ (piece.Rest (src.Scoped c ss) ∷ todo)))) f e) o h
+  pub lone_behind : (a : Stmt) (todo : List Todo) → s.run.control ≡ piece.Do a ∷ todo → Ok g (here s) made [] todo → steps.LoneBehind g s callers env made this todo
+  lone_behind a (piece.Rest ss ∷ todo) q h x i e = opened a ss todo q h.0 (marks.left g (here s) made [] todo h.1) x i e
+  lone_behind a todo q h x i e = absurd e
 
-  field_opened : (line i q : ℕ) (ends : Bool) (h : Shape) (c : CleanUp) (ss : Stmts) (todo : List Todo) → c ≡ ends_at (OfField h i) q ends → SolePart g (piece.DropNow ∷ (piece.Within line ∷ (piece.Rest (src.Built c ss) ∷ todo))) s → PartBy g.table g.source g.special made c → LoneAt g.table g.few (here s) (piece.DropNow ∷ (piece.Within line ∷ (piece.Rest (src.Built c ss) ∷ todo))) (One (OfField h i))
-  field_opened line i q ends h c ss todo f sole n =
-      let part : PartBy g.table g.source g.special made (ends_at (OfField h i) q ends) = subst (PartBy g.table g.source g.special made) f n in
-      let alone : SolePart g (piece.DropNow ∷ (piece.Within line ∷ (piece.Rest (src.Built (ends_at (OfField h i) q ends) ss) ∷ todo))) s = subst (λ c. SolePart g (piece.DropNow ∷ (piece.Within line ∷ (piece.Rest (src.Built c ss) ∷ todo))) s) f sole in
-      by part alone
-    where
-      by : PartBy g.table g.source g.special made (ends_at (OfField h i) q ends) → SoleHere (ends_at (OfField h i) q ends) todo → LoneAt g.table g.few (here s) (piece.DropNow ∷ (piece.Within line ∷ (piece.Rest (src.Built c ss) ∷ todo))) (One (OfField h i))
-      by (inr (inr m)) a = field_lone g.table g.few (here s) h i q ends m.2 (this m.1) (piece.DropNow ∷ (piece.Within line ∷ (piece.Rest (src.Built c ss) ∷ todo))) a
-      by (inr (inl m)) a = absurd m
-      by (inl m) a = absurd m
+  -- where an event is built
 
-  built_part : (c : CleanUp) (ss : Stmts) (todo : List Todo) → CodeStmts g made (src.Built c ss) ⊎ CodeOpening g (here s) made (src.Built c ss) todo → PartBy g.table g.source g.special made c
-  built_part c ss todo (inl n) = n.1.0
-  built_part c ss todo (inr n) = absurd n.2
+  raised_lone : (a : EventStmt) (r : Raised) (todo : List Todo) → s.run.control ≡ piece.Do (src.OfEvents a) ∷ todo → ((k : ℕ) → BuiltIn Z k r → EventIn Z k a) → RaisesBy g.table g.source g.special made r → Left g (here s) made todo → BuildsAt g (here s) made r (Lones g (here s) made todo)
+  raised_lone a (src.BuiltAt n c e) todo q f h code =
+      marks.calls_more g.table g.source g.special made made same_spot (IsAtVariable c) (Lones g (here s) made todo) (λ x i y. spot_lone (site_spot x) todo i code (λ k z end l. event_cleared Z k a todo end (f k (variable_one c k (sym y ∙ z))) (subst (SomeTo Z end) q l)) (λ h j z. absurd (no_variable_field c h j (sym y ∙ z)))) e h
+  raised_lone a (src.Plainly n) todo q f h code = tt
+  raised_lone a (src.AgainFrom c) todo q f h code = tt
 
-  pub opened : (written : Bool) (r : ℕ) (ms : List Mark) (todo : List Todo) → s.run.control ≡ calling written r ∷ todo → Ok g (here s) made ms todo → SolePart g todo s → (x : Site) → OneNext todo x → LoneAt g.table g.few (here s) todo x
-  opened written r ms (piece.DropNow ∷ (piece.Within line ∷ (piece.Rest (src.Scoped c ss) ∷ todo))) e h sole (One (OfVariable k)) n = variable_opened written r line k c ss todo e n.0 n.1 n.2
-  opened written r ms (piece.DropNow ∷ (piece.Within line ∷ (piece.Rest (src.Built c ss) ∷ todo))) e h sole (One (OfField k i)) n = field_opened line i n.0 n.1 k c ss todo n.2 sole (built_part c ss todo h.1.1.0)
-  opened written r ms todo e h sole (One x) n = absurd n
-  opened written r ms todo e h sole (Each m x) n = absurd n
+  lone_event : (a : EventStmt) (todo : List Todo) → s.run.control ≡ piece.Do (src.OfEvents a) ∷ todo → CallingEvent g.table g.source g.special made a → Left g (here s) made todo → steps.LoneEvent g s callers env made this a todo
+  lone_event (src.Throw line r) todo q h code = raised_lone (src.Throw line r) r todo q (λ k b. b) h code
+  lone_event (src.Raise line r) todo q h code = raised_lone (src.Raise line r) r todo q (λ k b. b) h code
+  lone_event (src.RaiseAt line r e) todo q h code = raised_lone (src.RaiseAt line r e) r todo q (λ k b. b) h.0 code
+  lone_event a todo q h code = tt
 
-  -- so it is of an array, behind the statement that builds its elements
-
-  array_filled : (line m k : ℕ) (b d : Expr) (c : CleanUp) (ss : Stmts) (todo : List Todo) → s.run.control ≡ piece.Do (src.Fill line m b d) ∷ (piece.Rest (src.Scoped c ss) ∷ todo) → (n q : ℕ) (ends : Bool) → c ≡ each_at (OfVariable k) n q ends → LoneAt g.table g.few (here s) (piece.Rest (src.Scoped c ss) ∷ todo) (Each n (OfVariable k))
-  array_filled line m k b d c ss todo e n q ends f =
-      elements_lone (Sized p) g.table g.few s k todo (filled_before (Sized p) k n q ends s st todo line m b d ss (subst (λ c. s.run.control ≡ piece.Do (src.Fill line m b d) ∷ (piece.Rest (src.Scoped c ss) ∷ todo)) f e)) n
-
-  field_filled : (i n q : ℕ) (ends : Bool) (h : Shape) (c : CleanUp) (ss : Stmts) (todo : List Todo) → c ≡ each_at (OfField h i) n q ends → SolePart g (piece.Rest (src.Built c ss) ∷ todo) s → PartBy g.table g.source g.special made c → LoneAt g.table g.few (here s) (piece.Rest (src.Built c ss) ∷ todo) (Each n (OfField h i))
-  field_filled i n q ends h c ss todo f sole k =
-      let part : PartBy g.table g.source g.special made (each_at (OfField h i) n q ends) = subst (PartBy g.table g.source g.special made) f k in
-      let alone : SolePart g (piece.Rest (src.Built (each_at (OfField h i) n q ends) ss) ∷ todo) s = subst (λ c. SolePart g (piece.Rest (src.Built c ss) ∷ todo) s) f sole in
-      by part alone
-    where
-      by : PartBy g.table g.source g.special made (each_at (OfField h i) n q ends) → SoleHere (each_at (OfField h i) n q ends) todo → LoneAt g.table g.few (here s) (piece.Rest (src.Built c ss) ∷ todo) (Each n (OfField h i))
-      by (inr (inr m)) a = elements_of_field g.table g.few (here s) h i q ends m.2 (this m.1) n (piece.Rest (src.Built c ss) ∷ todo) a
-      by (inr (inl m)) a = absurd m
-      by (inl m) a = absurd m
-
-  pub filled : (line m : ℕ) (b d : Expr) (todo : List Todo) → s.run.control ≡ piece.Do (src.Fill line m b d) ∷ todo → Ok g (here s) made [] todo → SolePart g todo s → (n : ℕ) (x : Spot) → OpensRest todo (Each n x) → LoneAt g.table g.few (here s) todo (Each n x)
-  filled line m b d (piece.Rest (src.Scoped c ss) ∷ todo) e h sole n (OfVariable k) o = array_filled line m k b d c ss todo e n o.0 o.1 o.2
-  filled line m b d (piece.Rest (src.Built c ss) ∷ todo) e h sole n (OfField k i) o = field_filled i n o.0 o.1 k c ss todo o.2 sole (built_part c ss todo h.0)
-  filled line m b d todo e h sole n x o = absurd o
+  pub lone_stmt : (P : Site → Type 0) (a : Stmt) (todo : List Todo) → s.run.control ≡ piece.Do a ∷ todo → CodeStmt g P made a → Left g (here s) made todo → steps.LoneStmt g s callers env made this a todo
+  lone_stmt P (src.OfEvents a) todo q n code = lone_event a todo q n.1 code
+  lone_stmt P a todo q n code = tt

@@ -1,25 +1,26 @@
 -- Marks and operands, and to-do lists that are left.
-use Rattle.std.proofs.Common.{◌≡◌, ℕ, zero, suc, ◌<◌, inl, inr, Bool, true, false, List, [], ◌∷◌, drop, Option, Some, None, refl, sym, ap, subst}
+use Rattle.std.proofs.Common.{◌≡◌, ℕ, zero, suc, ◌<◌, inl, inr, Bool, true, false, List, [], ◌∷◌, drop, Option, Some, None, refl, sym, ap, subst, arith}
 use Rattle.std.specs.Prelude.{ℤ, pos, negsuc, slice_set, nat_lt}
 use Rattle.std.proofs.lemmas.Bool.{ltb-true}
 use Rattle.uc_tree.specs.Source as src
-use Rattle.uc_tree.specs.Source.{Expr, CleanUp, Stmt, Stmts, Purpose, Source}
+use Rattle.uc_tree.specs.Source.{Expr, CleanUp, Stmt, Stmts, EventStmt, TaskStmt, Raised, Purpose, Source}
 use Rattle.uc_machine.specs.declared.exec.Exec.{Exec}
 use Rattle.uc_machine.specs.declared.exec.Owner.TheVariants.{Frame}
 use Rattle.uc_machine.specs.Quiet.{behind_body}
 use Rattle.uc_machine.specs.Pieces as piece
-use Rattle.uc_machine.specs.Pieces.{Value, Todo, Active, sort, top, below, further}
+use Rattle.uc_machine.specs.Pieces.{Value, Todo, Active, top, below, further}
 use Rattle.uc_event_laws.specs.Counted.{params}
 use Rattle.uc_typing.specs.Typing.{Ty, Cell, Obj, Table}
 use Rattle.uc_life_laws.specs.Things.{Few, AtField, IsFor, InTodo, Stands, lies, inside}
-use Rattle.uc_unmarked_laws.specs.Belonging.{Belongs, frame}
 use Rattle.uc_unmarked_laws.specs.Marks.{Outward, Free}
 use Rattle.uc_unmarked_laws.specs.Ending.{Spot, OfVariable, OfField}
-use Rattle.uc_unmarked_laws.proofs.Own.{further_own}
 use Rattle.uc_aside_laws.specs.OlderResting.{AllWait}
 use Rattle.uc_aside_laws.proofs.Keeping.{tested}
-use Rattle.uc_putting_laws.specs.Calling.{Site, One, Each, opens_object, MakesAt, MakesEach, EndsEach, Evaluates, FillsBy, SweepsBy, CallingStmt, CallingStmts, PlaceAt, PlainExpr, Opening}
-use Rattle.uc_putting_laws.specs.Putting.{Setting, Around, around, Mark, Any, Own, At, Homed, rest, rests, anys, FirstOwn, FirstAt, FirstHome, IsOf, IsIn, Located, Enters, Loads, spot_at, StandsAt, HomedAt, Holds, after, made_marks, Ok, Left, Runs, Waits}
+use Rattle.uc_putting_laws.specs.CleanedSpots.{Site, One, Each, Under, site_spot, AnySite, IsAtVariable, IsSpotOf, Reach, apart, IsOf, IsIn}
+use Rattle.uc_putting_laws.specs.ObjectsAtHand.{LiesUnder, same_place, further_on, BelongsBelow, in_frame, IsSeated}
+use Rattle.uc_putting_laws.specs.Calling.{opens_object, PlainExpr, PlaceAt, Binds, CallsAt, MakesAt, MakesEach, EndsAt, EndsEach, EndsNumber, Evaluates, FillsBy, SweepsBy, CleansBy, RaisesBy, CallingStmt, CallingEvent, CallingTask, Opening}
+use Rattle.uc_putting_laws.specs.Putting.{Setting, Around, around, Mark, Any, At, Homed, rest, rests, anys, FirstUnder, FirstAt, FirstHome, Located, Enters, Loads, spot_at, StandsAt, HomedAt, Holds, after, made_marks, Ok, Left, Runs, Waits}
+use Rattle.uc_putting_laws.proofs.ObjectsWithin.{below_more, under_below}
 
 -- operands
 
@@ -32,26 +33,26 @@ module _ (few : Few) (A : Around) where
   holds_spread [] vs h = tt
   holds_spread (m ∷ ms) vs h = h
 
-  pub holds_own : (ms : List Mark) (vs : List Value) → Holds few A ms vs → FirstOwn ms → Belongs few A.exec (top vs)
-  holds_own [] vs h k = absurd k
-  holds_own (Any ∷ ms) vs h k = absurd k
-  holds_own (Own ∷ ms) vs h k = h.0
-  holds_own (At p ∷ ms) vs h k = absurd k
-  holds_own (Homed p ∷ ms) vs h k = absurd k
-
   -- of the first, where it is the place of a spot, or the object that is at home there
   pub at_of : (ms : List Mark) (vs : List Value) → Holds few A ms vs → (F : Site → Type 0) → FirstAt ms F → (x : Site) × StandsAt few A x (top vs) × F x
   at_of (At x ∷ ms) vs h F k = (x, h.0, k)
   at_of [] vs h F k = absurd k
   at_of (Any ∷ ms) vs h F k = absurd k
-  at_of (Own ∷ ms) vs h F k = absurd k
   at_of (Homed p ∷ ms) vs h F k = absurd k
+
+  -- and where it lies at a spot or further
+  pub under_of : (ms : List Mark) (vs : List Value) → Holds few A ms vs → (F : Spot → Type 0) → FirstUnder ms F → (p : Spot) × LiesUnder (spot_at few A p) (top vs) × F p
+  under_of (At (Under p) ∷ ms) vs h F k = (p, h.0, k)
+  under_of (At (One p) ∷ ms) vs h F k = absurd k
+  under_of (At (Each n p) ∷ ms) vs h F k = absurd k
+  under_of [] vs h F k = absurd k
+  under_of (Any ∷ ms) vs h F k = absurd k
+  under_of (Homed p ∷ ms) vs h F k = absurd k
 
   pub home_of : (ms : List Mark) (vs : List Value) → Holds few A ms vs → (F : Site → Type 0) → FirstHome ms F → (x : Site) × HomedAt few A x (top vs) × F x
   home_of (Homed x ∷ ms) vs h F k = (x, h.0, k)
   home_of [] vs h F k = absurd k
   home_of (Any ∷ ms) vs h F k = absurd k
-  home_of (Own ∷ ms) vs h F k = absurd k
   home_of (At p ∷ ms) vs h F k = absurd k
 
 drop_below : (n : ℕ) (vs : List Value) → drop (suc n) vs ≡ below (drop n vs)
@@ -95,22 +96,29 @@ set_top (suc n) v (w ∷ vs) h = set_top n v vs h
 
 -- places
 
-module _ (t : Table) (few : Few) (A : Around) where
-  -- a spot is the execution's own, if a field of the object at hand is
-  spot_own : (made : Bool) (p : Spot) → (made ≡ true → Belongs few A.exec A.this) → IsOf made p → Belongs few A.exec (spot_at few A p)
-  spot_own made (OfVariable k) h i = frame refl
-  spot_own made (OfField s f) h i = further_own t few A.exec (piece.FieldAt s f) A.this (h i)
+-- what stands at a site lies at its spot, or further
+pub stands_under : (few : Few) (A : Around) (x : Site) (v : Value) → StandsAt few A x v → LiesUnder (spot_at few A (site_spot x)) v
+stands_under few A (One p) v e = subst (LiesUnder (spot_at few A p)) (sym e) same_place
+stands_under few A (Each n p) v e = subst (LiesUnder (spot_at few A p)) (sym e.2) (further_on (piece.At src.Binding e.0) same_place)
+stands_under few A (Under p) v e = e
 
-  none_own : Belongs few A.exec piece.Nothing → ⊥
-  none_own h = elim h [ ]
+-- it is the execution's own, in a frame below the next one, where the object at hand is, if fields of that are named
+module _ (few : Few) (A : Around) (made : Reach) (own : made.builds ≡ true → BelongsBelow few A.exec A.frame A.this) (d : ℕ) (le : A.frame < d) where
+  pub spot_below : (p : Spot) → IsOf made p → BelongsBelow few A.exec d (spot_at few A p)
+  spot_below (OfVariable k) i = in_frame refl le
+  spot_below (OfField s f) i =
+      under_below few A.exec d A.this (further (piece.FieldAt s f) A.this) (further_on (piece.FieldAt s f) same_place) (below_more few A.exec A.frame d (omega (arith, le)) A.this (own i))
 
-  site_own : (made : Bool) (x : Site) (v : Value) → (made ≡ true → Belongs few A.exec A.this) → IsIn made x → StandsAt few A x v → Belongs few A.exec v
-  site_own made (One p) v h i e = subst (Belongs few A.exec) (sym e) (spot_own made p h i)
-  site_own made (Each n p) v h i e = subst (Belongs few A.exec) (sym e.2) (further_own t few A.exec (piece.At src.Binding e.0) (spot_at few A p) (spot_own made p h i))
+  pub under_spot : (p : Spot) → IsOf made p → (v : Value) → LiesUnder (spot_at few A p) v → BelongsBelow few A.exec d v
+  under_spot p i v h = under_below few A.exec d (spot_at few A p) v h (spot_below p i)
 
-  -- so there is one among the operands that is its place
-  pub site_there : (made : Bool) (x : Site) (vs : List Value) → (made ≡ true → Belongs few A.exec A.this) → IsIn made x → StandsAt few A x (top vs) → vs ≡ [] → ⊥
-  site_there made x vs h i e q = none_own (subst (Belongs few A.exec) (ap top q) (site_own made x (top vs) h i e))
+-- so there is one among the operands that is a place at a site
+none_there : (few : Few) (n : Exec) (d : ℕ) → BelongsBelow few n d piece.Nothing → ⊥
+none_there few n d h = elim h [ ]
+
+pub site_there : (few : Few) (A : Around) (made : Reach) → (made.builds ≡ true → BelongsBelow few A.exec A.frame A.this) → (x : Site) → (vs : List Value) → IsIn made x → StandsAt few A x (top vs) → vs ≡ [] → ⊥
+site_there few A made own x vs i e q =
+    none_there few A.exec (suc A.frame) (subst (BelongsBelow few A.exec (suc A.frame)) (ap top q) (under_spot few A made own (suc A.frame) (omega arith) (site_spot x) i (top vs) (stands_under few A x (top vs) e)))
 
 -- an index that an array has
 abbrev pub OfIndex : ℕ → Option ℕ → Type 0
@@ -145,76 +153,127 @@ module _ (t : Table) (few : Few) (n : Exec) where
       by w b (inl m) = absurd (no_marks f v p line w b m)
       by w b (inr m) = m
 
--- no scope of the object at hand opens in statements
+-- a scope of the object at hand opens in what holds that
 module _ (g : Setting) where
-  pub shut : (made : Bool) (ss : Stmts) → CallingStmts g.table g.source g.special made ss → opens_object ss ≡ false
-  shut made src.Nil h = refl
-  shut made (src.Then a ss) h = refl
-  shut made (src.Built c ss) h = refl
-  shut made (src.Scoped (src.Destroys e) ss) h = refl
-  shut made (src.Scoped (src.DestroysAll n e) ss) h = refl
-  shut made (src.Scoped src.Unwinds ss) h = refl
-  shut made (src.Scoped src.Forgets ss) h = refl
-  shut made (src.Scoped src.Leaves ss) h = refl
-  shut made (src.Scoped src.Ends ss) h = absurd h.0
-  shut made (src.Scoped (src.Frees r) ss) h = absurd h.0
-  shut made (src.Scoped (src.Restores k) ss) h = refl
-
-  pub opening_opens : (ss : Stmts) → Opening g.table g.source g.special ss → opens_object ss ≡ true
-  opening_opens (src.Scoped src.Ends ss) h = refl
-  opening_opens (src.Scoped (src.Frees r) ss) h = refl
-  opening_opens ss h = absurd h
+  pub opening_opens : (made : Reach) (ss : Stmts) → Opening g.table g.source g.special made ss → opens_object ss ≡ true
+  opening_opens made (src.Scoped src.Ends ss) h = refl
+  opening_opens made (src.Scoped (src.Frees r) ss) h = refl
+  opening_opens made ss h = absurd h
 
   -- a place calls nothing
-  pub place_plain : (made : Bool) (e : Expr) → PlaceAt g.table g.source g.special made e → PlainExpr g.table g.source g.special e
-  place_plain made (src.Variable k) h = tt
-  place_plain made (src.OfObject (src.OwnField s i)) h = (tt, tt)
-  place_plain made (src.Element n s e i) h = (place_plain made e h.0, h.1)
-  place_plain made e h = absurd h
+  pub place_plain : (made : Reach) (P : Site → Type 0) (e : Expr) → PlaceAt g.table g.source g.special made P e → PlainExpr g.table g.source g.special e
+  place_plain made P (src.Variable k) h = tt
+  place_plain made P (src.OfObject (src.OwnField s i)) h = (tt, tt)
+  place_plain made P (src.Element n s e i) h = (place_plain made P e h.0, h.1)
+  place_plain made P e h = absurd h
 
--- what builds and destroys elements of fewer arrays may where that of more does
-module _ (t : Table) (source : Source) (special : ℕ → Bool) (made : Bool) (P Q : Site → Type 0) (f : (n : ℕ) (p : Spot) → P (Each n p) → Q (Each n p)) where
-  makes_each_more : (e : Expr) → MakesEach t source special made P e → MakesEach t source special made Q e
-  makes_each_more (src.OfObject (src.MakeOn c r written (src.Element n src.Binding (src.Variable k) (src.OfObject src.Counted)) args)) h = (f n (OfVariable k) h.0, h.1)
-  makes_each_more (src.OfObject (src.MakeOn c r written (src.Element n src.Binding (src.OfObject (src.OwnField s i)) (src.OfObject src.Counted)) args)) h = (f n (OfField s i) h.0, h.1, h.2)
-  makes_each_more e h = absurd h
+-- code that names fewer spots, for fewer sites
+module _ (t : Table) (source : Source) (special : ℕ → Bool) (r q : Reach) (wide : (p : Spot) → IsOf r p → IsOf q p) where
+  module _ (P Q : Site → Type 0) (f : (p : Spot) → IsOf r p → P (Under p) → Q (Under p)) where
+    pub place_more : (e : Expr) → PlaceAt t source special r P e → PlaceAt t source special q Q e
+    place_more (src.Variable k) h = (wide (OfVariable k) h.0, f (OfVariable k) h.0 h.1)
+    place_more (src.OfObject (src.OwnField s i)) h = (wide (OfField s i) h.0, f (OfField s i) h.0 h.1)
+    place_more (src.Element n s e i) h = (place_more e h.0, h.1)
+    place_more e h = absurd h
 
-  ends_each_more : (e : Expr) → EndsEach t source special made P e → EndsEach t source special made Q e
-  ends_each_more (src.OfObject (src.EndOn r written (src.Load (src.Element n src.Binding (src.Variable k) (src.OfObject src.Counted))))) h = (f n (OfVariable k) h.0, h.1)
-  ends_each_more (src.OfObject (src.EndOn r written (src.Load (src.Element n src.Binding (src.OfObject (src.OwnField s i)) (src.OfObject src.Counted))))) h = (f n (OfField s i) h.0, h.1, h.2)
-  ends_each_more e h = absurd h
+  module _ (P Q : Site → Type 0) (f : (x : Site) → IsIn r x → P x → Q x) where
+    pub calls_more : (e : Expr) → CallsAt t source special r P e → CallsAt t source special q Q e
+    calls_more (src.OfObject (src.CallOn n x args)) h = (h.0, place_more P Q (λ p. f (Under p)) x h.1, h.2)
+    calls_more (src.OfObject (src.CallUnwritten n x)) h = (h.0, place_more P Q (λ p. f (Under p)) x h.1)
+    calls_more e h = absurd h
 
-  pub fills_more : (e : Expr) → FillsBy t source special made P e → FillsBy t source special made Q e
-  fills_more e (inl h) = inl h
-  fills_more e (inr (inl h)) = inr (inl h)
-  fills_more e (inr (inr h)) = inr (inr (makes_each_more e h))
+    makes_more : (e : Expr) → MakesAt t source special r P e → MakesAt t source special q Q e
+    makes_more (src.OfObject (src.MakeOn c n written (src.Variable k) args)) h = (f (One (OfVariable k)) h.1 h.0, wide (OfVariable k) h.1, h.2)
+    makes_more (src.OfObject (src.MakeOn c n written (src.OfObject (src.OwnField s i)) args)) h = (f (One (OfField s i)) h.1 h.0, wide (OfField s i) h.1, h.2)
+    makes_more e h = absurd h
 
-  pub sweeps_more : (e : Expr) → SweepsBy t source special made P e → SweepsBy t source special made Q e
-  sweeps_more e (inl h) = inl h
-  sweeps_more e (inr (inl h)) = inr (inl h)
-  sweeps_more e (inr (inr h)) = inr (inr (ends_each_more e h))
+    makes_each_more : (e : Expr) → MakesEach t source special r P e → MakesEach t source special q Q e
+    makes_each_more (src.OfObject (src.MakeOn c n written (src.Element m src.Binding (src.Variable k) (src.OfObject src.Counted)) args)) h = (f (Each m (OfVariable k)) h.1 h.0, wide (OfVariable k) h.1, h.2)
+    makes_each_more (src.OfObject (src.MakeOn c n written (src.Element m src.Binding (src.OfObject (src.OwnField s i)) (src.OfObject src.Counted)) args)) h = (f (Each m (OfField s i)) h.1 h.0, wide (OfField s i) h.1, h.2)
+    makes_each_more e h = absurd h
 
--- what is evaluated where the scope of fewer sites opens may be where those of more do
-module _ (t : Table) (source : Source) (special : ℕ → Bool) (made : Bool) (P Q : Site → Type 0) (f : (x : Site) → P x → Q x) where
-  makes_more : (e : Expr) → MakesAt t source special made P e → MakesAt t source special made Q e
-  makes_more (src.OfObject (src.MakeOn c r written (src.Variable k) args)) h = (f (One (OfVariable k)) h.0, h.1)
-  makes_more (src.OfObject (src.MakeOn c r written (src.OfObject (src.OwnField s i)) args)) h = (f (One (OfField s i)) h.0, h.1, h.2)
-  makes_more e h = absurd h
+    pub ends_more : (e : Expr) → EndsAt t source special r P e → EndsAt t source special q Q e
+    ends_more (src.OfObject (src.EndOn n written (src.Load (src.Variable k)))) h = (f (One (OfVariable k)) h.1 h.0, wide (OfVariable k) h.1, h.2)
+    ends_more (src.OfObject (src.EndOn n written (src.Load (src.OfObject (src.OwnField s i))))) h = (f (One (OfField s i)) h.1 h.0, wide (OfField s i) h.1, h.2)
+    ends_more e h = absurd h
 
-  evaluates_more : (e : Expr) → Evaluates t source special made P e → Evaluates t source special made Q e
-  evaluates_more e (inl h) = inl h
-  evaluates_more e (inr (inl h)) = inr (inl h)
-  evaluates_more e (inr (inr (inl h))) = inr (inr (inl h))
-  evaluates_more e (inr (inr (inr h))) = inr (inr (inr (makes_more e h)))
+    ends_each_more : (e : Expr) → EndsEach t source special r P e → EndsEach t source special q Q e
+    ends_each_more (src.OfObject (src.EndOn n written (src.Load (src.Element m src.Binding (src.Variable k) (src.OfObject src.Counted))))) h = (f (Each m (OfVariable k)) h.1 h.0, wide (OfVariable k) h.1, h.2)
+    ends_each_more (src.OfObject (src.EndOn n written (src.Load (src.Element m src.Binding (src.OfObject (src.OwnField s i)) (src.OfObject src.Counted))))) h = (f (Each m (OfField s i)) h.1 h.0, wide (OfField s i) h.1, h.2)
+    ends_each_more e h = absurd h
 
-  pub stmt_more : (a : Stmt) → CallingStmt t source special P made a → CallingStmt t source special Q made a
-  stmt_more (src.Evaluate line e) h = evaluates_more e h
-  stmt_more (src.Fill line n b d) h = (fills_more t source special made P Q (λ n p. f (Each n p)) b h.0, sweeps_more t source special made P Q (λ n p. f (Each n p)) d h.1)
-  stmt_more a h = h
+  pub number_more : (e : Expr) → EndsNumber t source special r e → EndsNumber t source special q e
+  number_more (src.OfObject (src.EndCluster (src.Load x))) h = place_more AnySite AnySite (λ x i y. y) x h
+  number_more (src.OfObject (src.EndProcessor (src.Load x))) h = place_more AnySite AnySite (λ x i y. y) x h
+  number_more e h = absurd h
+
+  binds_more : (e : Expr) → Binds t source special r e → Binds t source special q e
+  binds_more (src.OfObject (src.Bind x e)) h = (place_more AnySite AnySite (λ x i y. y) x h.0, h.1)
+  binds_more e h = absurd h
+
+  module _ (P Q : Site → Type 0) (f : (x : Site) → IsIn r x → P x → Q x) where
+    pub fills_more : (e : Expr) → FillsBy t source special r P e → FillsBy t source special q Q e
+    fills_more e (inl h) = inl (binds_more e h)
+    fills_more e (inr (inl h)) = inr (inl (calls_more P Q f e h))
+    fills_more e (inr (inr h)) = inr (inr (makes_each_more P Q f e h))
+
+    pub sweeps_more : (e : Expr) → SweepsBy t source special r P e → SweepsBy t source special q Q e
+    sweeps_more e (inl h) = inl (number_more e h)
+    sweeps_more e (inr (inl h)) = inr (inl (calls_more P Q f e h))
+    sweeps_more e (inr (inr h)) = inr (inr (ends_each_more P Q f e h))
+
+    pub evaluates_more : (e : Expr) → Evaluates t source special r P e → Evaluates t source special q Q e
+    evaluates_more e (inl h) = inl h
+    evaluates_more e (inr (inl h)) = inr (inl (binds_more e h))
+    evaluates_more e (inr (inr (inl h))) = inr (inr (inl (calls_more P Q f e h)))
+    evaluates_more e (inr (inr (inr h))) = inr (inr (inr (makes_more P Q f e h)))
+
+  pub cleans_more : (c : CleanUp) → CleansBy t source special r c → CleansBy t source special q c
+  cleans_more (src.Destroys e) (inl h) = inl (number_more e h)
+  cleans_more (src.Destroys e) (inr (inl h)) = inr (inl (calls_more (IsSpotOf (src.Destroys e)) (IsSpotOf (src.Destroys e)) (λ x i y. y) e h))
+  cleans_more (src.Destroys e) (inr (inr h)) = inr (inr (ends_more (IsSpotOf (src.Destroys e)) (IsSpotOf (src.Destroys e)) (λ x i y. y) e h))
+  cleans_more (src.DestroysAll n e) h = sweeps_more (IsSpotOf (src.DestroysAll n e)) (IsSpotOf (src.DestroysAll n e)) (λ x i y. y) e h
+  cleans_more c h = h
+
+  raises_more : (x : Raised) → RaisesBy t source special r x → RaisesBy t source special q x
+  raises_more (src.Plainly n) h = h
+  raises_more (src.BuiltAt n k e) h = calls_more (IsAtVariable k) (IsAtVariable k) (λ x i y. y) e h
+  raises_more (src.AgainFrom k) h = h
+
+-- statements within others may stand where those of constructors may
+pub apart_wide : (made : Reach) (p : Spot) → IsOf (apart made) p → IsOf made p
+apart_wide made (OfVariable k) h = h
+apart_wide made (OfField s i) h = absurd (cc)
+
+module _ (t : Table) (source : Source) (special : ℕ → Bool) (made : Reach) where
+  event_more : (a : EventStmt) → CallingEvent t source special (apart made) a → CallingEvent t source special made a
+  event_more (src.Throw line x) h = raises_more t source special (apart made) made (apart_wide made) x h
+  event_more (src.Raise line x) h = raises_more t source special (apart made) made (apart_wide made) x h
+  event_more (src.RaiseAt line x e) h = (raises_more t source special (apart made) made (apart_wide made) x h.0, h.1)
+  event_more a h = h
+
+  task_more : (a : TaskStmt) → CallingTask t source special (apart made) a → CallingTask t source special made a
+  task_more (src.SetUp n) h = let e : false ≡ true = h.0 in absurd (cc)
+  task_more (src.Migrate line e) h = h
+  task_more (src.Accept line site cs) h = h
+  task_more a h = h
+
+  pub stmt_more : (P Q : Site → Type 0) → ((x : Site) → IsIn (apart made) x → P x → Q x) → (a : Stmt) → CallingStmt t source special P (apart made) a → CallingStmt t source special Q made a
+  stmt_more P Q f (src.Evaluate line e) h = evaluates_more t source special (apart made) made (apart_wide made) P Q f e h
+  stmt_more P Q f (src.Fill line n b d) h = (fills_more t source special (apart made) made (apart_wide made) P Q f b h.0, sweeps_more t source special (apart made) made (apart_wide made) P Q f d h.1)
+  stmt_more P Q f (src.OfEvents a) h = event_more a h
+  stmt_more P Q f (src.OfTasks a) h = task_more a h
+  stmt_more P Q f a h = h
 
 -- to-do lists that are left
 
-module _ (g : Setting) (A : Around) (made : Bool) where
+module _ (g : Setting) (A : Around) (made : Reach) where
+  placed : (e : Expr) (todo : List Todo) (ms : List Mark) → ((ms : List Mark) → Ok g A made ms todo → Left g A made todo) → PlaceAt g.table g.source g.special made (λ x. Ok g A made (At x ∷ ms) todo) e → Left g A made todo
+  placed (src.Variable k) todo ms next h = next (At (Under (OfVariable k)) ∷ ms) h.1
+  placed (src.OfObject (src.OwnField s i)) todo ms next h = next (At (Under (OfField s i)) ∷ ms) h.1
+  placed (src.Element n s e i) todo ms next h = placed e todo ms next h.0
+  placed e todo ms next h = absurd h
+
   -- what is known of a place or not is left alike
   located : (e : Expr) (todo : List Todo) (f : Site → Mark) (ms : List Mark) → ((ms : List Mark) → Ok g A made ms todo → Left g A made todo) → Located e (λ x. Ok g A made (f x ∷ ms) todo) → Left g A made todo
   located (src.Variable k) todo f ms next h = next (f (One (OfVariable k)) ∷ ms) h
@@ -231,10 +290,10 @@ module _ (g : Setting) (A : Around) (made : Bool) where
   first_at (At x ∷ ns) todo F next h = next x h
   first_at [] todo F next h = absurd h
   first_at (Any ∷ ns) todo F next h = absurd h
-  first_at (Own ∷ ns) todo F next h = absurd h
   first_at (Homed x ∷ ns) todo F next h = absurd h
 
   enters : (n : ℕ) (k : src.Shape) (x : Site) (todo : List Todo) (F : Site → Type 0) → ((x : Site) → F x → Left g A made todo) → Enters n k x F → Left g A made todo
+  enters n k (Under p) todo F next h = next (Under p) h
   enters n src.Binding (One p) todo F next h = next (Each n p) h
   enters n k x todo F next h = absurd h
 
@@ -244,7 +303,7 @@ module _ (g : Setting) (A : Around) (made : Bool) where
   left ms (piece.Eval e ∷ todo) (n, inr (inl h)) = left (Any ∷ ms) todo h.1
   left ms (piece.Eval e ∷ todo) (n, inr (inr (inl h))) = left (Any ∷ ms) todo h.1
   left ms (piece.Eval e ∷ todo) (n, inr (inr (inr (inl h)))) = left (Any ∷ ms) todo h.1
-  left ms (piece.Eval e ∷ todo) (n, inr (inr (inr (inr (inl h))))) = left (Own ∷ ms) todo h.1
+  left ms (piece.Eval e ∷ todo) (n, inr (inr (inr (inr (inl h))))) = placed e todo ms (λ ns k. left ns todo k) h
   left ms (piece.Eval e ∷ todo) (n, inr (inr (inr (inr (inr (inl h)))))) = located e todo At ms (λ ns k. left ns todo k) h
   left ms (piece.Eval e ∷ todo) (n, inr (inr (inr (inr (inr (inr (inl h))))))) = loaded e todo ms (λ ns k. left ns todo k) h.1
   left ms (piece.Eval e ∷ todo) (n, inr (inr (inr (inr (inr (inr (inr (inl h)))))))) = left (Any ∷ ms) todo h.1
@@ -253,12 +312,9 @@ module _ (g : Setting) (A : Around) (made : Bool) where
   left ms (piece.LoadNow ∷ todo) (inl h) = left (Any ∷ rest ms) todo h
   left ms (piece.LoadNow ∷ todo) (inr h) = first_at ms todo (λ x. Ok g A made (Homed x ∷ rest ms) todo) (λ x k. left (Homed x ∷ rest ms) todo k) h.1
   left ms (piece.ElementNow n s ∷ todo) (inl h) = left (Any ∷ rest (rest ms)) todo h
-  left ms (piece.ElementNow n s ∷ todo) (inr (inl h)) = left (Own ∷ rest (rest ms)) todo h.1
-  left ms (piece.ElementNow n s ∷ todo) (inr (inr h)) = first_at (rest ms) todo (λ x. Enters n s x (λ y. Ok g A made (At y ∷ rest (rest ms)) todo)) (λ x k. enters n s x todo (λ y. Ok g A made (At y ∷ rest (rest ms)) todo) (λ y l. left (At y ∷ rest (rest ms)) todo l) k) h
-  left ms (piece.MakeNow c r ∷ todo) (inl h) = left (made_marks g r Any ms) todo h
-  left ms (piece.MakeNow c r ∷ todo) (inr h) = first_at (rests (params g.source r) ms) todo (λ x. IsIn made x × Ok g A made (made_marks g r (Homed x) ms) todo) (λ x k. left (made_marks g r (Homed x) ms) todo k.1) h
-  left ms (piece.BindMadeNow c r ∷ todo) (inl h) = left (made_marks g r Any (rest ms)) todo h
-  left ms (piece.BindMadeNow c r ∷ todo) (inr h) = first_at (rests (params g.source r) (rest ms)) todo (λ x. IsIn made x × Ok g A made (made_marks g r (Homed x) (rest ms)) todo) (λ x k. left (made_marks g r (Homed x) (rest ms)) todo k.1) h
+  left ms (piece.ElementNow n s ∷ todo) (inr h) = first_at (rest ms) todo (λ x. Enters n s x (λ y. Ok g A made (At y ∷ rest (rest ms)) todo)) (λ x k. enters n s x todo (λ y. Ok g A made (At y ∷ rest (rest ms)) todo) (λ y l. left (At y ∷ rest (rest ms)) todo l) k) h
+  left ms (piece.MakeNow c r ∷ todo) h = first_at (rests (params g.source r) ms) todo (λ x. IsIn made x × Ok g A made (made_marks g r (Homed x) ms) todo) (λ x k. left (made_marks g r (Homed x) ms) todo k.1) h
+  left ms (piece.BindMadeNow c r ∷ todo) h = first_at (rests (params g.source r) (rest ms)) todo (λ x. IsIn made x × Ok g A made (made_marks g r (Homed x) (rest ms)) todo) (λ x k. left (made_marks g r (Homed x) (rest ms)) todo k.1) h
   left ms (piece.Exit w ∷ todo) h = h
   left ms (piece.Unwind ∷ todo) h = h
   left ms (piece.InLoop o t e b ∷ todo) h = h
@@ -288,8 +344,9 @@ module _ (g : Setting) (A : Around) (made : Bool) where
 -- of activations that wait, each before older ones
 module _ (g : Setting) (n : Exec) where
   pub record ActiveLeft (older : List Active) (a : Active) : Type 0 where
-    pub made : Bool
+    pub made : Reach
     pub rest : Left g (around n a older) made a.control
+    pub seat : IsSeated g.table g.few made n older a.frame a.this
 
   abbrev pub AllLeft : List Active → Type 0
   AllLeft [] = Unit {0}
@@ -297,4 +354,4 @@ module _ (g : Setting) (n : Exec) where
 
   pub waits_left : (cs : List Active) → AllWait (Runs g) (Waits g) n cs → AllLeft cs
   waits_left [] h = tt
-  waits_left (a ∷ cs) h = (record { made = h.0.made; rest = left g (around n a cs) h.0.made (Any ∷ h.0.marks) a.control h.0.ok }, waits_left cs h.1)
+  waits_left (a ∷ cs) h = (record { made = h.0.made; rest = left g (around n a cs) h.0.made (Any ∷ h.0.marks) a.control h.0.ok; seat = h.0.this }, waits_left cs h.1)

@@ -1,98 +1,68 @@
--- A mark that is put next is put for what is the execution's own.
-use Rattle.std.proofs.Common.{◌≡◌, ℕ, ◌⊎◌, inl, inr, Bool, true, List, ◌∷◌, sym, subst}
+-- A mark that is put next is put for what is the execution's own, and nothing outwards stands around it.
+use Rattle.std.proofs.Common.{◌≡◌, ℕ, inl, inr, true, List, ◌∷◌, sym, subst}
 use Rattle.uc_tree.specs.Source as src
-use Rattle.uc_tree.specs.Source.{Shape, Expr, CleanUp, Source}
-use Rattle.uc_machine.specs.declared.exec.Exec.{Exec}
+use Rattle.uc_tree.specs.Source.{Shape, CleanUp}
 use Rattle.uc_machine.specs.Pieces as piece
-use Rattle.uc_machine.specs.Pieces.{Value, Todo, State}
-use Rattle.uc_typing.specs.Typing.{Ty, Cell, Obj, Row, Clu, Pro, Table, DestroysAt, CleansAt}
-use Rattle.uc_unmarked_laws.specs.Belonging.{Belongs}
+use Rattle.uc_machine.specs.Pieces.{Todo, State, further}
+use Rattle.uc_typing.specs.Typing.{Ty, Cell, Obj, CleansAt}
 use Rattle.uc_unmarked_laws.specs.Marks.{OwnFields, Sole, OfClean, PutsAt}
-use Rattle.uc_putting_laws.specs.Calling.{Site, PlaceAt, CallsAt, EndsAt, EndsEach, EndsNumber, CleansBy, AnySite, IsField, HasCount}
-use Rattle.uc_putting_laws.specs.Putting.{Setting, Mark, CodeStmts, CodeOpening, Ok}
-use Rattle.uc_putting_laws.specs.PuttingLaws.{SoleNow, FairAt, LawPuts}
+use Rattle.uc_unmarked_laws.specs.Ending.{OfField}
+use Rattle.uc_putting_laws.specs.CleanedSpots.{spot_of, Reach, apart, AllBelow, IsOutermost, Ascends}
+use Rattle.uc_putting_laws.specs.ObjectsAtHand.{LiesUnder, there, IsSeated}
+use Rattle.uc_putting_laws.specs.Calling.{CleansBy}
+use Rattle.uc_putting_laws.specs.Putting.{Setting, Mark, CodeRest, Ok}
+use Rattle.uc_putting_laws.specs.PuttingLaws.{LawPuts}
+use Rattle.uc_putting_laws.proofs.CleanedSpots.{cleans_spot, spot_named, apart_outermost, next_mark, all_others}
+use Rattle.uc_putting_laws.proofs.ObjectsWithin.{below_own, within_under}
+use Rattle.uc_putting_laws.proofs.Fields.{field_lone}
+use Rattle.uc_putting_laws.proofs.Marks.{apart_wide, cleans_more}
 use Rattle.uc_putting_laws.proofs.Steps.{here}
 
--- the place of what an expression destroys
-abbrev PlacedAt : Expr → Expr → Type 0
-PlacedAt x (src.OfObject (src.CallOn r q args)) = x ≡ q
-PlacedAt x (src.OfObject (src.CallUnwritten r q)) = x ≡ q
-PlacedAt x (src.OfObject (src.EndOn r written (src.Load q))) = x ≡ q
-PlacedAt x (src.OfObject (src.EndCluster (src.Load q))) = x ≡ q
-PlacedAt x (src.OfObject (src.EndProcessor (src.Load q))) = x ≡ q
-PlacedAt x e = ⊥
+module _ (g : Setting) (s : State) (made : Reach) (this : IsSeated g.table g.few made s.env.exec s.callers s.run.frame s.run.this) where
+  -- a clean-up for a field of the object at hand
+  named : (c : CleanUp) → CleansBy g.table g.source g.special made c → (h : Shape) (i : ℕ) (a : Ty) → CleansAt g.table a (src.OfObject (src.OwnField h i)) c → made.builds ≡ true
+  named c n h i a d = spot_named g.table g.source g.special made (OfField h i) c n (cleans_spot g.table a (src.OfObject (src.OwnField h i)) c d)
 
-placed : (t : Table) (a : Ty) (x e : Expr) → DestroysAt t a x e → PlacedAt x e
-placed t (Obj c) x (src.OfObject (src.CallOn r q args)) d = d.0
-placed t (Obj c) x (src.OfObject (src.CallUnwritten r q)) d = d.0
-placed t (Cell (Obj c)) x (src.OfObject (src.EndOn r written (src.Load q))) d = d.0
-placed t (Cell Clu) x (src.OfObject (src.EndCluster (src.Load q))) d = d
-placed t (Cell Pro) x (src.OfObject (src.EndProcessor (src.Load q))) d = d
-placed t a x e d = absurd d
+  owns : (c : CleanUp) → CleansBy g.table g.source g.special made c → OwnFields g.table g.few s.env.exec s.run.frame s.run.this s.callers c
+  owns c n w a m = below_own g.few s.env.exec s.run.frame s.run.this (this.own (named c n m.0 m.1 a m.2))
 
-module _ (g : Setting) (made : Bool) where
-  abbrev Placed : Expr → Type 0
-  Placed e = PlaceAt g.table g.source g.special made e
+  alone : (c : CleanUp) (todo : List Todo) → CleansBy g.table g.source g.special made c → IsOutermost (spot_of c) todo → Sole g.table g.few s.env.exec s.run.frame s.run.this s.callers c todo
+  alone c todo n o w a m v d e h st =
+      let below : AllBelow m.1 todo = subst (λ x. IsOutermost x todo) (cleans_spot g.table a (src.OfObject (src.OwnField m.0 m.1)) c m.2) o in
+      let builds : made.builds ≡ true = named c n m.0 m.1 a m.2 in
+      let under : LiesUnder (further (piece.FieldAt m.0 m.1) s.run.this) v = subst (λ x. LiesUnder x v) m.3 (within_under g.table w a v (Cell (Obj d)) h) in
+      field_lone g.table g.few s.env.exec s.run.frame s.run.this s.callers todo m.1 (all_others g.table m.1 todo below) (below_own g.few s.env.exec s.run.frame s.run.this (this.own builds)) (this.alone builds) m.0 v e (there under) st
 
-  number_place : (e x : Expr) → EndsNumber g.table g.source g.special made e → PlacedAt x e → Placed x
-  number_place (src.OfObject (src.EndCluster (src.Load q))) x k p = subst Placed (sym p) k
-  number_place (src.OfObject (src.EndProcessor (src.Load q))) x k p = subst Placed (sym p) k
-  number_place e x k p = absurd k
+  put : (c : CleanUp) (todo : List Todo) → CleansBy g.table g.source g.special made c → IsOutermost (spot_of c) todo → OfClean g.table g.few s.env.exec s.run.frame s.run.this s.callers c todo
+  put src.Ends todo n o = absurd n
+  put (src.Frees r) todo n o = absurd n
+  put (src.Destroys e) todo n o = (owns (src.Destroys e) n, alone (src.Destroys e) todo n o)
+  put (src.DestroysAll m e) todo n o = (owns (src.DestroysAll m e) n, alone (src.DestroysAll m e) todo n o)
+  put src.Unwinds todo n o = (owns src.Unwinds n, alone src.Unwinds todo n o)
+  put src.Forgets todo n o = (owns src.Forgets n, alone src.Forgets todo n o)
+  put src.Leaves todo n o = (owns src.Leaves n, alone src.Leaves todo n o)
+  put (src.Restores k) todo n o = (owns (src.Restores k) n, alone (src.Restores k) todo n o)
 
-  call_place : (e x : Expr) → CallsAt g.table g.source g.special made e → PlacedAt x e → Placed x
-  call_place (src.OfObject (src.CallOn r q args)) x k p = subst Placed (sym p) k.1
-  call_place (src.OfObject (src.CallUnwritten r q)) x k p = subst Placed (sym p) k.1
-  call_place e x k p = absurd k
+  -- within other statements it is for no field
+  put_apart : (c : CleanUp) (todo : List Todo) → CleansBy g.table g.source g.special (apart made) c → OfClean g.table g.few s.env.exec s.run.frame s.run.this s.callers c todo
+  put_apart c todo n = put c todo (cleans_more g.table g.source g.special (apart made) made (apart_wide made) c n) (apart_outermost g.table g.source g.special made c todo n)
 
-  spot_place : (P : Site → Type 0) (e x : Expr) → EndsAt g.table g.source g.special made P e → PlacedAt x e → Placed x
-  spot_place P (src.OfObject (src.EndOn r w (src.Load (src.Variable k)))) x n p = subst Placed (sym p) tt
-  spot_place P (src.OfObject (src.EndOn r w (src.Load (src.OfObject (src.OwnField s i))))) x n p = subst Placed (sym p) n.1
-  spot_place P e x n p = absurd n
+  scoped : (c : CleanUp) (ss : src.Stmts) (todo : List Todo) → CodeRest g (here s) made (src.Scoped c ss) todo → OfClean g.table g.few s.env.exec s.run.frame s.run.this s.callers c todo
+  scoped c ss todo (inl n) = put_apart c todo n.1.0
+  scoped c ss todo (inr (inl n)) = put c todo n.0.1.0 (next_mark (spot_of c) n.1.0 todo (λ m. Ascends m ss) n.1.2 n.1.1).outermost
+  scoped src.Ends ss todo (inr (inr n)) = n.4
+  scoped (src.Frees r) ss todo (inr (inr n)) = n.4
+  scoped c ss todo (inr (inr n)) = absurd n.2
 
-  each_place : (P : Site → Type 0) (e x : Expr) → EndsEach g.table g.source g.special made P e → PlacedAt x e → Placed x
-  each_place P (src.OfObject (src.EndOn r w (src.Load (src.Element n src.Binding (src.Variable k) (src.OfObject src.Counted))))) x h p = subst Placed (sym p) (tt, (tt, tt))
-  each_place P (src.OfObject (src.EndOn r w (src.Load (src.Element n src.Binding (src.OfObject (src.OwnField s i)) (src.OfObject src.Counted))))) x h p = subst Placed (sym p) (h.1, (tt, tt))
-  each_place P e x h p = absurd h
+  built : (c : CleanUp) (ss : src.Stmts) (todo : List Todo) → CodeRest g (here s) made (src.Built c ss) todo → OfClean g.table g.few s.env.exec s.run.frame s.run.this s.callers c todo
+  built c ss todo (inl n) = put_apart c todo n.1.0
+  built c ss todo (inr (inl n)) = put c todo n.0.1.0 (next_mark (spot_of c) n.1.0 todo (λ m. Ascends m ss) n.1.2 n.1.1).outermost
+  built c ss todo (inr (inr n)) = absurd n.2
 
-  -- so a clean-up for a field of the object at hand stands in code of a constructor or a destructor
-  owned : (P : Site → Type 0) (c : CleanUp) → CleansBy g.table g.source g.special made P c → (a : Ty) (s : Shape) (i : ℕ) → CleansAt g.table a (src.OfObject (src.OwnField s i)) c → made ≡ true
-  owned P (src.Destroys e) (inl k) a s i d = number_place e (src.OfObject (src.OwnField s i)) k (placed g.table a (src.OfObject (src.OwnField s i)) e d)
-  owned P (src.Destroys e) (inr (inl k)) a s i d = call_place e (src.OfObject (src.OwnField s i)) k (placed g.table a (src.OfObject (src.OwnField s i)) e d)
-  owned P (src.Destroys e) (inr (inr k)) a s i d = spot_place P e (src.OfObject (src.OwnField s i)) k (placed g.table a (src.OfObject (src.OwnField s i)) e d)
-  owned P (src.DestroysAll m e) (inl k) (Row n a) s i d = (number_place e _ k (placed g.table a _ e d.1)).0
-  owned P (src.DestroysAll m e) (inr (inl k)) (Row n a) s i d = (call_place e _ k (placed g.table a _ e d.1)).0
-  owned P (src.DestroysAll m e) (inr (inr k)) (Row n a) s i d = (each_place (λ x. P x × HasCount m x) e _ k (placed g.table a _ e d.1)).0
-  owned P c k a s i d = absurd d
-
-  module _ (n : Exec) (f : ℕ) (this : Value) (older : List piece.Active) (own : made ≡ true → Belongs g.few n this) where
-    own_fields : (P : Site → Type 0) (c : CleanUp) → CleansBy g.table g.source g.special made P c → OwnFields g.table g.few n f this older c
-    own_fields P c k w a m = own (owned P c k a m.0 m.1 m.2)
-
-    clean : (P : Site → Type 0) (c : CleanUp) (todo : List Todo) → CleansBy g.table g.source g.special made P c → Sole g.table g.few n f this older c todo → OfClean g.table g.few n f this older c todo
-    clean P src.Ends todo k h = absurd k
-    clean P (src.Frees r) todo k h = absurd k
-    clean P (src.Destroys e) todo k h = (own_fields P (src.Destroys e) k, h)
-    clean P (src.DestroysAll m e) todo k h = (own_fields P (src.DestroysAll m e) k, h)
-    clean P src.Unwinds todo k h = (own_fields P src.Unwinds k, h)
-    clean P src.Forgets todo k h = (own_fields P src.Forgets k, h)
-    clean P src.Leaves todo k h = (own_fields P src.Leaves k, h)
-    clean P (src.Restores c) todo k h = (own_fields P (src.Restores c) k, h)
-
-module _ (g : Setting) (s : State) (made : Bool) (own : made ≡ true → Belongs g.few s.env.exec s.run.this) where
-  scoped : (c : CleanUp) (ss : src.Stmts) (todo : List Todo) → CodeStmts g made (src.Scoped c ss) ⊎ CodeOpening g (here s) made (src.Scoped c ss) todo → SoleNow g c todo s → OfClean g.table g.few s.env.exec s.run.frame s.run.this s.callers c todo
-  scoped c ss todo (inl n) h = clean g made s.env.exec s.run.frame s.run.this s.callers own AnySite c todo n.1.0 h
-  scoped src.Ends ss todo (inr n) h = n.3
-  scoped (src.Frees r) ss todo (inr n) h = n.3
-  scoped c ss todo (inr n) h = absurd n.2
-
-  built : (c : CleanUp) (ss : src.Stmts) (todo : List Todo) → CodeStmts g made (src.Built c ss) ⊎ CodeOpening g (here s) made (src.Built c ss) todo → SoleNow g c todo s → OfClean g.table g.few s.env.exec s.run.frame s.run.this s.callers c todo
-  built c ss todo (inl n) h = clean g made s.env.exec s.run.frame s.run.this s.callers own IsField c todo n.1.0 h
-  built c ss todo (inr n) h = absurd n.2
-
-  puts : (ms : List Mark) (l : List Todo) → Ok g (here s) made ms l → FairAt g l s → PutsAt g.table g.few l s
-  puts ms (piece.Rest (src.Scoped c ss) ∷ todo) h f = scoped c ss todo h.0 f
-  puts ms (piece.Rest (src.Built c ss) ∷ todo) h f = built c ss todo h.0 f
-  puts ms l h f = tt
+  puts : (ms : List Mark) (l : List Todo) → Ok g (here s) made ms l → PutsAt g.table g.few l s
+  puts ms (piece.Rest (src.Scoped c ss) ∷ todo) h = scoped c ss todo h.0
+  puts ms (piece.Rest (src.Built c ss) ∷ todo) h = built c ss todo h.0
+  puts ms l h = tt
 
 pub law_puts : LawPuts
-law_puts g s h f = puts g s h.run.made h.run.this h.run.marks s.run.control h.run.ok f
+law_puts g s h = puts g s h.run.made h.run.this h.run.marks s.run.control h.run.ok

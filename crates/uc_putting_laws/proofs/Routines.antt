@@ -1,5 +1,5 @@
 -- In the source of every program that breaks no rule constructors and destructors are called where they may be.
-use Rattle.std.proofs.Common.{◌≡◌, ℕ, zero, suc, ◌+◌, ◌++◌, inl, inr, map, Bool, true, false, List, [], ◌∷◌, length, Option, Some, None, refl, ap}
+use Rattle.std.proofs.Common.{◌≡◌, ℕ, zero, suc, ◌+◌, ◌≤◌, ◌++◌, inl, inr, map, Bool, true, false, List, [], ◌∷◌, length, Option, Some, None, refl, sym, ap, subst, arith}
 use Rattle.std.specs.Prelude.{slice_get, if◌then◌else◌}
 use Rattle.uc_tree.specs.declared.kinds.Kind.{Kind}
 use Rattle.uc_tree.specs.declared.kinds.Kind.TheVariants as kind
@@ -26,7 +26,8 @@ use Rattle.uc_sound.specs.Tables.{table_of}
 use Rattle.uc_value_laws.specs.Makers.{roles}
 use Rattle.uc_enter_laws.proofs.Lookups.{MakesPlain, making_plain}
 use Rattle.uc_unmarked_laws.specs.Ending.{OfField}
-use Rattle.uc_putting_laws.specs.Calling.{Site, OpensFor, Evaluates, AnySite, IsField, CallingStmts, CallingBody, CallingRoutine}
+use Rattle.uc_putting_laws.specs.CleanedSpots.{Site, spot_of, OpensFor, reach_of, AscendsBy, Ascends}
+use Rattle.uc_putting_laws.specs.Calling.{Evaluates, CallingStmts, CallingBody, CallingRoutine}
 use Rattle.uc_putting_laws.specs.PuttingLaws.{is_special, special_of, LawCalling}
 use Rattle.uc_putting_laws.proofs.Roles.{main_plain, program_main_plain}
 use Rattle.uc_putting_laws.proofs.Expressions as expressions
@@ -35,10 +36,10 @@ use Rattle.uc_putting_laws.proofs.Statements as statements
 
 module _ (p : Program) (formed : IsFormed p) (u : Unbroken (program_visits p)) where
   abbrev Fine : Stmts → Type 0
-  Fine ss = CallingStmts (table_of p) (source_of p) (special_of p) true ss
+  Fine ss = CallingStmts (table_of p) (source_of p) (special_of p) (reach_of true) ss
 
   abbrev Plain : Stmts → Type 0
-  Plain ss = CallingStmts (table_of p) (source_of p) (special_of p) false ss
+  Plain ss = CallingStmts (table_of p) (source_of p) (special_of p) (reach_of false) ss
 
   -- fields
 
@@ -46,8 +47,8 @@ module _ (p : Program) (formed : IsFormed p) (u : Unbroken (program_visits p)) w
   init_args s None = tt
   init_args s (Some x) = statements.args p formed u s x.args
 
-  field_start : (P : Site → Type 0) (b : Bool) (s : Shape) (k : Shape) (i : ℕ) (m : Meant) → MeantPlain p m → Evaluates (table_of p) (source_of p) (special_of p) true P (meaning.field_start p b s (src.OfObject (src.OwnField k i)) m)
-  field_start P true s k i m h = inr (inl ((tt, tt), inl h.expr))
+  field_start : (P : Site → Type 0) (b : Bool) (s : Shape) (k : Shape) (i : ℕ) (m : Meant) → MeantPlain p m → Evaluates (table_of p) (source_of p) (special_of p) (reach_of true) P (meaning.field_start p b s (src.OfObject (src.OwnField k i)) m)
+  field_start P true s k i m h = inr (inl ((refl, tt), inl h.expr))
   field_start P false s k i m h = inl ((tt, tt), expressions.converted p s (tree.value_of m) (expressions.value_of p m h))
 
   field_started : (f : ClassField) (k : Shape) (i : ℕ) (args : List Meant) (rest : Stmts) → AllMeant p args → Fine rest → Fine (meaning.field_started p f (src.OfObject (src.OwnField k i)) args rest)
@@ -57,12 +58,12 @@ module _ (p : Program) (formed : IsFormed p) (u : Unbroken (program_visits p)) w
   field_built : (m : Option Making) (f : ClassField) (len : Option ℕ) (k : Shape) (i : ℕ) (args : List Meant) (rest : Stmts) → MakesPlain p m → AllMeant p args → Fine rest → Fine (meaning.field_built p m f len (src.OfObject (src.OwnField k i)) args rest)
   field_built None f len k i args rest c h l = field_started f k i args rest h l
   field_built (Some m) f len k i args rest c h l =
-      (statements.build p formed u true 0 m len (OfField k i) args rest c refl h, (statements.clean_up p formed u true IsField m len (OfField k i) c refl (statements.field_site p formed u true len k i), l))
+      (statements.build p formed u (reach_of true) 0 m len (OfField k i) args rest c refl h, (statements.clean_up p formed u (reach_of true) m len (OfField k i) c refl, l))
 
   -- fields are destroyed in a destructor
   field_left : (m : Option Making) (len : Option ℕ) (k : Shape) (i : ℕ) (rest : Stmts) → MakesPlain p m → Fine rest → Fine (meaning.field_left p m len (src.OfObject (src.OwnField k i)) rest)
   field_left None len k i rest c l = l
-  field_left (Some m) len k i rest c l = (statements.clean_up p formed u true AnySite m len (OfField k i) c refl (statements.any_site p formed u true len (OfField k i)), l)
+  field_left (Some m) len k i rest c l = (statements.clean_up p formed u (reach_of true) m len (OfField k i) c refl, l)
 
   field_class : (f : ClassField) → MakesPlain p (meaning.field_making p f)
   field_class f = by f.declarator.by_ref
@@ -93,7 +94,7 @@ module _ (p : Program) (formed : IsFormed p) (u : Unbroken (program_visits p)) w
   set_up c i rest at h = by (has_execution c.kind) refl
     where
       by : (b : Bool) → has_execution c.kind ≡ b → Fine (meaning.set_up p b i rest)
-      by true e = (main_plain p formed u i c at (executes_main c.kind e), (tt, h))
+      by true e = ((refl, main_plain p formed u i c at (executes_main c.kind e)), (tt, h))
       by false e = h
 
   started_in : (b : Bool) (body : Stmts) → Fine body → Fine (meaning.started_in p b body)
@@ -112,21 +113,73 @@ module _ (p : Program) (formed : IsFormed p) (u : Unbroken (program_visits p)) w
   forgotten false rest h = h
   forgotten true rest h = (tt, h)
 
+  -- fields get their marks in order
+
+  cleaned : (n : ℕ) (m : Making) (len : Option ℕ) (k : Shape) (i : ℕ) (rest : Stmts) → n ≤ i → Ascends (suc i) rest → AscendsBy (spot_of (meaning.clean_up p m len (src.OfObject (src.OwnField k i)))) n (λ j. Ascends j rest)
+  cleaned n m len k i rest le h = subst (λ o. AscendsBy o n (λ j. Ascends j rest)) (sym (statements.spot_cleaned p formed u m len (OfField k i))) (le, h)
+
+  started_order : (f : ClassField) (place : Expr) (args : List Meant) (n : ℕ) (rest : Stmts) → Ascends n rest → Ascends n (meaning.field_started p f place args rest)
+  started_order f place [] n rest h = h
+  started_order f place (m ∷ ms) n rest h = h
+
+  built_order : (m : Option Making) (f : ClassField) (len : Option ℕ) (k : Shape) (i n : ℕ) (args : List Meant) (rest : Stmts) → n ≤ i → ((j : ℕ) → j ≤ suc i → Ascends j rest) → Ascends n (meaning.field_built p m f len (src.OfObject (src.OwnField k i)) args rest)
+  built_order None f len k i n args rest le h = started_order f (src.OfObject (src.OwnField k i)) args n rest (h n (omega (arith, le)))
+  built_order (Some m) f len k i n args rest le h = cleaned n m len k i rest le (h (suc i) (omega arith))
+
+  left_order : (m : Option Making) (len : Option ℕ) (k : Shape) (i n : ℕ) (rest : Stmts) → n ≤ i → ((j : ℕ) → j ≤ suc i → Ascends j rest) → Ascends n (meaning.field_left p m len (src.OfObject (src.OwnField k i)) rest)
+  left_order None len k i n rest le h = h n (omega (arith, le))
+  left_order (Some m) len k i n rest le h = cleaned n m len k i rest le (h (suc i) (omega arith))
+
+  -- from any number on
+  abbrev Orderly : Stmts → Type 0
+  Orderly ss = (n : ℕ) → Ascends n ss
+
+  module _ (c : whole.Class) (i : ℕ) where
+    all_built : (inits : List whole.Init) (s : Scope) (fs : List ClassField) (n m : ℕ) (rest : Stmts) → m ≤ n → Orderly rest → Ascends m (meaning.fields_built p c i inits s fs n rest)
+    all_built inits s [] n m rest le h = h m
+    all_built inits s (f ∷ fs) n m rest le h =
+        built_order (meaning.field_making p f) f (meaning.length_in_class p c i f) (class_shape p i) n m (meaning.init_args p s (meaning.init_named p inits f.declarator.name)) (meaning.fields_built p c i inits s fs (suc n) rest) le (λ j l. all_built inits s fs (suc n) j rest l h)
+
+    all_left : (fs : List ClassField) (n m : ℕ) (rest : Stmts) → m ≤ n → Orderly rest → Ascends m (meaning.fields_left p c i fs n rest)
+    all_left [] n m rest le h = h m
+    all_left (f ∷ fs) n m rest le h =
+        left_order (meaning.field_making p f) (meaning.length_in_class p c i f) (class_shape p i) n m (meaning.fields_left p c i fs (suc n) rest) le (λ j l. all_left fs (suc n) j rest l h)
+
+  set_up_order : (b : Bool) (i n : ℕ) (rest : Stmts) → Ascends n rest → Ascends n (meaning.set_up p b i rest)
+  set_up_order true i n rest h = h
+  set_up_order false i n rest h = h
+
+  started_in_order : (b : Bool) (body : Stmts) → Orderly body → Orderly (meaning.started_in p b body)
+  started_in_order false body h = h
+  started_in_order true body h = h
+
+  taken_down_order : (b : Bool) (body : Stmts) → Orderly body → Orderly (meaning.taken_down p b body)
+  taken_down_order false body h = h
+  taken_down_order true body h = h
+
+  forgotten_order : (b : Bool) (n : ℕ) (rest : Stmts) → Ascends n rest → Ascends n (meaning.forgotten p b rest)
+  forgotten_order false n rest h = h
+  forgotten_order true n rest h = h
+
+  enlivened_order : (b : Bool) → Orderly (meaning.enlivened p b)
+  enlivened_order false = λ n. tt
+  enlivened_order true = λ n. tt
+
   -- a whole body, which may hold the object that it builds or destroys
   abbrev Body : Stmts → Type 0
   Body ss = CallingBody (table_of p) (source_of p) (special_of p) true ss
 
-  freed : (c : whole.Class) (k : Kind) (i : ℕ) (rest : Stmts) → c.kind ≡ k → class_at p i ≡ Some c → Fine rest → Body (meaning.freed p k i rest)
-  freed c kind.Monitor i rest e at h = inr (tt, h)
-  freed c kind.Cormonitor i rest e at h = inr (tt, h)
-  freed c kind.Task i rest e at h = inr (main_plain p formed u i c at (ap has_main e), h)
-  freed c kind.Class i rest e at h = inl h
-  freed c kind.Coroutine i rest e at h = inl h
-  freed c kind.Event i rest e at h = inl h
+  freed : (c : whole.Class) (k : Kind) (i : ℕ) (rest : Stmts) → c.kind ≡ k → class_at p i ≡ Some c → Fine rest → Ascends 0 rest → Body (meaning.freed p k i rest)
+  freed c kind.Monitor i rest e at h o = inr (tt, h, o)
+  freed c kind.Cormonitor i rest e at h o = inr (tt, h, o)
+  freed c kind.Task i rest e at h o = inr (main_plain p formed u i c at (ap has_main e), h, o)
+  freed c kind.Class i rest e at h o = inl (h, o)
+  freed c kind.Coroutine i rest e at h o = inl (h, o)
+  freed c kind.Event i rest e at h o = inl (h, o)
 
-  ending : (b : Bool) (rest : Stmts) → Fine rest → Body (meaning.ending p b rest)
-  ending false rest h = inl h
-  ending true rest h = inr h
+  ending : (b : Bool) (rest : Stmts) → Fine rest → Ascends 0 rest → Body (meaning.ending p b rest)
+  ending false rest h o = inl (h, o)
+  ending true rest h o = inr (h, o)
 
   -- the class at a place, if it has one
   abbrev IsAt : Option whole.Class → ℕ → Type 0
@@ -137,19 +190,26 @@ module _ (p : Program) (formed : IsFormed p) (u : Unbroken (program_visits p)) w
   at_is i None e = tt
   at_is i (Some c) e = e
 
-  construction : (o : Option whole.Class) (i : ℕ) (inits : List whole.Init) (s : Scope) (body : Stmts) → IsAt o i → Fine body → Body (meaning.construction p o i inits s body)
-  construction None i inits s body at h = inl h
-  construction (Some c) i inits s body at h =
-      freed c c.kind i _ refl at (set_up c i _ at (fields_built c i inits s (fields_of c.members) (leading_cells c.kind) _ (started_in (has_execution c.kind) body h)))
+  construction : (o : Option whole.Class) (i : ℕ) (inits : List whole.Init) (s : Scope) (body : Stmts) → IsAt o i → Fine body → Orderly body → Body (meaning.construction p o i inits s body)
+  construction None i inits s body at h o = inl (h, o 0)
+  construction (Some c) i inits s body at h o =
+      let x : Bool = has_execution c.kind in
+      let order : Orderly (meaning.started_in p x body) = started_in_order x body o in
+      freed c c.kind i _ refl at (set_up c i _ at (fields_built c i inits s (fields_of c.members) (leading_cells c.kind) _ (started_in x body h))) (set_up_order x i 0 _ (all_built c i inits s (fields_of c.members) (leading_cells c.kind) 0 _ (omega arith) order))
 
-  destruction : (o : Option whole.Class) (i : ℕ) (body : Stmts) → Fine body → Body (meaning.destruction p o i body)
-  destruction None i body h = inl h
-  destruction (Some c) i body h =
-      ending (is_mutex c.kind) _ (forgotten (has_execution c.kind) _ (fields_left c i (fields_of c.members) (leading_cells c.kind) _ (taken_down (has_execution c.kind) body h)))
+  destruction : (o : Option whole.Class) (i : ℕ) (body : Stmts) → Fine body → Orderly body → Body (meaning.destruction p o i body)
+  destruction None i body h o = inl (h, o 0)
+  destruction (Some c) i body h o =
+      let x : Bool = has_execution c.kind in
+      ending (is_mutex c.kind) _ (forgotten x _ (fields_left c i (fields_of c.members) (leading_cells c.kind) _ (taken_down x body h))) (forgotten_order x 0 _ (all_left c i (fields_of c.members) (leading_cells c.kind) 0 _ (omega arith) (taken_down_order x body o)))
 
   construction_ends : (o : Option whole.Class) (i : ℕ) → Fine (meaning.construction_ends p o i)
   construction_ends None i = tt
   construction_ends (Some c) i = enlivened (has_execution c.kind)
+
+  ends_order : (o : Option whole.Class) (i : ℕ) → Orderly (meaning.construction_ends p o i)
+  ends_order None i = λ n. tt
+  ends_order (Some c) i = enlivened_order (has_execution c.kind)
 
   -- routines
 
@@ -169,15 +229,15 @@ module _ (p : Program) (formed : IsFormed p) (u : Unbroken (program_visits p)) w
   class_is (Some i) = at_is i (class_at p i) refl
 
   body_by : (x : Role) (r : whole.Routine) (s : Scope) → CallingBody (table_of p) (source_of p) (special_of p) (is_special (Some x)) (meaning.body_by p x r s)
-  body_by role.Plain r s = plain_body (meaning.has_number_in p (meaning.class_by p s.class) r.sig) r _ (statements.all p formed u false r.body s)
+  body_by role.Plain r s = plain_body (meaning.has_number_in p (meaning.class_by p s.class) r.sig) r _ (statements.all p formed u r.body s)
   body_by role.Constructor r s =
-      construction (meaning.class_by p s.class) (meaning.place_or_zero p s.class) r.inits s _ (class_is s.class) (statements.all p formed u true r.body s, construction_ends (meaning.class_by p s.class) (meaning.place_or_zero p s.class))
-  body_by role.Destructor r s = destruction (meaning.class_by p s.class) (meaning.place_or_zero p s.class) _ (statements.all p formed u true r.body s, tt)
+      construction (meaning.class_by p s.class) (meaning.place_or_zero p s.class) r.inits s _ (class_is s.class) (statements.all p formed u r.body s, construction_ends (meaning.class_by p s.class) (meaning.place_or_zero p s.class)) (ends_order (meaning.class_by p s.class) (meaning.place_or_zero p s.class))
+  body_by role.Destructor r s = destruction (meaning.class_by p s.class) (meaning.place_or_zero p s.class) _ (statements.all p formed u r.body s, tt) (λ n. tt)
 
   unwritten_body : (x : Role) (i : ℕ) → CallingBody (table_of p) (source_of p) (special_of p) (is_special (Some x)) (meaning.unwritten_body p x i)
   unwritten_body role.Plain i = tt
-  unwritten_body role.Constructor i = construction (class_at p i) i [] (meaning.nowhere p) _ (at_is i (class_at p i) refl) (construction_ends (class_at p i) i)
-  unwritten_body role.Destructor i = destruction (class_at p i) i src.Nil tt
+  unwritten_body role.Constructor i = construction (class_at p i) i [] (meaning.nowhere p) _ (at_is i (class_at p i) refl) (construction_ends (class_at p i) i) (ends_order (class_at p i) i)
+  unwritten_body role.Destructor i = destruction (class_at p i) i src.Nil tt (λ n. tt)
 
   -- all routines of a source, each by its role
 

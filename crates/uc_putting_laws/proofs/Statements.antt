@@ -1,5 +1,5 @@
 -- What statements of a program stand for calls constructors and destructors where they may be called.
-use Rattle.std.proofs.Common.{◌≡◌, ℕ, ◌+◌, inl, inr, Bool, true, false, List, [], ◌∷◌, Option, Some, None, refl}
+use Rattle.std.proofs.Common.{◌≡◌, ℕ, ◌+◌, ◌≤◌, inl, inr, false, List, [], ◌∷◌, Option, Some, None, refl, sym, ap, ◌∙◌, arith}
 use Rattle.std.specs.Prelude.{slice_get}
 use Rattle.uc_tree.specs.declared.kinds.Base.{Base}
 use Rattle.uc_tree.specs.declared.kinds.Role.{Role}
@@ -24,8 +24,8 @@ use Rattle.uc_sound.proofs.MemberLemmas.{tells_maker}
 use Rattle.uc_depth_laws.specs.Entering.{lets_go, holds_object}
 use Rattle.uc_enter_laws.proofs.Lookups.{IsPlainClass, IsObjectClass, MakesPlain, making_plain, event_free, written_free, unwritten_free}
 use Rattle.uc_unmarked_laws.specs.Ending.{Spot, OfVariable, OfField, naming}
-use Rattle.uc_putting_laws.specs.Calling.{Site, One, Each, element_at, of_object, opens_object, opens_at, EndsWhole, OpensFor, NoSite, PlainExpr, PlainMaybe, PlainItems, PlainTargets, PlainDeclared, PlaceAt, CallsAt, MakesAt, MakesEach, EndsAt, EndsEach, Evaluates, FillsBy, SweepsBy, AnySite, IsField, HasCount, CleansBy, RaisesBy, CallingStmt, CallingStmts, CallingHandlers, CallingClauses}
-use Rattle.uc_putting_laws.specs.Putting.{IsOf}
+use Rattle.uc_putting_laws.specs.CleanedSpots.{Site, One, Each, Under, site_spot, NoSite, AnySite, place_spot, spot_in, spot_of, IsSpotOf, OpensFor, Reach, reach_of, IsOf}
+use Rattle.uc_putting_laws.specs.Calling.{of_object, opens_object, opens_at, EndsWhole, PlainExpr, PlainMaybe, PlainItems, PlainTargets, PlainDeclared, PlaceAt, CallsAt, MakesAt, MakesEach, EndsAt, EndsEach, Evaluates, FillsBy, SweepsBy, CleansBy, RaisesBy, CallingStmt, CallingStmts, CallingHandlers, CallingClauses}
 use Rattle.uc_putting_laws.specs.PuttingLaws.{special_of}
 use Rattle.uc_putting_laws.proofs.Marks.{stmt_more}
 use Rattle.uc_putting_laws.proofs.Expressions as expressions
@@ -53,10 +53,17 @@ pub shut_at : (o : Option Routine) → holds_object (routine_or_none o).body ≡
 shut_at None h = refl
 shut_at (Some r) h = kept_in r.body h
 
+-- the element that is counted of an array of so many bindings
+abbrev pub element_at : ℕ → Spot → Expr
+element_at n q = src.Element n src.Binding (naming q) (src.OfObject src.Counted)
+
 -- what opens behind what builds an object: the scope of a variable, or a part
 abbrev pub behind : Spot → CleanUp → Stmts → Stmts
 behind (OfVariable k) c rest = src.Scoped c rest
 behind (OfField s i) c rest = src.Built c rest
+
+low_least : (k : ℕ) → 0 ≤ k
+low_least k = omega arith
 
 module _ (p : Program) (formed : IsFormed p) (u : Unbroken (program_visits p)) where
   -- objects
@@ -75,124 +82,109 @@ module _ (p : Program) (formed : IsFormed p) (u : Unbroken (program_visits p)) w
       let k = tells_maker p formed u i c.class role.Destructor c.at c.object refl in
       record { class = i; this = k.unwritten_this e; whole = k.unwritten_whole e }
 
-  module _ (made : Bool) where
-    place_at : (q : Spot) → IsOf made q → PlaceAt (table_of p) (source_of p) (special_of p) made (naming q)
-    place_at (OfVariable k) h = tt
-    place_at (OfField s i) h = h
+  -- a clean-up is for the spot of what it destroys
 
-    place_plain : (q : Spot) → PlainExpr (table_of p) (source_of p) (special_of p) (naming q)
-    place_plain (OfVariable k) = tt
-    place_plain (OfField s i) = (tt, tt)
+  named_spot : (q : Spot) → place_spot (naming q) ≡ Some q
+  named_spot (OfVariable k) = refl
+  named_spot (OfField s i) = refl
 
-    called_by : (i : ℕ) (wanted : Role) (place : Expr) (args : List Meant) (r : Option ℕ) → IsPlainClass p i → is_plain wanted ≡ false → written_at p i wanted ≡ r → PlaceAt (table_of p) (source_of p) (special_of p) made place → AllMeant p args → CallsAt (table_of p) (source_of p) (special_of p) made (meaning.called_by p i wanted place args r)
-    called_by i wanted place args None c w e h k = (shut_at (slice_get (source_of p).routines (unwritten_number p i wanted)) (unwritten_free p formed u i wanted c w e), h)
-    called_by i wanted place args (Some r) c w e h k = (shut_at (slice_get (source_of p).routines r) (written_free p formed u i r wanted c w e), h, expressions.args_by p (tree.params_of p r) args k)
+  called_spot : (i : ℕ) (e : Expr) (r : Option ℕ) → spot_in (meaning.called_by p i role.Destructor e [] r) ≡ place_spot e
+  called_spot i e None = refl
+  called_spot i e (Some r) = refl
+
+  ended_spot : (i : ℕ) (e : Expr) (r : Option ℕ) → spot_in (meaning.ended_by p i (src.Load e) r) ≡ place_spot e
+  ended_spot i e None = refl
+  ended_spot i e (Some r) = refl
+
+  destroyed_spot : (m : Making) (e : Expr) → spot_in (meaning.destroyed p m e) ≡ place_spot e
+  destroyed_spot (APlain i) e = called_spot i e (written_at p i role.Destructor)
+  destroyed_spot (AMutex i) e = ended_spot i e (written_at p i role.Destructor)
+  destroyed_spot ACluster e = refl
+  destroyed_spot AProcessor e = refl
+
+  pub spot_cleaned : (m : Making) (len : Option ℕ) (q : Spot) → spot_of (meaning.clean_up p m len (naming q)) ≡ Some q
+  spot_cleaned m None q = destroyed_spot m (naming q) ∙ named_spot q
+  spot_cleaned m (Some n) q = destroyed_spot m (meaning.counted_element p m n (naming q)) ∙ named_spot q
+
+  -- behind what builds something at a spot opens the scope of that
+  opens_behind : (m : Making) (len : Option ℕ) (q : Spot) (rest : Stmts) (x : Site) → site_spot x ≡ q → OpensFor (behind q (meaning.clean_up p m len (naming q)) rest) x
+  opens_behind m len (OfVariable k) rest x e = spot_cleaned m len (OfVariable k) ∙ ap Some (sym e)
+  opens_behind m len (OfField s i) rest x e = spot_cleaned m len (OfField s i) ∙ ap Some (sym e)
+
+  module _ (made : Reach) where
+    place_at : (P : Site → Type 0) (q : Spot) → IsOf made q → P (Under q) → PlaceAt (table_of p) (source_of p) (special_of p) made P (naming q)
+    place_at P (OfVariable k) h o = (h, o)
+    place_at P (OfField s i) h o = (h, o)
+
+    called_by : (P : Site → Type 0) (i : ℕ) (wanted : Role) (place : Expr) (args : List Meant) (r : Option ℕ) → IsPlainClass p i → is_plain wanted ≡ false → written_at p i wanted ≡ r → PlaceAt (table_of p) (source_of p) (special_of p) made P place → AllMeant p args → CallsAt (table_of p) (source_of p) (special_of p) made P (meaning.called_by p i wanted place args r)
+    called_by P i wanted place args None c w e h k = (shut_at (slice_get (source_of p).routines (unwritten_number p i wanted)) (unwritten_free p formed u i wanted c w e), h)
+    called_by P i wanted place args (Some r) c w e h k = (shut_at (slice_get (source_of p).routines r) (written_free p formed u i r wanted c w e), h, expressions.args_by p (tree.params_of p r) args k)
 
     made_at : (P : Site → Type 0) (i : ℕ) (q : Spot) (args : List Meant) (r : Option ℕ) → IsOf made q → P (One q) → AllMeant p args → MakesAt (table_of p) (source_of p) (special_of p) made P (meaning.made_by p i (naming q) args r)
-    made_at P i (OfVariable k) args None n o a = (o, tt)
-    made_at P i (OfVariable k) args (Some r) n o a = (o, expressions.args_by p (tree.params_of p r) args a)
+    made_at P i (OfVariable k) args None n o a = (o, n, tt)
+    made_at P i (OfVariable k) args (Some r) n o a = (o, n, expressions.args_by p (tree.params_of p r) args a)
     made_at P i (OfField s j) args None n o a = (o, n, tt)
     made_at P i (OfField s j) args (Some r) n o a = (o, n, expressions.args_by p (tree.params_of p r) args a)
 
     ended_at : (P : Site → Type 0) (i : ℕ) (q : Spot) (r : Option ℕ) → IsObjectClass p i → written_at p i role.Destructor ≡ r → IsOf made q → P (One q) → EndsAt (table_of p) (source_of p) (special_of p) made P (meaning.ended_by p i (src.Load (naming q)) r)
-    ended_at P i (OfVariable k) None c e n o = (o, unwritten_whole i c e)
-    ended_at P i (OfVariable k) (Some r) c e n o = (o, whole_by i c r e)
+    ended_at P i (OfVariable k) None c e n o = (o, n, unwritten_whole i c e)
+    ended_at P i (OfVariable k) (Some r) c e n o = (o, n, whole_by i c r e)
     ended_at P i (OfField s j) None c e n o = (o, n, unwritten_whole i c e)
     ended_at P i (OfField s j) (Some r) c e n o = (o, n, whole_by i c r e)
 
-    -- the scope of a mutex object, or the part, is of what is made there
-    opens_for : (i : ℕ) (q : Spot) (rest : Stmts) (r : Option ℕ) → OpensFor (behind q (src.Destroys (meaning.ended_by p i (src.Load (naming q)) r)) rest) (One q)
-    opens_for i (OfVariable k) rest None = (unwritten_number p i role.Destructor, false, refl)
-    opens_for i (OfVariable k) rest (Some r) = (r, true, refl)
-    opens_for i (OfField s j) rest None = (unwritten_number p i role.Destructor, false, refl)
-    opens_for i (OfField s j) rest (Some r) = (r, true, refl)
+    constructed : (P : Site → Type 0) (m : Making) (q : Spot) (args : List Meant) → MakesPlain p (Some m) → IsOf made q → ((x : Site) → site_spot x ≡ q → P x) → AllMeant p args → Evaluates (table_of p) (source_of p) (special_of p) made P (meaning.constructed p m (naming q) args)
+    constructed P (APlain i) q args c n f k = inr (inr (inl (called_by P i role.Constructor (naming q) args (written_at p i role.Constructor) c refl refl (place_at P q n (f (Under q) refl)) k)))
+    constructed P (AMutex i) q args c n f k = inr (inr (inr (made_at P i q args (written_at p i role.Constructor) n (f (One q) refl) k)))
+    constructed P ACluster q args c n f k = inr (inl (place_at AnySite q n tt, inr tt))
+    constructed P AProcessor q args c n f k = inr (inl (place_at AnySite q n tt, inr (cluster_in args k)))
 
-    constructed : (m : Making) (q : Spot) (args : List Meant) (rest : Stmts) → MakesPlain p (Some m) → IsOf made q → AllMeant p args → Evaluates (table_of p) (source_of p) (special_of p) made (OpensFor (behind q (meaning.clean_up p m None (naming q)) rest)) (meaning.constructed p m (naming q) args)
-    constructed (APlain i) q args rest c n k = inr (inr (inl (called_by i role.Constructor (naming q) args (written_at p i role.Constructor) c refl refl (place_at q n) k)))
-    constructed (AMutex i) q args rest c n k = inr (inr (inr (made_at (OpensFor (behind q (meaning.clean_up p (AMutex i) None (naming q)) rest)) i q args (written_at p i role.Constructor) n (opens_for i q rest (written_at p i role.Destructor)) k)))
-    constructed ACluster q args rest c n k = inr (inl (place_plain q, inr tt))
-    constructed AProcessor q args rest c n k = inr (inl (place_plain q, inr (cluster_in args k)))
-
-    counted_at : (m : Making) (n : ℕ) (q : Spot) → IsOf made q → PlaceAt (table_of p) (source_of p) (special_of p) made (meaning.counted_element p m n (naming q))
-    counted_at m n q h = (place_at q h, (tt, tt))
-
-    counted_plain : (m : Making) (n : ℕ) (q : Spot) → PlainExpr (table_of p) (source_of p) (special_of p) (meaning.counted_element p m n (naming q))
-    counted_plain m n q = (place_plain q, (tt, tt))
-
-    -- the scope of an array of them is of what is made there
-    opens_each : (i n : ℕ) (q : Spot) (rest : Stmts) (r : Option ℕ) → OpensFor (behind q (src.DestroysAll n (meaning.ended_by p i (src.Load (element_at n q)) r)) rest) (Each n q)
-    opens_each i n (OfVariable k) rest None = (unwritten_number p i role.Destructor, false, refl)
-    opens_each i n (OfVariable k) rest (Some r) = (r, true, refl)
-    opens_each i n (OfField s j) rest None = (unwritten_number p i role.Destructor, false, refl)
-    opens_each i n (OfField s j) rest (Some r) = (r, true, refl)
+    counted_at : (P : Site → Type 0) (m : Making) (n : ℕ) (q : Spot) → IsOf made q → P (Under q) → PlaceAt (table_of p) (source_of p) (special_of p) made P (meaning.counted_element p m n (naming q))
+    counted_at P m n q h o = (place_at P q h o, (tt, tt))
 
     makes_each : (P : Site → Type 0) (i n : ℕ) (q : Spot) (r : Option ℕ) → IsOf made q → P (Each n q) → MakesEach (table_of p) (source_of p) (special_of p) made P (meaning.made_by p i (element_at n q) [] r)
-    makes_each P i n (OfVariable k) None h o = (o, tt)
-    makes_each P i n (OfVariable k) (Some r) h o = (o, expressions.args_by p (tree.params_of p r) [] tt)
+    makes_each P i n (OfVariable k) None h o = (o, h, tt)
+    makes_each P i n (OfVariable k) (Some r) h o = (o, h, expressions.args_by p (tree.params_of p r) [] tt)
     makes_each P i n (OfField s j) None h o = (o, h, tt)
     makes_each P i n (OfField s j) (Some r) h o = (o, h, expressions.args_by p (tree.params_of p r) [] tt)
 
     ends_each : (P : Site → Type 0) (i n : ℕ) (q : Spot) (r : Option ℕ) → IsObjectClass p i → written_at p i role.Destructor ≡ r → IsOf made q → P (Each n q) → EndsEach (table_of p) (source_of p) (special_of p) made P (meaning.ended_by p i (src.Load (element_at n q)) r)
-    ends_each P i n (OfVariable k) None c e h o = (o, unwritten_whole i c e)
-    ends_each P i n (OfVariable k) (Some r) c e h o = (o, whole_by i c r e)
+    ends_each P i n (OfVariable k) None c e h o = (o, h, unwritten_whole i c e)
+    ends_each P i n (OfVariable k) (Some r) c e h o = (o, h, whole_by i c r e)
     ends_each P i n (OfField s j) None c e h o = (o, h, unwritten_whole i c e)
     ends_each P i n (OfField s j) (Some r) c e h o = (o, h, whole_by i c r e)
 
-    -- where a mutex object may be such an element
-    abbrev IfMutex : Making → Type 0 → Type 0
-    IfMutex (AMutex i) Q = Q
-    IfMutex m Q = Unit {0}
+    fills : (P : Site → Type 0) (m : Making) (n : ℕ) (q : Spot) → MakesPlain p (Some m) → IsOf made q → ((x : Site) → site_spot x ≡ q → P x) → FillsBy (table_of p) (source_of p) (special_of p) made P (meaning.constructed p m (meaning.counted_element p m n (naming q)) [])
+    fills P (APlain i) n q c h f = inr (inl (called_by P i role.Constructor (meaning.counted_element p (APlain i) n (naming q)) [] (written_at p i role.Constructor) c refl refl (counted_at P (APlain i) n q h (f (Under q) refl)) tt))
+    fills P (AMutex i) n q c h f = inr (inr (makes_each P i n q (written_at p i role.Constructor) h (f (Each n q) refl)))
+    fills P ACluster n q c h f = inl (counted_at AnySite ACluster n q h tt, inr tt)
+    fills P AProcessor n q c h f = inl (counted_at AnySite AProcessor n q h tt, inr tt)
 
-    fills : (P : Site → Type 0) (m : Making) (n : ℕ) (q : Spot) → MakesPlain p (Some m) → IsOf made q → IfMutex m (P (Each n q)) → FillsBy (table_of p) (source_of p) (special_of p) made P (meaning.constructed p m (meaning.counted_element p m n (naming q)) [])
-    fills P (APlain i) n q c h o = inr (inl (called_by i role.Constructor (meaning.counted_element p (APlain i) n (naming q)) [] (written_at p i role.Constructor) c refl refl (counted_at (APlain i) n q h) tt))
-    fills P (AMutex i) n q c h o = inr (inr (makes_each P i n q (written_at p i role.Constructor) h o))
-    fills P ACluster n q c h o = inl (counted_plain ACluster n q, inr tt)
-    fills P AProcessor n q c h o = inl (counted_plain AProcessor n q, inr tt)
-
-    sweeps : (P : Site → Type 0) (m : Making) (n : ℕ) (q : Spot) → MakesPlain p (Some m) → IsOf made q → IfMutex m (P (Each n q)) → SweepsBy (table_of p) (source_of p) (special_of p) made P (meaning.destroyed p m (meaning.counted_element p m n (naming q)))
-    sweeps P (APlain i) n q c h o = inr (inl (called_by i role.Destructor (meaning.counted_element p (APlain i) n (naming q)) [] (written_at p i role.Destructor) c refl refl (counted_at (APlain i) n q h) tt))
-    sweeps P (AMutex i) n q c h o = inr (inr (ends_each P i n q (written_at p i role.Destructor) c refl h o))
-    sweeps P ACluster n q c h o = inl (counted_at ACluster n q h)
-    sweeps P AProcessor n q c h o = inl (counted_at AProcessor n q h)
-
-    opens_elements : (m : Making) (n : ℕ) (q : Spot) (rest : Stmts) → IfMutex m (OpensFor (behind q (meaning.clean_up p m (Some n) (naming q)) rest) (Each n q))
-    opens_elements (AMutex i) n q rest = opens_each i n q rest (written_at p i role.Destructor)
-    opens_elements (APlain i) n q rest = tt
-    opens_elements ACluster n q rest = tt
-    opens_elements AProcessor n q rest = tt
-
-    if_mutex : (m : Making) (Q : Type 0) → Q → IfMutex m Q
-    if_mutex (AMutex i) Q h = h
-    if_mutex (APlain i) Q h = tt
-    if_mutex ACluster Q h = tt
-    if_mutex AProcessor Q h = tt
+    sweeps : (P : Site → Type 0) (m : Making) (n : ℕ) (q : Spot) → MakesPlain p (Some m) → IsOf made q → ((x : Site) → site_spot x ≡ q → P x) → SweepsBy (table_of p) (source_of p) (special_of p) made P (meaning.destroyed p m (meaning.counted_element p m n (naming q)))
+    sweeps P (APlain i) n q c h f = inr (inl (called_by P i role.Destructor (meaning.counted_element p (APlain i) n (naming q)) [] (written_at p i role.Destructor) c refl refl (counted_at P (APlain i) n q h (f (Under q) refl)) tt))
+    sweeps P (AMutex i) n q c h f = inr (inr (ends_each P i n q (written_at p i role.Destructor) c refl h (f (Each n q) refl)))
+    sweeps P ACluster n q c h f = inl (counted_at AnySite ACluster n q h tt)
+    sweeps P AProcessor n q c h f = inl (counted_at AnySite AProcessor n q h tt)
 
     pub build : (line : ℕ) (m : Making) (len : Option ℕ) (q : Spot) (args : List Meant) (rest : Stmts) → MakesPlain p (Some m) → IsOf made q → AllMeant p args → CallingStmt (table_of p) (source_of p) (special_of p) (OpensFor (behind q (meaning.clean_up p m len (naming q)) rest)) made (meaning.build p line m len (naming q) args)
-    build line m None q args rest c n k = constructed m q args rest c n k
+    build line m None q args rest c n k = constructed (OpensFor (behind q (meaning.clean_up p m None (naming q)) rest)) m q args c n (opens_behind m None q rest) k
     build line m (Some len) q args rest c n k =
         let P : Site → Type 0 = OpensFor (behind q (meaning.clean_up p m (Some len) (naming q)) rest) in
-        (fills P m len q c n (opens_elements m len q rest), sweeps P m len q c n (opens_elements m len q rest))
+        (fills P m len q c n (opens_behind m (Some len) q rest), sweeps P m len q c n (opens_behind m (Some len) q rest))
 
-    -- a clean-up ends what may be there
-    abbrev pub AtSite : (Site → Type 0) → Option ℕ → Spot → Type 0
-    AtSite P None q = P (One q)
-    AtSite P (Some n) q = P (Each n q)
+    -- a clean-up ends what is at its spot
 
-    pub clean_up : (P : Site → Type 0) (m : Making) (len : Option ℕ) (q : Spot) → MakesPlain p (Some m) → IsOf made q → AtSite P len q → CleansBy (table_of p) (source_of p) (special_of p) made P (meaning.clean_up p m len (naming q))
-    clean_up P (APlain i) None q c n o = inr (inl (called_by i role.Destructor (naming q) [] (written_at p i role.Destructor) c refl refl (place_at q n) tt))
-    clean_up P (AMutex i) None q c n o = inr (inr (ended_at P i q (written_at p i role.Destructor) c refl n o))
-    clean_up P ACluster None q c n o = inl (place_at q n)
-    clean_up P AProcessor None q c n o = inl (place_at q n)
-    clean_up P m (Some len) q c n o = sweeps (λ x. P x × HasCount len x) m len q c n (if_mutex m (P (Each len q) × HasCount len (Each len q)) (o, refl))
+    cleaned_at : (m : Making) (len : Option ℕ) (q : Spot) (x : Site) → site_spot x ≡ q → IsSpotOf (meaning.clean_up p m len (naming q)) x
+    cleaned_at m len q x e = spot_cleaned m len q ∙ ap Some (sym e)
 
-    -- at any site, and at a field
-    pub any_site : (len : Option ℕ) (q : Spot) → AtSite AnySite len q
-    any_site None q = tt
-    any_site (Some n) q = tt
-
-    pub field_site : (len : Option ℕ) (s : Shape) (i : ℕ) → AtSite IsField len (OfField s i)
-    field_site None s i = tt
-    field_site (Some n) s i = tt
+    pub clean_up : (m : Making) (len : Option ℕ) (q : Spot) → MakesPlain p (Some m) → IsOf made q → CleansBy (table_of p) (source_of p) (special_of p) made (meaning.clean_up p m len (naming q))
+    clean_up (APlain i) None q c n =
+        let P : Site → Type 0 = IsSpotOf (meaning.clean_up p (APlain i) None (naming q)) in
+        inr (inl (called_by P i role.Destructor (naming q) [] (written_at p i role.Destructor) c refl refl (place_at P q n (cleaned_at (APlain i) None q (Under q) refl)) tt))
+    clean_up (AMutex i) None q c n =
+        inr (inr (ended_at (IsSpotOf (meaning.clean_up p (AMutex i) None (naming q))) i q (written_at p i role.Destructor) c refl n (cleaned_at (AMutex i) None q (One q) refl)))
+    clean_up ACluster None q c n = inl (place_at AnySite q n tt)
+    clean_up AProcessor None q c n = inl (place_at AnySite q n tt)
+    clean_up m (Some len) q c n = sweeps (IsSpotOf (meaning.clean_up p m (Some len) (naming q))) m len q c n (cleaned_at m (Some len) q)
 
   -- expressions in a scope
   pub meant : (s : Scope) (e : expr.Expr) → MeantPlain p (tree.meant (meaning.context_at p s) e)
@@ -235,13 +227,13 @@ module _ (p : Program) (formed : IsFormed p) (u : Unbroken (program_visits p)) w
 
   -- events
 
-  built_event : (made : Bool) (s : Scope) (n : ℕ) (name : List ℕ) (r : Option ℕ) (ms : List Meant) → meaning.event_constructor p name ≡ r → AllMeant p ms → RaisesBy (table_of p) (source_of p) (special_of p) made (meaning.built_event p s n r ms)
-  built_event made s n name None ms e k = tt
-  built_event made s n name (Some r) ms e k = (shut_at (slice_get (source_of p).routines r) (event_free p formed u r name e), tt, expressions.args_by p (tree.params_of p r) ms k)
+  built_event : (s : Scope) (n : ℕ) (name : List ℕ) (r : Option ℕ) (ms : List Meant) → meaning.event_constructor p name ≡ r → AllMeant p ms → RaisesBy (table_of p) (source_of p) (special_of p) (reach_of false) (meaning.built_event p s n r ms)
+  built_event s n name None ms e k = tt
+  built_event s n name (Some r) ms e k = (shut_at (slice_get (source_of p).routines r) (event_free p formed u r name e), (low_least s.hidden, refl), expressions.args_by p (tree.params_of p r) ms k)
 
-  raised : (made : Bool) (s : Scope) (r : Option stmt.Raised) → RaisesBy (table_of p) (source_of p) (special_of p) made (meaning.raised_meant p s r)
-  raised made s None = tt
-  raised made s (Some r) = built_event made s (meaning.number_of_event p r.name) r.name (meaning.event_constructor p r.name) (tree.args_meant (meaning.context_at p s) r.args) refl (args s r.args)
+  raised : (s : Scope) (r : Option stmt.Raised) → RaisesBy (table_of p) (source_of p) (special_of p) (reach_of false) (meaning.raised_meant p s r)
+  raised s None = tt
+  raised s (Some r) = built_event s (meaning.number_of_event p r.name) r.name (meaning.event_constructor p r.name) (tree.args_meant (meaning.context_at p s) r.args) refl (args s r.args)
 
   test : (s : Scope) (e : Option expr.Expr) → PlainExpr (table_of p) (source_of p) (special_of p) (meaning.test_of p s e)
   test s None = tt
@@ -255,84 +247,84 @@ module _ (p : Program) (formed : IsFormed p) (u : Unbroken (program_visits p)) w
   returned s None = tt
   returned s (Some e) = expressions.converted p (shape_of (tree.result_of p s.routine)) _ (value s e)
 
-  scoped : (made : Bool) (m : Making) (line : ℕ) (b : Base) (d : Declarator) (s : Scope) (rest : Stmts) → MakesPlain p (Some m) → CallingStmts (table_of p) (source_of p) (special_of p) made rest → CallingStmts (table_of p) (source_of p) (special_of p) made (meaning.object_scoped p m line b d s rest)
-  scoped made m line b d s rest c h =
+  scoped : (m : Making) (line : ℕ) (b : Base) (d : Declarator) (s : Scope) (rest : Stmts) → MakesPlain p (Some m) → CallingStmts (table_of p) (source_of p) (special_of p) (reach_of false) rest → CallingStmts (table_of p) (source_of p) (special_of p) (reach_of false) (meaning.object_scoped p m line b d s rest)
+  scoped m line b d s rest c h =
       let len : Option ℕ = meaning.length_of p d d.len in
-      ((tt, tt), (build made line m len (OfVariable s.cells) (meaning.start_args p s d.start) rest c tt (start_args s d.start), (clean_up made AnySite m len (OfVariable s.cells) c tt (any_site made len (OfVariable s.cells)), h)))
+      ((tt, tt), (build (reach_of false) line m len (OfVariable s.cells) (meaning.start_args p s d.start) rest c (low_least s.cells) (start_args s d.start), (clean_up (reach_of false) m len (OfVariable s.cells) c (low_least s.cells), h)))
 
-  all_scoped : (made : Bool) (m : Making) (line : ℕ) (b : Base) (ds : List Declarator) (s : Scope) (rest : Stmts) → MakesPlain p (Some m) → CallingStmts (table_of p) (source_of p) (special_of p) made rest → CallingStmts (table_of p) (source_of p) (special_of p) made (meaning.objects_scoped p m line b ds s rest)
-  all_scoped made m line b [] s rest c h = h
-  all_scoped made m line b (d ∷ ds) s rest c h = scoped made m line b d s _ c (all_scoped made m line b ds (meaning.with_declared p s b d) rest c h)
+  all_scoped : (m : Making) (line : ℕ) (b : Base) (ds : List Declarator) (s : Scope) (rest : Stmts) → MakesPlain p (Some m) → CallingStmts (table_of p) (source_of p) (special_of p) (reach_of false) rest → CallingStmts (table_of p) (source_of p) (special_of p) (reach_of false) (meaning.objects_scoped p m line b ds s rest)
+  all_scoped m line b [] s rest c h = h
+  all_scoped m line b (d ∷ ds) s rest c h = scoped m line b d s _ c (all_scoped m line b ds (meaning.with_declared p s b d) rest c h)
 
-  declared_then : (made : Bool) (m : Option Making) (line : ℕ) (b : Base) (ds : List Declarator) (s : Scope) (rest : Stmts) → MakesPlain p m → CallingStmts (table_of p) (source_of p) (special_of p) made rest → CallingStmts (table_of p) (source_of p) (special_of p) made (meaning.declared_then p m line b ds s rest)
-  declared_then made None line b ds s rest c h = (declared s b ds, h)
-  declared_then made (Some m) line b ds s rest c h = all_scoped made m line b ds s rest c h
+  declared_then : (m : Option Making) (line : ℕ) (b : Base) (ds : List Declarator) (s : Scope) (rest : Stmts) → MakesPlain p m → CallingStmts (table_of p) (source_of p) (special_of p) (reach_of false) rest → CallingStmts (table_of p) (source_of p) (special_of p) (reach_of false) (meaning.declared_then p m line b ds s rest)
+  declared_then None line b ds s rest c h = (declared s b ds, h)
+  declared_then (Some m) line b ds s rest c h = all_scoped m line b ds s rest c h
 
-  declared_alone : (made : Bool) (m : Option Making) (line : ℕ) (b : Base) (ds : List Declarator) (s : Scope) → MakesPlain p m → CallingStmt (table_of p) (source_of p) (special_of p) NoSite made (meaning.declared_alone p m line b ds s)
-  declared_alone made None line b ds s c = declared s b ds
-  declared_alone made (Some m) line b ds s c = all_scoped made m line b ds s src.Nil c tt
+  declared_alone : (m : Option Making) (line : ℕ) (b : Base) (ds : List Declarator) (s : Scope) → MakesPlain p m → CallingStmt (table_of p) (source_of p) (special_of p) NoSite (reach_of false) (meaning.declared_alone p m line b ds s)
+  declared_alone None line b ds s c = declared s b ds
+  declared_alone (Some m) line b ds s c = all_scoped m line b ds s src.Nil c tt
 
-  start_then : (made : Bool) (line : ℕ) (x : stmt.ForStart) (s : Scope) (rest : Stmts) → CallingStmts (table_of p) (source_of p) (special_of p) made rest → CallingStmts (table_of p) (source_of p) (special_of p) made (meaning.start_then p line x s rest)
-  start_then made line stmt.NoFor s rest h = (tt, h)
-  start_then made line (stmt.ForDeclare place b ds) s rest h = declared_then made (making p b) line b ds s rest (making_plain p b) h
-  start_then made line (stmt.ForEvaluate e) s rest h = (inl (meant s e).expr, h)
+  start_then : (line : ℕ) (x : stmt.ForStart) (s : Scope) (rest : Stmts) → CallingStmts (table_of p) (source_of p) (special_of p) (reach_of false) rest → CallingStmts (table_of p) (source_of p) (special_of p) (reach_of false) (meaning.start_then p line x s rest)
+  start_then line stmt.NoFor s rest h = (tt, h)
+  start_then line (stmt.ForDeclare place b ds) s rest h = declared_then (making p b) line b ds s rest (making_plain p b) h
+  start_then line (stmt.ForEvaluate e) s rest h = (inl (meant s e).expr, h)
 
-  stmt_then : (made : Bool) (t : stmt.Stmt) (s : Scope) (a : Stmt) (rest : Stmts) → CallingStmt (table_of p) (source_of p) (special_of p) (OpensFor rest) made a → CallingStmts (table_of p) (source_of p) (special_of p) made rest → CallingStmts (table_of p) (source_of p) (special_of p) made (meaning.stmt_then p t s a rest)
-  stmt_then made (stmt.Declare place b ds) s a rest n h = declared_then made (making p b) place.line b ds s rest (making_plain p b) h
-  stmt_then made t s a rest n h = (n, h)
+  stmt_then : (t : stmt.Stmt) (s : Scope) (a : Stmt) (rest : Stmts) → CallingStmt (table_of p) (source_of p) (special_of p) (OpensFor rest) (reach_of false) a → CallingStmts (table_of p) (source_of p) (special_of p) (reach_of false) rest → CallingStmts (table_of p) (source_of p) (special_of p) (reach_of false) (meaning.stmt_then p t s a rest)
+  stmt_then (stmt.Declare place b ds) s a rest n h = declared_then (making p b) place.line b ds s rest (making_plain p b) h
+  stmt_then t s a rest n h = (n, h)
 
   mutual
-    pub one : (made : Bool) (t : stmt.Stmt) (s : Scope) → CallingStmt (table_of p) (source_of p) (special_of p) NoSite made (meaning.stmt_meant p t s)
-    one made (stmt.Block place body) s = all made body s
-    one made (stmt.Empty place) s = tt
-    one made (stmt.Evaluate place e) s = inl (meant s e).expr
-    one made (stmt.Declare place b ds) s = declared_alone made (making p b) place.line b ds s (making_plain p b)
-    one made (stmt.Print place os) s = items s s.texts os
-    one made (stmt.PrintTogether place os) s = items s s.texts os
-    one made (stmt.Read place es) s = targets s es
-    one made (stmt.If place e chosen other) s = (value s e, one made chosen s, maybe made other (meaning.scope_past p chosen s))
-    one made (stmt.While place e body) s = (value s e, tt, one made body s)
-    one made (stmt.Do place body e) s = (value s e, tt, one made body s)
-    one made (stmt.For place x e f body) s =
-        start_then made place.line x s _ ((test (meaning.for_scope p x s) e, step (meaning.for_scope p x s) f, one made body (meaning.for_scope p x s)), tt)
-    one made (stmt.Break place) s = tt
-    one made (stmt.Continue place) s = tt
-    one made (stmt.Return place e) s = returned s e
-    one made (stmt.Throw place r) s = raised made s r
-    one made (stmt.Raise place r) s = raised made s r
-    one made (stmt.Try place brace body hs) s = ((all made body s, tt), handlers made hs (meaning.scope_past_all p body s))
-    one made (stmt.Resume place) s = tt
-    one made (stmt.Suspend place) s = tt
-    one made (stmt.RaiseAt place r target) s = (raised made s (Some r), (meant s target).expr)
-    one made (stmt.Enable place events body) s = one made body (meaning.within_events p s)
-    one made (stmt.Disable place events body) s = one made body (meaning.within_events p s)
-    one made (stmt.Yield place) s = tt
-    one made (stmt.Migrate place cluster) s = (meant s cluster).expr
-    one made (stmt.Accept place cs other) s =
+    pub one : (t : stmt.Stmt) (s : Scope) → CallingStmt (table_of p) (source_of p) (special_of p) NoSite (reach_of false) (meaning.stmt_meant p t s)
+    one (stmt.Block place body) s = all body s
+    one (stmt.Empty place) s = tt
+    one (stmt.Evaluate place e) s = inl (meant s e).expr
+    one (stmt.Declare place b ds) s = declared_alone (making p b) place.line b ds s (making_plain p b)
+    one (stmt.Print place os) s = items s s.texts os
+    one (stmt.PrintTogether place os) s = items s s.texts os
+    one (stmt.Read place es) s = targets s es
+    one (stmt.If place e chosen other) s = (value s e, one chosen s, maybe other (meaning.scope_past p chosen s))
+    one (stmt.While place e body) s = (value s e, tt, one body s)
+    one (stmt.Do place body e) s = (value s e, tt, one body s)
+    one (stmt.For place x e f body) s =
+        start_then place.line x s _ ((test (meaning.for_scope p x s) e, step (meaning.for_scope p x s) f, one body (meaning.for_scope p x s)), tt)
+    one (stmt.Break place) s = tt
+    one (stmt.Continue place) s = tt
+    one (stmt.Return place e) s = returned s e
+    one (stmt.Throw place r) s = raised s r
+    one (stmt.Raise place r) s = raised s r
+    one (stmt.Try place brace body hs) s = ((all body s, tt), handlers hs (meaning.scope_past_all p body s))
+    one (stmt.Resume place) s = tt
+    one (stmt.Suspend place) s = tt
+    one (stmt.RaiseAt place r target) s = (raised s (Some r), (meant s target).expr)
+    one (stmt.Enable place events body) s = one body (meaning.within_events p s)
+    one (stmt.Disable place events body) s = one body (meaning.within_events p s)
+    one (stmt.Yield place) s = tt
+    one (stmt.Migrate place cluster) s = (meant s cluster).expr
+    one (stmt.Accept place cs other) s =
         let inner : Scope = meaning.within_accept p s in
         let behind : Scope = meaning.scope_past_clauses p cs inner in
-        clauses made cs inner (meaning.else_meant p other behind) (otherwise made other behind)
+        clauses cs inner (meaning.else_meant p other behind) (otherwise other behind)
 
-    clauses : (made : Bool) (cs : stmt.Clauses) (s : Scope) (other : Clauses) → CallingClauses (table_of p) (source_of p) (special_of p) made other → CallingClauses (table_of p) (source_of p) (special_of p) made (meaning.clauses_meant p cs s other)
-    clauses made stmt.NoClauses s other k = k
-    clauses made (stmt.MoreClauses (stmt.Accepts place guard members body) rest) s other k = (test s guard, one made body s, clauses made rest (meaning.scope_past p body s) other k)
+    clauses : (cs : stmt.Clauses) (s : Scope) (other : Clauses) → CallingClauses (table_of p) (source_of p) (special_of p) (reach_of false) other → CallingClauses (table_of p) (source_of p) (special_of p) (reach_of false) (meaning.clauses_meant p cs s other)
+    clauses stmt.NoClauses s other k = k
+    clauses (stmt.MoreClauses (stmt.Accepts place guard members body) rest) s other k = (test s guard, one body s, clauses rest (meaning.scope_past p body s) other k)
 
-    otherwise : (made : Bool) (t : stmt.MaybeStmt) (s : Scope) → CallingClauses (table_of p) (source_of p) (special_of p) made (meaning.else_meant p t s)
-    otherwise made stmt.NoStmt s = tt
-    otherwise made (stmt.OneStmt body) s = one made body s
+    otherwise : (t : stmt.MaybeStmt) (s : Scope) → CallingClauses (table_of p) (source_of p) (special_of p) (reach_of false) (meaning.else_meant p t s)
+    otherwise stmt.NoStmt s = tt
+    otherwise (stmt.OneStmt body) s = one body s
 
-    handlers : (made : Bool) (hs : stmt.Handlers) (s : Scope) → CallingHandlers (table_of p) (source_of p) (special_of p) made (meaning.handlers_meant p hs s)
-    handlers made stmt.NoHandlers s = tt
-    handlers made (stmt.MoreHandlers (stmt.Handles place kind event param brace body) rest) s =
+    handlers : (hs : stmt.Handlers) (s : Scope) → CallingHandlers (table_of p) (source_of p) (special_of p) (reach_of false) (meaning.handlers_meant p hs s)
+    handlers stmt.NoHandlers s = tt
+    handlers (stmt.MoreHandlers (stmt.Handles place kind event param brace body) rest) s =
         let x : stmt.Handler = stmt.Handles place kind event param brace body in
-        (all made body (meaning.in_handler p x s), handlers made rest (meaning.scope_past_handler p x s), all false body (meaning.in_handler p x s))
+        (all body (meaning.in_handler p x s), handlers rest (meaning.scope_past_handler p x s))
 
-    maybe : (made : Bool) (t : stmt.MaybeStmt) (s : Scope) → CallingStmt (table_of p) (source_of p) (special_of p) NoSite made (meaning.maybe_meant p t s)
-    maybe made stmt.NoStmt s = tt
-    maybe made (stmt.OneStmt body) s = one made body s
+    maybe : (t : stmt.MaybeStmt) (s : Scope) → CallingStmt (table_of p) (source_of p) (special_of p) NoSite (reach_of false) (meaning.maybe_meant p t s)
+    maybe stmt.NoStmt s = tt
+    maybe (stmt.OneStmt body) s = one body s
 
-    pub all : (made : Bool) (ts : stmt.Stmts) (s : Scope) → CallingStmts (table_of p) (source_of p) (special_of p) made (meaning.stmts_meant p ts s)
-    all made stmt.NoStmts s = tt
-    all made (stmt.MoreStmts t ts) s =
+    pub all : (ts : stmt.Stmts) (s : Scope) → CallingStmts (table_of p) (source_of p) (special_of p) (reach_of false) (meaning.stmts_meant p ts s)
+    all stmt.NoStmts s = tt
+    all (stmt.MoreStmts t ts) s =
         let rest : Stmts = meaning.stmts_meant p ts (meaning.scope_after p t s) in
-        stmt_then made t s (meaning.stmt_meant p t s) rest (stmt_more (table_of p) (source_of p) (special_of p) made NoSite (OpensFor rest) (λ k z. absurd z) (meaning.stmt_meant p t s) (one made t s)) (all made ts (meaning.scope_after p t s))
+        stmt_then t s (meaning.stmt_meant p t s) rest (stmt_more (table_of p) (source_of p) (special_of p) (reach_of false) NoSite (OpensFor rest) (λ x i z. absurd z) (meaning.stmt_meant p t s) (one t s)) (all ts (meaning.scope_after p t s))

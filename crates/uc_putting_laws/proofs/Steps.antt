@@ -1,9 +1,9 @@
 -- A quiet step of a state in which what is called is the execution's own leads to one.
-use Rattle.std.proofs.Common.{◌≡◌, ℕ, zero, suc, ◌<◌, ◌⊎◌, inl, inr, ◌++◌, Bool, true, false, ◌&&◌, List, [], ◌∷◌, length, drop, Option, Some, None, refl, sym, ap, ◌∙◌, subst, ⊎_elim}
+use Rattle.std.proofs.Common.{◌≡◌, ℕ, zero, suc, ◌<◌, ◌≤◌, ◌⊎◌, inl, inr, ◌++◌, Bool, true, false, List, [], ◌∷◌, length, drop, Option, Some, None, refl, sym, ap, ◌∙◌, subst, arith}
 use Rattle.std.specs.Prelude.{nat_eq, nat_lt, slice_set}
 use Rattle.uc_tree.specs.declared.limits.TheConstants.{CALLS, PENDING_EVENTS}
 use Rattle.uc_tree.specs.Source as src
-use Rattle.uc_tree.specs.Source.{Shape, Expr, ObjectExpr, Stmt, Stmts, EventStmt, TaskStmt, Routine, Purpose, Order, Way, CleanUp, Handlers, Clauses, Raised, Item, Source}
+use Rattle.uc_tree.specs.Source.{Shape, Expr, ObjectExpr, Stmt, Stmts, EventStmt, TaskStmt, Routine, Way, CleanUp, Handlers, Purpose}
 use Rattle.uc_entry.specs.declared.fault.RunFault.{RunFault}
 use Rattle.uc_entry.specs.declared.fault.RunFault.TheVariants.{Index, Depth, BlockedInside, TooManyPending, NotLive, Unhandled}
 use Rattle.uc_entry.specs.declared.request.Piece.{Piece}
@@ -18,23 +18,30 @@ use Rattle.uc_machine.specs.Switches as sw
 use Rattle.uc_machine.specs.Switches.{Moved, To, Stops}
 use Rattle.uc_machine.specs.Insides as inside
 use Rattle.uc_machine.specs.Raising as raising
-use Rattle.uc_machine.specs.Raising.{Handler, Found, Hit}
+use Rattle.uc_machine.specs.Raising.{Handler, Found}
 use Rattle.uc_machine.specs.Monitors as monitors
 use Rattle.uc_machine.specs.Polls as polls
 use Rattle.uc_machine.specs.Quiet as quiet
 use Rattle.uc_machine.specs.Pieces as piece
-use Rattle.uc_machine.specs.Pieces.{Value, Number, Place, Running, Object, Nothing, Slot, Todo, Sort, Active, State, Env, Members, Step, Goes, Ticks, Asks, Outcome, Gives, Faults, at, in_env, goes, fault, asks, turns, top, below, number, loaded, written}
-use Rattle.uc_event_laws.specs.Counted.{params_at, params, count, CountedRaised, CountedAt}
-use Rattle.uc_unmarked_laws.specs.Belonging.{Belongs, frame, object as object_own}
+use Rattle.uc_machine.specs.Pieces.{Value, Number, Object, Nothing, Todo, Sort, Active, State, Env, Step, Asks, Outcome, Gives, Faults, at, in_env, goes, fault, top, below, number, loaded, written}
+use Rattle.uc_typing.specs.Typing.{Ty}
+use Rattle.uc_event_laws.specs.Counted.{params_at, params, count, CountedClean}
+use Rattle.uc_unmarked_laws.specs.Belonging.{Belongs}
+use Rattle.uc_unmarked_laws.specs.Marks.{Outward, Free}
 use Rattle.uc_unmarked_laws.specs.Ending.{Spot, OfVariable, OfField}
-use Rattle.uc_unmarked_laws.proofs.Own.{further_own}
-use Rattle.uc_aside_laws.specs.OlderResting.{AllWait, NamedEnv}
 use Rattle.uc_aside_laws.proofs.Keeping as kept
 use Rattle.uc_aside_laws.proofs.Keeping.{either}
-use Rattle.uc_putting_laws.specs.Calling.{Site, One, Each, opens_object, opens_at, NoSite, PlainNew, Binds, PlaceAt, CallsAt, MakesAt, MakesEach, EndsAt, EndsEach, EndsNumber, Evaluates, SweepsBy, CleansBy, AnySite, IsField, HasCount, RaisesBy, CallingStmts}
-use Rattle.uc_putting_laws.specs.Putting.{Setting, Around, around, IsHome, Mark, Any, Own, At, Homed, rest, rests, anys, FirstOwn, FirstAt, FirstHome, IsEnding, OpensRest, OpensNext, OneNext, IsIn, Located, Enters, Loads, StandsAt, HomedAt, Holds, LoneIn, LoneAt, Counts, Plain, CodeMaybe, CodeItems, CodeStmt, CodeStmts, CodeHandlers, CodeClauses, CodeLoop, CodeSweep, CodeFill, CodeOpening, CodeScope, CodePart, CodeRoutine, made_marks, CallFits, LeftBy, Ok, Left, Finds, Runs, Waits, PutState, PutStep}
+use Rattle.uc_putting_laws.specs.CleanedSpots.{Site, One, Each, Under, site_spot, AnySite, spot_of, Reach, reach_of, apart, IsOf, IsIn, AllBelow, IsOutermost, Ascends}
+use Rattle.uc_putting_laws.specs.ObjectsAtHand.{LiesUnder, same_place, further_on, there, BelongsBelow, in_object, OwnMarked, NoneWithin, IsSeated}
+use Rattle.uc_putting_laws.specs.Calling.{opens_object, opens_at, is_opening, PlainNew, Binds, PlaceAt, CallsAt, MakesAt, MakesEach, EndsAt, EndsEach, EndsNumber, CleansBy}
+use Rattle.uc_putting_laws.specs.Putting.{Setting, Around, around, IsHome, Mark, Any, At, Homed, rest, rests, anys, FirstUnder, FirstAt, FirstHome, IsEnding, OpensRest, Located, Enters, Loads, spot_at, StandsAt, HomedAt, Holds, LoneAt, Counts, Plain, CodeStmt, CodeStmts, CodeHandlers, CodeSweep, CodeSpine, CodeRest, CodeScope, CodeRoutine, made_marks, LeftBy, Ok, Left, Finds, Runs, Waits, PutState, PutStep}
+use Rattle.uc_putting_laws.specs.PuttingLaws.{FoundBehind}
+use Rattle.uc_putting_laws.proofs.CleanedSpots.{apart_outermost, next_mark}
+use Rattle.uc_putting_laws.proofs.ObjectsWithin.{in_under, in_object_home, below_own, below_more, not_standing}
 use Rattle.uc_putting_laws.proofs.Marks as marks
-use Rattle.uc_putting_laws.proofs.Marks.{place_plain, holds_below, holds_own, holds_drop, holds_anys, rests_anys, drop_set, set_top, site_there, OfIndex, stmt_more, AllLeft, waits_left}
+use Rattle.uc_putting_laws.proofs.Marks.{place_plain, holds_below, holds_drop, holds_anys, rests_anys, drop_set, set_top, stands_under, under_spot, site_there, OfIndex, waits_left}
+use Rattle.uc_putting_laws.proofs.OwnMarks.{FramesWithin, own_below, first_seat}
+use Rattle.uc_putting_laws.proofs.PuttingTodos as todos
 
 no_both : {A : Type 0} (b : Bool) → b ≡ true → b ≡ false → A
 no_both b h k = absurd (cc)
@@ -44,286 +51,7 @@ abbrev pub here : State → Around
 here s = around s.env.exec s.run s.callers
 
 module _ (g : Setting) where
-  abbrev E : Env → Type 0
-  E e = NamedEnv (Runs g) (Waits g) e
-
-  abbrev W : Exec → List Active → Type 0
-  W n cs = AllWait (Runs g) (Waits g) n cs
-
-  pub calm : (n : Exec) (older : List Active) (a : Active) (w : Option UnwindReason) → Runs g n older a → Runs g n older (record a { raised = w })
-  calm n older a w h = record { made = h.made; this = h.this; marks = h.marks; holds = h.holds; ok = h.ok }
-
-  abbrev K : Env → Env → Type 0
-  K e f = kept.Keeps (Runs g) (Waits g) calm e f
-
-  abbrev M : Moved (List Todo) Value → Type 0
-  M m = kept.NamedMoved (Runs g) (Waits g) calm m
-
-  pub likes : {e f : Env} → E e → f.hand ≡ e.hand → f.house ≡ e.house → f.own ≡ e.own → E f
-  likes h k i o = kept.like (Runs g) (Waits g) calm h k i o
-
-  -- handlers that run as activations of their own
-
-  abbrev pub OfFound : Option Found → Type 0
-  OfFound None = Unit {0}
-  OfFound (Some x) = CodeStmts g false x.handler.body
-
-  abbrev OfHandler : Bool → Option Handler → Type 0
-  OfHandler made None = Unit {0}
-  OfHandler made (Some x) = CodeStmts g made x.body
-
-  abbrev OfHit : Option Hit → Type 0
-  OfHit None = Unit {0}
-  OfHit (Some x) = CodeStmts g false x.handler.body
-
-  handler_for : (made kind : Bool) (e : raising.Event) (hs : Handlers) → CodeHandlers g made hs → OfHandler made (raising.handler_for kind e hs)
-  handler_for made kind e src.NoHandlers h = tt
-  handler_for made kind e (src.MoreHandlers resumes event cell line body others) h =
-      either (OfHandler made) (raising.same_kind kind resumes && raising.takes event e) (Some (record { cell = cell; line = line; body = body })) (raising.handler_for kind e others) (h.0.0, h.1.0) (handler_for made kind e others (h.0.1, h.1.1))
-
-  alone_for : (made kind : Bool) (e : raising.Event) (hs : Handlers) → CodeHandlers g made hs → OfHandler false (raising.handler_for kind e hs)
-  alone_for made kind e src.NoHandlers h = tt
-  alone_for made kind e (src.MoreHandlers resumes event cell line body others) h =
-      either (OfHandler false) (raising.same_kind kind resumes && raising.takes event e) (Some (record { cell = cell; line = line; body = body })) (raising.handler_for kind e others) (h.0.0, h.1.2) (alone_for made kind e others (h.0.1, h.1.1))
-
-  hit_or : (x : Option Handler) (n : ℕ) (other : Option Hit) → OfHandler false x → OfHit other → OfHit (raising.hit_or x n other)
-  hit_or None n other h k = k
-  hit_or (Some x) n other h k = h
-
-  module _ (A : Around) (made : Bool) where
-    abbrev pub LeftTo : List Todo → Type 0
-    LeftTo todo = Left g A made todo
-
-    -- what is known of a mark that is left
-    hit_by : (k : Sort) (n : ℕ) (e : raising.Event) (ps : List Todo) (other : Option Hit) (l o : Type 0) → LeftBy g A made k ps l o → OfHit other → OfHit (raising.hit_by k n e other)
-    hit_by (piece.IsGuard hs) n e ps other l o h k = hit_or (raising.handler_for true e hs) n other (alone_for made true e hs h.0) k
-    hit_by s n e ps other l o h k = k
-
-    hit_in : (e : raising.Event) (todo : List Todo) → LeftTo todo → OfHit (raising.hit_in e todo)
-    hit_in e [] h = tt
-    hit_in e (p ∷ ps) h =
-        hit_by (piece.sort p) (raising.count_round ps) e ps (raising.hit_in e ps) (LeftTo ps) (Ok g A made [] ps) h (hit_in e ps (marks.left_tail g A made p ps h))
-
-    within : (n : ℕ) (todo : List Todo) → LeftTo todo → LeftTo (raising.within n todo)
-    within n [] h = tt
-    within n (p ∷ ps) h =
-        either LeftTo (nat_eq (raising.count_round (p ∷ ps)) n) (p ∷ ps) (raising.within n ps) h (within n ps (marks.left_tail g A made p ps h))
-
-  found_or : (x : Option Hit) (a : Active) (cs : List Active) (other : Option Found) → OfHit x → OfFound other → OfFound (raising.found_or x a cs other)
-  found_or None a cs other h k = k
-  found_or (Some x) a cs other h k = h
-
-  seek : (n : Exec) (v : Option Visited) (e : raising.Event) (cs : List Active) → AllLeft g n cs → OfFound (raising.seek v e cs)
-  seek n None e [] h = tt
-  seek n (Some v) e [] h = tt
-  seek n None e (a ∷ cs) h = found_or (raising.hit_in e a.control) a cs (raising.seek a.handles e cs) (hit_in (around n a cs) h.0.made e a.control h.0.rest) (seek n a.handles e cs h.1)
-  seek n (Some v) e (a ∷ cs) h =
-      either OfFound (nat_eq (length cs) v.level) (raising.found_or (raising.hit_in e (raising.within v.rest a.control)) a cs (raising.seek a.handles e cs)) (raising.seek (Some v) e cs) (found_or (raising.hit_in e (raising.within v.rest a.control)) a cs (raising.seek a.handles e cs) (hit_in (around n a cs) h.0.made e (raising.within v.rest a.control) (within (around n a cs) h.0.made v.rest a.control h.0.rest)) (seek n a.handles e cs h.1)) (seek n (Some v) e cs h.1)
-
-  -- calls take as many operands as there are arguments
-
-  -- a mark that lies below the arguments
-  under : (P : List Mark → Type 0) (n r : ℕ) (ms : List Mark) → n ≡ params g.source r → P ms → P (rests (params g.source r) (anys n ms))
-  under P n r ms e h = subst (λ k. P (rests k (anys n ms))) e (subst P (sym (rests_anys n ms)) h)
-
-  below_on : (n r : ℕ) (m : Mark) (ms : List Mark) → n ≡ params g.source r → rests (suc (params g.source r)) (anys n (m ∷ ms)) ≡ ms
-  below_on n r m ms e = subst (λ k. rest (rests k (anys n (m ∷ ms))) ≡ ms) e (ap rest (rests_anys n (m ∷ ms)))
-
-  -- behind what has no parameters nothing lies between
-  none_between : (r : ℕ) (P : List Mark → Type 0) (ms : List Mark) → 0 ≡ params g.source r → P ms → P (rests (params g.source r) ms)
-  none_between r P ms e h = under P 0 r ms e h
-
-  module _ (A : Around) (made : Bool) where
-    abbrev pub Fits : List Mark → List Todo → Type 0
-    Fits ms todo = Ok g A made ms todo
-
-    abbrev pub CallsFit : ℕ → List Mark → List Todo → Type 0
-    CallsFit r ms todo = CallFits g A made r ms todo
-
-    left : (ms : List Mark) (todo : List Todo) → Fits ms todo → LeftTo A made todo
-    left ms todo h = marks.left g A made ms todo h
-
-    -- what is to do in a routine
-
-    pub behind : (p : Purpose) (line : ℕ) → Fits [] (quiet.behind_body p line)
-    behind src.TaskMain line = (tt, (tt, tt))
-    behind src.CoroutineMain line = (tt, (tt, tt))
-    behind src.Procedure line = (tt, tt)
-    behind src.Function line = (tt, (tt, tt))
-    behind src.Builder line = tt
-
-    pub routine : (r : Routine) → CodeStmts g made r.body → Fits [] (quiet.routine_todo r)
-    routine r h = (inl h, behind r.purpose r.line)
-
-    -- to-do lists
-
-    pub starts : (cell : ℕ) (v : Option Expr) (todo : List Todo) → CodeMaybe g v → Fits [] todo → Fits [] (quiet.starting cell v todo)
-    starts cell None todo n h = h
-    starts cell (Some e) todo n h = (tt, inl (tt, (n.0, inl (n.1, (tt, h)))))
-
-    converts : (k : Shape) (ms : List Mark) (todo : List Todo) → Fits (Any ∷ ms) todo → Fits (Any ∷ ms) (quiet.converting k todo)
-    converts src.Character ms todo h = (tt, h)
-    converts src.Truth ms todo h = (tt, h)
-    converts k ms todo h = h
-
-    pub stepped : (e : Option Expr) (todo : List Todo) → CodeMaybe g e → Fits [] todo → Fits [] (quiet.step_todo e todo)
-    stepped None todo n h = h
-    stepped (Some e) todo n h = (n.0, inl (n.1, (tt, h)))
-
-    abbrev pub F : Expr → Option Expr → Stmt → Type 0
-    F t e b = CodeLoop g made t e b
-
-    pub tested : (o : Order) (t : Expr) (e : Option Expr) (b : Stmt) (todo : List Todo) → F t e b → Fits [] todo → Fits [] (quiet.test_todo o t e b todo)
-    tested src.TestFirst t e b todo n h = (n.0.0, inl (n.0.1, (n, h)))
-    tested src.BodyFirst t e b todo n h = (n.0.0, inl (n.0.1, (n, h)))
-    tested src.NoTest t e b todo n h = (n, h)
-
-    looped : (o : Order) (t : Expr) (e : Option Expr) (b : Stmt) (todo : List Todo) → F t e b → Fits [] todo → Fits [] (quiet.loop_todo o t e b todo)
-    looped src.TestFirst t e b todo n h = (n.0.0, inl (n.0.1, (n, h)))
-    looped src.BodyFirst t e b todo n h = (n, h)
-    looped src.NoTest t e b todo n h = (n, h)
-
-    loop_left : (w : Way) (o : Order) (t : Expr) (e : Option Expr) (b : Stmt) (todo : List Todo) → F t e b → Fits [] todo → Fits [] (quiet.loop_left w o t e b todo)
-    loop_left src.ToBreak o t e b todo n h = h
-    loop_left src.ToContinue o t e b todo n h = (n, h)
-    loop_left src.ToReturn o t e b todo n h = left [] todo h
-    loop_left src.ToEnd o t e b todo n h = left [] todo h
-
-    left_behind : (w : Way) (k : Sort) (todo : List Todo) → LeftBy g A made k todo (LeftTo A made todo) (Fits [] todo) → Fits [] (quiet.left_behind w k todo)
-    left_behind w piece.Simple todo h = h
-    left_behind w (piece.IsLoop o t e b) todo h = loop_left w o t e b todo h.0 h.1
-    left_behind w piece.IsWhole todo h = h
-    left_behind w (piece.IsClean x) todo h = (h.0, left [] todo h.1)
-    left_behind w (piece.IsFill m b d) todo h = left [] todo h.1
-    left_behind w (piece.IsSweep e) todo h = left [] todo h.1
-    left_behind w (piece.IsPart x) todo h = left [] todo h.1
-    left_behind w (piece.IsGuard hs) todo h = left [] todo h.1
-    left_behind w piece.IsFinish todo h = (tt, h)
-    left_behind w piece.IsFinishCoroutine todo h = (tt, h)
-
-    -- an expression that is evaluated by itself
-    single : (e : Expr) (todo : List Todo) → Counts g e → Evaluates g.table g.source g.special made (OpensNext todo) e → Fits (Any ∷ []) todo → Fits [] (piece.Eval e ∷ todo)
-    single e todo n (inl k) h = (n, inl (k, h))
-    single e todo n (inr (inl k)) h = (n, inr (inl (k, h)))
-    single e todo n (inr (inr (inl k))) h = (n, inr (inr (inr (inl (k, h)))))
-    single e todo n (inr (inr (inr k))) h = (n, inr (inr (inr (inr (inr (inr (inr (inl (inl k, h)))))))))
-
-    -- nothing stands around a site, with this to do
-    abbrev pub Lones : List Todo → Site → Type 0
-    Lones todo x = LoneAt g.table g.few A todo x
-
-    -- one that builds, and one that destroys an element
-    pub filled : (b : Bool) (n : ℕ) (e d : Expr) (todo : List Todo) → CodeFill g made (Lones todo) e → CodeSweep g made (Lones todo) d → Fits [] todo → Fits [] (quiet.fill_todo b n e d todo)
-    filled false n e d todo k q h = h
-    filled true n e d todo (k, inl y) q h = (k, inr (inl (y, (tt, (tt, (((k, inl y), q), h))))))
-    filled true n e d todo (k, inr (inl y)) q h = (k, inr (inr (inr (inl (y, (tt, (tt, (((k, inr (inl y)), q), h))))))))
-    filled true n e d todo (k, inr (inr y)) q h = (k, inr (inr (inr (inr (inr (inr (inr (inl (inr y, (tt, (tt, (((k, inr (inr y)), q), h))))))))))))
-
-    pub sweeps : (e : Expr) (todo : List Todo) → CodeSweep g made (Lones todo) e → Fits [] todo → Fits [] (piece.Eval e ∷ (piece.DropNow ∷ (piece.Sweep e ∷ todo)))
-    sweeps e todo (k, inl y) h = (k, inr (inr (inr (inr (inr (inr (inr (inr (inr (y, (tt, ((k, inl y), h))))))))))))
-    sweeps e todo (k, inr (inl y)) h = (k, inr (inr (inr (inl (y, (tt, ((k, inr (inl y)), h)))))))
-    sweeps e todo (k, inr (inr y)) h = (k, inr (inr (inr (inr (inr (inr (inr (inr (inl (inr y, (tt, ((k, inr (inr y)), h))))))))))))
-
-    -- what a clean-up destroys, where nothing stands around what it ends at a spot
-    destroys : (e : Expr) (todo : List Todo) → Counts g e → EndsNumber g.table g.source g.special made e ⊎ (CallsAt g.table g.source g.special made e ⊎ EndsAt g.table g.source g.special made (Lones (piece.DropNow ∷ todo)) e) → Fits [] todo → Fits [] (piece.Eval e ∷ (piece.DropNow ∷ todo))
-    destroys e todo n (inl k) h = (n, inr (inr (inr (inr (inr (inr (inr (inr (inr (k, (tt, h)))))))))))
-    destroys e todo n (inr (inl k)) h = (n, inr (inr (inr (inl (k, (tt, h))))))
-    destroys e todo n (inr (inr k)) h = (n, inr (inr (inr (inr (inr (inr (inr (inr (inl (inl k, (tt, h)))))))))))
-
-    -- an event is found before it is raised
-    pub raised : (r : Raised) (todo : List Todo) → CountedRaised g.source r → RaisesBy g.table g.source g.special made r → Fits (Any ∷ (Any ∷ (Any ∷ []))) todo → Fits [] (raising.raised_todo r todo)
-    raised (src.Plainly n) todo k q h = (tt, inl (tt, (tt, inl (tt, (tt, inl (tt, h))))))
-    raised (src.BuiltAt n c e) todo k q h = (tt, (k, inr (inr (inr (inl (q, (tt, (tt, inl (tt, (tt, inl (tt, (tt, inl (tt, h)))))))))))))
-    raised (src.AgainFrom c) todo k q h = (tt, inl (tt, (tt, inl (tt, (tt, inl (tt, h))))))
-
-    counted_at : (r : Raised) → CountedAt g.source r → CountedRaised g.source r
-    counted_at (src.Plainly n) h = tt
-    counted_at (src.BuiltAt n c e) h = h.1
-    counted_at (src.AgainFrom c) h = tt
-
-    handled : (x : Handler) (todo : List Todo) → CodeStmts g made x.body → Fits [] todo → Fits [] (raising.handler_todo x todo)
-    handled x todo k h = (tt, (tt, (tt, (tt, (tt, (tt, (inl k, (tt, h))))))))
-
-    -- where nothing stands around what ends at a spot
-    abbrev pub LoneFor : CleanUp → List Todo → Type 0
-    LoneFor (src.Destroys e) todo = EndsNumber g.table g.source g.special made e ⊎ (CallsAt g.table g.source g.special made e ⊎ EndsAt g.table g.source g.special made (Lones (piece.DropNow ∷ todo)) e)
-    LoneFor (src.DestroysAll n e) todo = SweepsBy g.table g.source g.special made (Lones todo) e
-    LoneFor c todo = Unit {0}
-
-    pub cleans : (c : CleanUp) (todo : List Todo) → CodeScope g made c → LoneFor c todo → Fits [] todo → Fits [] (piece.clean_todo c todo)
-    cleans (src.Destroys e) todo n l h = destroys e todo n.0 l h
-    cleans (src.DestroysAll m e) todo n l h = (tt, ((n.0, l), h))
-    cleans src.Unwinds todo n l h = (tt, h)
-    cleans src.Forgets todo n l h = (tt, h)
-    cleans src.Leaves todo n l h = (tt, h)
-    cleans src.Ends todo n l h = (tt, h)
-    cleans (src.Frees None) todo n l h = (tt, h)
-    cleans (src.Frees (Some r)) todo n l h = (n, h)
-    cleans (src.Restores k) todo n l h = (tt, h)
-
-    part_scope : (c : CleanUp) → CodePart g made c → CodeScope g made c
-    part_scope (src.Destroys e) n = (n.0, part_ends e n.1)
-      where
-        part_ends : (e : Expr) → CleansBy g.table g.source g.special made IsField (src.Destroys e) → CleansBy g.table g.source g.special made AnySite (src.Destroys e)
-        part_ends e (inl k) = inl k
-        part_ends e (inr (inl k)) = inr (inl k)
-        part_ends (src.OfObject (src.EndOn r w (src.Load (src.Variable k)))) (inr (inr q)) = absurd q.0
-        part_ends (src.OfObject (src.EndOn r w (src.Load (src.OfObject (src.OwnField s i))))) (inr (inr q)) = inr (inr (tt, q.1, q.2))
-        part_ends e (inr (inr q)) = absurd q
-    part_scope (src.DestroysAll m e) n = (n.0, marks.sweeps_more g.table g.source g.special made (λ x. IsField x × HasCount m x) (λ x. AnySite x × HasCount m x) (λ n p k. (tt, k.1)) e n.1)
-    part_scope src.Unwinds n = n
-    part_scope src.Forgets n = n
-    part_scope src.Leaves n = n
-    part_scope src.Ends n = absurd n.1
-    part_scope (src.Frees r) n = absurd n.1
-    part_scope (src.Restores k) n = n
-
-    left_cleans : (c : CleanUp) (todo : List Todo) → CodeScope g made c → LoneFor c todo → Fits [] todo → Fits [] (raising.left_todo c todo)
-    left_cleans (src.Frees r) todo n l h = (tt, h)
-    left_cleans c todo n l h = cleans c todo n l h
-
-    -- a statement of another one
-    pub inner : (P : Site → Type 0) (a : Stmt) → CodeStmt g NoSite made a → CodeStmt g P made a
-    inner P a h = (h.0, stmt_more g.table g.source g.special made NoSite P (λ p z. absurd z) a h.1)
-
-    pub branch : (k : ℕ) (cs : Clauses) (todo : List Todo) → CodeClauses g made cs → Fits [] todo → Fits [] (monitors.branch_todo k cs todo)
-    branch k src.NoClauses todo n h = h
-    branch k (src.Otherwise b) todo n h = either (Fits []) (nat_eq k 0) (piece.Do b ∷ todo) todo (inner (OpensRest todo) b n, h) h
-    branch zero (src.MoreClauses guard b cs) todo n h = branch zero cs todo (n.0.2, n.1.2) h
-    branch (suc zero) (src.MoreClauses guard b cs) todo n h = (inner (OpensRest todo) b (n.0.1, n.1.1), h)
-    branch (suc (suc k)) (src.MoreClauses guard b cs) todo n h = branch (suc k) cs todo (n.0.2, n.1.2) h
-
-    pub item : (i : Item) (is : List Item) (todo : List Todo) → CodeItems g (i ∷ is) → Fits [] todo → Fits [] (quiet.item_todo i todo)
-    item (src.Show f e) is todo n h = (n.0.0, inl (n.1.0, (tt, h)))
-    item (src.ShowText k) is todo n h = (tt, h)
-
-    pub item_value : (i : Item) (is : List Item) (todo : List Todo) → CodeItems g (i ∷ is) → ((ms : List Mark) → Fits ms todo) → Fits [] (quiet.item_value i todo)
-    item_value (src.Show f e) is todo n h = (n.0.0, inl (n.1.0, h (Any ∷ [])))
-    item_value (src.ShowText k) is todo n h = h []
-
-    pub item_piece : (i : Item) (todo : List Todo) → Fits [] todo → Fits [] (quiet.item_piece i ∷ todo)
-    item_piece (src.Show f e) todo h = (tt, h)
-    item_piece (src.ShowText k) todo h = (tt, h)
-
-    polled : (o : Option UnwindReason) (ms : List Mark) (todo : List Todo) → Fits ms todo → Fits ms (monitors.leave_todo o todo)
-    polled None ms todo h = (tt, h)
-    polled (Some why) ms todo h = h
-
-    -- calls
-
-    called : (args : src.Exprs) (r : ℕ) (ms : List Mark) (todo : List Todo) → count args ≡ params g.source r → Fits (Any ∷ ms) todo → Fits (Any ∷ rests (params g.source r) (anys (count args) ms)) todo
-    called args r ms todo e h = under (λ ns. Fits (Any ∷ ns) todo) (count args) r ms e h
-
-    called_on : (n r : ℕ) (m : Mark) (ms : List Mark) (todo : List Todo) → n ≡ params g.source r → Fits (Any ∷ ms) todo → Fits (Any ∷ rests (suc (params g.source r)) (anys n (m ∷ ms))) todo
-    called_on n r m ms todo e h = subst (λ ns. Fits (Any ∷ ns) todo) (sym (below_on n r m ms e)) h
-
-    -- a made object takes the place of its place below the arguments: what is known of that
-    pub made_on : (n r : ℕ) (m k : Mark) (ms : List Mark) (todo : List Todo) → n ≡ params g.source r → CallsFit r (anys (params g.source r) (k ∷ ms)) todo → Fits (Any ∷ ms) todo → CallsFit r (made_marks g r k (anys n (m ∷ ms))) todo × Fits (Any ∷ rests (suc (params g.source r)) (made_marks g r k (anys n (m ∷ ms)))) todo
-    made_on n r m k ms todo e c h =
-        let same : ms ≡ rests (suc (params g.source r)) (anys n (m ∷ ms)) = sym (below_on n r m ms e) in
-        (subst (λ ns. CallsFit r (anys (params g.source r) (k ∷ ns)) todo) same c, called_on (params g.source r) r k (rests (suc (params g.source r)) (anys n (m ∷ ms))) todo refl (subst (λ ns. Fits (Any ∷ ns) todo) same h))
-
-  module _ (s : State) (callers : W s.env.exec s.callers) (env : E s.env) (made : Bool) (this : made ≡ true → Belongs g.few s.env.exec s.run.this) where
+  module _ (s : State) (callers : todos.W g s.env.exec s.callers) (env : todos.E g s.env) (made : Reach) (this : IsSeated g.table g.few made s.env.exec s.callers s.run.frame s.run.this) where
     abbrev pub O : List Mark → List Todo → Type 0
     O ms todo = Ok g (here s) made ms todo
 
@@ -334,7 +62,7 @@ module _ (g : Setting) where
     H ms vs = Holds g.few (here s) ms vs
 
     gone : (ms : List Mark) (todo : List Todo) → O ms todo → L todo
-    gone ms todo h = left (here s) made ms todo h
+    gone ms todo h = todos.left g (here s) made ms todo h
 
     -- the running activation, with other operands and something else to do, where so many operands come in front of these
     pub finds : (many : ℕ) (ns : List Mark) (todo : List Todo) (vs : List Value) → H ns vs → O (anys many ns) todo → Finds g many s.env.exec s.callers (record s.run { control = todo; operands = vs })
@@ -352,11 +80,11 @@ module _ (g : Setting) where
     anew todo vs h = go [] todo vs tt h
 
     -- and with something written
-    pub go_in : (ns : List Mark) (todo : List Todo) (vs : List Value) (e : Env) → H ns vs → O ns todo → K s.env e → PutState g (at todo vs (in_env e s))
-    go_in ns todo vs e k h i = kept.with_env (Runs g) (Waits g) calm (at todo vs s) (go ns todo vs k h) i
+    pub go_in : (ns : List Mark) (todo : List Todo) (vs : List Value) (e : Env) → H ns vs → O ns todo → todos.K g s.env e → PutState g (at todo vs (in_env e s))
+    go_in ns todo vs e k h i = kept.with_env (Runs g) (Waits g) (todos.calm g) (at todo vs s) (go ns todo vs k h) i
 
-    pub same : {f : Env} → f.exec ≡ s.env.exec → f.hand ≡ s.env.hand → f.house ≡ s.env.house → f.own ≡ s.env.own → K s.env f
-    same x h k o = kept.keeps_like (Runs g) (Waits g) calm env x h k o
+    pub same : {f : Env} → f.exec ≡ s.env.exec → f.hand ≡ s.env.hand → f.house ≡ s.env.house → f.own ≡ s.env.own → todos.K g s.env f
+    same x h k o = kept.keeps_like (Runs g) (Waits g) (todos.calm g) env x h k o
 
     pub stop : (f : RunFault) (todo : List Todo) (vs : List Value) → PutStep g (fault f todo vs s)
     stop f todo vs = record { run = tt; callers = callers; env = env }
@@ -364,28 +92,27 @@ module _ (g : Setting) where
     ends : (todo : List Todo) (vs : List Value) → PutStep g (Asks ask.End (at todo vs s))
     ends todo vs = record { run = tt; callers = callers; env = env }
 
-    pub moved : (m : Moved (List Todo) Value) (todo : List Todo) (vs : List Value) → M m → PutStep g (piece.moves m (at todo vs s))
+    pub moved : (m : Moved (List Todo) Value) (todo : List Todo) (vs : List Value) → todos.M g m → PutStep g (piece.moves m (at todo vs s))
     moved (To t) todo vs m = m
     moved (Stops f) todo vs m = stop f todo vs
 
-    pub write : (p v : Value) → K s.env (written p v s.env)
-    write p v = kept.written_keeps (Runs g) (Waits g) calm p v s.env env
+    pub write : (p v : Value) → todos.K g s.env (written p v s.env)
+    write p v = kept.written_keeps (Runs g) (Waits g) (todos.calm g) p v s.env env
 
     pub outcome : (ms : List Mark) (o : Outcome) (todo : List Todo) (vs : List Value) → H ms vs → O (Any ∷ ms) todo → PutStep g (piece.outcome_step o todo vs s)
     outcome ms (Gives n) todo vs k h = go (Any ∷ ms) todo _ (tt, k) h
     outcome ms (Faults f) todo vs k h = stop f todo vs
 
-    -- an element is known to be the execution's own or not
-    pub element : (ms : List Mark) (n : ℕ) (k : Shape) (i : Option ℕ) (todo : List Todo) (v : Value) (vs : List Value) → H ms (v ∷ vs) → OfIndex n i → O (Any ∷ rest ms) todo ⊎ ((FirstOwn ms × O (Own ∷ rest ms) todo) ⊎ FirstAt ms (λ x. Enters n k x (λ y. O (At y ∷ rest ms) todo))) → PutStep g (piece.element_step k i todo v vs s)
+    -- something is known of an element or not
+    pub element : (ms : List Mark) (n : ℕ) (k : Shape) (i : Option ℕ) (todo : List Todo) (v : Value) (vs : List Value) → H ms (v ∷ vs) → OfIndex n i → O (Any ∷ rest ms) todo ⊎ FirstAt ms (λ x. Enters n k x (λ y. O (At y ∷ rest ms) todo)) → PutStep g (piece.element_step k i todo v vs s)
     element ms n k None todo v vs l b h = stop Index todo vs
     element ms n k (Some i) todo v vs l b (inl h) = go (Any ∷ rest ms) todo _ (tt, holds_below g.few (here s) ms (v ∷ vs) l) h
-    element ms n k (Some i) todo v vs l b (inr (inl h)) =
-        go (Own ∷ rest ms) todo _ (further_own g.table g.few s.env.exec (piece.At k i) v (holds_own g.few (here s) ms (v ∷ vs) l h.0), holds_below g.few (here s) ms (v ∷ vs) l) h.1
-    element ms n k (Some i) todo v vs l b (inr (inr h)) =
+    element ms n k (Some i) todo v vs l b (inr h) =
         let f = marks.at_of g.few (here s) ms (v ∷ vs) l (λ x. Enters n k x (λ y. O (At y ∷ rest ms) todo)) h in
         entered n k i todo v vs l b f.0 f.1 f.2
       where
         entered : (n : ℕ) (k : Shape) (i : ℕ) (todo : List Todo) (v : Value) (vs : List Value) → H ms (v ∷ vs) → i < n → (x : Site) → StandsAt g.few (here s) x v → Enters n k x (λ y. O (At y ∷ rest ms) todo) → PutStep g (piece.element_step k (Some i) todo v vs s)
+        entered n k i todo v vs l b (Under p) e h = go (At (Under p) ∷ rest ms) todo _ (further_on (piece.At k i) e, holds_below g.few (here s) ms (v ∷ vs) l) h
         entered n src.Binding i todo v vs l b (One p) e h = go (At (Each n p) ∷ rest ms) todo _ ((i, b, ap (piece.further (piece.At src.Binding i)) e), holds_below g.few (here s) ms (v ∷ vs) l) h
         entered n k i todo v vs l b x e h = absurd h
 
@@ -394,13 +121,13 @@ module _ (g : Setting) where
     condition ms k (Some i) todo l h = go (Any ∷ ms) todo _ (tt, l) h
 
     -- the end of an activation
-    pub returned : (given : Value) (cs : List Active) → W s.env.exec cs → PutStep g (piece.return_step given cs s)
+    pub returned : (given : Value) (cs : List Active) → todos.W g s.env.exec cs → PutStep g (piece.return_step given cs s)
     returned given [] c = record { run = tt; callers = callers; env = env }
-    returned given (a ∷ cs) c = record { run = record { made = c.0.made; this = c.0.this; marks = Any ∷ c.0.marks; holds = (tt, c.0.holds); ok = c.0.ok }; callers = c.1; env = likes env refl refl refl }
+    returned given (a ∷ cs) c = record { run = record { made = c.0.made; this = c.0.this; marks = Any ∷ c.0.marks; holds = (tt, c.0.holds); ok = c.0.ok }; callers = c.1; env = todos.likes g env refl refl refl }
 
-    past : (v : Visited) (given : Value) (cs : List Active) → W s.env.exec cs → PutStep g (raising.return_past v given cs s)
+    past : (v : Visited) (given : Value) (cs : List Active) → todos.W g s.env.exec cs → PutStep g (raising.return_past v given cs s)
     past v given [] c = record { run = tt; callers = callers; env = env }
-    past v given (a ∷ cs) c = record { run = record { made = c.0.made; this = c.0.this; marks = []; holds = tt; ok = left (around s.env.exec a cs) c.0.made (Any ∷ c.0.marks) a.control c.0.ok }; callers = c.1; env = likes env refl refl refl }
+    past v given (a ∷ cs) c = record { run = record { made = c.0.made; this = c.0.this; marks = []; holds = tt; ok = todos.left g (around s.env.exec a cs) c.0.made (Any ∷ c.0.marks) a.control c.0.ok }; callers = c.1; env = todos.likes g env refl refl refl }
 
     end_by : (v : Option Visited) (given : Value) → PutStep g (raising.end_by v given s)
     end_by None given = returned given s.callers callers
@@ -414,22 +141,29 @@ module _ (g : Setting) where
 
     pub exits : (w : Way) (todo : List Todo) → L todo → PutStep g (quiet.exit_step w todo s)
     exits w [] h = end_step w
-    exits w (p ∷ ps) h = anew _ _ (left_behind (here s) made w (piece.sort p) ps h)
+    exits w (p ∷ ps) h = anew _ _ (todos.left_behind g (here s) made w (piece.sort p) ps h)
 
     -- statements
 
-    pub swept : (n : ℕ) (e : Expr) (todo : List Todo) → CodeSweep g made (Lones (here s) made todo) e → O [] todo → PutStep g (quiet.sweep_step n e todo s)
+    pub swept : (n : ℕ) (e : Expr) (todo : List Todo) → CodeSweep g made (todos.Lones g (here s) made todo) e → O [] todo → PutStep g (quiet.sweep_step n e todo s)
     swept zero e todo n h = anew _ _ h
-    swept (suc m) e todo n h = record { run = record { made = made; this = this; marks = []; holds = tt; ok = sweeps (here s) made e todo n h }; callers = callers; env = env }
+    swept (suc m) e todo n h = record { run = record { made = made; this = this; marks = []; holds = tt; ok = todos.sweeps g (here s) made e todo n h }; callers = callers; env = env }
 
-    event_step : (P : Site → Type 0) (a : EventStmt) (todo : List Todo) → CodeStmt g P made (src.OfEvents a) → O [] todo → PutStep g (quiet.event_step a todo s)
-    event_step P (src.Throw line r) todo n h = anew _ _ (raised (here s) made r (piece.ThrowNow ∷ (piece.Within line ∷ todo)) n.0 n.1 (tt, (tt, h)))
-    event_step P (src.Raise line r) todo n h = anew _ _ (raised (here s) made r (piece.RaiseNow ∷ (piece.Within line ∷ todo)) n.0 n.1 (tt, (tt, h)))
-    event_step P (src.Try line body hs) todo n h = anew _ _ (inl (n.0.0, n.1.0), ((n.0.1, n.1.1), (tt, h)))
-    event_step P (src.RaiseAt line r a) todo n h =
-        anew _ _ (raised (here s) made r (piece.Eval a ∷ (piece.RaiseAtNow ∷ (piece.Within line ∷ todo))) (counted_at (here s) made r n.0.0) n.1.0 (n.0.1, inl (n.1.1, (tt, (tt, h)))))
-    event_step P (src.Enable line events cell a) todo n h = anew _ _ (tt, (tt, (inner (here s) made (OpensRest (piece.Clean (src.Restores cell) ∷ (piece.Within line ∷ todo))) a n, ((tt, tt), (tt, h)))))
-    event_step P (src.Disable line events cell a) todo n h = anew _ _ (tt, (inner (here s) made (OpensRest (piece.Clean (src.Restores cell) ∷ (piece.Within line ∷ todo))) a n, ((tt, tt), (tt, h))))
+    -- nothing stands around where an event is built
+    abbrev pub LoneEvent : EventStmt → List Todo → Type 0
+    LoneEvent (src.Throw line r) todo = todos.BuildsAt g (here s) made r (todos.Lones g (here s) made todo)
+    LoneEvent (src.Raise line r) todo = todos.BuildsAt g (here s) made r (todos.Lones g (here s) made todo)
+    LoneEvent (src.RaiseAt line r a) todo = todos.BuildsAt g (here s) made r (todos.Lones g (here s) made todo)
+    LoneEvent a todo = Unit {0}
+
+    event_step : (P : Site → Type 0) (a : EventStmt) (todo : List Todo) → CodeStmt g P made (src.OfEvents a) → LoneEvent a todo → O [] todo → PutStep g (quiet.event_step a todo s)
+    event_step P (src.Throw line r) todo n l h = anew _ _ (todos.raised g (here s) made r (piece.ThrowNow ∷ (piece.Within line ∷ todo)) n.0 l (tt, (tt, h)))
+    event_step P (src.Raise line r) todo n l h = anew _ _ (todos.raised g (here s) made r (piece.RaiseNow ∷ (piece.Within line ∷ todo)) n.0 l (tt, (tt, h)))
+    event_step P (src.Try line body hs) todo n l h = anew _ _ (inl (n.0.0, n.1.0), ((n.0.1, n.1.1), (tt, h)))
+    event_step P (src.RaiseAt line r a) todo n l h =
+        anew _ _ (todos.raised g (here s) made r (piece.Eval a ∷ (piece.RaiseAtNow ∷ (piece.Within line ∷ todo))) (todos.counted_at g (here s) made r n.0.0) l (n.0.1, inl (n.1.1, (tt, (tt, h)))))
+    event_step P (src.Enable line events cell a) todo n l h = anew _ _ (tt, (tt, (todos.inner g (here s) made (OpensRest (piece.Clean (src.Restores cell) ∷ (piece.Within line ∷ todo))) a n, ((tt, tt, tt), (tt, h)))))
+    event_step P (src.Disable line events cell a) todo n l h = anew _ _ (tt, (todos.inner g (here s) made (OpensRest (piece.Clean (src.Restores cell) ∷ (piece.Within line ∷ todo))) a n, ((tt, tt, tt), (tt, h))))
 
     task_step : (P : Site → Type 0) (a : TaskStmt) (todo : List Todo) → CodeStmt g P made (src.OfTasks a) → O [] todo → PutStep g (quiet.task_step a todo s)
     task_step P (src.Resume line) todo n h = anew _ _ (tt, (tt, (tt, h)))
@@ -441,46 +175,73 @@ module _ (g : Setting) where
     task_step P (src.Migrate line a) todo n h = anew _ _ (n.0, inl (n.1, (tt, (tt, h))))
     task_step P (src.Accept line site cs) todo n h = anew _ _ (n, (tt, (n, (tt, h))))
 
-    -- nothing stands around what is to be built in a statement
-    abbrev pub LoneBuilt : Stmt → List Todo → Type 0
-    LoneBuilt (src.Fill line m b d) todo = (n : ℕ) (p : Spot) → OpensRest todo (Each n p) → LoneAt g.table g.few (here s) todo (Each n p)
-    LoneBuilt a todo = Unit {0}
+    -- so it is behind a statement, of what opens there, and where it builds an event
+    abbrev pub LoneBehind : List Todo → Type 0
+    LoneBehind todo = (x : Site) → IsIn made x → OpensRest todo x → LoneAt g.table g.few (here s) todo x
 
-    pub stmt : (a : Stmt) (todo : List Todo) → CodeStmt g (OpensRest todo) made a → LoneBuilt a todo → O [] todo → PutStep g (quiet.stmt_step a todo s)
-    stmt (src.Skip line) todo n l h = anew _ _ h
-    stmt (src.Block line body) todo n l h = anew _ _ (inl n, (tt, h))
-    stmt (src.Whole line body) todo n l h = anew _ _ (inl n, (tt, (tt, h)))
-    stmt (src.Evaluate line a) todo n l h = anew _ _ (single (here s) made a (piece.DropNow ∷ (piece.Within line ∷ todo)) n.0 n.1 (tt, (tt, h)))
-    stmt (src.Declare line ds) todo n l h = anew _ _ (n, (tt, h))
-    stmt (src.Print line items) todo n l h = anew _ _ (n, (tt, h))
-    stmt (src.PrintTogether line items) todo n l h = anew _ _ (n, (tt, (n, (tt, (tt, h)))))
-    stmt (src.Read line ts) todo n l h = anew _ _ (n, (tt, h))
-    stmt (src.If line t a b) todo n l h = anew _ _ (n.0.0, inl (n.1.0, (((n.0.1, n.1.1), (n.0.2, n.1.2)), (tt, h))))
-    stmt (src.Loop line o t e b) todo n l h = anew _ _ (looped (here s) made o t e b _ ((n.0.0, n.1.0), (n.0.1, n.1.1), (n.0.2, n.1.2)) (tt, h))
-    stmt (src.Break line) todo n l h = anew _ _ (gone [] todo h)
-    stmt (src.Continue line) todo n l h = anew _ _ (gone [] todo h)
-    stmt (src.Return line None) todo n l h = anew _ _ (gone [] todo h)
-    stmt (src.Return line (Some e)) todo n l h = anew _ _ (n.0, inl (n.1, gone [] todo h))
-    stmt (src.Owes line) todo n l h = anew _ _ (tt, (tt, h))
-    stmt (src.Fill line m b e) todo n l h = anew _ _ (tt, (((n.0.0, marks.fills_more g.table g.source g.special made (OpensRest todo) (Lones (here s) made (piece.Within line ∷ todo)) l b n.1.0), (n.0.1, marks.sweeps_more g.table g.source g.special made (OpensRest todo) (Lones (here s) made (piece.Within line ∷ todo)) l e n.1.1)), (tt, h)))
-    stmt (src.OfEvents a) todo n l h = event_step (OpensRest todo) a todo n h
-    stmt (src.OfTasks a) todo n l h = task_step (OpensRest todo) a todo n h
+    abbrev pub LoneStmt : Stmt → List Todo → Type 0
+    LoneStmt (src.OfEvents a) todo = LoneEvent a todo
+    LoneStmt a todo = Unit {0}
 
-    pub rest_of : (ss : Stmts) (todo : List Todo) → CodeStmts g made ss ⊎ CodeOpening g (here s) made ss todo → O [] todo → PutStep g (quiet.rest_step ss todo s)
+    wide : (p : Spot) → IsOf made p → IsOf made p
+    wide p i = i
+
+    pub stmt : (a : Stmt) (todo : List Todo) → CodeStmt g (OpensRest todo) made a → LoneBehind todo → LoneStmt a todo → O [] todo → PutStep g (quiet.stmt_step a todo s)
+    stmt (src.Skip line) todo n b l h = anew _ _ h
+    stmt (src.Block line body) todo n b l h = anew _ _ (inl n, (tt, h))
+    stmt (src.Whole line body) todo n b l h = anew _ _ (inl n, (tt, (tt, h)))
+    stmt (src.Evaluate line a) todo n b l h = anew _ _ (todos.single g (here s) made a (piece.DropNow ∷ (piece.Within line ∷ todo)) n.0 (marks.evaluates_more g.table g.source g.special made made wide (OpensRest todo) (todos.Lones g (here s) made todo) b a n.1) (tt, (tt, h)))
+    stmt (src.Declare line ds) todo n b l h = anew _ _ (n, (tt, h))
+    stmt (src.Print line items) todo n b l h = anew _ _ (n, (tt, h))
+    stmt (src.PrintTogether line items) todo n b l h = anew _ _ (n, (tt, (n, (tt, (tt, h)))))
+    stmt (src.Read line ts) todo n b l h = anew _ _ (n, (tt, h))
+    stmt (src.If line t x y) todo n b l h = anew _ _ (n.0.0, inl (n.1.0, (((n.0.1, n.1.1), (n.0.2, n.1.2)), (tt, h))))
+    stmt (src.Loop line o t e x) todo n b l h = anew _ _ (todos.looped g (here s) made o t e x _ ((n.0.0, n.1.0), (n.0.1, n.1.1), (n.0.2, n.1.2)) (tt, h))
+    stmt (src.Break line) todo n b l h = anew _ _ (gone [] todo h)
+    stmt (src.Continue line) todo n b l h = anew _ _ (gone [] todo h)
+    stmt (src.Return line None) todo n b l h = anew _ _ (gone [] todo h)
+    stmt (src.Return line (Some e)) todo n b l h = anew _ _ (n.0, inl (n.1, gone [] todo h))
+    stmt (src.Owes line) todo n b l h = anew _ _ (tt, (tt, h))
+    stmt (src.Fill line m x e) todo n b l h = anew _ _ (tt, (((n.0.0, marks.fills_more g.table g.source g.special made made wide (OpensRest todo) (todos.Lones g (here s) made todo) b x n.1.0), (n.0.1, marks.sweeps_more g.table g.source g.special made made wide (OpensRest todo) (todos.Lones g (here s) made todo) b e n.1.1)), (tt, h)))
+    stmt (src.OfEvents a) todo n b l h = event_step (OpensRest todo) a todo n l h
+    stmt (src.OfTasks a) todo n b l h = task_step (OpensRest todo) a todo n h
+
+    -- statements within others open a scope
+    scoped : (c : CleanUp) (ss : Stmts) (todo : List Todo) → CodeStmts g (apart made) (src.Scoped c ss) → O [] todo → PutStep g (piece.turns (piece.Rest ss ∷ (piece.Clean c ∷ todo)) s)
+    scoped c ss todo n h = anew _ _ (inl (n.0.1, n.1.1), (todos.scope_more g (here s) made c todo n.0.0 n.1.0, h))
+
+    built : (c : CleanUp) (ss : Stmts) (todo : List Todo) → CodeStmts g (apart made) (src.Built c ss) → O [] todo → PutStep g (piece.turns (piece.Rest ss ∷ (piece.Part c ∷ todo)) s)
+    built c ss todo n h =
+        anew _ _ (inl (n.0.1, n.1.1), ((n.0.0, marks.cleans_more g.table g.source g.special (apart made) made (marks.apart_wide made) c n.1.0, apart_outermost g.table g.source g.special made c todo n.1.0), h))
+
+    -- those of a constructor or a destructor, which puts marks for fields in order
+    own_scope : (c : CleanUp) (todo : List Todo) → CountedClean g.source c → CleansBy g.table g.source g.special made c → IsOutermost (spot_of c) todo → CodeScope g made c todo
+    own_scope src.Ends todo n k o = tt
+    own_scope (src.Frees r) todo n k o = absurd k
+    own_scope c todo n k o = (n, k, o)
+
+    own_scoped : (c : CleanUp) (ss : Stmts) (todo : List Todo) → CodeSpine g made (src.Scoped c ss) todo → O [] todo → PutStep g (piece.turns (piece.Rest ss ∷ (piece.Clean c ∷ todo)) s)
+    own_scoped c ss todo n h =
+        let x = next_mark (spot_of c) n.1.0 todo (λ m. Ascends m ss) n.1.2 n.1.1 in
+        anew _ _ (inr (inl ((n.0.0.1, n.0.1.1), (x.number, (x.mark, x.below), x.behind))), (own_scope c todo n.0.0.0 n.0.1.0 x.outermost, h))
+
+    own_built : (c : CleanUp) (ss : Stmts) (todo : List Todo) → CodeSpine g made (src.Built c ss) todo → O [] todo → PutStep g (piece.turns (piece.Rest ss ∷ (piece.Part c ∷ todo)) s)
+    own_built c ss todo n h =
+        let x = next_mark (spot_of c) n.1.0 todo (λ m. Ascends m ss) n.1.2 n.1.1 in
+        anew _ _ (inr (inl ((n.0.0.1, n.0.1.1), (x.number, (x.mark, x.below), x.behind))), ((n.0.0.0, n.0.1.0, x.outermost), h))
+
+    pub rest_of : (ss : Stmts) (todo : List Todo) → CodeRest g (here s) made ss todo → O [] todo → PutStep g (quiet.rest_step ss todo s)
     rest_of src.Nil todo n h = anew _ _ h
-    rest_of (src.Then a ss) todo (inl n) h = anew _ _ ((n.0.0, n.1.0), (inl (n.0.1, n.1.1), h))
-    rest_of (src.Scoped (src.Destroys e) ss) todo (inl n) h = anew _ _ (inl (n.0.1, n.1.1), ((n.0.0, n.1.0), h))
-    rest_of (src.Scoped (src.DestroysAll m e) ss) todo (inl n) h = anew _ _ (inl (n.0.1, n.1.1), ((n.0.0, n.1.0), h))
-    rest_of (src.Scoped src.Unwinds ss) todo (inl n) h = anew _ _ (inl (n.0.1, n.1.1), ((n.0.0, n.1.0), h))
-    rest_of (src.Scoped src.Forgets ss) todo (inl n) h = anew _ _ (inl (n.0.1, n.1.1), ((n.0.0, n.1.0), h))
-    rest_of (src.Scoped src.Leaves ss) todo (inl n) h = anew _ _ (inl (n.0.1, n.1.1), ((n.0.0, n.1.0), h))
-    rest_of (src.Scoped src.Ends ss) todo (inl n) h = absurd n.1.0
-    rest_of (src.Scoped (src.Frees r) ss) todo (inl n) h = absurd n.1.0
-    rest_of (src.Scoped (src.Restores k) ss) todo (inl n) h = anew _ _ (inl (n.0.1, n.1.1), ((n.0.0, n.1.0), h))
-    rest_of (src.Built x ss) todo (inl n) h = anew _ _ (inl (n.0.1, n.1.1), ((n.0.0, n.1.0), h))
-    rest_of (src.Scoped src.Ends ss) todo (inr n) h = anew _ _ (inl (n.1.1, subst (λ b. CallingStmts g.table g.source g.special b ss) (sym n.0) n.2), (tt, h))
-    rest_of (src.Scoped (src.Frees r) ss) todo (inr n) h = anew _ _ (inl (n.1.1, subst (λ b. CallingStmts g.table g.source g.special b ss) (sym n.0) n.2.1), (n.2.0, h))
-    rest_of ss todo (inr n) h = absurd n.2
+    rest_of (src.Then a ss) todo (inl n) h =
+        anew _ _ ((n.0.0, marks.stmt_more g.table g.source g.special made (OpensRest (piece.Rest ss ∷ todo)) (OpensRest (piece.Rest ss ∷ todo)) (λ x i y. y) a n.1.0), (inl (n.0.1, n.1.1), h))
+    rest_of (src.Scoped c ss) todo (inl n) h = scoped c ss todo n h
+    rest_of (src.Built c ss) todo (inl n) h = built c ss todo n h
+    rest_of (src.Then a ss) todo (inr (inl n)) h = anew _ _ ((n.0.0.0, n.0.1.0), (inr (inl ((n.0.0.1, n.0.1.1), n.1)), h))
+    rest_of (src.Scoped c ss) todo (inr (inl n)) h = own_scoped c ss todo n h
+    rest_of (src.Built c ss) todo (inr (inl n)) h = own_built c ss todo n h
+    rest_of (src.Scoped src.Ends ss) todo (inr (inr n)) h = anew _ _ (inr (inl ((n.1.1, n.2.0), (0, (tt, n.3), n.2.1))), (tt, h))
+    rest_of (src.Scoped (src.Frees r) ss) todo (inr (inr n)) h = anew _ _ (inr (inl ((n.1.1, n.2.1), (0, (tt, n.3), n.2.2))), (n.2.0, h))
+    rest_of ss todo (inr (inr n)) h = absurd n.2
 
     pub land : (o : Option UnwindReason) (ms : List Mark) (todo : List Todo) → H ms s.run.operands → O ms todo → PutStep g (quiet.land_step o todo s)
     land None ms todo k h = go ms _ _ k h
@@ -495,37 +256,37 @@ module _ (g : Setting) where
     thrown e todo h = throws e todo (gone [] todo h)
 
     -- the activation that raised goes on without the event
-    handles : (ms : List Mark) (f : Option Found) (e : raising.Event) (todo : List Todo) → H ms s.run.operands → OfFound f → O (rests 3 ms) todo → PutStep g (raising.handle_step f e todo s)
-    handles ms None e todo k n h = throws e todo (gone (rests 3 ms) todo h)
-    handles ms (Some f) e todo k n h = record {
-      run = record { made = false; this = λ q. absurd (cc); marks = []; holds = tt; ok = handled (record { exec = s.env.exec; frame = f.frame; this = f.this; older = (record s.run { control = piece.DropNow ∷ todo; operands = below (below (below s.run.operands)) }) ∷ s.callers }) false f.handler [] n tt };
+    handles : (ms : List Mark) (f : Option Found) (e : raising.Event) (todo : List Todo) → H ms s.run.operands → todos.OfFound g f → FoundBehind g f todo s → O (rests 3 ms) todo → PutStep g (raising.handle_step f e todo s)
+    handles ms None e todo k n y h = throws e todo (gone (rests 3 ms) todo h)
+    handles ms (Some f) e todo k n y h = record {
+      run = record { made = record { builds = false; low = y.low }; this = record { own = λ q. absurd (cc); alone = λ q. absurd (cc); spare = y.spare }; marks = []; holds = tt; ok = todos.handled g (record { exec = s.env.exec; frame = f.frame; this = f.this; older = (record s.run { control = piece.DropNow ∷ todo; operands = below (below (below s.run.operands)) }) ∷ s.callers }) (record { builds = false; low = y.low }) f.handler [] (n, y.code) tt };
       callers = (finds 1 (rests 3 ms) (piece.DropNow ∷ todo) _ (holds_below g.few (here s) (rests 2 ms) _ (holds_below g.few (here s) (rests 1 ms) _ (holds_below g.few (here s) ms _ k))) (tt, h), callers);
-      env = likes env refl refl refl;
+      env = todos.likes g env refl refl refl;
     }
 
-    pub raises : (ms : List Mark) (e : raising.Event) (todo : List Todo) → H ms s.run.operands → O (rests 3 ms) todo → PutStep g (raising.raise_step e todo s)
-    raises ms e todo k h =
+    pub raises : (ms : List Mark) (e : raising.Event) (todo : List Todo) → H ms s.run.operands → FoundBehind g (raising.seek None e ((record s.run { control = todo }) ∷ s.callers)) todo s → O (rests 3 ms) todo → PutStep g (raising.raise_step e todo s)
+    raises ms e todo k y h =
         let round : List Active = (record s.run { control = todo }) ∷ s.callers in
-        handles ms (raising.seek None e round) e todo k (seek s.env.exec None e round (record { made = made; rest = gone (rests 3 ms) todo h }, waits_left g s.env.exec s.callers callers)) h
+        handles ms (raising.seek None e round) e todo k (todos.seek g s.env.exec None e round (record { made = made; rest = gone (rests 3 ms) todo h; seat = this }, waits_left g s.env.exec s.callers callers)) y h
 
     -- unwinding
 
-    catches : (o : Option Handler) (e : raising.Event) (todo : List Todo) → OfHandler made o → O [] todo → PutStep g (raising.catch_step o e todo s)
+    catches : (o : Option Handler) (e : raising.Event) (todo : List Todo) → todos.OfHandler g (apart made) o → O [] todo → PutStep g (raising.catch_step o e todo s)
     catches None e todo n h = unwound _ _ (gone [] todo h)
-    catches (Some x) e todo n h = record { run = record { made = made; this = this; marks = []; holds = tt; ok = handled (here s) made x todo n h }; callers = callers; env = env }
+    catches (Some x) e todo n h = record { run = record { made = made; this = this; marks = []; holds = tt; ok = todos.handled g (here s) made x todo n h }; callers = callers; env = env }
 
-    guarded : (hs : Handlers) (o : Option UnwindReason) (todo : List Todo) → CodeHandlers g made hs → O [] todo → PutStep g (raising.guard_left hs o todo s)
+    guarded : (hs : Handlers) (o : Option UnwindReason) (todo : List Todo) → CodeHandlers g (apart made) hs → O [] todo → PutStep g (raising.guard_left hs o todo s)
     guarded hs (Some (reason.Event n x y)) todo k h =
-        catches _ _ todo (handler_for made false (record { number = n; x = x; y = y }) hs k) h
+        catches _ _ todo (todos.handler_for g (apart made) false (record { number = n; x = x; y = y }) hs k) h
     guarded hs o todo k h = unwound _ _ (gone [] todo h)
 
     whole : (b : Bool) (todo : List Todo) → O [] todo → PutStep g (raising.whole_left b todo s)
     whole true todo h = record { run = record { made = made; this = this; marks = []; holds = tt; ok = h }; callers = callers; env = env }
     whole false todo h = unwound _ _ (gone [] todo h)
 
-    scope : (x : CleanUp) (b : Bool) (todo : List Todo) → CodeScope g made x → LoneFor (here s) made x (piece.Unwind ∷ todo) → O [] todo → PutStep g (raising.scope_left x b todo s)
+    scope : (x : CleanUp) (b : Bool) (todo : List Todo) → CodeScope g made x todo → todos.LoneFor g (here s) made x (piece.Unwind ∷ todo) → O [] todo → PutStep g (raising.scope_left x b todo s)
     scope src.Leaves true todo n l h = record { run = record { made = made; this = this; marks = []; holds = tt; ok = (tt, gone [] todo h) }; callers = callers; env = env }
-    scope x b todo n l h = anew (raising.left_todo x (piece.Unwind ∷ todo)) [] (left_cleans (here s) made x (piece.Unwind ∷ todo) n l (gone [] todo h))
+    scope x b todo n l h = anew (raising.left_todo x (piece.Unwind ∷ todo)) [] (todos.left_cleans g (here s) made x todo (piece.Unwind ∷ todo) n l (gone [] todo h))
 
     main_left : (o : Option UnwindReason) (todo : List Todo) → O [] todo → PutStep g (raising.main_left o todo s)
     main_left (Some (reason.ReturnTo n)) todo h = record { run = record { made = made; this = this; marks = []; holds = tt; ok = (tt, h) }; callers = callers; env = env }
@@ -533,13 +294,13 @@ module _ (g : Setting) where
 
     coroutine_left : (o : Option UnwindReason) (todo : List Todo) → O [] todo → PutStep g (raising.coroutine_left o todo s)
     coroutine_left (Some (reason.ReturnTo n)) todo h = record { run = record { made = made; this = this; marks = []; holds = tt; ok = (tt, h) }; callers = callers; env = env }
-    coroutine_left (Some reason.Destroyed) todo h = moved _ todo _ (kept.taken_down_rests (Runs g) (Waits g) calm (at todo [] s) (anew todo [] h))
-    coroutine_left o todo h = moved _ todo _ (kept.escape_rests (Runs g) (Waits g) calm (at todo [] s) (anew todo [] h))
+    coroutine_left (Some reason.Destroyed) todo h = moved _ todo _ (kept.taken_down_rests (Runs g) (Waits g) (todos.calm g) (at todo [] s) (anew todo [] h))
+    coroutine_left o todo h = moved _ todo _ (kept.escape_rests (Runs g) (Waits g) (todos.calm g) (at todo [] s) (anew todo [] h))
 
     -- nothing stands around what is left next
     abbrev pub LonePast : Sort → List Todo → Type 0
-    LonePast (piece.IsClean c) todo = LoneFor (here s) made c (piece.Unwind ∷ todo)
-    LonePast (piece.IsPart c) todo = LoneFor (here s) made c (piece.Unwind ∷ todo)
+    LonePast (piece.IsClean c) todo = todos.LoneFor g (here s) made c (piece.Unwind ∷ todo)
+    LonePast (piece.IsPart c) todo = todos.LoneFor g (here s) made c (piece.Unwind ∷ todo)
     LonePast k todo = Unit {0}
 
     unwind_past : (k : Sort) (todo : List Todo) → LeftBy g (here s) made k todo (L todo) (O [] todo) → LonePast k todo → PutStep g (raising.unwind_past k todo s)
@@ -549,20 +310,20 @@ module _ (g : Setting) where
     unwind_past (piece.IsClean c) todo h l = scope c _ todo h.0 l h.1
     unwind_past (piece.IsFill m b d) todo h l = anew _ _ (h.0.1, gone [] todo h.1)
     unwind_past (piece.IsSweep e) todo h l = anew _ _ (h.0, gone [] todo h.1)
-    unwind_past (piece.IsPart c) todo h l = anew _ _ (cleans (here s) made c _ (part_scope (here s) made c h.0) l (gone [] todo h.1))
+    unwind_past (piece.IsPart c) todo h l = anew _ _ (todos.cleans g (here s) made c todo _ (todos.part_scope g (here s) made c todo h.0) l (gone [] todo h.1))
     unwind_past (piece.IsGuard hs) todo h l = guarded hs s.run.raised todo h.0 h.1
     unwind_past piece.IsFinish todo h l = main_left s.run.raised todo h
     unwind_past piece.IsFinishCoroutine todo h l = coroutine_left s.run.raised todo h
 
-    pass_on : (o : Option UnwindReason) (c : Active) (cs : List Active) → Waits g s.env.exec cs c → W s.env.exec cs → PutStep g (raising.pass_on o c cs s)
+    pass_on : (o : Option UnwindReason) (c : Active) (cs : List Active) → Waits g s.env.exec cs c → todos.W g s.env.exec cs → PutStep g (raising.pass_on o c cs s)
     pass_on None c cs a b = record { run = tt; callers = callers; env = env }
-    pass_on (Some why) c cs a b = record { run = record { made = a.made; this = a.this; marks = []; holds = tt; ok = left (around s.env.exec c cs) a.made (Any ∷ a.marks) c.control a.ok }; callers = b; env = likes env refl refl refl }
+    pass_on (Some why) c cs a b = record { run = record { made = a.made; this = a.this; marks = []; holds = tt; ok = todos.left g (around s.env.exec c cs) a.made (Any ∷ a.marks) c.control a.ok }; callers = b; env = todos.likes g env refl refl refl }
 
-    leave_for : (b : Bool) (c : Active) (cs : List Active) → Waits g s.env.exec cs c → W s.env.exec cs → PutStep g (raising.leave_for b c cs s)
+    leave_for : (b : Bool) (c : Active) (cs : List Active) → Waits g s.env.exec cs c → todos.W g s.env.exec cs → PutStep g (raising.leave_for b c cs s)
     leave_for true c cs a b = record { run = tt; callers = callers; env = env }
     leave_for false c cs a b = pass_on s.run.raised c cs a b
 
-    leaves : (cs : List Active) → W s.env.exec cs → PutStep g (raising.leave_step cs s)
+    leaves : (cs : List Active) → todos.W g s.env.exec cs → PutStep g (raising.leave_step cs s)
     leaves [] c = record { run = tt; callers = callers; env = env }
     leaves (c ∷ cs) p =
         either (PutStep g) (raising.arrives s.run.raised (length (c ∷ cs))) _ _ (returned s.run.result (c ∷ cs) p) (leave_for _ c cs p.0 p.1)
@@ -580,7 +341,7 @@ module _ (g : Setting) where
     pub flushes : (o : Option (List Piece)) (todo : List Todo) (vs : List Value) → O [] todo → PutStep g (piece.flush_step o todo vs s)
     flushes None todo vs h = anew _ _ h
     flushes (Some []) todo vs h = go_in [] _ _ _ tt h (same refl refl refl refl)
-    flushes (Some (p ∷ ps)) todo vs h = record { run = finds 0 [] todo vs tt h; callers = callers; env = likes env refl refl refl }
+    flushes (Some (p ∷ ps)) todo vs h = record { run = finds 0 [] todo vs tt h; callers = callers; env = todos.likes g env refl refl refl }
 
     -- with what is known of the operands
     module _ (ms : List Mark) (holds : H ms s.run.operands) where
@@ -593,7 +354,7 @@ module _ (g : Setting) where
       -- expressions
 
       on : (n r : ℕ) (m : Mark) (todo : List Todo) → n ≡ params g.source r → O (Any ∷ ms) todo → O (Any ∷ rests (suc (params g.source r)) (anys n (m ∷ ms))) todo
-      on n r m todo e h = called_on (here s) made n r m ms todo e h
+      on n r m todo e h = todos.called_on g (here s) made n r m ms todo e h
 
       object : (x : ObjectExpr) (todo : List Todo) → Counts g (src.OfObject x) → Plain g (src.OfObject x) → O (Any ∷ ms) todo → PutStep g (quiet.object_step x todo s)
       object src.This todo n q h = go (Any ∷ ms) _ _ (tt, holds) h
@@ -629,40 +390,65 @@ module _ (g : Setting) where
       eval (src.Set k a) todo n q h = go ms _ _ holds (n, inl (q, (tt, h)))
       eval (src.Assign p a) todo n q h = go ms _ _ holds (n.0, inl (q.0, (n.1, inl (q.1, (tt, h)))))
       eval (src.First a b) todo n q h = go ms _ _ holds (n.0, inl (q.0, (n.1, inl (q.1, (tt, h)))))
-      eval (src.Update op k p a) todo n q h = go ms _ _ holds (n.0, inl (q.0, (tt, inl (n.1, inl (q.1, (tt, converts (here s) made k (Any ∷ ms) _ (tt, h)))))))
+      eval (src.Update op k p a) todo n q h = go ms _ _ holds (n.0, inl (q.0, (tt, inl (n.1, inl (q.1, (tt, todos.converts g (here s) made k (Any ∷ ms) _ (tt, h)))))))
       eval (src.StepBehind op k p) todo n q h =
-          go ms _ _ holds (n, inl (q, (tt, inl (tt, (tt, (tt, inl (tt, (tt, converts (here s) made k (Any ∷ (Any ∷ (Any ∷ ms))) _ (tt, (tt, h))))))))))
+          go ms _ _ holds (n, inl (q, (tt, inl (tt, (tt, (tt, inl (tt, (tt, todos.converts g (here s) made k (Any ∷ (Any ∷ (Any ∷ ms))) _ (tt, (tt, h))))))))))
       eval src.Fail todo n q h = record { run = finds 1 ms todo _ holds h; callers = callers; env = env }
-      eval (src.Call r args) todo n q h = go ms _ _ holds ((n.0, q.1), (tt, (q.0, called (here s) made args r ms todo n.1 h)))
+      eval (src.Call r args) todo n q h = go ms _ _ holds ((n.0, q.1), (tt, (q.0, todos.called g (here s) made args r ms todo n.1 h)))
       eval (src.OfObject x) todo n q h = object x todo n q h
-
-      binds : (a : Expr) (todo : List Todo) → Counts g a → Binds g.table g.source g.special a → O (Any ∷ ms) todo → PutStep g (quiet.eval_step a todo s)
-      binds (src.OfObject (src.Bind a e)) todo n (b, inl q) h = go ms _ _ holds (n.0, inl (b, (n.1, inl (q, (tt, h)))))
-      binds (src.OfObject (src.Bind a e)) todo n (b, inr q) h = go ms _ _ holds (n.0, inl (b, (n.1, inr (inr (inl (q, (tt, h)))))))
-      binds a todo n b h = absurd b
 
       making : (e : Expr) (todo : List Todo) → Counts g e → PlainNew g.table g.source g.special e → O (Any ∷ ms) todo → PutStep g (quiet.eval_step e todo s)
       making (src.OfObject src.NewCluster) todo n p h = go ms _ _ holds (tt, h)
       making (src.OfObject (src.NewProcessor a)) todo n p h = go ms _ _ holds (n, inl (p, (tt, h)))
       making e todo n p h = absurd p
 
-      calls : (a : Expr) (todo : List Todo) → Counts g a → CallsAt g.table g.source g.special made a → O (Any ∷ ms) todo → PutStep g (quiet.eval_step a todo s)
-      calls (src.OfObject (src.CallOn r a args)) todo n b h = go ms _ _ holds (n.0, inr (inr (inr (inr (inl (b.1, ((n.1, b.2), (tt, (inr (inl (b.0, under FirstOwn (count args) r (Own ∷ ms) n.2 tt)), on (count args) r Own todo n.2 h)))))))))
-      calls (src.OfObject (src.CallUnwritten r a)) todo n b h = go ms _ _ holds (n.0, inr (inr (inr (inr (inl (b.1, (inr (inl (b.0, under FirstOwn 0 r (Own ∷ ms) n.1 tt)), on 0 r Own todo n.1 h)))))))
+      same_spot : (p : Spot) → IsOf made p → IsOf made p
+      same_spot p i = i
+
+      -- a place is bound
+      binds : (a : Expr) (todo : List Todo) → Counts g a → Binds g.table g.source g.special made a → O (Any ∷ ms) todo → PutStep g (quiet.eval_step a todo s)
+      binds (src.OfObject (src.Bind a e)) todo n (b, inl q) h =
+          go ms _ _ holds (n.0, inr (inr (inr (inr (inl (marks.place_more g.table g.source g.special made made same_spot AnySite (λ x. O (At x ∷ ms) (piece.Eval e ∷ (piece.BindNow ∷ todo))) (λ p i y. (n.1, inl (q, (i, h)))) a b))))))
+      binds (src.OfObject (src.Bind a e)) todo n (b, inr q) h =
+          go ms _ _ holds (n.0, inr (inr (inr (inr (inl (marks.place_more g.table g.source g.special made made same_spot AnySite (λ x. O (At x ∷ ms) (piece.Eval e ∷ (piece.BindNow ∷ todo))) (λ p i y. (n.1, inr (inr (inl (q, (i, h)))))) a b))))))
+      binds a todo n b h = absurd b
+
+      -- what is no mutex object is called where it is under a spot
+      called_fits : (p : Spot) (n r : ℕ) (todo : List Todo) → n ≡ params g.source r → is_opening g.source r ≡ false → IsOf made p → LoneAt g.table g.few (here s) todo (Under p) → todos.CallsFit g (here s) made r (anys n (At (Under p) ∷ ms)) todo
+      called_fits p n r todo e o i l = inr (inl (o, todos.under g (λ ns. FirstUnder ns (λ q. IsOf made q × LoneAt g.table g.few (here s) todo (Under q))) n r (At (Under p) ∷ ms) e (i, l)))
+
+      calls : (a : Expr) (todo : List Todo) → Counts g a → CallsAt g.table g.source g.special made (LoneAt g.table g.few (here s) todo) a → O (Any ∷ ms) todo → PutStep g (quiet.eval_step a todo s)
+      calls (src.OfObject (src.CallOn r a args)) todo n b h =
+          go ms _ _ holds (n.0, inr (inr (inr (inr (inl (marks.place_more g.table g.source g.special made made same_spot (LoneAt g.table g.few (here s) todo) (λ x. O (At x ∷ ms) (piece.Arguments args ∷ (piece.TickNow ∷ (piece.CallOnNow r ∷ todo)))) called_at a b.1))))))
+        where
+          called_at : (p : Spot) → IsOf made p → LoneAt g.table g.few (here s) todo (Under p) → O (At (Under p) ∷ ms) (piece.Arguments args ∷ (piece.TickNow ∷ (piece.CallOnNow r ∷ todo)))
+          called_at p i l = ((n.1, b.2), (tt, (called_fits p (count args) r todo n.2 b.0 i l, on (count args) r (At (Under p)) todo n.2 h)))
+      calls (src.OfObject (src.CallUnwritten r a)) todo n b h =
+          go ms _ _ holds (n.0, inr (inr (inr (inr (inl (marks.place_more g.table g.source g.special made made same_spot (LoneAt g.table g.few (here s) todo) (λ x. O (At x ∷ ms) (piece.CallUnwrittenNow r ∷ todo)) called_at a b.1))))))
+        where
+          called_at : (p : Spot) → IsOf made p → LoneAt g.table g.few (here s) todo (Under p) → O (At (Under p) ∷ ms) (piece.CallUnwrittenNow r ∷ todo)
+          called_at p i l = (called_fits p 0 r todo n.1 b.0 i l, on 0 r (At (Under p)) todo n.1 h)
       calls a todo n b h = absurd b
 
-      place : (e : Expr) (todo : List Todo) → Counts g e → PlaceAt g.table g.source g.special made e → O (Own ∷ ms) todo → PutStep g (quiet.eval_step e todo s)
-      place (src.Variable k) todo n p h = go (Own ∷ ms) _ _ (frame refl, holds) h
-      place (src.OfObject (src.OwnField k i)) todo n p h = go (Own ∷ ms) _ _ (further_own g.table g.few s.env.exec (piece.FieldAt k i) s.run.this (this p), holds) h
-      place (src.Element m k a i) todo n p h = go ms _ _ holds (n.0, inr (inr (inr (inr (inl (p.0, (n.1, inl (p.1, inr (inl (tt, h))))))))))
-      place e todo n p h = absurd p
+      place : (e : Expr) (todo : List Todo) → Counts g e → PlaceAt g.table g.source g.special made (λ x. O (At x ∷ ms) todo) e → PutStep g (quiet.eval_step e todo s)
+      place (src.Variable k) todo n p = go (At (Under (OfVariable k)) ∷ ms) _ _ (same_place, holds) p.1
+      place (src.OfObject (src.OwnField k i)) todo n p = go (At (Under (OfField k i)) ∷ ms) _ _ (same_place, holds) p.1
+      place (src.Element m k a i) todo n p =
+          go ms _ _ holds (n.0, inr (inr (inr (inr (inl (entered_at a p.0))))))
+        where
+          entered_at : (a : Expr) → PlaceAt g.table g.source g.special made (λ x. O (At x ∷ ms) todo) a → PlaceAt g.table g.source g.special made (λ x. O (At x ∷ ms) (piece.Eval i ∷ (piece.ElementNow m k ∷ todo))) a
+          entered_at (src.Variable v) q = (q.0, (n.1, inl (p.1, inr q.1)))
+          entered_at (src.OfObject (src.OwnField v j)) q = (q.0, (n.1, inl (p.1, inr q.1)))
+          entered_at (src.Element l v x j) q = (entered_at x q.0, q.1)
+          entered_at x q = absurd q
+      place e todo n p = absurd p
 
       -- a place at a site
       locates : (e : Expr) (todo : List Todo) → Counts g e → Located e (λ x. O (At x ∷ ms) todo) → PutStep g (quiet.eval_step e todo s)
       locates (src.Variable k) todo n h = go (At (One (OfVariable k)) ∷ ms) _ _ (refl, holds) h
       locates (src.OfObject (src.OwnField k i)) todo n h = go (At (One (OfField k i)) ∷ ms) _ _ (refl, holds) h
-      locates (src.Element m src.Binding (src.Variable k) (src.OfObject src.Counted)) todo n h = go ms _ _ holds (n.0, inr (inr (inr (inr (inr (inl (n.1, inl ((tt, tt), inr (inr h)))))))))
-      locates (src.Element m src.Binding (src.OfObject (src.OwnField k i)) (src.OfObject src.Counted)) todo n h = go ms _ _ holds (n.0, inr (inr (inr (inr (inr (inl (n.1, inl ((tt, tt), inr (inr h)))))))))
+      locates (src.Element m src.Binding (src.Variable k) (src.OfObject src.Counted)) todo n h = go ms _ _ holds (n.0, inr (inr (inr (inr (inr (inl (n.1, inl ((tt, tt), inr h))))))))
+      locates (src.Element m src.Binding (src.OfObject (src.OwnField k i)) (src.OfObject src.Counted)) todo n h = go ms _ _ holds (n.0, inr (inr (inr (inr (inr (inl (n.1, inl ((tt, tt), inr h))))))))
       locates e todo n h = absurd h
 
       loads : (e : Expr) (todo : List Todo) → Counts g e → IsEnding todo → Loads e (λ x. O (Homed x ∷ ms) todo) → PutStep g (quiet.eval_step e todo s)
@@ -673,52 +459,52 @@ module _ (g : Setting) where
       loads e todo n i h = absurd h
 
       -- what is known of the site of an object that is made or ended
-      abbrev pub LoneOr : List Todo → Site → Type 0
-      LoneOr todo x = LoneAt g.table g.few (here s) todo x ⊎ OneNext todo x
+      abbrev pub LoneNamed : List Todo → Site → Type 0
+      LoneNamed todo x = IsIn made x × LoneAt g.table g.few (here s) todo x
 
       -- its place lies below the arguments of what makes an object there
-      made_site : (x : Site) → IsIn made x → (n r : ℕ) (todo : List Todo) → n ≡ params g.source r → LoneOr todo x → O (Any ∷ ms) todo → FirstAt (rests (params g.source r) (anys n (At x ∷ ms))) (λ y. IsIn made y × (CallsFit (here s) made r (made_marks g r (Homed y) (anys n (At x ∷ ms))) todo × O (Any ∷ rests (suc (params g.source r)) (made_marks g r (Homed y) (anys n (At x ∷ ms)))) todo))
+      made_site : (x : Site) → IsIn made x → (n r : ℕ) (todo : List Todo) → n ≡ params g.source r → LoneAt g.table g.few (here s) todo x → O (Any ∷ ms) todo → FirstAt (rests (params g.source r) (anys n (At x ∷ ms))) (λ y. IsIn made y × (todos.CallsFit g (here s) made r (made_marks g r (Homed y) (anys n (At x ∷ ms))) todo × O (Any ∷ rests (suc (params g.source r)) (made_marks g r (Homed y) (anys n (At x ∷ ms)))) todo))
       made_site x i n r todo e o h =
-          let fits : CallsFit (here s) made r (anys (params g.source r) (Homed x ∷ ms)) todo = inr (inr (subst (λ ns. FirstHome ns (LoneOr todo)) (sym (rests_anys (params g.source r) (Homed x ∷ ms))) o)) in
-          under (λ ns. FirstAt ns (λ y. IsIn made y × (CallsFit (here s) made r (made_marks g r (Homed y) (anys n (At x ∷ ms))) todo × O (Any ∷ rests (suc (params g.source r)) (made_marks g r (Homed y) (anys n (At x ∷ ms)))) todo))) n r (At x ∷ ms) e (i, made_on (here s) made n r (At x) (Homed x) ms todo e fits h)
+          let fits : todos.CallsFit g (here s) made r (anys (params g.source r) (Homed x ∷ ms)) todo = inr (inr (subst (λ ns. FirstHome ns (LoneNamed todo)) (sym (rests_anys (params g.source r) (Homed x ∷ ms))) (i, o))) in
+          todos.under g (λ ns. FirstAt ns (λ y. IsIn made y × (todos.CallsFit g (here s) made r (made_marks g r (Homed y) (anys n (At x ∷ ms))) todo × O (Any ∷ rests (suc (params g.source r)) (made_marks g r (Homed y) (anys n (At x ∷ ms)))) todo))) n r (At x ∷ ms) e (i, todos.made_on g (here s) made n r (At x) (Homed x) ms todo e fits h)
 
       -- what ends an object there finds it without arguments
-      ends_site : (x : Site) (r : ℕ) (todo : List Todo) → 0 ≡ params g.source r → LoneAt g.table g.few (here s) todo x → CallsFit (here s) made r (Homed x ∷ ms) todo
-      ends_site x r todo e l = inr (inr (under (λ ns. FirstHome ns (LoneOr todo)) 0 r (Homed x ∷ ms) e (inl l)))
+      ends_site : (x : Site) → IsIn made x → (r : ℕ) (todo : List Todo) → 0 ≡ params g.source r → LoneAt g.table g.few (here s) todo x → todos.CallsFit g (here s) made r (Homed x ∷ ms) todo
+      ends_site x i r todo e l = inr (inr (todos.under g (λ ns. FirstHome ns (LoneNamed todo)) 0 r (Homed x ∷ ms) e (i, l)))
 
       -- what makes a mutex object at a spot, and at an element
-      makes : (a : Expr) (todo : List Todo) → Counts g a → MakesAt g.table g.source g.special made (OpensNext todo) a → O (Any ∷ ms) todo → PutStep g (quiet.eval_step a todo s)
-      makes (src.OfObject (src.MakeOn c r true (src.Variable k) args)) todo n b h = go ms _ _ holds (n.0, inr (inr (inr (inr (inr (inl ((n.1, b.1), (tt, inr (made_site (One (OfVariable k)) tt (count args) r todo n.2 (inr b.0) h)))))))))
-      makes (src.OfObject (src.MakeOn c r true (src.OfObject (src.OwnField k i)) args)) todo n b h = go ms _ _ holds (n.0, inr (inr (inr (inr (inr (inl ((n.1, b.2), (tt, inr (made_site (One (OfField k i)) b.1 (count args) r todo n.2 (inr b.0) h)))))))))
-      makes (src.OfObject (src.MakeOn c r false (src.Variable k) args)) todo n b h = go ms _ _ holds (n.0, inr (inr (inr (inr (inr (inl ((n.1, b.1), inr (made_site (One (OfVariable k)) tt (count args) r todo n.2 (inr b.0) h))))))))
-      makes (src.OfObject (src.MakeOn c r false (src.OfObject (src.OwnField k i)) args)) todo n b h = go ms _ _ holds (n.0, inr (inr (inr (inr (inr (inl ((n.1, b.2), inr (made_site (One (OfField k i)) b.1 (count args) r todo n.2 (inr b.0) h))))))))
+      makes : (a : Expr) (todo : List Todo) → Counts g a → MakesAt g.table g.source g.special made (LoneAt g.table g.few (here s) todo) a → O (Any ∷ ms) todo → PutStep g (quiet.eval_step a todo s)
+      makes (src.OfObject (src.MakeOn c r true (src.Variable k) args)) todo n b h = go ms _ _ holds (n.0, inr (inr (inr (inr (inr (inl ((n.1, b.2), (tt, made_site (One (OfVariable k)) b.1 (count args) r todo n.2 b.0 h))))))))
+      makes (src.OfObject (src.MakeOn c r true (src.OfObject (src.OwnField k i)) args)) todo n b h = go ms _ _ holds (n.0, inr (inr (inr (inr (inr (inl ((n.1, b.2), (tt, made_site (One (OfField k i)) b.1 (count args) r todo n.2 b.0 h))))))))
+      makes (src.OfObject (src.MakeOn c r false (src.Variable k) args)) todo n b h = go ms _ _ holds (n.0, inr (inr (inr (inr (inr (inl ((n.1, b.2), made_site (One (OfVariable k)) b.1 (count args) r todo n.2 b.0 h)))))))
+      makes (src.OfObject (src.MakeOn c r false (src.OfObject (src.OwnField k i)) args)) todo n b h = go ms _ _ holds (n.0, inr (inr (inr (inr (inr (inl ((n.1, b.2), made_site (One (OfField k i)) b.1 (count args) r todo n.2 b.0 h)))))))
       makes a todo n b h = absurd b
 
       makes_each : (a : Expr) (todo : List Todo) → Counts g a → MakesEach g.table g.source g.special made (LoneAt g.table g.few (here s) todo) a → O (Any ∷ ms) todo → PutStep g (quiet.eval_step a todo s)
-      makes_each (src.OfObject (src.MakeOn c r true (src.Element m src.Binding (src.Variable k) (src.OfObject src.Counted)) args)) todo n b h = go ms _ _ holds (n.0, inr (inr (inr (inr (inr (inl ((n.1, b.1), (tt, inr (made_site (Each m (OfVariable k)) tt (count args) r todo n.2 (inl b.0) h)))))))))
-      makes_each (src.OfObject (src.MakeOn c r true (src.Element m src.Binding (src.OfObject (src.OwnField k i)) (src.OfObject src.Counted)) args)) todo n b h = go ms _ _ holds (n.0, inr (inr (inr (inr (inr (inl ((n.1, b.2), (tt, inr (made_site (Each m (OfField k i)) b.1 (count args) r todo n.2 (inl b.0) h)))))))))
-      makes_each (src.OfObject (src.MakeOn c r false (src.Element m src.Binding (src.Variable k) (src.OfObject src.Counted)) args)) todo n b h = go ms _ _ holds (n.0, inr (inr (inr (inr (inr (inl ((n.1, b.1), inr (made_site (Each m (OfVariable k)) tt (count args) r todo n.2 (inl b.0) h))))))))
-      makes_each (src.OfObject (src.MakeOn c r false (src.Element m src.Binding (src.OfObject (src.OwnField k i)) (src.OfObject src.Counted)) args)) todo n b h = go ms _ _ holds (n.0, inr (inr (inr (inr (inr (inl ((n.1, b.2), inr (made_site (Each m (OfField k i)) b.1 (count args) r todo n.2 (inl b.0) h))))))))
+      makes_each (src.OfObject (src.MakeOn c r true (src.Element m src.Binding (src.Variable k) (src.OfObject src.Counted)) args)) todo n b h = go ms _ _ holds (n.0, inr (inr (inr (inr (inr (inl ((n.1, b.2), (tt, made_site (Each m (OfVariable k)) b.1 (count args) r todo n.2 b.0 h))))))))
+      makes_each (src.OfObject (src.MakeOn c r true (src.Element m src.Binding (src.OfObject (src.OwnField k i)) (src.OfObject src.Counted)) args)) todo n b h = go ms _ _ holds (n.0, inr (inr (inr (inr (inr (inl ((n.1, b.2), (tt, made_site (Each m (OfField k i)) b.1 (count args) r todo n.2 b.0 h))))))))
+      makes_each (src.OfObject (src.MakeOn c r false (src.Element m src.Binding (src.Variable k) (src.OfObject src.Counted)) args)) todo n b h = go ms _ _ holds (n.0, inr (inr (inr (inr (inr (inl ((n.1, b.2), made_site (Each m (OfVariable k)) b.1 (count args) r todo n.2 b.0 h)))))))
+      makes_each (src.OfObject (src.MakeOn c r false (src.Element m src.Binding (src.OfObject (src.OwnField k i)) (src.OfObject src.Counted)) args)) todo n b h = go ms _ _ holds (n.0, inr (inr (inr (inr (inr (inl ((n.1, b.2), made_site (Each m (OfField k i)) b.1 (count args) r todo n.2 b.0 h)))))))
       makes_each a todo n b h = absurd b
 
       -- what ends one there
       ends_at_spot : (a : Expr) (todo : List Todo) → Counts g a → EndsAt g.table g.source g.special made (LoneAt g.table g.few (here s) todo) a → O (Any ∷ ms) todo → PutStep g (quiet.eval_step a todo s)
-      ends_at_spot (src.OfObject (src.EndOn r true (src.Load (src.Variable k)))) todo n b h = go ms _ _ holds (n.0, inr (inr (inr (inr (inr (inr (inl (refl, (tt, (tt, (ends_site (One (OfVariable k)) r todo n.1 b.0, on 0 r (Homed (One (OfVariable k))) todo n.1 h)))))))))))
-      ends_at_spot (src.OfObject (src.EndOn r true (src.Load (src.OfObject (src.OwnField k i))))) todo n b h = go ms _ _ holds (n.0, inr (inr (inr (inr (inr (inr (inl (refl, (tt, (tt, (ends_site (One (OfField k i)) r todo n.1 b.0, on 0 r (Homed (One (OfField k i))) todo n.1 h)))))))))))
-      ends_at_spot (src.OfObject (src.EndOn r false (src.Load (src.Variable k)))) todo n b h = go ms _ _ holds (n.0, inr (inr (inr (inr (inr (inr (inl (refl, (tt, (ends_site (One (OfVariable k)) r todo n.1 b.0, on 0 r (Homed (One (OfVariable k))) todo n.1 h))))))))))
-      ends_at_spot (src.OfObject (src.EndOn r false (src.Load (src.OfObject (src.OwnField k i))))) todo n b h = go ms _ _ holds (n.0, inr (inr (inr (inr (inr (inr (inl (refl, (tt, (ends_site (One (OfField k i)) r todo n.1 b.0, on 0 r (Homed (One (OfField k i))) todo n.1 h))))))))))
+      ends_at_spot (src.OfObject (src.EndOn r true (src.Load (src.Variable k)))) todo n b h = go ms _ _ holds (n.0, inr (inr (inr (inr (inr (inr (inl (refl, (tt, (tt, (ends_site (One (OfVariable k)) b.1 r todo n.1 b.0, on 0 r (Homed (One (OfVariable k))) todo n.1 h)))))))))))
+      ends_at_spot (src.OfObject (src.EndOn r true (src.Load (src.OfObject (src.OwnField k i))))) todo n b h = go ms _ _ holds (n.0, inr (inr (inr (inr (inr (inr (inl (refl, (tt, (tt, (ends_site (One (OfField k i)) b.1 r todo n.1 b.0, on 0 r (Homed (One (OfField k i))) todo n.1 h)))))))))))
+      ends_at_spot (src.OfObject (src.EndOn r false (src.Load (src.Variable k)))) todo n b h = go ms _ _ holds (n.0, inr (inr (inr (inr (inr (inr (inl (refl, (tt, (ends_site (One (OfVariable k)) b.1 r todo n.1 b.0, on 0 r (Homed (One (OfVariable k))) todo n.1 h))))))))))
+      ends_at_spot (src.OfObject (src.EndOn r false (src.Load (src.OfObject (src.OwnField k i))))) todo n b h = go ms _ _ holds (n.0, inr (inr (inr (inr (inr (inr (inl (refl, (tt, (ends_site (One (OfField k i)) b.1 r todo n.1 b.0, on 0 r (Homed (One (OfField k i))) todo n.1 h))))))))))
       ends_at_spot a todo n b h = absurd b
 
       ends_each : (a : Expr) (todo : List Todo) → Counts g a → EndsEach g.table g.source g.special made (LoneAt g.table g.few (here s) todo) a → O (Any ∷ ms) todo → PutStep g (quiet.eval_step a todo s)
-      ends_each (src.OfObject (src.EndOn r true (src.Load (src.Element m src.Binding (src.Variable k) (src.OfObject src.Counted))))) todo n b h = go ms _ _ holds (n.0, inr (inr (inr (inr (inr (inr (inl (refl, (tt, (tt, (ends_site (Each m (OfVariable k)) r todo n.1 b.0, on 0 r (Homed (Each m (OfVariable k))) todo n.1 h)))))))))))
-      ends_each (src.OfObject (src.EndOn r true (src.Load (src.Element m src.Binding (src.OfObject (src.OwnField k i)) (src.OfObject src.Counted))))) todo n b h = go ms _ _ holds (n.0, inr (inr (inr (inr (inr (inr (inl (refl, (tt, (tt, (ends_site (Each m (OfField k i)) r todo n.1 b.0, on 0 r (Homed (Each m (OfField k i))) todo n.1 h)))))))))))
-      ends_each (src.OfObject (src.EndOn r false (src.Load (src.Element m src.Binding (src.Variable k) (src.OfObject src.Counted))))) todo n b h = go ms _ _ holds (n.0, inr (inr (inr (inr (inr (inr (inl (refl, (tt, (ends_site (Each m (OfVariable k)) r todo n.1 b.0, on 0 r (Homed (Each m (OfVariable k))) todo n.1 h))))))))))
-      ends_each (src.OfObject (src.EndOn r false (src.Load (src.Element m src.Binding (src.OfObject (src.OwnField k i)) (src.OfObject src.Counted))))) todo n b h = go ms _ _ holds (n.0, inr (inr (inr (inr (inr (inr (inl (refl, (tt, (ends_site (Each m (OfField k i)) r todo n.1 b.0, on 0 r (Homed (Each m (OfField k i))) todo n.1 h))))))))))
+      ends_each (src.OfObject (src.EndOn r true (src.Load (src.Element m src.Binding (src.Variable k) (src.OfObject src.Counted))))) todo n b h = go ms _ _ holds (n.0, inr (inr (inr (inr (inr (inr (inl (refl, (tt, (tt, (ends_site (Each m (OfVariable k)) b.1 r todo n.1 b.0, on 0 r (Homed (Each m (OfVariable k))) todo n.1 h)))))))))))
+      ends_each (src.OfObject (src.EndOn r true (src.Load (src.Element m src.Binding (src.OfObject (src.OwnField k i)) (src.OfObject src.Counted))))) todo n b h = go ms _ _ holds (n.0, inr (inr (inr (inr (inr (inr (inl (refl, (tt, (tt, (ends_site (Each m (OfField k i)) b.1 r todo n.1 b.0, on 0 r (Homed (Each m (OfField k i))) todo n.1 h)))))))))))
+      ends_each (src.OfObject (src.EndOn r false (src.Load (src.Element m src.Binding (src.Variable k) (src.OfObject src.Counted))))) todo n b h = go ms _ _ holds (n.0, inr (inr (inr (inr (inr (inr (inl (refl, (tt, (ends_site (Each m (OfVariable k)) b.1 r todo n.1 b.0, on 0 r (Homed (Each m (OfVariable k))) todo n.1 h))))))))))
+      ends_each (src.OfObject (src.EndOn r false (src.Load (src.Element m src.Binding (src.OfObject (src.OwnField k i)) (src.OfObject src.Counted))))) todo n b h = go ms _ _ holds (n.0, inr (inr (inr (inr (inr (inr (inl (refl, (tt, (ends_site (Each m (OfField k i)) b.1 r todo n.1 b.0, on 0 r (Homed (Each m (OfField k i))) todo n.1 h))))))))))
       ends_each a todo n b h = absurd b
 
       ends_number : (a : Expr) (todo : List Todo) → Counts g a → EndsNumber g.table g.source g.special made a → O (Any ∷ ms) todo → PutStep g (quiet.eval_step a todo s)
-      ends_number (src.OfObject (src.EndCluster (src.Load p))) todo n b h = go ms _ _ holds (n, inl (place_plain g made p b, (tt, h)))
-      ends_number (src.OfObject (src.EndProcessor (src.Load p))) todo n b h = go ms _ _ holds (n, inl (place_plain g made p b, (tt, h)))
+      ends_number (src.OfObject (src.EndCluster (src.Load p))) todo n b h = go ms _ _ holds (n, inl (place_plain g made AnySite p b, (tt, h)))
+      ends_number (src.OfObject (src.EndProcessor (src.Load p))) todo n b h = go ms _ _ holds (n, inl (place_plain g made AnySite p b, (tt, h)))
       ends_number a todo n b h = absurd b
 
       pub evals : (e : Expr) (todo : List Todo) → O ms (piece.Eval e ∷ todo) → PutStep g (quiet.eval_step e todo s)
@@ -726,7 +512,7 @@ module _ (g : Setting) where
       evals e todo (n, inr (inl h)) = binds e todo n h.0 h.1
       evals e todo (n, inr (inr (inl h))) = making e todo n h.0 h.1
       evals e todo (n, inr (inr (inr (inl h)))) = calls e todo n h.0 h.1
-      evals e todo (n, inr (inr (inr (inr (inl h))))) = place e todo n h.0 h.1
+      evals e todo (n, inr (inr (inr (inr (inl h))))) = place e todo n h
       evals e todo (n, inr (inr (inr (inr (inr (inl h)))))) = locates e todo n h
       evals e todo (n, inr (inr (inr (inr (inr (inr (inl h))))))) = loads e todo n h.0 h.1
       evals e todo (n, inr (inr (inr (inr (inr (inr (inr (inl (inl b, h))))))))) = makes e todo n b h
@@ -752,63 +538,109 @@ module _ (g : Setting) where
 
       -- what is known where the routine x is called, of special ones if b
       abbrev pub FitsFor : Bool → Option Routine → List Todo → Type 0
-      FitsFor b x todo = (b ≡ false) ⊎ (((opens_at x ≡ false) × FirstOwn (rests (params_at x) ms)) ⊎ FirstHome (rests (params_at x) ms) (LoneOr todo))
+      FitsFor b x todo = (b ≡ false) ⊎ (((opens_at x ≡ false) × FirstUnder (rests (params_at x) ms) (λ p. IsOf made p × LoneAt g.table g.few (here s) todo (Under p))) ⊎ FirstHome (rests (params_at x) ms) (LoneNamed todo))
 
-      -- it finds its object the execution's own, and nothing around it where it destroys or builds that
-      record Finding (b : Bool) (x : Routine) (todo : List Todo) : Type 0 where
-        own : b ≡ true → Belongs g.few s.env.exec (top (drop x.params s.run.operands))
-        lone : b ≡ true → opens_object x.body ≡ true → LoneIn g.table g.few (here s) (piece.object_in (top (drop x.params s.run.operands))) todo
+      -- an object is at home in what is the own of this execution, where nothing is cleaned up by what is to do and by activations that wait
+      abbrev LoneIn : ℕ → List Todo → Type 0
+      LoneIn o todo = Belongs g.few s.env.exec (g.few.home o) × Free g.table g.few o (Outward g.table s.env.exec s.run.frame s.run.this s.callers todo)
 
-      homed : (v : Value) (todo : List Todo) (y : Site) (h : HomedAt g.few (here s) y v) → LoneAt g.table g.few (here s) todo y → LoneIn g.table g.few (here s) h.2.number todo
-      homed v todo y h l = l h.2.number (subst (StandsAt g.few (here s) y) (sym h.2.home) h.1)
+      -- it finds its object the execution's own, and nothing around that, nor around mutex objects in it
+      record Finding (b : Bool) (x : Routine) (v : Value) (todo : List Todo) : Type 0 where
+        own : b ≡ true → BelongsBelow g.few s.env.exec (length s.env.frames) v
+        alone : b ≡ true → NoneWithin g.table g.few (Outward g.table s.env.exec s.run.frame s.run.this s.callers todo) v
+        lone : b ≡ true → opens_object x.body ≡ true → LoneIn (piece.object_in v) todo
 
-      finding : (b : Bool) (x : Routine) (todo : List Todo) → FitsFor b (Some x) todo → ((y : Site) → OneNext todo y → LoneAt g.table g.few (here s) todo y) → Finding b x todo
-      finding b x todo (inl e) l = record { own = λ q. no_both b q e; lone = λ q o. no_both b q e }
-      finding b x todo (inr (inl k)) l = record {
-        own = λ q. holds_own g.few (here s) (rests x.params ms) (drop x.params s.run.operands) (dropped x.params) k.1;
-        lone = λ q o. no_both (opens_object x.body) o k.0;
+      -- the frame is one of those of the execution
+      pub record InFrames : Type 0 where
+        pub count : length s.env.frames ≡ suc (length s.callers)
+        pub low : s.run.frame ≤ length s.callers
+        pub within : FramesWithin s.callers
+
+      below_next : InFrames → s.run.frame < length s.env.frames
+      below_next z = let c = z.count in let l = z.low in omega (arith, c, l)
+
+      plain_finding : (z : InFrames) (b : Bool) (x : Routine) (v : Value) (todo : List Todo) → opens_at (Some x) ≡ false → (p : Spot) → LiesUnder (spot_at g.few (here s) p) v → IsOf made p → LoneAt g.table g.few (here s) todo (Under p) → Finding b x v todo
+      plain_finding z b x v todo e p u i l = record {
+        own = λ q. under_spot g.few (here s) made this.own (length s.env.frames) (below_next z) p i v u;
+        alone = λ q k w c h. l w c (in_under g.few (spot_at g.few (here s) p) (piece.further k v) (further_on k u) w h);
+        lone = λ q o. no_both (opens_object x.body) o e;
       }
-      finding b x todo (inr (inr k)) l =
-          let v = top (drop x.params s.run.operands) in
-          let h = marks.home_of g.few (here s) (rests x.params ms) (drop x.params s.run.operands) (dropped x.params) (LoneOr todo) k in
-          let lone : LoneIn g.table g.few (here s) h.1.2.number todo = homed v todo h.0 h.1 (⊎_elim (λ z. z) (λ z. l h.0 z) h.2) in
+
+      homed_finding : (z : InFrames) (b : Bool) (x : Routine) (v : Value) (todo : List Todo) (y : Site) → HomedAt g.few (here s) y v → IsIn made y → LoneAt g.table g.few (here s) todo y → Finding b x v todo
+      homed_finding z b x v todo y h i l =
+          let p : Spot = site_spot y in
+          let o : ℕ = h.2.number in
+          let u : LiesUnder (spot_at g.few (here s) p) (g.few.home o) = subst (LiesUnder (spot_at g.few (here s) p)) (sym h.2.home) (stands_under g.few (here s) y h.0 h.1) in
+          let below : BelongsBelow g.few s.env.exec (length s.env.frames) (g.few.home o) = under_spot g.few (here s) made this.own (length s.env.frames) (below_next z) p i (g.few.home o) u in
+          let none : NoneWithin g.table g.few (Outward g.table s.env.exec s.run.frame s.run.this s.callers todo) (Object o) = λ k w c j. l w c (in_object_home g.few (spot_at g.few (here s) p) o (there u) k w j) in
+          let lone : LoneIn o todo = (below_own g.few s.env.exec (length s.env.frames) (g.few.home o) below, (λ c m. l (g.few.home o) c (there u) m)) in
           record {
-            own = λ q. subst (Belongs g.few s.env.exec) (sym h.1.2.object) (object_own lone.0);
-            lone = λ q o. subst (λ w. LoneIn g.table g.few (here s) (piece.object_in w) todo) (sym h.1.2.object) lone;
+            own = λ q. subst (BelongsBelow g.few s.env.exec (length s.env.frames)) (sym h.2.object) (in_object below);
+            alone = λ q. subst (NoneWithin g.table g.few (Outward g.table s.env.exec s.run.frame s.run.this s.callers todo)) (sym h.2.object) none;
+            lone = λ q e. subst (λ w. LoneIn (piece.object_in w) todo) (sym h.2.object) lone;
           }
 
-      begun : (b : Bool) (x : Routine) (v : Value) (counts : Bool) (ns : List Mark) (todo : List Todo) (vs : List Value) → CodeRoutine g b (Some x) → (b ≡ true → Belongs g.few s.env.exec v) → (b ≡ true → opens_object x.body ≡ true → LoneIn g.table g.few (here s) (piece.object_in v) todo) → H ns vs → O (Any ∷ ns) todo → PutStep g (quiet.begun_step x v counts todo vs s)
-      begun b x v counts ns todo vs n own lone k h = record {
-        run = record { made = b; this = own; marks = []; holds = tt; ok = (body b n lone, behind A b x.purpose x.line) };
+      finding : (z : InFrames) (b : Bool) (x : Routine) (todo : List Todo) → FitsFor b (Some x) todo → Finding b x (top (drop x.params s.run.operands)) todo
+      finding z b x todo (inl e) = record { own = λ q. no_both b q e; alone = λ q. no_both b q e; lone = λ q o. no_both b q e }
+      finding z b x todo (inr (inl k)) =
+          let h = marks.under_of g.few (here s) (rests x.params ms) (drop x.params s.run.operands) (dropped x.params) (λ p. IsOf made p × LoneAt g.table g.few (here s) todo (Under p)) k.1 in
+          plain_finding z b x (top (drop x.params s.run.operands)) todo k.0 h.0 h.1 h.2.0 h.2.1
+      finding z b x todo (inr (inr k)) =
+          let h = marks.home_of g.few (here s) (rests x.params ms) (drop x.params s.run.operands) (dropped x.params) (LoneNamed todo) k in
+          homed_finding z b x (top (drop x.params s.run.operands)) todo h.0 h.1 h.2.0 h.2.1
+
+      -- a routine begins in a frame of its own, in which no field stands that is to be cleaned up
+      next_seat : (z : InFrames) (b : Bool) (x : Routine) (v : Value) (ns : List Mark) (todo : List Todo) (vs : List Value) → O (Any ∷ ns) todo → Finding b x v todo → IsSeated g.table g.few (reach_of b) s.env.exec ((record s.run { control = todo; operands = vs }) ∷ s.callers) (length s.env.frames) v
+      next_seat z b x v ns todo vs h f = record {
+        own = f.own;
+        alone = f.alone;
+        spare = λ k w e i st. absurd (not_standing g.few s.env.exec g.table (length s.env.frames) (piece.Slot k ∷ []) (OwnMarked g.table s.env.exec round) below _ w i st);
+      }
+        where
+          round : List Active
+          round = (record s.run { control = todo; operands = vs }) ∷ s.callers
+
+          below : (w : Value) (a : Ty) → OwnMarked g.table s.env.exec round w a → BelongsBelow g.few s.env.exec (length s.env.frames) w
+          below w a m =
+              let c = z.count in
+              below_more g.few s.env.exec (length round) (length s.env.frames) (omega (arith, c)) w (own_below g s.env.exec round (record { made = made; rest = gone (Any ∷ ns) todo h; seat = this }, waits_left g s.env.exec s.callers callers) (z.low, z.within) w a m)
+
+      begun : (z : InFrames) (b : Bool) (x : Routine) (v : Value) (counts : Bool) (ns : List Mark) (todo : List Todo) (vs : List Value) → CodeRoutine g b (Some x) → Finding b x v todo → H ns vs → O (Any ∷ ns) todo → PutStep g (quiet.begun_step x v counts todo vs s)
+      begun z b x v counts ns todo vs n f k h = record {
+        run = record { made = reach_of b; this = next_seat z b x v ns todo vs h f; marks = []; holds = tt; ok = (body b n f.lone, todos.behind g A (reach_of b) x.purpose x.line) };
         callers = (finds 1 ns todo vs k h, callers);
-        env = likes env refl refl refl;
+        env = todos.likes g env refl refl refl;
       }
         where
           A : Around
           A = record { exec = s.env.exec; frame = length s.env.frames; this = v; older = (record s.run { control = todo; operands = vs }) ∷ s.callers }
 
-          body : (b : Bool) → CodeRoutine g b (Some x) → (b ≡ true → opens_object x.body ≡ true → LoneIn g.table g.few (here s) (piece.object_in v) todo) → CodeStmts g b x.body ⊎ CodeOpening g A b x.body (quiet.behind_body x.purpose x.line)
+          none_behind : (p : Purpose) (line : ℕ) → AllBelow 0 (quiet.behind_body p line)
+          none_behind src.TaskMain line = (tt, (tt, tt))
+          none_behind src.CoroutineMain line = (tt, (tt, tt))
+          none_behind src.Procedure line = (tt, tt)
+          none_behind src.Function line = (tt, (tt, tt))
+          none_behind src.Builder line = tt
+
+          body : (b : Bool) → CodeRoutine g b (Some x) → (b ≡ true → opens_object x.body ≡ true → LoneIn (piece.object_in v) todo) → CodeRest g A (reach_of b) x.body (quiet.behind_body x.purpose x.line)
           body false n lone = inl n
-          body true (c, inl k) lone = inl (c, k)
+          body true (c, inl k) lone = inr (inl ((c, k.0), (0, none_behind x.purpose x.line, k.1)))
           body true (c, inr k) lone =
-              let l = lone refl (marks.opening_opens g x.body k) in
-              inr (refl, c, k, (l.0, marks.free_begun g.table g.few s.env.exec s.run s.callers todo vs v (length s.env.frames) x.purpose x.line (piece.object_in v) l.1))
+              let l = lone refl (marks.opening_opens g (reach_of true) x.body k) in
+              inr (inr (refl, c, k, none_behind x.purpose x.line, (l.0, marks.free_begun g.table g.few s.env.exec s.run s.callers todo vs v (length s.env.frames) x.purpose x.line (piece.object_in v) l.1)))
 
-      pub call : (b : Bool) (x : Option Routine) (todo : List Todo) → b ≡ false → CodeRoutine g b x → O (Any ∷ rests (params_at x) ms) todo → PutStep g (quiet.call_step x todo s)
-      call b None todo e n h = ends _ _
-      call b (Some x) todo e n h = either (PutStep g) (nat_lt s.env.links.calls CALLS) _ _ (begun b x _ true (rests x.params ms) todo _ n (λ q. no_both b q e) (λ q o. no_both b q e) (dropped x.params) h) (stop Depth todo _)
+      pub call : (z : InFrames) (b : Bool) (x : Option Routine) (todo : List Todo) → b ≡ false → CodeRoutine g b x → O (Any ∷ rests (params_at x) ms) todo → PutStep g (quiet.call_step x todo s)
+      call z b None todo e n h = ends _ _
+      call z b (Some x) todo e n h = either (PutStep g) (nat_lt s.env.links.calls CALLS) _ _ (begun z b x _ true (rests x.params ms) todo _ n (record { own = λ q. no_both b q e; alone = λ q. no_both b q e; lone = λ q o. no_both b q e }) (dropped x.params) h) (stop Depth todo _)
 
-      pub call_on : (b : Bool) (x : Option Routine) (todo : List Todo) → CodeRoutine g b x → FitsFor b x todo → ((y : Site) → OneNext todo y → LoneAt g.table g.few (here s) todo y) → O (Any ∷ rests (suc (params_at x)) ms) todo → PutStep g (quiet.call_on_step x todo s)
-      call_on b None todo n k l h = ends _ _
-      call_on b (Some x) todo n k l h =
-          let d = finding b x todo k l in
-          either (PutStep g) (nat_lt s.env.links.calls CALLS) _ _ (begun b x _ true (rests (suc x.params) ms) todo _ n d.own d.lone (dropped_one x.params) h) (stop Depth todo _)
+      pub call_on : (z : InFrames) (b : Bool) (x : Option Routine) (todo : List Todo) → CodeRoutine g b x → FitsFor b x todo → O (Any ∷ rests (suc (params_at x)) ms) todo → PutStep g (quiet.call_on_step x todo s)
+      call_on z b None todo n k h = ends _ _
+      call_on z b (Some x) todo n k h =
+          either (PutStep g) (nat_lt s.env.links.calls CALLS) _ _ (begun z b x _ true (rests (suc x.params) ms) todo _ n (finding z b x todo k) (dropped_one x.params) h) (stop Depth todo _)
 
-      pub call_unwritten : (b : Bool) (x : Option Routine) (todo : List Todo) → CodeRoutine g b x → FitsFor b x todo → ((y : Site) → OneNext todo y → LoneAt g.table g.few (here s) todo y) → O (Any ∷ rests (suc (params_at x)) ms) todo → PutStep g (quiet.call_unwritten_step x todo s)
-      call_unwritten b None todo n k l h = ends _ _
-      call_unwritten b (Some x) todo n k l h =
-          let d = finding b x todo k l in
-          begun b x _ false (rests (suc x.params) ms) todo _ n d.own d.lone (dropped_one x.params) h
+      pub call_unwritten : (z : InFrames) (b : Bool) (x : Option Routine) (todo : List Todo) → CodeRoutine g b x → FitsFor b x todo → O (Any ∷ rests (suc (params_at x)) ms) todo → PutStep g (quiet.call_unwritten_step x todo s)
+      call_unwritten z b None todo n k h = ends _ _
+      call_unwritten z b (Some x) todo n k h = begun z b x _ false (rests (suc x.params) ms) todo _ n (finding z b x todo k) (dropped_one x.params) h
 
       pub live : (r : Option Routine) (todo : List Todo) → O ms todo → PutStep g (quiet.live_step r todo s)
       live None todo h = ends _ _
@@ -819,8 +651,8 @@ module _ (g : Setting) where
       set_up true (Some r) todo e n h = no_both true refl e
       set_up false (Some r) todo e n h =
           let at_home = quiet.home_at s.run.this s.env in
-          let b : K s.env (sw.born at_home (quiet.fresh r s.run.this) s.env) = kept.born_keeps (Runs g) (Waits g) calm at_home (quiet.fresh r s.run.this) s.env (λ k. record { run = record { made = false; this = λ q. absurd (cc); marks = []; holds = tt; ok = routine (record { exec = record { home = at_home; serial = k }; frame = 0; this = s.run.this; older = [] }) false r n }; callers = tt }) env in
-          go_in [] _ _ _ tt h (kept.keeps_both (Runs g) (Waits g) calm b (kept.written_keeps (Runs g) (Waits g) calm s.run.this _ _ b.env))
+          let b : todos.K g s.env (sw.born at_home (quiet.fresh r s.run.this) s.env) = kept.born_keeps (Runs g) (Waits g) (todos.calm g) at_home (quiet.fresh r s.run.this) s.env (λ k. record { run = record { made = reach_of false; this = first_seat g.table g.few (record { home = at_home; serial = k }) 0 s.run.this; marks = []; holds = tt; ok = todos.routine g (record { exec = record { home = at_home; serial = k }; frame = 0; this = s.run.this; older = [] }) (reach_of false) r n }; callers = tt }) env in
+          go_in [] _ _ _ tt h (kept.keeps_both (Runs g) (Waits g) (todos.calm g) b (kept.written_keeps (Runs g) (Waits g) (todos.calm g) s.run.this _ _ b.env))
 
       -- mutex objects
 
@@ -829,7 +661,7 @@ module _ (g : Setting) where
 
       enter_at : (d : Option ℕ) (o m : ℕ) (todo : List Todo) → O ms todo → PutStep g (monitors.enter_at d o m todo s)
       enter_at (Some d) o m todo h = go_in ms _ _ _ holds h (same refl refl refl refl)
-      enter_at None o m todo h = record { run = finds 0 ms todo _ holds h; callers = callers; env = likes env refl refl refl }
+      enter_at None o m todo h = record { run = finds 0 ms todo _ holds h; callers = callers; env = todos.likes g env refl refl refl }
 
       pub enter : (m : ℕ) (r : Option Routine) (todo : List Todo) → O ms todo → PutStep g (monitors.enter_step m r todo s)
       enter m None todo h = ends _ _
@@ -840,12 +672,12 @@ module _ (g : Setting) where
       pub leave : (b : Bool) (o : ℕ) (todo : List Todo) → O ms todo → PutStep g (monitors.leave_at b o todo s)
       leave false o todo h = go_in ms _ _ _ holds h (same refl refl refl refl)
       leave true o todo h =
-          unless o _ todo (record { run = record { made = made; this = this; marks = ms; holds = holds; ok = polled (here s) made s.run.raised ms todo h }; callers = callers; env = likes env refl refl refl })
+          unless o _ todo (record { run = record { made = made; this = this; marks = ms; holds = holds; ok = todos.polled g (here s) made s.run.raised ms todo h }; callers = callers; env = todos.likes g env refl refl refl })
 
       pub make : (c k : ℕ) (r : Option Routine) (todo : List Todo) → O ms (piece.MakeNow c k ∷ todo) → PutStep g (monitors.make_step c k r todo s)
       make c k None todo h = ends _ _
       make c k (Some r) todo h =
-          either (PutStep g) (monitors.may_call r.written s) _ _ (record { run = finds 1 ms (piece.BindMadeNow c k ∷ todo) _ holds h; callers = callers; env = likes env refl refl refl }) (stop Depth todo _)
+          either (PutStep g) (monitors.may_call r.written s) _ _ (record { run = finds 1 ms (piece.BindMadeNow c k ∷ todo) _ holds h; callers = callers; env = todos.likes g env refl refl refl }) (stop Depth todo _)
 
       -- the operands behind a binding
       bound_under : (n : ℕ) (v : Value) → H (rests (suc n) (rest ms)) (below (drop n (slice_set (below s.run.operands) n v)))
@@ -855,15 +687,12 @@ module _ (g : Setting) where
 
       bound_at : (n : ℕ) (x : Site) → IsIn made x → StandsAt g.few (here s) x (top (drop n (below s.run.operands))) → IsHome g.few (top s.run.operands) (top (drop n (below s.run.operands))) → HomedAt g.few (here s) x (top (drop n (slice_set (below s.run.operands) n (top s.run.operands))))
       bound_at n x i e f =
-          let there = set_top n (top s.run.operands) (below s.run.operands) (site_there g.table g.few (here s) made x (drop n (below s.run.operands)) this i e) in
+          let there = set_top n (top s.run.operands) (below s.run.operands) (site_there g.few (here s) made this.own x (drop n (below s.run.operands)) i e) in
           (top (drop n (below s.run.operands)), e, subst (λ v. IsHome g.few v (top (drop n (below s.run.operands)))) (sym there) f)
 
-      pub bind : (x : Option Routine) (todo : List Todo) → IsHome g.few (top s.run.operands) (top (drop (params_at x) (below s.run.operands))) → O (anys (params_at x) (Any ∷ rests (suc (params_at x)) (rest ms))) todo ⊎ FirstAt (rests (params_at x) (rest ms)) (λ y. IsIn made y × O (anys (params_at x) (Homed y ∷ rests (suc (params_at x)) (rest ms))) todo) → PutStep g (monitors.bind_step x todo s)
+      pub bind : (x : Option Routine) (todo : List Todo) → IsHome g.few (top s.run.operands) (top (drop (params_at x) (below s.run.operands))) → FirstAt (rests (params_at x) (rest ms)) (λ y. IsIn made y × O (anys (params_at x) (Homed y ∷ rests (suc (params_at x)) (rest ms))) todo) → PutStep g (monitors.bind_step x todo s)
       bind None todo f h = ends _ _
-      bind (Some x) todo f (inl h) =
-          let n = x.params in
-          go_in (anys n (Any ∷ rests (suc n) (rest ms))) todo _ _ (holds_anys g.few (here s) n (Any ∷ rests (suc n) (rest ms)) (slice_set (below s.run.operands) n (top s.run.operands)) (tt, bound_under n (top s.run.operands))) h (write _ _)
-      bind (Some x) todo f (inr h) =
+      bind (Some x) todo f h =
           let n = x.params in
           let k = marks.at_of g.few (here s) (rests n (rest ms)) (drop n (below s.run.operands)) (holds_drop g.few (here s) n (rest ms) (below s.run.operands) one) (λ y. IsIn made y × O (anys n (Homed y ∷ rests (suc n) (rest ms))) todo) h in
           go_in (anys n (Homed k.0 ∷ rests (suc n) (rest ms))) todo _ _ (holds_anys g.few (here s) n (Homed k.0 ∷ rests (suc n) (rest ms)) (slice_set (below s.run.operands) n (top s.run.operands)) (bound_at n k.0 k.2.0 k.1 f, bound_under n (top s.run.operands))) k.2.1 (write _ _)
@@ -880,7 +709,7 @@ module _ (g : Setting) where
 
       pend : (n : Exec) (e : raising.Event) (todo : List Todo) (vs : List Value) → O [] todo → PutStep g (polls.pend_step n e todo vs s)
       pend n e todo vs h =
-          either (PutStep g) (nat_lt (length (inside.pending_at n s.env)) PENDING_EVENTS) _ _ (go_in [] _ _ _ tt h (kept.links_keeps (Runs g) (Waits g) calm (λ l. record l { pending = l.pending ++ (record { event = e.number; x = e.x; y = e.y }) ∷ [] }) n s.env env)) (stop TooManyPending todo vs)
+          either (PutStep g) (nat_lt (length (inside.pending_at n s.env)) PENDING_EVENTS) _ _ (go_in [] _ _ _ tt h (kept.links_keeps (Runs g) (Waits g) (todos.calm g) (λ l. record l { pending = l.pending ++ (record { event = e.number; x = e.x; y = e.y }) ∷ [] }) n s.env env)) (stop TooManyPending todo vs)
 
       pend_at : (o : Option Exec) (e : raising.Event) (todo : List Todo) (vs : List Value) → O [] todo → PutStep g (polls.pend_at o e todo vs s)
       pend_at None e todo vs h = stop NotLive todo vs
@@ -890,8 +719,8 @@ module _ (g : Setting) where
       raise_at (Object o) e todo vs h = record { run = finds 0 [] todo vs tt h; callers = callers; env = env }
       raise_at v e todo vs h = pend_at (piece.exec_at v s.env) e todo vs h
 
-      enabled_in : {e f : Env} (k : K s.env e) → f.exec ≡ e.exec → f.hand ≡ e.hand → f.house ≡ e.house → f.own ≡ e.own → K s.env f
-      enabled_in k x h i o = kept.keeps_both (Runs g) (Waits g) calm k (kept.keeps_like (Runs g) (Waits g) calm k.env x h i o)
+      enabled_in : {e f : Env} (k : todos.K g s.env e) → f.exec ≡ e.exec → f.hand ≡ e.hand → f.house ≡ e.house → f.own ≡ e.own → todos.K g s.env f
+      enabled_in k x h i o = kept.keeps_both (Runs g) (Waits g) (todos.calm g) k (kept.keeps_like (Runs g) (Waits g) (todos.calm g) k.env x h i o)
 
       pub enables : (events cell : ℕ) (todo : List Todo) → O [] todo → PutStep g (polls.enable_step events cell todo s)
       enables events cell todo h = go_in [] _ _ _ tt h (enabled_in (write (piece.variable_at cell s) (Number (signed_64 s.env.links.enabled))) refl refl refl refl)

@@ -1,8 +1,8 @@
 -- Every quiet step of a state in which what is called is the execution's own, and answers to it.
-use Rattle.std.proofs.Common.{◌≡◌, ℕ, Bool, true, false, inl, List, [], ◌∷◌, ◌++◌, drop, Option, Some, None, refl, subst}
+use Rattle.std.proofs.Common.{◌≡◌, ℕ, true, false, inl, List, [], ◌∷◌, ◌++◌, drop, Option, Some, None, refl, subst}
 use Rattle.std.specs.Prelude.{nat_lt, slice_get, if◌then◌else◌}
 use Rattle.uc_tree.specs.Source as src
-use Rattle.uc_tree.specs.Source.{Source, Stmt, Routine, routine_or_none, routine_of}
+use Rattle.uc_tree.specs.Source.{Routine, routine_or_none, routine_of}
 use Rattle.uc_tree.specs.Programs.{Program}
 use Rattle.uc_entry.specs.declared.fault.RunFault.TheVariants.{NoReturn}
 use Rattle.uc_entry.specs.declared.request.Answer.{Answer}
@@ -15,26 +15,28 @@ use Rattle.uc_machine.specs.Monitors as monitors
 use Rattle.uc_machine.specs.Quiet as quiet
 use Rattle.uc_machine.specs.Quiet.{first_state}
 use Rattle.uc_machine.specs.Pieces as piece
-use Rattle.uc_machine.specs.Pieces.{Value, Todo, State, Env, Members, Step, Goes, Ticks, Asks, at, top, below, number}
+use Rattle.uc_machine.specs.Pieces.{Value, Todo, State, Members, at, top, below, number}
 use Rattle.uc_machine.specs.Answering.{answered, child_main, entered, new_members, with_operand}
 use Rattle.uc_answer_laws.specs.Suiting.{Form, AnObject, AClause, ANumber, AValue, AnEvent, JustGo, IsForm}
 use Rattle.uc_scope_laws.specs.Layout.{Sized}
 use Rattle.uc_scope_laws.specs.RoomStacks.{StackState}
-use Rattle.uc_unmarked_laws.specs.Belonging.{Belongs}
-use Rattle.uc_unmarked_laws.specs.Marks.{LoneState}
+use Rattle.uc_life_laws.specs.LifeRuns.{IsLaidOut}
 use Rattle.uc_aside_laws.specs.OlderResting.{AllWait, NamedParked, NamedHand, NamedEnv}
 use Rattle.uc_aside_laws.proofs.Keeping as kept
 use Rattle.uc_aside_laws.proofs.Keeping.{either}
-use Rattle.uc_putting_laws.specs.Calling.{NoSite}
+use Rattle.uc_putting_laws.specs.CleanedSpots.{NoSite, Reach, reach_of, apart}
+use Rattle.uc_putting_laws.specs.ObjectsAtHand.{IsSeated}
 use Rattle.uc_putting_laws.specs.Putting.{Setting, Around, Mark, Any, Holds, rest, OpensRest, Counts, Plain, CodeStmt, CodeRoutine, Ok, Left, Finds, FindsFor, Runs, Waits, PutMembers, PutState, PutStep}
 use Rattle.uc_putting_laws.specs.PuttingLaws.{FairAt, Fair}
-use Rattle.uc_putting_laws.proofs.Marks.{holds_below, holds_spread, index_below}
+use Rattle.uc_putting_laws.proofs.Marks.{holds_below, holds_spread, index_below, left}
+use Rattle.uc_putting_laws.proofs.OwnMarks.{frames_within, first_seat}
+use Rattle.uc_putting_laws.proofs.PuttingTodos as todos
 use Rattle.uc_putting_laws.proofs.Steps as steps
 use Rattle.uc_putting_laws.proofs.Steps.{here}
-use Rattle.uc_putting_laws.proofs.Lone.{scope_lone, part_lone, opened, filled}
+use Rattle.uc_putting_laws.proofs.Lone.{scope_lone, part_lone, lone_behind, lone_stmt}
 
-module _ (program : Program) (g : Setting) (known : (n : ℕ) → CodeRoutine g (g.special n) (slice_get g.source.routines n)) where
-  module _ (s : State) (st : StackState (Sized program) s) (lone : LoneState g.table g.few s) (fair : Fair g s) (callers : AllWait (Runs g) (Waits g) s.env.exec s.callers) (env : NamedEnv (Runs g) (Waits g) s.env) (made : Bool) (this : made ≡ true → Belongs g.few s.env.exec s.run.this) (ms : List Mark) (holds : Holds g.few (here s) ms s.run.operands) where
+module _ (program : Program) (g : Setting) (laid : IsLaidOut (Sized program) g.table) (known : (n : ℕ) → CodeRoutine g (g.special n) (slice_get g.source.routines n)) where
+  module _ (s : State) (st : StackState (Sized program) s) (fair : Fair g s) (callers : AllWait (Runs g) (Waits g) s.env.exec s.callers) (env : NamedEnv (Runs g) (Waits g) s.env) (made : Reach) (this : IsSeated g.table g.few made s.env.exec s.callers s.run.frame s.run.this) (ms : List Mark) (holds : Holds g.few (here s) ms s.run.operands) where
     abbrev H : List Mark → List Value → Type 0
     H ns vs = Holds g.few (here s) ns vs
 
@@ -53,17 +55,22 @@ module _ (program : Program) (g : Setting) (known : (n : ℕ) → CodeRoutine g 
     two : H (rest (rest ms)) (below (below s.run.operands))
     two = holds_below g.few (here s) (rest ms) (below s.run.operands) one
 
+    -- the same with an unwinding before it
+    unwound : (c : src.CleanUp) (ps : List Todo) → todos.LoneFor g (here s) made c ps → todos.LoneFor g (here s) made c (piece.Unwind ∷ ps)
+    unwound (src.Destroys e) ps h = h
+    unwound (src.DestroysAll m e) ps h = h
+    unwound c ps h = tt
+
     fair_at : (l : List Todo) → s.run.control ≡ l → FairAt g l s
     fair_at l e = subst (λ l. FairAt g l s) e fair
 
-    past : (p : Todo) (ps : List Todo) → s.run.control ≡ piece.Unwind ∷ (p ∷ ps) → Left g (here s) made (p ∷ ps) → steps.LonePast g s callers env made this (piece.sort p) ps
-    past (piece.Clean x) ps e h = scope_lone program g s st lone made this true x ps e h.0
-    past (piece.Part x) ps e h = part_lone program g s st lone made this x ps e h.0
-    past p ps e h = tt
+    frames : steps.InFrames g s callers env made this ms holds
+    frames = record { count = st.frames; low = st.stack.0.frame; within = frames_within (Sized program) s.env.frames s.callers st.stack.1 }
 
-    lone_built : (a : Stmt) (todo : List Todo) → s.run.control ≡ piece.Do a ∷ todo → Ok g (here s) made ms (piece.Do a ∷ todo) → steps.LoneBuilt g s callers env made this a todo
-    lone_built (src.Fill line m b d) todo c h = filled program g s st lone made this line m b d todo c h.1 (fair_at (piece.Do (src.Fill line m b d) ∷ todo) c)
-    lone_built a todo c h = tt
+    past : (p : Todo) (ps : List Todo) → s.run.control ≡ piece.Unwind ∷ (p ∷ ps) → Left g (here s) made (p ∷ ps) → steps.LonePast g s callers env made this (piece.sort p) ps
+    past (piece.Clean x) ps e h = unwound x ps (scope_lone (Sized program) g laid s st callers env made this true x ps e h.0 (left g (here s) made [] ps h.1))
+    past (piece.Part x) ps e h = unwound x ps (part_lone (Sized program) g laid s st callers env made this x ps e h.0 (left g (here s) made [] ps h.1))
+    past p ps e h = tt
 
     -- one piece, with what is to do behind it
     acts : (p : Todo) (todo : List Todo) → s.run.control ≡ p ∷ todo → Ok g (here s) made ms (p ∷ todo) → PutStep g (quiet.act g.source p todo s)
@@ -85,65 +92,65 @@ module _ (program : Program) (g : Setting) (known : (n : ℕ) → CodeRoutine g 
     acts (piece.SetNow k) todo c h = steps.go_in g s callers env made this ms _ _ _ holds h.1 (steps.write g s callers env made this (piece.variable_at k s) (piece.Number (number (top s.run.operands))))
     acts piece.BindNow todo c h = steps.go_in g s callers env made this (Any ∷ rest (rest ms)) _ _ _ (tt, two) h.1 (steps.write g s callers env made this (top (below s.run.operands)) (top s.run.operands))
     acts (piece.Choose e f) todo c h = go (rest ms) _ _ one (either (Counts g) (piece.is_zero (number (top s.run.operands))) f e h.0.1.0 h.0.0.0, inl (either (Plain g) (piece.is_zero (number (top s.run.operands))) f e h.0.1.1 h.0.0.1, h.1))
-    acts (piece.Branch a b) todo c h = anew _ _ (steps.inner g (here s) made (OpensRest todo) (if piece.is_zero (number (top s.run.operands)) then b else a) (either (CodeStmt g NoSite made) (piece.is_zero (number (top s.run.operands))) b a h.0.1 h.0.0), h.1)
+    acts (piece.Branch a b) todo c h = anew _ _ (todos.inner g (here s) made (OpensRest todo) (if piece.is_zero (number (top s.run.operands)) then b else a) (either (CodeStmt g NoSite (apart made)) (piece.is_zero (number (top s.run.operands))) b a h.0.1 h.0.0), h.1)
     acts piece.TickNow todo c h = go ms _ _ holds h.1
-    acts (piece.TurnNow o t e b) todo c h = anew _ _ (steps.inner g (here s) made (OpensRest (piece.InLoop o t e b ∷ todo)) b h.0.2, (h.0, h.1))
+    acts (piece.TurnNow o t e b) todo c h = anew _ _ (todos.inner g (here s) made (OpensRest (piece.InLoop o t e b ∷ todo)) b h.0.2, (h.0, h.1))
     acts (piece.Arguments src.NoExprs) todo c h = go ms _ _ holds h.1
     acts (piece.Arguments (src.MoreExprs e es)) todo c h = go ms _ _ holds (h.0.0.0, inl (h.0.1.0, ((h.0.0.1, h.0.1.1), h.1)))
-    acts (piece.CallNow r) todo c h = steps.call g s callers env made this ms holds (g.special r) (slice_get g.source.routines r) todo h.0 (known r) h.1
-    acts (piece.CallOnNow r) todo c h = steps.call_on g s callers env made this ms holds (g.special r) (slice_get g.source.routines r) todo (known r) h.0 (opened program g s st lone made this true r _ todo c h.1 (fair_at (piece.CallOnNow r ∷ todo) c)) h.1
-    acts (piece.CallUnwrittenNow r) todo c h = steps.call_unwritten g s callers env made this ms holds (g.special r) (slice_get g.source.routines r) todo (known r) h.0 (opened program g s st lone made this false r _ todo c h.1 (fair_at (piece.CallUnwrittenNow r ∷ todo) c)) h.1
+    acts (piece.CallNow r) todo c h = steps.call g s callers env made this ms holds frames (g.special r) (slice_get g.source.routines r) todo h.0 (known r) h.1
+    acts (piece.CallOnNow r) todo c h = steps.call_on g s callers env made this ms holds frames (g.special r) (slice_get g.source.routines r) todo (known r) h.0 h.1
+    acts (piece.CallUnwrittenNow r) todo c h = steps.call_unwritten g s callers env made this ms holds frames (g.special r) (slice_get g.source.routines r) todo (known r) h.0 h.1
     acts (piece.CountNow m) todo c h = record { run = record { made = made; this = this; marks = []; holds = tt; ok = h.1 }; callers = callers; env = env }
     acts piece.MoreNow todo c h = record { run = record { made = made; this = this; marks = []; holds = tt; ok = h.1 }; callers = callers; env = env }
-    acts (piece.FillNow m b d) todo c h = anew _ _ (steps.filled g (here s) made (nat_lt s.run.elements m) m b d todo h.0.0 h.0.1 h.1)
+    acts (piece.FillNow m b d) todo c h = anew _ _ (todos.filled g (here s) made (nat_lt s.run.elements m) m b d todo h.0.0 h.0.1 h.1)
     acts (piece.Again o t e b) todo c h = anew _ _ (either (Ok g (here s) made []) (piece.is_zero (number (top s.run.operands))) todo (piece.TurnNow o t e b ∷ todo) h.1 (h.0, h.1))
     acts (piece.PrintNow f) todo c h = steps.prints g s callers env made this s.env.gathered _ todo _ h.1
     acts (piece.TextNow k) todo c h = steps.prints g s callers env made this s.env.gathered _ todo _ h.1
     acts piece.GatherNow todo c h = steps.go_in g s callers env made this [] _ _ _ tt h.1 (steps.same g s callers env made this refl refl refl refl)
     acts piece.FlushNow todo c h = steps.flushes g s callers env made this s.env.gathered todo _ h.1
     acts (piece.ReadNow f) todo c h = record { run = record { made = made; this = this; marks = ms; holds = holds; ok = h.1 }; callers = callers; env = env }
-    acts (piece.ClearNow k m) todo c h = steps.go_in g s callers env made this ms _ _ _ holds h.1 (kept.owned_keeps (Runs g) (Waits g) (steps.calm g) (piece.this_frame s) (values_cleared k m piece.nought) s.env env)
+    acts (piece.ClearNow k m) todo c h = steps.go_in g s callers env made this ms _ _ _ holds h.1 (kept.owned_keeps (Runs g) (Waits g) (todos.calm g) (piece.this_frame s) (values_cleared k m piece.nought) s.env env)
     acts (piece.Items []) todo c h = anew _ _ h.1
-    acts (piece.Items (i ∷ is)) todo c h = anew _ _ (steps.item g (here s) made i is _ h.0 ((h.0.0.1, h.0.1.1), h.1))
+    acts (piece.Items (i ∷ is)) todo c h = anew _ _ (todos.item g (here s) made i is _ h.0 ((h.0.0.1, h.0.1.1), h.1))
     acts (piece.Values []) todo c h = anew _ _ h.1
-    acts (piece.Values (i ∷ is)) todo c h = anew _ _ (steps.item_value g (here s) made i is _ h.0 (λ ns. ((h.0.0.1, h.0.1.1), h.1)))
+    acts (piece.Values (i ∷ is)) todo c h = anew _ _ (todos.item_value g (here s) made i is _ h.0 (λ ns. ((h.0.0.1, h.0.1.1), h.1)))
     acts (piece.Pieces []) todo c h = anew _ _ h.1
-    acts (piece.Pieces (i ∷ is)) todo c h = anew _ _ ((h.0.0.1, h.0.1.1), steps.item_piece g (here s) made i todo h.1)
+    acts (piece.Pieces (i ∷ is)) todo c h = anew _ _ ((h.0.0.1, h.0.1.1), todos.item_piece g (here s) made i todo h.1)
     acts (piece.Targets []) todo c h = anew _ _ h.1
     acts (piece.Targets (t ∷ ts)) todo c h = anew _ _ (h.0.0.0, inl (h.0.1.0, (tt, (tt, ((h.0.0.1, h.0.1.1), h.1)))))
     acts (piece.Variables []) todo c h = anew _ _ h.1
-    acts (piece.Variables (d ∷ ds)) todo c h = anew _ _ (tt, steps.starts g (here s) made d.cell d.value (piece.Variables ds ∷ todo) (h.0.0.0, h.0.1.0) ((h.0.0.1, h.0.1.1), h.1))
-    acts (piece.Do a) todo c h = steps.stmt g s callers env made this a todo h.0 (lone_built a todo c h) h.1
+    acts (piece.Variables (d ∷ ds)) todo c h = anew _ _ (tt, todos.starts g (here s) made d.cell d.value (piece.Variables ds ∷ todo) (h.0.0.0, h.0.1.0) ((h.0.0.1, h.0.1.1), h.1))
+    acts (piece.Do a) todo c h = steps.stmt g s callers env made this a todo h.0 (lone_behind (Sized program) g laid s st callers env made this a todo c h.1) (lone_stmt (Sized program) g laid s st callers env made this (OpensRest todo) a todo c h.0 (left g (here s) made [] todo h.1)) h.1
     acts (piece.Rest ss) todo c h = steps.rest_of g s callers env made this ss todo h.0 h.1
     acts (piece.Within line) todo c h = anew _ _ h.1
     acts (piece.Exit w) todo c h = steps.exits g s callers env made this w todo h
     acts piece.NoReturnNow todo c h = steps.stop g s callers env made this NoReturn todo _
-    acts (piece.InLoop o t e b) todo c h = anew _ _ (steps.stepped g (here s) made e _ h.0.1 (steps.tested g (here s) made o t e b todo h.0 h.1))
+    acts (piece.InLoop o t e b) todo c h = anew _ _ (todos.stepped g (here s) made e _ h.0.1 (todos.tested g (here s) made o t e b todo h.0 h.1))
     acts piece.InWhole todo c h = anew _ _ h.1
-    acts (piece.Clean x) todo c h = anew _ _ (steps.cleans g (here s) made x todo h.0 (scope_lone program g s st lone made this false x todo c h.0) h.1)
+    acts (piece.Clean x) todo c h = anew _ _ (todos.cleans g (here s) made x todo todo h.0 (scope_lone (Sized program) g laid s st callers env made this false x todo c h.0 (left g (here s) made [] todo h.1)) h.1)
     acts (piece.Sweep e) todo c h = steps.swept g s callers env made this s.run.elements e todo h.0 h.1
     acts (piece.Part x) todo c h = anew _ _ h.1
     acts (piece.Guard hs) todo c h = anew _ _ h.1
     acts piece.Unwind todo c h = steps.unwinds g s callers env made this todo h (λ p ps e. past p ps (subst (λ l. s.run.control ≡ piece.Unwind ∷ l) e c) (subst (Left g (here s) made) e h))
     acts piece.ThrowNow todo c h = steps.thrown g s callers env made this (raising.event_in s.run.operands) todo h.1
-    acts piece.RaiseNow todo c h = steps.raises g s callers env made this ms (raising.event_in s.run.operands) todo holds h.1
-    acts (piece.SetUpNow r) todo c h = steps.set_up g s callers env made this ms holds (g.special r) (slice_get g.source.routines r) todo h.0 (known r) h.1
-    acts piece.EnlivenNow todo c h = steps.go_in g s callers env made this [] _ _ _ tt h.1 (kept.enlivened_keeps (Runs g) (Waits g) (steps.calm g) (piece.own_exec s) s.env env)
-    acts piece.TakeDownNow todo c h = steps.moved g s callers env made this _ todo _ (kept.take_down_rests (Runs g) (Waits g) (steps.calm g) (piece.own_exec s) (at todo s.run.operands s) (anew _ _ h.1))
-    acts piece.ForgetNow todo c h = steps.go_in g s callers env made this [] _ _ _ tt h.1 (kept.forgotten_keeps (Runs g) (Waits g) (steps.calm g) (piece.own_exec s) s.env env)
+    acts piece.RaiseNow todo c h = steps.raises g s callers env made this ms (raising.event_in s.run.operands) todo holds (fair_at (piece.RaiseNow ∷ todo) c) h.1
+    acts (piece.SetUpNow r) todo c h = steps.set_up g s callers env made this ms holds (g.special r) (slice_get g.source.routines r) todo h.0.1 (known r) h.1
+    acts piece.EnlivenNow todo c h = steps.go_in g s callers env made this [] _ _ _ tt h.1 (kept.enlivened_keeps (Runs g) (Waits g) (todos.calm g) (piece.own_exec s) s.env env)
+    acts piece.TakeDownNow todo c h = steps.moved g s callers env made this _ todo _ (kept.take_down_rests (Runs g) (Waits g) (todos.calm g) (piece.own_exec s) (at todo s.run.operands s) (anew _ _ h.1))
+    acts piece.ForgetNow todo c h = steps.go_in g s callers env made this [] _ _ _ tt h.1 (kept.forgotten_keeps (Runs g) (Waits g) (todos.calm g) (piece.own_exec s) s.env env)
     acts (piece.LiveNow r) todo c h = steps.live g s callers env made this ms holds (slice_get g.source.routines r) todo h.1
-    acts piece.ResumeNow todo c h = steps.moved g s callers env made this _ (piece.Land ∷ todo) _ (kept.wake_rests (Runs g) (Waits g) (steps.calm g) (quiet.resumed s) (at (piece.Land ∷ todo) s.run.operands s) (anew _ _ (tt, h.1)))
-    acts piece.SuspendNow todo c h = steps.moved g s callers env made this _ (piece.Land ∷ todo) _ (kept.suspend_rests (Runs g) (Waits g) (steps.calm g) (at (piece.Land ∷ todo) s.run.operands s) (anew _ _ (tt, h.1)))
+    acts piece.ResumeNow todo c h = steps.moved g s callers env made this _ (piece.Land ∷ todo) _ (kept.wake_rests (Runs g) (Waits g) (todos.calm g) (quiet.resumed s) (at (piece.Land ∷ todo) s.run.operands s) (anew _ _ (tt, h.1)))
+    acts piece.SuspendNow todo c h = steps.moved g s callers env made this _ (piece.Land ∷ todo) _ (kept.suspend_rests (Runs g) (Waits g) (todos.calm g) (at (piece.Land ∷ todo) s.run.operands s) (anew _ _ (tt, h.1)))
     acts piece.Land todo c h = steps.land g s callers env made this s.run.raised ms todo holds h.1
     acts (piece.EnterNow m r) todo c h = steps.enter g s callers env made this ms holds m (slice_get g.source.routines r) todo h.1
     acts piece.LeaveNow todo c h = steps.leave g s callers env made this ms holds _ (monitors.this_object s) todo h.1
     acts (piece.MakeNow k r) todo c h = steps.make g s callers env made this ms holds k r (slice_get g.source.routines r) todo h
     acts (piece.BindMadeNow k r) todo c h = steps.bind g s callers env made this ms holds (slice_get g.source.routines r) todo (fair_at (piece.BindMadeNow k r ∷ todo) c) h
-    acts piece.MadeNow todo c h = steps.unless g s callers env made this ms holds (monitors.this_object s) _ todo (record { run = record { made = made; this = this; marks = []; holds = tt; ok = h.1 }; callers = callers; env = steps.likes g env refl refl refl })
-    acts (piece.SpawnNow r) todo c h = steps.unless g s callers env made this ms holds (monitors.this_object s) _ (piece.ChildNow r ∷ todo) (record { run = record { made = made; this = this; marks = []; holds = tt; ok = (h.0, h.1) }; callers = callers; env = steps.likes g env refl refl refl })
+    acts piece.MadeNow todo c h = steps.unless g s callers env made this ms holds (monitors.this_object s) _ todo (record { run = record { made = made; this = this; marks = []; holds = tt; ok = h.1 }; callers = callers; env = todos.likes g env refl refl refl })
+    acts (piece.SpawnNow r) todo c h = steps.unless g s callers env made this ms holds (monitors.this_object s) _ (piece.ChildNow r ∷ todo) (record { run = record { made = made; this = this; marks = []; holds = tt; ok = (h.0, h.1) }; callers = callers; env = todos.likes g env refl refl refl })
     acts (piece.ChildNow r) todo c h = anew _ _ h.1
-    acts piece.GoneNow todo c h = record { run = record { made = made; this = this; marks = []; holds = tt; ok = h.1 }; callers = callers; env = steps.likes g env refl refl refl }
-    acts piece.GiveUpNow todo c h = record { run = record { made = made; this = this; marks = []; holds = tt; ok = h.1 }; callers = callers; env = steps.likes g env refl refl refl }
+    acts piece.GoneNow todo c h = record { run = record { made = made; this = this; marks = []; holds = tt; ok = h.1 }; callers = callers; env = todos.likes g env refl refl refl }
+    acts piece.GiveUpNow todo c h = record { run = record { made = made; this = this; marks = []; holds = tt; ok = h.1 }; callers = callers; env = todos.likes g env refl refl refl }
     acts piece.ClusterNow todo c h = record { run = record { made = made; this = this; marks = ms; holds = holds; ok = h.1 }; callers = callers; env = env }
     acts piece.ProcessorNow todo c h = record { run = record { made = made; this = this; marks = rest ms; holds = one; ok = h.1 }; callers = callers; env = env }
     acts piece.ClusterEndNow todo c h = record { run = record { made = made; this = this; marks = Any ∷ rest ms; holds = (tt, one); ok = h.1 }; callers = callers; env = env }
@@ -161,7 +168,7 @@ module _ (program : Program) (g : Setting) (known : (n : ℕ) → CodeRoutine g 
     acts (piece.Guards (src.MoreClauses guard b cs)) todo c h = anew _ _ (h.0.0.0, inl (h.0.1.0, ((h.0.0.2, h.0.1.2), h.1)))
     acts (piece.AcceptNow site m) todo c h = steps.accept g s callers env made this ms holds _ (monitors.this_object s) site todo _ h.1
     acts piece.FailedNow todo c h = steps.failed g s callers env made this ms holds _ todo _ h.1
-    acts (piece.ChooseNow cs) todo c h = anew _ _ (steps.branch g (here s) made _ cs todo h.0 h.1)
+    acts (piece.ChooseNow cs) todo c h = anew _ _ (todos.branch g (here s) made _ cs todo h.0 h.1)
     acts piece.RaiseAtNow todo c h = steps.raise_at g s callers env made this ms holds (top s.run.operands) (raising.event_in (below s.run.operands)) todo (drop 4 s.run.operands) h.1
     acts (piece.EnableNow events cell) todo c h = steps.enables g s callers env made this ms holds _ cell todo h.1
     acts (piece.DisableNow events cell) todo c h = steps.enables g s callers env made this ms holds _ cell todo h.1
@@ -169,19 +176,19 @@ module _ (program : Program) (g : Setting) (known : (n : ℕ) → CodeRoutine g 
     acts piece.PollNow todo c h = steps.poll g s callers env made this ms holds todo h.1
     acts piece.DeliverNow todo c h = steps.deliver g s callers env made this ms holds _ todo h.1
     acts piece.Finish todo c h = steps.unless g s callers env made this ms holds s.env.own _ todo (steps.returned g s callers env made this _ s.callers callers)
-    acts piece.FinishCoroutine todo c h = steps.moved g s callers env made this _ todo _ (kept.finish_rests (Runs g) (Waits g) (steps.calm g) (at todo s.run.operands s) (anew _ _ h.1))
+    acts piece.FinishCoroutine todo c h = steps.moved g s callers env made this _ todo _ (kept.finish_rests (Runs g) (Waits g) (todos.calm g) (at todo s.run.operands s) (anew _ _ h.1))
 
-  pub walk : (s : State) → PutState g s → StackState (Sized program) s → LoneState g.table g.few s → Fair g s → PutStep g (quiet.quiet g.source s)
-  walk s h st lone fair = by s.run.control refl
+  pub walk : (s : State) → PutState g s → StackState (Sized program) s → Fair g s → PutStep g (quiet.quiet g.source s)
+  walk s h st fair = by s.run.control refl
     where
       by : (l : List Todo) → s.run.control ≡ l → PutStep g (quiet.act_todo g.source l s)
       by [] e = steps.returned g s h.callers h.env h.run.made h.run.this _ s.callers h.callers
-      by (p ∷ todo) e = acts s st lone fair h.callers h.env h.run.made h.run.this h.run.marks h.run.holds p todo e (subst (Ok g (here s) h.run.made h.run.marks) e h.run.ok)
+      by (p ∷ todo) e = acts s st fair h.callers h.env h.run.made h.run.this h.run.marks h.run.holds p todo e (subst (Ok g (here s) h.run.made h.run.marks) e h.run.ok)
 
 module _ (g : Setting) (known : (n : ℕ) → CodeRoutine g (g.special n) (slice_get g.source.routines n)) where
   begins : (o : ℕ) (r : Option Routine) → CodeRoutine g false r → PutState g (first_state (routine_or_none r) o)
-  begins o None h = record { run = record { made = false; this = λ q. absurd (cc); marks = []; holds = tt; ok = (inl (tt, tt), (tt, tt)) }; callers = tt; env = record { house = (tt, tt); hand = tt } }
-  begins o (Some r) h = record { run = record { made = false; this = λ q. absurd (cc); marks = []; holds = tt; ok = steps.routine g (here (first_state r o)) false r h }; callers = tt; env = record { house = (tt, tt); hand = tt } }
+  begins o None h = record { run = record { made = reach_of false; this = first_seat g.table g.few _ 0 _; marks = []; holds = tt; ok = (inl (tt, tt), (tt, tt)) }; callers = tt; env = record { house = (tt, tt); hand = tt } }
+  begins o (Some r) h = record { run = record { made = reach_of false; this = first_seat g.table g.few _ 0 _; marks = []; holds = tt; ok = todos.routine g (here (first_state r o)) (reach_of false) r h }; callers = tt; env = record { house = (tt, tt); hand = tt } }
 
   -- a task begins so
   pub first_put : (r o : ℕ) → g.special r ≡ false → PutState g (first_state (routine_of g.source r) o)
@@ -189,7 +196,7 @@ module _ (g : Setting) (known : (n : ℕ) → CodeRoutine g (g.special n) (slice
 
 module _ (g : Setting) where
   -- what is spawned begins with a main
-  pub child_plain : (A : Around) (made : Bool) (ms : List Mark) (todo : List Todo) → g.special g.source.main ≡ false → Ok g A made ms todo → g.special (child_main g.source todo) ≡ false
+  pub child_plain : (A : Around) (made : Reach) (ms : List Mark) (todo : List Todo) → g.special g.source.main ≡ false → Ok g A made ms todo → g.special (child_main g.source todo) ≡ false
   child_plain A made ms [] m h = m
   child_plain A made ms (piece.ChildNow r ∷ todo) m h = h.0
   child_plain A made ms (p ∷ todo) m h = m

@@ -29,7 +29,7 @@ use Rattle.uc_acts.proofs.Rows.{Lawful}
 use Rattle.uc_acts.proofs.SoundLemmas.{ended_push}
 use Rattle.uc_machine.specs.declared.exec.Home.TheVariants as home
 use Rattle.uc_machine.specs.Quiet as quiet
-use Rattle.uc_machine.specs.Quiet.{State, Active, Members, Goes, Ticks, no_members, first_state}
+use Rattle.uc_machine.specs.Quiet.{State, Members, Goes, Ticks, no_members, first_state}
 use Rattle.uc_machine.specs.Answering.{answered, child_main, child_of}
 use Rattle.uc_machine.specs.Rides as rides
 use Rattle.uc_machine.specs.Rides.{Rides}
@@ -53,19 +53,19 @@ use Rattle.uc_scope_laws.specs.RoomRuns as rooms
 use Rattle.uc_scope_laws.specs.RoomRuns.{Leads, Comes}
 use Rattle.uc_scope_laws.proofs.StackWorlds.{law_frame_runs}
 use Rattle.uc_scope_laws.proofs.Unreferring.{law_accepted}
-use Rattle.uc_scope_laws.proofs.StackWalk.{walk as walk_stack}
 use Rattle.uc_value_laws.specs.Opens.{RideMeets, MayMeet, RunMeets, LeadsMeet}
+use Rattle.uc_scope_laws.proofs.StackWalk.{walk as walk_stack}
+use Rattle.uc_sound.specs.Tables.{table_of}
 use Rattle.uc_life_laws.specs.Things.{Few}
+use Rattle.uc_life_laws.specs.LifeRuns.{IsLaidOut}
 use Rattle.uc_life_laws.proofs.Spawning.{Spawned, spawner}
-use Rattle.uc_unmarked_laws.specs.Marks.{LoneState, LoneStep, Puts}
-use Rattle.uc_unmarked_laws.proofs.Walk.{law_steps as law_lone}
-use Rattle.uc_unmarked_laws.proofs.Worlds.{law_runs as lone_runs}
+use Rattle.uc_unmarked_laws.specs.Marks.{Puts}
 use Rattle.uc_aside_laws.specs.OlderResting.{AllWait, NamedParked, NamedHand}
 use Rattle.uc_aside_laws.proofs.Keeping as kept
 use Rattle.uc_aside_laws.proofs.Keeping.{either}
 use Rattle.uc_putting_laws.specs.Putting.{Setting, around, CodeRoutine, FindsFor, Runs, Waits, FindsBehind, PutMembers, PutState, PutAsk, PutStep}
 use Rattle.uc_putting_laws.specs.PuttingLaws.{special_of, setting_of, Fair}
-use Rattle.uc_putting_laws.proofs.Steps.{calm}
+use Rattle.uc_putting_laws.proofs.PuttingTodos.{calm}
 use Rattle.uc_putting_laws.proofs.Walk.{walk, first_put, child_plain, answered_put}
 use Rattle.uc_putting_laws.proofs.Puts.{law_puts}
 
@@ -127,60 +127,50 @@ module _ (g : Setting) where
   child_by j u (ask.Spawn o) s m h k = child_plain g (around s.env.exec s.run s.callers) h.made _ s.run.control m h.ok
   child_by j u r s m h k = absurd k
 
--- rides of a task that keeps to its rooms and whose marks are for what is its own
+-- rides of a task that keeps to its rooms
 
-record Stands (p : Program) (g : Setting) (s : State) : Type 0 where
-  put : PutState g s
-  stack : StackState (Sized p) s
-  lone : LoneState g.table g.few s
+pub record Stands (p : Program) (g : Setting) (s : State) : Type 0 where
+  pub put : PutState g s
+  pub stack : StackState (Sized p) s
 
-module _ (p : Program) (g : Setting) (in_rooms : SourceIn (Sized p) g.source) (known : (n : ℕ) → CodeRoutine g (g.special n) (slice_get g.source.routines n)) where
-  puts : (s : State) → Stands p g s → Fair g s → Puts g.table g.few s
-  puts s n f = law_puts g s n.put f
+module _ (p : Program) (g : Setting) (laid : IsLaidOut (Sized p) g.table) (in_rooms : SourceIn (Sized p) g.source) (known : (n : ℕ) → CodeRoutine g (g.special n) (slice_get g.source.routines n)) where
+  puts : (s : State) → Stands p g s → Puts g.table g.few s
+  puts s n = law_puts g s n.put
 
   step : (s : State) → Stands p g s → Fair g s → PutStep g (quiet.quiet g.source s)
-  step s n f = walk p g known s n.put n.stack n.lone f
+  step s n f = walk p g laid known s n.put n.stack f
 
-  lone_step : (s : State) → Stands p g s → Fair g s → LoneStep g.table g.few (quiet.quiet g.source s)
-  lone_step s n f = law_lone.steps g.table g.few g.source s n.lone (puts s n f)
-
-  goes : (s t : State) → quiet.quiet g.source s ≡ Goes t → Stands p g s → Fair g s → Stands p g t
+  pub goes : (s t : State) → quiet.quiet g.source s ≡ Goes t → Stands p g s → Fair g s → Stands p g t
   goes s t e n f = record {
     put = subst (PutStep g) e (step s n f);
     stack = subst (StackStep (Sized p)) e (walk_stack (Sized p) g.source in_rooms s n.stack);
-    lone = subst (LoneStep g.table g.few) e (lone_step s n f);
   }
 
-  ticks : (s t : State) → quiet.quiet g.source s ≡ Ticks t → Stands p g s → Fair g s → Stands p g t
+  pub ticks : (s t : State) → quiet.quiet g.source s ≡ Ticks t → Stands p g s → Fair g s → Stands p g t
   ticks s t e n f = record {
     put = subst (PutStep g) e (step s n f);
     stack = subst (StackStep (Sized p)) e (walk_stack (Sized p) g.source in_rooms s n.stack);
-    lone = subst (LoneStep g.table g.few) e (lone_step s n f);
   }
 
   ridden : {s u : State} {q k : ℕ} {a : Asked} (d : Rides g.source s q u k a) → RideMeets (Fair g) g.source s q u k a d → Stands p g s → PutAsk g a.request u × RideMeets (Puts g.table g.few) g.source s q u k a d
   ridden rides.slices f n = (record { run = n.put.run; callers = n.put.callers; env = n.put.env }, tt)
-  ridden (rides.goes_on {s} {t} e r) f n = let k = ridden r f.1 (goes s t e n f.0) in (k.0, (puts s n f.0, k.1))
-  ridden (rides.ticks {s} {t} e r) f n = let k = ridden r f.1 (ticks s t e n f.0) in (k.0, (puts s n f.0, k.1))
-  ridden (rides.asks {s} {t} e) f n = (subst (PutStep g) e (step s n f), puts s n f)
+  ridden (rides.goes_on {s} {t} e r) f n = let k = ridden r f.1 (goes s t e n f.0) in (k.0, (puts s n, k.1))
+  ridden (rides.ticks {s} {t} e r) f n = let k = ridden r f.1 (ticks s t e n f.0) in (k.0, (puts s n, k.1))
+  ridden (rides.asks {s} {t} e) f n = (subst (PutStep g) e (step s n f), puts s n)
 
   led : {s u : State} (l : Leads g.source s u) → LeadsMeet (Fair g) g.source s u l → Stands p g s → LeadsMeet (Puts g.table g.few) g.source s u l
   led rooms.stays f n = tt
-  led (rooms.goes {s} {u} e l) f n = (puts s n f.0, led l f.1 (goes s u e n f.0))
-  led (rooms.ticks {s} {u} e l) f n = (puts s n f.0, led l f.1 (ticks s u e n f.0))
+  led (rooms.goes {s} {u} e l) f n = (puts s n, led l f.1 (goes s u e n f.0))
+  led (rooms.ticks {s} {u} e l) f n = (puts s n, led l f.1 (ticks s u e n f.0))
 
-module _ (p : Program) (accepted : breaks_of p ≡ []) (few : Few) (main : special_of p (source_of p).main ≡ false) (known : (n : ℕ) → CodeRoutine (setting_of p few) (special_of p n) (slice_get (source_of p).routines n)) (input : List ℕ) (opts : Options) (range : InRange opts) where
+module _ (p : Program) (accepted : breaks_of p ≡ []) (few : Few) (laid : IsLaidOut (Sized p) (table_of p)) (main : special_of p (source_of p).main ≡ false) (known : (n : ℕ) → CodeRoutine (setting_of p few) (special_of p n) (slice_get (source_of p).routines n)) (input : List ℕ) (opts : Options) (range : InRange opts) where
   abbrev g : Setting
   g = setting_of p few
 
   abbrev source : Source
   source = source_of p
 
-  -- who runs comes to such states as long as marks are put so
-  abbrev Lones : Journal → World → Type 0
-  Lones j w = (t : ℕ) (s : State) (c : Comes source j w t s) → LeadsMeet (Puts g.table few) source (answered source c.given (drawn j w t)) s c.leads → LoneState g.table few s
-
-  module _ {j : Journal} {w : World} (r : RunRests source input opts j w) (going : is_over j ≡ false) (x : PutWorld g j w) (told_rooms : KeepsFrames p j w) (lone : Lones j w) where
+  module _ {j : Journal} {w : World} (r : RunRests source input opts j w) (going : is_over j ≡ false) (x : PutWorld g j w) (told_rooms : KeepsFrames p j w) where
     sound : Sound j
     sound = (good_whole opts source.sites input r.kernel).sound
 
@@ -191,13 +181,13 @@ module _ (p : Program) (accepted : breaks_of p ≡ []) (few : Few) (main : speci
         let finds : FindsFor g (asked_form t j) (drawn j w t).env.exec (drawn j w t).callers (drawn j w t).run = m.run (law_alive opts source.sites input j r.kernel going p t runs) in
         answered_put g (asked_form t j) a (drawn j w t) (law_suiting opts source.sites input j r.kernel going t a told) finds m.callers (record { house = m.house; hand = hand_put g (held t j) w.homes x.homes })
 
-    start : (q t : ℕ) (a : Answer) → running q j ≡ t ∷ [] → answer_to source.sites t j ≡ Some a → Stands p g (answered source a (drawn j w t))
+    pub start : (q t : ℕ) (a : Answer) → running q j ≡ t ∷ [] → answer_to source.sites t j ≡ Some a → Stands p g (answered source a (drawn j w t))
     start q t a runs told =
         let c : Comes source j w t (answered source a (drawn j w t)) = record { given = a; processor = q; runs = runs; told = told; leads = rooms.stays } in
-        record { put = goes_on q t a runs told; stack = told_rooms.comes t _ c; lone = lone t _ c tt }
+        record { put = goes_on q t a runs told; stack = told_rooms.comes t _ c }
 
     asks_put : (q t n : ℕ) (s : State) (asked : Asked) (d : AsksIn source opts j w q t n s asked) → RideMeets (Fair g) source (answered source d.given (drawn j w t)) (left opts j t) s n asked d.rides → PutAsk g asked.request s × RideMeets (Puts g.table few) source (answered source d.given (drawn j w t)) (left opts j t) s n asked d.rides
-    asks_put q t n s asked d f = ridden p g (law_accepted p accepted) known d.rides f (start q t d.given d.runs d.told)
+    asks_put q t n s asked d f = ridden p g laid (law_accepted p accepted) known d.rides f (start q t d.given d.runs d.told)
 
     module _ (q t n : ℕ) (s : State) (asked : Asked) (d : AsksIn source opts j w q t n s asked) (m : MayAsk opts source.sites j q t n asked.request) (on : is_over (j ++ act opts source.sites input j q t n asked) ≡ false) (fair : RideMeets (Fair g) source (answered source d.given (drawn j w t)) (left opts j t) s n asked d.rides) where
       abbrev a : List Entry
@@ -260,8 +250,8 @@ module _ (p : Program) (accepted : breaks_of p ≡ []) (few : Few) (main : speci
   given_form : (j : Journal) (q t u : ℕ) → asked_form u (j ++ dispatch q t ∷ []) ≡ asked_form u j
   given_form j q t u = form_push u j (dispatch q t)
 
-  put_may : {j : Journal} {w : World} {a : List Entry} {v : World} → RunRests source input opts j w → is_over j ≡ false → PutWorld g j w → KeepsFrames p j w → Lones j w → (m : May source opts input j w a v) → MayFit source opts input j w a v m → MayMeet (Fair g) source opts input j w a v m → is_over (j ++ a) ≡ false → PutWorld g (j ++ a) v
-  put_may {j} {w} r o x i l (gives q t s le) f fair on = record {
+  put_may : {j : Journal} {w : World} {a : List Entry} {v : World} → RunRests source input opts j w → is_over j ≡ false → PutWorld g j w → KeepsFrames p j w → (m : May source opts input j w a v) → MayFit source opts input j w a v m → MayMeet (Fair g) source opts input j w a v m → is_over (j ++ a) ≡ false → PutWorld g (j ++ a) v
+  put_may {j} {w} r o x i (gives q t s le) f fair on = record {
     tasks = λ u. record {
       run = λ h. subst (λ f. FindsFor g f (w.tasks u).env.exec (w.tasks u).callers (w.tasks u).run) (sym (given_form j q t u)) ((x.tasks u).run (ended_before j (dispatch q t ∷ []) u h));
       callers = (x.tasks u).callers;
@@ -269,15 +259,15 @@ module _ (p : Program) (accepted : breaks_of p ≡ []) (few : Few) (main : speci
     };
     homes = x.homes;
   }
-  put_may {j} r o x i l (no_room q t s le) f fair on = no_both (is_over (j ++ lone_limit ∷ [])) (over_limit j 0 0) on
-  put_may {j} {w} r o x i l (acts q t n s asked d) f fair on =
+  put_may {j} r o x i (no_room q t s le) f fair on = no_both (is_over (j ++ lone_limit ∷ [])) (over_limit j 0 0) on
+  put_may {j} {w} r o x i (acts q t n s asked d) f fair on =
       let m = may_ask source input opts range d f in
-      record { tasks = λ u. tasks_after r o x i l q t n s asked d m on fair u; homes = λ k. homes_after r o x i l q t n s asked d m on fair k }
+      record { tasks = λ u. tasks_after r o x i q t n s asked d m on fair u; homes = λ k. homes_after r o x i q t n s asked d m on fair k }
 
-  may_put : {j : Journal} {w : World} {a : List Entry} {v : World} → RunRests source input opts j w → is_over j ≡ false → PutWorld g j w → KeepsFrames p j w → Lones j w → (m : May source opts input j w a v) → MayMeet (Fair g) source opts input j w a v m → MayMeet (Puts g.table few) source opts input j w a v m
-  may_put r o x i l (gives q t s le) fair = tt
-  may_put r o x i l (no_room q t s le) fair = tt
-  may_put r o x i l (acts q t n s asked d) fair = (asks_put r o x i l q t n s asked d fair).1
+  may_put : {j : Journal} {w : World} {a : List Entry} {v : World} → RunRests source input opts j w → is_over j ≡ false → PutWorld g j w → KeepsFrames p j w → (m : May source opts input j w a v) → MayMeet (Fair g) source opts input j w a v m → MayMeet (Puts g.table few) source opts input j w a v m
+  may_put r o x i (gives q t s le) fair = tt
+  may_put r o x i (no_room q t s le) fair = tt
+  may_put r o x i (acts q t n s asked d) fair = (asks_put r o x i q t n s asked d fair).1
 
   begin_form : (u : ℕ) → asked_form u (begin opts ∷ []) ≡ JustGo
   unfolding asked_form
@@ -291,20 +281,17 @@ module _ (p : Program) (accepted : breaks_of p ≡ []) (few : Few) (main : speci
         homes = λ o. either (PutMembers g (home.Object o)) (o == 0) (Some no_members) None tt tt;
       }
 
-  lones : {j : Journal} {w : World} (r : RunsIn source input opts j w) → RunMeets (Puts g.table few) source input opts j w r → Lones j w
-  lones {j} {w} r m = (lone_runs g.table few source input opts j w r m).comes
-
   pub run_put : {j : Journal} {w : World} (r : RunsIn source input opts j w) → RunFits source input opts j w r → RunMeets (Fair g) source input opts j w r → (is_over j ≡ false → PutWorld g j w) × RunMeets (Puts g.table few) source input opts j w r
   run_put begun f fair = ((λ on. begun_put), tt)
   run_put (more {j} {w} r o m) f fair =
       let k = run_put r f.0 fair.0 in
       let rests : RunRests source input opts j w = run_rests source input opts range r f.0 o in
       let frames : KeepsFrames p j w = law_frame_runs p accepted input opts j w r in (
-        (λ on. put_may rests o (k.0 o) frames (lones r k.1) m f.1 fair.1 on),
-        (k.1, may_put rests o (k.0 o) frames (lones r k.1) m fair.1),
+        (λ on. put_may rests o (k.0 o) frames m f.1 fair.1 on),
+        (k.1, may_put rests o (k.0 o) frames m fair.1),
       )
 
   pub leads_put : {j : Journal} {w : World} (r : RunsIn source input opts j w) → RunFits source input opts j w r → RunMeets (Fair g) source input opts j w r → is_over j ≡ false → (t : ℕ) (s : State) (c : Comes source j w t s) → LeadsMeet (Fair g) source (answered source c.given (drawn j w t)) s c.leads → LeadsMeet (Puts g.table few) source (answered source c.given (drawn j w t)) s c.leads
   leads_put {j} {w} r f fair on t s c l =
       let k = run_put r f fair in
-      led p g (law_accepted p accepted) known c.leads l (start (run_rests source input opts range r f on) on (k.0 on) (law_frame_runs p accepted input opts j w r) (lones r k.1) c.processor t c.given c.runs c.told)
+      led p g laid (law_accepted p accepted) known c.leads l (start (run_rests source input opts range r f on) on (k.0 on) (law_frame_runs p accepted input opts j w r) c.processor t c.given c.runs c.told)

@@ -4,20 +4,17 @@ use Rattle.std.specs.Prelude.{◌≡◌, ℕ, List, [], ◌∷◌}
 use Rattle.uc_tree.specs.Source.{Shape, Variable, OfObject, OwnField, CleanUp}
 use Rattle.uc_machine.specs.declared.exec.Exec.{Exec}
 use Rattle.uc_machine.specs.Pieces.{Link, Value, further, Todo, Sort, IsClean, IsPart, sort, Active}
-use Rattle.uc_typing.specs.Typing.{Ty, Table, CleansAt}
+use Rattle.uc_typing.specs.Typing.{Ty, Cell, Obj, Table, CleansAt}
 use Rattle.uc_life_laws.specs.Things.{Few, Stands}
 use Rattle.uc_unmarked_laws.specs.Belonging.{Belongs}
 use Rattle.uc_unmarked_laws.specs.Marks.{Marked, Sole}
-
--- a value lies at a place, or some links further
-pub data LiesUnder (w : Value) : Value → Type 0 where
-  here : LiesUnder w w
-  further_on : {v : Value} (l : Link) → LiesUnder w v → LiesUnder w (further l v)
+use Rattle.uc_putting_laws.specs.ObjectsAtHand.{LiesUnder}
 
 module _ (t : Table) where
   -- none of these things stands around a mutex object that lies in an object
   abbrev pub NoneIn : Few → (Value → Ty → Type 0) → Value → Type 0
-  NoneIn few K this = (l : Link) (v : Value) (b : Ty) → LiesUnder (further l this) v → Stands t few K b v → ⊥
+  NoneIn few K this = (l : Link) (v : Value) (e : ℕ) → LiesUnder (further l this) v →
+      Stands t few K (Cell (Obj e)) v → ⊥
 
   -- a clean-up is for the field of this number alone, of those of the object at hand; it is for other ones alone, and for no variable
   abbrev pub OfNumber : ℕ → CleanUp → Type 0

@@ -1,5 +1,5 @@
 -- To-do lists before which the places of the objects that are built and destroyed lie among the operands: what is called there is the execution's
--- own, and where it is a mutex object, nothing that is to be cleaned up stands around it.
+-- own, and nothing that is to be cleaned up stands around mutex objects in it.
 use Rattle.std.specs.Prelude.{◌≡◌, ℕ, zero, suc, ◌<◌, ◌⊎◌, Bool, true, false, List, [], ◌∷◌, Option, Some, None}
 use Rattle.uc_tree.specs.declared.limits.TheConstants.{DESTRUCTOR}
 use Rattle.uc_tree.specs.Source.{Shape, Binding, Expr, Exprs, Variable, Element, Load, OfObject, OwnField, Counted, Item, Target, Declared, CleanUp, Ends, Frees, Stmt, Stmts, Handlers, Clauses, Routine, Source}
@@ -9,17 +9,18 @@ use Rattle.uc_machine.specs.declared.exec.Exec.{Exec}
 use Rattle.uc_machine.specs.declared.exec.Home.{Home}
 use Rattle.uc_machine.specs.declared.exec.Owner.TheVariants.{Frame}
 use Rattle.uc_machine.specs.Pieces as piece
-use Rattle.uc_machine.specs.Pieces.{Slot, FieldAt, Value, Place, Object, object_in, further, Todo, Sort, sort, Active, State, Members, Step, Goes, Ticks, Asks, top, below}
+use Rattle.uc_machine.specs.Pieces.{Slot, FieldAt, Value, Place, Object, further, Todo, Sort, sort, Active, State, Members, Step, Goes, Ticks, Asks, top, below}
 use Rattle.uc_answer_laws.specs.Suiting.{Form, form_of_request}
-use Rattle.uc_typing.specs.Typing.{Table}
+use Rattle.uc_typing.specs.Typing.{Cell, Obj, Table}
 use Rattle.uc_event_laws.specs.Counted.{params, count, CountedExpr, CountedExprs, CountedMaybe, CountedItems, CountedTargets, CountedDeclared, CountedClean, CountedStmt, CountedStmts, CountedHandlers, CountedClauses}
 use Rattle.uc_event_laws.specs.Marked.{operands}
-use Rattle.uc_life_laws.specs.Things.{Few}
-use Rattle.uc_unmarked_laws.specs.Belonging.{Belongs}
-use Rattle.uc_unmarked_laws.specs.Marks.{Outward, Free, Lone}
+use Rattle.uc_life_laws.specs.Things.{Few, Stands}
+use Rattle.uc_unmarked_laws.specs.Marks.{Outward, Lone}
 use Rattle.uc_unmarked_laws.specs.Ending.{Spot, OfVariable, OfField}
 use Rattle.uc_aside_laws.specs.OlderResting.{AllWait, NamedMembers, NamedEnv, NamedState}
-use Rattle.uc_putting_laws.specs.Calling.{Site, One, Each, is_opening, OpensFor, NoSite, PlainExpr, PlainExprs, PlainMaybe, PlainItems, PlainTargets, PlainDeclared, PlainNew, Binds, PlaceAt, CallsAt, MakesAt, MakesEach, EndsAt, EndsEach, EndsNumber, FillsBy, SweepsBy, ScopeBy, PartBy, CallingStmt, CallingStmts, CallingHandlers, CallingClauses, Begins, Opening, CallingRoutine}
+use Rattle.uc_putting_laws.specs.CleanedSpots.{Site, One, Each, Under, site_spot, NoSite, spot_of, OpensFor, Reach, apart, IsOf, IsIn, AllBelow, IsOutermost, Ascends}
+use Rattle.uc_putting_laws.specs.ObjectsAtHand.{LiesUnder, LiesIn, IsSeated}
+use Rattle.uc_putting_laws.specs.Calling.{is_opening, PlainExpr, PlainExprs, PlainMaybe, PlainItems, PlainTargets, PlainDeclared, PlainNew, Binds, PlaceAt, CallsAt, MakesAt, MakesEach, EndsAt, EndsEach, EndsNumber, FillsBy, SweepsBy, CleansBy, CallingStmt, CallingStmts, CallingHandlers, CallingClauses, Begins, Opening, CallingRoutine}
 
 -- a source with the table of its types, what there is, and which routines are constructors and destructors
 pub record Setting : Type 0 where
@@ -44,10 +45,9 @@ pub record IsHome (few : Few) (v place : Value) : Type 0 where
   pub object : v ≡ Object number
   pub home : few.home number ≡ place
 
--- what is known of an operand: nothing, that it is the execution's own, that it is a place at a site, or an object that is at home there
+-- what is known of an operand: nothing, that it is a place at a site, or an object that is at home there
 pub data Mark : Type 0 where
   Any : Mark
-  Own : Mark
   At : Site → Mark
   Homed : Site → Mark
 
@@ -65,12 +65,12 @@ abbrev pub anys : ℕ → List Mark → List Mark
 anys zero ms = ms
 anys (suc n) ms = anys n (Any ∷ ms)
 
--- the first is the execution's own
-abbrev pub FirstOwn : List Mark → Type 0
-FirstOwn (Own ∷ ms) = Unit {0}
-FirstOwn ms = ⊥
+-- the first lies at a spot of which this holds, or further
+abbrev pub FirstUnder : List Mark → (Spot → Type 0) → Type 0
+FirstUnder (At (Under p) ∷ ms) next = next p
+FirstUnder ms next = ⊥
 
--- the first is a place at a site of which this holds; so is it of the object that is at home there
+-- it is a place at a site of which this holds; so is it of the object that is at home there
 abbrev pub FirstAt : List Mark → (Site → Type 0) → Type 0
 FirstAt (At x ∷ ms) next = next x
 FirstAt ms next = ⊥
@@ -90,25 +90,6 @@ abbrev pub OpensRest : List Todo → Site → Type 0
 OpensRest (piece.Rest ss ∷ todo) x = OpensFor ss x
 OpensRest todo x = ⊥
 
--- behind the call of what builds it
-abbrev pub OpensNext : List Todo → Site → Type 0
-OpensNext (piece.DropNow ∷ (piece.Within line ∷ todo)) x = OpensRest todo x
-OpensNext todo x = ⊥
-
--- so it is of a spot
-abbrev pub OneNext : List Todo → Site → Type 0
-OneNext todo (One p) = OpensNext todo (One p)
-OneNext todo (Each n p) = ⊥
-
--- a field is one of the object at hand, in code of a constructor or a destructor
-abbrev pub IsOf : Bool → Spot → Type 0
-IsOf made (OfVariable k) = Unit {0}
-IsOf made (OfField h i) = made ≡ true
-
-abbrev pub IsIn : Bool → Site → Type 0
-IsIn made (One p) = IsOf made p
-IsIn made (Each n p) = IsOf made p
-
 -- a place at a site is found
 abbrev pub Located : Expr → (Site → Type 0) → Type 0
 Located (Variable k) next = next (One (OfVariable k))
@@ -117,8 +98,9 @@ Located (Element n Binding (Variable k) (OfObject Counted)) next = next (Each n 
 Located (Element n Binding (OfObject (OwnField h i)) (OfObject Counted)) next = next (Each n (OfField h i))
 Located e next = ⊥
 
--- that of an element, behind that of its array
+-- that of an element, behind that of its array, or of what is no mutex object there
 abbrev pub Enters : ℕ → Shape → Site → (Site → Type 0) → Type 0
+Enters n s (Under p) next = next (Under p)
 Enters n Binding (One p) next = next (Each n p)
 Enters n s x next = ⊥
 
@@ -136,6 +118,7 @@ module _ (few : Few) (A : Around) where
   abbrev pub StandsAt : Site → Value → Type 0
   StandsAt (One p) v = v ≡ spot_at p
   StandsAt (Each n p) v = (j : ℕ) × (j < n) × (v ≡ further (piece.At Binding j) (spot_at p))
+  StandsAt (Under p) v = LiesUnder (spot_at p) v
 
   -- an object that is at home there
   abbrev pub HomedAt : Site → Value → Type 0
@@ -143,7 +126,6 @@ module _ (few : Few) (A : Around) where
 
   abbrev pub Meets : Mark → Value → Type 0
   Meets Any v = Unit {0}
-  Meets Own v = Belongs few A.exec v
   Meets (At x) v = StandsAt x v
   Meets (Homed x) v = HomedAt x v
 
@@ -152,14 +134,11 @@ module _ (few : Few) (A : Around) where
   Holds [] vs = Unit {0}
   Holds (m ∷ ms) vs = Meets m (top vs) × Holds ms (below vs)
 
--- an object is at home in what is the own of this execution, where nothing is cleaned up by what is to do and by activations that wait
-abbrev pub LoneIn : Table → Few → Around → ℕ → List Todo → Type 0
-LoneIn t few A o todo =
-    Belongs few A.exec (few.home o) × Free t few o (Outward t A.exec A.frame A.this A.older todo)
-
--- so it is of each that is at home at a site
+-- nothing that is to be cleaned up by what is to do and by activations that wait stands around a mutex object that lies at a site, or in one that is at
+-- home there
 abbrev pub LoneAt : Table → Few → Around → List Todo → Site → Type 0
-LoneAt t few A todo x = (o : ℕ) → StandsAt few A x (few.home o) → LoneIn t few A o todo
+LoneAt t few A todo x = (v : Value) (e : ℕ) → LiesIn few (spot_at few A (site_spot x)) v →
+    Stands t few (Outward t A.exec A.frame A.this A.older todo) (Cell (Obj e)) v → ⊥
 
 module _ (g : Setting) where
   abbrev pub Counts : Expr → Type 0
@@ -187,40 +166,48 @@ module _ (g : Setting) where
   abbrev pub CodeDeclared : List Declared → Type 0
   CodeDeclared ds = CountedDeclared g.source ds × PlainDeclared g.table g.source g.special ds
 
-  abbrev pub CodeStmt : (Site → Type 0) → Bool → Stmt → Type 0
-  CodeStmt P made a = CountedStmt g.source a × CallingStmt g.table g.source g.special P made a
+  abbrev pub CodeStmt : (Site → Type 0) → Reach → Stmt → Type 0
+  CodeStmt P r a = CountedStmt g.source a × CallingStmt g.table g.source g.special P r a
 
-  abbrev pub CodeStmts : Bool → Stmts → Type 0
-  CodeStmts made ss = CountedStmts g.source ss × CallingStmts g.table g.source g.special made ss
+  abbrev pub CodeStmts : Reach → Stmts → Type 0
+  CodeStmts r ss = CountedStmts g.source ss × CallingStmts g.table g.source g.special r ss
 
-  abbrev pub CodeHandlers : Bool → Handlers → Type 0
-  CodeHandlers made hs = CountedHandlers g.source hs × CallingHandlers g.table g.source g.special made hs
+  abbrev pub CodeHandlers : Reach → Handlers → Type 0
+  CodeHandlers r hs = CountedHandlers g.source hs × CallingHandlers g.table g.source g.special r hs
 
-  abbrev pub CodeClauses : Bool → Clauses → Type 0
-  CodeClauses made cs = CountedClauses g.source cs × CallingClauses g.table g.source g.special made cs
+  abbrev pub CodeClauses : Reach → Clauses → Type 0
+  CodeClauses r cs = CountedClauses g.source cs × CallingClauses g.table g.source g.special r cs
 
-  abbrev pub CodeLoop : Bool → Expr → Option Expr → Stmt → Type 0
-  CodeLoop made t e b = CodeExpr t × CodeMaybe e × CodeStmt NoSite made b
+  abbrev pub CodeLoop : Reach → Expr → Option Expr → Stmt → Type 0
+  CodeLoop r t e b = CodeExpr t × CodeMaybe e × CodeStmt NoSite (apart r) b
 
-  abbrev pub CodeSweep : Bool → (Site → Type 0) → Expr → Type 0
-  CodeSweep made P e = Counts e × SweepsBy g.table g.source g.special made P e
+  abbrev pub CodeSweep : Reach → (Site → Type 0) → Expr → Type 0
+  CodeSweep r P e = Counts e × SweepsBy g.table g.source g.special r P e
 
-  abbrev pub CodeFill : Bool → (Site → Type 0) → Expr → Type 0
-  CodeFill made P e = Counts e × FillsBy g.table g.source g.special made P e
+  abbrev pub CodeFill : Reach → (Site → Type 0) → Expr → Type 0
+  CodeFill r P e = Counts e × FillsBy g.table g.source g.special r P e
 
-  -- the mutex object at hand is destroyed, or built, with this to do behind that
-  abbrev pub CodeOpening : Around → Bool → Stmts → List Todo → Type 0
-  CodeOpening A made ss todo = (made ≡ true) × CountedStmts g.source ss × Opening g.table g.source g.special ss ×
-      Lone g.table g.few A.exec A.frame A.this A.older todo
+  -- statements of a constructor or a destructor, which put marks for fields in order, with this to do behind them
+  abbrev pub CodeSpine : Reach → Stmts → List Todo → Type 0
+  CodeSpine r ss todo = CodeStmts r ss × ((n : ℕ) × AllBelow n todo × Ascends n ss)
+
+  -- the mutex object at hand is destroyed, or built
+  abbrev pub CodeOpening : Around → Reach → Stmts → List Todo → Type 0
+  CodeOpening A r ss todo = (r.builds ≡ true) × CountedStmts g.source ss × Opening g.table g.source g.special r ss ×
+      AllBelow 0 todo × Lone g.table g.few A.exec A.frame A.this A.older todo
+
+  -- statements within others, or all of what is no constructor and no destructor; those of one; or all of what has a mutex object at hand
+  abbrev pub CodeRest : Around → Reach → Stmts → List Todo → Type 0
+  CodeRest A r ss todo = CodeStmts (apart r) ss ⊎ (CodeSpine r ss todo ⊎ CodeOpening A r ss todo)
 
   -- a scope; of that of the mutex object at hand its main is told
-  abbrev pub CodeScope : Bool → CleanUp → Type 0
-  CodeScope made Ends = Unit {0}
-  CodeScope made (Frees r) = Begins g.table g.source g.special r
-  CodeScope made c = CountedClean g.source c × ScopeBy g.table g.source g.special made c
+  abbrev pub CodeScope : Reach → CleanUp → List Todo → Type 0
+  CodeScope r Ends todo = Unit {0}
+  CodeScope r (Frees q) todo = Begins g.table g.source g.special q
+  CodeScope r c todo = CountedClean g.source c × CleansBy g.table g.source g.special r c × IsOutermost (spot_of c) todo
 
-  abbrev pub CodePart : Bool → CleanUp → Type 0
-  CodePart made c = CountedClean g.source c × PartBy g.table g.source g.special made c
+  abbrev pub CodePart : Reach → CleanUp → List Todo → Type 0
+  CodePart r c todo = CountedClean g.source c × CleansBy g.table g.source g.special r c × IsOutermost (spot_of c) todo
 
   abbrev pub CodeRoutine : Bool → Option Routine → Type 0
   CodeRoutine b None = Unit {0}
@@ -274,18 +261,18 @@ module _ (g : Setting) where
   abbrev pub made_marks : ℕ → Mark → List Mark → List Mark
   made_marks r m ms = anys (params g.source r) (m ∷ rests (suc (params g.source r)) ms)
 
-  module _ (A : Around) (made : Bool) where
-    -- what is called: no constructor and no destructor; one of an object that is no mutex one, at what is the execution's own; or one of a mutex
-    -- object that is at home at a site, where nothing stands around that, or its scope opens behind the call
+  module _ (A : Around) (made : Reach) where
+    -- what is called: no constructor and no destructor; one of an object that is no mutex one, at a spot or further; or one of a mutex object that is
+    -- at home at a site. Nothing stands around mutex objects there
     abbrev pub CallFits : ℕ → List Mark → List Todo → Type 0
     CallFits r ms todo = (g.special r ≡ false) ⊎
-        (((is_opening g.source r ≡ false) × FirstOwn (rests (params g.source r) ms)) ⊎
-        FirstHome (rests (params g.source r) ms) (λ x. LoneAt g.table g.few A todo x ⊎ OneNext todo x))
+        (((is_opening g.source r ≡ false) × FirstUnder (rests (params g.source r) ms) (λ p. IsOf made p × LoneAt g.table g.few A todo (Under p))) ⊎
+        FirstHome (rests (params g.source r) ms) (λ x. IsIn made x × LoneAt g.table g.few A todo x))
 
     -- the code of a piece, with what is to do behind it, but for those of which more is asked
     abbrev pub CodePiece : Todo → List Mark → List Todo → Type 0
     CodePiece (piece.Choose e f) ms todo = CodeExpr e × CodeExpr f
-    CodePiece (piece.Branch a b) ms todo = CodeStmt NoSite made a × CodeStmt NoSite made b
+    CodePiece (piece.Branch a b) ms todo = CodeStmt NoSite (apart made) a × CodeStmt NoSite (apart made) b
     CodePiece (piece.Arguments es) ms todo = CodeExprs es
     CodePiece (piece.CallNow r) ms todo = g.special r ≡ false
     CodePiece (piece.CallOnNow r) ms todo = CallFits r ms todo
@@ -299,15 +286,16 @@ module _ (g : Setting) where
     CodePiece (piece.Targets xs) ms todo = CodeTargets xs
     CodePiece (piece.Variables ds) ms todo = CodeDeclared ds
     CodePiece (piece.Do a) ms todo = CodeStmt (OpensRest todo) made a
-    CodePiece (piece.Rest ss) ms todo = CodeStmts made ss ⊎ CodeOpening A made ss todo
+    CodePiece (piece.Rest ss) ms todo = CodeRest A made ss todo
     CodePiece (piece.InLoop o t e b) ms todo = CodeLoop made t e b
-    CodePiece (piece.Clean c) ms todo = CodeScope made c
+    CodePiece (piece.Clean c) ms todo = CodeScope made c todo
     CodePiece (piece.Sweep e) ms todo = CodeSweep made (LoneAt g.table g.few A todo) e
-    CodePiece (piece.Part c) ms todo = CodePart made c
-    CodePiece (piece.Guard hs) ms todo = CodeHandlers made hs
-    CodePiece (piece.Guards cs) ms todo = CodeClauses made cs
-    CodePiece (piece.ChooseNow cs) ms todo = CodeClauses made cs
-    CodePiece (piece.SetUpNow r) ms todo = g.special r ≡ false
+    CodePiece (piece.Part c) ms todo = CodePart made c todo
+    CodePiece (piece.Guard hs) ms todo = CodeHandlers (apart made) hs
+    CodePiece (piece.Guards cs) ms todo = CodeClauses (apart made) cs
+    CodePiece (piece.ChooseNow cs) ms todo = CodeClauses (apart made) cs
+    CodePiece piece.BindNow ms todo = FirstUnder (rest ms) (λ p. IsOf made p)
+    CodePiece (piece.SetUpNow r) ms todo = (made.builds ≡ true) × (g.special r ≡ false)
     CodePiece (piece.SpawnNow r) ms todo = g.special r ≡ false
     CodePiece (piece.ChildNow r) ms todo = g.special r ≡ false
     CodePiece p ms todo = Unit {0}
@@ -317,11 +305,11 @@ module _ (g : Setting) where
     LeftBy piece.Simple todo left ok = left
     LeftBy (piece.IsLoop o t e b) todo left ok = CodeLoop made t e b × ok
     LeftBy piece.IsWhole todo left ok = ok
-    LeftBy (piece.IsClean c) todo left ok = CodeScope made c × ok
+    LeftBy (piece.IsClean c) todo left ok = CodeScope made c todo × ok
     LeftBy (piece.IsFill n b d) todo left ok = (CodeFill made (LoneAt g.table g.few A todo) b × CodeSweep made (LoneAt g.table g.few A todo) d) × ok
     LeftBy (piece.IsSweep e) todo left ok = CodeSweep made (LoneAt g.table g.few A todo) e × ok
-    LeftBy (piece.IsPart c) todo left ok = CodePart made c × ok
-    LeftBy (piece.IsGuard hs) todo left ok = CodeHandlers made hs × ok
+    LeftBy (piece.IsPart c) todo left ok = CodePart made c todo × ok
+    LeftBy (piece.IsGuard hs) todo left ok = CodeHandlers (apart made) hs × ok
     LeftBy piece.IsFinish todo left ok = ok
     LeftBy piece.IsFinishCoroutine todo left ok = ok
 
@@ -332,23 +320,22 @@ module _ (g : Setting) where
       Ok ms [] = Unit {0}
       Ok ms (piece.Eval e ∷ todo) = Counts e ×
           ((Plain e × Ok (Any ∷ ms) todo) ⊎
-          ((Binds g.table g.source g.special e × Ok (Any ∷ ms) todo) ⊎
+          ((Binds g.table g.source g.special made e × Ok (Any ∷ ms) todo) ⊎
           ((PlainNew g.table g.source g.special e × Ok (Any ∷ ms) todo) ⊎
-          ((CallsAt g.table g.source g.special made e × Ok (Any ∷ ms) todo) ⊎
-          ((PlaceAt g.table g.source g.special made e × Ok (Own ∷ ms) todo) ⊎
+          ((CallsAt g.table g.source g.special made (LoneAt g.table g.few A todo) e × Ok (Any ∷ ms) todo) ⊎
+          (PlaceAt g.table g.source g.special made (λ x. Ok (At x ∷ ms) todo) e ⊎
           (Located e (λ x. Ok (At x ∷ ms) todo) ⊎
           ((IsEnding todo × Loads e (λ x. Ok (Homed x ∷ ms) todo)) ⊎
-          (((MakesAt g.table g.source g.special made (OpensNext todo) e ⊎ MakesEach g.table g.source g.special made (LoneAt g.table g.few A todo) e) × Ok (Any ∷ ms) todo) ⊎
+          (((MakesAt g.table g.source g.special made (LoneAt g.table g.few A todo) e ⊎ MakesEach g.table g.source g.special made (LoneAt g.table g.few A todo) e) × Ok (Any ∷ ms) todo) ⊎
           (((EndsAt g.table g.source g.special made (LoneAt g.table g.few A todo) e ⊎ EndsEach g.table g.source g.special made (LoneAt g.table g.few A todo) e) × Ok (Any ∷ ms) todo) ⊎
           (EndsNumber g.table g.source g.special made e × Ok (Any ∷ ms) todo))))))))))
       Ok ms (piece.LoadNow ∷ todo) = Ok (Any ∷ rest ms) todo ⊎
           (IsEnding todo × FirstAt ms (λ x. Ok (Homed x ∷ rest ms) todo))
       Ok ms (piece.ElementNow n k ∷ todo) = Ok (Any ∷ rest (rest ms)) todo ⊎
-          ((FirstOwn (rest ms) × Ok (Own ∷ rest (rest ms)) todo) ⊎
-          FirstAt (rest ms) (λ x. Enters n k x (λ y. Ok (At y ∷ rest (rest ms)) todo)))
-      Ok ms (piece.MakeNow c r ∷ todo) = Ok (made_marks r Any ms) todo ⊎
+          FirstAt (rest ms) (λ x. Enters n k x (λ y. Ok (At y ∷ rest (rest ms)) todo))
+      Ok ms (piece.MakeNow c r ∷ todo) =
           FirstAt (rests (params g.source r) ms) (λ x. IsIn made x × Ok (made_marks r (Homed x) ms) todo)
-      Ok ms (piece.BindMadeNow c r ∷ todo) = Ok (made_marks r Any (rest ms)) todo ⊎
+      Ok ms (piece.BindMadeNow c r ∷ todo) =
           FirstAt (rests (params g.source r) (rest ms)) (λ x. IsIn made x × Ok (made_marks r (Homed x) (rest ms)) todo)
       Ok ms (piece.Exit w ∷ todo) = Left todo
       Ok ms (piece.Unwind ∷ todo) = Left todo
@@ -361,8 +348,8 @@ module _ (g : Setting) where
 
   -- an activation of the execution n, before these older ones, that is to find so many operands in front of its own
   pub record Finds (many : ℕ) (n : Exec) (older : List Active) (a : Active) : Type 0 where
-    pub made : Bool
-    pub this : made ≡ true → Belongs g.few n a.this
+    pub made : Reach
+    pub this : IsSeated g.table g.few made n older a.frame a.this
     pub marks : List Mark
     pub holds : Holds g.few (around n a older) marks a.operands
     pub ok : Ok (around n a older) made (anys many marks) a.control

@@ -1,13 +1,14 @@
--- Marks are put for what is the execution's own, as long as homes are right where objects are bound and loaded, and nothing stands around fields and
--- elements.
-use Rattle.std.specs.Prelude.{◌≡◌, ℕ, Bool, true, false, List, [], ◌∷◌, drop, Option, Some, None, slice_get}
+-- Marks are put for what is the execution's own, and nothing stands around fields, as long as homes are right where objects are bound and loaded, and
+-- handlers of resumptions have their variables behind those in which fields stand that are still to be cleaned up.
+use Rattle.std.specs.Prelude.{◌≡◌, ℕ, ◌<◌, Bool, true, false, List, [], ◌∷◌, drop, Option, Some, None, slice_get}
 use Rattle.uc_tree.specs.declared.kinds.Role.{Role}
 use Rattle.uc_tree.specs.declared.kinds.Role.TheVariants as role
 use Rattle.uc_tree.specs.Programs.{Program}
-use Rattle.uc_tree.specs.Source.{OfObject, EndOn, Destroys, DestroysAll, CleanUp, Fill, Scoped, Built, routine_of}
+use Rattle.uc_tree.specs.Source.{routine_of}
 use Rattle.uc_entry.specs.declared.request.Answer.{Answer}
 use Rattle.uc_machine.specs.Pieces as piece
-use Rattle.uc_machine.specs.Pieces.{Todo, State, loaded, top, below}
+use Rattle.uc_machine.specs.Pieces.{Value, Todo, State, loaded, top, below}
+use Rattle.uc_machine.specs.Raising.{Found, event_in, seek}
 use Rattle.uc_machine.specs.Quiet.{quiet, first_state}
 use Rattle.uc_machine.specs.Answering.{answered}
 use Rattle.uc_answer_laws.specs.Suiting.{Form, IsForm}
@@ -19,10 +20,13 @@ use Rattle.uc_scope_laws.specs.Layout.{Sized}
 use Rattle.uc_scope_laws.specs.RoomStacks.{StackState}
 use Rattle.uc_value_laws.specs.Makers.{roles}
 use Rattle.uc_event_laws.specs.Counted.{params, CountedSource}
-use Rattle.uc_life_laws.specs.Things.{Few}
-use Rattle.uc_unmarked_laws.specs.Marks.{Sole, LoneState, Puts}
+use Rattle.uc_typing.specs.Typing.{Cell, Obj}
+use Rattle.uc_life_laws.specs.Things.{Few, Stands}
+use Rattle.uc_life_laws.specs.LifeRuns.{IsLaidOut}
+use Rattle.uc_unmarked_laws.specs.Marks.{Puts}
 use Rattle.uc_aside_laws.specs.OlderResting.{AllWait, NamedEnv}
-use Rattle.uc_putting_laws.specs.Calling.{CallingSource}
+use Rattle.uc_putting_laws.specs.ObjectsAtHand.{LiesIn, variable, OwnMarked}
+use Rattle.uc_putting_laws.specs.Calling.{CallingStmts, CallingSource}
 use Rattle.uc_putting_laws.specs.Putting.{Setting, IsHome, IsEnding, FindsFor, Runs, Waits, PutState, PutStep}
 
 -- a constructor or a destructor, by its role
@@ -44,45 +48,43 @@ LawCalling = (p : Program) → IsFormed p → breaks_of p ≡ [] →
     CallingSource (table_of p) (source_of p) (special_of p)
 
 module _ (g : Setting) where
-  -- nothing outwards stands around what a clean-up is for, where that is a field
-  abbrev pub SoleNow : CleanUp → List Todo → State → Type 0
-  SoleNow c todo s = Sole g.table g.few s.env.exec s.run.frame s.run.this s.callers c todo
+  -- the handler of a resumption, of which the statements are in order from a variable on, behind those in which a field stands that this activation or
+  -- an older one has to clean up, with this to do
+  pub record IsBehind (y : Found) (todo : List Todo) (s : State) : Type 0 where
+    pub low : ℕ
+    pub code : CallingStmts g.table g.source g.special (record { builds = false; low = low }) y.handler.body
+    pub spare : (k : ℕ) (v : Value) (e : ℕ) → LiesIn g.few (variable s.env.exec y.frame k) v →
+        Stands g.table g.few (OwnMarked g.table s.env.exec (record s.run { control = todo } ∷ s.callers)) (Cell (Obj e)) v → k < low
 
-  -- so it is of mutex objects that become a part of the one at hand behind this call, or this statement
-  abbrev pub SolePart : List Todo → State → Type 0
-  SolePart (piece.DropNow ∷ (piece.Within line ∷ (piece.Rest (Built (Destroys (OfObject (EndOn q written e))) rest) ∷ todo))) s = SoleNow (Destroys (OfObject (EndOn q written e))) todo s
-  SolePart (piece.Rest (Built (DestroysAll n (OfObject (EndOn q written e))) rest) ∷ todo) s = SoleNow (DestroysAll n (OfObject (EndOn q written e))) todo s
-  SolePart todo s = Unit {0}
+  abbrev pub FoundBehind : Option Found → List Todo → State → Type 0
+  FoundBehind None todo s = Unit {0}
+  FoundBehind (Some y) todo s = IsBehind y todo s
 
-  -- what is left to find for a step: where an object is bound, and where one that is to be destroyed is loaded, it is at home at that place; and
-  -- nothing stands around what is a field, where that is put, and before it is built
+  -- what is left to find for a step: where an object is bound, and where one that is to be destroyed is loaded, it is at home at that place; and where
+  -- an event is resumed, a handler that is found is so
   abbrev pub FairAt : List Todo → State → Type 0
   FairAt (piece.LoadNow ∷ todo) s = IsEnding todo → IsHome g.few (loaded (top s.run.operands) s.env) (top s.run.operands)
   FairAt (piece.BindMadeNow c r ∷ todo) s = IsHome g.few (top s.run.operands) (top (drop (params g.source r) (below s.run.operands)))
-  FairAt (piece.CallOnNow r ∷ todo) s = SolePart todo s
-  FairAt (piece.CallUnwrittenNow r ∷ todo) s = SolePart todo s
-  FairAt (piece.Do (Fill line n b d) ∷ todo) s = SolePart todo s
-  FairAt (piece.Rest (Scoped c rest) ∷ todo) s = SoleNow c todo s
-  FairAt (piece.Rest (Built c rest) ∷ todo) s = SoleNow c todo s
+  FairAt (piece.RaiseNow ∷ todo) s = FoundBehind (seek None (event_in s.run.operands) (record s.run { control = todo } ∷ s.callers)) todo s
   FairAt todo s = Unit {0}
 
   abbrev pub Fair : State → Type 0
   Fair s = FairAt s.run.control s
 
 -- of any such source in which arguments are counted: what is known of operands holds as a task begins with a main; each step of a task whose
--- activations stay behind one another in their frames, and whose marks are for what is its own, keeps it where it finds that; and so does each
--- answer of the form that was asked for
+-- activations stay behind one another in their frames, with a table in which fields lie within the cells of their classes, keeps it where it finds
+-- that; and so does each answer of the form that was asked for
 pub record LawSteps : Type 0 where
   pub begins : (g : Setting) → CountedSource g.source → CallingSource g.table g.source g.special →
       (r o : ℕ) → g.special r ≡ false → PutState g (first_state (routine_of g.source r) o)
   pub steps : (p : Program) (g : Setting) → CountedSource g.source →
-      CallingSource g.table g.source g.special → (s : State) → PutState g s → StackState (Sized p) s →
-      LoneState g.table g.few s → Fair g s → PutStep g (quiet g.source s)
+      CallingSource g.table g.source g.special → IsLaidOut (Sized p) g.table →
+      (s : State) → PutState g s → StackState (Sized p) s → Fair g s → PutStep g (quiet g.source s)
   pub told : (g : Setting) (form : Form) (given : Answer) (s : State) → IsForm form given →
       FindsFor g form s.env.exec s.callers s.run →
       AllWait (Runs g) (Waits g) s.env.exec s.callers → NamedEnv (Runs g) (Waits g) s.env →
       PutState g (answered g.source given s)
 
--- so a mark that is put next is put as it is to be
+-- a mark that is put next is put as it is to be
 abbrev pub LawPuts : Type 0
-LawPuts = (g : Setting) (s : State) → PutState g s → Fair g s → Puts g.table g.few s
+LawPuts = (g : Setting) (s : State) → PutState g s → Puts g.table g.few s

@@ -1,6 +1,7 @@
 // The laws: each is a function whose contract is the law.
 
 ghost use Rattle.uc_putting_laws.specs.PuttingLaws.{LawCalling, LawPuts, LawSteps};
+ghost use Rattle.uc_putting_laws.specs.OwnPlaces.{LawOwnPlaces};
 ghost use Rattle.uc_putting_laws.specs.PuttingRuns.{LawRuns};
 ghost use Rattle.uc_putting_laws.specs.Fields.{LawSole};
 
@@ -36,4 +37,10 @@ pub fn law_runs()
 /// up other fields alone.
 pub fn law_sole()
     ensures { LawSole }
+{}
+
+/// What is bound, by a binding, to a new mutex object or to a new execution, is a place of the
+/// execution's own, in each state in which this is known of operands, and so in each such run.
+pub fn law_own_places()
+    ensures { LawOwnPlaces }
 {}

@@ -8,6 +8,7 @@ ghost use Rattle.uc_machine.specs.Answering as answering;
 ghost use Rattle.uc_code.specs.Layout.{laid_of};
 ghost use Rattle.uc_code.specs.Lowered.{Lowered};
 ghost use Rattle.uc_code.specs.Pace.{IsPaced};
+ghost use Rattle.uc_fused.specs.Fusing.{IsFused};
 ghost use Rattle.uc_frames.specs.Stands.{Rests};
 ghost use Rattle.uc_step.specs.WeightFalls.{Keeps};
 ghost use Rattle.uc_step.specs.Simulation.{behind_line, StandsAfter};
@@ -22,6 +23,7 @@ use uc_code::rows::RoutineCode;
 use uc_entry::request::{Answer, Asked, Request};
 use uc_frames::task::Task;
 use uc_frames::work::Work;
+use uc_fused::fused::Fused;
 use uc_outside::Gate;
 use uc_step::effect::Stop;
 use uc_step::step::{answer as give, run};
@@ -34,12 +36,14 @@ pub struct Ridden {
     pub ticks: u32,
 }
 
-/// Goes on with an answer up to a request, or up to so many ticks, and then asks for a slice. What is asked is written where it is
+/// Goes on with an answer up to a request, or up to so many ticks, and then asks for a slice. The second argument is what ops do together,
+/// as far as that is told. What is asked is written where it is
 /// lent. Where `dispatches` is not 0 it tells the gate first. No answer depends on the last three arguments. A new task has its
 /// memory before it is asked for. Without memory the task is lost, and so it is where one is spawned whose main the code does not
 /// have.
 pub fn ride<G: Gate>(
     code: &Code,
+    fused: &[Fused],
     work: Work,
     answer: Answer,
     quantum: u32,
@@ -48,6 +52,7 @@ pub fn ride<G: Gate>(
     processor: u32,
     dispatches: u64,
 ) -> Result<Ridden, AllocError>
+    requires fused { IsFused code.now.ops fused.now }
     requires some { 1 ≤ quantum }
     requires paced { IsPaced (laid_of code.now) code.now.routines }
     requires kept { Keeps code.now work }
@@ -65,7 +70,7 @@ pub fn ride<G: Gate>(
     }
     let mut work = work;
     give(code, &mut work, answer)?;
-    let ticks = go_on(code, &mut work, quantum, asked)?;
+    let ticks = go_on(code, fused, &mut work, quantum, asked)?;
     let child = spawn(code, &work, &asked.request)?;
     Ok(Ridden { work, child, ticks })
 }
@@ -121,7 +126,14 @@ fn main_before(code: &Code, at: u32) -> Option<u32>
 }
 
 // Ops up to a request, or up to so many ticks. The last ones ask for a slice. Where ops stop, others go on from there.
-fn go_on(code: &Code, work: &mut Work, quantum: u32, asked: &mut Asked) -> Result<u32, AllocError>
+fn go_on(
+    code: &Code,
+    fused: &[Fused],
+    work: &mut Work,
+    quantum: u32,
+    asked: &mut Asked,
+) -> Result<u32, AllocError>
+    requires fused { IsFused code.now.ops fused.now }
     requires some { 1 ≤ quantum }
     requires paced { IsPaced (laid_of code.now) code.now.routines }
     requires kept { Keeps code.now work.old }
@@ -136,7 +148,7 @@ fn go_on(code: &Code, work: &mut Work, quantum: u32, asked: &mut Asked) -> Resul
     'ticks: loop {
         let before = left;
         'stops: loop {
-            let last = run(code, work, &mut left, &mut stop, asked)?;
+            let last = run(code, fused, work, &mut left, &mut stop, asked)?;
             if last {
                 *asked = slice(code, work);
                 return Ok(quantum);

@@ -17,6 +17,7 @@ use uc_entry::request::{Answer, Asked, Request};
 use uc_frames::members::Members;
 use uc_frames::task::Task;
 use uc_frames::work::{Hand, Work};
+use uc_fused::table::Table;
 use uc_outside::OpenGate;
 use uc_ride::ride::{Ridden, ride};
 use uc_step::begin::begin;
@@ -128,8 +129,17 @@ impl Stage {
                 pass(&mut self.objects, &mut hand, object)?;
                 let work = Work::new(task, hand);
                 let mut asked = NOTHING_YET;
+                let table = Table::new(alloc, &self.code);
                 let ridden = ride(
-                    &self.code, work, answer, quantum, &mut asked, &OpenGate, 0, 0,
+                    &self.code,
+                    table.entries(),
+                    work,
+                    answer,
+                    quantum,
+                    &mut asked,
+                    &OpenGate,
+                    0,
+                    0,
                 )?;
                 let end = self.keep(alloc, number, own, ridden, asked)?;
                 Ok(Some(end))

@@ -57,11 +57,11 @@ made_now b n by v ps = record {
 }
 
 -- of those that were made by now the same is told
-record Keeps (serials : Home → ℕ) (b c : Makers) : Type 0 where
-  parents : (m : Exec) → IsBelow serials m → c.parent m ≡ b.parent m
-  seats : (m : Exec) → IsBelow serials m → (c.seat m).place ≡ (b.seat m).place
-  befores : (m : Exec) → IsBelow serials m → c.before m ≡ b.before m
-  ranks : (m : Exec) → IsBelow serials m → c.rank m ≡ b.rank m
+pub record Keeps (serials : Home → ℕ) (b c : Makers) : Type 0 where
+  pub parents : (m : Exec) → IsBelow serials m → c.parent m ≡ b.parent m
+  pub seats : (m : Exec) → IsBelow serials m → (c.seat m).place ≡ (b.seat m).place
+  pub befores : (m : Exec) → IsBelow serials m → c.before m ≡ b.before m
+  pub ranks : (m : Exec) → IsBelow serials m → c.rank m ≡ b.rank m
 
 keeps_same : (serials : Home → ℕ) (b : Makers) → Keeps serials b b
 keeps_same serials b = record { parents = λ m h. refl; seats = λ m h. refl; befores = λ m h. refl; ranks = λ m h. refl }
@@ -119,11 +119,11 @@ later_kept serials b c k n by v ps h i y =
 
 -- all that a state makes, by one that was made
 pub record MakesBelow (source : Source) (serials : Home → ℕ) (b : Makers) (s : State) : Type 0 where
-  running : IsBelow serials s.env.exec
-  born : (n : Exec) → IsBorn source s n → IsBelow serials n
-  later : MakesLater source b s
+  pub running : IsBelow serials s.env.exec
+  pub born : (n : Exec) → IsBorn source s n → IsBelow serials n
+  pub later : MakesLater source b s
 
-makes_more : (source : Source) (before behind : Home → ℕ) → ((h : Home) → before h ≤ behind h) → (b c : Makers) → Keeps before b c → (s : State) → MakesBelow source before b s → MakesBelow source behind c s
+pub makes_more : (source : Source) (before behind : Home → ℕ) → ((h : Home) → before h ≤ behind h) → (b c : Makers) → Keeps before b c → (s : State) → MakesBelow source before b s → MakesBelow source behind c s
 makes_more source before behind le b c k s h = record {
   running = below_more before behind le s.env.exec h.running;
   born = λ n x. below_more before behind le n (h.born n x);
@@ -180,15 +180,15 @@ module _ (source : Source) (here : Home → Bool) where
 
   -- a ride
 
-  record Ridden (before : Home → ℕ) (b : Makers) (s : State) (q : ℕ) (u : State) (k : ℕ) (a : Asked) (r : Rides source s q u k a) : Type 0 where
-    now : Home → ℕ
-    grows : Grows here before now
-    named : Named here false now u
-    births : Makers
-    keeps : Keeps before b births
-    makes : RideMeets (MakesBelow source now births) source s q u k a r
+  pub record Ridden (before : Home → ℕ) (b : Makers) (s : State) (q : ℕ) (u : State) (k : ℕ) (a : Asked) (r : Rides source s q u k a) : Type 0 where
+    pub now : Home → ℕ
+    pub grows : Grows here before now
+    pub named : Named here false now u
+    pub births : Makers
+    pub keeps : Keeps before b births
+    pub makes : RideMeets (MakesBelow source now births) source s q u k a r
 
-  ridden : (serials : Home → ℕ) {s u : State} {q k : ℕ} {a : Asked} (r : Rides source s q u k a) → Named here false serials s → (b : Makers) → Ridden serials b s q u k a r
+  pub ridden : (serials : Home → ℕ) {s u : State} {q k : ℕ} {a : Asked} (r : Rides source s q u k a) → Named here false serials s → (b : Makers) → Ridden serials b s q u k a r
   ridden serials slices h b =
       record { now = serials; grows = grows_not here serials; named = h; births = b; keeps = keeps_same serials b; makes = tt }
   ridden serials (goes_on {s} e r) h b =
@@ -261,10 +261,10 @@ module _ (source : Source) (input : List ℕ) (opts : Options) (range : InRange 
   }
 
   -- who asks, and the main of the task that is spawned, were made
-  record SpawnsBelow (serials : Home → ℕ) (b : Makers) (q : Request) (s : State) : Type 0 where
-    running : IsBelow serials s.env.exec
-    main : (o : ℕ) → q ≡ ask.Spawn o → IsBelow serials (main_of o)
-    later : SpawnsLater b q s
+  pub record SpawnsBelow (serials : Home → ℕ) (b : Makers) (q : Request) (s : State) : Type 0 where
+    pub running : IsBelow serials s.env.exec
+    pub main : (o : ℕ) → q ≡ ask.Spawn o → IsBelow serials (main_of o)
+    pub later : SpawnsLater b q s
 
   spawns_more : (before behind : Home → ℕ) → ((h : Home) → before h ≤ behind h) → (b c : Makers) → Keeps before b c → (q : Request) (s : State) → SpawnsBelow before b q s → SpawnsBelow behind c q s
   spawns_more before behind le b c k q s h = record {
@@ -277,12 +277,12 @@ module _ (source : Source) (input : List ℕ) (opts : Options) (range : InRange 
       by (ask.Spawn o) m l = later_kept before b c k (main_of o) s.env.exec (piece.Object o) (stacked (s.run ∷ s.callers)) (m o refl) h.running l
       by q m l = tt
 
-  abbrev MaySpawnBelow : (serials : Home → ℕ) (b : Makers) {j : Journal} {w : World} {a : List Entry} {v : World} → May source opts input j w a v → Type 0
+  abbrev pub MaySpawnBelow : (serials : Home → ℕ) (b : Makers) {j : Journal} {w : World} {a : List Entry} {v : World} → May source opts input j w a v → Type 0
   MaySpawnBelow serials b (gives p t s h) = Unit {0}
   MaySpawnBelow serials b (no_room p t s h) = Unit {0}
   MaySpawnBelow serials b (acts p t n s asked d) = SpawnsBelow serials b asked.request s
 
-  abbrev RunSpawnsBelow : (serials : Home → ℕ) (b : Makers) {j : Journal} {w : World} → Runs source input opts j w → Type 0
+  abbrev pub RunSpawnsBelow : (serials : Home → ℕ) (b : Makers) {j : Journal} {w : World} → Runs source input opts j w → Type 0
   RunSpawnsBelow serials b begun = Unit {0}
   RunSpawnsBelow serials b (more r o m) = RunSpawnsBelow serials b r × MaySpawnBelow serials b m
 
@@ -292,7 +292,7 @@ module _ (source : Source) (input : List ℕ) (opts : Options) (range : InRange 
     may_spawn_more (no_room p t s h) x = tt
     may_spawn_more (acts p t n s asked d) x = spawns_more before behind le b c k asked.request s x
 
-    run_spawns_more : {j : Journal} {w : World} (r : Runs source input opts j w) → RunSpawnsBelow before b r → RunSpawnsBelow behind c r
+    pub run_spawns_more : {j : Journal} {w : World} (r : Runs source input opts j w) → RunSpawnsBelow before b r → RunSpawnsBelow behind c r
     run_spawns_more begun x = tt
     run_spawns_more (more r o m) x = (run_spawns_more r x.0, may_spawn_more m x.1)
 
@@ -301,17 +301,17 @@ module _ (source : Source) (input : List ℕ) (opts : Options) (range : InRange 
   may_spawn_told serials b (no_room p t s h) x = tt
   may_spawn_told serials b (acts p t n s asked d) x = x.later
 
-  run_spawns_told : (serials : Home → ℕ) (b : Makers) {j : Journal} {w : World} (r : Runs source input opts j w) → RunSpawnsBelow serials b r → RunSpawnsLater b source input opts j w r
+  pub run_spawns_told : (serials : Home → ℕ) (b : Makers) {j : Journal} {w : World} (r : Runs source input opts j w) → RunSpawnsBelow serials b r → RunSpawnsLater b source input opts j w r
   run_spawns_told serials b begun x = tt
   run_spawns_told serials b (more r o m) x = (run_spawns_told serials b r x.0, may_spawn_told serials b m x.1)
 
   -- as many executions were made at each home
-  record RunMade {j : Journal} {w : World} (r : Runs source input opts j w) : Type 0 where
-    serials : Home → ℕ
-    world : WorldNamed serials j w
-    births : Makers
-    makes : RunMeets (MakesBelow source serials births) source input opts j w r
-    spawns : RunSpawnsBelow serials births r
+  pub record RunMade {j : Journal} {w : World} (r : Runs source input opts j w) : Type 0 where
+    pub serials : Home → ℕ
+    pub world : WorldNamed serials j w
+    pub births : Makers
+    pub makes : RunMeets (MakesBelow source serials births) source input opts j w r
+    pub spawns : RunSpawnsBelow serials births r
 
   module _ {j : Journal} {w : World} (rests : RunRests source input opts j w) (on : is_over j ≡ false) (deep : DeepWorld j w) (serials : Home → ℕ) (x : WorldNamed serials j w) (p t n : ℕ) (s : State) (asked : Asked) (d : AsksIn source opts j w p t n s asked) (f : Fits opts source.sites j t asked.request) (going : is_over (j ++ act opts source.sites input j p t n asked) ≡ false) where
     -- what is spawned is no task's own, and nothing was made there
@@ -370,7 +370,7 @@ module _ (source : Source) (input : List ℕ) (opts : Options) (range : InRange 
         unowned = λ k h. x.unowned k (sym (owner_still k j (dispatch p t) refl) ∙ h);
       }
 
-  run_made : {j : Journal} {w : World} (r : Runs source input opts j w) → RunFits source input opts j w r → is_over j ≡ false → RunMade r
+  pub run_made : {j : Journal} {w : World} (r : Runs source input opts j w) → RunFits source input opts j w r → is_over j ≡ false → RunMade r
   run_made begun f on =
       let x = run_named source input opts range begun f on in
       record { serials = x.serials; world = x.world; births = record { parent = λ m. m; seat = λ m. record { place = piece.Nothing; home = λ o. piece.Nothing }; before = λ m. []; rank = λ m. 0 }; makes = tt; spawns = tt }

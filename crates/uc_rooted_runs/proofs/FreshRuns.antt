@@ -47,7 +47,7 @@ hand_fresh : (os : List ℕ) (homes : ℕ → Option Members) → ((o : ℕ) →
 hand_fresh [] homes h = tt
 hand_fresh (o ∷ os) homes h = with_fresh o (homes o) (hand_of os homes) (h o) (hand_fresh os homes h)
 
-drawn_fresh : (j : Journal) (w : World) (t : ℕ) → FreshWorld j w → FreshEnv (drawn j w t).env
+pub drawn_fresh : (j : Journal) (w : World) (t : ℕ) → FreshWorld j w → FreshEnv (drawn j w t).env
 drawn_fresh j w t h = record {
   running = (h.tasks t).running;
   slots = record { house = (h.tasks t).slots.house; hand = hand_fresh (held t j) w.homes h.homes };

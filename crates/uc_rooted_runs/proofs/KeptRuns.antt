@@ -70,13 +70,13 @@ module _ (source : Source) where
     ends = record { mains = e.bare; takes = takes s h.now.alone s.run.control; asks = e.asks a };
   }
 
-  ride_keeps : (j : Journal) (w : World) (t : ℕ) {s u : State} {q k : ℕ} {a : Asked} (r : Rides source s q u k a) → RideMeets (BindsOwn source) source s q u k a r → RideMeets (EndsMains source) source s q u k a r → RideMeets (FindsAll source) source s q u k a r → RideMeets (StaysOwn source j w t) source s q u k a r → RideMeets (KeepsFresh source) source s q u k a r
+  pub ride_keeps : (j : Journal) (w : World) (t : ℕ) {s u : State} {q k : ℕ} {a : Asked} (r : Rides source s q u k a) → RideMeets (BindsOwn source) source s q u k a r → RideMeets (EndsMains source) source s q u k a r → RideMeets (FindsAll source) source s q u k a r → RideMeets (StaysOwn source j w t) source s q u k a r → RideMeets (KeepsFresh source) source s q u k a r
   ride_keeps j w t slices b e a o = tt
   ride_keeps j w t (goes_on {s} g r) b e a o = (keeps_at j w t s b.0 e.0 a.0 o.0, ride_keeps j w t r b.1 e.1 a.1 o.1)
   ride_keeps j w t (ticks {s} g r) b e a o = (keeps_at j w t s b.0 e.0 a.0 o.0, ride_keeps j w t r b.1 e.1 a.1 o.1)
   ride_keeps j w t (asks {s} g) b e a o = keeps_at j w t s b e a o
 
-  run_keeps : (input : List ℕ) (opts : Options) (j : Journal) (w : World) (r : Runs source input opts j w) → RunMeets (BindsOwn source) source input opts j w r → RunMeets (EndsMains source) source input opts j w r → RunMeets (FindsAll source) source input opts j w r → RunOwns source input opts j w r → RunMeets (KeepsFresh source) source input opts j w r
+  pub run_keeps : (input : List ℕ) (opts : Options) (j : Journal) (w : World) (r : Runs source input opts j w) → RunMeets (BindsOwn source) source input opts j w r → RunMeets (EndsMains source) source input opts j w r → RunMeets (FindsAll source) source input opts j w r → RunOwns source input opts j w r → RunMeets (KeepsFresh source) source input opts j w r
   run_keeps input opts _ _ begun b e a o = tt
   run_keeps input opts _ _ (more {j} {w} r on (gives p t v le)) b e a o = (run_keeps input opts j w r b.0 e.0 a.0 o.0, tt)
   run_keeps input opts _ _ (more {j} {w} r on (no_room p t v le)) b e a o = (run_keeps input opts j w r b.0 e.0 a.0 o.0, tt)
@@ -95,7 +95,7 @@ module _ (makers : Makers) (asked : Exec → Bool) where
   at_state : (source : Source) (made : Exec → Bool) (s : State) → EndsMains source s → Keeps makers asked source made s → NamesAt makers asked source made s → OutlastsAt makers asked source made s
   at_state source made s f k n = record { takes = law_ways source (seating makers) (now makers asked made) s (takes_at source made s f k.leaves n); alone = n.alone; held = k.held }
 
-  ride_both : (source : Source) (made : Exec → Bool) {s u : State} {q k : ℕ} {a : Asked} (r : Rides source s q u k a) → RideMeets (EndsMains source) source s q u k a r → RideKeeps makers asked source made r → RideNames makers asked source made r → RideOutlasts makers asked source made r
+  pub ride_both : (source : Source) (made : Exec → Bool) {s u : State} {q k : ℕ} {a : Asked} (r : Rides source s q u k a) → RideMeets (EndsMains source) source s q u k a r → RideKeeps makers asked source made r → RideNames makers asked source made r → RideOutlasts makers asked source made r
   ride_both source made slices f h n = tt
   ride_both source made (goes_on {s} e r) f h n = (at_state source made s f.0 h.0 n.0, ride_both source (made_behind source s made) r f.1 h.1 n.1)
   ride_both source made (ticks {s} e r) f h n = (at_state source made s f.0 h.0 n.0, ride_both source (made_behind source s made) r f.1 h.1 n.1)
@@ -143,7 +143,7 @@ module _ (made : Exec → Bool) where
   in_members n cs h None i k = absurd i
   in_members n cs h (Some m) i k = in_parked n cs h m.parked i k
 
-  in_world : (source : Source) (j : Journal) (x : World) → AllMade made j x → ((v : ℕ) → task_count j ≤ v → x.tasks v ≡ first_state (routine_of source source.main) 0) → (n : Exec) (cs : List Active) → Lives j x n cs → IsMade made n
+  pub in_world : (source : Source) (j : Journal) (x : World) → AllMade made j x → ((v : ℕ) → task_count j ≤ v → x.tasks v ≡ first_state (routine_of source source.main) 0) → (n : Exec) (cs : List Active) → Lives j x n cs → IsMade made n
   in_world source j x all later n cs (inl i) =
       ⊎_elim (λ lt. subst (IsMade made) (sym i.2) (all.running i.0 lt)) (λ le. inl (i.2 ∙ ap (λ (s : State). s.env.exec) (later i.0 le))) (cases_lt i.0 (task_count j))
   in_world source j x all later n cs (inr (inl (v, inl i))) = in_parked n cs (home.Task (x.tasks v).env.own) (x.tasks v).env.house.parked i (all.tasks v).house
@@ -151,7 +151,7 @@ module _ (made : Exec → Bool) where
   in_world source j x all later n cs (inr (inr (q, i))) = in_members n cs (home.Object q) (x.homes q) i (all.homes q)
 
 -- so what it has of others is based where it stood
-based_of : (t : Table) (few : Few) (makers : Makers) (asked made : Exec → Bool) (yet : Exec → List Active → Value → Ty → Bool) (own : Exec → Value → Ty → Bool) (j : Journal) (x : World) → ((w : Value) (b : Ty) → Base few (main_of 0) w b → own (main_of 0) w b ≡ true) → ((n : Exec) → made n ≡ true → makers.rank (makers.parent n) < makers.rank n) → (n : Exec) → IsMade made n → (w : Value) (b : Ty) → Base few n w b → own n w b ≡ false → IsStood t few makers asked yet j x n w b → IsBased t few makers (now makers asked made) yet j x n w b
+pub based_of : (t : Table) (few : Few) (makers : Makers) (asked made : Exec → Bool) (yet : Exec → List Active → Value → Ty → Bool) (own : Exec → Value → Ty → Bool) (j : Journal) (x : World) → ((w : Value) (b : Ty) → Base few (main_of 0) w b → own (main_of 0) w b ≡ true) → ((n : Exec) → made n ≡ true → makers.rank (makers.parent n) < makers.rank n) → (n : Exec) → IsMade made n → (w : Value) (b : Ty) → Base few n w b → own n w b ≡ false → IsStood t few makers asked yet j x n w b → IsBased t few makers (now makers asked made) yet j x n w b
 based_of t few makers asked made yet own j x first later n (inl e) w b k f s =
     no_both (own n w b) (ap (λ m. own m w b) e ∙ first w b (subst (λ m. Base few m w b) e k)) f
 based_of t few makers asked made yet own j x first later n (inr e) w b k f s = record {

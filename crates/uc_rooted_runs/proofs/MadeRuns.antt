@@ -61,7 +61,7 @@ with_grows (Some r) (Some m) k made n h = by (exec_eq n k)
     by true = refl
     by false = h
 
-made_grows : (source : Source) (s : State) (made : Exec → Bool) (n : Exec) → made n ≡ true → made_behind source s made n ≡ true
+pub made_grows : (source : Source) (s : State) (made : Exec → Bool) (n : Exec) → made n ≡ true → made_behind source s made n ≡ true
 made_grows source s made n h = by s.run.control
   where
     by : (l : List Todo) → made_by source l s made n ≡ true
@@ -94,7 +94,7 @@ BelowMade serials made = (n : Exec) → IsBelow serials n → IsMade made n
 -- a ride
 
 module _ (source : Source) (here : Home → Bool) where
-  step_made : (serials : Home → ℕ) (made : Exec → Bool) (s : State) (b : NamedBehind source here false serials s) → BelowMade serials made → BelowMade b.serials (made_behind source s made)
+  pub step_made : (serials : Home → ℕ) (made : Exec → Bool) (s : State) (b : NamedBehind source here false serials s) → BelowMade serials made → BelowMade b.serials (made_behind source s made)
   step_made serials made s b h n x =
       ⊎_elim (λ lt. grown made (made_behind source s made) n (made_grows source s made n) (h n lt)) (λ y. inr (born_made source s made n y)) (b.only n x)
 
@@ -121,7 +121,7 @@ module _ (source : Source) (here : Home → Bool) where
 
 -- a world
 
-parked_made : (serials : Home → ℕ) (made : Exec → Bool) → BelowMade serials made → (h : Home) (n : ℕ) → n ≡ serials h → (ps : List (ℕ × Option (Execution (List Todo) Value))) → ParkedNamed serials n ps → ParkedBy (λ n y. IsMade made n) h ps
+pub parked_made : (serials : Home → ℕ) (made : Exec → Bool) → BelowMade serials made → (h : Home) (n : ℕ) → n ≡ serials h → (ps : List (ℕ × Option (Execution (List Todo) Value))) → ParkedNamed serials n ps → ParkedBy (λ n y. IsMade made n) h ps
 parked_made serials made all h n e [] p = tt
 parked_made serials made all h n e (q ∷ ps) p = (slot q.1, parked_made serials made all h n e ps p.2)
   where
@@ -264,12 +264,12 @@ module _ (source : Source) (input : List ℕ) (opts : Options) (range : InRange 
     pub act_made : BelowMade (after_by q.request (ride source input opts range rests on deep serials x p t n s q d f going).now) (made_asked q.request (ride_made source made d.rides))
     act_made = spawned q.request refl
 
-  record RunTold {j : Journal} {w : World} (r : Runs source input opts j w) : Type 0 where
-    serials : Home → ℕ
-    world : WorldNamed serials j w
-    all : BelowMade serials (run_made source input opts r)
+  pub record RunTold {j : Journal} {w : World} (r : Runs source input opts j w) : Type 0 where
+    pub serials : Home → ℕ
+    pub world : WorldNamed serials j w
+    pub all : BelowMade serials (run_made source input opts r)
 
-  run_told : {j : Journal} {w : World} (r : Runs source input opts j w) → RunFits source input opts j w r → is_over j ≡ false → RunTold r
+  pub run_told : {j : Journal} {w : World} (r : Runs source input opts j w) → RunFits source input opts j w r → is_over j ≡ false → RunTold r
   run_told begun f on =
       let x = run_named source input opts range begun f on in
       record { serials = x.serials; world = x.world; all = begun_made source opts x.serials x.world }

@@ -104,7 +104,7 @@ module _ (whole : Makers) (before : Outside) (asked : Exec → Bool) where
   not_now made x e h = ap (λ b. if b then made x else false) (sym e) ∙ h
 
   -- all that were made were made by one that was made
-  abbrev MadeBelow : (Home → ℕ) → (Exec → Bool) → Type 0
+  abbrev pub MadeBelow : (Home → ℕ) → (Exec → Bool) → Type 0
   MadeBelow serials made = (x : Exec) → made x ≡ true → IsBelow serials (whole.parent x)
 
   made_more : (a b : Home → ℕ) → ((h : Home) → a h ≤ b h) → (made : Exec → Bool) → MadeBelow a made → MadeBelow b made
@@ -145,15 +145,15 @@ module _ (whole : Makers) (before : Outside) (asked : Exec → Bool) where
           by false e = next e
 
     -- a ride
-    record RideTold (serials : Home → ℕ) (made : Exec → Bool) (s : State) (q : ℕ) (u : State) (k : ℕ) (a : Asked) (r : Rides source s q u k a) : Type 0 where
-      behind : Home → ℕ
-      grows : Grows (at_hand j w t) serials behind
-      named : Named (at_hand j w t) false behind u
-      below : MadeBelow behind (ride_made source made r)
-      names : RideNames makers asked source made r
-      mine : (x : Exec) → ride_made source made r x ≡ true → made x ≡ false → at_hand j w t (whole.parent x).home ≡ true
+    pub record RideTold (serials : Home → ℕ) (made : Exec → Bool) (s : State) (q : ℕ) (u : State) (k : ℕ) (a : Asked) (r : Rides source s q u k a) : Type 0 where
+      pub behind : Home → ℕ
+      pub grows : Grows (at_hand j w t) serials behind
+      pub named : Named (at_hand j w t) false behind u
+      pub below : MadeBelow behind (ride_made source made r)
+      pub names : RideNames makers asked source made r
+      pub mine : (x : Exec) → ride_made source made r x ≡ true → made x ≡ false → at_hand j w t (whole.parent x).home ≡ true
 
-    ride_told : (serials : Home → ℕ) (made : Exec → Bool) {s u : State} {q k : ℕ} {a : Asked} (r : Rides source s q u k a) → Named (at_hand j w t) false serials s → MadeBelow serials made → RideMeets (StaysOwn source j w t) source s q u k a r → RideMeets (MakesLater source whole) source s q u k a r → RideTold serials made s q u k a r
+    pub ride_told : (serials : Home → ℕ) (made : Exec → Bool) {s u : State} {q k : ℕ} {a : Asked} (r : Rides source s q u k a) → Named (at_hand j w t) false serials s → MadeBelow serials made → RideMeets (StaysOwn source j w t) source s q u k a r → RideMeets (MakesLater source whole) source s q u k a r → RideTold serials made s q u k a r
     ride_told serials made slices n h own later = record {
       behind = serials;
       grows = grows_not (at_hand j w t) serials;
@@ -273,13 +273,13 @@ module _ (whole : Makers) (before : Outside) (asked : Exec → Bool) where
       act_names = (told.names, spawns_new, none_elsewhere)
 
     -- a run
-    record RunTold {j : Journal} {w : World} (r : Runs source input opts j w) : Type 0 where
-      serials : Home → ℕ
-      world : WorldNamed serials j w
-      below : MadeBelow serials (run_made source input opts r)
-      names : RunNames makers asked source input opts r
+    pub record RunTold {j : Journal} {w : World} (r : Runs source input opts j w) : Type 0 where
+      pub serials : Home → ℕ
+      pub world : WorldNamed serials j w
+      pub below : MadeBelow serials (run_made source input opts r)
+      pub names : RunNames makers asked source input opts r
 
-    run_told : {j : Journal} {w : World} (r : Runs source input opts j w) → RunFits source input opts j w r → is_over j ≡ false → RunLeaves source input opts j w r → RunMeets names.Spares source input opts j w r → RunMeets (MakesLater source whole) source input opts j w r → RunSpawnsLater whole source input opts j w r → RunTold r
+    pub run_told : {j : Journal} {w : World} (r : Runs source input opts j w) → RunFits source input opts j w r → is_over j ≡ false → RunLeaves source input opts j w r → RunMeets names.Spares source input opts j w r → RunMeets (MakesLater source whole) source input opts j w r → RunSpawnsLater whole source input opts j w r → RunTold r
     run_told begun f on l h m z =
         let x = run_named source input opts range begun f on in
         record { serials = x.serials; world = x.world; below = λ x e. absurd (cc); names = tt }

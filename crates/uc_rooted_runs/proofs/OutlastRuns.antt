@@ -122,21 +122,21 @@ module _ (whole : Makers) (before : Outside) (asked : Exec → Bool) where
   abbrev Now : (Exec → Bool) → Exec → Bool
   Now made = now makers asked made
 
-  now_asked : (made : Exec → Bool) (x : Exec) → now makers asked made x ≡ true → asked x ≡ true
+  pub now_asked : (made : Exec → Bool) (x : Exec) → now makers asked made x ≡ true → asked x ≡ true
   now_asked made x h = by (asked x) refl h
     where
       by : (b : Bool) → asked x ≡ b → (if b then made x else false) ≡ true → asked x ≡ true
       by true e h = e
       by false e h = absurd (cc)
 
-  now_made : (made : Exec → Bool) (x : Exec) → now makers asked made x ≡ true → made x ≡ true
+  pub now_made : (made : Exec → Bool) (x : Exec) → now makers asked made x ≡ true → made x ≡ true
   now_made made x h = by (asked x) h
     where
       by : (b : Bool) → (if b then made x else false) ≡ true → made x ≡ true
       by true h = h
       by false h = absurd (cc)
 
-  not_now : (made : Exec → Bool) (x : Exec) → asked x ≡ true → now makers asked made x ≡ false → made x ≡ false
+  pub not_now : (made : Exec → Bool) (x : Exec) → asked x ≡ true → now makers asked made x ≡ false → made x ≡ false
   not_now made x e h = ap (λ b. if b then made x else false) (sym e) ∙ h
 
   -- what a state makes

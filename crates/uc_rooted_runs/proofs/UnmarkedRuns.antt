@@ -54,7 +54,7 @@ module _ (t : Table) (n : Exec) (f : ℕ) (this : Value) where
 abbrev NoMarks : Table → State → Type 0
 NoMarks t s = (w : Value) (a : Ty) → Marked t s.env.exec (s.run ∷ s.callers) w a → ⊥
 
-first_unmarked : (t : Table) (source : Source) (s : State) → s ≡ first_state (routine_of source source.main) 0 → NoMarks t s
+pub first_unmarked : (t : Table) (source : Source) (s : State) → s ≡ first_state (routine_of source source.main) 0 → NoMarks t s
 first_unmarked t source s e = subst (NoMarks t) (sym e) (by (routine_of source source.main))
   where
     by : (r : Routine) → NoMarks t (first_state r 0)

@@ -17,6 +17,7 @@ pub mod Rode
 pub mod WeightFallsLemmas
 pub mod RunsLemmas
 pub mod Carrying
+pub mod TogetherLemmas
 pub mod Apart
 pub mod Idles
 pub mod SimulateSwitches

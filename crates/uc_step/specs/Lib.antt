@@ -6,3 +6,4 @@ pub mod Simulation
 pub mod OperatorResults
 pub mod Starts
 pub mod OpsAlone
+pub mod OpsTogether

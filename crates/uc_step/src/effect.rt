@@ -1,17 +1,19 @@
 // How one op ends.
 
-ghost use Rattle.std.specs.Prelude.{◌≡◌};
+ghost use Rattle.std.specs.Prelude.{◌≡◌, [], ◌∷◌};
 ghost use Rattle.uc_entry.specs.declared.request.Request.TheVariants as ask;
 ghost use Rattle.uc_entry.specs.Faults.{fault_number};
+ghost use Rattle.uc_machine.specs.Quiet.{print_of};
 ghost use Rattle.uc_frames.specs.Machine.{line_at};
 ghost use Rattle.uc_step.specs.Effects as effect;
 ghost use Rattle.uc_step.specs.Effects.{ended};
 
 use uc_code::code::Code;
 use uc_entry::fault::RunFault;
-use uc_entry::request::{Asked, Request};
+use uc_entry::request::{Asked, Piece, Request};
 use uc_frames::cell::Cell;
 use uc_frames::event::Event;
+use uc_frames::pieces::put_print;
 use uc_frames::work::Work;
 
 /// How an op ends: going on; going on after a tick; or otherwise, as the stop that the op was lent tells.
@@ -57,6 +59,26 @@ pub(crate) fn put_request(
 {
     asked.line = work.line(code, line);
     asked.request = request;
+    *stop = Stop::Ask;
+    QuietResult::Stops
+}
+
+// It asks to print an item, by an op of this line.
+#[inline(always)]
+pub(crate) fn put_item(
+    code: &Code,
+    line: u32,
+    work: &Work,
+    stop: &mut Stop,
+    asked: &mut Asked,
+    piece: Piece,
+) -> QuietResult
+    ensures { ended result stop.new asked.new
+        ≡ effect.Ask
+        (record { request = print_of (piece ∷ []); line = line_at code.now.ops line work.now.callers }) }
+{
+    asked.line = work.line(code, line);
+    put_print(&mut asked.request, &[piece]);
     *stop = Stop::Ask;
     QuietResult::Stops
 }

@@ -2,17 +2,14 @@
 
 ghost use Rattle.std.specs.Prelude.{◌≡◌, IfOk, OnErr};
 ghost use Rattle.uc_step.specs.Effects.{ended};
-ghost use Rattle.uc_step.specs.OpEffects.{act_enter, act_return, act_end, Does, DoesAlone, Ends};
-ghost use Rattle.uc_frames.specs.Calls.{object_call};
+ghost use Rattle.uc_step.specs.OpEffects.{act_return, act_end, Does, DoesAlone, Ends};
 
 use crate::effect::{QuietResult, Stop, put_end, put_fault};
 use std::alloc::AllocError;
 use uc_code::code::Code;
 use uc_code::op::Op;
-use uc_code::rows::RoutineCode;
 use uc_entry::fault::RunFault;
 use uc_entry::request::Asked;
-use uc_frames::call::Call;
 use uc_frames::cell::Cell;
 use uc_frames::work::Work;
 use uc_tree::limits::CALLS;
@@ -107,48 +104,13 @@ pub(crate) fn call(
     match code.routine(number) {
         None => Ok(put_end(code, line, work, stop, asked)),
         Some(routine) => {
-            let call = Call {
-                routine,
-                this: Cell::Nothing,
-                taken: u64::from(routine.params),
-                counts: true,
-            };
-            let how = enter(code, line, work, stop, asked, call)?;
-            Ok(how)
+            if work.calls() < CALLS {
+                work.call(routine)?;
+                Ok(QuietResult::Quiet)
+            } else {
+                Ok(put_fault(code, line, work, stop, asked, RunFault::Depth))
+            }
         }
-    }
-}
-
-// An active call, unless there are too many.
-fn enter(
-    code: &Code,
-    line: u32,
-    work: &mut Work,
-    stop: &mut Stop,
-    asked: &mut Asked,
-    call: Call,
-) -> Result<QuietResult, AllocError>
-    ensures ok { IfOk result (λ how. Ends (act_enter code.now line call work.old)
-        (ended how stop.new asked.new) work.new) }
-    ensures err { OnErr result (work.new ≡ work.old) }
-{
-    if work.calls() < CALLS {
-        work.enter(call)?;
-        Ok(QuietResult::Quiet)
-    } else {
-        Ok(put_fault(code, line, work, stop, asked, RunFault::Depth))
-    }
-}
-
-// A call at the object below the arguments.
-fn object_call(routine: RoutineCode, counts: bool, work: &Work) -> Call
-    ensures { result ≡ object_call routine counts work.now }
-{
-    Call {
-        routine,
-        this: work.below(routine.params),
-        taken: u64::from(routine.params) + 1,
-        counts,
     }
 }
 
@@ -167,9 +129,12 @@ pub(crate) fn call_on(
     match code.routine(number) {
         None => Ok(put_end(code, line, work, stop, asked)),
         Some(routine) => {
-            let call = object_call(routine, true, work);
-            let how = enter(code, line, work, stop, asked, call)?;
-            Ok(how)
+            if work.calls() < CALLS {
+                work.call_on(routine, true)?;
+                Ok(QuietResult::Quiet)
+            } else {
+                Ok(put_fault(code, line, work, stop, asked, RunFault::Depth))
+            }
         }
     }
 }
@@ -190,8 +155,7 @@ pub(crate) fn call_unwritten(
     match code.routine(number) {
         None => Ok(put_end(code, line, work, stop, asked)),
         Some(routine) => {
-            let call = object_call(routine, false, work);
-            work.enter(call)?;
+            work.call_on(routine, false)?;
             Ok(QuietResult::Quiet)
         }
     }

@@ -18,3 +18,4 @@ mod outside;
 mod plain;
 mod polls;
 pub mod step;
+mod together;

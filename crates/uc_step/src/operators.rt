@@ -17,7 +17,7 @@ use uc_frames::work::Work;
 use uc_tree::int::negated;
 
 // What was given takes the place of the two newest operands, or is a fault.
-#[inline(always)]
+#[inline(never)]
 pub(crate) fn two(
     code: &Code,
     line: u32,

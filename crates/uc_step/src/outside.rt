@@ -4,13 +4,12 @@ ghost use Rattle.std.specs.Prelude.{◌≡◌, IfOk, OnErr};
 ghost use Rattle.uc_step.specs.Effects.{ended};
 ghost use Rattle.uc_step.specs.OpEffects.{Does};
 
-use crate::effect::{QuietResult, Stop, put_request};
+use crate::effect::{QuietResult, Stop, put_item};
 use std::alloc::AllocError;
 use uc_code::code::Code;
 use uc_code::op::Op;
-use uc_entry::request::{Asked, Piece, Request, TEXT_FORM};
+use uc_entry::request::{Asked, Piece, TEXT_FORM};
 use uc_frames::cell::number_in;
-use uc_frames::pieces::print_request;
 use uc_frames::work::Work;
 use uc_tree::kinds::ValueForm;
 
@@ -37,7 +36,7 @@ pub(crate) fn print(
         Ok(QuietResult::Quiet)
     } else {
         work.pop();
-        Ok(put_request(code, line, work, stop, asked, print_request(&[piece])))
+        Ok(put_item(code, line, work, stop, asked, piece))
     }
 }
 
@@ -62,7 +61,7 @@ pub(crate) fn text(
         work.gather(piece)?;
         Ok(QuietResult::Quiet)
     } else {
-        Ok(put_request(code, line, work, stop, asked, print_request(&[piece])))
+        Ok(put_item(code, line, work, stop, asked, piece))
     }
 }
 
@@ -77,9 +76,14 @@ pub(crate) fn flush(
 {
     match work.take_gathered() {
         None => QuietResult::Quiet,
-        Some(pieces) => match pieces.request() {
-            None => QuietResult::Quiet,
-            Some(request) => { put_request(code, line, work, stop, asked, request) }
-        },
+        Some(pieces) => {
+            if pieces.put_request(&mut asked.request) {
+                asked.line = work.line(code, line);
+                *stop = Stop::Ask;
+                QuietResult::Stops
+            } else {
+                QuietResult::Quiet
+            }
+        }
     }
 }

@@ -11,6 +11,7 @@ use Rattle.uc_typing.specs.Pieces.{Ok}
 use Rattle.uc_typing.specs.States.{IsObjectBy}
 use Rattle.uc_life_laws.specs.Things as thing
 use Rattle.uc_life_laws.specs.Things.{Few, Within, IsFor, AtField, InTodo, InStack, Marks, Base, Things, Stands, Held, Known, lies, inside, itself}
+use Rattle.uc_life_laws.proofs.Reading.{behind_number}
 use Rattle.uc_life_laws.specs.Knowing.{InMaking, AtHand, KnownAll}
 use Rattle.uc_tasked_laws.specs.Aims.{IsAimed, LawAimed}
 
@@ -82,14 +83,16 @@ module _ (t : Table) (few : Few) (n : Exec) (gs : List Sig) (cs : List Active) (
     where
       by : K (Object o) (Obj i) → IsAimed t few n gs cs i o
       by (inl k) = inr (inl (inl (of_base t few n o (Obj i) cs k)))
-      by (inr k) = absurd (making_raw gs cs (Object o) i k)
+      by (inr (inl k)) = absurd (making_raw gs cs (Object o) i k)
+      by (inr (inr k)) = absurd (behind_number t n cs (Object o) (Obj i) k)
 
   raw : (w : Value) (c : ℕ) → w ≡ Object o → c ≡ i → K w (Raw c) → IsAimed t few n gs cs i o
   raw w c e q h = by (subst (λ w. K w (Raw i)) e (subst (λ c. K w (Raw c)) q h))
     where
       by : K (Object o) (Raw i) → IsAimed t few n gs cs i o
       by (inl k) = inr (inl (inr (of_base t few n o (Raw i) cs k)))
-      by (inr k) = inr (inr k)
+      by (inr (inl k)) = inr (inr k)
+      by (inr (inr k)) = absurd (behind_number t n cs (Object o) (Raw i) k)
 
   at_home : (q c : ℕ) → q ≡ o → c ≡ i → Stands t few K (Cell (Obj c)) (few.home q) → IsAimed t few n gs cs i o
   at_home q c e f h =

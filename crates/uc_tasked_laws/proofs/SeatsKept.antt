@@ -149,6 +149,7 @@ law_tasked p formed accepted homes input opts range j w r f on fair far =
           };
       comes = λ n s c m. state_keeps p (source_of p) (told_by homes j) s (worlds.state p known (spawning p formed accepted) homes input opts range (run_rests (source_of p) input opts range r f on) on x n s c m);
       homes_keep = λ o. members_keep p (source_of p) (told_by homes j) (home.Object o) (w.homes o) (x.homes o);
+      houses = λ n. parked_keep p (source_of p) (told_by homes j) (home.Task (w.tasks n).env.own) (w.tasks n).env.house.parked (x.tasks n).house;
     }
 
 -- who is not pending, has been made and is not gone is of a task

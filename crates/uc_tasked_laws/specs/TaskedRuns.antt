@@ -91,6 +91,9 @@ pub record AreSeated (p : Program) (homes : ℕ → Value) (source : Source) (j 
       SeatsKept p (told_by homes j) s
   pub homes_keep : (o : ℕ) →
       NamedMembers (KeepsSeats p (told_by homes j)) (KeepsSeats p (told_by homes j)) (Object o) (w.homes o)
+  -- so it is of what does not run in a task, whether that has ended or not
+  pub houses : (n : ℕ) →
+      NamedParked (KeepsSeats p (told_by homes j)) (KeepsSeats p (told_by homes j)) (Task (w.tasks n).env.own) (w.tasks n).env.house.parked
 
 -- so it is in each run of a program that breaks no rule, as long as all that was asked so far fits
 abbrev pub LawTasked : Type 0

@@ -77,8 +77,8 @@ seat_sent = seat.the_send the_row RunKey.the_row item_row LockedJournaled.ghosts
 pub lock_shared : IsSync (Shared.the_row the_row RunKey.the_row item_row LockedJournaled.ghosts)
 lock_shared = shared.the_sync the_row RunKey.the_row item_row LockedJournaled.ghosts locked_sent
 
--- a closure that captures six references
-pub six_shared : (n : Sym) (l m o r s u : Lifetime) (k p q x y z : Lft) (A B C D E F : RattleType) → IsSync A → IsSync B → IsSync C → IsSync D → IsSync E → IsSync F → IsSync (TupleAt n (ShrRef l k A ∷ ShrRef m p B ∷ ShrRef o q C ∷ ShrRef r x D ∷ ShrRef s y E ∷ ShrRef u z F ∷ []))
-six_shared n l m o r s u k p q x y z A B C D E F a b c d e f =
-    let Ts = ShrRef l k A ∷ ShrRef m p B ∷ ShrRef o q C ∷ ShrRef r x D ∷ ShrRef s y E ∷ ShrRef u z F ∷ [] in
-    recorded_sync (Struct (shape (type_at n Ts))) _ _ (type_at n Ts).to_one (struct_sync (shape (type_at n Ts)) (shr_sync l k A a, (shr_sync m p B b, (shr_sync o q C c, (shr_sync r x D d, (shr_sync s y E e, (shr_sync u z F f, tt)))))))
+-- a closure that captures seven references
+pub seven_shared : (n : Sym) (l m o r s u v : Lifetime) (k p q x y z w : Lft) (A B C D E F G : RattleType) → IsSync A → IsSync B → IsSync C → IsSync D → IsSync E → IsSync F → IsSync G → IsSync (TupleAt n (ShrRef l k A ∷ ShrRef m p B ∷ ShrRef o q C ∷ ShrRef r x D ∷ ShrRef s y E ∷ ShrRef u z F ∷ ShrRef v w G ∷ []))
+seven_shared n l m o r s u v k p q x y z w A B C D E F G a b c d e f g =
+    let Ts = ShrRef l k A ∷ ShrRef m p B ∷ ShrRef o q C ∷ ShrRef r x D ∷ ShrRef s y E ∷ ShrRef u z F ∷ ShrRef v w G ∷ [] in
+    recorded_sync (Struct (shape (type_at n Ts))) _ _ (type_at n Ts).to_one (struct_sync (shape (type_at n Ts)) (shr_sync l k A a, (shr_sync m p B b, (shr_sync o q C c, (shr_sync r x D d, (shr_sync s y E e, (shr_sync u z F f, (shr_sync v w G g, tt))))))))

@@ -19,6 +19,7 @@ use std::thread::Threads;
 use uc_code::code::Code;
 use uc_entry::entry::{Entry, Options};
 use uc_frames::members::Members;
+use uc_fused::table::Table;
 use uc_kernel::given::Shape;
 use uc_lock::Shared;
 use uc_outside::Gate;
@@ -100,7 +101,8 @@ fn serve<R: Threads + Wait + Sync, G: Gate + Sync>(
 {
     let desk = Box::new(alloc, desk)?;
     let (lock, seats) = Shared::new(alloc, Locked { desk }, processors)?;
-    let seats = work_all(rt, alloc, &lock, code, gate, seats)?;
+    let table = Table::new(alloc, code);
+    let seats = work_all(rt, alloc, &lock, code, &table, gate, seats)?;
     let Locked { desk } = lock.close(seats);
     let journal = Box::into_inner(desk).finish()?;
     Ok(journal)

@@ -2,6 +2,7 @@
 ghost use Rattle.std.specs.Prelude.{◌≡◌, ◌≤◌, Some, IfOk, All, length};
 ghost use Rattle.uc_code.specs.Layout.{laid_of};
 ghost use Rattle.uc_code.specs.Pace.{IsPaced};
+ghost use Rattle.uc_fused.specs.Fusing.{IsFused};
 ghost use Rattle.uc_frames.specs.Machine.{with_hand};
 ghost use Rattle.uc_step.specs.WeightFalls.{Keeps};
 ghost use Rattle.uc_kernel.specs.KernelState.{with_asked};
@@ -25,6 +26,7 @@ use uc_entry::request::{Asked, Request};
 use uc_frames::members::Members;
 use uc_frames::task::Task;
 use uc_frames::work::Work;
+use uc_fused::table::Table;
 use uc_kernel::given::{Back, Given};
 use uc_lock::{Seat, Shared};
 use uc_outside::Gate;
@@ -90,11 +92,13 @@ fn give_up<R: Wait>(rt: &R, lock: &Shared<Locked>, seat: &mut Seat<Locked>)
 fn go<G: Gate>(
     alloc: Global,
     code: &Code,
+    table: &Table,
     gate: &G,
     dispatches: u64,
     given: Given<Task, Members>,
     asked: &mut Asked,
 ) -> Result<Back<Option<Task>, Members>, AllocError>
+    requires fused { IsFused code.now.ops table.now }
     requires paced { IsPaced (laid_of code.now) code.now.routines }
     requires some { 1 ≤ given.left }
     requires kept { Keeps code.now (with_hand given.members.items given.task) }
@@ -108,7 +112,10 @@ fn go<G: Gate>(
         left,
     } = given;
     let work = Work::new(task, members);
-    let ridden = ride(code, work, answer, left, asked, gate, processor, dispatches)?;
+    let entries = table.entries();
+    let ridden = ride(
+        code, entries, work, answer, left, asked, gate, processor, dispatches,
+    )?;
     let Ridden { work, child, ticks } = ridden;
     let (task, mut members) = work.into_parts();
     members.room()?;
@@ -158,6 +165,7 @@ fn turn<R: Wait, G: Gate>(
     lock: &Shared<Locked>,
     bell: &Bell,
     code: &Code,
+    table: &Table,
     gate: &G,
     dispatches: u64,
     seat: &mut Seat<Locked>,
@@ -166,12 +174,13 @@ fn turn<R: Wait, G: Gate>(
 ) -> Step
     requires ready { IsReady lock.now seat.old }
     requires code { lock.now.terms.key.code ≡ code.now }
+    requires fused { IsFused code.now.ops table.now }
     requires paced { IsPaced (laid_of code.now) code.now.routines }
     requires came { HasCome lock.now seat.old (Going given) }
     ensures same { IsReady lock.now seat.new × IsSame seat.old seat.new }
     ensures came { HasCome lock.now seat.new result }
 {
-    match go(alloc, code, gate, dispatches, given, asked) {
+    match go(alloc, code, table, gate, dispatches, given, asked) {
         Ok(back) => bring(rt, lock, bell, seat, back, asked),
         Err(_) => {
             give_up(rt, lock, seat);
@@ -187,11 +196,13 @@ pub fn work<R: Wait, G: Gate>(
     lock: &Shared<Locked>,
     bell: &Bell,
     code: &Code,
+    table: &Table,
     gate: &G,
     seat: Seat<Locked>,
 ) -> Seat<Locked>
     requires ready { IsReady lock.now seat }
     requires code { lock.now.terms.key.code ≡ code.now }
+    requires fused { IsFused code.now.ops table.now }
     requires paced { IsPaced (laid_of code.now) code.now.routines }
     ensures { IsReady lock.now result × IsSame seat result }
 {
@@ -210,7 +221,7 @@ pub fn work<R: Wait, G: Gate>(
                 let first = told;
                 told = 0;
                 turn(
-                    rt, alloc, lock, bell, code, gate, first, &mut seat, given, &mut asked,
+                    rt, alloc, lock, bell, code, table, gate, first, &mut seat, given, &mut asked,
                 )
             }
             Step::Idle => {
@@ -257,11 +268,13 @@ pub fn work_all<R: Threads + Wait + Sync, G: Gate + Sync>(
     alloc: Global,
     lock: &Shared<Locked>,
     code: &Code,
+    table: &Table,
     gate: &G,
     seats: Vec<Seat<Locked>>,
 ) -> Result<Vec<Seat<Locked>>, AllocError>
     requires ready { All (λ s. IsReady lock.now s) seats.items }
     requires code { lock.now.terms.key.code ≡ code.now }
+    requires fused { IsFused code.now.ops table.now }
     requires paced { IsPaced (laid_of code.now) code.now.routines }
     ensures len { IfOk result (λ v. length v.items ≡ length seats.items) }
     ensures each { IfOk result (λ v. All (λ s. IsReady lock.now s) v.items) }
@@ -272,8 +285,9 @@ pub fn work_all<R: Threads + Wait + Sync, G: Gate + Sync>(
         seats,
         &|seat: Seat<Locked>| -> Seat<Locked>
             requires { IsReady lock.now seat × (lock.now.terms.key.code ≡ code.now)
+                × IsFused code.now.ops table.now
                 × IsPaced (laid_of code.now) code.now.routines }
             ensures { IsReady lock.entry.now result }
-        { work(rt, alloc, lock, &bell, code, gate, seat) },
+        { work(rt, alloc, lock, &bell, code, table, gate, seat) },
     )
 }

@@ -12,10 +12,10 @@ use Rattle.uc_machine.specs.Pieces.{Slot, Value, Number, Place, Running, Object,
 use Rattle.uc_typing.specs.Typing.{Ty, Num, Cell, Obj, Raw, Row, Clu, Pro, Sig, Table, object_ty}
 use Rattle.uc_typing.specs.Pieces.{AreNumbers}
 use Rattle.uc_typing.specs.States.{IsAt, IsObjectBy}
-use Rattle.uc_life_laws.specs.Things.{Few, AtVariable, AtField, IsFor, Nowhere, Marks, InTodo, Things, Stands, lies, inside, Held, LiesIn, IsFew, IsKnown, Known}
+use Rattle.uc_life_laws.specs.Things.{Few, AtVariable, AtField, IsFor, Nowhere, Marks, InTodo, Outer, Around, Stands, lies, inside, Held, LiesIn, IsFew, IsKnown, Known}
 use Rattle.uc_life_laws.specs.LifeStates.{SlotBy, ParkedBy, HandBy, MembersBy, EnvBy, Outwards, MarkHolds, AllHold, LifeStack, LifeEx, LifeState}
 use Rattle.uc_life_laws.specs.Knowing.{AtHand, KnownAll, KnownParams, KnownThis, KnownFrames, Knows, KnowsWaits, KnowsEx, KnowsBy, KnowsSlot, KnowsState}
-use Rattle.uc_life_laws.proofs.Knowns.{Less, held_more, older_hand}
+use Rattle.uc_life_laws.proofs.Knowns.{Less, held_more, older_hand, around_outer}
 use Rattle.uc_world_laws.specs.Fewer.{with_numbers, KeepsOthers, Lasts, ScopesLast, HandLasts, ExLasts, RunLasts, TaskLasts, LawFewer, AllNumbers, FramesNumbers, FreshLasts}
 
 -- two facts of each execution that does not run
@@ -273,24 +273,24 @@ module _ (t : Table) (few : Few) (numbers : Ty → ℕ → Bool) where
 
   module _ (keeps : KeepsOthers t few numbers) (n : Exec) (f : ℕ) (this : Value) (cs : List Active) where
     abbrev Before : List Todo → Value → Ty → Type 0
-    Before todo v c = InTodo (IsFor t (Frame n f) this) (AtField t (Frame n f) this) todo v c ⊎ Things t few n cs v c
+    Before todo v c = InTodo (IsFor t (Frame n f) this) (AtField t (Frame n f) this) todo v c ⊎ Outer t few n cs v c
 
     abbrev ScopesIn : List Todo → Type 0
     ScopesIn todo = (w : Value) (a : Ty) → InTodo (AtVariable t (Frame n f) this) (Nowhere (Frame n f) this) todo w a → Lasts t few numbers (Before todo)
 
-    mark_fewer : (vs : List Value) (s : Sort) (todo : List Todo) → ((w : Value) (a : Ty) → Marks (AtVariable t (Frame n f) this) (Nowhere (Frame n f) this) s w a (InTodo (AtVariable t (Frame n f) this) (Nowhere (Frame n f) this) todo w a) → Lasts t few numbers (λ v c. Marks (IsFor t (Frame n f) this) (AtField t (Frame n f) this) s v c (InTodo (IsFor t (Frame n f) this) (AtField t (Frame n f) this) todo v c) ⊎ Things t few n cs v c)) → (ScopesIn todo → AllHold t few n vs f this cs todo → AllHold t less n vs f this cs todo) → MarkHolds t few n vs f this cs s todo (AllHold t few n vs f this cs todo) → MarkHolds t less n vs f this cs s todo (AllHold t less n vs f this cs todo)
+    mark_fewer : (vs : List Value) (s : Sort) (todo : List Todo) → ((w : Value) (a : Ty) → Marks (AtVariable t (Frame n f) this) (Nowhere (Frame n f) this) s w a (InTodo (AtVariable t (Frame n f) this) (Nowhere (Frame n f) this) todo w a) → Lasts t few numbers (λ v c. Marks (IsFor t (Frame n f) this) (AtField t (Frame n f) this) s v c (InTodo (IsFor t (Frame n f) this) (AtField t (Frame n f) this) todo v c) ⊎ Outer t few n cs v c)) → (ScopesIn todo → AllHold t few n vs f this cs todo → AllHold t less n vs f this cs todo) → MarkHolds t few n vs f this cs s todo (AllHold t few n vs f this cs todo) → MarkHolds t less n vs f this cs s todo (AllHold t less n vs f this cs todo)
     mark_fewer vs (piece.IsClean c) todo l next h =
         ((λ k a x p b w i. known_fewer keeps n (Outwards t few n f this cs c todo) (lasts_less n (Outwards t few n f this cs c todo) _ (λ v e y. outer v e y) (l (Place (Frame n f) (Slot k ∷ [])) a (inl (k, x, refl)))) b _ (h.0 k a x p b w i)), next (λ w a m. lasts_less n (Before todo) _ (λ v e y. inner v e y) (l w a (inr m))) h.1)
       where
-        outer : (v : Value) (e : Ty) → Outwards t few n f this cs c todo v e → (IsFor t (Frame n f) this c v e ⊎ InTodo (IsFor t (Frame n f) this) (AtField t (Frame n f) this) todo v e) ⊎ Things t few n cs v e
+        outer : (v : Value) (e : Ty) → Outwards t few n f this cs c todo v e → (IsFor t (Frame n f) this c v e ⊎ InTodo (IsFor t (Frame n f) this) (AtField t (Frame n f) this) todo v e) ⊎ Outer t few n cs v e
         outer v e y = y
 
-        inner : (v : Value) (e : Ty) → Before todo v e → (IsFor t (Frame n f) this c v e ⊎ InTodo (IsFor t (Frame n f) this) (AtField t (Frame n f) this) todo v e) ⊎ Things t few n cs v e
+        inner : (v : Value) (e : Ty) → Before todo v e → (IsFor t (Frame n f) this c v e ⊎ InTodo (IsFor t (Frame n f) this) (AtField t (Frame n f) this) todo v e) ⊎ Outer t few n cs v e
         inner v e (inl y) = inl (inr y)
         inner v e (inr y) = inr y
     mark_fewer vs (piece.IsPart c) todo l next h = next (λ w a m. lasts_less n (Before todo) _ (λ v e y. inner v e y) (l w a (inr m))) h
       where
-        inner : (v : Value) (e : Ty) → Before todo v e → (AtField t (Frame n f) this c v e ⊎ InTodo (IsFor t (Frame n f) this) (AtField t (Frame n f) this) todo v e) ⊎ Things t few n cs v e
+        inner : (v : Value) (e : Ty) → Before todo v e → (AtField t (Frame n f) this c v e ⊎ InTodo (IsFor t (Frame n f) this) (AtField t (Frame n f) this) todo v e) ⊎ Outer t few n cs v e
         inner v e (inl y) = inl (inr y)
         inner v e (inr y) = inr y
     mark_fewer vs piece.Simple todo l next h = next l h
@@ -309,7 +309,7 @@ module _ (t : Table) (few : Few) (numbers : Ty → ℕ → Bool) where
   stack_fewer : KeepsOthers t few numbers → (n : Exec) (fs : List (List Value)) (cs : List Active) → ScopesLast t few numbers n cs → LifeStack t few n fs cs → LifeStack t less n fs cs
   stack_fewer keeps n fs [] l h = tt
   stack_fewer keeps n fs (a ∷ older) l h =
-      (h.0, holds_fewer keeps n a.frame a.this older _ a.control (λ w b m. l w b (inl m)) h.1, stack_fewer keeps n fs older (λ w b m. lasts_less n (Things t few n older) (Things t few n (a ∷ older)) (λ v e x. inr x) (l w b (inr m))) h.2)
+      (h.0, holds_fewer keeps n a.frame a.this older _ a.control (λ w b m. l w b (inl m)) h.1, stack_fewer keeps n fs older (λ w b m. lasts_less n (Around t few n older) (Around t few n (a ∷ older)) (λ v e x. inr (around_outer t few n older v e x)) (l w b (inr m))) h.2)
 
   pub life_ex_fewer : KeepsOthers t few numbers → (n : Exec) (x : Execution (List Todo) Value) → LifeEx t few n x → ExLasts t few numbers n x → LifeEx t less n x
   life_ex_fewer keeps n x h l = record { frames = h.frames; stack = stack_fewer keeps n x.frames (x.run ∷ x.callers) l.scopes h.stack }

@@ -17,10 +17,11 @@ use Rattle.uc_machine.specs.Pieces as piece
 use Rattle.uc_machine.specs.Pieces.{Link, Value, Number, Place, Running, Object, Nothing, Todo, Sort, Active, State, Env, Members, further}
 use Rattle.uc_meaning.specs.Runs.{World}
 use Rattle.uc_typing.specs.Typing.{Ty, Cell, Obj, Raw, Row, Sig, Table}
-use Rattle.uc_life_laws.specs.Things.{Few, Within, itself, field, element, AtField, IsFor, Marks, InTodo, Base, Things, Variables, Stands, lies, inside, Held}
+use Rattle.uc_life_laws.specs.Things.{Few, Within, itself, field, element, AtField, IsFor, Marks, InTodo, Base, Things, Around, Variables, Stands, lies, inside, Held}
 use Rattle.uc_life_laws.specs.LifeStates.{SlotBy, ParkedBy, HandBy, MembersBy, EnvBy}
 use Rattle.uc_life_laws.specs.Knowing.{AtHand, InMaking, KnowsState}
-use Rattle.uc_life_laws.proofs.Reading.{within_raw, in_raw}
+use Rattle.uc_life_laws.proofs.Knowns.{held_more, around_hand}
+use Rattle.uc_life_laws.proofs.Reading.{within_raw, not_whole, NoNumber, behind_number}
 use Rattle.uc_world_laws.proofs.Fewer.{both_members, both_env}
 use Rattle.uc_world_laws.specs.Fewer.{Lasts, HandLasts, ExLasts, RunLasts}
 use Rattle.uc_world_laws.specs.Lasting.{lasting_numbers, lasting, WorldLasts}
@@ -137,7 +138,7 @@ module _ (t : Table) where
     pub stands_things : (n : Exec) (gs : List Sig) (cs : List Active) (b : Ty) (v : Value) → Stands t few (AtHand t few n gs cs) (Cell b) v → Stands t few (Things t few n cs) (Cell b) v
     stands_things n gs cs b v (lies {w = w} {a} (inl k) h) = lies k h
     stands_things n gs cs b v (lies {w = w} {a} (inr k) h) =
-        let r = in_raw gs cs w a k in
+        let r = not_whole t n gs cs w a k in
         let e : Cell b ≡ Raw r.0 = within_raw t w r.0 v (Cell b) (subst (λ a. Within t w a v (Cell b)) r.1 h) in
         absurd (cc)
     stands_things n gs cs b v (inside {o = o} {c} m k h) = inside m (stands_things n gs cs (Obj c) (few.home o) k) h
@@ -204,7 +205,7 @@ module _ (t : Table) (few : Few) (j : Journal) (a : List Entry) (x : World) (own
     none_held : Apart t (lasting few j) left o gs ds → (c : ℕ) → Held t (lasting few j) (AtHand t (lasting few j) n gs ds) (Obj c) (Object o) → ⊥
     none_held p c (inl (lies {w = w} {a = d} (inl k) h)) = things_place t few places n ds w d k o (within_object t w d (Object o) (Obj c) o h refl)
     none_held p c (inl (lies {w = w} {a = d} (inr k) h)) =
-        let q = in_raw gs ds w d k in
+        let q = not_whole t n gs ds w d k in
         let e : Obj c ≡ Raw q.0 = within_raw t w q.0 (Object o) (Obj c) (subst (λ d. Within t w d (Object o) (Obj c)) q.1 h) in
         absurd (cc)
     none_held p c (inl (inside {o = u} {c = d} m k h)) =
@@ -212,7 +213,7 @@ module _ (t : Table) (few : Few) (j : Journal) (a : List Entry) (x : World) (own
         let same : u ≡ o = cc in
         let s : Stands t few (Things t few n ds) (Cell (Obj d)) (few.home u) = stands_things t few n gs ds (Obj d) (few.home u) (stands_left (AtHand t (lasting few j) n gs ds) (Cell (Obj d)) (few.home u) k) in
         no_home (suc (rank n)) n cs (omega arith) i d (stands_more t few (Things t few n ds) (Had t few yet n cs) (λ w b m. things_had n cs w b (more w b m)) (Cell (Obj d)) (few.home o) (subst (λ (u : ℕ). Stands t few (Things t few n ds) (Cell (Obj d)) (few.home u)) same s))
-    none_held p c (inr h) = ⊎_elim (λ k. things_place t few places n ds h.0 (Raw h.1) k o e) (λ k. p h.1 (subst (λ w. InMaking gs ds w (Raw h.1)) e k)) h.2
+    none_held p c (inr h) = ⊎_elim (λ k. things_place t few places n ds h.0 (Raw h.1) k o e) (λ k. ⊎_elim (λ k. p h.1 (subst (λ w. InMaking gs ds w (Raw h.1)) e k)) (λ k. subst NoNumber e (behind_number t n ds h.0 (Raw h.1) k)) k) h.2
       where
         e : h.0 ≡ Object o
         e = within_object t h.0 (Obj h.1) (Object o) (Obj c) o h.3 refl
@@ -233,20 +234,17 @@ module _ (t : Table) (few : Few) (j : Journal) (a : List Entry) (x : World) (own
   none_made (c ∷ cs) w a (inl m) = let e = m.1 in absurd (cc)
   none_made (c ∷ cs) w a (inr m) = none_made cs w a m
 
-  -- where things alone are at hand
-  things_last : (n : Exec) (cs : List Active) → Lives (j ++ a) x n cs → Lasts t (lasting few j) left (Things t (lasting few j) n cs)
-  things_last n cs i c u m h f = hand_lasts n cs i [] cs (λ w b m. m) (λ c k. none_made cs (Object o) (Raw c) k) c u m (more h) f
-    where
-      more : Held t (lasting few j) (Things t (lasting few j) n cs) (Obj c) (Object u) → Held t (lasting few j) (AtHand t (lasting few j) n [] cs) (Obj c) (Object u)
-      more (inl h) = inl (stands_more t (lasting few j) (Things t (lasting few j) n cs) (AtHand t (lasting few j) n [] cs) (λ w b m. inl m) (Obj c) (Object u) h)
-      more (inr h) = inr (h.0, h.1, inl h.2, h.3)
+  -- where nothing is at hand that is being built or destroyed, but what others wait for
+  around_last : (n : Exec) (cs : List Active) → Lives (j ++ a) x n cs → Lasts t (lasting few j) left (Around t (lasting few j) n cs)
+  around_last n cs i c u m h f =
+      hand_lasts n cs i [] cs (λ w b m. m) (λ c k. none_made cs (Object o) (Raw c) k) c u m (held_more t (lasting few j) n (Around t (lasting few j) n cs) (AtHand t (lasting few j) n [] cs) (around_hand t (lasting few j) n [] cs) (Obj c) (Object u) h) f
 
   -- what holds of an execution that does not run
   abbrev Told : Exec → Execution (List Todo) Value → Type 0
   Told n y = FreshKeeps t (lasting few j) left y.links.stage n y × ExApart t (lasting few j) left o n y
 
   ex_apart : (n : Exec) (y : Execution (List Todo) Value) → (y.links.stage ≡ Started → Lives (j ++ a) x n (y.run ∷ y.callers)) → Told n y → ExLasts t (lasting few j) left n y
-  ex_apart n y i e = record { scopes = λ w b v. things_last n (y.run ∷ y.callers) (i (begun y.links.stage refl e.0 w b v)); hand = by y.links.stage refl e.0 e.1 }
+  ex_apart n y i e = record { scopes = λ w b v. around_last n (y.run ∷ y.callers) (i (begun y.links.stage refl e.0 w b v)); hand = by y.links.stage refl e.0 e.1 }
     where
       begun : (g : Stage) → y.links.stage ≡ g → FreshKeeps t (lasting few j) left g n y → (w : Value) (b : Ty) → Variables t n (y.run ∷ y.callers) w b → y.links.stage ≡ Started
       begun Fresh q f w b v = absurd (f.1 w b v)
@@ -269,7 +267,7 @@ module _ (t : Table) (few : Few) (j : Journal) (a : List Entry) (x : World) (own
     tasks = λ u.
         let s = x.tasks u in
         record {
-          scopes = λ w b v. things_last s.env.exec (s.run ∷ s.callers) (running u (fresh.scopes u w b v));
+          scopes = λ w b v. around_last s.env.exec (s.run ∷ s.callers) (running u (fresh.scopes u w b v));
           env = env_in Told (ExLasts t (lasting few j) left) s.env (λ n y i e. ex_apart n y (λ q. inr (inl (u, i q))) e) (both_env Kept (ExApart t (lasting few j) left o) Told (λ n y h k. (h, k)) s.env (fresh.tasks u) (r.beside.tasks u));
         };
     alive = λ u e given k. run_lasts u e given k (r.beside.alive u e given k);

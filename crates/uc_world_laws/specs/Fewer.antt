@@ -7,7 +7,7 @@ use Rattle.uc_machine.specs.Executions.{Execution, others}
 use Rattle.uc_machine.specs.Pieces.{Value, Number, Object, Todo, Active, State}
 use Rattle.uc_typing.specs.Typing.{Ty, Obj, Raw, Clu, Pro, Table}
 use Rattle.uc_typing.specs.Pieces.{AreNumbers}
-use Rattle.uc_life_laws.specs.Things.{Few, Things, Variables, Held}
+use Rattle.uc_life_laws.specs.Things.{Few, Around, Variables, Held}
 use Rattle.uc_life_laws.specs.LifeStates.{EnvBy, LifeState}
 use Rattle.uc_life_laws.specs.Knowing.{AtHand, KnowsEx, KnowsState}
 
@@ -39,7 +39,7 @@ module _ (t : Table) (few : Few) (numbers : Ty → ℕ → Bool) where
 
   -- of activations of an execution, where something is in scope
   abbrev pub ScopesLast : Exec → List Active → Type 0
-  ScopesLast n cs = (w : Value) (a : Ty) → Variables t n cs w a → Lasts (Things t few n cs)
+  ScopesLast n cs = (w : Value) (a : Ty) → Variables t n cs w a → Lasts (Around t few n cs)
 
   -- one that has not begun knows its own object alone
   pub record FreshLasts (x : Execution (List Todo) Value) : Type 0 where

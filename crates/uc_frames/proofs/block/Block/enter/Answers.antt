@@ -15,7 +15,7 @@ returns-clause-ok c =
     let r = c.args.routine in
     let n : c.len-length.result ≡ length cs = search rules in
     let y : Extent = record { floor = c.len-length.result - c.args.taken; base = c.len-length.result - r.params; start = c.len-length.result + c.saturating_sub-others.result } in
-    let o : reverse c.push_reserved.new.self.items ≡ x ∷ xs = ap reverse (c.push_reserved.ensures.items ∙ ap (λ l. l ++ x ∷ []) c.in_ok-reserve.ensures.items) ∙ reverse-append c.self.inside.older.items (x ∷ []) in
-    let k : c.resize.new.self.items ≡ cs ++ replicate (r.cells - r.params) nought = grind (arith, common_steps) in
-    rw (← c.self.view_is) (ap (λ l. contents y l c.resize.new.self.items) o ∙ ap (contents y (x ∷ xs)) k
+    let o : reverse c.push_reserved.new.self.items ≡ x ∷ xs = ap reverse (c.push_reserved.ensures.items ∙ ap (λ l. l ++ x ∷ []) c.in_ok-have_room.ensures.items) ∙ reverse-append c.self.inside.older.items (x ∷ []) in
+    let k : c.add_zeros.new.cells.items ≡ cs ++ replicate (r.cells - r.params) nought = grind (arith, common_steps) in
+    rw (← c.self.view_is) (ap (λ l. contents y l c.add_zeros.new.cells.items) o ∙ ap (contents y (x ∷ xs)) k
     ∙ called_in_place x xs cs c.self.invariant r c.args.taken y (omega (arith, n)) (omega (arith, n)) (omega (arith, n, c.saturating_sub-others.ensures)) (omega (arith, n, c.if-length-self.false)) (omega (arith, c.if-taken-params.false)))

@@ -1,0 +1,5 @@
+pub mod EndCode
+pub mod EndLists
+pub mod EndWays
+pub mod EndLaws
+pub mod HomedEnds

@@ -1,0 +1,4 @@
+pub mod Asking
+pub mod Finding
+pub mod Forgetting
+pub mod LastingPrograms

@@ -1,0 +1,111 @@
+-- Just before an object goes, or is given up, it is nowhere in the world, on the way to what is asked next.
+use Rattle.std.proofs.Common.{◌≡◌, ℕ, ◌<◌, Bool, true, false, List, [], ◌∷◌, ◌++◌, refl, sym, subst}
+use Rattle.uc_tree.specs.Source.{Source}
+use Rattle.uc_entry.specs.declared.entry.Options.{Options}
+use Rattle.uc_entry.specs.declared.request.Asked.{Asked}
+use Rattle.uc_acts.specs.Acts.{act}
+use Rattle.uc_acts.specs.Journal.{Journal, is_over}
+use Rattle.uc_acts.specs.Known.{task_count}
+use Rattle.uc_acts.specs.KernelRuns.{InRange}
+use Rattle.uc_acts.specs.Serves.{left}
+use Rattle.uc_machine.specs.declared.exec.Exec.{Exec}
+use Rattle.uc_machine.specs.Monitors.{this_object}
+use Rattle.uc_machine.specs.Pieces as piece
+use Rattle.uc_machine.specs.Pieces.{Value, Todo, GoneNow, GiveUpNow, Active, State}
+use Rattle.uc_machine.specs.Quiet.{quiet}
+use Rattle.uc_machine.specs.Answering.{answered}
+use Rattle.uc_machine.specs.Rides.{Rides, slices, goes_on, ticks, asks}
+use Rattle.uc_meaning.specs.Runs.{World, Runs, AsksIn, acts, more, drawn, world_after}
+use Rattle.uc_program_laws.specs.Fitting.{RunFits}
+use Rattle.uc_program_laws.proofs.Others.{run_rests}
+use Rattle.uc_scope_laws.specs.RoomRuns.{stays}
+use Rattle.uc_value_laws.specs.Opens.{RideMeets, RunMeets}
+use Rattle.uc_name_laws.specs.NameSteps as names
+use Rattle.uc_named_runs.specs.RunningRuns.{RunLeaves}
+use Rattle.uc_named_runs.proofs.Worlds.{run_named, known}
+use Rattle.uc_typing.specs.Typing.{Ty, Table}
+use Rattle.uc_life_laws.specs.Things.{Few}
+use Rattle.uc_life_laws.specs.Knowing.{KnowsState}
+use Rattle.uc_own_names.specs.OwnNames.{StaysOwn}
+use Rattle.uc_own_names.proofs.OwnNamesLemmas.{law_own_names}
+use Rattle.uc_unmarked_laws.specs.Belonging.{Belongs}
+use Rattle.uc_unmarked_laws.specs.Marks.{Marked, Free, Outward, Lone, AllLone, LoneState, LoneStep, Puts}
+use Rattle.uc_unmarked_laws.proofs.Walk.{law_steps}
+use Rattle.uc_unmarked_laws.proofs.Worlds.{law_runs}
+use Rattle.uc_apart_laws.specs.Before.{Before, BeforeAt, NowhereBefore}
+use Rattle.uc_rooted_runs.specs.Makers.{Placed}
+use Rattle.uc_rooted_runs.specs.Binds.{BindsOwn}
+use Rattle.uc_rooted_runs.specs.FreshStates.{FreshEnv, FreshStep, KeepsFresh}
+use Rattle.uc_rooted_runs.specs.MainRuns.{EndsMains}
+use Rattle.uc_rooted_runs.specs.Mains.{CallsNoMain, FindsAll}
+use Rattle.uc_rooted_runs.specs.OutlastRuns.{with_before, run_made}
+use Rattle.uc_rooted_runs.specs.KeptRuns.{RideKeeps, RunKeeps}
+use Rattle.uc_rooted_runs.proofs.FreshRuns.{law_fresh, drawn_fresh}
+use Rattle.uc_rooted_runs.proofs.KeptRuns.{ride_keeps, run_keeps}
+use Rattle.uc_rooted_runs.proofs.MainRuns.{law_mains}
+use Rattle.uc_making_laws.specs.OwnThis.{FindsThis, ThisState}
+use Rattle.uc_making_laws.specs.Upheld.{MadeLaterTo, UpheldAt}
+use Rattle.uc_making_laws.specs.BeforeRides.{IsRootedOnWay, RootedOnWay, RootedOnWayBy, LawBeforeRides}
+use Rattle.uc_making_laws.proofs.BeforeWorlds.{before as nowhere_before}
+use Rattle.uc_making_laws.proofs.ThisRuns.{law_this_runs}
+use Rattle.uc_making_laws.proofs.Upheld.{owns, law_upheld}
+
+-- who comes to where an object goes has no mark around it
+freed : (t : Table) (few : Few) (n : Exec) (run : Active) (callers : List Active) (l todo : List Todo) (o : ℕ) → l ≡ todo → Free t few o (Outward t n run.frame run.this callers todo) → run.control ≡ l → Free t few o (Marked t n (run ∷ callers))
+freed t few n run callers l todo o e f c =
+    subst (λ k. Free t few o (Outward t n run.frame run.this callers k)) (sym (subst (λ k. run.control ≡ k) e c)) f
+
+-- along a ride
+
+module _ (t : Table) (few : Few) (source : Source) where
+  ride_lone : {s u : State} {q k : ℕ} {a : Asked} (r : Rides source s q u k a) → RideMeets (Puts t few) source s q u k a r → LoneState t few s → RideMeets (LoneState t few) source s q u k a r
+  ride_lone slices p h = tt
+  ride_lone (goes_on {s} e r) p h = (h, ride_lone r p.1 (subst (LoneStep t few) e (law_steps.steps t few source s h p.0)))
+  ride_lone (ticks {s} e r) p h = (h, ride_lone r p.1 (subst (LoneStep t few) e (law_steps.steps t few source s h p.0)))
+  ride_lone (asks {s} e) p h = h
+
+  ride_fresh : {s u : State} {q k : ℕ} {a : Asked} (r : Rides source s q u k a) → RideMeets (KeepsFresh source) source s q u k a r → FreshEnv s.env → RideMeets (λ v. FreshEnv v.env) source s q u k a r
+  ride_fresh slices p h = tt
+  ride_fresh (goes_on {s} e r) p h = (h, ride_fresh r p.1 (subst FreshStep e (law_fresh.steps source s h p.0)))
+  ride_fresh (ticks {s} e r) p h = (h, ride_fresh r p.1 (subst FreshStep e (law_fresh.steps source s h p.0)))
+  ride_fresh (asks {s} e) p h = h
+
+  module _ (Lone This Fresh Up Rooted Goal : State → Type 0) (one : (v : State) → Lone v → This v → Fresh v → Up v → Rooted v → Goal v) where
+    ride_all : {s u : State} {q k : ℕ} {a : Asked} (r : Rides source s q u k a) → RideMeets Lone source s q u k a r → RideMeets This source s q u k a r → RideMeets Fresh source s q u k a r → RideMeets Up source s q u k a r → RideMeets Rooted source s q u k a r → RideMeets Goal source s q u k a r
+    ride_all slices l h f m b = tt
+    ride_all (goes_on {s} e r) l h f m b = (one s l.0 h.0 f.0 m.0 b.0, ride_all r l.1 h.1 f.1 m.1 b.1)
+    ride_all (ticks {s} e r) l h f m b = (one s l.0 h.0 f.0 m.0 b.0, ride_all r l.1 h.1 f.1 m.1 b.1)
+    ride_all (asks {s} e) l h f m b = one s l h f m b
+
+pub law_before_rides : LawBeforeRides
+law_before_rides t few own yet source input opts j w r range fits on leaves spares binds mains finds puts this p u n s q d spared bound mained found put has b asked before kept keeps rooted =
+    let all = law_own_names source input opts j w r range fits on leaves spares in
+    let rests = run_rests source input opts range r fits on in
+    let y = run_named source input opts range r fits on in
+    let lt : u < task_count j = known source input opts range rests on y.serials y.world p u d.runs in
+    let a = act opts source.sites input j p u n q in
+    let longer : Runs source input opts (j ++ act opts source.sites input j p u n q) (world_after source (act opts source.sites input j p u n q) w u s) = more r on (acts p u n s q d) in
+    let owned = owns source input opts range r fits on p u n s q d leaves spares mains spared mained b before asked kept keeps in
+    let ends : RideMeets (EndsMains source) source _ _ s n q d.rides = (law_mains.runs source input opts (j ++ act opts source.sites input j p u n q) (world_after source (act opts source.sites input j p u n q) w u s) longer (mains, mained)).1 in
+    let lone = law_runs t few source input opts j w r puts in
+    let lone_start : LoneState t few (answered source d.given (drawn j w u)) = lone.comes u (answered source d.given (drawn j w u)) (record { given = d.given; processor = p; runs = d.runs; told = d.told; leads = stays }) tt in
+    let fresh_world = law_fresh.runs source input opts j w r range fits on (run_keeps source input opts j w r binds (law_mains.runs source input opts j w r mains) finds all.rides) in
+    let fresh_ride = ride_fresh t few source d.rides (ride_keeps source j w u d.rides bound ends found owned) (law_fresh.told source d.given (drawn j w u) (drawn_fresh j w u fresh_world)) in
+    let these = law_this_runs t few source input opts (j ++ act opts source.sites input j p u n q) (world_after source (act opts source.sites input j p u n q) w u s) longer (this, has) in
+    let worlds = law_this_runs t few source input opts j w r this in
+    let up = law_upheld.upheld asked before source input opts j w r range fits on leaves spares mains p u n s q d spared mained b kept keeps in
+    ride_all t few source (LoneState t few) (ThisState t few) (λ v. FreshEnv v.env) (UpheldAt (with_before before b.makers) asked j w u) (λ v. RootedOnWay t few own yet (with_before before b.makers) asked j w u v source) (λ v. Before t few j w u v source) (λ v l h f m g.
+    at_state v l (λ o k belongs free. nowhere_before t few source j w u lt all.later (all.elsewhere u lt) lone.world (worlds.world on) v l h f (with_before before b.makers) asked m own yet o k belongs free) g) d.rides (ride_lone t few source d.rides put lone_start) these.rides.1 fresh_ride up rooted
+  where
+    at_state : (v : State) → LoneState t few v → ((o : ℕ) → IsRootedOnWay t few own yet (with_before before b.makers) asked j w u v o → Belongs few v.env.exec (few.home o) → Free t few o (Marked t v.env.exec (v.run ∷ v.callers)) → NowhereBefore t few j w u v o) → RootedOnWay t few own yet (with_before before b.makers) asked j w u v source → Before t few j w u v source
+    at_state v l f g = by v.run.control refl g l.stack.0
+      where
+        by : (todo : List Todo) → v.run.control ≡ todo → RootedOnWayBy t few own yet (with_before before b.makers) asked j w u v source todo → AllLone t few v.env.exec v.run.frame v.run.this v.callers v.run.control → (k : KnowsState t few [] v) → BeforeAt t few j w u v source k v.run.control
+        by (piece.GoneNow ∷ todo) e h k known =
+            let at : AllLone t few v.env.exec v.run.frame v.run.this v.callers (piece.GoneNow ∷ todo) = subst (AllLone t few v.env.exec v.run.frame v.run.this v.callers) e k in
+            subst (λ c. BeforeAt t few j w u v source known c) (sym e) (f (this_object v) h at.0.0 (freed t few v.env.exec v.run v.callers (piece.GoneNow ∷ todo) (piece.GoneNow ∷ todo) (this_object v) refl at.0.1 e))
+        by (piece.GiveUpNow ∷ todo) e h k known =
+            let at : AllLone t few v.env.exec v.run.frame v.run.this v.callers (piece.GiveUpNow ∷ todo) = subst (AllLone t few v.env.exec v.run.frame v.run.this v.callers) e k in
+            subst (λ c. BeforeAt t few j w u v source known c) (sym e) (f (this_object v) h at.0.0 (freed t few v.env.exec v.run v.callers (piece.GiveUpNow ∷ todo) (piece.GiveUpNow ∷ todo) (this_object v) refl at.0.1 e))
+        by (p ∷ todo) e h k known = subst (λ c. BeforeAt t few j w u v source known c) (sym e) (h known)
+        by [] e h k known = subst (λ c. BeforeAt t few j w u v source known c) (sym e) (h known)

@@ -1,0 +1,346 @@
+-- While a task is on its way, what executions were to clean up as they made others stays with them.
+use Rattle.std.proofs.Common.{◌≡◌, ℕ, inl, inr, ◌==◌, ◌<◌, Bool, true, false, List, [], ◌∷◌, ◌++◌, Option, Some, None, refl, sym, ap, ◌∙◌, subst, ◌||◌}
+use Rattle.std.specs.Prelude.{if◌then◌else◌, nat_eq}
+use Rattle.std.proofs.lemmas.Bool.{eqb-true, eq-eqb}
+use Rattle.uc_tree.specs.Source.{Source}
+use Rattle.uc_entry.specs.declared.entry.Options.{Options}
+use Rattle.uc_entry.specs.declared.request.Asked.{Asked}
+use Rattle.uc_entry.specs.Keyed.{find}
+use Rattle.uc_acts.specs.Acts.{act}
+use Rattle.uc_acts.specs.Journal.{Journal, held, is_over}
+use Rattle.uc_acts.specs.Known.{has, task_count}
+use Rattle.uc_acts.specs.KernelRuns.{InRange}
+use Rattle.uc_acts.specs.Serves.{left}
+use Rattle.uc_machine.specs.declared.exec.Exec.{Exec}
+use Rattle.uc_machine.specs.declared.exec.Home.{Home}
+use Rattle.uc_machine.specs.declared.exec.Home.TheVariants as home
+use Rattle.uc_machine.specs.Executions.{Execution, members_at}
+use Rattle.uc_machine.specs.Pieces.{Value, Todo, State, Members, Step, Goes, Ticks, Asks}
+use Rattle.uc_machine.specs.Quiet.{quiet}
+use Rattle.uc_machine.specs.Answering.{answered}
+use Rattle.uc_machine.specs.Rides.{Rides, slices, goes_on, ticks, asks}
+use Rattle.uc_meaning.specs.Runs.{World, Runs, AsksIn, acts, more, drawn, or_else, world_after}
+use Rattle.uc_program_laws.specs.Fitting.{RunFits}
+use Rattle.uc_program_laws.proofs.Others.{RunRests, run_rests, asking as asks_with}
+use Rattle.uc_step_laws.specs.Hands.{keys}
+use Rattle.uc_step_laws.specs.Holding.{StepHolding}
+use Rattle.uc_step_laws.proofs.Walk.{law_steps}
+use Rattle.uc_hand_laws.proofs.Lists.{Once, once_rest, first_once}
+use Rattle.uc_value_laws.specs.Opens.{RideMeets, RunMeets}
+use Rattle.uc_name_laws.specs.Below.{IsBelow, EnvNamed}
+use Rattle.uc_name_laws.specs.NameSteps as names
+use Rattle.uc_name_laws.specs.NameSteps.{Named, StepNamed}
+use Rattle.uc_name_laws.proofs.Homes.{no_both}
+use Rattle.uc_name_laws.proofs.Walk.{walk}
+use Rattle.uc_named_runs.specs.RunningRuns.{RunLeaves}
+use Rattle.uc_named_runs.proofs.Riding.{run_more, ride_more}
+use Rattle.uc_named_runs.proofs.RunningWorlds.{run_runs, begins_alone}
+use Rattle.uc_named_runs.proofs.Worlds.{run_named, start, known, found_none, vacuous}
+use Rattle.uc_life_laws.specs.LifeStates.{HandBy, MembersBy, EnvBy}
+use Rattle.uc_life_laws.proofs.Cells.{tested}
+use Rattle.uc_life_laws.proofs.Parked.{found_hand}
+use Rattle.uc_world_laws.proofs.Fewer.{both_members, both_env}
+use Rattle.uc_own_names.specs.OwnNames.{at_hand, IsOwn, StaysOwn, IsElsewhere}
+use Rattle.uc_own_names.proofs.OwnNamesLemmas.{law_own_names}
+use Rattle.uc_own_names.proofs.OwnRides.{Settled, ride_owns, start as own_start}
+use Rattle.uc_apart_laws.specs.Before.{world_at}
+use Rattle.uc_rooted_runs.specs.Makers.{Placed, Makers}
+use Rattle.uc_rooted_runs.specs.Births.{MakesLater, AllMadeLater}
+use Rattle.uc_rooted_runs.specs.Mains.{CallsNoMain}
+use Rattle.uc_rooted_runs.specs.MainRuns.{EndsMains}
+use Rattle.uc_rooted_runs.specs.Outlasting.{Covered, Outlasts, OutlastEx, OutlastState}
+use Rattle.uc_rooted_runs.specs.OutlastRuns.{with_before, made_behind, run_made, now, OutlastsAt, RideOutlasts}
+use Rattle.uc_rooted_runs.specs.Upwards.{OutlastWorld}
+use Rattle.uc_rooted_runs.specs.MadeRuns.{IsMade, AllMade}
+use Rattle.uc_rooted_runs.specs.KeptRuns.{RideKeeps, RunKeeps}
+use Rattle.uc_rooted_runs.proofs.Births as births
+use Rattle.uc_rooted_runs.proofs.Births.{MakesBelow}
+use Rattle.uc_rooted_runs.proofs.KeptRuns.{ride_both, law_kept_runs}
+use Rattle.uc_rooted_runs.proofs.MadeRuns as made_runs
+use Rattle.uc_rooted_runs.proofs.MadeRuns.{BelowMade, made_grows, step_made, parked_made, law_made_runs}
+use Rattle.uc_rooted_runs.proofs.MainRuns.{law_mains}
+use Rattle.uc_rooted_runs.proofs.OutlastNames as outlast_names
+use Rattle.uc_rooted_runs.proofs.OutlastNames.{born_there}
+use Rattle.uc_rooted_runs.proofs.OutlastRuns as outlast
+use Rattle.uc_rooted_runs.proofs.OutlastWalk as walking
+use Rattle.uc_rooted_runs.proofs.Outlasting.{covered_more}
+use Rattle.uc_making_laws.specs.Upheld.{MadeLaterTo, UpheldAt, LawUpheld}
+
+-- a hand in which each object stands once
+
+turned : (a b : ℕ) → nat_eq a b ≡ false → nat_eq b a ≡ false
+turned a b f = by (nat_eq b a) refl
+  where
+    by : (c : Bool) → nat_eq b a ≡ c → nat_eq b a ≡ false
+    by true g = no_both (nat_eq a b) (eq-eqb a b (sym (eqb-true b a g))) f
+    by false g = g
+
+or_first : (b c : Bool) → (b || c) ≡ false → b ≡ false
+or_first true c h = absurd (cc)
+or_first false c h = refl
+
+not_there : (o : ℕ) (m : Members) (qs : List (ℕ × Members)) → find o qs ≡ Some m → has (keys qs) o ≡ false → ⊥
+not_there o m [] e h = absurd (cc)
+not_there o m (q ∷ qs) e h = by (nat_eq q.0 o) e h (λ e h. not_there o m qs e h)
+  where
+    by : (b : Bool) → (if b then Some q.1 else find o qs) ≡ Some m → (b || has (keys qs) o) ≡ false → (find o qs ≡ Some m → has (keys qs) o ≡ false → ⊥) → ⊥
+    by true e h ih = absurd (cc)
+    by false e h ih = ih e h
+
+-- what holds of all that are found in a hand in which each stands once holds of it
+module _ (P : Exec → Execution (List Todo) Value → Type 0) where
+  hand_by : (ps : List (ℕ × Members)) → Once (keys ps) → ((o : ℕ) (m : Members) → find o ps ≡ Some m → MembersBy P (home.Object o) (Some m)) → HandBy P ps
+  hand_by [] once f = tt
+  hand_by (p ∷ ps) once f = (f p.0 p.1 here, hand_by ps (once_rest p.0 (keys ps) once) (λ o m e. f o m (further o m e)))
+    where
+      here : find p.0 (p ∷ ps) ≡ Some p.1
+      here = ap (λ (b : Bool). if b then Some p.1 else find p.0 ps) (eq-eqb p.0 p.0 refl)
+
+      further : (o : ℕ) (m : Members) → find o ps ≡ Some m → find o (p ∷ ps) ≡ Some m
+      further o m e = by (nat_eq p.0 o) refl
+        where
+          by : (b : Bool) → nat_eq p.0 o ≡ b → (if nat_eq p.0 o then Some p.1 else find o ps) ≡ Some m
+          by true g =
+              let same : p.0 ≡ o = eqb-true p.0 o g in
+              let none : has (keys ps) p.0 ≡ false = first_once p.0 (keys ps) once in
+              absurd (not_there o m ps e (subst (λ k. has (keys ps) k ≡ false) same none))
+          by false g = ap (λ (b : Bool). if b then Some p.1 else find o ps) g ∙ e
+
+settled_keys : (ks : List ℕ) (s : State) → Settled ks s → keys s.env.hand ≡ ks
+settled_keys ks s (inl h) = h.env.keys_are
+settled_keys ks s (inr h) = h.env.keys_are
+
+-- the world on the way
+
+module _ (whole : Makers) (before : Exec → List Placed) (asked : Exec → Bool) where
+  abbrev makers : Makers
+  makers = with_before before whole
+
+  module _ (source : Source) (j : Journal) (w : World) (u : ℕ) (ks : List ℕ) (once : Once ks) (same : ks ≡ held u j) (first : Exec → Bool) (h : OutlastWorld (with_before before whole) (now (with_before before whole) asked first) j w) (apart : IsElsewhere j w u) (there : AllMade first j w) where
+    -- what goes along
+    record On (made : Exec → Bool) (v : State) : Type 0 where
+      state : OutlastState (with_before before whole) (now (with_before before whole) asked made) v
+      serials : Home → ℕ
+      named : Named (at_hand j w u) false serials v
+      settled : Settled ks v
+      below : BelowMade serials made
+      mine : (x : Exec) → made x ≡ true → first x ≡ false → at_hand j w u (whole.parent x).home ≡ true
+      grown : (x : Exec) → first x ≡ true → made x ≡ true
+      later : (n : Exec) → made n ≡ true → whole.rank (whole.parent n) < whole.rank n
+
+    module _ (made : Exec → Bool) (v : State) (o : On made v) where
+      abbrev Up : Exec → Bool
+      Up = now (with_before before whole) asked made
+
+      -- elsewhere nobody has made any meanwhile
+      none_made : (m : Exec) → at_hand j w u m.home ≡ false → (x : Exec) → now (with_before before whole) asked made x ≡ true → now (with_before before whole) asked first x ≡ false → whole.parent x ≡ m → ⊥
+      none_made m away x g f e =
+          let new : first x ≡ false = outlast.not_now whole before asked first x (outlast.now_asked whole before asked made x g) f in
+          let at = o.mine x (outlast.now_made whole before asked made x g) new in
+          no_both (at_hand j w u m.home) (ap (λ (k : Exec). at_hand j w u k.home) (sym e) ∙ at) away
+
+      old_stack : (x : ℕ) → x < task_count j → (x == u) ≡ false → Outlasts (with_before before whole) (now (with_before before whole) asked made) (w.tasks x).env.exec ((w.tasks x).run ∷ (w.tasks x).callers)
+      old_stack x lt e =
+          covered_more (with_before before whole) (now (with_before before whole) asked first) (now (with_before before whole) asked made) (w.tasks x).env.exec ((w.tasks x).run ∷ (w.tasks x).callers) (λ y g f r. absurd (none_made (w.tasks x).env.exec (apart.running x lt e) y g f r)) (h.stacks x lt)
+
+      abbrev Away : Exec → Execution (List Todo) Value → Type 0
+      Away m y = at_hand j w u m.home ≡ false
+
+      old_ex : (m : Exec) (y : Execution (List Todo) Value) → at_hand j w u m.home ≡ false → OutlastEx (with_before before whole) (now (with_before before whole) asked first) m y → OutlastEx (with_before before whole) (now (with_before before whole) asked made) m y
+      old_ex m y away k =
+          covered_more (with_before before whole) (now (with_before before whole) asked first) (now (with_before before whole) asked made) m (y.run ∷ y.callers) (λ x g f r. absurd (none_made m away x g f r)) k
+
+      old_env : (x : ℕ) → (x == u) ≡ false → EnvBy (OutlastEx (with_before before whole) (now (with_before before whole) asked made)) (w.tasks x).env
+      old_env x e =
+          both_env Away (OutlastEx (with_before before whole) (now (with_before before whole) asked first)) (OutlastEx (with_before before whole) (now (with_before before whole) asked made)) old_ex (w.tasks x).env (apart.tasks x e) (h.tasks x)
+
+      -- what is in hand is held
+      hand_is : keys v.env.hand ≡ held u j
+      hand_is = settled_keys ks v o.settled ∙ same
+
+      away : (q : ℕ) → find q v.env.hand ≡ None → has (held u j) q ≡ false
+      away q e = sym (ap (λ l. has l q) hand_is) ∙ found_none q v.env.hand e
+
+      old_home : (q : ℕ) → find q v.env.hand ≡ None → MembersBy (OutlastEx (with_before before whole) (now (with_before before whole) asked made)) (home.Object q) (w.homes q)
+      old_home q e =
+          both_members Away (OutlastEx (with_before before whole) (now (with_before before whole) asked first)) (OutlastEx (with_before before whole) (now (with_before before whole) asked made)) old_ex (home.Object q) (w.homes q) (apart.homes q (away q e)) (h.homes q)
+
+      or_home : (P : Exec → Execution (List Todo) Value → Type 0) (q : ℕ) (z : Option Members) → find q v.env.hand ≡ z → MembersBy P (home.Object q) z → (find q v.env.hand ≡ None → MembersBy P (home.Object q) (w.homes q)) → MembersBy P (home.Object q) (or_else z (w.homes q))
+      or_home P q None e m f = f e
+      or_home P q (Some z) e m f = m
+
+      outlasts : OutlastWorld (with_before before whole) (now (with_before before whole) asked made) j (world_at w u v)
+      outlasts = record {
+        stacks = λ x lt. tested (λ (y : State). Outlasts (with_before before whole) (now (with_before before whole) asked made) y.env.exec (y.run ∷ y.callers)) (x == u) v (w.tasks x) (λ e. o.state.stack) (λ e. old_stack x lt e);
+        tasks = λ x. tested (λ (y : State). EnvBy (OutlastEx (with_before before whole) (now (with_before before whole) asked made)) y.env) (x == u) v (w.tasks x) (λ e. o.state.env) (λ e. old_env x e);
+        homes = λ q. or_home (OutlastEx (with_before before whole) (now (with_before before whole) asked made)) q (find q v.env.hand) refl (found_hand (OutlastEx (with_before before whole) (now (with_before before whole) asked made)) q v.env.hand o.state.env.hand) (old_home q);
+      }
+
+      -- all that are there were made by now
+
+      abbrev Made : Exec → Execution (List Todo) Value → Type 0
+      Made n y = IsMade made n
+
+      abbrev First : Exec → Execution (List Todo) Value → Type 0
+      First n y = IsMade first n
+
+      still : (n : Exec) → IsMade first n → IsMade made n
+      still n (inl e) = inl e
+      still n (inr e) = inr (o.grown n e)
+
+      named_env : EnvNamed o.serials (at_hand j w u) v.env
+      named_env = o.named.names.env_named
+
+      members_made : (k : Home) (m : Members) → members_at k v.env ≡ Some m → MembersBy (λ n y. IsMade made n) k (Some m)
+      members_made k m e =
+          let z = named_env.members_named k m e in
+          parked_made o.serials made o.below k m.serial z.serial_is m.parked z.parked_named
+
+      env_made : EnvBy (λ n y. IsMade made n) v.env
+      env_made = record {
+        house = members_made (home.Task v.env.own) v.env.house (ap (λ (b : Bool). if b then Some v.env.house else None) (eq-eqb v.env.own v.env.own refl));
+        hand = hand_by (λ n y. IsMade made n) v.env.hand (subst Once (sym (settled_keys ks v o.settled)) once) (λ q m e. members_made (home.Object q) m e);
+      }
+
+      all_there : AllMade made j (world_at w u v)
+      all_there = record {
+        running = λ x lt. tested (λ (y : State). IsMade made y.env.exec) (x == u) v (w.tasks x) (λ e. o.below v.env.exec named_env.exec_below) (λ e. still (w.tasks x).env.exec (there.running x lt));
+        tasks = λ x. tested (λ (y : State). EnvBy (λ n y. IsMade made n) y.env) (x == u) v (w.tasks x) (λ e. env_made) (λ e. both_env First First Made (λ n y a b. still n a) (w.tasks x).env (there.tasks x) (there.tasks x));
+        homes = λ q. or_home Made q (find q v.env.hand) refl (found_hand Made q v.env.hand env_made.hand) (λ e. both_members First First Made (λ n y a b. still n a) (home.Object q) (w.homes q) (there.homes q) (there.homes q));
+      }
+
+      upheld_at : IsOwn j w u v → UpheldAt (with_before before whole) asked j w u v
+      upheld_at own = record { own = own; hand = hand_is; made = made; outlasts = outlasts; there = all_there; later = o.later }
+
+      -- the next step
+
+      module _ (a : OutlastsAt (with_before before whole) asked source made v) (l : MakesLater source whole v) (own : IsOwn j w u v) where
+        abbrev behind : Exec → Bool
+        behind = made_behind source v made
+
+        mine_on : (x : Exec) → made_behind source v made x ≡ true → first x ≡ false → at_hand j w u (whole.parent x).home ≡ true
+        mine_on x e f = by (made x) refl
+          where
+            by : (b : Bool) → made x ≡ b → at_hand j w u (whole.parent x).home ≡ true
+            by true g = o.mine x g f
+            by false g = let m = l x (born_there source v made x e g) in ap (λ (k : Exec). at_hand j w u k.home) m.parent ∙ own.at_home
+
+        later_on : (n : Exec) → made_behind source v made n ≡ true → whole.rank (whole.parent n) < whole.rank n
+        later_on n e = by (made n) refl
+          where
+            by : (b : Bool) → made n ≡ b → whole.rank (whole.parent n) < whole.rank n
+            by true g = o.later n g
+            by false g = let m = l n (born_there source v made n e g) in subst (λ (k : Exec). whole.rank k < whole.rank n) (sym m.parent) m.later
+
+        settled_on : StepHolding ks (quiet source v)
+        settled_on = by o.settled
+          where
+            by : Settled ks v → StepHolding ks (quiet source v)
+            by (inl k) = law_steps.settled source ks v k
+            by (inr k) = law_steps.bound source ks v k
+
+        on_with : (x : State) → OutlastState (with_before before whole) (now (with_before before whole) asked (made_behind source v made)) x → ((k : Home → ℕ) → StepNamed (at_hand j w u) false k (quiet source v) → Named (at_hand j w u) false k x) → (StepHolding ks (quiet source v) → Settled ks x) → On (made_behind source v made) x
+        on_with x st f s =
+            let b = walk source (at_hand j w u) false o.serials v o.named (λ u. vacuous u) in
+            record {
+              state = st;
+              serials = b.serials;
+              named = f b.serials b.named;
+              settled = s settled_on;
+              below = step_made source (at_hand j w u) o.serials made v b o.below;
+              mine = mine_on;
+              grown = λ x e. made_grows source v made x (o.grown x e);
+              later = later_on;
+            }
+
+        on_goes : (x : State) → quiet source v ≡ Goes x → On (made_behind source v made) x
+        on_goes x e =
+            on_with x (outlast.step_goes whole before asked source made v o.state a l x e) (λ k z. subst (StepNamed (at_hand j w u) false k) e z) (λ z. inl (subst (StepHolding ks) e z))
+
+        on_ticks : (x : State) → quiet source v ≡ Ticks x → On (made_behind source v made) x
+        on_ticks x e =
+            on_with x (outlast.step_ticks whole before asked source made v o.state a l x e) (λ k z. subst (StepNamed (at_hand j w u) false k) e z) (λ z. inl (subst (StepHolding ks) e z))
+
+    ride_upheld : (made : Exec → Bool) {s v : State} {q k : ℕ} {a : Asked} (r : Rides source s q v k a) → RideOutlasts (with_before before whole) asked source made r → RideMeets (MakesLater source whole) source s q v k a r → RideMeets (StaysOwn source j w u) source s q v k a r → On made s → RideMeets (UpheldAt (with_before before whole) asked j w u) source s q v k a r
+    ride_upheld made slices a l n o = tt
+    ride_upheld made (goes_on {s} {t} e r) a l n o =
+        (upheld_at made s o n.0.now, ride_upheld (made_behind source s made) r a.1 l.1 n.1 (on_goes made s o a.0 l.0 n.0.now t e))
+    ride_upheld made (ticks {s} {t} e r) a l n o =
+        (upheld_at made s o n.0.now, ride_upheld (made_behind source s made) r a.1 l.1 n.1 (on_ticks made s o a.0 l.0 n.0.now t e))
+    ride_upheld made (asks {s} e) a l n o = upheld_at made s o n.now
+
+-- the keys of a hand stay along a ride
+
+settled_next : (source : Source) (ks : List ℕ) (s : State) → Settled ks s → StepHolding ks (quiet source s)
+settled_next source ks s (inl h) = law_steps.settled source ks s h
+settled_next source ks s (inr h) = law_steps.bound source ks s h
+
+ride_keys : (source : Source) (ks : List ℕ) {s u : State} {q k : ℕ} {a : Asked} (r : Rides source s q u k a) → Settled ks s → keys u.env.hand ≡ ks
+ride_keys source ks (slices {s}) h = settled_keys ks s h
+ride_keys source ks (goes_on {s} e r) h = ride_keys source ks r (inl (subst (StepHolding ks) e (settled_next source ks s h)))
+ride_keys source ks (ticks {s} e r) h = ride_keys source ks r (inl (subst (StepHolding ks) e (settled_next source ks s h)))
+ride_keys source ks (asks {s} {t} {q} {r} e) h =
+    let z : StepHolding ks (Asks r t) = subst (StepHolding ks) e (settled_next source ks s h) in z.env.keys_are
+
+module _ (source : Source) (input : List ℕ) (opts : Options) (range : InRange opts) {j : Journal} {w : World} (r : Runs source input opts j w) (fits : RunFits source input opts j w r) (on : is_over j ≡ false) (p u n : ℕ) (s : State) (q : Asked) (d : AsksIn source opts j w p u n s q) where
+  rests : RunRests source input opts j w
+  rests = run_rests source input opts range r fits on
+
+  births_to : MadeLaterTo source input opts j w r p u n s q d
+  births_to =
+      let y = births.run_made source input opts range r fits on in
+      let z = births.ridden source (at_hand j w u) y.serials d.rides (start source input opts range rests on y.serials y.world p u d.runs d.given d.told) y.births in
+      record {
+        makers = z.births;
+        made = run_more source (MakesBelow source y.serials y.births) (MakesLater source z.births) (λ s h. (births.makes_more source y.serials z.now z.grows.more y.births z.births z.keeps s h).later) opts input r y.makes;
+        spawned = births.run_spawns_told source input opts range z.now z.births r (births.run_spawns_more source input opts range y.serials z.now z.grows.more y.births z.births z.keeps r y.spawns);
+        rides = ride_more source (MakesBelow source z.now z.births) (MakesLater source z.births) (λ s h. h.later) d.rides z.makes;
+      }
+
+  module _ (leaves : RunLeaves source input opts j w r) (spares : RunMeets names.Spares source input opts j w r) (mains : RunMeets (CallsNoMain source) source input opts j w r) (spared : RideMeets names.Spares source (answered source d.given (drawn j w u)) (left opts j u) s n q d.rides) (mained : RideMeets (CallsNoMain source) source (answered source d.given (drawn j w u)) (left opts j u) s n q d.rides) (b : MadeLaterTo source input opts j w r p u n s q d) (before : Exec → List Placed) (asked : Exec → Bool) (kept : RunKeeps (with_before before b.makers) asked source input opts r) (keeps : RideKeeps (with_before before b.makers) asked source (run_made source input opts r) d.rides) where
+    abbrev all_later : AllMadeLater source input opts j w r
+    all_later = record { makers = b.makers; made = b.made; spawned = b.spawned }
+
+    -- who runs has its name alone, along the way
+    pub owns : RideMeets (StaysOwn source j w u) source (answered source d.given (drawn j w u)) (left opts j u) s n q d.rides
+    owns =
+        let y = run_named source input opts range r fits on in
+        let x = run_runs source input opts range r fits on leaves spares in
+        let e = own_start source input opts range rests on u d.given d.told in
+        (ride_owns source j w u e.hand e.once y.serials d.rides (begins_alone source input opts range rests on y.serials y.world x p u d.runs d.given d.told) e.settled spared).0
+
+    ends : RideMeets (EndsMains source) source (answered source d.given (drawn j w u)) (left opts j u) s n q d.rides
+    ends = (law_mains.runs source input opts (j ++ act opts source.sites input j p u n q) (world_after source (act opts source.sites input j p u n q) w u s) (more r on (acts p u n s q d)) (mains, mained)).1
+
+    outlasts_along : RideOutlasts (with_before before b.makers) asked source (run_made source input opts r) d.rides
+    outlasts_along =
+        let y = outlast_names.run_told b.makers before asked source input opts range r fits on leaves spares b.made b.spawned in
+        let t = outlast_names.ride_told b.makers before asked source j w u y.serials (run_made source input opts r) d.rides (start source input opts range rests on y.serials y.world p u d.runs d.given d.told) y.below owns b.rides in
+        ride_both (with_before before b.makers) asked source (run_made source input opts r) d.rides ends keeps t.names
+
+    upheld_along : RideMeets (UpheldAt (with_before before b.makers) asked j w u) source (answered source d.given (drawn j w u)) (left opts j u) s n q d.rides
+    upheld_along =
+        let e = own_start source input opts range rests on u d.given d.told in
+        let y = made_runs.run_told source input opts range r fits on in
+        let lt : u < task_count j = known source input opts range rests on y.serials y.world p u d.runs in
+        let h : OutlastWorld (with_before before b.makers) (now (with_before before b.makers) asked (run_made source input opts r)) j w = law_kept_runs asked before source input opts j w r range fits on leaves spares mains (record { makers = b.makers; made = b.made; spawned = b.spawned }) kept in
+        let apart = (law_own_names source input opts j w r range fits on leaves spares).elsewhere u lt in
+        let there = law_made_runs.there source input opts j w r range fits on in
+        let same : e.hand ≡ held u j = sym (ride_keys source e.hand d.rides e.settled) ∙ (asks_with source input opts range rests on p u n s q d).hand in
+        ride_upheld b.makers before asked source j w u e.hand e.once same (run_made source input opts r) h apart there (run_made source input opts r) d.rides outlasts_along b.rides owns (record {
+          state = walking.answered_there (with_before before b.makers) (now (with_before before b.makers) asked (run_made source input opts r)) source d.given (drawn j w u) (outlast.drawn_told b.makers before asked (now (with_before before b.makers) asked (run_made source input opts r)) j w u lt h);
+          serials = y.serials;
+          named = start source input opts range rests on y.serials y.world p u d.runs d.given d.told;
+          settled = e.settled;
+          below = y.all;
+          mine = λ x g f. no_both (run_made source input opts r x) g f;
+          grown = λ x g. g;
+          later = law_made_runs.later source input opts j w r (record { makers = b.makers; made = b.made; spawned = b.spawned });
+        })
+
+pub law_upheld : LawUpheld
+law_upheld = record {
+  births = λ source input opts j w r range fits on p u n s q d. births_to source input opts range r fits on p u n s q d;
+  upheld = λ asked before source input opts j w r range fits on leaves spares mains p u n s q d spared mained b kept keeps.
+      upheld_along source input opts range r fits on p u n s q d leaves spares mains spared mained b before asked kept keeps;
+}

@@ -1,0 +1,5 @@
+pub mod OwnThis
+pub mod ThisRuns
+pub mod NoOthers
+pub mod Upheld
+pub mod BeforeRides
