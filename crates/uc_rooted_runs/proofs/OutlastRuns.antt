@@ -209,7 +209,7 @@ module _ (whole : Makers) (before : Outside) (asked : Exec → Bool) where
         by true e = e
         by false e = absurd (f x (born x h e))
 
-    step_goes : (u : State) → quiet.quiet source s ≡ Goes u → HeldState source (seating makers) (now makers asked (made_behind source s made)) u
+    pub step_goes : (u : State) → quiet.quiet source s ≡ Goes u → HeldState source (seating makers) (now makers asked (made_behind source s made)) u
     step_goes u e = by (now makers asked (made_behind source s made) (new_exec (home_at s.run.this s.env) s.env)) refl (now makers asked made (new_exec (home_at s.run.this s.env) s.env)) refl
       where
         y : HeldState source (seating makers) (now makers asked made) u
@@ -237,7 +237,7 @@ module _ (whole : Makers) (before : Outside) (asked : Exec → Bool) where
             still x h true f = f
             still x h false f = no_both (now makers asked (made_behind source s made) (new_exec (home_at s.run.this s.env) s.env)) (ap (now makers asked (made_behind source s made)) (sym (born x h f).named) ∙ h) g
 
-    step_ticks : (u : State) → quiet.quiet source s ≡ Ticks u → HeldAsked source (seating makers) (now makers asked (made_behind source s made)) JustGo u
+    pub step_ticks : (u : State) → quiet.quiet source s ≡ Ticks u → HeldAsked source (seating makers) (now makers asked (made_behind source s made)) JustGo u
     step_ticks u e =
         asked_fewer source (seating makers) (now makers asked made) (now makers asked (made_behind source s made)) JustGo u (subst (HeldStep source (seating makers) (now makers asked made)) e stepped) (same_asked (λ x b. goes_only source s u x b e))
 
@@ -277,16 +277,16 @@ module _ (whole : Makers) (before : Outside) (asked : Exec → Bool) where
 
   module _ (source : Source) where
     -- whoever rests, having asked for an answer of this form
-    abbrev Rests : (Exec → Bool) → Form → State → Type 0
+    abbrev pub Rests : (Exec → Bool) → Form → State → Type 0
     Rests up form s = (y : Exec) → up y ≡ true → makers.parent y ≡ s.env.exec → SoonAsked source (makers.seat y) (makers.before y) s.env.exec form s.run s.callers
 
-    abbrev Slot : (Exec → Bool) → Exec → parked.Ex → Type 0
+    abbrev pub Slot : (Exec → Bool) → Exec → parked.Ex → Type 0
     Slot up n y = HeldEx source (seating makers) up n y
 
-    record HeldWorld (up : Exec → Bool) (j : Journal) (x : World) : Type 0 where
-      stacks : (u : ℕ) → u < task_count j → has_ended u j ≡ false → Rests up (asked_form u j) (x.tasks u)
-      tasks : (u : ℕ) → EnvBy (Slot up) (x.tasks u).env
-      homes : (o : ℕ) → MembersBy (Slot up) (home.Object o) (x.homes o)
+    pub record HeldWorld (up : Exec → Bool) (j : Journal) (x : World) : Type 0 where
+      pub stacks : (u : ℕ) → u < task_count j → has_ended u j ≡ false → Rests up (asked_form u j) (x.tasks u)
+      pub tasks : (u : ℕ) → EnvBy (Slot up) (x.tasks u).env
+      pub homes : (o : ℕ) → MembersBy (Slot up) (home.Object o) (x.homes o)
 
     with_hand_told : (up : Exec → Bool) (o : ℕ) (m : Option Members) (hand : List (ℕ × Members)) → MembersBy (Slot up) (home.Object o) m → HandBy (Slot up) hand → HandBy (Slot up) (with_home o m hand)
     with_hand_told up o None hand h k = k
@@ -296,7 +296,7 @@ module _ (whole : Makers) (before : Outside) (asked : Exec → Bool) where
     hand_told up [] homes h = tt
     hand_told up (o ∷ os) homes h = with_hand_told up o (homes o) (hand_of os homes) (h o) (hand_told up os homes h)
 
-    drawn_told : (up : Exec → Bool) (j : Journal) (w : World) (t : ℕ) → t < task_count j → has_ended t j ≡ false → HeldWorld up j w → HeldAsked source (seating makers) up (asked_form t j) (drawn j w t)
+    pub drawn_told : (up : Exec → Bool) (j : Journal) (w : World) (t : ℕ) → t < task_count j → has_ended t j ≡ false → HeldWorld up j w → HeldAsked source (seating makers) up (asked_form t j) (drawn j w t)
     drawn_told up j w t l e h = record {
       soon = h.stacks t l e;
       env = record { house = (h.tasks t).house; hand = hand_told up (held t j) w.homes h.homes };
@@ -424,7 +424,7 @@ module _ (whole : Makers) (before : Outside) (asked : Exec → Bool) where
         no_one : (x : Exec) → now makers asked (λ x. false) x ≡ true → ⊥
         no_one x h = let e = now_made (λ x. false) x h in absurd (cc)
 
-    run_outlasts : {j : Journal} {w : World} (r : Runs source input opts j w) → RunFits source input opts j w r → is_over j ≡ false → RunOutlasts makers asked source input opts r → RunMeets (MakesLater source whole) source input opts j w r → RunSpawnsLater whole source input opts j w r → HeldWorld source (now makers asked (run_made source input opts r)) j w
+    pub run_outlasts : {j : Journal} {w : World} (r : Runs source input opts j w) → RunFits source input opts j w r → is_over j ≡ false → RunOutlasts makers asked source input opts r → RunMeets (MakesLater source whole) source input opts j w r → RunSpawnsLater whole source input opts j w r → HeldWorld source (now makers asked (run_made source input opts r)) j w
     run_outlasts begun f on o ml sl = outlast_begin
     run_outlasts (more {j} {w} r going (gives p t v le)) f on o ml sl = outlast_given (now makers asked (run_made source input opts r)) j w p t (run_outlasts r f.0 going o.0 ml.0 sl.0)
     run_outlasts (more {j} r going (no_room p t v le)) f on o ml sl = no_both (is_over (j ++ lone_limit ∷ [])) (over_limit j 0 0) on
@@ -449,6 +449,25 @@ module _ (whole : Makers) (before : Outside) (asked : Exec → Bool) where
       tasks = λ u. both_env (Slot source up) (Slot source up) (OutlastEx makers up) (λ n y k l. slot_ends up n y k) (w.tasks u).env (h.tasks u) (h.tasks u);
       homes = λ o. both_members (Slot source up) (Slot source up) (OutlastEx makers up) (λ n y k l. slot_ends up n y k) (home.Object o) (w.homes o) (h.homes o) (h.homes o);
     }
+
+-- so it is of a state, and of those that have made none meanwhile
+module _ (makers : Makers) (up : Exec → Bool) where
+  pub state_ends : (source : Source) (s : State) → HeldState source (seating makers) up s → Outlasts makers up s.env.exec (s.run ∷ s.callers)
+  state_ends source s h x u p = by (h.soon x u p)
+    where
+      by : SoonHere source (makers.seat x) (makers.before x) s.env.exec s → Ends (makers.before x) (stacked (s.run ∷ s.callers))
+      by (zero, k) = soon_ends source (makers.seat x) (makers.before x) s.env.exec s.run s.callers k
+      by (suc k, g) = g.1
+
+  pub env_ends : (source : Source) (e : Env) → EnvBy (HeldEx source (seating makers) up) e → EnvBy (OutlastEx makers up) e
+  env_ends source e h = both_env (HeldEx source (seating makers) up) (HeldEx source (seating makers) up) (OutlastEx makers up) (λ n y k l x u p. held_ends source (makers.seat x) (makers.before x) n (y.run ∷ y.callers) (k x u p)) e h h
+
+  pub ends_more : (other : Exec → Bool) (n : Exec) (cs : List Active) → ((x : Exec) → other x ≡ true → up x ≡ false → makers.parent x ≡ n → ⊥) → Outlasts makers up n cs → Outlasts makers other n cs
+  ends_more other n cs f h x u p = by (up x) refl
+    where
+      by : (b : Bool) → up x ≡ b → Ends (makers.before x) (stacked cs)
+      by true e = h x e p
+      by false e = absurd (f x u e p)
 
 pub law_outlast_runs : LawOutlastRuns
 law_outlast_runs asked before source input opts j w r range fits on b o =
