@@ -33,7 +33,7 @@ use Rattle.uc_unmarked_laws.specs.Marks.{Marked, Free, Outward, Lone, AllLone, L
 use Rattle.uc_unmarked_laws.proofs.Walk.{law_steps}
 use Rattle.uc_unmarked_laws.proofs.Worlds.{law_runs}
 use Rattle.uc_apart_laws.specs.Before.{Before, BeforeAt, NowhereBefore}
-use Rattle.uc_rooted_runs.specs.Makers.{Placed}
+use Rattle.uc_rooted_runs.specs.Makers.{Outside}
 use Rattle.uc_rooted_runs.specs.Binds.{BindsOwn}
 use Rattle.uc_rooted_runs.specs.FreshStates.{FreshEnv, FreshStep, KeepsFresh}
 use Rattle.uc_rooted_runs.specs.MainRuns.{EndsMains}

@@ -25,7 +25,7 @@ use Rattle.uc_unmarked_laws.proofs.Own.{law_own}
 use Rattle.uc_apart_laws.specs.Clear.{NotMaking, IsNoHome}
 use Rattle.uc_apart_laws.specs.Nowhere.{IsNowhere, SparesBy, SparesEx}
 use Rattle.uc_apart_laws.proofs.Nowhere.{law_nowhere}
-use Rattle.uc_rooted_runs.specs.Makers.{Placed, placed}
+use Rattle.uc_cover_laws.specs.Placed.{Placed, placed}
 use Rattle.uc_rooted_runs.specs.FreshStates.{FreshBy, FreshEx}
 use Rattle.uc_making_laws.specs.OwnThis.{HasHome, Has, ThisStack, ThisEx}
 use Rattle.uc_making_laws.specs.ThisRuns.{ThisWorld}

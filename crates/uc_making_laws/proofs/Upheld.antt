@@ -44,26 +44,30 @@ use Rattle.uc_own_names.specs.OwnNames.{at_hand, IsOwn, StaysOwn, IsElsewhere}
 use Rattle.uc_own_names.proofs.OwnNamesLemmas.{law_own_names}
 use Rattle.uc_own_names.proofs.OwnRides.{Settled, ride_owns, start as own_start}
 use Rattle.uc_apart_laws.specs.Before.{world_at}
-use Rattle.uc_rooted_runs.specs.Makers.{Placed, Makers}
+use Rattle.uc_rooted_runs.specs.Makers.{Outside, Makers, seating}
 use Rattle.uc_rooted_runs.specs.Births.{MakesLater, AllMadeLater}
 use Rattle.uc_rooted_runs.specs.Mains.{CallsNoMain}
 use Rattle.uc_rooted_runs.specs.MainRuns.{EndsMains}
-use Rattle.uc_rooted_runs.specs.Outlasting.{Covered, Outlasts, OutlastEx, OutlastState}
+use Rattle.uc_rooted_runs.specs.Outlasting.{Outlasts, OutlastEx}
+use Rattle.uc_cover_laws.specs.Held.{HeldState}
+use Rattle.uc_cover_laws.proofs.HeldLaws.{law_held}
+use Rattle.uc_answer_laws.specs.Suiting.{asked_form}
+use Rattle.uc_answer_laws.proofs.Runs.{law_suiting}
+use Rattle.uc_program_laws.proofs.Alive.{law_alive}
+use Rattle.uc_acts.specs.Known.{has_ended}
 use Rattle.uc_rooted_runs.specs.OutlastRuns.{with_before, made_behind, run_made, now, OutlastsAt, RideOutlasts}
 use Rattle.uc_rooted_runs.specs.Upwards.{OutlastWorld}
 use Rattle.uc_rooted_runs.specs.MadeRuns.{IsMade, AllMade}
 use Rattle.uc_rooted_runs.specs.KeptRuns.{RideKeeps, RunKeeps}
 use Rattle.uc_rooted_runs.proofs.Births as births
 use Rattle.uc_rooted_runs.proofs.Births.{MakesBelow}
-use Rattle.uc_rooted_runs.proofs.KeptRuns.{ride_both, law_kept_runs}
+use Rattle.uc_rooted_runs.proofs.KeptRuns.{ride_both, run_both, law_kept_runs}
 use Rattle.uc_rooted_runs.proofs.MadeRuns as made_runs
 use Rattle.uc_rooted_runs.proofs.MadeRuns.{BelowMade, made_grows, step_made, parked_made, law_made_runs}
 use Rattle.uc_rooted_runs.proofs.MainRuns.{law_mains}
 use Rattle.uc_rooted_runs.proofs.OutlastNames as outlast_names
-use Rattle.uc_rooted_runs.proofs.OutlastNames.{born_there}
+use Rattle.uc_rooted_runs.proofs.OutlastNames.{born_there, law_outlast_names}
 use Rattle.uc_rooted_runs.proofs.OutlastRuns as outlast
-use Rattle.uc_rooted_runs.proofs.OutlastWalk as walking
-use Rattle.uc_rooted_runs.proofs.Outlasting.{covered_more}
 use Rattle.uc_making_laws.specs.Upheld.{MadeLaterTo, UpheldAt, LawUpheld}
 
 -- a hand in which each object stands once
@@ -112,14 +116,14 @@ settled_keys ks s (inr h) = h.env.keys_are
 
 -- the world on the way
 
-module _ (whole : Makers) (before : Exec → List Placed) (asked : Exec → Bool) where
+module _ (whole : Makers) (before : Outside) (asked : Exec → Bool) where
   abbrev makers : Makers
   makers = with_before before whole
 
   module _ (source : Source) (j : Journal) (w : World) (u : ℕ) (ks : List ℕ) (once : Once ks) (same : ks ≡ held u j) (first : Exec → Bool) (h : OutlastWorld (with_before before whole) (now (with_before before whole) asked first) j w) (apart : IsElsewhere j w u) (there : AllMade first j w) where
     -- what goes along
     record On (made : Exec → Bool) (v : State) : Type 0 where
-      state : OutlastState (with_before before whole) (now (with_before before whole) asked made) v
+      state : HeldState source (seating (with_before before whole)) (now (with_before before whole) asked made) v
       serials : Home → ℕ
       named : Named (at_hand j w u) false serials v
       settled : Settled ks v
@@ -139,16 +143,16 @@ module _ (whole : Makers) (before : Exec → List Placed) (asked : Exec → Bool
           let at = o.mine x (outlast.now_made whole before asked made x g) new in
           no_both (at_hand j w u m.home) (ap (λ (k : Exec). at_hand j w u k.home) (sym e) ∙ at) away
 
-      old_stack : (x : ℕ) → x < task_count j → (x == u) ≡ false → Outlasts (with_before before whole) (now (with_before before whole) asked made) (w.tasks x).env.exec ((w.tasks x).run ∷ (w.tasks x).callers)
-      old_stack x lt e =
-          covered_more (with_before before whole) (now (with_before before whole) asked first) (now (with_before before whole) asked made) (w.tasks x).env.exec ((w.tasks x).run ∷ (w.tasks x).callers) (λ y g f r. absurd (none_made (w.tasks x).env.exec (apart.running x lt e) y g f r)) (h.stacks x lt)
+      old_stack : (x : ℕ) → x < task_count j → has_ended x j ≡ false → (x == u) ≡ false → Outlasts (with_before before whole) (now (with_before before whole) asked made) (w.tasks x).env.exec ((w.tasks x).run ∷ (w.tasks x).callers)
+      old_stack x lt i e =
+          outlast.ends_more (with_before before whole) (now (with_before before whole) asked first) (now (with_before before whole) asked made) (w.tasks x).env.exec ((w.tasks x).run ∷ (w.tasks x).callers) (λ y g f r. absurd (none_made (w.tasks x).env.exec (apart.running x lt e) y g f r)) (h.stacks x lt i)
 
       abbrev Away : Exec → Execution (List Todo) Value → Type 0
       Away m y = at_hand j w u m.home ≡ false
 
       old_ex : (m : Exec) (y : Execution (List Todo) Value) → at_hand j w u m.home ≡ false → OutlastEx (with_before before whole) (now (with_before before whole) asked first) m y → OutlastEx (with_before before whole) (now (with_before before whole) asked made) m y
       old_ex m y away k =
-          covered_more (with_before before whole) (now (with_before before whole) asked first) (now (with_before before whole) asked made) m (y.run ∷ y.callers) (λ x g f r. absurd (none_made m away x g f r)) k
+          outlast.ends_more (with_before before whole) (now (with_before before whole) asked first) (now (with_before before whole) asked made) m (y.run ∷ y.callers) (λ x g f r. absurd (none_made m away x g f r)) k
 
       old_env : (x : ℕ) → (x == u) ≡ false → EnvBy (OutlastEx (with_before before whole) (now (with_before before whole) asked made)) (w.tasks x).env
       old_env x e =
@@ -171,9 +175,9 @@ module _ (whole : Makers) (before : Exec → List Placed) (asked : Exec → Bool
 
       outlasts : OutlastWorld (with_before before whole) (now (with_before before whole) asked made) j (world_at w u v)
       outlasts = record {
-        stacks = λ x lt. tested (λ (y : State). Outlasts (with_before before whole) (now (with_before before whole) asked made) y.env.exec (y.run ∷ y.callers)) (x == u) v (w.tasks x) (λ e. o.state.stack) (λ e. old_stack x lt e);
-        tasks = λ x. tested (λ (y : State). EnvBy (OutlastEx (with_before before whole) (now (with_before before whole) asked made)) y.env) (x == u) v (w.tasks x) (λ e. o.state.env) (λ e. old_env x e);
-        homes = λ q. or_home (OutlastEx (with_before before whole) (now (with_before before whole) asked made)) q (find q v.env.hand) refl (found_hand (OutlastEx (with_before before whole) (now (with_before before whole) asked made)) q v.env.hand o.state.env.hand) (old_home q);
+        stacks = λ x lt i. tested (λ (y : State). Outlasts (with_before before whole) (now (with_before before whole) asked made) y.env.exec (y.run ∷ y.callers)) (x == u) v (w.tasks x) (λ e. outlast.state_ends (with_before before whole) (now (with_before before whole) asked made) source v o.state) (λ e. old_stack x lt i e);
+        tasks = λ x. tested (λ (y : State). EnvBy (OutlastEx (with_before before whole) (now (with_before before whole) asked made)) y.env) (x == u) v (w.tasks x) (λ e. outlast.env_ends (with_before before whole) (now (with_before before whole) asked made) source v.env o.state.env) (λ e. old_env x e);
+        homes = λ q. or_home (OutlastEx (with_before before whole) (now (with_before before whole) asked made)) q (find q v.env.hand) refl (found_hand (OutlastEx (with_before before whole) (now (with_before before whole) asked made)) q v.env.hand (outlast.env_ends (with_before before whole) (now (with_before before whole) asked made) source v.env o.state.env).hand) (old_home q);
       }
 
       -- all that are there were made by now
@@ -239,7 +243,7 @@ module _ (whole : Makers) (before : Exec → List Placed) (asked : Exec → Bool
             by (inl k) = law_steps.settled source ks v k
             by (inr k) = law_steps.bound source ks v k
 
-        on_with : (x : State) → OutlastState (with_before before whole) (now (with_before before whole) asked (made_behind source v made)) x → ((k : Home → ℕ) → StepNamed (at_hand j w u) false k (quiet source v) → Named (at_hand j w u) false k x) → (StepHolding ks (quiet source v) → Settled ks x) → On (made_behind source v made) x
+        on_with : (x : State) → HeldState source (seating (with_before before whole)) (now (with_before before whole) asked (made_behind source v made)) x → ((k : Home → ℕ) → StepNamed (at_hand j w u) false k (quiet source v) → Named (at_hand j w u) false k x) → (StepHolding ks (quiet source v) → Settled ks x) → On (made_behind source v made) x
         on_with x st f s =
             let b = walk source (at_hand j w u) false o.serials v o.named (λ u. vacuous u) in
             record {
@@ -259,7 +263,7 @@ module _ (whole : Makers) (before : Exec → List Placed) (asked : Exec → Bool
 
         on_ticks : (x : State) → quiet source v ≡ Ticks x → On (made_behind source v made) x
         on_ticks x e =
-            on_with x (outlast.step_ticks whole before asked source made v o.state a l x e) (λ k z. subst (StepNamed (at_hand j w u) false k) e z) (λ z. inl (subst (StepHolding ks) e z))
+            on_with x (law_held.goes_on source (seating (with_before before whole)) (now (with_before before whole) asked (made_behind source v made)) x (outlast.step_ticks whole before asked source made v o.state a l x e)) (λ k z. subst (StepNamed (at_hand j w u) false k) e z) (λ z. inl (subst (StepHolding ks) e z))
 
     ride_upheld : (made : Exec → Bool) {s v : State} {q k : ℕ} {a : Asked} (r : Rides source s q v k a) → RideOutlasts (with_before before whole) asked source made r → RideMeets (MakesLater source whole) source s q v k a r → RideMeets (StaysOwn source j w u) source s q v k a r → On made s → RideMeets (UpheldAt (with_before before whole) asked j w u) source s q v k a r
     ride_upheld made slices a l n o = tt
@@ -297,7 +301,7 @@ module _ (source : Source) (input : List ℕ) (opts : Options) (range : InRange 
         rides = ride_more source (MakesBelow source z.now z.births) (MakesLater source z.births) (λ s h. h.later) d.rides z.makes;
       }
 
-  module _ (leaves : RunLeaves source input opts j w r) (spares : RunMeets names.Spares source input opts j w r) (mains : RunMeets (CallsNoMain source) source input opts j w r) (spared : RideMeets names.Spares source (answered source d.given (drawn j w u)) (left opts j u) s n q d.rides) (mained : RideMeets (CallsNoMain source) source (answered source d.given (drawn j w u)) (left opts j u) s n q d.rides) (b : MadeLaterTo source input opts j w r p u n s q d) (before : Exec → List Placed) (asked : Exec → Bool) (kept : RunKeeps (with_before before b.makers) asked source input opts r) (keeps : RideKeeps (with_before before b.makers) asked source (run_made source input opts r) d.rides) where
+  module _ (leaves : RunLeaves source input opts j w r) (spares : RunMeets names.Spares source input opts j w r) (mains : RunMeets (CallsNoMain source) source input opts j w r) (spared : RideMeets names.Spares source (answered source d.given (drawn j w u)) (left opts j u) s n q d.rides) (mained : RideMeets (CallsNoMain source) source (answered source d.given (drawn j w u)) (left opts j u) s n q d.rides) (b : MadeLaterTo source input opts j w r p u n s q d) (before : Outside) (asked : Exec → Bool) (kept : RunKeeps (with_before before b.makers) asked source input opts r) (keeps : RideKeeps (with_before before b.makers) asked source (run_made source input opts r) d.rides) where
     abbrev all_later : AllMadeLater source input opts j w r
     all_later = record { makers = b.makers; made = b.made; spawned = b.spawned }
 
@@ -324,11 +328,12 @@ module _ (source : Source) (input : List ℕ) (opts : Options) (range : InRange 
         let y = made_runs.run_told source input opts range r fits on in
         let lt : u < task_count j = known source input opts range rests on y.serials y.world p u d.runs in
         let h : OutlastWorld (with_before before b.makers) (now (with_before before b.makers) asked (run_made source input opts r)) j w = law_kept_runs asked before source input opts j w r range fits on leaves spares mains (record { makers = b.makers; made = b.made; spawned = b.spawned }) kept in
+        let held_world = outlast.run_outlasts b.makers before asked source input opts range r fits on (run_both (with_before before b.makers) asked source input opts r (law_mains.runs source input opts j w r mains) kept (law_outlast_names asked before source input opts j w r range fits on leaves spares (record { makers = b.makers; made = b.made; spawned = b.spawned }))) b.made b.spawned in
         let apart = (law_own_names source input opts j w r range fits on leaves spares).elsewhere u lt in
         let there = law_made_runs.there source input opts j w r range fits on in
         let same : e.hand ≡ held u j = sym (ride_keys source e.hand d.rides e.settled) ∙ (asks_with source input opts range rests on p u n s q d).hand in
         ride_upheld b.makers before asked source j w u e.hand e.once same (run_made source input opts r) h apart there (run_made source input opts r) d.rides outlasts_along b.rides owns (record {
-          state = walking.answered_there (with_before before b.makers) (now (with_before before b.makers) asked (run_made source input opts r)) source d.given (drawn j w u) (outlast.drawn_told b.makers before asked (now (with_before before b.makers) asked (run_made source input opts r)) j w u lt h);
+          state = law_held.goes_on source (seating (with_before before b.makers)) (now (with_before before b.makers) asked (run_made source input opts r)) (answered source d.given (drawn j w u)) (law_held.told source (seating (with_before before b.makers)) (now (with_before before b.makers) asked (run_made source input opts r)) (asked_form u j) d.given (drawn j w u) (law_suiting opts source.sites input j rests.kernel on u d.given d.told) (outlast.drawn_told b.makers before asked source (now (with_before before b.makers) asked (run_made source input opts r)) j w u lt (law_alive opts source.sites input j rests.kernel on p u d.runs) held_world));
           serials = y.serials;
           named = start source input opts range rests on y.serials y.world p u d.runs d.given d.told;
           settled = e.settled;

@@ -22,7 +22,7 @@ use Rattle.uc_unmarked_laws.specs.Marks.{Puts}
 use Rattle.uc_world_laws.specs.Rooted.{Lives, Yet, OwnObject}
 use Rattle.uc_apart_laws.specs.Before.{world_at, Before}
 use Rattle.uc_apart_laws.specs.Clear.{IsClearAt}
-use Rattle.uc_rooted_runs.specs.Makers.{Placed, Makers}
+use Rattle.uc_rooted_runs.specs.Makers.{Outside, Makers}
 use Rattle.uc_rooted_runs.specs.Binds.{BindsOwn}
 use Rattle.uc_rooted_runs.specs.Mains.{CallsNoMain, FindsAll}
 use Rattle.uc_rooted_runs.specs.OutlastRuns.{with_before, run_made}
@@ -74,7 +74,7 @@ LawBeforeRides =
     RideMeets (FindsAll source) source (answered source d.given (drawn j w u)) (left opts j u) s n q d.rides →
     RideMeets (Puts t few) source (answered source d.given (drawn j w u)) (left opts j u) s n q d.rides →
     RideMeets (FindsThis t few source) source (answered source d.given (drawn j w u)) (left opts j u) s n q d.rides →
-    (b : MadeLaterTo source input opts j w r p u n s q d) (asked : Exec → Bool) (before : Exec → List Placed) →
+    (b : MadeLaterTo source input opts j w r p u n s q d) (asked : Exec → Bool) (before : Outside) →
     RunKeeps (with_before before b.makers) asked source input opts r →
     RideKeeps (with_before before b.makers) asked source (run_made source input opts r) d.rides →
     RideMeets (λ v. RootedOnWay t few own yet (with_before before b.makers) asked j w u v source) source (answered source d.given (drawn j w u)) (left opts j u) s n q d.rides →

@@ -17,7 +17,7 @@ use Rattle.uc_name_laws.specs.NameSteps as names
 use Rattle.uc_named_runs.specs.RunningRuns.{RunLeaves}
 use Rattle.uc_own_names.specs.OwnNames.{IsOwn}
 use Rattle.uc_apart_laws.specs.Before.{world_at}
-use Rattle.uc_rooted_runs.specs.Makers.{Placed, Makers}
+use Rattle.uc_rooted_runs.specs.Makers.{Outside, Makers}
 use Rattle.uc_rooted_runs.specs.Births.{MakesLater, RunSpawnsLater}
 use Rattle.uc_rooted_runs.specs.Mains.{CallsNoMain}
 use Rattle.uc_rooted_runs.specs.OutlastRuns.{with_before, run_made, now}
@@ -50,7 +50,7 @@ pub record LawUpheld : Type 0 where
       (r : Runs source input opts j w) → InRange opts → RunFits source input opts j w r → is_over j ≡ false →
       (p u n : ℕ) (s : State) (q : Asked) (d : AsksIn source opts j w p u n s q) →
       MadeLaterTo source input opts j w r p u n s q d
-  pub upheld : (asked : Exec → Bool) (before : Exec → List Placed) (source : Source) (input : List ℕ) (opts : Options)
+  pub upheld : (asked : Exec → Bool) (before : Outside) (source : Source) (input : List ℕ) (opts : Options)
       (j : Journal) (w : World) (r : Runs source input opts j w) → InRange opts → RunFits source input opts j w r →
       is_over j ≡ false → RunLeaves source input opts j w r → RunMeets names.Spares source input opts j w r →
       RunMeets (CallsNoMain source) source input opts j w r →

@@ -18,7 +18,8 @@ use Rattle.uc_machine.specs.declared.exec.Home.{Home}
 use Rattle.uc_machine.specs.declared.exec.Home.TheVariants as home
 use Rattle.uc_machine.specs.Executions.{exec_eq, members_at}
 use Rattle.uc_machine.specs.Switches.{new_exec}
-use Rattle.uc_machine.specs.Pieces.{State, Members, Asks}
+use Rattle.uc_machine.specs.Pieces as piece
+use Rattle.uc_machine.specs.Pieces.{Value, State, Members, Asks}
 use Rattle.uc_machine.specs.Quiet.{home_at}
 use Rattle.uc_machine.specs.Answering.{answered}
 use Rattle.uc_machine.specs.Rides.{Rides, slices, goes_on, ticks, asks}
@@ -41,14 +42,16 @@ use Rattle.uc_named_runs.specs.NamedRuns.{is_here}
 use Rattle.uc_named_runs.proofs.Owned.{owner_still}
 use Rattle.uc_named_runs.proofs.Riding.{RideNamed, run_more, ride_more, grows_not}
 use Rattle.uc_named_runs.proofs.Worlds.{WorldNamed, run_named, named_act, found_none, vacuous, known, start, ride, after_by, after_more, now_more, own_stays}
-use Rattle.uc_rooted_runs.specs.Makers.{Placed, stacked, Makers, MadeBy}
+use Rattle.uc_cover_laws.specs.Placed.{Placed, stacked}
+use Rattle.uc_rooted_runs.specs.Makers.{Makers, MadeBy}
 use Rattle.uc_rooted_runs.specs.Births.{MakesLater, SpawnsLater, MaySpawnLater, RunSpawnsLater, LawBirths}
 
 -- one more is made by another
 
-abbrev made_now : Makers → Exec → Exec → List Placed → Makers
-made_now b n by ps = record {
+abbrev made_now : Makers → Exec → Exec → Value → List Placed → Makers
+made_now b n by v ps = record {
   parent = λ m. if exec_eq m n then by else b.parent m;
+  seat = λ m. record { place = if exec_eq m n then v else (b.seat m).place; home = λ o. piece.Nothing };
   before = λ m. if exec_eq m n then ps else b.before m;
   rank = λ m. if exec_eq m n then suc (b.rank by) else b.rank m;
 }
@@ -56,15 +59,17 @@ made_now b n by ps = record {
 -- of those that were made by now the same is told
 pub record Keeps (serials : Home → ℕ) (b c : Makers) : Type 0 where
   pub parents : (m : Exec) → IsBelow serials m → c.parent m ≡ b.parent m
+  pub seats : (m : Exec) → IsBelow serials m → (c.seat m).place ≡ (b.seat m).place
   pub befores : (m : Exec) → IsBelow serials m → c.before m ≡ b.before m
   pub ranks : (m : Exec) → IsBelow serials m → c.rank m ≡ b.rank m
 
 keeps_same : (serials : Home → ℕ) (b : Makers) → Keeps serials b b
-keeps_same serials b = record { parents = λ m h. refl; befores = λ m h. refl; ranks = λ m h. refl }
+keeps_same serials b = record { parents = λ m h. refl; seats = λ m h. refl; befores = λ m h. refl; ranks = λ m h. refl }
 
 keeps_on : (before behind : Home → ℕ) → ((h : Home) → before h ≤ behind h) → (a b c : Makers) → Keeps before a b → Keeps behind b c → Keeps before a c
 keeps_on before behind le a b c h k = record {
   parents = λ m x. k.parents m (below_more before behind le m x) ∙ h.parents m x;
+  seats = λ m x. k.seats m (below_more before behind le m x) ∙ h.seats m x;
   befores = λ m x. k.befores m (below_more before behind le m x) ∙ h.befores m x;
   ranks = λ m x. k.ranks m (below_more before behind le m x) ∙ h.ranks m x;
 }
@@ -72,11 +77,12 @@ keeps_on before behind le a b c h k = record {
 keeps_less : (before behind : Home → ℕ) → ((h : Home) → before h ≤ behind h) → (b c : Makers) → Keeps behind b c → Keeps before b c
 keeps_less before behind le b c k = record {
   parents = λ m x. k.parents m (below_more before behind le m x);
+  seats = λ m x. k.seats m (below_more before behind le m x);
   befores = λ m x. k.befores m (below_more before behind le m x);
   ranks = λ m x. k.ranks m (below_more before behind le m x);
 }
 
-module _ (serials : Home → ℕ) (b : Makers) (n by : Exec) (ps : List Placed) (new : IsBelow serials n → ⊥) where
+module _ (serials : Home → ℕ) (b : Makers) (n by : Exec) (v : Value) (ps : List Placed) (new : IsBelow serials n → ⊥) where
   apart : (m : Exec) → IsBelow serials m → exec_eq m n ≡ false
   apart m h = at (exec_eq m n) refl
     where
@@ -84,30 +90,32 @@ module _ (serials : Home → ℕ) (b : Makers) (n by : Exec) (ps : List Placed) 
       at true e = absurd (new (subst (IsBelow serials) (same_exec m n e) h))
       at false e = e
 
-  made_keeps : Keeps serials b (made_now b n by ps)
+  made_keeps : Keeps serials b (made_now b n by v ps)
   made_keeps = record {
     parents = λ m h. ap (λ c. if c then by else b.parent m) (apart m h);
+    seats = λ m h. ap (λ c. if c then v else (b.seat m).place) (apart m h);
     befores = λ m h. ap (λ c. if c then ps else b.before m) (apart m h);
     ranks = λ m h. ap (λ c. if c then suc (b.rank by) else b.rank m) (apart m h);
   }
 
-  made_by : IsBelow serials by → MadeBy (made_now b n by ps) n by ps
+  made_by : IsBelow serials by → MadeBy (made_now b n by v ps) n by v ps
   made_by h =
-      let new_rank : (made_now b n by ps).rank n ≡ suc (b.rank by) = ap (λ c. if c then suc (b.rank by) else b.rank n) (exec_self n) in
-      let old_rank : (made_now b n by ps).rank by ≡ b.rank by = ap (λ c. if c then suc (b.rank by) else b.rank by) (apart by h) in
+      let new_rank : (made_now b n by v ps).rank n ≡ suc (b.rank by) = ap (λ c. if c then suc (b.rank by) else b.rank n) (exec_self n) in
+      let old_rank : (made_now b n by v ps).rank by ≡ b.rank by = ap (λ c. if c then suc (b.rank by) else b.rank by) (apart by h) in
       record {
         parent = ap (λ c. if c then by else b.parent n) (exec_self n);
+        seat = ap (λ c. if c then v else (b.seat n).place) (exec_self n);
         before = ap (λ c. if c then ps else b.before n) (exec_self n);
         later = omega (arith, new_rank, old_rank);
       }
 
 -- what is told of one that was made goes on to be
-later_kept : (serials : Home → ℕ) (b c : Makers) → Keeps serials b c → (n by : Exec) (ps : List Placed) → IsBelow serials n → IsBelow serials by → MadeBy b n by ps → MadeBy c n by ps
-later_kept serials b c k n by ps h i y =
+later_kept : (serials : Home → ℕ) (b c : Makers) → Keeps serials b c → (n by : Exec) (v : Value) (ps : List Placed) → IsBelow serials n → IsBelow serials by → MadeBy b n by v ps → MadeBy c n by v ps
+later_kept serials b c k n by v ps h i y =
     let p = k.ranks n h in
     let q = k.ranks by i in
     let l = y.later in
-    record { parent = k.parents n h ∙ y.parent; before = k.befores n h ∙ y.before; later = omega (arith, p, q, l) }
+    record { parent = k.parents n h ∙ y.parent; seat = k.seats n h ∙ y.seat; before = k.befores n h ∙ y.before; later = omega (arith, p, q, l) }
 
 -- all that a state makes, by one that was made
 pub record MakesBelow (source : Source) (serials : Home → ℕ) (b : Makers) (s : State) : Type 0 where
@@ -119,7 +127,7 @@ pub makes_more : (source : Source) (before behind : Home → ℕ) → ((h : Home
 makes_more source before behind le b c k s h = record {
   running = below_more before behind le s.env.exec h.running;
   born = λ n x. below_more before behind le n (h.born n x);
-  later = λ n x. later_kept before b c k n s.env.exec (stacked (s.run ∷ s.callers)) (h.born n x) h.running (h.later n x);
+  later = λ n x. later_kept before b c k n s.env.exec s.run.this (stacked (s.run ∷ s.callers)) (h.born n x) h.running (h.later n x);
 }
 
 grows_on : (here : Home → Bool) (a b c : Home → ℕ) → Grows here a b → Grows here b c → Grows here a c
@@ -161,12 +169,12 @@ module _ (source : Source) (here : Home → Bool) where
       by (Some m) e =
           let new : IsBelow serials (new_exec (home_at s.run.this s.env) s.env) → ⊥ = law_new.unnamed here false serials s k (home_at s.run.this s.env) m e in
           record {
-            births = made_now b (new_exec (home_at s.run.this s.env) s.env) s.env.exec (stacked (s.run ∷ s.callers));
-            keeps = made_keeps serials b (new_exec (home_at s.run.this s.env) s.env) s.env.exec (stacked (s.run ∷ s.callers)) new;
+            births = made_now b (new_exec (home_at s.run.this s.env) s.env) s.env.exec s.run.this (stacked (s.run ∷ s.callers));
+            keeps = made_keeps serials b (new_exec (home_at s.run.this s.env) s.env) s.env.exec s.run.this (stacked (s.run ∷ s.callers)) new;
             makes = record {
               running = grown s.env.exec k.names.env_named.exec_below;
               born = h.born;
-              later = λ n x. subst (λ q. MadeBy (made_now b (new_exec (home_at s.run.this s.env) s.env) s.env.exec (stacked (s.run ∷ s.callers))) q s.env.exec (stacked (s.run ∷ s.callers))) (sym x.named) (made_by serials b (new_exec (home_at s.run.this s.env) s.env) s.env.exec (stacked (s.run ∷ s.callers)) new k.names.env_named.exec_below);
+              later = λ n x. subst (λ q. MadeBy (made_now b (new_exec (home_at s.run.this s.env) s.env) s.env.exec s.run.this (stacked (s.run ∷ s.callers))) q s.env.exec s.run.this (stacked (s.run ∷ s.callers))) (sym x.named) (made_by serials b (new_exec (home_at s.run.this s.env) s.env) s.env.exec s.run.this (stacked (s.run ∷ s.callers)) new k.names.env_named.exec_below);
             };
           }
 
@@ -238,11 +246,11 @@ module _ (source : Source) (input : List ℕ) (opts : Options) (range : InRange 
       let none = f o refl in
       let new : IsBelow now (main_of o) → ⊥ = λ l. omega (arith, l, none) in
       record {
-        births = made_now b (main_of o) s.env.exec (stacked (s.run ∷ s.callers));
-        keeps = made_keeps now b (main_of o) s.env.exec (stacked (s.run ∷ s.callers)) new;
+        births = made_now b (main_of o) s.env.exec (piece.Object o) (stacked (s.run ∷ s.callers));
+        keeps = made_keeps now b (main_of o) s.env.exec (piece.Object o) (stacked (s.run ∷ s.callers)) new;
         running = below_more now (after_by (ask.Spawn o) now) (after_more (ask.Spawn o) now) s.env.exec h;
         main = λ k e. let one = one_main (ask.Spawn o) now k e in omega (arith, one);
-        later = made_by now b (main_of o) s.env.exec (stacked (s.run ∷ s.callers)) new h;
+        later = made_by now b (main_of o) s.env.exec (piece.Object o) (stacked (s.run ∷ s.callers)) new h;
       }
   spawned now q s h f b = record {
     births = b;
@@ -266,7 +274,7 @@ module _ (source : Source) (input : List ℕ) (opts : Options) (range : InRange 
   }
     where
       by : (q : Request) → ((o : ℕ) → q ≡ ask.Spawn o → IsBelow before (main_of o)) → SpawnsLater b q s → SpawnsLater c q s
-      by (ask.Spawn o) m l = later_kept before b c k (main_of o) s.env.exec (stacked (s.run ∷ s.callers)) (m o refl) h.running l
+      by (ask.Spawn o) m l = later_kept before b c k (main_of o) s.env.exec (piece.Object o) (stacked (s.run ∷ s.callers)) (m o refl) h.running l
       by q m l = tt
 
   abbrev pub MaySpawnBelow : (serials : Home → ℕ) (b : Makers) {j : Journal} {w : World} {a : List Entry} {v : World} → May source opts input j w a v → Type 0
@@ -365,7 +373,7 @@ module _ (source : Source) (input : List ℕ) (opts : Options) (range : InRange 
   pub run_made : {j : Journal} {w : World} (r : Runs source input opts j w) → RunFits source input opts j w r → is_over j ≡ false → RunMade r
   run_made begun f on =
       let x = run_named source input opts range begun f on in
-      record { serials = x.serials; world = x.world; births = record { parent = λ m. m; before = λ m. []; rank = λ m. 0 }; makes = tt; spawns = tt }
+      record { serials = x.serials; world = x.world; births = record { parent = λ m. m; seat = λ m. record { place = piece.Nothing; home = λ o. piece.Nothing }; before = λ m. []; rank = λ m. 0 }; makes = tt; spawns = tt }
   run_made (more {j} {w} r o (gives p t v le)) f on =
       let y = run_made r f.0 o in
       record { serials = y.serials; world = named_given y.serials j w p t y.world; births = y.births; makes = (y.makes, tt); spawns = (y.spawns, tt) }

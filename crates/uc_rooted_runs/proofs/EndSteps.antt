@@ -25,11 +25,12 @@ use Rattle.uc_machine.specs.Quiet as quiet
 use Rattle.uc_machine.specs.Pieces as piece
 use Rattle.uc_machine.specs.Pieces.{Value, Number, Place, Running, Object, Nothing, Todo, Sort, Active, State, Env, Members, Step, Goes, Ticks, Asks, Outcome, Gives, Faults, at, top, below, number, nought, written}
 use Rattle.uc_life_laws.proofs.Cells.{either}
-use Rattle.uc_rooted_runs.specs.Makers.{placed, stacked}
-use Rattle.uc_rooted_runs.specs.Mains.{IsBare, MainIn, FindsBy, FindsAll}
+use Rattle.uc_cover_laws.specs.Placed.{placed, stacked}
+use Rattle.uc_cover_laws.specs.Held.{AreLines}
+use Rattle.uc_rooted_runs.specs.Mains.{MainIn, FindsBy, FindsAll}
 
 -- lines alone have no marks
-pub bare_none : (f : ℕ) (this : Value) (todo : List Todo) → IsBare todo → placed f this todo [] ≡ []
+pub bare_none : (f : ℕ) (this : Value) (todo : List Todo) → AreLines todo → placed f this todo [] ≡ []
 bare_none f this [] h = refl
 bare_none f this (piece.Within line ∷ todo) h = bare_none f this todo h
 bare_none f this (p ∷ todo) h = absurd h

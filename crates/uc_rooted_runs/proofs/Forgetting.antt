@@ -34,7 +34,7 @@ use Rattle.uc_life_laws.specs.LifeStates.{SlotBy, ParkedBy, HandBy, MembersBy}
 use Rattle.uc_world_laws.specs.Lasting.{lasting, lasting_numbers, MayForget, RunForgets, ForgetsAt}
 use Rattle.uc_world_laws.specs.Rooted.{IsPlace, FreshKeeps, FreshLast}
 use Rattle.uc_world_laws.proofs.Rooted.{law_rooted}
-use Rattle.uc_rooted_runs.specs.Makers.{Placed, put, placed, stacked}
+use Rattle.uc_cover_laws.specs.Placed.{Placed, put, placed, stacked}
 use Rattle.uc_rooted_runs.specs.FreshStates.{FreshBy, FreshEx, KeepsFresh}
 use Rattle.uc_rooted_runs.specs.FreshRuns.{FreshWorld}
 use Rattle.uc_rooted_runs.proofs.FreshRuns.{run_fresh}

@@ -28,7 +28,7 @@ use Rattle.uc_name_laws.proofs.Homes.{no_both}
 use Rattle.uc_life_laws.specs.LifeStates.{HandBy, MembersBy}
 use Rattle.uc_life_laws.proofs.Cells.{either, tested}
 use Rattle.uc_life_laws.proofs.Parked as parked
-use Rattle.uc_rooted_runs.specs.Makers.{placed, stacked}
+use Rattle.uc_cover_laws.specs.Placed.{placed, stacked}
 use Rattle.uc_rooted_runs.specs.FreshStates.{FreshEx, FreshEnv, FreshStep, KeepsFresh}
 use Rattle.uc_rooted_runs.specs.FreshRuns.{FreshWorld, LawFresh}
 use Rattle.uc_rooted_runs.proofs.EndedTasks.{ended_by}

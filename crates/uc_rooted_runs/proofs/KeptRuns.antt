@@ -30,7 +30,9 @@ use Rattle.uc_life_laws.specs.Things.{Few, Base}
 use Rattle.uc_life_laws.specs.Knowing.{main_of}
 use Rattle.uc_life_laws.specs.LifeStates.{SlotBy, ParkedBy, HandBy, MembersBy}
 use Rattle.uc_world_laws.specs.Rooted.{InSlot, InParked, InHand, InMembers, Lives}
-use Rattle.uc_rooted_runs.specs.Makers.{Makers}
+use Rattle.uc_cover_laws.specs.Ways.{LeavesAt}
+use Rattle.uc_cover_laws.proofs.Ways.{law_ways}
+use Rattle.uc_rooted_runs.specs.Makers.{Outside, Makers, seating}
 use Rattle.uc_rooted_runs.specs.Births.{MakesLater, RunSpawnsLater}
 use Rattle.uc_own_names.specs.OwnNames.{StepOwn, StaysOwn, RunOwns}
 use Rattle.uc_own_names.proofs.OwnNamesLemmas.{run_first, law_own_names}
@@ -38,7 +40,7 @@ use Rattle.uc_rooted_runs.specs.Binds.{BindsOwn}
 use Rattle.uc_rooted_runs.specs.FreshStates.{TakesOthersBy, KeepsFresh}
 use Rattle.uc_rooted_runs.specs.Mains.{FindsAll}
 use Rattle.uc_rooted_runs.specs.MainRuns.{EndsMains}
-use Rattle.uc_rooted_runs.specs.Outlasting.{SparesAt, IsAlone}
+use Rattle.uc_rooted_runs.specs.Outlasting.{IsAlone}
 use Rattle.uc_rooted_runs.specs.OutlastRuns.{with_before, made_behind, ride_made, run_made, now, OutlastsAt, RideOutlasts, SpawnsAlone, MayOutlast, RunOutlasts}
 use Rattle.uc_rooted_runs.specs.OutlastNames.{NamesAt, RideNames, SpawnsNew, MayName, RunNames}
 use Rattle.uc_rooted_runs.specs.Upwards.{IsBased}
@@ -82,16 +84,16 @@ module _ (source : Source) where
       (run_keeps input opts j w r b.0 e.0 a.0 o.0, ride_keeps j w t d.rides b.1 e.1 a.1 o.1.0)
 
 module _ (makers : Makers) (asked : Exec → Bool) where
-  spares : (source : Source) (made : Exec → Bool) (s : State) → EndsMains source s → KeepsAt makers asked (now makers asked made) s.run.control s → NamesAt makers asked source made s → SparesAt makers (now makers asked made) s.run.control s
-  spares source made s f k n = by s.run.control refl k
+  takes_at : (source : Source) (made : Exec → Bool) (s : State) → EndsMains source s → KeepsAt makers asked source (now makers asked made) s.run.control s → NamesAt makers asked source made s → LeavesAt source (seating makers) (now makers asked made) s.run.control s
+  takes_at source made s f k n = by s.run.control refl k
     where
-      by : (l : List Todo) → s.run.control ≡ l → KeepsAt makers asked (now makers asked made) l s → SparesAt makers (now makers asked made) l s
+      by : (l : List Todo) → s.run.control ≡ l → KeepsAt makers asked source (now makers asked made) l s → LeavesAt source (seating makers) (now makers asked made) l s
       by (SetUpNow r ∷ todo) e h = λ m i x u p. n.new r todo e m i x u p
       by (Finish ∷ todo) e h = f.finish todo e
       by l e h = h
 
   at_state : (source : Source) (made : Exec → Bool) (s : State) → EndsMains source s → Keeps makers asked source made s → NamesAt makers asked source made s → OutlastsAt makers asked source made s
-  at_state source made s f k n = record { spares = spares source made s f k.spares n; alone = n.alone; covered = k.covered }
+  at_state source made s f k n = record { takes = law_ways source (seating makers) (now makers asked made) s (takes_at source made s f k.leaves n); alone = n.alone; held = k.held }
 
   pub ride_both : (source : Source) (made : Exec → Bool) {s u : State} {q k : ℕ} {a : Asked} (r : Rides source s q u k a) → RideMeets (EndsMains source) source s q u k a r → RideKeeps makers asked source made r → RideNames makers asked source made r → RideOutlasts makers asked source made r
   ride_both source made slices f h n = tt
@@ -99,15 +101,15 @@ module _ (makers : Makers) (asked : Exec → Bool) where
   ride_both source made (ticks {s} e r) f h n = (at_state source made s f.0 h.0 n.0, ride_both source (made_behind source s made) r f.1 h.1 n.1)
   ride_both source made (asks {s} e) f h n = at_state source made s f h n
 
-  spawns_both : (made : Exec → Bool) (q : Request) (s : State) → SpawnsKept makers asked q s → SpawnsNew makers asked made q s → SpawnsAlone makers asked made q s
-  spawns_both made (ask.Spawn o) s h n = (n.0, n.1, h)
-  spawns_both made q s h n = tt
+  spawns_both : (source : Source) (made : Exec → Bool) (q : Request) (s : State) → SpawnsKept makers asked source q s → SpawnsNew makers asked made q s → SpawnsAlone makers asked source made q s
+  spawns_both source made (ask.Spawn o) s h n = (n.0, n.1, h)
+  spawns_both source made q s h n = tt
 
   module _ (source : Source) (input : List ℕ) (opts : Options) where
     may_both : (made : Exec → Bool) {j : Journal} {w : World} {a : List Entry} {x : World} (m : May source opts input j w a x) → MayMeet (EndsMains source) source opts input j w a x m → MayKeep makers asked source input opts made m → MayName makers asked source input opts made m → MayOutlast makers asked source input opts made m
     may_both made (gives p t s h) f k n = tt
     may_both made (no_room p t s h) f k n = tt
-    may_both made (acts p t i s q d) f k n = (ride_both source made d.rides f k.0 n.0, spawns_both (ride_made source made d.rides) q.request s k.1 n.1, n.2)
+    may_both made (acts p t i s q d) f k n = (ride_both source made d.rides f k.0 n.0, spawns_both source (ride_made source made d.rides) q.request s k.1 n.1, n.2)
 
     pub run_both : {j : Journal} {w : World} (r : Runs source input opts j w) → RunMeets (EndsMains source) source input opts j w r → RunKeeps makers asked source input opts r → RunNames makers asked source input opts r → RunOutlasts makers asked source input opts r
     run_both begun f k n = tt

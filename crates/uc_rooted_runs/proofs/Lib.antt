@@ -4,9 +4,6 @@ pub mod FreshSteps
 pub mod EndedTasks
 pub mod FreshRuns
 pub mod Forgetting
-pub mod OutlastKeeping
-pub mod OutlastSteps
-pub mod OutlastWalk
 pub mod Outlasting
 pub mod Upwards
 pub mod Binds

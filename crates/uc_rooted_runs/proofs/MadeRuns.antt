@@ -18,6 +18,7 @@ use Rattle.uc_machine.specs.declared.exec.Home.{Home}
 use Rattle.uc_machine.specs.declared.exec.Home.TheVariants as home
 use Rattle.uc_machine.specs.Executions.{Execution, home_eq, exec_eq, members_at}
 use Rattle.uc_machine.specs.Switches.{new_exec}
+use Rattle.uc_machine.specs.Pieces as piece
 use Rattle.uc_machine.specs.Pieces.{Value, Todo, SetUpNow, State, Members, Asks}
 use Rattle.uc_machine.specs.Quiet.{home_at, no_members, first_state}
 use Rattle.uc_machine.specs.Answering.{answered}
@@ -41,7 +42,8 @@ use Rattle.uc_own_names.proofs.OwnWorlds.{no_hand, first_env}
 use Rattle.uc_own_names.proofs.OwnNamesLemmas.{run_first}
 use Rattle.uc_life_laws.specs.Knowing.{main_of}
 use Rattle.uc_life_laws.specs.LifeStates.{SlotBy, ParkedBy, HandBy, EnvBy, MembersBy}
-use Rattle.uc_rooted_runs.specs.Makers.{Placed, stacked, Makers, MadeBy}
+use Rattle.uc_cover_laws.specs.Placed.{Placed, stacked}
+use Rattle.uc_rooted_runs.specs.Makers.{Makers, MadeBy}
 use Rattle.uc_rooted_runs.specs.Births.{MakesLater, SpawnsLater, RunSpawnsLater}
 use Rattle.uc_rooted_runs.specs.OutlastRuns.{with_made, made_by, made_behind, ride_made, made_asked, run_made}
 use Rattle.uc_rooted_runs.specs.MadeRuns.{IsMade, AllMade, LawMadeRuns}
@@ -299,8 +301,8 @@ module _ (makers : Makers) where
   abbrev AllLater : (Exec → Bool) → Type 0
   AllLater made = (n : Exec) → made n ≡ true → IsLater n
 
-  later_by : (n by : Exec) (ps : List Placed) → MadeBy makers n by ps → IsLater n
-  later_by n by ps m = subst (λ k. makers.rank k < makers.rank n) (sym m.parent) m.later
+  later_by : (n by : Exec) (v : Value) (ps : List Placed) → MadeBy makers n by v ps → IsLater n
+  later_by n by v ps m = subst (λ k. makers.rank k < makers.rank n) (sym m.parent) m.later
 
   module _ (source : Source) where
     step_later : (made : Exec → Bool) (s : State) → MakesLater source makers s → AllLater made → AllLater (made_behind source s made)
@@ -308,7 +310,7 @@ module _ (makers : Makers) where
       where
         by : (b : Bool) → made n ≡ b → IsLater n
         by true f = h n f
-        by false f = later_by n s.env.exec (stacked (s.run ∷ s.callers)) (m n (born_there source s made n e f))
+        by false f = later_by n s.env.exec s.run.this (stacked (s.run ∷ s.callers)) (m n (born_there source s made n e f))
 
     ride_later : (made : Exec → Bool) {s u : State} {q k : ℕ} {a : Asked} (r : Rides source s q u k a) → RideMeets (MakesLater source makers) source s q u k a r → AllLater made → AllLater (ride_made source made r)
     ride_later made slices m h = h
@@ -320,7 +322,7 @@ module _ (makers : Makers) where
     asked_later made (ask.Spawn o) s l h n e = by (exec_eq n (main_of o)) refl e
       where
         by : (b : Bool) → exec_eq n (main_of o) ≡ b → (if b then true else made n) ≡ true → IsLater n
-        by true g e = subst (λ k. IsLater k) (sym (same_exec n (main_of o) g)) (later_by (main_of o) s.env.exec (stacked (s.run ∷ s.callers)) l)
+        by true g e = subst (λ k. IsLater k) (sym (same_exec n (main_of o) g)) (later_by (main_of o) s.env.exec (piece.Object o) (stacked (s.run ∷ s.callers)) l)
         by false g e = h n e
     asked_later made q s l h n e = h n e
 

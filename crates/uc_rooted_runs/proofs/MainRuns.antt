@@ -18,23 +18,19 @@ use Rattle.uc_value_laws.specs.Opens.{RideMeets, RunMeets}
 use Rattle.uc_life_laws.specs.LifeStates.{HandBy, MembersBy}
 use Rattle.uc_life_laws.proofs.Cells.{either}
 use Rattle.uc_life_laws.proofs.Parked as parked
-use Rattle.uc_rooted_runs.specs.Makers.{placed, stacked}
-use Rattle.uc_rooted_runs.specs.Outlasting.{CoverNone}
+use Rattle.uc_cover_laws.specs.Placed.{placed, stacked}
 use Rattle.uc_rooted_runs.specs.FreshStates.{LeavesNone, MainsBareBy}
-use Rattle.uc_rooted_runs.specs.Mains.{IsBare, AtEnd, MainIn, MainEx, MainMembers, MainState, MainStep, CallsNoMain}
+use Rattle.uc_cover_laws.specs.Held.{AreLines}
+use Rattle.uc_rooted_runs.specs.Mains.{AtEnd, MainIn, MainEx, MainMembers, MainState, MainStep, CallsNoMain}
 use Rattle.uc_rooted_runs.specs.MainRuns.{EndsMains, LawMains}
 use Rattle.uc_rooted_runs.proofs.EndSteps as last
 use Rattle.uc_rooted_runs.proofs.EndSteps.{bare_none, EndStep}
 use Rattle.uc_rooted_runs.proofs.MainWalk.{walk, begins, answered_there}
 
 -- lines alone cover nothing
-bare_covers : (todo : List Todo) → IsBare todo → CoverNone todo
-bare_covers [] h = tt
-bare_covers (piece.Within line ∷ todo) h = (refl, bare_covers todo h)
-bare_covers (p ∷ todo) h = absurd h
 
 module _ (s : State) (m : MainState s) where
-  at_end : (todo : List Todo) → (s.callers ≡ []) × IsBare todo → placed s.run.frame s.run.this todo (stacked s.callers) ≡ []
+  at_end : (todo : List Todo) → (s.callers ≡ []) × AreLines todo → placed s.run.frame s.run.this todo (stacked s.callers) ≡ []
   at_end todo h = subst (λ cs. placed s.run.frame s.run.this todo (stacked cs) ≡ []) (sym_of s.callers h.0) (bare_none s.run.frame s.run.this todo h.1)
     where
       sym_of : (cs : List Active) → cs ≡ [] → [] ≡ cs
@@ -66,7 +62,7 @@ module _ (s : State) (m : MainState s) where
   ends : (source : Source) → EndsMains source s
   ends source = record {
     bare = mains s.run.control m.stack.0;
-    finish = λ todo e. bare_covers todo (subst (MainIn s.callers) e m.stack.0).1;
+    finish = λ todo e. (subst (MainIn s.callers) e m.stack.0).1;
     asks = λ f u e. subst EndStep e (last.walk source s m.stack.0 f);
   }
 

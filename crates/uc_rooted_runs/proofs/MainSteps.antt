@@ -25,7 +25,8 @@ use Rattle.uc_machine.specs.Polls as polls
 use Rattle.uc_machine.specs.Quiet as quiet
 use Rattle.uc_machine.specs.Pieces as piece
 use Rattle.uc_machine.specs.Pieces.{Value, Number, Place, Running, Object, Nothing, Todo, Sort, Active, State, Env, Members, Step, Goes, Ticks, Asks, Outcome, Gives, Faults, at, in_env, top, below, number, nought, written}
-use Rattle.uc_rooted_runs.specs.Mains.{IsBare, AtEnd, MainIn, MainStack, MainEx, MainState, MainStep, IsNoMain, AreNoMains}
+use Rattle.uc_cover_laws.specs.Held.{AreLines}
+use Rattle.uc_rooted_runs.specs.Mains.{AtEnd, MainIn, MainStack, MainEx, MainState, MainStep, IsNoMain, AreNoMains}
 use Rattle.uc_life_laws.proofs.Cells.{either}
 use Rattle.uc_rooted_runs.proofs.MainKeeping as kept
 use Rattle.uc_rooted_runs.proofs.MainKeeping.{Keeps}
@@ -58,7 +59,7 @@ module _ (older : List Active) where
   begins e r = behind_begun e r.purpose r.line
 
   -- lines alone
-  pub bare_in : (todo : List Todo) → IsBare todo → There todo
+  pub bare_in : (todo : List Todo) → AreLines todo → There todo
   bare_in [] h = tt
   bare_in (piece.Within line ∷ todo) h = bare_in todo h
   bare_in (p ∷ todo) h = absurd h
@@ -405,11 +406,11 @@ module _ (s : State) (st : MainState s) where
   scope src.Leaves true todo h = told _ h
   scope c b todo h = go (raising.left_todo c (piece.Unwind ∷ todo)) [] (left_cleans s.callers c (piece.Unwind ∷ todo) h)
 
-  main_left : (w : Option UnwindReason) (todo : List Todo) → (s.callers ≡ []) × IsBare todo → MainStep (raising.main_left w todo s)
+  main_left : (w : Option UnwindReason) (todo : List Todo) → (s.callers ≡ []) × AreLines todo → MainStep (raising.main_left w todo s)
   main_left (Some (reason.ReturnTo n)) todo h = told _ h
   main_left w todo h = go todo [] (bare_in s.callers todo h.1)
 
-  coroutine_left : (w : Option UnwindReason) (todo : List Todo) → (s.callers ≡ []) × IsBare todo → MainStep (raising.coroutine_left w todo s)
+  coroutine_left : (w : Option UnwindReason) (todo : List Todo) → (s.callers ≡ []) × AreLines todo → MainStep (raising.coroutine_left w todo s)
   coroutine_left (Some (reason.ReturnTo n)) todo h = told _ h
   coroutine_left (Some reason.Destroyed) todo h =
       let k = bare_in s.callers todo h.1 in

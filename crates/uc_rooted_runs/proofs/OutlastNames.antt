@@ -41,7 +41,8 @@ use Rattle.uc_life_laws.specs.Knowing.{main_of}
 use Rattle.uc_world_laws.proofs.Fewer.{both_members, both_env}
 use Rattle.uc_own_names.specs.OwnNames.{at_hand, IsElsewhere, IsOwn, StepOwn, StaysOwn}
 use Rattle.uc_own_names.proofs.OwnNamesLemmas.{run_owns, law_own_names}
-use Rattle.uc_rooted_runs.specs.Makers.{Placed, Makers}
+use Rattle.uc_cover_laws.specs.Placed.{Placed}
+use Rattle.uc_rooted_runs.specs.Makers.{Outside, Makers}
 use Rattle.uc_rooted_runs.specs.Births.{MakesLater, SpawnsLater, RunSpawnsLater}
 use Rattle.uc_rooted_runs.specs.OutlastRuns.{with_before, with_made, made_by, made_behind, ride_made, made_asked, run_made, now, MadeNone, NoneElsewhere}
 use Rattle.uc_rooted_runs.specs.OutlastNames.{NamesAt, RideNames, SpawnsNew, MayName, RunNames, LawOutlastNames}
@@ -81,7 +82,7 @@ born_there source s made x h f = at s.run.control refl h
     at (SetUpNow r ∷ todo) c h = one r todo c (slice_get source.routines r) refl (members_at (home_at s.run.this s.env) s.env) refl h
     at l c h = absurd (no_both (made x) h f)
 
-module _ (whole : Makers) (before : Exec → List Placed) (asked : Exec → Bool) where
+module _ (whole : Makers) (before : Outside) (asked : Exec → Bool) where
   abbrev makers : Makers
   makers = with_before before whole
 

@@ -6,10 +6,9 @@ use Rattle.uc_machine.specs.Pieces as piece
 use Rattle.uc_machine.specs.Pieces.{Value, Todo, Sort, Active, State}
 use Rattle.uc_typing.specs.Typing.{Ty, Cell, Obj, Table}
 use Rattle.uc_life_laws.specs.Things.{Few, AtField, IsFor, Marks, InTodo, InStack, Base, NoBase, Stands, lies, inside}
-use Rattle.uc_rooted_runs.specs.Makers.{Placed, put, placed, stacked, Ends, all, behind, Makers}
-use Rattle.uc_rooted_runs.specs.Outlasting.{covers_by, covers_simply, or_covered, CoveredIn, Covered, Outlasts, OutlastEx, OutlastState, InPlaced, HadBefore, IsAlone, LawOutlasting}
-use Rattle.uc_world_laws.proofs.Fewer.{both_env}
-use Rattle.uc_rooted_runs.proofs.OutlastWalk as walking
+use Rattle.uc_cover_laws.specs.Placed.{Placed, put, placed, stacked, Ends, all, behind}
+use Rattle.uc_rooted_runs.specs.Makers.{Makers}
+use Rattle.uc_rooted_runs.specs.Outlasting.{Outlasts, InPlaced, HadBefore, LawOutlasting}
 
 module _ (t : Table) (n : Exec) where
   -- things of a mark, and of those behind it
@@ -66,33 +65,6 @@ module _ (t : Table) (n : Exec) where
   in_stack (c ∷ older) w a m =
       ⊎_elim (λ h. inl h) (λ h. inr (in_stack older w a h)) (in_todo c.frame c.this c.control (stacked older) w a m)
 
--- what stands in front of marks has them outwards of it
-module _ (ps : List Placed) where
-  more_put : (k : Sort) (f : ℕ) (this : Value) (qs : List Placed) → Ends ps qs → Ends ps (put k f this qs)
-  more_put (piece.IsClean c) f this qs h = behind h
-  more_put (piece.IsPart c) f this qs h = behind h
-  more_put piece.Simple f this qs h = h
-  more_put (piece.IsLoop x y z q) f this qs h = h
-  more_put piece.IsWhole f this qs h = h
-  more_put (piece.IsFill x y z) f this qs h = h
-  more_put (piece.IsSweep x) f this qs h = h
-  more_put (piece.IsGuard x) f this qs h = h
-  more_put piece.IsFinish f this qs h = h
-  more_put piece.IsFinishCoroutine f this qs h = h
-
-  by_covered : (b : Bool) (R : Type 0) (qs : List Placed) → (R → Ends ps qs) → or_covered b (ps ≡ qs) R → Ends ps qs
-  by_covered true R qs g h = ⊎_elim (λ e. subst (Ends ps) e all) g h
-  by_covered false R qs g h = g h
-
-  covered_in : (f : ℕ) (this : Value) (older : List Placed) (R : Type 0) (todo : List Todo) → (R → Ends ps older) → CoveredIn ps f this older R todo → Ends ps (placed f this todo older)
-  covered_in f this older R [] g h = g h
-  covered_in f this older R (p ∷ todo) g h =
-      more_put (piece.sort p) f this (placed f this todo older) (by_covered (covers_by (piece.sort p) (covers_simply p)) (CoveredIn ps f this older R todo) (placed f this todo older) (covered_in f this older R todo g) h)
-
-  pub covered_ends : (cs : List Active) → Covered ps cs → Ends ps (stacked cs)
-  covered_ends [] h = absurd h
-  covered_ends (c ∷ older) h = covered_in c.frame c.this (stacked older) (Covered ps older) c.control (covered_ends older) h
-
 module _ (t : Table) (few : Few) (K L : Value → Ty → Type 0) (more : (w : Value) (a : Ty) → K w a → L w a) where
   pub stands_more : (b : Ty) (v : Value) → Stands t few K b v → Stands t few L b v
   stands_more b v (lies {w = w} {a} k h) = lies (more w a k) h
@@ -100,41 +72,8 @@ module _ (t : Table) (few : Few) (K L : Value → Ty → Type 0) (more : (w : Va
 
 module _ (t : Table) (few : Few) (makers : Makers) (up : Exec → Bool) where
   had_now : (n : Exec) (cs : List Active) → Outlasts makers up n cs → (x : Exec) → up x ≡ true → makers.parent x ≡ n → (w : Value) (a : Ty) → HadBefore t few makers x w a → InStack (IsFor t) (AtField t) NoBase n cs w a ⊎ Base few n w a
-  had_now n cs h x u p w a (inl m) = inl (in_stack t n cs w a (of_ends t n (makers.before x) (stacked cs) (covered_ends (makers.before x) cs (h x u p)) w a (subst (λ q. InPlaced t q (makers.before x) w a) p m)))
+  had_now n cs h x u p w a (inl m) = inl (in_stack t n cs w a (of_ends t n (makers.before x) (stacked cs) (h x u p) w a (subst (λ q. InPlaced t q (makers.before x) w a) p m)))
   had_now n cs h x u p w a (inr m) = inr (subst (λ q. Base few q w a) p m)
 
--- of fewer, and of more
-
-module _ (makers : Makers) (up other : Exec → Bool) where
-  covered_fewer : (n : Exec) (cs : List Active) → ((x : Exec) → other x ≡ true → up x ≡ true) → Outlasts makers up n cs → Outlasts makers other n cs
-  covered_fewer n cs f h x u p = h x (f x u) p
-
-  pub covered_more : (n : Exec) (cs : List Active) → ((x : Exec) → other x ≡ true → up x ≡ false → makers.parent x ≡ n → Covered (makers.before x) cs) → Outlasts makers up n cs → Outlasts makers other n cs
-  covered_more n cs f h x u p = by (up x) refl
-    where
-      by : (b : Bool) → up x ≡ b → Covered (makers.before x) cs
-      by true e = h x e p
-      by false e = f x u e p
-
-module _ (makers : Makers) (up fewer : Exec → Bool) (s : State) (h : OutlastState makers up s) (f : (x : Exec) → fewer x ≡ true → up x ≡ true) where
-  pub state_fewer : OutlastState makers fewer s
-  state_fewer = record {
-    stack = covered_fewer makers up fewer s.env.exec (s.run ∷ s.callers) f h.stack;
-    env = both_env (OutlastEx makers up) (OutlastEx makers up) (OutlastEx makers fewer) (λ n y k l. covered_fewer makers up fewer n (y.run ∷ y.callers) f k) s.env h.env h.env;
-  }
-
-module _ (makers : Makers) (up more : Exec → Bool) (s : State) (h : OutlastState makers up s) (alone : IsAlone s.env) (f : (x : Exec) → more x ≡ true → up x ≡ false → (makers.parent x ≡ s.env.exec) × Covered (makers.before x) (s.run ∷ s.callers)) where
-  pub state_more : OutlastState makers more s
-  state_more = record {
-    stack = covered_more makers up more s.env.exec (s.run ∷ s.callers) (λ x u d p. (f x u d).1) h.stack;
-    env = both_env (λ n y. n ≡ s.env.exec → ⊥) (OutlastEx makers up) (OutlastEx makers more) (λ n y k l. covered_more makers up more n (y.run ∷ y.callers) (λ x u d p. absurd (k (sym p ∙ (f x u d).0))) l) s.env alone h.env;
-  }
-
 pub law_outlasting : LawOutlasting
-law_outlasting = record {
-  steps = λ makers up source s h f. walking.walk makers up source s h f;
-  told = λ makers up source given s h. walking.answered_there makers up source given s h;
-  fewer = λ makers up fewer s h f. state_fewer makers up fewer s h f;
-  more = λ makers up more s h a f. state_more makers up more s h a f;
-  stands = λ t few makers up n cs h x u p w a k. stands_more t few (HadBefore t few makers x) (λ w a. InStack (IsFor t) (AtField t) NoBase n cs w a ⊎ Base few n w a) (had_now t few makers up n cs h x u p) a w k;
-}
+law_outlasting t few makers up n cs h x u p w a k = stands_more t few (HadBefore t few makers x) (λ w a. InStack (IsFor t) (AtField t) NoBase n cs w a ⊎ Base few n w a) (had_now t few makers up n cs h x u p) a w k

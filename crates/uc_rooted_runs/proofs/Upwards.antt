@@ -40,7 +40,7 @@ module _ (makers : Makers) (up : Exec → Bool) where
   in_members n cs h (Some m) i k = in_parked n cs h m.parked i k
 
   in_world : (j : Journal) (x : World) → OutlastWorld makers up j x → (n : Exec) (cs : List Active) → IsThere j x n cs → Outlasts makers up n cs
-  in_world j x w n cs (inl i) = told n (x.tasks i.0).env.exec cs ((x.tasks i.0).run ∷ (x.tasks i.0).callers) i.2 i.3 (w.stacks i.0 i.1.0)
+  in_world j x w n cs (inl i) = told n (x.tasks i.0).env.exec cs ((x.tasks i.0).run ∷ (x.tasks i.0).callers) i.2 i.3 (w.stacks i.0 i.1.0 i.1.1)
   in_world j x w n cs (inr (inl (u, inl i))) = in_parked n cs (home.Task (x.tasks u).env.own) (x.tasks u).env.house.parked i (w.tasks u).house
   in_world j x w n cs (inr (inl (u, inr i))) = in_hand n cs (x.tasks u).env.hand i (w.tasks u).hand
   in_world j x w n cs (inr (inr (o, i))) = in_members n cs (home.Object o) (x.homes o) i (w.homes o)
@@ -60,7 +60,7 @@ law_upwards t few makers up j x own yet w based n cs i v b k e =
       r.later,
       ⊎_elim
           (λ s.
-          stands_more t few (λ w a. InStack (IsFor t) (AtField t) NoBase (makers.parent n) r.active w a ⊎ Base few (makers.parent n) w a) (Had t few yet (makers.parent n) r.active) (had r.active) b v (law_outlasting.stands t few makers up (makers.parent n) r.active h n r.asked refl v b s))
+          stands_more t few (λ w a. InStack (IsFor t) (AtField t) NoBase (makers.parent n) r.active w a ⊎ Base few (makers.parent n) w a) (Had t few yet (makers.parent n) r.active) (had r.active) b v (law_outlasting t few makers up (makers.parent n) r.active h n r.asked refl v b s))
           (λ s. s)
           r.stood,
     )

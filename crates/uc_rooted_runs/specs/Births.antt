@@ -14,15 +14,17 @@ use Rattle.uc_program_laws.specs.Fitting.{RunFits}
 use Rattle.uc_value_laws.specs.Opens.{RunMeets}
 use Rattle.uc_name_laws.specs.NameSteps.{IsBorn}
 use Rattle.uc_life_laws.specs.Knowing.{main_of}
-use Rattle.uc_rooted_runs.specs.Makers.{stacked, Makers, MadeBy}
+use Rattle.uc_machine.specs.Pieces.{Object}
+use Rattle.uc_cover_laws.specs.Placed.{stacked}
+use Rattle.uc_rooted_runs.specs.Makers.{Makers, MadeBy}
 
 -- each that a state makes next is made by the running one
 abbrev pub MakesLater : Source → Makers → State → Type 0
-MakesLater source makers s = (n : Exec) → IsBorn source s n → MadeBy makers n s.env.exec (stacked (s.run ∷ s.callers))
+MakesLater source makers s = (n : Exec) → IsBorn source s n → MadeBy makers n s.env.exec s.run.this (stacked (s.run ∷ s.callers))
 
 -- so is the main of a task, by who asks that it be spawned
 abbrev pub SpawnsLater : Makers → Request → State → Type 0
-SpawnsLater makers (ask.Spawn o) s = MadeBy makers (main_of o) s.env.exec (stacked (s.run ∷ s.callers))
+SpawnsLater makers (ask.Spawn o) s = MadeBy makers (main_of o) s.env.exec (Object o) (stacked (s.run ∷ s.callers))
 SpawnsLater makers r s = Unit {0}
 
 module _ (makers : Makers) (source : Source) where

@@ -11,7 +11,8 @@ use Rattle.uc_acts.specs.Journal.{Journal, is_over}
 use Rattle.uc_acts.specs.Acts.{act}
 use Rattle.uc_acts.specs.KernelRuns.{InRange}
 use Rattle.uc_machine.specs.declared.exec.Exec.{Exec}
-use Rattle.uc_machine.specs.Pieces.{Value, Todo, SetUpNow, Finish, Active, State}
+use Rattle.uc_machine.specs.Pieces.{Value, Todo, SetUpNow, Finish, Active, State, Goes}
+use Rattle.uc_machine.specs.Quiet.{quiet}
 use Rattle.uc_machine.specs.Rides.{Rides, slices, goes_on, ticks, asks}
 use Rattle.uc_meaning.specs.Runs.{World, May, Runs, world_after, gives, no_room, acts, begun, more}
 use Rattle.uc_program_laws.specs.Fitting.{RunFits}
@@ -25,27 +26,30 @@ use Rattle.uc_life_laws.specs.Knowing.{main_of}
 use Rattle.uc_unmarked_laws.specs.Marks.{Puts}
 use Rattle.uc_world_laws.specs.Lasting.{RunForgets}
 use Rattle.uc_world_laws.specs.Rooted.{IsPlace, Lives, Had}
-use Rattle.uc_rooted_runs.specs.Makers.{Placed, Makers}
+use Rattle.uc_cover_laws.specs.Placed.{Placed}
+use Rattle.uc_cover_laws.specs.Held.{Soon}
+use Rattle.uc_cover_laws.specs.Ways.{LeavesAt}
+use Rattle.uc_rooted_runs.specs.Makers.{Outside, Makers, seating}
 use Rattle.uc_rooted_runs.specs.Births.{AllMadeLater}
 use Rattle.uc_rooted_runs.specs.Binds.{BindsOwn}
 use Rattle.uc_rooted_runs.specs.Mains.{CallsNoMain, FindsAll}
-use Rattle.uc_rooted_runs.specs.Outlasting.{Covered, SparesAt, HadBefore}
+use Rattle.uc_rooted_runs.specs.Outlasting.{HadBefore}
 use Rattle.uc_rooted_runs.specs.OutlastRuns.{with_before, made_behind, run_made, now}
 use Rattle.uc_rooted_runs.specs.Upwards.{IsThere, OutlastWorld}
 use Rattle.uc_rooted_runs.specs.Beside.{IsBeside}
 
 module _ (makers : Makers) (asked : Exec → Bool) where
-  -- what is asked of a state that makes no execution, and at which no main ends
-  abbrev pub KeepsAt : (Exec → Bool) → List Todo → State → Type 0
-  KeepsAt up (SetUpNow r ∷ todo) s = Unit {0}
-  KeepsAt up (Finish ∷ todo) s = Unit {0}
-  KeepsAt up todo s = SparesAt makers up todo s
+  -- what is left to find of a state that makes no execution, and at which no main ends
+  abbrev pub KeepsAt : Source → (Exec → Bool) → List Todo → State → Type 0
+  KeepsAt source up (SetUpNow r ∷ todo) s = Unit {0}
+  KeepsAt source up (Finish ∷ todo) s = Unit {0}
+  KeepsAt source up todo s = LeavesAt source (seating makers) up todo s
 
-  -- where what holds an object is left, another piece behind it holds one, and where an execution is made, one stands directly in front of what was to be
-  -- cleaned up then
+  -- where marks are taken away, what is left to find of those that these held; and one that is made is held soon
   pub record Keeps (source : Source) (made : Exec → Bool) (s : State) : Type 0 where
-    pub spares : KeepsAt (now makers asked made) s.run.control s
-    pub covered : (n : Exec) → IsBorn source s n → asked n ≡ true → Covered (makers.before n) (s.run ∷ s.callers)
+    pub leaves : KeepsAt source (now makers asked made) s.run.control s
+    pub held : (n : Exec) → IsBorn source s n → asked n ≡ true → (u : State) → quiet source s ≡ Goes u →
+        Soon source (makers.seat n) (makers.before n) u.env.exec u.run u.callers
 
   abbrev pub RideKeeps : (source : Source) → (Exec → Bool) → {s u : State} {q k : ℕ} {a : Asked} → Rides source s q u k a → Type 0
   RideKeeps source made slices = Unit {0}
@@ -53,15 +57,16 @@ module _ (makers : Makers) (asked : Exec → Bool) where
   RideKeeps source made (ticks {s} e r) = Keeps source made s × RideKeeps source (made_behind source s made) r
   RideKeeps source made (asks {s} e) = Keeps source made s
 
-  abbrev pub SpawnsKept : Request → State → Type 0
-  SpawnsKept (ask.Spawn o) s = asked (main_of o) ≡ true → Covered (makers.before (main_of o)) (s.run ∷ s.callers)
-  SpawnsKept r s = Unit {0}
+  abbrev pub SpawnsKept : Source → Request → State → Type 0
+  SpawnsKept source (ask.Spawn o) s = asked (main_of o) ≡ true →
+      Soon source (makers.seat (main_of o)) (makers.before (main_of o)) s.env.exec s.run s.callers
+  SpawnsKept source r s = Unit {0}
 
   module _ (source : Source) (input : List ℕ) (opts : Options) where
     abbrev pub MayKeep : (Exec → Bool) → {j : Journal} {w : World} {a : List Entry} {x : World} → May source opts input j w a x → Type 0
     MayKeep made (gives p t s h) = Unit {0}
     MayKeep made (no_room p t s h) = Unit {0}
-    MayKeep made (acts p t k s q d) = RideKeeps source made d.rides × SpawnsKept q.request s
+    MayKeep made (acts p t k s q d) = RideKeeps source made d.rides × SpawnsKept source q.request s
 
     -- at each state and each act of a run
     abbrev pub RunKeeps : {j : Journal} {w : World} → Runs source input opts j w → Type 0
@@ -72,7 +77,7 @@ module _ (makers : Makers) (asked : Exec → Bool) where
 -- its home for good
 abbrev pub LawKeptRuns : Type 0
 LawKeptRuns =
-    (asked : Exec → Bool) (before : Exec → List Placed) (source : Source) (input : List ℕ) (opts : Options) (j : Journal) (w : World)
+    (asked : Exec → Bool) (before : Outside) (source : Source) (input : List ℕ) (opts : Options) (j : Journal) (w : World)
     (r : Runs source input opts j w) → InRange opts → RunFits source input opts j w r → is_over j ≡ false →
     RunLeaves source input opts j w r → RunMeets names.Spares source input opts j w r →
     RunMeets (CallsNoMain source) source input opts j w r →
@@ -95,7 +100,7 @@ module _ (t : Table) (few : Few) (own : Exec → Value → Ty → Bool) (yet : E
   -- matter of names
   pub record IsRooted (j : Journal) (a : List Entry) (x : World) (r : Runs source input opts (j ++ a) x) (u o : ℕ) : Type 0 where
     pub asked : Exec → Bool
-    pub before : Exec → List Placed
+    pub before : Outside
     pub keeps : RunKeeps (with_before before makers) asked source input opts r
     -- the main of task 0 has nothing of others
     pub first : (w : Value) (b : Ty) → Base few (main_of 0) w b → own (main_of 0) w b ≡ true

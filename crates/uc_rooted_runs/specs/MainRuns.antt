@@ -9,15 +9,15 @@ use Rattle.uc_machine.specs.Quiet.{State, first_state, quiet}
 use Rattle.uc_machine.specs.Answering.{answered}
 use Rattle.uc_meaning.specs.Runs.{World, Runs}
 use Rattle.uc_value_laws.specs.Opens.{RunMeets}
-use Rattle.uc_rooted_runs.specs.Outlasting.{CoverNone}
+use Rattle.uc_cover_laws.specs.Held.{AreLines}
 use Rattle.uc_rooted_runs.specs.FreshStates.{MainsBareBy, AsksBare}
 use Rattle.uc_rooted_runs.specs.Mains.{MainState, MainStep, CallsNoMain, FindsAll}
 
--- where the main of a coroutine ends no marks are left; nor does anything behind the end of a main cover an object; and a task has no marks where it asks
+-- where the main of a coroutine ends no marks are left; nor is anything but its line left behind the end of a main; and a task has no marks where it asks
 -- its end, if the routines that it names are there, and unwindings have reasons
 pub record EndsMains (source : Source) (s : State) : Type 0 where
   pub bare : MainsBareBy s.run.control s
-  pub finish : (todo : List Todo) → s.run.control ≡ Finish ∷ todo → CoverNone todo
+  pub finish : (todo : List Todo) → s.run.control ≡ Finish ∷ todo → AreLines todo
   pub asks : FindsAll source s → AsksBare source s
 
 -- a task begins so that nobody waits for a main, each quiet step keeps that as long as it calls none, and so does each answer; so it is in each state

@@ -4,19 +4,14 @@ use Rattle.uc_tree.specs.Source.{Purpose, TaskMain, CoroutineMain, Procedure, Fu
 use Rattle.uc_machine.specs.declared.exec.Exec.{Exec}
 use Rattle.uc_machine.specs.declared.exec.Home.{Home}
 use Rattle.uc_machine.specs.Executions.{Execution}
-use Rattle.uc_machine.specs.Pieces.{Value, Todo, Within, CallNow, CallOnNow, CallUnwrittenNow, LiveNow, EnterNow, MakeNow, BindMadeNow, Unwind, Sort, sort, IsFinish, IsFinishCoroutine, Active, State, Env, Members, Step, Goes, Ticks, Asks}
+use Rattle.uc_machine.specs.Pieces.{Value, Todo, CallNow, CallOnNow, CallUnwrittenNow, LiveNow, EnterNow, MakeNow, BindMadeNow, Unwind, Sort, sort, IsFinish, IsFinishCoroutine, Active, State, Env, Members, Step, Goes, Ticks, Asks}
 use Rattle.uc_life_laws.specs.LifeStates.{MembersBy, EnvBy}
-
--- lines alone
-abbrev pub IsBare : List Todo → Type 0
-IsBare [] = Unit {0}
-IsBare (Within line ∷ todo) = IsBare todo
-IsBare todo = ⊥
+use Rattle.uc_cover_laws.specs.Held.{AreLines}
 
 -- the end of a main stands in the oldest activation
 abbrev pub AtEnd : Sort → List Active → List Todo → Type 0 → Type 0
-AtEnd IsFinish older todo rest = (older ≡ []) × IsBare todo
-AtEnd IsFinishCoroutine older todo rest = (older ≡ []) × IsBare todo
+AtEnd IsFinish older todo rest = (older ≡ []) × AreLines todo
+AtEnd IsFinishCoroutine older todo rest = (older ≡ []) × AreLines todo
 AtEnd k older todo rest = rest
 
 abbrev pub MainIn : List Active → List Todo → Type 0

@@ -1,41 +1,30 @@
--- By whom executions were made, and what those were to clean up then.
-use Rattle.std.specs.Prelude.{◌≡◌, ℕ, ◌<◌, List, [], ◌∷◌}
+-- By whom executions were made, where their coroutines are, and what those that made them were to clean up then.
+use Rattle.std.specs.Prelude.{◌≡◌, ℕ, ◌<◌, List}
 use Rattle.uc_machine.specs.declared.exec.Exec.{Exec}
-use Rattle.uc_machine.specs.Pieces.{Value, Todo, Clean, Part, Sort, sort, IsClean, IsPart, Active}
+use Rattle.uc_machine.specs.Pieces.{Value}
+use Rattle.uc_cover_laws.specs.Placed.{Placed}
+use Rattle.uc_cover_laws.specs.Destroying.{Seat}
+use Rattle.uc_cover_laws.specs.Held.{Seating}
 
--- a mark, with the frame and the object of its activation
-pub record Placed : Type 0 where
-  pub frame : ℕ
-  pub this : Value
-  pub mark : Todo
-
--- all marks of activations, the innermost first
-abbrev pub put : Sort → ℕ → Value → List Placed → List Placed
-put (IsClean c) f this ps = record { frame = f; this = this; mark = Clean c } ∷ ps
-put (IsPart c) f this ps = record { frame = f; this = this; mark = Part c } ∷ ps
-put k f this ps = ps
-
-abbrev pub placed : ℕ → Value → List Todo → List Placed → List Placed
-placed f this [] ps = ps
-placed f this (p ∷ todo) ps = put (sort p) f this (placed f this todo ps)
-
-abbrev pub stacked : List Active → List Placed
-stacked [] = []
-stacked (a ∷ older) = placed a.frame a.this a.control (stacked older)
-
--- these are the outermost ones of those
-pub data Ends (ps : List Placed) : List Placed → Type 0 where
-  all : Ends ps ps
-  behind : {p : Placed} {qs : List Placed} → Ends ps qs → Ends ps (p ∷ qs)
-
--- by whom each execution was made, what that was to clean up then, and a number that grows with each that is made
+-- by whom each execution was made, the object for which it was made, with where mutex objects are at home, what that was to clean up then, and a number that
+-- grows with each that is made
 pub record Makers : Type 0 where
   pub parent : Exec → Exec
+  pub seat : Exec → Seat
   pub before : Exec → List Placed
   pub rank : Exec → ℕ
 
--- one is made by another, which was made before, and is to clean up this then
-pub record MadeBy (makers : Makers) (n by : Exec) (ps : List Placed) : Type 0 where
+-- where mutex objects are at home, and what was to be cleaned up as executions were made, outwards of what holds them
+pub record Outside : Type 0 where
+  pub home : ℕ → Value
+  pub before : Exec → List Placed
+
+abbrev pub seating : Makers → Seating
+seating makers = record { parent = makers.parent; seat = makers.seat; before = makers.before }
+
+-- one is made by another, which was made before, for this object, and is to clean up this then
+pub record MadeBy (makers : Makers) (n by : Exec) (v : Value) (ps : List Placed) : Type 0 where
   pub parent : makers.parent n ≡ by
+  pub seat : (makers.seat n).place ≡ v
   pub before : makers.before n ≡ ps
   pub later : makers.rank by < makers.rank n

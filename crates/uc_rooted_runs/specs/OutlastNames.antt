@@ -21,7 +21,8 @@ use Rattle.uc_name_laws.specs.NameSteps as names
 use Rattle.uc_name_laws.specs.NameSteps.{IsBorn}
 use Rattle.uc_named_runs.specs.RunningRuns.{RunLeaves}
 use Rattle.uc_life_laws.specs.Knowing.{main_of}
-use Rattle.uc_rooted_runs.specs.Makers.{Placed, Makers}
+use Rattle.uc_cover_laws.specs.Placed.{Placed}
+use Rattle.uc_rooted_runs.specs.Makers.{Outside, Makers}
 use Rattle.uc_rooted_runs.specs.Births.{AllMadeLater}
 use Rattle.uc_rooted_runs.specs.Outlasting.{IsAlone}
 use Rattle.uc_rooted_runs.specs.OutlastRuns.{with_before, made_behind, ride_made, made_asked, run_made, now, NoneElsewhere}
@@ -64,7 +65,7 @@ module _ (makers : Makers) (asked : Exec → Bool) where
 -- leaves its home for good
 abbrev pub LawOutlastNames : Type 0
 LawOutlastNames =
-    (asked : Exec → Bool) (before : Exec → List Placed) (source : Source) (input : List ℕ) (opts : Options) (j : Journal) (w : World)
+    (asked : Exec → Bool) (before : Outside) (source : Source) (input : List ℕ) (opts : Options) (j : Journal) (w : World)
     (r : Runs source input opts j w) → InRange opts → RunFits source input opts j w r → is_over j ≡ false →
     RunLeaves source input opts j w r → RunMeets names.Spares source input opts j w r →
     (b : AllMadeLater source input opts j w r) →

@@ -22,14 +22,21 @@ use Rattle.uc_program_laws.specs.Fitting.{RunFits}
 use Rattle.uc_name_laws.specs.NameSteps.{IsBorn}
 use Rattle.uc_life_laws.specs.Knowing.{main_of}
 use Rattle.uc_life_laws.specs.LifeStates.{EnvBy, MembersBy}
-use Rattle.uc_rooted_runs.specs.Makers.{Placed, Makers}
+use Rattle.uc_cover_laws.specs.Placed.{Placed}
+use Rattle.uc_cover_laws.specs.Held.{Soon, TakesNow}
+use Rattle.uc_rooted_runs.specs.Makers.{Outside, Makers, seating}
 use Rattle.uc_rooted_runs.specs.Births.{AllMadeLater}
-use Rattle.uc_rooted_runs.specs.Outlasting.{Covered, Spares, IsAlone}
+use Rattle.uc_rooted_runs.specs.Outlasting.{IsAlone}
 use Rattle.uc_rooted_runs.specs.Upwards.{OutlastWorld}
 
 -- of what each was to clean up as it made others, an outer part is asked: parts of an object under construction are left as it is done
-abbrev pub with_before : (Exec → List Placed) → Makers → Makers
-with_before before makers = record { parent = makers.parent; before = before; rank = makers.rank }
+abbrev pub with_before : Outside → Makers → Makers
+with_before out makers = record {
+  parent = makers.parent;
+  seat = λ x. record { place = (makers.seat x).place; home = out.home };
+  before = out.before;
+  rank = makers.rank;
+}
 
 -- which executions were made by now: behind a state, behind a ride, with what was asked, and in a run
 
@@ -71,12 +78,13 @@ module _ (makers : Makers) (asked : Exec → Bool) where
   abbrev pub now : (Exec → Bool) → Exec → Bool
   now made x = if asked x then made x else false
 
-  -- at a state: where what holds an object is left, another piece behind it holds one, for those that were made by now; and where it makes one, behind
-  -- that no other has the name of the running one, and a piece that holds an object stands directly in front of that outer part
+  -- at a state: where marks are taken away, those that these held are held soon, of those that were made by now; and behind one that makes one, no other has the
+  -- name of the running one, and that one is held soon
   pub record OutlastsAt (source : Source) (made : Exec → Bool) (s : State) : Type 0 where
-    pub spares : Spares makers (now made) s
+    pub takes : TakesNow source (seating makers) (now made) s
     pub alone : (n : Exec) → IsBorn source s n → (u : State) → quiet source s ≡ Goes u → IsAlone u.env
-    pub covered : (n : Exec) → IsBorn source s n → asked n ≡ true → Covered (makers.before n) (s.run ∷ s.callers)
+    pub held : (n : Exec) → IsBorn source s n → asked n ≡ true → (u : State) → quiet source s ≡ Goes u →
+        Soon source (makers.seat n) (makers.before n) u.env.exec u.run u.callers
 
   abbrev pub RideOutlasts : (source : Source) → (Exec → Bool) → {s u : State} {q k : ℕ} {a : Asked} → Rides source s q u k a → Type 0
   RideOutlasts source made slices = Unit {0}
@@ -93,20 +101,19 @@ module _ (makers : Makers) (asked : Exec → Bool) where
     pub slots : (v : ℕ) → (v == t) ≡ false → EnvBy (λ n y. MadeNone made behind n) (w.tasks v).env
     pub homes : (o : ℕ) → find o s.env.hand ≡ None → MembersBy (λ n y. MadeNone made behind n) (Object o) (w.homes o)
 
-  -- as a task is spawned, no other has the name of who asks that, its main has made none, and a piece that holds an object stands directly in front of
-  -- that outer part
-  abbrev pub SpawnsAlone : (Exec → Bool) → Request → State → Type 0
-  SpawnsAlone made (ask.Spawn o) s = IsAlone s.env ×
+  -- as a task is spawned, no other has the name of who asks that, its main has made none, and it is held soon
+  abbrev pub SpawnsAlone : Source → (Exec → Bool) → Request → State → Type 0
+  SpawnsAlone source made (ask.Spawn o) s = IsAlone s.env ×
       ((x : Exec) → now (made_asked (ask.Spawn o) made) x ≡ true → makers.parent x ≡ main_of o → ⊥) ×
-      (asked (main_of o) ≡ true → Covered (makers.before (main_of o)) (s.run ∷ s.callers))
-  SpawnsAlone made r s = Unit {0}
+      (asked (main_of o) ≡ true → Soon source (makers.seat (main_of o)) (makers.before (main_of o)) s.env.exec s.run s.callers)
+  SpawnsAlone source made r s = Unit {0}
 
   module _ (source : Source) (input : List ℕ) (opts : Options) where
     abbrev pub MayOutlast : (Exec → Bool) → {j : Journal} {w : World} {a : List Entry} {x : World} → May source opts input j w a x → Type 0
     MayOutlast made (gives p t s h) = Unit {0}
     MayOutlast made (no_room p t s h) = Unit {0}
     MayOutlast made {j} {w} (acts p t k s q d) = RideOutlasts source made d.rides ×
-        SpawnsAlone (ride_made source made d.rides) q.request s ×
+        SpawnsAlone source (ride_made source made d.rides) q.request s ×
         NoneElsewhere made (made_asked q.request (ride_made source made d.rides)) j w t s
 
     -- at each state and each act of a run
@@ -115,10 +122,10 @@ module _ (makers : Makers) (asked : Exec → Bool) where
     RunOutlasts (more r o m) = RunOutlasts r × MayOutlast (run_made source input opts r) m
 
 -- so it is in each run in which all that was asked so far fits, as long as it is so at each state, with those by whom executions were made in it, and
--- parts of what those were to clean up then in front of which a piece held an object
+-- parts of what those were to clean up then, outwards of what holds them
 abbrev pub LawOutlastRuns : Type 0
 LawOutlastRuns =
-    (asked : Exec → Bool) (before : Exec → List Placed) (source : Source) (input : List ℕ) (opts : Options) (j : Journal) (w : World)
+    (asked : Exec → Bool) (before : Outside) (source : Source) (input : List ℕ) (opts : Options) (j : Journal) (w : World)
     (r : Runs source input opts j w) → InRange opts → RunFits source input opts j w r → is_over j ≡ false →
     (b : AllMadeLater source input opts j w r) →
     RunOutlasts (with_before before b.makers) asked source input opts r →

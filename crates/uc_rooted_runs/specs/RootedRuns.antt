@@ -17,7 +17,8 @@ use Rattle.uc_typing.specs.Typing.{Ty, Table}
 use Rattle.uc_life_laws.specs.Things.{Few, Base}
 use Rattle.uc_world_laws.specs.Lasting.{RunForgets}
 use Rattle.uc_world_laws.specs.Rooted.{IsPlace, Lives, RootedBeside}
-use Rattle.uc_rooted_runs.specs.Makers.{Placed, Makers}
+use Rattle.uc_cover_laws.specs.Placed.{Placed}
+use Rattle.uc_rooted_runs.specs.Makers.{Outside, Makers}
 use Rattle.uc_rooted_runs.specs.Births.{AllMadeLater}
 use Rattle.uc_rooted_runs.specs.FreshStates.{KeepsFresh}
 use Rattle.uc_rooted_runs.specs.Upwards.{IsBased}
@@ -28,7 +29,7 @@ module _ (t : Table) (few : Few) (own : Exec → Value → Ty → Bool) (yet : E
   -- they were made stays, so it does in all states, and what those that live have of others was among it, or stands in what those have that made them
   pub record IsUpheld (j : Journal) (a : List Entry) (x : World) (r : Runs source input opts (j ++ a) x) (o : ℕ) : Type 0 where
     pub asked : Exec → Bool
-    pub before : Exec → List Placed
+    pub before : Outside
     pub outlasts : RunOutlasts (with_before before makers) asked source input opts r
     pub based : (n : Exec) (cs : List Active) → Lives (j ++ a) x n cs → (w : Value) (b : Ty) → Base few n w b → own n w b ≡ false →
         IsBased t few (with_before before makers) (now (with_before before makers) asked (run_made source input opts r)) yet (j ++ a) x n w b

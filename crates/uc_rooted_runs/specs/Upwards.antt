@@ -19,7 +19,7 @@ IsThere j x n cs = LivesBy (λ u. (u < task_count j) × (has_ended u j ≡ false
 
 -- in the world behind a journal what executions were to clean up as they made others stays with them
 pub record OutlastWorld (makers : Makers) (up : Exec → Bool) (j : Journal) (x : World) : Type 0 where
-  pub stacks : (u : ℕ) → u < task_count j →
+  pub stacks : (u : ℕ) → u < task_count j → has_ended u j ≡ false →
       Outlasts makers up (x.tasks u).env.exec ((x.tasks u).run ∷ (x.tasks u).callers)
   pub tasks : (u : ℕ) → EnvBy (OutlastEx makers up) (x.tasks u).env
   pub homes : (o : ℕ) → MembersBy (OutlastEx makers up) (Object o) (x.homes o)
