@@ -77,10 +77,12 @@ module _ (p : Program) (formed : IsFormed p) (accepted : breaks_of p ≡ []) (fe
         let main = (law_calling p formed accepted).main in
         let k = run_put p accepted few (laid_out p formed accepted) main code input opts range r f.0 fair.0 in
         let frames : KeepsFrames p j w = law_frame_runs p accepted input opts j w r in
-        let begins = start p accepted few (laid_out p formed accepted) main code input opts range (run_rests (source_of p) input opts range r f.0 o) o (k.0 o) frames q t d.given d.runs d.told in
-        (run_calls r f.0 before m.0 fair.0, ride_calls d.rides m.1 fair.1 (λ v l y.
-        let c : way.Comes (source_of p) j w t v = record { given = d.given; processor = q; runs = d.runs; told = d.told; leads = l } in
-        record { knows = all.comes t v c y; life = all.scopes t v c y }) begins)
+        let begins = start p accepted few (laid_out p formed accepted) main code input opts range (run_rests (source_of p) input opts range r f.0 o) o (k.0 o) frames q t d.given d.runs d.told in (
+          run_calls r f.0 before m.0 fair.0,
+          ride_calls d.rides m.1 fair.1 (λ v l y.
+              let c : way.Comes (source_of p) j w t v = record { given = d.given; processor = q; runs = d.runs; told = d.told; leads = l } in
+              record { knows = all.comes t v c y; life = all.scopes t v c y }) begins,
+        )
 
 pub law_calls_runs : LawCallsRuns
 law_calls_runs = record {
