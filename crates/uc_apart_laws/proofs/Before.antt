@@ -12,13 +12,13 @@ use Rattle.uc_machine.specs.Pieces as piece
 use Rattle.uc_machine.specs.Pieces.{Value, Todo, State}
 use Rattle.uc_machine.specs.Rides.{Rides, slices, goes_on, ticks, asks}
 use Rattle.uc_meaning.specs.Runs.{World, Runs, gives, no_room, acts, begun, more}
-use Rattle.uc_value_laws.specs.Opens.{RideMeets, RunMeets}
+use Rattle.uc_state_laws.specs.Opens.{RideMeets, RunMeets}
 use Rattle.uc_typing.specs.Typing.{Ty, Table}
 use Rattle.uc_life_laws.specs.Things.{Few, Base}
 use Rattle.uc_life_laws.specs.LifeStates.{EnvBy}
 use Rattle.uc_life_laws.specs.Knowing.{KnowsState}
-use Rattle.uc_world_laws.specs.Rooted.{IsPlace}
-use Rattle.uc_owing_laws.specs.AtHand.{IsApart}
+use Rattle.uc_life_laws.specs.Rooted.{IsPlace}
+use Rattle.uc_life_laws.specs.AtHand.{IsApart}
 use Rattle.uc_apart_laws.specs.Clear.{ClearEx, IsClearAt}
 use Rattle.uc_apart_laws.specs.Nowhere.{SparesEx}
 use Rattle.uc_apart_laws.specs.Before.{world_at, NowhereBefore, BeforeAt, Before, RunBefore, LawBefore}

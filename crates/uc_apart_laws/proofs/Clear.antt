@@ -14,10 +14,10 @@ use Rattle.uc_life_laws.specs.Things.{Few, Within, lies, inside, Base, Things, S
 use Rattle.uc_life_laws.specs.LifeStates.{SlotBy, ParkedBy, HandBy, EnvBy}
 use Rattle.uc_life_laws.specs.Knowing.{AtHand, InMaking, KnowsState}
 use Rattle.uc_life_laws.proofs.Reading.{within_raw, not_whole, NoNumber, behind_number}
-use Rattle.uc_world_laws.specs.Rooted.{IsPlace}
-use Rattle.uc_world_laws.proofs.Rooted.{within_object, things_place, stands_things}
+use Rattle.uc_life_laws.specs.Rooted.{IsPlace}
+use Rattle.uc_life_laws.proofs.Rooted.{within_object, things_place, stands_things}
 use Rattle.uc_depth_laws.specs.Owing.{Ex, entering}
-use Rattle.uc_owing_laws.specs.AtHand.{IsAtHand, FarBy, IsFar, elsewhere, IsApartAt}
+use Rattle.uc_life_laws.specs.AtHand.{IsAtHand, FarBy, IsFar, elsewhere, IsApartAt}
 use Rattle.uc_apart_laws.specs.Clear.{IsClear, ClearBy, ClearEx, IsClearAt, LawClear}
 
 module _ (t : Table) (few : Few) (places : (n : Exec) (w : Value) (b : Ty) → Base few n w b → IsPlace w) (o : ℕ) where

@@ -10,8 +10,8 @@ use Rattle.uc_meaning.specs.Runs.{World}
 use Rattle.uc_typing.specs.Typing.{Ty, Cell, Obj, Table}
 use Rattle.uc_life_laws.specs.Things.{Few, Base, Things, Stands, lies, inside}
 use Rattle.uc_life_laws.specs.LifeStates.{EnvBy}
-use Rattle.uc_world_laws.specs.Rooted.{Lives, Yet, Had, OwnObject}
-use Rattle.uc_world_laws.proofs.Rooted.{env_in, things_split, stands_more, stands_split, within_on}
+use Rattle.uc_life_laws.specs.Rooted.{Lives, Yet, Had, OwnObject}
+use Rattle.uc_life_laws.proofs.Rooted.{env_in, things_split, stands_more, stands_split, within_on}
 use Rattle.uc_depth_laws.specs.Owing.{Ex}
 use Rattle.uc_apart_laws.specs.Clear.{IsNoHome, ClearBy, ClearEx}
 use Rattle.uc_apart_laws.specs.Nowhere.{IsNowhere, SparesBy, SparesEx, LawNowhere}

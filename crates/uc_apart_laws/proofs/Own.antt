@@ -5,9 +5,9 @@ use Rattle.uc_machine.specs.declared.exec.Owner.TheVariants.{Frame, Fields}
 use Rattle.uc_machine.specs.Pieces.{Link, Value, Number, Place, Running, Object, Nothing, further, Active}
 use Rattle.uc_typing.specs.Typing.{Ty, Cell, Obj, Row, Table}
 use Rattle.uc_life_laws.specs.Things.{Few, Within, itself, field, element, Base, Things, Stands, lies, inside}
-use Rattle.uc_world_laws.proofs.Rooted.{things_split, stands_split}
-use Rattle.uc_unmarked_laws.specs.Belonging.{Belongs, frame, fields, object}
-use Rattle.uc_unmarked_laws.specs.Marks.{Marked, Free}
+use Rattle.uc_life_laws.proofs.Rooted.{things_split, stands_split}
+use Rattle.uc_life_laws.specs.Belonging.{Belongs, frame, fields, object}
+use Rattle.uc_life_laws.specs.Marks.{Marked, Free}
 use Rattle.uc_apart_laws.specs.Clear.{IsNoHome}
 use Rattle.uc_apart_laws.specs.Own.{IsOfOthers, LawOwn}
 

@@ -11,13 +11,13 @@ use Rattle.uc_machine.specs.Monitors.{this_object}
 use Rattle.uc_machine.specs.Pieces.{Value, Todo, GoneNow, GiveUpNow, Active, State}
 use Rattle.uc_machine.specs.Answering.{answered}
 use Rattle.uc_meaning.specs.Runs.{World, May, Runs, drawn, or_else, gives, no_room, acts, begun, more}
-use Rattle.uc_value_laws.specs.Opens.{RideMeets, RunMeets}
+use Rattle.uc_state_laws.specs.Opens.{RideMeets, RunMeets}
 use Rattle.uc_typing.specs.Typing.{Ty, Table}
 use Rattle.uc_life_laws.specs.Things.{Few, Base}
 use Rattle.uc_life_laws.specs.LifeStates.{EnvBy}
 use Rattle.uc_life_laws.specs.Knowing.{KnowsState}
-use Rattle.uc_world_laws.specs.Rooted.{IsPlace}
-use Rattle.uc_owing_laws.specs.AtHand.{IsApart}
+use Rattle.uc_life_laws.specs.Rooted.{IsPlace}
+use Rattle.uc_life_laws.specs.AtHand.{IsApart}
 use Rattle.uc_apart_laws.specs.Clear.{IsClearAt}
 use Rattle.uc_apart_laws.specs.Nowhere.{IsNowhere, SparesEx}
 

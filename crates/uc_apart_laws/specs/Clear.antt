@@ -11,10 +11,10 @@ use Rattle.uc_typing.specs.Typing.{Ty, Cell, Obj, Raw, Sig, Table}
 use Rattle.uc_life_laws.specs.Things.{Few, Base, Things, Stands}
 use Rattle.uc_life_laws.specs.LifeStates.{EnvBy}
 use Rattle.uc_life_laws.specs.Knowing.{InMaking, KnowsEx, KnowsState}
-use Rattle.uc_world_laws.specs.Rooted.{IsPlace}
+use Rattle.uc_life_laws.specs.Rooted.{IsPlace}
 use Rattle.uc_depth_laws.specs.Entering.{is_ending}
 use Rattle.uc_depth_laws.specs.Owing.{Ex, entering, is_again}
-use Rattle.uc_owing_laws.specs.AtHand.{IsUnopened, IsAtHand, elsewhere, IsApart}
+use Rattle.uc_life_laws.specs.AtHand.{IsUnopened, IsAtHand, elsewhere, IsApart}
 
 module _ (t : Table) (few : Few) (o : ℕ) where
   -- these activations neither build nor destroy the object

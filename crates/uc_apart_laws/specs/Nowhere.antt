@@ -12,9 +12,9 @@ use Rattle.uc_typing.specs.Typing.{Ty, Cell, Obj, Table}
 use Rattle.uc_life_laws.specs.Things.{Few, Things, Stands}
 use Rattle.uc_life_laws.specs.LifeStates.{EnvBy}
 use Rattle.uc_life_laws.specs.Knowing.{KnowsEx}
-use Rattle.uc_world_laws.specs.Rooted.{Lives, Yet, OwnObject, StandsUpwards}
+use Rattle.uc_life_laws.specs.Rooted.{Lives, Yet, OwnObject, StandsUpwards}
 use Rattle.uc_depth_laws.specs.Owing.{Ex}
-use Rattle.uc_owing_laws.specs.AtHand.{IsUnopened}
+use Rattle.uc_life_laws.specs.AtHand.{IsUnopened}
 use Rattle.uc_apart_laws.specs.Clear.{NotMaking, IsNoHome, ClearEx}
 
 -- in a world, of those that live: nobody is to clean up that in which the object is at home, nor does it stand in the own object of one, and what they

@@ -4,8 +4,8 @@ use Rattle.uc_machine.specs.declared.exec.Exec.{Exec}
 use Rattle.uc_machine.specs.Pieces.{Value, Active}
 use Rattle.uc_typing.specs.Typing.{Ty, Table}
 use Rattle.uc_life_laws.specs.Things.{Few, Base, Things}
-use Rattle.uc_unmarked_laws.specs.Belonging.{Belongs}
-use Rattle.uc_unmarked_laws.specs.Marks.{Marked, Free}
+use Rattle.uc_life_laws.specs.Belonging.{Belongs}
+use Rattle.uc_life_laws.specs.Marks.{Marked, Free}
 use Rattle.uc_apart_laws.specs.Clear.{IsNoHome}
 
 -- what an execution has of others is in no frame of its own, nor in mutex objects that are at home there

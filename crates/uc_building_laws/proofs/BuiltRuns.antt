@@ -10,10 +10,10 @@ use Rattle.uc_machine.specs.Rides as rides
 use Rattle.uc_machine.specs.Rides.{Rides}
 use Rattle.uc_meaning.specs.Runs.{World, Runs, gives, no_room, acts, begun, more, drawn}
 use Rattle.uc_resolve.specs.Resolve.{source_of}
-use Rattle.uc_scope_laws.specs.RoomRuns as runs
-use Rattle.uc_scope_laws.specs.RoomRuns.{Leads, Comes}
-use Rattle.uc_value_laws.specs.Opens.{Opens, RideMeets, RunMeets, LeadsMeet}
-use Rattle.uc_binding_laws.proofs.OpenRuns.{law_opens}
+use Rattle.uc_state_laws.specs.RoomRuns as runs
+use Rattle.uc_state_laws.specs.RoomRuns.{Leads, Comes}
+use Rattle.uc_state_laws.specs.Opens.{Opens, RideMeets, RunMeets, LeadsMeet}
+use Rattle.uc_place_laws.proofs.OpenRuns.{law_opens}
 use Rattle.uc_sound.specs.Tables.{table_of}
 use Rattle.uc_life_laws.specs.OpenedRuns.{MeetsObjects, IsFollowed}
 use Rattle.uc_life_laws.proofs.OpenedRuns.{law_opened_runs}

@@ -11,7 +11,7 @@ use Rattle.uc_machine.specs.Pieces.{FieldAt, Value, Todo, Active, State, Env, at
 use Rattle.uc_typing.specs.Typing.{Ty, Obj, Table, CleansAt}
 use Rattle.uc_life_laws.specs.Things.{Few, IsField, itself, field, Known, Holds, LiesBefore}
 use Rattle.uc_life_laws.specs.LifeStates.{frame_at, Outwards}
-use Rattle.uc_life_laws.proofs.Steps.{exec_same}
+use Rattle.uc_life_laws.proofs.LifeSteps.{exec_same}
 use Rattle.uc_building_laws.specs.Building.{Now}
 use Rattle.uc_building_laws.specs.BuildingStates.{variable, Awaits, NotBack, IsBuilt, IsMaking, Builds, of_wait, AllBuild, IsApart, AllApart, BuildsEnv, BuildsBy}
 use Rattle.uc_building_laws.specs.BuildingLaws.{AwaitedBefore}

@@ -21,19 +21,19 @@ use Rattle.uc_rules.specs.Breaks.{breaks_of}
 use Rattle.uc_rules.specs.Sorts.{class_sort, sort_of}
 use Rattle.uc_typing.specs.Typing.{Obj, Table, CleansAt}
 use Rattle.uc_typing.specs.States.{IsSorted}
-use Rattle.uc_sound.specs.Formed.{IsFormed}
+use Rattle.uc_sound.specs.SoundFormed.{IsFormed}
 use Rattle.uc_sound.specs.Tables.{table_of}
 use Rattle.uc_sound.specs.Told.{TellsMaker}
 use Rattle.uc_sound.proofs.ClassLemmas.{mutex_is, law_told}
 use Rattle.uc_sound.proofs.DeclaringLemmas.{made_kind, made}
 use Rattle.uc_sound.proofs.ObjectLemmas.{Making_is, made_told}
 use Rattle.uc_sound.proofs.SoundLemmas.{law_sound}
-use Rattle.uc_event_laws.specs.Counted.{params_at, params}
+use Rattle.uc_state_laws.specs.Counted.{params_at, params}
 use Rattle.uc_life_laws.specs.Things.{IsUnbound}
 use Rattle.uc_life_laws.specs.Knowing.{KnowsState}
 use Rattle.uc_life_laws.specs.Opened.{any}
-use Rattle.uc_opening_laws.specs.Opened.{role_number, ArePaired, OfPlain}
-use Rattle.uc_opening_laws.specs.OpeningLaws.{Awaited, CallsAt, IsCalled}
+use Rattle.uc_place_laws.specs.Opened.{role_number, ArePaired, OfPlain}
+use Rattle.uc_place_laws.specs.OpeningLaws.{Awaited, CallsAt, IsCalled}
 use Rattle.uc_building_laws.specs.Building.{is_bound_in, heads_of, InHead}
 use Rattle.uc_building_laws.specs.BuildingStates.{variable}
 use Rattle.uc_building_laws.specs.BuildingLaws.{IsConstructed, Constructs, BuildsAt, Fair}

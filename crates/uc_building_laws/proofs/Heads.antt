@@ -19,9 +19,9 @@ use Rattle.uc_rules.specs.Breaks.{breaks_of}
 use Rattle.uc_rules.specs.Sorts.{sort_of}
 use Rattle.uc_typing.specs.Typing.{Ty, Num, Cell, Obj, Raw, Row, Clu, Pro, Sig, Table, IsParam, IsPlaced, Yields, Fine, FineStmts, raw}
 use Rattle.uc_typing.specs.States.{whole, Sound}
-use Rattle.uc_agreement.specs.Agreement.{is_numbered, found_ty, place_by, place_ty, sort_ty, param_ty}
-use Rattle.uc_agreement.specs.Fields.{field_ty}
-use Rattle.uc_sound.specs.Formed.{IsFormed}
+use Rattle.uc_sound.specs.Agreement.{is_numbered, found_ty, place_by, place_ty, sort_ty, param_ty}
+use Rattle.uc_sound.specs.Fields.{field_ty}
+use Rattle.uc_sound.specs.SoundFormed.{IsFormed}
 use Rattle.uc_sound.specs.Tables.{known_field, listed_field, class_field, written_sigs, unwritten_sigs, sig_or_none, table_of}
 use Rattle.uc_sound.proofs.Lists.{left_is, right_is}
 use Rattle.uc_sound.proofs.SoundLemmas.{law_sound}

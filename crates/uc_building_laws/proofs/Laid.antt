@@ -11,12 +11,12 @@ use Rattle.uc_machine.specs.declared.exec.Owner.TheVariants.{Frame}
 use Rattle.uc_machine.specs.Pieces as piece
 use Rattle.uc_machine.specs.Pieces.{Link, Slot, FieldAt, At, Value, Place, Todo, Sort, Active, State, LAST_ADDRESS, address, further}
 use Rattle.uc_typing.specs.Typing.{Ty, Num, Cell, Obj, Raw, Row, Clu, Pro, Table, element_shape, DestroysAt, CleansAt}
-use Rattle.uc_scope_laws.specs.Layout.{Sized}
-use Rattle.uc_scope_laws.specs.Rooms.{Room, LiesAt, Destroyed, Lies}
-use Rattle.uc_scope_laws.specs.RoomStates.{Reached, PieceIn}
-use Rattle.uc_scope_laws.specs.RoomStacks.{UpTo, frame_cells, TodoTo, Beneath, Stack, FrameBeneath, StackState}
-use Rattle.uc_scope_laws.proofs.Stacks.{forget, some_up}
-use Rattle.uc_scope_laws.proofs.StackWalk.{beneath}
+use Rattle.uc_state_laws.specs.Layout.{Sized}
+use Rattle.uc_state_laws.specs.Rooms.{Room, LiesAt, Destroyed, Lies}
+use Rattle.uc_state_laws.specs.RoomStates.{Reached, PieceIn}
+use Rattle.uc_state_laws.specs.RoomStacks.{UpTo, frame_cells, TodoTo, Beneath, Stack, FrameBeneath, StackState}
+use Rattle.uc_state_laws.proofs.Stacks.{forget, some_up}
+use Rattle.uc_state_laws.proofs.StackWalk.{beneath}
 use Rattle.uc_life_laws.specs.LifeStates.{frame_at}
 use Rattle.uc_life_laws.specs.Things.{Few, Within, itself, field, element, LiesBefore}
 use Rattle.uc_life_laws.specs.LifeRuns.{span, IsFlat, IsLaidOut}

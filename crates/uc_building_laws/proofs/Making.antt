@@ -16,9 +16,9 @@ use Rattle.uc_typing.specs.Typing.{Ty, Cell, Obj, Row, Table, CleansAt, IsParam,
 use Rattle.uc_typing.specs.States.{IsObjectBy}
 use Rattle.uc_life_laws.specs.Things.{Few, IsField, lies, Within, itself, field, element, IsUnbound, InTodo, IsFor, AtField, Around, Known, Holds, LiesBefore}
 use Rattle.uc_life_laws.specs.LifeStates.{frame_at, Outwards}
-use Rattle.uc_scope_laws.specs.RoomStacks.{StackState}
+use Rattle.uc_state_laws.specs.RoomStacks.{StackState}
 use Rattle.uc_life_laws.proofs.Cells.{either}
-use Rattle.uc_life_laws.proofs.Steps.{exec_same}
+use Rattle.uc_life_laws.proofs.LifeSteps.{exec_same}
 use Rattle.uc_life_laws.proofs.Knowns as known
 use Rattle.uc_building_laws.specs.Building.{InHead, AllLeft, Starts, Onwards, Now}
 use Rattle.uc_building_laws.specs.BuildingStates.{IsFree, variable, Awaits, NotBack, IsBuilt, IsMaking, Builds, of_wait, AllBuild, IsApart, AllApart, BuildsEnv}

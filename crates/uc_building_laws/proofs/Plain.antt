@@ -5,8 +5,8 @@ use Rattle.uc_tree.specs.Source.{Expr, CleanUp}
 use Rattle.uc_machine.specs.Pieces as piece
 use Rattle.uc_machine.specs.Pieces.{Todo}
 use Rattle.uc_typing.specs.Typing.{Obj, Table, DestroysAt, CleansAt}
-use Rattle.uc_opening_laws.specs.Opened.{OfPlain}
-use Rattle.uc_opening_laws.specs.OpeningLaws.{NoneAwaited}
+use Rattle.uc_place_laws.specs.Opened.{OfPlain}
+use Rattle.uc_place_laws.specs.OpeningLaws.{NoneAwaited}
 use Rattle.uc_building_laws.specs.BuildingStates.{Awaits}
 use Rattle.uc_building_laws.specs.BuildingLaws.{IsPlain}
 

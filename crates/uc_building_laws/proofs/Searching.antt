@@ -8,7 +8,7 @@ use Rattle.uc_machine.specs.Raising as raising
 use Rattle.uc_machine.specs.Raising.{Event, Hit, Found}
 use Rattle.uc_machine.specs.Pieces as piece
 use Rattle.uc_machine.specs.Pieces.{Value, Todo, Sort, Active}
-use Rattle.uc_scope_laws.specs.RoomStacks.{Stack}
+use Rattle.uc_state_laws.specs.RoomStacks.{Stack}
 use Rattle.uc_life_laws.proofs.Cells.{either}
 use Rattle.uc_building_laws.specs.Building.{IsLeft, AllLeft}
 use Rattle.uc_building_laws.specs.BuildingStates.{IsApart, IsOwn, HomedBy, AllApart}

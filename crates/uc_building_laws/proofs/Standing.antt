@@ -18,11 +18,11 @@ use Rattle.uc_machine.specs.Pieces.{FieldAt, Value, Todo, Active, State, Step, G
 use Rattle.uc_typing.specs.Typing.{Ty, Obj, Table, CleansAt}
 use Rattle.uc_life_laws.specs.Things.{Few, Known, Holds}
 use Rattle.uc_life_laws.specs.LifeStates.{Outwards, frame_at}
-use Rattle.uc_scope_laws.specs.RoomStacks.{Stack, StackState}
+use Rattle.uc_state_laws.specs.RoomStacks.{Stack, StackState}
 use Rattle.uc_life_laws.proofs.Cells.{either, others_length}
 use Rattle.uc_building_laws.specs.Building.{Now}
 use Rattle.uc_building_laws.specs.BuildingStates.{variable, Awaits, Nears, NotBack, IsBuilt, IsMaking, Builds, of_run, Stands, StandsBehind, BuildsState}
-use Rattle.uc_opening_laws.specs.CalledStates.{Ends, Joins, AskJoins, StepJoins}
+use Rattle.uc_place_laws.specs.CalledStates.{Ends, Joins, AskJoins, StepJoins}
 use Rattle.uc_building_laws.proofs.Memory.{frame_older}
 use Rattle.uc_building_laws.proofs.Plain.{none_plain}
 use Rattle.uc_building_laws.proofs.Building.{built_kept}

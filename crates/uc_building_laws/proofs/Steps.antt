@@ -24,7 +24,7 @@ use Rattle.uc_machine.specs.Quiet as quiet
 use Rattle.uc_machine.specs.Pieces as piece
 use Rattle.uc_machine.specs.Pieces.{Value, Number, Object, Nothing, Todo, Sort, Active, State, Env, Step, Goes, Ticks, Asks, Outcome, Gives, Faults, at, in_env, top, below, written}
 use Rattle.uc_typing.specs.Typing.{Ty, Table}
-use Rattle.uc_scope_laws.specs.RoomStacks.{Stack, StackState}
+use Rattle.uc_state_laws.specs.RoomStacks.{Stack, StackState}
 use Rattle.uc_life_laws.proofs.Cells.{either, others_length}
 use Rattle.uc_building_laws.specs.Building.{IsLeft, IsHead, BindsField, BindsBy, AllLeft, Behind, Now}
 use Rattle.uc_building_laws.specs.BuildingStates.{NotBack, Builds, of_run, of_wait, AllBuild, IsApart, HomedBy, AllApart, BuildsEx, BuildsEnv, BuildsBy}

@@ -18,8 +18,8 @@ use Rattle.uc_machine.specs.Answering.{answered, entered, new_members}
 use Rattle.uc_typing.specs.Typing.{Ty, Obj, Table}
 use Rattle.uc_life_laws.specs.LifeStates.{MembersBy, frame_at}
 use Rattle.uc_life_laws.specs.LifeRuns.{IsLaidOut}
-use Rattle.uc_scope_laws.specs.Layout.{Sized}
-use Rattle.uc_scope_laws.specs.RoomStacks.{StackState}
+use Rattle.uc_state_laws.specs.Layout.{Sized}
+use Rattle.uc_state_laws.specs.RoomStacks.{StackState}
 use Rattle.uc_life_laws.proofs.Parked as parked
 use Rattle.uc_building_laws.specs.Building.{InHead, AllLeft, Behind, Now}
 use Rattle.uc_building_laws.specs.BuildingStates.{variable, NotBack, of_run, of_wait, BuildsEx, BuildsBy, BuildsState, BuildsRest, BuildsStep, Builds}
@@ -32,7 +32,7 @@ use Rattle.uc_building_laws.proofs.Making as making
 use Rattle.uc_building_laws.proofs.Clears as clearing
 use Rattle.uc_building_laws.proofs.Standing as standing
 use Rattle.uc_building_laws.proofs.Plain.{none_plain}
-use Rattle.uc_opening_laws.specs.Opened.{OpensNone}
+use Rattle.uc_place_laws.specs.Opened.{OpensNone}
 use Rattle.uc_life_laws.specs.Things.{Few, LiesBefore}
 use Rattle.uc_building_laws.proofs.Laid.{lying}
 use Rattle.uc_building_laws.proofs.Building.{Lying}

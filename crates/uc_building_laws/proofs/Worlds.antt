@@ -27,20 +27,20 @@ use Rattle.uc_machine.specs.Answering.{answered, child_main, child_of}
 use Rattle.uc_machine.specs.Rides as rides
 use Rattle.uc_machine.specs.Rides.{Rides}
 use Rattle.uc_meaning.specs.Runs.{World, Runs, gives, no_room, acts, begun, more, bare, with_home, hand_of, drawn, or_else, first_world, world_after}
-use Rattle.uc_program_laws.specs.Fitting.{RunFits}
-use Rattle.uc_program_laws.proofs.Alive.{law_alive}
-use Rattle.uc_program_laws.proofs.Makes.{law_ends}
-use Rattle.uc_program_laws.proofs.Others.{run_rests}
+use Rattle.uc_state_laws.specs.Fitting.{RunFits}
+use Rattle.uc_state_laws.proofs.Alive.{law_alive}
+use Rattle.uc_state_laws.proofs.Makes.{law_ends}
+use Rattle.uc_state_laws.proofs.Others.{run_rests}
 use Rattle.uc_resolve.specs.Resolve.{source_of}
 use Rattle.uc_rules.specs.Breaks.{breaks_of}
-use Rattle.uc_scope_laws.specs.RoomStacks.{StackState}
-use Rattle.uc_scope_laws.specs.Layout.{Sized}
-use Rattle.uc_scope_laws.specs.RoomRuns as runs
-use Rattle.uc_scope_laws.specs.RoomRuns.{Leads, Comes}
-use Rattle.uc_scope_laws.proofs.StackWorlds.{law_frame_runs}
-use Rattle.uc_value_laws.specs.Opens.{RideMeets, RunMeets, LeadsMeet}
+use Rattle.uc_state_laws.specs.RoomStacks.{StackState}
+use Rattle.uc_state_laws.specs.Layout.{Sized}
+use Rattle.uc_state_laws.specs.RoomRuns as runs
+use Rattle.uc_state_laws.specs.RoomRuns.{Leads, Comes}
+use Rattle.uc_state_laws.proofs.StackWorlds.{law_frame_runs}
+use Rattle.uc_state_laws.specs.Opens.{RideMeets, RunMeets, LeadsMeet}
 use Rattle.uc_typing.specs.Typing.{Obj, Table, CleansAt}
-use Rattle.uc_sound.specs.Formed.{IsFormed}
+use Rattle.uc_sound.specs.SoundFormed.{IsFormed}
 use Rattle.uc_sound.specs.Tables.{table_of}
 use Rattle.uc_life_laws.specs.Things.{IsField, Holds}
 use Rattle.uc_life_laws.specs.LifeStates.{HandBy, MembersBy, frame_at, Outwards}
@@ -51,10 +51,10 @@ use Rattle.uc_life_laws.proofs.Cells.{either}
 use Rattle.uc_life_laws.proofs.Parked.{found_hand}
 use Rattle.uc_life_laws.proofs.Laying.{laid_out}
 use Rattle.uc_life_laws.proofs.OpenedRuns.{law_opened_runs}
-use Rattle.uc_opening_laws.specs.Opened.{OpensNone, OpenedRoutine}
-use Rattle.uc_opening_laws.specs.OpeningLaws.{IsCalled}
-use Rattle.uc_opening_laws.proofs.Openings.{law_opened}
-use Rattle.uc_opening_laws.proofs.OpeningRuns.{law_runs as called}
+use Rattle.uc_place_laws.specs.Opened.{OpensNone, OpenedRoutine}
+use Rattle.uc_place_laws.specs.OpeningLaws.{IsCalled}
+use Rattle.uc_place_laws.proofs.Openings.{law_opened}
+use Rattle.uc_place_laws.proofs.OpeningRuns.{law_runs as called}
 use Rattle.uc_building_laws.specs.Building.{heads_of}
 use Rattle.uc_building_laws.specs.BuildingStates.{variable, of_wait, BuildsEx, BuildsBy, Stands, BuildsState, BuildsRest, StandsBehind, BuildsAsk, BuildsStep}
 use Rattle.uc_building_laws.specs.BuildingRuns.{MeetsBuilding, LawBuilt}

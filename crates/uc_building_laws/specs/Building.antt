@@ -9,7 +9,7 @@ use Rattle.uc_machine.specs.Pieces.{FieldAt, Value, Todo, Sort, sort, LAST_ADDRE
 use Rattle.uc_resolve.specs.Resolve.{source_of}
 use Rattle.uc_typing.specs.Typing.{Ty, Cell, Obj, Table, IsParam, IsPlaced}
 use Rattle.uc_life_laws.specs.Things.{IsField}
-use Rattle.uc_opening_laws.specs.Opened.{role_number}
+use Rattle.uc_place_laws.specs.Opened.{role_number}
 
 -- statements
 

@@ -9,13 +9,13 @@ use Rattle.uc_machine.specs.Pieces as piece
 use Rattle.uc_machine.specs.Pieces.{FieldAt, Value, Todo, Active, top, below, further, loaded, nought}
 use Rattle.uc_machine.specs.Quiet.{State, quiet, first_state, call_frame}
 use Rattle.uc_machine.specs.Answering.{answered}
-use Rattle.uc_scope_laws.specs.Layout.{Sized}
-use Rattle.uc_scope_laws.specs.RoomStacks.{StackState}
+use Rattle.uc_state_laws.specs.Layout.{Sized}
+use Rattle.uc_state_laws.specs.RoomStacks.{StackState}
 use Rattle.uc_typing.specs.Typing.{Ty, Obj, Table, IsParam, CleansAt}
 use Rattle.uc_life_laws.specs.Things.{Few, IsField, IsUnbound, Around, Known, LiesBefore}
 use Rattle.uc_life_laws.specs.LifeRuns.{IsLaidOut}
-use Rattle.uc_opening_laws.specs.Opened.{OpensNone}
-use Rattle.uc_opening_laws.specs.CalledStates.{StepJoins}
+use Rattle.uc_place_laws.specs.Opened.{OpensNone}
+use Rattle.uc_place_laws.specs.CalledStates.{StepJoins}
 use Rattle.uc_building_laws.specs.Building.{InHead}
 use Rattle.uc_building_laws.specs.BuildingStates.{IsFree, Awaits, variable, BuildsState, BuildsRest, BuildsStep}
 

@@ -11,22 +11,22 @@ use Rattle.uc_machine.specs.Pieces.{Link, FieldAt, Todo, Value, Place, Rest, Cal
 use Rattle.uc_machine.specs.Quiet.{State, call_frame}
 use Rattle.uc_machine.specs.Answering.{answered}
 use Rattle.uc_meaning.specs.Runs.{World, Runs, drawn}
-use Rattle.uc_program_laws.specs.Fitting.{RunFits}
+use Rattle.uc_state_laws.specs.Fitting.{RunFits}
 use Rattle.uc_resolve.specs.Resolve.{source_of}
 use Rattle.uc_rules.specs.Breaks.{breaks_of}
-use Rattle.uc_scope_laws.specs.RoomRuns.{Comes}
-use Rattle.uc_value_laws.specs.Opens as there
-use Rattle.uc_value_laws.specs.Opens.{RunMeets, LeadsMeet}
+use Rattle.uc_state_laws.specs.RoomRuns.{Comes}
+use Rattle.uc_state_laws.specs.Opens as there
+use Rattle.uc_state_laws.specs.Opens.{RunMeets, LeadsMeet}
 use Rattle.uc_typing.specs.Typing.{Ty, Num, Cell, Obj, Raw, Row, Clu, Pro, Table, IsParam, CleansAt}
 use Rattle.uc_typing.specs.States.{IsNumbered, Sound}
-use Rattle.uc_sound.specs.Formed.{IsFormed}
+use Rattle.uc_sound.specs.SoundFormed.{IsFormed}
 use Rattle.uc_sound.specs.Tables.{table_of}
 use Rattle.uc_life_laws.specs.Things.{IsField, IsUnbound, IsTracked, is_outside, UnmadeBehind, Around, LiesIn, Holds}
 use Rattle.uc_life_laws.specs.LifeStates.{frame_at, Outwards}
 use Rattle.uc_life_laws.specs.Knowing.{InMaking, KnowsState, Finds}
 use Rattle.uc_life_laws.specs.Opened.{any}
 use Rattle.uc_life_laws.specs.OpenedRuns.{MeetsObjects}
-use Rattle.uc_opening_laws.specs.Opened.{ArePaired}
+use Rattle.uc_place_laws.specs.Opened.{ArePaired}
 use Rattle.uc_building_laws.specs.Building.{heads_of, InHead}
 use Rattle.uc_building_laws.specs.BuildingStates.{IsFree, Awaits, variable}
 

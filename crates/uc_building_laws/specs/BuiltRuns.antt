@@ -8,15 +8,15 @@ use Rattle.uc_acts.specs.KernelRuns.{InRange}
 use Rattle.uc_machine.specs.Pieces.{State}
 use Rattle.uc_machine.specs.Answering.{answered}
 use Rattle.uc_meaning.specs.Runs.{World, Runs, drawn}
-use Rattle.uc_program_laws.specs.Fitting.{RunFits}
+use Rattle.uc_state_laws.specs.Fitting.{RunFits}
 use Rattle.uc_resolve.specs.Resolve.{source_of}
 use Rattle.uc_rules.specs.Breaks.{breaks_of}
-use Rattle.uc_scope_laws.specs.RoomRuns.{Comes}
-use Rattle.uc_value_laws.specs.Opens.{Opens, RunMeets, LeadsMeet}
-use Rattle.uc_address_laws.specs.Limits.{IsWithinLimits}
+use Rattle.uc_state_laws.specs.RoomRuns.{Comes}
+use Rattle.uc_state_laws.specs.Opens.{Opens, RunMeets, LeadsMeet}
+use Rattle.uc_state_laws.specs.Limits.{IsWithinLimits}
 use Rattle.uc_typing.specs.Typing.{Table}
 use Rattle.uc_typing.specs.Laws.{ReadsIn}
-use Rattle.uc_sound.specs.Formed.{IsFormed}
+use Rattle.uc_sound.specs.SoundFormed.{IsFormed}
 use Rattle.uc_sound.specs.Tables.{table_of}
 use Rattle.uc_life_laws.specs.LifeStates.{LifeState}
 use Rattle.uc_life_laws.specs.Knowing.{KnowsState}

@@ -37,10 +37,10 @@ use Rattle.uc_rules.specs.Entities.{entity_of, part_entity, parts_entity, link_e
 use Rattle.uc_rules.specs.Visits.{AtUse, AtMember, AtCall, visits, part_visits, parts_visits, link_visits, chain_visits, args_visits, arg_visits, root_entity}
 use Rattle.uc_rules.specs.Breaks.{breaks_at}
 use Rattle.uc_rules.specs.ProgramVisits.{program_visits}
-use Rattle.uc_agreement.specs.Unbroken.{Unbroken, Stands, IsKnown}
-use Rattle.uc_agreement.proofs.Ties.{some_same, none_some}
-use Rattle.uc_agreement.proofs.UnbrokenLemmas.{first, second, one, stands}
-use Rattle.uc_sound.specs.Formed.{IsFormed}
+use Rattle.uc_sound.specs.Unbroken.{Unbroken, Stands, IsKnown}
+use Rattle.uc_sound.proofs.Ties.{some_same, none_some}
+use Rattle.uc_sound.proofs.UnbrokenLemmas.{first, second, one, stands}
+use Rattle.uc_sound.specs.SoundFormed.{IsFormed}
 use Rattle.uc_depth_laws.specs.Entering.{IsMain}
 use Rattle.uc_depth_laws.proofs.Kept.{either}
 use Rattle.uc_calls_laws.specs.Calls.{IsNoMain, CallsExpr, CallsExprs}

@@ -28,10 +28,10 @@ use Rattle.uc_rules.specs.Scopes.{Env, plain_env, sig_around, with_param, with_p
 use Rattle.uc_rules.specs.Entities.{entity_of, expected}
 use Rattle.uc_rules.specs.ProgramVisits.{program_visits, params_visits, sig_visits, base_visits, body_visits, inits_visits, init_arg_visits, init_args_visits, init_target, argument_env, field_of, last_field}
 use Rattle.uc_rules.specs.Visits.{AtBase, AtParam, AtSig, AtInits, AtInit, AtArgument, AtBound, visits, stmts_visits}
-use Rattle.uc_agreement.specs.Unbroken.{Unbroken}
-use Rattle.uc_agreement.proofs.Ties.{some_same, none_some}
-use Rattle.uc_agreement.proofs.UnbrokenLemmas.{first, second, one}
-use Rattle.uc_sound.specs.Formed.{IsFormed}
+use Rattle.uc_sound.specs.Unbroken.{Unbroken}
+use Rattle.uc_sound.proofs.Ties.{some_same, none_some}
+use Rattle.uc_sound.proofs.UnbrokenLemmas.{first, second, one}
+use Rattle.uc_sound.specs.SoundFormed.{IsFormed}
 use Rattle.uc_sound.specs.Rooted.{Rooted}
 use Rattle.uc_sound.specs.Tables.{routine_sig_in, table_of}
 use Rattle.uc_sound.proofs.BodyLemmas.{InStep, is_written, nobody_wrote, in_step}
@@ -40,7 +40,7 @@ use Rattle.uc_sound.proofs.GivingLemmas.{stood_stands}
 use Rattle.uc_sound.proofs.Origins.{origin}
 use Rattle.uc_sound.proofs.RootedLemmas.{rooted}
 use Rattle.uc_sound.proofs.Visited.{base_known}
-use Rattle.uc_enter_laws.proofs.Lookups.{MakesPlain, making_plain}
+use Rattle.uc_sound.proofs.Lookups.{MakesPlain, making_plain}
 use Rattle.uc_calls_laws.specs.Calls.{CallsExpr, CallsStmts, CallsRoutine, NoMainSource}
 use Rattle.uc_calls_laws.proofs.MainNames.{IsLocal}
 use Rattle.uc_calls_laws.proofs.CallExprs as exprs

@@ -40,18 +40,18 @@ use Rattle.uc_rules.specs.Entities.{entity_of, path_member, takes, is_main, give
 use Rattle.uc_rules.specs.ExpressionBreaks.{handlers_breaks, is_event_or_all, behind_all, is_catch}
 use Rattle.uc_rules.specs.ProgramVisits.{program_visits}
 use Rattle.uc_rules.specs.Visits.{Visit, AtBase, AtHandlers, AtEvent, AtRaise, AtRaiseTarget, AtAccept, AtCaught, AtVariable, visits, args_visits, arg_visits, maybe_visits, condition_visits, maybe_condition_visits, statement_visits, maybe_statement_visits, return_visits, outs_visits, out_visits, reads_visits, read_visits, start_values, variable_target, variable_visits, variables_visits, declaration_visits, event_target, raised_visits, raise_visits, events_visits, looped, joined, handling, stmt_visits, stmts_visits, maybe_stmt_visits, handlers_visits, clauses_visits}
-use Rattle.uc_agreement.specs.Unbroken.{Unbroken, Stands, IsKnown}
-use Rattle.uc_agreement.proofs.Ties.{some_same, none_some, false_true}
+use Rattle.uc_sound.specs.Unbroken.{Unbroken, Stands, IsKnown}
+use Rattle.uc_sound.proofs.Ties.{some_same, none_some, false_true}
 use Rattle.uc_rules.specs.Asked.{unless}
-use Rattle.uc_agreement.proofs.UnbrokenLemmas.{none_left, none_right, first, second, one, holds}
-use Rattle.uc_sound.specs.Formed.{IsFormed, nameless, own_nameless}
+use Rattle.uc_sound.proofs.UnbrokenLemmas.{none_left, none_right, first, second, one, holds}
+use Rattle.uc_sound.specs.SoundFormed.{IsFormed, nameless, own_nameless}
 use Rattle.uc_sound.specs.Rooted.{root_named}
 use Rattle.uc_sound.proofs.Lists.{left_is}
 use Rattle.uc_sound.proofs.Visited.{base_known}
 use Rattle.uc_sound.proofs.ClassNames.{sorted_event}
 use Rattle.uc_sound.proofs.ClassLemmas.{law_told}
 use Rattle.uc_sound.proofs.MemberLemmas.{tells_maker}
-use Rattle.uc_enter_laws.proofs.Lookups.{IsPlainClass, IsObjectClass, MakesPlain, making_plain}
+use Rattle.uc_sound.proofs.Lookups.{IsPlainClass, IsObjectClass, MakesPlain, making_plain}
 use Rattle.uc_calls_laws.specs.Calls.{IsNoMain, CallsExpr, CallsMaybe, CallsItems, CallsTargets, CallsDeclared, CallsClean, CallsRaised, CallsStmt, CallsStmts, CallsHandlers, CallsClauses}
 use Rattle.uc_calls_laws.proofs.Mains.{whole_no_main}
 use Rattle.uc_calls_laws.proofs.MainNames.{IsLocal, AreLocals}

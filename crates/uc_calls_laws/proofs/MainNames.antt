@@ -30,9 +30,9 @@ use Rattle.uc_rules.specs.Entities.{takes, is_main, may_call, is_object, path_me
 use Rattle.uc_rules.specs.ExpressionBreaks.{is_member, is_no_main, is_open_member, may_name}
 use Rattle.uc_rules.specs.Visits.{AtUse, AtMember, AtCall}
 use Rattle.uc_rules.specs.Breaks.{breaks_at}
-use Rattle.uc_agreement.specs.Unbroken.{IsKnown}
-use Rattle.uc_agreement.proofs.Ties.{some_same, none_some, false_true}
-use Rattle.uc_agreement.proofs.UnbrokenLemmas.{none_right, holds}
+use Rattle.uc_sound.specs.Unbroken.{IsKnown}
+use Rattle.uc_sound.proofs.Ties.{some_same, none_some, false_true}
+use Rattle.uc_sound.proofs.UnbrokenLemmas.{none_right, holds}
 use Rattle.uc_sound.proofs.Lists.{left_is, right_is, not_is}
 use Rattle.uc_sound.proofs.ClassNames.{same_is}
 

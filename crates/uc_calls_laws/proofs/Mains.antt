@@ -19,9 +19,9 @@ use Rattle.uc_resolve.specs.Resolve.{source_of, place_by, class_by, has_tasks, h
 use Rattle.uc_rules.specs.ProgramVisits.{program_visits}
 use Rattle.uc_typing.specs.Typing.{Inward, Apart, Main}
 use Rattle.uc_typing.specs.States.{IsSorted}
-use Rattle.uc_agreement.specs.Unbroken.{Unbroken}
-use Rattle.uc_agreement.proofs.Ties.{some_same, false_true}
-use Rattle.uc_sound.specs.Formed.{IsFormed}
+use Rattle.uc_sound.specs.Unbroken.{Unbroken}
+use Rattle.uc_sound.proofs.Ties.{some_same, false_true}
+use Rattle.uc_sound.specs.SoundFormed.{IsFormed}
 use Rattle.uc_sound.specs.Tables.{inward_by, inward_in, inward_at, sig_or_none, all_sigs, table_of}
 use Rattle.uc_sound.proofs.Lists.{left_is, right_is}
 use Rattle.uc_sound.proofs.Origins.{Looked, looked, routine_looked, member_looked}
@@ -30,7 +30,7 @@ use Rattle.uc_sound.proofs.BodyLemmas.{InStep, is_written, nobody_wrote, in_step
 use Rattle.uc_sound.proofs.RoutineLemmas.{defined_routine}
 use Rattle.uc_sound.proofs.SoundLemmas.{law_sound}
 use Rattle.uc_depth_laws.specs.Entering.{EndsMain, IsMainRoutine, IsMain}
-use Rattle.uc_enter_laws.proofs.Lookups.{found_in}
+use Rattle.uc_sound.proofs.Lookups.{found_in}
 
 -- a routine that is there
 there : (o : Option Routine) → IsMainRoutine o → (r : Routine) × (o ≡ Some r) × EndsMain r.purpose

@@ -4,7 +4,7 @@ use Rattle.uc_tree.specs.Programs.{Program}
 use Rattle.uc_tree.specs.Source.{Expr, Exprs, ObjectExpr, CallOn, CallLive, CallUnwritten, EnterOn, EndOn, MakeOn, Item, Target, Declared, CleanUp, Raised, Stmt, Stmts, TaskStmt, Handlers, Clauses, Purpose, TaskMain, CoroutineMain, Procedure, Function, Builder, Routine, Source}
 use Rattle.uc_resolve.specs.Resolve.{source_of}
 use Rattle.uc_rules.specs.Breaks.{breaks_of}
-use Rattle.uc_sound.specs.Formed.{IsFormed}
+use Rattle.uc_sound.specs.SoundFormed.{IsFormed}
 use Rattle.uc_depth_laws.specs.Entering.{IsMain}
 use Rattle.uc_inner_laws.specs.Walks as walk
 use Rattle.uc_inner_laws.specs.Inner.{Part, Plain, Helper, Maker, Uncalled, Begun, InnerSource}

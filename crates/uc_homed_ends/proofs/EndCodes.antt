@@ -8,10 +8,10 @@ use Rattle.uc_resolve.specs.Resolve.{source_of}
 use Rattle.uc_rules.specs.Breaks.{breaks_of}
 use Rattle.uc_typing.specs.Typing.{Name, Kept, Sig, Table, Fine, FineClean, FineStmt, FineStmts, FineEvent, FineHandlers, FineTask, FineClauses}
 use Rattle.uc_typing.specs.States.{Routine_is, Sound}
-use Rattle.uc_sound.specs.Formed.{IsFormed}
+use Rattle.uc_sound.specs.SoundFormed.{IsFormed}
 use Rattle.uc_sound.specs.Tables.{table_of}
 use Rattle.uc_sound.proofs.SoundLemmas.{law_sound}
-use Rattle.uc_unmarked_laws.specs.Ending.{OfVariable, OfField}
+use Rattle.uc_life_laws.specs.Ending.{OfVariable, OfField}
 use Rattle.uc_putting_laws.specs.CleanedSpots.{Site, NoSite, AnySite, IsAtVariable, OpensFor, IsSpotOf, Reach, reach_of, apart}
 use Rattle.uc_putting_laws.specs.Calling.{PlainExpr, PlainExprs, PlainMaybe, PlainItems, PlainTargets, PlainDeclared, PlainNew, Binds, PlaceAt, CallsAt, MakesAt, MakesEach, EndsAt, EndsEach, EndsNumber, Evaluates, FillsBy, SweepsBy, CleansBy, RaisesBy, CallingStmt, CallingStmts, CallingEvent, CallingHandlers, CallingTask, CallingClauses, Opening, CallingBody, CallingRoutine, CallingSource}
 use Rattle.uc_putting_laws.specs.PuttingLaws.{special_of}

@@ -16,33 +16,33 @@ use Rattle.uc_machine.specs.Answering.{answered}
 use Rattle.uc_machine.specs.Rides as rides
 use Rattle.uc_machine.specs.Rides.{Rides}
 use Rattle.uc_meaning.specs.Runs.{World, Runs, drawn, gives, no_room, acts, begun, more}
-use Rattle.uc_program_laws.specs.Fitting.{RunFits}
+use Rattle.uc_state_laws.specs.Fitting.{RunFits}
 use Rattle.uc_resolve.specs.Resolve.{source_of}
 use Rattle.uc_rules.specs.Breaks.{breaks_of}
-use Rattle.uc_scope_laws.specs.Layout.{Sized}
-use Rattle.uc_scope_laws.specs.Rooms.{SourceIn}
-use Rattle.uc_scope_laws.specs.RoomStacks.{UpTo, TodoTo, StackState, StackStep}
-use Rattle.uc_scope_laws.specs.FrameRuns.{KeepsFrames}
-use Rattle.uc_scope_laws.specs.RoomRuns as runs
-use Rattle.uc_scope_laws.specs.RoomRuns.{Leads, Comes}
-use Rattle.uc_scope_laws.proofs.StackWalk as stacking
-use Rattle.uc_scope_laws.proofs.StackWorlds.{law_frame_runs}
-use Rattle.uc_scope_laws.proofs.Unreferring.{law_accepted}
+use Rattle.uc_state_laws.specs.Layout.{Sized}
+use Rattle.uc_state_laws.specs.Rooms.{SourceIn}
+use Rattle.uc_state_laws.specs.RoomStacks.{UpTo, TodoTo, StackState, StackStep}
+use Rattle.uc_state_laws.specs.ScopeFrameRuns.{KeepsFrames}
+use Rattle.uc_state_laws.specs.RoomRuns as runs
+use Rattle.uc_state_laws.specs.RoomRuns.{Leads, Comes}
+use Rattle.uc_state_laws.proofs.StackWalk as stacking
+use Rattle.uc_state_laws.proofs.StackWorlds.{law_frame_runs}
+use Rattle.uc_state_laws.proofs.Unreferring.{law_accepted}
 use Rattle.uc_typing.specs.Typing.{Cell, Obj, Table}
-use Rattle.uc_sound.specs.Formed.{IsFormed}
+use Rattle.uc_sound.specs.SoundFormed.{IsFormed}
 use Rattle.uc_sound.specs.Tables.{table_of}
-use Rattle.uc_value_laws.specs.Opens.{RideMeets, RunMeets, LeadsMeet}
+use Rattle.uc_state_laws.specs.Opens.{RideMeets, RunMeets, LeadsMeet}
 use Rattle.uc_life_laws.specs.Things.{Few, AtVariable, Nowhere, InTodo, Variables}
 use Rattle.uc_life_laws.specs.LifeRuns.{IsLaidOut}
 use Rattle.uc_life_laws.proofs.Laying.{laid_out}
-use Rattle.uc_home_laws.specs.MadeObjects as made
-use Rattle.uc_home_laws.specs.Homes.{home_of}
-use Rattle.uc_home_laws.specs.HomedStates.{Owns, all_of_it, HomedState, HomedStep, Opens}
-use Rattle.uc_home_laws.specs.HomedRuns.{KeepsHomes}
-use Rattle.uc_home_laws.proofs.HomedReading.{law_reading}
-use Rattle.uc_home_laws.proofs.HomedWorlds.{law_runs, steps_to}
-use Rattle.uc_home_laws.proofs.Homes.{law_binds}
-use Rattle.uc_unmarked_laws.specs.Ending.{OfVariable, OfField, ends_at, place_at}
+use Rattle.uc_life_laws.specs.MadeObjects as made
+use Rattle.uc_life_laws.specs.Homes.{home_of}
+use Rattle.uc_life_laws.specs.HomedStates.{Owns, all_of_it, HomedState, HomedStep, Opens}
+use Rattle.uc_life_laws.specs.HomedRuns.{KeepsHomes}
+use Rattle.uc_life_laws.proofs.HomedReading.{law_reading}
+use Rattle.uc_life_laws.proofs.HomedWorlds.{law_runs, steps_to}
+use Rattle.uc_life_laws.proofs.Homes.{law_binds}
+use Rattle.uc_life_laws.specs.Ending.{OfVariable, OfField, ends_at, place_at}
 use Rattle.uc_putting_laws.specs.Putting.{Setting, IsHome, IsEnding}
 use Rattle.uc_putting_laws.specs.PuttingLaws.{setting_of, FairAt, Fair}
 use Rattle.uc_homed_ends.specs.EndCode.{EndSite, AtSpot, AtElement}

@@ -20,16 +20,16 @@ use Rattle.uc_machine.specs.Pieces.{Members, State}
 use Rattle.uc_machine.specs.Quiet.{no_members}
 use Rattle.uc_machine.specs.Answering.{answered, child_main, child_of}
 use Rattle.uc_meaning.specs.Runs.{World, May, Runs, first_world, world_after, bare, with_home, hand_of, drawn, or_else, gives, no_room, acts, begun, more}
-use Rattle.uc_program_laws.specs.Fitting.{RunFits}
-use Rattle.uc_program_laws.proofs.Alive.{law_alive}
-use Rattle.uc_program_laws.proofs.Makes.{law_ends}
-use Rattle.uc_program_laws.proofs.Others.{run_rests}
+use Rattle.uc_state_laws.specs.Fitting.{RunFits}
+use Rattle.uc_state_laws.proofs.Alive.{law_alive}
+use Rattle.uc_state_laws.proofs.Makes.{law_ends}
+use Rattle.uc_state_laws.proofs.Others.{run_rests}
 use Rattle.uc_answer_laws.proofs.Told.{no_both}
-use Rattle.uc_scope_laws.specs.RoomRuns.{Comes}
+use Rattle.uc_state_laws.specs.RoomRuns.{Comes}
 use Rattle.uc_site_laws.specs.Resting.{RestsHand, RestsEnv}
 use Rattle.uc_site_laws.proofs.Kept.{either, found_hand}
 use Rattle.uc_typing.specs.Typing.{Table}
-use Rattle.uc_value_laws.specs.Opens.{MayMeet, RunMeets, LeadsMeet}
+use Rattle.uc_state_laws.specs.Opens.{MayMeet, RunMeets, LeadsMeet}
 use Rattle.uc_life_laws.proofs.Spawning.{ended_before}
 use Rattle.uc_homed_ends.specs.EndCode.{FreeSource}
 use Rattle.uc_homed_ends.specs.EndLists.{FreeActive, FreeMembers, FreeState}

@@ -24,10 +24,10 @@ use Rattle.uc_site_laws.specs.Resting.{AllWait, RestsParked, RestsHand, RestsEnv
 use Rattle.uc_site_laws.proofs.Kept as kept
 use Rattle.uc_site_laws.proofs.Kept.{either}
 use Rattle.uc_typing.specs.Typing.{Table}
-use Rattle.uc_scope_laws.specs.RoomRuns as runs
-use Rattle.uc_scope_laws.specs.RoomRuns.{Leads}
-use Rattle.uc_value_laws.specs.Opens.{RideMeets, LeadsMeet}
-use Rattle.uc_unmarked_laws.specs.Ending.{Spot, OfVariable, OfField, place_at}
+use Rattle.uc_state_laws.specs.RoomRuns as runs
+use Rattle.uc_state_laws.specs.RoomRuns.{Leads}
+use Rattle.uc_state_laws.specs.Opens.{RideMeets, LeadsMeet}
+use Rattle.uc_life_laws.specs.Ending.{Spot, OfVariable, OfField, place_at}
 use Rattle.uc_homed_ends.specs.EndCode.{EndSite, AtSpot, AtElement, EndOf, FreeSweep, FreeExpr, FreeStmt, FreeClean, FreeRoutine, FreeSource}
 use Rattle.uc_homed_ends.specs.EndLists.{FreePiece, FreeList, FreeActive, FreeMembers, FreeState, FreeStep}
 use Rattle.uc_homed_ends.specs.EndWays as ways

@@ -5,8 +5,8 @@ use Rattle.uc_entry.specs.declared.request.Request.TheVariants as ask
 use Rattle.uc_machine.specs.Pieces.{Number, At, Todo, Eval, LoadNow, ElementNow, Clean, Part, Sweep, Unwind, State, Step, Goes, Ticks, Asks, further, top, below}
 use Rattle.uc_site_laws.specs.Resting.{AllWait, RestsEnv}
 use Rattle.uc_typing.specs.Typing.{Table}
-use Rattle.uc_value_laws.specs.Endings.{OnObject, behind_end}
-use Rattle.uc_unmarked_laws.specs.Ending.{naming, place_at, ends_at}
+use Rattle.uc_state_laws.specs.Endings.{OnObject, behind_end}
+use Rattle.uc_life_laws.specs.Ending.{naming, place_at, ends_at}
 use Rattle.uc_homed_ends.specs.EndCode.{EndSite, AtSpot, AtElement, named}
 use Rattle.uc_homed_ends.specs.EndLists.{FreeList, FreeActive, FreeState}
 

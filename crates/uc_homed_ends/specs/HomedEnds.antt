@@ -9,17 +9,17 @@ use Rattle.uc_acts.specs.KernelRuns.{InRange}
 use Rattle.uc_machine.specs.Pieces.{At, FieldAt, Value, Todo, LoadNow, BindMadeNow, State, further, loaded, top, variable_at}
 use Rattle.uc_machine.specs.Answering.{answered}
 use Rattle.uc_meaning.specs.Runs.{World, Runs, drawn}
-use Rattle.uc_program_laws.specs.Fitting.{RunFits}
+use Rattle.uc_state_laws.specs.Fitting.{RunFits}
 use Rattle.uc_resolve.specs.Resolve.{source_of}
 use Rattle.uc_rules.specs.Breaks.{breaks_of}
-use Rattle.uc_scope_laws.specs.RoomRuns.{Comes}
-use Rattle.uc_sound.specs.Formed.{IsFormed}
+use Rattle.uc_state_laws.specs.RoomRuns.{Comes}
+use Rattle.uc_sound.specs.SoundFormed.{IsFormed}
 use Rattle.uc_sound.specs.Tables.{table_of}
-use Rattle.uc_value_laws.specs.Opens.{RunMeets, LeadsMeet}
+use Rattle.uc_state_laws.specs.Opens.{RunMeets, LeadsMeet}
 use Rattle.uc_life_laws.specs.Things.{Few}
-use Rattle.uc_home_laws.specs.Homes.{home_of}
-use Rattle.uc_home_laws.specs.HomedStates.{Owns, Opens}
-use Rattle.uc_unmarked_laws.specs.Ending.{Spot, place_at}
+use Rattle.uc_life_laws.specs.Homes.{home_of}
+use Rattle.uc_life_laws.specs.HomedStates.{Owns, Opens}
+use Rattle.uc_life_laws.specs.Ending.{Spot, place_at}
 use Rattle.uc_putting_laws.specs.Putting.{Setting, IsHome, IsEnding}
 use Rattle.uc_putting_laws.specs.PuttingLaws.{setting_of, FairAt, Fair}
 

@@ -17,21 +17,21 @@ use Rattle.uc_machine.specs.Rides.{Rides, slices, goes_on, ticks, asks}
 use Rattle.uc_meaning.specs.Runs.{World, Runs, gives, no_room, acts, begun, more}
 use Rattle.uc_resolve.specs.Resolve.{source_of}
 use Rattle.uc_rules.specs.Breaks.{breaks_of}
-use Rattle.uc_sound.specs.Formed.{IsFormed}
-use Rattle.uc_program_laws.specs.Fitting.{RunFits}
-use Rattle.uc_program_laws.proofs.Others.{run_rests}
-use Rattle.uc_hand_laws.proofs.DeepWorlds.{deep_run}
-use Rattle.uc_value_laws.specs.Opens.{RideMeets, RunMeets}
-use Rattle.uc_event_laws.specs.Counted.{params_at, params}
+use Rattle.uc_sound.specs.SoundFormed.{IsFormed}
+use Rattle.uc_state_laws.specs.Fitting.{RunFits}
+use Rattle.uc_state_laws.proofs.Others.{run_rests}
+use Rattle.uc_state_laws.proofs.DeepWorlds.{deep_run}
+use Rattle.uc_state_laws.specs.Opens.{RideMeets, RunMeets}
+use Rattle.uc_state_laws.specs.Counted.{params_at, params}
 use Rattle.uc_life_laws.specs.Things.{Few}
-use Rattle.uc_unmarked_laws.specs.Belonging.{Belongs, frame}
+use Rattle.uc_life_laws.specs.Belonging.{Belongs, frame}
 use Rattle.uc_depth_laws.specs.Entering.{EndsMain, IsMainRoutine, IsMain, EnteredSource}
 use Rattle.uc_depth_laws.proofs.Answers.{law_steps}
 use Rattle.uc_depth_laws.proofs.Standing.{law_free, law_drawn}
 use Rattle.uc_inner_laws.specs.Inner.{Part, Plain, Helper, Maker, Uncalled, Begun, Ground, InnerSource, params as inner_params}
 use Rattle.uc_inner_laws.specs.Standing.{Mark, Base, Ok, Ready, ground, rests, StandsState, StandsStep}
 use Rattle.uc_inner_laws.proofs.Walk.{law_steps as inner_steps}
-use Rattle.uc_enter_laws.proofs.Routines.{law_entered}
+use Rattle.uc_sound.proofs.Routines.{law_entered}
 use Rattle.uc_letting_laws.specs.AloneRuns.{RunAlone}
 use Rattle.uc_letting_laws.proofs.StandingWorlds.{standing_start}
 use Rattle.uc_letting_laws.proofs.LettingWorlds.{both_run}

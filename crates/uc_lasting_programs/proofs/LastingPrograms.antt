@@ -19,21 +19,21 @@ use Rattle.uc_machine.specs.Answering.{answered}
 use Rattle.uc_meaning.specs.Runs.{World, Runs, AsksIn, drawn, world_after, acts, more}
 use Rattle.uc_resolve.specs.Resolve.{source_of}
 use Rattle.uc_rules.specs.Breaks.{breaks_of}
-use Rattle.uc_sound.specs.Formed.{IsFormed}
+use Rattle.uc_sound.specs.SoundFormed.{IsFormed}
 use Rattle.uc_sound.specs.Tables.{table_of}
-use Rattle.uc_program_laws.specs.Fitting.{RunFits}
-use Rattle.uc_scope_laws.specs.RoomRuns as rooms
-use Rattle.uc_scope_laws.specs.RoomRuns.{Leads, Comes}
-use Rattle.uc_value_laws.specs.Opens.{RideMeets, RunMeets, LeadsMeet}
+use Rattle.uc_state_laws.specs.Fitting.{RunFits}
+use Rattle.uc_state_laws.specs.RoomRuns as rooms
+use Rattle.uc_state_laws.specs.RoomRuns.{Leads, Comes}
+use Rattle.uc_state_laws.specs.Opens.{RideMeets, RunMeets, LeadsMeet}
 use Rattle.uc_life_laws.specs.Knowing.{KnowsState}
 use Rattle.uc_life_laws.specs.KnownRuns.{Meets, NamesMade}
 use Rattle.uc_life_laws.specs.Endings.{AllIsMet}
 use Rattle.uc_life_laws.proofs.KnownWorlds.{law_named, law_known_runs}
 use Rattle.uc_life_laws.proofs.NamedAsks.{asked_by}
 use Rattle.uc_life_laws.proofs.Endings.{made_endings, law_endings}
-use Rattle.uc_world_laws.specs.Lasting.{lasting, RunForgets}
-use Rattle.uc_world_laws.proofs.Called.{law_called}
-use Rattle.uc_world_laws.proofs.Lasting.{law_raised}
+use Rattle.uc_life_laws.specs.Lasting.{lasting, RunForgets}
+use Rattle.uc_life_laws.proofs.Called.{law_called}
+use Rattle.uc_life_laws.proofs.Lasting.{law_raised}
 use Rattle.uc_apart_laws.proofs.Before.{law_before}
 use Rattle.uc_tasked_laws.specs.SeatedStates as seated
 use Rattle.uc_tasked_laws.specs.TaskedRuns.{told_by}

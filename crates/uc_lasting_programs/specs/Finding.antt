@@ -7,11 +7,11 @@ use Rattle.uc_acts.specs.Journal.{Journal}
 use Rattle.uc_acts.specs.KernelRuns.{InRange}
 use Rattle.uc_machine.specs.Pieces.{State}
 use Rattle.uc_meaning.specs.Runs.{World, Runs}
-use Rattle.uc_program_laws.specs.Fitting.{RunFits}
+use Rattle.uc_state_laws.specs.Fitting.{RunFits}
 use Rattle.uc_resolve.specs.Resolve.{source_of}
 use Rattle.uc_rules.specs.Breaks.{breaks_of}
-use Rattle.uc_sound.specs.Formed.{IsFormed}
-use Rattle.uc_value_laws.specs.Opens.{RunMeets}
+use Rattle.uc_sound.specs.SoundFormed.{IsFormed}
+use Rattle.uc_state_laws.specs.Opens.{RunMeets}
 use Rattle.uc_life_laws.specs.Things.{Few}
 use Rattle.uc_depth_laws.specs.Entering.{IsMain}
 use Rattle.uc_inner_laws.specs.Inner.{Part}

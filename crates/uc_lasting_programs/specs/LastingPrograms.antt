@@ -14,21 +14,21 @@ use Rattle.uc_machine.specs.Quiet.{quiet, Asks}
 use Rattle.uc_machine.specs.Answering.{answered}
 use Rattle.uc_resolve.specs.Resolve.{source_of}
 use Rattle.uc_rules.specs.Breaks.{breaks_of}
-use Rattle.uc_sound.specs.Formed.{IsFormed}
+use Rattle.uc_sound.specs.SoundFormed.{IsFormed}
 use Rattle.uc_sound.specs.Tables.{table_of}
 use Rattle.uc_typing.specs.Typing.{Ty, Raw}
 use Rattle.uc_meaning.specs.Runs.{World, Runs, AsksIn, drawn}
 use Rattle.uc_meaning.specs.Cuts.{Reentry}
-use Rattle.uc_program_laws.specs.Fitting.{RunFits}
-use Rattle.uc_value_laws.specs.Endings.{RideHolds, RunHolds}
-use Rattle.uc_value_laws.specs.Opens.{RideMeets}
+use Rattle.uc_state_laws.specs.Fitting.{RunFits}
+use Rattle.uc_state_laws.specs.Endings.{RideHolds, RunHolds}
+use Rattle.uc_state_laws.specs.Opens.{RideMeets}
 use Rattle.uc_life_laws.specs.Things.{Few, Base}
 use Rattle.uc_life_laws.specs.Knowing.{InMaking, KnowsState}
 use Rattle.uc_life_laws.specs.KnownAnswers.{MainPasses}
 use Rattle.uc_life_laws.specs.KnownRuns.{PassesBelow, Meets, is_made}
 use Rattle.uc_life_laws.specs.Endings.{RawsPass, MeetsOutside}
-use Rattle.uc_world_laws.specs.Lasting.{lasting, RunMeetsAt}
-use Rattle.uc_world_laws.specs.Rooted.{IsPlace}
+use Rattle.uc_life_laws.specs.Lasting.{lasting, RunMeetsAt}
+use Rattle.uc_life_laws.specs.Rooted.{IsPlace}
 use Rattle.uc_apart_laws.specs.Before.{world_at, Before, RunBefore}
 use Rattle.uc_tasked_laws.specs.SeatedStates as seated
 use Rattle.uc_tasked_laws.specs.TaskedRuns.{told_by, RunFair, RunMakesApart}

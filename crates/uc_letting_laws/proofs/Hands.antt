@@ -12,9 +12,9 @@ use Rattle.uc_machine.specs.Quiet.{Members}
 use Rattle.uc_meaning.specs.Runs.{with_home, hand_of}
 use Rattle.uc_answer_laws.specs.Suiting.{JustGo, IsForm}
 use Rattle.uc_step_laws.specs.Hands.{keys}
-use Rattle.uc_program_laws.proofs.Worlds.{IsThere}
+use Rattle.uc_state_laws.proofs.ProgramWorlds.{IsThere}
 use Rattle.uc_depth_laws.specs.Owing.{Tests, EngagedParked, EngagedHand, Free, Redrawn}
-use Rattle.uc_hand_laws.proofs.Lists.{Once, first_once, once_rest}
+use Rattle.uc_state_laws.proofs.Lists.{Once, first_once, once_rest}
 
 -- hands
 

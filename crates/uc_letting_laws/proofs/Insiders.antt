@@ -21,7 +21,7 @@ use Rattle.uc_acts.specs.Pending.{pending, oldest_in}
 use Rattle.uc_acts.specs.Doors.{site_at, open_at, offered, next_met, blocked}
 use Rattle.uc_acts.specs.Acts.{row, admission, met_by, called, took, accepted, signalled, handed, front, poll_entry, prints, or_fault}
 use Rattle.uc_acts.proofs.Seats.{inside_same, inside_other}
-use Rattle.uc_hand_laws.proofs.Places.{flipped, has_filter}
+use Rattle.uc_state_laws.proofs.Places.{flipped, has_filter}
 
 -- what task t goes out of by what it asks
 abbrev pub GoesOut : ℕ → Journal → Request → ℕ → Type 0

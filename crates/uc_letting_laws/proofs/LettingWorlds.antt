@@ -46,12 +46,12 @@ use Rattle.uc_answer_laws.proofs.Asking.{law_asking}
 use Rattle.uc_step_laws.specs.Hands.{keys}
 use Rattle.uc_step_laws.specs.Holding.{plain}
 use Rattle.uc_step_laws.proofs.Kept.{either}
-use Rattle.uc_program_laws.specs.Fitting.{MayFit, RunFits}
-use Rattle.uc_program_laws.proofs.Alive.{law_alive}
-use Rattle.uc_program_laws.proofs.Ticks.{no_both, not_true}
-use Rattle.uc_program_laws.proofs.Makes.{makes, one_new, just_made_given, run_after, same_holder, law_ends}
-use Rattle.uc_program_laws.proofs.Worlds.{IsThere, none_found}
-use Rattle.uc_program_laws.proofs.Others.{RunRests, run_rests, may_ask, asking as asks_with}
+use Rattle.uc_state_laws.specs.Fitting.{MayFit, RunFits}
+use Rattle.uc_state_laws.proofs.Alive.{law_alive}
+use Rattle.uc_state_laws.proofs.Ticks.{no_both, not_true}
+use Rattle.uc_state_laws.proofs.Makes.{makes, one_new, just_made_given, run_after, same_holder, law_ends}
+use Rattle.uc_state_laws.proofs.ProgramWorlds.{IsThere, none_found}
+use Rattle.uc_state_laws.proofs.Others.{RunRests, run_rests, may_ask, asking as asks_with}
 use Rattle.uc_depth_laws.specs.Entering.{Aspect, New, Other, EnteredSource}
 use Rattle.uc_depth_laws.proofs.Alone.{law_alone}
 use Rattle.uc_depth_laws.specs.Owing as owing
@@ -68,16 +68,16 @@ use Rattle.uc_inner_laws.proofs.Walk.{law_steps as inner_steps, law_is_inside, l
 use Rattle.uc_letting_laws.specs.AloneRuns.{RideAlone, MayAlone, RunAlone}
 use Rattle.uc_letting_laws.specs.LettingLaws.{AsksInHand, OwnersFit, LeavesFree, LawInHand, LawOwners, LawLeaving}
 use Rattle.uc_letting_laws.proofs.StandingWorlds.{Binds, no_binding, IsApart, StandingWorld, found_has, new_away, standing_start, standing_act, standing_given, standing_begin}
-use Rattle.uc_hand_laws.specs.Deep as deep
-use Rattle.uc_hand_laws.specs.Deep.{deep_in}
-use Rattle.uc_hand_laws.proofs.Walk.{walk}
+use Rattle.uc_state_laws.specs.Deep as deep
+use Rattle.uc_state_laws.specs.Deep.{deep_in}
+use Rattle.uc_state_laws.proofs.HandWalk.{walk}
 use Rattle.uc_letting_laws.proofs.Insiders.{GoesOut, Kicks, Insiders, row_kicks, row_insiders}
 use Rattle.uc_letting_laws.proofs.NewObjects.{made_for, gives_away, is_fresh, new_for, told_for, both_hold, both_are, own_not_told, told_away, told_new, told_other, told_stays, other_stays, not_here, nobody, owner_more, owner_stays, new_unowned, new_made, fresh_stays, gives_more, Makers, makers_stay, fresh_made, makers_given, makers_begin}
 use Rattle.uc_letting_laws.proofs.Owners.{own_same, own_given}
 use Rattle.uc_letting_laws.proofs.Hands.{FreeMembers, Found, free_found, has_self, hand_finds, redrawn, just_go, found_none, found_some, some_found, found_engaged}
-use Rattle.uc_hand_laws.proofs.Places.{flipped, still}
-use Rattle.uc_hand_laws.proofs.Rows.{over_by}
-use Rattle.uc_hand_laws.proofs.DeepWorlds.{DeepWorld, known, deep_in_hand, deep_run, ended_before, spawns_none, spawned_by, spawned_true}
+use Rattle.uc_state_laws.proofs.Places.{flipped, still}
+use Rattle.uc_state_laws.proofs.Rows.{over_by}
+use Rattle.uc_state_laws.proofs.DeepWorlds.{DeepWorld, known, deep_in_hand, deep_run, ended_before, spawns_none, spawned_by, spawned_true}
 
 -- rides
 

@@ -37,13 +37,13 @@ use Rattle.uc_answer_laws.proofs.Runs.{kept_run, law_suiting}
 use Rattle.uc_answer_laws.proofs.Asking.{law_asking}
 use Rattle.uc_step_laws.specs.Hands.{keys}
 use Rattle.uc_step_laws.proofs.Kept.{either}
-use Rattle.uc_program_laws.proofs.Alive.{law_alive}
-use Rattle.uc_program_laws.proofs.Ticks.{no_both}
-use Rattle.uc_program_laws.proofs.Makes.{makes, run_after, law_ends}
-use Rattle.uc_program_laws.proofs.Others.{RunRests, may_ask, asking as asks_with}
+use Rattle.uc_state_laws.proofs.Alive.{law_alive}
+use Rattle.uc_state_laws.proofs.Ticks.{no_both}
+use Rattle.uc_state_laws.proofs.Makes.{makes, run_after, law_ends}
+use Rattle.uc_state_laws.proofs.Others.{RunRests, may_ask, asking as asks_with}
 use Rattle.uc_depth_laws.specs.Owing.{Unheld, IsBinding}
-use Rattle.uc_hand_laws.proofs.DeepWorlds.{DeepWorld, known, ended_before, spawns_none, spawned_by, spawned_true}
-use Rattle.uc_hand_laws.proofs.Places.{still}
+use Rattle.uc_state_laws.proofs.DeepWorlds.{DeepWorld, known, ended_before, spawns_none, spawned_by, spawned_true}
+use Rattle.uc_state_laws.proofs.Places.{still}
 use Rattle.uc_inner_laws.specs.Inner.{Part, InnerSource}
 use Rattle.uc_inner_laws.specs.Standing.{Ok, brings, IsHere, StandsHand, StandsMembers, StandsEnv, StandsWith, StandsState, StandsAsk}
 use Rattle.uc_inner_laws.proofs.Keeping as kept

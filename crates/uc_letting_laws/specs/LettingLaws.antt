@@ -14,7 +14,7 @@ use Rattle.uc_machine.specs.Insides.{is_held_up}
 use Rattle.uc_machine.specs.Quiet.{State}
 use Rattle.uc_meaning.specs.Runs.{World, Runs, AsksIn}
 use Rattle.uc_step_laws.specs.Hands.{keys}
-use Rattle.uc_program_laws.specs.Fitting.{RunFits}
+use Rattle.uc_state_laws.specs.Fitting.{RunFits}
 use Rattle.uc_depth_laws.specs.Entering.{EnteredSource}
 use Rattle.uc_inner_laws.specs.Inner.{Part, InnerSource}
 use Rattle.uc_letting_laws.specs.AloneRuns.{RideAlone, RunAlone}

@@ -26,7 +26,7 @@ use Rattle.uc_life_laws.specs.LifeLaws.{LawKnown}
 use Rattle.uc_life_laws.specs.Knowing.{AtHand, KnownAll, KnownFrames, KnownThis, KnowsWaits, KnowsEx, KnowsEnv, KnowsState, KnowsStep, Finds, IsStill}
 use Rattle.uc_life_laws.proofs.Cells.{either}
 use Rattle.uc_life_laws.proofs.Knowns.{kept_tracked, told_declared, newest, rest_of, next, rest_behind, values_drop, values_set, further_field, frames_cleared, lies_more}
-use Rattle.uc_life_laws.proofs.Steps.{exec_same}
+use Rattle.uc_life_laws.proofs.LifeSteps.{exec_same}
 use Rattle.uc_life_laws.proofs.Parking as parking
 use Rattle.uc_life_laws.proofs.Parking.{Keeps, frames_run, like, keeps_like}
 use Rattle.uc_life_laws.proofs.Going as going

@@ -11,11 +11,11 @@ use Rattle.uc_machine.specs.declared.exec.Owner.TheVariants.{Frame}
 use Rattle.uc_machine.specs.Pieces as piece
 use Rattle.uc_machine.specs.Pieces.{Link, Slot, FieldAt, At, Value, Place, Todo, Sort, Active, State, LAST_ADDRESS, address, further}
 use Rattle.uc_typing.specs.Typing.{Ty, Num, Cell, Obj, Raw, Row, Clu, Pro, Table, element_shape, DestroysAt, CleansAt}
-use Rattle.uc_scope_laws.specs.Rooms.{LiesAt, LiesIn, Destroyed, Lies}
-use Rattle.uc_scope_laws.specs.RoomStates as rooms
-use Rattle.uc_scope_laws.specs.RoomStacks as stacks
-use Rattle.uc_scope_laws.specs.RoomStacks.{StackState}
-use Rattle.uc_scope_laws.proofs.StackWalk.{cleared}
+use Rattle.uc_state_laws.specs.Rooms.{LiesAt, LiesIn, Destroyed, Lies}
+use Rattle.uc_state_laws.specs.RoomStates as rooms
+use Rattle.uc_state_laws.specs.RoomStacks as stacks
+use Rattle.uc_state_laws.specs.RoomStacks.{StackState}
+use Rattle.uc_state_laws.proofs.StackWalk.{cleared}
 use Rattle.uc_life_laws.specs.Things.{Within, itself, field, element, LiesBefore}
 use Rattle.uc_life_laws.specs.LifeStates.{MarkBefore, AllBefore, FrameBefore, ClearsAt, Clears}
 use Rattle.uc_life_laws.specs.LifeRuns.{span, IsFlat, IsLaidOut}

@@ -14,19 +14,19 @@ use Rattle.uc_machine.specs.Answering.{answered}
 use Rattle.uc_machine.specs.Rides as rides
 use Rattle.uc_machine.specs.Rides.{Rides}
 use Rattle.uc_meaning.specs.Runs.{World, Runs, drawn, gives, no_room, acts, begun, more}
-use Rattle.uc_program_laws.specs.Fitting.{RunFits}
+use Rattle.uc_state_laws.specs.Fitting.{RunFits}
 use Rattle.uc_tree.specs.Programs.{Program}
 use Rattle.uc_resolve.specs.Resolve.{source_of}
 use Rattle.uc_rules.specs.Breaks.{breaks_of}
-use Rattle.uc_scope_laws.specs.RoomRuns as runs
-use Rattle.uc_scope_laws.specs.RoomRuns.{Leads}
-use Rattle.uc_value_laws.specs.Opens as there
-use Rattle.uc_value_laws.specs.Opens.{RideMeets, RunMeets, LeadsMeet}
-use Rattle.uc_value_laws.specs.Endings.{reading, still_reading, End, OnObject, OfCluster, OfProcessor, end_expr, behind_end, RideHolds, RunHolds, LeadsHold}
+use Rattle.uc_state_laws.specs.RoomRuns as runs
+use Rattle.uc_state_laws.specs.RoomRuns.{Leads}
+use Rattle.uc_state_laws.specs.Opens as there
+use Rattle.uc_state_laws.specs.Opens.{RideMeets, RunMeets, LeadsMeet}
+use Rattle.uc_state_laws.specs.Endings.{reading, still_reading, End, OnObject, OfCluster, OfProcessor, end_expr, behind_end, RideHolds, RunHolds, LeadsHold}
 use Rattle.uc_typing.specs.Typing.{Ty, Cell, Obj, Raw, Clu, Pro, Name, Var, Own, Kept, Sig, Table, object_ty, FineClean, DestroysAt, CleansAt, Cleans}
 use Rattle.uc_typing.specs.Pieces.{onto, CallsOn, Popped, Ok}
-use Rattle.uc_agreement.proofs.Ties.{some_same}
-use Rattle.uc_sound.specs.Formed.{IsFormed}
+use Rattle.uc_sound.proofs.Ties.{some_same}
+use Rattle.uc_sound.specs.SoundFormed.{IsFormed}
 use Rattle.uc_sound.specs.Tables.{table_of}
 use Rattle.uc_life_laws.specs.Things.{Few, IsBinding, AtVariable, Nowhere, InTodo, Variables, itself, IsFew, IsMade, Known}
 use Rattle.uc_life_laws.specs.LifeStates.{LifeState, OpensAt, Opens}

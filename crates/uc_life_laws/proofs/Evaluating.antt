@@ -16,7 +16,7 @@ use Rattle.uc_life_laws.specs.Knowing.{AtHand, KnownAll, KnownParams, KnownFrame
 use Rattle.uc_life_laws.proofs.Knowns as known
 use Rattle.uc_life_laws.proofs.Knowns.{known_more, older_hand, frames_at, held}
 use Rattle.uc_life_laws.proofs.Reading as reading
-use Rattle.uc_life_laws.proofs.Steps.{exec_same}
+use Rattle.uc_life_laws.proofs.LifeSteps.{exec_same}
 use Rattle.uc_life_laws.proofs.Going as going
 use Rattle.uc_life_laws.proofs.Going.{With}
 

@@ -31,23 +31,23 @@ use Rattle.uc_machine.specs.Answering.{answered, child_of, with_hand, child_main
 use Rattle.uc_machine.specs.Rides as rides
 use Rattle.uc_machine.specs.Rides.{Rides}
 use Rattle.uc_meaning.specs.Runs.{World, May, Runs, AsksIn, first_world, with_home, hand_of, drawn, or_else, world_after, bare, gives, no_room, acts, begun, more}
-use Rattle.uc_program_laws.specs.Fitting.{MayFit, RunFits}
-use Rattle.uc_program_laws.proofs.Makes.{law_ends}
-use Rattle.uc_program_laws.proofs.Alive.{law_alive}
-use Rattle.uc_program_laws.proofs.Others.{run_rests, may_ask}
+use Rattle.uc_state_laws.specs.Fitting.{MayFit, RunFits}
+use Rattle.uc_state_laws.proofs.Makes.{law_ends}
+use Rattle.uc_state_laws.proofs.Alive.{law_alive}
+use Rattle.uc_state_laws.proofs.Others.{run_rests, may_ask}
 use Rattle.uc_resolve.specs.Resolve.{source_of}
-use Rattle.uc_agreement.proofs.Ties.{false_true}
-use Rattle.uc_scope_laws.specs.Layout.{Sized}
-use Rattle.uc_scope_laws.specs.Rooms.{SourceIn}
-use Rattle.uc_scope_laws.specs.RoomStacks.{StackState, StackStep}
-use Rattle.uc_scope_laws.specs.RoomRuns as runs
-use Rattle.uc_scope_laws.specs.RoomRuns.{Leads, Comes}
-use Rattle.uc_scope_laws.proofs.StackWalk as stacking
-use Rattle.uc_scope_laws.proofs.StackWorlds as stacked
-use Rattle.uc_scope_laws.proofs.StackWorlds.{StackWorld}
-use Rattle.uc_scope_laws.proofs.Unreferring.{law_accepted}
-use Rattle.uc_value_laws.specs.Opens.{RideMeets, MayMeet, RunMeets, LeadsMeet}
-use Rattle.uc_value_laws.proofs.Counts.{one_kept, told_others}
+use Rattle.uc_sound.proofs.Ties.{false_true}
+use Rattle.uc_state_laws.specs.Layout.{Sized}
+use Rattle.uc_state_laws.specs.Rooms.{SourceIn}
+use Rattle.uc_state_laws.specs.RoomStacks.{StackState, StackStep}
+use Rattle.uc_state_laws.specs.RoomRuns as runs
+use Rattle.uc_state_laws.specs.RoomRuns.{Leads, Comes}
+use Rattle.uc_state_laws.proofs.StackWalk as stacking
+use Rattle.uc_state_laws.proofs.StackWorlds as stacked
+use Rattle.uc_state_laws.proofs.StackWorlds.{StackWorld}
+use Rattle.uc_state_laws.proofs.Unreferring.{law_accepted}
+use Rattle.uc_state_laws.specs.Opens.{RideMeets, MayMeet, RunMeets, LeadsMeet}
+use Rattle.uc_state_laws.proofs.Counts.{one_kept, told_others}
 use Rattle.uc_typing.specs.Typing.{Ty, Num, Obj, Raw, Clu, Pro, Table, object_ty}
 use Rattle.uc_typing.specs.States.{Sound, IsTask}
 use Rattle.uc_life_laws.proofs.Spawning.{Spawned, spawner, ended_before, suits}

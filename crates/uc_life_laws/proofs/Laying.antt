@@ -42,13 +42,13 @@ use Rattle.uc_sound.proofs.Signatures.{has_sig}
 use Rattle.uc_rules.specs.Scopes.{plain_env, class_around}
 use Rattle.uc_rules.specs.ProgramVisits.{program_visits}
 use Rattle.uc_typing.specs.Typing.{Num, Obj, Row, Sig, Table, element_shape}
-use Rattle.uc_agreement.specs.Agreement.{is_numbered, place_by, place_ty}
-use Rattle.uc_agreement.specs.Fields.{field_ty}
-use Rattle.uc_agreement.specs.Unbroken.{Unbroken}
-use Rattle.uc_agreement.proofs.Ties.{some_same, none_some, false_true}
-use Rattle.uc_agreement.proofs.UnbrokenLemmas.{none_right, holds}
-use Rattle.uc_scope_laws.specs.Layout.{destructor_by, destructor_of, Sized}
-use Rattle.uc_sound.specs.Formed.{IsFormed}
+use Rattle.uc_sound.specs.Agreement.{is_numbered, place_by, place_ty}
+use Rattle.uc_sound.specs.Fields.{field_ty}
+use Rattle.uc_sound.specs.Unbroken.{Unbroken}
+use Rattle.uc_sound.proofs.Ties.{some_same, none_some, false_true}
+use Rattle.uc_sound.proofs.UnbrokenLemmas.{none_right, holds}
+use Rattle.uc_state_laws.specs.Layout.{destructor_by, destructor_of, Sized}
+use Rattle.uc_sound.specs.SoundFormed.{IsFormed}
 use Rattle.uc_sound.specs.Tables.{of_kind, sig_or_none, unwritten_sig, unwritten_sigs, written_sigs, all_sigs, known_field, listed_field, class_field, table_of}
 use Rattle.uc_sound.proofs.KeptLemmas.{named_object}
 use Rattle.uc_sound.proofs.Visited.{sort_holds, home, field_rules}

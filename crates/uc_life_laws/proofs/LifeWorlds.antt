@@ -15,23 +15,23 @@ use Rattle.uc_machine.specs.Rides as rides
 use Rattle.uc_machine.specs.Rides.{Rides}
 use Rattle.uc_meaning.specs.Runs.{World, May, Runs, gives, no_room, acts, begun, more, bare, with_home, hand_of, drawn, or_else, first_world, world_after}
 use Rattle.uc_resolve.specs.Resolve.{source_of}
-use Rattle.uc_scope_laws.specs.Rooms.{SourceIn}
-use Rattle.uc_scope_laws.specs.RoomStacks.{StackState, StackStep}
-use Rattle.uc_scope_laws.specs.Layout.{Sized}
-use Rattle.uc_scope_laws.specs.RoomRuns as runs
-use Rattle.uc_scope_laws.specs.RoomRuns.{Leads, Comes}
-use Rattle.uc_scope_laws.proofs.StackWalk as stacking
-use Rattle.uc_scope_laws.proofs.StackWorlds as stacked
-use Rattle.uc_scope_laws.proofs.StackWorlds.{StackWorld}
-use Rattle.uc_scope_laws.proofs.Unreferring.{law_accepted}
-use Rattle.uc_value_laws.specs.Opens.{RideMeets, MayMeet, RunMeets, LeadsMeet}
+use Rattle.uc_state_laws.specs.Rooms.{SourceIn}
+use Rattle.uc_state_laws.specs.RoomStacks.{StackState, StackStep}
+use Rattle.uc_state_laws.specs.Layout.{Sized}
+use Rattle.uc_state_laws.specs.RoomRuns as runs
+use Rattle.uc_state_laws.specs.RoomRuns.{Leads, Comes}
+use Rattle.uc_state_laws.proofs.StackWalk as stacking
+use Rattle.uc_state_laws.proofs.StackWorlds as stacked
+use Rattle.uc_state_laws.proofs.StackWorlds.{StackWorld}
+use Rattle.uc_state_laws.proofs.Unreferring.{law_accepted}
+use Rattle.uc_state_laws.specs.Opens.{RideMeets, MayMeet, RunMeets, LeadsMeet}
 use Rattle.uc_typing.specs.Typing.{Table}
 use Rattle.uc_sound.specs.Tables.{table_of}
 use Rattle.uc_life_laws.specs.LifeStates.{HandBy, LifeEx, LifeMembers, LifeState, LifeStep, Opens}
 use Rattle.uc_life_laws.specs.LifeRuns.{IsLaidOut, LawRuns}
 use Rattle.uc_life_laws.proofs.Cells.{either}
 use Rattle.uc_life_laws.proofs.Parked.{found_hand}
-use Rattle.uc_life_laws.proofs.Walk.{law_steps}
+use Rattle.uc_life_laws.proofs.LifeWalk.{law_steps}
 use Rattle.uc_life_laws.proofs.Clearing.{clears}
 use Rattle.uc_life_laws.proofs.Laying.{laid_out}
 use Rattle.uc_life_laws.specs.Things.{Few}

@@ -10,9 +10,9 @@ use Rattle.uc_machine.specs.Rides.{Rides}
 use Rattle.uc_machine.specs.Answering.{answered}
 use Rattle.uc_meaning.specs.Runs.{drawn}
 use Rattle.uc_resolve.specs.Resolve.{source_of}
-use Rattle.uc_scope_laws.specs.RoomRuns as runs
-use Rattle.uc_scope_laws.specs.RoomRuns.{Leads}
-use Rattle.uc_value_laws.specs.Opens.{RideMeets, LeadsMeet}
+use Rattle.uc_state_laws.specs.RoomRuns as runs
+use Rattle.uc_state_laws.specs.RoomRuns.{Leads}
+use Rattle.uc_state_laws.specs.Opens.{RideMeets, LeadsMeet}
 use Rattle.uc_sound.specs.Tables.{table_of}
 use Rattle.uc_life_laws.specs.KnownRuns.{Meets, is_made, NamesMade, LawNamed}
 use Rattle.uc_life_laws.specs.NamedAsks.{LawAsked}

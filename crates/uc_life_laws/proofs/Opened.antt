@@ -10,7 +10,7 @@ use Rattle.uc_machine.specs.Pieces.{Link, Slot, At, Value, Number, Place, Runnin
 use Rattle.uc_typing.specs.Typing.{Ty, Num, Cell, Obj, Raw, Row, Clu, Pro, Name, Sig, Table, element_shape, CleansAt, DestroysAt, Fine, FineClean}
 use Rattle.uc_typing.specs.Pieces.{Ok}
 use Rattle.uc_typing.specs.States.{IsNumbered, IsObjectBy, Typed}
-use Rattle.uc_value_laws.specs.There.{IsThere, EndsAt, OfVariable, OfElements, HoldsObject}
+use Rattle.uc_state_laws.specs.There.{IsThere, EndsAt, OfVariable, OfElements, HoldsObject}
 use Rattle.uc_life_laws.specs.Things.{Within, itself, field, element, Known, Holds, Few, Base, Things, lies}
 use Rattle.uc_life_laws.specs.LifeStates.{frame_at, Outwards, CleanHolds, OpensAt}
 use Rattle.uc_life_laws.specs.Opened.{any, ObjectsHold, LawOpens}

@@ -16,28 +16,28 @@ use Rattle.uc_machine.specs.Answering.{answered}
 use Rattle.uc_machine.specs.Rides as rides
 use Rattle.uc_machine.specs.Rides.{Rides}
 use Rattle.uc_meaning.specs.Runs.{World, Runs, drawn, gives, no_room, acts, begun, more}
-use Rattle.uc_program_laws.specs.Fitting.{RunFits}
+use Rattle.uc_state_laws.specs.Fitting.{RunFits}
 use Rattle.uc_resolve.specs.Resolve.{source_of}
 use Rattle.uc_rules.specs.Breaks.{breaks_of}
-use Rattle.uc_scope_laws.specs.Layout.{Sized}
-use Rattle.uc_scope_laws.specs.Rooms.{SourceIn}
-use Rattle.uc_scope_laws.specs.RoomStacks.{StackState, StackStep}
-use Rattle.uc_scope_laws.specs.RoomRuns as runs
-use Rattle.uc_scope_laws.specs.RoomRuns.{Leads, Comes}
-use Rattle.uc_scope_laws.proofs.StackWalk as stacking
-use Rattle.uc_scope_laws.proofs.StackWorlds as stacked
-use Rattle.uc_scope_laws.proofs.Unreferring.{law_accepted}
-use Rattle.uc_value_laws.specs.There.{IsThere, AllCounted, Any, frame_at}
-use Rattle.uc_value_laws.specs.Declaring as declaring
-use Rattle.uc_value_laws.specs.Declaring.{Point, point_todo}
-use Rattle.uc_value_laws.specs.Filling as fill
-use Rattle.uc_value_laws.specs.NewClusters as way
-use Rattle.uc_value_laws.specs.NewClusters.{Stage, stage_todo, GoodBy, GoodStepBy}
-use Rattle.uc_value_laws.specs.Opens as there
-use Rattle.uc_value_laws.specs.Opens.{RideMeets, RunMeets, LeadsMeet}
-use Rattle.uc_value_laws.proofs.Cells.{held_there}
-use Rattle.uc_value_laws.proofs.Walk as values
-use Rattle.uc_value_laws.proofs.Worlds as value_runs
+use Rattle.uc_state_laws.specs.Layout.{Sized}
+use Rattle.uc_state_laws.specs.Rooms.{SourceIn}
+use Rattle.uc_state_laws.specs.RoomStacks.{StackState, StackStep}
+use Rattle.uc_state_laws.specs.RoomRuns as runs
+use Rattle.uc_state_laws.specs.RoomRuns.{Leads, Comes}
+use Rattle.uc_state_laws.proofs.StackWalk as stacking
+use Rattle.uc_state_laws.proofs.StackWorlds as stacked
+use Rattle.uc_state_laws.proofs.Unreferring.{law_accepted}
+use Rattle.uc_state_laws.specs.There.{IsThere, AllCounted, Any, frame_at}
+use Rattle.uc_state_laws.specs.Declaring as declaring
+use Rattle.uc_state_laws.specs.Declaring.{Point, point_todo}
+use Rattle.uc_state_laws.specs.Filling as fill
+use Rattle.uc_state_laws.specs.NewClusters as way
+use Rattle.uc_state_laws.specs.NewClusters.{Stage, stage_todo, GoodBy, GoodStepBy}
+use Rattle.uc_state_laws.specs.Opens as there
+use Rattle.uc_state_laws.specs.Opens.{RideMeets, RunMeets, LeadsMeet}
+use Rattle.uc_state_laws.proofs.Cells.{held_there}
+use Rattle.uc_state_laws.proofs.ValueWalk as values
+use Rattle.uc_state_laws.proofs.ValueWorlds as value_runs
 use Rattle.uc_typing.specs.Typing.{Table}
 use Rattle.uc_sound.specs.Tables.{table_of}
 use Rattle.uc_sound.proofs.SoundLemmas.{law_sound}

@@ -21,7 +21,7 @@ use Rattle.uc_typing.proofs.Control as control
 use Rattle.uc_life_laws.specs.Things.{Few, IsBinding, IsReference, IsResource, Within, itself, field, element, AtVariable, AtField, IsFor, Nowhere, Marks, InTodo, Things, Variables, UnmadeBehind, Unmade, Outer, Around, OwnFields, LiesIn, Known, Holds, Held, lies, inside}
 use Rattle.uc_life_laws.specs.LifeStates.{frame_at, Outwards, MarkHolds, AllHold, LifeStack, LifeState}
 use Rattle.uc_life_laws.specs.Knowing.{Here, ReadsKnown, InMaking, NotWhole}
-use Rattle.uc_life_laws.proofs.Steps.{exec_same}
+use Rattle.uc_life_laws.proofs.LifeSteps.{exec_same}
 use Rattle.uc_life_laws.proofs.Knowns.{Less, known_more, awaits_some, around_outer, around_hand}
 
 -- executions by their names

@@ -15,7 +15,7 @@ use Rattle.uc_typing.specs.States.{Is, Typed, ReadsVariable}
 use Rattle.uc_life_laws.specs.Things.{Few, IsBinding, Within, itself, AtVariable, Nowhere, Marks, InTodo, Around, Variables, Known}
 use Rattle.uc_life_laws.specs.LifeStates.{frame_at, LifeState}
 use Rattle.uc_life_laws.specs.LifeReading.{LawReading}
-use Rattle.uc_life_laws.proofs.Steps.{exec_same}
+use Rattle.uc_life_laws.proofs.LifeSteps.{exec_same}
 use Rattle.uc_life_laws.proofs.Knowns.{known_is}
 use Rattle.uc_life_laws.proofs.Reading.{from_variables, scope_at}
 

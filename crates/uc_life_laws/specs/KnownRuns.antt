@@ -15,14 +15,14 @@ use Rattle.uc_machine.specs.declared.exec.Home.TheVariants.{Object}
 use Rattle.uc_machine.specs.Quiet.{State, Asks, quiet}
 use Rattle.uc_machine.specs.Answering.{answered}
 use Rattle.uc_meaning.specs.Runs.{World, Runs, drawn}
-use Rattle.uc_program_laws.specs.Fitting.{RunFits}
+use Rattle.uc_state_laws.specs.Fitting.{RunFits}
 use Rattle.uc_answer_laws.specs.Suiting.{form_of_request, asked_form}
 use Rattle.uc_resolve.specs.Resolve.{source_of}
 use Rattle.uc_rules.specs.Breaks.{breaks_of}
-use Rattle.uc_scope_laws.specs.RoomRuns.{Comes}
-use Rattle.uc_value_laws.specs.Opens.{RunMeets, LeadsMeet}
+use Rattle.uc_state_laws.specs.RoomRuns.{Comes}
+use Rattle.uc_state_laws.specs.Opens.{RunMeets, LeadsMeet}
 use Rattle.uc_typing.specs.Typing.{Ty, Obj, Clu, Pro, Table, Raw}
-use Rattle.uc_sound.specs.Formed.{IsFormed}
+use Rattle.uc_sound.specs.SoundFormed.{IsFormed}
 use Rattle.uc_sound.specs.Tables.{table_of}
 use Rattle.uc_life_laws.specs.LifeStates.{MembersBy, LifeState, Opens}
 use Rattle.uc_life_laws.specs.Knowing.{KnowsSlot, KnowsState, KnowsAsked, Names, Finds}

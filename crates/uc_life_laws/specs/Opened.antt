@@ -6,7 +6,7 @@ use Rattle.uc_machine.specs.declared.exec.Owner.TheVariants.{Frame}
 use Rattle.uc_machine.specs.Pieces.{Slot, Value, Place, Todo, Rest, State}
 use Rattle.uc_typing.specs.Typing.{Ty, Obj, Row, Table, CleansAt}
 use Rattle.uc_typing.specs.States.{Typed}
-use Rattle.uc_value_laws.specs.There.{IsThere}
+use Rattle.uc_state_laws.specs.There.{IsThere}
 use Rattle.uc_life_laws.specs.Things.{Few, IsUnbound, Holds, numbered}
 use Rattle.uc_life_laws.specs.LifeStates.{frame_at, Outwards, Opens}
 

@@ -16,22 +16,22 @@ use Rattle.uc_machine.specs.Quiet.{quiet}
 use Rattle.uc_machine.specs.Answering.{answered}
 use Rattle.uc_machine.specs.Rides.{Rides, slices, goes_on, ticks, asks}
 use Rattle.uc_meaning.specs.Runs.{World, Runs, AsksIn, acts, more, drawn, world_after}
-use Rattle.uc_program_laws.specs.Fitting.{RunFits}
-use Rattle.uc_program_laws.proofs.Others.{run_rests}
-use Rattle.uc_scope_laws.specs.RoomRuns.{stays}
-use Rattle.uc_value_laws.specs.Opens.{RideMeets, RunMeets}
+use Rattle.uc_state_laws.specs.Fitting.{RunFits}
+use Rattle.uc_state_laws.proofs.Others.{run_rests}
+use Rattle.uc_state_laws.specs.RoomRuns.{stays}
+use Rattle.uc_state_laws.specs.Opens.{RideMeets, RunMeets}
 use Rattle.uc_name_laws.specs.NameSteps as names
-use Rattle.uc_named_runs.specs.RunningRuns.{RunLeaves}
-use Rattle.uc_named_runs.proofs.Worlds.{run_named, known}
+use Rattle.uc_life_laws.specs.RunningRuns.{RunLeaves}
+use Rattle.uc_life_laws.proofs.NamedWorlds.{run_named, known}
 use Rattle.uc_typing.specs.Typing.{Ty, Table}
 use Rattle.uc_life_laws.specs.Things.{Few}
 use Rattle.uc_life_laws.specs.Knowing.{KnowsState}
-use Rattle.uc_own_names.specs.OwnNames.{StaysOwn}
-use Rattle.uc_own_names.proofs.OwnNamesLemmas.{law_own_names}
-use Rattle.uc_unmarked_laws.specs.Belonging.{Belongs}
-use Rattle.uc_unmarked_laws.specs.Marks.{Marked, Free, Outward, Lone, AllLone, LoneState, LoneStep, Puts}
-use Rattle.uc_unmarked_laws.proofs.Walk.{law_steps}
-use Rattle.uc_unmarked_laws.proofs.Worlds.{law_runs}
+use Rattle.uc_life_laws.specs.OwnNames.{StaysOwn}
+use Rattle.uc_life_laws.proofs.OwnNamesLemmas.{law_own_names}
+use Rattle.uc_life_laws.specs.Belonging.{Belongs}
+use Rattle.uc_life_laws.specs.Marks.{Marked, Free, Outward, Lone, AllLone, LoneState, LoneStep, Puts}
+use Rattle.uc_life_laws.proofs.UnmarkedWalk.{law_steps}
+use Rattle.uc_life_laws.proofs.UnmarkedWorlds.{law_runs}
 use Rattle.uc_apart_laws.specs.Before.{Before, BeforeAt, NowhereBefore}
 use Rattle.uc_rooted_runs.specs.Makers.{Outside}
 use Rattle.uc_rooted_runs.specs.Binds.{BindsOwn}

@@ -14,22 +14,22 @@ use Rattle.uc_machine.specs.Pieces.{Value, Todo, Active, State, Members}
 use Rattle.uc_machine.specs.Quiet.{first_state}
 use Rattle.uc_meaning.specs.Runs.{World, or_else}
 use Rattle.uc_name_laws.proofs.Homes.{no_both}
-use Rattle.uc_named_runs.proofs.Worlds.{found_none}
+use Rattle.uc_life_laws.proofs.NamedWorlds.{found_none}
 use Rattle.uc_typing.specs.Typing.{Ty, Cell, Obj, Table}
 use Rattle.uc_life_laws.specs.Things.{Few, Base, Stands, lies, inside}
 use Rattle.uc_life_laws.specs.LifeStates.{EnvBy, MembersBy}
 use Rattle.uc_life_laws.specs.Knowing.{main_of}
 use Rattle.uc_life_laws.proofs.Cells.{tested}
 use Rattle.uc_life_laws.proofs.Parked.{found_hand}
-use Rattle.uc_world_laws.specs.Rooted.{Lives, OwnThings, Yet, OwnObject, StandsUpwards}
-use Rattle.uc_world_laws.proofs.Fewer.{both_members, both_env}
-use Rattle.uc_world_laws.proofs.Rooted.{stands_split}
-use Rattle.uc_own_names.specs.OwnNames as own_names
-use Rattle.uc_own_names.specs.OwnNames.{at_hand, IsOwn, IsElsewhere}
-use Rattle.uc_unmarked_laws.specs.Belonging.{Belongs}
-use Rattle.uc_unmarked_laws.specs.Marks.{Marked, Free, LoneEx, LoneState, Freed}
-use Rattle.uc_unmarked_laws.specs.Unmarked.{LoneWorld, Unmarked}
-use Rattle.uc_unmarked_laws.proofs.Own.{law_unmarked}
+use Rattle.uc_life_laws.specs.Rooted.{Lives, OwnThings, Yet, OwnObject, StandsUpwards}
+use Rattle.uc_life_laws.proofs.Fewer.{both_members, both_env}
+use Rattle.uc_life_laws.proofs.Rooted.{stands_split}
+use Rattle.uc_life_laws.specs.OwnNames as own_names
+use Rattle.uc_life_laws.specs.OwnNames.{at_hand, IsOwn, IsElsewhere}
+use Rattle.uc_life_laws.specs.Belonging.{Belongs}
+use Rattle.uc_life_laws.specs.Marks.{Marked, Free, LoneEx, LoneState, Freed}
+use Rattle.uc_life_laws.specs.Unmarked.{LoneWorld, Unmarked}
+use Rattle.uc_life_laws.proofs.Own.{law_unmarked}
 use Rattle.uc_apart_laws.specs.Before.{world_at, NowhereBefore}
 use Rattle.uc_apart_laws.specs.Nowhere.{IsNowhere, SparesEx}
 use Rattle.uc_rooted_runs.specs.Makers.{Makers}

@@ -15,17 +15,17 @@ use Rattle.uc_typing.specs.Typing.{Ty, Cell, Obj, Raw, Sig, Table}
 use Rattle.uc_life_laws.specs.Things.{Few, Things, Stands}
 use Rattle.uc_life_laws.specs.LifeStates.{SlotBy, ParkedBy, HandBy, MembersBy, EnvBy}
 use Rattle.uc_life_laws.specs.Knowing.{InMaking}
-use Rattle.uc_world_laws.specs.Rooted.{InSlot, InParked, InHand, InMembers, Lives}
-use Rattle.uc_world_laws.proofs.Fewer.{both_env}
-use Rattle.uc_world_laws.proofs.Rooted.{env_in, stands_more}
+use Rattle.uc_life_laws.specs.Rooted.{InSlot, InParked, InHand, InMembers, Lives}
+use Rattle.uc_life_laws.proofs.Fewer.{both_env}
+use Rattle.uc_life_laws.proofs.Rooted.{env_in, stands_more}
 use Rattle.uc_depth_laws.specs.Owing.{Ex}
-use Rattle.uc_owing_laws.specs.AtHand.{NoScopes, IsUnopened}
-use Rattle.uc_unmarked_laws.specs.Belonging.{Belongs}
-use Rattle.uc_unmarked_laws.proofs.Own.{law_own}
+use Rattle.uc_life_laws.specs.AtHand.{NoScopes, IsUnopened}
+use Rattle.uc_life_laws.specs.Belonging.{Belongs}
+use Rattle.uc_life_laws.proofs.Own.{law_own}
 use Rattle.uc_apart_laws.specs.Clear.{NotMaking, IsNoHome}
 use Rattle.uc_apart_laws.specs.Nowhere.{IsNowhere, SparesBy, SparesEx}
 use Rattle.uc_apart_laws.proofs.Nowhere.{law_nowhere}
-use Rattle.uc_cover_laws.specs.Placed.{Placed, placed}
+use Rattle.uc_life_laws.specs.Placed.{Placed, placed}
 use Rattle.uc_rooted_runs.specs.FreshStates.{FreshBy, FreshEx}
 use Rattle.uc_making_laws.specs.OwnThis.{HasHome, Has, ThisStack, ThisEx}
 use Rattle.uc_making_laws.specs.ThisRuns.{ThisWorld}

@@ -20,9 +20,9 @@ use Rattle.uc_machine.specs.Answering.{answered, child_main, child_of}
 use Rattle.uc_machine.specs.Rides as rides
 use Rattle.uc_machine.specs.Rides.{Rides}
 use Rattle.uc_meaning.specs.Runs.{World, May, Runs, AsksIn, gives, no_room, acts, begun, more, bare, with_home, hand_of, drawn, or_else, first_world, world_after}
-use Rattle.uc_scope_laws.specs.RoomRuns as runs
-use Rattle.uc_scope_laws.specs.RoomRuns.{Leads}
-use Rattle.uc_value_laws.specs.Opens.{RideMeets, MayMeet, RunMeets, LeadsMeet}
+use Rattle.uc_state_laws.specs.RoomRuns as runs
+use Rattle.uc_state_laws.specs.RoomRuns.{Leads}
+use Rattle.uc_state_laws.specs.Opens.{RideMeets, MayMeet, RunMeets, LeadsMeet}
 use Rattle.uc_name_laws.proofs.Homes.{no_both}
 use Rattle.uc_typing.specs.Typing.{Table}
 use Rattle.uc_life_laws.specs.Things.{Few}

@@ -26,7 +26,7 @@ use Rattle.uc_typing.specs.Typing.{Ty, Cell, Obj, Table}
 use Rattle.uc_life_laws.specs.Things.{Few, Things}
 use Rattle.uc_making_laws.specs.OwnThis.{HasHome, Has, ThisStack, ThisEx, ThisState, ThisStep}
 use Rattle.uc_life_laws.proofs.Cells.{either}
-use Rattle.uc_world_laws.proofs.Rooted.{stands_more}
+use Rattle.uc_life_laws.proofs.Rooted.{stands_more}
 use Rattle.uc_making_laws.proofs.ThisKeeping as kept
 use Rattle.uc_making_laws.proofs.ThisKeeping.{Keeps}
 

@@ -20,40 +20,40 @@ use Rattle.uc_machine.specs.Quiet.{quiet}
 use Rattle.uc_machine.specs.Answering.{answered}
 use Rattle.uc_machine.specs.Rides.{Rides, slices, goes_on, ticks, asks}
 use Rattle.uc_meaning.specs.Runs.{World, Runs, AsksIn, acts, more, drawn, or_else, world_after}
-use Rattle.uc_program_laws.specs.Fitting.{RunFits}
-use Rattle.uc_program_laws.proofs.Others.{RunRests, run_rests, asking as asks_with}
+use Rattle.uc_state_laws.specs.Fitting.{RunFits}
+use Rattle.uc_state_laws.proofs.Others.{RunRests, run_rests, asking as asks_with}
 use Rattle.uc_step_laws.specs.Hands.{keys}
 use Rattle.uc_step_laws.specs.Holding.{StepHolding}
 use Rattle.uc_step_laws.proofs.Walk.{law_steps}
-use Rattle.uc_hand_laws.proofs.Lists.{Once, once_rest, first_once}
-use Rattle.uc_value_laws.specs.Opens.{RideMeets, RunMeets}
+use Rattle.uc_state_laws.proofs.Lists.{Once, once_rest, first_once}
+use Rattle.uc_state_laws.specs.Opens.{RideMeets, RunMeets}
 use Rattle.uc_name_laws.specs.Below.{IsBelow, EnvNamed}
 use Rattle.uc_name_laws.specs.NameSteps as names
 use Rattle.uc_name_laws.specs.NameSteps.{Named, StepNamed}
 use Rattle.uc_name_laws.proofs.Homes.{no_both}
 use Rattle.uc_name_laws.proofs.Walk.{walk}
-use Rattle.uc_named_runs.specs.RunningRuns.{RunLeaves}
-use Rattle.uc_named_runs.proofs.Riding.{run_more, ride_more}
-use Rattle.uc_named_runs.proofs.RunningWorlds.{run_runs, begins_alone}
-use Rattle.uc_named_runs.proofs.Worlds.{run_named, start, known, found_none, vacuous}
+use Rattle.uc_life_laws.specs.RunningRuns.{RunLeaves}
+use Rattle.uc_life_laws.proofs.Riding.{run_more, ride_more}
+use Rattle.uc_life_laws.proofs.RunningWorlds.{run_runs, begins_alone}
+use Rattle.uc_life_laws.proofs.NamedWorlds.{run_named, start, known, found_none, vacuous}
 use Rattle.uc_life_laws.specs.LifeStates.{HandBy, MembersBy, EnvBy}
 use Rattle.uc_life_laws.proofs.Cells.{tested}
 use Rattle.uc_life_laws.proofs.Parked.{found_hand}
-use Rattle.uc_world_laws.proofs.Fewer.{both_members, both_env}
-use Rattle.uc_own_names.specs.OwnNames.{at_hand, IsOwn, StaysOwn, IsElsewhere}
-use Rattle.uc_own_names.proofs.OwnNamesLemmas.{law_own_names}
-use Rattle.uc_own_names.proofs.OwnRides.{Settled, ride_owns, start as own_start}
+use Rattle.uc_life_laws.proofs.Fewer.{both_members, both_env}
+use Rattle.uc_life_laws.specs.OwnNames.{at_hand, IsOwn, StaysOwn, IsElsewhere}
+use Rattle.uc_life_laws.proofs.OwnNamesLemmas.{law_own_names}
+use Rattle.uc_life_laws.proofs.OwnRides.{Settled, ride_owns, start as own_start}
 use Rattle.uc_apart_laws.specs.Before.{world_at}
 use Rattle.uc_rooted_runs.specs.Makers.{Outside, Makers, seating}
 use Rattle.uc_rooted_runs.specs.Births.{MakesLater, AllMadeLater}
 use Rattle.uc_rooted_runs.specs.Mains.{CallsNoMain}
 use Rattle.uc_rooted_runs.specs.MainRuns.{EndsMains}
 use Rattle.uc_rooted_runs.specs.Outlasting.{Outlasts, OutlastEx}
-use Rattle.uc_cover_laws.specs.Held.{HeldState}
-use Rattle.uc_cover_laws.proofs.HeldLaws.{law_held}
+use Rattle.uc_life_laws.specs.Held.{HeldState}
+use Rattle.uc_life_laws.proofs.HeldLaws.{law_held}
 use Rattle.uc_answer_laws.specs.Suiting.{asked_form}
 use Rattle.uc_answer_laws.proofs.Runs.{law_suiting}
-use Rattle.uc_program_laws.proofs.Alive.{law_alive}
+use Rattle.uc_state_laws.proofs.Alive.{law_alive}
 use Rattle.uc_acts.specs.Known.{has_ended}
 use Rattle.uc_rooted_runs.specs.OutlastRuns.{with_before, made_behind, run_made, now, OutlastsAt, RideOutlasts}
 use Rattle.uc_rooted_runs.specs.Upwards.{OutlastWorld}

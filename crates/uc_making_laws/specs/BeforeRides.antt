@@ -11,15 +11,15 @@ use Rattle.uc_machine.specs.Monitors.{this_object}
 use Rattle.uc_machine.specs.Pieces.{Value, Todo, GoneNow, GiveUpNow, Active, State}
 use Rattle.uc_machine.specs.Answering.{answered}
 use Rattle.uc_meaning.specs.Runs.{World, Runs, AsksIn, drawn}
-use Rattle.uc_program_laws.specs.Fitting.{RunFits}
-use Rattle.uc_value_laws.specs.Opens.{RideMeets, RunMeets}
+use Rattle.uc_state_laws.specs.Fitting.{RunFits}
+use Rattle.uc_state_laws.specs.Opens.{RideMeets, RunMeets}
 use Rattle.uc_name_laws.specs.NameSteps as names
-use Rattle.uc_named_runs.specs.RunningRuns.{RunLeaves}
+use Rattle.uc_life_laws.specs.RunningRuns.{RunLeaves}
 use Rattle.uc_typing.specs.Typing.{Ty, Cell, Obj, Table}
 use Rattle.uc_life_laws.specs.Things.{Few, Base, Stands}
 use Rattle.uc_life_laws.specs.Knowing.{KnowsState, main_of}
-use Rattle.uc_unmarked_laws.specs.Marks.{Puts}
-use Rattle.uc_world_laws.specs.Rooted.{Lives, Yet, OwnObject}
+use Rattle.uc_life_laws.specs.Marks.{Puts}
+use Rattle.uc_life_laws.specs.Rooted.{Lives, Yet, OwnObject}
 use Rattle.uc_apart_laws.specs.Before.{world_at, Before}
 use Rattle.uc_apart_laws.specs.Clear.{IsClearAt}
 use Rattle.uc_rooted_runs.specs.Makers.{Outside, Makers}

@@ -8,8 +8,8 @@ use Rattle.uc_meaning.specs.Runs.{World}
 use Rattle.uc_typing.specs.Typing.{Ty, Sig, Table}
 use Rattle.uc_life_laws.specs.Things.{Few, Things}
 use Rattle.uc_life_laws.specs.LifeStates.{EnvBy, MembersBy}
-use Rattle.uc_world_laws.specs.Rooted.{Lives}
-use Rattle.uc_unmarked_laws.specs.Belonging.{Belongs}
+use Rattle.uc_life_laws.specs.Rooted.{Lives}
+use Rattle.uc_life_laws.specs.Belonging.{Belongs}
 use Rattle.uc_apart_laws.specs.Clear.{NotMaking, IsNoHome}
 use Rattle.uc_apart_laws.specs.Nowhere.{IsNowhere, SparesEx}
 use Rattle.uc_rooted_runs.specs.FreshStates.{FreshEx}

@@ -18,7 +18,7 @@ use Rattle.uc_typing.specs.Typing.{Ty, Cell, Obj, Table}
 use Rattle.uc_life_laws.specs.Things.{Few, Things, Stands}
 use Rattle.uc_life_laws.specs.LifeStates.{EnvBy, MembersBy}
 use Rattle.uc_life_laws.specs.Knowing.{main_of}
-use Rattle.uc_unmarked_laws.specs.Belonging.{Belongs}
+use Rattle.uc_life_laws.specs.Belonging.{Belongs}
 
 module _ (t : Table) (few : Few) where
   -- a mutex object is at home in what is the execution's own, or where what these activations have at hand stands; object 0 is that of the program's

@@ -11,11 +11,11 @@ use Rattle.uc_machine.specs.Pieces.{State}
 use Rattle.uc_machine.specs.Answering.{answered}
 use Rattle.uc_meaning.specs.Runs.{World, Runs, AsksIn, drawn}
 use Rattle.uc_step_laws.specs.Hands.{keys}
-use Rattle.uc_program_laws.specs.Fitting.{RunFits}
-use Rattle.uc_value_laws.specs.Opens.{RideMeets, RunMeets}
+use Rattle.uc_state_laws.specs.Fitting.{RunFits}
+use Rattle.uc_state_laws.specs.Opens.{RideMeets, RunMeets}
 use Rattle.uc_name_laws.specs.NameSteps as names
-use Rattle.uc_named_runs.specs.RunningRuns.{RunLeaves}
-use Rattle.uc_own_names.specs.OwnNames.{IsOwn}
+use Rattle.uc_life_laws.specs.RunningRuns.{RunLeaves}
+use Rattle.uc_life_laws.specs.OwnNames.{IsOwn}
 use Rattle.uc_apart_laws.specs.Before.{world_at}
 use Rattle.uc_rooted_runs.specs.Makers.{Outside, Makers}
 use Rattle.uc_rooted_runs.specs.Births.{MakesLater, RunSpawnsLater}

@@ -14,18 +14,18 @@ use Rattle.uc_machine.specs.Rides.{Rides, slices, goes_on, ticks, asks}
 use Rattle.uc_meaning.specs.Runs.{World, May, Runs, AsksIn, gives, no_room, acts, begun, more, drawn}
 use Rattle.uc_resolve.specs.Resolve.{source_of}
 use Rattle.uc_rules.specs.Breaks.{breaks_of}
-use Rattle.uc_program_laws.specs.Fitting.{RunFits}
-use Rattle.uc_program_laws.proofs.Others.{run_rests}
-use Rattle.uc_scope_laws.specs.FrameRuns.{KeepsFrames}
-use Rattle.uc_scope_laws.specs.Layout.{Sized}
-use Rattle.uc_scope_laws.specs.RoomRuns as way
-use Rattle.uc_scope_laws.specs.RoomRuns.{Leads}
-use Rattle.uc_scope_laws.specs.Rooms.{SourceIn}
-use Rattle.uc_scope_laws.proofs.StackWorlds.{law_frame_runs}
-use Rattle.uc_scope_laws.proofs.Unreferring.{law_accepted}
-use Rattle.uc_value_laws.specs.Opens.{RideMeets, MayMeet, RunMeets, LeadsMeet}
+use Rattle.uc_state_laws.specs.Fitting.{RunFits}
+use Rattle.uc_state_laws.proofs.Others.{run_rests}
+use Rattle.uc_state_laws.specs.ScopeFrameRuns.{KeepsFrames}
+use Rattle.uc_state_laws.specs.Layout.{Sized}
+use Rattle.uc_state_laws.specs.RoomRuns as way
+use Rattle.uc_state_laws.specs.RoomRuns.{Leads}
+use Rattle.uc_state_laws.specs.Rooms.{SourceIn}
+use Rattle.uc_state_laws.proofs.StackWorlds.{law_frame_runs}
+use Rattle.uc_state_laws.proofs.Unreferring.{law_accepted}
+use Rattle.uc_state_laws.specs.Opens.{RideMeets, MayMeet, RunMeets, LeadsMeet}
 use Rattle.uc_typing.specs.Typing.{Ty}
-use Rattle.uc_sound.specs.Formed.{IsFormed}
+use Rattle.uc_sound.specs.SoundFormed.{IsFormed}
 use Rattle.uc_sound.specs.Tables.{table_of}
 use Rattle.uc_life_laws.specs.Things.{Few, Base}
 use Rattle.uc_life_laws.specs.LifeStates.{LifeState}
@@ -34,7 +34,7 @@ use Rattle.uc_life_laws.specs.KnownAnswers.{MainPasses}
 use Rattle.uc_life_laws.specs.KnownRuns.{PassesBelow, Meets, AllIsKnown}
 use Rattle.uc_life_laws.proofs.KnownWorlds.{earlier, law_known_runs}
 use Rattle.uc_life_laws.proofs.Laying.{laid_out}
-use Rattle.uc_world_laws.specs.Rooted.{IsPlace}
+use Rattle.uc_life_laws.specs.Rooted.{IsPlace}
 use Rattle.uc_putting_laws.specs.Putting.{CodeRoutine}
 use Rattle.uc_putting_laws.specs.PuttingLaws.{special_of, setting_of, Fair}
 use Rattle.uc_putting_laws.proofs.Routines.{law_calling}

@@ -17,10 +17,10 @@ use Rattle.uc_typing.specs.Typing.{Ty, Cell, Obj, Raw, Sig, Table, object_ty, Is
 use Rattle.uc_typing.specs.Pieces.{Ok, onto, CallsOn}
 use Rattle.uc_typing.specs.States.{IsObjectBy, IsObject, Sound}
 use Rattle.uc_typing.proofs.Frames.{drop_onto}
-use Rattle.uc_sound.specs.Formed.{IsFormed}
+use Rattle.uc_sound.specs.SoundFormed.{IsFormed}
 use Rattle.uc_sound.specs.Tables.{table_of}
 use Rattle.uc_sound.proofs.SoundLemmas.{law_sound}
-use Rattle.uc_event_laws.specs.Counted.{params_at, params}
+use Rattle.uc_state_laws.specs.Counted.{params_at, params}
 use Rattle.uc_life_laws.specs.Things.{Few, Within, lies, inside, Base, Things, Stands, Held, LiesIn, Known}
 use Rattle.uc_life_laws.specs.LifeStates.{LifeState}
 use Rattle.uc_life_laws.specs.Knowing as knowing
@@ -28,10 +28,10 @@ use Rattle.uc_life_laws.specs.Knowing.{AtHand, InMaking, KnownAll, KnowsState, F
 use Rattle.uc_life_laws.specs.KnownRuns.{Meets}
 use Rattle.uc_life_laws.proofs.Knowns.{values_drop, newest}
 use Rattle.uc_life_laws.proofs.Reading.{within_raw, not_whole, NoNumber, behind_number}
-use Rattle.uc_world_laws.specs.Rooted.{IsPlace}
-use Rattle.uc_world_laws.proofs.Rooted.{within_object, things_place, stands_things}
-use Rattle.uc_unmarked_laws.specs.Belonging.{Belongs, object}
-use Rattle.uc_unmarked_laws.specs.Ending.{Spot, calling}
+use Rattle.uc_life_laws.specs.Rooted.{IsPlace}
+use Rattle.uc_life_laws.proofs.Rooted.{within_object, things_place, stands_things}
+use Rattle.uc_life_laws.specs.Belonging.{Belongs, object}
+use Rattle.uc_life_laws.specs.Ending.{Spot, calling}
 use Rattle.uc_putting_laws.specs.CleanedSpots.{Under, site_spot, IsOf, IsIn}
 use Rattle.uc_putting_laws.specs.ObjectsAtHand.{LiesUnder}
 use Rattle.uc_putting_laws.specs.Putting as putting

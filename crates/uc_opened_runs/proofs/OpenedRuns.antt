@@ -1,4 +1,4 @@
--- What uc_value_laws asks of steps that bind holds in programs within their limits, so that a step finds all that it is to find.
+-- What uc_state_laws asks of steps that bind holds in programs within their limits, so that a step finds all that it is to find.
 use Rattle.std.proofs.Common.{ℕ, zero, suc, List}
 use Rattle.uc_tree.specs.Source.{Source}
 use Rattle.uc_entry.specs.declared.entry.Options.{Options}
@@ -10,11 +10,11 @@ use Rattle.uc_machine.specs.Rides as rides
 use Rattle.uc_machine.specs.Rides.{Rides}
 use Rattle.uc_meaning.specs.Runs.{World, Runs, gives, no_room, acts, begun, more, drawn}
 use Rattle.uc_resolve.specs.Resolve.{source_of}
-use Rattle.uc_scope_laws.specs.RoomRuns as runs
-use Rattle.uc_scope_laws.specs.RoomRuns.{Leads, Comes}
-use Rattle.uc_value_laws.specs.Endings.{still_reading, RideHolds, RunHolds, LeadsHold}
-use Rattle.uc_value_laws.specs.Opens.{Opens, RideMeets, RunMeets, LeadsMeet}
-use Rattle.uc_binding_laws.proofs.OpenRuns.{law_opens}
+use Rattle.uc_state_laws.specs.RoomRuns as runs
+use Rattle.uc_state_laws.specs.RoomRuns.{Leads, Comes}
+use Rattle.uc_state_laws.specs.Endings.{still_reading, RideHolds, RunHolds, LeadsHold}
+use Rattle.uc_state_laws.specs.Opens.{Opens, RideMeets, RunMeets, LeadsMeet}
+use Rattle.uc_place_laws.proofs.OpenRuns.{law_opens}
 use Rattle.uc_typing.specs.Typing.{Table}
 use Rattle.uc_sound.specs.Tables.{table_of}
 use Rattle.uc_life_laws.specs.OpenedRuns.{MeetsObjects, IsFollowed}

@@ -17,12 +17,12 @@ use Rattle.uc_machine.specs.Pieces as piece
 use Rattle.uc_machine.specs.Pieces.{Value, Todo, Active, State, Members}
 use Rattle.uc_machine.specs.Answering.{child_of}
 use Rattle.uc_meaning.specs.Runs.{World, Runs, gives, no_room, acts, begun, more, bare, or_else}
-use Rattle.uc_program_laws.proofs.Alive.{law_alive}
-use Rattle.uc_program_laws.proofs.Others.{run_rests}
+use Rattle.uc_state_laws.proofs.Alive.{law_alive}
+use Rattle.uc_state_laws.proofs.Others.{run_rests}
 use Rattle.uc_resolve.specs.Resolve.{source_of}
-use Rattle.uc_aside_laws.specs.OlderResting.{AllWait, NamedSlot, NamedParked, NamedHand, NamedMembers}
-use Rattle.uc_aside_laws.proofs.Keeping.{either}
-use Rattle.uc_world_laws.specs.Rooted.{InSlot, InParked, InHand, InMembers, Lives}
+use Rattle.uc_place_laws.specs.OlderResting.{AllWait, NamedSlot, NamedParked, NamedHand, NamedMembers}
+use Rattle.uc_place_laws.proofs.AsideKeeping.{either}
+use Rattle.uc_life_laws.specs.Rooted.{InSlot, InParked, InHand, InMembers, Lives}
 use Rattle.uc_apart_laws.specs.Before.{world_at}
 use Rattle.uc_tasked_laws.specs.TaskedRuns.{told_by, KeepsSeats, AllKeep, SeatsKept, AreSeated}
 use Rattle.uc_tasked_laws.proofs.SeatsKept.{law_tasked}

@@ -13,8 +13,8 @@ use Rattle.uc_typing.specs.Typing.{Ty, Cell, Obj, Raw, Sig, Table}
 use Rattle.uc_sound.specs.Tables.{table_of}
 use Rattle.uc_life_laws.specs.Things.{Few, Base, Things, Stands, lies, inside}
 use Rattle.uc_life_laws.specs.Knowing.{InMaking}
-use Rattle.uc_world_laws.specs.Rooted.{IsPlace, Lives, OwnThings, Yet, Had, OwnObject}
-use Rattle.uc_world_laws.proofs.Rooted.{things_split, stands_more, stands_split, stands_things, within_on}
+use Rattle.uc_life_laws.specs.Rooted.{IsPlace, Lives, OwnThings, Yet, Had, OwnObject}
+use Rattle.uc_life_laws.proofs.Rooted.{things_split, stands_more, stands_split, stands_things, within_on}
 use Rattle.uc_tasked_laws.specs.Aims.{IsAimed}
 use Rattle.uc_tasked_laws.specs.SeatedStates.{Told, IsFree}
 use Rattle.uc_tasked_laws.specs.TaskedRuns.{is_pending, told_by}

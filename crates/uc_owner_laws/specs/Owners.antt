@@ -10,7 +10,7 @@ use Rattle.uc_typing.specs.Typing.{Ty, Cell, Obj, Raw, Sig}
 use Rattle.uc_sound.specs.Tables.{table_of}
 use Rattle.uc_life_laws.specs.Things.{Few, Base, Things, Stands}
 use Rattle.uc_life_laws.specs.Knowing.{InMaking}
-use Rattle.uc_world_laws.specs.Rooted.{IsPlace, Lives, OwnThings, OwnObject, StandsUpwards}
+use Rattle.uc_life_laws.specs.Rooted.{IsPlace, Lives, OwnThings, OwnObject, StandsUpwards}
 use Rattle.uc_tasked_laws.specs.Aims.{IsAimed}
 use Rattle.uc_tasked_laws.specs.SeatedStates.{IsFree}
 use Rattle.uc_tasked_laws.specs.TaskedRuns.{told_by, AllKeep}

@@ -5,7 +5,7 @@ use Rattle.uc_tree.specs.Source.{Expr, CleanUp, Source}
 use Rattle.uc_machine.specs.Pieces as piece
 use Rattle.uc_machine.specs.Pieces.{Todo, Sort}
 use Rattle.uc_typing.specs.Typing.{Ty, Cell, Obj, Row, Clu, Pro, Table, DestroysAt, CleansAt}
-use Rattle.uc_unmarked_laws.specs.Ending.{Spot, OfVariable, OfField}
+use Rattle.uc_life_laws.specs.Ending.{Spot, OfVariable, OfField}
 use Rattle.uc_putting_laws.specs.CleanedSpots.{Site, AnySite, place_spot, spot_in, spot_of, IsSpotOf, Reach, apart, IsOf, SpotBelow, SortBelow, AllBelow, IsOutermost, AscendsBy}
 use Rattle.uc_putting_laws.specs.Fields.{OfOthers, SortOthers, AllOthers}
 use Rattle.uc_putting_laws.specs.Calling.{PlaceAt, CallsAt, EndsAt, EndsEach, EndsNumber, CleansBy}

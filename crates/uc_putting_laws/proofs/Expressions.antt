@@ -29,7 +29,7 @@ use Rattle.uc_resolve.specs.Standings as tree
 use Rattle.uc_resolve.specs.Standings.{Standing, Meant, Whose, Own, Of, NumberedField, ConditionCall, Context}
 use Rattle.uc_resolve.specs.Resolve.{source_of}
 use Rattle.uc_sound.specs.Tables.{table_of}
-use Rattle.uc_aside_laws.proofs.Keeping.{either}
+use Rattle.uc_place_laws.proofs.AsideKeeping.{either}
 use Rattle.uc_putting_laws.specs.Calling.{PlainExpr, PlainExprs}
 use Rattle.uc_putting_laws.specs.PuttingLaws.{special_of}
 use Rattle.uc_putting_laws.proofs.Roles.{member_plain, routine_plain}

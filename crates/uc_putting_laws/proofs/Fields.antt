@@ -8,8 +8,8 @@ use Rattle.uc_machine.specs.Pieces as piece
 use Rattle.uc_machine.specs.Pieces.{Link, FieldAt, Value, Number, Place, Running, Object, Nothing, further, Todo, Sort, Active}
 use Rattle.uc_typing.specs.Typing.{Ty, Cell, Obj, Table}
 use Rattle.uc_life_laws.specs.Things.{Few, Within, AtField, IsFor, Marks, InTodo, Stands, lies, inside}
-use Rattle.uc_unmarked_laws.specs.Belonging.{Belongs, frame, fields, object}
-use Rattle.uc_unmarked_laws.specs.Marks.{Marked, Outward, Sole}
+use Rattle.uc_life_laws.specs.Belonging.{Belongs, frame, fields, object}
+use Rattle.uc_life_laws.specs.Marks.{Marked, Outward, Sole}
 use Rattle.uc_putting_laws.specs.ObjectsAtHand.{OwnedBy, LiesUnder, same_place, further_on, LiesIn, there, at_home, NoneWithin}
 use Rattle.uc_putting_laws.specs.Fields.{NoneIn, OfNumber, OfOthers, SortOthers, AllOthers, LawSole}
 use Rattle.uc_putting_laws.proofs.ObjectsWithin.{owned_further, owner_one, owned_under, owner_of, one_object, no_frame, home_own, within_under, no_circle}

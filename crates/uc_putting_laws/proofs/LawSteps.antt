@@ -2,7 +2,7 @@
 use Rattle.std.proofs.Common.{ℕ, Bool, Option, Some, None}
 use Rattle.std.specs.Prelude.{slice_get}
 use Rattle.uc_tree.specs.Source.{Routine}
-use Rattle.uc_event_laws.specs.Counted.{CountedRoutine, CountedSource}
+use Rattle.uc_state_laws.specs.Counted.{CountedRoutine, CountedSource}
 use Rattle.uc_putting_laws.specs.Calling.{CallingRoutine, CallingSource}
 use Rattle.uc_putting_laws.specs.Putting.{Setting, CodeRoutine}
 use Rattle.uc_putting_laws.specs.PuttingLaws.{LawSteps}

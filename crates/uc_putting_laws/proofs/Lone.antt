@@ -7,15 +7,15 @@ use Rattle.uc_machine.specs.declared.exec.Owner.TheVariants.{Frame, Fields}
 use Rattle.uc_machine.specs.Pieces as piece
 use Rattle.uc_machine.specs.Pieces.{Slot, FieldAt, Value, Object, Todo, Active, State, further}
 use Rattle.uc_typing.specs.Typing.{Ty, Cell, Obj}
-use Rattle.uc_scope_laws.specs.Rooms.{Room, LiesAt, LiesIn, Destroyed, Lies, OwnAt, OwnIn, OwnPart, RaisedIn}
-use Rattle.uc_scope_laws.specs.RoomStacks as stacks
-use Rattle.uc_scope_laws.specs.RoomStacks.{SomeTo, StackState}
-use Rattle.uc_scope_laws.proofs.Stacks.{stacked_by, stack_before}
+use Rattle.uc_state_laws.specs.Rooms.{Room, LiesAt, LiesIn, Destroyed, Lies, OwnAt, OwnIn, OwnPart, RaisedIn}
+use Rattle.uc_state_laws.specs.RoomStacks as stacks
+use Rattle.uc_state_laws.specs.RoomStacks.{SomeTo, StackState}
+use Rattle.uc_state_laws.proofs.Stacks.{stacked_by, stack_before}
 use Rattle.uc_life_laws.specs.Things.{Within, Stands, lies, inside, Variables}
 use Rattle.uc_life_laws.specs.LifeRuns.{IsLaidOut}
-use Rattle.uc_unmarked_laws.specs.Marks.{Marked, Outward}
-use Rattle.uc_aside_laws.specs.OlderResting.{AllWait, NamedEnv}
-use Rattle.uc_unmarked_laws.specs.Ending.{Spot, OfVariable, OfField, leaving}
+use Rattle.uc_life_laws.specs.Marks.{Marked, Outward}
+use Rattle.uc_place_laws.specs.OlderResting.{AllWait, NamedEnv}
+use Rattle.uc_life_laws.specs.Ending.{Spot, OfVariable, OfField, leaving}
 use Rattle.uc_putting_laws.specs.CleanedSpots.{Site, site_spot, IsAtVariable, place_spot, spot_in, spot_of, IsSpotOf, OpensFor, Reach, apart, IsOf, IsIn, AllBelow, IsOutermost, AscendsBy, Ascends}
 use Rattle.uc_putting_laws.specs.ObjectsAtHand as hand
 use Rattle.uc_putting_laws.specs.ObjectsAtHand.{OwnedBy, same_place, further_on, there, at_home, variable, OwnMarked, IsSeated}

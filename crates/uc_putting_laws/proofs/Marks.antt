@@ -9,13 +9,13 @@ use Rattle.uc_machine.specs.declared.exec.Owner.TheVariants.{Frame}
 use Rattle.uc_machine.specs.Quiet.{behind_body}
 use Rattle.uc_machine.specs.Pieces as piece
 use Rattle.uc_machine.specs.Pieces.{Value, Todo, Active, top, below, further}
-use Rattle.uc_event_laws.specs.Counted.{params}
+use Rattle.uc_state_laws.specs.Counted.{params}
 use Rattle.uc_typing.specs.Typing.{Ty, Cell, Obj, Table}
 use Rattle.uc_life_laws.specs.Things.{Few, AtField, IsFor, InTodo, Stands, lies, inside}
-use Rattle.uc_unmarked_laws.specs.Marks.{Outward, Free}
-use Rattle.uc_unmarked_laws.specs.Ending.{Spot, OfVariable, OfField}
-use Rattle.uc_aside_laws.specs.OlderResting.{AllWait}
-use Rattle.uc_aside_laws.proofs.Keeping.{tested}
+use Rattle.uc_life_laws.specs.Marks.{Outward, Free}
+use Rattle.uc_life_laws.specs.Ending.{Spot, OfVariable, OfField}
+use Rattle.uc_place_laws.specs.OlderResting.{AllWait}
+use Rattle.uc_place_laws.proofs.AsideKeeping.{tested}
 use Rattle.uc_putting_laws.specs.CleanedSpots.{Site, One, Each, Under, site_spot, AnySite, IsAtVariable, IsSpotOf, Reach, apart, IsOf, IsIn}
 use Rattle.uc_putting_laws.specs.ObjectsAtHand.{LiesUnder, same_place, further_on, BelongsBelow, in_frame, IsSeated}
 use Rattle.uc_putting_laws.specs.Calling.{opens_object, PlainExpr, PlaceAt, Binds, CallsAt, MakesAt, MakesEach, EndsAt, EndsEach, EndsNumber, Evaluates, FillsBy, SweepsBy, CleansBy, RaisesBy, CallingStmt, CallingEvent, CallingTask, Opening}

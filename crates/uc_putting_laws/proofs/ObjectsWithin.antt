@@ -6,7 +6,7 @@ use Rattle.uc_machine.specs.declared.exec.Owner.TheVariants.{Frame, Fields}
 use Rattle.uc_machine.specs.Pieces.{Link, FieldAt, Value, Number, Place, Running, Object, Nothing, further}
 use Rattle.uc_typing.specs.Typing.{Ty, Obj, Table}
 use Rattle.uc_life_laws.specs.Things.{Few, Within, itself, field, element, Stands, lies, inside}
-use Rattle.uc_unmarked_laws.specs.Belonging.{Belongs, frame, fields, object}
+use Rattle.uc_life_laws.specs.Belonging.{Belongs, frame, fields, object}
 use Rattle.uc_putting_laws.specs.ObjectsAtHand.{OwnedBy, LiesUnder, same_place, further_on, LiesIn, there, at_home, BelongsBelow, in_frame, in_fields, in_object}
 
 -- owners

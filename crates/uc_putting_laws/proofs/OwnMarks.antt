@@ -8,10 +8,10 @@ use Rattle.uc_machine.specs.declared.exec.Owner.TheVariants.{Frame}
 use Rattle.uc_machine.specs.Pieces as piece
 use Rattle.uc_machine.specs.Pieces.{FieldAt, Value, Todo, Sort, Active, sort, further}
 use Rattle.uc_typing.specs.Typing.{Ty, Table}
-use Rattle.uc_scope_laws.specs.RoomStacks.{Stack}
+use Rattle.uc_state_laws.specs.RoomStacks.{Stack}
 use Rattle.uc_life_laws.specs.Things.{Few, AtVariable, AtField, Nowhere, IsFor, Marks, InTodo, Variables}
-use Rattle.uc_unmarked_laws.specs.Marks.{Marked}
-use Rattle.uc_unmarked_laws.specs.Ending.{OfField}
+use Rattle.uc_life_laws.specs.Marks.{Marked}
+use Rattle.uc_life_laws.specs.Ending.{OfField}
 use Rattle.uc_putting_laws.specs.CleanedSpots.{Reach, reach_of}
 use Rattle.uc_putting_laws.specs.ObjectsAtHand.{same_place, further_on, BelongsBelow, OwnMarked, IsSeated}
 use Rattle.uc_putting_laws.specs.Calling.{CleansBy}

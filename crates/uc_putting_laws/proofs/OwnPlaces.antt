@@ -14,21 +14,21 @@ use Rattle.uc_machine.specs.Rides.{Rides}
 use Rattle.uc_meaning.specs.Runs.{World, May, Runs as RunsIn, gives, no_room, acts, begun, more}
 use Rattle.uc_resolve.specs.Resolve.{source_of}
 use Rattle.uc_rules.specs.Breaks.{breaks_of}
-use Rattle.uc_program_laws.specs.Fitting.{RunFits}
-use Rattle.uc_program_laws.proofs.Others.{RunRests, run_rests}
-use Rattle.uc_scope_laws.specs.FrameRuns.{KeepsFrames}
-use Rattle.uc_scope_laws.specs.Layout.{Sized}
-use Rattle.uc_scope_laws.specs.Rooms.{SourceIn}
-use Rattle.uc_scope_laws.proofs.StackWorlds.{law_frame_runs}
-use Rattle.uc_scope_laws.proofs.Unreferring.{law_accepted}
-use Rattle.uc_value_laws.specs.Opens.{RideMeets, MayMeet, RunMeets}
-use Rattle.uc_event_laws.specs.Counted.{params}
+use Rattle.uc_state_laws.specs.Fitting.{RunFits}
+use Rattle.uc_state_laws.proofs.Others.{RunRests, run_rests}
+use Rattle.uc_state_laws.specs.ScopeFrameRuns.{KeepsFrames}
+use Rattle.uc_state_laws.specs.Layout.{Sized}
+use Rattle.uc_state_laws.specs.Rooms.{SourceIn}
+use Rattle.uc_state_laws.proofs.StackWorlds.{law_frame_runs}
+use Rattle.uc_state_laws.proofs.Unreferring.{law_accepted}
+use Rattle.uc_state_laws.specs.Opens.{RideMeets, MayMeet, RunMeets}
+use Rattle.uc_state_laws.specs.Counted.{params}
 use Rattle.uc_sound.specs.Tables.{table_of}
 use Rattle.uc_life_laws.specs.Things.{Few}
 use Rattle.uc_life_laws.specs.LifeRuns.{IsLaidOut}
 use Rattle.uc_life_laws.proofs.Laying.{laid_out}
-use Rattle.uc_unmarked_laws.specs.Belonging.{Belongs}
-use Rattle.uc_unmarked_laws.specs.Ending.{Spot}
+use Rattle.uc_life_laws.specs.Belonging.{Belongs}
+use Rattle.uc_life_laws.specs.Ending.{Spot}
 use Rattle.uc_putting_laws.specs.CleanedSpots.{site_spot, Reach, IsOf, IsIn}
 use Rattle.uc_putting_laws.specs.ObjectsAtHand.{LiesUnder, IsSeated}
 use Rattle.uc_putting_laws.specs.Putting.{Setting, Mark, Homed, rest, rests, spot_at, Holds, made_marks, Ok, CodeRoutine, PutState}

@@ -5,8 +5,8 @@ use Rattle.uc_tree.specs.Source.{Shape, CleanUp}
 use Rattle.uc_machine.specs.Pieces as piece
 use Rattle.uc_machine.specs.Pieces.{Todo, State, further}
 use Rattle.uc_typing.specs.Typing.{Ty, Cell, Obj, CleansAt}
-use Rattle.uc_unmarked_laws.specs.Marks.{OwnFields, Sole, OfClean, PutsAt}
-use Rattle.uc_unmarked_laws.specs.Ending.{OfField}
+use Rattle.uc_life_laws.specs.Marks.{OwnFields, Sole, OfClean, PutsAt}
+use Rattle.uc_life_laws.specs.Ending.{OfField}
 use Rattle.uc_putting_laws.specs.CleanedSpots.{spot_of, Reach, apart, AllBelow, IsOutermost, Ascends}
 use Rattle.uc_putting_laws.specs.ObjectsAtHand.{LiesUnder, there, IsSeated}
 use Rattle.uc_putting_laws.specs.Calling.{CleansBy}

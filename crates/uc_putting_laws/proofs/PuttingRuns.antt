@@ -5,15 +5,15 @@ use Rattle.uc_tree.specs.Numbering.{sites_of}
 use Rattle.uc_tree.specs.Programs.{Program}
 use Rattle.uc_resolve.specs.Resolve.{source_of}
 use Rattle.uc_rules.specs.Breaks.{breaks_of}
-use Rattle.uc_sound.specs.Formed.{IsFormed}
+use Rattle.uc_sound.specs.SoundFormed.{IsFormed}
 use Rattle.uc_sound.specs.Tables.{table_of}
 use Rattle.uc_sound.proofs.SoundLemmas.{law_sound}
 use Rattle.uc_site_laws.proofs.Routines.{source_named}
-use Rattle.uc_event_laws.specs.Counted.{CountedSource}
-use Rattle.uc_event_laws.proofs.Arguments.{counted_source}
+use Rattle.uc_state_laws.specs.Counted.{CountedSource}
+use Rattle.uc_state_laws.proofs.Arguments.{counted_source}
 use Rattle.uc_life_laws.specs.Things.{Few}
 use Rattle.uc_life_laws.proofs.Laying.{laid_out}
-use Rattle.uc_unmarked_laws.proofs.Worlds.{law_runs as lone_runs}
+use Rattle.uc_life_laws.proofs.UnmarkedWorlds.{law_runs as lone_runs}
 use Rattle.uc_putting_laws.specs.Putting.{CodeRoutine}
 use Rattle.uc_putting_laws.specs.PuttingLaws.{special_of, setting_of}
 use Rattle.uc_putting_laws.specs.PuttingRuns.{LawRuns}

@@ -13,11 +13,11 @@ use Rattle.uc_machine.specs.Monitors as monitors
 use Rattle.uc_machine.specs.Quiet as quiet
 use Rattle.uc_machine.specs.Pieces as piece
 use Rattle.uc_machine.specs.Pieces.{Value, Todo, Sort, Active, Env, at, below}
-use Rattle.uc_event_laws.specs.Counted.{params, count, CountedClean, CountedStmts, CountedHandlers, CountedRaised, CountedAt}
-use Rattle.uc_aside_laws.specs.OlderResting.{AllWait, NamedEnv}
-use Rattle.uc_aside_laws.proofs.Keeping as kept
-use Rattle.uc_aside_laws.proofs.Keeping.{either}
-use Rattle.uc_unmarked_laws.specs.Ending.{Spot, OfVariable, OfField}
+use Rattle.uc_state_laws.specs.Counted.{params, count, CountedClean, CountedStmts, CountedHandlers, CountedRaised, CountedAt}
+use Rattle.uc_place_laws.specs.OlderResting.{AllWait, NamedEnv}
+use Rattle.uc_place_laws.proofs.AsideKeeping as kept
+use Rattle.uc_place_laws.proofs.AsideKeeping.{either}
+use Rattle.uc_life_laws.specs.Ending.{Spot, OfVariable, OfField}
 use Rattle.uc_putting_laws.specs.CleanedSpots.{Site, NoSite, spot_of, Reach, apart, IsOutermost}
 use Rattle.uc_putting_laws.specs.Calling.{CallsAt, EndsAt, EndsNumber, Evaluates, SweepsBy, CleansBy, Begins}
 use Rattle.uc_putting_laws.specs.Putting.{Setting, Around, around, Mark, Any, rest, rests, anys, OpensRest, LoneAt, Counts, CodeMaybe, CodeItems, CodeStmt, CodeStmts, CodeHandlers, CodeClauses, CodeLoop, CodeSweep, CodeFill, CodeScope, CodePart, made_marks, CallFits, LeftBy, Ok, Left, Runs, Waits}

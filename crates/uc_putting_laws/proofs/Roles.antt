@@ -19,10 +19,10 @@ use Rattle.uc_rules.specs.Names.{form_sig, method_sig}
 use Rattle.uc_rules.specs.ClassBreaks.{is_void_base, is_main_of_class, form_is_main, is_well_mained, members_declare}
 use Rattle.uc_rules.specs.ItemBreaks.{is_program_main, mains_in, main_breaks}
 use Rattle.uc_rules.specs.ProgramVisits.{program_visits}
-use Rattle.uc_agreement.specs.Unbroken.{Unbroken}
-use Rattle.uc_agreement.proofs.Ties.{some_same, none_some, false_true}
-use Rattle.uc_agreement.proofs.UnbrokenLemmas.{none_left, holds}
-use Rattle.uc_sound.specs.Formed.{IsFormed}
+use Rattle.uc_sound.specs.Unbroken.{Unbroken}
+use Rattle.uc_sound.proofs.Ties.{some_same, none_some, false_true}
+use Rattle.uc_sound.proofs.UnbrokenLemmas.{none_left, holds}
+use Rattle.uc_sound.specs.SoundFormed.{IsFormed}
 use Rattle.uc_sound.proofs.Lists.{in_left, get_right, left_is, right_is, any_at}
 use Rattle.uc_sound.proofs.Origins.{Looked, looked, routine_looked, member_looked}
 use Rattle.uc_sound.proofs.ClassNames.{same_is}
@@ -30,7 +30,7 @@ use Rattle.uc_sound.proofs.Visited.{class_own}
 use Rattle.uc_sound.proofs.BodyLemmas.{main_sig}
 use Rattle.uc_sound.proofs.ClassLemmas.{law_told}
 use Rattle.uc_sound.proofs.RoutineLemmas.{defined_routine}
-use Rattle.uc_value_laws.specs.Makers.{roles}
+use Rattle.uc_state_laws.specs.Makers.{roles}
 use Rattle.uc_putting_laws.specs.PuttingLaws.{is_special, special_of}
 
 map_at : {A B : Type 0} (f : A → B) (xs : List A) (n : ℕ) (x : A) → slice_get xs n ≡ Some x → slice_get (map f xs) n ≡ Some (f x)

@@ -19,13 +19,13 @@ use Rattle.uc_resolve.specs.Resolve as meaning
 use Rattle.uc_resolve.specs.Resolve.{Scope, source_of}
 use Rattle.uc_rules.specs.Sorts.{has_main}
 use Rattle.uc_rules.specs.ProgramVisits.{program_visits}
-use Rattle.uc_agreement.specs.Unbroken.{Unbroken}
-use Rattle.uc_agreement.proofs.Ties.{false_true}
-use Rattle.uc_sound.specs.Formed.{IsFormed}
+use Rattle.uc_sound.specs.Unbroken.{Unbroken}
+use Rattle.uc_sound.proofs.Ties.{false_true}
+use Rattle.uc_sound.specs.SoundFormed.{IsFormed}
 use Rattle.uc_sound.specs.Tables.{table_of}
-use Rattle.uc_value_laws.specs.Makers.{roles}
-use Rattle.uc_enter_laws.proofs.Lookups.{MakesPlain, making_plain}
-use Rattle.uc_unmarked_laws.specs.Ending.{OfField}
+use Rattle.uc_state_laws.specs.Makers.{roles}
+use Rattle.uc_sound.proofs.Lookups.{MakesPlain, making_plain}
+use Rattle.uc_life_laws.specs.Ending.{OfField}
 use Rattle.uc_putting_laws.specs.CleanedSpots.{Site, spot_of, OpensFor, reach_of, AscendsBy, Ascends}
 use Rattle.uc_putting_laws.specs.Calling.{Evaluates, CallingStmts, CallingBody, CallingRoutine}
 use Rattle.uc_putting_laws.specs.PuttingLaws.{is_special, special_of, LawCalling}

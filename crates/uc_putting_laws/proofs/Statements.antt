@@ -17,13 +17,13 @@ use Rattle.uc_resolve.specs.Standings.{Meant}
 use Rattle.uc_resolve.specs.Resolve as meaning
 use Rattle.uc_resolve.specs.Resolve.{Scope, source_of}
 use Rattle.uc_rules.specs.ProgramVisits.{program_visits}
-use Rattle.uc_agreement.specs.Unbroken.{Unbroken}
-use Rattle.uc_sound.specs.Formed.{IsFormed}
+use Rattle.uc_sound.specs.Unbroken.{Unbroken}
+use Rattle.uc_sound.specs.SoundFormed.{IsFormed}
 use Rattle.uc_sound.specs.Tables.{table_of}
 use Rattle.uc_sound.proofs.MemberLemmas.{tells_maker}
 use Rattle.uc_depth_laws.specs.Entering.{lets_go, holds_object}
-use Rattle.uc_enter_laws.proofs.Lookups.{IsPlainClass, IsObjectClass, MakesPlain, making_plain, event_free, written_free, unwritten_free}
-use Rattle.uc_unmarked_laws.specs.Ending.{Spot, OfVariable, OfField, naming}
+use Rattle.uc_sound.proofs.Lookups.{IsPlainClass, IsObjectClass, MakesPlain, making_plain, event_free, written_free, unwritten_free}
+use Rattle.uc_life_laws.specs.Ending.{Spot, OfVariable, OfField, naming}
 use Rattle.uc_putting_laws.specs.CleanedSpots.{Site, One, Each, Under, site_spot, NoSite, AnySite, place_spot, spot_in, spot_of, IsSpotOf, OpensFor, Reach, reach_of, IsOf}
 use Rattle.uc_putting_laws.specs.Calling.{of_object, opens_object, opens_at, EndsWhole, PlainExpr, PlainMaybe, PlainItems, PlainTargets, PlainDeclared, PlaceAt, CallsAt, MakesAt, MakesEach, EndsAt, EndsEach, Evaluates, FillsBy, SweepsBy, CleansBy, RaisesBy, CallingStmt, CallingStmts, CallingHandlers, CallingClauses}
 use Rattle.uc_putting_laws.specs.PuttingLaws.{special_of}

@@ -25,12 +25,12 @@ use Rattle.uc_machine.specs.Quiet as quiet
 use Rattle.uc_machine.specs.Pieces as piece
 use Rattle.uc_machine.specs.Pieces.{Value, Number, Object, Nothing, Todo, Sort, Active, State, Env, Step, Asks, Outcome, Gives, Faults, at, in_env, goes, fault, top, below, number, loaded, written}
 use Rattle.uc_typing.specs.Typing.{Ty}
-use Rattle.uc_event_laws.specs.Counted.{params_at, params, count, CountedClean}
-use Rattle.uc_unmarked_laws.specs.Belonging.{Belongs}
-use Rattle.uc_unmarked_laws.specs.Marks.{Outward, Free}
-use Rattle.uc_unmarked_laws.specs.Ending.{Spot, OfVariable, OfField}
-use Rattle.uc_aside_laws.proofs.Keeping as kept
-use Rattle.uc_aside_laws.proofs.Keeping.{either}
+use Rattle.uc_state_laws.specs.Counted.{params_at, params, count, CountedClean}
+use Rattle.uc_life_laws.specs.Belonging.{Belongs}
+use Rattle.uc_life_laws.specs.Marks.{Outward, Free}
+use Rattle.uc_life_laws.specs.Ending.{Spot, OfVariable, OfField}
+use Rattle.uc_place_laws.proofs.AsideKeeping as kept
+use Rattle.uc_place_laws.proofs.AsideKeeping.{either}
 use Rattle.uc_putting_laws.specs.CleanedSpots.{Site, One, Each, Under, site_spot, AnySite, spot_of, Reach, reach_of, apart, IsOf, IsIn, AllBelow, IsOutermost, Ascends}
 use Rattle.uc_putting_laws.specs.ObjectsAtHand.{LiesUnder, same_place, further_on, there, BelongsBelow, in_object, OwnMarked, NoneWithin, IsSeated}
 use Rattle.uc_putting_laws.specs.Calling.{opens_object, opens_at, is_opening, PlainNew, Binds, PlaceAt, CallsAt, MakesAt, MakesEach, EndsAt, EndsEach, EndsNumber, CleansBy}

@@ -8,9 +8,9 @@ use Rattle.uc_machine.specs.declared.exec.Owner.TheVariants.{Frame, Fields}
 use Rattle.uc_machine.specs.Pieces as piece
 use Rattle.uc_machine.specs.Pieces.{Slot, Value, Todo, Sort, Active}
 use Rattle.uc_typing.specs.Typing.{Ty, Num, Cell, Obj, Raw, Row, Clu, Pro, Table, element_shape, DestroysAt, CleansAt}
-use Rattle.uc_scope_laws.specs.Rooms.{LiesAt, LiesIn, Destroyed, Lies}
-use Rattle.uc_scope_laws.specs.RoomStates as rooms
-use Rattle.uc_scope_laws.specs.RoomStacks as stacks
+use Rattle.uc_state_laws.specs.Rooms.{LiesAt, LiesIn, Destroyed, Lies}
+use Rattle.uc_state_laws.specs.RoomStates as rooms
+use Rattle.uc_state_laws.specs.RoomStacks as stacks
 use Rattle.uc_life_laws.specs.Things.{Few, Within, itself, field, element, AtVariable, Nowhere, Marks, InTodo, Variables}
 use Rattle.uc_life_laws.specs.LifeRuns.{span, IsFlat, IsLaidOut}
 use Rattle.uc_putting_laws.specs.ObjectsAtHand as hand

@@ -18,12 +18,12 @@ use Rattle.uc_machine.specs.Pieces as piece
 use Rattle.uc_machine.specs.Pieces.{Value, Todo, State, Members, at, top, below, number}
 use Rattle.uc_machine.specs.Answering.{answered, child_main, entered, new_members, with_operand}
 use Rattle.uc_answer_laws.specs.Suiting.{Form, AnObject, AClause, ANumber, AValue, AnEvent, JustGo, IsForm}
-use Rattle.uc_scope_laws.specs.Layout.{Sized}
-use Rattle.uc_scope_laws.specs.RoomStacks.{StackState}
+use Rattle.uc_state_laws.specs.Layout.{Sized}
+use Rattle.uc_state_laws.specs.RoomStacks.{StackState}
 use Rattle.uc_life_laws.specs.LifeRuns.{IsLaidOut}
-use Rattle.uc_aside_laws.specs.OlderResting.{AllWait, NamedParked, NamedHand, NamedEnv}
-use Rattle.uc_aside_laws.proofs.Keeping as kept
-use Rattle.uc_aside_laws.proofs.Keeping.{either}
+use Rattle.uc_place_laws.specs.OlderResting.{AllWait, NamedParked, NamedHand, NamedEnv}
+use Rattle.uc_place_laws.proofs.AsideKeeping as kept
+use Rattle.uc_place_laws.proofs.AsideKeeping.{either}
 use Rattle.uc_putting_laws.specs.CleanedSpots.{NoSite, Reach, reach_of, apart}
 use Rattle.uc_putting_laws.specs.ObjectsAtHand.{IsSeated}
 use Rattle.uc_putting_laws.specs.Putting.{Setting, Around, Mark, Any, Holds, rest, OpensRest, Counts, Plain, CodeStmt, CodeRoutine, Ok, Left, Finds, FindsFor, Runs, Waits, PutMembers, PutState, PutStep}

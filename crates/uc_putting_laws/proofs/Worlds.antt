@@ -37,32 +37,32 @@ use Rattle.uc_acts.specs.Serves.{left}
 use Rattle.uc_meaning.specs.Runs.{World, AsksIn, May, Runs as RunsIn, gives, no_room, acts, begun, more, bare, with_home, hand_of, drawn, or_else, first_world}
 use Rattle.uc_resolve.specs.Resolve.{source_of}
 use Rattle.uc_rules.specs.Breaks.{breaks_of}
-use Rattle.uc_program_laws.specs.Fitting.{MayFit, RunFits}
-use Rattle.uc_program_laws.proofs.Alive.{law_alive}
-use Rattle.uc_program_laws.proofs.Makes.{law_ends}
-use Rattle.uc_program_laws.proofs.Others.{RunRests, may_ask, run_rests}
+use Rattle.uc_state_laws.specs.Fitting.{MayFit, RunFits}
+use Rattle.uc_state_laws.proofs.Alive.{law_alive}
+use Rattle.uc_state_laws.proofs.Makes.{law_ends}
+use Rattle.uc_state_laws.proofs.Others.{RunRests, may_ask, run_rests}
 use Rattle.uc_answer_laws.specs.Suiting.{JustGo, asked_form, form_of_request}
 use Rattle.uc_answer_laws.proofs.Told.{form_push, SpotSuits}
 use Rattle.uc_answer_laws.proofs.Runs.{kept_run, law_suiting}
 use Rattle.uc_answer_laws.proofs.Asking.{law_asking}
-use Rattle.uc_scope_laws.specs.Layout.{Sized}
-use Rattle.uc_scope_laws.specs.RoomStacks.{StackState, StackStep}
-use Rattle.uc_scope_laws.specs.FrameRuns.{KeepsFrames}
-use Rattle.uc_scope_laws.specs.Rooms.{SourceIn}
-use Rattle.uc_scope_laws.specs.RoomRuns as rooms
-use Rattle.uc_scope_laws.specs.RoomRuns.{Leads, Comes}
-use Rattle.uc_scope_laws.proofs.StackWorlds.{law_frame_runs}
-use Rattle.uc_scope_laws.proofs.Unreferring.{law_accepted}
-use Rattle.uc_value_laws.specs.Opens.{RideMeets, MayMeet, RunMeets, LeadsMeet}
-use Rattle.uc_scope_laws.proofs.StackWalk.{walk as walk_stack}
+use Rattle.uc_state_laws.specs.Layout.{Sized}
+use Rattle.uc_state_laws.specs.RoomStacks.{StackState, StackStep}
+use Rattle.uc_state_laws.specs.ScopeFrameRuns.{KeepsFrames}
+use Rattle.uc_state_laws.specs.Rooms.{SourceIn}
+use Rattle.uc_state_laws.specs.RoomRuns as rooms
+use Rattle.uc_state_laws.specs.RoomRuns.{Leads, Comes}
+use Rattle.uc_state_laws.proofs.StackWorlds.{law_frame_runs}
+use Rattle.uc_state_laws.proofs.Unreferring.{law_accepted}
+use Rattle.uc_state_laws.specs.Opens.{RideMeets, MayMeet, RunMeets, LeadsMeet}
+use Rattle.uc_state_laws.proofs.StackWalk.{walk as walk_stack}
 use Rattle.uc_sound.specs.Tables.{table_of}
 use Rattle.uc_life_laws.specs.Things.{Few}
 use Rattle.uc_life_laws.specs.LifeRuns.{IsLaidOut}
 use Rattle.uc_life_laws.proofs.Spawning.{Spawned, spawner}
-use Rattle.uc_unmarked_laws.specs.Marks.{Puts}
-use Rattle.uc_aside_laws.specs.OlderResting.{AllWait, NamedParked, NamedHand}
-use Rattle.uc_aside_laws.proofs.Keeping as kept
-use Rattle.uc_aside_laws.proofs.Keeping.{either}
+use Rattle.uc_life_laws.specs.Marks.{Puts}
+use Rattle.uc_place_laws.specs.OlderResting.{AllWait, NamedParked, NamedHand}
+use Rattle.uc_place_laws.proofs.AsideKeeping as kept
+use Rattle.uc_place_laws.proofs.AsideKeeping.{either}
 use Rattle.uc_putting_laws.specs.Putting.{Setting, around, CodeRoutine, FindsFor, Runs, Waits, FindsBehind, PutMembers, PutState, PutAsk, PutStep}
 use Rattle.uc_putting_laws.specs.PuttingLaws.{special_of, setting_of, Fair}
 use Rattle.uc_putting_laws.proofs.PuttingTodos.{calm}

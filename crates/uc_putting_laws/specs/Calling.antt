@@ -4,7 +4,7 @@ use Rattle.std.specs.Prelude.{◌≡◌, ℕ, ◌⊎◌, Bool, true, false, List
 use Rattle.uc_tree.specs.Source.{Binding, Expr, Exprs, ObjectExpr, Variable, Element, Load, OfObject, OwnField, Counted, CallOn, CallLive, CallUnwritten, EnterOn, EndOn, Bind, MakeOn, NewCluster, NewProcessor, EndCluster, EndProcessor, Item, Target, Declared, CleanUp, Destroys, DestroysAll, Ends, Frees, Stmt, Stmts, Skip, Block, Whole, Evaluate, Declare, Print, PrintTogether, Read, If, Loop, Break, Continue, Return, Owes, Fill, OfEvents, OfTasks, Nil, Then, Scoped, Built, Raised, Plainly, BuiltAt, AgainFrom, EventStmt, Throw, Raise, Try, RaiseAt, Enable, Disable, TaskStmt, SetUp, Migrate, Accept, Handlers, NoHandlers, MoreHandlers, Clauses, NoClauses, Otherwise, MoreClauses, Routine, Source}
 use Rattle.uc_typing.specs.Typing.{Table}
 use Rattle.uc_inner_laws.specs.Walks as walk
-use Rattle.uc_unmarked_laws.specs.Ending.{OfVariable, OfField}
+use Rattle.uc_life_laws.specs.Ending.{OfVariable, OfField}
 use Rattle.uc_putting_laws.specs.CleanedSpots.{Site, One, Each, Under, NoSite, AnySite, IsAtVariable, IsSpotOf, OpensFor, Reach, reach_of, apart, IsOf, Ascends}
 
 -- whether a clean-up is of the mutex object at hand, as that is destroyed or built; and whether such a scope opens next

@@ -3,7 +3,7 @@
 use Rattle.std.specs.Prelude.{◌≡◌, ℕ, suc, ◌≤◌, ◌<◌, Bool, true, false, List, [], ◌∷◌, Option, Some, None}
 use Rattle.uc_tree.specs.Source.{Expr, Variable, Element, Load, OfObject, OwnField, CallOn, CallUnwritten, EndOn, EndCluster, EndProcessor, CleanUp, Destroys, DestroysAll, Stmts, Nil, Then, Scoped, Built}
 use Rattle.uc_machine.specs.Pieces.{Todo, Sort, sort, IsClean, IsPart}
-use Rattle.uc_unmarked_laws.specs.Ending.{Spot, OfVariable, OfField}
+use Rattle.uc_life_laws.specs.Ending.{Spot, OfVariable, OfField}
 
 -- where something is built or destroyed: a mutex object at a spot, each of the elements of an array of so many there, or what is no mutex object and
 -- lies at a spot or further

@@ -6,8 +6,8 @@ use Rattle.uc_machine.specs.declared.exec.Exec.{Exec}
 use Rattle.uc_machine.specs.Pieces.{Link, Value, further, Todo, Sort, IsClean, IsPart, sort, Active}
 use Rattle.uc_typing.specs.Typing.{Ty, Cell, Obj, Table, CleansAt}
 use Rattle.uc_life_laws.specs.Things.{Few, Stands}
-use Rattle.uc_unmarked_laws.specs.Belonging.{Belongs}
-use Rattle.uc_unmarked_laws.specs.Marks.{Marked, Sole}
+use Rattle.uc_life_laws.specs.Belonging.{Belongs}
+use Rattle.uc_life_laws.specs.Marks.{Marked, Sole}
 use Rattle.uc_putting_laws.specs.ObjectsAtHand.{LiesUnder}
 
 module _ (t : Table) where

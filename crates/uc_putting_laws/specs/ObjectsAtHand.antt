@@ -7,7 +7,7 @@ use Rattle.uc_machine.specs.declared.exec.Owner.TheVariants.{Frame, Fields}
 use Rattle.uc_machine.specs.Pieces.{Link, Slot, Value, Number, Place, Running, Object, Nothing, further, Active}
 use Rattle.uc_typing.specs.Typing.{Ty, Cell, Obj, Table}
 use Rattle.uc_life_laws.specs.Things.{Few, AtField, NoBase, InStack, Stands}
-use Rattle.uc_unmarked_laws.specs.Marks.{Marked}
+use Rattle.uc_life_laws.specs.Marks.{Marked}
 use Rattle.uc_putting_laws.specs.CleanedSpots.{Reach}
 
 -- a place of an owner, or an object of which the fields have it

@@ -7,14 +7,14 @@ use Rattle.uc_acts.specs.Journal.{Journal}
 use Rattle.uc_acts.specs.KernelRuns.{InRange}
 use Rattle.uc_machine.specs.Pieces.{Todo, BindNow, BindMadeNow, SetUpNow, State, top, below}
 use Rattle.uc_meaning.specs.Runs.{World, Runs}
-use Rattle.uc_program_laws.specs.Fitting.{RunFits}
+use Rattle.uc_state_laws.specs.Fitting.{RunFits}
 use Rattle.uc_resolve.specs.Resolve.{source_of}
 use Rattle.uc_rules.specs.Breaks.{breaks_of}
-use Rattle.uc_sound.specs.Formed.{IsFormed}
-use Rattle.uc_value_laws.specs.Opens.{RunMeets}
-use Rattle.uc_event_laws.specs.Counted.{params}
+use Rattle.uc_sound.specs.SoundFormed.{IsFormed}
+use Rattle.uc_state_laws.specs.Opens.{RunMeets}
+use Rattle.uc_state_laws.specs.Counted.{params}
 use Rattle.uc_life_laws.specs.Things.{Few}
-use Rattle.uc_unmarked_laws.specs.Belonging.{Belongs}
+use Rattle.uc_life_laws.specs.Belonging.{Belongs}
 use Rattle.uc_putting_laws.specs.Putting.{Setting, PutState}
 use Rattle.uc_putting_laws.specs.PuttingLaws.{setting_of, Fair}
 

@@ -12,12 +12,12 @@ use Rattle.uc_machine.specs.Pieces as piece
 use Rattle.uc_machine.specs.Pieces.{Slot, FieldAt, Value, Place, Object, further, Todo, Sort, sort, Active, State, Members, Step, Goes, Ticks, Asks, top, below}
 use Rattle.uc_answer_laws.specs.Suiting.{Form, form_of_request}
 use Rattle.uc_typing.specs.Typing.{Cell, Obj, Table}
-use Rattle.uc_event_laws.specs.Counted.{params, count, CountedExpr, CountedExprs, CountedMaybe, CountedItems, CountedTargets, CountedDeclared, CountedClean, CountedStmt, CountedStmts, CountedHandlers, CountedClauses}
-use Rattle.uc_event_laws.specs.Marked.{operands}
+use Rattle.uc_state_laws.specs.Counted.{params, count, CountedExpr, CountedExprs, CountedMaybe, CountedItems, CountedTargets, CountedDeclared, CountedClean, CountedStmt, CountedStmts, CountedHandlers, CountedClauses}
+use Rattle.uc_state_laws.specs.Marked.{operands}
 use Rattle.uc_life_laws.specs.Things.{Few, Stands}
-use Rattle.uc_unmarked_laws.specs.Marks.{Outward, Lone}
-use Rattle.uc_unmarked_laws.specs.Ending.{Spot, OfVariable, OfField}
-use Rattle.uc_aside_laws.specs.OlderResting.{AllWait, NamedMembers, NamedEnv, NamedState}
+use Rattle.uc_life_laws.specs.Marks.{Outward, Lone}
+use Rattle.uc_life_laws.specs.Ending.{Spot, OfVariable, OfField}
+use Rattle.uc_place_laws.specs.OlderResting.{AllWait, NamedMembers, NamedEnv, NamedState}
 use Rattle.uc_putting_laws.specs.CleanedSpots.{Site, One, Each, Under, site_spot, NoSite, spot_of, OpensFor, Reach, apart, IsOf, IsIn, AllBelow, IsOutermost, Ascends}
 use Rattle.uc_putting_laws.specs.ObjectsAtHand.{LiesUnder, LiesIn, IsSeated}
 use Rattle.uc_putting_laws.specs.Calling.{is_opening, PlainExpr, PlainExprs, PlainMaybe, PlainItems, PlainTargets, PlainDeclared, PlainNew, Binds, PlaceAt, CallsAt, MakesAt, MakesEach, EndsAt, EndsEach, EndsNumber, FillsBy, SweepsBy, CleansBy, CallingStmt, CallingStmts, CallingHandlers, CallingClauses, Begins, Opening, CallingRoutine}

@@ -14,17 +14,17 @@ use Rattle.uc_machine.specs.Answering.{answered}
 use Rattle.uc_answer_laws.specs.Suiting.{Form, IsForm}
 use Rattle.uc_resolve.specs.Resolve.{source_of}
 use Rattle.uc_rules.specs.Breaks.{breaks_of}
-use Rattle.uc_sound.specs.Formed.{IsFormed}
+use Rattle.uc_sound.specs.SoundFormed.{IsFormed}
 use Rattle.uc_sound.specs.Tables.{table_of}
-use Rattle.uc_scope_laws.specs.Layout.{Sized}
-use Rattle.uc_scope_laws.specs.RoomStacks.{StackState}
-use Rattle.uc_value_laws.specs.Makers.{roles}
-use Rattle.uc_event_laws.specs.Counted.{params, CountedSource}
+use Rattle.uc_state_laws.specs.Layout.{Sized}
+use Rattle.uc_state_laws.specs.RoomStacks.{StackState}
+use Rattle.uc_state_laws.specs.Makers.{roles}
+use Rattle.uc_state_laws.specs.Counted.{params, CountedSource}
 use Rattle.uc_typing.specs.Typing.{Cell, Obj}
 use Rattle.uc_life_laws.specs.Things.{Few, Stands}
 use Rattle.uc_life_laws.specs.LifeRuns.{IsLaidOut}
-use Rattle.uc_unmarked_laws.specs.Marks.{Puts}
-use Rattle.uc_aside_laws.specs.OlderResting.{AllWait, NamedEnv}
+use Rattle.uc_life_laws.specs.Marks.{Puts}
+use Rattle.uc_place_laws.specs.OlderResting.{AllWait, NamedEnv}
 use Rattle.uc_putting_laws.specs.ObjectsAtHand.{LiesIn, variable, OwnMarked}
 use Rattle.uc_putting_laws.specs.Calling.{CallingStmts, CallingSource}
 use Rattle.uc_putting_laws.specs.Putting.{Setting, IsHome, IsEnding, FindsFor, Runs, Waits, PutState, PutStep}

@@ -7,16 +7,16 @@ use Rattle.uc_acts.specs.KernelRuns.{InRange}
 use Rattle.uc_machine.specs.Quiet.{State}
 use Rattle.uc_machine.specs.Answering.{answered}
 use Rattle.uc_meaning.specs.Runs.{World, Runs, drawn}
-use Rattle.uc_program_laws.specs.Fitting.{RunFits}
+use Rattle.uc_state_laws.specs.Fitting.{RunFits}
 use Rattle.uc_resolve.specs.Resolve.{source_of}
 use Rattle.uc_rules.specs.Breaks.{breaks_of}
-use Rattle.uc_sound.specs.Formed.{IsFormed}
+use Rattle.uc_sound.specs.SoundFormed.{IsFormed}
 use Rattle.uc_sound.specs.Tables.{table_of}
-use Rattle.uc_scope_laws.specs.RoomRuns.{Comes}
-use Rattle.uc_value_laws.specs.Opens.{RunMeets, LeadsMeet}
+use Rattle.uc_state_laws.specs.RoomRuns.{Comes}
+use Rattle.uc_state_laws.specs.Opens.{RunMeets, LeadsMeet}
 use Rattle.uc_life_laws.specs.Things.{Few}
-use Rattle.uc_unmarked_laws.specs.Marks.{Puts}
-use Rattle.uc_unmarked_laws.specs.Unmarked.{RunUnmarked}
+use Rattle.uc_life_laws.specs.Marks.{Puts}
+use Rattle.uc_life_laws.specs.Unmarked.{RunUnmarked}
 use Rattle.uc_putting_laws.specs.PuttingLaws.{setting_of, Fair}
 
 -- in each run of a program that breaks no rule, as long as all that was asked before fits and each step finds what is left to find, marks are put so

@@ -14,13 +14,13 @@ use Rattle.uc_machine.specs.Rides.{Rides, slices, goes_on, ticks, asks}
 use Rattle.uc_resolve.specs.Resolve.{source_of}
 use Rattle.uc_rules.specs.Breaks.{breaks_of}
 use Rattle.uc_meaning.specs.Runs.{World, Runs, AsksIn, gives, no_room, acts, begun, more, drawn}
-use Rattle.uc_program_laws.specs.Fitting.{RunFits}
-use Rattle.uc_program_laws.proofs.Others.{run_rests}
-use Rattle.uc_hand_laws.proofs.DeepWorlds.{deep_run}
-use Rattle.uc_scope_laws.specs.RoomRuns as way
-use Rattle.uc_scope_laws.specs.RoomRuns.{Leads}
-use Rattle.uc_value_laws.specs.Opens.{RideMeets, RunMeets, LeadsMeet}
-use Rattle.uc_sound.specs.Formed.{IsFormed}
+use Rattle.uc_state_laws.specs.Fitting.{RunFits}
+use Rattle.uc_state_laws.proofs.Others.{run_rests}
+use Rattle.uc_state_laws.proofs.DeepWorlds.{deep_run}
+use Rattle.uc_state_laws.specs.RoomRuns as way
+use Rattle.uc_state_laws.specs.RoomRuns.{Leads}
+use Rattle.uc_state_laws.specs.Opens.{RideMeets, RunMeets, LeadsMeet}
+use Rattle.uc_sound.specs.SoundFormed.{IsFormed}
 use Rattle.uc_sound.specs.Tables.{table_of}
 use Rattle.uc_life_laws.specs.Things.{Few}
 use Rattle.uc_life_laws.specs.Knowing.{KnowsState}
@@ -34,14 +34,14 @@ use Rattle.uc_depth_laws.proofs.Standing.{law_free, law_drawn}
 use Rattle.uc_inner_laws.specs.Inner.{InnerSource}
 use Rattle.uc_inner_laws.specs.Standing.{StandsState, StandsStep}
 use Rattle.uc_inner_laws.proofs.Walk.{law_steps as inner_steps, law_fair}
-use Rattle.uc_enter_laws.proofs.Routines.{law_entered}
+use Rattle.uc_sound.proofs.Routines.{law_entered}
 use Rattle.uc_source_laws.specs.SourceLaws.{part_of}
 use Rattle.uc_source_laws.proofs.InnerSources.{law_inner}
 use Rattle.uc_letting_laws.specs.AloneRuns.{RideAlone, RunAlone}
 use Rattle.uc_letting_laws.proofs.NewObjects.{told_for, own_not_told, told_other, told_away}
 use Rattle.uc_letting_laws.proofs.StandingWorlds.{standing_start}
 use Rattle.uc_letting_laws.proofs.LettingWorlds.{both_run, sole, start, tells}
-use Rattle.uc_owing_laws.proofs.Aparts.{law_apart}
+use Rattle.uc_life_laws.proofs.Aparts.{law_apart}
 use Rattle.uc_request_laws.specs.ApartRuns.{StepApart, LawApartRuns}
 
 module _ (p : Program) (formed : IsFormed p) (ok : breaks_of p ≡ []) (few : Few) where

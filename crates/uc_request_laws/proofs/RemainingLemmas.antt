@@ -14,12 +14,12 @@ use Rattle.uc_machine.specs.Quiet as quiet
 use Rattle.uc_machine.specs.Quiet.{State}
 use Rattle.uc_meaning.specs.Runs.{World, Runs}
 use Rattle.uc_rules.specs.Breaks.{breaks_of}
-use Rattle.uc_program_laws.specs.Fitting.{RunFits}
+use Rattle.uc_state_laws.specs.Fitting.{RunFits}
 use Rattle.uc_resolve.specs.Resolve.{source_of}
-use Rattle.uc_sound.specs.Formed.{IsFormed}
-use Rattle.uc_binding_laws.proofs.OpenRuns.{law_there}
+use Rattle.uc_sound.specs.SoundFormed.{IsFormed}
+use Rattle.uc_place_laws.proofs.OpenRuns.{law_there}
 use Rattle.uc_step_laws.specs.Hands.{keys}
-use Rattle.uc_enter_laws.proofs.Routines.{law_entered}
+use Rattle.uc_sound.proofs.Routines.{law_entered}
 use Rattle.uc_letting_laws.specs.LettingLaws.{AsksInHand, OwnersFit}
 use Rattle.uc_letting_laws.proofs.LettingWorlds.{law_in_hand, law_owners}
 use Rattle.uc_source_laws.specs.SourceLaws.{part_of}

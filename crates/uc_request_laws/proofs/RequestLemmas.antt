@@ -9,23 +9,23 @@ use Rattle.uc_acts.specs.Journal.{Journal}
 use Rattle.uc_acts.specs.Known.{has}
 use Rattle.uc_resolve.specs.Resolve.{source_of}
 use Rattle.uc_rules.specs.Breaks.{breaks_of}
-use Rattle.uc_sound.specs.Formed.{IsFormed}
+use Rattle.uc_sound.specs.SoundFormed.{IsFormed}
 use Rattle.uc_sound.specs.Tables.{table_of}
 use Rattle.uc_sound.proofs.SoundLemmas.{law_sound}
-use Rattle.uc_formed.proofs.Texts.{text_formed}
+use Rattle.uc_sound.proofs.Texts.{text_formed}
 use Rattle.uc_step_laws.specs.Hands.{keys}
-use Rattle.uc_program_laws.specs.ByHand.{FitsByHand}
-use Rattle.uc_program_laws.proofs.ByHandLemmas.{law_by_hand}
-use Rattle.uc_hand_laws.proofs.DeepWorlds.{law_calls}
+use Rattle.uc_state_laws.specs.ByHand.{FitsByHand}
+use Rattle.uc_state_laws.proofs.ByHandLemmas.{law_by_hand}
+use Rattle.uc_state_laws.proofs.DeepWorlds.{law_calls}
 use Rattle.uc_site_laws.specs.Naming.{NamesKnown}
-use Rattle.uc_program_laws.proofs.NamedWorlds as named_worlds
+use Rattle.uc_state_laws.proofs.NamedWorlds as named_worlds
 use Rattle.uc_site_laws.proofs.Routines.{source_named}
-use Rattle.uc_event_laws.specs.Counted.{CountedSource}
-use Rattle.uc_event_laws.specs.Marked.{EventKnown}
+use Rattle.uc_state_laws.specs.Counted.{CountedSource}
+use Rattle.uc_state_laws.specs.Marked.{EventKnown}
 use Rattle.uc_request_laws.specs.RequestLaws.{LawEvents, LawNames}
 use Rattle.uc_request_laws.specs.Holds.{HoldsByHand, LawHolds, LawTexts}
-use Rattle.uc_event_laws.proofs.Arguments.{counted_source}
-use Rattle.uc_event_laws.proofs.MarkedWorlds as marked_worlds
+use Rattle.uc_state_laws.proofs.Arguments.{counted_source}
+use Rattle.uc_state_laws.proofs.MarkedWorlds as marked_worlds
 
 counted : (p : Program) → IsFormed p → breaks_of p ≡ [] → CountedSource (source_of p)
 counted p f n = counted_source (sites_of p) (source_of p) (table_of p) (law_sound p f n) (source_named p)

@@ -12,17 +12,17 @@ use Rattle.uc_machine.specs.Answering.{answered}
 use Rattle.uc_resolve.specs.Resolve.{source_of}
 use Rattle.uc_rules.specs.Breaks.{breaks_of}
 use Rattle.uc_meaning.specs.Runs.{World, Runs, AsksIn, drawn}
-use Rattle.uc_program_laws.specs.Fitting.{RunFits}
-use Rattle.uc_value_laws.specs.Opens.{RideMeets, RunMeets}
+use Rattle.uc_state_laws.specs.Fitting.{RunFits}
+use Rattle.uc_state_laws.specs.Opens.{RideMeets, RunMeets}
 use Rattle.uc_typing.specs.Typing.{Table}
-use Rattle.uc_sound.specs.Formed.{IsFormed}
+use Rattle.uc_sound.specs.SoundFormed.{IsFormed}
 use Rattle.uc_sound.specs.Tables.{table_of}
 use Rattle.uc_life_laws.specs.Things.{Few}
 use Rattle.uc_life_laws.specs.Knowing.{KnowsState}
 use Rattle.uc_life_laws.specs.KnownAnswers.{MainPasses}
 use Rattle.uc_life_laws.specs.KnownRuns.{PassesBelow, Meets}
 use Rattle.uc_letting_laws.specs.AloneRuns.{RideAlone, RunAlone}
-use Rattle.uc_owing_laws.specs.AtHand.{IsApart}
+use Rattle.uc_life_laws.specs.AtHand.{IsApart}
 
 -- at a step: where all is known, nobody else has at hand what is let go of, nor what is entered again to be destroyed
 abbrev pub StepApart : Table → Few → Source → State → Type 0

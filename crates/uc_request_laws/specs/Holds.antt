@@ -13,13 +13,13 @@ use Rattle.uc_acts.specs.KernelRuns.{InRange, IsMade}
 use Rattle.uc_machine.specs.Quiet.{State}
 use Rattle.uc_resolve.specs.Resolve.{source_of}
 use Rattle.uc_rules.specs.Breaks.{breaks_of}
-use Rattle.uc_sound.specs.Formed.{IsFormed}
+use Rattle.uc_sound.specs.SoundFormed.{IsFormed}
 use Rattle.uc_meaning.specs.Runs.{World, Runs, AsksIn}
 use Rattle.uc_meaning.specs.Cuts.{Reentry}
 use Rattle.uc_step_laws.specs.Hands.{keys}
-use Rattle.uc_formed.specs.WellTyped.{IsTextOf}
-use Rattle.uc_program_laws.specs.Fitting.{RunFits}
-use Rattle.uc_program_laws.specs.ByHand.{IsInHand}
+use Rattle.uc_sound.specs.WellTyped.{IsTextOf}
+use Rattle.uc_state_laws.specs.Fitting.{RunFits}
+use Rattle.uc_state_laws.specs.ByHand.{IsInHand}
 
 -- of a task t with these objects in hand: it has in hand of what it asks something, or else calls what is made, and the tasks, clusters
 -- and processors that it names are there (what it calls is not in hand, in every run)

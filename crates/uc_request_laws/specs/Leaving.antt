@@ -7,9 +7,9 @@ use Rattle.uc_machine.specs.Pieces.{Todo, LAST_ADDRESS, Asks}
 use Rattle.uc_machine.specs.Quiet.{State, quiet, Quietly}
 use Rattle.uc_meaning.specs.Runs.{World}
 use Rattle.uc_resolve.specs.Resolve.{source_of}
-use Rattle.uc_scope_laws.specs.RoomRuns.{Comes}
-use Rattle.uc_value_laws.specs.Opens.{LeavesCluster}
-use Rattle.uc_address_laws.specs.Limits.{IsWithinLimits}
+use Rattle.uc_state_laws.specs.RoomRuns.{Comes}
+use Rattle.uc_state_laws.specs.Opens.{LeavesCluster}
+use Rattle.uc_state_laws.specs.Limits.{IsWithinLimits}
 
 -- a task of a program within its limits comes to the end of the scope of such a cluster, at a cell that has an address, and by quiet steps alone
 -- to this request

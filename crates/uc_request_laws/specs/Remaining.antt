@@ -13,10 +13,10 @@ use Rattle.uc_acts.specs.KernelRuns.{InRange, IsMade}
 use Rattle.uc_machine.specs.Quiet.{State}
 use Rattle.uc_resolve.specs.Resolve.{source_of}
 use Rattle.uc_rules.specs.Breaks.{breaks_of}
-use Rattle.uc_sound.specs.Formed.{IsFormed}
+use Rattle.uc_sound.specs.SoundFormed.{IsFormed}
 use Rattle.uc_meaning.specs.Runs.{World, Runs, AsksIn}
 use Rattle.uc_meaning.specs.Cuts.{Reentry}
-use Rattle.uc_program_laws.specs.Fitting.{RunFits}
+use Rattle.uc_state_laws.specs.Fitting.{RunFits}
 use Rattle.uc_letting_laws.specs.AloneRuns.{RideAlone, RunAlone}
 use Rattle.uc_request_laws.specs.Leaving.{LeavesScope}
 

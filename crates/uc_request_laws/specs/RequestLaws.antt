@@ -8,12 +8,12 @@ use Rattle.uc_acts.specs.Journal.{Journal, is_over}
 use Rattle.uc_acts.specs.KernelRuns.{InRange}
 use Rattle.uc_resolve.specs.Resolve.{source_of}
 use Rattle.uc_rules.specs.Breaks.{breaks_of}
-use Rattle.uc_sound.specs.Formed.{IsFormed}
+use Rattle.uc_sound.specs.SoundFormed.{IsFormed}
 use Rattle.uc_meaning.specs.Runs.{World, Runs as RunsIn, AsksIn}
-use Rattle.uc_program_laws.specs.Fitting.{RunFits}
+use Rattle.uc_state_laws.specs.Fitting.{RunFits}
 use Rattle.uc_machine.specs.Quiet.{State}
 use Rattle.uc_site_laws.specs.Naming.{NamesKnown}
-use Rattle.uc_event_laws.specs.Marked.{EventKnown}
+use Rattle.uc_state_laws.specs.Marked.{EventKnown}
 
 -- so in every run of a program that breaks no rule, as long as all that was asked before fits, what is raised at a task is an event by a
 -- number that there may be

@@ -19,12 +19,12 @@ use Rattle.uc_typing.specs.Typing.{Ty, Cell, Obj, Raw, Sig, Table}
 use Rattle.uc_life_laws.specs.Things.{Few, Stands, lies, inside}
 use Rattle.uc_life_laws.specs.Knowing.{InMaking, KnowsState}
 use Rattle.uc_life_laws.specs.LifeStates.{SlotBy, ParkedBy, HandBy, MembersBy}
-use Rattle.uc_world_laws.specs.Lasting.{lasting, lasting_numbers}
-use Rattle.uc_world_laws.specs.Rooted.{InSlot, InParked, InHand, InMembers, Lives, OwnThings, OwnObject, Yet, StageApart, ExApart, RunApart}
-use Rattle.uc_world_laws.proofs.Fewer.{both_members, both_env}
-use Rattle.uc_unmarked_laws.specs.Belonging.{Belongs, frame, fields, object}
-use Rattle.uc_unmarked_laws.specs.Marks.{Marked, Free}
-use Rattle.uc_unmarked_laws.proofs.Own.{law_own}
+use Rattle.uc_life_laws.specs.Lasting.{lasting, lasting_numbers}
+use Rattle.uc_life_laws.specs.Rooted.{InSlot, InParked, InHand, InMembers, Lives, OwnThings, OwnObject, Yet, StageApart, ExApart, RunApart}
+use Rattle.uc_life_laws.proofs.Fewer.{both_members, both_env}
+use Rattle.uc_life_laws.specs.Belonging.{Belongs, frame, fields, object}
+use Rattle.uc_life_laws.specs.Marks.{Marked, Free}
+use Rattle.uc_life_laws.proofs.Own.{law_own}
 use Rattle.uc_rooted_runs.specs.UnmarkedRuns.{IsLeft}
 use Rattle.uc_rooted_runs.specs.Beside.{StageOwn, OwnEx, IsBeside, LawBeside}
 

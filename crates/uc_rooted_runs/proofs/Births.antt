@@ -24,13 +24,13 @@ use Rattle.uc_machine.specs.Quiet.{home_at}
 use Rattle.uc_machine.specs.Answering.{answered}
 use Rattle.uc_machine.specs.Rides.{Rides, slices, goes_on, ticks, asks}
 use Rattle.uc_meaning.specs.Runs.{World, May, Runs, AsksIn, begun, more, gives, no_room, acts, drawn}
-use Rattle.uc_program_laws.specs.Fitting.{RunFits}
+use Rattle.uc_state_laws.specs.Fitting.{RunFits}
 use Rattle.uc_acts.proofs.SoundLemmas.{tasks_push, objects_push}
 use Rattle.uc_step_laws.specs.Hands.{keys}
-use Rattle.uc_program_laws.proofs.Makes.{just_made_given}
-use Rattle.uc_program_laws.proofs.Others.{RunRests, run_rests, asking as asks_with}
-use Rattle.uc_hand_laws.proofs.DeepWorlds.{DeepWorld, deep_run}
-use Rattle.uc_value_laws.specs.Opens.{RideMeets, RunMeets}
+use Rattle.uc_state_laws.proofs.Makes.{just_made_given}
+use Rattle.uc_state_laws.proofs.Others.{RunRests, run_rests, asking as asks_with}
+use Rattle.uc_state_laws.proofs.DeepWorlds.{DeepWorld, deep_run}
+use Rattle.uc_state_laws.specs.Opens.{RideMeets, RunMeets}
 use Rattle.uc_life_laws.specs.Knowing.{main_of}
 use Rattle.uc_name_laws.specs.Below.{IsBelow}
 use Rattle.uc_name_laws.specs.NameSteps.{Named, StepNamed, NamedBehind, Grows, IsBorn}
@@ -38,11 +38,11 @@ use Rattle.uc_name_laws.proofs.Homes.{no_both, none_some, same_exec, exec_self}
 use Rattle.uc_name_laws.proofs.Values.{below_more}
 use Rattle.uc_name_laws.proofs.Walk.{walk}
 use Rattle.uc_name_laws.proofs.Births.{law_new}
-use Rattle.uc_named_runs.specs.NamedRuns.{is_here}
-use Rattle.uc_named_runs.proofs.Owned.{owner_still}
-use Rattle.uc_named_runs.proofs.Riding.{RideNamed, run_more, ride_more, grows_not}
-use Rattle.uc_named_runs.proofs.Worlds.{WorldNamed, run_named, named_act, found_none, vacuous, known, start, ride, after_by, after_more, now_more, own_stays}
-use Rattle.uc_cover_laws.specs.Placed.{Placed, stacked}
+use Rattle.uc_life_laws.specs.NamedRuns.{is_here}
+use Rattle.uc_life_laws.proofs.Owned.{owner_still}
+use Rattle.uc_life_laws.proofs.Riding.{RideNamed, run_more, ride_more, grows_not}
+use Rattle.uc_life_laws.proofs.NamedWorlds.{WorldNamed, run_named, named_act, found_none, vacuous, known, start, ride, after_by, after_more, now_more, own_stays}
+use Rattle.uc_life_laws.specs.Placed.{Placed, stacked}
 use Rattle.uc_rooted_runs.specs.Makers.{Makers, MadeBy}
 use Rattle.uc_rooted_runs.specs.Births.{MakesLater, SpawnsLater, MaySpawnLater, RunSpawnsLater, LawBirths}
 

@@ -25,8 +25,8 @@ use Rattle.uc_machine.specs.Quiet as quiet
 use Rattle.uc_machine.specs.Pieces as piece
 use Rattle.uc_machine.specs.Pieces.{Value, Number, Place, Running, Object, Nothing, Todo, Sort, Active, State, Env, Members, Step, Goes, Ticks, Asks, Outcome, Gives, Faults, at, top, below, number, nought, written}
 use Rattle.uc_life_laws.proofs.Cells.{either}
-use Rattle.uc_cover_laws.specs.Placed.{placed, stacked}
-use Rattle.uc_cover_laws.specs.Held.{AreLines}
+use Rattle.uc_life_laws.specs.Placed.{placed, stacked}
+use Rattle.uc_life_laws.specs.Held.{AreLines}
 use Rattle.uc_rooted_runs.specs.Mains.{MainIn, FindsBy, FindsAll}
 
 -- lines alone have no marks

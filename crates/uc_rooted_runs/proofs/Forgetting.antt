@@ -26,15 +26,15 @@ use Rattle.uc_machine.specs.Executions.{Execution}
 use Rattle.uc_machine.specs.declared.exec.Owner.TheVariants.{Frame}
 use Rattle.uc_machine.specs.Pieces.{Value, Todo, Sort, sort, Simple, IsLoop, IsWhole, IsClean, IsFill, IsSweep, IsPart, IsGuard, IsFinish, IsFinishCoroutine, State, Active, Members}
 use Rattle.uc_meaning.specs.Runs.{World, May, Runs, world_after, or_else, gives, no_room, acts, begun, more}
-use Rattle.uc_program_laws.specs.Fitting.{RunFits}
-use Rattle.uc_value_laws.specs.Opens.{RunMeets}
+use Rattle.uc_state_laws.specs.Fitting.{RunFits}
+use Rattle.uc_state_laws.specs.Opens.{RunMeets}
 use Rattle.uc_typing.specs.Typing.{Ty, Obj, Table}
 use Rattle.uc_life_laws.specs.Things.{Few, AtVariable, Nowhere, Marks, InTodo, Base, Variables}
 use Rattle.uc_life_laws.specs.LifeStates.{SlotBy, ParkedBy, HandBy, MembersBy}
-use Rattle.uc_world_laws.specs.Lasting.{lasting, lasting_numbers, MayForget, RunForgets, ForgetsAt}
-use Rattle.uc_world_laws.specs.Rooted.{IsPlace, FreshKeeps, FreshLast}
-use Rattle.uc_world_laws.proofs.Rooted.{law_rooted}
-use Rattle.uc_cover_laws.specs.Placed.{Placed, put, placed, stacked}
+use Rattle.uc_life_laws.specs.Lasting.{lasting, lasting_numbers, MayForget, RunForgets, ForgetsAt}
+use Rattle.uc_life_laws.specs.Rooted.{IsPlace, FreshKeeps, FreshLast}
+use Rattle.uc_life_laws.proofs.Rooted.{law_rooted}
+use Rattle.uc_life_laws.specs.Placed.{Placed, put, placed, stacked}
 use Rattle.uc_rooted_runs.specs.FreshStates.{FreshBy, FreshEx, KeepsFresh}
 use Rattle.uc_rooted_runs.specs.FreshRuns.{FreshWorld}
 use Rattle.uc_rooted_runs.proofs.FreshRuns.{run_fresh}

@@ -24,8 +24,8 @@ use Rattle.uc_name_laws.proofs.Homes.{same_exec}
 use Rattle.uc_life_laws.proofs.Cells.{either, tested}
 use Rattle.uc_life_laws.proofs.Parked as parked
 use Rattle.uc_life_laws.proofs.Parked.{Ex, at_home}
-use Rattle.uc_world_laws.specs.Fewer.{AllNumbers, FramesNumbers}
-use Rattle.uc_cover_laws.specs.Placed.{placed, stacked}
+use Rattle.uc_life_laws.specs.Fewer.{AllNumbers, FramesNumbers}
+use Rattle.uc_life_laws.specs.Placed.{placed, stacked}
 use Rattle.uc_rooted_runs.specs.FreshStates.{HasBegun, IsStarted, IsFresh, FreshBy, FreshEx, FreshEnv, SlotBegun, IsBegun}
 
 -- numbers

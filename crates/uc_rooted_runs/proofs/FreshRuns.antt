@@ -20,15 +20,15 @@ use Rattle.uc_machine.specs.Quiet.{quiet, behind_body, first_state}
 use Rattle.uc_machine.specs.Answering.{child_main, child_of}
 use Rattle.uc_machine.specs.Rides.{Rides, slices, goes_on, ticks, asks}
 use Rattle.uc_meaning.specs.Runs.{World, Runs, gives, no_room, acts, begun, more, first_world, with_home, hand_of, drawn, bare, or_else, world_after}
-use Rattle.uc_program_laws.specs.Fitting.{RunFits}
-use Rattle.uc_program_laws.proofs.Alive.{law_alive}
-use Rattle.uc_program_laws.proofs.Others.{run_rests}
-use Rattle.uc_value_laws.specs.Opens.{RideMeets, RunMeets}
+use Rattle.uc_state_laws.specs.Fitting.{RunFits}
+use Rattle.uc_state_laws.proofs.Alive.{law_alive}
+use Rattle.uc_state_laws.proofs.Others.{run_rests}
+use Rattle.uc_state_laws.specs.Opens.{RideMeets, RunMeets}
 use Rattle.uc_name_laws.proofs.Homes.{no_both}
 use Rattle.uc_life_laws.specs.LifeStates.{HandBy, MembersBy}
 use Rattle.uc_life_laws.proofs.Cells.{either, tested}
 use Rattle.uc_life_laws.proofs.Parked as parked
-use Rattle.uc_cover_laws.specs.Placed.{placed, stacked}
+use Rattle.uc_life_laws.specs.Placed.{placed, stacked}
 use Rattle.uc_rooted_runs.specs.FreshStates.{FreshEx, FreshEnv, FreshStep, KeepsFresh}
 use Rattle.uc_rooted_runs.specs.FreshRuns.{FreshWorld, LawFresh}
 use Rattle.uc_rooted_runs.proofs.EndedTasks.{ended_by}

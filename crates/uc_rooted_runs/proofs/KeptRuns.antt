@@ -20,22 +20,22 @@ use Rattle.uc_machine.specs.Pieces.{Value, Todo, SetUpNow, TakeDownNow, Finish, 
 use Rattle.uc_machine.specs.Quiet.{first_state}
 use Rattle.uc_machine.specs.Rides.{Rides, slices, goes_on, ticks, asks}
 use Rattle.uc_meaning.specs.Runs.{World, May, Runs, world_after, gives, no_room, acts, begun, more}
-use Rattle.uc_program_laws.specs.Fitting.{RunFits}
-use Rattle.uc_value_laws.specs.Opens.{RideMeets, MayMeet, RunMeets}
+use Rattle.uc_state_laws.specs.Fitting.{RunFits}
+use Rattle.uc_state_laws.specs.Opens.{RideMeets, MayMeet, RunMeets}
 use Rattle.uc_name_laws.specs.NameSteps as names
 use Rattle.uc_name_laws.proofs.Homes.{no_both}
-use Rattle.uc_named_runs.specs.RunningRuns.{RunLeaves}
+use Rattle.uc_life_laws.specs.RunningRuns.{RunLeaves}
 use Rattle.uc_typing.specs.Typing.{Ty, Table}
 use Rattle.uc_life_laws.specs.Things.{Few, Base}
 use Rattle.uc_life_laws.specs.Knowing.{main_of}
 use Rattle.uc_life_laws.specs.LifeStates.{SlotBy, ParkedBy, HandBy, MembersBy}
-use Rattle.uc_world_laws.specs.Rooted.{InSlot, InParked, InHand, InMembers, Lives}
-use Rattle.uc_cover_laws.specs.Ways.{LeavesAt}
-use Rattle.uc_cover_laws.proofs.Ways.{law_ways}
+use Rattle.uc_life_laws.specs.Rooted.{InSlot, InParked, InHand, InMembers, Lives}
+use Rattle.uc_life_laws.specs.Ways.{LeavesAt}
+use Rattle.uc_life_laws.proofs.Ways.{law_ways}
 use Rattle.uc_rooted_runs.specs.Makers.{Outside, Makers, seating}
 use Rattle.uc_rooted_runs.specs.Births.{MakesLater, RunSpawnsLater}
-use Rattle.uc_own_names.specs.OwnNames.{StepOwn, StaysOwn, RunOwns}
-use Rattle.uc_own_names.proofs.OwnNamesLemmas.{run_first, law_own_names}
+use Rattle.uc_life_laws.specs.OwnNames.{StepOwn, StaysOwn, RunOwns}
+use Rattle.uc_life_laws.proofs.OwnNamesLemmas.{run_first, law_own_names}
 use Rattle.uc_rooted_runs.specs.Binds.{BindsOwn}
 use Rattle.uc_rooted_runs.specs.FreshStates.{TakesOthersBy, KeepsFresh}
 use Rattle.uc_rooted_runs.specs.Mains.{FindsAll}

@@ -25,24 +25,24 @@ use Rattle.uc_machine.specs.Answering.{answered}
 use Rattle.uc_machine.specs.Rides.{Rides, slices, goes_on, ticks, asks}
 use Rattle.uc_meaning.specs.Runs.{World, Runs, AsksIn, gives, no_room, acts, begun, more, drawn, first_world}
 use Rattle.uc_step_laws.specs.Hands.{keys}
-use Rattle.uc_program_laws.specs.Fitting.{RunFits}
-use Rattle.uc_program_laws.proofs.Others.{RunRests, run_rests, asking as asks_with}
-use Rattle.uc_hand_laws.proofs.DeepWorlds.{DeepWorld, deep_run}
-use Rattle.uc_value_laws.specs.Opens.{RideMeets, RunMeets}
+use Rattle.uc_state_laws.specs.Fitting.{RunFits}
+use Rattle.uc_state_laws.proofs.Others.{RunRests, run_rests, asking as asks_with}
+use Rattle.uc_state_laws.proofs.DeepWorlds.{DeepWorld, deep_run}
+use Rattle.uc_state_laws.specs.Opens.{RideMeets, RunMeets}
 use Rattle.uc_name_laws.specs.Below.{IsBelow, ParkedNamed, one_more_at}
 use Rattle.uc_name_laws.specs.NameSteps.{Named, StepNamed, Grows, IsBorn, NamedBehind}
 use Rattle.uc_name_laws.proofs.Homes.{no_both, none_some, same_home, same_exec, exec_self}
 use Rattle.uc_name_laws.proofs.Values.{below_more}
 use Rattle.uc_name_laws.proofs.Walk.{walk}
-use Rattle.uc_named_runs.specs.NamedRuns.{is_here}
-use Rattle.uc_named_runs.proofs.Owned.{owner_other}
-use Rattle.uc_named_runs.proofs.Riding.{RideNamed, grows_not}
-use Rattle.uc_named_runs.proofs.Worlds.{WorldNamed, vacuous, run_named, ride, start, own_stays, found_none, after_by, named_act, one_task}
-use Rattle.uc_own_names.proofs.OwnWorlds.{no_hand, first_env}
-use Rattle.uc_own_names.proofs.OwnNamesLemmas.{run_first}
+use Rattle.uc_life_laws.specs.NamedRuns.{is_here}
+use Rattle.uc_life_laws.proofs.Owned.{owner_other}
+use Rattle.uc_life_laws.proofs.Riding.{RideNamed, grows_not}
+use Rattle.uc_life_laws.proofs.NamedWorlds.{WorldNamed, vacuous, run_named, ride, start, own_stays, found_none, after_by, named_act, one_task}
+use Rattle.uc_life_laws.proofs.OwnWorlds.{no_hand, first_env}
+use Rattle.uc_life_laws.proofs.OwnNamesLemmas.{run_first}
 use Rattle.uc_life_laws.specs.Knowing.{main_of}
 use Rattle.uc_life_laws.specs.LifeStates.{SlotBy, ParkedBy, HandBy, EnvBy, MembersBy}
-use Rattle.uc_cover_laws.specs.Placed.{Placed, stacked}
+use Rattle.uc_life_laws.specs.Placed.{Placed, stacked}
 use Rattle.uc_rooted_runs.specs.Makers.{Makers, MadeBy}
 use Rattle.uc_rooted_runs.specs.Births.{MakesLater, SpawnsLater, RunSpawnsLater}
 use Rattle.uc_rooted_runs.specs.OutlastRuns.{with_made, made_by, made_behind, ride_made, made_asked, run_made}

@@ -14,13 +14,13 @@ use Rattle.uc_machine.specs.Pieces.{Value, Todo, Sort, sort, Active, State, Memb
 use Rattle.uc_machine.specs.Answering.{child_main, child_of}
 use Rattle.uc_machine.specs.Rides.{Rides, slices, goes_on, ticks, asks}
 use Rattle.uc_meaning.specs.Runs.{World, Runs, gives, no_room, acts, begun, more, first_world, with_home, hand_of, drawn, bare, or_else, world_after}
-use Rattle.uc_value_laws.specs.Opens.{RideMeets, RunMeets}
+use Rattle.uc_state_laws.specs.Opens.{RideMeets, RunMeets}
 use Rattle.uc_life_laws.specs.LifeStates.{HandBy, MembersBy}
 use Rattle.uc_life_laws.proofs.Cells.{either}
 use Rattle.uc_life_laws.proofs.Parked as parked
-use Rattle.uc_cover_laws.specs.Placed.{placed, stacked}
+use Rattle.uc_life_laws.specs.Placed.{placed, stacked}
 use Rattle.uc_rooted_runs.specs.FreshStates.{LeavesNone, MainsBareBy}
-use Rattle.uc_cover_laws.specs.Held.{AreLines}
+use Rattle.uc_life_laws.specs.Held.{AreLines}
 use Rattle.uc_rooted_runs.specs.Mains.{AtEnd, MainIn, MainEx, MainMembers, MainState, MainStep, CallsNoMain}
 use Rattle.uc_rooted_runs.specs.MainRuns.{EndsMains, LawMains}
 use Rattle.uc_rooted_runs.proofs.EndSteps as last

@@ -25,7 +25,7 @@ use Rattle.uc_machine.specs.Polls as polls
 use Rattle.uc_machine.specs.Quiet as quiet
 use Rattle.uc_machine.specs.Pieces as piece
 use Rattle.uc_machine.specs.Pieces.{Value, Number, Place, Running, Object, Nothing, Todo, Sort, Active, State, Env, Members, Step, Goes, Ticks, Asks, Outcome, Gives, Faults, at, in_env, top, below, number, nought, written}
-use Rattle.uc_cover_laws.specs.Held.{AreLines}
+use Rattle.uc_life_laws.specs.Held.{AreLines}
 use Rattle.uc_rooted_runs.specs.Mains.{AtEnd, MainIn, MainStack, MainEx, MainState, MainStep, IsNoMain, AreNoMains}
 use Rattle.uc_life_laws.proofs.Cells.{either}
 use Rattle.uc_rooted_runs.proofs.MainKeeping as kept

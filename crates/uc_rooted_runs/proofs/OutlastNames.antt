@@ -23,10 +23,10 @@ use Rattle.uc_machine.specs.Quiet.{home_at}
 use Rattle.uc_machine.specs.Answering.{answered}
 use Rattle.uc_machine.specs.Rides.{Rides, slices, goes_on, ticks, asks}
 use Rattle.uc_meaning.specs.Runs.{World, Runs, AsksIn, gives, no_room, acts, begun, more, drawn}
-use Rattle.uc_program_laws.specs.Fitting.{RunFits}
-use Rattle.uc_program_laws.proofs.Others.{RunRests, run_rests, asking as asks_with}
-use Rattle.uc_hand_laws.proofs.DeepWorlds.{DeepWorld, deep_run}
-use Rattle.uc_value_laws.specs.Opens.{RideMeets, RunMeets}
+use Rattle.uc_state_laws.specs.Fitting.{RunFits}
+use Rattle.uc_state_laws.proofs.Others.{RunRests, run_rests, asking as asks_with}
+use Rattle.uc_state_laws.proofs.DeepWorlds.{DeepWorld, deep_run}
+use Rattle.uc_state_laws.specs.Opens.{RideMeets, RunMeets}
 use Rattle.uc_name_laws.specs.Below.{IsBelow}
 use Rattle.uc_name_laws.specs.NameSteps as names
 use Rattle.uc_name_laws.specs.NameSteps.{Named, StepNamed, Grows, IsBorn}
@@ -34,14 +34,14 @@ use Rattle.uc_name_laws.proofs.Homes.{no_both, same_exec}
 use Rattle.uc_name_laws.proofs.Values.{below_more}
 use Rattle.uc_name_laws.proofs.Births.{law_new}
 use Rattle.uc_name_laws.proofs.Walk.{walk}
-use Rattle.uc_named_runs.specs.RunningRuns.{RunLeaves}
-use Rattle.uc_named_runs.proofs.Riding.{grows_not}
-use Rattle.uc_named_runs.proofs.Worlds.{WorldNamed, vacuous, run_named, ride, start, known, found_none, after_by, after_more, named_act}
+use Rattle.uc_life_laws.specs.RunningRuns.{RunLeaves}
+use Rattle.uc_life_laws.proofs.Riding.{grows_not}
+use Rattle.uc_life_laws.proofs.NamedWorlds.{WorldNamed, vacuous, run_named, ride, start, known, found_none, after_by, after_more, named_act}
 use Rattle.uc_life_laws.specs.Knowing.{main_of}
-use Rattle.uc_world_laws.proofs.Fewer.{both_members, both_env}
-use Rattle.uc_own_names.specs.OwnNames.{at_hand, IsElsewhere, IsOwn, StepOwn, StaysOwn}
-use Rattle.uc_own_names.proofs.OwnNamesLemmas.{run_owns, law_own_names}
-use Rattle.uc_cover_laws.specs.Placed.{Placed}
+use Rattle.uc_life_laws.proofs.Fewer.{both_members, both_env}
+use Rattle.uc_life_laws.specs.OwnNames.{at_hand, IsElsewhere, IsOwn, StepOwn, StaysOwn}
+use Rattle.uc_life_laws.proofs.OwnNamesLemmas.{run_owns, law_own_names}
+use Rattle.uc_life_laws.specs.Placed.{Placed}
 use Rattle.uc_rooted_runs.specs.Makers.{Outside, Makers}
 use Rattle.uc_rooted_runs.specs.Births.{MakesLater, SpawnsLater, RunSpawnsLater}
 use Rattle.uc_rooted_runs.specs.OutlastRuns.{with_before, with_made, made_by, made_behind, ride_made, made_asked, run_made, now, MadeNone, NoneElsewhere}

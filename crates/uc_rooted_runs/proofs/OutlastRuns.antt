@@ -29,29 +29,29 @@ use Rattle.uc_machine.specs.Quiet.{home_at, first_state}
 use Rattle.uc_machine.specs.Answering.{answered, child_main, child_of}
 use Rattle.uc_machine.specs.Rides.{Rides, slices, goes_on, ticks, asks}
 use Rattle.uc_meaning.specs.Runs.{World, Runs, AsksIn, gives, no_room, acts, begun, more, first_world, with_home, hand_of, drawn, bare, or_else, world_after}
-use Rattle.uc_program_laws.specs.Fitting.{RunFits}
-use Rattle.uc_program_laws.proofs.Alive.{law_alive}
-use Rattle.uc_program_laws.proofs.Makes.{law_ends}
-use Rattle.uc_program_laws.proofs.Others.{RunRests, run_rests, may_ask}
-use Rattle.uc_hand_laws.proofs.DeepWorlds.{DeepWorld, deep_run, ended_before, spawns_none, spawned_by}
-use Rattle.uc_value_laws.specs.Opens.{RideMeets, RunMeets}
+use Rattle.uc_state_laws.specs.Fitting.{RunFits}
+use Rattle.uc_state_laws.proofs.Alive.{law_alive}
+use Rattle.uc_state_laws.proofs.Makes.{law_ends}
+use Rattle.uc_state_laws.proofs.Others.{RunRests, run_rests, may_ask}
+use Rattle.uc_state_laws.proofs.DeepWorlds.{DeepWorld, deep_run, ended_before, spawns_none, spawned_by}
+use Rattle.uc_state_laws.specs.Opens.{RideMeets, RunMeets}
 use Rattle.uc_name_laws.specs.NameSteps.{IsBorn}
 use Rattle.uc_name_laws.proofs.Homes.{no_both, same_exec}
-use Rattle.uc_named_runs.proofs.Worlds.{known, own_spawn}
-use Rattle.uc_named_runs.proofs.Worlds as named
+use Rattle.uc_life_laws.proofs.NamedWorlds.{known, own_spawn}
+use Rattle.uc_life_laws.proofs.NamedWorlds as named
 use Rattle.uc_life_laws.specs.Knowing.{main_of}
 use Rattle.uc_life_laws.specs.LifeStates.{HandBy, MembersBy, EnvBy}
 use Rattle.uc_life_laws.proofs.Cells.{either, tested}
 use Rattle.uc_life_laws.proofs.Parked as parked
-use Rattle.uc_world_laws.proofs.Fewer.{both_members, both_env}
+use Rattle.uc_life_laws.proofs.Fewer.{both_members, both_env}
 use Rattle.uc_answer_laws.specs.Suiting.{Form, IsForm, JustGo, asked_form, form_of_request}
 use Rattle.uc_answer_laws.proofs.Told.{form_push}
 use Rattle.uc_answer_laws.proofs.Runs.{law_suiting}
 use Rattle.uc_answer_laws.proofs.Asking.{law_asking}
-use Rattle.uc_cover_laws.specs.Placed.{Placed, stacked, Ends}
-use Rattle.uc_cover_laws.specs.Held.{Seating, Held, Soon, SoonHere, SoonAsked, AllHeld, HeldEx, HeldState, HeldAsked, HeldAsk, HeldStep, TakesAt, TakesNow}
-use Rattle.uc_cover_laws.proofs.HeldLaws.{law_held, held_ends, soon_ends}
-use Rattle.uc_cover_laws.proofs.HeldKeeping as kept
+use Rattle.uc_life_laws.specs.Placed.{Placed, stacked, Ends}
+use Rattle.uc_life_laws.specs.Held.{Seating, Held, Soon, SoonHere, SoonAsked, AllHeld, HeldEx, HeldState, HeldAsked, HeldAsk, HeldStep, TakesAt, TakesNow}
+use Rattle.uc_life_laws.proofs.HeldLaws.{law_held, held_ends, soon_ends}
+use Rattle.uc_life_laws.proofs.HeldKeeping as kept
 use Rattle.uc_rooted_runs.specs.Makers.{Outside, Makers, seating}
 use Rattle.uc_rooted_runs.proofs.EndedTasks.{ended_by}
 use Rattle.uc_rooted_runs.specs.Outlasting.{IsAlone, Outlasts, OutlastEx}

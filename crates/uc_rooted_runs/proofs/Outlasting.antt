@@ -6,7 +6,7 @@ use Rattle.uc_machine.specs.Pieces as piece
 use Rattle.uc_machine.specs.Pieces.{Value, Todo, Sort, Active, State}
 use Rattle.uc_typing.specs.Typing.{Ty, Cell, Obj, Table}
 use Rattle.uc_life_laws.specs.Things.{Few, AtField, IsFor, Marks, InTodo, InStack, Base, NoBase, Stands, lies, inside}
-use Rattle.uc_cover_laws.specs.Placed.{Placed, put, placed, stacked, Ends, all, behind}
+use Rattle.uc_life_laws.specs.Placed.{Placed, put, placed, stacked, Ends, all, behind}
 use Rattle.uc_rooted_runs.specs.Makers.{Makers}
 use Rattle.uc_rooted_runs.specs.Outlasting.{Outlasts, InPlaced, HadBefore, LawOutlasting}
 

@@ -23,23 +23,23 @@ use Rattle.uc_machine.specs.Quiet.{first_state}
 use Rattle.uc_machine.specs.Answering.{answered, child_of}
 use Rattle.uc_machine.specs.Rides.{Rides, slices, goes_on, ticks, asks}
 use Rattle.uc_meaning.specs.Runs.{World, Runs, gives, no_room, acts, begun, more, bare, drawn, world_after}
-use Rattle.uc_program_laws.specs.Fitting.{RunFits}
-use Rattle.uc_program_laws.proofs.Others.{run_rests}
-use Rattle.uc_scope_laws.specs.RoomRuns.{stays}
-use Rattle.uc_value_laws.specs.Opens.{RideMeets, RunMeets}
+use Rattle.uc_state_laws.specs.Fitting.{RunFits}
+use Rattle.uc_state_laws.proofs.Others.{run_rests}
+use Rattle.uc_state_laws.specs.RoomRuns.{stays}
+use Rattle.uc_state_laws.specs.Opens.{RideMeets, RunMeets}
 use Rattle.uc_name_laws.specs.NameSteps as names
 use Rattle.uc_name_laws.proofs.Homes.{no_both}
-use Rattle.uc_named_runs.specs.RunningRuns.{RunLeaves}
-use Rattle.uc_named_runs.proofs.Owned.{tasks_grow}
-use Rattle.uc_named_runs.proofs.Worlds.{run_named, known}
+use Rattle.uc_life_laws.specs.RunningRuns.{RunLeaves}
+use Rattle.uc_life_laws.proofs.Owned.{tasks_grow}
+use Rattle.uc_life_laws.proofs.NamedWorlds.{run_named, known}
 use Rattle.uc_typing.specs.Typing.{Ty, Table}
 use Rattle.uc_life_laws.specs.Things.{Few, AtField, IsFor, InTodo}
-use Rattle.uc_own_names.specs.OwnNames as own
-use Rattle.uc_own_names.proofs.OwnNamesLemmas.{law_own_names}
-use Rattle.uc_unmarked_laws.specs.Marks.{Marked, LoneState, LoneStep, Freed, Puts}
-use Rattle.uc_unmarked_laws.specs.Unmarked.{HasOwnName, UnmarkedAt, RunUnmarked}
-use Rattle.uc_unmarked_laws.proofs.Walk.{law_steps}
-use Rattle.uc_unmarked_laws.proofs.Worlds.{law_runs}
+use Rattle.uc_life_laws.specs.OwnNames as own
+use Rattle.uc_life_laws.proofs.OwnNamesLemmas.{law_own_names}
+use Rattle.uc_life_laws.specs.Marks.{Marked, LoneState, LoneStep, Freed, Puts}
+use Rattle.uc_life_laws.specs.Unmarked.{HasOwnName, UnmarkedAt, RunUnmarked}
+use Rattle.uc_life_laws.proofs.UnmarkedWalk.{law_steps}
+use Rattle.uc_life_laws.proofs.UnmarkedWorlds.{law_runs}
 use Rattle.uc_rooted_runs.specs.UnmarkedRuns.{LeftBehind, RunLeft, LawUnmarkedRuns}
 
 -- a task that is not spawned yet has no marks

@@ -15,9 +15,9 @@ use Rattle.uc_typing.specs.Typing.{Ty, Cell, Obj, Raw, Sig, Table}
 use Rattle.uc_life_laws.specs.Things.{Few, Stands}
 use Rattle.uc_life_laws.specs.Knowing.{InMaking, KnowsEx, KnowsState}
 use Rattle.uc_life_laws.specs.LifeStates.{EnvBy, MembersBy}
-use Rattle.uc_world_laws.specs.Lasting.{lasting, lasting_numbers}
-use Rattle.uc_world_laws.specs.Rooted.{Lives, OwnObject, Yet, RunApart, RootedBeside}
-use Rattle.uc_unmarked_laws.specs.Belonging.{Belongs}
+use Rattle.uc_life_laws.specs.Lasting.{lasting, lasting_numbers}
+use Rattle.uc_life_laws.specs.Rooted.{Lives, OwnObject, Yet, RunApart, RootedBeside}
+use Rattle.uc_life_laws.specs.Belonging.{Belongs}
 use Rattle.uc_rooted_runs.specs.UnmarkedRuns.{IsLeft}
 
 module _ (t : Table) (few : Few) (o : ℕ) where

@@ -10,12 +10,12 @@ use Rattle.uc_acts.specs.KernelRuns.{InRange}
 use Rattle.uc_machine.specs.declared.exec.Exec.{Exec}
 use Rattle.uc_machine.specs.Quiet.{State}
 use Rattle.uc_meaning.specs.Runs.{World, May, Runs, gives, no_room, acts, begun, more}
-use Rattle.uc_program_laws.specs.Fitting.{RunFits}
-use Rattle.uc_value_laws.specs.Opens.{RunMeets}
+use Rattle.uc_state_laws.specs.Fitting.{RunFits}
+use Rattle.uc_state_laws.specs.Opens.{RunMeets}
 use Rattle.uc_name_laws.specs.NameSteps.{IsBorn}
 use Rattle.uc_life_laws.specs.Knowing.{main_of}
 use Rattle.uc_machine.specs.Pieces.{Object}
-use Rattle.uc_cover_laws.specs.Placed.{stacked}
+use Rattle.uc_life_laws.specs.Placed.{stacked}
 use Rattle.uc_rooted_runs.specs.Makers.{Makers, MadeBy}
 
 -- each that a state makes next is made by the running one

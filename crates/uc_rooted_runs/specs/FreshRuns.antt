@@ -10,10 +10,10 @@ use Rattle.uc_machine.specs.declared.exec.Home.TheVariants.{Object}
 use Rattle.uc_machine.specs.Quiet.{State, quiet}
 use Rattle.uc_machine.specs.Answering.{answered}
 use Rattle.uc_meaning.specs.Runs.{World, Runs}
-use Rattle.uc_program_laws.specs.Fitting.{RunFits}
-use Rattle.uc_value_laws.specs.Opens.{RunMeets}
+use Rattle.uc_state_laws.specs.Fitting.{RunFits}
+use Rattle.uc_state_laws.specs.Opens.{RunMeets}
 use Rattle.uc_life_laws.specs.LifeStates.{MembersBy}
-use Rattle.uc_cover_laws.specs.Placed.{stacked}
+use Rattle.uc_life_laws.specs.Placed.{stacked}
 use Rattle.uc_rooted_runs.specs.FreshStates.{FreshEx, FreshEnv, FreshStep, KeepsFresh}
 
 -- of each task at rest, which has nothing in hand, and of what is at home in each object; and a task that has ended has no marks

@@ -12,8 +12,8 @@ use Rattle.uc_machine.specs.Switches.{born}
 use Rattle.uc_machine.specs.Pieces.{Value, Place, Object, Todo, SetUpNow, BindNow, BindMadeNow, TakeDownNow, Unwind, FinishCoroutine, Sort, sort, IsFinishCoroutine, State, Env, Step, Goes, Ticks, Asks, top, below}
 use Rattle.uc_machine.specs.Quiet.{quiet, fresh, home_at}
 use Rattle.uc_life_laws.specs.LifeStates.{EnvBy}
-use Rattle.uc_world_laws.specs.Fewer.{FramesNumbers}
-use Rattle.uc_cover_laws.specs.Placed.{placed, stacked}
+use Rattle.uc_life_laws.specs.Fewer.{FramesNumbers}
+use Rattle.uc_life_laws.specs.Placed.{placed, stacked}
 
 -- it has begun; it may have ended
 abbrev pub HasBegun : Stage → Type 0

@@ -15,20 +15,20 @@ use Rattle.uc_machine.specs.Pieces.{Value, Todo, SetUpNow, Finish, Active, State
 use Rattle.uc_machine.specs.Quiet.{quiet}
 use Rattle.uc_machine.specs.Rides.{Rides, slices, goes_on, ticks, asks}
 use Rattle.uc_meaning.specs.Runs.{World, May, Runs, world_after, gives, no_room, acts, begun, more}
-use Rattle.uc_program_laws.specs.Fitting.{RunFits}
-use Rattle.uc_value_laws.specs.Opens.{RunMeets}
+use Rattle.uc_state_laws.specs.Fitting.{RunFits}
+use Rattle.uc_state_laws.specs.Opens.{RunMeets}
 use Rattle.uc_name_laws.specs.NameSteps as names
 use Rattle.uc_name_laws.specs.NameSteps.{IsBorn}
-use Rattle.uc_named_runs.specs.RunningRuns.{RunLeaves}
+use Rattle.uc_life_laws.specs.RunningRuns.{RunLeaves}
 use Rattle.uc_typing.specs.Typing.{Ty, Table}
 use Rattle.uc_life_laws.specs.Things.{Few, Base, Stands}
 use Rattle.uc_life_laws.specs.Knowing.{main_of}
-use Rattle.uc_unmarked_laws.specs.Marks.{Puts}
-use Rattle.uc_world_laws.specs.Lasting.{RunForgets}
-use Rattle.uc_world_laws.specs.Rooted.{IsPlace, Lives, Had}
-use Rattle.uc_cover_laws.specs.Placed.{Placed}
-use Rattle.uc_cover_laws.specs.Held.{Soon}
-use Rattle.uc_cover_laws.specs.Ways.{LeavesAt}
+use Rattle.uc_life_laws.specs.Marks.{Puts}
+use Rattle.uc_life_laws.specs.Lasting.{RunForgets}
+use Rattle.uc_life_laws.specs.Rooted.{IsPlace, Lives, Had}
+use Rattle.uc_life_laws.specs.Placed.{Placed}
+use Rattle.uc_life_laws.specs.Held.{Soon}
+use Rattle.uc_life_laws.specs.Ways.{LeavesAt}
 use Rattle.uc_rooted_runs.specs.Makers.{Outside, Makers, seating}
 use Rattle.uc_rooted_runs.specs.Births.{AllMadeLater}
 use Rattle.uc_rooted_runs.specs.Binds.{BindsOwn}

@@ -8,8 +8,8 @@ use Rattle.uc_machine.specs.Pieces.{Todo, Finish}
 use Rattle.uc_machine.specs.Quiet.{State, first_state, quiet}
 use Rattle.uc_machine.specs.Answering.{answered}
 use Rattle.uc_meaning.specs.Runs.{World, Runs}
-use Rattle.uc_value_laws.specs.Opens.{RunMeets}
-use Rattle.uc_cover_laws.specs.Held.{AreLines}
+use Rattle.uc_state_laws.specs.Opens.{RunMeets}
+use Rattle.uc_life_laws.specs.Held.{AreLines}
 use Rattle.uc_rooted_runs.specs.FreshStates.{MainsBareBy, AsksBare}
 use Rattle.uc_rooted_runs.specs.Mains.{MainState, MainStep, CallsNoMain, FindsAll}
 

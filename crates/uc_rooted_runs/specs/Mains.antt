@@ -6,7 +6,7 @@ use Rattle.uc_machine.specs.declared.exec.Home.{Home}
 use Rattle.uc_machine.specs.Executions.{Execution}
 use Rattle.uc_machine.specs.Pieces.{Value, Todo, CallNow, CallOnNow, CallUnwrittenNow, LiveNow, EnterNow, MakeNow, BindMadeNow, Unwind, Sort, sort, IsFinish, IsFinishCoroutine, Active, State, Env, Members, Step, Goes, Ticks, Asks}
 use Rattle.uc_life_laws.specs.LifeStates.{MembersBy, EnvBy}
-use Rattle.uc_cover_laws.specs.Held.{AreLines}
+use Rattle.uc_life_laws.specs.Held.{AreLines}
 
 -- the end of a main stands in the oldest activation
 abbrev pub AtEnd : Sort → List Active → List Todo → Type 0 → Type 0

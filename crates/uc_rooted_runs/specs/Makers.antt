@@ -2,9 +2,9 @@
 use Rattle.std.specs.Prelude.{◌≡◌, ℕ, ◌<◌, List}
 use Rattle.uc_machine.specs.declared.exec.Exec.{Exec}
 use Rattle.uc_machine.specs.Pieces.{Value}
-use Rattle.uc_cover_laws.specs.Placed.{Placed}
-use Rattle.uc_cover_laws.specs.Destroying.{Seat}
-use Rattle.uc_cover_laws.specs.Held.{Seating}
+use Rattle.uc_life_laws.specs.Placed.{Placed}
+use Rattle.uc_life_laws.specs.Destroying.{Seat}
+use Rattle.uc_life_laws.specs.Held.{Seating}
 
 -- by whom each execution was made, the object for which it was made, with where mutex objects are at home, what that was to clean up then, and a number that
 -- grows with each that is made

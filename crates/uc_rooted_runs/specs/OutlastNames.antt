@@ -15,13 +15,13 @@ use Rattle.uc_machine.specs.Pieces.{Todo, SetUpNow, State, Members, Goes}
 use Rattle.uc_machine.specs.Quiet.{quiet, home_at}
 use Rattle.uc_machine.specs.Rides.{Rides, slices, goes_on, ticks, asks}
 use Rattle.uc_meaning.specs.Runs.{World, May, Runs, gives, no_room, acts, begun, more}
-use Rattle.uc_program_laws.specs.Fitting.{RunFits}
-use Rattle.uc_value_laws.specs.Opens.{RunMeets}
+use Rattle.uc_state_laws.specs.Fitting.{RunFits}
+use Rattle.uc_state_laws.specs.Opens.{RunMeets}
 use Rattle.uc_name_laws.specs.NameSteps as names
 use Rattle.uc_name_laws.specs.NameSteps.{IsBorn}
-use Rattle.uc_named_runs.specs.RunningRuns.{RunLeaves}
+use Rattle.uc_life_laws.specs.RunningRuns.{RunLeaves}
 use Rattle.uc_life_laws.specs.Knowing.{main_of}
-use Rattle.uc_cover_laws.specs.Placed.{Placed}
+use Rattle.uc_life_laws.specs.Placed.{Placed}
 use Rattle.uc_rooted_runs.specs.Makers.{Outside, Makers}
 use Rattle.uc_rooted_runs.specs.Births.{AllMadeLater}
 use Rattle.uc_rooted_runs.specs.Outlasting.{IsAlone}

@@ -18,12 +18,12 @@ use Rattle.uc_machine.specs.Pieces.{Todo, SetUpNow, State, Members, Goes}
 use Rattle.uc_machine.specs.Quiet.{quiet, home_at}
 use Rattle.uc_machine.specs.Rides.{Rides, slices, goes_on, ticks, asks}
 use Rattle.uc_meaning.specs.Runs.{World, May, Runs, gives, no_room, acts, begun, more}
-use Rattle.uc_program_laws.specs.Fitting.{RunFits}
+use Rattle.uc_state_laws.specs.Fitting.{RunFits}
 use Rattle.uc_name_laws.specs.NameSteps.{IsBorn}
 use Rattle.uc_life_laws.specs.Knowing.{main_of}
 use Rattle.uc_life_laws.specs.LifeStates.{EnvBy, MembersBy}
-use Rattle.uc_cover_laws.specs.Placed.{Placed}
-use Rattle.uc_cover_laws.specs.Held.{Soon, TakesNow}
+use Rattle.uc_life_laws.specs.Placed.{Placed}
+use Rattle.uc_life_laws.specs.Held.{Soon, TakesNow}
 use Rattle.uc_rooted_runs.specs.Makers.{Outside, Makers, seating}
 use Rattle.uc_rooted_runs.specs.Births.{AllMadeLater}
 use Rattle.uc_rooted_runs.specs.Outlasting.{IsAlone}

@@ -7,7 +7,7 @@ use Rattle.uc_machine.specs.Pieces.{Value, Todo, sort, Active, Env}
 use Rattle.uc_typing.specs.Typing.{Ty, Table}
 use Rattle.uc_life_laws.specs.Things.{Few, AtField, IsFor, Marks, NoBase, InStack, Base, Stands}
 use Rattle.uc_life_laws.specs.LifeStates.{EnvBy}
-use Rattle.uc_cover_laws.specs.Placed.{Placed, stacked, Ends}
+use Rattle.uc_life_laws.specs.Placed.{Placed, stacked, Ends}
 use Rattle.uc_rooted_runs.specs.Makers.{Makers}
 
 -- `up x`: of this execution it is asked

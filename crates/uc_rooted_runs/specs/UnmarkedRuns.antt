@@ -11,16 +11,16 @@ use Rattle.uc_acts.specs.Acts.{act}
 use Rattle.uc_acts.specs.KernelRuns.{InRange}
 use Rattle.uc_machine.specs.Pieces.{Object}
 use Rattle.uc_meaning.specs.Runs.{World, May, Runs, world_after, gives, no_room, acts, begun, more}
-use Rattle.uc_program_laws.specs.Fitting.{RunFits}
-use Rattle.uc_value_laws.specs.Opens.{RunMeets}
+use Rattle.uc_state_laws.specs.Fitting.{RunFits}
+use Rattle.uc_state_laws.specs.Opens.{RunMeets}
 use Rattle.uc_name_laws.specs.NameSteps as names
-use Rattle.uc_named_runs.specs.RunningRuns.{RunLeaves}
+use Rattle.uc_life_laws.specs.RunningRuns.{RunLeaves}
 use Rattle.uc_typing.specs.Typing.{Table}
 use Rattle.uc_life_laws.specs.Things.{Few}
-use Rattle.uc_own_names.specs.OwnNames as own
-use Rattle.uc_unmarked_laws.specs.Belonging.{Belongs}
-use Rattle.uc_unmarked_laws.specs.Marks.{Puts}
-use Rattle.uc_unmarked_laws.specs.Unmarked.{Unmarked}
+use Rattle.uc_life_laws.specs.OwnNames as own
+use Rattle.uc_life_laws.specs.Belonging.{Belongs}
+use Rattle.uc_life_laws.specs.Marks.{Puts}
+use Rattle.uc_life_laws.specs.Unmarked.{Unmarked}
 
 module _ (t : Table) (few : Few) where
   -- behind an act of task u by which an object goes: that was at home in what is the own of who runs there, whose name is its own, and nobody has to

@@ -9,7 +9,7 @@ use Rattle.uc_meaning.specs.Runs.{World}
 use Rattle.uc_typing.specs.Typing.{Ty, Table}
 use Rattle.uc_life_laws.specs.Things.{Few, Base, Stands}
 use Rattle.uc_life_laws.specs.LifeStates.{EnvBy, MembersBy}
-use Rattle.uc_world_laws.specs.Rooted.{LivesBy, Lives, Had, StandsUpwards}
+use Rattle.uc_life_laws.specs.Rooted.{LivesBy, Lives, Had, StandsUpwards}
 use Rattle.uc_rooted_runs.specs.Makers.{Makers}
 use Rattle.uc_rooted_runs.specs.Outlasting.{Outlasts, OutlastEx, HadBefore}
 

@@ -1,6 +1,6 @@
 -- Nobody leaves its home for good, so names are apart.
 use Rattle.uc_resolve.specs.Resolve.{source_of}
-use Rattle.uc_own_names.proofs.OwnNamesLemmas.{law_own_names}
+use Rattle.uc_life_laws.proofs.OwnNamesLemmas.{law_own_names}
 use Rattle.uc_running_laws.specs.OwnPrograms.{LawOwnPrograms}
 use Rattle.uc_running_laws.proofs.RunningLemmas.{run_leaves}
 

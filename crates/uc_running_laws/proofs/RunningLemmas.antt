@@ -16,17 +16,17 @@ use Rattle.uc_machine.specs.Insides.{has_engaged}
 use Rattle.uc_machine.specs.Quiet.{State}
 use Rattle.uc_resolve.specs.Resolve.{source_of}
 use Rattle.uc_rules.specs.Breaks.{breaks_of}
-use Rattle.uc_sound.specs.Formed.{IsFormed}
+use Rattle.uc_sound.specs.SoundFormed.{IsFormed}
 use Rattle.uc_meaning.specs.Runs.{World, Runs, gives, no_room, acts, begun, more}
-use Rattle.uc_program_laws.specs.Fitting.{RunFits}
-use Rattle.uc_enter_laws.proofs.Routines.{law_entered}
+use Rattle.uc_state_laws.specs.Fitting.{RunFits}
+use Rattle.uc_sound.proofs.Routines.{law_entered}
 use Rattle.uc_source_laws.specs.SourceLaws.{part_of}
 use Rattle.uc_source_laws.proofs.InnerSources.{law_inner}
 use Rattle.uc_letting_laws.specs.AloneRuns.{RunAlone}
 use Rattle.uc_letting_laws.specs.LettingLaws.{LeavesFree}
 use Rattle.uc_letting_laws.proofs.LettingWorlds.{law_leaving}
-use Rattle.uc_named_runs.specs.RunningRuns.{LeavesHome, RunLeaves}
-use Rattle.uc_named_runs.proofs.RunningWorlds.{law_running_runs}
+use Rattle.uc_life_laws.specs.RunningRuns.{LeavesHome, RunLeaves}
+use Rattle.uc_life_laws.proofs.RunningWorlds.{law_running_runs}
 use Rattle.uc_running_laws.specs.Running.{LawRunning}
 
 -- an execution that is not at home in an object

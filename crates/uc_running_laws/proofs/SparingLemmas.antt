@@ -14,12 +14,12 @@ use Rattle.uc_machine.specs.Quiet.{quiet}
 use Rattle.uc_machine.specs.Rides.{Rides, slices, goes_on, ticks, asks}
 use Rattle.uc_resolve.specs.Resolve.{source_of}
 use Rattle.uc_rules.specs.Breaks.{breaks_of}
-use Rattle.uc_sound.specs.Formed.{IsFormed}
+use Rattle.uc_sound.specs.SoundFormed.{IsFormed}
 use Rattle.uc_meaning.specs.Runs.{World, Runs, gives, no_room, acts, begun, more}
-use Rattle.uc_program_laws.specs.Fitting.{RunFits}
-use Rattle.uc_program_laws.proofs.Others.{run_rests}
-use Rattle.uc_hand_laws.proofs.DeepWorlds.{deep_run}
-use Rattle.uc_value_laws.specs.Opens.{RideMeets, RunMeets}
+use Rattle.uc_state_laws.specs.Fitting.{RunFits}
+use Rattle.uc_state_laws.proofs.Others.{run_rests}
+use Rattle.uc_state_laws.proofs.DeepWorlds.{deep_run}
+use Rattle.uc_state_laws.specs.Opens.{RideMeets, RunMeets}
 use Rattle.uc_name_laws.specs.NameSteps.{Spares, SparesAt}
 use Rattle.uc_depth_laws.specs.Entering as entering
 use Rattle.uc_depth_laws.specs.Entering.{Aspect, Other, EnteredSource}
@@ -30,7 +30,7 @@ use Rattle.uc_depth_laws.proofs.Walk.{told_object}
 use Rattle.uc_inner_laws.specs.Inner.{InnerSource}
 use Rattle.uc_inner_laws.specs.Standing.{StandsState, StandsStep}
 use Rattle.uc_inner_laws.proofs.Walk.{law_steps as inner_steps, law_fair}
-use Rattle.uc_enter_laws.proofs.Routines.{law_entered}
+use Rattle.uc_sound.proofs.Routines.{law_entered}
 use Rattle.uc_source_laws.specs.SourceLaws.{part_of}
 use Rattle.uc_source_laws.proofs.InnerSources.{law_inner}
 use Rattle.uc_letting_laws.specs.AloneRuns.{RideAlone, RunAlone}

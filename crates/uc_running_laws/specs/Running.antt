@@ -7,12 +7,12 @@ use Rattle.uc_acts.specs.Journal.{Journal, is_over}
 use Rattle.uc_acts.specs.KernelRuns.{InRange}
 use Rattle.uc_resolve.specs.Resolve.{source_of}
 use Rattle.uc_rules.specs.Breaks.{breaks_of}
-use Rattle.uc_sound.specs.Formed.{IsFormed}
+use Rattle.uc_sound.specs.SoundFormed.{IsFormed}
 use Rattle.uc_meaning.specs.Runs.{World, Runs}
-use Rattle.uc_program_laws.specs.Fitting.{RunFits}
-use Rattle.uc_value_laws.specs.Opens.{RunMeets}
+use Rattle.uc_state_laws.specs.Fitting.{RunFits}
+use Rattle.uc_state_laws.specs.Opens.{RunMeets}
 use Rattle.uc_name_laws.specs.NameSteps.{Spares}
-use Rattle.uc_named_runs.specs.RunningRuns.{AllRunAlone}
+use Rattle.uc_life_laws.specs.RunningRuns.{AllRunAlone}
 use Rattle.uc_letting_laws.specs.AloneRuns.{RunAlone}
 
 -- in each run in which all that was asked so far fits: who destroys an object is not at home there, and who ends not in its own object

@@ -36,12 +36,12 @@ use Rattle.uc_rules.specs.Visits.{AtBase, AtParam}
 use Rattle.uc_rules.specs.ProgramVisits.{program_visits, params_visits}
 use Rattle.uc_rules.specs.Breaks.{breaks_at}
 use Rattle.uc_typing.specs.Typing.{Ty, Num, Cell, Name, Sig, Table, IsParam, IsPlaced}
-use Rattle.uc_agreement.specs.Agreement.{is_numbered, found_ty, sort_ty, param_ty, Agrees, AgreesIf}
-use Rattle.uc_agreement.specs.Declarations.{StoodBy}
-use Rattle.uc_agreement.specs.Unbroken.{Unbroken}
-use Rattle.uc_agreement.proofs.Ties.{some_same, none_some, false_true, scalar_cell, scalar_unnumbered}
-use Rattle.uc_agreement.proofs.UnbrokenLemmas.{none_left, none_right, second, holds}
-use Rattle.uc_agreement.proofs.DeclarationsLemmas.{law_declared}
+use Rattle.uc_sound.specs.Agreement.{is_numbered, found_ty, sort_ty, param_ty, Agrees, AgreesIf}
+use Rattle.uc_sound.specs.Declarations.{StoodBy}
+use Rattle.uc_sound.specs.Unbroken.{Unbroken}
+use Rattle.uc_sound.proofs.Ties.{some_same, none_some, false_true, scalar_cell, scalar_unnumbered}
+use Rattle.uc_sound.proofs.UnbrokenLemmas.{none_left, none_right, second, holds}
+use Rattle.uc_sound.proofs.DeclarationsLemmas.{law_declared}
 use Rattle.uc_sound.specs.Tables.{routine_sig_in, written_sigs, unwritten_sig, unwritten_sigs, all_sigs, table_of}
 use Rattle.uc_sound.specs.Rooted.{IsStood, Within}
 use Rattle.uc_sound.proofs.Lists.{left_is, right_is, both_are, not_is, get_right}

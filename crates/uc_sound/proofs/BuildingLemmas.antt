@@ -42,14 +42,14 @@ use Rattle.uc_rules.specs.OwnerBreaks.{is_field_origin}
 use Rattle.uc_rules.specs.Visits.{single_target}
 use Rattle.uc_rules.specs.ProgramVisits.{program_visits, home_member, field_of, bound_target, maybe_bound_target, origin_target, meant_target, init_target, init_arg_visits, init_args_visits, inits_visits}
 use Rattle.uc_typing.specs.Typing.{Ty, Num, Cell, Clu, Name, Own, Sig, Table, IsPlaced, Yields, GiveAll, Fine, FineStmts}
-use Rattle.uc_agreement.specs.Agreement.{found_ty, sort_ty, IsLike, context}
-use Rattle.uc_agreement.specs.Fields.{field_ty, TellsClass}
-use Rattle.uc_agreement.specs.Unbroken.{Unbroken}
-use Rattle.uc_agreement.proofs.Ties.{some_same, none_some, false_true, scalar, converted_fine, arg_ok}
-use Rattle.uc_agreement.proofs.UnbrokenLemmas.{none_left, none_right, first, holds}
-use Rattle.uc_agreement.proofs.Asking.{only}
-use Rattle.uc_agreement.proofs.FieldsLemmas.{Found, found}
-use Rattle.uc_sound.specs.Formed.{IsFormed}
+use Rattle.uc_sound.specs.Agreement.{found_ty, sort_ty, IsLike, context}
+use Rattle.uc_sound.specs.Fields.{field_ty, TellsClass}
+use Rattle.uc_sound.specs.Unbroken.{Unbroken}
+use Rattle.uc_sound.proofs.Ties.{some_same, none_some, false_true, scalar, converted_fine, arg_ok}
+use Rattle.uc_sound.proofs.UnbrokenLemmas.{none_left, none_right, first, holds}
+use Rattle.uc_sound.proofs.Asking.{only}
+use Rattle.uc_sound.proofs.FieldsLemmas.{Found, found}
+use Rattle.uc_sound.specs.SoundFormed.{IsFormed}
 use Rattle.uc_sound.specs.Tables.{table_of}
 use Rattle.uc_sound.specs.Told.{Told, TellsMaker}
 use Rattle.uc_sound.specs.Rooted.{Within}

@@ -22,11 +22,11 @@ use Rattle.uc_rules.specs.ClassBreaks.{is_new_field, fields_at, home_leads_back,
 use Rattle.uc_rules.specs.ExpressionBreaks.{is_length, length_value, length_breaks, length_value_breaks}
 use Rattle.uc_rules.specs.ProgramVisits.{program_visits}
 use Rattle.uc_typing.specs.Typing.{Num, IsPlaced}
-use Rattle.uc_agreement.specs.Agreement.{found_ty, place_by, place_ty}
-use Rattle.uc_agreement.specs.Fields.{TellsClass}
-use Rattle.uc_agreement.specs.Unbroken.{Unbroken}
-use Rattle.uc_agreement.proofs.Ties.{false_true}
-use Rattle.uc_agreement.proofs.UnbrokenLemmas.{none_left, none_right, holds}
+use Rattle.uc_sound.specs.Agreement.{found_ty, place_by, place_ty}
+use Rattle.uc_sound.specs.Fields.{TellsClass}
+use Rattle.uc_sound.specs.Unbroken.{Unbroken}
+use Rattle.uc_sound.proofs.Ties.{false_true}
+use Rattle.uc_sound.proofs.UnbrokenLemmas.{none_left, none_right, holds}
 use Rattle.uc_sound.specs.Tables.{of_kind, class_field, listed_field, known_field, table_of}
 use Rattle.uc_sound.specs.Told.{LawTold}
 use Rattle.uc_sound.proofs.Lists.{left_is}

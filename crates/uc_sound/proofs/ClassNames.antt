@@ -19,9 +19,9 @@ use Rattle.uc_rules.specs.declared.rules.Sort.TheVariants as sort
 use Rattle.uc_rules.specs.Sorts.{class_sort, sort_of}
 use Rattle.uc_rules.specs.ItemBreaks.{item_name, is_named_proto, clashes, is_new_item}
 use Rattle.uc_rules.specs.ProgramVisits.{program_visits}
-use Rattle.uc_agreement.specs.Unbroken.{Unbroken}
-use Rattle.uc_agreement.proofs.Ties.{some_same, none_some, false_true}
-use Rattle.uc_agreement.proofs.UnbrokenLemmas.{holds}
+use Rattle.uc_sound.specs.Unbroken.{Unbroken}
+use Rattle.uc_sound.proofs.Ties.{some_same, none_some, false_true}
+use Rattle.uc_sound.proofs.UnbrokenLemmas.{holds}
 use Rattle.uc_sound.proofs.Lists.{next_is_not, not_either, both_are, case_of, any_from, get_take, within, Order, before, same, behind, order}
 use Rattle.uc_sound.proofs.Visited.{item_rules}
 use Rattle.std.proofs.lemmas.Bool.{le-leb}

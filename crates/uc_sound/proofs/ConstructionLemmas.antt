@@ -27,11 +27,11 @@ use Rattle.uc_rules.specs.ProgramVisits.{program_visits, field_of, init_target, 
 use Rattle.uc_rules.specs.Breaks.{breaks_at}
 use Rattle.uc_resolve.specs.Resolve.{init_named}
 use Rattle.uc_typing.specs.Typing.{Name, Sig, Table, GiveAll}
-use Rattle.uc_agreement.specs.Agreement.{param_ty, AreLike, Agrees, context}
-use Rattle.uc_agreement.specs.Unbroken.{Unbroken}
-use Rattle.uc_agreement.proofs.Ties.{some_same, none_some, arg_ok, law_agrees}
-use Rattle.uc_agreement.proofs.UnbrokenLemmas.{first, second, one, holds, stands}
-use Rattle.uc_sound.specs.Formed.{IsFormed}
+use Rattle.uc_sound.specs.Agreement.{param_ty, AreLike, Agrees, context}
+use Rattle.uc_sound.specs.Unbroken.{Unbroken}
+use Rattle.uc_sound.proofs.Ties.{some_same, none_some, arg_ok, law_agrees}
+use Rattle.uc_sound.proofs.UnbrokenLemmas.{first, second, one, holds, stands}
+use Rattle.uc_sound.specs.SoundFormed.{IsFormed}
 use Rattle.uc_sound.specs.Rooted.{Rooted, Within}
 use Rattle.uc_sound.proofs.Lists.{left_is, right_is, not_either, not_both, any_from, get_take, Order, before, same, behind, order}
 use Rattle.uc_sound.proofs.Visited.{FieldRules, home, field_rules}

@@ -38,12 +38,12 @@ use Rattle.uc_rules.specs.OwnerBreaks.{is_no_condition_sort}
 use Rattle.uc_rules.specs.Visits.{AtVariable, visits, args_visits, arg_visits, start_values, variable_target}
 use Rattle.uc_rules.specs.Breaks.{breaks_at}
 use Rattle.uc_typing.specs.Typing.{Num, Cell, Row, Name, Sig, Table, IsPlaced, InScope, IsVariable, Yields, FineStart}
-use Rattle.uc_agreement.specs.Agreement.{is_numbered, found_ty, place_by, place_ty, Agrees, AgreesIf, context}
-use Rattle.uc_agreement.specs.Declarations.{StoodBy}
-use Rattle.uc_agreement.specs.Unbroken.{Unbroken}
-use Rattle.uc_agreement.proofs.Ties.{some_same, none_some, false_true, scalar, converted_fine, law_agrees}
-use Rattle.uc_agreement.proofs.UnbrokenLemmas.{none_left, none_right, first, holds, stands}
-use Rattle.uc_agreement.proofs.DeclarationsLemmas.{law_declared}
+use Rattle.uc_sound.specs.Agreement.{is_numbered, found_ty, place_by, place_ty, Agrees, AgreesIf, context}
+use Rattle.uc_sound.specs.Declarations.{StoodBy}
+use Rattle.uc_sound.specs.Unbroken.{Unbroken}
+use Rattle.uc_sound.proofs.Ties.{some_same, none_some, false_true, scalar, converted_fine, law_agrees}
+use Rattle.uc_sound.proofs.UnbrokenLemmas.{none_left, none_right, first, holds, stands}
+use Rattle.uc_sound.proofs.DeclarationsLemmas.{law_declared}
 use Rattle.uc_sound.specs.Tables.{declared_ty}
 use Rattle.uc_sound.specs.Rooted.{IsStood, AreStood, Within}
 use Rattle.uc_sound.proofs.Lists.{some_is, right_is, not_is}

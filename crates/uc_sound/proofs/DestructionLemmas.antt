@@ -34,12 +34,12 @@ use Rattle.uc_rules.specs.ItemBreaks.{is_member_definition, has_class_name, clas
 use Rattle.uc_rules.specs.Visits.{AtSig, AtInits, AtRoutine, stmts_visits}
 use Rattle.uc_rules.specs.ProgramVisits.{program_visits, form_visits, routine_visits, body_visits, sig_visits, base_visits, params_visits, inits_visits, sig_env, owner_home, is_of_main, outer_mark, mark_in, home_of}
 use Rattle.uc_typing.specs.Typing.{Ty, Row, IsParam, Name, Own, Kept, Sig, Table, raw, IsPlaced, IsInside, InMutex, Executing, Yields, CleansAt, Cleans, FineStmts}
-use Rattle.uc_agreement.specs.Agreement.{place_ty, param_ty}
-use Rattle.uc_agreement.specs.Fields.{field_ty, TellsClass}
-use Rattle.uc_agreement.specs.Unbroken.{Unbroken}
-use Rattle.uc_agreement.proofs.Ties.{some_same, none_some, false_true}
-use Rattle.uc_agreement.proofs.UnbrokenLemmas.{first, second}
-use Rattle.uc_sound.specs.Formed.{IsFormed}
+use Rattle.uc_sound.specs.Agreement.{place_ty, param_ty}
+use Rattle.uc_sound.specs.Fields.{field_ty, TellsClass}
+use Rattle.uc_sound.specs.Unbroken.{Unbroken}
+use Rattle.uc_sound.proofs.Ties.{some_same, none_some, false_true}
+use Rattle.uc_sound.proofs.UnbrokenLemmas.{first, second}
+use Rattle.uc_sound.specs.SoundFormed.{IsFormed}
 use Rattle.uc_sound.specs.Tables.{of_kind, inward_in, inward_at, declared_ty, stmts_locals, routine_sig_in, table_of}
 use Rattle.uc_sound.specs.Told.{Told}
 use Rattle.uc_sound.specs.Rooted.{Within}

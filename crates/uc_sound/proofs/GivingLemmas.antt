@@ -29,10 +29,10 @@ use Rattle.uc_rules.specs.Entities.{entity_of, parts_entity, part_entity, chain_
 use Rattle.uc_rules.specs.Visits.{visits}
 use Rattle.uc_rules.specs.OwnerBreaks.{names_condition}
 use Rattle.uc_typing.specs.Typing.{Num, Obj, Name, Sig, Table, IsInside, Yields, Fine}
-use Rattle.uc_agreement.specs.Agreement.{found_ty, row_ty, IsAsValue, ValuedBy, Agrees, AgreesIf, Tied, context}
-use Rattle.uc_agreement.specs.Unbroken.{Unbroken, Stands, IsKnown}
-use Rattle.uc_agreement.proofs.Ties.{some_same, none_some, false_true, law_agrees}
-use Rattle.uc_agreement.proofs.UnbrokenLemmas.{stands}
+use Rattle.uc_sound.specs.Agreement.{found_ty, row_ty, IsAsValue, ValuedBy, Agrees, AgreesIf, Tied, context}
+use Rattle.uc_sound.specs.Unbroken.{Unbroken, Stands, IsKnown}
+use Rattle.uc_sound.proofs.Ties.{some_same, none_some, false_true, law_agrees}
+use Rattle.uc_sound.proofs.UnbrokenLemmas.{stands}
 use Rattle.uc_sound.specs.Rooted.{IsStood, AreStood, Within, root_named}
 
 -- no member that is not there

@@ -23,10 +23,10 @@ use Rattle.uc_rules.specs.ItemBreaks.{form_declares_sig, class_declares}
 use Rattle.uc_rules.specs.ProgramVisits.{program_visits, same_role, form_declares, mark_among}
 use Rattle.uc_typing.specs.Typing.{Inward, Apart, Enters, Makes, Helps, Main, IsInside}
 use Rattle.uc_typing.specs.States.{LetsGo}
-use Rattle.uc_agreement.specs.Unbroken.{Unbroken}
-use Rattle.uc_agreement.proofs.Ties.{some_same, none_some, false_true}
-use Rattle.uc_agreement.proofs.UnbrokenLemmas.{holds}
-use Rattle.uc_sound.specs.Formed.{IsFormed}
+use Rattle.uc_sound.specs.Unbroken.{Unbroken}
+use Rattle.uc_sound.proofs.Ties.{some_same, none_some, false_true}
+use Rattle.uc_sound.proofs.UnbrokenLemmas.{holds}
+use Rattle.uc_sound.specs.SoundFormed.{IsFormed}
 use Rattle.uc_sound.specs.Tables.{helps_in, inward_by, inward_in, inward_at}
 use Rattle.uc_sound.proofs.Lists.{left_is, right_is, both_are}
 use Rattle.uc_sound.proofs.Likes.{role_is, sig_is}

@@ -21,11 +21,11 @@ use Rattle.uc_rules.specs.ClassBreaks.{is_event_field, has_event_fields, is_even
 use Rattle.uc_rules.specs.ProgramVisits.{program_visits}
 use Rattle.uc_rules.specs.Sorts.{is_scalar_sort, class_sort, sort_of}
 use Rattle.uc_typing.specs.Typing.{Ty, Num, Obj, Table, IsScalarPlace, IsBare, IsKept}
-use Rattle.uc_agreement.specs.Agreement.{place_by, place_ty}
-use Rattle.uc_agreement.specs.Fields.{field_ty}
-use Rattle.uc_agreement.specs.Unbroken.{Unbroken}
-use Rattle.uc_agreement.proofs.Ties.{some_same, none_some, false_true}
-use Rattle.uc_sound.specs.Formed.{IsFormed}
+use Rattle.uc_sound.specs.Agreement.{place_by, place_ty}
+use Rattle.uc_sound.specs.Fields.{field_ty}
+use Rattle.uc_sound.specs.Unbroken.{Unbroken}
+use Rattle.uc_sound.proofs.Ties.{some_same, none_some, false_true}
+use Rattle.uc_sound.specs.SoundFormed.{IsFormed}
 use Rattle.uc_sound.specs.Tables.{of_kind, known_field, listed_field, class_field, table_of}
 use Rattle.uc_sound.proofs.Lists.{left_is, right_is, all_from}
 use Rattle.uc_sound.proofs.ClassNames.{class_of_base}

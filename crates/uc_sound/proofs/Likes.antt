@@ -12,8 +12,8 @@ use Rattle.uc_rules.specs.declared.rules.Sort.{Sort}
 use Rattle.uc_rules.specs.Sorts.{sort_of}
 use Rattle.uc_rules.specs.ItemBreaks.{same_base, same_flag, same_params, same_sig}
 use Rattle.uc_rules.specs.ProgramVisits.{same_role}
-use Rattle.uc_agreement.specs.Agreement.{AreLike}
-use Rattle.uc_agreement.proofs.Ties.{false_true}
+use Rattle.uc_sound.specs.Agreement.{AreLike}
+use Rattle.uc_sound.proofs.Ties.{false_true}
 use Rattle.uc_sound.proofs.Lists.{left_is, right_is}
 use Rattle.uc_sound.proofs.ClassNames.{same_is}
 

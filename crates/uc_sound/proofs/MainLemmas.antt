@@ -20,11 +20,11 @@ use Rattle.uc_rules.specs.ItemBreaks.{is_program_main, mains_in, main_breaks}
 use Rattle.uc_rules.specs.ProgramVisits.{program_visits}
 use Rattle.uc_typing.specs.Typing.{Apart, Sig, IsMain}
 use Rattle.uc_typing.specs.States.{IsOfTask, IsTask}
-use Rattle.uc_agreement.specs.Agreement.{param_ty}
-use Rattle.uc_agreement.specs.Unbroken.{Unbroken}
-use Rattle.uc_agreement.proofs.Ties.{false_true}
-use Rattle.uc_agreement.proofs.UnbrokenLemmas.{none_left, holds}
-use Rattle.uc_sound.specs.Formed.{IsFormed}
+use Rattle.uc_sound.specs.Agreement.{param_ty}
+use Rattle.uc_sound.specs.Unbroken.{Unbroken}
+use Rattle.uc_sound.proofs.Ties.{false_true}
+use Rattle.uc_sound.proofs.UnbrokenLemmas.{none_left, holds}
+use Rattle.uc_sound.specs.SoundFormed.{IsFormed}
 use Rattle.uc_sound.specs.Sounds.{of_program, of_class, LawMains}
 use Rattle.uc_sound.specs.Tables.{of_kind, inward_at, table_of}
 use Rattle.uc_sound.proofs.Lists.{left_is, right_is, get_right}

@@ -36,11 +36,11 @@ use Rattle.uc_rules.specs.Visits.{AtRoutine}
 use Rattle.uc_rules.specs.ProgramVisits.{program_visits, form_visits, routine_visits, sig_visits, sig_env, body_visits, same_role, owner_home, home_of}
 use Rattle.uc_rules.specs.Breaks.{breaks_at}
 use Rattle.uc_typing.specs.Typing.{Apart, Sig as Typed}
-use Rattle.uc_agreement.specs.Agreement.{param_ty, AreLike}
-use Rattle.uc_agreement.specs.Unbroken.{Unbroken}
-use Rattle.uc_agreement.proofs.Ties.{some_same, none_some, false_true}
-use Rattle.uc_agreement.proofs.UnbrokenLemmas.{none_left, none_right, first, second, holds}
-use Rattle.uc_sound.specs.Formed.{IsFormed}
+use Rattle.uc_sound.specs.Agreement.{param_ty, AreLike}
+use Rattle.uc_sound.specs.Unbroken.{Unbroken}
+use Rattle.uc_sound.proofs.Ties.{some_same, none_some, false_true}
+use Rattle.uc_sound.proofs.UnbrokenLemmas.{none_left, none_right, first, second, holds}
+use Rattle.uc_sound.specs.SoundFormed.{IsFormed}
 use Rattle.uc_sound.specs.Tables.{of_kind, helps_in, inward_by, role_inward, inward_in, inward_at, table_of}
 use Rattle.uc_sound.specs.Told.{IsOfClass, TellsMember, TellsMaker, role_params}
 use Rattle.uc_sound.proofs.Lists.{left_is, right_is, both_are, not_is, not_either, next_is_not, case_of, any_at, any_from, in_left, in_right, get_take, Order, before, same, behind, order}

@@ -32,11 +32,11 @@ use Rattle.uc_rules.specs.ExpressionBreaks.{is_value_start, are_single, started_
 use Rattle.uc_rules.specs.Visits.{AtVariable, AtArgument, visits, maybe_visits, args_visits, arg_visits, start_values, single_target, variable_target, variable_visits, variables_visits}
 use Rattle.uc_rules.specs.Breaks.{breaks_at}
 use Rattle.uc_typing.specs.Typing.{Ty, Num, Cell, Obj, Raw, Row, Clu, Pro, Name, Var, Inward, Apart, Enters, Sig, Table, IsOpen, MayCall, raw, IsPlaced, Among, InScope, IsVariable, Yields, Fine, GiveAll, FineDeclared, FineClean, element_shape, DestroysAt, CleansAt, FineStmt, FineStmts, object_ty, IsBare}
-use Rattle.uc_agreement.specs.Agreement.{is_numbered, place_by, place_ty, param_ty, AreLike, Agrees, context}
-use Rattle.uc_agreement.specs.Unbroken.{Unbroken}
-use Rattle.uc_agreement.proofs.Ties.{some_same, none_some, false_true, scalar_unnumbered, law_agrees}
-use Rattle.uc_agreement.proofs.UnbrokenLemmas.{first, second, one, holds, stands}
-use Rattle.uc_agreement.proofs.Asking.{only, law_parts}
+use Rattle.uc_sound.specs.Agreement.{is_numbered, place_by, place_ty, param_ty, AreLike, Agrees, context}
+use Rattle.uc_sound.specs.Unbroken.{Unbroken}
+use Rattle.uc_sound.proofs.Ties.{some_same, none_some, false_true, scalar_unnumbered, law_agrees}
+use Rattle.uc_sound.proofs.UnbrokenLemmas.{first, second, one, holds, stands}
+use Rattle.uc_sound.proofs.Asking.{only, law_parts}
 use Rattle.uc_sound.specs.Tables.{based_ty, declared_ty, declared_locals, role_inward}
 use Rattle.uc_sound.specs.Told.{TellsMaker, Told}
 use Rattle.uc_sound.specs.Rooted.{Within}

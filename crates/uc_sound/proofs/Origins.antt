@@ -10,7 +10,7 @@ use Rattle.uc_resolve.specs.Standings.{routine_from, is_named}
 use Rattle.uc_resolve.specs.Resolve.{event_constructor_from}
 use Rattle.uc_tree.specs.Objects.{is_constructor}
 use Rattle.uc_tree.specs.Names.{same_name}
-use Rattle.uc_agreement.proofs.Ties.{some_same, none_some, false_true}
+use Rattle.uc_sound.proofs.Ties.{some_same, none_some, false_true}
 use Rattle.uc_sound.proofs.Lists.{in_either, in_left, in_right}
 
 module _ (p : Program) where

@@ -27,12 +27,12 @@ use Rattle.uc_rules.specs.ClassBreaks.{form_declares_names, members_declare, is_
 use Rattle.uc_rules.specs.Entities.{is_main_sig}
 use Rattle.uc_rules.specs.ProgramVisits.{program_visits}
 use Rattle.uc_typing.specs.Typing.{Obj, Name, Apart, Sig, Table, Yields}
-use Rattle.uc_agreement.specs.Agreement.{AreLike, Agrees, IsMethod, IsReached}
-use Rattle.uc_agreement.specs.Unbroken.{Unbroken}
-use Rattle.uc_agreement.proofs.Ties.{some_same, none_some, false_true}
-use Rattle.uc_agreement.proofs.UnbrokenLemmas.{holds}
-use Rattle.uc_agreement.proofs.FieldsLemmas.{found}
-use Rattle.uc_sound.specs.Formed.{IsFormed}
+use Rattle.uc_sound.specs.Agreement.{AreLike, Agrees, IsMethod, IsReached}
+use Rattle.uc_sound.specs.Unbroken.{Unbroken}
+use Rattle.uc_sound.proofs.Ties.{some_same, none_some, false_true}
+use Rattle.uc_sound.proofs.UnbrokenLemmas.{holds}
+use Rattle.uc_sound.proofs.FieldsLemmas.{found}
+use Rattle.uc_sound.specs.SoundFormed.{IsFormed}
 use Rattle.uc_sound.specs.Tables.{entity_helps, helps_in, inward_by, inward_in}
 use Rattle.uc_sound.specs.Told.{Told}
 use Rattle.uc_sound.proofs.Lists.{left_is, right_is, both_are, not_either, any_from, in_left, in_right, map_at, get_take, Order, before, same, behind, order}

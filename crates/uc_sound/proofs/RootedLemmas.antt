@@ -37,13 +37,13 @@ use Rattle.uc_rules.specs.ClassBreaks.{is_new_field, fields_at, home_leads_back,
 use Rattle.uc_rules.specs.ExpressionBreaks.{length_breaks, length_value_breaks, is_no_event}
 use Rattle.uc_rules.specs.ProgramVisits.{program_visits, sig_visits, outer_env}
 use Rattle.uc_typing.specs.Typing.{Obj, Name, Sig, Table, Executing, InMutex, Yields, IsInside}
-use Rattle.uc_agreement.specs.Agreement.{StandsBy, Agrees, AgreesIf, IsMethod}
-use Rattle.uc_agreement.specs.Unbroken.{Unbroken, Stands}
-use Rattle.uc_agreement.proofs.Ties.{some_same, none_some, false_true}
-use Rattle.uc_agreement.proofs.UnbrokenLemmas.{none_right, first}
-use Rattle.uc_agreement.proofs.FieldsLemmas.{Found, found, law_fields}
-use Rattle.uc_agreement.proofs.ItemsLemmas.{law_items}
-use Rattle.uc_sound.specs.Formed.{IsFormed}
+use Rattle.uc_sound.specs.Agreement.{StandsBy, Agrees, AgreesIf, IsMethod}
+use Rattle.uc_sound.specs.Unbroken.{Unbroken, Stands}
+use Rattle.uc_sound.proofs.Ties.{some_same, none_some, false_true}
+use Rattle.uc_sound.proofs.UnbrokenLemmas.{none_right, first}
+use Rattle.uc_sound.proofs.FieldsLemmas.{Found, found, law_fields}
+use Rattle.uc_sound.proofs.ItemsLemmas.{law_items}
+use Rattle.uc_sound.specs.SoundFormed.{IsFormed}
 use Rattle.uc_sound.specs.Tables.{of_kind, entity_helps, helps_in, table_of}
 use Rattle.uc_sound.specs.Told.{Told}
 use Rattle.uc_sound.specs.Rooted.{IsStood, Rooted}

@@ -20,10 +20,10 @@ use Rattle.uc_rules.specs.Names.{member_named}
 use Rattle.uc_rules.specs.ProgramVisits.{program_visits}
 use Rattle.uc_typing.specs.Typing.{Name, Kept, Apart, Enters, Sig, Table, IsInside, InMutex, FineStmts}
 use Rattle.uc_typing.specs.States.{IsSorted, LetsGo, Routine_is}
-use Rattle.uc_agreement.specs.Agreement.{param_ty}
-use Rattle.uc_agreement.specs.Unbroken.{Unbroken}
-use Rattle.uc_agreement.proofs.Ties.{some_same, none_some, false_true}
-use Rattle.uc_sound.specs.Formed.{IsFormed}
+use Rattle.uc_sound.specs.Agreement.{param_ty}
+use Rattle.uc_sound.specs.Unbroken.{Unbroken}
+use Rattle.uc_sound.proofs.Ties.{some_same, none_some, false_true}
+use Rattle.uc_sound.specs.SoundFormed.{IsFormed}
 use Rattle.uc_sound.specs.Tables.{of_kind, helps_in, inward_by, role_inward, inward_in, inward_at, routine_sig_in, unwritten_sig, all_sigs, sig_or_none, table_of}
 use Rattle.uc_sound.specs.Routines.{builds, builds_by, unwritten_builds, LawRoutines}
 use Rattle.uc_sound.proofs.Lists.{left_is, right_is, not_is, in_either}

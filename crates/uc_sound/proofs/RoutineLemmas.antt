@@ -31,12 +31,12 @@ use Rattle.uc_rules.specs.Asked.{unless}
 use Rattle.uc_tree.specs.declared.limits.TheConstants.{EVENT_FIELDS, PROGRAM_EVENTS}
 use Rattle.uc_rules.specs.ProgramVisits.{program_visits, sig_visits, outer_env}
 use Rattle.uc_typing.specs.Typing.{IsOpen, Sig as Typed}
-use Rattle.uc_agreement.specs.Agreement.{param_ty, AreLike}
-use Rattle.uc_agreement.specs.Unbroken.{Unbroken}
-use Rattle.uc_agreement.specs.ItemNames.{TellsRoutine, TellsRoutines}
-use Rattle.uc_agreement.proofs.Ties.{some_same, none_some, false_true}
-use Rattle.uc_agreement.proofs.UnbrokenLemmas.{none_right, first, holds}
-use Rattle.uc_sound.specs.Formed.{IsFormed}
+use Rattle.uc_sound.specs.Agreement.{param_ty, AreLike}
+use Rattle.uc_sound.specs.Unbroken.{Unbroken}
+use Rattle.uc_sound.specs.ItemNames.{TellsRoutine, TellsRoutines}
+use Rattle.uc_sound.proofs.Ties.{some_same, none_some, false_true}
+use Rattle.uc_sound.proofs.UnbrokenLemmas.{none_right, first, holds}
+use Rattle.uc_sound.specs.SoundFormed.{IsFormed}
 use Rattle.uc_sound.specs.Tables.{inward_at, table_of}
 use Rattle.uc_sound.proofs.Lists.{implied, left_is, right_is, both_are, not_both, case_of, any_at, any_from, all_from, get_take, Order, before, same, behind, order}
 use Rattle.uc_sound.proofs.Visited.{item_rules, class_own, sig_known}

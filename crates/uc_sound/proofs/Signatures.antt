@@ -15,7 +15,7 @@ use Rattle.uc_tree.specs.Objects.{class_at, written_at, same_role, object_height
 use Rattle.uc_tree.specs.Programs.{Class, Program}
 use Rattle.uc_resolve.specs.Resolve.{routine_scope, place_by}
 use Rattle.uc_typing.specs.Typing.{Sig, IsRoutine}
-use Rattle.uc_agreement.proofs.Ties.{some_same, none_some, false_true}
+use Rattle.uc_sound.proofs.Ties.{some_same, none_some, false_true}
 use Rattle.uc_sound.specs.Tables.{routine_sig_in, written_sigs, unwritten_sig, unwritten_sigs, all_sigs, sig_or_none, table_of}
 use Rattle.uc_sound.proofs.Lists.{both_are, left_is, right_is, in_left, in_right, get_right, within, Order, before, same, behind, order}
 

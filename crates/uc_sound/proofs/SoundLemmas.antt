@@ -32,11 +32,11 @@ use Rattle.uc_rules.specs.Visits.{AtInits, stmts_visits}
 use Rattle.uc_rules.specs.ProgramVisits.{program_visits, sig_visits, body_visits, inits_visits}
 use Rattle.uc_typing.specs.Typing.{Name, Kept, Apart, Main, Sig, Table, IsInside, SetsUp, IsMain, FineStmts}
 use Rattle.uc_typing.specs.States.{LetsGo, Routine_is}
-use Rattle.uc_agreement.specs.Agreement.{param_ty, AreLike}
-use Rattle.uc_agreement.specs.Unbroken.{Unbroken}
-use Rattle.uc_agreement.proofs.Ties.{none_some, false_true}
-use Rattle.uc_agreement.proofs.UnbrokenLemmas.{none_right, first, second, one, holds}
-use Rattle.uc_sound.specs.Formed.{IsFormed}
+use Rattle.uc_sound.specs.Agreement.{param_ty, AreLike}
+use Rattle.uc_sound.specs.Unbroken.{Unbroken}
+use Rattle.uc_sound.proofs.Ties.{none_some, false_true}
+use Rattle.uc_sound.proofs.UnbrokenLemmas.{none_right, first, second, one, holds}
+use Rattle.uc_sound.specs.SoundFormed.{IsFormed}
 use Rattle.uc_sound.specs.Tables.{of_kind, helps_in, inward_by, role_inward, inward_in, inward_at, routine_sig_in, unwritten_sig, all_sigs, sig_or_none, table_of}
 use Rattle.uc_sound.specs.Told.{Told}
 use Rattle.uc_sound.specs.Rooted.{Within}

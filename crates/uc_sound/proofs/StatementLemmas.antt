@@ -40,15 +40,15 @@ use Rattle.uc_rules.specs.OwnerBreaks.{may_switch, may_switch_in, may_accept}
 use Rattle.uc_rules.specs.Visits.{Visit, AtBase, AtReturn, AtSwitch, AtAccept, AtHandlers, AtCaught, AtEvent, AtRaise, AtRaiseTarget, visits, args_visits, condition_visits, maybe_condition_visits, statement_visits, maybe_statement_visits, return_visits, outs_visits, variables_visits, declaration_visits, event_target, event_class_target, raised_visits, events_visits, stmt_visits, stmts_visits, maybe_stmt_visits, handlers_visits, clauses_visits, looped, joined, handling}
 use Rattle.uc_rules.specs.Breaks.{breaks_at}
 use Rattle.uc_typing.specs.Typing.{Ty, Num, Obj, Raw, Name, Kept, Sig, Table, MayCall, Executing, IsPlaced, Among, Yields, GiveAll, Fine, FineStep, FineLoop, FineGuards, FineRaised, FineClauses, FineHandlers, FineStmt, FineStmts, object_ty, IsBare}
-use Rattle.uc_agreement.specs.Agreement.{Agrees, AgreesIf, context}
-use Rattle.uc_agreement.specs.Declarations.{StoodBy}
-use Rattle.uc_agreement.specs.Parts.{Parts}
-use Rattle.uc_agreement.specs.Unbroken.{Unbroken}
-use Rattle.uc_agreement.proofs.Ties.{some_same, none_some, false_true}
-use Rattle.uc_agreement.proofs.UnbrokenLemmas.{none_left, none_right, first, second, one, holds}
-use Rattle.uc_agreement.proofs.Asking.{only, law_parts}
-use Rattle.uc_agreement.proofs.DeclarationsLemmas.{law_declared}
-use Rattle.uc_sound.specs.Formed.{nameless, own_nameless}
+use Rattle.uc_sound.specs.Agreement.{Agrees, AgreesIf, context}
+use Rattle.uc_sound.specs.Declarations.{StoodBy}
+use Rattle.uc_sound.specs.Parts.{Parts}
+use Rattle.uc_sound.specs.Unbroken.{Unbroken}
+use Rattle.uc_sound.proofs.Ties.{some_same, none_some, false_true}
+use Rattle.uc_sound.proofs.UnbrokenLemmas.{none_left, none_right, first, second, one, holds}
+use Rattle.uc_sound.proofs.Asking.{only, law_parts}
+use Rattle.uc_sound.proofs.DeclarationsLemmas.{law_declared}
+use Rattle.uc_sound.specs.SoundFormed.{nameless, own_nameless}
 use Rattle.uc_sound.specs.Tables.{event_locals, raised_locals, caught_ty, caught_locals, declared_locals, stmt_locals, stmts_locals, maybe_locals, handler_locals, handlers_locals, clauses_locals}
 use Rattle.uc_sound.specs.Rooted.{IsStood, Rooted, Within}
 use Rattle.uc_sound.specs.Statements.{Holds, IsBehind, LawStatements}

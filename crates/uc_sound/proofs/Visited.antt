@@ -25,9 +25,9 @@ use Rattle.uc_rules.specs.Scopes.{Env, plain_env, class_around, with_param}
 use Rattle.uc_rules.specs.Visits.{AtBase, AtParam, AtField, AtMark, AtClass, AtItem, AtProgram, AtSig, maybe_visits}
 use Rattle.uc_rules.specs.ProgramVisits.{program_visits, items_visits, item_visits, classes_in, class_visits, members_visits, form_visits, fields_visits, params_visits, base_visits, sig_visits}
 use Rattle.uc_rules.specs.Breaks.{breaks_at, breaks_among}
-use Rattle.uc_agreement.specs.Unbroken.{Unbroken}
-use Rattle.uc_agreement.proofs.Ties.{some_same, none_some}
-use Rattle.uc_agreement.proofs.UnbrokenLemmas.{none_left, first, second, one, holds}
+use Rattle.uc_sound.specs.Unbroken.{Unbroken}
+use Rattle.uc_sound.proofs.Ties.{some_same, none_some}
+use Rattle.uc_sound.proofs.UnbrokenLemmas.{none_left, first, second, one, holds}
 use Rattle.uc_sound.proofs.Lists.{some_is, in_either}
 
 pub sort_holds : (o : Option Sort) (s : Sort) (test : Sort → Bool) (r : Rule) (p : Pos) (more : List Break) → o ≡ Some s → of_sort o test r p ++ more ≡ [] → test s ≡ true

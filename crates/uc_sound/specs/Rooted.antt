@@ -20,8 +20,8 @@ use Rattle.uc_rules.specs.Scopes.{Env, named_behind, own_named}
 use Rattle.uc_rules.specs.Entities.{meant_entity, object_member, open_entity, path_member, takes, is_main, given}
 use Rattle.uc_rules.specs.OwnerBreaks.{is_mutex_field_of, names_condition, may_switch_in, may_accept}
 use Rattle.uc_typing.specs.Typing.{Name, Sig, Table, IsInside, Executing, InMutex}
-use Rattle.uc_agreement.specs.Agreement.{Agrees, AgreesIf, Alike}
-use Rattle.uc_agreement.specs.Unbroken.{Stands}
+use Rattle.uc_sound.specs.Agreement.{Agrees, AgreesIf, Alike}
+use Rattle.uc_sound.specs.Unbroken.{Stands}
 use Rattle.uc_sound.specs.Told.{Told}
 
 -- a name stands for something that is there

@@ -7,8 +7,8 @@ use Rattle.uc_tree.specs.Source.{Routine}
 use Rattle.uc_resolve.specs.Resolve.{source_of}
 use Rattle.uc_rules.specs.ProgramVisits.{program_visits}
 use Rattle.uc_typing.specs.States.{Routine_is}
-use Rattle.uc_agreement.specs.Unbroken.{Unbroken}
-use Rattle.uc_sound.specs.Formed.{IsFormed}
+use Rattle.uc_sound.specs.Unbroken.{Unbroken}
+use Rattle.uc_sound.specs.SoundFormed.{IsFormed}
 use Rattle.uc_sound.specs.Tables.{table_of}
 
 -- whether the routine with a number is a constructor, written or not

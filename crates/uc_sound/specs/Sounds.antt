@@ -10,7 +10,7 @@ use Rattle.uc_tree.specs.Source.{routine_of}
 use Rattle.uc_machine.specs.Quiet.{State, first_state}
 use Rattle.uc_typing.specs.States.{Sound, Typed, IsTask}
 use Rattle.uc_typing.specs.Laws.{GoesOn, ReadsIn}
-use Rattle.uc_sound.specs.Formed.{IsFormed}
+use Rattle.uc_sound.specs.SoundFormed.{IsFormed}
 use Rattle.uc_sound.specs.Tables.{table_of}
 
 abbrev pub LawSound : Type 0

@@ -6,8 +6,8 @@ use Rattle.uc_resolve.specs.Resolve.{Scope, stmts_meant}
 use Rattle.uc_rules.specs.Scopes.{Env}
 use Rattle.uc_rules.specs.Visits.{stmts_visits}
 use Rattle.uc_typing.specs.Typing.{Ty, Name, Sig, Table, Among, FineStmts}
-use Rattle.uc_agreement.specs.Unbroken.{Unbroken}
-use Rattle.uc_sound.specs.Formed.{own_nameless}
+use Rattle.uc_sound.specs.Unbroken.{Unbroken}
+use Rattle.uc_sound.specs.SoundFormed.{own_nameless}
 use Rattle.uc_sound.specs.Tables.{stmts_locals}
 use Rattle.uc_sound.specs.Rooted.{Within}
 

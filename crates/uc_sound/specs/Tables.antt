@@ -22,8 +22,8 @@ use Rattle.uc_rules.specs.declared.rules.NameMeaning.{NameMeaning}
 use Rattle.uc_rules.specs.Names.{member_named}
 use Rattle.uc_rules.specs.Sorts.{sort_of}
 use Rattle.uc_typing.specs.Typing.{Ty, Num, Cell, Obj, Raw, Row, Inward, Apart, Enters, Makes, Helps, Main, Sig, Table, raw}
-use Rattle.uc_agreement.specs.Agreement.{place_ty, param_ty}
-use Rattle.uc_agreement.specs.Fields.{field_ty}
+use Rattle.uc_sound.specs.Agreement.{place_ty, param_ty}
+use Rattle.uc_sound.specs.Fields.{field_ty}
 
 -- what stands at a place of a base
 abbrev pub based_ty : Option Sort → Ty

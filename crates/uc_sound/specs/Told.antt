@@ -17,11 +17,11 @@ use Rattle.uc_resolve.specs.Resolve.{event_constructor}
 use Rattle.uc_rules.specs.Names.{method_sig, constructor_params}
 use Rattle.uc_rules.specs.ProgramVisits.{program_visits}
 use Rattle.uc_typing.specs.Typing.{Obj, Apart, Table, IsBare, IsKept, IsRoutine}
-use Rattle.uc_agreement.specs.Agreement.{place_ty, param_ty, AreLike}
-use Rattle.uc_agreement.specs.Fields.{TellsClass}
-use Rattle.uc_agreement.specs.ItemNames.{TellsRoutines}
-use Rattle.uc_agreement.specs.Unbroken.{Unbroken}
-use Rattle.uc_sound.specs.Formed.{IsFormed}
+use Rattle.uc_sound.specs.Agreement.{place_ty, param_ty, AreLike}
+use Rattle.uc_sound.specs.Fields.{TellsClass}
+use Rattle.uc_sound.specs.ItemNames.{TellsRoutines}
+use Rattle.uc_sound.specs.Unbroken.{Unbroken}
+use Rattle.uc_sound.specs.SoundFormed.{IsFormed}
 use Rattle.uc_sound.specs.Tables.{role_inward, inward_at, table_of}
 
 -- the routine with this number is at an object of the class i, whole or not, and has parameters like these

@@ -34,8 +34,8 @@ use Rattle.uc_rules.specs.Scopes.{Env}
 use Rattle.uc_rules.specs.Entities.{entity_of, part_entity, link_entity, is_input, call_follows, call_target, expected}
 use Rattle.uc_rules.specs.Visits.{AtUse, visits, part_visits, parts_visits, link_visits, chain_visits, args_visits, arg_visits, root_entity}
 use Rattle.uc_rules.specs.Breaks.{breaks_at}
-use Rattle.uc_agreement.specs.Unbroken.{Unbroken}
-use Rattle.uc_agreement.proofs.UnbrokenLemmas.{first, second, one}
+use Rattle.uc_sound.specs.Unbroken.{Unbroken}
+use Rattle.uc_sound.proofs.UnbrokenLemmas.{first, second, one}
 use Rattle.uc_depth_laws.proofs.Kept.{either}
 use Rattle.uc_source_laws.specs.Initialising.{Earlier, AllEarlier}
 

@@ -19,7 +19,7 @@ use Rattle.uc_rules.specs.Names as rules
 use Rattle.uc_rules.specs.Names.{Owned, first_of, place_in, is_field_before, member_named}
 use Rattle.uc_rules.specs.OwnerBreaks.{is_field_origin}
 use Rattle.uc_rules.specs.ProgramVisits.{field_place}
-use Rattle.uc_agreement.proofs.Ties.{some_same, none_some, false_true}
+use Rattle.uc_sound.proofs.Ties.{some_same, none_some, false_true}
 
 -- the fields of a member, and of so many members
 abbrev pub width : MemberForm → ℕ

@@ -47,11 +47,11 @@ use Rattle.uc_rules.specs.Visits.{AtUse, AtInits, visits, stmts_visits}
 use Rattle.uc_rules.specs.ProgramVisits.{program_visits, field_place, field_of, home_member, is_name, is_reference, bound_of, init_arg_visits, init_args_visits, inits_visits, init_target, sig_visits, body_visits}
 use Rattle.uc_rules.specs.Breaks.{breaks_at}
 use Rattle.uc_typing.specs.Typing.{Name, Sig, Table}
-use Rattle.uc_agreement.specs.Agreement.{Alike}
-use Rattle.uc_agreement.specs.Unbroken.{Unbroken}
-use Rattle.uc_agreement.proofs.Ties.{some_same, none_some, false_true}
-use Rattle.uc_agreement.proofs.UnbrokenLemmas.{none_left, none_right, first, second, holds}
-use Rattle.uc_sound.specs.Formed.{IsFormed}
+use Rattle.uc_sound.specs.Agreement.{Alike}
+use Rattle.uc_sound.specs.Unbroken.{Unbroken}
+use Rattle.uc_sound.proofs.Ties.{some_same, none_some, false_true}
+use Rattle.uc_sound.proofs.UnbrokenLemmas.{none_left, none_right, first, second, holds}
+use Rattle.uc_sound.specs.SoundFormed.{IsFormed}
 use Rattle.uc_sound.specs.Tables.{routine_sig_in, all_sigs, table_of}
 use Rattle.uc_sound.specs.Rooted.{Within}
 use Rattle.uc_sound.specs.Routines.{builds, builds_by, unwritten_builds}

@@ -11,8 +11,8 @@ use Rattle.uc_typing.specs.States.{LetsGo, Sound}
 use Rattle.uc_sound.proofs.SoundLemmas.{law_sound}
 use Rattle.uc_sound.proofs.MainLemmas.{main_apart}
 use Rattle.uc_depth_laws.specs.Entering.{lets_go, EnteredClean, EnteredStmt, EnteredStmts, EnteredEvent, EnteredHandlers, EnteredTask, EnteredClauses, EnteredBody, EnteredRoutine, EnteredSource}
-use Rattle.uc_enter_laws.proofs.Freeing.{FreesObject, routine_frees}
-use Rattle.uc_enter_laws.proofs.Routines.{law_entered}
+use Rattle.uc_sound.proofs.Freeing.{FreesObject, routine_frees}
+use Rattle.uc_sound.proofs.Routines.{law_entered}
 use Rattle.uc_inner_laws.specs.Inner as inner
 use Rattle.uc_inner_laws.specs.Inner.{Part, Plain, Helper, Uncalled, Ground, ground_of, under, count, params_at, params, Exists, CalledOn, InnerExpr, InnerExprs, InnerMaybe, InnerItems, InnerTargets, InnerDeclared, InnerClean, InnerRaised, InnerStmt, InnerStmts, InnerEvent, InnerHandlers, InnerClauses, InnerRoutine, InnerSource}
 use Rattle.uc_source_laws.specs.SourceLaws.{part_by, LawInner}

@@ -26,11 +26,11 @@ use Rattle.uc_rules.specs.Visits.{AtBase, AtSig, AtParam}
 use Rattle.uc_rules.specs.ProgramVisits.{program_visits, base_visits, sig_visits, params_visits, body_visits}
 use Rattle.uc_rules.specs.Breaks.{breaks_at}
 use Rattle.uc_typing.specs.Typing.{Num, Apart, Makes, Sig}
-use Rattle.uc_agreement.specs.Agreement.{sort_ty, param_ty}
-use Rattle.uc_agreement.specs.Unbroken.{Unbroken}
-use Rattle.uc_agreement.proofs.Ties.{some_same, none_some, false_true}
-use Rattle.uc_agreement.proofs.UnbrokenLemmas.{none_left, none_right, first, second}
-use Rattle.uc_sound.specs.Formed.{IsFormed}
+use Rattle.uc_sound.specs.Agreement.{sort_ty, param_ty}
+use Rattle.uc_sound.specs.Unbroken.{Unbroken}
+use Rattle.uc_sound.proofs.Ties.{some_same, none_some, false_true}
+use Rattle.uc_sound.proofs.UnbrokenLemmas.{none_left, none_right, first, second}
+use Rattle.uc_sound.specs.SoundFormed.{IsFormed}
 use Rattle.uc_sound.specs.Tables.{inward_by, inward_in, inward_at, routine_sig_in, all_sigs, sig_or_none, table_of}
 use Rattle.uc_sound.proofs.Visited.{sort_holds}
 use Rattle.uc_sound.proofs.Origins.{origin}

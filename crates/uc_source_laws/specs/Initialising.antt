@@ -5,7 +5,7 @@ use Rattle.uc_tree.specs.Programs.{Program}
 use Rattle.uc_tree.specs.Source.{Expr, Exprs, ObjectExpr, Element, Load, AsCharacter, AsTruth, Assign, OfObject, NoExprs, MoreExprs, This, OwnField, GetOwn, Counted, CallOn, CallUnwritten, Bind, MakeOn, NewProcessor, CleanUp, Stmts, Whole, Evaluate, Fill, OfTasks, TaskStmt, Nil, Then, Scoped, Built, Routine}
 use Rattle.uc_resolve.specs.Resolve.{source_of}
 use Rattle.uc_rules.specs.Breaks.{breaks_of}
-use Rattle.uc_sound.specs.Formed.{IsFormed}
+use Rattle.uc_sound.specs.SoundFormed.{IsFormed}
 use Rattle.uc_sound.specs.Routines.{builds}
 use Rattle.uc_inner_laws.specs.Walks as walk
 

@@ -5,7 +5,7 @@ use Rattle.uc_tree.specs.Source.{Routine}
 use Rattle.uc_resolve.specs.Resolve.{source_of}
 use Rattle.uc_rules.specs.Breaks.{breaks_of}
 use Rattle.uc_typing.specs.Typing.{Ty, Num, Obj, Clu, Inward, Apart, Enters, Makes, Helps, Main, Table}
-use Rattle.uc_sound.specs.Formed.{IsFormed}
+use Rattle.uc_sound.specs.SoundFormed.{IsFormed}
 use Rattle.uc_sound.specs.Tables.{table_of}
 use Rattle.uc_inner_laws.specs.Inner.{Part, Plain, Helper, Maker, Uncalled, InnerSource}
 

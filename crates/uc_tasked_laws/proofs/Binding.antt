@@ -10,10 +10,10 @@ use Rattle.uc_machine.specs.Monitors as monitors
 use Rattle.uc_machine.specs.Quiet as quiet
 use Rattle.uc_machine.specs.Pieces as piece
 use Rattle.uc_machine.specs.Pieces.{Value, Object, Todo, Active, State, Env, top, below, written}
-use Rattle.uc_event_laws.specs.Counted.{params_at, params}
-use Rattle.uc_aside_laws.specs.OlderResting.{AllWait, NamedEnv}
-use Rattle.uc_aside_laws.proofs.Keeping as kept
-use Rattle.uc_aside_laws.proofs.Keeping.{either}
+use Rattle.uc_state_laws.specs.Counted.{params_at, params}
+use Rattle.uc_place_laws.specs.OlderResting.{AllWait, NamedEnv}
+use Rattle.uc_place_laws.proofs.AsideKeeping as kept
+use Rattle.uc_place_laws.proofs.AsideKeeping.{either}
 use Rattle.uc_tasked_laws.specs.Seated.{ArePaired, EndsTask, Begins, SpawnsBy, SpawnsSource, OfScope, OfPart, OpensOf}
 use Rattle.uc_tasked_laws.specs.Seats.{Mark, Any, At, seat, Holds, rest, rests, anys, Every, AtEnd, CalledAt, CalledBy, CodeBlock, CodeRoutine, Ok, AtDrop, AtCall}
 use Rattle.uc_tasked_laws.specs.SeatedStates.{Told, IsFreeBut, Awaited, Kept, Done, Begun, Runs, Waits, Calls, Calling, Binds}

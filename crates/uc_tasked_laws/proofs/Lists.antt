@@ -11,8 +11,8 @@ use Rattle.uc_machine.specs.Monitors as monitors
 use Rattle.uc_machine.specs.Quiet as quiet
 use Rattle.uc_machine.specs.Pieces as piece
 use Rattle.uc_machine.specs.Pieces.{Todo, Sort}
-use Rattle.uc_event_laws.specs.Counted.{params, count, CountedExpr, CountedMaybe, CountedItem, CountedClean, CountedRaised, CountedAt}
-use Rattle.uc_aside_laws.proofs.Keeping.{either}
+use Rattle.uc_state_laws.specs.Counted.{params, count, CountedExpr, CountedMaybe, CountedItem, CountedClean, CountedRaised, CountedAt}
+use Rattle.uc_place_laws.proofs.AsideKeeping.{either}
 use Rattle.uc_tasked_laws.specs.Seats.{Mark, Any, At, rest, rests, anys, CalledAt, CalledBy, CodeStmt, CodeBlock, CodeHandlers, CodeClauses, QuitsBy, Quits, QuitsAt, LeftBy, Ok, AtDrop, Left}
 use Rattle.uc_tasked_laws.proofs.Marks as marks
 use Rattle.uc_tasked_laws.proofs.Marks.{rests_anys}

@@ -5,7 +5,7 @@ use Rattle.uc_tree.specs.Source as src
 use Rattle.uc_tree.specs.Source.{Expr, CleanUp, Source}
 use Rattle.uc_machine.specs.Pieces as piece
 use Rattle.uc_machine.specs.Pieces.{Todo, Sort}
-use Rattle.uc_event_laws.specs.Counted.{params}
+use Rattle.uc_state_laws.specs.Counted.{params}
 use Rattle.uc_tasked_laws.specs.Seated.{IsSpawning, IsTame, AreTame, OfScope, OfPart, Makes, Before}
 use Rattle.uc_tasked_laws.specs.Seats.{QuitsBy, Quits, QuitsAt, Mark, Any, At, rest, rests, anys, Placed, Every, AtEnd, CalledBy, after, Ok, AtRest, AtDrop, AtCall, Left}
 use Rattle.uc_tasked_laws.specs.SeatedStates.{MarkHas, AllHave}

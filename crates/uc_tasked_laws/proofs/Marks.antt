@@ -7,7 +7,7 @@ use Rattle.uc_tree.specs.Source.{Expr, CleanUp, Stmts, Source}
 use Rattle.uc_machine.specs.declared.exec.Exec.{Exec}
 use Rattle.uc_machine.specs.Pieces as piece
 use Rattle.uc_machine.specs.Pieces.{Value, Todo, Active, below}
-use Rattle.uc_event_laws.specs.Counted.{params}
+use Rattle.uc_state_laws.specs.Counted.{params}
 use Rattle.uc_tasked_laws.specs.Seated.{IsSpawning, OfScope, OfPart, OpensOf, OpensNone, Makes, Before}
 use Rattle.uc_tasked_laws.specs.Seats.{Mark, Any, At, Holds, rest, rests, anys, Placed, Every, AtEnd, CalledBy, after, Ok, AtRest, AtDrop, AtCall, Left}
 

@@ -17,14 +17,14 @@ use Rattle.uc_machine.specs.Pieces.{Value, Todo, Active, State, Members}
 use Rattle.uc_machine.specs.Quiet.{quiet}
 use Rattle.uc_resolve.specs.Resolve.{source_of}
 use Rattle.uc_rules.specs.Breaks.{breaks_of}
-use Rattle.uc_program_laws.proofs.Others.{run_rests}
-use Rattle.uc_sound.specs.Formed.{IsFormed}
+use Rattle.uc_state_laws.proofs.Others.{run_rests}
+use Rattle.uc_sound.specs.SoundFormed.{IsFormed}
 use Rattle.uc_sound.specs.Tables.{table_of}
 use Rattle.uc_sound.proofs.SoundLemmas.{law_sound}
 use Rattle.uc_site_laws.proofs.Routines.{source_named}
-use Rattle.uc_event_laws.specs.Counted.{CountedRoutine}
-use Rattle.uc_event_laws.proofs.Arguments.{counted_source}
-use Rattle.uc_aside_laws.specs.OlderResting.{AllWait, NamedSlot, NamedParked, NamedHand, NamedMembers}
+use Rattle.uc_state_laws.specs.Counted.{CountedRoutine}
+use Rattle.uc_state_laws.proofs.Arguments.{counted_source}
+use Rattle.uc_place_laws.specs.OlderResting.{AllWait, NamedSlot, NamedParked, NamedHand, NamedMembers}
 use Rattle.uc_tasked_laws.specs.Seated.{SeatedRoutine}
 use Rattle.uc_tasked_laws.specs.Seats.{Every, AtEnd, CodeRoutine, AtRest, AtDrop, Left, Stands, Starts}
 use Rattle.uc_tasked_laws.specs.SeatedStates.{Told, AllHave, Kept, Done, Begun, Finds, Runs, Waits, Calling, RunsNow, SeatedMembers, SeatedState}

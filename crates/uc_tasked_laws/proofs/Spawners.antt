@@ -25,7 +25,7 @@ use Rattle.uc_rules.specs.Breaks.{breaks_of}
 use Rattle.uc_rules.specs.Sorts.{class_sort, sort_of}
 use Rattle.uc_typing.specs.Typing.{Inward, Apart, Makes, Sig, Table}
 use Rattle.uc_typing.specs.States.{IsSorted}
-use Rattle.uc_sound.specs.Formed.{IsFormed}
+use Rattle.uc_sound.specs.SoundFormed.{IsFormed}
 use Rattle.uc_sound.specs.Tables.{sig_or_none, of_kind, inward_by, inward_in, inward_at, role_inward, all_sigs, table_of}
 use Rattle.uc_sound.specs.Told.{TellsMaker}
 use Rattle.uc_sound.proofs.BodyLemmas.{InStep, is_written, nobody_wrote, in_step}

@@ -25,10 +25,10 @@ use Rattle.uc_machine.specs.Polls as polls
 use Rattle.uc_machine.specs.Quiet as quiet
 use Rattle.uc_machine.specs.Pieces as piece
 use Rattle.uc_machine.specs.Pieces.{Value, Number, Place, Running, Object, Nothing, Todo, Sort, Active, State, Env, Members, Step, Goes, Ticks, Asks, Outcome, Gives, Faults, at, in_env, goes, fault, asks, turns, top, below, number, written}
-use Rattle.uc_event_laws.specs.Counted.{params_at, params, count, CountedExpr, CountedExprs, CountedObject, CountedClean}
-use Rattle.uc_aside_laws.specs.OlderResting.{AllWait, NamedEnv, NamedState}
-use Rattle.uc_aside_laws.proofs.Keeping as kept
-use Rattle.uc_aside_laws.proofs.Keeping.{either, tested}
+use Rattle.uc_state_laws.specs.Counted.{params_at, params, count, CountedExpr, CountedExprs, CountedObject, CountedClean}
+use Rattle.uc_place_laws.specs.OlderResting.{AllWait, NamedEnv, NamedState}
+use Rattle.uc_place_laws.proofs.AsideKeeping as kept
+use Rattle.uc_place_laws.proofs.AsideKeeping.{either, tested}
 use Rattle.uc_tasked_laws.specs.Seated.{IsSpawning, IsTame, AreTame, Begins, OpensOf, Makes, Before}
 use Rattle.uc_tasked_laws.specs.Seats.{Mark, Any, At, Holds, rest, rests, anys, Placed, Every, AtEnd, CalledAt, CodeStmt, CodeStmts, CodeBlock, CodeHandlers, CodeRoutine, Quits, QuitsAt, LeftBy, Ok, AtRest, AtDrop, Left, Stands}
 use Rattle.uc_tasked_laws.specs.SeatedStates.{Told, Awaited, Kept, Done, Begun, Runs, Waits, Starting, Standing, Calling, SeatedAsk, FairAt}

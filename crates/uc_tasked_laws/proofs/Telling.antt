@@ -8,7 +8,7 @@ use Rattle.uc_machine.specs.declared.exec.Home.{Home}
 use Rattle.uc_machine.specs.Executions.{Execution}
 use Rattle.uc_machine.specs.Pieces as piece
 use Rattle.uc_machine.specs.Pieces.{Value, Object, Todo, Active, Members}
-use Rattle.uc_aside_laws.specs.OlderResting.{AllWait, NamedSlot, NamedParked, NamedMembers}
+use Rattle.uc_place_laws.specs.OlderResting.{AllWait, NamedSlot, NamedParked, NamedMembers}
 use Rattle.uc_tasked_laws.specs.Seated.{EndsTask, OfScope, OfPart, OpensOf}
 use Rattle.uc_tasked_laws.specs.Seats.{seat}
 use Rattle.uc_tasked_laws.specs.SeatedStates.{Told, IsFree, IsFreeBut, Awaited, OnTop, MarkHas, AllHave, Kept, Done, Begun, Finds, Runs, Waits, Spawning}

@@ -18,11 +18,11 @@ use Rattle.uc_machine.specs.Pieces as piece
 use Rattle.uc_machine.specs.Pieces.{Value, Todo, State, Env, Members, Active, Step, Goes, Ticks, Asks, at, top, below, number}
 use Rattle.uc_machine.specs.Answering.{answered, entered, new_members, with_operand}
 use Rattle.uc_answer_laws.specs.Suiting.{Form, AnObject, AClause, ANumber, AValue, AnEvent, JustGo, IsForm}
-use Rattle.uc_event_laws.specs.Counted.{CountedExpr}
-use Rattle.uc_aside_laws.specs.OlderResting.{AllWait, NamedParked, NamedHand, NamedEnv}
-use Rattle.uc_aside_laws.proofs.Keeping as kept
-use Rattle.uc_aside_laws.proofs.Keeping.{either}
-use Rattle.uc_event_laws.specs.Marked.{operands}
+use Rattle.uc_state_laws.specs.Counted.{CountedExpr}
+use Rattle.uc_place_laws.specs.OlderResting.{AllWait, NamedParked, NamedHand, NamedEnv}
+use Rattle.uc_place_laws.proofs.AsideKeeping as kept
+use Rattle.uc_place_laws.proofs.AsideKeeping.{either}
+use Rattle.uc_state_laws.specs.Marked.{operands}
 use Rattle.uc_tasked_laws.specs.Seated.{SpawnsSource}
 use Rattle.uc_tasked_laws.specs.Seats.{Mark, Any, Holds, rest, CodeStmt, CodeRoutine, Ok, Stands, Starts}
 use Rattle.uc_tasked_laws.specs.SeatedStates.{Told, Kept, Done, Begun, IsOk, Finds, Runs, Waits, Calling, RunsNow, SeatedMembers, SeatedState, SeatedRest, SeatedStep, FairAt, Fair}

@@ -40,21 +40,21 @@ use Rattle.uc_machine.specs.Rides as rides
 use Rattle.uc_machine.specs.Rides.{Rides}
 use Rattle.uc_meaning.specs.Runs.{World, AsksIn, May, Runs as RunsIn, gives, no_room, acts, begun, more, bare, with_home, hand_of, drawn, or_else, world_after}
 use Rattle.uc_resolve.specs.Resolve.{source_of}
-use Rattle.uc_program_laws.specs.Fitting.{MayFit, RunFits}
-use Rattle.uc_program_laws.proofs.Alive.{law_alive}
-use Rattle.uc_program_laws.proofs.Makes.{law_ends}
-use Rattle.uc_program_laws.proofs.Others.{RunRests, may_ask, run_rests}
+use Rattle.uc_state_laws.specs.Fitting.{MayFit, RunFits}
+use Rattle.uc_state_laws.proofs.Alive.{law_alive}
+use Rattle.uc_state_laws.proofs.Makes.{law_ends}
+use Rattle.uc_state_laws.proofs.Others.{RunRests, may_ask, run_rests}
 use Rattle.uc_answer_laws.specs.Suiting.{JustGo, asked_form, form_of_request}
 use Rattle.uc_answer_laws.proofs.Told.{form_push, SpotSuits}
 use Rattle.uc_answer_laws.proofs.Runs.{kept_run, law_suiting}
 use Rattle.uc_answer_laws.proofs.Asking.{law_asking}
-use Rattle.uc_scope_laws.specs.RoomRuns as rooms
-use Rattle.uc_scope_laws.specs.RoomRuns.{Leads, Comes}
-use Rattle.uc_value_laws.specs.Opens.{RideMeets, MayMeet, LeadsMeet}
-use Rattle.uc_aside_laws.specs.OlderResting.{AllWait, NamedParked, NamedHand}
-use Rattle.uc_event_laws.specs.Marked.{operands}
-use Rattle.uc_aside_laws.proofs.Keeping as kept
-use Rattle.uc_aside_laws.proofs.Keeping.{either}
+use Rattle.uc_state_laws.specs.RoomRuns as rooms
+use Rattle.uc_state_laws.specs.RoomRuns.{Leads, Comes}
+use Rattle.uc_state_laws.specs.Opens.{RideMeets, MayMeet, LeadsMeet}
+use Rattle.uc_place_laws.specs.OlderResting.{AllWait, NamedParked, NamedHand}
+use Rattle.uc_state_laws.specs.Marked.{operands}
+use Rattle.uc_place_laws.proofs.AsideKeeping as kept
+use Rattle.uc_place_laws.proofs.AsideKeeping.{either}
 use Rattle.uc_tasked_laws.specs.Seated.{SpawnsSource}
 use Rattle.uc_tasked_laws.specs.Seats.{CodeRoutine}
 use Rattle.uc_tasked_laws.specs.SeatedStates.{Told, Finds, Runs, Waits, FindsBehind, Fair, SeatedMembers, SeatedState, SeatedRest, SeatedAsk, SeatedStep}

@@ -10,9 +10,9 @@ use Rattle.uc_machine.specs.Pieces as piece
 use Rattle.uc_machine.specs.Pieces.{Value, Object, Todo, Active, State, Members, Step, Goes, Ticks, Asks, top, below}
 use Rattle.uc_machine.specs.Raising.{arrives}
 use Rattle.uc_answer_laws.specs.Suiting.{form_of_request}
-use Rattle.uc_event_laws.specs.Counted.{params}
-use Rattle.uc_event_laws.specs.Marked.{operands}
-use Rattle.uc_aside_laws.specs.OlderResting.{AllWait, NamedMembers, NamedEnv}
+use Rattle.uc_state_laws.specs.Counted.{params}
+use Rattle.uc_state_laws.specs.Marked.{operands}
+use Rattle.uc_place_laws.specs.OlderResting.{AllWait, NamedMembers, NamedEnv}
 use Rattle.uc_tasked_laws.specs.Seated.{ArePaired, EndsTask, OfScope, OfPart, OpensOf}
 use Rattle.uc_tasked_laws.specs.Seats.{Mark, seat, Holds, anys, Every, Ok, AtDrop, Stands, Starts}
 

@@ -8,7 +8,7 @@ use Rattle.uc_machine.specs.declared.exec.Exec.{Exec}
 use Rattle.uc_machine.specs.declared.exec.Owner.TheVariants.{Frame}
 use Rattle.uc_machine.specs.Pieces as piece
 use Rattle.uc_machine.specs.Pieces.{Slot, FieldAt, Value, Place, Nothing, Todo, Sort, sort, top, below, further}
-use Rattle.uc_event_laws.specs.Counted.{params, count, CountedExpr, CountedExprs, CountedMaybe, CountedItems, CountedTargets, CountedDeclared, CountedClean, CountedStmt, CountedStmts, CountedHandlers, CountedClauses}
+use Rattle.uc_state_laws.specs.Counted.{params, count, CountedExpr, CountedExprs, CountedMaybe, CountedItems, CountedTargets, CountedDeclared, CountedClean, CountedStmt, CountedStmts, CountedHandlers, CountedClauses}
 use Rattle.uc_tasked_laws.specs.Seated.{ArePaired, IsSpawning, IsTame, AreTame, Begins, OfScope, OfPart, OpensOf, OpensNone, Makes, Before, SeatedStmt, SeatedStmts, SeatedHandlers, SeatedClauses}
 
 -- what is known of an operand: nothing, or that it is the place which this finds

@@ -12,11 +12,11 @@ use Rattle.uc_answer_laws.specs.Suiting.{Form, IsForm}
 use Rattle.uc_resolve.specs.Resolve.{source_of}
 use Rattle.uc_rules.specs.Breaks.{breaks_of}
 use Rattle.uc_typing.specs.Typing.{Ty, Cell, Obj, Table}
-use Rattle.uc_sound.specs.Formed.{IsFormed}
+use Rattle.uc_sound.specs.SoundFormed.{IsFormed}
 use Rattle.uc_sound.specs.Tables.{table_of}
-use Rattle.uc_event_laws.specs.Counted.{CountedSource}
-use Rattle.uc_event_laws.specs.Marked.{operands}
-use Rattle.uc_aside_laws.specs.OlderResting.{AllWait, NamedEnv}
+use Rattle.uc_state_laws.specs.Counted.{CountedSource}
+use Rattle.uc_state_laws.specs.Marked.{operands}
+use Rattle.uc_place_laws.specs.OlderResting.{AllWait, NamedEnv}
 use Rattle.uc_life_laws.specs.Things.{AtVariable, AtField, NoBase, InStack}
 use Rattle.uc_tasked_laws.specs.Seated.{SeatedSource, SpawnsSource}
 use Rattle.uc_tasked_laws.specs.SeatedStates.{Told, IsFree, Finds, Runs, Waits, SeatedState, SeatedRest, SeatedStep, Fair}

@@ -12,13 +12,13 @@ use Rattle.uc_machine.specs.declared.exec.Home.TheVariants.{Task, Object}
 use Rattle.uc_machine.specs.Pieces.{Value, Active, State}
 use Rattle.uc_machine.specs.Answering.{answered}
 use Rattle.uc_meaning.specs.Runs.{World, Runs, drawn, begun, more}
-use Rattle.uc_program_laws.specs.Fitting.{RunFits}
+use Rattle.uc_state_laws.specs.Fitting.{RunFits}
 use Rattle.uc_resolve.specs.Resolve.{source_of}
 use Rattle.uc_rules.specs.Breaks.{breaks_of}
-use Rattle.uc_scope_laws.specs.RoomRuns.{Comes}
-use Rattle.uc_value_laws.specs.Opens.{MayMeet, LeadsMeet}
-use Rattle.uc_sound.specs.Formed.{IsFormed}
-use Rattle.uc_aside_laws.specs.OlderResting.{AllWait, NamedParked, NamedMembers, NamedEnv}
+use Rattle.uc_state_laws.specs.RoomRuns.{Comes}
+use Rattle.uc_state_laws.specs.Opens.{MayMeet, LeadsMeet}
+use Rattle.uc_sound.specs.SoundFormed.{IsFormed}
+use Rattle.uc_place_laws.specs.OlderResting.{AllWait, NamedParked, NamedMembers, NamedEnv}
 use Rattle.uc_tasked_laws.specs.Seated.{EndsTask}
 use Rattle.uc_tasked_laws.specs.Seats.{seat}
 use Rattle.uc_tasked_laws.specs.SeatedStates.{Told, Awaited, Kept, AllHave, Fair}

@@ -5,7 +5,7 @@ ghost use Rattle.uc_tree.specs.declared.limits.TheConstants.{PROGRAM_BYTES, INPU
 ghost use Rattle.uc_tree.specs.Tokens.{tokens, Refused};
 ghost use Rattle.uc_outside.specs.Reading.{KeepsFiles, ReadBytes};
 ghost use Rattle.uc_words.specs.Rest.{command_of, number_of};
-ghost use Rattle.uc_sound.specs.Formed.{IsFormed};
+ghost use Rattle.uc_sound.specs.SoundFormed.{IsFormed};
 ghost use Rattle.uc_top.specs.Accepted.{place_of};
 ghost use Rattle.uc_top.specs.Commands.{HasDone, CommandDid, ReadsTexts, ReadsInput, TextExplained, JournalExplained};
 ghost use Rattle.uc_top.specs.Refusals.{Refuses};

@@ -6,7 +6,7 @@ ghost use Rattle.uc_tree.specs.Sizes.{program_size};
 ghost use Rattle.uc_tree.specs.declared.limits.TheConstants.{INPUT_BYTES, MAKE_MAX, OPS_FOR_SIZE};
 ghost use Rattle.uc_resolve.specs.Resolve.{source_of};
 ghost use Rattle.uc_rules.specs.Breaks.{breaks_of};
-ghost use Rattle.uc_sound.specs.Formed.{IsFormed};
+ghost use Rattle.uc_sound.specs.SoundFormed.{IsFormed};
 ghost use Rattle.uc_top.specs.Accepted.{IsAccepted};
 ghost use Rattle.uc_code.specs.Layout.{laid_of};
 ghost use Rattle.uc_code.specs.Pace.{IsPaced};

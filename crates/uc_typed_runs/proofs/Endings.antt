@@ -7,12 +7,12 @@ use Rattle.uc_typing.specs.Typing.{Ty, Cell, Clu, Pro, Name, Sig, Table, object_
 use Rattle.uc_typing.specs.Pieces.{onto, CallsOn, Ok}
 use Rattle.uc_typing.specs.States.{IsNumbered, IsObjectBy, Is, Typed, ReadsVariable, ReadsPlace}
 use Rattle.uc_typing.specs.Laws.{ReadsIn}
-use Rattle.uc_value_laws.specs.There.{HoldsObject, AllThere, Any, frame_at}
-use Rattle.uc_value_laws.specs.ThereStates.{ThereState}
-use Rattle.uc_value_laws.specs.NewClusters.{GoodState}
-use Rattle.uc_value_laws.proofs.Cells.{held_there}
-use Rattle.uc_value_laws.proofs.Readings.{running}
-use Rattle.uc_value_laws.specs.Endings.{reading, still_reading, End, OnObject, OfCluster, OfProcessor, end_expr, behind_end}
+use Rattle.uc_state_laws.specs.There.{HoldsObject, AllThere, Any, frame_at}
+use Rattle.uc_state_laws.specs.ThereStates.{ThereState}
+use Rattle.uc_state_laws.specs.NewClusters.{GoodState}
+use Rattle.uc_state_laws.proofs.Cells.{held_there}
+use Rattle.uc_state_laws.proofs.Readings.{running}
+use Rattle.uc_state_laws.specs.Endings.{reading, still_reading, End, OnObject, OfCluster, OfProcessor, end_expr, behind_end}
 use Rattle.uc_typed_runs.proofs.Openings.{fill_end, no_end, point_end}
 
 abbrev pub IsHeld : ℕ → State → Type 0

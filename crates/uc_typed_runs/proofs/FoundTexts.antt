@@ -12,28 +12,28 @@ use Rattle.uc_machine.specs.Answering.{answered}
 use Rattle.uc_machine.specs.Rides as rides
 use Rattle.uc_machine.specs.Rides.{Rides}
 use Rattle.uc_meaning.specs.Runs.{World, Runs, drawn, gives, no_room, acts, begun, more}
-use Rattle.uc_program_laws.specs.Fitting.{RunFits}
+use Rattle.uc_state_laws.specs.Fitting.{RunFits}
 use Rattle.uc_resolve.specs.Resolve.{source_of}
-use Rattle.uc_scope_laws.specs.RoomRuns as runs
-use Rattle.uc_scope_laws.specs.RoomRuns.{Leads, Comes}
+use Rattle.uc_state_laws.specs.RoomRuns as runs
+use Rattle.uc_state_laws.specs.RoomRuns.{Leads, Comes}
 use Rattle.uc_typing.specs.Typing.{Table}
 use Rattle.uc_typing.specs.Laws.{ReadsIn}
 use Rattle.uc_sound.specs.Sounds.{of_program}
-use Rattle.uc_sound.specs.Formed.{IsFormed}
+use Rattle.uc_sound.specs.SoundFormed.{IsFormed}
 use Rattle.uc_sound.specs.Tables.{table_of}
-use Rattle.uc_formed.specs.WellTyped.{IsTextOf, IsWellTyped}
-use Rattle.uc_formed.proofs.Texts.{text_formed, law_well_typed}
-use Rattle.uc_value_laws.specs.Endings.{still_reading, RideHolds, RunHolds, LeadsHold}
-use Rattle.uc_value_laws.specs.Opens.{Opens, RideMeets, RunMeets, LeadsMeet}
-use Rattle.uc_address_laws.specs.Limits.{IsWithinLimits}
-use Rattle.uc_binding_laws.proofs.OpenRuns.{law_opens}
+use Rattle.uc_sound.specs.WellTyped.{IsTextOf, IsWellTyped}
+use Rattle.uc_sound.proofs.Texts.{text_formed, law_well_typed}
+use Rattle.uc_state_laws.specs.Endings.{still_reading, RideHolds, RunHolds, LeadsHold}
+use Rattle.uc_state_laws.specs.Opens.{Opens, RideMeets, RunMeets, LeadsMeet}
+use Rattle.uc_state_laws.specs.Limits.{IsWithinLimits}
+use Rattle.uc_place_laws.proofs.OpenRuns.{law_opens}
 use Rattle.uc_life_laws.specs.OpenedRuns.{MeetsObjects, IsFollowed}
 use Rattle.uc_life_laws.specs.Endings.{ObjectsOutside, ObjectsAreMet}
 use Rattle.uc_life_laws.proofs.Endings.{law_endings}
 use Rattle.uc_life_laws.proofs.OpenedRuns.{law_opened_runs}
-use Rattle.uc_found_runs.specs.FoundReads.{ObjectsFoundOutside}
-use Rattle.uc_found_runs.specs.FoundRuns.{AllIsFound}
-use Rattle.uc_found_runs.proofs.FoundRuns.{law_found_objects}
+use Rattle.uc_life_laws.specs.FoundReads.{ObjectsFoundOutside}
+use Rattle.uc_life_laws.specs.FoundRuns.{AllIsFound}
+use Rattle.uc_life_laws.proofs.FoundRuns.{law_found_objects}
 use Rattle.uc_typed_runs.specs.TypedRuns.{Reading, IsTyped}
 use Rattle.uc_typed_runs.specs.FoundTexts.{Founds, FoundsOutside, LawFoundTexts}
 use Rattle.uc_typed_runs.proofs.Worlds.{law_typed_runs}

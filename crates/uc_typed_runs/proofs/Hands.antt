@@ -12,14 +12,14 @@ use Rattle.uc_answer_laws.specs.Suiting.{IsForm, form_of_request}
 use Rattle.uc_machine.specs.Quiet.{State, Members, Step, Goes, Ticks, Asks, quiet}
 use Rattle.uc_machine.specs.Answering.{with_hand}
 use Rattle.uc_machine.specs.Rides.{Rides, slices, goes_on, ticks, asks}
-use Rattle.uc_scope_laws.specs.RoomRuns.{Leads, stays, goes, ticks as by_tick}
+use Rattle.uc_state_laws.specs.RoomRuns.{Leads, stays, goes, ticks as by_tick}
 use Rattle.uc_meaning.specs.Runs.{with_home, hand_of, or_else}
 use Rattle.uc_typing.specs.Typing.{Num, Raw, Clu, Pro, Table}
 use Rattle.uc_typing.specs.States.{Sound, Typed, Asked as AskedIn, After, Inhand, Suits}
 use Rattle.uc_typing.specs.Laws.{ReadsIn}
 use Rattle.uc_typing.proofs.Answers.{handed}
 use Rattle.uc_typing.proofs.Keeps.{keeps}
-use Rattle.uc_value_laws.specs.Endings.{still_reading, RideHolds, LeadsHold}
+use Rattle.uc_state_laws.specs.Endings.{still_reading, RideHolds, LeadsHold}
 use Rattle.uc_typed_runs.specs.TypedRuns.{Reading, AtHome}
 
 -- an answer of the form that a request asks for suits it

@@ -5,10 +5,10 @@ use Rattle.uc_tree.specs.Source.{Expr, Stmt, Stmts}
 use Rattle.uc_machine.specs.Pieces.{Todo, Eval, State}
 use Rattle.uc_typing.specs.Typing.{Ty, Name, Sig, Table}
 use Rattle.uc_typing.specs.States.{ReadsVariable, ReadsPlace}
-use Rattle.uc_value_laws.specs.Declaring.{Point, Declares, Lists, Clears, Cleared, Passes, Reaches, point_todo}
-use Rattle.uc_value_laws.specs.Filling as fill
-use Rattle.uc_value_laws.specs.NewClusters.{Stage, Does, Binds, Places, Makes, Orders, Told, Bound, Leaves, Opens, stage_todo}
-use Rattle.uc_value_laws.specs.Endings.{reading}
+use Rattle.uc_state_laws.specs.Declaring.{Point, Declares, Lists, Clears, Cleared, Passes, Reaches, point_todo}
+use Rattle.uc_state_laws.specs.Filling as fill
+use Rattle.uc_state_laws.specs.NewClusters.{Stage, Does, Binds, Places, Makes, Orders, Told, Bound, Leaves, Opens, stage_todo}
+use Rattle.uc_state_laws.specs.Endings.{reading}
 
 module _ (k l : ℕ) (ss : Stmts) (todo : List Todo) where
   pub no_end : (g : Stage) → reading (stage_todo g k l ss todo) ≡ 0

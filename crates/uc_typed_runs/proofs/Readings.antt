@@ -16,24 +16,24 @@ use Rattle.uc_machine.specs.Answering.{answered}
 use Rattle.uc_machine.specs.Rides as rides
 use Rattle.uc_machine.specs.Rides.{Rides}
 use Rattle.uc_meaning.specs.Runs.{World, May, Runs, drawn, gives, no_room, acts, begun, more}
-use Rattle.uc_program_laws.specs.Fitting.{RunFits}
+use Rattle.uc_state_laws.specs.Fitting.{RunFits}
 use Rattle.uc_resolve.specs.Resolve.{source_of}
-use Rattle.uc_scope_laws.specs.RoomRuns.{Leads, Comes, stays, goes, ticks}
+use Rattle.uc_state_laws.specs.RoomRuns.{Leads, Comes, stays, goes, ticks}
 use Rattle.uc_typing.specs.Typing.{Table}
 use Rattle.uc_typing.specs.States.{Sound, Typed, ReadsVariable, ReadsPlace}
 use Rattle.uc_typing.specs.Laws.{ReadsIn}
 use Rattle.uc_sound.specs.Sounds.{of_program}
 use Rattle.uc_sound.specs.Tables.{table_of}
-use Rattle.uc_formed.specs.WellTyped.{IsTextOf, IsWellTyped}
-use Rattle.uc_formed.proofs.Texts.{text_formed, law_well_typed}
-use Rattle.uc_value_laws.specs.NewClusters.{GoodState}
-use Rattle.uc_value_laws.specs.Reading.{ReadsElement}
-use Rattle.uc_value_laws.specs.Opens.{Opens, LeadsOpen, RideOpens, MayOpen, RunOpens}
-use Rattle.uc_value_laws.proofs.Readings.{law_reading}
-use Rattle.uc_value_laws.proofs.Worlds.{law_runs}
-use Rattle.uc_address_laws.specs.Limits.{IsWithinLimits}
-use Rattle.uc_binding_laws.proofs.OpenRuns.{law_opens}
-use Rattle.uc_value_laws.specs.Endings.{still_reading, RideHolds, MayHold, RunHolds, LeadsHold}
+use Rattle.uc_sound.specs.WellTyped.{IsTextOf, IsWellTyped}
+use Rattle.uc_sound.proofs.Texts.{text_formed, law_well_typed}
+use Rattle.uc_state_laws.specs.NewClusters.{GoodState}
+use Rattle.uc_state_laws.specs.Reading.{ReadsElement}
+use Rattle.uc_state_laws.specs.Opens.{Opens, LeadsOpen, RideOpens, MayOpen, RunOpens}
+use Rattle.uc_state_laws.proofs.Readings.{law_reading}
+use Rattle.uc_state_laws.proofs.ValueWorlds.{law_runs}
+use Rattle.uc_state_laws.specs.Limits.{IsWithinLimits}
+use Rattle.uc_place_laws.proofs.OpenRuns.{law_opens}
+use Rattle.uc_state_laws.specs.Endings.{still_reading, RideHolds, MayHold, RunHolds, LeadsHold}
 use Rattle.uc_typed_runs.specs.TypedRuns.{Reading, Following, IsTyped, LawTypedTexts}
 use Rattle.uc_typed_runs.proofs.Endings.{Ending, EndingStep, at_goes, at_ticks, ending, reads as reads_ending}
 use Rattle.uc_typed_runs.proofs.Hands.{behind}

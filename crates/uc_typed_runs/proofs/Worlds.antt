@@ -20,7 +20,7 @@ use Rattle.uc_acts.specs.Acts.{act, row, fault, is_faulty, dispatch, lone_limit}
 use Rattle.uc_acts.specs.KernelRuns.{InRange, MayAsk, KernelRuns}
 use Rattle.uc_acts.proofs.Living.{going_row}
 use Rattle.uc_acts.proofs.Rest.{settled_calm}
-use Rattle.uc_agreement.proofs.Ties.{false_true}
+use Rattle.uc_sound.proofs.Ties.{false_true}
 use Rattle.uc_acts.proofs.Bounds.{over_limit}
 use Rattle.uc_answer_laws.specs.Suiting.{Form, IsForm, JustGo, asked_form}
 use Rattle.uc_answer_laws.proofs.Told.{SpotSuits, form_push, no_both}
@@ -29,16 +29,16 @@ use Rattle.uc_answer_laws.proofs.Asking.{law_asking}
 use Rattle.uc_machine.specs.Quiet.{State, no_members, first_state}
 use Rattle.uc_machine.specs.Answering.{answered, child_of, child_main}
 use Rattle.uc_meaning.specs.Runs.{World, May, Runs, AsksIn, first_world, hand_of, drawn, or_else, world_after, bare, gives, no_room, acts, begun, more}
-use Rattle.uc_scope_laws.specs.RoomRuns.{Comes}
-use Rattle.uc_program_laws.specs.Fitting.{MayFit, RunFits}
-use Rattle.uc_program_laws.proofs.Makes.{law_ends}
-use Rattle.uc_program_laws.proofs.Alive.{law_alive}
-use Rattle.uc_program_laws.proofs.Others.{run_rests, may_ask}
+use Rattle.uc_state_laws.specs.RoomRuns.{Comes}
+use Rattle.uc_state_laws.specs.Fitting.{MayFit, RunFits}
+use Rattle.uc_state_laws.proofs.Makes.{law_ends}
+use Rattle.uc_state_laws.proofs.Alive.{law_alive}
+use Rattle.uc_state_laws.proofs.Others.{run_rests, may_ask}
 use Rattle.uc_typing.specs.Typing.{Table}
 use Rattle.uc_typing.specs.States.{Sound, Typed, IsTask, Asked as AskedIn, Inhand}
 use Rattle.uc_typing.proofs.Answers.{begins, law_answered}
 use Rattle.uc_typing.proofs.Finding.{law_finds}
-use Rattle.uc_value_laws.specs.Endings.{RideHolds, MayHold, RunHolds, LeadsHold}
+use Rattle.uc_state_laws.specs.Endings.{RideHolds, MayHold, RunHolds, LeadsHold}
 use Rattle.uc_typed_runs.specs.TypedRuns.{Reading, Awaits, AtHome, LawTypedRuns}
 use Rattle.uc_typed_runs.proofs.Spawning.{Spawned, spawner, ended_before}
 use Rattle.uc_typed_runs.proofs.Hands.{suits, asked_handed, asked_hand, rides_typed, leads_typed, found_home, drawn_hand, either_home}

@@ -10,18 +10,18 @@ use Rattle.uc_machine.specs.Pieces.{Rest}
 use Rattle.uc_machine.specs.Quiet.{State, Todo}
 use Rattle.uc_machine.specs.Answering.{answered}
 use Rattle.uc_meaning.specs.Runs.{World, Runs, drawn}
-use Rattle.uc_program_laws.specs.Fitting.{RunFits}
+use Rattle.uc_state_laws.specs.Fitting.{RunFits}
 use Rattle.uc_resolve.specs.Resolve.{source_of}
-use Rattle.uc_scope_laws.specs.RoomRuns.{Comes}
+use Rattle.uc_state_laws.specs.RoomRuns.{Comes}
 use Rattle.uc_typing.specs.Typing.{Table}
 use Rattle.uc_sound.specs.Tables.{table_of}
-use Rattle.uc_formed.specs.WellTyped.{IsTextOf}
-use Rattle.uc_value_laws.specs.Endings.{RunHolds, LeadsHold}
-use Rattle.uc_address_laws.specs.Limits.{IsWithinLimits}
+use Rattle.uc_sound.specs.WellTyped.{IsTextOf}
+use Rattle.uc_state_laws.specs.Endings.{RunHolds, LeadsHold}
+use Rattle.uc_state_laws.specs.Limits.{IsWithinLimits}
 use Rattle.uc_life_laws.specs.LifeStates.{LifeState}
 use Rattle.uc_life_laws.specs.Knowing.{KnowsState}
 use Rattle.uc_life_laws.specs.Opened.{any}
-use Rattle.uc_found_runs.specs.FoundReads.{ObjectsRight, Reads}
+use Rattle.uc_life_laws.specs.FoundReads.{ObjectsRight, Reads}
 use Rattle.uc_typed_runs.specs.TypedRuns.{IsTyped}
 
 -- where a scope of plain objects opens, these are right, and by some typing what the next step reads is, where no state tells it

@@ -12,18 +12,18 @@ use Rattle.uc_answer_laws.specs.Suiting.{Form, form_of_request, asked_form}
 use Rattle.uc_machine.specs.Quiet.{State, Members, Todo}
 use Rattle.uc_machine.specs.Answering.{answered}
 use Rattle.uc_meaning.specs.Runs.{World, Runs, drawn}
-use Rattle.uc_program_laws.specs.Fitting.{RunFits}
-use Rattle.uc_scope_laws.specs.RoomRuns.{Leads, Comes}
+use Rattle.uc_state_laws.specs.Fitting.{RunFits}
+use Rattle.uc_state_laws.specs.RoomRuns.{Leads, Comes}
 use Rattle.uc_resolve.specs.Resolve.{source_of}
 use Rattle.uc_typing.specs.Typing.{Table}
 use Rattle.uc_typing.specs.States.{Sound, Typed, ReadsPlace, IsTask, Asked as AskedIn, Parked}
 use Rattle.uc_typing.specs.Laws.{ReadsIn}
 use Rattle.uc_typing.specs.Finds.{Finds}
 use Rattle.uc_sound.specs.Tables.{table_of}
-use Rattle.uc_formed.specs.WellTyped.{IsTextOf}
-use Rattle.uc_value_laws.specs.Endings.{RunHolds, LeadsHold}
-use Rattle.uc_value_laws.specs.Reading.{ReadsElement}
-use Rattle.uc_address_laws.specs.Limits.{IsWithinLimits}
+use Rattle.uc_sound.specs.WellTyped.{IsTextOf}
+use Rattle.uc_state_laws.specs.Endings.{RunHolds, LeadsHold}
+use Rattle.uc_state_laws.specs.Reading.{ReadsElement}
+use Rattle.uc_state_laws.specs.Limits.{IsWithinLimits}
 
 -- What is read of bindings is of its type.
 abbrev pub Reading : Table → ℕ → State → Type 0

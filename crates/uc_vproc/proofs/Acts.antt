@@ -24,9 +24,9 @@ use Rattle.uc_step.specs.WeightFalls.{Keeps}
 use Rattle.uc_ride.specs.RideStands.{Rode}
 use Rattle.uc_ride.specs.UnwindingFalls.{ChildKeeps}
 use Rattle.uc_meaning.specs.Runs.{World, Runs, IsPrefix, more, acts, AsksIn, bare, drawn, world_after, hand_of}
-use Rattle.uc_program_laws.specs.Fitting.{RunFits}
-use Rattle.uc_program_laws.specs.Laws.{AllLeft}
-use Rattle.uc_program_laws.proofs.Ticks.{left_act}
+use Rattle.uc_state_laws.specs.Fitting.{RunFits}
+use Rattle.uc_state_laws.specs.Laws.{AllLeft}
+use Rattle.uc_state_laws.proofs.Ticks.{left_act}
 use Rattle.uc_kernel.specs.AtRest.{IsMake}
 use Rattle.uc_kernel.specs.Numbered.{keys, or_else}
 use Rattle.uc_kernel.specs.KernelState.{Brought, Store, kept, Kept, put_back, handed}

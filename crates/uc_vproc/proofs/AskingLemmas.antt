@@ -21,13 +21,13 @@ use Rattle.uc_frames.specs.StandsByParts.{Numbered}
 use Rattle.uc_ride.specs.RideStands.{BornAs, Rode}
 use Rattle.uc_meaning.specs.Runs.{AsksIn, drawn}
 use Rattle.uc_step_laws.specs.Hands as hands
-use Rattle.uc_program_laws.specs.Laws.{AsksWith}
-use Rattle.uc_program_laws.proofs.Others.{law_hand}
-use Rattle.uc_program_laws.proofs.NamedWorlds.{law_names}
+use Rattle.uc_state_laws.specs.Laws.{AsksWith}
+use Rattle.uc_state_laws.proofs.Others.{law_hand}
+use Rattle.uc_state_laws.proofs.NamedWorlds.{law_names}
 use Rattle.uc_site_laws.specs.Named.{NamedSource}
-use Rattle.uc_event_laws.specs.Counted.{CountedSource}
-use Rattle.uc_event_laws.proofs.MarkedWorlds.{law_events}
-use Rattle.uc_hand_laws.proofs.DeepWorlds.{law_calls}
+use Rattle.uc_state_laws.specs.Counted.{CountedSource}
+use Rattle.uc_state_laws.proofs.MarkedWorlds.{law_events}
+use Rattle.uc_state_laws.proofs.DeepWorlds.{law_calls}
 use Rattle.uc_site_laws.specs.Naming.{NamesKnown}
 use Rattle.uc_kernel.specs.Numbered.{keys}
 use Rattle.uc_kernel.specs.KernelState.{Brought, Kept}

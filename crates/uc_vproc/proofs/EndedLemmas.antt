@@ -14,8 +14,8 @@ use Rattle.uc_acts.specs.Acts.{act, dispatch}
 use Rattle.uc_acts.specs.KernelRuns.{KernelRuns, more as more_in, acts as acts_in, gives as gives_in}
 use Rattle.uc_acts.proofs.Bounds.{over_push}
 use Rattle.uc_frames.specs.Machine.{Machine, Members}
-use Rattle.uc_program_laws.proofs.Alive.{law_alive}
-use Rattle.uc_program_laws.proofs.Makes.{law_ends}
+use Rattle.uc_state_laws.proofs.Alive.{law_alive}
+use Rattle.uc_state_laws.proofs.Makes.{law_ends}
 use Rattle.uc_kernel.specs.KernelState.{Brought, Kept}
 use Rattle.uc_kernel.specs.Calls.{Acted, Dispatched, MayBring}
 use Rattle.uc_kernel.specs.declared.given.Given.{Given}

@@ -12,7 +12,7 @@ use Rattle.uc_acts.specs.KernelRuns.{Fits, KernelRuns, IsAt, IsMade}
 use Rattle.uc_acts.proofs.Held.{law_held}
 use Rattle.uc_acts.proofs.Counted.{counted_run, law_made}
 use Rattle.uc_site_laws.specs.Naming.{NamesKnown}
-use Rattle.uc_event_laws.specs.Marked.{EventKnown}
+use Rattle.uc_state_laws.specs.Marked.{EventKnown}
 use Rattle.uc_step_laws.specs.Hands.{HasForm}
 use Rattle.uc_vproc.specs.declared.fits.Place.TheVariants as place
 use Rattle.uc_vproc.specs.Places.{place_of, IsBare, IsOwned}

@@ -18,7 +18,7 @@ use Rattle.uc_step.specs.Starts.{Starts}
 use Rattle.uc_frames.specs.StandsByParts.{Alike}
 use Rattle.uc_step.specs.WeightFalls.{Keeps}
 use Rattle.uc_meaning.specs.Runs.{first_world, begun as begun_with}
-use Rattle.uc_program_laws.proofs.Ticks.{left_begin}
+use Rattle.uc_state_laws.proofs.Ticks.{left_begin}
 use Rattle.uc_kernel.specs.KernelState.{Kept}
 use Rattle.uc_kernel.specs.Calls.{Opened}
 use Rattle.uc_kernel.proofs.Moving.{running_silent}

@@ -24,8 +24,8 @@ use Rattle.uc_frames.specs.Machine.{Machine, Members, with_hand}
 use Rattle.uc_frames.specs.PaceInvariant.{IdlesAt}
 use Rattle.uc_step.specs.WeightFalls.{Keeps}
 use Rattle.uc_meaning.specs.Runs.{IsPrefix, more, gives, no_room, drawn, hand_of}
-use Rattle.uc_program_laws.specs.Laws.{AllLeft}
-use Rattle.uc_program_laws.proofs.Ticks.{left_given}
+use Rattle.uc_state_laws.specs.Laws.{AllLeft}
+use Rattle.uc_state_laws.proofs.Ticks.{left_given}
 use Rattle.uc_kernel.specs.KernelState.{Store, kept, Kept, Same, handed, with_entry}
 use Rattle.uc_kernel.specs.Calls.{HandsOut, over, abandoned, nobody, no_room as limited, Dispatched, EndsRun}
 use Rattle.uc_kernel.specs.declared.given.Given.{Given}

@@ -23,9 +23,9 @@ use Rattle.uc_ride.specs.RideStands.{Rode}
 use Rattle.uc_ride.specs.UnwindingFalls.{KeepsAfter, ChildKeeps}
 use Rattle.uc_meaning.specs.Runs.{IsPrefix}
 use Rattle.uc_step_laws.specs.Hands.{HasForm}
-use Rattle.uc_program_laws.specs.Laws.{AllLeft}
+use Rattle.uc_state_laws.specs.Laws.{AllLeft}
 use Rattle.uc_site_laws.specs.Naming.{NamesKnown}
-use Rattle.uc_event_laws.specs.Marked.{EventKnown}
+use Rattle.uc_state_laws.specs.Marked.{EventKnown}
 use Rattle.uc_kernel.specs.Numbered.{keys}
 use Rattle.uc_kernel.specs.KernelState.{Brought, Kept, Store, kept}
 use Rattle.uc_kernel.specs.AtRest.{IsMake, IsSpawn}

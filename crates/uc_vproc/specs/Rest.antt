@@ -19,9 +19,9 @@ use Rattle.uc_frames.specs.Stands.{Rests, RunStands, CallerStands}
 use Rattle.uc_frames.specs.StandsByParts.{Alike, MembersStand}
 use Rattle.uc_step.specs.WeightFalls.{Keeps}
 use Rattle.uc_meaning.specs.Runs.{World, Runs, bare, drawn}
-use Rattle.uc_program_laws.specs.Fitting.{RunFits}
+use Rattle.uc_state_laws.specs.Fitting.{RunFits}
 use Rattle.uc_site_laws.specs.Named.{NamedSource}
-use Rattle.uc_event_laws.specs.Counted.{CountedSource}
+use Rattle.uc_state_laws.specs.Counted.{CountedSource}
 use Rattle.uc_kernel.specs.KernelState.{Kept}
 use Rattle.uc_vproc.specs.Makers.{Log, Handed, handed_out}
 

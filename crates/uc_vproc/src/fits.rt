@@ -7,7 +7,7 @@ ghost use Rattle.uc_acts.specs.Known.{has, object_count, owner};
 ghost use Rattle.uc_acts.specs.KernelRuns.{KernelRuns, Fits, IsMade};
 ghost use Rattle.uc_step_laws.specs.Hands.{HasForm};
 ghost use Rattle.uc_site_laws.specs.Naming.{NamesKnown};
-ghost use Rattle.uc_event_laws.specs.Marked.{EventKnown};
+ghost use Rattle.uc_state_laws.specs.Marked.{EventKnown};
 ghost use Rattle.uc_kernel.specs.Numbered.{keys};
 ghost use Rattle.uc_vproc.specs.Registries.{AreThere, Tells};
 ghost use Rattle.uc_vproc.specs.Places.{place_of, IsBare, IsOwned};

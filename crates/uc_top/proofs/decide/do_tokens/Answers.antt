@@ -1,6 +1,6 @@
 use Rattle.std.proofs.Common.{◌<◌, ◌^◌, length, ◌∙◌, ap, arith}
 use Rattle.uc_tree.specs.declared.limits.TheConstants.{NESTING}
-use Rattle.uc_formed.proofs.Texts.{law_formed}
+use Rattle.uc_sound.proofs.Texts.{law_formed}
 use Rattle.uc_top.specs.Accepted.{place_of}
 use Rattle.uc_top.proofs.Places.{deep_at}
 use Rattle.uc_top.proofs.decide.do_tokens.Goals as goal

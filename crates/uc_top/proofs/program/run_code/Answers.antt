@@ -7,7 +7,7 @@ use Rattle.uc_tree.specs.Numbering.{sites_of}
 use Rattle.uc_sound.specs.Tables.{table_of}
 use Rattle.uc_sound.proofs.SoundLemmas.{law_sound}
 use Rattle.uc_site_laws.proofs.Routines.{source_named}
-use Rattle.uc_event_laws.proofs.Arguments.{counted_source}
+use Rattle.uc_state_laws.proofs.Arguments.{counted_source}
 use Rattle.uc_top.proofs.program.run_code.Goals as goal
 
 pub run_main-requires-clause-source : goal.run_main-requires-clause-source

@@ -1,5 +1,0 @@
-use Rattle.uc_address_laws.proofs.Worlds.{law_runs}
-use Rattle.uc_address_laws.proofs.laws.law_runs.Goals as goal
-
-pub returns : goal.returns
-returns c = law_runs

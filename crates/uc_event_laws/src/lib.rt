@@ -1,4 +1,0 @@
-// Laws over what tasks raise at tasks.
-#![tactic(auto)]
-
-pub mod laws;

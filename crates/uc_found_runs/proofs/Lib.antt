@@ -1,3 +1,0 @@
-pub mod FoundReads
-pub mod Walking
-pub mod FoundRuns

@@ -1,2 +1,0 @@
-pub mod FoundReads
-pub mod FoundRuns

@@ -1,5 +1,0 @@
-use Rattle.uc_hand_laws.proofs.DeepWorlds.{law_asks_deep}
-use Rattle.uc_hand_laws.proofs.laws.law_asks_deep.Goals as goal
-
-pub returns : goal.returns
-returns c = law_asks_deep

@@ -1,4 +1,0 @@
-pub mod Deep
-pub mod DeepSteps
-pub mod Places
-pub mod HandLaws

@@ -1,0 +1,328 @@
+-- With fewer numbers all stays known, where nobody has at hand what had the others.
+use Rattle.std.proofs.Common.{◌≡◌, ℕ, ◌⊎◌, inl, inr, ⊎_elim, Bool, true, false, List, [], ◌∷◌, Option, Some, None, refl, ℤ}
+use Rattle.uc_machine.specs.declared.exec.Exec.{Exec}
+use Rattle.uc_machine.specs.declared.exec.Home.{Home}
+use Rattle.uc_machine.specs.declared.exec.Home.TheVariants as home
+use Rattle.uc_machine.specs.declared.exec.Owner.TheVariants.{Frame}
+use Rattle.uc_machine.specs.declared.exec.Stage.{Stage}
+use Rattle.uc_machine.specs.declared.exec.Stage.TheVariants.{Fresh, Started, Ended}
+use Rattle.uc_machine.specs.Executions.{Execution, others}
+use Rattle.uc_machine.specs.Pieces as piece
+use Rattle.uc_machine.specs.Pieces.{Slot, Value, Number, Place, Running, Object, Nothing, Todo, Sort, Active, State, Env, Members}
+use Rattle.uc_typing.specs.Typing.{Ty, Num, Cell, Obj, Raw, Row, Clu, Pro, Sig, Table, object_ty}
+use Rattle.uc_typing.specs.Pieces.{AreNumbers}
+use Rattle.uc_typing.specs.States.{IsAt, IsObjectBy}
+use Rattle.uc_life_laws.specs.Things.{Few, AtVariable, AtField, IsFor, Nowhere, Marks, InTodo, Outer, Around, Stands, lies, inside, Held, LiesIn, IsFew, IsKnown, Known}
+use Rattle.uc_life_laws.specs.LifeStates.{SlotBy, ParkedBy, HandBy, MembersBy, EnvBy, Outwards, MarkHolds, AllHold, LifeStack, LifeEx, LifeState}
+use Rattle.uc_life_laws.specs.Knowing.{AtHand, KnownAll, KnownParams, KnownThis, KnownFrames, Knows, KnowsWaits, KnowsEx, KnowsBy, KnowsSlot, KnowsState}
+use Rattle.uc_life_laws.proofs.Knowns.{Less, held_more, older_hand, around_outer}
+use Rattle.uc_life_laws.specs.Fewer.{with_numbers, KeepsOthers, Lasts, ScopesLast, HandLasts, ExLasts, RunLasts, TaskLasts, LawFewer, AllNumbers, FramesNumbers, FreshLasts}
+
+-- two facts of each execution that does not run
+module _ (P Q R : Exec → Execution (List Todo) Value → Type 0) (both : (n : Exec) (x : Execution (List Todo) Value) → P n x → Q n x → R n x) where
+  both_slot : (n : Exec) (o : Option (Execution (List Todo) Value)) → SlotBy P n o → SlotBy Q n o → SlotBy R n o
+  both_slot n None h k = tt
+  both_slot n (Some x) h k = both n x h k
+
+  both_parked : (h : Home) (ps : List (ℕ × Option (Execution (List Todo) Value))) → ParkedBy P h ps → ParkedBy Q h ps → ParkedBy R h ps
+  both_parked h [] p q = tt
+  both_parked h (x ∷ ps) p q = (both_slot (record { home = h; serial = x.0 }) x.1 p.0 q.0, both_parked h ps p.1 q.1)
+
+  both_hand : (ps : List (ℕ × Members)) → HandBy P ps → HandBy Q ps → HandBy R ps
+  both_hand [] p q = tt
+  both_hand (x ∷ ps) p q = (both_parked (home.Object x.0) x.1.parked p.0 q.0, both_hand ps p.1 q.1)
+
+  pub both_members : (h : Home) (m : Option Members) → MembersBy P h m → MembersBy Q h m → MembersBy R h m
+  both_members h None p q = tt
+  both_members h (Some m) p q = both_parked h m.parked p q
+
+  pub both_env : (e : Env) → EnvBy P e → EnvBy Q e → EnvBy R e
+  both_env e p q = record { house = both_parked (home.Task e.own) e.house.parked p.house q.house; hand = both_hand e.hand p.hand q.hand }
+
+module _ (t : Table) (few : Few) (numbers : Ty → ℕ → Bool) where
+  abbrev less : Few
+  less = with_numbers numbers few
+
+  -- what is held at homes is, whatever the numbers
+  stands_same : (K : Value → Ty → Type 0) (b : Ty) (v : Value) → Stands t few K b v → Stands t less K b v
+  stands_same K b v (lies k h) = lies k h
+  stands_same K b v (inside {o = o} {c} m k h) = inside m (stands_same K (Cell (Obj c)) (few.home o) k) h
+
+  pub held_same : (K : Value → Ty → Type 0) (b : Ty) (v : Value) → Held t few K b v → Held t less K b v
+  held_same K b v (inl h) = inl (stands_same K b v h)
+  held_same K b v (inr h) = inr h
+
+  lasts_less : (n : Exec) (K L : Value → Ty → Type 0) → Less t few n K L → Lasts t few numbers L → Lasts t few numbers K
+  lasts_less n K L more l c o m h f = l c o m (held_more t few n K L more (Obj c) (Object o) h) f
+
+  module _ (keeps : KeepsOthers t few numbers) (n : Exec) where
+    lies_same : (K : Value → Ty → Type 0) (b : Ty) (v : Value) → LiesIn t few n K b v → LiesIn t less n K b v
+    lies_same K b (Number z) h = tt
+    lies_same K b (Place o p) h = held_same K b (Place o p) h
+    lies_same K b (Running x) h = tt
+    lies_same K b (Object o) h = held_same K b (Object o) h
+    lies_same K b Nothing h = tt
+
+    module _ (K : Value → Ty → Type 0) where
+      number_few : (a : Ty) (v : Value) → ((o : ℕ) → few.numbers a o ≡ true → numbers a o ≡ true) → IsFew t few n a v → IsFew t less n a v
+      number_few a (Number z) f h = tt
+      number_few a (Place o p) f h = tt
+      number_few a (Running x) f h = tt
+      number_few a (Object o) f h = f o h
+      number_few a Nothing f h = tt
+
+      placed_few : (a b : Ty) (v : Value) → IsAt t b v → IsFew t less n a v
+      placed_few a b (Number z) h = tt
+      placed_few a b (Place o p) h = tt
+      placed_few a b (Running x) h = tt
+      placed_few a b (Object o) h = absurd h
+      placed_few a b Nothing h = tt
+
+      object_few : (lasts : Lasts t few numbers K) (b : Bool) (c : ℕ) (v : Value) → t.mutex c ≡ b → IsObjectBy t b c v → (t.mutex c ≡ true → LiesIn t few n K (Obj c) v) → IsFew t few n (Obj c) v → IsFew t less n (Obj c) v
+      object_few lasts b c (Number z) m i h f = tt
+      object_few lasts b c (Place o p) m i h f = tt
+      object_few lasts b c (Running x) m i h f = tt
+      object_few lasts true c (Object o) m i h f = lasts c o m (h m) f
+      object_few lasts false c (Object o) m i h f = absurd i
+      object_few lasts b c Nothing m i h f = tt
+
+      is_fewer : (a : Ty) (v : Value) → (IsFew t few n a v → IsFew t less n a v) → IsKnown t few n K a v → IsKnown t less n K a v
+      is_fewer a v f h = record { is = h.is; passes = f h.passes; rooted = λ i. lies_same K a v (h.rooted i); held = λ m. lies_same K a v (h.held m); seated = λ i. ⊎_elim (λ l. inl (lies_same K a v l)) (λ l. inr l) (h.seated i) }
+
+      known_fewer : Lasts t few numbers K → (a : Ty) (v : Value) → Known t few n K a v → Known t less n K a v
+      known_fewer lasts Num v h = tt
+      known_fewer lasts (Cell a) v h = is_fewer (Cell a) v (λ f. placed_few (Cell a) _ v h.is) h
+      known_fewer lasts (Obj c) v h = is_fewer (Obj c) v (object_few lasts (t.mutex c) c v refl h.is h.held) h
+      known_fewer lasts (Raw c) v h = record { is = h.is; passes = number_few (Raw c) v (keeps.raws c) h.passes }
+      known_fewer lasts (Row m a) v h = is_fewer (Row m a) v (λ f. placed_few (Row m a) _ v h.is) h
+      known_fewer lasts Clu v h = is_fewer Clu v (number_few Clu v keeps.clusters) h
+      known_fewer lasts Pro v h = is_fewer Pro v (number_few Pro v keeps.processors) h
+
+      all_fewer : Lasts t few numbers K → (tys : List Ty) (vs : List Value) → KnownAll t few n K tys vs → KnownAll t less n K tys vs
+      all_fewer lasts [] [] h = tt
+      all_fewer lasts [] (v ∷ vs) h = absurd h
+      all_fewer lasts (a ∷ tys) [] h = absurd h
+      all_fewer lasts (a ∷ tys) (v ∷ vs) h = (known_fewer lasts a v h.0, all_fewer lasts tys vs h.1)
+
+      numbers_fewer : (tys : List Ty) (vs : List Value) → AreNumbers tys → KnownAll t few n K tys vs → KnownAll t less n K tys vs
+      numbers_fewer [] [] a h = tt
+      numbers_fewer [] (v ∷ vs) a h = absurd h
+      numbers_fewer (Num ∷ tys) [] a h = absurd h
+      numbers_fewer (Num ∷ tys) (v ∷ vs) a h = (tt, numbers_fewer tys vs a h.1)
+      numbers_fewer (Cell b ∷ tys) vs a h = absurd a
+      numbers_fewer (Obj c ∷ tys) vs a h = absurd a
+      numbers_fewer (Raw c ∷ tys) vs a h = absurd a
+      numbers_fewer (Row m b ∷ tys) vs a h = absurd a
+      numbers_fewer (Clu ∷ tys) vs a h = absurd a
+      numbers_fewer (Pro ∷ tys) vs a h = absurd a
+
+      params_fewer : Lasts t few numbers K → (tys : List Ty) (vs : List Value) → KnownParams t few n K tys vs → KnownParams t less n K tys vs
+      params_fewer lasts [] vs h = tt
+      params_fewer lasts (a ∷ tys) [] h = absurd h
+      params_fewer lasts (a ∷ tys) (v ∷ vs) h = (known_fewer lasts a v h.0, params_fewer lasts tys vs h.1)
+
+      this_fewer : Lasts t few numbers K → (g : Sig) (o : Option ℕ) (v : Value) → KnownThis t few n K g o v → KnownThis t less n K g o v
+      this_fewer lasts g None v h = tt
+      this_fewer lasts g (Some c) v h = known_fewer lasts (object_ty g.whole c) v h
+
+    older : (gs : List Sig) (c : Active) (cs : List Active) → Lasts t few numbers (AtHand t few n gs (c ∷ cs)) → Lasts t few numbers (AtHand t few n (others gs) cs)
+    older gs c cs l = lasts_less n (AtHand t few n (others gs) cs) (AtHand t few n gs (c ∷ cs)) (older_hand t few n gs c cs) l
+
+    -- frames, by what those that waited had at hand
+    frames_fewer : (gs : List Sig) (fs : List (List Value)) (cs : List Active) → Lasts t few numbers (AtHand t few n gs cs) → KnownFrames t few n gs fs cs → KnownFrames t less n gs fs cs
+    frames_fewer [] [] [] l h = tt
+    frames_fewer (g ∷ gs) (f ∷ fs) (c ∷ cs) l h =
+        let k : Lasts t few numbers (AtHand t few n gs cs) = older (g ∷ gs) c cs l in
+        (params_fewer (AtHand t few n gs cs) k g.params f h.0, frames_fewer gs fs cs k h.1)
+    frames_fewer [] [] (c ∷ cs) l h = absurd h
+    frames_fewer [] (f ∷ fs) cs l h = absurd h
+    frames_fewer (g ∷ gs) [] cs l h = absurd h
+    frames_fewer (g ∷ gs) (f ∷ fs) [] l h = absurd h
+
+    top_frames : (gs : List Sig) (fs : List (List Value)) (c : Active) (cs : List Active) → Lasts t few numbers (AtHand t few n (others gs) cs) → KnownFrames t few n gs fs (c ∷ cs) → KnownFrames t less n gs fs (c ∷ cs)
+    top_frames (g ∷ gs) (f ∷ fs) c cs l h = (params_fewer (AtHand t few n gs cs) l g.params f h.0, frames_fewer gs fs cs l h.1)
+    top_frames [] [] c cs l h = absurd h
+    top_frames [] (f ∷ fs) c cs l h = absurd h
+    top_frames (g ∷ gs) [] c cs l h = absurd h
+
+    active_fewer : (gs : List Sig) (given : List Ty) (cs : List Active) (c : Active) (k : Knows t few n gs given cs c) → Lasts t few numbers (AtHand t few n (others gs) cs) → Lasts t few numbers (AtHand t few n gs (c ∷ cs)) ⊎ AreNumbers k.own → Knows t less n gs given cs c
+    active_fewer gs given cs c k l o = record {
+      sig = k.sig;
+      own = k.own;
+      scope = k.scope;
+      base = k.base;
+      frame = k.frame;
+      values = by o;
+      this = this_fewer (AtHand t few n (others gs) cs) l k.sig k.sig.this c.this k.this;
+      ok = k.ok;
+      ends = k.ends;
+    }
+      where
+        by : Lasts t few numbers (AtHand t few n gs (c ∷ cs)) ⊎ AreNumbers k.own → KnownAll t less n (AtHand t few n gs (c ∷ cs)) k.own c.operands
+        by (inl x) = all_fewer (AtHand t few n gs (c ∷ cs)) x k.own c.operands k.values
+        by (inr x) = numbers_fewer (AtHand t few n gs (c ∷ cs)) k.own c.operands x k.values
+
+    waits_fewer : (gs : List Sig) (cs : List Active) → Lasts t few numbers (AtHand t few n gs cs) → KnowsWaits t few n gs cs → KnowsWaits t less n gs cs
+    waits_fewer gs [] l h = tt
+    waits_fewer gs (c ∷ cs) l h =
+        (active_fewer gs (Num ∷ []) cs c h.0 (older gs c cs l) (inl l), waits_fewer (others gs) cs (older gs c cs l) h.1)
+
+    ex_fewer : (x : Execution (List Todo) Value) (k : KnowsEx t few n x) → Lasts t few numbers (AtHand t few n k.sigs (x.run ∷ x.callers)) → KnowsEx t less n x
+    ex_fewer x k l = record {
+      sigs = k.sigs;
+      frames = frames_fewer k.sigs x.frames (x.run ∷ x.callers) l k.frames;
+      run = active_fewer k.sigs [] x.callers x.run k.run (older k.sigs x.run x.callers l) (inl l);
+      callers = waits_fewer (others k.sigs) x.callers (older k.sigs x.run x.callers l) k.callers;
+    }
+
+    -- an execution that has not begun
+
+    number_fewer : (K : Value → Ty → Type 0) (a : Ty) (z : ℤ) → Known t few n K a (Number z) → Known t less n K a (Number z)
+    number_fewer K Num z h = tt
+    number_fewer K (Cell a) z h = is_fewer K (Cell a) (Number z) (λ f. tt) h
+    number_fewer K (Obj c) z h = is_fewer K (Obj c) (Number z) (λ f. tt) h
+    number_fewer K (Raw c) z h = record { is = h.is; passes = tt }
+    number_fewer K (Row m a) z h = is_fewer K (Row m a) (Number z) (λ f. tt) h
+    number_fewer K Clu z h = is_fewer K Clu (Number z) (λ f. tt) h
+    number_fewer K Pro z h = is_fewer K Pro (Number z) (λ f. tt) h
+
+    zeros_fewer : (K : Value → Ty → Type 0) (tys : List Ty) (vs : List Value) → AllNumbers vs → KnownParams t few n K tys vs → KnownParams t less n K tys vs
+    zeros_fewer K [] vs z h = tt
+    zeros_fewer K (a ∷ tys) [] z h = absurd h
+    zeros_fewer K (a ∷ tys) (Number v ∷ vs) z h = (number_fewer K a v h.0, zeros_fewer K tys vs z h.1)
+    zeros_fewer K (a ∷ tys) (Place o p ∷ vs) z h = absurd z
+    zeros_fewer K (a ∷ tys) (Running x ∷ vs) z h = absurd z
+    zeros_fewer K (a ∷ tys) (Object o ∷ vs) z h = absurd z
+    zeros_fewer K (a ∷ tys) (Nothing ∷ vs) z h = absurd z
+
+    blank_frames : (gs : List Sig) (fs : List (List Value)) (cs : List Active) → FramesNumbers fs → KnownFrames t few n gs fs cs → KnownFrames t less n gs fs cs
+    blank_frames [] [] [] z h = tt
+    blank_frames (g ∷ gs) (f ∷ fs) (c ∷ cs) z h = (zeros_fewer (AtHand t few n gs cs) g.params f z.0 h.0, blank_frames gs fs cs z.1 h.1)
+    blank_frames [] [] (c ∷ cs) z h = absurd h
+    blank_frames [] (f ∷ fs) cs z h = absurd h
+    blank_frames (g ∷ gs) [] cs z h = absurd h
+    blank_frames (g ∷ gs) (f ∷ fs) [] z h = absurd h
+
+    none_fewer : (K : Value → Ty → Type 0) (tys : List Ty) (vs : List Value) → vs ≡ [] → KnownAll t few n K tys vs → KnownAll t less n K tys vs
+    none_fewer K [] [] e h = tt
+    none_fewer K [] (v ∷ vs) e h = absurd h
+    none_fewer K (a ∷ tys) [] e h = absurd h
+    none_fewer K (a ∷ tys) (v ∷ vs) e h = absurd (cc)
+
+    own_fewer : (K : Value → Ty → Type 0) (b : Bool) (c : ℕ) (v : Value) → ((o : ℕ) → t.mutex c ≡ true → v ≡ Object o → few.numbers (Obj c) o ≡ true → numbers (Obj c) o ≡ true) → Known t few n K (object_ty b c) v → Known t less n K (object_ty b c) v
+    own_fewer K true c v f h = record { is = h.is; passes = number_few K (Raw c) v (keeps.raws c) h.passes }
+    own_fewer K false c v f h = is_fewer K (Obj c) v (passes (t.mutex c) v refl h.is f) h
+      where
+        passes : (b : Bool) (v : Value) → t.mutex c ≡ b → IsObjectBy t b c v → ((o : ℕ) → t.mutex c ≡ true → v ≡ Object o → few.numbers (Obj c) o ≡ true → numbers (Obj c) o ≡ true) → IsFew t few n (Obj c) v → IsFew t less n (Obj c) v
+        passes b (Number z) m i f h = tt
+        passes b (Place o p) m i f h = tt
+        passes b (Running x) m i f h = tt
+        passes true (Object o) m i f h = f o m refl h
+        passes false (Object o) m i f h = absurd i
+        passes b Nothing m i f h = tt
+
+    fresh_this : (K : Value → Ty → Type 0) (g : Sig) (o : Option ℕ) (v : Value) → ((c o : ℕ) → t.mutex c ≡ true → v ≡ Object o → few.numbers (Obj c) o ≡ true → numbers (Obj c) o ≡ true) → KnownThis t few n K g o v → KnownThis t less n K g o v
+    fresh_this K g None v f h = tt
+    fresh_this K g (Some c) v f h = own_fewer K g.whole c v (λ o m e. f c o m e) h
+
+    no_waits : (gs : List Sig) (cs : List Active) → cs ≡ [] → KnowsWaits t less n gs cs
+    no_waits gs [] e = tt
+    no_waits gs (c ∷ cs) e = absurd (cc)
+
+    fresh_fewer : (x : Execution (List Todo) Value) → KnowsEx t few n x → FreshLasts t few numbers x → KnowsEx t less n x
+    fresh_fewer x k l = record {
+      sigs = k.sigs;
+      frames = blank_frames k.sigs x.frames (x.run ∷ x.callers) l.frames k.frames;
+      run = record {
+        sig = k.run.sig;
+        own = k.run.own;
+        scope = k.run.scope;
+        base = k.run.base;
+        frame = k.run.frame;
+        values = none_fewer (AtHand t few n k.sigs (x.run ∷ x.callers)) k.run.own x.run.operands l.operands k.run.values;
+        this = fresh_this (AtHand t few n (others k.sigs) x.callers) k.run.sig k.run.sig.this x.run.this l.this k.run.this;
+        ok = k.run.ok;
+        ends = k.run.ends;
+      };
+      callers = no_waits (others k.sigs) x.callers l.callers;
+    }
+
+    by_fewer : (g : Stage) (x : Execution (List Todo) Value) → KnowsBy t few n g x → HandLasts t few numbers g n x → KnowsBy t less n g x
+    by_fewer Fresh x k (inl l) = fresh_fewer x k l
+    by_fewer Fresh x k (inr l) = ex_fewer x k (l k)
+    by_fewer Started x k l = ex_fewer x k (l k)
+    by_fewer Ended x k l = tt
+
+  module _ (keeps : KeepsOthers t few numbers) where
+    pub slot_fewer : (n : Exec) (x : Execution (List Todo) Value) → KnowsSlot t few n x → ExLasts t few numbers n x → KnowsSlot t less n x
+    slot_fewer n x k l = by_fewer keeps n x.links.stage x k l.hand
+
+    pub env_fewer : (e : Env) → EnvBy (KnowsSlot t few) e → EnvBy (ExLasts t few numbers) e → EnvBy (KnowsSlot t less) e
+    env_fewer e k l = both_env (KnowsSlot t few) (ExLasts t few numbers) (KnowsSlot t less) (λ n x h i. slot_fewer n x h i) e k l
+
+    pub state_fewer : (given : List Ty) (s : State) → EnvBy (ExLasts t few numbers) s.env → (x : KnowsState t few given s) → RunLasts t few numbers given s x → KnowsState t less given s
+    state_fewer given s e x l = record {
+      sigs = x.sigs;
+      frames = top_frames keeps s.env.exec x.sigs s.env.frames s.run s.callers l.waiting x.frames;
+      run = active_fewer keeps s.env.exec x.sigs given s.callers s.run x.run l.waiting l.operands;
+      callers = waits_fewer keeps s.env.exec (others x.sigs) s.callers l.waiting x.callers;
+      env = env_fewer s.env x.env e;
+    }
+
+  -- what is in scope
+
+  module _ (keeps : KeepsOthers t few numbers) (n : Exec) (f : ℕ) (this : Value) (cs : List Active) where
+    abbrev Before : List Todo → Value → Ty → Type 0
+    Before todo v c = InTodo (IsFor t (Frame n f) this) (AtField t (Frame n f) this) todo v c ⊎ Outer t few n cs v c
+
+    abbrev ScopesIn : List Todo → Type 0
+    ScopesIn todo = (w : Value) (a : Ty) → InTodo (AtVariable t (Frame n f) this) (Nowhere (Frame n f) this) todo w a → Lasts t few numbers (Before todo)
+
+    mark_fewer : (vs : List Value) (s : Sort) (todo : List Todo) → ((w : Value) (a : Ty) → Marks (AtVariable t (Frame n f) this) (Nowhere (Frame n f) this) s w a (InTodo (AtVariable t (Frame n f) this) (Nowhere (Frame n f) this) todo w a) → Lasts t few numbers (λ v c. Marks (IsFor t (Frame n f) this) (AtField t (Frame n f) this) s v c (InTodo (IsFor t (Frame n f) this) (AtField t (Frame n f) this) todo v c) ⊎ Outer t few n cs v c)) → (ScopesIn todo → AllHold t few n vs f this cs todo → AllHold t less n vs f this cs todo) → MarkHolds t few n vs f this cs s todo (AllHold t few n vs f this cs todo) → MarkHolds t less n vs f this cs s todo (AllHold t less n vs f this cs todo)
+    mark_fewer vs (piece.IsClean c) todo l next h =
+        ((λ k a x p b w i. known_fewer keeps n (Outwards t few n f this cs c todo) (lasts_less n (Outwards t few n f this cs c todo) _ (λ v e y. outer v e y) (l (Place (Frame n f) (Slot k ∷ [])) a (inl (k, x, refl)))) b _ (h.0 k a x p b w i)), next (λ w a m. lasts_less n (Before todo) _ (λ v e y. inner v e y) (l w a (inr m))) h.1)
+      where
+        outer : (v : Value) (e : Ty) → Outwards t few n f this cs c todo v e → (IsFor t (Frame n f) this c v e ⊎ InTodo (IsFor t (Frame n f) this) (AtField t (Frame n f) this) todo v e) ⊎ Outer t few n cs v e
+        outer v e y = y
+
+        inner : (v : Value) (e : Ty) → Before todo v e → (IsFor t (Frame n f) this c v e ⊎ InTodo (IsFor t (Frame n f) this) (AtField t (Frame n f) this) todo v e) ⊎ Outer t few n cs v e
+        inner v e (inl y) = inl (inr y)
+        inner v e (inr y) = inr y
+    mark_fewer vs (piece.IsPart c) todo l next h = next (λ w a m. lasts_less n (Before todo) _ (λ v e y. inner v e y) (l w a (inr m))) h
+      where
+        inner : (v : Value) (e : Ty) → Before todo v e → (AtField t (Frame n f) this c v e ⊎ InTodo (IsFor t (Frame n f) this) (AtField t (Frame n f) this) todo v e) ⊎ Outer t few n cs v e
+        inner v e (inl y) = inl (inr y)
+        inner v e (inr y) = inr y
+    mark_fewer vs piece.Simple todo l next h = next l h
+    mark_fewer vs (piece.IsLoop o e x b) todo l next h = next l h
+    mark_fewer vs piece.IsWhole todo l next h = next l h
+    mark_fewer vs (piece.IsFill m b d) todo l next h = next l h
+    mark_fewer vs (piece.IsSweep e) todo l next h = next l h
+    mark_fewer vs (piece.IsGuard hs) todo l next h = next l h
+    mark_fewer vs piece.IsFinish todo l next h = next l h
+    mark_fewer vs piece.IsFinishCoroutine todo l next h = next l h
+
+    holds_fewer : (vs : List Value) (todo : List Todo) → ScopesIn todo → AllHold t few n vs f this cs todo → AllHold t less n vs f this cs todo
+    holds_fewer vs [] l h = tt
+    holds_fewer vs (p ∷ todo) l h = mark_fewer vs (piece.sort p) todo l (λ l h. holds_fewer vs todo l h) h
+
+  stack_fewer : KeepsOthers t few numbers → (n : Exec) (fs : List (List Value)) (cs : List Active) → ScopesLast t few numbers n cs → LifeStack t few n fs cs → LifeStack t less n fs cs
+  stack_fewer keeps n fs [] l h = tt
+  stack_fewer keeps n fs (a ∷ older) l h =
+      (h.0, holds_fewer keeps n a.frame a.this older _ a.control (λ w b m. l w b (inl m)) h.1, stack_fewer keeps n fs older (λ w b m. lasts_less n (Around t few n older) (Around t few n (a ∷ older)) (λ v e x. inr (around_outer t few n older v e x)) (l w b (inr m))) h.2)
+
+  pub life_ex_fewer : KeepsOthers t few numbers → (n : Exec) (x : Execution (List Todo) Value) → LifeEx t few n x → ExLasts t few numbers n x → LifeEx t less n x
+  life_ex_fewer keeps n x h l = record { frames = h.frames; stack = stack_fewer keeps n x.frames (x.run ∷ x.callers) l.scopes h.stack }
+
+  pub life_fewer : KeepsOthers t few numbers → (s : State) → TaskLasts t few numbers s → LifeState t few s → LifeState t less s
+  life_fewer keeps s l h = record {
+    frames = h.frames;
+    stack = stack_fewer keeps s.env.exec s.env.frames (s.run ∷ s.callers) l.scopes h.stack;
+    env = both_env (LifeEx t few) (ExLasts t few numbers) (LifeEx t less) (λ n x h i. life_ex_fewer keeps n x h i) s.env h.env l.env;
+  }
+
+pub law_fewer : LawFewer
+law_fewer = record {
+  life = λ t few numbers keeps s l h. life_fewer t few numbers keeps s l h;
+  knows = λ t few numbers keeps given s l x r. state_fewer t few numbers keeps given s l.env x r;
+}

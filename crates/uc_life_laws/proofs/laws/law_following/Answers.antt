@@ -1,5 +1,0 @@
-use Rattle.uc_life_laws.proofs.Following.{law_following}
-use Rattle.uc_life_laws.proofs.laws.law_following.Goals as goal
-
-pub returns : goal.returns
-returns c = law_following

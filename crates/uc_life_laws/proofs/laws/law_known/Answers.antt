@@ -1,5 +1,0 @@
-use Rattle.uc_life_laws.proofs.Acting.{law_known}
-use Rattle.uc_life_laws.proofs.laws.law_known.Goals as goal
-
-pub returns : goal.returns
-returns c = law_known

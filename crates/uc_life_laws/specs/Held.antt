@@ -1,0 +1,175 @@
+-- Executions that others have to end: of each a mark stands for what destroys its coroutine, in what the one that made it is to clean up, and outwards of
+-- that mark what was there before the coroutine was built. Quiet steps may lead to where such a mark stands.
+use Rattle.std.specs.Prelude.{◌≡◌, ℕ, zero, suc, ◌⊎◌, Bool, true, List, [], ◌∷◌, Some}
+use Rattle.uc_tree.specs.Source.{Source}
+use Rattle.uc_entry.specs.declared.request.Request.{Request}
+use Rattle.uc_entry.specs.declared.request.Request.TheVariants as ask
+use Rattle.uc_machine.specs.declared.exec.Exec.{Exec}
+use Rattle.uc_machine.specs.Executions.{Execution, members_at}
+use Rattle.uc_machine.specs.Switches.{new_exec}
+use Rattle.uc_machine.specs.Pieces as piece
+use Rattle.uc_machine.specs.Pieces.{Value, Todo, Sort, sort, Active, State, Env, Members, Step, Goes, Ticks, Asks}
+use Rattle.uc_machine.specs.Quiet.{quiet, home_at}
+use Rattle.uc_answer_laws.specs.Suiting.{Form, JustGo, form_of_request}
+use Rattle.uc_life_laws.specs.LifeStates.{EnvBy}
+use Rattle.uc_life_laws.specs.Placed.{Placed, placed, stacked, Ends}
+use Rattle.uc_life_laws.specs.Destroying.{Seat, EndsBelow, CleansUp}
+
+-- by whom each execution was made, where its coroutine is, and marks that were there before that was built
+pub record Seating : Type 0 where
+  pub parent : Exec → Exec
+  pub seat : Exec → Seat
+  pub before : Exec → List Placed
+
+-- lines alone
+abbrev pub AreLines : List Todo → Type 0
+AreLines [] = Unit {0}
+AreLines (piece.Within line ∷ todo) = AreLines todo
+AreLines todo = ⊥
+
+-- what this step does makes no other execution run
+abbrev pub NoMain : Sort → Type 0
+NoMain piece.IsFinishCoroutine = ⊥
+NoMain k = Unit {0}
+
+abbrev pub Stays : List Todo → Type 0
+Stays (piece.TakeDownNow ∷ todo) = ⊥
+Stays (piece.ResumeNow ∷ todo) = ⊥
+Stays (piece.SuspendNow ∷ todo) = ⊥
+Stays (piece.FinishCoroutine ∷ todo) = ⊥
+Stays (piece.Unwind ∷ (p ∷ todo)) = NoMain (sort p)
+Stays todo = Unit {0}
+
+-- `w`: where the coroutine is, `ps`: those marks, `n`: who made it
+module _ (source : Source) (w : Seat) (ps : List Placed) (n : Exec) where
+  -- in an activation of this frame and object, of which so many elements stand: a mark of this sort, before these marks, is of what destroys the coroutine
+  abbrev pub Holds : ℕ → Value → ℕ → Sort → List Placed → Type 0
+  Holds f this e (piece.IsClean c) qs = CleansUp source w n f this c × Ends ps qs
+  Holds f this e (piece.IsPart c) qs = CleansUp source w n f this c × Ends ps qs
+  Holds f this e (piece.IsFill m b d) qs = EndsBelow source w n f this e d × Ends ps qs
+  Holds f this e (piece.IsSweep d) qs = EndsBelow source w n f this e d × Ends ps qs
+  Holds f this e k qs = ⊥
+
+  -- it is, or one behind it is
+  abbrev pub HeldBy : ℕ → Value → ℕ → Sort → List Placed → Type 0 → Type 0
+  HeldBy f this e (piece.IsClean c) qs rest = (CleansUp source w n f this c × Ends ps qs) ⊎ rest
+  HeldBy f this e (piece.IsPart c) qs rest = (CleansUp source w n f this c × Ends ps qs) ⊎ rest
+  HeldBy f this e (piece.IsFill m b d) qs rest = (EndsBelow source w n f this e d × Ends ps qs) ⊎ rest
+  HeldBy f this e (piece.IsSweep d) qs rest = (EndsBelow source w n f this e d × Ends ps qs) ⊎ rest
+  HeldBy f this e k qs rest = rest
+
+  abbrev pub HeldIn : ℕ → Value → ℕ → List Placed → Type 0 → List Todo → Type 0
+  HeldIn f this e older rest [] = rest
+  HeldIn f this e older rest (p ∷ todo) = HeldBy f this e (sort p) (placed f this todo older) (HeldIn f this e older rest todo)
+
+  abbrev pub Held : List Active → Type 0
+  Held [] = ⊥
+  Held (a ∷ older) = HeldIn a.frame a.this a.elements (stacked older) (Held older) a.control
+
+  -- behind a step who runs goes on so, and so behind a tick or a bare answer; nothing is asked behind a fault
+  abbrev pub AskOnwards : (Active → List Active → Type 0) → Request → State → Type 0
+  AskOnwards Q (ask.Fault m) u = Unit {0}
+  AskOnwards Q r u = (form_of_request r ≡ JustGo) × (u.env.exec ≡ n) × Q u.run u.callers
+
+  abbrev pub Onwards : (State → Type 0) → (Active → List Active → Type 0) → Step → Type 0
+  Onwards P Q (Goes u) = (u.env.exec ≡ n) × P u
+  Onwards P Q (Ticks u) = (u.env.exec ≡ n) × Q u.run u.callers
+  Onwards P Q (Asks r u) = AskOnwards Q r u
+
+  -- so many steps, whatever else there is in the task, lead to where such a mark stands
+  abbrev pub SoonIn : ℕ → Active → List Active → Type 0
+  SoonIn zero a cs = Held (a ∷ cs)
+  SoonIn (suc k) a cs = Stays a.control × Ends ps (stacked (a ∷ cs)) ×
+      ((e : Env) → e.exec ≡ n → Onwards (λ u. SoonIn k u.run u.callers) (SoonIn k) (quiet source (record { run = a; callers = cs; env = e })))
+
+  abbrev pub Soon : Active → List Active → Type 0
+  Soon a cs = (k : ℕ) × SoonIn k a cs
+
+  -- so many steps from this state lead to where it is so
+  abbrev pub SoonFrom : ℕ → State → Type 0
+  SoonFrom zero s = Soon s.run s.callers
+  SoonFrom (suc k) s = Stays s.run.control × Ends ps (stacked (s.run ∷ s.callers)) × Onwards (SoonFrom k) Soon (quiet source s)
+
+  abbrev pub SoonHere : State → Type 0
+  SoonHere s = (k : ℕ) × SoonFrom k s
+
+  -- behind a request others may run first: such a mark stands, or bare answers are enough
+  abbrev pub SoonAsked : Form → Active → List Active → Type 0
+  SoonAsked form a cs = Held (a ∷ cs) ⊎ ((form ≡ JustGo) × Soon a cs)
+
+-- `up x`: of this execution it is asked
+module _ (source : Source) (seats : Seating) (up : Exec → Bool) where
+  -- those that an execution of this name has made are held by what it has to do
+  abbrev pub AllHeld : Exec → List Active → Type 0
+  AllHeld n cs = (x : Exec) → up x ≡ true → seats.parent x ≡ n → Held source (seats.seat x) (seats.before x) n cs
+
+  abbrev pub HeldEx : Exec → Execution (List Todo) Value → Type 0
+  HeldEx n y = AllHeld n (y.run ∷ y.callers)
+
+  pub record HeldState (s : State) : Type 0 where
+    pub soon : (x : Exec) → up x ≡ true → seats.parent x ≡ s.env.exec → SoonHere source (seats.seat x) (seats.before x) s.env.exec s
+    pub env : EnvBy HeldEx s.env
+
+  -- one that has asked for an answer of this form
+  pub record HeldAsked (form : Form) (s : State) : Type 0 where
+    pub soon : (x : Exec) → up x ≡ true → seats.parent x ≡ s.env.exec → SoonAsked source (seats.seat x) (seats.before x) s.env.exec form s.run s.callers
+    pub env : EnvBy HeldEx s.env
+
+  abbrev pub HeldAsk : Request → State → Type 0
+  HeldAsk (ask.Fault m) s = Unit {0}
+  HeldAsk r s = HeldAsked (form_of_request r) s
+
+  abbrev pub HeldStep : Step → Type 0
+  HeldStep (Goes s) = HeldState s
+  HeldStep (Ticks s) = HeldAsked JustGo s
+  HeldStep (Asks r s) = HeldAsk r s
+
+  -- what a step takes away
+
+  module _ (s : State) where
+    -- an execution that is up was made by who runs
+    abbrev pub IsOwn : Exec → Type 0
+    IsOwn x = (up x ≡ true) × (seats.parent x ≡ s.env.exec)
+
+    -- the step leads to where such a mark stands
+    abbrev pub LeadsSoon : Exec → Type 0
+    LeadsSoon x = Onwards source (seats.seat x) (seats.before x) s.env.exec (SoonHere source (seats.seat x) (seats.before x) s.env.exec) (Soon source (seats.seat x) (seats.before x) s.env.exec) (quiet source s)
+
+    abbrev pub HoldsNow : Exec → Sort → List Todo → Type 0
+    HoldsNow x k todo = Holds source (seats.seat x) (seats.before x) s.env.exec s.run.frame s.run.this s.run.elements k (placed s.run.frame s.run.this todo (stacked s.callers))
+
+    -- a mark of this sort is taken away
+    abbrev pub Takes : Sort → List Todo → Type 0
+    Takes k todo = (x : Exec) → IsOwn x → HoldsNow x k todo → LeadsSoon x
+
+    -- the number of elements changes for these marks
+    abbrev pub OfCounted : Exec → Sort → List Todo → Type 0 → Type 0
+    OfCounted x (piece.IsFill m b d) todo rest = HoldsNow x (piece.IsFill m b d) todo ⊎ rest
+    OfCounted x (piece.IsSweep d) todo rest = HoldsNow x (piece.IsSweep d) todo ⊎ rest
+    OfCounted x k todo rest = rest
+
+    abbrev pub HoldsCounted : Exec → List Todo → Type 0
+    HoldsCounted x [] = ⊥
+    HoldsCounted x (p ∷ todo) = OfCounted x (sort p) todo (HoldsCounted x todo)
+
+    abbrev pub Recounts : List Todo → Type 0
+    Recounts todo = (x : Exec) → IsOwn x → HoldsCounted x todo → LeadsSoon x
+
+  -- what is to hold of such a step: where a mark is reached, passed by an unwinding or by an exit, or elements are counted anew, each execution that it was to
+  -- end is held soon; where a main ends, nothing is left behind it; and one that is made next has made none
+  abbrev pub TakesAt : List Todo → State → Type 0
+  TakesAt (piece.Clean c ∷ todo) s = Takes s (piece.IsClean c) todo
+  TakesAt (piece.Part c ∷ todo) s = Takes s (piece.IsPart c) todo
+  TakesAt (piece.FillNow m b d ∷ todo) s = Takes s (piece.IsFill m b d) todo
+  TakesAt (piece.Sweep d ∷ todo) s = Takes s (piece.IsSweep d) todo × Recounts s todo
+  TakesAt (piece.CountNow m ∷ todo) s = Recounts s todo
+  TakesAt (piece.MoreNow ∷ todo) s = Recounts s todo
+  TakesAt (piece.Unwind ∷ (p ∷ todo)) s = Takes s (sort p) todo
+  TakesAt (piece.Exit way ∷ (p ∷ todo)) s = Takes s (sort p) todo
+  TakesAt (piece.Finish ∷ todo) s = AreLines todo
+  TakesAt (piece.SetUpNow r ∷ todo) s = (m : Members) → members_at (home_at s.run.this s.env) s.env ≡ Some m →
+      (x : Exec) → up x ≡ true → seats.parent x ≡ new_exec (home_at s.run.this s.env) s.env → ⊥
+  TakesAt todo s = Unit {0}
+
+  abbrev pub TakesNow : State → Type 0
+  TakesNow s = TakesAt s.run.control s

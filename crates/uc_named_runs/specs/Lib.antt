@@ -1,2 +1,0 @@
-pub mod NamedRuns
-pub mod RunningRuns

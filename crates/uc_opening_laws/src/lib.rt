@@ -1,4 +1,0 @@
-// Laws over scopes: objects are built where their scopes open.
-#![tactic(auto)]
-
-pub mod laws;

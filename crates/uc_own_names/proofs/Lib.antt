@@ -1,4 +1,0 @@
-pub mod Alone
-pub mod OwnWorlds
-pub mod OwnRides
-pub mod OwnNamesLemmas

@@ -1,0 +1,89 @@
+-- Of any source in which arguments are counted and scopes open behind the statements that build their objects.
+use Rattle.std.proofs.Common.{◌≡◌, ℕ, inl, inr, List, [], ◌∷◌, drop, Option, Some, None, subst}
+use Rattle.std.specs.Prelude.{slice_get}
+use Rattle.uc_tree.specs.Programs.{Program}
+use Rattle.uc_tree.specs.Source.{Source, Routine}
+use Rattle.uc_machine.specs.Quiet as quiet
+use Rattle.uc_machine.specs.Pieces as piece
+use Rattle.uc_machine.specs.Pieces.{Value, Todo, State, top}
+use Rattle.uc_state_laws.specs.Counted.{params, CountedRoutine, CountedSource}
+use Rattle.uc_place_laws.specs.Opened.{ArePaired, OpenedRoutine, OpenedSource}
+use Rattle.uc_place_laws.specs.Called.{variable, Mark, Any, At, Holds, rests, CalledAt, CalledBy, CodeRoutine, Ok, AtDrop, Stands}
+use Rattle.uc_place_laws.specs.CalledStates.{RunsNow}
+use Rattle.uc_place_laws.specs.OpeningLaws.{Awaited, NoneAwaited, CallsAt, LawSteps, LawCalled}
+use Rattle.uc_place_laws.proofs.OpeningMarks.{holds_drop, opens_more, opens_any}
+use Rattle.uc_place_laws.proofs.OpeningWalk.{walk, first_called, led, joined, answered_called}
+
+code_by : (g : Program) (x : Source) (r : Option Routine) → CountedRoutine x r → OpenedRoutine g r → CodeRoutine g x r
+code_by g x None n o = tt
+code_by g x (Some r) n o = (o.0, (n, o.1))
+
+pub code : (g : Program) (x : Source) → CountedSource x → OpenedSource g x → (n : ℕ) → CodeRoutine g x (slice_get x.routines n)
+code g x known opened n = code_by g x (slice_get x.routines n) (known n) (opened n)
+
+pub law_steps : LawSteps
+law_steps = record {
+  begins = λ g source known opened r o. first_called g source (code g source known opened) r o;
+  steps = λ g source known opened s h. led g source s (quiet.quiet source s) (walk g source (code g source known opened) s h);
+  told = λ g source form given s k f c e. answered_called g source form given s k f c e;
+}
+
+module _ (g : Program) (source : Source) where
+  none_awaited : (ms : List Mark) (todo : List Todo) → Ok g source ms todo → NoneAwaited todo
+  none_awaited ms (piece.DropNow ∷ (piece.Within line ∷ (piece.Rest ss ∷ todo))) h = h.1.1.0.0
+  none_awaited ms todo h = tt
+
+  none_behind : (ms : List Mark) (todo : List Todo) → Ok g source ms todo → NoneAwaited (piece.DropNow ∷ todo)
+  none_behind ms (piece.Within line ∷ (piece.Rest ss ∷ todo)) h = h.1.0.0
+  none_behind ms todo h = tt
+
+  any_awaited : (P : ℕ → ℕ → Type 0) (todo : List Todo) → NoneAwaited todo → Awaited P todo
+  any_awaited P (piece.DropNow ∷ (piece.Within line ∷ (piece.Rest ss ∷ todo))) h = opens_any P ss h
+  any_awaited P todo h = tt
+
+  module _ (s : State) where
+    -- the routine r is called at this
+    abbrev pub AtVariable : ℕ → Value → ℕ → ℕ → Type 0
+    AtVariable r v d k = ArePaired g r d × (v ≡ variable s.env.exec s.run.frame k)
+
+    awaited : (r m : ℕ) (v : Value) → v ≡ variable s.env.exec s.run.frame m → (todo : List Todo) → AtDrop g source (CalledAt g r m) todo → Awaited (AtVariable r v) todo
+    awaited r m v e (piece.DropNow ∷ (piece.Within line ∷ (piece.Rest ss ∷ todo))) h =
+        opens_more (CalledAt g r m) (AtVariable r v) (λ d k x. (x.1, subst (λ i. v ≡ variable s.env.exec s.run.frame i) x.0 e)) ss h.0.0
+    awaited r m v e todo h = tt
+
+    none_at : (todo : List Todo) → AtDrop g source (λ d k. ⊥) todo → NoneAwaited todo
+    none_at (piece.DropNow ∷ (piece.Within line ∷ (piece.Rest ss ∷ todo))) h = h.0.0
+    none_at todo h = tt
+
+    awaited_at : (r : ℕ) (ms : List Mark) (vs : List Value) → Holds s.env.exec s.run.frame ms vs → (todo : List Todo) → AtDrop g source (CalledBy g r ms) todo → Awaited (AtVariable r (top vs)) todo
+    awaited_at r (At m ∷ ms) vs k todo h = awaited r m (top vs) k.0 todo h
+    awaited_at r (Any ∷ ms) vs k todo h = any_awaited (AtVariable r (top vs)) todo (none_at todo h)
+    awaited_at r [] vs k todo h = any_awaited (AtVariable r (top vs)) todo (none_at todo h)
+
+    module _ (ms : List Mark) (holds : Holds s.env.exec s.run.frame ms s.run.operands) where
+      called : (r : ℕ) (todo : List Todo) → Ok g source ms (piece.CallOnNow r ∷ todo) → Awaited (AtVariable r (top (drop (params source r) s.run.operands))) todo
+      called r todo (inl h) = any_awaited (AtVariable r (top (drop (params source r) s.run.operands))) todo (none_awaited _ todo h)
+      called r todo (inr h) = awaited_at r (rests (params source r) ms) (drop (params source r) s.run.operands) (holds_drop s.env.exec s.run.frame (params source r) ms s.run.operands holds) todo h
+
+      calls : (l : List Todo) → Ok g source ms l → CallsAt g source l s
+      calls (piece.CallNow r ∷ todo) h = none_awaited _ todo h.1
+      calls (piece.RaiseNow ∷ todo) h = none_behind _ todo h.1
+      calls (piece.CallOnNow r ∷ todo) h = called r todo h
+      calls (piece.CallUnwrittenNow r ∷ todo) h = called r todo h
+      calls l h = tt
+
+    stands : (l : List Todo) → Stands g source l → CallsAt g source l s
+    stands (piece.Rest ss ∷ todo) h = tt
+    stands (piece.Within line ∷ todo) h = tt
+    stands (piece.DropNow ∷ todo) h = tt
+    stands l h = absurd h
+
+    pub is_calling : RunsNow g source s.env.exec s.run → CallsAt g source s.run.control s
+    is_calling (inl f) = calls f.marks f.holds s.run.control f.ok
+    is_calling (inr f) = stands s.run.control f
+
+pub law_called : LawCalled
+law_called g source known opened s h = record {
+  calls = is_calling g source s h.run;
+  joins = joined g source s (quiet.quiet source s) (walk g source (code g source known opened) s h);
+}

@@ -1,0 +1,153 @@
+-- Marks and operands, scopes that open next, and to-do lists that are left.
+use Rattle.std.proofs.Common.{◌≡◌, ℕ, zero, suc, ◌⊎◌, inl, inr, List, [], ◌∷◌, drop, refl, sym, ap, subst}
+use Rattle.std.specs.Prelude.{slice_set}
+use Rattle.uc_tree.specs.Programs.{Program}
+use Rattle.uc_tree.specs.Source as src
+use Rattle.uc_tree.specs.Source.{Expr, CleanUp, Stmts, Source}
+use Rattle.uc_machine.specs.declared.exec.Exec.{Exec}
+use Rattle.uc_machine.specs.Pieces as piece
+use Rattle.uc_machine.specs.Pieces.{Value, Todo, Active, below}
+use Rattle.uc_place_laws.specs.OlderResting.{AllWait}
+use Rattle.uc_state_laws.specs.Counted.{params}
+use Rattle.uc_place_laws.specs.Opened.{OfPlain, OpensOf, OpensNone, Builds, Before}
+use Rattle.uc_place_laws.specs.Called.{Mark, Any, At, Holds, rest, rests, anys, Placed, Every, CalledBy, after, Ok, AtRest, AtDrop, Left}
+use Rattle.uc_place_laws.specs.CalledStates.{Runs, Waits}
+
+-- operands
+
+drop_below : (n : ℕ) (vs : List Value) → drop (suc n) vs ≡ below (drop n vs)
+drop_below zero [] = refl
+drop_below zero (v ∷ vs) = refl
+drop_below (suc n) [] = refl
+drop_below (suc n) (v ∷ vs) = drop_below n vs
+
+module _ (n : Exec) (f : ℕ) where
+  pub holds_below : (ms : List Mark) (vs : List Value) → Holds n f ms vs → Holds n f (rest ms) (below vs)
+  holds_below [] vs h = tt
+  holds_below (m ∷ ms) vs h = h.1
+
+  pub holds_drop : (k : ℕ) (ms : List Mark) (vs : List Value) → Holds n f ms vs → Holds n f (rests k ms) (drop k vs)
+  holds_drop zero ms [] h = h
+  holds_drop zero ms (v ∷ vs) h = h
+  holds_drop (suc k) ms vs h = subst (Holds n f (rest (rests k ms))) (sym (drop_below k vs)) (holds_below (rests k ms) (drop k vs) (holds_drop k ms vs h))
+
+  -- so many operands of which nothing is known
+  pub holds_anys : (k : ℕ) (ms : List Mark) (vs : List Value) → Holds n f ms (drop k vs) → Holds n f (anys k ms) vs
+  holds_anys zero ms [] h = h
+  holds_anys zero ms (v ∷ vs) h = h
+  holds_anys (suc k) ms vs h = holds_anys k (Any ∷ ms) vs (tt, subst (Holds n f ms) (drop_below k vs) h)
+
+pub rests_anys : (n : ℕ) (ms : List Mark) → rests n (anys n ms) ≡ ms
+rests_anys zero ms = refl
+rests_anys (suc n) ms = ap rest (rests_anys n (Any ∷ ms))
+
+-- what is written to an operand leaves those below
+pub drop_set : (n : ℕ) (v : Value) (vs : List Value) → drop (suc n) (slice_set vs n v) ≡ drop (suc n) vs
+drop_set n v [] = refl
+drop_set zero v (w ∷ vs) = refl
+drop_set (suc n) v (w ∷ vs) = drop_set n v vs
+
+-- scopes that open next
+
+module _ (P Q : ℕ → ℕ → Type 0) (f : (d k : ℕ) → P d k → Q d k) where
+  plain_more : (c : CleanUp) → OfPlain P c → OfPlain Q c
+  plain_more (src.Destroys (src.OfObject (src.CallOn d (src.Variable k) args))) h = f d k h
+  plain_more (src.Destroys (src.OfObject (src.CallUnwritten d (src.Variable k)))) h = f d k h
+  plain_more c h = tt
+
+  pub opens_more : (ss : Stmts) → OpensOf P ss → OpensOf Q ss
+  opens_more (src.Scoped c ss) h = plain_more c h
+  opens_more ss h = tt
+
+-- none opens next, so whatever opens next is so
+pub opens_any : (P : ℕ → ℕ → Type 0) (ss : Stmts) → OpensNone ss → OpensOf P ss
+opens_any P ss h = opens_more (λ d k. ⊥) P (λ d k x. absurd x) ss h
+
+module _ (p : Program) (source : Source) where
+  pub rest_more : (P Q : ℕ → ℕ → Type 0) → ((d k : ℕ) → P d k → Q d k) → (todo : List Todo) → AtRest p source P todo → AtRest p source Q todo
+  rest_more P Q f (piece.Rest ss ∷ todo) h = ((opens_more P Q f ss h.0.0, h.0.1), h.1)
+  rest_more P Q f todo h = absurd h
+
+  pub drop_more : (P Q : ℕ → ℕ → Type 0) → ((d k : ℕ) → P d k → Q d k) → (todo : List Todo) → AtDrop p source P todo → AtDrop p source Q todo
+  drop_more P Q f (piece.DropNow ∷ (piece.Within line ∷ todo)) h = rest_more P Q f todo h
+  drop_more P Q f todo h = absurd h
+
+  -- where none does, nothing more is asked
+  pub rest_none : (todo : List Todo) → AtRest p source (λ d k. ⊥) todo → Ok p source [] todo
+  rest_none (piece.Rest ss ∷ todo) h = h
+  rest_none todo h = absurd h
+
+  pub drop_none : (ms : List Mark) (todo : List Todo) → AtDrop p source (λ d k. ⊥) todo → Ok p source ms todo
+  drop_none ms (piece.DropNow ∷ (piece.Within line ∷ todo)) h = (tt, (tt, rest_none todo h))
+  drop_none ms todo h = absurd h
+
+  -- to-do lists that are left
+
+  -- what is evaluated, and what is called, may build or not
+  either_eval : (e : Expr) (A B Q : Type 0) (P : ℕ → Type 0) → (A → Q) → (B → Q) → ((k : ℕ) → P k → Q) → A ⊎ (B ⊎ Placed e P) → Q
+  either_eval e A B Q P f g h (inl x) = f x
+  either_eval e A B Q P f g h (inr (inl x)) = g x
+  either_eval (src.Variable k) A B Q P f g h (inr (inr x)) = h k x
+  either_eval e A B Q P f g h (inr (inr x)) = absurd x
+
+  either_call : (A B Q : Type 0) → (A → Q) → (B → Q) → A ⊎ B → Q
+  either_call A B Q f g (inl x) = f x
+  either_call A B Q f g (inr x) = g x
+
+  mutual
+    pub left : (ms : List Mark) (todo : List Todo) → Ok p source ms todo → Left p source todo
+    left ms [] h = tt
+    left ms (piece.Eval e ∷ todo) h =
+        either_eval e (Ok p source (Any ∷ ms) todo) (AtDrop p source (Builds p e) todo) (Left p source todo) (λ k. Ok p source (At k ∷ ms) todo) (λ x. left (Any ∷ ms) todo x) (λ x. left_drop todo (drop_more (Builds p e) Every (λ d k y. tt) todo x)) (λ k x. left (At k ∷ ms) todo x) h.1
+    left ms (piece.CallOnNow r ∷ todo) h =
+        either_call (Ok p source (Any ∷ rests (suc (params source r)) ms) todo) (AtDrop p source (CalledBy p r (rests (params source r) ms)) todo) (Left p source todo) (λ x. left (Any ∷ rests (suc (params source r)) ms) todo x) (λ x. left_drop todo (drop_more (CalledBy p r (rests (params source r) ms)) Every (λ d k y. tt) todo x)) h
+    left ms (piece.CallUnwrittenNow r ∷ todo) h =
+        either_call (Ok p source (Any ∷ rests (suc (params source r)) ms) todo) (AtDrop p source (CalledBy p r (rests (params source r) ms)) todo) (Left p source todo) (λ x. left (Any ∷ rests (suc (params source r)) ms) todo x) (λ x. left_drop todo (drop_more (CalledBy p r (rests (params source r) ms)) Every (λ d k y. tt) todo x)) h
+    left ms (piece.Do a ∷ todo) h =
+        either_call (Ok p source [] todo) (AtRest p source (Before p a) todo) (Left p source todo) (λ x. left [] todo x) (λ x. left_rest todo (rest_more (Before p a) Every (λ d k y. tt) todo x)) h.1
+    left ms (piece.Exit w ∷ todo) h = h
+    left ms (piece.Unwind ∷ todo) h = h
+    left ms (piece.InLoop o t e b ∷ todo) h = h
+    left ms (piece.InWhole ∷ todo) h = h.1
+    left ms (piece.Clean c ∷ todo) h = h
+    left ms (piece.FillNow n b d ∷ todo) h = h
+    left ms (piece.Sweep e ∷ todo) h = h
+    left ms (piece.Part c ∷ todo) h = h
+    left ms (piece.Guard hs ∷ todo) h = h
+    left ms (piece.Finish ∷ todo) h = h.1
+    left ms (piece.FinishCoroutine ∷ todo) h = h.1
+    left ms (x ∷ todo) h = left (after source x ms) todo h.1
+
+    left_rest : (todo : List Todo) → AtRest p source Every todo → Left p source todo
+    left_rest (piece.Rest ss ∷ todo) h = left [] todo h.1
+    left_rest todo h = absurd h
+
+    left_drop : (todo : List Todo) → AtDrop p source Every todo → Left p source todo
+    left_drop (piece.DropNow ∷ (piece.Within line ∷ todo)) h = left_rest todo h
+    left_drop todo h = absurd h
+
+  -- what stands behind the first piece
+  pub left_tail : (x : Todo) (todo : List Todo) → Left p source (x ∷ todo) → Left p source todo
+  left_tail (piece.InLoop o t e b) todo h = left [] todo h.1
+  left_tail piece.InWhole todo h = left [] todo h
+  left_tail (piece.Clean c) todo h = left [] todo h.1
+  left_tail (piece.FillNow n b d) todo h = left [] todo h.1
+  left_tail (piece.Sweep e) todo h = left [] todo h.1
+  left_tail (piece.Part c) todo h = left [] todo h.1
+  left_tail (piece.Guard hs) todo h = left [] todo h.1
+  left_tail piece.Finish todo h = left [] todo h
+  left_tail piece.FinishCoroutine todo h = left [] todo h
+  left_tail x todo h = h
+
+  -- of activations that wait
+  abbrev pub AllLeft : List Active → Type 0
+  AllLeft [] = Unit {0}
+  AllLeft (a ∷ cs) = Left p source a.control × AllLeft cs
+
+  pub wait_left : (n : Exec) (older : List Active) (a : Active) → Waits p source n older a → Left p source a.control
+  wait_left n older a (inl h) = left (Any ∷ h.marks) a.control h.ok
+  wait_left n older a (inr h) = left_drop a.control h
+
+  pub waits_left : (n : Exec) (cs : List Active) → AllWait (Runs p source) (Waits p source) n cs → AllLeft cs
+  waits_left n [] h = tt
+  waits_left n (a ∷ cs) h = (wait_left n cs a h.0, waits_left n cs h.1)

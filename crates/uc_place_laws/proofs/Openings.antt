@@ -1,0 +1,258 @@
+-- In the source of every program the scope of an object that is a variable stands behind the statement that calls its constructor there.
+use Rattle.std.proofs.Common.{◌≡◌, ℕ, zero, suc, ◌+◌, ◌++◌, Bool, true, false, List, [], ◌∷◌, length, Option, Some, None, refl, sym, ap}
+use Rattle.std.specs.Prelude.{slice_get}
+use Rattle.uc_tree.specs.declared.kinds.Base.{Base}
+use Rattle.uc_tree.specs.declared.kinds.Kind.{Kind}
+use Rattle.uc_tree.specs.declared.kinds.Kind.TheVariants as kind
+use Rattle.uc_tree.specs.declared.kinds.Role.{Role}
+use Rattle.uc_tree.specs.declared.kinds.Role.TheVariants as role
+use Rattle.uc_tree.specs.Cells.{leading_cells}
+use Rattle.uc_tree.specs.Statements as stmt
+use Rattle.uc_tree.specs.Statements.{Declarator}
+use Rattle.uc_tree.specs.Programs as whole
+use Rattle.uc_tree.specs.Programs.{Program}
+use Rattle.uc_tree.specs.Gathered.{gathered_all}
+use Rattle.uc_tree.specs.Numbering.{Defined, is_mutex, own_sites, own_texts, routines_of}
+use Rattle.uc_tree.specs.Objects.{Making, APlain, AMutex, ACluster, AProcessor, making, ClassField, fields_of, has_execution, class_at, class_shape, shape_of, written_at, Unwritten, unwritten_of}
+use Rattle.uc_tree.specs.Source as src
+use Rattle.uc_tree.specs.Source.{Shape, Expr, Stmt, Stmts, Clauses, Purpose, Routine}
+use Rattle.uc_resolve.specs.Standings as tree
+use Rattle.uc_resolve.specs.Standings.{Meant}
+use Rattle.uc_resolve.specs.Resolve as meaning
+use Rattle.uc_resolve.specs.Resolve.{Scope, source_of}
+use Rattle.uc_place_laws.specs.Opened.{role_number, OfPlain, OpensNone, Builds, Before, OpenedStmt, OpenedStmts, OpenedHandlers, OpenedClauses, OpenedRoutine}
+use Rattle.uc_place_laws.specs.OpeningLaws.{LawOpened}
+use Rattle.uc_place_laws.proofs.OpeningMarks.{opens_any}
+
+-- what builds an object that is a variable, and what destroys it
+
+module _ (p : Program) (b : Base) (i k : ℕ) (made : making p b ≡ Some (APlain i)) (args : List Meant) where
+  paired : (x y : Option ℕ) → written_at p i role.Constructor ≡ x → written_at p i role.Destructor ≡ y → OfPlain (Builds p (meaning.called_by p i role.Constructor (src.Variable k) args x)) (src.Destroys (meaning.called_by p i role.Destructor (src.Variable k) [] y))
+  paired None None e f = (refl, record { class = i; base = b; made = made; builds = ap (role_number p i role.Constructor) (sym e); ends = ap (role_number p i role.Destructor) (sym f) })
+  paired None (Some d) e f = (refl, record { class = i; base = b; made = made; builds = ap (role_number p i role.Constructor) (sym e); ends = ap (role_number p i role.Destructor) (sym f) })
+  paired (Some r) None e f = (refl, record { class = i; base = b; made = made; builds = ap (role_number p i role.Constructor) (sym e); ends = ap (role_number p i role.Destructor) (sym f) })
+  paired (Some r) (Some d) e f = (refl, record { class = i; base = b; made = made; builds = ap (role_number p i role.Constructor) (sym e); ends = ap (role_number p i role.Destructor) (sym f) })
+
+module _ (p : Program) where
+  by_number_plain : (P : ℕ → ℕ → Type 0) (i : ℕ) (object : Expr) (r : Option ℕ) → OfPlain P (src.Destroys (meaning.ended_by p i object r))
+  by_number_plain P i object None = tt
+  by_number_plain P i object (Some r) = tt
+
+  opens : (line : ℕ) (b : Base) (m : Making) (len : Option ℕ) (k : ℕ) (args : List Meant) → making p b ≡ Some m → OfPlain (Before p (meaning.build p line m len (src.Variable k) args)) (meaning.clean_up p m len (src.Variable k))
+  opens line b (APlain i) None k args e = paired p b i k e args (written_at p i role.Constructor) (written_at p i role.Destructor) refl refl
+  opens line b (AMutex i) None k args e = by_number_plain _ i (src.Load (src.Variable k)) (written_at p i role.Destructor)
+  opens line b ACluster None k args e = tt
+  opens line b AProcessor None k args e = tt
+  opens line b m (Some n) k args e = tt
+
+  open_build : (line : ℕ) (m : Making) (len : Option ℕ) (place : Expr) (args : List Meant) → OpenedStmt p (meaning.build p line m len place args)
+  open_build line m None place args = tt
+  open_build line m (Some n) place args = tt
+
+  -- a field of the object at hand is no variable
+  called_own : (P : ℕ → ℕ → Type 0) (i : ℕ) (s : Shape) (n : ℕ) (r : Option ℕ) → OfPlain P (src.Destroys (meaning.called_by p i role.Destructor (src.OfObject (src.OwnField s n)) [] r))
+  called_own P i s n None = tt
+  called_own P i s n (Some r) = tt
+
+  own_field : (P : ℕ → ℕ → Type 0) (m : Making) (len : Option ℕ) (s : Shape) (n : ℕ) → OfPlain P (meaning.clean_up p m len (src.OfObject (src.OwnField s n)))
+  own_field P (APlain i) None s n = called_own P i s n (written_at p i role.Destructor)
+  own_field P (AMutex i) None s n = by_number_plain P i _ (written_at p i role.Destructor)
+  own_field P ACluster None s n = tt
+  own_field P AProcessor None s n = tt
+  own_field P m (Some k) s n = tt
+
+  -- a block of which nothing is done, and a statement before one
+  abbrev Open : Stmts → Type 0
+  Open ss = OpensNone ss × OpenedStmts p ss
+
+  prepend : (a : Stmt) (ss : Stmts) → OpenedStmt p a → Open ss → Open (src.Then a ss)
+  prepend a ss k h = (tt, (k, opens_any (Before p a) ss h.0, h.1))
+
+  -- declarations
+
+  objects : (m : Making) (line : ℕ) (b : Base) (ds : List Declarator) (s : Scope) (rest : Stmts) → making p b ≡ Some m → Open rest → Open (meaning.objects_scoped p m line b ds s rest)
+  objects m line b [] s rest e h = h
+  objects m line b (d ∷ ds) s rest e h =
+      let len : Option ℕ = meaning.length_of p d d.len in
+      (tt, (tt, tt, (open_build line m len (src.Variable s.cells) (meaning.start_args p s d.start), opens line b m len s.cells (meaning.start_args p s d.start) e, objects m line b ds (meaning.with_declared p s b d) rest e h)))
+
+  declared_then : (b : Base) (m : Option Making) (line : ℕ) (ds : List Declarator) (s : Scope) (rest : Stmts) → making p b ≡ m → Open rest → Open (meaning.declared_then p m line b ds s rest)
+  declared_then b None line ds s rest e h = prepend (src.Declare line (meaning.all_declared p s b ds)) rest tt h
+  declared_then b (Some m) line ds s rest e h = objects m line b ds s rest e h
+
+  declared_alone : (b : Base) (m : Option Making) (line : ℕ) (ds : List Declarator) (s : Scope) → making p b ≡ m → OpenedStmt p (meaning.declared_alone p m line b ds s)
+  declared_alone b None line ds s e = tt
+  declared_alone b (Some m) line ds s e = objects m line b ds s src.Nil e (tt, tt)
+
+  start_then : (line : ℕ) (x : stmt.ForStart) (s : Scope) (rest : Stmts) → Open rest → Open (meaning.start_then p line x s rest)
+  start_then line stmt.NoFor s rest h = prepend (src.Skip line) rest tt h
+  start_then line (stmt.ForDeclare place b ds) s rest h = declared_then b (making p b) line ds s rest refl h
+  start_then line (stmt.ForEvaluate e) s rest h = prepend (src.Evaluate line (tree.meant (meaning.context_at p s) e).expr) rest tt h
+
+  stmt_then : (t : stmt.Stmt) (s : Scope) (a : Stmt) (rest : Stmts) → OpenedStmt p a → Open rest → Open (meaning.stmt_then p t s a rest)
+  stmt_then (stmt.Declare place b ds) s a rest n h = declared_then b (making p b) place.line ds s rest refl h
+  stmt_then t s a rest n h = prepend a rest n h
+
+  mutual
+    one : (t : stmt.Stmt) (s : Scope) → OpenedStmt p (meaning.stmt_meant p t s)
+    one (stmt.Block place body) s = all body s
+    one (stmt.Declare place b ds) s = declared_alone b (making p b) place.line ds s refl
+    one (stmt.If place e chosen other) s = (one chosen s, maybe other (meaning.scope_past p chosen s))
+    one (stmt.While place e body) s = one body s
+    one (stmt.Do place body e) s = one body s
+    one (stmt.For place x e f body) s =
+        let inner : Scope = meaning.for_scope p x s in
+        start_then place.line x s (src.Then (src.Loop place.line (meaning.order_of p e) (meaning.test_of p inner e) (meaning.step_of p inner f) (meaning.stmt_meant p body inner)) src.Nil) (prepend (src.Loop place.line (meaning.order_of p e) (meaning.test_of p inner e) (meaning.step_of p inner f) (meaning.stmt_meant p body inner)) src.Nil (one body inner) (tt, tt))
+    one (stmt.Try place brace body hs) s = ((tt, (all body s, tt, tt)), handlers hs (meaning.scope_past_all p body s))
+    one (stmt.Enable place events body) s = one body (meaning.within_events p s)
+    one (stmt.Disable place events body) s = one body (meaning.within_events p s)
+    one (stmt.Accept place cs other) s =
+        clauses cs (meaning.within_accept p s) _ (otherwise other (meaning.scope_past_clauses p cs (meaning.within_accept p s)))
+    one t s = tt
+
+    clauses : (cs : stmt.Clauses) (s : Scope) (other : Clauses) → OpenedClauses p other → OpenedClauses p (meaning.clauses_meant p cs s other)
+    clauses stmt.NoClauses s other h = h
+    clauses (stmt.MoreClauses (stmt.Accepts place guard members body) rest) s other h = (one body s, clauses rest (meaning.scope_past p body s) other h)
+
+    otherwise : (t : stmt.MaybeStmt) (s : Scope) → OpenedClauses p (meaning.else_meant p t s)
+    otherwise stmt.NoStmt s = tt
+    otherwise (stmt.OneStmt body) s = one body s
+
+    handlers : (hs : stmt.Handlers) (s : Scope) → OpenedHandlers p (meaning.handlers_meant p hs s)
+    handlers stmt.NoHandlers s = tt
+    handlers (stmt.MoreHandlers (stmt.Handles place kind event param brace body) rest) s =
+        let x : stmt.Handler = stmt.Handles place kind event param brace body in
+        (all body (meaning.in_handler p x s), handlers rest (meaning.scope_past_handler p x s))
+
+    maybe : (t : stmt.MaybeStmt) (s : Scope) → OpenedStmt p (meaning.maybe_meant p t s)
+    maybe stmt.NoStmt s = tt
+    maybe (stmt.OneStmt body) s = one body s
+
+    all : (ts : stmt.Stmts) (s : Scope) → Open (meaning.stmts_meant p ts s)
+    all stmt.NoStmts s = (tt, tt)
+    all (stmt.MoreStmts t ts) s =
+        stmt_then t s (meaning.stmt_meant p t s) (meaning.stmts_meant p ts (meaning.scope_after p t s)) (one t s) (all ts (meaning.scope_after p t s))
+
+  -- fields
+
+  field_started : (f : ClassField) (place : Expr) (args : List Meant) (rest : Stmts) → Open rest → Open (meaning.field_started p f place args rest)
+  field_started f place [] rest h = h
+  field_started f place (m ∷ ms) rest h = prepend (src.Evaluate 0 (meaning.field_start p f.declarator.by_ref (shape_of f.base) place m)) rest tt h
+
+  field_built : (m : Option Making) (f : ClassField) (len : Option ℕ) (place : Expr) (args : List Meant) (rest : Stmts) → Open rest → Open (meaning.field_built p m f len place args rest)
+  field_built None f len place args rest h = field_started f place args rest h
+  field_built (Some m) f len place args rest h = (tt, (open_build 0 m len place args, tt, h))
+
+  field_left : (m : Option Making) (len : Option ℕ) (s : Shape) (i : ℕ) (rest : Stmts) → Open rest → Open (meaning.field_left p m len (src.OfObject (src.OwnField s i)) rest)
+  field_left None len s i rest h = h
+  field_left (Some m) len s i rest h = (own_field (λ d k. ⊥) m len s i, h)
+
+  module _ (c : whole.Class) (i : ℕ) where
+    fields_built : (inits : List whole.Init) (s : Scope) (fs : List ClassField) (n : ℕ) (rest : Stmts) → Open rest → Open (meaning.fields_built p c i inits s fs n rest)
+    fields_built inits s [] n rest h = h
+    fields_built inits s (f ∷ fs) n rest h =
+        field_built (meaning.field_making p f) f (meaning.length_in_class p c i f) (tree.field_place (class_shape p i) n tree.Own) (meaning.init_args p s (meaning.init_named p inits f.declarator.name)) (meaning.fields_built p c i inits s fs (suc n) rest) (fields_built inits s fs (suc n) rest h)
+
+    fields_left : (fs : List ClassField) (n : ℕ) (rest : Stmts) → Open rest → Open (meaning.fields_left p c i fs n rest)
+    fields_left [] n rest h = h
+    fields_left (f ∷ fs) n rest h =
+        field_left (meaning.field_making p f) (meaning.length_in_class p c i f) (class_shape p i) n (meaning.fields_left p c i fs (suc n) rest) (fields_left fs (suc n) rest h)
+
+  -- constructors and destructors
+
+  set_up : (b : Bool) (i : ℕ) (rest : Stmts) → Open rest → Open (meaning.set_up p b i rest)
+  set_up false i rest h = h
+  set_up true i rest h = (tt, (tt, tt, h))
+
+  started_in : (b : Bool) (body : Stmts) → Open body → Open (meaning.started_in p b body)
+  started_in false body h = h
+  started_in true body h = (tt, h)
+
+  enlivened : (b : Bool) → Open (meaning.enlivened p b)
+  enlivened false = (tt, tt)
+  enlivened true = (tt, (tt, tt, tt))
+
+  taken_down : (b : Bool) (body : Stmts) → Open body → Open (meaning.taken_down p b body)
+  taken_down false body h = h
+  taken_down true body h = prepend (src.OfTasks src.TakeDown) body tt h
+
+  forgotten : (b : Bool) (rest : Stmts) → Open rest → Open (meaning.forgotten p b rest)
+  forgotten false rest h = h
+  forgotten true rest h = (tt, h)
+
+  freed : (k : Kind) (i : ℕ) (rest : Stmts) → Open rest → Open (meaning.freed p k i rest)
+  freed kind.Monitor i rest h = (tt, h)
+  freed kind.Cormonitor i rest h = (tt, h)
+  freed kind.Task i rest h = (tt, h)
+  freed kind.Class i rest h = h
+  freed kind.Coroutine i rest h = h
+  freed kind.Event i rest h = h
+
+  ending : (b : Bool) (rest : Stmts) → Open rest → Open (meaning.ending p b rest)
+  ending false rest h = h
+  ending true rest h = (tt, h)
+
+  construction : (c : Option whole.Class) (i : ℕ) (inits : List whole.Init) (s : Scope) (body : Stmts) → Open body → Open (meaning.construction p c i inits s body)
+  construction None i inits s body h = h
+  construction (Some c) i inits s body h =
+      freed c.kind i _ (set_up (has_execution c.kind) i _ (fields_built c i inits s (fields_of c.members) (leading_cells c.kind) _ (started_in (has_execution c.kind) body h)))
+
+  destruction : (c : Option whole.Class) (i : ℕ) (body : Stmts) → Open body → Open (meaning.destruction p c i body)
+  destruction None i body h = h
+  destruction (Some c) i body h =
+      ending (is_mutex c.kind) _ (forgotten (has_execution c.kind) _ (fields_left c i (fields_of c.members) (leading_cells c.kind) _ (taken_down (has_execution c.kind) body h)))
+
+  construction_ends : (c : Option whole.Class) (i : ℕ) → Open (meaning.construction_ends p c i)
+  construction_ends None i = (tt, tt)
+  construction_ends (Some c) i = enlivened (has_execution c.kind)
+
+  owing : (line : ℕ) (u : Purpose) → Open (meaning.owing p line u)
+  owing line src.Function = (tt, (tt, tt, tt))
+  owing line src.TaskMain = (tt, tt)
+  owing line src.CoroutineMain = (tt, tt)
+  owing line src.Procedure = (tt, tt)
+  owing line src.Builder = (tt, tt)
+
+  plain_body : (b : Bool) (r : whole.Routine) (body : Stmts) → Open body → Open (meaning.plain_body p b r body)
+  plain_body false r body h = h
+  plain_body true r body h = (tt, prepend (src.Block r.brace.line body) (meaning.owing p r.brace.line (meaning.value_purpose p r.sig.ret)) h (owing r.brace.line (meaning.value_purpose p r.sig.ret)))
+
+  body_by : (role : Role) (r : whole.Routine) (s : Scope) → Open (meaning.body_by p role r s)
+  body_by role.Plain r s = plain_body (meaning.has_number_in p (meaning.class_by p s.class) r.sig) r (meaning.stmts_meant p r.body s) (all r.body s)
+  body_by role.Constructor r s =
+      construction (meaning.class_by p s.class) (meaning.place_or_zero p s.class) r.inits s _ (prepend (src.Whole r.brace.line (meaning.stmts_meant p r.body s)) _ (all r.body s) (construction_ends (meaning.class_by p s.class) (meaning.place_or_zero p s.class)))
+  body_by role.Destructor r s =
+      destruction (meaning.class_by p s.class) (meaning.place_or_zero p s.class) (src.Then (src.Whole r.brace.line (meaning.stmts_meant p r.body s)) src.Nil) (prepend (src.Whole r.brace.line (meaning.stmts_meant p r.body s)) src.Nil (all r.body s) (tt, tt))
+
+  unwritten_body : (x : Role) (i : ℕ) → Open (meaning.unwritten_body p x i)
+  unwritten_body role.Plain i = (tt, tt)
+  unwritten_body role.Constructor i = construction (class_at p i) i [] (meaning.nowhere p) (meaning.construction_ends p (class_at p i) i) (construction_ends (class_at p i) i)
+  unwritten_body role.Destructor i = destruction (class_at p i) i src.Nil (tt, tt)
+
+  -- all routines of a source
+
+  abbrev AllOpen : List Routine → Type 0
+  AllOpen [] = Unit {0}
+  AllOpen (r ∷ rs) = Open r.body × AllOpen rs
+
+  both_lists : (rs us : List Routine) → AllOpen rs → AllOpen us → AllOpen (rs ++ us)
+  both_lists [] us h k = k
+  both_lists (r ∷ rs) us h k = (h.0, both_lists rs us h.1 k)
+
+  by_number : (rs : List Routine) → AllOpen rs → (n : ℕ) → OpenedRoutine p (slice_get rs n)
+  by_number [] h n = tt
+  by_number (r ∷ rs) h zero = h.0
+  by_number (r ∷ rs) h (suc n) = by_number rs h.1 n
+
+  written : (ds : List Defined) (number texts sites : ℕ) → AllOpen (meaning.routines_meant p ds number texts sites)
+  written [] number texts sites = tt
+  written (d ∷ ds) number texts sites =
+      (body_by d.routine.sig.role d.routine (meaning.routine_scope p d.routine (meaning.place_by p d) number texts sites), written ds (number + 1) (texts + length (gathered_all own_texts d.routine.body)) (sites + length (gathered_all (own_sites d.class d.number) d.routine.body)))
+
+  unwritten : (us : List Unwritten) → AllOpen (meaning.all_unwritten p us)
+  unwritten [] = tt
+  unwritten (u ∷ us) = (unwritten_body u.role u.class, unwritten us)
+
+pub law_opened : LawOpened
+law_opened p n =
+    by_number p (source_of p).routines (both_lists p (meaning.routines_meant p (routines_of p) 0 0 0) (meaning.all_unwritten p (unwritten_of p)) (written p (routines_of p) 0 0 0) (unwritten p (unwritten_of p))) n

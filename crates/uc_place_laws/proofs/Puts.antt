@@ -1,0 +1,50 @@
+-- What is bound, and the object at hand that gets an execution, lies aside.
+use Rattle.std.proofs.Common.{◌≡◌, ℕ, ◌<◌, ◌⊎◌, inl, inr, Bool, true, List, [], ◌∷◌, arith}
+use Rattle.uc_tree.specs.Source.{Source}
+use Rattle.uc_machine.specs.declared.exec.Owner.{Owner}
+use Rattle.uc_machine.specs.declared.exec.Owner.TheVariants.{Frame, Fields}
+use Rattle.uc_machine.specs.Pieces as piece
+use Rattle.uc_machine.specs.Pieces.{Link, Value, Number, Place, Running, Object, Nothing, LAST_ADDRESS, address, Todo, Active, State, top, below}
+use Rattle.uc_state_laws.specs.There.{IsBefore, Pends, EachNext}
+use Rattle.uc_state_laws.specs.ThereStates.{StackAside, InFrame, IsAside, PutsAside}
+use Rattle.uc_place_laws.specs.Asides.{IsNearer, PendsBefore, OwnerAside, LiesAside, IsNear, Mark, Holds, rest, FirstAside, FirstLoose, Free, OkNow}
+use Rattle.uc_place_laws.specs.AsideLaws.{PutsAt, LawPuts}
+use Rattle.uc_place_laws.proofs.AsideMarks.{holds_below, holds_aside, holds_loose, pends_more, each_next_more, free_pends}
+
+-- what lies before a cell is not at that
+apart : (cell : ℕ) (p : List Link) → IsBefore cell p → address p ≡ cell → ⊥
+apart cell p h e = omega (arith, h, e)
+
+stack_aside : (cell d : ℕ) (cs : List Active) → PendsBefore cell d cs → StackAside cell d cs
+stack_aside cell d [] h = tt
+stack_aside cell d (c ∷ cs) h = (here, stack_aside cell d cs h.1)
+  where
+    here : c.frame ≡ d → Pends (λ p. address p ≡ cell → ⊥) c.control × EachNext (λ p. address p < LAST_ADDRESS → address p ≡ cell → ⊥) c.control
+    here e =
+        let k = h.0 e in
+        (pends_more (IsBefore cell) (λ p. address p ≡ cell → ⊥) (apart cell) c.control k.0, each_next_more (IsNearer cell) (λ p. address p < LAST_ADDRESS → address p ≡ cell → ⊥) (λ p z near. apart cell p (z near)) c.control k.1)
+
+module _ (s : State) (todo : List Todo) (free : Free todo) where
+  in_frame : (o : Owner) (cell : ℕ) → OwnerAside s.env.exec s.callers o cell → InFrame o cell s.run.frame todo s.callers s.env
+  in_frame (Frame n d) cell h = (h.0, (λ e. free_pends (λ p. address p ≡ cell → ⊥) todo free), stack_aside cell d s.callers h.1)
+  in_frame (Fields o) cell h = tt
+
+  is_aside : (v : Value) → LiesAside s.env.exec s.callers v → IsAside v todo s
+  is_aside (Number z) h = tt
+  is_aside (Place o p) h = in_frame o (address p) h
+  is_aside (Running e) h = tt
+  is_aside (Object o) h = tt
+  is_aside Nothing h = tt
+
+module _ (makes : ℕ → Bool) (source : Source) (s : State) (made : Bool) (this : made ≡ true → LiesAside s.env.exec s.callers s.run.this) (ms : List Mark) (holds : Holds s.env.exec s.callers ms s.run.operands) where
+  bound : (todo : List Todo) → (FirstAside (rest ms) × Free todo) ⊎ FirstLoose ms → PutsAside todo s
+  bound todo (inl h) = inr (is_aside s todo h.1 (top (below s.run.operands)) (holds_aside s.env.exec s.callers (rest ms) (below s.run.operands) (holds_below s.env.exec s.callers ms s.run.operands holds) h.0))
+  bound todo (inr h) = inl (holds_loose s.env.exec s.callers ms s.run.operands holds h)
+
+  puts_at : (l : List Todo) → OkNow makes source (IsNear s.run.frame s.callers) made ms l → PutsAt l s
+  puts_at (piece.BindNow ∷ todo) h = bound todo h.0
+  puts_at (piece.SetUpNow r ∷ todo) h = is_aside s todo h.0.2 s.run.this (this h.0.0)
+  puts_at l h = tt
+
+pub law_puts : LawPuts
+law_puts makes source s h = puts_at makes source s h.run.made h.run.this h.run.marks h.run.holds s.run.control h.run.ok

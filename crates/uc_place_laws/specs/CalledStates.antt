@@ -1,0 +1,95 @@
+-- Tasks in which each scope of an object that is a variable opens behind the call of its constructor.
+use Rattle.std.specs.Prelude.{◌≡◌, ℕ, ◌⊎◌, true, List, [], ◌∷◌, Option, length}
+use Rattle.uc_tree.specs.Programs.{Program}
+use Rattle.uc_tree.specs.Source.{Source}
+use Rattle.uc_entry.specs.declared.request.Request.{Request}
+use Rattle.uc_entry.specs.declared.request.Request.TheVariants as ask
+use Rattle.uc_machine.specs.declared.exec.Exec.{Exec}
+use Rattle.uc_machine.specs.declared.exec.Home.{Home}
+use Rattle.uc_machine.specs.Pieces as piece
+use Rattle.uc_machine.specs.Pieces.{Todo, Active, State, Members, Step, Goes, Ticks, Asks}
+use Rattle.uc_machine.specs.Raising.{arrives}
+use Rattle.uc_answer_laws.specs.Suiting.{Form, JustGo, form_of_request}
+use Rattle.uc_state_laws.specs.Marked.{operands}
+use Rattle.uc_place_laws.specs.OlderResting.{AllWait, NamedMembers, NamedEnv}
+use Rattle.uc_place_laws.specs.Opened.{OpensNone}
+use Rattle.uc_place_laws.specs.Called.{Mark, Holds, anys, Every, Ok, AtDrop, Stands}
+
+module _ (p : Program) (source : Source) where
+  -- an activation of the execution n that is to find so many operands in front of its own
+  pub record Finds (many : ℕ) (n : Exec) (a : Active) : Type 0 where
+    pub marks : List Mark
+    pub holds : Holds n a.frame marks a.operands
+    pub ok : Ok p source (anys many marks) a.control
+
+  -- one that is to go on
+  abbrev pub Runs : Exec → List Active → Active → Type 0
+  Runs n older a = Finds 0 n a
+
+  -- one that waits for another, which may be a constructor of the object whose scope opens next
+  abbrev pub Waits : Exec → List Active → Active → Type 0
+  Waits n older a = Finds 1 n a ⊎ AtDrop p source Every a.control
+
+  -- who runs may stand before such a scope
+  abbrev pub RunsNow : Exec → Active → Type 0
+  RunsNow n a = Finds 0 n a ⊎ Stands p source a.control
+
+  abbrev pub CalledMembers : Home → Option Members → Type 0
+  CalledMembers h m = NamedMembers Runs Waits h m
+
+  pub record CalledState (s : State) : Type 0 where
+    pub run : RunsNow s.env.exec s.run
+    pub callers : AllWait Runs Waits s.env.exec s.callers
+    pub env : NamedEnv Runs Waits s.env
+
+  -- what comes with an answer of a form
+  abbrev pub FindsFor : Form → Exec → Active → Type 0
+  FindsFor JustGo n a = RunsNow n a
+  FindsFor form n a = Finds (operands form) n a
+
+  -- behind a request: so many operands come with the answer; behind an end and a fault nothing is done
+  abbrev pub FindsBehind : Request → Exec → Active → Type 0
+  FindsBehind ask.End n a = Unit {0}
+  FindsBehind (ask.Fault f) n a = Unit {0}
+  FindsBehind r n a = Finds (operands (form_of_request r)) n a
+
+  pub record CalledAsk (r : Request) (s : State) : Type 0 where
+    pub run : FindsBehind r s.env.exec s.run
+    pub callers : AllWait Runs Waits s.env.exec s.callers
+    pub env : NamedEnv Runs Waits s.env
+
+  abbrev pub CalledStep : Step → Type 0
+  CalledStep (Goes s) = CalledState s
+  CalledStep (Ticks s) = CalledState s
+  CalledStep (Asks r s) = CalledAsk r s
+
+-- who runs comes to the end of its activation: by its last statement, by what leaves all of it, by the end of a main, or by an unwinding that
+-- is over there
+abbrev pub Ends : State → List Todo → Type 0
+Ends s [] = Unit {0}
+Ends s (piece.Exit w ∷ []) = Unit {0}
+Ends s (piece.Finish ∷ todo) = Unit {0}
+Ends s (piece.Unwind ∷ []) = arrives s.run.raised (length s.callers) ≡ true
+Ends s todo = ⊥
+
+-- no scope of such an object opens next behind a step, but once the value of the statement before it is dropped, behind the end of what that has
+-- called
+abbrev pub Joins : State → List Todo → Type 0
+Joins s (piece.Rest ss ∷ todo) = OpensNone ss ⊎
+    ((line : ℕ) × (s.run.control ≡ piece.Within line ∷ (piece.Rest ss ∷ todo)))
+Joins s (piece.Within line ∷ (piece.Rest ss ∷ todo)) = OpensNone ss ⊎
+    (s.run.control ≡ piece.DropNow ∷ (piece.Within line ∷ (piece.Rest ss ∷ todo)))
+Joins s (piece.DropNow ∷ (piece.Within line ∷ (piece.Rest ss ∷ todo))) = OpensNone ss ⊎
+    Ends s s.run.control
+Joins s todo = Unit {0}
+
+-- behind a fault nothing is done, and behind an end nobody goes on with this
+abbrev pub AskJoins : State → Request → State → Type 0
+AskJoins s ask.End u = Unit {0}
+AskJoins s (ask.Fault f) u = Unit {0}
+AskJoins s r u = Joins s u.run.control
+
+abbrev pub StepJoins : State → Step → Type 0
+StepJoins s (Goes u) = Joins s u.run.control
+StepJoins s (Ticks u) = Joins s u.run.control
+StepJoins s (Asks r u) = AskJoins s r u

@@ -1,0 +1,16 @@
+pub mod Siting
+pub mod OlderResting
+pub mod Asides
+pub mod AsideLaws
+pub mod AsideRuns
+pub mod NamedResting
+pub mod Placed
+pub mod BindingLaws
+pub mod BindingRuns
+pub mod Taking
+pub mod OpenRuns
+pub mod Opened
+pub mod Called
+pub mod CalledStates
+pub mod OpeningLaws
+pub mod OpeningRuns

@@ -1,0 +1,62 @@
+-- Scopes of objects open behind the calls of their constructors at their variables: of every program, and of every task of such a source.
+use Rattle.std.specs.Prelude.{◌≡◌, ℕ, List, ◌∷◌, drop}
+use Rattle.uc_tree.specs.Programs.{Program}
+use Rattle.uc_tree.specs.Source.{Source, routine_of}
+use Rattle.uc_entry.specs.declared.request.Answer.{Answer}
+use Rattle.uc_machine.specs.Pieces as piece
+use Rattle.uc_machine.specs.Pieces.{Todo, State, top}
+use Rattle.uc_machine.specs.Quiet.{quiet, first_state}
+use Rattle.uc_machine.specs.Answering.{answered}
+use Rattle.uc_answer_laws.specs.Suiting.{Form, IsForm}
+use Rattle.uc_resolve.specs.Resolve.{source_of}
+use Rattle.uc_state_laws.specs.Counted.{params, CountedSource}
+use Rattle.uc_place_laws.specs.OlderResting.{AllWait, NamedEnv}
+use Rattle.uc_place_laws.specs.Opened.{ArePaired, OpensOf, OpenedSource}
+use Rattle.uc_place_laws.specs.Called.{variable}
+use Rattle.uc_place_laws.specs.CalledStates.{FindsFor, Runs, Waits, CalledState, CalledStep, StepJoins}
+
+-- in the source of every program the scope of an object that is a variable stands behind the statement that calls its constructor there
+abbrev pub LawOpened : Type 0
+LawOpened = (p : Program) → OpenedSource p (source_of p)
+
+-- of any such source in which arguments are counted: so it is of a task as it begins, each step keeps that, and so does each answer of the form that
+-- was asked for
+pub record LawSteps : Type 0 where
+  pub begins : (p : Program) (source : Source) → CountedSource source → OpenedSource p source → (r o : ℕ) →
+      CalledState p source (first_state (routine_of source r) o)
+  pub steps : (p : Program) (source : Source) → CountedSource source → OpenedSource p source →
+      (s : State) → CalledState p source s → CalledStep p source (quiet source s)
+  pub told : (p : Program) (source : Source) (form : Form) (given : Answer) (s : State) →
+      IsForm form given → FindsFor p source form s.env.exec s.run →
+      AllWait (Runs p source) (Waits p source) s.env.exec s.callers →
+      NamedEnv (Runs p source) (Waits p source) s.env → CalledState p source (answered source given s)
+
+-- of the object of the scope that opens next where the value of the statement before it is to be dropped
+abbrev pub Awaited : (ℕ → ℕ → Type 0) → List Todo → Type 0
+Awaited P (piece.DropNow ∷ (piece.Within line ∷ (piece.Rest ss ∷ todo))) = OpensOf P ss
+Awaited P todo = Unit {0}
+
+abbrev pub NoneAwaited : List Todo → Type 0
+NoneAwaited todo = Awaited (λ d k. ⊥) todo
+
+-- the routine r is a constructor of the class that d destroys, and is called at the variable k
+abbrev pub IsAt : Program → Source → State → ℕ → ℕ → ℕ → Type 0
+IsAt p source s r d k = ArePaired p r d ×
+    (top (drop (params source r) s.run.operands) ≡ variable s.env.exec s.run.frame k)
+
+-- where the scope of an object opens next, that is so of what is called, and nothing else is called there
+abbrev pub CallsAt : Program → Source → List Todo → State → Type 0
+CallsAt p source (piece.CallNow r ∷ todo) s = NoneAwaited todo
+CallsAt p source (piece.RaiseNow ∷ todo) s = NoneAwaited (piece.DropNow ∷ todo)
+CallsAt p source (piece.CallOnNow r ∷ todo) s = Awaited (IsAt p source s r) todo
+CallsAt p source (piece.CallUnwrittenNow r ∷ todo) s = Awaited (IsAt p source s r) todo
+CallsAt p source todo s = Unit {0}
+
+-- so it is in each such state, and behind its step the scope opens next only behind the end of what was called
+pub record IsCalled (p : Program) (source : Source) (s : State) : Type 0 where
+  pub calls : CallsAt p source s.run.control s
+  pub joins : StepJoins s (quiet source s)
+
+abbrev pub LawCalled : Type 0
+LawCalled = (p : Program) (source : Source) → CountedSource source → OpenedSource p source →
+    (s : State) → CalledState p source s → IsCalled p source s

@@ -1,5 +1,0 @@
-use Rattle.uc_sound.proofs.MainLemmas.{law_mains}
-use Rattle.uc_sound.proofs.laws.law_mains.Goals as goal
-
-pub returns : goal.returns
-returns c = law_mains

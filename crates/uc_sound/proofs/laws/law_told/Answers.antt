@@ -1,5 +1,0 @@
-use Rattle.uc_sound.proofs.ClassLemmas.{law_told}
-use Rattle.uc_sound.proofs.laws.law_told.Goals as goal
-
-pub returns : goal.returns
-returns c = law_told

@@ -1,5 +1,0 @@
-use Rattle.uc_unmarked_laws.proofs.Own.{law_own}
-use Rattle.uc_unmarked_laws.proofs.laws.law_own.Goals as goal
-
-pub returns : goal.returns
-returns c = law_own

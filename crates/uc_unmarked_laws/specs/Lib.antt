@@ -1,4 +1,0 @@
-pub mod Belonging
-pub mod Marks
-pub mod Unmarked
-pub mod Ending

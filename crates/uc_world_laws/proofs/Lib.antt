@@ -1,4 +1,0 @@
-pub mod Fewer
-pub mod Lasting
-pub mod Called
-pub mod Rooted
